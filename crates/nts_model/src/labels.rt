@@ -16,6 +16,17 @@ pub enum Variance {
     Contravariant,
 }
 
+/// How the two sides of a region constraint are related.
+#[derive(Clone, Copy, PartialEq, Eq, Hash)]
+pub enum Relation {
+    /// The two regions are one.
+    Equal,
+    /// The left region outlives the right one.
+    RegionOutlives,
+    /// The left type outlives the right region.
+    TypeOutlives,
+}
+
 /// Whether an alias is equal to a term, or a subtype of it.
 #[derive(Clone, Copy, PartialEq, Eq, Hash)]
 pub enum Direction {
@@ -88,8 +99,8 @@ pub enum Constant {
 pub enum Leaf {
     Variable(VariableKind, usize),
     Region(FreeRegion),
-    Type(Constant),
-    Const(Constant),
+    TyConstant(Constant),
+    ConstConstant(Constant),
 }
 
 /// How a bound variable is named: by the number of binders between it and its own, or by its
@@ -102,7 +113,7 @@ pub enum BoundIndex {
 
 /// The types that are built from others. An alias has its declaration's number.
 #[derive(Clone, Copy, PartialEq, Eq, Hash)]
-pub enum TypeHead {
+pub enum TyHead {
     Ctor(usize),
     Int(IntTy),
     Uint(UintTy),
@@ -162,7 +173,7 @@ pub enum ListHead {
 pub enum Label {
     Leaf(Leaf),
     Bound(Sort, BoundIndex, usize),
-    Type(TypeHead),
+    Ty(TyHead),
     Const(ConstHead),
     Clause(ClauseHead),
     Predicate(PredicateHead),

@@ -10,5 +10,5 @@ mod labels;
 
 pub use labels::{
     BoundIndex, ClauseHead, ConstHead, Constant, Direction, FloatTy, FreeRegion, IntTy, Label,
-    Leaf, ListHead, PredicateHead, Sort, TypeHead, UintTy, VariableKind, Variance,
+    Leaf, ListHead, PredicateHead, Relation, Sort, TyHead, UintTy, VariableKind, Variance,
 };

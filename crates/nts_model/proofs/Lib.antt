@@ -1,0 +1,16 @@
+pub mod Variables
+pub mod Under
+pub mod Slots
+pub mod Roots
+pub mod Resolved
+pub mod Sound
+pub mod Binding
+pub mod Classes
+pub mod Open
+pub mod Kept
+pub mod Instances
+pub mod Solving
+pub mod Levelled
+pub mod Readings
+pub mod RegionNames
+pub mod Held
