@@ -1,0 +1,14 @@
+pub mod Growing
+pub mod Equal
+pub mod Stored
+pub mod Reading
+pub mod Places
+pub mod Moved
+pub mod Replacing
+pub mod Filling
+pub mod Standing
+pub mod Escaping
+pub mod Sorted
+pub mod Nested
+pub mod StillDeclared
+pub mod Pending

@@ -1,0 +1,19 @@
+use Rattle.nts_terms.specs.Growth.{tree_at, Extends}
+use Rattle.nts_terms.specs.Replacement.{jobs}
+use Rattle.nts_terms.proofs.Replacing.{EndsWith, weights}
+use Rattle.nts_terms.proofs.replacement.replace.Given as goal
+
+abbrev pub invariant-loop-task : goal.invariant-loop-task
+invariant-loop-task g l =
+    let r = g.R.Replacer in
+    let m = r.meaning l.fn.nodes l.replacer in
+    record {
+      extends : Extends l.fn.nodes l.nodes;
+      ends : EndsWith (r.covers m) (r.image m) l.nodes l.tasks.items l.found.items (r.image m (tree_at l.fn.nodes l.fn.t));
+    }
+
+abbrev pub decreases-loop-task : goal.decreases-loop-task
+decreases-loop-task g l =
+    let r = g.R.Replacer in
+    let m = r.meaning l.fn.nodes l.replacer in
+    weights (r.covers m) (r.image m) (jobs l.nodes l.tasks.items)

@@ -1,0 +1,58 @@
+-- What a handle stands for.
+use Rattle.std.specs.Prelude.{List, Option, Some, None}
+use Rattle.nts_model.specs.declared.labels.Sort.{Sort}
+use Rattle.nts_model.specs.Trees.{Tree, empty, more, node, shape, Meets, kind_of, NodeKind, of_sort, arguments, environment, bound_predicate, sort_list, Place, is, any_term, any_argument, FitsPlace, a_type, a_region, a_const}
+use Rattle.nts_terms.specs.declared.nodes.NodeId.{NodeId}
+use Rattle.nts_terms.specs.declared.handles.Ty.{Ty}
+use Rattle.nts_terms.specs.declared.handles.Region.{Region}
+use Rattle.nts_terms.specs.declared.handles.Const.{Const}
+use Rattle.nts_terms.specs.declared.handles.Term.{Term}
+use Rattle.nts_terms.specs.declared.handles.GenericArg.{GenericArg}
+use Rattle.nts_terms.specs.declared.handles.GenericArgs.{GenericArgs}
+use Rattle.nts_terms.specs.declared.handles.Predicate.{Predicate}
+use Rattle.nts_terms.specs.declared.handles.ParamEnv.{ParamEnv}
+use Rattle.nts_terms.specs.declared.handles.BoundVars.{BoundVars}
+use Rattle.nts_terms.specs.Growth.{tree_at, IsIn}
+
+-- a term of the store that may stand at such a place
+pub record Holds (p : Place) (ts : List Tree) (n : NodeId) : Type 0 where
+  pub within : IsIn ts n
+  pub fits : FitsPlace p (kind_of (tree_at ts n))
+
+abbrev pub HoldsTy : List Tree → Ty → Type 0
+HoldsTy ts t = Holds a_type ts t.node
+
+abbrev pub HoldsRegion : List Tree → Region → Type 0
+HoldsRegion ts r = Holds a_region ts r.node
+
+abbrev pub HoldsConst : List Tree → Const → Type 0
+HoldsConst ts c = Holds a_const ts c.node
+
+abbrev pub HoldsTerm : List Tree → Term → Type 0
+HoldsTerm ts t = Holds any_term ts t.node
+
+abbrev pub HoldsArg : List Tree → GenericArg → Type 0
+HoldsArg ts a = Holds any_argument ts a.node
+
+abbrev pub HoldsArgs : List Tree → GenericArgs → Type 0
+HoldsArgs ts a = Holds (is arguments) ts a.node
+
+abbrev pub HoldsVars : List Tree → BoundVars → Type 0
+HoldsVars ts v = Holds (is sort_list) ts v.node
+
+abbrev pub HoldsPredicate : List Tree → Predicate → Type 0
+HoldsPredicate ts p = Holds (is bound_predicate) ts p.node
+
+abbrev pub HoldsEnv : List Tree → ParamEnv → Type 0
+HoldsEnv ts e = Holds (is environment) ts e.node
+
+-- the sort of a term, if it is a type, a region or a const
+abbrev pub sort_of_kind : NodeKind → Option Sort
+sort_of_kind (of_sort s) = Some s
+sort_of_kind k = None
+
+-- each child may stand at its place
+abbrev pub ChildrenFit : Tree → Type 0
+ChildrenFit empty = Unit {0}
+ChildrenFit (more a b) = Unit {0}
+ChildrenFit (node l c) = Meets (shape l) c

@@ -1,0 +1,206 @@
+//! Handles of the terms of a store, and plain data over them.
+ghost use Rattle.std.specs.Prelude.{◌≡◌};
+
+use crate::nodes::NodeId;
+
+/// A type.
+#[derive(Clone, Copy, PartialEq, Eq, Hash)]
+pub struct Ty {
+    pub node: NodeId,
+}
+
+/// A region.
+#[derive(Clone, Copy, PartialEq, Eq, Hash)]
+pub struct Region {
+    pub node: NodeId,
+}
+
+/// A const.
+#[derive(Clone, Copy, PartialEq, Eq, Hash)]
+pub struct Const {
+    pub node: NodeId,
+}
+
+/// A type or a const.
+#[derive(Clone, Copy, PartialEq, Eq, Hash)]
+pub struct Term {
+    pub node: NodeId,
+}
+
+/// A type, a region or a const.
+#[derive(Clone, Copy, PartialEq, Eq, Hash)]
+pub struct GenericArg {
+    pub node: NodeId,
+}
+
+/// A list of arguments.
+#[derive(Clone, Copy, PartialEq, Eq, Hash)]
+pub struct GenericArgs {
+    pub node: NodeId,
+}
+
+/// What may hold: a statement under a binder.
+#[derive(Clone, Copy, PartialEq, Eq, Hash)]
+pub struct Predicate {
+    pub node: NodeId,
+}
+
+/// A list of predicates that are taken to hold.
+#[derive(Clone, Copy, PartialEq, Eq, Hash)]
+pub struct ParamEnv {
+    pub node: NodeId,
+}
+
+/// The sorts of the variables of a binder.
+#[derive(Clone, Copy, PartialEq, Eq, Hash)]
+pub struct BoundVars {
+    pub node: NodeId,
+}
+
+/// The number of a declared type constructor.
+#[derive(Clone, Copy, PartialEq, Eq, Hash)]
+pub struct CtorId {
+    pub number: usize,
+}
+
+/// The number of a declared trait.
+#[derive(Clone, Copy, PartialEq, Eq, Hash)]
+pub struct TraitId {
+    pub number: usize,
+}
+
+/// The number of a declared alias: of a type alias or of a const.
+#[derive(Clone, Copy, PartialEq, Eq, Hash)]
+pub struct AliasId {
+    pub number: usize,
+}
+
+/// Something declared that takes arguments.
+#[derive(Clone, Copy, PartialEq, Eq, Hash)]
+pub enum DefId {
+    Ctor(CtorId),
+    Trait(TraitId),
+    Alias(AliasId),
+}
+
+/// A value in which variables of these sorts are bound.
+#[derive(Clone, Copy)]
+pub struct Binder<T> {
+    pub vars: BoundVars,
+    pub value: T,
+}
+
+/// An alias applied to arguments.
+#[derive(Clone, Copy)]
+pub struct AliasTerm {
+    pub def_id: AliasId,
+    pub args: GenericArgs,
+}
+
+/// A trait applied to arguments.
+#[derive(Clone, Copy)]
+pub struct TraitRef {
+    pub def_id: TraitId,
+    pub args: GenericArgs,
+}
+
+/// A predicate to be proved where those of the environment hold.
+#[derive(Clone, Copy)]
+pub struct Goal {
+    pub param_env: ParamEnv,
+    pub predicate: Predicate,
+}
+
+/// What a function pointer takes and gives.
+#[derive(Clone, Copy)]
+pub struct FnSig {
+    /// The inputs, and the output as the last.
+    pub inputs_and_output: GenericArgs,
+}
+
+/// Which type variable of its binder, or of its universe.
+#[derive(Clone, Copy)]
+pub struct BoundTy {
+    pub var: usize,
+}
+
+/// Which region variable of its binder, or of its universe.
+#[derive(Clone, Copy)]
+pub struct BoundRegion {
+    pub var: usize,
+}
+
+/// Which const variable of its binder, or of its universe.
+#[derive(Clone, Copy)]
+pub struct BoundConst {
+    pub var: usize,
+}
+
+/// A type that stands for itself in a universe.
+#[derive(Clone, Copy)]
+pub struct PlaceholderType {
+    pub universe: u32,
+    pub bound: BoundTy,
+}
+
+/// A region that stands for itself in a universe.
+#[derive(Clone, Copy)]
+pub struct PlaceholderRegion {
+    pub universe: u32,
+    pub bound: BoundRegion,
+}
+
+/// A const that stands for itself in a universe.
+#[derive(Clone, Copy)]
+pub struct PlaceholderConst {
+    pub universe: u32,
+    pub bound: BoundConst,
+}
+
+impl From<Ty> for Term {
+    ghost from_gives = { λ t r. r.node ≡ t.node };
+
+    fn from(t: Ty) -> Term {
+        Term { node: t.node }
+    }
+}
+
+impl From<Const> for Term {
+    ghost from_gives = { λ c r. r.node ≡ c.node };
+
+    fn from(c: Const) -> Term {
+        Term { node: c.node }
+    }
+}
+
+impl From<Ty> for GenericArg {
+    ghost from_gives = { λ t r. r.node ≡ t.node };
+
+    fn from(t: Ty) -> GenericArg {
+        GenericArg { node: t.node }
+    }
+}
+
+impl From<Region> for GenericArg {
+    ghost from_gives = { λ t r. r.node ≡ t.node };
+
+    fn from(t: Region) -> GenericArg {
+        GenericArg { node: t.node }
+    }
+}
+
+impl From<Const> for GenericArg {
+    ghost from_gives = { λ c r. r.node ≡ c.node };
+
+    fn from(c: Const) -> GenericArg {
+        GenericArg { node: c.node }
+    }
+}
+
+impl From<Term> for GenericArg {
+    ghost from_gives = { λ t r. r.node ≡ t.node };
+
+    fn from(t: Term) -> GenericArg {
+        GenericArg { node: t.node }
+    }
+}

@@ -1,0 +1,253 @@
+//! Making terms.
+ghost use Rattle.std.specs.Prelude.{◌≡◌, List, IfOk, OnErr, IsOkUnless};
+ghost use Rattle.nts_model.specs.declared.labels.Label.TheVariants as label;
+ghost use Rattle.nts_model.specs.Trees.{node, empty, Place, is, statement};
+ghost use Rattle.nts_terms.specs.Growth.{tree_at, Extends};
+ghost use Rattle.nts_terms.specs.Handles.{Holds, HoldsTy, HoldsRegion, HoldsConst, HoldsPredicate};
+ghost use Rattle.nts_terms.specs.Kinds.{tree_of_infer, tree_of_ty, TyFits, tree_of_region, tree_of_const, ConstFits, tree_of_clause, ClauseFits, tree_of_statement, StatementFits, tree_of_predicate, PredicateFits};
+ghost use Rattle.nts_terms.specs.Signatures.{TyIsDeclared, ConstIsDeclared, StatementIsDeclared};
+ghost use Rattle.nts_terms.specs.Rest.{KeepsRest};
+
+use crate::cx::Cx;
+use crate::fault::Fault;
+use crate::handles::{Binder, Const, Predicate, Region, Ty};
+use crate::kinds::{ClauseKind, ConstKind, InferTy, PredicateKind, RegionKind, TyKind};
+use crate::nodes::NodeId;
+use nts_model::{
+    ClauseHead, ConstHead, Constant, FreeRegion, Label, Leaf, ListHead, PredicateHead, Sort,
+    TyHead, VariableKind,
+};
+
+impl Cx {
+    /// The type of that kind.
+    pub fn mk_ty(&mut self, kind: TyKind) -> Result<Ty, Fault>
+        requires parts { TyFits self.old.nodes kind }
+        requires declared { TyIsDeclared self.old.declarations self.old.nodes kind }
+        ensures tree { IfOk result (λ t. tree_at self.new.nodes t.node ≡ tree_of_ty self.old.nodes kind) }
+        ensures holds { IfOk result (λ t. HoldsTy self.new.nodes t) }
+        ensures extends { Extends self.old.nodes self.new.nodes }
+        ensures rest { KeepsRest self.old self.new }
+        ensures err { OnErr result (self.new.nodes ≡ self.old.nodes) }
+        ensures memory { IsOkUnless result Fault.Memory }
+    {
+        let node = match kind {
+            TyKind::Ctor(ctor, args) => {
+                let head = TyHead::Ctor(ctor.number);
+                self.nodes.make(Label::Ty(head), &[args.node])?
+            }
+            TyKind::FnPtr(sig) => {
+                let children = [sig.vars.node, sig.value.inputs_and_output.node];
+                self.nodes.make(Label::Ty(TyHead::FnPtr), &children)?
+            }
+            TyKind::Alias(alias) => {
+                let head = TyHead::Alias(alias.def_id.number);
+                self.nodes.make(Label::Ty(head), &[alias.args.node])?
+            }
+            TyKind::Int(int) => self.nodes.make(Label::Ty(TyHead::Int(int)), &[])?,
+            TyKind::Uint(uint) => self.nodes.make(Label::Ty(TyHead::Uint(uint)), &[])?,
+            TyKind::Float(float) => self.nodes.make(Label::Ty(TyHead::Float(float)), &[])?,
+            TyKind::Error => self.nodes.make(Label::Ty(TyHead::Error), &[])?,
+            TyKind::Infer(infer) => self.nodes.make(Label::Leaf(infer_leaf(infer)), &[])?,
+            TyKind::Param(n) => {
+                let leaf = Leaf::TyConstant(Constant::Param(n));
+                self.nodes.make(Label::Leaf(leaf), &[])?
+            }
+            TyKind::Placeholder(p) => {
+                let constant = Constant::Placeholder(p.universe, p.bound.var);
+                self.nodes
+                    .make(Label::Leaf(Leaf::TyConstant(constant)), &[])?
+            }
+            TyKind::Bound(index, bound) => {
+                let label = Label::Bound(Sort::Ty, index, bound.var);
+                self.nodes.make(label, &[])?
+            }
+        };
+        Ok(Ty { node })
+    }
+
+    /// The region of that kind.
+    pub fn mk_region(&mut self, kind: RegionKind) -> Result<Region, Fault>
+        ensures tree { IfOk result (λ r. tree_at self.new.nodes r.node ≡ tree_of_region kind) }
+        ensures holds { IfOk result (λ r. HoldsRegion self.new.nodes r) }
+        ensures extends { Extends self.old.nodes self.new.nodes }
+        ensures rest { KeepsRest self.old self.new }
+        ensures err { OnErr result (self.new.nodes ≡ self.old.nodes) }
+        ensures memory { IsOkUnless result Fault.Memory }
+    {
+        let label = match kind {
+            RegionKind::ReStatic => Label::Leaf(Leaf::Region(FreeRegion::Static)),
+            RegionKind::ReEarlyParam(n) => Label::Leaf(Leaf::Region(FreeRegion::EarlyParam(n))),
+            RegionKind::ReLateParam(n) => Label::Leaf(Leaf::Region(FreeRegion::LateParam(n))),
+            RegionKind::ReBound(index, bound) => Label::Bound(Sort::Region, index, bound.var),
+            RegionKind::ReVar(n) => Label::Leaf(Leaf::Variable(VariableKind::Region, n)),
+            RegionKind::RePlaceholder(p) => {
+                Label::Leaf(Leaf::Region(FreeRegion::Placeholder(p.universe, p.bound.var)))
+            }
+            RegionKind::ReErased => Label::Leaf(Leaf::Region(FreeRegion::Erased)),
+            RegionKind::ReError => Label::Leaf(Leaf::Region(FreeRegion::Error)),
+        };
+        let node = self.nodes.make(label, &[])?;
+        Ok(Region { node })
+    }
+
+    /// The const of that kind.
+    pub fn mk_const(&mut self, kind: ConstKind) -> Result<Const, Fault>
+        requires parts { ConstFits self.old.nodes kind }
+        requires declared { ConstIsDeclared self.old.declarations self.old.nodes kind }
+        ensures tree { IfOk result (λ c. tree_at self.new.nodes c.node ≡ tree_of_const self.old.nodes kind) }
+        ensures holds { IfOk result (λ c. HoldsConst self.new.nodes c) }
+        ensures extends { Extends self.old.nodes self.new.nodes }
+        ensures rest { KeepsRest self.old self.new }
+        ensures err { OnErr result (self.new.nodes ≡ self.old.nodes) }
+        ensures memory { IsOkUnless result Fault.Memory }
+    {
+        let node = match kind {
+            ConstKind::Param(n) => {
+                self.nodes
+                    .make(Label::Leaf(Leaf::ConstConstant(Constant::Param(n))), &[])?
+            }
+            ConstKind::Infer(n) => {
+                self.nodes
+                    .make(Label::Leaf(Leaf::Variable(VariableKind::Const, n)), &[])?
+            }
+            ConstKind::Bound(index, bound) => {
+                self.nodes
+                    .make(Label::Bound(Sort::Const, index, bound.var), &[])?
+            }
+            ConstKind::Placeholder(p) => {
+                let constant = Constant::Placeholder(p.universe, p.bound.var);
+                self.nodes
+                    .make(Label::Leaf(Leaf::ConstConstant(constant)), &[])?
+            }
+            ConstKind::Unevaluated(alias) => {
+                let head = ConstHead::Unevaluated(alias.def_id.number);
+                self.nodes.make(Label::Const(head), &[alias.args.node])?
+            }
+            ConstKind::Value { ty, bits } => {
+                self.nodes
+                    .make(Label::Const(ConstHead::Value(bits)), &[ty.node])?
+            }
+            ConstKind::Error => self.nodes.make(Label::Const(ConstHead::Error), &[])?,
+        };
+        Ok(Const { node })
+    }
+
+    /// The predicate that states this of the variables of its binder.
+    #[tactic(auto, using(crate::proofs::Moved::growth))]
+    pub fn mk_predicate(&mut self, predicate: Binder<PredicateKind>) -> Result<Predicate, Fault>
+        requires parts { PredicateFits self.old.nodes predicate }
+        requires declared { StatementIsDeclared self.old.declarations self.old.nodes predicate.value }
+        ensures tree { IfOk result (λ p. tree_at self.new.nodes p.node ≡ tree_of_predicate self.old.nodes predicate) }
+        ensures holds { IfOk result (λ p. HoldsPredicate self.new.nodes p) }
+        ensures extends { Extends self.old.nodes self.new.nodes }
+        ensures rest { KeepsRest self.old self.new }
+        ensures memory { IsOkUnless result Fault.Memory }
+    {
+        let statement = self.make_statement(predicate.value)?;
+        let children = [predicate.vars.node, statement];
+        let node = self.nodes.make(Label::List(ListHead::Binder), &children)?;
+        Ok(Predicate { node })
+    }
+
+    fn make_statement(&mut self, kind: PredicateKind) -> Result<NodeId, Fault>
+        requires { StatementFits self.old.nodes kind }
+        ensures tree { IfOk result (λ n. tree_at self.new.nodes n ≡ tree_of_statement self.old.nodes kind) }
+        ensures holds { IfOk result (λ n. Holds (is statement) self.new.nodes n) }
+        ensures extends { Extends self.old.nodes self.new.nodes }
+        ensures rest { KeepsRest self.old self.new }
+        ensures memory { IsOkUnless result Fault.Memory }
+    {
+        let (head, a, b) = match kind {
+            PredicateKind::Clause(clause) => return self.make_clause(clause),
+            PredicateKind::DynCompatible(id) => {
+                let label = Label::Predicate(PredicateHead::DynCompatible(id.number));
+                return Ok(self.nodes.make(label, &[])?);
+            }
+            PredicateKind::Ambiguous => {
+                return Ok(
+                    self.nodes
+                        .make(Label::Predicate(PredicateHead::Ambiguous), &[])?,
+                );
+            }
+            PredicateKind::Subtype {
+                a_is_expected,
+                a,
+                b,
+            } => { (PredicateHead::Subtype(a_is_expected), a.node, b.node) }
+            PredicateKind::Coerce { a, b } => (PredicateHead::Coerce, a.node, b.node),
+            PredicateKind::ConstEquate(a, b) => (PredicateHead::ConstEquate, a.node, b.node),
+            PredicateKind::NormalizesTo { alias, term } => {
+                (
+                    PredicateHead::NormalizesTo(alias.def_id.number),
+                    alias.args.node,
+                    term.node,
+                )
+            }
+            PredicateKind::AliasRelate(a, b, direction) => {
+                (PredicateHead::AliasRelate(direction), a.node, b.node)
+            }
+        };
+        Ok(self.nodes.make(Label::Predicate(head), &[a, b])?)
+    }
+
+    fn make_clause(&mut self, kind: ClauseKind) -> Result<NodeId, Fault>
+        requires { ClauseFits self.old.nodes kind }
+        ensures tree { IfOk result (λ n. tree_at self.new.nodes n ≡ tree_of_clause self.old.nodes kind) }
+        ensures holds { IfOk result (λ n. Holds (is statement) self.new.nodes n) }
+        ensures extends { Extends self.old.nodes self.new.nodes }
+        ensures rest { KeepsRest self.old self.new }
+        ensures memory { IsOkUnless result Fault.Memory }
+    {
+        let node = match kind {
+            ClauseKind::Trait(r) => {
+                let head = ClauseHead::Trait(r.def_id.number);
+                self.nodes.make(Label::Clause(head), &[r.args.node])?
+            }
+            ClauseKind::HostEffect(r) => {
+                let head = ClauseHead::HostEffect(r.def_id.number);
+                self.nodes.make(Label::Clause(head), &[r.args.node])?
+            }
+            ClauseKind::Projection { alias, term } => {
+                let head = ClauseHead::Projection(alias.def_id.number);
+                self.nodes
+                    .make(Label::Clause(head), &[alias.args.node, term.node])?
+            }
+            ClauseKind::TypeOutlives(ty, region) => {
+                let head = ClauseHead::TypeOutlives;
+                self.nodes
+                    .make(Label::Clause(head), &[ty.node, region.node])?
+            }
+            ClauseKind::RegionOutlives(a, b) => {
+                let head = ClauseHead::RegionOutlives;
+                self.nodes.make(Label::Clause(head), &[a.node, b.node])?
+            }
+            ClauseKind::ConstArgHasType(ct, ty) => {
+                let head = ClauseHead::ConstArgHasType;
+                self.nodes.make(Label::Clause(head), &[ct.node, ty.node])?
+            }
+            ClauseKind::WellFormed(term) => {
+                let head = ClauseHead::WellFormed;
+                self.nodes.make(Label::Clause(head), &[term.node])?
+            }
+            ClauseKind::ConstEvaluatable(ct) => {
+                let head = ClauseHead::ConstEvaluatable;
+                self.nodes.make(Label::Clause(head), &[ct.node])?
+            }
+            ClauseKind::UnstableFeature(n) => {
+                let head = ClauseHead::UnstableFeature(n);
+                self.nodes.make(Label::Clause(head), &[])?
+            }
+        };
+        Ok(node)
+    }
+}
+
+fn infer_leaf(infer: InferTy) -> Leaf
+    ensures { node (label.Leaf result) empty ≡ tree_of_infer infer }
+{
+    match infer {
+        InferTy::TyVar(n) => Leaf::Variable(VariableKind::Ty, n),
+        InferTy::IntVar(n) => Leaf::Variable(VariableKind::Int, n),
+        InferTy::FloatVar(n) => Leaf::Variable(VariableKind::Float, n),
+    }
+}

@@ -1,0 +1,66 @@
+//! Where goals come from, in which mode they are asked, and what changes.
+use crate::handles::AliasId;
+
+/// How a cycle through a step counts.
+#[derive(Clone, Copy, PartialEq, Eq)]
+pub enum PathKind {
+    Coinductive,
+    Unknown,
+    Inductive,
+    ForcedAmbiguity,
+}
+
+/// Why a goal is asked below another one.
+#[derive(Clone, Copy, PartialEq, Eq)]
+pub enum GoalSource {
+    Misc,
+    /// Relating two terms left it.
+    TypeRelating,
+    /// It is a condition of the clause that is used.
+    ImplWhereBound,
+    AliasBoundConstCondition,
+    AliasWellFormed,
+    /// It normalizes an alias of a goal of that step kind.
+    NormalizeGoal(PathKind),
+}
+
+/// Whether an evaluation found out something of the goal's variables.
+#[derive(Clone, Copy, PartialEq, Eq, Hash, Debug)]
+pub enum HasChanged {
+    Yes,
+    No,
+}
+
+/// What a goal may know of hidden types.
+#[derive(Drop)]
+pub enum TypingMode {
+    /// Whether impls overlap: an answer must hold for all that may be added.
+    Coherence,
+    Analysis {
+        defining_opaque_types_and_generators: Vec<AliasId>,
+    },
+    Borrowck {
+        defining_opaque_types: Vec<AliasId>,
+    },
+    PostBorrowckAnalysis {
+        defined_opaque_types: Vec<AliasId>,
+    },
+    PostAnalysis,
+    ErasedNotCoherence,
+}
+
+/// When a goal must be asked again, since its answer rests on hidden types.
+#[derive(Drop)]
+pub enum RerunCondition {
+    Never,
+    OpaqueInStorage(Vec<AliasId>),
+    AnyOpaqueHasInferAsHidden,
+    OpaqueInStorageOrAnyOpaqueHasInferAsHidden(Vec<AliasId>),
+    Always,
+}
+
+/// A place in the user's text, which is passed through and has no meaning.
+#[derive(Clone, Copy, PartialEq, Eq)]
+pub struct Span {
+    pub number: u64,
+}

@@ -1,0 +1,139 @@
+use crate::{
+    AliasKind, AliasTerm, Binder, BoundRegion, BoundTy, ClauseKind, ConstKind, Cx, DefId, FnSig,
+    GenericArgKind, PlaceholderRegion, PredicateKind, RegionKind, Term, TermKind, TraitRef, TyKind,
+};
+use nts_model::{BoundIndex, Sort, UintTy, Variance};
+use std::test::Fail;
+
+#[test]
+fn limits(rt: HostRuntime) {
+    let mut cx = Cx::new(rt.alloc());
+    assert_eq!(rt; cx.recursion_limit(), 128);
+    assert!(rt; !cx.disable_trait_solver_fast_paths());
+    cx.set_recursion_limit(3);
+    cx.set_disable_fast_paths(true);
+    assert_eq!(rt; cx.recursion_limit(), 3);
+    assert!(rt; cx.disable_trait_solver_fast_paths());
+}
+
+#[test]
+fn constructors(rt: HostRuntime) -> Result<(), Fail> {
+    let mut cx = Cx::new(rt.alloc());
+    let vec = cx.declare_ctor(&[Sort::Ty], &[Variance::Covariant])?;
+    let byte = cx.mk_ty(TyKind::Uint(UintTy::U8))?;
+    let args = cx.mk_args(&[byte.into()])?;
+    let none = cx.mk_args(&[])?;
+    assert!(rt; cx.holds(args));
+    assert!(rt; !cx.fits(DefId::Ctor(vec), none));
+    assert!(rt; cx.fits(DefId::Ctor(vec), args));
+    let bytes = cx.mk_ty(TyKind::Ctor(vec, args))?;
+    match bytes.kind(&cx) {
+        TyKind::Ctor(ctor, its_args) => {
+            assert!(rt; ctor == vec);
+            assert_eq!(rt; its_args.len(&cx), 1);
+            match its_args.get(&cx, 0).kind(&cx) {
+                GenericArgKind::Type(ty) => {
+                    assert!(rt; cx.holds(byte));
+                    assert!(rt; cx.same(ty, byte));
+                }
+                _ => assert!(rt; false),
+            }
+        }
+        _ => assert!(rt; false),
+    }
+    Ok(())
+}
+
+#[test]
+fn binders(rt: HostRuntime) -> Result<(), Fail> {
+    let mut cx = Cx::new(rt.alloc());
+    let vars = cx.mk_bound_vars(&[Sort::Region])?;
+    assert_eq!(rt; vars.len(&cx), 1);
+    assert!(rt; matches!(vars.get(&cx, 0), Sort::Region));
+    let bound = BoundRegion { var: 0 };
+    let region = cx.mk_region(RegionKind::ReBound(BoundIndex::Level(0), bound))?;
+    assert!(rt; cx.has_escaping_bound_vars(region));
+    assert!(rt; !cx.has_canonical_bound(region));
+    assert!(rt;
+        matches!(
+            region.kind(&cx),
+            RegionKind::ReBound(_, BoundRegion { var: 0 })
+        )
+    );
+    let args = cx.mk_args(&[region.into()])?;
+    assert!(rt; cx.holds(vars));
+    let sig = FnSig {
+        inputs_and_output: args,
+    };
+    let pointer = cx.mk_ty(TyKind::FnPtr(Binder { vars, value: sig }))?;
+    assert!(rt; !cx.has_escaping_bound_vars(pointer));
+    assert!(rt; matches!(pointer.kind(&cx), TyKind::FnPtr(_)));
+    Ok(())
+}
+
+#[test]
+fn consts(rt: HostRuntime) -> Result<(), Fail> {
+    let mut cx = Cx::new(rt.alloc());
+    let size = cx.mk_ty(TyKind::Uint(UintTy::Usize))?;
+    let three = cx.mk_const(ConstKind::Value { ty: size, bits: 3 })?;
+    match three.kind(&cx) {
+        ConstKind::Value { ty, bits } => {
+            assert!(rt; cx.holds(size));
+            assert!(rt; cx.same(ty, size));
+            assert!(rt; bits == 3);
+        }
+        _ => assert!(rt; false),
+    }
+    let term = Term::from(three);
+    assert!(rt; cx.holds(term));
+    assert!(rt; matches!(term.kind(&cx), TermKind::Const(_)));
+    let unknown = cx.mk_const(ConstKind::Infer(0))?;
+    assert!(rt; cx.has_non_region_infer(unknown));
+    Ok(())
+}
+
+#[test]
+fn predicates(rt: HostRuntime) -> Result<(), Fail> {
+    let mut cx = Cx::new(rt.alloc());
+    let clone = cx.declare_trait(&[Sort::Ty])?;
+    let vars = cx.mk_bound_vars(&[])?;
+    let first = TyKind::Bound(BoundIndex::Canonical, BoundTy { var: 0 });
+    let ty = cx.mk_ty(first)?;
+    let args = cx.mk_args(&[ty.into()])?;
+    assert!(rt; cx.holds(vars));
+    assert!(rt; cx.fits(DefId::Trait(clone), args));
+    let value = PredicateKind::Clause(ClauseKind::Trait(TraitRef {
+        def_id: clone,
+        args,
+    }));
+    let predicate = cx.mk_predicate(Binder { vars, value })?;
+    assert!(rt; cx.has_canonical_bound(predicate));
+    match predicate.kind(&cx).value {
+        PredicateKind::Clause(ClauseKind::Trait(it)) => assert!(rt; it.def_id == clone),
+        _ => assert!(rt; false),
+    }
+    let env = cx.mk_env(&[predicate])?;
+    assert_eq!(rt; env.len(&cx), 1);
+    assert!(rt; cx.holds(predicate));
+    assert!(rt; cx.same(env.get(&cx, 0), predicate));
+    Ok(())
+}
+
+#[test]
+fn aliases(rt: HostRuntime) -> Result<(), Fail> {
+    let mut cx = Cx::new(rt.alloc());
+    let item = cx.declare_alias(&[Sort::Region], AliasKind::Projection)?;
+    let bound = BoundRegion { var: 1 };
+    let placeholder = PlaceholderRegion { universe: 2, bound };
+    let region = cx.mk_region(RegionKind::RePlaceholder(placeholder))?;
+    let args = cx.mk_args(&[region.into()])?;
+    assert!(rt; cx.fits(DefId::Alias(item), args));
+    let alias = AliasTerm { def_id: item, args };
+    let ty = cx.mk_ty(TyKind::Alias(alias))?;
+    assert!(rt; matches!(ty.kind(&cx), TyKind::Alias(_)));
+    assert!(rt; cx.holds(args));
+    assert!(rt; cx.fits(DefId::Alias(item), args));
+    let ct = cx.mk_const(ConstKind::Unevaluated(alias))?;
+    assert!(rt; matches!(ct.kind(&cx), ConstKind::Unevaluated(_)));
+    Ok(())
+}
