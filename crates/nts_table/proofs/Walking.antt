@@ -1,0 +1,174 @@
+-- What the steps of a walk that resolves a term make of it.
+use Rattle.std.proofs.Common.{◌≡◌, ◌≢◌, Bool, true, false, ℕ, zero, suc, List, [], ◌∷◌, Option, Some, None, refl, sym, ap, ◌∙◌}
+use Rattle.std.specs.Prelude.{slice_get}
+use Rattle.nts_model.specs.declared.labels.Sort.TheVariants as sort
+use Rattle.nts_model.specs.declared.labels.VariableKind.{VariableKind}
+use Rattle.nts_model.specs.declared.labels.VariableKind.TheVariants as kind
+use Rattle.nts_model.specs.declared.labels.Leaf.TheVariants as leaf
+use Rattle.nts_model.specs.declared.labels.Label.{Label}
+use Rattle.nts_model.specs.declared.labels.Label.TheVariants as label
+use Rattle.nts_model.specs.Trees.{Tree, empty, more, node, children, kind_of, kind_of_label, of_sort, sort_of_variable}
+use Rattle.nts_model.specs.Contents.{Content, state_of, kind_at, unset, known}
+use Rattle.nts_model.specs.Resolving.{variable_of, variable_tree, resolved, rooted, root_of, IsInfer, IsSound, Reaches}
+use Rattle.nts_model.proofs.Variables.{infer_of_none, infer_of_variable_label}
+use Rattle.nts_model.proofs.Resolved.{resolved-empty, resolved-node, deeply_resolved-empty, deeply_resolved-node, IsVariable, resolved-reaches_known, resolved-variable_reaches, resolved-variable_unset, IsVariable-infer, IsVariable-reaches}
+use Rattle.nts_model.proofs.Kept.{variable_label, resolved-no_infer, deeply_resolved-no_variables}
+use Rattle.nts_terms.specs.declared.nodes.NodeId.{NodeId}
+use Rattle.nts_terms.specs.Growth.{tree_at, IsIn}
+use Rattle.nts_terms.specs.Replacement.{GoesDown}
+use Rattle.nts_table.specs.declared.contents.State.{State}
+use Rattle.nts_table.specs.declared.contents.State.TheVariants.{Unset, Link, Known}
+use Rattle.nts_table.specs.declared.contents.Variable.{Variable}
+use Rattle.nts_table.specs.Entries.{Table}
+use Rattle.nts_table.specs.Reading.{state_with, content_of, IsHeldState, AreHeld, IsTable}
+use Rattle.nts_table.specs.Roots.{IsRoot}
+use Rattle.nts_table.specs.Resolution.{resolved_to, Resolution, resolution, resolution_of, CanResolve, IsResolved}
+use Rattle.nts_table.proofs.Leading.{state_of-entry, Reaches-leads}
+
+-- a tree without variables to be replaced
+pub resolved_to-left : (regions : Bool) (c : Content) (t : Tree) → IsResolved regions t → resolved_to regions c t ≡ t
+resolved_to-left true c t h = deeply_resolved-no_variables c t h.no_infer (h.no_region refl)
+resolved_to-left false c t h = resolved-no_infer c t h.no_infer
+
+pub resolution-left : (r : Resolution) (t : Tree) → IsResolved r.regions t → t ≡ resolution_of r t
+resolution-left r t h = sym (resolved_to-left r.regions r.content t h)
+
+-- a node that is no variable
+resolved_to-node : (regions : Bool) (c : Content) (l : Label) (x : Tree) → variable_of l ≡ None → resolved_to regions c (node l x) ≡ node l (resolved_to regions c x)
+resolved_to-node true c l x h =
+    let e = deeply_resolved-node c l x (infer_of_none l h) in rw h at e
+resolved_to-node false c l x h = resolved-node c l x (infer_of_none l h)
+
+pub goes_down : (r : Resolution) (t v : Tree) (l : Label) (x : Tree) → v ≡ node l x → variable_of l ≡ None → CanResolve r v → resolution_of r t ≡ resolution_of r v → GoesDown (CanResolve r) (resolution_of r) t v
+goes_down r t empty l x e h k same = cc
+goes_down r t (more a b) l x e h k same = cc
+goes_down r t (node m y) l x e h k same =
+    let one : m ≡ l = cc in
+    (same ∙ resolved_to-node r.regions r.content m y (ap variable_of one ∙ h), record { sound = k.sound; knows = k.knows.1 })
+
+pub node_goes_down : (r : Resolution) (t : Tree) (l : Label) → t ≡ node l (children t) → variable_of l ≡ None → CanResolve r t → GoesDown (CanResolve r) (resolution_of r) t t
+node_goes_down r t l e h k = goes_down r t t l (children t) e h k refl
+
+-- a variable of a region
+pub region_stays : (c : Content) (regions : Bool) (n : ℕ) → regions ≡ false → variable_tree kind.Region n ≡ resolved_to regions c (variable_tree kind.Region n)
+region_stays c true n h = cc
+region_stays c false n h =
+    let l = label.Leaf (leaf.Variable kind.Region n) in
+    sym (resolved-node c l empty refl ∙ ap (node l) (resolved-empty c))
+
+pub region_root : (c : Content) (regions : Bool) (n : ℕ) → regions ≡ true → resolved_to regions c (variable_tree kind.Region n) ≡ variable_tree kind.Region (root_of c n)
+region_root c true n h =
+    let l = label.Leaf (leaf.Variable kind.Region n) in
+    deeply_resolved-node c l empty refl ∙ ap (node (label.Leaf (leaf.Variable kind.Region (root_of c n)))) (deeply_resolved-empty c)
+region_root c false n h = cc
+
+-- the values of variables are of the store
+IsHeld-at : (ts : List Tree) (vs : List Variable) (n : ℕ) (v : Variable) → AreHeld ts vs → slice_get vs n ≡ Some v → IsHeldState ts v.state
+IsHeld-at ts [] n v h e = cc
+IsHeld-at ts (w ∷ vs) zero v h e = let same : w ≡ v = cc in rw (← same) h.0
+IsHeld-at ts (w ∷ vs) (suc n) v h e = IsHeld-at ts vs n v h.1 e
+
+pub value_in : (ts : List Tree) (t : Table) (r : ℕ) (v : Variable) (x : NodeId) → IsTable ts t → slice_get t.entries.variables r ≡ Some v → v.state ≡ Known x → IsIn ts x
+value_in ts t r v x h at is = let held = IsHeld-at ts t.entries.variables r v h.now.held at in rw is at held
+
+-- what the table has of a variable that is no region, and of its root
+pub record HasRoot (c : Content) (k : VariableKind) (n r : ℕ) : Type 0 where
+  pub sound : IsSound c
+  pub has : kind_at c n ≡ Some k
+  pub no_region : k ≢ kind.Region
+  pub reaches : Reaches c n r
+
+resolved_to-same : (regions : Bool) (c : Content) (t u : Tree) → resolved c t ≡ resolved c u → resolved_to regions c t ≡ resolved_to regions c u
+resolved_to-same true c t u e = ap (rooted c) e
+resolved_to-same false c t u e = e
+
+pub variable_value : (c : Content) (k : VariableKind) (n r : ℕ) (v : Tree) → HasRoot c k n r → state_of c r ≡ Some (known v) → resolved c (variable_tree k n) ≡ resolved c v
+variable_value c k n r v h e =
+    resolved-reaches_known c (label.Leaf (leaf.Variable k n)) empty k n r v h.sound (record { is = refl; no_region = h.no_region; has = h.has }) h.reaches e
+
+pub variable_root : (c : Content) (k : VariableKind) (n r : ℕ) → HasRoot c k n r → state_of c r ≡ Some unset → resolved c (variable_tree k n) ≡ variable_tree k r
+variable_root c k n r h e =
+    let is : IsVariable c (label.Leaf (leaf.Variable k n)) k n = record { is = refl; no_region = h.no_region; has = h.has } in
+    let there = IsVariable-reaches c (label.Leaf (leaf.Variable k n)) k n r h.sound is h.reaches in
+    resolved-variable_reaches c k n r h.sound h.no_region h.has h.reaches
+    ∙ resolved-variable_unset c (label.Leaf (leaf.Variable k r)) empty r h.sound (IsVariable-infer c (label.Leaf (leaf.Variable k r)) k r there) e
+
+no_region_sort : (k : VariableKind) → k ≢ kind.Region → of_sort (sort_of_variable k) ≡ of_sort sort.Region → ⊥
+no_region_sort kind.Ty h e = cc
+no_region_sort kind.Int h e = cc
+no_region_sort kind.Float h e = cc
+no_region_sort kind.Const h e = cc
+no_region_sort kind.Region h e = h refl
+
+-- a value is a node, and no variable
+pub record IsValue (v : Tree) : Type 0 where
+  pub label : Label
+  pub below : Tree
+  pub is : v ≡ node label below
+  pub no_variable : variable_of label ≡ None
+
+pub value_node : (v : Tree) (k : VariableKind) → k ≢ kind.Region → kind_of v ≡ Some (of_sort (sort_of_variable k)) → (IsInfer v → ⊥) → IsValue v
+value_node empty k d e h = cc
+value_node (more a b) k d e h = cc
+value_node (node l x) k d e h = by_case (variable_of l) refl
+  where
+    by_kind : (j : VariableKind) (m : ℕ) → variable_of l ≡ Some (j, m) → (j ≢ kind.Region → ⊥) → IsValue (node l x)
+    by_kind kind.Ty m q f = absurd (f (λ z. cc))
+    by_kind kind.Int m q f = absurd (f (λ z. cc))
+    by_kind kind.Float m q f = absurd (f (λ z. cc))
+    by_kind kind.Const m q f = absurd (f (λ z. cc))
+    by_kind kind.Region m q f =
+        let is : kind_of_label l ≡ of_sort sort.Region = ap kind_of_label (variable_label l kind.Region m q) in
+        let same : of_sort (sort_of_variable k) ≡ of_sort sort.Region = cc in
+        absurd (no_region_sort k d same)
+
+    by_case : (o : Option (VariableKind × ℕ)) → variable_of l ≡ o → IsValue (node l x)
+    by_case None q = record { label = l; below = x; is = refl; no_variable = q }
+    by_case (Some (j, m)) q = by_kind j m q (λ f. h (m, infer_of_variable_label l j m q f))
+
+-- what stands at the root of a variable's class, by the entries
+module _ (ts : List Tree) (t : Table) (k : VariableKind) (n r : ℕ) (v : Variable) (table : IsTable ts t) (has : kind_at (content_of ts t.entries) n ≡ Some k) (no_region : k ≢ kind.Region) (root : IsRoot t.entries n r) (at : slice_get t.entries.variables r ≡ Some v) where
+  abbrev content : Content
+  content = content_of ts t.entries
+
+  pub has_root : HasRoot content k n r
+  has_root =
+      record { sound = table.now.sound; has = has; no_region = no_region; reaches = Reaches-leads ts t.entries n r root.leads }
+
+  root_kind : kind_at content r ≡ Some k
+  root_kind =
+      (IsVariable-reaches content (label.Leaf (leaf.Variable k n)) k n r table.now.sound (record { is = refl; no_region = no_region; has = has }) has_root.reaches).has
+
+  module _ (x : NodeId) (is : v.state ≡ Known x) where
+    pub known_at : state_of content r ≡ Some (known (tree_at ts x))
+    known_at = state_of-entry ts t.entries r v at ∙ ap (λ s. Some (state_with ts s)) is
+
+    pub value_image : (regions : Bool) → resolution_of (resolution ts t regions) (variable_tree k n) ≡ resolution_of (resolution ts t regions) (tree_at ts x)
+    value_image regions =
+        resolved_to-same regions content (variable_tree k n) (tree_at ts x) (variable_value content k n r (tree_at ts x) has_root known_at)
+
+    pub value_goes_down : (regions : Bool) → GoesDown (CanResolve (resolution ts t regions)) (resolution_of (resolution ts t regions)) (variable_tree k n) (tree_at ts x)
+    value_goes_down regions =
+        let s = table.now.sound in
+        let fits = s.fits r (tree_at ts x) k known_at root_kind in
+        let w = value_node (tree_at ts x) k no_region fits.0 (s.no_variables r (tree_at ts x) known_at) in
+        goes_down (resolution ts t regions) (variable_tree k n) (tree_at ts x) w.label w.below w.is w.no_variable (record { sound = s; knows = s.known_trees r (tree_at ts x) known_at }) (value_image regions)
+
+  pub root_image : (regions : Bool) → ((x : NodeId) → v.state ≡ Known x → ⊥) → variable_tree k r ≡ resolution_of (resolution ts t regions) (variable_tree k n)
+  root_image regions unvalued = by_state v.state refl
+    where
+      stays : (b : Bool) → resolved content (variable_tree k n) ≡ variable_tree k r → resolved_to b content (variable_tree k n) ≡ variable_tree k r
+      stays true e = ap (rooted content) e ∙ same_node k no_region
+        where
+          same_node : (j : VariableKind) → j ≢ kind.Region → rooted content (variable_tree j r) ≡ variable_tree j r
+          same_node kind.Ty d = refl
+          same_node kind.Int d = refl
+          same_node kind.Float d = refl
+          same_node kind.Const d = refl
+          same_node kind.Region d = absurd (d refl)
+      stays false e = e
+
+      by_state : (s : State) → v.state ≡ s → variable_tree k r ≡ resolution_of (resolution ts t regions) (variable_tree k n)
+      by_state Unset e = sym (stays regions (variable_root content k n r has_root (state_of-entry ts t.entries r v at ∙ ap (λ s. Some (state_with ts s)) e)))
+      by_state (Link m) e = let z = root.ends v at in absurd (rw e at z)
+      by_state (Known x) e = absurd (unvalued x e)

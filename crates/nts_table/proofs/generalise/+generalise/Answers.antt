@@ -1,0 +1,97 @@
+use Rattle.std.proofs.Common.{rules, arith, sym, refl, ap, ◌≡◌, ◌+◌, ◌-◌, ◌<◌, ◌≤◌, ◌^◌, true, false, Bool, Some, None, length, ℕ, ◌∙◌}
+use Rattle.nts_model.specs.Trees.{children, row_length, row_at, row_take, binders, any_label, is_infer, empty}
+use Rattle.nts_model.specs.Resolving.{infer_of}
+use Rattle.nts_terms.specs.declared.facts.Facts.{Facts}
+use Rattle.nts_terms.specs.Growth.{tree_at, trees_at, IsIn}
+use Rattle.nts_terms.proofs.Growing.{AllIn-push, AllIn-extended, Extends-refl, Extends-trans, row_take-all}
+use Rattle.nts_table.specs.Reading.{content_of}
+use Rattle.nts_table.specs.Relating.{Generalised, IsLike}
+use Rattle.nts_table.specs.Lawful.{IsLawful-extended, content_of-extended}
+use Rattle.nts_table.proofs.PairLemmas.{if_ok}
+use Rattle.nts_table.proofs.HeadLemmas.{HeadKnown, head_known, head_open}
+use Rattle.nts_table.proofs.GenLemmas.{gen_settled, gen_known, gen_start, gen_push, gen_node, gen_child, GenChild, Meets-like, binders_le, slots_later}
+use Rattle.nts_table.proofs.generalise.+generalise.Goals as goal
+
+pub generalise-requires : goal.generalise-requires
+generalise-requires t c =
+    let k = head_known c.args.nodes.now c.args.table.now.entries _ _ _ _ _ _ c.requires.lawful c.requires.knows c.label-label.ensures.is (sym c.in-Some.ensures) c.root-root.ensures c.variable.ensures c.in-Known.is in
+    (omega (arith, k.step.smaller, c.decreases), (k.within, (k.step.knows, (c.requires.lawful, (c.requires.known, search rules)))))
+
+pub returns-in-Known-clause-generalised : goal.returns-in-Known-clause-generalised
+returns-in-Known-clause-generalised t c =
+    let k = head_known c.args.nodes.now c.args.table.now.entries _ _ _ _ _ _ c.requires.lawful c.requires.knows c.label-label.ensures.is (sym c.in-Some.ensures) c.root-root.ensures c.variable.ensures c.in-Known.is in
+    if_ok c.generalise.result (λ r g. gen_known _ _ _ _ _ _ _ k.sort k.infer k.value_sort k.own_sort g k.step.no_variable) c.generalise.ensures.generalised
+
+pub name_variable-requires : goal.name_variable-requires
+name_variable-requires t c = record {
+  within = c.requires.within;
+  lawful = c.requires.lawful;
+  «open» = head_open c.args.nodes.now c.args.table.now.entries _ _ _ _ _ c.requires.lawful c.requires.knows c.label-label.ensures.is (sym c.in-Some.ensures) c.root-root.ensures c.variable.ensures c.in_default-state.not-Known;
+  other = c.if-root-target.false;
+  known = c.requires.known;
+}
+
+pub returns-then-is_settled-clause-generalised : goal.returns-then-is_settled-clause-generalised
+returns-then-is_settled-clause-generalised t c =
+    let settled = c.is_settled.ensures c.if-is_settled.true in
+    let none : any_label is_infer (tree_at c.args.nodes.now c.args.t) ≡ false = sym (ap (λ (f : Facts). f.has_infer) c.facts.ensures) ∙ settled.no_infer in
+    gen_settled (content_of c.args.nodes.now c.args.table.now.entries) c.args.target.variable c.args.target.universe (tree_at c.args.nodes.now c.args.t) c.requires.knows none
+
+pub loop-i-init : goal.loop-i-init
+loop-i-init t c = record {
+  extends = Extends-refl c.args.nodes.now;
+  saved = refl;
+  lawful = c.requires.lawful;
+  all = rw c.new-children.ensures.items tt;
+  so_far = rw c.new-children.ensures.items (gen_start (content_of c.args.nodes.now c.args.table.now.entries) c.args.target.variable c.args.target.universe empty);
+}
+
+child : (t : ℕ) (c : goal.After-generalise-arg-in-loop-i-3-1 t) → GenChild (content_of c.args.nodes.now c.args.table.now.entries) (content_of c.loop-i.nodes c.loop-i.table.entries) (tree_at c.args.nodes.now c.args.t) (tree_at c.loop-i.nodes c.child-child.result) c.loop-i.i
+child t c =
+    let i = c.loop-i.invariant in
+    let less : c.loop-i.i < row_length (children (tree_at c.args.nodes.now c.args.t)) = omega (arith, c.child_count-count.ensures.count) in
+    let is : tree_at c.loop-i.nodes c.child-child.result ≡ row_at (children (tree_at c.args.nodes.now c.args.t)) c.loop-i.i =
+    c.child-child.ensures.tree ∙ ap (λ z. row_at (children z) c.loop-i.i) (i.extends.kept c.args.t c.requires.within) in
+    gen_child _ _ c.args.target.variable c.args.target.universe c.loop-i.i _ _ _ c.label-label.result c.requires.knows c.label-label.ensures.is (sym c.in_default.ensures) less i.so_far is
+
+pub generalise-requires-in-loop-i : goal.generalise-requires-in-loop-i
+generalise-requires-in-loop-i t c =
+    let i = c.loop-i.invariant in
+    let g = child t c in
+    let few : c.binders_of.result ≤ 1 = omega (arith, c.binders_of.ensures, binders_le c.label-label.result) in
+    (omega (arith, g.smaller, c.decreases), (c.child-child.ensures.within, (g.knows, (i.lawful, (slots_later c.args.nodes.now c.loop-i.nodes c.args.table.now.entries c.loop-i.table.entries c.args.target.variable i.so_far.keeps.later c.requires.known, omega (arith, few, c.child-child.ensures.before, c.requires.room))))))
+
+pub loop-i-preserved : goal.loop-i-preserved
+loop-i-preserved t c =
+    let i = c.loop-i.invariant in
+    let g = c.in-Ok.ensures in
+    let less : c.loop-i.i < row_length (children (tree_at c.args.nodes.now c.args.t)) = omega (arith, c.child_count-count.ensures.count) in
+    let is : tree_at c.loop-i.nodes c.child-child.result ≡ row_at (children (tree_at c.args.nodes.now c.args.t)) c.loop-i.i =
+    c.child-child.ensures.tree ∙ ap (λ z. row_at (children z) c.loop-i.i) (i.extends.kept c.args.t c.requires.within) in
+    let items = c.in_ok-push-in-Ok.ensures.items in
+    record {
+      extends = Extends-trans i.extends g.extends;
+      saved = g.saved ∙ i.saved;
+      lawful = g.lawful;
+      all = rw items (AllIn-push _ _ _ (AllIn-extended g.extends _ i.all) g.within);
+      so_far = gen_push c.loop-i.nodes c.generalise-in-loop-i.new.nodes _ _ _ c.args.target.variable c.args.target.universe c.loop-i.i _ _ c.loop-i.children.items _ c.in-Ok.r i.so_far g.extends i.all less is g.generalised items;
+    }
+
+pub make-requires-clause-formed : goal.make-requires-clause-formed
+make-requires-clause-formed t c =
+    let i = c.loop-i.invariant in
+    let all : c.loop-i.i ≡ row_length (children (tree_at c.args.nodes.now c.args.t)) = omega (arith, c.child_count-count.ensures.count) in
+    let whole : row_take c.loop-i.i (children (tree_at c.args.nodes.now c.args.t)) ≡ children (tree_at c.args.nodes.now c.args.t) = rw all (row_take-all _ c.child_count-count.ensures.row) in
+    let like : IsLike (trees_at c.loop-i.nodes c.loop-i.children.items) (children (tree_at c.args.nodes.now c.args.t)) = rw whole at i.so_far.like in
+    rw c.deref.ensures.value (Meets-like _ _ _ like c.label-label.ensures.formed)
+
+pub returns-clause-lawful : goal.returns-clause-lawful
+returns-clause-lawful t c = IsLawful-extended c.in_ok-make.ensures.extends c.loop-i.invariant.lawful
+
+pub returns-clause-generalised : goal.returns-clause-generalised
+returns-clause-generalised t c =
+    let i = c.loop-i.invariant in
+    let all : c.loop-i.i ≡ row_length (children (tree_at c.args.nodes.now c.args.t)) = omega (arith, c.child_count-count.ensures.count) in
+    let made = rw c.deref.ensures.value at c.in_ok-make.ensures.tree in
+    rw (made, content_of-extended c.in_ok-make.ensures.extends i.lawful)
+    (gen_node _ _ c.args.target.variable c.args.target.universe c.loop-i.i _ _ c.label-label.result c.requires.knows c.label-label.ensures.is (sym c.in_default.ensures) c.child_count-count.ensures.row all i.so_far)

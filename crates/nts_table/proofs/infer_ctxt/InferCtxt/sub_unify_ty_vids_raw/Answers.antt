@@ -1,0 +1,6 @@
+use Rattle.nts_table.proofs.SubLinks.{IsTable-sub_joined}
+use Rattle.nts_table.proofs.infer_ctxt.InferCtxt.sub_unify_ty_vids_raw.Goals as goal
+
+pub returns-clause-table : goal.returns-clause-table
+returns-clause-table c =
+    λ ts h. IsTable-sub_joined ts c.args.self.now c.join_sub_roots.new.self c.args.a c.args.b c.in_ok-join_sub_roots.ensures.joined c.join_sub_roots.ensures.saved h

@@ -1,0 +1,25 @@
+use Rattle.std.proofs.Common.{◌≡◌, ◌++◌, ◌∷◌, [], sym, ◌∙◌}
+use Rattle.nts_table.specs.Entries.{Entries, Table}
+use Rattle.nts_table.proofs.SavedLemmas.{back_to, push_inj}
+use Rattle.nts_table.specs.Lawful.{IsTable-same, IsTable-extended, content_of-extended}
+use Rattle.nts_table.specs.Reading.{content_of}
+use Rattle.nts_table.proofs.Keeping.{IsLater-refl}
+use Rattle.nts_table.proofs.relate.relate_nodes.Goals as goal
+
+pub returns-in-Err-clause-table : goal.returns-in-Err-clause-table
+returns-in-Err-clause-table c =
+    IsTable-same c.requires.table c.in-Err.ensures.extends (back_to c.args.table.now c.rollback_to.new.self c.run_all.new.table.saved (c.in-Err.ensures.saved ∙ c.in_ok-snapshot.ensures.saved) c.rollback_to.ensures)
+
+pub returns-clause-table : goal.returns-clause-table
+returns-clause-table c =
+    let old : c.run_all.new.table.saved ≡ c.args.table.now.saved ++ c.args.table.now.entries ∷ [] = c.in-Ok.ensures.saved ∙ c.in_ok-snapshot.ensures.saved in
+    let same = push_inj _ _ _ _ (sym c.commit.ensures.saved.1 ∙ old) in
+    record {
+      now = rw c.commit.ensures.entries c.in-Ok.ensures.lawful;
+      saved = rw same.0 (IsTable-extended c.in-Ok.ensures.extends c.requires.table).saved;
+    }
+
+pub returns-in-Err-clause-later : goal.returns-in-Err-clause-later
+returns-in-Err-clause-later c =
+    let back = back_to c.args.table.now c.rollback_to.new.self c.run_all.new.table.saved (c.in-Err.ensures.saved ∙ c.in_ok-snapshot.ensures.saved) c.rollback_to.ensures in
+    rw back (rw (content_of-extended {a = c.args.nodes.now} {b = c.run_all.new.nodes} {c = c.args.table.now.entries} c.in-Err.ensures.extends c.requires.table.now) (IsLater-refl (content_of c.args.nodes.now c.args.table.now.entries)))

@@ -1,0 +1,57 @@
+-- What a change of a table keeps.
+use Rattle.std.specs.Prelude.{◌≡◌, ◌≢◌, ℕ, ◌+◌, ◌≤◌, ◌<◌, List, [], ◌∷◌, length, Option, Some, None, Bool, true, false}
+use Rattle.nts_model.specs.declared.labels.VariableKind.{VariableKind}
+use Rattle.nts_model.specs.declared.labels.VariableKind.TheVariants as kind
+use Rattle.nts_model.specs.declared.labels.Leaf.TheVariants as leaf
+use Rattle.nts_model.specs.declared.labels.Label.{Label}
+use Rattle.nts_model.specs.declared.labels.Label.TheVariants as label
+use Rattle.nts_model.specs.Trees.{Tree}
+use Rattle.nts_model.specs.Contents.{Content, Slot, SlotState, unset, link, known, state_of, kind_at}
+use Rattle.nts_model.specs.Resolving.{Knows, resolved, variable_of}
+
+-- the variable of a region
+abbrev pub region_number : VariableKind → ℕ → Option ℕ
+region_number kind.Region n = Some n
+region_number k n = None
+
+abbrev pub region_of_variable : Option (VariableKind × ℕ) → Option ℕ
+region_of_variable None = None
+region_of_variable (Some v) = region_number v.0 v.1
+
+abbrev pub region_variable : Label → Option ℕ
+region_variable l = region_of_variable (variable_of l)
+
+-- a region that is not bound: a variable, or another one
+abbrev pub is_region_kind : VariableKind → Bool
+is_region_kind kind.Region = true
+is_region_kind k = false
+
+abbrev pub is_free_region : Label → Bool
+is_free_region (label.Leaf (leaf.Variable k n)) = is_region_kind k
+is_free_region (label.Leaf (leaf.Region r)) = true
+is_free_region l = false
+
+-- how many variables that are no regions have no value
+abbrev pub one_unset : SlotState → ℕ
+one_unset unset = 1
+one_unset s = 0
+
+abbrev pub unset_of : VariableKind → SlotState → ℕ
+unset_of kind.Region s = 0
+unset_of k s = one_unset s
+
+abbrev pub unset_count : List Slot → ℕ
+unset_count [] = 0
+unset_count (v ∷ vs) = unset_of v.kind v.state + unset_count vs
+
+-- the table has its variables, and may have more
+pub record IsLater (c d : Content) : Type 0 where
+  pub more : length c.slots ≤ length d.slots
+  pub kinds : (n : ℕ) (k : VariableKind) → kind_at c n ≡ Some k → kind_at d n ≡ Some k
+
+-- what the table knew of trees, it knows no more and no less of
+pub record Keeps (c d : Content) : Type 0 where
+  pub later : IsLater c d
+  pub states : (n : ℕ) → n < length c.slots → kind_at c n ≢ Some kind.Region → state_of d n ≡ state_of c n
+  pub trees : (t : Tree) → Knows c t → resolved d t ≡ resolved c t
+  pub unset_kept : unset_count d.slots ≡ unset_count c.slots

@@ -1,0 +1,55 @@
+-- What a table needs before two variables are joined, and what it is afterwards.
+use Rattle.std.specs.Prelude.{◌≡◌, ◌≢◌, ℕ, ◌+◌, ◌<◌, min, max, List, Some, slice_get, length}
+use Rattle.nts_model.specs.declared.labels.VariableKind.{VariableKind}
+use Rattle.nts_model.specs.declared.labels.VariableKind.TheVariants as kind
+use Rattle.nts_model.specs.Trees.{Tree}
+use Rattle.nts_model.specs.Contents.{Content, link, state_of, kind_at}
+use Rattle.nts_model.specs.Resolving.{Lacks, resolved}
+use Rattle.nts_table.specs.declared.contents.Variable.{Variable}
+use Rattle.nts_table.specs.declared.contents.State.TheVariants.{Unset}
+use Rattle.nts_table.specs.Entries.{Entries}
+use Rattle.nts_table.specs.Reading.{content_of, IsLawful, LinksDescend}
+use Rattle.nts_table.specs.Changing.{IsLater, Keeps, unset_count}
+
+-- the table has the variable, of that kind and without a value
+pub record HasUnset (e : Entries) (n : ℕ) (k : VariableKind) : Type 0 where
+  pub variable : Variable
+  pub at : slice_get e.variables n ≡ Some variable
+  pub of_kind : variable.kind ≡ k
+  pub state : variable.state ≡ Unset
+
+-- .. of a kind that has values
+pub record IsBindable (e : Entries) (n : ℕ) : Type 0 where
+  pub of_kind : VariableKind
+  pub no_region : of_kind ≢ kind.Region
+  pub free : HasUnset e n of_kind
+
+-- two variables of one kind
+pub record CanJoin (e : Entries) (x y : ℕ) : Type 0 where
+  pub of_kind : VariableKind
+  pub no_region : of_kind ≢ kind.Region
+  pub first : HasUnset e x of_kind
+  pub second : HasUnset e y of_kind
+  pub apart : x ≡ y → ⊥
+  pub descends : LinksDescend e
+
+pub record CanJoinRegions (e : Entries) (x y : ℕ) : Type 0 where
+  pub first : HasUnset e x kind.Region
+  pub second : HasUnset e y kind.Region
+  pub apart : x ≡ y → ⊥
+
+-- the higher number leads to the lower one
+pub record IsJoined (c d : Content) (low high : ℕ) : Type 0 where
+  pub later : IsLater c d
+  pub fewer : unset_count d.slots + 1 ≡ unset_count c.slots
+  pub linked : state_of d high ≡ Some (link low)
+  pub others : (n : ℕ) → (n ≡ high → ⊥) → state_of d n ≡ state_of c n
+  pub trees : (t : Tree) → Lacks high (resolved c t) → resolved d t ≡ resolved c t
+
+pub record Joins (ts : List Tree) (e f : Entries) (x y : ℕ) : Type 0 where
+  pub lawful : IsLawful ts f
+  pub joined : IsJoined (content_of ts e) (content_of ts f) (min x y) (max x y)
+
+pub record RegionsJoin (ts : List Tree) (e f : Entries) (x y : ℕ) : Type 0 where
+  pub lawful : IsLawful ts f
+  pub keeps : Keeps (content_of ts e) (content_of ts f)

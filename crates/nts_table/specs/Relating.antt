@@ -1,0 +1,139 @@
+-- What the steps of relating do to a table.
+use Rattle.std.specs.Prelude.{◌≡◌, ◌≢◌, ℕ, zero, suc, ◌+◌, ◌≤◌, ◌<◌, List, [], ◌∷◌, ◌++◌, length, map, Option, Some, None, Bool, true, false}
+use Rattle.nts_model.specs.declared.labels.VariableKind.{VariableKind}
+use Rattle.nts_model.specs.declared.labels.VariableKind.TheVariants as kind
+use Rattle.nts_model.specs.declared.labels.Sort.TheVariants as sort
+use Rattle.nts_model.specs.Trees.{Tree, empty, more, node, size, kind_of, kind_of_label, of_sort, row_length}
+use Rattle.nts_model.specs.Contents.{Content, unset, state_of, kind_at}
+use Rattle.nts_model.specs.Resolving.{Knows, IsInfer, Lacks, resolved, variable_tree}
+use Rattle.nts_terms.specs.declared.nodes.NodeId.{NodeId}
+use Rattle.nts_terms.specs.declared.facts.Facts.{Facts}
+use Rattle.nts_terms.specs.Growth.{tree_at, IsIn}
+use Rattle.nts_table.specs.declared.relate.Pair.{Pair}
+use Rattle.nts_table.specs.declared.relate.Head.{Head}
+use Rattle.nts_table.specs.declared.relate.Head.TheVariants.{Open, Closed}
+use Rattle.nts_table.specs.Entries.{Entries}
+use Rattle.nts_table.specs.Reading.{content_of, IsLawful}
+use Rattle.nts_table.specs.Changing.{IsLater, Keeps, unset_count}
+use Rattle.nts_table.specs.Joining.{IsBindable}
+
+-- the trees of a list from the i-th on
+abbrev pub row_drop : ℕ → Tree → Tree
+row_drop zero r = r
+row_drop (suc i) empty = empty
+row_drop (suc i) (more a b) = row_drop i b
+row_drop (suc i) (node l c) = empty
+
+-- a list of trees of the same sorts
+abbrev pub IsLike : Tree → Tree → Type 0
+IsLike empty empty = Unit {0}
+IsLike (more a b) (more c d) = (kind_of a ≡ kind_of c) × IsLike b d
+IsLike (node l a) (node m b) = kind_of_label l ≡ kind_of_label m
+IsLike s t = ⊥
+
+-- neither variables nor placeholders, and no bound variable passes the binders
+abbrev pub StaysBelow : Option ℕ → ℕ → Type 0
+StaysBelow None n = Unit {0}
+StaysBelow (Some d) n = d < n
+
+pub record IsSettled (facts : Facts) (binders : ℕ) : Type 0 where
+  pub no_infer : facts.has_infer ≡ false
+  pub no_region_infer : facts.has_region_infer ≡ false
+  pub no_placeholder : facts.has_placeholder ≡ false
+  pub escaping : StaysBelow facts.escaping binders
+
+-- the tree r stands for t in the value of the variable x, which the universe u bounds
+pub record Generalised (c d : Content) (x u : ℕ) (t r : Tree) : Type 0 where
+  pub keeps : Keeps c d
+  pub knows : Knows d r
+  pub no_variable : (IsInfer t → ⊥) → IsInfer r → ⊥
+  pub like : IsLike r t
+  pub lacks : Lacks x (resolved d r)
+
+-- an inference variable that is no region and has no value
+pub record IsUnset (c : Content) (n : ℕ) (k : VariableKind) : Type 0 where
+  pub has : kind_at c n ≡ Some k
+  pub no_region : k ≢ kind.Region
+  pub state : state_of c n ≡ Some unset
+
+-- what a tree is under the table: such a variable, or another node
+pub record IsOpen (ts : List Tree) (e : Entries) (t : Tree) (n : ℕ) : Type 0 where
+  pub bindable : IsBindable e n
+  pub infer : IsInfer t
+  pub like : IsLike (variable_tree bindable.of_kind n) t
+
+pub record IsClosed (c : Content) (t v : Tree) : Type 0 where
+  pub knows : Knows c v
+  pub no_variable : IsInfer v → ⊥
+  pub same : resolved c t ≡ resolved c v
+
+abbrev pub IsHead : List Tree → Entries → Tree → Head → Type 0
+IsHead ts e t (Open n) = IsOpen ts e t n
+IsHead ts e t (Closed v) = IsIn ts v × IsClosed (content_of ts e) t (tree_at ts v)
+
+-- a free region of the store and the table
+pub record IsRegionOf (ts : List Tree) (e : Entries) (t : NodeId) : Type 0 where
+  pub within : IsIn ts t
+  pub knows : Knows (content_of ts e) (tree_at ts t)
+  pub sort : kind_of (tree_at ts t) ≡ Some (of_sort sort.Region)
+
+-- a variable got a value, or was joined with another
+pub record IsSet (c d : Content) (x : ℕ) (t : Tree) : Type 0 where
+  pub later : IsLater c d
+  pub fewer : unset_count d.slots < unset_count c.slots
+
+-- two trees that are to be equal
+abbrev pub pair_at : List Tree → Pair → Tree × Tree
+pair_at ts p = (tree_at ts p.left, tree_at ts p.right)
+
+abbrev pub pairs_at : List Tree → List Pair → List (Tree × Tree)
+pairs_at ts [] = []
+pairs_at ts (p ∷ ps) = pair_at ts p ∷ pairs_at ts ps
+
+abbrev pub ArePairsIn : List Tree → List Pair → Type 0
+ArePairsIn ts [] = Unit {0}
+ArePairsIn ts (p ∷ ps) = IsIn ts p.left × IsIn ts p.right × ArePairsIn ts ps
+
+abbrev pub AreKnown : Content → List (Tree × Tree) → Type 0
+AreKnown c [] = Unit {0}
+AreKnown c (p ∷ ps) = Knows c p.0 × Knows c p.1 × AreKnown c ps
+
+-- for the measure: the sizes of the resolved trees
+abbrev pub total : Content → List (Tree × Tree) → ℕ
+total c [] = 0
+total c (p ∷ ps) = size (resolved c p.0) + size (resolved c p.1) + 1 + total c ps
+
+-- the pairs of the children from the i-th on stand at the end, the first ones last
+pub record Pushed (ts : List Tree) (ps qs : List Pair) (a b : Tree) (i : ℕ) : Type 0 where
+  pub within : ArePairsIn ts ps → ArePairsIn ts qs
+  pub known : (c : Content) → Knows c a → Knows c b → AreKnown c (pairs_at ts ps) → AreKnown c (pairs_at ts qs)
+  pub weight : (c : Content) → total c (pairs_at ts qs) + row_length (row_drop i a) ≡ total c (pairs_at ts ps) + size (resolved c (row_drop i a)) + size (resolved c (row_drop i b))
+
+pub record IsValid (ts : List Tree) (e : Entries) (ps : List Pair) : Type 0 where
+  pub lawful : IsLawful ts e
+  pub within : ArePairsIn ts ps
+  pub known : AreKnown (content_of ts e) (pairs_at ts ps)
+
+-- two variables without values made one, unless they were one
+pub record VariablesRelate (ts : List Tree) (e f : Entries) (bound : Bool) : Type 0 where
+  pub lawful : IsLawful ts f
+  pub later : IsLater (content_of ts e) (content_of ts f)
+  pub fewer : bound ≡ true → unset_count (content_of ts f).slots < unset_count (content_of ts e).slots
+  pub same : bound ≡ false → f ≡ e
+
+-- what is left after a pair
+pub record IsStep (c d : Content) (ps qs : List (Tree × Tree)) (bound : Bool) : Type 0 where
+  pub later : IsLater c d
+  pub fewer : bound ≡ true → unset_count d.slots < unset_count c.slots
+  pub smaller : bound ≡ false → (total d qs < total c ps) × (unset_count d.slots ≡ unset_count c.slots)
+
+-- pairs related until a variable got a value
+pub record IsRun (c d : Content) (ps qs : List (Tree × Tree)) (bound : Bool) : Type 0 where
+  pub later : IsLater c d
+  pub fewer : bound ≡ true → unset_count d.slots < unset_count c.slots
+  pub ends : bound ≡ false → qs ≡ []
+
+-- while pairs are taken
+pub record Running (c d : Content) (ps qs : List (Tree × Tree)) : Type 0 where
+  pub later : IsLater c d
+  pub not_more : unset_count d.slots ≤ unset_count c.slots

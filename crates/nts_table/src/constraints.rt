@@ -1,0 +1,93 @@
+//! Region constraints.
+ghost use Rattle.std.specs.Prelude.{◌≡◌, true, OnOk, OnErr, IsOkUnless};
+ghost use Rattle.nts_model.specs.declared.labels.Relation.TheVariants as relation;
+ghost use Rattle.nts_model.specs.Resolving.{Knows};
+ghost use Rattle.nts_terms.specs.Growth.{tree_at};
+ghost use Rattle.nts_terms.specs.Handles.{HoldsTy, HoldsRegion};
+ghost use Rattle.nts_table.specs.Reading.{content_of, IsTable, IsConstraint};
+ghost use Rattle.nts_table.specs.Recording.{Records};
+
+use crate::contents::Constraint;
+use crate::infer_ctxt::InferCtxt;
+use nts_model::Relation;
+use nts_terms::{Cx, Fault, Nodes, Region, Span, Ty};
+
+impl InferCtxt {
+    /// Records that `b` outlives `a`, unless they are one.
+    pub fn sub_regions(
+        &mut self,
+        cx: &Cx,
+        a: Region,
+        b: Region,
+        visible: bool,
+        _span: Span,
+    ) -> Result<(), Fault>
+        requires table { IsTable cx.now.nodes self.old }
+        requires left { HoldsRegion cx.now.nodes a }
+        requires right { HoldsRegion cx.now.nodes b }
+        requires left_known { Knows (content_of cx.now.nodes self.old.entries) (tree_at cx.now.nodes a.node) }
+        requires right_known { Knows (content_of cx.now.nodes self.old.entries) (tree_at cx.now.nodes b.node) }
+        ensures recorded { OnOk result (Records cx.now.nodes self.old.entries self.new.entries (record { relation = relation.RegionOutlives; left = b.node; right = a.node; is_visible = visible })) }
+        ensures table { IsTable cx.now.nodes self.new }
+        ensures saved { self.new.saved ≡ self.old.saved }
+        ensures err { OnErr result (self.new ≡ self.old) }
+        ensures memory { IsOkUnless result Fault.Memory }
+    {
+        self.record(
+            &cx.nodes,
+            Constraint {
+                relation: Relation::RegionOutlives,
+                left: b.node,
+                right: a.node,
+                is_visible: visible,
+            },
+        )
+    }
+
+    /// Records that a type outlives a region, for the leak check to see.
+    pub fn register_ty_outlives(
+        &mut self,
+        cx: &Cx,
+        ty: Ty,
+        region: Region,
+        _span: Span,
+    ) -> Result<(), Fault>
+        requires table { IsTable cx.now.nodes self.old }
+        requires left { HoldsTy cx.now.nodes ty }
+        requires right { HoldsRegion cx.now.nodes region }
+        requires left_known { Knows (content_of cx.now.nodes self.old.entries) (tree_at cx.now.nodes ty.node) }
+        requires right_known { Knows (content_of cx.now.nodes self.old.entries) (tree_at cx.now.nodes region.node) }
+        ensures recorded { OnOk result (Records cx.now.nodes self.old.entries self.new.entries (record { relation = relation.TypeOutlives; left = ty.node; right = region.node; is_visible = true })) }
+        ensures table { IsTable cx.now.nodes self.new }
+        ensures saved { self.new.saved ≡ self.old.saved }
+        ensures err { OnErr result (self.new ≡ self.old) }
+        ensures memory { IsOkUnless result Fault.Memory }
+    {
+        self.record(
+            &cx.nodes,
+            Constraint {
+                relation: Relation::TypeOutlives,
+                left: ty.node,
+                right: region.node,
+                is_visible: true,
+            },
+        )
+    }
+
+    /// Records a constraint, unless its sides are one term.
+    pub fn record(&mut self, nodes: &Nodes, constraint: Constraint) -> Result<(), Fault>
+        requires table { IsTable nodes.now self.old }
+        requires sides { IsConstraint nodes.now (content_of nodes.now self.old.entries) constraint }
+        ensures recorded { OnOk result (Records nodes.now self.old.entries self.new.entries constraint) }
+        ensures table { IsTable nodes.now self.new }
+        ensures saved { self.new.saved ≡ self.old.saved }
+        ensures err { OnErr result (self.new ≡ self.old) }
+        ensures memory { IsOkUnless result Fault.Memory }
+    {
+        if nodes.same(constraint.left, constraint.right) {
+            return Ok(());
+        }
+        self.constrain(constraint)?;
+        Ok(())
+    }
+}

@@ -1,0 +1,117 @@
+//! Regions made equal.
+ghost use Rattle.std.specs.Prelude.{◌≡◌, ◌⊎◌, ◌<◌, length, List, Some, OnOk, OnErr, IsOkUnless};
+ghost use Rattle.nts_model.specs.declared.labels.VariableKind.TheVariants as kinds;
+ghost use Rattle.nts_model.specs.Contents.{kind_at};
+ghost use Rattle.nts_model.specs.Resolving.{Knows};
+ghost use Rattle.nts_model.specs.Trees.{Tree};
+ghost use Rattle.nts_terms.specs.Growth.{tree_at, IsIn};
+ghost use Rattle.nts_terms.specs.Handles.{HoldsRegion};
+ghost use Rattle.nts_table.specs.Reading.{content_of, IsTable, LinksDescend};
+ghost use Rattle.nts_table.specs.Equating.{Equated, RegionsJoined, RegionsLinked, region_variable};
+
+use crate::contents::{Constraint, State, Variable};
+use crate::infer_ctxt::InferCtxt;
+use crate::named::named_variable;
+use nts_model::{Relation, VariableKind};
+use nts_terms::{Cx, Fault, NodeId, Nodes, Region, Span};
+use std::alloc::AllocError;
+
+impl InferCtxt {
+    /// Makes two regions equal: two variables become one, and otherwise it is recorded, unless the
+    /// regions are one already.
+    pub fn equate_regions(
+        &mut self,
+        cx: &Cx,
+        a: Region,
+        b: Region,
+        visible: bool,
+        _span: Span,
+    ) -> Result<(), Fault>
+        requires table { IsTable cx.now.nodes self.old }
+        requires left { HoldsRegion cx.now.nodes a }
+        requires right { HoldsRegion cx.now.nodes b }
+        requires left_known { Knows (content_of cx.now.nodes self.old.entries) (tree_at cx.now.nodes a.node) }
+        requires right_known { Knows (content_of cx.now.nodes self.old.entries) (tree_at cx.now.nodes b.node) }
+        ensures equated { OnOk result (Equated cx.now.nodes self.old.entries self.new.entries a.node b.node visible) }
+        ensures table { IsTable cx.now.nodes self.new }
+        ensures saved { self.new.saved ≡ self.old.saved }
+        ensures err { OnErr result (self.new ≡ self.old) }
+        ensures memory { IsOkUnless result Fault.Memory }
+    {
+        match (
+            region_number(&cx.nodes, a.node),
+            region_number(&cx.nodes, b.node),
+        ) {
+            (Some(x), Some(y)) => {
+                self.join_regions_of(x, y)?;
+                Ok(())
+            }
+            _ => self.record(
+                &cx.nodes,
+                Constraint {
+                    relation: Relation::Equal,
+                    left: a.node,
+                    right: b.node,
+                    is_visible: visible,
+                },
+            ),
+        }
+    }
+
+    /// Makes one class of those of two region variables.
+    fn join_regions_of(&mut self, x: usize, y: usize) -> Result<(), Fault>
+        requires within_x { x < length self.old.entries.variables }
+        requires within_y { y < length self.old.entries.variables }
+        requires descends { LinksDescend self.old.entries }
+        ensures joined { OnOk result (RegionsJoined self.old.entries self.new.entries x y) }
+        ensures saved { self.new.saved ≡ self.old.saved }
+        ensures err { OnErr result (self.new ≡ self.old) }
+        ensures memory { IsOkUnless result Fault.Memory }
+    {
+        let x_root = self.root(x);
+        let y_root = self.root(y);
+        if x_root == y_root {
+            return Ok(());
+        }
+        let snapshot = self.start_snapshot()?;
+        match self.link_regions(x_root, y_root) {
+            Ok(()) => {
+                self.commit(snapshot);
+                Ok(())
+            }
+            Err(_) => {
+                self.rollback_to(snapshot);
+                Err(Fault::Memory)
+            }
+        }
+    }
+
+    /// Links one root to the other. After an error the universe may be changed.
+    fn link_regions(&mut self, r: usize, s: usize) -> Result<(), AllocError>
+        requires within_r { r < length self.old.entries.variables }
+        requires within_s { s < length self.old.entries.variables }
+        requires apart { r ≡ s → ⊥ }
+        ensures linked { OnOk result (RegionsLinked self.old.entries self.new.entries r s) }
+        ensures saved { self.new.saved ≡ self.old.saved }
+    {
+        let low = r.min(s);
+        let high = r.max(s);
+        let root = self.variable(low);
+        let linked = self.variable(high);
+        let universe = root.universe.min(linked.universe);
+        self.set(low, Variable { universe, ..root })?;
+        let state = State::Link(low);
+        self.set(high, Variable { state, ..linked })
+    }
+}
+
+/// The number of a term that is a region variable.
+fn region_number(nodes: &Nodes, t: NodeId) -> Option<usize>
+    requires { IsIn nodes.now t }
+    ensures { result ≡ region_variable (tree_at nodes.now t) }
+{
+    match named_variable(nodes.label(t)) {
+        Some((VariableKind::Region, n)) => Some(n),
+        _ => None,
+    }
+}

@@ -1,0 +1,173 @@
+//! New variables of given sorts.
+ghost use Rattle.std.specs.Prelude.{◌≡◌, length, IfOk, OnOk, OnErr, IsOkUnless};
+ghost use Rattle.nts_model.specs.declared.labels.Label.TheVariants as labels;
+ghost use Rattle.nts_model.specs.declared.labels.ListHead.TheVariants as heads;
+ghost use Rattle.nts_model.specs.Trees.{node, kind_of};
+ghost use Rattle.nts_model.specs.Resolving.{variable_tree};
+ghost use Rattle.nts_terms.specs.Growth.{tree_at, trees_at, IsIn, AllIn, Extends};
+ghost use Rattle.nts_terms.specs.Handles.{HoldsArg, HoldsArgs};
+ghost use Rattle.nts_terms.specs.Rest.{KeepsRest};
+ghost use Rattle.nts_table.specs.Entries.{added};
+ghost use Rattle.nts_table.specs.Reading.{IsTable};
+ghost use Rattle.nts_table.specs.Making.{new_variable};
+ghost use Rattle.nts_table.specs.Fresh.{variable_kind, with_fresh, fresh_row, IsFreshLike};
+
+use crate::contents::{State, Variable};
+use crate::infer_ctxt::InferCtxt;
+use nts_model::{Label, Leaf, ListHead, Sort, VariableKind};
+use nts_terms::{Cx, Fault, GenericArg, GenericArgKind, GenericArgs, NodeId, Span};
+
+impl InferCtxt {
+    /// New variables of these sorts, in their order.
+    pub fn fresh_nodes(&mut self, cx: &mut Cx, sorts: &[Sort]) -> Result<Vec<NodeId>, Fault>
+        requires table { IsTable cx.old.nodes self.old }
+        ensures trees { IfOk result (λ v. trees_at cx.new.nodes v.items ≡ fresh_row (length self.old.entries.variables) sorts.now) }
+        ensures within { IfOk result (λ v. AllIn cx.new.nodes v.items) }
+        ensures entries { OnOk result (self.new.entries ≡ with_fresh self.old.entries sorts.now) }
+        ensures saved { self.new.saved ≡ self.old.saved }
+        ensures table { IsTable cx.new.nodes self.new }
+        ensures extends { Extends cx.old.nodes cx.new.nodes }
+        ensures rest { KeepsRest cx.old cx.new }
+        ensures err { OnErr result (self.new ≡ self.old) }
+        ensures memory { IsOkUnless result Fault.Memory }
+    {
+        let snapshot = self.start_snapshot()?;
+        match self.add_fresh(cx, sorts) {
+            Ok(nodes) => {
+                self.commit(snapshot);
+                Ok(nodes)
+            }
+            Err(fault) => {
+                self.rollback_to(snapshot);
+                Err(fault)
+            }
+        }
+    }
+
+    /// A list of new variables of these sorts, as arguments of what is declared with them.
+    pub fn fresh_args_for_item(&mut self, cx: &mut Cx, sorts: &[Sort]) -> Result<GenericArgs, Fault>
+        requires table { IsTable cx.old.nodes self.old }
+        ensures tree { IfOk result (λ a. tree_at cx.new.nodes a.node ≡ node (labels.List heads.Args) (fresh_row (length self.old.entries.variables) sorts.now)) }
+        ensures holds { IfOk result (λ a. HoldsArgs cx.new.nodes a) }
+        ensures entries { OnOk result (self.new.entries ≡ with_fresh self.old.entries sorts.now) }
+        ensures saved { self.new.saved ≡ self.old.saved }
+        ensures table { IsTable cx.new.nodes self.new }
+        ensures extends { Extends cx.old.nodes cx.new.nodes }
+        ensures rest { KeepsRest cx.old cx.new }
+        ensures err { OnErr result (self.new ≡ self.old) }
+        ensures memory { IsOkUnless result Fault.Memory }
+    {
+        let snapshot = self.start_snapshot()?;
+        match self.add_fresh_args(cx, sorts) {
+            Ok(args) => {
+                self.commit(snapshot);
+                Ok(args)
+            }
+            Err(fault) => {
+                self.rollback_to(snapshot);
+                Err(fault)
+            }
+        }
+    }
+
+    fn add_fresh_args(&mut self, cx: &mut Cx, sorts: &[Sort]) -> Result<GenericArgs, Fault>
+        requires table { IsTable cx.old.nodes self.old }
+        ensures tree { IfOk result (λ a. tree_at cx.new.nodes a.node ≡ node (labels.List heads.Args) (fresh_row (length self.old.entries.variables) sorts.now)) }
+        ensures holds { IfOk result (λ a. HoldsArgs cx.new.nodes a) }
+        ensures entries { OnOk result (self.new.entries ≡ with_fresh self.old.entries sorts.now) }
+        ensures saved { self.new.saved ≡ self.old.saved }
+        ensures table { IsTable cx.new.nodes self.new }
+        ensures extends { Extends cx.old.nodes cx.new.nodes }
+        ensures rest { KeepsRest cx.old cx.new }
+        ensures memory { IsOkUnless result Fault.Memory }
+    {
+        let nodes = self.add_fresh(cx, sorts)?;
+        let node = cx.nodes.make(Label::List(ListHead::Args), &nodes)?;
+        Ok(GenericArgs { node })
+    }
+
+    /// As `fresh_nodes`, but some variables may stay after an error.
+    fn add_fresh(&mut self, cx: &mut Cx, sorts: &[Sort]) -> Result<Vec<NodeId>, Fault>
+        requires table { IsTable cx.old.nodes self.old }
+        ensures trees { IfOk result (λ v. trees_at cx.new.nodes v.items ≡ fresh_row (length self.old.entries.variables) sorts.now) }
+        ensures within { IfOk result (λ v. AllIn cx.new.nodes v.items) }
+        ensures entries { OnOk result (self.new.entries ≡ with_fresh self.old.entries sorts.now) }
+        ensures saved { self.new.saved ≡ self.old.saved }
+        ensures table { IsTable cx.new.nodes self.new }
+        ensures extends { Extends cx.old.nodes cx.new.nodes }
+        ensures rest { KeepsRest cx.old cx.new }
+        ensures memory { IsOkUnless result Fault.Memory }
+    {
+        let mut nodes = Vec::with_capacity(cx.alloc, sorts.len())?;
+        for sort in sorts {
+            nodes.push(self.fresh_node(cx, *sort)?)?;
+        }
+        Ok(nodes)
+    }
+
+    /// A new variable of that sort.
+    pub fn fresh_node(&mut self, cx: &mut Cx, sort: Sort) -> Result<NodeId, Fault>
+        requires table { IsTable cx.old.nodes self.old }
+        ensures within { IfOk result (λ r. IsIn cx.new.nodes r) }
+        ensures tree { IfOk result (λ r. tree_at cx.new.nodes r ≡ variable_tree (variable_kind sort) (length self.old.entries.variables)) }
+        ensures entries { OnOk result (self.new.entries ≡ added self.old.entries (new_variable self.old.entries (variable_kind sort))) }
+        ensures saved { self.new.saved ≡ self.old.saved }
+        ensures table { IsTable cx.new.nodes self.new }
+        ensures extends { Extends cx.old.nodes cx.new.nodes }
+        ensures rest { KeepsRest cx.old cx.new }
+        ensures err { OnErr result (self.new ≡ self.old) }
+        ensures memory { IsOkUnless result Fault.Memory }
+    {
+        let kind = kind_of_sort(sort);
+        let number = self.variable_count();
+        let node = cx
+            .nodes
+            .make(Label::Leaf(Leaf::Variable(kind, number)), &[])?;
+        self.add(Variable {
+            kind,
+            universe: self.universe(),
+            state: State::Unset,
+            sub_link: None,
+        })?;
+        Ok(node)
+    }
+}
+
+impl InferCtxt {
+    /// A new variable of the argument's sort: for a type a type variable.
+    pub fn fresh_var_for_kind_with_span(
+        &mut self,
+        cx: &mut Cx,
+        arg: GenericArg,
+        _span: Span,
+    ) -> Result<GenericArg, Fault>
+        requires table { IsTable cx.old.nodes self.old }
+        requires holds { HoldsArg cx.old.nodes arg }
+        ensures fresh { IfOk result (λ r. IsFreshLike (kind_of (tree_at cx.old.nodes arg.node)) (tree_at cx.new.nodes r.node) self.old.entries self.new.entries) }
+        ensures holds { IfOk result (λ r. HoldsArg cx.new.nodes r) }
+        ensures saved { self.new.saved ≡ self.old.saved }
+        ensures table { IsTable cx.new.nodes self.new }
+        ensures extends { Extends cx.old.nodes cx.new.nodes }
+        ensures rest { KeepsRest cx.old cx.new }
+        ensures err { OnErr result (self.new ≡ self.old) }
+        ensures memory { IsOkUnless result Fault.Memory }
+    {
+        let sort = match arg.kind(cx) {
+            GenericArgKind::Lifetime(_) => Sort::Region,
+            GenericArgKind::Type(_) => Sort::Ty,
+            GenericArgKind::Const(_) => Sort::Const,
+        };
+        let node = self.fresh_node(cx, sort)?;
+        Ok(GenericArg { node })
+    }
+}
+
+fn kind_of_sort(sort: Sort) -> VariableKind
+    ensures { result ≡ variable_kind sort }
+{
+    match sort {
+        Sort::Ty => VariableKind::Ty,
+        Sort::Region => VariableKind::Region,
+        Sort::Const => VariableKind::Const,
+    }
+}

@@ -1,0 +1,230 @@
+//! The value that a variable gets for a term.
+ghost use Rattle.std.specs.Prelude.{◌≡◌, ◌≢◌, ◌+◌, ◌^◌, ◌<◌, length, OnOk, IfOk, Some, None, Err, true};
+ghost use Rattle.nts_model.specs.declared.labels.VariableKind.TheVariants as kind;
+ghost use Rattle.nts_model.specs.Resolving.{Knows, variable_tree};
+ghost use Rattle.nts_terms.specs.Growth.{tree_at, IsIn, Extends};
+ghost use Rattle.nts_table.specs.Reading.{content_of, IsLawful};
+ghost use Rattle.nts_table.specs.Joining.{IsBindable};
+ghost use Rattle.nts_table.specs.Entries.{added};
+ghost use Rattle.nts_table.specs.Relating.{Generalised, IsOpen, IsRegionOf, IsSettled};
+
+use crate::contents::{Constraint, State, Variable};
+use crate::infer_ctxt::InferCtxt;
+use crate::join::{join, join_regions};
+use crate::labels::{infer_number, names_free_region, region_number};
+use indexmap::IndexSet;
+use nts_model::{BoundIndex, Constant, FreeRegion, Label, Leaf, Relation, VariableKind};
+use nts_terms::{EvalError, Facts, NodeId, Nodes, binders_of};
+use std::alloc::Global;
+
+/// What a value is made for: a variable, the universe that bounds its leaves, and how many binders
+/// stand around the part that is walked.
+#[derive(Clone, Copy)]
+pub struct Target {
+    pub variable: usize,
+    pub universe: u32,
+    pub binders: usize,
+}
+
+/// Whether a term is its own value: it has no variable and no placeholder, and no bound variable
+/// passes the binders.
+fn is_settled(facts: Facts, binders: usize) -> bool
+    ensures { result ≡ true → IsSettled facts binders }
+{
+    if facts.has_infer || facts.has_region_infer || facts.has_placeholder {
+        return false;
+    }
+    match facts.escaping {
+        None => true,
+        Some(level) => level < binders,
+    }
+}
+
+/// Whether a label may stand in the value: a placeholder is of a universe that the target's can name,
+/// and a bound variable does not pass the binders.
+fn is_allowed(target: Target, label: Label) -> bool {
+    match label {
+        Label::Leaf(Leaf::TyConstant(Constant::Placeholder(u, _))) => u <= target.universe,
+        Label::Leaf(Leaf::ConstConstant(Constant::Placeholder(u, _))) => u <= target.universe,
+        Label::Bound(_, BoundIndex::Level(level), _) => level < target.binders,
+        _ => true,
+    }
+}
+
+/// A term for a variable without value: itself, or a fresh variable where the universe cannot name it.
+/// The two are joined, which brings the variable down to the universe; `moved` holds those that came
+/// down, so that each of their occurrences gets its own.
+fn name_variable(
+    nodes: &mut Nodes,
+    table: &mut InferCtxt,
+    moved: &mut IndexSet<usize>,
+    target: Target,
+    t: NodeId,
+    y: usize,
+) -> Result<NodeId, EvalError>
+    requires within { IsIn nodes.old t }
+    requires lawful { IsLawful nodes.old table.old.entries }
+    requires open { IsOpen nodes.old table.old.entries (tree_at nodes.old t) y }
+    requires other { y ≢ target.variable }
+    requires known { target.variable < length table.old.entries.variables }
+    ensures extends { Extends nodes.old nodes.new }
+    ensures saved { table.new.saved ≡ table.old.saved }
+    ensures within { IfOk result (λ r. IsIn nodes.new r) }
+    ensures lawful { OnOk result (IsLawful nodes.new table.new.entries) }
+    ensures generalised { IfOk result (λ r. Generalised (content_of nodes.old table.old.entries) (content_of nodes.new table.new.entries) target.variable target.universe (tree_at nodes.old t) (tree_at nodes.new r)) }
+    ensures full { result ≢ Err EvalError.Full }
+{
+    let variable = table.variable(y);
+    let kind = variable.kind;
+    if variable.universe <= target.universe && !moved.contains(&y) {
+        return Ok(nodes.make(Label::Leaf(Leaf::Variable(kind, y)), &[])?);
+    }
+    moved.insert(y)?;
+    let fresh = table.add(Variable {
+        kind,
+        universe: target.universe,
+        state: State::Unset,
+        sub_link: None,
+    })?;
+    join(table, y, fresh)?;
+    Ok(nodes.make(Label::Leaf(Leaf::Variable(kind, fresh)), &[])?)
+}
+
+/// A fresh region variable, as a term.
+fn fresh_region(
+    nodes: &mut Nodes,
+    table: &mut InferCtxt,
+    universe: u32,
+) -> Result<NodeId, EvalError>
+    requires lawful { IsLawful nodes.old table.old.entries }
+    ensures extends { Extends nodes.old nodes.new }
+    ensures saved { table.new.saved ≡ table.old.saved }
+    ensures within { IfOk result (λ r. IsIn nodes.new r) }
+    ensures lawful { OnOk result (IsLawful nodes.new table.new.entries) }
+    ensures fresh { IfOk result (λ r. tree_at nodes.new r ≡ variable_tree kind.Region (length table.old.entries.variables)) }
+    ensures added { OnOk result (table.new.entries ≡ added table.old.entries (record { kind = kind.Region; universe = universe; state = State.Unset; sub_link = None })) }
+    ensures full { result ≢ Err EvalError.Full }
+{
+    let fresh = table.add(Variable {
+        kind: VariableKind::Region,
+        universe,
+        state: State::Unset,
+        sub_link: None,
+    })?;
+    Ok(nodes.make(
+        Label::Leaf(Leaf::Variable(VariableKind::Region, fresh)),
+        &[],
+    )?)
+}
+
+/// A term for a free region: itself, or a fresh variable where the universe cannot name it. The two
+/// are made equal.
+fn name_region(
+    nodes: &mut Nodes,
+    table: &mut InferCtxt,
+    moved: &mut IndexSet<usize>,
+    target: Target,
+    t: NodeId,
+) -> Result<NodeId, EvalError>
+    requires lawful { IsLawful nodes.old table.old.entries }
+    requires region { IsRegionOf nodes.old table.old.entries t }
+    requires known { target.variable < length table.old.entries.variables }
+    ensures extends { Extends nodes.old nodes.new }
+    ensures saved { table.new.saved ≡ table.old.saved }
+    ensures within { IfOk result (λ r. IsIn nodes.new r) }
+    ensures lawful { OnOk result (IsLawful nodes.new table.new.entries) }
+    ensures generalised { IfOk result (λ r. Generalised (content_of nodes.old table.old.entries) (content_of nodes.new table.new.entries) target.variable target.universe (tree_at nodes.old t) (tree_at nodes.new r)) }
+    ensures full { result ≢ Err EvalError.Full }
+{
+    let label = nodes.label(t);
+    if let Some(n) = region_number(label) {
+        let root = table.root(n);
+        if table.variable(root).universe <= target.universe && !moved.contains(&root) {
+            return Ok(t);
+        }
+        moved.insert(root)?;
+        let number = table.variable_count();
+        let fresh = fresh_region(nodes, table, target.universe)?;
+        join_regions(table, root, number)?;
+        return Ok(fresh);
+    }
+    if !is_beyond(label, target.universe) {
+        return Ok(t);
+    }
+    let fresh = fresh_region(nodes, table, target.universe)?;
+    table.constrain(Constraint {
+        relation: Relation::Equal,
+        left: fresh,
+        right: t,
+        is_visible: true,
+    })?;
+    Ok(fresh)
+}
+
+/// Whether a label is a placeholder region that the universe cannot name.
+fn is_beyond(label: Label, universe: u32) -> bool {
+    match label {
+        Label::Leaf(Leaf::Region(FreeRegion::Placeholder(u, _))) => universe < u,
+        _ => false,
+    }
+}
+
+/// A value for the target's variable that stands for the term: in it are leaves that the target's
+/// universe names alone, and not the variable.
+pub fn generalise(
+    alloc: Global,
+    nodes: &mut Nodes,
+    table: &mut InferCtxt,
+    moved: &mut IndexSet<usize>,
+    target: Target,
+    t: NodeId,
+) -> Result<NodeId, EvalError>
+    requires within { IsIn nodes.old t }
+    requires knows { Knows (content_of nodes.old table.old.entries) (tree_at nodes.old t) }
+    requires lawful { IsLawful nodes.old table.old.entries }
+    requires known { target.variable < length table.old.entries.variables }
+    requires room { target.binders + t.number < 2 ^ 64 }
+    ensures extends { Extends nodes.old nodes.new }
+    ensures saved { table.new.saved ≡ table.old.saved }
+    ensures within { IfOk result (λ r. IsIn nodes.new r) }
+    ensures lawful { OnOk result (IsLawful nodes.new table.new.entries) }
+    ensures generalised { IfOk result (λ r. Generalised (content_of nodes.old table.old.entries) (content_of nodes.new table.new.entries) target.variable target.universe (tree_at nodes.old t) (tree_at nodes.new r)) }
+    ensures full { result ≢ Err EvalError.Full }
+{
+    let label = nodes.label(t);
+    if let Some(n) = infer_number(label) {
+        let root = table.root(n);
+        if let State::Known(value) = table.variable(root).state {
+            let outer = Target {
+                binders: 0,
+                ..target
+            };
+            return generalise(alloc, nodes, table, moved, outer, value);
+        }
+        if root == target.variable {
+            return Err(EvalError::NoSolution);
+        }
+        return name_variable(nodes, table, moved, target, t, root);
+    }
+    if is_settled(nodes.facts(t), target.binders) {
+        return Ok(t);
+    }
+    if names_free_region(label) {
+        return name_region(nodes, table, moved, target, t);
+    }
+    if !is_allowed(target, label) {
+        return Err(EvalError::NoSolution);
+    }
+    let count = nodes.child_count(t);
+    let mut children = Vec::new(alloc);
+    for i in 0..count {
+        let child = nodes.child(t, i);
+        let binders = target.binders + binders_of(label);
+        let inner = Target { binders, ..target };
+        match generalise(alloc, nodes, table, moved, inner, child) {
+            Err(error) => return Err(error),
+            Ok(r) => children.push(r)?,
+        }
+    }
+    Ok(nodes.make(label, &children)?)
+}

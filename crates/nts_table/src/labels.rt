@@ -1,0 +1,66 @@
+//! What labels say about variables and regions.
+ghost use Rattle.std.specs.Prelude.{◌≡◌, true};
+ghost use Rattle.nts_model.specs.Trees.{kind_of_label, of_sort, sort_of_variable};
+ghost use Rattle.nts_model.specs.Resolving.{infer_of};
+ghost use Rattle.nts_table.specs.Changing.{region_variable, is_free_region};
+
+use nts_model::{Label, Leaf, Sort, TyHead, VariableKind};
+
+/// The number of an inference variable that is no region.
+pub fn infer_number(label: Label) -> Option<usize>
+    ensures { result ≡ infer_of label }
+{
+    match label {
+        Label::Leaf(Leaf::Variable(VariableKind::Region, _)) => None,
+        Label::Leaf(Leaf::Variable(_, n)) => Some(n),
+        _ => None,
+    }
+}
+
+/// The number of a region variable.
+pub fn region_number(label: Label) -> Option<usize>
+    ensures { result ≡ region_variable label }
+{
+    match label {
+        Label::Leaf(Leaf::Variable(VariableKind::Region, n)) => Some(n),
+        _ => None,
+    }
+}
+
+/// Whether the label is a region that is not bound.
+pub fn names_free_region(label: Label) -> bool
+    ensures { result ≡ is_free_region label }
+{
+    match label {
+        Label::Leaf(Leaf::Variable(VariableKind::Region, _)) => true,
+        Label::Leaf(Leaf::Region(_)) => true,
+        _ => false,
+    }
+}
+
+/// Whether a variable of the kind can have a value with the label.
+pub fn fits(kind: VariableKind, label: Label) -> bool
+    ensures { result ≡ true → kind_of_label label ≡ of_sort (sort_of_variable kind) }
+{
+    match kind {
+        VariableKind::Ty => match label {
+            Label::Ty(_) => true,
+            Label::Leaf(Leaf::TyConstant(_)) => true,
+            Label::Bound(Sort::Ty, _, _) => true,
+            _ => false,
+        },
+        VariableKind::Const => match label {
+            Label::Const(_) => true,
+            Label::Leaf(Leaf::ConstConstant(_)) => true,
+            Label::Bound(Sort::Const, _, _) => true,
+            _ => false,
+        },
+        VariableKind::Int => match label {
+            Label::Ty(TyHead::Int(_)) => true,
+            Label::Ty(TyHead::Uint(_)) => true,
+            _ => false,
+        },
+        VariableKind::Float => matches!(label, Label::Ty(TyHead::Float(_))),
+        VariableKind::Region => false,
+    }
+}

@@ -1,0 +1,23 @@
+//! Trying something out.
+ghost use Rattle.std.specs.Prelude.{◌≡◌, IfOk};
+ghost use Rattle.std.specs.Fn.{FnOnceReturnsAtMut};
+ghost use Rattle.nts_table.specs.Entries.{Table};
+ghost use Rattle.nts_table.specs.Probing.{Answers};
+
+use crate::infer_ctxt::InferCtxt;
+use std::alloc::AllocError;
+
+impl InferCtxt {
+    /// What `f` answers, which ends the snapshots that it starts. Afterwards the table is as before.
+    pub fn probe<R, F: FnOnce(&mut InferCtxt) -> R>(&mut self, f: F) -> Result<R, AllocError>
+        requires callable { F.IsAlwaysCallable f }
+        requires ends { (t u : Table) (r : R) → FnOnceReturnsAtMut F.FnOnce f t r u → u.saved ≡ t.saved }
+        ensures answered { IfOk result (λ r. Answers (λ t u. FnOnceReturnsAtMut F.FnOnce f t r u) self.old.entries) }
+        ensures same { self.new ≡ self.old }
+    {
+        let snapshot = self.start_snapshot()?;
+        let result = f(self);
+        self.rollback_to(snapshot);
+        Ok(result)
+    }
+}

@@ -1,0 +1,93 @@
+//! The value or the root of a variable, as a term.
+ghost use Rattle.std.specs.Prelude.{◌≡◌, Some, IfOk, OnErr, IsOkUnless};
+ghost use Rattle.nts_model.specs.declared.labels.VariableKind.TheVariants as kinds;
+ghost use Rattle.nts_model.specs.Trees.{kind_of, of_sort, sort_of_variable};
+ghost use Rattle.nts_model.specs.Contents.{kind_at};
+ghost use Rattle.nts_model.specs.Resolving.{Knows};
+ghost use Rattle.nts_terms.specs.Growth.{tree_at, IsIn, Extends};
+ghost use Rattle.nts_terms.specs.Handles.{HoldsTy, HoldsRegion};
+ghost use Rattle.nts_terms.specs.Rest.{KeepsRest};
+ghost use Rattle.nts_table.specs.Reading.{content_of, IsTable};
+ghost use Rattle.nts_table.specs.Classes.{shallow_variable, shallowly_resolved};
+
+use crate::contents::State;
+use crate::infer_ctxt::InferCtxt;
+use crate::named::named_variable;
+use nts_model::{Label, Leaf, VariableKind};
+use nts_terms::{Cx, Fault, NodeId, Nodes, Region, Ty};
+use std::alloc::AllocError;
+
+impl InferCtxt {
+    /// The value of a type variable, or else its root.
+    pub fn opportunistic_resolve_ty_var(&self, cx: &mut Cx, vid: usize) -> Result<Ty, Fault>
+        requires table { IsTable cx.old.nodes self.now }
+        requires has { kind_at (content_of cx.old.nodes self.now.entries) vid ≡ Some kinds.Ty }
+        ensures tree { IfOk result (λ t. tree_at cx.new.nodes t.node ≡ shallow_variable (content_of cx.old.nodes self.now.entries) kinds.Ty vid) }
+        ensures holds { IfOk result (λ t. HoldsTy cx.new.nodes t) }
+        ensures extends { Extends cx.old.nodes cx.new.nodes }
+        ensures rest { KeepsRest cx.old cx.new }
+        ensures err { OnErr result (cx.new.nodes ≡ cx.old.nodes) }
+        ensures memory { IsOkUnless result Fault.Memory }
+    {
+        let node = self.value_or_root(&mut cx.nodes, VariableKind::Ty, vid)?;
+        Ok(Ty { node })
+    }
+
+    /// The root of a region variable.
+    pub fn opportunistic_resolve_lt_var(&self, cx: &mut Cx, vid: usize) -> Result<Region, Fault>
+        requires table { IsTable cx.old.nodes self.now }
+        requires has { kind_at (content_of cx.old.nodes self.now.entries) vid ≡ Some kinds.Region }
+        ensures tree { IfOk result (λ r. tree_at cx.new.nodes r.node ≡ shallow_variable (content_of cx.old.nodes self.now.entries) kinds.Region vid) }
+        ensures holds { IfOk result (λ r. HoldsRegion cx.new.nodes r) }
+        ensures extends { Extends cx.old.nodes cx.new.nodes }
+        ensures rest { KeepsRest cx.old cx.new }
+        ensures err { OnErr result (cx.new.nodes ≡ cx.old.nodes) }
+        ensures memory { IsOkUnless result Fault.Memory }
+    {
+        let node = self.value_or_root(&mut cx.nodes, VariableKind::Region, vid)?;
+        Ok(Region { node })
+    }
+
+    /// The type, or its value or root where it is a variable. What is inside of the value stays.
+    pub fn shallow_resolve(&self, cx: &mut Cx, ty: Ty) -> Result<Ty, Fault>
+        requires table { IsTable cx.old.nodes self.now }
+        requires holds { HoldsTy cx.old.nodes ty }
+        requires knows { Knows (content_of cx.old.nodes self.now.entries) (tree_at cx.old.nodes ty.node) }
+        ensures tree { IfOk result (λ t. tree_at cx.new.nodes t.node ≡ shallowly_resolved (content_of cx.old.nodes self.now.entries) (tree_at cx.old.nodes ty.node)) }
+        ensures holds { IfOk result (λ t. HoldsTy cx.new.nodes t) }
+        ensures extends { Extends cx.old.nodes cx.new.nodes }
+        ensures rest { KeepsRest cx.old cx.new }
+        ensures err { OnErr result (cx.new.nodes ≡ cx.old.nodes) }
+        ensures memory { IsOkUnless result Fault.Memory }
+    {
+        match named_variable(cx.nodes.label(ty.node)) {
+            None => Ok(ty),
+            Some((kind, n)) => {
+                let node = self.value_or_root(&mut cx.nodes, kind, n)?;
+                Ok(Ty { node })
+            }
+        }
+    }
+
+    fn value_or_root(
+        &self,
+        nodes: &mut Nodes,
+        kind: VariableKind,
+        n: usize,
+    ) -> Result<NodeId, AllocError>
+        requires table { IsTable nodes.old self.now }
+        requires has { kind_at (content_of nodes.old self.now.entries) n ≡ Some kind }
+        ensures within { IfOk result (λ r. IsIn nodes.new r) }
+        ensures tree { IfOk result (λ r. tree_at nodes.new r ≡ shallow_variable (content_of nodes.old self.now.entries) kind n) }
+        ensures sort { IfOk result (λ r. kind_of (tree_at nodes.new r) ≡ Some (of_sort (sort_of_variable kind))) }
+        ensures extends { Extends nodes.old nodes.new }
+        ensures err { OnErr result (nodes.new ≡ nodes.old) }
+    {
+        let root = self.root(n);
+        if let State::Known(value) = self.variable(root).state {
+            return Ok(value);
+        }
+        let node = nodes.make(Label::Leaf(Leaf::Variable(kind, root)), &[])?;
+        Ok(node)
+    }
+}

@@ -1,0 +1,88 @@
+//! Making variables, and what is known of them.
+ghost use Rattle.std.specs.Prelude.{◌≡◌, ◌≢◌, ◌<◌, ◌+◌, length, IfOk, OnOk, OnErr, Some, IsOkUnless};
+ghost use Rattle.nts_model.specs.declared.labels.VariableKind.TheVariants as kind;
+ghost use Rattle.nts_model.specs.Resolving.{variable_tree};
+ghost use Rattle.nts_terms.specs.Growth.{tree_at, Extends};
+ghost use Rattle.nts_terms.specs.Handles.{HoldsTy, HoldsRegion};
+ghost use Rattle.nts_terms.specs.Rest.{KeepsRest};
+ghost use Rattle.nts_table.specs.Entries.{Table, added, moved};
+ghost use Rattle.nts_table.specs.Reading.{IsTable};
+ghost use Rattle.nts_table.specs.Making.{new_variable};
+
+use crate::contents::{State, Variable};
+use crate::infer_ctxt::InferCtxt;
+use nts_model::VariableKind;
+use nts_terms::{Cx, Fault, InferTy, Region, RegionKind, Ty, TyKind};
+
+impl InferCtxt {
+    /// A new type variable of the current universe.
+    pub fn next_ty_infer(&mut self, cx: &mut Cx) -> Result<Ty, Fault>
+        requires table { IsTable cx.old.nodes self.old }
+        ensures tree { IfOk result (λ t. tree_at cx.new.nodes t.node ≡ variable_tree kind.Ty (length self.old.entries.variables)) }
+        ensures holds { IfOk result (λ t. HoldsTy cx.new.nodes t) }
+        ensures entries { OnOk result (self.new.entries ≡ added self.old.entries (new_variable self.old.entries kind.Ty)) }
+        ensures saved { self.new.saved ≡ self.old.saved }
+        ensures table { IsTable cx.new.nodes self.new }
+        ensures extends { Extends cx.old.nodes cx.new.nodes }
+        ensures rest { KeepsRest cx.old cx.new }
+        ensures err { OnErr result (self.new ≡ self.old) }
+        ensures memory { IsOkUnless result Fault.Memory }
+    {
+        let number = self.variable_count();
+        let ty = cx.mk_ty(TyKind::Infer(InferTy::TyVar(number)))?;
+        self.add_unset(VariableKind::Ty)?;
+        Ok(ty)
+    }
+
+    /// A new region variable of the current universe.
+    pub fn next_region_infer(&mut self, cx: &mut Cx) -> Result<Region, Fault>
+        requires table { IsTable cx.old.nodes self.old }
+        ensures tree { IfOk result (λ r. tree_at cx.new.nodes r.node ≡ variable_tree kind.Region (length self.old.entries.variables)) }
+        ensures holds { IfOk result (λ r. HoldsRegion cx.new.nodes r) }
+        ensures entries { OnOk result (self.new.entries ≡ added self.old.entries (new_variable self.old.entries kind.Region)) }
+        ensures saved { self.new.saved ≡ self.old.saved }
+        ensures table { IsTable cx.new.nodes self.new }
+        ensures extends { Extends cx.old.nodes cx.new.nodes }
+        ensures rest { KeepsRest cx.old cx.new }
+        ensures err { OnErr result (self.new ≡ self.old) }
+        ensures memory { IsOkUnless result Fault.Memory }
+    {
+        let number = self.variable_count();
+        let region = cx.mk_region(RegionKind::ReVar(number))?;
+        self.add_unset(VariableKind::Region)?;
+        Ok(region)
+    }
+
+    fn add_unset(&mut self, kind: VariableKind) -> Result<(), Fault>
+        ensures entries { OnOk result (self.new.entries ≡ added self.old.entries (new_variable self.old.entries kind)) }
+        ensures saved { self.new.saved ≡ self.old.saved }
+        ensures err { OnErr result (self.new ≡ self.old) }
+        ensures memory { IsOkUnless result Fault.Memory }
+    {
+        let universe = self.universe();
+        self.add(Variable {
+            kind,
+            universe,
+            state: State::Unset,
+            sub_link: None,
+        })?;
+        Ok(())
+    }
+
+    /// One more universe, which becomes the current one. `Full` comes where there is none.
+    pub fn create_next_universe(&mut self) -> Result<u32, Fault>
+        ensures number { IfOk result (λ u. u ≡ self.old.entries.universe + 1) }
+        ensures entries { OnOk result (self.new.entries ≡ moved self.old.entries (self.old.entries.universe + 1)) }
+        ensures saved { self.new.saved ≡ self.old.saved }
+        ensures err { OnErr result (self.new ≡ self.old) }
+        ensures full { result ≡ Err Fault.Full → self.old.entries.universe ≡ u32.MAX }
+    {
+        match self.universe().checked_add(1) {
+            None => Err(Fault::Full),
+            Some(next) => {
+                self.move_to(next)?;
+                Ok(next)
+            }
+        }
+    }
+}
