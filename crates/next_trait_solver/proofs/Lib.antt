@@ -1,0 +1,5 @@
+pub mod Evaluating
+pub mod Offering
+pub mod Traits
+pub mod Testing
+pub mod Admitting

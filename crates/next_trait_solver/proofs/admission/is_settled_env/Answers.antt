@@ -1,0 +1,11 @@
+use Rattle.std.proofs.Common.{◌≡◌, ◌↔◌, Bool, false}
+use Rattle.nts_terms.specs.Growth.{tree_at}
+use Rattle.next_trait_solver.specs.Evaluation.{is_type_variable}
+use Rattle.next_trait_solver.proofs.Admitting.{no_label}
+use Rattle.next_trait_solver.proofs.admission.is_settled_env.Goals as goal
+
+pub returns-clause-answer : goal.returns-clause-answer
+returns-clause-answer c =
+    let same = no_label is_type_variable (tree_at c.resolve_term.new.cx.nodes c.in_ok-resolved.resolved) in
+    let h = c.in_ok-settled.ensures in
+    rw (← c.in_ok-resolved.ensures.tree) ((λ t. same.0 (h.0 t)), λ k. h.1 (same.1 k))

@@ -1,0 +1,14 @@
+use Rattle.std.proofs.Common.{refl}
+use Rattle.next_trait_solver.proofs.Evaluating.{can_fill, is_filled, IsFilled}
+use Rattle.next_trait_solver.proofs.candidate.fill.Goals as goal
+
+pub instantiate_canonical-requires-clause-positions : goal.instantiate_canonical-requires-clause-positions
+instantiate_canonical-requires-clause-positions c = (can_fill c.requires.posed c.requires.over c.requires.values).positions
+
+pub returns-clause-term : goal.returns-clause-term
+returns-clause-term c =
+    (is_filled c.requires.posed.table (can_fill c.requires.posed c.requires.over c.requires.values) c.in_ok-filled.ensures.extends c.in_ok-filled.ensures.within c.in_ok-filled.ensures.tree).term
+
+pub returns-clause-kind : goal.returns-clause-kind
+returns-clause-kind c =
+    (is_filled c.requires.posed.table (can_fill c.requires.posed c.requires.over c.requires.values) c.in_ok-filled.ensures.extends c.in_ok-filled.ensures.within c.in_ok-filled.ensures.tree).kind

@@ -1,0 +1,9 @@
+use Rattle.nts_terms.specs.Rest.{KeepsRest}
+use Rattle.next_trait_solver.specs.Evaluation.{Goes}
+use Rattle.next_trait_solver.proofs.candidate.record_constraints.Given as goal
+
+abbrev pub invariant-loop-constraint : goal.invariant-loop-constraint
+invariant-loop-constraint l = record {
+  goes : Goes l.fn.cx.nodes l.cx.nodes l.fn.table l.table;
+  rest : KeepsRest l.fn.cx l.cx;
+}

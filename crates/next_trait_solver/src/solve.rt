@@ -1,0 +1,123 @@
+//! The evaluation of goals.
+ghost use Rattle.std.specs.Prelude.{◌≡◌, ◌≢◌, ◌↔◌, IsTrue, None, IfOk, OnOk, OnErr, IsOkUnless};
+ghost use Rattle.nts_terms.specs.Growth.{Extends};
+ghost use Rattle.nts_terms.specs.Rest.{KeepsRest};
+ghost use Rattle.nts_table.specs.Reading.{IsTable};
+ghost use Rattle.next_trait_solver.specs.Candidates.{HoldsGoal};
+ghost use Rattle.next_trait_solver.specs.Evaluation.{Goes, IsAdmitted, IsPosed};
+ghost use Rattle.nts_terms.specs.declared.certainty.Certainty.TheVariants as certainty;
+
+use crate::admission::{is_asked, is_root_term, is_settled_env};
+use crate::candidate::resolve_goal;
+use crate::delegate::GoalHandler;
+use crate::evaluate::evaluate_goal;
+use nts_table::InferCtxt;
+use nts_terms::{Certainty, Cx, EvalError, Fault, GenericArg, Goal, HasChanged, Span};
+
+/// What is kept of a goal that stalled, so that it is asked again only when that can help.
+#[derive(Drop)]
+pub struct GoalStalledOn {
+    pub num_opaques: usize,
+    pub stalled_vars: Vec<GenericArg>,
+    pub sub_roots: Vec<usize>,
+    pub stalled_certainty: Certainty,
+}
+
+/// What an evaluation found out.
+#[derive(Drop)]
+pub struct GoalEvaluation {
+    /// The goal as it was asked, its variables resolved.
+    pub goal: Goal,
+    pub certainty: Certainty,
+    /// Whether the table knows more of the goal's variables than before.
+    pub has_changed: HasChanged,
+    pub stalled_on: Option<GoalStalledOn>,
+}
+
+/// Whether a goal may be asked at the root.
+pub fn goal_is_admitted(table: &InferCtxt, cx: &mut Cx, goal: Goal) -> Result<bool, Fault>
+    requires table { IsTable cx.old.nodes table.now }
+    requires holds { HoldsGoal cx.old.nodes goal }
+    ensures admitted { IfOk result (λ b. IsTrue b ↔ IsAdmitted cx.old.nodes table.now goal) }
+    ensures extends { Extends cx.old.nodes cx.new.nodes }
+    ensures rest { KeepsRest cx.old cx.new }
+    ensures memory { IsOkUnless result Fault.Memory }
+{
+    let env = goal.param_env.node;
+    let predicate = goal.predicate.node;
+    if !is_root_term(table, cx, env)? || !is_root_term(table, cx, predicate)? {
+        return Ok(false);
+    }
+    if !is_asked(cx, predicate)? {
+        return Ok(false);
+    }
+    is_settled_env(table, cx, env)
+}
+
+/// Evaluates a goal in the table.
+pub fn evaluate_root_goal<H: GoalHandler>(
+    table: &mut InferCtxt,
+    cx: &mut Cx,
+    handler: &H,
+    goal: Goal,
+    span: Span,
+    stalled_on: Option<GoalStalledOn>,
+) -> Result<GoalEvaluation, EvalError>
+    requires table { IsTable cx.old.nodes table.old }
+    requires ready { H.ready cx.old.nodes handler.now }
+    requires admitted { IsAdmitted cx.old.nodes table.old goal }
+    ensures goes { Goes cx.old.nodes cx.new.nodes table.old table.new }
+    ensures rest { KeepsRest cx.old cx.new }
+    ensures maybe { IfOk result (λ e. e.certainty ≢ certainty.Yes → table.new ≡ table.old) }
+    ensures stalled { IfOk result (λ e. e.stalled_on ≡ None) }
+    ensures err { OnErr result (table.new ≡ table.old) }
+    ensures full { result ≢ Err EvalError.Full }
+{
+    let _ = (span, stalled_on);
+    let snapshot = table.start_snapshot()?;
+    match evaluate_root(table, cx, handler, goal) {
+        Ok(evaluation) => {
+            if let Certainty::Yes = evaluation.certainty {
+                table.commit(snapshot);
+                return Ok(evaluation);
+            }
+            table.rollback_to(snapshot);
+            Ok(evaluation)
+        }
+        Err(error) => {
+            table.rollback_to(snapshot);
+            Err(error)
+        }
+    }
+}
+
+/// Evaluates a resolved goal at the recursion limit, and looks at what became of its variables.
+fn evaluate_root<H: GoalHandler>(
+    table: &mut InferCtxt,
+    cx: &mut Cx,
+    handler: &H,
+    goal: Goal,
+) -> Result<GoalEvaluation, EvalError>
+    requires posed { IsPosed cx.old.nodes table.old goal }
+    requires ready { H.ready cx.old.nodes handler.now }
+    ensures goes { Goes cx.old.nodes cx.new.nodes table.old table.new }
+    ensures rest { KeepsRest cx.old cx.new }
+    ensures stalled { IfOk result (λ e. e.stalled_on ≡ None) }
+    ensures full { result ≢ Err EvalError.Full }
+{
+    let asked = resolve_goal(cx, table, goal)?;
+    let depth = cx.recursion_limit();
+    let answer = evaluate_goal(handler, cx, table, asked, depth)?;
+    let after = resolve_goal(cx, table, asked)?;
+    let has_changed = if after.predicate == asked.predicate {
+        HasChanged::No
+    } else {
+        HasChanged::Yes
+    };
+    Ok(GoalEvaluation {
+        goal: asked,
+        certainty: answer.certainty,
+        has_changed,
+        stalled_on: None,
+    })
+}
