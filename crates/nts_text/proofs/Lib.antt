@@ -1,0 +1,5 @@
+pub mod CountLemmas
+pub mod TokenLemmas
+pub mod NumberLemmas
+pub mod SortLemmas
+pub mod NodeLemmas

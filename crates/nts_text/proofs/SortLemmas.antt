@@ -1,0 +1,28 @@
+-- How sorted nodes grow by one.
+use Rattle.std.proofs.Common.{◌≡◌, List, [], ◌∷◌, ◌++◌, Option, None, Some, slice_get, drop, reverse, option_to_list, refl, sym, ap, subst, ◌∙◌, append_assoc}
+use Rattle.std.proofs.lemmas.List.{reverse-append}
+use Rattle.nts_model.specs.declared.labels.Sort.{Sort}
+use Rattle.nts_text.specs.Resolution.{argument_sorts, sort_of, AreSorted}
+use Rattle.nts_text.specs.declared.names.NameTable.{NameTable}
+use Rattle.nts_text.specs.declared.resolver.Resolved.{Resolved}
+
+-- nodes of the wanted sorts make these nodes whole
+abbrev pub AreSortedBefore : NameTable → List Resolved → List Sort → Type 0
+AreSortedBefore names done wanted = (rest : List Resolved) → AreSorted names wanted rest → AreSorted names [] (done ++ rest)
+
+pub sorted_push : (names : NameTable) (done : List Resolved) (wanted : List Sort) (r : Resolved)
+    → AreSortedBefore names done wanted → sort_of r ≡ slice_get wanted 0
+    → AreSortedBefore names (done ++ r ∷ []) (argument_sorts names r ++ drop 1 wanted)
+sorted_push names done wanted r h place = λ rest sorted.
+    subst (AreSorted names []) (sym (append_assoc done (r ∷ []) rest)) (h (r ∷ rest) (place, sorted))
+
+-- what is wanted first is the last item of the stack
+pub first_wanted : (stack rest : List Sort) (last : Option Sort) → stack ≡ rest ++ option_to_list last → (last ≡ None → rest ≡ [])
+    → (slice_get (reverse stack) 0 ≡ last) × (drop 1 (reverse stack) ≡ reverse rest)
+first_wanted stack rest (Some s) e none =
+    let whole : reverse stack ≡ s ∷ reverse rest = ap reverse e ∙ reverse-append rest (s ∷ []) in
+    (ap (λ xs. slice_get xs 0) whole, ap (λ xs. drop 1 xs) whole)
+first_wanted stack rest None e none =
+    let rest_is : rest ≡ [] = none refl in
+    let stack_is : stack ≡ [] = e ∙ ap (λ xs. xs ++ []) rest_is in
+    (ap (λ xs. slice_get (reverse xs) 0) stack_is, ap (λ xs. drop 1 (reverse xs)) stack_is ∙ sym (ap reverse rest_is))

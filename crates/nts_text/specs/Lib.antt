@@ -1,0 +1,10 @@
+pub mod Bytes
+pub mod Commands
+pub mod Input
+pub mod Tokens
+pub mod Predicates
+pub mod Lines
+pub mod NameTable
+pub mod Names
+pub mod Reasons
+pub mod Resolution

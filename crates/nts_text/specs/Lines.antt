@@ -1,0 +1,79 @@
+-- What the words of a line are.
+use Rattle.std.specs.Prelude.{◌≡◌, ◌≢◌, ℕ, ◌<◌, true, false, List, [], ◌∷◌, ◌++◌, length, slice_range, slice_index, codes, ◌⊎◌, All}
+use Rattle.nts_text.specs.Bytes.{is_blank, AllFrom, IsRun, decimal_value}
+use Rattle.nts_text.specs.Tokens.{IsInside, IsTokenAt, token_begins}
+use Rattle.nts_text.specs.Predicates.{are_predicates, written_nodes}
+use Rattle.nts_text.specs.declared.lexer.Token.{Token}
+use Rattle.nts_text.specs.declared.lexer.TokenKind.TheVariants.{Arrow, Name, Number}
+use Rattle.nts_text.specs.declared.parser.Keyword.{Keyword}
+use Rattle.nts_text.specs.declared.parser.Keyword.TheVariants as keywords
+use Rattle.nts_text.specs.declared.parser.Line.{Line}
+use Rattle.nts_text.specs.declared.parser.Line.TheVariants as lines
+use Rattle.nts_text.specs.declared.parser.Mode.{Mode}
+use Rattle.nts_text.specs.declared.parser.Mode.TheVariants as modes
+use Rattle.nts_text.specs.declared.predicates.Node.{Node}
+
+abbrev pub word_of_keyword : Keyword → List ℕ
+word_of_keyword keywords.Mode = codes "mode"
+word_of_keyword keywords.Depth = codes "depth"
+word_of_keyword keywords.Type = codes "type"
+word_of_keyword keywords.Trait = codes "trait"
+word_of_keyword keywords.Impl = codes "impl"
+word_of_keyword keywords.Goal = codes "goal"
+
+abbrev pub word_of_mode : Mode → List ℕ
+word_of_mode modes.Coherence = codes "coherence"
+word_of_mode modes.Analysis = codes "analysis"
+word_of_mode modes.PostAnalysis = codes "postanalysis"
+
+-- the bytes of a token
+abbrev pub bytes_of : List ℕ → Token → List ℕ
+bytes_of line t = slice_range line t.start t.end
+
+-- a line that is passed over: it begins with `#`, or has blanks alone
+abbrev pub IsPassedOver : List ℕ → Type 0
+IsPassedOver line = ((0 < length line) × (slice_index line 0 ≡ 35)) ⊎ AllFrom is_blank line 0 (length line)
+
+-- the line's first token is the keyword's word, and ends here
+abbrev pub BeginsWithKeyword : List ℕ → Keyword → ℕ → Type 0
+BeginsWithKeyword line k end =
+    (t : Token) × IsRun is_blank line 0 t.start × IsTokenAt line t.start t × (bytes_of line t ≡ word_of_keyword k) × (t.end ≡ end)
+
+-- no token begins the line, or one that is no keyword's word
+abbrev pub HasNoKeyword : List ℕ → Type 0
+HasNoKeyword line =
+    (start : ℕ) × IsRun is_blank line 0 start
+    × ((token_begins line start ≡ false)
+    ⊎ ((t : Token) × IsTokenAt line start t × ((k : Keyword) → bytes_of line t ≢ word_of_keyword k)))
+
+-- the tokens are a predicate, and behind `<-`, if that is there, predicates
+abbrev pub IsClause : List Token → List Node → List Node → Type 0
+IsClause ts head body =
+    ((are_predicates false ts ≡ true) × (head ≡ written_nodes ts) × (body ≡ []))
+    ⊎ ((before after : List Token) × (t : Token) × (ts ≡ before ++ t ∷ after) × (t.kind ≡ Arrow)
+    × (are_predicates false before ≡ true) × (head ≡ written_nodes before)
+    × (are_predicates true after ≡ true) × (body ≡ written_nodes after))
+
+-- what the tokens behind a keyword say
+abbrev pub Says : List ℕ → List Token → Keyword → Line → Type 0
+Says line ts keywords.Mode (lines.Mode m) = (t : Token) × (ts ≡ t ∷ []) × (bytes_of line t ≡ word_of_mode m)
+Says line ts keywords.Depth (lines.Depth d) =
+    (t : Token) × (ts ≡ t ∷ []) × (t.kind ≡ Number) × (decimal_value (bytes_of line t) ≡ d)
+Says line ts keywords.Type (lines.Type name params) = (rest : List Token) × (ts ≡ name ∷ rest) × (name.kind ≡ Name)
+Says line ts keywords.Trait (lines.Trait name sorts coinductive) = (rest : List Token) × (ts ≡ name ∷ rest) × (name.kind ≡ Name)
+Says line ts keywords.Impl (lines.Impl head body) = IsClause ts head.items body.items
+Says line ts keywords.Goal (lines.Goal ns) = (are_predicates false ts ≡ true) × (ns.items ≡ written_nodes ts)
+Says line ts _ _ = ⊥
+
+-- the one token is a number that is no depth
+abbrev pub SaysTooMuch : List ℕ → List Token → Type 0
+SaysTooMuch line ts = (t : Token) × (ts ≡ t ∷ []) × (t.kind ≡ Number) × (65535 < decimal_value (bytes_of line t))
+
+-- the names of a line are inside of it
+abbrev pub NamesAreInside : List ℕ → Line → Type 0
+NamesAreInside line (lines.Type name params) = IsInside line name
+NamesAreInside line (lines.Trait name sorts coinductive) = IsInside line name
+NamesAreInside line (lines.Impl head body) =
+    All (λ n. IsInside line n.token) head.items × All (λ n. IsInside line n.token) body.items
+NamesAreInside line (lines.Goal ns) = All (λ n. IsInside line n.token) ns.items
+NamesAreInside line _ = Unit {0}

@@ -1,0 +1,43 @@
+-- What names stand for.
+use Rattle.std.specs.Prelude.{◌≡◌, ℕ, Bool, true, false, nat_lt, List, codes}
+use Rattle.nts_model.specs.declared.labels.IntTy.{IntTy}
+use Rattle.nts_model.specs.declared.labels.IntTy.TheVariants as ints
+use Rattle.nts_model.specs.declared.labels.UintTy.{UintTy}
+use Rattle.nts_model.specs.declared.labels.UintTy.TheVariants as uints
+use Rattle.nts_text.specs.declared.names.Declared.{Declared}
+use Rattle.nts_text.specs.declared.names.Declared.TheVariants as declared
+
+-- the number is one of so many types or traits
+abbrev pub is_numbered : ℕ → ℕ → Declared → Bool
+is_numbered types traits (declared.Int t) = true
+is_numbered types traits (declared.Uint t) = true
+is_numbered types traits (declared.Type n) = nat_lt n types
+is_numbered types traits (declared.Trait n) = nat_lt n traits
+
+-- a known type has no number
+abbrev pub is_known : Declared → Bool
+is_known (declared.Int t) = true
+is_known (declared.Uint t) = true
+is_known _ = false
+
+abbrev pub word_of_int : IntTy → List ℕ
+word_of_int ints.I8 = codes "i8"
+word_of_int ints.I16 = codes "i16"
+word_of_int ints.I32 = codes "i32"
+word_of_int ints.I64 = codes "i64"
+word_of_int ints.I128 = codes "i128"
+word_of_int ints.Isize = codes "isize"
+
+abbrev pub word_of_uint : UintTy → List ℕ
+word_of_uint uints.U8 = codes "u8"
+word_of_uint uints.U16 = codes "u16"
+word_of_uint uints.U32 = codes "u32"
+word_of_uint uints.U64 = codes "u64"
+word_of_uint uints.U128 = codes "u128"
+word_of_uint uints.Usize = codes "usize"
+
+-- the name is that of the known type
+abbrev pub IsNameOf : Declared → List ℕ → Type 0
+IsNameOf (declared.Int t) name = name ≡ word_of_int t
+IsNameOf (declared.Uint t) name = name ≡ word_of_uint t
+IsNameOf _ name = ⊥

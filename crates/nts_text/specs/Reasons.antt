@@ -1,0 +1,27 @@
+-- Which reasons come of what in a line.
+use Rattle.std.specs.Prelude.{Bool, true, false}
+use Rattle.nts_text.specs.declared.refusals.Refusal.TheVariants.{UnknownCommand, Syntax, NumberOutOfRange, UnknownName, NameDeclaredTwice, WrongArguments, ParameterInAClause}
+use Rattle.nts_text.specs.declared.refusals.TextError.{TextError}
+use Rattle.nts_text.specs.declared.refusals.TextError.TheVariants.{Memory, Refused}
+
+-- what may be wrong with the form of a line
+abbrev pub is_form_reason : TextError → Bool
+is_form_reason Memory = true
+is_form_reason (Refused Syntax) = true
+is_form_reason (Refused NumberOutOfRange) = true
+is_form_reason (Refused UnknownCommand) = false
+is_form_reason (Refused UnknownName) = false
+is_form_reason (Refused NameDeclaredTwice) = false
+is_form_reason (Refused WrongArguments) = false
+is_form_reason (Refused ParameterInAClause) = false
+
+-- what may be wrong with the names of a line
+abbrev pub is_name_reason : TextError → Bool
+is_name_reason Memory = true
+is_name_reason (Refused UnknownName) = true
+is_name_reason (Refused NameDeclaredTwice) = true
+is_name_reason (Refused WrongArguments) = true
+is_name_reason (Refused ParameterInAClause) = true
+is_name_reason (Refused UnknownCommand) = false
+is_name_reason (Refused Syntax) = false
+is_name_reason (Refused NumberOutOfRange) = false

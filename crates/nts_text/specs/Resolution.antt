@@ -1,0 +1,43 @@
+-- Nodes whose names have become numbers.
+use Rattle.std.specs.Prelude.{◌≡◌, ℕ, ◌<◌, List, [], ◌∷◌, ◌++◌, length, vec_len, Option, None, Some, slice_get, drop}
+use Rattle.std.specs.Option.{option_map_or}
+use Rattle.nts_model.specs.declared.labels.Sort.{Sort}
+use Rattle.nts_model.specs.declared.labels.Sort.TheVariants.{Ty, Region}
+use Rattle.nts_text.specs.declared.names.NameTable.{NameTable}
+use Rattle.nts_text.specs.declared.resolver.Resolved.{Resolved}
+use Rattle.nts_text.specs.declared.resolver.Resolved.TheVariants as nodes
+
+-- the sorts of a type's arguments
+abbrev pub type_sorts : NameTable → ℕ → List Sort
+type_sorts names n = option_map_or (λ s. s.sorts.items) (slice_get names.types.items n) []
+
+-- the sorts of a trait's arguments
+abbrev pub trait_sorts : NameTable → ℕ → List Sort
+trait_sorts names n = option_map_or (λ s. s.sorts.items) (slice_get names.traits.items n) []
+
+-- the sorts of a node's arguments
+abbrev pub argument_sorts : NameTable → Resolved → List Sort
+argument_sorts names (nodes.Trait n arguments) = trait_sorts names n
+argument_sorts names (nodes.Ctor n arguments) = type_sorts names n
+argument_sorts names _ = []
+
+-- the sort of a node; a predicate has none
+abbrev pub sort_of : Resolved → Option Sort
+sort_of (nodes.Trait n arguments) = None
+sort_of (nodes.RegionVariable n) = Some Region
+sort_of (nodes.RegionParam n) = Some Region
+sort_of nodes.Static = Some Region
+sort_of _ = Some Ty
+
+-- a trait or a type is declared, and the node says how many arguments it takes
+abbrev pub IsDeclared : NameTable → Resolved → Type 0
+IsDeclared names (nodes.Trait n arguments) = (n < vec_len names.traits) × (arguments ≡ length (trait_sorts names n))
+IsDeclared names (nodes.Ctor n arguments) = (n < vec_len names.types) × (arguments ≡ length (type_sorts names n))
+IsDeclared names _ = Unit {0}
+
+-- The nodes are of the sorts that are wanted, and each is followed by arguments of the sorts that
+-- it takes. Where no sort is wanted a predicate begins.
+abbrev pub AreSorted : NameTable → List Sort → List Resolved → Type 0
+AreSorted names wanted [] = wanted ≡ []
+AreSorted names wanted (r ∷ rs) =
+    (sort_of r ≡ slice_get wanted 0) × AreSorted names (argument_sorts names r ++ drop 1 wanted) rs

@@ -1,0 +1,199 @@
+//! The names that lines declare, and those that they only use.
+
+ghost use Rattle.std.specs.Prelude.{◌≡◌, ◌<◌, ◌++◌, ◌∷◌, ◌⊎◌, [], None, Some, Err, true, ℕ, List, vec_len, map, IfSome, IfOk, IfErr, OnOk, IsNone};
+ghost use Rattle.std.specs.List.{list_all};
+ghost use Rattle.indexmap.specs.IndexMap.{values};
+ghost use Rattle.indexmap.specs.IndexSet.{index_set_len};
+ghost use Rattle.nts_text.specs.Reasons.{is_name_reason};
+ghost use Rattle.nts_text.specs.Names.{is_numbered, IsNameOf};
+ghost use Rattle.nts_text.specs.declared.names.Declared.{Declared};
+ghost use Rattle.nts_text.specs.declared.refusals.TextError.TheVariants.{Refused};
+ghost use Rattle.nts_text.specs.declared.refusals.Refusal.TheVariants.{NameDeclaredTwice};
+
+use crate::refusals::{Refusal, TextError};
+use indexmap::{IndexMap, IndexSet};
+use nts_model::{IntTy, Sort, UintTy};
+use std::alloc::{AllocError, Global};
+
+/// What a name stands for. Types and traits have numbers of their own, from 0 on.
+#[derive(Clone, Copy, PartialEq, Eq, Hash)]
+pub enum Declared {
+    Int(IntTy),
+    Uint(UintTy),
+    Type(usize),
+    Trait(usize),
+}
+
+/// A declared type or trait: its name and the sorts of its arguments.
+#[derive(Drop)]
+pub struct Signature {
+    pub name: Vec<u8>,
+    pub sorts: Vec<Sort>,
+}
+
+/// The names that are declared, beside those of the known types.
+#[derive(Drop)]
+pub struct NameTable {
+    pub numbers: IndexMap<Vec<u8>, Declared>,
+    pub types: Vec<Signature>,
+    pub traits: Vec<Signature>,
+    ghost numbered: { list_all (is_numbered (vec_len types) (vec_len traits)) (values numbers) ≡ true },
+}
+
+/// The integer type of this name.
+pub fn known_type(name: &[u8]) -> Option<Declared>
+    ensures found { IfSome result (λ d. IsNameOf d name.now) }
+    ensures none { IsNone result → (d : Declared) → IsNameOf d name.now → ⊥ }
+{
+    match name {
+        b"i8" => Some(Declared::Int(IntTy::I8)),
+        b"i16" => Some(Declared::Int(IntTy::I16)),
+        b"i32" => Some(Declared::Int(IntTy::I32)),
+        b"i64" => Some(Declared::Int(IntTy::I64)),
+        b"i128" => Some(Declared::Int(IntTy::I128)),
+        b"isize" => Some(Declared::Int(IntTy::Isize)),
+        b"u8" => Some(Declared::Uint(UintTy::U8)),
+        b"u16" => Some(Declared::Uint(UintTy::U16)),
+        b"u32" => Some(Declared::Uint(UintTy::U32)),
+        b"u64" => Some(Declared::Uint(UintTy::U64)),
+        b"u128" => Some(Declared::Uint(UintTy::U128)),
+        b"usize" => Some(Declared::Uint(UintTy::Usize)),
+        _ => None,
+    }
+}
+
+impl NameTable {
+    ghost use Rattle.nts_text.specs.NameTable.{declared_as, IsTaken};
+
+    /// No names but those of the known types.
+    pub fn new(alloc: Global) -> Self
+        ensures empty { (name : List ℕ) → declared_as result name ≡ None }
+    {
+        NameTable {
+            numbers: IndexMap::new(alloc),
+            types: Vec::new(alloc),
+            traits: Vec::new(alloc),
+        }
+    }
+
+    /// What a name stands for, if it is known or declared.
+    pub fn lookup(&self, name: &[u8]) -> Option<Declared>
+        ensures found { IfSome result (λ d. IsNameOf d name.now ⊎ (declared_as self.now name.now ≡ Some d)) }
+        ensures unknown { IsNone result → IsTaken self.now name.now → ⊥ }
+        ensures numbered { IfSome result (λ d. is_numbered (vec_len self.now.types) (vec_len self.now.traits) d ≡ true) }
+    {
+        match known_type(name) {
+            Some(known) => Some(known),
+            None => self.numbers.get(name).copied(),
+        }
+    }
+
+    /// Declares a type, and answers its number. Where memory runs out no name changes its meaning.
+    pub fn declare_type(
+        &mut self,
+        alloc: Global,
+        name: &[u8],
+        sorts: Vec<Sort>,
+    ) -> Result<usize, TextError>
+        ensures taken { result ≡ Err (Refused NameDeclaredTwice) → IsTaken self.old name.now }
+        ensures free { OnOk result (IsTaken self.old name.now → ⊥) }
+        ensures declared { IfOk result (λ n. declared_as self.new name.now ≡ Some (Declared.Type n)) }
+        ensures reasons { IfErr result (λ e. is_name_reason e ≡ true) }
+        ensures number { IfOk result (λ n. n ≡ vec_len self.old.types) }
+        ensures added { OnOk result (map (λ s. s.sorts.items) self.new.types.items ≡ map (λ s. s.sorts.items) self.old.types.items ++ sorts.items ∷ []) }
+        ensures traits { self.new.traits ≡ self.old.traits }
+    {
+        if self.lookup(name).is_some() {
+            return Err(TextError::Refused(Refusal::NameDeclaredTwice));
+        }
+        let number = self.types.len();
+        let key = Vec::from_slice(alloc, name)?;
+        let name = Vec::from_slice(alloc, name)?;
+        self.types.push(Signature { name, sorts })?;
+        self.numbers.insert(key, Declared::Type(number))?;
+        Ok(number)
+    }
+
+    /// Declares a trait, and answers its number. Where memory runs out no name changes its meaning.
+    pub fn declare_trait(
+        &mut self,
+        alloc: Global,
+        name: &[u8],
+        sorts: Vec<Sort>,
+    ) -> Result<usize, TextError>
+        ensures taken { result ≡ Err (Refused NameDeclaredTwice) → IsTaken self.old name.now }
+        ensures free { OnOk result (IsTaken self.old name.now → ⊥) }
+        ensures declared { IfOk result (λ n. declared_as self.new name.now ≡ Some (Declared.Trait n)) }
+        ensures reasons { IfErr result (λ e. is_name_reason e ≡ true) }
+        ensures number { IfOk result (λ n. n ≡ vec_len self.old.traits) }
+        ensures added { OnOk result (map (λ s. s.sorts.items) self.new.traits.items ≡ map (λ s. s.sorts.items) self.old.traits.items ++ sorts.items ∷ []) }
+        ensures types { self.new.types ≡ self.old.types }
+    {
+        if self.lookup(name).is_some() {
+            return Err(TextError::Refused(Refusal::NameDeclaredTwice));
+        }
+        let number = self.traits.len();
+        let key = Vec::from_slice(alloc, name)?;
+        let name = Vec::from_slice(alloc, name)?;
+        self.traits.push(Signature { name, sorts })?;
+        self.numbers.insert(key, Declared::Trait(number))?;
+        Ok(number)
+    }
+}
+
+/// Names that are used without a declaration, with their marks, numbered in order of first sight.
+#[derive(Drop)]
+pub struct Spellings {
+    pub types: IndexSet<Vec<u8>>,
+    pub regions: IndexSet<Vec<u8>>,
+}
+
+impl Spellings {
+    /// No names.
+    pub fn new(alloc: Global) -> Self {
+        Spellings {
+            types: IndexSet::new(alloc),
+            regions: IndexSet::new(alloc),
+        }
+    }
+
+    /// The number of a type's name, which is new if the name is.
+    pub fn type_number(&mut self, alloc: Global, name: &[u8]) -> Result<usize, AllocError>
+        ensures numbered { IfOk result (λ n. n < index_set_len self.new.types) }
+        ensures others { self.new.regions ≡ self.old.regions }
+    {
+        let (number, _) = self.types.insert_full(Vec::from_slice(alloc, name)?)?;
+        Ok(number)
+    }
+
+    /// The number of a region's name, which is new if the name is.
+    pub fn region_number(&mut self, alloc: Global, name: &[u8]) -> Result<usize, AllocError>
+        ensures numbered { IfOk result (λ n. n < index_set_len self.new.regions) }
+        ensures others { self.new.types ≡ self.old.types }
+    {
+        let (number, _) = self.regions.insert_full(Vec::from_slice(alloc, name)?)?;
+        Ok(number)
+    }
+}
+
+/// The variables of one line, and the parameters of all lines so far.
+#[derive(Drop)]
+pub struct Scope {
+    pub variables: Spellings,
+    pub parameters: Spellings,
+}
+
+impl Scope {
+    /// No variables and no parameters.
+    pub fn new(alloc: Global) -> Self {
+        Scope {
+            variables: Spellings::new(alloc),
+            parameters: Spellings::new(alloc),
+        }
+    }
+
+    /// Forgets the variables of the line before. Parameters stay.
+    pub fn begin_line(&mut self, alloc: Global) {
+        self.variables = Spellings::new(alloc);
+    }
+}

@@ -1,0 +1,358 @@
+//! The grammar of a line.
+
+ghost use Rattle.std.specs.Prelude.{◌≡◌, ◌≢◌, ◌<◌, ◌≤◌, ◌↔◌, true, false, [], ◌∷◌, length, All, IfOk, IfErr, OnErr, IfSome, IsNone, IsErr, SomeIff};
+ghost use Rattle.nts_text.specs.Bytes.{decimal_value};
+ghost use Rattle.nts_text.specs.Tokens.{IsInside};
+ghost use Rattle.nts_text.specs.Predicates.{are_predicates};
+ghost use Rattle.nts_text.specs.Reasons.{is_form_reason};
+ghost use Rattle.nts_text.specs.Lines.{word_of_keyword, word_of_mode, bytes_of, IsPassedOver, BeginsWithKeyword, HasNoKeyword, NamesAreInside, Says, SaysTooMuch};
+ghost use Rattle.nts_text.specs.declared.refusals.TextError.TheVariants.{Refused};
+ghost use Rattle.nts_text.specs.declared.refusals.Refusal.TheVariants.{Syntax, NumberOutOfRange, UnknownCommand};
+ghost use Rattle.nts_text.specs.declared.lexer.Token.{Token};
+ghost use Rattle.nts_text.specs.declared.parser.Keyword.{Keyword};
+ghost use Rattle.nts_text.specs.declared.parser.Mode.{Mode};
+
+use crate::lexer::{Token, TokenKind, skip_blanks, token_at};
+use crate::predicates::{Node, predicates_of};
+use crate::refusals::{Refusal, TextError};
+use nts_model::{Sort, Variance};
+use std::alloc::{AllocError, Global};
+
+/// The first word of a line.
+#[derive(Clone, Copy, Debug, PartialEq, Eq, Hash)]
+pub enum Keyword {
+    Mode,
+    Depth,
+    Type,
+    Trait,
+    Impl,
+    Goal,
+}
+
+/// The modes that a line can ask for.
+#[derive(Clone, Copy, Debug, PartialEq, Eq, Hash)]
+pub enum Mode {
+    Coherence,
+    Analysis,
+    PostAnalysis,
+}
+
+/// A parameter of a declared type.
+#[derive(Clone, Copy, PartialEq, Eq, Hash)]
+pub struct Param {
+    pub sort: Sort,
+    pub variance: Variance,
+}
+
+/// A line as the grammar reads it. The names in it may mean nothing.
+#[derive(Drop)]
+pub enum Line {
+    Mode(Mode),
+    Depth(u16),
+    Type {
+        name: Token,
+        params: Vec<Param>,
+    },
+    Trait {
+        name: Token,
+        sorts: Vec<Sort>,
+        coinductive: bool,
+    },
+    Impl {
+        head: Vec<Node>,
+        body: Vec<Node>,
+    },
+    Goal(Vec<Node>),
+}
+
+/// The bytes of a token.
+pub fn text<'a>(line: &'a [u8], token: Token) -> &'a [u8]
+    requires { IsInside line.now token }
+    ensures { result.now ≡ bytes_of line.now token }
+{
+    &line[token.start..token.end]
+}
+
+fn keyword_word(word: &[u8]) -> Option<Keyword>
+    ensures found { IfSome result (λ k. word.now ≡ word_of_keyword k) }
+    ensures none { IsNone result → (k : Keyword) → word.now ≢ word_of_keyword k }
+{
+    match word {
+        b"mode" => Some(Keyword::Mode),
+        b"depth" => Some(Keyword::Depth),
+        b"type" => Some(Keyword::Type),
+        b"trait" => Some(Keyword::Trait),
+        b"impl" => Some(Keyword::Impl),
+        b"goal" => Some(Keyword::Goal),
+        _ => None,
+    }
+}
+
+/// The command of a line and the place behind it, or `None` for a line to pass over: an empty
+/// one, one of blanks alone, or one that begins with `#`.
+pub fn keyword_of(line: &[u8]) -> Result<Option<(Keyword, usize)>, Refusal>
+    ensures passed { IfOk result (λ o. IsNone o ↔ IsPassedOver line.now) }
+    ensures inside { IfOk result (λ o. IfSome o (λ k. k.1 ≤ length line.now)) }
+    ensures keyword { IfOk result (λ o. IfSome o (λ k. BeginsWithKeyword line.now k.0 k.1)) }
+    ensures refused { IfErr result (λ e. (e ≡ UnknownCommand) × (IsPassedOver line.now → ⊥)) }
+    ensures unknown { OnErr result (HasNoKeyword line.now) }
+{
+    if line.first() == Some(&b'#') {
+        return Ok(None);
+    }
+    let start = skip_blanks(line, 0);
+    if start == line.len() {
+        return Ok(None);
+    }
+    let Some(token) = token_at(line, start) else {
+        return Err(Refusal::UnknownCommand);
+    };
+    match keyword_word(text(line, token)) {
+        Some(command) => Ok(Some((command, token.end))),
+        None => Err(Refusal::UnknownCommand),
+    }
+}
+
+/// The value of decimal digits, if it is at most 65,535. Leading zeros count for nothing.
+pub fn number_of(digits: &[u8]) -> Option<u16>
+    ensures { SomeIff result (decimal_value digits.now < 65536) (decimal_value digits.now) }
+{
+    let mut value: u32 = 0;
+    for digit in digits {
+        value = (value * 10 + u32::from(digit.saturating_sub(b'0'))).min(65536);
+    }
+    u16::try_from(value).ok()
+}
+
+fn mode_of(word: &[u8]) -> Option<Mode>
+    ensures found { IfSome result (λ m. word.now ≡ word_of_mode m) }
+    ensures none { IsNone result → (m : Mode) → word.now ≢ word_of_mode m }
+{
+    match word {
+        b"coherence" => Some(Mode::Coherence),
+        b"analysis" => Some(Mode::Analysis),
+        _ if word == b"postanalysis".as_slice() => Some(Mode::PostAnalysis),
+        _ => None,
+    }
+}
+
+fn sort_of(word: &[u8]) -> Option<Sort> {
+    match word {
+        b"type" => Some(Sort::Ty),
+        b"region" => Some(Sort::Region),
+        _ => None,
+    }
+}
+
+/// Where a list of parameters stands between two of its tokens.
+#[derive(Clone, Copy, PartialEq, Eq)]
+enum Place {
+    /// The opening bracket is to come.
+    Bracket,
+    /// A parameter is to come.
+    Param,
+    /// The sort of a parameter is to come.
+    Sort(Variance),
+    /// Behind a parameter.
+    Behind,
+    /// Behind the closing bracket.
+    End,
+}
+
+/// The parameters that stand in brackets, or `None` if these tokens are none.
+fn params_of(alloc: Global, line: &[u8], tokens: &[Token]) -> Result<Option<Vec<Param>>, AllocError>
+    requires { All (IsInside line.now) tokens.now }
+{
+    let mut params = Vec::new(alloc);
+    let mut place = Place::Bracket;
+    for token in tokens {
+        place = match (place, token.kind) {
+            (Place::Bracket, TokenKind::Open) => Place::Param,
+            (Place::Param, TokenKind::Minus) => Place::Sort(Variance::Contravariant),
+            (Place::Param, TokenKind::Equals) => Place::Sort(Variance::Invariant),
+            (Place::Param | Place::Sort(_), TokenKind::Name) => {
+                let variance = match place {
+                    Place::Sort(variance) => variance,
+                    _ => Variance::Covariant,
+                };
+                let Some(sort) = sort_of(text(line, *token)) else {
+                    return Ok(None);
+                };
+                params.push(Param { sort, variance })?;
+                Place::Behind
+            }
+            (Place::Behind, TokenKind::Comma) => Place::Param,
+            (Place::Behind, TokenKind::Close) => Place::End,
+            _ => return Ok(None),
+        };
+    }
+    if place == Place::End {
+        Ok(Some(params))
+    } else {
+        Ok(None)
+    }
+}
+
+/// The sorts that stand in brackets, or `None` if these tokens are none.
+fn sorts_of(alloc: Global, line: &[u8], tokens: &[Token]) -> Result<Option<Vec<Sort>>, AllocError>
+    requires { All (IsInside line.now) tokens.now }
+{
+    let Some(params) = params_of(alloc, line, tokens)? else {
+        return Ok(None);
+    };
+    // A parameter with a mark is not covariant, and a sort has no mark.
+    if params
+        .iter()
+        .any(|param| param.variance != Variance::Covariant)
+    {
+        return Ok(None);
+    }
+    let sorts: Vec<Sort> = params.iter().map(|param| param.sort).collect(alloc)?;
+    Ok(Some(sorts))
+}
+
+fn mode_line(line: &[u8], tokens: &[Token]) -> Option<Line>
+    requires { All (IsInside line.now) tokens.now }
+    ensures says { IfSome result (Says line.now tokens.now Keyword.Mode) }
+    ensures inside { IfSome result (NamesAreInside line.now) }
+{
+    let [word] = tokens else {
+        return None;
+    };
+    Some(Line::Mode(mode_of(text(line, *word))?))
+}
+
+fn depth_line(line: &[u8], tokens: &[Token]) -> Result<Line, Refusal>
+    requires { All (IsInside line.now) tokens.now }
+    ensures says { IfOk result (Says line.now tokens.now Keyword.Depth) }
+    ensures inside { IfOk result (NamesAreInside line.now) }
+    ensures refused { IfErr result (λ e. e ≢ Syntax → (e ≡ NumberOutOfRange) × SaysTooMuch line.now tokens.now) }
+    ensures syntax { IfErr result (λ e. e ≡ Syntax → (t : Token) → tokens.now ≡ t ∷ [] → t.kind ≢ TokenKind.Number) }
+{
+    match tokens {
+        [number] if number.kind == TokenKind::Number => match number_of(text(line, *number)) {
+            Some(depth) => Ok(Line::Depth(depth)),
+            None => Err(Refusal::NumberOutOfRange),
+        },
+        _ => Err(Refusal::Syntax),
+    }
+}
+
+fn type_line(alloc: Global, line: &[u8], tokens: &[Token]) -> Result<Option<Line>, AllocError>
+    requires { All (IsInside line.now) tokens.now }
+    ensures says { IfOk result (λ o. IfSome o (Says line.now tokens.now Keyword.Type)) }
+    ensures inside { IfOk result (λ o. IfSome o (NamesAreInside line.now)) }
+{
+    let [name, rest @ ..] = tokens else {
+        return Ok(None);
+    };
+    if name.kind != TokenKind::Name {
+        return Ok(None);
+    }
+    if rest.is_empty() {
+        return Ok(Some(Line::Type {
+            name: *name,
+            params: Vec::new(alloc),
+        }));
+    }
+    match params_of(alloc, line, rest)? {
+        Some(params) => Ok(Some(Line::Type {
+            name: *name,
+            params,
+        })),
+        None => Ok(None),
+    }
+}
+
+fn trait_line(alloc: Global, line: &[u8], tokens: &[Token]) -> Result<Option<Line>, AllocError>
+    requires { All (IsInside line.now) tokens.now }
+    ensures says { IfOk result (λ o. IfSome o (Says line.now tokens.now Keyword.Trait)) }
+    ensures inside { IfOk result (λ o. IfSome o (NamesAreInside line.now)) }
+{
+    let [name, rest @ ..] = tokens else {
+        return Ok(None);
+    };
+    if name.kind != TokenKind::Name {
+        return Ok(None);
+    }
+    let (list, coinductive) = match rest {
+        [list @ .., word] if text(line, *word) == b"coinductive".as_slice() => (list, true),
+        _ => (rest, false),
+    };
+    match sorts_of(alloc, line, list)? {
+        Some(sorts) => Ok(Some(Line::Trait {
+            name: *name,
+            sorts,
+            coinductive,
+        })),
+        None => Ok(None),
+    }
+}
+
+/// A clause: a predicate, and the predicates behind `<-` if that is there.
+#[tactic(auto, using(crate::proofs::NodeLemmas::inside_nodes, crate::proofs::NodeLemmas::inside_nodes_take, crate::proofs::NodeLemmas::inside_nodes_drop))]
+fn impl_line(alloc: Global, line: &[u8], tokens: &[Token]) -> Result<Option<Line>, AllocError>
+    requires { All (IsInside line.now) tokens.now }
+    ensures says { IfOk result (λ o. IfSome o (Says line.now tokens.now Keyword.Impl)) }
+    ensures inside { IfOk result (λ o. IfSome o (NamesAreInside line.now)) }
+{
+    let Some(at) = tokens
+        .iter()
+        .position(|token| token.kind == TokenKind::Arrow)
+    else {
+        return match predicates_of(alloc, tokens, false)? {
+            Some(head) => Ok(Some(Line::Impl {
+                head,
+                body: Vec::new(alloc),
+            })),
+            None => Ok(None),
+        };
+    };
+    let Some(head) = predicates_of(alloc, &tokens[..at], false)? else {
+        return Ok(None);
+    };
+    let Some(body) = predicates_of(alloc, &tokens[at + 1..], true)? else {
+        return Ok(None);
+    };
+    Ok(Some(Line::Impl { head, body }))
+}
+
+/// A goal: one predicate.
+#[tactic(auto, using(crate::proofs::NodeLemmas::inside_nodes))]
+fn goal_line(alloc: Global, line: &[u8], tokens: &[Token]) -> Result<Option<Line>, AllocError>
+    requires { All (IsInside line.now) tokens.now }
+    ensures says { IfOk result (λ o. IfSome o (Says line.now tokens.now Keyword.Goal)) }
+    ensures inside { IfOk result (λ o. IfSome o (NamesAreInside line.now)) }
+    ensures syntax { IfOk result (λ o. IsNone o → are_predicates false tokens.now ≡ false) }
+{
+    match predicates_of(alloc, tokens, false)? {
+        Some(nodes) => Ok(Some(Line::Goal(nodes))),
+        None => Ok(None),
+    }
+}
+
+/// What the tokens behind a keyword say.
+pub fn line_of(
+    alloc: Global,
+    keyword: Keyword,
+    line: &[u8],
+    tokens: &[Token],
+) -> Result<Line, TextError>
+    requires { All (IsInside line.now) tokens.now }
+    ensures says { IfOk result (Says line.now tokens.now keyword) }
+    ensures inside { IfOk result (NamesAreInside line.now) }
+    ensures reasons { IfErr result (λ e. is_form_reason e ≡ true) }
+    ensures range { result ≡ Err (Refused NumberOutOfRange) → SaysTooMuch line.now tokens.now }
+    ensures depth { keyword ≡ Keyword.Depth → IsErr result → (t : Token) → tokens.now ≡ t ∷ [] → t.kind ≡ TokenKind.Number → 65535 < decimal_value (bytes_of line.now t) }
+    ensures goal { keyword ≡ Keyword.Goal → result ≡ Err (Refused Syntax) → are_predicates false tokens.now ≡ false }
+{
+    let read = match keyword {
+        Keyword::Mode => mode_line(line, tokens),
+        Keyword::Depth => return depth_line(line, tokens).map_err(TextError::Refused),
+        Keyword::Type => type_line(alloc, line, tokens)?,
+        Keyword::Trait => trait_line(alloc, line, tokens)?,
+        Keyword::Impl => impl_line(alloc, line, tokens)?,
+        Keyword::Goal => goal_line(alloc, line, tokens)?,
+    };
+    read.ok_or(TextError::Refused(Refusal::Syntax))
+}

@@ -1,0 +1,275 @@
+//! Whole lines, and their refusals.
+
+use crate::*;
+use nts_model::UintTy;
+use std::alloc::Global;
+use std::test::Fail;
+
+/// The first line that is refused, and why, or `None` if all are taken.
+fn refusal_of(alloc: Global, text: &[u8]) -> Result<Option<(usize, Refusal)>, Fail> {
+    let mut reader = text;
+    let mut line = Vec::new(alloc);
+    let mut names = NameTable::new(alloc);
+    let mut scope = Scope::new(alloc);
+    for number in 1..1000usize {
+        if !next_line(&mut reader, &mut line)? {
+            break;
+        }
+        match read_command(alloc, &line, &mut names, &mut scope) {
+            Ok(_) => {}
+            Err(TextError::Refused(refusal)) => return Ok(Some((number, refusal))),
+            Err(TextError::Memory) => return Err(Fail::from("out of memory")),
+        }
+    }
+    Ok(None)
+}
+
+#[test]
+fn refuses(rt: HostRuntime) -> Result<(), Fail> {
+    for (text, number, refusal) in [
+        (b"gaol x".as_slice(), 1, Refusal::UnknownCommand),
+        (b"gaol \x80".as_slice(), 1, Refusal::UnknownCommand),
+        (b"\x80".as_slice(), 1, Refusal::UnknownCommand),
+        (b" # x".as_slice(), 1, Refusal::UnknownCommand),
+        (b"for<a> T(a)".as_slice(), 1, Refusal::UnknownCommand),
+        (b"alias A".as_slice(), 1, Refusal::UnknownCommand),
+        (
+            b"\n\n# note\n\t \ngoals".as_slice(),
+            5,
+            Refusal::UnknownCommand,
+        ),
+        (b"goal".as_slice(), 1, Refusal::Syntax),
+        (b"type X\x80".as_slice(), 1, Refusal::Syntax),
+        (b"type\x80".as_slice(), 1, Refusal::Syntax),
+        (b"type X # note".as_slice(), 1, Refusal::Syntax),
+        (b"type X\rY".as_slice(), 1, Refusal::Syntax),
+        (b"type X()".as_slice(), 1, Refusal::Syntax),
+        (b"type X(+type)".as_slice(), 1, Refusal::Syntax),
+        (b"type X(type,)".as_slice(), 1, Refusal::Syntax),
+        (b"type ?X".as_slice(), 1, Refusal::Syntax),
+        (b"trait T".as_slice(), 1, Refusal::Syntax),
+        (b"trait T(-type)".as_slice(), 1, Refusal::Syntax),
+        (b"trait T(type) inductive".as_slice(), 1, Refusal::Syntax),
+        (b"mode erased".as_slice(), 1, Refusal::Syntax),
+        (b"depth 65536 x".as_slice(), 1, Refusal::Syntax),
+        (b"depth -1".as_slice(), 1, Refusal::Syntax),
+        (b"goal Clone(".as_slice(), 1, Refusal::Syntax),
+        (b"goal Clone".as_slice(), 1, Refusal::Syntax),
+        (b"goal Clone(u8))".as_slice(), 1, Refusal::Syntax),
+        (b"goal Clone(u8 u8)".as_slice(), 1, Refusal::Syntax),
+        (b"goal Clone(?x(u8))".as_slice(), 1, Refusal::Syntax),
+        (b"goal Clone(u8), Clone(u8)".as_slice(), 1, Refusal::Syntax),
+        (b"goal Clone(? x)".as_slice(), 1, Refusal::Syntax),
+        (b"goal u8: 'a".as_slice(), 1, Refusal::Syntax),
+        (b"goal?x: 'a".as_slice(), 1, Refusal::Syntax),
+        (b"goal for<a> Clone(a)".as_slice(), 1, Refusal::Syntax),
+        (b"impl T(u8) <-".as_slice(), 1, Refusal::Syntax),
+        (b"impl T(u8), T(u8)".as_slice(), 1, Refusal::Syntax),
+        (
+            b"impl T(u8) <- T(u8) <- T(u8)".as_slice(),
+            1,
+            Refusal::Syntax,
+        ),
+        (b"depth 65536".as_slice(), 1, Refusal::NumberOutOfRange),
+        (
+            b"depth 99999999999999999999".as_slice(),
+            1,
+            Refusal::NumberOutOfRange,
+        ),
+        (b"goal Clone(u32)".as_slice(), 1, Refusal::UnknownName),
+        (
+            b"trait A(region)\ngoal A(Zzz)".as_slice(),
+            2,
+            Refusal::UnknownName,
+        ),
+        (
+            b"trait A(type)\ngoal A(Zzz(u8(u8)))".as_slice(),
+            2,
+            Refusal::UnknownName,
+        ),
+        (
+            b"trait A(type)\ntype A".as_slice(),
+            2,
+            Refusal::NameDeclaredTwice,
+        ),
+        (b"type u8".as_slice(), 1, Refusal::NameDeclaredTwice),
+        (
+            b"trait A(type)\ngoal A(u8, u8)".as_slice(),
+            2,
+            Refusal::WrongArguments,
+        ),
+        (
+            b"trait A(type)\ngoal A(u8, Zzz)".as_slice(),
+            2,
+            Refusal::WrongArguments,
+        ),
+        (
+            b"trait A(type)\ngoal A(u8(u8))".as_slice(),
+            2,
+            Refusal::WrongArguments,
+        ),
+        (
+            b"trait A(type)\ngoal A(A)".as_slice(),
+            2,
+            Refusal::WrongArguments,
+        ),
+        (
+            b"trait A(type)\ngoal A('a)".as_slice(),
+            2,
+            Refusal::WrongArguments,
+        ),
+        (
+            b"trait A(region)\ngoal A(u8)".as_slice(),
+            2,
+            Refusal::WrongArguments,
+        ),
+        (
+            b"trait A(region)\nimpl A(!B)".as_slice(),
+            2,
+            Refusal::WrongArguments,
+        ),
+        (b"goal u8(u8)".as_slice(), 1, Refusal::WrongArguments),
+        (
+            b"trait A(type)\nimpl A(!B)".as_slice(),
+            2,
+            Refusal::ParameterInAClause,
+        ),
+        (
+            b"trait A(region)\nimpl A('b)".as_slice(),
+            2,
+            Refusal::ParameterInAClause,
+        ),
+        (
+            b"trait A(type)\nimpl A(u8) <- A(!B), B(u8)".as_slice(),
+            2,
+            Refusal::ParameterInAClause,
+        ),
+    ] {
+        assert!(rt;
+            refusal_of(rt.alloc(), text)? == Some((number, refusal)),
+            "in {text:?}"
+        );
+    }
+    Ok(())
+}
+
+#[test]
+fn takes(rt: HostRuntime) -> Result<(), Fail> {
+    let text = b"# note\r\n\n \t\nmode coherence\nmode postanalysis\r\n\tdepth 0000000000065535\n\
+        type type\ntype for\ntype Ref ( region , type )\ntype Fn(-type, =type, type)\n\
+        trait coinductive(type)coinductive\ntrait S(region)\n\
+        impl coinductive(Ref('static, ?x))<-coinductive(?x),S('?r)\n\
+        goal coinductive(Fn(type, for, Ref('a, !A)))";
+    assert!(rt; refusal_of(rt.alloc(), text)?.is_none());
+    Ok(())
+}
+
+#[test]
+fn numbers_names(rt: HostRuntime) -> Result<(), Fail> {
+    let alloc = rt.alloc();
+    let mut names = NameTable::new(alloc);
+    let mut scope = Scope::new(alloc);
+    for line in [
+        b"trait S(type)".as_slice(),
+        b"type V(type)",
+        b"type Ref(region, type)",
+        b"trait T(type, type)",
+    ] {
+        read_command(alloc, line, &mut names, &mut scope)?;
+    }
+    read_command(alloc, b"goal S(!A)", &mut names, &mut scope)?;
+    let line = b"goal T(Ref('?r, V(?y)), Ref('a, Ref('static, Ref('?r, V(!B)))))";
+    let Some(Command::Goal(nodes)) = read_command(alloc, line, &mut names, &mut scope)? else {
+        return Err(Fail::from("no goal"));
+    };
+    let want = [
+        Resolved::Trait {
+            number: 1,
+            arguments: 2,
+        },
+        Resolved::Ctor {
+            number: 1,
+            arguments: 2,
+        },
+        Resolved::RegionVariable(0),
+        Resolved::Ctor {
+            number: 0,
+            arguments: 1,
+        },
+        Resolved::TypeVariable(0),
+        Resolved::Ctor {
+            number: 1,
+            arguments: 2,
+        },
+        Resolved::RegionParam(0),
+        Resolved::Ctor {
+            number: 1,
+            arguments: 2,
+        },
+        Resolved::Static,
+        Resolved::Ctor {
+            number: 1,
+            arguments: 2,
+        },
+        Resolved::RegionVariable(0),
+        Resolved::Ctor {
+            number: 0,
+            arguments: 1,
+        },
+        Resolved::TypeParam(1),
+    ];
+    assert!(rt; nodes.as_slice() == want.as_slice());
+    Ok(())
+}
+
+#[test]
+fn nests_deeply(rt: HostRuntime) -> Result<(), Fail> {
+    let alloc = rt.alloc();
+    let mut names = NameTable::new(alloc);
+    let mut scope = Scope::new(alloc);
+    read_command(alloc, b"trait T(type)", &mut names, &mut scope)?;
+    read_command(alloc, b"type V(type)", &mut names, &mut scope)?;
+    let mut line = Vec::from_slice(alloc, b"goal T(")?;
+    for _ in 0..100_000 {
+        line.extend_from_slice(b"V(")?;
+    }
+    line.extend_from_slice(b"u8")?;
+    for _ in 0..100_001 {
+        line.push(b')')?;
+    }
+    let Some(Command::Goal(nodes)) = read_command(alloc, &line, &mut names, &mut scope)? else {
+        return Err(Fail::from("no goal"));
+    };
+    assert_eq!(rt; nodes.len(), 100_002);
+    assert!(rt; nodes.last() == Some(&Resolved::Uint(UintTy::U8)));
+    Ok(())
+}
+
+#[test]
+fn ends_lines(rt: HostRuntime) -> Result<(), Fail> {
+    let mut reader = b"one\r\n\r\r\n\ntwo\r".as_slice();
+    let mut line = Vec::new(rt.alloc());
+    for want in [b"one".as_slice(), b"\r", b"", b"two"] {
+        assert!(rt; next_line(&mut reader, &mut line)?);
+        assert!(rt; line.as_slice() == want);
+    }
+    assert!(rt; !next_line(&mut reader, &mut line)?);
+    Ok(())
+}
+
+#[test]
+fn shows_refusals(rt: HostRuntime) -> Result<(), Fail> {
+    for (refusal, words) in [
+        (Refusal::UnknownCommand, "unknown command"),
+        (Refusal::Syntax, "syntax"),
+        (Refusal::NumberOutOfRange, "number out of range"),
+        (Refusal::UnknownName, "unknown name"),
+        (Refusal::NameDeclaredTwice, "name declared twice"),
+        (Refusal::WrongArguments, "wrong arguments"),
+        (Refusal::ParameterInAClause, "parameter in a clause"),
+    ] {
+        let shown = format!(in rt.alloc(); "{refusal}")?;
+        assert_eq!(rt; shown.as_str(), words);
+    }
+    Ok(())
+}
