@@ -8,8 +8,6 @@
 mod admission;
 mod candidate;
 mod clause_test;
-#[cfg(test)]
-mod clause_tests;
 pub mod clauses;
 pub mod delegate;
 mod evaluate;

@@ -1,0 +1,8 @@
+use Rattle.next_trait_solver.proofs.Evaluating.{gave_fresh}
+use Rattle.nts.proofs.Asking.{terms-values}
+use Rattle.nts.proofs.answer.fresh_values.Goals as goal
+
+pub returns-clause-values : goal.returns-clause-values
+returns-clause-values c =
+    let e = c.in_ok-values.ensures in
+    terms-values (gave_fresh c.args.sorts.now _ c.requires.table e.extends e.table e.entries e.saved e.within e.trees).values

@@ -1,0 +1,229 @@
+//! Asking a goal.
+ghost use Rattle.std.specs.Prelude.{◌≡◌, All, IfOk, OnOk};
+ghost use Rattle.nts_terms.specs.Growth.{Extends};
+ghost use Rattle.nts_terms.specs.Rest.{KeepsRest};
+ghost use Rattle.nts_table.specs.Reading.{content_of, IsTable, IsConstraint};
+ghost use Rattle.next_trait_solver.specs.Candidates.{HoldsGoal};
+ghost use Rattle.next_trait_solver.specs.Clauses.{AreReady};
+ghost use Rattle.next_trait_solver.specs.Evaluation.{Goes, IsTermOf};
+
+use crate::build::{MISFIT, Terms, predicate_of, trait_refs};
+use crate::status::Stop;
+use crate::variables::LineVariables;
+use indexmap::IndexSet;
+use next_trait_solver::clauses::Clauses;
+use next_trait_solver::solve::{evaluate_root_goal, goal_is_admitted};
+use nts_model::{Relation, Sort};
+use nts_table::{Constraint, InferCtxt, resolve_nodes};
+use nts_terms::{Certainty, Cx, EvalError, Goal, MaybeCause, NodeId, Span, TypingMode};
+use nts_text::{Mode, Resolved};
+use std::alloc::{AllocError, Global};
+
+/// A region constraint of an answer.
+#[derive(Clone, Copy, PartialEq, Eq, Hash)]
+pub struct RegionFact {
+    pub relation: Relation,
+    pub left: NodeId,
+    pub right: NodeId,
+}
+
+/// What a goal that holds says of its variables.
+#[derive(Drop)]
+pub struct Found {
+    /// The variables of the goal.
+    pub variables: LineVariables,
+    /// Their values, each at its variable's place.
+    pub values: Vec<NodeId>,
+    /// What holds of regions, in the order in which it was found.
+    pub facts: IndexSet<RegionFact>,
+}
+
+/// The answer to a goal.
+#[derive(Drop)]
+pub enum Answer {
+    Yes(Found),
+    No,
+    Ambiguity,
+    Overflow,
+}
+
+/// What a goal may know of hidden types in this mode: there are none.
+fn typing_mode(alloc: Global, mode: Mode) -> TypingMode {
+    match mode {
+        Mode::Coherence => TypingMode::Coherence,
+        Mode::Analysis => TypingMode::Analysis {
+            defining_opaque_types_and_generators: Vec::new(alloc),
+        },
+        Mode::PostAnalysis => TypingMode::PostAnalysis,
+    }
+}
+
+/// Asks a goal, with these clauses as the rules.
+#[tactic(auto, using(crate::proofs::Asking::asking))]
+pub fn ask(cx: &mut Cx, clauses: &Clauses, mode: Mode, nodes: &[Resolved]) -> Result<Answer, Stop>
+    requires ready { AreReady cx.old.nodes clauses.now }
+    ensures extends { Extends cx.old.nodes cx.new.nodes }
+    ensures rest { KeepsRest cx.old cx.new }
+{
+    let mut variables = LineVariables::new(cx.alloc);
+    variables.see(nodes)?;
+    let mut table = InferCtxt::new(cx.alloc, typing_mode(cx.alloc, mode));
+    let values = fresh_values(cx, &mut table, &variables.sorts)?;
+    let terms = Terms {
+        variables: &variables,
+        values: &values,
+    };
+    let goal = goal_of(cx, nodes, terms)?;
+    match evaluated(cx, clauses, &mut table, goal, &values)? {
+        None => Ok(Answer::No),
+        Some(Certainty::Yes) => answer_of(cx, &table, variables, &values),
+        Some(Certainty::Maybe(info)) => match info.cause {
+            MaybeCause::Ambiguity => Ok(Answer::Ambiguity),
+            MaybeCause::Overflow { .. } => Ok(Answer::Overflow),
+        },
+    }
+}
+
+/// What the table knows of the variables of a goal that holds.
+#[tactic(auto, using(crate::proofs::Asking::asking))]
+fn answer_of(
+    cx: &mut Cx,
+    table: &InferCtxt,
+    variables: LineVariables,
+    values: &[NodeId],
+) -> Result<Answer, Stop>
+    requires table { IsTable cx.old.nodes table.now }
+    requires values { All (λ v. IsTermOf cx.old.nodes table.now v) values.now }
+    ensures extends { Extends cx.old.nodes cx.new.nodes }
+    ensures rest { KeepsRest cx.old cx.new }
+{
+    let values = resolved_terms(cx, table, values)?;
+    let facts = region_facts(cx, table)?;
+    Ok(Answer::Yes(Found {
+        variables,
+        values,
+        facts,
+    }))
+}
+
+/// New variables of these sorts.
+fn fresh_values(cx: &mut Cx, table: &mut InferCtxt, sorts: &[Sort]) -> Result<Vec<NodeId>, Stop>
+    requires table { IsTable cx.old.nodes table.old }
+    ensures extends { Extends cx.old.nodes cx.new.nodes }
+    ensures rest { KeepsRest cx.old cx.new }
+    ensures table { IsTable cx.new.nodes table.new }
+    ensures values { IfOk result (λ vs. All (λ v. IsTermOf cx.new.nodes table.new v) vs.items) }
+{
+    let values = table.fresh_nodes(cx, sorts)?;
+    Ok(values)
+}
+
+/// The goal that these nodes say, in an empty environment.
+#[tactic(auto, using(crate::proofs::Asking::asking))]
+fn goal_of(cx: &mut Cx, nodes: &[Resolved], terms: Terms<'_>) -> Result<Goal, Stop>
+    ensures holds { IfOk result (λ g. HoldsGoal cx.new.nodes g) }
+    ensures extends { Extends cx.old.nodes cx.new.nodes }
+    ensures rest { KeepsRest cx.old cx.new }
+{
+    let found = trait_refs(cx, nodes, terms)?;
+    let [trait_ref] = found.as_slice() else {
+        return Err(MISFIT);
+    };
+    let param_env = cx.mk_env(&[])?;
+    let predicate = predicate_of(cx, *trait_ref)?;
+    Ok(Goal {
+        param_env,
+        predicate,
+    })
+}
+
+/// How sure it is that a goal holds, or `None` if it has no solution. The table then still knows
+/// the goal's variables.
+#[tactic(auto, using(crate::proofs::Asking::asking))]
+fn evaluated(
+    cx: &mut Cx,
+    clauses: &Clauses,
+    table: &mut InferCtxt,
+    goal: Goal,
+    values: &[NodeId],
+) -> Result<Option<Certainty>, Stop>
+    requires table { IsTable cx.old.nodes table.old }
+    requires ready { AreReady cx.old.nodes clauses.now }
+    requires holds { HoldsGoal cx.old.nodes goal }
+    requires values { All (λ v. IsTermOf cx.old.nodes table.old v) values.now }
+    ensures extends { Extends cx.old.nodes cx.new.nodes }
+    ensures rest { KeepsRest cx.old cx.new }
+    ensures table { OnOk result (IsTable cx.new.nodes table.new) }
+    ensures values { OnOk result (All (λ v. IsTermOf cx.new.nodes table.new v) values.now) }
+{
+    let _ = values.len();
+    let admitted = goal_is_admitted(table, cx, goal)?;
+    if !admitted {
+        return Err(MISFIT);
+    }
+    match evaluate_root_goal(table, cx, clauses, goal, Span { number: 0 }, None) {
+        Ok(evaluation) => Ok(Some(evaluation.certainty)),
+        Err(EvalError::NoSolution) => Ok(None),
+        Err(EvalError::Memory | EvalError::Full) => Err(Stop::Memory),
+    }
+}
+
+/// The terms with each variable replaced by what the table knows of it.
+#[tactic(auto, using(crate::proofs::Asking::asking))]
+fn resolved_terms(
+    cx: &mut Cx,
+    table: &InferCtxt,
+    terms: &[NodeId],
+) -> Result<Vec<NodeId>, AllocError>
+    requires table { IsTable cx.old.nodes table.now }
+    requires terms { All (λ v. IsTermOf cx.old.nodes table.now v) terms.now }
+    ensures extends { Extends cx.old.nodes cx.new.nodes }
+    ensures rest { KeepsRest cx.old cx.new }
+{
+    let alloc = cx.alloc;
+    let mut found = Vec::new(alloc);
+    for term in terms {
+        found.push(resolve_nodes(alloc, &mut cx.nodes, table, *term, true)?)?;
+    }
+    Ok(found)
+}
+
+/// The region constraints that the table has recorded, in order, without those that hold anyway and
+/// those that were there before.
+#[tactic(auto, using(crate::proofs::Asking::asking))]
+fn region_facts(cx: &mut Cx, table: &InferCtxt) -> Result<IndexSet<RegionFact>, AllocError>
+    requires table { IsTable cx.old.nodes table.now }
+    ensures extends { Extends cx.old.nodes cx.new.nodes }
+    ensures rest { KeepsRest cx.old cx.new }
+{
+    let mut facts = IndexSet::new(cx.alloc);
+    for i in 0..table.constraint_count() {
+        let constraint = table.constraint(i);
+        let fact = resolved_fact(cx, table, constraint)?;
+        if fact.left != fact.right {
+            facts.insert(fact)?;
+        }
+    }
+    Ok(facts)
+}
+
+#[tactic(auto, using(crate::proofs::Asking::asking))]
+fn resolved_fact(
+    cx: &mut Cx,
+    table: &InferCtxt,
+    constraint: Constraint,
+) -> Result<RegionFact, AllocError>
+    requires table { IsTable cx.old.nodes table.now }
+    requires sides { IsConstraint cx.old.nodes (content_of cx.old.nodes table.now.entries) constraint }
+    ensures extends { Extends cx.old.nodes cx.new.nodes }
+    ensures rest { KeepsRest cx.old cx.new }
+{
+    let alloc = cx.alloc;
+    let left = resolve_nodes(alloc, &mut cx.nodes, table, constraint.left, true)?;
+    let right = resolve_nodes(alloc, &mut cx.nodes, table, constraint.right, true)?;
+    Ok(RegionFact {
+        relation: constraint.relation,
+        left,
+        right,
+    })
+}

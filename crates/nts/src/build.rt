@@ -1,0 +1,180 @@
+//! Terms of the predicates that a line says.
+ghost use Rattle.std.specs.Prelude.{◌≡◌, All, IsTrue, IfOk};
+ghost use Rattle.nts_terms.specs.Growth.{Extends};
+ghost use Rattle.nts_terms.specs.Handles.{HoldsArg, HoldsArgs, HoldsPredicate};
+ghost use Rattle.nts_terms.specs.Rest.{KeepsRest};
+
+use crate::status::Stop;
+use crate::variables::LineVariables;
+use nts_model::{BoundIndex, Sort};
+use nts_terms::{
+    Binder, BoundRegion, BoundTy, ClauseKind, CtorId, Cx, DefId, GenericArg, GenericArgs, NodeId,
+    Predicate, PredicateKind, RegionKind, TraitId, TraitRef, TyKind,
+};
+use nts_text::{Refusal, Resolved};
+
+/// The terms that the variables of a line stand for, each at the variable's place.
+#[derive(Clone, Copy)]
+pub struct Terms<'a> {
+    pub variables: &'a LineVariables,
+    pub values: &'a [NodeId],
+}
+
+impl Terms<'_> {
+    fn of_type(self, number: usize) -> Option<GenericArg> {
+        self.at(*self.variables.types.get(number)?)
+    }
+
+    fn of_region(self, number: usize) -> Option<GenericArg> {
+        self.at(*self.variables.regions.get(number)?)
+    }
+
+    fn at(self, place: usize) -> Option<GenericArg> {
+        let node = *self.values.get(place)?;
+        Some(GenericArg { node })
+    }
+}
+
+/// What is answered where terms don't fit, though the names of the line do.
+pub const MISFIT: Stop = Stop::Refused(Refusal::WrongArguments);
+
+/// The number of a parameter, if there are so many.
+fn parameter(number: usize) -> Result<u32, Stop> {
+    u32::try_from(number).map_err(|_| Stop::Memory)
+}
+
+/// The traits that these nodes name, with their arguments, in order.
+#[tactic(auto, using(crate::proofs::Asking::growing))]
+pub fn trait_refs(cx: &mut Cx, nodes: &[Resolved], terms: Terms<'_>) -> Result<Vec<TraitRef>, Stop>
+    ensures extends { Extends cx.old.nodes cx.new.nodes }
+    ensures rest { KeepsRest cx.old cx.new }
+{
+    let alloc = cx.alloc;
+    let mut made = Vec::new(alloc);
+    let mut found = Vec::new(alloc);
+    // From the last node to the first, so that arguments are made before what takes them.
+    for node in nodes.iter().rev() {
+        match *node {
+            Resolved::Trait { number, arguments } => {
+                let args = take_args(cx, &mut made, arguments)?;
+                found.push(TraitRef {
+                    def_id: TraitId { number },
+                    args,
+                })?;
+            }
+            node => {
+                let argument = argument(cx, &mut made, terms, node)?;
+                made.push(argument)?;
+            }
+        }
+    }
+    found.reverse();
+    Ok(found)
+}
+
+/// The argument of a node, whose own arguments were made last.
+#[tactic(auto, using(crate::proofs::Asking::growing))]
+fn argument(
+    cx: &mut Cx,
+    made: &mut Vec<GenericArg>,
+    terms: Terms<'_>,
+    node: Resolved,
+) -> Result<GenericArg, Stop>
+    ensures extends { Extends cx.old.nodes cx.new.nodes }
+    ensures rest { KeepsRest cx.old cx.new }
+{
+    match node {
+        Resolved::Trait { .. } => Err(MISFIT),
+        Resolved::Ctor { number, arguments } => {
+            let args = take_args(cx, made, arguments)?;
+            constructed(cx, CtorId { number }, args)
+        }
+        Resolved::TypeVariable(number) => terms.of_type(number).ok_or(MISFIT),
+        Resolved::RegionVariable(number) => terms.of_region(number).ok_or(MISFIT),
+        Resolved::Int(int) => Ok(cx.mk_ty(TyKind::Int(int))?.into()),
+        Resolved::Uint(uint) => Ok(cx.mk_ty(TyKind::Uint(uint))?.into()),
+        Resolved::TypeParam(number) => { Ok(cx.mk_ty(TyKind::Param(parameter(number)?))?.into()) }
+        Resolved::RegionParam(number) => {
+            Ok(
+                cx.mk_region(RegionKind::ReEarlyParam(parameter(number)?))?
+                    .into(),
+            )
+        }
+        Resolved::Static => Ok(cx.mk_region(RegionKind::ReStatic)?.into()),
+    }
+}
+
+/// Whether all of these are arguments of this store.
+fn are_held(cx: &Cx, args: &[GenericArg]) -> bool
+    ensures { IsTrue result → All (λ a. HoldsArg cx.now.nodes a) args.now }
+{
+    args.iter().all(|arg| cx.holds(*arg))
+}
+
+/// The list of so many of the arguments that were made last, the last one first.
+#[tactic(auto, using(crate::proofs::Asking::growing))]
+fn take_args(cx: &mut Cx, made: &mut Vec<GenericArg>, count: usize) -> Result<GenericArgs, Stop>
+    ensures holds { IfOk result (λ a. HoldsArgs cx.new.nodes a) }
+    ensures extends { Extends cx.old.nodes cx.new.nodes }
+    ensures rest { KeepsRest cx.old cx.new }
+{
+    let mut args = Vec::new(cx.alloc);
+    for _ in 0..count {
+        args.push(made.pop().ok_or(MISFIT)?)?;
+    }
+    if !are_held(cx, &args) {
+        return Err(MISFIT);
+    }
+    Ok(cx.mk_args(&args)?)
+}
+
+/// A declared type with its arguments.
+#[tactic(auto, using(crate::proofs::Asking::growing))]
+fn constructed(cx: &mut Cx, ctor: CtorId, args: GenericArgs) -> Result<GenericArg, Stop>
+    requires { HoldsArgs cx.old.nodes args }
+    ensures extends { Extends cx.old.nodes cx.new.nodes }
+    ensures rest { KeepsRest cx.old cx.new }
+{
+    if !cx.fits(DefId::Ctor(ctor), args) {
+        return Err(MISFIT);
+    }
+    Ok(cx.mk_ty(TyKind::Ctor(ctor, args))?.into())
+}
+
+/// The predicate that a trait holds for its arguments.
+#[tactic(auto, using(crate::proofs::Asking::growing))]
+pub fn predicate_of(cx: &mut Cx, trait_ref: TraitRef) -> Result<Predicate, Stop>
+    ensures holds { IfOk result (λ p. HoldsPredicate cx.new.nodes p) }
+    ensures extends { Extends cx.old.nodes cx.new.nodes }
+    ensures rest { KeepsRest cx.old cx.new }
+{
+    let vars = cx.mk_bound_vars(&[])?;
+    if !cx.holds(trait_ref.args) || !cx.fits(DefId::Trait(trait_ref.def_id), trait_ref.args) {
+        return Err(MISFIT);
+    }
+    let value = PredicateKind::Clause(ClauseKind::Trait(trait_ref));
+    Ok(cx.mk_predicate(Binder { vars, value })?)
+}
+
+/// The variables of a clause: the places of a canonical value, of these sorts.
+#[tactic(auto, using(crate::proofs::Asking::growing))]
+pub fn positions(cx: &mut Cx, sorts: &[Sort]) -> Result<Vec<NodeId>, Stop>
+    ensures extends { Extends cx.old.nodes cx.new.nodes }
+    ensures rest { KeepsRest cx.old cx.new }
+{
+    let mut values = Vec::new(cx.alloc);
+    for (var, sort) in sorts.iter().enumerate() {
+        let node = match sort {
+            Sort::Ty => cx
+                .mk_ty(TyKind::Bound(BoundIndex::Canonical, BoundTy { var }))?
+                .node,
+            Sort::Region => {
+                let kind = RegionKind::ReBound(BoundIndex::Canonical, BoundRegion { var });
+                cx.mk_region(kind)?.node
+            }
+            Sort::Const => return Err(MISFIT),
+        };
+        values.push(node)?;
+    }
+    Ok(values)
+}

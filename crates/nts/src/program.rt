@@ -1,0 +1,166 @@
+//! The state of a run, and what each command does to it.
+ghost use Rattle.std.specs.Prelude.{◌≡◌, OnOk};
+ghost use Rattle.nts_terms.specs.Growth.{Extends};
+ghost use Rattle.nts_terms.specs.Rest.{KeepsRest};
+ghost use Rattle.next_trait_solver.specs.Clauses.{AreReady};
+
+use crate::answer::ask;
+use crate::build::{MISFIT, Terms, positions, predicate_of, trait_refs};
+use crate::printer::text_of;
+use crate::status::Stop;
+use crate::variables::LineVariables;
+use next_trait_solver::clauses::{Clause, Clauses};
+use nts_terms::{Cx, Predicate};
+use nts_text::{Command, Mode, NameTable, Param, Resolved, Scope, read_command};
+use std::alloc::Global;
+
+/// What the lines of a run have said so far.
+#[derive(Drop)]
+pub struct Program {
+    pub alloc: Global,
+    /// The terms, what is declared, and the depth.
+    pub cx: Cx,
+    pub clauses: Clauses,
+    /// The names that are declared.
+    pub names: NameTable,
+    /// The variables of the last line, and the parameters of all.
+    pub scope: Scope,
+    pub mode: Mode,
+}
+
+impl Program {
+    /// Nothing said. It takes no memory.
+    pub fn new(alloc: Global) -> Self
+        ensures ready { AreReady result.cx.nodes result.clauses }
+    {
+        Program {
+            alloc,
+            cx: Cx::new(alloc),
+            clauses: Clauses::new(alloc),
+            names: NameTable::new(alloc),
+            scope: Scope::new(alloc),
+            mode: Mode::Analysis,
+        }
+    }
+
+    /// Does what a line says. The result is the text of its answer, if it asks for one.
+    pub fn obey(&mut self, line: &[u8]) -> Result<Option<Vec<u8>>, Stop>
+        requires ready { AreReady self.old.cx.nodes self.old.clauses }
+        ensures ready { OnOk result (AreReady self.new.cx.nodes self.new.clauses) }
+    {
+        let Some(command) = read_command(self.alloc, line, &mut self.names, &mut self.scope)? else {
+            return Ok(None);
+        };
+        match command {
+            Command::Mode(mode) => self.mode = mode,
+            Command::Depth(depth) => self.cx.set_recursion_limit(usize::from(depth)),
+            Command::Type { params, .. } => self.declare_type(&params)?,
+            Command::Trait {
+                number,
+                coinductive,
+            } => self.declare_trait(number, coinductive)?,
+            Command::Impl { head, body } => self.add_impl(&head, &body)?,
+            Command::Goal(nodes) => return Ok(Some(self.answer(&nodes)?)),
+        }
+        Ok(None)
+    }
+
+    fn declare_type(&mut self, params: &[Param]) -> Result<(), Stop>
+        requires ready { AreReady self.old.cx.nodes self.old.clauses }
+        ensures ready { OnOk result (AreReady self.new.cx.nodes self.new.clauses) }
+    {
+        let mut sorts = Vec::new(self.alloc);
+        let mut variances = Vec::new(self.alloc);
+        for param in params {
+            sorts.push(param.sort)?;
+            variances.push(param.variance)?;
+        }
+        self.cx.declare_ctor(&sorts, &variances)?;
+        Ok(())
+    }
+
+    #[tactic(auto, using(crate::proofs::Asking::keeping))]
+    fn declare_trait(&mut self, number: usize, coinductive: bool) -> Result<(), Stop>
+        requires ready { AreReady self.old.cx.nodes self.old.clauses }
+        ensures ready { OnOk result (AreReady self.new.cx.nodes self.new.clauses) }
+    {
+        let names = &self.names;
+        let Some(signature) = names.traits.get(number) else {
+            return Err(MISFIT);
+        };
+        let id = self.cx.declare_trait(&signature.sorts)?;
+        if coinductive {
+            self.clauses.set_coinductive(id)?;
+        }
+        Ok(())
+    }
+
+    #[tactic(auto, using(crate::proofs::Asking::keeping))]
+    fn add_impl(&mut self, head: &[Resolved], body: &[Resolved]) -> Result<(), Stop>
+        requires ready { AreReady self.old.cx.nodes self.old.clauses }
+        ensures ready { OnOk result (AreReady self.new.cx.nodes self.new.clauses) }
+    {
+        let clause = clause_of(&mut self.cx, head, body)?;
+        if !Clauses::clause_fits(&self.cx, &clause)? {
+            return Err(MISFIT);
+        }
+        self.clauses.add_clause(clause)?;
+        Ok(())
+    }
+
+    #[tactic(auto, using(crate::proofs::Asking::keeping))]
+    fn answer(&mut self, nodes: &[Resolved]) -> Result<Vec<u8>, Stop>
+        requires ready { AreReady self.old.cx.nodes self.old.clauses }
+        ensures ready { OnOk result (AreReady self.new.cx.nodes self.new.clauses) }
+    {
+        let answer = ask(&mut self.cx, &self.clauses, self.mode, nodes)?;
+        let text = text_of(
+            self.alloc,
+            &self.cx.nodes,
+            &self.names,
+            &self.scope,
+            &answer,
+        )?;
+        Ok(text)
+    }
+}
+
+/// The rule that a line says: its head holds where its body does.
+#[tactic(auto, using(crate::proofs::Asking::growing))]
+fn clause_of(cx: &mut Cx, head: &[Resolved], body: &[Resolved]) -> Result<Clause, Stop>
+    ensures extends { Extends cx.old.nodes cx.new.nodes }
+    ensures rest { KeepsRest cx.old cx.new }
+{
+    let mut variables = LineVariables::new(cx.alloc);
+    variables.see(head)?;
+    variables.see(body)?;
+    let values = positions(cx, &variables.sorts)?;
+    let terms = Terms {
+        variables: &variables,
+        values: &values,
+    };
+    let heads = trait_refs(cx, head, terms)?;
+    let [head] = heads.as_slice() else {
+        return Err(MISFIT);
+    };
+    let body = conditions(cx, body, terms)?;
+    Ok(Clause {
+        fresh: variables.sorts,
+        trait_id: head.def_id,
+        head: head.args,
+        body,
+    })
+}
+
+/// The predicates that these nodes say.
+#[tactic(auto, using(crate::proofs::Asking::growing))]
+fn conditions(cx: &mut Cx, body: &[Resolved], terms: Terms<'_>) -> Result<Vec<Predicate>, Stop>
+    ensures extends { Extends cx.old.nodes cx.new.nodes }
+    ensures rest { KeepsRest cx.old cx.new }
+{
+    let mut predicates = Vec::new(cx.alloc);
+    for trait_ref in trait_refs(cx, body, terms)? {
+        predicates.push(predicate_of(cx, trait_ref)?)?;
+    }
+    Ok(predicates)
+}

@@ -1,0 +1,77 @@
+//! A run over all lines of an input.
+ghost use Rattle.std.specs.Prelude.{◌≡◌, OnOk};
+ghost use Rattle.next_trait_solver.specs.Clauses.{AreReady};
+ghost use Rattle.nts.specs.Growing.{Begins};
+
+use crate::output::{put, put_refusal};
+use crate::program::Program;
+use crate::status::{Status, Stop};
+use nts_text::next_line;
+use std::alloc::Global;
+use std::io::{BufRead, BufReader, Read, Write};
+
+/// Handles the lines of the input in order, and writes the answers. Whatever happens, what was
+/// written before stays.
+#[tactic(auto, using(crate::proofs::Growths::writes))]
+pub fn run<R: Read + Drop, W: Write>(alloc: Global, input: R, output: &mut W) -> Status
+    ensures begins { Begins (W.contents output.old) (W.contents output.new) }
+{
+    let status = match run_input(alloc, input, output) {
+        Ok(()) => Status::Done,
+        Err(stop) => stop.status(),
+    };
+    match output.flush() {
+        Ok(()) => status,
+        Err(_) => Status::Failed,
+    }
+}
+
+#[tactic(auto, using(crate::proofs::Growths::writes))]
+fn run_input<R: Read + Drop, W: Write>(alloc: Global, input: R, output: &mut W) -> Result<(), Stop>
+    ensures begins { Begins (W.contents output.old) (W.contents output.new) }
+{
+    let mut reader = BufReader::new(alloc, input)?;
+    run_lines(alloc, &mut reader, output)
+}
+
+#[tactic(auto, using(crate::proofs::Growths::writes))]
+fn run_lines<R: BufRead, W: Write>(
+    alloc: Global,
+    reader: &mut R,
+    output: &mut W,
+) -> Result<(), Stop>
+    ensures begins { Begins (W.contents output.old) (W.contents output.new) }
+{
+    let mut program = Program::new(alloc);
+    let mut line = Vec::new(alloc);
+    'lines: for number in 1..u64::MAX {
+        if !next_line(reader, &mut line)? {
+            break;
+        }
+        handle_line(&mut program, &line, number, output)?;
+    }
+    Ok(())
+}
+
+/// Does what a line says, and writes its answer or why it is refused.
+#[tactic(auto, using(crate::proofs::Growths::writes))]
+fn handle_line<W: Write>(
+    program: &mut Program,
+    line: &[u8],
+    number: u64,
+    output: &mut W,
+) -> Result<(), Stop>
+    requires ready { AreReady program.old.cx.nodes program.old.clauses }
+    ensures ready { OnOk result (AreReady program.new.cx.nodes program.new.clauses) }
+    ensures begins { Begins (W.contents output.old) (W.contents output.new) }
+{
+    match program.obey(line) {
+        Ok(Some(text)) => put(output, &text),
+        Ok(None) => Ok(()),
+        Err(Stop::Refused(refusal)) => {
+            put_refusal(program.alloc, output, number, refusal)?;
+            Err(Stop::Refused(refusal))
+        }
+        Err(stop) => Err(stop),
+    }
+}

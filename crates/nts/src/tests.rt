@@ -1,0 +1,250 @@
+//! Whole runs, with their output and status.
+
+use crate::run::run;
+use crate::status::Status;
+use std::alloc::Global;
+use std::io::{self, ErrorKind, Read, Write};
+use std::process::Abort;
+use std::test::Fail;
+
+/// A text, what a run over it prints, and how the run ends.
+#[derive(Clone, Copy)]
+struct Case<'a> {
+    text: &'a [u8],
+    output: &'a [u8],
+    status: Status,
+}
+
+fn done<'a>(text: &'a [u8], output: &'a [u8]) -> Case<'a> {
+    Case {
+        text,
+        output,
+        status: Status::Done,
+    }
+}
+
+fn refused<'a>(text: &'a [u8], output: &'a [u8]) -> Case<'a> {
+    Case {
+        text,
+        output,
+        status: Status::Refused,
+    }
+}
+
+fn check(rt: &impl Abort, alloc: Global, cases: &[Case<'_>]) {
+    for (i, case) in cases.iter().enumerate() {
+        let mut output = Vec::new(alloc);
+        let status = run(alloc, case.text, &mut output);
+        assert!(rt; output.as_slice() == case.output, "output of case {i}");
+        assert_eq!(rt; status, case.status, "case {i}");
+    }
+}
+
+#[test]
+fn answers(rt: HostRuntime) {
+    check(
+        &rt,
+        rt.alloc(),
+        &[
+            done(b"", b""),
+            done(
+                b"trait Clone(type)\ntype Vec(type)\nimpl Clone(u32)\nimpl Clone(Vec(?T)) <- Clone(?T)\ngoal Clone(Vec(u32))\n",
+                b"yes\n",
+            ),
+            done(
+                b"trait Clone(type)\nimpl Clone(u32)\nimpl Clone(u8)\ngoal Clone(?x)\n",
+                b"maybe ambiguity\n",
+            ),
+            done(
+                b"trait Clone(type)\nimpl Clone(u32)\ngoal Clone(?x)\n",
+                b"yes\n  ?x = u32\n",
+            ),
+            done(b"trait T(type)\ngoal T(u32)\n", b"no\n"),
+            done(
+                b"trait T(type)\ntype Vec(type)\nimpl T(Vec(?X))\ngoal T(?x)\n",
+                b"yes\n  ?x = Vec(?0)\n",
+            ),
+        ],
+    );
+}
+
+#[test]
+fn cycles_and_depths(rt: HostRuntime) {
+    check(
+        &rt,
+        rt.alloc(),
+        &[
+            done(
+                b"trait Auto(type)\ntype List\nimpl Auto(List) <- Auto(List)\nmode coherence\ngoal Auto(List)\nmode analysis\ngoal Auto(List)\nmode postanalysis\ngoal Auto(List)\n",
+                b"maybe overflow\nmaybe overflow\nmaybe overflow\n",
+            ),
+            done(
+                b"trait Auto(type)\ntype W(type)\nimpl Auto(W(?X)) <- Auto(W(W(?X)))\ndepth 4\ngoal Auto(W(u32))\n",
+                b"maybe overflow\n",
+            ),
+            done(
+                b"trait Clone(type)\ntype Vec(type)\nimpl Clone(u32)\nimpl Clone(Vec(?T)) <- Clone(?T)\ndepth 0\ngoal Clone(u32)\ngoal Clone(Vec(u32))\n",
+                b"yes\nmaybe overflow\n",
+            ),
+        ],
+    );
+}
+
+#[test]
+fn regions(rt: HostRuntime) {
+    check(
+        &rt,
+        rt.alloc(),
+        &[
+            done(
+                b"trait T(type)\ntype Ref(region, type)\nimpl T(Ref('static, u32))\ngoal T(Ref('static, u32))\ngoal T(Ref('a, u32))\n",
+                b"yes\nyes\n  'a == 'static\n",
+            ),
+            done(
+                b"trait T(type)\ntype Ref(region, type)\nimpl T(Ref('?r, Ref('?r, u8)))\ngoal T(?x)\n",
+                b"yes\n  ?x = Ref('_0, Ref('_0, u8))\n",
+            ),
+        ],
+    );
+}
+
+#[test]
+fn refusals(rt: HostRuntime) {
+    check(
+        &rt,
+        rt.alloc(),
+        &[
+            refused(b"goal Clone(u32)\n", b"line 1: unknown name\n"),
+            refused(b"trait Clone(type)\ngoal Clone(\n", b"line 2: syntax\n"),
+            refused(b"gaol x\n", b"line 1: unknown command\n"),
+            refused(b"goal\n", b"line 1: syntax\n"),
+            refused(b"depth 65536\n", b"line 1: number out of range\n"),
+            refused(
+                b"depth 99999999999999999999\n",
+                b"line 1: number out of range\n",
+            ),
+            refused(b"trait A(type)\ntype A\n", b"line 2: name declared twice\n"),
+            refused(
+                b"trait A(type)\ngoal A(u8, u8)\n",
+                b"line 2: wrong arguments\n",
+            ),
+            refused(
+                b"trait A(type)\nimpl A(!B)\n",
+                b"line 2: parameter in a clause\n",
+            ),
+            refused(b"type X\x80\n", b"line 1: syntax\n"),
+        ],
+    );
+}
+
+/// What was answered stays where a later line is refused, and no line after it is read.
+#[test]
+fn earlier_answers_stay(rt: HostRuntime) {
+    check(
+        &rt,
+        rt.alloc(),
+        &[refused(
+            b"trait T(type)\n\n# note\ngoal T(u8)\ngoal U(u8)\ngoal T(u8)\n",
+            b"no\nline 5: unknown name\n",
+        )],
+    );
+}
+
+/// The text of a goal whose type is nested so deep, and of what makes it hold.
+fn deep_text(alloc: Global, depth: u32) -> Result<Vec<u8>, Fail> {
+    let mut text = Vec::from_slice(
+        alloc,
+        b"trait T(type)\ntype W(type)\nimpl T(?X)\ntrait Pair(type, type)\nimpl Pair(?X, ?X)\ngoal T(",
+    )?;
+    append_deep(&mut text, depth)?;
+    text.extend_from_slice(b")\ngoal Pair(?x, ")?;
+    append_deep(&mut text, depth)?;
+    text.extend_from_slice(b")\n")?;
+    Ok(text)
+}
+
+fn append_deep(text: &mut Vec<u8>, depth: u32) -> Result<(), Fail> {
+    for _ in 0..depth {
+        text.extend_from_slice(b"W(")?;
+    }
+    text.extend_from_slice(b"u8")?;
+    for _ in 0..depth {
+        text.push(b')')?;
+    }
+    Ok(())
+}
+
+#[test]
+fn deep_types(rt: HostRuntime) -> Result<(), Fail> {
+    let alloc = rt.alloc();
+    let text = deep_text(alloc, 100_000)?;
+    let mut expected = Vec::from_slice(alloc, b"yes\nyes\n  ?x = ")?;
+    append_deep(&mut expected, 100_000)?;
+    expected.push(b'\n')?;
+    let mut output = Vec::new(alloc);
+    let status = run(alloc, text.as_slice(), &mut output);
+    assert_eq!(rt; status, Status::Done);
+    assert!(rt; output.as_slice() == expected.as_slice());
+    Ok(())
+}
+
+/// A reader that gives some bytes and then fails.
+#[derive(Drop)]
+struct Torn<'a> {
+    rest: &'a [u8],
+}
+
+impl Read for Torn<'_> {
+    fn read(&mut self, buf: &mut [u8]) -> io::Result<usize> {
+        if self.rest.is_empty() {
+            return Err(io::Error::from(ErrorKind::ConnectionReset));
+        }
+        self.rest.read(buf)
+    }
+}
+
+#[test]
+fn a_failed_read(rt: HostRuntime) {
+    let input = Torn {
+        rest: b"trait T(type)\ngoal T(u8)\ngoal T(",
+    };
+    let mut output = Vec::new(rt.alloc());
+    let status = run(rt.alloc(), input, &mut output);
+    assert_eq!(rt; status, Status::Failed);
+    assert!(rt; output.as_slice() == b"no\n".as_slice());
+}
+
+/// A writer that takes so many bytes and then fails.
+#[derive(Drop)]
+struct Full {
+    taken: Vec<u8>,
+    room: usize,
+}
+
+impl Write for Full {
+    fn write(&mut self, buf: &[u8]) -> io::Result<usize> {
+        let count = buf.len().min(self.room);
+        if count == 0 {
+            return Err(io::Error::from(ErrorKind::ConnectionReset));
+        }
+        self.taken.extend_from_slice(&buf[..count])?;
+        self.room -= count;
+        Ok(count)
+    }
+
+    fn flush(&mut self) -> io::Result<()> {
+        Ok(())
+    }
+}
+
+#[test]
+fn a_failed_write(rt: HostRuntime) {
+    let mut output = Full {
+        taken: Vec::new(rt.alloc()),
+        room: 4,
+    };
+    let text = b"trait T(type)\ngoal T(u8)\ngoal T(u16)\ngoal T(u32)\n";
+    let status = run(rt.alloc(), text.as_slice(), &mut output);
+    assert_eq!(rt; status, Status::Failed);
+    assert!(rt; output.taken.as_slice() == b"no\nn".as_slice());
+}
