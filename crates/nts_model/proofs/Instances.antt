@@ -4,6 +4,7 @@ use Rattle.std.specs.Prelude.{◌==◌}
 use Rattle.nts_model.specs.declared.labels.Relation.{Relation}
 use Rattle.nts_model.specs.declared.labels.Relation.TheVariants as relation
 use Rattle.nts_model.specs.declared.labels.VariableKind.{VariableKind}
+use Rattle.nts_model.specs.declared.labels.FreeRegion.TheVariants as region
 use Rattle.nts_model.specs.declared.labels.Leaf.{Leaf}
 use Rattle.nts_model.specs.declared.labels.Leaf.TheVariants as leaf
 use Rattle.nts_model.specs.declared.labels.Label.{Label}
@@ -11,7 +12,7 @@ use Rattle.nts_model.specs.declared.labels.Label.TheVariants as label
 use Rattle.nts_model.specs.Trees.{Tree, empty, more, node}
 use Rattle.nts_model.specs.Contents.{Content, known, Recorded, state_of}
 use Rattle.nts_model.specs.Resolving.{variable_of, number_of, Knows, KnowsLabel, Reaches, here, on, root_of}
-use Rattle.nts_model.specs.Worlds.{World, renamed_leaf, renamed, placed, inst, IsTrueOf, IsMet, AreMet, Solves, Agrees, with_tree, KnowsAll}
+use Rattle.nts_model.specs.Worlds.{World, KeepsFixedRegions, renamed_leaf, renamed, placed, inst, IsTrueOf, IsMet, AreMet, Solves, Agrees, with_tree, KnowsAll}
 use Rattle.nts_model.proofs.Under.{eq-self}
 use Rattle.nts_model.proofs.Slots.{field_below}
 use Rattle.nts_model.proofs.Roots.{Reaches-root_of}
@@ -48,6 +49,14 @@ Agrees-trans n m w v u h a b =
       trees = λ k l. (let q : k < m = omega arith in b.trees k q ∙ a.trees k l);
       regions = λ r. b.regions r ∙ a.regions r;
       outlives = λ x y. b.outlives x y ∙ a.outlives x y;
+    }
+
+pub KeepsFixedRegions-agrees : (n : ℕ) (w v : World) → Agrees n w v → KeepsFixedRegions w → KeepsFixedRegions v
+KeepsFixedRegions-agrees n w v a h =
+    record {
+      static = a.regions region.Static ∙ h.static;
+      erased = a.regions region.Erased ∙ h.erased;
+      error = a.regions region.Error ∙ h.error;
     }
 
 pub Agrees-with_tree : (n m : ℕ) (w : World) (t : Tree) → n ≤ m → Agrees n w (with_tree w m t)

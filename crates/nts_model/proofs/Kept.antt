@@ -57,7 +57,7 @@ kind_of-replaced c n s empty k h = refl
 kind_of-replaced c n s (more a b) k h = refl
 kind_of-replaced c n s (node l t) k h = kind_of-replaced_at c (infer_of l) n s l t (replaced n s t) refl k.0 h
 
-kind_of-under : (c : Content) (val : ℕ → Tree) (ns : List ℕ) (t : Tree) → ((n : ℕ) → Knows c (val n)) → FitKinds c val ns → Knows c t → kind_of (under val ns t) ≡ kind_of t
+pub kind_of-under : (c : Content) (val : ℕ → Tree) (ns : List ℕ) (t : Tree) → ((n : ℕ) → Knows c (val n)) → FitKinds c val ns → Knows c t → kind_of (under val ns t) ≡ kind_of t
 kind_of-under c val [] t h f k = refl
 kind_of-under c val (n ∷ ns) t h f k =
     let fits : FitKinds c val ns = λ m j q e. f m j (inr q) e in
@@ -65,7 +65,7 @@ kind_of-under c val (n ∷ ns) t h f k =
     kind_of-replaced c n (under val ns (val n)) (under val ns t) (Knows-under c val ns t h k) (λ j e. value ∙ f n j (inl refl) e)
     ∙ kind_of-under c val ns t h fits k
 
-FitKinds-value_at : (c : Content) → IsSound c → FitKinds c (value_at c) (reverse c.order)
+pub FitKinds-value_at : (c : Content) → IsSound c → FitKinds c (value_at c) (reverse c.order)
 FitKinds-value_at c s n k h e = by_case (state_of c n) refl
   where
     no_None : (o : Option Slot) → map_slot (λ x. x.kind) o ≡ Some k → map_slot (λ x. x.state) o ≡ None → ⊥

@@ -7,7 +7,7 @@ use Rattle.nts_model.specs.Contents.{Content, Slot, SlotState, unset, link, know
 use Rattle.nts_model.specs.Resolving.{variable_of, number_of, Knows, KnowsLabel, IsSound}
 use Rattle.nts_model.specs.Levels.{CanName, NamesAll, region_level, level_at, level_in, IsLevelled, AreRegionsLevelled, Falls}
 use Rattle.nts_model.proofs.Under.{same_or_other}
-use Rattle.nts_model.proofs.Slots.{field_below, field-with_slot_old, some_slot}
+use Rattle.nts_model.proofs.Slots.{field_below, field-changed_kept, field-with_slot_old, some_slot}
 use Rattle.nts_model.proofs.Sound.{state_of-with_slot_new}
 use Rattle.nts_model.proofs.Binding.{Binds, IsKnowable, IsLinkable, state_of-set_same, state_of-set_other}
 use Rattle.nts_model.proofs.Solving.{universe_of-set, Lowers, state_of-lowered, universe_of-lowered_same, universe_of-lowered_other}
@@ -110,6 +110,17 @@ IsLevelled-lowered c n v b free s h =
       links = λ m k u p q. (let old : state_of c m ≡ Some (link k) = sym (state_of-lowered c n v b m) ∙ p in
           let d = other m (link k) old (λ z. cc) in
           inl (old, sym (universe_of-lowered_other c n v b m d) ∙ q));
+    }) h
+
+-- a variable gets another sub-unification class
+pub IsLevelled-sub_linked : (c : Content) (n : ℕ) (v : Slot) (b : Lowers c n v) → v.universe ≡ b.old.universe → IsSound c → IsLevelled c → IsLevelled (changed c n v)
+IsLevelled-sub_linked c n v b e s h =
+    let universes : (m : ℕ) → universe_of (changed c n v) m ≡ universe_of c m = λ m. field-changed_kept (λ x. x.universe) c n m b.old v b.was e in
+    IsLevelled-kept c (changed c n v) s
+    (record {
+      falls = Falls-lowered c n v b;
+      values = λ m u t p q. inl (sym (state_of-lowered c n v b m) ∙ p, sym (universes m) ∙ q);
+      links = λ m k u p q. inl (sym (state_of-lowered c n v b m) ∙ p, sym (universes m) ∙ q);
     }) h
 
 -- a variable gets a value that its universe names

@@ -14,8 +14,9 @@ use Rattle.nts_model.specs.Trees.{Tree, empty, more, node}
 use Rattle.nts_model.specs.Contents.{Content, Slot, SlotState, unset, link, known, Recorded, state_of, universe_of, kind_at}
 use Rattle.nts_model.specs.Resolving.{variable_of, variable_tree, infer_of, replaced, replaced_at, under, IsOneOf, kind_or_type, value_of_state, value_at, resolved, Knows, KnowsLabel, IsSound}
 use Rattle.nts_model.specs.Levels.{CanName, NamesAll, IfNamesAll, term_level, level_in, IsLevelled}
-use Rattle.nts_model.specs.Worlds.{World, renamed, inst, SolvesState, IsTrueOf, AreMet, Solves, with_tree, KnowsAll}
-use Rattle.nts_model.specs.RegionClasses.{RegionName, of_variable, of_free, region_tree, region_name, name_of_label, are_same, free_regions_are_same, collapse, root_name, equated, merged, class_of, free_of, plain_tree, plain, composed, reading, AreRegions, AllRegions}
+use Rattle.nts_model.specs.Worlds.{World, renamed, inst, SolvesState, IsTrueOf, AreMet, with_tree, KnowsAll}
+use Rattle.nts_model.specs.Regions.{RegionName, of_variable, of_free, region_tree, region_name, name_of_label}
+use Rattle.nts_model.specs.RegionClasses.{are_same, free_regions_are_same, collapse, root_name, equated, merged, class_of, free_of, plain_tree, plain, composed, reading, AreRegions, AllRegions}
 use Rattle.nts_model.proofs.Variables.{infer_label, infer_of_none, infer_of_region, infer_number_some}
 use Rattle.nts_model.proofs.Under.{eq-self, same_or_other}
 use Rattle.nts_model.proofs.Slots.{no_slot, some_slot}
@@ -152,11 +153,11 @@ collapse-one : (a b : RegionName) → collapse a b a ≡ collapse a b b
 collapse-one (of_free r) b = if_same (are_same (of_free r) b) (of_free r) ∙ rw (are_same-self b) refl
 collapse-one (of_variable n) b = rw (eq-self n) (sym (if_same (are_same b (of_variable n)) b))
 
-abbrev OneClass : (RegionName → RegionName) → Option (RegionName × RegionName) → Type 0
+abbrev pub OneClass : (RegionName → RegionName) → Option (RegionName × RegionName) → Type 0
 OneClass f None = Unit {0}
 OneClass f (Some p) = f p.0 ≡ f p.1
 
-abbrev AllOneClass : (RegionName → RegionName) → List Recorded → Type 0
+abbrev pub AllOneClass : (RegionName → RegionName) → List Recorded → Type 0
 AllOneClass f [] = Unit {0}
 AllOneClass f (x ∷ xs) = OneClass f (equated x.relation x.left x.right) × AllOneClass f xs
 
@@ -172,7 +173,7 @@ OneClass-first : (f : RegionName → RegionName) (o : Option (RegionName × Regi
 OneClass-first f None = tt
 OneClass-first f (Some p) = collapse-one (f p.0) (f p.1)
 
-AllOneClass-class_of : (c : Content) (xs : List Recorded) → AllOneClass (class_of c xs) xs
+pub AllOneClass-class_of : (c : Content) (xs : List Recorded) → AllOneClass (class_of c xs) xs
 AllOneClass-class_of c [] = tt
 AllOneClass-class_of c (x ∷ xs) = (
   OneClass-first (class_of c xs) (equated x.relation x.left x.right),
@@ -180,7 +181,7 @@ AllOneClass-class_of c (x ∷ xs) = (
 )
 
 -- a region in the table's reading
-name_label : (l : Label) (a : RegionName) → name_of_label l ≡ Some a → ((n : ℕ) × (variable_of l ≡ Some (kind.Region, n)) × (a ≡ of_variable n)) ⊎ ((r : FreeRegion) × (l ≡ label.Leaf (leaf.Region r)) × (a ≡ of_free r))
+pub name_label : (l : Label) (a : RegionName) → name_of_label l ≡ Some a → ((n : ℕ) × (variable_of l ≡ Some (kind.Region, n)) × (a ≡ of_variable n)) ⊎ ((r : FreeRegion) × (l ≡ label.Leaf (leaf.Region r)) × (a ≡ of_free r))
 name_label (label.Leaf (leaf.Variable kind.Region n)) a e = inl (n, refl, cc)
 name_label (label.Leaf (leaf.Variable kind.Ty n)) a e = cc
 name_label (label.Leaf (leaf.Variable kind.Int n)) a e = cc
@@ -199,7 +200,7 @@ name_label (label.List h) a e = cc
 region-reading : (c : Content) (n : ℕ) → (reading c).tree n ≡ inst (reading c) (variable_tree kind.Region n)
 region-reading c n = refl
 
-tree-region : (c : Content) (n : ℕ) → IsSound c → kind_at c n ≡ Some kind.Region → (reading c).tree n ≡ region_tree (classes c (of_variable n))
+pub tree-region : (c : Content) (n : ℕ) → IsSound c → kind_at c n ≡ Some kind.Region → (reading c).tree n ≡ region_tree (classes c (of_variable n))
 tree-region c n s k =
     let alone : resolved c (variable_tree kind.Region n) ≡ node (label.Leaf (leaf.Variable kind.Region n)) (resolved c empty) = resolved-node c (label.Leaf (leaf.Variable kind.Region n)) empty refl in
     let is : (plain c (classes c)).tree n ≡ region_tree (classes c (of_variable n)) = rw k refl in
@@ -232,7 +233,7 @@ reading-true c relation.RegionOutlives a b s j k h one =
 reading-true c relation.TypeOutlives a b s j k h one =
     ap (λ (f : Tree → Tree → Bool). f (inst (reading c) a) (inst (reading c) b)) (composed-outlives (plain c (classes c)) (value_at c) (reverse c.order))
 
-reading-met : (c : Content) (xs : List Recorded) → IsSound c → KnowsAll c xs → AllRegions xs → AllOneClass (classes c) xs → AreMet (reading c) xs
+pub reading-met : (c : Content) (xs : List Recorded) → IsSound c → KnowsAll c xs → AllRegions xs → AllOneClass (classes c) xs → AreMet (reading c) xs
 reading-met c [] s k h one = tt
 reading-met c (x ∷ xs) s k h one = (reading-true c x.relation x.left x.right s k.0 k.1 h.0 one.0, reading-met c xs s k.2 h.1 one.1)
 
@@ -251,7 +252,7 @@ is_region kind.Int = inr (λ e. cc)
 is_region kind.Float = inr (λ e. cc)
 is_region kind.Const = inr (λ e. cc)
 
-tree-reading : (c : Content) (n : ℕ) (k : VariableKind) → IsSound c → kind_at c n ≡ Some k → (reading c).tree n ≡ inst (plain c (classes c)) (resolved c (variable_tree k n))
+pub tree-reading : (c : Content) (n : ℕ) (k : VariableKind) → IsSound c → kind_at c n ≡ Some k → (reading c).tree n ≡ inst (plain c (classes c)) (resolved c (variable_tree k n))
 tree-reading c n k s e = inst-reading c (variable_tree k n) s (e, tt)
 
 reading-link : (c : Content) (n m : ℕ) (k : VariableKind) → IsSound c → kind_at c n ≡ Some k → state_of c n ≡ Some (link m) → (k ≡ kind.Region) ⊎ (k ≢ kind.Region) → (reading c).tree n ≡ (reading c).tree m
@@ -270,7 +271,7 @@ reading-known c n k t s h e =
     let value : resolved c (variable_tree k n) ≡ resolved c t = resolved-variable_known c (label.Leaf (leaf.Variable k n)) empty n t s (infer_number_some k n ((s.fits n t k e h).1)) e in
     tree-reading c n k s h ∙ ap (inst (plain c (classes c))) value ∙ sym (inst-reading c t s (s.known_trees n t e))
 
-reading-values : (c : Content) (n : ℕ) (o : Option SlotState) → IsSound c → state_of c n ≡ o → SolvesState (reading c) n o
+pub reading-values : (c : Content) (n : ℕ) (o : Option SlotState) → IsSound c → state_of c n ≡ o → SolvesState (reading c) n o
 reading-values c n None s e = tt
 reading-values c n (Some unset) s e = tt
 reading-values c n (Some (link m)) s e = let k = has_kind c n (link m) e in reading-link c n m k.0 s k.1 e (is_region k.0)
@@ -364,23 +365,9 @@ has_kind_of c n u e = by_case (slice_get c.slots n) refl
     by_case None q = let z : None ≡ Some u = sym (no_slot (λ v. v.universe) c n q) ∙ e in cc
     by_case (Some v) q = (v.kind, some_slot (λ v. v.kind) c n v q)
 
-reading-names : (c : Content) (n : ℕ) (o : Option ℕ) → IsSound c → IsLevelled c → universe_of c n ≡ o → IfNamesAll term_level o ((reading c).tree n)
+pub reading-names : (c : Content) (n : ℕ) (o : Option ℕ) → IsSound c → IsLevelled c → universe_of c n ≡ o → IfNamesAll term_level o ((reading c).tree n)
 reading-names c n None s h e = tt
 reading-names c n (Some u) s h e =
     let k = has_kind_of c n u e in
     let start : NamesAll (level_in c) u (variable_tree k.0 n) = (rw e (omega arith), tt) in
     rw (tree-reading c n k.0 s k.1) (names-plain c (classes c) u (resolved c (variable_tree k.0 n)) (NamesAll-resolved c u (variable_tree k.0 n) h start))
-
--- the table has a solution, up to the universes of regions
-pub reading-solves : (c : Content) → IsSound c → IsLevelled c → KnowsAll c c.constraints → AllRegions c.constraints → Solves c (reading c)
-reading-solves c s h k r =
-    record {
-      values = λ n. reading-values c n (state_of c n) s refl;
-      constraints = reading-met c c.constraints s k r (AllOneClass-class_of c c.constraints);
-      nameable = record { each = λ n. reading-names c n (universe_of c n) s h refl };
-    }
-
--- trees that are one in each world that solves the table are one when resolved, up to the classes of regions
-pub resolved-one : (c : Content) (a b : Tree) → IsSound c → IsLevelled c → KnowsAll c c.constraints → AllRegions c.constraints → Knows c a → Knows c b → ((w : World) → Solves c w → inst w a ≡ inst w b) → inst (plain c (classes c)) (resolved c a) ≡ inst (plain c (classes c)) (resolved c b)
-resolved-one c a b s h k r x y e =
-    sym (inst-reading c a s x) ∙ e (reading c) (reading-solves c s h k r) ∙ inst-reading c b s y

@@ -13,7 +13,8 @@ use Rattle.nts_model.specs.declared.labels.Label.TheVariants as label
 use Rattle.nts_model.specs.Trees.{Tree, empty, more, node, NodeKind, kind_of, of_sort, kind_of_label, IsBoundBelow, IsClosed, in_order, Meets, IsFormed, shape, any_label, is_canonical}
 use Rattle.nts_model.specs.Contents.{Content, Recorded}
 use Rattle.nts_model.specs.Resolving.{IsSound}
-use Rattle.nts_model.specs.RegionClasses.{RegionName, of_variable, of_free, region_name, name_of_label, are_same, free_regions_are_same, collapse, root_name, equated, merged, class_of, Joined, one_root, recorded, later, back, next}
+use Rattle.nts_model.specs.Regions.{RegionName, of_variable, of_free, region_name, name_of_label}
+use Rattle.nts_model.specs.RegionClasses.{are_same, free_regions_are_same, collapse, root_name, equated, merged, class_of, Joined, one_root, recorded, later, back, next}
 use Rattle.nts_model.proofs.Roots.{root_of-root_of}
 use Rattle.nts_model.proofs.Readings.{classes}
 

@@ -212,7 +212,7 @@ row_take-more (suc i) (more a b) h =
     rw e (ap (more a) (row_take-more i b (omega arith)))
 row_take-more i (node l c) h = absurd (omega arith)
 
-IsRow-row_take : (i : ℕ) (r : Tree) → IsRow (row_take i r)
+pub IsRow-row_take : (i : ℕ) (r : Tree) → IsRow (row_take i r)
 IsRow-row_take zero r = tt
 IsRow-row_take (suc i) empty = tt
 IsRow-row_take (suc i) (more a b) = IsRow-row_take i b

@@ -6,7 +6,7 @@ use Rattle.nts_model.specs.Trees.{Tree, empty, more, node}
 use Rattle.nts_model.specs.Contents.{Content, Slot, SlotState, unset, link, known, Recorded, state_of, universe_of, kind_at, with_slot, changed, bound_to, with_constraint, in_universe}
 use Rattle.nts_model.specs.Resolving.{IsSound}
 use Rattle.nts_model.specs.Levels.{CanName, NamesAll, IfNamesAll, term_level}
-use Rattle.nts_model.specs.Worlds.{World, inst, SolvesState, IsMet, IsNameable, Solves, Agrees, with_tree, KnowsAll}
+use Rattle.nts_model.specs.Worlds.{World, inst, SolvesState, IsMet, IsNameable, IsValue, IsFitting, Solves, Agrees, with_tree, KnowsAll}
 use Rattle.nts_model.proofs.Under.{same_or_other}
 use Rattle.nts_model.proofs.Slots.{no_slot, some_slot, slice_get_length, slice_get_below, field_below, field-changed_same, field-changed_other, field-changed_kept, field-with_slot_new, field-with_slot_old}
 use Rattle.nts_model.proofs.Binding.{Binds, Binds-unset, IsKnowable, IsLinkable, state_of-set_same, state_of-set_other}
@@ -30,19 +30,19 @@ NamesAll-either f a b u t (inr e) h k = rw e k
 -- a constraint
 pub Solves-with_constraint : (c : Content) (x : Recorded) (w : World) → Solves c w → IsMet w x → Solves (with_constraint c x) w
 Solves-with_constraint c x w s h =
-    record { values = s.values; constraints = AreMet-push w c.constraints x s.constraints h; nameable = record { each = s.nameable.each } }
+    record { values = s.values; constraints = AreMet-push w c.constraints x s.constraints h; nameable = record { each = s.nameable.each }; fitting = record { each = s.fitting.each } }
 
 pub Solves-from_with_constraint : (c : Content) (x : Recorded) (w : World) → Solves (with_constraint c x) w → Solves c w × IsMet w x
 Solves-from_with_constraint c x w s =
     let h = AreMet-front w c.constraints x s.constraints in
-    (record { values = s.values; constraints = h.0; nameable = record { each = s.nameable.each } }, h.1)
+    (record { values = s.values; constraints = h.0; nameable = record { each = s.nameable.each }; fitting = record { each = s.fitting.each } }, h.1)
 
 -- a move to another universe
 pub Solves-in_universe : (c : Content) (u : ℕ) (w : World) → Solves c w → Solves (in_universe c u) w
-Solves-in_universe c u w s = record { values = s.values; constraints = s.constraints; nameable = record { each = s.nameable.each } }
+Solves-in_universe c u w s = record { values = s.values; constraints = s.constraints; nameable = record { each = s.nameable.each }; fitting = record { each = s.fitting.each } }
 
 pub Solves-from_in_universe : (c : Content) (u : ℕ) (w : World) → Solves (in_universe c u) w → Solves c w
-Solves-from_in_universe c u w s = record { values = s.values; constraints = s.constraints; nameable = record { each = s.nameable.each } }
+Solves-from_in_universe c u w s = record { values = s.values; constraints = s.constraints; nameable = record { each = s.nameable.each }; fitting = record { each = s.fitting.each } }
 
 -- an unset variable that gets a value or a link
 module _ (c : Content) (n : ℕ) (v : Slot) (b : Binds c n v) (same_universe : v.universe ≡ b.old.universe) where
@@ -55,6 +55,9 @@ module _ (c : Content) (n : ℕ) (v : Slot) (b : Binds c n v) (same_universe : v
   pub IsNameable-from_set : (f : Label → Option ℕ) (w : World) → IsNameable f (changed c n v) w → IsNameable f c w
   IsNameable-from_set f w h = record { each = λ m. (let e = universe_of-set m in rw e at (h.each m)) }
 
+  kind_of-set : (m : ℕ) → kind_at (changed c n v) m ≡ kind_at c m
+  kind_of-set m = field-changed_kept (λ x. x.kind) c n m b.old v b.was b.same_kind
+
   pub Solves-set : (w : World) → Solves c w → SolvesState w n (Some v.state) → Solves (changed c n v) w
   Solves-set w s h =
       record {
@@ -63,6 +66,7 @@ module _ (c : Content) (n : ℕ) (v : Slot) (b : Binds c n v) (same_universe : v
             (λ (d : m ≡ n → ⊥). rw (state_of-set_other c n v b m d) (s.values m)) (same_or_other m n);
         constraints = s.constraints;
         nameable = IsNameable-set term_level w s.nameable;
+        fitting = record { each = λ m k e. s.fitting.each m k (sym (kind_of-set m) ∙ e) };
       }
 
   pub Solves-from_set : (w : World) → Solves (changed c n v) w → Solves c w × SolvesState w n (Some v.state)
@@ -73,6 +77,7 @@ module _ (c : Content) (n : ℕ) (v : Slot) (b : Binds c n v) (same_universe : v
           (λ (d : m ≡ n → ⊥). (let q = state_of-set_other c n v b m d in rw q at (s.values m))) (same_or_other m n);
       constraints = s.constraints;
       nameable = IsNameable-from_set term_level w s.nameable;
+      fitting = record { each = λ m k e. s.fitting.each m k (kind_of-set m ∙ e) };
     },
     (let q = state_of-set_same c n v b in rw q at (s.values n)),
   )
@@ -81,11 +86,11 @@ module _ (c : Content) (n : ℕ) (v : Slot) (b : Binds c n v) (same_universe : v
   pub Solves-bound_to : (w : World) → Solves c w → SolvesState w n (Some v.state) → Solves (bound_to c n v) w
   Solves-bound_to w s h =
       let z = Solves-set w s h in
-      record { values = z.values; constraints = z.constraints; nameable = record { each = z.nameable.each } }
+      record { values = z.values; constraints = z.constraints; nameable = record { each = z.nameable.each }; fitting = record { each = z.fitting.each } }
 
   pub Solves-from_bound_to : (w : World) → Solves (bound_to c n v) w → Solves c w × SolvesState w n (Some v.state)
   Solves-from_bound_to w s =
-      Solves-from_set w (record { values = s.values; constraints = s.constraints; nameable = record { each = s.nameable.each } })
+      Solves-from_set w (record { values = s.values; constraints = s.constraints; nameable = record { each = s.nameable.each }; fitting = record { each = s.fitting.each } })
 
 -- .. a value
 pub Solves-known : (c : Content) (n : ℕ) (v : Slot) (t : Tree) (b : IsKnowable c n v t) → v.universe ≡ b.binds.old.universe → (w : World) → Solves c w → w.tree n ≡ inst w t → Solves (bound_to c n v) w
@@ -163,6 +168,7 @@ module _ (c : Content) (n : ℕ) (v : Slot) (b : Lowers c n v) where
         values = λ m. rw (state_of-lowered m) (s.values m);
         constraints = s.constraints;
         nameable = IsNameable-lowered term_level w s.nameable h;
+        fitting = record { each = λ m k e. s.fitting.each m k (sym (kind_at-lowered m) ∙ e) };
       }
 
   pub Solves-from_lowered : (w : World) → Solves (changed c n v) w → Solves c w × NamesAll term_level v.universe (w.tree n)
@@ -172,6 +178,7 @@ module _ (c : Content) (n : ℕ) (v : Slot) (b : Lowers c n v) where
           values = λ m. (let q = state_of-lowered m in rw q at (s.values m));
           constraints = s.constraints;
           nameable = names.0;
+          fitting = record { each = λ m k e. s.fitting.each m k (kind_at-lowered m ∙ e) };
         },
         names.1,
       )
@@ -210,6 +217,27 @@ module _ (c : Content) (v : Slot) (free : v.state ≡ unset) where
         (λ (d : m ≡ length c.slots → ⊥). (let p = universe_of-grown m d in rw p at (h.each m))) (same_or_other m (length c.slots));
   }
 
+  kind_at-grown : (m : ℕ) → (m ≡ length c.slots → ⊥) → kind_at (with_slot c v) m ≡ kind_at c m
+  kind_at-grown m d = field-with_slot_old (λ x. x.kind) c v m d
+
+  kind_at-new : kind_at (with_slot c v) (length c.slots) ≡ Some v.kind
+  kind_at-new = field-with_slot_new (λ x. x.kind) c v
+
+  pub IsFitting-with_slot : (w : World) → IsFitting c w → IsValue v.kind (w.tree (length c.slots)) → IsFitting (with_slot c v) w
+  IsFitting-with_slot w h new = record {
+    each = λ m k e. ⊎_elim
+        (λ (q : m ≡ length c.slots).
+        let z : Some v.kind ≡ Some k = sym kind_at-new ∙ ap (kind_at (with_slot c v)) (sym q) ∙ e in
+        let same : v.kind ≡ k = cc in rw (q, ← same) new)
+        (λ (d : m ≡ length c.slots → ⊥). h.each m k (sym (kind_at-grown m d) ∙ e)) (same_or_other m (length c.slots));
+  }
+
+  pub IsFitting-from_with_slot : (w : World) → IsFitting (with_slot c v) w → IsFitting c w
+  IsFitting-from_with_slot w h = record {
+    each = λ m k e. (let below : m < length c.slots = field_below (λ x. x.kind) c m k e in
+        h.each m k (kind_at-grown m (λ q. omega (arith, q, below)) ∙ e));
+  }
+
   pub Solves-from_with_slot : (w : World) → Solves (with_slot c v) w → Solves c w
   Solves-from_with_slot w s =
       record {
@@ -218,16 +246,18 @@ module _ (c : Content) (v : Slot) (free : v.state ≡ unset) where
             (λ (d : m ≡ length c.slots → ⊥). (let p = state_of-grown m d in rw p at (s.values m))) (same_or_other m (length c.slots));
         constraints = s.constraints;
         nameable = IsNameable-from_with_slot term_level w s.nameable;
+        fitting = IsFitting-from_with_slot w s.fitting;
       }
 
-  pub Solves-with_slot_same : (w : World) → Solves c w → NamesAll term_level v.universe (w.tree (length c.slots)) → Solves (with_slot c v) w
-  Solves-with_slot_same w s h =
+  pub Solves-with_slot_same : (w : World) → Solves c w → NamesAll term_level v.universe (w.tree (length c.slots)) → IsValue v.kind (w.tree (length c.slots)) → Solves (with_slot c v) w
+  Solves-with_slot_same w s h new =
       record {
         values = λ m. ⊎_elim
             (λ (e : m ≡ length c.slots). rw (e, state_of-new) tt)
             (λ (d : m ≡ length c.slots → ⊥). rw (state_of-grown m d) (s.values m)) (same_or_other m (length c.slots));
         constraints = s.constraints;
         nameable = IsNameable-with_slot term_level w s.nameable h;
+        fitting = IsFitting-with_slot w s.fitting new;
       }
 
 -- the worlds of a table speak of its own variables alone
@@ -253,17 +283,21 @@ IfNamesAll-agrees f c w v n (Some u) a e h = rw (a.trees n (field_below (λ x. x
 pub IsNameable-agrees : (f : Label → Option ℕ) (c : Content) (w v : World) → Agrees (length c.slots) w v → IsNameable f c w → IsNameable f c v
 IsNameable-agrees f c w v a h = record { each = λ n. IfNamesAll-agrees f c w v n (universe_of c n) a refl (h.each n) }
 
+IsFitting-agrees : (c : Content) (w v : World) → Agrees (length c.slots) w v → IsFitting c w → IsFitting c v
+IsFitting-agrees c w v a h = record { each = λ n k e. (let below : n < length c.slots = field_below (λ x. x.kind) c n k e in rw (a.trees n below) (h.each n k e)) }
+
 pub Solves-agrees : (c : Content) (w v : World) → IsSound c → KnowsAll c c.constraints → Agrees (length c.slots) w v → Solves c w → Solves c v
 Solves-agrees c w v s k a h =
     record {
       values = λ n. SolvesState-agrees c w v n (state_of c n) s a refl (h.values n);
       constraints = AreMet-agrees c w v c.constraints a k h.constraints;
       nameable = IsNameable-agrees term_level c w v a h.nameable;
+      fitting = IsFitting-agrees c w v a h.fitting;
     }
 
--- a new variable may stand for any tree that its universe names
-pub Solves-with_slot : (c : Content) (v : Slot) → v.state ≡ unset → IsSound c → KnowsAll c c.constraints → (w : World) (t : Tree) → Solves c w → NamesAll term_level v.universe t → Solves (with_slot c v) (with_tree w (length c.slots) t)
-Solves-with_slot c v free s k w t h names =
+-- a new variable may stand for each closed tree of its kind that its universe names
+pub Solves-with_slot : (c : Content) (v : Slot) → v.state ≡ unset → IsSound c → KnowsAll c c.constraints → (w : World) (t : Tree) → Solves c w → NamesAll term_level v.universe t → IsValue v.kind t → Solves (with_slot c v) (with_tree w (length c.slots) t)
+Solves-with_slot c v free s k w t h names new =
     Solves-with_slot_same c v free (with_tree w (length c.slots) t)
     (Solves-agrees c w (with_tree w (length c.slots) t) s k (Agrees-with_tree (length c.slots) (length c.slots) w t (omega arith)) h)
-    (rw (tree-with_tree w (length c.slots) t) names)
+    (rw (tree-with_tree w (length c.slots) t) names) (rw (tree-with_tree w (length c.slots) t) new)

@@ -2,21 +2,30 @@
 use Rattle.std.specs.Prelude.{◌≡◌, ◌⊎◌, ℕ, ◌<◌, Bool, true, ◌==◌, if◌then◌else◌, List, [], ◌∷◌, Option, Some, None}
 use Rattle.nts_model.specs.declared.labels.Relation.{Relation}
 use Rattle.nts_model.specs.declared.labels.Relation.TheVariants as relation
+use Rattle.nts_model.specs.declared.labels.VariableKind.{VariableKind}
 use Rattle.nts_model.specs.declared.labels.FreeRegion.{FreeRegion}
+use Rattle.nts_model.specs.declared.labels.FreeRegion.TheVariants as region
 use Rattle.nts_model.specs.declared.labels.Leaf.{Leaf}
 use Rattle.nts_model.specs.declared.labels.Leaf.TheVariants as leaf
 use Rattle.nts_model.specs.declared.labels.Label.{Label}
 use Rattle.nts_model.specs.declared.labels.Label.TheVariants as label
-use Rattle.nts_model.specs.Trees.{Tree, empty, more, node}
-use Rattle.nts_model.specs.Contents.{Content, SlotState, unset, link, known, Recorded, state_of, universe_of}
+use Rattle.nts_model.specs.Trees.{Tree, empty, more, node, IsClosed}
+use Rattle.nts_model.specs.Contents.{Content, SlotState, unset, link, known, Recorded, state_of, universe_of, kind_at}
 use Rattle.nts_model.specs.Resolving.{variable_of, number_of, Knows}
 use Rattle.nts_model.specs.Levels.{term_level, region_level, IfNamesAll}
+use Rattle.nts_model.specs.Fitting.{Fits}
 
 -- a tree for each variable, a region for each free region, and which types and regions outlive which regions
 pub record World : Type 0 where
   pub tree : ℕ → Tree
   pub region : FreeRegion → FreeRegion
   pub outlives : Tree → Tree → Bool
+
+-- 'static, the erased and the error region stand for themselves
+pub record KeepsFixedRegions (w : World) : Type 0 where
+  pub static : w.region region.Static ≡ region.Static
+  pub erased : w.region region.Erased ≡ region.Erased
+  pub error : w.region region.Error ≡ region.Error
 
 -- a free region is renamed
 abbrev pub renamed_leaf : World → Leaf → Leaf
@@ -61,11 +70,21 @@ AreMet w (x ∷ xs) = IsMet w x × AreMet w xs
 pub record IsNameable (f : Label → Option ℕ) (c : Content) (w : World) : Type 0 where
   pub each : (n : ℕ) → IfNamesAll f (universe_of c n) (w.tree n)
 
--- the world makes true what the table says, and its trees are nameable but for their regions
+-- a closed tree that a variable of the kind may stand for
+pub record IsValue (k : VariableKind) (t : Tree) : Type 0 where
+  pub fits : Fits k t
+  pub closed : IsClosed t
+
+-- each variable of the table has such a tree
+pub record IsFitting (c : Content) (w : World) : Type 0 where
+  pub each : (n : ℕ) (k : VariableKind) → kind_at c n ≡ Some k → IsValue k (w.tree n)
+
+-- the world makes true what the table says, and its trees fit their variables and are nameable but for their regions
 pub record Solves (c : Content) (w : World) : Type 0 where
   pub values : (n : ℕ) → SolvesState w n (state_of c n)
   pub constraints : AreMet w c.constraints
   pub nameable : IsNameable term_level c w
+  pub fitting : IsFitting c w
 
 abbrev pub RegionsNameable : Content → World → Type 0
 RegionsNameable = IsNameable region_level
