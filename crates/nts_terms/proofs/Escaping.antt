@@ -9,7 +9,7 @@ use Rattle.nts_model.specs.Trees.{Tree, empty, more, node, binders, IsBoundBelow
 use Rattle.nts_terms.specs.Facts.{higher, past_binders, level_of, escaping}
 
 -- no level, or one below
-abbrev IsBelow : ℕ → Option ℕ → Type 0
+abbrev pub IsBelow : ℕ → Option ℕ → Type 0
 IsBelow c None = Unit {0}
 IsBelow c (Some d) = d < c
 

@@ -6,7 +6,7 @@ use Rattle.nts_model.specs.declared.labels.BoundIndex.TheVariants as index
 use Rattle.nts_model.specs.Trees.{Tree, empty, more, node, any_label, is_canonical}
 use Rattle.nts_terms.specs.declared.facts.Facts.{Facts}
 use Rattle.nts_terms.specs.Facts.{facts_of}
-use Rattle.nts_terms.specs.Filled.{position_of, filled}
+use Rattle.nts_model.specs.Handlers.{position_of, filled}
 
 both_false : (p q : Bool) → (p || q) ≡ false → (p ≡ false) × (q ≡ false)
 both_false true q h = cc

@@ -1,6 +1,6 @@
 pub mod Growing
 pub mod Equal
-pub mod Stored
+pub mod Inserting
 pub mod Reading
 pub mod Places
 pub mod Moved
@@ -12,3 +12,4 @@ pub mod Sorted
 pub mod Nested
 pub mod StillDeclared
 pub mod Pending
+pub mod Forming

@@ -1,24 +1,8 @@
--- Values in place of bound variables that are positions of a canonical value.
+-- When values may stand in place of the positions of a canonical value.
 use Rattle.std.specs.Prelude.{◌≡◌, ℕ, ◌<◌, List, length, get_or, Option, Some, None, refl}
 use Rattle.nts_model.specs.declared.labels.Label.{Label}
-use Rattle.nts_model.specs.declared.labels.Label.TheVariants as label
-use Rattle.nts_model.specs.declared.labels.BoundIndex.TheVariants as index
+use Rattle.nts_model.specs.Handlers.{position_of, value_or, filled}
 use Rattle.nts_model.specs.Trees.{Tree, empty, more, node, kind_of, kind_of_label}
-
--- the position that a label names
-abbrev pub position_of : Label → Option ℕ
-position_of (label.Bound s index.Canonical i) = Some i
-position_of l = None
-
--- the value at a position if there is one, and otherwise the tree
-abbrev pub value_or : Option ℕ → List Tree → Tree → Tree
-value_or None values t = t
-value_or (Some i) values t = get_or values i empty
-
-abbrev pub filled : List Tree → Tree → Tree
-filled values empty = empty
-filled values (more a b) = more (filled values a) (filled values b)
-filled values (node l c) = value_or (position_of l) values (node l (filled values c))
 
 -- a position has a value of the variable's sort
 abbrev pub HasValue : Option ℕ → List Tree → Label → Type 0

@@ -29,3 +29,7 @@ AllBelow n (c ∷ cs) = (c.number < n) × AllBelow n cs
 pub record Extends (old new : List Tree) : Type 0 where
   pub longer : length old ≤ length new
   pub kept : (t : NodeId) → IsIn old t → tree_at new t ≡ tree_at old t
+
+-- no tree stands twice
+abbrev pub AreApart : List Tree → Type 0
+AreApart ts = (i j : ℕ) → i < length ts → j < length ts → get_or ts i empty ≡ get_or ts j empty → i ≡ j

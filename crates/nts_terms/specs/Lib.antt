@@ -11,3 +11,4 @@ pub mod Rest
 pub mod Replacement
 pub mod Kept
 pub mod Filled
+pub mod Formed

@@ -1,9 +1,9 @@
 -- What the nodes of a store stand for.
-use Rattle.std.specs.Prelude.{◌≡◌, ℕ, ◌<◌, List, [], ◌∷◌, ◌++◌, length, get_or}
-use Rattle.nts_model.specs.Trees.{Tree, empty, node, shape, Meets}
+use Rattle.std.specs.Prelude.{◌≡◌, List, [], ◌∷◌, ◌++◌}
+use Rattle.nts_model.specs.Trees.{Tree, node, shape, Meets}
 use Rattle.nts_terms.specs.declared.nodes.Node.{Node}
 use Rattle.nts_terms.specs.Facts.{facts_of}
-use Rattle.nts_terms.specs.Growth.{trees_at, AllIn}
+use Rattle.nts_terms.specs.Growth.{trees_at, AllIn, AreApart}
 
 abbrev pub tree_of_node : List Tree → Node → Tree
 tree_of_node ts n = node n.label (trees_at ts n.children.items)
@@ -26,10 +26,6 @@ pub record IsNode (ts : List Tree) (n : Node) : Type 0 where
 abbrev pub IsGrown : List Tree → List Node → Type 0
 IsGrown ts [] = Unit {0}
 IsGrown ts (n ∷ ns) = IsNode ts n × IsGrown (ts ++ tree_of_node ts n ∷ []) ns
-
--- no tree stands twice
-abbrev pub AreApart : List Tree → Type 0
-AreApart ts = (i j : ℕ) → i < length ts → j < length ts → get_or ts i empty ≡ get_or ts j empty → i ≡ j
 
 pub record IsShared (ns : List Node) : Type 0 where
   pub ordered : IsGrown [] ns

@@ -77,7 +77,7 @@ impl Declarations {
     ghost use Rattle.nts_terms.specs.Signatures.{nothing_declared, with_ctor, with_trait, with_alias, sorts_of};
 
     /// Nothing declared. It takes no memory.
-    pub fn new(alloc: Global) -> Self
+    pub(crate) fn new(alloc: Global) -> Self
         ensures { result ≡ nothing_declared }
     {
         Declarations {
@@ -89,7 +89,11 @@ impl Declarations {
     }
 
     /// A new constructor, which takes arguments of these sorts.
-    pub fn declare_ctor(&mut self, sorts: &[Sort], variances: &[Variance]) -> Result<CtorId, Fault>
+    pub(crate) fn declare_ctor(
+        &mut self,
+        sorts: &[Sort],
+        variances: &[Variance],
+    ) -> Result<CtorId, Fault>
         requires { length sorts.now ≡ length variances.now }
         ensures number { IfOk result (λ c. c.number ≡ length self.old.ctors) }
         ensures declared { OnOk result (self.new ≡ with_ctor self.old sorts.now variances.now) }
@@ -104,7 +108,7 @@ impl Declarations {
     }
 
     /// A new trait, which takes arguments of these sorts.
-    pub fn declare_trait(&mut self, sorts: &[Sort]) -> Result<TraitId, Fault>
+    pub(crate) fn declare_trait(&mut self, sorts: &[Sort]) -> Result<TraitId, Fault>
         ensures number { IfOk result (λ t. t.number ≡ length self.old.traits) }
         ensures declared { OnOk result (self.new ≡ with_trait self.old sorts.now) }
         ensures err { OnErr result (self.new ≡ self.old) }
@@ -117,7 +121,11 @@ impl Declarations {
     }
 
     /// A new alias, which takes arguments of these sorts.
-    pub fn declare_alias(&mut self, sorts: &[Sort], kind: AliasKind) -> Result<AliasId, Fault>
+    pub(crate) fn declare_alias(
+        &mut self,
+        sorts: &[Sort],
+        kind: AliasKind,
+    ) -> Result<AliasId, Fault>
         ensures number { IfOk result (λ a. a.number ≡ length self.old.aliases) }
         ensures declared { OnOk result (self.new ≡ with_alias self.old sorts.now kind) }
         ensures err { OnErr result (self.new ≡ self.old) }

@@ -26,7 +26,7 @@ pub struct Facts {
 
 impl Facts {
     /// What is known of no tree at all.
-    pub fn new() -> Facts
+    pub(crate) fn new() -> Facts
         ensures { result ≡ no_facts }
     {
         Facts {
@@ -40,7 +40,7 @@ impl Facts {
     }
 
     /// What is known of two trees together.
-    pub fn join(self, other: Facts) -> Facts
+    pub(crate) fn join(self, other: Facts) -> Facts
         ensures { result ≡ joined self other }
     {
         Facts {
@@ -54,7 +54,7 @@ impl Facts {
     }
 
     /// What is known of a node with this label, where this is what is known of its children.
-    pub fn under(self, label: Label) -> Facts
+    pub(crate) fn under(self, label: Label) -> Facts
         ensures { result ≡ labelled label self }
     {
         Facts {

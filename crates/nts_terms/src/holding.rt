@@ -23,6 +23,10 @@ pub trait Stored: Copy {
     fn node(self) -> NodeId
         ensures { result ≡ id self };
 
+    /// The handle of a number. It stands for something only where the number's node is of the kind.
+    fn from_node(node: NodeId) -> Self
+        ensures { id result ≡ node };
+
     /// Whether a node with this label is what such a handle stands for.
     fn may_have(label: Label) -> bool
         ensures { IsTrue result ↔ FitsPlace place (Some (kind_of_label label)) };
@@ -35,6 +39,10 @@ impl Stored for Ty {
 
     fn node(self) -> NodeId {
         self.node
+    }
+
+    fn from_node(node: NodeId) -> Ty {
+        Ty { node }
     }
 
     #[tactic(auto, using(crate::proofs::Places::sort_tests))]
@@ -52,6 +60,10 @@ impl Stored for Region {
         self.node
     }
 
+    fn from_node(node: NodeId) -> Region {
+        Region { node }
+    }
+
     #[tactic(auto, using(crate::proofs::Places::sort_tests))]
     fn may_have(label: Label) -> bool {
         matches!(sort_of(label), Some(Sort::Region))
@@ -65,6 +77,10 @@ impl Stored for Const {
 
     fn node(self) -> NodeId {
         self.node
+    }
+
+    fn from_node(node: NodeId) -> Const {
+        Const { node }
     }
 
     #[tactic(auto, using(crate::proofs::Places::sort_tests))]
@@ -82,6 +98,10 @@ impl Stored for Term {
         self.node
     }
 
+    fn from_node(node: NodeId) -> Term {
+        Term { node }
+    }
+
     #[tactic(auto, using(crate::proofs::Places::sort_tests))]
     fn may_have(label: Label) -> bool {
         matches!(sort_of(label), Some(Sort::Ty | Sort::Const))
@@ -95,6 +115,10 @@ impl Stored for GenericArg {
 
     fn node(self) -> NodeId {
         self.node
+    }
+
+    fn from_node(node: NodeId) -> GenericArg {
+        GenericArg { node }
     }
 
     #[tactic(auto, using(crate::proofs::Places::sort_tests))]
@@ -112,6 +136,10 @@ impl Stored for GenericArgs {
         self.node
     }
 
+    fn from_node(node: NodeId) -> GenericArgs {
+        GenericArgs { node }
+    }
+
     #[tactic(auto, using(crate::proofs::Places::list_tests))]
     fn may_have(label: Label) -> bool {
         matches!(label, Label::List(ListHead::Args))
@@ -125,6 +153,10 @@ impl Stored for Predicate {
 
     fn node(self) -> NodeId {
         self.node
+    }
+
+    fn from_node(node: NodeId) -> Predicate {
+        Predicate { node }
     }
 
     #[tactic(auto, using(crate::proofs::Places::list_tests))]
@@ -142,6 +174,10 @@ impl Stored for ParamEnv {
         self.node
     }
 
+    fn from_node(node: NodeId) -> ParamEnv {
+        ParamEnv { node }
+    }
+
     #[tactic(auto, using(crate::proofs::Places::list_tests))]
     fn may_have(label: Label) -> bool {
         matches!(label, Label::List(ListHead::Env))
@@ -155,6 +191,10 @@ impl Stored for BoundVars {
 
     fn node(self) -> NodeId {
         self.node
+    }
+
+    fn from_node(node: NodeId) -> BoundVars {
+        BoundVars { node }
     }
 
     #[tactic(auto, using(crate::proofs::Places::list_tests))]

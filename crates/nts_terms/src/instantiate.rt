@@ -3,7 +3,8 @@ ghost use Rattle.std.specs.Prelude.{◌≡◌, List, map, IfOk, refl};
 ghost use Rattle.nts_model.specs.Trees.{Tree};
 ghost use Rattle.nts_terms.specs.Growth.{tree_at, IsIn, AllIn, Extends};
 ghost use Rattle.nts_terms.specs.Kept.{AllIn-kept, map-kept};
-ghost use Rattle.nts_terms.specs.Filled.{filled, HasValues, kind_of-filled};
+ghost use Rattle.nts_terms.specs.Filled.{HasValues, kind_of-filled};
+ghost use Rattle.nts_model.specs.Handlers.{filled};
 
 use crate::nodes::{NodeId, Nodes};
 use crate::replacement::{Replacer, Step, replace};

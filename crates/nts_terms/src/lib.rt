@@ -39,6 +39,7 @@ pub use handles::{
     FnSig, GenericArg, GenericArgs, Goal, ParamEnv, PlaceholderConst, PlaceholderRegion,
     PlaceholderType, Predicate, Region, Term, TraitId, TraitRef, Ty,
 };
+pub use holding::Stored;
 pub use instantiate::instantiate_canonical;
 pub use kinds::{
     ClauseKind, ConstKind, GenericArgKind, InferTy, PredicateKind, RegionKind, TermKind, TyKind,
@@ -46,4 +47,7 @@ pub use kinds::{
 pub use labels_walk::{LabelTest, all_labels};
 pub use nodes::{NodeId, Nodes};
 pub use replacement::{Replacer, Step, replace};
-pub use sources::{GoalSource, HasChanged, PathKind, RerunCondition, Span, TypingMode};
+pub use sources::{
+    GoalSource, HasChanged, PathKind, RerunCondition, Span, TypingMode, UniverseIndex,
+    VisibleForLeakCheck,
+};

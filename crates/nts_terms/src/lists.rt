@@ -85,7 +85,8 @@ impl GenericArgs {
         ensures count { result ≡ row_length (children (tree_at cx.now.nodes self.node)) }
         ensures row { IsRow (children (tree_at cx.now.nodes self.node)) }
     {
-        cx.nodes.child_count(self.node)
+        let args = self.node;
+        cx.nodes.child_count(args)
     }
 
     /// The argument at a position.
@@ -109,7 +110,8 @@ impl ParamEnv {
         ensures count { result ≡ row_length (children (tree_at cx.now.nodes self.node)) }
         ensures row { IsRow (children (tree_at cx.now.nodes self.node)) }
     {
-        cx.nodes.child_count(self.node)
+        let env = self.node;
+        cx.nodes.child_count(env)
     }
 
     /// The predicate at a position.
@@ -133,7 +135,8 @@ impl BoundVars {
         ensures count { result ≡ row_length (children (tree_at cx.now.nodes self.node)) }
         ensures row { IsRow (children (tree_at cx.now.nodes self.node)) }
     {
-        cx.nodes.child_count(self.node)
+        let vars = self.node;
+        cx.nodes.child_count(vars)
     }
 
     /// The sort of the variable at a position.

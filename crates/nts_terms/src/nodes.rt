@@ -1,7 +1,8 @@
 //! The store of nodes.
 ghost use Rattle.std.specs.Prelude.{◌≡◌, ◌↔◌, ◌<◌, ◌+◌, ◌++◌, ◌∷◌, [], length, drop, IsTrue, OnOk, OnErr, IfOk, Some, Option};
 ghost use Rattle.nts_model.specs.Trees.{Tree, node, empty, more, label_of, children, row_length, row_at, IsRow, shape, Meets};
-ghost use Rattle.nts_terms.specs.Growth.{tree_at, trees_at, IsIn, AllIn, AllBelow, Extends};
+ghost use Rattle.nts_terms.specs.Growth.{tree_at, trees_at, IsIn, AllIn, AllBelow, Extends, AreApart};
+ghost use Rattle.nts_terms.specs.Formed.{AreFormed};
 ghost use Rattle.nts_terms.specs.Facts.{facts_of};
 ghost use Rattle.nts_terms.specs.Handles.{ChildrenFit};
 
@@ -58,6 +59,16 @@ impl Nodes {
             alloc,
             nodes: IndexSet::new(alloc),
         }
+    }
+
+    /// How many terms the store has. No two of them have equal trees, and in each tree the nodes have
+    /// the children of their labels.
+    pub fn len(&self) -> usize
+        ensures count { result ≡ length self.now }
+        ensures apart { AreApart self.now }
+        ensures formed { AreFormed self.now }
+    {
+        self.nodes.len()
     }
 
     /// The term with that label and these children. Every older term keeps its tree.
@@ -158,6 +169,6 @@ impl Nodes {
     pub fn contains(&self, t: NodeId) -> bool
         ensures { IsTrue result ↔ IsIn self.now t }
     {
-        t.number < self.nodes.len()
+        t.number < self.len()
     }
 }

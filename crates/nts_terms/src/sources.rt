@@ -59,8 +59,16 @@ pub enum RerunCondition {
     Always,
 }
 
+/// Whether the leak check sees a region constraint.
+#[derive(Clone, Copy, PartialEq, Eq)]
+pub enum VisibleForLeakCheck {
+    Yes,
+    No,
+}
+
 /// A place in the user's text, which is passed through and has no meaning.
 #[derive(Clone, Copy, PartialEq, Eq)]
-pub struct Span {
-    pub number: u64,
-}
+pub struct Span(pub u64);
+
+/// A universe by its number. The root is 0, and a universe can name each one up to itself.
+pub type UniverseIndex = u32;

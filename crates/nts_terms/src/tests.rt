@@ -1,8 +1,10 @@
 use crate::{
-    AliasKind, AliasTerm, Binder, BoundRegion, BoundTy, ClauseKind, ConstKind, Cx, DefId, FnSig,
-    GenericArgKind, PlaceholderRegion, PredicateKind, RegionKind, Term, TermKind, TraitRef, TyKind,
+    AliasKind, AliasTerm, Binder, BoundRegion, BoundTy, Certainty, ClauseKind, ConstKind, Cx,
+    DefId, EvalError, Fault, FnSig, GenericArg, GenericArgKind, MaybeCause, MaybeInfo, Nodes,
+    OpaqueTypesJank, PlaceholderRegion, PredicateKind, RegionKind, Stored, Term, TermKind, TraitId,
+    TraitRef, Ty, TyKind, binders_of,
 };
-use nts_model::{BoundIndex, Sort, UintTy, Variance};
+use nts_model::{BoundIndex, Label, ListHead, Sort, TyHead, UintTy, Variance};
 use std::test::Fail;
 
 #[test]
@@ -136,4 +138,55 @@ fn aliases(rt: HostRuntime) -> Result<(), Fail> {
     let ct = cx.mk_const(ConstKind::Unevaluated(alias))?;
     assert!(rt; matches!(ct.kind(&cx), ConstKind::Unevaluated(_)));
     Ok(())
+}
+
+#[test]
+fn nodes(rt: HostRuntime) -> Result<(), Fail> {
+    let mut nodes = Nodes::new(rt.alloc());
+    let error = nodes.make(Label::Ty(TyHead::Error), &[])?;
+    let args = nodes.make(Label::List(ListHead::Args), &[error, error])?;
+    assert_eq!(rt; nodes.len(), 2);
+    assert_eq!(rt; nodes.child_count(args), 2);
+    assert!(rt; nodes.same(nodes.child(args, 1), error));
+    assert!(rt; nodes.label(args) == Label::List(ListHead::Args));
+    assert!(rt; !nodes.facts(args).has_infer);
+    assert!(rt; nodes.contains(args));
+    assert_eq!(rt; binders_of(nodes.label(args)), 0);
+    let ty = Ty::from_node(error);
+    assert!(rt; Stored::node(ty) == error);
+    assert!(rt; Ty::may_have(nodes.label(error)));
+    let term = Term::from(ty);
+    assert!(rt; GenericArg::from(term).node == error);
+    Ok(())
+}
+
+#[test]
+fn declarations(rt: HostRuntime) -> Result<(), Fail> {
+    let mut cx = Cx::new(rt.alloc());
+    cx.declare_trait(&[])?;
+    let second = cx.declare_trait(&[Sort::Ty, Sort::Const])?;
+    match cx.declarations.sorts(DefId::Trait(second)) {
+        Some(sorts) => assert_eq!(rt; sorts.len(), 2),
+        None => assert!(rt; false),
+    }
+    let undeclared = TraitId { number: 2 };
+    assert!(rt; cx.declarations.sorts(DefId::Trait(undeclared)).is_none());
+    Ok(())
+}
+
+#[test]
+fn certainties(rt: HostRuntime) {
+    let overflow = Certainty::overflow(true);
+    assert!(rt; Certainty::Yes.and(overflow) == overflow);
+    assert!(rt; Certainty::Yes.or(overflow) == Certainty::Yes);
+    assert!(rt; Certainty::AMBIGUOUS.and(overflow) == overflow);
+    let kept = Certainty::Maybe(MaybeInfo {
+        cause: MaybeCause::Overflow {
+            suggest_increasing_limit: true,
+            keep_constraints: true,
+        },
+        opaque_types_jank: OpaqueTypesJank::AllGood,
+    });
+    assert!(rt; Certainty::AMBIGUOUS.or(overflow) == kept);
+    assert!(rt; EvalError::from(Fault::Full) == EvalError::Full);
 }

@@ -3,7 +3,7 @@ use Rattle.nts_model.specs.Trees.{node}
 use Rattle.nts_terms.specs.Facts.{facts_of}
 use Rattle.nts_terms.specs.Growth.{trees_at}
 use Rattle.nts_terms.specs.Store.{trees, IsNode}
-use Rattle.nts_terms.proofs.Stored.{Kept, inserted, Answered, answered}
+use Rattle.nts_terms.proofs.Inserting.{Kept, inserted, Answered, answered}
 use Rattle.nts_terms.proofs.nodes.Nodes.make.Goals as goal
 
 copied : (c : goal.In_ok-number) → c.extend_from_slice.new.self.items ≡ c.args.children.now

@@ -1,7 +1,7 @@
 use Rattle.std.proofs.Common.{arith, ap, sym, length, ◌∙◌}
 use Rattle.std.proofs.lemmas.Option.{slice_get_within, get_or_from_slice_get}
 use Rattle.nts_terms.specs.Facts.{facts_of}
-use Rattle.nts_terms.proofs.Stored.{Found, found, length-trees}
+use Rattle.nts_terms.proofs.Inserting.{Found, found, length-trees}
 use Rattle.nts_terms.proofs.nodes.Nodes.node.Goals as goal
 
 read : (c : goal.After-index) → Found c.args.self.now c.args.t.number c.index.result.now

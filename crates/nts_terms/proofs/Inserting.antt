@@ -10,8 +10,8 @@ use Rattle.nts_terms.specs.declared.nodes.NodeId.{NodeId}
 use Rattle.nts_terms.specs.declared.nodes.Node.{Node}
 use Rattle.nts_terms.specs.contracts.nodes.NodePartialEq.TheImpl as node_eq
 use Rattle.nts_terms.specs.Facts.{facts_of}
-use Rattle.nts_terms.specs.Growth.{tree_at, trees_at, IsIn, AllIn, AllBelow, Extends}
-use Rattle.nts_terms.specs.Store.{tree_of_node, grown, trees, IsNode, IsGrown, AreApart, IsShared}
+use Rattle.nts_terms.specs.Growth.{tree_at, trees_at, IsIn, AllIn, AllBelow, Extends, AreApart}
+use Rattle.nts_terms.specs.Store.{tree_of_node, grown, trees, IsNode, IsGrown, IsShared}
 use Rattle.nts_terms.proofs.Growing.{Extends-refl, Extends-trans, AllIn-extended, trees_at-extended, Extends-push, get_or-front, get_or-last}
 use Rattle.nts_terms.proofs.Equal.{AreOne, one_node, node_one}
 
