@@ -4,10 +4,27 @@ use Rattle.std.specs.Prelude.{slice_get, slice_set}
 use Rattle.nts_model.specs.declared.labels.VariableKind.{VariableKind}
 use Rattle.nts_model.specs.declared.labels.VariableKind.TheVariants as kind
 use Rattle.nts_model.specs.declared.labels.Label.{Label}
-use Rattle.nts_model.specs.Trees.{Tree, node, of_sort, sort_of_variable, kind_of, kind_of_label, children}
+use Rattle.nts_model.specs.declared.labels.Leaf.TheVariants as leaf
+use Rattle.nts_model.specs.declared.labels.Label.TheVariants as label
+use Rattle.nts_model.specs.Resolving.{variable_tree, rooted, Knows}
+use Rattle.nts_model.specs.Levels.{NamesAll, level_in, term_level, region_level}
+use Rattle.nts_model.specs.Fitting.{Fits}
+use Rattle.nts_model.specs.Worlds.{World, inst, IsValue, Solves}
+use Rattle.nts_table.specs.Proper.{IsSortKind, IsProper-known}
+use Rattle.nts_model.specs.Holding.{AreOne, Continues}
+use Rattle.nts_model.specs.Alike.{AreAlike}
+use Rattle.nts_model.proofs.Variables.{infer_number_some}
+use Rattle.nts_model.proofs.Classes.{resolved-known_variable}
+use Rattle.nts_model.proofs.Instances.{inst-agrees}
+use Rattle.nts_model.proofs.Solving.{Solves-known, Solves-from_known}
+use Rattle.nts_model.proofs.Held.{Continues-known, Continues-trans}
+use Rattle.nts_model.proofs.Alike.{AreAlike-continues, AreAlike-for}
+use Rattle.nts_table.proofs.Leading.{universe_of-entry}
+use Rattle.nts_table.proofs.Naming.{lawful_sides}
+use Rattle.nts_model.specs.Trees.{Tree, empty, node, of_sort, sort_of_variable, kind_of, kind_of_label, children}
 use Rattle.nts_model.specs.Contents.{Content, Slot, unset, known, state_of, kind_at, bound_to}
 use Rattle.nts_model.proofs.Slots.{length-slice_set, slice_get_below}
-use Rattle.nts_model.proofs.Binding.{IsKnowable, kind_at-set, IsSound-known}
+use Rattle.nts_model.proofs.Binding.{IsKnowable, kind_at-set, IsSound-known, resolved-known_value}
 use Rattle.nts_terms.specs.declared.nodes.NodeId.{NodeId}
 use Rattle.nts_terms.specs.Growth.{tree_at, IsIn}
 use Rattle.nts_table.specs.declared.contents.State.TheVariants.{Unset, Link, Known}
@@ -18,7 +35,7 @@ use Rattle.nts_table.specs.Changing.{unset_count, unset_of, one_unset, IsLater}
 use Rattle.nts_table.specs.Joining.{HasUnset, IsBindable}
 use Rattle.nts_table.specs.Relating.{IsClosed, IsSet, Generalised}
 use Rattle.nts_table.proofs.Changes.{slot_at, length-slots, content_of-bound, LeadsDown, leads_down, IsLawful-bound}
-use Rattle.nts_table.proofs.Keeping.{IsLater-trans, unset-set, unset_of-infer}
+use Rattle.nts_table.proofs.Keeping.{IsLater-trans, Knows-later, unset-set, unset_of-infer}
 use Rattle.nts_table.proofs.JoinLemmas.{free_slot}
 use Rattle.nts_table.proofs.HeadLemmas.{state_at, kind_at-entry}
 use Rattle.nts_table.proofs.GenLemmas.{kind_of-like}
@@ -26,18 +43,29 @@ use Rattle.nts_table.proofs.GenLemmas.{kind_of-like}
 some_inj : {A : Type 0} (a b : A) → Some a ≡ Some b → a ≡ b
 some_inj a b e = cc
 
+pub bindable_no_region : (ts : List Tree) (e : Entries) (x : ℕ) → IsBindable e x → kind_at (content_of ts e) x ≢ Some kind.Region
+bindable_no_region ts e x h r = h.no_region (some_inj _ _ (sym (free_slot ts e x h.of_kind h.free).kind ∙ r))
+
+-- a tree of the sort
+fits_sort : (k : VariableKind) (t : Tree) → IsSortKind k → k ≢ kind.Region → kind_of t ≡ Some (of_sort (sort_of_variable k)) → Fits k t
+fits_sort kind.Ty t h r e = e
+fits_sort kind.Const t h r e = e
+fits_sort kind.Region t h r e = absurd (r refl)
+fits_sort kind.Int t h r e = absurd h
+fits_sort kind.Float t h r e = absurd h
+
 pub record HasValue (ts us : List Tree) (e g : Entries) (x : ℕ) (t : Tree) : Type 0 where
   pub lawful : IsLawful us g
   pub set : IsSet (content_of ts e) (content_of us g) x t
 
-pub bind_value : (ts us : List Tree) (e f g : Entries) (x u : ℕ) (t v : NodeId) (l : Label) (w z : Variable) → IsBindable e x → slice_get e.variables x ≡ Some w → (kind_of_label l ≡ of_sort (sort_of_variable w.kind)) → tree_at ts t ≡ node l (children (tree_at ts t)) → IsClosed (content_of ts e) (tree_at ts t) (tree_at ts t) → IsLawful us f → IsIn us v → Generalised (content_of ts e) (content_of us f) x u (tree_at ts t) (tree_at us v) → slice_get f.variables x ≡ Some z → g ≡ bound f x (record z { state = Known v }) → HasValue ts us e g x (tree_at ts t)
-bind_value ts us e f g x u t v l w z can_bind at fit is closed h within gen now q =
+pub bind_value : (ts us : List Tree) (e f g : Entries) (x : ℕ) (t v : NodeId) (l : Label) (w z : Variable) → IsLawful ts e → IsBindable e x → slice_get e.variables x ≡ Some w → (kind_of_label l ≡ of_sort (sort_of_variable w.kind)) → tree_at ts t ≡ node l (children (tree_at ts t)) → IsClosed (content_of ts e) (tree_at ts t) (tree_at ts t) → IsLawful us f → IsIn us v → Generalised (content_of ts e) (content_of us f) x w.universe 0 (tree_at ts t) (tree_at us v) → slice_get f.variables x ≡ Some z → g ≡ bound f x (record z { state = Known v }) → HasValue ts us e g x (tree_at ts t)
+bind_value ts us e f g x t v l w z before_lawful can_bind at fit is closed h within gen now q =
     let c = content_of ts e in
     let d = content_of us f in
     let k = can_bind.of_kind in
     let free = free_slot ts e x k can_bind.free in
-    let before : x < length e.variables = slice_get_below e.variables x w at in
-    let less : x < length c.slots = omega (arith, before, length-slots ts e.variables) in
+    let there_before : x < length e.variables = slice_get_below e.variables x w at in
+    let less : x < length c.slots = omega (arith, there_before, length-slots ts e.variables) in
     let apart : kind_at c x ≢ Some kind.Region = λ r. can_bind.no_region (some_inj _ _ (sym free.kind ∙ r)) in
     let state : state_of d x ≡ Some unset = gen.keeps.states x less apart ∙ free.state in
     let there : kind_at d x ≡ Some k = gen.keeps.later.kinds x k free.kind in
@@ -67,7 +95,39 @@ bind_value ts us e f g x u t v l w z can_bind at fit is closed h within gen now 
     let fewer : unset_count (slice_set d.slots x (slot_of us new)) < unset_count c.slots = omega (arith, count, one, none, gen.keeps.unset_kept) in
     let longer = length-slice_set d.slots x (slot_of us new) in
     let bound_later : IsLater d (bound_to d x (slot_of us new)) = record { more = omega (arith, longer); kinds = λ n j y. kind_at-set d x (slot_of us new) can.binds n ∙ y } in
+    let after = bound_to d x (slot_of us new) in
+    let sound_after = IsSound-known d x (slot_of us new) (tree_at us v) h.sound can in
+    let known_continues = Continues-known d x (slot_of us new) (tree_at us v) can refl h.sound in
+    let all : Continues c after = Continues-trans c d after before_lawful.sound gen.continues known_continues in
+    let knows_old : Knows d (tree_at ts t) = Knows-later (tree_at ts t) gen.keeps.later closed.knows in
+    let alike : AreAlike after (tree_at us v) (tree_at ts t) =
+    AreAlike-continues d after (tree_at us v) (tree_at ts t) h.sound sound_after known_continues (lawful_sides us f h) gen.knows knows_old gen.alike in
+    let one : (j : VariableKind) → kind_at c x ≡ Some j → AreOne after (variable_tree j x) (tree_at us v) =
+    λ j has. (let not_region : j ≢ kind.Region = λ r. apart (has ∙ ap Some r) in
+    ap (rooted after) (resolved-known_variable d x (slot_of us new) (tree_at us v) h.sound can (label.Leaf (leaf.Variable j x)) empty (infer_number_some j x not_region)
+    ∙ sym (resolved-known_value d x (slot_of us new) (tree_at us v) h.sound can))) in
+    let own_universe : Some z.universe ≡ Some w.universe = sym (universe_of-entry us f x z now) ∙ gen.own ∙ universe_of-entry ts e x w at in
+    let same_universe : z.universe ≡ w.universe = cc in
+    let names : NamesAll (level_in d) z.universe (tree_at us v) = rw same_universe gen.named in
+    let names_regions : NamesAll region_level z.universe (tree_at us v) = rw same_universe gen.named_regions in
+    let value : IsValue z.kind (tree_at us v) = record { fits = fits_sort z.kind (tree_at us v) (h.proper.kinds x z.kind (kind_at-entry us f x z now)) no_region sort; closed = gen.closed } in
+    let proper = IsProper-known d x (slot_of us new) (tree_at us v) can refl names names_regions value h.sound h.proper in
     record {
-      lawful = rw q (IsLawful-bound us f x z new h now refl within leads (IsSound-known d x (slot_of us new) (tree_at us v) h.sound can));
-      set = rw eq (record { later = IsLater-trans gen.keeps.later bound_later; fewer = fewer });
+      lawful = rw q (IsLawful-bound us f x z new h now refl within leads (IsSound-known d x (slot_of us new) (tree_at us v) h.sound can) proper);
+      set = rw eq (record {
+        later = IsLater-trans gen.keeps.later bound_later;
+        fewer = fewer;
+        continues = all;
+        alike = λ j has. AreAlike-for after (tree_at us v) (tree_at ts t) (variable_tree j x) (tree_at ts t) (one j has) refl alike;
+        sound = λ y a.
+            let b = Solves-from_known d x (slot_of us new) (tree_at us v) can refl y a in
+            let p = gen.sound y b.0 in
+            (p.0, b.1 ∙ p.1);
+        complete = λ y a e1.
+            let own : NamesAll term_level w.universe (y.tree x) = rw (universe_of-entry ts e x w at) at (a.nameable.each x) in
+            let ext = gen.complete y a (rw e1 at own) in
+            let v_world = ext.world in
+            let same_tree : v_world.tree x ≡ inst v_world (tree_at us v) = ext.agrees.trees x less ∙ e1 ∙ sym (inst-agrees c y v_world (tree_at ts t) ext.agrees closed.knows) ∙ sym (gen.sound v_world ext.solves).1 in
+            record { world = v_world; agrees = ext.agrees; solves = Solves-known d x (slot_of us new) (tree_at us v) can refl v_world ext.solves same_tree };
+      });
     }

@@ -14,6 +14,7 @@ use Rattle.nts_table.specs.declared.contents.State.TheVariants.{Unset, Link, Kno
 use Rattle.nts_table.specs.declared.contents.Variable.{Variable}
 use Rattle.nts_table.specs.declared.contents.Constraint.{Constraint}
 use Rattle.nts_table.specs.Entries.{Entries, with_variable, bound, constrained}
+use Rattle.nts_table.specs.Proper.{IsProper, IsProper-with_constraint}
 use Rattle.nts_table.specs.Reading.{slot_of, recorded_of, content_of, IsHeldState, AreHeld, IsConstraint, AreConstraints, LinksDescend, IsLawful}
 use Rattle.nts_table.specs.Lawful.{AreConstraints-kept}
 
@@ -85,8 +86,8 @@ KeepsKinds-slot : (ts : List Tree) (e : Entries) (n : ℕ) (v w : Variable) → 
 KeepsKinds-slot ts e n v w at k = KeepsKinds-changed (content_of ts e) n (slot_of ts v) (slot_of ts w) (slot_at ts e n v at) k
 
 -- another variable in the place of one of the same kind
-pub IsLawful-set : (ts : List Tree) (e : Entries) (n : ℕ) (v w : Variable) → IsLawful ts e → slice_get e.variables n ≡ Some v → w.kind ≡ v.kind → IsHeldState ts w.state → LeadsDown n w → IsSound (changed (content_of ts e) n (slot_of ts w)) → IsLawful ts (with_variable e n w)
-IsLawful-set ts e n v w h at k held l s =
+pub IsLawful-set : (ts : List Tree) (e : Entries) (n : ℕ) (v w : Variable) → IsLawful ts e → slice_get e.variables n ≡ Some v → w.kind ≡ v.kind → IsHeldState ts w.state → LeadsDown n w → IsSound (changed (content_of ts e) n (slot_of ts w)) → IsProper (changed (content_of ts e) n (slot_of ts w)) → IsLawful ts (with_variable e n w)
+IsLawful-set ts e n v w h at k held l s p =
     let is = content_of-with_variable ts e n w in
     let kinds = KeepsKinds-slot ts e n v w at k in
     record {
@@ -94,10 +95,11 @@ IsLawful-set ts e n v w h at k held l s =
       constraints = rw is (AreConstraints-kept ts (content_of ts e) (changed (content_of ts e) n (slot_of ts w)) e.constraints kinds h.constraints);
       descends = LinksDescend-set e n v w at h.descends l;
       sound = rw is s;
+      proper = rw is p;
     }
 
-pub IsLawful-bound : (ts : List Tree) (e : Entries) (n : ℕ) (v w : Variable) → IsLawful ts e → slice_get e.variables n ≡ Some v → w.kind ≡ v.kind → IsHeldState ts w.state → LeadsDown n w → IsSound (bound_to (content_of ts e) n (slot_of ts w)) → IsLawful ts (bound e n w)
-IsLawful-bound ts e n v w h at k held l s =
+pub IsLawful-bound : (ts : List Tree) (e : Entries) (n : ℕ) (v w : Variable) → IsLawful ts e → slice_get e.variables n ≡ Some v → w.kind ≡ v.kind → IsHeldState ts w.state → LeadsDown n w → IsSound (bound_to (content_of ts e) n (slot_of ts w)) → IsProper (bound_to (content_of ts e) n (slot_of ts w)) → IsLawful ts (bound e n w)
+IsLawful-bound ts e n v w h at k held l s p =
     let is = content_of-bound ts e n w in
     let kinds = KeepsKinds-slot ts e n v w at k in
     let later : KeepsKinds (content_of ts e) (bound_to (content_of ts e) n (slot_of ts w)) = record { kinds = kinds.kinds } in
@@ -107,6 +109,7 @@ IsLawful-bound ts e n v w h at k held l s =
       constraints = rw is (AreConstraints-kept ts (content_of ts e) (bound_to (content_of ts e) n (slot_of ts w)) e.constraints later h.constraints);
       descends = record { links = d.links; sub_links = d.sub_links };
       sound = rw is s;
+      proper = rw is p;
     }
 
 AreConstraints-push : (ts : List Tree) (c : Content) (xs : List Constraint) (x : Constraint) → AreConstraints ts c xs → IsConstraint ts c x → AreConstraints ts c (xs ++ x ∷ [])
@@ -124,4 +127,5 @@ IsLawful-constrained ts e x h k =
       constraints = rw is (AreConstraints-kept ts c d (e.constraints ++ x ∷ []) kinds (AreConstraints-push ts c e.constraints x h.constraints k));
       descends = record { links = h.descends.links; sub_links = h.descends.sub_links };
       sound = rw is (IsSound-with_constraint c (recorded_of ts x) h.sound);
+      proper = rw is (IsProper-with_constraint c (recorded_of ts x) k.left_known k.right_known k.regions h.sound h.proper);
     }

@@ -7,25 +7,41 @@ use Rattle.nts_model.specs.declared.labels.VariableKind.TheVariants as kind
 use Rattle.nts_model.specs.declared.labels.Leaf.TheVariants as leaf
 use Rattle.nts_model.specs.declared.labels.Label.{Label}
 use Rattle.nts_model.specs.declared.labels.Label.TheVariants as label
+use Rattle.nts_model.specs.declared.labels.FreeRegion.TheVariants as region
+use Rattle.nts_model.specs.declared.labels.Constant.TheVariants as constant
 use Rattle.nts_model.specs.declared.labels.ListHead.TheVariants as list
 use Rattle.nts_model.specs.declared.labels.TyHead.TheVariants as ty
-use Rattle.nts_model.specs.Trees.{Tree, empty, more, node, size, NodeKind, of_sort, kind_of, kind_of_label, sort_of_variable, any_label, is_infer, children, label_of, row_length, row_at, row_take, row_push, IsRow, Place, Shape, in_order, each, FitsPlace, HavePlaces, AllFit, Meets, shape, binders}
-use Rattle.nts_model.specs.Contents.{Content, Slot, unset, link, state_of, kind_at, with_slot}
-use Rattle.nts_model.specs.Resolving.{variable_of, variable_tree, infer_of, IsInfer, Knows, KnowsLabel, IsSound, Lacks, LacksAt, IsOneOf, resolved, left_to_resolve, variable_flag}
+use Rattle.nts_model.specs.Trees.{Tree, empty, more, node, size, NodeKind, of_sort, kind_of, kind_of_label, sort_of_variable, any_label, is_infer, children, label_of, row_length, row_at, row_take, row_push, IsRow, Place, Shape, in_order, each, FitsPlace, HavePlaces, AllFit, Meets, shape, binders, IsBoundBelow, IsClosedUnder, is_region_infer, is_placeholder}
+use Rattle.nts_model.specs.Contents.{Content, Slot, unset, link, state_of, universe_of, kind_at, with_slot}
+use Rattle.nts_model.specs.Resolving.{variable_of, variable_tree, infer_of, IsInfer, Knows, KnowsLabel, IsSound, Lacks, LacksAt, IsOneOf, resolved, deeply_resolved, rooted, root_of, left_to_resolve, variable_flag}
+use Rattle.nts_model.specs.Levels.{CanName, NamesAll, term_level, region_level, level_in}
+use Rattle.nts_model.specs.Regions.{RegionName, IsRegion, name_of_label}
+use Rattle.nts_model.specs.Worlds.{World, inst, renamed, IsValue, Solves, KnowsAll, with_tree}
+use Rattle.nts_model.specs.Equations.{Extension}
+use Rattle.nts_model.specs.Holding.{AreOne, Continues}
+use Rattle.nts_model.specs.Alike.{HoldsEqual, AreAlike}
 use Rattle.nts_model.proofs.Variables.{infer_number_some, infer_label, infer_of_none, infer_of_region}
 use Rattle.nts_model.proofs.Under.{under-lacks, same_or_other}
-use Rattle.nts_model.proofs.Slots.{field_below, field-with_slot_new, KeepsKinds-with_slot}
+use Rattle.nts_model.proofs.Slots.{field_below, field-with_slot_new, field-with_slot_old, KeepsKinds-with_slot}
+use Rattle.nts_model.proofs.Roots.{root_of-root_of}
+use Rattle.nts_model.proofs.Instances.{inst-node, inst-agrees, Agrees-refl, Agrees-trans, Agrees-with_tree, tree-with_tree}
+use Rattle.nts_model.proofs.Fitting.{IsClosedUnder-more, IsValue-inst}
+use Rattle.nts_model.proofs.Solving.{Solves-from_with_slot, Solves-with_slot}
+use Rattle.nts_model.proofs.Levelled.{NamesAll-falls}
+use Rattle.nts_model.proofs.Held.{AreOne-continues, Continues-refl, Continues-trans, Continues-with_slot}
+use Rattle.nts_model.proofs.Alike.{Alike-row_push, AreAlike-one, AreAlike-itself, AreAlike-for, AreAlike-node, AreAlike-continues, deeply_resolved-more, row_length-deeply_resolved, IsRow-deeply_resolved}
 use Rattle.nts_model.proofs.Open.{Knows-resolved}
-use Rattle.nts_model.proofs.Resolved.{resolved-empty, resolved-node, resolved-row_push, IsRow-resolved, resolved-variable_unset, resolved-variable_link, IsVariable, node_step}
+use Rattle.nts_model.proofs.Resolved.{resolved-empty, resolved-node, resolved-row_push, IsRow-resolved, resolved-variable_unset, resolved-variable_link, IsVariable, node_step, deeply_resolved-empty, Knows-row_at}
 use Rattle.nts_model.proofs.Sound.{resolved-with_slot, state_of-with_slot_old, state_of-with_slot_new, IsSound-with_slot}
 use Rattle.nts_terms.specs.declared.nodes.NodeId.{NodeId}
 use Rattle.nts_terms.specs.Growth.{tree_at, trees_at, IsIn, AllIn, Extends}
 use Rattle.nts_terms.proofs.Growing.{IsRow-trees_at, trees_at-push, trees_at-extended, row_take-more, row_take-all}
 use Rattle.nts_table.specs.Entries.{Entries}
 use Rattle.nts_table.specs.Reading.{content_of}
-use Rattle.nts_table.specs.Changing.{unset_count, unset_of, one_unset, IsLater, Keeps}
-use Rattle.nts_table.specs.Joining.{IsJoined}
-use Rattle.nts_table.specs.Relating.{IsLike, IsUnset, Generalised}
+use Rattle.nts_table.specs.Changing.{unset_count, unset_of, one_unset, IsLater, Keeps, is_free_region}
+use Rattle.nts_table.specs.Joining.{IsOneClass, IsJoined}
+use Rattle.nts_table.specs.Relating.{IsLike, IsUnset, RegionsRelate, Generalised}
+use Rattle.nts_table.proofs.RegionLemmas.{IsRegionVariable, regions-one}
 use Rattle.nts_table.proofs.Keeping.{IsLater-refl, IsLater-trans, Knows-later, Keeps-refl, Keeps-trans, unset-push, unset_of-infer}
 use Rattle.nts_table.proofs.HeadLemmas.{kind_of-variable}
 use Rattle.nts_table.proofs.Changes.{length-slots}
@@ -189,38 +205,152 @@ not_infer_region t l r h = (let i : IsInfer (node l empty) = subst (λ (y : Tree
     let z : None ≡ Some i.0 = sym r.no_infer ∙ i.1 in cc)
 
 -- a tree that stays
-pub gen_settled : (c : Content) (x u : ℕ) (t : Tree) → Knows c t → any_label is_infer t ≡ false → Generalised c c x u t t
-gen_settled c x u t k e =
+no_level : (c : Content) (u : ℕ) (l : Label) → is_infer l ≡ false → is_region_infer l ≡ false → is_placeholder l ≡ false → CanName u (level_in c l) × CanName u (region_level l)
+no_level c u (label.Leaf (leaf.Variable kind.Ty n)) e f g = cc
+no_level c u (label.Leaf (leaf.Variable kind.Int n)) e f g = cc
+no_level c u (label.Leaf (leaf.Variable kind.Float n)) e f g = cc
+no_level c u (label.Leaf (leaf.Variable kind.Const n)) e f g = cc
+no_level c u (label.Leaf (leaf.Variable kind.Region n)) e f g = cc
+no_level c u (label.Leaf (leaf.Region region.Static)) e f g = (tt, tt)
+no_level c u (label.Leaf (leaf.Region (region.EarlyParam a))) e f g = (tt, tt)
+no_level c u (label.Leaf (leaf.Region (region.LateParam a))) e f g = (tt, tt)
+no_level c u (label.Leaf (leaf.Region (region.Placeholder v a))) e f g = cc
+no_level c u (label.Leaf (leaf.Region region.Erased)) e f g = (tt, tt)
+no_level c u (label.Leaf (leaf.Region region.Error)) e f g = (tt, tt)
+no_level c u (label.Leaf (leaf.TyConstant (constant.Placeholder v a))) e f g = cc
+no_level c u (label.Leaf (leaf.TyConstant (constant.Param a))) e f g = (tt, tt)
+no_level c u (label.Leaf (leaf.ConstConstant (constant.Placeholder v a))) e f g = cc
+no_level c u (label.Leaf (leaf.ConstConstant (constant.Param a))) e f g = (tt, tt)
+no_level c u (label.Bound s i n) e f g = (tt, tt)
+no_level c u (label.Ty h) e f g = (tt, tt)
+no_level c u (label.Const h) e f g = (tt, tt)
+no_level c u (label.Clause h) e f g = (tt, tt)
+no_level c u (label.Predicate h) e f g = (tt, tt)
+no_level c u (label.List h) e f g = (tt, tt)
+
+-- what has neither variables nor placeholders is named by each universe
+pub settled_names : (c : Content) (u : ℕ) (t : Tree) → any_label is_infer t ≡ false → any_label is_region_infer t ≡ false → any_label is_placeholder t ≡ false → NamesAll (level_in c) u t × NamesAll region_level u t
+settled_names c u empty e f g = (tt, tt)
+settled_names c u (more a b) e f g =
+    let i = or_false (any_label is_infer a) (any_label is_infer b) e in
+    let r = or_false (any_label is_region_infer a) (any_label is_region_infer b) f in
+    let p = or_false (any_label is_placeholder a) (any_label is_placeholder b) g in
+    let h = settled_names c u a i.0 r.0 p.0 in
+    let k = settled_names c u b i.1 r.1 p.1 in
+    ((h.0, k.0), (h.1, k.1))
+settled_names c u (node l t) e f g =
+    let i = or_false (is_infer l) (any_label is_infer t) e in
+    let r = or_false (is_region_infer l) (any_label is_region_infer t) f in
+    let p = or_false (is_placeholder l) (any_label is_placeholder t) g in
+    let h = no_level c u l i.0 r.0 p.0 in
+    let k = settled_names c u t i.1 r.1 p.1 in
+    ((h.0, k.0), (h.1, k.1))
+
+-- where nothing changed
+abbrev pub itself : (c : Content) (w : World) → Solves c w → Extension c c w
+itself c w z = record { world = w; agrees = Agrees-refl (length c.slots) w; solves = z }
+
+pub gen_settled : (c : Content) (x u b : ℕ) (t : Tree) → IsSound c → Knows c t → any_label is_infer t ≡ false → any_label is_region_infer t ≡ false → any_label is_placeholder t ≡ false → IsClosedUnder b t → Generalised c c x u b t t
+gen_settled c x u b t s k e f g h =
+    let names = settled_names c u t e f g in
     record {
       keeps = Keeps-refl c;
       knows = k;
-      no_variable = λ h. h;
+      no_variable = λ q. q;
       like = IsLike-refl t;
       lacks = rw (resolved-no_infer c t e) (Lacks-no_infer x t e);
+      continues = Continues-refl c s;
+      own = refl;
+      named = names.0;
+      named_regions = names.1;
+      closed = h;
+      alike = AreAlike-itself c t;
+      sound = λ w z. (z, refl);
+      complete = λ w z q. itself c w z;
     }
 
-pub gen_region : (c : Content) (x u : ℕ) (t : Tree) (l : Label) → Knows c t → RegionNode t l → Generalised c c x u t t
-gen_region c x u t l k r =
+-- a free region that stays
+pub gen_region : (c : Content) (x u b : ℕ) (t : Tree) (l : Label) → IsSound c → Knows c t → RegionNode t l → variable_of l ≡ None → is_free_region l ≡ true → CanName u (region_level l) → Generalised c c x u b t t
+gen_region c x u b t l s k r v f n =
     record {
       keeps = Keeps-refl c;
       knows = k;
       no_variable = λ h. h;
       like = IsLike-refl t;
       lacks = rw (resolved-region_node c t l r) (Lacks-region_node x t l r);
+      continues = Continues-refl c s;
+      own = refl;
+      named = subst (λ (y : Tree). NamesAll (level_in c) u y) (sym r.is) (rw v (free_term_level l f), tt);
+      named_regions = subst (λ (y : Tree). NamesAll region_level u y) (sym r.is) (n, tt);
+      closed = subst (λ (y : Tree). IsClosedUnder b y) (sym r.is) (free_below l f, tt);
+      alike = AreAlike-itself c t;
+      sound = λ w z. (z, refl);
+      complete = λ w z q. itself c w z;
+    }
+  where
+    free_term_level : (m : Label) → is_free_region m ≡ true → CanName u (term_level m)
+    free_term_level (label.Leaf (leaf.Variable j n)) e = tt
+    free_term_level (label.Leaf (leaf.Region q)) e = tt
+    free_term_level (label.Leaf (leaf.TyConstant q)) e = cc
+    free_term_level (label.Leaf (leaf.ConstConstant q)) e = cc
+    free_term_level (label.Bound q i n) e = cc
+    free_term_level (label.Ty h) e = cc
+    free_term_level (label.Const h) e = cc
+    free_term_level (label.Clause h) e = cc
+    free_term_level (label.Predicate h) e = cc
+    free_term_level (label.List h) e = cc
+
+    free_below : (m : Label) → is_free_region m ≡ true → IsBoundBelow b m
+    free_below (label.Leaf q) e = tt
+    free_below (label.Bound q i n) e = cc
+    free_below (label.Ty h) e = cc
+    free_below (label.Const h) e = cc
+    free_below (label.Clause h) e = cc
+    free_below (label.Predicate h) e = cc
+    free_below (label.List h) e = cc
+
+-- the root of a region variable
+pub gen_region_root : (c : Content) (x u b n r : ℕ) (t : Tree) → IsSound c → IsRegionVariable c t n r → kind_at c r ≡ Some kind.Region → CanName u (universe_of c r) → Generalised c c x u b t (variable_tree kind.Region r)
+gen_region_root c x u b n r t s v has named =
+    let root : RegionNode (variable_tree kind.Region r) (label.Leaf (leaf.Variable kind.Region r)) = record { is = refl; no_infer = refl } in
+    let again : root_of c r ≡ root_of c n = ap (root_of c) (sym v.root) ∙ root_of-root_of c n s.descends in
+    let one : AreOne c (variable_tree kind.Region r) t = rw (v.is) (regions-one c r n again) in
+    record {
+      keeps = Keeps-refl c;
+      knows = (has, tt);
+      no_variable = λ h. not_infer_region (variable_tree kind.Region r) (label.Leaf (leaf.Variable kind.Region r)) root;
+      like = rw (v.is) refl;
+      lacks = rw (resolved-region_node c (variable_tree kind.Region r) (label.Leaf (leaf.Variable kind.Region r)) root) tt;
+      continues = Continues-refl c s;
+      own = refl;
+      named = (named, tt);
+      named_regions = (tt, tt);
+      closed = (tt, tt);
+      alike = AreAlike-one c (variable_tree kind.Region r) t one;
+      sound = λ w z. (z, rw (v.is) (sym (v.tree w z)));
+      complete = λ w z q. itself c w z;
     }
 
 lacks_other : (k : VariableKind) (y x : ℕ) → k ≢ kind.Region → (y ≡ x → ⊥) → Lacks x (variable_tree k y)
 lacks_other k y x n d = let f : (y == x) ≡ false = grind arith in rw (infer_number_some k y n) f
 
 -- a variable without value that stays
-pub gen_named : (c : Content) (x u y : ℕ) (k : VariableKind) (t : Tree) → IsSound c → IsUnset c y k → IsInfer t → IsLike (variable_tree k y) t → (y ≡ x → ⊥) → Generalised c c x u t (variable_tree k y)
-gen_named c x u y k t s h i like d =
+pub gen_named : (c : Content) (x u b y : ℕ) (k : VariableKind) (t : Tree) → IsSound c → IsUnset c y k → IsInfer t → IsLike (variable_tree k y) t → (y ≡ x → ⊥) → CanName u (universe_of c y) → resolved c t ≡ resolved c (variable_tree k y) → ((w : World) → Solves c w → inst w t ≡ w.tree y) → Generalised c c x u b t (variable_tree k y)
+gen_named c x u b y k t s h i like d named same worlds =
     record {
       keeps = Keeps-refl c;
       knows = (h.has, tt);
       no_variable = λ n. absurd (n i);
       like = like;
       lacks = rw (resolved-variable_unset c (label.Leaf (leaf.Variable k y)) empty y s (infer_number_some k y h.no_region) h.state) (lacks_other k y x h.no_region d);
+      continues = Continues-refl c s;
+      own = refl;
+      named = (named, tt);
+      named_regions = (tt, tt);
+      closed = (tt, tt);
+      alike = AreAlike-one c (variable_tree k y) t (ap (rooted c) (sym same));
+      sound = λ w z. (z, sym (worlds w z));
+      complete = λ w z q. itself c w z;
     }
 
 abbrev second_or : Option (VariableKind × ℕ) → ℕ
@@ -257,9 +387,14 @@ pub record IsAdded (c d : Content) (v : Slot) : Type 0 where
   pub trees : (t : Tree) → resolved d t ≡ resolved c t
   pub sound : IsSound d
   pub count : unset_count d.slots ≡ unset_count c.slots + unset_of v.kind v.state
+  pub continues : Continues c d
+  pub universe : universe_of d (length c.slots) ≡ Some v.universe
+  pub universes : (n : ℕ) → n < length c.slots → universe_of d n ≡ universe_of c n
+  pub back : (w : World) → Solves d w → Solves c w
+  pub grow : (w : World) (t : Tree) → Solves c w → NamesAll term_level v.universe t → IsValue v.kind t → Solves d (with_tree w (length c.slots) t)
 
-pub slot_added : (c : Content) (v : Slot) → IsSound c → v.state ≡ unset → IsAdded c (with_slot c v) v
-slot_added c v s free =
+pub slot_added : (c : Content) (v : Slot) → IsSound c → KnowsAll c c.constraints → v.state ≡ unset → IsAdded c (with_slot c v) v
+slot_added c v s sides free =
     record {
       later = record {
         more = omega (arith, length-append c.slots (v ∷ []));
@@ -271,11 +406,16 @@ slot_added c v s free =
       trees = λ t. resolved-with_slot c v s free t;
       sound = IsSound-with_slot c v s free;
       count = unset-push c.slots v;
+      continues = Continues-with_slot c v free s;
+      universe = field-with_slot_new (λ x. x.universe) c v;
+      universes = λ n h. field-with_slot_old (λ x. x.universe) c v n (λ e. omega (arith, e, h));
+      back = λ w z. Solves-from_with_slot c v free w z;
+      grow = λ w t z n k. Solves-with_slot c v free s sides w t z n k;
     }
 
 -- the new variable is made one with an old one
-pub gen_fresh : (c d e : Content) (x u y low high : ℕ) (v : Slot) (t : Tree) → IsSound c → IsUnset c y v.kind → v.state ≡ unset → IsInfer t → IsLike (variable_tree v.kind y) t → (y ≡ x → ⊥) → IsAdded c d v → low ≡ min y (length c.slots) → high ≡ max y (length c.slots) → IsJoined d e low high → IsSound e → Generalised c e x u t (variable_tree v.kind (length c.slots))
-gen_fresh c d e x u y low high v t s h free i like apart a is_low is_high j after =
+pub gen_fresh : (c d e : Content) (x u b y low high : ℕ) (v : Slot) (t : Tree) → IsSound c → Knows c t → IsUnset c y v.kind → v.state ≡ unset → v.universe ≡ u → x < length c.slots → IsInfer t → IsLike (variable_tree v.kind y) t → (y ≡ x → ⊥) → resolved c t ≡ resolved c (variable_tree v.kind y) → ((w : World) → Solves c w → inst w t ≡ w.tree y) → IsAdded c d v → low ≡ min y (length c.slots) → high ≡ max y (length c.slots) → IsJoined d e low high → IsOneClass d e low high → IsSound e → Generalised c e x u b t (variable_tree v.kind (length c.slots))
+gen_fresh c d e x u b y low high v t s knows h free of_u within i like apart same worlds a is_low is_high j one_class after =
     let fresh = length c.slots in
     let below : y < length c.slots = field_below (λ z. z.kind) c y v.kind h.has in
     let ly : low ≡ y = omega (arith, is_low, below) in
@@ -290,6 +430,10 @@ gen_fresh c d e x u y low high v t s h free i like apart a is_low is_high j afte
     resolved-variable_unset e (label.Leaf (leaf.Variable v.kind y)) empty y after (infer_number_some v.kind y h.no_region) (old y below ∙ h.state) in
     let value : resolved e (variable_tree v.kind fresh) ≡ variable_tree v.kind y =
     resolved-variable_link e (label.Leaf (leaf.Variable v.kind fresh)) empty v.kind fresh y after is linked ∙ root in
+    let all = Continues-trans c d e s a.continues one_class.continues in
+    let old_one : AreOne e t (variable_tree v.kind y) = AreOne-continues c e t (variable_tree v.kind y) all knows (h.has, tt) (ap (rooted c) same) in
+    let new_one : AreOne e (variable_tree v.kind fresh) (variable_tree v.kind y) = ap (rooted e) (value ∙ sym root) in
+    let universe : universe_of e fresh ≡ Some u = one_class.universes fresh (λ q. omega (arith, q, ly, below)) ∙ a.universe ∙ ap Some of_u in
     record {
       keeps = record {
         later = later;
@@ -301,6 +445,23 @@ gen_fresh c d e x u y low high v t s h free i like apart a is_low is_high j afte
       no_variable = λ n. absurd (n i);
       like = fresh_like v.kind y (length c.slots) t like;
       lacks = rw value (lacks_other v.kind y x h.no_region apart);
+      continues = all;
+      own = one_class.universes x (λ q. apart (sym ly ∙ sym q)) ∙ a.universes x within;
+      named = (rw universe (omega arith), tt);
+      named_regions = (tt, tt);
+      closed = (tt, tt);
+      alike = AreAlike-one e (variable_tree v.kind fresh) t (new_one ∙ sym old_one);
+      sound = λ w z.
+          let q = one_class.narrows.sound w z in
+          let before = a.back w q.0 in
+          let same_tree : w.tree y ≡ w.tree fresh = rw (ly, hy) at q.1 in (before, sym same_tree ∙ sym (worlds w before));
+      complete = λ w z names.
+          let tree_named : NamesAll term_level u (w.tree y) = rw (worlds w z) at names in
+          let grown = a.grow w (w.tree y) z (rw of_u tree_named) (z.fitting.each y v.kind h.has) in
+          let agrees = Agrees-with_tree (length c.slots) (length c.slots) w (w.tree y) (omega arith) in
+          let wide = with_tree w fresh (w.tree y) in
+          let one_tree : wide.tree low ≡ wide.tree high = rw (ly, hy) (agrees.trees y below ∙ sym (tree-with_tree w fresh (w.tree y))) in
+          record { world = wide; agrees = agrees; solves = one_class.narrows.complete wide grown one_tree };
     }
   where
     fresh_like : (k : VariableKind) (n m : ℕ) (z : Tree) → IsLike (variable_tree k n) z → IsLike (variable_tree k m) z
@@ -308,9 +469,27 @@ gen_fresh c d e x u y low high v t s h free i like apart a is_low is_high j afte
     fresh_like k n m (more p r) q = q
     fresh_like k n m (node p r) q = q
 
+region_below : (l : Label) (x : RegionName) → name_of_label l ≡ Some x → IsBoundBelow 0 l
+region_below (label.Leaf q) x e = tt
+region_below (label.Bound q i n) x e = cc
+region_below (label.Ty h) x e = cc
+region_below (label.Const h) x e = cc
+region_below (label.Clause h) x e = cc
+region_below (label.Predicate h) x e = cc
+region_below (label.List h) x e = cc
+
+-- a free region is closed
+IsRegion-value : (t : Tree) → IsRegion t → IsValue kind.Region t
+IsRegion-value empty h = let e = h.1 in cc
+IsRegion-value (more a b) h = let e = h.1 in cc
+IsRegion-value (node l (more a b)) h = let e = h.1 in cc
+IsRegion-value (node l (node m a)) h = let e = h.1 in cc
+IsRegion-value (node l empty) h = record { fits = h; closed = (region_below l h.0 h.1, tt) }
+
 -- a fresh region variable, made equal to the region
-pub gen_fresh_region : (c d e : Content) (x u : ℕ) (v : Slot) (t : Tree) (l : Label) → v.kind ≡ kind.Region → RegionNode t l → kind_of t ≡ Some (of_sort sort.Region) → IsAdded c d v → Keeps d e → Generalised c e x u t (variable_tree kind.Region (length c.slots))
-gen_fresh_region c d e x u v t l region r sorted a k =
+pub gen_fresh_region : (c d e : Content) (x u b : ℕ) (v : Slot) (t : Tree) (l : Label) → IsSound c → v.kind ≡ kind.Region → x < length c.slots → RegionNode t l → kind_of t ≡ Some (of_sort sort.Region) → IsRegion t → Knows c t → v.universe ≡ u → IsAdded c d v → RegionsRelate d e (variable_tree kind.Region (length c.slots)) t → universe_of e x ≡ universe_of d x → CanName u (universe_of e (length c.slots)) → Generalised c e x u b t (variable_tree kind.Region (length c.slots))
+gen_fresh_region c d e x u b v t l s region within r sorted is_region known of_u a related own named =
+    let k = related.keeps in
     let fresh = length c.slots in
     let none : unset_of v.kind v.state ≡ 0 = rw region refl in
     let has : kind_at e fresh ≡ Some kind.Region = k.later.kinds fresh kind.Region (a.has ∙ ap Some region) in
@@ -326,6 +505,21 @@ gen_fresh_region c d e x u v t l region r sorted a k =
       no_variable = λ n. not_infer_region (variable_tree kind.Region fresh) (label.Leaf (leaf.Variable kind.Region fresh)) node_of;
       like = subst (λ (y : Tree). IsLike (variable_tree kind.Region fresh) y) (sym r.is) (region_sort t l r sorted);
       lacks = rw (resolved-region_node e (variable_tree kind.Region fresh) (label.Leaf (leaf.Variable kind.Region fresh)) node_of) tt;
+      continues = Continues-trans c d e s a.continues related.continues;
+      own = own ∙ a.universes x within;
+      named = (named, tt);
+      named_regions = (tt, tt);
+      closed = (tt, tt);
+      alike = related.alike;
+      sound = λ w z. (let q = related.narrows.sound w z in (a.back w q.0, q.1));
+      complete = λ w z names.
+          let s = inst w t in
+          let value : IsValue v.kind s = rw region (IsValue-inst c w kind.Region t z.fitting known (IsRegion-value t is_region)) in
+          let grown = a.grow w s z (rw of_u names) value in
+          let agrees = Agrees-with_tree (length c.slots) (length c.slots) w s (omega arith) in
+          let wide = with_tree w fresh s in
+          let one_tree : wide.tree fresh ≡ inst wide t = tree-with_tree w fresh s ∙ sym (inst-agrees c w wide t agrees known) in
+          record { world = wide; agrees = agrees; solves = related.narrows.complete wide grown one_tree };
     }
   where
     region_sort : (t : Tree) (l : Label) → RegionNode t l → kind_of t ≡ Some (of_sort sort.Region) → of_sort sort.Region ≡ kind_of_label l
@@ -353,38 +547,161 @@ not_row_infer empty t h k = k
 not_row_infer (more a b) t h k = k
 not_row_infer (node l c) t h k = h
 
-pub gen_start : (c : Content) (x u : ℕ) (row : Tree) → Generalised c c x u (row_take 0 row) empty
-gen_start c x u row =
-    record { keeps = Keeps-refl c; knows = tt; no_variable = λ h k. k; like = tt; lacks = rw (resolved-empty c) tt }
+pub gen_start : (c : Content) (x u b : ℕ) (row : Tree) → IsSound c → Generalised c c x u b (row_take 0 row) empty
+gen_start c x u b row s =
+    record {
+      keeps = Keeps-refl c;
+      knows = tt;
+      no_variable = λ h k. k;
+      like = tt;
+      lacks = rw (resolved-empty c) tt;
+      continues = Continues-refl c s;
+      own = refl;
+      named = tt;
+      named_regions = tt;
+      closed = tt;
+      alike = AreAlike-itself c empty;
+      sound = λ w z. (z, refl);
+      complete = λ w z q. itself c w z;
+    }
+
+NamesAll-push : (f : Label → Option ℕ) (u : ℕ) (r t : Tree) → IsRow r → NamesAll f u r → NamesAll f u t → NamesAll f u (row_push r t)
+NamesAll-push f u empty t h k l = (l, tt)
+NamesAll-push f u (more a b) t h k l = (k.0, NamesAll-push f u b t h k.1 l)
+NamesAll-push f u (node m d) t h k l = absurd h
+
+IsClosedUnder-push : (n : ℕ) (r t : Tree) → IsRow r → IsClosedUnder n r → IsClosedUnder n t → IsClosedUnder n (row_push r t)
+IsClosedUnder-push n empty t h k l = (l, tt)
+IsClosedUnder-push n (more a b) t h k l = (k.0, IsClosedUnder-push n b t h k.1 l)
+IsClosedUnder-push n (node m d) t h k l = absurd h
+
+inst-push : (w : World) (r t : Tree) → IsRow r → inst w (row_push r t) ≡ row_push (inst w r) (inst w t)
+inst-push w empty t h = refl
+inst-push w (more a b) t h = ap (more (inst w a)) (inst-push w b t h)
+inst-push w (node m d) t h = absurd h
+
+pub IsRow-inst : (w : World) (r : Tree) → IsRow r → IsRow (inst w r)
+IsRow-inst w empty h = tt
+IsRow-inst w (more a b) h = IsRow-inst w b h
+IsRow-inst w (node m d) h = absurd h
+
+NamesAll-pushed : (f : Label → Option ℕ) (u : ℕ) (r t : Tree) → IsRow r → NamesAll f u (row_push r t) → NamesAll f u r × NamesAll f u t
+NamesAll-pushed f u empty t h k = (tt, k.0)
+NamesAll-pushed f u (more a b) t h k = let q = NamesAll-pushed f u b t h k.1 in ((k.0, q.0), q.1)
+NamesAll-pushed f u (node m d) t h k = absurd h
+
+IsLike-length : (r t : Tree) → IsRow r → IsLike r t → row_length r ≡ row_length t
+IsLike-length empty empty p h = refl
+IsLike-length empty (more a b) p h = absurd h
+IsLike-length empty (node l c) p h = absurd h
+IsLike-length (more a b) empty p h = absurd h
+IsLike-length (more a b) (more c d) p h = omega (arith, IsLike-length b d p h.1)
+IsLike-length (more a b) (node l c) p h = absurd h
+IsLike-length (node l c) t p h = absurd p
+
+deeply_resolved-push : (c : Content) (r t : Tree) → IsRow r → deeply_resolved c (row_push r t) ≡ row_push (deeply_resolved c r) (deeply_resolved c t)
+deeply_resolved-push c empty t h = rw (deeply_resolved-empty c) (deeply_resolved-more c t empty ∙ ap (more (deeply_resolved c t)) (deeply_resolved-empty c))
+deeply_resolved-push c (more a b) t h =
+    rw (deeply_resolved-more c a b) (deeply_resolved-more c a (row_push b t) ∙ ap (more (deeply_resolved c a)) (deeply_resolved-push c b t h))
+deeply_resolved-push c (node m d) t h = absurd h
+
+AreAlike-push : (c : Content) (r s a b : Tree) → IsRow r → IsRow s → row_length r ≡ row_length s → AreAlike c r s → AreAlike c a b → AreAlike c (row_push r a) (row_push s b)
+AreAlike-push c r s a b p q e h k =
+    let same : row_length (deeply_resolved c r) ≡ row_length (deeply_resolved c s) = row_length-deeply_resolved c r p ∙ e ∙ sym (row_length-deeply_resolved c s q) in
+    rw (deeply_resolved-push c r a p, deeply_resolved-push c s b q)
+    (Alike-row_push (HoldsEqual c) (deeply_resolved c r) (deeply_resolved c s) (deeply_resolved c a) (deeply_resolved c b) (IsRow-deeply_resolved c r p) (IsRow-deeply_resolved c s q) same h k)
+
+Knows-row_take : (c : Content) (i : ℕ) (r : Tree) → Knows c r → Knows c (row_take i r)
+Knows-row_take c zero r h = tt
+Knows-row_take c (suc i) empty h = tt
+Knows-row_take c (suc i) (more a b) h = (h.0, Knows-row_take c i b h.1)
+Knows-row_take c (suc i) (node l x) h = tt
+
+-- what holds of a table and is used of it
+pub record IsFair (c : Content) : Type 0 where
+  pub sound : IsSound c
+  pub sides : KnowsAll c c.constraints
 
 -- one more child
-pub gen_push : (us vs : List Tree) (c d e : Content) (x u i : ℕ) (row a : Tree) (rs qs : List NodeId) (r : NodeId) → Generalised c d x u (row_take i row) (trees_at us rs) → Extends us vs → AllIn us rs → i < row_length row → a ≡ row_at row i → Generalised d e x u a (tree_at vs r) → qs ≡ rs ++ r ∷ [] → Generalised c e x u (row_take (i + 1) row) (trees_at vs qs)
-gen_push us vs c d e x u i row a rs qs r g ext all lt ea h eq =
+pub gen_push : (us vs : List Tree) (c d e : Content) (x u b i : ℕ) (row a : Tree) (rs qs : List NodeId) (r : NodeId) → IsSound c → IsFair d → IsSound e → Knows c row → Generalised c d x u b (row_take i row) (trees_at us rs) → Extends us vs → AllIn us rs → i < row_length row → a ≡ row_at row i → Generalised d e x u b a (tree_at vs r) → qs ≡ rs ++ r ∷ [] → Generalised c e x u b (row_take (i + 1) row) (trees_at vs qs)
+gen_push us vs c d e x u b i row a rs qs r sc fd se known g ext all lt ea h eq =
     let is : trees_at vs qs ≡ row_push (trees_at us rs) (tree_at vs r) = ap (trees_at vs) eq ∙ trees_at-push vs rs r ∙ ap (λ z. row_push z (tree_at vs r)) (trees_at-extended ext rs all) in
     let row' : row_take (i + 1) row ≡ row_push (row_take i row) a = row_take-more i row lt ∙ ap (row_push (row_take i row)) (sym ea) in
     let ir : IsRow (trees_at us rs) = IsRow-trees_at us rs in
     let it : IsRow (row_take i row) = row_take-row i row lt in
     let old : resolved e (trees_at us rs) ≡ resolved d (trees_at us rs) = h.keeps.trees (trees_at us rs) g.knows in
     let lacks : Lacks x (resolved e (trees_at us rs)) = rw old g.lacks in
+    let first : Knows d (row_take i row) = Knows-later (row_take i row) g.keeps.later (Knows-row_take c i row known) in
+    let later_alike = AreAlike-continues d e (trees_at us rs) (row_take i row) fd.sound se h.continues fd.sides g.knows first g.alike in
     rw (is, row') (record {
       keeps = Keeps-trans g.keeps h.keeps;
       knows = Knows-push e (trees_at us rs) (tree_at vs r) ir (Knows-later (trees_at us rs) h.keeps.later g.knows) h.knows;
       no_variable = λ p. not_row_infer (trees_at us rs) (tree_at vs r) ir;
       like = IsLike-push (trees_at us rs) (row_take i row) (tree_at vs r) a ir it g.like (kind_of-like (tree_at vs r) a h.like);
       lacks = rw (resolved-row_push e (trees_at us rs) (tree_at vs r) ir) (Lacks-push x (resolved e (trees_at us rs)) (resolved e (tree_at vs r)) lacks h.lacks (IsRow-resolved e (trees_at us rs) ir));
+      continues = Continues-trans c d e sc g.continues h.continues;
+      own = h.own ∙ g.own;
+      named = NamesAll-push (level_in e) u (trees_at us rs) (tree_at vs r) ir (NamesAll-falls d e u (trees_at us rs) h.continues.falls g.knows g.named) h.named;
+      named_regions = NamesAll-push region_level u (trees_at us rs) (tree_at vs r) ir g.named_regions h.named_regions;
+      closed = IsClosedUnder-push b (trees_at us rs) (tree_at vs r) ir g.closed h.closed;
+      alike = AreAlike-push e (trees_at us rs) (row_take i row) (tree_at vs r) a ir it (IsLike-length (trees_at us rs) (row_take i row) ir g.like) later_alike h.alike;
+      sound = λ w z.
+          let q = h.sound w z in
+          let p = g.sound w q.0 in
+          (p.0, inst-push w (trees_at us rs) (tree_at vs r) ir ∙ (λ j. row_push (p.1 j) (q.1 j)) ∙ sym (inst-push w (row_take i row) a it));
+      complete = λ w z names.
+          let all : NamesAll term_level u (row_push (inst w (row_take i row)) (inst w a)) = rw (inst-push w (row_take i row) a it) at names in
+          let parts = NamesAll-pushed term_level u (inst w (row_take i row)) (inst w a) (IsRow-inst w (row_take i row) it) all in
+          let first = g.complete w z parts.0 in
+          let known_child : Knows c a = rw ea (Knows-row_at c row i known) in
+          let child : NamesAll term_level u (inst first.world a) = rw (inst-agrees c w first.world a first.agrees known_child) parts.1 in
+          let second = h.complete first.world first.solves child in
+          record {
+            world = second.world;
+            agrees = Agrees-trans (length c.slots) (length d.slots) w first.world second.world g.continues.more first.agrees second.agrees;
+            solves = second.solves;
+          };
     })
 
 -- the node is made
-pub gen_node : (c d : Content) (x u i : ℕ) (t row : Tree) (l : Label) → Knows c t → t ≡ node l (children t) → infer_of l ≡ None → IsRow (children t) → i ≡ row_length (children t) → Generalised c d x u (row_take i (children t)) row → Generalised c d x u t (node l row)
-gen_node c d x u i t row l known is none r n g =
+pub gen_node : (c d : Content) (x u b i : ℕ) (t row : Tree) (l : Label) → Knows c t → t ≡ node l (children t) → variable_of l ≡ None → is_free_region l ≡ false → CanName u (term_level l) → IsBoundBelow b l → IsRow (children t) → i ≡ row_length (children t) → Generalised c d x u (b + binders l) (row_take i (children t)) row → Generalised c d x u b t (node l row)
+gen_node c d x u b i t row l known is alone not_free names below r n g =
+    let none : infer_of l ≡ None = infer_of_none l alone in
+    let whole : row_take i (children t) ≡ children t = rw n (row_take-all (children t) r) in
+    let alike : AreAlike d row (children t) = rw whole at g.alike in
     record {
       keeps = g.keeps;
       knows = (let k : Knows d (node l (children t)) = subst (λ (y : Tree). Knows d y) is (Knows-later t g.keeps.later known) in k.0, g.knows);
       no_variable = λ h k. (let z : None ≡ Some k.0 = sym none ∙ k.1 in cc);
       like = subst (λ (y : Tree). IsLike (node l row) y) (sym is) refl;
       lacks = rw (resolved-node d l row none) (lacks_node x l (resolved d row) none g.lacks);
+      continues = g.continues;
+      own = g.own;
+      named = (rw alone names, g.named);
+      named_regions = (no_region_level l not_free, g.named_regions);
+      closed = (below, g.closed);
+      alike = subst (λ (y : Tree). AreAlike d (node l row) y) (sym is) (AreAlike-node d l row (children t) none alike);
+      sound = λ w z.
+          let q = g.sound w z in
+          let same : inst w row ≡ inst w (children t) = rw whole at q.1 in
+          (q.0, inst-node w l row alone ∙ ap (node (renamed w l)) same ∙ sym (inst-node w l (children t) alone) ∙ ap (inst w) (sym is));
+      complete = λ w z names.
+          let at_node : NamesAll term_level u (node (renamed w l) (inst w (children t))) = subst (λ (y : Tree). NamesAll term_level u y) (ap (inst w) is ∙ inst-node w l (children t) alone) names in
+          g.complete w z (rw whole at_node.1);
     }
   where
+    no_region_level : (m : Label) → is_free_region m ≡ false → CanName u (region_level m)
+    no_region_level (label.Leaf (leaf.Region q)) e = cc
+    no_region_level (label.Leaf (leaf.Variable j k)) e = tt
+    no_region_level (label.Leaf (leaf.TyConstant q)) e = tt
+    no_region_level (label.Leaf (leaf.ConstConstant q)) e = tt
+    no_region_level (label.Bound q j k) e = tt
+    no_region_level (label.Ty h) e = tt
+    no_region_level (label.Const h) e = tt
+    no_region_level (label.Clause h) e = tt
+    no_region_level (label.Predicate h) e = tt
+    no_region_level (label.List h) e = tt
+
     lacks_node : (n : ℕ) (m : Label) (y : Tree) → infer_of m ≡ None → Lacks n y → Lacks n (node m y)
     lacks_node n m y e h = rw e h
 
@@ -396,14 +713,23 @@ like_of-kinds (node l c) (more a b) k h q = cc
 like_of-kinds (node l c) (node m d) k h q = some_kind _ _ (h ∙ sym q)
 
 -- from the value of a variable to the variable
-pub gen_known : (c d : Content) (x u : ℕ) (t v r : Tree) (k : NodeKind) → IsInfer t → kind_of v ≡ Some k → kind_of t ≡ Some k → Generalised c d x u v r → (IsInfer v → ⊥) → Generalised c d x u t r
-gen_known c d x u t v r k i sv st g n =
+pub gen_known : (c d : Content) (x u b : ℕ) (t v r : Tree) (k : NodeKind) → IsInfer t → kind_of v ≡ Some k → kind_of t ≡ Some k → Knows c t → Knows c v → resolved c t ≡ resolved c v → ((w : World) → Solves c w → inst w t ≡ inst w v) → Generalised c d x u 0 v r → (IsInfer v → ⊥) → Generalised c d x u b t r
+gen_known c d x u b t v r k i sv st kt kv same worlds g n =
+    let one : AreOne d t v = AreOne-continues c d t v g.continues kt kv (ap (rooted c) same) in
     record {
       keeps = g.keeps;
       knows = g.knows;
       no_variable = λ h. absurd (h i);
       like = like_of-kinds r t k (kind_of-like r v g.like ∙ sv) st;
       lacks = g.lacks;
+      continues = g.continues;
+      own = g.own;
+      named = g.named;
+      named_regions = g.named_regions;
+      closed = IsClosedUnder-more 0 b r (omega arith) g.closed;
+      alike = AreAlike-for d r v r t refl one g.alike;
+      sound = λ w z. (let q = g.sound w z in (q.0, q.1 ∙ sym (worlds w q.0)));
+      complete = λ w z names. g.complete w z (rw (worlds w z) at names);
     }
 
 -- what the walk asks for a child
@@ -412,8 +738,8 @@ pub record GenChild (c d : Content) (t a : Tree) (i : ℕ) : Type 0 where
   pub knows : Knows d a
   pub is : a ≡ row_at (children t) i
 
-pub gen_child : (c d : Content) (x u i : ℕ) (t a row : Tree) (l : Label) → Knows c t → t ≡ node l (children t) → infer_of l ≡ None → i < row_length (children t) → Generalised c d x u (row_take i (children t)) row → a ≡ row_at (children t) i → GenChild c d t a i
-gen_child c d x u i t a row l k is none less g q =
+pub gen_child : (c d : Content) (x u b i : ℕ) (t a row : Tree) (l : Label) → Knows c t → t ≡ node l (children t) → infer_of l ≡ None → i < row_length (children t) → Generalised c d x u b (row_take i (children t)) row → a ≡ row_at (children t) i → GenChild c d t a i
+gen_child c d x u b i t a row l k is none less g q =
     let step = node_step c t l (ap label_of is) none k in
     let known : Knows c a = rw q (step.knows i) in
     let same : left_to_resolve d a ≡ left_to_resolve c a = ap (λ y. 2 * size y + variable_flag a) (g.keeps.trees a known) in

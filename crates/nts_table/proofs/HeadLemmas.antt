@@ -6,13 +6,16 @@ use Rattle.nts_model.specs.declared.labels.VariableKind.TheVariants as kind
 use Rattle.nts_model.specs.declared.labels.Leaf.TheVariants as leaf
 use Rattle.nts_model.specs.declared.labels.Label.{Label}
 use Rattle.nts_model.specs.declared.labels.Label.TheVariants as label
-use Rattle.nts_model.specs.Trees.{Tree, empty, more, node, NodeKind, of_sort, sort_of_variable, kind_of, kind_of_label, children, label_of}
+use Rattle.nts_model.specs.Trees.{Tree, empty, more, node, NodeKind, of_sort, sort_of_variable, kind_of, kind_of_label, children, label_of, shape, Meets, in_order, HavePlaces, IsClosed as IsClosedTree}
 use Rattle.nts_model.specs.Contents.{Content, SlotState, unset, link, known, state_of, kind_at}
 use Rattle.nts_model.specs.Resolving.{variable_of, variable_tree, infer_of, IsInfer, Knows, KnowsLabel, IsSound, Reaches, here, on, resolved}
 use Rattle.nts_model.proofs.Variables.{infer_label}
 use Rattle.nts_model.proofs.Slots.{some_slot}
 use Rattle.nts_model.proofs.Roots.{kind_at-reaches}
-use Rattle.nts_model.proofs.Resolved.{KnownStep, known_step}
+use Rattle.nts_model.proofs.Resolved.{KnownStep, known_step, resolved-variable_reaches}
+use Rattle.nts_model.specs.Worlds.{World, inst, Solves}
+use Rattle.nts_model.proofs.Kept.{variable_label}
+use Rattle.nts_model.proofs.Instances.{inst-variable, tree-reaches, tree-known}
 use Rattle.nts_terms.specs.declared.nodes.NodeId.{NodeId}
 use Rattle.nts_terms.specs.Growth.{tree_at, IsIn}
 use Rattle.nts_table.specs.declared.contents.State.{State}
@@ -97,6 +100,23 @@ pub record HeadKnown (ts : List Tree) (e : Entries) (t : Tree) (v : NodeId) : Ty
   pub value_sort : kind_of (tree_at ts v) ≡ Some sort
   pub own_sort : kind_of t ≡ Some sort
   pub step : KnownStep (content_of ts e) t (tree_at ts v)
+  pub worlds : (w : World) → Solves (content_of ts e) w → inst w t ≡ inst w (tree_at ts v)
+  pub closed : IsClosedTree (tree_at ts v)
+
+no_children : (c : Tree) → HavePlaces [] c → c ≡ empty
+no_children empty h = refl
+no_children (more a b) h = absurd h
+no_children (node l c) h = absurd h
+
+-- a node that is a variable has no children
+pub variable_node : (t : Tree) (l : Label) (k : VariableKind) (n : ℕ) → t ≡ node l (children t) → Meets (shape l) (children t) → variable_of l ≡ Some (k, n) → t ≡ variable_tree k n
+variable_node t l k n is m v =
+    let e = variable_label l k n v in
+    let none : Meets (in_order []) (children t) = rw e at m in
+    is ∙ (λ i. node (e i) (no_children (children t) none i))
+
+inst-at : (w : World) (t : Tree) (l : Label) (k : VariableKind) (n : ℕ) → t ≡ node l (children t) → variable_of l ≡ Some (k, n) → inst w t ≡ w.tree n
+inst-at w t l k n is v = ap (inst w) is ∙ inst-variable w l (children t) k n v
 
 pub head_known : (ts : List Tree) (e : Entries) (t : Tree) (l : Label) (n r : ℕ) (w : Variable) (v : NodeId) → IsLawful ts e → Knows (content_of ts e) t → t ≡ node l (children t) → infer_of l ≡ Some n → IsRoot e n r → slice_get e.variables r ≡ Some w → w.state ≡ Known v → HeadKnown ts e t v
 head_known ts e t l n r w v h k is i root at s =
@@ -114,11 +134,13 @@ head_known ts e t l n r w v h k is i root at s =
       value_sort = (h.sound.fits r (tree_at ts v) x.of_kind state root_kind).0;
       own_sort = ap kind_of is ∙ ap Some (kind_of-variable l x.of_kind n x.is);
       step = known_step c t l x.of_kind n r (tree_at ts v) h.sound k (label_at t l is) x.is x.no_region (reaches ts e n r root.leads) state;
+      worlds = λ w z. inst-at w t l x.of_kind n is x.is ∙ tree-known c w n r (tree_at ts v) z (reaches ts e n r root.leads) state;
+      closed = (h.proper.solvable.values r (tree_at ts v) x.of_kind state root_kind).closed;
     }
 
 pub closed_known : (ts : List Tree) (e : Entries) (t : Tree) (v : NodeId) → HeadKnown ts e t v → IsIn ts v × IsClosed (content_of ts e) t (tree_at ts v)
 closed_known ts e t v h =
-    (h.within, record { knows = h.step.knows; no_variable = h.step.no_variable; same = h.step.same })
+    (h.within, record { knows = h.step.knows; no_variable = h.step.no_variable; same = h.step.same; worlds = h.worlds })
 
 is_unset : (s : State) → IsRootState s → ((v : NodeId) → s ≡ Known v → ⊥) → s ≡ Unset
 is_unset Unset h k = refl
@@ -126,8 +148,8 @@ is_unset (Link m) h k = absurd h
 is_unset (Known v) h k = absurd (k v refl)
 
 -- a root without a value
-pub head_open : (ts : List Tree) (e : Entries) (t : Tree) (l : Label) (n r : ℕ) (w : Variable) → IsLawful ts e → Knows (content_of ts e) t → t ≡ node l (children t) → infer_of l ≡ Some n → IsRoot e n r → slice_get e.variables r ≡ Some w → ((v : NodeId) → w.state ≡ Known v → ⊥) → IsOpen ts e t r
-head_open ts e t l n r w h k is i root at s =
+pub head_open : (ts : List Tree) (e : Entries) (t : Tree) (l : Label) (n r : ℕ) (w : Variable) → IsLawful ts e → Knows (content_of ts e) t → t ≡ node l (children t) → Meets (shape l) (children t) → infer_of l ≡ Some n → IsRoot e n r → slice_get e.variables r ≡ Some w → ((v : NodeId) → w.state ≡ Known v → ⊥) → IsOpen ts e t r
+head_open ts e t l n r w h k is m i root at s =
     let c = content_of ts e in
     let x = infer_label l n i in
     let there : KnowsLabel c (variable_of l) = knows_label c t l is k in
@@ -139,6 +161,8 @@ head_open ts e t l n r w h k is i root at s =
       bindable = record { of_kind = x.of_kind; no_region = x.no_region; free = record { variable = w; at = at; of_kind = of_kind; state = is_unset w.state (root.ends w at) s } };
       infer = infer_at t l n is i;
       like = subst (λ (y : Tree). IsLike (variable_tree x.of_kind r) y) (sym is) like;
+      same = ap (resolved c) (variable_node t l x.of_kind n is m x.is) ∙ resolved-variable_reaches c x.of_kind n r h.sound x.no_region has (reaches ts e n r root.leads);
+      worlds = λ w z. inst-at w t l x.of_kind n is x.is ∙ tree-reaches c w n r z (reaches ts e n r root.leads);
     }
 
 -- the root of a region variable

@@ -9,10 +9,14 @@ pub mod SubLinks
 pub mod RegionLinks
 pub mod Changes
 pub mod Keeping
+pub mod Merging
 pub mod JoinLemmas
 pub mod HeadLemmas
+pub mod RegionLemmas
 pub mod PairLemmas
 pub mod GenLemmas
 pub mod Naming
 pub mod BindLemmas
+pub mod RefusalLemmas
 pub mod Looking
+pub mod Telling

@@ -18,7 +18,7 @@ use Rattle.nts_table.specs.Entries.{Entries, Table, with_variable}
 use Rattle.nts_table.specs.Reading.{content_of, state_with, IsLawful, IsTable}
 use Rattle.nts_table.specs.Roots.{IsRoot}
 use Rattle.nts_table.specs.Equating.{RegionsLinked, RegionsJoined, region_number, region_variable}
-use Rattle.nts_table.specs.Setting.{LeadsDown, IsLawful-marked, IsLawful-region_link, IsTable-now}
+use Rattle.nts_table.specs.Setting.{proper_lowered, LeadsDown, IsLawful-marked, IsLawful-region_link, IsTable-now}
 use Rattle.nts_table.proofs.Leading.{state_of-entry, kind_at-entry, Reaches-leads}
 
 known_region_at : (c : Content) (o : Option (VariableKind × ℕ)) (l : Label) (t : Tree) (x : ℕ) → variable_of l ≡ o → Knows c (node l t) → region_number o ≡ Some x → kind_at c x ≡ Some kind.Region
@@ -85,14 +85,14 @@ module _ (ts : List Tree) (e f : Entries) (x y r s : ℕ) (h : IsLawful ts e) (o
         state = λ m q. h.descends.links (min r s) m low k.low_at q;
         sub_link = λ m q. h.descends.sub_links (min r s) m low k.low_at q;
       } in
-      let lawful : IsLawful ts e1 = IsLawful-marked ts e (min r s) low lowered h k.low_at refl refl low_down in
+      let lawful : IsLawful ts e1 = IsLawful-marked ts e (min r s) low lowered h k.low_at refl refl low_down (proper_lowered ts e (min r s) low lowered h k.low_at refl refl (omega arith) low_open.free) in
       let high_at : slice_get e1.variables (max r s) ≡ Some high = slice_get-slice_set_other e.variables (min r s) (max r s) lowered other ∙ k.high_at in
       let low_at : slice_get e1.variables (min r s) ≡ Some lowered = slice_get-slice_set_same e.variables (min r s) lowered (slice_get_below e.variables (min r s) low k.low_at) in
       let high_down : LeadsDown (max r s) linked = record {
         state = λ m q. (let is : min r s ≡ m = cc in omega (arith, is, below));
         sub_link = λ m q. h.descends.sub_links (max r s) m high k.high_at q;
       } in
-      rw k.entries (IsLawful-region_link ts e1 (max r s) (min r s) high lowered linked lawful high_at low_at high_open.region low_open.region high_open.free low_open.free refl refl high_down)
+      rw k.entries (IsLawful-region_link ts e1 (max r s) (min r s) high lowered linked lawful high_at low_at high_open.region low_open.region high_open.free low_open.free refl refl refl (omega arith) high_down)
 
 pub IsTable-regions_joined : (ts : List Tree) (t u : Table) (x y : ℕ) → RegionsJoined t.entries u.entries x y → u.saved ≡ t.saved → IsTable ts t → kind_at (content_of ts t.entries) x ≡ Some kind.Region → kind_at (content_of ts t.entries) y ≡ Some kind.Region → IsTable ts u
 IsTable-regions_joined ts t u x y j s h p q = by_case j.joined

@@ -3,6 +3,7 @@ use Rattle.std.specs.Prelude.{IsSome}
 use Rattle.std.proofs.Common.{Option, Some, None, append-nil, ◌≡◌, ℕ, zero, suc, ◌+◌, ◌<◌, ◌≤◌, List, [], ◌∷◌, ◌++◌, length, drop, refl, sym, ap, ◌∙◌, arith, length-append}
 use Rattle.std.proofs.lemmas.Grind.{common_steps}
 use Rattle.nts_table.specs.declared.contents.Change.{Change}
+use Rattle.nts_terms.specs.declared.sources.TypingMode.{TypingMode}
 use Rattle.nts_table.specs.Entries.{Entries, Table, undone, all_undone}
 use Rattle.nts_table.specs.Saved.{saved_of, IsFirst, AreMarks}
 
@@ -81,7 +82,7 @@ pub record Logged (now : Table) (d : Entries) (log : List Change) (ps : List ℕ
   pub marks : AreMarks (length log) ps
   pub saved : saved_of d log ps ≡ now.saved
 
-pub logged : (now : Table) (c d : Entries) (log log' : List Change) (x : Change) (ps : List ℕ) → ◌≡◌ {A = Table} (record { entries = c; saved = saved_of c log ps }) now → AreMarks (length log) ps → log' ≡ log ++ x ∷ [] → undone x d ≡ c → Logged now d log' ps
+pub logged : (now : Table) (c d : Entries) (log log' : List Change) (x : Change) (ps : List ℕ) {m : TypingMode} → ◌≡◌ {A = Table} (record { entries = c; saved = saved_of c log ps; mode = m }) now → AreMarks (length log) ps → log' ≡ log ++ x ∷ [] → undone x d ≡ c → Logged now d log' ps
 logged now c d log log' x ps v h e u =
     record {
       marks = AreMarks-more (length log) (length log') ps h (omega (arith, ap length e, length-append log (x ∷ [])));
@@ -97,7 +98,7 @@ push_inj (a ∷ xs) (b ∷ ys) x y e =
     let i = push_inj xs ys x y t in
     (let h : a ≡ b = cc in cc (h, i.0), i.1)
 
--- a rollback right after what left the saved entriess
-pub back_to : (old new : Table) (saved : List Entries) → saved ≡ old.saved ++ old.entries ∷ [] → saved ≡ new.saved ++ new.entries ∷ [] → new ≡ old
-back_to old new saved p q =
-    let i = push_inj new.saved old.saved new.entries old.entries (sym q ∙ p) in λ j. record { entries = i.1 j; saved = i.0 j }
+-- a rollback right after what left the saved entries and the mode
+pub back_to : (old new : Table) (saved : List Entries) → saved ≡ old.saved ++ old.entries ∷ [] → saved ≡ new.saved ++ new.entries ∷ [] → new.mode ≡ old.mode → new ≡ old
+back_to old new saved p q m =
+    let i = push_inj new.saved old.saved new.entries old.entries (sym q ∙ p) in λ j. record { entries = i.1 j; saved = i.0 j; mode = m j }

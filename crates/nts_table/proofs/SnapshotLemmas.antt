@@ -1,11 +1,11 @@
 -- A table whose snapshots are opened and closed goes with its store.
-use Rattle.std.proofs.Common.{◌≡◌, List, [], ◌∷◌, ◌++◌}
+use Rattle.std.proofs.Common.{◌≡◌, List, [], ◌∷◌, ◌++◌, sym, ◌∙◌}
 use Rattle.nts_model.specs.Trees.{Tree}
 use Rattle.nts_terms.specs.Growth.{Extends}
 use Rattle.nts_table.specs.Entries.{Entries, Table}
 use Rattle.nts_table.specs.Reading.{IsLawful, AllLawful, IsTable}
-use Rattle.nts_table.specs.Lawful.{IsTable-same}
-use Rattle.nts_table.proofs.SavedLemmas.{back_to}
+use Rattle.nts_table.specs.Lawful.{IsTable-extended}
+use Rattle.nts_table.proofs.SavedLemmas.{push_inj}
 
 AllLawful-push : (ts : List Tree) (cs : List Entries) (c : Entries) → AllLawful ts cs → IsLawful ts c → AllLawful ts (cs ++ c ∷ [])
 AllLawful-push ts [] c h k = (k, tt)
@@ -25,4 +25,7 @@ IsTable-committed {ts} {t} {u} c h e s =
 
 -- rolled back to where it was
 pub IsTable-rolled_back : {a b : List Tree} {t u : Table} (saved : List Entries) → IsTable a t → Extends a b → saved ≡ t.saved ++ t.entries ∷ [] → saved ≡ u.saved ++ u.entries ∷ [] → IsTable b u
-IsTable-rolled_back {a} {b} {t} {u} saved h e p q = IsTable-same h e (back_to t u saved p q)
+IsTable-rolled_back {a} {b} {t} {u} saved h e p q =
+    let i = push_inj u.saved t.saved u.entries t.entries (sym q ∙ p) in
+    let k : IsTable b t = IsTable-extended e h in
+    record { now = rw i.1 k.now; saved = rw i.0 k.saved }

@@ -4,7 +4,7 @@ use Rattle.nts_model.specs.Trees.{Tree}
 use Rattle.nts_table.specs.Entries.{Entries, Table}
 use Rattle.nts_table.specs.Reading.{IsLawful, IsTable}
 use Rattle.nts_table.specs.Roots.{SubRootsJoin, SubLinked}
-use Rattle.nts_table.specs.Setting.{LeadsDown, IsLawful-marked, IsTable-now}
+use Rattle.nts_table.specs.Setting.{proper_sub_linked, LeadsDown, IsLawful-marked, IsTable-now}
 
 IsLawful-sub_linked : (ts : List Tree) (e f : Entries) (r s : ℕ) → IsLawful ts e → SubLinked e f r s → IsLawful ts f
 IsLawful-sub_linked ts e f r s h k =
@@ -14,7 +14,7 @@ IsLawful-sub_linked ts e f r s h k =
       state = λ m q. h.descends.links (max r s) m v k.at q;
       sub_link = λ m q. (let is : min r s ≡ m = cc in let apart : r ≡ s → ⊥ = k.apart in omega (arith, is, apart));
     } in
-    rw k.entries (IsLawful-marked ts e (max r s) v w h k.at refl refl down)
+    rw k.entries (IsLawful-marked ts e (max r s) v w h k.at refl refl down (proper_sub_linked ts e (max r s) v w h k.at refl refl refl))
 
 pub IsTable-sub_joined : (ts : List Tree) (t u : Table) (x y : ℕ) → SubRootsJoin t.entries u.entries x y → u.saved ≡ t.saved → IsTable ts t → IsTable ts u
 IsTable-sub_joined ts t u x y j s h = by_case j.joined

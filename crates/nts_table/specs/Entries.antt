@@ -1,5 +1,6 @@
 -- The entries of a table, and how one change is undone.
 use Rattle.std.specs.Prelude.{ℕ, List, [], ◌∷◌, ◌++◌, length, slice_set, take, ◌-◌}
+use Rattle.nts_terms.specs.declared.sources.TypingMode.{TypingMode}
 use Rattle.nts_table.specs.declared.contents.Variable.{Variable}
 use Rattle.nts_table.specs.declared.contents.Change.{Change}
 use Rattle.nts_table.specs.declared.contents.Change.TheVariants.{Added, Changed, Bound, Moved, Constrained}
@@ -13,10 +14,11 @@ pub record Entries : Type 0 where
   pub universe : ℕ
   pub constraints : List Constraint
 
--- .. and the entries at the snapshots that are open, the first snapshot's first
+-- .. the entries at the snapshots that are open, the first snapshot's first, and what goals may know of hidden types
 pub record Table : Type 0 where
   pub entries : Entries
   pub saved : List Entries
+  pub mode : TypingMode
 
 -- the list without its last element
 abbrev pub front : {A : Type 0} → List A → List A

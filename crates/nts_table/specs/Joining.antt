@@ -3,8 +3,10 @@ use Rattle.std.specs.Prelude.{◌≡◌, ◌≢◌, ℕ, ◌+◌, ◌<◌, min, 
 use Rattle.nts_model.specs.declared.labels.VariableKind.{VariableKind}
 use Rattle.nts_model.specs.declared.labels.VariableKind.TheVariants as kind
 use Rattle.nts_model.specs.Trees.{Tree}
-use Rattle.nts_model.specs.Contents.{Content, link, state_of, kind_at}
+use Rattle.nts_model.specs.Contents.{Content, link, state_of, universe_of, kind_at}
 use Rattle.nts_model.specs.Resolving.{Lacks, resolved}
+use Rattle.nts_model.specs.Holding.{Continues}
+use Rattle.nts_model.specs.Equations.{Narrows}
 use Rattle.nts_table.specs.declared.contents.Variable.{Variable}
 use Rattle.nts_table.specs.declared.contents.State.TheVariants.{Unset}
 use Rattle.nts_table.specs.Entries.{Entries}
@@ -38,6 +40,14 @@ pub record CanJoinRegions (e : Entries) (x y : ℕ) : Type 0 where
   pub second : HasUnset e y kind.Region
   pub apart : x ≡ y → ⊥
 
+-- two variables are one afterwards, in the lower of their universes
+pub record IsOneClass (c d : Content) (low high : ℕ) : Type 0 where
+  pub continues : Continues c d
+  pub linked : state_of d high ≡ Some (link low)
+  pub narrows : Narrows c d (λ w. w.tree low ≡ w.tree high)
+  pub root : (u v : ℕ) → universe_of c low ≡ Some u → universe_of c high ≡ Some v → universe_of d low ≡ Some (min u v)
+  pub universes : (n : ℕ) → (n ≡ low → ⊥) → universe_of d n ≡ universe_of c n
+
 -- the higher number leads to the lower one
 pub record IsJoined (c d : Content) (low high : ℕ) : Type 0 where
   pub later : IsLater c d
@@ -49,7 +59,9 @@ pub record IsJoined (c d : Content) (low high : ℕ) : Type 0 where
 pub record Joins (ts : List Tree) (e f : Entries) (x y : ℕ) : Type 0 where
   pub lawful : IsLawful ts f
   pub joined : IsJoined (content_of ts e) (content_of ts f) (min x y) (max x y)
+  pub one : IsOneClass (content_of ts e) (content_of ts f) (min x y) (max x y)
 
 pub record RegionsJoin (ts : List Tree) (e f : Entries) (x y : ℕ) : Type 0 where
   pub lawful : IsLawful ts f
   pub keeps : Keeps (content_of ts e) (content_of ts f)
+  pub one : IsOneClass (content_of ts e) (content_of ts f) (min x y) (max x y)

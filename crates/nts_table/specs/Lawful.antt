@@ -15,6 +15,7 @@ use Rattle.nts_table.specs.declared.contents.State.TheVariants.{Unset, Link, Kno
 use Rattle.nts_table.specs.declared.contents.Variable.{Variable}
 use Rattle.nts_table.specs.declared.contents.Constraint.{Constraint}
 use Rattle.nts_table.specs.Entries.{Entries, Table, added, moved, constrained}
+use Rattle.nts_table.specs.Proper.{IsSortKind, IsProper, IsProper-empty, IsProper-with_slot, IsProper-with_constraint, IsProper-in_universe}
 use Rattle.nts_table.specs.Reading.{state_with, slot_of, recorded_of, content_of, IsHeldState, AreHeld, IsConstraint, AreConstraints, LinksDescend, IsLawful, AllLawful, IsTable}
 
 state_with-extended : (a b : List Tree) (s : State) → Extends a b → IsHeldState a s → state_with b s ≡ state_with a s
@@ -64,6 +65,7 @@ IsConstraint-extended a b c x e h =
       right_known = rw right h.right_known;
       left_sort = rw left h.left_sort;
       right_sort = rw right h.right_sort;
+      regions = rw (left, right) h.regions;
     }
 
 AreConstraints-extended : (a b : List Tree) (c : Content) (xs : List Constraint) → Extends a b → AreConstraints a c xs → AreConstraints b c xs
@@ -79,6 +81,7 @@ IsLawful-extended {a} {b} {c} e h =
       constraints = rw same (AreConstraints-extended a b (content_of a c) c.constraints e h.constraints);
       descends = h.descends;
       sound = rw same h.sound;
+      proper = rw same h.proper;
     }
 
 AllLawful-extended : (a b : List Tree) (cs : List Entries) → Extends a b → AllLawful a cs → AllLawful b cs
@@ -100,6 +103,7 @@ AreConstraints-kept ts c d (x ∷ xs) k h = (
     right_known = Knows-kept c d (tree_at ts x.right) k h.0.right_known;
     left_sort = h.0.left_sort;
     right_sort = h.0.right_sort;
+    regions = h.0.regions;
   },
   AreConstraints-kept ts c d xs k h.1,
 )
@@ -108,10 +112,11 @@ AreHeld-push : (ts : List Tree) (vs : List Variable) (v : Variable) → AreHeld 
 AreHeld-push ts [] v h k = (k, tt)
 AreHeld-push ts (w ∷ vs) v h k = (h.0, AreHeld-push ts vs v h.1 k)
 
--- a variable of which nothing is known yet
+-- a variable of which nothing is known yet, of one of the three sorts
 pub record IsNew (v : Variable) : Type 0 where
   pub state : v.state ≡ Unset
   pub sub_link : v.sub_link ≡ None
+  pub of_kind : IsSortKind v.kind
 
 pub content_of-added : (ts : List Tree) (c : Entries) (v : Variable) → content_of ts (added c v) ≡ with_slot (content_of ts c) (slot_of ts v)
 content_of-added ts c v =
@@ -146,6 +151,7 @@ IsLawful-added ts c v h w =
       constraints = rw same (AreConstraints-kept ts (content_of ts c) (with_slot (content_of ts c) slot) c.constraints (KeepsKinds-with_slot (content_of ts c) slot) h.constraints);
       descends = LinksDescend-added c v h.descends w;
       sound = rw same (IsSound-with_slot (content_of ts c) slot h.sound free);
+      proper = rw same (IsProper-with_slot (content_of ts c) slot free w.of_kind h.sound h.proper);
     }
 
 pub IsLawful-moved : (ts : List Tree) (c : Entries) (u : ℕ) → IsLawful ts c → IsLawful ts (moved c u)
@@ -155,6 +161,7 @@ IsLawful-moved ts c u h =
       constraints = AreConstraints-kept ts (content_of ts c) (in_universe (content_of ts c) u) c.constraints (record { kinds = λ n k q. q }) h.constraints;
       descends = record { links = h.descends.links; sub_links = h.descends.sub_links };
       sound = IsSound-in_universe (content_of ts c) u h.sound;
+      proper = IsProper-in_universe (content_of ts c) u h.sound h.proper;
     }
 
 -- the table after a new variable, in a store that has grown
@@ -200,8 +207,34 @@ IsLawful-constrained ts c x h k =
       constraints = rw same (AreConstraints-kept ts (content_of ts c) next (c.constraints ++ x ∷ []) kinds (AreConstraints-append ts (content_of ts c) c.constraints x h.constraints k));
       descends = record { links = h.descends.links; sub_links = h.descends.sub_links };
       sound = rw same (IsSound-with_constraint (content_of ts c) (recorded_of ts x) h.sound);
+      proper = rw same (IsProper-with_constraint (content_of ts c) (recorded_of ts x) k.left_known k.right_known k.regions h.sound h.proper);
     }
 
 pub IsTable-constrained : {a : List Tree} {t u : Table} {x : Constraint} → IsTable a t → IsConstraint a (content_of a t.entries) x → u.entries ≡ constrained t.entries x → u.saved ≡ t.saved → IsTable a u
 IsTable-constrained {a} {t} {u} {x} h k q s =
     record { now = rw q (IsLawful-constrained a t.entries x h.now k); saved = rw s h.saved }
+
+-- a table without variables
+pub IsTable-new : (ts : List Tree) (t : Table) → t.entries ≡ record { variables = []; order = []; universe = 0; constraints = [] } → t.saved ≡ [] → IsTable ts t
+IsTable-new ts t e s =
+    let c : Entries = record { variables = []; order = []; universe = 0; constraints = [] } in
+    let now : IsLawful ts c = record {
+      held = tt;
+      constraints = tt;
+      descends = record { links = λ n m v h q. cc; sub_links = λ n m v h q. cc };
+      sound = record {
+        descends = λ n m q. cc;
+        one_kind = λ n m q. cc;
+        known_trees = λ n x q. cc;
+        no_variables = λ n x q. cc;
+        fits = λ n x k q. cc;
+        linked = λ n m q. cc;
+        bound = λ n x q. cc;
+        unbound = λ n q. cc;
+        ordered = λ n q. absurd q;
+        no_region = λ n q. absurd q;
+        acyclic = tt;
+      };
+      proper = IsProper-empty (content_of ts c) refl refl;
+    } in
+    record { now = rw e now; saved = rw s tt }

@@ -1,5 +1,6 @@
 pub mod Entries
 pub mod Saved
+pub mod Proper
 pub mod Reading
 pub mod Making
 pub mod Roots
@@ -7,6 +8,7 @@ pub mod Lawful
 pub mod Resolution
 pub mod Classes
 pub mod Recording
+pub mod Deduplicated
 pub mod Probing
 pub mod Fresh
 pub mod Setting

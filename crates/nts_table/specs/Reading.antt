@@ -6,12 +6,14 @@ use Rattle.nts_model.specs.declared.labels.Relation.TheVariants as relation
 use Rattle.nts_model.specs.Trees.{Tree, NodeKind, of_sort, kind_of}
 use Rattle.nts_model.specs.Contents.{Content, Slot, SlotState, unset, link, known, Recorded}
 use Rattle.nts_model.specs.Resolving.{Knows, IsSound}
+use Rattle.nts_model.specs.RegionClasses.{AreRegions}
 use Rattle.nts_terms.specs.Growth.{tree_at, IsIn}
 use Rattle.nts_table.specs.declared.contents.State.{State}
 use Rattle.nts_table.specs.declared.contents.State.TheVariants.{Unset, Link, Known}
 use Rattle.nts_table.specs.declared.contents.Variable.{Variable}
 use Rattle.nts_table.specs.declared.contents.Constraint.{Constraint}
 use Rattle.nts_table.specs.Entries.{Entries, Table}
+use Rattle.nts_table.specs.Proper.{IsProper}
 
 abbrev pub state_with : List Tree → State → SlotState
 state_with ts Unset = unset
@@ -47,7 +49,8 @@ left_kind relation.Equal = of_sort sort.Region
 left_kind relation.RegionOutlives = of_sort sort.Region
 left_kind relation.TypeOutlives = of_sort sort.Ty
 
--- the sides of a constraint are of the store and the table, and of their sorts
+-- the sides of a constraint are of the store and the table, and of their sorts; those of an equality are
+-- no bound regions
 pub record IsConstraint (ts : List Tree) (c : Content) (x : Constraint) : Type 0 where
   pub left_in : IsIn ts x.left
   pub right_in : IsIn ts x.right
@@ -55,6 +58,7 @@ pub record IsConstraint (ts : List Tree) (c : Content) (x : Constraint) : Type 0
   pub right_known : Knows c (tree_at ts x.right)
   pub left_sort : kind_of (tree_at ts x.left) ≡ Some (left_kind x.relation)
   pub right_sort : kind_of (tree_at ts x.right) ≡ Some (of_sort sort.Region)
+  pub regions : AreRegions x.relation (tree_at ts x.left) (tree_at ts x.right)
 
 abbrev pub AreConstraints : List Tree → Content → List Constraint → Type 0
 AreConstraints ts c [] = Unit {0}
@@ -65,12 +69,13 @@ pub record LinksDescend (c : Entries) : Type 0 where
   pub links : (n m : ℕ) (v : Variable) → slice_get c.variables n ≡ Some v → v.state ≡ Link m → m < n
   pub sub_links : (n m : ℕ) (v : Variable) → slice_get c.variables n ≡ Some v → v.sub_link ≡ Some m → m < n
 
--- entries whose terms are of the store, and whose values stand for trees
+-- entries whose terms are of the store, whose values stand for trees, and that have a solution
 pub record IsLawful (ts : List Tree) (c : Entries) : Type 0 where
   pub held : AreHeld ts c.variables
   pub constraints : AreConstraints ts (content_of ts c) c.constraints
   pub descends : LinksDescend c
   pub sound : IsSound (content_of ts c)
+  pub proper : IsProper (content_of ts c)
 
 abbrev pub AllLawful : List Tree → List Entries → Type 0
 AllLawful ts [] = Unit {0}

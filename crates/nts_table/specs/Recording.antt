@@ -1,21 +1,29 @@
 -- Constraints that are recorded.
-use Rattle.std.proofs.Common.{◌≡◌, List, [], ◌∷◌, ◌++◌, map}
+use Rattle.std.proofs.Common.{◌≡◌, Bool, true, false, List, [], ◌∷◌, ◌++◌, map}
 use Rattle.std.proofs.lemmas.List.{map-append}
 use Rattle.nts_model.specs.Trees.{Tree}
 use Rattle.nts_model.specs.Contents.{Content, with_constraint}
 use Rattle.nts_model.proofs.Sound.{IsSound-with_constraint}
+use Rattle.nts_terms.specs.declared.sources.VisibleForLeakCheck.{VisibleForLeakCheck}
+use Rattle.nts_terms.specs.declared.sources.VisibleForLeakCheck.TheVariants.{Yes, No}
 use Rattle.nts_terms.specs.Growth.{tree_at}
 use Rattle.nts_table.specs.declared.contents.Constraint.{Constraint}
 use Rattle.nts_table.specs.Entries.{Entries, Table, constrained}
+use Rattle.nts_table.specs.Proper.{IsProper-with_constraint}
 use Rattle.nts_table.specs.Reading.{slot_of, recorded_of, content_of, IsConstraint, AreConstraints, IsLawful, IsTable}
 use Rattle.nts_table.specs.Lawful.{AreConstraints-kept}
+
+-- the leak check sees it
+abbrev pub is_visible : VisibleForLeakCheck → Bool
+is_visible Yes = true
+is_visible No = false
 
 -- one more constraint, if its sides are two trees
 pub record Records (ts : List Tree) (e f : Entries) (x : Constraint) : Type 0 where
   pub equal : tree_at ts x.left ≡ tree_at ts x.right → f ≡ e
   pub unequal : (tree_at ts x.left ≡ tree_at ts x.right → ⊥) → f ≡ constrained e x
 
-AreConstraints-push : (ts : List Tree) (c : Content) (xs : List Constraint) (x : Constraint) → AreConstraints ts c xs → IsConstraint ts c x → AreConstraints ts c (xs ++ x ∷ [])
+pub AreConstraints-push : (ts : List Tree) (c : Content) (xs : List Constraint) (x : Constraint) → AreConstraints ts c xs → IsConstraint ts c x → AreConstraints ts c (xs ++ x ∷ [])
 AreConstraints-push ts c [] x h k = (k, tt)
 AreConstraints-push ts c (y ∷ xs) x h k = (h.0, AreConstraints-push ts c xs x h.1 k)
 
@@ -33,6 +41,7 @@ IsLawful-constrained ts c x h k =
       constraints = rw same (AreConstraints-kept ts (content_of ts c) (with_constraint (content_of ts c) (recorded_of ts x)) (c.constraints ++ x ∷ []) (record { kinds = λ n j q. q }) all);
       descends = record { links = h.descends.links; sub_links = h.descends.sub_links };
       sound = rw same (IsSound-with_constraint (content_of ts c) (recorded_of ts x) h.sound);
+      proper = rw same (IsProper-with_constraint (content_of ts c) (recorded_of ts x) k.left_known k.right_known k.regions h.sound h.proper);
     }
 
 -- a table with one more constraint goes with its store

@@ -3,9 +3,15 @@ use Rattle.std.specs.Prelude.{◌≡◌, ◌≢◌, ℕ, zero, suc, ◌+◌, ◌
 use Rattle.nts_model.specs.declared.labels.VariableKind.{VariableKind}
 use Rattle.nts_model.specs.declared.labels.VariableKind.TheVariants as kind
 use Rattle.nts_model.specs.declared.labels.Sort.TheVariants as sort
-use Rattle.nts_model.specs.Trees.{Tree, empty, more, node, size, kind_of, kind_of_label, of_sort, row_length}
-use Rattle.nts_model.specs.Contents.{Content, unset, state_of, kind_at}
-use Rattle.nts_model.specs.Resolving.{Knows, IsInfer, Lacks, resolved, variable_tree}
+use Rattle.nts_model.specs.Trees.{Tree, empty, more, node, size, kind_of, kind_of_label, of_sort, row_length, IsClosedUnder}
+use Rattle.nts_model.specs.Contents.{Content, unset, state_of, universe_of, kind_at}
+use Rattle.nts_model.specs.Resolving.{Knows, IsInfer, Lacks, resolved, variable_tree, variable_flag}
+use Rattle.nts_model.specs.Levels.{NamesAll, level_in, term_level, region_level}
+use Rattle.nts_model.specs.Worlds.{World, inst, Solves}
+use Rattle.nts_model.specs.Holding.{Continues}
+use Rattle.nts_model.specs.Regions.{IsRegion}
+use Rattle.nts_model.specs.Alike.{AreAlike}
+use Rattle.nts_model.specs.Equations.{Extension, Equates, AllAlike, Narrows, Reduces}
 use Rattle.nts_terms.specs.declared.nodes.NodeId.{NodeId}
 use Rattle.nts_terms.specs.declared.facts.Facts.{Facts}
 use Rattle.nts_terms.specs.Growth.{tree_at, IsIn}
@@ -15,7 +21,7 @@ use Rattle.nts_table.specs.declared.relate.Head.TheVariants.{Open, Closed}
 use Rattle.nts_table.specs.Entries.{Entries}
 use Rattle.nts_table.specs.Reading.{content_of, IsLawful}
 use Rattle.nts_table.specs.Changing.{IsLater, Keeps, unset_count}
-use Rattle.nts_table.specs.Joining.{IsBindable}
+use Rattle.nts_table.specs.Joining.{IsBindable, Joins}
 
 -- the trees of a list from the i-th on
 abbrev pub row_drop : ℕ → Tree → Tree
@@ -42,13 +48,34 @@ pub record IsSettled (facts : Facts) (binders : ℕ) : Type 0 where
   pub no_placeholder : facts.has_placeholder ≡ false
   pub escaping : StaysBelow facts.escaping binders
 
--- the tree r stands for t in the value of the variable x, which the universe u bounds
-pub record Generalised (c d : Content) (x u : ℕ) (t r : Tree) : Type 0 where
+-- the tree r stands for t in the value of the variable x, which the universe u bounds, under b binders
+pub record Generalised (c d : Content) (x u b : ℕ) (t r : Tree) : Type 0 where
   pub keeps : Keeps c d
   pub knows : Knows d r
   pub no_variable : (IsInfer t → ⊥) → IsInfer r → ⊥
   pub like : IsLike r t
   pub lacks : Lacks x (resolved d r)
+  pub continues : Continues c d
+  pub own : universe_of d x ≡ universe_of c x
+  pub named : NamesAll (level_in d) u r
+  pub named_regions : NamesAll region_level u r
+  pub closed : IsClosedUnder b r
+  pub alike : AreAlike d r t
+  pub sound : (w : World) → Solves d w → Solves c w × (inst w r ≡ inst w t)
+  pub complete : (w : World) → Solves c w → NamesAll term_level u (inst w t) → Extension c d w
+
+-- the walk may refuse the tree: no instance of it that the universe names and that is closed is the
+-- tree of the variable x, since each is larger
+pub record Blocks (c : Content) (x u b : ℕ) (t : Tree) : Type 0 where
+  pub none : (w : World) → Solves c w → NamesAll term_level u (inst w t) → IsClosedUnder b (inst w t) → size (w.tree x) < size (inst w t) + variable_flag t
+
+-- no world makes the variable one with the tree
+pub record Forbids (c : Content) (x : ℕ) (t : Tree) : Type 0 where
+  pub none : (w : World) → Solves c w → w.tree x ≡ inst w t → ⊥
+
+-- .. or two variables one
+pub record KeepsApart (c : Content) (x y : ℕ) : Type 0 where
+  pub none : (w : World) → Solves c w → w.tree x ≡ w.tree y → ⊥
 
 -- an inference variable that is no region and has no value
 pub record IsUnset (c : Content) (n : ℕ) (k : VariableKind) : Type 0 where
@@ -61,11 +88,14 @@ pub record IsOpen (ts : List Tree) (e : Entries) (t : Tree) (n : ℕ) : Type 0 w
   pub bindable : IsBindable e n
   pub infer : IsInfer t
   pub like : IsLike (variable_tree bindable.of_kind n) t
+  pub same : resolved (content_of ts e) t ≡ resolved (content_of ts e) (variable_tree bindable.of_kind n)
+  pub worlds : (w : World) → Solves (content_of ts e) w → inst w t ≡ w.tree n
 
 pub record IsClosed (c : Content) (t v : Tree) : Type 0 where
   pub knows : Knows c v
   pub no_variable : IsInfer v → ⊥
   pub same : resolved c t ≡ resolved c v
+  pub worlds : (w : World) → Solves c w → inst w t ≡ inst w v
 
 abbrev pub IsHead : List Tree → Entries → Tree → Head → Type 0
 IsHead ts e t (Open n) = IsOpen ts e t n
@@ -76,11 +106,23 @@ pub record IsRegionOf (ts : List Tree) (e : Entries) (t : NodeId) : Type 0 where
   pub within : IsIn ts t
   pub knows : Knows (content_of ts e) (tree_at ts t)
   pub sort : kind_of (tree_at ts t) ≡ Some (of_sort sort.Region)
+  pub free : IsRegion (tree_at ts t)
+
+-- two regions made equal
+pub record RegionsRelate (c d : Content) (a b : Tree) : Type 0 where
+  pub keeps : Keeps c d
+  pub continues : Continues c d
+  pub narrows : Narrows c d (λ w. inst w a ≡ inst w b)
+  pub alike : AreAlike d a b
 
 -- a variable got a value, or was joined with another
 pub record IsSet (c d : Content) (x : ℕ) (t : Tree) : Type 0 where
   pub later : IsLater c d
   pub fewer : unset_count d.slots < unset_count c.slots
+  pub continues : Continues c d
+  pub alike : (k : VariableKind) → kind_at c x ≡ Some k → AreAlike d (variable_tree k x) t
+  pub sound : (w : World) → Solves d w → Solves c w × (w.tree x ≡ inst w t)
+  pub complete : (w : World) → Solves c w → w.tree x ≡ inst w t → Extension c d w
 
 -- two trees that are to be equal
 abbrev pub pair_at : List Tree → Pair → Tree × Tree
@@ -107,6 +149,9 @@ total c (p ∷ ps) = size (resolved c p.0) + size (resolved c p.1) + 1 + total c
 pub record Pushed (ts : List Tree) (ps qs : List Pair) (a b : Tree) (i : ℕ) : Type 0 where
   pub within : ArePairsIn ts ps → ArePairsIn ts qs
   pub known : (c : Content) → Knows c a → Knows c b → AreKnown c (pairs_at ts ps) → AreKnown c (pairs_at ts qs)
+  pub sound : (w : World) → Equates w (pairs_at ts qs) → Equates w (pairs_at ts ps) × (inst w (row_drop i a) ≡ inst w (row_drop i b))
+  pub complete : (w : World) → Equates w (pairs_at ts ps) → inst w (row_drop i a) ≡ inst w (row_drop i b) → Equates w (pairs_at ts qs)
+  pub alike : (c : Content) → AllAlike c (pairs_at ts qs) → AllAlike c (pairs_at ts ps) × AreAlike c (row_drop i a) (row_drop i b)
   pub weight : (c : Content) → total c (pairs_at ts qs) + row_length (row_drop i a) ≡ total c (pairs_at ts ps) + size (resolved c (row_drop i a)) + size (resolved c (row_drop i b))
 
 pub record IsValid (ts : List Tree) (e : Entries) (ps : List Pair) : Type 0 where
@@ -115,25 +160,26 @@ pub record IsValid (ts : List Tree) (e : Entries) (ps : List Pair) : Type 0 wher
   pub known : AreKnown (content_of ts e) (pairs_at ts ps)
 
 -- two variables without values made one, unless they were one
-pub record VariablesRelate (ts : List Tree) (e f : Entries) (bound : Bool) : Type 0 where
-  pub lawful : IsLawful ts f
-  pub later : IsLater (content_of ts e) (content_of ts f)
-  pub fewer : bound ≡ true → unset_count (content_of ts f).slots < unset_count (content_of ts e).slots
-  pub same : bound ≡ false → f ≡ e
+pub record VariablesRelate (ts : List Tree) (e f : Entries) (x y : ℕ) (bound : Bool) : Type 0 where
+  pub joins : bound ≡ true → Joins ts e f x y
+  pub same : bound ≡ false → (f ≡ e) × (x ≡ y)
 
 -- what is left after a pair
 pub record IsStep (c d : Content) (ps qs : List (Tree × Tree)) (bound : Bool) : Type 0 where
   pub later : IsLater c d
+  pub reduces : Reduces c d ps qs
   pub fewer : bound ≡ true → unset_count d.slots < unset_count c.slots
   pub smaller : bound ≡ false → (total d qs < total c ps) × (unset_count d.slots ≡ unset_count c.slots)
 
 -- pairs related until a variable got a value
 pub record IsRun (c d : Content) (ps qs : List (Tree × Tree)) (bound : Bool) : Type 0 where
   pub later : IsLater c d
+  pub reduces : Reduces c d ps qs
   pub fewer : bound ≡ true → unset_count d.slots < unset_count c.slots
   pub ends : bound ≡ false → qs ≡ []
 
 -- while pairs are taken
 pub record Running (c d : Content) (ps qs : List (Tree × Tree)) : Type 0 where
   pub later : IsLater c d
+  pub reduces : Reduces c d ps qs
   pub not_more : unset_count d.slots ≤ unset_count c.slots

@@ -60,6 +60,7 @@ impl InferCtxt {
         ensures joined { OnOk result (SubRootsJoin self.old.entries self.new.entries a b) }
         ensures table { (ts : List Tree) → IsTable ts self.old → IsTable ts self.new }
         ensures saved { self.new.saved ≡ self.old.saved }
+        ensures mode { self.new.mode ≡ self.old.mode }
         ensures err { OnErr result (self.new ≡ self.old) }
         ensures memory { IsOkUnless result Fault.Memory }
     {

@@ -5,12 +5,12 @@ ghost use Rattle.nts_model.specs.Resolving.{Knows};
 ghost use Rattle.nts_terms.specs.Growth.{tree_at};
 ghost use Rattle.nts_terms.specs.Handles.{HoldsTy, HoldsRegion};
 ghost use Rattle.nts_table.specs.Reading.{content_of, IsTable, IsConstraint};
-ghost use Rattle.nts_table.specs.Recording.{Records};
+ghost use Rattle.nts_table.specs.Recording.{Records, is_visible};
 
 use crate::contents::Constraint;
 use crate::infer_ctxt::InferCtxt;
 use nts_model::Relation;
-use nts_terms::{Cx, Fault, Nodes, Region, Span, Ty};
+use nts_terms::{Cx, Fault, Nodes, Region, Span, Ty, VisibleForLeakCheck};
 
 impl InferCtxt {
     /// Records that `b` outlives `a`, unless they are one.
@@ -19,7 +19,7 @@ impl InferCtxt {
         cx: &Cx,
         a: Region,
         b: Region,
-        visible: bool,
+        visible: VisibleForLeakCheck,
         _span: Span,
     ) -> Result<(), Fault>
         requires table { IsTable cx.now.nodes self.old }
@@ -27,9 +27,10 @@ impl InferCtxt {
         requires right { HoldsRegion cx.now.nodes b }
         requires left_known { Knows (content_of cx.now.nodes self.old.entries) (tree_at cx.now.nodes a.node) }
         requires right_known { Knows (content_of cx.now.nodes self.old.entries) (tree_at cx.now.nodes b.node) }
-        ensures recorded { OnOk result (Records cx.now.nodes self.old.entries self.new.entries (record { relation = relation.RegionOutlives; left = b.node; right = a.node; is_visible = visible })) }
+        ensures recorded { OnOk result (Records cx.now.nodes self.old.entries self.new.entries (record { relation = relation.RegionOutlives; left = b.node; right = a.node; is_visible = is_visible visible })) }
         ensures table { IsTable cx.now.nodes self.new }
         ensures saved { self.new.saved ≡ self.old.saved }
+        ensures mode { self.new.mode ≡ self.old.mode }
         ensures err { OnErr result (self.new ≡ self.old) }
         ensures memory { IsOkUnless result Fault.Memory }
     {
@@ -39,7 +40,7 @@ impl InferCtxt {
                 relation: Relation::RegionOutlives,
                 left: b.node,
                 right: a.node,
-                is_visible: visible,
+                is_visible: is_seen(visible),
             },
         )
     }
@@ -60,6 +61,7 @@ impl InferCtxt {
         ensures recorded { OnOk result (Records cx.now.nodes self.old.entries self.new.entries (record { relation = relation.TypeOutlives; left = ty.node; right = region.node; is_visible = true })) }
         ensures table { IsTable cx.now.nodes self.new }
         ensures saved { self.new.saved ≡ self.old.saved }
+        ensures mode { self.new.mode ≡ self.old.mode }
         ensures err { OnErr result (self.new ≡ self.old) }
         ensures memory { IsOkUnless result Fault.Memory }
     {
@@ -75,12 +77,13 @@ impl InferCtxt {
     }
 
     /// Records a constraint, unless its sides are one term.
-    pub fn record(&mut self, nodes: &Nodes, constraint: Constraint) -> Result<(), Fault>
+    pub(crate) fn record(&mut self, nodes: &Nodes, constraint: Constraint) -> Result<(), Fault>
         requires table { IsTable nodes.now self.old }
         requires sides { IsConstraint nodes.now (content_of nodes.now self.old.entries) constraint }
         ensures recorded { OnOk result (Records nodes.now self.old.entries self.new.entries constraint) }
         ensures table { IsTable nodes.now self.new }
         ensures saved { self.new.saved ≡ self.old.saved }
+        ensures mode { self.new.mode ≡ self.old.mode }
         ensures err { OnErr result (self.new ≡ self.old) }
         ensures memory { IsOkUnless result Fault.Memory }
     {
@@ -89,5 +92,15 @@ impl InferCtxt {
         }
         self.constrain(constraint)?;
         Ok(())
+    }
+}
+
+/// Whether the leak check sees a constraint that is recorded so.
+pub(crate) fn is_seen(visible: VisibleForLeakCheck) -> bool
+    ensures { result ≡ is_visible visible }
+{
+    match visible {
+        VisibleForLeakCheck::Yes => true,
+        VisibleForLeakCheck::No => false,
     }
 }

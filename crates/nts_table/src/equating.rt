@@ -1,30 +1,34 @@
 //! Regions made equal.
-ghost use Rattle.std.specs.Prelude.{◌≡◌, ◌⊎◌, ◌<◌, length, List, Some, OnOk, OnErr, IsOkUnless};
+ghost use Rattle.std.specs.Prelude.{◌≡◌, ◌⊎◌, ◌<◌, length, List, Some, OnOk, OnErr, IsOkUnless, true, false};
 ghost use Rattle.nts_model.specs.declared.labels.VariableKind.TheVariants as kinds;
 ghost use Rattle.nts_model.specs.Contents.{kind_at};
 ghost use Rattle.nts_model.specs.Resolving.{Knows};
+ghost use Rattle.nts_model.specs.Regions.{IsRegion};
 ghost use Rattle.nts_model.specs.Trees.{Tree};
 ghost use Rattle.nts_terms.specs.Growth.{tree_at, IsIn};
 ghost use Rattle.nts_terms.specs.Handles.{HoldsRegion};
 ghost use Rattle.nts_table.specs.Reading.{content_of, IsTable, LinksDescend};
+ghost use Rattle.nts_table.specs.Recording.{is_visible};
 ghost use Rattle.nts_table.specs.Equating.{Equated, RegionsJoined, RegionsLinked, region_variable};
 
+use crate::constraints::is_seen;
 use crate::contents::{Constraint, State, Variable};
 use crate::infer_ctxt::InferCtxt;
+use crate::labels::names_free_region;
 use crate::named::named_variable;
 use nts_model::{Relation, VariableKind};
-use nts_terms::{Cx, Fault, NodeId, Nodes, Region, Span};
+use nts_terms::{Cx, Fault, NodeId, Nodes, Region, Span, VisibleForLeakCheck};
 use std::alloc::AllocError;
 
 impl InferCtxt {
-    /// Makes two regions equal: two variables become one, and otherwise it is recorded, unless the
-    /// regions are one already.
+    /// Makes two regions equal, which are no bound variables: two variables become one, and otherwise
+    /// it is recorded, unless the regions are one already.
     pub fn equate_regions(
         &mut self,
         cx: &Cx,
         a: Region,
         b: Region,
-        visible: bool,
+        visible: VisibleForLeakCheck,
         _span: Span,
     ) -> Result<(), Fault>
         requires table { IsTable cx.now.nodes self.old }
@@ -32,9 +36,12 @@ impl InferCtxt {
         requires right { HoldsRegion cx.now.nodes b }
         requires left_known { Knows (content_of cx.now.nodes self.old.entries) (tree_at cx.now.nodes a.node) }
         requires right_known { Knows (content_of cx.now.nodes self.old.entries) (tree_at cx.now.nodes b.node) }
-        ensures equated { OnOk result (Equated cx.now.nodes self.old.entries self.new.entries a.node b.node visible) }
+        requires left_free { IsRegion (tree_at cx.now.nodes a.node) }
+        requires right_free { IsRegion (tree_at cx.now.nodes b.node) }
+        ensures equated { OnOk result (Equated cx.now.nodes self.old.entries self.new.entries a.node b.node (is_visible visible)) }
         ensures table { IsTable cx.now.nodes self.new }
         ensures saved { self.new.saved ≡ self.old.saved }
+        ensures mode { self.new.mode ≡ self.old.mode }
         ensures err { OnErr result (self.new ≡ self.old) }
         ensures memory { IsOkUnless result Fault.Memory }
     {
@@ -52,7 +59,7 @@ impl InferCtxt {
                     relation: Relation::Equal,
                     left: a.node,
                     right: b.node,
-                    is_visible: visible,
+                    is_visible: is_seen(visible),
                 },
             ),
         }
@@ -65,6 +72,7 @@ impl InferCtxt {
         requires descends { LinksDescend self.old.entries }
         ensures joined { OnOk result (RegionsJoined self.old.entries self.new.entries x y) }
         ensures saved { self.new.saved ≡ self.old.saved }
+        ensures mode { self.new.mode ≡ self.old.mode }
         ensures err { OnErr result (self.new ≡ self.old) }
         ensures memory { IsOkUnless result Fault.Memory }
     {
@@ -93,6 +101,7 @@ impl InferCtxt {
         requires apart { r ≡ s → ⊥ }
         ensures linked { OnOk result (RegionsLinked self.old.entries self.new.entries r s) }
         ensures saved { self.new.saved ≡ self.old.saved }
+        ensures mode { self.new.mode ≡ self.old.mode }
     {
         let low = r.min(s);
         let high = r.max(s);
@@ -114,4 +123,13 @@ fn region_number(nodes: &Nodes, t: NodeId) -> Option<usize>
         Some((VariableKind::Region, n)) => Some(n),
         _ => None,
     }
+}
+
+/// Whether a region is no bound variable, so that it can be made equal to others.
+pub fn is_unbound(cx: &Cx, region: Region) -> bool
+    requires { HoldsRegion cx.now.nodes region }
+    ensures yes { result ≡ true → IsRegion (tree_at cx.now.nodes region.node) }
+    ensures no { result ≡ false → IsRegion (tree_at cx.now.nodes region.node) → ⊥ }
+{
+    names_free_region(cx.nodes.label(region.node))
 }

@@ -25,6 +25,7 @@ impl InferCtxt {
         ensures within { IfOk result (λ v. AllIn cx.new.nodes v.items) }
         ensures entries { OnOk result (self.new.entries ≡ with_fresh self.old.entries sorts.now) }
         ensures saved { self.new.saved ≡ self.old.saved }
+        ensures mode { self.new.mode ≡ self.old.mode }
         ensures table { IsTable cx.new.nodes self.new }
         ensures extends { Extends cx.old.nodes cx.new.nodes }
         ensures rest { KeepsRest cx.old cx.new }
@@ -51,6 +52,7 @@ impl InferCtxt {
         ensures holds { IfOk result (λ a. HoldsArgs cx.new.nodes a) }
         ensures entries { OnOk result (self.new.entries ≡ with_fresh self.old.entries sorts.now) }
         ensures saved { self.new.saved ≡ self.old.saved }
+        ensures mode { self.new.mode ≡ self.old.mode }
         ensures table { IsTable cx.new.nodes self.new }
         ensures extends { Extends cx.old.nodes cx.new.nodes }
         ensures rest { KeepsRest cx.old cx.new }
@@ -76,6 +78,7 @@ impl InferCtxt {
         ensures holds { IfOk result (λ a. HoldsArgs cx.new.nodes a) }
         ensures entries { OnOk result (self.new.entries ≡ with_fresh self.old.entries sorts.now) }
         ensures saved { self.new.saved ≡ self.old.saved }
+        ensures mode { self.new.mode ≡ self.old.mode }
         ensures table { IsTable cx.new.nodes self.new }
         ensures extends { Extends cx.old.nodes cx.new.nodes }
         ensures rest { KeepsRest cx.old cx.new }
@@ -93,6 +96,7 @@ impl InferCtxt {
         ensures within { IfOk result (λ v. AllIn cx.new.nodes v.items) }
         ensures entries { OnOk result (self.new.entries ≡ with_fresh self.old.entries sorts.now) }
         ensures saved { self.new.saved ≡ self.old.saved }
+        ensures mode { self.new.mode ≡ self.old.mode }
         ensures table { IsTable cx.new.nodes self.new }
         ensures extends { Extends cx.old.nodes cx.new.nodes }
         ensures rest { KeepsRest cx.old cx.new }
@@ -106,12 +110,13 @@ impl InferCtxt {
     }
 
     /// A new variable of that sort.
-    pub fn fresh_node(&mut self, cx: &mut Cx, sort: Sort) -> Result<NodeId, Fault>
+    pub(crate) fn fresh_node(&mut self, cx: &mut Cx, sort: Sort) -> Result<NodeId, Fault>
         requires table { IsTable cx.old.nodes self.old }
         ensures within { IfOk result (λ r. IsIn cx.new.nodes r) }
         ensures tree { IfOk result (λ r. tree_at cx.new.nodes r ≡ variable_tree (variable_kind sort) (length self.old.entries.variables)) }
         ensures entries { OnOk result (self.new.entries ≡ added self.old.entries (new_variable self.old.entries (variable_kind sort))) }
         ensures saved { self.new.saved ≡ self.old.saved }
+        ensures mode { self.new.mode ≡ self.old.mode }
         ensures table { IsTable cx.new.nodes self.new }
         ensures extends { Extends cx.old.nodes cx.new.nodes }
         ensures rest { KeepsRest cx.old cx.new }
@@ -146,6 +151,7 @@ impl InferCtxt {
         ensures fresh { IfOk result (λ r. IsFreshLike (kind_of (tree_at cx.old.nodes arg.node)) (tree_at cx.new.nodes r.node) self.old.entries self.new.entries) }
         ensures holds { IfOk result (λ r. HoldsArg cx.new.nodes r) }
         ensures saved { self.new.saved ≡ self.old.saved }
+        ensures mode { self.new.mode ≡ self.old.mode }
         ensures table { IsTable cx.new.nodes self.new }
         ensures extends { Extends cx.old.nodes cx.new.nodes }
         ensures rest { KeepsRest cx.old cx.new }

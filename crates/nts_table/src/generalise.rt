@@ -1,12 +1,15 @@
 //! The value that a variable gets for a term.
-ghost use Rattle.std.specs.Prelude.{◌≡◌, ◌≢◌, ◌+◌, ◌^◌, ◌<◌, length, OnOk, IfOk, Some, None, Err, true};
+ghost use Rattle.std.specs.Prelude.{◌≡◌, ◌≢◌, ◌+◌, ◌^◌, ◌<◌, length, OnOk, IfOk, Some, None, Err, true, false};
 ghost use Rattle.nts_model.specs.declared.labels.VariableKind.TheVariants as kind;
+ghost use Rattle.nts_model.specs.Contents.{kind_at};
 ghost use Rattle.nts_model.specs.Resolving.{Knows, variable_tree};
+ghost use Rattle.nts_model.specs.Trees.{IsBoundBelow};
+ghost use Rattle.nts_model.specs.Levels.{CanName, term_level, region_level};
 ghost use Rattle.nts_terms.specs.Growth.{tree_at, IsIn, Extends};
 ghost use Rattle.nts_table.specs.Reading.{content_of, IsLawful};
 ghost use Rattle.nts_table.specs.Joining.{IsBindable};
 ghost use Rattle.nts_table.specs.Entries.{added};
-ghost use Rattle.nts_table.specs.Relating.{Generalised, IsOpen, IsRegionOf, IsSettled};
+ghost use Rattle.nts_table.specs.Relating.{Generalised, Blocks, IsOpen, IsRegionOf, IsSettled};
 
 use crate::contents::{Constraint, State, Variable};
 use crate::infer_ctxt::InferCtxt;
@@ -42,7 +45,11 @@ fn is_settled(facts: Facts, binders: usize) -> bool
 
 /// Whether a label may stand in the value: a placeholder is of a universe that the target's can name,
 /// and a bound variable does not pass the binders.
-fn is_allowed(target: Target, label: Label) -> bool {
+fn is_allowed(target: Target, label: Label) -> bool
+    ensures named { result ≡ true → CanName target.universe (term_level label) }
+    ensures bound { result ≡ true → IsBoundBelow target.binders label }
+    ensures no { result ≡ false → CanName target.universe (term_level label) → IsBoundBelow target.binders label → ⊥ }
+{
     match label {
         Label::Leaf(Leaf::TyConstant(Constant::Placeholder(u, _))) => u <= target.universe,
         Label::Leaf(Leaf::ConstConstant(Constant::Placeholder(u, _))) => u <= target.universe,
@@ -63,16 +70,20 @@ fn name_variable(
     y: usize,
 ) -> Result<NodeId, EvalError>
     requires within { IsIn nodes.old t }
+    requires knows { Knows (content_of nodes.old table.old.entries) (tree_at nodes.old t) }
     requires lawful { IsLawful nodes.old table.old.entries }
     requires open { IsOpen nodes.old table.old.entries (tree_at nodes.old t) y }
     requires other { y ≢ target.variable }
     requires known { target.variable < length table.old.entries.variables }
+    requires no_region { kind_at (content_of nodes.old table.old.entries) target.variable ≢ Some kind.Region }
     ensures extends { Extends nodes.old nodes.new }
     ensures saved { table.new.saved ≡ table.old.saved }
+    ensures mode { table.new.mode ≡ table.old.mode }
     ensures within { IfOk result (λ r. IsIn nodes.new r) }
     ensures lawful { OnOk result (IsLawful nodes.new table.new.entries) }
-    ensures generalised { IfOk result (λ r. Generalised (content_of nodes.old table.old.entries) (content_of nodes.new table.new.entries) target.variable target.universe (tree_at nodes.old t) (tree_at nodes.new r)) }
+    ensures generalised { IfOk result (λ r. Generalised (content_of nodes.old table.old.entries) (content_of nodes.new table.new.entries) target.variable target.universe target.binders (tree_at nodes.old t) (tree_at nodes.new r)) }
     ensures full { result ≢ Err EvalError.Full }
+    ensures no { result ≢ Err EvalError.NoSolution }
 {
     let variable = table.variable(y);
     let kind = variable.kind;
@@ -99,11 +110,13 @@ fn fresh_region(
     requires lawful { IsLawful nodes.old table.old.entries }
     ensures extends { Extends nodes.old nodes.new }
     ensures saved { table.new.saved ≡ table.old.saved }
+    ensures mode { table.new.mode ≡ table.old.mode }
     ensures within { IfOk result (λ r. IsIn nodes.new r) }
     ensures lawful { OnOk result (IsLawful nodes.new table.new.entries) }
     ensures fresh { IfOk result (λ r. tree_at nodes.new r ≡ variable_tree kind.Region (length table.old.entries.variables)) }
     ensures added { OnOk result (table.new.entries ≡ added table.old.entries (record { kind = kind.Region; universe = universe; state = State.Unset; sub_link = None })) }
     ensures full { result ≢ Err EvalError.Full }
+    ensures no { result ≢ Err EvalError.NoSolution }
 {
     let fresh = table.add(Variable {
         kind: VariableKind::Region,
@@ -117,8 +130,8 @@ fn fresh_region(
     )?)
 }
 
-/// A term for a free region: itself, or a fresh variable where the universe cannot name it. The two
-/// are made equal.
+/// A term for a free region: itself, or its root where it is a variable, or a fresh variable where the
+/// universe cannot name it. The two are made equal.
 fn name_region(
     nodes: &mut Nodes,
     table: &mut InferCtxt,
@@ -129,18 +142,21 @@ fn name_region(
     requires lawful { IsLawful nodes.old table.old.entries }
     requires region { IsRegionOf nodes.old table.old.entries t }
     requires known { target.variable < length table.old.entries.variables }
+    requires no_region { kind_at (content_of nodes.old table.old.entries) target.variable ≢ Some kind.Region }
     ensures extends { Extends nodes.old nodes.new }
     ensures saved { table.new.saved ≡ table.old.saved }
+    ensures mode { table.new.mode ≡ table.old.mode }
     ensures within { IfOk result (λ r. IsIn nodes.new r) }
     ensures lawful { OnOk result (IsLawful nodes.new table.new.entries) }
-    ensures generalised { IfOk result (λ r. Generalised (content_of nodes.old table.old.entries) (content_of nodes.new table.new.entries) target.variable target.universe (tree_at nodes.old t) (tree_at nodes.new r)) }
+    ensures generalised { IfOk result (λ r. Generalised (content_of nodes.old table.old.entries) (content_of nodes.new table.new.entries) target.variable target.universe target.binders (tree_at nodes.old t) (tree_at nodes.new r)) }
     ensures full { result ≢ Err EvalError.Full }
+    ensures no { result ≢ Err EvalError.NoSolution }
 {
     let label = nodes.label(t);
     if let Some(n) = region_number(label) {
         let root = table.root(n);
         if table.variable(root).universe <= target.universe && !moved.contains(&root) {
-            return Ok(t);
+            return Ok(nodes.make(Label::Leaf(Leaf::Variable(VariableKind::Region, root)), &[])?);
         }
         moved.insert(root)?;
         let number = table.variable_count();
@@ -162,7 +178,9 @@ fn name_region(
 }
 
 /// Whether a label is a placeholder region that the universe cannot name.
-fn is_beyond(label: Label, universe: u32) -> bool {
+fn is_beyond(label: Label, universe: u32) -> bool
+    ensures { result ≡ false → CanName universe (region_level label) }
+{
     match label {
         Label::Leaf(Leaf::Region(FreeRegion::Placeholder(u, _))) => universe < u,
         _ => false,
@@ -183,13 +201,16 @@ pub fn generalise(
     requires knows { Knows (content_of nodes.old table.old.entries) (tree_at nodes.old t) }
     requires lawful { IsLawful nodes.old table.old.entries }
     requires known { target.variable < length table.old.entries.variables }
+    requires no_region { kind_at (content_of nodes.old table.old.entries) target.variable ≢ Some kind.Region }
     requires room { target.binders + t.number < 2 ^ 64 }
     ensures extends { Extends nodes.old nodes.new }
     ensures saved { table.new.saved ≡ table.old.saved }
+    ensures mode { table.new.mode ≡ table.old.mode }
     ensures within { IfOk result (λ r. IsIn nodes.new r) }
     ensures lawful { OnOk result (IsLawful nodes.new table.new.entries) }
-    ensures generalised { IfOk result (λ r. Generalised (content_of nodes.old table.old.entries) (content_of nodes.new table.new.entries) target.variable target.universe (tree_at nodes.old t) (tree_at nodes.new r)) }
+    ensures generalised { IfOk result (λ r. Generalised (content_of nodes.old table.old.entries) (content_of nodes.new table.new.entries) target.variable target.universe target.binders (tree_at nodes.old t) (tree_at nodes.new r)) }
     ensures full { result ≢ Err EvalError.Full }
+    ensures no { result ≡ Err EvalError.NoSolution → Blocks (content_of nodes.old table.old.entries) target.variable target.universe target.binders (tree_at nodes.old t) }
 {
     let label = nodes.label(t);
     if let Some(n) = infer_number(label) {

@@ -1,5 +1,8 @@
 //! The table and its snapshots.
 ghost use Rattle.std.specs.Prelude.{◌≡◌, ◌<◌, ◌+◌, ◌++◌, ◌∷◌, [], length, slice_get, OnOk, OnErr, IfOk, Some};
+ghost use Rattle.std.specs.Prelude.{List};
+ghost use Rattle.nts_model.specs.Trees.{Tree};
+ghost use Rattle.nts_table.specs.Reading.{IsTable};
 ghost use Rattle.nts_table.specs.Entries.{Entries, Table, added, with_variable, bound, constrained, moved};
 
 use crate::contents::{Change, Constraint, Contents, Variable};
@@ -25,7 +28,7 @@ impl Model for InferCtxt {
     ghost use Rattle.std.specs.Prelude.{length};
     ghost use Rattle.nts_table.specs.Saved.{saved_of, AreMarks};
 
-    ghost view = { λ t. record { entries = t.contents; saved = saved_of t.contents t.log.items t.snapshots.items } };
+    ghost view = { λ t. record { entries = t.contents; saved = saved_of t.contents t.log.items t.snapshots.items; mode = t.mode } };
 
     ghost invariant = { λ t. AreMarks (length t.log.items) t.snapshots.items };
 }
@@ -41,6 +44,8 @@ impl InferCtxt {
     pub fn new(alloc: Global, mode: TypingMode) -> Self
         ensures entries { result.entries ≡ record { variables = []; order = []; universe = 0; constraints = [] } }
         ensures saved { result.saved ≡ [] }
+        ensures mode { result.mode ≡ mode }
+        ensures table { (ts : List Tree) → IsTable ts result }
     {
         InferCtxt {
             mode,
@@ -51,7 +56,9 @@ impl InferCtxt {
     }
 
     /// What goals may know of hidden types.
-    pub fn typing_mode(&self) -> &TypingMode {
+    pub fn typing_mode(&self) -> &TypingMode
+        ensures { result.now ≡ self.now.mode }
+    {
         &self.mode
     }
 
@@ -88,10 +95,11 @@ impl InferCtxt {
         self.contents.universe()
     }
 
-    pub fn add(&mut self, variable: Variable) -> Result<usize, AllocError>
+    pub(crate) fn add(&mut self, variable: Variable) -> Result<usize, AllocError>
         ensures number { IfOk result (λ v. v ≡ length self.old.entries.variables) }
         ensures entries { OnOk result (self.new.entries ≡ added self.old.entries variable) }
         ensures saved { self.new.saved ≡ self.old.saved }
+        ensures mode { self.new.mode ≡ self.old.mode }
         ensures err { OnErr result (self.new ≡ self.old) }
     {
         self.log.push(Change::Added)?;
@@ -104,10 +112,11 @@ impl InferCtxt {
         }
     }
 
-    pub fn set(&mut self, n: usize, variable: Variable) -> Result<(), AllocError>
+    pub(crate) fn set(&mut self, n: usize, variable: Variable) -> Result<(), AllocError>
         requires { n < length self.old.entries.variables }
         ensures entries { OnOk result (self.new.entries ≡ with_variable self.old.entries n variable) }
         ensures saved { self.new.saved ≡ self.old.saved }
+        ensures mode { self.new.mode ≡ self.old.mode }
         ensures err { OnErr result (self.new ≡ self.old) }
     {
         let old = self.contents.variable(n);
@@ -116,10 +125,11 @@ impl InferCtxt {
         Ok(())
     }
 
-    pub fn bind(&mut self, n: usize, variable: Variable) -> Result<(), AllocError>
+    pub(crate) fn bind(&mut self, n: usize, variable: Variable) -> Result<(), AllocError>
         requires { n < length self.old.entries.variables }
         ensures entries { OnOk result (self.new.entries ≡ bound self.old.entries n variable) }
         ensures saved { self.new.saved ≡ self.old.saved }
+        ensures mode { self.new.mode ≡ self.old.mode }
         ensures err { OnErr result (self.new ≡ self.old) }
     {
         let old = self.contents.variable(n);
@@ -133,9 +143,10 @@ impl InferCtxt {
         }
     }
 
-    pub fn move_to(&mut self, universe: u32) -> Result<(), AllocError>
+    pub(crate) fn move_to(&mut self, universe: u32) -> Result<(), AllocError>
         ensures entries { OnOk result (self.new.entries ≡ moved self.old.entries universe) }
         ensures saved { self.new.saved ≡ self.old.saved }
+        ensures mode { self.new.mode ≡ self.old.mode }
         ensures err { OnErr result (self.new ≡ self.old) }
     {
         let old = self.contents.universe();
@@ -147,6 +158,7 @@ impl InferCtxt {
     pub fn constrain(&mut self, constraint: Constraint) -> Result<(), AllocError>
         ensures entries { OnOk result (self.new.entries ≡ constrained self.old.entries constraint) }
         ensures saved { self.new.saved ≡ self.old.saved }
+        ensures mode { self.new.mode ≡ self.old.mode }
         ensures err { OnErr result (self.new ≡ self.old) }
     {
         self.log.push(Change::Constrained)?;
@@ -164,6 +176,7 @@ impl InferCtxt {
         ensures entries { self.new.entries ≡ self.old.entries }
         ensures saved { OnOk result (self.new.saved ≡ self.old.saved ++ self.old.entries ∷ []) }
         ensures depth { IfOk result (λ s. s.depth ≡ length self.old.saved) }
+        ensures mode { self.new.mode ≡ self.old.mode }
         ensures err { OnErr result (self.new ≡ self.old) }
     {
         let depth = self.snapshots.len();
@@ -176,6 +189,7 @@ impl InferCtxt {
         requires { length self.old.saved ≡ snapshot.depth + 1 }
         ensures entries { self.new.entries ≡ self.old.entries }
         ensures saved { (c : Entries) × (self.old.saved ≡ self.new.saved ++ c ∷ []) }
+        ensures mode { self.new.mode ≡ self.old.mode }
     {
         self.snapshots.pop();
     }
@@ -183,7 +197,8 @@ impl InferCtxt {
     /// Closes the last snapshot and restores what stood when it was opened. It takes no memory.
     pub fn rollback_to(&mut self, snapshot: Snapshot)
         requires { length self.old.saved ≡ snapshot.depth + 1 }
-        ensures { self.old.saved ≡ self.new.saved ++ self.new.entries ∷ [] }
+        ensures saved { self.old.saved ≡ self.new.saved ++ self.new.entries ∷ [] }
+        ensures mode { self.new.mode ≡ self.old.mode }
     {
         if let Some(mark) = self.snapshots.pop() {
             while self.log.len() > mark {

@@ -14,6 +14,7 @@ pub fn join(table: &mut InferCtxt, x: usize, y: usize) -> Result<(), AllocError>
     requires { CanJoin table.old.entries x y }
     ensures joined { OnOk result ((ts : List Tree) → IsLawful ts table.old.entries → Joins ts table.old.entries table.new.entries x y) }
     ensures saved { table.new.saved ≡ table.old.saved }
+    ensures mode { table.new.mode ≡ table.old.mode }
 {
     table.join_sub_roots(x, y)?;
     let low = x.min(y);
@@ -32,13 +33,18 @@ pub fn join_regions(table: &mut InferCtxt, x: usize, y: usize) -> Result<(), All
     requires { CanJoinRegions table.old.entries x y }
     ensures joined { OnOk result ((ts : List Tree) → IsLawful ts table.old.entries → RegionsJoin ts table.old.entries table.new.entries x y) }
     ensures saved { table.new.saved ≡ table.old.saved }
+    ensures mode { table.new.mode ≡ table.old.mode }
 {
     let low = x.min(y);
     let high = x.max(y);
     let root = table.variable(low);
     let linked = table.variable(high);
-    let universe = root.universe.min(linked.universe);
-    table.set(low, Variable { universe, ..root })?;
+    let lowered = root.universe.min(linked.universe);
+    let new_root = Variable {
+        universe: lowered,
+        ..root
+    };
+    table.set(low, new_root)?;
     let link = State::Link(low);
     table.set(
         high,

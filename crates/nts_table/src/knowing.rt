@@ -8,14 +8,13 @@ ghost use Rattle.nts_table.specs.Knowing.{HasNamed, IsLook, ChildrenAdded};
 
 use crate::infer_ctxt::InferCtxt;
 use crate::named::named_variable;
-use crate::resolving::Handle;
 use nts_model::Label;
-use nts_terms::{Cx, Fault, NodeId, Nodes};
+use nts_terms::{Cx, Fault, NodeId, Nodes, Stored};
 use std::alloc::{AllocError, Global};
 
 impl InferCtxt {
     /// Whether all variables of a term are of this table, with their kinds.
-    pub fn knows<T: Handle>(&self, cx: &Cx, x: T) -> Result<bool, Fault>
+    pub fn knows<T: Stored>(&self, cx: &Cx, x: T) -> Result<bool, Fault>
         requires { IsIn cx.now.nodes (T.id x) }
         ensures answer { IfOk result (λ b. IsTrue b ↔ Knows (content_of cx.now.nodes self.now.entries) (tree_at cx.now.nodes (T.id x))) }
         ensures memory { IsOkUnless result Fault.Memory }

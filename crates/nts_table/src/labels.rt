@@ -1,5 +1,7 @@
 //! What labels say about variables and regions.
-ghost use Rattle.std.specs.Prelude.{◌≡◌, true};
+ghost use Rattle.std.specs.Prelude.{◌≡◌, ◌≢◌, true, false, None};
+ghost use Rattle.nts_model.specs.declared.labels.VariableKind.TheVariants as kinds;
+ghost use Rattle.nts_table.specs.Proper.{IsSortKind};
 ghost use Rattle.nts_model.specs.Trees.{kind_of_label, of_sort, sort_of_variable};
 ghost use Rattle.nts_model.specs.Resolving.{infer_of};
 ghost use Rattle.nts_table.specs.Changing.{region_variable, is_free_region};
@@ -38,9 +40,26 @@ pub fn names_free_region(label: Label) -> bool
     }
 }
 
+/// Whether two labels are one.
+pub fn is_same(a: Label, b: Label) -> bool
+    ensures yes { result ≡ true → a ≡ b }
+    ensures no { result ≡ false → a ≡ b → ⊥ }
+{
+    a == b
+}
+
+/// Whether two kinds of variables are one.
+pub fn is_same_kind(a: VariableKind, b: VariableKind) -> bool
+    ensures yes { result ≡ true → a ≡ b }
+    ensures no { result ≡ false → a ≡ b → ⊥ }
+{
+    a == b
+}
+
 /// Whether a variable of the kind can have a value with the label.
 pub fn fits(kind: VariableKind, label: Label) -> bool
-    ensures { result ≡ true → kind_of_label label ≡ of_sort (sort_of_variable kind) }
+    ensures yes { result ≡ true → kind_of_label label ≡ of_sort (sort_of_variable kind) }
+    ensures no { result ≡ false → IsSortKind kind → kind ≢ kinds.Region → infer_of label ≡ None → kind_of_label label ≡ of_sort (sort_of_variable kind) → ⊥ }
 {
     match kind {
         VariableKind::Ty => match label {

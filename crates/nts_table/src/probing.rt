@@ -12,6 +12,7 @@ impl InferCtxt {
     pub fn probe<R, F: FnOnce(&mut InferCtxt) -> R>(&mut self, f: F) -> Result<R, AllocError>
         requires callable { F.IsAlwaysCallable f }
         requires ends { (t u : Table) (r : R) → FnOnceReturnsAtMut F.FnOnce f t r u → u.saved ≡ t.saved }
+        requires mode { (t u : Table) (r : R) → FnOnceReturnsAtMut F.FnOnce f t r u → u.mode ≡ t.mode }
         ensures answered { IfOk result (λ r. Answers (λ t u. FnOnceReturnsAtMut F.FnOnce f t r u) self.old.entries) }
         ensures same { self.new ≡ self.old }
     {

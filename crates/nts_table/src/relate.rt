@@ -2,19 +2,20 @@
 ghost use Rattle.std.specs.Prelude.{◌≡◌, ◌≢◌, ◌⊎◌, ℕ, ◌+◌, ◌++◌, ◌∷◌, [], ◌<◌, IsTrue, length, List, OnOk, OnErr, IfOk, Some, None, Ok, Err, true, false};
 ghost use Rattle.nts_model.specs.Trees.{Tree, IsRow, row_length, children};
 ghost use Rattle.nts_model.specs.Resolving.{Knows};
+ghost use Rattle.nts_model.specs.Equations.{Reduces, Refuses, AreRelated, AreUnrelated};
 ghost use Rattle.nts_terms.specs.Growth.{tree_at, IsIn, Extends};
 ghost use Rattle.nts_table.specs.Entries.{Entries, Table};
 ghost use Rattle.nts_table.specs.Reading.{content_of, IsLawful, IsTable, LinksDescend};
-ghost use Rattle.nts_table.specs.Changing.{region_variable, is_free_region, IsLater, Keeps};
+ghost use Rattle.nts_table.specs.Changing.{region_variable, is_free_region, IsLater};
 ghost use Rattle.nts_table.specs.Joining.{IsBindable};
-ghost use Rattle.nts_table.specs.Relating.{IsHead, IsClosed, IsRegionOf, IsSet, VariablesRelate, IsValid, IsStep, IsRun, Pushed, pairs_at};
+ghost use Rattle.nts_table.specs.Relating.{IsHead, IsClosed, IsRegionOf, RegionsRelate, IsSet, Forbids, KeepsApart, VariablesRelate, IsValid, IsStep, IsRun, Pushed, pairs_at};
 ghost use Rattle.nts_terms.specs.declared.fault.EvalError.TheVariants.{NoSolution};
 
 use crate::contents::{Constraint, State, Variable};
 use crate::generalise::{Target, generalise};
 use crate::infer_ctxt::InferCtxt;
 use crate::join::{join, join_regions};
-use crate::labels::{fits, infer_number, names_free_region, region_number};
+use crate::labels::{fits, infer_number, is_same, is_same_kind, names_free_region, region_number};
 use indexmap::IndexSet;
 use nts_model::Relation;
 use nts_terms::{EvalError, NodeId, Nodes};
@@ -63,8 +64,9 @@ fn relate_regions(
     requires left { IsRegionOf nodes.now table.old.entries a }
     requires right { IsRegionOf nodes.now table.old.entries b }
     ensures saved { table.new.saved ≡ table.old.saved }
+    ensures mode { table.new.mode ≡ table.old.mode }
     ensures lawful { OnOk result (IsLawful nodes.now table.new.entries) }
-    ensures keeps { OnOk result (Keeps (content_of nodes.now table.old.entries) (content_of nodes.now table.new.entries)) }
+    ensures related { OnOk result (RegionsRelate (content_of nodes.now table.old.entries) (content_of nodes.now table.new.entries) (tree_at nodes.now a) (tree_at nodes.now b)) }
     ensures no { result ≢ Err NoSolution }
     ensures full { result ≢ Err EvalError.Full }
 {
@@ -93,13 +95,17 @@ fn relate_variables(table: &mut InferCtxt, x: usize, y: usize) -> Result<bool, E
     requires right { IsBindable table.old.entries y }
     requires descends { LinksDescend table.old.entries }
     ensures saved { table.new.saved ≡ table.old.saved }
-    ensures related { IfOk result (λ bound. (ts : List Tree) → IsLawful ts table.old.entries → VariablesRelate ts table.old.entries table.new.entries bound) }
+    ensures mode { table.new.mode ≡ table.old.mode }
+    ensures related { IfOk result (λ bound. (ts : List Tree) → IsLawful ts table.old.entries → VariablesRelate ts table.old.entries table.new.entries x y bound) }
+    ensures no { result ≡ Err NoSolution → (ts : List Tree) → IsLawful ts table.old.entries → KeepsApart (content_of ts table.old.entries) x y }
     ensures full { result ≢ Err EvalError.Full }
 {
     if x == y {
         return Ok(false);
     }
-    if table.variable(x).kind != table.variable(y).kind {
+    let left = table.variable(x);
+    let right = table.variable(y);
+    if !is_same_kind(left.kind, right.kind) {
         return Err(EvalError::NoSolution);
     }
     join(table, x, y)?;
@@ -120,8 +126,10 @@ fn bind(
     requires open { IsBindable table.old.entries x }
     ensures extends { Extends nodes.old nodes.new }
     ensures saved { table.new.saved ≡ table.old.saved }
+    ensures mode { table.new.mode ≡ table.old.mode }
     ensures lawful { OnOk result (IsLawful nodes.new table.new.entries) }
     ensures set { OnOk result (IsSet (content_of nodes.old table.old.entries) (content_of nodes.new table.new.entries) x (tree_at nodes.old t)) }
+    ensures no { result ≡ Err NoSolution → Forbids (content_of nodes.old table.old.entries) x (tree_at nodes.old t) }
     ensures full { result ≢ Err EvalError.Full }
 {
     let variable = table.variable(x);
@@ -187,8 +195,10 @@ fn relate_heads(
     requires left { IsClosed (content_of nodes.now table.old.entries) (tree_at nodes.now pair.left) (tree_at nodes.now a) }
     requires right { IsClosed (content_of nodes.now table.old.entries) (tree_at nodes.now pair.right) (tree_at nodes.now b) }
     ensures saved { table.new.saved ≡ table.old.saved }
+    ensures mode { table.new.mode ≡ table.old.mode }
     ensures valid { OnOk result (IsValid nodes.now table.new.entries pairs.new.items) }
     ensures step { OnOk result (IsStep (content_of nodes.now table.old.entries) (content_of nodes.now table.new.entries) (pairs_at nodes.now (pairs.old.items ++ pair ∷ [])) (pairs_at nodes.now pairs.new.items) false) }
+    ensures no { result ≡ Err NoSolution → Refuses (content_of nodes.now table.old.entries) (pairs_at nodes.now (pairs.old.items ++ pair ∷ [])) }
     ensures full { result ≢ Err EvalError.Full }
 {
     if a.number == b.number {
@@ -200,7 +210,12 @@ fn relate_heads(
         relate_regions(nodes, table, a, b)?;
         return Ok(());
     }
-    if left != right || nodes.child_count(a) != nodes.child_count(b) {
+    if !is_same(left, right) {
+        return Err(EvalError::NoSolution);
+    }
+    let left_count = nodes.child_count(a);
+    let right_count = nodes.child_count(b);
+    if left_count != right_count {
         return Err(EvalError::NoSolution);
     }
     push_children(nodes, pairs, a, b)?;
@@ -218,8 +233,10 @@ fn step(
     requires valid { IsValid nodes.old table.old.entries (pairs.old.items ++ pair ∷ []) }
     ensures extends { Extends nodes.old nodes.new }
     ensures saved { table.new.saved ≡ table.old.saved }
+    ensures mode { table.new.mode ≡ table.old.mode }
     ensures valid { OnOk result (IsValid nodes.new table.new.entries pairs.new.items) }
     ensures step { IfOk result (λ bound. IsStep (content_of nodes.old table.old.entries) (content_of nodes.new table.new.entries) (pairs_at nodes.old (pairs.old.items ++ pair ∷ [])) (pairs_at nodes.new pairs.new.items) bound) }
+    ensures no { result ≡ Err NoSolution → Refuses (content_of nodes.old table.old.entries) (pairs_at nodes.old (pairs.old.items ++ pair ∷ [])) }
     ensures full { result ≢ Err EvalError.Full }
 {
     let left = head_of(nodes, table, pair.left);
@@ -255,8 +272,10 @@ fn run(
     requires valid { IsValid nodes.old table.old.entries pairs.old.items }
     ensures extends { Extends nodes.old nodes.new }
     ensures saved { table.new.saved ≡ table.old.saved }
+    ensures mode { table.new.mode ≡ table.old.mode }
     ensures valid { OnOk result (IsValid nodes.new table.new.entries pairs.new.items) }
     ensures run { IfOk result (λ bound. IsRun (content_of nodes.old table.old.entries) (content_of nodes.new table.new.entries) (pairs_at nodes.old pairs.old.items) (pairs_at nodes.new pairs.new.items) bound) }
+    ensures no { result ≡ Err NoSolution → Refuses (content_of nodes.old table.old.entries) (pairs_at nodes.old pairs.old.items) }
     ensures full { result ≢ Err EvalError.Full }
 {
     while let Some(pair) = pairs.pop() {
@@ -282,8 +301,11 @@ fn run_all(
     requires valid { IsValid nodes.old table.old.entries pairs.old.items }
     ensures extends { Extends nodes.old nodes.new }
     ensures saved { table.new.saved ≡ table.old.saved }
+    ensures mode { table.new.mode ≡ table.old.mode }
     ensures lawful { OnOk result (IsLawful nodes.new table.new.entries) }
     ensures later { OnOk result (IsLater (content_of nodes.old table.old.entries) (content_of nodes.new table.new.entries)) }
+    ensures reduces { OnOk result (Reduces (content_of nodes.old table.old.entries) (content_of nodes.new table.new.entries) (pairs_at nodes.old pairs.old.items) []) }
+    ensures no { result ≡ Err NoSolution → Refuses (content_of nodes.old table.old.entries) (pairs_at nodes.old pairs.old.items) }
     ensures full { result ≢ Err EvalError.Full }
 {
     loop {
@@ -315,8 +337,11 @@ pub fn relate_nodes(
     ensures extends { Extends nodes.old nodes.new }
     ensures table { IsTable nodes.new table.new }
     ensures saved { table.new.saved ≡ table.old.saved }
+    ensures mode { table.new.mode ≡ table.old.mode }
     ensures later { IsLater (content_of nodes.old table.old.entries) (content_of nodes.new table.new.entries) }
+    ensures related { OnOk result (AreRelated (content_of nodes.old table.old.entries) (content_of nodes.new table.new.entries) (tree_at nodes.old a) (tree_at nodes.old b)) }
     ensures err { OnErr result (table.new ≡ table.old) }
+    ensures no { result ≡ Err NoSolution → AreUnrelated (content_of nodes.old table.old.entries) (tree_at nodes.old a) (tree_at nodes.old b) }
     ensures full { result ≢ Err EvalError.Full }
 {
     let mut pairs = Vec::new(alloc);

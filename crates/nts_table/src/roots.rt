@@ -23,7 +23,7 @@ impl InferCtxt {
     }
 
     /// The root of a variable's sub-unification class.
-    pub fn sub_root(&self, n: usize) -> usize
+    pub(crate) fn sub_root(&self, n: usize) -> usize
         requires within { n < length self.now.entries.variables }
         requires descends { LinksDescend self.now.entries }
         ensures { IsSubRoot self.now.entries n result }
@@ -36,12 +36,13 @@ impl InferCtxt {
     }
 
     /// Makes one sub-unification class of two. Its root is the lower number.
-    pub fn join_sub_roots(&mut self, x: usize, y: usize) -> Result<(), AllocError>
+    pub(crate) fn join_sub_roots(&mut self, x: usize, y: usize) -> Result<(), AllocError>
         requires within_x { x < length self.old.entries.variables }
         requires within_y { y < length self.old.entries.variables }
         requires descends { LinksDescend self.old.entries }
         ensures joined { OnOk result (SubRootsJoin self.old.entries self.new.entries x y) }
         ensures saved { self.new.saved ≡ self.old.saved }
+        ensures mode { self.new.mode ≡ self.old.mode }
         ensures err { OnErr result (self.new ≡ self.old) }
     {
         let x_root = self.sub_root(x);

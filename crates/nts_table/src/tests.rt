@@ -1,13 +1,15 @@
 ghost use Rattle.std.specs.Prelude.{◌≡◌};
 
-use crate::{InferCtxt, State, Variable};
+use crate::{InferCtxt, State, Variable, is_unbound};
 use nts_model::{Sort, VariableKind};
-use nts_terms::{Cx, GenericArg, InferTy, RegionKind, Span, Ty, TyKind, TypingMode};
+use nts_terms::{
+    Cx, GenericArg, InferTy, RegionKind, Span, Ty, TyKind, TypingMode, VisibleForLeakCheck,
+};
 use std::alloc::AllocError;
 use std::test::Fail;
 
 fn span() -> Span {
-    Span { number: 0 }
+    Span(0)
 }
 
 #[test]
@@ -80,10 +82,12 @@ fn constraints(rt: HostRuntime) -> Result<(), Fail> {
     let ty = table.next_ty_infer(&mut cx)?;
     let a = table.next_region_infer(&mut cx)?;
     let b = table.next_region_infer(&mut cx)?;
-    table.sub_regions(&cx, a, a, true, span())?;
+    table.sub_regions(&cx, a, a, VisibleForLeakCheck::Yes, span())?;
     assert_eq!(rt; table.constraint_count(), 0);
-    table.sub_regions(&cx, a, b, true, span())?;
-    table.equate_regions(&cx, a, b, true, span())?;
+    table.sub_regions(&cx, a, b, VisibleForLeakCheck::No, span())?;
+    assert!(rt; is_unbound(&cx, a));
+    assert!(rt; is_unbound(&cx, b));
+    table.equate_regions(&cx, a, b, VisibleForLeakCheck::No, span())?;
     assert_eq!(rt; table.root(2), 1);
     table.register_ty_outlives(&cx, ty, b, span())?;
     assert_eq!(rt; table.constraint_count(), 2);

@@ -22,6 +22,7 @@ impl InferCtxt {
         ensures holds { IfOk result (λ t. HoldsTy cx.new.nodes t) }
         ensures entries { OnOk result (self.new.entries ≡ added self.old.entries (new_variable self.old.entries kind.Ty)) }
         ensures saved { self.new.saved ≡ self.old.saved }
+        ensures mode { self.new.mode ≡ self.old.mode }
         ensures table { IsTable cx.new.nodes self.new }
         ensures extends { Extends cx.old.nodes cx.new.nodes }
         ensures rest { KeepsRest cx.old cx.new }
@@ -41,6 +42,7 @@ impl InferCtxt {
         ensures holds { IfOk result (λ r. HoldsRegion cx.new.nodes r) }
         ensures entries { OnOk result (self.new.entries ≡ added self.old.entries (new_variable self.old.entries kind.Region)) }
         ensures saved { self.new.saved ≡ self.old.saved }
+        ensures mode { self.new.mode ≡ self.old.mode }
         ensures table { IsTable cx.new.nodes self.new }
         ensures extends { Extends cx.old.nodes cx.new.nodes }
         ensures rest { KeepsRest cx.old cx.new }
@@ -56,6 +58,7 @@ impl InferCtxt {
     fn add_unset(&mut self, kind: VariableKind) -> Result<(), Fault>
         ensures entries { OnOk result (self.new.entries ≡ added self.old.entries (new_variable self.old.entries kind)) }
         ensures saved { self.new.saved ≡ self.old.saved }
+        ensures mode { self.new.mode ≡ self.old.mode }
         ensures err { OnErr result (self.new ≡ self.old) }
         ensures memory { IsOkUnless result Fault.Memory }
     {
@@ -74,6 +77,7 @@ impl InferCtxt {
         ensures number { IfOk result (λ u. u ≡ self.old.entries.universe + 1) }
         ensures entries { OnOk result (self.new.entries ≡ moved self.old.entries (self.old.entries.universe + 1)) }
         ensures saved { self.new.saved ≡ self.old.saved }
+        ensures mode { self.new.mode ≡ self.old.mode }
         ensures err { OnErr result (self.new ≡ self.old) }
         ensures full { result ≡ Err Fault.Full → self.old.entries.universe ≡ u32.MAX }
     {

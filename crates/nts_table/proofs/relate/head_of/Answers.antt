@@ -8,4 +8,4 @@ returns-in-Known c =
 
 pub returns-in-Some : goal.returns-in-Some
 returns-in-Some c =
-    head_open _ c.args.table.now.entries _ _ _ _ _ c.requires.lawful c.requires.knows c.label.ensures.is (sym c.in-Some.ensures) c.root-root.ensures c.variable.ensures c.in_default-state.not-Known
+    head_open _ c.args.table.now.entries _ _ _ _ _ c.requires.lawful c.requires.knows c.label.ensures.is c.label.ensures.formed (sym c.in-Some.ensures) c.root-root.ensures c.variable.ensures c.in_default-state.not-Known

@@ -19,3 +19,7 @@ loop-i-preserved c =
       within = omega (arith, left);
       pushed = pushed_more c.args.nodes.now _ _ _ _ _ _ c.loop-i.i _ _ c.loop-i.invariant.pushed step left right c.child.ensures.within c.child-in-loop-i.ensures.within c.child.ensures.tree c.child-in-loop-i.ensures.tree c.in_ok-push.ensures.items;
     }
+
+pub returns-clause-pushed : goal.returns-clause-pushed
+returns-clause-pushed c =
+    let ends : c.loop-i.i ≡ 0 = omega (arith, c.loop-i-test.false) in rw ends at c.loop-i.invariant.pushed

@@ -1,7 +1,9 @@
-use Rattle.std.proofs.Common.{◌≡◌, true, Bool}
+use Rattle.std.proofs.Common.{◌≡◌, ◌∙◌, sym, true, Bool}
 use Rattle.nts_terms.proofs.Growing.{Extends-refl}
-use Rattle.nts_table.proofs.PairLemmas.{last_pair, step_set, step_variables, if_ok}
+use Rattle.nts_table.proofs.PairLemmas.{Stepped, last_pair, set_left, set_right, step_set, step_variables, if_ok, err_of}
+use Rattle.nts_table.proofs.RefusalLemmas.{refuse_pair}
 use Rattle.nts_table.proofs.relate.step.Goals as goal
+use Rattle.nts_table.proofs.relate.step.Goals.{In-Ok, In-Ok-bind}
 
 pub head_of-left-requires-clause-within : goal.head_of-left-requires-clause-within
 head_of-left-requires-clause-within c = (last_pair c.args.nodes.now c.args.table.now.entries c.args.pairs.now.items c.args.pair c.requires.valid).left_in
@@ -17,16 +19,49 @@ head_of-right-requires-clause-knows c = (last_pair c.args.nodes.now c.args.table
 
 pub returns-in-Open-right-clause-valid : goal.returns-in-Open-right-clause-valid
 returns-in-Open-right-clause-valid c =
-    if_ok c.relate_variables.result (λ bound r. (step_variables c.args.nodes.now c.args.table.now.entries _ c.args.pairs.now.items c.args.pair bound c.requires.valid (r c.args.nodes.now c.requires.valid.lawful)).valid) c.relate_variables.ensures.related
+    if_ok c.relate_variables.result (λ bound r. (step_variables c.args.nodes.now c.args.table.now.entries _ c.args.pairs.now.items c.args.pair c.in-Open.x c.in-Open-right.y bound c.requires.valid c.in-Open.ensures c.in-Open-right.ensures (r c.args.nodes.now c.requires.valid.lawful)).valid) c.relate_variables.ensures.related
 
 pub returns-in-Open-right-clause-step : goal.returns-in-Open-right-clause-step
 returns-in-Open-right-clause-step c =
-    if_ok c.relate_variables.result (λ bound r. (step_variables c.args.nodes.now c.args.table.now.entries _ c.args.pairs.now.items c.args.pair bound c.requires.valid (r c.args.nodes.now c.requires.valid.lawful)).step) c.relate_variables.ensures.related
+    if_ok c.relate_variables.result (λ bound r. (step_variables c.args.nodes.now c.args.table.now.entries _ c.args.pairs.now.items c.args.pair c.in-Open.x c.in-Open-right.y bound c.requires.valid c.in-Open.ensures c.in-Open-right.ensures (r c.args.nodes.now c.requires.valid.lawful)).step) c.relate_variables.ensures.related
+
+-- a value for the left side
+left_set : (c : In-Ok) → Stepped c.args.nodes.now c.bind.new.nodes c.args.table.now.entries c.bind.new.table.entries c.args.pairs.now.items c.args.pairs.now.items c.args.pair true
+left_set c =
+    let l = last_pair c.args.nodes.now c.args.table.now.entries c.args.pairs.now.items c.args.pair c.requires.valid in
+    step_set c.args.nodes.now c.bind.new.nodes c.args.table.now.entries c.bind.new.table.entries c.args.pairs.now.items c.args.pair c.requires.valid c.in-Ok.ensures.extends c.in-Ok.ensures.lawful c.in-Ok.ensures.set.later c.in-Ok.ensures.set.fewer
+    (set_left c.args.nodes.now c.bind.new.nodes c.args.table.now.entries c.bind.new.table.entries c.args.pair c.in-Open.x _ c.requires.valid.lawful c.in-Ok.ensures.lawful l.left_known l.right_known c.in-Open.ensures c.in-Closed-right.ensures.1 c.in-Ok.ensures.set)
 
 pub returns-in-Ok-clause-valid : goal.returns-in-Ok-clause-valid
-returns-in-Ok-clause-valid c =
-    (step_set c.args.nodes.now _ c.args.table.now.entries _ c.args.pairs.now.items c.args.pair c.requires.valid c.in-Ok.ensures.extends c.in-Ok.ensures.lawful c.in-Ok.ensures.set.later c.in-Ok.ensures.set.fewer).valid
+returns-in-Ok-clause-valid c = (left_set c).valid
+
+pub returns-in-Ok-clause-step : goal.returns-in-Ok-clause-step
+returns-in-Ok-clause-step c = (left_set c).step
+
+-- .. and for the right side
+right_set : (c : In-Ok-bind) → Stepped c.args.nodes.now c.bind-in-Open-right-2.new.nodes c.args.table.now.entries c.bind-in-Open-right-2.new.table.entries c.args.pairs.now.items c.args.pairs.now.items c.args.pair true
+right_set c =
+    let l = last_pair c.args.nodes.now c.args.table.now.entries c.args.pairs.now.items c.args.pair c.requires.valid in
+    step_set c.args.nodes.now c.bind-in-Open-right-2.new.nodes c.args.table.now.entries c.bind-in-Open-right-2.new.table.entries c.args.pairs.now.items c.args.pair c.requires.valid c.in-Ok-bind.ensures.extends c.in-Ok-bind.ensures.lawful c.in-Ok-bind.ensures.set.later c.in-Ok-bind.ensures.set.fewer
+    (set_right c.args.nodes.now c.bind-in-Open-right-2.new.nodes c.args.table.now.entries c.bind-in-Open-right-2.new.table.entries c.args.pair c.in-Open-right-2.y _ c.requires.valid.lawful c.in-Ok-bind.ensures.lawful l.left_known l.right_known c.in-Open-right-2.ensures c.in-Closed.ensures.1 c.in-Ok-bind.ensures.set)
 
 pub returns-in-Ok-bind-clause-valid : goal.returns-in-Ok-bind-clause-valid
-returns-in-Ok-bind-clause-valid c =
-    (step_set c.args.nodes.now _ c.args.table.now.entries _ c.args.pairs.now.items c.args.pair c.requires.valid c.in-Ok-bind.ensures.extends c.in-Ok-bind.ensures.lawful c.in-Ok-bind.ensures.set.later c.in-Ok-bind.ensures.set.fewer).valid
+returns-in-Ok-bind-clause-valid c = (right_set c).valid
+
+pub returns-in-Ok-bind-clause-step : goal.returns-in-Ok-bind-clause-step
+returns-in-Ok-bind-clause-step c = (right_set c).step
+
+pub returns-in-Open-right-clause-no : goal.returns-in-Open-right-clause-no
+returns-in-Open-right-clause-no c = λ q.
+    refuse_pair c.args.nodes.now c.args.table.now.entries c.args.pairs.now.items c.args.pair (λ w z e. (c.relate_variables.ensures.no q c.args.nodes.now c.requires.valid.lawful).none w z (sym (c.in-Open.ensures.worlds w z) ∙ e ∙ c.in-Open-right.ensures.worlds w z))
+
+pub returns-in-Err-clause-no : goal.returns-in-Err-clause-no
+returns-in-Err-clause-no c = λ q.
+    refuse_pair c.args.nodes.now c.args.table.now.entries c.args.pairs.now.items c.args.pair (λ w z e. (c.in-Err.ensures.no (err_of _ _ q)).none w z (sym (c.in-Open.ensures.worlds w z) ∙ e ∙ c.in-Closed-right.ensures.1.worlds w z))
+
+pub returns-in-Err-bind-clause-no : goal.returns-in-Err-bind-clause-no
+returns-in-Err-bind-clause-no c = λ q.
+    refuse_pair c.args.nodes.now c.args.table.now.entries c.args.pairs.now.items c.args.pair (λ w z e. (c.in-Err-bind.ensures.no (err_of _ _ q)).none w z (sym (c.in-Open-right-2.ensures.worlds w z) ∙ sym e ∙ c.in-Closed.ensures.1.worlds w z))
+
+pub returns-in-Err-relate_heads-clause-no : goal.returns-in-Err-relate_heads-clause-no
+returns-in-Err-relate_heads-clause-no c = λ q. c.in-Err-relate_heads.ensures.no (err_of _ _ q)

@@ -10,6 +10,7 @@ invariant-loop-sort l =
     record {
       fresh : FreshSoFar l.cx.nodes l.nodes.items l.fn.self.entries l.self.entries (take l.sort-index l.sorts);
       saved : l.self.saved ≡ l.fn.self.saved;
+      mode : l.self.mode ≡ l.fn.self.mode;
       table : IsTable l.cx.nodes l.self;
       extends : Extends l.fn.cx.nodes l.cx.nodes;
       rest : KeepsRest l.fn.cx l.cx;

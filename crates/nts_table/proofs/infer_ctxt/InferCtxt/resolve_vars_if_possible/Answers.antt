@@ -13,5 +13,5 @@ returns-clause-holds g c =
     let old = c.args.cx.now.nodes in
     let new = c.resolve_nodes.new.nodes in
     let tree = e.tree ∙ ap (λ (n : NodeId). resolved (content_of old c.args.self.now.entries) (tree_at old n)) c.node.ensures in
-    let held = Holds-resolved g.T.Handle.place old new c.args.self.now (g.T.Handle.id c.args.x) c.in_ok-node.node c.requires.table c.requires.knows c.requires.holds e.within tree in
-    subst (λ (n : NodeId). Holds g.T.Handle.place new n) (sym c.from_node.ensures) held
+    let held = Holds-resolved g.T.Stored.place old new c.args.self.now (g.T.Stored.id c.args.x) c.in_ok-node.node c.requires.table c.requires.knows c.requires.holds e.within tree in
+    subst (λ (n : NodeId). Holds g.T.Stored.place new n) (sym c.from_node.ensures) held

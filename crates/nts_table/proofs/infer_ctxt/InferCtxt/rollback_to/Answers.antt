@@ -7,7 +7,7 @@ use Rattle.nts_table.proofs.infer_ctxt.InferCtxt.rollback_to.Goals as goal
 pub loop-self-init : goal.loop-self-init
 loop-self-init c =
     let f = AreMarks-front _ c.in-Some.mark _ (rw c.in-Some.ensures.items at c.self.invariant) in
-    record { same = λ p h. refl; marks = f.0; kept = refl; long = f.1 }
+    record { same = λ p h. refl; marks = f.0; kept = refl; mode = refl; long = f.1 }
 
 pub loop-self-preserved-in-Some-pop : goal.loop-self-preserved-in-Some-pop
 loop-self-preserved-in-Some-pop c =
@@ -25,6 +25,7 @@ loop-self-preserved-in-Some-pop c =
           ∙ i.same p h;
       marks = i.marks;
       kept = i.kept;
+      mode = i.mode;
       long = long;
     }
 
@@ -32,4 +33,7 @@ pub returns-after-loop-self : goal.returns-after-loop-self
 returns-after-loop-self c =
     let i = c.loop-self.invariant in
     let e = c.in-Some.ensures.items ∙ ap (λ ps. ps ++ c.in-Some.mark ∷ []) (sym i.kept) in
-    sym (ap (λ (t : Table). t.saved) c.self.view_is) ∙ rolled_back _ _ _ _ _ _ c.in-Some.mark e i.marks i.same (omega arith)
+    record {
+      saved = sym (ap (λ (t : Table). t.saved) c.self.view_is) ∙ rolled_back _ _ _ _ _ _ c.in-Some.mark e i.marks i.same (omega arith);
+      mode = i.mode ∙ ap (λ (t : Table). t.mode) c.self.view_is;
+    }

@@ -8,6 +8,7 @@ invariant-loop-self l = record {
   same : (p : ℕ) → p ≤ l.mark → all_undone (drop p l.self-inside.log.items) l.self-inside.contents ≡ all_undone (drop p l.initial.self-inside.log.items) l.initial.self-inside.contents;
   marks : AreMarks l.mark l.self-inside.snapshots.items;
   kept : l.self-inside.snapshots.items ≡ l.initial.self-inside.snapshots.items;
+  mode : l.self-inside.mode ≡ l.initial.self-inside.mode;
   long : l.mark ≤ length l.self-inside.log.items;
 }
 

@@ -1,0 +1,42 @@
+use Rattle.std.proofs.Common.{rules, ◌≡◌, true, false, refl, sym, ap, ◌∙◌, [], ◌∷◌, ◌++◌}
+use Rattle.nts_terms.proofs.Growing.{Extends-refl, Extends-trans}
+use Rattle.nts_table.specs.Reading.{content_of}
+use Rattle.nts_table.specs.Relating.{pairs_at}
+use Rattle.nts_table.proofs.PairLemmas.{running_start, running_step, running_bound, running_end}
+use Rattle.nts_table.proofs.RefusalLemmas.{Refuses-before}
+use Rattle.nts_table.proofs.relate.run.Goals as goal
+
+pub loop-pair-init : goal.loop-pair-init
+loop-pair-init c =
+    record { extends = Extends-refl c.args.nodes.now; saved = refl; mode = refl; valid = c.requires.valid; running = running_start (content_of c.args.nodes.now c.args.table.now.entries) _ c.requires.valid.lawful.sound }
+
+pub loop-pair-preserved : goal.loop-pair-preserved
+loop-pair-preserved c =
+    let i = c.loop-pair.invariant in
+    let is : c.loop-pair.pairs.items ≡ c.pop.new.self.items ++ c.in-Some.pair ∷ [] = search rules in
+    record {
+      extends = Extends-trans i.extends c.in-Ok.ensures.extends;
+      saved = c.in-Ok.ensures.saved ∙ i.saved;
+      mode = c.in-Ok.ensures.mode ∙ i.mode;
+      valid = c.in-Ok.ensures.valid;
+      running = running_step c.requires.valid.lawful.sound i.valid.lawful.sound (rw is at i.running) c.in-Ok.ensures.step c.if-bound.false;
+    }
+
+pub returns-then-bound-clause-run : goal.returns-then-bound-clause-run
+returns-then-bound-clause-run c =
+    let i = c.loop-pair.invariant in
+    let is : c.loop-pair.pairs.items ≡ c.pop.new.self.items ++ c.in-Some.pair ∷ [] = search rules in
+    running_bound c.requires.valid.lawful.sound i.valid.lawful.sound (rw is at i.running) c.in-Ok.ensures.step c.if-bound.true
+
+pub returns-clause-run : goal.returns-clause-run
+returns-clause-run c =
+    let none : c.pop.new.self.items ≡ [] = search rules in
+    let same : c.loop-pair.pairs.items ≡ c.pop.new.self.items = search rules in
+    running_end (rw same at c.loop-pair.invariant.running) (ap (pairs_at c.loop-pair.nodes) none)
+
+pub returns-in-Err-clause-no : goal.returns-in-Err-clause-no
+returns-in-Err-clause-no c = λ q.
+    let i = c.loop-pair.invariant in
+    let is : c.loop-pair.pairs.items ≡ c.pop.new.self.items ++ c.in-Some.pair ∷ [] = search rules in
+    let before = rw is at i.running in
+    Refuses-before before.reduces (c.in-Err.ensures.no q)

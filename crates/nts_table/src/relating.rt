@@ -1,0 +1,239 @@
+//! Relating typed values.
+ghost use Rattle.std.specs.Prelude.{◌≡◌, ◌≢◌, [], false, Err, IfOk, OnOk, OnErr};
+ghost use Rattle.nts_model.specs.declared.labels.Variance.TheVariants as variances;
+ghost use Rattle.nts_model.specs.Trees.{Place, is, any_term, any_argument, arguments, a_type, a_region, a_const, any_label, is_alias};
+ghost use Rattle.nts_model.specs.Resolving.{Knows, resolved};
+ghost use Rattle.nts_model.specs.Equations.{AreRelated, AreUnrelated};
+ghost use Rattle.nts_terms.specs.declared.nodes.NodeId.{NodeId};
+ghost use Rattle.nts_terms.specs.Growth.{tree_at, Extends};
+ghost use Rattle.nts_terms.specs.Handles.{Holds};
+ghost use Rattle.nts_terms.specs.Rest.{KeepsRest};
+ghost use Rattle.nts_table.specs.Reading.{content_of, IsTable};
+ghost use Rattle.nts_table.specs.Changing.{IsLater};
+
+use crate::infer_ctxt::InferCtxt;
+use crate::relate::relate_nodes;
+use nts_model::Variance;
+use nts_terms::{
+    AliasTerm, Const, Cx, DefId, EvalError, GenericArg, Goal, NodeId, ParamEnv, Region, Span, Term,
+    TraitRef, Ty,
+};
+
+/// What can be related: two terms of one sort, or two lists of arguments of one alias or trait.
+pub trait Relate: Copy {
+    ghost use Rattle.std.specs.Prelude.{Option};
+    ghost use Rattle.nts_terms.specs.declared.handles.DefId.{DefId};
+
+    ghost place: { Place };
+
+    ghost id: { Self → NodeId };
+
+    ghost head: { Self → Option DefId };
+
+    /// The term that is related.
+    fn node(self) -> NodeId
+        ensures { result ≡ id self };
+
+    /// What the arguments are of, which must be one on both sides.
+    fn def(self) -> Option<DefId>
+        ensures { result ≡ head self };
+}
+
+impl Relate for Ty {
+    ghost use Rattle.std.specs.Prelude.{None};
+
+    ghost place = { a_type };
+
+    ghost id = { λ x. x.node };
+
+    ghost head = { λ x. None };
+
+    fn node(self) -> NodeId {
+        self.node
+    }
+
+    fn def(self) -> Option<DefId> {
+        None
+    }
+}
+
+impl Relate for Region {
+    ghost use Rattle.std.specs.Prelude.{None};
+
+    ghost place = { a_region };
+
+    ghost id = { λ x. x.node };
+
+    ghost head = { λ x. None };
+
+    fn node(self) -> NodeId {
+        self.node
+    }
+
+    fn def(self) -> Option<DefId> {
+        None
+    }
+}
+
+impl Relate for Const {
+    ghost use Rattle.std.specs.Prelude.{None};
+
+    ghost place = { a_const };
+
+    ghost id = { λ x. x.node };
+
+    ghost head = { λ x. None };
+
+    fn node(self) -> NodeId {
+        self.node
+    }
+
+    fn def(self) -> Option<DefId> {
+        None
+    }
+}
+
+impl Relate for Term {
+    ghost use Rattle.std.specs.Prelude.{None};
+
+    ghost place = { any_term };
+
+    ghost id = { λ x. x.node };
+
+    ghost head = { λ x. None };
+
+    fn node(self) -> NodeId {
+        self.node
+    }
+
+    fn def(self) -> Option<DefId> {
+        None
+    }
+}
+
+impl Relate for GenericArg {
+    ghost use Rattle.std.specs.Prelude.{None};
+
+    ghost place = { any_argument };
+
+    ghost id = { λ x. x.node };
+
+    ghost head = { λ x. None };
+
+    fn node(self) -> NodeId {
+        self.node
+    }
+
+    fn def(self) -> Option<DefId> {
+        None
+    }
+}
+
+impl Relate for AliasTerm {
+    ghost use Rattle.std.specs.Prelude.{Some};
+    ghost use Rattle.nts_terms.specs.declared.handles.DefId.TheVariants as defs;
+
+    ghost place = { is arguments };
+
+    ghost id = { λ x. x.args.node };
+
+    ghost head = { λ x. Some (defs.Alias x.def_id) };
+
+    fn node(self) -> NodeId {
+        self.args.node
+    }
+
+    fn def(self) -> Option<DefId> {
+        Some(DefId::Alias(self.def_id))
+    }
+}
+
+impl Relate for TraitRef {
+    ghost use Rattle.std.specs.Prelude.{Some};
+    ghost use Rattle.nts_terms.specs.declared.handles.DefId.TheVariants as defs;
+
+    ghost place = { is arguments };
+
+    ghost id = { λ x. x.args.node };
+
+    ghost head = { λ x. Some (defs.Trait x.def_id) };
+
+    fn node(self) -> NodeId {
+        self.args.node
+    }
+
+    fn def(self) -> Option<DefId> {
+        Some(DefId::Trait(self.def_id))
+    }
+}
+
+impl InferCtxt {
+    /// Makes two values one, and answers the goals that are left. No alias is to stand in either, so
+    /// there are none. After a refusal the table is as before.
+    pub fn relate<T: Relate>(
+        &mut self,
+        cx: &mut Cx,
+        env: ParamEnv,
+        lhs: T,
+        variance: Variance,
+        rhs: T,
+        span: Span,
+    ) -> Result<Vec<Goal>, EvalError>
+        requires table { IsTable cx.old.nodes self.old }
+        requires invariant { variance ≡ variances.Invariant }
+        requires left { Holds T.place cx.old.nodes (T.id lhs) }
+        requires right { Holds T.place cx.old.nodes (T.id rhs) }
+        requires left_known { Knows (content_of cx.old.nodes self.old.entries) (tree_at cx.old.nodes (T.id lhs)) }
+        requires right_known { Knows (content_of cx.old.nodes self.old.entries) (tree_at cx.old.nodes (T.id rhs)) }
+        requires left_aliases { any_label is_alias (resolved (content_of cx.old.nodes self.old.entries) (tree_at cx.old.nodes (T.id lhs))) ≡ false }
+        requires right_aliases { any_label is_alias (resolved (content_of cx.old.nodes self.old.entries) (tree_at cx.old.nodes (T.id rhs))) ≡ false }
+        ensures goals { IfOk result (λ gs. gs.items ≡ []) }
+        ensures heads { OnOk result (T.head lhs ≡ T.head rhs) }
+        ensures related { OnOk result (AreRelated (content_of cx.old.nodes self.old.entries) (content_of cx.new.nodes self.new.entries) (tree_at cx.old.nodes (T.id lhs)) (tree_at cx.old.nodes (T.id rhs))) }
+        ensures no { result ≡ Err EvalError.NoSolution → T.head lhs ≡ T.head rhs → AreUnrelated (content_of cx.old.nodes self.old.entries) (tree_at cx.old.nodes (T.id lhs)) (tree_at cx.old.nodes (T.id rhs)) }
+        ensures extends { Extends cx.old.nodes cx.new.nodes }
+        ensures rest { KeepsRest cx.old cx.new }
+        ensures table { IsTable cx.new.nodes self.new }
+        ensures saved { self.new.saved ≡ self.old.saved }
+        ensures mode { self.new.mode ≡ self.old.mode }
+        ensures later { IsLater (content_of cx.old.nodes self.old.entries) (content_of cx.new.nodes self.new.entries) }
+        ensures err { OnErr result (self.new ≡ self.old) }
+        ensures full { result ≢ Err EvalError.Full }
+    {
+        let _ = variance;
+        self.eq_structurally_relating_aliases(cx, env, lhs, rhs, span)?;
+        Ok(Vec::new(cx.alloc))
+    }
+
+    /// Makes two values one, with aliases taken as they stand. After a refusal the table is as before.
+    pub fn eq_structurally_relating_aliases<T: Relate>(
+        &mut self,
+        cx: &mut Cx,
+        _env: ParamEnv,
+        lhs: T,
+        rhs: T,
+        _span: Span,
+    ) -> Result<(), EvalError>
+        requires table { IsTable cx.old.nodes self.old }
+        requires left { Holds T.place cx.old.nodes (T.id lhs) }
+        requires right { Holds T.place cx.old.nodes (T.id rhs) }
+        requires left_known { Knows (content_of cx.old.nodes self.old.entries) (tree_at cx.old.nodes (T.id lhs)) }
+        requires right_known { Knows (content_of cx.old.nodes self.old.entries) (tree_at cx.old.nodes (T.id rhs)) }
+        ensures heads { OnOk result (T.head lhs ≡ T.head rhs) }
+        ensures related { OnOk result (AreRelated (content_of cx.old.nodes self.old.entries) (content_of cx.new.nodes self.new.entries) (tree_at cx.old.nodes (T.id lhs)) (tree_at cx.old.nodes (T.id rhs))) }
+        ensures no { result ≡ Err EvalError.NoSolution → T.head lhs ≡ T.head rhs → AreUnrelated (content_of cx.old.nodes self.old.entries) (tree_at cx.old.nodes (T.id lhs)) (tree_at cx.old.nodes (T.id rhs)) }
+        ensures extends { Extends cx.old.nodes cx.new.nodes }
+        ensures rest { KeepsRest cx.old cx.new }
+        ensures table { IsTable cx.new.nodes self.new }
+        ensures saved { self.new.saved ≡ self.old.saved }
+        ensures mode { self.new.mode ≡ self.old.mode }
+        ensures later { IsLater (content_of cx.old.nodes self.old.entries) (content_of cx.new.nodes self.new.entries) }
+        ensures err { OnErr result (self.new ≡ self.old) }
+        ensures full { result ≢ Err EvalError.Full }
+    {
+        if lhs.def() != rhs.def() {
+            return Err(EvalError::NoSolution);
+        }
+        relate_nodes(cx.alloc, &mut cx.nodes, self, lhs.node(), rhs.node())
+    }
+}
