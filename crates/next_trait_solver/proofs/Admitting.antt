@@ -1,16 +1,16 @@
 -- What the tests of a goal at the root say.
-use Rattle.std.proofs.Common.{◌≡◌, ◌↔◌, ℕ, ◌||◌, Bool, true, false, List, Option, Some, None, is_some, refl, ap, sym, ◌∙◌}
+use Rattle.std.proofs.Common.{◌≡◌, ◌↔◌, Bool, true, false, List, is_some, refl, ap, sym, ◌∙◌}
 use Rattle.std.specs.Prelude.{IsTrue, IfOk, Result, Ok, Err}
 use Rattle.nts_model.proofs.Resolved.{deeply_resolved-deeply_resolved}
 use Rattle.nts_model.specs.declared.labels.Label.{Label}
-use Rattle.nts_model.specs.Trees.{Tree, empty, more, node, any_label, is_canonical, IsClosed}
+use Rattle.nts_model.specs.Trees.{Tree, empty, more, node, any_label}
 use Rattle.nts_model.specs.Resolving.{Knows, deeply_resolved}
 use Rattle.nts_terms.specs.declared.facts.Facts.{Facts}
 use Rattle.nts_terms.specs.declared.nodes.NodeId.{NodeId}
 use Rattle.nts_terms.specs.Facts.{facts_of, escaping}
 use Rattle.nts_terms.specs.Growth.{tree_at}
 use Rattle.nts_terms.specs.Labels.{AllLabels}
-use Rattle.nts_terms.proofs.Escaping.{closed_under, escapes}
+use Rattle.nts_terms.proofs.Escaping.{escapes}
 use Rattle.nts_table.specs.Entries.{Table}
 use Rattle.nts_table.specs.Reading.{content_of, IsTable}
 use Rattle.next_trait_solver.specs.Evaluation.{IsRootTerm}

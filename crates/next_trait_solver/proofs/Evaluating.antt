@@ -1,22 +1,30 @@
 -- What evaluations keep, composed.
-use Rattle.std.proofs.Common.{◌≡◌, ◌≢◌, ℕ, zero, suc, ◌+◌, ◌<◌, List, [], ◌∷◌, ◌++◌, length, map, get_or, Option, Some, None, refl, sym, ap, ◌∙◌, arith, rules, length-append}
-use Rattle.std.specs.Prelude.{slice_get}
+use Rattle.std.proofs.Common.{◌≡◌, ℕ, zero, suc, ◌<◌, List, [], ◌∷◌, ◌++◌, length, map, get_or, Option, Some, None, refl, sym, ap, ◌∙◌, arith, length-append}
+use Rattle.std.specs.Prelude.{slice_get, Result, Ok, Err, OnOk, OnErr}
+use Rattle.nts_model.specs.Equations.{AreRelated}
 use Rattle.nts_model.specs.declared.labels.Sort.{Sort}
+use Rattle.nts_model.specs.declared.labels.Relation.TheVariants as relation
 use Rattle.nts_model.specs.declared.labels.Label.{Label}
 use Rattle.nts_model.specs.Trees.{Tree, empty, more, node, kind_of, kind_of_label, of_sort, NodeKind, environment, bound_predicate}
 use Rattle.nts_model.specs.Contents.{Content, with_constraint, with_slot, kind_at}
-use Rattle.nts_model.specs.Resolving.{Knows, KnowsLabel, variable_of, variable_tree, deeply_resolved}
+use Rattle.nts_model.specs.Resolving.{Knows, variable_tree, deeply_resolved}
 use Rattle.nts_terms.specs.declared.nodes.NodeId.{NodeId}
 use Rattle.nts_terms.specs.declared.handles.Goal.{Goal}
 use Rattle.nts_terms.specs.Growth.{tree_at, trees_at, IsIn, AllIn, Extends}
 use Rattle.nts_terms.specs.Handles.{Holds}
 use Rattle.nts_terms.specs.Kept.{AllIn-kept, map-kept}
-use Rattle.nts_terms.specs.Filled.{position_of, value_or, filled, HasValue, HasValues, kind_of-filled}
+use Rattle.nts_terms.specs.Filled.{HasValue, HasValues, kind_of-filled}
+use Rattle.nts_model.specs.Handlers.{position_of, value_or, filled, IsValueOf, AreValuesOf, IsOfSort, NamesAt, NamesFresh}
+use Rattle.nts_model.specs.Regions.{of_variable}
 use Rattle.nts_terms.proofs.Growing.{Extends-trans, Extends-refl, IsIn-extended}
 use Rattle.nts_table.specs.Entries.{Entries, Table, added, constrained}
 use Rattle.nts_table.specs.declared.contents.Constraint.{Constraint}
 use Rattle.nts_model.proofs.Kept.{kind_of-deeply_resolved}
 use Rattle.nts_model.proofs.Open.{Knows-deeply_resolved}
+use Rattle.nts_model.specs.Resolving.{IsSound}
+use Rattle.nts_model.specs.Holding.{Continues}
+use Rattle.nts_model.proofs.Held.{Continues-refl, Continues-trans, Continues-with_slot, Continues-with_constraint}
+use Rattle.nts_model.proofs.Sound.{IsSound-with_slot}
 use Rattle.nts_model.proofs.Slots.{Knows-kept, KeepsKinds, KeepsKinds-with_slot, field-with_slot_new}
 use Rattle.nts_table.proofs.SavedLemmas.{back_to, push_inj}
 use Rattle.next_trait_solver.specs.declared.delegate.CandidateData.{CandidateData}
@@ -25,6 +33,7 @@ use Rattle.next_trait_solver.specs.declared.delegate.CandidateGoal.{CandidateGoa
 use Rattle.nts_table.specs.Reading.{content_of, slot_of, recorded_of, IsTable, IsConstraint, left_kind}
 use Rattle.nts_table.specs.Lawful.{content_of-extended, IsTable-extended, IsTable-opened, IsTable-constrained, content_of-constrained, content_of-added}
 use Rattle.nts_table.specs.Changing.{IsLater}
+use Rattle.nts_table.specs.Proper.{outlives_sides}
 use Rattle.nts_table.specs.Fresh.{variable_kind, with_fresh, fresh_row}
 use Rattle.nts_table.specs.Making.{new_variable}
 use Rattle.nts_table.specs.declared.contents.Variable.{Variable}
@@ -32,16 +41,19 @@ use Rattle.nts_terms.specs.declared.cx.Cx.{Cx}
 use Rattle.nts_terms.specs.Rest.{KeepsRest}
 use Rattle.next_trait_solver.specs.declared.delegate.Equation.{Equation}
 use Rattle.nts_model.specs.declared.labels.Sort.TheVariants as sort
-use Rattle.next_trait_solver.specs.Candidates.{AreEquations, IsRegionConstraint, AreRegionConstraints, IsNested, AreNested, IsCandidate, AreCandidates, IsOfSort, NamesAt, NamesFresh, HoldsGoal, KnowsGoal, IsOver}
+use Rattle.next_trait_solver.specs.Candidates.{IsEquation, AreEquations, IsRegionConstraint, AreRegionConstraints, IsNested, AreNested, IsCandidate, AreCandidates, HoldsGoal, IsOver}
 use Rattle.next_trait_solver.specs.Evaluation.{Goes, IsAdmitted, IsPosed, AllKnown, AreOfSorts, AreValues, IsTermOf}
 
 pub Goes-trans : {a b c : List Tree} {t u v : Table} → Goes a b t u → Goes b c u v → Goes a c t v
-Goes-trans g h =
+Goes-trans {a} {b} {c} {t} {u} {v} g h =
     record {
+      sound = g.sound;
       extends = Extends-trans g.extends h.extends;
       table = h.table;
       known = λ x k. h.known x (g.known x k);
+      continues = Continues-trans (content_of a t.entries) (content_of b u.entries) (content_of c v.entries) g.sound g.continues h.continues;
       saved = h.saved ∙ g.saved;
+      mode = h.mode ∙ g.mode;
     }
 
 -- a store that grows beside the table
@@ -49,10 +61,13 @@ pub Goes-extends : {a b : List Tree} {t : Table} → IsTable a t → Extends a b
 Goes-extends {a} {b} {t} h e =
     let same = content_of-extended e h.now in
     record {
+      sound = h.now.sound;
       extends = e;
       table = IsTable-extended e h;
       known = λ x k. rw same k;
+      continues = rw same (Continues-refl (content_of a t.entries) h.now.sound);
       saved = refl;
+      mode = refl;
     }
 
 Holds-extended : {a b : List Tree} {p : _} {n : NodeId} → Extends a b → Holds p a n → Holds p b n
@@ -86,6 +101,7 @@ AreValues-later {a} {b} {t} {u} {fresh} {vs} s h =
     record {
       within = AllIn-kept a b vs h.within s.extends;
       sorts = rw same h.sorts;
+      values = rw same h.values;
       known = rw same (AllKnown-later (content_of a t.entries) (content_of b u.entries) (map (tree_at a) vs) s.known h.known);
     }
 
@@ -159,6 +175,10 @@ is_filled {a} {b} {t} {vs} {x} {y} h f e w q =
       kind = ap kind_of q ∙ kind_of-filled (map (tree_at a) vs) (tree_at a x) f.positions;
     }
 
+-- a filled tree, in a store that has grown
+pub filled-kept : {a b : List Tree} (vs : List NodeId) (x : NodeId) → AllIn a vs → IsIn a x → Extends a b → filled (map (tree_at b) vs) (tree_at b x) ≡ filled (map (tree_at a) vs) (tree_at a x)
+filled-kept {a} {b} vs x w i e = rw (map-kept a b vs w e, e.kept x i) refl
+
 -- a goal of two terms of the right kinds
 pub goal_posed : {b : List Tree} {t : Table} {e p : NodeId} → IsTable b t → IsTermOf b t e → kind_of (tree_at b e) ≡ Some environment → IsTermOf b t p → kind_of (tree_at b p) ≡ Some bound_predicate → IsPosed b t (record { param_env = record { node = e }; predicate = record { node = p } })
 goal_posed {b} {t} {e} {p} h k i l j =
@@ -189,14 +209,10 @@ goal_made {a} {b} {d} {t} {g} {e} {p} h q ab bd k i l j =
     goal_posed later.table (IsTermOf-later later k) (kind-extended bd k.within (i ∙ q.env.fits)) l (j ∙ kind-extended ab q.predicate.within q.predicate.fits)
 
 -- the equation at a place
-pub record IsOverBoth (ts : List Tree) (fresh : List Sort) (g : Goal) (q : Equation) : Type 0 where
-  pub lhs : IsOver ts fresh g q.lhs.node
-  pub rhs : IsOver ts fresh g q.rhs.node
-
-pub equation_at : (ts : List Tree) (fresh : List Sort) (g : Goal) (qs : List Equation) (k : ℕ) (d : Equation) → AreEquations ts fresh g qs → k < length qs → IsOverBoth ts fresh g (get_or qs k d)
+pub equation_at : (ts : List Tree) (fresh : List Sort) (g : Goal) (qs : List Equation) (k : ℕ) (d : Equation) → AreEquations ts fresh g qs → k < length qs → IsEquation ts fresh g (get_or qs k d)
 equation_at ts fresh g [] k d h l = absurd (omega arith)
-equation_at ts fresh g (q ∷ qs) zero d h l = record { lhs = h.0; rhs = h.1 }
-equation_at ts fresh g (q ∷ qs) (suc k) d h l = equation_at ts fresh g qs k d h.2 (omega arith)
+equation_at ts fresh g (q ∷ qs) zero d h l = h.0
+equation_at ts fresh g (q ∷ qs) (suc k) d h l = equation_at ts fresh g qs k d h.1 (omega arith)
 
 -- new variables are values of their sorts
 kind_of-fresh : (s : Sort) (n : ℕ) → kind_of (variable_tree (variable_kind s) n) ≡ Some (of_sort s)
@@ -212,6 +228,20 @@ sorts-fresh ts (v ∷ vs) n (s ∷ ss) e =
     let first : tree_at ts v ≡ variable_tree (variable_kind s) n = cc in
     let rest : trees_at ts vs ≡ fresh_row (suc n) ss = cc in
     (ap kind_of first ∙ kind_of-fresh s n, sorts-fresh ts vs (suc n) ss rest)
+
+value-fresh : (s : Sort) (n : ℕ) → IsValueOf s (variable_tree (variable_kind s) n)
+value-fresh sort.Ty n = record { fits = refl; formed = (tt, tt); closed = (tt, tt) }
+value-fresh sort.Region n = record { fits = (of_variable n, refl); formed = (tt, tt); closed = (tt, tt) }
+value-fresh sort.Const n = record { fits = refl; formed = (tt, tt); closed = (tt, tt) }
+
+values-fresh : (ts : List Tree) (vs : List NodeId) (n : ℕ) (ss : List Sort) → trees_at ts vs ≡ fresh_row n ss → AreValuesOf ss (map (tree_at ts) vs)
+values-fresh ts [] n [] e = tt
+values-fresh ts [] n (s ∷ ss) e = cc
+values-fresh ts (v ∷ vs) n [] e = cc
+values-fresh ts (v ∷ vs) n (s ∷ ss) e =
+    let first : tree_at ts v ≡ variable_tree (variable_kind s) n = cc in
+    let rest : trees_at ts vs ≡ fresh_row (suc n) ss = cc in
+    (rw first (value-fresh s n), values-fresh ts vs (suc n) ss rest)
 
 KeepsKinds-refl : (c : Content) → KeepsKinds c c
 KeepsKinds-refl c = record { kinds = λ n k h. h }
@@ -251,25 +281,39 @@ known-fresh ts us (v ∷ vs) e (s ∷ ss) h =
     let is : kind_at (content_of ts (with_fresh next ss)) (length e.variables) ≡ Some k = (kinds-fresh ts next ss).kinds (length e.variables) k (kind-new ts e (new_variable e k)) in
     (rw first (is, tt), known-fresh ts us vs next ss rest)
 
+continues-fresh : (ts : List Tree) (e : Entries) (ss : List Sort) → IsSound (content_of ts e) → Continues (content_of ts e) (content_of ts (with_fresh e ss))
+continues-fresh ts e [] h = Continues-refl (content_of ts e) h
+continues-fresh ts e (s ∷ ss) h =
+    let v = new_variable e (variable_kind s) in
+    let next = added e v in
+    let same = content_of-added ts e v in
+    let sound : IsSound (content_of ts next) = rw same (IsSound-with_slot (content_of ts e) (slot_of ts v) h refl) in
+    let one : Continues (content_of ts e) (content_of ts next) = rw same (Continues-with_slot (content_of ts e) (slot_of ts v) refl h) in
+    Continues-trans (content_of ts e) (content_of ts next) (content_of ts (with_fresh next ss)) h one (continues-fresh ts next ss sound)
+
 -- what a table has after new variables
 pub record GaveFresh (a b : List Tree) (t u : Table) (fresh : List Sort) (vs : List NodeId) : Type 0 where
   pub goes : Goes a b t u
   pub values : AreValues b u fresh vs
 
-pub gave_fresh : {a b : List Tree} {t u : Table} (fresh : List Sort) (vs : List NodeId) → IsTable a t → Extends a b → IsTable b u → u.entries ≡ with_fresh t.entries fresh → u.saved ≡ t.saved → AllIn b vs → trees_at b vs ≡ fresh_row (length t.entries.variables) fresh → GaveFresh a b t u fresh vs
-gave_fresh {a} {b} {t} {u} fresh vs h e k q s w r =
+pub gave_fresh : {a b : List Tree} {t u : Table} (fresh : List Sort) (vs : List NodeId) → IsTable a t → Extends a b → IsTable b u → u.entries ≡ with_fresh t.entries fresh → u.saved ≡ t.saved → u.mode ≡ t.mode → AllIn b vs → trees_at b vs ≡ fresh_row (length t.entries.variables) fresh → GaveFresh a b t u fresh vs
+gave_fresh {a} {b} {t} {u} fresh vs h e k q s m w r =
     let same = content_of-extended e h.now in
     let kinds = kinds-fresh b t.entries fresh in
     record {
       goes = record {
+        sound = h.now.sound;
         extends = e;
         table = k;
+        continues = rw (q, ← same) (continues-fresh b t.entries fresh (rw same h.now.sound));
         known = λ x z. rw q (Knows-kept (content_of b t.entries) (content_of b (with_fresh t.entries fresh)) x kinds (rw same z));
         saved = s;
+        mode = m;
       };
       values = record {
         within = w;
         sorts = sorts-fresh b vs (length t.entries.variables) fresh r;
+        values = values-fresh b vs (length t.entries.variables) fresh r;
         known = rw q (known-fresh b b vs t.entries fresh r);
       };
     }
@@ -283,8 +327,8 @@ KeepsRest-trans g h =
     }
 
 -- a call on the store and the table
-pub goes : {a b : List Tree} {t u : Table} → Extends a b → IsTable b u → IsLater (content_of a t.entries) (content_of b u.entries) → u.saved ≡ t.saved → Goes a b t u
-goes {a} {b} {t} {u} e h k s = record { extends = e; table = h; known = λ x. Knows-kept (content_of a t.entries) (content_of b u.entries) x (record { kinds = k.kinds }); saved = s }
+pub goes : {a b : List Tree} {t u : Table} → IsTable a t → Extends a b → IsTable b u → IsLater (content_of a t.entries) (content_of b u.entries) → Continues (content_of a t.entries) (content_of b u.entries) → u.saved ≡ t.saved → u.mode ≡ t.mode → Goes a b t u
+goes {a} {b} {t} {u} w e h k n s m = record { sound = w.now.sound; continues = n; extends = e; table = h; known = λ x. Knows-kept (content_of a t.entries) (content_of b u.entries) x (record { kinds = k.kinds }); saved = s; mode = m }
 
 pub kind-kept : {a b : List Tree} {x : NodeId} → Extends a b → IsIn a x → kind_of (tree_at b x) ≡ kind_of (tree_at a x)
 kind-kept {a} {b} {x} e w = ap kind_of (e.kept x w)
@@ -299,8 +343,8 @@ IsPosed-opened {a} {t} {u} {g} p e s =
     }
 
 -- a constraint whose sides are terms of the table
-pub goes-constrained : {a : List Tree} {t u : Table} (x : Constraint) → IsTable a t → IsTermOf a t x.left → IsTermOf a t x.right → kind_of (tree_at a x.left) ≡ Some (left_kind x.relation) → kind_of (tree_at a x.right) ≡ Some (of_sort sort.Region) → u.entries ≡ constrained t.entries x → u.saved ≡ t.saved → Goes a a t u
-goes-constrained {a} {t} {u} x h l r k j e s =
+pub goes-constrained : {a : List Tree} {t u : Table} (x : Constraint) → IsTable a t → IsTermOf a t x.left → IsTermOf a t x.right → kind_of (tree_at a x.left) ≡ Some (left_kind x.relation) → kind_of (tree_at a x.right) ≡ Some (of_sort sort.Region) → (x.relation ≡ relation.Equal → ⊥) → u.entries ≡ constrained t.entries x → u.saved ≡ t.saved → u.mode ≡ t.mode → Goes a a t u
+goes-constrained {a} {t} {u} x h l r k j n e s m =
     let is : IsConstraint a (content_of a t.entries) x = record {
       left_in = l.within;
       right_in = r.within;
@@ -308,32 +352,44 @@ goes-constrained {a} {t} {u} x h l r k j e s =
       right_known = r.knows;
       left_sort = k;
       right_sort = j;
+      regions = outlives_sides x.relation (tree_at a x.left) (tree_at a x.right) n;
     } in
     let same = content_of-constrained a t.entries x in
     record {
+      sound = h.now.sound;
       extends = Extends-refl a;
       table = IsTable-constrained h is e s;
+      continues = rw (e, same) (Continues-with_constraint (content_of a t.entries) (recorded_of a x) h.now.sound);
       known = λ y q. rw (e, same) (Knows-kept (content_of a t.entries) (with_constraint (content_of a t.entries) (recorded_of a x)) y (record { kinds = λ n i z. z }) q);
       saved = s;
+      mode = m;
     }
 
 -- all was undone
 pub goes-back : {a b : List Tree} {t u : Table} → IsTable a t → Extends a b → u ≡ t → Goes a b t u
 goes-back {a} {b} {t} {u} h e q = rw q (Goes-extends h e)
 
+-- .. that makes two trees equal, or leaves the table
+pub related_goes : {a b : List Tree} {t u : Table} {E : Type 0} (x y : Tree) (r : Result (Unit {0}) E) → IsTable a t → Extends a b → IsTable b u → IsLater (content_of a t.entries) (content_of b u.entries) → u.saved ≡ t.saved → u.mode ≡ t.mode → OnOk r (AreRelated (content_of a t.entries) (content_of b u.entries) x y) → OnErr r (u ≡ t) → Goes a b t u
+related_goes x y (Ok z) w e h k s m n q = goes w e h k n.continues s m
+related_goes x y (Err z) w e h k s m n q = goes-back w e q
+
 -- after a snapshot, a step, and its rollback the table is as it was
-pub rolled_back : {a b : List Tree} {t s u v : Table} → s.saved ≡ t.saved ++ t.entries ∷ [] → Goes a b s u → u.saved ≡ v.saved ++ v.entries ∷ [] → v ≡ t
-rolled_back {a} {b} {t} {s} {u} {v} opened step back = back_to t v u.saved (step.saved ∙ opened) back
+pub rolled_back : {a b : List Tree} {t s u v : Table} → s.saved ≡ t.saved ++ t.entries ∷ [] → Goes a b s u → u.saved ≡ v.saved ++ v.entries ∷ [] → s.mode ≡ t.mode → v.mode ≡ u.mode → v ≡ t
+rolled_back {a} {b} {t} {s} {u} {v} opened step back first last = back_to t v u.saved (step.saved ∙ opened) back (last ∙ step.mode ∙ first)
 
 -- .. and after its commit the step stays
-pub committed : {a b : List Tree} {t s u v : Table} (e : Entries) → s.entries ≡ t.entries → s.saved ≡ t.saved ++ t.entries ∷ [] → IsTable a t → Goes a b s u → v.entries ≡ u.entries → u.saved ≡ v.saved ++ e ∷ [] → Goes a b t v
-committed {a} {b} {t} {s} {u} {v} e same opened h step kept closed =
+pub committed : {a b : List Tree} {t s u v : Table} (e : Entries) → s.entries ≡ t.entries → s.saved ≡ t.saved ++ t.entries ∷ [] → IsTable a t → Goes a b s u → v.entries ≡ u.entries → u.saved ≡ v.saved ++ e ∷ [] → s.mode ≡ t.mode → v.mode ≡ u.mode → Goes a b t v
+committed {a} {b} {t} {s} {u} {v} e same opened h step kept closed first last =
     let ends = push_inj v.saved t.saved e t.entries (sym closed ∙ step.saved ∙ opened) in
     record {
+      sound = h.now.sound;
+      continues = rw kept (rw same at step.continues);
       extends = step.extends;
       table = record { now = rw kept step.table.now; saved = rw ends.0 (IsTable-extended step.extends h).saved };
       known = λ x k. rw kept (step.known x (rw same k));
       saved = ends.0;
+      mode = last ∙ step.mode ∙ first;
     }
 
 pub candidate_at : (ts : List Tree) (g : Goal) (cs : List CandidateData) (k : ℕ) (d : CandidateData) → AreCandidates ts g cs → k < length cs → IsCandidate ts g (get_or cs k d)
@@ -352,9 +408,17 @@ nested_at ts fresh g (x ∷ xs) zero d h l = h.0
 nested_at ts fresh g (x ∷ xs) (suc k) d h l = nested_at ts fresh g xs k d h.1 (omega arith)
 
 -- candidates in a store that has grown
+pub IsEquation-extended : {a b : List Tree} {fresh : List Sort} {g : Goal} {q : Equation} → Extends a b → HoldsGoal a g → IsEquation a fresh g q → IsEquation b fresh g q
+IsEquation-extended {a} {b} {fresh} {g} {q} e p h =
+    record {
+      lhs = IsOver-extended e p h.lhs;
+      rhs = IsOver-extended e p h.rhs;
+      argument = rw (e.kept q.lhs.node h.lhs.within) h.argument;
+    }
+
 equations-extended : {a b : List Tree} (fresh : List Sort) (g : Goal) (qs : List Equation) → Extends a b → HoldsGoal a g → AreEquations a fresh g qs → AreEquations b fresh g qs
 equations-extended fresh g [] e p h = tt
-equations-extended fresh g (q ∷ qs) e p h = (IsOver-extended e p h.0, IsOver-extended e p h.1, equations-extended fresh g qs e p h.2)
+equations-extended fresh g (q ∷ qs) e p h = (IsEquation-extended e p h.0, equations-extended fresh g qs e p h.1)
 
 pub IsRegionConstraint-extended : {a b : List Tree} {fresh : List Sort} {g : Goal} {x : RegionConstraint} → Extends a b → HoldsGoal a g → IsRegionConstraint a fresh g x → IsRegionConstraint b fresh g x
 IsRegionConstraint-extended {a} {b} {fresh} {g} {x} e p h =
@@ -369,14 +433,20 @@ constraints-extended : {a b : List Tree} (fresh : List Sort) (g : Goal) (xs : Li
 constraints-extended fresh g [] e p h = tt
 constraints-extended fresh g (x ∷ xs) e p h = (IsRegionConstraint-extended e p h.0, constraints-extended fresh g xs e p h.1)
 
+pub IsNested-extended : {a b : List Tree} {fresh : List Sort} {g h : Goal} → Extends a b → HoldsGoal a g → IsNested a fresh g h → IsNested b fresh g h
+IsNested-extended e p h =
+    record { environment = h.environment; holds = HoldsGoal-extended e h.holds; env = IsOver-extended e p h.env; predicate = IsOver-extended e p h.predicate }
+
 nested-extended : {a b : List Tree} (fresh : List Sort) (g : Goal) (hs : List CandidateGoal) → Extends a b → HoldsGoal a g → AreNested a fresh g hs → AreNested b fresh g hs
 nested-extended fresh g [] e p h = tt
 nested-extended fresh g (x ∷ xs) e p h =
-    (record { holds = HoldsGoal-extended e h.0.holds; env = IsOver-extended e p h.0.env; predicate = IsOver-extended e p h.0.predicate }, nested-extended fresh g xs e p h.1)
+    (record { environment = h.0.environment; holds = HoldsGoal-extended e h.0.holds; env = IsOver-extended e p h.0.env; predicate = IsOver-extended e p h.0.predicate }, nested-extended fresh g xs e p h.1)
 
 pub IsCandidate-extended : {a b : List Tree} {g : Goal} {c : CandidateData} → Extends a b → HoldsGoal a g → IsCandidate a g c → IsCandidate b g c
 IsCandidate-extended {a} {b} {g} {c} e p h =
     record {
+      hidden = h.hidden;
+      accesses = h.accesses;
       equations = equations-extended c.fresh.items g c.equations.items e p h.equations;
       constraints = constraints-extended c.fresh.items g c.region_constraints.items e p h.constraints;
       goals = nested-extended c.fresh.items g c.goals.items e p h.goals;
@@ -403,3 +473,18 @@ is_resolved {a} {b} {t} {x} {y} h k e w q =
 -- a goal that may be asked is one of the store and the table
 pub IsPosed-admitted : {a : List Tree} {t : Table} {g : Goal} → IsTable a t → IsAdmitted a t g → IsPosed a t g
 IsPosed-admitted h k = record { table = h; holds = k.holds; knows = record { env = k.env.knows; predicate = k.predicate.knows } }
+
+pub IsAdmitted-extended : {a b : List Tree} {t : Table} {g : Goal} → Extends a b → IsTable a t → IsAdmitted a t g → IsAdmitted b t g
+IsAdmitted-extended {a} {b} {t} {g} e h k =
+    let env = e.kept g.param_env.node k.holds.env.within in
+    let predicate = e.kept g.predicate.node k.holds.predicate.within in
+    let same = content_of-extended e h.now in
+    record {
+      holds = HoldsGoal-extended e k.holds;
+      env = record { closed = rw env k.env.closed; positions = rw env k.env.positions; knows = rw (env, same) k.env.knows };
+      predicate = record { closed = rw predicate k.predicate.closed; positions = rw predicate k.predicate.positions; knows = rw (predicate, same) k.predicate.knows };
+      env_types = rw (env, same) k.env_types;
+      asked = rw predicate k.asked;
+    }
+
+pub ruleset asking = (Extends-trans, Extends-refl, IsTable-extended, IsAdmitted-extended)

@@ -1,9 +1,8 @@
 -- What a clause offers is a candidate.
-use Rattle.std.proofs.Common.{◌≡◌, ℕ, zero, suc, ◌+◌, ◌<◌, ◌≤◌, ◌==◌, ◌||◌, Bool, true, false, cond, if◌then◌else◌, List, [], ◌∷◌, ◌++◌, length, get_or, take, map, Option, Some, None, eqb-true, refl, ap, sym, ◌∙◌, arith}
+use Rattle.std.proofs.Common.{◌≡◌, ℕ, zero, suc, ◌+◌, ◌<◌, ◌==◌, ◌||◌, Bool, true, false, cond, if◌then◌else◌, List, [], ◌∷◌, ◌++◌, length, get_or, take, map, Option, Some, None, eqb-true, refl, ap, sym, ◌∙◌, arith}
 use Rattle.std.specs.List.{filter}
 use Rattle.std.proofs.lemmas.List.{take_more}
 use Rattle.nts_model.specs.declared.labels.Sort.{Sort}
-use Rattle.nts_model.specs.declared.labels.FreeRegion.{FreeRegion}
 use Rattle.nts_model.specs.declared.labels.Leaf.TheVariants as leaf
 use Rattle.nts_model.specs.declared.labels.BoundIndex.TheVariants as index
 use Rattle.nts_model.specs.declared.labels.ClauseHead.TheVariants as clause
@@ -15,9 +14,9 @@ use Rattle.nts_model.specs.Resolving.{Knows, KnowsLabel, variable_of}
 use Rattle.nts_terms.specs.declared.handles.Goal.{Goal}
 use Rattle.nts_terms.specs.declared.handles.Predicate.{Predicate}
 use Rattle.nts_terms.specs.Growth.{tree_at}
-use Rattle.nts_terms.specs.Filled.{position_of}
+use Rattle.nts_model.specs.Handlers.{position_of, NamesAt, NamesFresh}
 use Rattle.nts_terms.proofs.Growing.{row_take-all}
-use Rattle.next_trait_solver.specs.Candidates.{NamesAt, NamesFresh, IsAsked, KnowsGoal, IsOver, AreEquations, AreNested, IsCandidate, AreCandidates}
+use Rattle.next_trait_solver.specs.Candidates.{IsAsked, KnowsGoal, AreEquations, AreNested, IsCandidate, AreCandidates}
 use Rattle.next_trait_solver.specs.Clauses.{is_foreign, AreBodies, IsClause, AreClauses, clauses_of, AreReady}
 use Rattle.next_trait_solver.specs.Adding.{AddsClause}
 use Rattle.next_trait_solver.specs.Offers.{trait_read, trait_of_body, trait_of, IsPair, ArePairs, asked_by, IsOffer, takes, AreEach}
@@ -155,21 +154,35 @@ pairs_over ts fresh g (more a us) (more b vs) (q ∷ qs) p n k f o =
     let lacks = both_false (any_label is_canonical a) (any_label is_canonical us) n in
     let own = both_false (any_label is_foreign b) (any_label is_foreign vs) o in (
       record {
-        within = p.0.left_in;
-        names = rw p.0.left (names_none fresh a lacks.0);
-        knows = λ c w. rw p.0.left (k c w).0;
+        lhs = record {
+          within = p.0.left_in;
+          names = rw p.0.left (names_none fresh a lacks.0);
+          knows = λ c w. rw p.0.left (k c w).0;
+        };
+        rhs = record { within = p.0.right_in; names = rw p.0.right f.0; knows = λ c w. rw p.0.right (knows_none c b own.0) };
+        argument = rw p.0.left p.0.argument;
       },
-      record { within = p.0.right_in; names = rw p.0.right f.0; knows = λ c w. rw p.0.right (knows_none c b own.0) },
       pairs_over ts fresh g us vs qs p.1 lacks.1 (λ c w. (k c w).1) f.1 own.1,
     )
 pairs_over ts fresh g us vs qs p n k f o = absurd p
+
+-- a goal that handlers are asked has no positions
+positions : {ts : List Tree} {g : Goal} → IsAsked ts g → (any_label is_canonical (tree_at ts g.param_env.node) ≡ false) × (any_label is_canonical (tree_at ts g.predicate.node) ≡ false)
+positions {ts} {g} a =
+    let asked = a.asked in
+    let env = both_false (any_label is_canonical (tree_at ts g.param_env.node)) (any_label is_canonical (more (tree_at ts g.predicate.node) empty)) asked.no_positions in
+    (env.0, last (any_label is_canonical (tree_at ts g.predicate.node)) env.1)
+  where
+    last : (p : Bool) → (p || false) ≡ false → p ≡ false
+    last p h = (both_false p false h).0
 
 asked_nested : (ts : List Tree) (fresh : List Sort) (g : Goal) (ps : List Predicate) → IsAsked ts g → AreBodies ts fresh ps → AreNested ts fresh g (map (asked_by g) ps)
 asked_nested ts fresh g [] a b = tt
 asked_nested ts fresh g (p ∷ ps) a b = (
   record {
+    environment = refl;
     holds = record { env = a.holds.env; predicate = b.0 };
-    env = record { within = a.holds.env.within; names = names_none fresh _ a.env; knows = λ c w. w.env };
+    env = record { within = a.holds.env.within; names = names_none fresh _ (positions a).0; knows = λ c w. w.env };
     predicate = record { within = b.1.within; names = b.1.names; knows = λ c w. knows_none c _ b.1.own };
   },
   asked_nested ts fresh g ps a b.2,
@@ -178,7 +191,9 @@ asked_nested ts fresh g (p ∷ ps) a b = (
 pub offer_is_candidate : (ts : List Tree) (g : Goal) (args : Tree) (c : Clause) (d : CandidateData) → IsAsked ts g → IsClause ts c → IsPart (tree_at ts g.predicate.node) args → IsOffer ts g args c d → IsCandidate ts g d
 offer_is_candidate ts g args c d a h part o =
     record {
-      equations = rw o.fresh (pairs_over ts c.fresh.items g (children args) (children (tree_at ts c.head.node)) d.equations.items o.equations (children_lack is_canonical args (part.lacks is_canonical a.predicate)) (λ k w. children_known k args (part.knows k w.predicate)) (children_named c.fresh.items (tree_at ts c.head.node) h.head.names) (children_lack is_foreign (tree_at ts c.head.node) h.head.own));
+      hidden = o.hidden;
+      accesses = o.accesses;
+      equations = rw o.fresh (pairs_over ts c.fresh.items g (children args) (children (tree_at ts c.head.node)) d.equations.items o.equations (children_lack is_canonical args (part.lacks is_canonical (positions a).1)) (λ k w. children_known k args (part.knows k w.predicate)) (children_named c.fresh.items (tree_at ts c.head.node) h.head.names) (children_lack is_foreign (tree_at ts c.head.node) h.head.own));
       constraints = rw o.constraints tt;
       goals = rw (o.fresh, o.goals) (asked_nested ts c.fresh.items g c.body.items a h.body);
     }

@@ -1,10 +1,9 @@
 -- What a test of a clause says.
-use Rattle.std.proofs.Common.{◌≡◌, ◌↔◌, ℕ, zero, suc, ◌+◌, ◌<◌, ◌||◌, Bool, true, false, List, [], ◌∷◌, ◌++◌, length, get_or, take, Option, Some, None, is_some, refl, ap, sym, ◌∙◌, arith}
+use Rattle.std.proofs.Common.{◌≡◌, ◌↔◌, ℕ, zero, suc, ◌+◌, ◌<◌, ◌||◌, Bool, true, false, List, [], ◌∷◌, ◌++◌, length, get_or, take, Option, Some, None, is_some, refl, ap, arith}
 use Rattle.std.specs.Prelude.{IsTrue, IfOk, Result, Ok, Err}
 use Rattle.std.proofs.lemmas.List.{take_more}
 use Rattle.nts_model.specs.declared.labels.Sort.{Sort}
-use Rattle.nts_model.specs.declared.labels.Label.{Label}
-use Rattle.nts_model.specs.Trees.{Tree, empty, more, node, any_label, IsClosed, of_sort, NodeKind}
+use Rattle.nts_model.specs.Trees.{Tree, empty, more, node, any_label, IsClosed, of_sort}
 use Rattle.nts_terms.specs.declared.facts.Facts.{Facts}
 use Rattle.nts_terms.specs.declared.nodes.NodeId.{NodeId}
 use Rattle.nts_terms.specs.declared.handles.Predicate.{Predicate}
@@ -13,7 +12,7 @@ use Rattle.nts_terms.specs.Growth.{tree_at, IsIn}
 use Rattle.nts_terms.specs.Handles.{HoldsPredicate}
 use Rattle.nts_terms.specs.Labels.{AllLabels}
 use Rattle.nts_terms.proofs.Escaping.{closed_under, escapes}
-use Rattle.next_trait_solver.specs.Candidates.{NamesFresh}
+use Rattle.nts_model.specs.Handlers.{NamesFresh}
 use Rattle.next_trait_solver.specs.Clauses.{MayHave, is_foreign, IsClauseTerm, AreBodies}
 
 pub none_escapes : (t : Tree) (o : Option ℕ) → o ≡ escaping t → is_some o ≡ false → IsClosed t

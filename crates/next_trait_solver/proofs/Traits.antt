@@ -1,10 +1,10 @@
 -- Lists of traits' clauses, under a place that is added and a place that changes.
-use Rattle.std.proofs.Common.{◌≡◌, ℕ, zero, suc, ◌+◌, ◌<◌, ◌≤◌, ◌==◌, ◌||◌, Bool, true, false, List, [], ◌∷◌, ◌++◌, length, get_or, Option, Some, None, if◌then◌else◌, eqb-true, eq-eqb, refl, ap, sym, ◌∙◌, arith}
+use Rattle.std.proofs.Common.{◌≡◌, ℕ, zero, suc, ◌<◌, ◌==◌, Bool, true, false, List, [], ◌∷◌, ◌++◌, length, get_or, Some, if◌then◌else◌, eqb-true, eq-eqb, refl, ap, sym, ◌∙◌, arith}
 use Rattle.std.specs.Prelude.{slice_get}
 use Rattle.next_trait_solver.specs.declared.clauses.Clause.{Clause}
 use Rattle.next_trait_solver.specs.declared.clauses.TraitClauses.{TraitClauses}
 use Rattle.next_trait_solver.specs.declared.clauses.Clauses.{Clauses}
-use Rattle.next_trait_solver.specs.Clauses.{clauses_in, clauses_of, coinductive_in, coinductive_of}
+use Rattle.next_trait_solver.specs.Clauses.{clauses_in, coinductive_in}
 use Rattle.next_trait_solver.specs.Adding.{IsSame, AddsClause}
 use lib.ListN.{set}
 

@@ -1,5 +1,5 @@
 -- What changes in a handler made of clauses.
-use Rattle.std.specs.Prelude.{◌≡◌, ℕ, ◌==◌, ◌||◌, List, [], ◌∷◌, ◌++◌, if◌then◌else◌}
+use Rattle.std.specs.Prelude.{◌≡◌, ℕ, ◌==◌, ◌||◌, [], ◌∷◌, ◌++◌, if◌then◌else◌}
 use Rattle.next_trait_solver.specs.declared.clauses.Clause.{Clause}
 use Rattle.next_trait_solver.specs.declared.clauses.Clauses.{Clauses}
 use Rattle.next_trait_solver.specs.Clauses.{clauses_of, coinductive_of}

@@ -1,15 +1,16 @@
 -- What a handler may offer for a goal.
-use Rattle.std.specs.Prelude.{◌≡◌, ℕ, false, List, [], ◌∷◌, Option, Some, None, slice_get}
+use Rattle.std.specs.Prelude.{◌≡◌, List, [], ◌∷◌, Some}
 use Rattle.nts_model.specs.declared.labels.Sort.{Sort}
-use Rattle.nts_model.specs.declared.labels.Label.{Label}
-use Rattle.nts_model.specs.Trees.{Tree, empty, more, node, kind_of, kind_of_label, of_sort, NodeKind, any_label, is_canonical}
+use Rattle.nts_model.specs.Trees.{Tree, kind_of, of_sort, any_argument, FitsPlace}
 use Rattle.nts_model.specs.Contents.{Content}
 use Rattle.nts_model.specs.Resolving.{Knows}
 use Rattle.nts_terms.specs.declared.nodes.NodeId.{NodeId}
 use Rattle.nts_terms.specs.declared.handles.Goal.{Goal}
+use Rattle.nts_terms.specs.declared.sources.RerunCondition.TheVariants as rerun
 use Rattle.nts_terms.specs.Growth.{tree_at, IsIn}
 use Rattle.nts_terms.specs.Handles.{HoldsPredicate, HoldsEnv}
-use Rattle.nts_terms.specs.Filled.{position_of}
+use Rattle.nts_model.specs.Handlers.{NamesFresh}
+use Rattle.nts_model.specs.Handlers as handlers
 use Rattle.nts_table.specs.Reading.{left_kind}
 use Rattle.nts_model.specs.declared.labels.Sort.TheVariants as sort
 use Rattle.next_trait_solver.specs.declared.delegate.Equation.{Equation}
@@ -17,30 +18,15 @@ use Rattle.next_trait_solver.specs.declared.delegate.RegionConstraint.{RegionCon
 use Rattle.next_trait_solver.specs.declared.delegate.CandidateGoal.{CandidateGoal}
 use Rattle.next_trait_solver.specs.declared.delegate.CandidateData.{CandidateData}
 
--- a position that is named is one of the fresh variables, of its sort
-abbrev pub IsOfSort : Option Sort → NodeKind → Type 0
-IsOfSort None k = ⊥
-IsOfSort (Some s) k = k ≡ of_sort s
-
-abbrev pub NamesAt : List Sort → Option ℕ → Label → Type 0
-NamesAt fresh None l = Unit {0}
-NamesAt fresh (Some i) l = IsOfSort (slice_get fresh i) (kind_of_label l)
-
-abbrev pub NamesFresh : List Sort → Tree → Type 0
-NamesFresh fresh empty = Unit {0}
-NamesFresh fresh (more a b) = NamesFresh fresh a × NamesFresh fresh b
-NamesFresh fresh (node l c) = NamesAt fresh (position_of l) l × NamesFresh fresh c
-
 -- a goal of the store
 pub record HoldsGoal (ts : List Tree) (g : Goal) : Type 0 where
   pub env : HoldsEnv ts g.param_env
   pub predicate : HoldsPredicate ts g.predicate
 
--- .. that names no position of a canonical value
+-- .. that handlers are asked
 pub record IsAsked (ts : List Tree) (g : Goal) : Type 0 where
   pub holds : HoldsGoal ts g
-  pub env : any_label is_canonical (tree_at ts g.param_env.node) ≡ false
-  pub predicate : any_label is_canonical (tree_at ts g.predicate.node) ≡ false
+  pub asked : handlers.IsAsked (tree_at ts g.param_env.node) (tree_at ts g.predicate.node)
 
 -- the table has all variables of the goal
 pub record KnowsGoal (ts : List Tree) (c : Content) (g : Goal) : Type 0 where
@@ -53,10 +39,15 @@ pub record IsOver (ts : List Tree) (fresh : List Sort) (g : Goal) (t : NodeId) :
   pub names : NamesFresh fresh (tree_at ts t)
   pub knows : (c : Content) → KnowsGoal ts c g → Knows c (tree_at ts t)
 
+-- an equation between arguments
+pub record IsEquation (ts : List Tree) (fresh : List Sort) (g : Goal) (q : Equation) : Type 0 where
+  pub lhs : IsOver ts fresh g q.lhs.node
+  pub rhs : IsOver ts fresh g q.rhs.node
+  pub argument : FitsPlace any_argument (kind_of (tree_at ts q.lhs.node))
+
 abbrev pub AreEquations : List Tree → List Sort → Goal → List Equation → Type 0
 AreEquations ts fresh g [] = Unit {0}
-AreEquations ts fresh g (q ∷ qs) =
-    IsOver ts fresh g q.lhs.node × IsOver ts fresh g q.rhs.node × AreEquations ts fresh g qs
+AreEquations ts fresh g (q ∷ qs) = IsEquation ts fresh g q × AreEquations ts fresh g qs
 
 pub record IsRegionConstraint (ts : List Tree) (fresh : List Sort) (g : Goal) (x : RegionConstraint) : Type 0 where
   pub left : IsOver ts fresh g x.left.node
@@ -68,7 +59,9 @@ abbrev pub AreRegionConstraints : List Tree → List Sort → Goal → List Regi
 AreRegionConstraints ts fresh g [] = Unit {0}
 AreRegionConstraints ts fresh g (x ∷ xs) = IsRegionConstraint ts fresh g x × AreRegionConstraints ts fresh g xs
 
+-- a goal that is asked in the same environment
 pub record IsNested (ts : List Tree) (fresh : List Sort) (g h : Goal) : Type 0 where
+  pub environment : h.param_env ≡ g.param_env
   pub holds : HoldsGoal ts h
   pub env : IsOver ts fresh g h.param_env.node
   pub predicate : IsOver ts fresh g h.predicate.node
@@ -77,8 +70,10 @@ abbrev pub AreNested : List Tree → List Sort → Goal → List CandidateGoal �
 AreNested ts fresh g [] = Unit {0}
 AreNested ts fresh g (h ∷ hs) = IsNested ts fresh g h.goal × AreNested ts fresh g hs
 
--- a candidate of the store for a goal
+-- a candidate of the store for a goal; until hidden types exist it has none, and rests on none
 pub record IsCandidate (ts : List Tree) (g : Goal) (c : CandidateData) : Type 0 where
+  pub hidden : c.hidden_types.items ≡ []
+  pub accesses : c.accesses ≡ rerun.Never
   pub equations : AreEquations ts c.fresh.items g c.equations.items
   pub constraints : AreRegionConstraints ts c.fresh.items g c.region_constraints.items
   pub goals : AreNested ts c.fresh.items g c.goals.items

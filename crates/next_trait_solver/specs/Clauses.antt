@@ -13,9 +13,9 @@ use Rattle.nts_model.specs.Trees.{Tree, any_label, IsClosed}
 use Rattle.nts_terms.specs.declared.nodes.NodeId.{NodeId}
 use Rattle.nts_terms.specs.declared.handles.Predicate.{Predicate}
 use Rattle.nts_terms.specs.Growth.{tree_at, IsIn}
-use Rattle.nts_terms.specs.Filled.{position_of}
+use Rattle.nts_model.specs.Handlers.{position_of}
 use Rattle.nts_terms.specs.Handles.{HoldsArgs, HoldsPredicate}
-use Rattle.next_trait_solver.specs.Candidates.{NamesAt, NamesFresh}
+use Rattle.nts_model.specs.Handlers.{NamesAt, NamesFresh}
 use Rattle.next_trait_solver.specs.declared.clauses.Clause.{Clause}
 use Rattle.next_trait_solver.specs.declared.clauses.TraitClauses.{TraitClauses}
 use Rattle.next_trait_solver.specs.declared.clauses.Clauses.{Clauses}

@@ -1,12 +1,12 @@
 -- A store that grows keeps clauses.
-use Rattle.std.specs.Prelude.{◌≡◌, false, List, [], ◌∷◌, refl}
+use Rattle.std.specs.Prelude.{List, [], ◌∷◌}
 use Rattle.std.proofs.Common.{arith}
 use Rattle.nts_model.specs.Trees.{Tree}
 use Rattle.nts_model.specs.declared.labels.Sort.{Sort}
 use Rattle.nts_terms.specs.declared.nodes.NodeId.{NodeId}
 use Rattle.nts_terms.specs.declared.handles.Predicate.{Predicate}
-use Rattle.nts_terms.specs.Growth.{tree_at, IsIn, Extends}
-use Rattle.nts_terms.specs.Handles.{Holds, HoldsPredicate, HoldsArgs}
+use Rattle.nts_terms.specs.Growth.{Extends}
+use Rattle.nts_terms.specs.Handles.{Holds}
 use Rattle.nts_model.specs.Trees.{Place}
 use Rattle.next_trait_solver.specs.Clauses.{IsClauseTerm, AreBodies, IsClause, AreClauses, clauses_of, AreReady}
 use Rattle.next_trait_solver.specs.declared.clauses.Clause.{Clause}

@@ -1,5 +1,5 @@
 -- What the steps of an evaluation keep.
-use Rattle.std.specs.Prelude.{◌≡◌, ◌≢◌, Bool, true, false, List, [], ◌∷◌, map, Some}
+use Rattle.std.specs.Prelude.{◌≡◌, Bool, true, false, List, [], ◌∷◌, map, Some}
 use Rattle.nts_model.specs.declared.labels.VariableKind.{VariableKind}
 use Rattle.nts_model.specs.declared.labels.VariableKind.TheVariants as variable
 use Rattle.nts_model.specs.declared.labels.Leaf.TheVariants as leaf
@@ -10,7 +10,9 @@ use Rattle.nts_model.specs.declared.labels.Label.TheVariants as label
 use Rattle.nts_model.specs.declared.labels.Sort.{Sort}
 use Rattle.nts_model.specs.Trees.{Tree, kind_of, of_sort, IsClosed, any_label, is_canonical}
 use Rattle.nts_model.specs.Contents.{Content}
-use Rattle.nts_model.specs.Resolving.{Knows, deeply_resolved}
+use Rattle.nts_model.specs.Resolving.{Knows, deeply_resolved, IsSound}
+use Rattle.nts_model.specs.Holding.{Continues}
+use Rattle.nts_model.specs.Handlers.{AreValuesOf}
 use Rattle.nts_terms.specs.declared.nodes.NodeId.{NodeId}
 use Rattle.nts_terms.specs.declared.handles.Goal.{Goal}
 use Rattle.nts_terms.specs.Growth.{tree_at, IsIn, AllIn, Extends}
@@ -18,13 +20,16 @@ use Rattle.nts_table.specs.Entries.{Table}
 use Rattle.nts_table.specs.Reading.{content_of, IsTable}
 use Rattle.next_trait_solver.specs.Candidates.{HoldsGoal, KnowsGoal}
 
--- the store and the table later on: terms keep their trees, known variables stay known, and the
--- snapshots that were open are open
+-- the store and the table later on: terms keep their trees, known variables stay known, the table has
+-- all that it had, the snapshots that were open are open, and the mode is the same
 pub record Goes (ts us : List Tree) (t u : Table) : Type 0 where
+  pub sound : IsSound (content_of ts t.entries)
   pub extends : Extends ts us
   pub table : IsTable us u
   pub known : (x : Tree) → Knows (content_of ts t.entries) x → Knows (content_of us u.entries) x
+  pub continues : Continues (content_of ts t.entries) (content_of us u.entries)
   pub saved : u.saved ≡ t.saved
+  pub mode : u.mode ≡ t.mode
 
 -- a goal of the store and the table
 pub record IsPosed (ts : List Tree) (t : Table) (g : Goal) : Type 0 where
@@ -45,6 +50,7 @@ AreOfSorts ss ts = ⊥
 pub record AreValues (ts : List Tree) (t : Table) (fresh : List Sort) (vs : List NodeId) : Type 0 where
   pub within : AllIn ts vs
   pub sorts : AreOfSorts fresh (map (tree_at ts) vs)
+  pub values : AreValuesOf fresh (map (tree_at ts) vs)
   pub known : AllKnown (content_of ts t.entries) (map (tree_at ts) vs)
 
 -- a term of the store and the table

@@ -5,3 +5,11 @@ pub mod Evaluation
 pub mod Choices
 pub mod Offers
 pub mod Adding
+pub mod Running
+pub mod ClauseHandlers
+pub mod Offered
+pub mod SameHandlers
+pub mod OwnTerms
+pub mod OwnClauses
+pub mod HandlerLaws
+pub mod ClausesLawful

@@ -3,7 +3,7 @@ use Rattle.std.specs.Prelude.{◌≡◌, ℕ, ◌==◌, Bool, List, [], ◌∷�
 use Rattle.std.specs.List.{filter}
 use Rattle.nts_model.specs.declared.labels.ClauseHead.TheVariants as clause
 use Rattle.nts_model.specs.declared.labels.Label.TheVariants as label
-use Rattle.nts_model.specs.Trees.{Tree, empty, more, node, children, row_length}
+use Rattle.nts_model.specs.Trees.{Tree, empty, more, node, children, row_length, kind_of, any_argument, FitsPlace}
 use Rattle.nts_terms.specs.declared.certainty.Certainty.TheVariants as certainty
 use Rattle.nts_terms.specs.declared.sources.GoalSource.TheVariants as source
 use Rattle.nts_terms.specs.declared.sources.RerunCondition.TheVariants as rerun
@@ -49,6 +49,7 @@ pub record IsPair (ts : List Tree) (a b : Tree) (q : Equation) : Type 0 where
   pub right_in : IsIn ts q.rhs.node
   pub left : tree_at ts q.lhs.node ≡ a
   pub right : tree_at ts q.rhs.node ≡ b
+  pub argument : FitsPlace any_argument (kind_of a)
 
 -- .. each of them, one by one
 abbrev pub ArePairs : List Tree → Tree → Tree → List Equation → Type 0

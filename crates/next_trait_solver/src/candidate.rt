@@ -1,12 +1,17 @@
 //! Trying and running one candidate.
-ghost use Rattle.std.specs.Prelude.{◌≡◌, ◌≢◌, List, IfOk, OnOk, OnErr, IsOkUnless};
-ghost use Rattle.nts_model.specs.Trees.{kind_of};
+ghost use Rattle.std.specs.Prelude.{◌≡◌, ◌≢◌, List, map, IfOk, OnOk, OnErr, IsOkUnless};
+ghost use Rattle.nts_model.specs.Trees.{kind_of, IsFormed};
 ghost use Rattle.nts_terms.specs.Growth.{tree_at, Extends};
+ghost use Rattle.nts_terms.specs.Formed.{AreFormed};
 ghost use Rattle.nts_terms.specs.Rest.{KeepsRest};
 ghost use Rattle.nts_table.specs.Entries.{Table};
 ghost use Rattle.nts_table.specs.Reading.{content_of, IsTable};
 ghost use Rattle.nts_model.specs.Resolving.{deeply_resolved};
-ghost use Rattle.next_trait_solver.specs.Candidates.{IsOver, IsNested, IsCandidate, IsRegionConstraint};
+ghost use Rattle.next_trait_solver.specs.Candidates.{IsOver, IsEquation, IsNested, IsCandidate, IsRegionConstraint};
+ghost use Rattle.nts_model.specs.Alike.{AreAlike};
+ghost use Rattle.nts_model.specs.Handlers.{filled};
+ghost use Rattle.next_trait_solver.specs.Offered.{equation_of, constraint_of};
+ghost use Rattle.next_trait_solver.specs.Running.{Stays, EquationHolds, ConstraintHolds, Equates, Constrains};
 ghost use Rattle.next_trait_solver.specs.Evaluation.{Goes, IsPosed, AreValues, IsTermOf};
 
 use crate::delegate::{CandidateData, Equation, RegionConstraint};
@@ -30,10 +35,14 @@ pub fn fill(
     ensures rest { KeepsRest cx.old cx.new }
     ensures term { IfOk result (λ r. IsTermOf cx.new.nodes table.now r) }
     ensures kind { IfOk result (λ r. kind_of (tree_at cx.new.nodes r) ≡ kind_of (tree_at cx.old.nodes t)) }
+    ensures tree { IfOk result (λ r. tree_at cx.new.nodes r ≡ filled (map (tree_at cx.old.nodes) values.now) (tree_at cx.old.nodes t)) }
+    ensures formed { IfOk result (λ r. AreFormed cx.new.nodes) }
     ensures memory { IsOkUnless result Fault.Memory }
 {
     let alloc = cx.alloc;
     let filled = instantiate_canonical(alloc, &mut cx.nodes, values, t)?;
+    // What a store has are terms.
+    let _ = cx.nodes.len();
     Ok(filled)
 }
 
@@ -52,6 +61,10 @@ pub fn fill_goal(
     ensures extends { Extends cx.old.nodes cx.new.nodes }
     ensures rest { KeepsRest cx.old cx.new }
     ensures posed { IfOk result (λ g. IsPosed cx.new.nodes table.now g) }
+    ensures env { IfOk result (λ g. tree_at cx.new.nodes g.param_env.node ≡ deeply_resolved (content_of cx.old.nodes table.now.entries) (filled (map (tree_at cx.old.nodes) values.now) (tree_at cx.old.nodes nested.param_env.node))) }
+    ensures predicate { IfOk result (λ g. tree_at cx.new.nodes g.predicate.node ≡ deeply_resolved (content_of cx.old.nodes table.now.entries) (filled (map (tree_at cx.old.nodes) values.now) (tree_at cx.old.nodes nested.predicate.node))) }
+    ensures formed_env { IfOk result (λ g. IsFormed (filled (map (tree_at cx.old.nodes) values.now) (tree_at cx.old.nodes nested.param_env.node))) }
+    ensures formed_predicate { IfOk result (λ g. IsFormed (filled (map (tree_at cx.old.nodes) values.now) (tree_at cx.old.nodes nested.predicate.node))) }
     ensures memory { IsOkUnless result Fault.Memory }
 {
     let env = fill(cx, table, goal, fresh, values, nested.param_env.node)?;
@@ -123,6 +136,7 @@ pub fn equate(
     ensures goes { Goes cx.old.nodes cx.new.nodes table.old table.new }
     ensures rest { KeepsRest cx.old cx.new }
     ensures values { IfOk result (λ vs. AreValues cx.new.nodes table.new candidate.now.fresh.items vs.items) }
+    ensures equal { IfOk result (λ vs. Equates cx.old.nodes cx.new.nodes table.new vs.items candidate.now.equations.items) }
     ensures full { result ≢ Err EvalError.Full }
 {
     let values = fresh_values(cx, table, &candidate.fresh)?;
@@ -152,6 +166,9 @@ fn fill_both(
     ensures right { IfOk result (λ r. IsTermOf cx.new.nodes table.now r.1) }
     ensures left_kind { IfOk result (λ r. kind_of (tree_at cx.new.nodes r.0) ≡ kind_of (tree_at cx.old.nodes a)) }
     ensures right_kind { IfOk result (λ r. kind_of (tree_at cx.new.nodes r.1) ≡ kind_of (tree_at cx.old.nodes b)) }
+    ensures left_tree { IfOk result (λ r. tree_at cx.new.nodes r.0 ≡ filled (map (tree_at cx.old.nodes) values.now) (tree_at cx.old.nodes a)) }
+    ensures right_tree { IfOk result (λ r. tree_at cx.new.nodes r.1 ≡ filled (map (tree_at cx.old.nodes) values.now) (tree_at cx.old.nodes b)) }
+    ensures formed { IfOk result (λ r. AreFormed cx.new.nodes) }
     ensures memory { IsOkUnless result Fault.Memory }
 {
     let left = fill(cx, table, goal, fresh, values, a)?;
@@ -169,11 +186,11 @@ fn equate_one(
     equation: Equation,
 ) -> Result<(), EvalError>
     requires posed { IsPosed cx.old.nodes table.old goal }
-    requires lhs { IsOver cx.old.nodes fresh.now goal equation.lhs.node }
-    requires rhs { IsOver cx.old.nodes fresh.now goal equation.rhs.node }
+    requires equation { IsEquation cx.old.nodes fresh.now goal equation }
     requires values { AreValues cx.old.nodes table.old fresh.now values.now }
     ensures goes { Goes cx.old.nodes cx.new.nodes table.old table.new }
     ensures rest { KeepsRest cx.old cx.new }
+    ensures equal { OnOk result (Stays (content_of cx.new.nodes table.new.entries) (EquationHolds (map (tree_at cx.old.nodes) values.now) (equation_of cx.old.nodes equation))) }
     ensures full { result ≢ Err EvalError.Full }
 {
     let (lhs, rhs) = fill_both(
@@ -195,6 +212,7 @@ fn relate_terms(cx: &mut Cx, table: &mut InferCtxt, a: NodeId, b: NodeId) -> Res
     requires right { IsTermOf cx.old.nodes table.old b }
     ensures goes { Goes cx.old.nodes cx.new.nodes table.old table.new }
     ensures rest { KeepsRest cx.old cx.new }
+    ensures equal { OnOk result (Stays (content_of cx.new.nodes table.new.entries) (λ d. AreAlike d (tree_at cx.old.nodes a) (tree_at cx.old.nodes b))) }
     ensures full { result ≢ Err EvalError.Full }
 {
     let alloc = cx.alloc;
@@ -239,6 +257,7 @@ pub fn record_constraints(
     requires values { AreValues cx.old.nodes table.old candidate.now.fresh.items values.now }
     ensures goes { Goes cx.old.nodes cx.new.nodes table.old table.new }
     ensures rest { KeepsRest cx.old cx.new }
+    ensures held { OnOk result (Constrains cx.old.nodes cx.new.nodes table.new values.now candidate.now.region_constraints.items) }
     ensures full { result ≢ Err EvalError.Full }
 {
     for constraint in &candidate.region_constraints {
@@ -261,6 +280,7 @@ fn record_one(
     requires values { AreValues cx.old.nodes table.old fresh.now values.now }
     ensures goes { Goes cx.old.nodes cx.new.nodes table.old table.new }
     ensures rest { KeepsRest cx.old cx.new }
+    ensures held { OnOk result (Stays (content_of cx.new.nodes table.new.entries) (ConstraintHolds (map (tree_at cx.old.nodes) values.now) (constraint_of cx.old.nodes constraint))) }
     ensures full { result ≢ Err EvalError.Full }
 {
     let (left, right) = fill_both(

@@ -2,9 +2,9 @@
 ghost use Rattle.std.specs.Prelude.{◌≡◌, ◌↔◌, IfOk, IsTrue, IsOkUnless, slice_get};
 ghost use Rattle.nts_model.specs.Trees.{of_sort};
 ghost use Rattle.nts_terms.specs.Growth.{IsIn};
-ghost use Rattle.nts_terms.specs.Filled.{position_of};
+ghost use Rattle.nts_model.specs.Handlers.{position_of};
 ghost use Rattle.nts_terms.specs.Handles.{HoldsArgs, HoldsPredicate};
-ghost use Rattle.next_trait_solver.specs.Candidates.{IsOfSort, NamesAt};
+ghost use Rattle.nts_model.specs.Handlers.{IsOfSort, NamesAt};
 ghost use Rattle.next_trait_solver.specs.Clauses.{MayHave, is_foreign, is_foreign_leaf, IsClauseTerm, IsClause};
 
 use crate::clauses::{Clause, Clauses};

@@ -110,36 +110,49 @@ impl GoalHandler for Clauses {
     ghost use Rattle.next_trait_solver.specs.Candidates.{IsAsked, AreCandidates};
     ghost use Rattle.next_trait_solver.specs.Clauses.{AreReady, coinductive_of};
     ghost use Rattle.next_trait_solver.specs.ClausesKept.{AreReady-kept};
+    ghost use Rattle.next_trait_solver.specs.ClauseHandlers.{handler_of};
+    ghost use Rattle.next_trait_solver.specs.ClausesLawful.{IsLawful-handler_of, MeansSame-kept};
+    ghost use Rattle.next_trait_solver.specs.Offered.{candidates_of, mode_of};
     ghost use Rattle.next_trait_solver.specs.Offers.{AreOffers};
+    ghost use Rattle.nts_terms.specs.Growth.{tree_at};
 
     ghost ready = { AreReady };
+
+    ghost handler = { handler_of };
 
     fn candidates(
         &self,
         cx: &mut Cx,
-        _mode: &TypingMode,
+        mode: &TypingMode,
         goal: Goal,
     ) -> Result<Vec<CandidateData>, Fault>
         requires ready { AreReady cx.old.nodes self.now }
         requires goal { IsAsked cx.old.nodes goal }
         ensures offers { IfOk result (λ cs. AreOffers cx.new.nodes goal self.now cs.items) }
+        ensures offered { IfOk result (λ cs. candidates_of cx.new.nodes cs.items ≡ (handler_of cx.new.nodes self.now).offers (mode_of mode.now) (tree_at cx.new.nodes goal.param_env.node) (tree_at cx.new.nodes goal.predicate.node)) }
         ensures same { cx.new ≡ cx.old }
         ensures candidates { IfOk result (λ cs. AreCandidates cx.new.nodes goal cs.items) }
         ensures extends { Extends cx.old.nodes cx.new.nodes }
         ensures rest { KeepsRest cx.old cx.new }
         ensures memory { IsOkUnless result Fault.Memory }
     {
+        let _ = mode;
         self.offers(cx, goal)
     }
 
     fn trait_is_coinductive(&self, id: TraitId) -> bool
-        ensures { result ≡ coinductive_of self.now id.number }
+        ensures set { result ≡ coinductive_of self.now id.number }
+        ensures meaning { (ts : List Tree) → result ≡ (handler_of ts self.now).is_coinductive id.number }
     {
         match self.traits.get(id.number) {
             Some(entry) => entry.is_coinductive,
             None => false,
         }
     }
+
+    ghost lawful = { λ ts s f r. IsLawful-handler_of ts s f r };
+
+    ghost handler_kept = { λ a b s r e. MeansSame-kept a b s r e };
 
     ghost ready_kept = { λ a b s h e. AreReady-kept a b s h e };
 }

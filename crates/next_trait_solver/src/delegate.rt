@@ -65,10 +65,19 @@ pub struct CandidateData {
 
 /// What offers the rules of traits as data.
 pub trait GoalHandler {
+    ghost use Rattle.std.specs.Prelude.{◌≡◌};
+    ghost use Rattle.nts_model.specs.Handlers.{Handler, IsLawful};
+    ghost use Rattle.nts_terms.specs.Growth.{tree_at};
+    ghost use Rattle.nts_terms.specs.Formed.{AreFormed};
     ghost use Rattle.next_trait_solver.specs.Candidates.{IsAsked, AreCandidates};
+    ghost use Rattle.next_trait_solver.specs.Offered.{candidates_of, mode_of};
+    ghost use Rattle.next_trait_solver.specs.SameHandlers.{MeansSame};
 
     /// The handler's own terms are of a store of these trees.
     ghost ready: { List Tree → Self → Type 0 };
+
+    /// What the handler means, where a store has these trees: its rules, its offers, and its coinductive traits.
+    ghost handler: { List Tree → Self → Handler };
 
     /// The ways in which a goal may hold, in the order in which they are tried.
     fn candidates(
@@ -80,12 +89,22 @@ pub trait GoalHandler {
         requires ready { ready cx.old.nodes self.now }
         requires goal { IsAsked cx.old.nodes goal }
         ensures candidates { IfOk result (λ cs. AreCandidates cx.new.nodes goal cs.items) }
+        ensures offered { IfOk result (λ cs. candidates_of cx.new.nodes cs.items ≡ (handler cx.new.nodes self.now).offers (mode_of mode.now) (tree_at cx.new.nodes goal.param_env.node) (tree_at cx.new.nodes goal.predicate.node)) }
         ensures extends { Extends cx.old.nodes cx.new.nodes }
         ensures rest { KeepsRest cx.old cx.new }
         ensures memory { IsOkUnless result Fault.Memory };
 
     /// Whether a cycle through conditions of this trait's impls holds.
-    fn trait_is_coinductive(&self, id: TraitId) -> bool;
+    fn trait_is_coinductive(&self, id: TraitId) -> bool
+        ensures meaning { (ts : List Tree) → result ≡ (handler ts self.now).is_coinductive id.number };
 
+    /// The handler keeps the laws: candidates commute with plain renaming, their instances are rules, rules are closed
+    /// under instances, and candidates keep the environment and have no foreign leaves, sorts or sources.
+    ghost lawful: { (ts : List Tree) (s : Self) → AreFormed ts → ready ts s → IsLawful (handler ts s) };
+
+    /// A store that grows keeps what the handler means.
+    ghost handler_kept: { (a b : List Tree) (s : Self) → ready a s → Extends a b → MeansSame (handler b s) (handler a s) };
+
+    /// A store that grows keeps the handler's terms.
     ghost ready_kept: { (a b : List Tree) (s : Self) → ready a s → Extends a b → ready b s };
 }

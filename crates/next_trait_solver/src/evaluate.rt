@@ -1,14 +1,23 @@
 //! The recursion over nested goals.
-ghost use Rattle.std.specs.Prelude.{true, ◌≡◌, ◌≢◌, ◌<◌, ◌≤◌, ◌/◌, ◌-◌, IfOk, OnOk, OnErr, IfSome, IsNone, ◌↔◌, length};
-ghost use Rattle.nts_terms.specs.Growth.{Extends};
+ghost use Rattle.std.specs.Prelude.{true, ℕ, ◌≡◌, ◌≢◌, ◌<◌, ◌≤◌, ◌/◌, ◌-◌, List, map, IfOk, OnOk, OnErr, IfSome, IsNone, ◌↔◌, length};
+ghost use Rattle.nts_model.specs.declared.labels.Variance.{Variance};
+ghost use Rattle.nts_model.specs.Trees.{Tree};
+ghost use Rattle.nts_model.specs.Sequents.{Among};
+ghost use Rattle.nts_model.specs.Handlers.{meaning};
+ghost use Rattle.nts_terms.specs.Formed.{AreFormed};
+ghost use Rattle.nts_terms.specs.Growth.{tree_at, Extends};
 ghost use Rattle.nts_terms.specs.Rest.{KeepsRest};
 ghost use Rattle.next_trait_solver.specs.Candidates.{HoldsGoal, IsAsked, IsCandidate, AreCandidates, IsNested};
+ghost use Rattle.nts_table.specs.Reading.{content_of};
+ghost use Rattle.next_trait_solver.specs.Offered.{mode_of, premise_of, candidate_of, candidates_of};
+ghost use Rattle.next_trait_solver.specs.Running.{Stays, PremiseHolds, IsProved};
 ghost use Rattle.next_trait_solver.specs.Evaluation.{Goes, IsPosed, AreValues};
 ghost use Rattle.next_trait_solver.specs.Choices.{IsWithin};
 ghost use Rattle.nts_terms.specs.declared.certainty.Certainty.TheVariants as certainty;
 
 use crate::candidate::{candidate_holds, equate, fill_goal, record_constraints};
-use crate::delegate::{CandidateData, GoalHandler};
+use crate::delegate::{CandidateData, CandidateGoal, GoalHandler};
+use nts_model::Sort;
 use nts_table::InferCtxt;
 use nts_terms::{Certainty, ClauseKind, Cx, EvalError, Goal, NodeId, PredicateKind};
 
@@ -51,6 +60,7 @@ pub fn evaluate_goal<H: GoalHandler>(
     ensures rest { KeepsRest cx.old cx.new }
     ensures maybe { IfOk result (λ a. a.certainty ≢ certainty.Yes → table.new ≡ table.old) }
     ensures err { OnErr result (table.new ≡ table.old) }
+    ensures proved { (base : List Tree) (v : ℕ → List Variance) → AreFormed base → Extends base cx.old.nodes → H.ready base handler.now → IfOk result (λ a. a.certainty ≡ certainty.Yes → IsProved (meaning (H.handler base handler.now) v) (mode_of table.old.mode) cx.new.nodes table.new goal) }
     ensures full { result ≢ Err EvalError.Full }
 {
     let snapshot = table.start_snapshot()?;
@@ -83,6 +93,7 @@ fn compute_goal<H: GoalHandler>(
     requires ready { H.ready cx.old.nodes handler.now }
     ensures goes { Goes cx.old.nodes cx.new.nodes table.old table.new }
     ensures rest { KeepsRest cx.old cx.new }
+    ensures proved { (base : List Tree) (v : ℕ → List Variance) → AreFormed base → Extends base cx.old.nodes → H.ready base handler.now → IfOk result (λ a. a.certainty ≡ certainty.Yes → IsProved (meaning (H.handler base handler.now) v) (mode_of table.old.mode) cx.new.nodes table.new goal) }
     ensures full { result ≢ Err EvalError.Full }
 {
     if !is_candidates_goal(cx, goal) {
@@ -95,8 +106,8 @@ fn compute_goal<H: GoalHandler>(
     evaluate_candidates(handler, cx, table, goal, &candidates, depth)
 }
 
-/// Whether a goal is answered by the handler's candidates: a trait goal that binds nothing, and that
-/// has neither aliases nor positions of a canonical value.
+/// Whether a goal is answered by the handler's candidates: a closed trait goal that binds nothing, and
+/// that has neither aliases nor positions of a canonical value.
 fn is_candidates_goal(cx: &Cx, goal: Goal) -> bool
     requires { HoldsGoal cx.now.nodes goal }
     ensures { result ≡ true → IsAsked cx.now.nodes goal }
@@ -107,10 +118,19 @@ fn is_candidates_goal(cx: &Cx, goal: Goal) -> bool
         return false;
     }
     let predicate = goal.predicate.kind(cx);
-    if predicate.vars.len(cx) != 0 {
+    if env.escaping.is_some() || predicate.vars.len(cx) != 0 {
         return false;
     }
-    matches!(predicate.value, PredicateKind::Clause(ClauseKind::Trait(_)))
+    let PredicateKind::Clause(clause) = predicate.value else {
+        return false;
+    };
+    let ClauseKind::Trait(trait_ref) = clause else {
+        return false;
+    };
+    // What a store has are terms.
+    let _ = cx.nodes.len();
+    let args = cx.nodes.facts(trait_ref.args.node);
+    args.escaping.is_none()
 }
 
 /// Answers by the one candidate whose equations hold. Where none does, nothing holds; where several do,
@@ -125,10 +145,12 @@ fn evaluate_candidates<H: GoalHandler>(
     depth: usize,
 ) -> Result<Answer, EvalError>
     requires posed { IsPosed cx.old.nodes table.old goal }
+    requires asked { IsAsked cx.old.nodes goal }
     requires ready { H.ready cx.old.nodes handler.now }
     requires candidates { AreCandidates cx.old.nodes goal candidates.now }
     ensures goes { Goes cx.old.nodes cx.new.nodes table.old table.new }
     ensures rest { KeepsRest cx.old cx.new }
+    ensures proved { (base : List Tree) (v : ℕ → List Variance) → AreFormed base → Extends base cx.old.nodes → H.ready base handler.now → candidates_of cx.old.nodes candidates.now ≡ (H.handler base handler.now).offers (mode_of table.old.mode) (tree_at cx.old.nodes goal.param_env.node) (tree_at cx.old.nodes goal.predicate.node) → IfOk result (λ a. a.certainty ≡ certainty.Yes → IsProved (meaning (H.handler base handler.now) v) (mode_of table.old.mode) cx.new.nodes table.new goal) }
     ensures full { result ≢ Err EvalError.Full }
 {
     match choose(cx, table, goal, candidates)? {
@@ -189,25 +211,27 @@ fn run_candidate<H: GoalHandler>(
     depth: usize,
 ) -> Result<Answer, EvalError>
     requires posed { IsPosed cx.old.nodes table.old goal }
+    requires asked { IsAsked cx.old.nodes goal }
     requires ready { H.ready cx.old.nodes handler.now }
     requires candidate { IsCandidate cx.old.nodes goal candidate.now }
     ensures goes { Goes cx.old.nodes cx.new.nodes table.old table.new }
     ensures rest { KeepsRest cx.old cx.new }
+    ensures proved { (base : List Tree) (v : ℕ → List Variance) → AreFormed base → Extends base cx.old.nodes → H.ready base handler.now → Among ((H.handler base handler.now).offers (mode_of table.old.mode) (tree_at cx.old.nodes goal.param_env.node) (tree_at cx.old.nodes goal.predicate.node)) (candidate_of cx.old.nodes candidate.now) → IfOk result (λ a. a.certainty ≡ certainty.Yes → IsProved (meaning (H.handler base handler.now) v) (mode_of table.old.mode) cx.new.nodes table.new goal) }
     ensures full { result ≢ Err EvalError.Full }
 {
     let values = equate(cx, table, goal, candidate)?;
     record_constraints(cx, table, goal, candidate, &values)?;
     let mut certainty = candidate.certainty;
     let mut has_overflowed = false;
-    for i in 0..candidate.goals.len() {
+    for nested in &candidate.goals {
         let answer = evaluate_nested(
             handler,
             cx,
             table,
             goal,
-            candidate,
+            &candidate.fresh,
             &values,
-            i,
+            *nested,
             depth,
             has_overflowed,
         )?;
@@ -227,19 +251,19 @@ fn evaluate_nested<H: GoalHandler>(
     cx: &mut Cx,
     table: &mut InferCtxt,
     goal: Goal,
-    candidate: &CandidateData,
+    fresh: &[Sort],
     values: &[NodeId],
-    i: usize,
+    nested: CandidateGoal,
     depth: usize,
     has_overflowed: bool,
 ) -> Result<Answer, EvalError>
     requires posed { IsPosed cx.old.nodes table.old goal }
     requires ready { H.ready cx.old.nodes handler.now }
-    requires candidate { IsCandidate cx.old.nodes goal candidate.now }
-    requires values { AreValues cx.old.nodes table.old candidate.now.fresh.items values.now }
-    requires index { i < length candidate.now.goals.items }
+    requires nested { IsNested cx.old.nodes fresh.now goal nested.goal }
+    requires values { AreValues cx.old.nodes table.old fresh.now values.now }
     ensures goes { Goes cx.old.nodes cx.new.nodes table.old table.new }
     ensures rest { KeepsRest cx.old cx.new }
+    ensures proved { (base : List Tree) (v : ℕ → List Variance) → AreFormed base → Extends base cx.old.nodes → H.ready base handler.now → IfOk result (λ a. a.certainty ≡ certainty.Yes → Stays (content_of cx.new.nodes table.new.entries) (PremiseHolds (meaning (H.handler base handler.now) v) (mode_of table.old.mode) (map (tree_at cx.old.nodes) values.now) (premise_of cx.old.nodes nested))) }
     ensures full { result ≢ Err EvalError.Full }
 {
     match depth_below(depth, has_overflowed) {
@@ -248,15 +272,8 @@ fn evaluate_nested<H: GoalHandler>(
             has_overflowed: true,
         }),
         Some(below) => {
-            let nested = fill_goal(
-                cx,
-                table,
-                goal,
-                &candidate.fresh,
-                values,
-                candidate.goals[i].goal,
-            )?;
-            evaluate_goal(handler, cx, table, nested, below)
+            let filled = fill_goal(cx, table, goal, fresh, values, nested.goal)?;
+            evaluate_goal(handler, cx, table, filled, below)
         }
     }
 }

@@ -13,3 +13,4 @@ pub mod delegate;
 mod evaluate;
 pub mod resolve;
 pub mod solve;
+pub mod ty;

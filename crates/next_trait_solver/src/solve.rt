@@ -1,8 +1,15 @@
 //! The evaluation of goals.
-ghost use Rattle.std.specs.Prelude.{◌≡◌, ◌≢◌, ◌↔◌, IsTrue, None, IfOk, OnOk, OnErr, IsOkUnless};
-ghost use Rattle.nts_terms.specs.Growth.{Extends};
+ghost use Rattle.std.specs.Prelude.{ℕ, ◌≡◌, ◌≢◌, ◌↔◌, List, IsTrue, None, IfOk, OnOk, OnErr, IsOkUnless};
+ghost use Rattle.nts_model.specs.declared.labels.Variance.{Variance};
+ghost use Rattle.nts_model.specs.Trees.{Tree};
+ghost use Rattle.nts_model.specs.Handlers.{meaning};
+ghost use Rattle.nts_model.specs.Proving.{HasHeldProof};
+ghost use Rattle.nts_terms.specs.Formed.{AreFormed};
+ghost use Rattle.nts_terms.specs.Growth.{tree_at, Extends};
 ghost use Rattle.nts_terms.specs.Rest.{KeepsRest};
-ghost use Rattle.nts_table.specs.Reading.{IsTable};
+ghost use Rattle.nts_table.specs.Reading.{content_of, IsTable};
+ghost use Rattle.next_trait_solver.specs.Offered.{mode_of};
+ghost use Rattle.next_trait_solver.specs.Running.{IsProved};
 ghost use Rattle.next_trait_solver.specs.Candidates.{HoldsGoal};
 ghost use Rattle.next_trait_solver.specs.Evaluation.{Goes, IsAdmitted, IsPosed};
 ghost use Rattle.nts_terms.specs.declared.certainty.Certainty.TheVariants as certainty;
@@ -71,13 +78,17 @@ pub fn evaluate_root_goal<H: GoalHandler>(
     ensures maybe { IfOk result (λ e. e.certainty ≢ certainty.Yes → table.new ≡ table.old) }
     ensures stalled { IfOk result (λ e. e.stalled_on ≡ None) }
     ensures err { OnErr result (table.new ≡ table.old) }
+    ensures proved { IfOk result (λ e. e.certainty ≡ certainty.Yes → (v : ℕ → List Variance) → HasHeldProof (meaning (H.handler cx.old.nodes handler.now) v) (mode_of table.old.mode) (content_of cx.new.nodes table.new.entries) (tree_at cx.new.nodes goal.param_env.node) (tree_at cx.new.nodes goal.predicate.node)) }
     ensures full { result ≢ Err EvalError.Full }
 {
     let _ = (span, stalled_on);
+    // What a store has are terms, before and after.
+    let _ = cx.nodes.len();
     let snapshot = table.start_snapshot()?;
     match evaluate_root(table, cx, handler, goal) {
         Ok(evaluation) => {
             if let Certainty::Yes = evaluation.certainty {
+                let _ = cx.nodes.len();
                 table.commit(snapshot);
                 return Ok(evaluation);
             }
@@ -103,6 +114,7 @@ fn evaluate_root<H: GoalHandler>(
     ensures goes { Goes cx.old.nodes cx.new.nodes table.old table.new }
     ensures rest { KeepsRest cx.old cx.new }
     ensures stalled { IfOk result (λ e. e.stalled_on ≡ None) }
+    ensures proved { (base : List Tree) (v : ℕ → List Variance) → AreFormed base → Extends base cx.old.nodes → H.ready base handler.now → IfOk result (λ e. e.certainty ≡ certainty.Yes → IsProved (meaning (H.handler base handler.now) v) (mode_of table.old.mode) cx.new.nodes table.new goal) }
     ensures full { result ≢ Err EvalError.Full }
 {
     let asked = resolve_goal(cx, table, goal)?;

@@ -1,4 +1,3 @@
-use Rattle.std.proofs.Common.{◌≡◌, ◌↔◌, Bool, false}
 use Rattle.nts_terms.specs.Growth.{tree_at}
 use Rattle.next_trait_solver.specs.Evaluation.{is_type_variable}
 use Rattle.next_trait_solver.proofs.Admitting.{no_label}

@@ -1,27 +1,36 @@
-use Rattle.std.proofs.Common.{arith, refl, ap, sym, ◌∙◌, ◌≡◌, ◌<◌, get_or, length, List}
-use Rattle.next_trait_solver.specs.Candidates.{IsOver}
+use Rattle.std.proofs.Common.{arith, ap, ◌<◌, get_or, length}
+use Rattle.std.proofs.lemmas.List.{take_all}
+use Rattle.next_trait_solver.proofs.Running.{Equates-step}
 use Rattle.next_trait_solver.specs.declared.delegate.Equation.{Equation}
-use Rattle.next_trait_solver.specs.Evaluation.{Goes, AreValues}
-use Rattle.next_trait_solver.proofs.Evaluating.{Goes-trans, KeepsRest-trans, AreValues-later, IsOver-extended, IsOverBoth, equation_at}
+use Rattle.next_trait_solver.specs.Candidates.{IsEquation}
+use Rattle.next_trait_solver.proofs.Evaluating.{Goes-trans, KeepsRest-trans, AreValues-later, IsEquation-extended, equation_at}
 use Rattle.next_trait_solver.proofs.candidate.equate.Goals as goal
 
 pub loop-equation-init : goal.loop-equation-init
 loop-equation-init c =
     let e = c.in_ok-values.ensures in
-    record { goes = e.goes; rest = e.rest; values = rw c.deref.ensures.value at e.values }
+    record { goes = e.goes; rest = e.rest; equal = tt; values = rw c.deref.ensures.value at e.values }
 
-here : (c : goal.After-equate_one-arg-in-loop-equation-2-1) (d : Equation) → IsOverBoth c.args.cx.now.nodes c.args.candidate.now.fresh.items c.args.goal (get_or c.deref-equation-items.result.now c.loop-equation.equation-index d)
-here c d =
+pub equate_one-requires-clause-equation : goal.equate_one-requires-clause-equation
+equate_one-requires-clause-equation c =
+    rw c.deref-in-loop-equation.ensures.value (IsEquation-extended c.loop-equation.invariant.goes.extends c.requires.posed.holds (
     rw c.deref-equation-items.ensures.value
-    (equation_at c.args.cx.now.nodes c.args.candidate.now.fresh.items c.args.goal c.args.candidate.now.equations.items c.loop-equation.equation-index d c.requires.candidate.equations (omega (arith, c.loop-equation-test.true, ap (length {A = Equation}) c.deref-equation-items.ensures.value)))
+    (equation_at c.args.cx.now.nodes c.args.candidate.now.fresh.items c.args.goal c.args.candidate.now.equations.items c.loop-equation.equation-index _ c.requires.candidate.equations (omega (arith, c.loop-equation-test.true, ap (length {A = Equation}) c.deref-equation-items.ensures.value)))
+    ))
 
-pub equate_one-requires-clause-lhs : goal.equate_one-requires-clause-lhs
-equate_one-requires-clause-lhs c =
-    rw c.deref-in-loop-equation.ensures.value (IsOver-extended c.loop-equation.invariant.goes.extends c.requires.posed.holds (here c _).lhs)
+inside : (c : goal.In_ok-equate_one) → c.loop-equation.equation-index < length c.args.candidate.now.equations.items
+inside c = omega (arith, c.loop-equation-test.true, ap (length {A = Equation}) c.deref-equation-items.ensures.value)
 
-pub equate_one-requires-clause-rhs : goal.equate_one-requires-clause-rhs
-equate_one-requires-clause-rhs c =
-    rw c.deref-in-loop-equation.ensures.value (IsOver-extended c.loop-equation.invariant.goes.extends c.requires.posed.holds (here c _).rhs)
+over : (c : goal.In_ok-equate_one) (d : Equation) → IsEquation c.args.cx.now.nodes c.args.candidate.now.fresh.items c.args.goal (get_or c.args.candidate.now.equations.items c.loop-equation.equation-index d)
+over c d =
+    equation_at c.args.cx.now.nodes c.args.candidate.now.fresh.items c.args.goal c.args.candidate.now.equations.items c.loop-equation.equation-index d c.requires.candidate.equations (inside c)
+
+pub returns-in_err-equate_one-clause-goes : goal.returns-in_err-equate_one-clause-goes
+returns-in_err-equate_one-clause-goes c = Goes-trans c.loop-equation.invariant.goes c.equate_one.ensures.goes
+
+pub returns-clause-equal : goal.returns-clause-equal
+returns-clause-equal c =
+    rw (take_all c.loop-equation.equation-index c.args.candidate.now.equations.items (omega (arith, c.loop-equation-test.false, ap (length {A = Equation}) c.deref-equation-items.ensures.value))) at c.loop-equation.invariant.equal
 
 pub loop-equation-preserved : goal.loop-equation-preserved
 loop-equation-preserved c =
@@ -30,5 +39,6 @@ loop-equation-preserved c =
     record {
       goes = Goes-trans i.goes e.goes;
       rest = KeepsRest-trans i.rest e.rest;
+      equal = Equates-step _ c.args.cx.now.nodes c.in_ok-values.values.items c.args.candidate.now.equations.items c.loop-equation.equation-index c.deref-in-loop-equation-2.ensures.value c.deref-equation-items.ensures.value (inside c) e.goes i.values.within i.equal i.goes.extends (λ d. ((over c d).lhs.within, (over c d).rhs.within)) e.equal;
       values = AreValues-later e.goes i.values;
     }

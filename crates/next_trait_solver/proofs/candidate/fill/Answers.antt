@@ -1,5 +1,4 @@
-use Rattle.std.proofs.Common.{refl}
-use Rattle.next_trait_solver.proofs.Evaluating.{can_fill, is_filled, IsFilled}
+use Rattle.next_trait_solver.proofs.Evaluating.{can_fill, is_filled}
 use Rattle.next_trait_solver.proofs.candidate.fill.Goals as goal
 
 pub instantiate_canonical-requires-clause-positions : goal.instantiate_canonical-requires-clause-positions

@@ -1,8 +1,8 @@
 use Rattle.std.proofs.Common.{◌∙◌}
 use Rattle.nts_table.specs.Lawful.{IsTable-extended}
 use Rattle.nts_terms.proofs.Growing.{Extends-trans}
-use Rattle.next_trait_solver.specs.Evaluation.{Goes, IsTermOf}
-use Rattle.next_trait_solver.proofs.Evaluating.{Goes-extends, Goes-trans, IsPosed-later, AreValues-later, IsOver-extended, IsTermOf-later, kind-kept}
+use Rattle.next_trait_solver.proofs.Evaluating.{Goes-extends, IsPosed-later, AreValues-later, IsOver-extended, IsTermOf-later, kind-kept}
+use Rattle.next_trait_solver.proofs.Evaluating.{filled-kept}
 use Rattle.next_trait_solver.proofs.candidate.fill_both.Goals as goal
 
 pub returns-in_err-left-clause-goes : goal.returns-in_err-left-clause-goes
@@ -31,3 +31,7 @@ returns-clause-left_kind c = kind-kept c.in_ok-right.ensures.extends c.in_ok-lef
 
 pub returns-clause-right_kind : goal.returns-clause-right_kind
 returns-clause-right_kind c = c.in_ok-right.ensures.kind ∙ kind-kept c.in_ok-left.ensures.extends c.requires.right.within
+
+pub returns-clause-right_tree : goal.returns-clause-right_tree
+returns-clause-right_tree c =
+    c.in_ok-right.ensures.tree ∙ filled-kept _ _ c.requires.values.within c.requires.right.within c.in_ok-left.ensures.extends

@@ -7,9 +7,9 @@ returns-in-Err-clause-goes c = goes-back c.requires c.in-Err.ensures.extends c.i
 pub returns-in-Ok-clause-goes : goal.returns-in-Ok-clause-goes
 returns-in-Ok-clause-goes c =
     let e = c.in-Ok.ensures in
-    (gave_fresh c.args.fresh.now c.in-Ok.values.items c.requires e.extends e.table e.entries e.saved e.within e.trees).goes
+    (gave_fresh c.args.fresh.now c.in-Ok.values.items c.requires e.extends e.table e.entries e.saved e.mode e.within e.trees).goes
 
 pub returns-in-Ok-clause-values : goal.returns-in-Ok-clause-values
 returns-in-Ok-clause-values c =
     let e = c.in-Ok.ensures in
-    (gave_fresh c.args.fresh.now c.in-Ok.values.items c.requires e.extends e.table e.entries e.saved e.within e.trees).values
+    (gave_fresh c.args.fresh.now c.in-Ok.values.items c.requires e.extends e.table e.entries e.saved e.mode e.within e.trees).values

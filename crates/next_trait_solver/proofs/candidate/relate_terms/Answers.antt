@@ -1,5 +1,14 @@
-use Rattle.next_trait_solver.proofs.Evaluating.{goes}
+use Rattle.next_trait_solver.proofs.Evaluating.{related_goes}
+use Rattle.next_trait_solver.proofs.Running.{OnOk-map, alike_stays}
 use Rattle.next_trait_solver.proofs.candidate.relate_terms.Goals as goal
 
 pub returns-clause-goes : goal.returns-clause-goes
-returns-clause-goes c = let e = c.relate_nodes.ensures in goes e.extends e.table e.later e.saved
+returns-clause-goes c =
+    let e = c.relate_nodes.ensures in
+    related_goes _ _ c.relate_nodes.result c.requires.table e.extends e.table e.later e.saved e.mode e.related e.err
+
+pub returns-clause-equal : goal.returns-clause-equal
+returns-clause-equal c =
+    let e = c.relate_nodes.ensures in
+    let g = returns-clause-goes c in
+    OnOk-map c.relate_nodes.result (λ r. alike_stays _ _ e.table (g.known _ c.requires.left.knows) (g.known _ c.requires.right.knows) r.alike) e.related

@@ -1,4 +1,4 @@
-use Rattle.std.proofs.Common.{ap, ◌∙◌, ◌≡◌}
+use Rattle.std.proofs.Common.{ap, ◌∙◌}
 use Rattle.nts_model.specs.Resolving.{deeply_resolved}
 use Rattle.nts_terms.specs.Growth.{tree_at}
 use Rattle.nts_table.specs.Reading.{content_of}

@@ -14,6 +14,7 @@ loop-i-preserved c =
       right_in = c.get-in-loop-i.ensures.holds.within;
       left = c.get.ensures.tree;
       right = c.get-in-loop-i.ensures.tree;
+      argument = rw (← c.get.ensures.tree) c.get.ensures.holds.fits;
     }))
 
 pub returns : goal.returns

@@ -1,4 +1,3 @@
-use Rattle.next_trait_solver.specs.Evaluation.{Goes}
 use Rattle.next_trait_solver.proofs.Evaluating.{goes-back, IsPosed-later, IsCandidate-extended, candidate_at}
 use Rattle.next_trait_solver.proofs.evaluate.choose.Goals as goal
 

@@ -1,5 +1,3 @@
-use Rattle.std.proofs.Common.{◌≡◌, sym, ◌∙◌}
-use Rattle.std.specs.Prelude.{IfOk}
 use Rattle.next_trait_solver.proofs.Admitting.{resolved_twice}
 use Rattle.next_trait_solver.proofs.resolve.eager_resolve_vars.Goals as goal
 

@@ -1,4 +1,4 @@
-use Rattle.std.proofs.Common.{◌≡◌, ◌<◌, length, arith}
+use Rattle.std.proofs.Common.{◌<◌, length, arith}
 use Rattle.std.specs.Prelude.{IsTrue}
 use Rattle.next_trait_solver.specs.Clauses.{AreBodies}
 use Rattle.next_trait_solver.proofs.Testing.{body_at, bodies_step}

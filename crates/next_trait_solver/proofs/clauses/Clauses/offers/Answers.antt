@@ -1,8 +1,8 @@
-use Rattle.std.proofs.Common.{◌≡◌, ◌<◌, length, refl, ap, sym, ◌∙◌, arith, eq-eqb, false, true}
+use Rattle.std.proofs.Common.{◌≡◌, ◌<◌, length, ap, sym, ◌∙◌, arith, eq-eqb}
 use Rattle.nts_model.specs.Trees.{children, row_length}
 use Rattle.nts_terms.specs.Growth.{tree_at}
-use Rattle.next_trait_solver.specs.Clauses.{IsClause, AreClauses}
-use Rattle.next_trait_solver.specs.Offers.{trait_of, takes}
+use Rattle.next_trait_solver.specs.Clauses.{AreClauses}
+use Rattle.next_trait_solver.specs.Offers.{trait_of}
 use Rattle.next_trait_solver.proofs.Offering.{clause_at, is_part, taken, found_more, found_same, not_equal}
 use Rattle.next_trait_solver.proofs.clauses.Clauses.offers.Goals.{then-len+in_ok-offer_of+in_ok-push, else-len}
 use Rattle.next_trait_solver.proofs.clauses.Clauses.offers.Goals as goal

@@ -1,0 +1,11 @@
+-- Handlers that mean the same.
+use Rattle.std.specs.Prelude.{◌≡◌, ◌↔◌, ℕ}
+use Rattle.nts_model.specs.Trees.{Tree}
+use Rattle.nts_model.specs.Rules.{Mode, Application}
+use Rattle.nts_model.specs.Handlers.{Handler}
+
+-- they have the same rules, offers and coinductive traits
+pub record MeansSame (h k : Handler) : Type 0 where
+  pub applies : (mode : Mode) (a : Application) → h.applies mode a ↔ k.applies mode a
+  pub offers : (mode : Mode) (e g : Tree) → h.offers mode e g ≡ k.offers mode e g
+  pub is_coinductive : (i : ℕ) → h.is_coinductive i ≡ k.is_coinductive i
