@@ -3,3 +3,4 @@ pub mod TokenLemmas
 pub mod NumberLemmas
 pub mod SortLemmas
 pub mod NodeLemmas
+pub mod SpellingLemmas

@@ -1,6 +1,6 @@
 -- How sorted nodes grow by one.
 use Rattle.std.proofs.Common.{◌≡◌, List, [], ◌∷◌, ◌++◌, Option, None, Some, slice_get, drop, reverse, option_to_list, refl, sym, ap, subst, ◌∙◌, append_assoc}
-use Rattle.std.proofs.lemmas.List.{reverse-append}
+use Rattle.std.proofs.lemmas.List.{reverse-append, reverse-reverse}
 use Rattle.nts_model.specs.declared.labels.Sort.{Sort}
 use Rattle.nts_text.specs.Resolution.{argument_sorts, sort_of, AreSorted}
 use Rattle.nts_text.specs.declared.names.NameTable.{NameTable}
@@ -26,3 +26,8 @@ first_wanted stack rest None e none =
     let rest_is : rest ≡ [] = none refl in
     let stack_is : stack ≡ [] = e ∙ ap (λ xs. xs ++ []) rest_is in
     (ap (λ xs. slice_get (reverse xs) 0) stack_is, ap (λ xs. drop 1 (reverse xs)) stack_is ∙ sym (ap reverse rest_is))
+
+-- what is wanted behind a node: its arguments, and then the rest
+pub sorts_left : (new rest arguments tail : List Sort) → new ≡ rest ++ reverse arguments → tail ≡ reverse rest → reverse new ≡ arguments ++ tail
+sorts_left new rest arguments tail e h =
+    ap reverse e ∙ reverse-append rest (reverse arguments) ∙ ap (λ xs. xs ++ reverse rest) (reverse-reverse arguments) ∙ ap (λ xs. arguments ++ xs) (sym h)

@@ -8,3 +8,4 @@ pub mod NameTable
 pub mod Names
 pub mod Reasons
 pub mod Resolution
+pub mod Spelled

@@ -1,5 +1,6 @@
 -- Which reasons come of what in a line.
-use Rattle.std.specs.Prelude.{Bool, true, false}
+use Rattle.std.specs.Prelude.{ℕ, Bool, true, false, List, codes}
+use Rattle.nts_text.specs.declared.refusals.Refusal.{Refusal}
 use Rattle.nts_text.specs.declared.refusals.Refusal.TheVariants.{UnknownCommand, Syntax, NumberOutOfRange, UnknownName, NameDeclaredTwice, WrongArguments, ParameterInAClause}
 use Rattle.nts_text.specs.declared.refusals.TextError.{TextError}
 use Rattle.nts_text.specs.declared.refusals.TextError.TheVariants.{Memory, Refused}
@@ -25,3 +26,13 @@ is_name_reason (Refused ParameterInAClause) = true
 is_name_reason (Refused UnknownCommand) = false
 is_name_reason (Refused Syntax) = false
 is_name_reason (Refused NumberOutOfRange) = false
+
+-- how a reason is printed
+abbrev pub words_of : Refusal → List ℕ
+words_of UnknownCommand = codes "unknown command"
+words_of Syntax = codes "syntax"
+words_of NumberOutOfRange = codes "number out of range"
+words_of UnknownName = codes "unknown name"
+words_of NameDeclaredTwice = codes "name declared twice"
+words_of WrongArguments = codes "wrong arguments"
+words_of ParameterInAClause = codes "parameter in a clause"

@@ -4,6 +4,13 @@ use Rattle.std.specs.Option.{option_map_or}
 use Rattle.nts_model.specs.declared.labels.Sort.{Sort}
 use Rattle.nts_model.specs.declared.labels.Sort.TheVariants.{Ty, Region}
 use Rattle.nts_text.specs.declared.names.NameTable.{NameTable}
+use Rattle.nts_text.specs.Lines.{bytes_of}
+use Rattle.nts_text.specs.NameTable.{StandsFor}
+use Rattle.nts_text.specs.Spelled.{type_names, region_names, IsNumberOf}
+use Rattle.nts_text.specs.declared.lexer.TokenKind.TheVariants.{Name, TypeVariable, TypeParam, RegionVariable, RegionParam, Static}
+use Rattle.nts_text.specs.declared.names.Declared.TheVariants as declared
+use Rattle.nts_text.specs.declared.names.Scope.{Scope}
+use Rattle.nts_text.specs.declared.predicates.Node.{Node}
 use Rattle.nts_text.specs.declared.resolver.Resolved.{Resolved}
 use Rattle.nts_text.specs.declared.resolver.Resolved.TheVariants as nodes
 
@@ -41,3 +48,21 @@ abbrev pub AreSorted : NameTable → List Sort → List Resolved → Type 0
 AreSorted names wanted [] = wanted ≡ []
 AreSorted names wanted (r ∷ rs) =
     (sort_of r ≡ slice_get wanted 0) × AreSorted names (argument_sorts names r ++ drop 1 wanted) rs
+
+-- the node's word means this trait, type, variable, parameter or region
+abbrev pub IsMeaningOf : NameTable → Scope → List ℕ → Node → Resolved → Type 0
+IsMeaningOf names scope line n (nodes.Trait i arguments) =
+    StandsFor names (bytes_of line n.token) (declared.Trait i) × (arguments ≡ n.arguments)
+IsMeaningOf names scope line n (nodes.Ctor i arguments) =
+    StandsFor names (bytes_of line n.token) (declared.Type i) × (arguments ≡ n.arguments)
+IsMeaningOf names scope line n (nodes.Int t) = StandsFor names (bytes_of line n.token) (declared.Int t)
+IsMeaningOf names scope line n (nodes.Uint t) = StandsFor names (bytes_of line n.token) (declared.Uint t)
+IsMeaningOf names scope line n (nodes.TypeVariable i) =
+    (n.token.kind ≡ TypeVariable) × IsNumberOf (type_names scope.variables) i (bytes_of line n.token)
+IsMeaningOf names scope line n (nodes.TypeParam i) =
+    (n.token.kind ≡ TypeParam) × IsNumberOf (type_names scope.parameters) i (bytes_of line n.token)
+IsMeaningOf names scope line n (nodes.RegionVariable i) =
+    (n.token.kind ≡ RegionVariable) × IsNumberOf (region_names scope.variables) i (bytes_of line n.token)
+IsMeaningOf names scope line n (nodes.RegionParam i) =
+    (n.token.kind ≡ RegionParam) × IsNumberOf (region_names scope.parameters) i (bytes_of line n.token)
+IsMeaningOf names scope line n nodes.Static = n.token.kind ≡ Static

@@ -1,7 +1,7 @@
 //! Commands: lines whose names have become numbers.
 
-ghost use Rattle.std.specs.Prelude.{◌≡◌, ◌↔◌, true, Err, IfOk, IfErr, IfSome, IsNone};
-ghost use Rattle.nts_text.specs.Commands.{IsSorted};
+ghost use Rattle.std.specs.Prelude.{◌≡◌, ◌↔◌, true, Err, map, MatchOption, IfOk, IfErr, IfSome, IsNone};
+ghost use Rattle.nts_text.specs.Commands.{IsSorted, IsMeant, IsCommandOf, Declares};
 ghost use Rattle.nts_text.specs.Lines.{IsPassedOver, HasNoKeyword, NamesAreInside};
 ghost use Rattle.nts_text.specs.Reasons.{is_name_reason};
 ghost use Rattle.nts_text.specs.declared.refusals.TextError.TheVariants.{Refused};
@@ -36,7 +36,9 @@ pub enum Command {
     Goal(Vec<Resolved>),
 }
 
-fn sorts_of(alloc: Global, params: &[Param]) -> Result<Vec<Sort>, AllocError> {
+fn sorts_of(alloc: Global, params: &[Param]) -> Result<Vec<Sort>, AllocError>
+    ensures { IfOk result (λ v. v.items ≡ map (λ p. p.sort) params.now) }
+{
     params.iter().map(|param| param.sort).collect(alloc)
 }
 
@@ -50,6 +52,8 @@ fn meaning(
 ) -> Result<Command, TextError>
     requires { NamesAreInside line.now parsed }
     ensures sorted { IfOk result (IsSorted names.new) }
+    ensures means { IfOk result (IsMeant names.new scope.new line.now parsed) }
+    ensures declares { IfOk result (Declares names.old names.new) }
     ensures reasons { IfErr result (λ e. is_name_reason e ≡ true) }
 {
     match parsed {
@@ -93,6 +97,8 @@ pub fn read_command(
     ensures passed { IfOk result (λ o. IsNone o ↔ IsPassedOver line.now) }
     ensures unknown { result ≡ Err (Refused UnknownCommand) → HasNoKeyword line.now }
     ensures sorted { IfOk result (λ o. IfSome o (IsSorted names.new)) }
+    ensures said { IfOk result (λ o. IfSome o (IsCommandOf line.now names.new scope.new)) }
+    ensures declares { IfOk result (λ o. MatchOption o (names.new ≡ names.old) (Declares names.old names.new)) }
 {
     scope.begin_line(alloc);
     match keyword_of(line) {

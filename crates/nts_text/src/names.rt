@@ -1,10 +1,11 @@
 //! The names that lines declare, and those that they only use.
 
-ghost use Rattle.std.specs.Prelude.{◌≡◌, ◌<◌, ◌++◌, ◌∷◌, ◌⊎◌, [], None, Some, Err, true, ℕ, List, vec_len, map, IfSome, IfOk, IfErr, OnOk, IsNone};
+ghost use Rattle.std.specs.Prelude.{◌≡◌, ◌<◌, ◌++◌, ◌∷◌, [], None, Some, Err, true, ℕ, List, vec_len, map, IfSome, IfOk, IfErr, OnOk, IsNone};
 ghost use Rattle.std.specs.List.{list_all};
 ghost use Rattle.indexmap.specs.IndexMap.{values};
 ghost use Rattle.indexmap.specs.IndexSet.{index_set_len};
 ghost use Rattle.nts_text.specs.Reasons.{is_name_reason};
+ghost use Rattle.nts_text.specs.Spelled.{type_names, region_names, IsNumberOf, Lengthens};
 ghost use Rattle.nts_text.specs.Names.{is_numbered, IsNameOf};
 ghost use Rattle.nts_text.specs.declared.names.Declared.{Declared};
 ghost use Rattle.nts_text.specs.declared.refusals.TextError.TheVariants.{Refused};
@@ -63,7 +64,7 @@ pub fn known_type(name: &[u8]) -> Option<Declared>
 }
 
 impl NameTable {
-    ghost use Rattle.nts_text.specs.NameTable.{declared_as, IsTaken};
+    ghost use Rattle.nts_text.specs.NameTable.{declared_as, IsTaken, StandsFor};
 
     /// No names but those of the known types.
     pub fn new(alloc: Global) -> Self
@@ -78,7 +79,7 @@ impl NameTable {
 
     /// What a name stands for, if it is known or declared.
     pub fn lookup(&self, name: &[u8]) -> Option<Declared>
-        ensures found { IfSome result (λ d. IsNameOf d name.now ⊎ (declared_as self.now name.now ≡ Some d)) }
+        ensures found { IfSome result (StandsFor self.now name.now) }
         ensures unknown { IsNone result → IsTaken self.now name.now → ⊥ }
         ensures numbered { IfSome result (λ d. is_numbered (vec_len self.now.types) (vec_len self.now.traits) d ≡ true) }
     {
@@ -150,7 +151,10 @@ pub struct Spellings {
 
 impl Spellings {
     /// No names.
-    pub fn new(alloc: Global) -> Self {
+    pub fn new(alloc: Global) -> Self
+        ensures types { type_names result ≡ [] }
+        ensures regions { region_names result ≡ [] }
+    {
         Spellings {
             types: IndexSet::new(alloc),
             regions: IndexSet::new(alloc),
@@ -158,8 +162,10 @@ impl Spellings {
     }
 
     /// The number of a type's name, which is new if the name is.
+    #[tactic(auto, using(crate::proofs::SpellingLemmas::spelling))]
     pub fn type_number(&mut self, alloc: Global, name: &[u8]) -> Result<usize, AllocError>
-        ensures numbered { IfOk result (λ n. n < index_set_len self.new.types) }
+        ensures number { IfOk result (λ n. IsNumberOf (type_names self.new) n name.now) }
+        ensures kept { Lengthens (type_names self.old) (type_names self.new) }
         ensures others { self.new.regions ≡ self.old.regions }
     {
         let (number, _) = self.types.insert_full(Vec::from_slice(alloc, name)?)?;
@@ -167,8 +173,10 @@ impl Spellings {
     }
 
     /// The number of a region's name, which is new if the name is.
+    #[tactic(auto, using(crate::proofs::SpellingLemmas::spelling))]
     pub fn region_number(&mut self, alloc: Global, name: &[u8]) -> Result<usize, AllocError>
-        ensures numbered { IfOk result (λ n. n < index_set_len self.new.regions) }
+        ensures number { IfOk result (λ n. IsNumberOf (region_names self.new) n name.now) }
+        ensures kept { Lengthens (region_names self.old) (region_names self.new) }
         ensures others { self.new.types ≡ self.old.types }
     {
         let (number, _) = self.regions.insert_full(Vec::from_slice(alloc, name)?)?;
@@ -193,7 +201,11 @@ impl Scope {
     }
 
     /// Forgets the variables of the line before. Parameters stay.
-    pub fn begin_line(&mut self, alloc: Global) {
+    pub fn begin_line(&mut self, alloc: Global)
+        ensures types { type_names self.new.variables ≡ [] }
+        ensures regions { region_names self.new.variables ≡ [] }
+        ensures parameters { self.new.parameters ≡ self.old.parameters }
+    {
         self.variables = Spellings::new(alloc);
     }
 }

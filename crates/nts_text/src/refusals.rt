@@ -1,6 +1,7 @@
 //! Why a line is refused.
 
-ghost use Rattle.std.specs.Prelude.{◌≡◌};
+ghost use Rattle.std.specs.Prelude.{◌≡◌, Some};
+ghost use Rattle.nts_text.specs.Reasons.{words_of};
 ghost use Rattle.nts_text.specs.declared.refusals.TextError.TheVariants.{Memory};
 
 use std::alloc::{AllocError, AllocFailed};
@@ -21,6 +22,8 @@ pub enum Refusal {
 }
 
 impl fmt::Display for Refusal {
+    ghost output = { λ r. Some (words_of r) };
+
     fn fmt<W: fmt::Write>(&self, f: &mut fmt::Formatter<W>) -> fmt::Result {
         let words = match self {
             Refusal::UnknownCommand => "unknown command",

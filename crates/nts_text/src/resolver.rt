@@ -1,10 +1,15 @@
 //! Predicates whose names have become numbers.
 
 ghost use Rattle.std.specs.Prelude.{◌≡◌, ◌≢◌, true, None, Some, Err, ◌++◌, [], length, vec_len, reverse, All, IfOk, IfErr, OnOk, MatchResult};
+ghost use Rattle.std.specs.List.{AllZip};
+ghost use Rattle.nts_text.specs.Lines.{bytes_of};
+ghost use Rattle.nts_text.specs.NameTable.{StandsFor};
+ghost use Rattle.nts_text.specs.Spelled.{KeepsNames};
 ghost use Rattle.nts_text.specs.Names.{is_numbered};
 ghost use Rattle.nts_text.specs.Reasons.{is_name_reason};
 ghost use Rattle.nts_text.specs.Tokens.{IsInside};
-ghost use Rattle.nts_text.specs.Resolution.{argument_sorts, sort_of, IsDeclared, AreSorted};
+ghost use Rattle.nts_text.specs.Resolution.{argument_sorts, sort_of, IsDeclared, IsMeaningOf, AreSorted};
+ghost use Rattle.nts_text.specs.declared.names.Scope.{Scope};
 ghost use Rattle.nts_text.specs.declared.refusals.TextError.TheVariants.{Refused};
 ghost use Rattle.nts_text.specs.declared.refusals.Refusal.TheVariants.{ParameterInAClause};
 
@@ -50,6 +55,7 @@ fn declared(names: &NameTable, line: &[u8], node: Node) -> Result<Declared, Text
     ensures reasons { IfErr result (λ e. is_name_reason e ≡ true) }
     ensures reason { result ≢ Err (Refused ParameterInAClause) }
     ensures numbered { IfOk result (λ d. is_numbered (vec_len names.now.types) (vec_len names.now.traits) d ≡ true) }
+    ensures found { IfOk result (StandsFor names.now (bytes_of line.now node.token)) }
 {
     match names.lookup(text(line, node.token)) {
         Some(declared) => Ok(declared),
@@ -62,6 +68,7 @@ fn predicate(names: &NameTable, line: &[u8], node: Node) -> Result<Resolved, Tex
     requires { IsInside line.now node.token }
     ensures sort { IfOk result (λ r. sort_of r ≡ None) }
     ensures declared { IfOk result (IsDeclared names.now) }
+    ensures means { (scope : Scope) → IfOk result (IsMeaningOf names.now scope line.now node) }
     ensures reasons { IfErr result (λ e. is_name_reason e ≡ true) }
     ensures reason { result ≢ Err (Refused ParameterInAClause) }
 {
@@ -82,6 +89,7 @@ fn named_type(names: &NameTable, line: &[u8], node: Node) -> Result<Resolved, Te
     requires { IsInside line.now node.token }
     ensures sort { IfOk result (λ r. sort_of r ≡ Some Sort.Ty) }
     ensures declared { IfOk result (IsDeclared names.now) }
+    ensures means { (scope : Scope) → IfOk result (IsMeaningOf names.now scope line.now node) }
     ensures reasons { IfErr result (λ e. is_name_reason e ≡ true) }
     ensures reason { result ≢ Err (Refused ParameterInAClause) }
 {
@@ -128,6 +136,8 @@ impl Reading<'_> {
         requires { IsInside self.now.line.now node.token }
         ensures sort { IfOk result (λ r. sort_of r ≡ Some Sort.Ty) }
         ensures declared { IfOk result (IsDeclared self.now.names.now) }
+        ensures means { IfOk result (IsMeaningOf self.now.names.now scope.new self.now.line.now node) }
+        ensures kept { KeepsNames scope.old scope.new }
         ensures reasons { IfErr result (λ e. is_name_reason e ≡ true) }
         ensures parameter { result ≡ Err (Refused ParameterInAClause) → self.now.site ≡ Site.Clause }
     {
@@ -150,6 +160,8 @@ impl Reading<'_> {
         requires { IsInside self.now.line.now node.token }
         ensures sort { IfOk result (λ r. sort_of r ≡ Some Sort.Region) }
         ensures declared { IfOk result (IsDeclared self.now.names.now) }
+        ensures means { IfOk result (IsMeaningOf self.now.names.now scope.new self.now.line.now node) }
+        ensures kept { KeepsNames scope.old scope.new }
         ensures reasons { IfErr result (λ e. is_name_reason e ≡ true) }
         ensures parameter { result ≡ Err (Refused ParameterInAClause) → self.now.site ≡ Site.Clause }
     {
@@ -181,6 +193,8 @@ impl Reading<'_> {
         requires { IsInside self.now.line.now node.token }
         ensures sort { IfOk result (λ r. sort_of r ≡ wanted) }
         ensures declared { IfOk result (IsDeclared self.now.names.now) }
+        ensures means { IfOk result (IsMeaningOf self.now.names.now scope.new self.now.line.now node) }
+        ensures kept { KeepsNames scope.old scope.new }
         ensures reasons { IfErr result (λ e. is_name_reason e ≡ true) }
         ensures parameter { result ≡ Err (Refused ParameterInAClause) → self.now.site ≡ Site.Clause }
     {
@@ -231,6 +245,8 @@ pub fn resolve_nodes(
     ensures each { IfOk result (λ rs. length rs.items ≡ length nodes.now) }
     ensures sorted { IfOk result (λ rs. AreSorted names.now [] rs.items) }
     ensures declared { IfOk result (λ rs. All (IsDeclared names.now) rs.items) }
+    ensures means { IfOk result (λ rs. AllZip (IsMeaningOf names.now scope.new line.now) nodes.now rs.items) }
+    ensures kept { KeepsNames scope.old scope.new }
     ensures reasons { IfErr result (λ e. is_name_reason e ≡ true) }
     ensures parameter { result ≡ Err (Refused ParameterInAClause) → site ≡ Site.Clause }
 {

@@ -1,7 +1,10 @@
-use Rattle.std.proofs.Common.{◌≡◌, [], reverse, subst, ap, arith}
+use Rattle.std.proofs.Common.{◌≡◌, [], reverse, drop, subst, sym, ap, arith, ◌∙◌}
 use Rattle.std.proofs.lemmas.Grind.{common_steps}
-use Rattle.std.proofs.lemmas.List.{append-nil}
-use Rattle.nts_text.specs.Resolution.{AreSorted}
+use Rattle.std.proofs.lemmas.List.{append-nil, take_all}
+use Rattle.std.proofs.lemmas.List.Elements.{All-nil, All-cons, All-append}
+use Rattle.nts_text.specs.Resolution.{argument_sorts, AreSorted, IsDeclared}
+use Rattle.nts_text.proofs.SortLemmas.{first_wanted, sorted_push, sorts_left}
+use Rattle.nts_text.proofs.SpellingLemmas.{KeepsNames-trans, meanings_push}
 use Rattle.nts_text.proofs.resolver.resolve_nodes.Goals as goal
 
 -- nothing is wanted any more
@@ -9,3 +12,36 @@ pub returns-then-is_empty-clause-sorted : goal.returns-then-is_empty-clause-sort
 returns-then-is_empty-clause-sorted c =
     let nothing : c.loop-node.wanted.items ≡ [] = grind (arith, common_steps, c.is_empty.ensures, c.if-is_empty.true) in
     subst (AreSorted c.args.names.now []) (append-nil c.loop-node.all.items) (c.loop-node.invariant.sorted [] (ap reverse nothing))
+
+pub returns-in_err-resolved-clause-kept : goal.returns-in_err-resolved-clause-kept
+returns-in_err-resolved-clause-kept c = KeepsNames-trans c.loop-node.invariant.kept c.node.ensures.kept
+
+pub loop-node-preserved : goal.loop-node-preserved
+loop-node-preserved c =
+    let pushed = c.in_ok-push.ensures.items in
+    let popped = first_wanted _ _ _ c.pop.ensures.items (λ e. grind (arith, common_steps, e, c.pop.ensures.cases, c.pop.ensures.rest)) in
+    let grown = sorted_push c.args.names.now _ _ _ c.loop-node.invariant.sorted (c.in_ok-resolved.ensures.sort ∙ sym popped.0) in
+    let left = sorts_left c.want_arguments.new.wanted.items c.pop.new.self.items (argument_sorts c.args.names.now c.in_ok-resolved.resolved) (drop 1 (reverse c.loop-node.wanted.items)) c.in_ok-want_arguments.ensures popped.1 in
+    record {
+      each = grind (arith, common_steps, pushed, c.loop-node.invariant.each);
+      sorted = rw (pushed, left) grown;
+      declared = rw pushed (All-append (IsDeclared c.args.names.now) _ _ c.loop-node.invariant.declared (All-cons (IsDeclared c.args.names.now) _ [] c.in_ok-resolved.ensures.declared (All-nil (IsDeclared c.args.names.now))));
+      means = rw pushed (meanings_push c.args.names.now _ _ _ _ _ _ _ _ c.loop-node-test.true c.node.ensures.kept c.loop-node.invariant.means c.in_ok-resolved.ensures.means);
+      kept = KeepsNames-trans c.loop-node.invariant.kept c.node.ensures.kept;
+    }
+
+pub returns-in_err-want_arguments-clause-kept : goal.returns-in_err-want_arguments-clause-kept
+returns-in_err-want_arguments-clause-kept c = KeepsNames-trans c.loop-node.invariant.kept c.node.ensures.kept
+
+pub returns-in_err-push-clause-kept : goal.returns-in_err-push-clause-kept
+returns-in_err-push-clause-kept c = KeepsNames-trans c.loop-node.invariant.kept c.node.ensures.kept
+
+pub returns-then-is_empty-clause-means : goal.returns-then-is_empty-clause-means
+returns-then-is_empty-clause-means c =
+    rw (take_all c.loop-node.node-index c.args.nodes.now c.loop-node-test.false) at c.loop-node.invariant.means
+
+pub returns-then-is_empty-clause-kept : goal.returns-then-is_empty-clause-kept
+returns-then-is_empty-clause-kept c = c.loop-node.invariant.kept
+
+pub returns-clause-kept : goal.returns-clause-kept
+returns-clause-kept c = c.loop-node.invariant.kept
