@@ -1,2 +1,4 @@
 pub mod Growths
 pub mod Asking
+pub mod Printed
+pub mod Writing

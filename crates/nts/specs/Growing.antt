@@ -1,8 +1,15 @@
 -- Writers whose bytes stay.
-use Rattle.std.specs.Prelude.{ℕ, List, Option}
+use Rattle.std.specs.Prelude.{ℕ, List, ◌++◌, Option, codes}
+use Rattle.std.specs.Fmt.{decimal}
+use Rattle.nts_text.specs.Reasons.{words_of}
+use Rattle.nts_text.specs.declared.refusals.Refusal.{Refusal}
 use Rattle.std.specs.Io.KnownBytes.{Appends}
 
 -- known bytes stay at the beginning
 pub record Begins (old new : Option (List ℕ)) : Type 0 where
   pub written : List ℕ
   pub appends : Appends old new written
+
+-- the line that says why a line is refused
+abbrev pub refusal_line : ℕ → Refusal → List ℕ
+refusal_line number r = codes "line " ++ decimal number ++ codes ": " ++ words_of r ++ codes "\n"

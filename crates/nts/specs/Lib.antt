@@ -1,2 +1,5 @@
 pub mod Statuses
 pub mod Growing
+pub mod Printing
+pub mod Pieces
+pub mod Answers

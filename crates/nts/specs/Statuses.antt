@@ -1,5 +1,5 @@
 -- How runs end.
-use Rattle.std.specs.Prelude.{ℕ}
+use Rattle.std.specs.Prelude.{ℕ, Bool, true, false}
 use Rattle.nts_text.specs.declared.refusals.TextError.{TextError}
 use Rattle.nts_text.specs.declared.refusals.TextError.TheVariants as text
 use Rattle.nts_text.specs.declared.reader.ReadError.{ReadError}
@@ -28,3 +28,7 @@ stop_of_text (text.Refused r) = stop.Refused r
 abbrev pub stop_of_read : ReadError → Stop
 stop_of_read read.Memory = stop.Memory
 stop_of_read read.Failed = stop.Failed
+
+abbrev pub is_refusal : Stop → Bool
+is_refusal (stop.Refused r) = true
+is_refusal s = false

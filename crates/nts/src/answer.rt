@@ -161,7 +161,7 @@ fn evaluated(
     if !admitted {
         return Err(MISFIT);
     }
-    match evaluate_root_goal(table, cx, clauses, goal, Span { number: 0 }, None) {
+    match evaluate_root_goal(table, cx, clauses, goal, Span(0), None) {
         Ok(evaluation) => Ok(Some(evaluation.certainty)),
         Err(EvalError::NoSolution) => Ok(None),
         Err(EvalError::Memory | EvalError::Full) => Err(Stop::Memory),

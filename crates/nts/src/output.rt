@@ -1,7 +1,8 @@
 //! Writing answers.
-ghost use Rattle.std.specs.Prelude.{◌≡◌, ◌≤◌, length, take, IfOk, OnOk};
+ghost use Rattle.std.specs.Prelude.{◌≡◌, ◌≤◌, length, take, false, IfOk, IfErr, OnOk};
 ghost use Rattle.std.specs.Io.KnownBytes.{Appends};
-ghost use Rattle.nts.specs.Growing.{Begins};
+ghost use Rattle.nts.specs.Growing.{Begins, refusal_line};
+ghost use Rattle.nts.specs.Statuses.{is_refusal};
 
 use crate::status::Stop;
 use nts_text::Refusal;
@@ -12,6 +13,7 @@ use std::io::{ErrorKind, Write};
 #[tactic(auto, using(crate::proofs::Growths::writes))]
 fn put_some<W: Write>(output: &mut W, bytes: &[u8]) -> Result<usize, Stop>
     ensures bound { IfOk result (λ n. n ≤ length bytes.now) }
+    ensures fault { IfErr result (λ s. is_refusal s ≡ false) }
     ensures some { IfOk result (λ n. Appends (W.contents output.old) (W.contents output.new) (take n bytes.now)) }
     ensures begins { Begins (W.contents output.old) (W.contents output.new) }
 {
@@ -31,6 +33,7 @@ fn put_some<W: Write>(output: &mut W, bytes: &[u8]) -> Result<usize, Stop>
 /// Writes all of these bytes. Whatever happens, what was written before stays.
 #[tactic(auto, using(crate::proofs::Growths::writes))]
 pub fn put<W: Write>(output: &mut W, bytes: &[u8]) -> Result<(), Stop>
+    ensures fault { IfErr result (λ s. is_refusal s ≡ false) }
     ensures all { OnOk result (Appends (W.contents output.old) (W.contents output.new) bytes.now) }
     ensures begins { Begins (W.contents output.old) (W.contents output.new) }
 {
@@ -52,6 +55,8 @@ pub fn put_refusal<W: Write>(
     number: u64,
     refusal: Refusal,
 ) -> Result<(), Stop>
+    ensures fault { IfErr result (λ s. is_refusal s ≡ false) }
+    ensures said { OnOk result (Appends (W.contents output.old) (W.contents output.new) (refusal_line number refusal)) }
     ensures begins { Begins (W.contents output.old) (W.contents output.new) }
 {
     let text = format!(in alloc; "line {number}: {refusal}\n")?;

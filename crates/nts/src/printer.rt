@@ -1,6 +1,14 @@
 //! The text of answers.
-ghost use Rattle.std.specs.Prelude.{◌≡◌, IfOk, codes};
-ghost use Rattle.nts_terms.specs.Growth.{IsIn};
+ghost use Rattle.std.specs.Prelude.{◌≡◌, ◌∷◌, [], reverse, option_copied, map, slice_get, IfOk, OnOk, codes};
+ghost use Rattle.nts_model.specs.Trees.{node, children, shape, Meets, in_order, is, arguments};
+ghost use Rattle.nts_model.specs.declared.labels.Label.TheVariants as labels;
+ghost use Rattle.nts_model.specs.declared.labels.TyHead.TheVariants as heads;
+ghost use Rattle.nts_terms.specs.Growth.{IsIn, tree_at};
+ghost use Rattle.nts_text.specs.Names.{word_of_int, word_of_uint};
+ghost use Rattle.nts.specs.Printing.{leaf_name, type_name, is_region_leaf, IsLeafText, IsUnnamedType, IsUnnamedRegion, IsText};
+ghost use Rattle.nts.specs.Pieces.{lexicon_of, names_in, seen_by, Writes, WritesText, Completes, Opens};
+ghost use Rattle.nts.specs.declared.printer.Piece.TheVariants as piece_kinds;
+ghost use Rattle.nts.specs.Answers.{relation_word};
 ghost use Rattle.nts.specs.declared.answer.Answer.TheVariants.{No, Ambiguity, Overflow};
 
 use crate::answer::{Answer, Found, RegionFact};
@@ -71,7 +79,10 @@ pub fn text_of(
 }
 
 impl Printer<'_> {
-    fn write(&mut self, text: &[u8]) -> Result<(), AllocError> {
+    fn write(&mut self, text: &[u8]) -> Result<(), AllocError>
+        ensures writes { OnOk result (Writes self.old self.new text.now) }
+        ensures seen { OnOk result (seen_by self.new ≡ seen_by self.old) }
+    {
         self.text.extend_from_slice(text)
     }
 
@@ -139,70 +150,106 @@ impl Printer<'_> {
     fn fact(&mut self, fact: RegionFact) -> Result<(), AllocError> {
         self.write(b"  ")?;
         self.term(fact.left)?;
-        self.write(match fact.relation {
-            Relation::Equal => b" == ".as_slice(),
-            Relation::RegionOutlives | Relation::TypeOutlives => b": ",
-        })?;
+        self.write(relation_word(fact.relation))?;
         self.term(fact.right)?;
         self.write(b"\n")
     }
 
     /// A type or a region, as it is written.
-    fn term(&mut self, term: NodeId) -> Result<(), AllocError> {
+    fn term(&mut self, term: NodeId) -> Result<(), AllocError>
+        ensures { OnOk result (WritesText self.old self.new (λ old text new. IsText (lexicon_of self.old) old (tree_at self.old.nodes.now term) text new)) }
+    {
         let mut pieces = Vec::new(self.alloc);
         pieces.push(Piece::Term(term))?;
-        for _ in 0..u64::MAX {
+        'turns: for _ in 0..u64::MAX {
             match pieces.pop() {
                 None => return Ok(()),
-                Some(Piece::Comma) => self.write(b", ")?,
-                Some(Piece::Close) => self.write(b")")?,
-                Some(Piece::Term(term)) => self.head(term, &mut pieces)?,
+                Some(piece) => self.piece(piece, &mut pieces)?,
             }
         }
         // No memory holds a text of so many pieces.
         Err(AllocError)
     }
 
+    /// What a piece begins with. What follows is added to the pieces, the last first.
+    fn piece(&mut self, piece: Piece, pieces: &mut Vec<Piece>) -> Result<(), AllocError>
+        ensures { OnOk result (WritesText self.old self.new (λ old text new. Completes (lexicon_of self.old) old (piece ∷ reverse pieces.old.items) text new (reverse pieces.new.items))) }
+    {
+        match piece {
+            Piece::Comma => self.write(b", "),
+            Piece::Close => self.write(b")"),
+            Piece::Term(term) => self.head(term, pieces),
+        }
+    }
+
     /// What a term begins with. What follows is added to the pieces, the last first.
-    fn head(&mut self, term: NodeId, pieces: &mut Vec<Piece>) -> Result<(), AllocError> {
+    fn head(&mut self, term: NodeId, pieces: &mut Vec<Piece>) -> Result<(), AllocError>
+        ensures { OnOk result (WritesText self.old self.new (λ old text new. Completes (lexicon_of self.old) old (piece_kinds.Term term ∷ reverse pieces.old.items) text new (reverse pieces.new.items))) }
+    {
         let nodes = self.nodes;
         if !nodes.contains(term) {
             return Ok(());
         }
         match nodes.label(term) {
-            Label::Ty(TyHead::Ctor(number)) => {
-                if let Some(signature) = self.names.types.get(number) {
-                    self.write(&signature.name)?;
-                }
-                self.open(nodes, term, pieces)
-            }
-            Label::Ty(TyHead::Int(int)) => self.write(int_name(int)),
-            Label::Ty(TyHead::Uint(uint)) => self.write(uint_name(uint)),
             Label::Leaf(leaf) => self.leaf(term, leaf),
+            Label::Ty(head) => self.type_head(term, head, pieces),
             _ => self.unnamed_type(term),
         }
     }
 
-    /// The bracket behind a name, if the term has arguments.
-    fn open(
+    /// What a type begins with, likewise.
+    fn type_head(
         &mut self,
-        nodes: &Nodes,
+        term: NodeId,
+        head: TyHead,
+        pieces: &mut Vec<Piece>,
+    ) -> Result<(), AllocError>
+        requires within { IsIn self.old.nodes.now term }
+        requires label { tree_at self.old.nodes.now term ≡ node (labels.Ty head) (children (tree_at self.old.nodes.now term)) }
+        requires formed { Meets (shape (labels.Ty head)) (children (tree_at self.old.nodes.now term)) }
+        ensures { OnOk result (WritesText self.old self.new (λ old text new. Completes (lexicon_of self.old) old (piece_kinds.Term term ∷ reverse pieces.old.items) text new (reverse pieces.new.items))) }
+    {
+        match head {
+            TyHead::Ctor(number) => self.constructed(number, term, pieces),
+            TyHead::Int(int) => self.write(int_name(int)),
+            TyHead::Uint(uint) => self.write(uint_name(uint)),
+            _ => self.unnamed_type(term),
+        }
+    }
+
+    /// The name of a declared type, and the bracket behind it if it has arguments.
+    fn constructed(
+        &mut self,
+        number: usize,
         term: NodeId,
         pieces: &mut Vec<Piece>,
     ) -> Result<(), AllocError>
-        requires { IsIn nodes.now term }
+        requires within { IsIn self.old.nodes.now term }
+        requires label { tree_at self.old.nodes.now term ≡ node (labels.Ty (heads.Ctor number)) (children (tree_at self.old.nodes.now term)) }
+        requires formed { Meets (in_order (is arguments ∷ [])) (children (tree_at self.old.nodes.now term)) }
+        ensures { OnOk result (WritesText self.old self.new (λ old text new. Completes (lexicon_of self.old) old (piece_kinds.Term term ∷ reverse pieces.old.items) text new (reverse pieces.new.items))) }
     {
-        if nodes.child_count(term) == 0 {
-            return Ok(());
-        }
-        let list = nodes.child(term, 0);
+        let name = type_name(self.names, number);
+        self.write(name)?;
+        let list = self.nodes.child(term, 0);
+        self.open(list, pieces)
+    }
+
+    /// The bracket in front of these arguments, if there are any.
+    fn open(&mut self, list: NodeId, pieces: &mut Vec<Piece>) -> Result<(), AllocError>
+        requires within { IsIn self.old.nodes.now list }
+        ensures { OnOk result (WritesText self.old self.new (λ old text new. Opens (lexicon_of self.old) old (children (tree_at self.old.nodes.now list)) (reverse pieces.old.items) text new (reverse pieces.new.items))) }
+    {
+        let nodes = self.nodes;
         let count = nodes.child_count(list);
         if count == 0 {
             return Ok(());
         }
         self.write(b"(")?;
         pieces.push(Piece::Close)?;
-        for i in (0..count).rev() {
+        let mut i = count;
+        while i > 0 {
+            i -= 1;
             pieces.push(Piece::Term(nodes.child(list, i)))?;
             if i > 0 {
                 pieces.push(Piece::Comma)?;
@@ -212,48 +259,107 @@ impl Printer<'_> {
     }
 
     /// A term without parts.
-    fn leaf(&mut self, term: NodeId, leaf: Leaf) -> Result<(), AllocError> {
-        let scope = self.scope;
-        let name = match leaf {
-            Leaf::Variable(_, _) => match self.known.get(&term) {
-                Some(name) => {
-                    self.text.extend_from_slice(name)?;
-                    return Ok(());
+    fn leaf(&mut self, term: NodeId, leaf: Leaf) -> Result<(), AllocError>
+        ensures { OnOk result (WritesText self.old self.new (λ old text new. IsLeafText (lexicon_of self.old) leaf old term text new)) }
+    {
+        match leaf_name(&self.known, self.scope, term, leaf) {
+            Some(name) => self.text.extend_from_slice(name),
+            None => {
+                if is_region_leaf(leaf) {
+                    self.unnamed_region(term)
+                } else {
+                    self.unnamed_type(term)
                 }
-                None => None,
-            },
-            Leaf::TyConstant(Constant::Param(number)) => {
-                scope.parameters.types.get_index(number as usize)
             }
-            Leaf::Region(FreeRegion::EarlyParam(number)) => {
-                scope.parameters.regions.get_index(number as usize)
-            }
-            Leaf::Region(FreeRegion::Static) => return self.write(b"'static"),
-            _ => None,
-        };
-        match (name, leaf) {
-            (Some(name), _) => self.write(name),
-            (None, Leaf::Region(_) | Leaf::Variable(VariableKind::Region, _)) => {
-                self.unnamed_region(term)
-            }
-            (None, _) => self.unnamed_type(term),
         }
     }
 
-    fn unnamed_type(&mut self, term: NodeId) -> Result<(), AllocError> {
+    fn unnamed_type(&mut self, term: NodeId) -> Result<(), AllocError>
+        ensures { OnOk result (WritesText self.old self.new (λ old text new. IsUnnamedType old term text new)) }
+    {
         let (number, _) = self.types.insert_full(term)?;
         let name = format!(in self.alloc; "?{number}")?;
         self.write(name.as_bytes())
     }
 
-    fn unnamed_region(&mut self, term: NodeId) -> Result<(), AllocError> {
+    fn unnamed_region(&mut self, term: NodeId) -> Result<(), AllocError>
+        ensures { OnOk result (WritesText self.old self.new (λ old text new. IsUnnamedRegion old term text new)) }
+    {
         let (number, _) = self.regions.insert_full(term)?;
         let name = format!(in self.alloc; "'_{number}")?;
         self.write(name.as_bytes())
     }
 }
 
-fn int_name(int: IntTy) -> &'static [u8] {
+/// The name of a leaf, if it has one.
+fn leaf_name<'a>(
+    known: &'a IndexMap<NodeId, Vec<u8>>,
+    scope: &'a Scope,
+    term: NodeId,
+    leaf: Leaf,
+) -> Option<&'a [u8]>
+    ensures { option_copied result ≡ leaf_name scope.now.parameters (names_in known.now.entries) term leaf }
+{
+    match leaf {
+        Leaf::Variable(_, _) => match known.get(&term) {
+            Some(name) => Some(name.as_slice()),
+            None => None,
+        },
+        Leaf::TyConstant(Constant::Param(number)) => {
+            spelling(&scope.parameters.types, number as usize)
+        }
+        Leaf::TyConstant(Constant::Placeholder(_, _)) => None,
+        Leaf::ConstConstant(_) => None,
+        Leaf::Region(FreeRegion::EarlyParam(number)) => {
+            spelling(&scope.parameters.regions, number as usize)
+        }
+        Leaf::Region(FreeRegion::Static) => Some(b"'static"),
+        Leaf::Region(_) => None,
+    }
+}
+
+/// The name with this number.
+fn spelling(names: &IndexSet<Vec<u8>>, number: usize) -> Option<&[u8]>
+    ensures { option_copied result ≡ slice_get (map (λ v. v.items) names.now.keys) number }
+{
+    match names.get_index(number) {
+        Some(name) => Some(name.as_slice()),
+        None => None,
+    }
+}
+
+fn is_region_leaf(leaf: Leaf) -> bool
+    ensures { result ≡ is_region_leaf leaf }
+{
+    matches!(
+        leaf,
+        Leaf::Region(_) | Leaf::Variable(VariableKind::Region, _)
+    )
+}
+
+/// The name of a declared type.
+fn type_name(names: &NameTable, number: usize) -> &[u8]
+    ensures { result.now ≡ type_name names.now.types.items number }
+{
+    match names.types.get(number) {
+        Some(signature) => &signature.name,
+        None => b"",
+    }
+}
+
+/// How a relation of two terms is written.
+fn relation_word(relation: Relation) -> &'static [u8]
+    ensures { result.now ≡ relation_word relation }
+{
+    match relation {
+        Relation::Equal => b" == ",
+        Relation::RegionOutlives | Relation::TypeOutlives => b": ",
+    }
+}
+
+fn int_name(int: IntTy) -> &'static [u8]
+    ensures { result.now ≡ word_of_int int }
+{
     match int {
         IntTy::I8 => b"i8",
         IntTy::I16 => b"i16",
@@ -264,7 +370,9 @@ fn int_name(int: IntTy) -> &'static [u8] {
     }
 }
 
-fn uint_name(uint: UintTy) -> &'static [u8] {
+fn uint_name(uint: UintTy) -> &'static [u8]
+    ensures { result.now ≡ word_of_uint uint }
+{
     match uint {
         UintTy::U8 => b"u8",
         UintTy::U16 => b"u16",

@@ -1,7 +1,7 @@
 //! How a run ends, and why it ends early.
-ghost use Rattle.std.specs.Prelude.{◌≡◌, ◌<◌};
+ghost use Rattle.std.specs.Prelude.{◌≡◌, ◌<◌, false};
 ghost use Rattle.nts.specs.declared.status.Stop.TheVariants.{Memory};
-ghost use Rattle.nts.specs.Statuses.{code_of, stop_of_text, stop_of_read, status_of};
+ghost use Rattle.nts.specs.Statuses.{code_of, is_refusal, stop_of_text, stop_of_read, status_of};
 
 use nts_terms::Fault;
 use nts_text::{ReadError, Refusal, TextError};
@@ -108,6 +108,8 @@ impl From<ReadError> for Stop {
 }
 
 impl From<io::Error> for Stop {
+    ghost from_gives = { λ _ s. is_refusal s ≡ false };
+
     fn from(error: io::Error) -> Stop {
         match error.kind() {
             ErrorKind::OutOfMemory => Stop::Memory,

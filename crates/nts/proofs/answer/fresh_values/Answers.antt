@@ -5,4 +5,4 @@ use Rattle.nts.proofs.answer.fresh_values.Goals as goal
 pub returns-clause-values : goal.returns-clause-values
 returns-clause-values c =
     let e = c.in_ok-values.ensures in
-    terms-values (gave_fresh c.args.sorts.now _ c.requires.table e.extends e.table e.entries e.saved e.within e.trees).values
+    terms-values (gave_fresh c.args.sorts.now _ c.requires.table e.extends e.table e.entries e.saved e.mode e.within e.trees).values
