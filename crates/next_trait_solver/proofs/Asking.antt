@@ -16,7 +16,13 @@ use Rattle.nts_terms.specs.Facts.{facts_of}
 use Rattle.nts_terms.specs.Formed.{AreFormed}
 use Rattle.nts_terms.specs.Growth.{tree_at, Extends}
 use Rattle.nts_terms.specs.Kinds.{tree_of_statement, tree_of_predicate, PredicateFits}
+use Rattle.nts_terms.proofs.Growing.{Extends-trans, Extends-refl}
 use Rattle.nts_terms.proofs.Standing.{vars_tree}
+use Rattle.nts_table.specs.Entries.{Table}
+use Rattle.nts_table.specs.Reading.{IsTable}
+use Rattle.nts_table.specs.Lawful.{content_of-extended, IsTable-extended}
+use Rattle.next_trait_solver.specs.ClausesKept.{AreReady-kept}
+use Rattle.next_trait_solver.specs.Evaluation.{IsAdmitted}
 use Rattle.next_trait_solver.specs.Candidates.{HoldsGoal, IsAsked}
 use Rattle.next_trait_solver.proofs.Evaluating.{HoldsGoal-extended}
 use Rattle.next_trait_solver.proofs.Testing.{or_false, none_escapes}
@@ -76,3 +82,20 @@ IsAsked-extended {a} {b} {g} e h =
       holds = HoldsGoal-extended e h.holds;
       asked = rw (e.kept g.param_env.node k.env.within, e.kept g.predicate.node k.predicate.within) h.asked;
     }
+
+-- a goal that is admitted, in a store that has grown
+pub IsAdmitted-extended : {a b : List Tree} {t : Table} {g : Goal} → Extends a b → IsTable a t → IsAdmitted a t g → IsAdmitted b t g
+IsAdmitted-extended {a} {b} {t} {g} e h k =
+    let env = e.kept g.param_env.node k.holds.env.within in
+    let predicate = e.kept g.predicate.node k.holds.predicate.within in
+    let same = content_of-extended e h.now in
+    record {
+      holds = HoldsGoal-extended e k.holds;
+      env = record { closed = rw env k.env.closed; positions = rw env k.env.positions; knows = rw (env, same) k.env.knows };
+      predicate = record { closed = rw predicate k.predicate.closed; positions = rw predicate k.predicate.positions; knows = rw (predicate, same) k.predicate.knows };
+      env_types = rw (env, same) k.env_types;
+      asked = rw predicate k.asked;
+    }
+
+-- what goals keep while a store grows
+pub ruleset asking = (Extends-trans, Extends-refl, AreReady-kept, IsTable-extended, IsAdmitted-extended)

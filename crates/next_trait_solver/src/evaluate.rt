@@ -1,5 +1,5 @@
 //! The recursion over nested goals.
-ghost use Rattle.std.specs.Prelude.{true, ℕ, ◌≡◌, ◌≢◌, ◌<◌, ◌≤◌, ◌/◌, ◌-◌, List, map, IfOk, OnOk, OnErr, IfSome, IsNone, ◌↔◌, length};
+ghost use Rattle.std.specs.Prelude.{true, false, ℕ, ◌≡◌, ◌≢◌, ◌<◌, ◌≤◌, ◌/◌, ◌-◌, List, map, IfOk, OnOk, OnErr, IfSome, IsNone, ◌↔◌, length};
 ghost use Rattle.nts_model.specs.declared.labels.Variance.{Variance};
 ghost use Rattle.nts_model.specs.Trees.{Tree};
 ghost use Rattle.nts_model.specs.Sequents.{Among};
@@ -34,6 +34,8 @@ pub struct Answer {
 pub fn depth_below(depth: usize, has_overflowed: bool) -> Option<usize>
     ensures too_deep { IsNone result ↔ (depth ≡ 0) }
     ensures less { IfSome result (λ below. below < depth) }
+    ensures next { has_overflowed ≡ false → IfSome result (λ below. below ≡ depth - 1) }
+    ensures quarter { has_overflowed ≡ true → IfSome result (λ below. below ≡ depth / 4) }
 {
     if depth == 0 {
         return None;

@@ -13,4 +13,6 @@ pub mod delegate;
 mod evaluate;
 pub mod resolve;
 pub mod solve;
+#[cfg(test)]
+mod tests;
 pub mod ty;

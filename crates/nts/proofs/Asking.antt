@@ -19,20 +19,8 @@ use Rattle.next_trait_solver.specs.ClausesKept.{AreReady-kept}
 use Rattle.next_trait_solver.specs.Clauses.{AreReady}
 use Rattle.next_trait_solver.specs.declared.clauses.Clauses.{Clauses}
 use Rattle.next_trait_solver.specs.Evaluation.{Goes, IsAdmitted, IsTermOf, AreValues, AllKnown}
+use Rattle.next_trait_solver.proofs.Asking.{IsAdmitted-extended}
 use Rattle.next_trait_solver.proofs.Evaluating.{Goes-extends, Goes-trans, HoldsGoal-extended, IsTermOf-later}
-
-pub IsAdmitted-extended : {a b : List Tree} {t : Table} {g : Goal} → Extends a b → IsTable a t → IsAdmitted a t g → IsAdmitted b t g
-IsAdmitted-extended {a} {b} {t} {g} e h k =
-    let env = e.kept g.param_env.node k.holds.env.within in
-    let predicate = e.kept g.predicate.node k.holds.predicate.within in
-    let same = content_of-extended e h.now in
-    record {
-      holds = HoldsGoal-extended e k.holds;
-      env = record { closed = rw env k.env.closed; positions = rw env k.env.positions; knows = rw (env, same) k.env.knows };
-      predicate = record { closed = rw predicate k.predicate.closed; positions = rw predicate k.predicate.positions; knows = rw (predicate, same) k.predicate.knows };
-      env_types = rw (env, same) k.env_types;
-      asked = rw predicate k.asked;
-    }
 
 -- the terms later on
 pub terms-later : {a b : List Tree} {t u : Table} (vs : List NodeId) → Goes a b t u → All (λ v. IsTermOf a t v) vs → All (λ v. IsTermOf b u v) vs
