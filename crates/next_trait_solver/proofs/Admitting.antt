@@ -1,10 +1,9 @@
 -- What the tests of a goal at the root say.
 use Rattle.std.proofs.Common.{◌≡◌, ◌↔◌, Bool, true, false, List, is_some, refl, ap, sym, ◌∙◌}
-use Rattle.std.specs.Prelude.{IsTrue, IfOk, Result, Ok, Err}
-use Rattle.nts_model.proofs.Resolved.{deeply_resolved-deeply_resolved}
+use Rattle.std.specs.Prelude.{IsTrue}
 use Rattle.nts_model.specs.declared.labels.Label.{Label}
 use Rattle.nts_model.specs.Trees.{Tree, empty, more, node, any_label}
-use Rattle.nts_model.specs.Resolving.{Knows, deeply_resolved}
+use Rattle.nts_model.specs.Resolving.{Knows}
 use Rattle.nts_terms.specs.declared.facts.Facts.{Facts}
 use Rattle.nts_terms.specs.declared.nodes.NodeId.{NodeId}
 use Rattle.nts_terms.specs.Facts.{facts_of, escaping}
@@ -12,7 +11,7 @@ use Rattle.nts_terms.specs.Growth.{tree_at}
 use Rattle.nts_terms.specs.Labels.{AllLabels}
 use Rattle.nts_terms.proofs.Escaping.{escapes}
 use Rattle.nts_table.specs.Entries.{Table}
-use Rattle.nts_table.specs.Reading.{content_of, IsTable}
+use Rattle.nts_table.specs.Reading.{content_of}
 use Rattle.next_trait_solver.specs.Evaluation.{IsRootTerm}
 use Rattle.next_trait_solver.proofs.Testing.{both_false, or_false, none_escapes}
 
@@ -54,8 +53,3 @@ pub root_named : (ts : List Tree) (u : Table) (t : NodeId) (f : Facts) → f ≡
 root_named ts u t f e h c =
     let both : false ≡ true = sym c.positions ∙ sym (ap (λ g. g.has_canonical) e) ∙ h in
     cc
-
--- a resolved term is resolved
-pub resolved_twice : {E : Type 0} (ts us : List Tree) (u : Table) (t : NodeId) (r : Result NodeId E) → IsTable ts u → IfOk r (λ x. tree_at us x ≡ deeply_resolved (content_of ts u.entries) (tree_at ts t)) → IfOk r (λ x. deeply_resolved (content_of ts u.entries) (tree_at us x) ≡ tree_at us x)
-resolved_twice ts us u t (Ok x) h e = rw e (deeply_resolved-deeply_resolved (content_of ts u.entries) (tree_at ts t) h.now.sound)
-resolved_twice ts us u t (Err x) h e = tt

@@ -1,6 +1,6 @@
 -- From what was found while a candidate ran to a proof of its goal.
 use Rattle.std.proofs.Common.{◌≡◌, ◌⊎◌, inl, inr, ⊎_elim, ℕ, zero, suc, ◌+◌, ◌<◌, Bool, false, List, [], ◌∷◌, ◌++◌, length, get_or, take, map, Option, Some, None, refl, sym, ap, ◌∙◌, subst, arith}
-use Rattle.std.specs.Prelude.{IfOk, OnOk, Result, Ok, Err, Contains, slice_get}
+use Rattle.std.specs.Prelude.{IfOk, OnOk, Result, Ok, Err, slice_get}
 use Rattle.std.proofs.lemmas.List.{take_more}
 use Rattle.nts_model.specs.declared.labels.Sort.{Sort}
 use Rattle.nts_model.specs.declared.labels.Sort.TheVariants as sort
@@ -8,21 +8,19 @@ use Rattle.nts_model.specs.declared.labels.Variance.{Variance}
 use Rattle.nts_model.specs.declared.labels.VariableKind.{VariableKind}
 use Rattle.nts_model.specs.declared.labels.Relation.{Relation}
 use Rattle.nts_model.specs.declared.labels.Relation.TheVariants as relation
-use Rattle.nts_model.specs.declared.labels.Leaf.TheVariants as leaf
 use Rattle.nts_model.specs.declared.labels.ListHead.{ListHead}
 use Rattle.nts_model.specs.declared.labels.ListHead.TheVariants as list
 use Rattle.nts_model.specs.declared.labels.Label.{Label}
 use Rattle.nts_model.specs.declared.labels.Label.TheVariants as label
-use Rattle.nts_model.specs.Trees.{Tree, empty, more, node, kind_of, kind_of_label, of_sort, any_argument, FitsPlace, shape, Meets, IsFormed}
+use Rattle.nts_model.specs.Trees.{Tree, empty, node, kind_of, kind_of_label, of_sort, any_argument, FitsPlace, shape, Meets, IsFormed}
 use Rattle.nts_model.specs.Contents.{Content, Slot, SlotState, Recorded, known, map_slot}
-use Rattle.nts_model.specs.Resolving.{deeply_resolved, IsSound, Knows}
+use Rattle.nts_model.specs.Resolving.{deeply_resolved, Knows}
 use Rattle.nts_model.specs.Worlds.{KnowsAll}
-use Rattle.nts_model.specs.Holding.{AreOne, IsTrivial, HasSides, HoldsConstraint, Continues}
+use Rattle.nts_model.specs.Holding.{AreOne, HasSides, HoldsConstraint, Continues}
 use Rattle.nts_model.specs.Alike.{Alike, one_tree, two_regions, one_label, two_rows, HoldsEqual, AreAlike}
-use Rattle.nts_model.specs.Related.{Constraint as ConstraintTree}
 use Rattle.nts_model.specs.Sequents.{Among, Premise}
-use Rattle.nts_model.specs.Rules.{Mode, Equation as EquationTree, Meaning}
-use Rattle.nts_model.specs.Handlers.{Handler, meaning, Candidate, certain, filled, constraint_by, AreValuesOf, IsAsked, IsLawful}
+use Rattle.nts_model.specs.Rules.{Mode, Meaning}
+use Rattle.nts_model.specs.Handlers.{Handler, meaning, Candidate, certain, filled, AreValuesOf, IsAsked, IsLawful}
 use Rattle.nts_model.specs.Proving as proving
 use Rattle.nts_model.specs.Proving.{HoldsTerms, AreConstraintsOf, recorded_as, sequent_at, AreEquated, HoldsEquationAt, IsHeldAt, IsProvedAt}
 use Rattle.nts_model.proofs.Held.{Continues-refl, Continues-trans, HoldsConstraint-continues, HoldsConstraint-with_constraint}
@@ -54,7 +52,7 @@ use Rattle.next_trait_solver.specs.declared.delegate.RegionConstraint.{RegionCon
 use Rattle.next_trait_solver.specs.declared.delegate.CandidateGoal.{CandidateGoal}
 use Rattle.next_trait_solver.specs.declared.delegate.CandidateData.{CandidateData}
 use Rattle.nts_terms.specs.declared.handles.Goal.{Goal}
-use Rattle.next_trait_solver.specs.Candidates.{AreEquations, AreRegionConstraints, AreNested, IsCandidate, AreCandidates, HoldsGoal}
+use Rattle.next_trait_solver.specs.Candidates.{AreEquations, AreRegionConstraints, AreNested, IsCandidate, AreCandidates}
 use Rattle.next_trait_solver.specs.Offered.{certainty_of, access_of, source_of, equation_as, equation_of, hidden_of, constraint_of, premise_of, candidate_of, candidates_of}
 use Rattle.next_trait_solver.specs.Running.{IsTermTable, Stays, EquationHolds, ConstraintHolds, PremiseHolds, EachStays, Equates, Constrains, Proves}
 use Rattle.next_trait_solver.specs.Evaluation.{Goes, IsTermOf}

@@ -1,5 +1,5 @@
 -- Terms of clauses: where leaves are replaced, nothing changes in them but the values of their variables.
-use Rattle.std.proofs.Common.{◌≡◌, inl, inr, ℕ, zero, suc, ◌||◌, Bool, true, false, List, [], ◌∷◌, map, get_or, slice_get, Option, Some, None, refl, sym, ap, ◌∙◌}
+use Rattle.std.proofs.Common.{◌≡◌, inl, inr, ℕ, zero, suc, ◌||◌, Bool, true, false, List, [], ◌∷◌, map, get_or, Option, Some, None, refl, sym, ap, ◌∙◌}
 use Rattle.nts_model.specs.declared.labels.Sort.{Sort}
 use Rattle.nts_model.specs.declared.labels.FreeRegion.{FreeRegion}
 use Rattle.nts_model.specs.declared.labels.FreeRegion.TheVariants as region
@@ -8,9 +8,9 @@ use Rattle.nts_model.specs.declared.labels.Leaf.TheVariants as leaf
 use Rattle.nts_model.specs.declared.labels.BoundIndex.TheVariants as index
 use Rattle.nts_model.specs.declared.labels.Label.{Label}
 use Rattle.nts_model.specs.declared.labels.Label.TheVariants as label
-use Rattle.nts_model.specs.Trees.{Tree, empty, more, node, NodeKind, kind_of_label, any_label, is_canonical, row_length, IsRow, IsFormed}
+use Rattle.nts_model.specs.Trees.{Tree, empty, more, node, any_label, is_canonical, row_length, IsRow, IsFormed}
 use Rattle.nts_model.specs.Substitutions.{leaf_tree, put, replace, Occurs, StaysItself}
-use Rattle.nts_model.specs.Handlers.{position_of, value_or, filled, filled_under, IsOfSort, NamesAt, NamesFresh, IsFixed}
+use Rattle.nts_model.specs.Handlers.{position_of, value_or, filled, filled_under, NamesFresh, IsFixed}
 use Rattle.nts_model.proofs.Substituting.{leaf_alone}
 use Rattle.next_trait_solver.specs.Clauses.{is_foreign_region, is_foreign_leaf, is_foreign}
 

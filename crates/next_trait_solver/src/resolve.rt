@@ -1,28 +1,29 @@
 //! The values of variables.
 ghost use Rattle.std.specs.Prelude.{◌≡◌, IfOk, IsOkUnless};
-ghost use Rattle.nts_model.specs.Trees.{kind_of};
-ghost use Rattle.nts_model.specs.Resolving.{deeply_resolved};
+ghost use Rattle.nts_model.specs.Resolving.{Knows, deeply_resolved};
 ghost use Rattle.nts_terms.specs.Growth.{tree_at, Extends};
+ghost use Rattle.nts_terms.specs.Handles.{Holds};
 ghost use Rattle.nts_terms.specs.Rest.{KeepsRest};
 ghost use Rattle.nts_table.specs.Reading.{content_of, IsTable};
-ghost use Rattle.next_trait_solver.specs.Evaluation.{IsTermOf};
 
 use crate::candidate::resolve_term;
 use nts_table::InferCtxt;
-use nts_terms::{Cx, Fault, NodeId};
+use nts_terms::{Cx, Fault, Stored};
 
 /// A term with each variable replaced by its value, through values of values, or by the first
 /// variable of its class where it has none. The answer is the same when this is done twice.
-pub fn eager_resolve_vars(cx: &mut Cx, table: &InferCtxt, t: NodeId) -> Result<NodeId, Fault>
+pub fn eager_resolve_vars<T: Stored>(table: &InferCtxt, cx: &mut Cx, value: T) -> Result<T, Fault>
     requires table { IsTable cx.old.nodes table.now }
-    requires term { IsTermOf cx.old.nodes table.now t }
+    requires holds { Holds T.place cx.old.nodes (T.id value) }
+    requires knows { Knows (content_of cx.old.nodes table.now.entries) (tree_at cx.old.nodes (T.id value)) }
     ensures extends { Extends cx.old.nodes cx.new.nodes }
     ensures rest { KeepsRest cx.old cx.new }
-    ensures term { IfOk result (λ r. IsTermOf cx.new.nodes table.now r) }
-    ensures kind { IfOk result (λ r. kind_of (tree_at cx.new.nodes r) ≡ kind_of (tree_at cx.old.nodes t)) }
-    ensures tree { IfOk result (λ r. tree_at cx.new.nodes r ≡ deeply_resolved (content_of cx.old.nodes table.now.entries) (tree_at cx.old.nodes t)) }
-    ensures twice { IfOk result (λ r. deeply_resolved (content_of cx.old.nodes table.now.entries) (tree_at cx.new.nodes r) ≡ tree_at cx.new.nodes r) }
+    ensures holds { IfOk result (λ r. Holds T.place cx.new.nodes (T.id r)) }
+    ensures knows { IfOk result (λ r. Knows (content_of cx.new.nodes table.now.entries) (tree_at cx.new.nodes (T.id r))) }
+    ensures tree { IfOk result (λ r. tree_at cx.new.nodes (T.id r) ≡ deeply_resolved (content_of cx.old.nodes table.now.entries) (tree_at cx.old.nodes (T.id value))) }
+    ensures twice { IfOk result (λ r. deeply_resolved (content_of cx.old.nodes table.now.entries) (tree_at cx.new.nodes (T.id r)) ≡ tree_at cx.new.nodes (T.id r)) }
     ensures memory { IsOkUnless result Fault.Memory }
 {
-    resolve_term(cx, table, t)
+    let node = resolve_term(cx, table, value.node())?;
+    Ok(T::from_node(node))
 }

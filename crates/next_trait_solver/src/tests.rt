@@ -153,8 +153,8 @@ fn an_open_variable_is_its_root(rt: HostRuntime) -> Result<(), Fail> {
     let mut cx = Cx::new(rt.alloc());
     let mut table = InferCtxt::new(rt.alloc(), TypingMode::PostAnalysis);
     let variable = table.next_ty_infer(&mut cx)?;
-    let resolved = eager_resolve_vars(&mut cx, &table, variable.node)?;
-    assert!(rt; cx.nodes.same(resolved, variable.node));
+    let resolved = eager_resolve_vars(&table, &mut cx, variable)?;
+    assert!(rt; cx.same(resolved, variable));
     Ok(())
 }
 
