@@ -1,9 +1,10 @@
 -- Trees that are to be made equal, and what making them equal does to a table.
-use Rattle.std.specs.Prelude.{◌≡◌, ℕ, List, [], ◌∷◌, length}
+use Rattle.std.specs.Prelude.{◌≡◌, ℕ, List, [], ◌∷◌, Option, length}
+use Rattle.nts_model.specs.declared.labels.Label.{Label}
 use Rattle.nts_model.specs.Trees.{Tree}
 use Rattle.nts_model.specs.Contents.{Content}
 use Rattle.nts_model.specs.Resolving.{IsSound}
-use Rattle.nts_model.specs.Worlds.{World, inst, Solves, Agrees}
+use Rattle.nts_model.specs.Worlds.{World, inst, IsNameable, Solves, Agrees}
 use Rattle.nts_model.specs.Holding.{Continues}
 use Rattle.nts_model.specs.Alike.{AreAlike}
 
@@ -17,16 +18,22 @@ abbrev pub AllAlike : Content → List (Tree × Tree) → Type 0
 AllAlike c [] = Unit {0}
 AllAlike c (p ∷ ps) = AreAlike c p.0 p.1 × AllAlike c ps
 
--- a world that solves the table d, and is the world w but for what the table c lacks
-pub record Extension (c d : Content) (w : World) : Type 0 where
+-- a world that solves the table d, and is the world w but for what the table c lacks; where `Named`, it is nameable by
+-- each measure of universes by which w is
+pub record ExtensionIf (c d : Content) (w : World) (Named : (Label → Option ℕ) → Type 0) : Type 0 where
   pub world : World
   pub agrees : Agrees (length c.slots) w world
   pub solves : Solves d world
+  pub names : (f : Label → Option ℕ) → IsNameable f c w → Named f → IsNameable f d world
 
--- the worlds that solve the second table are those that solve the first and make E true
+abbrev pub Extension : Content → Content → World → Type 0
+Extension c d w = ExtensionIf c d w (λ f. Unit {0})
+
+-- the worlds that solve the second table are those that solve the first and make E true, and they are nameable there
 pub record Narrows (c d : Content) (E : World → Type 0) : Type 0 where
   pub sound : (w : World) → Solves d w → Solves c w × E w
   pub complete : (w : World) → Solves c w → E w → Solves d w
+  pub names : (f : Label → Option ℕ) (w : World) → Solves c w → IsNameable f c w → E w → IsNameable f d w
 
 -- what makes the pairs ps equal in the first table makes the pairs qs equal in the second
 pub record Reduces (c d : Content) (ps qs : List (Tree × Tree)) : Type 0 where

@@ -1,5 +1,5 @@
 -- A variable gets a value.
-use Rattle.std.proofs.Common.{◌≡◌, ◌≢◌, true, ℕ, ◌+◌, ◌<◌, ◌≤◌, List, length, Option, Some, None, refl, sym, ap, ◌∙◌, arith}
+use Rattle.std.proofs.Common.{◌≡◌, ◌≢◌, ℕ, ◌<◌, List, length, Some, refl, sym, ap, ◌∙◌, arith}
 use Rattle.std.specs.Prelude.{slice_get, slice_set}
 use Rattle.nts_model.specs.declared.labels.VariableKind.{VariableKind}
 use Rattle.nts_model.specs.declared.labels.VariableKind.TheVariants as kind
@@ -9,30 +9,30 @@ use Rattle.nts_model.specs.declared.labels.Label.TheVariants as label
 use Rattle.nts_model.specs.Resolving.{variable_tree, rooted, Knows}
 use Rattle.nts_model.specs.Levels.{NamesAll, level_in, term_level, region_level}
 use Rattle.nts_model.specs.Fitting.{Fits}
-use Rattle.nts_model.specs.Worlds.{World, inst, IsValue, Solves}
+use Rattle.nts_model.specs.Worlds.{inst, IsValue}
 use Rattle.nts_table.specs.Proper.{IsSortKind, IsProper-known}
 use Rattle.nts_model.specs.Holding.{AreOne, Continues}
 use Rattle.nts_model.specs.Alike.{AreAlike}
 use Rattle.nts_model.proofs.Variables.{infer_number_some}
 use Rattle.nts_model.proofs.Classes.{resolved-known_variable}
 use Rattle.nts_model.proofs.Instances.{inst-agrees}
-use Rattle.nts_model.proofs.Solving.{Solves-known, Solves-from_known}
+use Rattle.nts_model.proofs.Solving.{Solves-known, Solves-from_known, IsNameable-set}
 use Rattle.nts_model.proofs.Held.{Continues-known, Continues-trans}
 use Rattle.nts_model.proofs.Alike.{AreAlike-continues, AreAlike-for}
 use Rattle.nts_table.proofs.Leading.{universe_of-entry}
 use Rattle.nts_table.proofs.Naming.{lawful_sides}
 use Rattle.nts_model.specs.Trees.{Tree, empty, node, of_sort, sort_of_variable, kind_of, kind_of_label, children}
-use Rattle.nts_model.specs.Contents.{Content, Slot, unset, known, state_of, kind_at, bound_to}
+use Rattle.nts_model.specs.Contents.{unset, known, state_of, kind_at, bound_to}
 use Rattle.nts_model.proofs.Slots.{length-slice_set, slice_get_below}
 use Rattle.nts_model.proofs.Binding.{IsKnowable, kind_at-set, IsSound-known, resolved-known_value}
 use Rattle.nts_terms.specs.declared.nodes.NodeId.{NodeId}
 use Rattle.nts_terms.specs.Growth.{tree_at, IsIn}
-use Rattle.nts_table.specs.declared.contents.State.TheVariants.{Unset, Link, Known}
+use Rattle.nts_table.specs.declared.contents.State.TheVariants.{Link, Known}
 use Rattle.nts_table.specs.declared.contents.Variable.{Variable}
 use Rattle.nts_table.specs.Entries.{Entries, bound}
 use Rattle.nts_table.specs.Reading.{state_with, slot_of, content_of, IsLawful}
 use Rattle.nts_table.specs.Changing.{unset_count, unset_of, one_unset, IsLater}
-use Rattle.nts_table.specs.Joining.{HasUnset, IsBindable}
+use Rattle.nts_table.specs.Joining.{IsBindable}
 use Rattle.nts_table.specs.Relating.{IsClosed, IsSet, Generalised}
 use Rattle.nts_table.proofs.Changes.{slot_at, length-slots, content_of-bound, LeadsDown, leads_down, IsLawful-bound}
 use Rattle.nts_table.proofs.Keeping.{IsLater-trans, Knows-later, unset-set, unset_of-infer}
@@ -128,6 +128,14 @@ bind_value ts us e f g x t v l w z before_lawful can_bind at fit is closed h wit
             let ext = gen.complete y a (rw e1 at own) in
             let v_world = ext.world in
             let same_tree : v_world.tree x ≡ inst v_world (tree_at us v) = ext.agrees.trees x less ∙ e1 ∙ sym (inst-agrees c y v_world (tree_at ts t) ext.agrees closed.knows) ∙ sym (gen.sound v_world ext.solves).1 in
-            record { world = v_world; agrees = ext.agrees; solves = Solves-known d x (slot_of us new) (tree_at us v) can refl v_world ext.solves same_tree };
+            record {
+              world = v_world;
+              agrees = ext.agrees;
+              solves = Solves-known d x (slot_of us new) (tree_at us v) can refl v_world ext.solves same_tree;
+              names = λ f k n.
+                  (let own_names : NamesAll f w.universe (y.tree x) = rw (universe_of-entry ts e x w at) at (k.each x) in
+                  let named = IsNameable-set d x (slot_of us new) can.binds refl f v_world (ext.names f k (rw e1 at own_names)) in
+                  record { each = named.each });
+            };
       });
     }

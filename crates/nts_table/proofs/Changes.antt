@@ -1,16 +1,14 @@
 -- Entries before and after a change, and what keeps them lawful.
-use Rattle.std.proofs.Common.{◌≡◌, ◌≢◌, ◌⊎◌, inl, inr, ⊎_elim, ℕ, zero, suc, ◌+◌, ◌<◌, ◌≤◌, List, [], ◌∷◌, ◌++◌, length, map, Some, None, refl, sym, ap, ◌∙◌, arith}
+use Rattle.std.proofs.Common.{◌≡◌, ⊎_elim, ℕ, zero, suc, ◌<◌, List, [], ◌∷◌, ◌++◌, length, map, Some, refl, sym, ap, ◌∙◌, arith}
 use Rattle.std.specs.Prelude.{slice_get, slice_set}
 use Rattle.std.proofs.lemmas.List.{map-append}
 use Rattle.nts_model.specs.Trees.{Tree}
-use Rattle.nts_model.specs.Contents.{Content, Slot, changed, bound_to, with_constraint, kind_at, state_of}
+use Rattle.nts_model.specs.Contents.{Content, changed, bound_to, with_constraint}
 use Rattle.nts_model.specs.Resolving.{IsSound}
 use Rattle.nts_model.proofs.Slots.{KeepsKinds, KeepsKinds-changed, slice_get-slice_set_same, slice_get-slice_set_other, slice_get_below}
 use Rattle.nts_model.proofs.Under.{same_or_other}
 use Rattle.nts_model.proofs.Sound.{IsSound-with_constraint}
-use Rattle.nts_terms.specs.Growth.{tree_at, IsIn}
-use Rattle.nts_table.specs.declared.contents.State.{State}
-use Rattle.nts_table.specs.declared.contents.State.TheVariants.{Unset, Link, Known}
+use Rattle.nts_table.specs.declared.contents.State.TheVariants.{Link}
 use Rattle.nts_table.specs.declared.contents.Variable.{Variable}
 use Rattle.nts_table.specs.declared.contents.Constraint.{Constraint}
 use Rattle.nts_table.specs.Entries.{Entries, with_variable, bound, constrained}

@@ -1,6 +1,6 @@
 -- The value that a variable gets for a tree.
-use Rattle.std.proofs.Common.{◌≡◌, ◌≢◌, ◌⊎◌, inl, inr, ⊎_elim, ℕ, zero, suc, ◌+◌, ◌*◌, ◌<◌, ◌≤◌, min, max, Bool, true, false, List, [], ◌∷◌, ◌++◌, length, length-append, Option, Some, None, refl, sym, ap, subst, ◌∙◌, arith}
-use Rattle.std.specs.Prelude.{◌==◌, ◌||◌, slice_get, reverse}
+use Rattle.std.proofs.Common.{◌≡◌, ◌≢◌, ℕ, zero, suc, ◌+◌, ◌*◌, ◌<◌, ◌≤◌, min, max, Bool, true, false, List, [], ◌∷◌, ◌++◌, length, length-append, Option, Some, None, refl, sym, ap, subst, ◌∙◌, arith}
+use Rattle.std.specs.Prelude.{◌==◌, ◌||◌, reverse}
 use Rattle.nts_model.specs.declared.labels.Sort.TheVariants as sort
 use Rattle.nts_model.specs.declared.labels.VariableKind.{VariableKind}
 use Rattle.nts_model.specs.declared.labels.VariableKind.TheVariants as kind
@@ -11,22 +11,22 @@ use Rattle.nts_model.specs.declared.labels.FreeRegion.TheVariants as region
 use Rattle.nts_model.specs.declared.labels.Constant.TheVariants as constant
 use Rattle.nts_model.specs.declared.labels.ListHead.TheVariants as list
 use Rattle.nts_model.specs.declared.labels.TyHead.TheVariants as ty
-use Rattle.nts_model.specs.Trees.{Tree, empty, more, node, size, NodeKind, of_sort, kind_of, kind_of_label, sort_of_variable, any_label, is_infer, children, label_of, row_length, row_at, row_take, row_push, IsRow, Place, Shape, in_order, each, FitsPlace, HavePlaces, AllFit, Meets, shape, binders, IsBoundBelow, IsClosedUnder, is_region_infer, is_placeholder}
+use Rattle.nts_model.specs.Trees.{Tree, empty, more, node, size, NodeKind, of_sort, kind_of, kind_of_label, any_label, is_infer, children, label_of, row_length, row_at, row_take, row_push, IsRow, Place, Shape, in_order, each, FitsPlace, HavePlaces, AllFit, Meets, shape, binders, IsBoundBelow, IsClosedUnder, is_region_infer, is_placeholder}
 use Rattle.nts_model.specs.Contents.{Content, Slot, unset, link, state_of, universe_of, kind_at, with_slot}
-use Rattle.nts_model.specs.Resolving.{variable_of, variable_tree, infer_of, IsInfer, Knows, KnowsLabel, IsSound, Lacks, LacksAt, IsOneOf, resolved, deeply_resolved, rooted, root_of, left_to_resolve, variable_flag}
+use Rattle.nts_model.specs.Resolving.{variable_of, variable_tree, infer_of, IsInfer, Knows, KnowsLabel, IsSound, Lacks, LacksAt, resolved, deeply_resolved, rooted, root_of, left_to_resolve, variable_flag}
 use Rattle.nts_model.specs.Levels.{CanName, NamesAll, term_level, region_level, level_in}
 use Rattle.nts_model.specs.Regions.{RegionName, IsRegion, name_of_label}
-use Rattle.nts_model.specs.Worlds.{World, inst, renamed, IsValue, Solves, KnowsAll, with_tree}
-use Rattle.nts_model.specs.Equations.{Extension}
+use Rattle.nts_model.specs.Worlds.{World, inst, renamed, IsValue, Solves, KnowsAll, with_tree, IsNameable}
+use Rattle.nts_model.specs.Equations.{Extension, ExtensionIf}
 use Rattle.nts_model.specs.Holding.{AreOne, Continues}
 use Rattle.nts_model.specs.Alike.{HoldsEqual, AreAlike}
-use Rattle.nts_model.proofs.Variables.{infer_number_some, infer_label, infer_of_none, infer_of_region}
-use Rattle.nts_model.proofs.Under.{under-lacks, same_or_other}
+use Rattle.nts_model.proofs.Variables.{infer_number_some, infer_label, infer_of_none}
+use Rattle.nts_model.proofs.Under.{under-lacks}
 use Rattle.nts_model.proofs.Slots.{field_below, field-with_slot_new, field-with_slot_old, KeepsKinds-with_slot}
 use Rattle.nts_model.proofs.Roots.{root_of-root_of}
 use Rattle.nts_model.proofs.Instances.{inst-node, inst-agrees, Agrees-refl, Agrees-trans, Agrees-with_tree, tree-with_tree}
 use Rattle.nts_model.proofs.Fitting.{IsClosedUnder-more, IsValue-inst}
-use Rattle.nts_model.proofs.Solving.{Solves-from_with_slot, Solves-with_slot}
+use Rattle.nts_model.proofs.Solving.{Solves-from_with_slot, Solves-with_slot, IsNameable-with_slot, IsNameable-agrees}
 use Rattle.nts_model.proofs.Levelled.{NamesAll-falls}
 use Rattle.nts_model.proofs.Held.{AreOne-continues, Continues-refl, Continues-trans, Continues-with_slot}
 use Rattle.nts_model.proofs.Alike.{Alike-row_push, AreAlike-one, AreAlike-itself, AreAlike-for, AreAlike-node, AreAlike-continues, deeply_resolved-more, row_length-deeply_resolved, IsRow-deeply_resolved}
@@ -34,16 +34,15 @@ use Rattle.nts_model.proofs.Open.{Knows-resolved}
 use Rattle.nts_model.proofs.Resolved.{resolved-empty, resolved-node, resolved-row_push, IsRow-resolved, resolved-variable_unset, resolved-variable_link, IsVariable, node_step, deeply_resolved-empty, Knows-row_at}
 use Rattle.nts_model.proofs.Sound.{resolved-with_slot, state_of-with_slot_old, state_of-with_slot_new, IsSound-with_slot}
 use Rattle.nts_terms.specs.declared.nodes.NodeId.{NodeId}
-use Rattle.nts_terms.specs.Growth.{tree_at, trees_at, IsIn, AllIn, Extends}
+use Rattle.nts_terms.specs.Growth.{tree_at, trees_at, AllIn, Extends}
 use Rattle.nts_terms.proofs.Growing.{IsRow-trees_at, trees_at-push, trees_at-extended, row_take-more, row_take-all}
 use Rattle.nts_table.specs.Entries.{Entries}
 use Rattle.nts_table.specs.Reading.{content_of}
-use Rattle.nts_table.specs.Changing.{unset_count, unset_of, one_unset, IsLater, Keeps, is_free_region}
+use Rattle.nts_table.specs.Changing.{unset_count, unset_of, one_unset, IsLater, is_free_region}
 use Rattle.nts_table.specs.Joining.{IsOneClass, IsJoined}
 use Rattle.nts_table.specs.Relating.{IsLike, IsUnset, RegionsRelate, Generalised}
 use Rattle.nts_table.proofs.RegionLemmas.{IsRegionVariable, regions-one}
-use Rattle.nts_table.proofs.Keeping.{IsLater-refl, IsLater-trans, Knows-later, Keeps-refl, Keeps-trans, unset-push, unset_of-infer}
-use Rattle.nts_table.proofs.HeadLemmas.{kind_of-variable}
+use Rattle.nts_table.proofs.Keeping.{IsLater-trans, Knows-later, Keeps-refl, Keeps-trans, unset-push, unset_of-infer}
 use Rattle.nts_table.proofs.Changes.{length-slots}
 
 -- trees without inference variables
@@ -247,8 +246,15 @@ settled_names c u (node l t) e f g =
     ((h.0, k.0), (h.1, k.1))
 
 -- where nothing changed
+abbrev pub unchanged : {Named : (Label → Option ℕ) → Type 0} (c : Content) (w : World) → Solves c w → ExtensionIf c c w Named
+unchanged c w z = record { world = w; agrees = Agrees-refl (length c.slots) w; solves = z; names = λ f k n. k }
+
 abbrev pub itself : (c : Content) (w : World) → Solves c w → Extension c c w
-itself c w z = record { world = w; agrees = Agrees-refl (length c.slots) w; solves = z }
+itself c w z = unchanged c w z
+
+-- where other names are enough
+pub named_for : {c d : Content} {w : World} {P Q : (Label → Option ℕ) → Type 0} → ((f : Label → Option ℕ) → Q f → P f) → ExtensionIf c d w P → ExtensionIf c d w Q
+named_for h e = record { world = e.world; agrees = e.agrees; solves = e.solves; names = λ f k n. e.names f k (h f n) }
 
 pub gen_settled : (c : Content) (x u b : ℕ) (t : Tree) → IsSound c → Knows c t → any_label is_infer t ≡ false → any_label is_region_infer t ≡ false → any_label is_placeholder t ≡ false → IsClosedUnder b t → Generalised c c x u b t t
 gen_settled c x u b t s k e f g h =
@@ -266,7 +272,7 @@ gen_settled c x u b t s k e f g h =
       closed = h;
       alike = AreAlike-itself c t;
       sound = λ w z. (z, refl);
-      complete = λ w z q. itself c w z;
+      complete = λ w z q. unchanged c w z;
     }
 
 -- a free region that stays
@@ -285,7 +291,7 @@ gen_region c x u b t l s k r v f n =
       closed = subst (λ (y : Tree). IsClosedUnder b y) (sym r.is) (free_below l f, tt);
       alike = AreAlike-itself c t;
       sound = λ w z. (z, refl);
-      complete = λ w z q. itself c w z;
+      complete = λ w z q. unchanged c w z;
     }
   where
     free_term_level : (m : Label) → is_free_region m ≡ true → CanName u (term_level m)
@@ -328,7 +334,7 @@ gen_region_root c x u b n r t s v has named =
       closed = (tt, tt);
       alike = AreAlike-one c (variable_tree kind.Region r) t one;
       sound = λ w z. (z, rw (v.is) (sym (v.tree w z)));
-      complete = λ w z q. itself c w z;
+      complete = λ w z q. unchanged c w z;
     }
 
 lacks_other : (k : VariableKind) (y x : ℕ) → k ≢ kind.Region → (y ≡ x → ⊥) → Lacks x (variable_tree k y)
@@ -350,7 +356,7 @@ gen_named c x u b y k t s h i like d named same worlds =
       closed = (tt, tt);
       alike = AreAlike-one c (variable_tree k y) t (ap (rooted c) (sym same));
       sound = λ w z. (z, sym (worlds w z));
-      complete = λ w z q. itself c w z;
+      complete = λ w z q. unchanged c w z;
     }
 
 abbrev second_or : Option (VariableKind × ℕ) → ℕ
@@ -392,6 +398,7 @@ pub record IsAdded (c d : Content) (v : Slot) : Type 0 where
   pub universes : (n : ℕ) → n < length c.slots → universe_of d n ≡ universe_of c n
   pub back : (w : World) → Solves d w → Solves c w
   pub grow : (w : World) (t : Tree) → Solves c w → NamesAll term_level v.universe t → IsValue v.kind t → Solves d (with_tree w (length c.slots) t)
+  pub grow_names : (f : Label → Option ℕ) (w : World) (t : Tree) → IsNameable f c w → NamesAll f v.universe t → IsNameable f d (with_tree w (length c.slots) t)
 
 pub slot_added : (c : Content) (v : Slot) → IsSound c → KnowsAll c c.constraints → v.state ≡ unset → IsAdded c (with_slot c v) v
 slot_added c v s sides free =
@@ -411,6 +418,10 @@ slot_added c v s sides free =
       universes = λ n h. field-with_slot_old (λ x. x.universe) c v n (λ e. omega (arith, e, h));
       back = λ w z. Solves-from_with_slot c v free w z;
       grow = λ w t z n k. Solves-with_slot c v free s sides w t z n k;
+      grow_names = λ f w t k n.
+          (let wide = with_tree w (length c.slots) t in
+          let agrees = Agrees-with_tree (length c.slots) (length c.slots) w t (omega arith) in
+          IsNameable-with_slot c v free f wide (IsNameable-agrees f c w wide agrees k) (rw (tree-with_tree w (length c.slots) t) n));
     }
 
 -- the new variable is made one with an old one
@@ -461,7 +472,14 @@ gen_fresh c d e x u b y low high v t s knows h free of_u within i like apart sam
           let agrees = Agrees-with_tree (length c.slots) (length c.slots) w (w.tree y) (omega arith) in
           let wide = with_tree w fresh (w.tree y) in
           let one_tree : wide.tree low ≡ wide.tree high = rw (ly, hy) (agrees.trees y below ∙ sym (tree-with_tree w fresh (w.tree y))) in
-          record { world = wide; agrees = agrees; solves = one_class.narrows.complete wide grown one_tree };
+          record {
+            world = wide;
+            agrees = agrees;
+            solves = one_class.narrows.complete wide grown one_tree;
+            names = λ f k n.
+                (let tree_named : NamesAll f u (w.tree y) = rw (worlds w z) at n in
+                one_class.narrows.names f wide grown (a.grow_names f w (w.tree y) k (rw of_u tree_named)) one_tree);
+          };
     }
   where
     fresh_like : (k : VariableKind) (n m : ℕ) (z : Tree) → IsLike (variable_tree k n) z → IsLike (variable_tree k m) z
@@ -519,7 +537,12 @@ gen_fresh_region c d e x u b v t l s region within r sorted is_region known of_u
           let agrees = Agrees-with_tree (length c.slots) (length c.slots) w s (omega arith) in
           let wide = with_tree w fresh s in
           let one_tree : wide.tree fresh ≡ inst wide t = tree-with_tree w fresh s ∙ sym (inst-agrees c w wide t agrees known) in
-          record { world = wide; agrees = agrees; solves = related.narrows.complete wide grown one_tree };
+          record {
+            world = wide;
+            agrees = agrees;
+            solves = related.narrows.complete wide grown one_tree;
+            names = λ f k n. related.narrows.names f wide grown (a.grow_names f w s k (rw of_u n)) one_tree;
+          };
     }
   where
     region_sort : (t : Tree) (l : Label) → RegionNode t l → kind_of t ≡ Some (of_sort sort.Region) → of_sort sort.Region ≡ kind_of_label l
@@ -562,7 +585,7 @@ gen_start c x u b row s =
       closed = tt;
       alike = AreAlike-itself c empty;
       sound = λ w z. (z, refl);
-      complete = λ w z q. itself c w z;
+      complete = λ w z q. unchanged c w z;
     }
 
 NamesAll-push : (f : Label → Option ℕ) (u : ℕ) (r t : Tree) → IsRow r → NamesAll f u r → NamesAll f u t → NamesAll f u (row_push r t)
@@ -660,6 +683,10 @@ gen_push us vs c d e x u b i row a rs qs r sc fd se known g ext all lt ea h eq =
             world = second.world;
             agrees = Agrees-trans (length c.slots) (length d.slots) w first.world second.world g.continues.more first.agrees second.agrees;
             solves = second.solves;
+            names = λ f k n.
+                (let every : NamesAll f u (row_push (inst w (row_take i row)) (inst w a)) = rw (inst-push w (row_take i row) a it) at n in
+                let each = NamesAll-pushed f u (inst w (row_take i row)) (inst w a) (IsRow-inst w (row_take i row) it) every in
+                second.names f (first.names f k each.0) (rw (inst-agrees c w first.world a first.agrees known_child) each.1));
           };
     })
 
@@ -687,7 +714,10 @@ gen_node c d x u b i t row l known is alone not_free names below r n g =
           (q.0, inst-node w l row alone ∙ ap (node (renamed w l)) same ∙ sym (inst-node w l (children t) alone) ∙ ap (inst w) (sym is));
       complete = λ w z names.
           let at_node : NamesAll term_level u (node (renamed w l) (inst w (children t))) = subst (λ (y : Tree). NamesAll term_level u y) (ap (inst w) is ∙ inst-node w l (children t) alone) names in
-          g.complete w z (rw whole at_node.1);
+          named_for
+          (λ f n. (let node_named : NamesAll f u (node (renamed w l) (inst w (children t))) = subst (λ (y : Tree). NamesAll f u y) (ap (inst w) is ∙ inst-node w l (children t) alone) n in
+          rw whole node_named.1))
+          (g.complete w z (rw whole at_node.1));
     }
   where
     no_region_level : (m : Label) → is_free_region m ≡ false → CanName u (region_level m)
@@ -729,7 +759,7 @@ gen_known c d x u b t v r k i sv st kt kv same worlds g n =
       closed = IsClosedUnder-more 0 b r (omega arith) g.closed;
       alike = AreAlike-for d r v r t refl one g.alike;
       sound = λ w z. (let q = g.sound w z in (q.0, q.1 ∙ sym (worlds w q.0)));
-      complete = λ w z names. g.complete w z (rw (worlds w z) at names);
+      complete = λ w z names. named_for (λ f n. rw (worlds w z) at n) (g.complete w z (rw (worlds w z) at names));
     }
 
 -- what the walk asks for a child

@@ -1,5 +1,5 @@
 -- What a term is under a table: the roots of variables, and their values.
-use Rattle.std.proofs.Common.{◌≡◌, ◌≢◌, ◌⊎◌, inl, inr, ⊎_elim, ℕ, zero, suc, ◌+◌, ◌<◌, ◌≤◌, List, [], ◌∷◌, length, Option, Some, None, refl, sym, ap, subst, ◌∙◌, arith}
+use Rattle.std.proofs.Common.{◌≡◌, ℕ, zero, suc, ◌<◌, List, [], ◌∷◌, length, Option, Some, None, refl, sym, ap, subst, ◌∙◌, arith}
 use Rattle.std.specs.Prelude.{slice_get}
 use Rattle.nts_model.specs.declared.labels.VariableKind.{VariableKind}
 use Rattle.nts_model.specs.declared.labels.VariableKind.TheVariants as kind
@@ -7,8 +7,8 @@ use Rattle.nts_model.specs.declared.labels.Leaf.TheVariants as leaf
 use Rattle.nts_model.specs.declared.labels.Label.{Label}
 use Rattle.nts_model.specs.declared.labels.Label.TheVariants as label
 use Rattle.nts_model.specs.Trees.{Tree, empty, more, node, NodeKind, of_sort, sort_of_variable, kind_of, kind_of_label, children, label_of, shape, Meets, in_order, HavePlaces, IsClosed as IsClosedTree}
-use Rattle.nts_model.specs.Contents.{Content, SlotState, unset, link, known, state_of, kind_at}
-use Rattle.nts_model.specs.Resolving.{variable_of, variable_tree, infer_of, IsInfer, Knows, KnowsLabel, IsSound, Reaches, here, on, resolved}
+use Rattle.nts_model.specs.Contents.{Content, known, state_of, kind_at}
+use Rattle.nts_model.specs.Resolving.{variable_of, variable_tree, infer_of, IsInfer, Knows, KnowsLabel, Reaches, here, on, resolved}
 use Rattle.nts_model.proofs.Variables.{infer_label}
 use Rattle.nts_model.proofs.Slots.{some_slot}
 use Rattle.nts_model.proofs.Roots.{kind_at-reaches}
@@ -25,8 +25,8 @@ use Rattle.nts_table.specs.Entries.{Entries}
 use Rattle.nts_table.specs.Reading.{state_with, slot_of, content_of, IsLawful}
 use Rattle.nts_table.specs.Roots.{Leads, IsRootState, IsRoot}
 use Rattle.nts_table.specs.Changing.{region_variable, region_number}
-use Rattle.nts_table.specs.Joining.{HasUnset, IsBindable, CanJoinRegions}
-use Rattle.nts_table.specs.Relating.{IsLike, IsOpen, IsClosed, IsRegionOf}
+use Rattle.nts_table.specs.Unchanged.{HasUnset}
+use Rattle.nts_table.specs.Relating.{IsLike, IsOpen, IsClosed}
 use Rattle.nts_table.proofs.Changes.{slot_at, AreHeld-at}
 
 pub state_at : (ts : List Tree) (e : Entries) (n : ℕ) (v : Variable) → slice_get e.variables n ≡ Some v → state_of (content_of ts e) n ≡ Some (state_with ts v.state)

@@ -1,24 +1,25 @@
 -- Two variables without values made one.
-use Rattle.std.proofs.Common.{◌≡◌, ◌≢◌, ◌⊎◌, inl, inr, ⊎_elim, ℕ, zero, suc, ◌+◌, ◌<◌, ◌≤◌, min, max, List, [], ◌∷◌, ◌++◌, length, Option, Some, None, refl, sym, ap, ◌∙◌, arith}
+use Rattle.std.proofs.Common.{◌≡◌, ◌≢◌, ⊎_elim, ℕ, ◌+◌, ◌<◌, ◌≤◌, min, max, List, Some, refl, sym, ap, ◌∙◌, arith}
 use Rattle.std.specs.Prelude.{slice_get, slice_set}
 use Rattle.std.proofs.lemmas.Bool.{cases_lt}
 use Rattle.nts_model.specs.declared.labels.VariableKind.{VariableKind}
 use Rattle.nts_model.specs.declared.labels.VariableKind.TheVariants as kind
 use Rattle.nts_model.specs.Trees.{Tree}
-use Rattle.nts_model.specs.Contents.{Content, Slot, SlotState, unset, link, known, state_of, universe_of, kind_at, changed, bound_to}
-use Rattle.nts_model.specs.Resolving.{Knows, IsSound, resolved, replaced, variable_tree, Lacks}
+use Rattle.nts_model.specs.Contents.{Content, SlotState, unset, link, known, state_of, universe_of, kind_at, changed}
+use Rattle.nts_model.specs.Resolving.{resolved, variable_tree}
 use Rattle.nts_model.proofs.Under.{replaced-lacks}
 use Rattle.nts_model.proofs.Slots.{some_slot, length-slice_set, slice_get-slice_set_other}
 use Rattle.nts_model.proofs.Sound.{SameStates, SameStates-changed, IsSound-same, resolved-same}
-use Rattle.nts_model.proofs.Binding.{Binds, IsLinkable, state_of-set_same, state_of-set_other, kind_at-set, resolved-link, IsSound-link, resolved-region_link, IsSound-region_link}
+use Rattle.nts_model.proofs.Binding.{IsLinkable, state_of-set_same, state_of-set_other, kind_at-set, resolved-link, IsSound-link, resolved-region_link, IsSound-region_link}
 use Rattle.nts_table.specs.declared.contents.State.{State}
 use Rattle.nts_table.specs.declared.contents.State.TheVariants.{Unset, Link, Known}
 use Rattle.nts_table.specs.declared.contents.Variable.{Variable}
 use Rattle.nts_table.specs.Entries.{Entries, with_variable, bound}
-use Rattle.nts_table.specs.Reading.{state_with, slot_of, content_of, LinksDescend, IsLawful}
+use Rattle.nts_table.specs.Reading.{state_with, slot_of, content_of, IsLawful}
 use Rattle.nts_table.specs.Roots.{SubLinked, SubRootsJoin}
 use Rattle.nts_table.specs.Changing.{unset_count, unset_of, one_unset, IsLater, Keeps}
-use Rattle.nts_table.specs.Joining.{HasUnset, CanJoin, CanJoinRegions, IsOneClass, IsJoined, Joins, RegionsJoin}
+use Rattle.nts_table.specs.Unchanged.{HasUnset}
+use Rattle.nts_table.specs.Joining.{CanJoin, CanJoinRegions, IsOneClass, IsJoined, Joins, RegionsJoin}
 use Rattle.nts_model.proofs.Solving.{Lowers}
 use Rattle.nts_model.specs.Levels.{CanName}
 use Rattle.nts_terms.specs.Growth.{tree_at}

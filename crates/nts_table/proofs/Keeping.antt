@@ -1,13 +1,13 @@
 -- What changes of a table keep.
-use Rattle.std.proofs.Common.{◌≡◌, ◌≢◌, ◌⊎◌, inl, inr, ⊎_elim, ℕ, zero, suc, ◌+◌, ◌<◌, ◌≤◌, List, [], ◌∷◌, ◌++◌, length, length-append, Option, Some, None, refl, sym, ap, ◌∙◌, arith}
+use Rattle.std.proofs.Common.{◌≡◌, ◌≢◌, ℕ, zero, suc, ◌+◌, ◌<◌, List, [], ◌∷◌, ◌++◌, length, Some, refl, sym, ap, ◌∙◌, arith}
 use Rattle.std.specs.Prelude.{slice_get, slice_set}
 use Rattle.nts_model.specs.declared.labels.VariableKind.{VariableKind}
 use Rattle.nts_model.specs.declared.labels.VariableKind.TheVariants as kind
 use Rattle.nts_model.specs.Trees.{Tree}
-use Rattle.nts_model.specs.Contents.{Content, Slot, SlotState, unset, link, known, Recorded, state_of, kind_at, with_slot, changed, bound_to, with_constraint}
-use Rattle.nts_model.specs.Resolving.{Knows, IsSound, resolved, Lacks}
-use Rattle.nts_model.proofs.Slots.{KeepsKinds, KeepsKinds-with_slot, Knows-kept, field_below, length-slice_set}
-use Rattle.nts_model.proofs.Sound.{SameStates, resolved-same, SameStates-with_constraint, resolved-with_slot, state_of-with_slot_old}
+use Rattle.nts_model.specs.Contents.{Content, Slot, SlotState, Recorded, kind_at, with_constraint}
+use Rattle.nts_model.specs.Resolving.{Knows}
+use Rattle.nts_model.proofs.Slots.{Knows-kept}
+use Rattle.nts_model.proofs.Sound.{SameStates, resolved-same, SameStates-with_constraint}
 use Rattle.nts_table.specs.Changing.{one_unset, unset_of, unset_count, IsLater, Keeps}
 
 pub IsLater-refl : (c : Content) → IsLater c c

@@ -20,3 +20,4 @@ pub mod BindLemmas
 pub mod RefusalLemmas
 pub mod Looking
 pub mod Telling
+pub mod Conditions

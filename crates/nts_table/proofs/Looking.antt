@@ -27,12 +27,12 @@ pub sizes-push : (ts : List Tree) (xs : List NodeId) (t : NodeId) → sizes ts (
 sizes-push ts [] t = omega arith
 sizes-push ts (x ∷ xs) t = omega (arith, sizes-push ts xs t)
 
-row_from-end : (r : Tree) → IsRow r → row_from (row_length r) r ≡ empty
+pub row_from-end : (r : Tree) → IsRow r → row_from (row_length r) r ≡ empty
 row_from-end empty h = refl
 row_from-end (more a b) h = rw add-one (row_from-end b h)
 row_from-end (node l x) h = absurd h
 
-row_from-step : (r : Tree) (i : ℕ) → i < row_length r → row_from i r ≡ more (row_at r i) (row_from (i + 1) r)
+pub row_from-step : (r : Tree) (i : ℕ) → i < row_length r → row_from i r ≡ more (row_at r i) (row_from (i + 1) r)
 row_from-step empty i h = absurd (omega arith)
 row_from-step (more a b) zero h = refl
 row_from-step (more a b) (suc i) h =

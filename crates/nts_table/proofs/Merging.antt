@@ -1,16 +1,15 @@
 -- Two variables of a content made one: its worlds, universes and what it holds.
-use Rattle.std.proofs.Common.{◌≡◌, ◌≢◌, ◌⊎◌, inl, inr, ⊎_elim, ℕ, ◌<◌, ◌≤◌, min, length, Some, refl, sym, ap, ◌∙◌, arith}
+use Rattle.std.proofs.Common.{◌≡◌, ◌≢◌, ◌⊎◌, inl, inr, ⊎_elim, ℕ, ◌<◌, ◌≤◌, min, Some, refl, sym, ap, ◌∙◌, arith}
 use Rattle.std.proofs.lemmas.Bool.{cases_lt}
 use Rattle.nts_model.specs.declared.labels.VariableKind.TheVariants as kind
-use Rattle.nts_model.specs.Trees.{Tree}
-use Rattle.nts_model.specs.Contents.{Content, Slot, unset, link, state_of, universe_of, changed, bound_to}
+use Rattle.nts_model.specs.Contents.{Content, Slot, link, state_of, universe_of, changed, bound_to}
 use Rattle.nts_model.specs.Resolving.{IsSound}
-use Rattle.nts_model.specs.Levels.{NamesAll, IfNamesAll, term_level}
+use Rattle.nts_model.specs.Levels.{NamesAll, term_level}
 use Rattle.nts_model.specs.Worlds.{World, Solves}
 use Rattle.nts_model.specs.Holding.{Continues}
 use Rattle.nts_model.proofs.Slots.{some_slot}
 use Rattle.nts_model.proofs.Under.{same_or_other}
-use Rattle.nts_model.proofs.Binding.{IsLinkable, Binds, IsSound-link, IsSound-region_link, state_of-set_same}
+use Rattle.nts_model.proofs.Binding.{IsLinkable, state_of-set_same}
 use Rattle.nts_model.proofs.Solving.{Lowers, NamesAll-either, universe_of-set, universe_of-lowered_same, universe_of-lowered_other, Solves-lowered, Solves-from_lowered, Solves-link, Solves-from_link, Solves-region_link, Solves-from_region_link}
 use Rattle.nts_model.proofs.Held.{Continues-refl, Continues-trans, Continues-lowered, Continues-link, Continues-region_link}
 use Rattle.nts_table.specs.Joining.{IsOneClass}
@@ -106,6 +105,16 @@ one_class b c d e low high u x y s s1 s2 m l k apart is_x is_y is_u =
             let second : NamesAll term_level y (w.tree low) = rw q (names_own b w high y h is_y) in
             let named : NamesAll term_level u (w.tree low) = NamesAll-either term_level x y u (w.tree low) (lower_of u x y is_u) first second in
             k.forth w (l.forth w (m.forth w h) named) (sym q);
+        names = λ f w z h q.
+            let first : NamesAll f x (w.tree low) = rw is_x at (h.each low) in
+            let other : NamesAll f y (w.tree high) = rw is_y at (h.each high) in
+            let named : NamesAll f u (w.tree low) = NamesAll-either f x y u (w.tree low) (lower_of u x y is_u) first (rw q other) in
+            record {
+              each = λ n. rw (k.universes n)
+                  (⊎_elim
+                  (λ (p : n ≡ low). rw (p, l.universe) named)
+                  (λ (p : n ≡ low → ⊥). rw (l.others n p, m.universes n) (h.each n)) (same_or_other n low));
+            };
       };
       root = λ i j p q.
           let first : x ≡ i = some_inj x i (sym is_x ∙ p) in

@@ -1,15 +1,14 @@
 -- Leaves of a value: the variables and regions that stand in it, old ones or fresh ones.
-use Rattle.std.proofs.Common.{◌≡◌, ◌≢◌, true, false, ℕ, ◌+◌, ◌<◌, ◌≤◌, min, max, List, [], ◌∷◌, ◌++◌, length, map, Option, Some, None, refl, sym, ap, subst, ◌∙◌, arith}
+use Rattle.std.proofs.Common.{◌≡◌, ◌≢◌, true, false, ℕ, ◌<◌, ◌≤◌, min, max, List, [], ◌∷◌, length, map, Option, Some, None, refl, sym, ap, subst, ◌∙◌, arith}
 use Rattle.std.specs.Prelude.{slice_get}
-use Rattle.nts_model.specs.declared.labels.Sort.TheVariants as sort
 use Rattle.nts_model.specs.declared.labels.Relation.TheVariants as relation
 use Rattle.nts_model.specs.declared.labels.VariableKind.{VariableKind}
 use Rattle.nts_model.specs.declared.labels.VariableKind.TheVariants as kind
 use Rattle.nts_model.specs.declared.labels.Leaf.TheVariants as leaf
 use Rattle.nts_model.specs.declared.labels.Label.{Label}
 use Rattle.nts_model.specs.declared.labels.Label.TheVariants as label
-use Rattle.nts_model.specs.Trees.{Tree, node, of_sort, kind_of, children, shape, Meets, any_label, is_infer, is_region_infer, is_placeholder}
-use Rattle.nts_model.specs.Contents.{Content, unset, state_of, kind_at, universe_of, with_slot, with_constraint}
+use Rattle.nts_model.specs.Trees.{Tree, node, children, shape, Meets, any_label, is_infer, is_region_infer, is_placeholder}
+use Rattle.nts_model.specs.Contents.{Content, unset, state_of, kind_at, universe_of, with_slot}
 use Rattle.nts_model.specs.Resolving.{variable_of, infer_of, variable_tree, IsSound, resolved, root_of, Knows}
 use Rattle.nts_model.specs.Regions.{RegionName, of_variable, IsRegion, name_of_label}
 use Rattle.nts_model.proofs.Fitting.{region_label}
@@ -25,24 +24,24 @@ use Rattle.nts_terms.specs.Facts.{facts_of, escaping}
 use Rattle.nts_terms.proofs.Escaping.{IsBelow, closed_under}
 use Rattle.nts_terms.specs.Growth.{tree_at, IsIn, Extends}
 use Rattle.nts_terms.proofs.Growing.{IsIn-extended}
-use Rattle.nts_table.specs.declared.contents.State.TheVariants.{Unset}
 use Rattle.nts_table.specs.declared.contents.Variable.{Variable}
 use Rattle.nts_table.specs.declared.contents.Constraint.{Constraint}
 use Rattle.nts_table.specs.Entries.{Entries, added, constrained}
 use Rattle.nts_table.specs.Reading.{state_with, slot_of, recorded_of, content_of, IsConstraint, AreConstraints, IsLawful}
 use Rattle.nts_table.specs.Roots.{IsRoot}
-use Rattle.nts_table.specs.Changing.{Keeps, region_variable, is_free_region}
-use Rattle.nts_table.specs.Joining.{HasUnset, CanJoin, CanJoinRegions, Joins, RegionsJoin}
+use Rattle.nts_table.specs.Changing.{region_variable, is_free_region}
+use Rattle.nts_table.specs.Unchanged.{HasUnset}
+use Rattle.nts_table.specs.Joining.{CanJoin, CanJoinRegions, Joins, RegionsJoin}
 use Rattle.nts_table.specs.Relating.{IsLike, IsUnset, IsOpen, IsRegionOf, RegionsRelate, IsSettled, StaysBelow, Generalised}
 use Rattle.nts_table.specs.Lawful.{IsNew, content_of-added, content_of-extended, IsLawful-added, IsLawful-extended}
-use Rattle.nts_table.proofs.Changes.{content_of-constrained, length-slots, IsLawful-constrained}
+use Rattle.nts_table.proofs.Changes.{length-slots}
 use Rattle.nts_table.specs.Proper.{IsSortKind}
 use Rattle.nts_table.proofs.Leading.{universe_of-entry, kind_at-entry}
-use Rattle.nts_table.proofs.Keeping.{Keeps-with_constraint, Knows-later}
+use Rattle.nts_table.proofs.Keeping.{Knows-later}
 use Rattle.nts_table.proofs.JoinLemmas.{free_slot}
 use Rattle.nts_table.proofs.RegionLemmas.{IsRegionVariable, region_variable_at, regions_joined, regions_recorded}
 use Rattle.nts_table.proofs.HeadLemmas.{region_root}
-use Rattle.nts_table.proofs.GenLemmas.{RegionNode, region_node, gen_named, gen_fresh, gen_region, gen_region_root, gen_fresh_region, gen_settled, IsAdded, slot_added}
+use Rattle.nts_table.proofs.GenLemmas.{region_node, gen_named, gen_fresh, gen_region, gen_region_root, gen_fresh_region, gen_settled, IsAdded, slot_added}
 
 some_variable : (v w : Variable) → Some v ≡ Some w → v ≡ w
 some_variable v w e = cc
@@ -223,6 +222,7 @@ RegionsRelate-turned {c} {d} {a} {b} h =
       narrows = record {
         sound = λ w z. (let q = h.narrows.sound w z in (q.0, sym q.1));
         complete = λ w z q. h.narrows.complete w z (sym q);
+        names = λ f w z k q. h.narrows.names f w z k (sym q);
       };
       alike = AreAlike-turned d a b h.alike;
     }

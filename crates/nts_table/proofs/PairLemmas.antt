@@ -1,5 +1,5 @@
 -- The pairs that are left, and their weight.
-use Rattle.std.proofs.Common.{◌≡◌, ◌⊎◌, ℕ, zero, suc, ◌+◌, ◌<◌, ◌≤◌, Bool, true, false, min, max, List, [], ◌∷◌, ◌++◌, length, Option, Some, None, refl, sym, ap, ◌∙◌, arith, add-one, Result, Ok, Err, IfOk}
+use Rattle.std.proofs.Common.{◌≡◌, ℕ, ◌+◌, ◌<◌, Bool, true, false, min, max, List, [], ◌∷◌, ◌++◌, length, Option, Some, None, refl, sym, ap, ◌∙◌, arith, Result, Ok, Err, IfOk}
 use Rattle.nts_model.specs.declared.labels.VariableKind.{VariableKind}
 use Rattle.nts_model.specs.declared.labels.Leaf.TheVariants as leaf
 use Rattle.nts_model.specs.declared.labels.Label.{Label}
@@ -8,9 +8,9 @@ use Rattle.nts_model.specs.Trees.{Tree, empty, more, node, size, row_length, row
 use Rattle.nts_model.specs.Contents.{Content, kind_at}
 use Rattle.nts_model.specs.Resolving.{Knows, variable_of, variable_tree, resolved, rooted, infer_of, IsInfer, IsSound}
 use Rattle.nts_model.specs.Worlds.{World, inst, renamed, Solves, Agrees}
-use Rattle.nts_model.specs.Holding.{AreOne, Continues}
+use Rattle.nts_model.specs.Holding.{AreOne}
 use Rattle.nts_model.specs.Alike.{AreAlike}
-use Rattle.nts_model.specs.Equations.{Extension, Equates, AllAlike, Reduces, AreRelated}
+use Rattle.nts_model.specs.Equations.{Equates, AllAlike, Reduces, AreRelated}
 use Rattle.nts_model.proofs.Variables.{infer_of_none}
 use Rattle.nts_model.proofs.Instances.{inst-node, inst-agrees, Agrees-refl, Agrees-trans}
 use Rattle.nts_model.proofs.Held.{AreOne-continues, Continues-refl, Continues-trans}
@@ -18,18 +18,20 @@ use Rattle.nts_model.proofs.Alike.{AreAlike-one, AreAlike-itself, AreAlike-for, 
 use Rattle.nts_model.proofs.Resolved.{resolved-more, resolved-empty, Knows-row_at, node_step, IsVariable, resolved-variable_link}
 use Rattle.nts_terms.specs.declared.nodes.NodeId.{NodeId}
 use Rattle.nts_terms.specs.Growth.{tree_at, IsIn, Extends}
-use Rattle.nts_terms.proofs.Growing.{IsIn-extended, Extends-refl, Extends-trans}
+use Rattle.nts_terms.proofs.Growing.{IsIn-extended, Extends-refl}
 use Rattle.nts_table.specs.declared.relate.Pair.{Pair}
 use Rattle.nts_table.specs.Entries.{Entries}
 use Rattle.nts_table.specs.Reading.{content_of, IsLawful}
 use Rattle.nts_table.specs.Changing.{unset_count, IsLater, Keeps, is_free_region}
 use Rattle.nts_table.specs.Joining.{Joins}
-use Rattle.nts_table.specs.Relating.{row_drop, IsOpen, IsClosed, IsSet, RegionsRelate, pair_at, pairs_at, ArePairsIn, AreKnown, total, Pushed, IsValid, IsStep, IsRun, Running, VariablesRelate}
+use Rattle.nts_table.specs.Knowing.{row_from}
+use Rattle.nts_table.specs.Relating.{IsOpen, IsClosed, IsSet, RegionsRelate, pair_at, pairs_at, ArePairsIn, AreKnown, total, Pushed, IsValid, IsStep, IsRun, Running, VariablesRelate}
 use Rattle.nts_table.proofs.Keeping.{IsLater-refl, IsLater-trans, Knows-later, Keeps-refl}
 use Rattle.nts_table.proofs.JoinLemmas.{free_slot, at_max}
 use Rattle.nts_table.proofs.RegionLemmas.{from_sides, to_sides}
 use Rattle.nts_table.proofs.GenLemmas.{IsFair, itself}
 use Rattle.nts_table.proofs.Naming.{lawful_sides, alone_label}
+use Rattle.nts_table.proofs.Looking.{row_from-end, row_from-step}
 
 pub pairs_at-push : (ts : List Tree) (ps : List Pair) (p : Pair) → pairs_at ts (ps ++ p ∷ []) ≡ pairs_at ts ps ++ pair_at ts p ∷ []
 pairs_at-push ts [] p = refl
@@ -110,6 +112,7 @@ Reduces-trans {c} {d} {e} {ps} {qs} {rs} s z a b =
               world = second.0.world;
               agrees = Agrees-trans (length c.slots) (length d.slots) w first.0.world second.0.world a.continues.more first.0.agrees second.0.agrees;
               solves = second.0.solves;
+              names = λ f k n. second.0.names f (first.0.names f k n) n;
             },
             second.1,
           );
@@ -264,7 +267,7 @@ heads_regions c d a b s t ka kb p q r =
       alike = AreAlike-for d s t a b left right r.alike;
       sound = λ w z. (let k = r.narrows.sound w z in (k.0, p.worlds w k.0 ∙ k.1 ∙ sym (q.worlds w k.0)));
       complete = λ w z k. (let v = r.narrows.complete w z (sym (p.worlds w z) ∙ k ∙ q.worlds w z) in
-          record { world = w; agrees = Agrees-refl (length c.slots) w; solves = v });
+          record { world = w; agrees = Agrees-refl (length c.slots) w; solves = v; names = λ f n u. r.narrows.names f w z n (sym (p.worlds w z) ∙ k ∙ q.worlds w z) });
     }
 
 -- one variable on both sides
@@ -307,6 +310,7 @@ variables_joined ts e f a b x y h ka kb o r joins =
         world = w;
         agrees = Agrees-refl (length c.slots) w;
         solves = one.narrows.complete w z (to_sides w.tree x y (sym (o.worlds w z) ∙ q ∙ r.worlds w z));
+        names = λ f n u. one.narrows.names f w z n (to_sides w.tree x y (sym (o.worlds w z) ∙ q ∙ r.worlds w z));
       };
     }
   where
@@ -326,23 +330,10 @@ step_variables ts e f ps p x y false v o q r =
     rw is (step_kept ts e e ps p v v.lawful (Keeps-refl (content_of ts e)) (variable_same ts e (tree_at ts p.left) (tree_at ts p.right) x y v.lawful o q same.1))
 
 -- the children of two nodes
-row_drop-all : (r : Tree) → IsRow r → row_drop (row_length r) r ≡ empty
-row_drop-all empty h = refl
-row_drop-all (more a b) h = rw add-one (row_drop-all b h)
-row_drop-all (node l c) h = absurd h
-
-row_drop-at : (i : ℕ) (r : Tree) → i < row_length r → row_drop i r ≡ more (row_at r i) (row_drop (i + 1) r)
-row_drop-at i empty h = absurd (omega arith)
-row_drop-at zero (more a b) h = refl
-row_drop-at (suc i) (more a b) h =
-    let e : suc i + 1 ≡ suc (i + 1) = omega arith in
-    rw e (row_drop-at i b (omega arith))
-row_drop-at i (node l c) h = absurd (omega arith)
-
 pub pushed_none : (ts : List Tree) (ps : List Pair) (a b : Tree) (i : ℕ) → IsRow a → IsRow b → i ≡ row_length a → row_length a ≡ row_length b → Pushed ts ps ps a b i
 pushed_none ts ps a b i ra rb ia ib =
-    let ea : row_drop i a ≡ empty = rw ia (row_drop-all a ra) in
-    let eb : row_drop i b ≡ empty = rw (ia, ib) (row_drop-all b rb) in
+    let ea : row_from i a ≡ empty = rw ia (row_from-end a ra) in
+    let eb : row_from i b ≡ empty = rw (ia, ib) (row_from-end b rb) in
     record {
       within = λ h. h;
       known = λ c ka kb h. h;
@@ -355,8 +346,8 @@ pushed_none ts ps a b i ra rb ia ib =
 pub pushed_more : (ts : List Tree) (ps qs rs : List Pair) (a b : Tree) (i j : ℕ) (x y : NodeId) → Pushed ts ps qs a b j → j ≡ i + 1 → i < row_length a → i < row_length b → IsIn ts x → IsIn ts y → tree_at ts x ≡ row_at a i → tree_at ts y ≡ row_at b i → rs ≡ qs ++ record { left = x; right = y } ∷ [] → Pushed ts ps rs a b i
 pushed_more ts ps qs rs a b i j x y h next la lb ix iy ex ey e =
     let p : Pair = record { left = x; right = y } in
-    let da = row_drop-at i a la in
-    let db = row_drop-at i b lb in
+    let da = row_from-step a i la in
+    let db = row_from-step b i lb in
     record {
       within = λ w. rw e (ArePairsIn-push ts qs p (h.within w) ix iy);
       known = λ c ka kb w.
@@ -367,22 +358,22 @@ pushed_more ts ps qs rs a b i j x y h next la lb ix iy ex ey e =
           let q : Equates w (pairs_at ts qs ++ pair_at ts p ∷ []) = rw (e, pairs_at-push ts qs p) at z in
           let parts = Equates-front w (pairs_at ts qs) (pair_at ts p) q in
           let rest = h.sound w parts.0 in
-          let tail : inst w (row_drop (i + 1) a) ≡ inst w (row_drop (i + 1) b) = rw next at rest.1 in
+          let tail : inst w (row_from (i + 1) a) ≡ inst w (row_from (i + 1) b) = rw next at rest.1 in
           (rest.0, ap (inst w) da ∙ (λ k. more (head_one w parts.1 k) (tail k)) ∙ sym (ap (inst w) db));
       complete = λ w z q.
-          let split : more (inst w (row_at a i)) (inst w (row_drop (i + 1) a)) ≡ more (inst w (row_at b i)) (inst w (row_drop (i + 1) b)) = sym (ap (inst w) da) ∙ q ∙ ap (inst w) db in
+          let split : more (inst w (row_at a i)) (inst w (row_from (i + 1) a)) ≡ more (inst w (row_at b i)) (inst w (row_from (i + 1) b)) = sym (ap (inst w) da) ∙ q ∙ ap (inst w) db in
           let parts = more_eq _ _ _ _ split in
-          let tail : inst w (row_drop j a) ≡ inst w (row_drop j b) = rw next parts.1 in
+          let tail : inst w (row_from j a) ≡ inst w (row_from j b) = rw next parts.1 in
           rw (e, pairs_at-push ts qs p) (Equates-push w (pairs_at ts qs) (pair_at ts p) (h.complete w z tail) (ap (inst w) ex ∙ parts.0 ∙ sym (ap (inst w) ey)));
       alike = λ c z.
           let q : AllAlike c (pairs_at ts qs ++ pair_at ts p ∷ []) = rw (e, pairs_at-push ts qs p) at z in
           let parts = AllAlike-front c (pairs_at ts qs) (pair_at ts p) q in
           let rest = h.alike c parts.0 in
-          let tail : AreAlike c (row_drop (i + 1) a) (row_drop (i + 1) b) = rw next at rest.1 in
+          let tail : AreAlike c (row_from (i + 1) a) (row_from (i + 1) b) = rw next at rest.1 in
           let first : AreAlike c (row_at a i) (row_at b i) = rw (ex, ey) at parts.1 in
-          (rest.0, rw (da, db) (AreAlike-more c (row_at a i) (row_drop (i + 1) a) (row_at b i) (row_drop (i + 1) b) first tail));
+          (rest.0, rw (da, db) (AreAlike-more c (row_at a i) (row_from (i + 1) a) (row_at b i) (row_from (i + 1) b) first tail));
       weight = λ c.
-          omega (arith, ap (λ z. total c (pairs_at ts z)) e, total-last ts c qs p, rw next at (h.weight c), ap row_length da, ap (λ t. size (resolved c t)) da, ap (λ t. size (resolved c t)) db, ap size (resolved-more c (row_at a i) (row_drop (i + 1) a)), ap size (resolved-more c (row_at b i) (row_drop (i + 1) b)), ap (λ t. size (resolved c t)) ex, ap (λ t. size (resolved c t)) ey);
+          omega (arith, ap (λ z. total c (pairs_at ts z)) e, total-last ts c qs p, rw next at (h.weight c), ap row_length da, ap (λ t. size (resolved c t)) da, ap (λ t. size (resolved c t)) db, ap size (resolved-more c (row_at a i) (row_from (i + 1) a)), ap size (resolved-more c (row_at b i) (row_from (i + 1) b)), ap (λ t. size (resolved c t)) ex, ap (λ t. size (resolved c t)) ey);
     }
   where
     head_one : (w : World) → inst w (tree_at ts x) ≡ inst w (tree_at ts y) → inst w (row_at a i) ≡ inst w (row_at b i)

@@ -1,6 +1,5 @@
 -- Why no world makes a variable one with a tree, or two trees one.
-use Rattle.std.proofs.Common.{◌≡◌, ◌≢◌, ◌⊎◌, inl, inr, ⊎_elim, ℕ, zero, suc, ◌+◌, ◌<◌, ◌≤◌, Bool, true, false, List, [], ◌∷◌, ◌++◌, length, Option, Some, None, refl, sym, ap, subst, ◌∙◌, arith}
-use Rattle.nts_model.specs.declared.labels.Sort.TheVariants as sort
+use Rattle.std.proofs.Common.{◌≡◌, ⊎_elim, ℕ, zero, suc, ◌+◌, ◌<◌, ◌≤◌, Bool, true, false, List, [], ◌∷◌, ◌++◌, length, Option, Some, None, refl, sym, ap, subst, ◌∙◌, arith}
 use Rattle.nts_model.specs.declared.labels.VariableKind.{VariableKind}
 use Rattle.nts_model.specs.declared.labels.VariableKind.TheVariants as kind
 use Rattle.nts_model.specs.declared.labels.FreeRegion.{FreeRegion}
@@ -9,14 +8,12 @@ use Rattle.nts_model.specs.declared.labels.Label.{Label}
 use Rattle.nts_model.specs.declared.labels.Label.TheVariants as label
 use Rattle.nts_model.specs.Trees.{Tree, empty, more, node, size, children, label_of, IsRow, row_length, row_at, row_take, IsBoundBelow, IsClosedUnder, IsClosed, binders, NodeKind, of_sort, kind_of, kind_of_label, sort_of_variable}
 use Rattle.nts_model.specs.Contents.{Content, kind_at, universe_of}
-use Rattle.nts_model.specs.Resolving.{variable_of, infer_of, IsInfer, Knows, KnowsLabel, variable_flag, flag}
+use Rattle.nts_model.specs.Resolving.{variable_of, infer_of, IsInfer, Knows, KnowsLabel, variable_flag}
 use Rattle.nts_model.specs.Levels.{CanName, NamesAll, term_level}
 use Rattle.nts_model.specs.Regions.{IsRegion}
-use Rattle.nts_model.specs.Worlds.{World, inst, renamed, Solves, Agrees}
-use Rattle.nts_model.specs.Equations.{Extension, Equates, Reduces, Refuses, AreUnrelated}
-use Rattle.nts_model.proofs.Variables.{infer_label, infer_of_none}
+use Rattle.nts_model.specs.Worlds.{World, inst, renamed, Solves}
+use Rattle.nts_model.specs.Equations.{Reduces, Refuses, AreUnrelated}
 use Rattle.nts_model.proofs.Resolved.{Knows-row_at, flag_le}
-use Rattle.nts_model.proofs.Kept.{variable_label}
 use Rattle.nts_model.proofs.Instances.{inst-node, inst-variable, inst-agrees}
 use Rattle.nts_model.proofs.Fitting.{Fits-kind_of, IsClosed-inst, kind_of_label-renamed}
 use Rattle.nts_model.proofs.Refuting.{names-node, closed-node, tree-named, one_node, IsFreeRegion, lengths_refute, sorts_refute}

@@ -1,20 +1,18 @@
 -- Two free regions made equal.
-use Rattle.std.proofs.Common.{◌≡◌, ◌≢◌, ◌⊎◌, inl, inr, ⊎_elim, ℕ, ◌<◌, ◌≤◌, min, max, true, List, [], ◌∷◌, Option, Some, None, refl, sym, ap, subst, ◌∙◌, arith}
+use Rattle.std.proofs.Common.{◌≡◌, ⊎_elim, ℕ, ◌<◌, ◌≤◌, min, max, true, List, [], Some, refl, sym, ap, subst, ◌∙◌, arith}
 use Rattle.std.proofs.lemmas.Bool.{cases_lt}
 use Rattle.nts_model.specs.declared.labels.Sort.TheVariants as sort
 use Rattle.nts_model.specs.declared.labels.Relation.TheVariants as relation
-use Rattle.nts_model.specs.declared.labels.VariableKind.{VariableKind}
 use Rattle.nts_model.specs.declared.labels.VariableKind.TheVariants as kind
 use Rattle.nts_model.specs.declared.labels.Leaf.TheVariants as leaf
 use Rattle.nts_model.specs.declared.labels.Label.{Label}
 use Rattle.nts_model.specs.declared.labels.Label.TheVariants as label
-use Rattle.nts_model.specs.Trees.{Tree, empty, more, node, children, shape, Meets, in_order, HavePlaces, kind_of, kind_of_label, of_sort}
-use Rattle.nts_model.specs.Contents.{Content, Recorded, link, state_of, kind_at, with_constraint}
+use Rattle.nts_model.specs.Trees.{Tree, empty, more, node, children, shape, Meets, HavePlaces, kind_of, kind_of_label, of_sort}
+use Rattle.nts_model.specs.Contents.{Content, kind_at, with_constraint}
 use Rattle.nts_model.specs.Resolving.{variable_tree, Knows, IsSound, deeply_resolved, root_of}
 use Rattle.nts_model.specs.Worlds.{World, inst, Solves}
 use Rattle.nts_model.specs.Regions.{of_variable, of_free, IsRegion}
 use Rattle.nts_model.specs.Holding.{AreOne}
-use Rattle.nts_model.specs.Alike.{AreAlike}
 use Rattle.nts_model.proofs.Roots.{root_of-link, root_of-root_of, kind_at-root_of}
 use Rattle.nts_model.proofs.Sound.{IsSound-with_constraint}
 use Rattle.nts_model.proofs.Resolved.{resolved-empty, deeply_resolved-node}
@@ -118,6 +116,7 @@ regions_same c a b x y r s h va vb same =
       narrows = record {
         sound = λ w z. (z, inst-is w c a x r va z ∙ ap w.tree same ∙ sym (inst-is w c b y s vb z));
         complete = λ w z q. z;
+        names = λ f w z k q. k;
       };
       alike = AreAlike-one c a b one;
     }
@@ -152,6 +151,7 @@ regions_joined ts e f a b x y r s h va vb j =
       narrows = record {
         sound = λ w z. (let q = one.narrows.sound w z in (q.0, inst-is w c a x r va q.0 ∙ from_sides w.tree r s q.1 ∙ sym (inst-is w c b y s vb q.0)));
         complete = λ w z q. one.narrows.complete w z (to_sides w.tree r s (sym (inst-is w c a x r va z) ∙ q ∙ inst-is w c b y s vb z));
+        names = λ f w z k q. one.narrows.names f w z k (to_sides w.tree r s (sym (inst-is w c a x r va z) ∙ q ∙ inst-is w c b y s vb z));
       };
       alike = AreAlike-one d a b all;
     }
@@ -177,6 +177,7 @@ regions_recorded ts e f x h left right equal q =
       narrows = record {
         sound = λ w z. (let p = Solves-from_with_constraint c (recorded_of ts x) w z in (p.0, rw equal at p.1));
         complete = λ w z p. Solves-with_constraint c (recorded_of ts x) w z (rw equal p);
+        names = λ f w z k p. record { each = k.each };
       };
       alike = AreAlike-regions d a b (IsSound-with_constraint c (recorded_of ts x) h.sound) left.free right.free held;
     })

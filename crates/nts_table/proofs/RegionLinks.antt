@@ -17,11 +17,12 @@ use Rattle.nts_table.specs.declared.contents.Variable.{Variable}
 use Rattle.nts_table.specs.Entries.{Entries, Table, with_variable}
 use Rattle.nts_table.specs.Reading.{content_of, state_with, IsLawful, IsTable}
 use Rattle.nts_table.specs.Roots.{IsRoot}
-use Rattle.nts_table.specs.Equating.{RegionsLinked, RegionsJoined, region_number, region_variable}
+use Rattle.nts_table.specs.Equating.{RegionsLinked, RegionsJoined, region_of}
+use Rattle.nts_table.specs.Changing.{region_of_variable}
 use Rattle.nts_table.specs.Setting.{proper_lowered, LeadsDown, IsLawful-marked, IsLawful-region_link, IsTable-now}
 use Rattle.nts_table.proofs.Leading.{state_of-entry, kind_at-entry, Reaches-leads}
 
-known_region_at : (c : Content) (o : Option (VariableKind × ℕ)) (l : Label) (t : Tree) (x : ℕ) → variable_of l ≡ o → Knows c (node l t) → region_number o ≡ Some x → kind_at c x ≡ Some kind.Region
+known_region_at : (c : Content) (o : Option (VariableKind × ℕ)) (l : Label) (t : Tree) (x : ℕ) → variable_of l ≡ o → Knows c (node l t) → region_of_variable o ≡ Some x → kind_at c x ≡ Some kind.Region
 known_region_at c None l t x q h e = cc
 known_region_at c (Some (kind.Ty, n)) l t x q h e = cc
 known_region_at c (Some (kind.Int, n)) l t x q h e = cc
@@ -31,7 +32,7 @@ known_region_at c (Some (kind.Region, n)) l t x q h e =
     let same : n ≡ x = cc in let k = rw q at h.0 in rw (← same) k
 
 -- a region variable of a known tree is one of the table
-pub known_region : (c : Content) (t : Tree) (x : ℕ) → Knows c t → region_variable t ≡ Some x → kind_at c x ≡ Some kind.Region
+pub known_region : (c : Content) (t : Tree) (x : ℕ) → Knows c t → region_of t ≡ Some x → kind_at c x ≡ Some kind.Region
 known_region c empty x h e = cc
 known_region c (more a b) x h e = cc
 known_region c (node l t) x h e = known_region_at c (variable_of l) l t x refl h e

@@ -6,7 +6,7 @@ use Rattle.nts_model.specs.declared.labels.Leaf.TheVariants as leaf
 use Rattle.nts_model.specs.declared.labels.Label.{Label}
 use Rattle.nts_model.specs.declared.labels.Label.TheVariants as label
 use Rattle.nts_model.specs.Trees.{Tree}
-use Rattle.nts_model.specs.Contents.{Content, Slot, SlotState, unset, link, known, state_of, kind_at}
+use Rattle.nts_model.specs.Contents.{Content, Slot, SlotState, unset, state_of, kind_at}
 use Rattle.nts_model.specs.Resolving.{Knows, resolved, variable_of}
 
 -- the variable of a region

@@ -1,16 +1,14 @@
 -- Two regions made equal.
 use Rattle.std.specs.Prelude.{◌≡◌, ◌⊎◌, ℕ, min, max, List, Option, Some, None, Bool, slice_get}
-use Rattle.nts_model.specs.declared.labels.VariableKind.{VariableKind}
-use Rattle.nts_model.specs.declared.labels.VariableKind.TheVariants as kind
 use Rattle.nts_model.specs.declared.labels.Relation.TheVariants as relation
 use Rattle.nts_model.specs.Trees.{Tree, empty, more, node}
-use Rattle.nts_model.specs.Resolving.{variable_of}
 use Rattle.nts_terms.specs.declared.nodes.NodeId.{NodeId}
 use Rattle.nts_terms.specs.Growth.{tree_at}
 use Rattle.nts_table.specs.declared.contents.State.TheVariants.{Link}
 use Rattle.nts_table.specs.declared.contents.Variable.{Variable}
 use Rattle.nts_table.specs.Entries.{Entries, with_variable}
 use Rattle.nts_table.specs.Roots.{IsRoot}
+use Rattle.nts_table.specs.Changing.{region_variable}
 use Rattle.nts_table.specs.Recording.{Records}
 
 -- two roots become one: the lower number, in the lower universe
@@ -30,15 +28,11 @@ pub record RegionsJoined (e f : Entries) (x y : ℕ) : Type 0 where
   pub of_second : IsRoot e y second
   pub joined : ((first ≡ second) × (f ≡ e)) ⊎ RegionsLinked e f first second
 
--- the number of a region variable
-abbrev pub region_number : Option (VariableKind × ℕ) → Option ℕ
-region_number (Some (kind.Region, n)) = Some n
-region_number o = None
-
-abbrev pub region_variable : Tree → Option ℕ
-region_variable empty = None
-region_variable (more a b) = None
-region_variable (node l x) = region_number (variable_of l)
+-- the number of the region variable that a tree is
+abbrev pub region_of : Tree → Option ℕ
+region_of empty = None
+region_of (more a b) = None
+region_of (node l x) = region_variable l
 
 -- two variables are joined, and of other regions it is recorded that they are equal
 abbrev pub EquatedAt : Option ℕ → Option ℕ → List Tree → Entries → Entries → NodeId → NodeId → Bool → Type 0
@@ -48,4 +42,4 @@ EquatedAt o p ts e f a b visible =
 
 abbrev pub Equated : List Tree → Entries → Entries → NodeId → NodeId → Bool → Type 0
 Equated ts e f a b visible =
-    EquatedAt (region_variable (tree_at ts a)) (region_variable (tree_at ts b)) ts e f a b visible
+    EquatedAt (region_of (tree_at ts a)) (region_of (tree_at ts b)) ts e f a b visible

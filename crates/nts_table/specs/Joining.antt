@@ -1,26 +1,18 @@
 -- What a table needs before two variables are joined, and what it is afterwards.
-use Rattle.std.specs.Prelude.{◌≡◌, ◌≢◌, ℕ, ◌+◌, ◌<◌, min, max, List, Some, slice_get, length}
+use Rattle.std.specs.Prelude.{◌≡◌, ◌≢◌, ℕ, ◌+◌, min, max, List, Some}
 use Rattle.nts_model.specs.declared.labels.VariableKind.{VariableKind}
 use Rattle.nts_model.specs.declared.labels.VariableKind.TheVariants as kind
 use Rattle.nts_model.specs.Trees.{Tree}
-use Rattle.nts_model.specs.Contents.{Content, link, state_of, universe_of, kind_at}
+use Rattle.nts_model.specs.Contents.{Content, link, state_of, universe_of}
 use Rattle.nts_model.specs.Resolving.{Lacks, resolved}
 use Rattle.nts_model.specs.Holding.{Continues}
 use Rattle.nts_model.specs.Equations.{Narrows}
-use Rattle.nts_table.specs.declared.contents.Variable.{Variable}
-use Rattle.nts_table.specs.declared.contents.State.TheVariants.{Unset}
 use Rattle.nts_table.specs.Entries.{Entries}
 use Rattle.nts_table.specs.Reading.{content_of, IsLawful, LinksDescend}
 use Rattle.nts_table.specs.Changing.{IsLater, Keeps, unset_count}
+use Rattle.nts_table.specs.Unchanged.{HasUnset}
 
--- the table has the variable, of that kind and without a value
-pub record HasUnset (e : Entries) (n : ℕ) (k : VariableKind) : Type 0 where
-  pub variable : Variable
-  pub at : slice_get e.variables n ≡ Some variable
-  pub of_kind : variable.kind ≡ k
-  pub state : variable.state ≡ Unset
-
--- .. of a kind that has values
+-- the table has the variable without a value, of a kind that has values
 pub record IsBindable (e : Entries) (n : ℕ) : Type 0 where
   pub of_kind : VariableKind
   pub no_region : of_kind ≢ kind.Region

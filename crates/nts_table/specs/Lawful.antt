@@ -1,21 +1,20 @@
 -- Entries that go with a store: what keeps them lawful.
-use Rattle.std.proofs.Common.{◌≡◌, ◌⊎◌, inl, inr, ⊎_elim, ℕ, zero, suc, ◌+◌, ◌<◌, ◌≤◌, List, [], ◌∷◌, ◌++◌, length, map, Some, None, refl, sym, ap, ◌∙◌, arith, length-append}
-use Rattle.std.specs.Prelude.{slice_get, slice_set}
+use Rattle.std.proofs.Common.{◌≡◌, ◌⊎◌, inl, inr, ⊎_elim, ℕ, List, [], ◌∷◌, ◌++◌, length, map, Some, None, refl, sym, ap, ◌∙◌}
+use Rattle.std.specs.Prelude.{slice_get}
 use Rattle.std.proofs.lemmas.List.{map-append}
 use Rattle.nts_model.specs.Trees.{Tree}
-use Rattle.nts_model.specs.Contents.{Content, Slot, unset, known, with_slot, changed, with_constraint, in_universe, kind_at}
-use Rattle.nts_model.specs.Resolving.{Knows, IsSound}
-use Rattle.nts_model.proofs.Slots.{KeepsKinds, KeepsKinds-with_slot, Knows-kept, slice_get-push_old, slice_get-push_new, slice_get_below}
+use Rattle.nts_model.specs.Contents.{Content, unset, known, with_slot, with_constraint, in_universe}
+use Rattle.nts_model.proofs.Slots.{KeepsKinds, KeepsKinds-with_slot, Knows-kept, slice_get-push_old, slice_get-push_new}
 use Rattle.nts_model.proofs.Under.{same_or_other}
 use Rattle.nts_model.proofs.Sound.{IsSound-with_slot, IsSound-with_constraint, IsSound-in_universe}
-use Rattle.nts_terms.specs.Growth.{tree_at, IsIn, Extends}
-use Rattle.nts_terms.proofs.Growing.{IsIn-extended, Extends-refl}
+use Rattle.nts_terms.specs.Growth.{tree_at, Extends}
+use Rattle.nts_terms.proofs.Growing.{IsIn-extended}
 use Rattle.nts_table.specs.declared.contents.State.{State}
 use Rattle.nts_table.specs.declared.contents.State.TheVariants.{Unset, Link, Known}
 use Rattle.nts_table.specs.declared.contents.Variable.{Variable}
 use Rattle.nts_table.specs.declared.contents.Constraint.{Constraint}
 use Rattle.nts_table.specs.Entries.{Entries, Table, added, moved, constrained}
-use Rattle.nts_table.specs.Proper.{IsSortKind, IsProper, IsProper-empty, IsProper-with_slot, IsProper-with_constraint, IsProper-in_universe}
+use Rattle.nts_table.specs.Proper.{IsSortKind, IsProper-empty, IsProper-with_slot, IsProper-with_constraint, IsProper-in_universe}
 use Rattle.nts_table.specs.Reading.{state_with, slot_of, recorded_of, content_of, IsHeldState, AreHeld, IsConstraint, AreConstraints, LinksDescend, IsLawful, AllLawful, IsTable}
 
 state_with-extended : (a b : List Tree) (s : State) → Extends a b → IsHeldState a s → state_with b s ≡ state_with a s

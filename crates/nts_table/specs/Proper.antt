@@ -1,5 +1,5 @@
 -- What each table keeps beyond that its values stand for trees, and which changes keep it.
-use Rattle.std.proofs.Common.{◌≡◌, ◌≢◌, ◌⊎◌, inl, inr, ⊎_elim, ℕ, ◌<◌, ◌≤◌, [], length, Some, None, refl, sym, ap, ◌∙◌, arith}
+use Rattle.std.proofs.Common.{◌≡◌, ⊎_elim, ℕ, ◌<◌, [], length, Some, refl, sym, ap, ◌∙◌, arith}
 use Rattle.nts_model.specs.declared.labels.Relation.{Relation}
 use Rattle.nts_model.specs.declared.labels.Relation.TheVariants as relation
 use Rattle.nts_model.specs.declared.labels.VariableKind.{VariableKind}
@@ -12,8 +12,8 @@ use Rattle.nts_model.specs.Worlds.{IsValue}
 use Rattle.nts_model.specs.RegionClasses.{AreRegions}
 use Rattle.nts_model.specs.Solvable.{IsSolvable}
 use Rattle.nts_model.proofs.Under.{same_or_other}
-use Rattle.nts_model.proofs.Slots.{no_slot, field_below, field-with_slot_new, field-with_slot_old, field-changed_kept}
-use Rattle.nts_model.proofs.Binding.{Binds, IsKnowable, IsLinkable, kind_at-set}
+use Rattle.nts_model.proofs.Slots.{field_below, field-with_slot_new, field-with_slot_old, field-changed_kept}
+use Rattle.nts_model.proofs.Binding.{IsKnowable, IsLinkable, kind_at-set}
 use Rattle.nts_model.proofs.Solving.{Lowers, kind_at-lowered, state_of-lowered}
 use Rattle.nts_model.proofs.Levelled.{AreRegionsLevelled-with_slot, AreRegionsLevelled-with_constraint, AreRegionsLevelled-in_universe, AreRegionsLevelled-lowered, AreRegionsLevelled-known, AreRegionsLevelled-link, AreRegionsLevelled-region_link}
 use Rattle.nts_model.proofs.Solvable.{IsSolvable-empty, IsSolvable-with_slot, IsSolvable-with_constraint, IsSolvable-in_universe, IsSolvable-lowered, IsSolvable-sub_linked, IsSolvable-known, IsSolvable-link, IsSolvable-region_link}

@@ -1,5 +1,5 @@
 -- What the steps of relating do to a table.
-use Rattle.std.specs.Prelude.{◌≡◌, ◌≢◌, ℕ, zero, suc, ◌+◌, ◌≤◌, ◌<◌, List, [], ◌∷◌, ◌++◌, length, map, Option, Some, None, Bool, true, false}
+use Rattle.std.specs.Prelude.{◌≡◌, ◌≢◌, ℕ, ◌+◌, ◌≤◌, ◌<◌, List, [], ◌∷◌, Option, Some, None, Bool, true, false}
 use Rattle.nts_model.specs.declared.labels.VariableKind.{VariableKind}
 use Rattle.nts_model.specs.declared.labels.VariableKind.TheVariants as kind
 use Rattle.nts_model.specs.declared.labels.Sort.TheVariants as sort
@@ -11,7 +11,7 @@ use Rattle.nts_model.specs.Worlds.{World, inst, Solves}
 use Rattle.nts_model.specs.Holding.{Continues}
 use Rattle.nts_model.specs.Regions.{IsRegion}
 use Rattle.nts_model.specs.Alike.{AreAlike}
-use Rattle.nts_model.specs.Equations.{Extension, Equates, AllAlike, Narrows, Reduces}
+use Rattle.nts_model.specs.Equations.{ExtensionIf, Extension, Equates, AllAlike, Narrows, Reduces}
 use Rattle.nts_terms.specs.declared.nodes.NodeId.{NodeId}
 use Rattle.nts_terms.specs.declared.facts.Facts.{Facts}
 use Rattle.nts_terms.specs.Growth.{tree_at, IsIn}
@@ -22,13 +22,7 @@ use Rattle.nts_table.specs.Entries.{Entries}
 use Rattle.nts_table.specs.Reading.{content_of, IsLawful}
 use Rattle.nts_table.specs.Changing.{IsLater, Keeps, unset_count}
 use Rattle.nts_table.specs.Joining.{IsBindable, Joins}
-
--- the trees of a list from the i-th on
-abbrev pub row_drop : ℕ → Tree → Tree
-row_drop zero r = r
-row_drop (suc i) empty = empty
-row_drop (suc i) (more a b) = row_drop i b
-row_drop (suc i) (node l c) = empty
+use Rattle.nts_table.specs.Knowing.{row_from}
 
 -- a list of trees of the same sorts
 abbrev pub IsLike : Tree → Tree → Type 0
@@ -62,7 +56,7 @@ pub record Generalised (c d : Content) (x u b : ℕ) (t r : Tree) : Type 0 where
   pub closed : IsClosedUnder b r
   pub alike : AreAlike d r t
   pub sound : (w : World) → Solves d w → Solves c w × (inst w r ≡ inst w t)
-  pub complete : (w : World) → Solves c w → NamesAll term_level u (inst w t) → Extension c d w
+  pub complete : (w : World) → Solves c w → NamesAll term_level u (inst w t) → ExtensionIf c d w (λ f. NamesAll f u (inst w t))
 
 -- the walk may refuse the tree: no instance of it that the universe names and that is closed is the
 -- tree of the variable x, since each is larger
@@ -149,10 +143,10 @@ total c (p ∷ ps) = size (resolved c p.0) + size (resolved c p.1) + 1 + total c
 pub record Pushed (ts : List Tree) (ps qs : List Pair) (a b : Tree) (i : ℕ) : Type 0 where
   pub within : ArePairsIn ts ps → ArePairsIn ts qs
   pub known : (c : Content) → Knows c a → Knows c b → AreKnown c (pairs_at ts ps) → AreKnown c (pairs_at ts qs)
-  pub sound : (w : World) → Equates w (pairs_at ts qs) → Equates w (pairs_at ts ps) × (inst w (row_drop i a) ≡ inst w (row_drop i b))
-  pub complete : (w : World) → Equates w (pairs_at ts ps) → inst w (row_drop i a) ≡ inst w (row_drop i b) → Equates w (pairs_at ts qs)
-  pub alike : (c : Content) → AllAlike c (pairs_at ts qs) → AllAlike c (pairs_at ts ps) × AreAlike c (row_drop i a) (row_drop i b)
-  pub weight : (c : Content) → total c (pairs_at ts qs) + row_length (row_drop i a) ≡ total c (pairs_at ts ps) + size (resolved c (row_drop i a)) + size (resolved c (row_drop i b))
+  pub sound : (w : World) → Equates w (pairs_at ts qs) → Equates w (pairs_at ts ps) × (inst w (row_from i a) ≡ inst w (row_from i b))
+  pub complete : (w : World) → Equates w (pairs_at ts ps) → inst w (row_from i a) ≡ inst w (row_from i b) → Equates w (pairs_at ts qs)
+  pub alike : (c : Content) → AllAlike c (pairs_at ts qs) → AllAlike c (pairs_at ts ps) × AreAlike c (row_from i a) (row_from i b)
+  pub weight : (c : Content) → total c (pairs_at ts qs) + row_length (row_from i a) ≡ total c (pairs_at ts ps) + size (resolved c (row_from i a)) + size (resolved c (row_from i b))
 
 pub record IsValid (ts : List Tree) (e : Entries) (ps : List Pair) : Type 0 where
   pub lawful : IsLawful ts e

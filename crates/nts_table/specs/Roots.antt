@@ -1,5 +1,5 @@
 -- Where the links of variables lead, by the entries alone.
-use Rattle.std.specs.Prelude.{◌≡◌, ◌⊎◌, ℕ, ◌<◌, min, max, length, Option, Some, None, slice_get}
+use Rattle.std.specs.Prelude.{◌≡◌, ◌⊎◌, ℕ, ◌<◌, min, max, length, Some, None, slice_get}
 use Rattle.nts_table.specs.declared.contents.State.{State}
 use Rattle.nts_table.specs.declared.contents.State.TheVariants.{Unset, Link, Known}
 use Rattle.nts_table.specs.declared.contents.Variable.{Variable}

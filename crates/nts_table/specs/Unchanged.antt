@@ -8,7 +8,7 @@ use Rattle.nts_table.specs.declared.contents.Variable.{Variable}
 use Rattle.nts_table.specs.Entries.{Entries}
 
 -- the table has the variable, of that kind, as a root without a value
-pub record IsOwnRoot (e : Entries) (k : VariableKind) (n : ℕ) : Type 0 where
+pub record HasUnset (e : Entries) (n : ℕ) (k : VariableKind) : Type 0 where
   pub variable : Variable
   pub at : slice_get e.variables n ≡ Some variable
   pub of_kind : variable.kind ≡ k
@@ -16,7 +16,7 @@ pub record IsOwnRoot (e : Entries) (k : VariableKind) (n : ℕ) : Type 0 where
 
 abbrev pub IsUnchangedAt : Entries → Option (VariableKind × ℕ) → Type 0
 IsUnchangedAt e None = Unit {0}
-IsUnchangedAt e (Some v) = IsOwnRoot e v.0 v.1
+IsUnchangedAt e (Some v) = HasUnset e v.1 v.0
 
 -- a term that is a variable is its own root
 abbrev pub IsUnchanged : Entries → Tree → Type 0

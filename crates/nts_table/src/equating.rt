@@ -9,14 +9,13 @@ ghost use Rattle.nts_terms.specs.Growth.{tree_at, IsIn};
 ghost use Rattle.nts_terms.specs.Handles.{HoldsRegion};
 ghost use Rattle.nts_table.specs.Reading.{content_of, IsTable, LinksDescend};
 ghost use Rattle.nts_table.specs.Recording.{is_visible};
-ghost use Rattle.nts_table.specs.Equating.{Equated, RegionsJoined, RegionsLinked, region_variable};
+ghost use Rattle.nts_table.specs.Equating.{Equated, RegionsJoined, RegionsLinked, region_of};
 
 use crate::constraints::is_seen;
 use crate::contents::{Constraint, State, Variable};
 use crate::infer_ctxt::InferCtxt;
-use crate::labels::names_free_region;
-use crate::named::named_variable;
-use nts_model::{Relation, VariableKind};
+use crate::labels::{names_free_region, region_number};
+use nts_model::Relation;
 use nts_terms::{Cx, Fault, NodeId, Nodes, Region, Span, VisibleForLeakCheck};
 use std::alloc::AllocError;
 
@@ -45,10 +44,7 @@ impl InferCtxt {
         ensures err { OnErr result (self.new ≡ self.old) }
         ensures memory { IsOkUnless result Fault.Memory }
     {
-        match (
-            region_number(&cx.nodes, a.node),
-            region_number(&cx.nodes, b.node),
-        ) {
+        match (region_at(&cx.nodes, a.node), region_at(&cx.nodes, b.node)) {
             (Some(x), Some(y)) => {
                 self.join_regions_of(x, y)?;
                 Ok(())
@@ -95,7 +91,7 @@ impl InferCtxt {
     }
 
     /// Links one root to the other. After an error the universe may be changed.
-    fn link_regions(&mut self, r: usize, s: usize) -> Result<(), AllocError>
+    pub(crate) fn link_regions(&mut self, r: usize, s: usize) -> Result<(), AllocError>
         requires within_r { r < length self.old.entries.variables }
         requires within_s { s < length self.old.entries.variables }
         requires apart { r ≡ s → ⊥ }
@@ -115,14 +111,11 @@ impl InferCtxt {
 }
 
 /// The number of a term that is a region variable.
-fn region_number(nodes: &Nodes, t: NodeId) -> Option<usize>
+fn region_at(nodes: &Nodes, t: NodeId) -> Option<usize>
     requires { IsIn nodes.now t }
-    ensures { result ≡ region_variable (tree_at nodes.now t) }
+    ensures { result ≡ region_of (tree_at nodes.now t) }
 {
-    match named_variable(nodes.label(t)) {
-        Some((VariableKind::Region, n)) => Some(n),
-        _ => None,
-    }
+    region_number(nodes.label(t))
 }
 
 /// Whether a region is no bound variable, so that it can be made equal to others.

@@ -35,23 +35,6 @@ pub fn join_regions(table: &mut InferCtxt, x: usize, y: usize) -> Result<(), All
     ensures saved { table.new.saved ≡ table.old.saved }
     ensures mode { table.new.mode ≡ table.old.mode }
 {
-    let low = x.min(y);
-    let high = x.max(y);
-    let root = table.variable(low);
-    let linked = table.variable(high);
-    let lowered = root.universe.min(linked.universe);
-    let new_root = Variable {
-        universe: lowered,
-        ..root
-    };
-    table.set(low, new_root)?;
-    let link = State::Link(low);
-    table.set(
-        high,
-        Variable {
-            state: link,
-            ..linked
-        },
-    )?;
+    table.link_regions(x, y)?;
     Ok(())
 }

@@ -9,6 +9,8 @@ mod constraints;
 mod contents;
 mod deduplicated;
 mod equating;
+#[cfg(test)]
+mod fixture;
 mod fresh;
 mod generalise;
 mod infer_ctxt;
@@ -17,8 +19,12 @@ mod knowing;
 mod labels;
 mod named;
 mod probing;
+#[cfg(test)]
+mod refusing_tests;
 mod relate;
 pub mod relating;
+#[cfg(test)]
+mod relating_tests;
 mod resolver;
 mod resolving;
 mod roots;

@@ -1,7 +1,8 @@
 //! Terms with their variables replaced by what is known of them.
 ghost use Rattle.std.specs.Prelude.{◌≡◌, IfOk, IsOkUnless};
+ghost use Rattle.nts_model.specs.Trees.{any_label, is_alias};
 ghost use Rattle.nts_model.specs.Resolving.{Knows, resolved};
-ghost use Rattle.nts_terms.specs.Growth.{tree_at, Extends};
+ghost use Rattle.nts_terms.specs.Growth.{tree_at, IsIn, Extends};
 ghost use Rattle.nts_terms.specs.Handles.{Holds};
 ghost use Rattle.nts_terms.specs.Rest.{KeepsRest};
 ghost use Rattle.nts_table.specs.Reading.{content_of, IsTable};
@@ -24,5 +25,19 @@ impl InferCtxt {
     {
         let node = resolve_nodes(cx.alloc, &mut cx.nodes, self, x.node(), false)?;
         Ok(T::from_node(node))
+    }
+
+    /// Whether an alias stands in the term, with values in place of variables.
+    pub fn has_alias<T: Stored>(&self, cx: &mut Cx, x: T) -> Result<bool, Fault>
+        requires table { IsTable cx.old.nodes self.now }
+        requires within { IsIn cx.old.nodes (T.id x) }
+        requires knows { Knows (content_of cx.old.nodes self.now.entries) (tree_at cx.old.nodes (T.id x)) }
+        ensures answer { IfOk result (λ b. b ≡ any_label is_alias (resolved (content_of cx.old.nodes self.now.entries) (tree_at cx.old.nodes (T.id x)))) }
+        ensures extends { Extends cx.old.nodes cx.new.nodes }
+        ensures rest { KeepsRest cx.old cx.new }
+        ensures memory { IsOkUnless result Fault.Memory }
+    {
+        let found = resolve_nodes(cx.alloc, &mut cx.nodes, self, x.node(), false)?;
+        Ok(cx.nodes.facts(found).has_alias)
     }
 }

@@ -1,4 +1,4 @@
-use Rattle.std.proofs.Common.{◌≡◌, sym, ◌∙◌}
+use Rattle.std.proofs.Common.{sym, ◌∙◌}
 use Rattle.nts_table.proofs.RegionLemmas.{free_region}
 use Rattle.nts_table.proofs.Naming.{region_free}
 use Rattle.nts_table.proofs.RefusalLemmas.{true_false}

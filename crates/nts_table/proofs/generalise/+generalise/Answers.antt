@@ -1,11 +1,9 @@
-use Rattle.std.proofs.Common.{rules, arith, sym, refl, ap, ◌≡◌, ◌+◌, ◌-◌, ◌<◌, ◌≤◌, ◌^◌, true, false, Bool, Some, None, length, ℕ, ◌∙◌}
-use Rattle.nts_model.specs.Trees.{children, row_length, row_at, row_take, binders, any_label, is_infer, empty}
-use Rattle.nts_model.specs.Resolving.{infer_of}
-use Rattle.nts_terms.specs.declared.facts.Facts.{Facts}
-use Rattle.nts_terms.specs.Growth.{tree_at, trees_at, IsIn}
+use Rattle.std.proofs.Common.{rules, arith, sym, refl, ap, ◌≡◌, ◌<◌, ◌≤◌, length, ℕ, ◌∙◌}
+use Rattle.nts_model.specs.Trees.{children, row_length, row_at, row_take, empty}
+use Rattle.nts_terms.specs.Growth.{tree_at, trees_at}
 use Rattle.nts_terms.proofs.Growing.{AllIn-push, AllIn-extended, Extends-refl, Extends-trans, row_take-all}
 use Rattle.nts_table.specs.Reading.{content_of}
-use Rattle.nts_table.specs.Relating.{Generalised, IsLike}
+use Rattle.nts_table.specs.Relating.{IsLike}
 use Rattle.nts_table.specs.Lawful.{IsLawful-extended, content_of-extended}
 use Rattle.nts_model.proofs.Resolved.{no_flag}
 use Rattle.nts_table.proofs.RefusalLemmas.{blocks_known, blocks_own, blocks_label, blocks_child}
@@ -14,8 +12,8 @@ use Rattle.nts_table.proofs.Changes.{length-slots}
 use Rattle.nts_table.proofs.RegionLemmas.{region_of_term}
 use Rattle.nts_table.proofs.Keeping.{no_region-later}
 use Rattle.nts_table.proofs.Naming.{lawful_sides, settled_value, alone_label}
-use Rattle.nts_table.proofs.HeadLemmas.{HeadKnown, head_known, head_open}
-use Rattle.nts_table.proofs.GenLemmas.{gen_settled, gen_known, gen_start, gen_push, gen_node, gen_child, GenChild, Meets-like, binders_le, slots_later}
+use Rattle.nts_table.proofs.HeadLemmas.{head_known, head_open}
+use Rattle.nts_table.proofs.GenLemmas.{gen_known, gen_start, gen_push, gen_node, gen_child, GenChild, Meets-like, binders_le, slots_later}
 use Rattle.nts_table.proofs.generalise.+generalise.Goals as goal
 
 pub generalise-requires : goal.generalise-requires

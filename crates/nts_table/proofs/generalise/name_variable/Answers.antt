@@ -1,4 +1,4 @@
-use Rattle.std.proofs.Common.{◌≡◌, refl}
+use Rattle.std.proofs.Common.{refl}
 use Rattle.nts_table.specs.Reading.{IsLawful}
 use Rattle.nts_table.specs.Lawful.{IsLawful-extended, IsLawful-added}
 use Rattle.nts_table.proofs.Naming.{named_value, can_join_fresh, fresh_value, entry_kind}

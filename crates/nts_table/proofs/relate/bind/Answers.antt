@@ -1,4 +1,4 @@
-use Rattle.std.proofs.Common.{◌≡◌, ◌≢◌, ◌∙◌, true, refl, ap, Some}
+use Rattle.std.proofs.Common.{◌≢◌, ◌∙◌, ap, Some}
 use Rattle.nts_model.proofs.Resolved.{no_flag}
 use Rattle.nts_model.proofs.Slots.{slice_get_below}
 use Rattle.nts_table.proofs.GenLemmas.{slots_later}

@@ -1,4 +1,4 @@
-use Rattle.std.proofs.Common.{◌≡◌, ◌≤◌}
+use Rattle.std.proofs.Common.{◌≤◌}
 use Rattle.nts_model.specs.Trees.{children, row_length}
 use Rattle.nts_terms.specs.Growth.{tree_at}
 use Rattle.nts_table.specs.Relating.{Pushed}

@@ -1,12 +1,11 @@
-use Rattle.std.proofs.Common.{rules, ◌≡◌, true, false, refl, sym, ap, ◌∙◌, [], ◌∷◌, ◌++◌}
+use Rattle.std.proofs.Common.{◌≡◌, true, false, sym, ap, ◌∙◌}
 use Rattle.std.specs.Prelude.{get_or}
 use Rattle.nts_model.specs.Trees.{empty}
-use Rattle.nts_terms.specs.Growth.{tree_at}
 use Rattle.nts_table.specs.Changing.{is_free_region}
 use Rattle.nts_table.specs.Reading.{content_of}
 use Rattle.nts_table.proofs.Keeping.{Keeps-refl}
 use Rattle.nts_table.proofs.RegionLemmas.{region_of_term}
-use Rattle.nts_table.proofs.PairLemmas.{Stepped, LastPair, last_pair, step_kept, step_pushed, heads_same, heads_regions}
+use Rattle.nts_table.proofs.PairLemmas.{Stepped, last_pair, step_kept, step_pushed, heads_same, heads_regions}
 use Rattle.nts_table.proofs.RefusalLemmas.{refuse_heads, true_false}
 use Rattle.nts_table.proofs.relate.relate_heads.Goals as goal
 use Rattle.nts_table.proofs.relate.relate_heads.Goals.{else-names_free_region-via-then-names_free_region+else-names_free_region-2, else-names_free_region-via-else-names_free_region}

@@ -1,5 +1,4 @@
 use Rattle.std.proofs.Common.{◌≡◌, ◌++◌, ◌∷◌, [], sym, ap, ◌∙◌}
-use Rattle.nts_table.specs.Entries.{Entries, Table}
 use Rattle.nts_table.proofs.SavedLemmas.{back_to, push_inj}
 use Rattle.nts_table.specs.Lawful.{IsTable-same, IsTable-extended, content_of-extended}
 use Rattle.nts_table.specs.Reading.{content_of}

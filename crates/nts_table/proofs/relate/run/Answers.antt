@@ -1,4 +1,4 @@
-use Rattle.std.proofs.Common.{rules, ◌≡◌, true, false, refl, sym, ap, ◌∙◌, [], ◌∷◌, ◌++◌}
+use Rattle.std.proofs.Common.{rules, ◌≡◌, refl, ap, ◌∙◌, [], ◌∷◌, ◌++◌}
 use Rattle.nts_terms.proofs.Growing.{Extends-refl, Extends-trans}
 use Rattle.nts_table.specs.Reading.{content_of}
 use Rattle.nts_table.specs.Relating.{pairs_at}

@@ -1,4 +1,4 @@
-use Rattle.std.proofs.Common.{◌≡◌, true, false, refl, sym, ◌∙◌}
+use Rattle.std.proofs.Common.{refl, ◌∙◌}
 use Rattle.nts_terms.proofs.Growing.{Extends-refl, Extends-trans}
 use Rattle.nts_table.specs.Reading.{content_of}
 use Rattle.nts_table.proofs.PairLemmas.{running_start, all_step, all_done, err_of}

@@ -1,5 +1,4 @@
-use Rattle.std.proofs.Common.{◌≡◌, ◌∙◌, sym, true, Bool}
-use Rattle.nts_terms.proofs.Growing.{Extends-refl}
+use Rattle.std.proofs.Common.{◌∙◌, sym, true}
 use Rattle.nts_table.proofs.PairLemmas.{Stepped, last_pair, set_left, set_right, step_set, step_variables, if_ok, err_of}
 use Rattle.nts_table.proofs.RefusalLemmas.{refuse_pair}
 use Rattle.nts_table.proofs.relate.step.Goals as goal

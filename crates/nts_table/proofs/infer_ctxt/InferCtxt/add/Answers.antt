@@ -1,7 +1,6 @@
-use Rattle.std.proofs.Common.{ap, ◌∙◌, ◌≡◌, Some}
-use Rattle.std.specs.Prelude.{slice_get}
+use Rattle.std.proofs.Common.{ap, ◌∙◌}
 use Rattle.nts_table.specs.declared.contents.Change.TheVariants as change
-use Rattle.nts_table.specs.Entries.{Table, undone}
+use Rattle.nts_table.specs.Entries.{undone}
 use Rattle.nts_table.proofs.SavedLemmas.{Logged, logged}
 use Rattle.nts_table.proofs.EntryLemmas.{undone-added}
 use Rattle.nts_table.proofs.infer_ctxt.InferCtxt.add.Goals as goal

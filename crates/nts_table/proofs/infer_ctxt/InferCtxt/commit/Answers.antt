@@ -1,4 +1,4 @@
-use Rattle.std.proofs.Common.{◌≡◌, ◌<◌, ◌+◌, ap, sym, ◌∙◌, length, arith, rules, vec_len}
+use Rattle.std.proofs.Common.{◌<◌, ap, sym, ◌∙◌, length, arith}
 use Rattle.nts_table.specs.Entries.{Table}
 use Rattle.nts_table.proofs.SavedLemmas.{saved_of-pop, AreMarks-pop, length-saved_of}
 use Rattle.nts_table.proofs.infer_ctxt.InferCtxt.commit.Goals as goal

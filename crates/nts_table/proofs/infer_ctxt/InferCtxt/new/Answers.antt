@@ -1,4 +1,4 @@
-use Rattle.std.proofs.Common.{◌≡◌, rules}
+use Rattle.std.proofs.Common.{rules}
 use Rattle.nts_table.specs.Lawful.{IsTable-new}
 use Rattle.nts_table.proofs.infer_ctxt.InferCtxt.new.Goals as goal
 

@@ -1,5 +1,5 @@
 use Rattle.std.proofs.Common.{◌≡◌, ap, ◌∙◌}
-use Rattle.nts_terms.proofs.Growing.{IsIn-extended, Extends-trans}
+use Rattle.nts_terms.proofs.Growing.{IsIn-extended}
 use Rattle.nts_table.specs.declared.contents.Constraint.{Constraint}
 use Rattle.nts_table.specs.Reading.{content_of, recorded_of}
 use Rattle.nts_table.specs.Lawful.{IsTable-extended, content_of-extended}

@@ -1,7 +1,7 @@
-use Rattle.std.proofs.Common.{rules, refl, ap, sym, arith, ◌≡◌, ◌≤◌, ◌<◌, ◌∙◌, ◌++◌, ◌∷◌, [], length, ℕ, drop, List, length-append}
+use Rattle.std.proofs.Common.{refl, ap, sym, arith, ◌≤◌, ◌∙◌, ◌++◌, ◌∷◌, [], length, drop, List, length-append}
 use Rattle.nts_table.specs.declared.contents.Change.{Change}
-use Rattle.nts_table.specs.Entries.{Entries, Table, undone, all_undone}
-use Rattle.nts_table.proofs.SavedLemmas.{rolled_back, undone-push, AreMarks-front, length-saved_of}
+use Rattle.nts_table.specs.Entries.{Table, all_undone}
+use Rattle.nts_table.proofs.SavedLemmas.{rolled_back, undone-push, AreMarks-front}
 use Rattle.nts_table.proofs.infer_ctxt.InferCtxt.rollback_to.Goals as goal
 
 pub loop-self-init : goal.loop-self-init

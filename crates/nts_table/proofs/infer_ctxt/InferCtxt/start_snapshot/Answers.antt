@@ -1,6 +1,5 @@
-use Rattle.std.proofs.Common.{◌≡◌, ◌≤◌, ◌∙◌, ap, sym, length, arith, rules, ℕ}
+use Rattle.std.proofs.Common.{◌≡◌, ◌≤◌, ap, length, arith, rules}
 use Rattle.nts_table.specs.Entries.{Table}
-use Rattle.nts_table.specs.Saved.{AreMarks}
 use Rattle.nts_table.proofs.SavedLemmas.{AreMarks-push, saved_of-append, length-saved_of, undone-all}
 use Rattle.nts_table.proofs.infer_ctxt.InferCtxt.start_snapshot.Goals as goal
 

@@ -1,4 +1,4 @@
-use Rattle.std.proofs.Common.{ℕ, ◌<◌, length}
+use Rattle.std.proofs.Common.{◌<◌, length}
 use Rattle.nts_table.specs.Roots.{SubLeads}
 use Rattle.nts_table.proofs.infer_ctxt.InferCtxt.sub_root.Given as goal
 
