@@ -1,8 +1,11 @@
 -- Bytes that are appended one after the other.
-use Rattle.std.proofs.Common.{◌≡◌, ℕ, zero, suc, ◌+◌, ◌-◌, ◌≤◌, ◌<◌, List, [], ◌∷◌, ◌++◌, length, take, drop, Option, Some, None, refl, sym, ap, ◌∙◌, arith, rules}
+use Rattle.std.proofs.Common.{◌≡◌, ℕ, zero, suc, ◌+◌, ◌-◌, ◌≤◌, ◌<◌, List, [], ◌∷◌, ◌++◌, length, take, drop, Option, Some, None, false, refl, sym, ap, ◌∙◌, arith, rules}
 use Rattle.std.proofs.lemmas.List.{append_assoc, take_all, length-drop}
 use Rattle.std.specs.Io.KnownBytes.{Appends, Keeps}
-use Rattle.nts.specs.Growing.{Begins}
+use Rattle.nts.specs.declared.status.Stop.{Stop}
+use Rattle.nts.specs.declared.status.Stop.TheVariants as stop
+use Rattle.nts.specs.Statuses.{is_refusal}
+use Rattle.nts.specs.Growing.{Begins, IsTold}
 
 pub Appends-trans : (a b c : Option (List ℕ)) (x y : List ℕ) → Appends a b x → Appends b c y → Appends a c (x ++ y)
 Appends-trans None b c x y h k = tt
@@ -52,4 +55,10 @@ pub piece-within : (bs : List ℕ) (w n : ℕ) → w ≤ length bs → n ≤ len
 piece-within bs w n h k =
     let l : n ≤ length (drop w bs) = rw (drop-tail bs w) at k in omega (arith, length-drop w bs)
 
-pub ruleset writes = (Begins-refl, Begins-trans, Begins-Appends, Begins-Keeps, Appends-none, Appends-Keeps, Appends-more)
+-- only a refusal is told
+pub IsTold-other : (old new : Option (List ℕ)) (n : ℕ) (s : Stop) → is_refusal s ≡ false → IsTold old new n s
+IsTold-other old new n stop.Memory h = tt
+IsTold-other old new n stop.Failed h = tt
+IsTold-other old new n (stop.Refused r) h = cc
+
+pub ruleset writes = (Begins-refl, Begins-trans, Begins-Appends, Begins-Keeps, Appends-none, Appends-Keeps, Appends-more, IsTold-other)

@@ -3,3 +3,6 @@ pub mod Growing
 pub mod Printing
 pub mod Pieces
 pub mod Answers
+pub mod Found
+pub mod Obeying
+pub mod Proving

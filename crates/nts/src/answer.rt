@@ -1,31 +1,26 @@
 //! Asking a goal.
-ghost use Rattle.std.specs.Prelude.{◌≡◌, All, IfOk, OnOk};
+ghost use Rattle.std.specs.Prelude.{◌≡◌, ◌≢◌, All, map, Some, IfOk, OnOk};
 ghost use Rattle.nts_terms.specs.Growth.{Extends};
 ghost use Rattle.nts_terms.specs.Rest.{KeepsRest};
-ghost use Rattle.nts_table.specs.Reading.{content_of, IsTable, IsConstraint};
+ghost use Rattle.nts_table.specs.Reading.{content_of, IsTable};
 ghost use Rattle.next_trait_solver.specs.Candidates.{HoldsGoal};
 ghost use Rattle.next_trait_solver.specs.Clauses.{AreReady};
-ghost use Rattle.next_trait_solver.specs.Evaluation.{Goes, IsTermOf};
+ghost use Rattle.next_trait_solver.specs.Evaluation.{Goes, IsAdmitted, IsTermOf, AreOfSorts};
+ghost use Rattle.nts_terms.specs.declared.certainty.Certainty.TheVariants as certainty;
+ghost use Rattle.nts.specs.Proving.{IsTypingMode, IsProvedIn, IsJustified};
+ghost use Rattle.nts.specs.Found.{AreResolved, IsFoundIn};
+ghost use Rattle.nts_terms.specs.Growth.{tree_at};
 
 use crate::build::{MISFIT, Terms, predicate_of, trait_refs};
 use crate::status::Stop;
 use crate::variables::LineVariables;
-use indexmap::IndexSet;
 use next_trait_solver::clauses::Clauses;
 use next_trait_solver::solve::{evaluate_root_goal, goal_is_admitted};
-use nts_model::{Relation, Sort};
+use nts_model::Sort;
 use nts_table::{Constraint, InferCtxt, resolve_nodes};
 use nts_terms::{Certainty, Cx, EvalError, Goal, MaybeCause, NodeId, Span, TypingMode};
 use nts_text::{Mode, Resolved};
 use std::alloc::{AllocError, Global};
-
-/// A region constraint of an answer.
-#[derive(Clone, Copy, PartialEq, Eq, Hash)]
-pub struct RegionFact {
-    pub relation: Relation,
-    pub left: NodeId,
-    pub right: NodeId,
-}
 
 /// What a goal that holds says of its variables.
 #[derive(Drop)]
@@ -35,7 +30,7 @@ pub struct Found {
     /// Their values, each at its variable's place.
     pub values: Vec<NodeId>,
     /// What holds of regions, in the order in which it was found.
-    pub facts: IndexSet<RegionFact>,
+    pub facts: Vec<Constraint>,
 }
 
 /// The answer to a goal.
@@ -48,7 +43,9 @@ pub enum Answer {
 }
 
 /// What a goal may know of hidden types in this mode: there are none.
-fn typing_mode(alloc: Global, mode: Mode) -> TypingMode {
+fn typing_mode(alloc: Global, mode: Mode) -> TypingMode
+    ensures { IsTypingMode mode result }
+{
     match mode {
         Mode::Coherence => TypingMode::Coherence,
         Mode::Analysis => TypingMode::Analysis {
@@ -62,6 +59,7 @@ fn typing_mode(alloc: Global, mode: Mode) -> TypingMode {
 #[tactic(auto, using(crate::proofs::Asking::asking))]
 pub fn ask(cx: &mut Cx, clauses: &Clauses, mode: Mode, nodes: &[Resolved]) -> Result<Answer, Stop>
     requires ready { AreReady cx.old.nodes clauses.now }
+    ensures yes { IfOk result (IsJustified cx.old.nodes cx.new.nodes clauses.now) }
     ensures extends { Extends cx.old.nodes cx.new.nodes }
     ensures rest { KeepsRest cx.old cx.new }
 {
@@ -94,11 +92,12 @@ fn answer_of(
 ) -> Result<Answer, Stop>
     requires table { IsTable cx.old.nodes table.now }
     requires values { All (λ v. IsTermOf cx.old.nodes table.now v) values.now }
+    ensures found { IfOk result (IsFoundIn cx.old.nodes cx.new.nodes (content_of cx.old.nodes table.now.entries) values.now) }
     ensures extends { Extends cx.old.nodes cx.new.nodes }
     ensures rest { KeepsRest cx.old cx.new }
 {
     let values = resolved_terms(cx, table, values)?;
-    let facts = region_facts(cx, table)?;
+    let facts = table.make_deduplicated_region_constraints(cx)?;
     Ok(Answer::Yes(Found {
         variables,
         values,
@@ -113,6 +112,7 @@ fn fresh_values(cx: &mut Cx, table: &mut InferCtxt, sorts: &[Sort]) -> Result<Ve
     ensures rest { KeepsRest cx.old cx.new }
     ensures table { IsTable cx.new.nodes table.new }
     ensures values { IfOk result (λ vs. All (λ v. IsTermOf cx.new.nodes table.new v) vs.items) }
+    ensures sorts { IfOk result (λ vs. AreOfSorts sorts.now (map (tree_at cx.new.nodes) vs.items)) }
 {
     let values = table.fresh_nodes(cx, sorts)?;
     Ok(values)
@@ -155,6 +155,9 @@ fn evaluated(
     ensures rest { KeepsRest cx.old cx.new }
     ensures table { OnOk result (IsTable cx.new.nodes table.new) }
     ensures values { OnOk result (All (λ v. IsTermOf cx.new.nodes table.new v) values.now) }
+    ensures admitted { IfOk result (λ _. IsAdmitted cx.old.nodes table.old goal) }
+    ensures proved { IfOk result (λ o. o ≡ Some certainty.Yes → IsProvedIn cx.old.nodes cx.new.nodes clauses.now table.new goal) }
+    ensures unsure { IfOk result (λ o. o ≢ Some certainty.Yes → table.new ≡ table.old) }
 {
     let _ = values.len();
     let admitted = goal_is_admitted(table, cx, goal)?;
@@ -177,6 +180,7 @@ fn resolved_terms(
 ) -> Result<Vec<NodeId>, AllocError>
     requires table { IsTable cx.old.nodes table.now }
     requires terms { All (λ v. IsTermOf cx.old.nodes table.now v) terms.now }
+    ensures resolved { IfOk result (λ vs. AreResolved cx.old.nodes cx.new.nodes (content_of cx.old.nodes table.now.entries) terms.now vs.items) }
     ensures extends { Extends cx.old.nodes cx.new.nodes }
     ensures rest { KeepsRest cx.old cx.new }
 {
@@ -186,44 +190,4 @@ fn resolved_terms(
         found.push(resolve_nodes(alloc, &mut cx.nodes, table, *term, true)?)?;
     }
     Ok(found)
-}
-
-/// The region constraints that the table has recorded, in order, without those that hold anyway and
-/// those that were there before.
-#[tactic(auto, using(crate::proofs::Asking::asking))]
-fn region_facts(cx: &mut Cx, table: &InferCtxt) -> Result<IndexSet<RegionFact>, AllocError>
-    requires table { IsTable cx.old.nodes table.now }
-    ensures extends { Extends cx.old.nodes cx.new.nodes }
-    ensures rest { KeepsRest cx.old cx.new }
-{
-    let mut facts = IndexSet::new(cx.alloc);
-    for i in 0..table.constraint_count() {
-        let constraint = table.constraint(i);
-        let fact = resolved_fact(cx, table, constraint)?;
-        if fact.left != fact.right {
-            facts.insert(fact)?;
-        }
-    }
-    Ok(facts)
-}
-
-#[tactic(auto, using(crate::proofs::Asking::asking))]
-fn resolved_fact(
-    cx: &mut Cx,
-    table: &InferCtxt,
-    constraint: Constraint,
-) -> Result<RegionFact, AllocError>
-    requires table { IsTable cx.old.nodes table.now }
-    requires sides { IsConstraint cx.old.nodes (content_of cx.old.nodes table.now.entries) constraint }
-    ensures extends { Extends cx.old.nodes cx.new.nodes }
-    ensures rest { KeepsRest cx.old cx.new }
-{
-    let alloc = cx.alloc;
-    let left = resolve_nodes(alloc, &mut cx.nodes, table, constraint.left, true)?;
-    let right = resolve_nodes(alloc, &mut cx.nodes, table, constraint.right, true)?;
-    Ok(RegionFact {
-        relation: constraint.relation,
-        left,
-        right,
-    })
 }

@@ -1,19 +1,21 @@
 //! The text of answers.
-ghost use Rattle.std.specs.Prelude.{◌≡◌, ◌∷◌, [], reverse, option_copied, map, slice_get, IfOk, OnOk, codes};
+ghost use Rattle.std.specs.Prelude.{◌≡◌, ◌∷◌, [], ◌++◌, reverse, option_copied, map, slice_get, IfOk, OnOk, codes};
 ghost use Rattle.nts_model.specs.Trees.{node, children, shape, Meets, in_order, is, arguments};
 ghost use Rattle.nts_model.specs.declared.labels.Label.TheVariants as labels;
 ghost use Rattle.nts_model.specs.declared.labels.TyHead.TheVariants as heads;
 ghost use Rattle.nts_terms.specs.Growth.{IsIn, tree_at};
 ghost use Rattle.nts_text.specs.Names.{word_of_int, word_of_uint};
-ghost use Rattle.nts.specs.Printing.{leaf_name, type_name, is_region_leaf, IsLeafText, IsUnnamedType, IsUnnamedRegion, IsText};
+ghost use Rattle.nts.specs.Printing.{leaf_name, type_name, is_region_leaf, IsLeafText, IsUnnamedType, IsUnnamedRegion, IsText, same_term};
 ghost use Rattle.nts.specs.Pieces.{lexicon_of, names_in, seen_by, Writes, WritesText, Completes, Opens};
 ghost use Rattle.nts.specs.declared.printer.Piece.TheVariants as piece_kinds;
-ghost use Rattle.nts.specs.Answers.{relation_word};
-ghost use Rattle.nts.specs.declared.answer.Answer.TheVariants.{No, Ambiguity, Overflow};
+ghost use Rattle.std.specs.Map.{lookup};
+ghost use Rattle.nts_terms.specs.declared.nodes.NodeId.{NodeId};
+ghost use Rattle.nts.specs.Answers.{relation_word, first_of, name_by, is_variable, AreNames, bound_types, bound_regions, IsValueLine, IsFactLine, AreLines, IsAnswerText};
 
-use crate::answer::{Answer, Found, RegionFact};
+use crate::answer::{Answer, Found};
 use indexmap::{IndexMap, IndexSet};
 use nts_model::{Constant, FreeRegion, IntTy, Label, Leaf, Relation, TyHead, UintTy, VariableKind};
+use nts_table::Constraint;
 use nts_terms::{NodeId, Nodes};
 use nts_text::{NameTable, Scope};
 use std::alloc::{AllocError, Global};
@@ -50,9 +52,7 @@ pub fn text_of(
     scope: &Scope,
     answer: &Answer,
 ) -> Result<Vec<u8>, AllocError>
-    ensures no { answer.now ≡ No → IfOk result (λ t. t.items ≡ codes "no\n") }
-    ensures ambiguity { answer.now ≡ Ambiguity → IfOk result (λ t. t.items ≡ codes "maybe ambiguity\n") }
-    ensures overflow { answer.now ≡ Overflow → IfOk result (λ t. t.items ≡ codes "maybe overflow\n") }
+    ensures { IfOk result (λ t. IsAnswerText nodes.now names.now scope.now answer.now t.items) }
 {
     let found = match answer {
         Answer::Yes(found) => found,
@@ -72,9 +72,7 @@ pub fn text_of(
     };
     printer.learn(found)?;
     printer.values(found)?;
-    for fact in &found.facts {
-        printer.fact(*fact)?;
-    }
+    printer.facts(&found.facts)?;
     Ok(printer.text)
 }
 
@@ -87,72 +85,98 @@ impl Printer<'_> {
     }
 
     /// Gives each variable that is left the name of the first of the goal's variables that it is.
-    fn learn(&mut self, found: &Found) -> Result<(), AllocError> {
-        for (name, place) in self
-            .scope
-            .variables
-            .types
-            .iter()
-            .zip(&found.variables.types)
-        {
-            self.learn_one(found, name, *place)?;
+    fn learn(&mut self, found: &Found) -> Result<(), AllocError>
+        requires { self.old.known.entries ≡ [] }
+        ensures names { OnOk result (AreNames self.old.nodes.now (names_in self.new.known.entries) (bound_types self.old.scope.now found.now ++ bound_regions self.old.scope.now found.now)) }
+        ensures rest { OnOk result (self.new ≡ record self.old { known = self.new.known }) }
+    {
+        let scope = self.scope;
+        for (i, place) in found.variables.types.iter().enumerate() {
+            if let Some(name) = spelling(&scope.variables.types, i) {
+                if let Some(value) = value_at(&found.values, *place) {
+                    self.learn_one(name, value)?;
+                }
+            }
         }
-        for (name, place) in self
-            .scope
-            .variables
-            .regions
-            .iter()
-            .zip(&found.variables.regions)
-        {
-            self.learn_one(found, name, *place)?;
-        }
-        Ok(())
-    }
-
-    fn learn_one(&mut self, found: &Found, name: &[u8], place: usize) -> Result<(), AllocError> {
-        let Some(value) = found.values.get(place) else {
-            return Ok(());
-        };
-        if !self.is_variable(*value) || self.known.contains_key(value) {
-            return Ok(());
-        }
-        let name = Vec::from_slice(self.alloc, name)?;
-        self.known.insert(*value, name)?;
-        Ok(())
-    }
-
-    fn is_variable(&self, term: NodeId) -> bool {
-        self.nodes.contains(term)
-            && matches!(self.nodes.label(term), Label::Leaf(Leaf::Variable(_, _)))
-    }
-
-    /// A line for each type variable of the goal, in order of first sight.
-    fn values(&mut self, found: &Found) -> Result<(), AllocError> {
-        for (name, place) in self
-            .scope
-            .variables
-            .types
-            .iter()
-            .zip(&found.variables.types)
-        {
-            if let Some(value) = found.values.get(*place) {
-                self.write(b"  ")?;
-                self.write(name)?;
-                self.write(b" = ")?;
-                self.term(*value)?;
-                self.write(b"\n")?;
+        for (j, place) in found.variables.regions.iter().enumerate() {
+            if let Some(name) = spelling(&scope.variables.regions, j) {
+                if let Some(value) = value_at(&found.values, *place) {
+                    self.learn_one(name, value)?;
+                }
             }
         }
         Ok(())
     }
 
+    fn learn_one(&mut self, name: &[u8], value: NodeId) -> Result<(), AllocError>
+        ensures names { OnOk result ((t : NodeId) → lookup (same_term t) (names_in self.new.known.entries) ≡ first_of (lookup (same_term t) (names_in self.old.known.entries)) (name_by self.old.nodes.now t (name.now, value))) }
+        ensures rest { OnOk result (self.new ≡ record self.old { known = self.new.known }) }
+    {
+        if !self.is_variable(value) {
+            return Ok(());
+        }
+        if self.known.contains_key(&value) {
+            return Ok(());
+        }
+        let name = Vec::from_slice(self.alloc, name)?;
+        self.known.insert(value, name)?;
+        Ok(())
+    }
+
+    fn is_variable(&self, term: NodeId) -> bool
+        ensures { result ≡ is_variable (tree_at self.now.nodes.now term) }
+    {
+        self.nodes.contains(term)
+            && matches!(self.nodes.label(term), Label::Leaf(Leaf::Variable(_, _)))
+    }
+
+    /// A line for each type variable of the goal, in order of first sight.
+    fn values(&mut self, found: &Found) -> Result<(), AllocError>
+        ensures { OnOk result (WritesText self.old self.new (λ old text new. AreLines (IsValueLine (lexicon_of self.old)) old (bound_types self.old.scope.now found.now) text new)) }
+    {
+        let scope = self.scope;
+        for (i, place) in found.variables.types.iter().enumerate() {
+            if let Some(name) = spelling(&scope.variables.types, i) {
+                if let Some(value) = value_at(&found.values, *place) {
+                    self.value(name, value)?;
+                }
+            }
+        }
+        Ok(())
+    }
+
+    /// The line of a variable and its value.
+    fn value(&mut self, name: &[u8], value: NodeId) -> Result<(), AllocError>
+        ensures { OnOk result (WritesText self.old self.new (λ old text new. IsValueLine (lexicon_of self.old) old (name.now, value) text new)) }
+    {
+        self.write(b"  ")?;
+        self.write(name)?;
+        self.write(b" = ")?;
+        self.term(value)?;
+        self.write(b"\n")?;
+        Ok(())
+    }
+
+    /// A line for each region constraint.
+    fn facts(&mut self, facts: &[Constraint]) -> Result<(), AllocError>
+        ensures { OnOk result (WritesText self.old self.new (λ old text new. AreLines (IsFactLine (lexicon_of self.old)) old facts.now text new)) }
+    {
+        for fact in facts {
+            self.fact(*fact)?;
+        }
+        Ok(())
+    }
+
     /// The line of a region constraint.
-    fn fact(&mut self, fact: RegionFact) -> Result<(), AllocError> {
+    fn fact(&mut self, fact: Constraint) -> Result<(), AllocError>
+        ensures { OnOk result (WritesText self.old self.new (λ old text new. IsFactLine (lexicon_of self.old) old fact text new)) }
+    {
         self.write(b"  ")?;
         self.term(fact.left)?;
         self.write(relation_word(fact.relation))?;
         self.term(fact.right)?;
-        self.write(b"\n")
+        self.write(b"\n")?;
+        Ok(())
     }
 
     /// A type or a region, as it is written.
@@ -316,6 +340,13 @@ fn leaf_name<'a>(
         Leaf::Region(FreeRegion::Static) => Some(b"'static"),
         Leaf::Region(_) => None,
     }
+}
+
+/// The value at this place.
+fn value_at(values: &[NodeId], place: usize) -> Option<NodeId>
+    ensures { result ≡ slice_get values.now place }
+{
+    values.get(place).copied()
 }
 
 /// The name with this number.

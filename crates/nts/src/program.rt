@@ -1,8 +1,14 @@
 //! The state of a run, and what each command does to it.
-ghost use Rattle.std.specs.Prelude.{◌≡◌, OnOk};
+ghost use Rattle.std.specs.Prelude.{◌≡◌, true, false, length, map, IsNone, IfOk, OnOk};
 ghost use Rattle.nts_terms.specs.Growth.{Extends};
 ghost use Rattle.nts_terms.specs.Rest.{KeepsRest};
+ghost use Rattle.nts_terms.specs.Signatures.{with_ctor, with_trait};
+ghost use Rattle.next_trait_solver.specs.Adding.{AddsClause, MakesCoinductive};
 ghost use Rattle.next_trait_solver.specs.Clauses.{AreReady};
+ghost use Rattle.next_trait_solver.specs.declared.clauses.Clause.{Clause};
+ghost use Rattle.nts_text.specs.Lines.{IsPassedOver};
+ghost use Rattle.nts_text.specs.Resolution.{trait_sorts};
+ghost use Rattle.nts.specs.Obeying.{Follows, IsObeyed};
 
 use crate::answer::ask;
 use crate::build::{MISFIT, Terms, positions, predicate_of, trait_refs};
@@ -10,9 +16,10 @@ use crate::printer::text_of;
 use crate::status::Stop;
 use crate::variables::LineVariables;
 use next_trait_solver::clauses::{Clause, Clauses};
+use nts_model::{Sort, Variance};
 use nts_terms::{Cx, Predicate};
 use nts_text::{Command, Mode, NameTable, Param, Resolved, Scope, read_command};
-use std::alloc::Global;
+use std::alloc::{AllocError, Global};
 
 /// What the lines of a run have said so far.
 #[derive(Drop)]
@@ -47,34 +54,59 @@ impl Program {
     pub fn obey(&mut self, line: &[u8]) -> Result<Option<Vec<u8>>, Stop>
         requires ready { AreReady self.old.cx.nodes self.old.clauses }
         ensures ready { OnOk result (AreReady self.new.cx.nodes self.new.clauses) }
+        ensures passed { IfOk result (λ o. IsPassedOver line.now → IsNone o) }
+        ensures obeyed { IfOk result (IsObeyed line.now self.old self.new) }
     {
-        let Some(command) = read_command(self.alloc, line, &mut self.names, &mut self.scope)? else {
-            return Ok(None);
-        };
+        match read_command(self.alloc, line, &mut self.names, &mut self.scope)? {
+            Some(command) => self.follow(command),
+            None => Ok(None),
+        }
+    }
+
+    /// Does what a command says, likewise.
+    fn follow(&mut self, command: Command) -> Result<Option<Vec<u8>>, Stop>
+        requires ready { AreReady self.old.cx.nodes self.old.clauses }
+        ensures ready { OnOk result (AreReady self.new.cx.nodes self.new.clauses) }
+        ensures follows { IfOk result (Follows self.old self.new command) }
+    {
         match command {
-            Command::Mode(mode) => self.mode = mode,
-            Command::Depth(depth) => self.cx.set_recursion_limit(usize::from(depth)),
-            Command::Type { params, .. } => self.declare_type(&params)?,
+            Command::Mode(mode) => {
+                self.mode = mode;
+                Ok(None)
+            }
+            Command::Depth(depth) => {
+                self.cx.set_recursion_limit(usize::from(depth));
+                Ok(None)
+            }
+            Command::Type { params, .. } => {
+                self.declare_type(&params)?;
+                Ok(None)
+            }
             Command::Trait {
                 number,
                 coinductive,
-            } => self.declare_trait(number, coinductive)?,
-            Command::Impl { head, body } => self.add_impl(&head, &body)?,
-            Command::Goal(nodes) => return Ok(Some(self.answer(&nodes)?)),
+            } => {
+                self.declare_trait(number, coinductive)?;
+                Ok(None)
+            }
+            Command::Impl { head, body } => {
+                self.add_impl(&head, &body)?;
+                Ok(None)
+            }
+            Command::Goal(nodes) => {
+                let text = self.answer(&nodes)?;
+                Ok(Some(text))
+            }
         }
-        Ok(None)
     }
 
     fn declare_type(&mut self, params: &[Param]) -> Result<(), Stop>
         requires ready { AreReady self.old.cx.nodes self.old.clauses }
         ensures ready { OnOk result (AreReady self.new.cx.nodes self.new.clauses) }
+        ensures declared { OnOk result (self.new.cx.declarations ≡ with_ctor self.old.cx.declarations (map (λ p. p.sort) params.now) (map (λ p. p.variance) params.now)) }
     {
-        let mut sorts = Vec::new(self.alloc);
-        let mut variances = Vec::new(self.alloc);
-        for param in params {
-            sorts.push(param.sort)?;
-            variances.push(param.variance)?;
-        }
+        let sorts = sorts_of(self.alloc, params)?;
+        let variances = variances_of(self.alloc, params)?;
         self.cx.declare_ctor(&sorts, &variances)?;
         Ok(())
     }
@@ -83,6 +115,9 @@ impl Program {
     fn declare_trait(&mut self, number: usize, coinductive: bool) -> Result<(), Stop>
         requires ready { AreReady self.old.cx.nodes self.old.clauses }
         ensures ready { OnOk result (AreReady self.new.cx.nodes self.new.clauses) }
+        ensures declared { OnOk result (self.new.cx.declarations ≡ with_trait self.old.cx.declarations (trait_sorts self.old.names number)) }
+        ensures coinductive { OnOk result (coinductive ≡ true → MakesCoinductive self.old.clauses self.new.clauses (length self.old.cx.declarations.traits)) }
+        ensures inductive { OnOk result (coinductive ≡ false → self.new.clauses ≡ self.old.clauses) }
     {
         let names = &self.names;
         let Some(signature) = names.traits.get(number) else {
@@ -99,6 +134,7 @@ impl Program {
     fn add_impl(&mut self, head: &[Resolved], body: &[Resolved]) -> Result<(), Stop>
         requires ready { AreReady self.old.cx.nodes self.old.clauses }
         ensures ready { OnOk result (AreReady self.new.cx.nodes self.new.clauses) }
+        ensures added { OnOk result ((c : Clause) × AddsClause self.old.clauses self.new.clauses c) }
     {
         let clause = clause_of(&mut self.cx, head, body)?;
         if !Clauses::clause_fits(&self.cx, &clause)? {
@@ -123,6 +159,18 @@ impl Program {
         )?;
         Ok(text)
     }
+}
+
+fn sorts_of(alloc: Global, params: &[Param]) -> Result<Vec<Sort>, AllocError>
+    ensures { IfOk result (λ v. v.items ≡ map (λ p. p.sort) params.now) }
+{
+    params.iter().map(|param| param.sort).collect(alloc)
+}
+
+fn variances_of(alloc: Global, params: &[Param]) -> Result<Vec<Variance>, AllocError>
+    ensures { IfOk result (λ v. v.items ≡ map (λ p. p.variance) params.now) }
+{
+    params.iter().map(|param| param.variance).collect(alloc)
 }
 
 /// The rule that a line says: its head holds where its body does.

@@ -1,7 +1,8 @@
 //! A run over all lines of an input.
-ghost use Rattle.std.specs.Prelude.{◌≡◌, OnOk};
+ghost use Rattle.std.specs.Prelude.{◌≡◌, OnOk, IfErr};
 ghost use Rattle.next_trait_solver.specs.Clauses.{AreReady};
-ghost use Rattle.nts.specs.Growing.{Begins};
+ghost use Rattle.nts_text.specs.Lines.{IsPassedOver};
+ghost use Rattle.nts.specs.Growing.{Begins, IsTold};
 
 use crate::output::{put, put_refusal};
 use crate::program::Program;
@@ -64,6 +65,8 @@ fn handle_line<W: Write>(
     requires ready { AreReady program.old.cx.nodes program.old.clauses }
     ensures ready { OnOk result (AreReady program.new.cx.nodes program.new.clauses) }
     ensures begins { Begins (W.contents output.old) (W.contents output.new) }
+    ensures passed { OnOk result (IsPassedOver line.now → output.new ≡ output.old) }
+    ensures refused { IfErr result (IsTold (W.contents output.old) (W.contents output.new) number) }
 {
     match program.obey(line) {
         Ok(Some(text)) => put(output, &text),

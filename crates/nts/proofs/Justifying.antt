@@ -1,0 +1,27 @@
+-- Why a goal is answered `yes`.
+use Rattle.std.proofs.Common.{List, Result, Ok, Err}
+use Rattle.std.specs.Prelude.{IfOk}
+use Rattle.nts_model.specs.Trees.{Tree}
+use Rattle.nts_terms.specs.declared.nodes.NodeId.{NodeId}
+use Rattle.nts_terms.specs.declared.handles.Goal.{Goal}
+use Rattle.nts_terms.specs.Growth.{Extends}
+use Rattle.nts_terms.proofs.Growing.{Extends-trans}
+use Rattle.nts_table.specs.Entries.{Table}
+use Rattle.nts_table.specs.Reading.{content_of}
+use Rattle.next_trait_solver.specs.declared.clauses.Clauses.{Clauses}
+use Rattle.nts.specs.Found.{IsFoundIn}
+use Rattle.nts.specs.Proving.{IsProvedIn, IsJustified}
+use Rattle.nts.specs.declared.answer.Answer.{Answer}
+use Rattle.nts.specs.declared.answer.Answer.TheVariants as answers
+
+earlier : (a b us : List Tree) (h : Clauses) (t : Table) (g : Goal) → Extends a b → IsProvedIn b us h t g → IsProvedIn a us h t g
+earlier a b us h t g e k = record { store = k.store; extends = Extends-trans e k.extends; proved = k.proved }
+
+pub justified : {E : Type 0} (a b store us : List Tree) (h : Clauses) (t : Table) (g : Goal) (vs : List NodeId) (r : Result Answer E) → Extends a b → IsProvedIn b store h t g
+    → IfOk r (IsFoundIn store us (content_of store t.entries) vs) → IfOk r (IsJustified a us h)
+justified a b store us h t g vs (Err x) e k found = tt
+justified a b store us h t g vs (Ok answers.No) e k found = tt
+justified a b store us h t g vs (Ok answers.Ambiguity) e k found = tt
+justified a b store us h t g vs (Ok answers.Overflow) e k found = tt
+justified a b store us h t g vs (Ok (answers.Yes f)) e k found =
+    record { store = store; table = t; goal = g; values = vs; proved = earlier a b store h t g e k; found = found }

@@ -1,0 +1,48 @@
+-- Why a goal is answered as it is.
+use Rattle.std.specs.Prelude.{◌≡◌, ℕ, List, []}
+use Rattle.nts_model.specs.declared.labels.Variance.{Variance}
+use Rattle.nts_model.specs.Handlers.{meaning}
+use Rattle.nts_model.specs.Proving.{HasHeldProof}
+use Rattle.nts_model.specs.Trees.{Tree}
+use Rattle.nts_terms.specs.declared.nodes.NodeId.{NodeId}
+use Rattle.nts_terms.specs.declared.handles.Goal.{Goal}
+use Rattle.nts_terms.specs.declared.sources.TypingMode.{TypingMode}
+use Rattle.nts_terms.specs.declared.sources.TypingMode.TheVariants as typing
+use Rattle.nts_terms.specs.Growth.{tree_at, Extends}
+use Rattle.nts_table.specs.Entries.{Table}
+use Rattle.nts_table.specs.Reading.{content_of}
+use Rattle.next_trait_solver.specs.ClauseHandlers.{handler_of}
+use Rattle.next_trait_solver.specs.Offered.{mode_of}
+use Rattle.next_trait_solver.specs.declared.clauses.Clauses.{Clauses}
+use Rattle.nts_text.specs.declared.parser.Mode.{Mode}
+use Rattle.nts_text.specs.declared.parser.Mode.TheVariants as modes
+use Rattle.nts.specs.Found.{IsFoundIn}
+use Rattle.nts.specs.declared.answer.Answer.{Answer}
+use Rattle.nts.specs.declared.answer.Answer.TheVariants as answers
+
+-- the mode that a line names, with no hidden types
+abbrev pub IsTypingMode : Mode → TypingMode → Type 0
+IsTypingMode modes.Coherence typing.Coherence = Unit {0}
+IsTypingMode modes.Analysis (typing.Analysis hidden) = hidden.items ≡ []
+IsTypingMode modes.PostAnalysis typing.PostAnalysis = Unit {0}
+IsTypingMode m t = ⊥
+
+-- a goal has a ranked proof by the clauses, in the mode of a table and under its values
+pub record IsProvedIn (ts us : List Tree) (h : Clauses) (t : Table) (g : Goal) : Type 0 where
+  pub store : List Tree
+  pub extends : Extends ts store
+  pub proved : (v : ℕ → List Variance) → HasHeldProof (meaning (handler_of store h) v) (mode_of t.mode) (content_of us t.entries) (tree_at us g.param_env.node) (tree_at us g.predicate.node)
+
+-- a goal that holds in a table, which is told of the goal's variables
+pub record IsHeld (ts us : List Tree) (h : Clauses) (a : Answer) : Type 0 where
+  pub store : List Tree
+  pub table : Table
+  pub goal : Goal
+  pub values : List NodeId
+  pub proved : IsProvedIn ts store h table goal
+  pub found : IsFoundIn store us (content_of store table.entries) values a
+
+-- a goal that is answered `yes` is proved
+abbrev pub IsJustified : List Tree → List Tree → Clauses → Answer → Type 0
+IsJustified ts us h (answers.Yes f) = IsHeld ts us h (answers.Yes f)
+IsJustified ts us h a = Unit {0}
