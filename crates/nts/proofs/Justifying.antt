@@ -10,18 +10,19 @@ use Rattle.nts_table.specs.Entries.{Table}
 use Rattle.nts_table.specs.Reading.{content_of}
 use Rattle.next_trait_solver.specs.declared.clauses.Clauses.{Clauses}
 use Rattle.nts.specs.Found.{IsFoundIn}
-use Rattle.nts.specs.Proving.{IsProvedIn, IsJustified}
+use Rattle.nts_text.specs.declared.parser.Mode.{Mode}
+use Rattle.nts.specs.Proving.{IsTypingMode, IsProvedIn, IsJustified}
 use Rattle.nts.specs.declared.answer.Answer.{Answer}
 use Rattle.nts.specs.declared.answer.Answer.TheVariants as answers
 
 earlier : (a b us : List Tree) (h : Clauses) (t : Table) (g : Goal) → Extends a b → IsProvedIn b us h t g → IsProvedIn a us h t g
 earlier a b us h t g e k = record { store = k.store; extends = Extends-trans e k.extends; proved = k.proved }
 
-pub justified : {E : Type 0} (a b store us : List Tree) (h : Clauses) (t : Table) (g : Goal) (vs : List NodeId) (r : Result Answer E) → Extends a b → IsProvedIn b store h t g
-    → IfOk r (IsFoundIn store us (content_of store t.entries) vs) → IfOk r (IsJustified a us h)
-justified a b store us h t g vs (Err x) e k found = tt
-justified a b store us h t g vs (Ok answers.No) e k found = tt
-justified a b store us h t g vs (Ok answers.Ambiguity) e k found = tt
-justified a b store us h t g vs (Ok answers.Overflow) e k found = tt
-justified a b store us h t g vs (Ok (answers.Yes f)) e k found =
-    record { store = store; table = t; goal = g; values = vs; proved = earlier a b store h t g e k; found = found }
+pub justified : {E : Type 0} (m : Mode) (a b store us : List Tree) (h : Clauses) (t : Table) (g : Goal) (vs : List NodeId) (r : Result Answer E) → IsTypingMode m t.mode → Extends a b → IsProvedIn b store h t g
+    → IfOk r (IsFoundIn store us (content_of store t.entries) vs) → IfOk r (IsJustified m a us h)
+justified m a b store us h t g vs (Err x) i e k found = tt
+justified m a b store us h t g vs (Ok answers.No) i e k found = tt
+justified m a b store us h t g vs (Ok answers.Ambiguity) i e k found = tt
+justified m a b store us h t g vs (Ok answers.Overflow) i e k found = tt
+justified m a b store us h t g vs (Ok (answers.Yes f)) i e k found =
+    record { store = store; table = t; goal = g; values = vs; mode = i; proved = earlier a b store h t g e k; found = found }

@@ -33,16 +33,17 @@ pub record IsProvedIn (ts us : List Tree) (h : Clauses) (t : Table) (g : Goal) :
   pub extends : Extends ts store
   pub proved : (v : ℕ → List Variance) → HasHeldProof (meaning (handler_of store h) v) (mode_of t.mode) (content_of us t.entries) (tree_at us g.param_env.node) (tree_at us g.predicate.node)
 
--- a goal that holds in a table, which is told of the goal's variables
-pub record IsHeld (ts us : List Tree) (h : Clauses) (a : Answer) : Type 0 where
+-- a goal that holds in a table, which is told of the goal's variables; it is asked in the mode of a line
+pub record IsHeld (m : Mode) (ts us : List Tree) (h : Clauses) (a : Answer) : Type 0 where
   pub store : List Tree
   pub table : Table
   pub goal : Goal
   pub values : List NodeId
+  pub mode : IsTypingMode m table.mode
   pub proved : IsProvedIn ts store h table goal
   pub found : IsFoundIn store us (content_of store table.entries) values a
 
 -- a goal that is answered `yes` is proved
-abbrev pub IsJustified : List Tree → List Tree → Clauses → Answer → Type 0
-IsJustified ts us h (answers.Yes f) = IsHeld ts us h (answers.Yes f)
-IsJustified ts us h a = Unit {0}
+abbrev pub IsJustified : Mode → List Tree → List Tree → Clauses → Answer → Type 0
+IsJustified m ts us h (answers.Yes f) = IsHeld m ts us h (answers.Yes f)
+IsJustified m ts us h a = Unit {0}

@@ -59,7 +59,7 @@ fn typing_mode(alloc: Global, mode: Mode) -> TypingMode
 #[tactic(auto, using(crate::proofs::Asking::asking))]
 pub fn ask(cx: &mut Cx, clauses: &Clauses, mode: Mode, nodes: &[Resolved]) -> Result<Answer, Stop>
     requires ready { AreReady cx.old.nodes clauses.now }
-    ensures yes { IfOk result (IsJustified cx.old.nodes cx.new.nodes clauses.now) }
+    ensures yes { IfOk result (IsJustified mode cx.old.nodes cx.new.nodes clauses.now) }
     ensures extends { Extends cx.old.nodes cx.new.nodes }
     ensures rest { KeepsRest cx.old cx.new }
 {
@@ -113,6 +113,7 @@ fn fresh_values(cx: &mut Cx, table: &mut InferCtxt, sorts: &[Sort]) -> Result<Ve
     ensures table { IsTable cx.new.nodes table.new }
     ensures values { IfOk result (λ vs. All (λ v. IsTermOf cx.new.nodes table.new v) vs.items) }
     ensures sorts { IfOk result (λ vs. AreOfSorts sorts.now (map (tree_at cx.new.nodes) vs.items)) }
+    ensures mode { table.new.mode ≡ table.old.mode }
 {
     let values = table.fresh_nodes(cx, sorts)?;
     Ok(values)
@@ -158,6 +159,7 @@ fn evaluated(
     ensures admitted { IfOk result (λ _. IsAdmitted cx.old.nodes table.old goal) }
     ensures proved { IfOk result (λ o. o ≡ Some certainty.Yes → IsProvedIn cx.old.nodes cx.new.nodes clauses.now table.new goal) }
     ensures unsure { IfOk result (λ o. o ≢ Some certainty.Yes → table.new ≡ table.old) }
+    ensures mode { OnOk result (table.new.mode ≡ table.old.mode) }
 {
     let _ = values.len();
     let admitted = goal_is_admitted(table, cx, goal)?;

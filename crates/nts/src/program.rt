@@ -8,7 +8,7 @@ ghost use Rattle.next_trait_solver.specs.Clauses.{AreReady};
 ghost use Rattle.next_trait_solver.specs.declared.clauses.Clause.{Clause};
 ghost use Rattle.nts_text.specs.Lines.{IsPassedOver};
 ghost use Rattle.nts_text.specs.Resolution.{trait_sorts};
-ghost use Rattle.nts.specs.Obeying.{Follows, IsObeyed};
+ghost use Rattle.nts.specs.Obeying.{Follows, IsTold, IsObeyed};
 
 use crate::answer::ask;
 use crate::build::{MISFIT, Terms, positions, predicate_of, trait_refs};
@@ -148,6 +148,7 @@ impl Program {
     fn answer(&mut self, nodes: &[Resolved]) -> Result<Vec<u8>, Stop>
         requires ready { AreReady self.old.cx.nodes self.old.clauses }
         ensures ready { OnOk result (AreReady self.new.cx.nodes self.new.clauses) }
+        ensures told { IfOk result (λ text. IsTold self.old self.new text.items) }
     {
         let answer = ask(&mut self.cx, &self.clauses, self.mode, nodes)?;
         let text = text_of(
