@@ -6,7 +6,7 @@ use Rattle.nts_model.specs.declared.labels.Leaf.TheVariants as leaf
 use Rattle.nts_model.specs.declared.labels.Label.TheVariants as label
 use Rattle.nts_model.specs.Trees.{Tree, empty, kind_of, of_sort, sort_of_variable}
 use Rattle.nts_model.specs.Contents.{Content, Slot, SlotState, unset, link, known, state_of, kind_at, changed, bound_to}
-use Rattle.nts_model.specs.Resolving.{variable_tree, infer_of, IsInfer, replaced, Lacks, IsOneOf, kind_or_type, value_of_state, value_at, resolved, Knows, IsSound}
+use Rattle.nts_model.specs.Resolving.{variable_tree, infer_of, rank_of_kind, variable_rank, replaced, Lacks, IsOneOf, kind_or_type, value_of_state, value_at, resolved, Knows, IsSound}
 use Rattle.nts_model.proofs.Variables.{infer_number_some}
 use Rattle.nts_model.proofs.Under.{under-agree, IsAcyclic-agree, none-one, same_or_other, replaced-lacks}
 use Rattle.nts_model.proofs.Slots.{slice_get_below, length-slice_set, reverse-push, some_slot, field-changed_same, field-changed_other, field-changed_kept, KeepsKinds, KeepsKinds-changed, Knows-kept}
@@ -74,7 +74,7 @@ pub record IsKnowable (c : Content) (n : ℕ) (w : Slot) (t : Tree) : Type 0 whe
   pub is : w.state ≡ known t
   pub no_region : w.kind ≢ kind.Region
   pub knows : Knows c t
-  pub no_variable : IsInfer t → ⊥
+  pub lower : variable_rank t < rank_of_kind w.kind
   pub fits : kind_of t ≡ Some (of_sort (sort_of_variable w.kind))
   pub lacks : Lacks n (resolved c t)
 
@@ -104,9 +104,11 @@ module _ (c : Content) (n : ℕ) (w : Slot) (t : Tree) (s : IsSound c) (b : IsKn
         known_trees = λ m u q. Knows-kept c (bound_to c n w) u (KeepsKinds-bound c n w b.binds) (⊎_elim
             (λ e. let y : known t ≡ known u = sym b.is ∙ e.1 in let z : t ≡ u = cc in rw (← z) b.knows)
             (λ e. s.known_trees m u e) (set-either c n w b.binds s m (known u) q));
-        no_variables = λ m u q. ⊎_elim
-            (λ e. let y : known t ≡ known u = sym b.is ∙ e.1 in let z : t ≡ u = cc in rw (← z) b.no_variable)
-            (λ e. s.no_variables m u e) (set-either c n w b.binds s m (known u) q);
+        ranks = λ m u k q r. ⊎_elim
+            (λ e. let y : known t ≡ known u = sym b.is ∙ e.1 in let z : t ≡ u = cc in
+            let p : Some w.kind ≡ Some k = sym (Binds-kind c n w b.binds) ∙ sym (kind_at-set c n w b.binds n) ∙ ap (kind_at (bound_to c n w)) (sym e.0) ∙ r in
+            let x : w.kind ≡ k = cc in rw (← z, ← x) b.lower)
+            (λ e. s.ranks m u k e (sym (kind_at-set c n w b.binds m) ∙ r)) (set-either c n w b.binds s m (known u) q);
         fits = λ m u k q r. ⊎_elim
             (λ e. let y : known t ≡ known u = sym b.is ∙ e.1 in let z : t ≡ u = cc in
             let p : Some w.kind ≡ Some k = sym (Binds-kind c n w b.binds) ∙ sym (kind_at-set c n w b.binds n) ∙ ap (kind_at (bound_to c n w)) (sym e.0) ∙ r in
@@ -183,7 +185,7 @@ module _ (c : Content) (n : ℕ) (w : Slot) (m : ℕ) (s : IsSound c) (b : IsLin
             there ∙ sym here)
             (λ e. kind_at-set c n w b.binds j ∙ s.one_kind k j e ∙ sym (kind_at-set c n w b.binds k)) (set-either c n w b.binds s k (link j) q);
         known_trees = λ k u q. Knows-kept c (bound_to c n w) u (KeepsKinds-bound c n w b.binds) (s.known_trees k u (set-old c n w b.binds s k (known u) q (λ z. (let y : link m ≡ known u = sym b.is ∙ z in cc))));
-        no_variables = λ k u q. s.no_variables k u (set-old c n w b.binds s k (known u) q (λ z. (let y : link m ≡ known u = sym b.is ∙ z in cc)));
+        ranks = λ k u j q r. s.ranks k u j (set-old c n w b.binds s k (known u) q (λ z. (let y : link m ≡ known u = sym b.is ∙ z in cc))) (sym (kind_at-set c n w b.binds k) ∙ r);
         fits = λ k u j q r. s.fits k u j (set-old c n w b.binds s k (known u) q (λ z. (let y : link m ≡ known u = sym b.is ∙ z in cc))) (sym (kind_at-set c n w b.binds k) ∙ r);
         linked = λ k j q r. rw order (⊎_elim (λ e. inl e.0) (λ e. inr (s.linked k j e (λ z. r (kind_at-set c n w b.binds k ∙ z)))) (set-either c n w b.binds s k (link j) q));
         bound = λ k u q. rw order (inr (s.bound k u (set-old c n w b.binds s k (known u) q (λ z. (let y : link m ≡ known u = sym b.is ∙ z in cc)))));
@@ -224,7 +226,7 @@ module _ (c : Content) (n : ℕ) (w : Slot) (m : ℕ) (s : IsSound c) (b : IsLin
             there ∙ sym here)
             (λ e. kind_at-set c n w b.binds j ∙ s.one_kind k j e ∙ sym (kind_at-set c n w b.binds k)) (set-either c n w b.binds s k (link j) q);
         known_trees = λ k u q. Knows-kept c (changed c n w) u (KeepsKinds-set c n w b.binds) (s.known_trees k u (set-old c n w b.binds s k (known u) q (λ z. (let y : link m ≡ known u = sym b.is ∙ z in cc))));
-        no_variables = λ k u q. s.no_variables k u (set-old c n w b.binds s k (known u) q (λ z. (let y : link m ≡ known u = sym b.is ∙ z in cc)));
+        ranks = λ k u j q r. s.ranks k u j (set-old c n w b.binds s k (known u) q (λ z. (let y : link m ≡ known u = sym b.is ∙ z in cc))) (sym (kind_at-set c n w b.binds k) ∙ r);
         fits = λ k u j q r. s.fits k u j (set-old c n w b.binds s k (known u) q (λ z. (let y : link m ≡ known u = sym b.is ∙ z in cc))) (sym (kind_at-set c n w b.binds k) ∙ r);
         linked = λ k j q r. ⊎_elim
             (λ e. let z : kind_at (changed c n w) k ≡ Some w.kind = rw e.0 (kind_at-set c n w b.binds n ∙ Binds-kind c n w b.binds) in absurd (r (z ∙ ap Some region)))

@@ -8,7 +8,7 @@ use Rattle.nts_model.specs.declared.labels.Label.{Label}
 use Rattle.nts_model.specs.declared.labels.Label.TheVariants as label
 use Rattle.nts_model.specs.Trees.{Tree, empty, more, node, size, row_at, row_length, row_take, row_push, children, label_of, IsRow}
 use Rattle.nts_model.specs.Contents.{Content, unset, link, known, state_of, kind_at}
-use Rattle.nts_model.specs.Resolving.{variable_of, variable_tree, infer_of, IsInfer, Lacks, IsOneOf, kind_or_type, value_of_state, value_at, resolved, rooted, rooted_variable, deeply_resolved, Knows, IsSound, Reaches, here, on, flag, variable_flag, left_to_resolve}
+use Rattle.nts_model.specs.Resolving.{variable_of, variable_tree, infer_of, IsInfer, Lacks, IsOneOf, kind_or_type, value_of_state, value_at, resolved, rooted, rooted_variable, deeply_resolved, Knows, IsSound, Reaches, here, on, infer_number, infer_of_variable, flag, variable_flag, rank_of_kind, rank_of, variable_rank, left_to_resolve}
 use Rattle.nts_model.proofs.Variables.{infer_of_variable_label}
 use Rattle.nts_model.proofs.Under.{under-empty, under-more, under-node, under-unbound, under-bound, Lacks-under, under-lacks, under-twice}
 use Rattle.nts_model.proofs.Roots.{Lacks-rooted, rooted-twice, kind_at-reaches}
@@ -106,6 +106,60 @@ flag_le (node l c) = by_case (infer_of l)
     by_case None = omega arith
     by_case (Some n) = omega arith
 
+-- ranks
+pub rank_le : (t : Tree) → variable_rank t ≤ 2
+rank_le empty = omega arith
+rank_le (more a b) = omega arith
+rank_le (node l c) = by_case (variable_of l)
+  where
+    by_kind : (k : VariableKind) → rank_of_kind k ≤ 2
+    by_kind kind.Ty = omega arith
+    by_kind kind.Int = omega arith
+    by_kind kind.Float = omega arith
+    by_kind kind.Const = omega arith
+    by_kind kind.Region = omega arith
+
+    by_case : (o : Option (VariableKind × ℕ)) → rank_of o ≤ 2
+    by_case None = omega arith
+    by_case (Some v) = by_kind v.0
+
+infer_rank : (k : VariableKind) (n m : ℕ) → infer_number k n ≡ Some m → 0 < rank_of_kind k
+infer_rank kind.Ty n m e = omega arith
+infer_rank kind.Int n m e = omega arith
+infer_rank kind.Float n m e = omega arith
+infer_rank kind.Const n m e = omega arith
+infer_rank kind.Region n m e = cc
+
+rank_infer : (k : VariableKind) (n : ℕ) → infer_number k n ≡ None → rank_of_kind k ≡ 0
+rank_infer kind.Ty n e = cc
+rank_infer kind.Int n e = cc
+rank_infer kind.Float n e = cc
+rank_infer kind.Const n e = cc
+rank_infer kind.Region n e = refl
+
+-- a tree is of rank 0 exactly where it is no variable but those of regions
+pub rank_none : (t : Tree) → variable_rank t ≡ 0 → IsInfer t → ⊥
+rank_none empty h i = i
+rank_none (more a b) h i = i
+rank_none (node l c) h i = by_case (variable_of l) h i.1
+  where
+    by_case : (o : Option (VariableKind × ℕ)) → rank_of o ≡ 0 → infer_of_variable o ≡ Some i.0 → ⊥
+    by_case None q e = cc
+    by_case (Some v) q e = let z = infer_rank v.0 v.1 i.0 e in omega (arith, z, q)
+
+pub no_rank : (t : Tree) → (IsInfer t → ⊥) → variable_rank t ≡ 0
+no_rank empty h = refl
+no_rank (more a b) h = refl
+no_rank (node l c) h = by_case (variable_of l) refl
+  where
+    by_number : (v : VariableKind × ℕ) (o : Option ℕ) → infer_number v.0 v.1 ≡ o → variable_of l ≡ Some v → rank_of_kind v.0 ≡ 0
+    by_number v None q e = rank_infer v.0 v.1 q
+    by_number v (Some n) q e = absurd (h (n, ap infer_of_variable e ∙ q))
+
+    by_case : (o : Option (VariableKind × ℕ)) → variable_of l ≡ o → rank_of o ≡ 0
+    by_case None e = refl
+    by_case (Some v) e = by_number v (infer_number v.0 v.1) refl e
+
 size-row_at : (c : Content) (r : Tree) (i : ℕ) → i < row_length r → size (resolved c (row_at r i)) < size (resolved c r)
 size-row_at c empty i h = absurd (omega arith)
 size-row_at c (more a b) zero h = omega (arith, ap size (resolved-more c a b))
@@ -125,7 +179,7 @@ pub record KnownStep (c : Content) (t v : Tree) : Type 0 where
   pub same : resolved c t ≡ resolved c v
   pub smaller : left_to_resolve c v < left_to_resolve c t
   pub knows : Knows c v
-  pub no_variable : IsInfer v → ⊥
+  pub lower : variable_rank v < variable_rank t
 
 pub known_step : (c : Content) (t : Tree) (l : Label) (k : VariableKind) (n r : ℕ) (v : Tree) → IsSound c → Knows c t → label_of t ≡ Some l → variable_of l ≡ Some (k, n) → k ≢ kind.Region → Reaches c n r → state_of c r ≡ Some (known v) → KnownStep c t v
 known_step c empty l k n r v s h e q d p z = cc
@@ -134,13 +188,14 @@ known_step c (node m x) l k n r v s h e q d p z =
     let same_label : m ≡ l = cc in
     let is : IsVariable c m k n = is_variable c m x k n h (ap variable_of same_label ∙ q) d in
     let same = resolved-reaches_known c m x k n r v s is p z in
-    let one : flag (infer_of m) ≡ 1 = rw (IsVariable-infer c m k n is) refl in
-    let none = no_flag v (s.no_variables r v z) in
+    let has : kind_at c r ≡ Some k = kind_at-reaches c n r s p ∙ is.has in
+    let own : rank_of (variable_of m) ≡ rank_of_kind k = ap rank_of is.is in
+    let below : variable_rank v < rank_of_kind k = s.ranks r v k z has in
     record {
       same = same;
-      smaller = omega (arith, ap size same, one, none);
+      smaller = omega (arith, ap size same, own, below);
       knows = s.known_trees r v z;
-      no_variable = s.no_variables r v z;
+      lower = omega (arith, own, below);
     }
 
 -- .. of a variable that is unset
@@ -178,7 +233,7 @@ node_step c (node m x) l e h k =
     record {
       is = is;
       deeply = ap (rooted c) is;
-      smaller = λ i w. omega (arith, big, size-row_at c x i w, flag_le (row_at x i));
+      smaller = λ i w. omega (arith, big, size-row_at c x i w, rank_le (row_at x i));
       knows = λ i. Knows-row_at c x i k.1;
     }
 

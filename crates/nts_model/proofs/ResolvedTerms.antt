@@ -1,5 +1,5 @@
 -- Terms under the values of a table are terms, and fit what they fitted.
-use Rattle.std.proofs.Common.{◌≡◌, ◌≢◌, inl, inr, ℕ, ◌+◌, Bool, true, false, List, [], ◌∷◌, Option, Some, None, refl, ap, ◌∙◌, arith, subst}
+use Rattle.std.proofs.Common.{◌<◌, ◌≡◌, ◌≢◌, inl, inr, ℕ, ◌+◌, Bool, true, false, List, [], ◌∷◌, Option, Some, None, refl, ap, ◌∙◌, arith, subst}
 use Rattle.std.specs.Prelude.{◌==◌, if◌then◌else◌, reverse, slice_get}
 use Rattle.nts_model.specs.declared.labels.VariableKind.{VariableKind}
 use Rattle.nts_model.specs.declared.labels.VariableKind.TheVariants as kind
@@ -8,13 +8,13 @@ use Rattle.nts_model.specs.declared.labels.Label.{Label}
 use Rattle.nts_model.specs.declared.labels.Label.TheVariants as label
 use Rattle.nts_model.specs.Trees.{Tree, empty, more, node, kind_of, of_sort, sort_of_variable, label_of, binders, IsBoundBelow, IsClosedUnder, IsClosed, Place, FitsPlace, in_order, each, HavePlaces, AllFit, Meets, Shape, shape, IsFormed}
 use Rattle.nts_model.specs.Contents.{Content, Slot, SlotState, map_slot, unset, link, known, state_of, kind_at}
-use Rattle.nts_model.specs.Resolving.{variable_of, variable_tree, infer_of, replaced, replaced_at, under, value_at, resolved, rooted, rooted_variable, deeply_resolved, root_of, IsInfer, IsRootState, Knows, IsSound}
+use Rattle.nts_model.specs.Resolving.{variable_of, variable_tree, infer_of, replaced, replaced_at, under, value_at, resolved, rooted, rooted_variable, deeply_resolved, root_of, IsInfer, rank_of_kind, variable_rank, IsRootState, Knows, IsSound}
 use Rattle.nts_model.specs.Regions.{of_variable}
 use Rattle.nts_model.specs.Fitting.{is_integer, is_float, HasLabel, Fits}
 use Rattle.nts_model.specs.Proving.{HoldsTerms}
 use Rattle.nts_model.proofs.Variables.{infer_number_some}
 use Rattle.nts_model.proofs.Roots.{Reaches-root_of, IsRootState-root_of, kind_at-root_of}
-use Rattle.nts_model.proofs.Resolved.{resolved-node, resolved-variable_unset, resolved-variable_reaches, resolved-variable_known, deeply_resolved-node, deeply_resolved-empty}
+use Rattle.nts_model.proofs.Resolved.{rank_none, resolved-node, resolved-variable_unset, resolved-variable_reaches, resolved-variable_known, deeply_resolved-node, deeply_resolved-empty}
 use Rattle.nts_model.proofs.Open.{Knows-under, Knows-value_at, Knows-resolved}
 use Rattle.nts_model.proofs.Kept.{FitKinds, FitKinds-value_at, kind_of-replaced, kind_of-under, kind_of-resolved, kind_of-rooted}
 use Rattle.nts_model.proofs.Substituting.{closed_under_more}
@@ -171,11 +171,14 @@ label_of-resolved p c empty h i = absurd i
 label_of-resolved p c (more a b) h i = absurd i
 label_of-resolved p c (node l x) h i = rw (resolved-node c l x (no_infer l x h)) i
 
-fits-resolved : (c : Content) (k : VariableKind) (t : Tree) → IsSound c → k ≢ kind.Region → Knows c t → (IsInfer t → ⊥) → Fits k t → Fits k (resolved c t)
+below_one : (n : ℕ) → n < 1 → n ≡ 0
+below_one n h = omega (arith, h)
+
+fits-resolved : (c : Content) (k : VariableKind) (t : Tree) → IsSound c → k ≢ kind.Region → Knows c t → variable_rank t < rank_of_kind k → Fits k t → Fits k (resolved c t)
 fits-resolved c kind.Ty t s r k h i = kind_of-resolved c t s k ∙ i
 fits-resolved c kind.Const t s r k h i = kind_of-resolved c t s k ∙ i
-fits-resolved c kind.Int t s r k h i = label_of-resolved is_integer c t h i
-fits-resolved c kind.Float t s r k h i = label_of-resolved is_float c t h i
+fits-resolved c kind.Int t s r k h i = label_of-resolved is_integer c t (rank_none t (below_one (variable_rank t) h)) i
+fits-resolved c kind.Float t s r k h i = label_of-resolved is_float c t (rank_none t (below_one (variable_rank t) h)) i
 fits-resolved c kind.Region t s r k h i = absurd (r refl)
 
 has_state : (c : Content) (n : ℕ) (k : VariableKind) → kind_at c n ≡ Some k → state_of c n ≡ None → ⊥
@@ -197,7 +200,7 @@ fits-root c k r s h q e root = by_state (state_of c r) refl
     by_state (Some (link m)) x = absurd (rw x at root)
     by_state (Some (known t)) x =
         rw (resolved-variable_known c (label.Leaf (leaf.Variable k r)) empty r t s infer x)
-        (fits-resolved c k t s q (s.known_trees r t x) (s.no_variables r t x) (h.fitting r t k x e))
+        (fits-resolved c k t s q (s.known_trees r t x) (s.ranks r t k x e) (h.fitting r t k x e))
 
 fits-resolved_variable : (c : Content) (k : VariableKind) (n : ℕ) → IsSound c → HoldsTerms c → k ≢ kind.Region → kind_at c n ≡ Some k → Fits k (resolved c (variable_tree k n))
 fits-resolved_variable c k n s h q e =

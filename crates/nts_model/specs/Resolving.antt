@@ -133,13 +133,29 @@ Knows c empty = Unit {0}
 Knows c (more a b) = Knows c a × Knows c b
 Knows c (node l t) = KnowsLabel c (variable_of l) × Knows c t
 
--- the values are no variables, fit their variables and are of the table; links lead down within a kind;
+-- the value of a type variable may be a variable of integers or floats; no other variable has one as its value
+abbrev pub rank_of_kind : VariableKind → ℕ
+rank_of_kind kind.Ty = 2
+rank_of_kind kind.Region = 0
+rank_of_kind k = 1
+
+abbrev pub rank_of : Option (VariableKind × ℕ) → ℕ
+rank_of None = 0
+rank_of (Some v) = rank_of_kind v.0
+
+-- the rank of a tree that is a variable; 0 for each other tree
+abbrev pub variable_rank : Tree → ℕ
+variable_rank empty = 0
+variable_rank (more a b) = 0
+variable_rank (node l c) = rank_of (variable_of l)
+
+-- the values are of lower ranks, fit their variables and are of the table; links lead down within a kind;
 -- a variable is bound once, and never to a tree that leads back to it
 pub record IsSound (c : Content) : Type 0 where
   pub descends : (n m : ℕ) → state_of c n ≡ Some (link m) → m < n
   pub one_kind : (n m : ℕ) → state_of c n ≡ Some (link m) → kind_at c m ≡ kind_at c n
   pub known_trees : (n : ℕ) (t : Tree) → state_of c n ≡ Some (known t) → Knows c t
-  pub no_variables : (n : ℕ) (t : Tree) → state_of c n ≡ Some (known t) → IsInfer t → ⊥
+  pub ranks : (n : ℕ) (t : Tree) (k : VariableKind) → state_of c n ≡ Some (known t) → kind_at c n ≡ Some k → variable_rank t < rank_of_kind k
   pub fits : (n : ℕ) (t : Tree) (k : VariableKind) → state_of c n ≡ Some (known t) → kind_at c n ≡ Some k → (kind_of t ≡ Some (of_sort (sort_of_variable k))) × (k ≢ kind.Region)
   pub linked : (n m : ℕ) → state_of c n ≡ Some (link m) → kind_at c n ≢ Some kind.Region → IsOneOf n (reverse c.order)
   pub bound : (n : ℕ) (t : Tree) → state_of c n ≡ Some (known t) → IsOneOf n (reverse c.order)
@@ -158,7 +174,7 @@ abbrev pub IsRootState : Option SlotState → Type 0
 IsRootState (Some (link m)) = ⊥
 IsRootState o = Unit {0}
 
--- for the measure of a walk: the size of the resolved tree, where a variable comes before its value
+-- 1 for a variable that is no region
 abbrev pub flag : Option ℕ → ℕ
 flag None = 0
 flag (Some n) = 1
@@ -168,8 +184,9 @@ variable_flag empty = 0
 variable_flag (more a b) = 0
 variable_flag (node l c) = flag (infer_of l)
 
+-- for the measure of a walk: the size of the resolved tree, where a variable comes before its value
 abbrev pub left_to_resolve : Content → Tree → ℕ
-left_to_resolve c t = 2 * size (resolved c t) + variable_flag t
+left_to_resolve c t = 3 * size (resolved c t) + variable_rank t
 
 -- each inference variable of the tree is unset
 abbrev pub UnsetAt : Content → Option ℕ → Type 0 → Type 0

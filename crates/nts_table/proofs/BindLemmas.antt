@@ -1,18 +1,19 @@
 -- A variable gets a value.
-use Rattle.std.proofs.Common.{◌≡◌, ◌≢◌, ℕ, ◌<◌, List, length, Some, refl, sym, ap, ◌∙◌, arith}
+use Rattle.std.proofs.Common.{◌≡◌, ◌≢◌, ℕ, ◌<◌, List, length, Some, refl, sym, ap, subst, ◌∙◌, arith}
 use Rattle.std.specs.Prelude.{slice_get, slice_set}
 use Rattle.nts_model.specs.declared.labels.VariableKind.{VariableKind}
 use Rattle.nts_model.specs.declared.labels.VariableKind.TheVariants as kind
 use Rattle.nts_model.specs.declared.labels.Label.{Label}
 use Rattle.nts_model.specs.declared.labels.Leaf.TheVariants as leaf
 use Rattle.nts_model.specs.declared.labels.Label.TheVariants as label
-use Rattle.nts_model.specs.Resolving.{variable_tree, rooted, Knows}
+use Rattle.nts_model.specs.Resolving.{variable_tree, rooted, Knows, variable_rank, rank_of_kind}
 use Rattle.nts_model.specs.Levels.{NamesAll, level_in, term_level, region_level}
 use Rattle.nts_model.specs.Fitting.{Fits}
 use Rattle.nts_model.specs.Worlds.{inst, IsValue}
-use Rattle.nts_table.specs.Proper.{IsSortKind, IsProper-known}
+use Rattle.nts_table.specs.Proper.{IsProper-known}
 use Rattle.nts_model.specs.Holding.{AreOne, Continues}
 use Rattle.nts_model.specs.Alike.{AreAlike}
+use Rattle.nts_model.proofs.Fitting.{Fits-kind_of}
 use Rattle.nts_model.proofs.Variables.{infer_number_some}
 use Rattle.nts_model.proofs.Classes.{resolved-known_variable}
 use Rattle.nts_model.proofs.Instances.{inst-agrees}
@@ -20,25 +21,27 @@ use Rattle.nts_model.proofs.Solving.{Solves-known, Solves-from_known, IsNameable
 use Rattle.nts_model.proofs.Held.{Continues-known, Continues-trans}
 use Rattle.nts_model.proofs.Alike.{AreAlike-continues, AreAlike-for}
 use Rattle.nts_table.proofs.Leading.{universe_of-entry}
-use Rattle.nts_table.proofs.Naming.{lawful_sides}
+use Rattle.nts_table.proofs.Naming.{lawful_sides, kind_read}
+use Rattle.nts_table.proofs.PairLemmas.{set_one}
+use Rattle.nts_table.proofs.Ranks.{kind_of-like}
 use Rattle.nts_model.specs.Trees.{Tree, empty, node, of_sort, sort_of_variable, kind_of, kind_of_label, children}
-use Rattle.nts_model.specs.Contents.{unset, known, state_of, kind_at, bound_to}
+use Rattle.nts_model.specs.Contents.{Content, unset, known, state_of, kind_at, bound_to}
 use Rattle.nts_model.proofs.Slots.{length-slice_set, slice_get_below}
 use Rattle.nts_model.proofs.Binding.{IsKnowable, kind_at-set, IsSound-known, resolved-known_value}
 use Rattle.nts_terms.specs.declared.nodes.NodeId.{NodeId}
-use Rattle.nts_terms.specs.Growth.{tree_at, IsIn}
+use Rattle.nts_terms.specs.Growth.{tree_at, IsIn, Extends}
 use Rattle.nts_table.specs.declared.contents.State.TheVariants.{Link, Known}
 use Rattle.nts_table.specs.declared.contents.Variable.{Variable}
 use Rattle.nts_table.specs.Entries.{Entries, bound}
 use Rattle.nts_table.specs.Reading.{state_with, slot_of, content_of, IsLawful}
 use Rattle.nts_table.specs.Changing.{unset_count, unset_of, one_unset, IsLater}
 use Rattle.nts_table.specs.Joining.{IsBindable}
-use Rattle.nts_table.specs.Relating.{IsClosed, IsSet, Generalised}
+use Rattle.nts_table.specs.Relating.{IsOpen, IsSet, Generalised, TakesVariable, CanTake, AreMadeOne}
+use Rattle.nts_table.specs.Lawful.{IsLawful-extended, content_of-extended}
 use Rattle.nts_table.proofs.Changes.{slot_at, length-slots, content_of-bound, LeadsDown, leads_down, IsLawful-bound}
 use Rattle.nts_table.proofs.Keeping.{IsLater-trans, Knows-later, unset-set, unset_of-infer}
 use Rattle.nts_table.proofs.JoinLemmas.{free_slot}
 use Rattle.nts_table.proofs.HeadLemmas.{state_at, kind_at-entry}
-use Rattle.nts_table.proofs.GenLemmas.{kind_of-like}
 
 some_inj : {A : Type 0} (a b : A) → Some a ≡ Some b → a ≡ b
 some_inj a b e = cc
@@ -46,20 +49,12 @@ some_inj a b e = cc
 pub bindable_no_region : (ts : List Tree) (e : Entries) (x : ℕ) → IsBindable e x → kind_at (content_of ts e) x ≢ Some kind.Region
 bindable_no_region ts e x h r = h.no_region (some_inj _ _ (sym (free_slot ts e x h.of_kind h.free).kind ∙ r))
 
--- a tree of the sort
-fits_sort : (k : VariableKind) (t : Tree) → IsSortKind k → k ≢ kind.Region → kind_of t ≡ Some (of_sort (sort_of_variable k)) → Fits k t
-fits_sort kind.Ty t h r e = e
-fits_sort kind.Const t h r e = e
-fits_sort kind.Region t h r e = absurd (r refl)
-fits_sort kind.Int t h r e = absurd h
-fits_sort kind.Float t h r e = absurd h
-
 pub record HasValue (ts us : List Tree) (e g : Entries) (x : ℕ) (t : Tree) : Type 0 where
   pub lawful : IsLawful us g
   pub set : IsSet (content_of ts e) (content_of us g) x t
 
-pub bind_value : (ts us : List Tree) (e f g : Entries) (x : ℕ) (t v : NodeId) (l : Label) (w z : Variable) → IsLawful ts e → IsBindable e x → slice_get e.variables x ≡ Some w → (kind_of_label l ≡ of_sort (sort_of_variable w.kind)) → tree_at ts t ≡ node l (children (tree_at ts t)) → IsClosed (content_of ts e) (tree_at ts t) (tree_at ts t) → IsLawful us f → IsIn us v → Generalised (content_of ts e) (content_of us f) x w.universe 0 (tree_at ts t) (tree_at us v) → slice_get f.variables x ≡ Some z → g ≡ bound f x (record z { state = Known v }) → HasValue ts us e g x (tree_at ts t)
-bind_value ts us e f g x t v l w z before_lawful can_bind at fit is closed h within gen now q =
+pub bind_value : (ts us : List Tree) (e f g : Entries) (x : ℕ) (t v : NodeId) (w z : Variable) → IsLawful ts e → IsBindable e x → slice_get e.variables x ≡ Some w → Knows (content_of ts e) (tree_at ts t) → IsLawful us f → IsIn us v → Generalised (content_of ts e) (content_of us f) x w.universe 0 (tree_at ts t) (tree_at us v) → variable_rank (tree_at us v) < rank_of_kind w.kind → Fits w.kind (tree_at us v) → slice_get f.variables x ≡ Some z → g ≡ bound f x (record z { state = Known v }) → HasValue ts us e g x (tree_at ts t)
+bind_value ts us e f g x t v w z before_lawful can_bind at knows_term h within gen lower fit now q =
     let c = content_of ts e in
     let d = content_of us f in
     let k = can_bind.of_kind in
@@ -74,15 +69,17 @@ bind_value ts us e f g x t v l w z before_lawful can_bind at fit is closed h wit
     let is_unset : state_with us z.state ≡ unset = some_inj _ _ (sym (state_at us f x z now) ∙ state) in
     let same : z.kind ≡ k = some_inj _ _ (sym (kind_at-entry us f x z now) ∙ there) in
     let first : w.kind ≡ k = some_inj _ _ (sym (kind_at-entry ts e x w at) ∙ free.kind) in
-    let sort : kind_of (tree_at us v) ≡ Some (of_sort (sort_of_variable z.kind)) =
-    kind_of-like (tree_at us v) (tree_at ts t) gen.like ∙ ap kind_of is ∙ ap Some (fit ∙ ap (λ j. of_sort (sort_of_variable j)) (first ∙ sym same)) in
+    let kinds : w.kind ≡ z.kind = first ∙ sym same in
+    let fit_now : Fits z.kind (tree_at us v) = rw kinds at fit in
+    let lower_now : variable_rank (tree_at us v) < rank_of_kind z.kind = rw kinds at lower in
+    let sort : kind_of (tree_at us v) ≡ Some (of_sort (sort_of_variable z.kind)) = Fits-kind_of z.kind (tree_at us v) fit_now in
     let no_region : z.kind ≢ kind.Region = λ r. can_bind.no_region (sym same ∙ r) in
     let can : IsKnowable d x (slot_of us new) (tree_at us v) = record {
       binds = record { old = slot_of us z; was = slot; free = is_unset; same_kind = refl };
       is = refl;
       no_region = no_region;
       knows = gen.knows;
-      no_variable = gen.no_variable closed.no_variable;
+      lower = lower_now;
       fits = sort;
       lacks = gen.lacks;
     } in
@@ -99,7 +96,7 @@ bind_value ts us e f g x t v l w z before_lawful can_bind at fit is closed h wit
     let sound_after = IsSound-known d x (slot_of us new) (tree_at us v) h.sound can in
     let known_continues = Continues-known d x (slot_of us new) (tree_at us v) can refl h.sound in
     let all : Continues c after = Continues-trans c d after before_lawful.sound gen.continues known_continues in
-    let knows_old : Knows d (tree_at ts t) = Knows-later (tree_at ts t) gen.keeps.later closed.knows in
+    let knows_old : Knows d (tree_at ts t) = Knows-later (tree_at ts t) gen.keeps.later knows_term in
     let alike : AreAlike after (tree_at us v) (tree_at ts t) =
     AreAlike-continues d after (tree_at us v) (tree_at ts t) h.sound sound_after known_continues (lawful_sides us f h) gen.knows knows_old gen.alike in
     let one : (j : VariableKind) → kind_at c x ≡ Some j → AreOne after (variable_tree j x) (tree_at us v) =
@@ -110,7 +107,7 @@ bind_value ts us e f g x t v l w z before_lawful can_bind at fit is closed h wit
     let same_universe : z.universe ≡ w.universe = cc in
     let names : NamesAll (level_in d) z.universe (tree_at us v) = rw same_universe gen.named in
     let names_regions : NamesAll region_level z.universe (tree_at us v) = rw same_universe gen.named_regions in
-    let value : IsValue z.kind (tree_at us v) = record { fits = fits_sort z.kind (tree_at us v) (h.proper.kinds x z.kind (kind_at-entry us f x z now)) no_region sort; closed = gen.closed } in
+    let value : IsValue z.kind (tree_at us v) = record { fits = fit_now; closed = gen.closed } in
     let proper = IsProper-known d x (slot_of us new) (tree_at us v) can refl names names_regions value h.sound h.proper in
     record {
       lawful = rw q (IsLawful-bound us f x z new h now refl within leads (IsSound-known d x (slot_of us new) (tree_at us v) h.sound can) proper);
@@ -127,7 +124,7 @@ bind_value ts us e f g x t v l w z before_lawful can_bind at fit is closed h wit
             let own : NamesAll term_level w.universe (y.tree x) = rw (universe_of-entry ts e x w at) at (a.nameable.each x) in
             let ext = gen.complete y a (rw e1 at own) in
             let v_world = ext.world in
-            let same_tree : v_world.tree x ≡ inst v_world (tree_at us v) = ext.agrees.trees x less ∙ e1 ∙ sym (inst-agrees c y v_world (tree_at ts t) ext.agrees closed.knows) ∙ sym (gen.sound v_world ext.solves).1 in
+            let same_tree : v_world.tree x ≡ inst v_world (tree_at us v) = ext.agrees.trees x less ∙ e1 ∙ sym (inst-agrees c y v_world (tree_at ts t) ext.agrees knows_term) ∙ sym (gen.sound v_world ext.solves).1 in
             record {
               world = v_world;
               agrees = ext.agrees;
@@ -139,3 +136,59 @@ bind_value ts us e f g x t v l w z before_lawful can_bind at fit is closed h wit
             };
       });
     }
+
+-- another variable, as a tree of the store
+pub taken_open : (us : List Tree) (e : Entries) (y : ℕ) (k : VariableKind) (t : NodeId) (w : Variable) (b : IsBindable e y) → slice_get e.variables y ≡ Some w → k ≡ w.kind → tree_at us t ≡ variable_tree k y → IsOpen us e (tree_at us t) y
+taken_open us e y k t w b at same is =
+    let own : b.of_kind ≡ w.kind = some_inj _ _ (sym (free_slot us e y b.of_kind b.free).kind ∙ kind_at-entry us e y w at) in
+    let tree : tree_at us t ≡ variable_tree b.of_kind y = is ∙ ap (λ j. variable_tree j y) (same ∙ sym own) in
+    rw tree (record {
+      bindable = b;
+      infer = (y, infer_number_some b.of_kind y b.no_region);
+      like = refl;
+      rank = omega arith;
+      same = refl;
+      worlds = λ v z. refl;
+    })
+
+takes_lower : (j k : VariableKind) → TakesVariable j k → (rank_of_kind k < rank_of_kind j) × (sort_of_variable k ≡ sort_of_variable j)
+takes_lower kind.Ty kind.Int h = (omega arith, refl)
+takes_lower kind.Ty kind.Float h = (omega arith, refl)
+takes_lower kind.Ty kind.Ty h = absurd h
+takes_lower kind.Ty kind.Const h = absurd h
+takes_lower kind.Ty kind.Region h = absurd h
+takes_lower kind.Int k h = absurd h
+takes_lower kind.Float k h = absurd h
+takes_lower kind.Const k h = absurd h
+takes_lower kind.Region k h = absurd h
+
+takes_fits : (j k : VariableKind) (t : Tree) → TakesVariable j k → kind_of t ≡ Some (of_sort (sort_of_variable j)) → Fits j t
+takes_fits kind.Ty k t h e = e
+takes_fits kind.Int k t h e = absurd h
+takes_fits kind.Float k t h e = absurd h
+takes_fits kind.Const k t h e = absurd h
+takes_fits kind.Region k t h e = absurd h
+
+pub can_take : (e : Entries) (x y : ℕ) (v w : Variable) → IsBindable e x → IsBindable e y → slice_get e.variables x ≡ Some v → slice_get e.variables y ≡ Some w → TakesVariable v.kind w.kind → CanTake e x y
+can_take e x y v w a b p q h =
+    let first = kind_read e x a.of_kind v a.free p in
+    let second = kind_read e y b.of_kind w b.free q in
+    record { first = a; second = b; takes = rw (first, second) at h }
+
+-- a type variable got another variable as its value
+pub taken : (ts us vs : List Tree) (e f g : Entries) (x y : ℕ) (k : VariableKind) (t v : NodeId) (w z u : Variable) → IsLawful ts e → Extends ts us → CanTake e x y → slice_get e.variables x ≡ Some w → slice_get e.variables y ≡ Some u → k ≡ u.kind → tree_at us t ≡ variable_tree k y → IsLawful vs f → IsIn vs v → Generalised (content_of us e) (content_of vs f) x w.universe 0 (tree_at us t) (tree_at vs v) → slice_get f.variables x ≡ Some z → g ≡ bound f x (record z { state = Known v }) → IsLawful vs g × AreMadeOne (content_of ts e) (content_of vs g) x y
+taken ts us vs e f g x y k t v w z u lawful ext can at_x at_y same is h within gen now q =
+    let wk = kind_read e x can.first.of_kind w can.first.free at_x in
+    let uk = kind_read e y can.second.of_kind u can.second.free at_y in
+    let takes : TakesVariable w.kind u.kind = rw (wk, uk) can.takes in
+    let low = takes_lower w.kind u.kind takes in
+    let tree : tree_at us t ≡ variable_tree u.kind y = is ∙ ap (λ j. variable_tree j y) same in
+    let rank : variable_rank (tree_at us t) ≡ rank_of_kind u.kind = ap variable_rank tree in
+    let lower : variable_rank (tree_at vs v) < rank_of_kind w.kind = omega (arith, gen.rank, rank, low.0) in
+    let sort : kind_of (tree_at vs v) ≡ Some (of_sort (sort_of_variable w.kind)) = kind_of-like (tree_at vs v) (tree_at us t) gen.like ∙ ap kind_of tree ∙ ap (λ s. Some (of_sort s)) low.1 in
+    let fit = takes_fits w.kind u.kind (tree_at vs v) takes sort in
+    let has : kind_at (content_of us e) y ≡ Some u.kind = kind_at-entry us e y u at_y in
+    let knows : Knows (content_of us e) (tree_at us t) = rw tree (has, tt) in
+    let value = bind_value us vs e f g x t v w z (IsLawful-extended ext lawful) can.first at_x knows h within gen lower fit now q in
+    let set : IsSet (content_of us e) (content_of vs g) x (variable_tree u.kind y) = subst (λ (s : Tree). IsSet (content_of us e) (content_of vs g) x s) tree value.set in
+    (value.lawful, subst (λ (c : Content). AreMadeOne c (content_of vs g) x y) (content_of-extended ext lawful) (set_one u.kind has set))

@@ -11,7 +11,6 @@ use Rattle.nts_terms.proofs.Growing.{trees_at-push, trees_at-extended, AllIn-ext
 use Rattle.nts_table.specs.Entries.{Entries, added}
 use Rattle.nts_table.specs.Making.{new_variable}
 use Rattle.nts_table.specs.Fresh.{variable_kind, with_fresh, fresh_row}
-use Rattle.nts_table.specs.Proper.{IsSortKind}
 
 pub with_fresh-push : (e : Entries) (ss : List Sort) (s : Sort) → with_fresh e (ss ++ s ∷ []) ≡ added (with_fresh e ss) (new_variable (with_fresh e ss) (variable_kind s))
 with_fresh-push e [] s = refl
@@ -54,9 +53,3 @@ fresh_more a b ns n e f g ss i h x below within tree entries =
       within = AllIn-push b ns n (AllIn-extended x ns h.within) within;
       entries = rw taken (entries ∙ ap (λ z. added z (new_variable z (variable_kind s))) h.entries ∙ sym (with_fresh-push e (take i ss) s));
     }
-
--- the kind of a variable of a sort
-pub sort_kind : (s : Sort) → IsSortKind (variable_kind s)
-sort_kind sort.Ty = tt
-sort_kind sort.Region = tt
-sort_kind sort.Const = tt

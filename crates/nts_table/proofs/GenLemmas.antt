@@ -1,5 +1,5 @@
 -- The value that a variable gets for a tree.
-use Rattle.std.proofs.Common.{◌≡◌, ◌≢◌, ℕ, zero, suc, ◌+◌, ◌*◌, ◌<◌, ◌≤◌, min, max, Bool, true, false, List, [], ◌∷◌, ◌++◌, length, length-append, Option, Some, None, refl, sym, ap, subst, ◌∙◌, arith}
+use Rattle.std.proofs.Common.{◌≡◌, ◌≢◌, ℕ, zero, suc, ◌+◌, ◌*◌, ◌<◌, ◌≤◌, Bool, true, false, List, [], ◌∷◌, ◌++◌, length, Option, Some, None, refl, sym, ap, subst, ◌∙◌, arith}
 use Rattle.std.specs.Prelude.{◌==◌, ◌||◌, reverse}
 use Rattle.nts_model.specs.declared.labels.Sort.TheVariants as sort
 use Rattle.nts_model.specs.declared.labels.VariableKind.{VariableKind}
@@ -12,38 +12,34 @@ use Rattle.nts_model.specs.declared.labels.Constant.TheVariants as constant
 use Rattle.nts_model.specs.declared.labels.ListHead.TheVariants as list
 use Rattle.nts_model.specs.declared.labels.TyHead.TheVariants as ty
 use Rattle.nts_model.specs.Trees.{Tree, empty, more, node, size, NodeKind, of_sort, kind_of, kind_of_label, any_label, is_infer, children, label_of, row_length, row_at, row_take, row_push, IsRow, Place, Shape, in_order, each, FitsPlace, HavePlaces, AllFit, Meets, shape, binders, IsBoundBelow, IsClosedUnder, is_region_infer, is_placeholder}
-use Rattle.nts_model.specs.Contents.{Content, Slot, unset, link, state_of, universe_of, kind_at, with_slot}
-use Rattle.nts_model.specs.Resolving.{variable_of, variable_tree, infer_of, IsInfer, Knows, KnowsLabel, IsSound, Lacks, LacksAt, resolved, deeply_resolved, rooted, root_of, left_to_resolve, variable_flag}
+use Rattle.nts_model.specs.Contents.{Content, universe_of, kind_at}
+use Rattle.nts_model.specs.Resolving.{variable_of, variable_tree, infer_of, IsInfer, Knows, IsSound, Lacks, resolved, deeply_resolved, rooted, root_of, left_to_resolve, rank_of, variable_rank}
+use Rattle.nts_model.specs.Fitting.{Fits}
 use Rattle.nts_model.specs.Levels.{CanName, NamesAll, term_level, region_level, level_in}
-use Rattle.nts_model.specs.Regions.{RegionName, IsRegion, name_of_label}
-use Rattle.nts_model.specs.Worlds.{World, inst, renamed, IsValue, Solves, KnowsAll, with_tree, IsNameable}
-use Rattle.nts_model.specs.Equations.{Extension, ExtensionIf}
-use Rattle.nts_model.specs.Holding.{AreOne, Continues}
+use Rattle.nts_model.specs.Worlds.{World, inst, renamed, Solves, KnowsAll}
+use Rattle.nts_model.specs.Equations.{ExtensionIf}
+use Rattle.nts_model.specs.Holding.{AreOne}
 use Rattle.nts_model.specs.Alike.{HoldsEqual, AreAlike}
-use Rattle.nts_model.proofs.Variables.{infer_number_some, infer_label, infer_of_none}
+use Rattle.nts_model.proofs.Variables.{infer_number_some, infer_of_none}
 use Rattle.nts_model.proofs.Under.{under-lacks}
-use Rattle.nts_model.proofs.Slots.{field_below, field-with_slot_new, field-with_slot_old, KeepsKinds-with_slot}
 use Rattle.nts_model.proofs.Roots.{root_of-root_of}
-use Rattle.nts_model.proofs.Instances.{inst-node, inst-agrees, Agrees-refl, Agrees-trans, Agrees-with_tree, tree-with_tree}
-use Rattle.nts_model.proofs.Fitting.{IsClosedUnder-more, IsValue-inst}
-use Rattle.nts_model.proofs.Solving.{Solves-from_with_slot, Solves-with_slot, IsNameable-with_slot, IsNameable-agrees}
+use Rattle.nts_model.proofs.Instances.{inst-node, inst-agrees, Agrees-refl, Agrees-trans}
+use Rattle.nts_model.proofs.Fitting.{IsClosedUnder-more}
 use Rattle.nts_model.proofs.Levelled.{NamesAll-falls}
-use Rattle.nts_model.proofs.Held.{AreOne-continues, Continues-refl, Continues-trans, Continues-with_slot}
+use Rattle.nts_model.proofs.Held.{AreOne-continues, Continues-refl, Continues-trans}
 use Rattle.nts_model.proofs.Alike.{Alike-row_push, AreAlike-one, AreAlike-itself, AreAlike-for, AreAlike-node, AreAlike-continues, deeply_resolved-more, row_length-deeply_resolved, IsRow-deeply_resolved}
-use Rattle.nts_model.proofs.Open.{Knows-resolved}
-use Rattle.nts_model.proofs.Resolved.{resolved-empty, resolved-node, resolved-row_push, IsRow-resolved, resolved-variable_unset, resolved-variable_link, IsVariable, node_step, deeply_resolved-empty, Knows-row_at}
-use Rattle.nts_model.proofs.Sound.{resolved-with_slot, state_of-with_slot_old, state_of-with_slot_new, IsSound-with_slot}
+use Rattle.nts_model.proofs.Resolved.{resolved-empty, resolved-node, resolved-row_push, IsRow-resolved, resolved-variable_unset, node_step, deeply_resolved-empty, Knows-row_at}
 use Rattle.nts_terms.specs.declared.nodes.NodeId.{NodeId}
 use Rattle.nts_terms.specs.Growth.{tree_at, trees_at, AllIn, Extends}
 use Rattle.nts_terms.proofs.Growing.{IsRow-trees_at, trees_at-push, trees_at-extended, row_take-more, row_take-all}
 use Rattle.nts_table.specs.Entries.{Entries}
 use Rattle.nts_table.specs.Reading.{content_of}
-use Rattle.nts_table.specs.Changing.{unset_count, unset_of, one_unset, IsLater, is_free_region}
-use Rattle.nts_table.specs.Joining.{IsOneClass, IsJoined}
-use Rattle.nts_table.specs.Relating.{IsLike, IsUnset, RegionsRelate, Generalised}
+use Rattle.nts_table.specs.Changing.{IsLater, is_free_region}
+use Rattle.nts_table.specs.Relating.{IsLike, IsUnset, Generalised}
 use Rattle.nts_table.proofs.RegionLemmas.{IsRegionVariable, regions-one}
-use Rattle.nts_table.proofs.Keeping.{IsLater-trans, Knows-later, Keeps-refl, Keeps-trans, unset-push, unset_of-infer}
+use Rattle.nts_table.proofs.Keeping.{Knows-later, Keeps-refl, Keeps-trans}
 use Rattle.nts_table.proofs.Changes.{length-slots}
+use Rattle.nts_table.proofs.Ranks.{some_kind, kind_of-like, like_of-kinds, zero_le, infer_ranked, region_unfit, row_unfit, fits_node, rank-push}
 
 -- trees without inference variables
 or_false : (a b : Bool) → (a || b) ≡ false → (a ≡ false) × (b ≡ false)
@@ -83,17 +79,6 @@ pub IsLike-refl : (t : Tree) → IsLike t t
 IsLike-refl empty = tt
 IsLike-refl (more a b) = (refl, IsLike-refl b)
 IsLike-refl (node l c) = refl
-
-pub kind_of-like : (r t : Tree) → IsLike r t → kind_of r ≡ kind_of t
-kind_of-like empty empty h = refl
-kind_of-like empty (more a b) h = absurd h
-kind_of-like empty (node l c) h = absurd h
-kind_of-like (more a b) empty h = absurd h
-kind_of-like (more a b) (more c d) h = refl
-kind_of-like (more a b) (node l c) h = absurd h
-kind_of-like (node l c) empty h = absurd h
-kind_of-like (node l c) (more a b) h = absurd h
-kind_of-like (node l c) (node m d) h = ap Some h
 
 IsLike-push : (r t s a : Tree) → IsRow r → IsRow t → IsLike r t → kind_of s ≡ kind_of a → IsLike (row_push r s) (row_push t a)
 IsLike-push empty empty s a p q h e = (e, tt)
@@ -182,9 +167,6 @@ pub record RegionNode (t : Tree) (l : Label) : Type 0 where
   pub is : t ≡ node l empty
   pub no_infer : infer_of l ≡ None
 
-some_kind : (a b : NodeKind) → Some a ≡ Some b → a ≡ b
-some_kind a b e = cc
-
 pub region_node : (t : Tree) (l : Label) → t ≡ node l (children t) → Meets (shape l) (children t) → kind_of t ≡ Some (of_sort sort.Region) → RegionNode t l
 region_node t l is m k =
     let sorted : kind_of_label l ≡ of_sort sort.Region = some_kind _ _ (sym (ap kind_of is) ∙ k) in
@@ -192,16 +174,12 @@ region_node t l is m k =
     let none : children t ≡ empty = no_children (children t) (rw r.leaf at m) in
     record { is = is ∙ ap (node l) none; no_infer = r.no_infer }
 
-resolved-region_node : (c : Content) (t : Tree) (l : Label) → RegionNode t l → resolved c t ≡ t
+pub resolved-region_node : (c : Content) (t : Tree) (l : Label) → RegionNode t l → resolved c t ≡ t
 resolved-region_node c t l r =
     ap (resolved c) r.is ∙ resolved-node c l empty r.no_infer ∙ ap (node l) (resolved-empty c) ∙ sym r.is
 
 Lacks-region_node : (x : ℕ) (t : Tree) (l : Label) → RegionNode t l → Lacks x t
 Lacks-region_node x t l r = subst (λ (y : Tree). Lacks x y) (sym r.is) (let q = r.no_infer in rw q tt)
-
-not_infer_region : (t : Tree) (l : Label) → RegionNode t l → IsInfer t → ⊥
-not_infer_region t l r h = (let i : IsInfer (node l empty) = subst (λ (y : Tree). IsInfer y) r.is h in
-    let z : None ≡ Some i.0 = sym r.no_infer ∙ i.1 in cc)
 
 -- a tree that stays
 no_level : (c : Content) (u : ℕ) (l : Label) → is_infer l ≡ false → is_region_infer l ≡ false → is_placeholder l ≡ false → CanName u (level_in c l) × CanName u (region_level l)
@@ -249,9 +227,6 @@ settled_names c u (node l t) e f g =
 abbrev pub unchanged : {Named : (Label → Option ℕ) → Type 0} (c : Content) (w : World) → Solves c w → ExtensionIf c c w Named
 unchanged c w z = record { world = w; agrees = Agrees-refl (length c.slots) w; solves = z; names = λ f k n. k }
 
-abbrev pub itself : (c : Content) (w : World) → Solves c w → Extension c c w
-itself c w z = unchanged c w z
-
 -- where other names are enough
 pub named_for : {c d : Content} {w : World} {P Q : (Label → Option ℕ) → Type 0} → ((f : Label → Option ℕ) → Q f → P f) → ExtensionIf c d w P → ExtensionIf c d w Q
 named_for h e = record { world = e.world; agrees = e.agrees; solves = e.solves; names = λ f k n. e.names f k (h f n) }
@@ -262,7 +237,8 @@ gen_settled c x u b t s k e f g h =
     record {
       keeps = Keeps-refl c;
       knows = k;
-      no_variable = λ q. q;
+      rank = omega arith;
+      fits = λ j n z f. f;
       like = IsLike-refl t;
       lacks = rw (resolved-no_infer c t e) (Lacks-no_infer x t e);
       continues = Continues-refl c s;
@@ -281,7 +257,8 @@ gen_region c x u b t l s k r v f n =
     record {
       keeps = Keeps-refl c;
       knows = k;
-      no_variable = λ h. h;
+      rank = omega arith;
+      fits = λ j n z f. f;
       like = IsLike-refl t;
       lacks = rw (resolved-region_node c t l r) (Lacks-region_node x t l r);
       continues = Continues-refl c s;
@@ -324,7 +301,8 @@ gen_region_root c x u b n r t s v has named =
     record {
       keeps = Keeps-refl c;
       knows = (has, tt);
-      no_variable = λ h. not_infer_region (variable_tree kind.Region r) (label.Leaf (leaf.Variable kind.Region r)) root;
+      rank = zero_le _ _ refl;
+      fits = λ j n z. region_unfit j t n (ap kind_of v.is);
       like = rw (v.is) refl;
       lacks = rw (resolved-region_node c (variable_tree kind.Region r) (label.Leaf (leaf.Variable kind.Region r)) root) tt;
       continues = Continues-refl c s;
@@ -337,16 +315,17 @@ gen_region_root c x u b n r t s v has named =
       complete = λ w z q. unchanged c w z;
     }
 
-lacks_other : (k : VariableKind) (y x : ℕ) → k ≢ kind.Region → (y ≡ x → ⊥) → Lacks x (variable_tree k y)
+pub lacks_other : (k : VariableKind) (y x : ℕ) → k ≢ kind.Region → (y ≡ x → ⊥) → Lacks x (variable_tree k y)
 lacks_other k y x n d = let f : (y == x) ≡ false = grind arith in rw (infer_number_some k y n) f
 
 -- a variable without value that stays
-pub gen_named : (c : Content) (x u b y : ℕ) (k : VariableKind) (t : Tree) → IsSound c → IsUnset c y k → IsInfer t → IsLike (variable_tree k y) t → (y ≡ x → ⊥) → CanName u (universe_of c y) → resolved c t ≡ resolved c (variable_tree k y) → ((w : World) → Solves c w → inst w t ≡ w.tree y) → Generalised c c x u b t (variable_tree k y)
-gen_named c x u b y k t s h i like d named same worlds =
+pub gen_named : (c : Content) (x u b y : ℕ) (k : VariableKind) (t : Tree) → IsSound c → IsUnset c y k → IsInfer t → variable_rank (variable_tree k y) ≤ variable_rank t → IsLike (variable_tree k y) t → (y ≡ x → ⊥) → CanName u (universe_of c y) → resolved c t ≡ resolved c (variable_tree k y) → ((w : World) → Solves c w → inst w t ≡ w.tree y) → Generalised c c x u b t (variable_tree k y)
+gen_named c x u b y k t s h i rank like d named same worlds =
     record {
       keeps = Keeps-refl c;
       knows = (h.has, tt);
-      no_variable = λ n. absurd (n i);
+      rank = rank;
+      fits = λ j n z f. infer_ranked t i z;
       like = like;
       lacks = rw (resolved-variable_unset c (label.Leaf (leaf.Variable k y)) empty y s (infer_number_some k y h.no_region) h.state) (lacks_other k y x h.no_region d);
       continues = Continues-refl c s;
@@ -358,195 +337,6 @@ gen_named c x u b y k t s h i like d named same worlds =
       sound = λ w z. (z, sym (worlds w z));
       complete = λ w z q. unchanged c w z;
     }
-
-abbrev second_or : Option (VariableKind × ℕ) → ℕ
-second_or None = 0
-second_or (Some v) = v.1
-
-below_apart : (m k : ℕ) → m < k → (m == k) ≡ false
-below_apart m k less = grind arith
-
--- a number past the end is of no tree
-LacksAt-new : (c : Content) (o : Option (VariableKind × ℕ)) (l : Label) (t : Tree) → variable_of l ≡ o → KnowsLabel c o → Lacks (length c.slots) t → LacksAt (infer_of l) (length c.slots) (Lacks (length c.slots) t)
-LacksAt-new c None l t e k h = rw (infer_of_none l e) h
-LacksAt-new c (Some v) l t e k h = by_case (infer_of l) refl
-  where
-    by_case : (p : Option ℕ) → infer_of l ≡ p → LacksAt p (length c.slots) (Lacks (length c.slots) t)
-    by_case None q = h
-    by_case (Some n) q =
-        let i = infer_label l n q in
-        let below : v.1 < length c.slots = field_below (λ x. x.kind) c v.1 v.0 k in
-        let same : v.1 ≡ n = ap second_or (sym e ∙ i.is) in
-        below_apart n (length c.slots) (omega (arith, same, below))
-
-pub Lacks-new : (c : Content) (t : Tree) → Knows c t → Lacks (length c.slots) t
-Lacks-new c empty h = tt
-Lacks-new c (more a b) h = (Lacks-new c a h.0, Lacks-new c b h.1)
-Lacks-new c (node l t) h = LacksAt-new c (variable_of l) l t refl h.0 (Lacks-new c t h.1)
-
--- a new variable of the table
-pub record IsAdded (c d : Content) (v : Slot) : Type 0 where
-  pub later : IsLater c d
-  pub has : kind_at d (length c.slots) ≡ Some v.kind
-  pub states : (n : ℕ) → n < length c.slots → state_of d n ≡ state_of c n
-  pub state : state_of d (length c.slots) ≡ Some unset
-  pub trees : (t : Tree) → resolved d t ≡ resolved c t
-  pub sound : IsSound d
-  pub count : unset_count d.slots ≡ unset_count c.slots + unset_of v.kind v.state
-  pub continues : Continues c d
-  pub universe : universe_of d (length c.slots) ≡ Some v.universe
-  pub universes : (n : ℕ) → n < length c.slots → universe_of d n ≡ universe_of c n
-  pub back : (w : World) → Solves d w → Solves c w
-  pub grow : (w : World) (t : Tree) → Solves c w → NamesAll term_level v.universe t → IsValue v.kind t → Solves d (with_tree w (length c.slots) t)
-  pub grow_names : (f : Label → Option ℕ) (w : World) (t : Tree) → IsNameable f c w → NamesAll f v.universe t → IsNameable f d (with_tree w (length c.slots) t)
-
-pub slot_added : (c : Content) (v : Slot) → IsSound c → KnowsAll c c.constraints → v.state ≡ unset → IsAdded c (with_slot c v) v
-slot_added c v s sides free =
-    record {
-      later = record {
-        more = omega (arith, length-append c.slots (v ∷ []));
-        kinds = (KeepsKinds-with_slot c v).kinds;
-      };
-      has = field-with_slot_new (λ x. x.kind) c v;
-      states = λ n h. state_of-with_slot_old c v s free n (λ e. omega (arith, e, h));
-      state = state_of-with_slot_new c v s free;
-      trees = λ t. resolved-with_slot c v s free t;
-      sound = IsSound-with_slot c v s free;
-      count = unset-push c.slots v;
-      continues = Continues-with_slot c v free s;
-      universe = field-with_slot_new (λ x. x.universe) c v;
-      universes = λ n h. field-with_slot_old (λ x. x.universe) c v n (λ e. omega (arith, e, h));
-      back = λ w z. Solves-from_with_slot c v free w z;
-      grow = λ w t z n k. Solves-with_slot c v free s sides w t z n k;
-      grow_names = λ f w t k n.
-          (let wide = with_tree w (length c.slots) t in
-          let agrees = Agrees-with_tree (length c.slots) (length c.slots) w t (omega arith) in
-          IsNameable-with_slot c v free f wide (IsNameable-agrees f c w wide agrees k) (rw (tree-with_tree w (length c.slots) t) n));
-    }
-
--- the new variable is made one with an old one
-pub gen_fresh : (c d e : Content) (x u b y low high : ℕ) (v : Slot) (t : Tree) → IsSound c → Knows c t → IsUnset c y v.kind → v.state ≡ unset → v.universe ≡ u → x < length c.slots → IsInfer t → IsLike (variable_tree v.kind y) t → (y ≡ x → ⊥) → resolved c t ≡ resolved c (variable_tree v.kind y) → ((w : World) → Solves c w → inst w t ≡ w.tree y) → IsAdded c d v → low ≡ min y (length c.slots) → high ≡ max y (length c.slots) → IsJoined d e low high → IsOneClass d e low high → IsSound e → Generalised c e x u b t (variable_tree v.kind (length c.slots))
-gen_fresh c d e x u b y low high v t s knows h free of_u within i like apart same worlds a is_low is_high j one_class after =
-    let fresh = length c.slots in
-    let below : y < length c.slots = field_below (λ z. z.kind) c y v.kind h.has in
-    let ly : low ≡ y = omega (arith, is_low, below) in
-    let hy : high ≡ length c.slots = omega (arith, is_high, below) in
-    let linked : state_of e fresh ≡ Some (link y) = rw (← hy, ← ly) j.linked in
-    let old : (n : ℕ) → n < length c.slots → state_of e n ≡ state_of c n = λ n l. j.others n (λ q. omega (arith, q, hy, l)) ∙ a.states n l in
-    let one : unset_of v.kind v.state ≡ 1 = unset_of-infer v.kind v.state h.no_region ∙ ap one_unset free in
-    let later = IsLater-trans a.later j.later in
-    let has : kind_at e fresh ≡ Some v.kind = j.later.kinds fresh v.kind a.has in
-    let is : IsVariable e (label.Leaf (leaf.Variable v.kind fresh)) v.kind fresh = record { is = refl; no_region = h.no_region; has = has } in
-    let root : resolved e (variable_tree v.kind y) ≡ variable_tree v.kind y =
-    resolved-variable_unset e (label.Leaf (leaf.Variable v.kind y)) empty y after (infer_number_some v.kind y h.no_region) (old y below ∙ h.state) in
-    let value : resolved e (variable_tree v.kind fresh) ≡ variable_tree v.kind y =
-    resolved-variable_link e (label.Leaf (leaf.Variable v.kind fresh)) empty v.kind fresh y after is linked ∙ root in
-    let all = Continues-trans c d e s a.continues one_class.continues in
-    let old_one : AreOne e t (variable_tree v.kind y) = AreOne-continues c e t (variable_tree v.kind y) all knows (h.has, tt) (ap (rooted c) same) in
-    let new_one : AreOne e (variable_tree v.kind fresh) (variable_tree v.kind y) = ap (rooted e) (value ∙ sym root) in
-    let universe : universe_of e fresh ≡ Some u = one_class.universes fresh (λ q. omega (arith, q, ly, below)) ∙ a.universe ∙ ap Some of_u in
-    record {
-      keeps = record {
-        later = later;
-        states = λ n l q. old n l;
-        trees = λ z q. let same = a.trees z in let none = Lacks-new c (resolved c z) (Knows-resolved c z s q) in j.trees z (rw (same, hy) none) ∙ same;
-        unset_kept = omega (arith, j.fewer, a.count, one);
-      };
-      knows = (has, tt);
-      no_variable = λ n. absurd (n i);
-      like = fresh_like v.kind y (length c.slots) t like;
-      lacks = rw value (lacks_other v.kind y x h.no_region apart);
-      continues = all;
-      own = one_class.universes x (λ q. apart (sym ly ∙ sym q)) ∙ a.universes x within;
-      named = (rw universe (omega arith), tt);
-      named_regions = (tt, tt);
-      closed = (tt, tt);
-      alike = AreAlike-one e (variable_tree v.kind fresh) t (new_one ∙ sym old_one);
-      sound = λ w z.
-          let q = one_class.narrows.sound w z in
-          let before = a.back w q.0 in
-          let same_tree : w.tree y ≡ w.tree fresh = rw (ly, hy) at q.1 in (before, sym same_tree ∙ sym (worlds w before));
-      complete = λ w z names.
-          let tree_named : NamesAll term_level u (w.tree y) = rw (worlds w z) at names in
-          let grown = a.grow w (w.tree y) z (rw of_u tree_named) (z.fitting.each y v.kind h.has) in
-          let agrees = Agrees-with_tree (length c.slots) (length c.slots) w (w.tree y) (omega arith) in
-          let wide = with_tree w fresh (w.tree y) in
-          let one_tree : wide.tree low ≡ wide.tree high = rw (ly, hy) (agrees.trees y below ∙ sym (tree-with_tree w fresh (w.tree y))) in
-          record {
-            world = wide;
-            agrees = agrees;
-            solves = one_class.narrows.complete wide grown one_tree;
-            names = λ f k n.
-                (let tree_named : NamesAll f u (w.tree y) = rw (worlds w z) at n in
-                one_class.narrows.names f wide grown (a.grow_names f w (w.tree y) k (rw of_u tree_named)) one_tree);
-          };
-    }
-  where
-    fresh_like : (k : VariableKind) (n m : ℕ) (z : Tree) → IsLike (variable_tree k n) z → IsLike (variable_tree k m) z
-    fresh_like k n m empty q = q
-    fresh_like k n m (more p r) q = q
-    fresh_like k n m (node p r) q = q
-
-region_below : (l : Label) (x : RegionName) → name_of_label l ≡ Some x → IsBoundBelow 0 l
-region_below (label.Leaf q) x e = tt
-region_below (label.Bound q i n) x e = cc
-region_below (label.Ty h) x e = cc
-region_below (label.Const h) x e = cc
-region_below (label.Clause h) x e = cc
-region_below (label.Predicate h) x e = cc
-region_below (label.List h) x e = cc
-
--- a free region is closed
-IsRegion-value : (t : Tree) → IsRegion t → IsValue kind.Region t
-IsRegion-value empty h = let e = h.1 in cc
-IsRegion-value (more a b) h = let e = h.1 in cc
-IsRegion-value (node l (more a b)) h = let e = h.1 in cc
-IsRegion-value (node l (node m a)) h = let e = h.1 in cc
-IsRegion-value (node l empty) h = record { fits = h; closed = (region_below l h.0 h.1, tt) }
-
--- a fresh region variable, made equal to the region
-pub gen_fresh_region : (c d e : Content) (x u b : ℕ) (v : Slot) (t : Tree) (l : Label) → IsSound c → v.kind ≡ kind.Region → x < length c.slots → RegionNode t l → kind_of t ≡ Some (of_sort sort.Region) → IsRegion t → Knows c t → v.universe ≡ u → IsAdded c d v → RegionsRelate d e (variable_tree kind.Region (length c.slots)) t → universe_of e x ≡ universe_of d x → CanName u (universe_of e (length c.slots)) → Generalised c e x u b t (variable_tree kind.Region (length c.slots))
-gen_fresh_region c d e x u b v t l s region within r sorted is_region known of_u a related own named =
-    let k = related.keeps in
-    let fresh = length c.slots in
-    let none : unset_of v.kind v.state ≡ 0 = rw region refl in
-    let has : kind_at e fresh ≡ Some kind.Region = k.later.kinds fresh kind.Region (a.has ∙ ap Some region) in
-    let node_of : RegionNode (variable_tree kind.Region fresh) (label.Leaf (leaf.Variable kind.Region fresh)) = record { is = refl; no_infer = refl } in
-    record {
-      keeps = Keeps-trans (record {
-        later = a.later;
-        states = λ n q z. a.states n q;
-        trees = λ z q. a.trees z;
-        unset_kept = omega (arith, a.count, none);
-      }) k;
-      knows = (has, tt);
-      no_variable = λ n. not_infer_region (variable_tree kind.Region fresh) (label.Leaf (leaf.Variable kind.Region fresh)) node_of;
-      like = subst (λ (y : Tree). IsLike (variable_tree kind.Region fresh) y) (sym r.is) (region_sort t l r sorted);
-      lacks = rw (resolved-region_node e (variable_tree kind.Region fresh) (label.Leaf (leaf.Variable kind.Region fresh)) node_of) tt;
-      continues = Continues-trans c d e s a.continues related.continues;
-      own = own ∙ a.universes x within;
-      named = (named, tt);
-      named_regions = (tt, tt);
-      closed = (tt, tt);
-      alike = related.alike;
-      sound = λ w z. (let q = related.narrows.sound w z in (a.back w q.0, q.1));
-      complete = λ w z names.
-          let s = inst w t in
-          let value : IsValue v.kind s = rw region (IsValue-inst c w kind.Region t z.fitting known (IsRegion-value t is_region)) in
-          let grown = a.grow w s z (rw of_u names) value in
-          let agrees = Agrees-with_tree (length c.slots) (length c.slots) w s (omega arith) in
-          let wide = with_tree w fresh s in
-          let one_tree : wide.tree fresh ≡ inst wide t = tree-with_tree w fresh s ∙ sym (inst-agrees c w wide t agrees known) in
-          record {
-            world = wide;
-            agrees = agrees;
-            solves = related.narrows.complete wide grown one_tree;
-            names = λ f k n. related.narrows.names f wide grown (a.grow_names f w s k (rw of_u n)) one_tree;
-          };
-    }
-  where
-    region_sort : (t : Tree) (l : Label) → RegionNode t l → kind_of t ≡ Some (of_sort sort.Region) → of_sort sort.Region ≡ kind_of_label l
-    region_sort t l r sorted = some_kind _ _ (sym sorted ∙ ap kind_of r.is)
 
 -- rows
 row_take-row : (i : ℕ) (r : Tree) → i < row_length r → IsRow (row_take i r)
@@ -565,17 +355,18 @@ Lacks-push x empty t k l h = (l, tt)
 Lacks-push x (more a b) t k l h = (k.0, Lacks-push x b t k.1 l h)
 Lacks-push x (node m d) t k l h = absurd h
 
-not_row_infer : (r t : Tree) → IsRow r → IsInfer (row_push r t) → ⊥
-not_row_infer empty t h k = k
-not_row_infer (more a b) t h k = k
-not_row_infer (node l c) t h k = h
+IsRow-push : (r t : Tree) → IsRow r → IsRow (row_push r t)
+IsRow-push empty t h = tt
+IsRow-push (more a b) t h = IsRow-push b t h
+IsRow-push (node l c) t h = absurd h
 
 pub gen_start : (c : Content) (x u b : ℕ) (row : Tree) → IsSound c → Generalised c c x u b (row_take 0 row) empty
 gen_start c x u b row s =
     record {
       keeps = Keeps-refl c;
       knows = tt;
-      no_variable = λ h k. k;
+      rank = omega arith;
+      fits = λ j n z. row_unfit j empty tt;
       like = tt;
       lacks = rw (resolved-empty c) tt;
       continues = Continues-refl c s;
@@ -659,7 +450,8 @@ gen_push us vs c d e x u b i row a rs qs r sc fd se known g ext all lt ea h eq =
     rw (is, row') (record {
       keeps = Keeps-trans g.keeps h.keeps;
       knows = Knows-push e (trees_at us rs) (tree_at vs r) ir (Knows-later (trees_at us rs) h.keeps.later g.knows) h.knows;
-      no_variable = λ p. not_row_infer (trees_at us rs) (tree_at vs r) ir;
+      rank = zero_le _ _ (rank-push (trees_at us rs) (tree_at vs r) ir);
+      fits = λ j n z. row_unfit j (row_push (row_take i row) a) (IsRow-push (row_take i row) a it);
       like = IsLike-push (trees_at us rs) (row_take i row) (tree_at vs r) a ir it g.like (kind_of-like (tree_at vs r) a h.like);
       lacks = rw (resolved-row_push e (trees_at us rs) (tree_at vs r) ir) (Lacks-push x (resolved e (trees_at us rs)) (resolved e (tree_at vs r)) lacks h.lacks (IsRow-resolved e (trees_at us rs) ir));
       continues = Continues-trans c d e sc g.continues h.continues;
@@ -699,7 +491,8 @@ gen_node c d x u b i t row l known is alone not_free names below r n g =
     record {
       keeps = g.keeps;
       knows = (let k : Knows d (node l (children t)) = subst (λ (y : Tree). Knows d y) is (Knows-later t g.keeps.later known) in k.0, g.knows);
-      no_variable = λ h k. (let z : None ≡ Some k.0 = sym none ∙ k.1 in cc);
+      rank = zero_le _ _ (ap rank_of alone);
+      fits = λ j n z f. fits_node j l (children t) row n (subst (λ (y : Tree). Fits j y) is f);
       like = subst (λ (y : Tree). IsLike (node l row) y) (sym is) refl;
       lacks = rw (resolved-node d l row none) (lacks_node x l (resolved d row) none g.lacks);
       continues = g.continues;
@@ -735,21 +528,15 @@ gen_node c d x u b i t row l known is alone not_free names below r n g =
     lacks_node : (n : ℕ) (m : Label) (y : Tree) → infer_of m ≡ None → Lacks n y → Lacks n (node m y)
     lacks_node n m y e h = rw e h
 
-like_of-kinds : (r t : Tree) (k : NodeKind) → kind_of r ≡ Some k → kind_of t ≡ Some k → IsLike r t
-like_of-kinds empty t k h q = cc
-like_of-kinds (more a b) t k h q = cc
-like_of-kinds (node l c) empty k h q = cc
-like_of-kinds (node l c) (more a b) k h q = cc
-like_of-kinds (node l c) (node m d) k h q = some_kind _ _ (h ∙ sym q)
-
 -- from the value of a variable to the variable
-pub gen_known : (c d : Content) (x u b : ℕ) (t v r : Tree) (k : NodeKind) → IsInfer t → kind_of v ≡ Some k → kind_of t ≡ Some k → Knows c t → Knows c v → resolved c t ≡ resolved c v → ((w : World) → Solves c w → inst w t ≡ inst w v) → Generalised c d x u 0 v r → (IsInfer v → ⊥) → Generalised c d x u b t r
-gen_known c d x u b t v r k i sv st kt kv same worlds g n =
+pub gen_known : (c d : Content) (x u b : ℕ) (t v r : Tree) (k : NodeKind) → IsInfer t → kind_of v ≡ Some k → kind_of t ≡ Some k → Knows c t → Knows c v → resolved c t ≡ resolved c v → ((w : World) → Solves c w → inst w t ≡ inst w v) → Generalised c d x u 0 v r → variable_rank v < variable_rank t → Generalised c d x u b t r
+gen_known c d x u b t v r k i sv st kt kv same worlds g lower =
     let one : AreOne d t v = AreOne-continues c d t v g.continues kt kv (ap (rooted c) same) in
     record {
       keeps = g.keeps;
       knows = g.knows;
-      no_variable = λ h. absurd (h i);
+      rank = omega (arith, g.rank, lower);
+      fits = λ j n z f. infer_ranked t i z;
       like = like_of-kinds r t k (kind_of-like r v g.like ∙ sv) st;
       lacks = g.lacks;
       continues = g.continues;
@@ -772,7 +559,7 @@ pub gen_child : (c d : Content) (x u b i : ℕ) (t a row : Tree) (l : Label) →
 gen_child c d x u b i t a row l k is none less g q =
     let step = node_step c t l (ap label_of is) none k in
     let known : Knows c a = rw q (step.knows i) in
-    let same : left_to_resolve d a ≡ left_to_resolve c a = ap (λ y. 2 * size y + variable_flag a) (g.keeps.trees a known) in
+    let same : left_to_resolve d a ≡ left_to_resolve c a = ap (λ y. 3 * size y + variable_rank a) (g.keeps.trees a known) in
     let small : left_to_resolve c a < left_to_resolve c t = rw q (step.smaller i less) in
     record {
       smaller = omega (arith, same, small);

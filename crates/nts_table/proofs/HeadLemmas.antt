@@ -1,5 +1,5 @@
 -- What a term is under a table: the roots of variables, and their values.
-use Rattle.std.proofs.Common.{◌≡◌, ℕ, zero, suc, ◌<◌, List, [], ◌∷◌, length, Option, Some, None, refl, sym, ap, subst, ◌∙◌, arith}
+use Rattle.std.proofs.Common.{◌≡◌, ℕ, zero, suc, ◌<◌, ◌≤◌, List, [], ◌∷◌, length, Option, Some, None, refl, sym, ap, subst, ◌∙◌, arith}
 use Rattle.std.specs.Prelude.{slice_get}
 use Rattle.nts_model.specs.declared.labels.VariableKind.{VariableKind}
 use Rattle.nts_model.specs.declared.labels.VariableKind.TheVariants as kind
@@ -8,7 +8,7 @@ use Rattle.nts_model.specs.declared.labels.Label.{Label}
 use Rattle.nts_model.specs.declared.labels.Label.TheVariants as label
 use Rattle.nts_model.specs.Trees.{Tree, empty, more, node, NodeKind, of_sort, sort_of_variable, kind_of, kind_of_label, children, label_of, shape, Meets, in_order, HavePlaces, IsClosed as IsClosedTree}
 use Rattle.nts_model.specs.Contents.{Content, known, state_of, kind_at}
-use Rattle.nts_model.specs.Resolving.{variable_of, variable_tree, infer_of, IsInfer, Knows, KnowsLabel, Reaches, here, on, resolved}
+use Rattle.nts_model.specs.Resolving.{variable_of, variable_tree, infer_of, IsInfer, Knows, KnowsLabel, Reaches, here, on, resolved, rank_of, rank_of_kind, variable_rank}
 use Rattle.nts_model.proofs.Variables.{infer_label}
 use Rattle.nts_model.proofs.Slots.{some_slot}
 use Rattle.nts_model.proofs.Roots.{kind_at-reaches}
@@ -26,7 +26,10 @@ use Rattle.nts_table.specs.Reading.{state_with, slot_of, content_of, IsLawful}
 use Rattle.nts_table.specs.Roots.{Leads, IsRootState, IsRoot}
 use Rattle.nts_table.specs.Changing.{region_variable, region_number}
 use Rattle.nts_table.specs.Unchanged.{HasUnset}
-use Rattle.nts_table.specs.Relating.{IsLike, IsOpen, IsClosed}
+use Rattle.nts_table.specs.Relating.{IsLike, IsOpen, IsHead}
+use Rattle.nts_table.specs.declared.relate.Head.{Head}
+use Rattle.nts_table.specs.declared.relate.Head.TheVariants.{Open, Closed}
+use Rattle.nts_table.proofs.Ranks.{kind_of-like, like_of-kinds}
 use Rattle.nts_table.proofs.Changes.{slot_at, AreHeld-at}
 
 pub state_at : (ts : List Tree) (e : Entries) (n : ℕ) (v : Variable) → slice_get e.variables n ≡ Some v → state_of (content_of ts e) n ≡ Some (state_with ts v.state)
@@ -138,14 +141,34 @@ head_known ts e t l n r w v h k is i root at s =
       closed = (h.proper.solvable.values r (tree_at ts v) x.of_kind state root_kind).closed;
     }
 
-pub closed_known : (ts : List Tree) (e : Entries) (t : Tree) (v : NodeId) → HeadKnown ts e t v → IsIn ts v × IsClosed (content_of ts e) t (tree_at ts v)
-closed_known ts e t v h =
-    (h.within, record { knows = h.step.knows; no_variable = h.step.no_variable; same = h.step.same; worlds = h.worlds })
+-- .. is what the variable is
+pub head_through : (ts : List Tree) (e : Entries) (t : Tree) (v : NodeId) (h : Head) → HeadKnown ts e t v → IsHead ts e (tree_at ts v) h → IsHead ts e t h
+head_through ts e t v (Open n) k o =
+    record {
+      bindable = o.bindable;
+      infer = k.infer;
+      like = like_of-kinds (variable_tree o.bindable.of_kind n) t k.sort (kind_of-like (variable_tree o.bindable.of_kind n) (tree_at ts v) o.like ∙ k.value_sort) k.own_sort;
+      rank = (let a = o.rank in let b = k.step.lower in omega (arith, a, b));
+      same = k.step.same ∙ o.same;
+      worlds = λ w z. k.worlds w z ∙ o.worlds w z;
+    }
+head_through ts e t v (Closed n) k o = (
+  o.0,
+  record {
+    knows = o.1.knows;
+    no_variable = o.1.no_variable;
+    same = k.step.same ∙ o.1.same;
+    worlds = λ w z. k.worlds w z ∙ o.1.worlds w z;
+  },
+)
 
 is_unset : (s : State) → IsRootState s → ((v : NodeId) → s ≡ Known v → ⊥) → s ≡ Unset
 is_unset Unset h k = refl
 is_unset (Link m) h k = absurd h
 is_unset (Known v) h k = absurd (k v refl)
+
+zero_less : (a b k : ℕ) → a ≡ k → b ≡ a → k ≤ b
+zero_less a b k e q = omega (arith, e, q)
 
 -- a root without a value
 pub head_open : (ts : List Tree) (e : Entries) (t : Tree) (l : Label) (n r : ℕ) (w : Variable) → IsLawful ts e → Knows (content_of ts e) t → t ≡ node l (children t) → Meets (shape l) (children t) → infer_of l ≡ Some n → IsRoot e n r → slice_get e.variables r ≡ Some w → ((v : NodeId) → w.state ≡ Known v → ⊥) → IsOpen ts e t r
@@ -161,6 +184,7 @@ head_open ts e t l n r w h k is m i root at s =
       bindable = record { of_kind = x.of_kind; no_region = x.no_region; free = record { variable = w; at = at; of_kind = of_kind; state = is_unset w.state (root.ends w at) s } };
       infer = infer_at t l n is i;
       like = subst (λ (y : Tree). IsLike (variable_tree x.of_kind r) y) (sym is) like;
+      rank = zero_less (rank_of (variable_of l)) (variable_rank t) (rank_of_kind x.of_kind) (ap rank_of x.is) (ap variable_rank is);
       same = ap (resolved c) (variable_node t l x.of_kind n is m x.is) ∙ resolved-variable_reaches c x.of_kind n r h.sound x.no_region has (reaches ts e n r root.leads);
       worlds = λ w z. inst-at w t l x.of_kind n is x.is ∙ tree-reaches c w n r z (reaches ts e n r root.leads);
     }

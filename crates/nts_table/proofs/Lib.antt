@@ -4,6 +4,7 @@ pub mod Leading
 pub mod Walking
 pub mod ClassValues
 pub mod FreshLemmas
+pub mod FreshValues
 pub mod SnapshotLemmas
 pub mod SubLinks
 pub mod RegionLinks
@@ -17,7 +18,8 @@ pub mod PairLemmas
 pub mod GenLemmas
 pub mod Naming
 pub mod BindLemmas
-pub mod RefusalLemmas
+pub mod Ranks
+mod RefusalLemmas
 pub mod Looking
 pub mod Telling
 pub mod Conditions

@@ -9,7 +9,7 @@ use Rattle.nts_model.specs.declared.labels.Label.{Label}
 use Rattle.nts_model.specs.declared.labels.Label.TheVariants as label
 use Rattle.nts_model.specs.Trees.{Tree, node, children, shape, Meets, any_label, is_infer, is_region_infer, is_placeholder}
 use Rattle.nts_model.specs.Contents.{Content, unset, state_of, kind_at, universe_of, with_slot}
-use Rattle.nts_model.specs.Resolving.{variable_of, infer_of, variable_tree, IsSound, resolved, root_of, Knows}
+use Rattle.nts_model.specs.Resolving.{variable_of, infer_of, variable_tree, IsSound, resolved, root_of, Knows, variable_rank}
 use Rattle.nts_model.specs.Regions.{RegionName, of_variable, IsRegion, name_of_label}
 use Rattle.nts_model.proofs.Fitting.{region_label}
 use Rattle.nts_model.proofs.Roots.{root_of-root}
@@ -35,19 +35,19 @@ use Rattle.nts_table.specs.Joining.{CanJoin, CanJoinRegions, Joins, RegionsJoin}
 use Rattle.nts_table.specs.Relating.{IsLike, IsUnset, IsOpen, IsRegionOf, RegionsRelate, IsSettled, StaysBelow, Generalised}
 use Rattle.nts_table.specs.Lawful.{IsNew, content_of-added, content_of-extended, IsLawful-added, IsLawful-extended}
 use Rattle.nts_table.proofs.Changes.{length-slots}
-use Rattle.nts_table.specs.Proper.{IsSortKind}
 use Rattle.nts_table.proofs.Leading.{universe_of-entry, kind_at-entry}
 use Rattle.nts_table.proofs.Keeping.{Knows-later}
 use Rattle.nts_table.proofs.JoinLemmas.{free_slot}
 use Rattle.nts_table.proofs.RegionLemmas.{IsRegionVariable, region_variable_at, regions_joined, regions_recorded}
 use Rattle.nts_table.proofs.HeadLemmas.{region_root}
-use Rattle.nts_table.proofs.GenLemmas.{region_node, gen_named, gen_fresh, gen_region, gen_region_root, gen_fresh_region, gen_settled, IsAdded, slot_added}
+use Rattle.nts_table.proofs.GenLemmas.{region_node, gen_named, gen_region, gen_region_root, gen_settled}
+use Rattle.nts_table.proofs.FreshValues.{gen_fresh, gen_fresh_region, IsAdded, slot_added}
 
 some_variable : (v w : Variable) → Some v ≡ Some w → v ≡ w
 some_variable v w e = cc
 
 -- the kind that is read is the variable's
-kind_read : (e : Entries) (y : ℕ) (k : VariableKind) (w : Variable) → HasUnset e y k → slice_get e.variables y ≡ Some w → w.kind ≡ k
+pub kind_read : (e : Entries) (y : ℕ) (k : VariableKind) (w : Variable) → HasUnset e y k → slice_get e.variables y ≡ Some w → w.kind ≡ k
 kind_read e y k w h at =
     let same = some_variable h.variable w (sym h.at ∙ at) in ap (λ (v : Variable). v.kind) (sym same) ∙ h.of_kind
 
@@ -60,7 +60,7 @@ named_value ts us e x u b y t r w h o d at low ext q =
     let k = o.bindable.of_kind in
     let same = kind_read e y k w o.bindable.free at in
     let is : r ≡ variable_tree k y = q ∙ ap (λ j. variable_tree j y) same in
-    rw (is, content_of-extended ext h) (gen_named (content_of ts e) x u b y k t h.sound (unset_in ts e y k o.bindable.no_region o.bindable.free) o.infer o.like d (rw (universe_of-entry ts e y w at) low) o.same o.worlds)
+    rw (is, content_of-extended ext h) (gen_named (content_of ts e) x u b y k t h.sound (unset_in ts e y k o.bindable.no_region o.bindable.free) o.infer o.rank o.like d (rw (universe_of-entry ts e y w at) low) o.same o.worlds)
 
 HasUnset-added : (e : Entries) (v : Variable) (n : ℕ) (k : VariableKind) → HasUnset e n k → HasUnset (added e v) n k
 HasUnset-added e v n k h =
@@ -125,11 +125,12 @@ fresh_value ts us e m f x u b y number t r v w h knows within of_u o d at vk new
     let is : r ≡ variable_tree v.kind (length c.slots) = q ∙ (λ i. variable_tree (sym vk i) (len i)) in
     let kv : k ≡ v.kind = sym same ∙ sym vk in
     let free : IsUnset c y v.kind = subst (λ (j : VariableKind). IsUnset c y j) kv (unset_in ts e y k o.bindable.no_region o.bindable.free) in
+    let rank : variable_rank (variable_tree v.kind y) ≤ variable_rank t = subst (λ (j : VariableKind). variable_rank (variable_tree j y) ≤ variable_rank t) kv o.rank in
     let like : IsLike (variable_tree v.kind y) t = subst (λ (j : VariableKind). IsLike (variable_tree j y) t) kv o.like in
     let same_tree : resolved c t ≡ resolved c (variable_tree v.kind y) = o.same ∙ ap (λ z. resolved c (variable_tree z y)) kv in
     let below : x < length c.slots = omega (arith, within, length-slots ts e.variables) in
     rw (is, content_of-extended ext j.lawful)
-    (gen_fresh c (content_of ts m) (content_of ts f) x u b y (min y number) (max y number) (slot_of ts v) t h.sound knows free (ap (state_with ts) new.state) of_u below o.infer like d same_tree o.worlds (added_in ts e m v h new em) (ap (λ n. min y n) len) (ap (λ n. max y n) len) j.joined j.one j.lawful.sound)
+    (gen_fresh c (content_of ts m) (content_of ts f) x u b y (min y number) (max y number) (slot_of ts v) t h.sound knows free (ap (state_with ts) new.state) of_u below o.infer rank like d same_tree o.worlds (added_in ts e m v h new em) (ap (λ n. min y n) len) (ap (λ n. max y n) len) j.joined j.one j.lawful.sound)
 
 -- the label of a free region
 free_label : (l : Label) (x : RegionName) → name_of_label l ≡ Some x → is_free_region l ≡ true
@@ -312,7 +313,3 @@ alone_label (label.Const q) e f = refl
 alone_label (label.Clause q) e f = refl
 alone_label (label.Predicate q) e f = refl
 alone_label (label.List q) e f = refl
-
--- a variable of the table is of one of the three sorts
-pub entry_kind : (ts : List Tree) (e : Entries) (n : ℕ) (v : Variable) → IsLawful ts e → slice_get e.variables n ≡ Some v → IsSortKind v.kind
-entry_kind ts e n v h at = h.proper.kinds n v.kind (kind_at-entry ts e n v at)

@@ -1,6 +1,7 @@
 -- The pairs that are left, and their weight.
-use Rattle.std.proofs.Common.{◌≡◌, ℕ, ◌+◌, ◌<◌, Bool, true, false, min, max, List, [], ◌∷◌, ◌++◌, length, Option, Some, None, refl, sym, ap, ◌∙◌, arith, Result, Ok, Err, IfOk}
+use Rattle.std.proofs.Common.{◌≡◌, ◌≢◌, ℕ, ◌+◌, ◌<◌, Bool, true, false, min, max, List, [], ◌∷◌, ◌++◌, length, Option, Some, None, refl, sym, ap, ◌∙◌, arith, Result, Ok, Err, IfOk}
 use Rattle.nts_model.specs.declared.labels.VariableKind.{VariableKind}
+use Rattle.nts_model.specs.declared.labels.VariableKind.TheVariants as kind
 use Rattle.nts_model.specs.declared.labels.Leaf.TheVariants as leaf
 use Rattle.nts_model.specs.declared.labels.Label.{Label}
 use Rattle.nts_model.specs.declared.labels.Label.TheVariants as label
@@ -24,12 +25,13 @@ use Rattle.nts_table.specs.Entries.{Entries}
 use Rattle.nts_table.specs.Reading.{content_of, IsLawful}
 use Rattle.nts_table.specs.Changing.{unset_count, IsLater, Keeps, is_free_region}
 use Rattle.nts_table.specs.Joining.{Joins}
+use Rattle.nts_table.specs.Unchanged.{HasUnset}
 use Rattle.nts_table.specs.Knowing.{row_from}
-use Rattle.nts_table.specs.Relating.{IsOpen, IsClosed, IsSet, RegionsRelate, pair_at, pairs_at, ArePairsIn, AreKnown, total, Pushed, IsValid, IsStep, IsRun, Running, VariablesRelate}
+use Rattle.nts_table.specs.Relating.{IsOpen, IsClosed, IsSet, RegionsRelate, pair_at, pairs_at, ArePairsIn, AreKnown, total, Pushed, IsValid, IsStep, IsRun, Running, AreMadeOne, VariablesRelate}
 use Rattle.nts_table.proofs.Keeping.{IsLater-refl, IsLater-trans, Knows-later, Keeps-refl}
 use Rattle.nts_table.proofs.JoinLemmas.{free_slot, at_max}
 use Rattle.nts_table.proofs.RegionLemmas.{from_sides, to_sides}
-use Rattle.nts_table.proofs.GenLemmas.{IsFair, itself}
+use Rattle.nts_table.proofs.GenLemmas.{IsFair, unchanged}
 use Rattle.nts_table.proofs.Naming.{lawful_sides, alone_label}
 use Rattle.nts_table.proofs.Looking.{row_from-end, row_from-step}
 
@@ -95,7 +97,7 @@ Reduces-refl c ps s =
     record {
       continues = Continues-refl c s;
       sound = λ w z q. (z, q);
-      complete = λ w z q. (itself c w z, q);
+      complete = λ w z q. (unchanged c w z, q);
       alike = λ f k h q. q;
     }
 
@@ -228,6 +230,9 @@ pub set_right : (ts us : List Tree) (e f : Entries) (p : Pair) (y : ℕ) (a : Tr
 set_right ts us e f p y a h k kl kr o r s =
     AreRelated-turned (set_left ts us e f (record { left = p.right; right = p.left }) y a h k kr kl o r s)
 
+some_variable_kind : (j k : VariableKind) → Some j ≡ Some k → j ≡ k
+some_variable_kind j k e = cc
+
 -- nothing that trees stand for changed
 pub step_kept : (ts : List Tree) (e f : Entries) (ps : List Pair) (p : Pair) → IsValid ts e (ps ++ p ∷ []) → IsLawful ts f → Keeps (content_of ts e) (content_of ts f) → AreRelated (content_of ts e) (content_of ts f) (tree_at ts p.left) (tree_at ts p.right) → Stepped ts ts e f ps ps p false
 step_kept ts e f ps p v h k r =
@@ -249,7 +254,7 @@ one_related c a b s e h =
       continues = Continues-refl c s;
       alike = AreAlike-one c a b e;
       sound = λ w z. (z, h w z);
-      complete = λ w z q. itself c w z;
+      complete = λ w z q. unchanged c w z;
     }
 
 -- one node on both sides
@@ -276,58 +281,92 @@ variable_same ts e a b x y h o r same =
     let c = content_of ts e in
     let first = (free_slot ts e x o.bindable.of_kind o.bindable.free).kind in
     let second = (free_slot ts e y r.bindable.of_kind r.bindable.free).kind in
-    let kinds : o.bindable.of_kind ≡ r.bindable.of_kind = some_kind o.bindable.of_kind r.bindable.of_kind (sym first ∙ ap (kind_at c) same ∙ second) in
+    let kinds : o.bindable.of_kind ≡ r.bindable.of_kind = some_variable_kind o.bindable.of_kind r.bindable.of_kind (sym first ∙ ap (kind_at c) same ∙ second) in
     one_related c a b h.sound (ap (rooted c) (o.same ∙ (λ i. resolved c (variable_tree (kinds i) (same i))) ∙ sym r.same)) (λ w z. o.worlds w z ∙ ap w.tree same ∙ sym (r.worlds w z))
-  where
-    some_kind : (j k : VariableKind) → Some j ≡ Some k → j ≡ k
-    some_kind j k e = cc
 
--- two variables, which become one
-variables_joined : (ts : List Tree) (e f : Entries) (a b : Tree) (x y : ℕ) → IsLawful ts e → Knows (content_of ts e) a → Knows (content_of ts e) b → IsOpen ts e a x → IsOpen ts e b y → Joins ts e f x y → AreRelated (content_of ts e) (content_of ts f) a b
-variables_joined ts e f a b x y h ka kb o r joins =
+-- two variables that were joined
+pub joined_one : (ts us : List Tree) (e f : Entries) (x y : ℕ) (j k : VariableKind) → IsLawful ts e → HasUnset e x j → HasUnset e y k → j ≢ kind.Region → j ≡ k → us ≡ ts → Joins ts e f x y → IsLawful us f × AreMadeOne (content_of ts e) (content_of us f) x y
+joined_one ts us e f x y j k h hx hy no_region kinds same_store joins =
     let c = content_of ts e in
     let d = content_of ts f in
     let one = joins.one in
+    let first = (free_slot ts e x j hx).kind in
+    let second = (free_slot ts e y k hy).kind in
+    let later = joins.joined.later in
+    let high : kind_at d (max x y) ≡ Some j = at_max (λ n. kind_at d n ≡ Some j) x y (later.kinds x j first) (later.kinds y k second ∙ ap Some (sym kinds)) in
+    let is : IsVariable d (label.Leaf (leaf.Variable j (max x y))) j (max x y) = record { is = refl; no_region = no_region; has = high } in
+    let link : resolved d (variable_tree j (max x y)) ≡ resolved d (variable_tree j (min x y)) = resolved-variable_link d (label.Leaf (leaf.Variable j (max x y))) empty j (max x y) (min x y) joins.lawful.sound is one.linked in
+    let both : resolved d (variable_tree j x) ≡ resolved d (variable_tree j y) = from_sides (λ n. resolved d (variable_tree j n)) x y (sym link) in
+    let fewer = joins.joined.fewer in
+    rw same_store (joins.lawful, record {
+      later = later;
+      fewer = omega (arith, fewer);
+      continues = one.continues;
+      alike = λ a b p q.
+          let ea : a ≡ j = some_variable_kind a j (sym p ∙ first) in
+          let eb : b ≡ j = some_variable_kind b j (sym q ∙ second ∙ ap Some (sym kinds)) in
+          rw (ea, eb) (AreAlike-one d (variable_tree j x) (variable_tree j y) (ap (rooted d) both));
+      sound = λ w z. (let q = one.narrows.sound w z in (q.0, from_sides w.tree x y q.1));
+      complete = λ w z q. record {
+        world = w;
+        agrees = Agrees-refl (length c.slots) w;
+        solves = one.narrows.complete w z (to_sides w.tree x y q);
+        names = λ f n u. one.narrows.names f w z n (to_sides w.tree x y q);
+      };
+    })
+
+-- .. of which one got the other as its value
+pub set_one : {c d : Content} {x y : ℕ} (k : VariableKind) → kind_at c y ≡ Some k → IsSet c d x (variable_tree k y) → AreMadeOne c d x y
+set_one {c} {d} {x} {y} k has s =
+    record {
+      later = s.later;
+      fewer = s.fewer;
+      continues = s.continues;
+      alike = λ a b p q. (let e : b ≡ k = some_variable_kind b k (sym q ∙ has) in rw e (s.alike a p));
+      sound = λ w z. s.sound w z;
+      complete = λ w z q. s.complete w z q;
+    }
+
+pub AreMadeOne-turned : {c d : Content} {x y : ℕ} → AreMadeOne c d x y → AreMadeOne c d y x
+AreMadeOne-turned {c} {d} {x} {y} m =
+    record {
+      later = m.later;
+      fewer = m.fewer;
+      continues = m.continues;
+      alike = λ a b p q. AreAlike-turned d (variable_tree b x) (variable_tree a y) (m.alike b a q p);
+      sound = λ w z. (let q = m.sound w z in (q.0, sym q.1));
+      complete = λ w z q. m.complete w z (sym q);
+    }
+
+-- .. are related
+variables_related : (ts us : List Tree) (e f : Entries) (a b : Tree) (x y : ℕ) → Knows (content_of ts e) a → Knows (content_of ts e) b → IsOpen ts e a x → IsOpen ts e b y → AreMadeOne (content_of ts e) (content_of us f) x y → AreRelated (content_of ts e) (content_of us f) a b
+variables_related ts us e f a b x y ka kb o r m =
+    let c = content_of ts e in
+    let d = content_of us f in
     let j = o.bindable.of_kind in
     let k = r.bindable.of_kind in
     let first = (free_slot ts e x j o.bindable.free).kind in
     let second = (free_slot ts e y k r.bindable.free).kind in
-    let later = joins.joined.later in
-    let same_kind : kind_at d x ≡ kind_at d y = from_sides (kind_at d) x y (joins.lawful.sound.one_kind (max x y) (min x y) one.linked) in
-    let kinds : j ≡ k = some_kind j k (sym (later.kinds x j first) ∙ same_kind ∙ later.kinds y k second) in
-    let high : kind_at d (max x y) ≡ Some j = at_max (λ n. kind_at d n ≡ Some j) x y (later.kinds x j first) (later.kinds y k second ∙ ap Some (sym kinds)) in
-    let is : IsVariable d (label.Leaf (leaf.Variable j (max x y))) j (max x y) = record { is = refl; no_region = o.bindable.no_region; has = high } in
-    let link : resolved d (variable_tree j (max x y)) ≡ resolved d (variable_tree j (min x y)) = resolved-variable_link d (label.Leaf (leaf.Variable j (max x y))) empty j (max x y) (min x y) joins.lawful.sound is one.linked in
-    let both : resolved d (variable_tree j x) ≡ resolved d (variable_tree j y) = from_sides (λ n. resolved d (variable_tree j n)) x y (sym link) in
-    let left : AreOne d a (variable_tree j x) = AreOne-continues c d a (variable_tree j x) one.continues ka (first, tt) (ap (rooted c) o.same) in
-    let right : AreOne d b (variable_tree k y) = AreOne-continues c d b (variable_tree k y) one.continues kb (second, tt) (ap (rooted c) r.same) in
-    let middle : AreOne d (variable_tree j x) (variable_tree k y) = ap (rooted d) (both ∙ ap (λ z. resolved d (variable_tree z y)) kinds) in
+    let left : AreOne d a (variable_tree j x) = AreOne-continues c d a (variable_tree j x) m.continues ka (first, tt) (ap (rooted c) o.same) in
+    let right : AreOne d b (variable_tree k y) = AreOne-continues c d b (variable_tree k y) m.continues kb (second, tt) (ap (rooted c) r.same) in
     record {
-      continues = one.continues;
-      alike = AreAlike-one d a b (left ∙ middle ∙ sym right);
-      sound = λ w z. (let q = one.narrows.sound w z in (q.0, o.worlds w q.0 ∙ from_sides w.tree x y q.1 ∙ sym (r.worlds w q.0)));
-      complete = λ w z q. record {
-        world = w;
-        agrees = Agrees-refl (length c.slots) w;
-        solves = one.narrows.complete w z (to_sides w.tree x y (sym (o.worlds w z) ∙ q ∙ r.worlds w z));
-        names = λ f n u. one.narrows.names f w z n (to_sides w.tree x y (sym (o.worlds w z) ∙ q ∙ r.worlds w z));
-      };
+      continues = m.continues;
+      alike = AreAlike-for d (variable_tree j x) (variable_tree k y) a b left right (m.alike j k first second);
+      sound = λ w z. (let q = m.sound w z in (q.0, o.worlds w q.0 ∙ q.1 ∙ sym (r.worlds w q.0)));
+      complete = λ w z q. m.complete w z (sym (o.worlds w z) ∙ q ∙ r.worlds w z);
     }
-  where
-    some_kind : (j k : VariableKind) → Some j ≡ Some k → j ≡ k
-    some_kind j k e = cc
 
 -- two variables made one, or one variable twice
-pub step_variables : (ts : List Tree) (e f : Entries) (ps : List Pair) (p : Pair) (x y : ℕ) (bound : Bool) → IsValid ts e (ps ++ p ∷ []) → IsOpen ts e (tree_at ts p.left) x → IsOpen ts e (tree_at ts p.right) y → VariablesRelate ts e f x y bound → Stepped ts ts e f ps ps p bound
-step_variables ts e f ps p x y true v o q r =
-    let j = r.joins refl in
+pub step_variables : (ts us : List Tree) (e f : Entries) (ps : List Pair) (p : Pair) (x y : ℕ) (bound : Bool) → IsValid ts e (ps ++ p ∷ []) → Extends ts us → IsOpen ts e (tree_at ts p.left) x → IsOpen ts e (tree_at ts p.right) y → VariablesRelate ts us e f x y bound → Stepped ts us e f ps ps p bound
+step_variables ts us e f ps p x y true v ext o q r =
+    let m = r.made refl in
     let last = last_pair ts e ps p v in
-    let fewer = j.joined.fewer in
-    step_set ts ts e f ps p v (Extends-refl ts) j.lawful j.joined.later (omega (arith, fewer)) (variables_joined ts e f (tree_at ts p.left) (tree_at ts p.right) x y v.lawful last.left_known last.right_known o q j)
-step_variables ts e f ps p x y false v o q r =
+    step_set ts us e f ps p v ext m.0 m.1.later m.1.fewer (variables_related ts us e f (tree_at ts p.left) (tree_at ts p.right) x y last.left_known last.right_known o q m.1)
+step_variables ts us e f ps p x y false v ext o q r =
     let same = r.same refl in
-    let is : f ≡ e = same.0 in
-    rw is (step_kept ts e e ps p v v.lawful (Keeps-refl (content_of ts e)) (variable_same ts e (tree_at ts p.left) (tree_at ts p.right) x y v.lawful o q same.1))
+    let store : us ≡ ts = same.0 in
+    let is : f ≡ e = same.1 in
+    rw (store, is) (step_kept ts e e ps p v v.lawful (Keeps-refl (content_of ts e)) (variable_same ts e (tree_at ts p.left) (tree_at ts p.right) x y v.lawful o q same.2))
 
 -- the children of two nodes
 pub pushed_none : (ts : List Tree) (ps : List Pair) (a b : Tree) (i : ℕ) → IsRow a → IsRow b → i ≡ row_length a → row_length a ≡ row_length b → Pushed ts ps ps a b i
@@ -425,7 +464,7 @@ step_pushed ts e ps qs p a b l m v ha hb ia ib same not_free k =
           complete = λ w z q.
               let parts = Equates-front w (pairs_at ts ps) (pair_at ts p) q in
               let nodes : node (renamed w l) (inst w (children (tree_at ts a))) ≡ node (renamed w m) (inst w (children (tree_at ts b))) = sym (inst-is w (tree_at ts a) l ia alone) ∙ sym (ha.worlds w z) ∙ parts.1 ∙ hb.worlds w z ∙ inst-is w (tree_at ts b) m ib other in
-              (itself c w z, k.complete w parts.0 (node_eq _ _ _ _ nodes).1);
+              (unchanged c w z, k.complete w parts.0 (node_eq _ _ _ _ nodes).1);
           alike = λ f h next q.
               let parts = k.alike f q in
               let inner : AreAlike f (tree_at ts a) (tree_at ts b) = AreAlike-children f (tree_at ts a) (tree_at ts b) l (ap label_of ia) (ap label_of ib ∙ ap Some (sym same)) (infer_of_none l alone) parts.1 in

@@ -1,5 +1,5 @@
 -- Why no world makes a variable one with a tree, or two trees one.
-use Rattle.std.proofs.Common.{◌≡◌, ⊎_elim, ℕ, zero, suc, ◌+◌, ◌<◌, ◌≤◌, Bool, true, false, List, [], ◌∷◌, ◌++◌, length, Option, Some, None, refl, sym, ap, subst, ◌∙◌, arith}
+use Rattle.std.proofs.Common.{◌≡◌, ◌≢◌, ⊎_elim, ℕ, zero, suc, ◌+◌, ◌<◌, ◌≤◌, Bool, true, false, List, [], ◌∷◌, ◌++◌, length, Option, Some, None, refl, sym, ap, subst, ◌∙◌, arith}
 use Rattle.nts_model.specs.declared.labels.VariableKind.{VariableKind}
 use Rattle.nts_model.specs.declared.labels.VariableKind.TheVariants as kind
 use Rattle.nts_model.specs.declared.labels.FreeRegion.{FreeRegion}
@@ -16,13 +16,15 @@ use Rattle.nts_model.specs.Equations.{Reduces, Refuses, AreUnrelated}
 use Rattle.nts_model.proofs.Resolved.{Knows-row_at, flag_le}
 use Rattle.nts_model.proofs.Instances.{inst-node, inst-variable, inst-agrees}
 use Rattle.nts_model.proofs.Fitting.{Fits-kind_of, IsClosed-inst, kind_of_label-renamed}
-use Rattle.nts_model.proofs.Refuting.{names-node, closed-node, tree-named, one_node, IsFreeRegion, lengths_refute, sorts_refute}
+use Rattle.nts_model.proofs.Refuting.{names-node, closed-node, tree-named, one_node, IsFreeRegion, lengths_refute, sorts_refute, kind_refutes, integer_float_refute}
 use Rattle.nts_terms.specs.declared.nodes.NodeId.{NodeId}
 use Rattle.nts_terms.specs.Growth.{tree_at}
 use Rattle.nts_table.specs.declared.relate.Pair.{Pair}
 use Rattle.nts_table.specs.Entries.{Entries}
 use Rattle.nts_table.specs.Reading.{content_of}
-use Rattle.nts_table.specs.Proper.{IsSortKind}
+use Rattle.nts_model.specs.Fitting.{Fits}
+use Rattle.nts_table.specs.Relating.{TakesVariable}
+use Rattle.nts_table.proofs.Ranks.{region_unfit}
 use Rattle.nts_table.specs.Changing.{is_free_region}
 use Rattle.nts_table.specs.Relating.{IsClosed as IsClosedHead, Generalised, Blocks, Forbids, pair_at, pairs_at}
 use Rattle.nts_table.proofs.HeadLemmas.{kind_of-variable}
@@ -54,19 +56,19 @@ size_at w (more a b) zero h = omega arith
 size_at w (more a b) (suc i) h = let deeper = size_at w b i (omega arith) in omega (arith, deeper)
 size_at w (node l c) i h = absurd (omega arith)
 
--- a variable whose value is blocked
-pub blocks_known : (c : Content) (x u b : ℕ) (t v : Tree) → ((w : World) → Solves c w → inst w t ≡ inst w v) → Knows c v → IsClosed v → variable_flag v ≡ 0 → Blocks c x u 0 v → Blocks c x u b t
-blocks_known c x u b t v worlds k closed none h = record {
-  none = λ w z names below.
-      let same = worlds w z in
-      let inner : size (w.tree x) < size (inst w v) + variable_flag v = h.none w z (rw same at names) (IsClosed-inst c w 0 v z.fitting k closed) in
-      omega (arith, inner, none, ap size same);
-}
-
 flag_one : (t : Tree) → IsInfer t → variable_flag t ≡ 1
 flag_one empty h = absurd h
 flag_one (more a b) h = absurd h
 flag_one (node l c) h = (let q = h.1 in rw q refl)
+
+-- a variable whose value is blocked
+pub blocks_known : (c : Content) (x u b : ℕ) (t v : Tree) → ((w : World) → Solves c w → inst w t ≡ inst w v) → Knows c v → IsClosed v → IsInfer t → Blocks c x u 0 v → Blocks c x u b t
+blocks_known c x u b t v worlds k closed infer h = record {
+  none = λ w z names below.
+      let same = worlds w z in
+      let inner : size (w.tree x) < size (inst w v) + variable_flag v = h.none w z (rw same at names) (IsClosed-inst c w 0 v z.fitting k closed) in
+      omega (arith, inner, flag_le v, flag_one t infer, ap size same);
+}
 
 -- the variable itself
 pub blocks_own : (c : Content) (x y u b : ℕ) (t : Tree) → ((w : World) → Solves c w → inst w t ≡ w.tree y) → y ≡ x → IsInfer t → Blocks c x u b t
@@ -136,38 +138,49 @@ inst-kind c w t l z k is i = by_case (variable_of l) refl
         ap kind_of (ap (inst w) is ∙ inst-variable w l (children t) v.0 v.1 e) ∙ Fits-kind_of v.0 (w.tree v.1) (z.fitting.each v.1 v.0 has).fits
         ∙ ap Some (sym (kind_of-variable l v.0 v.1 e))
 
-some_kind : (a b : NodeKind) → Some a ≡ Some b → a ≡ b
-some_kind a b e = cc
+-- a tree that does not fit
+pub forbids_kind : (c : Content) (x : ℕ) (k : VariableKind) (t : Tree) (l : Label) → kind_at c x ≡ Some k → k ≢ kind.Region → Knows c t → t ≡ node l (children t) → infer_of l ≡ None → (Fits k (node l (children t)) → ⊥) → Forbids c x t
+forbids_kind c x k t l has n knows is i apart = record { none = λ w z e. by_case w z e (variable_of l) refl }
+  where
+    by_case : (w : World) → Solves c w → w.tree x ≡ inst w t → (o : Option (VariableKind × ℕ)) → variable_of l ≡ o → ⊥
+    by_case w z e None q = kind_refutes c w x k l (children t) z has n q apart (e ∙ ap (inst w) is)
+    by_case w z e (Some v) q =
+        let region : v.0 ≡ kind.Region = no_infer l v.0 v.1 q i in
+        let sort : kind_of_label l ≡ of_sort (sort_of_variable v.0) = kind_of-variable l v.0 v.1 q in
+        let own : kind_of (w.tree x) ≡ Some (of_sort (sort_of_variable v.0)) = ap kind_of e ∙ inst-kind c w t l z knows is i ∙ ap Some sort in
+        region_unfit k (w.tree x) n (own ∙ ap (λ j. Some (of_sort (sort_of_variable j))) region) (z.fitting.each x k has).fits
 
--- a tree of another sort
-pub forbids_sort : (c : Content) (x : ℕ) (k : VariableKind) (t : Tree) (l : Label) → kind_at c x ≡ Some k → Knows c t → t ≡ node l (children t) → infer_of l ≡ None → (kind_of_label l ≡ of_sort (sort_of_variable k) → ⊥) → Forbids c x t
-forbids_sort c x k t l has knows is i apart = record {
-  none = λ w z e. apart (some_kind _ _ (sym (inst-kind c w t l z knows is i) ∙ ap kind_of (sym e) ∙ Fits-kind_of k (w.tree x) (z.fitting.each x k has).fits));
-}
+-- no tree fits variables of two kinds of which neither takes the other
+fits_apart : (j k : VariableKind) (t : Tree) → (j ≡ k → ⊥) → (TakesVariable j k → ⊥) → (TakesVariable k j → ⊥) → Fits j t → Fits k t → ⊥
+fits_apart kind.Ty kind.Ty t d a b f g = d refl
+fits_apart kind.Ty kind.Int t d a b f g = a tt
+fits_apart kind.Ty kind.Float t d a b f g = a tt
+fits_apart kind.Ty kind.Const t d a b f g = sorts_refute kind.Ty kind.Const t (λ e. cc) f g
+fits_apart kind.Ty kind.Region t d a b f g = sorts_refute kind.Ty kind.Region t (λ e. cc) f g
+fits_apart kind.Int kind.Ty t d a b f g = b tt
+fits_apart kind.Int kind.Int t d a b f g = d refl
+fits_apart kind.Int kind.Float t d a b f g = integer_float_refute t f g
+fits_apart kind.Int kind.Const t d a b f g = sorts_refute kind.Int kind.Const t (λ e. cc) f g
+fits_apart kind.Int kind.Region t d a b f g = sorts_refute kind.Int kind.Region t (λ e. cc) f g
+fits_apart kind.Float kind.Ty t d a b f g = b tt
+fits_apart kind.Float kind.Int t d a b f g = integer_float_refute t g f
+fits_apart kind.Float kind.Float t d a b f g = d refl
+fits_apart kind.Float kind.Const t d a b f g = sorts_refute kind.Float kind.Const t (λ e. cc) f g
+fits_apart kind.Float kind.Region t d a b f g = sorts_refute kind.Float kind.Region t (λ e. cc) f g
+fits_apart kind.Const kind.Ty t d a b f g = sorts_refute kind.Const kind.Ty t (λ e. cc) f g
+fits_apart kind.Const kind.Int t d a b f g = sorts_refute kind.Const kind.Int t (λ e. cc) f g
+fits_apart kind.Const kind.Float t d a b f g = sorts_refute kind.Const kind.Float t (λ e. cc) f g
+fits_apart kind.Const kind.Const t d a b f g = d refl
+fits_apart kind.Const kind.Region t d a b f g = sorts_refute kind.Const kind.Region t (λ e. cc) f g
+fits_apart kind.Region kind.Region t d a b f g = d refl
+fits_apart kind.Region kind.Ty t d a b f g = sorts_refute kind.Region kind.Ty t (λ e. cc) f g
+fits_apart kind.Region kind.Int t d a b f g = sorts_refute kind.Region kind.Int t (λ e. cc) f g
+fits_apart kind.Region kind.Float t d a b f g = sorts_refute kind.Region kind.Float t (λ e. cc) f g
+fits_apart kind.Region kind.Const t d a b f g = sorts_refute kind.Region kind.Const t (λ e. cc) f g
 
--- two variables of two kinds that are sorts
-sorts_apart : (j k : VariableKind) → IsSortKind j → IsSortKind k → (j ≡ k → ⊥) → sort_of_variable j ≡ sort_of_variable k → ⊥
-sorts_apart kind.Ty kind.Ty a b d e = d refl
-sorts_apart kind.Ty kind.Const a b d e = cc
-sorts_apart kind.Ty kind.Region a b d e = cc
-sorts_apart kind.Const kind.Ty a b d e = cc
-sorts_apart kind.Const kind.Const a b d e = d refl
-sorts_apart kind.Const kind.Region a b d e = cc
-sorts_apart kind.Region kind.Ty a b d e = cc
-sorts_apart kind.Region kind.Const a b d e = cc
-sorts_apart kind.Region kind.Region a b d e = d refl
-sorts_apart kind.Int k a b d e = a
-sorts_apart kind.Float k a b d e = a
-sorts_apart kind.Ty kind.Int a b d e = b
-sorts_apart kind.Ty kind.Float a b d e = b
-sorts_apart kind.Const kind.Int a b d e = b
-sorts_apart kind.Const kind.Float a b d e = b
-sorts_apart kind.Region kind.Int a b d e = b
-sorts_apart kind.Region kind.Float a b d e = b
-
-pub variables_apart : (c : Content) (x y : ℕ) (j k : VariableKind) → kind_at c x ≡ Some j → kind_at c y ≡ Some k → IsSortKind j → IsSortKind k → (j ≡ k → ⊥) → (w : World) → Solves c w → w.tree x ≡ w.tree y → ⊥
-variables_apart c x y j k hx hy a b d w z e =
-    sorts_refute j k (w.tree y) (sorts_apart j k a b d) (rw e at (z.fitting.each x j hx).fits) (z.fitting.each y k hy).fits
+pub variables_apart : (c : Content) (x y : ℕ) (j k : VariableKind) → kind_at c x ≡ Some j → kind_at c y ≡ Some k → (j ≡ k → ⊥) → (TakesVariable j k → ⊥) → (TakesVariable k j → ⊥) → (w : World) → Solves c w → w.tree x ≡ w.tree y → ⊥
+variables_apart c x y j k hx hy d a b w z e =
+    fits_apart j k (w.tree y) d a b (rw e at (z.fitting.each x j hx).fits) (z.fitting.each y k hy).fits
 
 -- free regions and other labels
 record HasFreeLabel (t : Tree) : Type 0 where

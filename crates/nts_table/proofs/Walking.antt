@@ -1,5 +1,5 @@
 -- What the steps of a walk that resolves a term make of it.
-use Rattle.std.proofs.Common.{◌≡◌, ◌≢◌, Bool, true, false, ℕ, zero, suc, List, [], ◌∷◌, Option, Some, None, refl, sym, ap, ◌∙◌}
+use Rattle.std.proofs.Common.{◌≡◌, ◌≢◌, Bool, true, false, ℕ, zero, suc, List, [], ◌∷◌, Option, Some, None, refl, sym, ap, subst, ◌<◌, ◌∙◌}
 use Rattle.std.specs.Prelude.{slice_get}
 use Rattle.nts_model.specs.declared.labels.Sort.TheVariants as sort
 use Rattle.nts_model.specs.declared.labels.VariableKind.{VariableKind}
@@ -7,15 +7,17 @@ use Rattle.nts_model.specs.declared.labels.VariableKind.TheVariants as kind
 use Rattle.nts_model.specs.declared.labels.Leaf.TheVariants as leaf
 use Rattle.nts_model.specs.declared.labels.Label.{Label}
 use Rattle.nts_model.specs.declared.labels.Label.TheVariants as label
-use Rattle.nts_model.specs.Trees.{Tree, empty, more, node, children, kind_of, kind_of_label, of_sort, sort_of_variable}
+use Rattle.nts_model.specs.Trees.{Tree, empty, more, node, children, kind_of, of_sort, sort_of_variable, shape, Meets}
 use Rattle.nts_model.specs.Contents.{Content, state_of, kind_at, unset, known}
-use Rattle.nts_model.specs.Resolving.{variable_of, variable_tree, resolved, rooted, root_of, IsInfer, IsSound, Reaches}
+use Rattle.nts_model.specs.Resolving.{variable_of, variable_tree, resolved, rooted, root_of, IsSound, Reaches, Knows, rank_of_kind, variable_rank}
 use Rattle.nts_model.proofs.Variables.{infer_of_none, infer_of_variable_label}
 use Rattle.nts_model.proofs.Resolved.{resolved-empty, resolved-node, deeply_resolved-empty, deeply_resolved-node, IsVariable, resolved-reaches_known, resolved-variable_reaches, resolved-variable_unset, IsVariable-infer, IsVariable-reaches}
 use Rattle.nts_model.proofs.Kept.{variable_label, resolved-no_infer, deeply_resolved-no_variables}
 use Rattle.nts_terms.specs.declared.nodes.NodeId.{NodeId}
 use Rattle.nts_terms.specs.Growth.{tree_at, IsIn}
-use Rattle.nts_terms.specs.Replacement.{GoesDown}
+use Rattle.nts_terms.specs.Replacement.{GoesDown, IsStep}
+use Rattle.nts_terms.specs.declared.replacement.Step.{Step}
+use Rattle.nts_terms.specs.declared.replacement.Step.TheVariants as step
 use Rattle.nts_table.specs.declared.contents.State.{State}
 use Rattle.nts_table.specs.declared.contents.State.TheVariants.{Unset, Link, Known}
 use Rattle.nts_table.specs.declared.contents.Variable.{Variable}
@@ -24,6 +26,8 @@ use Rattle.nts_table.specs.Reading.{state_with, content_of, IsHeldState, AreHeld
 use Rattle.nts_table.specs.Roots.{IsRoot}
 use Rattle.nts_table.specs.Resolution.{resolved_to, Resolution, resolution, resolution_of, CanResolve, IsResolved}
 use Rattle.nts_table.proofs.Leading.{state_of-entry, Reaches-leads}
+use Rattle.nts_table.proofs.HeadLemmas.{variable_node}
+use Rattle.nts_table.proofs.Ranks.{some_kind}
 
 -- a tree without variables to be replaced
 pub resolved_to-left : (regions : Bool) (c : Content) (t : Tree) → IsResolved regions t → resolved_to regions c t ≡ t
@@ -100,31 +104,22 @@ no_region_sort kind.Float h e = cc
 no_region_sort kind.Const h e = cc
 no_region_sort kind.Region h e = h refl
 
--- a value is a node, and no variable
-pub record IsValue (v : Tree) : Type 0 where
-  pub label : Label
-  pub below : Tree
-  pub is : v ≡ node label below
-  pub no_variable : variable_of label ≡ None
+-- a variable that is the value of another
+pub record ValueVariable (c : Content) (k j : VariableKind) (m : ℕ) (v : Tree) : Type 0 where
+  pub has : kind_at c m ≡ Some j
+  pub is : v ≡ variable_tree j m
+  pub no_region : j ≢ kind.Region
+  pub lower : rank_of_kind j < rank_of_kind k
 
-pub value_node : (v : Tree) (k : VariableKind) → k ≢ kind.Region → kind_of v ≡ Some (of_sort (sort_of_variable k)) → (IsInfer v → ⊥) → IsValue v
-value_node empty k d e h = cc
-value_node (more a b) k d e h = cc
-value_node (node l x) k d e h = by_case (variable_of l) refl
+-- a step for a tree is one for each tree with the same image
+IsStep-image : (covers : Tree → Type 0) (image : Tree → Tree) (ts : List Tree) (t v : Tree) (s : Step) → image t ≡ image v → IsStep covers image ts v s → IsStep covers image ts t s
+IsStep-image covers image ts t v (step.Done r) e h = (h.0, h.1 ∙ sym e)
+IsStep-image covers image ts t v (step.Down n) e h = (h.0, down (tree_at ts n) h.1)
   where
-    by_kind : (j : VariableKind) (m : ℕ) → variable_of l ≡ Some (j, m) → (j ≢ kind.Region → ⊥) → IsValue (node l x)
-    by_kind kind.Ty m q f = absurd (f (λ z. cc))
-    by_kind kind.Int m q f = absurd (f (λ z. cc))
-    by_kind kind.Float m q f = absurd (f (λ z. cc))
-    by_kind kind.Const m q f = absurd (f (λ z. cc))
-    by_kind kind.Region m q f =
-        let is : kind_of_label l ≡ of_sort sort.Region = ap kind_of_label (variable_label l kind.Region m q) in
-        let same : of_sort (sort_of_variable k) ≡ of_sort sort.Region = cc in
-        absurd (no_region_sort k d same)
-
-    by_case : (o : Option (VariableKind × ℕ)) → variable_of l ≡ o → IsValue (node l x)
-    by_case None q = record { label = l; below = x; is = refl; no_variable = q }
-    by_case (Some (j, m)) q = by_kind j m q (λ f. h (m, infer_of_variable_label l j m q f))
+    down : (x : Tree) → GoesDown covers image v x → GoesDown covers image t x
+    down empty g = g
+    down (more a b) g = g
+    down (node l c) g = (e ∙ g.0, g.1)
 
 -- what stands at the root of a variable's class, by the entries
 module _ (ts : List Tree) (t : Table) (k : VariableKind) (n r : ℕ) (v : Variable) (table : IsTable ts t) (has : kind_at (content_of ts t.entries) n ≡ Some k) (no_region : k ≢ kind.Region) (root : IsRoot t.entries n r) (at : slice_get t.entries.variables r ≡ Some v) where
@@ -147,12 +142,28 @@ module _ (ts : List Tree) (t : Table) (k : VariableKind) (n r : ℕ) (v : Variab
     value_image regions =
         resolved_to-same regions content (variable_tree k n) (tree_at ts x) (variable_value content k n r (tree_at ts x) has_root known_at)
 
-    pub value_goes_down : (regions : Bool) → GoesDown (CanResolve (resolution ts t regions)) (resolution_of (resolution ts t regions)) (variable_tree k n) (tree_at ts x)
-    value_goes_down regions =
+    pub value_goes_down : (regions : Bool) (l : Label) → tree_at ts x ≡ node l (children (tree_at ts x)) → variable_of l ≡ None → GoesDown (CanResolve (resolution ts t regions)) (resolution_of (resolution ts t regions)) (variable_tree k n) (tree_at ts x)
+    value_goes_down regions l node_is none =
         let s = table.now.sound in
-        let fits = s.fits r (tree_at ts x) k known_at root_kind in
-        let w = value_node (tree_at ts x) k no_region fits.0 (s.no_variables r (tree_at ts x) known_at) in
-        goes_down (resolution ts t regions) (variable_tree k n) (tree_at ts x) w.label w.below w.is w.no_variable (record { sound = s; knows = s.known_trees r (tree_at ts x) known_at }) (value_image regions)
+        goes_down (resolution ts t regions) (variable_tree k n) (tree_at ts x) l (children (tree_at ts x)) node_is none (record { sound = s; knows = s.known_trees r (tree_at ts x) known_at }) (value_image regions)
+
+    -- the value is a variable
+    pub value_variable : (l : Label) (j : VariableKind) (m : ℕ) → tree_at ts x ≡ node l (children (tree_at ts x)) → Meets (shape l) (children (tree_at ts x)) → l ≡ label.Leaf (leaf.Variable j m) → ValueVariable content k j m (tree_at ts x)
+    value_variable l j m node_is formed names =
+        let s = table.now.sound in
+        let v : tree_at ts x ≡ variable_tree j m = variable_node (tree_at ts x) l j m node_is formed (ap variable_of names) in
+        let knows : Knows content (variable_tree j m) = subst (λ (y : Tree). Knows content y) v (s.known_trees r (tree_at ts x) known_at) in
+        let sort : Some (of_sort (sort_of_variable j)) ≡ Some (of_sort (sort_of_variable k)) = ap kind_of (sym v) ∙ (s.fits r (tree_at ts x) k known_at root_kind).0 in
+        record {
+          has = knows.0;
+          is = v;
+          no_region = λ e. no_region_sort k no_region (some_kind _ _ (sym sort ∙ ap (λ i. Some (of_sort (sort_of_variable i))) e));
+          lower = subst (λ (y : Tree). variable_rank y < rank_of_kind k) v (s.ranks r (tree_at ts x) k known_at root_kind);
+        }
+
+    -- a step for the value is one for the variable
+    pub value_step : (regions : Bool) (us : List Tree) (h : Step) → IsStep (CanResolve (resolution ts t regions)) (resolution_of (resolution ts t regions)) us (tree_at ts x) h → IsStep (CanResolve (resolution ts t regions)) (resolution_of (resolution ts t regions)) us (variable_tree k n) h
+    value_step regions us h i = IsStep-image (CanResolve (resolution ts t regions)) (resolution_of (resolution ts t regions)) us (variable_tree k n) (tree_at ts x) h (value_image regions) i
 
   pub root_image : (regions : Bool) → ((x : NodeId) → v.state ≡ Known x → ⊥) → variable_tree k r ≡ resolution_of (resolution ts t regions) (variable_tree k n)
   root_image regions unvalued = by_state v.state refl

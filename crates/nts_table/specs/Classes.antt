@@ -48,7 +48,11 @@ shallow_at c None t = t
 shallow_at c (Some v) t = shallow_variable c v.0 v.1
 
 -- .. of a tree that may be a variable
+abbrev pub looked_up : Content → Tree → Tree
+looked_up c empty = empty
+looked_up c (more a b) = more a b
+looked_up c (node l x) = shallow_at c (variable_of l) (node l x)
+
+-- .. where the value of a type variable may be a variable of integers or floats, which is looked up too
 abbrev pub shallowly_resolved : Content → Tree → Tree
-shallowly_resolved c empty = empty
-shallowly_resolved c (more a b) = more a b
-shallowly_resolved c (node l x) = shallow_at c (variable_of l) (node l x)
+shallowly_resolved c t = looked_up c (looked_up c t)

@@ -14,7 +14,7 @@ use Rattle.nts_table.specs.declared.contents.State.TheVariants.{Unset, Link, Kno
 use Rattle.nts_table.specs.declared.contents.Variable.{Variable}
 use Rattle.nts_table.specs.declared.contents.Constraint.{Constraint}
 use Rattle.nts_table.specs.Entries.{Entries, Table, added, moved, constrained}
-use Rattle.nts_table.specs.Proper.{IsSortKind, IsProper-empty, IsProper-with_slot, IsProper-with_constraint, IsProper-in_universe}
+use Rattle.nts_table.specs.Proper.{IsProper-empty, IsProper-with_slot, IsProper-with_constraint, IsProper-in_universe}
 use Rattle.nts_table.specs.Reading.{state_with, slot_of, recorded_of, content_of, IsHeldState, AreHeld, IsConstraint, AreConstraints, LinksDescend, IsLawful, AllLawful, IsTable}
 
 state_with-extended : (a b : List Tree) (s : State) → Extends a b → IsHeldState a s → state_with b s ≡ state_with a s
@@ -111,11 +111,10 @@ AreHeld-push : (ts : List Tree) (vs : List Variable) (v : Variable) → AreHeld 
 AreHeld-push ts [] v h k = (k, tt)
 AreHeld-push ts (w ∷ vs) v h k = (h.0, AreHeld-push ts vs v h.1 k)
 
--- a variable of which nothing is known yet, of one of the three sorts
+-- a variable of which nothing is known yet
 pub record IsNew (v : Variable) : Type 0 where
   pub state : v.state ≡ Unset
   pub sub_link : v.sub_link ≡ None
-  pub of_kind : IsSortKind v.kind
 
 pub content_of-added : (ts : List Tree) (c : Entries) (v : Variable) → content_of ts (added c v) ≡ with_slot (content_of ts c) (slot_of ts v)
 content_of-added ts c v =
@@ -150,7 +149,7 @@ IsLawful-added ts c v h w =
       constraints = rw same (AreConstraints-kept ts (content_of ts c) (with_slot (content_of ts c) slot) c.constraints (KeepsKinds-with_slot (content_of ts c) slot) h.constraints);
       descends = LinksDescend-added c v h.descends w;
       sound = rw same (IsSound-with_slot (content_of ts c) slot h.sound free);
-      proper = rw same (IsProper-with_slot (content_of ts c) slot free w.of_kind h.sound h.proper);
+      proper = rw same (IsProper-with_slot (content_of ts c) slot free h.sound h.proper);
     }
 
 pub IsLawful-moved : (ts : List Tree) (c : Entries) (u : ℕ) → IsLawful ts c → IsLawful ts (moved c u)
@@ -225,7 +224,7 @@ IsTable-new ts t e s =
         descends = λ n m q. cc;
         one_kind = λ n m q. cc;
         known_trees = λ n x q. cc;
-        no_variables = λ n x q. cc;
+        ranks = λ n x k q. cc;
         fits = λ n x k q. cc;
         linked = λ n m q. cc;
         bound = λ n x q. cc;

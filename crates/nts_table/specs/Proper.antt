@@ -18,18 +18,10 @@ use Rattle.nts_model.proofs.Solving.{Lowers, kind_at-lowered, state_of-lowered}
 use Rattle.nts_model.proofs.Levelled.{AreRegionsLevelled-with_slot, AreRegionsLevelled-with_constraint, AreRegionsLevelled-in_universe, AreRegionsLevelled-lowered, AreRegionsLevelled-known, AreRegionsLevelled-link, AreRegionsLevelled-region_link}
 use Rattle.nts_model.proofs.Solvable.{IsSolvable-empty, IsSolvable-with_slot, IsSolvable-with_constraint, IsSolvable-in_universe, IsSolvable-lowered, IsSolvable-sub_linked, IsSolvable-known, IsSolvable-link, IsSolvable-region_link}
 
--- a kind that is a sort. Variables of integers and floats come with later work: no call makes one yet
-abbrev pub IsSortKind : VariableKind → Type 0
-IsSortKind kind.Int = ⊥
-IsSortKind kind.Float = ⊥
-IsSortKind k = Unit {0}
-
--- the table has a solution; its regions too are named by the universes of what holds them; and its
--- variables are of the three sorts
+-- the table has a solution, and its regions too are named by the universes of what holds them
 pub record IsProper (c : Content) : Type 0 where
   pub solvable : IsSolvable c
   pub regions : AreRegionsLevelled c
-  pub kinds : (n : ℕ) (k : VariableKind) → kind_at c n ≡ Some k → IsSortKind k
 
 pub IsProper-empty : (c : Content) → c.slots ≡ [] → c.constraints ≡ [] → IsProper c
 IsProper-empty c e f =
@@ -37,19 +29,13 @@ IsProper-empty c e f =
     record {
       solvable = IsSolvable-empty c e f;
       regions = record { regions = λ n u t p q. absurd (none n (field_below (λ x. x.state) c n _ p)) };
-      kinds = λ n k q. absurd (none n (field_below (λ x. x.kind) c n k q));
     }
 
-pub IsProper-with_slot : (c : Content) (v : Slot) → v.state ≡ unset → IsSortKind v.kind → IsSound c → IsProper c → IsProper (with_slot c v)
-IsProper-with_slot c v free is s h =
+pub IsProper-with_slot : (c : Content) (v : Slot) → v.state ≡ unset → IsSound c → IsProper c → IsProper (with_slot c v)
+IsProper-with_slot c v free s h =
     record {
       solvable = IsSolvable-with_slot c v free s h.solvable;
       regions = AreRegionsLevelled-with_slot c v free s h.regions;
-      kinds = λ n k q. ⊎_elim
-          (λ (e : n ≡ length c.slots).
-          let z : Some v.kind ≡ Some k = sym (field-with_slot_new (λ x. x.kind) c v) ∙ ap (kind_at (with_slot c v)) (sym e) ∙ q in
-          let same : v.kind ≡ k = cc in rw (← same) is)
-          (λ (d : n ≡ length c.slots → ⊥). h.kinds n k (sym (field-with_slot_old (λ x. x.kind) c v n d) ∙ q)) (same_or_other n (length c.slots));
     }
 
 pub IsProper-with_constraint : (c : Content) (x : Recorded) → Knows c x.left → Knows c x.right → AreRegions x.relation x.left x.right → IsSound c → IsProper c → IsProper (with_constraint c x)
@@ -57,7 +43,6 @@ IsProper-with_constraint c x l r a s h =
     record {
       solvable = IsSolvable-with_constraint c x l r a s h.solvable;
       regions = AreRegionsLevelled-with_constraint c x h.regions;
-      kinds = λ n k q. h.kinds n k q;
     }
 
 pub IsProper-in_universe : (c : Content) (u : ℕ) → IsSound c → IsProper c → IsProper (in_universe c u)
@@ -65,7 +50,6 @@ IsProper-in_universe c u s h =
     record {
       solvable = IsSolvable-in_universe c u s h.solvable;
       regions = AreRegionsLevelled-in_universe c u h.regions;
-      kinds = λ n k q. h.kinds n k q;
     }
 
 -- a variable without value comes down
@@ -74,7 +58,6 @@ IsProper-lowered c n v b free s h =
     record {
       solvable = IsSolvable-lowered c n v b free s h.solvable;
       regions = AreRegionsLevelled-lowered c n v b free h.regions;
-      kinds = λ m k q. h.kinds m k (sym (kind_at-lowered c n v b m) ∙ q);
     }
 
 AreRegionsLevelled-sub_linked : (c : Content) (n : ℕ) (v : Slot) (b : Lowers c n v) → v.universe ≡ b.old.universe → AreRegionsLevelled c → AreRegionsLevelled (changed c n v)
@@ -88,7 +71,6 @@ IsProper-sub_linked c n v b u s h =
     record {
       solvable = IsSolvable-sub_linked c n v b u s h.solvable;
       regions = AreRegionsLevelled-sub_linked c n v b u h.regions;
-      kinds = λ m k q. h.kinds m k (sym (kind_at-lowered c n v b m) ∙ q);
     }
 
 pub IsProper-known : (c : Content) (n : ℕ) (v : Slot) (t : Tree) (b : IsKnowable c n v t) → v.universe ≡ b.binds.old.universe → NamesAll (level_in c) v.universe t → NamesAll region_level v.universe t → IsValue v.kind t → IsSound c → IsProper c → IsProper (bound_to c n v)
@@ -96,7 +78,6 @@ IsProper-known c n v t b u names regions value s h =
     record {
       solvable = IsSolvable-known c n v t b u names value s h.solvable;
       regions = AreRegionsLevelled-known c n v t b u regions h.regions;
-      kinds = λ m k q. h.kinds m k (sym (kind_at-set c n v b.binds m) ∙ q);
     }
 
 pub IsProper-link : (c : Content) (n : ℕ) (v : Slot) (m : ℕ) (b : IsLinkable c n v m) → v.universe ≡ b.binds.old.universe → CanName v.universe (universe_of c m) → IsSound c → IsProper c → IsProper (bound_to c n v)
@@ -104,7 +85,6 @@ IsProper-link c n v m b u names s h =
     record {
       solvable = IsSolvable-link c n v m b u names s h.solvable;
       regions = AreRegionsLevelled-link c n v m b u h.regions;
-      kinds = λ j k q. h.kinds j k (sym (kind_at-set c n v b.binds j) ∙ q);
     }
 
 pub IsProper-region_link : (c : Content) (n : ℕ) (v : Slot) (m : ℕ) (b : IsLinkable c n v m) → v.universe ≡ b.binds.old.universe → CanName v.universe (universe_of c m) → IsSound c → IsProper c → IsProper (changed c n v)
@@ -112,7 +92,6 @@ IsProper-region_link c n v m b u names s h =
     record {
       solvable = IsSolvable-region_link c n v m b u names s h.solvable;
       regions = AreRegionsLevelled-region_link c n v m b u h.regions;
-      kinds = λ j k q. h.kinds j k (sym (kind_at-set c n v b.binds j) ∙ q);
     }
 
 -- the sides of what is no equality may be any regions

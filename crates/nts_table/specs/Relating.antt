@@ -5,8 +5,9 @@ use Rattle.nts_model.specs.declared.labels.VariableKind.TheVariants as kind
 use Rattle.nts_model.specs.declared.labels.Sort.TheVariants as sort
 use Rattle.nts_model.specs.Trees.{Tree, empty, more, node, size, kind_of, kind_of_label, of_sort, row_length, IsClosedUnder}
 use Rattle.nts_model.specs.Contents.{Content, unset, state_of, universe_of, kind_at}
-use Rattle.nts_model.specs.Resolving.{Knows, IsInfer, Lacks, resolved, variable_tree, variable_flag}
+use Rattle.nts_model.specs.Resolving.{Knows, IsInfer, Lacks, resolved, variable_tree, variable_flag, variable_rank}
 use Rattle.nts_model.specs.Levels.{NamesAll, level_in, term_level, region_level}
+use Rattle.nts_model.specs.Fitting.{Fits}
 use Rattle.nts_model.specs.Worlds.{World, inst, Solves}
 use Rattle.nts_model.specs.Holding.{Continues}
 use Rattle.nts_model.specs.Regions.{IsRegion}
@@ -21,7 +22,7 @@ use Rattle.nts_table.specs.declared.relate.Head.TheVariants.{Open, Closed}
 use Rattle.nts_table.specs.Entries.{Entries}
 use Rattle.nts_table.specs.Reading.{content_of, IsLawful}
 use Rattle.nts_table.specs.Changing.{IsLater, Keeps, unset_count}
-use Rattle.nts_table.specs.Joining.{IsBindable, Joins}
+use Rattle.nts_table.specs.Joining.{IsBindable}
 use Rattle.nts_table.specs.Knowing.{row_from}
 
 -- a list of trees of the same sorts
@@ -46,7 +47,8 @@ pub record IsSettled (facts : Facts) (binders : ℕ) : Type 0 where
 pub record Generalised (c d : Content) (x u b : ℕ) (t r : Tree) : Type 0 where
   pub keeps : Keeps c d
   pub knows : Knows d r
-  pub no_variable : (IsInfer t → ⊥) → IsInfer r → ⊥
+  pub rank : variable_rank r ≤ variable_rank t
+  pub fits : (k : VariableKind) → k ≢ kind.Region → variable_rank t ≡ 0 → Fits k t → Fits k r
   pub like : IsLike r t
   pub lacks : Lacks x (resolved d r)
   pub continues : Continues c d
@@ -82,6 +84,7 @@ pub record IsOpen (ts : List Tree) (e : Entries) (t : Tree) (n : ℕ) : Type 0 w
   pub bindable : IsBindable e n
   pub infer : IsInfer t
   pub like : IsLike (variable_tree bindable.of_kind n) t
+  pub rank : variable_rank (variable_tree bindable.of_kind n) ≤ variable_rank t
   pub same : resolved (content_of ts e) t ≡ resolved (content_of ts e) (variable_tree bindable.of_kind n)
   pub worlds : (w : World) → Solves (content_of ts e) w → inst w t ≡ w.tree n
 
@@ -153,10 +156,31 @@ pub record IsValid (ts : List Tree) (e : Entries) (ps : List Pair) : Type 0 wher
   pub within : ArePairsIn ts ps
   pub known : AreKnown (content_of ts e) (pairs_at ts ps)
 
+-- two variables are one: they were joined, or one got the other as its value
+pub record AreMadeOne (c d : Content) (x y : ℕ) : Type 0 where
+  pub later : IsLater c d
+  pub fewer : unset_count d.slots < unset_count c.slots
+  pub continues : Continues c d
+  pub alike : (j k : VariableKind) → kind_at c x ≡ Some j → kind_at c y ≡ Some k → AreAlike d (variable_tree j x) (variable_tree k y)
+  pub sound : (w : World) → Solves d w → Solves c w × (w.tree x ≡ w.tree y)
+  pub complete : (w : World) → Solves c w → w.tree x ≡ w.tree y → Extension c d w
+
 -- two variables without values made one, unless they were one
-pub record VariablesRelate (ts : List Tree) (e f : Entries) (x y : ℕ) (bound : Bool) : Type 0 where
-  pub joins : bound ≡ true → Joins ts e f x y
-  pub same : bound ≡ false → (f ≡ e) × (x ≡ y)
+pub record VariablesRelate (ts us : List Tree) (e f : Entries) (x y : ℕ) (bound : Bool) : Type 0 where
+  pub made : bound ≡ true → IsLawful us f × AreMadeOne (content_of ts e) (content_of us f) x y
+  pub same : bound ≡ false → (us ≡ ts) × (f ≡ e) × (x ≡ y)
+
+-- a variable of the first kind may have one of the second kind as its value
+abbrev pub TakesVariable : VariableKind → VariableKind → Type 0
+TakesVariable kind.Ty kind.Int = Unit {0}
+TakesVariable kind.Ty kind.Float = Unit {0}
+TakesVariable j k = ⊥
+
+-- two variables of which the first may have the second as its value
+pub record CanTake (e : Entries) (x y : ℕ) : Type 0 where
+  pub first : IsBindable e x
+  pub second : IsBindable e y
+  pub takes : TakesVariable first.of_kind second.of_kind
 
 -- what is left after a pair
 pub record IsStep (c d : Content) (ps qs : List (Tree × Tree)) (bound : Bool) : Type 0 where

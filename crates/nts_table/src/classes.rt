@@ -24,6 +24,15 @@ impl InferCtxt {
         }
     }
 
+    /// The universe of the root of a const variable, or nothing where the variable has a value.
+    pub fn universe_of_ct(&self, ct: usize) -> Option<u32>
+        requires within { ct < length self.now.entries.variables }
+        requires descends { LinksDescend self.now.entries }
+        ensures { HasOpenUniverse self.now.entries ct result }
+    {
+        self.universe_of_ty(ct)
+    }
+
     /// The universe of the root of a region variable, which has no value.
     pub fn universe_of_lt(&self, vid: usize) -> Option<u32>
         requires within { vid < length self.now.entries.variables }
@@ -36,6 +45,15 @@ impl InferCtxt {
 
     /// The root of a type variable: the lowest number of its class.
     pub fn root_ty_var(&self, var: usize) -> usize
+        requires within { var < length self.now.entries.variables }
+        requires descends { LinksDescend self.now.entries }
+        ensures { IsRoot self.now.entries var result }
+    {
+        self.root(var)
+    }
+
+    /// The root of a const variable: the lowest number of its class.
+    pub fn root_const_var(&self, var: usize) -> usize
         requires within { var < length self.now.entries.variables }
         requires descends { LinksDescend self.now.entries }
         ensures { IsRoot self.now.entries var result }

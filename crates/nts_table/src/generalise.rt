@@ -61,7 +61,7 @@ fn is_allowed(target: Target, label: Label) -> bool
 /// A term for a variable without value: itself, or a fresh variable where the universe cannot name it.
 /// The two are joined, which brings the variable down to the universe; `moved` holds those that came
 /// down, so that each of their occurrences gets its own.
-fn name_variable(
+pub(crate) fn name_variable(
     nodes: &mut Nodes,
     table: &mut InferCtxt,
     moved: &mut IndexSet<usize>,

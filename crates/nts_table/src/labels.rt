@@ -1,8 +1,9 @@
 //! What labels say about variables and regions.
-ghost use Rattle.std.specs.Prelude.{◌≡◌, ◌≢◌, true, false, None};
+ghost use Rattle.std.specs.Prelude.{◌≡◌, ◌≢◌, ◌↔◌, IsTrue, true, false, None};
 ghost use Rattle.nts_model.specs.declared.labels.VariableKind.TheVariants as kinds;
-ghost use Rattle.nts_table.specs.Proper.{IsSortKind};
-ghost use Rattle.nts_model.specs.Trees.{kind_of_label, of_sort, sort_of_variable};
+ghost use Rattle.nts_model.specs.Fitting.{Fits};
+ghost use Rattle.nts_model.specs.Trees.{Tree, node};
+ghost use Rattle.nts_table.specs.Relating.{TakesVariable};
 ghost use Rattle.nts_model.specs.Resolving.{infer_of};
 ghost use Rattle.nts_table.specs.Changing.{region_variable, is_free_region};
 
@@ -56,10 +57,20 @@ pub fn is_same_kind(a: VariableKind, b: VariableKind) -> bool
     a == b
 }
 
-/// Whether a variable of the kind can have a value with the label.
+/// Whether a variable of the first kind can have one of the second kind as its value.
+pub fn takes_variable(kind: VariableKind, other: VariableKind) -> bool
+    ensures { IsTrue result ↔ TakesVariable kind other }
+{
+    match kind {
+        VariableKind::Ty => matches!(other, VariableKind::Int | VariableKind::Float),
+        _ => false,
+    }
+}
+
+/// Whether a variable of the kind can have a value with the label, which is no variable.
 pub fn fits(kind: VariableKind, label: Label) -> bool
-    ensures yes { result ≡ true → kind_of_label label ≡ of_sort (sort_of_variable kind) }
-    ensures no { result ≡ false → IsSortKind kind → kind ≢ kinds.Region → infer_of label ≡ None → kind_of_label label ≡ of_sort (sort_of_variable kind) → ⊥ }
+    ensures yes { result ≡ true → (c : Tree) → Fits kind (node label c) }
+    ensures no { result ≡ false → kind ≢ kinds.Region → infer_of label ≡ None → (c : Tree) → Fits kind (node label c) → ⊥ }
 {
     match kind {
         VariableKind::Ty => match label {

@@ -8,16 +8,18 @@ ghost use Rattle.nts_table.specs.Entries.{Entries, Table};
 ghost use Rattle.nts_table.specs.Reading.{content_of, IsLawful, IsTable, LinksDescend};
 ghost use Rattle.nts_table.specs.Changing.{region_variable, is_free_region, IsLater};
 ghost use Rattle.nts_table.specs.Joining.{IsBindable};
-ghost use Rattle.nts_table.specs.Relating.{IsHead, IsClosed, IsRegionOf, RegionsRelate, IsSet, Forbids, KeepsApart, VariablesRelate, IsValid, IsStep, IsRun, Pushed, pairs_at};
+ghost use Rattle.nts_table.specs.Relating.{IsHead, IsClosed, IsRegionOf, RegionsRelate, IsSet, Forbids, KeepsApart, AreMadeOne, VariablesRelate, CanTake, IsValid, IsStep, IsRun, Pushed, pairs_at};
 ghost use Rattle.nts_terms.specs.declared.fault.EvalError.TheVariants.{NoSolution};
 
 use crate::contents::{Constraint, State, Variable};
-use crate::generalise::{Target, generalise};
+use crate::generalise::{Target, generalise, name_variable};
 use crate::infer_ctxt::InferCtxt;
 use crate::join::{join, join_regions};
-use crate::labels::{fits, infer_number, is_same, is_same_kind, names_free_region, region_number};
+use crate::labels::{
+    fits, infer_number, is_same, is_same_kind, names_free_region, region_number, takes_variable,
+};
 use indexmap::IndexSet;
-use nts_model::Relation;
+use nts_model::{Label, Leaf, Relation};
 use nts_terms::{EvalError, NodeId, Nodes};
 use std::alloc::Global;
 
@@ -36,7 +38,8 @@ pub enum Head {
     Closed(NodeId),
 }
 
-/// The root or the value of a variable, or the term itself.
+/// The root or the value of a variable, or the term itself. A type variable's value may be a variable
+/// of integers or floats, which may have a value too.
 fn head_of(nodes: &Nodes, table: &InferCtxt, t: NodeId) -> Head
     requires within { IsIn nodes.now t }
     requires knows { Knows (content_of nodes.now table.now.entries) (tree_at nodes.now t) }
@@ -46,7 +49,7 @@ fn head_of(nodes: &Nodes, table: &InferCtxt, t: NodeId) -> Head
     if let Some(n) = infer_number(nodes.label(t)) {
         let root = table.root(n);
         if let State::Known(value) = table.variable(root).state {
-            return Head::Closed(value);
+            return head_of(nodes, table, value);
         }
         return Head::Open(root);
     }
@@ -90,26 +93,78 @@ fn relate_regions(
 }
 
 /// Makes two variables without values equal, and says whether they were two.
-fn relate_variables(table: &mut InferCtxt, x: usize, y: usize) -> Result<bool, EvalError>
+fn relate_variables(
+    alloc: Global,
+    nodes: &mut Nodes,
+    table: &mut InferCtxt,
+    x: usize,
+    y: usize,
+) -> Result<bool, EvalError>
+    requires lawful { IsLawful nodes.old table.old.entries }
     requires left { IsBindable table.old.entries x }
     requires right { IsBindable table.old.entries y }
-    requires descends { LinksDescend table.old.entries }
+    ensures extends { Extends nodes.old nodes.new }
     ensures saved { table.new.saved ≡ table.old.saved }
     ensures mode { table.new.mode ≡ table.old.mode }
-    ensures related { IfOk result (λ bound. (ts : List Tree) → IsLawful ts table.old.entries → VariablesRelate ts table.old.entries table.new.entries x y bound) }
-    ensures no { result ≡ Err NoSolution → (ts : List Tree) → IsLawful ts table.old.entries → KeepsApart (content_of ts table.old.entries) x y }
+    ensures related { IfOk result (VariablesRelate nodes.old nodes.new table.old.entries table.new.entries x y) }
+    ensures no { result ≡ Err NoSolution → KeepsApart (content_of nodes.old table.old.entries) x y }
     ensures full { result ≢ Err EvalError.Full }
 {
     if x == y {
         return Ok(false);
     }
-    let left = table.variable(x);
-    let right = table.variable(y);
-    if !is_same_kind(left.kind, right.kind) {
-        return Err(EvalError::NoSolution);
+    let left = table.variable(x).kind;
+    let right = table.variable(y).kind;
+    if is_same_kind(left, right) {
+        join(table, x, y)?;
+        return Ok(true);
     }
-    join(table, x, y)?;
-    Ok(true)
+    if takes_variable(left, right) {
+        bind_variable(alloc, nodes, table, x, y)?;
+        return Ok(true);
+    }
+    if takes_variable(right, left) {
+        bind_variable(alloc, nodes, table, y, x)?;
+        return Ok(true);
+    }
+    Err(EvalError::NoSolution)
+}
+
+/// Gives a type variable without value another variable as its value, one of integers or of floats.
+fn bind_variable(
+    alloc: Global,
+    nodes: &mut Nodes,
+    table: &mut InferCtxt,
+    x: usize,
+    y: usize,
+) -> Result<(), EvalError>
+    requires lawful { IsLawful nodes.old table.old.entries }
+    requires can { CanTake table.old.entries x y }
+    ensures extends { Extends nodes.old nodes.new }
+    ensures saved { table.new.saved ≡ table.old.saved }
+    ensures mode { table.new.mode ≡ table.old.mode }
+    ensures lawful { OnOk result (IsLawful nodes.new table.new.entries) }
+    ensures made { OnOk result (AreMadeOne (content_of nodes.old table.old.entries) (content_of nodes.new table.new.entries) x y) }
+    ensures no { result ≢ Err NoSolution }
+    ensures full { result ≢ Err EvalError.Full }
+{
+    let target = Target {
+        variable: x,
+        universe: table.variable(x).universe,
+        binders: 0,
+    };
+    let kind = table.variable(y).kind;
+    let t = nodes.make(Label::Leaf(Leaf::Variable(kind, y)), &[])?;
+    let mut moved = IndexSet::new(alloc);
+    match name_variable(nodes, table, &mut moved, target, t, y) {
+        Err(error) => Err(error),
+        Ok(value) => {
+            let variable = table.variable(x);
+            let state = State::Known(value);
+            table.bind(x, Variable { state, ..variable })?;
+            Ok(())
+        }
+    }
 }
 
 /// Gives a variable without value a value that stands for the term.
@@ -243,7 +298,7 @@ fn step(
     let right = head_of(nodes, table, pair.right);
     match left {
         Head::Open(x) => match right {
-            Head::Open(y) => relate_variables(table, x, y),
+            Head::Open(y) => relate_variables(alloc, nodes, table, x, y),
             Head::Closed(b) => match bind(alloc, nodes, table, x, b) {
                 Err(error) => Err(error),
                 Ok(()) => Ok(true),

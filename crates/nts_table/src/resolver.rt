@@ -103,7 +103,11 @@ impl Resolver<'_> {
             if self.leaves(nodes, value) {
                 return Ok(Step::Done(value));
             }
-            return Ok(Step::Down(value));
+            // The value of a type variable may be a variable of integers or floats.
+            return match named_variable(nodes.label(value)) {
+                Some((of_kind, m)) => self.variable_step(nodes, value, of_kind, m),
+                None => Ok(Step::Down(value)),
+            };
         }
         let label = Label::Leaf(Leaf::Variable(kind, root));
         Ok(Step::Done(nodes.make(label, &[])?))

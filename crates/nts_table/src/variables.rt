@@ -3,16 +3,16 @@ ghost use Rattle.std.specs.Prelude.{◌≡◌, ◌≢◌, ◌<◌, ◌+◌, leng
 ghost use Rattle.nts_model.specs.declared.labels.VariableKind.TheVariants as kind;
 ghost use Rattle.nts_model.specs.Resolving.{variable_tree};
 ghost use Rattle.nts_terms.specs.Growth.{tree_at, Extends};
-ghost use Rattle.nts_terms.specs.Handles.{HoldsTy, HoldsRegion};
+ghost use Rattle.nts_terms.specs.Handles.{HoldsTy, HoldsConst, HoldsRegion};
 ghost use Rattle.nts_terms.specs.Rest.{KeepsRest};
 ghost use Rattle.nts_table.specs.Entries.{Table, added, moved};
 ghost use Rattle.nts_table.specs.Reading.{IsTable};
-ghost use Rattle.nts_table.specs.Making.{new_variable};
+ghost use Rattle.nts_table.specs.Making.{unset_variable, new_variable};
 
 use crate::contents::{State, Variable};
 use crate::infer_ctxt::InferCtxt;
 use nts_model::VariableKind;
-use nts_terms::{Cx, Fault, InferTy, Region, RegionKind, Ty, TyKind};
+use nts_terms::{Const, ConstKind, Cx, Fault, InferTy, Region, RegionKind, Ty, TyKind};
 
 impl InferCtxt {
     /// A new type variable of the current universe.
@@ -31,8 +31,68 @@ impl InferCtxt {
     {
         let number = self.variable_count();
         let ty = cx.mk_ty(TyKind::Infer(InferTy::TyVar(number)))?;
-        self.add_unset(VariableKind::Ty)?;
+        self.add_unset(VariableKind::Ty, self.universe())?;
         Ok(ty)
+    }
+
+    /// A new variable of integer types, in the root universe.
+    pub fn next_int_infer(&mut self, cx: &mut Cx) -> Result<Ty, Fault>
+        requires table { IsTable cx.old.nodes self.old }
+        ensures tree { IfOk result (λ t. tree_at cx.new.nodes t.node ≡ variable_tree kind.Int (length self.old.entries.variables)) }
+        ensures holds { IfOk result (λ t. HoldsTy cx.new.nodes t) }
+        ensures entries { OnOk result (self.new.entries ≡ added self.old.entries (unset_variable kind.Int 0)) }
+        ensures saved { self.new.saved ≡ self.old.saved }
+        ensures mode { self.new.mode ≡ self.old.mode }
+        ensures table { IsTable cx.new.nodes self.new }
+        ensures extends { Extends cx.old.nodes cx.new.nodes }
+        ensures rest { KeepsRest cx.old cx.new }
+        ensures err { OnErr result (self.new ≡ self.old) }
+        ensures memory { IsOkUnless result Fault.Memory }
+    {
+        let number = self.variable_count();
+        let ty = cx.mk_ty(TyKind::Infer(InferTy::IntVar(number)))?;
+        self.add_unset(VariableKind::Int, 0)?;
+        Ok(ty)
+    }
+
+    /// A new variable of float types, in the root universe.
+    pub fn next_float_infer(&mut self, cx: &mut Cx) -> Result<Ty, Fault>
+        requires table { IsTable cx.old.nodes self.old }
+        ensures tree { IfOk result (λ t. tree_at cx.new.nodes t.node ≡ variable_tree kind.Float (length self.old.entries.variables)) }
+        ensures holds { IfOk result (λ t. HoldsTy cx.new.nodes t) }
+        ensures entries { OnOk result (self.new.entries ≡ added self.old.entries (unset_variable kind.Float 0)) }
+        ensures saved { self.new.saved ≡ self.old.saved }
+        ensures mode { self.new.mode ≡ self.old.mode }
+        ensures table { IsTable cx.new.nodes self.new }
+        ensures extends { Extends cx.old.nodes cx.new.nodes }
+        ensures rest { KeepsRest cx.old cx.new }
+        ensures err { OnErr result (self.new ≡ self.old) }
+        ensures memory { IsOkUnless result Fault.Memory }
+    {
+        let number = self.variable_count();
+        let ty = cx.mk_ty(TyKind::Infer(InferTy::FloatVar(number)))?;
+        self.add_unset(VariableKind::Float, 0)?;
+        Ok(ty)
+    }
+
+    /// A new variable of consts, of the current universe.
+    pub fn next_const_infer(&mut self, cx: &mut Cx) -> Result<Const, Fault>
+        requires table { IsTable cx.old.nodes self.old }
+        ensures tree { IfOk result (λ t. tree_at cx.new.nodes t.node ≡ variable_tree kind.Const (length self.old.entries.variables)) }
+        ensures holds { IfOk result (λ t. HoldsConst cx.new.nodes t) }
+        ensures entries { OnOk result (self.new.entries ≡ added self.old.entries (new_variable self.old.entries kind.Const)) }
+        ensures saved { self.new.saved ≡ self.old.saved }
+        ensures mode { self.new.mode ≡ self.old.mode }
+        ensures table { IsTable cx.new.nodes self.new }
+        ensures extends { Extends cx.old.nodes cx.new.nodes }
+        ensures rest { KeepsRest cx.old cx.new }
+        ensures err { OnErr result (self.new ≡ self.old) }
+        ensures memory { IsOkUnless result Fault.Memory }
+    {
+        let number = self.variable_count();
+        let ct = cx.mk_const(ConstKind::Infer(number))?;
+        self.add_unset(VariableKind::Const, self.universe())?;
+        Ok(ct)
     }
 
     /// A new region variable of the current universe.
@@ -51,18 +111,17 @@ impl InferCtxt {
     {
         let number = self.variable_count();
         let region = cx.mk_region(RegionKind::ReVar(number))?;
-        self.add_unset(VariableKind::Region)?;
+        self.add_unset(VariableKind::Region, self.universe())?;
         Ok(region)
     }
 
-    fn add_unset(&mut self, kind: VariableKind) -> Result<(), Fault>
-        ensures entries { OnOk result (self.new.entries ≡ added self.old.entries (new_variable self.old.entries kind)) }
+    fn add_unset(&mut self, kind: VariableKind, universe: u32) -> Result<(), Fault>
+        ensures entries { OnOk result (self.new.entries ≡ added self.old.entries (unset_variable kind universe)) }
         ensures saved { self.new.saved ≡ self.old.saved }
         ensures mode { self.new.mode ≡ self.old.mode }
         ensures err { OnErr result (self.new ≡ self.old) }
         ensures memory { IsOkUnless result Fault.Memory }
     {
-        let universe = self.universe();
         self.add(Variable {
             kind,
             universe,

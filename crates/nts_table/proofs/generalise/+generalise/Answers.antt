@@ -5,7 +5,6 @@ use Rattle.nts_terms.proofs.Growing.{AllIn-push, AllIn-extended, Extends-refl, E
 use Rattle.nts_table.specs.Reading.{content_of}
 use Rattle.nts_table.specs.Relating.{IsLike}
 use Rattle.nts_table.specs.Lawful.{IsLawful-extended, content_of-extended}
-use Rattle.nts_model.proofs.Resolved.{no_flag}
 use Rattle.nts_table.proofs.RefusalLemmas.{blocks_known, blocks_own, blocks_label, blocks_child}
 use Rattle.nts_table.proofs.PairLemmas.{if_ok, Knows-children}
 use Rattle.nts_table.proofs.Changes.{length-slots}
@@ -24,7 +23,7 @@ generalise-requires t c =
 pub returns-in-Known-clause-generalised : goal.returns-in-Known-clause-generalised
 returns-in-Known-clause-generalised t c =
     let k = head_known c.args.nodes.now c.args.table.now.entries _ _ _ _ _ _ c.requires.lawful c.requires.knows c.label-label.ensures.is (sym c.in-Some.ensures) c.root-root.ensures c.variable.ensures c.in-Known.is in
-    if_ok c.generalise.result (λ r g. gen_known _ _ _ _ _ _ _ _ k.sort k.infer k.value_sort k.own_sort c.requires.knows k.step.knows k.step.same k.worlds g k.step.no_variable) c.generalise.ensures.generalised
+    if_ok c.generalise.result (λ r g. gen_known _ _ _ _ _ _ _ _ k.sort k.infer k.value_sort k.own_sort c.requires.knows k.step.knows k.step.same k.worlds g k.step.lower) c.generalise.ensures.generalised
 
 pub name_variable-requires : goal.name_variable-requires
 name_variable-requires t c = record {
@@ -112,7 +111,7 @@ returns-clause-generalised t c =
 pub returns-in-Known-clause-no : goal.returns-in-Known-clause-no
 returns-in-Known-clause-no t c = λ q.
     let k = head_known c.args.nodes.now c.args.table.now.entries _ _ _ _ _ _ c.requires.lawful c.requires.knows c.label-label.ensures.is (sym c.in-Some.ensures) c.root-root.ensures c.variable.ensures c.in-Known.is in
-    blocks_known (content_of c.args.nodes.now c.args.table.now.entries) c.args.target.variable c.args.target.universe c.args.target.binders _ _ k.worlds k.step.knows k.closed (no_flag _ k.step.no_variable) (c.generalise.ensures.no q)
+    blocks_known (content_of c.args.nodes.now c.args.table.now.entries) c.args.target.variable c.args.target.universe c.args.target.binders _ _ k.worlds k.step.knows k.closed k.infer (c.generalise.ensures.no q)
 
 pub returns-then-root-target : goal.returns-then-root-target
 returns-then-root-target t c = record {

@@ -4,4 +4,4 @@ use Rattle.nts_table.proofs.generalise.fresh_region.Goals as goal
 
 pub returns-clause-lawful : goal.returns-clause-lawful
 returns-clause-lawful c =
-    IsLawful-extended c.in_ok-make.ensures.extends (rw c.in_ok-fresh.ensures.entries (IsLawful-added _ _ _ c.requires.lawful (record { state = refl; sub_link = refl; of_kind = tt })))
+    IsLawful-extended c.in_ok-make.ensures.extends (rw c.in_ok-fresh.ensures.entries (IsLawful-added _ _ _ c.requires.lawful (record { state = refl; sub_link = refl })))

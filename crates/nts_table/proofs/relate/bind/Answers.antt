@@ -1,20 +1,26 @@
-use Rattle.std.proofs.Common.{◌≢◌, ◌∙◌, ap, Some}
-use Rattle.nts_model.proofs.Resolved.{no_flag}
+use Rattle.std.proofs.Common.{◌≢◌, ◌∙◌, ap, subst, sym, arith, Some}
+use Rattle.nts_model.proofs.Resolved.{no_flag, no_rank}
 use Rattle.nts_model.proofs.Slots.{slice_get_below}
 use Rattle.nts_table.proofs.GenLemmas.{slots_later}
 use Rattle.nts_model.specs.declared.labels.VariableKind.TheVariants as kind
 use Rattle.nts_table.specs.Reading.{content_of}
 use Rattle.nts_table.proofs.Leading.{kind_at-entry, universe_of-entry}
-use Rattle.nts_table.proofs.JoinLemmas.{free_slot}
 use Rattle.nts_table.proofs.PairLemmas.{not_infer, err_of}
-use Rattle.nts_table.proofs.RefusalLemmas.{forbids_sort, forbids_blocked}
+use Rattle.nts_table.proofs.RefusalLemmas.{forbids_kind, forbids_blocked}
+use Rattle.nts_table.proofs.Ranks.{rank_positive}
+use Rattle.nts_model.specs.Trees.{Tree}
+use Rattle.nts_model.specs.Fitting.{Fits}
 use Rattle.nts_terms.specs.Growth.{tree_at}
 use Rattle.nts_table.proofs.BindLemmas.{HasValue, bind_value, bindable_no_region}
 use Rattle.nts_table.proofs.relate.bind.Goals as goal
 
+no_region : (c : goal.After-drop-moved-inside-5) → c.variable-variable.result.kind ≢ kind.Region
+no_region c = λ r.
+    bindable_no_region c.args.nodes.now c.args.table.now.entries c.args.x c.requires.open (kind_at-entry c.args.nodes.now c.args.table.now.entries c.args.x c.variable-variable.result c.variable-variable.ensures ∙ ap Some r)
+
 bound : (c : goal.After-drop-moved-inside-5) → HasValue c.args.nodes.now c.generalise.new.nodes c.args.table.now.entries c.bind.new.self.entries c.args.x (tree_at c.args.nodes.now c.args.t)
 bound c =
-    bind_value c.args.nodes.now c.generalise.new.nodes c.args.table.now.entries c.generalise.new.table.entries c.bind.new.self.entries c.args.x c.args.t c.in-Ok.value c.label.result c.variable-variable.result c.variable-variable-in-Ok.result c.requires.lawful c.requires.open c.variable-variable.ensures (c.fits.ensures.yes c.if-not-fits.false) c.label.ensures.is c.requires.closed c.in-Ok.ensures.lawful c.in-Ok.ensures.within c.in-Ok.ensures.generalised c.variable-variable-in-Ok.ensures c.in_ok-bind-in-Ok.ensures.entries
+    bind_value c.args.nodes.now c.generalise.new.nodes c.args.table.now.entries c.generalise.new.table.entries c.bind.new.self.entries c.args.x c.args.t c.in-Ok.value c.variable-variable.result c.variable-variable-in-Ok.result c.requires.lawful c.requires.open c.variable-variable.ensures c.requires.closed.knows c.in-Ok.ensures.lawful c.in-Ok.ensures.within c.in-Ok.ensures.generalised (omega (arith, c.in-Ok.ensures.generalised.rank, no_rank _ c.requires.closed.no_variable, rank_positive c.variable-variable.result.kind (no_region c))) (c.in-Ok.ensures.generalised.fits c.variable-variable.result.kind (no_region c) (no_rank _ c.requires.closed.no_variable) (subst (λ (y : Tree). Fits c.variable-variable.result.kind y) (sym c.label.ensures.is) (c.fits.ensures.yes c.if-not-fits.false _))) c.variable-variable-in-Ok.ensures c.in_ok-bind-in-Ok.ensures.entries
 
 pub returns-clause-lawful : goal.returns-clause-lawful
 returns-clause-lawful c = (bound c).lawful
@@ -28,12 +34,10 @@ generalise-requires-clause-no_region c = bindable_no_region c.args.nodes.now c.a
 pub returns-then-not-fits-clause-no : goal.returns-then-not-fits-clause-no
 returns-then-not-fits-clause-no c = λ q.
     let o = c.requires.open in
-    let k = free_slot c.args.nodes.now c.args.table.now.entries c.args.x o.of_kind o.free in
     let e = kind_at-entry c.args.nodes.now c.args.table.now.entries c.args.x c.variable-variable.result c.variable-variable.ensures in
-    let is_sort = c.requires.lawful.proper.kinds c.args.x c.variable-variable.result.kind e in
     let no_region : c.variable-variable.result.kind ≢ kind.Region = λ r. bindable_no_region c.args.nodes.now c.args.table.now.entries c.args.x o (e ∙ ap Some r) in
     let alone = not_infer _ c.label.result c.label.ensures.is c.requires.closed.no_variable in
-    forbids_sort (content_of c.args.nodes.now c.args.table.now.entries) c.args.x c.variable-variable.result.kind _ c.label.result e c.requires.closed.knows c.label.ensures.is alone (c.fits.ensures.no c.if-not-fits.true is_sort no_region alone)
+    forbids_kind (content_of c.args.nodes.now c.args.table.now.entries) c.args.x c.variable-variable.result.kind _ c.label.result e no_region c.requires.closed.knows c.label.ensures.is alone (c.fits.ensures.no c.if-not-fits.true no_region alone _)
 
 pub returns-in-Err-clause-no : goal.returns-in-Err-clause-no
 returns-in-Err-clause-no c = λ q.

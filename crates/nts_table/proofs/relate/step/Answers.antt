@@ -18,11 +18,11 @@ head_of-right-requires-clause-knows c = (last_pair c.args.nodes.now c.args.table
 
 pub returns-in-Open-right-clause-valid : goal.returns-in-Open-right-clause-valid
 returns-in-Open-right-clause-valid c =
-    if_ok c.relate_variables.result (λ bound r. (step_variables c.args.nodes.now c.args.table.now.entries _ c.args.pairs.now.items c.args.pair c.in-Open.x c.in-Open-right.y bound c.requires.valid c.in-Open.ensures c.in-Open-right.ensures (r c.args.nodes.now c.requires.valid.lawful)).valid) c.relate_variables.ensures.related
+    if_ok c.relate_variables.result (λ bound r. (step_variables c.args.nodes.now c.relate_variables.new.nodes c.args.table.now.entries c.relate_variables.new.table.entries c.args.pairs.now.items c.args.pair c.in-Open.x c.in-Open-right.y bound c.requires.valid c.relate_variables.ensures.extends c.in-Open.ensures c.in-Open-right.ensures r).valid) c.relate_variables.ensures.related
 
 pub returns-in-Open-right-clause-step : goal.returns-in-Open-right-clause-step
 returns-in-Open-right-clause-step c =
-    if_ok c.relate_variables.result (λ bound r. (step_variables c.args.nodes.now c.args.table.now.entries _ c.args.pairs.now.items c.args.pair c.in-Open.x c.in-Open-right.y bound c.requires.valid c.in-Open.ensures c.in-Open-right.ensures (r c.args.nodes.now c.requires.valid.lawful)).step) c.relate_variables.ensures.related
+    if_ok c.relate_variables.result (λ bound r. (step_variables c.args.nodes.now c.relate_variables.new.nodes c.args.table.now.entries c.relate_variables.new.table.entries c.args.pairs.now.items c.args.pair c.in-Open.x c.in-Open-right.y bound c.requires.valid c.relate_variables.ensures.extends c.in-Open.ensures c.in-Open-right.ensures r).step) c.relate_variables.ensures.related
 
 -- a value for the left side
 left_set : (c : In-Ok) → Stepped c.args.nodes.now c.bind.new.nodes c.args.table.now.entries c.bind.new.table.entries c.args.pairs.now.items c.args.pairs.now.items c.args.pair true
@@ -52,7 +52,7 @@ returns-in-Ok-bind-clause-step c = (right_set c).step
 
 pub returns-in-Open-right-clause-no : goal.returns-in-Open-right-clause-no
 returns-in-Open-right-clause-no c = λ q.
-    refuse_pair c.args.nodes.now c.args.table.now.entries c.args.pairs.now.items c.args.pair (λ w z e. (c.relate_variables.ensures.no q c.args.nodes.now c.requires.valid.lawful).none w z (sym (c.in-Open.ensures.worlds w z) ∙ e ∙ c.in-Open-right.ensures.worlds w z))
+    refuse_pair c.args.nodes.now c.args.table.now.entries c.args.pairs.now.items c.args.pair (λ w z e. (c.relate_variables.ensures.no q).none w z (sym (c.in-Open.ensures.worlds w z) ∙ e ∙ c.in-Open-right.ensures.worlds w z))
 
 pub returns-in-Err-clause-no : goal.returns-in-Err-clause-no
 returns-in-Err-clause-no c = λ q.

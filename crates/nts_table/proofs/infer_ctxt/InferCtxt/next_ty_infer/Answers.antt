@@ -7,4 +7,4 @@ returns-in_err-add_unset-clause-table c = IsTable-same c.requires.table c.in_ok-
 
 pub returns-clause-table : goal.returns-clause-table
 returns-clause-table c =
-    IsTable-added c.requires.table c.in_ok-ty.ensures.extends (record { state = refl; sub_link = refl; of_kind = tt }) c.in_ok-add_unset.ensures.entries c.in_ok-add_unset.ensures.saved
+    IsTable-added c.requires.table c.in_ok-ty.ensures.extends (record { state = refl; sub_link = refl }) c.in_ok-add_unset.ensures.entries c.in_ok-add_unset.ensures.saved
