@@ -97,7 +97,7 @@ variable_root c k n r h e =
     resolved-variable_reaches c k n r h.sound h.no_region h.has h.reaches
     ∙ resolved-variable_unset c (label.Leaf (leaf.Variable k r)) empty r h.sound (IsVariable-infer c (label.Leaf (leaf.Variable k r)) k r there) e
 
-no_region_sort : (k : VariableKind) → k ≢ kind.Region → of_sort (sort_of_variable k) ≡ of_sort sort.Region → ⊥
+pub no_region_sort : (k : VariableKind) → k ≢ kind.Region → of_sort (sort_of_variable k) ≡ of_sort sort.Region → ⊥
 no_region_sort kind.Ty h e = cc
 no_region_sort kind.Int h e = cc
 no_region_sort kind.Float h e = cc

@@ -1,5 +1,5 @@
 -- A new variable.
-use Rattle.std.specs.Prelude.{None}
+use Rattle.std.specs.Prelude.{ℕ, None}
 use Rattle.nts_model.specs.declared.labels.VariableKind.{VariableKind}
 use Rattle.nts_table.specs.declared.contents.State.TheVariants.{Unset}
 use Rattle.nts_table.specs.declared.contents.Variable.{Variable}

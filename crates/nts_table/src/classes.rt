@@ -53,12 +53,12 @@ impl InferCtxt {
     }
 
     /// The root of a const variable: the lowest number of its class.
-    pub fn root_const_var(&self, var: usize) -> usize
-        requires within { var < length self.now.entries.variables }
+    pub fn root_const_var(&self, ct: usize) -> usize
+        requires within { ct < length self.now.entries.variables }
         requires descends { LinksDescend self.now.entries }
-        ensures { IsRoot self.now.entries var result }
+        ensures { IsRoot self.now.entries ct result }
     {
-        self.root(var)
+        self.root(ct)
     }
 
     /// The root of a type variable's sub-unification class: the lowest number of it.
