@@ -1,20 +1,17 @@
 -- Entries before and after a change, and what keeps them lawful.
 use Rattle.std.proofs.Common.{◌≡◌, ⊎_elim, ℕ, zero, suc, ◌<◌, List, [], ◌∷◌, ◌++◌, length, map, Some, refl, sym, ap, ◌∙◌, arith}
 use Rattle.std.specs.Prelude.{slice_get, slice_set}
-use Rattle.std.proofs.lemmas.List.{map-append}
 use Rattle.nts_model.specs.Trees.{Tree}
-use Rattle.nts_model.specs.Contents.{Content, changed, bound_to, with_constraint}
+use Rattle.nts_model.specs.Contents.{changed, bound_to}
 use Rattle.nts_model.specs.Resolving.{IsSound}
 use Rattle.nts_model.proofs.Slots.{KeepsKinds, KeepsKinds-changed, slice_get-slice_set_same, slice_get-slice_set_other, slice_get_below}
 use Rattle.nts_model.proofs.Under.{same_or_other}
-use Rattle.nts_model.proofs.Sound.{IsSound-with_constraint}
 use Rattle.nts_table.specs.declared.contents.State.TheVariants.{Link}
 use Rattle.nts_table.specs.declared.contents.Variable.{Variable}
-use Rattle.nts_table.specs.declared.contents.Constraint.{Constraint}
-use Rattle.nts_table.specs.Entries.{Entries, with_variable, bound, constrained}
-use Rattle.nts_table.specs.Proper.{IsProper, IsProper-with_constraint}
-use Rattle.nts_table.specs.Reading.{slot_of, recorded_of, content_of, IsHeldState, AreHeld, IsConstraint, AreConstraints, LinksDescend, IsLawful}
-use Rattle.nts_table.specs.Lawful.{AreConstraints-kept}
+use Rattle.nts_table.specs.Entries.{Entries, with_variable, bound}
+use Rattle.nts_table.specs.Proper.{IsProper}
+use Rattle.nts_table.specs.Reading.{slot_of, recorded_of, content_of, IsHeldState, AreHeld, LinksDescend, IsLawful}
+use Rattle.nts_table.specs.Lawful.{AreHiddenTypes-kept, AreConstraints-kept}
 
 map-slice_set : {A B : Type 0} (f : A → B) (xs : List A) (n : ℕ) (x : A) → map f (slice_set xs n x) ≡ slice_set (map f xs) n (f x)
 map-slice_set f [] n x = refl
@@ -42,11 +39,6 @@ pub content_of-bound : (ts : List Tree) (e : Entries) (n : ℕ) (v : Variable) �
 content_of-bound ts e n v =
     let slots = map-slice_set (slot_of ts) e.variables n v in
     λ i. record { slots = slots i; order = e.order ++ n ∷ []; universe = e.universe; constraints = map (recorded_of ts) e.constraints }
-
-pub content_of-constrained : (ts : List Tree) (e : Entries) (x : Constraint) → content_of ts (constrained e x) ≡ with_constraint (content_of ts e) (recorded_of ts x)
-content_of-constrained ts e x =
-    let more = map-append (recorded_of ts) e.constraints (x ∷ []) in
-    λ i. record { slots = map (slot_of ts) e.variables; order = e.order; universe = e.universe; constraints = more i }
 
 AreHeld-set : (ts : List Tree) (vs : List Variable) (n : ℕ) (v : Variable) → AreHeld ts vs → IsHeldState ts v.state → AreHeld ts (slice_set vs n v)
 AreHeld-set ts [] n v h k = h
@@ -91,6 +83,7 @@ IsLawful-set ts e n v w h at k held l s p =
     record {
       held = AreHeld-set ts e.variables n w h.held held;
       constraints = rw is (AreConstraints-kept ts (content_of ts e) (changed (content_of ts e) n (slot_of ts w)) e.constraints kinds h.constraints);
+      hidden = rw is (AreHiddenTypes-kept ts (content_of ts e) (changed (content_of ts e) n (slot_of ts w)) e.hidden kinds h.hidden);
       descends = LinksDescend-set e n v w at h.descends l;
       sound = rw is s;
       proper = rw is p;
@@ -105,25 +98,8 @@ IsLawful-bound ts e n v w h at k held l s p =
     record {
       held = AreHeld-set ts e.variables n w h.held held;
       constraints = rw is (AreConstraints-kept ts (content_of ts e) (bound_to (content_of ts e) n (slot_of ts w)) e.constraints later h.constraints);
+      hidden = rw is (AreHiddenTypes-kept ts (content_of ts e) (bound_to (content_of ts e) n (slot_of ts w)) e.hidden later h.hidden);
       descends = record { links = d.links; sub_links = d.sub_links };
       sound = rw is s;
       proper = rw is p;
-    }
-
-AreConstraints-push : (ts : List Tree) (c : Content) (xs : List Constraint) (x : Constraint) → AreConstraints ts c xs → IsConstraint ts c x → AreConstraints ts c (xs ++ x ∷ [])
-AreConstraints-push ts c [] x h k = (k, tt)
-AreConstraints-push ts c (y ∷ xs) x h k = (h.0, AreConstraints-push ts c xs x h.1 k)
-
-pub IsLawful-constrained : (ts : List Tree) (e : Entries) (x : Constraint) → IsLawful ts e → IsConstraint ts (content_of ts e) x → IsLawful ts (constrained e x)
-IsLawful-constrained ts e x h k =
-    let c = content_of ts e in
-    let d = with_constraint c (recorded_of ts x) in
-    let is = content_of-constrained ts e x in
-    let kinds : KeepsKinds c d = record { kinds = λ n j q. q } in
-    record {
-      held = h.held;
-      constraints = rw is (AreConstraints-kept ts c d (e.constraints ++ x ∷ []) kinds (AreConstraints-push ts c e.constraints x h.constraints k));
-      descends = record { links = h.descends.links; sub_links = h.descends.sub_links };
-      sound = rw is (IsSound-with_constraint c (recorded_of ts x) h.sound);
-      proper = rw is (IsProper-with_constraint c (recorded_of ts x) k.left_known k.right_known k.regions h.sound h.proper);
     }

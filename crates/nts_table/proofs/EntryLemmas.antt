@@ -4,8 +4,9 @@ use Rattle.std.specs.Prelude.{slice_get, slice_set}
 use Rattle.std.proofs.lemmas.Grind.{common_steps}
 use Rattle.nts_table.specs.declared.contents.Variable.{Variable}
 use Rattle.nts_table.specs.declared.contents.Constraint.{Constraint}
-use Rattle.nts_table.specs.declared.contents.Change.TheVariants.{Added, Changed, Bound, Moved, Constrained}
-use Rattle.nts_table.specs.Entries.{Entries, undone, added, with_variable, bound, moved, constrained, front}
+use Rattle.nts_table.specs.declared.contents.HiddenType.{HiddenType}
+use Rattle.nts_table.specs.declared.contents.Change.TheVariants.{Added, Changed, Bound, Moved, Constrained, Registered, Replaced}
+use Rattle.nts_table.specs.Entries.{Entries, undone, added, with_variable, bound, moved, constrained, registered, with_hidden, front}
 
 pub front-push : {A : Type 0} (xs : List A) (x : A) → front (xs ++ x ∷ []) ≡ xs
 front-push xs x = grind (arith, common_steps)
@@ -30,3 +31,9 @@ undone-constrained c x = rw (front-push c.constraints x) refl
 
 pub undone-moved : (c : Entries) (u old : ℕ) → old ≡ c.universe → undone (Moved old) (moved c u) ≡ c
 undone-moved c u old h = λ i. record c { universe = h i }
+
+pub undone-registered : (c : Entries) (h : HiddenType) → undone Registered (registered c h) ≡ c
+undone-registered c h = rw (front-push c.hidden h) refl
+
+pub undone-replaced : (c : Entries) (n : ℕ) (h old : HiddenType) → slice_get c.hidden n ≡ Some old → undone (Replaced n old) (with_hidden c n h) ≡ c
+undone-replaced c n h old e = rw (slice_set-twice c.hidden n h old e) refl

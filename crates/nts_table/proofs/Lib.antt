@@ -13,6 +13,7 @@ pub mod Keeping
 pub mod Merging
 pub mod JoinLemmas
 pub mod HeadLemmas
+pub mod HiddenLemmas
 pub mod LookingUp
 pub mod RegionLemmas
 pub mod PairLemmas

@@ -22,6 +22,7 @@ use Rattle.nts_model.proofs.Held.{AreOne-continues, Continues-refl, Continues-wi
 use Rattle.nts_model.proofs.Alike.{AreAlike-one, AreAlike-regions, HoldsEqual-recorded}
 use Rattle.nts_terms.specs.declared.nodes.NodeId.{NodeId}
 use Rattle.nts_terms.specs.Growth.{tree_at, IsIn}
+use Rattle.nts_table.specs.Lawful.{content_of-constrained}
 use Rattle.nts_table.specs.declared.contents.Constraint.{Constraint}
 use Rattle.nts_table.specs.Entries.{Entries, constrained}
 use Rattle.nts_table.specs.Reading.{content_of, recorded_of, IsLawful}
@@ -30,7 +31,6 @@ use Rattle.nts_table.specs.Changing.{region_variable, is_free_region}
 use Rattle.nts_table.specs.Joining.{IsOneClass, RegionsJoin}
 use Rattle.nts_table.specs.Relating.{IsRegionOf, RegionsRelate}
 use Rattle.nts_table.proofs.Leading.{IsRoot-content, Reaches-leads}
-use Rattle.nts_table.proofs.Changes.{content_of-constrained}
 use Rattle.nts_table.proofs.Keeping.{Keeps-refl, Keeps-with_constraint}
 use Rattle.nts_table.proofs.HeadLemmas.{region_label, variable_node}
 

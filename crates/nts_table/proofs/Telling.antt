@@ -22,8 +22,7 @@ use Rattle.nts_table.specs.declared.deduplicated.Said.{Said}
 use Rattle.nts_table.specs.contracts.deduplicated.SaidPartialEq.TheImpl as said_eq
 use Rattle.nts_table.specs.Entries.{Entries}
 use Rattle.nts_table.specs.Reading.{recorded_of, content_of, IsConstraint, AreConstraints, IsLawful}
-use Rattle.nts_table.specs.Lawful.{content_of-extended, IsLawful-extended}
-use Rattle.nts_table.specs.Recording.{AreConstraints-push}
+use Rattle.nts_table.specs.Lawful.{content_of-extended, IsLawful-extended, AreConstraints-push}
 use Rattle.nts_table.specs.Deduplicated.{resolved_constraint, resolved_constraints, IsSame, IsAmong, SaysNothingNew, AreNews, none, passed, told, said, SidesIn, AllSidesIn, Tells}
 
 IsSame-trans : {x y z : Recorded} → IsSame x y → IsSame y z → IsSame x z

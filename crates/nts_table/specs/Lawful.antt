@@ -1,6 +1,6 @@
 -- Entries that go with a store: what keeps them lawful.
-use Rattle.std.proofs.Common.{◌≡◌, ◌⊎◌, inl, inr, ⊎_elim, ℕ, List, [], ◌∷◌, ◌++◌, length, map, Some, None, refl, sym, ap, ◌∙◌}
-use Rattle.std.specs.Prelude.{slice_get}
+use Rattle.std.proofs.Common.{◌≡◌, ◌⊎◌, inl, inr, ⊎_elim, ℕ, zero, suc, List, [], ◌∷◌, ◌++◌, length, map, Some, None, refl, sym, ap, ◌∙◌}
+use Rattle.std.specs.Prelude.{slice_get, slice_set}
 use Rattle.std.proofs.lemmas.List.{map-append}
 use Rattle.nts_model.specs.Trees.{Tree}
 use Rattle.nts_model.specs.Contents.{Content, unset, known, with_slot, with_constraint, in_universe}
@@ -13,9 +13,10 @@ use Rattle.nts_table.specs.declared.contents.State.{State}
 use Rattle.nts_table.specs.declared.contents.State.TheVariants.{Unset, Link, Known}
 use Rattle.nts_table.specs.declared.contents.Variable.{Variable}
 use Rattle.nts_table.specs.declared.contents.Constraint.{Constraint}
-use Rattle.nts_table.specs.Entries.{Entries, Table, added, moved, constrained}
+use Rattle.nts_table.specs.declared.contents.HiddenType.{HiddenType}
+use Rattle.nts_table.specs.Entries.{Entries, Table, added, moved, constrained, registered, with_hidden}
 use Rattle.nts_table.specs.Proper.{IsProper-empty, IsProper-with_slot, IsProper-with_constraint, IsProper-in_universe}
-use Rattle.nts_table.specs.Reading.{state_with, slot_of, recorded_of, content_of, IsHeldState, AreHeld, IsConstraint, AreConstraints, LinksDescend, IsLawful, AllLawful, IsTable}
+use Rattle.nts_table.specs.Reading.{state_with, slot_of, recorded_of, content_of, IsHeldState, AreHeld, IsConstraint, AreConstraints, IsHiddenType, AreHiddenTypes, LinksDescend, IsLawful, AllLawful, IsTable}
 
 state_with-extended : (a b : List Tree) (s : State) → Extends a b → IsHeldState a s → state_with b s ≡ state_with a s
 state_with-extended a b Unset e h = refl
@@ -72,12 +73,40 @@ AreConstraints-extended a b c [] e h = tt
 AreConstraints-extended a b c (x ∷ xs) e h =
     (IsConstraint-extended a b c x e h.0, AreConstraints-extended a b c xs e h.1)
 
+pub AreHiddenTypes-extended : (a b : List Tree) (c : Content) (hs : List HiddenType) → Extends a b → AreHiddenTypes a c hs → AreHiddenTypes b c hs
+AreHiddenTypes-extended a b c [] e h = tt
+AreHiddenTypes-extended a b c (x ∷ xs) e h =
+    let args = e.kept x.args.node h.0.args.within in
+    let ty = e.kept x.ty.node h.0.ty.within in (
+      record {
+        args = record { within = IsIn-extended e x.args.node h.0.args.within; fits = rw args h.0.args.fits };
+        args_known = rw args h.0.args_known;
+        ty = record { within = IsIn-extended e x.ty.node h.0.ty.within; fits = rw ty h.0.ty.fits };
+        ty_known = rw ty h.0.ty_known;
+      },
+      AreHiddenTypes-extended a b c xs e h.1,
+    )
+
+-- the hidden types of a content of which nothing was forgotten
+pub AreHiddenTypes-kept : (ts : List Tree) (c d : Content) (hs : List HiddenType) → KeepsKinds c d → AreHiddenTypes ts c hs → AreHiddenTypes ts d hs
+AreHiddenTypes-kept ts c d [] k h = tt
+AreHiddenTypes-kept ts c d (x ∷ xs) k h = (
+  record {
+    args = h.0.args;
+    args_known = Knows-kept c d (tree_at ts x.args.node) k h.0.args_known;
+    ty = h.0.ty;
+    ty_known = Knows-kept c d (tree_at ts x.ty.node) k h.0.ty_known;
+  },
+  AreHiddenTypes-kept ts c d xs k h.1,
+)
+
 pub IsLawful-extended : {a b : List Tree} {c : Entries} → Extends a b → IsLawful a c → IsLawful b c
 IsLawful-extended {a} {b} {c} e h =
     let same = content_of-extended e h in
     record {
       held = AreHeld-extended a b c.variables e h.held;
       constraints = rw same (AreConstraints-extended a b (content_of a c) c.constraints e h.constraints);
+      hidden = rw same (AreHiddenTypes-extended a b (content_of a c) c.hidden e h.hidden);
       descends = h.descends;
       sound = rw same h.sound;
       proper = rw same h.proper;
@@ -147,6 +176,7 @@ IsLawful-added ts c v h w =
     record {
       held = AreHeld-push ts c.variables v h.held (rw w.state tt);
       constraints = rw same (AreConstraints-kept ts (content_of ts c) (with_slot (content_of ts c) slot) c.constraints (KeepsKinds-with_slot (content_of ts c) slot) h.constraints);
+      hidden = rw same (AreHiddenTypes-kept ts (content_of ts c) (with_slot (content_of ts c) slot) c.hidden (KeepsKinds-with_slot (content_of ts c) slot) h.hidden);
       descends = LinksDescend-added c v h.descends w;
       sound = rw same (IsSound-with_slot (content_of ts c) slot h.sound free);
       proper = rw same (IsProper-with_slot (content_of ts c) slot free h.sound h.proper);
@@ -157,6 +187,7 @@ IsLawful-moved ts c u h =
     record {
       held = h.held;
       constraints = AreConstraints-kept ts (content_of ts c) (in_universe (content_of ts c) u) c.constraints (record { kinds = λ n k q. q }) h.constraints;
+      hidden = AreHiddenTypes-kept ts (content_of ts c) (in_universe (content_of ts c) u) c.hidden (record { kinds = λ n k q. q }) h.hidden;
       descends = record { links = h.descends.links; sub_links = h.descends.sub_links };
       sound = IsSound-in_universe (content_of ts c) u h.sound;
       proper = IsProper-in_universe (content_of ts c) u h.sound h.proper;
@@ -186,9 +217,9 @@ AllLawful-append ts (d ∷ cs) c h k = (h.0, AllLawful-append ts cs c h.1 k)
 pub IsTable-opened : {a : List Tree} {t u : Table} → IsTable a t → u.entries ≡ t.entries → u.saved ≡ t.saved ++ t.entries ∷ [] → IsTable a u
 IsTable-opened {a} {t} {u} h e s = record { now = rw e h.now; saved = rw s (AllLawful-append a t.saved t.entries h.saved h.now) }
 
-AreConstraints-append : (ts : List Tree) (c : Content) (xs : List Constraint) (x : Constraint) → AreConstraints ts c xs → IsConstraint ts c x → AreConstraints ts c (xs ++ x ∷ [])
-AreConstraints-append ts c [] x h k = (k, tt)
-AreConstraints-append ts c (y ∷ xs) x h k = (h.0, AreConstraints-append ts c xs x h.1 k)
+pub AreConstraints-push : (ts : List Tree) (c : Content) (xs : List Constraint) (x : Constraint) → AreConstraints ts c xs → IsConstraint ts c x → AreConstraints ts c (xs ++ x ∷ [])
+AreConstraints-push ts c [] x h k = (k, tt)
+AreConstraints-push ts c (y ∷ xs) x h k = (h.0, AreConstraints-push ts c xs x h.1 k)
 
 pub content_of-constrained : (ts : List Tree) (c : Entries) (x : Constraint) → content_of ts (constrained c x) ≡ with_constraint (content_of ts c) (recorded_of ts x)
 content_of-constrained ts c x =
@@ -202,7 +233,8 @@ IsLawful-constrained ts c x h k =
     let kinds : KeepsKinds (content_of ts c) next = record { kinds = λ n j q. q } in
     record {
       held = h.held;
-      constraints = rw same (AreConstraints-kept ts (content_of ts c) next (c.constraints ++ x ∷ []) kinds (AreConstraints-append ts (content_of ts c) c.constraints x h.constraints k));
+      constraints = rw same (AreConstraints-kept ts (content_of ts c) next (c.constraints ++ x ∷ []) kinds (AreConstraints-push ts (content_of ts c) c.constraints x h.constraints k));
+      hidden = rw same (AreHiddenTypes-kept ts (content_of ts c) next c.hidden kinds h.hidden);
       descends = record { links = h.descends.links; sub_links = h.descends.sub_links };
       sound = rw same (IsSound-with_constraint (content_of ts c) (recorded_of ts x) h.sound);
       proper = rw same (IsProper-with_constraint (content_of ts c) (recorded_of ts x) k.left_known k.right_known k.regions h.sound h.proper);
@@ -212,13 +244,59 @@ pub IsTable-constrained : {a : List Tree} {t u : Table} {x : Constraint} → IsT
 IsTable-constrained {a} {t} {u} {x} h k q s =
     record { now = rw q (IsLawful-constrained a t.entries x h.now k); saved = rw s h.saved }
 
+-- a hidden type that is registered, or takes the place of another
+AreHiddenTypes-push : (ts : List Tree) (c : Content) (hs : List HiddenType) (x : HiddenType) → AreHiddenTypes ts c hs → IsHiddenType ts c x → AreHiddenTypes ts c (hs ++ x ∷ [])
+AreHiddenTypes-push ts c [] x h k = (k, tt)
+AreHiddenTypes-push ts c (y ∷ hs) x h k = (h.0, AreHiddenTypes-push ts c hs x h.1 k)
+
+AreHiddenTypes-set : (ts : List Tree) (c : Content) (hs : List HiddenType) (n : ℕ) (x : HiddenType) → AreHiddenTypes ts c hs → IsHiddenType ts c x → AreHiddenTypes ts c (slice_set hs n x)
+AreHiddenTypes-set ts c [] n x h k = h
+AreHiddenTypes-set ts c (y ∷ hs) zero x h k = (k, h.1)
+AreHiddenTypes-set ts c (y ∷ hs) (suc n) x h k = (h.0, AreHiddenTypes-set ts c hs n x h.1 k)
+
+pub AreHiddenTypes-at : (ts : List Tree) (c : Content) (hs : List HiddenType) (n : ℕ) (x : HiddenType) → AreHiddenTypes ts c hs → slice_get hs n ≡ Some x → IsHiddenType ts c x
+AreHiddenTypes-at ts c [] n x h k = cc
+AreHiddenTypes-at ts c (y ∷ hs) zero x h k = let e : y ≡ x = cc in rw (← e) h.0
+AreHiddenTypes-at ts c (y ∷ hs) (suc n) x h k = AreHiddenTypes-at ts c hs n x h.1 k
+
+pub IsTable-registered : {a : List Tree} {t u : Table} {x : HiddenType} → IsTable a t → IsHiddenType a (content_of a t.entries) x → u.entries ≡ registered t.entries x → u.saved ≡ t.saved → IsTable a u
+IsTable-registered {a} {t} {u} {x} h k q s =
+    let l = h.now in
+    record {
+      now = rw q (record {
+        held = l.held;
+        constraints = l.constraints;
+        hidden = AreHiddenTypes-push a (content_of a t.entries) t.entries.hidden x l.hidden k;
+        descends = record { links = l.descends.links; sub_links = l.descends.sub_links };
+        sound = l.sound;
+        proper = l.proper;
+      });
+      saved = rw s h.saved;
+    }
+
+pub IsTable-with_hidden : {a : List Tree} {t u : Table} (n : ℕ) {x : HiddenType} → IsTable a t → IsHiddenType a (content_of a t.entries) x → u.entries ≡ with_hidden t.entries n x → u.saved ≡ t.saved → IsTable a u
+IsTable-with_hidden {a} {t} {u} n {x} h k q s =
+    let l = h.now in
+    record {
+      now = rw q (record {
+        held = l.held;
+        constraints = l.constraints;
+        hidden = AreHiddenTypes-set a (content_of a t.entries) t.entries.hidden n x l.hidden k;
+        descends = record { links = l.descends.links; sub_links = l.descends.sub_links };
+        sound = l.sound;
+        proper = l.proper;
+      });
+      saved = rw s h.saved;
+    }
+
 -- a table without variables
-pub IsTable-new : (ts : List Tree) (t : Table) → t.entries ≡ record { variables = []; order = []; universe = 0; constraints = [] } → t.saved ≡ [] → IsTable ts t
+pub IsTable-new : (ts : List Tree) (t : Table) → t.entries ≡ record { variables = []; order = []; universe = 0; constraints = []; hidden = [] } → t.saved ≡ [] → IsTable ts t
 IsTable-new ts t e s =
-    let c : Entries = record { variables = []; order = []; universe = 0; constraints = [] } in
+    let c : Entries = record { variables = []; order = []; universe = 0; constraints = []; hidden = [] } in
     let now : IsLawful ts c = record {
       held = tt;
       constraints = tt;
+      hidden = tt;
       descends = record { links = λ n m v h q. cc; sub_links = λ n m v h q. cc };
       sound = record {
         descends = λ n m q. cc;

@@ -8,6 +8,7 @@ pub mod Lawful
 pub mod Resolution
 pub mod Classes
 pub mod Recording
+pub mod Registering
 pub mod Deduplicated
 pub mod Probing
 pub mod Fresh

@@ -7,6 +7,8 @@ use Rattle.nts_model.specs.Trees.{Tree, NodeKind, of_sort, kind_of}
 use Rattle.nts_model.specs.Contents.{Content, Slot, SlotState, unset, link, known, Recorded}
 use Rattle.nts_model.specs.Resolving.{Knows, IsSound}
 use Rattle.nts_model.specs.RegionClasses.{AreRegions}
+use Rattle.nts_table.specs.declared.contents.HiddenType.{HiddenType}
+use Rattle.nts_terms.specs.Handles.{HoldsTy, HoldsArgs}
 use Rattle.nts_terms.specs.Growth.{tree_at, IsIn}
 use Rattle.nts_table.specs.declared.contents.State.{State}
 use Rattle.nts_table.specs.declared.contents.State.TheVariants.{Unset, Link, Known}
@@ -64,6 +66,17 @@ abbrev pub AreConstraints : List Tree → Content → List Constraint → Type 0
 AreConstraints ts c [] = Unit {0}
 AreConstraints ts c (x ∷ xs) = IsConstraint ts c x × AreConstraints ts c xs
 
+-- a hidden type and its alias are of the store and the table
+pub record IsHiddenType (ts : List Tree) (c : Content) (h : HiddenType) : Type 0 where
+  pub args : HoldsArgs ts h.args
+  pub args_known : Knows c (tree_at ts h.args.node)
+  pub ty : HoldsTy ts h.ty
+  pub ty_known : Knows c (tree_at ts h.ty.node)
+
+abbrev pub AreHiddenTypes : List Tree → Content → List HiddenType → Type 0
+AreHiddenTypes ts c [] = Unit {0}
+AreHiddenTypes ts c (h ∷ hs) = IsHiddenType ts c h × AreHiddenTypes ts c hs
+
 -- links lead to lower numbers, and so do those of sub-unification
 pub record LinksDescend (c : Entries) : Type 0 where
   pub links : (n m : ℕ) (v : Variable) → slice_get c.variables n ≡ Some v → v.state ≡ Link m → m < n
@@ -73,6 +86,7 @@ pub record LinksDescend (c : Entries) : Type 0 where
 pub record IsLawful (ts : List Tree) (c : Entries) : Type 0 where
   pub held : AreHeld ts c.variables
   pub constraints : AreConstraints ts (content_of ts c) c.constraints
+  pub hidden : AreHiddenTypes ts (content_of ts c) c.hidden
   pub descends : LinksDescend c
   pub sound : IsSound (content_of ts c)
   pub proper : IsProper (content_of ts c)

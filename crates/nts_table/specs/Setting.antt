@@ -16,7 +16,7 @@ use Rattle.nts_table.specs.declared.contents.State.TheVariants.{Unset, Link}
 use Rattle.nts_table.specs.declared.contents.Variable.{Variable}
 use Rattle.nts_table.specs.Entries.{Entries, Table, with_variable}
 use Rattle.nts_table.specs.Reading.{state_with, slot_of, content_of, recorded_of, IsHeldState, AreHeld, LinksDescend, IsLawful, IsTable}
-use Rattle.nts_table.specs.Lawful.{AreConstraints-kept}
+use Rattle.nts_table.specs.Lawful.{AreHiddenTypes-kept, AreConstraints-kept}
 
 slot_at : (ts : List Tree) (vs : List Variable) (n : ℕ) (v : Variable) → slice_get vs n ≡ Some v → slice_get (map (slot_of ts) vs) n ≡ Some (slot_of ts v)
 slot_at ts [] n v e = cc
@@ -69,6 +69,7 @@ IsLawful-set ts e n v w h at kind held down sound proper =
     record {
       held = AreHeld-set ts e.variables n w h.held held;
       constraints = rw same (AreConstraints-kept ts (content_of ts e) (changed (content_of ts e) n (slot_of ts w)) e.constraints (KeepsKinds-changed (content_of ts e) n (slot_of ts v) (slot_of ts w) there kind) h.constraints);
+      hidden = rw same (AreHiddenTypes-kept ts (content_of ts e) (changed (content_of ts e) n (slot_of ts w)) e.hidden (KeepsKinds-changed (content_of ts e) n (slot_of ts v) (slot_of ts w) there kind) h.hidden);
       descends = LinksDescend-set e n w h.descends (slice_get_below e.variables n v at) down;
       sound = rw same sound;
       proper = rw same proper;

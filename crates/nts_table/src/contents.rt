@@ -1,9 +1,9 @@
 //! The entries of a table, and how one change of them is undone.
 ghost use Rattle.std.specs.Prelude.{◌≡◌, ◌<◌, ◌++◌, ◌∷◌, [], length, slice_set, slice_get, OnOk, OnErr, IfOk, Some};
-ghost use Rattle.nts_table.specs.Entries.{Entries, undone, added, with_variable, bound, constrained, moved};
+ghost use Rattle.nts_table.specs.Entries.{Entries, undone, added, with_variable, bound, constrained, moved, registered, with_hidden};
 
 use nts_model::{Relation, VariableKind};
-use nts_terms::NodeId;
+use nts_terms::{AliasId, GenericArgs, NodeId, Ty};
 use std::alloc::{AllocError, Global};
 use std::marker::Model;
 
@@ -39,6 +39,15 @@ pub struct Constraint {
     pub is_visible: bool,
 }
 
+/// The type that an alias stands for where goals may not see it: a hidden type, with the alias that it
+/// is hidden behind.
+#[derive(Clone, Copy, PartialEq, Eq)]
+pub struct HiddenType {
+    pub alias: AliasId,
+    pub args: GenericArgs,
+    pub ty: Ty,
+}
+
 /// A change of a table, by what undoes it.
 #[derive(Clone, Copy, PartialEq, Eq)]
 pub enum Change {
@@ -52,6 +61,10 @@ pub enum Change {
     Moved(u32),
     /// A constraint was recorded.
     Constrained,
+    /// A hidden type was registered.
+    Registered,
+    /// A hidden type was as given.
+    Replaced(usize, HiddenType),
 }
 
 /// What a rollback restores.
@@ -61,6 +74,7 @@ pub struct Contents {
     order: Vec<usize>,
     universe: u32,
     constraints: Vec<Constraint>,
+    hidden: Vec<HiddenType>,
 }
 
 impl Model for Contents {
@@ -68,18 +82,19 @@ impl Model for Contents {
 
     ghost Value = { Entries };
 
-    ghost view = { λ c. record { variables = c.variables.items; order = c.order.items; universe = c.universe; constraints = c.constraints.items } };
+    ghost view = { λ c. record { variables = c.variables.items; order = c.order.items; universe = c.universe; constraints = c.constraints.items; hidden = c.hidden.items } };
 }
 
 impl Contents {
     pub fn new(alloc: Global) -> Self
-        ensures { result ≡ record { variables = []; order = []; universe = 0; constraints = [] } }
+        ensures { result ≡ record { variables = []; order = []; universe = 0; constraints = []; hidden = [] } }
     {
         Contents {
             variables: Vec::new(alloc),
             order: Vec::new(alloc),
             universe: 0,
             constraints: Vec::new(alloc),
+            hidden: Vec::new(alloc),
         }
     }
 
@@ -113,6 +128,19 @@ impl Contents {
         ensures { result ≡ length self.now.constraints }
     {
         self.constraints.len()
+    }
+
+    pub fn hidden_type(&self, n: usize) -> HiddenType
+        requires { n < length self.now.hidden }
+        ensures { slice_get self.now.hidden n ≡ Some result }
+    {
+        self.hidden[n]
+    }
+
+    pub fn hidden_count(&self) -> usize
+        ensures { result ≡ length self.now.hidden }
+    {
+        self.hidden.len()
     }
 
     pub fn add(&mut self, variable: Variable) -> Result<usize, AllocError>
@@ -156,6 +184,21 @@ impl Contents {
         Ok(())
     }
 
+    pub fn register(&mut self, hidden: HiddenType) -> Result<(), AllocError>
+        ensures entries { OnOk result (self.new ≡ registered self.old hidden) }
+        ensures err { OnErr result (self.new ≡ self.old) }
+    {
+        self.hidden.push(hidden)?;
+        Ok(())
+    }
+
+    pub fn replace(&mut self, n: usize, hidden: HiddenType)
+        requires { n < length self.old.hidden }
+        ensures { self.new ≡ with_hidden self.old n hidden }
+    {
+        self.hidden[n] = hidden;
+    }
+
     /// Undoes one change. It takes no memory.
     pub fn undo(&mut self, change: Change)
         ensures { self.new ≡ undone change self.old }
@@ -180,6 +223,14 @@ impl Contents {
             }
             Change::Constrained => {
                 self.constraints.pop();
+            }
+            Change::Registered => {
+                self.hidden.pop();
+            }
+            Change::Replaced(n, hidden) => {
+                if n < self.hidden.len() {
+                    self.hidden[n] = hidden;
+                }
             }
         }
     }

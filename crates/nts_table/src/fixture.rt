@@ -94,11 +94,32 @@ impl Fixture {
         requires { IsTable self.old.cx.nodes self.old.table }
         ensures { IsTable self.new.cx.nodes self.new.table }
     {
-        let node = self
+        let ct = self
             .table
-            .fresh_node(&mut self.cx, Sort::Const)
+            .next_const_infer(&mut self.cx)
             .expect(rt, "memory");
-        GenericArg { node }
+        ct.into()
+    }
+
+    /// A new variable of integer types.
+    pub fn int_var(&mut self, rt: &impl Abort) -> GenericArg
+        requires { IsTable self.old.cx.nodes self.old.table }
+        ensures { IsTable self.new.cx.nodes self.new.table }
+    {
+        let ty = self.table.next_int_infer(&mut self.cx).expect(rt, "memory");
+        ty.into()
+    }
+
+    /// A new variable of float types.
+    pub fn float_var(&mut self, rt: &impl Abort) -> GenericArg
+        requires { IsTable self.old.cx.nodes self.old.table }
+        ensures { IsTable self.new.cx.nodes self.new.table }
+    {
+        let ty = self
+            .table
+            .next_float_infer(&mut self.cx)
+            .expect(rt, "memory");
+        ty.into()
     }
 
     /// One more universe.

@@ -3,9 +3,9 @@ ghost use Rattle.std.specs.Prelude.{◌≡◌, ◌<◌, ◌+◌, ◌++◌, ◌�
 ghost use Rattle.std.specs.Prelude.{List};
 ghost use Rattle.nts_model.specs.Trees.{Tree};
 ghost use Rattle.nts_table.specs.Reading.{IsTable};
-ghost use Rattle.nts_table.specs.Entries.{Entries, Table, added, with_variable, bound, constrained, moved};
+ghost use Rattle.nts_table.specs.Entries.{Entries, Table, added, with_variable, bound, constrained, moved, registered, with_hidden};
 
-use crate::contents::{Change, Constraint, Contents, Variable};
+use crate::contents::{Change, Constraint, Contents, HiddenType, Variable};
 use nts_terms::TypingMode;
 use std::alloc::{AllocError, Global};
 use std::marker::Model;
@@ -42,7 +42,7 @@ pub struct Snapshot {
 impl InferCtxt {
     /// A table without variables, in the root universe. It takes no memory.
     pub fn new(alloc: Global, mode: TypingMode) -> Self
-        ensures entries { result.entries ≡ record { variables = []; order = []; universe = 0; constraints = [] } }
+        ensures entries { result.entries ≡ record { variables = []; order = []; universe = 0; constraints = []; hidden = [] } }
         ensures saved { result.saved ≡ [] }
         ensures mode { result.mode ≡ mode }
         ensures table { (ts : List Tree) → IsTable ts result }
@@ -86,6 +86,21 @@ impl InferCtxt {
         ensures { slice_get self.now.entries.constraints n ≡ Some result }
     {
         self.contents.constraint(n)
+    }
+
+    /// How many hidden types are registered. It takes no memory.
+    pub fn num_opaque_types(&self) -> usize
+        ensures { result ≡ length self.now.entries.hidden }
+    {
+        self.contents.hidden_count()
+    }
+
+    /// The hidden type at a position.
+    pub fn hidden_type(&self, n: usize) -> HiddenType
+        requires { n < length self.now.entries.hidden }
+        ensures { slice_get self.now.entries.hidden n ≡ Some result }
+    {
+        self.contents.hidden_type(n)
     }
 
     /// The current universe.
@@ -169,6 +184,35 @@ impl InferCtxt {
                 Err(error)
             }
         }
+    }
+
+    pub(crate) fn register(&mut self, hidden: HiddenType) -> Result<(), AllocError>
+        ensures entries { OnOk result (self.new.entries ≡ registered self.old.entries hidden) }
+        ensures saved { self.new.saved ≡ self.old.saved }
+        ensures mode { self.new.mode ≡ self.old.mode }
+        ensures err { OnErr result (self.new ≡ self.old) }
+    {
+        self.log.push(Change::Registered)?;
+        match self.contents.register(hidden) {
+            Ok(()) => Ok(()),
+            Err(error) => {
+                self.log.pop();
+                Err(error)
+            }
+        }
+    }
+
+    pub(crate) fn replace(&mut self, n: usize, hidden: HiddenType) -> Result<(), AllocError>
+        requires { n < length self.old.entries.hidden }
+        ensures entries { OnOk result (self.new.entries ≡ with_hidden self.old.entries n hidden) }
+        ensures saved { self.new.saved ≡ self.old.saved }
+        ensures mode { self.new.mode ≡ self.old.mode }
+        ensures err { OnErr result (self.new ≡ self.old) }
+    {
+        let old = self.contents.hidden_type(n);
+        self.log.push(Change::Replaced(n, old))?;
+        self.contents.replace(n, hidden);
+        Ok(())
     }
 
     /// Opens a snapshot.

@@ -13,8 +13,11 @@ mod equating;
 mod fixture;
 mod fresh;
 mod generalise;
+mod hidden;
 mod infer_ctxt;
 mod join;
+#[cfg(test)]
+mod kinds_tests;
 mod knowing;
 mod labels;
 mod named;
@@ -33,7 +36,7 @@ mod shallow;
 mod tests;
 mod variables;
 
-pub use contents::{Constraint, State, Variable};
+pub use contents::{Constraint, HiddenType, State, Variable};
 pub use equating::is_unbound;
 pub use infer_ctxt::{InferCtxt, Snapshot};
 pub use relate::relate_nodes;

@@ -1,6 +1,5 @@
 use Rattle.std.proofs.Common.{refl, sym}
-use Rattle.nts_table.specs.Lawful.{IsLawful-extended}
-use Rattle.nts_table.proofs.Changes.{IsLawful-constrained}
+use Rattle.nts_table.specs.Lawful.{IsLawful-extended, IsLawful-constrained}
 use Rattle.nts_table.proofs.HeadLemmas.{region_root}
 use Rattle.nts_table.proofs.Naming.{is_fresh, root_value, region_value, can_join_fresh_region, fresh_joined, fresh_recorded, region_constraint}
 use Rattle.nts_table.proofs.generalise.name_region.Goals as goal

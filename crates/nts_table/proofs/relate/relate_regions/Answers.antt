@@ -1,5 +1,5 @@
 use Rattle.std.proofs.Common.{sym, refl}
-use Rattle.nts_table.proofs.Changes.{IsLawful-constrained}
+use Rattle.nts_table.specs.Lawful.{IsLawful-constrained}
 use Rattle.nts_table.proofs.HeadLemmas.{region_root}
 use Rattle.nts_table.proofs.RegionLemmas.{region_variable_at, regions_same, regions_joined, regions_recorded}
 use Rattle.nts_table.proofs.relate.relate_regions.Goals as goal

@@ -1,0 +1,89 @@
+//! Hidden types of aliases.
+ghost use Rattle.std.specs.Prelude.{◌≡◌, true, false, IfOk, OnOk, OnErr, IsOkUnless};
+ghost use Rattle.nts_model.specs.Resolving.{Knows};
+ghost use Rattle.nts_terms.specs.Growth.{tree_at, Extends};
+ghost use Rattle.nts_terms.specs.Handles.{HoldsTy, HoldsArgs};
+ghost use Rattle.nts_terms.specs.Rest.{KeepsRest};
+ghost use Rattle.nts_table.specs.Reading.{content_of, IsHiddenType, IsTable};
+ghost use Rattle.nts_table.specs.Registering.{Registers, IsPlace};
+
+use crate::contents::HiddenType;
+use crate::infer_ctxt::InferCtxt;
+use crate::resolver::resolve_nodes;
+use nts_terms::{AliasId, AliasTerm, Cx, Fault, Nodes, Span, Ty};
+use std::alloc::{AllocError, Global};
+
+impl InferCtxt {
+    /// Registers the type that is hidden behind an alias. The first type that was hidden behind it, its
+    /// arguments compared under the table's values, is answered, and the new one takes its place.
+    pub fn register_hidden_type_in_storage(
+        &mut self,
+        cx: &mut Cx,
+        key: AliasTerm,
+        ty: Ty,
+        _span: Span,
+    ) -> Result<Option<Ty>, Fault>
+        requires table { IsTable cx.old.nodes self.old }
+        requires args { HoldsArgs cx.old.nodes key.args }
+        requires args_known { Knows (content_of cx.old.nodes self.old.entries) (tree_at cx.old.nodes key.args.node) }
+        requires ty { HoldsTy cx.old.nodes ty }
+        requires ty_known { Knows (content_of cx.old.nodes self.old.entries) (tree_at cx.old.nodes ty.node) }
+        ensures registered { IfOk result (Registers cx.old.nodes (content_of cx.old.nodes self.old.entries) self.old.entries.hidden (record { alias = key.def_id; args = key.args; ty = ty }) self.new.entries.hidden) }
+        ensures entries { OnOk result (self.new.entries ≡ record self.old.entries { hidden = self.new.entries.hidden }) }
+        ensures saved { self.new.saved ≡ self.old.saved }
+        ensures mode { self.new.mode ≡ self.old.mode }
+        ensures table { IsTable cx.new.nodes self.new }
+        ensures extends { Extends cx.old.nodes cx.new.nodes }
+        ensures rest { KeepsRest cx.old cx.new }
+        ensures err { OnErr result (self.new ≡ self.old) }
+        ensures memory { IsOkUnless result Fault.Memory }
+    {
+        let hidden = HiddenType {
+            alias: key.def_id,
+            args: key.args,
+            ty,
+        };
+        match self.place_of_hidden(cx.alloc, &mut cx.nodes, hidden)? {
+            Some(place) => {
+                let old = self.hidden_type(place);
+                self.replace(place, HiddenType { ty, ..old })?;
+                Ok(Some(old.ty))
+            }
+            None => {
+                self.register(hidden)?;
+                Ok(None)
+            }
+        }
+    }
+
+    /// The place of the first type that is hidden behind the same alias.
+    fn place_of_hidden(
+        &self,
+        alloc: Global,
+        nodes: &mut Nodes,
+        hidden: HiddenType,
+    ) -> Result<Option<usize>, AllocError>
+        requires table { IsTable nodes.old self.now }
+        requires hidden { IsHiddenType nodes.old (content_of nodes.old self.now.entries) hidden }
+        ensures place { IfOk result (IsPlace nodes.old (content_of nodes.old self.now.entries) self.now.entries.hidden hidden) }
+        ensures extends { Extends nodes.old nodes.new }
+    {
+        let args = resolve_nodes(alloc, nodes, self, hidden.args.node, true)?;
+        for i in 0..self.num_opaque_types() {
+            let old = self.hidden_type(i);
+            let old_args = resolve_nodes(alloc, nodes, self, old.args.node, true)?;
+            if is_one_alias(old.alias, hidden.alias, nodes.same(old_args, args)) {
+                return Ok(Some(i));
+            }
+        }
+        Ok(None)
+    }
+}
+
+/// Whether two aliases are one, where their arguments are.
+fn is_one_alias(a: AliasId, b: AliasId, same_args: bool) -> bool
+    ensures yes { result ≡ true → (a ≡ b) × (same_args ≡ true) }
+    ensures no { result ≡ false → a ≡ b → same_args ≡ true → ⊥ }
+{
+    same_args && a == b
+}
