@@ -1,5 +1,5 @@
 -- Why a goal is answered `yes`.
-use Rattle.std.proofs.Common.{List, Result, Ok, Err}
+use Rattle.std.proofs.Common.{List, Result, Ok, Err, subst, sym}
 use Rattle.std.specs.Prelude.{IfOk}
 use Rattle.nts_model.specs.Trees.{Tree}
 use Rattle.nts_terms.specs.declared.nodes.NodeId.{NodeId}
@@ -9,7 +9,10 @@ use Rattle.nts_terms.proofs.Growing.{Extends-trans}
 use Rattle.nts_table.specs.Entries.{Table}
 use Rattle.nts_table.specs.Reading.{content_of}
 use Rattle.next_trait_solver.specs.declared.clauses.Clauses.{Clauses}
-use Rattle.nts.specs.Found.{IsFoundIn}
+use Rattle.nts_text.specs.declared.resolver.Resolved.{Resolved}
+use Rattle.nts.specs.declared.variables.LineVariables.{LineVariables}
+use Rattle.nts.specs.Meaning.{IsGoalOf}
+use Rattle.nts.specs.Found.{IsFoundIn, IsOf}
 use Rattle.nts_text.specs.declared.parser.Mode.{Mode}
 use Rattle.nts.specs.Proving.{IsTypingMode, IsProvedIn, IsJustified}
 use Rattle.nts.specs.declared.answer.Answer.{Answer}
@@ -18,11 +21,12 @@ use Rattle.nts.specs.declared.answer.Answer.TheVariants as answers
 earlier : (a b us : List Tree) (h : Clauses) (t : Table) (g : Goal) → Extends a b → IsProvedIn b us h t g → IsProvedIn a us h t g
 earlier a b us h t g e k = record { store = k.store; extends = Extends-trans e k.extends; proved = k.proved }
 
-pub justified : {E : Type 0} (m : Mode) (a b store us : List Tree) (h : Clauses) (t : Table) (g : Goal) (vs : List NodeId) (r : Result Answer E) → IsTypingMode m t.mode → Extends a b → IsProvedIn b store h t g
-    → IfOk r (IsFoundIn store us (content_of store t.entries) vs) → IfOk r (IsJustified m a us h)
-justified m a b store us h t g vs (Err x) i e k found = tt
-justified m a b store us h t g vs (Ok answers.No) i e k found = tt
-justified m a b store us h t g vs (Ok answers.Ambiguity) i e k found = tt
-justified m a b store us h t g vs (Ok answers.Overflow) i e k found = tt
-justified m a b store us h t g vs (Ok (answers.Yes f)) i e k found =
-    record { store = store; table = t; goal = g; values = vs; mode = i; proved = earlier a b store h t g e k; found = found }
+pub justified : {E : Type 0} (m : Mode) (rs : List Resolved) (a b store us : List Tree) (h : Clauses) (t : Table) (g : Goal) (variables : LineVariables) (vs : List NodeId) (r : Result Answer E)
+    → IsTypingMode m t.mode → Extends a b → IsProvedIn b store h t g → IsGoalOf store variables vs rs g
+    → IfOk r (IsOf variables) → IfOk r (IsFoundIn store us (content_of store t.entries) vs) → IfOk r (IsJustified m rs a us h)
+justified m rs a b store us h t g variables vs (Err x) i e k asked of found = tt
+justified m rs a b store us h t g variables vs (Ok answers.No) i e k asked of found = tt
+justified m rs a b store us h t g variables vs (Ok answers.Ambiguity) i e k asked of found = tt
+justified m rs a b store us h t g variables vs (Ok answers.Overflow) i e k asked of found = tt
+justified m rs a b store us h t g variables vs (Ok (answers.Yes f)) i e k asked of found =
+    record { store = store; table = t; goal = g; values = vs; mode = i; asked = subst (λ w. IsGoalOf store w vs rs g) (sym of) asked; proved = earlier a b store h t g e k; found = found }

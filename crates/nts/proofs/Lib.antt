@@ -6,3 +6,5 @@ pub mod Lines
 pub mod Telling
 pub mod Justifying
 pub mod Obeyed
+pub mod Runs
+pub mod Meant

@@ -7,6 +7,7 @@ use Rattle.nts_terms.specs.declared.nodes.NodeId.{NodeId}
 use Rattle.nts_terms.specs.Growth.{tree_at, AllIn}
 use Rattle.nts_table.specs.Reading.{recorded_of}
 use Rattle.nts_table.specs.Deduplicated.{resolved_constraints, AreNews}
+use Rattle.nts.specs.declared.variables.LineVariables.{LineVariables}
 use Rattle.nts.specs.declared.answer.Answer.{Answer}
 use Rattle.nts.specs.declared.answer.Answer.TheVariants as answers
 
@@ -21,3 +22,8 @@ abbrev pub IsFoundIn : List Tree → List Tree → Content → List NodeId → A
 IsFoundIn ts us c vs (answers.Yes f) =
     AreResolved ts us c vs f.values.items × AreNews (resolved_constraints c) (map (recorded_of us) f.facts.items)
 IsFoundIn ts us c vs a = ⊥
+
+-- the variables of which an answer tells
+abbrev pub IsOf : LineVariables → Answer → Type 0
+IsOf vs (answers.Yes f) = f.variables ≡ vs
+IsOf vs a = Unit {0}

@@ -6,3 +6,5 @@ pub mod Answers
 pub mod Found
 pub mod Obeying
 pub mod Proving
+pub mod Running
+pub mod Meaning

@@ -1,40 +1,94 @@
 -- What the lines of a run do.
-use Rattle.std.specs.Prelude.{◌≡◌, ◌⊎◌, ℕ, true, false, List, length, map, Option, None, Some}
+use Rattle.std.specs.Prelude.{◌≡◌, ◌⊎◌, ℕ, true, false, List, [], length, map, Option, None, Some}
 use Rattle.std.specs.Global.{Vec}
-use Rattle.nts_terms.specs.Signatures.{with_ctor, with_trait}
+use Rattle.nts_terms.specs.Growth.{Extends}
+use Rattle.nts_terms.specs.Rest.{KeepsRest}
+use Rattle.nts_terms.specs.Signatures.{nothing_declared, with_ctor, with_trait}
+use Rattle.nts_terms.specs.declared.cx.Cx.{Cx}
 use Rattle.next_trait_solver.specs.Adding.{AddsClause, MakesCoinductive}
+use Rattle.next_trait_solver.specs.Clauses.{clauses_of, coinductive_of}
 use Rattle.next_trait_solver.specs.declared.clauses.Clause.{Clause}
-use Rattle.nts_text.specs.Commands.{IsCommandOf}
+use Rattle.nts_text.specs.Commands.{IsCommandOf, Declares}
 use Rattle.nts_text.specs.Lines.{IsPassedOver}
+use Rattle.nts_text.specs.NameTable.{declared_as}
+use Rattle.nts_text.specs.Resolution.{trait_sorts}
+use Rattle.nts_text.specs.Spelled.{type_names, region_names, KeepsNumbers}
 use Rattle.nts_text.specs.declared.commands.Command.{Command}
 use Rattle.nts_text.specs.declared.commands.Command.TheVariants as commands
-use Rattle.nts_text.specs.declared.names.NameTable.{NameTable}
-use Rattle.nts_text.specs.declared.names.Scope.{Scope}
+use Rattle.nts_text.specs.declared.parser.Mode.TheVariants as modes
+use Rattle.nts_text.specs.declared.resolver.Resolved.{Resolved}
 use Rattle.nts.specs.declared.program.Program.{Program}
 use Rattle.nts.specs.declared.answer.Answer.{Answer}
 use Rattle.nts.specs.Answers.{IsAnswerText}
 use Rattle.nts.specs.Proving.{IsJustified}
 
--- what is written of a goal: the text of an answer, which is `yes` only where a goal is proved
-pub record IsTold (old new : Program) (text : List ℕ) : Type 0 where
+-- a program that was told nothing: there are no terms, declarations, rules, names or parameters, and
+-- the depth is 128 and the mode analysis
+pub record IsNew (p : Program) : Type 0 where
+  pub nodes : p.cx.nodes ≡ []
+  pub declarations : p.cx.declarations ≡ nothing_declared
+  pub depth : p.cx.recursion_limit ≡ 128
+  pub fast_paths : p.cx.disable_fast_paths ≡ false
+  pub clauses : (i : ℕ) → clauses_of p.clauses i ≡ []
+  pub coinductive : (i : ℕ) → coinductive_of p.clauses i ≡ false
+  pub names : (name : List ℕ) → declared_as p.names name ≡ None
+  pub types : type_names p.scope.parameters ≡ []
+  pub regions : region_names p.scope.parameters ≡ []
+  pub mode : p.mode ≡ modes.Analysis
+
+-- what is written of a goal: the text of an answer, which is `yes` only where the goal that the nodes
+-- say is proved
+pub record IsTold (old new : Program) (rs : List Resolved) (text : List ℕ) : Type 0 where
   pub answer : Answer
   pub says : IsAnswerText new.cx.nodes new.names new.scope answer text
-  pub justified : IsJustified old.mode old.cx.nodes new.cx.nodes old.clauses answer
+  pub justified : IsJustified old.mode rs old.cx.nodes new.cx.nodes old.clauses answer
+
+-- terms may be added, and no term, declaration or limit changes
+pub record Grows (old new : Cx) : Type 0 where
+  pub extends : Extends old.nodes new.nodes
+  pub rest : KeepsRest old new
+
+-- the rules and the mode stay
+pub record KeepsRules (old new : Program) : Type 0 where
+  pub clauses : new.clauses ≡ old.clauses
+  pub mode : new.mode ≡ old.mode
 
 -- what a command changes, and how it is answered
 abbrev pub Follows : Program → Program → Command → Option (Vec ℕ) → Type 0
-Follows old new (commands.Mode m) o = (new.mode ≡ m) × (o ≡ None)
-Follows old new (commands.Depth d) o = (new.cx.recursion_limit ≡ d) × (o ≡ None)
+Follows old new (commands.Mode m) o = (new.mode ≡ m) × (new.cx ≡ old.cx) × (new.clauses ≡ old.clauses) × (o ≡ None)
+Follows old new (commands.Depth d) o = (new.cx ≡ record old.cx { recursion_limit = d }) × KeepsRules old new × (o ≡ None)
 Follows old new (commands.Type n params) o =
-    (new.cx.declarations ≡ with_ctor old.cx.declarations (map (λ p. p.sort) params.items) (map (λ p. p.variance) params.items)) × (o ≡ None)
+    (new.cx ≡ record old.cx { declarations = with_ctor old.cx.declarations (map (λ p. p.sort) params.items) (map (λ p. p.variance) params.items) })
+    × KeepsRules old new × (o ≡ None)
 Follows old new (commands.Trait n true) o =
-    MakesCoinductive old.clauses new.clauses (length old.cx.declarations.traits) × (o ≡ None)
+    (new.cx ≡ record old.cx { declarations = with_trait old.cx.declarations (trait_sorts new.names n) })
+    × MakesCoinductive old.clauses new.clauses (length old.cx.declarations.traits) × (new.mode ≡ old.mode) × (o ≡ None)
 Follows old new (commands.Trait n false) o =
-    (new.clauses ≡ old.clauses) × (o ≡ None)
-Follows old new (commands.Impl head body) o = (c : Clause) × AddsClause old.clauses new.clauses c × (o ≡ None)
-Follows old new (commands.Goal nodes) o = (text : Vec ℕ) × (o ≡ Some text) × IsTold old new text.items
+    (new.cx ≡ record old.cx { declarations = with_trait old.cx.declarations (trait_sorts new.names n) })
+    × KeepsRules old new × (o ≡ None)
+Follows old new (commands.Impl head body) o =
+    (c : Clause) × AddsClause old.clauses new.clauses c × Grows old.cx new.cx × (new.mode ≡ old.mode) × (o ≡ None)
+Follows old new (commands.Goal nodes) o =
+    (text : Vec ℕ) × (o ≡ Some text) × IsTold old new nodes.items text.items × Grows old.cx new.cx × KeepsRules old new
+
+-- a line that is passed over changes nothing
+pub record PassesOver (line : List ℕ) (old new : Program) (o : Option (Vec ℕ)) : Type 0 where
+  pub passed : IsPassedOver line
+  pub cx : new.cx ≡ old.cx
+  pub rules : KeepsRules old new
+  pub names : new.names ≡ old.names
+  pub parameters : KeepsNumbers old.scope.parameters new.scope.parameters
+  pub silent : o ≡ None
+
+-- a line's command is followed, once the names that it declares are added, and parameters that it
+-- is the first to name
+pub record FollowsLine (line : List ℕ) (old new : Program) (o : Option (Vec ℕ)) : Type 0 where
+  pub command : Command
+  pub is : IsCommandOf line new.names new.scope command
+  pub declares : Declares old.names new.names command
+  pub parameters : KeepsNumbers old.scope.parameters new.scope.parameters
+  pub follows : Follows old new command o
 
 -- a line that is passed over, or whose command is followed
 abbrev pub IsObeyed : List ℕ → Program → Program → Option (Vec ℕ) → Type 0
-IsObeyed line old new o =
-    (IsPassedOver line × (o ≡ None)) ⊎ ((names : NameTable) × (scope : Scope) × (command : Command) × IsCommandOf line names scope command × Follows old new command o)
+IsObeyed line old new o = PassesOver line old new o ⊎ FollowsLine line old new o

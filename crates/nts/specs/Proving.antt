@@ -17,6 +17,9 @@ use Rattle.next_trait_solver.specs.declared.clauses.Clauses.{Clauses}
 use Rattle.nts_text.specs.declared.parser.Mode.{Mode}
 use Rattle.nts_text.specs.declared.parser.Mode.TheVariants as modes
 use Rattle.nts.specs.Found.{IsFoundIn}
+use Rattle.nts_text.specs.declared.resolver.Resolved.{Resolved}
+use Rattle.nts.specs.Meaning.{IsGoalOf}
+use Rattle.nts.specs.declared.answer.Found.{Found}
 use Rattle.nts.specs.declared.answer.Answer.{Answer}
 use Rattle.nts.specs.declared.answer.Answer.TheVariants as answers
 
@@ -33,17 +36,19 @@ pub record IsProvedIn (ts us : List Tree) (h : Clauses) (t : Table) (g : Goal) :
   pub extends : Extends ts store
   pub proved : (v : ℕ → List Variance) → HasHeldProof (meaning (handler_of store h) v) (mode_of t.mode) (content_of us t.entries) (tree_at us g.param_env.node) (tree_at us g.predicate.node)
 
--- a goal that holds in a table, which is told of the goal's variables; it is asked in the mode of a line
-pub record IsHeld (m : Mode) (ts us : List Tree) (h : Clauses) (a : Answer) : Type 0 where
+-- the goal that nodes say holds in a table, which is told of the goal's variables; it is asked in the
+-- mode of a line
+pub record IsHeld (m : Mode) (rs : List Resolved) (ts us : List Tree) (h : Clauses) (f : Found) : Type 0 where
   pub store : List Tree
   pub table : Table
   pub goal : Goal
   pub values : List NodeId
   pub mode : IsTypingMode m table.mode
+  pub asked : IsGoalOf store f.variables values rs goal
   pub proved : IsProvedIn ts store h table goal
-  pub found : IsFoundIn store us (content_of store table.entries) values a
+  pub found : IsFoundIn store us (content_of store table.entries) values (answers.Yes f)
 
 -- a goal that is answered `yes` is proved
-abbrev pub IsJustified : Mode → List Tree → List Tree → Clauses → Answer → Type 0
-IsJustified m ts us h (answers.Yes f) = IsHeld m ts us h (answers.Yes f)
-IsJustified m ts us h a = Unit {0}
+abbrev pub IsJustified : Mode → List Resolved → List Tree → List Tree → Clauses → Answer → Type 0
+IsJustified m rs ts us h (answers.Yes f) = IsHeld m rs ts us h f
+IsJustified m rs ts us h a = Unit {0}

@@ -8,7 +8,8 @@ ghost use Rattle.next_trait_solver.specs.Clauses.{AreReady};
 ghost use Rattle.next_trait_solver.specs.Evaluation.{Goes, IsAdmitted, IsTermOf, AreOfSorts};
 ghost use Rattle.nts_terms.specs.declared.certainty.Certainty.TheVariants as certainty;
 ghost use Rattle.nts.specs.Proving.{IsTypingMode, IsProvedIn, IsJustified};
-ghost use Rattle.nts.specs.Found.{AreResolved, IsFoundIn};
+ghost use Rattle.nts.specs.Found.{AreResolved, IsFoundIn, IsOf};
+ghost use Rattle.nts.specs.Meaning.{IsGoalFor};
 ghost use Rattle.nts_terms.specs.Growth.{tree_at};
 
 use crate::build::{MISFIT, Terms, predicate_of, trait_refs};
@@ -59,7 +60,7 @@ fn typing_mode(alloc: Global, mode: Mode) -> TypingMode
 #[tactic(auto, using(crate::proofs::Asking::asking))]
 pub fn ask(cx: &mut Cx, clauses: &Clauses, mode: Mode, nodes: &[Resolved]) -> Result<Answer, Stop>
     requires ready { AreReady cx.old.nodes clauses.now }
-    ensures yes { IfOk result (IsJustified mode cx.old.nodes cx.new.nodes clauses.now) }
+    ensures yes { IfOk result (IsJustified mode nodes.now cx.old.nodes cx.new.nodes clauses.now) }
     ensures extends { Extends cx.old.nodes cx.new.nodes }
     ensures rest { KeepsRest cx.old cx.new }
 {
@@ -92,6 +93,7 @@ fn answer_of(
 ) -> Result<Answer, Stop>
     requires table { IsTable cx.old.nodes table.now }
     requires values { All (λ v. IsTermOf cx.old.nodes table.now v) values.now }
+    ensures variables { IfOk result (IsOf variables) }
     ensures found { IfOk result (IsFoundIn cx.old.nodes cx.new.nodes (content_of cx.old.nodes table.now.entries) values.now) }
     ensures extends { Extends cx.old.nodes cx.new.nodes }
     ensures rest { KeepsRest cx.old cx.new }
@@ -122,6 +124,7 @@ fn fresh_values(cx: &mut Cx, table: &mut InferCtxt, sorts: &[Sort]) -> Result<Ve
 /// The goal that these nodes say, in an empty environment.
 #[tactic(auto, using(crate::proofs::Asking::asking))]
 fn goal_of(cx: &mut Cx, nodes: &[Resolved], terms: Terms<'_>) -> Result<Goal, Stop>
+    ensures asks { IfOk result (IsGoalFor cx.new.nodes terms.entry.variables.now terms.entry.values.now nodes.now) }
     ensures holds { IfOk result (λ g. HoldsGoal cx.new.nodes g) }
     ensures extends { Extends cx.old.nodes cx.new.nodes }
     ensures rest { KeepsRest cx.old cx.new }

@@ -1,6 +1,10 @@
 //! Terms of the predicates that a line says.
-ghost use Rattle.std.specs.Prelude.{◌≡◌, All, IsTrue, IfOk};
-ghost use Rattle.nts_terms.specs.Growth.{Extends};
+ghost use Rattle.std.specs.Prelude.{◌≡◌, All, IsTrue, IfOk, IfSome, Some, List, slice_get};
+ghost use Rattle.nts_model.specs.Trees.{Tree};
+ghost use Rattle.nts_terms.specs.Growth.{Extends, tree_at};
+ghost use Rattle.nts_terms.specs.Kinds.{tree_of_ty};
+ghost use Rattle.nts_terms.specs.declared.kinds.TyKind.TheVariants as ty;
+ghost use Rattle.nts.specs.Meaning.{tree_at_place, TakesArguments, MakesArgument, AreSaid, States};
 ghost use Rattle.nts_terms.specs.Handles.{HoldsArg, HoldsArgs, HoldsPredicate};
 ghost use Rattle.nts_terms.specs.Rest.{KeepsRest};
 
@@ -21,15 +25,21 @@ pub struct Terms<'a> {
 }
 
 impl Terms<'_> {
-    fn of_type(self, number: usize) -> Option<GenericArg> {
+    fn of_type(self, number: usize) -> Option<GenericArg>
+        ensures value { IfSome result (λ a. (ts : List Tree) → tree_at ts a.node ≡ tree_at_place ts self.entry.values.now (slice_get self.entry.variables.now.types.items number)) }
+    {
         self.at(*self.variables.types.get(number)?)
     }
 
-    fn of_region(self, number: usize) -> Option<GenericArg> {
+    fn of_region(self, number: usize) -> Option<GenericArg>
+        ensures value { IfSome result (λ a. (ts : List Tree) → tree_at ts a.node ≡ tree_at_place ts self.entry.values.now (slice_get self.entry.variables.now.regions.items number)) }
+    {
         self.at(*self.variables.regions.get(number)?)
     }
 
-    fn at(self, place: usize) -> Option<GenericArg> {
+    fn at(self, place: usize) -> Option<GenericArg>
+        ensures value { IfSome result (λ a. slice_get self.entry.values.now place ≡ Some a.node) }
+    {
         let node = *self.values.get(place)?;
         Some(GenericArg { node })
     }
@@ -39,13 +49,16 @@ impl Terms<'_> {
 pub const MISFIT: Stop = Stop::Refused(Refusal::WrongArguments);
 
 /// The number of a parameter, if there are so many.
-fn parameter(number: usize) -> Result<u32, Stop> {
+fn parameter(number: usize) -> Result<u32, Stop>
+    ensures { IfOk result (λ n. n ≡ number) }
+{
     u32::try_from(number).map_err(|_| Stop::Memory)
 }
 
 /// The traits that these nodes name, with their arguments, in order.
 #[tactic(auto, using(crate::proofs::Asking::growing))]
 pub fn trait_refs(cx: &mut Cx, nodes: &[Resolved], terms: Terms<'_>) -> Result<Vec<TraitRef>, Stop>
+    ensures said { IfOk result (λ rs. AreSaid cx.new.nodes terms.entry.variables.now terms.entry.values.now nodes.now rs.items) }
     ensures extends { Extends cx.old.nodes cx.new.nodes }
     ensures rest { KeepsRest cx.old cx.new }
 {
@@ -53,8 +66,10 @@ pub fn trait_refs(cx: &mut Cx, nodes: &[Resolved], terms: Terms<'_>) -> Result<V
     let mut made = Vec::new(alloc);
     let mut found = Vec::new(alloc);
     // From the last node to the first, so that arguments are made before what takes them.
-    for node in nodes.iter().rev() {
-        match *node {
+    let mut at = nodes.len();
+    while at > 0 {
+        at -= 1;
+        match nodes[at] {
             Resolved::Trait { number, arguments } => {
                 let args = take_args(cx, &mut made, arguments)?;
                 found.push(TraitRef {
@@ -80,6 +95,7 @@ fn argument(
     terms: Terms<'_>,
     node: Resolved,
 ) -> Result<GenericArg, Stop>
+    ensures makes { IfOk result (MakesArgument cx.new.nodes terms.entry.variables.now terms.entry.values.now node made.old made.new) }
     ensures extends { Extends cx.old.nodes cx.new.nodes }
     ensures rest { KeepsRest cx.old cx.new }
 {
@@ -114,12 +130,13 @@ fn are_held(cx: &Cx, args: &[GenericArg]) -> bool
 /// The list of so many of the arguments that were made last, the last one first.
 #[tactic(auto, using(crate::proofs::Asking::growing))]
 fn take_args(cx: &mut Cx, made: &mut Vec<GenericArg>, count: usize) -> Result<GenericArgs, Stop>
+    ensures takes { IfOk result (TakesArguments cx.new.nodes made.old made.new count) }
     ensures holds { IfOk result (λ a. HoldsArgs cx.new.nodes a) }
     ensures extends { Extends cx.old.nodes cx.new.nodes }
     ensures rest { KeepsRest cx.old cx.new }
 {
     let mut args = Vec::new(cx.alloc);
-    for _ in 0..count {
+    'taking: while args.len() < count {
         args.push(made.pop().ok_or(MISFIT)?)?;
     }
     if !are_held(cx, &args) {
@@ -132,6 +149,8 @@ fn take_args(cx: &mut Cx, made: &mut Vec<GenericArg>, count: usize) -> Result<Ge
 #[tactic(auto, using(crate::proofs::Asking::growing))]
 fn constructed(cx: &mut Cx, ctor: CtorId, args: GenericArgs) -> Result<GenericArg, Stop>
     requires { HoldsArgs cx.old.nodes args }
+    ensures tree { IfOk result (λ a. tree_at cx.new.nodes a.node ≡ tree_of_ty cx.old.nodes (ty.Ctor ctor args)) }
+    ensures holds { IfOk result (HoldsArg cx.new.nodes) }
     ensures extends { Extends cx.old.nodes cx.new.nodes }
     ensures rest { KeepsRest cx.old cx.new }
 {
@@ -144,6 +163,7 @@ fn constructed(cx: &mut Cx, ctor: CtorId, args: GenericArgs) -> Result<GenericAr
 /// The predicate that a trait holds for its arguments.
 #[tactic(auto, using(crate::proofs::Asking::growing))]
 pub fn predicate_of(cx: &mut Cx, trait_ref: TraitRef) -> Result<Predicate, Stop>
+    ensures states { IfOk result (States cx.new.nodes trait_ref) }
     ensures holds { IfOk result (λ p. HoldsPredicate cx.new.nodes p) }
     ensures extends { Extends cx.old.nodes cx.new.nodes }
     ensures rest { KeepsRest cx.old cx.new }

@@ -1,5 +1,5 @@
 //! The state of a run, and what each command does to it.
-ghost use Rattle.std.specs.Prelude.{◌≡◌, true, false, length, map, IsNone, IfOk, OnOk};
+ghost use Rattle.std.specs.Prelude.{◌≡◌, true, false, length, map, IsNone, IfOk, OnOk, OnErr};
 ghost use Rattle.nts_terms.specs.Growth.{Extends};
 ghost use Rattle.nts_terms.specs.Rest.{KeepsRest};
 ghost use Rattle.nts_terms.specs.Signatures.{with_ctor, with_trait};
@@ -8,7 +8,7 @@ ghost use Rattle.next_trait_solver.specs.Clauses.{AreReady};
 ghost use Rattle.next_trait_solver.specs.declared.clauses.Clause.{Clause};
 ghost use Rattle.nts_text.specs.Lines.{IsPassedOver};
 ghost use Rattle.nts_text.specs.Resolution.{trait_sorts};
-ghost use Rattle.nts.specs.Obeying.{Follows, IsTold, IsObeyed};
+ghost use Rattle.nts.specs.Obeying.{IsNew, Follows, Grows, KeepsRules, IsTold, IsObeyed};
 
 use crate::answer::ask;
 use crate::build::{MISFIT, Terms, positions, predicate_of, trait_refs};
@@ -39,6 +39,7 @@ impl Program {
     /// Nothing said. It takes no memory.
     pub fn new(alloc: Global) -> Self
         ensures ready { AreReady result.cx.nodes result.clauses }
+        ensures new { IsNew result }
     {
         Program {
             alloc,
@@ -55,6 +56,7 @@ impl Program {
         requires ready { AreReady self.old.cx.nodes self.old.clauses }
         ensures ready { OnOk result (AreReady self.new.cx.nodes self.new.clauses) }
         ensures passed { IfOk result (λ o. IsPassedOver line.now → IsNone o) }
+        ensures refused { OnErr result (IsPassedOver line.now → ⊥) }
         ensures obeyed { IfOk result (IsObeyed line.now self.old self.new) }
     {
         match read_command(self.alloc, line, &mut self.names, &mut self.scope)? {
@@ -67,6 +69,8 @@ impl Program {
     fn follow(&mut self, command: Command) -> Result<Option<Vec<u8>>, Stop>
         requires ready { AreReady self.old.cx.nodes self.old.clauses }
         ensures ready { OnOk result (AreReady self.new.cx.nodes self.new.clauses) }
+        ensures names { self.new.names ≡ self.old.names }
+        ensures scope { self.new.scope ≡ self.old.scope }
         ensures follows { IfOk result (Follows self.old self.new command) }
     {
         match command {
@@ -103,7 +107,10 @@ impl Program {
     fn declare_type(&mut self, params: &[Param]) -> Result<(), Stop>
         requires ready { AreReady self.old.cx.nodes self.old.clauses }
         ensures ready { OnOk result (AreReady self.new.cx.nodes self.new.clauses) }
-        ensures declared { OnOk result (self.new.cx.declarations ≡ with_ctor self.old.cx.declarations (map (λ p. p.sort) params.now) (map (λ p. p.variance) params.now)) }
+        ensures declared { OnOk result (self.new.cx ≡ record self.old.cx { declarations = with_ctor self.old.cx.declarations (map (λ p. p.sort) params.now) (map (λ p. p.variance) params.now) }) }
+        ensures rules { KeepsRules self.old self.new }
+        ensures names { self.new.names ≡ self.old.names }
+        ensures scope { self.new.scope ≡ self.old.scope }
     {
         let sorts = sorts_of(self.alloc, params)?;
         let variances = variances_of(self.alloc, params)?;
@@ -115,9 +122,12 @@ impl Program {
     fn declare_trait(&mut self, number: usize, coinductive: bool) -> Result<(), Stop>
         requires ready { AreReady self.old.cx.nodes self.old.clauses }
         ensures ready { OnOk result (AreReady self.new.cx.nodes self.new.clauses) }
-        ensures declared { OnOk result (self.new.cx.declarations ≡ with_trait self.old.cx.declarations (trait_sorts self.old.names number)) }
+        ensures declared { OnOk result (self.new.cx ≡ record self.old.cx { declarations = with_trait self.old.cx.declarations (trait_sorts self.old.names number) }) }
         ensures coinductive { OnOk result (coinductive ≡ true → MakesCoinductive self.old.clauses self.new.clauses (length self.old.cx.declarations.traits)) }
         ensures inductive { OnOk result (coinductive ≡ false → self.new.clauses ≡ self.old.clauses) }
+        ensures mode { self.new.mode ≡ self.old.mode }
+        ensures names { self.new.names ≡ self.old.names }
+        ensures scope { self.new.scope ≡ self.old.scope }
     {
         let names = &self.names;
         let Some(signature) = names.traits.get(number) else {
@@ -135,6 +145,10 @@ impl Program {
         requires ready { AreReady self.old.cx.nodes self.old.clauses }
         ensures ready { OnOk result (AreReady self.new.cx.nodes self.new.clauses) }
         ensures added { OnOk result ((c : Clause) × AddsClause self.old.clauses self.new.clauses c) }
+        ensures grows { OnOk result (Grows self.old.cx self.new.cx) }
+        ensures mode { self.new.mode ≡ self.old.mode }
+        ensures names { self.new.names ≡ self.old.names }
+        ensures scope { self.new.scope ≡ self.old.scope }
     {
         let clause = clause_of(&mut self.cx, head, body)?;
         if !Clauses::clause_fits(&self.cx, &clause)? {
@@ -148,7 +162,11 @@ impl Program {
     fn answer(&mut self, nodes: &[Resolved]) -> Result<Vec<u8>, Stop>
         requires ready { AreReady self.old.cx.nodes self.old.clauses }
         ensures ready { OnOk result (AreReady self.new.cx.nodes self.new.clauses) }
-        ensures told { IfOk result (λ text. IsTold self.old self.new text.items) }
+        ensures told { IfOk result (λ text. IsTold self.old self.new nodes.now text.items) }
+        ensures grows { OnOk result (Grows self.old.cx self.new.cx) }
+        ensures rules { KeepsRules self.old self.new }
+        ensures names { self.new.names ≡ self.old.names }
+        ensures scope { self.new.scope ≡ self.old.scope }
     {
         let answer = ask(&mut self.cx, &self.clauses, self.mode, nodes)?;
         let text = text_of(

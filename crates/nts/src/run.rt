@@ -3,6 +3,9 @@ ghost use Rattle.std.specs.Prelude.{◌≡◌, OnOk, IfErr};
 ghost use Rattle.next_trait_solver.specs.Clauses.{AreReady};
 ghost use Rattle.nts_text.specs.Lines.{IsPassedOver};
 ghost use Rattle.nts.specs.Growing.{Begins, IsTold};
+ghost use Rattle.nts.specs.Running.{IsAnswered, AnswersAll, StopsAtRefusal};
+ghost use Rattle.nts.specs.Statuses.{status_of};
+ghost use Rattle.nts.specs.declared.status.Status.TheVariants.{Done, Refused};
 
 use crate::output::{put, put_refusal};
 use crate::program::Program;
@@ -15,6 +18,8 @@ use std::io::{BufRead, BufReader, Read, Write};
 /// written before stays.
 #[tactic(auto, using(crate::proofs::Growths::writes))]
 pub fn run<R: Read + Drop, W: Write>(alloc: Global, input: R, output: &mut W) -> Status
+    ensures done { result ≡ Done → AnswersAll (R.remaining input) (W.contents output.old) (W.contents output.new) }
+    ensures refused { result ≡ Refused → StopsAtRefusal (R.remaining input) (W.contents output.old) (W.contents output.new) }
     ensures begins { Begins (W.contents output.old) (W.contents output.new) }
 {
     let status = match run_input(alloc, input, output) {
@@ -29,6 +34,8 @@ pub fn run<R: Read + Drop, W: Write>(alloc: Global, input: R, output: &mut W) ->
 
 #[tactic(auto, using(crate::proofs::Growths::writes))]
 fn run_input<R: Read + Drop, W: Write>(alloc: Global, input: R, output: &mut W) -> Result<(), Stop>
+    ensures done { OnOk result (AnswersAll (R.remaining input) (W.contents output.old) (W.contents output.new)) }
+    ensures refused { IfErr result (λ s. status_of s ≡ Refused → StopsAtRefusal (R.remaining input) (W.contents output.old) (W.contents output.new)) }
     ensures begins { Begins (W.contents output.old) (W.contents output.new) }
 {
     let mut reader = BufReader::new(alloc, input)?;
@@ -41,17 +48,19 @@ fn run_lines<R: BufRead, W: Write>(
     reader: &mut R,
     output: &mut W,
 ) -> Result<(), Stop>
+    ensures done { OnOk result (AnswersAll (R.remaining reader.old) (W.contents output.old) (W.contents output.new)) }
+    ensures refused { IfErr result (λ s. status_of s ≡ Refused → StopsAtRefusal (R.remaining reader.old) (W.contents output.old) (W.contents output.new)) }
     ensures begins { Begins (W.contents output.old) (W.contents output.new) }
 {
     let mut program = Program::new(alloc);
     let mut line = Vec::new(alloc);
     'lines: for number in 1..u64::MAX {
         if !next_line(reader, &mut line)? {
-            break;
+            return Ok(());
         }
         handle_line(&mut program, &line, number, output)?;
     }
-    Ok(())
+    Err(Stop::Failed)
 }
 
 /// Does what a line says, and writes its answer or why it is refused.
@@ -64,9 +73,11 @@ fn handle_line<W: Write>(
 ) -> Result<(), Stop>
     requires ready { AreReady program.old.cx.nodes program.old.clauses }
     ensures ready { OnOk result (AreReady program.new.cx.nodes program.new.clauses) }
+    ensures answered { OnOk result (IsAnswered line.now program.old program.new (W.contents output.old) (W.contents output.new)) }
+    ensures refused { IfErr result (λ s. status_of s ≡ Refused → IsPassedOver line.now → ⊥) }
+    ensures told { IfErr result (IsTold (W.contents output.old) (W.contents output.new) number) }
     ensures begins { Begins (W.contents output.old) (W.contents output.new) }
     ensures passed { OnOk result (IsPassedOver line.now → output.new ≡ output.old) }
-    ensures refused { IfErr result (IsTold (W.contents output.old) (W.contents output.new) number) }
 {
     match program.obey(line) {
         Ok(Some(text)) => put(output, &text),

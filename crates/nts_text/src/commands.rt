@@ -1,9 +1,10 @@
 //! Commands: lines whose names have become numbers.
 
-ghost use Rattle.std.specs.Prelude.{◌≡◌, ◌↔◌, true, Err, map, MatchOption, IfOk, IfErr, IfSome, IsNone};
+ghost use Rattle.std.specs.Prelude.{◌≡◌, ◌↔◌, true, Err, map, MatchOption, IfOk, IfErr, OnOk, OnErr, IfSome, IsNone};
 ghost use Rattle.nts_text.specs.Commands.{IsSorted, IsMeant, IsCommandOf, Declares};
 ghost use Rattle.nts_text.specs.Lines.{IsPassedOver, HasNoKeyword, NamesAreInside};
 ghost use Rattle.nts_text.specs.Reasons.{is_name_reason};
+ghost use Rattle.nts_text.specs.Spelled.{KeepsNumbers, KeepsNames};
 ghost use Rattle.nts_text.specs.declared.refusals.TextError.TheVariants.{Refused};
 ghost use Rattle.nts_text.specs.declared.refusals.Refusal.TheVariants.{UnknownCommand};
 
@@ -54,6 +55,7 @@ fn meaning(
     ensures sorted { IfOk result (IsSorted names.new) }
     ensures means { IfOk result (IsMeant names.new scope.new line.now parsed) }
     ensures declares { IfOk result (Declares names.old names.new) }
+    ensures kept { OnOk result (KeepsNames scope.old scope.new) }
     ensures reasons { IfErr result (λ e. is_name_reason e ≡ true) }
 {
     match parsed {
@@ -95,10 +97,12 @@ pub fn read_command(
     scope: &mut Scope,
 ) -> Result<Option<Command>, TextError>
     ensures passed { IfOk result (λ o. IsNone o ↔ IsPassedOver line.now) }
+    ensures refused { OnErr result (IsPassedOver line.now → ⊥) }
     ensures unknown { result ≡ Err (Refused UnknownCommand) → HasNoKeyword line.now }
     ensures sorted { IfOk result (λ o. IfSome o (IsSorted names.new)) }
     ensures said { IfOk result (λ o. IfSome o (IsCommandOf line.now names.new scope.new)) }
     ensures declares { IfOk result (λ o. MatchOption o (names.new ≡ names.old) (Declares names.old names.new)) }
+    ensures parameters { OnOk result (KeepsNumbers scope.old.parameters scope.new.parameters) }
 {
     scope.begin_line(alloc);
     match keyword_of(line) {

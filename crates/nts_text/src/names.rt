@@ -193,7 +193,10 @@ pub struct Scope {
 
 impl Scope {
     /// No variables and no parameters.
-    pub fn new(alloc: Global) -> Self {
+    pub fn new(alloc: Global) -> Self
+        ensures types { type_names result.parameters ≡ [] }
+        ensures regions { region_names result.parameters ≡ [] }
+    {
         Scope {
             variables: Spellings::new(alloc),
             parameters: Spellings::new(alloc),

@@ -1,6 +1,7 @@
 //! Lines of input.
 
 ghost use Rattle.std.specs.Prelude.{◌≡◌, ◌<◌, ◌↔◌, length, IsTrue, IfSome, IfOk, OnOk};
+ghost use Rattle.std.specs.Io.BufRead.{DropsThrough};
 ghost use Rattle.nts_text.specs.Input.{without_last, first_line};
 
 use std::io::{BufRead, ErrorKind};
@@ -29,6 +30,7 @@ fn drop_last(line: &mut Vec<u8>, byte: u8)
 pub fn next_line<R: BufRead>(reader: &mut R, line: &mut Vec<u8>) -> Result<bool, ReadError>
     ensures line { OnOk result (IfSome (R.remaining reader.old) (λ xs. line.new.items ≡ first_line xs)) }
     ensures found { IfOk result (λ more. IfSome (R.remaining reader.old) (λ xs. IsTrue more ↔ (0 < length xs))) }
+    ensures rest { OnOk result (DropsThrough (R.remaining reader.old) (R.remaining reader.new) 10) }
 {
     line.clear();
     match reader.read_until(b'\n', line) {

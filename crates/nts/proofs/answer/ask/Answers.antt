@@ -1,6 +1,7 @@
-use Rattle.std.proofs.Common.{◌≡◌, Some, ap, ◌∙◌}
+use Rattle.std.proofs.Common.{◌≡◌, Some, ap, sym, subst, ◌∙◌}
 use Rattle.nts_terms.proofs.Growing.{Extends-trans}
 use Rattle.nts_table.specs.Lawful.{IsTable-extended}
+use Rattle.nts.specs.Meaning.{IsGoalOf}
 use Rattle.nts.proofs.Justifying.{justified}
 use Rattle.nts.proofs.answer.ask.Goals as goal
 
@@ -9,7 +10,7 @@ evaluated-requires-clause-table c = IsTable-extended c.in_ok-goal.ensures.extend
 
 pub returns-in-Some-Yes-clause-yes : goal.returns-in-Some-Yes-clause-yes
 returns-in-Some-Yes-clause-yes c =
-    justified c.args.mode _ _ _ _ c.args.clauses.now _ c.in_ok-goal.goal _ c.answer_of.result
+    justified c.args.mode c.args.nodes.now _ _ _ _ c.args.clauses.now _ c.in_ok-goal.goal _ _ c.answer_of.result
     (rw (c.in_ok-evaluated.ensures.mode, c.fresh_values.ensures.mode, c.new-table.ensures.mode) c.typing_mode.ensures)
     (Extends-trans c.in_ok-values.ensures.extends c.in_ok-goal.ensures.extends)
-    (c.in_ok-evaluated.ensures.proved (c.in-Some-Yes.is ∙ ap Some c.in-Some-Yes.field-0-is)) c.answer_of.ensures.found
+    (c.in_ok-evaluated.ensures.proved (c.in-Some-Yes.is ∙ ap Some c.in-Some-Yes.field-0-is)) (subst (λ vs. IsGoalOf c.evaluated.new.cx.nodes c.see.new.self vs c.args.nodes.now c.in_ok-goal.goal) (c.deref-2.ensures.value ∙ sym c.deref-in-Some-Yes.ensures.value) (c.in_ok-goal.ensures.asks _ c.in_ok-evaluated.ensures.extends)) c.answer_of.ensures.variables c.answer_of.ensures.found

@@ -1,8 +1,8 @@
-use Rattle.std.proofs.Common.{refl}
 use Rattle.nts.proofs.Obeyed.{obeyed}
 use Rattle.nts.proofs.program.Program.obey.Goals as goal
 
 pub returns-in-Some-clause-obeyed : goal.returns-in-Some-clause-obeyed
 returns-in-Some-clause-obeyed c =
-    obeyed c.args.line.now c.args.self.now (record c.args.self.now { names = c.read_command.new.names; scope = c.read_command.new.scope }) c.follow.new.self c.read_command.new.names c.read_command.new.scope c.in-Some.command c.follow.result refl refl refl
-    (rw c.in-Some.is at c.in_ok-command.ensures.said) c.follow.ensures.follows
+    let e = c.in_ok-command.ensures in
+    obeyed c.args.self.now c.follow.new.self c.read_command.new.names c.read_command.new.scope c.args.line.now c.in-Some.command c.follow.result
+    c.follow.ensures.names c.follow.ensures.scope (rw c.in-Some.is at e.said) (rw c.in-Some.is at e.declares) e.parameters c.follow.ensures.follows
