@@ -1,6 +1,7 @@
 //! Making variables, and what is known of them.
-ghost use Rattle.std.specs.Prelude.{◌≡◌, ◌≢◌, ◌<◌, ◌+◌, length, IfOk, OnOk, OnErr, Some, IsOkUnless};
+ghost use Rattle.std.specs.Prelude.{List, ◌≡◌, ◌≢◌, ◌<◌, ◌+◌, length, IfOk, OnOk, OnErr, Some, IsOkUnless};
 ghost use Rattle.nts_model.specs.declared.labels.VariableKind.TheVariants as kind;
+ghost use Rattle.nts_model.specs.Trees.{Tree};
 ghost use Rattle.nts_model.specs.Resolving.{variable_tree};
 ghost use Rattle.nts_terms.specs.Growth.{tree_at, Extends};
 ghost use Rattle.nts_terms.specs.Handles.{HoldsTy, HoldsConst, HoldsRegion};
@@ -135,6 +136,7 @@ impl InferCtxt {
     pub fn create_next_universe(&mut self) -> Result<u32, Fault>
         ensures number { IfOk result (λ u. u ≡ self.old.entries.universe + 1) }
         ensures entries { OnOk result (self.new.entries ≡ moved self.old.entries (self.old.entries.universe + 1)) }
+        ensures table { (ts : List Tree) → IsTable ts self.old → IsTable ts self.new }
         ensures saved { self.new.saved ≡ self.old.saved }
         ensures mode { self.new.mode ≡ self.old.mode }
         ensures err { OnErr result (self.new ≡ self.old) }
