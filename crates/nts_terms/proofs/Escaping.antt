@@ -1,12 +1,13 @@
 -- A tree is closed exactly if no bound variable escapes from it.
-use Rattle.std.proofs.Common.{◌≡◌, ◌↔◌, ℕ, ◌+◌, ◌-◌, ◌<◌, nat_lt, Bool, true, false, if◌then◌else◌, Option, Some, None, is_some, refl, arith}
+use Rattle.std.proofs.Common.{◌≡◌, ◌↔◌, ℕ, ◌+◌, ◌-◌, ◌<◌, nat_lt, Bool, true, false, if◌then◌else◌, Option, Some, None, is_some, refl, sym, ap, ◌∙◌, arith}
 use Rattle.std.specs.Prelude.{IsTrue}
 use Rattle.std.proofs.lemmas.Bool.{ltb-true, ltb-false}
 use Rattle.nts_model.specs.declared.labels.Label.{Label}
 use Rattle.nts_model.specs.declared.labels.Label.TheVariants as label
 use Rattle.nts_model.specs.declared.labels.BoundIndex.TheVariants as index
 use Rattle.nts_model.specs.Trees.{Tree, empty, more, node, binders, IsBoundBelow, IsClosedUnder, IsClosed}
-use Rattle.nts_terms.specs.Facts.{higher, past_binders, level_of, escaping}
+use Rattle.nts_terms.specs.declared.facts.Facts.{Facts}
+use Rattle.nts_terms.specs.Facts.{higher, past_binders, level_of, escaping, facts_of}
 
 -- no level, or one below
 abbrev pub IsBelow : ℕ → Option ℕ → Type 0
@@ -60,3 +61,18 @@ escapes t =
     let none = none_below (escaping t) in
     let closed = closed_under 0 t in
     ((λ h k. none.0 h (closed.1 k)), λ h. none.1 (λ k. h (closed.0 k)))
+
+below_none : (o : Option ℕ) → is_some o ≡ false → IsBelow 0 o
+below_none None h = tt
+below_none (Some d) h = cc
+
+-- what the facts of a tree say of that
+pub closed_by_facts : (t : Tree) (f : Facts) → f ≡ facts_of t → is_some f.escaping ≡ false → IsClosed t
+closed_by_facts t f e h =
+    let none : is_some (escaping t) ≡ false = sym (ap (λ g. is_some g.escaping) e) ∙ h in
+    (closed_under 0 t).0 (below_none (escaping t) none)
+
+pub open_by_facts : (t : Tree) (f : Facts) → f ≡ facts_of t → is_some f.escaping ≡ true → IsClosed t → ⊥
+open_by_facts t f e h =
+    let some : is_some (escaping t) ≡ true = sym (ap (λ g. is_some g.escaping) e) ∙ h in
+    (escapes t).0 some

@@ -1,5 +1,5 @@
 -- The trees of a store are terms.
-use Rattle.std.proofs.Common.{◌≡◌, ℕ, zero, suc, ◌<◌, List, [], ◌∷◌, ◌++◌, length, get_or, arith}
+use Rattle.std.proofs.Common.{ℕ, zero, suc, ◌<◌, List, [], ◌∷◌, ◌++◌, length, get_or, arith}
 use Rattle.nts_model.specs.Trees.{Tree, empty, IsFormed}
 use Rattle.nts_terms.specs.declared.nodes.NodeId.{NodeId}
 use Rattle.nts_terms.specs.declared.nodes.Node.{Node}

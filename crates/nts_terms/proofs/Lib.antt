@@ -13,3 +13,6 @@ pub mod Nested
 pub mod StillDeclared
 pub mod Pending
 pub mod Forming
+pub mod Folded
+pub mod FoldedList
+pub mod FoldedSame

@@ -1,5 +1,5 @@
 -- What the walk of a replacer still has to do, and what it has found so far.
-use Rattle.std.proofs.Common.{◌≡◌, ℕ, zero, suc, ◌+◌, ◌-◌, ◌*◌, ◌<◌, ◌≤◌, List, [], ◌∷◌, ◌++◌, length, map, take, drop, get_or, refl, sym, ap, subst, ◌∙◌, arith, append_assoc, length-append, add-one}
+use Rattle.std.proofs.Common.{◌≡◌, ℕ, zero, suc, ◌+◌, ◌-◌, ◌*◌, ◌<◌, ◌≤◌, List, [], ◌∷◌, ◌++◌, length, map, take, drop, get_or, Option, Some, Bool, true, false, nat_eq, cond, eqb-true, refl, sym, ap, subst, ◌∙◌, arith, append_assoc, length-append, add-one}
 use Rattle.std.proofs.lemmas.List.{append-nil, length-map, take-map, drop-map}
 use Rattle.std.proofs.Math.Seq.{take-append_seam, drop-append_seam}
 use Rattle.nts_model.specs.declared.labels.Label.{Label}
@@ -30,12 +30,12 @@ TasksIn-front ts (y ∷ xs) x h = let r = TasksIn-front ts xs x h.1 in ((h.0, r.
 pub TasksIn-extended : {a b : List Tree} → Extends a b → (xs : List Task) → TasksIn a xs → TasksIn b xs
 TasksIn-extended e [] h = tt
 TasksIn-extended e (task.Enter t ∷ xs) h = (IsIn-extended e t h.0, TasksIn-extended e xs h.1)
-TasksIn-extended e (task.Build l n ∷ xs) h = (tt, TasksIn-extended e xs h.1)
+TasksIn-extended e (task.Build o l n ∷ xs) h = (IsIn-extended e o h.0, TasksIn-extended e xs h.1)
 
 pub jobs-extended : {a b : List Tree} → Extends a b → (xs : List Task) → TasksIn a xs → jobs b xs ≡ jobs a xs
 jobs-extended e [] h = refl
 jobs-extended e (task.Enter t ∷ xs) h = cc (e.kept t h.0, jobs-extended e xs h.1)
-jobs-extended e (task.Build l n ∷ xs) h = cc (jobs-extended e xs h.1)
+jobs-extended e (task.Build o l n ∷ xs) h = cc (e.kept o h.0, jobs-extended e xs h.1)
 
 pub map-push : (ts : List Tree) (cs : List NodeId) (c : NodeId) → map (tree_at ts) (cs ++ c ∷ []) ≡ map (tree_at ts) cs ++ tree_at ts c ∷ []
 map-push ts [] c = refl
@@ -83,23 +83,29 @@ pushed_step ts xs ys zs u i j c p e w q is =
       are = rw (is, at, jobs-push ts ys (task.Enter c), old, q) (append_assoc (jobs ts xs) (entered (row_drop (j + 1) (children u))) (enter (row_at (children u) j) ∷ []));
     }
 
-pub pushed_all : (ts : List Tree) (xs ys zs : List Task) (u : Tree) (l : Label) (n i : ℕ) → PushedFrom ts ys zs u i → i ≡ 0 → ys ≡ xs ++ task.Build l n ∷ [] → u ≡ node l (children u) → n ≡ row_length (children u) → jobs ts zs ≡ jobs ts xs ++ building u
-pushed_all ts xs ys zs u l n i p z is e q =
+building_is : (u : Tree) (l : Label) (n : ℕ) → u ≡ node l (children u) → n ≡ row_length (children u) → building u ≡ build u l n ∷ entered (children u)
+building_is empty l n e q = cc
+building_is (more a b) l n e q = cc
+building_is (node m c) l n e q = let same : m ≡ l = cc in cc (same, q)
+
+pub pushed_all : (ts : List Tree) (xs ys zs : List Task) (o : NodeId) (l : Label) (n i : ℕ) → PushedFrom ts ys zs (tree_at ts o) i → i ≡ 0 → ys ≡ xs ++ task.Build o l n ∷ [] → tree_at ts o ≡ node l (children (tree_at ts o)) → n ≡ row_length (children (tree_at ts o)) → jobs ts zs ≡ jobs ts xs ++ building (tree_at ts o)
+pushed_all ts xs ys zs o l n i p z is e q =
+    let u = tree_at ts o in
     let all : jobs ts zs ≡ jobs ts ys ++ entered (children u) = rw z at p.are in
-    let old : jobs ts ys ≡ jobs ts xs ++ build l n ∷ [] = rw is (jobs-push ts xs (task.Build l n)) in
-    let what : building u ≡ build l n ∷ entered (children u) = rw e (rw (sym q) refl) in
-    rw (all, old, what) (append_assoc (jobs ts xs) (build l n ∷ []) (entered (children u)))
+    let old : jobs ts ys ≡ jobs ts xs ++ build u l n ∷ [] = rw is (jobs-push ts xs (task.Build o l n)) in
+    let what : building u ≡ build u l n ∷ entered (children u) = building_is u l n e q in
+    rw (all, old, what) (append_assoc (jobs ts xs) (build u l n ∷ []) (entered (children u)))
 
 pub formed_node : (u : Tree) (l : Label) → u ≡ node l (children u) → Meets (shape l) (children u) → IsFormedNode u
 formed_node u l e h = rw e h
 
 -- rows as lists
 
-abbrev row : List Tree → Tree
+abbrev pub row : List Tree → Tree
 row [] = empty
 row (x ∷ xs) = more x (row xs)
 
-row-trees : (ts : List Tree) (cs : List NodeId) → row (map (tree_at ts) cs) ≡ trees_at ts cs
+pub row-trees : (ts : List Tree) (cs : List NodeId) → row (map (tree_at ts) cs) ≡ trees_at ts cs
 row-trees ts [] = refl
 row-trees ts (c ∷ cs) = ap (more (tree_at ts c)) (row-trees ts cs)
 
@@ -116,7 +122,7 @@ IsRow-AllFit p empty h = tt
 IsRow-AllFit p (more a b) h = IsRow-AllFit p b h.1
 IsRow-AllFit p (node l c) h = absurd h
 
-IsRow-Meets : (s : Shape) (c : Tree) → Meets s c → IsRow c
+pub IsRow-Meets : (s : Shape) (c : Tree) → Meets s c → IsRow c
 IsRow-Meets (in_order ps) c h = IsRow-HavePlaces ps c h
 IsRow-Meets (each p) c h = IsRow-AllFit p c h
 
@@ -128,10 +134,16 @@ pub record AreLaws (C : Tree → Type 0) (f : Tree → Tree) : Type 0 where
   pub kind : (t : Tree) → C t → kind_of (f t) ≡ kind_of t
 
 module _ (C : Tree → Type 0) (f : Tree → Tree) where
+  -- a node with the images of its children
+  abbrev pub again : Tree → Tree
+  again empty = empty
+  again (more a b) = more a b
+  again (node l c) = node l (f c)
+
   -- the trees that are found after a job, those found before it first
   abbrev pub done : Job → List Tree → List Tree
   done (enter t) rs = rs ++ f t ∷ []
-  done (build l n) rs = take (length rs - n) rs ++ node l (row (drop (length rs - n) rs)) ∷ []
+  done (build y l n) rs = take (length rs - n) rs ++ node l (row (drop (length rs - n) rs)) ∷ []
 
   abbrev pub run : List Job → List Tree → List Tree
   run [] rs = rs
@@ -139,7 +151,8 @@ module _ (C : Tree → Type 0) (f : Tree → Tree) where
 
   abbrev pub IsReady : Job → List Tree → Type 0
   IsReady (enter t) rs = C t
-  IsReady (build l n) rs = Meets (shape l) (row (drop (length rs - n) rs))
+  IsReady (build y l n) rs =
+      Meets (shape l) (row (drop (length rs - n) rs)) × (node l (row (drop (length rs - n) rs)) ≡ again y)
 
   abbrev pub AreReady : List Job → List Tree → Type 0
   AreReady [] rs = Unit {0}
@@ -147,7 +160,7 @@ module _ (C : Tree → Type 0) (f : Tree → Tree) where
 
   abbrev pub weight : Job → ℕ
   weight (enter t) = 2 * size (f t) + 1
-  weight (build l n) = 1
+  weight (build y l n) = 1
 
   abbrev pub weights : List Job → ℕ
   weights [] = 0
@@ -166,7 +179,7 @@ module _ (C : Tree → Type 0) (f : Tree → Tree) where
   AreReady-append [] ys rs h k = h
   AreReady-append (x ∷ xs) ys rs h k = (AreReady-append xs ys rs h k.0, subst (λ (z : List Tree). IsReady x z) (sym (run-append xs ys rs)) k.1)
 
-  weights-append : (xs ys : List Job) → weights (xs ++ ys) ≡ weights xs + weights ys
+  pub weights-append : (xs ys : List Job) → weights (xs ++ ys) ≡ weights xs + weights ys
   weights-append [] ys = omega arith
   weights-append (x ∷ xs) ys = omega (arith, weights-append xs ys)
 
@@ -187,15 +200,15 @@ module _ (C : Tree → Type 0) (f : Tree → Tree) where
       run-append (entered b) (enter a ∷ []) rs ∙ run-entered b (rs ++ f a ∷ []) ∙ append_assoc rs (f a ∷ []) (images b)
   run-entered (node l c) rs = sym (append-nil rs)
 
-  done-build : (l : Label) (n : ℕ) (rs xs : List Tree) → length xs ≡ n → done (build l n) (rs ++ xs) ≡ rs ++ node l (row xs) ∷ []
-  done-build l n rs xs e =
+  done-build : (y : Tree) (l : Label) (n : ℕ) (rs xs : List Tree) → length xs ≡ n → done (build y l n) (rs ++ xs) ≡ rs ++ node l (row xs) ∷ []
+  done-build y l n rs xs e =
       let k : length (rs ++ xs) - n ≡ length rs = omega (arith, length-append rs xs) in
       rw (k, take-append_seam, drop-append_seam) refl
 
-  ready-build : (l : Label) (n : ℕ) (rs xs : List Tree) → length xs ≡ n → Meets (shape l) (row xs) → IsReady (build l n) (rs ++ xs)
-  ready-build l n rs xs e h =
+  ready-build : (y : Tree) (l : Label) (n : ℕ) (rs xs : List Tree) → length xs ≡ n → Meets (shape l) (row xs) → node l (row xs) ≡ again y → IsReady (build y l n) (rs ++ xs)
+  ready-build y l n rs xs e h q =
       let k : length (rs ++ xs) - n ≡ length rs = omega (arith, length-append rs xs) in
-      rw (k, drop-append_seam) h
+      rw (k, drop-append_seam) (h, q)
 
   module _ (laws : AreLaws C f) where
     row-images : (c : Tree) → IsRow c → row (images c) ≡ f c
@@ -236,7 +249,7 @@ module _ (C : Tree → Type 0) (f : Tree → Tree) where
     run-building t (more a b) rs h k = absurd h
     run-building t (node l c) rs h k =
         let r = row-images c (IsRow-Meets (shape l) c k) in
-        rw (run-entered c rs, done-build l (row_length c) rs (images c) (length-images c), r, h.0) refl
+        rw (run-entered c rs, done-build (node l c) l (row_length c) rs (images c) (length-images c), r, h.0) refl
 
     AreReady-building : (t u : Tree) (rs : List Tree) → GoesDown C f t u → IsFormedNode u → AreReady (building u) rs
     AreReady-building t empty rs h k = tt
@@ -244,7 +257,7 @@ module _ (C : Tree → Type 0) (f : Tree → Tree) where
     AreReady-building t (node l c) rs h k =
         let r = row-images c (IsRow-Meets (shape l) c k) in
         let meets : Meets (shape l) (row (images c)) = rw r (Meets-image (shape l) c k h.1) in
-        (AreReady-entered c rs h.1, rw (run-entered c rs) (ready-build l (row_length c) rs (images c) (length-images c) meets))
+        (AreReady-entered c rs h.1, rw (run-entered c rs) (ready-build (node l c) l (row_length c) rs (images c) (length-images c) meets (ap (node l) r)))
 
     weights-entered : (c : Tree) → IsRow c → weights (entered c) ≤ 2 * size (f c)
     weights-entered empty h = omega arith
@@ -253,19 +266,19 @@ module _ (C : Tree → Type 0) (f : Tree → Tree) where
         omega (arith, weights-append (entered b) (enter a ∷ []), weights-entered b h)
     weights-entered (node l c) h = absurd h
 
-    weights-building : (t u : Tree) → GoesDown C f t u → IsFormedNode u → weights (building u) < weight (enter t)
+    pub weights-building : (t u : Tree) → GoesDown C f t u → IsFormedNode u → weights (building u) < weight (enter t)
     weights-building t empty h k = absurd h
     weights-building t (more a b) h k = absurd h
     weights-building t (node l c) h k =
         let e : size (f t) ≡ size (f c) + 1 = ap size h.0 in
         omega (arith, weights-entered c (IsRow-Meets (shape l) c k))
 
-AllIn-take : (ts : List Tree) (i : ℕ) (cs : List NodeId) → AllIn ts cs → AllIn ts (take i cs)
+pub AllIn-take : (ts : List Tree) (i : ℕ) (cs : List NodeId) → AllIn ts cs → AllIn ts (take i cs)
 AllIn-take ts zero cs h = tt
 AllIn-take ts (suc i) [] h = tt
 AllIn-take ts (suc i) (c ∷ cs) h = (h.0, AllIn-take ts i cs h.1)
 
-AllIn-drop : (ts : List Tree) (i : ℕ) (cs : List NodeId) → AllIn ts cs → AllIn ts (drop i cs)
+pub AllIn-drop : (ts : List Tree) (i : ℕ) (cs : List NodeId) → AllIn ts cs → AllIn ts (drop i cs)
 AllIn-drop ts zero cs h = h
 AllIn-drop ts (suc i) [] h = tt
 AllIn-drop ts (suc i) (c ∷ cs) h = AllIn-drop ts i cs h.1
@@ -291,7 +304,37 @@ pub record IsFound (ts : List Tree) (found : List NodeId) (x : Tree) : Type 0 wh
   pub within : (c : NodeId) → get_or found 0 c ≡ c → IsIn ts c
   pub tree : (c : NodeId) → get_or found 0 c ≡ c → tree_at ts c ≡ x
 
+-- what was found for a node, by number
+pub record IsKnown (C : Tree → Type 0) (f : Tree → Tree) (ts : List Tree) (k : ℕ) (r : NodeId) : Type 0 where
+  pub node_in : k < length ts
+  pub within : IsIn ts r
+  pub tree : tree_at ts r ≡ again C f (get_or ts k empty)
+
+abbrev pub Known : (Tree → Type 0) → (Tree → Tree) → List Tree → (ℕ → Option NodeId) → Type 0
+Known C f ts known = (k : ℕ) (r : NodeId) → known k ≡ Some r → IsKnown C f ts k r
+
 module _ (C : Tree → Type 0) (f : Tree → Tree) where
+  pub known_later : (a b : List Tree) (known : ℕ → Option NodeId) → Extends a b → Known C f a known → Known C f b known
+  known_later a b known e h =
+      λ k r q.
+      let old = h k r q in
+      let kept : get_or b k empty ≡ get_or a k empty = e.kept (record { number = k }) old.node_in in
+      record {
+        node_in = omega (arith, e.longer, old.node_in);
+        within = omega (arith, e.longer, old.within);
+        tree = e.kept r old.within ∙ old.tree ∙ ap (again C f) (sym kept);
+      }
+
+  known_cases : (ts : List Tree) (old : ℕ → Option NodeId) (n k : ℕ) (d r : NodeId) → Known C f ts old → IsKnown C f ts n d → (b : Bool) → nat_eq n k ≡ b → cond b (Some d) (old k) ≡ Some r → IsKnown C f ts k r
+  known_cases ts old n k d r h w true e q =
+      let same : n ≡ k = eqb-true n k e in
+      let is : d ≡ r = cc in
+      subst (λ (z : NodeId). IsKnown C f ts k z) is (subst (λ (m : ℕ). IsKnown C f ts m d) same w)
+  known_cases ts old n k d r h w false e q = h k r q
+
+  pub known_more : (ts : List Tree) (old new : ℕ → Option NodeId) (n : ℕ) (d : NodeId) → Known C f ts old → IsKnown C f ts n d → ((k : ℕ) → new k ≡ cond (nat_eq n k) (Some d) (old k)) → Known C f ts new
+  known_more ts old new n d h w is = λ k r q. known_cases ts old n k d r h w (nat_eq n k) refl (sym (is k) ∙ q)
+
   pub ends_start : (ts : List Tree) (xs : List Task) (cs : List NodeId) (t : NodeId) → IsIn ts t → C (tree_at ts t) → xs ≡ task.Enter t ∷ [] → cs ≡ [] → EndsWith C f ts xs cs (f (tree_at ts t))
   ends_start ts xs cs t h k e q =
       record {
@@ -325,14 +368,26 @@ module _ (C : Tree → Type 0) (f : Tree → Tree) where
       let was = AreReady-split C f (jobs a xs) (enter (tree_at a t) ∷ []) (map (tree_at a) rs) (rw old at p.are_ready) in
       record { within = (TasksIn-front a xs (task.Enter t) (rw e at p.tasks_in)).1; covers = was.0.1 }
 
-  pub may_build : (a : List Tree) (xs ys : List Task) (l : Label) (n i : ℕ) (rs cs : List NodeId) (x : Tree) → EndsWith C f a ys rs x → ys ≡ xs ++ task.Build l n ∷ [] → i ≡ length rs - n → cs ≡ drop i rs → MayBuild a l cs
-  may_build a xs ys l n i rs cs x p e q is =
-      let old = split_jobs a xs ys (task.Build l n) e in
-      let was = AreReady-split C f (jobs a xs) (build l n ∷ []) (map (tree_at a) rs) (rw old at p.are_ready) in
+  pub may_build : (a : List Tree) (xs ys : List Task) (o : NodeId) (l : Label) (n i : ℕ) (rs cs : List NodeId) (x : Tree) → EndsWith C f a ys rs x → ys ≡ xs ++ task.Build o l n ∷ [] → i ≡ length rs - n → cs ≡ drop i rs → MayBuild a l cs
+  may_build a xs ys o l n i rs cs x p e q is =
+      let old = split_jobs a xs ys (task.Build o l n) e in
+      let was = AreReady-split C f (jobs a xs) (build (tree_at a o) l n ∷ []) (map (tree_at a) rs) (rw old at p.are_ready) in
       let len : length (map (tree_at a) rs) - n ≡ i = rw (length-map rs (tree_at a)) (sym q) in
-      let meets : Meets (shape l) (row (drop i (map (tree_at a) rs))) = rw len at was.0.1 in
+      let now : IsReady C f (build (tree_at a o) l n) (map (tree_at a) rs) = was.0.1 in
+      let meets : Meets (shape l) (row (drop i (map (tree_at a) rs))) = rw len at now.0 in
       let same : row (drop i (map (tree_at a) rs)) ≡ trees_at a (drop i rs) = ap row (drop-map (tree_at a) i rs) ∙ row-trees a (drop i rs) in
       record { within = rw is (AllIn-drop a i rs p.found_in); formed = rw (is, ← same) meets }
+
+  -- a node that is made is what stands for its term
+  pub may_keep : (a : List Tree) (xs ys : List Task) (o : NodeId) (l : Label) (n i : ℕ) (rs cs : List NodeId) (x : Tree) → EndsWith C f a ys rs x → ys ≡ xs ++ task.Build o l n ∷ [] → i ≡ length rs - n → cs ≡ drop i rs → IsIn a o × (node l (trees_at a cs) ≡ again C f (tree_at a o))
+  may_keep a xs ys o l n i rs cs x p e q is =
+      let old = split_jobs a xs ys (task.Build o l n) e in
+      let was = AreReady-split C f (jobs a xs) (build (tree_at a o) l n ∷ []) (map (tree_at a) rs) (rw old at p.are_ready) in
+      let now : IsReady C f (build (tree_at a o) l n) (map (tree_at a) rs) = was.0.1 in
+      let len : length (map (tree_at a) rs) - n ≡ i = rw (length-map rs (tree_at a)) (sym q) in
+      let made : node l (row (drop i (map (tree_at a) rs))) ≡ again C f (tree_at a o) = rw len at now.1 in
+      let same : row (drop i (map (tree_at a) rs)) ≡ trees_at a (drop i rs) = ap row (drop-map (tree_at a) i rs) ∙ row-trees a (drop i rs) in
+      ((TasksIn-front a xs (task.Build o l n) (rw e at p.tasks_in)).1, ap (node l) (ap (trees_at a) is ∙ sym same) ∙ made)
 
   pub ends_done : (a b : List Tree) (xs ys : List Task) (t r : NodeId) (rs qs : List NodeId) (x : Tree) → EndsWith C f a ys rs x → ys ≡ xs ++ task.Enter t ∷ [] → Extends a b → IsStep C f b (tree_at a t) (step.Done r) → qs ≡ rs ++ r ∷ [] → EndsWith C f b xs qs x
   ends_done a b xs ys t r rs qs x p e up s is =
@@ -340,15 +395,24 @@ module _ (C : Tree → Type 0) (f : Tree → Tree) where
       let same : map (tree_at b) qs ≡ map (tree_at a) rs ++ f (tree_at a t) ∷ [] = rw (is, map-push b rs r, map-kept a b rs p.found_in up, s.1) refl in
       ends_after a b xs ys xs (task.Enter t) [] rs qs x p e up (sym (append-nil (jobs b xs))) same tt (TasksIn-extended up xs front.0) (rw is (AllIn-push b rs r (AllIn-extended up rs p.found_in) s.0))
 
-  pub ends_build : (a b : List Tree) (xs ys : List Task) (l : Label) (n i : ℕ) (d : NodeId) (rs cs qs : List NodeId) (x : Tree) → EndsWith C f a ys rs x → ys ≡ xs ++ task.Build l n ∷ [] → Extends a b → i ≡ length rs - n → cs ≡ drop i rs → IsIn b d → tree_at b d ≡ node l (trees_at a cs) → qs ≡ take i rs ++ d ∷ [] → EndsWith C f b xs qs x
-  ends_build a b xs ys l n i d rs cs qs x p e up q is within made new =
-      let front : TasksIn a xs × TaskIn a (task.Build l n) = TasksIn-front a xs (task.Build l n) (rw e at p.tasks_in) in
+  goes_again : (t u : Tree) → GoesDown C f t u → again C f u ≡ f t
+  goes_again t empty h = absurd h
+  goes_again t (more a b) h = absurd h
+  goes_again t (node l c) h = sym h.0
+
+  pub ends_known : (a b : List Tree) (xs ys : List Task) (t n r : NodeId) (rs qs : List NodeId) (x : Tree) → EndsWith C f a ys rs x → ys ≡ xs ++ task.Enter t ∷ [] → Extends a b → IsStep C f b (tree_at a t) (step.Down n) → IsKnown C f b n.number r → qs ≡ rs ++ r ∷ [] → EndsWith C f b xs qs x
+  ends_known a b xs ys t n r rs qs x p e up s k is =
+      ends_done a b xs ys t r rs qs x p e up (k.within, k.tree ∙ goes_again (tree_at a t) (tree_at b n) s.1) is
+
+  pub ends_build : (a b : List Tree) (xs ys : List Task) (o : NodeId) (l : Label) (n i : ℕ) (d : NodeId) (rs cs qs : List NodeId) (x : Tree) → EndsWith C f a ys rs x → ys ≡ xs ++ task.Build o l n ∷ [] → Extends a b → i ≡ length rs - n → cs ≡ drop i rs → IsIn b d → tree_at b d ≡ node l (trees_at a cs) → qs ≡ take i rs ++ d ∷ [] → EndsWith C f b xs qs x
+  ends_build a b xs ys o l n i d rs cs qs x p e up q is within made new =
+      let front : TasksIn a xs × TaskIn a (task.Build o l n) = TasksIn-front a xs (task.Build o l n) (rw e at p.tasks_in) in
       let kept = AllIn-take a i rs p.found_in in
       let len : length (map (tree_at a) rs) - n ≡ i = rw (length-map rs (tree_at a)) (sym q) in
       let last : row (drop i (map (tree_at a) rs)) ≡ trees_at a cs = ap row (drop-map (tree_at a) i rs) ∙ row-trees a (drop i rs) ∙ ap (trees_at a) (sym is) in
-      let same : map (tree_at b) qs ≡ done C f (build l n) (map (tree_at a) rs) =
+      let same : map (tree_at b) qs ≡ done C f (build (tree_at a o) l n) (map (tree_at a) rs) =
       rw (new, map-push b (take i rs) d, map-kept a b (take i rs) kept up, made, len, last, take-map (tree_at a) i rs) refl in
-      ends_after a b xs ys xs (task.Build l n) [] rs qs x p e up (sym (append-nil (jobs b xs))) same tt (TasksIn-extended up xs front.0) (rw new (AllIn-push b (take i rs) d (AllIn-extended up (take i rs) kept) within))
+      ends_after a b xs ys xs (task.Build o l n) [] rs qs x p e up (sym (append-nil (jobs b xs))) same tt (TasksIn-extended up xs front.0) (rw new (AllIn-push b (take i rs) d (AllIn-extended up (take i rs) kept) within))
 
   pub ends_down : (laws : AreLaws C f) (a b : List Tree) (xs ys zs : List Task) (t n : NodeId) (rs : List NodeId) (x : Tree) → EndsWith C f a ys rs x → ys ≡ xs ++ task.Enter t ∷ [] → Extends a b → IsStep C f b (tree_at a t) (step.Down n) → IsFormedNode (tree_at b n) → TasksIn b zs → jobs b zs ≡ jobs b xs ++ building (tree_at b n) → EndsWith C f b zs rs x
   ends_down laws a b xs ys zs t n rs x p e up s formed within is =
@@ -370,11 +434,11 @@ module _ (C : Tree → Type 0) (f : Tree → Tree) where
 
   -- each turn there is less to do
 
-  weights_split : (a : List Tree) (xs ys : List Task) (k : Task) → ys ≡ xs ++ k ∷ [] → weights C f (jobs a ys) ≡ weights C f (jobs a xs) + weight C f (job a k)
+  pub weights_split : (a : List Tree) (xs ys : List Task) (k : Task) → ys ≡ xs ++ k ∷ [] → weights C f (jobs a ys) ≡ weights C f (jobs a xs) + weight C f (job a k)
   weights_split a xs ys k e =
       omega (arith, ap (weights C f) (split_jobs a xs ys k e), weights-append C f (jobs a xs) (job a k ∷ []))
 
-  weights_extended : (a b : List Tree) (xs ys : List Task) (k : Task) → TasksIn a ys → ys ≡ xs ++ k ∷ [] → Extends a b → weights C f (jobs b xs) ≡ weights C f (jobs a xs)
+  pub weights_extended : (a b : List Tree) (xs ys : List Task) (k : Task) → TasksIn a ys → ys ≡ xs ++ k ∷ [] → Extends a b → weights C f (jobs b xs) ≡ weights C f (jobs a xs)
   weights_extended a b xs ys k h e up =
       let front : TasksIn a xs × TaskIn a k = TasksIn-front a xs k (rw e at h) in
       ap (weights C f) (jobs-extended up xs front.0)
@@ -382,8 +446,8 @@ module _ (C : Tree → Type 0) (f : Tree → Tree) where
   pub less_after : (a b : List Tree) (xs ys : List Task) (k : Task) (rs : List NodeId) (x : Tree) → EndsWith C f a ys rs x → ys ≡ xs ++ k ∷ [] → Extends a b → weights C f (jobs b xs) < weights C f (jobs a ys)
   less_after a b xs ys (task.Enter t) rs x p e up =
       omega (arith, weights_split a xs ys (task.Enter t) e, weights_extended a b xs ys (task.Enter t) p.tasks_in e up)
-  less_after a b xs ys (task.Build l n) rs x p e up =
-      omega (arith, weights_split a xs ys (task.Build l n) e, weights_extended a b xs ys (task.Build l n) p.tasks_in e up)
+  less_after a b xs ys (task.Build o l n) rs x p e up =
+      omega (arith, weights_split a xs ys (task.Build o l n) e, weights_extended a b xs ys (task.Build o l n) p.tasks_in e up)
 
   pub less_down : (laws : AreLaws C f) (a b : List Tree) (xs ys zs : List Task) (t n : NodeId) (rs : List NodeId) (x : Tree) → EndsWith C f a ys rs x → ys ≡ xs ++ task.Enter t ∷ [] → Extends a b → IsStep C f b (tree_at a t) (step.Down n) → IsFormedNode (tree_at b n) → jobs b zs ≡ jobs b xs ++ building (tree_at b n) → weights C f (jobs b zs) < weights C f (jobs a ys)
   less_down laws a b xs ys zs t n rs x p e up s formed is =

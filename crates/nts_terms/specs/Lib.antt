@@ -12,3 +12,5 @@ pub mod Replacement
 pub mod Kept
 pub mod Filled
 pub mod Formed
+pub mod ConstTypes
+pub mod Folding

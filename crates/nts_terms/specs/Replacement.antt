@@ -22,11 +22,11 @@ IsStep covers image ts t (step.Down n) = IsIn ts n × GoesDown covers image t (t
 -- a task by the trees of its terms
 pub data Job : Type 0 where
   enter : Tree → Job
-  build : Label → ℕ → Job
+  build : Tree → Label → ℕ → Job
 
 abbrev pub job : List Tree → Task → Job
 job ts (task.Enter t) = enter (tree_at ts t)
-job ts (task.Build l n) = build l n
+job ts (task.Build t l n) = build (tree_at ts t) l n
 
 -- the last is to be done first
 abbrev pub jobs : List Tree → List Task → List Job
@@ -35,7 +35,7 @@ jobs ts (x ∷ xs) = job ts x ∷ jobs ts xs
 
 abbrev pub TaskIn : List Tree → Task → Type 0
 TaskIn ts (task.Enter t) = IsIn ts t
-TaskIn ts (task.Build l n) = Unit {0}
+TaskIn ts (task.Build t l n) = IsIn ts t
 
 abbrev pub TasksIn : List Tree → List Task → Type 0
 TasksIn ts [] = Unit {0}
@@ -51,7 +51,7 @@ entered (node l c) = []
 abbrev pub building : Tree → List Job
 building empty = []
 building (more a b) = []
-building (node l c) = build l (row_length c) ∷ entered c
+building (node l c) = build (node l c) l (row_length c) ∷ entered c
 
 -- the children of a node fit its label
 abbrev pub IsFormedNode : Tree → Type 0

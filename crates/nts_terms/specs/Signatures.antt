@@ -1,4 +1,4 @@
--- What is declared: the sorts that constructors, traits and aliases take.
+-- What is declared: the sorts that constructors, traits, aliases and consts take.
 use Rattle.std.specs.Prelude.{◌≡◌, List, [], ◌∷◌, ◌++◌, Option, Some, None, slice_get, ◌<◌, length}
 use Rattle.nts_model.specs.declared.labels.Sort.{Sort}
 use Rattle.nts_model.specs.declared.labels.Variance.{Variance}
@@ -15,6 +15,8 @@ use Rattle.nts_terms.specs.declared.kinds.ClauseKind.TheVariants as clause
 use Rattle.nts_terms.specs.declared.kinds.PredicateKind.{PredicateKind}
 use Rattle.nts_terms.specs.declared.kinds.PredicateKind.TheVariants as predicate
 use Rattle.nts_terms.specs.declared.handles.TraitId.{TraitId}
+use Rattle.nts_terms.specs.declared.handles.ConstId.{ConstId}
+use Rattle.nts_terms.specs.declared.handles.Ty.{Ty}
 use Rattle.nts_terms.specs.Growth.{tree_at}
 
 pub record CtorSorts : Type 0 where
@@ -25,14 +27,20 @@ pub record AliasSorts : Type 0 where
   pub sorts : List Sort
   pub kind : AliasKind
 
+-- the type names the arguments by their positions
+pub record ConstSorts : Type 0 where
+  pub sorts : List Sort
+  pub ty : Ty
+
 -- each list by number
 pub record Declared : Type 0 where
   pub ctors : List CtorSorts
   pub traits : List (List Sort)
   pub aliases : List AliasSorts
+  pub consts : List ConstSorts
 
 abbrev pub nothing_declared : Declared
-nothing_declared = record { ctors = []; traits = []; aliases = [] }
+nothing_declared = record { ctors = []; traits = []; aliases = []; consts = [] }
 
 abbrev pub with_ctor : Declared → List Sort → List Variance → Declared
 with_ctor d s v = record d { ctors = d.ctors ++ record { sorts = s; variances = v } ∷ [] }
@@ -43,6 +51,9 @@ with_trait d s = record d { traits = d.traits ++ s ∷ [] }
 abbrev pub with_alias : Declared → List Sort → AliasKind → Declared
 with_alias d s k = record d { aliases = d.aliases ++ record { sorts = s; kind = k } ∷ [] }
 
+abbrev pub with_const : Declared → List Sort → Ty → Declared
+with_const d s t = record d { consts = d.consts ++ record { sorts = s; ty = t } ∷ [] }
+
 abbrev pub ctor_sorts : Option CtorSorts → Option (List Sort)
 ctor_sorts None = None
 ctor_sorts (Some c) = Some c.sorts
@@ -51,11 +62,24 @@ abbrev pub alias_sorts : Option AliasSorts → Option (List Sort)
 alias_sorts None = None
 alias_sorts (Some a) = Some a.sorts
 
+abbrev pub const_sorts : Option ConstSorts → Option (List Sort)
+const_sorts None = None
+const_sorts (Some c) = Some c.sorts
+
+abbrev pub const_type : Option ConstSorts → Option Ty
+const_type None = None
+const_type (Some c) = Some c.ty
+
 -- the sorts of the arguments that something declared takes
 abbrev pub sorts_of : Declared → DefId → Option (List Sort)
 sorts_of d (def.Ctor c) = ctor_sorts (slice_get d.ctors c.number)
 sorts_of d (def.Trait t) = slice_get d.traits t.number
 sorts_of d (def.Alias a) = alias_sorts (slice_get d.aliases a.number)
+sorts_of d (def.Const c) = const_sorts (slice_get d.consts c.number)
+
+-- the type of a declared const
+abbrev pub type_of : Declared → ConstId → Option Ty
+type_of d c = const_type (slice_get d.consts c.number)
 
 -- a list of terms of these sorts, one each
 abbrev pub HaveSorts : List Sort → Tree → Type 0
@@ -78,7 +102,7 @@ TyIsDeclared d ts (ty.Alias a) = AreDeclared d (def.Alias a.def_id) (tree_at ts 
 TyIsDeclared d ts k = Unit {0}
 
 abbrev pub ConstIsDeclared : Declared → List Tree → ConstKind → Type 0
-ConstIsDeclared d ts (konst.Unevaluated a) = AreDeclared d (def.Alias a.def_id) (tree_at ts a.args.node)
+ConstIsDeclared d ts (konst.Unevaluated c) = AreDeclared d (def.Const c.def_id) (tree_at ts c.args.node)
 ConstIsDeclared d ts k = Unit {0}
 
 abbrev pub ClauseIsDeclared : Declared → List Tree → ClauseKind → Type 0

@@ -1,11 +1,14 @@
 //! The context: terms, declarations and limits.
 ghost use Rattle.std.specs.Prelude.{◌≡◌, ◌↔◌, [], length, true, false, IsTrue, IfOk, OnOk, OnErr, IsOkUnless};
-ghost use Rattle.nts_terms.specs.Signatures.{nothing_declared, with_ctor, with_trait, with_alias};
+ghost use Rattle.nts_terms.specs.Growth.{tree_at};
+ghost use Rattle.nts_terms.specs.Handles.{HoldsTy};
+ghost use Rattle.nts_terms.specs.Signatures.{nothing_declared, with_ctor, with_trait, with_alias, with_const};
+ghost use Rattle.nts_terms.specs.ConstTypes.{IsConstType};
 ghost use Rattle.nts_terms.specs.Rest.{KeepsRest};
 
 use crate::declarations::{AliasKind, Declarations};
 use crate::fault::Fault;
-use crate::handles::{AliasId, CtorId, TraitId};
+use crate::handles::{AliasId, ConstId, CtorId, TraitId, Ty};
 use crate::nodes::Nodes;
 use nts_model::{Sort, Variance};
 use std::alloc::Global;
@@ -92,5 +95,17 @@ impl Cx {
         ensures memory { IsOkUnless result Fault.Memory }
     {
         self.declarations.declare_alias(sorts, kind)
+    }
+    /// A new const, which takes arguments of these sorts and has this type. In the type, argument i is
+    /// the canonical bound variable i of its sort. `is_const_type` is the test.
+    pub fn declare_const(&mut self, sorts: &[Sort], ty: Ty) -> Result<ConstId, Fault>
+        requires holds { HoldsTy self.old.nodes ty }
+        requires ty { IsConstType sorts.now (tree_at self.old.nodes ty.node) }
+        ensures number { IfOk result (λ c. c.number ≡ length self.old.declarations.consts) }
+        ensures declared { OnOk result (self.new ≡ record self.old { declarations = with_const self.old.declarations sorts.now ty }) }
+        ensures err { OnErr result (self.new ≡ self.old) }
+        ensures memory { IsOkUnless result Fault.Memory }
+    {
+        self.declarations.declare_const(sorts, ty)
     }
 }

@@ -2,7 +2,7 @@
 ghost use Rattle.std.specs.Prelude.{◌≡◌, ◌++◌, ◌∷◌, [], length, IfOk, OnOk, OnErr, IsOkUnless, MatchOption, Some, None};
 
 use crate::fault::Fault;
-use crate::handles::{AliasId, CtorId, DefId, TraitId};
+use crate::handles::{AliasId, ConstId, CtorId, DefId, TraitId, Ty};
 use nts_model::{Sort, Variance};
 use std::alloc::Global;
 use std::marker::Model;
@@ -56,13 +56,28 @@ impl Model for AliasSignature {
     ghost view = { λ a. record { sorts = a.sorts.items; kind = a.kind } };
 }
 
-/// The declared constructors, traits and aliases. A caller sees the lists of what each takes.
+#[derive(Drop)]
+struct ConstSignature {
+    sorts: Vec<Sort>,
+    ty: Ty,
+}
+
+impl Model for ConstSignature {
+    ghost use Rattle.nts_terms.specs.Signatures.{ConstSorts};
+
+    ghost Value = { ConstSorts };
+
+    ghost view = { λ c. record { sorts = c.sorts.items; ty = c.ty } };
+}
+
+/// The declared constructors, traits, aliases and consts. A caller sees the lists of what each takes.
 #[derive(Drop)]
 pub struct Declarations {
     alloc: Global,
     ctors: Vec<CtorSignature>,
     traits: Vec<TraitSignature>,
     aliases: Vec<AliasSignature>,
+    consts: Vec<ConstSignature>,
 }
 
 impl Model for Declarations {
@@ -70,11 +85,11 @@ impl Model for Declarations {
 
     ghost Value = { Declared };
 
-    ghost view = { λ d. record { ctors = d.ctors.items; traits = d.traits.items; aliases = d.aliases.items } };
+    ghost view = { λ d. record { ctors = d.ctors.items; traits = d.traits.items; aliases = d.aliases.items; consts = d.consts.items } };
 }
 
 impl Declarations {
-    ghost use Rattle.nts_terms.specs.Signatures.{nothing_declared, with_ctor, with_trait, with_alias, sorts_of};
+    ghost use Rattle.nts_terms.specs.Signatures.{nothing_declared, with_ctor, with_trait, with_alias, with_const, sorts_of, type_of};
 
     /// Nothing declared. It takes no memory.
     pub(crate) fn new(alloc: Global) -> Self
@@ -85,6 +100,7 @@ impl Declarations {
             ctors: Vec::new(alloc),
             traits: Vec::new(alloc),
             aliases: Vec::new(alloc),
+            consts: Vec::new(alloc),
         }
     }
 
@@ -137,6 +153,29 @@ impl Declarations {
         Ok(AliasId { number })
     }
 
+    /// A new const, which takes arguments of these sorts and has this type.
+    pub(crate) fn declare_const(&mut self, sorts: &[Sort], ty: Ty) -> Result<ConstId, Fault>
+        ensures number { IfOk result (λ c. c.number ≡ length self.old.consts) }
+        ensures declared { OnOk result (self.new ≡ with_const self.old sorts.now ty) }
+        ensures err { OnErr result (self.new ≡ self.old) }
+        ensures memory { IsOkUnless result Fault.Memory }
+    {
+        let number = self.consts.len();
+        let sorts = sorts.to_vec(self.alloc)?;
+        self.consts.push(ConstSignature { sorts, ty })?;
+        Ok(ConstId { number })
+    }
+
+    /// The type that a const was declared with; `None` for a number that isn't declared.
+    pub fn const_type(&self, def: ConstId) -> Option<Ty>
+        ensures { result ≡ type_of self.now def }
+    {
+        match self.consts.get(def.number) {
+            Some(signature) => Some(signature.ty),
+            None => None,
+        }
+    }
+
     /// The sorts that something declared takes; `None` for a number that isn't declared.
     pub fn sorts(&self, def: DefId) -> Option<&[Sort]>
         ensures { MatchOption result (sorts_of self.now def ≡ None) (λ s. sorts_of self.now def ≡ Some s.now) }
@@ -152,6 +191,10 @@ impl Declarations {
             },
             DefId::Alias(a) => match self.aliases.get(a.number) {
                 Some(alias) => Some(alias.sorts.as_slice()),
+                None => None,
+            },
+            DefId::Const(c) => match self.consts.get(c.number) {
+                Some(ct) => Some(ct.sorts.as_slice()),
                 None => None,
             },
         }

@@ -69,9 +69,15 @@ pub struct TraitId {
     pub number: usize,
 }
 
-/// The number of a declared alias: of a type alias or of a const.
+/// The number of a declared alias of types.
 #[derive(Clone, Copy, PartialEq, Eq, Hash)]
 pub struct AliasId {
+    pub number: usize,
+}
+
+/// The number of a declared const.
+#[derive(Clone, Copy, PartialEq, Eq, Hash)]
+pub struct ConstId {
     pub number: usize,
 }
 
@@ -81,6 +87,7 @@ pub enum DefId {
     Ctor(CtorId),
     Trait(TraitId),
     Alias(AliasId),
+    Const(ConstId),
 }
 
 /// A value in which variables of these sorts are bound.
@@ -94,6 +101,13 @@ pub struct Binder<T> {
 #[derive(Clone, Copy)]
 pub struct AliasTerm {
     pub def_id: AliasId,
+    pub args: GenericArgs,
+}
+
+/// A declared const applied to arguments, which is to be evaluated.
+#[derive(Clone, Copy)]
+pub struct UnevaluatedConst {
+    pub def_id: ConstId,
     pub args: GenericArgs,
 }
 

@@ -2,6 +2,7 @@
 use crate::handles::{
     AliasTerm, Binder, BoundConst, BoundRegion, BoundTy, Const, CtorId, FnSig, GenericArgs,
     PlaceholderConst, PlaceholderRegion, PlaceholderType, Region, Term, TraitId, TraitRef, Ty,
+    UnevaluatedConst,
 };
 use nts_model::{BoundIndex, Direction, FloatTy, IntTy, UintTy};
 
@@ -50,7 +51,7 @@ pub enum ConstKind {
     Infer(usize),
     Bound(BoundIndex, BoundConst),
     Placeholder(PlaceholderConst),
-    Unevaluated(AliasTerm),
+    Unevaluated(UnevaluatedConst),
     Value { ty: Ty, bits: u128 },
     Error,
 }

@@ -5,11 +5,16 @@
 #![tactic(auto)]
 
 mod certainty;
+mod const_types;
 mod cx;
 mod declarations;
 mod facts;
 mod fault;
 mod fitting;
+mod fold;
+#[cfg(test)]
+mod fold_tests;
+mod foldable;
 mod handles;
 mod holding;
 mod instantiate;
@@ -34,10 +39,13 @@ pub use cx::Cx;
 pub use declarations::{AliasKind, Declarations};
 pub use facts::{Facts, binders_of};
 pub use fault::{EvalError, Fault};
+pub use fold::{TypeFolder, fold_node};
+pub use foldable::TypeFoldable;
 pub use handles::{
-    AliasId, AliasTerm, Binder, BoundConst, BoundRegion, BoundTy, BoundVars, Const, CtorId, DefId,
-    FnSig, GenericArg, GenericArgs, Goal, ParamEnv, PlaceholderConst, PlaceholderRegion,
-    PlaceholderType, Predicate, Region, Term, TraitId, TraitRef, Ty,
+    AliasId, AliasTerm, Binder, BoundConst, BoundRegion, BoundTy, BoundVars, Const, ConstId,
+    CtorId, DefId, FnSig, GenericArg, GenericArgs, Goal, ParamEnv, PlaceholderConst,
+    PlaceholderRegion, PlaceholderType, Predicate, Region, Term, TraitId, TraitRef, Ty,
+    UnevaluatedConst,
 };
 pub use holding::Stored;
 pub use instantiate::instantiate_canonical;

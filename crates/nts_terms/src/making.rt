@@ -119,9 +119,9 @@ impl Cx {
                 self.nodes
                     .make(Label::Leaf(Leaf::ConstConstant(constant)), &[])?
             }
-            ConstKind::Unevaluated(alias) => {
-                let head = ConstHead::Unevaluated(alias.def_id.number);
-                self.nodes.make(Label::Const(head), &[alias.args.node])?
+            ConstKind::Unevaluated(ct) => {
+                let head = ConstHead::Unevaluated(ct.def_id.number);
+                self.nodes.make(Label::Const(head), &[ct.args.node])?
             }
             ConstKind::Value { ty, bits } => {
                 self.nodes

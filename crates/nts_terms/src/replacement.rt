@@ -7,6 +7,7 @@ ghost use Rattle.nts_terms.specs.Replacement.{IsStep, jobs, TasksIn, building, I
 use crate::nodes::{NodeId, Nodes};
 use nts_model::Label;
 use std::alloc::{AllocError, Global};
+use std::collections::HashMap;
 
 /// What a replacer makes of a term.
 #[derive(Clone, Copy)]
@@ -56,11 +57,11 @@ pub trait Replacer {
 
 /// What is left to do. A term may be nested very deep, so this stands on the heap.
 #[derive(Clone, Copy)]
-enum Task {
+pub(crate) enum Task {
     /// Find what stands for a term.
     Enter(NodeId),
-    /// Make a node with this label over as many of the last terms found.
-    Build(Label, usize),
+    /// Make this node again, with its label over as many of the last terms found.
+    Build(NodeId, Label, usize),
 }
 
 /// The term with what the replacer puts in place of its parts.
@@ -79,18 +80,25 @@ pub fn replace<R: Replacer>(
 {
     let mut tasks = Vec::new(alloc);
     let mut found = Vec::new(alloc);
+    // Equal terms have one number. So the children of a node are replaced once, however often a tree
+    // has it.
+    let mut known = HashMap::new(alloc);
     tasks.push(Task::Enter(t))?;
     while let Some(task) = tasks.pop() {
         match task {
             Task::Enter(term) => {
                 match replacer.step(nodes, term)? {
                     Step::Done(result) => found.push(result)?,
-                    Step::Down(node) => push_node(nodes, node, &mut tasks)?,
+                    Step::Down(node) => match known.get(&node.number) {
+                        Some(result) => found.push(*result)?,
+                        None => push_node(nodes, node, &mut tasks)?,
+                    },
                 }
             }
-            Task::Build(label, count) => {
+            Task::Build(node, label, count) => {
                 let first = found.len().saturating_sub(count);
                 let made = nodes.make(label, &found[first..])?;
+                known.insert(node.number, made)?;
                 found.truncate(first);
                 found.push(made)?;
             }
@@ -100,7 +108,11 @@ pub fn replace<R: Replacer>(
 }
 
 /// What is left to do for a node: first its children from left to right, and then the node.
-fn push_node(nodes: &Nodes, node: NodeId, tasks: &mut Vec<Task>) -> Result<(), AllocError>
+pub(crate) fn push_node(
+    nodes: &Nodes,
+    node: NodeId,
+    tasks: &mut Vec<Task>,
+) -> Result<(), AllocError>
     requires within { IsIn nodes.now node }
     requires tasks { TasksIn nodes.now tasks.old.items }
     ensures within { OnOk result (TasksIn nodes.now tasks.new.items) }
@@ -109,7 +121,7 @@ fn push_node(nodes: &Nodes, node: NodeId, tasks: &mut Vec<Task>) -> Result<(), A
 {
     let label = nodes.label(node);
     let count = nodes.child_count(node);
-    tasks.push(Task::Build(label, count))?;
+    tasks.push(Task::Build(node, label, count))?;
     let mut i = count;
     while i > 0 {
         i -= 1;

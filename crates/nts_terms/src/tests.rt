@@ -1,8 +1,8 @@
 use crate::{
     AliasKind, AliasTerm, Binder, BoundRegion, BoundTy, Certainty, ClauseKind, ConstKind, Cx,
-    DefId, EvalError, Fault, FnSig, GenericArg, GenericArgKind, MaybeCause, MaybeInfo, Nodes,
-    OpaqueTypesJank, PlaceholderRegion, PredicateKind, RegionKind, Stored, Term, TermKind, TraitId,
-    TraitRef, Ty, TyKind, binders_of,
+    DefId, EvalError, Fault, FnSig, GenericArg, GenericArgKind, InferTy, MaybeCause, MaybeInfo,
+    Nodes, OpaqueTypesJank, PlaceholderRegion, PredicateKind, RegionKind, Stored, Term, TermKind,
+    TraitId, TraitRef, Ty, TyKind, UnevaluatedConst, binders_of,
 };
 use nts_model::{BoundIndex, Label, ListHead, Sort, TyHead, UintTy, Variance};
 use std::test::Fail;
@@ -135,8 +135,49 @@ fn aliases(rt: HostRuntime) -> Result<(), Fail> {
     assert!(rt; matches!(ty.kind(&cx), TyKind::Alias(_)));
     assert!(rt; cx.holds(args));
     assert!(rt; cx.fits(DefId::Alias(item), args));
-    let ct = cx.mk_const(ConstKind::Unevaluated(alias))?;
-    assert!(rt; matches!(ct.kind(&cx), ConstKind::Unevaluated(_)));
+    Ok(())
+}
+
+#[test]
+fn declared_consts(rt: HostRuntime) -> Result<(), Fail> {
+    let mut cx = Cx::new(rt.alloc());
+    let list = cx.declare_ctor(&[Sort::Ty], &[Variance::Covariant])?;
+    let position = |var| TyKind::Bound(BoundIndex::Canonical, BoundTy { var });
+    let first = cx.mk_ty(position(0))?;
+    let args = cx.mk_args(&[first.into()])?;
+    assert!(rt; cx.holds(args));
+    assert!(rt; cx.fits(DefId::Ctor(list), args));
+    let ty = cx.mk_ty(TyKind::Ctor(list, args))?;
+    assert!(rt; cx.holds(ty));
+    assert!(rt; !cx.is_const_type(&[Sort::Const], ty)?);
+    assert!(rt; !cx.is_const_type(&[], ty)?);
+    assert!(rt; cx.is_const_type(&[Sort::Ty], ty)?);
+    let length = cx.declare_const(&[Sort::Ty], ty)?;
+    assert!(rt; cx.declarations.const_type(length) == Some(ty));
+    let none = cx.mk_args(&[])?;
+    assert!(rt; !cx.fits(DefId::Const(length), none));
+    assert!(rt; cx.holds(args));
+    assert!(rt; cx.fits(DefId::Const(length), args));
+    let def_id = length;
+    let ct = cx.mk_const(ConstKind::Unevaluated(UnevaluatedConst { def_id, args }))?;
+    match ct.kind(&cx) {
+        ConstKind::Unevaluated(it) => assert!(rt; it.def_id == length),
+        _ => assert!(rt; false),
+    }
+    Ok(())
+}
+
+#[test]
+fn types_that_no_const_has(rt: HostRuntime) -> Result<(), Fail> {
+    let mut cx = Cx::new(rt.alloc());
+    let parameter = cx.mk_ty(TyKind::Param(0))?;
+    assert!(rt; !cx.is_const_type(&[Sort::Ty], parameter)?);
+    let variable = cx.mk_ty(TyKind::Infer(InferTy::TyVar(0)))?;
+    assert!(rt; !cx.is_const_type(&[Sort::Ty], variable)?);
+    let bound = cx.mk_ty(TyKind::Bound(BoundIndex::Level(0), BoundTy { var: 0 }))?;
+    assert!(rt; !cx.is_const_type(&[Sort::Ty], bound)?);
+    let byte = cx.mk_ty(TyKind::Uint(UintTy::U8))?;
+    assert!(rt; cx.is_const_type(&[], byte)?);
     Ok(())
 }
 

@@ -9,9 +9,9 @@ ghost use Rattle.nts_terms.specs.Kinds.{IsOne, AreTwo, one, two, tree_of_ty, TyF
 
 use crate::cx::Cx;
 use crate::handles::{
-    AliasId, AliasTerm, Binder, BoundConst, BoundRegion, BoundTy, BoundVars, Const, CtorId, FnSig,
-    GenericArg, GenericArgs, PlaceholderConst, PlaceholderRegion, PlaceholderType, Predicate,
-    Region, Term, TraitId, TraitRef, Ty,
+    AliasId, AliasTerm, Binder, BoundConst, BoundRegion, BoundTy, BoundVars, Const, ConstId,
+    CtorId, FnSig, GenericArg, GenericArgs, PlaceholderConst, PlaceholderRegion, PlaceholderType,
+    Predicate, Region, Term, TraitId, TraitRef, Ty, UnevaluatedConst,
 };
 use crate::kinds::{
     ClauseKind, ConstKind, GenericArgKind, InferTy, PredicateKind, RegionKind, TermKind, TyKind,
@@ -170,8 +170,8 @@ impl Const {
                 let args = GenericArgs {
                     node: only_child(nodes, self.node),
                 };
-                ConstKind::Unevaluated(AliasTerm {
-                    def_id: AliasId { number },
+                ConstKind::Unevaluated(UnevaluatedConst {
+                    def_id: ConstId { number },
                     args,
                 })
             }

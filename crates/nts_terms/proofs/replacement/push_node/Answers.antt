@@ -7,7 +7,7 @@ use Rattle.nts_terms.proofs.replacement.push_node.Goals as goal
 pub loop-i-init : goal.loop-i-init
 loop-i-init c =
     let e = c.in_ok-push.ensures.items in
-    let within : TasksIn c.args.nodes.now c.push.new.self.items = rw e (TasksIn-push c.args.nodes.now c.args.tasks.now.items _ c.requires.tasks tt) in
+    let within : TasksIn c.args.nodes.now c.push.new.self.items = rw e (TasksIn-push c.args.nodes.now c.args.tasks.now.items _ c.requires.tasks c.requires.within) in
     pushed_start c.args.nodes.now c.push.new.self.items (tree_at c.args.nodes.now c.args.node) c.child_count-count.result within c.child_count-count.ensures.count c.child_count-count.ensures.row
 
 pub loop-i-preserved : goal.loop-i-preserved
@@ -28,4 +28,4 @@ returns-clause-formed c =
 pub returns-clause-jobs : goal.returns-clause-jobs
 returns-clause-jobs c =
     let z : c.loop-i.i ≡ 0 = omega arith in
-    pushed_all c.args.nodes.now _ _ _ _ c.label-label.result c.child_count-count.result c.loop-i.i c.loop-i.invariant z c.in_ok-push.ensures.items c.label-label.ensures.is c.child_count-count.ensures.count
+    pushed_all c.args.nodes.now _ _ _ c.args.node c.label-label.result c.child_count-count.result c.loop-i.i c.loop-i.invariant z c.in_ok-push.ensures.items c.label-label.ensures.is c.child_count-count.ensures.count

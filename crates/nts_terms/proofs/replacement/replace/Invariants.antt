@@ -1,6 +1,8 @@
+use Rattle.std.proofs.Common.{nat_eq}
+use Rattle.std.specs.HashMap.{get}
 use Rattle.nts_terms.specs.Growth.{tree_at, Extends}
 use Rattle.nts_terms.specs.Replacement.{jobs}
-use Rattle.nts_terms.proofs.Replacing.{EndsWith, weights}
+use Rattle.nts_terms.proofs.Replacing.{EndsWith, Known, weights}
 use Rattle.nts_terms.proofs.replacement.replace.Given as goal
 
 abbrev pub invariant-loop-task : goal.invariant-loop-task
@@ -10,6 +12,7 @@ invariant-loop-task g l =
     record {
       extends : Extends l.fn.nodes l.nodes;
       ends : EndsWith (r.covers m) (r.image m) l.nodes l.tasks.items l.found.items (r.image m (tree_at l.fn.nodes l.fn.t));
+      known : Known (r.covers m) (r.image m) l.nodes (λ k. get nat_eq l.known k);
     }
 
 abbrev pub decreases-loop-task : goal.decreases-loop-task

@@ -1,5 +1,4 @@
 use Rattle.std.proofs.Common.{ap, sym, ◌∙◌, length}
-use Rattle.nts_terms.specs.Growth.{AreApart}
 use Rattle.nts_terms.proofs.Inserting.{length-trees}
 use Rattle.nts_terms.proofs.Forming.{AreFormed-trees}
 use Rattle.nts_terms.proofs.nodes.Nodes.len.Goals as goal

@@ -1,0 +1,27 @@
+-- What type a declared const may have.
+use Rattle.std.specs.Prelude.{◌≡◌, List, Some, slice_get}
+use Rattle.nts_model.specs.declared.labels.Sort.{Sort}
+use Rattle.nts_model.specs.declared.labels.Label.{Label}
+use Rattle.nts_model.specs.declared.labels.Label.TheVariants as label
+use Rattle.nts_model.specs.declared.labels.Leaf.{Leaf}
+use Rattle.nts_model.specs.declared.labels.Leaf.TheVariants as leaf
+use Rattle.nts_model.specs.declared.labels.BoundIndex.TheVariants as index
+use Rattle.nts_model.specs.Substitutions.{StaysItself}
+use Rattle.nts_model.specs.Trees.{Tree, IsClosed}
+use Rattle.nts_terms.specs.Labels.{AllLabels}
+
+-- no inference variable, parameter or placeholder: a region that is always itself
+abbrev pub IsFixedLeaf : Leaf → Type 0
+IsFixedLeaf (leaf.Region r) = StaysItself r
+IsFixedLeaf l = ⊥
+
+-- a label in the type of a const with arguments of these sorts: a position is that of an argument of its sort
+abbrev pub MayStand : List Sort → Label → Type 0
+MayStand ss (label.Leaf l) = IsFixedLeaf l
+MayStand ss (label.Bound s index.Canonical i) = slice_get ss i ≡ Some s
+MayStand ss l = Unit {0}
+
+-- a type over the arguments of a const and nothing else: no bound variable escapes from it either
+pub record IsConstType (ss : List Sort) (t : Tree) : Type 0 where
+  pub labels : AllLabels (MayStand ss) t
+  pub closed : IsClosed t

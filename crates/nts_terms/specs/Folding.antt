@@ -1,0 +1,63 @@
+-- What a walk by a folder makes of a tree, for any folder. A folder has a state: S are its states.
+use Rattle.std.specs.Prelude.{◌≡◌, ℕ, zero, suc, List, [], ◌∷◌, Option, Some, None}
+use Rattle.nts_model.specs.declared.labels.Sort.TheVariants as sort
+use Rattle.nts_model.specs.declared.labels.Label.{Label}
+use Rattle.nts_model.specs.Trees.{Tree, empty, more, node, binders, NodeKind, of_sort, bound_predicate, kind_of, kind_of_label}
+
+-- a type, a region, a const or a predicate is asked for; anything else is gone into
+abbrev pub Asks : {S : Type 0} → (S → Tree → Option Tree → S → Type 0) → NodeKind → S → Tree → Option Tree → S → Type 0
+Asks answers (of_sort k) s x o t = answers s x o t
+Asks answers bound_predicate s x o t = answers s x o t
+Asks answers k s x o t = (o ≡ None) × (t ≡ s)
+
+-- a rebuilt type or const is handed over; anything else stays as it was rebuilt
+abbrev pub HandsOver : {S : Type 0} → (S → Tree → Tree → S → Type 0) → NodeKind → S → Tree → Tree → S → Type 0
+HandsOver rebuilds (of_sort sort.Ty) s x y t = rebuilds s x y t
+HandsOver rebuilds (of_sort sort.Const) s x y t = rebuilds s x y t
+HandsOver rebuilds k s x y t = (y ≡ x) × (t ≡ s)
+
+-- at a binder the state takes this step, and elsewhere it stays
+abbrev pub AtBinder : {S : Type 0} → (S → S → Type 0) → ℕ → S → S → Type 0
+AtBinder step zero s t = t ≡ s
+AtBinder step (suc n) s t = step s t
+
+-- the tree u stands for the node x of label l
+pub record Answers {S : Type 0} (answers : S → Tree → Option Tree → S → Type 0) (l : Label) (s : S) (x u : Tree) (t : S) : Type 0 where
+  pub asks : Asks answers (kind_of_label l) s x (Some u) t
+  pub kind : kind_of u ≡ Some (kind_of_label l)
+
+-- nothing stands for the node x of label l, so its children are folded
+pub record GoesInto {S : Type 0} (answers : S → Tree → Option Tree → S → Type 0) (enters : S → S → Type 0) (l : Label) (s : S) (x : Tree) (t : S) : Type 0 where
+  pub asked : S
+  pub asks : Asks answers (kind_of_label l) s x None asked
+  pub enters_binder : AtBinder enters (binders l) asked t
+
+-- the tree e stands for a node whose folded children are d
+pub record ComesBack {S : Type 0} (leaves : S → S → Type 0) (rebuilds : S → Tree → Tree → S → Type 0) (l : Label) (s : S) (d e : Tree) (t : S) : Type 0 where
+  pub left : S
+  pub leaves_binder : AtBinder leaves (binders l) s left
+  pub hands : HandsOver rebuilds (kind_of_label l) left (node l d) e t
+  pub kind : kind_of e ≡ Some (kind_of_label l)
+
+-- from one state to another a tree becomes another: children from left to right, each part once, and a node after its children
+pub data Walk {S : Type 0} (answers : S → Tree → Option Tree → S → Type 0) (enters leaves : S → S → Type 0) (rebuilds : S → Tree → Tree → S → Type 0) : S → Tree → Tree → S → Type 0 where
+  done : {s : S} → Walk answers enters leaves rebuilds s empty empty s
+  next : {r s t : S} {a b c d : Tree} → Walk answers enters leaves rebuilds r a c s → Walk answers enters leaves rebuilds s b d t → Walk answers enters leaves rebuilds r (more a b) (more c d) t
+  answer : {s t : S} {l : Label} {c u : Tree} → Answers answers l s (node l c) u t → Walk answers enters leaves rebuilds s (node l c) u t
+  down : {r s t u : S} {l : Label} {c d e : Tree} → GoesInto answers enters l r (node l c) s → Walk answers enters leaves rebuilds s c d t → ComesBack leaves rebuilds l t d e u → Walk answers enters leaves rebuilds r (node l c) e u
+
+-- what a folder makes of a node before its children are folded
+abbrev pub Starts : {S : Type 0} → (S → Tree → Option Tree → S → Type 0) → (S → S → Type 0) → S → Tree → Option Tree → S → Type 0
+Starts answers enters s (node l c) (Some u) t = Answers answers l s (node l c) u t
+Starts answers enters s (node l c) None t = GoesInto answers enters l s (node l c) t
+Starts answers enters s x o t = ⊥
+
+-- an optional value as a list
+abbrev pub tree_of_option : Option Tree → Tree
+tree_of_option None = empty
+tree_of_option (Some x) = more x empty
+
+-- a list of values
+abbrev pub tree_of_list : List Tree → Tree
+tree_of_list [] = empty
+tree_of_list (x ∷ xs) = more x (tree_of_list xs)
