@@ -1,11 +1,11 @@
 -- A candidate's data as trees.
-use Rattle.std.specs.Prelude.{ℕ, Bool, true, false, List, map}
+use Rattle.std.specs.Prelude.{Bool, true, false, List, map}
 use Rattle.nts_model.specs.declared.labels.TyHead.TheVariants as ty
 use Rattle.nts_model.specs.declared.labels.Label.TheVariants as label
 use Rattle.nts_model.specs.Trees.{Tree, empty, more, node}
 use Rattle.nts_model.specs.Related.{Constraint}
 use Rattle.nts_model.specs.Sequents.{PathKind, coinductive, unknown, inductive, forced_ambiguity, Source, misc, type_relating, impl_where_bound, alias_bound_const, alias_well_formed, normalize_goal, Premise, Hidden}
-use Rattle.nts_model.specs.Rules.{Mode, coherence, post_analysis, erased, analysis, borrowck, post_borrowck, Equation, related, alike}
+use Rattle.nts_model.specs.Rules.{Equation, related, alike}
 use Rattle.nts_model.specs.Handlers.{Cause, ambiguity, overflow, Certainty, certain, perhaps, Access, never, always, any_infer, in_storage, in_storage_or_infer, Candidate}
 use Rattle.nts_terms.specs.declared.certainty.Certainty.{Certainty as CertaintyData}
 use Rattle.nts_terms.specs.declared.certainty.Certainty.TheVariants as certainty_data
@@ -19,11 +19,9 @@ use Rattle.nts_terms.specs.declared.sources.GoalSource.{GoalSource}
 use Rattle.nts_terms.specs.declared.sources.GoalSource.TheVariants as source_data
 use Rattle.nts_terms.specs.declared.sources.RerunCondition.{RerunCondition}
 use Rattle.nts_terms.specs.declared.sources.RerunCondition.TheVariants as rerun_data
-use Rattle.nts_terms.specs.declared.sources.TypingMode.{TypingMode}
-use Rattle.nts_terms.specs.declared.sources.TypingMode.TheVariants as mode_data
-use Rattle.nts_terms.specs.declared.handles.AliasId.{AliasId}
 use Rattle.nts_terms.specs.declared.handles.AliasTerm.{AliasTerm}
 use Rattle.nts_terms.specs.Growth.{tree_at}
+use Rattle.nts_terms.specs.Modes.{numbers_of}
 use Rattle.next_trait_solver.specs.declared.delegate.Equation.{Equation as EquationData}
 use Rattle.next_trait_solver.specs.declared.delegate.EquationKind.{EquationKind}
 use Rattle.next_trait_solver.specs.declared.delegate.EquationKind.TheVariants as kind_data
@@ -45,18 +43,7 @@ abbrev pub certainty_of : CertaintyData → Certainty
 certainty_of certainty_data.Yes = certain
 certainty_of (certainty_data.Maybe m) = perhaps (cause_of m.cause) (may_be_error m.opaque_types_jank)
 
--- in which mode a goal is asked, and when it is asked again
-abbrev pub numbers_of : List AliasId → List ℕ
-numbers_of ids = map (λ i. i.number) ids
-
-abbrev pub mode_of : TypingMode → Mode
-mode_of mode_data.Coherence = coherence
-mode_of (mode_data.Analysis ids) = analysis (numbers_of ids.items)
-mode_of (mode_data.Borrowck ids) = borrowck (numbers_of ids.items)
-mode_of (mode_data.PostBorrowckAnalysis ids) = post_borrowck (numbers_of ids.items)
-mode_of mode_data.PostAnalysis = post_analysis
-mode_of mode_data.ErasedNotCoherence = erased
-
+-- when a goal is asked again
 abbrev pub access_of : RerunCondition → Access
 access_of rerun_data.Never = never
 access_of (rerun_data.OpaqueInStorage ids) = in_storage (numbers_of ids.items)

@@ -112,7 +112,8 @@ impl GoalHandler for Clauses {
     ghost use Rattle.next_trait_solver.specs.ClausesKept.{AreReady-kept};
     ghost use Rattle.next_trait_solver.specs.ClauseHandlers.{handler_of};
     ghost use Rattle.next_trait_solver.specs.ClausesLawful.{IsLawful-handler_of, MeansSame-kept};
-    ghost use Rattle.next_trait_solver.specs.Offered.{candidates_of, mode_of};
+    ghost use Rattle.next_trait_solver.specs.Offered.{candidates_of};
+    ghost use Rattle.nts_terms.specs.Modes.{mode_of};
     ghost use Rattle.next_trait_solver.specs.Offers.{AreOffers};
     ghost use Rattle.nts_terms.specs.Growth.{tree_at};
 

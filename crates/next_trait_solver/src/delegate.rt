@@ -70,7 +70,8 @@ pub trait GoalHandler {
     ghost use Rattle.nts_terms.specs.Growth.{tree_at};
     ghost use Rattle.nts_terms.specs.Formed.{AreFormed};
     ghost use Rattle.next_trait_solver.specs.Candidates.{IsAsked, AreCandidates};
-    ghost use Rattle.next_trait_solver.specs.Offered.{candidates_of, mode_of};
+    ghost use Rattle.next_trait_solver.specs.Offered.{candidates_of};
+    ghost use Rattle.nts_terms.specs.Modes.{mode_of};
     ghost use Rattle.next_trait_solver.specs.SameHandlers.{MeansSame};
 
     /// The handler's own terms are of a store of these trees.

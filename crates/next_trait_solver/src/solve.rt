@@ -8,7 +8,7 @@ ghost use Rattle.nts_terms.specs.Formed.{AreFormed};
 ghost use Rattle.nts_terms.specs.Growth.{tree_at, Extends};
 ghost use Rattle.nts_terms.specs.Rest.{KeepsRest};
 ghost use Rattle.nts_table.specs.Reading.{content_of, IsTable};
-ghost use Rattle.next_trait_solver.specs.Offered.{mode_of};
+ghost use Rattle.nts_terms.specs.Modes.{mode_of};
 ghost use Rattle.next_trait_solver.specs.Running.{IsProved};
 ghost use Rattle.next_trait_solver.specs.Candidates.{HoldsGoal};
 ghost use Rattle.next_trait_solver.specs.Evaluation.{Goes, IsAdmitted, IsPosed};

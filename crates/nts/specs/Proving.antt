@@ -12,7 +12,7 @@ use Rattle.nts_terms.specs.Growth.{tree_at, Extends}
 use Rattle.nts_table.specs.Entries.{Table}
 use Rattle.nts_table.specs.Reading.{content_of}
 use Rattle.next_trait_solver.specs.ClauseHandlers.{handler_of}
-use Rattle.next_trait_solver.specs.Offered.{mode_of}
+use Rattle.nts_terms.specs.Modes.{mode_of}
 use Rattle.next_trait_solver.specs.declared.clauses.Clauses.{Clauses}
 use Rattle.nts_text.specs.declared.parser.Mode.{Mode}
 use Rattle.nts_text.specs.declared.parser.Mode.TheVariants as modes

@@ -9,7 +9,7 @@ use Rattle.nts_model.specs.declared.labels.Leaf.TheVariants as leaf
 use Rattle.nts_model.specs.Substitutions.{LeafSort, of_variable, of_constant, leaf_sort}
 use Rattle.nts_model.specs.Sequents.{Among}
 use Rattle.nts_model.specs.Numbered.{number}
-use Rattle.nts_model.specs.Inputs.{PositionKind, type_variable, integer_variable, float_variable, const_variable, placeholder, sub_root_of, are_one, share, kind_at, position_kind}
+use Rattle.nts_model.specs.Inputs.{PositionKind, type_variable, integer_variable, float_variable, const_variable, region_variable, placeholder, sub_root_of, are_one, share, kind_at, position_kind}
 use Rattle.nts_model.proofs.Listed.{either, map-equal, map-tells, map-map, among-map, place-map, place-equal, number-map}
 use Rattle.nts_model.proofs.Moving.{IsMap}
 
@@ -31,6 +31,7 @@ sort_of_kind (type_variable u f) = of_variable kind.Ty
 sort_of_kind integer_variable = of_variable kind.Int
 sort_of_kind float_variable = of_variable kind.Float
 sort_of_kind (const_variable u) = of_variable kind.Const
+sort_of_kind (region_variable u) = of_variable kind.Region
 sort_of_kind (placeholder s u n) = sort_of_placeholder s
 
 sort_of_kind-at : (l : Leaf) (f n : ℕ) → sort_of_kind (kind_at (leaf_sort l) f n) ≡ leaf_sort l

@@ -27,6 +27,7 @@ pub data PositionKind : Type 0 where
   type_variable : (universe sub_root : ℕ) → PositionKind
   integer_variable float_variable : PositionKind
   const_variable : (universe : ℕ) → PositionKind
+  region_variable : (universe : ℕ) → PositionKind
   placeholder : Sort → (universe name : ℕ) → PositionKind
 
 -- a goal in which positions stand for leaves, and what they stand for

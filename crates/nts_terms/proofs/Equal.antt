@@ -16,7 +16,7 @@ use Rattle.nts_terms.specs.contracts.nodes.NodePartialEq.TheImpl as node_eq
 pub same_label : (a b : Label) → IsTrue (label_eq.ghosts.eq a b) ↔ (a ≡ b)
 same_label a b = search rules
 
-both_true : (p q : Bool) (A B : Type 0) → (IsTrue p ↔ A) → (IsTrue q ↔ B) → IsTrue (p && q) ↔ (A × B)
+pub both_true : (p q : Bool) (A B : Type 0) → (IsTrue p ↔ A) → (IsTrue q ↔ B) → IsTrue (p && q) ↔ (A × B)
 both_true true true A B h k = ((λ _. (h.0 refl, k.0 refl)), λ _. refl)
 both_true true false A B h k = ((λ f. cc), λ w. k.1 w.1)
 both_true false q A B h k = ((λ f. cc), λ w. h.1 w.0)

@@ -16,3 +16,4 @@ pub mod Forming
 pub mod Folded
 pub mod FoldedList
 pub mod FoldedSame
+pub mod SameModes

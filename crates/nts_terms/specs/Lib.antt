@@ -14,3 +14,4 @@ pub mod Filled
 pub mod Formed
 pub mod ConstTypes
 pub mod Folding
+pub mod Modes

@@ -1,4 +1,8 @@
 //! Where goals come from, in which mode they are asked, and what changes.
+ghost use Rattle.std.specs.Prelude.{◌≡◌, ◌↔◌, IsTrue, IfOk, IsOkUnless};
+ghost use Rattle.nts_terms.specs.Modes.{mode_of};
+
+use crate::fault::Fault;
 use crate::handles::AliasId;
 
 /// How a cycle through a step counts.
@@ -32,7 +36,7 @@ pub enum HasChanged {
 }
 
 /// What a goal may know of hidden types.
-#[derive(Drop)]
+#[derive(PartialEq, Eq, Drop)]
 pub enum TypingMode {
     /// Whether impls overlap: an answer must hold for all that may be added.
     Coherence,
@@ -47,6 +51,42 @@ pub enum TypingMode {
     },
     PostAnalysis,
     ErasedNotCoherence,
+}
+
+impl TypingMode {
+    /// The same mode once more.
+    pub fn clone(&self) -> Result<TypingMode, Fault>
+        ensures same { IfOk result (λ m. mode_of m ≡ mode_of self.now) }
+        ensures memory { IsOkUnless result Fault.Memory }
+    {
+        Ok(match self {
+            TypingMode::Coherence => TypingMode::Coherence,
+            TypingMode::Analysis {
+                defining_opaque_types_and_generators: ids,
+            } => TypingMode::Analysis {
+                defining_opaque_types_and_generators: ids.clone()?,
+            },
+            TypingMode::Borrowck {
+                defining_opaque_types: ids,
+            } => TypingMode::Borrowck {
+                defining_opaque_types: ids.clone()?,
+            },
+            TypingMode::PostBorrowckAnalysis {
+                defined_opaque_types: ids,
+            } => TypingMode::PostBorrowckAnalysis {
+                defined_opaque_types: ids.clone()?,
+            },
+            TypingMode::PostAnalysis => TypingMode::PostAnalysis,
+            TypingMode::ErasedNotCoherence => TypingMode::ErasedNotCoherence,
+        })
+    }
+
+    /// Whether two modes are one: of one kind, with the same opaque types in the same order.
+    pub fn same(&self, other: &TypingMode) -> bool
+        ensures { IsTrue result ↔ (mode_of self.now ≡ mode_of other.now) }
+    {
+        self == other
+    }
 }
 
 /// When a goal must be asked again, since its answer rests on hidden types.

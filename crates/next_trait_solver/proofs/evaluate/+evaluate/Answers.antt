@@ -5,7 +5,8 @@ use Rattle.nts_terms.proofs.Growing.{Extends-refl, Extends-trans}
 use Rattle.nts_table.specs.Reading.{content_of}
 use Rattle.next_trait_solver.specs.declared.delegate.CandidateGoal.{CandidateGoal}
 use Rattle.nts_model.specs.Handlers.{meaning}
-use Rattle.next_trait_solver.specs.Offered.{mode_of, certainty_of, candidate_of}
+use Rattle.next_trait_solver.specs.Offered.{certainty_of, candidate_of}
+use Rattle.nts_terms.specs.Modes.{mode_of}
 use Rattle.next_trait_solver.proofs.Asking.{IsAsked-extended}
 use Rattle.next_trait_solver.proofs.Running.{IfOk-map, unread, premise_stays, HasRun, has_run, both_sure, constraints-kept, offered_there, Equates-later, Constrains-later, Proves-step}
 use Rattle.next_trait_solver.proofs.Evaluating.{Goes-trans, Goes-extends, goes-back, KeepsRest-trans, IsPosed-opened, IsPosed-later, AreValues-later, IsCandidate-extended, IsNested-extended, can_fill, candidate_at, nested_at, committed, rolled_back}

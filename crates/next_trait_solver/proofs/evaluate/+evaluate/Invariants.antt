@@ -5,7 +5,7 @@ use Rattle.nts_terms.specs.Growth.{Extends}
 use Rattle.nts_model.specs.declared.labels.Variance.{Variance}
 use Rattle.nts_model.specs.Handlers.{meaning}
 use Rattle.nts_terms.specs.Formed.{AreFormed}
-use Rattle.next_trait_solver.specs.Offered.{mode_of}
+use Rattle.nts_terms.specs.Modes.{mode_of}
 use Rattle.next_trait_solver.specs.Running.{Equates, Constrains, Proves}
 use Rattle.nts_terms.specs.Rest.{KeepsRest}
 use Rattle.next_trait_solver.specs.Evaluation.{Goes, AreValues}

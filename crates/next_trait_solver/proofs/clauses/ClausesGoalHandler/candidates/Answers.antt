@@ -1,5 +1,5 @@
 use Rattle.next_trait_solver.proofs.Running.{IfOk-map}
-use Rattle.next_trait_solver.specs.Offered.{mode_of}
+use Rattle.nts_terms.specs.Modes.{mode_of}
 use Rattle.next_trait_solver.specs.ClausesLawful.{AreOffers-read}
 use Rattle.next_trait_solver.proofs.clauses.ClausesGoalHandler.candidates.Goals as goal
 

@@ -1,0 +1,10 @@
+pub mod Gathering
+pub mod Placing
+pub mod SubRooted
+pub mod PairLists
+pub mod VarLists
+pub mod Canonizing
+pub mod Filled
+pub mod Telling
+pub mod Having
+pub mod Trying

@@ -1,0 +1,45 @@
+use Rattle.std.proofs.Common.{ap, ◌∙◌, map}
+use Rattle.nts_model.specs.Substitutions.{leaf_tree}
+use Rattle.nts_model.specs.Inputs.{position_kind}
+use Rattle.nts_canonical.specs.SubRoots.{sub_root_in}
+use Rattle.nts_canonical.specs.Forms.{input_of}
+use Rattle.nts_canonical.proofs.PairLists.{are_hidden-kept, AreLeafArgs-kept, trees_of-leaves, AreLeafArgs-hold}
+use Rattle.nts_canonical.proofs.Canonizing.{owned-originals, distinct-originals, form_is}
+use Rattle.nts_canonical.proofs.Having.{originals_are_values, values_of}
+use Rattle.nts_canonical.proofs.canonicalize.canonicalize_goal.Goals as goal
+
+pub kinds_of-requires-clause-owned : goal.kinds_of-requires-clause-owned
+kinds_of-requires-clause-owned c =
+    let i = input_of c.args.cx.now.nodes c.args.table.now.entries c.args.goal c.args.opaque_types.now in
+    rw (c.as_slice.ensures.keys, c.in_ok-leaves.ensures) (owned-originals c.args.cx.now.nodes c.args.table.now.entries i c.requires.knows)
+
+pub kinds_of-requires-clause-distinct : goal.kinds_of-requires-clause-distinct
+kinds_of-requires-clause-distinct c =
+    let i = input_of c.args.cx.now.nodes c.args.table.now.entries c.args.goal c.args.opaque_types.now in
+    rw (c.as_slice.ensures.keys, c.in_ok-leaves.ensures) (distinct-originals i)
+
+pub numbered_query-requires-clause-hidden : goal.numbered_query-requires-clause-hidden
+numbered_query-requires-clause-hidden c =
+    are_hidden-kept c.args.cx.now.nodes c.arguments.new.nodes c.args.opaque_types.now c.requires.hidden c.arguments.ensures.extends
+
+pub returns-clause-form : goal.returns-clause-form
+returns-clause-form c =
+    let e = c.args.table.now.entries in
+    let q = c.in_ok-value.ensures in
+    let kinds = c.in_ok-var_kinds.ensures ∙ ap (λ z. map (position_kind (sub_root_in e) z) z) c.as_slice.ensures.keys in
+    form_is c.args.cx.now.nodes c.arguments.new.nodes c.numbered_query.new.nodes e c.in_ok-leaves.leaves.keys c.args.goal c.args.opaque_types.now (record { canonical = record { value = c.in_ok-value.value; max_universe = 0; var_kinds = c.in_ok-var_kinds.var_kinds }; typing_mode = c.args.mode }) c.arguments.ensures.extends c.requires.environment c.requires.predicate c.requires.hidden c.in_ok-leaves.ensures (record { environment = q.environment; predicate = q.predicate; hidden = q.hidden }) kinds
+
+pub returns-clause-originals : goal.returns-clause-originals
+returns-clause-originals c =
+    let are = AreLeafArgs-kept c.arguments.new.nodes c.numbered_query.new.nodes c.in_ok-originals.originals.items c.as_slice-2.result.now c.in_ok-originals.ensures.arguments c.numbered_query.ensures.extends in
+    trees_of-leaves c.numbered_query.new.nodes c.in_ok-originals.originals.items c.as_slice-2.result.now are ∙ ap (map leaf_tree) (c.as_slice-2.ensures.keys ∙ c.in_ok-leaves.ensures)
+
+pub returns-clause-holds_originals : goal.returns-clause-holds_originals
+returns-clause-holds_originals c =
+    let are = AreLeafArgs-kept c.arguments.new.nodes c.numbered_query.new.nodes c.in_ok-originals.originals.items c.as_slice-2.result.now c.in_ok-originals.ensures.arguments c.numbered_query.ensures.extends in
+    AreLeafArgs-hold c.numbered_query.new.nodes c.in_ok-originals.originals.items c.as_slice-2.result.now are
+
+pub returns-clause-positions : goal.returns-clause-positions
+returns-clause-positions c =
+    λ h. (let i = input_of c.args.cx.now.nodes c.args.table.now.entries c.args.goal c.args.opaque_types.now in
+    values_of (originals_are_values i h) (returns-clause-form c) (returns-clause-originals c))

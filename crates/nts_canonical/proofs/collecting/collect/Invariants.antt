@@ -1,0 +1,14 @@
+use Rattle.std.proofs.Common.{◌≡◌}
+use Rattle.nts_model.specs.Numbered.{seen}
+use Rattle.nts_terms.specs.Growth.{tree_at}
+use Rattle.nts_canonical.specs.Collecting.{stays_where, jobs, seen_after, weights, IsReading}
+use Rattle.nts_canonical.proofs.collecting.collect.Given as goal
+
+abbrev pub invariant-loop-task : goal.invariant-loop-task
+invariant-loop-task l = record {
+  reading : IsReading (stays_where l.keeps_static) l.nodes l.tasks.items l.leaves.keys l.finished.keys;
+  same : seen_after (stays_where l.keeps_static) (jobs l.nodes l.tasks.items) l.leaves.keys ≡ seen (stays_where l.keeps_static) l.fn.leaves.keys (tree_at l.nodes l.fn.t);
+}
+
+abbrev pub decreases-loop-task : goal.decreases-loop-task
+decreases-loop-task l = weights (jobs l.nodes l.tasks.items)

@@ -1,0 +1,174 @@
+//! The canonical input of a goal.
+ghost use Rattle.std.specs.Prelude.{◌≡◌, [], map, false, IfOk, IsOkUnless, All};
+ghost use Rattle.nts_model.specs.Trees.{any_label, is_canonical};
+ghost use Rattle.nts_model.specs.Substitutions.{leaf_tree, replace};
+ghost use Rattle.nts_model.specs.Numbered.{seen, numbered_leaf, no_leaf};
+ghost use Rattle.nts_model.specs.Inputs.{is_static, canonical_of, originals, whole};
+ghost use Rattle.nts_model.specs.Resolving.{Knows};
+ghost use Rattle.nts_terms.specs.Filled.{HasValues};
+ghost use Rattle.nts_terms.specs.Growth.{tree_at, Extends};
+ghost use Rattle.nts_terms.specs.Handles.{HoldsArg, HoldsEnv, HoldsPredicate};
+ghost use Rattle.nts_terms.specs.Rest.{KeepsRest};
+ghost use Rattle.nts_table.specs.Reading.{content_of, IsTable};
+ghost use Rattle.nts_canonical.specs.Forms.{hidden_row, query_tree, form_of, input_of, trees_of, IsHidden, AreHidden, HoldsQuery};
+ghost use Rattle.nts_canonical.specs.Replaced.{IsImage, AreImages, AreLeafArgs};
+
+use crate::collecting::collect;
+use crate::numbering::numbered;
+use crate::types::{Canonical, CanonicalInput, QueryInput};
+use crate::var_kinds::kinds_of;
+use indexmap::IndexSet;
+use nts_model::{Label, Leaf};
+use nts_table::InferCtxt;
+use nts_terms::{AliasTerm, Cx, Fault, GenericArg, Goal, Nodes, Ty, TypingMode};
+use std::alloc::{AllocError, Global};
+
+/// The originals and the canonical input of a goal that is asked in that mode with these hidden types. The
+/// originals stand in the goal where the input has positions; where the goal itself names no position, they
+/// are values for these (`instantiate_canonical`).
+pub fn canonicalize_goal(
+    table: &InferCtxt,
+    cx: &mut Cx,
+    goal: Goal,
+    opaque_types: &[(AliasTerm, Ty)],
+    mode: TypingMode,
+) -> Result<(Vec<GenericArg>, CanonicalInput), Fault>
+    requires table { IsTable cx.old.nodes table.now }
+    requires environment { HoldsEnv cx.old.nodes goal.param_env }
+    requires predicate { HoldsPredicate cx.old.nodes goal.predicate }
+    requires hidden { AreHidden cx.old.nodes opaque_types.now }
+    requires knows { Knows (content_of cx.old.nodes table.now.entries) (whole (input_of cx.old.nodes table.now.entries goal opaque_types.now)) }
+
+    ensures form { IfOk result (λ r. form_of cx.new.nodes r.1 ≡ canonical_of (input_of cx.old.nodes table.now.entries goal opaque_types.now)) }
+    ensures universe { IfOk result (λ r. r.1.canonical.max_universe ≡ 0) }
+    ensures mode { IfOk result (λ r. r.1.typing_mode ≡ mode) }
+    ensures originals { IfOk result (λ r. trees_of cx.new.nodes r.0.items ≡ map leaf_tree (originals (input_of cx.old.nodes table.now.entries goal opaque_types.now))) }
+    ensures positions { any_label is_canonical (whole (input_of cx.old.nodes table.now.entries goal opaque_types.now)) ≡ false → IfOk result (λ r. HasValues (trees_of cx.new.nodes r.0.items) (query_tree cx.new.nodes r.1.canonical.value)) }
+    ensures holds_originals { IfOk result (λ r. All (HoldsArg cx.new.nodes) r.0.items) }
+    ensures holds { IfOk result (λ r. HoldsQuery cx.new.nodes r.1.canonical.value) }
+    ensures extends { Extends cx.old.nodes cx.new.nodes }
+    ensures rest { KeepsRest cx.old cx.new }
+    ensures memory { IsOkUnless result Fault.Memory }
+{
+    let leaves = leaves_of(cx, goal, opaque_types)?;
+    let var_kinds = kinds_of(cx.alloc, table, leaves.as_slice())?;
+    let originals = arguments(cx.alloc, &mut cx.nodes, leaves.as_slice())?;
+    let value = numbered_query(cx.alloc, &mut cx.nodes, &leaves, goal, opaque_types)?;
+    let canonical = Canonical {
+        value,
+        max_universe: 1,
+        var_kinds,
+    };
+    Ok((
+        originals,
+        CanonicalInput {
+            canonical,
+            typing_mode: mode,
+        },
+    ))
+}
+
+/// The leaves in the order of first sight. In the environment 'static is none.
+fn leaves_of(
+    cx: &Cx,
+    goal: Goal,
+    opaque_types: &[(AliasTerm, Ty)],
+) -> Result<IndexSet<Leaf>, AllocError>
+    requires environment { HoldsEnv cx.now.nodes goal.param_env }
+    requires predicate { HoldsPredicate cx.now.nodes goal.predicate }
+    requires hidden { AreHidden cx.now.nodes opaque_types.now }
+    ensures { IfOk result (λ s. s.keys ≡ seen no_leaf (seen no_leaf (seen is_static [] (tree_at cx.now.nodes goal.param_env.node)) (tree_at cx.now.nodes goal.predicate.node)) (hidden_row cx.now.nodes opaque_types.now)) }
+{
+    let mut leaves = IndexSet::new(cx.alloc);
+    collect(cx.alloc, &cx.nodes, true, &mut leaves, goal.param_env.node)?;
+    collect(cx.alloc, &cx.nodes, false, &mut leaves, goal.predicate.node)?;
+    for i in 0..opaque_types.len() {
+        let (alias, ty) = opaque_types[i];
+        collect(cx.alloc, &cx.nodes, false, &mut leaves, alias.args.node)?;
+        collect(cx.alloc, &cx.nodes, false, &mut leaves, ty.node)?;
+    }
+    Ok(leaves)
+}
+
+/// The leaves as arguments.
+fn arguments(
+    alloc: Global,
+    nodes: &mut Nodes,
+    leaves: &[Leaf],
+) -> Result<Vec<GenericArg>, AllocError>
+    ensures arguments { IfOk result (λ v. AreLeafArgs nodes.new v.items leaves.now) }
+    ensures extends { Extends nodes.old nodes.new }
+{
+    let mut arguments = Vec::with_capacity(alloc, leaves.len())?;
+    for i in 0..leaves.len() {
+        let node = nodes.make(Label::Leaf(leaves[i]), &[])?;
+        arguments.push(GenericArg { node })?;
+    }
+    Ok(arguments)
+}
+
+fn numbered_query(
+    alloc: Global,
+    nodes: &mut Nodes,
+    leaves: &IndexSet<Leaf>,
+    goal: Goal,
+    opaque_types: &[(AliasTerm, Ty)],
+) -> Result<QueryInput, AllocError>
+    requires environment { HoldsEnv nodes.old goal.param_env }
+    requires predicate { HoldsPredicate nodes.old goal.predicate }
+    requires hidden { AreHidden nodes.old opaque_types.now }
+    ensures environment { IfOk result (λ q. tree_at nodes.new q.goal.param_env.node ≡ replace (numbered_leaf is_static leaves.now.keys) (tree_at nodes.old goal.param_env.node)) }
+    ensures predicate { IfOk result (λ q. tree_at nodes.new q.goal.predicate.node ≡ replace (numbered_leaf no_leaf leaves.now.keys) (tree_at nodes.old goal.predicate.node)) }
+    ensures hidden { IfOk result (λ q. hidden_row nodes.new q.predefined_opaques_in_body.items ≡ replace (numbered_leaf no_leaf leaves.now.keys) (hidden_row nodes.old opaque_types.now)) }
+    ensures holds { IfOk result (HoldsQuery nodes.new) }
+    ensures extends { Extends nodes.old nodes.new }
+{
+    let param_env = numbered(alloc, nodes, true, leaves, goal.param_env)?;
+    let predicate = numbered(alloc, nodes, false, leaves, goal.predicate)?;
+    let hidden = numbered_hidden(alloc, nodes, leaves, opaque_types)?;
+    Ok(QueryInput {
+        goal: Goal {
+            param_env,
+            predicate,
+        },
+        predefined_opaques_in_body: hidden,
+    })
+}
+
+fn numbered_hidden(
+    alloc: Global,
+    nodes: &mut Nodes,
+    leaves: &IndexSet<Leaf>,
+    opaque_types: &[(AliasTerm, Ty)],
+) -> Result<Vec<(AliasTerm, Ty)>, AllocError>
+    requires { AreHidden nodes.old opaque_types.now }
+    ensures images { IfOk result (λ v. AreImages (replace (numbered_leaf no_leaf leaves.now.keys)) nodes.old nodes.new opaque_types.now v.items) }
+    ensures extends { Extends nodes.old nodes.new }
+{
+    let mut hidden = Vec::with_capacity(alloc, opaque_types.len())?;
+    for i in 0..opaque_types.len() {
+        let one = numbered_pair(alloc, nodes, leaves, opaque_types[i])?;
+        hidden.push(one)?;
+    }
+    Ok(hidden)
+}
+
+fn numbered_pair(
+    alloc: Global,
+    nodes: &mut Nodes,
+    leaves: &IndexSet<Leaf>,
+    hidden: (AliasTerm, Ty),
+) -> Result<(AliasTerm, Ty), AllocError>
+    requires { IsHidden nodes.old hidden }
+    ensures image { IfOk result (IsImage (replace (numbered_leaf no_leaf leaves.now.keys)) nodes.old nodes.new hidden) }
+    ensures extends { Extends nodes.old nodes.new }
+{
+    let (alias, ty) = hidden;
+    let args = numbered(alloc, nodes, false, leaves, alias.args)?;
+    let ty = numbered(alloc, nodes, false, leaves, ty)?;
+    let alias = AliasTerm {
+        def_id: alias.def_id,
+        args,
+    };
+    Ok((alias, ty))
+}

@@ -1,0 +1,103 @@
+//! The leaves of terms in the order of first sight.
+ghost use Rattle.std.specs.Prelude.{◌≡◌, ◌++◌, ◌∷◌, [], OnOk};
+ghost use Rattle.nts_model.specs.Numbered.{seen};
+ghost use Rattle.nts_model.specs.Trees.{children, IsRow};
+ghost use Rattle.nts_terms.specs.Growth.{tree_at, IsIn};
+ghost use Rattle.nts_canonical.specs.declared.collecting.Task.TheVariants.{Enter, Finish};
+ghost use Rattle.nts_canonical.specs.Collecting.{stays_where, after_leaf, TasksIn, jobs, entered, IsReading, Continues};
+
+use indexmap::IndexSet;
+use nts_model::{FreeRegion, Label, Leaf};
+use nts_terms::{NodeId, Nodes};
+use std::alloc::{AllocError, Global};
+
+/// What is left to do. A term may be nested very deep, so this stands on the heap.
+#[derive(Clone, Copy)]
+pub enum Task {
+    /// Read a term.
+    Enter(NodeId),
+    /// All that stands below this term is read.
+    Finish(NodeId),
+}
+
+/// Whether the leaf stays as it is, and is not seen: 'static does where it is kept.
+pub(crate) fn stays(keeps_static: bool, leaf: Leaf) -> bool
+    ensures { result ≡ stays_where keeps_static leaf }
+{
+    keeps_static && matches!(leaf, Leaf::Region(FreeRegion::Static))
+}
+
+/// Adds the leaves of a term that were not seen before. A node that the term has at several places is
+/// read once.
+pub(crate) fn collect(
+    alloc: Global,
+    nodes: &Nodes,
+    keeps_static: bool,
+    leaves: &mut IndexSet<Leaf>,
+    t: NodeId,
+) -> Result<(), AllocError>
+    requires { IsIn nodes.now t }
+    ensures { OnOk result (leaves.new.keys ≡ seen (stays_where keeps_static) leaves.old.keys (tree_at nodes.now t)) }
+{
+    let mut finished = IndexSet::new(alloc);
+    let mut tasks = Vec::new(alloc);
+    tasks.push(Task::Enter(t))?;
+    while let Some(task) = tasks.pop() {
+        match task {
+            Task::Enter(term) => {
+                enter(nodes, &finished, keeps_static, leaves, &mut tasks, term)?;
+            }
+            Task::Finish(term) => {
+                finished.insert(term.number)?;
+            }
+        }
+    }
+    Ok(())
+}
+
+fn enter(
+    nodes: &Nodes,
+    finished: &IndexSet<usize>,
+    keeps_static: bool,
+    leaves: &mut IndexSet<Leaf>,
+    tasks: &mut Vec<Task>,
+    term: NodeId,
+) -> Result<(), AllocError>
+    requires { IsReading (stays_where keeps_static) nodes.now (tasks.old.items ++ Enter term ∷ []) leaves.old.keys finished.now.keys }
+    ensures { OnOk result (Continues (stays_where keeps_static) nodes.now (tasks.old.items ++ Enter term ∷ []) leaves.old.keys finished.now.keys tasks.new.items leaves.new.keys finished.now.keys) }
+{
+    if let Label::Leaf(leaf) = nodes.label(term) {
+        return see(keeps_static, leaves, leaf);
+    }
+    if finished.contains(&term.number) {
+        return Ok(());
+    }
+    tasks.push(Task::Finish(term))?;
+    push_children(nodes, term, tasks)
+}
+
+fn see(keeps_static: bool, leaves: &mut IndexSet<Leaf>, leaf: Leaf) -> Result<(), AllocError>
+    ensures { OnOk result (leaves.new.keys ≡ after_leaf (stays_where keeps_static) leaves.old.keys leaf) }
+{
+    if stays(keeps_static, leaf) {
+        return Ok(());
+    }
+    leaves.insert(leaf)?;
+    Ok(())
+}
+
+/// The children are to be read from left to right.
+fn push_children(nodes: &Nodes, term: NodeId, tasks: &mut Vec<Task>) -> Result<(), AllocError>
+    requires within { IsIn nodes.now term }
+    requires tasks { TasksIn nodes.now tasks.old.items }
+    ensures row { IsRow (children (tree_at nodes.now term)) }
+    ensures within { OnOk result (TasksIn nodes.now tasks.new.items) }
+    ensures jobs { OnOk result (jobs nodes.now tasks.new.items ≡ jobs nodes.now tasks.old.items ++ entered (children (tree_at nodes.now term))) }
+{
+    let mut i = nodes.child_count(term);
+    while i > 0 {
+        i -= 1;
+        tasks.push(Task::Enter(nodes.child(term, i)))?;
+    }
+    Ok(())
+}

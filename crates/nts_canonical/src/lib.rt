@@ -1,0 +1,23 @@
+//! Canonical inputs: goals in which positions stand for leaves.
+//!
+//! Two goals that differ only in the names of their variables, parameters and placeholders have equal
+//! canonical inputs, and only those (`nts_model::forms_tell_inputs`). So an answer to a canonical input
+//! serves each goal that has it.
+#![tactic(auto)]
+
+mod alike;
+mod canonicalize;
+mod collecting;
+#[cfg(test)]
+mod fixture;
+mod instantiate;
+mod numbering;
+#[cfg(test)]
+mod tests;
+mod types;
+mod var_kinds;
+
+pub use alike::same_input;
+pub use canonicalize::canonicalize_goal;
+pub use instantiate::instantiate_canonical;
+pub use types::{Canonical, CanonicalInput, CanonicalVarKind, QueryInput};

@@ -1,0 +1,101 @@
+//! Positions in place of leaves.
+ghost use Rattle.std.specs.Prelude.{◌≡◌, List, IfOk, refl};
+ghost use Rattle.nts_model.specs.declared.labels.Leaf.{Leaf};
+ghost use Rattle.nts_model.specs.Trees.{Tree, sort_of_leaf};
+ghost use Rattle.nts_model.specs.Substitutions.{replace};
+ghost use Rattle.nts_model.specs.Numbered.{number, numbered_leaf};
+ghost use Rattle.nts_terms.specs.Growth.{tree_at, Extends};
+ghost use Rattle.nts_terms.specs.Handles.{Holds};
+ghost use Rattle.nts_canonical.specs.Collecting.{stays_where};
+ghost use Rattle.nts_canonical.specs.Positions.{kind_of-numbered};
+
+use crate::collecting::stays;
+use indexmap::IndexSet;
+use nts_model::{BoundIndex, Label, Leaf, Sort, VariableKind};
+use nts_terms::{NodeId, Nodes, Replacer, Step, Stored, replace};
+use std::alloc::{AllocError, Global};
+
+/// Puts a position in place of each leaf: its number among the leaves.
+#[derive(Drop)]
+struct Numberer<'a> {
+    leaves: &'a IndexSet<Leaf>,
+    keeps_static: bool,
+}
+
+impl Replacer for Numberer<'_> {
+    ghost use Rattle.std.specs.Prelude.{Bool};
+
+    ghost Meaning = { Bool × List Leaf };
+
+    ghost meaning = { λ ts s. (s.keeps_static, s.leaves.now.keys) };
+
+    ghost ready = { λ ts s. Unit {0} };
+
+    ghost covers = { λ m t. Unit {0} };
+
+    ghost image = { λ m t. replace (numbered_leaf (stays_where m.0) m.1) t };
+
+    ghost ready_kept = { λ a b s h e. tt };
+
+    ghost meaning_kept = { λ a b s h e. refl };
+
+    ghost image_empty = { λ m. refl };
+
+    ghost image_more = { λ m a b. refl };
+
+    ghost covers_more = { λ m a b h. (tt, tt) };
+
+    ghost kind_kept = { λ m t h. kind_of-numbered (stays_where m.0) m.1 t };
+
+    fn step(&self, nodes: &mut Nodes, t: NodeId) -> Result<Step, AllocError> {
+        let Label::Leaf(leaf) = nodes.label(t) else {
+            return Ok(Step::Down(t));
+        };
+        if stays(self.keeps_static, leaf) {
+            return Ok(Step::Done(t));
+        }
+        let position = number_of(self.leaves, leaf);
+        let label = Label::Bound(sort_of_leaf(leaf), BoundIndex::Canonical, position);
+        Ok(Step::Done(nodes.make(label, &[])?))
+    }
+}
+
+fn number_of(leaves: &IndexSet<Leaf>, leaf: Leaf) -> usize
+    ensures { result ≡ number leaves.now.keys leaf }
+{
+    leaves.get_index_of(&leaf).unwrap_or(leaves.len())
+}
+
+fn sort_of_leaf(leaf: Leaf) -> Sort
+    ensures { result ≡ sort_of_leaf leaf }
+{
+    match leaf {
+        Leaf::Variable(VariableKind::Const, _) => Sort::Const,
+        Leaf::Variable(VariableKind::Region, _) => Sort::Region,
+        Leaf::Variable(_, _) => Sort::Ty,
+        Leaf::Region(_) => Sort::Region,
+        Leaf::TyConstant(_) => Sort::Ty,
+        Leaf::ConstConstant(_) => Sort::Const,
+    }
+}
+
+/// The term with a position in place of each leaf but those that stay.
+pub(crate) fn numbered<T: Stored>(
+    alloc: Global,
+    nodes: &mut Nodes,
+    keeps_static: bool,
+    leaves: &IndexSet<Leaf>,
+    x: T,
+) -> Result<T, AllocError>
+    requires { Holds T.place nodes.old (T.id x) }
+    ensures extends { Extends nodes.old nodes.new }
+    ensures holds { IfOk result (λ r. Holds T.place nodes.new (T.id r)) }
+    ensures tree { IfOk result (λ r. tree_at nodes.new (T.id r) ≡ replace (numbered_leaf (stays_where keeps_static) leaves.now.keys) (tree_at nodes.old (T.id x))) }
+{
+    let numberer = Numberer {
+        leaves,
+        keeps_static,
+    };
+    let node = replace(alloc, nodes, &numberer, x.node())?;
+    Ok(T::from_node(node))
+}

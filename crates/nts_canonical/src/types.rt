@@ -1,0 +1,75 @@
+//! Canonical values, and what their positions stand for.
+ghost use Rattle.std.specs.Prelude.{IfOk, IsOkUnless};
+ghost use Rattle.nts_canonical.specs.Alike.{IsCopy};
+
+use nts_terms::{
+    AliasTerm, Fault, Goal, PlaceholderConst, PlaceholderRegion, PlaceholderType, Ty, TypingMode,
+    UniverseIndex,
+};
+
+/// What a position of a canonical value stands for.
+#[derive(Clone, Copy)]
+pub enum CanonicalVarKind {
+    /// A type variable of that universe. `sub_root` is the first position with the same root of its
+    /// sub-unification class.
+    Ty { ui: UniverseIndex, sub_root: usize },
+    /// An integer variable.
+    Int,
+    /// A float variable.
+    Float,
+    /// A const variable of that universe.
+    Const(UniverseIndex),
+    /// A region variable of that universe.
+    Region(UniverseIndex),
+    PlaceholderTy(PlaceholderType),
+    PlaceholderRegion(PlaceholderRegion),
+    PlaceholderConst(PlaceholderConst),
+}
+
+/// A value in which canonical bound variables name positions, and what these stand for.
+#[derive(Drop)]
+pub struct Canonical<V> {
+    pub value: V,
+    /// The greatest universe of a position.
+    pub max_universe: UniverseIndex,
+    pub var_kinds: Vec<CanonicalVarKind>,
+}
+
+/// A goal with the hidden types of the table in which it is asked.
+#[derive(Drop)]
+pub struct QueryInput {
+    pub goal: Goal,
+    pub predefined_opaques_in_body: Vec<(AliasTerm, Ty)>,
+}
+
+/// A canonical goal, and what it may know of hidden types.
+#[derive(Drop)]
+pub struct CanonicalInput {
+    pub canonical: Canonical<QueryInput>,
+    pub typing_mode: TypingMode,
+}
+
+impl CanonicalInput {
+    /// The same input once more.
+    pub fn clone(&self) -> Result<CanonicalInput, Fault>
+        ensures copy { IfOk result (IsCopy self.now) }
+        ensures memory { IsOkUnless result Fault.Memory }
+    {
+        let query = &self.canonical.value;
+        let value = QueryInput {
+            goal: query.goal,
+            predefined_opaques_in_body: query.predefined_opaques_in_body.clone()?,
+        };
+        let var_kinds = self.canonical.var_kinds.clone()?;
+        let canonical = Canonical {
+            value,
+            max_universe: self.canonical.max_universe,
+            var_kinds,
+        };
+        let typing_mode = self.typing_mode.clone()?;
+        Ok(CanonicalInput {
+            canonical,
+            typing_mode,
+        })
+    }
+}
