@@ -56,7 +56,7 @@ pub fn canonicalize_goal(
     let value = numbered_query(cx.alloc, &mut cx.nodes, &leaves, goal, opaque_types)?;
     let canonical = Canonical {
         value,
-        max_universe: 1,
+        max_universe: 0,
         var_kinds,
     };
     Ok((
