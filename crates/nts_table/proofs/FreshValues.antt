@@ -29,7 +29,6 @@ use Rattle.nts_table.specs.Joining.{IsOneClass, IsJoined}
 use Rattle.nts_table.specs.Relating.{IsLike, IsUnset, RegionsRelate, Generalised}
 use Rattle.nts_table.proofs.Keeping.{IsLater-trans, Keeps-trans, unset-push, unset_of-infer}
 use Rattle.nts_table.proofs.Ranks.{zero_le, infer_ranked, region_unfit}
-
 use Rattle.nts_table.proofs.GenLemmas.{RegionNode, lacks_other, resolved-region_node}
 use Rattle.nts_table.proofs.Ranks.{some_kind, zero_le, infer_ranked, region_unfit}
 

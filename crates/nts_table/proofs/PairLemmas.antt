@@ -298,22 +298,25 @@ joined_one ts us e f x y j k h hx hy no_region kinds same_store joins =
     let link : resolved d (variable_tree j (max x y)) ≡ resolved d (variable_tree j (min x y)) = resolved-variable_link d (label.Leaf (leaf.Variable j (max x y))) empty j (max x y) (min x y) joins.lawful.sound is one.linked in
     let both : resolved d (variable_tree j x) ≡ resolved d (variable_tree j y) = from_sides (λ n. resolved d (variable_tree j n)) x y (sym link) in
     let fewer = joins.joined.fewer in
-    rw same_store (joins.lawful, record {
-      later = later;
-      fewer = omega (arith, fewer);
-      continues = one.continues;
-      alike = λ a b p q.
-          let ea : a ≡ j = some_variable_kind a j (sym p ∙ first) in
-          let eb : b ≡ j = some_variable_kind b j (sym q ∙ second ∙ ap Some (sym kinds)) in
-          rw (ea, eb) (AreAlike-one d (variable_tree j x) (variable_tree j y) (ap (rooted d) both));
-      sound = λ w z. (let q = one.narrows.sound w z in (q.0, from_sides w.tree x y q.1));
-      complete = λ w z q. record {
-        world = w;
-        agrees = Agrees-refl (length c.slots) w;
-        solves = one.narrows.complete w z (to_sides w.tree x y q);
-        names = λ f n u. one.narrows.names f w z n (to_sides w.tree x y q);
-      };
-    })
+    rw same_store (
+      joins.lawful,
+      record {
+        later = later;
+        fewer = omega (arith, fewer);
+        continues = one.continues;
+        alike = λ a b p q.
+            let ea : a ≡ j = some_variable_kind a j (sym p ∙ first) in
+            let eb : b ≡ j = some_variable_kind b j (sym q ∙ second ∙ ap Some (sym kinds)) in
+            rw (ea, eb) (AreAlike-one d (variable_tree j x) (variable_tree j y) (ap (rooted d) both));
+        sound = λ w z. (let q = one.narrows.sound w z in (q.0, from_sides w.tree x y q.1));
+        complete = λ w z q. record {
+          world = w;
+          agrees = Agrees-refl (length c.slots) w;
+          solves = one.narrows.complete w z (to_sides w.tree x y q);
+          names = λ f n u. one.narrows.names f w z n (to_sides w.tree x y q);
+        };
+      },
+    )
 
 -- .. of which one got the other as its value
 pub set_one : {c d : Content} {x y : ℕ} (k : VariableKind) → kind_at c y ≡ Some k → IsSet c d x (variable_tree k y) → AreMadeOne c d x y

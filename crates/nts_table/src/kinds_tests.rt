@@ -113,7 +113,9 @@ fn consts(rt: HostRuntime) {
 fn hidden_types(rt: HostRuntime) {
     let mut cx = Cx::new(rt.alloc());
     let mut table = InferCtxt::new(rt.alloc(), TypingMode::PostAnalysis);
-    let def_id = cx.declare_alias(&[], AliasKind::Opaque).expect(&rt, "memory");
+    let def_id = cx
+        .declare_alias(&[], AliasKind::Opaque)
+        .expect(&rt, "memory");
     let args = cx.mk_args(&[]).expect(&rt, "memory");
     let byte = cx.mk_ty(TyKind::Uint(UintTy::U8)).expect(&rt, "memory");
     let key = AliasTerm { def_id, args };

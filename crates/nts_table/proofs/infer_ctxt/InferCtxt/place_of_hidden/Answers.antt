@@ -26,12 +26,14 @@ returns-then-is_one_alias-clause-place c =
     let old = c.hidden_type-old.result in
     let one = compared ts c.loop-i.nodes vs e old c.in_ok-old_args.old_args c.requires.table.now i.extends (hidden_at ts e c.loop-i.i _ c.requires.table.now c.hidden_type-old.ensures) c.in_ok-old_args.ensures.tree in
     let kept = c.in_ok-old_args.ensures.extends.kept c.in_ok-args.args i.within in
-    let yes = c.is_one_alias.ensures.yes c.if-is_one_alias.true in
-    (old, record {
-      at = c.hidden_type-old.ensures;
-      has = record { alias = yes.0; args = sym one ∙ c.same.ensures.0 yes.1 ∙ kept ∙ i.args };
-      first = i.none;
-    })
+    let yes = c.is_one_alias.ensures.yes c.if-is_one_alias.true in (
+      old,
+      record {
+        at = c.hidden_type-old.ensures;
+        has = record { alias = yes.0; args = sym one ∙ c.same.ensures.0 yes.1 ∙ kept ∙ i.args };
+        first = i.none;
+      },
+    )
 
 pub loop-i-preserved : goal.loop-i-preserved
 loop-i-preserved c =
