@@ -8,3 +8,6 @@ pub mod Filled
 pub mod Telling
 pub mod Having
 pub mod Trying
+pub mod Making
+pub mod Kinded
+pub mod Adding

@@ -5,3 +5,5 @@ pub mod Forms
 pub mod Replaced
 pub mod Owned
 pub mod Alike
+pub mod Kinds
+pub mod Building

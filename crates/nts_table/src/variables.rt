@@ -1,19 +1,19 @@
 //! Making variables, and what is known of them.
-ghost use Rattle.std.specs.Prelude.{List, ◌≡◌, ◌≢◌, ◌<◌, ◌+◌, length, IfOk, OnOk, OnErr, Some, IsOkUnless};
+ghost use Rattle.std.specs.Prelude.{List, ◌≡◌, ◌≢◌, ◌<◌, ◌+◌, length, IfOk, OnOk, OnErr, Some, IfSome, IsOkUnless};
 ghost use Rattle.nts_model.specs.declared.labels.VariableKind.TheVariants as kind;
 ghost use Rattle.nts_model.specs.Trees.{Tree};
 ghost use Rattle.nts_model.specs.Resolving.{variable_tree};
 ghost use Rattle.nts_terms.specs.Growth.{tree_at, Extends};
-ghost use Rattle.nts_terms.specs.Handles.{HoldsTy, HoldsConst, HoldsRegion};
+ghost use Rattle.nts_terms.specs.Handles.{HoldsTy, HoldsConst, HoldsRegion, HoldsArg};
 ghost use Rattle.nts_terms.specs.Rest.{KeepsRest};
 ghost use Rattle.nts_table.specs.Entries.{Table, added, moved};
 ghost use Rattle.nts_table.specs.Reading.{IsTable};
-ghost use Rattle.nts_table.specs.Making.{unset_variable, new_variable};
+ghost use Rattle.nts_table.specs.Making.{unset_variable, new_variable, IsAddedTo};
 
 use crate::contents::{State, Variable};
 use crate::infer_ctxt::InferCtxt;
-use nts_model::VariableKind;
-use nts_terms::{Const, ConstKind, Cx, Fault, InferTy, Region, RegionKind, Ty, TyKind};
+use nts_model::{Label, Leaf, VariableKind};
+use nts_terms::{Const, ConstKind, Cx, Fault, GenericArg, InferTy, Region, RegionKind, Ty, TyKind};
 
 impl InferCtxt {
     /// A new type variable of the current universe.
@@ -114,6 +114,45 @@ impl InferCtxt {
         let region = cx.mk_region(RegionKind::ReVar(number))?;
         self.add_unset(VariableKind::Region, self.universe())?;
         Ok(region)
+    }
+
+    /// A new variable of that kind and universe. Where another variable is named, the two are of one
+    /// sub-unification class.
+    pub fn variable_in_universe(
+        &mut self,
+        cx: &mut Cx,
+        kind: VariableKind,
+        universe: u32,
+        sub_root_of: Option<usize>,
+    ) -> Result<GenericArg, Fault>
+        requires table { IsTable cx.old.nodes self.old }
+        requires within { IfSome sub_root_of (λ n. n < length self.old.entries.variables) }
+        ensures tree { IfOk result (λ r. tree_at cx.new.nodes r.node ≡ variable_tree kind (length self.old.entries.variables)) }
+        ensures holds { IfOk result (λ r. HoldsArg cx.new.nodes r) }
+        ensures entries { OnOk result (IsAddedTo self.old.entries self.new.entries (unset_variable kind universe) sub_root_of) }
+        ensures saved { self.new.saved ≡ self.old.saved }
+        ensures mode { self.new.mode ≡ self.old.mode }
+        ensures table { IsTable cx.new.nodes self.new }
+        ensures extends { Extends cx.old.nodes cx.new.nodes }
+        ensures rest { KeepsRest cx.old cx.new }
+        ensures err { OnErr result (self.new ≡ self.old) }
+        ensures memory { IsOkUnless result Fault.Memory }
+    {
+        let number = self.variable_count();
+        let sub_link = match sub_root_of {
+            Some(other) => Some(self.sub_root(other)),
+            None => None,
+        };
+        let node = cx
+            .nodes
+            .make(Label::Leaf(Leaf::Variable(kind, number)), &[])?;
+        self.add(Variable {
+            kind,
+            universe,
+            state: State::Unset,
+            sub_link,
+        })?;
+        Ok(GenericArg { node })
     }
 
     fn add_unset(&mut self, kind: VariableKind, universe: u32) -> Result<(), Fault>

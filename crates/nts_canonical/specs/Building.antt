@@ -1,0 +1,81 @@
+-- What a canonical input becomes in a new table.
+use Rattle.std.specs.Prelude.{◌≡◌, ℕ, false, List, [], ◌∷◌, map, length, slice_get, Option, Some, None}
+use Rattle.nts_model.specs.declared.labels.Leaf.TheVariants as leaf
+use Rattle.nts_model.specs.declared.labels.VariableKind.TheVariants as kind
+use Rattle.nts_model.specs.declared.labels.Label.TheVariants as label
+use Rattle.nts_model.specs.Trees.{Tree, node, any_label, is_infer, is_region_infer}
+use Rattle.nts_model.specs.Contents.{Content}
+use Rattle.nts_model.specs.Resolving.{Knows}
+use Rattle.nts_model.specs.Substitutions.{leaf_tree}
+use Rattle.nts_model.specs.Inputs.{PositionKind, type_variable, integer_variable, float_variable, const_variable, region_variable, placeholder}
+use Rattle.nts_terms.specs.Filled.{HasValues}
+use Rattle.nts_terms.specs.declared.handles.AliasTerm.{AliasTerm}
+use Rattle.nts_terms.specs.declared.handles.Ty.{Ty}
+use Rattle.nts_terms.specs.declared.handles.GenericArg.{GenericArg}
+use Rattle.nts_terms.specs.Growth.{tree_at}
+use Rattle.nts_terms.specs.Handles.{HoldsArg}
+use Rattle.nts_table.specs.declared.contents.HiddenType.{HiddenType}
+use Rattle.nts_table.specs.Entries.{Entries, added}
+use Rattle.nts_table.specs.Making.{unset_variable, IsAddedTo}
+use Rattle.nts_table.specs.Reading.{content_of}
+use Rattle.nts_table.specs.Registering.{Registers}
+use Rattle.nts_canonical.specs.declared.types.CanonicalInput.{CanonicalInput}
+use Rattle.nts_canonical.specs.Forms.{kind_of_var, query_tree, HoldsQuery}
+use Rattle.nts_canonical.specs.Kinds.{AreInputKinds, value_leaf, value_leaves, made_variables}
+
+abbrev pub kinds_of : CanonicalInput → List PositionKind
+kinds_of c = map kind_of_var c.canonical.var_kinds.items
+
+-- the leaves that stand for its positions in a new table
+abbrev pub values_of : CanonicalInput → List Tree
+values_of c = map leaf_tree (value_leaves 0 (kinds_of c))
+
+abbrev pub HasNoVariable : Tree → Type 0
+HasNoVariable t = (any_label is_infer t ≡ false) × (any_label is_region_infer t ≡ false)
+
+-- an input that a table can be made for: its kinds are those of inputs, each position that its terms name is of the
+-- sort of its kind, and they hold no variable
+pub record IsInputOf (ts : List Tree) (c : CanonicalInput) : Type 0 where
+  pub holds : HoldsQuery ts c.canonical.value
+  pub universe : c.canonical.max_universe ≡ 0
+  pub kinds : AreInputKinds (kinds_of c)
+  pub positions : HasValues (values_of c) (query_tree ts c.canonical.value)
+  pub no_variable : HasNoVariable (query_tree ts c.canonical.value)
+
+-- the type variable that a tree is
+abbrev pub type_variable_of : Option Tree → Option ℕ
+type_variable_of (Some (node (label.Leaf (leaf.Variable kind.Ty n)) c)) = Some n
+type_variable_of t = None
+
+-- what the value of a kind in a universe adds to a table, where the earlier positions have these values: a variable,
+-- or nothing for a placeholder. A type variable is of one sub root with the value at its sub root, if that is a type
+-- variable at an earlier position
+abbrev pub AddsValue : PositionKind → ℕ → List Tree → Entries → Entries → Type 0
+AddsValue (type_variable w r) u values e f = IsAddedTo e f (unset_variable kind.Ty u) (type_variable_of (slice_get values r))
+AddsValue integer_variable u values e f = f ≡ added e (unset_variable kind.Int 0)
+AddsValue float_variable u values e f = f ≡ added e (unset_variable kind.Float 0)
+AddsValue (const_variable w) u values e f = f ≡ added e (unset_variable kind.Const u)
+AddsValue (region_variable w) u values e f = f ≡ added e (unset_variable kind.Region u)
+AddsValue (placeholder s w a) u values e f = f ≡ e
+
+-- the tree is the value: the new variable, or the placeholder
+pub record IsValueOf (k : PositionKind) (u : ℕ) (values : List Tree) (e f : Entries) (t : Tree) : Type 0 where
+  pub tree : t ≡ leaf_tree (value_leaf k u (length e.variables))
+  pub adds : AddsValue k u values e f
+
+-- an argument of the store whose variables the table has
+pub record IsArgOf (ts : List Tree) (e : Entries) (x : GenericArg) : Type 0 where
+  pub holds : HoldsArg ts x
+  pub known : Knows (content_of ts e) (tree_at ts x.node)
+
+-- a table of the variables of these kinds alone, with these hidden types
+abbrev pub made_entries : List PositionKind → List HiddenType → Entries
+made_entries ks hs = record { variables = made_variables [] ks; order = []; universe = 0; constraints = []; hidden = hs }
+
+abbrev pub hidden_of : AliasTerm × Ty → HiddenType
+hidden_of h = record { alias = h.0.def_id; args = h.0.args; ty = h.1 }
+
+-- hidden types are registered in their order: of one alias the last stays
+abbrev pub RegistersAll : List Tree → Content → List HiddenType → List (AliasTerm × Ty) → List HiddenType → Type 0
+RegistersAll ts c xs [] ys = ys ≡ xs
+RegistersAll ts c xs (h ∷ hs) ys = (zs : List HiddenType) × (older : Option Ty) × Registers ts c xs (hidden_of h) zs older × RegistersAll ts c zs hs ys
