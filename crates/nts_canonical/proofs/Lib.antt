@@ -11,3 +11,6 @@ pub mod Trying
 pub mod Making
 pub mod Kinded
 pub mod Adding
+pub mod Valued
+pub mod Registered
+pub mod Built

@@ -1,20 +1,59 @@
 //! A table for a canonical input.
-ghost use Rattle.std.specs.Prelude.{◌≡◌, ℕ, List, map, All, IfOk, OnOk, OnErr, IsOkUnless};
+ghost use Rattle.std.specs.Prelude.{◌≡◌, ℕ, List, [], map, All, IfOk, OnOk, OnErr, IsOkUnless};
 ghost use Rattle.std.specs.Prelude.{slice_get};
 ghost use Rattle.nts_model.specs.Substitutions.{leaf_tree};
+ghost use Rattle.nts_model.specs.Handlers.{filled};
+ghost use Rattle.nts_model.specs.Resolving.{Knows};
+ghost use Rattle.nts_model.specs.Inputs.{HaveKinds};
+ghost use Rattle.nts_terms.specs.Modes.{mode_of};
+ghost use Rattle.nts_canonical.specs.SubRoots.{sub_root_in};
 ghost use Rattle.nts_terms.specs.Growth.{tree_at, IsIn, Extends};
 ghost use Rattle.nts_terms.specs.Handles.{HoldsArg};
 ghost use Rattle.nts_terms.specs.Rest.{KeepsRest};
-ghost use Rattle.nts_table.specs.Reading.{IsTable};
-ghost use Rattle.nts_canonical.specs.Forms.{kind_of_var, trees_of};
-ghost use Rattle.nts_canonical.specs.Kinds.{universe_of_kind};
-ghost use Rattle.nts_canonical.specs.Building.{type_variable_of, IsValueOf, IsArgOf};
+ghost use Rattle.nts_table.specs.Reading.{content_of, IsHiddenType, IsTable};
+ghost use Rattle.nts_canonical.specs.Forms.{kind_of_var, form_of, query_tree, trees_of, HoldsQuery};
+ghost use Rattle.nts_canonical.specs.Kinds.{AreInputKinds, universe_of_kind, value_leaves, made_variables};
+ghost use Rattle.nts_canonical.specs.Replaced.{AreLeafArgs};
+ghost use Rattle.nts_canonical.specs.Building.{kinds_of, values_of, made_entries, type_variable_of, IsInputOf, IsValueOf, IsArgOf, hidden_of, RegistersAll};
 
-use crate::types::CanonicalVarKind;
+use crate::instantiate::instantiate_canonical;
+use crate::types::{CanonicalInput, CanonicalVarKind, QueryInput};
 use nts_model::{Constant, FreeRegion, Label, Leaf, VariableKind};
 use nts_table::InferCtxt;
-use nts_terms::{Cx, Fault, GenericArg, Nodes, Span, UniverseIndex};
+use nts_terms::{AliasTerm, Cx, Fault, GenericArg, Nodes, Span, Ty, UniverseIndex};
 use std::alloc::AllocError;
+
+/// A table for a canonical input, in its mode: a new variable stands for each position that is a
+/// variable, and a placeholder for each other one, type variables share sub roots as the kinds say, and the
+/// hidden types of the input are registered, where of one alias the last stays. Answered are the table, the
+/// query with these values in its positions, and the values in the order of positions.
+pub fn build_with_canonical(
+    cx: &mut Cx,
+    input: &CanonicalInput,
+) -> Result<(InferCtxt, QueryInput, Vec<GenericArg>), Fault>
+    requires { IsInputOf cx.old.nodes input.now }
+    ensures values { IfOk result (λ r. trees_of cx.new.nodes r.2.items ≡ values_of input.now) }
+    ensures query { IfOk result (λ r. query_tree cx.new.nodes r.1 ≡ filled (values_of input.now) (query_tree cx.old.nodes input.now.canonical.value)) }
+    ensures entries { IfOk result (λ r. r.0.entries ≡ made_entries (kinds_of input.now) r.0.entries.hidden) }
+    ensures kinds { IfOk result (λ r. HaveKinds (form_of cx.old.nodes input.now) (value_leaves 0 (kinds_of input.now)) (sub_root_in r.0.entries)) }
+    ensures hidden { IfOk result (λ r. RegistersAll cx.new.nodes (content_of cx.new.nodes r.0.entries) [] r.1.predefined_opaques_in_body.items r.0.entries.hidden) }
+    ensures mode { IfOk result (λ r. mode_of r.0.mode ≡ mode_of input.now.typing_mode) }
+    ensures saved { IfOk result (λ r. r.0.saved ≡ []) }
+    ensures table { IfOk result (λ r. IsTable cx.new.nodes r.0) }
+    ensures args { IfOk result (λ r. All (IsArgOf cx.new.nodes r.0.entries) r.2.items) }
+    ensures holds { IfOk result (λ r. HoldsQuery cx.new.nodes r.1) }
+    ensures knows { IfOk result (λ r. Knows (content_of cx.new.nodes r.0.entries) (query_tree cx.new.nodes r.1)) }
+    ensures extends { Extends cx.old.nodes cx.new.nodes }
+    ensures rest { KeepsRest cx.old cx.new }
+    ensures memory { IsOkUnless result Fault.Memory }
+{
+    let mode = input.typing_mode.clone()?;
+    let mut table = InferCtxt::new(cx.alloc, mode);
+    let values = make_values(&mut table, cx, &input.canonical.var_kinds)?;
+    let query = instantiate_canonical(cx, &input.canonical, values.as_slice())?;
+    register_hidden(&mut table, cx, &query.predefined_opaques_in_body)?;
+    Ok((table, query, values))
+}
 
 /// The value of a position of that kind: a new variable, or the placeholder, in the universe that
 /// `universe_map` answers for the kind's. Those of integers and floats are of the root.
@@ -129,4 +168,55 @@ pub(crate) fn leaf_arg(nodes: &mut Nodes, leaf: Leaf) -> Result<GenericArg, Allo
 {
     let node = nodes.make(Label::Leaf(leaf), &[])?;
     Ok(GenericArg { node })
+}
+
+/// The values of kinds, in their order.
+fn make_values(
+    table: &mut InferCtxt,
+    cx: &mut Cx,
+    kinds: &[CanonicalVarKind],
+) -> Result<Vec<GenericArg>, Fault>
+    requires table { IsTable cx.old.nodes table.old }
+    requires empty { table.old.entries.variables ≡ [] }
+    requires kinds { AreInputKinds (map kind_of_var kinds.now) }
+    ensures values { IfOk result (λ v. AreLeafArgs cx.new.nodes v.items (value_leaves 0 (map kind_of_var kinds.now))) }
+    ensures entries { OnOk result (table.new.entries ≡ record table.old.entries { variables = made_variables [] (map kind_of_var kinds.now) }) }
+    ensures saved { table.new.saved ≡ table.old.saved }
+    ensures mode { table.new.mode ≡ table.old.mode }
+    ensures table { IsTable cx.new.nodes table.new }
+    ensures extends { Extends cx.old.nodes cx.new.nodes }
+    ensures rest { KeepsRest cx.old cx.new }
+    ensures memory { IsOkUnless result Fault.Memory }
+{
+    let mut values = Vec::with_capacity(cx.alloc, kinds.len())?;
+    for i in 0..kinds.len() {
+        let kind = kinds[i];
+        let value = value_in(table, cx, kind, universe_of(kind), values.as_slice())?;
+        values.push(value)?;
+    }
+    Ok(values)
+}
+
+/// Registers hidden types in their order.
+fn register_hidden(
+    table: &mut InferCtxt,
+    cx: &mut Cx,
+    hidden: &[(AliasTerm, Ty)],
+) -> Result<(), Fault>
+    requires table { IsTable cx.old.nodes table.old }
+    requires hidden { All (λ h. IsHiddenType cx.old.nodes (content_of cx.old.nodes table.old.entries) (hidden_of h)) hidden.now }
+    ensures registered { OnOk result (RegistersAll cx.new.nodes (content_of cx.new.nodes table.old.entries) table.old.entries.hidden hidden.now table.new.entries.hidden) }
+    ensures entries { OnOk result (table.new.entries ≡ record table.old.entries { hidden = table.new.entries.hidden }) }
+    ensures saved { table.new.saved ≡ table.old.saved }
+    ensures mode { table.new.mode ≡ table.old.mode }
+    ensures table { IsTable cx.new.nodes table.new }
+    ensures extends { Extends cx.old.nodes cx.new.nodes }
+    ensures rest { KeepsRest cx.old cx.new }
+    ensures memory { IsOkUnless result Fault.Memory }
+{
+    for i in 0..hidden.len() {
+        let (alias, ty) = hidden[i];
+        table.register_hidden_type_in_storage(cx, alias, ty, Span(0))?;
+    }
+    Ok(())
 }

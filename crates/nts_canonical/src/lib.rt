@@ -19,7 +19,7 @@ mod types;
 mod var_kinds;
 
 pub use alike::same_input;
-pub use build::instantiate_canonical_var;
+pub use build::{build_with_canonical, instantiate_canonical_var};
 pub use canonicalize::canonicalize_goal;
 pub use instantiate::instantiate_canonical;
 pub use types::{Canonical, CanonicalInput, CanonicalVarKind, QueryInput};

@@ -25,3 +25,4 @@ mod RefusalLemmas
 pub mod Looking
 pub mod Telling
 pub mod Conditions
+pub mod Filling

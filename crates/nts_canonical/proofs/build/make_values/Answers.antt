@@ -1,0 +1,29 @@
+use Rattle.std.proofs.Common.{ap, ◌∙◌, arith, map, take}
+use Rattle.std.proofs.lemmas.Option.{slice_get-get_or}
+use Rattle.nts_terms.proofs.Growing.{Extends-trans}
+use Rattle.nts_terms.proofs.Moved.{KeepsRest-trans}
+use Rattle.nts_table.proofs.Changes.{slice_get-map}
+use Rattle.nts_canonical.specs.Forms.{kind_of_var}
+use Rattle.nts_canonical.proofs.Valued.{args-known, made_more}
+use Rattle.nts_canonical.proofs.build.make_values.Goals as goal
+
+pub value_in-requires-clause-values : goal.value_in-requires-clause-values
+value_in-requires-clause-values c =
+    let m = c.loop-i.invariant.made in
+    rw c.as_slice.ensures.value (args-known c.loop-i.cx.nodes c.loop-i.table.entries c.loop-i.values.items (take c.loop-i.i (map kind_of_var c.args.kinds.now)) m.args (ap (λ e. e.variables) m.entries))
+
+pub loop-i-preserved : goal.loop-i-preserved
+loop-i-preserved c =
+    let i = c.loop-i.invariant in
+    let r = c.in_ok-value.ensures in
+    let a = c.loop-i.cx.nodes in
+    let b = c.value_in.new.cx.nodes in
+    let at = slice_get-map kind_of_var c.args.kinds.now c.loop-i.i _ (slice_get-get_or c.args.kinds.now c.loop-i.i _ (omega (arith, c.loop-i-test.true))) in
+    record {
+      made = made_more a b c.loop-i.values.items c.push.new.self.items c.in_ok-value.value c.args.table.now.entries c.loop-i.table.entries c.value_in.new.table.entries (map kind_of_var c.args.kinds.now) c.loop-i.i _ _ _ i.made c.requires.kinds at i.table.now.descends r.extends r.holds r.value c.universe_of.ensures c.as_slice.ensures.value c.in_ok-push.ensures.items;
+      saved = r.saved ∙ i.saved;
+      mode = r.mode ∙ i.mode;
+      table = r.table;
+      extends = Extends-trans i.extends r.extends;
+      rest = KeepsRest-trans i.rest r.rest;
+    }

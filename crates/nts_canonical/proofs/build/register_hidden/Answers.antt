@@ -1,0 +1,38 @@
+use Rattle.std.proofs.Common.{refl, ◌∙◌, arith}
+use Rattle.std.specs.Prelude.{All}
+use Rattle.nts_table.specs.Reading.{content_of, IsHiddenType}
+use Rattle.nts_terms.proofs.Growing.{Extends-trans}
+use Rattle.nts_terms.proofs.Moved.{KeepsRest-trans}
+use Rattle.nts_table.specs.Lawful.{IsLawful-extended}
+use Rattle.nts_canonical.specs.Building.{hidden_of}
+use Rattle.nts_canonical.proofs.Registered.{registered_more, hidden-now}
+use Rattle.nts_canonical.proofs.build.register_hidden.Goals as goal
+
+pub register_hidden_type_in_storage-requires-clause-args_known : goal.register_hidden_type_in_storage-requires-clause-args_known
+register_hidden_type_in_storage-requires-clause-args_known c =
+    let i = c.loop-i.invariant in
+    (hidden-now c.args.cx.now.nodes c.loop-i.cx.nodes c.args.table.now.entries c.loop-i.table.entries _ c.requires.table.now i.entries i.extends (c.requires.hidden c.loop-i.i _ (omega (arith, c.loop-i-test.true)))).args_known
+
+pub register_hidden_type_in_storage-requires-clause-ty_known : goal.register_hidden_type_in_storage-requires-clause-ty_known
+register_hidden_type_in_storage-requires-clause-ty_known c =
+    let i = c.loop-i.invariant in
+    (hidden-now c.args.cx.now.nodes c.loop-i.cx.nodes c.args.table.now.entries c.loop-i.table.entries _ c.requires.table.now i.entries i.extends (c.requires.hidden c.loop-i.i _ (omega (arith, c.loop-i-test.true)))).ty_known
+
+pub loop-i-preserved : goal.loop-i-preserved
+loop-i-preserved c =
+    let i = c.loop-i.invariant in
+    let r = c.in_ok-register_hidden_type_in_storage.ensures in
+    let e = c.args.table.now.entries in
+    let a = c.loop-i.cx.nodes in
+    let b = c.register_hidden_type_in_storage.new.cx.nodes in
+    let g = IsLawful-extended i.extends c.requires.table.now in
+    let all : All (λ h. IsHiddenType a (content_of a e) (hidden_of h)) c.args.hidden.now = λ k d l. hidden-now c.args.cx.now.nodes a e e (hidden_of _) c.requires.table.now refl i.extends (c.requires.hidden k d l) in
+    record {
+      registered = registered_more a b e c.loop-i.table.entries c.register_hidden_type_in_storage.new.self.entries.hidden c.args.hidden.now c.loop-i.i _ _ g i.table.now i.entries r.extends all (omega (arith, c.loop-i-test.true)) i.registered r.registered;
+      entries = r.entries ∙ (λ j. record (i.entries j) { hidden = c.register_hidden_type_in_storage.new.self.entries.hidden });
+      saved = r.saved ∙ i.saved;
+      mode = r.mode ∙ i.mode;
+      table = r.table;
+      extends = Extends-trans i.extends r.extends;
+      rest = KeepsRest-trans i.rest r.rest;
+    }

@@ -1,0 +1,17 @@
+use Rattle.std.proofs.Common.{◌≡◌, take}
+use Rattle.nts_terms.specs.Growth.{Extends}
+use Rattle.nts_terms.specs.Rest.{KeepsRest}
+use Rattle.nts_table.specs.Reading.{content_of, IsTable}
+use Rattle.nts_canonical.specs.Building.{RegistersAll}
+use Rattle.nts_canonical.proofs.build.register_hidden.Given as goal
+
+abbrev pub invariant-loop-i : goal.invariant-loop-i
+invariant-loop-i l = record {
+  registered : RegistersAll l.cx.nodes (content_of l.cx.nodes l.fn.table.entries) l.fn.table.entries.hidden (take l.i l.hidden) l.table.entries.hidden;
+  entries : l.table.entries ≡ record l.fn.table.entries { hidden = l.table.entries.hidden };
+  saved : l.table.saved ≡ l.fn.table.saved;
+  mode : l.table.mode ≡ l.fn.table.mode;
+  table : IsTable l.cx.nodes l.table;
+  extends : Extends l.fn.cx.nodes l.cx.nodes;
+  rest : KeepsRest l.fn.cx l.cx;
+}
