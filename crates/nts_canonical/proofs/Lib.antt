@@ -14,3 +14,4 @@ pub mod Adding
 pub mod Valued
 pub mod Registered
 pub mod Built
+pub mod Handed

@@ -11,6 +11,7 @@ ghost use Rattle.nts_terms.specs.Handles.{HoldsArg, HoldsEnv, HoldsPredicate};
 ghost use Rattle.nts_terms.specs.Rest.{KeepsRest};
 ghost use Rattle.nts_table.specs.Reading.{content_of, IsTable};
 ghost use Rattle.nts_canonical.specs.Forms.{hidden_row, query_tree, form_of, input_of, trees_of, IsHidden, AreHidden, HoldsQuery};
+ghost use Rattle.nts_canonical.specs.Building.{IsInputOf};
 ghost use Rattle.nts_canonical.specs.Replaced.{IsImage, AreImages, AreLeafArgs};
 
 use crate::collecting::collect;
@@ -44,6 +45,7 @@ pub fn canonicalize_goal(
     ensures mode { IfOk result (λ r. r.1.typing_mode ≡ mode) }
     ensures originals { IfOk result (λ r. trees_of cx.new.nodes r.0.items ≡ map leaf_tree (originals (input_of cx.old.nodes table.now.entries goal opaque_types.now))) }
     ensures positions { any_label is_canonical (whole (input_of cx.old.nodes table.now.entries goal opaque_types.now)) ≡ false → IfOk result (λ r. HasValues (trees_of cx.new.nodes r.0.items) (query_tree cx.new.nodes r.1.canonical.value)) }
+    ensures input { any_label is_canonical (whole (input_of cx.old.nodes table.now.entries goal opaque_types.now)) ≡ false → IfOk result (λ r. IsInputOf cx.new.nodes r.1) }
     ensures holds_originals { IfOk result (λ r. All (HoldsArg cx.new.nodes) r.0.items) }
     ensures holds { IfOk result (λ r. HoldsQuery cx.new.nodes r.1.canonical.value) }
     ensures extends { Extends cx.old.nodes cx.new.nodes }

@@ -1,10 +1,11 @@
-use Rattle.std.proofs.Common.{ap, ◌∙◌, map}
+use Rattle.std.proofs.Common.{refl, ap, ◌∙◌, map}
 use Rattle.nts_model.specs.Substitutions.{leaf_tree}
 use Rattle.nts_model.specs.Inputs.{position_kind}
 use Rattle.nts_canonical.specs.SubRoots.{sub_root_in}
 use Rattle.nts_canonical.specs.Forms.{input_of}
 use Rattle.nts_canonical.proofs.PairLists.{are_hidden-kept, AreLeafArgs-kept, trees_of-leaves, AreLeafArgs-hold}
 use Rattle.nts_canonical.proofs.Canonizing.{owned-originals, distinct-originals, form_is}
+use Rattle.nts_canonical.proofs.Handed.{handed_in, form-kinds, form-positions, form-no_variable}
 use Rattle.nts_canonical.proofs.Having.{originals_are_values, values_of}
 use Rattle.nts_canonical.proofs.canonicalize.canonicalize_goal.Goals as goal
 
@@ -43,3 +44,8 @@ pub returns-clause-positions : goal.returns-clause-positions
 returns-clause-positions c =
     λ h. (let i = input_of c.args.cx.now.nodes c.args.table.now.entries c.args.goal c.args.opaque_types.now in
     values_of (originals_are_values i h) (returns-clause-form c) (returns-clause-originals c))
+
+pub returns-clause-input : goal.returns-clause-input
+returns-clause-input c =
+    λ h. (let i = input_of c.args.cx.now.nodes c.args.table.now.entries c.args.goal c.args.opaque_types.now in
+    handed_in c.in_ok-value.ensures.holds refl (returns-clause-form c) (form-kinds i) (form-positions i h) (form-no_variable i))
