@@ -211,9 +211,9 @@ module _ (e : Entries) (ks : List PositionKind) (h : IsMadeFor e ks) where
       let d = leaf.Region region.Static in
       let below = within r (type_variable 0 r) first in
       position_or_len_is (share (sub_root_in e) (leaf.Variable kind.Ty n)) s r d (omega (arith, below))
-          (λ j l. (let some_kind = slice_get-get_or ks j integer_variable (let r_in = slice_get_within ks r _ first in omega (arith, l, r_in)) in
-          rw (at-place j _ d some_kind) (not-shared n r r j (get_or ks j integer_variable) root first l some_kind)))
-          (λ l. rw (at-place r (type_variable 0 r) d first, root, root-first e ks r h.descends h.made first) (eq-self (variables_before ks r)))
+      (λ j l. (let some_kind = slice_get-get_or ks j integer_variable (let r_in = slice_get_within ks r _ first in omega (arith, l, r_in)) in
+      rw (at-place j _ d some_kind) (not-shared n r r j (get_or ks j integer_variable) root first l some_kind)))
+      (λ l. rw (at-place r (type_variable 0 r) d first, root, root-first e ks r h.descends h.made first) (eq-self (variables_before ks r)))
 
   kind-given : (i : ℕ) (k : PositionKind) → slice_get ks i ≡ Some k → position_kind (sub_root_in e) s (value_leaf k (universe_of_kind k) (variables_before ks i)) ≡ k
   kind-given i (type_variable u r) q =

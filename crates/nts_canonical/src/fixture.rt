@@ -5,14 +5,18 @@ ghost use Rattle.nts_terms.specs.Kinds.{TyFits};
 ghost use Rattle.nts_terms.specs.Signatures.{TyIsDeclared};
 ghost use Rattle.nts_table.specs.Reading.{IsTable};
 ghost use Rattle.nts_canonical.specs.Forms.{HoldsQuery};
+ghost use Rattle.nts_canonical.specs.Building.{IsInputOf};
 
-use crate::{CanonicalInput, canonicalize_goal, instantiate_canonical, same_input};
+use crate::{
+    CanonicalInput, CanonicalVarKind, build_with_canonical, canonicalize_goal,
+    instantiate_canonical, instantiate_canonical_var, same_input,
+};
 use nts_model::{BoundIndex, Sort, Variance};
 use nts_table::InferCtxt;
 use nts_terms::{
     AliasId, AliasKind, AliasTerm, Binder, BoundTy, ClauseKind, CtorId, Cx, DefId, GenericArg,
-    GenericArgs, Goal, ParamEnv, PlaceholderType, Predicate, PredicateKind, RegionKind, TraitId,
-    TraitRef, Ty, TyKind, TypingMode,
+    GenericArgs, Goal, ParamEnv, PlaceholderType, Predicate, PredicateKind, RegionKind, Span,
+    TraitId, TraitRef, Ty, TyKind, TypingMode,
 };
 use std::alloc::Global;
 use std::process::Abort;
@@ -289,5 +293,100 @@ impl Fixture {
         canonicalize_goal(&self.table, &mut self.cx, goal, &[(alias, ty)], mode).expect(
             rt, "memory",
         )
+    }
+
+    /// A table for the canonical input of a goal in the empty environment, where the alias over a type hides
+    /// two types one after the other. It takes the place of this one. Answered are the values, the
+    /// originals of what was made, and whether it has the same canonical input.
+    pub fn rebuilt(
+        &mut self,
+        rt: &impl Abort,
+        predicate: Predicate,
+        of: GenericArg,
+        first: GenericArg,
+        second: GenericArg,
+    ) -> (Vec<GenericArg>, Vec<GenericArg>, bool)
+        requires { IsTable self.old.cx.nodes self.old.table }
+        ensures { IsTable self.new.cx.nodes self.new.table }
+    {
+        let param_env = self.no_env(rt);
+        let args = self.args(rt, &[of]);
+        let first = Ty { node: first.node };
+        let second = Ty { node: second.node };
+        assert!(rt; self.cx.holds(param_env));
+        assert!(rt; self.cx.holds(predicate));
+        assert!(rt; self.cx.holds(args));
+        assert!(rt; self.cx.holds(first));
+        assert!(rt; self.cx.holds(second));
+        assert!(rt; self.table.knows(&self.cx, param_env).expect(rt, "memory"));
+        assert!(rt; self.table.knows(&self.cx, predicate).expect(rt, "memory"));
+        assert!(rt; self.table.knows(&self.cx, args).expect(rt, "memory"));
+        assert!(rt; self.table.knows(&self.cx, first).expect(rt, "memory"));
+        assert!(rt; self.table.knows(&self.cx, second).expect(rt, "memory"));
+        assert!(rt; !self.cx.has_canonical_bound(param_env));
+        assert!(rt; !self.cx.has_canonical_bound(predicate));
+        assert!(rt; !self.cx.has_canonical_bound(args));
+        assert!(rt; !self.cx.has_canonical_bound(first));
+        assert!(rt; !self.cx.has_canonical_bound(second));
+        let alias = AliasTerm {
+            def_id: self.hidden,
+            args,
+        };
+        let goal = Goal {
+            param_env,
+            predicate,
+        };
+        let hidden = [(alias, first), (alias, second)];
+        let (_, input) = canonicalize_goal(
+            &self.table,
+            &mut self.cx,
+            goal,
+            &hidden,
+            TypingMode::PostAnalysis,
+        )
+        .expect(rt, "memory");
+        self.build(rt, &input)
+    }
+
+    fn build(
+        &mut self,
+        rt: &impl Abort,
+        input: &CanonicalInput,
+    ) -> (Vec<GenericArg>, Vec<GenericArg>, bool)
+        requires { IsInputOf self.old.cx.nodes input.now }
+        ensures { IsTable self.new.cx.nodes self.new.table }
+    {
+        let (table, query, values) = build_with_canonical(&mut self.cx, input).expect(rt, "memory");
+        let (originals, again) = canonicalize_goal(
+            &table,
+            &mut self.cx,
+            query.goal,
+            &query.predefined_opaques_in_body,
+            TypingMode::PostAnalysis,
+        )
+        .expect(rt, "memory");
+        let same = same_input(&self.cx, input, &again);
+        self.table = table;
+        (values, originals, same)
+    }
+
+    /// The value of a kind, where the universes are moved up by one and the positions have these values.
+    pub fn value(
+        &mut self,
+        rt: &impl Abort,
+        kind: CanonicalVarKind,
+        values: &[GenericArg],
+    ) -> GenericArg
+        requires { IsTable self.old.cx.nodes self.old.table }
+        ensures { IsTable self.new.cx.nodes self.new.table }
+    {
+        for value in values {
+            assert!(rt; self.cx.holds(*value));
+            assert!(rt; self.table.knows(&self.cx, *value).expect(rt, "memory"));
+        }
+        instantiate_canonical_var(&mut self.table, &mut self.cx, kind, Span(0), values, |u| {
+            u.saturating_add(1)
+        })
+        .expect(rt, "memory")
     }
 }

@@ -1,8 +1,9 @@
 //! Canonical inputs of goals, case by case.
 use crate::fixture::Fixture;
 use crate::{CanonicalInput, CanonicalVarKind};
-use nts_model::Sort;
-use nts_terms::{GenericArg, RegionKind};
+use nts_model::{Sort, VariableKind};
+use nts_table::State;
+use nts_terms::{BoundRegion, BoundTy, GenericArg, PlaceholderRegion, PlaceholderType, RegionKind};
 use std::process::Abort;
 
 /// Sees that the arguments are these.
@@ -206,4 +207,78 @@ fn hidden_types_are_part_of_an_input(rt: HostRuntime) {
         }
         None => assert!(rt; false),
     }
+}
+
+#[test]
+fn a_table_that_is_made_has_the_input_again(rt: HostRuntime) {
+    let mut fixture = Fixture::new(&rt, rt.alloc());
+    let id = fixture.declare(&rt, &[Sort::Ty, Sort::Ty, Sort::Ty, Sort::Ty]);
+    let a = fixture.ty_var(&rt);
+    let b = fixture.ty_var(&rt);
+    let c = fixture.ty_var(&rt);
+    fixture.join(&rt, 0, 2);
+    let held = fixture.placeholder(&rt, 7);
+    let inside = fixture.wrap(&rt, b);
+    let predicate = fixture.predicate(&rt, id, &[held, a, inside, c]);
+    let (values, originals, same) = fixture.rebuilt(&rt, predicate, b, a, c);
+    assert!(rt; same);
+    are(&rt, &values, &originals);
+    assert_eq!(rt; values.len(), 4);
+    let table = &fixture.table;
+    assert_eq!(rt; table.variable_count(), 3);
+    assert!(rt; table.variable(0).sub_link == None);
+    assert!(rt; table.variable(1).sub_link == None);
+    assert!(rt; table.variable(2).sub_link == Some(0));
+    assert_eq!(rt; table.num_opaque_types(), 1);
+    assert!(rt; GenericArg::from(table.hidden_type(0).ty) == values[3]);
+}
+
+/// Sees the last variable of the table.
+fn is_last(rt: &impl Abort, fixture: &Fixture, kind: VariableKind, universe: u32) {
+    let count = fixture.table.variable_count();
+    assert!(rt; count > 0);
+    let variable = fixture.table.variable(count - 1);
+    assert!(rt; variable.kind == kind);
+    assert_eq!(rt; variable.universe, universe);
+    assert!(rt; variable.state == State::Unset);
+}
+
+#[test]
+fn values_of_kinds(rt: HostRuntime) {
+    let mut fixture = Fixture::new(&rt, rt.alloc());
+    let ty = CanonicalVarKind::Ty { ui: 4, sub_root: 0 };
+    let first = fixture.value(&rt, ty, &[]);
+    is_last(&rt, &fixture, VariableKind::Ty, 5);
+    let second = fixture.value(&rt, ty, &[first]);
+    is_last(&rt, &fixture, VariableKind::Ty, 5);
+    assert!(rt; fixture.table.variable(1).sub_link == Some(0));
+    let third = fixture.value(&rt, ty, &[second]);
+    assert!(rt; fixture.table.variable(2).sub_link == Some(0));
+    fixture.value(&rt, CanonicalVarKind::Int, &[first, third]);
+    is_last(&rt, &fixture, VariableKind::Int, 0);
+    fixture.value(&rt, CanonicalVarKind::Float, &[]);
+    is_last(&rt, &fixture, VariableKind::Float, 0);
+    fixture.value(&rt, CanonicalVarKind::Const(0), &[]);
+    is_last(&rt, &fixture, VariableKind::Const, 1);
+    fixture.value(&rt, CanonicalVarKind::Region(2), &[]);
+    is_last(&rt, &fixture, VariableKind::Region, 3);
+}
+
+#[test]
+fn placeholders_are_moved_into_universes(rt: HostRuntime) {
+    let mut fixture = Fixture::new(&rt, rt.alloc());
+    let bound = BoundTy { var: 3 };
+    let kind = CanonicalVarKind::PlaceholderTy(PlaceholderType { universe: 0, bound });
+    let value = fixture.value(&rt, kind, &[]);
+    let wanted = fixture.placeholder(&rt, 3);
+    assert!(rt; value == wanted);
+    let bound = BoundRegion { var: 2 };
+    let region = PlaceholderRegion { universe: 6, bound };
+    let value = fixture.value(&rt, CanonicalVarKind::PlaceholderRegion(region), &[]);
+    let wanted = fixture.region(
+        &rt,
+        RegionKind::RePlaceholder(PlaceholderRegion { universe: 7, bound }),
+    );
+    assert!(rt; value == wanted);
+    assert_eq!(rt; fixture.table.variable_count(), 0);
 }
