@@ -54,6 +54,7 @@ Goes-trans {a} {b} {c} {t} {u} {v} g h =
       continues = Continues-trans (content_of a t.entries) (content_of b u.entries) (content_of c v.entries) g.sound g.continues h.continues;
       saved = h.saved ∙ g.saved;
       mode = h.mode ∙ g.mode;
+      hidden = h.hidden ∙ g.hidden;
     }
 
 -- a store that grows beside the table
@@ -68,6 +69,7 @@ Goes-extends {a} {b} {t} h e =
       continues = rw same (Continues-refl (content_of a t.entries) h.now.sound);
       saved = refl;
       mode = refl;
+      hidden = refl;
     }
 
 Holds-extended : {a b : List Tree} {p : _} {n : NodeId} → Extends a b → Holds p a n → Holds p b n
@@ -291,6 +293,11 @@ continues-fresh ts e (s ∷ ss) h =
     let one : Continues (content_of ts e) (content_of ts next) = rw same (Continues-with_slot (content_of ts e) (slot_of ts v) refl h) in
     Continues-trans (content_of ts e) (content_of ts next) (content_of ts (with_fresh next ss)) h one (continues-fresh ts next ss sound)
 
+-- new variables leave the hidden types
+hidden-with_fresh : (e : Entries) (ss : List Sort) → (with_fresh e ss).hidden ≡ e.hidden
+hidden-with_fresh e [] = refl
+hidden-with_fresh e (s ∷ ss) = hidden-with_fresh (added e (new_variable e (variable_kind s))) ss
+
 -- what a table has after new variables
 pub record GaveFresh (a b : List Tree) (t u : Table) (fresh : List Sort) (vs : List NodeId) : Type 0 where
   pub goes : Goes a b t u
@@ -309,6 +316,7 @@ gave_fresh {a} {b} {t} {u} fresh vs h e k q s m w r =
         known = λ x z. rw q (Knows-kept (content_of b t.entries) (content_of b (with_fresh t.entries fresh)) x kinds (rw same z));
         saved = s;
         mode = m;
+        hidden = ap (λ (z : Entries). z.hidden) q ∙ hidden-with_fresh t.entries fresh;
       };
       values = record {
         within = w;
@@ -327,8 +335,8 @@ KeepsRest-trans g h =
     }
 
 -- a call on the store and the table
-pub goes : {a b : List Tree} {t u : Table} → IsTable a t → Extends a b → IsTable b u → IsLater (content_of a t.entries) (content_of b u.entries) → Continues (content_of a t.entries) (content_of b u.entries) → u.saved ≡ t.saved → u.mode ≡ t.mode → Goes a b t u
-goes {a} {b} {t} {u} w e h k n s m = record { sound = w.now.sound; continues = n; extends = e; table = h; known = λ x. Knows-kept (content_of a t.entries) (content_of b u.entries) x (record { kinds = k.kinds }); saved = s; mode = m }
+pub goes : {a b : List Tree} {t u : Table} → IsTable a t → Extends a b → IsTable b u → IsLater (content_of a t.entries) (content_of b u.entries) → Continues (content_of a t.entries) (content_of b u.entries) → u.saved ≡ t.saved → u.mode ≡ t.mode → u.entries.hidden ≡ t.entries.hidden → Goes a b t u
+goes {a} {b} {t} {u} w e h k n s m d = record { sound = w.now.sound; continues = n; extends = e; table = h; known = λ x. Knows-kept (content_of a t.entries) (content_of b u.entries) x (record { kinds = k.kinds }); saved = s; mode = m; hidden = d }
 
 pub kind-kept : {a b : List Tree} {x : NodeId} → Extends a b → IsIn a x → kind_of (tree_at b x) ≡ kind_of (tree_at a x)
 kind-kept {a} {b} {x} e w = ap kind_of (e.kept x w)
@@ -363,6 +371,7 @@ goes-constrained {a} {t} {u} x h l r k j n e s m =
       known = λ y q. rw (e, same) (Knows-kept (content_of a t.entries) (with_constraint (content_of a t.entries) (recorded_of a x)) y (record { kinds = λ n i z. z }) q);
       saved = s;
       mode = m;
+      hidden = ap (λ (z : Entries). z.hidden) e;
     }
 
 -- all was undone
@@ -370,9 +379,9 @@ pub goes-back : {a b : List Tree} {t u : Table} → IsTable a t → Extends a b 
 goes-back {a} {b} {t} {u} h e q = rw q (Goes-extends h e)
 
 -- .. that makes two trees equal, or leaves the table
-pub related_goes : {a b : List Tree} {t u : Table} {E : Type 0} (x y : Tree) (r : Result (Unit {0}) E) → IsTable a t → Extends a b → IsTable b u → IsLater (content_of a t.entries) (content_of b u.entries) → u.saved ≡ t.saved → u.mode ≡ t.mode → OnOk r (AreRelated (content_of a t.entries) (content_of b u.entries) x y) → OnErr r (u ≡ t) → Goes a b t u
-related_goes x y (Ok z) w e h k s m n q = goes w e h k n.continues s m
-related_goes x y (Err z) w e h k s m n q = goes-back w e q
+pub related_goes : {a b : List Tree} {t u : Table} {E : Type 0} (x y : Tree) (r : Result (Unit {0}) E) → IsTable a t → Extends a b → IsTable b u → IsLater (content_of a t.entries) (content_of b u.entries) → u.saved ≡ t.saved → u.mode ≡ t.mode → u.entries.hidden ≡ t.entries.hidden → OnOk r (AreRelated (content_of a t.entries) (content_of b u.entries) x y) → OnErr r (u ≡ t) → Goes a b t u
+related_goes x y (Ok z) w e h k s m d n q = goes w e h k n.continues s m d
+related_goes x y (Err z) w e h k s m d n q = goes-back w e q
 
 -- after a snapshot, a step, and its rollback the table is as it was
 pub rolled_back : {a b : List Tree} {t s u v : Table} → s.saved ≡ t.saved ++ t.entries ∷ [] → Goes a b s u → u.saved ≡ v.saved ++ v.entries ∷ [] → s.mode ≡ t.mode → v.mode ≡ u.mode → v ≡ t
@@ -390,6 +399,7 @@ committed {a} {b} {t} {s} {u} {v} e same opened h step kept closed first last =
       known = λ x k. rw kept (step.known x (rw same k));
       saved = ends.0;
       mode = last ∙ step.mode ∙ first;
+      hidden = ap (λ (z : Entries). z.hidden) kept ∙ step.hidden ∙ ap (λ (z : Entries). z.hidden) same;
     }
 
 pub candidate_at : (ts : List Tree) (g : Goal) (cs : List CandidateData) (k : ℕ) (d : CandidateData) → AreCandidates ts g cs → k < length cs → IsCandidate ts g (get_or cs k d)

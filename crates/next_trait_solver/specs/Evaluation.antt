@@ -21,7 +21,7 @@ use Rattle.nts_table.specs.Reading.{content_of, IsTable}
 use Rattle.next_trait_solver.specs.Candidates.{HoldsGoal, KnowsGoal}
 
 -- the store and the table later on: terms keep their trees, known variables stay known, the table has
--- all that it had, the snapshots that were open are open, and the mode is the same
+-- all that it had, the snapshots that were open are open, and the mode and the hidden types are the same
 pub record Goes (ts us : List Tree) (t u : Table) : Type 0 where
   pub sound : IsSound (content_of ts t.entries)
   pub extends : Extends ts us
@@ -30,6 +30,7 @@ pub record Goes (ts us : List Tree) (t u : Table) : Type 0 where
   pub continues : Continues (content_of ts t.entries) (content_of us u.entries)
   pub saved : u.saved ≡ t.saved
   pub mode : u.mode ≡ t.mode
+  pub hidden : u.entries.hidden ≡ t.entries.hidden
 
 -- a goal of the store and the table
 pub record IsPosed (ts : List Tree) (t : Table) (g : Goal) : Type 0 where

@@ -79,6 +79,7 @@ impl InferCtxt {
         ensures table { (ts : List Tree) → IsTable ts self.old → IsTable ts self.new }
         ensures saved { self.new.saved ≡ self.old.saved }
         ensures mode { self.new.mode ≡ self.old.mode }
+        ensures hidden { self.new.entries.hidden ≡ self.old.entries.hidden }
         ensures err { OnErr result (self.new ≡ self.old) }
         ensures memory { IsOkUnless result Fault.Memory }
     {

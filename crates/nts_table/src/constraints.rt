@@ -31,6 +31,7 @@ impl InferCtxt {
         ensures table { IsTable cx.now.nodes self.new }
         ensures saved { self.new.saved ≡ self.old.saved }
         ensures mode { self.new.mode ≡ self.old.mode }
+        ensures hidden { self.new.entries.hidden ≡ self.old.entries.hidden }
         ensures err { OnErr result (self.new ≡ self.old) }
         ensures memory { IsOkUnless result Fault.Memory }
     {
@@ -62,6 +63,7 @@ impl InferCtxt {
         ensures table { IsTable cx.now.nodes self.new }
         ensures saved { self.new.saved ≡ self.old.saved }
         ensures mode { self.new.mode ≡ self.old.mode }
+        ensures hidden { self.new.entries.hidden ≡ self.old.entries.hidden }
         ensures err { OnErr result (self.new ≡ self.old) }
         ensures memory { IsOkUnless result Fault.Memory }
     {
@@ -84,6 +86,7 @@ impl InferCtxt {
         ensures table { IsTable nodes.now self.new }
         ensures saved { self.new.saved ≡ self.old.saved }
         ensures mode { self.new.mode ≡ self.old.mode }
+        ensures hidden { self.new.entries.hidden ≡ self.old.entries.hidden }
         ensures err { OnErr result (self.new ≡ self.old) }
         ensures memory { IsOkUnless result Fault.Memory }
     {

@@ -41,6 +41,7 @@ impl InferCtxt {
         ensures table { IsTable cx.now.nodes self.new }
         ensures saved { self.new.saved ≡ self.old.saved }
         ensures mode { self.new.mode ≡ self.old.mode }
+        ensures hidden { self.new.entries.hidden ≡ self.old.entries.hidden }
         ensures err { OnErr result (self.new ≡ self.old) }
         ensures memory { IsOkUnless result Fault.Memory }
     {
@@ -69,6 +70,7 @@ impl InferCtxt {
         ensures joined { OnOk result (RegionsJoined self.old.entries self.new.entries x y) }
         ensures saved { self.new.saved ≡ self.old.saved }
         ensures mode { self.new.mode ≡ self.old.mode }
+        ensures hidden { self.new.entries.hidden ≡ self.old.entries.hidden }
         ensures err { OnErr result (self.new ≡ self.old) }
         ensures memory { IsOkUnless result Fault.Memory }
     {
@@ -98,6 +100,7 @@ impl InferCtxt {
         ensures linked { OnOk result (RegionsLinked self.old.entries self.new.entries r s) }
         ensures saved { self.new.saved ≡ self.old.saved }
         ensures mode { self.new.mode ≡ self.old.mode }
+        ensures hidden { self.new.entries.hidden ≡ self.old.entries.hidden }
     {
         let low = r.min(s);
         let high = r.max(s);

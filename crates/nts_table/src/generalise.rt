@@ -79,6 +79,7 @@ pub(crate) fn name_variable(
     ensures extends { Extends nodes.old nodes.new }
     ensures saved { table.new.saved ≡ table.old.saved }
     ensures mode { table.new.mode ≡ table.old.mode }
+    ensures hidden { table.new.entries.hidden ≡ table.old.entries.hidden }
     ensures within { IfOk result (λ r. IsIn nodes.new r) }
     ensures lawful { OnOk result (IsLawful nodes.new table.new.entries) }
     ensures generalised { IfOk result (λ r. Generalised (content_of nodes.old table.old.entries) (content_of nodes.new table.new.entries) target.variable target.universe target.binders (tree_at nodes.old t) (tree_at nodes.new r)) }
@@ -111,6 +112,7 @@ fn fresh_region(
     ensures extends { Extends nodes.old nodes.new }
     ensures saved { table.new.saved ≡ table.old.saved }
     ensures mode { table.new.mode ≡ table.old.mode }
+    ensures hidden { table.new.entries.hidden ≡ table.old.entries.hidden }
     ensures within { IfOk result (λ r. IsIn nodes.new r) }
     ensures lawful { OnOk result (IsLawful nodes.new table.new.entries) }
     ensures fresh { IfOk result (λ r. tree_at nodes.new r ≡ variable_tree kind.Region (length table.old.entries.variables)) }
@@ -146,6 +148,7 @@ fn name_region(
     ensures extends { Extends nodes.old nodes.new }
     ensures saved { table.new.saved ≡ table.old.saved }
     ensures mode { table.new.mode ≡ table.old.mode }
+    ensures hidden { table.new.entries.hidden ≡ table.old.entries.hidden }
     ensures within { IfOk result (λ r. IsIn nodes.new r) }
     ensures lawful { OnOk result (IsLawful nodes.new table.new.entries) }
     ensures generalised { IfOk result (λ r. Generalised (content_of nodes.old table.old.entries) (content_of nodes.new table.new.entries) target.variable target.universe target.binders (tree_at nodes.old t) (tree_at nodes.new r)) }
@@ -206,6 +209,7 @@ pub fn generalise(
     ensures extends { Extends nodes.old nodes.new }
     ensures saved { table.new.saved ≡ table.old.saved }
     ensures mode { table.new.mode ≡ table.old.mode }
+    ensures hidden { table.new.entries.hidden ≡ table.old.entries.hidden }
     ensures within { IfOk result (λ r. IsIn nodes.new r) }
     ensures lawful { OnOk result (IsLawful nodes.new table.new.entries) }
     ensures generalised { IfOk result (λ r. Generalised (content_of nodes.old table.old.entries) (content_of nodes.new table.new.entries) target.variable target.universe target.binders (tree_at nodes.old t) (tree_at nodes.new r)) }

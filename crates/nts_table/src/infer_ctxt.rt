@@ -115,6 +115,7 @@ impl InferCtxt {
         ensures entries { OnOk result (self.new.entries ≡ added self.old.entries variable) }
         ensures saved { self.new.saved ≡ self.old.saved }
         ensures mode { self.new.mode ≡ self.old.mode }
+        ensures hidden { self.new.entries.hidden ≡ self.old.entries.hidden }
         ensures err { OnErr result (self.new ≡ self.old) }
     {
         self.log.push(Change::Added)?;
@@ -132,6 +133,7 @@ impl InferCtxt {
         ensures entries { OnOk result (self.new.entries ≡ with_variable self.old.entries n variable) }
         ensures saved { self.new.saved ≡ self.old.saved }
         ensures mode { self.new.mode ≡ self.old.mode }
+        ensures hidden { self.new.entries.hidden ≡ self.old.entries.hidden }
         ensures err { OnErr result (self.new ≡ self.old) }
     {
         let old = self.contents.variable(n);
@@ -145,6 +147,7 @@ impl InferCtxt {
         ensures entries { OnOk result (self.new.entries ≡ bound self.old.entries n variable) }
         ensures saved { self.new.saved ≡ self.old.saved }
         ensures mode { self.new.mode ≡ self.old.mode }
+        ensures hidden { self.new.entries.hidden ≡ self.old.entries.hidden }
         ensures err { OnErr result (self.new ≡ self.old) }
     {
         let old = self.contents.variable(n);
@@ -174,6 +177,7 @@ impl InferCtxt {
         ensures entries { OnOk result (self.new.entries ≡ constrained self.old.entries constraint) }
         ensures saved { self.new.saved ≡ self.old.saved }
         ensures mode { self.new.mode ≡ self.old.mode }
+        ensures hidden { self.new.entries.hidden ≡ self.old.entries.hidden }
         ensures err { OnErr result (self.new ≡ self.old) }
     {
         self.log.push(Change::Constrained)?;

@@ -15,6 +15,7 @@ pub fn join(table: &mut InferCtxt, x: usize, y: usize) -> Result<(), AllocError>
     ensures joined { OnOk result ((ts : List Tree) → IsLawful ts table.old.entries → Joins ts table.old.entries table.new.entries x y) }
     ensures saved { table.new.saved ≡ table.old.saved }
     ensures mode { table.new.mode ≡ table.old.mode }
+    ensures hidden { table.new.entries.hidden ≡ table.old.entries.hidden }
 {
     table.join_sub_roots(x, y)?;
     let low = x.min(y);
@@ -34,6 +35,7 @@ pub fn join_regions(table: &mut InferCtxt, x: usize, y: usize) -> Result<(), All
     ensures joined { OnOk result ((ts : List Tree) → IsLawful ts table.old.entries → RegionsJoin ts table.old.entries table.new.entries x y) }
     ensures saved { table.new.saved ≡ table.old.saved }
     ensures mode { table.new.mode ≡ table.old.mode }
+    ensures hidden { table.new.entries.hidden ≡ table.old.entries.hidden }
 {
     table.link_regions(x, y)?;
     Ok(())

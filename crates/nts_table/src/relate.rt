@@ -68,6 +68,7 @@ fn relate_regions(
     requires right { IsRegionOf nodes.now table.old.entries b }
     ensures saved { table.new.saved ≡ table.old.saved }
     ensures mode { table.new.mode ≡ table.old.mode }
+    ensures hidden { table.new.entries.hidden ≡ table.old.entries.hidden }
     ensures lawful { OnOk result (IsLawful nodes.now table.new.entries) }
     ensures related { OnOk result (RegionsRelate (content_of nodes.now table.old.entries) (content_of nodes.now table.new.entries) (tree_at nodes.now a) (tree_at nodes.now b)) }
     ensures no { result ≢ Err NoSolution }
@@ -106,6 +107,7 @@ fn relate_variables(
     ensures extends { Extends nodes.old nodes.new }
     ensures saved { table.new.saved ≡ table.old.saved }
     ensures mode { table.new.mode ≡ table.old.mode }
+    ensures hidden { table.new.entries.hidden ≡ table.old.entries.hidden }
     ensures related { IfOk result (VariablesRelate nodes.old nodes.new table.old.entries table.new.entries x y) }
     ensures no { result ≡ Err NoSolution → KeepsApart (content_of nodes.old table.old.entries) x y }
     ensures full { result ≢ Err EvalError.Full }
@@ -143,6 +145,7 @@ fn bind_variable(
     ensures extends { Extends nodes.old nodes.new }
     ensures saved { table.new.saved ≡ table.old.saved }
     ensures mode { table.new.mode ≡ table.old.mode }
+    ensures hidden { table.new.entries.hidden ≡ table.old.entries.hidden }
     ensures lawful { OnOk result (IsLawful nodes.new table.new.entries) }
     ensures made { OnOk result (AreMadeOne (content_of nodes.old table.old.entries) (content_of nodes.new table.new.entries) x y) }
     ensures no { result ≢ Err NoSolution }
@@ -182,6 +185,7 @@ fn bind(
     ensures extends { Extends nodes.old nodes.new }
     ensures saved { table.new.saved ≡ table.old.saved }
     ensures mode { table.new.mode ≡ table.old.mode }
+    ensures hidden { table.new.entries.hidden ≡ table.old.entries.hidden }
     ensures lawful { OnOk result (IsLawful nodes.new table.new.entries) }
     ensures set { OnOk result (IsSet (content_of nodes.old table.old.entries) (content_of nodes.new table.new.entries) x (tree_at nodes.old t)) }
     ensures no { result ≡ Err NoSolution → Forbids (content_of nodes.old table.old.entries) x (tree_at nodes.old t) }
@@ -251,6 +255,7 @@ fn relate_heads(
     requires right { IsClosed (content_of nodes.now table.old.entries) (tree_at nodes.now pair.right) (tree_at nodes.now b) }
     ensures saved { table.new.saved ≡ table.old.saved }
     ensures mode { table.new.mode ≡ table.old.mode }
+    ensures hidden { table.new.entries.hidden ≡ table.old.entries.hidden }
     ensures valid { OnOk result (IsValid nodes.now table.new.entries pairs.new.items) }
     ensures step { OnOk result (IsStep (content_of nodes.now table.old.entries) (content_of nodes.now table.new.entries) (pairs_at nodes.now (pairs.old.items ++ pair ∷ [])) (pairs_at nodes.now pairs.new.items) false) }
     ensures no { result ≡ Err NoSolution → Refuses (content_of nodes.now table.old.entries) (pairs_at nodes.now (pairs.old.items ++ pair ∷ [])) }
@@ -289,6 +294,7 @@ fn step(
     ensures extends { Extends nodes.old nodes.new }
     ensures saved { table.new.saved ≡ table.old.saved }
     ensures mode { table.new.mode ≡ table.old.mode }
+    ensures hidden { table.new.entries.hidden ≡ table.old.entries.hidden }
     ensures valid { OnOk result (IsValid nodes.new table.new.entries pairs.new.items) }
     ensures step { IfOk result (λ bound. IsStep (content_of nodes.old table.old.entries) (content_of nodes.new table.new.entries) (pairs_at nodes.old (pairs.old.items ++ pair ∷ [])) (pairs_at nodes.new pairs.new.items) bound) }
     ensures no { result ≡ Err NoSolution → Refuses (content_of nodes.old table.old.entries) (pairs_at nodes.old (pairs.old.items ++ pair ∷ [])) }
@@ -328,6 +334,7 @@ fn run(
     ensures extends { Extends nodes.old nodes.new }
     ensures saved { table.new.saved ≡ table.old.saved }
     ensures mode { table.new.mode ≡ table.old.mode }
+    ensures hidden { table.new.entries.hidden ≡ table.old.entries.hidden }
     ensures valid { OnOk result (IsValid nodes.new table.new.entries pairs.new.items) }
     ensures run { IfOk result (λ bound. IsRun (content_of nodes.old table.old.entries) (content_of nodes.new table.new.entries) (pairs_at nodes.old pairs.old.items) (pairs_at nodes.new pairs.new.items) bound) }
     ensures no { result ≡ Err NoSolution → Refuses (content_of nodes.old table.old.entries) (pairs_at nodes.old pairs.old.items) }
@@ -357,6 +364,7 @@ fn run_all(
     ensures extends { Extends nodes.old nodes.new }
     ensures saved { table.new.saved ≡ table.old.saved }
     ensures mode { table.new.mode ≡ table.old.mode }
+    ensures hidden { table.new.entries.hidden ≡ table.old.entries.hidden }
     ensures lawful { OnOk result (IsLawful nodes.new table.new.entries) }
     ensures later { OnOk result (IsLater (content_of nodes.old table.old.entries) (content_of nodes.new table.new.entries)) }
     ensures reduces { OnOk result (Reduces (content_of nodes.old table.old.entries) (content_of nodes.new table.new.entries) (pairs_at nodes.old pairs.old.items) []) }
@@ -393,6 +401,7 @@ pub fn relate_nodes(
     ensures table { IsTable nodes.new table.new }
     ensures saved { table.new.saved ≡ table.old.saved }
     ensures mode { table.new.mode ≡ table.old.mode }
+    ensures hidden { table.new.entries.hidden ≡ table.old.entries.hidden }
     ensures later { IsLater (content_of nodes.old table.old.entries) (content_of nodes.new table.new.entries) }
     ensures related { OnOk result (AreRelated (content_of nodes.old table.old.entries) (content_of nodes.new table.new.entries) (tree_at nodes.old a) (tree_at nodes.old b)) }
     ensures err { OnErr result (table.new ≡ table.old) }

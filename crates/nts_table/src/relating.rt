@@ -196,6 +196,7 @@ impl InferCtxt {
         ensures table { IsTable cx.new.nodes self.new }
         ensures saved { self.new.saved ≡ self.old.saved }
         ensures mode { self.new.mode ≡ self.old.mode }
+        ensures hidden { self.new.entries.hidden ≡ self.old.entries.hidden }
         ensures later { IsLater (content_of cx.old.nodes self.old.entries) (content_of cx.new.nodes self.new.entries) }
         ensures err { OnErr result (self.new ≡ self.old) }
         ensures full { result ≢ Err EvalError.Full }
@@ -227,6 +228,7 @@ impl InferCtxt {
         ensures table { IsTable cx.new.nodes self.new }
         ensures saved { self.new.saved ≡ self.old.saved }
         ensures mode { self.new.mode ≡ self.old.mode }
+        ensures hidden { self.new.entries.hidden ≡ self.old.entries.hidden }
         ensures later { IsLater (content_of cx.old.nodes self.old.entries) (content_of cx.new.nodes self.new.entries) }
         ensures err { OnErr result (self.new ≡ self.old) }
         ensures full { result ≢ Err EvalError.Full }

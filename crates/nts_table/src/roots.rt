@@ -43,6 +43,7 @@ impl InferCtxt {
         ensures joined { OnOk result (SubRootsJoin self.old.entries self.new.entries x y) }
         ensures saved { self.new.saved ≡ self.old.saved }
         ensures mode { self.new.mode ≡ self.old.mode }
+        ensures hidden { self.new.entries.hidden ≡ self.old.entries.hidden }
         ensures err { OnErr result (self.new ≡ self.old) }
     {
         let x_root = self.sub_root(x);

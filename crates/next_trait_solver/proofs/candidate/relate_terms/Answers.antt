@@ -5,7 +5,7 @@ use Rattle.next_trait_solver.proofs.candidate.relate_terms.Goals as goal
 pub returns-clause-goes : goal.returns-clause-goes
 returns-clause-goes c =
     let e = c.relate_nodes.ensures in
-    related_goes _ _ c.relate_nodes.result c.requires.table e.extends e.table e.later e.saved e.mode e.related e.err
+    related_goes _ _ c.relate_nodes.result c.requires.table e.extends e.table e.later e.saved e.mode e.hidden e.related e.err
 
 pub returns-clause-equal : goal.returns-clause-equal
 returns-clause-equal c =

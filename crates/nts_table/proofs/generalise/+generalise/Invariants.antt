@@ -14,6 +14,7 @@ invariant-loop-i l = record {
   extends : Extends l.initial.nodes l.nodes;
   saved : l.table.saved ≡ l.initial.table.saved;
   mode : l.table.mode ≡ l.initial.table.mode;
+  hidden : l.table.entries.hidden ≡ l.initial.table.entries.hidden;
   lawful : IsLawful l.nodes l.table.entries;
   all : AllIn l.nodes l.children.items;
   so_far : Generalised (content_of l.initial.nodes l.initial.table.entries) (content_of l.nodes l.table.entries) l.fn.target.variable l.fn.target.universe (l.fn.target.binders + binders l.label) (row_take l.i (children (tree_at l.initial.nodes l.t))) (trees_at l.nodes l.children.items);

@@ -8,7 +8,7 @@ use Rattle.nts_table.proofs.relate.run.Goals as goal
 
 pub loop-pair-init : goal.loop-pair-init
 loop-pair-init c =
-    record { extends = Extends-refl c.args.nodes.now; saved = refl; mode = refl; valid = c.requires.valid; running = running_start (content_of c.args.nodes.now c.args.table.now.entries) _ c.requires.valid.lawful.sound }
+    record { extends = Extends-refl c.args.nodes.now; saved = refl; mode = refl; hidden = refl; valid = c.requires.valid; running = running_start (content_of c.args.nodes.now c.args.table.now.entries) _ c.requires.valid.lawful.sound }
 
 pub loop-pair-preserved : goal.loop-pair-preserved
 loop-pair-preserved c =
@@ -18,6 +18,7 @@ loop-pair-preserved c =
       extends = Extends-trans i.extends c.in-Ok.ensures.extends;
       saved = c.in-Ok.ensures.saved ∙ i.saved;
       mode = c.in-Ok.ensures.mode ∙ i.mode;
+      hidden = c.in-Ok.ensures.hidden ∙ i.hidden;
       valid = c.in-Ok.ensures.valid;
       running = running_step c.requires.valid.lawful.sound i.valid.lawful.sound (rw is at i.running) c.in-Ok.ensures.step c.if-bound.false;
     }

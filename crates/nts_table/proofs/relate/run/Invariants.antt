@@ -9,6 +9,7 @@ invariant-loop-pair l = record {
   extends : Extends l.initial.nodes l.nodes;
   saved : l.table.saved ≡ l.initial.table.saved;
   mode : l.table.mode ≡ l.initial.table.mode;
+  hidden : l.table.entries.hidden ≡ l.initial.table.entries.hidden;
   valid : IsValid l.nodes l.table.entries l.pairs.items;
   running : Running (content_of l.initial.nodes l.initial.table.entries) (content_of l.nodes l.table.entries) (pairs_at l.initial.nodes l.initial.pairs.items) (pairs_at l.nodes l.pairs.items);
 }
