@@ -14,7 +14,7 @@ use Rattle.nts_terms.specs.Growth.{tree_at, trees_at, IsIn, AllIn, Extends}
 use Rattle.nts_terms.specs.Handles.{Holds}
 use Rattle.nts_terms.specs.Kept.{AllIn-kept, map-kept}
 use Rattle.nts_terms.specs.Filled.{HasValue, HasValues, kind_of-filled}
-use Rattle.nts_model.specs.Handlers.{position_of, value_or, filled, IsValueOf, AreValuesOf, IsOfSort, NamesAt, NamesFresh}
+use Rattle.nts_model.specs.Handlers.{position_of, filled, IsValueOf, AreValuesOf, IsOfSort, NamesAt, NamesFresh}
 use Rattle.nts_model.specs.Regions.{of_variable}
 use Rattle.nts_terms.proofs.Growing.{Extends-trans, Extends-refl, IsIn-extended}
 use Rattle.nts_table.specs.Entries.{Entries, Table, added, constrained}
@@ -27,6 +27,7 @@ use Rattle.nts_model.proofs.Held.{Continues-refl, Continues-trans, Continues-wit
 use Rattle.nts_model.proofs.Sound.{IsSound-with_slot}
 use Rattle.nts_model.proofs.Slots.{Knows-kept, KeepsKinds, KeepsKinds-with_slot, field-with_slot_new}
 use Rattle.nts_table.proofs.SavedLemmas.{back_to, push_inj}
+use Rattle.nts_table.proofs.Filling.{knows-filled}
 use Rattle.next_trait_solver.specs.declared.delegate.CandidateData.{CandidateData}
 use Rattle.next_trait_solver.specs.declared.delegate.RegionConstraint.{RegionConstraint}
 use Rattle.next_trait_solver.specs.declared.delegate.CandidateGoal.{CandidateGoal}
@@ -139,15 +140,6 @@ known-there c [] i h = tt
 known-there c (t ∷ ts) zero h = h.0
 known-there c (t ∷ ts) (suc i) h = known-there c ts i h.1
 
-known-value : (c : Content) (ts : List Tree) (o : Option ℕ) (t : Tree) → AllKnown c ts → Knows c t → Knows c (value_or o ts t)
-known-value c ts None t h k = k
-known-value c ts (Some i) t h k = known-there c ts i h
-
-pub knows-filled : (c : Content) (ts : List Tree) (t : Tree) → AllKnown c ts → Knows c t → Knows c (filled ts t)
-knows-filled c ts empty h k = tt
-knows-filled c ts (more a b) h k = (knows-filled c ts a h k.0, knows-filled c ts b h k.1)
-knows-filled c ts (node l x) h k = known-value c ts (position_of l) (node l (filled ts x)) h (k.0, knows-filled c ts x h k.1)
-
 -- what filling asks for, and what it gives
 pub record CanFill (a : List Tree) (t : Table) (vs : List NodeId) (x : NodeId) : Type 0 where
   pub within : IsIn a x
@@ -161,7 +153,7 @@ can_fill {a} {t} {g} {fresh} {vs} {x} p o v =
       within = o.within;
       values = v.within;
       positions = has-values fresh (map (tree_at a) vs) (tree_at a x) v.sorts o.names;
-      knows = knows-filled (content_of a t.entries) (map (tree_at a) vs) (tree_at a x) v.known (o.knows (content_of a t.entries) p.knows);
+      knows = knows-filled (content_of a t.entries) (map (tree_at a) vs) (tree_at a x) (λ i. known-there (content_of a t.entries) (map (tree_at a) vs) i v.known) (o.knows (content_of a t.entries) p.knows);
     }
 
 -- the filled term in the store that has grown

@@ -7,6 +7,7 @@
 
 mod admission;
 mod candidate;
+pub mod canonical;
 mod clause_test;
 pub mod clauses;
 pub mod delegate;

@@ -3,7 +3,7 @@ pub use nts_model::{
     BoundIndex, Direction, FloatTy, IntTy, Relation, Sort, UintTy, VariableKind, Variance,
 };
 pub use nts_table::relating::Relate;
-pub use nts_table::{Constraint, InferCtxt, Snapshot, State, Variable};
+pub use nts_table::{Constraint, HiddenType, InferCtxt, Snapshot, State, Variable};
 pub use nts_terms::{
     AliasId, AliasKind, AliasTerm, Binder, BoundConst, BoundRegion, BoundTy, BoundVars, Certainty,
     ClauseKind, Const, ConstId, ConstKind, CtorId, Cx, DefId, EvalError, Fault, FnSig, GenericArg,

@@ -1,10 +1,9 @@
 -- The values of kinds, one after another.
-use Rattle.std.proofs.Common.{◌≡◌, ◌⊎◌, ⊎_elim, ℕ, zero, suc, ◌+◌, ◌<◌, ◌≤◌, List, [], ◌∷◌, ◌++◌, map, length, take, get_or, Option, Some, None, inl, inr, refl, sym, ap, ◌∙◌, arith}
+use Rattle.std.proofs.Common.{◌≡◌, ⊎_elim, ℕ, zero, suc, ◌+◌, ◌<◌, ◌≤◌, List, [], ◌∷◌, ◌++◌, map, length, Option, Some, None, sym, ap, ◌∙◌, arith}
 use Rattle.std.specs.Prelude.{slice_get, All, IfSome}
 use Rattle.std.proofs.lemmas.Option.{slice_get_past}
 use Rattle.std.proofs.lemmas.List.{length-map}
 use Rattle.nts_table.proofs.Changes.{slice_get-map}
-use Rattle.nts_model.specs.declared.labels.Sort.TheVariants as sort
 use Rattle.nts_model.specs.declared.labels.VariableKind.TheVariants as kind
 use Rattle.nts_model.specs.declared.labels.Leaf.{Leaf}
 use Rattle.nts_model.specs.declared.labels.Leaf.TheVariants as leaf
@@ -21,14 +20,13 @@ use Rattle.nts_table.specs.declared.contents.Variable.{Variable}
 use Rattle.nts_table.specs.Entries.{Entries, added}
 use Rattle.nts_table.specs.Making.{unset_variable, IsAddedTo}
 use Rattle.nts_table.specs.Reading.{content_of, LinksDescend}
-use Rattle.nts_table.proofs.Leading.{kind_within, kind_at-entry}
-use Rattle.nts_canonical.specs.SubRoots.{sub_root_in}
+use Rattle.nts_table.proofs.Leading.{kind_within}
 use Rattle.nts_canonical.specs.Forms.{trees_of}
-use Rattle.nts_canonical.specs.Kinds.{IsInputKind, AreInputKinds, variable_kind, variables_before, if_there, link_to, universe_of_kind, value_leaf, value_leaves, made_variable, made_variables}
-use Rattle.nts_canonical.specs.Building.{made_entries, type_variable_of, AddsValue, IsArgOf}
+use Rattle.nts_canonical.specs.Kinds.{IsInputKind, variables_before, if_there, link_to, universe_of_kind, value_leaves, made_variable, made_variables}
+use Rattle.nts_canonical.specs.Building.{type_variable_of, AddsValue, IsArgOf}
 use Rattle.nts_canonical.proofs.SubRooted.{sub_root_is}
-use Rattle.nts_canonical.proofs.Making.{some, value-at, length-values, append-none}
-use Rattle.nts_canonical.proofs.Kinded.{root-first, type-made}
+use Rattle.nts_canonical.proofs.Making.{value-at, length-values, append-none}
+use Rattle.nts_canonical.proofs.Kinded.{root-first}
 
 -- a type variable that a table knows is the table's
 within-leaf : (ts : List Tree) (e : Entries) (l : Leaf) (c : Tree) → Knows (content_of ts e) (node (label.Leaf l) c) → IfSome (type_variable_of (Some (node (label.Leaf l) c))) (λ n. n < length e.variables)

@@ -6,7 +6,7 @@ use Rattle.nts_model.specs.Resolving.{Knows}
 use Rattle.nts_model.specs.Substitutions.{leaf_tree}
 use Rattle.nts_model.specs.Inputs.{PositionKind}
 use Rattle.nts_terms.specs.declared.handles.GenericArg.{GenericArg}
-use Rattle.nts_terms.specs.Growth.{tree_at, Extends}
+use Rattle.nts_terms.specs.Growth.{Extends}
 use Rattle.nts_terms.specs.Filled.{HasValues}
 use Rattle.nts_terms.proofs.Moved.{Holds-extended}
 use Rattle.nts_table.specs.Entries.{Entries}

@@ -1,11 +1,10 @@
 -- A canonical form is one that a table can be made for.
-use Rattle.std.proofs.Common.{◌≡◌, ◌⊎◌, ℕ, zero, suc, ◌+◌, ◌<◌, ◌≤◌, ◌||◌, Bool, true, false, cond, List, [], ◌∷◌, map, length, get_or, Option, Some, None, inl, inr, refl, sym, ap, subst, ◌∙◌, arith, eqb-true}
+use Rattle.std.proofs.Common.{◌≡◌, ◌⊎◌, ℕ, zero, suc, ◌+◌, ◌<◌, ◌≤◌, Bool, true, false, List, [], ◌∷◌, map, length, get_or, Option, Some, None, inl, inr, refl, sym, ap, subst, ◌∙◌, arith, eqb-true}
 use Rattle.std.specs.Prelude.{slice_get}
 use Rattle.std.specs.List.{position_or_len}
 use Rattle.std.proofs.lemmas.Option.{slice_get-get_or, slice_get_within}
 use Rattle.std.proofs.lemmas.List.{length-map}
 use Rattle.std.proofs.Math.ListN.{get_or-map}
-use Rattle.nts_model.specs.declared.labels.Sort.TheVariants as sort
 use Rattle.nts_model.specs.declared.labels.VariableKind.TheVariants as kind
 use Rattle.nts_model.specs.declared.labels.FreeRegion.TheVariants as region
 use Rattle.nts_model.specs.declared.labels.BoundIndex.TheVariants as index
@@ -15,9 +14,9 @@ use Rattle.nts_model.specs.declared.labels.Label.{Label}
 use Rattle.nts_model.specs.declared.labels.Label.TheVariants as label
 use Rattle.nts_model.specs.Trees.{Tree, empty, more, node, kind_of, any_label, is_infer, is_region_infer, is_canonical, sort_of_leaf}
 use Rattle.nts_model.specs.Handlers.{position_of}
-use Rattle.nts_model.specs.Substitutions.{leaf_tree, leaf_sort, put, replace}
+use Rattle.nts_model.specs.Substitutions.{leaf_tree, put, replace}
 use Rattle.nts_model.specs.Numbered.{number, numbered, numbered_leaf, no_leaf, AreDistinct}
-use Rattle.nts_model.specs.Inputs.{Input, CanonicalInput as Form, PositionKind, type_variable, sub_root_of, are_one, share, position_kind, is_static, after_environment, after_predicate, originals, canonical_of, whole, whole_of}
+use Rattle.nts_model.specs.Inputs.{Input, CanonicalInput as Form, type_variable, sub_root_of, are_one, share, position_kind, is_static, after_environment, after_predicate, originals, canonical_of, whole, whole_of}
 use Rattle.nts_model.proofs.Listed.{either}
 use Rattle.nts_model.proofs.Under.{eq-self}
 use Rattle.nts_terms.specs.Filled.{HasValue, HasValues}

@@ -1,5 +1,5 @@
 -- A table that is made for kinds has leaves of these kinds.
-use Rattle.std.proofs.Common.{◌≡◌, ⊎_elim, ℕ, zero, suc, ◌+◌, ◌<◌, ◌≤◌, ◌==◌, Bool, true, false, List, [], ◌∷◌, map, length, take, get_or, Option, Some, None, inl, inr, refl, sym, ap, ◌∙◌, arith, eqb-true}
+use Rattle.std.proofs.Common.{◌≡◌, ⊎_elim, ℕ, suc, ◌+◌, ◌<◌, ◌≤◌, ◌==◌, false, List, [], ◌∷◌, map, length, take, get_or, Option, Some, inl, inr, refl, sym, ap, ◌∙◌, arith, eqb-true}
 use Rattle.std.specs.Prelude.{slice_get}
 use Rattle.std.specs.List.{position_or_len}
 use Rattle.std.proofs.lemmas.Option.{slice_get-get_or, slice_get_within}
@@ -13,14 +13,14 @@ use Rattle.nts_model.specs.declared.labels.Leaf.{Leaf}
 use Rattle.nts_model.specs.declared.labels.Leaf.TheVariants as leaf
 use Rattle.nts_model.specs.Sequents.{Among}
 use Rattle.nts_model.specs.Numbered.{number, AreDistinct}
-use Rattle.nts_model.specs.Inputs.{PositionKind, type_variable, integer_variable, float_variable, const_variable, region_variable, placeholder, sub_root_of, are_one, share, position_kind, is_static, CanonicalInput as Form, HaveKinds}
+use Rattle.nts_model.specs.Inputs.{PositionKind, type_variable, integer_variable, float_variable, const_variable, region_variable, placeholder, share, position_kind, is_static, CanonicalInput as Form, HaveKinds}
 use Rattle.nts_model.proofs.Listed.{either}
 use Rattle.nts_model.proofs.Under.{same_or_other, eq-self}
 use Rattle.nts_table.specs.declared.contents.Variable.{Variable}
 use Rattle.nts_table.specs.Entries.{Entries}
 use Rattle.nts_table.specs.Making.{unset_variable}
 use Rattle.nts_table.specs.Reading.{LinksDescend}
-use Rattle.nts_table.specs.Roots.{SubLeads, here, on, IsSubRoot}
+use Rattle.nts_table.specs.Roots.{here, on, IsSubRoot}
 use Rattle.nts_table.proofs.Changes.{slice_get-map}
 use Rattle.nts_canonical.specs.SubRoots.{sub_root_in}
 use Rattle.nts_canonical.specs.Kinds.{IsInputKind, AreInputKinds, variable_kind, count_of, variables_before, link_to, universe_of_kind, value_leaf, value_leaves, made_variables}

@@ -3,24 +3,23 @@ use Rattle.std.proofs.Common.{◌≡◌, ℕ, zero, suc, ◌+◌, ◌<◌, false
 use Rattle.std.proofs.lemmas.Bool.{cases_lt}
 use Rattle.nts_model.specs.Trees.{Tree, empty, more, any_label, is_canonical}
 use Rattle.nts_terms.specs.declared.handles.GenericArg.{GenericArg}
-use Rattle.nts_terms.specs.Handles.{HoldsArg}
 use Rattle.nts_terms.specs.Filled.{HasValues}
 use Rattle.nts_canonical.specs.Forms.{trees_of}
 
--- the arguments before a place are of the store
-abbrev pub HoldBefore : List Tree → List GenericArg → ℕ → Type 0
-HoldBefore ts xs i = (k : ℕ) (d : GenericArg) → k < i → HoldsArg ts (get_or xs k d)
+-- each argument before a place is one of these
+abbrev pub Before : (GenericArg → Type 0) → List GenericArg → ℕ → Type 0
+Before P xs i = (k : ℕ) (d : GenericArg) → k < i → P (get_or xs k d)
 
 within : (xs : List GenericArg) (i : ℕ) (d e : GenericArg) → i < length xs → get_or xs i d ≡ get_or xs i e
 within [] i d e l = absurd (omega arith)
 within (x ∷ xs) zero d e l = refl
 within (x ∷ xs) (suc i) d e l = within xs i d e (omega arith)
 
-pub hold_more : (ts : List Tree) (xs : List GenericArg) (i : ℕ) (e : GenericArg) → HoldBefore ts xs i → i < length xs → HoldsArg ts (get_or xs i e) → HoldBefore ts xs (i + 1)
-hold_more ts xs i e h l x k d j =
+pub before_more : (P : GenericArg → Type 0) (xs : List GenericArg) (i : ℕ) (e : GenericArg) → Before P xs i → i < length xs → P (get_or xs i e) → Before P xs (i + 1)
+before_more P xs i e h l x k d j =
     elim (cases_lt k i) [
       | inl q ↦ h k d q
-      | inr q ↦ (let same : i ≡ k = omega (arith, q, j) in subst (λ n. HoldsArg ts (get_or xs n d)) same (subst (HoldsArg ts) (within xs i e d l) x))
+      | inr q ↦ (let same : i ≡ k = omega (arith, q, j) in subst (λ n. P (get_or xs n d)) same (subst P (within xs i e d l) x))
     ]
 
 -- a goal without hidden types names no position

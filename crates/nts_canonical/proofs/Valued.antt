@@ -1,5 +1,5 @@
 -- The values that are made so far, and that the table knows them.
-use Rattle.std.proofs.Common.{◌≡◌, ◌⊎◌, inl, inr, ℕ, zero, suc, ◌+◌, ◌<◌, ◌≤◌, List, [], ◌∷◌, ◌++◌, map, length, take, get_or, Option, Some, None, refl, sym, ap, subst, ◌∙◌, arith}
+use Rattle.std.proofs.Common.{◌≡◌, ◌⊎◌, inl, inr, ℕ, zero, suc, ◌+◌, ◌<◌, ◌≤◌, List, [], ◌∷◌, ◌++◌, map, length, take, get_or, Some, refl, sym, ap, subst, ◌∙◌, arith}
 use Rattle.std.specs.Prelude.{slice_get, All}
 use Rattle.std.proofs.lemmas.Option.{slice_get-get_or, slice_get_within}
 use Rattle.std.proofs.lemmas.Bool.{cases_lt}
@@ -13,7 +13,7 @@ use Rattle.nts_model.specs.Resolving.{Knows}
 use Rattle.nts_model.specs.Substitutions.{leaf_tree}
 use Rattle.nts_model.specs.Inputs.{PositionKind, type_variable, integer_variable, float_variable, const_variable, region_variable, placeholder}
 use Rattle.nts_terms.specs.declared.handles.GenericArg.{GenericArg}
-use Rattle.nts_terms.specs.Growth.{tree_at, IsIn, Extends}
+use Rattle.nts_terms.specs.Growth.{tree_at, Extends}
 use Rattle.nts_terms.specs.Handles.{HoldsArg}
 use Rattle.nts_table.specs.Entries.{Entries}
 use Rattle.nts_table.specs.Reading.{content_of, LinksDescend}

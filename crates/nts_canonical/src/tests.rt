@@ -243,6 +243,12 @@ fn is_last(rt: &impl Abort, fixture: &Fixture, kind: VariableKind, universe: u32
     assert!(rt; variable.state == State::Unset);
 }
 
+/// Sees that a variable is linked to that sub root.
+fn leads_to(rt: &impl Abort, fixture: &Fixture, n: usize, root: usize) {
+    assert!(rt; n < fixture.table.variable_count());
+    assert!(rt; fixture.table.variable(n).sub_link == Some(root));
+}
+
 #[test]
 fn values_of_kinds(rt: HostRuntime) {
     let mut fixture = Fixture::new(&rt, rt.alloc());
@@ -251,9 +257,9 @@ fn values_of_kinds(rt: HostRuntime) {
     is_last(&rt, &fixture, VariableKind::Ty, 5);
     let second = fixture.value(&rt, ty, &[first]);
     is_last(&rt, &fixture, VariableKind::Ty, 5);
-    assert!(rt; fixture.table.variable(1).sub_link == Some(0));
+    leads_to(&rt, &fixture, 1, 0);
     let third = fixture.value(&rt, ty, &[second]);
-    assert!(rt; fixture.table.variable(2).sub_link == Some(0));
+    leads_to(&rt, &fixture, 2, 0);
     fixture.value(&rt, CanonicalVarKind::Int, &[first, third]);
     is_last(&rt, &fixture, VariableKind::Int, 0);
     fixture.value(&rt, CanonicalVarKind::Float, &[]);

@@ -3,7 +3,6 @@ use Rattle.std.proofs.Common.{◌≡◌, ◌≢◌, ℕ, ◌<◌, List, length, 
 use Rattle.std.specs.Prelude.{slice_get, slice_set}
 use Rattle.nts_model.specs.declared.labels.VariableKind.{VariableKind}
 use Rattle.nts_model.specs.declared.labels.VariableKind.TheVariants as kind
-use Rattle.nts_model.specs.declared.labels.Label.{Label}
 use Rattle.nts_model.specs.declared.labels.Leaf.TheVariants as leaf
 use Rattle.nts_model.specs.declared.labels.Label.TheVariants as label
 use Rattle.nts_model.specs.Resolving.{variable_tree, rooted, Knows, variable_rank, rank_of_kind}
@@ -24,7 +23,7 @@ use Rattle.nts_table.proofs.Leading.{universe_of-entry}
 use Rattle.nts_table.proofs.Naming.{lawful_sides, kind_read}
 use Rattle.nts_table.proofs.PairLemmas.{set_one}
 use Rattle.nts_table.proofs.Ranks.{kind_of-like}
-use Rattle.nts_model.specs.Trees.{Tree, empty, node, of_sort, sort_of_variable, kind_of, kind_of_label, children}
+use Rattle.nts_model.specs.Trees.{Tree, empty, of_sort, sort_of_variable, kind_of}
 use Rattle.nts_model.specs.Contents.{Content, unset, known, state_of, kind_at, bound_to}
 use Rattle.nts_model.proofs.Slots.{length-slice_set, slice_get_below}
 use Rattle.nts_model.proofs.Binding.{IsKnowable, kind_at-set, IsSound-known, resolved-known_value}

@@ -1,5 +1,5 @@
 -- Terms in whose positions values are put.
-use Rattle.std.proofs.Common.{◌≡◌, ℕ, List, get_or, Option, Some, None}
+use Rattle.std.proofs.Common.{ℕ, List, get_or, Option, Some, None}
 use Rattle.nts_model.specs.Trees.{Tree, empty, more, node}
 use Rattle.nts_model.specs.Contents.{Content}
 use Rattle.nts_model.specs.Handlers.{position_of, value_or, filled}

@@ -1,15 +1,12 @@
 -- Hidden types that are compared.
-use Rattle.std.proofs.Common.{◌≡◌, ◌⊎◌, ⊎_elim, ℕ, suc, ◌+◌, ◌<◌, List, [], ◌∷◌, Some, refl, sym, ap, ◌∙◌, arith}
+use Rattle.std.proofs.Common.{◌≡◌, ⊎_elim, ℕ, ◌+◌, List, [], ◌∷◌, Some, sym, ap, ◌∙◌, arith}
 use Rattle.std.specs.Prelude.{slice_get}
 use Rattle.nts_model.specs.Trees.{Tree}
 use Rattle.nts_model.specs.Contents.{Content}
 use Rattle.nts_model.specs.Resolving.{deeply_resolved, Knows}
-use Rattle.nts_model.specs.Holding.{AreOne}
 use Rattle.nts_model.proofs.Under.{same_or_other}
 use Rattle.nts_terms.specs.declared.nodes.NodeId.{NodeId}
-use Rattle.nts_terms.specs.declared.handles.AliasId.{AliasId}
-use Rattle.nts_terms.specs.Growth.{tree_at, IsIn, Extends}
-use Rattle.nts_terms.proofs.Growing.{IsIn-extended}
+use Rattle.nts_terms.specs.Growth.{tree_at, Extends}
 use Rattle.nts_table.specs.declared.contents.HiddenType.{HiddenType}
 use Rattle.nts_table.specs.Entries.{Entries}
 use Rattle.nts_table.specs.Reading.{content_of, IsHiddenType, IsLawful}

@@ -6,13 +6,12 @@ use Rattle.nts_model.specs.declared.labels.VariableKind.TheVariants as kind
 use Rattle.nts_model.specs.declared.labels.Leaf.TheVariants as leaf
 use Rattle.nts_model.specs.declared.labels.Label.{Label}
 use Rattle.nts_model.specs.declared.labels.Label.TheVariants as label
-use Rattle.nts_model.specs.declared.labels.Sort.TheVariants as sort
-use Rattle.nts_model.specs.Trees.{Tree, empty, more, node, NodeKind, children, kind_of, kind_of_label, of_sort, sort_of_variable}
+use Rattle.nts_model.specs.Trees.{Tree, empty, more, node, children, kind_of, kind_of_label, of_sort, sort_of_variable}
 use Rattle.nts_model.specs.Contents.{Content, SlotState, unset, link, known, state_of, kind_at}
 use Rattle.nts_model.specs.Resolving.{variable_of, variable_tree, root_of, IsSound, Knows, rank_of, rank_of_kind, variable_rank}
 use Rattle.nts_model.proofs.Roots.{kind_at-reaches, kind_at-root_of, root_of-root_of}
 use Rattle.nts_terms.specs.declared.nodes.NodeId.{NodeId}
-use Rattle.nts_terms.specs.Growth.{tree_at, IsIn}
+use Rattle.nts_terms.specs.Growth.{tree_at}
 use Rattle.nts_table.specs.declared.contents.State.{State}
 use Rattle.nts_table.specs.declared.contents.State.TheVariants.{Unset, Link, Known}
 use Rattle.nts_table.specs.declared.contents.Variable.{Variable}
@@ -22,8 +21,8 @@ use Rattle.nts_table.specs.Roots.{IsRoot}
 use Rattle.nts_table.specs.Classes.{value_or_root, shallow_variable, looked_up, shallowly_resolved}
 use Rattle.nts_table.proofs.Leading.{state_of-entry, Reaches-leads, IsRoot-content}
 use Rattle.nts_table.proofs.HeadLemmas.{kind_of-variable}
-use Rattle.nts_table.proofs.Ranks.{some_kind, rank_positive}
-use Rattle.nts_table.proofs.Walking.{value_in, no_region_sort}
+use Rattle.nts_table.proofs.Ranks.{some_kind}
+use Rattle.nts_table.proofs.Walking.{no_region_sort}
 
 looked_up-none : (c : Content) (l : Label) (x : Tree) → variable_of l ≡ None → looked_up c (node l x) ≡ node l x
 looked_up-none c l x e = rw e refl

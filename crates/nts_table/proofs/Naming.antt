@@ -35,7 +35,7 @@ use Rattle.nts_table.specs.Joining.{CanJoin, CanJoinRegions, Joins, RegionsJoin}
 use Rattle.nts_table.specs.Relating.{IsLike, IsUnset, IsOpen, IsRegionOf, RegionsRelate, IsSettled, StaysBelow, Generalised}
 use Rattle.nts_table.specs.Lawful.{IsNew, content_of-added, content_of-extended, IsLawful-added, IsLawful-extended}
 use Rattle.nts_table.proofs.Changes.{length-slots}
-use Rattle.nts_table.proofs.Leading.{universe_of-entry, kind_at-entry}
+use Rattle.nts_table.proofs.Leading.{universe_of-entry}
 use Rattle.nts_table.proofs.Keeping.{Knows-later}
 use Rattle.nts_table.proofs.JoinLemmas.{free_slot}
 use Rattle.nts_table.proofs.RegionLemmas.{IsRegionVariable, region_variable_at, regions_joined, regions_recorded}

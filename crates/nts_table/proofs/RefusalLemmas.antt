@@ -6,7 +6,7 @@ use Rattle.nts_model.specs.declared.labels.FreeRegion.{FreeRegion}
 use Rattle.nts_model.specs.declared.labels.Leaf.TheVariants as leaf
 use Rattle.nts_model.specs.declared.labels.Label.{Label}
 use Rattle.nts_model.specs.declared.labels.Label.TheVariants as label
-use Rattle.nts_model.specs.Trees.{Tree, empty, more, node, size, children, label_of, IsRow, row_length, row_at, row_take, IsBoundBelow, IsClosedUnder, IsClosed, binders, NodeKind, of_sort, kind_of, kind_of_label, sort_of_variable}
+use Rattle.nts_model.specs.Trees.{Tree, empty, more, node, size, children, label_of, IsRow, row_length, row_at, row_take, IsBoundBelow, IsClosedUnder, IsClosed, binders, of_sort, kind_of, kind_of_label, sort_of_variable}
 use Rattle.nts_model.specs.Contents.{Content, kind_at, universe_of}
 use Rattle.nts_model.specs.Resolving.{variable_of, infer_of, IsInfer, Knows, KnowsLabel, variable_flag}
 use Rattle.nts_model.specs.Levels.{CanName, NamesAll, term_level}

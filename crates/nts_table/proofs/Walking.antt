@@ -1,5 +1,5 @@
 -- What the steps of a walk that resolves a term make of it.
-use Rattle.std.proofs.Common.{◌≡◌, ◌≢◌, Bool, true, false, ℕ, zero, suc, List, [], ◌∷◌, Option, Some, None, refl, sym, ap, subst, ◌<◌, ◌∙◌}
+use Rattle.std.proofs.Common.{◌≡◌, ◌≢◌, Bool, true, false, ℕ, zero, suc, List, [], ◌∷◌, Some, None, refl, sym, ap, subst, ◌<◌, ◌∙◌}
 use Rattle.std.specs.Prelude.{slice_get}
 use Rattle.nts_model.specs.declared.labels.Sort.TheVariants as sort
 use Rattle.nts_model.specs.declared.labels.VariableKind.{VariableKind}
@@ -10,9 +10,9 @@ use Rattle.nts_model.specs.declared.labels.Label.TheVariants as label
 use Rattle.nts_model.specs.Trees.{Tree, empty, more, node, children, kind_of, of_sort, sort_of_variable, shape, Meets}
 use Rattle.nts_model.specs.Contents.{Content, state_of, kind_at, unset, known}
 use Rattle.nts_model.specs.Resolving.{variable_of, variable_tree, resolved, rooted, root_of, IsSound, Reaches, Knows, rank_of_kind, variable_rank}
-use Rattle.nts_model.proofs.Variables.{infer_of_none, infer_of_variable_label}
+use Rattle.nts_model.proofs.Variables.{infer_of_none}
 use Rattle.nts_model.proofs.Resolved.{resolved-empty, resolved-node, deeply_resolved-empty, deeply_resolved-node, IsVariable, resolved-reaches_known, resolved-variable_reaches, resolved-variable_unset, IsVariable-infer, IsVariable-reaches}
-use Rattle.nts_model.proofs.Kept.{variable_label, resolved-no_infer, deeply_resolved-no_variables}
+use Rattle.nts_model.proofs.Kept.{resolved-no_infer, deeply_resolved-no_variables}
 use Rattle.nts_terms.specs.declared.nodes.NodeId.{NodeId}
 use Rattle.nts_terms.specs.Growth.{tree_at, IsIn}
 use Rattle.nts_terms.specs.Replacement.{GoesDown, IsStep}

@@ -1,20 +1,17 @@
 -- What each table keeps beyond that its values stand for trees, and which changes keep it.
-use Rattle.std.proofs.Common.{◌≡◌, ⊎_elim, ℕ, ◌<◌, [], length, Some, refl, sym, ap, ◌∙◌, arith}
+use Rattle.std.proofs.Common.{◌≡◌, ℕ, ◌<◌, [], length, refl, sym, ap, ◌∙◌, arith}
 use Rattle.nts_model.specs.declared.labels.Relation.{Relation}
 use Rattle.nts_model.specs.declared.labels.Relation.TheVariants as relation
-use Rattle.nts_model.specs.declared.labels.VariableKind.{VariableKind}
-use Rattle.nts_model.specs.declared.labels.VariableKind.TheVariants as kind
 use Rattle.nts_model.specs.Trees.{Tree}
-use Rattle.nts_model.specs.Contents.{Content, Slot, Recorded, unset, kind_at, universe_of, with_slot, changed, bound_to, with_constraint, in_universe}
+use Rattle.nts_model.specs.Contents.{Content, Slot, Recorded, unset, universe_of, with_slot, changed, bound_to, with_constraint, in_universe}
 use Rattle.nts_model.specs.Resolving.{Knows, IsSound}
 use Rattle.nts_model.specs.Levels.{CanName, NamesAll, level_in, region_level, AreRegionsLevelled}
 use Rattle.nts_model.specs.Worlds.{IsValue}
 use Rattle.nts_model.specs.RegionClasses.{AreRegions}
 use Rattle.nts_model.specs.Solvable.{IsSolvable}
-use Rattle.nts_model.proofs.Under.{same_or_other}
-use Rattle.nts_model.proofs.Slots.{field_below, field-with_slot_new, field-with_slot_old, field-changed_kept}
-use Rattle.nts_model.proofs.Binding.{IsKnowable, IsLinkable, kind_at-set}
-use Rattle.nts_model.proofs.Solving.{Lowers, kind_at-lowered, state_of-lowered}
+use Rattle.nts_model.proofs.Slots.{field_below, field-changed_kept}
+use Rattle.nts_model.proofs.Binding.{IsKnowable, IsLinkable}
+use Rattle.nts_model.proofs.Solving.{Lowers, state_of-lowered}
 use Rattle.nts_model.proofs.Levelled.{AreRegionsLevelled-with_slot, AreRegionsLevelled-with_constraint, AreRegionsLevelled-in_universe, AreRegionsLevelled-lowered, AreRegionsLevelled-known, AreRegionsLevelled-link, AreRegionsLevelled-region_link}
 use Rattle.nts_model.proofs.Solvable.{IsSolvable-empty, IsSolvable-with_slot, IsSolvable-with_constraint, IsSolvable-in_universe, IsSolvable-lowered, IsSolvable-sub_linked, IsSolvable-known, IsSolvable-link, IsSolvable-region_link}
 

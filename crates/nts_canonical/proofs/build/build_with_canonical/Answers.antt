@@ -1,7 +1,5 @@
 use Rattle.std.proofs.Common.{◌≡◌, [], refl, ap, ◌∙◌, map}
-use Rattle.nts_terms.specs.Growth.{tree_at}
 use Rattle.nts_terms.proofs.Growing.{Extends-refl, Extends-trans}
-use Rattle.nts_model.specs.Handlers.{filled}
 use Rattle.nts_table.specs.Lawful.{IsTable-extended}
 use Rattle.nts_table.specs.Reading.{content_of}
 use Rattle.nts_canonical.specs.Forms.{kind_of_var, form_of, query_tree, trees_of}

@@ -1,5 +1,5 @@
-use Rattle.std.proofs.Common.{sym, arith, rules}
-use Rattle.nts_table.proofs.HeadLemmas.{HeadKnown, head_known, head_through, head_open}
+use Rattle.std.proofs.Common.{sym, arith}
+use Rattle.nts_table.proofs.HeadLemmas.{head_known, head_through, head_open}
 use Rattle.nts_table.proofs.relate.+head_of.Goals as goal
 
 pub head_of-requires : goal.head_of-requires

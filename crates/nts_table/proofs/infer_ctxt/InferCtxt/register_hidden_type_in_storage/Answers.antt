@@ -1,5 +1,4 @@
 use Rattle.nts_model.proofs.Slots.{slice_get_below}
-use Rattle.nts_table.specs.declared.contents.HiddenType.{HiddenType}
 use Rattle.nts_table.specs.Reading.{content_of, IsHiddenType}
 use Rattle.nts_table.specs.Lawful.{IsTable-extended, IsTable-same, IsTable-registered, IsTable-with_hidden}
 use Rattle.nts_table.proofs.HiddenLemmas.{hidden_at, IsHiddenType-extended, other_type}

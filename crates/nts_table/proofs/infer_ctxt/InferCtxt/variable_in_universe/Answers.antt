@@ -1,5 +1,5 @@
-use Rattle.std.proofs.Common.{refl, ap, ◌∙◌, None, Some, Option}
-use Rattle.nts_table.specs.Lawful.{IsTable-added, IsTable-same}
+use Rattle.std.proofs.Common.{refl, ap, ◌∙◌}
+use Rattle.nts_table.specs.Lawful.{IsTable-same}
 use Rattle.nts_table.specs.Entries.{added}
 use Rattle.nts_table.specs.Making.{unset_variable}
 use Rattle.nts_table.proofs.SubLinks.{IsTable-added_to}

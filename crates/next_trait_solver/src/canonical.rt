@@ -1,0 +1,5 @@
+//! Canonical inputs, under one name.
+pub use nts_canonical::{
+    Canonical, CanonicalInput, CanonicalVarKind, QueryInput, build_with_canonical,
+    canonicalize_goal, instantiate_canonical, instantiate_canonical_var, same_input,
+};
