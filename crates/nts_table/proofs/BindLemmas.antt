@@ -23,7 +23,7 @@ use Rattle.nts_table.proofs.Leading.{universe_of-entry}
 use Rattle.nts_table.proofs.Naming.{lawful_sides, kind_read}
 use Rattle.nts_table.proofs.PairLemmas.{set_one}
 use Rattle.nts_table.proofs.Ranks.{kind_of-like}
-use Rattle.nts_model.specs.Trees.{Tree, empty, of_sort, sort_of_variable, kind_of}
+use Rattle.nts_model.specs.Trees.{Tree, empty, of_sort, sort_of_variable, kind_of, IsFormed}
 use Rattle.nts_model.specs.Contents.{Content, unset, known, state_of, kind_at, bound_to}
 use Rattle.nts_model.proofs.Slots.{length-slice_set, slice_get_below}
 use Rattle.nts_model.proofs.Binding.{IsKnowable, kind_at-set, IsSound-known, resolved-known_value}
@@ -52,8 +52,8 @@ pub record HasValue (ts us : List Tree) (e g : Entries) (x : ℕ) (t : Tree) : T
   pub lawful : IsLawful us g
   pub set : IsSet (content_of ts e) (content_of us g) x t
 
-pub bind_value : (ts us : List Tree) (e f g : Entries) (x : ℕ) (t v : NodeId) (w z : Variable) → IsLawful ts e → IsBindable e x → slice_get e.variables x ≡ Some w → Knows (content_of ts e) (tree_at ts t) → IsLawful us f → IsIn us v → Generalised (content_of ts e) (content_of us f) x w.universe 0 (tree_at ts t) (tree_at us v) → variable_rank (tree_at us v) < rank_of_kind w.kind → Fits w.kind (tree_at us v) → slice_get f.variables x ≡ Some z → g ≡ bound f x (record z { state = Known v }) → HasValue ts us e g x (tree_at ts t)
-bind_value ts us e f g x t v w z before_lawful can_bind at knows_term h within gen lower fit now q =
+pub bind_value : (ts us : List Tree) (e f g : Entries) (x : ℕ) (t v : NodeId) (w z : Variable) → IsLawful ts e → IsBindable e x → slice_get e.variables x ≡ Some w → Knows (content_of ts e) (tree_at ts t) → IsLawful us f → IsIn us v → IsFormed (tree_at us v) → Generalised (content_of ts e) (content_of us f) x w.universe 0 (tree_at ts t) (tree_at us v) → variable_rank (tree_at us v) < rank_of_kind w.kind → Fits w.kind (tree_at us v) → slice_get f.variables x ≡ Some z → g ≡ bound f x (record z { state = Known v }) → HasValue ts us e g x (tree_at ts t)
+bind_value ts us e f g x t v w z before_lawful can_bind at knows_term h within formed gen lower fit now q =
     let c = content_of ts e in
     let d = content_of us f in
     let k = can_bind.of_kind in
@@ -106,7 +106,7 @@ bind_value ts us e f g x t v w z before_lawful can_bind at knows_term h within g
     let same_universe : z.universe ≡ w.universe = cc in
     let names : NamesAll (level_in d) z.universe (tree_at us v) = rw same_universe gen.named in
     let names_regions : NamesAll region_level z.universe (tree_at us v) = rw same_universe gen.named_regions in
-    let value : IsValue z.kind (tree_at us v) = record { fits = fit_now; closed = gen.closed } in
+    let value : IsValue z.kind (tree_at us v) = record { fits = fit_now; closed = gen.closed; formed = formed } in
     let proper = IsProper-known d x (slot_of us new) (tree_at us v) can refl names names_regions value h.sound h.proper in
     record {
       lawful = rw q (IsLawful-bound us f x z new h now refl within leads (IsSound-known d x (slot_of us new) (tree_at us v) h.sound can) proper);
@@ -175,8 +175,8 @@ can_take e x y v w a b p q h =
     record { first = a; second = b; takes = rw (first, second) at h }
 
 -- a type variable got another variable as its value
-pub taken : (ts us vs : List Tree) (e f g : Entries) (x y : ℕ) (k : VariableKind) (t v : NodeId) (w z u : Variable) → IsLawful ts e → Extends ts us → CanTake e x y → slice_get e.variables x ≡ Some w → slice_get e.variables y ≡ Some u → k ≡ u.kind → tree_at us t ≡ variable_tree k y → IsLawful vs f → IsIn vs v → Generalised (content_of us e) (content_of vs f) x w.universe 0 (tree_at us t) (tree_at vs v) → slice_get f.variables x ≡ Some z → g ≡ bound f x (record z { state = Known v }) → IsLawful vs g × AreMadeOne (content_of ts e) (content_of vs g) x y
-taken ts us vs e f g x y k t v w z u lawful ext can at_x at_y same is h within gen now q =
+pub taken : (ts us vs : List Tree) (e f g : Entries) (x y : ℕ) (k : VariableKind) (t v : NodeId) (w z u : Variable) → IsLawful ts e → Extends ts us → CanTake e x y → slice_get e.variables x ≡ Some w → slice_get e.variables y ≡ Some u → k ≡ u.kind → tree_at us t ≡ variable_tree k y → IsLawful vs f → IsIn vs v → IsFormed (tree_at vs v) → Generalised (content_of us e) (content_of vs f) x w.universe 0 (tree_at us t) (tree_at vs v) → slice_get f.variables x ≡ Some z → g ≡ bound f x (record z { state = Known v }) → IsLawful vs g × AreMadeOne (content_of ts e) (content_of vs g) x y
+taken ts us vs e f g x y k t v w z u lawful ext can at_x at_y same is h within formed gen now q =
     let wk = kind_read e x can.first.of_kind w can.first.free at_x in
     let uk = kind_read e y can.second.of_kind u can.second.free at_y in
     let takes : TakesVariable w.kind u.kind = rw (wk, uk) can.takes in
@@ -188,6 +188,6 @@ taken ts us vs e f g x y k t v w z u lawful ext can at_x at_y same is h within g
     let fit = takes_fits w.kind u.kind (tree_at vs v) takes sort in
     let has : kind_at (content_of us e) y ≡ Some u.kind = kind_at-entry us e y u at_y in
     let knows : Knows (content_of us e) (tree_at us t) = rw tree (has, tt) in
-    let value = bind_value us vs e f g x t v w z (IsLawful-extended ext lawful) can.first at_x knows h within gen lower fit now q in
+    let value = bind_value us vs e f g x t v w z (IsLawful-extended ext lawful) can.first at_x knows h within formed gen lower fit now q in
     let set : IsSet (content_of us e) (content_of vs g) x (variable_tree u.kind y) = subst (λ (s : Tree). IsSet (content_of us e) (content_of vs g) x s) tree value.set in
     (value.lawful, subst (λ (c : Content). AreMadeOne c (content_of vs g) x y) (content_of-extended ext lawful) (set_one u.kind has set))

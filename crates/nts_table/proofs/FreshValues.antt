@@ -7,7 +7,7 @@ use Rattle.nts_model.specs.declared.labels.VariableKind.TheVariants as kind
 use Rattle.nts_model.specs.declared.labels.Leaf.TheVariants as leaf
 use Rattle.nts_model.specs.declared.labels.Label.{Label}
 use Rattle.nts_model.specs.declared.labels.Label.TheVariants as label
-use Rattle.nts_model.specs.Trees.{Tree, empty, more, node, of_sort, kind_of, kind_of_label, IsBoundBelow}
+use Rattle.nts_model.specs.Trees.{Tree, empty, more, node, of_sort, kind_of, kind_of_label, IsBoundBelow, Meets, shape}
 use Rattle.nts_model.specs.Contents.{Content, Slot, unset, link, state_of, universe_of, kind_at, with_slot}
 use Rattle.nts_model.specs.Resolving.{variable_of, variable_tree, infer_of, IsInfer, Knows, KnowsLabel, IsSound, Lacks, LacksAt, resolved, rooted, variable_rank}
 use Rattle.nts_model.specs.Levels.{CanName, NamesAll, term_level}
@@ -170,13 +170,22 @@ region_below (label.Clause h) x e = cc
 region_below (label.Predicate h) x e = cc
 region_below (label.List h) x e = cc
 
--- a free region is closed
+region_shape : (l : Label) (x : RegionName) → name_of_label l ≡ Some x → Meets (shape l) empty
+region_shape (label.Leaf q) x e = tt
+region_shape (label.Bound q i n) x e = cc
+region_shape (label.Ty h) x e = cc
+region_shape (label.Const h) x e = cc
+region_shape (label.Clause h) x e = cc
+region_shape (label.Predicate h) x e = cc
+region_shape (label.List h) x e = cc
+
+-- a free region is closed and formed
 IsRegion-value : (t : Tree) → IsRegion t → IsValue kind.Region t
 IsRegion-value empty h = let e = h.1 in cc
 IsRegion-value (more a b) h = let e = h.1 in cc
 IsRegion-value (node l (more a b)) h = let e = h.1 in cc
 IsRegion-value (node l (node m a)) h = let e = h.1 in cc
-IsRegion-value (node l empty) h = record { fits = h; closed = (region_below l h.0 h.1, tt) }
+IsRegion-value (node l empty) h = record { fits = h; closed = (region_below l h.0 h.1, tt); formed = (region_shape l h.0 h.1, tt) }
 
 -- a fresh region variable, made equal to the region
 pub gen_fresh_region : (c d e : Content) (x u b : ℕ) (v : Slot) (t : Tree) (l : Label) → IsSound c → v.kind ≡ kind.Region → x < length c.slots → RegionNode t l → kind_of t ≡ Some (of_sort sort.Region) → IsRegion t → Knows c t → v.universe ≡ u → IsAdded c d v → RegionsRelate d e (variable_tree kind.Region (length c.slots)) t → universe_of e x ≡ universe_of d x → CanName u (universe_of e (length c.slots)) → Generalised c e x u b t (variable_tree kind.Region (length c.slots))

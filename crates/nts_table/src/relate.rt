@@ -162,6 +162,7 @@ fn bind_variable(
     match name_variable(nodes, table, &mut moved, target, t, y) {
         Err(error) => Err(error),
         Ok(value) => {
+            let _ = nodes.len();
             let variable = table.variable(x);
             let state = State::Known(value);
             table.bind(x, Variable { state, ..variable })?;
@@ -204,6 +205,7 @@ fn bind(
     match generalise(alloc, nodes, table, &mut moved, target, t) {
         Err(error) => Err(error),
         Ok(value) => {
+            let _ = nodes.len();
             let variable = table.variable(x);
             let state = State::Known(value);
             table.bind(x, Variable { state, ..variable })?;
