@@ -1,16 +1,29 @@
 //! Whether a term's variables are of a table.
-ghost use Rattle.std.specs.Prelude.{◌≡◌, ◌↔◌, IsTrue, true, false, IfOk, OnOk, IsOkUnless};
-ghost use Rattle.nts_model.specs.Trees.{children};
+ghost use Rattle.std.specs.Prelude.{◌≡◌, ◌↔◌, IsTrue, true, false, IfOk, IsOkUnless};
 ghost use Rattle.nts_model.specs.Resolving.{Knows, variable_of};
-ghost use Rattle.nts_terms.specs.Growth.{tree_at, IsIn, AllIn};
+ghost use Rattle.nts_terms.specs.Growth.{tree_at, IsIn};
 ghost use Rattle.nts_table.specs.Reading.{content_of};
-ghost use Rattle.nts_table.specs.Knowing.{HasNamed, IsLook, ChildrenAdded};
+ghost use Rattle.nts_table.specs.Knowing.{HasNamed};
 
 use crate::infer_ctxt::InferCtxt;
 use crate::named::named_variable;
 use nts_model::Label;
-use nts_terms::{Cx, Fault, NodeId, Nodes, Stored};
+use nts_terms::{Cx, Fault, LabelTest, NodeId, Nodes, Stored, all_labels};
 use std::alloc::{AllocError, Global};
+
+/// A label names no variable that the table lacks.
+#[derive(Drop)]
+struct NamesKnown<'a> {
+    table: &'a InferCtxt,
+}
+
+impl LabelTest for NamesKnown<'_> {
+    ghost passes = { λ s l. HasNamed s.table.now.entries (variable_of l) };
+
+    fn test(&self, label: Label) -> bool {
+        self.table.has_named(label)
+    }
+}
 
 impl InferCtxt {
     /// Whether all variables of a term are of this table, with their kinds.
@@ -23,38 +36,17 @@ impl InferCtxt {
         Ok(answer)
     }
 
-    /// The walk takes memory for the terms that are left, since a term may be nested very deep.
+    /// Each node is looked at once, however often and however deep the term has it.
     pub fn knows_node(&self, alloc: Global, nodes: &Nodes, t: NodeId) -> Result<bool, AllocError>
         requires { IsIn nodes.now t }
         ensures { IfOk result (λ b. IsTrue b ↔ Knows (content_of nodes.now self.now.entries) (tree_at nodes.now t)) }
     {
-        let mut left = Vec::new(alloc);
-        left.push(t)?;
-        while let Some(term) = left.pop() {
-            if !self.look_at(nodes, term, &mut left)? {
-                return Ok(false);
-            }
-        }
-        Ok(true)
-    }
-
-    /// Whether a term is no variable that the table lacks. Then its children are left to be looked at.
-    fn look_at(&self, nodes: &Nodes, t: NodeId, left: &mut Vec<NodeId>) -> Result<bool, AllocError>
-        requires within { IsIn nodes.now t }
-        requires left { AllIn nodes.now left.old.items }
-        ensures within { OnOk result (AllIn nodes.now left.new.items) }
-        ensures look { IfOk result (IsLook (content_of nodes.now self.now.entries) nodes.now left.old.items left.new.items t) }
-    {
-        if !self.has_named(nodes.label(t)) {
-            return Ok(false);
-        }
-        // Most terms hold no variable, and are passed over.
+        // Most terms hold no variable, and are not walked.
         let facts = nodes.facts(t);
         if !facts.has_infer && !facts.has_region_infer {
             return Ok(true);
         }
-        push_children(nodes, t, left)?;
-        Ok(true)
+        all_labels(alloc, nodes, t, &NamesKnown { table: self })
     }
 
     /// Whether the label names no variable that the table lacks.
@@ -67,18 +59,4 @@ impl InferCtxt {
             Some((kind, n)) => n < self.variable_count() && self.variable(n).kind == kind,
         }
     }
-}
-
-fn push_children(nodes: &Nodes, t: NodeId, left: &mut Vec<NodeId>) -> Result<(), AllocError>
-    requires within { IsIn nodes.now t }
-    requires left { AllIn nodes.now left.old.items }
-    ensures within { OnOk result (AllIn nodes.now left.new.items) }
-    ensures added { OnOk result (ChildrenAdded nodes.now left.old.items left.new.items (children (tree_at nodes.now t)) 0) }
-{
-    let mut i = nodes.child_count(t);
-    while i > 0 {
-        i -= 1;
-        left.push(nodes.child(t, i))?;
-    }
-    Ok(())
 }

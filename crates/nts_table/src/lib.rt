@@ -8,6 +8,8 @@ mod classes;
 mod constraints;
 mod contents;
 mod deduplicated;
+#[cfg(test)]
+mod deep_tests;
 mod equating;
 #[cfg(test)]
 mod fixture;
