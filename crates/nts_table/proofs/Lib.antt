@@ -26,3 +26,5 @@ pub mod Looking
 pub mod Telling
 pub mod Conditions
 pub mod Filling
+pub mod Judging
+pub mod MetPairs

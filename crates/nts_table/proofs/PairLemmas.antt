@@ -27,6 +27,7 @@ use Rattle.nts_table.specs.Changing.{unset_count, IsLater, Keeps, is_free_region
 use Rattle.nts_table.specs.Joining.{Joins}
 use Rattle.nts_table.specs.Unchanged.{HasUnset}
 use Rattle.nts_table.specs.Knowing.{row_from}
+use Rattle.nts_table.specs.Met.{judged_size, JudgesOne, OneBelow}
 use Rattle.nts_table.specs.Relating.{IsOpen, IsClosed, IsSet, RegionsRelate, pair_at, pairs_at, ArePairsIn, AreKnown, total, Pushed, IsValid, IsStep, IsRun, Running, AreMadeOne, VariablesRelate}
 use Rattle.nts_table.proofs.Keeping.{IsLater-refl, IsLater-trans, Knows-later, Keeps-refl}
 use Rattle.nts_table.proofs.JoinLemmas.{free_slot, at_max}
@@ -34,12 +35,13 @@ use Rattle.nts_table.proofs.RegionLemmas.{from_sides, to_sides}
 use Rattle.nts_table.proofs.GenLemmas.{IsFair, unchanged}
 use Rattle.nts_table.proofs.Naming.{lawful_sides, alone_label}
 use Rattle.nts_table.proofs.Looking.{row_from-end, row_from-step}
+use Rattle.nts_table.proofs.Judging.{judged-more, one-itself, one-more, below_front}
 
 pub pairs_at-push : (ts : List Tree) (ps : List Pair) (p : Pair) → pairs_at ts (ps ++ p ∷ []) ≡ pairs_at ts ps ++ pair_at ts p ∷ []
 pairs_at-push ts [] p = refl
 pairs_at-push ts (q ∷ ps) p = ap (λ x. pair_at ts q ∷ x) (pairs_at-push ts ps p)
 
-ArePairsIn-push : (ts : List Tree) (ps : List Pair) (p : Pair) → ArePairsIn ts ps → IsIn ts p.left → IsIn ts p.right → ArePairsIn ts (ps ++ p ∷ [])
+pub ArePairsIn-push : (ts : List Tree) (ps : List Pair) (p : Pair) → ArePairsIn ts ps → IsIn ts p.left → IsIn ts p.right → ArePairsIn ts (ps ++ p ∷ [])
 ArePairsIn-push ts [] p h l r = (l, r, tt)
 ArePairsIn-push ts (q ∷ ps) p h l r = (h.0, h.1, ArePairsIn-push ts ps p h.2 l r)
 
@@ -68,7 +70,7 @@ total-kept [] k h = refl
 total-kept (p ∷ ps) k h = omega (arith, ap size (k.trees p.0 h.0), ap size (k.trees p.1 h.1), total-kept ps k h.2)
 
 -- pairs in worlds
-Equates-push : (w : World) (ps : List (Tree × Tree)) (p : Tree × Tree) → Equates w ps → inst w p.0 ≡ inst w p.1 → Equates w (ps ++ p ∷ [])
+pub Equates-push : (w : World) (ps : List (Tree × Tree)) (p : Tree × Tree) → Equates w ps → inst w p.0 ≡ inst w p.1 → Equates w (ps ++ p ∷ [])
 Equates-push w [] p h e = (e, tt)
 Equates-push w (q ∷ ps) p h e = (h.0, Equates-push w ps p h.1 e)
 
@@ -83,7 +85,7 @@ Equates-agrees c w v (p ∷ ps) a k h = (
   Equates-agrees c w v ps a k.2 h.1,
 )
 
-AllAlike-push : (c : Content) (ps : List (Tree × Tree)) (p : Tree × Tree) → AllAlike c ps → AreAlike c p.0 p.1 → AllAlike c (ps ++ p ∷ [])
+pub AllAlike-push : (c : Content) (ps : List (Tree × Tree)) (p : Tree × Tree) → AllAlike c ps → AreAlike c p.0 p.1 → AllAlike c (ps ++ p ∷ [])
 AllAlike-push c [] p h e = (e, tt)
 AllAlike-push c (q ∷ ps) p h e = (h.0, AllAlike-push c ps p h.1 e)
 
@@ -144,7 +146,7 @@ pairs_at-extended (p ∷ ps) e h =
     let rest = pairs_at-extended ps e h.2 in
     λ i. (left i, right i) ∷ rest i
 
-ArePairsIn-extended : {ts us : List Tree} (ps : List Pair) → Extends ts us → ArePairsIn ts ps → ArePairsIn us ps
+pub ArePairsIn-extended : {ts us : List Tree} (ps : List Pair) → Extends ts us → ArePairsIn ts ps → ArePairsIn us ps
 ArePairsIn-extended [] e h = tt
 ArePairsIn-extended (p ∷ ps) e h = (IsIn-extended e p.left h.0, IsIn-extended e p.right h.1, ArePairsIn-extended ps e h.2)
 
@@ -176,7 +178,7 @@ last_pair ts e ps p v =
       right_known = k.2;
     }
 
-total-last : (ts : List Tree) (c : Content) (ps : List Pair) (p : Pair) → total c (pairs_at ts (ps ++ p ∷ [])) ≡ total c (pairs_at ts ps) + size (resolved c (tree_at ts p.left)) + size (resolved c (tree_at ts p.right)) + 1
+pub total-last : (ts : List Tree) (c : Content) (ps : List Pair) (p : Pair) → total c (pairs_at ts (ps ++ p ∷ [])) ≡ total c (pairs_at ts ps) + size (resolved c (tree_at ts p.left)) + size (resolved c (tree_at ts p.right)) + 1
 total-last ts c ps p = ap (total c) (pairs_at-push ts ps p) ∙ total-push c (pairs_at ts ps) (pair_at ts p)
 
 pub record Stepped (ts us : List Tree) (e f : Entries) (ps qs : List Pair) (p : Pair) (bound : Bool) : Type 0 where
@@ -276,7 +278,7 @@ heads_regions c d a b s t ka kb p q r =
     }
 
 -- one variable on both sides
-variable_same : (ts : List Tree) (e : Entries) (a b : Tree) (x y : ℕ) → IsLawful ts e → IsOpen ts e a x → IsOpen ts e b y → x ≡ y → AreRelated (content_of ts e) (content_of ts e) a b
+pub variable_same : (ts : List Tree) (e : Entries) (a b : Tree) (x y : ℕ) → IsLawful ts e → IsOpen ts e a x → IsOpen ts e b y → x ≡ y → AreRelated (content_of ts e) (content_of ts e) a b
 variable_same ts e a b x y h o r same =
     let c = content_of ts e in
     let first = (free_slot ts e x o.bindable.of_kind o.bindable.free).kind in
@@ -342,7 +344,7 @@ AreMadeOne-turned {c} {d} {x} {y} m =
     }
 
 -- .. are related
-variables_related : (ts us : List Tree) (e f : Entries) (a b : Tree) (x y : ℕ) → Knows (content_of ts e) a → Knows (content_of ts e) b → IsOpen ts e a x → IsOpen ts e b y → AreMadeOne (content_of ts e) (content_of us f) x y → AreRelated (content_of ts e) (content_of us f) a b
+pub variables_related : (ts us : List Tree) (e f : Entries) (a b : Tree) (x y : ℕ) → Knows (content_of ts e) a → Knows (content_of ts e) b → IsOpen ts e a x → IsOpen ts e b y → AreMadeOne (content_of ts e) (content_of us f) x y → AreRelated (content_of ts e) (content_of us f) a b
 variables_related ts us e f a b x y ka kb o r m =
     let c = content_of ts e in
     let d = content_of us f in
@@ -383,6 +385,7 @@ pushed_none ts ps a b i ra rb ia ib =
       complete = λ w h q. h;
       alike = λ c h. (h, rw (ea, eb) (AreAlike-itself c empty));
       weight = λ c. omega (arith, ap row_length ea, ap (λ t. size (resolved c t)) ea, ap (λ t. size (resolved c t)) eb, ap size (resolved-empty c));
+      below = λ j n h. (h, λ l. rw (ea, eb) (one-itself j empty));
     }
 
 pub pushed_more : (ts : List Tree) (ps qs rs : List Pair) (a b : Tree) (i j : ℕ) (x y : NodeId) → Pushed ts ps qs a b j → j ≡ i + 1 → i < row_length a → i < row_length b → IsIn ts x → IsIn ts y → tree_at ts x ≡ row_at a i → tree_at ts y ≡ row_at b i → rs ≡ qs ++ record { left = x; right = y } ∷ [] → Pushed ts ps rs a b i
@@ -416,6 +419,17 @@ pushed_more ts ps qs rs a b i j x y h next la lb ix iy ex ey e =
           (rest.0, rw (da, db) (AreAlike-more c (row_at a i) (row_from (i + 1) a) (row_at b i) (row_from (i + 1) b) first tail));
       weight = λ c.
           omega (arith, ap (λ z. total c (pairs_at ts z)) e, total-last ts c qs p, rw next at (h.weight c), ap row_length da, ap (λ t. size (resolved c t)) da, ap (λ t. size (resolved c t)) db, ap size (resolved-more c (row_at a i) (row_from (i + 1) a)), ap size (resolved-more c (row_at b i) (row_from (i + 1) b)), ap (λ t. size (resolved c t)) ex, ap (λ t. size (resolved c t)) ey);
+      below = λ k n z.
+          let q : OneBelow k n (pairs_at ts qs ++ pair_at ts p ∷ []) = rw (e, pairs_at-push ts qs p) at z in
+          let parts = below_front k n (pairs_at ts qs) (pair_at ts p) q in
+          let rest = h.below k n parts.0 in (
+            rest.0,
+            λ l.
+                let large : judged_size k (row_from i a) ≡ judged_size k (row_at a i) + judged_size k (row_from (i + 1) a) + 1 = ap (judged_size k) da ∙ judged-more k (row_at a i) (row_from (i + 1) a) in
+                let tail : JudgesOne k (row_from (i + 1) a) (row_from (i + 1) b) = rw next at (rest.1 (omega (arith, large, l, ap (λ m. judged_size k (row_from m a)) next))) in
+                let first : JudgesOne k (row_at a i) (row_at b i) = rw (ex, ey) at (parts.1 (omega (arith, large, l, ap (judged_size k) ex))) in
+                rw (da, db) (one-more k (row_at a i) (row_from (i + 1) a) (row_at b i) (row_from (i + 1) b) first tail),
+          );
     }
   where
     head_one : (w : World) → inst w (tree_at ts x) ≡ inst w (tree_at ts y) → inst w (row_at a i) ≡ inst w (row_at b i)

@@ -19,3 +19,4 @@ pub mod Changing
 pub mod Joining
 pub mod Relating
 pub mod Knowing
+pub mod Met

@@ -24,6 +24,7 @@ use Rattle.nts_table.specs.Reading.{content_of, IsLawful}
 use Rattle.nts_table.specs.Changing.{IsLater, Keeps, unset_count}
 use Rattle.nts_table.specs.Joining.{IsBindable}
 use Rattle.nts_table.specs.Knowing.{row_from}
+use Rattle.nts_table.specs.Met.{Judge, judged_size, JudgesOne, OneBelow, AreOneAfter}
 
 -- a list of trees of the same sorts
 abbrev pub IsLike : Tree → Tree → Type 0
@@ -150,11 +151,17 @@ pub record Pushed (ts : List Tree) (ps qs : List Pair) (a b : Tree) (i : ℕ) : 
   pub complete : (w : World) → Equates w (pairs_at ts ps) → inst w (row_from i a) ≡ inst w (row_from i b) → Equates w (pairs_at ts qs)
   pub alike : (c : Content) → AllAlike c (pairs_at ts qs) → AllAlike c (pairs_at ts ps) × AreAlike c (row_from i a) (row_from i b)
   pub weight : (c : Content) → total c (pairs_at ts qs) + row_length (row_from i a) ≡ total c (pairs_at ts ps) + size (resolved c (row_from i a)) + size (resolved c (row_from i b))
+  pub below : (j : Judge) (n : ℕ) → OneBelow j n (pairs_at ts qs) → OneBelow j n (pairs_at ts ps) × (judged_size j (row_from i a) ≤ n → JudgesOne j (row_from i a) (row_from i b))
 
 pub record IsValid (ts : List Tree) (e : Entries) (ps : List Pair) : Type 0 where
   pub lawful : IsLawful ts e
   pub within : ArePairsIn ts ps
   pub known : AreKnown (content_of ts e) (pairs_at ts ps)
+
+-- each pair that was met is one where the smaller ones of the pairs left are
+pub record IsMemo (ts : List Tree) (e : Entries) (ps ms : List Pair) : Type 0 where
+  pub within : ArePairsIn ts ms
+  pub met : AreOneAfter (content_of ts e) (pairs_at ts ps) (pairs_at ts ms)
 
 -- two variables are one: they were joined, or one got the other as its value
 pub record AreMadeOne (c d : Content) (x y : ℕ) : Type 0 where

@@ -1,9 +1,10 @@
 //! Terms that are nested very deep, and terms that share very much.
 ghost use Rattle.nts_table.specs.Reading.{IsTable};
 
-use crate::InferCtxt;
 use crate::fixture::Fixture;
-use nts_terms::{GenericArg, TypingMode};
+use crate::{InferCtxt, State};
+use nts_model::UintTy;
+use nts_terms::{GenericArg, TyKind, TypingMode};
 use std::process::Abort;
 
 /// A pair of pairs of pairs, with that many levels: its tree is of a size past all counting, and the
@@ -28,4 +29,33 @@ fn variables_of_a_ladder(rt: HostRuntime) {
     assert!(rt; fixture.table.knows(&fixture.cx, tall).expect(&rt, "memory"));
     let empty = InferCtxt::new(rt.alloc(), TypingMode::PostAnalysis);
     assert!(rt; !empty.knows(&fixture.cx, tall).expect(&rt, "memory"));
+}
+
+/// Two ladders over two variables: each pair of their nodes is related once.
+#[test]
+fn two_ladders(rt: HostRuntime) {
+    let mut fixture = Fixture::new(&rt, rt.alloc());
+    let first = fixture.ty_var(&rt);
+    let second = fixture.ty_var(&rt);
+    let left = ladder(&rt, &mut fixture, first, 60);
+    let right = ladder(&rt, &mut fixture, second, 60);
+    fixture.relates(&rt, left, right);
+    fixture.has(&rt, 1, 0, State::Link(0));
+    fixture.stands_for(&rt, right, left);
+}
+
+/// What was met before stays met when a variable gets a value.
+#[test]
+fn a_ladder_of_a_type(rt: HostRuntime) {
+    let mut fixture = Fixture::new(&rt, rt.alloc());
+    let hole = fixture.ty_var(&rt);
+    let byte = fixture.ty(&rt, TyKind::Uint(UintTy::U8));
+    let word = fixture.ty(&rt, TyKind::Uint(UintTy::U32));
+    let left = ladder(&rt, &mut fixture, hole, 60);
+    let right = ladder(&rt, &mut fixture, byte, 60);
+    let other = ladder(&rt, &mut fixture, word, 60);
+    fixture.relates(&rt, left, right);
+    fixture.has(&rt, 0, 0, State::Known(byte.node));
+    fixture.refuses(&rt, left, other);
+    fixture.refuses(&rt, right, other);
 }

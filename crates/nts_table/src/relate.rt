@@ -8,7 +8,7 @@ ghost use Rattle.nts_table.specs.Entries.{Entries, Table};
 ghost use Rattle.nts_table.specs.Reading.{content_of, IsLawful, IsTable, LinksDescend};
 ghost use Rattle.nts_table.specs.Changing.{region_variable, is_free_region, IsLater};
 ghost use Rattle.nts_table.specs.Joining.{IsBindable};
-ghost use Rattle.nts_table.specs.Relating.{IsHead, IsClosed, IsRegionOf, RegionsRelate, IsSet, Forbids, KeepsApart, AreMadeOne, VariablesRelate, CanTake, IsValid, IsStep, IsRun, Pushed, pairs_at};
+ghost use Rattle.nts_table.specs.Relating.{IsHead, IsClosed, IsRegionOf, RegionsRelate, IsSet, Forbids, KeepsApart, AreMadeOne, VariablesRelate, CanTake, IsValid, IsStep, IsRun, IsMemo, Pushed, pairs_at};
 ghost use Rattle.nts_terms.specs.declared.fault.EvalError.TheVariants.{NoSolution};
 
 use crate::contents::{Constraint, State, Variable};
@@ -24,7 +24,7 @@ use nts_terms::{EvalError, NodeId, Nodes};
 use std::alloc::Global;
 
 /// Two terms that are to be equal.
-#[derive(Clone, Copy)]
+#[derive(Clone, Copy, PartialEq, Eq, Hash)]
 pub struct Pair {
     pub left: NodeId,
     pub right: NodeId,
@@ -241,16 +241,18 @@ fn push_children(
 }
 
 /// Relates two nodes that are no inference variables: two free regions, or one label twice, and then
-/// the children are left.
+/// the children are left, once in a call.
 fn relate_heads(
     nodes: &Nodes,
     table: &mut InferCtxt,
     pairs: &mut Vec<Pair>,
+    met: &mut IndexSet<Pair>,
     pair: Pair,
     a: NodeId,
     b: NodeId,
 ) -> Result<(), EvalError>
     requires valid { IsValid nodes.now table.old.entries (pairs.old.items ++ pair ∷ []) }
+    requires memo { IsMemo nodes.now table.old.entries (pairs.old.items ++ pair ∷ []) met.old.keys }
     requires left_in { IsIn nodes.now a }
     requires right_in { IsIn nodes.now b }
     requires left { IsClosed (content_of nodes.now table.old.entries) (tree_at nodes.now pair.left) (tree_at nodes.now a) }
@@ -259,6 +261,7 @@ fn relate_heads(
     ensures mode { table.new.mode ≡ table.old.mode }
     ensures hidden { table.new.entries.hidden ≡ table.old.entries.hidden }
     ensures valid { OnOk result (IsValid nodes.now table.new.entries pairs.new.items) }
+    ensures memo { OnOk result (IsMemo nodes.now table.new.entries pairs.new.items met.new.keys) }
     ensures step { OnOk result (IsStep (content_of nodes.now table.old.entries) (content_of nodes.now table.new.entries) (pairs_at nodes.now (pairs.old.items ++ pair ∷ [])) (pairs_at nodes.now pairs.new.items) false) }
     ensures no { result ≡ Err NoSolution → Refuses (content_of nodes.now table.old.entries) (pairs_at nodes.now (pairs.old.items ++ pair ∷ [])) }
     ensures full { result ≢ Err EvalError.Full }
@@ -280,6 +283,11 @@ fn relate_heads(
     if left_count != right_count {
         return Err(EvalError::NoSolution);
     }
+    // What was met before is one as soon as the pairs left are: its children are among those, or were
+    // made one. So a pair that the terms share is not related once for each of its occurrences.
+    if !met.insert(Pair { left: a, right: b })? {
+        return Ok(());
+    }
     push_children(nodes, pairs, a, b)?;
     Ok(())
 }
@@ -290,14 +298,17 @@ fn step(
     nodes: &mut Nodes,
     table: &mut InferCtxt,
     pairs: &mut Vec<Pair>,
+    met: &mut IndexSet<Pair>,
     pair: Pair,
 ) -> Result<bool, EvalError>
     requires valid { IsValid nodes.old table.old.entries (pairs.old.items ++ pair ∷ []) }
+    requires memo { IsMemo nodes.old table.old.entries (pairs.old.items ++ pair ∷ []) met.old.keys }
     ensures extends { Extends nodes.old nodes.new }
     ensures saved { table.new.saved ≡ table.old.saved }
     ensures mode { table.new.mode ≡ table.old.mode }
     ensures hidden { table.new.entries.hidden ≡ table.old.entries.hidden }
     ensures valid { OnOk result (IsValid nodes.new table.new.entries pairs.new.items) }
+    ensures memo { OnOk result (IsMemo nodes.new table.new.entries pairs.new.items met.new.keys) }
     ensures step { IfOk result (λ bound. IsStep (content_of nodes.old table.old.entries) (content_of nodes.new table.new.entries) (pairs_at nodes.old (pairs.old.items ++ pair ∷ [])) (pairs_at nodes.new pairs.new.items) bound) }
     ensures no { result ≡ Err NoSolution → Refuses (content_of nodes.old table.old.entries) (pairs_at nodes.old (pairs.old.items ++ pair ∷ [])) }
     ensures full { result ≢ Err EvalError.Full }
@@ -317,7 +328,7 @@ fn step(
                 Err(error) => Err(error),
                 Ok(()) => Ok(true),
             },
-            Head::Closed(b) => match relate_heads(nodes, table, pairs, pair, a, b) {
+            Head::Closed(b) => match relate_heads(nodes, table, pairs, met, pair, a, b) {
                 Err(error) => Err(error),
                 Ok(()) => Ok(false),
             },
@@ -331,19 +342,22 @@ fn run(
     nodes: &mut Nodes,
     table: &mut InferCtxt,
     pairs: &mut Vec<Pair>,
+    met: &mut IndexSet<Pair>,
 ) -> Result<bool, EvalError>
     requires valid { IsValid nodes.old table.old.entries pairs.old.items }
+    requires memo { IsMemo nodes.old table.old.entries pairs.old.items met.old.keys }
     ensures extends { Extends nodes.old nodes.new }
     ensures saved { table.new.saved ≡ table.old.saved }
     ensures mode { table.new.mode ≡ table.old.mode }
     ensures hidden { table.new.entries.hidden ≡ table.old.entries.hidden }
     ensures valid { OnOk result (IsValid nodes.new table.new.entries pairs.new.items) }
+    ensures memo { OnOk result (IsMemo nodes.new table.new.entries pairs.new.items met.new.keys) }
     ensures run { IfOk result (λ bound. IsRun (content_of nodes.old table.old.entries) (content_of nodes.new table.new.entries) (pairs_at nodes.old pairs.old.items) (pairs_at nodes.new pairs.new.items) bound) }
     ensures no { result ≡ Err NoSolution → Refuses (content_of nodes.old table.old.entries) (pairs_at nodes.old pairs.old.items) }
     ensures full { result ≢ Err EvalError.Full }
 {
     while let Some(pair) = pairs.pop() {
-        match step(alloc, nodes, table, pairs, pair) {
+        match step(alloc, nodes, table, pairs, met, pair) {
             Err(error) => return Err(error),
             Ok(bound) => {
                 if bound {
@@ -361,8 +375,10 @@ fn run_all(
     nodes: &mut Nodes,
     table: &mut InferCtxt,
     pairs: &mut Vec<Pair>,
+    met: &mut IndexSet<Pair>,
 ) -> Result<(), EvalError>
     requires valid { IsValid nodes.old table.old.entries pairs.old.items }
+    requires memo { IsMemo nodes.old table.old.entries pairs.old.items met.old.keys }
     ensures extends { Extends nodes.old nodes.new }
     ensures saved { table.new.saved ≡ table.old.saved }
     ensures mode { table.new.mode ≡ table.old.mode }
@@ -374,7 +390,7 @@ fn run_all(
     ensures full { result ≢ Err EvalError.Full }
 {
     loop {
-        match run(alloc, nodes, table, pairs) {
+        match run(alloc, nodes, table, pairs, met) {
             Err(error) => return Err(error),
             Ok(bound) => {
                 if !bound {
@@ -412,8 +428,9 @@ pub fn relate_nodes(
 {
     let mut pairs = Vec::new(alloc);
     pairs.push(Pair { left: a, right: b })?;
+    let mut met = IndexSet::new(alloc);
     let snapshot = table.start_snapshot()?;
-    match run_all(alloc, nodes, table, &mut pairs) {
+    match run_all(alloc, nodes, table, &mut pairs, &mut met) {
         Err(error) => {
             table.rollback_to(snapshot);
             Err(error)

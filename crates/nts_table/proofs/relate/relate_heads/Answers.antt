@@ -1,25 +1,37 @@
 use Rattle.std.proofs.Common.{◌≡◌, true, false, sym, ap, ◌∙◌}
 use Rattle.std.specs.Prelude.{get_or}
 use Rattle.nts_model.specs.Trees.{empty}
+use Rattle.nts_model.specs.Equations.{AreRelated}
+use Rattle.nts_terms.specs.Growth.{tree_at}
+use Rattle.nts_terms.proofs.Growing.{Extends-refl}
 use Rattle.nts_table.specs.Changing.{is_free_region}
 use Rattle.nts_table.specs.Reading.{content_of}
-use Rattle.nts_table.proofs.Keeping.{Keeps-refl}
+use Rattle.nts_table.proofs.Keeping.{Keeps-refl, IsLater-refl}
 use Rattle.nts_table.proofs.RegionLemmas.{region_of_term}
 use Rattle.nts_table.proofs.PairLemmas.{Stepped, last_pair, step_kept, step_pushed, heads_same, heads_regions}
+use Rattle.nts_table.proofs.MetPairs.{Passed, memo_done, memo_pushed, passed_met, met_keys, new_keys}
+use Rattle.nts_table.proofs.Telling.{is_true, is_false}
 use Rattle.nts_table.proofs.RefusalLemmas.{refuse_heads, true_false}
 use Rattle.nts_table.proofs.relate.relate_heads.Goals as goal
 use Rattle.nts_table.proofs.relate.relate_heads.Goals.{else-names_free_region-via-then-names_free_region+else-names_free_region-2, else-names_free_region-via-else-names_free_region}
 
+same_related : (c : goal.Then-a-b) → AreRelated (content_of c.args.nodes.now c.args.table.now.entries) (content_of c.args.nodes.now c.args.table.now.entries) (tree_at c.args.nodes.now c.args.pair.left) (tree_at c.args.nodes.now c.args.pair.right)
+same_related c =
+    heads_same (content_of c.args.nodes.now c.args.table.now.entries) _ _ _ _ c.requires.valid.lawful.sound c.requires.left c.requires.right (ap (λ n. get_or c.args.nodes.now n empty) c.if-a-b.true)
+
 same : (c : goal.Then-a-b) → Stepped c.args.nodes.now c.args.nodes.now c.args.table.now.entries c.args.table.now.entries c.args.pairs.now.items c.args.pairs.now.items c.args.pair false
 same c =
-    step_kept c.args.nodes.now c.args.table.now.entries c.args.table.now.entries c.args.pairs.now.items c.args.pair c.requires.valid c.requires.valid.lawful (Keeps-refl (content_of c.args.nodes.now c.args.table.now.entries))
-    (heads_same (content_of c.args.nodes.now c.args.table.now.entries) _ _ _ _ c.requires.valid.lawful.sound c.requires.left c.requires.right (ap (λ n. get_or c.args.nodes.now n empty) c.if-a-b.true))
+    step_kept c.args.nodes.now c.args.table.now.entries c.args.table.now.entries c.args.pairs.now.items c.args.pair c.requires.valid c.requires.valid.lawful (Keeps-refl (content_of c.args.nodes.now c.args.table.now.entries)) (same_related c)
 
 pub returns-then-a-b-clause-valid : goal.returns-then-a-b-clause-valid
 returns-then-a-b-clause-valid c = (same c).valid
 
 pub returns-then-a-b-clause-step : goal.returns-then-a-b-clause-step
 returns-then-a-b-clause-step c = (same c).step
+
+pub returns-then-a-b-clause-memo : goal.returns-then-a-b-clause-memo
+returns-then-a-b-clause-memo c =
+    memo_done c.args.nodes.now c.args.nodes.now c.args.table.now.entries c.args.table.now.entries c.args.pairs.now.items c.args.met.now.keys c.args.pair c.requires.valid (Extends-refl c.args.nodes.now) c.requires.valid.lawful (IsLater-refl (content_of c.args.nodes.now c.args.table.now.entries)) (same_related c) c.requires.memo
 
 pub relate_regions-requires-clause-left : goal.relate_regions-requires-clause-left
 relate_regions-requires-clause-left c =
@@ -29,17 +41,24 @@ pub relate_regions-requires-clause-right : goal.relate_regions-requires-clause-r
 relate_regions-requires-clause-right c =
     region_of_term c.args.nodes.now c.args.table.now.entries c.args.b c.label-right.result c.requires.right_in c.requires.right.knows c.label-right.ensures.is c.label-right.ensures.formed (sym c.names_free_region-then-names_free_region.ensures ∙ c.if-names_free_region-2.true)
 
+regions_related : (c : goal.In_ok-relate_regions) → AreRelated (content_of c.args.nodes.now c.args.table.now.entries) (content_of c.args.nodes.now c.relate_regions.new.table.entries) (tree_at c.args.nodes.now c.args.pair.left) (tree_at c.args.nodes.now c.args.pair.right)
+regions_related c =
+    let last = last_pair c.args.nodes.now c.args.table.now.entries c.args.pairs.now.items c.args.pair c.requires.valid in
+    heads_regions (content_of c.args.nodes.now c.args.table.now.entries) (content_of c.args.nodes.now c.relate_regions.new.table.entries) _ _ _ _ last.left_known last.right_known c.requires.left c.requires.right c.in_ok-relate_regions.ensures.related
+
 regions : (c : goal.In_ok-relate_regions) → Stepped c.args.nodes.now c.args.nodes.now c.args.table.now.entries c.relate_regions.new.table.entries c.args.pairs.now.items c.args.pairs.now.items c.args.pair false
 regions c =
-    let last = last_pair c.args.nodes.now c.args.table.now.entries c.args.pairs.now.items c.args.pair c.requires.valid in
-    step_kept c.args.nodes.now c.args.table.now.entries c.relate_regions.new.table.entries c.args.pairs.now.items c.args.pair c.requires.valid c.in_ok-relate_regions.ensures.lawful c.in_ok-relate_regions.ensures.related.keeps
-    (heads_regions (content_of c.args.nodes.now c.args.table.now.entries) (content_of c.args.nodes.now c.relate_regions.new.table.entries) _ _ _ _ last.left_known last.right_known c.requires.left c.requires.right c.in_ok-relate_regions.ensures.related)
+    step_kept c.args.nodes.now c.args.table.now.entries c.relate_regions.new.table.entries c.args.pairs.now.items c.args.pair c.requires.valid c.in_ok-relate_regions.ensures.lawful c.in_ok-relate_regions.ensures.related.keeps (regions_related c)
 
 pub returns-then-names_free_region-2-clause-valid : goal.returns-then-names_free_region-2-clause-valid
 returns-then-names_free_region-2-clause-valid c = (regions c).valid
 
 pub returns-then-names_free_region-2-clause-step : goal.returns-then-names_free_region-2-clause-step
 returns-then-names_free_region-2-clause-step c = (regions c).step
+
+pub returns-then-names_free_region-2-clause-memo : goal.returns-then-names_free_region-2-clause-memo
+returns-then-names_free_region-2-clause-memo c =
+    memo_done c.args.nodes.now c.args.nodes.now c.args.table.now.entries c.relate_regions.new.table.entries c.args.pairs.now.items c.args.met.now.keys c.args.pair c.requires.valid (Extends-refl c.args.nodes.now) c.in_ok-relate_regions.ensures.lawful c.in_ok-relate_regions.ensures.related.keeps.later (regions_related c) c.requires.memo
 
 equal : (c : goal.In_ok-push_children) → c.label-left.result ≡ c.label-right.result
 equal c = c.is_same.ensures.yes c.if-not-is_same.false
@@ -85,3 +104,26 @@ returns-then-left_count-right_count-clause-no c = λ q.
       right = c.child_count-right_count.ensures.row;
       differ = λ d. c.if-left_count-right_count.true (c.child_count-left_count.ensures.count ∙ d ∙ sym c.child_count-right_count.ensures.count);
     })
+
+-- the pair was met before
+passed : (c : goal.Then-not-branch) → Passed c.args.nodes.now c.args.table.now.entries c.args.pairs.now.items c.args.met.now.keys c.args.pair
+passed c =
+    let found = is_true _ _ c.in_ok-insert.ensures.added c.if-not-branch.true in
+    passed_met c.args.nodes.now c.args.table.now.entries c.args.pairs.now.items c.args.met.now.keys c.args.pair c.args.a c.args.b c.requires.valid c.requires.left c.requires.right found c.requires.memo
+
+pub returns-then-not-branch-clause-valid : goal.returns-then-not-branch-clause-valid
+returns-then-not-branch-clause-valid c = (passed c).stepped.valid
+
+pub returns-then-not-branch-clause-step : goal.returns-then-not-branch-clause-step
+returns-then-not-branch-clause-step c = (passed c).stepped.step
+
+pub returns-then-not-branch-clause-memo : goal.returns-then-not-branch-clause-memo
+returns-then-not-branch-clause-memo c =
+    let found = is_true _ _ c.in_ok-insert.ensures.added c.if-not-branch.true in
+    rw (c.in_ok-insert.ensures.keys, met_keys c.args.met.now.keys (record { left = c.args.a; right = c.args.b }) found) (passed c).memo
+
+pub returns-clause-memo : goal.returns-clause-memo
+returns-clause-memo c =
+    let lacks = is_false _ _ c.in_ok-insert.ensures.added c.if-not-branch.false in
+    memo_pushed c.args.nodes.now c.args.table.now.entries c.args.pairs.now.items c.push_children.new.pairs.items c.args.met.now.keys c.insert.new.self.keys c.args.pair c.args.a c.args.b c.label-left.result c.label-right.result c.requires.valid c.requires.left_in c.requires.right_in c.requires.left c.requires.right c.label-left.ensures.is c.label-right.ensures.is (equal c) (not_free c) c.in_ok-push_children.ensures.pushed
+    (c.in_ok-insert.ensures.keys ∙ new_keys c.args.met.now.keys (record { left = c.args.a; right = c.args.b }) lacks) c.requires.memo

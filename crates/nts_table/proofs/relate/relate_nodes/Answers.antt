@@ -3,6 +3,7 @@ use Rattle.nts_table.proofs.SavedLemmas.{back_to, push_inj}
 use Rattle.nts_table.specs.Lawful.{IsTable-same, IsTable-extended, content_of-extended}
 use Rattle.nts_table.specs.Reading.{content_of}
 use Rattle.nts_table.proofs.Keeping.{IsLater-refl}
+use Rattle.nts_table.proofs.MetPairs.{memo_start}
 use Rattle.nts_table.proofs.PairLemmas.{pair_related}
 use Rattle.nts_table.proofs.RefusalLemmas.{pair_unrelated}
 use Rattle.nts_table.proofs.relate.relate_nodes.Goals as goal
@@ -35,3 +36,6 @@ pub returns-in-Err-clause-no : goal.returns-in-Err-clause-no
 returns-in-Err-clause-no c = λ q.
     let items : c.push.new.self.items ≡ record { left = c.args.a; right = c.args.b } ∷ [] = c.in_ok-push.ensures.items ∙ ap (λ xs. xs ++ record { left = c.args.a; right = c.args.b } ∷ []) c.new-pairs.ensures.items in
     pair_unrelated (rw (items, c.in_ok-snapshot.ensures.entries) at (c.in-Err.ensures.no q))
+
+pub run_all-requires-clause-memo : goal.run_all-requires-clause-memo
+run_all-requires-clause-memo c = rw c.new-met.ensures.empty (memo_start c.args.nodes.now c.start_snapshot.new.self.entries c.push.new.self.items)

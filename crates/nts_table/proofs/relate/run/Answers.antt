@@ -8,7 +8,7 @@ use Rattle.nts_table.proofs.relate.run.Goals as goal
 
 pub loop-pair-init : goal.loop-pair-init
 loop-pair-init c =
-    record { extends = Extends-refl c.args.nodes.now; saved = refl; mode = refl; hidden = refl; valid = c.requires.valid; running = running_start (content_of c.args.nodes.now c.args.table.now.entries) _ c.requires.valid.lawful.sound }
+    record { extends = Extends-refl c.args.nodes.now; saved = refl; mode = refl; hidden = refl; valid = c.requires.valid; memo = c.requires.memo; running = running_start (content_of c.args.nodes.now c.args.table.now.entries) _ c.requires.valid.lawful.sound }
 
 pub loop-pair-preserved : goal.loop-pair-preserved
 loop-pair-preserved c =
@@ -20,6 +20,7 @@ loop-pair-preserved c =
       mode = c.in-Ok.ensures.mode ∙ i.mode;
       hidden = c.in-Ok.ensures.hidden ∙ i.hidden;
       valid = c.in-Ok.ensures.valid;
+      memo = c.in-Ok.ensures.memo;
       running = running_step c.requires.valid.lawful.sound i.valid.lawful.sound (rw is at i.running) c.in-Ok.ensures.step c.if-bound.false;
     }
 
@@ -41,3 +42,13 @@ returns-in-Err-clause-no c = λ q.
     let is : c.loop-pair.pairs.items ≡ c.pop.new.self.items ++ c.in-Some.pair ∷ [] = search rules in
     let before = rw is at i.running in
     Refuses-before before.reduces (c.in-Err.ensures.no q)
+
+pub step-requires-clause-memo : goal.step-requires-clause-memo
+step-requires-clause-memo c =
+    let is : c.loop-pair.pairs.items ≡ c.pop.new.self.items ++ c.in-Some.pair ∷ [] = search rules in
+    rw is at c.loop-pair.invariant.memo
+
+pub returns-clause-memo : goal.returns-clause-memo
+returns-clause-memo c =
+    let same : c.loop-pair.pairs.items ≡ c.pop.new.self.items = search rules in
+    rw same at c.loop-pair.invariant.memo

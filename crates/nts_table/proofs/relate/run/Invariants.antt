@@ -1,7 +1,7 @@
 use Rattle.std.proofs.Common.{◌≡◌}
 use Rattle.nts_terms.specs.Growth.{Extends}
 use Rattle.nts_table.specs.Reading.{content_of}
-use Rattle.nts_table.specs.Relating.{pairs_at, total, IsValid, Running}
+use Rattle.nts_table.specs.Relating.{pairs_at, total, IsValid, IsMemo, Running}
 use Rattle.nts_table.proofs.relate.run.Given as goal
 
 abbrev pub invariant-loop-pair : goal.invariant-loop-pair
@@ -11,6 +11,7 @@ invariant-loop-pair l = record {
   mode : l.table.mode ≡ l.initial.table.mode;
   hidden : l.table.entries.hidden ≡ l.initial.table.entries.hidden;
   valid : IsValid l.nodes l.table.entries l.pairs.items;
+  memo : IsMemo l.nodes l.table.entries l.pairs.items l.met.keys;
   running : Running (content_of l.initial.nodes l.initial.table.entries) (content_of l.nodes l.table.entries) (pairs_at l.initial.nodes l.initial.pairs.items) (pairs_at l.nodes l.pairs.items);
 }
 

@@ -7,7 +7,7 @@ use Rattle.nts_table.proofs.relate.run_all.Goals as goal
 
 pub loop-error-init : goal.loop-error-init
 loop-error-init c =
-    record { extends = Extends-refl c.args.nodes.now; saved = refl; mode = refl; hidden = refl; valid = c.requires.valid; running = running_start (content_of c.args.nodes.now c.args.table.now.entries) _ c.requires.valid.lawful.sound }
+    record { extends = Extends-refl c.args.nodes.now; saved = refl; mode = refl; hidden = refl; valid = c.requires.valid; memo = c.requires.memo; running = running_start (content_of c.args.nodes.now c.args.table.now.entries) _ c.requires.valid.lawful.sound }
 
 pub loop-error-preserved : goal.loop-error-preserved
 loop-error-preserved c =
@@ -18,6 +18,7 @@ loop-error-preserved c =
       mode = c.in-Ok.ensures.mode ∙ i.mode;
       hidden = c.in-Ok.ensures.hidden ∙ i.hidden;
       valid = c.in-Ok.ensures.valid;
+      memo = c.in-Ok.ensures.memo;
       running = all_step c.requires.valid.lawful.sound i.valid.lawful.sound i.running c.in-Ok.ensures.run c.if-not-bound.false;
     }
 

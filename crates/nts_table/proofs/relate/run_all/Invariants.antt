@@ -2,7 +2,7 @@ use Rattle.std.proofs.Common.{◌≡◌}
 use Rattle.nts_terms.specs.Growth.{Extends}
 use Rattle.nts_table.specs.Reading.{content_of}
 use Rattle.nts_table.specs.Changing.{unset_count}
-use Rattle.nts_table.specs.Relating.{pairs_at, IsValid, Running}
+use Rattle.nts_table.specs.Relating.{pairs_at, IsValid, IsMemo, Running}
 use Rattle.nts_table.proofs.relate.run_all.Given as goal
 
 abbrev pub invariant-loop-error : goal.invariant-loop-error
@@ -12,6 +12,7 @@ invariant-loop-error l = record {
   mode : l.table.mode ≡ l.initial.table.mode;
   hidden : l.table.entries.hidden ≡ l.initial.table.entries.hidden;
   valid : IsValid l.nodes l.table.entries l.pairs.items;
+  memo : IsMemo l.nodes l.table.entries l.pairs.items l.met.keys;
   running : Running (content_of l.initial.nodes l.initial.table.entries) (content_of l.nodes l.table.entries) (pairs_at l.initial.nodes l.initial.pairs.items) (pairs_at l.nodes l.pairs.items);
 }
 
