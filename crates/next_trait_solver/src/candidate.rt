@@ -1,11 +1,12 @@
 //! Trying and running one candidate.
-ghost use Rattle.std.specs.Prelude.{◌≡◌, ◌≢◌, List, map, IfOk, OnOk, OnErr, IsOkUnless};
+ghost use Rattle.std.specs.Prelude.{◌≡◌, ◌≢◌, true, List, map, IfOk, OnOk, OnErr, IsOkUnless};
 ghost use Rattle.nts_model.specs.Trees.{kind_of, IsFormed};
-ghost use Rattle.nts_terms.specs.Growth.{tree_at, Extends};
+ghost use Rattle.nts_terms.specs.Growth.{tree_at, IsIn, Extends};
 ghost use Rattle.nts_terms.specs.Formed.{AreFormed};
 ghost use Rattle.nts_terms.specs.Rest.{KeepsRest};
 ghost use Rattle.nts_table.specs.Entries.{Table};
 ghost use Rattle.nts_table.specs.Reading.{content_of, IsTable};
+ghost use Rattle.nts_table.specs.Resolution.{IsResolved};
 ghost use Rattle.nts_model.specs.Resolving.{deeply_resolved};
 ghost use Rattle.next_trait_solver.specs.Candidates.{IsOver, IsEquation, IsNested, IsCandidate, IsRegionConstraint};
 ghost use Rattle.nts_model.specs.Alike.{AreAlike};
@@ -18,6 +19,22 @@ use crate::delegate::{CandidateData, Equation, RegionConstraint};
 use nts_model::{Relation, Sort};
 use nts_table::{Constraint, InferCtxt, relate_nodes, resolve_nodes};
 use nts_terms::{Cx, EvalError, Fault, Goal, NodeId, ParamEnv, Predicate, instantiate_canonical};
+
+/// What a store has are terms: each node has the children of its label.
+pub fn terms_are_formed(cx: &Cx)
+    ensures { AreFormed cx.now.nodes }
+{
+    let _ = cx.nodes.len();
+}
+
+/// Whether a term is its own value, whatever a table knows.
+fn has_no_variable(cx: &Cx, t: NodeId) -> bool
+    requires { IsIn cx.now.nodes t }
+    ensures { result ≡ true → IsResolved true (tree_at cx.now.nodes t) }
+{
+    let facts = cx.nodes.facts(t);
+    !facts.has_infer && !facts.has_region_infer
+}
 
 /// A term of a candidate, with the values in place of its fresh variables.
 pub fn fill(
@@ -39,14 +56,19 @@ pub fn fill(
     ensures formed { IfOk result (λ r. AreFormed cx.new.nodes) }
     ensures memory { IsOkUnless result Fault.Memory }
 {
+    terms_are_formed(cx);
+    // Most terms name no position, and need no walk.
+    if !cx.nodes.facts(t).has_canonical {
+        return Ok(t);
+    }
     let alloc = cx.alloc;
     let filled = instantiate_canonical(alloc, &mut cx.nodes, values, t)?;
-    // What a store has are terms.
-    let _ = cx.nodes.len();
+    terms_are_formed(cx);
     Ok(filled)
 }
 
 /// A goal of a candidate, with the values in place of its fresh variables, and resolved.
+#[inline(never)]
 pub fn fill_goal(
     cx: &mut Cx,
     table: &InferCtxt,
@@ -87,6 +109,10 @@ pub fn resolve_term(cx: &mut Cx, table: &InferCtxt, t: NodeId) -> Result<NodeId,
     ensures tree { IfOk result (λ r. tree_at cx.new.nodes r ≡ deeply_resolved (content_of cx.old.nodes table.now.entries) (tree_at cx.old.nodes t)) }
     ensures memory { IsOkUnless result Fault.Memory }
 {
+    // Most terms have no variable, and need no walk.
+    if has_no_variable(cx, t) {
+        return Ok(t);
+    }
     let alloc = cx.alloc;
     let resolved = resolve_nodes(alloc, &mut cx.nodes, table, t, true)?;
     Ok(resolved)
@@ -125,6 +151,7 @@ fn fresh_values(cx: &mut Cx, table: &mut InferCtxt, fresh: &[Sort]) -> Result<Ve
 }
 
 /// Makes a candidate's fresh variables and equates its equations; answers the variables.
+#[inline(never)]
 pub fn equate(
     cx: &mut Cx,
     table: &mut InferCtxt,
@@ -245,6 +272,7 @@ pub fn candidate_holds(
 }
 
 /// Records the region constraints of a candidate, with the values in place of its fresh variables.
+#[inline(never)]
 pub fn record_constraints(
     cx: &mut Cx,
     table: &mut InferCtxt,

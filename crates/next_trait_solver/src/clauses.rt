@@ -164,6 +164,7 @@ impl Clauses {
     ghost use Rattle.next_trait_solver.specs.Offers.{AreOffers};
 
     /// What each clause of the goal's trait offers, if it takes as many arguments.
+    #[inline(never)]
     fn offers(&self, cx: &Cx, goal: Goal) -> Result<Vec<CandidateData>, Fault>
         requires ready { AreReady cx.now.nodes self.now }
         requires goal { IsAsked cx.now.nodes goal }

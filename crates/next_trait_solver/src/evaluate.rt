@@ -1,5 +1,6 @@
-//! The recursion over nested goals.
-ghost use Rattle.std.specs.Prelude.{true, false, ℕ, ◌≡◌, ◌≢◌, ◌<◌, ◌≤◌, ◌/◌, ◌-◌, List, map, IfOk, OnOk, OnErr, IfSome, IsNone, ◌↔◌, length};
+//! The recursion over nested goals. Its functions stand on the stack once for each goal above, so what
+//! they call and is not of the recursion is kept out of their frames, by `inline(never)`.
+ghost use Rattle.std.specs.Prelude.{true, false, ℕ, ◌≡◌, ◌≢◌, ◌<◌, ◌≤◌, ◌/◌, ◌-◌, List, map, IfOk, OnOk, OnErr, IfSome, IsNone, ◌↔◌, length, get_or};
 ghost use Rattle.nts_model.specs.declared.labels.Variance.{Variance};
 ghost use Rattle.nts_model.specs.Trees.{Tree};
 ghost use Rattle.nts_model.specs.Sequents.{Among};
@@ -16,7 +17,7 @@ ghost use Rattle.next_trait_solver.specs.Evaluation.{Goes, IsPosed, AreValues};
 ghost use Rattle.next_trait_solver.specs.Choices.{IsWithin};
 ghost use Rattle.nts_terms.specs.declared.certainty.Certainty.TheVariants as certainty;
 
-use crate::candidate::{candidate_holds, equate, fill_goal, record_constraints};
+use crate::candidate::{candidate_holds, equate, fill_goal, record_constraints, terms_are_formed};
 use crate::delegate::{CandidateData, CandidateGoal, GoalHandler};
 use nts_model::Sort;
 use nts_table::InferCtxt;
@@ -106,11 +107,12 @@ fn compute_goal<H: GoalHandler>(
         });
     }
     let candidates = handler.candidates(cx, table.typing_mode(), goal)?;
-    evaluate_candidates(handler, cx, table, goal, &candidates, depth)
+    evaluate_candidates(handler, cx, table, goal, candidates, depth)
 }
 
 /// Whether a goal is answered by the handler's candidates: a closed trait goal that binds nothing, and
 /// that has neither aliases nor positions of a canonical value.
+#[inline(never)]
 fn is_candidates_goal(cx: &Cx, goal: Goal) -> bool
     requires { HoldsGoal cx.now.nodes goal }
     ensures { result ≡ true → IsAsked cx.now.nodes goal }
@@ -130,8 +132,7 @@ fn is_candidates_goal(cx: &Cx, goal: Goal) -> bool
     let ClauseKind::Trait(trait_ref) = clause else {
         return false;
     };
-    // What a store has are terms.
-    let _ = cx.nodes.len();
+    terms_are_formed(cx);
     let args = cx.nodes.facts(trait_ref.args.node);
     args.escaping.is_none()
 }
@@ -144,26 +145,38 @@ fn evaluate_candidates<H: GoalHandler>(
     cx: &mut Cx,
     table: &mut InferCtxt,
     goal: Goal,
-    candidates: &[CandidateData],
+    candidates: Vec<CandidateData>,
     depth: usize,
 ) -> Result<Answer, EvalError>
     requires posed { IsPosed cx.old.nodes table.old goal }
     requires asked { IsAsked cx.old.nodes goal }
     requires ready { H.ready cx.old.nodes handler.now }
-    requires candidates { AreCandidates cx.old.nodes goal candidates.now }
+    requires candidates { AreCandidates cx.old.nodes goal candidates.items }
     ensures goes { Goes cx.old.nodes cx.new.nodes table.old table.new }
     ensures rest { KeepsRest cx.old cx.new }
-    ensures proved { (base : List Tree) (v : ℕ → List Variance) → AreFormed base → Extends base cx.old.nodes → H.ready base handler.now → candidates_of cx.old.nodes candidates.now ≡ (H.handler base handler.now).offers (mode_of table.old.mode) (tree_at cx.old.nodes goal.param_env.node) (tree_at cx.old.nodes goal.predicate.node) → IfOk result (λ a. a.certainty ≡ certainty.Yes → IsProved (meaning (H.handler base handler.now) v) (mode_of table.old.mode) cx.new.nodes table.new goal) }
+    ensures proved { (base : List Tree) (v : ℕ → List Variance) → AreFormed base → Extends base cx.old.nodes → H.ready base handler.now → candidates_of cx.old.nodes candidates.items ≡ (H.handler base handler.now).offers (mode_of table.old.mode) (tree_at cx.old.nodes goal.param_env.node) (tree_at cx.old.nodes goal.predicate.node) → IfOk result (λ a. a.certainty ≡ certainty.Yes → IsProved (meaning (H.handler base handler.now) v) (mode_of table.old.mode) cx.new.nodes table.new goal) }
     ensures full { result ≢ Err EvalError.Full }
 {
-    match choose(cx, table, goal, candidates)? {
+    match choose(cx, table, goal, &candidates)? {
         Choice::None => Err(EvalError::NoSolution),
         Choice::Several => Ok(Answer {
             certainty: Certainty::AMBIGUOUS,
             has_overflowed: false,
         }),
-        Choice::One(i) => run_candidate(handler, cx, table, goal, &candidates[i], depth),
+        Choice::One(i) => {
+            let chosen = take_candidate(candidates, i);
+            run_candidate(handler, cx, table, goal, &chosen, depth)
+        }
     }
+}
+
+/// One of the candidates. The others are let go, so that they take no memory while it runs.
+#[inline(never)]
+fn take_candidate(mut candidates: Vec<CandidateData>, i: usize) -> CandidateData
+    requires { i < length candidates.items }
+    ensures { result ≡ get_or candidates.items i result }
+{
+    candidates.swap_remove(i)
 }
 
 /// How many candidates have equations that hold.
@@ -175,6 +188,7 @@ enum Choice {
 }
 
 /// Tries the equations of each candidate. The table is as before.
+#[inline(never)]
 fn choose(
     cx: &mut Cx,
     table: &mut InferCtxt,

@@ -15,7 +15,7 @@ ghost use Rattle.next_trait_solver.specs.Evaluation.{Goes, IsAdmitted, IsPosed};
 ghost use Rattle.nts_terms.specs.declared.certainty.Certainty.TheVariants as certainty;
 
 use crate::admission::{is_asked, is_root_term, is_settled_env};
-use crate::candidate::resolve_goal;
+use crate::candidate::{resolve_goal, terms_are_formed};
 use crate::delegate::GoalHandler;
 use crate::evaluate::evaluate_goal;
 use nts_table::InferCtxt;
@@ -82,13 +82,12 @@ pub fn evaluate_root_goal<H: GoalHandler>(
     ensures full { result ≢ Err EvalError.Full }
 {
     let _ = (span, stalled_on);
-    // What a store has are terms, before and after.
-    let _ = cx.nodes.len();
+    terms_are_formed(cx);
     let snapshot = table.start_snapshot()?;
     match evaluate_root(table, cx, handler, goal) {
         Ok(evaluation) => {
             if let Certainty::Yes = evaluation.certainty {
-                let _ = cx.nodes.len();
+                terms_are_formed(cx);
                 table.commit(snapshot);
                 return Ok(evaluation);
             }

@@ -51,7 +51,7 @@ evaluate_goal-compute_goal-requires g t c = λ κs k.
 pub compute_goal-evaluate_candidates-requires : goal.compute_goal-evaluate_candidates-requires
 compute_goal-evaluate_candidates-requires g t c = λ κs k.
     let e = c.in_ok-candidates.ensures in
-    (omega (arith, c.decreases), (k, (IsPosed-later (Goes-extends c.requires.posed.table e.extends) c.requires.posed, (IsAsked-extended e.extends (c.is_candidates_goal.ensures c.if-not-is_candidates_goal.false), (g.met.H.GoalHandler.ready_kept _ _ _ c.requires.ready e.extends, rw c.deref.ensures.value e.candidates)))))
+    (omega (arith, c.decreases), (k, (IsPosed-later (Goes-extends c.requires.posed.table e.extends) c.requires.posed, (IsAsked-extended e.extends (c.is_candidates_goal.ensures c.if-not-is_candidates_goal.false), (g.met.H.GoalHandler.ready_kept _ _ _ c.requires.ready e.extends, e.candidates)))))
 
 pub evaluate_candidates-run_candidate-requires : goal.evaluate_candidates-run_candidate-requires
 evaluate_candidates-run_candidate-requires g t c = λ κs k.
@@ -65,8 +65,8 @@ evaluate_candidates-run_candidate-requires g t c = λ κs k.
             IsAsked-extended e.extends c.requires.asked,
             (
               g.met.H.GoalHandler.ready_kept _ _ _ c.requires.ready e.extends,
-              let at : c.in-One.i < length c.args.candidates.now = rw c.in-One.is at e.within in
-                  rw c.index-candidates-i.is (IsCandidate-extended e.extends c.requires.posed.holds (candidate_at c.args.cx.now.nodes c.args.goal c.args.candidates.now c.in-One.i _ c.requires.candidates at)),
+              let at : c.in-One.i < length c.args.candidates.items = rw (c.in-One.is, c.deref.ensures.value) at e.within in
+                  rw c.take_candidate-chosen.ensures (IsCandidate-extended e.extends c.requires.posed.holds (candidate_at c.args.cx.now.nodes c.args.goal c.args.candidates.items c.in-One.i _ c.requires.candidates at)),
             ),
           ),
         ),
@@ -92,13 +92,13 @@ compute_goal-returns-clause-proved g t c = λ base v f e r.
     let k = c.in_ok-candidates.ensures in
     let same = g.met.H.GoalHandler.handler_kept base c.candidates.new.cx.nodes c.args.handler.now r (Extends-trans e k.extends) in
     c.evaluate_candidates.ensures.proved base v f (Extends-trans e k.extends) r
-    (rw (c.deref.ensures.value) (k.offered ∙ ap (λ m. (g.H.GoalHandler.handler c.candidates.new.cx.nodes c.args.handler.now).offers (mode_of m) (tree_at c.candidates.new.cx.nodes c.args.goal.param_env.node) (tree_at c.candidates.new.cx.nodes c.args.goal.predicate.node)) c.typing_mode.ensures ∙ same.offers _ _ _))
+    (k.offered ∙ ap (λ m. (g.H.GoalHandler.handler c.candidates.new.cx.nodes c.args.handler.now).offers (mode_of m) (tree_at c.candidates.new.cx.nodes c.args.goal.param_env.node) (tree_at c.candidates.new.cx.nodes c.args.goal.predicate.node)) c.typing_mode.ensures ∙ same.offers _ _ _)
 
 pub evaluate_candidates-returns-in-One-clause-proved : goal.evaluate_candidates-returns-in-One-clause-proved
 evaluate_candidates-returns-in-One-clause-proved g t c = λ base v f e r offered.
     let k = c.in_ok-choose.ensures in
-    let at : c.in-One.i < length c.args.candidates.now = rw c.in-One.is at k.within in
-    let there = offered_there c.args.goal _ c.args.candidates.now c.in-One.i c.index-candidates-i.is at c.requires.candidates k.extends offered in
+    let at : c.in-One.i < length c.args.candidates.items = rw (c.in-One.is, c.deref.ensures.value) at k.within in
+    let there = offered_there c.args.goal _ c.args.candidates.items c.in-One.i c.take_candidate-chosen.ensures at c.requires.candidates k.extends offered in
     rw (k.same) at (c.run_candidate.ensures.proved base v f (Extends-trans e k.extends) r (rw (k.same, k.extends.kept c.args.goal.param_env.node c.requires.posed.holds.env.within, k.extends.kept c.args.goal.predicate.node c.requires.posed.holds.predicate.within) there))
 
 pub evaluate_goal-returns-in_err-snapshot-clause-goes : goal.evaluate_goal-returns-in_err-snapshot-clause-goes

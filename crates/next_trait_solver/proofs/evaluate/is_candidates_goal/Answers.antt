@@ -14,7 +14,7 @@ returns c = λ yes.
     let none : row_length (children (tree_at c.args.cx.now.nodes c.kind-predicate.result.vars.node)) ≡ 0 = first_of (cc, search rules) in
     trait_asked c.args.cx.now.nodes c.args.goal c.kind-predicate.result c.in-Trait.trait_ref c.facts-env.result c.facts-facts.result c.facts-args.result
     (record {
-      formed = c.len-2.ensures.formed;
+      formed = c.terms_are_formed.ensures;
       holds = c.requires;
       says = c.kind-predicate.ensures.tree;
       fits = c.kind-predicate.ensures.fits;

@@ -23,7 +23,7 @@ returns-in-Err-clause-goes g c =
 pub returns-in-Yes-clause-proved : goal.returns-in-Yes-clause-proved
 returns-in-Yes-clause-proved g c = λ y v.
     let h = c.in-Ok.ensures in
-    let proved = Stays-now c.len-in-Yes.ensures.formed h.goes.table (h.proved c.args.cx.now.nodes v c.len.ensures.formed (Extends-refl _) c.requires.ready y) in
+    let proved = Stays-now c.terms_are_formed-in-Yes.ensures h.goes.table (h.proved c.args.cx.now.nodes v c.terms_are_formed.ensures (Extends-refl _) c.requires.ready y) in
     rw (c.commit.ensures.entries, ← c.start_snapshot.ensures.mode) (IsProved-held _ _ _ _ _ h.goes.table.now.sound proved)
 
 pub returns-in_err-snapshot-clause-goes : goal.returns-in_err-snapshot-clause-goes
