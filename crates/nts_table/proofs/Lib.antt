@@ -28,3 +28,6 @@ pub mod Conditions
 pub mod Filling
 pub mod Judging
 pub mod MetPairs
+pub mod ValueParts
+pub mod ValueTasks
+pub mod ValueTurns

@@ -44,19 +44,19 @@ named_take w u empty (suc i) h k = tt
 named_take w u (more a b) (suc i) h k = (k.0, named_take w u b i (omega arith) k.1)
 named_take w u (node l c) (suc i) h k = absurd (omega arith)
 
-closed_at : (w : World) (n : ℕ) (r : Tree) (i : ℕ) → i < row_length r → IsClosedUnder n (inst w r) → IsClosedUnder n (inst w (row_at r i))
+pub closed_at : (w : World) (n : ℕ) (r : Tree) (i : ℕ) → i < row_length r → IsClosedUnder n (inst w r) → IsClosedUnder n (inst w (row_at r i))
 closed_at w n empty i h k = absurd (omega arith)
 closed_at w n (more a b) zero h k = k.0
 closed_at w n (more a b) (suc i) h k = closed_at w n b i (omega arith) k.1
 closed_at w n (node l c) i h k = absurd (omega arith)
 
-size_at : (w : World) (r : Tree) (i : ℕ) → i < row_length r → size (inst w (row_at r i)) + 1 ≤ size (inst w r)
+pub size_at : (w : World) (r : Tree) (i : ℕ) → i < row_length r → size (inst w (row_at r i)) + 1 ≤ size (inst w r)
 size_at w empty i h = absurd (omega arith)
 size_at w (more a b) zero h = omega arith
 size_at w (more a b) (suc i) h = let deeper = size_at w b i (omega arith) in omega (arith, deeper)
 size_at w (node l c) i h = absurd (omega arith)
 
-flag_one : (t : Tree) → IsInfer t → variable_flag t ≡ 1
+pub flag_one : (t : Tree) → IsInfer t → variable_flag t ≡ 1
 flag_one empty h = absurd h
 flag_one (more a b) h = absurd h
 flag_one (node l c) h = (let q = h.1 in rw q refl)

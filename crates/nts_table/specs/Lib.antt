@@ -20,3 +20,4 @@ pub mod Joining
 pub mod Relating
 pub mod Knowing
 pub mod Met
+pub mod Parts

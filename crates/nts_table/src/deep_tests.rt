@@ -20,6 +20,18 @@ fn ladder(rt: &impl Abort, fixture: &mut Fixture, bottom: GenericArg, levels: u3
     term
 }
 
+/// A type under that many constructors of one argument.
+fn nested(rt: &impl Abort, fixture: &mut Fixture, bottom: GenericArg, depth: u32) -> GenericArg
+    requires { IsTable fixture.old.cx.nodes fixture.old.table }
+    ensures { IsTable fixture.new.cx.nodes fixture.new.table }
+{
+    let mut term = bottom;
+    for _ in 0..depth {
+        term = fixture.wrap(rt, term);
+    }
+    term
+}
+
 #[test]
 fn variables_of_a_ladder(rt: HostRuntime) {
     let mut fixture = Fixture::new(&rt, rt.alloc());
@@ -58,4 +70,31 @@ fn a_ladder_of_a_type(rt: HostRuntime) {
     fixture.has(&rt, 0, 0, State::Known(byte.node));
     fixture.refuses(&rt, left, other);
     fixture.refuses(&rt, right, other);
+}
+
+/// A ladder as the value of a variable: each of its nodes is made once.
+#[test]
+fn a_ladder_for_a_variable(rt: HostRuntime) {
+    let mut fixture = Fixture::new(&rt, rt.alloc());
+    let low = fixture.ty_var(&rt);
+    fixture.universe(&rt);
+    let high = fixture.ty_var(&rt);
+    let tall = ladder(&rt, &mut fixture, high, 60);
+    fixture.relates(&rt, low, tall);
+    fixture.counts(&rt, 3, 0);
+    fixture.stands_for(&rt, low, tall);
+    fixture.refuses(&rt, high, tall);
+}
+
+/// A term that is nested very deep, as the value of a variable.
+#[test]
+fn a_deep_term_for_a_variable(rt: HostRuntime) {
+    let mut fixture = Fixture::new(&rt, rt.alloc());
+    let low = fixture.ty_var(&rt);
+    fixture.universe(&rt);
+    let high = fixture.ty_var(&rt);
+    let deep = nested(&rt, &mut fixture, high, 100_000);
+    fixture.equates(&rt, low, deep);
+    fixture.counts(&rt, 3, 0);
+    fixture.has(&rt, 2, 0, State::Link(1));
 }

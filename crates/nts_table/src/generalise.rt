@@ -1,5 +1,5 @@
-//! The value that a variable gets for a term.
-ghost use Rattle.std.specs.Prelude.{◌≡◌, ◌≢◌, ◌+◌, ◌^◌, ◌<◌, length, OnOk, IfOk, Some, None, Err, true, false};
+//! The leaves of the value that a variable gets for a term.
+ghost use Rattle.std.specs.Prelude.{◌≡◌, ◌≢◌, ◌<◌, length, OnOk, IfOk, Some, None, Err, true, false};
 ghost use Rattle.nts_model.specs.declared.labels.VariableKind.TheVariants as kind;
 ghost use Rattle.nts_model.specs.Contents.{kind_at};
 ghost use Rattle.nts_model.specs.Resolving.{Knows, variable_tree};
@@ -7,18 +7,16 @@ ghost use Rattle.nts_model.specs.Trees.{IsBoundBelow};
 ghost use Rattle.nts_model.specs.Levels.{CanName, term_level, region_level};
 ghost use Rattle.nts_terms.specs.Growth.{tree_at, IsIn, Extends};
 ghost use Rattle.nts_table.specs.Reading.{content_of, IsLawful};
-ghost use Rattle.nts_table.specs.Joining.{IsBindable};
 ghost use Rattle.nts_table.specs.Entries.{added};
-ghost use Rattle.nts_table.specs.Relating.{Generalised, Blocks, IsOpen, IsRegionOf, IsSettled};
+ghost use Rattle.nts_table.specs.Relating.{Generalised, IsOpen, IsRegionOf, IsSettled};
 
 use crate::contents::{Constraint, State, Variable};
 use crate::infer_ctxt::InferCtxt;
 use crate::join::{join, join_regions};
-use crate::labels::{infer_number, names_free_region, region_number};
+use crate::labels::region_number;
 use indexmap::IndexSet;
 use nts_model::{BoundIndex, Constant, FreeRegion, Label, Leaf, Relation, VariableKind};
-use nts_terms::{EvalError, Facts, NodeId, Nodes, binders_of};
-use std::alloc::Global;
+use nts_terms::{EvalError, Facts, NodeId, Nodes};
 
 /// What a value is made for: a variable, the universe that bounds its leaves, and how many binders
 /// stand around the part that is walked.
@@ -31,7 +29,7 @@ pub struct Target {
 
 /// Whether a term is its own value: it has no variable and no placeholder, and no bound variable
 /// passes the binders.
-fn is_settled(facts: Facts, binders: usize) -> bool
+pub(crate) fn is_settled(facts: Facts, binders: usize) -> bool
     ensures { result ≡ true → IsSettled facts binders }
 {
     if facts.has_infer || facts.has_region_infer || facts.has_placeholder {
@@ -45,7 +43,7 @@ fn is_settled(facts: Facts, binders: usize) -> bool
 
 /// Whether a label may stand in the value: a placeholder is of a universe that the target's can name,
 /// and a bound variable does not pass the binders.
-fn is_allowed(target: Target, label: Label) -> bool
+pub(crate) fn is_allowed(target: Target, label: Label) -> bool
     ensures named { result ≡ true → CanName target.universe (term_level label) }
     ensures bound { result ≡ true → IsBoundBelow target.binders label }
     ensures no { result ≡ false → CanName target.universe (term_level label) → IsBoundBelow target.binders label → ⊥ }
@@ -60,7 +58,7 @@ fn is_allowed(target: Target, label: Label) -> bool
 
 /// A term for a variable without value: itself, or a fresh variable where the universe cannot name it.
 /// The two are joined, which brings the variable down to the universe; `moved` holds those that came
-/// down, so that each of their occurrences gets its own.
+/// down, so that each further term that names one gets its own.
 pub(crate) fn name_variable(
     nodes: &mut Nodes,
     table: &mut InferCtxt,
@@ -134,7 +132,7 @@ fn fresh_region(
 
 /// A term for a free region: itself, or its root where it is a variable, or a fresh variable where the
 /// universe cannot name it. The two are made equal.
-fn name_region(
+pub(crate) fn name_region(
     nodes: &mut Nodes,
     table: &mut InferCtxt,
     moved: &mut IndexSet<usize>,
@@ -188,68 +186,4 @@ fn is_beyond(label: Label, universe: u32) -> bool
         Label::Leaf(Leaf::Region(FreeRegion::Placeholder(u, _))) => universe < u,
         _ => false,
     }
-}
-
-/// A value for the target's variable that stands for the term: in it are leaves that the target's
-/// universe names alone, and not the variable.
-pub fn generalise(
-    alloc: Global,
-    nodes: &mut Nodes,
-    table: &mut InferCtxt,
-    moved: &mut IndexSet<usize>,
-    target: Target,
-    t: NodeId,
-) -> Result<NodeId, EvalError>
-    requires within { IsIn nodes.old t }
-    requires knows { Knows (content_of nodes.old table.old.entries) (tree_at nodes.old t) }
-    requires lawful { IsLawful nodes.old table.old.entries }
-    requires known { target.variable < length table.old.entries.variables }
-    requires no_region { kind_at (content_of nodes.old table.old.entries) target.variable ≢ Some kind.Region }
-    requires room { target.binders + t.number < 2 ^ 64 }
-    ensures extends { Extends nodes.old nodes.new }
-    ensures saved { table.new.saved ≡ table.old.saved }
-    ensures mode { table.new.mode ≡ table.old.mode }
-    ensures hidden { table.new.entries.hidden ≡ table.old.entries.hidden }
-    ensures within { IfOk result (λ r. IsIn nodes.new r) }
-    ensures lawful { OnOk result (IsLawful nodes.new table.new.entries) }
-    ensures generalised { IfOk result (λ r. Generalised (content_of nodes.old table.old.entries) (content_of nodes.new table.new.entries) target.variable target.universe target.binders (tree_at nodes.old t) (tree_at nodes.new r)) }
-    ensures full { result ≢ Err EvalError.Full }
-    ensures no { result ≡ Err EvalError.NoSolution → Blocks (content_of nodes.old table.old.entries) target.variable target.universe target.binders (tree_at nodes.old t) }
-{
-    let label = nodes.label(t);
-    if let Some(n) = infer_number(label) {
-        let root = table.root(n);
-        if let State::Known(value) = table.variable(root).state {
-            let outer = Target {
-                binders: 0,
-                ..target
-            };
-            return generalise(alloc, nodes, table, moved, outer, value);
-        }
-        if root == target.variable {
-            return Err(EvalError::NoSolution);
-        }
-        return name_variable(nodes, table, moved, target, t, root);
-    }
-    if is_settled(nodes.facts(t), target.binders) {
-        return Ok(t);
-    }
-    if names_free_region(label) {
-        return name_region(nodes, table, moved, target, t);
-    }
-    if !is_allowed(target, label) {
-        return Err(EvalError::NoSolution);
-    }
-    let count = nodes.child_count(t);
-    let mut children = Vec::new(alloc);
-    for i in 0..count {
-        let child = nodes.child(t, i);
-        let binders = target.binders + binders_of(label);
-        let inner = Target { binders, ..target };
-        match generalise(alloc, nodes, table, moved, inner, child) {
-            Err(error) => return Err(error),
-            Ok(r) => children.push(r)?,
-        }
-    }
-    Ok(nodes.make(label, &children)?)
 }

@@ -36,6 +36,7 @@ mod roots;
 mod shallow;
 #[cfg(test)]
 mod tests;
+mod value_walk;
 mod variables;
 
 pub use contents::{Constraint, HiddenType, State, Variable};

@@ -12,12 +12,13 @@ ghost use Rattle.nts_table.specs.Relating.{IsHead, IsClosed, IsRegionOf, Regions
 ghost use Rattle.nts_terms.specs.declared.fault.EvalError.TheVariants.{NoSolution};
 
 use crate::contents::{Constraint, State, Variable};
-use crate::generalise::{Target, generalise, name_variable};
+use crate::generalise::{Target, name_variable};
 use crate::infer_ctxt::InferCtxt;
 use crate::join::{join, join_regions};
 use crate::labels::{
     fits, infer_number, is_same, is_same_kind, names_free_region, region_number, takes_variable,
 };
+use crate::value_walk::generalise;
 use indexmap::IndexSet;
 use nts_model::{Label, Leaf, Relation};
 use nts_terms::{EvalError, NodeId, Nodes};
@@ -201,8 +202,7 @@ fn bind(
         universe: variable.universe,
         binders: 0,
     };
-    let mut moved = IndexSet::new(alloc);
-    match generalise(alloc, nodes, table, &mut moved, target, t) {
+    match generalise(alloc, nodes, table, target, t) {
         Err(error) => Err(error),
         Ok(value) => {
             let _ = nodes.len();

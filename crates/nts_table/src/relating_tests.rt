@@ -136,10 +136,9 @@ fn generalised_variable(rt: HostRuntime) {
     let high = fixture.ty_var(&rt);
     let value = fixture.pair(&rt, high, high);
     fixture.relates(&rt, low, value);
-    fixture.counts(&rt, 4, 0);
+    fixture.counts(&rt, 3, 0);
     fixture.has(&rt, 1, 0, State::Unset);
     fixture.has(&rt, 2, 0, State::Link(1));
-    fixture.has(&rt, 3, 0, State::Link(1));
     fixture.stands_for(&rt, low, value);
 }
 

@@ -14,19 +14,19 @@ use Rattle.nts_terms.specs.Growth.{tree_at}
 use Rattle.nts_table.proofs.BindLemmas.{HasValue, bind_value, bindable_no_region}
 use Rattle.nts_table.proofs.relate.bind.Goals as goal
 
-no_region : (c : goal.After-drop-moved-inside-5) → c.variable-variable.result.kind ≢ kind.Region
+no_region : (c : goal.In_ok-bind-in-Ok) → c.variable-variable.result.kind ≢ kind.Region
 no_region c = λ r.
     bindable_no_region c.args.nodes.now c.args.table.now.entries c.args.x c.requires.open (kind_at-entry c.args.nodes.now c.args.table.now.entries c.args.x c.variable-variable.result c.variable-variable.ensures ∙ ap Some r)
 
-bound : (c : goal.After-drop-moved-inside-5) → HasValue c.args.nodes.now c.generalise.new.nodes c.args.table.now.entries c.bind.new.self.entries c.args.x (tree_at c.args.nodes.now c.args.t)
+bound : (c : goal.In_ok-bind-in-Ok) → HasValue c.args.nodes.now c.generalise.new.nodes c.args.table.now.entries c.bind.new.self.entries c.args.x (tree_at c.args.nodes.now c.args.t)
 bound c =
     bind_value c.args.nodes.now c.generalise.new.nodes c.args.table.now.entries c.generalise.new.table.entries c.bind.new.self.entries c.args.x c.args.t c.in-Ok.value c.variable-variable.result c.variable-variable-in-Ok.result c.requires.lawful c.requires.open c.variable-variable.ensures c.requires.closed.knows c.in-Ok.ensures.lawful c.in-Ok.ensures.within (c.len.ensures.formed c.in-Ok.value c.in-Ok.ensures.within) c.in-Ok.ensures.generalised (omega (arith, c.in-Ok.ensures.generalised.rank, no_rank _ c.requires.closed.no_variable, rank_positive c.variable-variable.result.kind (no_region c))) (c.in-Ok.ensures.generalised.fits c.variable-variable.result.kind (no_region c) (no_rank _ c.requires.closed.no_variable) (subst (λ (y : Tree). Fits c.variable-variable.result.kind y) (sym c.label.ensures.is) (c.fits.ensures.yes c.if-not-fits.false _))) c.variable-variable-in-Ok.ensures c.in_ok-bind-in-Ok.ensures.entries
 
-pub returns-clause-lawful : goal.returns-clause-lawful
-returns-clause-lawful c = (bound c).lawful
+pub returns-in_ok-bind-in-Ok-clause-lawful : goal.returns-in_ok-bind-in-Ok-clause-lawful
+returns-in_ok-bind-in-Ok-clause-lawful c = (bound c).lawful
 
-pub returns-clause-set : goal.returns-clause-set
-returns-clause-set c = (bound c).set
+pub returns-in_ok-bind-in-Ok-clause-set : goal.returns-in_ok-bind-in-Ok-clause-set
+returns-in_ok-bind-in-Ok-clause-set c = (bound c).set
 
 pub generalise-requires-clause-no_region : goal.generalise-requires-clause-no_region
 generalise-requires-clause-no_region c = bindable_no_region c.args.nodes.now c.args.table.now.entries c.args.x c.requires.open
