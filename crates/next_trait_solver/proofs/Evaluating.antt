@@ -13,8 +13,9 @@ use Rattle.nts_terms.specs.declared.handles.Goal.{Goal}
 use Rattle.nts_terms.specs.Growth.{tree_at, trees_at, IsIn, AllIn, Extends}
 use Rattle.nts_terms.specs.Handles.{Holds}
 use Rattle.nts_terms.specs.Kept.{AllIn-kept, map-kept}
-use Rattle.nts_terms.specs.Filled.{HasValue, HasValues, kind_of-filled}
-use Rattle.nts_model.specs.Handlers.{position_of, filled, IsValueOf, AreValuesOf, IsOfSort, NamesAt, NamesFresh}
+use Rattle.nts_terms.specs.Filled.{HasValue, HasValues}
+use Rattle.nts_model.specs.Rules.{Mode}
+use Rattle.nts_model.specs.Handlers.{Handler, position_of, filled, IsValueOf, AreValuesOf, IsOfSort, NamesAt, NamesFresh}
 use Rattle.nts_model.specs.Regions.{of_variable}
 use Rattle.nts_terms.proofs.Growing.{Extends-trans, Extends-refl, IsIn-extended}
 use Rattle.nts_table.specs.Entries.{Entries, Table, added, constrained}
@@ -43,7 +44,11 @@ use Rattle.nts_terms.specs.Rest.{KeepsRest}
 use Rattle.next_trait_solver.specs.declared.delegate.Equation.{Equation}
 use Rattle.nts_model.specs.declared.labels.Sort.TheVariants as sort
 use Rattle.next_trait_solver.specs.Candidates.{IsEquation, AreEquations, IsRegionConstraint, AreRegionConstraints, IsNested, AreNested, IsCandidate, AreCandidates, HoldsGoal, IsOver}
-use Rattle.next_trait_solver.specs.Evaluation.{Goes, IsAdmitted, IsPosed, AllKnown, AreOfSorts, AreValues, IsTermOf}
+use Rattle.nts_terms.specs.Formed.{AreFormed}
+use Rattle.nts_terms.proofs.Moved.{KeepsRest-refl}
+use Rattle.next_trait_solver.specs.Meant.{Since, offers_of}
+use Rattle.next_trait_solver.specs.Instances.{HoldsValues, IsInstance}
+use Rattle.next_trait_solver.specs.Evaluation.{Goes, Runs, IsAdmitted, IsPosed, AllKnown, AreOfSorts, AreValues, IsTermOf}
 
 pub Goes-trans : {a b c : List Tree} {t u v : Table} → Goes a b t u → Goes b c u v → Goes a c t v
 Goes-trans {a} {b} {c} {t} {u} {v} g h =
@@ -156,22 +161,32 @@ can_fill {a} {t} {g} {fresh} {vs} {x} p o v =
       knows = knows-filled (content_of a t.entries) (map (tree_at a) vs) (tree_at a x) (λ i. known-there (content_of a t.entries) (map (tree_at a) vs) i v.known) (o.knows (content_of a t.entries) p.knows);
     }
 
--- the filled term in the store that has grown
-pub record IsFilled (b : List Tree) (t : Table) (x y : NodeId) (a : List Tree) : Type 0 where
-  pub term : IsTermOf b t y
-  pub kind : kind_of (tree_at b y) ≡ kind_of (tree_at a x)
+-- values that stand for variables are terms of their sorts
+pub held_values : {a : List Tree} {t : Table} {fresh : List Sort} {vs : List NodeId} → AreValues a t fresh vs → HoldsValues a fresh vs
+held_values h = record { within = h.within; sorts = h.sorts }
 
-pub is_filled : {a b : List Tree} {t : Table} {vs : List NodeId} {x y : NodeId} → IsTable a t → CanFill a t vs x → Extends a b → IsIn b y → tree_at b y ≡ filled (map (tree_at a) vs) (tree_at a x) → IsFilled b t x y a
-is_filled {a} {b} {t} {vs} {x} {y} h f e w q =
-    let same = content_of-extended e h.now in
-    record {
-      term = record { within = w; knows = rw (q, same) f.knows };
-      kind = ap kind_of q ∙ kind_of-filled (map (tree_at a) vs) (tree_at a x) f.positions;
-    }
+pub HoldsValues-extended : {a b : List Tree} {fresh : List Sort} {vs : List NodeId} → Extends a b → HoldsValues a fresh vs → HoldsValues b fresh vs
+HoldsValues-extended {a} {b} {fresh} {vs} e h =
+    record { within = AllIn-kept a b vs h.within e; sorts = rw (map-kept a b vs h.within e) h.sorts }
 
 -- a filled tree, in a store that has grown
-pub filled-kept : {a b : List Tree} (vs : List NodeId) (x : NodeId) → AllIn a vs → IsIn a x → Extends a b → filled (map (tree_at b) vs) (tree_at b x) ≡ filled (map (tree_at a) vs) (tree_at a x)
+filled-kept : {a b : List Tree} (vs : List NodeId) (x : NodeId) → AllIn a vs → IsIn a x → Extends a b → filled (map (tree_at b) vs) (tree_at b x) ≡ filled (map (tree_at a) vs) (tree_at a x)
 filled-kept {a} {b} vs x w i e = rw (map-kept a b vs w e, e.kept x i) refl
+
+-- an instance of a term is a term of the table, and it is one in a store that grows later or has grown before
+pub instance_term : {a b : List Tree} {t : Table} {vs : List NodeId} {x y : NodeId} → IsTable a t → CanFill a t vs x → Extends a b → IsInstance a b vs x y → IsTermOf b t y
+instance_term {a} {b} {t} {vs} {x} {y} h f e q =
+    let same = content_of-extended e h.now in
+    record { within = q.within; knows = rw (q.tree, same) f.knows }
+
+pub IsInstance-later : {a b d : List Tree} {vs : List NodeId} {x y : NodeId} → Extends b d → AreFormed d → IsInstance a b vs x y → IsInstance a d vs x y
+IsInstance-later {a} {b} {d} {vs} {x} {y} e f q =
+    let kept = e.kept y q.within in
+    record { formed = f; within = IsIn-extended e y q.within; kind = ap kind_of kept ∙ q.kind; tree = kept ∙ q.tree }
+
+pub IsInstance-earlier : {a b d : List Tree} {vs : List NodeId} {x y : NodeId} → AllIn a vs → IsIn a x → Extends a b → IsInstance b d vs x y → IsInstance a d vs x y
+IsInstance-earlier {a} {b} {d} {vs} {x} {y} w i e q =
+    record { formed = q.formed; within = q.within; kind = q.kind ∙ ap kind_of (e.kept x i); tree = q.tree ∙ filled-kept vs x w i e }
 
 -- a goal of two terms of the right kinds
 pub goal_posed : {b : List Tree} {t : Table} {e p : NodeId} → IsTable b t → IsTermOf b t e → kind_of (tree_at b e) ≡ Some environment → IsTermOf b t p → kind_of (tree_at b p) ≡ Some bound_predicate → IsPosed b t (record { param_env = record { node = e }; predicate = record { node = p } })
@@ -325,6 +340,29 @@ KeepsRest-trans g h =
       limit = h.limit ∙ g.limit;
       fast_paths = h.fast_paths ∙ g.fast_paths;
     }
+
+pub Runs-trans : {a b c : Cx} {t u v : Table} → Runs a b t u → Runs b c u v → Runs a c t v
+Runs-trans g h = record { goes = Goes-trans g.goes h.goes; rest = KeepsRest-trans g.rest h.rest }
+
+-- the store grows beside the table
+pub Runs-extends : {a b : Cx} {t : Table} → IsTable a.nodes t → Extends a.nodes b.nodes → KeepsRest a b → Runs a b t t
+Runs-extends h e r = record { goes = Goes-extends h e; rest = r }
+
+-- .. and what was done to the table was undone
+pub runs-back : {a b : Cx} {t u : Table} → IsTable a.nodes t → Extends a.nodes b.nodes → KeepsRest a b → u ≡ t → Runs a b t u
+runs-back {a} {b} {t} {u} h e r q = record { goes = rw q (Goes-extends h e); rest = r }
+
+pub Runs-refl : {a : Cx} {t : Table} → IsTable a.nodes t → Runs a a t t
+Runs-refl {a} h = record { goes = Goes-extends h (Extends-refl a.nodes); rest = KeepsRest-refl a }
+
+-- what a handler was ready for earlier, while the store grows
+abbrev pub Since-later : {ready : List Tree → Type 0} {a b : List Tree} → Extends a b → Since ready a → Since ready b
+Since-later e s = record { base = s.base; formed = s.formed; extends = Extends-trans s.extends e; is_ready = s.is_ready; variances = s.variances }
+
+-- what is offered for a goal stays, while the store grows
+pub offers-kept : {a b : List Tree} {g : Goal} (h : Handler) (mode : Mode) → Extends a b → HoldsGoal a g → offers_of h mode b g ≡ offers_of h mode a g
+offers-kept {a} {b} {g} h mode e p =
+    ap (λ x. h.offers mode x (tree_at b g.predicate.node)) (e.kept g.param_env.node p.env.within) ∙ ap (h.offers mode (tree_at a g.param_env.node)) (e.kept g.predicate.node p.predicate.within)
 
 -- a call on the store and the table
 pub goes : {a b : List Tree} {t u : Table} → IsTable a t → Extends a b → IsTable b u → IsLater (content_of a t.entries) (content_of b u.entries) → Continues (content_of a t.entries) (content_of b u.entries) → u.saved ≡ t.saved → u.mode ≡ t.mode → u.entries.hidden ≡ t.entries.hidden → Goes a b t u

@@ -15,7 +15,9 @@ use Rattle.nts_model.specs.Holding.{Continues}
 use Rattle.nts_model.specs.Handlers.{AreValuesOf}
 use Rattle.nts_terms.specs.declared.nodes.NodeId.{NodeId}
 use Rattle.nts_terms.specs.declared.handles.Goal.{Goal}
+use Rattle.nts_terms.specs.declared.cx.Cx.{Cx}
 use Rattle.nts_terms.specs.Growth.{tree_at, IsIn, AllIn, Extends}
+use Rattle.nts_terms.specs.Rest.{KeepsRest}
 use Rattle.nts_table.specs.Entries.{Table}
 use Rattle.nts_table.specs.Reading.{content_of, IsTable}
 use Rattle.next_trait_solver.specs.Candidates.{HoldsGoal, KnowsGoal}
@@ -31,6 +33,11 @@ pub record Goes (ts us : List Tree) (t u : Table) : Type 0 where
   pub saved : u.saved ≡ t.saved
   pub mode : u.mode ≡ t.mode
   pub hidden : u.entries.hidden ≡ t.entries.hidden
+
+-- .. and what else the store keeps is the same
+pub record Runs (a b : Cx) (t u : Table) : Type 0 where
+  pub goes : Goes a.nodes b.nodes t u
+  pub rest : KeepsRest a b
 
 -- a goal of the store and the table
 pub record IsPosed (ts : List Tree) (t : Table) (g : Goal) : Type 0 where

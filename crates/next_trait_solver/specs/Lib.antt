@@ -6,6 +6,8 @@ pub mod Choices
 pub mod Offers
 pub mod Adding
 pub mod Running
+pub mod Instances
+pub mod Meant
 pub mod ClauseHandlers
 pub mod Offered
 pub mod SameHandlers

@@ -59,7 +59,8 @@ pub fn is_root_term(table: &InferCtxt, cx: &Cx, t: NodeId) -> Result<bool, Alloc
 /// Whether a predicate may be asked at the root.
 pub fn is_asked(cx: &Cx, t: NodeId) -> Result<bool, AllocError>
     requires { IsIn cx.now.nodes t }
-    ensures { IfOk result (λ b. IsTrue b ↔ (any_label is_internal (tree_at cx.now.nodes t) ≡ false)) }
+    ensures { IfOk result (λ b. IsTrue b ↔ (any_label is_internal
+        (tree_at cx.now.nodes t) ≡ false)) }
 {
     all_labels(cx.alloc, &cx.nodes, t, &NoInternalPredicate)
 }
@@ -68,12 +69,13 @@ pub fn is_asked(cx: &Cx, t: NodeId) -> Result<bool, AllocError>
 pub fn is_settled_env(table: &InferCtxt, cx: &mut Cx, t: NodeId) -> Result<bool, Fault>
     requires table { IsTable cx.old.nodes table.now }
     requires term { IsTermOf cx.old.nodes table.now t }
-    ensures answer { IfOk result (λ b. IsTrue b ↔ (any_label is_type_variable (deeply_resolved (content_of cx.old.nodes table.now.entries) (tree_at cx.old.nodes t)) ≡ false)) }
+    ensures answer { IfOk result (λ b. IsTrue b ↔ (any_label is_type_variable (deeply_resolved
+        (content_of cx.old.nodes table.now.entries) (tree_at cx.old.nodes t)) ≡ false)) }
     ensures extends { Extends cx.old.nodes cx.new.nodes }
     ensures rest { KeepsRest cx.old cx.new }
     ensures memory { IsOkUnless result Fault.Memory }
 {
-    let resolved = resolve_term(cx, table, t)?;
+    let resolved = resolve_term(table, cx, t)?;
     let settled = all_labels(cx.alloc, &cx.nodes, resolved, &NoTypeVariable)?;
     Ok(settled)
 }

@@ -1,19 +1,18 @@
 //! Trying and running one candidate.
-ghost use Rattle.std.specs.Prelude.{◌≡◌, ◌≢◌, true, List, map, IfOk, OnOk, OnErr, IsOkUnless};
-ghost use Rattle.nts_model.specs.Trees.{kind_of, IsFormed};
+ghost use Rattle.std.specs.Prelude.{◌≡◌, ◌≢◌, true, List, map, IfOk, OnOk, IsOkUnless};
+ghost use Rattle.nts_model.specs.Trees.{kind_of};
 ghost use Rattle.nts_terms.specs.Growth.{tree_at, IsIn, Extends};
 ghost use Rattle.nts_terms.specs.Formed.{AreFormed};
 ghost use Rattle.nts_terms.specs.Rest.{KeepsRest};
-ghost use Rattle.nts_table.specs.Entries.{Table};
 ghost use Rattle.nts_table.specs.Reading.{content_of, IsTable};
 ghost use Rattle.nts_table.specs.Resolution.{IsResolved};
 ghost use Rattle.nts_model.specs.Resolving.{deeply_resolved};
-ghost use Rattle.next_trait_solver.specs.Candidates.{IsOver, IsEquation, IsNested, IsCandidate, IsRegionConstraint};
+ghost use Rattle.next_trait_solver.specs.Candidates.{HoldsGoal, IsOver, IsEquation, IsNested, IsCandidate, IsRegionConstraint, AreRegionConstraints};
 ghost use Rattle.nts_model.specs.Alike.{AreAlike};
-ghost use Rattle.nts_model.specs.Handlers.{filled};
 ghost use Rattle.next_trait_solver.specs.Offered.{equation_of, constraint_of};
 ghost use Rattle.next_trait_solver.specs.Running.{Stays, EquationHolds, ConstraintHolds, Equates, Constrains};
-ghost use Rattle.next_trait_solver.specs.Evaluation.{Goes, IsPosed, AreValues, IsTermOf};
+ghost use Rattle.next_trait_solver.specs.Evaluation.{Runs, IsPosed, AreValues, IsTermOf};
+ghost use Rattle.next_trait_solver.specs.Instances.{HoldsValues, IsInstance, Asks};
 
 use crate::delegate::{CandidateData, Equation, RegionConstraint};
 use nts_model::{Relation, Sort};
@@ -36,77 +35,94 @@ fn has_no_variable(cx: &Cx, t: NodeId) -> bool
     !facts.has_infer && !facts.has_region_infer
 }
 
-/// A term of a candidate, with the values in place of its fresh variables.
-pub fn fill(
-    cx: &mut Cx,
-    table: &InferCtxt,
-    goal: Goal,
-    fresh: &[Sort],
-    values: &[NodeId],
-    t: NodeId,
-) -> Result<NodeId, Fault>
-    requires posed { IsPosed cx.old.nodes table.now goal }
-    requires over { IsOver cx.old.nodes fresh.now goal t }
-    requires values { AreValues cx.old.nodes table.now fresh.now values.now }
-    ensures extends { Extends cx.old.nodes cx.new.nodes }
-    ensures rest { KeepsRest cx.old cx.new }
-    ensures term { IfOk result (λ r. IsTermOf cx.new.nodes table.now r) }
-    ensures kind { IfOk result (λ r. kind_of (tree_at cx.new.nodes r) ≡ kind_of (tree_at cx.old.nodes t)) }
-    ensures tree { IfOk result (λ r. tree_at cx.new.nodes r ≡ filled (map (tree_at cx.old.nodes) values.now) (tree_at cx.old.nodes t)) }
-    ensures formed { IfOk result (λ r. AreFormed cx.new.nodes) }
-    ensures memory { IsOkUnless result Fault.Memory }
-{
-    terms_are_formed(cx);
-    // Most terms name no position, and need no walk.
-    if !cx.nodes.facts(t).has_canonical {
-        return Ok(t);
-    }
-    let alloc = cx.alloc;
-    let filled = instantiate_canonical(alloc, &mut cx.nodes, values, t)?;
-    terms_are_formed(cx);
-    Ok(filled)
+/// What a candidate is tried with.
+#[derive(Clone, Copy)]
+pub struct Trial<'a> {
+    /// The goal that the candidate is for.
+    pub goal: Goal,
+    /// The sorts of the candidate's fresh variables.
+    pub fresh: &'a [Sort],
+    /// The variables that were made for them.
+    pub values: &'a [NodeId],
 }
 
-/// A goal of a candidate, with the values in place of its fresh variables, and resolved.
-#[inline(never)]
-pub fn fill_goal(
-    cx: &mut Cx,
-    table: &InferCtxt,
-    goal: Goal,
-    fresh: &[Sort],
-    values: &[NodeId],
-    nested: Goal,
-) -> Result<Goal, Fault>
-    requires posed { IsPosed cx.old.nodes table.now goal }
-    requires nested { IsNested cx.old.nodes fresh.now goal nested }
-    requires values { AreValues cx.old.nodes table.now fresh.now values.now }
-    ensures extends { Extends cx.old.nodes cx.new.nodes }
-    ensures rest { KeepsRest cx.old cx.new }
-    ensures posed { IfOk result (λ g. IsPosed cx.new.nodes table.now g) }
-    ensures env { IfOk result (λ g. tree_at cx.new.nodes g.param_env.node ≡ deeply_resolved (content_of cx.old.nodes table.now.entries) (filled (map (tree_at cx.old.nodes) values.now) (tree_at cx.old.nodes nested.param_env.node))) }
-    ensures predicate { IfOk result (λ g. tree_at cx.new.nodes g.predicate.node ≡ deeply_resolved (content_of cx.old.nodes table.now.entries) (filled (map (tree_at cx.old.nodes) values.now) (tree_at cx.old.nodes nested.predicate.node))) }
-    ensures formed_env { IfOk result (λ g. IsFormed (filled (map (tree_at cx.old.nodes) values.now) (tree_at cx.old.nodes nested.param_env.node))) }
-    ensures formed_predicate { IfOk result (λ g. IsFormed (filled (map (tree_at cx.old.nodes) values.now) (tree_at cx.old.nodes nested.predicate.node))) }
-    ensures memory { IsOkUnless result Fault.Memory }
-{
-    let env = fill(cx, table, goal, fresh, values, nested.param_env.node)?;
-    let predicate = fill(cx, table, goal, fresh, values, nested.predicate.node)?;
-    let filled = Goal {
-        param_env: ParamEnv { node: env },
-        predicate: Predicate { node: predicate },
-    };
-    resolve_goal(cx, table, filled)
+impl Trial<'_> {
+    /// A term of the candidate, with the values in place of its fresh variables.
+    fn instantiate(self, cx: &mut Cx, t: NodeId) -> Result<NodeId, Fault>
+        requires over { IsOver cx.old.nodes self.fresh.now self.goal t }
+        requires values { HoldsValues cx.old.nodes self.fresh.now self.values.now }
+        ensures extends { Extends cx.old.nodes cx.new.nodes }
+        ensures rest { KeepsRest cx.old cx.new }
+        ensures instance { IfOk result (IsInstance cx.old.nodes cx.new.nodes self.entry.values.now
+            t) }
+        ensures memory { IsOkUnless result Fault.Memory }
+    {
+        terms_are_formed(cx);
+        // Most terms name no position, and need no walk.
+        if !cx.nodes.facts(t).has_canonical {
+            return Ok(t);
+        }
+        let alloc = cx.alloc;
+        let made = instantiate_canonical(alloc, &mut cx.nodes, self.values, t)?;
+        terms_are_formed(cx);
+        Ok(made)
+    }
+
+    /// Two terms of the candidate, likewise.
+    fn instantiate_both(self, cx: &mut Cx, a: NodeId, b: NodeId) -> Result<(NodeId, NodeId), Fault>
+        requires left { IsOver cx.old.nodes self.fresh.now self.goal a }
+        requires right { IsOver cx.old.nodes self.fresh.now self.goal b }
+        requires holds { HoldsGoal cx.old.nodes self.goal }
+        requires values { HoldsValues cx.old.nodes self.fresh.now self.values.now }
+        ensures extends { Extends cx.old.nodes cx.new.nodes }
+        ensures rest { KeepsRest cx.old cx.new }
+        ensures left { IfOk result (λ r. IsInstance cx.old.nodes cx.new.nodes self.entry.values.now
+            a r.0) }
+        ensures right { IfOk result (λ r. IsInstance cx.old.nodes cx.new.nodes self.entry.values.now
+            b r.1) }
+        ensures memory { IsOkUnless result Fault.Memory }
+    {
+        let left = self.instantiate(cx, a)?;
+        let right = self.instantiate(cx, b)?;
+        Ok((left, right))
+    }
+
+    /// A goal of the candidate, with the values in place of its fresh variables, and resolved.
+    #[inline(never)]
+    pub fn nested_goal(self, table: &InferCtxt, cx: &mut Cx, nested: Goal) -> Result<Goal, Fault>
+        requires posed { IsPosed cx.old.nodes table.now self.goal }
+        requires nested { IsNested cx.old.nodes self.fresh.now self.goal nested }
+        requires values { AreValues cx.old.nodes table.now self.fresh.now self.values.now }
+        ensures extends { Extends cx.old.nodes cx.new.nodes }
+        ensures rest { KeepsRest cx.old cx.new }
+        ensures posed { IfOk result (λ g. IsPosed cx.new.nodes table.now g) }
+        ensures asks { IfOk result (Asks cx.old.nodes cx.new.nodes
+            (content_of cx.old.nodes table.now.entries) self.entry.values.now nested) }
+        ensures memory { IsOkUnless result Fault.Memory }
+    {
+        let env = nested.param_env.node;
+        let predicate = nested.predicate.node;
+        let (env, predicate) = self.instantiate_both(cx, env, predicate)?;
+        let made = Goal {
+            param_env: ParamEnv { node: env },
+            predicate: Predicate { node: predicate },
+        };
+        let asked = resolve_goal(table, cx, made)?;
+        Ok(asked)
+    }
 }
 
 /// A term with all its variables replaced by values and roots.
-pub fn resolve_term(cx: &mut Cx, table: &InferCtxt, t: NodeId) -> Result<NodeId, Fault>
+pub fn resolve_term(table: &InferCtxt, cx: &mut Cx, t: NodeId) -> Result<NodeId, Fault>
     requires table { IsTable cx.old.nodes table.now }
     requires term { IsTermOf cx.old.nodes table.now t }
     ensures extends { Extends cx.old.nodes cx.new.nodes }
     ensures rest { KeepsRest cx.old cx.new }
     ensures term { IfOk result (λ r. IsTermOf cx.new.nodes table.now r) }
-    ensures kind { IfOk result (λ r. kind_of (tree_at cx.new.nodes r) ≡ kind_of (tree_at cx.old.nodes t)) }
-    ensures tree { IfOk result (λ r. tree_at cx.new.nodes r ≡ deeply_resolved (content_of cx.old.nodes table.now.entries) (tree_at cx.old.nodes t)) }
+    ensures kind { IfOk result (λ r. kind_of (tree_at cx.new.nodes r) ≡ kind_of
+        (tree_at cx.old.nodes t)) }
+    ensures tree { IfOk result (λ r. tree_at cx.new.nodes r ≡ deeply_resolved
+        (content_of cx.old.nodes table.now.entries) (tree_at cx.old.nodes t)) }
     ensures memory { IsOkUnless result Fault.Memory }
 {
     // Most terms have no variable, and need no walk.
@@ -119,17 +135,19 @@ pub fn resolve_term(cx: &mut Cx, table: &InferCtxt, t: NodeId) -> Result<NodeId,
 }
 
 /// A goal with all its variables replaced by values and roots.
-pub fn resolve_goal(cx: &mut Cx, table: &InferCtxt, goal: Goal) -> Result<Goal, Fault>
+pub fn resolve_goal(table: &InferCtxt, cx: &mut Cx, goal: Goal) -> Result<Goal, Fault>
     requires { IsPosed cx.old.nodes table.now goal }
     ensures extends { Extends cx.old.nodes cx.new.nodes }
     ensures rest { KeepsRest cx.old cx.new }
     ensures posed { IfOk result (λ g. IsPosed cx.new.nodes table.now g) }
-    ensures env { IfOk result (λ g. tree_at cx.new.nodes g.param_env.node ≡ deeply_resolved (content_of cx.old.nodes table.now.entries) (tree_at cx.old.nodes goal.param_env.node)) }
-    ensures predicate { IfOk result (λ g. tree_at cx.new.nodes g.predicate.node ≡ deeply_resolved (content_of cx.old.nodes table.now.entries) (tree_at cx.old.nodes goal.predicate.node)) }
+    ensures env { IfOk result (λ g. tree_at cx.new.nodes g.param_env.node ≡ deeply_resolved
+        (content_of cx.old.nodes table.now.entries) (tree_at cx.old.nodes goal.param_env.node)) }
+    ensures predicate { IfOk result (λ g. tree_at cx.new.nodes g.predicate.node ≡ deeply_resolved
+        (content_of cx.old.nodes table.now.entries) (tree_at cx.old.nodes goal.predicate.node)) }
     ensures memory { IsOkUnless result Fault.Memory }
 {
-    let env = resolve_term(cx, table, goal.param_env.node)?;
-    let predicate = resolve_term(cx, table, goal.predicate.node)?;
+    let env = resolve_term(table, cx, goal.param_env.node)?;
+    let predicate = resolve_term(table, cx, goal.predicate.node)?;
     Ok(Goal {
         param_env: ParamEnv { node: env },
         predicate: Predicate { node: predicate },
@@ -137,10 +155,9 @@ pub fn resolve_goal(cx: &mut Cx, table: &InferCtxt, goal: Goal) -> Result<Goal, 
 }
 
 /// New variables of these sorts.
-fn fresh_values(cx: &mut Cx, table: &mut InferCtxt, fresh: &[Sort]) -> Result<Vec<NodeId>, Fault>
+fn fresh_values(table: &mut InferCtxt, cx: &mut Cx, fresh: &[Sort]) -> Result<Vec<NodeId>, Fault>
     requires { IsTable cx.old.nodes table.old }
-    ensures goes { Goes cx.old.nodes cx.new.nodes table.old table.new }
-    ensures rest { KeepsRest cx.old cx.new }
+    ensures runs { Runs cx.old cx.new table.old table.new }
     ensures values { IfOk result (λ vs. AreValues cx.new.nodes table.new fresh.now vs.items) }
     ensures memory { IsOkUnless result Fault.Memory }
 {
@@ -153,93 +170,59 @@ fn fresh_values(cx: &mut Cx, table: &mut InferCtxt, fresh: &[Sort]) -> Result<Ve
 /// Makes a candidate's fresh variables and equates its equations; answers the variables.
 #[inline(never)]
 pub fn equate(
-    cx: &mut Cx,
     table: &mut InferCtxt,
+    cx: &mut Cx,
     goal: Goal,
     candidate: &CandidateData,
 ) -> Result<Vec<NodeId>, EvalError>
     requires posed { IsPosed cx.old.nodes table.old goal }
     requires candidate { IsCandidate cx.old.nodes goal candidate.now }
-    ensures goes { Goes cx.old.nodes cx.new.nodes table.old table.new }
-    ensures rest { KeepsRest cx.old cx.new }
-    ensures values { IfOk result (λ vs. AreValues cx.new.nodes table.new candidate.now.fresh.items vs.items) }
-    ensures equal { IfOk result (λ vs. Equates cx.old.nodes cx.new.nodes table.new vs.items candidate.now.equations.items) }
+    ensures runs { Runs cx.old cx.new table.old table.new }
+    ensures values { IfOk result (λ vs. AreValues cx.new.nodes table.new candidate.now.fresh.items
+        vs.items) }
+    ensures equal { IfOk result (λ vs. Equates cx.old.nodes cx.new.nodes table.new vs.items
+        candidate.now.equations.items) }
     ensures full { result ≢ Err EvalError.Full }
 {
-    let values = fresh_values(cx, table, &candidate.fresh)?;
+    let values = fresh_values(table, cx, &candidate.fresh)?;
     for equation in &candidate.equations {
-        equate_one(cx, table, goal, &candidate.fresh, &values, *equation)?;
+        let trial = Trial {
+            goal,
+            fresh: &candidate.fresh,
+            values: &values,
+        };
+        equate_one(table, cx, trial, *equation)?;
     }
     Ok(values)
 }
 
-/// Two terms of a candidate, with the values in place of its fresh variables.
-fn fill_both(
-    cx: &mut Cx,
-    table: &InferCtxt,
-    goal: Goal,
-    fresh: &[Sort],
-    values: &[NodeId],
-    a: NodeId,
-    b: NodeId,
-) -> Result<(NodeId, NodeId), Fault>
-    requires posed { IsPosed cx.old.nodes table.now goal }
-    requires left { IsOver cx.old.nodes fresh.now goal a }
-    requires right { IsOver cx.old.nodes fresh.now goal b }
-    requires values { AreValues cx.old.nodes table.now fresh.now values.now }
-    ensures goes { Goes cx.old.nodes cx.new.nodes table.now table.now }
-    ensures rest { KeepsRest cx.old cx.new }
-    ensures left { IfOk result (λ r. IsTermOf cx.new.nodes table.now r.0) }
-    ensures right { IfOk result (λ r. IsTermOf cx.new.nodes table.now r.1) }
-    ensures left_kind { IfOk result (λ r. kind_of (tree_at cx.new.nodes r.0) ≡ kind_of (tree_at cx.old.nodes a)) }
-    ensures right_kind { IfOk result (λ r. kind_of (tree_at cx.new.nodes r.1) ≡ kind_of (tree_at cx.old.nodes b)) }
-    ensures left_tree { IfOk result (λ r. tree_at cx.new.nodes r.0 ≡ filled (map (tree_at cx.old.nodes) values.now) (tree_at cx.old.nodes a)) }
-    ensures right_tree { IfOk result (λ r. tree_at cx.new.nodes r.1 ≡ filled (map (tree_at cx.old.nodes) values.now) (tree_at cx.old.nodes b)) }
-    ensures formed { IfOk result (λ r. AreFormed cx.new.nodes) }
-    ensures memory { IsOkUnless result Fault.Memory }
-{
-    let left = fill(cx, table, goal, fresh, values, a)?;
-    let right = fill(cx, table, goal, fresh, values, b)?;
-    Ok((left, right))
-}
-
 /// Makes the two sides of an equation equal, with the values in place of the fresh variables.
 fn equate_one(
-    cx: &mut Cx,
     table: &mut InferCtxt,
-    goal: Goal,
-    fresh: &[Sort],
-    values: &[NodeId],
+    cx: &mut Cx,
+    trial: Trial<'_>,
     equation: Equation,
 ) -> Result<(), EvalError>
-    requires posed { IsPosed cx.old.nodes table.old goal }
-    requires equation { IsEquation cx.old.nodes fresh.now goal equation }
-    requires values { AreValues cx.old.nodes table.old fresh.now values.now }
-    ensures goes { Goes cx.old.nodes cx.new.nodes table.old table.new }
-    ensures rest { KeepsRest cx.old cx.new }
-    ensures equal { OnOk result (Stays (content_of cx.new.nodes table.new.entries) (EquationHolds (map (tree_at cx.old.nodes) values.now) (equation_of cx.old.nodes equation))) }
+    requires posed { IsPosed cx.old.nodes table.old trial.goal }
+    requires equation { IsEquation cx.old.nodes trial.fresh.now trial.goal equation }
+    requires values { AreValues cx.old.nodes table.old trial.fresh.now trial.values.now }
+    ensures runs { Runs cx.old cx.new table.old table.new }
+    ensures equal { OnOk result (Stays (content_of cx.new.nodes table.new.entries) (EquationHolds
+        (map (tree_at cx.old.nodes) trial.entry.values.now) (equation_of cx.old.nodes equation))) }
     ensures full { result ≢ Err EvalError.Full }
 {
-    let (lhs, rhs) = fill_both(
-        cx,
-        table,
-        goal,
-        fresh,
-        values,
-        equation.lhs.node,
-        equation.rhs.node,
-    )?;
-    relate_terms(cx, table, lhs, rhs)
+    let (lhs, rhs) = trial.instantiate_both(cx, equation.lhs.node, equation.rhs.node)?;
+    relate_terms(table, cx, lhs, rhs)
 }
 
 /// Makes two terms of the table equal.
-fn relate_terms(cx: &mut Cx, table: &mut InferCtxt, a: NodeId, b: NodeId) -> Result<(), EvalError>
+fn relate_terms(table: &mut InferCtxt, cx: &mut Cx, a: NodeId, b: NodeId) -> Result<(), EvalError>
     requires table { IsTable cx.old.nodes table.old }
     requires left { IsTermOf cx.old.nodes table.old a }
     requires right { IsTermOf cx.old.nodes table.old b }
-    ensures goes { Goes cx.old.nodes cx.new.nodes table.old table.new }
-    ensures rest { KeepsRest cx.old cx.new }
-    ensures equal { OnOk result (Stays (content_of cx.new.nodes table.new.entries) (λ d. AreAlike d (tree_at cx.old.nodes a) (tree_at cx.old.nodes b))) }
+    ensures runs { Runs cx.old cx.new table.old table.new }
+    ensures equal { OnOk result (Stays (content_of cx.new.nodes table.new.entries) (λ d. AreAlike d
+        (tree_at cx.old.nodes a) (tree_at cx.old.nodes b))) }
     ensures full { result ≢ Err EvalError.Full }
 {
     let alloc = cx.alloc;
@@ -248,8 +231,8 @@ fn relate_terms(cx: &mut Cx, table: &mut InferCtxt, a: NodeId, b: NodeId) -> Res
 
 /// Whether a candidate's equations hold. The table is as before.
 pub fn candidate_holds(
-    cx: &mut Cx,
     table: &mut InferCtxt,
+    cx: &mut Cx,
     goal: Goal,
     candidate: &CandidateData,
 ) -> Result<bool, EvalError>
@@ -262,7 +245,7 @@ pub fn candidate_holds(
     ensures full { result ≢ Err EvalError.Full }
 {
     let snapshot = table.start_snapshot()?;
-    let tried = equate(cx, table, goal, candidate);
+    let tried = equate(table, cx, goal, candidate);
     table.rollback_to(snapshot);
     match tried {
         Ok(_) => Ok(true),
@@ -274,54 +257,45 @@ pub fn candidate_holds(
 /// Records the region constraints of a candidate, with the values in place of its fresh variables.
 #[inline(never)]
 pub fn record_constraints(
-    cx: &mut Cx,
     table: &mut InferCtxt,
-    goal: Goal,
-    candidate: &CandidateData,
-    values: &[NodeId],
+    cx: &mut Cx,
+    trial: Trial<'_>,
+    constraints: &[RegionConstraint],
 ) -> Result<(), EvalError>
-    requires posed { IsPosed cx.old.nodes table.old goal }
-    requires candidate { IsCandidate cx.old.nodes goal candidate.now }
-    requires values { AreValues cx.old.nodes table.old candidate.now.fresh.items values.now }
-    ensures goes { Goes cx.old.nodes cx.new.nodes table.old table.new }
-    ensures rest { KeepsRest cx.old cx.new }
-    ensures held { OnOk result (Constrains cx.old.nodes cx.new.nodes table.new values.now candidate.now.region_constraints.items) }
+    requires posed { IsPosed cx.old.nodes table.old trial.goal }
+    requires constraints { AreRegionConstraints cx.old.nodes trial.fresh.now trial.goal
+        constraints.now }
+    requires values { AreValues cx.old.nodes table.old trial.fresh.now trial.values.now }
+    ensures runs { Runs cx.old cx.new table.old table.new }
+    ensures held { OnOk result (Constrains cx.old.nodes cx.new.nodes table.new
+        trial.entry.values.now constraints.now) }
     ensures full { result ≢ Err EvalError.Full }
 {
-    for constraint in &candidate.region_constraints {
-        record_one(cx, table, goal, &candidate.fresh, values, *constraint)?;
+    for constraint in constraints {
+        record_one(table, cx, trial, *constraint)?;
     }
     Ok(())
 }
 
 /// Records one region constraint. An equality relates its sides.
 fn record_one(
-    cx: &mut Cx,
     table: &mut InferCtxt,
-    goal: Goal,
-    fresh: &[Sort],
-    values: &[NodeId],
+    cx: &mut Cx,
+    trial: Trial<'_>,
     constraint: RegionConstraint,
 ) -> Result<(), EvalError>
-    requires posed { IsPosed cx.old.nodes table.old goal }
-    requires constraint { IsRegionConstraint cx.old.nodes fresh.now goal constraint }
-    requires values { AreValues cx.old.nodes table.old fresh.now values.now }
-    ensures goes { Goes cx.old.nodes cx.new.nodes table.old table.new }
-    ensures rest { KeepsRest cx.old cx.new }
-    ensures held { OnOk result (Stays (content_of cx.new.nodes table.new.entries) (ConstraintHolds (map (tree_at cx.old.nodes) values.now) (constraint_of cx.old.nodes constraint))) }
+    requires posed { IsPosed cx.old.nodes table.old trial.goal }
+    requires constraint { IsRegionConstraint cx.old.nodes trial.fresh.now trial.goal constraint }
+    requires values { AreValues cx.old.nodes table.old trial.fresh.now trial.values.now }
+    ensures runs { Runs cx.old cx.new table.old table.new }
+    ensures held { OnOk result (Stays (content_of cx.new.nodes table.new.entries) (ConstraintHolds
+        (map (tree_at cx.old.nodes) trial.entry.values.now)
+        (constraint_of cx.old.nodes constraint))) }
     ensures full { result ≢ Err EvalError.Full }
 {
-    let (left, right) = fill_both(
-        cx,
-        table,
-        goal,
-        fresh,
-        values,
-        constraint.left.node,
-        constraint.right.node,
-    )?;
+    let (left, right) = trial.instantiate_both(cx, constraint.left.node, constraint.right.node)?;
     if let Relation::Equal = constraint.relation {
-        return relate_terms(cx, table, left, right);
+        return relate_terms(table, cx, left, right);
     }
     table.constrain(Constraint {
         relation: constraint.relation,

@@ -46,7 +46,8 @@ impl Clauses {
 }
 
 fn head_fits(cx: &Cx, fresh: &[Sort], head: GenericArgs) -> Result<bool, AllocError>
-    ensures { IfOk result (λ b. IsTrue b ↔ (HoldsArgs cx.now.nodes head × IsClauseTerm cx.now.nodes fresh.now head.node)) }
+    ensures { IfOk result (λ b. IsTrue b ↔ (HoldsArgs cx.now.nodes head × IsClauseTerm cx.now.nodes
+        fresh.now head.node)) }
 {
     if !cx.holds(head) {
         return Ok(false);
@@ -55,7 +56,8 @@ fn head_fits(cx: &Cx, fresh: &[Sort], head: GenericArgs) -> Result<bool, AllocEr
 }
 
 fn body_fits(cx: &Cx, fresh: &[Sort], predicate: Predicate) -> Result<bool, AllocError>
-    ensures { IfOk result (λ b. IsTrue b ↔ (HoldsPredicate cx.now.nodes predicate × IsClauseTerm cx.now.nodes fresh.now predicate.node)) }
+    ensures { IfOk result (λ b. IsTrue b ↔ (HoldsPredicate cx.now.nodes predicate × IsClauseTerm
+        cx.now.nodes fresh.now predicate.node)) }
 {
     if !cx.holds(predicate) {
         return Ok(false);

@@ -59,7 +59,8 @@ impl Clauses {
     pub fn add_clause(&mut self, clause: Clause) -> Result<(), Fault>
         ensures added { OnOk result (AddsClause self.old self.new clause) }
         ensures err { OnErr result (IsSame self.old self.new) }
-        ensures ready { (ts : List Tree) → AreReady ts self.old → IsClause ts clause → AreReady ts self.new }
+        ensures ready { (ts : List Tree) → AreReady ts self.old → IsClause ts clause →
+            AreReady ts self.new }
         ensures memory { IsOkUnless result Fault.Memory }
     {
         let entry = self.entry(clause.trait_id)?;
@@ -130,7 +131,9 @@ impl GoalHandler for Clauses {
         requires ready { AreReady cx.old.nodes self.now }
         requires goal { IsAsked cx.old.nodes goal }
         ensures offers { IfOk result (λ cs. AreOffers cx.new.nodes goal self.now cs.items) }
-        ensures offered { IfOk result (λ cs. candidates_of cx.new.nodes cs.items ≡ (handler_of cx.new.nodes self.now).offers (mode_of mode.now) (tree_at cx.new.nodes goal.param_env.node) (tree_at cx.new.nodes goal.predicate.node)) }
+        ensures offered { IfOk result (λ cs. candidates_of cx.new.nodes cs.items ≡
+            (handler_of cx.new.nodes self.now).offers (mode_of mode.now)
+            (tree_at cx.new.nodes goal.param_env.node) (tree_at cx.new.nodes goal.predicate.node)) }
         ensures same { cx.new ≡ cx.old }
         ensures candidates { IfOk result (λ cs. AreCandidates cx.new.nodes goal cs.items) }
         ensures extends { Extends cx.old.nodes cx.new.nodes }
@@ -143,7 +146,8 @@ impl GoalHandler for Clauses {
 
     fn trait_is_coinductive(&self, id: TraitId) -> bool
         ensures set { result ≡ coinductive_of self.now id.number }
-        ensures meaning { (ts : List Tree) → result ≡ (handler_of ts self.now).is_coinductive id.number }
+        ensures meaning { (ts : List Tree) → result ≡ (handler_of ts self.now).is_coinductive
+            id.number }
     {
         match self.traits.get(id.number) {
             Some(entry) => entry.is_coinductive,
@@ -231,8 +235,10 @@ fn offer_of(
     requires args { HoldsArgs cx.now.nodes args }
     requires head { HoldsArgs cx.now.nodes clause.now.head }
     requires row { IsRow (children (tree_at cx.now.nodes clause.now.head.node)) }
-    requires long { row_length (children (tree_at cx.now.nodes args.node)) ≡ row_length (children (tree_at cx.now.nodes clause.now.head.node)) }
-    ensures offer { IfOk result (IsOffer cx.now.nodes goal (tree_at cx.now.nodes args.node) clause.now) }
+    requires long { row_length (children (tree_at cx.now.nodes args.node)) ≡ row_length (children
+        (tree_at cx.now.nodes clause.now.head.node)) }
+    ensures offer { IfOk result (IsOffer cx.now.nodes goal
+        (tree_at cx.now.nodes args.node) clause.now) }
     ensures memory { IsOkUnless result Fault.Memory }
 {
     Ok(CandidateData {
@@ -256,8 +262,10 @@ fn pairs_of(
     requires args { HoldsArgs cx.now.nodes args }
     requires head { HoldsArgs cx.now.nodes head }
     requires row { IsRow (children (tree_at cx.now.nodes head.node)) }
-    requires long { row_length (children (tree_at cx.now.nodes args.node)) ≡ row_length (children (tree_at cx.now.nodes head.node)) }
-    ensures { IfOk result (λ qs. ArePairs cx.now.nodes (children (tree_at cx.now.nodes args.node)) (children (tree_at cx.now.nodes head.node)) qs.items) }
+    requires long { row_length (children (tree_at cx.now.nodes args.node)) ≡ row_length (children
+        (tree_at cx.now.nodes head.node)) }
+    ensures { IfOk result (λ qs. ArePairs cx.now.nodes (children (tree_at cx.now.nodes args.node))
+        (children (tree_at cx.now.nodes head.node)) qs.items) }
 {
     let mut equations = Vec::new(alloc);
     for i in 0..args.len(cx) {

@@ -90,7 +90,9 @@ pub trait GoalHandler {
         requires ready { ready cx.old.nodes self.now }
         requires goal { IsAsked cx.old.nodes goal }
         ensures candidates { IfOk result (λ cs. AreCandidates cx.new.nodes goal cs.items) }
-        ensures offered { IfOk result (λ cs. candidates_of cx.new.nodes cs.items ≡ (handler cx.new.nodes self.now).offers (mode_of mode.now) (tree_at cx.new.nodes goal.param_env.node) (tree_at cx.new.nodes goal.predicate.node)) }
+        ensures offered { IfOk result (λ cs. candidates_of cx.new.nodes cs.items ≡
+            (handler cx.new.nodes self.now).offers (mode_of mode.now)
+            (tree_at cx.new.nodes goal.param_env.node) (tree_at cx.new.nodes goal.predicate.node)) }
         ensures extends { Extends cx.old.nodes cx.new.nodes }
         ensures rest { KeepsRest cx.old cx.new }
         ensures memory { IsOkUnless result Fault.Memory };

@@ -1,27 +1,22 @@
 //! The recursion over nested goals. Its functions stand on the stack once for each goal above, so what
 //! they call and is not of the recursion is kept out of their frames, by `inline(never)`.
-ghost use Rattle.std.specs.Prelude.{true, false, ℕ, ◌≡◌, ◌≢◌, ◌<◌, ◌≤◌, ◌/◌, ◌-◌, List, map, IfOk, OnOk, OnErr, IfSome, IsNone, ◌↔◌, length, get_or};
-ghost use Rattle.nts_model.specs.declared.labels.Variance.{Variance};
-ghost use Rattle.nts_model.specs.Trees.{Tree};
+ghost use Rattle.std.specs.Prelude.{true, false, ◌≡◌, ◌≢◌, ◌<◌, ◌≤◌, ◌/◌, ◌-◌, IfOk, OnOk, OnErr, IfSome, IsNone, ◌↔◌, length, get_or};
 ghost use Rattle.nts_model.specs.Sequents.{Among};
-ghost use Rattle.nts_model.specs.Handlers.{meaning};
-ghost use Rattle.nts_terms.specs.Formed.{AreFormed};
-ghost use Rattle.nts_terms.specs.Growth.{tree_at, Extends};
+ghost use Rattle.nts_terms.specs.Growth.{Extends};
 ghost use Rattle.nts_terms.specs.Rest.{KeepsRest};
 ghost use Rattle.next_trait_solver.specs.Candidates.{HoldsGoal, IsAsked, IsCandidate, AreCandidates, IsNested};
-ghost use Rattle.nts_table.specs.Reading.{content_of};
-ghost use Rattle.next_trait_solver.specs.Offered.{premise_of, candidate_of, candidates_of};
+ghost use Rattle.next_trait_solver.specs.Offered.{candidate_of, candidates_of};
 ghost use Rattle.nts_terms.specs.Modes.{mode_of};
-ghost use Rattle.next_trait_solver.specs.Running.{Stays, PremiseHolds, IsProved};
-ghost use Rattle.next_trait_solver.specs.Evaluation.{Goes, IsPosed, AreValues};
+ghost use Rattle.next_trait_solver.specs.Running.{IsProved};
+ghost use Rattle.next_trait_solver.specs.Meant.{Since, meaning_since, offers_of, IfYes, IsPremiseProved};
+ghost use Rattle.next_trait_solver.specs.Evaluation.{Runs, IsPosed, AreValues};
 ghost use Rattle.next_trait_solver.specs.Choices.{IsWithin};
 ghost use Rattle.nts_terms.specs.declared.certainty.Certainty.TheVariants as certainty;
 
-use crate::candidate::{candidate_holds, equate, fill_goal, record_constraints, terms_are_formed};
+use crate::candidate::{Trial, candidate_holds, equate, record_constraints, terms_are_formed};
 use crate::delegate::{CandidateData, CandidateGoal, GoalHandler};
-use nts_model::Sort;
 use nts_table::InferCtxt;
-use nts_terms::{Certainty, ClauseKind, Cx, EvalError, Goal, NodeId, PredicateKind};
+use nts_terms::{Certainty, ClauseKind, Cx, EvalError, Goal, PredicateKind};
 
 /// What a goal inside of an evaluation was answered.
 #[derive(Clone, Copy)]
@@ -52,23 +47,24 @@ pub fn depth_below(depth: usize, has_overflowed: bool) -> Option<usize>
 /// Evaluates a resolved goal. What it finds out stays in the table only where the answer is yes.
 #[cycle(evaluate)]
 pub fn evaluate_goal<H: GoalHandler>(
-    handler: &H,
-    cx: &mut Cx,
     table: &mut InferCtxt,
+    cx: &mut Cx,
+    handler: &H,
     goal: Goal,
     depth: usize,
 ) -> Result<Answer, EvalError>
     requires posed { IsPosed cx.old.nodes table.old goal }
     requires ready { H.ready cx.old.nodes handler.now }
-    ensures goes { Goes cx.old.nodes cx.new.nodes table.old table.new }
-    ensures rest { KeepsRest cx.old cx.new }
+    ensures runs { Runs cx.old cx.new table.old table.new }
     ensures maybe { IfOk result (λ a. a.certainty ≢ certainty.Yes → table.new ≡ table.old) }
     ensures err { OnErr result (table.new ≡ table.old) }
-    ensures proved { (base : List Tree) (v : ℕ → List Variance) → AreFormed base → Extends base cx.old.nodes → H.ready base handler.now → IfOk result (λ a. a.certainty ≡ certainty.Yes → IsProved (meaning (H.handler base handler.now) v) (mode_of table.old.mode) cx.new.nodes table.new goal) }
+    ensures proved { (s : Since (λ ts. H.ready ts handler.now) cx.old.nodes) →
+        IfYes result (IsProved (meaning_since (λ ts. H.handler ts handler.now) s)
+        (mode_of table.old.mode) cx.new.nodes table.new goal) }
     ensures full { result ≢ Err EvalError.Full }
 {
     let snapshot = table.start_snapshot()?;
-    match compute_goal(handler, cx, table, goal, depth) {
+    match compute_goal(table, cx, handler, goal, depth) {
         Ok(answer) => {
             if let Certainty::Yes = answer.certainty {
                 table.commit(snapshot);
@@ -87,17 +83,18 @@ pub fn evaluate_goal<H: GoalHandler>(
 /// Answers a goal by its kind. Kinds and terms that are not there yet are ambiguous.
 #[cycle(evaluate)]
 fn compute_goal<H: GoalHandler>(
-    handler: &H,
-    cx: &mut Cx,
     table: &mut InferCtxt,
+    cx: &mut Cx,
+    handler: &H,
     goal: Goal,
     depth: usize,
 ) -> Result<Answer, EvalError>
     requires posed { IsPosed cx.old.nodes table.old goal }
     requires ready { H.ready cx.old.nodes handler.now }
-    ensures goes { Goes cx.old.nodes cx.new.nodes table.old table.new }
-    ensures rest { KeepsRest cx.old cx.new }
-    ensures proved { (base : List Tree) (v : ℕ → List Variance) → AreFormed base → Extends base cx.old.nodes → H.ready base handler.now → IfOk result (λ a. a.certainty ≡ certainty.Yes → IsProved (meaning (H.handler base handler.now) v) (mode_of table.old.mode) cx.new.nodes table.new goal) }
+    ensures runs { Runs cx.old cx.new table.old table.new }
+    ensures proved { (s : Since (λ ts. H.ready ts handler.now) cx.old.nodes) →
+        IfYes result (IsProved (meaning_since (λ ts. H.handler ts handler.now) s)
+        (mode_of table.old.mode) cx.new.nodes table.new goal) }
     ensures full { result ≢ Err EvalError.Full }
 {
     if !is_candidates_goal(cx, goal) {
@@ -107,7 +104,7 @@ fn compute_goal<H: GoalHandler>(
         });
     }
     let candidates = handler.candidates(cx, table.typing_mode(), goal)?;
-    evaluate_candidates(handler, cx, table, goal, candidates, depth)
+    evaluate_candidates(table, cx, handler, goal, candidates, depth)
 }
 
 /// Whether a goal is answered by the handler's candidates: a closed trait goal that binds nothing, and
@@ -141,9 +138,9 @@ fn is_candidates_goal(cx: &Cx, goal: Goal) -> bool
 /// it is ambiguous.
 #[cycle(evaluate)]
 fn evaluate_candidates<H: GoalHandler>(
-    handler: &H,
-    cx: &mut Cx,
     table: &mut InferCtxt,
+    cx: &mut Cx,
+    handler: &H,
     goal: Goal,
     candidates: Vec<CandidateData>,
     depth: usize,
@@ -152,12 +149,14 @@ fn evaluate_candidates<H: GoalHandler>(
     requires asked { IsAsked cx.old.nodes goal }
     requires ready { H.ready cx.old.nodes handler.now }
     requires candidates { AreCandidates cx.old.nodes goal candidates.items }
-    ensures goes { Goes cx.old.nodes cx.new.nodes table.old table.new }
-    ensures rest { KeepsRest cx.old cx.new }
-    ensures proved { (base : List Tree) (v : ℕ → List Variance) → AreFormed base → Extends base cx.old.nodes → H.ready base handler.now → candidates_of cx.old.nodes candidates.items ≡ (H.handler base handler.now).offers (mode_of table.old.mode) (tree_at cx.old.nodes goal.param_env.node) (tree_at cx.old.nodes goal.predicate.node) → IfOk result (λ a. a.certainty ≡ certainty.Yes → IsProved (meaning (H.handler base handler.now) v) (mode_of table.old.mode) cx.new.nodes table.new goal) }
+    ensures runs { Runs cx.old cx.new table.old table.new }
+    ensures proved { (s : Since (λ ts. H.ready ts handler.now) cx.old.nodes) →
+        candidates_of cx.old.nodes candidates.items ≡ offers_of (H.handler s.base handler.now)
+        (mode_of table.old.mode) cx.old.nodes goal → IfYes result (IsProved (meaning_since
+        (λ ts. H.handler ts handler.now) s) (mode_of table.old.mode) cx.new.nodes table.new goal) }
     ensures full { result ≢ Err EvalError.Full }
 {
-    match choose(cx, table, goal, &candidates)? {
+    match choose(table, cx, goal, &candidates)? {
         Choice::None => Err(EvalError::NoSolution),
         Choice::Several => Ok(Answer {
             certainty: Certainty::AMBIGUOUS,
@@ -165,7 +164,7 @@ fn evaluate_candidates<H: GoalHandler>(
         }),
         Choice::One(i) => {
             let chosen = take_candidate(candidates, i);
-            run_candidate(handler, cx, table, goal, &chosen, depth)
+            run_candidate(table, cx, handler, goal, &chosen, depth)
         }
     }
 }
@@ -190,8 +189,8 @@ enum Choice {
 /// Tries the equations of each candidate. The table is as before.
 #[inline(never)]
 fn choose(
-    cx: &mut Cx,
     table: &mut InferCtxt,
+    cx: &mut Cx,
     goal: Goal,
     candidates: &[CandidateData],
 ) -> Result<Choice, EvalError>
@@ -206,7 +205,7 @@ fn choose(
 {
     let mut choice = Choice::None;
     for i in 0..candidates.len() {
-        if candidate_holds(cx, table, goal, &candidates[i])? {
+        if candidate_holds(table, cx, goal, &candidates[i])? {
             if let Choice::None = choice {
                 choice = Choice::One(i);
             } else {
@@ -220,9 +219,9 @@ fn choose(
 /// Runs a candidate: its equations, its region constraints, and its goals in order.
 #[cycle(evaluate)]
 fn run_candidate<H: GoalHandler>(
-    handler: &H,
-    cx: &mut Cx,
     table: &mut InferCtxt,
+    cx: &mut Cx,
+    handler: &H,
     goal: Goal,
     candidate: &CandidateData,
     depth: usize,
@@ -231,27 +230,24 @@ fn run_candidate<H: GoalHandler>(
     requires asked { IsAsked cx.old.nodes goal }
     requires ready { H.ready cx.old.nodes handler.now }
     requires candidate { IsCandidate cx.old.nodes goal candidate.now }
-    ensures goes { Goes cx.old.nodes cx.new.nodes table.old table.new }
-    ensures rest { KeepsRest cx.old cx.new }
-    ensures proved { (base : List Tree) (v : ℕ → List Variance) → AreFormed base → Extends base cx.old.nodes → H.ready base handler.now → Among ((H.handler base handler.now).offers (mode_of table.old.mode) (tree_at cx.old.nodes goal.param_env.node) (tree_at cx.old.nodes goal.predicate.node)) (candidate_of cx.old.nodes candidate.now) → IfOk result (λ a. a.certainty ≡ certainty.Yes → IsProved (meaning (H.handler base handler.now) v) (mode_of table.old.mode) cx.new.nodes table.new goal) }
+    ensures runs { Runs cx.old cx.new table.old table.new }
+    ensures proved { (s : Since (λ ts. H.ready ts handler.now) cx.old.nodes) →
+        Among (offers_of (H.handler s.base handler.now) (mode_of table.old.mode) cx.old.nodes goal)
+        (candidate_of cx.old.nodes candidate.now) → IfYes result (IsProved (meaning_since
+        (λ ts. H.handler ts handler.now) s) (mode_of table.old.mode) cx.new.nodes table.new goal) }
     ensures full { result ≢ Err EvalError.Full }
 {
-    let values = equate(cx, table, goal, candidate)?;
-    record_constraints(cx, table, goal, candidate, &values)?;
+    let values = equate(table, cx, goal, candidate)?;
+    let trial = Trial {
+        goal,
+        fresh: &candidate.fresh,
+        values: &values,
+    };
+    record_constraints(table, cx, trial, &candidate.region_constraints)?;
     let mut certainty = candidate.certainty;
     let mut has_overflowed = false;
     for nested in &candidate.goals {
-        let answer = evaluate_nested(
-            handler,
-            cx,
-            table,
-            goal,
-            &candidate.fresh,
-            &values,
-            *nested,
-            depth,
-            has_overflowed,
-        )?;
+        let answer = evaluate_nested(table, cx, handler, trial, *nested, depth, has_overflowed)?;
         certainty = certainty.and(answer.certainty);
         has_overflowed = has_overflowed || answer.has_overflowed;
     }
@@ -264,23 +260,22 @@ fn run_candidate<H: GoalHandler>(
 /// Evaluates one of the goals of a candidate.
 #[cycle(evaluate)]
 fn evaluate_nested<H: GoalHandler>(
-    handler: &H,
-    cx: &mut Cx,
     table: &mut InferCtxt,
-    goal: Goal,
-    fresh: &[Sort],
-    values: &[NodeId],
+    cx: &mut Cx,
+    handler: &H,
+    trial: Trial<'_>,
     nested: CandidateGoal,
     depth: usize,
     has_overflowed: bool,
 ) -> Result<Answer, EvalError>
-    requires posed { IsPosed cx.old.nodes table.old goal }
+    requires posed { IsPosed cx.old.nodes table.old trial.goal }
     requires ready { H.ready cx.old.nodes handler.now }
-    requires nested { IsNested cx.old.nodes fresh.now goal nested.goal }
-    requires values { AreValues cx.old.nodes table.old fresh.now values.now }
-    ensures goes { Goes cx.old.nodes cx.new.nodes table.old table.new }
-    ensures rest { KeepsRest cx.old cx.new }
-    ensures proved { (base : List Tree) (v : ℕ → List Variance) → AreFormed base → Extends base cx.old.nodes → H.ready base handler.now → IfOk result (λ a. a.certainty ≡ certainty.Yes → Stays (content_of cx.new.nodes table.new.entries) (PremiseHolds (meaning (H.handler base handler.now) v) (mode_of table.old.mode) (map (tree_at cx.old.nodes) values.now) (premise_of cx.old.nodes nested))) }
+    requires nested { IsNested cx.old.nodes trial.fresh.now trial.goal nested.goal }
+    requires values { AreValues cx.old.nodes table.old trial.fresh.now trial.values.now }
+    ensures runs { Runs cx.old cx.new table.old table.new }
+    ensures proved { (s : Since (λ ts. H.ready ts handler.now) cx.old.nodes) →
+        IfYes result (IsPremiseProved (meaning_since (λ ts. H.handler ts handler.now) s)
+        (mode_of table.old.mode) cx.old.nodes cx.new.nodes table.new trial.entry.values.now nested) }
     ensures full { result ≢ Err EvalError.Full }
 {
     match depth_below(depth, has_overflowed) {
@@ -289,8 +284,8 @@ fn evaluate_nested<H: GoalHandler>(
             has_overflowed: true,
         }),
         Some(below) => {
-            let filled = fill_goal(cx, table, goal, fresh, values, nested.goal)?;
-            evaluate_goal(handler, cx, table, filled, below)
+            let asked = trial.nested_goal(table, cx, nested.goal)?;
+            evaluate_goal(table, cx, handler, asked, below)
         }
     }
 }

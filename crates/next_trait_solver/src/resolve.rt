@@ -15,15 +15,19 @@ use nts_terms::{Cx, Fault, Stored};
 pub fn eager_resolve_vars<T: Stored>(table: &InferCtxt, cx: &mut Cx, value: T) -> Result<T, Fault>
     requires table { IsTable cx.old.nodes table.now }
     requires holds { Holds T.place cx.old.nodes (T.id value) }
-    requires knows { Knows (content_of cx.old.nodes table.now.entries) (tree_at cx.old.nodes (T.id value)) }
+    requires knows { Knows (content_of cx.old.nodes table.now.entries) (tree_at cx.old.nodes
+        (T.id value)) }
     ensures extends { Extends cx.old.nodes cx.new.nodes }
     ensures rest { KeepsRest cx.old cx.new }
     ensures holds { IfOk result (λ r. Holds T.place cx.new.nodes (T.id r)) }
-    ensures knows { IfOk result (λ r. Knows (content_of cx.new.nodes table.now.entries) (tree_at cx.new.nodes (T.id r))) }
-    ensures tree { IfOk result (λ r. tree_at cx.new.nodes (T.id r) ≡ deeply_resolved (content_of cx.old.nodes table.now.entries) (tree_at cx.old.nodes (T.id value))) }
-    ensures twice { IfOk result (λ r. deeply_resolved (content_of cx.old.nodes table.now.entries) (tree_at cx.new.nodes (T.id r)) ≡ tree_at cx.new.nodes (T.id r)) }
+    ensures knows { IfOk result (λ r. Knows (content_of cx.new.nodes table.now.entries)
+        (tree_at cx.new.nodes (T.id r))) }
+    ensures tree { IfOk result (λ r. tree_at cx.new.nodes (T.id r) ≡ deeply_resolved
+        (content_of cx.old.nodes table.now.entries) (tree_at cx.old.nodes (T.id value))) }
+    ensures twice { IfOk result (λ r. deeply_resolved (content_of cx.old.nodes table.now.entries)
+        (tree_at cx.new.nodes (T.id r)) ≡ tree_at cx.new.nodes (T.id r)) }
     ensures memory { IsOkUnless result Fault.Memory }
 {
-    let node = resolve_term(cx, table, value.node())?;
+    let node = resolve_term(table, cx, value.node())?;
     Ok(T::from_node(node))
 }

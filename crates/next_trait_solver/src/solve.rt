@@ -1,17 +1,16 @@
 //! The evaluation of goals.
 ghost use Rattle.std.specs.Prelude.{ℕ, ◌≡◌, ◌≢◌, ◌↔◌, List, IsTrue, None, IfOk, OnOk, OnErr, IsOkUnless};
 ghost use Rattle.nts_model.specs.declared.labels.Variance.{Variance};
-ghost use Rattle.nts_model.specs.Trees.{Tree};
 ghost use Rattle.nts_model.specs.Handlers.{meaning};
 ghost use Rattle.nts_model.specs.Proving.{HasHeldProof};
-ghost use Rattle.nts_terms.specs.Formed.{AreFormed};
 ghost use Rattle.nts_terms.specs.Growth.{tree_at, Extends};
 ghost use Rattle.nts_terms.specs.Rest.{KeepsRest};
 ghost use Rattle.nts_table.specs.Reading.{content_of, IsTable};
 ghost use Rattle.nts_terms.specs.Modes.{mode_of};
 ghost use Rattle.next_trait_solver.specs.Running.{IsProved};
 ghost use Rattle.next_trait_solver.specs.Candidates.{HoldsGoal};
-ghost use Rattle.next_trait_solver.specs.Evaluation.{Goes, IsAdmitted, IsPosed};
+ghost use Rattle.next_trait_solver.specs.Evaluation.{Runs, IsAdmitted, IsPosed};
+ghost use Rattle.next_trait_solver.specs.Meant.{Since, meaning_since};
 ghost use Rattle.nts_terms.specs.declared.certainty.Certainty.TheVariants as certainty;
 
 use crate::admission::{is_asked, is_root_term, is_settled_env};
@@ -73,12 +72,14 @@ pub fn evaluate_root_goal<H: GoalHandler>(
     requires table { IsTable cx.old.nodes table.old }
     requires ready { H.ready cx.old.nodes handler.now }
     requires admitted { IsAdmitted cx.old.nodes table.old goal }
-    ensures goes { Goes cx.old.nodes cx.new.nodes table.old table.new }
-    ensures rest { KeepsRest cx.old cx.new }
+    ensures runs { Runs cx.old cx.new table.old table.new }
     ensures maybe { IfOk result (λ e. e.certainty ≢ certainty.Yes → table.new ≡ table.old) }
     ensures stalled { IfOk result (λ e. e.stalled_on ≡ None) }
     ensures err { OnErr result (table.new ≡ table.old) }
-    ensures proved { IfOk result (λ e. e.certainty ≡ certainty.Yes → (v : ℕ → List Variance) → HasHeldProof (meaning (H.handler cx.old.nodes handler.now) v) (mode_of table.old.mode) (content_of cx.new.nodes table.new.entries) (tree_at cx.new.nodes goal.param_env.node) (tree_at cx.new.nodes goal.predicate.node)) }
+    ensures proved { IfOk result (λ e. e.certainty ≡ certainty.Yes → (v : ℕ → List Variance) →
+        HasHeldProof (meaning (H.handler cx.old.nodes handler.now) v) (mode_of table.old.mode)
+        (content_of cx.new.nodes table.new.entries) (tree_at cx.new.nodes goal.param_env.node)
+        (tree_at cx.new.nodes goal.predicate.node)) }
     ensures full { result ≢ Err EvalError.Full }
 {
     let _ = (span, stalled_on);
@@ -110,16 +111,18 @@ fn evaluate_root<H: GoalHandler>(
 ) -> Result<GoalEvaluation, EvalError>
     requires posed { IsPosed cx.old.nodes table.old goal }
     requires ready { H.ready cx.old.nodes handler.now }
-    ensures goes { Goes cx.old.nodes cx.new.nodes table.old table.new }
-    ensures rest { KeepsRest cx.old cx.new }
+    ensures runs { Runs cx.old cx.new table.old table.new }
     ensures stalled { IfOk result (λ e. e.stalled_on ≡ None) }
-    ensures proved { (base : List Tree) (v : ℕ → List Variance) → AreFormed base → Extends base cx.old.nodes → H.ready base handler.now → IfOk result (λ e. e.certainty ≡ certainty.Yes → IsProved (meaning (H.handler base handler.now) v) (mode_of table.old.mode) cx.new.nodes table.new goal) }
+    ensures proved { (s : Since (λ ts. H.ready ts handler.now) cx.old.nodes) →
+        IfOk result (λ e. e.certainty ≡ certainty.Yes →
+        IsProved (meaning_since (λ ts. H.handler ts handler.now) s)
+        (mode_of table.old.mode) cx.new.nodes table.new goal) }
     ensures full { result ≢ Err EvalError.Full }
 {
-    let asked = resolve_goal(cx, table, goal)?;
+    let asked = resolve_goal(table, cx, goal)?;
     let depth = cx.recursion_limit();
-    let answer = evaluate_goal(handler, cx, table, asked, depth)?;
-    let after = resolve_goal(cx, table, asked)?;
+    let answer = evaluate_goal(table, cx, handler, asked, depth)?;
+    let after = resolve_goal(table, cx, asked)?;
     let has_changed = if after.predicate == asked.predicate {
         HasChanged::No
     } else {

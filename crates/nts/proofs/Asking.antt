@@ -1,14 +1,12 @@
 -- What a goal and its variables keep while a store and a table grow.
-use Rattle.std.proofs.Common.{◌≡◌, ℕ, zero, suc, List, [], ◌∷◌, ◌<◌, Some, None, All, map, refl, sym, ap, ◌∙◌, arith}
+use Rattle.std.proofs.Common.{◌≡◌, ℕ, zero, suc, List, [], ◌∷◌, Some, All, map}
 use Rattle.std.specs.Prelude.{slice_get}
 use Rattle.std.proofs.lemmas.List.Elements.{All-nil, All-cons}
 use Rattle.nts_model.specs.declared.labels.Sort.{Sort}
 use Rattle.nts_model.specs.Trees.{Tree}
 use Rattle.nts_model.specs.Contents.{Content}
-use Rattle.nts_model.specs.Resolving.{Knows}
 use Rattle.nts_terms.specs.declared.nodes.NodeId.{NodeId}
-use Rattle.nts_terms.specs.declared.handles.Goal.{Goal}
-use Rattle.nts_terms.specs.Growth.{tree_at, trees_at, IsIn, AllIn, Extends}
+use Rattle.nts_terms.specs.Growth.{tree_at, AllIn, Extends}
 use Rattle.nts_terms.proofs.Growing.{IsIn-extended, Extends-trans, Extends-refl}
 use Rattle.nts_terms.proofs.Moved.{KeepsRest-trans, KeepsRest-refl, Holds-extended}
 use Rattle.nts_table.specs.Entries.{Table}
@@ -16,11 +14,10 @@ use Rattle.nts_table.specs.Reading.{content_of, IsTable, IsConstraint, AreConstr
 use Rattle.nts_table.specs.declared.contents.Constraint.{Constraint}
 use Rattle.nts_table.specs.Lawful.{content_of-extended, IsTable-extended, IsTable-same}
 use Rattle.next_trait_solver.specs.ClausesKept.{AreReady-kept}
-use Rattle.next_trait_solver.specs.Clauses.{AreReady}
-use Rattle.next_trait_solver.specs.declared.clauses.Clauses.{Clauses}
-use Rattle.next_trait_solver.specs.Evaluation.{Goes, IsAdmitted, IsTermOf, AreValues, AllKnown}
+use Rattle.nts_terms.specs.declared.cx.Cx.{Cx}
+use Rattle.next_trait_solver.specs.Evaluation.{Goes, Runs, IsTermOf, AreValues, AllKnown}
 use Rattle.next_trait_solver.proofs.Asking.{IsAdmitted-extended}
-use Rattle.next_trait_solver.proofs.Evaluating.{Goes-extends, Goes-trans, HoldsGoal-extended, IsTermOf-later}
+use Rattle.next_trait_solver.proofs.Evaluating.{Goes-extends, IsTermOf-later}
 
 -- the terms later on
 pub terms-later : {a b : List Tree} {t u : Table} (vs : List NodeId) → Goes a b t u → All (λ v. IsTermOf a t v) vs → All (λ v. IsTermOf b u v) vs
@@ -48,8 +45,12 @@ constraint_at {ts} {t} i x h e = sides_at ts (content_of ts t.entries) t.entries
 pub constraint-known : {a b : List Tree} {t : Table} (x : Constraint) → IsTable a t → Extends a b → IsConstraint a (content_of a t.entries) x → IsTermOf b t x.right
 constraint-known x h e k = IsTermOf-later (Goes-extends h e) (record { within = k.right_in; knows = k.right_known })
 
+-- .. after an evaluation
+pub terms-run : {a b : Cx} {t u : Table} (vs : List NodeId) → Runs a b t u → All (λ v. IsTermOf a.nodes t v) vs → All (λ v. IsTermOf b.nodes u v) vs
+terms-run vs r h = terms-later vs r.goes h
+
 pub ruleset growing = (Extends-trans, Extends-refl, KeepsRest-trans, KeepsRest-refl, Holds-extended)
 
 pub ruleset keeping = (Extends-trans, Extends-refl, AreReady-kept)
 
-pub ruleset asking = (Extends-trans, Extends-refl, KeepsRest-trans, KeepsRest-refl, Holds-extended, AreReady-kept, IsTable-extended, IsAdmitted-extended, terms-extended, terms-later, constraint_at)
+pub ruleset asking = (Extends-trans, Extends-refl, KeepsRest-trans, KeepsRest-refl, Holds-extended, AreReady-kept, IsTable-extended, IsAdmitted-extended, terms-extended, terms-later, terms-run, constraint_at)

@@ -1,8 +1,7 @@
 -- What the nodes of a line mean, while terms are made of them.
-use Rattle.std.proofs.Common.{◌≡◌, ℕ, zero, suc, ◌+◌, ◌<◌, ◌≤◌, get_or, List, [], ◌∷◌, ◌++◌, Option, Some, None, All, map, reverse, length, take, drop, refl, sym, ap, ◌∙◌, arith, append_assoc}
-use Rattle.std.specs.Prelude.{slice_get}
+use Rattle.std.proofs.Common.{◌≡◌, ℕ, zero, suc, ◌<◌, ◌≤◌, get_or, List, [], ◌∷◌, ◌++◌, All, map, reverse, length, take, drop, refl, sym, ap, ◌∙◌, arith}
 use Rattle.std.specs.Global.{Vec}
-use Rattle.std.proofs.lemmas.List.{append-nil, reverse-append}
+use Rattle.std.proofs.lemmas.List.{reverse-append}
 use Rattle.std.proofs.lemmas.List.Elements.{All-head, All-tail}
 use Rattle.nts_model.specs.declared.labels.Label.TheVariants as label
 use Rattle.nts_model.specs.declared.labels.ListHead.TheVariants as list
@@ -11,7 +10,7 @@ use Rattle.nts_model.specs.Trees.{Tree, empty, more, node}
 use Rattle.nts_terms.specs.declared.nodes.NodeId.{NodeId}
 use Rattle.nts_terms.specs.declared.handles.GenericArg.{GenericArg}
 use Rattle.nts_terms.specs.declared.handles.GenericArgs.{GenericArgs}
-use Rattle.nts_terms.specs.Growth.{tree_at, trees_at, IsIn, Extends}
+use Rattle.nts_terms.specs.Growth.{tree_at, trees_at, Extends}
 use Rattle.nts_terms.specs.declared.handles.Goal.{Goal}
 use Rattle.nts_terms.specs.declared.handles.BoundVars.{BoundVars}
 use Rattle.nts_terms.specs.declared.handles.Predicate.{Predicate}
@@ -20,12 +19,11 @@ use Rattle.nts_terms.specs.declared.kinds.PredicateKind.TheVariants as statement
 use Rattle.nts_terms.specs.Handles.{HoldsArg, HoldsArgs, HoldsPredicate, HoldsEnv}
 use Rattle.nts_terms.specs.Kinds.{tree_of_args, tree_of_vars, tree_of_predicate, tree_of_clause}
 use Rattle.nts_terms.proofs.Growing.{Extends-trans}
-use Rattle.nts_terms.specs.declared.handles.TraitId.{TraitId}
 use Rattle.nts_terms.specs.declared.handles.TraitRef.{TraitRef}
 use Rattle.nts_text.specs.declared.resolver.Resolved.{Resolved}
 use Rattle.nts_text.specs.declared.resolver.Resolved.TheVariants as nodes
 use Rattle.nts.specs.declared.variables.LineVariables.{LineVariables}
-use Rattle.nts.specs.Meaning.{row_of, argument_list, argument_count, term_of, meaning_of, values_in, made_trees, trait_trees, TakesArguments, MakesArgument, AreSaid, States, IsGoalFor, binding_nothing, empty_environment}
+use Rattle.nts.specs.Meaning.{row_of, argument_list, term_of, meaning_of, values_in, made_trees, trait_trees, TakesArguments, MakesArgument, AreSaid, States, IsGoalFor, binding_nothing, empty_environment}
 
 -- the front of a list, and what stands behind it
 take_front : {A : Type 0} (n : ℕ) (xs ys : List A) → length xs ≡ n → take n (xs ++ ys) ≡ xs

@@ -1,12 +1,10 @@
 -- How the pieces of a term print its text.
-use Rattle.std.proofs.Common.{◌≡◌, ℕ, zero, suc, ◌+◌, ◌<◌, ◌≤◌, List, [], ◌∷◌, ◌++◌, Option, Some, length, reverse, refl, sym, ap, subst, ◌∙◌, append_assoc, arith}
-use Rattle.std.specs.Prelude.{codes, nat_lt}
+use Rattle.std.proofs.Common.{◌≡◌, ℕ, zero, suc, ◌+◌, ◌<◌, ◌≤◌, List, [], ◌∷◌, ◌++◌, length, reverse, refl, sym, ap, subst, ◌∙◌, append_assoc, arith}
+use Rattle.std.specs.Prelude.{codes}
 use Rattle.std.proofs.lemmas.List.{append-nil, reverse-append, get_or_past}
 use Rattle.nts_model.specs.declared.labels.Label.TheVariants as label
 use Rattle.nts_model.specs.declared.labels.ListHead.TheVariants as heads
-use Rattle.nts_model.specs.declared.labels.Sort.TheVariants as sorts
-use Rattle.nts_model.specs.declared.labels.Leaf.TheVariants as leaf
-use Rattle.nts_model.specs.Trees.{Tree, empty, more, node, children, row_at, row_length, IsRow, NodeKind, arguments, is, in_order, Meets, kind_of_label}
+use Rattle.nts_model.specs.Trees.{Tree, empty, more, node, children, row_at, row_length, IsRow, arguments, is, in_order, Meets, kind_of_label}
 use Rattle.nts_terms.specs.Growth.{tree_at}
 use Rattle.nts_terms.specs.declared.nodes.NodeId.{NodeId}
 use Rattle.nts.specs.declared.printer.Piece.{Piece}

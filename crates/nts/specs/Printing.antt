@@ -1,5 +1,5 @@
 -- The text of terms.
-use Rattle.std.specs.Prelude.{◌≡◌, ℕ, ◌+◌, ◌==◌, Bool, true, false, List, [], ◌∷◌, ◌++◌, Option, None, Some, MatchOption, MatchBool, slice_get, codes}
+use Rattle.std.specs.Prelude.{◌≡◌, ℕ, ◌==◌, Bool, true, false, List, [], ◌++◌, Option, None, Some, MatchOption, MatchBool, slice_get, codes}
 use Rattle.std.specs.Fmt.{decimal}
 use Rattle.std.specs.List.{position_or_len}
 use Rattle.std.specs.Map.{lookup}

@@ -67,15 +67,15 @@ pub fn ask(cx: &mut Cx, clauses: &Clauses, mode: Mode, nodes: &[Resolved]) -> Re
     let mut variables = LineVariables::new(cx.alloc);
     variables.see(nodes)?;
     let mut table = InferCtxt::new(cx.alloc, typing_mode(cx.alloc, mode));
-    let values = fresh_values(cx, &mut table, &variables.sorts)?;
+    let values = fresh_values(&mut table, cx, &variables.sorts)?;
     let terms = Terms {
         variables: &variables,
         values: &values,
     };
     let goal = goal_of(cx, nodes, terms)?;
-    match evaluated(cx, clauses, &mut table, goal, &values)? {
+    match evaluated(&mut table, cx, clauses, goal, &values)? {
         None => Ok(Answer::No),
-        Some(Certainty::Yes) => answer_of(cx, &table, variables, &values),
+        Some(Certainty::Yes) => answer_of(&table, cx, variables, &values),
         Some(Certainty::Maybe(info)) => match info.cause {
             MaybeCause::Ambiguity => Ok(Answer::Ambiguity),
             MaybeCause::Overflow { .. } => Ok(Answer::Overflow),
@@ -86,8 +86,8 @@ pub fn ask(cx: &mut Cx, clauses: &Clauses, mode: Mode, nodes: &[Resolved]) -> Re
 /// What the table knows of the variables of a goal that holds.
 #[tactic(auto, using(crate::proofs::Asking::asking))]
 fn answer_of(
-    cx: &mut Cx,
     table: &InferCtxt,
+    cx: &mut Cx,
     variables: LineVariables,
     values: &[NodeId],
 ) -> Result<Answer, Stop>
@@ -98,7 +98,7 @@ fn answer_of(
     ensures extends { Extends cx.old.nodes cx.new.nodes }
     ensures rest { KeepsRest cx.old cx.new }
 {
-    let values = resolved_terms(cx, table, values)?;
+    let values = resolved_terms(table, cx, values)?;
     let facts = table.make_deduplicated_region_constraints(cx)?;
     Ok(Answer::Yes(Found {
         variables,
@@ -108,7 +108,7 @@ fn answer_of(
 }
 
 /// New variables of these sorts.
-fn fresh_values(cx: &mut Cx, table: &mut InferCtxt, sorts: &[Sort]) -> Result<Vec<NodeId>, Stop>
+fn fresh_values(table: &mut InferCtxt, cx: &mut Cx, sorts: &[Sort]) -> Result<Vec<NodeId>, Stop>
     requires table { IsTable cx.old.nodes table.old }
     ensures extends { Extends cx.old.nodes cx.new.nodes }
     ensures rest { KeepsRest cx.old cx.new }
@@ -145,9 +145,9 @@ fn goal_of(cx: &mut Cx, nodes: &[Resolved], terms: Terms<'_>) -> Result<Goal, St
 /// the goal's variables.
 #[tactic(auto, using(crate::proofs::Asking::asking))]
 fn evaluated(
+    table: &mut InferCtxt,
     cx: &mut Cx,
     clauses: &Clauses,
-    table: &mut InferCtxt,
     goal: Goal,
     values: &[NodeId],
 ) -> Result<Option<Certainty>, Stop>
@@ -179,8 +179,8 @@ fn evaluated(
 /// The terms with each variable replaced by what the table knows of it.
 #[tactic(auto, using(crate::proofs::Asking::asking))]
 fn resolved_terms(
-    cx: &mut Cx,
     table: &InferCtxt,
+    cx: &mut Cx,
     terms: &[NodeId],
 ) -> Result<Vec<NodeId>, AllocError>
     requires table { IsTable cx.old.nodes table.now }

@@ -3,17 +3,17 @@ use Rattle.std.proofs.lemmas.List.{take_all}
 use Rattle.next_trait_solver.proofs.Running.{Equates-step}
 use Rattle.next_trait_solver.specs.declared.delegate.Equation.{Equation}
 use Rattle.next_trait_solver.specs.Candidates.{IsEquation}
-use Rattle.next_trait_solver.proofs.Evaluating.{Goes-trans, KeepsRest-trans, AreValues-later, IsEquation-extended, equation_at}
+use Rattle.next_trait_solver.proofs.Evaluating.{Runs-trans, AreValues-later, IsEquation-extended, equation_at}
 use Rattle.next_trait_solver.proofs.candidate.equate.Goals as goal
 
 pub loop-equation-init : goal.loop-equation-init
 loop-equation-init c =
     let e = c.in_ok-values.ensures in
-    record { goes = e.goes; rest = e.rest; equal = tt; values = rw c.deref.ensures.value at e.values }
+    record { runs = e.runs; equal = tt; values = rw c.deref.ensures.value at e.values }
 
 pub equate_one-requires-clause-equation : goal.equate_one-requires-clause-equation
 equate_one-requires-clause-equation c =
-    rw c.deref-in-loop-equation.ensures.value (IsEquation-extended c.loop-equation.invariant.goes.extends c.requires.posed.holds (
+    rw c.deref-in-loop-equation.ensures.value (IsEquation-extended c.loop-equation.invariant.runs.goes.extends c.requires.posed.holds (
     rw c.deref-equation-items.ensures.value
     (equation_at c.args.cx.now.nodes c.args.candidate.now.fresh.items c.args.goal c.args.candidate.now.equations.items c.loop-equation.equation-index _ c.requires.candidate.equations (omega (arith, c.loop-equation-test.true, ap (length {A = Equation}) c.deref-equation-items.ensures.value)))
     ))
@@ -25,8 +25,8 @@ over : (c : goal.In_ok-equate_one) (d : Equation) → IsEquation c.args.cx.now.n
 over c d =
     equation_at c.args.cx.now.nodes c.args.candidate.now.fresh.items c.args.goal c.args.candidate.now.equations.items c.loop-equation.equation-index d c.requires.candidate.equations (inside c)
 
-pub returns-in_err-equate_one-clause-goes : goal.returns-in_err-equate_one-clause-goes
-returns-in_err-equate_one-clause-goes c = Goes-trans c.loop-equation.invariant.goes c.equate_one.ensures.goes
+pub returns-in_err-equate_one-clause-runs : goal.returns-in_err-equate_one-clause-runs
+returns-in_err-equate_one-clause-runs c = Runs-trans c.loop-equation.invariant.runs c.equate_one.ensures.runs
 
 pub returns-clause-equal : goal.returns-clause-equal
 returns-clause-equal c =
@@ -37,8 +37,7 @@ loop-equation-preserved c =
     let i = c.loop-equation.invariant in
     let e = c.in_ok-equate_one.ensures in
     record {
-      goes = Goes-trans i.goes e.goes;
-      rest = KeepsRest-trans i.rest e.rest;
-      equal = Equates-step _ c.args.cx.now.nodes c.in_ok-values.values.items c.args.candidate.now.equations.items c.loop-equation.equation-index c.deref-in-loop-equation-2.ensures.value c.deref-equation-items.ensures.value (inside c) e.goes i.values.within i.equal i.goes.extends (λ d. ((over c d).lhs.within, (over c d).rhs.within)) e.equal;
-      values = AreValues-later e.goes i.values;
+      runs = Runs-trans i.runs e.runs;
+      equal = Equates-step _ c.args.cx.now.nodes c.in_ok-values.values.items c.args.candidate.now.equations.items c.loop-equation.equation-index c.deref-in-loop-equation-2.ensures.value c.deref-equation-items.ensures.value (inside c) e.runs.goes i.values.within i.equal i.runs.goes.extends (λ d. ((over c d).lhs.within, (over c d).rhs.within)) e.equal;
+      values = AreValues-later e.runs.goes i.values;
     }

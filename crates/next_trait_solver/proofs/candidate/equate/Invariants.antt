@@ -1,13 +1,11 @@
 use Rattle.std.proofs.Common.{take}
 use Rattle.next_trait_solver.specs.Running.{Equates}
-use Rattle.nts_terms.specs.Rest.{KeepsRest}
-use Rattle.next_trait_solver.specs.Evaluation.{Goes, AreValues}
+use Rattle.next_trait_solver.specs.Evaluation.{Runs, AreValues}
 use Rattle.next_trait_solver.proofs.candidate.equate.Given as goal
 
 abbrev pub invariant-loop-equation : goal.invariant-loop-equation
 invariant-loop-equation l = record {
-  goes : Goes l.fn.cx.nodes l.cx.nodes l.fn.table l.table;
-  rest : KeepsRest l.fn.cx l.cx;
+  runs : Runs l.fn.cx l.cx l.fn.table l.table;
   equal : Equates l.fn.cx.nodes l.cx.nodes l.table l.values.items (take l.equation-index l.candidate.equations.items);
   values : AreValues l.cx.nodes l.table l.candidate.fresh.items l.values.items;
 }

@@ -1,14 +1,18 @@
+use Rattle.std.proofs.Common.{rules}
 use Rattle.next_trait_solver.proofs.Evaluating.{related_goes}
 use Rattle.next_trait_solver.proofs.Running.{OnOk-map, alike_stays}
 use Rattle.next_trait_solver.proofs.candidate.relate_terms.Goals as goal
 
-pub returns-clause-goes : goal.returns-clause-goes
-returns-clause-goes c =
+pub returns-clause-runs : goal.returns-clause-runs
+returns-clause-runs c =
     let e = c.relate_nodes.ensures in
-    related_goes _ _ c.relate_nodes.result c.requires.table e.extends e.table e.later e.saved e.mode e.hidden e.related e.err
+    record {
+      goes = related_goes _ _ c.relate_nodes.result c.requires.table e.extends e.table e.later e.saved e.mode e.hidden e.related e.err;
+      rest = search rules;
+    }
 
 pub returns-clause-equal : goal.returns-clause-equal
 returns-clause-equal c =
     let e = c.relate_nodes.ensures in
-    let g = returns-clause-goes c in
+    let g = (returns-clause-runs c).goes in
     OnOk-map c.relate_nodes.result (λ r. alike_stays _ _ e.table (g.known _ c.requires.left.knows) (g.known _ c.requires.right.knows) r.alike) e.related

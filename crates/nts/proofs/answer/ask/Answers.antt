@@ -1,4 +1,4 @@
-use Rattle.std.proofs.Common.{◌≡◌, Some, ap, sym, subst, ◌∙◌}
+use Rattle.std.proofs.Common.{Some, ap, sym, subst, ◌∙◌}
 use Rattle.nts_terms.proofs.Growing.{Extends-trans}
 use Rattle.nts_table.specs.Lawful.{IsTable-extended}
 use Rattle.nts.specs.Meaning.{IsGoalOf}

@@ -1,7 +1,6 @@
 use Rattle.std.proofs.Common.{take, sym, ap, subst, ◌∙◌}
 use Rattle.nts_model.specs.Resolving.{deeply_resolved}
 use Rattle.nts_terms.proofs.Growing.{Extends-trans}
-use Rattle.nts_terms.proofs.Moved.{KeepsRest-trans}
 use Rattle.nts_table.specs.Lawful.{IsTable-extended, content_of-extended}
 use Rattle.nts.proofs.Telling.{resolved_more}
 use Rattle.nts.proofs.Lines.{take_one}

@@ -1,4 +1,4 @@
-use Rattle.std.proofs.Common.{◌≡◌, ◌≤◌, [], length, reverse}
+use Rattle.std.proofs.Common.{◌≤◌, [], length, reverse}
 use Rattle.nts.specs.Pieces.{lexicon_of, seen_by}
 use Rattle.nts_model.specs.Trees.{children}
 use Rattle.nts_terms.specs.Growth.{tree_at}

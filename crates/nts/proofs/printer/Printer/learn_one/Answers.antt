@@ -1,7 +1,4 @@
-use Rattle.std.proofs.Common.{◌≡◌, true, false, sym, ◌∙◌}
-use Rattle.nts_terms.specs.Growth.{tree_at}
-use Rattle.std.specs.Option.{option_map, is_some}
-use Rattle.std.specs.Map.{lookup}
+use Rattle.std.proofs.Common.{sym, ◌∙◌}
 use Rattle.nts.specs.Pieces.{names_in}
 use Rattle.nts.specs.Printing.{same_term}
 use Rattle.nts.proofs.Lines.{names_other, names_kept, names_inserted, some_names}
