@@ -59,7 +59,7 @@ pub record Grows (c d : Content) (x u : ℕ) (t : Tree) : Type 0 where
   pub sound : (w : World) → Solves d w → Solves c w
   pub complete : (w : World) → Solves c w → NamesAll term_level u (inst w t) → ExtensionIf c d w (λ f. NamesAll f u (inst w t))
 
--- t, under b binders, is a part of what whole, under n binders, stands for
+-- t, under b binders, is a part of the whole, which stands under n, or of what the whole is under the table's values
 pub record IsPartOf (c : Content) (u n : ℕ) (whole : Tree) (b : ℕ) (t : Tree) : Type 0 where
   pub knows : Knows c t
   pub names : (f : Label → Option ℕ) (w : World) → Solves c w → NamesAll f u (inst w whole) → NamesAll f u (inst w t)
@@ -77,6 +77,7 @@ part_of (task.Enter p) = p
 part_of (task.Build p) = p
 part_of (task.Pass p v) = p
 
+-- what a task is for
 abbrev pub IsTask : List Tree → Content → ℕ → Part → Task → Type 0
 IsTask ts c u root (task.Enter p) = IsPart ts c u root p
 IsTask ts c u root (task.Build p) = IsPart ts c u root p × IsMadeAgain u p.binders (tree_at ts p.term)
@@ -132,6 +133,7 @@ pub record IsMadeFor (ts : List Tree) (c : Content) (x u : ℕ) (p : Part) (r : 
   pub knows : Knows c (tree_at ts p.term)
   pub stands : Generalised c c x u p.binders (tree_at ts p.term) (tree_at ts r)
 
+-- a walk under way: each task fits, what each stands on comes before it, and what was made stands for its part
 pub record IsWalk (ts : List Tree) (e : Entries) (x u : ℕ) (root : Part) (xs : List Task) (m : Part → Option NodeId) : Type 0 where
   pub lawful : IsLawful ts e
   pub known : x < length e.variables
@@ -159,7 +161,7 @@ pub record IsTurn (ts us : List Tree) (e f : Entries) (x u : ℕ) (root : Part) 
   pub grows : Grows (content_of ts e) (content_of us f) x u (tree_at ts root.term)
   pub less : weights us (content_of us f) ys < weights ts (content_of ts e) xs
 
--- the children of a node are to be entered from the i-th on, the first one first
+-- a part that is to be entered is a child of a node
 pub record IsChild (ts : List Tree) (row : Tree) (b n : ℕ) (p : Part) : Type 0 where
   pub within : IsIn ts p.term
   pub before : p.term.number < n
@@ -174,6 +176,7 @@ AreChildren ts row b n (task.Enter p ∷ xs) = IsChild ts row b n p × AreChildr
 AreChildren ts row b n (task.Build p ∷ xs) = ⊥
 AreChildren ts row b n (task.Pass p v ∷ xs) = ⊥
 
+-- the children of a node are to be entered from the i-th on, the first one first
 pub record IsEntered (ts : List Tree) (row : Tree) (b n i : ℕ) (xs ys : List Task) : Type 0 where
   pub added : List Task
   pub are : ys ≡ xs ++ added
