@@ -3,9 +3,11 @@ use Rattle.std.proofs.Common.{◌≡◌, ℕ, zero, suc, List, [], ◌∷◌, So
 use Rattle.std.specs.Prelude.{slice_get}
 use Rattle.std.proofs.lemmas.List.Elements.{All-nil, All-cons}
 use Rattle.nts_model.specs.declared.labels.Sort.{Sort}
-use Rattle.nts_model.specs.Trees.{Tree}
+use Rattle.nts_model.specs.declared.labels.Sort.TheVariants as sort
+use Rattle.nts_model.specs.Trees.{Tree, of_sort, any_argument, FitsPlace}
 use Rattle.nts_model.specs.Contents.{Content}
 use Rattle.nts_terms.specs.declared.nodes.NodeId.{NodeId}
+use Rattle.nts_terms.specs.declared.handles.GenericArg.{GenericArg}
 use Rattle.nts_terms.specs.Growth.{tree_at, AllIn, Extends}
 use Rattle.nts_terms.proofs.Growing.{IsIn-extended, Extends-trans, Extends-refl}
 use Rattle.nts_terms.proofs.Moved.{KeepsRest-trans, KeepsRest-refl, Holds-extended}
@@ -15,23 +17,38 @@ use Rattle.nts_table.specs.declared.contents.Constraint.{Constraint}
 use Rattle.nts_table.specs.Lawful.{content_of-extended, IsTable-extended, IsTable-same}
 use Rattle.next_trait_solver.specs.ClausesKept.{AreReady-kept}
 use Rattle.nts_terms.specs.declared.cx.Cx.{Cx}
-use Rattle.next_trait_solver.specs.Evaluation.{Goes, Runs, IsTermOf, AreValues, AllKnown}
+use Rattle.next_trait_solver.specs.Evaluation.{Goes, Runs, IsTermOf, AreValues, AllKnown, AreOfSorts}
+use Rattle.nts.specs.Found.{IsValue}
 use Rattle.next_trait_solver.proofs.Asking.{IsAdmitted-extended}
 use Rattle.next_trait_solver.proofs.Evaluating.{Goes-extends, IsTermOf-later}
 
--- the terms later on
-pub terms-later : {a b : List Tree} {t u : Table} (vs : List NodeId) → Goes a b t u → All (λ v. IsTermOf a t v) vs → All (λ v. IsTermOf b u v) vs
-terms-later vs g h = λ k d l. IsTermOf-later g (h k d l)
+-- the values later on
+pub IsValue-later : {a b : List Tree} {t u : Table} {x : GenericArg} → Goes a b t u → IsValue a t x → IsValue b u x
+IsValue-later {a} {b} {t} {u} {x} g h =
+    let kept = g.extends.kept x.node h.holds.within in
+    record { holds = record { within = IsIn-extended g.extends x.node h.holds.within; fits = rw kept h.holds.fits }; knows = rw kept (g.known (tree_at a x.node) h.knows) }
 
-pub terms-extended : {a b : List Tree} {t : Table} (vs : List NodeId) → IsTable a t → Extends a b → All (λ v. IsTermOf a t v) vs → All (λ v. IsTermOf b t v) vs
-terms-extended vs h e k = terms-later vs (Goes-extends h e) k
+pub values-later : {a b : List Tree} {t u : Table} (vs : List GenericArg) → Goes a b t u → All (λ v. IsValue a t v) vs → All (λ v. IsValue b u v) vs
+values-later vs g h = λ k d l. IsValue-later g (h k d l)
 
-terms-each : (ts : List Tree) (t : Table) (vs : List NodeId) → AllIn ts vs → AllKnown (content_of ts t.entries) (map (tree_at ts) vs) → All (λ v. IsTermOf ts t v) vs
-terms-each ts t [] h k = All-nil (λ v. IsTermOf ts t v)
-terms-each ts t (v ∷ vs) h k = All-cons (λ w. IsTermOf ts t w) v vs (record { within = h.0; knows = k.0 }) (terms-each ts t vs h.1 k.1)
+pub values-extended : {a b : List Tree} {t : Table} (vs : List GenericArg) → IsTable a t → Extends a b → All (λ v. IsValue a t v) vs → All (λ v. IsValue b t v) vs
+values-extended vs h e k = values-later vs (Goes-extends h e) k
 
-pub terms-values : {ts : List Tree} {t : Table} {fresh : List Sort} {vs : List NodeId} → AreValues ts t fresh vs → All (λ v. IsTermOf ts t v) vs
-terms-values {ts} {t} {fresh} {vs} h = terms-each ts t vs h.within h.known
+fits_sort : (s : Sort) → FitsPlace any_argument (Some (of_sort s))
+fits_sort sort.Ty = tt
+fits_sort sort.Region = tt
+fits_sort sort.Const = tt
+
+values-each : (ts : List Tree) (t : Table) (ss : List Sort) (vs : List GenericArg) → AllIn ts (map (λ v. v.node) vs) → AreOfSorts ss (map (tree_at ts) (map (λ v. v.node) vs)) → AllKnown (content_of ts t.entries) (map (tree_at ts) (map (λ v. v.node) vs)) → All (λ v. IsValue ts t v) vs
+values-each ts t ss [] h s k = All-nil (λ v. IsValue ts t v)
+values-each ts t [] (v ∷ vs) h s k = absurd s
+values-each ts t (x ∷ ss) (v ∷ vs) h s k =
+    All-cons (λ w. IsValue ts t w) v vs (record { holds = record { within = h.0; fits = rw s.0 (fits_sort x) }; knows = k.0 }) (values-each ts t ss vs h.1 s.1 k.1)
+
+pub values-fresh : {ts : List Tree} {t : Table} (fresh : List Sort) (ns : List NodeId) (vs : List GenericArg) → map (λ v. v.node) vs ≡ ns → AreValues ts t fresh ns → All (λ v. IsValue ts t v) vs
+values-fresh {ts} {t} fresh ns vs e h =
+    let k : AreValues ts t fresh (map (λ v. v.node) vs) = rw e h in
+    values-each ts t fresh vs k.within k.sorts k.known
 
 sides_at : (ts : List Tree) (c : Content) (xs : List Constraint) (i : ℕ) (x : Constraint) → AreConstraints ts c xs → slice_get xs i ≡ Some x → IsConstraint ts c x
 sides_at ts c [] i x h e = cc
@@ -46,11 +63,11 @@ pub constraint-known : {a b : List Tree} {t : Table} (x : Constraint) → IsTabl
 constraint-known x h e k = IsTermOf-later (Goes-extends h e) (record { within = k.right_in; knows = k.right_known })
 
 -- .. after an evaluation
-pub terms-run : {a b : Cx} {t u : Table} (vs : List NodeId) → Runs a b t u → All (λ v. IsTermOf a.nodes t v) vs → All (λ v. IsTermOf b.nodes u v) vs
-terms-run vs r h = terms-later vs r.goes h
+pub values-run : {a b : Cx} {t u : Table} (vs : List GenericArg) → Runs a b t u → All (λ v. IsValue a.nodes t v) vs → All (λ v. IsValue b.nodes u v) vs
+values-run vs r h = values-later vs r.goes h
 
 pub ruleset growing = (Extends-trans, Extends-refl, KeepsRest-trans, KeepsRest-refl, Holds-extended)
 
 pub ruleset keeping = (Extends-trans, Extends-refl, AreReady-kept)
 
-pub ruleset asking = (Extends-trans, Extends-refl, KeepsRest-trans, KeepsRest-refl, Holds-extended, AreReady-kept, IsTable-extended, IsAdmitted-extended, terms-extended, terms-later, terms-run, constraint_at)
+pub ruleset asking = (Extends-trans, Extends-refl, KeepsRest-trans, KeepsRest-refl, Holds-extended, AreReady-kept, IsTable-extended, IsAdmitted-extended, values-extended, values-later, values-run, constraint_at)

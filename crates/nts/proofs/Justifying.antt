@@ -2,7 +2,7 @@
 use Rattle.std.proofs.Common.{List, Result, Ok, Err, subst, sym}
 use Rattle.std.specs.Prelude.{IfOk}
 use Rattle.nts_model.specs.Trees.{Tree}
-use Rattle.nts_terms.specs.declared.nodes.NodeId.{NodeId}
+use Rattle.nts_terms.specs.declared.handles.GenericArg.{GenericArg}
 use Rattle.nts_terms.specs.declared.handles.Goal.{Goal}
 use Rattle.nts_terms.specs.Growth.{Extends}
 use Rattle.nts_terms.proofs.Growing.{Extends-trans}
@@ -21,7 +21,7 @@ use Rattle.nts.specs.declared.answer.Answer.TheVariants as answers
 earlier : (a b us : List Tree) (h : Clauses) (t : Table) (g : Goal) → Extends a b → IsProvedIn b us h t g → IsProvedIn a us h t g
 earlier a b us h t g e k = record { store = k.store; extends = Extends-trans e k.extends; proved = k.proved }
 
-pub justified : {E : Type 0} (m : Mode) (rs : List Resolved) (a b store us : List Tree) (h : Clauses) (t : Table) (g : Goal) (variables : LineVariables) (vs : List NodeId) (r : Result Answer E)
+pub justified : {E : Type 0} (m : Mode) (rs : List Resolved) (a b store us : List Tree) (h : Clauses) (t : Table) (g : Goal) (variables : LineVariables) (vs : List GenericArg) (r : Result Answer E)
     → IsTypingMode m t.mode → Extends a b → IsProvedIn b store h t g → IsGoalOf store variables vs rs g
     → IfOk r (IsOf variables) → IfOk r (IsFoundIn store us (content_of store t.entries) vs) → IfOk r (IsJustified m rs a us h)
 justified m rs a b store us h t g variables vs (Err x) i e k asked of found = tt

@@ -12,9 +12,10 @@ use Rattle.std.proofs.lemmas.List.{append-nil}
 use Rattle.nts_model.specs.Trees.{Tree}
 use Rattle.nts_terms.specs.Growth.{tree_at}
 use Rattle.nts_terms.specs.declared.nodes.NodeId.{NodeId}
+use Rattle.nts_terms.specs.declared.handles.GenericArg.{GenericArg}
 use Rattle.nts_table.specs.declared.contents.Constraint.{Constraint}
 use Rattle.nts.specs.declared.printer.Printer.{Printer}
-use Rattle.nts.specs.Answers.{Bound, bound_to, bound_by, is_variable, name_by, first_of, name_among, AreNames, IsValueLine, IsFactLine, AreLines, relation_word}
+use Rattle.nts.specs.Answers.{Bound, bound_to, node_of, bound_by, is_variable, name_by, first_of, name_among, AreNames, IsValueLine, IsFactLine, AreLines, relation_word}
 use Rattle.nts.specs.Pieces.{lexicon_of, names_in, seen_by, Writes, WritesText}
 use Rattle.nts.specs.Printing.{Lexicon, Seen, IsText, same_term}
 use Rattle.nts.proofs.Writing.{Writes-refl, Writes-trans, lookup_names}
@@ -91,15 +92,15 @@ abbrev pub bound_at : Option (List ℕ) → Option NodeId → List Bound
 bound_at None v = []
 bound_at (Some name) v = bound_to name v
 
-pub bound_next : (values : List NodeId) (names : List (List ℕ)) (places : List ℕ) (i p : ℕ) → slice_get places i ≡ Some p
-    → bound_by values (zip (take (suc i) names) (take (suc i) places)) ≡ bound_by values (zip (take i names) (take i places)) ++ bound_at (slice_get names i) (slice_get values p)
+pub bound_next : (values : List GenericArg) (names : List (List ℕ)) (places : List ℕ) (i p : ℕ) → slice_get places i ≡ Some p
+    → bound_by values (zip (take (suc i) names) (take (suc i) places)) ≡ bound_by values (zip (take i names) (take i places)) ++ bound_at (slice_get names i) (node_of (slice_get values p))
 bound_next values [] places zero p e = refl
 bound_next values [] places (suc i) p e = refl
 bound_next values (n ∷ ns) [] i p e = cc
-bound_next values (n ∷ ns) (q ∷ qs) zero p e = let same : q ≡ p = cc in rw same (append-nil (bound_to n (slice_get values p)))
+bound_next values (n ∷ ns) (q ∷ qs) zero p e = let same : q ≡ p = cc in rw same (append-nil (bound_to n (node_of (slice_get values p))))
 bound_next values (n ∷ ns) (q ∷ qs) (suc i) p e =
-    let first = bound_to n (slice_get values q) in
-    ap (λ w. first ++ w) (bound_next values ns qs i p e) ∙ sym (append_assoc first (bound_by values (zip (take i ns) (take i qs))) (bound_at (slice_get ns i) (slice_get values p)))
+    let first = bound_to n (node_of (slice_get values q)) in
+    ap (λ w. first ++ w) (bound_next values ns qs i p e) ∙ sym (append_assoc first (bound_by values (zip (take i ns) (take i qs))) (bound_at (slice_get ns i) (node_of (slice_get values p))))
 
 zip-all : (names : List (List ℕ)) (places : List ℕ) → zip (take (length places) names) (take (length places) places) ≡ zip names places
 zip-all [] [] = refl
@@ -107,7 +108,7 @@ zip-all [] (p ∷ ps) = refl
 zip-all (n ∷ ns) [] = refl
 zip-all (n ∷ ns) (p ∷ ps) = ap (λ w. (n, p) ∷ w) (zip-all ns ps)
 
-pub bound_all : (values : List NodeId) (names : List (List ℕ)) (places : List ℕ) → bound_by values (zip (take (length places) names) (take (length places) places)) ≡ bound_by values (zip names places)
+pub bound_all : (values : List GenericArg) (names : List (List ℕ)) (places : List ℕ) → bound_by values (zip (take (length places) names) (take (length places) places)) ≡ bound_by values (zip names places)
 bound_all values names places = ap (bound_by values) (zip-all names places)
 
 first_of-none : (a : Option (List ℕ)) → first_of a None ≡ a
@@ -186,8 +187,8 @@ has_at (x ∷ xs) zero h = refl
 has_at (x ∷ xs) (suc i) h = has_at xs i (omega (arith, h))
 
 -- one more variable
-pub bound_one : (values : List NodeId) (names : List (List ℕ)) (places : List ℕ) (i : ℕ) (name : Option (List ℕ)) (value : Option NodeId) → i < length places
-    → slice_get names i ≡ name → slice_get values (get_or places i 0) ≡ value
+pub bound_one : (values : List GenericArg) (names : List (List ℕ)) (places : List ℕ) (i : ℕ) (name : Option (List ℕ)) (value : Option NodeId) → i < length places
+    → slice_get names i ≡ name → node_of (slice_get values (get_or places i 0)) ≡ value
     → bound_by values (zip (take (i + 1) names) (take (i + 1) places)) ≡ bound_by values (zip (take i names) (take i places)) ++ bound_at name value
 bound_one values names places i name value h e f =
     let next : i + 1 ≡ suc i = omega arith in
@@ -201,7 +202,7 @@ pub some_names : (test : NodeId → Bool) (es : List (NodeId × Vec ℕ)) → is
 some_names test es = ap is_some (lookup_names test es) ∙ some_map (lookup test es)
 
 -- all variables
-pub bound_end : (values : List NodeId) (names : List (List ℕ)) (places : List ℕ) (i : ℕ) → length places ≤ i → i ≤ length places
+pub bound_end : (values : List GenericArg) (names : List (List ℕ)) (places : List ℕ) (i : ℕ) → length places ≤ i → i ≤ length places
     → bound_by values (zip (take i names) (take i places)) ≡ bound_by values (zip names places)
 bound_end values names places i h k = let e : i ≡ length places = omega (arith, h, k) in rw e (bound_all values names places)
 
@@ -218,8 +219,8 @@ learned p q r bs name v h same k =
     (subst (λ ts. (t : NodeId) → lookup (same_term t) (names_in r.known.entries) ≡ first_of (lookup (same_term t) (names_in q.known.entries)) (name_by ts t (name, v))) nodes k)
 
 -- nothing more
-pub bound_none : (values : List NodeId) (names : List (List ℕ)) (places : List ℕ) (i : ℕ) (name : Option (List ℕ)) (value : Option NodeId) → i < length places
-    → slice_get names i ≡ name → slice_get values (get_or places i 0) ≡ value → bound_at name value ≡ []
+pub bound_none : (values : List GenericArg) (names : List (List ℕ)) (places : List ℕ) (i : ℕ) (name : Option (List ℕ)) (value : Option NodeId) → i < length places
+    → slice_get names i ≡ name → node_of (slice_get values (get_or places i 0)) ≡ value → bound_at name value ≡ []
     → bound_by values (zip (take (i + 1) names) (take (i + 1) places)) ≡ bound_by values (zip (take i names) (take i places))
 bound_none values names places i name value h e f none =
     let before = bound_by values (zip (take i names) (take i places)) in

@@ -7,7 +7,6 @@ use Rattle.nts_model.specs.declared.labels.Label.TheVariants as label
 use Rattle.nts_model.specs.declared.labels.ListHead.TheVariants as list
 use Rattle.nts_model.specs.declared.labels.ClauseHead.TheVariants as clause
 use Rattle.nts_model.specs.Trees.{Tree, empty, more, node}
-use Rattle.nts_terms.specs.declared.nodes.NodeId.{NodeId}
 use Rattle.nts_terms.specs.declared.handles.GenericArg.{GenericArg}
 use Rattle.nts_terms.specs.declared.handles.GenericArgs.{GenericArgs}
 use Rattle.nts_terms.specs.Growth.{tree_at, trees_at, Extends}
@@ -67,12 +66,12 @@ takes ts mid old new args count l parts counted held e within tree us later =
     )
 
 -- what was made of the last nodes, here and in each later store
-abbrev pub IsMade : List Tree → LineVariables → List NodeId → List Resolved → Vec GenericArg → List TraitRef → Type 0
+abbrev pub IsMade : List Tree → LineVariables → List GenericArg → List Resolved → Vec GenericArg → List TraitRef → Type 0
 IsMade ts variables values rs made found =
     (us : List Tree) → Extends ts us
     → (made_trees us made ≡ (meaning_of (values_in us variables values) rs).arguments) × (trait_trees us (reverse found) ≡ (meaning_of (values_in us variables values) rs).predicates)
 
-module _ (ts mid : List Tree) (variables : LineVariables) (values : List NodeId) (rs : List Resolved) (old new : Vec GenericArg) (found : List TraitRef) where
+module _ (ts mid : List Tree) (variables : LineVariables) (values : List GenericArg) (rs : List Resolved) (old new : Vec GenericArg) (found : List TraitRef) where
   one_more : (us : List Tree) (last : Vec GenericArg) (a : GenericArg) (args : List Tree) (f : List Tree → Tree) (k : ℕ) → last.items ≡ new.items ++ a ∷ []
       → made_trees us old ≡ args → tree_at us a.node ≡ f (take k (made_trees us old)) → made_trees us new ≡ drop k (made_trees us old)
       → made_trees us last ≡ f (take k args) ∷ drop k args
@@ -122,7 +121,7 @@ module _ (ts mid : List Tree) (variables : LineVariables) (values : List NodeId)
       )
 
 -- nothing is made of no nodes
-pub made_none : (ts : List Tree) (variables : LineVariables) (values : List NodeId) (made : Vec GenericArg) (found : List TraitRef) → made.items ≡ [] → found ≡ [] → IsMade ts variables values [] made found
+pub made_none : (ts : List Tree) (variables : LineVariables) (values : List GenericArg) (made : Vec GenericArg) (found : List TraitRef) → made.items ≡ [] → found ≡ [] → IsMade ts variables values [] made found
 made_none ts variables values made found e f = λ us later. (ap (λ xs. map (λ a. tree_at us a.node) (reverse xs)) e, ap (λ xs. trait_trees us (reverse xs)) f)
 
 pub ruleset meant = (made_none, made_trait)
@@ -142,7 +141,7 @@ one_item (x ∷ []) d l h = refl
 one_item (x ∷ y ∷ ys) d l h = absurd (omega (arith, h))
 
 -- the goal of the one trait that nodes say
-pub goal_for : (a mid ts : List Tree) (variables : LineVariables) (values : List NodeId) (rs : List Resolved) (traits : List TraitRef) (r : TraitRef) (g : Goal)
+pub goal_for : (a mid ts : List Tree) (variables : LineVariables) (values : List GenericArg) (rs : List Resolved) (traits : List TraitRef) (r : TraitRef) (g : Goal)
     → AreSaid a variables values rs traits → traits ≡ r ∷ [] → Extends a mid → Extends mid ts → States ts r g.predicate → HoldsEnv mid g.param_env → tree_at mid g.param_env.node ≡ empty_environment
     → IsGoalFor ts variables values rs g
 goal_for a mid ts variables values rs traits r g said one e f states holds environment = λ us later.

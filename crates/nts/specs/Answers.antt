@@ -11,6 +11,7 @@ use Rattle.nts_model.specs.declared.labels.Relation.TheVariants as relations
 use Rattle.nts_model.specs.Trees.{Tree, node}
 use Rattle.nts_terms.specs.Growth.{tree_at}
 use Rattle.nts_terms.specs.declared.nodes.NodeId.{NodeId}
+use Rattle.nts_terms.specs.declared.handles.GenericArg.{GenericArg}
 use Rattle.nts_text.specs.Spelled.{type_names, region_names}
 use Rattle.nts_text.specs.declared.names.Scope.{Scope}
 use Rattle.nts_text.specs.declared.names.NameTable.{NameTable}
@@ -33,10 +34,14 @@ abbrev pub bound_to : List ℕ → Option NodeId → List Bound
 bound_to name None = []
 bound_to name (Some v) = (name, v) ∷ []
 
+abbrev pub node_of : Option GenericArg → Option NodeId
+node_of None = None
+node_of (Some a) = Some a.node
+
 -- variables with their values: each has a name, and a place among the values
-abbrev pub bound_by : List NodeId → List (List ℕ × ℕ) → List Bound
+abbrev pub bound_by : List GenericArg → List (List ℕ × ℕ) → List Bound
 bound_by values [] = []
-bound_by values (p ∷ ps) = bound_to p.0 (slice_get values p.1) ++ bound_by values ps
+bound_by values (p ∷ ps) = bound_to p.0 (node_of (slice_get values p.1)) ++ bound_by values ps
 
 -- the type variables of a goal, and those of regions
 abbrev pub bound_types : Scope → Found → List Bound

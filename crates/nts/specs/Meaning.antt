@@ -9,7 +9,6 @@ use Rattle.nts_model.specs.declared.labels.TyHead.TheVariants as ty
 use Rattle.nts_model.specs.declared.labels.ClauseHead.TheVariants as clause
 use Rattle.nts_model.specs.declared.labels.ListHead.TheVariants as list
 use Rattle.nts_model.specs.Trees.{Tree, empty, more, node}
-use Rattle.nts_terms.specs.declared.nodes.NodeId.{NodeId}
 use Rattle.nts_terms.specs.declared.handles.GenericArg.{GenericArg}
 use Rattle.nts_terms.specs.declared.handles.GenericArgs.{GenericArgs}
 use Rattle.nts_terms.specs.declared.handles.TraitRef.{TraitRef}
@@ -74,16 +73,16 @@ meaning_of v [] = record { arguments = []; predicates = [] }
 meaning_of v (r ∷ rs) = meaning_before v r (meaning_of v rs)
 
 -- the tree of the value at a place
-abbrev pub tree_of_value : List Tree → Option NodeId → Tree
+abbrev pub tree_of_value : List Tree → Option GenericArg → Tree
 tree_of_value ts None = empty
-tree_of_value ts (Some n) = tree_at ts n
+tree_of_value ts (Some a) = tree_at ts a.node
 
-abbrev pub tree_at_place : List Tree → List NodeId → Option ℕ → Tree
+abbrev pub tree_at_place : List Tree → List GenericArg → Option ℕ → Tree
 tree_at_place ts values None = empty
 tree_at_place ts values (Some place) = tree_of_value ts (slice_get values place)
 
 -- the values of the variables of a line, each at its variable's place
-abbrev pub values_in : List Tree → LineVariables → List NodeId → Values
+abbrev pub values_in : List Tree → LineVariables → List GenericArg → Values
 values_in ts variables values = record {
   types = λ i. tree_at_place ts values (slice_get variables.types.items i);
   regions = λ i. tree_at_place ts values (slice_get variables.regions.items i);
@@ -104,7 +103,7 @@ TakesArguments ts old new count args =
     → (tree_at us args.node ≡ argument_list (take count (made_trees us old))) × (made_trees us new ≡ drop count (made_trees us old))
 
 -- an argument is made, of those that were made last, here and in each later store; a predicate is none
-abbrev pub MakesArgument : List Tree → LineVariables → List NodeId → Resolved → Vec GenericArg → Vec GenericArg → GenericArg → Type 0
+abbrev pub MakesArgument : List Tree → LineVariables → List GenericArg → Resolved → Vec GenericArg → Vec GenericArg → GenericArg → Type 0
 MakesArgument ts variables values (nodes.Trait i n) old new a = ⊥
 MakesArgument ts variables values r old new a =
     (us : List Tree) → Extends ts us
@@ -112,7 +111,7 @@ MakesArgument ts variables values r old new a =
     × (made_trees us new ≡ drop (argument_count r) (made_trees us old))
 
 -- traits are what nodes say, here and in each later store
-abbrev pub AreSaid : List Tree → LineVariables → List NodeId → List Resolved → List TraitRef → Type 0
+abbrev pub AreSaid : List Tree → LineVariables → List GenericArg → List Resolved → List TraitRef → Type 0
 AreSaid ts variables values rs traits =
     (us : List Tree) → Extends ts us → trait_trees us traits ≡ (meaning_of (values_in us variables values) rs).predicates
 
@@ -124,12 +123,12 @@ abbrev pub empty_environment : Tree
 empty_environment = node (label.List list.Env) empty
 
 -- the one predicate that nodes say, which a goal asks in the empty environment
-pub record IsGoalOf (ts : List Tree) (variables : LineVariables) (values : List NodeId) (rs : List Resolved) (g : Goal) : Type 0 where
+pub record IsGoalOf (ts : List Tree) (variables : LineVariables) (values : List GenericArg) (rs : List Resolved) (g : Goal) : Type 0 where
   pub said : map binding_nothing (meaning_of (values_in ts variables values) rs).predicates ≡ tree_at ts g.predicate.node ∷ []
   pub nothing_assumed : tree_at ts g.param_env.node ≡ empty_environment
 
 -- here and in each later store
-abbrev pub IsGoalFor : List Tree → LineVariables → List NodeId → List Resolved → Goal → Type 0
+abbrev pub IsGoalFor : List Tree → LineVariables → List GenericArg → List Resolved → Goal → Type 0
 IsGoalFor ts variables values rs g = (us : List Tree) → Extends ts us → IsGoalOf us variables values rs g
 
 abbrev pub States : List Tree → TraitRef → Predicate → Type 0

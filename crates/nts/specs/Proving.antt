@@ -4,7 +4,7 @@ use Rattle.nts_model.specs.declared.labels.Variance.{Variance}
 use Rattle.nts_model.specs.Handlers.{meaning}
 use Rattle.nts_model.specs.Proving.{HasHeldProof}
 use Rattle.nts_model.specs.Trees.{Tree}
-use Rattle.nts_terms.specs.declared.nodes.NodeId.{NodeId}
+use Rattle.nts_terms.specs.declared.handles.GenericArg.{GenericArg}
 use Rattle.nts_terms.specs.declared.handles.Goal.{Goal}
 use Rattle.nts_terms.specs.declared.sources.TypingMode.{TypingMode}
 use Rattle.nts_terms.specs.declared.sources.TypingMode.TheVariants as typing
@@ -42,7 +42,7 @@ pub record IsHeld (m : Mode) (rs : List Resolved) (ts us : List Tree) (h : Claus
   pub store : List Tree
   pub table : Table
   pub goal : Goal
-  pub values : List NodeId
+  pub values : List GenericArg
   pub mode : IsTypingMode m table.mode
   pub asked : IsGoalOf store f.variables values rs goal
   pub proved : IsProvedIn ts store h table goal

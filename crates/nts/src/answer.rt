@@ -5,10 +5,10 @@ ghost use Rattle.nts_terms.specs.Rest.{KeepsRest};
 ghost use Rattle.nts_table.specs.Reading.{content_of, IsTable};
 ghost use Rattle.next_trait_solver.specs.Candidates.{HoldsGoal};
 ghost use Rattle.next_trait_solver.specs.Clauses.{AreReady};
-ghost use Rattle.next_trait_solver.specs.Evaluation.{Goes, IsAdmitted, IsTermOf, AreOfSorts};
+ghost use Rattle.next_trait_solver.specs.Evaluation.{IsAdmitted, AreOfSorts};
 ghost use Rattle.nts_terms.specs.declared.certainty.Certainty.TheVariants as certainty;
 ghost use Rattle.nts.specs.Proving.{IsTypingMode, IsProvedIn, IsJustified};
-ghost use Rattle.nts.specs.Found.{AreResolved, IsFoundIn, IsOf};
+ghost use Rattle.nts.specs.Found.{AreResolved, IsFoundIn, IsOf, IsValue};
 ghost use Rattle.nts.specs.Meaning.{IsGoalFor};
 ghost use Rattle.nts_terms.specs.Growth.{tree_at};
 
@@ -16,10 +16,12 @@ use crate::build::{MISFIT, Terms, predicate_of, trait_refs};
 use crate::status::Stop;
 use crate::variables::LineVariables;
 use next_trait_solver::clauses::Clauses;
+use next_trait_solver::resolve::eager_resolve_vars;
 use next_trait_solver::solve::{evaluate_root_goal, goal_is_admitted};
-use nts_model::Sort;
-use nts_table::{Constraint, InferCtxt, resolve_nodes};
-use nts_terms::{Certainty, Cx, EvalError, Goal, MaybeCause, NodeId, Span, TypingMode};
+use next_trait_solver::ty::{
+    Certainty, Constraint, Cx, EvalError, GenericArg, Goal, InferCtxt, MaybeCause, NodeId, Sort,
+    Span, TypingMode,
+};
 use nts_text::{Mode, Resolved};
 use std::alloc::{AllocError, Global};
 
@@ -29,7 +31,7 @@ pub struct Found {
     /// The variables of the goal.
     pub variables: LineVariables,
     /// Their values, each at its variable's place.
-    pub values: Vec<NodeId>,
+    pub values: Vec<GenericArg>,
     /// What holds of regions, in the order in which it was found.
     pub facts: Vec<Constraint>,
 }
@@ -89,16 +91,17 @@ fn answer_of(
     table: &InferCtxt,
     cx: &mut Cx,
     variables: LineVariables,
-    values: &[NodeId],
+    values: &[GenericArg],
 ) -> Result<Answer, Stop>
     requires table { IsTable cx.old.nodes table.now }
-    requires values { All (λ v. IsTermOf cx.old.nodes table.now v) values.now }
+    requires values { All (λ v. IsValue cx.old.nodes table.now v) values.now }
     ensures variables { IfOk result (IsOf variables) }
-    ensures found { IfOk result (IsFoundIn cx.old.nodes cx.new.nodes (content_of cx.old.nodes table.now.entries) values.now) }
+    ensures found { IfOk result (IsFoundIn cx.old.nodes cx.new.nodes
+        (content_of cx.old.nodes table.now.entries) values.now) }
     ensures extends { Extends cx.old.nodes cx.new.nodes }
     ensures rest { KeepsRest cx.old cx.new }
 {
-    let values = resolved_terms(table, cx, values)?;
+    let values = resolved_values(table, cx, values)?;
     let facts = table.make_deduplicated_region_constraints(cx)?;
     Ok(Answer::Yes(Found {
         variables,
@@ -108,23 +111,36 @@ fn answer_of(
 }
 
 /// New variables of these sorts.
-fn fresh_values(table: &mut InferCtxt, cx: &mut Cx, sorts: &[Sort]) -> Result<Vec<NodeId>, Stop>
+fn fresh_values(table: &mut InferCtxt, cx: &mut Cx, sorts: &[Sort]) -> Result<Vec<GenericArg>, Stop>
     requires table { IsTable cx.old.nodes table.old }
     ensures extends { Extends cx.old.nodes cx.new.nodes }
     ensures rest { KeepsRest cx.old cx.new }
     ensures table { IsTable cx.new.nodes table.new }
-    ensures values { IfOk result (λ vs. All (λ v. IsTermOf cx.new.nodes table.new v) vs.items) }
-    ensures sorts { IfOk result (λ vs. AreOfSorts sorts.now (map (tree_at cx.new.nodes) vs.items)) }
+    ensures values { IfOk result (λ vs. All (λ v. IsValue cx.new.nodes table.new v) vs.items) }
+    ensures sorts { IfOk result (λ vs. AreOfSorts sorts.now (map (tree_at cx.new.nodes) (map
+        (λ v. v.node) vs.items))) }
     ensures mode { table.new.mode ≡ table.old.mode }
 {
-    let values = table.fresh_nodes(cx, sorts)?;
+    let nodes = table.fresh_nodes(cx, sorts)?;
+    let values = arguments_of(cx.alloc, &nodes)?;
     Ok(values)
+}
+
+/// Terms of variables, as arguments.
+fn arguments_of(alloc: Global, nodes: &[NodeId]) -> Result<Vec<GenericArg>, AllocError>
+    ensures { IfOk result (λ vs. vs.items ≡ map (λ n. record { node = n }) nodes.now) }
+{
+    nodes
+        .iter()
+        .map(|node| GenericArg { node: *node })
+        .collect(alloc)
 }
 
 /// The goal that these nodes say, in an empty environment.
 #[tactic(auto, using(crate::proofs::Asking::asking))]
 fn goal_of(cx: &mut Cx, nodes: &[Resolved], terms: Terms<'_>) -> Result<Goal, Stop>
-    ensures asks { IfOk result (IsGoalFor cx.new.nodes terms.entry.variables.now terms.entry.values.now nodes.now) }
+    ensures asks { IfOk result (IsGoalFor cx.new.nodes terms.entry.variables.now
+        terms.entry.values.now nodes.now) }
     ensures holds { IfOk result (λ g. HoldsGoal cx.new.nodes g) }
     ensures extends { Extends cx.old.nodes cx.new.nodes }
     ensures rest { KeepsRest cx.old cx.new }
@@ -149,18 +165,19 @@ fn evaluated(
     cx: &mut Cx,
     clauses: &Clauses,
     goal: Goal,
-    values: &[NodeId],
+    values: &[GenericArg],
 ) -> Result<Option<Certainty>, Stop>
     requires table { IsTable cx.old.nodes table.old }
     requires ready { AreReady cx.old.nodes clauses.now }
     requires holds { HoldsGoal cx.old.nodes goal }
-    requires values { All (λ v. IsTermOf cx.old.nodes table.old v) values.now }
+    requires values { All (λ v. IsValue cx.old.nodes table.old v) values.now }
     ensures extends { Extends cx.old.nodes cx.new.nodes }
     ensures rest { KeepsRest cx.old cx.new }
     ensures table { OnOk result (IsTable cx.new.nodes table.new) }
-    ensures values { OnOk result (All (λ v. IsTermOf cx.new.nodes table.new v) values.now) }
+    ensures values { OnOk result (All (λ v. IsValue cx.new.nodes table.new v) values.now) }
     ensures admitted { IfOk result (λ _. IsAdmitted cx.old.nodes table.old goal) }
-    ensures proved { IfOk result (λ o. o ≡ Some certainty.Yes → IsProvedIn cx.old.nodes cx.new.nodes clauses.now table.new goal) }
+    ensures proved { IfOk result (λ o. o ≡ Some certainty.Yes →
+        IsProvedIn cx.old.nodes cx.new.nodes clauses.now table.new goal) }
     ensures unsure { IfOk result (λ o. o ≢ Some certainty.Yes → table.new ≡ table.old) }
     ensures mode { OnOk result (table.new.mode ≡ table.old.mode) }
 {
@@ -176,23 +193,23 @@ fn evaluated(
     }
 }
 
-/// The terms with each variable replaced by what the table knows of it.
+/// The values with each variable replaced by what the table knows of it.
 #[tactic(auto, using(crate::proofs::Asking::asking))]
-fn resolved_terms(
+fn resolved_values(
     table: &InferCtxt,
     cx: &mut Cx,
-    terms: &[NodeId],
-) -> Result<Vec<NodeId>, AllocError>
+    values: &[GenericArg],
+) -> Result<Vec<GenericArg>, Stop>
     requires table { IsTable cx.old.nodes table.now }
-    requires terms { All (λ v. IsTermOf cx.old.nodes table.now v) terms.now }
-    ensures resolved { IfOk result (λ vs. AreResolved cx.old.nodes cx.new.nodes (content_of cx.old.nodes table.now.entries) terms.now vs.items) }
+    requires values { All (λ v. IsValue cx.old.nodes table.now v) values.now }
+    ensures resolved { IfOk result (λ vs. AreResolved cx.old.nodes cx.new.nodes
+        (content_of cx.old.nodes table.now.entries) values.now vs.items) }
     ensures extends { Extends cx.old.nodes cx.new.nodes }
     ensures rest { KeepsRest cx.old cx.new }
 {
-    let alloc = cx.alloc;
-    let mut found = Vec::new(alloc);
-    for term in terms {
-        found.push(resolve_nodes(alloc, &mut cx.nodes, table, *term, true)?)?;
+    let mut found = Vec::new(cx.alloc);
+    for value in values {
+        found.push(eager_resolve_vars(table, cx, *value)?)?;
     }
     Ok(found)
 }

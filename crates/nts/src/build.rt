@@ -10,10 +10,9 @@ ghost use Rattle.nts_terms.specs.Rest.{KeepsRest};
 
 use crate::status::Stop;
 use crate::variables::LineVariables;
-use nts_model::{BoundIndex, Sort};
-use nts_terms::{
-    Binder, BoundRegion, BoundTy, ClauseKind, CtorId, Cx, DefId, GenericArg, GenericArgs, NodeId,
-    Predicate, PredicateKind, RegionKind, TraitId, TraitRef, TyKind,
+use next_trait_solver::ty::{
+    Binder, BoundIndex, BoundRegion, BoundTy, ClauseKind, CtorId, Cx, DefId, GenericArg,
+    GenericArgs, Predicate, PredicateKind, RegionKind, Sort, TraitId, TraitRef, TyKind,
 };
 use nts_text::{Refusal, Resolved};
 
@@ -21,27 +20,30 @@ use nts_text::{Refusal, Resolved};
 #[derive(Clone, Copy)]
 pub struct Terms<'a> {
     pub variables: &'a LineVariables,
-    pub values: &'a [NodeId],
+    pub values: &'a [GenericArg],
 }
 
 impl Terms<'_> {
     fn of_type(self, number: usize) -> Option<GenericArg>
-        ensures value { IfSome result (λ a. (ts : List Tree) → tree_at ts a.node ≡ tree_at_place ts self.entry.values.now (slice_get self.entry.variables.now.types.items number)) }
+        ensures value { IfSome result (λ a. (ts : List Tree) →
+            tree_at ts a.node ≡ tree_at_place ts self.entry.values.now
+            (slice_get self.entry.variables.now.types.items number)) }
     {
         self.at(*self.variables.types.get(number)?)
     }
 
     fn of_region(self, number: usize) -> Option<GenericArg>
-        ensures value { IfSome result (λ a. (ts : List Tree) → tree_at ts a.node ≡ tree_at_place ts self.entry.values.now (slice_get self.entry.variables.now.regions.items number)) }
+        ensures value { IfSome result (λ a. (ts : List Tree) →
+            tree_at ts a.node ≡ tree_at_place ts self.entry.values.now
+            (slice_get self.entry.variables.now.regions.items number)) }
     {
         self.at(*self.variables.regions.get(number)?)
     }
 
     fn at(self, place: usize) -> Option<GenericArg>
-        ensures value { IfSome result (λ a. slice_get self.entry.values.now place ≡ Some a.node) }
+        ensures value { IfSome result (λ a. slice_get self.entry.values.now place ≡ Some a) }
     {
-        let node = *self.values.get(place)?;
-        Some(GenericArg { node })
+        Some(*self.values.get(place)?)
     }
 }
 
@@ -58,7 +60,8 @@ fn parameter(number: usize) -> Result<u32, Stop>
 /// The traits that these nodes name, with their arguments, in order.
 #[tactic(auto, using(crate::proofs::Asking::growing))]
 pub fn trait_refs(cx: &mut Cx, nodes: &[Resolved], terms: Terms<'_>) -> Result<Vec<TraitRef>, Stop>
-    ensures said { IfOk result (λ rs. AreSaid cx.new.nodes terms.entry.variables.now terms.entry.values.now nodes.now rs.items) }
+    ensures said { IfOk result (λ rs. AreSaid cx.new.nodes terms.entry.variables.now
+        terms.entry.values.now nodes.now rs.items) }
     ensures extends { Extends cx.old.nodes cx.new.nodes }
     ensures rest { KeepsRest cx.old cx.new }
 {
@@ -95,7 +98,8 @@ fn argument(
     terms: Terms<'_>,
     node: Resolved,
 ) -> Result<GenericArg, Stop>
-    ensures makes { IfOk result (MakesArgument cx.new.nodes terms.entry.variables.now terms.entry.values.now node made.old made.new) }
+    ensures makes { IfOk result (MakesArgument cx.new.nodes terms.entry.variables.now
+        terms.entry.values.now node made.old made.new) }
     ensures extends { Extends cx.old.nodes cx.new.nodes }
     ensures rest { KeepsRest cx.old cx.new }
 {
@@ -149,7 +153,8 @@ fn take_args(cx: &mut Cx, made: &mut Vec<GenericArg>, count: usize) -> Result<Ge
 #[tactic(auto, using(crate::proofs::Asking::growing))]
 fn constructed(cx: &mut Cx, ctor: CtorId, args: GenericArgs) -> Result<GenericArg, Stop>
     requires { HoldsArgs cx.old.nodes args }
-    ensures tree { IfOk result (λ a. tree_at cx.new.nodes a.node ≡ tree_of_ty cx.old.nodes (ty.Ctor ctor args)) }
+    ensures tree { IfOk result (λ a. tree_at cx.new.nodes a.node ≡ tree_of_ty cx.old.nodes
+        (ty.Ctor ctor args)) }
     ensures holds { IfOk result (HoldsArg cx.new.nodes) }
     ensures extends { Extends cx.old.nodes cx.new.nodes }
     ensures rest { KeepsRest cx.old cx.new }
@@ -178,23 +183,23 @@ pub fn predicate_of(cx: &mut Cx, trait_ref: TraitRef) -> Result<Predicate, Stop>
 
 /// The variables of a clause: the places of a canonical value, of these sorts.
 #[tactic(auto, using(crate::proofs::Asking::growing))]
-pub fn positions(cx: &mut Cx, sorts: &[Sort]) -> Result<Vec<NodeId>, Stop>
+pub fn positions(cx: &mut Cx, sorts: &[Sort]) -> Result<Vec<GenericArg>, Stop>
     ensures extends { Extends cx.old.nodes cx.new.nodes }
     ensures rest { KeepsRest cx.old cx.new }
 {
     let mut values = Vec::new(cx.alloc);
     for (var, sort) in sorts.iter().enumerate() {
-        let node = match sort {
+        let value = match sort {
             Sort::Ty => cx
                 .mk_ty(TyKind::Bound(BoundIndex::Canonical, BoundTy { var }))?
-                .node,
+                .into(),
             Sort::Region => {
                 let kind = RegionKind::ReBound(BoundIndex::Canonical, BoundRegion { var });
-                cx.mk_region(kind)?.node
+                cx.mk_region(kind)?.into()
             }
             Sort::Const => return Err(MISFIT),
         };
-        values.push(node)?;
+        values.push(value)?;
     }
     Ok(values)
 }

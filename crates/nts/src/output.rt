@@ -14,7 +14,8 @@ use std::io::{ErrorKind, Write};
 fn put_some<W: Write>(output: &mut W, bytes: &[u8]) -> Result<usize, Stop>
     ensures bound { IfOk result (λ n. n ≤ length bytes.now) }
     ensures fault { IfErr result (λ s. is_refusal s ≡ false) }
-    ensures some { IfOk result (λ n. Appends (W.contents output.old) (W.contents output.new) (take n bytes.now)) }
+    ensures some { IfOk result (λ n. Appends (W.contents output.old) (W.contents output.new)
+        (take n bytes.now)) }
     ensures begins { Begins (W.contents output.old) (W.contents output.new) }
 {
     match output.write(bytes) {
@@ -56,7 +57,8 @@ pub fn put_refusal<W: Write>(
     refusal: Refusal,
 ) -> Result<(), Stop>
     ensures fault { IfErr result (λ s. is_refusal s ≡ false) }
-    ensures said { OnOk result (Appends (W.contents output.old) (W.contents output.new) (refusal_line number refusal)) }
+    ensures said { OnOk result (Appends (W.contents output.old) (W.contents output.new)
+        (refusal_line number refusal)) }
     ensures begins { Begins (W.contents output.old) (W.contents output.new) }
 {
     let text = format!(in alloc; "line {number}: {refusal}\n")?;

@@ -10,13 +10,15 @@ ghost use Rattle.nts.specs.Pieces.{lexicon_of, names_in, seen_by, Writes, Writes
 ghost use Rattle.nts.specs.declared.printer.Piece.TheVariants as piece_kinds;
 ghost use Rattle.std.specs.Map.{lookup};
 ghost use Rattle.nts_terms.specs.declared.nodes.NodeId.{NodeId};
-ghost use Rattle.nts.specs.Answers.{relation_word, first_of, name_by, is_variable, AreNames, bound_types, bound_regions, IsValueLine, IsFactLine, AreLines, IsAnswerText};
+ghost use Rattle.nts.specs.Answers.{relation_word, first_of, name_by, node_of, is_variable, AreNames, bound_types, bound_regions, IsValueLine, IsFactLine, AreLines, IsAnswerText};
 
 use crate::answer::{Answer, Found};
 use indexmap::{IndexMap, IndexSet};
-use nts_model::{Constant, FreeRegion, IntTy, Label, Leaf, Relation, TyHead, UintTy, VariableKind};
-use nts_table::Constraint;
-use nts_terms::{NodeId, Nodes};
+use next_trait_solver::ty::{
+    Constraint, GenericArg, IntTy, NodeId, Relation, UintTy, VariableKind,
+};
+use nts_model::{Constant, FreeRegion, Label, Leaf, TyHead};
+use nts_terms::Nodes;
 use nts_text::{NameTable, Scope};
 use std::alloc::{AllocError, Global};
 
@@ -87,7 +89,9 @@ impl Printer<'_> {
     /// Gives each variable that is left the name of the first of the goal's variables that it is.
     fn learn(&mut self, found: &Found) -> Result<(), AllocError>
         requires { self.old.known.entries ≡ [] }
-        ensures names { OnOk result (AreNames self.old.nodes.now (names_in self.new.known.entries) (bound_types self.old.scope.now found.now ++ bound_regions self.old.scope.now found.now)) }
+        ensures names { OnOk result (AreNames self.old.nodes.now (names_in self.new.known.entries)
+            (bound_types self.old.scope.now found.now ++ bound_regions self.old.scope.now
+            found.now)) }
         ensures rest { OnOk result (self.new ≡ record self.old { known = self.new.known }) }
     {
         let scope = self.scope;
@@ -109,7 +113,9 @@ impl Printer<'_> {
     }
 
     fn learn_one(&mut self, name: &[u8], value: NodeId) -> Result<(), AllocError>
-        ensures names { OnOk result ((t : NodeId) → lookup (same_term t) (names_in self.new.known.entries) ≡ first_of (lookup (same_term t) (names_in self.old.known.entries)) (name_by self.old.nodes.now t (name.now, value))) }
+        ensures names { OnOk result ((t : NodeId) → lookup (same_term t)
+            (names_in self.new.known.entries) ≡ first_of (lookup (same_term t)
+            (names_in self.old.known.entries)) (name_by self.old.nodes.now t (name.now, value))) }
         ensures rest { OnOk result (self.new ≡ record self.old { known = self.new.known }) }
     {
         if !self.is_variable(value) {
@@ -132,7 +138,8 @@ impl Printer<'_> {
 
     /// A line for each type variable of the goal, in order of first sight.
     fn values(&mut self, found: &Found) -> Result<(), AllocError>
-        ensures { OnOk result (WritesText self.old self.new (λ old text new. AreLines (IsValueLine (lexicon_of self.old)) old (bound_types self.old.scope.now found.now) text new)) }
+        ensures { OnOk result (WritesText self.old self.new (λ old text new. AreLines (IsValueLine
+            (lexicon_of self.old)) old (bound_types self.old.scope.now found.now) text new)) }
     {
         let scope = self.scope;
         for (i, place) in found.variables.types.iter().enumerate() {
@@ -147,7 +154,8 @@ impl Printer<'_> {
 
     /// The line of a variable and its value.
     fn value(&mut self, name: &[u8], value: NodeId) -> Result<(), AllocError>
-        ensures { OnOk result (WritesText self.old self.new (λ old text new. IsValueLine (lexicon_of self.old) old (name.now, value) text new)) }
+        ensures { OnOk result (WritesText self.old self.new (λ old text new. IsValueLine
+            (lexicon_of self.old) old (name.now, value) text new)) }
     {
         self.write(b"  ")?;
         self.write(name)?;
@@ -159,7 +167,8 @@ impl Printer<'_> {
 
     /// A line for each region constraint.
     fn facts(&mut self, facts: &[Constraint]) -> Result<(), AllocError>
-        ensures { OnOk result (WritesText self.old self.new (λ old text new. AreLines (IsFactLine (lexicon_of self.old)) old facts.now text new)) }
+        ensures { OnOk result (WritesText self.old self.new (λ old text new. AreLines (IsFactLine
+            (lexicon_of self.old)) old facts.now text new)) }
     {
         for fact in facts {
             self.fact(*fact)?;
@@ -169,7 +178,8 @@ impl Printer<'_> {
 
     /// The line of a region constraint.
     fn fact(&mut self, fact: Constraint) -> Result<(), AllocError>
-        ensures { OnOk result (WritesText self.old self.new (λ old text new. IsFactLine (lexicon_of self.old) old fact text new)) }
+        ensures { OnOk result (WritesText self.old self.new (λ old text new. IsFactLine
+            (lexicon_of self.old) old fact text new)) }
     {
         self.write(b"  ")?;
         self.term(fact.left)?;
@@ -181,7 +191,8 @@ impl Printer<'_> {
 
     /// A type or a region, as it is written.
     fn term(&mut self, term: NodeId) -> Result<(), AllocError>
-        ensures { OnOk result (WritesText self.old self.new (λ old text new. IsText (lexicon_of self.old) old (tree_at self.old.nodes.now term) text new)) }
+        ensures { OnOk result (WritesText self.old self.new (λ old text new. IsText
+            (lexicon_of self.old) old (tree_at self.old.nodes.now term) text new)) }
     {
         let mut pieces = Vec::new(self.alloc);
         pieces.push(Piece::Term(term))?;
@@ -197,7 +208,9 @@ impl Printer<'_> {
 
     /// What a piece begins with. What follows is added to the pieces, the last first.
     fn piece(&mut self, piece: Piece, pieces: &mut Vec<Piece>) -> Result<(), AllocError>
-        ensures { OnOk result (WritesText self.old self.new (λ old text new. Completes (lexicon_of self.old) old (piece ∷ reverse pieces.old.items) text new (reverse pieces.new.items))) }
+        ensures { OnOk result (WritesText self.old self.new (λ old text new. Completes
+            (lexicon_of self.old) old (piece ∷ reverse pieces.old.items) text new
+            (reverse pieces.new.items))) }
     {
         match piece {
             Piece::Comma => self.write(b", "),
@@ -208,7 +221,9 @@ impl Printer<'_> {
 
     /// What a term begins with. What follows is added to the pieces, the last first.
     fn head(&mut self, term: NodeId, pieces: &mut Vec<Piece>) -> Result<(), AllocError>
-        ensures { OnOk result (WritesText self.old self.new (λ old text new. Completes (lexicon_of self.old) old (piece_kinds.Term term ∷ reverse pieces.old.items) text new (reverse pieces.new.items))) }
+        ensures { OnOk result (WritesText self.old self.new (λ old text new. Completes
+            (lexicon_of self.old) old (piece_kinds.Term term ∷ reverse pieces.old.items) text new
+            (reverse pieces.new.items))) }
     {
         let nodes = self.nodes;
         if !nodes.contains(term) {
@@ -229,9 +244,13 @@ impl Printer<'_> {
         pieces: &mut Vec<Piece>,
     ) -> Result<(), AllocError>
         requires within { IsIn self.old.nodes.now term }
-        requires label { tree_at self.old.nodes.now term ≡ node (labels.Ty head) (children (tree_at self.old.nodes.now term)) }
-        requires formed { Meets (shape (labels.Ty head)) (children (tree_at self.old.nodes.now term)) }
-        ensures { OnOk result (WritesText self.old self.new (λ old text new. Completes (lexicon_of self.old) old (piece_kinds.Term term ∷ reverse pieces.old.items) text new (reverse pieces.new.items))) }
+        requires label { tree_at self.old.nodes.now term ≡ node (labels.Ty head) (children
+            (tree_at self.old.nodes.now term)) }
+        requires formed { Meets (shape (labels.Ty head)) (children
+            (tree_at self.old.nodes.now term)) }
+        ensures { OnOk result (WritesText self.old self.new (λ old text new. Completes
+            (lexicon_of self.old) old (piece_kinds.Term term ∷ reverse pieces.old.items) text new
+            (reverse pieces.new.items))) }
     {
         match head {
             TyHead::Ctor(number) => self.constructed(number, term, pieces),
@@ -249,9 +268,13 @@ impl Printer<'_> {
         pieces: &mut Vec<Piece>,
     ) -> Result<(), AllocError>
         requires within { IsIn self.old.nodes.now term }
-        requires label { tree_at self.old.nodes.now term ≡ node (labels.Ty (heads.Ctor number)) (children (tree_at self.old.nodes.now term)) }
-        requires formed { Meets (in_order (is arguments ∷ [])) (children (tree_at self.old.nodes.now term)) }
-        ensures { OnOk result (WritesText self.old self.new (λ old text new. Completes (lexicon_of self.old) old (piece_kinds.Term term ∷ reverse pieces.old.items) text new (reverse pieces.new.items))) }
+        requires label { tree_at self.old.nodes.now term ≡ node (labels.Ty (heads.Ctor number))
+            (children (tree_at self.old.nodes.now term)) }
+        requires formed { Meets (in_order (is arguments ∷ [])) (children
+            (tree_at self.old.nodes.now term)) }
+        ensures { OnOk result (WritesText self.old self.new (λ old text new. Completes
+            (lexicon_of self.old) old (piece_kinds.Term term ∷ reverse pieces.old.items) text new
+            (reverse pieces.new.items))) }
     {
         let name = type_name(self.names, number);
         self.write(name)?;
@@ -262,7 +285,9 @@ impl Printer<'_> {
     /// The bracket in front of these arguments, if there are any.
     fn open(&mut self, list: NodeId, pieces: &mut Vec<Piece>) -> Result<(), AllocError>
         requires within { IsIn self.old.nodes.now list }
-        ensures { OnOk result (WritesText self.old self.new (λ old text new. Opens (lexicon_of self.old) old (children (tree_at self.old.nodes.now list)) (reverse pieces.old.items) text new (reverse pieces.new.items))) }
+        ensures { OnOk result (WritesText self.old self.new (λ old text new. Opens
+            (lexicon_of self.old) old (children (tree_at self.old.nodes.now list))
+            (reverse pieces.old.items) text new (reverse pieces.new.items))) }
     {
         let nodes = self.nodes;
         let count = nodes.child_count(list);
@@ -284,7 +309,8 @@ impl Printer<'_> {
 
     /// A term without parts.
     fn leaf(&mut self, term: NodeId, leaf: Leaf) -> Result<(), AllocError>
-        ensures { OnOk result (WritesText self.old self.new (λ old text new. IsLeafText (lexicon_of self.old) leaf old term text new)) }
+        ensures { OnOk result (WritesText self.old self.new (λ old text new. IsLeafText
+            (lexicon_of self.old) leaf old term text new)) }
     {
         match leaf_name(&self.known, self.scope, term, leaf) {
             Some(name) => self.text.extend_from_slice(name),
@@ -299,7 +325,8 @@ impl Printer<'_> {
     }
 
     fn unnamed_type(&mut self, term: NodeId) -> Result<(), AllocError>
-        ensures { OnOk result (WritesText self.old self.new (λ old text new. IsUnnamedType old term text new)) }
+        ensures { OnOk result (WritesText self.old self.new
+            (λ old text new. IsUnnamedType old term text new)) }
     {
         let (number, _) = self.types.insert_full(term)?;
         let name = format!(in self.alloc; "?{number}")?;
@@ -307,7 +334,8 @@ impl Printer<'_> {
     }
 
     fn unnamed_region(&mut self, term: NodeId) -> Result<(), AllocError>
-        ensures { OnOk result (WritesText self.old self.new (λ old text new. IsUnnamedRegion old term text new)) }
+        ensures { OnOk result (WritesText self.old self.new
+            (λ old text new. IsUnnamedRegion old term text new)) }
     {
         let (number, _) = self.regions.insert_full(term)?;
         let name = format!(in self.alloc; "'_{number}")?;
@@ -322,7 +350,8 @@ fn leaf_name<'a>(
     term: NodeId,
     leaf: Leaf,
 ) -> Option<&'a [u8]>
-    ensures { option_copied result ≡ leaf_name scope.now.parameters (names_in known.now.entries) term leaf }
+    ensures { option_copied result ≡ leaf_name scope.now.parameters
+        (names_in known.now.entries) term leaf }
 {
     match leaf {
         Leaf::Variable(_, _) => match known.get(&term) {
@@ -343,10 +372,10 @@ fn leaf_name<'a>(
 }
 
 /// The value at this place.
-fn value_at(values: &[NodeId], place: usize) -> Option<NodeId>
-    ensures { result ≡ slice_get values.now place }
+fn value_at(values: &[GenericArg], place: usize) -> Option<NodeId>
+    ensures { result ≡ node_of (slice_get values.now place) }
 {
-    values.get(place).copied()
+    Some(values.get(place)?.node)
 }
 
 /// The name with this number.

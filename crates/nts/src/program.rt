@@ -16,8 +16,7 @@ use crate::printer::text_of;
 use crate::status::Stop;
 use crate::variables::LineVariables;
 use next_trait_solver::clauses::{Clause, Clauses};
-use nts_model::{Sort, Variance};
-use nts_terms::{Cx, Predicate};
+use next_trait_solver::ty::{Cx, Predicate, Sort, Variance};
 use nts_text::{Command, Mode, NameTable, Param, Resolved, Scope, read_command};
 use std::alloc::{AllocError, Global};
 
@@ -107,7 +106,11 @@ impl Program {
     fn declare_type(&mut self, params: &[Param]) -> Result<(), Stop>
         requires ready { AreReady self.old.cx.nodes self.old.clauses }
         ensures ready { OnOk result (AreReady self.new.cx.nodes self.new.clauses) }
-        ensures declared { OnOk result (self.new.cx ≡ record self.old.cx { declarations = with_ctor self.old.cx.declarations (map (λ p. p.sort) params.now) (map (λ p. p.variance) params.now) }) }
+        ensures declared { OnOk result (self.new.cx ≡ record self.old.cx {
+          declarations = with_ctor
+              self.old.cx.declarations (map (λ p. p.sort) params.now) (map
+              (λ p. p.variance) params.now);
+        }) }
         ensures rules { KeepsRules self.old self.new }
         ensures names { self.new.names ≡ self.old.names }
         ensures scope { self.new.scope ≡ self.old.scope }
@@ -122,9 +125,15 @@ impl Program {
     fn declare_trait(&mut self, number: usize, coinductive: bool) -> Result<(), Stop>
         requires ready { AreReady self.old.cx.nodes self.old.clauses }
         ensures ready { OnOk result (AreReady self.new.cx.nodes self.new.clauses) }
-        ensures declared { OnOk result (self.new.cx ≡ record self.old.cx { declarations = with_trait self.old.cx.declarations (trait_sorts self.old.names number) }) }
-        ensures coinductive { OnOk result (coinductive ≡ true → MakesCoinductive self.old.clauses self.new.clauses (length self.old.cx.declarations.traits)) }
-        ensures inductive { OnOk result (coinductive ≡ false → self.new.clauses ≡ self.old.clauses) }
+        ensures declared { OnOk result (self.new.cx ≡ record self.old.cx {
+          declarations = with_trait
+              self.old.cx.declarations (trait_sorts self.old.names number);
+        }) }
+        ensures coinductive { OnOk result (coinductive ≡ true →
+            MakesCoinductive self.old.clauses self.new.clauses
+            (length self.old.cx.declarations.traits)) }
+        ensures inductive { OnOk result (coinductive ≡ false →
+            self.new.clauses ≡ self.old.clauses) }
         ensures mode { self.new.mode ≡ self.old.mode }
         ensures names { self.new.names ≡ self.old.names }
         ensures scope { self.new.scope ≡ self.old.scope }

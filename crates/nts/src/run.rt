@@ -18,8 +18,10 @@ use std::io::{BufRead, BufReader, Read, Write};
 /// written before stays.
 #[tactic(auto, using(crate::proofs::Growths::writes))]
 pub fn run<R: Read + Drop, W: Write>(alloc: Global, input: R, output: &mut W) -> Status
-    ensures done { result ≡ Done → AnswersAll (R.remaining input) (W.contents output.old) (W.contents output.new) }
-    ensures refused { result ≡ Refused → StopsAtRefusal (R.remaining input) (W.contents output.old) (W.contents output.new) }
+    ensures done { result ≡ Done → AnswersAll (R.remaining input) (W.contents output.old)
+        (W.contents output.new) }
+    ensures refused { result ≡ Refused → StopsAtRefusal (R.remaining input) (W.contents output.old)
+        (W.contents output.new) }
     ensures begins { Begins (W.contents output.old) (W.contents output.new) }
 {
     let status = match run_input(alloc, input, output) {
@@ -34,8 +36,10 @@ pub fn run<R: Read + Drop, W: Write>(alloc: Global, input: R, output: &mut W) ->
 
 #[tactic(auto, using(crate::proofs::Growths::writes))]
 fn run_input<R: Read + Drop, W: Write>(alloc: Global, input: R, output: &mut W) -> Result<(), Stop>
-    ensures done { OnOk result (AnswersAll (R.remaining input) (W.contents output.old) (W.contents output.new)) }
-    ensures refused { IfErr result (λ s. status_of s ≡ Refused → StopsAtRefusal (R.remaining input) (W.contents output.old) (W.contents output.new)) }
+    ensures done { OnOk result (AnswersAll (R.remaining input) (W.contents output.old)
+        (W.contents output.new)) }
+    ensures refused { IfErr result (λ s. status_of s ≡ Refused →
+        StopsAtRefusal (R.remaining input) (W.contents output.old) (W.contents output.new)) }
     ensures begins { Begins (W.contents output.old) (W.contents output.new) }
 {
     let mut reader = BufReader::new(alloc, input)?;
@@ -48,8 +52,10 @@ fn run_lines<R: BufRead, W: Write>(
     reader: &mut R,
     output: &mut W,
 ) -> Result<(), Stop>
-    ensures done { OnOk result (AnswersAll (R.remaining reader.old) (W.contents output.old) (W.contents output.new)) }
-    ensures refused { IfErr result (λ s. status_of s ≡ Refused → StopsAtRefusal (R.remaining reader.old) (W.contents output.old) (W.contents output.new)) }
+    ensures done { OnOk result (AnswersAll (R.remaining reader.old) (W.contents output.old)
+        (W.contents output.new)) }
+    ensures refused { IfErr result (λ s. status_of s ≡ Refused →
+        StopsAtRefusal (R.remaining reader.old) (W.contents output.old) (W.contents output.new)) }
     ensures begins { Begins (W.contents output.old) (W.contents output.new) }
 {
     let mut program = Program::new(alloc);
@@ -73,7 +79,8 @@ fn handle_line<W: Write>(
 ) -> Result<(), Stop>
     requires ready { AreReady program.old.cx.nodes program.old.clauses }
     ensures ready { OnOk result (AreReady program.new.cx.nodes program.new.clauses) }
-    ensures answered { OnOk result (IsAnswered line.now program.old program.new (W.contents output.old) (W.contents output.new)) }
+    ensures answered { OnOk result (IsAnswered line.now program.old program.new
+        (W.contents output.old) (W.contents output.new)) }
     ensures refused { IfErr result (λ s. status_of s ≡ Refused → IsPassedOver line.now → ⊥) }
     ensures told { IfErr result (IsTold (W.contents output.old) (W.contents output.new) number) }
     ensures begins { Begins (W.contents output.old) (W.contents output.new) }

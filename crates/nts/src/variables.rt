@@ -1,7 +1,7 @@
 //! The variables of a line.
 ghost use Rattle.std.specs.Prelude.{◌≡◌, ◌≤◌, vec_len};
 
-use nts_model::Sort;
+use next_trait_solver::ty::Sort;
 use nts_text::Resolved;
 use std::alloc::{AllocError, Global};
 

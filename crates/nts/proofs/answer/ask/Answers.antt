@@ -3,10 +3,15 @@ use Rattle.nts_terms.proofs.Growing.{Extends-trans}
 use Rattle.nts_table.specs.Lawful.{IsTable-extended}
 use Rattle.nts.specs.Meaning.{IsGoalOf}
 use Rattle.nts.proofs.Justifying.{justified}
+use Rattle.nts.proofs.Asking.{values-extended}
 use Rattle.nts.proofs.answer.ask.Goals as goal
 
 pub evaluated-requires-clause-table : goal.evaluated-requires-clause-table
 evaluated-requires-clause-table c = IsTable-extended c.in_ok-goal.ensures.extends c.in_ok-values.ensures.table
+
+pub evaluated-requires-clause-values : goal.evaluated-requires-clause-values
+evaluated-requires-clause-values c =
+    rw c.deref-3.ensures.value (values-extended c.in_ok-values.values.items c.in_ok-values.ensures.table c.in_ok-goal.ensures.extends c.in_ok-values.ensures.values)
 
 pub returns-in-Some-Yes-clause-yes : goal.returns-in-Some-Yes-clause-yes
 returns-in-Some-Yes-clause-yes c =

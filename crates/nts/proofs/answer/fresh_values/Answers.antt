@@ -1,13 +1,22 @@
+use Rattle.std.proofs.Common.{◌≡◌, List, [], ◌∷◌, map, refl, ap, ◌∙◌}
+use Rattle.nts_terms.specs.declared.nodes.NodeId.{NodeId}
+use Rattle.nts_terms.specs.declared.handles.GenericArg.{GenericArg}
 use Rattle.next_trait_solver.proofs.Evaluating.{gave_fresh}
-use Rattle.nts.proofs.Asking.{terms-values}
+use Rattle.nts.proofs.Asking.{values-fresh}
 use Rattle.nts.proofs.answer.fresh_values.Goals as goal
+
+unwrapped : (ns : List NodeId) → map (λ (v : GenericArg). v.node) (map (λ n. record { node = n }) ns) ≡ ns
+unwrapped [] = refl
+unwrapped (n ∷ ns) = ap (λ ms. n ∷ ms) (unwrapped ns)
 
 pub returns-clause-values : goal.returns-clause-values
 returns-clause-values c =
-    let e = c.in_ok-values.ensures in
-    terms-values (gave_fresh c.args.sorts.now _ c.requires.table e.extends e.table e.entries e.saved e.mode e.within e.trees).values
+    let e = c.in_ok-nodes.ensures in
+    let nodes = ap (map (λ (v : GenericArg). v.node)) c.in_ok-values.ensures ∙ unwrapped _ ∙ c.deref.ensures.value in
+    values-fresh c.args.sorts.now c.in_ok-nodes.nodes.items c.in_ok-values.values.items nodes (gave_fresh c.args.sorts.now _ c.requires.table e.extends e.table e.entries e.saved e.mode e.within e.trees).values
 
 pub returns-clause-sorts : goal.returns-clause-sorts
 returns-clause-sorts c =
-    let e = c.in_ok-values.ensures in
-    (gave_fresh c.args.sorts.now _ c.requires.table e.extends e.table e.entries e.saved e.mode e.within e.trees).values.sorts
+    let e = c.in_ok-nodes.ensures in
+    let nodes = ap (map (λ (v : GenericArg). v.node)) c.in_ok-values.ensures ∙ unwrapped _ ∙ c.deref.ensures.value in
+    rw nodes (gave_fresh c.args.sorts.now _ c.requires.table e.extends e.table e.entries e.saved e.mode e.within e.trees).values.sorts

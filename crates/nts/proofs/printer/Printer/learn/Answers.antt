@@ -3,7 +3,7 @@ use Rattle.std.specs.Prelude.{slice_get}
 use Rattle.std.specs.List.{zip}
 use Rattle.std.proofs.lemmas.List.{append-nil}
 use Rattle.nts_text.specs.Spelled.{type_names, region_names}
-use Rattle.nts.specs.Answers.{bound_by, bound_types, AreNames}
+use Rattle.nts.specs.Answers.{node_of, bound_by, bound_types, AreNames}
 use Rattle.nts.specs.Pieces.{names_in}
 use Rattle.nts.proofs.Lines.{learned, rest_trans, bound_one, bound_none, bound_end}
 use Rattle.nts.proofs.printer.Printer.learn.Goals as goal
@@ -34,7 +34,7 @@ loop-i-preserved c =
             rest = rw w.self-is c.loop-i.invariant.rest;
           }
       | in_default w ↦
-          let step = bound_none values names places c.loop-i.i None (slice_get values (get_or places c.loop-i.i 0)) lt (sym w.in_default.ensures) refl refl in
+          let step = bound_none values names places c.loop-i.i None (node_of (slice_get values (get_or places c.loop-i.i 0))) lt (sym w.in_default.ensures) refl refl in
           record {
             names = rw w.self-is (subst (AreNames p.nodes.now (names_in c.loop-i.self.known.entries)) (sym step) c.loop-i.invariant.names);
             rest = rw w.self-is c.loop-i.invariant.rest;
@@ -79,7 +79,7 @@ loop-j-preserved c =
             rest = rw w.self-is c.loop-j.invariant.rest;
           }
       | in_default-spelling w ↦
-          let step = bound_none values names places c.loop-j.j None (slice_get values (get_or places c.loop-j.j 0)) lt (sym w.in_default-spelling.ensures) refl refl in
+          let step = bound_none values names places c.loop-j.j None (node_of (slice_get values (get_or places c.loop-j.j 0))) lt (sym w.in_default-spelling.ensures) refl refl in
           record {
             names = rw w.self-is (subst (AreNames p.nodes.now (names_in c.loop-j.self.known.entries)) (ap (λ bs. types ++ bs) (sym step)) c.loop-j.invariant.names);
             rest = rw w.self-is c.loop-j.invariant.rest;

@@ -2,7 +2,7 @@ use Rattle.std.proofs.Common.{◌+◌, ◌<◌, Some, None, get_or, length, take
 use Rattle.std.specs.Prelude.{slice_get}
 use Rattle.std.specs.List.{zip}
 use Rattle.nts_text.specs.Spelled.{type_names}
-use Rattle.nts.specs.Answers.{bound_by, IsValueLine, AreLines}
+use Rattle.nts.specs.Answers.{node_of, bound_by, IsValueLine, AreLines}
 use Rattle.nts.specs.Pieces.{lexicon_of, WritesText}
 use Rattle.nts.proofs.Lines.{line_more, bound_one, bound_none, bound_end}
 use Rattle.nts.proofs.printer.Printer.values.Goals as goal
@@ -29,7 +29,7 @@ loop-i-preserved c =
       | in_default w ↦
           subst (λ r. WritesText p r (λ old text new. AreLines (IsValueLine (lexicon_of p)) old (bound_by values (zip (take (c.loop-i.i + 1) names) (take (c.loop-i.i + 1) places))) text new)) (sym w.self-is)
           (subst (λ bs. WritesText p c.loop-i.self (λ old text new. AreLines (IsValueLine (lexicon_of p)) old bs text new))
-          (sym (bound_none values names places c.loop-i.i None (slice_get values (get_or places c.loop-i.i 0)) lt (sym w.in_default.ensures) refl refl)) c.loop-i.invariant)
+          (sym (bound_none values names places c.loop-i.i None (node_of (slice_get values (get_or places c.loop-i.i 0))) lt (sym w.in_default.ensures) refl refl)) c.loop-i.invariant)
     ]
 
 pub returns : goal.returns

@@ -3,11 +3,11 @@ use Rattle.nts_terms.specs.Growth.{Extends}
 use Rattle.nts_terms.specs.Rest.{KeepsRest}
 use Rattle.nts_table.specs.Reading.{content_of}
 use Rattle.nts.specs.Found.{AreResolved}
-use Rattle.nts.proofs.answer.resolved_terms.Given as goal
+use Rattle.nts.proofs.answer.resolved_values.Given as goal
 
-abbrev pub invariant-loop-term : goal.invariant-loop-term
-invariant-loop-term l = record {
+abbrev pub invariant-loop-value : goal.invariant-loop-value
+invariant-loop-value l = record {
   extends : Extends l.fn.cx.nodes l.cx.nodes;
   rest : KeepsRest l.fn.cx l.cx;
-  resolved : AreResolved l.fn.cx.nodes l.cx.nodes (content_of l.fn.cx.nodes l.table.entries) (take l.term-index l.terms) l.found.items;
+  resolved : AreResolved l.fn.cx.nodes l.cx.nodes (content_of l.fn.cx.nodes l.table.entries) (take l.value-index l.values) l.found.items;
 }
