@@ -1,15 +1,21 @@
 #!/usr/bin/env bash
-# Runs each program NAME.nts of this folder, and compares what it prints with NAME.out.
+# Runs each program NAME.nts of this folder, over one build and without proof, and compares what it prints with NAME.out.
 set -u
 here=$(cd "$(dirname "$0")" && pwd)
 cd "$here/../crates/nts" || exit 1
-failed=0
+work=$(mktemp -d)
+trap 'rm -r "$work"' EXIT
 for program in "$here"/*.nts; do
-    wanted="${program%.nts}.out"
-    if ! rt "${1:-run}" < "$program" 2> /dev/null | cmp -s - "$wanted"; then
-        echo "examples: $(basename "$program") does not print $(basename "$wanted")"
-        failed=1
-    fi
+    name=$(basename "$program")
+    cp "$program" "$work/$name"
+    cp "${program%.nts}.out" "$work/$name.stdout"
 done
-[ "$failed" = 0 ] && echo "examples: all print what they should"
-exit "$failed"
+if rt try --cases "$work" > "$work.log" 2>&1; then
+    rm -f "$work.log"
+    echo "examples: all print what they should"
+else
+    cat "$work.log"
+    rm -f "$work.log"
+    echo "examples: not all print what they should"
+    exit 1
+fi

@@ -6,21 +6,24 @@ use Rattle.nts_model.specs.declared.labels.Sort.{Sort}
 use Rattle.nts_model.specs.declared.labels.Sort.TheVariants as sort
 use Rattle.nts_model.specs.Trees.{Tree, of_sort, any_argument, FitsPlace}
 use Rattle.nts_model.specs.Contents.{Content}
-use Rattle.nts_terms.specs.declared.nodes.NodeId.{NodeId}
+use Rattle.nts_store.specs.declared.nodes.NodeId.{NodeId}
 use Rattle.nts_terms.specs.declared.handles.GenericArg.{GenericArg}
-use Rattle.nts_terms.specs.Growth.{tree_at, AllIn, Extends}
-use Rattle.nts_terms.proofs.Growing.{IsIn-extended, Extends-trans, Extends-refl}
+use Rattle.nts_store.specs.Growth.{tree_at, AllIn, Extends}
+use Rattle.nts_store.proofs.Growing.{IsIn-extended, Extends-trans, Extends-refl}
 use Rattle.nts_terms.proofs.Moved.{KeepsRest-trans, KeepsRest-refl, Holds-extended}
-use Rattle.nts_table.specs.Entries.{Table}
-use Rattle.nts_table.specs.Reading.{content_of, IsTable, IsConstraint, AreConstraints}
-use Rattle.nts_table.specs.declared.contents.Constraint.{Constraint}
-use Rattle.nts_table.specs.Lawful.{content_of-extended, IsTable-extended, IsTable-same}
-use Rattle.next_trait_solver.specs.ClausesKept.{AreReady-kept}
+use Rattle.nts_table.specs.Tables.{Table}
+use Rattle.nts_unify.specs.Reading.{content_of, IsConstraint, AreConstraints}
+use Rattle.nts_table.specs.Tables.{IsTable}
+use Rattle.nts_unify.specs.declared.contents.Constraint.{Constraint}
+use Rattle.nts_unify.specs.Lawful.{content_of-extended}
+use Rattle.nts_table.specs.TableLaws.{IsTable-extended, IsTable-same}
+use Rattle.nts_delegate.specs.ClausesKept.{AreReady-kept}
 use Rattle.nts_terms.specs.declared.cx.Cx.{Cx}
-use Rattle.next_trait_solver.specs.Evaluation.{Goes, Runs, IsTermOf, AreValues, AllKnown, AreOfSorts}
+use Rattle.nts_evaluation.specs.Evaluation.{Goes, Runs, AreValues, AllKnown, AreOfSorts}
+use Rattle.nts_table.specs.Tables.{IsTermOf}
 use Rattle.nts.specs.Found.{IsValue}
-use Rattle.next_trait_solver.proofs.Asking.{IsAdmitted-extended}
-use Rattle.next_trait_solver.proofs.Evaluating.{Goes-extends, IsTermOf-later}
+use Rattle.nts_evaluation.proofs.Asking.{IsAdmitted-extended}
+use Rattle.nts_evaluation.proofs.Evaluating.{Goes-extends, IsTermOf-later}
 
 -- the values later on
 pub IsValue-later : {a b : List Tree} {t u : Table} {x : GenericArg} → Goes a b t u → IsValue a t x → IsValue b u x

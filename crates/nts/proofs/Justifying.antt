@@ -4,11 +4,11 @@ use Rattle.std.specs.Prelude.{IfOk}
 use Rattle.nts_model.specs.Trees.{Tree}
 use Rattle.nts_terms.specs.declared.handles.GenericArg.{GenericArg}
 use Rattle.nts_terms.specs.declared.handles.Goal.{Goal}
-use Rattle.nts_terms.specs.Growth.{Extends}
-use Rattle.nts_terms.proofs.Growing.{Extends-trans}
-use Rattle.nts_table.specs.Entries.{Table}
-use Rattle.nts_table.specs.Reading.{content_of}
-use Rattle.next_trait_solver.specs.declared.clauses.Clauses.{Clauses}
+use Rattle.nts_store.specs.Growth.{Extends}
+use Rattle.nts_store.proofs.Growing.{Extends-trans}
+use Rattle.nts_table.specs.Tables.{Table}
+use Rattle.nts_unify.specs.Reading.{content_of}
+use Rattle.nts_delegate.specs.declared.clauses.Clauses.{Clauses}
 use Rattle.nts_text.specs.declared.resolver.Resolved.{Resolved}
 use Rattle.nts.specs.declared.variables.LineVariables.{LineVariables}
 use Rattle.nts.specs.Meaning.{IsGoalOf}

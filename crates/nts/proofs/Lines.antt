@@ -10,10 +10,10 @@ use Rattle.std.proofs.Math.Seq.{take-suc}
 use Rattle.std.proofs.lemmas.Bool.{eqb-true}
 use Rattle.std.proofs.lemmas.List.{append-nil}
 use Rattle.nts_model.specs.Trees.{Tree}
-use Rattle.nts_terms.specs.Growth.{tree_at}
-use Rattle.nts_terms.specs.declared.nodes.NodeId.{NodeId}
+use Rattle.nts_store.specs.Growth.{tree_at}
+use Rattle.nts_store.specs.declared.nodes.NodeId.{NodeId}
 use Rattle.nts_terms.specs.declared.handles.GenericArg.{GenericArg}
-use Rattle.nts_table.specs.declared.contents.Constraint.{Constraint}
+use Rattle.nts_unify.specs.declared.contents.Constraint.{Constraint}
 use Rattle.nts.specs.declared.printer.Printer.{Printer}
 use Rattle.nts.specs.Answers.{Bound, bound_to, node_of, bound_by, is_variable, name_by, first_of, name_among, AreNames, IsValueLine, IsFactLine, AreLines, relation_word}
 use Rattle.nts.specs.Pieces.{lexicon_of, names_in, seen_by, Writes, WritesText}

@@ -9,7 +9,7 @@ use Rattle.nts_model.specs.declared.labels.ClauseHead.TheVariants as clause
 use Rattle.nts_model.specs.Trees.{Tree, empty, more, node}
 use Rattle.nts_terms.specs.declared.handles.GenericArg.{GenericArg}
 use Rattle.nts_terms.specs.declared.handles.GenericArgs.{GenericArgs}
-use Rattle.nts_terms.specs.Growth.{tree_at, trees_at, Extends}
+use Rattle.nts_store.specs.Growth.{tree_at, trees_at, Extends}
 use Rattle.nts_terms.specs.declared.handles.Goal.{Goal}
 use Rattle.nts_terms.specs.declared.handles.BoundVars.{BoundVars}
 use Rattle.nts_terms.specs.declared.handles.Predicate.{Predicate}
@@ -17,7 +17,7 @@ use Rattle.nts_terms.specs.declared.kinds.ClauseKind.TheVariants as clause_kind
 use Rattle.nts_terms.specs.declared.kinds.PredicateKind.TheVariants as statement
 use Rattle.nts_terms.specs.Handles.{HoldsArg, HoldsArgs, HoldsPredicate, HoldsEnv}
 use Rattle.nts_terms.specs.Kinds.{tree_of_args, tree_of_vars, tree_of_predicate, tree_of_clause}
-use Rattle.nts_terms.proofs.Growing.{Extends-trans}
+use Rattle.nts_store.proofs.Growing.{Extends-trans}
 use Rattle.nts_terms.specs.declared.handles.TraitRef.{TraitRef}
 use Rattle.nts_text.specs.declared.resolver.Resolved.{Resolved}
 use Rattle.nts_text.specs.declared.resolver.Resolved.TheVariants as nodes

@@ -5,8 +5,8 @@ use Rattle.nts_model.specs.Trees.{Tree}
 use Rattle.nts_model.specs.Contents.{Content}
 use Rattle.nts_model.specs.Resolving.{deeply_resolved}
 use Rattle.nts_terms.specs.declared.handles.GenericArg.{GenericArg}
-use Rattle.nts_terms.specs.Growth.{tree_at, IsIn, Extends}
-use Rattle.nts_terms.proofs.Growing.{IsIn-extended}
+use Rattle.nts_store.specs.Growth.{tree_at, IsIn, Extends}
+use Rattle.nts_store.proofs.Growing.{IsIn-extended}
 use Rattle.nts.specs.Found.{AreResolved}
 
 map_more : {A B : Type 0} (f : A → B) (xs : List A) (x : A) → map f (xs ++ x ∷ []) ≡ map f xs ++ f x ∷ []

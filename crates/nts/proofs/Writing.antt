@@ -4,7 +4,7 @@ use Rattle.std.specs.Prelude.{OnOk, length}
 use Rattle.nts_model.specs.declared.labels.Label.TheVariants as label
 use Rattle.nts_model.specs.declared.labels.TyHead.TheVariants as ty
 use Rattle.nts_model.specs.Trees.{Tree, node, children, row_at, in_order, is, arguments, Meets}
-use Rattle.nts_terms.specs.Growth.{tree_at}
+use Rattle.nts_store.specs.Growth.{tree_at}
 use Rattle.nts.specs.declared.printer.Piece.{Piece}
 use Rattle.nts.specs.declared.printer.Piece.TheVariants as pieces
 use Rattle.nts.specs.Printing.{Seen, type_name}
@@ -13,7 +13,7 @@ use Rattle.std.proofs.lemmas.List.{append-nil}
 use Rattle.std.specs.Global.{Vec}
 use Rattle.std.specs.Map.{lookup}
 use Rattle.std.specs.Option.{option_map}
-use Rattle.nts_terms.specs.declared.nodes.NodeId.{NodeId}
+use Rattle.nts_store.specs.declared.nodes.NodeId.{NodeId}
 use Rattle.nts.specs.declared.printer.Printer.{Printer}
 use Rattle.nts.specs.Pieces.{lexicon_of, names_in, seen_by, Writes, WritesText, Opens, Completes}
 

@@ -9,13 +9,13 @@ use Rattle.nts_model.specs.declared.labels.Leaf.TheVariants as leaf
 use Rattle.nts_model.specs.declared.labels.Relation.{Relation}
 use Rattle.nts_model.specs.declared.labels.Relation.TheVariants as relations
 use Rattle.nts_model.specs.Trees.{Tree, node}
-use Rattle.nts_terms.specs.Growth.{tree_at}
-use Rattle.nts_terms.specs.declared.nodes.NodeId.{NodeId}
+use Rattle.nts_store.specs.Growth.{tree_at}
+use Rattle.nts_store.specs.declared.nodes.NodeId.{NodeId}
 use Rattle.nts_terms.specs.declared.handles.GenericArg.{GenericArg}
 use Rattle.nts_text.specs.Spelled.{type_names, region_names}
 use Rattle.nts_text.specs.declared.names.Scope.{Scope}
 use Rattle.nts_text.specs.declared.names.NameTable.{NameTable}
-use Rattle.nts_table.specs.declared.contents.Constraint.{Constraint}
+use Rattle.nts_unify.specs.declared.contents.Constraint.{Constraint}
 use Rattle.nts.specs.declared.answer.Answer.{Answer}
 use Rattle.nts.specs.declared.answer.Answer.TheVariants as answers
 use Rattle.nts.specs.declared.answer.Found.{Found}

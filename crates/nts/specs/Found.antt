@@ -4,10 +4,10 @@ use Rattle.nts_model.specs.Trees.{Tree}
 use Rattle.nts_model.specs.Contents.{Content}
 use Rattle.nts_model.specs.Resolving.{Knows, deeply_resolved}
 use Rattle.nts_terms.specs.declared.handles.GenericArg.{GenericArg}
-use Rattle.nts_terms.specs.Growth.{tree_at, IsIn}
+use Rattle.nts_store.specs.Growth.{tree_at, IsIn}
 use Rattle.nts_terms.specs.Handles.{HoldsArg}
-use Rattle.nts_table.specs.Entries.{Table}
-use Rattle.nts_table.specs.Reading.{content_of, recorded_of}
+use Rattle.nts_table.specs.Tables.{Table}
+use Rattle.nts_unify.specs.Reading.{content_of, recorded_of}
 use Rattle.nts_table.specs.Deduplicated.{resolved_constraints, AreNews}
 use Rattle.nts.specs.declared.variables.LineVariables.{LineVariables}
 use Rattle.nts.specs.declared.answer.Answer.{Answer}

@@ -1,13 +1,13 @@
 -- What the lines of a run do.
 use Rattle.std.specs.Prelude.{◌≡◌, ◌⊎◌, ℕ, true, false, List, [], length, map, Option, None, Some}
 use Rattle.std.specs.Global.{Vec}
-use Rattle.nts_terms.specs.Growth.{Extends}
+use Rattle.nts_store.specs.Growth.{Extends}
 use Rattle.nts_terms.specs.Rest.{KeepsRest}
 use Rattle.nts_terms.specs.Signatures.{nothing_declared, with_ctor, with_trait}
 use Rattle.nts_terms.specs.declared.cx.Cx.{Cx}
-use Rattle.next_trait_solver.specs.Adding.{AddsClause, MakesCoinductive}
-use Rattle.next_trait_solver.specs.Clauses.{clauses_of, coinductive_of}
-use Rattle.next_trait_solver.specs.declared.clauses.Clause.{Clause}
+use Rattle.nts_delegate.specs.Adding.{AddsClause, MakesCoinductive}
+use Rattle.nts_delegate.specs.Clauses.{clauses_of, coinductive_of}
+use Rattle.nts_delegate.specs.declared.clauses.Clause.{Clause}
 use Rattle.nts_text.specs.Commands.{IsCommandOf, Declares}
 use Rattle.nts_text.specs.Lines.{IsPassedOver}
 use Rattle.nts_text.specs.NameTable.{declared_as}

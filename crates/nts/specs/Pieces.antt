@@ -1,8 +1,8 @@
 -- Terms that are still to be printed.
 use Rattle.std.specs.Prelude.{◌≡◌, ℕ, List, [], ◌∷◌, ◌++◌, map, codes}
 use Rattle.std.specs.Global.{Vec}
-use Rattle.nts_terms.specs.Growth.{tree_at}
-use Rattle.nts_terms.specs.declared.nodes.NodeId.{NodeId}
+use Rattle.nts_store.specs.Growth.{tree_at}
+use Rattle.nts_store.specs.declared.nodes.NodeId.{NodeId}
 use Rattle.nts_model.specs.Trees.{Tree}
 use Rattle.nts.specs.declared.printer.Piece.{Piece}
 use Rattle.nts.specs.declared.printer.Piece.TheVariants as pieces

@@ -13,8 +13,8 @@ use Rattle.nts_model.specs.declared.labels.Leaf.TheVariants as leaf
 use Rattle.nts_model.specs.declared.labels.TyHead.TheVariants as ty
 use Rattle.nts_model.specs.declared.labels.Label.TheVariants as label
 use Rattle.nts_model.specs.Trees.{Tree, empty, more, node}
-use Rattle.nts_terms.specs.Growth.{tree_at}
-use Rattle.nts_terms.specs.declared.nodes.NodeId.{NodeId}
+use Rattle.nts_store.specs.Growth.{tree_at}
+use Rattle.nts_store.specs.declared.nodes.NodeId.{NodeId}
 use Rattle.nts_text.specs.Names.{word_of_int, word_of_uint}
 use Rattle.nts_text.specs.Spelled.{type_names, region_names}
 use Rattle.nts_text.specs.declared.names.Signature.{Signature}

@@ -6,14 +6,14 @@ use Rattle.nts_model.specs.Proving.{HasHeldProof}
 use Rattle.nts_model.specs.Trees.{Tree}
 use Rattle.nts_terms.specs.declared.handles.GenericArg.{GenericArg}
 use Rattle.nts_terms.specs.declared.handles.Goal.{Goal}
-use Rattle.nts_terms.specs.declared.sources.TypingMode.{TypingMode}
-use Rattle.nts_terms.specs.declared.sources.TypingMode.TheVariants as typing
-use Rattle.nts_terms.specs.Growth.{tree_at, Extends}
-use Rattle.nts_table.specs.Entries.{Table}
-use Rattle.nts_table.specs.Reading.{content_of}
-use Rattle.next_trait_solver.specs.ClauseHandlers.{handler_of}
+use Rattle.nts_terms.specs.declared.modes.TypingMode.{TypingMode}
+use Rattle.nts_terms.specs.declared.modes.TypingMode.TheVariants as typing
+use Rattle.nts_store.specs.Growth.{tree_at, Extends}
+use Rattle.nts_table.specs.Tables.{Table}
+use Rattle.nts_unify.specs.Reading.{content_of}
+use Rattle.nts_delegate.specs.ClauseHandlers.{handler_of}
 use Rattle.nts_terms.specs.Modes.{mode_of}
-use Rattle.next_trait_solver.specs.declared.clauses.Clauses.{Clauses}
+use Rattle.nts_delegate.specs.declared.clauses.Clauses.{Clauses}
 use Rattle.nts_text.specs.declared.parser.Mode.{Mode}
 use Rattle.nts_text.specs.declared.parser.Mode.TheVariants as modes
 use Rattle.nts.specs.Found.{IsFoundIn}

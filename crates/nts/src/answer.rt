@@ -1,16 +1,17 @@
 //! Asking a goal.
 ghost use Rattle.std.specs.Prelude.{◌≡◌, ◌≢◌, All, map, Some, IfOk, OnOk};
-ghost use Rattle.nts_terms.specs.Growth.{Extends};
+ghost use Rattle.nts_store.specs.Growth.{Extends};
 ghost use Rattle.nts_terms.specs.Rest.{KeepsRest};
-ghost use Rattle.nts_table.specs.Reading.{content_of, IsTable};
-ghost use Rattle.next_trait_solver.specs.Candidates.{HoldsGoal};
-ghost use Rattle.next_trait_solver.specs.Clauses.{AreReady};
-ghost use Rattle.next_trait_solver.specs.Evaluation.{IsAdmitted, AreOfSorts};
-ghost use Rattle.nts_terms.specs.declared.certainty.Certainty.TheVariants as certainty;
+ghost use Rattle.nts_unify.specs.Reading.{content_of};
+ghost use Rattle.nts_table.specs.Tables.{IsTable};
+ghost use Rattle.nts_terms.specs.Handles.{HoldsGoal};
+ghost use Rattle.nts_delegate.specs.Clauses.{AreReady};
+ghost use Rattle.nts_evaluation.specs.Evaluation.{IsAdmitted, AreOfSorts};
+ghost use Rattle.nts_certainty.specs.declared.certainty.Certainty.TheVariants as certainty;
 ghost use Rattle.nts.specs.Proving.{IsTypingMode, IsProvedIn, IsJustified};
 ghost use Rattle.nts.specs.Found.{AreResolved, IsFoundIn, IsOf, IsValue};
 ghost use Rattle.nts.specs.Meaning.{IsGoalFor};
-ghost use Rattle.nts_terms.specs.Growth.{tree_at};
+ghost use Rattle.nts_store.specs.Growth.{tree_at};
 
 use crate::build::{MISFIT, Terms, predicate_of, trait_refs};
 use crate::status::Stop;

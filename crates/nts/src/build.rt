@@ -1,7 +1,7 @@
 //! Terms of the predicates that a line says.
 ghost use Rattle.std.specs.Prelude.{◌≡◌, All, IsTrue, IfOk, IfSome, Some, List, slice_get};
 ghost use Rattle.nts_model.specs.Trees.{Tree};
-ghost use Rattle.nts_terms.specs.Growth.{Extends, tree_at};
+ghost use Rattle.nts_store.specs.Growth.{Extends, tree_at};
 ghost use Rattle.nts_terms.specs.Kinds.{tree_of_ty};
 ghost use Rattle.nts_terms.specs.declared.kinds.TyKind.TheVariants as ty;
 ghost use Rattle.nts.specs.Meaning.{tree_at_place, TakesArguments, MakesArgument, AreSaid, States};

@@ -3,13 +3,13 @@ ghost use Rattle.std.specs.Prelude.{◌≡◌, ◌∷◌, [], ◌++◌, reverse,
 ghost use Rattle.nts_model.specs.Trees.{node, children, shape, Meets, in_order, is, arguments};
 ghost use Rattle.nts_model.specs.declared.labels.Label.TheVariants as labels;
 ghost use Rattle.nts_model.specs.declared.labels.TyHead.TheVariants as heads;
-ghost use Rattle.nts_terms.specs.Growth.{IsIn, tree_at};
+ghost use Rattle.nts_store.specs.Growth.{IsIn, tree_at};
 ghost use Rattle.nts_text.specs.Names.{word_of_int, word_of_uint};
 ghost use Rattle.nts.specs.Printing.{leaf_name, type_name, is_region_leaf, IsLeafText, IsUnnamedType, IsUnnamedRegion, IsText, same_term};
 ghost use Rattle.nts.specs.Pieces.{lexicon_of, names_in, seen_by, Writes, WritesText, Completes, Opens};
 ghost use Rattle.nts.specs.declared.printer.Piece.TheVariants as piece_kinds;
 ghost use Rattle.std.specs.Map.{lookup};
-ghost use Rattle.nts_terms.specs.declared.nodes.NodeId.{NodeId};
+ghost use Rattle.nts_store.specs.declared.nodes.NodeId.{NodeId};
 ghost use Rattle.nts.specs.Answers.{relation_word, first_of, name_by, node_of, is_variable, AreNames, bound_types, bound_regions, IsValueLine, IsFactLine, AreLines, IsAnswerText};
 
 use crate::answer::{Answer, Found};
@@ -18,7 +18,7 @@ use next_trait_solver::ty::{
     Constraint, GenericArg, IntTy, NodeId, Relation, UintTy, VariableKind,
 };
 use nts_model::{Constant, FreeRegion, Label, Leaf, TyHead};
-use nts_terms::Nodes;
+use nts_store::Nodes;
 use nts_text::{NameTable, Scope};
 use std::alloc::{AllocError, Global};
 

@@ -1,11 +1,11 @@
 //! The state of a run, and what each command does to it.
 ghost use Rattle.std.specs.Prelude.{◌≡◌, true, false, length, map, IsNone, IfOk, OnOk, OnErr};
-ghost use Rattle.nts_terms.specs.Growth.{Extends};
+ghost use Rattle.nts_store.specs.Growth.{Extends};
 ghost use Rattle.nts_terms.specs.Rest.{KeepsRest};
 ghost use Rattle.nts_terms.specs.Signatures.{with_ctor, with_trait};
-ghost use Rattle.next_trait_solver.specs.Adding.{AddsClause, MakesCoinductive};
-ghost use Rattle.next_trait_solver.specs.Clauses.{AreReady};
-ghost use Rattle.next_trait_solver.specs.declared.clauses.Clause.{Clause};
+ghost use Rattle.nts_delegate.specs.Adding.{AddsClause, MakesCoinductive};
+ghost use Rattle.nts_delegate.specs.Clauses.{AreReady};
+ghost use Rattle.nts_delegate.specs.declared.clauses.Clause.{Clause};
 ghost use Rattle.nts_text.specs.Lines.{IsPassedOver};
 ghost use Rattle.nts_text.specs.Resolution.{trait_sorts};
 ghost use Rattle.nts.specs.Obeying.{IsNew, Follows, Grows, KeepsRules, IsTold, IsObeyed};

@@ -1,6 +1,6 @@
 //! A run over all lines of an input.
 ghost use Rattle.std.specs.Prelude.{◌≡◌, OnOk, IfErr};
-ghost use Rattle.next_trait_solver.specs.Clauses.{AreReady};
+ghost use Rattle.nts_delegate.specs.Clauses.{AreReady};
 ghost use Rattle.nts_text.specs.Lines.{IsPassedOver};
 ghost use Rattle.nts.specs.Growing.{Begins, IsTold};
 ghost use Rattle.nts.specs.Running.{IsAnswered, AnswersAll, StopsAtRefusal};

@@ -3,7 +3,7 @@ use Rattle.std.proofs.Common.{◌≡◌, ⊎_elim, ℕ, zero, suc, ◌+◌, ◌<
 use Rattle.std.specs.Prelude.{slice_get, All, IfSome}
 use Rattle.std.proofs.lemmas.Option.{slice_get_past}
 use Rattle.std.proofs.lemmas.List.{length-map}
-use Rattle.nts_table.proofs.Changes.{slice_get-map}
+use Rattle.nts_unify.proofs.Changes.{slice_get-map}
 use Rattle.nts_model.specs.declared.labels.VariableKind.TheVariants as kind
 use Rattle.nts_model.specs.declared.labels.Leaf.{Leaf}
 use Rattle.nts_model.specs.declared.labels.Leaf.TheVariants as leaf
@@ -15,12 +15,12 @@ use Rattle.nts_model.specs.Substitutions.{leaf_tree}
 use Rattle.nts_model.specs.Inputs.{PositionKind, type_variable, integer_variable, float_variable, const_variable, region_variable, placeholder}
 use Rattle.nts_model.proofs.Under.{same_or_other}
 use Rattle.nts_terms.specs.declared.handles.GenericArg.{GenericArg}
-use Rattle.nts_terms.specs.Growth.{tree_at}
-use Rattle.nts_table.specs.declared.contents.Variable.{Variable}
-use Rattle.nts_table.specs.Entries.{Entries, added}
+use Rattle.nts_store.specs.Growth.{tree_at}
+use Rattle.nts_unify.specs.declared.contents.Variable.{Variable}
+use Rattle.nts_unify.specs.Entries.{Entries, added}
 use Rattle.nts_table.specs.Making.{unset_variable, IsAddedTo}
-use Rattle.nts_table.specs.Reading.{content_of, LinksDescend}
-use Rattle.nts_table.proofs.Leading.{kind_within}
+use Rattle.nts_unify.specs.Reading.{content_of, LinksDescend}
+use Rattle.nts_unify.proofs.Leading.{kind_within}
 use Rattle.nts_canonical.specs.Forms.{trees_of}
 use Rattle.nts_canonical.specs.Kinds.{IsInputKind, variables_before, if_there, link_to, universe_of_kind, value_leaves, made_variable, made_variables}
 use Rattle.nts_canonical.specs.Building.{type_variable_of, AddsValue, IsArgOf}

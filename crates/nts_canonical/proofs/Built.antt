@@ -6,12 +6,12 @@ use Rattle.nts_model.specs.Resolving.{Knows}
 use Rattle.nts_model.specs.Substitutions.{leaf_tree}
 use Rattle.nts_model.specs.Inputs.{PositionKind}
 use Rattle.nts_terms.specs.declared.handles.GenericArg.{GenericArg}
-use Rattle.nts_terms.specs.Growth.{Extends}
-use Rattle.nts_terms.specs.Filled.{HasValues}
+use Rattle.nts_store.specs.Growth.{Extends}
+use Rattle.nts_store.specs.Filled.{HasValues}
 use Rattle.nts_terms.proofs.Moved.{Holds-extended}
-use Rattle.nts_table.specs.Entries.{Entries}
-use Rattle.nts_table.specs.Reading.{content_of}
-use Rattle.nts_table.proofs.Looking.{Knows-none}
+use Rattle.nts_unify.specs.Entries.{Entries}
+use Rattle.nts_unify.specs.Reading.{content_of}
+use Rattle.nts_relating.proofs.Looking.{Knows-none}
 use Rattle.nts_table.proofs.Filling.{knows-filled}
 use Rattle.nts_canonical.specs.declared.types.QueryInput.{QueryInput}
 use Rattle.nts_canonical.specs.Forms.{query_tree, trees_of, HoldsQuery}

@@ -14,11 +14,11 @@ use Rattle.nts_model.proofs.Numbering.{extends-self, extends-trans, extends-seen
 use Rattle.nts_terms.specs.declared.handles.AliasTerm.{AliasTerm}
 use Rattle.nts_terms.specs.declared.handles.Ty.{Ty}
 use Rattle.nts_terms.specs.declared.handles.Goal.{Goal}
-use Rattle.nts_terms.specs.Growth.{tree_at, Extends}
+use Rattle.nts_store.specs.Growth.{tree_at, Extends}
 use Rattle.nts_terms.specs.Handles.{HoldsEnv, HoldsPredicate}
-use Rattle.nts_table.specs.Entries.{Entries}
-use Rattle.nts_table.specs.Reading.{content_of}
-use Rattle.nts_table.proofs.Leading.{kind_within}
+use Rattle.nts_unify.specs.Entries.{Entries}
+use Rattle.nts_unify.specs.Reading.{content_of}
+use Rattle.nts_unify.proofs.Leading.{kind_within}
 use Rattle.nts_canonical.specs.declared.types.QueryInput.{QueryInput}
 use Rattle.nts_canonical.specs.declared.types.CanonicalInput.{CanonicalInput}
 use Rattle.nts_canonical.specs.SubRoots.{sub_root_in}

@@ -2,13 +2,13 @@
 use Rattle.std.proofs.Common.{◌≡◌, ℕ, zero, suc, ◌<◌, List, [], ◌∷◌, map, length, get_or, refl, sym, ap, subst, ◌∙◌, arith}
 use Rattle.nts_model.specs.Trees.{Tree, empty, more}
 use Rattle.nts_model.specs.Handlers.{filled}
-use Rattle.nts_terms.specs.declared.nodes.NodeId.{NodeId}
+use Rattle.nts_store.specs.declared.nodes.NodeId.{NodeId}
 use Rattle.nts_terms.specs.declared.handles.AliasTerm.{AliasTerm}
 use Rattle.nts_terms.specs.declared.handles.Ty.{Ty}
 use Rattle.nts_terms.specs.declared.handles.GenericArg.{GenericArg}
-use Rattle.nts_terms.specs.Growth.{tree_at, IsIn, AllIn, Extends}
-use Rattle.nts_terms.specs.Kept.{map-kept}
-use Rattle.nts_terms.specs.Filled.{HasValues}
+use Rattle.nts_store.specs.Growth.{tree_at, IsIn, AllIn, Extends}
+use Rattle.nts_store.specs.Kept.{map-kept}
+use Rattle.nts_store.specs.Filled.{HasValues}
 use Rattle.nts_canonical.specs.Forms.{hidden_row, trees_of, AreHidden}
 use Rattle.nts_canonical.specs.Replaced.{IsImage}
 use Rattle.nts_canonical.proofs.PairLists.{hidden_row-kept}

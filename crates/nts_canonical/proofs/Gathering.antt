@@ -12,10 +12,10 @@ use Rattle.nts_model.specs.Numbered.{same, added, seen_node, seen}
 use Rattle.nts_model.specs.contracts.labels.LeafPartialEq.TheImpl as leaf_eq
 use Rattle.nts_model.proofs.Listed.{either, tell, differ, same-yes, added-has, added-keeps}
 use Rattle.nts_model.proofs.Numbering.{Extends, extends-self, extends-trans, extends-seen}
-use Rattle.nts_terms.specs.declared.nodes.NodeId.{NodeId}
-use Rattle.nts_terms.specs.Growth.{tree_at, IsIn}
-use Rattle.nts_table.specs.Knowing.{row_from}
-use Rattle.nts_table.proofs.Looking.{row_from-end, row_from-step}
+use Rattle.nts_store.specs.declared.nodes.NodeId.{NodeId}
+use Rattle.nts_store.specs.Growth.{tree_at, IsIn}
+use Rattle.nts_relating.specs.Knowing.{row_from}
+use Rattle.nts_relating.proofs.Looking.{row_from-end, row_from-step}
 use Rattle.nts_canonical.specs.declared.collecting.Task.{Task}
 use Rattle.nts_canonical.specs.declared.collecting.Task.TheVariants as task
 use Rattle.nts_canonical.specs.Collecting.{after_leaf, Job, read, finish, job, jobs, TaskIn, TasksIn, entered, seen_after, IsReadAt, IsRead, AreRead, AreDue, weight, weights, IsReading, Continues}

@@ -19,8 +19,8 @@ use Rattle.nts_model.specs.Numbered.{number, numbered, numbered_leaf, no_leaf, A
 use Rattle.nts_model.specs.Inputs.{Input, CanonicalInput as Form, type_variable, sub_root_of, are_one, share, position_kind, is_static, after_environment, after_predicate, originals, canonical_of, whole, whole_of}
 use Rattle.nts_model.proofs.Listed.{either}
 use Rattle.nts_model.proofs.Under.{eq-self}
-use Rattle.nts_terms.specs.Filled.{HasValue, HasValues}
-use Rattle.nts_table.proofs.Changes.{slice_get-map}
+use Rattle.nts_store.specs.Filled.{HasValue, HasValues}
+use Rattle.nts_unify.proofs.Changes.{slice_get-map}
 use Rattle.nts_canonical.specs.Kinds.{IsInputKind, AreInputKinds, count_of, variable_kind, value_leaf, value_leaves, universe_of_kind}
 use Rattle.nts_canonical.specs.declared.types.CanonicalInput.{CanonicalInput}
 use Rattle.nts_canonical.specs.Forms.{form_of, HoldsQuery}

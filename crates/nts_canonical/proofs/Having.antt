@@ -12,7 +12,7 @@ use Rattle.nts_model.specs.Numbered.{number, numbered_leaf, no_leaf}
 use Rattle.nts_model.specs.Inputs.{Input, CanonicalInput as Form, is_static, after_environment, after_predicate, originals, canonical_of, whole, whole_of}
 use Rattle.nts_model.proofs.Listed.{either, tell, same-yes, differ, original}
 use Rattle.nts_model.proofs.Numbering.{extends-self, extends-trans, extends-seen, first_none, rest_none}
-use Rattle.nts_terms.specs.Filled.{HasValue, HasValues}
+use Rattle.nts_store.specs.Filled.{HasValue, HasValues}
 use Rattle.nts_canonical.specs.Collecting.{IsReadAt, IsRead}
 use Rattle.nts_canonical.proofs.Gathering.{read-seen}
 use Rattle.nts_canonical.proofs.Canonizing.{numbered-environment, numbered-predicate, numbered-hidden}

@@ -16,12 +16,12 @@ use Rattle.nts_model.specs.Numbered.{number, AreDistinct}
 use Rattle.nts_model.specs.Inputs.{PositionKind, type_variable, integer_variable, float_variable, const_variable, region_variable, placeholder, share, position_kind, is_static, CanonicalInput as Form, HaveKinds}
 use Rattle.nts_model.proofs.Listed.{either}
 use Rattle.nts_model.proofs.Under.{same_or_other, eq-self}
-use Rattle.nts_table.specs.declared.contents.Variable.{Variable}
-use Rattle.nts_table.specs.Entries.{Entries}
+use Rattle.nts_unify.specs.declared.contents.Variable.{Variable}
+use Rattle.nts_unify.specs.Entries.{Entries}
 use Rattle.nts_table.specs.Making.{unset_variable}
-use Rattle.nts_table.specs.Reading.{LinksDescend}
-use Rattle.nts_table.specs.Roots.{here, on, IsSubRoot}
-use Rattle.nts_table.proofs.Changes.{slice_get-map}
+use Rattle.nts_unify.specs.Reading.{LinksDescend}
+use Rattle.nts_unify.specs.Roots.{here, on, IsSubRoot}
+use Rattle.nts_unify.proofs.Changes.{slice_get-map}
 use Rattle.nts_canonical.specs.SubRoots.{sub_root_in}
 use Rattle.nts_canonical.specs.Kinds.{IsInputKind, AreInputKinds, variable_kind, count_of, variables_before, link_to, universe_of_kind, value_leaf, value_leaves, made_variables}
 use Rattle.nts_canonical.proofs.SubRooted.{sub_root_is}

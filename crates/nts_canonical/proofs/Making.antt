@@ -3,7 +3,7 @@ use Rattle.std.proofs.Common.{◌≡◌, ℕ, zero, suc, ◌+◌, ◌<◌, ◌�
 use Rattle.std.specs.Prelude.{slice_get}
 use Rattle.std.proofs.lemmas.List.{append_assoc}
 use Rattle.nts_model.specs.Inputs.{PositionKind, type_variable, integer_variable, float_variable, const_variable, region_variable, placeholder}
-use Rattle.nts_table.specs.declared.contents.Variable.{Variable}
+use Rattle.nts_unify.specs.declared.contents.Variable.{Variable}
 use Rattle.nts_canonical.specs.Kinds.{variable_kind, count_of, variables_before, if_there, link_to, universe_of_kind, value_leaf, value_leaves, made_variable, made_variables}
 
 pub some : {A : Type 0} {x y : A} → Some x ≡ Some y → x ≡ y

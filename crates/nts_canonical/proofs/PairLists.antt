@@ -7,12 +7,12 @@ use Rattle.nts_terms.specs.declared.handles.GenericArg.{GenericArg}
 use Rattle.nts_model.specs.declared.labels.TyHead.TheVariants as ty_head
 use Rattle.nts_model.specs.declared.labels.Label.TheVariants as label
 use Rattle.nts_model.specs.Trees.{Tree, empty, more, node, Place}
-use Rattle.nts_terms.specs.declared.nodes.NodeId.{NodeId}
+use Rattle.nts_store.specs.declared.nodes.NodeId.{NodeId}
 use Rattle.nts_terms.specs.declared.handles.AliasTerm.{AliasTerm}
 use Rattle.nts_terms.specs.declared.handles.Ty.{Ty}
-use Rattle.nts_terms.specs.Growth.{tree_at, IsIn, Extends}
+use Rattle.nts_store.specs.Growth.{tree_at, IsIn, Extends}
 use Rattle.nts_terms.specs.Handles.{Holds, HoldsArg}
-use Rattle.nts_terms.proofs.Growing.{IsIn-extended}
+use Rattle.nts_store.proofs.Growing.{IsIn-extended}
 use Rattle.nts_canonical.specs.Forms.{alias_tree, hidden_row, trees_of, IsHidden, AreHidden}
 use Rattle.nts_canonical.specs.Replaced.{IsImage, AreImages, IsLeafArg, AreLeafArgs}
 

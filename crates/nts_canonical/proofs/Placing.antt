@@ -5,8 +5,8 @@ use Rattle.std.specs.List.{position, position_or_len}
 use Rattle.std.proofs.lemmas.List.Sums.{prefix_len-le-length}
 use Rattle.nts_model.specs.Trees.{Tree, Place, kind_of}
 use Rattle.nts_model.proofs.Listed.{either}
-use Rattle.nts_terms.specs.declared.nodes.NodeId.{NodeId}
-use Rattle.nts_terms.specs.Growth.{tree_at, IsIn}
+use Rattle.nts_store.specs.declared.nodes.NodeId.{NodeId}
+use Rattle.nts_store.specs.Growth.{tree_at, IsIn}
 use Rattle.nts_terms.specs.Handles.{Holds}
 
 not_below : (a b : ℕ) → nat_lt a b ≡ false → b ≤ a

@@ -9,11 +9,11 @@ use Rattle.nts_model.proofs.Slots.{slice_get-push_old, slice_get-push_new, slice
 use Rattle.nts_model.proofs.Under.{same_or_other}
 use Rattle.nts_terms.specs.declared.handles.AliasTerm.{AliasTerm}
 use Rattle.nts_terms.specs.declared.handles.Ty.{Ty}
-use Rattle.nts_terms.specs.Growth.{IsIn, Extends}
-use Rattle.nts_table.specs.declared.contents.HiddenType.{HiddenType}
-use Rattle.nts_table.specs.Entries.{Entries}
-use Rattle.nts_table.specs.Reading.{content_of, IsHiddenType, AreHiddenTypes, IsLawful}
-use Rattle.nts_table.specs.Lawful.{content_of-extended, AreHiddenTypes-at}
+use Rattle.nts_store.specs.Growth.{IsIn, Extends}
+use Rattle.nts_unify.specs.declared.contents.HiddenType.{HiddenType}
+use Rattle.nts_unify.specs.Entries.{Entries}
+use Rattle.nts_unify.specs.Reading.{content_of, IsHiddenType, AreHiddenTypes, IsLawful}
+use Rattle.nts_unify.specs.Lawful.{content_of-extended, AreHiddenTypes-at}
 use Rattle.nts_table.specs.Registering.{HasAliasOf, NoneBefore, IsFirstOf, Registers}
 use Rattle.nts_table.proofs.HiddenLemmas.{IsHiddenType-extended}
 use Rattle.nts_canonical.specs.Forms.{hidden_row, AreHidden}

@@ -1,9 +1,9 @@
 -- Sub roots by links are sub roots by the function.
 use Rattle.std.proofs.Common.{◌≡◌, ℕ, zero, suc, ◌<◌, ◌≤◌, Option, Some, None, slice_get, refl, sym, ap, ◌∙◌, arith}
-use Rattle.nts_table.specs.declared.contents.Variable.{Variable}
-use Rattle.nts_table.specs.Entries.{Entries}
-use Rattle.nts_table.specs.Reading.{LinksDescend}
-use Rattle.nts_table.specs.Roots.{SubLeads, here, on, IsSubRoot}
+use Rattle.nts_unify.specs.declared.contents.Variable.{Variable}
+use Rattle.nts_unify.specs.Entries.{Entries}
+use Rattle.nts_unify.specs.Reading.{LinksDescend}
+use Rattle.nts_unify.specs.Roots.{SubLeads, here, on, IsSubRoot}
 use Rattle.nts_canonical.specs.SubRoots.{sub_link_in, sub_follow, sub_root_in}
 
 abbrev link_at : Entries → ℕ → Option ℕ

@@ -3,7 +3,7 @@ use Rattle.std.proofs.Common.{◌≡◌, ℕ, zero, suc, ◌+◌, ◌<◌, false
 use Rattle.std.proofs.lemmas.Bool.{cases_lt}
 use Rattle.nts_model.specs.Trees.{Tree, empty, more, any_label, is_canonical}
 use Rattle.nts_terms.specs.declared.handles.GenericArg.{GenericArg}
-use Rattle.nts_terms.specs.Filled.{HasValues}
+use Rattle.nts_store.specs.Filled.{HasValues}
 use Rattle.nts_canonical.specs.Forms.{trees_of}
 
 -- each argument before a place is one of these

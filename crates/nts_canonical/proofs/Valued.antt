@@ -13,11 +13,11 @@ use Rattle.nts_model.specs.Resolving.{Knows}
 use Rattle.nts_model.specs.Substitutions.{leaf_tree}
 use Rattle.nts_model.specs.Inputs.{PositionKind, type_variable, integer_variable, float_variable, const_variable, region_variable, placeholder}
 use Rattle.nts_terms.specs.declared.handles.GenericArg.{GenericArg}
-use Rattle.nts_terms.specs.Growth.{tree_at, Extends}
+use Rattle.nts_store.specs.Growth.{tree_at, Extends}
 use Rattle.nts_terms.specs.Handles.{HoldsArg}
-use Rattle.nts_table.specs.Entries.{Entries}
-use Rattle.nts_table.specs.Reading.{content_of, LinksDescend}
-use Rattle.nts_table.proofs.Leading.{kind_at-entry}
+use Rattle.nts_unify.specs.Entries.{Entries}
+use Rattle.nts_unify.specs.Reading.{content_of, LinksDescend}
+use Rattle.nts_unify.proofs.Leading.{kind_at-entry}
 use Rattle.nts_canonical.specs.Forms.{trees_of}
 use Rattle.nts_canonical.specs.Kinds.{IsInputKind, AreInputKinds, variables_before, universe_of_kind, value_leaf, value_leaves, made_variable, made_variables}
 use Rattle.nts_canonical.specs.Building.{AddsValue, IsValueOf, IsArgOf}

@@ -8,7 +8,7 @@ use Rattle.nts_model.specs.Sequents.{Among}
 use Rattle.nts_model.specs.Numbered.{number, AreDistinct}
 use Rattle.nts_model.specs.Inputs.{sub_root_of, are_one, share, kind_at, position_kind}
 use Rattle.nts_model.proofs.Listed.{either, tell, same-yes}
-use Rattle.nts_table.specs.Entries.{Entries}
+use Rattle.nts_unify.specs.Entries.{Entries}
 use Rattle.nts_canonical.specs.declared.types.CanonicalVarKind.{CanonicalVarKind}
 use Rattle.nts_canonical.specs.Forms.{kind_of_var}
 use Rattle.nts_canonical.specs.Owned.{IsOwned, AreOwned}

@@ -3,7 +3,7 @@ use Rattle.std.specs.Prelude.{◌≡◌, List}
 use Rattle.nts_model.specs.Trees.{Tree}
 use Rattle.nts_terms.specs.declared.handles.AliasTerm.{AliasTerm}
 use Rattle.nts_terms.specs.declared.handles.Ty.{Ty}
-use Rattle.nts_terms.specs.Growth.{tree_at}
+use Rattle.nts_store.specs.Growth.{tree_at}
 use Rattle.nts_terms.specs.Modes.{mode_of}
 use Rattle.nts_canonical.specs.declared.types.CanonicalInput.{CanonicalInput}
 use Rattle.nts_canonical.specs.Forms.{alias_tree, form_of}

@@ -8,16 +8,16 @@ use Rattle.nts_model.specs.Contents.{Content}
 use Rattle.nts_model.specs.Resolving.{Knows}
 use Rattle.nts_model.specs.Substitutions.{leaf_tree}
 use Rattle.nts_model.specs.Inputs.{PositionKind, type_variable, integer_variable, float_variable, const_variable, region_variable, placeholder}
-use Rattle.nts_terms.specs.Filled.{HasValues}
+use Rattle.nts_store.specs.Filled.{HasValues}
 use Rattle.nts_terms.specs.declared.handles.AliasTerm.{AliasTerm}
 use Rattle.nts_terms.specs.declared.handles.Ty.{Ty}
 use Rattle.nts_terms.specs.declared.handles.GenericArg.{GenericArg}
-use Rattle.nts_terms.specs.Growth.{tree_at}
+use Rattle.nts_store.specs.Growth.{tree_at}
 use Rattle.nts_terms.specs.Handles.{HoldsArg}
-use Rattle.nts_table.specs.declared.contents.HiddenType.{HiddenType}
-use Rattle.nts_table.specs.Entries.{Entries, added}
+use Rattle.nts_unify.specs.declared.contents.HiddenType.{HiddenType}
+use Rattle.nts_unify.specs.Entries.{Entries, added}
 use Rattle.nts_table.specs.Making.{unset_variable, IsAddedTo}
-use Rattle.nts_table.specs.Reading.{content_of}
+use Rattle.nts_unify.specs.Reading.{content_of}
 use Rattle.nts_table.specs.Registering.{Registers}
 use Rattle.nts_canonical.specs.declared.types.CanonicalInput.{CanonicalInput}
 use Rattle.nts_canonical.specs.Forms.{kind_of_var, query_tree, HoldsQuery}

@@ -7,7 +7,7 @@ use Rattle.nts_model.specs.Trees.{Tree, empty, more, node, size}
 use Rattle.nts_model.specs.Sequents.{Among}
 use Rattle.nts_model.specs.Numbered.{added, seen, no_leaf}
 use Rattle.nts_model.specs.Inputs.{is_static}
-use Rattle.nts_terms.specs.Growth.{tree_at, IsIn}
+use Rattle.nts_store.specs.Growth.{tree_at, IsIn}
 use Rattle.nts_canonical.specs.declared.collecting.Task.{Task}
 use Rattle.nts_canonical.specs.declared.collecting.Task.TheVariants as task
 

@@ -9,9 +9,9 @@ use Rattle.nts_terms.specs.declared.handles.AliasTerm.{AliasTerm}
 use Rattle.nts_terms.specs.declared.handles.Ty.{Ty}
 use Rattle.nts_terms.specs.declared.handles.Goal.{Goal}
 use Rattle.nts_terms.specs.declared.handles.GenericArg.{GenericArg}
-use Rattle.nts_terms.specs.Growth.{tree_at}
+use Rattle.nts_store.specs.Growth.{tree_at}
 use Rattle.nts_terms.specs.Handles.{HoldsTy, HoldsArgs, HoldsPredicate, HoldsEnv}
-use Rattle.nts_table.specs.Entries.{Entries}
+use Rattle.nts_unify.specs.Entries.{Entries}
 use Rattle.nts_canonical.specs.declared.types.CanonicalVarKind.{CanonicalVarKind}
 use Rattle.nts_canonical.specs.declared.types.CanonicalVarKind.TheVariants as var
 use Rattle.nts_canonical.specs.declared.types.QueryInput.{QueryInput}

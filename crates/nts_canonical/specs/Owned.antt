@@ -2,7 +2,7 @@
 use Rattle.std.specs.Prelude.{◌<◌, List, [], ◌∷◌, length}
 use Rattle.nts_model.specs.declared.labels.Leaf.{Leaf}
 use Rattle.nts_model.specs.declared.labels.Leaf.TheVariants as leaf
-use Rattle.nts_table.specs.Entries.{Entries}
+use Rattle.nts_unify.specs.Entries.{Entries}
 
 -- a variable is one of the table
 abbrev pub IsOwned : Entries → Leaf → Type 0

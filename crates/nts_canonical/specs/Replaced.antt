@@ -6,7 +6,7 @@ use Rattle.nts_model.specs.Substitutions.{leaf_tree}
 use Rattle.nts_terms.specs.declared.handles.AliasTerm.{AliasTerm}
 use Rattle.nts_terms.specs.declared.handles.Ty.{Ty}
 use Rattle.nts_terms.specs.declared.handles.GenericArg.{GenericArg}
-use Rattle.nts_terms.specs.Growth.{tree_at, IsIn}
+use Rattle.nts_store.specs.Growth.{tree_at, IsIn}
 use Rattle.nts_canonical.specs.Forms.{alias_tree, IsHidden}
 
 -- in a store b an alias and its type are the images of those in a store a

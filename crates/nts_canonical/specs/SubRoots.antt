@@ -1,7 +1,7 @@
 -- The root of a variable's sub-unification class, as a function of the entries.
 use Rattle.std.specs.Prelude.{ℕ, zero, suc, Option, Some, None, slice_get}
-use Rattle.nts_table.specs.declared.contents.Variable.{Variable}
-use Rattle.nts_table.specs.Entries.{Entries}
+use Rattle.nts_unify.specs.declared.contents.Variable.{Variable}
+use Rattle.nts_unify.specs.Entries.{Entries}
 
 abbrev pub sub_link_in : Option Variable → Option ℕ
 sub_link_in None = None

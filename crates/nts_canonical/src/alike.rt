@@ -4,7 +4,8 @@ ghost use Rattle.nts_canonical.specs.Forms.{kind_of_var, hidden_row, query_tree,
 ghost use Rattle.nts_canonical.specs.Alike.{AreOneInput, AreOnePair};
 
 use crate::types::{CanonicalInput, CanonicalVarKind, QueryInput};
-use nts_terms::{AliasTerm, Cx, Nodes, Ty};
+use nts_store::Nodes;
+use nts_terms::{AliasTerm, Cx, Ty};
 
 /// Whether two canonical inputs of one store are one: the same form and the same mode. Those of two goals
 /// have the same form exactly where the goals are alike (`nts_model::forms_tell_inputs`).

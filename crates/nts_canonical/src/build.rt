@@ -7,10 +7,11 @@ ghost use Rattle.nts_model.specs.Resolving.{Knows};
 ghost use Rattle.nts_model.specs.Inputs.{HaveKinds};
 ghost use Rattle.nts_terms.specs.Modes.{mode_of};
 ghost use Rattle.nts_canonical.specs.SubRoots.{sub_root_in};
-ghost use Rattle.nts_terms.specs.Growth.{tree_at, IsIn, Extends};
+ghost use Rattle.nts_store.specs.Growth.{tree_at, IsIn, Extends};
 ghost use Rattle.nts_terms.specs.Handles.{HoldsArg};
-ghost use Rattle.nts_terms.specs.Rest.{KeepsRest};
-ghost use Rattle.nts_table.specs.Reading.{content_of, IsHiddenType, IsTable};
+ghost use Rattle.nts_terms.specs.Rest.{KeepsRest, Grows};
+ghost use Rattle.nts_unify.specs.Reading.{content_of, IsHiddenType};
+ghost use Rattle.nts_table.specs.Tables.{IsTable};
 ghost use Rattle.nts_canonical.specs.Forms.{kind_of_var, form_of, query_tree, trees_of, HoldsQuery};
 ghost use Rattle.nts_canonical.specs.Kinds.{AreInputKinds, universe_of_kind, value_leaves, made_variables};
 ghost use Rattle.nts_canonical.specs.Replaced.{AreLeafArgs};
@@ -19,8 +20,9 @@ ghost use Rattle.nts_canonical.specs.Building.{kinds_of, values_of, made_entries
 use crate::instantiate::instantiate_canonical;
 use crate::types::{CanonicalInput, CanonicalVarKind, QueryInput};
 use nts_model::{Constant, FreeRegion, Label, Leaf, VariableKind};
+use nts_store::{Fault, Nodes};
 use nts_table::InferCtxt;
-use nts_terms::{AliasTerm, Cx, Fault, GenericArg, Nodes, Span, Ty, UniverseIndex};
+use nts_terms::{AliasTerm, Cx, GenericArg, Span, Ty, UniverseIndex};
 use std::alloc::AllocError;
 
 /// A table for a canonical input, in its mode: a new variable stands for each position that is a
@@ -43,8 +45,7 @@ pub fn build_with_canonical(
     ensures args { IfOk result (λ r. All (IsArgOf cx.new.nodes r.0.entries) r.2.items) }
     ensures holds { IfOk result (λ r. HoldsQuery cx.new.nodes r.1) }
     ensures knows { IfOk result (λ r. Knows (content_of cx.new.nodes r.0.entries) (query_tree cx.new.nodes r.1)) }
-    ensures extends { Extends cx.old.nodes cx.new.nodes }
-    ensures rest { KeepsRest cx.old cx.new }
+    ensures grows { Grows cx.old cx.new }
     ensures memory { IsOkUnless result Fault.Memory }
 {
     let mode = input.typing_mode.clone()?;

@@ -5,11 +5,12 @@ ghost use Rattle.nts_model.specs.Substitutions.{leaf_tree, replace};
 ghost use Rattle.nts_model.specs.Numbered.{seen, numbered_leaf, no_leaf};
 ghost use Rattle.nts_model.specs.Inputs.{is_static, canonical_of, originals, whole};
 ghost use Rattle.nts_model.specs.Resolving.{Knows};
-ghost use Rattle.nts_terms.specs.Filled.{HasValues};
-ghost use Rattle.nts_terms.specs.Growth.{tree_at, Extends};
-ghost use Rattle.nts_terms.specs.Handles.{HoldsArg, HoldsEnv, HoldsPredicate};
-ghost use Rattle.nts_terms.specs.Rest.{KeepsRest};
-ghost use Rattle.nts_table.specs.Reading.{content_of, IsTable};
+ghost use Rattle.nts_store.specs.Filled.{HasValues};
+ghost use Rattle.nts_store.specs.Growth.{tree_at, Extends};
+ghost use Rattle.nts_terms.specs.Handles.{HoldsArg, HoldsEnv, HoldsPredicate, HoldsGoal};
+ghost use Rattle.nts_terms.specs.Rest.{Grows};
+ghost use Rattle.nts_unify.specs.Reading.{content_of};
+ghost use Rattle.nts_table.specs.Tables.{IsTable};
 ghost use Rattle.nts_canonical.specs.Forms.{hidden_row, query_tree, form_of, input_of, trees_of, IsHidden, AreHidden, HoldsQuery};
 ghost use Rattle.nts_canonical.specs.Building.{IsInputOf};
 ghost use Rattle.nts_canonical.specs.Replaced.{IsImage, AreImages, AreLeafArgs};
@@ -20,8 +21,9 @@ use crate::types::{Canonical, CanonicalInput, QueryInput};
 use crate::var_kinds::kinds_of;
 use indexmap::IndexSet;
 use nts_model::{Label, Leaf};
+use nts_store::{Fault, Nodes};
 use nts_table::InferCtxt;
-use nts_terms::{AliasTerm, Cx, Fault, GenericArg, Goal, Nodes, Ty, TypingMode};
+use nts_terms::{AliasTerm, Cx, GenericArg, Goal, Ty, TypingMode};
 use std::alloc::{AllocError, Global};
 
 /// The originals and the canonical input of a goal that is asked in that mode with these hidden types. The
@@ -35,8 +37,7 @@ pub fn canonicalize_goal(
     mode: TypingMode,
 ) -> Result<(Vec<GenericArg>, CanonicalInput), Fault>
     requires table { IsTable cx.old.nodes table.now }
-    requires environment { HoldsEnv cx.old.nodes goal.param_env }
-    requires predicate { HoldsPredicate cx.old.nodes goal.predicate }
+    requires goal { HoldsGoal cx.old.nodes goal }
     requires hidden { AreHidden cx.old.nodes opaque_types.now }
     requires knows { Knows (content_of cx.old.nodes table.now.entries) (whole (input_of cx.old.nodes table.now.entries goal opaque_types.now)) }
 
@@ -48,8 +49,7 @@ pub fn canonicalize_goal(
     ensures input { any_label is_canonical (whole (input_of cx.old.nodes table.now.entries goal opaque_types.now)) ≡ false → IfOk result (λ r. IsInputOf cx.new.nodes r.1) }
     ensures holds_originals { IfOk result (λ r. All (HoldsArg cx.new.nodes) r.0.items) }
     ensures holds { IfOk result (λ r. HoldsQuery cx.new.nodes r.1.canonical.value) }
-    ensures extends { Extends cx.old.nodes cx.new.nodes }
-    ensures rest { KeepsRest cx.old cx.new }
+    ensures grows { Grows cx.old cx.new }
     ensures memory { IsOkUnless result Fault.Memory }
 {
     let leaves = leaves_of(cx, goal, opaque_types)?;

@@ -2,13 +2,13 @@
 ghost use Rattle.std.specs.Prelude.{◌≡◌, ◌++◌, ◌∷◌, [], OnOk};
 ghost use Rattle.nts_model.specs.Numbered.{seen};
 ghost use Rattle.nts_model.specs.Trees.{children, IsRow};
-ghost use Rattle.nts_terms.specs.Growth.{tree_at, IsIn};
+ghost use Rattle.nts_store.specs.Growth.{tree_at, IsIn};
 ghost use Rattle.nts_canonical.specs.declared.collecting.Task.TheVariants.{Enter, Finish};
 ghost use Rattle.nts_canonical.specs.Collecting.{stays_where, after_leaf, TasksIn, jobs, entered, IsReading, Continues};
 
 use indexmap::IndexSet;
 use nts_model::{FreeRegion, Label, Leaf};
-use nts_terms::{NodeId, Nodes};
+use nts_store::{NodeId, Nodes};
 use std::alloc::{AllocError, Global};
 
 /// What is left to do. A term may be nested very deep, so this stands on the heap.

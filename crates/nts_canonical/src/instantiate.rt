@@ -1,15 +1,16 @@
 //! Values in place of the positions of a canonical input.
 ghost use Rattle.std.specs.Prelude.{◌≡◌, List, All, map, IfOk, IsOkUnless};
 ghost use Rattle.nts_model.specs.Handlers.{filled};
-ghost use Rattle.nts_terms.specs.Growth.{tree_at, AllIn, Extends};
+ghost use Rattle.nts_store.specs.Growth.{tree_at, AllIn, Extends};
 ghost use Rattle.nts_terms.specs.Handles.{Holds, HoldsArg};
-ghost use Rattle.nts_terms.specs.Filled.{HasValues};
+ghost use Rattle.nts_store.specs.Filled.{HasValues};
 ghost use Rattle.nts_terms.specs.Rest.{KeepsRest};
 ghost use Rattle.nts_canonical.specs.Forms.{alias_tree, hidden_row, query_tree, trees_of, IsHidden, AreHidden, HoldsQuery};
 ghost use Rattle.nts_canonical.specs.Replaced.{IsImage, AreImages};
 
 use crate::types::{Canonical, QueryInput};
-use nts_terms::{AliasTerm, Cx, Fault, GenericArg, Goal, NodeId, Nodes, Stored, Ty};
+use nts_store::{Fault, NodeId, Nodes};
+use nts_terms::{AliasTerm, Cx, GenericArg, Goal, Stored, Ty};
 use std::alloc::{AllocError, Global};
 
 /// The query with value i in place of the bound variable that names position i. With the originals of a
@@ -121,6 +122,6 @@ fn fill<T: Stored>(
     ensures holds { IfOk result (λ r. Holds T.place nodes.new (T.id r)) }
     ensures tree { IfOk result (λ r. tree_at nodes.new (T.id r) ≡ filled (map (tree_at nodes.old) values.now) (tree_at nodes.old (T.id x))) }
 {
-    let node = nts_terms::instantiate_canonical(alloc, nodes, values, x.node())?;
+    let node = nts_store::instantiate_canonical(alloc, nodes, values, x.node())?;
     Ok(T::from_node(node))
 }

@@ -9,12 +9,8 @@ mod alike;
 mod build;
 mod canonicalize;
 mod collecting;
-#[cfg(test)]
-mod fixture;
 mod instantiate;
 mod numbering;
-#[cfg(test)]
-mod tests;
 mod types;
 mod var_kinds;
 

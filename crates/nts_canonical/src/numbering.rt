@@ -4,7 +4,7 @@ ghost use Rattle.nts_model.specs.declared.labels.Leaf.{Leaf};
 ghost use Rattle.nts_model.specs.Trees.{Tree, sort_of_leaf};
 ghost use Rattle.nts_model.specs.Substitutions.{replace};
 ghost use Rattle.nts_model.specs.Numbered.{number, numbered_leaf};
-ghost use Rattle.nts_terms.specs.Growth.{tree_at, Extends};
+ghost use Rattle.nts_store.specs.Growth.{tree_at, Extends};
 ghost use Rattle.nts_terms.specs.Handles.{Holds};
 ghost use Rattle.nts_canonical.specs.Collecting.{stays_where};
 ghost use Rattle.nts_canonical.specs.Positions.{kind_of-numbered};
@@ -12,7 +12,8 @@ ghost use Rattle.nts_canonical.specs.Positions.{kind_of-numbered};
 use crate::collecting::stays;
 use indexmap::IndexSet;
 use nts_model::{BoundIndex, Label, Leaf, Sort, VariableKind};
-use nts_terms::{NodeId, Nodes, Replacer, Step, Stored, replace};
+use nts_store::{NodeId, Nodes, Replacer, Step, replace};
+use nts_terms::Stored;
 use std::alloc::{AllocError, Global};
 
 /// Puts a position in place of each leaf: its number among the leaves.

@@ -2,8 +2,9 @@
 ghost use Rattle.std.specs.Prelude.{IfOk, IsOkUnless};
 ghost use Rattle.nts_canonical.specs.Alike.{IsCopy};
 
+use nts_store::Fault;
 use nts_terms::{
-    AliasTerm, Fault, Goal, PlaceholderConst, PlaceholderRegion, PlaceholderType, Ty, TypingMode,
+    AliasTerm, Goal, PlaceholderConst, PlaceholderRegion, PlaceholderType, Ty, TypingMode,
     UniverseIndex,
 };
 

@@ -7,17 +7,18 @@ use Rattle.nts_model.specs.Contents.{state_of, kind_at}
 use Rattle.nts_model.specs.Resolving.{variable_tree, root_of, resolved, Knows}
 use Rattle.nts_model.proofs.Roots.{kind_at-reaches}
 use Rattle.nts_model.proofs.Kept.{kind_of-resolved}
-use Rattle.nts_terms.specs.declared.nodes.NodeId.{NodeId}
-use Rattle.nts_terms.specs.Growth.{tree_at, IsIn}
+use Rattle.nts_store.specs.declared.nodes.NodeId.{NodeId}
+use Rattle.nts_store.specs.Growth.{tree_at, IsIn}
 use Rattle.nts_terms.specs.Handles.{Holds}
-use Rattle.nts_table.specs.declared.contents.State.{State}
-use Rattle.nts_table.specs.declared.contents.State.TheVariants.{Unset, Link, Known}
-use Rattle.nts_table.specs.declared.contents.Variable.{Variable}
-use Rattle.nts_table.specs.Entries.{Table}
-use Rattle.nts_table.specs.Reading.{state_with, content_of, IsTable}
-use Rattle.nts_table.specs.Roots.{IsRoot}
+use Rattle.nts_unify.specs.declared.contents.State.{State}
+use Rattle.nts_unify.specs.declared.contents.State.TheVariants.{Unset, Link, Known}
+use Rattle.nts_unify.specs.declared.contents.Variable.{Variable}
+use Rattle.nts_table.specs.Tables.{Table}
+use Rattle.nts_unify.specs.Reading.{state_with, content_of}
+use Rattle.nts_table.specs.Tables.{IsTable}
+use Rattle.nts_unify.specs.Roots.{IsRoot}
 use Rattle.nts_table.specs.Classes.{shallow_variable}
-use Rattle.nts_table.proofs.Leading.{state_of-entry, Reaches-leads, IsRoot-content}
+use Rattle.nts_unify.proofs.Leading.{state_of-entry, Reaches-leads, IsRoot-content}
 
 module _ (ts : List Tree) (t : Table) (k : VariableKind) (n r : ℕ) (v : Variable) (table : IsTable ts t) (root : IsRoot t.entries n r) (at : slice_get t.entries.variables r ≡ Some v) where
   root_is : root_of (content_of ts t.entries) n ≡ r

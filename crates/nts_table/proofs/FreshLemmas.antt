@@ -5,10 +5,10 @@ use Rattle.nts_model.specs.declared.labels.Sort.{Sort}
 use Rattle.nts_model.specs.declared.labels.Sort.TheVariants as sort
 use Rattle.nts_model.specs.Trees.{Tree, more, row_push, AllFit, any_argument}
 use Rattle.nts_model.specs.Resolving.{variable_tree}
-use Rattle.nts_terms.specs.declared.nodes.NodeId.{NodeId}
-use Rattle.nts_terms.specs.Growth.{tree_at, trees_at, IsIn, AllIn, Extends}
-use Rattle.nts_terms.proofs.Growing.{trees_at-push, trees_at-extended, AllIn-extended, AllIn-push}
-use Rattle.nts_table.specs.Entries.{Entries, added}
+use Rattle.nts_store.specs.declared.nodes.NodeId.{NodeId}
+use Rattle.nts_store.specs.Growth.{tree_at, trees_at, IsIn, AllIn, Extends}
+use Rattle.nts_store.proofs.Growing.{trees_at-push, trees_at-extended, AllIn-extended, AllIn-push}
+use Rattle.nts_unify.specs.Entries.{Entries, added}
 use Rattle.nts_table.specs.Making.{new_variable}
 use Rattle.nts_table.specs.Fresh.{variable_kind, with_fresh, fresh_row}
 

@@ -5,12 +5,12 @@ use Rattle.nts_model.specs.Trees.{Tree}
 use Rattle.nts_model.specs.Contents.{Content}
 use Rattle.nts_model.specs.Resolving.{deeply_resolved, Knows}
 use Rattle.nts_model.proofs.Under.{same_or_other}
-use Rattle.nts_terms.specs.declared.nodes.NodeId.{NodeId}
-use Rattle.nts_terms.specs.Growth.{tree_at, Extends}
-use Rattle.nts_table.specs.declared.contents.HiddenType.{HiddenType}
-use Rattle.nts_table.specs.Entries.{Entries}
-use Rattle.nts_table.specs.Reading.{content_of, IsHiddenType, IsLawful}
-use Rattle.nts_table.specs.Lawful.{content_of-extended, AreHiddenTypes-at, AreHiddenTypes-extended}
+use Rattle.nts_store.specs.declared.nodes.NodeId.{NodeId}
+use Rattle.nts_store.specs.Growth.{tree_at, Extends}
+use Rattle.nts_unify.specs.declared.contents.HiddenType.{HiddenType}
+use Rattle.nts_unify.specs.Entries.{Entries}
+use Rattle.nts_unify.specs.Reading.{content_of, IsHiddenType, IsLawful}
+use Rattle.nts_unify.specs.Lawful.{content_of-extended, AreHiddenTypes-at, AreHiddenTypes-extended}
 use Rattle.nts_table.specs.Registering.{HasAliasOf, NoneBefore}
 
 pub hidden_at : (ts : List Tree) (e : Entries) (n : ℕ) (x : HiddenType) → IsLawful ts e → slice_get e.hidden n ≡ Some x → IsHiddenType ts (content_of ts e) x

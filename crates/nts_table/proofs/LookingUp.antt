@@ -10,18 +10,19 @@ use Rattle.nts_model.specs.Trees.{Tree, empty, more, node, children, kind_of, ki
 use Rattle.nts_model.specs.Contents.{Content, SlotState, unset, link, known, state_of, kind_at}
 use Rattle.nts_model.specs.Resolving.{variable_of, variable_tree, root_of, IsSound, Knows, rank_of, rank_of_kind, variable_rank}
 use Rattle.nts_model.proofs.Roots.{kind_at-reaches, kind_at-root_of, root_of-root_of}
-use Rattle.nts_terms.specs.declared.nodes.NodeId.{NodeId}
-use Rattle.nts_terms.specs.Growth.{tree_at}
-use Rattle.nts_table.specs.declared.contents.State.{State}
-use Rattle.nts_table.specs.declared.contents.State.TheVariants.{Unset, Link, Known}
-use Rattle.nts_table.specs.declared.contents.Variable.{Variable}
-use Rattle.nts_table.specs.Entries.{Table}
-use Rattle.nts_table.specs.Reading.{state_with, content_of, IsTable}
-use Rattle.nts_table.specs.Roots.{IsRoot}
+use Rattle.nts_store.specs.declared.nodes.NodeId.{NodeId}
+use Rattle.nts_store.specs.Growth.{tree_at}
+use Rattle.nts_unify.specs.declared.contents.State.{State}
+use Rattle.nts_unify.specs.declared.contents.State.TheVariants.{Unset, Link, Known}
+use Rattle.nts_unify.specs.declared.contents.Variable.{Variable}
+use Rattle.nts_table.specs.Tables.{Table}
+use Rattle.nts_unify.specs.Reading.{state_with, content_of}
+use Rattle.nts_table.specs.Tables.{IsTable}
+use Rattle.nts_unify.specs.Roots.{IsRoot}
 use Rattle.nts_table.specs.Classes.{value_or_root, shallow_variable, looked_up, shallowly_resolved}
-use Rattle.nts_table.proofs.Leading.{state_of-entry, Reaches-leads, IsRoot-content}
-use Rattle.nts_table.proofs.HeadLemmas.{kind_of-variable}
-use Rattle.nts_table.proofs.Ranks.{some_kind}
+use Rattle.nts_unify.proofs.Leading.{state_of-entry, Reaches-leads, IsRoot-content}
+use Rattle.nts_relating.proofs.HeadLemmas.{kind_of-variable}
+use Rattle.nts_relating.proofs.Ranks.{some_kind}
 use Rattle.nts_table.proofs.Walking.{no_region_sort}
 
 looked_up-none : (c : Content) (l : Label) (x : Tree) → variable_of l ≡ None → looked_up c (node l x) ≡ node l x

@@ -10,17 +10,20 @@ use Rattle.nts_model.specs.Contents.{Content, kind_at, state_of, known}
 use Rattle.nts_model.specs.Resolving.{Knows, variable_of}
 use Rattle.nts_model.proofs.Roots.{kind_at-reaches}
 use Rattle.nts_model.proofs.Slots.{slice_get-slice_set_same, slice_get-slice_set_other, slice_get_below}
-use Rattle.nts_terms.specs.Growth.{tree_at}
-use Rattle.nts_table.specs.declared.contents.State.{State}
-use Rattle.nts_table.specs.declared.contents.State.TheVariants.{Unset, Link, Known}
-use Rattle.nts_table.specs.declared.contents.Variable.{Variable}
-use Rattle.nts_table.specs.Entries.{Entries, Table, with_variable}
-use Rattle.nts_table.specs.Reading.{content_of, state_with, IsLawful, IsTable}
-use Rattle.nts_table.specs.Roots.{IsRoot}
-use Rattle.nts_table.specs.Equating.{RegionsLinked, RegionsJoined, region_of}
-use Rattle.nts_table.specs.Changing.{region_of_variable}
-use Rattle.nts_table.specs.Setting.{proper_lowered, LeadsDown, IsLawful-marked, IsLawful-region_link, IsTable-now}
-use Rattle.nts_table.proofs.Leading.{state_of-entry, kind_at-entry, Reaches-leads}
+use Rattle.nts_store.specs.Growth.{tree_at}
+use Rattle.nts_unify.specs.declared.contents.State.{State}
+use Rattle.nts_unify.specs.declared.contents.State.TheVariants.{Unset, Link, Known}
+use Rattle.nts_unify.specs.declared.contents.Variable.{Variable}
+use Rattle.nts_unify.specs.Entries.{Entries, with_variable}
+use Rattle.nts_table.specs.Tables.{Table}
+use Rattle.nts_unify.specs.Reading.{content_of, state_with, IsLawful}
+use Rattle.nts_table.specs.Tables.{IsTable}
+use Rattle.nts_unify.specs.Roots.{IsRoot}
+use Rattle.nts_unify.specs.Equating.{RegionsLinked, RegionsJoined, region_of}
+use Rattle.nts_unify.specs.Changing.{region_of_variable}
+use Rattle.nts_unify.specs.Setting.{proper_lowered, LeadsDown, IsLawful-marked, IsLawful-region_link}
+use Rattle.nts_table.specs.TableLaws.{IsTable-now}
+use Rattle.nts_unify.proofs.Leading.{state_of-entry, kind_at-entry, Reaches-leads}
 
 known_region_at : (c : Content) (o : Option (VariableKind × ℕ)) (l : Label) (t : Tree) (x : ℕ) → variable_of l ≡ o → Knows c (node l t) → region_of_variable o ≡ Some x → kind_at c x ≡ Some kind.Region
 known_region_at c None l t x q h e = cc

@@ -1,11 +1,13 @@
 -- A table whose snapshots are opened and closed goes with its store.
 use Rattle.std.proofs.Common.{◌≡◌, List, [], ◌∷◌, ◌++◌, sym, ◌∙◌}
 use Rattle.nts_model.specs.Trees.{Tree}
-use Rattle.nts_terms.specs.Growth.{Extends}
-use Rattle.nts_table.specs.Entries.{Entries, Table}
-use Rattle.nts_table.specs.Reading.{IsLawful, AllLawful, IsTable}
-use Rattle.nts_table.specs.Lawful.{IsTable-extended}
-use Rattle.nts_table.proofs.SavedLemmas.{push_inj}
+use Rattle.nts_store.specs.Growth.{Extends}
+use Rattle.nts_unify.specs.Entries.{Entries}
+use Rattle.nts_table.specs.Tables.{Table}
+use Rattle.nts_unify.specs.Reading.{IsLawful, AllLawful}
+use Rattle.nts_table.specs.Tables.{IsTable}
+use Rattle.nts_table.specs.TableLaws.{IsTable-extended}
+use Rattle.nts_unify.proofs.SavedLemmas.{push_inj}
 
 AllLawful-push : (ts : List Tree) (cs : List Entries) (c : Entries) → AllLawful ts cs → IsLawful ts c → AllLawful ts (cs ++ c ∷ [])
 AllLawful-push ts [] c h k = (k, tt)

@@ -3,14 +3,18 @@ use Rattle.std.proofs.Common.{◌≡◌, ◌⊎◌, inl, inr, ℕ, ◌<◌, List
 use Rattle.std.specs.Prelude.{slice_set}
 use Rattle.nts_model.specs.Trees.{Tree}
 use Rattle.nts_model.proofs.Slots.{slice_get-push_new}
-use Rattle.nts_terms.specs.Growth.{Extends}
-use Rattle.nts_table.specs.declared.contents.Variable.{Variable}
-use Rattle.nts_table.specs.Entries.{Entries, Table, added}
-use Rattle.nts_table.specs.Lawful.{IsNew, IsLawful-added, IsLawful-extended, IsTable-added, IsTable-extended}
+use Rattle.nts_store.specs.Growth.{Extends}
+use Rattle.nts_unify.specs.declared.contents.Variable.{Variable}
+use Rattle.nts_unify.specs.Entries.{Entries, added}
+use Rattle.nts_table.specs.Tables.{Table}
+use Rattle.nts_unify.specs.Lawful.{IsNew, IsLawful-added, IsLawful-extended}
+use Rattle.nts_table.specs.TableLaws.{IsTable-added, IsTable-extended}
 use Rattle.nts_table.specs.Making.{IsAddedTo}
-use Rattle.nts_table.specs.Reading.{IsLawful, IsTable}
-use Rattle.nts_table.specs.Roots.{SubRootsJoin, SubLinked}
-use Rattle.nts_table.specs.Setting.{proper_sub_linked, LeadsDown, IsLawful-marked, IsTable-now}
+use Rattle.nts_unify.specs.Reading.{IsLawful}
+use Rattle.nts_table.specs.Tables.{IsTable}
+use Rattle.nts_unify.specs.Roots.{SubRootsJoin, SubLinked}
+use Rattle.nts_unify.specs.Setting.{proper_sub_linked, LeadsDown, IsLawful-marked}
+use Rattle.nts_table.specs.TableLaws.{IsTable-now}
 
 IsLawful-sub_linked : (ts : List Tree) (e f : Entries) (r s : ℕ) → IsLawful ts e → SubLinked e f r s → IsLawful ts f
 IsLawful-sub_linked ts e f r s h k =

@@ -13,16 +13,16 @@ use Rattle.nts_model.specs.RegionClasses.{AreRegions}
 use Rattle.nts_model.proofs.Alike.{IsRegion-deeply_resolved}
 use Rattle.nts_model.proofs.Open.{Knows-deeply_resolved}
 use Rattle.nts_model.proofs.Kept.{kind_of-deeply_resolved}
-use Rattle.nts_terms.specs.declared.nodes.NodeId.{NodeId}
-use Rattle.nts_terms.specs.contracts.nodes.NodeIdPartialEq.TheImpl as id_eq
-use Rattle.nts_terms.specs.Growth.{tree_at, IsIn, AreApart, Extends}
-use Rattle.nts_terms.proofs.Growing.{IsIn-extended}
-use Rattle.nts_table.specs.declared.contents.Constraint.{Constraint}
+use Rattle.nts_store.specs.declared.nodes.NodeId.{NodeId}
+use Rattle.nts_store.specs.contracts.nodes.NodeIdPartialEq.TheImpl as id_eq
+use Rattle.nts_store.specs.Growth.{tree_at, IsIn, AreApart, Extends}
+use Rattle.nts_store.proofs.Growing.{IsIn-extended}
+use Rattle.nts_unify.specs.declared.contents.Constraint.{Constraint}
 use Rattle.nts_table.specs.declared.deduplicated.Said.{Said}
 use Rattle.nts_table.specs.contracts.deduplicated.SaidPartialEq.TheImpl as said_eq
-use Rattle.nts_table.specs.Entries.{Entries}
-use Rattle.nts_table.specs.Reading.{recorded_of, content_of, IsConstraint, AreConstraints, IsLawful}
-use Rattle.nts_table.specs.Lawful.{content_of-extended, IsLawful-extended, AreConstraints-push}
+use Rattle.nts_unify.specs.Entries.{Entries}
+use Rattle.nts_unify.specs.Reading.{recorded_of, content_of, IsConstraint, AreConstraints, IsLawful}
+use Rattle.nts_unify.specs.Lawful.{content_of-extended, IsLawful-extended, AreConstraints-push}
 use Rattle.nts_table.specs.Deduplicated.{resolved_constraint, resolved_constraints, IsSame, IsAmong, SaysNothingNew, AreNews, none, passed, told, said, SidesIn, AllSidesIn, Tells}
 
 IsSame-trans : {x y z : Recorded} → IsSame x y → IsSame y z → IsSame x z
@@ -166,14 +166,6 @@ tells_new ts xs x a k h apart lacks (inr w) =
 
 pub tells_old : (ts : List Tree) (xs : List Constraint) (x : Constraint) → list_any (said_eq.ghosts.eq (said x)) (map said xs) ≡ true → SaysNothingNew (map (recorded_of ts) xs) (recorded_of ts x)
 tells_old ts xs x has = inr (among-said ts xs x (has_said xs (said x) has))
-
-pub is_false : (b x : Bool) → b ≡ not x → b ≡ true → x ≡ false
-is_false b true e t = cc
-is_false b false e t = refl
-
-pub is_true : (b x : Bool) → b ≡ not x → b ≡ false → x ≡ true
-is_true b true e t = refl
-is_true b false e t = cc
 
 -- what a store that grows keeps of the constraints told
 pub SidesIn-all : (ts : List Tree) (c : Content) (xs : List Constraint) → AreConstraints ts c xs → AllSidesIn ts xs

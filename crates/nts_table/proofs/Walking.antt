@@ -13,21 +13,22 @@ use Rattle.nts_model.specs.Resolving.{variable_of, variable_tree, resolved, root
 use Rattle.nts_model.proofs.Variables.{infer_of_none}
 use Rattle.nts_model.proofs.Resolved.{resolved-empty, resolved-node, deeply_resolved-empty, deeply_resolved-node, IsVariable, resolved-reaches_known, resolved-variable_reaches, resolved-variable_unset, IsVariable-infer, IsVariable-reaches}
 use Rattle.nts_model.proofs.Kept.{resolved-no_infer, deeply_resolved-no_variables}
-use Rattle.nts_terms.specs.declared.nodes.NodeId.{NodeId}
-use Rattle.nts_terms.specs.Growth.{tree_at, IsIn}
-use Rattle.nts_terms.specs.Replacement.{GoesDown, IsStep}
-use Rattle.nts_terms.specs.declared.replacement.Step.{Step}
-use Rattle.nts_terms.specs.declared.replacement.Step.TheVariants as step
-use Rattle.nts_table.specs.declared.contents.State.{State}
-use Rattle.nts_table.specs.declared.contents.State.TheVariants.{Unset, Link, Known}
-use Rattle.nts_table.specs.declared.contents.Variable.{Variable}
-use Rattle.nts_table.specs.Entries.{Table}
-use Rattle.nts_table.specs.Reading.{state_with, content_of, IsHeldState, AreHeld, IsTable}
-use Rattle.nts_table.specs.Roots.{IsRoot}
+use Rattle.nts_store.specs.declared.nodes.NodeId.{NodeId}
+use Rattle.nts_store.specs.Growth.{tree_at, IsIn}
+use Rattle.nts_store.specs.Replacement.{GoesDown, IsStep}
+use Rattle.nts_store.specs.declared.replacement.Step.{Step}
+use Rattle.nts_store.specs.declared.replacement.Step.TheVariants as step
+use Rattle.nts_unify.specs.declared.contents.State.{State}
+use Rattle.nts_unify.specs.declared.contents.State.TheVariants.{Unset, Link, Known}
+use Rattle.nts_unify.specs.declared.contents.Variable.{Variable}
+use Rattle.nts_table.specs.Tables.{Table}
+use Rattle.nts_unify.specs.Reading.{state_with, content_of, IsHeldState, AreHeld}
+use Rattle.nts_table.specs.Tables.{IsTable}
+use Rattle.nts_unify.specs.Roots.{IsRoot}
 use Rattle.nts_table.specs.Resolution.{resolved_to, Resolution, resolution, resolution_of, CanResolve, IsResolved}
-use Rattle.nts_table.proofs.Leading.{state_of-entry, Reaches-leads}
-use Rattle.nts_table.proofs.HeadLemmas.{variable_node}
-use Rattle.nts_table.proofs.Ranks.{some_kind}
+use Rattle.nts_unify.proofs.Leading.{state_of-entry, Reaches-leads}
+use Rattle.nts_relating.proofs.HeadLemmas.{variable_node}
+use Rattle.nts_relating.proofs.Ranks.{some_kind}
 
 -- a tree without variables to be replaced
 pub resolved_to-left : (regions : Bool) (c : Content) (t : Tree) → IsResolved regions t → resolved_to regions c t ≡ t

@@ -4,11 +4,11 @@ use Rattle.nts_model.specs.declared.labels.VariableKind.{VariableKind}
 use Rattle.nts_model.specs.Trees.{Tree, empty, more, node}
 use Rattle.nts_model.specs.Contents.{Content, SlotState, unset, link, known, state_of}
 use Rattle.nts_model.specs.Resolving.{variable_tree, variable_of, root_of}
-use Rattle.nts_table.specs.declared.contents.State.{State}
-use Rattle.nts_table.specs.declared.contents.State.TheVariants.{Unset, Link, Known}
-use Rattle.nts_table.specs.declared.contents.Variable.{Variable}
-use Rattle.nts_table.specs.Entries.{Entries}
-use Rattle.nts_table.specs.Roots.{IsRoot}
+use Rattle.nts_unify.specs.declared.contents.State.{State}
+use Rattle.nts_unify.specs.declared.contents.State.TheVariants.{Unset, Link, Known}
+use Rattle.nts_unify.specs.declared.contents.Variable.{Variable}
+use Rattle.nts_unify.specs.Entries.{Entries}
+use Rattle.nts_unify.specs.Roots.{IsRoot}
 
 -- the root of a variable's class, and what the table has of the root
 pub record IsRootVariable (e : Entries) (n : ℕ) (v : Variable) : Type 0 where

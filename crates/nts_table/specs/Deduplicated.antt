@@ -3,10 +3,10 @@ use Rattle.std.specs.Prelude.{◌≡◌, ◌⊎◌, List, [], ◌∷◌, ◌++�
 use Rattle.nts_model.specs.Trees.{Tree}
 use Rattle.nts_model.specs.Contents.{Content, Recorded}
 use Rattle.nts_model.specs.Resolving.{deeply_resolved}
-use Rattle.nts_terms.specs.Growth.{IsIn}
-use Rattle.nts_table.specs.declared.contents.Constraint.{Constraint}
+use Rattle.nts_store.specs.Growth.{IsIn}
+use Rattle.nts_unify.specs.declared.contents.Constraint.{Constraint}
 use Rattle.nts_table.specs.declared.deduplicated.Said.{Said}
-use Rattle.nts_table.specs.Reading.{recorded_of}
+use Rattle.nts_unify.specs.Reading.{recorded_of}
 
 -- a constraint with its sides under the table's values and roots
 abbrev pub resolved_constraint : Content → Recorded → Recorded

@@ -6,7 +6,7 @@ use Rattle.nts_model.specs.declared.labels.VariableKind.{VariableKind}
 use Rattle.nts_model.specs.declared.labels.VariableKind.TheVariants as kind
 use Rattle.nts_model.specs.Trees.{Tree, empty, more, NodeKind, of_sort}
 use Rattle.nts_model.specs.Resolving.{variable_tree}
-use Rattle.nts_table.specs.Entries.{Entries, added}
+use Rattle.nts_unify.specs.Entries.{Entries, added}
 use Rattle.nts_table.specs.Making.{new_variable}
 
 abbrev pub variable_kind : Sort → VariableKind

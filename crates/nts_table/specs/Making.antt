@@ -1,10 +1,10 @@
 -- A new variable.
 use Rattle.std.specs.Prelude.{◌≡◌, ℕ, Option, Some, None}
 use Rattle.nts_model.specs.declared.labels.VariableKind.{VariableKind}
-use Rattle.nts_table.specs.declared.contents.State.TheVariants.{Unset}
-use Rattle.nts_table.specs.declared.contents.Variable.{Variable}
-use Rattle.nts_table.specs.Entries.{Entries, added}
-use Rattle.nts_table.specs.Roots.{IsSubRoot}
+use Rattle.nts_unify.specs.declared.contents.State.TheVariants.{Unset}
+use Rattle.nts_unify.specs.declared.contents.Variable.{Variable}
+use Rattle.nts_unify.specs.Entries.{Entries, added}
+use Rattle.nts_unify.specs.Roots.{IsSubRoot}
 
 -- of this universe, and nothing is known of it
 abbrev pub unset_variable : VariableKind → ℕ → Variable

@@ -3,9 +3,9 @@ use Rattle.std.specs.Prelude.{◌≡◌, ℕ, ◌<◌, List, [], ◌∷◌, ◌+
 use Rattle.nts_model.specs.Trees.{Tree}
 use Rattle.nts_model.specs.Contents.{Content}
 use Rattle.nts_model.specs.Holding.{AreOne}
-use Rattle.nts_terms.specs.Growth.{tree_at}
+use Rattle.nts_store.specs.Growth.{tree_at}
 use Rattle.nts_terms.specs.declared.handles.Ty.{Ty}
-use Rattle.nts_table.specs.declared.contents.HiddenType.{HiddenType}
+use Rattle.nts_unify.specs.declared.contents.HiddenType.{HiddenType}
 
 -- both are hidden behind one alias, under the table's values
 pub record HasAliasOf (ts : List Tree) (c : Content) (old h : HiddenType) : Type 0 where

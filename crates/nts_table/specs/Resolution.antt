@@ -6,10 +6,11 @@ use Rattle.nts_model.specs.Contents.{Content}
 use Rattle.nts_model.specs.Resolving.{resolved, deeply_resolved, Knows, IsSound}
 use Rattle.nts_model.proofs.Resolved.{resolved-empty, resolved-more, deeply_resolved-empty}
 use Rattle.nts_model.proofs.Kept.{kind_of-resolved, kind_of-deeply_resolved}
-use Rattle.nts_terms.specs.Growth.{Extends}
-use Rattle.nts_table.specs.Entries.{Table}
-use Rattle.nts_table.specs.Reading.{content_of, IsTable}
-use Rattle.nts_table.specs.Lawful.{content_of-extended}
+use Rattle.nts_store.specs.Growth.{Extends}
+use Rattle.nts_table.specs.Tables.{Table}
+use Rattle.nts_unify.specs.Reading.{content_of}
+use Rattle.nts_table.specs.Tables.{IsTable}
+use Rattle.nts_unify.specs.Lawful.{content_of-extended}
 
 -- the tree under the values; region variables are replaced by their roots, or stay
 abbrev pub resolved_to : Bool → Content → Tree → Tree

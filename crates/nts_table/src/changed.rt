@@ -1,13 +1,12 @@
 //! Whether something became known of a variable.
 ghost use Rattle.std.specs.Prelude.{◌≡◌, true, false};
-ghost use Rattle.nts_terms.specs.Growth.{tree_at};
+ghost use Rattle.nts_store.specs.Growth.{tree_at};
 ghost use Rattle.nts_terms.specs.Handles.{HoldsArg};
-ghost use Rattle.nts_table.specs.Unchanged.{IsUnchanged};
+ghost use Rattle.nts_unify.specs.Unchanged.{IsUnchanged};
 
-use crate::contents::State;
 use crate::infer_ctxt::InferCtxt;
-use crate::named::named_variable;
 use nts_terms::{Cx, GenericArg};
+use nts_unify::{State, named_variable};
 
 impl InferCtxt {
     /// Whether the argument is a variable that the table lacks, or of which more is known than that it

@@ -1,13 +1,14 @@
 //! What is known of the classes of variables.
 ghost use Rattle.std.specs.Prelude.{◌≡◌, ◌<◌, length, List, OnOk, OnErr, IsOkUnless};
 ghost use Rattle.nts_model.specs.Trees.{Tree};
-ghost use Rattle.nts_table.specs.Reading.{LinksDescend, IsTable};
-ghost use Rattle.nts_table.specs.Roots.{IsRoot, IsSubRoot, SubRootsJoin};
+ghost use Rattle.nts_unify.specs.Reading.{LinksDescend};
+ghost use Rattle.nts_table.specs.Tables.{IsTable};
+ghost use Rattle.nts_unify.specs.Roots.{IsRoot, IsSubRoot, SubRootsJoin};
 ghost use Rattle.nts_table.specs.Classes.{HasOpenUniverse, HasUniverse};
 
-use crate::contents::State;
 use crate::infer_ctxt::InferCtxt;
-use nts_terms::Fault;
+use nts_store::Fault;
+use nts_unify::State;
 
 impl InferCtxt {
     /// The universe of the root of a type variable, or nothing where the variable has a value.

@@ -2,15 +2,17 @@
 ghost use Rattle.std.specs.Prelude.{◌≡◌, true, OnOk, OnErr, IsOkUnless};
 ghost use Rattle.nts_model.specs.declared.labels.Relation.TheVariants as relation;
 ghost use Rattle.nts_model.specs.Resolving.{Knows};
-ghost use Rattle.nts_terms.specs.Growth.{tree_at};
+ghost use Rattle.nts_store.specs.Growth.{tree_at};
 ghost use Rattle.nts_terms.specs.Handles.{HoldsTy, HoldsRegion};
-ghost use Rattle.nts_table.specs.Reading.{content_of, IsTable, IsConstraint};
-ghost use Rattle.nts_table.specs.Recording.{Records, is_visible};
+ghost use Rattle.nts_unify.specs.Reading.{content_of, IsConstraint};
+ghost use Rattle.nts_table.specs.Tables.{IsTable};
+ghost use Rattle.nts_unify.specs.Recording.{Records, is_visible};
 
-use crate::contents::Constraint;
 use crate::infer_ctxt::InferCtxt;
 use nts_model::Relation;
-use nts_terms::{Cx, Fault, Nodes, Region, Span, Ty, VisibleForLeakCheck};
+use nts_store::{Fault, Nodes};
+use nts_terms::{Cx, Region, Span, Ty, VisibleForLeakCheck};
+use nts_unify::Constraint;
 
 impl InferCtxt {
     /// Records that `b` outlives `a`, unless they are one.

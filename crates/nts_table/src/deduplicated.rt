@@ -1,16 +1,18 @@
 //! The region constraints of a table, as a caller asks for them.
 ghost use Rattle.std.specs.Prelude.{◌≡◌, ◌<◌, List, length, map, slice_get, Some, IfOk, OnOk, IsOkUnless};
-ghost use Rattle.nts_terms.specs.Growth.{Extends};
+ghost use Rattle.nts_store.specs.Growth.{Extends};
 ghost use Rattle.nts_terms.specs.Rest.{KeepsRest};
-ghost use Rattle.nts_table.specs.Reading.{content_of, recorded_of, IsTable, IsConstraint, AreConstraints};
+ghost use Rattle.nts_unify.specs.Reading.{content_of, recorded_of, IsConstraint, AreConstraints};
+ghost use Rattle.nts_table.specs.Tables.{IsTable};
 ghost use Rattle.nts_table.specs.Deduplicated.{resolved_constraint, resolved_constraints, AreNews, said, SidesIn, AllSidesIn, Tells};
 
-use crate::contents::Constraint;
 use crate::infer_ctxt::InferCtxt;
 use crate::resolver::resolve_nodes;
 use indexmap::IndexSet;
 use nts_model::Relation;
-use nts_terms::{Cx, Fault, NodeId, Nodes};
+use nts_store::{Fault, NodeId, Nodes};
+use nts_terms::Cx;
+use nts_unify::Constraint;
 
 /// What a constraint says, whoever sees it.
 #[derive(Clone, Copy, PartialEq, Eq, Hash)]

@@ -5,19 +5,19 @@ ghost use Rattle.nts_model.specs.Contents.{kind_at};
 ghost use Rattle.nts_model.specs.Resolving.{Knows};
 ghost use Rattle.nts_model.specs.Regions.{IsRegion};
 ghost use Rattle.nts_model.specs.Trees.{Tree};
-ghost use Rattle.nts_terms.specs.Growth.{tree_at, IsIn};
+ghost use Rattle.nts_store.specs.Growth.{tree_at, IsIn};
 ghost use Rattle.nts_terms.specs.Handles.{HoldsRegion};
-ghost use Rattle.nts_table.specs.Reading.{content_of, IsTable, LinksDescend};
-ghost use Rattle.nts_table.specs.Recording.{is_visible};
-ghost use Rattle.nts_table.specs.Equating.{Equated, RegionsJoined, RegionsLinked, region_of};
+ghost use Rattle.nts_unify.specs.Reading.{content_of, LinksDescend};
+ghost use Rattle.nts_table.specs.Tables.{IsTable};
+ghost use Rattle.nts_unify.specs.Recording.{is_visible};
+ghost use Rattle.nts_unify.specs.Equating.{Equated, RegionsJoined, RegionsLinked, region_of};
 
 use crate::constraints::is_seen;
-use crate::contents::{Constraint, State, Variable};
 use crate::infer_ctxt::InferCtxt;
-use crate::labels::{names_free_region, region_number};
 use nts_model::Relation;
-use nts_terms::{Cx, Fault, NodeId, Nodes, Region, Span, VisibleForLeakCheck};
-use std::alloc::AllocError;
+use nts_store::{Fault, NodeId, Nodes};
+use nts_terms::{Cx, Region, Span, VisibleForLeakCheck};
+use nts_unify::{Constraint, names_free_region, region_number};
 
 impl InferCtxt {
     /// Makes two regions equal, which are no bound variables: two variables become one, and otherwise
@@ -90,26 +90,6 @@ impl InferCtxt {
                 Err(Fault::Memory)
             }
         }
-    }
-
-    /// Links one root to the other. After an error the universe may be changed.
-    pub(crate) fn link_regions(&mut self, r: usize, s: usize) -> Result<(), AllocError>
-        requires within_r { r < length self.old.entries.variables }
-        requires within_s { s < length self.old.entries.variables }
-        requires apart { r ≡ s → ⊥ }
-        ensures linked { OnOk result (RegionsLinked self.old.entries self.new.entries r s) }
-        ensures saved { self.new.saved ≡ self.old.saved }
-        ensures mode { self.new.mode ≡ self.old.mode }
-        ensures hidden { self.new.entries.hidden ≡ self.old.entries.hidden }
-    {
-        let low = r.min(s);
-        let high = r.max(s);
-        let root = self.variable(low);
-        let linked = self.variable(high);
-        let universe = root.universe.min(linked.universe);
-        self.set(low, Variable { universe, ..root })?;
-        let state = State::Link(low);
-        self.set(high, Variable { state, ..linked })
     }
 }
 

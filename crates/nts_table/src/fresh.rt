@@ -4,18 +4,19 @@ ghost use Rattle.nts_model.specs.declared.labels.Label.TheVariants as labels;
 ghost use Rattle.nts_model.specs.declared.labels.ListHead.TheVariants as heads;
 ghost use Rattle.nts_model.specs.Trees.{node, kind_of};
 ghost use Rattle.nts_model.specs.Resolving.{variable_tree};
-ghost use Rattle.nts_terms.specs.Growth.{tree_at, trees_at, IsIn, AllIn, Extends};
+ghost use Rattle.nts_store.specs.Growth.{tree_at, trees_at, IsIn, AllIn, Extends};
 ghost use Rattle.nts_terms.specs.Handles.{HoldsArg, HoldsArgs};
 ghost use Rattle.nts_terms.specs.Rest.{KeepsRest};
-ghost use Rattle.nts_table.specs.Entries.{added};
-ghost use Rattle.nts_table.specs.Reading.{IsTable};
+ghost use Rattle.nts_unify.specs.Entries.{added};
+ghost use Rattle.nts_table.specs.Tables.{IsTable};
 ghost use Rattle.nts_table.specs.Making.{new_variable};
 ghost use Rattle.nts_table.specs.Fresh.{variable_kind, with_fresh, fresh_row, IsFreshLike};
 
-use crate::contents::{State, Variable};
 use crate::infer_ctxt::InferCtxt;
 use nts_model::{Label, Leaf, ListHead, Sort, VariableKind};
-use nts_terms::{Cx, Fault, GenericArg, GenericArgKind, GenericArgs, NodeId, Span};
+use nts_store::{Fault, NodeId};
+use nts_terms::{Cx, GenericArg, GenericArgKind, GenericArgs, Span};
+use nts_unify::{State, Variable};
 
 impl InferCtxt {
     /// New variables of these sorts, in their order.

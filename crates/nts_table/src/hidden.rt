@@ -1,16 +1,18 @@
 //! Hidden types of aliases.
 ghost use Rattle.std.specs.Prelude.{◌≡◌, true, false, IfOk, OnOk, OnErr, IsOkUnless};
 ghost use Rattle.nts_model.specs.Resolving.{Knows};
-ghost use Rattle.nts_terms.specs.Growth.{tree_at, Extends};
+ghost use Rattle.nts_store.specs.Growth.{tree_at, Extends};
 ghost use Rattle.nts_terms.specs.Handles.{HoldsTy, HoldsArgs};
 ghost use Rattle.nts_terms.specs.Rest.{KeepsRest};
-ghost use Rattle.nts_table.specs.Reading.{content_of, IsHiddenType, IsTable};
+ghost use Rattle.nts_unify.specs.Reading.{content_of, IsHiddenType};
+ghost use Rattle.nts_table.specs.Tables.{IsTable};
 ghost use Rattle.nts_table.specs.Registering.{Registers, IsPlace};
 
-use crate::contents::HiddenType;
 use crate::infer_ctxt::InferCtxt;
 use crate::resolver::resolve_nodes;
-use nts_terms::{AliasId, AliasTerm, Cx, Fault, Nodes, Span, Ty};
+use nts_store::{Fault, Nodes};
+use nts_terms::{AliasId, AliasTerm, Cx, Span, Ty};
+use nts_unify::HiddenType;
 use std::alloc::{AllocError, Global};
 
 impl InferCtxt {

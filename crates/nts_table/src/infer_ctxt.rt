@@ -1,12 +1,15 @@
-//! The table and its snapshots.
+//! The table of inference variables and its snapshots.
 ghost use Rattle.std.specs.Prelude.{◌≡◌, ◌<◌, ◌+◌, ◌++◌, ◌∷◌, [], length, slice_get, OnOk, OnErr, IfOk, Some};
 ghost use Rattle.std.specs.Prelude.{List};
 ghost use Rattle.nts_model.specs.Trees.{Tree};
-ghost use Rattle.nts_table.specs.Reading.{IsTable};
-ghost use Rattle.nts_table.specs.Entries.{Entries, Table, added, with_variable, bound, constrained, moved, registered, with_hidden};
+ghost use Rattle.nts_table.specs.Tables.{Table, IsTable};
+ghost use Rattle.nts_unify.specs.Entries.{Entries, added, with_variable, constrained, moved, registered, with_hidden};
+ghost use Rattle.nts_unify.specs.Reading.{LinksDescend};
+ghost use Rattle.nts_unify.specs.Roots.{IsRoot, IsSubRoot, SubRootsJoin};
+ghost use Rattle.nts_unify.specs.Equating.{RegionsLinked};
 
-use crate::contents::{Change, Constraint, Contents, HiddenType, Variable};
 use nts_terms::TypingMode;
+use nts_unify::{Constraint, HiddenType, InferCtxtInner, Snapshot, Variable};
 use std::alloc::{AllocError, Global};
 use std::marker::Model;
 
@@ -15,28 +18,15 @@ use std::marker::Model;
 #[derive(Drop)]
 pub struct InferCtxt {
     mode: TypingMode,
-    contents: Contents,
-    log: Vec<Change>,
-    snapshots: Vec<usize>,
+    pub(crate) inner: InferCtxtInner,
 }
 
 impl Model for InferCtxt {
-    ghost use Rattle.nts_table.specs.Entries.{Table};
+    ghost use Rattle.nts_table.specs.Tables.{Table};
 
     ghost Value = { Table };
 
-    ghost use Rattle.std.specs.Prelude.{length};
-    ghost use Rattle.nts_table.specs.Saved.{saved_of, AreMarks};
-
-    ghost view = { λ t. record { entries = t.contents; saved = saved_of t.contents t.log.items t.snapshots.items; mode = t.mode } };
-
-    ghost invariant = { λ t. AreMarks (length t.log.items) t.snapshots.items };
-}
-
-/// A moment to which the table can go back. Snapshots end last first.
-#[derive(Clone, Copy)]
-pub struct Snapshot {
-    pub depth: usize,
+    ghost view = { λ t. record { entries = t.inner.entries; saved = t.inner.saved; mode = t.mode } };
 }
 
 impl InferCtxt {
@@ -49,9 +39,7 @@ impl InferCtxt {
     {
         InferCtxt {
             mode,
-            contents: Contents::new(alloc),
-            log: Vec::new(alloc),
-            snapshots: Vec::new(alloc),
+            inner: InferCtxtInner::new(alloc),
         }
     }
 
@@ -65,34 +53,34 @@ impl InferCtxt {
     pub fn variable_count(&self) -> usize
         ensures { result ≡ length self.now.entries.variables }
     {
-        self.contents.len()
+        self.inner.variable_count()
     }
 
     pub fn variable(&self, n: usize) -> Variable
         requires { n < length self.now.entries.variables }
         ensures { slice_get self.now.entries.variables n ≡ Some result }
     {
-        self.contents.variable(n)
+        self.inner.variable(n)
     }
 
     pub fn constraint_count(&self) -> usize
         ensures { result ≡ length self.now.entries.constraints }
     {
-        self.contents.constraint_count()
+        self.inner.constraint_count()
     }
 
     pub fn constraint(&self, n: usize) -> Constraint
         requires { n < length self.now.entries.constraints }
         ensures { slice_get self.now.entries.constraints n ≡ Some result }
     {
-        self.contents.constraint(n)
+        self.inner.constraint(n)
     }
 
     /// How many hidden types are registered. It takes no memory.
     pub fn num_opaque_types(&self) -> usize
         ensures { result ≡ length self.now.entries.hidden }
     {
-        self.contents.hidden_count()
+        self.inner.num_opaque_types()
     }
 
     /// The hidden type at a position.
@@ -100,14 +88,14 @@ impl InferCtxt {
         requires { n < length self.now.entries.hidden }
         ensures { slice_get self.now.entries.hidden n ≡ Some result }
     {
-        self.contents.hidden_type(n)
+        self.inner.hidden_type(n)
     }
 
     /// The current universe.
     pub fn universe(&self) -> u32
         ensures { result ≡ self.now.entries.universe }
     {
-        self.contents.universe()
+        self.inner.universe()
     }
 
     pub(crate) fn add(&mut self, variable: Variable) -> Result<usize, AllocError>
@@ -118,14 +106,7 @@ impl InferCtxt {
         ensures hidden { self.new.entries.hidden ≡ self.old.entries.hidden }
         ensures err { OnErr result (self.new ≡ self.old) }
     {
-        self.log.push(Change::Added)?;
-        match self.contents.add(variable) {
-            Ok(v) => Ok(v),
-            Err(error) => {
-                self.log.pop();
-                Err(error)
-            }
-        }
+        self.inner.add(variable)
     }
 
     pub(crate) fn set(&mut self, n: usize, variable: Variable) -> Result<(), AllocError>
@@ -136,29 +117,7 @@ impl InferCtxt {
         ensures hidden { self.new.entries.hidden ≡ self.old.entries.hidden }
         ensures err { OnErr result (self.new ≡ self.old) }
     {
-        let old = self.contents.variable(n);
-        self.log.push(Change::Changed(n, old))?;
-        self.contents.set(n, variable);
-        Ok(())
-    }
-
-    pub(crate) fn bind(&mut self, n: usize, variable: Variable) -> Result<(), AllocError>
-        requires { n < length self.old.entries.variables }
-        ensures entries { OnOk result (self.new.entries ≡ bound self.old.entries n variable) }
-        ensures saved { self.new.saved ≡ self.old.saved }
-        ensures mode { self.new.mode ≡ self.old.mode }
-        ensures hidden { self.new.entries.hidden ≡ self.old.entries.hidden }
-        ensures err { OnErr result (self.new ≡ self.old) }
-    {
-        let old = self.contents.variable(n);
-        self.log.push(Change::Bound(n, old))?;
-        match self.contents.bind(n, variable) {
-            Ok(()) => Ok(()),
-            Err(error) => {
-                self.log.pop();
-                Err(error)
-            }
-        }
+        self.inner.set(n, variable)
     }
 
     pub(crate) fn move_to(&mut self, universe: u32) -> Result<(), AllocError>
@@ -167,10 +126,7 @@ impl InferCtxt {
         ensures mode { self.new.mode ≡ self.old.mode }
         ensures err { OnErr result (self.new ≡ self.old) }
     {
-        let old = self.contents.universe();
-        self.log.push(Change::Moved(old))?;
-        self.contents.move_to(universe);
-        Ok(())
+        self.inner.move_to(universe)
     }
 
     pub fn constrain(&mut self, constraint: Constraint) -> Result<(), AllocError>
@@ -180,14 +136,7 @@ impl InferCtxt {
         ensures hidden { self.new.entries.hidden ≡ self.old.entries.hidden }
         ensures err { OnErr result (self.new ≡ self.old) }
     {
-        self.log.push(Change::Constrained)?;
-        match self.contents.constrain(constraint) {
-            Ok(()) => Ok(()),
-            Err(error) => {
-                self.log.pop();
-                Err(error)
-            }
-        }
+        self.inner.constrain(constraint)
     }
 
     pub(crate) fn register(&mut self, hidden: HiddenType) -> Result<(), AllocError>
@@ -196,14 +145,7 @@ impl InferCtxt {
         ensures mode { self.new.mode ≡ self.old.mode }
         ensures err { OnErr result (self.new ≡ self.old) }
     {
-        self.log.push(Change::Registered)?;
-        match self.contents.register(hidden) {
-            Ok(()) => Ok(()),
-            Err(error) => {
-                self.log.pop();
-                Err(error)
-            }
-        }
+        self.inner.register(hidden)
     }
 
     pub(crate) fn replace(&mut self, n: usize, hidden: HiddenType) -> Result<(), AllocError>
@@ -213,10 +155,7 @@ impl InferCtxt {
         ensures mode { self.new.mode ≡ self.old.mode }
         ensures err { OnErr result (self.new ≡ self.old) }
     {
-        let old = self.contents.hidden_type(n);
-        self.log.push(Change::Replaced(n, old))?;
-        self.contents.replace(n, hidden);
-        Ok(())
+        self.inner.replace(n, hidden)
     }
 
     /// Opens a snapshot.
@@ -227,9 +166,7 @@ impl InferCtxt {
         ensures mode { self.new.mode ≡ self.old.mode }
         ensures err { OnErr result (self.new ≡ self.old) }
     {
-        let depth = self.snapshots.len();
-        self.snapshots.push(self.log.len())?;
-        Ok(Snapshot { depth })
+        self.inner.start_snapshot()
     }
 
     /// Closes the last snapshot and keeps what was done since. It takes no memory.
@@ -239,7 +176,7 @@ impl InferCtxt {
         ensures saved { (c : Entries) × (self.old.saved ≡ self.new.saved ++ c ∷ []) }
         ensures mode { self.new.mode ≡ self.old.mode }
     {
-        self.snapshots.pop();
+        self.inner.commit(snapshot)
     }
 
     /// Closes the last snapshot and restores what stood when it was opened. It takes no memory.
@@ -248,12 +185,51 @@ impl InferCtxt {
         ensures saved { self.old.saved ≡ self.new.saved ++ self.new.entries ∷ [] }
         ensures mode { self.new.mode ≡ self.old.mode }
     {
-        if let Some(mark) = self.snapshots.pop() {
-            while self.log.len() > mark {
-                if let Some(change) = self.log.pop() {
-                    self.contents.undo(change);
-                }
-            }
-        }
+        self.inner.rollback_to(snapshot)
+    }
+
+    /// The root of a variable's class, which has the class's value or none.
+    pub fn root(&self, n: usize) -> usize
+        requires within { n < length self.now.entries.variables }
+        requires descends { LinksDescend self.now.entries }
+        ensures { IsRoot self.now.entries n result }
+    {
+        self.inner.root(n)
+    }
+
+    /// The root of a variable's sub-unification class.
+    pub(crate) fn sub_root(&self, n: usize) -> usize
+        requires within { n < length self.now.entries.variables }
+        requires descends { LinksDescend self.now.entries }
+        ensures { IsSubRoot self.now.entries n result }
+    {
+        self.inner.sub_root(n)
+    }
+
+    /// Makes one sub-unification class of two. Its root is the lower number.
+    pub(crate) fn join_sub_roots(&mut self, x: usize, y: usize) -> Result<(), AllocError>
+        requires within_x { x < length self.old.entries.variables }
+        requires within_y { y < length self.old.entries.variables }
+        requires descends { LinksDescend self.old.entries }
+        ensures joined { OnOk result (SubRootsJoin self.old.entries self.new.entries x y) }
+        ensures saved { self.new.saved ≡ self.old.saved }
+        ensures mode { self.new.mode ≡ self.old.mode }
+        ensures hidden { self.new.entries.hidden ≡ self.old.entries.hidden }
+        ensures err { OnErr result (self.new ≡ self.old) }
+    {
+        self.inner.join_sub_roots(x, y)
+    }
+
+    /// Links one root to the other. After an error the universe may be changed.
+    pub(crate) fn link_regions(&mut self, r: usize, s: usize) -> Result<(), AllocError>
+        requires within_r { r < length self.old.entries.variables }
+        requires within_s { s < length self.old.entries.variables }
+        requires apart { r ≡ s → ⊥ }
+        ensures linked { OnOk result (RegionsLinked self.old.entries self.new.entries r s) }
+        ensures saved { self.new.saved ≡ self.old.saved }
+        ensures mode { self.new.mode ≡ self.old.mode }
+        ensures hidden { self.new.entries.hidden ≡ self.old.entries.hidden }
+    {
+        self.inner.link_regions(r, s)
     }
 }

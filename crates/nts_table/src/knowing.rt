@@ -1,14 +1,15 @@
 //! Whether a term's variables are of a table.
 ghost use Rattle.std.specs.Prelude.{◌≡◌, ◌↔◌, IsTrue, true, false, IfOk, IsOkUnless};
 ghost use Rattle.nts_model.specs.Resolving.{Knows, variable_of};
-ghost use Rattle.nts_terms.specs.Growth.{tree_at, IsIn};
-ghost use Rattle.nts_table.specs.Reading.{content_of};
-ghost use Rattle.nts_table.specs.Knowing.{HasNamed};
+ghost use Rattle.nts_store.specs.Growth.{tree_at, IsIn};
+ghost use Rattle.nts_unify.specs.Reading.{content_of};
+ghost use Rattle.nts_relating.specs.Knowing.{HasNamed};
 
 use crate::infer_ctxt::InferCtxt;
-use crate::named::named_variable;
 use nts_model::Label;
-use nts_terms::{Cx, Fault, LabelTest, NodeId, Nodes, Stored, all_labels};
+use nts_store::{Fault, LabelTest, NodeId, Nodes, all_labels};
+use nts_terms::{Cx, Stored};
+use nts_unify::named_variable;
 use std::alloc::{AllocError, Global};
 
 /// A label names no variable that the table lacks.

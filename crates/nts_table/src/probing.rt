@@ -1,7 +1,7 @@
 //! Trying something out.
 ghost use Rattle.std.specs.Prelude.{◌≡◌, IfOk};
 ghost use Rattle.std.specs.Fn.{FnOnceReturnsAtMut};
-ghost use Rattle.nts_table.specs.Entries.{Table};
+ghost use Rattle.nts_table.specs.Tables.{Table};
 ghost use Rattle.nts_table.specs.Probing.{Answers};
 
 use crate::infer_ctxt::InferCtxt;

@@ -1,22 +1,19 @@
 //! Relating typed values.
-ghost use Rattle.std.specs.Prelude.{◌≡◌, ◌≢◌, [], false, Err, IfOk, OnOk, OnErr};
+ghost use Rattle.std.specs.Prelude.{◌≡◌, ◌≢◌, [], Err, IfOk, OnOk, OnErr};
 ghost use Rattle.nts_model.specs.declared.labels.Variance.TheVariants as variances;
-ghost use Rattle.nts_model.specs.Trees.{Place, is, any_term, any_argument, arguments, a_type, a_region, a_const, any_label, is_alias};
-ghost use Rattle.nts_model.specs.Resolving.{Knows, resolved};
+ghost use Rattle.nts_model.specs.Trees.{Place, is, any_term, any_argument, arguments, a_type, a_region, a_const};
 ghost use Rattle.nts_model.specs.Equations.{AreRelated, AreUnrelated};
-ghost use Rattle.nts_terms.specs.declared.nodes.NodeId.{NodeId};
-ghost use Rattle.nts_terms.specs.Growth.{tree_at, Extends};
-ghost use Rattle.nts_terms.specs.Handles.{Holds};
-ghost use Rattle.nts_terms.specs.Rest.{KeepsRest};
-ghost use Rattle.nts_table.specs.Reading.{content_of, IsTable};
-ghost use Rattle.nts_table.specs.Changing.{IsLater};
+ghost use Rattle.nts_store.specs.declared.nodes.NodeId.{NodeId};
+ghost use Rattle.nts_store.specs.Growth.{tree_at};
+ghost use Rattle.nts_unify.specs.Reading.{content_of};
+ghost use Rattle.nts_table.specs.Tables.{IsTable, IsSide, IsPlainSide, RelatingKeeps};
 
 use crate::infer_ctxt::InferCtxt;
-use crate::relate::relate_nodes;
+use crate::relating_nodes::relate_nodes;
 use nts_model::Variance;
+use nts_store::{EvalError, NodeId};
 use nts_terms::{
-    AliasTerm, Const, Cx, DefId, EvalError, GenericArg, Goal, NodeId, ParamEnv, Region, Span, Term,
-    TraitRef, Ty,
+    AliasTerm, Const, Cx, DefId, GenericArg, Goal, ParamEnv, Region, Span, Term, TraitRef, Ty,
 };
 
 /// What can be related: two terms of one sort, or two lists of arguments of one alias or trait.
@@ -181,23 +178,13 @@ impl InferCtxt {
     ) -> Result<Vec<Goal>, EvalError>
         requires table { IsTable cx.old.nodes self.old }
         requires invariant { variance ≡ variances.Invariant }
-        requires left { Holds T.place cx.old.nodes (T.id lhs) }
-        requires right { Holds T.place cx.old.nodes (T.id rhs) }
-        requires left_known { Knows (content_of cx.old.nodes self.old.entries) (tree_at cx.old.nodes (T.id lhs)) }
-        requires right_known { Knows (content_of cx.old.nodes self.old.entries) (tree_at cx.old.nodes (T.id rhs)) }
-        requires left_aliases { any_label is_alias (resolved (content_of cx.old.nodes self.old.entries) (tree_at cx.old.nodes (T.id lhs))) ≡ false }
-        requires right_aliases { any_label is_alias (resolved (content_of cx.old.nodes self.old.entries) (tree_at cx.old.nodes (T.id rhs))) ≡ false }
+        requires left { IsPlainSide T.place cx.old.nodes self.old (T.id lhs) }
+        requires right { IsPlainSide T.place cx.old.nodes self.old (T.id rhs) }
         ensures goals { IfOk result (λ gs. gs.items ≡ []) }
         ensures heads { OnOk result (T.head lhs ≡ T.head rhs) }
         ensures related { OnOk result (AreRelated (content_of cx.old.nodes self.old.entries) (content_of cx.new.nodes self.new.entries) (tree_at cx.old.nodes (T.id lhs)) (tree_at cx.old.nodes (T.id rhs))) }
         ensures no { result ≡ Err EvalError.NoSolution → T.head lhs ≡ T.head rhs → AreUnrelated (content_of cx.old.nodes self.old.entries) (tree_at cx.old.nodes (T.id lhs)) (tree_at cx.old.nodes (T.id rhs)) }
-        ensures extends { Extends cx.old.nodes cx.new.nodes }
-        ensures rest { KeepsRest cx.old cx.new }
-        ensures table { IsTable cx.new.nodes self.new }
-        ensures saved { self.new.saved ≡ self.old.saved }
-        ensures mode { self.new.mode ≡ self.old.mode }
-        ensures hidden { self.new.entries.hidden ≡ self.old.entries.hidden }
-        ensures later { IsLater (content_of cx.old.nodes self.old.entries) (content_of cx.new.nodes self.new.entries) }
+        ensures keeps { RelatingKeeps cx.old cx.new self.old self.new }
         ensures err { OnErr result (self.new ≡ self.old) }
         ensures full { result ≢ Err EvalError.Full }
     {
@@ -216,20 +203,12 @@ impl InferCtxt {
         _span: Span,
     ) -> Result<(), EvalError>
         requires table { IsTable cx.old.nodes self.old }
-        requires left { Holds T.place cx.old.nodes (T.id lhs) }
-        requires right { Holds T.place cx.old.nodes (T.id rhs) }
-        requires left_known { Knows (content_of cx.old.nodes self.old.entries) (tree_at cx.old.nodes (T.id lhs)) }
-        requires right_known { Knows (content_of cx.old.nodes self.old.entries) (tree_at cx.old.nodes (T.id rhs)) }
+        requires left { IsSide T.place cx.old.nodes self.old (T.id lhs) }
+        requires right { IsSide T.place cx.old.nodes self.old (T.id rhs) }
         ensures heads { OnOk result (T.head lhs ≡ T.head rhs) }
         ensures related { OnOk result (AreRelated (content_of cx.old.nodes self.old.entries) (content_of cx.new.nodes self.new.entries) (tree_at cx.old.nodes (T.id lhs)) (tree_at cx.old.nodes (T.id rhs))) }
         ensures no { result ≡ Err EvalError.NoSolution → T.head lhs ≡ T.head rhs → AreUnrelated (content_of cx.old.nodes self.old.entries) (tree_at cx.old.nodes (T.id lhs)) (tree_at cx.old.nodes (T.id rhs)) }
-        ensures extends { Extends cx.old.nodes cx.new.nodes }
-        ensures rest { KeepsRest cx.old cx.new }
-        ensures table { IsTable cx.new.nodes self.new }
-        ensures saved { self.new.saved ≡ self.old.saved }
-        ensures mode { self.new.mode ≡ self.old.mode }
-        ensures hidden { self.new.entries.hidden ≡ self.old.entries.hidden }
-        ensures later { IsLater (content_of cx.old.nodes self.old.entries) (content_of cx.new.nodes self.new.entries) }
+        ensures keeps { RelatingKeeps cx.old cx.new self.old self.new }
         ensures err { OnErr result (self.new ≡ self.old) }
         ensures full { result ≢ Err EvalError.Full }
     {

@@ -3,17 +3,17 @@ ghost use Rattle.std.specs.Prelude.{◌≡◌, ◌≢◌, true, Some, IfOk};
 ghost use Rattle.nts_model.specs.declared.labels.VariableKind.TheVariants as variable;
 ghost use Rattle.nts_model.specs.Contents.{kind_at};
 ghost use Rattle.nts_model.specs.Resolving.{variable_tree, Knows};
-ghost use Rattle.nts_terms.specs.Growth.{tree_at, IsIn, Extends};
-ghost use Rattle.nts_terms.specs.Replacement.{IsStep};
-ghost use Rattle.nts_table.specs.Reading.{content_of, IsTable};
-ghost use Rattle.nts_table.specs.Lawful.{IsTable-extended};
+ghost use Rattle.nts_store.specs.Growth.{tree_at, IsIn, Extends};
+ghost use Rattle.nts_store.specs.Replacement.{IsStep};
+ghost use Rattle.nts_unify.specs.Reading.{content_of};
+ghost use Rattle.nts_table.specs.Tables.{IsTable};
+ghost use Rattle.nts_table.specs.TableLaws.{IsTable-extended};
 ghost use Rattle.nts_table.specs.Resolution.{Resolution, resolution, CanResolve, resolution_of, resolved_to, IsResolved, resolution-kept, resolution_of-empty, resolution_of-more, CanResolve-more, resolution_of-kind};
 
-use crate::contents::State;
 use crate::infer_ctxt::InferCtxt;
-use crate::named::named_variable;
 use nts_model::{Label, Leaf, VariableKind};
-use nts_terms::{NodeId, Nodes, Replacer, Step, replace};
+use nts_store::{NodeId, Nodes, Replacer, Step, replace};
+use nts_unify::{State, named_variable};
 use std::alloc::{AllocError, Global};
 
 #[derive(Drop)]

@@ -2,14 +2,16 @@
 ghost use Rattle.std.specs.Prelude.{◌≡◌, IfOk, IsOkUnless};
 ghost use Rattle.nts_model.specs.Trees.{any_label, is_alias};
 ghost use Rattle.nts_model.specs.Resolving.{Knows, resolved};
-ghost use Rattle.nts_terms.specs.Growth.{tree_at, IsIn, Extends};
+ghost use Rattle.nts_store.specs.Growth.{tree_at, IsIn, Extends};
 ghost use Rattle.nts_terms.specs.Handles.{Holds};
 ghost use Rattle.nts_terms.specs.Rest.{KeepsRest};
-ghost use Rattle.nts_table.specs.Reading.{content_of, IsTable};
+ghost use Rattle.nts_unify.specs.Reading.{content_of};
+ghost use Rattle.nts_table.specs.Tables.{IsTable};
 
 use crate::infer_ctxt::InferCtxt;
 use crate::resolver::resolve_nodes;
-use nts_terms::{Cx, Fault, Stored};
+use nts_store::Fault;
+use nts_terms::{Cx, Stored};
 
 impl InferCtxt {
     /// The term with all variables but those of regions replaced by value or root.

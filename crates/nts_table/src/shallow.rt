@@ -4,17 +4,18 @@ ghost use Rattle.nts_model.specs.declared.labels.VariableKind.TheVariants as kin
 ghost use Rattle.nts_model.specs.Trees.{kind_of, of_sort, sort_of_variable};
 ghost use Rattle.nts_model.specs.Contents.{kind_at};
 ghost use Rattle.nts_model.specs.Resolving.{Knows};
-ghost use Rattle.nts_terms.specs.Growth.{tree_at, IsIn, Extends};
+ghost use Rattle.nts_store.specs.Growth.{tree_at, IsIn, Extends};
 ghost use Rattle.nts_terms.specs.Handles.{HoldsTy, HoldsConst, HoldsRegion};
 ghost use Rattle.nts_terms.specs.Rest.{KeepsRest};
-ghost use Rattle.nts_table.specs.Reading.{content_of, IsTable};
+ghost use Rattle.nts_unify.specs.Reading.{content_of};
+ghost use Rattle.nts_table.specs.Tables.{IsTable};
 ghost use Rattle.nts_table.specs.Classes.{shallow_variable, shallowly_resolved};
 
-use crate::contents::State;
 use crate::infer_ctxt::InferCtxt;
-use crate::named::named_variable;
 use nts_model::{Label, Leaf, VariableKind};
-use nts_terms::{Const, Cx, Fault, NodeId, Nodes, Region, Ty};
+use nts_store::{Fault, NodeId, Nodes};
+use nts_terms::{Const, Cx, Region, Ty};
+use nts_unify::{State, named_variable};
 use std::alloc::AllocError;
 
 impl InferCtxt {

@@ -3,17 +3,19 @@ ghost use Rattle.std.specs.Prelude.{List, ◌≡◌, ◌≢◌, ◌<◌, ◌+◌
 ghost use Rattle.nts_model.specs.declared.labels.VariableKind.TheVariants as kind;
 ghost use Rattle.nts_model.specs.Trees.{Tree};
 ghost use Rattle.nts_model.specs.Resolving.{variable_tree};
-ghost use Rattle.nts_terms.specs.Growth.{tree_at, Extends};
+ghost use Rattle.nts_store.specs.Growth.{tree_at, Extends};
 ghost use Rattle.nts_terms.specs.Handles.{HoldsTy, HoldsConst, HoldsRegion, HoldsArg};
 ghost use Rattle.nts_terms.specs.Rest.{KeepsRest};
-ghost use Rattle.nts_table.specs.Entries.{Table, added, moved};
-ghost use Rattle.nts_table.specs.Reading.{IsTable};
+ghost use Rattle.nts_unify.specs.Entries.{added, moved};
+ghost use Rattle.nts_table.specs.Tables.{Table};
+ghost use Rattle.nts_table.specs.Tables.{IsTable};
 ghost use Rattle.nts_table.specs.Making.{unset_variable, new_variable, IsAddedTo};
 
-use crate::contents::{State, Variable};
 use crate::infer_ctxt::InferCtxt;
 use nts_model::{Label, Leaf, VariableKind};
-use nts_terms::{Const, ConstKind, Cx, Fault, GenericArg, InferTy, Region, RegionKind, Ty, TyKind};
+use nts_store::Fault;
+use nts_terms::{Const, ConstKind, Cx, GenericArg, InferTy, Region, RegionKind, Ty, TyKind};
+use nts_unify::{State, Variable};
 
 impl InferCtxt {
     /// A new type variable of the current universe.

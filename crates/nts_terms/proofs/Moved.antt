@@ -1,7 +1,7 @@
 -- What holds of a store holds of one that it grew into.
 use Rattle.std.proofs.Common.{◌≡◌, List, Option, Some, None, refl, ◌∙◌}
 use Rattle.nts_model.specs.Trees.{Tree, Place, is, any_term, any_argument, a_type, a_region, a_const, FitsPlace, kind_of, NodeKind, of_sort, arguments, environment, bound_predicate, statement, sort_list, one_sort}
-use Rattle.nts_terms.specs.declared.nodes.NodeId.{NodeId}
+use Rattle.nts_store.specs.declared.nodes.NodeId.{NodeId}
 use Rattle.nts_terms.specs.declared.handles.Binder.{Binder}
 use Rattle.nts_terms.specs.declared.kinds.TyKind.{TyKind}
 use Rattle.nts_terms.specs.declared.kinds.TyKind.TheVariants as ty
@@ -12,13 +12,13 @@ use Rattle.nts_terms.specs.declared.kinds.ClauseKind.TheVariants as clause
 use Rattle.nts_terms.specs.declared.kinds.PredicateKind.{PredicateKind}
 use Rattle.nts_terms.specs.declared.kinds.PredicateKind.TheVariants as predicate
 use Rattle.nts_terms.specs.declared.cx.Cx.{Cx}
-use Rattle.nts_terms.specs.Growth.{tree_at, IsIn, Extends}
+use Rattle.nts_store.specs.Growth.{tree_at, IsIn, Extends}
 use Rattle.nts_terms.specs.Handles.{Holds}
 use Rattle.nts_terms.specs.Kinds.{one, two, tree_of_ty, TyFits, tree_of_const, ConstFits, tree_of_clause, ClauseFits, tree_of_statement, StatementFits, tree_of_predicate, PredicateFits}
 use Rattle.nts_terms.specs.Signatures.{Declared, AreDeclared}
 use Rattle.nts_terms.specs.declared.handles.DefId.{DefId}
 use Rattle.nts_terms.specs.Rest.{KeepsRest}
-use Rattle.nts_terms.proofs.Growing.{Extends-refl, Extends-trans, IsIn-extended}
+use Rattle.nts_store.proofs.Growing.{Extends-refl, Extends-trans, IsIn-extended}
 
 pub KeepsRest-refl : (c : Cx) → KeepsRest c c
 KeepsRest-refl c = record { declarations = refl; limit = refl; fast_paths = refl }

@@ -2,7 +2,7 @@
 use Rattle.std.proofs.Common.{◌≡◌, ◌↔◌, [], ◌∷◌, Some, refl, ap, arith}
 use Rattle.nts_model.specs.Trees.{Tree, empty, more, node, row_length, row_at, HavePlaces, Place, NodeKind, of_sort, arguments, environment, bound_predicate, statement, sort_list, one_sort}
 use Rattle.nts_model.specs.declared.labels.Sort.{Sort}
-use Rattle.nts_terms.specs.Handles.{sort_of_kind}
+use Rattle.nts_store.specs.Sorts.{sort_of_kind}
 use Rattle.nts_terms.specs.Kinds.{IsOne, AreTwo}
 
 pub no_places : (c : Tree) → HavePlaces [] c → c ≡ empty

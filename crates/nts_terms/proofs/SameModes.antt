@@ -5,11 +5,11 @@ use lib.Pointwise.{pointwise}
 use Rattle.nts_model.specs.Rules.{Mode, coherence, analysis, borrowck, post_borrowck, post_analysis, erased}
 use Rattle.nts_terms.specs.declared.handles.AliasId.{AliasId}
 use Rattle.nts_terms.specs.contracts.handles.AliasIdPartialEq.TheImpl as id_eq
-use Rattle.nts_terms.specs.declared.sources.TypingMode.{TypingMode}
-use Rattle.nts_terms.specs.declared.sources.TypingMode.TheVariants as mode
-use Rattle.nts_terms.specs.contracts.sources.TypingModePartialEq.TheImpl as mode_eq
+use Rattle.nts_terms.specs.declared.modes.TypingMode.{TypingMode}
+use Rattle.nts_terms.specs.declared.modes.TypingMode.TheVariants as mode
+use Rattle.nts_terms.specs.contracts.modes.TypingModePartialEq.TheImpl as mode_eq
 use Rattle.nts_terms.specs.Modes.{numbers_of, mode_of}
-use Rattle.nts_terms.proofs.Equal.{both_true}
+use Rattle.nts_store.proofs.Equal.{both_true}
 
 same_alias : (a b : AliasId) → IsTrue (id_eq.ghosts.eq a b) ↔ (a.number ≡ b.number)
 same_alias a b = search rules

@@ -4,15 +4,16 @@ use Rattle.nts_model.specs.declared.labels.Label.{Label}
 use Rattle.nts_model.specs.declared.labels.Label.TheVariants as label
 use Rattle.nts_model.specs.declared.labels.ListHead.TheVariants as list_head
 use Rattle.nts_model.specs.Trees.{Tree, empty, more, node, children, row_length, row_at, AllFit, Place, is, any_argument, FitsPlace, kind_of, kind_of_label, arguments, environment, bound_predicate, sort_list, one_sort, shape, each, NodeKind, row_push}
-use Rattle.nts_terms.specs.declared.nodes.NodeId.{NodeId}
+use Rattle.nts_store.specs.declared.nodes.NodeId.{NodeId}
 use Rattle.nts_terms.specs.declared.handles.GenericArg.{GenericArg}
 use Rattle.nts_terms.specs.declared.handles.Predicate.{Predicate}
-use Rattle.nts_terms.specs.Growth.{tree_at, trees_at, IsIn, AllIn, Extends}
+use Rattle.nts_store.specs.Growth.{tree_at, trees_at, IsIn, AllIn, Extends}
 use Rattle.nts_terms.specs.Kinds.{tree_of_sort, row_of_sorts}
-use Rattle.nts_terms.proofs.Growing.{Extends-refl, Extends-trans, AllIn-push, AllIn-extended, trees_at-push, trees_at-extended}
+use Rattle.nts_store.proofs.Growing.{Extends-refl, Extends-trans, AllIn-push, AllIn-extended, trees_at-push, trees_at-extended}
 use Rattle.std.proofs.lemmas.List.{take_more}
 use Rattle.nts_model.specs.declared.labels.Sort.{Sort}
-use Rattle.nts_terms.specs.Handles.{Holds, HoldsArg, HoldsPredicate, ChildrenFit}
+use Rattle.nts_terms.specs.Handles.{Holds, HoldsArg, HoldsPredicate}
+use Rattle.nts_store.specs.Sorts.{ChildrenFit}
 
 all_rest : {X : Type 0} (P : X → Type 0) (x : X) (xs : List X) → All P (x ∷ xs) → All P xs
 all_rest P x xs h = λ k d l. h (suc k) d (omega arith)

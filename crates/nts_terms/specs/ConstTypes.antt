@@ -8,7 +8,7 @@ use Rattle.nts_model.specs.declared.labels.Leaf.TheVariants as leaf
 use Rattle.nts_model.specs.declared.labels.BoundIndex.TheVariants as index
 use Rattle.nts_model.specs.Substitutions.{StaysItself}
 use Rattle.nts_model.specs.Trees.{Tree, IsClosed}
-use Rattle.nts_terms.specs.Labels.{AllLabels}
+use Rattle.nts_store.specs.Labels.{AllLabels}
 
 -- no inference variable, parameter or placeholder: a region that is always itself
 abbrev pub IsFixedLeaf : Leaf → Type 0

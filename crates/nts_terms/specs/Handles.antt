@@ -1,8 +1,7 @@
 -- What a handle stands for.
-use Rattle.std.specs.Prelude.{List, Option, Some, None}
-use Rattle.nts_model.specs.declared.labels.Sort.{Sort}
-use Rattle.nts_model.specs.Trees.{Tree, empty, more, node, shape, Meets, kind_of, NodeKind, of_sort, arguments, environment, bound_predicate, sort_list, Place, is, any_term, any_argument, FitsPlace, a_type, a_region, a_const}
-use Rattle.nts_terms.specs.declared.nodes.NodeId.{NodeId}
+use Rattle.std.specs.Prelude.{List}
+use Rattle.nts_model.specs.Trees.{Tree, kind_of, arguments, environment, bound_predicate, sort_list, Place, is, any_term, any_argument, FitsPlace, a_type, a_region, a_const}
+use Rattle.nts_store.specs.declared.nodes.NodeId.{NodeId}
 use Rattle.nts_terms.specs.declared.handles.Ty.{Ty}
 use Rattle.nts_terms.specs.declared.handles.Region.{Region}
 use Rattle.nts_terms.specs.declared.handles.Const.{Const}
@@ -11,8 +10,9 @@ use Rattle.nts_terms.specs.declared.handles.GenericArg.{GenericArg}
 use Rattle.nts_terms.specs.declared.handles.GenericArgs.{GenericArgs}
 use Rattle.nts_terms.specs.declared.handles.Predicate.{Predicate}
 use Rattle.nts_terms.specs.declared.handles.ParamEnv.{ParamEnv}
+use Rattle.nts_terms.specs.declared.handles.Goal.{Goal}
 use Rattle.nts_terms.specs.declared.handles.BoundVars.{BoundVars}
-use Rattle.nts_terms.specs.Growth.{tree_at, IsIn}
+use Rattle.nts_store.specs.Growth.{tree_at, IsIn}
 
 -- a term of the store that may stand at such a place
 pub record Holds (p : Place) (ts : List Tree) (n : NodeId) : Type 0 where
@@ -46,13 +46,7 @@ HoldsPredicate ts p = Holds (is bound_predicate) ts p.node
 abbrev pub HoldsEnv : List Tree → ParamEnv → Type 0
 HoldsEnv ts e = Holds (is environment) ts e.node
 
--- the sort of a term, if it is a type, a region or a const
-abbrev pub sort_of_kind : NodeKind → Option Sort
-sort_of_kind (of_sort s) = Some s
-sort_of_kind k = None
-
--- each child may stand at its place
-abbrev pub ChildrenFit : Tree → Type 0
-ChildrenFit empty = Unit {0}
-ChildrenFit (more a b) = Unit {0}
-ChildrenFit (node l c) = Meets (shape l) c
+-- a goal of the store
+pub record HoldsGoal (ts : List Tree) (g : Goal) : Type 0 where
+  pub env : HoldsEnv ts g.param_env
+  pub predicate : HoldsPredicate ts g.predicate

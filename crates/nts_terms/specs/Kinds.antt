@@ -13,7 +13,7 @@ use Rattle.nts_model.specs.declared.labels.ClauseHead.TheVariants as clause_head
 use Rattle.nts_model.specs.declared.labels.PredicateHead.TheVariants as predicate_head
 use Rattle.nts_model.specs.declared.labels.ListHead.TheVariants as list_head
 use Rattle.nts_model.specs.Trees.{Tree, empty, more, node}
-use Rattle.nts_terms.specs.declared.nodes.NodeId.{NodeId}
+use Rattle.nts_store.specs.declared.nodes.NodeId.{NodeId}
 use Rattle.nts_terms.specs.declared.handles.GenericArg.{GenericArg}
 use Rattle.nts_terms.specs.declared.handles.Predicate.{Predicate}
 use Rattle.nts_terms.specs.declared.handles.Binder.{Binder}
@@ -33,7 +33,7 @@ use Rattle.nts_terms.specs.declared.kinds.ClauseKind.{ClauseKind}
 use Rattle.nts_terms.specs.declared.kinds.ClauseKind.TheVariants as clause
 use Rattle.nts_terms.specs.declared.kinds.PredicateKind.{PredicateKind}
 use Rattle.nts_terms.specs.declared.kinds.PredicateKind.TheVariants as predicate
-use Rattle.nts_terms.specs.Growth.{tree_at, trees_at}
+use Rattle.nts_store.specs.Growth.{tree_at, trees_at}
 use Rattle.nts_terms.specs.Handles.{HoldsTy, HoldsRegion, HoldsConst, HoldsTerm, HoldsArgs, HoldsVars}
 
 -- there is one child, there are two

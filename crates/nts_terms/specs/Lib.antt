@@ -1,17 +1,6 @@
-pub mod Facts
-pub mod Growth
-pub mod Labels
-pub mod Store
-pub mod Certainties
-pub mod Errors
 pub mod Handles
 pub mod Kinds
 pub mod Signatures
 pub mod Rest
-pub mod Replacement
-pub mod Kept
-pub mod Filled
-pub mod Formed
 pub mod ConstTypes
-pub mod Folding
 pub mod Modes

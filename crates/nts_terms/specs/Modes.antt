@@ -2,8 +2,8 @@
 use Rattle.std.specs.Prelude.{ℕ, List, map}
 use Rattle.nts_model.specs.Rules.{Mode, coherence, analysis, borrowck, post_borrowck, post_analysis, erased}
 use Rattle.nts_terms.specs.declared.handles.AliasId.{AliasId}
-use Rattle.nts_terms.specs.declared.sources.TypingMode.{TypingMode}
-use Rattle.nts_terms.specs.declared.sources.TypingMode.TheVariants as mode
+use Rattle.nts_terms.specs.declared.modes.TypingMode.{TypingMode}
+use Rattle.nts_terms.specs.declared.modes.TypingMode.TheVariants as mode
 
 abbrev pub numbers_of : List AliasId → List ℕ
 numbers_of ids = map (λ i. i.number) ids

@@ -1,9 +1,15 @@
 -- What stays of a context where its nodes grow.
 use Rattle.std.specs.Prelude.{◌≡◌}
 use Rattle.nts_terms.specs.declared.cx.Cx.{Cx}
+use Rattle.nts_store.specs.Growth.{Extends}
 
 -- all but the nodes
 pub record KeepsRest (old new : Cx) : Type 0 where
   pub declarations : new.declarations ≡ old.declarations
   pub limit : new.recursion_limit ≡ old.recursion_limit
   pub fast_paths : new.disable_fast_paths ≡ old.disable_fast_paths
+
+-- the context has more terms at most
+pub record Grows (old new : Cx) : Type 0 where
+  pub extends : Extends old.nodes new.nodes
+  pub rest : KeepsRest old new

@@ -17,7 +17,7 @@ use Rattle.nts_terms.specs.declared.kinds.PredicateKind.TheVariants as predicate
 use Rattle.nts_terms.specs.declared.handles.TraitId.{TraitId}
 use Rattle.nts_terms.specs.declared.handles.ConstId.{ConstId}
 use Rattle.nts_terms.specs.declared.handles.Ty.{Ty}
-use Rattle.nts_terms.specs.Growth.{tree_at}
+use Rattle.nts_store.specs.Growth.{tree_at}
 
 pub record CtorSorts : Type 0 where
   pub sorts : List Sort

@@ -1,14 +1,13 @@
 //! What types a const may be declared with.
 ghost use Rattle.std.specs.Prelude.{◌↔◌, IfOk, IsOkUnless, IsTrue};
-ghost use Rattle.nts_terms.specs.Growth.{tree_at};
+ghost use Rattle.nts_store.specs.Growth.{tree_at};
 ghost use Rattle.nts_terms.specs.Handles.{HoldsTy};
 ghost use Rattle.nts_terms.specs.ConstTypes.{IsConstType, MayStand};
 
 use crate::cx::Cx;
-use crate::fault::Fault;
 use crate::handles::Ty;
-use crate::labels_walk::{LabelTest, all_labels};
 use nts_model::{BoundIndex, FreeRegion, Label, Leaf, Sort};
+use nts_store::{Fault, LabelTest, all_labels};
 
 #[derive(Drop)]
 struct OfArguments<'a> {

@@ -1,16 +1,15 @@
 //! The context: terms, declarations and limits.
 ghost use Rattle.std.specs.Prelude.{◌≡◌, ◌↔◌, [], length, true, false, IsTrue, IfOk, OnOk, OnErr, IsOkUnless};
-ghost use Rattle.nts_terms.specs.Growth.{tree_at};
+ghost use Rattle.nts_store.specs.Growth.{tree_at};
 ghost use Rattle.nts_terms.specs.Handles.{HoldsTy};
 ghost use Rattle.nts_terms.specs.Signatures.{nothing_declared, with_ctor, with_trait, with_alias, with_const};
 ghost use Rattle.nts_terms.specs.ConstTypes.{IsConstType};
 ghost use Rattle.nts_terms.specs.Rest.{KeepsRest};
 
 use crate::declarations::{AliasKind, Declarations};
-use crate::fault::Fault;
 use crate::handles::{AliasId, ConstId, CtorId, TraitId, Ty};
-use crate::nodes::Nodes;
 use nts_model::{Sort, Variance};
+use nts_store::{Fault, Nodes};
 use std::alloc::Global;
 
 /// The store of terms, what is declared, and the limits of evaluations.

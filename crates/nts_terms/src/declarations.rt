@@ -1,9 +1,9 @@
 //! What is declared, by number.
 ghost use Rattle.std.specs.Prelude.{◌≡◌, ◌++◌, ◌∷◌, [], length, IfOk, OnOk, OnErr, IsOkUnless, MatchOption, Some, None};
 
-use crate::fault::Fault;
 use crate::handles::{AliasId, ConstId, CtorId, DefId, TraitId, Ty};
 use nts_model::{Sort, Variance};
+use nts_store::Fault;
 use std::alloc::Global;
 use std::marker::Model;
 

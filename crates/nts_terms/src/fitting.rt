@@ -1,14 +1,14 @@
 //! Whether arguments are of the sorts that were declared.
 ghost use Rattle.std.specs.Prelude.{◌≡◌, ◌↔◌, Some, IsTrue};
 ghost use Rattle.nts_model.specs.Trees.{children, kind_of, of_sort};
-ghost use Rattle.nts_terms.specs.Growth.{tree_at};
+ghost use Rattle.nts_store.specs.Growth.{tree_at};
 ghost use Rattle.nts_terms.specs.Handles.{HoldsArg, HoldsArgs};
 ghost use Rattle.nts_terms.specs.Signatures.{HaveSorts, AreDeclared};
 
 use crate::cx::Cx;
 use crate::handles::{DefId, GenericArg, GenericArgs};
-use crate::sorts::sort_of;
 use nts_model::Sort;
+use nts_store::sort_of;
 
 impl Cx {
     /// Whether that is declared, and takes arguments of just these sorts.

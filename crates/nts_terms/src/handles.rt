@@ -1,7 +1,7 @@
 //! Handles of the terms of a store, and plain data over them.
 ghost use Rattle.std.specs.Prelude.{◌≡◌};
 
-use crate::nodes::NodeId;
+use nts_store::NodeId;
 
 /// A type.
 #[derive(Clone, Copy, PartialEq, Eq, Hash)]

@@ -1,17 +1,16 @@
 //! What all handles share, and the tests of terms.
 ghost use Rattle.std.specs.Prelude.{◌≡◌, ◌↔◌, ◌≢◌, true, Some, IsTrue};
 ghost use Rattle.nts_model.specs.Trees.{Place, is, any_term, any_argument, arguments, environment, bound_predicate, sort_list, FitsPlace, a_type, a_region, a_const, kind_of_label, any_label, is_infer, is_canonical, IsClosed};
-ghost use Rattle.nts_terms.specs.declared.nodes.NodeId.{NodeId};
-ghost use Rattle.nts_terms.specs.Growth.{tree_at, IsIn};
+ghost use Rattle.nts_store.specs.declared.nodes.NodeId.{NodeId};
+ghost use Rattle.nts_store.specs.Growth.{tree_at, IsIn};
 ghost use Rattle.nts_terms.specs.Handles.{Holds};
 
 use crate::cx::Cx;
 use crate::handles::{
     BoundVars, Const, GenericArg, GenericArgs, ParamEnv, Predicate, Region, Term, Ty,
 };
-use crate::nodes::NodeId;
-use crate::sorts::sort_of;
 use nts_model::{Label, ListHead, Sort};
+use nts_store::{NodeId, sort_of};
 
 /// A handle of a term of a store.
 pub trait Stored: Copy {
@@ -222,7 +221,7 @@ impl Cx {
     }
 
     /// Whether some bound variable of a term has its binder outside of the term.
-    #[tactic(auto, using(crate::proofs::Escaping::escapes))]
+    #[tactic(auto, using(nts_store::proofs::Escaping::escapes))]
     pub fn has_escaping_bound_vars<T: Stored>(&self, x: T) -> bool
         requires { IsIn self.now.nodes (T.id x) }
         ensures { IsTrue result ↔ ¬ IsClosed (tree_at self.now.nodes (T.id x)) }

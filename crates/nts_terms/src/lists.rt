@@ -3,16 +3,15 @@ ghost use Rattle.std.specs.Prelude.{◌≡◌, ◌<◌, List, All, map, IfOk, On
 ghost use Rattle.nts_model.specs.declared.labels.Label.TheVariants as label;
 ghost use Rattle.nts_model.specs.declared.labels.ListHead.TheVariants as list_head;
 ghost use Rattle.nts_model.specs.Trees.{Tree, node, empty, children, row_length, row_at, IsRow, Place, is, one_sort};
-ghost use Rattle.nts_terms.specs.Growth.{tree_at, trees_at, IsIn, Extends};
+ghost use Rattle.nts_store.specs.Growth.{tree_at, trees_at, IsIn, Extends};
 ghost use Rattle.nts_terms.specs.Handles.{Holds, HoldsArg, HoldsArgs, HoldsPredicate, HoldsEnv, HoldsVars};
 ghost use Rattle.nts_terms.specs.Kinds.{tree_of_args, tree_of_env, tree_of_vars, tree_of_sort};
 ghost use Rattle.nts_terms.specs.Rest.{KeepsRest};
 
 use crate::cx::Cx;
-use crate::fault::Fault;
 use crate::handles::{BoundVars, GenericArg, GenericArgs, ParamEnv, Predicate};
-use crate::nodes::NodeId;
 use nts_model::{Label, ListHead, Sort};
+use nts_store::{Fault, NodeId};
 use std::alloc::{AllocError, Global};
 
 impl Cx {

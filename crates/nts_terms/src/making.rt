@@ -2,21 +2,20 @@
 ghost use Rattle.std.specs.Prelude.{◌≡◌, List, IfOk, OnErr, IsOkUnless};
 ghost use Rattle.nts_model.specs.declared.labels.Label.TheVariants as label;
 ghost use Rattle.nts_model.specs.Trees.{node, empty, Place, is, statement};
-ghost use Rattle.nts_terms.specs.Growth.{tree_at, Extends};
+ghost use Rattle.nts_store.specs.Growth.{tree_at, Extends};
 ghost use Rattle.nts_terms.specs.Handles.{Holds, HoldsTy, HoldsRegion, HoldsConst, HoldsPredicate};
 ghost use Rattle.nts_terms.specs.Kinds.{tree_of_infer, tree_of_ty, TyFits, tree_of_region, tree_of_const, ConstFits, tree_of_clause, ClauseFits, tree_of_statement, StatementFits, tree_of_predicate, PredicateFits};
 ghost use Rattle.nts_terms.specs.Signatures.{TyIsDeclared, ConstIsDeclared, StatementIsDeclared};
 ghost use Rattle.nts_terms.specs.Rest.{KeepsRest};
 
 use crate::cx::Cx;
-use crate::fault::Fault;
 use crate::handles::{Binder, Const, Predicate, Region, Ty};
 use crate::kinds::{ClauseKind, ConstKind, InferTy, PredicateKind, RegionKind, TyKind};
-use crate::nodes::NodeId;
 use nts_model::{
     ClauseHead, ConstHead, Constant, FreeRegion, Label, Leaf, ListHead, PredicateHead, Sort,
     TyHead, VariableKind,
 };
+use nts_store::{Fault, NodeId};
 
 impl Cx {
     /// The type of that kind.

@@ -3,7 +3,7 @@ ghost use Rattle.std.specs.Prelude.{◌≡◌, List, [], ◌∷◌};
 ghost use Rattle.nts_model.specs.Trees.{Tree, node, more, empty, children, sort_of_leaf, shape, Meets, Place, is, any_term, arguments, statement, HavePlaces};
 ghost use Rattle.nts_model.specs.declared.labels.Sort.TheVariants as sort;
 ghost use Rattle.nts_model.specs.declared.labels.Label.TheVariants as label;
-ghost use Rattle.nts_terms.specs.Growth.{tree_at, IsIn};
+ghost use Rattle.nts_store.specs.Growth.{tree_at, IsIn};
 ghost use Rattle.nts_terms.specs.Handles.{Holds, HoldsTy, HoldsRegion, HoldsConst, HoldsTerm, HoldsArg, HoldsArgs, HoldsPredicate};
 ghost use Rattle.nts_terms.specs.Kinds.{IsOne, AreTwo, one, two, tree_of_ty, TyFits, tree_of_region, tree_of_const, ConstFits, tree_of_clause, ClauseFits, tree_of_statement, StatementFits, tree_of_predicate, PredicateFits, node_of_term, TermFits, node_of_argument, ArgumentFits};
 
@@ -16,12 +16,11 @@ use crate::handles::{
 use crate::kinds::{
     ClauseKind, ConstKind, GenericArgKind, InferTy, PredicateKind, RegionKind, TermKind, TyKind,
 };
-use crate::nodes::{NodeId, Nodes};
-use crate::sorts::sort_of;
 use nts_model::{
     ClauseHead, ConstHead, Constant, FreeRegion, Label, Leaf, ListHead, PredicateHead, Sort,
     TyHead, VariableKind,
 };
+use nts_store::{NodeId, Nodes, sort_of};
 
 /// The child of a term that has one.
 #[tactic(auto, using(crate::proofs::Places::counts))]

@@ -1,7 +1,8 @@
 use Rattle.std.proofs.Common.{map, subst}
-use Rattle.nts_table.specs.Reading.{recorded_of}
+use Rattle.nts_unify.specs.Reading.{recorded_of}
 use Rattle.nts_table.specs.Deduplicated.{resolved_constraints, AreNews}
-use Rattle.nts_table.specs.Lawful.{IsTable-extended, content_of-extended}
+use Rattle.nts_unify.specs.Lawful.{content_of-extended}
+use Rattle.nts_table.specs.TableLaws.{IsTable-extended}
 use Rattle.nts.proofs.Telling.{resolved_later}
 use Rattle.nts.proofs.answer.answer_of.Goals as goal
 

@@ -1,6 +1,6 @@
 use Rattle.std.proofs.Common.{Some, ap, sym, subst, ◌∙◌}
-use Rattle.nts_terms.proofs.Growing.{Extends-trans}
-use Rattle.nts_table.specs.Lawful.{IsTable-extended}
+use Rattle.nts_store.proofs.Growing.{Extends-trans}
+use Rattle.nts_table.specs.TableLaws.{IsTable-extended}
 use Rattle.nts.specs.Meaning.{IsGoalOf}
 use Rattle.nts.proofs.Justifying.{justified}
 use Rattle.nts.proofs.Asking.{values-extended}

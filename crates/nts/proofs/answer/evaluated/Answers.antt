@@ -1,4 +1,4 @@
-use Rattle.nts_table.specs.Lawful.{IsTable-extended}
+use Rattle.nts_table.specs.TableLaws.{IsTable-extended}
 use Rattle.nts.proofs.Asking.{values-run, values-extended}
 use Rattle.nts.proofs.answer.evaluated.Goals as goal
 

@@ -1,7 +1,7 @@
 use Rattle.std.proofs.Common.{◌≡◌, List, [], ◌∷◌, map, refl, ap, ◌∙◌}
-use Rattle.nts_terms.specs.declared.nodes.NodeId.{NodeId}
+use Rattle.nts_store.specs.declared.nodes.NodeId.{NodeId}
 use Rattle.nts_terms.specs.declared.handles.GenericArg.{GenericArg}
-use Rattle.next_trait_solver.proofs.Evaluating.{gave_fresh}
+use Rattle.nts_evaluation.proofs.Evaluating.{gave_fresh}
 use Rattle.nts.proofs.Asking.{values-fresh}
 use Rattle.nts.proofs.answer.fresh_values.Goals as goal
 

@@ -1,9 +1,10 @@
 use Rattle.std.proofs.Common.{take, sym, ap, subst, ◌∙◌}
 use Rattle.nts_model.specs.Resolving.{deeply_resolved}
-use Rattle.nts_terms.proofs.Growing.{Extends-trans}
+use Rattle.nts_store.proofs.Growing.{Extends-trans}
 use Rattle.nts_terms.proofs.Moved.{KeepsRest-trans}
-use Rattle.nts_table.specs.Reading.{content_of}
-use Rattle.nts_table.specs.Lawful.{IsTable-extended, content_of-extended}
+use Rattle.nts_unify.specs.Reading.{content_of}
+use Rattle.nts_unify.specs.Lawful.{content_of-extended}
+use Rattle.nts_table.specs.TableLaws.{IsTable-extended}
 use Rattle.nts.proofs.Asking.{values-extended}
 use Rattle.nts.proofs.Telling.{resolved_more}
 use Rattle.nts.proofs.Lines.{take_one}

@@ -1,7 +1,7 @@
 use Rattle.std.proofs.Common.{take}
-use Rattle.nts_terms.specs.Growth.{Extends}
+use Rattle.nts_store.specs.Growth.{Extends}
 use Rattle.nts_terms.specs.Rest.{KeepsRest}
-use Rattle.nts_table.specs.Reading.{content_of}
+use Rattle.nts_unify.specs.Reading.{content_of}
 use Rattle.nts.specs.Found.{AreResolved}
 use Rattle.nts.proofs.answer.resolved_values.Given as goal
 

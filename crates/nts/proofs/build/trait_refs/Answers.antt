@@ -1,6 +1,6 @@
 use Rattle.std.proofs.Common.{◌≡◌, ◌-◌, ◌∷◌, suc, drop, get_or, sym, ap, subst, ◌∙◌, arith}
 use Rattle.std.proofs.Math.Seq.{drop-cons}
-use Rattle.nts_terms.proofs.Growing.{Extends-trans}
+use Rattle.nts_store.proofs.Growing.{Extends-trans}
 use Rattle.nts_terms.proofs.Moved.{KeepsRest-trans}
 use Rattle.nts_text.specs.declared.resolver.Resolved.TheVariants as resolved
 use Rattle.nts.proofs.Meant.{IsMade, made_argument, made_trait}

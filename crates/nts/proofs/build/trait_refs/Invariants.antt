@@ -1,5 +1,5 @@
 use Rattle.std.proofs.Common.{◌≤◌, length, drop}
-use Rattle.nts_terms.specs.Growth.{Extends}
+use Rattle.nts_store.specs.Growth.{Extends}
 use Rattle.nts_terms.specs.Rest.{KeepsRest}
 use Rattle.nts.proofs.Meant.{IsMade}
 use Rattle.nts.proofs.build.trait_refs.Given as goal

@@ -1,4 +1,4 @@
-use Rattle.nts_terms.specs.Growth.{Extends}
+use Rattle.nts_store.specs.Growth.{Extends}
 use Rattle.nts_terms.specs.Rest.{KeepsRest}
 use Rattle.nts.proofs.program.conditions.Given as goal
 

@@ -1,4 +1,4 @@
-use Rattle.next_trait_solver.specs.Clauses.{AreReady}
+use Rattle.nts_delegate.specs.Clauses.{AreReady}
 use Rattle.nts.specs.Growing.{Begins}
 use Rattle.nts.proofs.Runs.{HasRun}
 use Rattle.nts.proofs.run.run_lines.Given as goal

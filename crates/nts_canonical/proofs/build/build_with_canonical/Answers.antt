@@ -1,7 +1,7 @@
 use Rattle.std.proofs.Common.{◌≡◌, [], refl, ap, ◌∙◌, map}
-use Rattle.nts_terms.proofs.Growing.{Extends-refl, Extends-trans}
-use Rattle.nts_table.specs.Lawful.{IsTable-extended}
-use Rattle.nts_table.specs.Reading.{content_of}
+use Rattle.nts_store.proofs.Growing.{Extends-refl, Extends-trans}
+use Rattle.nts_table.specs.TableLaws.{IsTable-extended}
+use Rattle.nts_unify.specs.Reading.{content_of}
 use Rattle.nts_canonical.specs.Forms.{kind_of_var, form_of, query_tree, trees_of}
 use Rattle.nts_canonical.specs.Kinds.{value_leaves, made_variables}
 use Rattle.nts_canonical.specs.Building.{kinds_of, values_of}

@@ -1,8 +1,8 @@
 use Rattle.std.proofs.Common.{ap, ◌∙◌, arith, map, take}
 use Rattle.std.proofs.lemmas.Option.{slice_get-get_or}
-use Rattle.nts_terms.proofs.Growing.{Extends-trans}
+use Rattle.nts_store.proofs.Growing.{Extends-trans}
 use Rattle.nts_terms.proofs.Moved.{KeepsRest-trans}
-use Rattle.nts_table.proofs.Changes.{slice_get-map}
+use Rattle.nts_unify.proofs.Changes.{slice_get-map}
 use Rattle.nts_canonical.specs.Forms.{kind_of_var}
 use Rattle.nts_canonical.proofs.Valued.{args-known, made_more}
 use Rattle.nts_canonical.proofs.build.make_values.Goals as goal

@@ -1,7 +1,7 @@
 use Rattle.std.proofs.Common.{◌≡◌, map, take}
-use Rattle.nts_terms.specs.Growth.{Extends}
+use Rattle.nts_store.specs.Growth.{Extends}
 use Rattle.nts_terms.specs.Rest.{KeepsRest}
-use Rattle.nts_table.specs.Reading.{IsTable}
+use Rattle.nts_table.specs.Tables.{IsTable}
 use Rattle.nts_canonical.specs.Forms.{kind_of_var}
 use Rattle.nts_canonical.proofs.Valued.{MadeSoFar}
 use Rattle.nts_canonical.proofs.build.make_values.Given as goal

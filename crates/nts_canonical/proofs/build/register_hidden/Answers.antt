@@ -1,9 +1,9 @@
 use Rattle.std.proofs.Common.{refl, ◌∙◌, arith}
 use Rattle.std.specs.Prelude.{All}
-use Rattle.nts_table.specs.Reading.{content_of, IsHiddenType}
-use Rattle.nts_terms.proofs.Growing.{Extends-trans}
+use Rattle.nts_unify.specs.Reading.{content_of, IsHiddenType}
+use Rattle.nts_store.proofs.Growing.{Extends-trans}
 use Rattle.nts_terms.proofs.Moved.{KeepsRest-trans}
-use Rattle.nts_table.specs.Lawful.{IsLawful-extended}
+use Rattle.nts_unify.specs.Lawful.{IsLawful-extended}
 use Rattle.nts_canonical.specs.Building.{hidden_of}
 use Rattle.nts_canonical.proofs.Registered.{registered_more, hidden-now}
 use Rattle.nts_canonical.proofs.build.register_hidden.Goals as goal

@@ -1,7 +1,8 @@
 use Rattle.std.proofs.Common.{◌≡◌, take}
-use Rattle.nts_terms.specs.Growth.{Extends}
+use Rattle.nts_store.specs.Growth.{Extends}
 use Rattle.nts_terms.specs.Rest.{KeepsRest}
-use Rattle.nts_table.specs.Reading.{content_of, IsTable}
+use Rattle.nts_unify.specs.Reading.{content_of}
+use Rattle.nts_table.specs.Tables.{IsTable}
 use Rattle.nts_canonical.specs.Building.{RegistersAll}
 use Rattle.nts_canonical.proofs.build.register_hidden.Given as goal
 

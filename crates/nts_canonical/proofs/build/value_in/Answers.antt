@@ -1,4 +1,4 @@
-use Rattle.nts_table.specs.Lawful.{IsTable-extended}
+use Rattle.nts_table.specs.TableLaws.{IsTable-extended}
 use Rattle.nts_canonical.proofs.Adding.{type_within}
 use Rattle.nts_canonical.proofs.build.value_in.Goals as goal
 

@@ -1,5 +1,5 @@
 use Rattle.std.proofs.Common.{arith}
-use Rattle.nts_terms.proofs.Growing.{Extends-trans}
+use Rattle.nts_store.proofs.Growing.{Extends-trans}
 use Rattle.nts_canonical.proofs.PairLists.{AreLeafArgs-kept, leaf_more}
 use Rattle.nts_canonical.proofs.canonicalize.arguments.Goals as goal
 

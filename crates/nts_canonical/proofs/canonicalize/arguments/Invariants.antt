@@ -1,5 +1,5 @@
 use Rattle.std.proofs.Common.{take}
-use Rattle.nts_terms.specs.Growth.{Extends}
+use Rattle.nts_store.specs.Growth.{Extends}
 use Rattle.nts_canonical.specs.Replaced.{AreLeafArgs}
 use Rattle.nts_canonical.proofs.canonicalize.arguments.Given as goal
 

@@ -28,7 +28,7 @@ returns-clause-form c =
     let e = c.args.table.now.entries in
     let q = c.in_ok-value.ensures in
     let kinds = c.in_ok-var_kinds.ensures ∙ ap (λ z. map (position_kind (sub_root_in e) z) z) c.as_slice.ensures.keys in
-    form_is c.args.cx.now.nodes c.arguments.new.nodes c.numbered_query.new.nodes e c.in_ok-leaves.leaves.keys c.args.goal c.args.opaque_types.now (record { canonical = record { value = c.in_ok-value.value; max_universe = 0; var_kinds = c.in_ok-var_kinds.var_kinds }; typing_mode = c.args.mode }) c.arguments.ensures.extends c.requires.environment c.requires.predicate c.requires.hidden c.in_ok-leaves.ensures (record { environment = q.environment; predicate = q.predicate; hidden = q.hidden }) kinds
+    form_is c.args.cx.now.nodes c.arguments.new.nodes c.numbered_query.new.nodes e c.in_ok-leaves.leaves.keys c.args.goal c.args.opaque_types.now (record { canonical = record { value = c.in_ok-value.value; max_universe = 0; var_kinds = c.in_ok-var_kinds.var_kinds }; typing_mode = c.args.mode }) c.arguments.ensures.extends c.requires.goal.env c.requires.goal.predicate c.requires.hidden c.in_ok-leaves.ensures (record { environment = q.environment; predicate = q.predicate; hidden = q.hidden }) kinds
 
 pub returns-clause-originals : goal.returns-clause-originals
 returns-clause-originals c =

@@ -1,7 +1,7 @@
 use Rattle.std.proofs.Common.{◌≡◌, ◌≤◌, ◌++◌}
 use Rattle.nts_model.specs.Trees.{children, row_length}
-use Rattle.nts_terms.specs.Growth.{tree_at}
-use Rattle.nts_table.specs.Knowing.{row_from}
+use Rattle.nts_store.specs.Growth.{tree_at}
+use Rattle.nts_relating.specs.Knowing.{row_from}
 use Rattle.nts_canonical.specs.Collecting.{TasksIn, jobs, entered}
 use Rattle.nts_canonical.proofs.collecting.push_children.Given as goal
 

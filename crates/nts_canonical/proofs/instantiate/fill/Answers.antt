@@ -1,10 +1,10 @@
 use Rattle.std.proofs.Common.{sym, ap, ◌∙◌, subst, map}
 use Rattle.nts_model.specs.Trees.{kind_of}
 use Rattle.nts_model.specs.Handlers.{filled}
-use Rattle.nts_terms.specs.declared.nodes.NodeId.{NodeId}
-use Rattle.nts_terms.specs.Growth.{tree_at}
+use Rattle.nts_store.specs.declared.nodes.NodeId.{NodeId}
+use Rattle.nts_store.specs.Growth.{tree_at}
 use Rattle.nts_terms.specs.Handles.{Holds}
-use Rattle.nts_terms.specs.Filled.{kind_of-filled}
+use Rattle.nts_store.specs.Filled.{kind_of-filled}
 use Rattle.nts_canonical.proofs.Placing.{holds_alike}
 use Rattle.nts_canonical.proofs.instantiate.fill.Goals as goal
 

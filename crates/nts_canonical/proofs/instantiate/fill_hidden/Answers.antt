@@ -1,8 +1,8 @@
 use Rattle.std.proofs.Common.{◌<◌, length, arith, map}
 use Rattle.nts_model.specs.Handlers.{filled}
-use Rattle.nts_terms.specs.Growth.{tree_at}
-use Rattle.nts_terms.specs.Kept.{AllIn-kept, map-kept}
-use Rattle.nts_terms.proofs.Growing.{Extends-trans}
+use Rattle.nts_store.specs.Growth.{tree_at}
+use Rattle.nts_store.specs.Kept.{AllIn-kept, map-kept}
+use Rattle.nts_store.proofs.Growing.{Extends-trans}
 use Rattle.nts_canonical.proofs.PairLists.{are_hidden-at, is_hidden-kept, IsImage-later, AreImages-kept, image_more}
 use Rattle.nts_canonical.proofs.Filled.{has_values-kept, pair-at, image-filled}
 use Rattle.nts_canonical.proofs.instantiate.fill_hidden.Goals as goal

@@ -1,6 +1,6 @@
 use Rattle.std.proofs.Common.{map, take}
 use Rattle.nts_model.specs.Handlers.{filled}
-use Rattle.nts_terms.specs.Growth.{tree_at, Extends}
+use Rattle.nts_store.specs.Growth.{tree_at, Extends}
 use Rattle.nts_canonical.specs.Replaced.{AreImages}
 use Rattle.nts_canonical.proofs.instantiate.fill_hidden.Given as goal
 

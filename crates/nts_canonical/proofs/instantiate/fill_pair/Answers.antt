@@ -2,7 +2,7 @@ use Rattle.std.proofs.Common.{ap, ◌∙◌}
 use Rattle.nts_model.specs.declared.labels.TyHead.TheVariants as ty_head
 use Rattle.nts_model.specs.declared.labels.Label.TheVariants as label
 use Rattle.nts_model.specs.Trees.{more, node, empty}
-use Rattle.nts_terms.specs.Kept.{AllIn-kept}
+use Rattle.nts_store.specs.Kept.{AllIn-kept}
 use Rattle.nts_canonical.proofs.PairLists.{holds_kept}
 use Rattle.nts_canonical.proofs.Filled.{has_values-kept, filled-kept}
 use Rattle.nts_canonical.proofs.instantiate.fill_pair.Goals as goal

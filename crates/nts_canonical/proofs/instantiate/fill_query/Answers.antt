@@ -1,8 +1,8 @@
 use Rattle.std.proofs.Common.{◌≡◌, map, refl, ◌∙◌}
 use Rattle.nts_model.specs.Handlers.{filled}
-use Rattle.nts_terms.specs.Growth.{tree_at}
-use Rattle.nts_terms.specs.Kept.{AllIn-kept}
-use Rattle.nts_terms.proofs.Growing.{Extends-trans}
+use Rattle.nts_store.specs.Growth.{tree_at}
+use Rattle.nts_store.specs.Kept.{AllIn-kept}
+use Rattle.nts_store.proofs.Growing.{Extends-trans}
 use Rattle.nts_canonical.specs.Forms.{hidden_row}
 use Rattle.nts_canonical.proofs.PairLists.{holds_kept, are_hidden-kept, AreImages-row, AreImages-held}
 use Rattle.nts_canonical.proofs.Filled.{has_values-kept, has_values_row-kept, filled-kept, filled_row-kept, three}

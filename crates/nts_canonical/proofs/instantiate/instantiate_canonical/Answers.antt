@@ -1,7 +1,7 @@
 use Rattle.std.proofs.Common.{map, ap, ◌∙◌, subst, sym}
 use Rattle.nts_model.specs.Handlers.{filled}
-use Rattle.nts_terms.specs.Growth.{tree_at}
-use Rattle.nts_terms.specs.Filled.{HasValues}
+use Rattle.nts_store.specs.Growth.{tree_at}
+use Rattle.nts_store.specs.Filled.{HasValues}
 use Rattle.nts_terms.proofs.Standing.{args_stand}
 use Rattle.nts_canonical.specs.Forms.{query_tree}
 use Rattle.nts_canonical.proofs.Filled.{trees_of-nodes}

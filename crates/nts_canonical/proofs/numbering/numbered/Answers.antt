@@ -2,8 +2,8 @@ use Rattle.std.proofs.Common.{sym, ap, ◌∙◌, subst}
 use Rattle.nts_model.specs.Trees.{kind_of}
 use Rattle.nts_model.specs.Substitutions.{replace}
 use Rattle.nts_model.specs.Numbered.{numbered_leaf}
-use Rattle.nts_terms.specs.declared.nodes.NodeId.{NodeId}
-use Rattle.nts_terms.specs.Growth.{tree_at}
+use Rattle.nts_store.specs.declared.nodes.NodeId.{NodeId}
+use Rattle.nts_store.specs.Growth.{tree_at}
 use Rattle.nts_terms.specs.Handles.{Holds}
 use Rattle.nts_canonical.specs.Collecting.{stays_where}
 use Rattle.nts_canonical.specs.Positions.{kind_of-numbered}

@@ -1,5 +1,6 @@
 use Rattle.std.proofs.Common.{inl, inr, refl}
-use Rattle.nts_table.proofs.Telling.{tells_new, tells_old, is_false, is_true}
+use Rattle.nts_table.proofs.Telling.{tells_new, tells_old}
+use Rattle.nts_unify.proofs.Tests.{is_false, is_true}
 use Rattle.nts_table.proofs.deduplicated.tell.Goals as goal
 
 pub returns-in_ok-push-clause-tells : goal.returns-in_ok-push-clause-tells

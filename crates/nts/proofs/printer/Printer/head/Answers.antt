@@ -1,7 +1,7 @@
 use Rattle.std.proofs.Common.{◌≤◌, [], length, reverse}
 use Rattle.nts.specs.Pieces.{lexicon_of, seen_by}
 use Rattle.nts_model.specs.Trees.{children}
-use Rattle.nts_terms.specs.Growth.{tree_at}
+use Rattle.nts_store.specs.Growth.{tree_at}
 use Rattle.nts.proofs.Printed.{no_term, whole_term, unnamed_label}
 use Rattle.nts.proofs.Writing.{Writes-refl, on_ok, outside}
 use Rattle.nts.proofs.printer.Printer.head.Goals as goal

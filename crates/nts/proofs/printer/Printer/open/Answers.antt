@@ -1,7 +1,7 @@
 use Rattle.std.proofs.Common.{◌≡◌, ◌-◌, ◌<◌, suc, ◌∷◌, [], reverse, sym, ap, subst, ◌∙◌, arith}
 use Rattle.std.specs.Prelude.{codes}
 use Rattle.nts_model.specs.Trees.{children, row_length}
-use Rattle.nts_terms.specs.Growth.{tree_at}
+use Rattle.nts_store.specs.Growth.{tree_at}
 use Rattle.nts.specs.declared.printer.Piece.TheVariants as pieces
 use Rattle.nts.specs.Pieces.{lexicon_of, seen_by}
 use Rattle.nts.proofs.Printed.{PrintsFrom, prints_none, prints_first, prints_next, opens_none, opens_some, reverse_pushed}

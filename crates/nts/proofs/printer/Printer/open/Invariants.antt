@@ -1,6 +1,6 @@
 use Rattle.std.proofs.Common.{◌≤◌, ◌∷◌, reverse}
 use Rattle.nts_model.specs.Trees.{children}
-use Rattle.nts_terms.specs.Growth.{tree_at}
+use Rattle.nts_store.specs.Growth.{tree_at}
 use Rattle.nts.specs.declared.printer.Piece.TheVariants as pieces
 use Rattle.nts.specs.Pieces.{lexicon_of}
 use Rattle.nts.proofs.Printed.{PrintsFrom}

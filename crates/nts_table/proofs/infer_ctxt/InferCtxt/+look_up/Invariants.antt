@@ -1,5 +1,5 @@
 use Rattle.nts_model.specs.Resolving.{variable_rank}
-use Rattle.nts_terms.specs.Growth.{tree_at}
+use Rattle.nts_store.specs.Growth.{tree_at}
 use Rattle.nts_table.proofs.infer_ctxt.InferCtxt.+look_up.Given as goal
 
 abbrev pub decreases-look_up : goal.decreases-look_up

@@ -1,5 +1,5 @@
 use Rattle.std.proofs.Common.{◌∙◌, arith}
-use Rattle.nts_terms.proofs.Growing.{Extends-trans}
+use Rattle.nts_store.proofs.Growing.{Extends-trans}
 use Rattle.nts_terms.proofs.Moved.{KeepsRest-trans}
 use Rattle.nts_table.proofs.FreshLemmas.{fresh_more}
 use Rattle.nts_table.proofs.infer_ctxt.InferCtxt.add_fresh.Goals as goal

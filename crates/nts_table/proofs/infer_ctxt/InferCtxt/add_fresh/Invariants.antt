@@ -1,7 +1,7 @@
 use Rattle.std.proofs.Common.{◌≡◌, take}
-use Rattle.nts_terms.specs.Growth.{Extends}
+use Rattle.nts_store.specs.Growth.{Extends}
 use Rattle.nts_terms.specs.Rest.{KeepsRest}
-use Rattle.nts_table.specs.Reading.{IsTable}
+use Rattle.nts_table.specs.Tables.{IsTable}
 use Rattle.nts_table.proofs.FreshLemmas.{FreshSoFar}
 use Rattle.nts_table.proofs.infer_ctxt.InferCtxt.add_fresh.Given as goal
 

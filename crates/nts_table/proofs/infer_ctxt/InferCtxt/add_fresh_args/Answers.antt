@@ -1,6 +1,6 @@
 use Rattle.std.proofs.Common.{ap, ◌∙◌, length}
-use Rattle.nts_terms.specs.Growth.{trees_at}
-use Rattle.nts_table.specs.Lawful.{IsTable-extended}
+use Rattle.nts_store.specs.Growth.{trees_at}
+use Rattle.nts_table.specs.TableLaws.{IsTable-extended}
 use Rattle.nts_table.proofs.FreshLemmas.{AllFit-fresh_row}
 use Rattle.nts_table.proofs.infer_ctxt.InferCtxt.add_fresh_args.Goals as goal
 

@@ -1,4 +1,4 @@
-use Rattle.nts_table.specs.Lawful.{IsTable-moved}
+use Rattle.nts_table.specs.TableLaws.{IsTable-moved}
 use Rattle.nts_table.proofs.infer_ctxt.InferCtxt.create_next_universe.Goals as goal
 
 pub returns-in_ok-move_to-in-Some-clause-table : goal.returns-in_ok-move_to-in-Some-clause-table

@@ -1,9 +1,9 @@
 use Rattle.std.proofs.Common.{◌≡◌, false, refl, sym, ap, ◌∙◌}
 use Rattle.nts_model.specs.Trees.{any_label, is_infer, is_region_infer}
-use Rattle.nts_terms.specs.declared.facts.Facts.{Facts}
-use Rattle.nts_terms.specs.Growth.{tree_at}
-use Rattle.nts_table.specs.Reading.{content_of}
-use Rattle.nts_table.proofs.Looking.{from_not, Knows-none, labels_known, known_labels, if_both}
+use Rattle.nts_store.specs.declared.facts.Facts.{Facts}
+use Rattle.nts_store.specs.Growth.{tree_at}
+use Rattle.nts_unify.specs.Reading.{content_of}
+use Rattle.nts_relating.proofs.Looking.{from_not, Knows-none, labels_known, known_labels, if_both}
 use Rattle.nts_table.proofs.infer_ctxt.InferCtxt.knows_node.Goals as goal
 
 pub returns-then-not-facts-2 : goal.returns-then-not-facts-2

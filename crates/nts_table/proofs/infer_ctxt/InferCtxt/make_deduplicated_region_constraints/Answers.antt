@@ -1,8 +1,9 @@
 use Rattle.std.proofs.Common.{arith, rules, take}
-use Rattle.nts_terms.proofs.Growing.{Extends-refl, Extends-trans}
+use Rattle.nts_store.proofs.Growing.{Extends-refl, Extends-trans}
 use Rattle.nts_terms.proofs.Moved.{KeepsRest-trans}
-use Rattle.nts_table.specs.Reading.{content_of}
-use Rattle.nts_table.specs.Lawful.{IsTable-extended, IsLawful-extended}
+use Rattle.nts_unify.specs.Reading.{content_of}
+use Rattle.nts_unify.specs.Lawful.{IsLawful-extended}
+use Rattle.nts_table.specs.TableLaws.{IsTable-extended}
 use Rattle.nts_table.specs.Deduplicated.{resolved_constraints, none}
 use Rattle.nts_table.proofs.Telling.{SidesIn-all, AreConstraints-moved, AreNews-moved, AreConstraints-told, next_news}
 use Rattle.nts_table.proofs.infer_ctxt.InferCtxt.make_deduplicated_region_constraints.Goals as goal

@@ -1,7 +1,7 @@
 use Rattle.std.proofs.Common.{◌≡◌, take, map}
-use Rattle.nts_terms.specs.Growth.{Extends}
+use Rattle.nts_store.specs.Growth.{Extends}
 use Rattle.nts_terms.specs.Rest.{KeepsRest}
-use Rattle.nts_table.specs.Reading.{content_of, recorded_of, AreConstraints}
+use Rattle.nts_unify.specs.Reading.{content_of, recorded_of, AreConstraints}
 use Rattle.nts_table.specs.Deduplicated.{resolved_constraints, AreNews, said}
 use Rattle.nts_table.proofs.infer_ctxt.InferCtxt.make_deduplicated_region_constraints.Given as goal
 

@@ -1,5 +1,5 @@
 use Rattle.std.proofs.Common.{refl}
-use Rattle.nts_table.specs.Lawful.{IsTable-added, IsTable-same}
+use Rattle.nts_table.specs.TableLaws.{IsTable-added, IsTable-same}
 use Rattle.nts_table.proofs.infer_ctxt.InferCtxt.next_float_infer.Goals as goal
 
 pub returns-in_err-add_unset-clause-table : goal.returns-in_err-add_unset-clause-table

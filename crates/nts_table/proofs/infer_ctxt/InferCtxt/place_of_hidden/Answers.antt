@@ -1,7 +1,7 @@
 use Rattle.std.proofs.Common.{sym, ◌∙◌}
-use Rattle.nts_terms.proofs.Growing.{Extends-trans, IsIn-extended}
-use Rattle.nts_table.specs.Reading.{content_of}
-use Rattle.nts_table.specs.Lawful.{IsTable-extended}
+use Rattle.nts_store.proofs.Growing.{Extends-trans, IsIn-extended}
+use Rattle.nts_unify.specs.Reading.{content_of}
+use Rattle.nts_table.specs.TableLaws.{IsTable-extended}
 use Rattle.nts_table.specs.Registering.{HasAliasOf}
 use Rattle.nts_table.proofs.HiddenLemmas.{hidden_at, known_later, compared, none_more}
 use Rattle.nts_table.proofs.infer_ctxt.InferCtxt.place_of_hidden.Goals as goal

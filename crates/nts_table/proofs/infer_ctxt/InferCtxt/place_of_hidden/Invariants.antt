@@ -1,6 +1,6 @@
 use Rattle.nts_model.specs.Resolving.{deeply_resolved}
-use Rattle.nts_terms.specs.Growth.{tree_at, IsIn, Extends}
-use Rattle.nts_table.specs.Reading.{content_of}
+use Rattle.nts_store.specs.Growth.{tree_at, IsIn, Extends}
+use Rattle.nts_unify.specs.Reading.{content_of}
 use Rattle.nts_table.specs.Registering.{NoneBefore}
 use Rattle.std.specs.Prelude.{◌≡◌}
 use Rattle.nts_table.proofs.infer_ctxt.InferCtxt.place_of_hidden.Given as goal

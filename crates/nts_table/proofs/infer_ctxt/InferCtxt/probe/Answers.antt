@@ -1,5 +1,5 @@
 use Rattle.std.proofs.Common.{arith, refl, ◌≡◌, ◌∙◌, ap, length, length-append, ◌∷◌, []}
-use Rattle.nts_table.proofs.SavedLemmas.{back_to}
+use Rattle.nts_table.proofs.GoingBack.{back_to}
 use Rattle.nts_table.proofs.infer_ctxt.InferCtxt.probe.Goals as goal
 
 pub rollback_to-requires : goal.rollback_to-requires

@@ -1,4 +1,4 @@
-use Rattle.nts_table.specs.Lawful.{IsTable-constrained}
+use Rattle.nts_table.specs.TableLaws.{IsTable-constrained}
 use Rattle.nts_table.proofs.infer_ctxt.InferCtxt.record.Goals as goal
 
 pub returns-clause-table : goal.returns-clause-table

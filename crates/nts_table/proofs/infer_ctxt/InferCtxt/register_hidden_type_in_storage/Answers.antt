@@ -1,6 +1,6 @@
 use Rattle.nts_model.proofs.Slots.{slice_get_below}
-use Rattle.nts_table.specs.Reading.{content_of, IsHiddenType}
-use Rattle.nts_table.specs.Lawful.{IsTable-extended, IsTable-same, IsTable-registered, IsTable-with_hidden}
+use Rattle.nts_unify.specs.Reading.{content_of, IsHiddenType}
+use Rattle.nts_table.specs.TableLaws.{IsTable-extended, IsTable-same, IsTable-registered, IsTable-with_hidden}
 use Rattle.nts_table.proofs.HiddenLemmas.{hidden_at, IsHiddenType-extended, other_type}
 use Rattle.nts_table.proofs.infer_ctxt.InferCtxt.register_hidden_type_in_storage.Goals as goal
 

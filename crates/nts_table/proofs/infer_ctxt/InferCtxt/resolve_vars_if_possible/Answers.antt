@@ -1,9 +1,9 @@
 use Rattle.std.proofs.Common.{sym, ap, ◌∙◌, subst}
 use Rattle.nts_model.specs.Resolving.{resolved}
-use Rattle.nts_terms.specs.declared.nodes.NodeId.{NodeId}
-use Rattle.nts_terms.specs.Growth.{tree_at}
+use Rattle.nts_store.specs.declared.nodes.NodeId.{NodeId}
+use Rattle.nts_store.specs.Growth.{tree_at}
 use Rattle.nts_terms.specs.Handles.{Holds}
-use Rattle.nts_table.specs.Reading.{content_of}
+use Rattle.nts_unify.specs.Reading.{content_of}
 use Rattle.nts_table.proofs.ClassValues.{Holds-resolved}
 use Rattle.nts_table.proofs.infer_ctxt.InferCtxt.resolve_vars_if_possible.Goals as goal
 

@@ -1,8 +1,9 @@
 use Rattle.std.proofs.Common.{◌≡◌, ap, ◌∙◌}
-use Rattle.nts_terms.proofs.Growing.{IsIn-extended}
-use Rattle.nts_table.specs.declared.contents.Constraint.{Constraint}
-use Rattle.nts_table.specs.Reading.{content_of, recorded_of}
-use Rattle.nts_table.specs.Lawful.{IsTable-extended, content_of-extended}
+use Rattle.nts_store.proofs.Growing.{IsIn-extended}
+use Rattle.nts_unify.specs.declared.contents.Constraint.{Constraint}
+use Rattle.nts_unify.specs.Reading.{content_of, recorded_of}
+use Rattle.nts_unify.specs.Lawful.{content_of-extended}
+use Rattle.nts_table.specs.TableLaws.{IsTable-extended}
 use Rattle.nts_table.specs.Deduplicated.{resolved_constraint}
 use Rattle.nts_table.proofs.Telling.{constraint_at, resolved_sides, ResolvedSides}
 use Rattle.nts_table.proofs.infer_ctxt.InferCtxt.resolved_constraint.Goals as goal

@@ -1,6 +1,6 @@
 use Rattle.std.proofs.Common.{refl, ap, ◌∙◌}
-use Rattle.nts_table.specs.Lawful.{IsTable-same}
-use Rattle.nts_table.specs.Entries.{added}
+use Rattle.nts_table.specs.TableLaws.{IsTable-same}
+use Rattle.nts_unify.specs.Entries.{added}
 use Rattle.nts_table.specs.Making.{unset_variable}
 use Rattle.nts_table.proofs.SubLinks.{IsTable-added_to}
 use Rattle.nts_table.proofs.infer_ctxt.InferCtxt.variable_in_universe.Goals.{in-Some, in-None}

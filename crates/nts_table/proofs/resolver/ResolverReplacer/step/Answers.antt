@@ -1,5 +1,5 @@
 use Rattle.std.proofs.Common.{refl}
-use Rattle.nts_terms.specs.Growth.{tree_at}
+use Rattle.nts_store.specs.Growth.{tree_at}
 use Rattle.nts_table.specs.Resolution.{resolution}
 use Rattle.nts_table.proofs.Walking.{resolution-left, node_goes_down}
 use Rattle.nts_table.proofs.resolver.ResolverReplacer.step.Goals as goal

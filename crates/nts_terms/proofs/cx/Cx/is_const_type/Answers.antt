@@ -1,5 +1,5 @@
 use Rattle.std.proofs.Common.{sym, ◌∙◌}
-use Rattle.nts_terms.proofs.Escaping.{closed_by_facts, open_by_facts}
+use Rattle.nts_store.proofs.Escaping.{closed_by_facts, open_by_facts}
 use Rattle.nts_terms.proofs.cx.Cx.is_const_type.Goals as goal
 
 pub returns-then-is_some-clause-is : goal.returns-then-is_some-clause-is

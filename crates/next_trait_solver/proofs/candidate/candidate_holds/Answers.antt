@@ -1,5 +1,0 @@
-use Rattle.next_trait_solver.proofs.Evaluating.{IsPosed-opened}
-use Rattle.next_trait_solver.proofs.candidate.candidate_holds.Goals as goal
-
-pub equate-tried-requires-clause-posed : goal.equate-tried-requires-clause-posed
-equate-tried-requires-clause-posed c = IsPosed-opened c.requires.posed c.start_snapshot.ensures.entries c.in_ok-snapshot.ensures.saved

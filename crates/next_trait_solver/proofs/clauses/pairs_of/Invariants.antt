@@ -1,8 +1,0 @@
-use Rattle.nts_model.specs.Trees.{children, row_take}
-use Rattle.nts_terms.specs.Growth.{tree_at}
-use Rattle.next_trait_solver.specs.Offers.{ArePairs}
-use Rattle.next_trait_solver.proofs.clauses.pairs_of.Given as goal
-
-abbrev pub invariant-loop-i : goal.invariant-loop-i
-invariant-loop-i l =
-    ArePairs l.cx.nodes (row_take l.i (children (tree_at l.cx.nodes l.args.node))) (row_take l.i (children (tree_at l.cx.nodes l.head.node))) l.equations.items

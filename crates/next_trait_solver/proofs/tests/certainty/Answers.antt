@@ -1,5 +1,0 @@
-use Rattle.nts_table.specs.Lawful.{IsTable-extended}
-use Rattle.next_trait_solver.proofs.tests.certainty.Goals as goal
-
-pub evaluate_root_goal-requires-clause-table : goal.evaluate_root_goal-requires-clause-table
-evaluate_root_goal-requires-clause-table g c = IsTable-extended c.in_ok-goal_is_admitted.ensures.extends c.requires.table

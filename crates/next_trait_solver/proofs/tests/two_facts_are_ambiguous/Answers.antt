@@ -1,7 +1,0 @@
-use Rattle.nts_terms.proofs.Growing.{Extends-trans}
-use Rattle.next_trait_solver.specs.ClausesKept.{AreReady-kept}
-use Rattle.next_trait_solver.proofs.tests.two_facts_are_ambiguous.Goals as goal
-
-pub certainty-requires-clause-ready : goal.certainty-requires-clause-ready
-certainty-requires-clause-ready g c =
-    AreReady-kept _ _ c.fact-2.new.handler c.in_ok-fact-2.ensures.ready (Extends-trans c.in_ok-variable.ensures.extends c.in_ok-goal.ensures.extends)

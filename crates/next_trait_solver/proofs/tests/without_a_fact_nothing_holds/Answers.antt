@@ -1,5 +1,0 @@
-use Rattle.next_trait_solver.specs.ClausesKept.{AreReady-kept}
-use Rattle.next_trait_solver.proofs.tests.without_a_fact_nothing_holds.Goals as goal
-
-pub certainty-requires-clause-ready : goal.certainty-requires-clause-ready
-certainty-requires-clause-ready g c = AreReady-kept _ _ c.fact.new.handler c.in_ok-fact.ensures.ready c.in_ok-goal.ensures.extends

@@ -1,0 +1,4 @@
+pub mod Offering
+pub mod Results
+pub mod Testing
+pub mod Traits

@@ -1,0 +1,259 @@
+-- What a clause offers is a candidate.
+use Rattle.std.proofs.Common.{◌≡◌, ℕ, zero, suc, ◌+◌, ◌<◌, ◌==◌, ◌||◌, Bool, true, false, cond, if◌then◌else◌, List, [], ◌∷◌, ◌++◌, length, get_or, take, map, Option, Some, None, eqb-true, refl, ap, sym, ◌∙◌, arith}
+use Rattle.std.specs.List.{filter}
+use Rattle.std.proofs.lemmas.List.{take_more}
+use Rattle.nts_model.specs.declared.labels.Sort.{Sort}
+use Rattle.nts_model.specs.declared.labels.Leaf.TheVariants as leaf
+use Rattle.nts_model.specs.declared.labels.BoundIndex.TheVariants as index
+use Rattle.nts_model.specs.declared.labels.ClauseHead.TheVariants as clause
+use Rattle.nts_model.specs.declared.labels.Label.{Label}
+use Rattle.nts_model.specs.declared.labels.Label.TheVariants as label
+use Rattle.nts_model.specs.Trees.{Tree, empty, more, node, children, any_label, is_canonical, row_length, row_at, row_take, IsRow}
+use Rattle.nts_model.specs.Contents.{Content}
+use Rattle.nts_model.specs.Resolving.{Knows, KnowsLabel, variable_of}
+use Rattle.nts_terms.specs.declared.handles.Goal.{Goal}
+use Rattle.nts_terms.specs.declared.handles.Predicate.{Predicate}
+use Rattle.nts_store.specs.Growth.{tree_at}
+use Rattle.nts_model.specs.Handlers.{position_of, NamesAt, NamesFresh}
+use Rattle.nts_store.proofs.Growing.{row_take-all}
+use Rattle.nts_delegate.specs.Candidates.{IsAsked, KnowsGoal, AreEquations, AreNested, IsCandidate, AreCandidates}
+use Rattle.nts_delegate.specs.Clauses.{is_foreign, AreBodies, IsClause, AreClauses, clauses_of, AreReady}
+use Rattle.nts_delegate.specs.Adding.{AddsClause}
+use Rattle.nts_delegate.specs.Offers.{trait_read, trait_of_body, trait_of, IsPair, ArePairs, asked_by, IsOffer, takes, AreEach}
+use Rattle.nts_delegate.specs.declared.delegate.Equation.{Equation}
+use Rattle.nts_delegate.specs.declared.delegate.CandidateData.{CandidateData}
+use Rattle.nts_delegate.specs.declared.clauses.Clause.{Clause}
+use Rattle.nts_delegate.specs.declared.clauses.Clauses.{Clauses}
+
+both_false : (p q : Bool) → (p || q) ≡ false → (p ≡ false) × (q ≡ false)
+both_false true q h = cc
+both_false false q h = (refl, h)
+
+-- a label that names no position
+no_name : (fresh : List Sort) (l : Label) → is_canonical l ≡ false → NamesAt fresh (position_of l) l
+no_name fresh (label.Leaf l) h = tt
+no_name fresh (label.Bound s (index.Level d) i) h = tt
+no_name fresh (label.Bound s index.Canonical i) h = cc
+no_name fresh (label.Ty t) h = tt
+no_name fresh (label.Const k) h = tt
+no_name fresh (label.Clause k) h = tt
+no_name fresh (label.Predicate p) h = tt
+no_name fresh (label.List k) h = tt
+
+pub names_none : (fresh : List Sort) (t : Tree) → any_label is_canonical t ≡ false → NamesFresh fresh t
+names_none fresh empty h = tt
+names_none fresh (more a b) h =
+    let w = both_false (any_label is_canonical a) (any_label is_canonical b) h in
+    (names_none fresh a w.0, names_none fresh b w.1)
+names_none fresh (node l c) h =
+    let w = both_false (is_canonical l) (any_label is_canonical c) h in
+    (no_name fresh l w.0, names_none fresh c w.1)
+
+-- a label that is no variable
+no_variable : (c : Content) (l : Label) → is_foreign l ≡ false → KnowsLabel c (variable_of l)
+no_variable c (label.Leaf (leaf.Variable k n)) h = cc
+no_variable c (label.Leaf (leaf.Region r)) h = tt
+no_variable c (label.Leaf (leaf.TyConstant k)) h = tt
+no_variable c (label.Leaf (leaf.ConstConstant k)) h = tt
+no_variable c (label.Bound s i n) h = tt
+no_variable c (label.Ty t) h = tt
+no_variable c (label.Const k) h = tt
+no_variable c (label.Clause k) h = tt
+no_variable c (label.Predicate p) h = tt
+no_variable c (label.List k) h = tt
+
+pub knows_none : (c : Content) (t : Tree) → any_label is_foreign t ≡ false → Knows c t
+knows_none c empty h = tt
+knows_none c (more a b) h =
+    let w = both_false (any_label is_foreign a) (any_label is_foreign b) h in
+    (knows_none c a w.0, knows_none c b w.1)
+knows_none c (node l t) h =
+    let w = both_false (is_foreign l) (any_label is_foreign t) h in
+    (no_variable c l w.0, knows_none c t w.1)
+
+-- the children of a node
+children_lack : (p : Label → Bool) (t : Tree) → any_label p t ≡ false → any_label p (children t) ≡ false
+children_lack p empty h = refl
+children_lack p (more a b) h = refl
+children_lack p (node l c) h = (both_false (p l) (any_label p c) h).1
+
+children_named : (fresh : List Sort) (t : Tree) → NamesFresh fresh t → NamesFresh fresh (children t)
+children_named fresh empty h = tt
+children_named fresh (more a b) h = tt
+children_named fresh (node l c) h = h.1
+
+children_known : (c : Content) (t : Tree) → Knows c t → Knows c (children t)
+children_known c empty h = tt
+children_known c (more a b) h = tt
+children_known c (node l t) h = h.1
+
+-- a part of a whole has no position and no variable that the whole lacks
+pub record IsPart (whole part : Tree) : Type 0 where
+  pub lacks : (p : Label → Bool) → any_label p whole ≡ false → any_label p part ≡ false
+  pub knows : (c : Content) → Knows c whole → Knows c part
+
+is_part_of_statement : (s : Tree) (r : ℕ × Tree) → trait_read s ≡ Some r → IsPart s r.1
+is_part_of_statement (node (label.Clause (clause.Trait i)) (more a b)) r e =
+    let is : a ≡ r.1 = ap (λ o. or_empty o) e in
+    rw (← is) (record { lacks = λ p h. let w : any_label p (more a b) ≡ false = (both_false (p (label.Clause (clause.Trait i))) (any_label p (more a b)) h).1 in (both_false (any_label p a) (any_label p b) w).0; knows = λ c h. h.1.0 })
+  where
+    or_empty : Option (ℕ × Tree) → Tree
+    or_empty None = empty
+    or_empty (Some q) = q.1
+is_part_of_statement s r e = cc
+
+is_part_of_body : (t : Tree) (r : ℕ × Tree) → trait_of_body t ≡ Some r → IsPart t r.1
+is_part_of_body (more v (more s e)) r h =
+    let part = is_part_of_statement s r h in
+    record {
+      lacks = λ p w. let u = both_false (any_label p v) (any_label p (more s e)) w in
+          part.lacks p (both_false (any_label p s) (any_label p e) u.1).0;
+      knows = λ c w. part.knows c w.1.0;
+    }
+is_part_of_body t r h = cc
+
+pub not_equal : (a b : ℕ) → (a ≡ b → ⊥) → (a == b) ≡ false
+not_equal a b h = by_case (a == b) refl
+  where
+    by_case : (w : Bool) → (a == b) ≡ w → (a == b) ≡ false
+    by_case true e = absurd (h (eqb-true a b e))
+    by_case false e = e
+
+-- the arguments are a part of the goal
+pub is_part : (t : Tree) (r : ℕ × Tree) → trait_of t ≡ Some r → IsPart t r.1
+is_part t r h =
+    let part = is_part_of_body (children t) r h in
+    record {
+      lacks = λ p w. part.lacks p (children_lack p t w);
+      knows = λ c w. part.knows c (children_known c t w);
+    }
+
+-- pairs of arguments
+pub pairs_push : (ts : List Tree) (i : ℕ) (us vs : Tree) (qs : List Equation) (q : Equation) → i < row_length us → i < row_length vs → ArePairs ts (row_take i us) (row_take i vs) qs → IsPair ts (row_at us i) (row_at vs i) q → ArePairs ts (row_take (i + 1) us) (row_take (i + 1) vs) (qs ++ q ∷ [])
+pairs_push ts i empty vs qs q h k p w = absurd (omega arith)
+pairs_push ts i (node l c) vs qs q h k p w = absurd (omega arith)
+pairs_push ts i (more a us) empty qs q h k p w = absurd (omega arith)
+pairs_push ts i (more a us) (node l c) qs q h k p w = absurd (omega arith)
+pairs_push ts zero (more a us) (more b vs) [] q h k p w = (w, tt)
+pairs_push ts zero (more a us) (more b vs) (x ∷ qs) q h k p w = absurd p
+pairs_push ts (suc i) (more a us) (more b vs) [] q h k p w = absurd p
+pairs_push ts (suc i) (more a us) (more b vs) (x ∷ qs) q h k p w =
+    let e : suc i + 1 ≡ suc (i + 1) = omega arith in
+    rw e (p.0, pairs_push ts i us vs qs q (omega arith) (omega arith) p.1 w)
+
+pub pairs_all : (ts : List Tree) (i : ℕ) (us vs : Tree) (qs : List Equation) → IsRow us → IsRow vs → i ≡ row_length us → row_length us ≡ row_length vs → ArePairs ts (row_take i us) (row_take i vs) qs → ArePairs ts us vs qs
+pairs_all ts i us vs qs r s e l p =
+    let long : i ≡ row_length vs = e ∙ l in
+    let first : row_take i us ≡ us = rw e (row_take-all us r) in
+    let second : row_take i vs ≡ vs = rw long (row_take-all vs s) in
+    rw (first, second) at p
+
+pairs_over : (ts : List Tree) (fresh : List Sort) (g : Goal) (us vs : Tree) (qs : List Equation) → ArePairs ts us vs qs → any_label is_canonical us ≡ false → ((c : Content) → KnowsGoal ts c g → Knows c us) → NamesFresh fresh vs → any_label is_foreign vs ≡ false → AreEquations ts fresh g qs
+pairs_over ts fresh g empty empty [] p n k f o = tt
+pairs_over ts fresh g (more a us) (more b vs) (q ∷ qs) p n k f o =
+    let lacks = both_false (any_label is_canonical a) (any_label is_canonical us) n in
+    let own = both_false (any_label is_foreign b) (any_label is_foreign vs) o in (
+      record {
+        lhs = record {
+          within = p.0.left_in;
+          names = rw p.0.left (names_none fresh a lacks.0);
+          knows = λ c w. rw p.0.left (k c w).0;
+        };
+        rhs = record { within = p.0.right_in; names = rw p.0.right f.0; knows = λ c w. rw p.0.right (knows_none c b own.0) };
+        argument = rw p.0.left p.0.argument;
+      },
+      pairs_over ts fresh g us vs qs p.1 lacks.1 (λ c w. (k c w).1) f.1 own.1,
+    )
+pairs_over ts fresh g us vs qs p n k f o = absurd p
+
+-- a goal that handlers are asked has no positions
+positions : {ts : List Tree} {g : Goal} → IsAsked ts g → (any_label is_canonical (tree_at ts g.param_env.node) ≡ false) × (any_label is_canonical (tree_at ts g.predicate.node) ≡ false)
+positions {ts} {g} a =
+    let asked = a.asked in
+    let env = both_false (any_label is_canonical (tree_at ts g.param_env.node)) (any_label is_canonical (more (tree_at ts g.predicate.node) empty)) asked.no_positions in
+    (env.0, last (any_label is_canonical (tree_at ts g.predicate.node)) env.1)
+  where
+    last : (p : Bool) → (p || false) ≡ false → p ≡ false
+    last p h = (both_false p false h).0
+
+asked_nested : (ts : List Tree) (fresh : List Sort) (g : Goal) (ps : List Predicate) → IsAsked ts g → AreBodies ts fresh ps → AreNested ts fresh g (map (asked_by g) ps)
+asked_nested ts fresh g [] a b = tt
+asked_nested ts fresh g (p ∷ ps) a b = (
+  record {
+    environment = refl;
+    holds = record { env = a.holds.env; predicate = b.0 };
+    env = record { within = a.holds.env.within; names = names_none fresh _ (positions a).0; knows = λ c w. w.env };
+    predicate = record { within = b.1.within; names = b.1.names; knows = λ c w. knows_none c _ b.1.own };
+  },
+  asked_nested ts fresh g ps a b.2,
+)
+
+pub offer_is_candidate : (ts : List Tree) (g : Goal) (args : Tree) (c : Clause) (d : CandidateData) → IsAsked ts g → IsClause ts c → IsPart (tree_at ts g.predicate.node) args → IsOffer ts g args c d → IsCandidate ts g d
+offer_is_candidate ts g args c d a h part o =
+    record {
+      hidden = o.hidden;
+      accesses = o.accesses;
+      equations = rw o.fresh (pairs_over ts c.fresh.items g (children args) (children (tree_at ts c.head.node)) d.equations.items o.equations (children_lack is_canonical args (part.lacks is_canonical (positions a).1)) (λ k w. children_known k args (part.knows k w.predicate)) (children_named c.fresh.items (tree_at ts c.head.node) h.head.names) (children_lack is_foreign (tree_at ts c.head.node) h.head.own));
+      constraints = rw o.constraints tt;
+      goals = rw (o.fresh, o.goals) (asked_nested ts c.fresh.items g c.body.items a h.body);
+    }
+
+-- what the first clauses of a trait offer
+pub record AreFound (ts : List Tree) (g : Goal) (args : Tree) (cs : List Clause) (ds : List CandidateData) : Type 0 where
+  pub each : AreEach ts g args (filter (takes ts args) cs) ds
+  pub candidates : AreCandidates ts g ds
+
+each_push : (ts : List Tree) (g : Goal) (args : Tree) (cs : List Clause) (ds : List CandidateData) (c : Clause) (d : CandidateData) → AreEach ts g args cs ds → IsOffer ts g args c d → AreEach ts g args (cs ++ c ∷ []) (ds ++ d ∷ [])
+each_push ts g args [] [] c d e o = (o, tt)
+each_push ts g args [] (y ∷ ds) c d e o = absurd e
+each_push ts g args (x ∷ cs) [] c d e o = absurd e
+each_push ts g args (x ∷ cs) (y ∷ ds) c d e o = (e.0, each_push ts g args cs ds c d e.1 o)
+
+candidates_push : (ts : List Tree) (g : Goal) (ds : List CandidateData) (d : CandidateData) → AreCandidates ts g ds → IsCandidate ts g d → AreCandidates ts g (ds ++ d ∷ [])
+candidates_push ts g [] d h k = (k, tt)
+candidates_push ts g (x ∷ ds) d h k = (h.0, candidates_push ts g ds d h.1 k)
+
+filter_kept : {X : Type 0} (p : X → Bool) (xs : List X) (x : X) → p x ≡ true → filter p (xs ++ x ∷ []) ≡ filter p xs ++ x ∷ []
+filter_kept p [] x h = rw h refl
+filter_kept p (y ∷ xs) x h = rw (filter_kept p xs x h) (by_case (p y))
+  where
+    by_case : (b : Bool) → cond b (y ∷ (filter p xs ++ x ∷ [])) (filter p xs ++ x ∷ []) ≡ cond b (y ∷ filter p xs) (filter p xs) ++ x ∷ []
+    by_case true = refl
+    by_case false = refl
+
+filter_left : {X : Type 0} (p : X → Bool) (xs : List X) (x : X) → p x ≡ false → filter p (xs ++ x ∷ []) ≡ filter p xs
+filter_left p [] x h = rw h refl
+filter_left p (y ∷ xs) x h = rw (filter_left p xs x h) refl
+
+pub found_none : (ts : List Tree) (g : Goal) (args : Tree) → AreFound ts g args [] []
+found_none ts g args = record { each = tt; candidates = tt }
+
+pub taken : (cs : List Clause) (i : ℕ) (c : Clause) → i < length cs → c ≡ get_or cs i c → take (i + 1) cs ≡ take i cs ++ c ∷ []
+taken cs i c l e = take_more cs i c l ∙ ap (λ x. take i cs ++ x ∷ []) (sym e)
+
+pub found_more : (ts : List Tree) (g : Goal) (args : Tree) (cs ls : List Clause) (ds es : List CandidateData) (c : Clause) (d : CandidateData) → AreFound ts g args cs ds → takes ts args c ≡ true → IsAsked ts g → IsClause ts c → IsPart (tree_at ts g.predicate.node) args → IsOffer ts g args c d → ls ≡ cs ++ c ∷ [] → es ≡ ds ++ d ∷ [] → AreFound ts g args ls es
+found_more ts g args cs ls ds es c d f t a h p o l e =
+    rw (l, e) (record {
+      each = rw (filter_kept (takes ts args) cs c t) (each_push ts g args _ ds c d f.each o);
+      candidates = candidates_push ts g ds d f.candidates (offer_is_candidate ts g args c d a h p o);
+    })
+
+pub found_same : (ts : List Tree) (g : Goal) (args : Tree) (cs ls : List Clause) (ds es : List CandidateData) (c : Clause) → AreFound ts g args cs ds → takes ts args c ≡ false → ls ≡ cs ++ c ∷ [] → es ≡ ds → AreFound ts g args ls es
+found_same ts g args cs ls ds es c f t l e =
+    rw (l, e) (record { each = rw (filter_left (takes ts args) cs c t) f.each; candidates = f.candidates })
+
+pub clause_at : (ts : List Tree) (cs : List Clause) (i : ℕ) (c : Clause) → AreClauses ts cs → i < length cs → c ≡ get_or cs i c → IsClause ts c
+clause_at ts [] i c h l e = absurd (omega arith)
+clause_at ts (x ∷ cs) zero c h l e = rw e h.0
+clause_at ts (x ∷ cs) (suc i) c h l e = clause_at ts cs i c h.1 (omega arith) e
+
+clauses_push : (ts : List Tree) (cs : List Clause) (c : Clause) → AreClauses ts cs → IsClause ts c → AreClauses ts (cs ++ c ∷ [])
+clauses_push ts [] c h k = (k, tt)
+clauses_push ts (x ∷ cs) c h k = (h.0, clauses_push ts cs c h.1 k)
+
+pub ready_added : (ts : List Tree) (a b : Clauses) (c : Clause) → AreReady ts a → IsClause ts c → AddsClause a b c → AreReady ts b
+ready_added ts a b c r k h i = rw (h.clauses i) (by_case (i == c.trait_id.number))
+  where
+    by_case : (w : Bool) → AreClauses ts (if w then clauses_of a i ++ c ∷ [] else clauses_of a i)
+    by_case true = clauses_push ts (clauses_of a i) c (r i) k
+    by_case false = r i

@@ -1,0 +1,78 @@
+-- What a handler may offer for a goal.
+use Rattle.std.specs.Prelude.{◌≡◌, List, [], ◌∷◌, Some}
+use Rattle.nts_model.specs.declared.labels.Sort.{Sort}
+use Rattle.nts_model.specs.Trees.{Tree, kind_of, of_sort, any_argument, FitsPlace}
+use Rattle.nts_model.specs.Contents.{Content}
+use Rattle.nts_model.specs.Resolving.{Knows}
+use Rattle.nts_store.specs.declared.nodes.NodeId.{NodeId}
+use Rattle.nts_terms.specs.declared.handles.Goal.{Goal}
+use Rattle.nts_certainty.specs.declared.sources.RerunCondition.TheVariants as rerun
+use Rattle.nts_store.specs.Growth.{tree_at, IsIn}
+use Rattle.nts_terms.specs.Handles.{HoldsPredicate, HoldsEnv, HoldsGoal}
+use Rattle.nts_model.specs.Handlers.{NamesFresh}
+use Rattle.nts_model.specs.Handlers as handlers
+use Rattle.nts_unify.specs.Reading.{left_kind}
+use Rattle.nts_model.specs.declared.labels.Sort.TheVariants as sort
+use Rattle.nts_delegate.specs.declared.delegate.Equation.{Equation}
+use Rattle.nts_delegate.specs.declared.delegate.RegionConstraint.{RegionConstraint}
+use Rattle.nts_delegate.specs.declared.delegate.CandidateGoal.{CandidateGoal}
+use Rattle.nts_delegate.specs.declared.delegate.CandidateData.{CandidateData}
+
+-- .. that handlers are asked
+pub record IsAsked (ts : List Tree) (g : Goal) : Type 0 where
+  pub holds : HoldsGoal ts g
+  pub asked : handlers.IsAsked (tree_at ts g.param_env.node) (tree_at ts g.predicate.node)
+
+-- the table has all variables of the goal
+pub record KnowsGoal (ts : List Tree) (c : Content) (g : Goal) : Type 0 where
+  pub env : Knows c (tree_at ts g.param_env.node)
+  pub predicate : Knows c (tree_at ts g.predicate.node)
+
+-- a term over the fresh variables and those of the goal
+pub record IsOver (ts : List Tree) (fresh : List Sort) (g : Goal) (t : NodeId) : Type 0 where
+  pub within : IsIn ts t
+  pub names : NamesFresh fresh (tree_at ts t)
+  pub knows : (c : Content) → KnowsGoal ts c g → Knows c (tree_at ts t)
+
+-- an equation between arguments
+pub record IsEquation (ts : List Tree) (fresh : List Sort) (g : Goal) (q : Equation) : Type 0 where
+  pub lhs : IsOver ts fresh g q.lhs.node
+  pub rhs : IsOver ts fresh g q.rhs.node
+  pub argument : FitsPlace any_argument (kind_of (tree_at ts q.lhs.node))
+
+abbrev pub AreEquations : List Tree → List Sort → Goal → List Equation → Type 0
+AreEquations ts fresh g [] = Unit {0}
+AreEquations ts fresh g (q ∷ qs) = IsEquation ts fresh g q × AreEquations ts fresh g qs
+
+pub record IsRegionConstraint (ts : List Tree) (fresh : List Sort) (g : Goal) (x : RegionConstraint) : Type 0 where
+  pub left : IsOver ts fresh g x.left.node
+  pub right : IsOver ts fresh g x.right.node
+  pub left_sort : kind_of (tree_at ts x.left.node) ≡ Some (left_kind x.relation)
+  pub right_sort : kind_of (tree_at ts x.right.node) ≡ Some (of_sort sort.Region)
+
+abbrev pub AreRegionConstraints : List Tree → List Sort → Goal → List RegionConstraint → Type 0
+AreRegionConstraints ts fresh g [] = Unit {0}
+AreRegionConstraints ts fresh g (x ∷ xs) = IsRegionConstraint ts fresh g x × AreRegionConstraints ts fresh g xs
+
+-- a goal that is asked in the same environment
+pub record IsNested (ts : List Tree) (fresh : List Sort) (g h : Goal) : Type 0 where
+  pub environment : h.param_env ≡ g.param_env
+  pub holds : HoldsGoal ts h
+  pub env : IsOver ts fresh g h.param_env.node
+  pub predicate : IsOver ts fresh g h.predicate.node
+
+abbrev pub AreNested : List Tree → List Sort → Goal → List CandidateGoal → Type 0
+AreNested ts fresh g [] = Unit {0}
+AreNested ts fresh g (h ∷ hs) = IsNested ts fresh g h.goal × AreNested ts fresh g hs
+
+-- a candidate of the store for a goal; until hidden types exist it has none, and rests on none
+pub record IsCandidate (ts : List Tree) (g : Goal) (c : CandidateData) : Type 0 where
+  pub hidden : c.hidden_types.items ≡ []
+  pub accesses : c.accesses ≡ rerun.Never
+  pub equations : AreEquations ts c.fresh.items g c.equations.items
+  pub constraints : AreRegionConstraints ts c.fresh.items g c.region_constraints.items
+  pub goals : AreNested ts c.fresh.items g c.goals.items
+
+abbrev pub AreCandidates : List Tree → Goal → List CandidateData → Type 0
+AreCandidates ts g [] = Unit {0}
+AreCandidates ts g (c ∷ cs) = IsCandidate ts g c × AreCandidates ts g cs

@@ -1,0 +1,87 @@
+-- Clauses that a handler may be made of.
+use Rattle.std.specs.Prelude.{◌≡◌, ℕ, Bool, true, false, List, [], ◌∷◌, Option, Some, None, slice_get}
+use Rattle.nts_model.specs.declared.labels.Sort.{Sort}
+use Rattle.nts_model.specs.declared.labels.FreeRegion.{FreeRegion}
+use Rattle.nts_model.specs.declared.labels.FreeRegion.TheVariants as region
+use Rattle.nts_model.specs.declared.labels.Leaf.{Leaf}
+use Rattle.nts_model.specs.declared.labels.Leaf.TheVariants as leaf
+use Rattle.nts_model.specs.declared.labels.PredicateHead.{PredicateHead}
+use Rattle.nts_model.specs.declared.labels.PredicateHead.TheVariants as predicate
+use Rattle.nts_model.specs.declared.labels.Label.{Label}
+use Rattle.nts_model.specs.declared.labels.Label.TheVariants as label
+use Rattle.nts_model.specs.Trees.{Tree, any_label, IsClosed}
+use Rattle.nts_store.specs.declared.nodes.NodeId.{NodeId}
+use Rattle.nts_terms.specs.declared.handles.Predicate.{Predicate}
+use Rattle.nts_store.specs.Growth.{tree_at, IsIn}
+use Rattle.nts_model.specs.Handlers.{position_of}
+use Rattle.nts_terms.specs.Handles.{HoldsArgs, HoldsPredicate}
+use Rattle.nts_model.specs.Handlers.{NamesAt, NamesFresh}
+use Rattle.nts_delegate.specs.declared.clauses.Clause.{Clause}
+use Rattle.nts_delegate.specs.declared.clauses.TraitClauses.{TraitClauses}
+use Rattle.nts_delegate.specs.declared.clauses.Clauses.{Clauses}
+
+-- leaves that a clause may not have: only regions that stand for themselves everywhere are left
+abbrev pub is_foreign_region : FreeRegion → Bool
+is_foreign_region region.Static = false
+is_foreign_region region.Erased = false
+is_foreign_region region.Error = false
+is_foreign_region r = true
+
+abbrev pub is_foreign_leaf : Leaf → Bool
+is_foreign_leaf (leaf.Region r) = is_foreign_region r
+is_foreign_leaf l = true
+
+-- goals that a clause may not ask for
+abbrev pub is_foreign_predicate : PredicateHead → Bool
+is_foreign_predicate predicate.ConstEquate = true
+is_foreign_predicate (predicate.NormalizesTo i) = true
+is_foreign_predicate p = false
+
+abbrev pub is_foreign : Label → Bool
+is_foreign (label.Leaf l) = is_foreign_leaf l
+is_foreign (label.Predicate p) = is_foreign_predicate p
+is_foreign l = false
+
+-- what a label of a clause's term may be
+abbrev pub MayHave : List Sort → Label → Type 0
+MayHave fresh l = NamesAt fresh (position_of l) l × (is_foreign l ≡ false)
+
+-- a term of a clause: it names its variables as positions, and has no leaves of a goal's
+pub record IsClauseTerm (ts : List Tree) (fresh : List Sort) (t : NodeId) : Type 0 where
+  pub within : IsIn ts t
+  pub names : NamesFresh fresh (tree_at ts t)
+  pub own : any_label is_foreign (tree_at ts t) ≡ false
+  pub closed : IsClosed (tree_at ts t)
+
+abbrev pub AreBodies : List Tree → List Sort → List Predicate → Type 0
+AreBodies ts fresh [] = Unit {0}
+AreBodies ts fresh (p ∷ ps) = HoldsPredicate ts p × IsClauseTerm ts fresh p.node × AreBodies ts fresh ps
+
+pub record IsClause (ts : List Tree) (c : Clause) : Type 0 where
+  pub head_holds : HoldsArgs ts c.head
+  pub head : IsClauseTerm ts c.fresh.items c.head.node
+  pub body : AreBodies ts c.fresh.items c.body.items
+
+abbrev pub AreClauses : List Tree → List Clause → Type 0
+AreClauses ts [] = Unit {0}
+AreClauses ts (c ∷ cs) = IsClause ts c × AreClauses ts cs
+
+-- the clauses of a trait, in the order in which they were added
+abbrev pub clauses_in : Option TraitClauses → List Clause
+clauses_in None = []
+clauses_in (Some t) = t.clauses.items
+
+abbrev pub clauses_of : Clauses → ℕ → List Clause
+clauses_of h i = clauses_in (slice_get h.traits.items i)
+
+-- whether a trait is coinductive
+abbrev pub coinductive_in : Option TraitClauses → Bool
+coinductive_in None = false
+coinductive_in (Some t) = t.is_coinductive
+
+abbrev pub coinductive_of : Clauses → ℕ → Bool
+coinductive_of h i = coinductive_in (slice_get h.traits.items i)
+
+-- the clauses are of the store
+abbrev pub AreReady : List Tree → Clauses → Type 0
+AreReady ts h = (i : ℕ) → AreClauses ts (clauses_of h i)

@@ -1,0 +1,12 @@
+pub mod Adding
+pub mod Candidates
+pub mod ClauseHandlers
+pub mod Clauses
+pub mod ClausesKept
+pub mod ClausesLawful
+pub mod HandlerLaws
+pub mod Offered
+pub mod Offers
+pub mod OwnClauses
+pub mod OwnTerms
+pub mod SameHandlers

@@ -1,0 +1,124 @@
+//! Whether a clause may be added to a handler.
+ghost use Rattle.std.specs.Prelude.{◌≡◌, ◌↔◌, IfOk, IsTrue, IsOkUnless, slice_get};
+ghost use Rattle.nts_model.specs.Trees.{of_sort};
+ghost use Rattle.nts_store.specs.Growth.{IsIn};
+ghost use Rattle.nts_model.specs.Handlers.{position_of};
+ghost use Rattle.nts_terms.specs.Handles.{HoldsArgs, HoldsPredicate};
+ghost use Rattle.nts_model.specs.Handlers.{IsOfSort, NamesAt};
+ghost use Rattle.nts_delegate.specs.Clauses.{MayHave, is_foreign, is_foreign_leaf, IsClauseTerm, IsClause};
+
+use crate::clauses::{Clause, Clauses};
+use nts_model::{BoundIndex, FreeRegion, Label, Leaf, PredicateHead, Sort};
+use nts_store::{Fault, LabelTest, NodeId, all_labels};
+use nts_terms::{Cx, GenericArgs, Predicate};
+use std::alloc::AllocError;
+
+/// What the labels of a clause's terms are to be, over fresh variables of these sorts.
+#[derive(Drop)]
+struct ClauseLabels<'a> {
+    fresh: &'a [Sort],
+}
+
+impl LabelTest for ClauseLabels<'_> {
+    ghost passes = { λ s l. MayHave s.fresh.now l };
+
+    fn test(&self, label: Label) -> bool {
+        names_fresh(self.fresh, label) && !is_foreign_label(label)
+    }
+}
+
+impl Clauses {
+    /// Whether a clause may be added to the handlers of this store: it names only its own variables,
+    /// and has no leaf of a goal's.
+    pub fn clause_fits(cx: &Cx, clause: &Clause) -> Result<bool, Fault>
+        ensures fits { IfOk result (λ b. IsTrue b ↔ IsClause cx.now.nodes clause.now) }
+        ensures memory { IsOkUnless result Fault.Memory }
+    {
+        if !head_fits(cx, &clause.fresh, clause.head)? {
+            return Ok(false);
+        }
+        for predicate in &clause.body {
+            if !body_fits(cx, &clause.fresh, *predicate)? {
+                return Ok(false);
+            }
+        }
+        Ok(true)
+    }
+}
+
+fn head_fits(cx: &Cx, fresh: &[Sort], head: GenericArgs) -> Result<bool, AllocError>
+    ensures { IfOk result (λ b. IsTrue b ↔ (HoldsArgs cx.now.nodes head × IsClauseTerm cx.now.nodes
+        fresh.now head.node)) }
+{
+    if !cx.holds(head) {
+        return Ok(false);
+    }
+    is_clause_term(cx, fresh, head.node)
+}
+
+fn body_fits(cx: &Cx, fresh: &[Sort], predicate: Predicate) -> Result<bool, AllocError>
+    ensures { IfOk result (λ b. IsTrue b ↔ (HoldsPredicate cx.now.nodes predicate × IsClauseTerm
+        cx.now.nodes fresh.now predicate.node)) }
+{
+    if !cx.holds(predicate) {
+        return Ok(false);
+    }
+    is_clause_term(cx, fresh, predicate.node)
+}
+
+fn is_clause_term(cx: &Cx, fresh: &[Sort], t: NodeId) -> Result<bool, AllocError>
+    requires { IsIn cx.now.nodes t }
+    ensures { IfOk result (λ b. IsTrue b ↔ IsClauseTerm cx.now.nodes fresh.now t) }
+{
+    if cx.nodes.facts(t).escaping.is_some() {
+        return Ok(false);
+    }
+    all_labels(cx.alloc, &cx.nodes, t, &ClauseLabels { fresh })
+}
+
+fn names_fresh(fresh: &[Sort], label: Label) -> bool
+    ensures { IsTrue result ↔ NamesAt fresh.now (position_of label) label }
+{
+    match label {
+        Label::Bound(sort, BoundIndex::Canonical, position) => is_sort_at(fresh, position, sort),
+        Label::Bound(_, BoundIndex::Level(_), _) => true,
+        Label::Leaf(_) => true,
+        Label::Ty(_) => true,
+        Label::Const(_) => true,
+        Label::Clause(_) => true,
+        Label::Predicate(_) => true,
+        Label::List(_) => true,
+    }
+}
+
+fn is_sort_at(fresh: &[Sort], position: usize, sort: Sort) -> bool
+    ensures { IsTrue result ↔ IsOfSort (slice_get fresh.now position) (of_sort sort) }
+{
+    match fresh.get(position) {
+        Some(its_sort) => *its_sort == sort,
+        None => false,
+    }
+}
+
+/// Whether a clause may not have the label, whatever it names.
+fn is_foreign_label(label: Label) -> bool
+    ensures { result ≡ is_foreign label }
+{
+    match label {
+        Label::Leaf(leaf) => is_foreign_leaf_of(leaf),
+        Label::Predicate(PredicateHead::ConstEquate) => true,
+        Label::Predicate(PredicateHead::NormalizesTo(_)) => true,
+        _ => false,
+    }
+}
+
+fn is_foreign_leaf_of(leaf: Leaf) -> bool
+    ensures { result ≡ is_foreign_leaf leaf }
+{
+    match leaf {
+        Leaf::Region(FreeRegion::Static) => false,
+        Leaf::Region(FreeRegion::Erased) => false,
+        Leaf::Region(FreeRegion::Error) => false,
+        _ => true,
+    }
+}

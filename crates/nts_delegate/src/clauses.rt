@@ -1,0 +1,295 @@
+//! A handler made of a list of clauses.
+ghost use Rattle.std.specs.Prelude.{◌≡◌, ◌<◌, ◌↔◌, ℕ, [], false, List, length, map, IfOk, OnOk, OnErr, IsTrue, IsOkUnless};
+ghost use Rattle.nts_model.specs.Trees.{Tree, row_length, children, IsRow};
+ghost use Rattle.nts_store.specs.Growth.{tree_at, Extends};
+ghost use Rattle.nts_terms.specs.Handles.{HoldsArgs};
+ghost use Rattle.nts_terms.specs.Kinds.{tree_of_statement, StatementFits, tree_of_clause, ClauseFits};
+ghost use Rattle.nts_terms.specs.Rest.{KeepsRest};
+ghost use Rattle.nts_delegate.specs.Offers.{IsOffer, ArePairs, asked_by, read_trait, trait_read, HoldsTrait};
+
+use crate::delegate::{CandidateData, CandidateGoal, Equation, EquationKind, GoalHandler};
+use nts_certainty::{Certainty, GoalSource, RerunCondition};
+use nts_model::Sort;
+use nts_store::Fault;
+use nts_terms::{
+    ClauseKind, Cx, GenericArgs, Goal, Predicate, PredicateKind, TraitId, TraitRef, TypingMode,
+};
+use std::alloc::{AllocError, Global};
+
+/// A rule for a trait: the head holds where the body does. Its terms name its variables as canonical
+/// bound variables.
+#[derive(Drop)]
+pub struct Clause {
+    /// The sorts of its variables.
+    pub fresh: Vec<Sort>,
+    pub trait_id: TraitId,
+    pub head: GenericArgs,
+    pub body: Vec<Predicate>,
+}
+
+#[derive(Drop)]
+struct TraitClauses {
+    clauses: Vec<Clause>,
+    is_coinductive: bool,
+}
+
+/// A handler made of clauses, in the order in which they were added.
+#[derive(Drop)]
+pub struct Clauses {
+    alloc: Global,
+    traits: Vec<TraitClauses>,
+}
+
+impl Clauses {
+    ghost use Rattle.nts_delegate.specs.Clauses.{IsClause, AreReady, clauses_of, coinductive_of};
+    ghost use Rattle.nts_delegate.specs.Adding.{IsSame, AddsClause, MakesCoinductive};
+
+    /// No clauses. It takes no memory.
+    pub fn new(alloc: Global) -> Self
+        ensures clauses { (i : ℕ) → clauses_of result i ≡ [] }
+        ensures coinductive { (i : ℕ) → coinductive_of result i ≡ false }
+        ensures ready { (ts : List Tree) → AreReady ts result }
+    {
+        Clauses {
+            alloc,
+            traits: Vec::new(alloc),
+        }
+    }
+
+    /// One more clause, after all others of its trait.
+    pub fn add_clause(&mut self, clause: Clause) -> Result<(), Fault>
+        ensures added { OnOk result (AddsClause self.old self.new clause) }
+        ensures err { OnErr result (IsSame self.old self.new) }
+        ensures ready { (ts : List Tree) → AreReady ts self.old → IsClause ts clause →
+            AreReady ts self.new }
+        ensures memory { IsOkUnless result Fault.Memory }
+    {
+        let entry = self.entry(clause.trait_id)?;
+        self.traits[entry].clauses.push(clause)?;
+        Ok(())
+    }
+
+    /// Makes a trait coinductive: a cycle through conditions of its impls holds.
+    pub fn set_coinductive(&mut self, id: TraitId) -> Result<(), Fault>
+        ensures made { OnOk result (MakesCoinductive self.old self.new id.number) }
+        ensures err { OnErr result (IsSame self.old self.new) }
+        ensures ready { (ts : List Tree) → AreReady ts self.old → AreReady ts self.new }
+        ensures memory { IsOkUnless result Fault.Memory }
+    {
+        let entry = self.entry(id)?;
+        self.traits[entry].is_coinductive = true;
+        Ok(())
+    }
+
+    /// The place of a trait, which is made where there is none.
+    fn entry(&mut self, id: TraitId) -> Result<usize, Fault>
+        ensures is { IfOk result (λ i. i ≡ id.number) }
+        ensures within { IfOk result (λ i. i < length self.new.traits.items) }
+        ensures same { IsSame self.old self.new }
+        ensures memory { IsOkUnless result Fault.Memory }
+    {
+        while self.traits.len() <= id.number {
+            self.traits.push(TraitClauses {
+                clauses: Vec::new(self.alloc),
+                is_coinductive: false,
+            })?;
+        }
+        Ok(id.number)
+    }
+
+    /// The clauses of a trait.
+    fn of_trait(&self, id: TraitId) -> &[Clause]
+        ensures { result.now ≡ clauses_of self.now id.number }
+    {
+        match self.traits.get(id.number) {
+            Some(entry) => &entry.clauses,
+            None => &[],
+        }
+    }
+}
+
+impl GoalHandler for Clauses {
+    ghost use Rattle.nts_delegate.specs.Candidates.{IsAsked, AreCandidates};
+    ghost use Rattle.nts_delegate.specs.Clauses.{AreReady, coinductive_of};
+    ghost use Rattle.nts_delegate.specs.ClausesKept.{AreReady-kept};
+    ghost use Rattle.nts_delegate.specs.ClauseHandlers.{handler_of};
+    ghost use Rattle.nts_delegate.specs.ClausesLawful.{IsLawful-handler_of, MeansSame-kept};
+    ghost use Rattle.nts_delegate.specs.Offered.{candidates_of};
+    ghost use Rattle.nts_terms.specs.Modes.{mode_of};
+    ghost use Rattle.nts_delegate.specs.Offers.{AreOffers};
+    ghost use Rattle.nts_store.specs.Growth.{tree_at};
+
+    ghost ready = { AreReady };
+
+    ghost handler = { handler_of };
+
+    fn candidates(
+        &self,
+        cx: &mut Cx,
+        mode: &TypingMode,
+        goal: Goal,
+    ) -> Result<Vec<CandidateData>, Fault>
+        requires ready { AreReady cx.old.nodes self.now }
+        requires goal { IsAsked cx.old.nodes goal }
+        ensures offers { IfOk result (λ cs. AreOffers cx.new.nodes goal self.now cs.items) }
+        ensures offered { IfOk result (λ cs. candidates_of cx.new.nodes cs.items ≡
+            (handler_of cx.new.nodes self.now).offers (mode_of mode.now)
+            (tree_at cx.new.nodes goal.param_env.node) (tree_at cx.new.nodes goal.predicate.node)) }
+        ensures same { cx.new ≡ cx.old }
+        ensures candidates { IfOk result (λ cs. AreCandidates cx.new.nodes goal cs.items) }
+        ensures extends { Extends cx.old.nodes cx.new.nodes }
+        ensures rest { KeepsRest cx.old cx.new }
+        ensures memory { IsOkUnless result Fault.Memory }
+    {
+        let _ = mode;
+        self.offers(cx, goal)
+    }
+
+    fn trait_is_coinductive(&self, id: TraitId) -> bool
+        ensures set { result ≡ coinductive_of self.now id.number }
+        ensures meaning { (ts : List Tree) → result ≡ (handler_of ts self.now).is_coinductive
+            id.number }
+    {
+        match self.traits.get(id.number) {
+            Some(entry) => entry.is_coinductive,
+            None => false,
+        }
+    }
+
+    ghost lawful = { λ ts s f r. IsLawful-handler_of ts s f r };
+
+    ghost handler_kept = { λ a b s r e. MeansSame-kept a b s r e };
+
+    ghost ready_kept = { λ a b s h e. AreReady-kept a b s h e };
+}
+
+impl Clauses {
+    ghost use Rattle.nts_delegate.specs.Candidates.{IsAsked, AreCandidates};
+    ghost use Rattle.nts_delegate.specs.Clauses.{AreReady};
+    ghost use Rattle.nts_delegate.specs.Offers.{AreOffers};
+
+    /// What each clause of the goal's trait offers, if it takes as many arguments.
+    #[inline(never)]
+    fn offers(&self, cx: &Cx, goal: Goal) -> Result<Vec<CandidateData>, Fault>
+        requires ready { AreReady cx.now.nodes self.now }
+        requires goal { IsAsked cx.now.nodes goal }
+        ensures offers { IfOk result (λ cs. AreOffers cx.now.nodes goal self.now cs.items) }
+        ensures candidates { IfOk result (λ cs. AreCandidates cx.now.nodes goal cs.items) }
+        ensures memory { IsOkUnless result Fault.Memory }
+    {
+        let mut found = Vec::new(self.alloc);
+        let Some(trait_ref) = trait_of_statement(goal.predicate.kind(cx).value) else {
+            return Ok(found);
+        };
+        for clause in self.of_trait(trait_ref.def_id) {
+            if trait_ref.args.len(cx) == clause.head.len(cx) {
+                found.push(offer_of(self.alloc, cx, clause, goal, trait_ref.args)?)?;
+            }
+        }
+        Ok(found)
+    }
+}
+
+/// The trait and the arguments that a trait's goal is about.
+fn trait_of_statement(kind: PredicateKind) -> Option<TraitRef>
+    ensures is { (ts : List Tree) → trait_read (tree_of_statement ts kind) ≡ read_trait ts result }
+    ensures holds { (ts : List Tree) → StatementFits ts kind → HoldsTrait ts result }
+{
+    match kind {
+        PredicateKind::Clause(clause) => trait_of_clause(clause),
+        PredicateKind::Subtype { .. } => None,
+        PredicateKind::Coerce { .. } => None,
+        PredicateKind::DynCompatible(_) => None,
+        PredicateKind::ConstEquate(_, _) => None,
+        PredicateKind::NormalizesTo { .. } => None,
+        PredicateKind::AliasRelate(_, _, _) => None,
+        PredicateKind::Ambiguous => None,
+    }
+}
+
+fn trait_of_clause(kind: ClauseKind) -> Option<TraitRef>
+    ensures is { (ts : List Tree) → trait_read (tree_of_clause ts kind) ≡ read_trait ts result }
+    ensures holds { (ts : List Tree) → ClauseFits ts kind → HoldsTrait ts result }
+{
+    match kind {
+        ClauseKind::Trait(trait_ref) => Some(trait_ref),
+        ClauseKind::HostEffect(_) => None,
+        ClauseKind::Projection { .. } => None,
+        ClauseKind::TypeOutlives(_, _) => None,
+        ClauseKind::RegionOutlives(_, _) => None,
+        ClauseKind::ConstArgHasType(_, _) => None,
+        ClauseKind::WellFormed(_) => None,
+        ClauseKind::ConstEvaluatable(_) => None,
+        ClauseKind::UnstableFeature(_) => None,
+    }
+}
+
+/// What a clause offers for a goal with these arguments: its head's arguments are the goal's, and its
+/// body is to be proved.
+fn offer_of(
+    alloc: Global,
+    cx: &Cx,
+    clause: &Clause,
+    goal: Goal,
+    args: GenericArgs,
+) -> Result<CandidateData, Fault>
+    requires args { HoldsArgs cx.now.nodes args }
+    requires head { HoldsArgs cx.now.nodes clause.now.head }
+    requires row { IsRow (children (tree_at cx.now.nodes clause.now.head.node)) }
+    requires long { row_length (children (tree_at cx.now.nodes args.node)) ≡ row_length (children
+        (tree_at cx.now.nodes clause.now.head.node)) }
+    ensures offer { IfOk result (IsOffer cx.now.nodes goal
+        (tree_at cx.now.nodes args.node) clause.now) }
+    ensures memory { IsOkUnless result Fault.Memory }
+{
+    Ok(CandidateData {
+        fresh: Vec::from_slice(alloc, &clause.fresh)?,
+        equations: pairs_of(alloc, cx, args, clause.head)?,
+        region_constraints: Vec::new(alloc),
+        hidden_types: Vec::new(alloc),
+        goals: asked_of(alloc, goal, &clause.body)?,
+        certainty: Certainty::Yes,
+        accesses: RerunCondition::Never,
+    })
+}
+
+/// Each argument with the one of the head at its position.
+fn pairs_of(
+    alloc: Global,
+    cx: &Cx,
+    args: GenericArgs,
+    head: GenericArgs,
+) -> Result<Vec<Equation>, AllocError>
+    requires args { HoldsArgs cx.now.nodes args }
+    requires head { HoldsArgs cx.now.nodes head }
+    requires row { IsRow (children (tree_at cx.now.nodes head.node)) }
+    requires long { row_length (children (tree_at cx.now.nodes args.node)) ≡ row_length (children
+        (tree_at cx.now.nodes head.node)) }
+    ensures { IfOk result (λ qs. ArePairs cx.now.nodes (children (tree_at cx.now.nodes args.node))
+        (children (tree_at cx.now.nodes head.node)) qs.items) }
+{
+    let mut equations = Vec::new(alloc);
+    for i in 0..args.len(cx) {
+        equations.push(Equation {
+            kind: EquationKind::Related,
+            lhs: args.get(cx, i),
+            rhs: head.get(cx, i),
+        })?;
+    }
+    Ok(equations)
+}
+
+/// A clause's body as goals, in the environment of the goal.
+fn asked_of(alloc: Global, goal: Goal, body: &[Predicate]) -> Result<Vec<CandidateGoal>, AllocError>
+    ensures { IfOk result (λ gs. gs.items ≡ map (asked_by goal) body.now) }
+{
+    body.iter()
+        .map(|predicate| CandidateGoal {
+            source: GoalSource::ImplWhereBound,
+            goal: Goal {
+                param_env: goal.param_env,
+                predicate: *predicate,
+            },
+        })
+        .collect(alloc)
+}

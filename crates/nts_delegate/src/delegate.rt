@@ -1,0 +1,112 @@
+//! What offers the rules of traits.
+ghost use Rattle.std.specs.Prelude.{List, IfOk, IsOkUnless};
+ghost use Rattle.nts_model.specs.Trees.{Tree};
+ghost use Rattle.nts_store.specs.Growth.{Extends};
+ghost use Rattle.nts_terms.specs.Rest.{KeepsRest};
+
+use nts_certainty::{Certainty, GoalSource, RerunCondition};
+use nts_model::{Relation, Sort};
+use nts_store::Fault;
+use nts_terms::{AliasTerm, Cx, GenericArg, Goal, Region, TraitId, Ty, TypingMode};
+
+/// How the two sides of an equation are made equal.
+#[derive(Clone, Copy)]
+pub enum EquationKind {
+    /// Aliases stand for what they normalize to.
+    Related,
+    /// Aliases are taken as they stand.
+    Structural,
+}
+
+/// Two arguments that a candidate makes equal.
+#[derive(Clone, Copy)]
+pub struct Equation {
+    pub kind: EquationKind,
+    pub lhs: GenericArg,
+    pub rhs: GenericArg,
+}
+
+/// A region constraint that a candidate asks for.
+#[derive(Clone, Copy)]
+pub struct RegionConstraint {
+    pub relation: Relation,
+    pub left: GenericArg,
+    pub right: Region,
+}
+
+/// A type that an alias hides.
+#[derive(Clone, Copy)]
+pub struct HiddenType {
+    pub key: AliasTerm,
+    pub ty: Ty,
+}
+
+/// A goal that a candidate asks for.
+#[derive(Clone, Copy)]
+pub struct CandidateGoal {
+    pub source: GoalSource,
+    pub goal: Goal,
+}
+
+/// A way in which a goal may hold. Its terms name its fresh variables as canonical bound variables.
+#[derive(Drop)]
+pub struct CandidateData {
+    /// The sorts of the fresh variables.
+    pub fresh: Vec<Sort>,
+    pub equations: Vec<Equation>,
+    pub region_constraints: Vec<RegionConstraint>,
+    pub hidden_types: Vec<HiddenType>,
+    pub goals: Vec<CandidateGoal>,
+    /// How sure the candidate is where all that it asks for holds.
+    pub certainty: Certainty,
+    pub accesses: RerunCondition,
+}
+
+/// What offers the rules of traits as data.
+pub trait GoalHandler {
+    ghost use Rattle.std.specs.Prelude.{◌≡◌};
+    ghost use Rattle.nts_model.specs.Handlers.{Handler, IsLawful};
+    ghost use Rattle.nts_store.specs.Growth.{tree_at};
+    ghost use Rattle.nts_store.specs.Formed.{AreFormed};
+    ghost use Rattle.nts_delegate.specs.Candidates.{IsAsked, AreCandidates};
+    ghost use Rattle.nts_delegate.specs.Offered.{candidates_of};
+    ghost use Rattle.nts_terms.specs.Modes.{mode_of};
+    ghost use Rattle.nts_delegate.specs.SameHandlers.{MeansSame};
+
+    /// The handler's own terms are of a store of these trees.
+    ghost ready: { List Tree → Self → Type 0 };
+
+    /// What the handler means, where a store has these trees: its rules, its offers, and its coinductive traits.
+    ghost handler: { List Tree → Self → Handler };
+
+    /// The ways in which a goal may hold, in the order in which they are tried.
+    fn candidates(
+        &self,
+        cx: &mut Cx,
+        mode: &TypingMode,
+        goal: Goal,
+    ) -> Result<Vec<CandidateData>, Fault>
+        requires ready { ready cx.old.nodes self.now }
+        requires goal { IsAsked cx.old.nodes goal }
+        ensures candidates { IfOk result (λ cs. AreCandidates cx.new.nodes goal cs.items) }
+        ensures offered { IfOk result (λ cs. candidates_of cx.new.nodes cs.items ≡
+            (handler cx.new.nodes self.now).offers (mode_of mode.now)
+            (tree_at cx.new.nodes goal.param_env.node) (tree_at cx.new.nodes goal.predicate.node)) }
+        ensures extends { Extends cx.old.nodes cx.new.nodes }
+        ensures rest { KeepsRest cx.old cx.new }
+        ensures memory { IsOkUnless result Fault.Memory };
+
+    /// Whether a cycle through conditions of this trait's impls holds.
+    fn trait_is_coinductive(&self, id: TraitId) -> bool
+        ensures meaning { (ts : List Tree) → result ≡ (handler ts self.now).is_coinductive id.number };
+
+    /// The handler keeps the laws: candidates commute with plain renaming, their instances are rules, rules are closed
+    /// under instances, and candidates keep the environment and have no foreign leaves, sorts or sources.
+    ghost lawful: { (ts : List Tree) (s : Self) → AreFormed ts → ready ts s → IsLawful (handler ts s) };
+
+    /// A store that grows keeps what the handler means.
+    ghost handler_kept: { (a b : List Tree) (s : Self) → ready a s → Extends a b → MeansSame (handler b s) (handler a s) };
+
+    /// A store that grows keeps the handler's terms.
+    ghost ready_kept: { (a b : List Tree) (s : Self) → ready a s → Extends a b → ready b s };
+}

@@ -1,0 +1,11 @@
+//! What offers the rules of traits: the handler and its laws, and a handler that is a list of clauses.
+#![tactic(auto)]
+
+mod clause_fits;
+mod clauses;
+mod delegate;
+
+pub use clauses::{Clause, Clauses};
+pub use delegate::{
+    CandidateData, CandidateGoal, Equation, EquationKind, GoalHandler, HiddenType, RegionConstraint,
+};

@@ -1,0 +1,103 @@
+-- Which goals are asked of a handler.
+use Rattle.std.proofs.Common.{◌≡◌, ◌||◌, false, List, is_some, refl, sym, ap, ◌∙◌, arith}
+use Rattle.nts_model.specs.declared.labels.ClauseHead.TheVariants as clause_head
+use Rattle.nts_model.specs.declared.labels.ListHead.TheVariants as list
+use Rattle.nts_model.specs.declared.labels.Label.TheVariants as label
+use Rattle.nts_model.specs.Trees.{Tree, empty, more, node, children, row_length, IsRow, any_label, is_canonical, IsClosed}
+use Rattle.nts_model.specs.Related.{no_sorts, unbound}
+use Rattle.nts_store.specs.declared.facts.Facts.{Facts}
+use Rattle.nts_terms.specs.declared.handles.Binder.{Binder}
+use Rattle.nts_terms.specs.declared.handles.Goal.{Goal}
+use Rattle.nts_terms.specs.declared.handles.TraitRef.{TraitRef}
+use Rattle.nts_terms.specs.declared.kinds.ClauseKind.TheVariants as clause
+use Rattle.nts_terms.specs.declared.kinds.PredicateKind.{PredicateKind}
+use Rattle.nts_terms.specs.declared.kinds.PredicateKind.TheVariants as predicate
+use Rattle.nts_store.specs.Facts.{facts_of}
+use Rattle.nts_store.specs.Formed.{AreFormed}
+use Rattle.nts_store.specs.Growth.{tree_at, Extends}
+use Rattle.nts_terms.specs.Kinds.{tree_of_statement, tree_of_predicate, PredicateFits}
+use Rattle.nts_store.proofs.Growing.{Extends-trans, Extends-refl}
+use Rattle.nts_terms.proofs.Standing.{vars_tree}
+use Rattle.nts_table.specs.Tables.{Table}
+use Rattle.nts_table.specs.Tables.{IsTable}
+use Rattle.nts_unify.specs.Lawful.{content_of-extended}
+use Rattle.nts_table.specs.TableLaws.{IsTable-extended}
+use Rattle.nts_delegate.specs.ClausesKept.{AreReady-kept}
+use Rattle.nts_evaluation.specs.Evaluation.{IsAdmitted}
+use Rattle.nts_delegate.specs.Candidates.{IsAsked}
+use Rattle.nts_terms.specs.Handles.{HoldsGoal}
+use Rattle.nts_evaluation.proofs.Evaluating.{HoldsGoal-extended}
+use Rattle.nts_delegate.proofs.Testing.{or_false, none_escapes}
+
+-- a binder without variables
+row_of_none : (t : Tree) → IsRow t → row_length t ≡ 0 → t ≡ empty
+row_of_none empty r e = refl
+row_of_none (more a b) r e = absurd (omega (arith, e))
+row_of_none (node l c) r e = absurd r
+
+-- what the tests of a goal see
+pub record AreTests (ts : List Tree) (g : Goal) (b : Binder PredicateKind) (r : TraitRef) (env goal args : Facts) : Type 0 where
+  pub formed : AreFormed ts
+  pub holds : HoldsGoal ts g
+  pub says : tree_at ts g.predicate.node ≡ tree_of_predicate ts b
+  pub fits : PredicateFits ts b
+  pub row : IsRow (children (tree_at ts b.vars.node))
+  pub none : row_length (children (tree_at ts b.vars.node)) ≡ 0
+  pub is_trait : b.value ≡ predicate.Clause (clause.Trait r)
+  pub env_facts : env ≡ facts_of (tree_at ts g.param_env.node)
+  pub goal_facts : goal ≡ facts_of (tree_at ts g.predicate.node)
+  pub args_facts : args ≡ facts_of (tree_at ts r.args.node)
+  pub env_closed : is_some env.escaping ≡ false
+  pub args_closed : is_some args.escaping ≡ false
+  pub env_names : env.has_canonical ≡ false
+  pub goal_names : goal.has_canonical ≡ false
+
+pub trait_asked : (ts : List Tree) (g : Goal) (b : Binder PredicateKind) (r : TraitRef) (env goal args : Facts) → AreTests ts g b r env goal args → IsAsked ts g
+trait_asked ts g b r env goal args t =
+    let statement = node (label.Clause (clause_head.Trait r.def_id.number)) (more (tree_at ts r.args.node) empty) in
+    let binder : tree_at ts b.vars.node ≡ no_sorts = vars_tree (tree_at ts b.vars.node) t.fits.0.fits ∙ ap (node (label.List list.Sorts)) (row_of_none (children (tree_at ts b.vars.node)) t.row t.none) in
+    let says : tree_of_statement ts b.value ≡ node (label.Clause (clause_head.Trait r.def_id.number)) (more (tree_at ts r.args.node) empty) = ap (tree_of_statement ts) t.is_trait in
+    let is : tree_at ts g.predicate.node ≡ unbound (node (label.Clause (clause_head.Trait r.def_id.number)) (more (tree_at ts r.args.node) empty)) =
+    t.says ∙ (λ i. node (label.List list.Binder) (more (binder i) (more (says i) empty))) in
+    let env_tree_closed : IsClosed (tree_at ts g.param_env.node) = none_escapes (tree_at ts g.param_env.node) env.escaping (ap (λ f. f.escaping) t.env_facts) t.env_closed in
+    let args_tree_closed : IsClosed (tree_at ts r.args.node) = none_escapes (tree_at ts r.args.node) args.escaping (ap (λ f. f.escaping) t.args_facts) t.args_closed in
+    let env_none : any_label is_canonical (tree_at ts g.param_env.node) ≡ false = sym (ap (λ f. f.has_canonical) t.env_facts) ∙ t.env_names in
+    let goal_none : any_label is_canonical (tree_at ts g.predicate.node) ≡ false = sym (ap (λ f. f.has_canonical) t.goal_facts) ∙ t.goal_names in
+    let h = t.holds in
+    record {
+      holds = t.holds;
+      asked = record {
+        statement = statement;
+        binds_nothing = is;
+        handlers = tt;
+        formed = (t.formed g.param_env.node h.env.within, (t.formed g.predicate.node h.predicate.within, tt));
+        closed = (env_tree_closed, ((tt, (args_tree_closed, tt)), tt));
+        no_positions = or_false (any_label is_canonical (tree_at ts g.param_env.node)) (any_label is_canonical (tree_at ts g.predicate.node) || false) env_none (or_false (any_label is_canonical (tree_at ts g.predicate.node)) false goal_none refl);
+      };
+    }
+
+-- a goal that is asked, in a store that has grown
+pub IsAsked-extended : {a b : List Tree} {g : Goal} → Extends a b → IsAsked a g → IsAsked b g
+IsAsked-extended {a} {b} {g} e h =
+    let k = h.holds in
+    record {
+      holds = HoldsGoal-extended e h.holds;
+      asked = rw (e.kept g.param_env.node k.env.within, e.kept g.predicate.node k.predicate.within) h.asked;
+    }
+
+-- a goal that is admitted, in a store that has grown
+pub IsAdmitted-extended : {a b : List Tree} {t : Table} {g : Goal} → Extends a b → IsTable a t → IsAdmitted a t g → IsAdmitted b t g
+IsAdmitted-extended {a} {b} {t} {g} e h k =
+    let env = e.kept g.param_env.node k.holds.env.within in
+    let predicate = e.kept g.predicate.node k.holds.predicate.within in
+    let same = content_of-extended e h.now in
+    record {
+      holds = HoldsGoal-extended e k.holds;
+      env = record { closed = rw env k.env.closed; positions = rw env k.env.positions; knows = rw (env, same) k.env.knows };
+      predicate = record { closed = rw predicate k.predicate.closed; positions = rw predicate k.predicate.positions; knows = rw (predicate, same) k.predicate.knows };
+      env_types = rw (env, same) k.env_types;
+      asked = rw predicate k.asked;
+    }
+
+-- what goals keep while a store grows
+pub ruleset asking = (Extends-trans, Extends-refl, AreReady-kept, IsTable-extended, IsAdmitted-extended)

@@ -1,0 +1,4 @@
+pub mod Admitting
+pub mod Asking
+pub mod Evaluating
+pub mod Running

@@ -1,0 +1,28 @@
+use Rattle.std.proofs.Common.{◌∙◌}
+use Rattle.nts_unify.specs.Lawful.{content_of-extended}
+use Rattle.nts_table.specs.TableLaws.{IsTable-extended}
+use Rattle.nts_evaluation.proofs.Evaluating.{goal_posed, can_fill, instance_term, held_values}
+use Rattle.nts_evaluation.proofs.candidate.Trial.nested_goal.Goals as goal
+
+pub instantiate_both-requires-clause-values : goal.instantiate_both-requires-clause-values
+instantiate_both-requires-clause-values c = held_values c.requires.values
+
+pub resolve_goal-requires : goal.resolve_goal-requires
+resolve_goal-requires c =
+    let e = c.in_ok-env.ensures in
+    let n = c.requires.nested in
+    let p = c.requires.posed in
+    let v = c.requires.values in
+    goal_posed (IsTable-extended e.extends p.table) (instance_term p.table (can_fill p n.env v) e.extends e.left) (e.left.kind ∙ n.holds.env.fits) (instance_term p.table (can_fill p n.predicate v) e.extends e.right) (e.right.kind ∙ n.holds.predicate.fits)
+
+pub returns-clause-asks : goal.returns-clause-asks
+returns-clause-asks c =
+    let e = c.in_ok-env.ensures in
+    let k = c.in_ok-asked.ensures in
+    let same = content_of-extended e.extends c.requires.posed.table.now in
+    record {
+      env = rw (same, e.left.tree) at k.env;
+      predicate = rw (same, e.right.tree) at k.predicate;
+      formed_env = rw e.left.tree at (e.left.formed _ e.left.within);
+      formed_predicate = rw e.right.tree at (e.right.formed _ e.right.within);
+    }

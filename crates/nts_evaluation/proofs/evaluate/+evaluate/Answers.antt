@@ -1,0 +1,206 @@
+use Rattle.std.proofs.Common.{arith, ◌<◌, map, length, refl, ap, sym, ◌∙◌}
+use Rattle.std.proofs.lemmas.List.{take_all}
+use Rattle.nts_store.specs.Growth.{tree_at}
+use Rattle.nts_store.proofs.Growing.{Extends-refl, Extends-trans}
+use Rattle.nts_terms.proofs.Moved.{KeepsRest-refl}
+use Rattle.nts_evaluation.specs.Meant.{meaning_since}
+use Rattle.nts_unify.specs.Reading.{content_of}
+use Rattle.nts_delegate.specs.declared.delegate.CandidateGoal.{CandidateGoal}
+use Rattle.nts_model.specs.Handlers.{meaning}
+use Rattle.nts_delegate.specs.Offered.{certainty_of, candidate_of}
+use Rattle.nts_terms.specs.Modes.{mode_of}
+use Rattle.nts_evaluation.proofs.Asking.{IsAsked-extended}
+use Rattle.nts_evaluation.proofs.Running.{unread, premise_stays, HasRun, has_run, both_sure, constraints-kept, offered_there, Equates-later, Constrains-later, Proves-step}
+use Rattle.nts_delegate.proofs.Results.{IfOk-map}
+use Rattle.nts_evaluation.proofs.Evaluating.{Goes-trans, Goes-extends, goes-back, Runs-trans, Runs-extends, Runs-refl, runs-back, Since-later, offers-kept, IsPosed-opened, IsPosed-later, AreValues-later, IsCandidate-extended, IsNested-extended, can_fill, candidate_at, nested_at, committed, rolled_back}
+use Rattle.nts_evaluation.proofs.evaluate.+evaluate.Goals as goal
+
+pub compute_goal-returns-in_err-candidates-clause-runs : goal.compute_goal-returns-in_err-candidates-clause-runs
+compute_goal-returns-in_err-candidates-clause-runs g t c = Runs-extends c.requires.posed.table c.candidates.ensures.extends c.candidates.ensures.rest
+
+pub compute_goal-returns-clause-runs : goal.compute_goal-returns-clause-runs
+compute_goal-returns-clause-runs g t c =
+    Runs-trans (Runs-extends c.requires.posed.table c.in_ok-candidates.ensures.extends c.in_ok-candidates.ensures.rest) c.evaluate_candidates.ensures.runs
+
+pub evaluate_candidates-returns-in_err-choose-clause-runs : goal.evaluate_candidates-returns-in_err-choose-clause-runs
+evaluate_candidates-returns-in_err-choose-clause-runs g t c = runs-back c.requires.posed.table c.choose.ensures.extends c.choose.ensures.rest c.choose.ensures.same
+
+pub evaluate_candidates-returns-in-None-clause-runs : goal.evaluate_candidates-returns-in-None-clause-runs
+evaluate_candidates-returns-in-None-clause-runs g t c = runs-back c.requires.posed.table c.in_ok-choose.ensures.extends c.in_ok-choose.ensures.rest c.in_ok-choose.ensures.same
+
+pub evaluate_candidates-returns-in-Several-clause-runs : goal.evaluate_candidates-returns-in-Several-clause-runs
+evaluate_candidates-returns-in-Several-clause-runs g t c = runs-back c.requires.posed.table c.in_ok-choose.ensures.extends c.in_ok-choose.ensures.rest c.in_ok-choose.ensures.same
+
+pub evaluate_candidates-returns-in-One-clause-runs : goal.evaluate_candidates-returns-in-One-clause-runs
+evaluate_candidates-returns-in-One-clause-runs g t c =
+    Runs-trans (runs-back c.requires.posed.table c.in_ok-choose.ensures.extends c.in_ok-choose.ensures.rest c.in_ok-choose.ensures.same) c.run_candidate.ensures.runs
+
+pub evaluate_goal-returns-in-Err-clause-runs : goal.evaluate_goal-returns-in-Err-clause-runs
+evaluate_goal-returns-in-Err-clause-runs g t c =
+    runs-back c.requires.posed.table c.in-Err.ensures.runs.goes.extends c.in-Err.ensures.runs.rest (rolled_back c.in_ok-snapshot.ensures.saved c.in-Err.ensures.runs.goes c.rollback_to-in-Err.ensures.saved c.start_snapshot.ensures.mode c.rollback_to-in-Err.ensures.mode)
+
+pub evaluate_goal-returns-in-Yes-clause-runs : goal.evaluate_goal-returns-in-Yes-clause-runs
+evaluate_goal-returns-in-Yes-clause-runs g t c =
+    record { goes = committed c.commit.ensures.saved.0 c.start_snapshot.ensures.entries c.in_ok-snapshot.ensures.saved c.requires.posed.table c.in-Ok.ensures.runs.goes c.commit.ensures.entries c.commit.ensures.saved.1 c.start_snapshot.ensures.mode c.commit.ensures.mode; rest = c.in-Ok.ensures.runs.rest }
+
+pub evaluate_goal-returns-in_default-clause-runs : goal.evaluate_goal-returns-in_default-clause-runs
+evaluate_goal-returns-in_default-clause-runs g t c =
+    runs-back c.requires.posed.table c.in-Ok.ensures.runs.goes.extends c.in-Ok.ensures.runs.rest (rolled_back c.in_ok-snapshot.ensures.saved c.in-Ok.ensures.runs.goes c.rollback_to.ensures.saved c.start_snapshot.ensures.mode c.rollback_to.ensures.mode)
+
+pub evaluate_goal-compute_goal-requires : goal.evaluate_goal-compute_goal-requires
+evaluate_goal-compute_goal-requires g t c = λ κs k.
+    (omega (arith, c.decreases), (k, (IsPosed-opened c.requires.posed c.start_snapshot.ensures.entries c.in_ok-snapshot.ensures.saved, c.requires.ready)))
+
+pub compute_goal-evaluate_candidates-requires : goal.compute_goal-evaluate_candidates-requires
+compute_goal-evaluate_candidates-requires g t c = λ κs k.
+    let e = c.in_ok-candidates.ensures in
+    (omega (arith, c.decreases), (k, (IsPosed-later (Goes-extends c.requires.posed.table e.extends) c.requires.posed, (IsAsked-extended e.extends (c.is_candidates_goal.ensures c.if-not-is_candidates_goal.false), (g.met.H.GoalHandler.ready_kept _ _ _ c.requires.ready e.extends, e.candidates)))))
+
+pub evaluate_candidates-run_candidate-requires : goal.evaluate_candidates-run_candidate-requires
+evaluate_candidates-run_candidate-requires g t c = λ κs k.
+    let e = c.in_ok-choose.ensures in (
+      omega (arith, c.decreases),
+      (
+        k,
+        (
+          IsPosed-later (goes-back c.requires.posed.table e.extends e.same) c.requires.posed,
+          (
+            IsAsked-extended e.extends c.requires.asked,
+            (
+              g.met.H.GoalHandler.ready_kept _ _ _ c.requires.ready e.extends,
+              let at : c.in-One.i < length c.args.candidates.items = rw (c.in-One.is, c.deref.ensures.value) at e.within in
+                  rw c.take_candidate-chosen.ensures (IsCandidate-extended e.extends c.requires.posed.holds (candidate_at c.args.cx.now.nodes c.args.goal c.args.candidates.items c.in-One.i _ c.requires.candidates at)),
+            ),
+          ),
+        ),
+      ),
+    )
+
+pub evaluate_nested-returns-in_err-asked-in-Some-clause-runs : goal.evaluate_nested-returns-in_err-asked-in-Some-clause-runs
+evaluate_nested-returns-in_err-asked-in-Some-clause-runs g t c = Runs-extends c.requires.posed.table c.nested_goal.ensures.extends c.nested_goal.ensures.rest
+
+pub evaluate_nested-returns-in_ok-asked-in-Some-clause-runs : goal.evaluate_nested-returns-in_ok-asked-in-Some-clause-runs
+evaluate_nested-returns-in_ok-asked-in-Some-clause-runs g t c =
+    Runs-trans (Runs-extends c.requires.posed.table c.in_ok-asked-in-Some.ensures.extends c.in_ok-asked-in-Some.ensures.rest) c.evaluate_goal.ensures.runs
+
+pub run_candidate-record_constraints-requires-clause-constraints : goal.run_candidate-record_constraints-requires-clause-constraints
+run_candidate-record_constraints-requires-clause-constraints g t c =
+    let k = IsCandidate-extended c.in_ok-values.ensures.runs.goes.extends c.requires.posed.holds c.requires.candidate in
+    rw (c.deref.ensures.value, c.deref-3.ensures.value) k.constraints
+
+pub compute_goal-returns-then-not-is_candidates_goal-clause-runs : goal.compute_goal-returns-then-not-is_candidates_goal-clause-runs
+compute_goal-returns-then-not-is_candidates_goal-clause-runs g t c = Runs-refl c.requires.posed.table
+
+pub compute_goal-returns-clause-proved : goal.compute_goal-returns-clause-proved
+compute_goal-returns-clause-proved g t c = λ s.
+    let k = c.in_ok-candidates.ensures in
+    let same = g.met.H.GoalHandler.handler_kept s.base c.candidates.new.cx.nodes c.args.handler.now s.is_ready (Extends-trans s.extends k.extends) in
+    c.evaluate_candidates.ensures.proved (Since-later k.extends s)
+    (k.offered ∙ ap (λ m. (g.H.GoalHandler.handler c.candidates.new.cx.nodes c.args.handler.now).offers (mode_of m) (tree_at c.candidates.new.cx.nodes c.args.goal.param_env.node) (tree_at c.candidates.new.cx.nodes c.args.goal.predicate.node)) c.typing_mode.ensures ∙ same.offers _ _ _)
+
+pub evaluate_candidates-returns-in-One-clause-proved : goal.evaluate_candidates-returns-in-One-clause-proved
+evaluate_candidates-returns-in-One-clause-proved g t c = λ s offered.
+    let k = c.in_ok-choose.ensures in
+    let at : c.in-One.i < length c.args.candidates.items = rw (c.in-One.is, c.deref.ensures.value) at k.within in
+    let there = offered_there c.args.goal _ c.args.candidates.items c.in-One.i c.take_candidate-chosen.ensures at c.requires.candidates k.extends offered in
+    rw (k.same) at (c.run_candidate.ensures.proved (Since-later k.extends s) (rw (k.same, offers-kept (g.H.GoalHandler.handler s.base c.args.handler.now) (mode_of c.args.table.now.mode) k.extends c.requires.posed.holds) there))
+
+pub evaluate_goal-returns-in_err-snapshot-clause-runs : goal.evaluate_goal-returns-in_err-snapshot-clause-runs
+evaluate_goal-returns-in_err-snapshot-clause-runs g t c = runs-back c.requires.posed.table (Extends-refl _) (KeepsRest-refl _) c.in_err-snapshot.ensures.err
+
+pub evaluate_nested-returns-in-None-clause-runs : goal.evaluate_nested-returns-in-None-clause-runs
+evaluate_nested-returns-in-None-clause-runs g t c = Runs-refl c.requires.posed.table
+
+pub evaluate_nested-returns-in_ok-asked-in-Some-clause-proved : goal.evaluate_nested-returns-in_ok-asked-in-Some-clause-proved
+evaluate_nested-returns-in_ok-asked-in-Some-clause-proved g t c = λ s.
+    let k = c.in_ok-asked-in-Some.ensures in
+    let goes = Goes-trans (Goes-extends c.requires.posed.table k.extends) c.evaluate_goal.ensures.runs.goes in
+    let later = c.evaluate_goal.ensures.runs.goes.extends in
+    let env = later.kept _ k.posed.holds.env.within ∙ k.asks.env in
+    let predicate = later.kept _ k.posed.holds.predicate.within ∙ k.asks.predicate in
+    let can_env = can_fill c.requires.posed c.requires.nested.env c.requires.values in
+    let can_predicate = can_fill c.requires.posed c.requires.nested.predicate c.requires.values in
+    IfOk-map c.evaluate_goal.result
+    (λ x h y. premise_stays goes can_env.knows can_predicate.knows k.asks.formed_env k.asks.formed_predicate (unread _ _ _ _ goes env predicate can_env.knows can_predicate.knows (h y)))
+    (c.evaluate_goal.ensures.proved (Since-later k.extends s))
+
+pub run_candidate-returns-in_err-record_constraints-clause-runs : goal.run_candidate-returns-in_err-record_constraints-clause-runs
+run_candidate-returns-in_err-record_constraints-clause-runs g t c = Runs-trans c.in_ok-values.ensures.runs c.record_constraints.ensures.runs
+
+pub run_candidate-returns-in_err-answer-clause-runs : goal.run_candidate-returns-in_err-answer-clause-runs
+run_candidate-returns-in_err-answer-clause-runs g t c = Runs-trans c.loop-nested.invariant.runs c.evaluate_nested.ensures.runs
+
+pub run_candidate-loop-nested-init : goal.run_candidate-loop-nested-init
+run_candidate-loop-nested-init g t c =
+    let v = c.in_ok-values.ensures in
+    let k = c.in_ok-record_constraints.ensures in
+    let constraints = constraints-kept c.args.cx.now.nodes c.equate.new.cx.nodes c.args.candidate.now.fresh.items c.args.goal c.args.candidate.now.region_constraints.items v.runs.goes.extends c.requires.candidate.constraints in
+    record {
+      runs = Runs-trans v.runs k.runs;
+      values = rw (c.deref.ensures.value, c.deref-2.ensures.value) (AreValues-later k.runs.goes v.values);
+      equal = rw c.deref-2.ensures.value (Equates-later c.args.cx.now.nodes c.in_ok-values.values.items c.args.candidate.now.equations.items k.runs.goes v.values.within v.equal);
+      held = rw (c.deref-3.ensures.value, constraints) at k.held;
+      sure = λ y. y;
+      proved = λ s y. tt;
+    }
+
+pub run_candidate-evaluate_nested-requires : goal.run_candidate-evaluate_nested-requires
+run_candidate-evaluate_nested-requires g t c = λ κs k.
+    let i = c.loop-nested.invariant in
+    let at : c.loop-nested.nested-index < length c.args.candidate.now.goals.items = omega (arith, c.loop-nested-test.true, ap (length {A = CandidateGoal}) c.deref-nested-items.ensures.value) in (
+      omega (arith, c.decreases),
+      (
+        k,
+        (
+          IsPosed-later i.runs.goes c.requires.posed,
+          (
+            g.met.H.GoalHandler.ready_kept _ _ _ c.requires.ready i.runs.goes.extends,
+            (
+              rw (c.deref.ensures.value, c.deref-nested-items.ensures.value) (IsNested-extended i.runs.goes.extends c.requires.posed.holds (nested_at c.args.cx.now.nodes c.args.candidate.now.fresh.items c.args.goal c.args.candidate.now.goals.items c.loop-nested.nested-index _ c.requires.candidate.goals at)),
+              i.values,
+            ),
+          ),
+        ),
+      ),
+    )
+
+pub run_candidate-loop-nested-preserved : goal.run_candidate-loop-nested-preserved
+run_candidate-loop-nested-preserved g t c =
+    let a = c.args.cx.now.nodes in
+    let vs = c.deref-2.result.now in
+    let i = c.loop-nested.invariant in
+    let e = c.in_ok-answer.ensures in
+    let at : c.loop-nested.nested-index < length c.args.candidate.now.goals.items = omega (arith, c.loop-nested-test.true, ap (length {A = CandidateGoal}) c.deref-nested-items.ensures.value) in
+    let nested = λ (d : CandidateGoal). nested_at c.args.cx.now.nodes c.args.candidate.now.fresh.items c.args.goal c.args.candidate.now.goals.items c.loop-nested.nested-index d c.requires.candidate.goals at in
+    record {
+      runs = Runs-trans i.runs e.runs;
+      values = AreValues-later e.runs.goes i.values;
+      equal = Equates-later a vs c.args.candidate.now.equations.items e.runs.goes i.values.within i.equal;
+      held = Constrains-later a vs c.args.candidate.now.region_constraints.items e.runs.goes i.values.within i.held;
+      sure = λ y. i.sure (both_sure _ _ (sym c.and-certainty.ensures ∙ y)).0;
+      proved = λ s y. (let z = both_sure _ _ (sym c.and-certainty.ensures ∙ y) in
+          Proves-step _ (meaning_since (λ ts. g.H.GoalHandler.handler ts c.args.handler.now) s) (mode_of c.args.table.now.mode) a vs c.args.candidate.now.goals.items c.loop-nested.nested-index refl c.deref-nested-items.ensures.value at e.runs.goes i.values.within (i.proved s z.0) i.runs.goes.extends (λ d. ((nested d).env.within, (nested d).predicate.within)) (rw (i.runs.goes.mode) at (e.proved (Since-later i.runs.goes.extends s) z.1)));
+    }
+
+pub run_candidate-returns-clause-runs : goal.run_candidate-returns-clause-runs
+run_candidate-returns-clause-runs g t c = c.loop-nested.invariant.runs
+
+pub run_candidate-returns-clause-proved : goal.run_candidate-returns-clause-proved
+run_candidate-returns-clause-proved g t c = λ s offered y.
+    let i = c.loop-nested.invariant in
+    let handler = g.H.GoalHandler.handler s.base c.args.handler.now in
+    let mode = mode_of c.args.table.now.mode in
+    let all = take_all c.loop-nested.nested-index c.args.candidate.now.goals.items (omega (arith, c.loop-nested-test.false, ap (length {A = CandidateGoal}) c.deref-nested-items.ensures.value)) in
+    let here = content_of c.loop-nested.cx.nodes c.loop-nested.table.entries in
+    let seen = candidate_of c.args.cx.now.nodes c.args.candidate.now in
+    let vs = map (tree_at c.loop-nested.cx.nodes) c.deref-2.result.now in
+    let run : HasRun (meaning (g.H.GoalHandler.handler s.base c.args.handler.now) s.variances) (mode_of c.args.table.now.mode) (content_of c.loop-nested.cx.nodes c.loop-nested.table.entries) (candidate_of c.args.cx.now.nodes c.args.candidate.now) (map (tree_at c.loop-nested.cx.nodes) c.deref-2.result.now) = record {
+      sure = ap certainty_of (i.sure y);
+      values = rw c.deref.ensures.value at i.values.values;
+      equations = i.equal;
+      constraints = i.held;
+      goals = rw all at (i.proved s y);
+    } in
+    let law = g.met.H.GoalHandler.lawful s.base c.args.handler.now s.formed s.is_ready in
+    rw (i.runs.goes.extends.kept c.args.goal.param_env.node c.requires.posed.holds.env.within, i.runs.goes.extends.kept c.args.goal.predicate.node c.requires.posed.holds.predicate.within)
+    (has_run handler s.variances mode here seen vs (tree_at c.args.cx.now.nodes c.args.goal.param_env.node) (tree_at c.args.cx.now.nodes c.args.goal.predicate.node) law c.requires.asked.asked (i.runs.goes.known _ c.requires.posed.knows.env) (i.runs.goes.known _ c.requires.posed.knows.predicate) offered run)

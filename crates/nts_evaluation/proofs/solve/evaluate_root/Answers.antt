@@ -1,0 +1,32 @@
+use Rattle.std.proofs.Common.{◌∙◌}
+use Rattle.nts_evaluation.proofs.Running.{Stays-later, unread}
+use Rattle.nts_evaluation.proofs.Evaluating.{Goes-trans, Goes-extends, Runs-trans, Runs-extends, Since-later}
+use Rattle.nts_evaluation.proofs.solve.evaluate_root.Goals as goal
+
+pub returns-in_err-asked-clause-runs : goal.returns-in_err-asked-clause-runs
+returns-in_err-asked-clause-runs g c = Runs-extends c.requires.posed.table c.resolve_goal.ensures.extends c.resolve_goal.ensures.rest
+
+pub returns-in_err-answer-clause-runs : goal.returns-in_err-answer-clause-runs
+returns-in_err-answer-clause-runs g c =
+    Runs-trans (Runs-extends c.requires.posed.table c.in_ok-asked.ensures.extends c.in_ok-asked.ensures.rest) c.evaluate_goal.ensures.runs
+
+pub returns-in_err-after-clause-runs : goal.returns-in_err-after-clause-runs
+returns-in_err-after-clause-runs g c =
+    let step = c.in_ok-answer.ensures.runs in
+    Runs-trans (Runs-trans (Runs-extends c.requires.posed.table c.in_ok-asked.ensures.extends c.in_ok-asked.ensures.rest) step) (Runs-extends step.goes.table c.resolve_goal-2.ensures.extends c.resolve_goal-2.ensures.rest)
+
+pub returns-clause-runs : goal.returns-clause-runs
+returns-clause-runs g c =
+    let step = c.in_ok-answer.ensures.runs in
+    Runs-trans (Runs-trans (Runs-extends c.requires.posed.table c.in_ok-asked.ensures.extends c.in_ok-asked.ensures.rest) step) (Runs-extends step.goes.table c.in_ok-after.ensures.extends c.in_ok-after.ensures.rest)
+
+pub returns-clause-proved : goal.returns-clause-proved
+returns-clause-proved g c = λ s y.
+    let k = c.in_ok-asked.ensures in
+    let a = c.in_ok-answer.ensures in
+    let last = Goes-extends a.runs.goes.table c.in_ok-after.ensures.extends in
+    let all = Goes-trans (Goes-trans (Goes-extends c.requires.posed.table k.extends) a.runs.goes) last in
+    let env = a.runs.goes.extends.kept _ k.posed.holds.env.within ∙ k.env in
+    let predicate = a.runs.goes.extends.kept _ k.posed.holds.predicate.within ∙ k.predicate in
+    let proved = Stays-later last (a.proved (Since-later k.extends s) y) in
+    rw (all.extends.kept c.args.goal.param_env.node c.requires.posed.holds.env.within, all.extends.kept c.args.goal.predicate.node c.requires.posed.holds.predicate.within) (unread _ _ _ _ all env predicate c.requires.posed.knows.env c.requires.posed.knows.predicate proved)

@@ -1,0 +1,5 @@
+pub mod Choices
+pub mod Evaluation
+pub mod Instances
+pub mod Meant
+pub mod Running

@@ -1,0 +1,43 @@
+-- What a certain answer means, for a handler whose terms stood in an earlier store.
+use Rattle.std.specs.Prelude.{◌≡◌, ℕ, List, map, Result, IfOk}
+use Rattle.nts_model.specs.declared.labels.Variance.{Variance}
+use Rattle.nts_model.specs.Trees.{Tree}
+use Rattle.nts_model.specs.Rules.{Mode, Meaning}
+use Rattle.nts_model.specs.Handlers.{Candidate, Handler, meaning}
+use Rattle.nts_certainty.specs.declared.certainty.Certainty.TheVariants as certainty
+use Rattle.nts_store.specs.declared.fault.EvalError.{EvalError}
+use Rattle.nts_terms.specs.declared.handles.Goal.{Goal}
+use Rattle.nts_store.specs.declared.nodes.NodeId.{NodeId}
+use Rattle.nts_store.specs.Formed.{AreFormed}
+use Rattle.nts_store.specs.Growth.{tree_at, Extends}
+use Rattle.nts_table.specs.Tables.{Table}
+use Rattle.nts_unify.specs.Reading.{content_of}
+use Rattle.nts_delegate.specs.declared.delegate.CandidateGoal.{CandidateGoal}
+use Rattle.nts_evaluation.specs.declared.evaluate.Answer.{Answer}
+use Rattle.nts_delegate.specs.Offered.{premise_of}
+use Rattle.nts_evaluation.specs.Running.{Stays, PremiseHolds}
+
+-- a store from which the present one has grown, and in which the handler's terms stood; and any declared variances
+pub record Since (ready : List Tree → Type 0) (now : List Tree) : Type 0 where
+  pub base : List Tree
+  pub formed : AreFormed base
+  pub extends : Extends base now
+  pub is_ready : ready base
+  pub variances : ℕ → List Variance
+
+-- what the handler means there
+abbrev pub meaning_since : {ready : List Tree → Type 0} {now : List Tree} → (List Tree → Handler) → Since ready now → Meaning
+meaning_since handler s = meaning (handler s.base) s.variances
+
+-- what a handler offers for a goal of a store
+abbrev pub offers_of : Handler → Mode → List Tree → Goal → List Candidate
+offers_of h mode ts g = h.offers mode (tree_at ts g.param_env.node) (tree_at ts g.predicate.node)
+
+-- a certain answer means P
+abbrev pub IfYes : Result Answer EvalError → Type 0 → Type 0
+IfYes r P = IfOk r (λ a. a.certainty ≡ certainty.Yes → P)
+
+-- a goal of a candidate of the store a is proved, its values being of the store a, now and later than the store b
+abbrev pub IsPremiseProved : Meaning → Mode → List Tree → List Tree → Table → List NodeId → CandidateGoal → Type 0
+IsPremiseProved m mode a b t vs h =
+    Stays (content_of b t.entries) (PremiseHolds m mode (map (tree_at a) vs) (premise_of a h))

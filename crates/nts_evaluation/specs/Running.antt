@@ -1,0 +1,60 @@
+-- What holds of a candidate that is run: its parts, with the values in place of its fresh variables.
+use Rattle.std.specs.Prelude.{List, [], ◌∷◌, map}
+use Rattle.nts_model.specs.Trees.{Tree}
+use Rattle.nts_model.specs.Contents.{Content}
+use Rattle.nts_model.specs.Resolving.{IsSound}
+use Rattle.nts_model.specs.Holding.{Continues}
+use Rattle.nts_model.specs.Related.{Constraint}
+use Rattle.nts_model.specs.Sequents.{Premise}
+use Rattle.nts_model.specs.Rules.{Mode, Equation, Meaning}
+use Rattle.nts_model.specs.Proving as proving
+use Rattle.nts_model.specs.Proving.{HoldsTerms, AreConstraintsOf, HoldsEquationAt, IsHeldAt, IsProvedAt}
+use Rattle.nts_store.specs.declared.nodes.NodeId.{NodeId}
+use Rattle.nts_terms.specs.declared.handles.Goal.{Goal}
+use Rattle.nts_store.specs.Growth.{tree_at}
+use Rattle.nts_table.specs.Tables.{Table}
+use Rattle.nts_unify.specs.Reading.{content_of}
+use Rattle.nts_delegate.specs.declared.delegate.Equation.{Equation as EquationData}
+use Rattle.nts_delegate.specs.declared.delegate.RegionConstraint.{RegionConstraint}
+use Rattle.nts_delegate.specs.declared.delegate.CandidateGoal.{CandidateGoal}
+use Rattle.nts_delegate.specs.Offered.{equation_of, constraint_of, premise_of}
+
+-- a table whose values and constraints are of terms
+pub record IsTermTable (c : Content) : Type 0 where
+  pub sound : IsSound c
+  pub values : HoldsTerms c
+  pub constraints : AreConstraintsOf c
+
+-- under this table, and under each later one
+pub record Stays (c : Content) (P : Content → Type 0) : Type 0 where
+  pub later : (d : Content) → IsTermTable d → Continues c d → P d
+
+-- with these values, an equation holds, a constraint is held, and a goal is proved
+abbrev pub EquationHolds : List Tree → Equation → Content → Type 0
+EquationHolds vs q d = HoldsEquationAt d vs q
+
+abbrev pub ConstraintHolds : List Tree → Constraint → Content → Type 0
+ConstraintHolds vs x d = IsHeldAt d vs x
+
+abbrev pub PremiseHolds : Meaning → Mode → List Tree → Premise → Content → Type 0
+PremiseHolds m mode vs p d = IsProvedAt m mode d vs p
+
+-- .. each of a list, now and later
+abbrev pub EachStays : {A : Type 0} → Content → (A → Content → Type 0) → List A → Type 0
+EachStays c P [] = Unit {0}
+EachStays c P (x ∷ xs) = Stays c (P x) × EachStays c P xs
+
+-- the equations hold, whose trees stand in the store a, and the values in the store b that has grown
+abbrev pub Equates : List Tree → List Tree → Table → List NodeId → List EquationData → Type 0
+Equates a b t vs qs = EachStays (content_of b t.entries) (EquationHolds (map (tree_at b) vs)) (map (equation_of a) qs)
+
+abbrev pub Constrains : List Tree → List Tree → Table → List NodeId → List RegionConstraint → Type 0
+Constrains a b t vs xs = EachStays (content_of b t.entries) (ConstraintHolds (map (tree_at b) vs)) (map (constraint_of a) xs)
+
+abbrev pub Proves : Meaning → Mode → List Tree → List Tree → Table → List NodeId → List CandidateGoal → Type 0
+Proves m mode a b t vs hs = EachStays (content_of b t.entries) (PremiseHolds m mode (map (tree_at b) vs)) (map (premise_of a) hs)
+
+-- a goal is proved, now and later
+abbrev pub IsProved : Meaning → Mode → List Tree → Table → Goal → Type 0
+IsProved m mode ts t g =
+    Stays (content_of ts t.entries) (λ d. proving.IsProved m mode d (tree_at ts g.param_env.node) (tree_at ts g.predicate.node))

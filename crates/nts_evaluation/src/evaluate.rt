@@ -1,0 +1,294 @@
+//! The recursion over nested goals. Its functions stand on the stack once for each goal above, so what
+//! they call and is not of the recursion is kept out of their frames, by `inline(never)`.
+ghost use Rattle.std.specs.Prelude.{true, false, ◌≡◌, ◌≢◌, ◌<◌, ◌≤◌, ◌/◌, ◌-◌, IfOk, OnOk, OnErr, IfSome, IsNone, ◌↔◌, length, get_or};
+ghost use Rattle.nts_model.specs.Sequents.{Among};
+ghost use Rattle.nts_store.specs.Growth.{Extends};
+ghost use Rattle.nts_terms.specs.Rest.{KeepsRest};
+ghost use Rattle.nts_delegate.specs.Candidates.{IsAsked, IsCandidate, AreCandidates, IsNested};
+ghost use Rattle.nts_terms.specs.Handles.{HoldsGoal};
+ghost use Rattle.nts_delegate.specs.Offered.{candidate_of, candidates_of};
+ghost use Rattle.nts_terms.specs.Modes.{mode_of};
+ghost use Rattle.nts_evaluation.specs.Running.{IsProved};
+ghost use Rattle.nts_evaluation.specs.Meant.{Since, meaning_since, offers_of, IfYes, IsPremiseProved};
+ghost use Rattle.nts_evaluation.specs.Evaluation.{Runs, IsPosed, AreValues};
+ghost use Rattle.nts_evaluation.specs.Choices.{IsWithin};
+ghost use Rattle.nts_certainty.specs.declared.certainty.Certainty.TheVariants as certainty;
+
+use crate::candidate::{Trial, candidate_holds, equate, record_constraints, terms_are_formed};
+use nts_certainty::Certainty;
+use nts_delegate::{CandidateData, CandidateGoal, GoalHandler};
+use nts_store::EvalError;
+use nts_table::InferCtxt;
+use nts_terms::{ClauseKind, Cx, Goal, PredicateKind};
+
+/// What a goal inside of an evaluation was answered.
+#[derive(Clone, Copy)]
+pub struct Answer {
+    pub certainty: Certainty,
+    /// A goal below it was nested too deep.
+    pub has_overflowed: bool,
+}
+
+/// The depth of a goal below one of the given depth, if it is not nested too deep. Once a goal below
+/// that one overflowed, its later goals get a quarter of its depth.
+pub fn depth_below(depth: usize, has_overflowed: bool) -> Option<usize>
+    ensures too_deep { IsNone result ↔ (depth ≡ 0) }
+    ensures less { IfSome result (λ below. below < depth) }
+    ensures next { has_overflowed ≡ false → IfSome result (λ below. below ≡ depth - 1) }
+    ensures quarter { has_overflowed ≡ true → IfSome result (λ below. below ≡ depth / 4) }
+{
+    if depth == 0 {
+        return None;
+    }
+    if has_overflowed {
+        Some(depth / 4)
+    } else {
+        Some(depth - 1)
+    }
+}
+
+/// Evaluates a resolved goal. What it finds out stays in the table only where the answer is yes.
+#[cycle(evaluate)]
+pub fn evaluate_goal<H: GoalHandler>(
+    table: &mut InferCtxt,
+    cx: &mut Cx,
+    handler: &H,
+    goal: Goal,
+    depth: usize,
+) -> Result<Answer, EvalError>
+    requires posed { IsPosed cx.old.nodes table.old goal }
+    requires ready { H.ready cx.old.nodes handler.now }
+    ensures runs { Runs cx.old cx.new table.old table.new }
+    ensures maybe { IfOk result (λ a. a.certainty ≢ certainty.Yes → table.new ≡ table.old) }
+    ensures err { OnErr result (table.new ≡ table.old) }
+    ensures proved { (s : Since (λ ts. H.ready ts handler.now) cx.old.nodes) →
+        IfYes result (IsProved (meaning_since (λ ts. H.handler ts handler.now) s)
+        (mode_of table.old.mode) cx.new.nodes table.new goal) }
+    ensures full { result ≢ Err EvalError.Full }
+{
+    let snapshot = table.start_snapshot()?;
+    match compute_goal(table, cx, handler, goal, depth) {
+        Ok(answer) => {
+            if let Certainty::Yes = answer.certainty {
+                table.commit(snapshot);
+                return Ok(answer);
+            }
+            table.rollback_to(snapshot);
+            Ok(answer)
+        }
+        Err(error) => {
+            table.rollback_to(snapshot);
+            Err(error)
+        }
+    }
+}
+
+/// Answers a goal by its kind. Kinds and terms that are not there yet are ambiguous.
+#[cycle(evaluate)]
+fn compute_goal<H: GoalHandler>(
+    table: &mut InferCtxt,
+    cx: &mut Cx,
+    handler: &H,
+    goal: Goal,
+    depth: usize,
+) -> Result<Answer, EvalError>
+    requires posed { IsPosed cx.old.nodes table.old goal }
+    requires ready { H.ready cx.old.nodes handler.now }
+    ensures runs { Runs cx.old cx.new table.old table.new }
+    ensures proved { (s : Since (λ ts. H.ready ts handler.now) cx.old.nodes) →
+        IfYes result (IsProved (meaning_since (λ ts. H.handler ts handler.now) s)
+        (mode_of table.old.mode) cx.new.nodes table.new goal) }
+    ensures full { result ≢ Err EvalError.Full }
+{
+    if !is_candidates_goal(cx, goal) {
+        return Ok(Answer {
+            certainty: Certainty::AMBIGUOUS,
+            has_overflowed: false,
+        });
+    }
+    let candidates = handler.candidates(cx, table.typing_mode(), goal)?;
+    evaluate_candidates(table, cx, handler, goal, candidates, depth)
+}
+
+/// Whether a goal is answered by the handler's candidates: a closed trait goal that binds nothing, and
+/// that has neither aliases nor positions of a canonical value.
+#[inline(never)]
+fn is_candidates_goal(cx: &Cx, goal: Goal) -> bool
+    requires { HoldsGoal cx.now.nodes goal }
+    ensures { result ≡ true → IsAsked cx.now.nodes goal }
+{
+    let env = cx.nodes.facts(goal.param_env.node);
+    let facts = cx.nodes.facts(goal.predicate.node);
+    if env.has_canonical || facts.has_canonical || facts.has_alias || env.has_alias {
+        return false;
+    }
+    let predicate = goal.predicate.kind(cx);
+    if env.escaping.is_some() || predicate.vars.len(cx) != 0 {
+        return false;
+    }
+    let PredicateKind::Clause(clause) = predicate.value else {
+        return false;
+    };
+    let ClauseKind::Trait(trait_ref) = clause else {
+        return false;
+    };
+    terms_are_formed(cx);
+    let args = cx.nodes.facts(trait_ref.args.node);
+    args.escaping.is_none()
+}
+
+/// Answers by the one candidate whose equations hold. Where none does, nothing holds; where several do,
+/// it is ambiguous.
+#[cycle(evaluate)]
+fn evaluate_candidates<H: GoalHandler>(
+    table: &mut InferCtxt,
+    cx: &mut Cx,
+    handler: &H,
+    goal: Goal,
+    candidates: Vec<CandidateData>,
+    depth: usize,
+) -> Result<Answer, EvalError>
+    requires posed { IsPosed cx.old.nodes table.old goal }
+    requires asked { IsAsked cx.old.nodes goal }
+    requires ready { H.ready cx.old.nodes handler.now }
+    requires candidates { AreCandidates cx.old.nodes goal candidates.items }
+    ensures runs { Runs cx.old cx.new table.old table.new }
+    ensures proved { (s : Since (λ ts. H.ready ts handler.now) cx.old.nodes) →
+        candidates_of cx.old.nodes candidates.items ≡ offers_of (H.handler s.base handler.now)
+        (mode_of table.old.mode) cx.old.nodes goal → IfYes result (IsProved (meaning_since
+        (λ ts. H.handler ts handler.now) s) (mode_of table.old.mode) cx.new.nodes table.new goal) }
+    ensures full { result ≢ Err EvalError.Full }
+{
+    match choose(table, cx, goal, &candidates)? {
+        Choice::None => Err(EvalError::NoSolution),
+        Choice::Several => Ok(Answer {
+            certainty: Certainty::AMBIGUOUS,
+            has_overflowed: false,
+        }),
+        Choice::One(i) => {
+            let chosen = take_candidate(candidates, i);
+            run_candidate(table, cx, handler, goal, &chosen, depth)
+        }
+    }
+}
+
+/// One of the candidates. The others are let go, so that they take no memory while it runs.
+#[inline(never)]
+fn take_candidate(mut candidates: Vec<CandidateData>, i: usize) -> CandidateData
+    requires { i < length candidates.items }
+    ensures { result ≡ get_or candidates.items i result }
+{
+    candidates.swap_remove(i)
+}
+
+/// How many candidates have equations that hold.
+#[derive(Clone, Copy)]
+enum Choice {
+    None,
+    One(usize),
+    Several,
+}
+
+/// Tries the equations of each candidate. The table is as before.
+#[inline(never)]
+fn choose(
+    table: &mut InferCtxt,
+    cx: &mut Cx,
+    goal: Goal,
+    candidates: &[CandidateData],
+) -> Result<Choice, EvalError>
+    requires posed { IsPosed cx.old.nodes table.old goal }
+    requires candidates { AreCandidates cx.old.nodes goal candidates.now }
+    ensures same { table.new ≡ table.old }
+    ensures extends { Extends cx.old.nodes cx.new.nodes }
+    ensures rest { KeepsRest cx.old cx.new }
+    ensures within { IfOk result (IsWithin (length candidates.now)) }
+    ensures no { result ≢ Err EvalError.NoSolution }
+    ensures full { result ≢ Err EvalError.Full }
+{
+    let mut choice = Choice::None;
+    for i in 0..candidates.len() {
+        if candidate_holds(table, cx, goal, &candidates[i])? {
+            if let Choice::None = choice {
+                choice = Choice::One(i);
+            } else {
+                return Ok(Choice::Several);
+            }
+        }
+    }
+    Ok(choice)
+}
+
+/// Runs a candidate: its equations, its region constraints, and its goals in order.
+#[cycle(evaluate)]
+fn run_candidate<H: GoalHandler>(
+    table: &mut InferCtxt,
+    cx: &mut Cx,
+    handler: &H,
+    goal: Goal,
+    candidate: &CandidateData,
+    depth: usize,
+) -> Result<Answer, EvalError>
+    requires posed { IsPosed cx.old.nodes table.old goal }
+    requires asked { IsAsked cx.old.nodes goal }
+    requires ready { H.ready cx.old.nodes handler.now }
+    requires candidate { IsCandidate cx.old.nodes goal candidate.now }
+    ensures runs { Runs cx.old cx.new table.old table.new }
+    ensures proved { (s : Since (λ ts. H.ready ts handler.now) cx.old.nodes) →
+        Among (offers_of (H.handler s.base handler.now) (mode_of table.old.mode) cx.old.nodes goal)
+        (candidate_of cx.old.nodes candidate.now) → IfYes result (IsProved (meaning_since
+        (λ ts. H.handler ts handler.now) s) (mode_of table.old.mode) cx.new.nodes table.new goal) }
+    ensures full { result ≢ Err EvalError.Full }
+{
+    let values = equate(table, cx, goal, candidate)?;
+    let trial = Trial {
+        goal,
+        fresh: &candidate.fresh,
+        values: &values,
+    };
+    record_constraints(table, cx, trial, &candidate.region_constraints)?;
+    let mut certainty = candidate.certainty;
+    let mut has_overflowed = false;
+    for nested in &candidate.goals {
+        let answer = evaluate_nested(table, cx, handler, trial, *nested, depth, has_overflowed)?;
+        certainty = certainty.and(answer.certainty);
+        has_overflowed = has_overflowed || answer.has_overflowed;
+    }
+    Ok(Answer {
+        certainty,
+        has_overflowed,
+    })
+}
+
+/// Evaluates one of the goals of a candidate.
+#[cycle(evaluate)]
+fn evaluate_nested<H: GoalHandler>(
+    table: &mut InferCtxt,
+    cx: &mut Cx,
+    handler: &H,
+    trial: Trial<'_>,
+    nested: CandidateGoal,
+    depth: usize,
+    has_overflowed: bool,
+) -> Result<Answer, EvalError>
+    requires posed { IsPosed cx.old.nodes table.old trial.goal }
+    requires ready { H.ready cx.old.nodes handler.now }
+    requires nested { IsNested cx.old.nodes trial.fresh.now trial.goal nested.goal }
+    requires values { AreValues cx.old.nodes table.old trial.fresh.now trial.values.now }
+    ensures runs { Runs cx.old cx.new table.old table.new }
+    ensures proved { (s : Since (λ ts. H.ready ts handler.now) cx.old.nodes) →
+        IfYes result (IsPremiseProved (meaning_since (λ ts. H.handler ts handler.now) s)
+        (mode_of table.old.mode) cx.old.nodes cx.new.nodes table.new trial.entry.values.now nested) }
+    ensures full { result ≢ Err EvalError.Full }
+{
+    match depth_below(depth, has_overflowed) {
+        None => Ok(Answer {
+            certainty: Certainty::overflow(true),
+            has_overflowed: true,
+        }),
+        Some(below) => {
+            let asked = trial.nested_goal(table, cx, nested.goal)?;
+            evaluate_goal(table, cx, handler, asked, below)
+        }
+    }
+}

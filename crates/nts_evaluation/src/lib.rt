@@ -1,0 +1,9 @@
+//! The evaluation of goals by the candidates of a handler.
+#![tactic(auto)]
+
+mod admission;
+mod candidate;
+mod evaluate;
+mod solve;
+
+pub use solve::{GoalEvaluation, GoalStalledOn, evaluate_root_goal, goal_is_admitted};

@@ -1,0 +1,140 @@
+//! The evaluation of goals.
+ghost use Rattle.std.specs.Prelude.{ℕ, ◌≡◌, ◌≢◌, ◌↔◌, List, IsTrue, None, IfOk, OnOk, OnErr, IsOkUnless};
+ghost use Rattle.nts_model.specs.declared.labels.Variance.{Variance};
+ghost use Rattle.nts_model.specs.Handlers.{meaning};
+ghost use Rattle.nts_model.specs.Proving.{HasHeldProof};
+ghost use Rattle.nts_store.specs.Growth.{tree_at, Extends};
+ghost use Rattle.nts_terms.specs.Rest.{KeepsRest};
+ghost use Rattle.nts_unify.specs.Reading.{content_of};
+ghost use Rattle.nts_table.specs.Tables.{IsTable};
+ghost use Rattle.nts_terms.specs.Modes.{mode_of};
+ghost use Rattle.nts_evaluation.specs.Running.{IsProved};
+ghost use Rattle.nts_terms.specs.Handles.{HoldsGoal};
+ghost use Rattle.nts_evaluation.specs.Evaluation.{Runs, IsAdmitted, IsPosed};
+ghost use Rattle.nts_evaluation.specs.Meant.{Since, meaning_since};
+ghost use Rattle.nts_certainty.specs.declared.certainty.Certainty.TheVariants as certainty;
+
+use crate::admission::{is_asked, is_root_term, is_settled_env};
+use crate::candidate::{resolve_goal, terms_are_formed};
+use crate::evaluate::evaluate_goal;
+use nts_certainty::{Certainty, HasChanged};
+use nts_delegate::GoalHandler;
+use nts_store::{EvalError, Fault};
+use nts_table::InferCtxt;
+use nts_terms::{Cx, GenericArg, Goal, Span};
+
+/// What is kept of a goal that stalled, so that it is asked again only when that can help.
+#[derive(Drop)]
+pub struct GoalStalledOn {
+    pub num_opaques: usize,
+    pub stalled_vars: Vec<GenericArg>,
+    pub sub_roots: Vec<usize>,
+    pub stalled_certainty: Certainty,
+}
+
+/// What an evaluation found out.
+#[derive(Drop)]
+pub struct GoalEvaluation {
+    /// The goal as it was asked, its variables resolved.
+    pub goal: Goal,
+    pub certainty: Certainty,
+    /// Whether the table knows more of the goal's variables than before.
+    pub has_changed: HasChanged,
+    pub stalled_on: Option<GoalStalledOn>,
+}
+
+/// Whether a goal may be asked at the root.
+pub fn goal_is_admitted(table: &InferCtxt, cx: &mut Cx, goal: Goal) -> Result<bool, Fault>
+    requires table { IsTable cx.old.nodes table.now }
+    requires holds { HoldsGoal cx.old.nodes goal }
+    ensures admitted { IfOk result (λ b. IsTrue b ↔ IsAdmitted cx.old.nodes table.now goal) }
+    ensures extends { Extends cx.old.nodes cx.new.nodes }
+    ensures rest { KeepsRest cx.old cx.new }
+    ensures memory { IsOkUnless result Fault.Memory }
+{
+    let env = goal.param_env.node;
+    let predicate = goal.predicate.node;
+    if !is_root_term(table, cx, env)? || !is_root_term(table, cx, predicate)? {
+        return Ok(false);
+    }
+    if !is_asked(cx, predicate)? {
+        return Ok(false);
+    }
+    is_settled_env(table, cx, env)
+}
+
+/// Evaluates a goal in the table.
+pub fn evaluate_root_goal<H: GoalHandler>(
+    table: &mut InferCtxt,
+    cx: &mut Cx,
+    handler: &H,
+    goal: Goal,
+    span: Span,
+    stalled_on: Option<GoalStalledOn>,
+) -> Result<GoalEvaluation, EvalError>
+    requires table { IsTable cx.old.nodes table.old }
+    requires ready { H.ready cx.old.nodes handler.now }
+    requires admitted { IsAdmitted cx.old.nodes table.old goal }
+    ensures runs { Runs cx.old cx.new table.old table.new }
+    ensures maybe { IfOk result (λ e. e.certainty ≢ certainty.Yes → table.new ≡ table.old) }
+    ensures stalled { IfOk result (λ e. e.stalled_on ≡ None) }
+    ensures err { OnErr result (table.new ≡ table.old) }
+    ensures proved { IfOk result (λ e. e.certainty ≡ certainty.Yes → (v : ℕ → List Variance) →
+        HasHeldProof (meaning (H.handler cx.old.nodes handler.now) v) (mode_of table.old.mode)
+        (content_of cx.new.nodes table.new.entries) (tree_at cx.new.nodes goal.param_env.node)
+        (tree_at cx.new.nodes goal.predicate.node)) }
+    ensures full { result ≢ Err EvalError.Full }
+{
+    let _ = (span, stalled_on);
+    terms_are_formed(cx);
+    let snapshot = table.start_snapshot()?;
+    match evaluate_root(table, cx, handler, goal) {
+        Ok(evaluation) => {
+            if let Certainty::Yes = evaluation.certainty {
+                terms_are_formed(cx);
+                table.commit(snapshot);
+                return Ok(evaluation);
+            }
+            table.rollback_to(snapshot);
+            Ok(evaluation)
+        }
+        Err(error) => {
+            table.rollback_to(snapshot);
+            Err(error)
+        }
+    }
+}
+
+/// Evaluates a resolved goal at the recursion limit, and looks at what became of its variables.
+fn evaluate_root<H: GoalHandler>(
+    table: &mut InferCtxt,
+    cx: &mut Cx,
+    handler: &H,
+    goal: Goal,
+) -> Result<GoalEvaluation, EvalError>
+    requires posed { IsPosed cx.old.nodes table.old goal }
+    requires ready { H.ready cx.old.nodes handler.now }
+    ensures runs { Runs cx.old cx.new table.old table.new }
+    ensures stalled { IfOk result (λ e. e.stalled_on ≡ None) }
+    ensures proved { (s : Since (λ ts. H.ready ts handler.now) cx.old.nodes) →
+        IfOk result (λ e. e.certainty ≡ certainty.Yes →
+        IsProved (meaning_since (λ ts. H.handler ts handler.now) s)
+        (mode_of table.old.mode) cx.new.nodes table.new goal) }
+    ensures full { result ≢ Err EvalError.Full }
+{
+    let asked = resolve_goal(table, cx, goal)?;
+    let depth = cx.recursion_limit();
+    let answer = evaluate_goal(table, cx, handler, asked, depth)?;
+    let after = resolve_goal(table, cx, asked)?;
+    let has_changed = if after.predicate == asked.predicate {
+        HasChanged::No
+    } else {
+        HasChanged::Yes
+    };
+    Ok(GoalEvaluation {
+        goal: asked,
+        certainty: answer.certainty,
+        has_changed,
+        stalled_on: None,
+    })
+}

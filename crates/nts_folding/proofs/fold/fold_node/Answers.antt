@@ -1,0 +1,117 @@
+use Rattle.std.proofs.Common.{◌≡◌, ◌++◌, ◌∷◌, [], ◌-◌, length, take, drop, None, Some, sym, arith, rules}
+use Rattle.nts_store.specs.Growth.{tree_at, IsIn}
+use Rattle.nts_folding.specs.Folding.{Starts}
+use Rattle.nts_store.specs.Replacement.{TasksIn}
+use Rattle.nts_store.proofs.Growing.{Extends-trans}
+use Rattle.nts_terms.proofs.Moved.{KeepsRest-trans}
+use Rattle.nts_store.proofs.Replacing.{MayBuild, slice_to_end, TasksIn-front, TasksIn-extended}
+use Rattle.nts_folding.proofs.Folded.{IsWalked, may_enter, may_build, ends_answer, ends_down, ends_build, ends_all, less_after, less_down}
+use Rattle.nts_folding.proofs.fold.fold_node.Given.{Over}
+use Rattle.nts_folding.proofs.fold.fold_node.Goals as goal
+
+pub start-requires-clause-within : goal.start-requires-clause-within
+start-requires-clause-within g c =
+    let f = g.F.TypeFolder in
+    may_enter f.answers f.enters f.leaves f.rebuilds _ _ _ _ _ _ _ _ c.loop-task.invariant.ends (rw c.in-Enter.is at c.in-Some.ensures.items)
+
+-- a term that is answered
+
+pub loop-task-smaller-in-Continue-branch-4 : goal.loop-task-smaller-in-Continue-branch-4
+loop-task-smaller-in-Continue-branch-4 g c =
+    let f = g.F.TypeFolder in
+    less_after f.answers f.enters f.leaves f.rebuilds _ _ _ _ _ _ _ _ _ c.loop-task.invariant.ends c.in-Some.ensures.items c.in_ok-answer-in-Enter.ensures.extends
+
+pub loop-task-preserved-in-Continue-branch-4 : goal.loop-task-preserved-in-Continue-branch-4
+loop-task-preserved-in-Continue-branch-4 g c =
+    let f = g.F.TypeFolder in
+    let now = c.in_ok-answer-in-Enter.ensures in
+    let within : IsIn c.start.new.cx.nodes c.in-Some-2.answer = rw c.in-Some-2.is at now.within in
+    let starts : Starts f.answers f.enters (f.meaning c.loop-task.cx.nodes c.loop-task.folder) (tree_at c.loop-task.cx.nodes c.in-Enter.term) (Some (tree_at c.start.new.cx.nodes c.in-Some-2.answer)) (f.meaning c.start.new.cx.nodes c.start.new.folder) = rw c.in-Some-2.is at now.starts in
+    record {
+      extends = Extends-trans c.loop-task.invariant.extends now.extends;
+      rest = KeepsRest-trans c.loop-task.invariant.rest now.rest;
+      ready = now.ready;
+      ends = ends_answer f.answers f.enters f.leaves f.rebuilds _ _ _ _ _ _ _ _ _ _ _ _ c.loop-task.invariant.ends (rw c.in-Enter.is at c.in-Some.ensures.items) now.extends within starts c.in_ok-push-in-Some-2.ensures;
+    }
+
+-- a node whose children are to be folded
+
+pub push_node-requires-clause-tasks : goal.push_node-requires-clause-tasks
+push_node-requires-clause-tasks g c =
+    let all : TasksIn c.loop-task.cx.nodes (c.pop.new.self.items ++ c.in-Some.task ∷ []) = rw c.in-Some.ensures.items at c.loop-task.invariant.ends.tasks_in in
+    TasksIn-extended c.in_ok-answer-in-Enter.ensures.extends c.pop.new.self.items (TasksIn-front c.loop-task.cx.nodes c.pop.new.self.items c.in-Some.task all).0
+
+goes_in : (g : Over) (c : goal.In_ok-push_node-in-None g) → Starts g.F.TypeFolder.answers g.F.TypeFolder.enters (g.F.TypeFolder.meaning c.loop-task.cx.nodes c.loop-task.folder) (tree_at c.loop-task.cx.nodes c.in-Enter.term) None (g.F.TypeFolder.meaning c.start.new.cx.nodes c.start.new.folder)
+goes_in g c = rw c.in-None.is at c.in_ok-answer-in-Enter.ensures.starts
+
+pub loop-task-smaller-in-Continue-branch-5 : goal.loop-task-smaller-in-Continue-branch-5
+loop-task-smaller-in-Continue-branch-5 g c =
+    let f = g.F.TypeFolder in
+    let pushed = c.in_ok-push_node-in-None.ensures in
+    less_down f.answers f.enters f.leaves f.rebuilds _ _ _ _ _ _ _ _ _ _ _ c.loop-task.invariant.ends (rw c.in-Enter.is at c.in-Some.ensures.items) c.in_ok-answer-in-Enter.ensures.extends (goes_in g c) pushed.formed pushed.jobs
+
+pub loop-task-preserved-in-Continue-branch-5 : goal.loop-task-preserved-in-Continue-branch-5
+loop-task-preserved-in-Continue-branch-5 g c =
+    let f = g.F.TypeFolder in
+    let now = c.in_ok-answer-in-Enter.ensures in
+    let pushed = c.in_ok-push_node-in-None.ensures in
+    record {
+      extends = Extends-trans c.loop-task.invariant.extends now.extends;
+      rest = KeepsRest-trans c.loop-task.invariant.rest now.rest;
+      ready = now.ready;
+      ends = ends_down f.answers f.enters f.leaves f.rebuilds _ _ _ _ _ _ _ _ _ _ _ c.loop-task.invariant.ends (rw c.in-Enter.is at c.in-Some.ensures.items) now.extends (goes_in g c) pushed.formed pushed.within pushed.jobs;
+    }
+
+-- a node that is to be made
+
+building_of : (g : Over) (c : goal.After-finish-arg-in-Build-2-1 g) → MayBuild c.loop-task.cx.nodes c.in-Build.label (take (length c.deref.result.now - c.saturating_sub-first.result) (drop c.saturating_sub-first.result c.deref.result.now))
+building_of g c =
+    let f = g.F.TypeFolder in
+    let first : c.saturating_sub-first.result ≡ length c.loop-task.found.items - c.in-Build.count = omega arith in
+    may_build f.answers f.enters f.leaves f.rebuilds _ _ _ _ _ _ _ _ _ _ _ _ c.loop-task.invariant.ends (rw c.in-Build.is at c.in-Some.ensures.items) first (slice_to_end c.deref.result.now c.loop-task.found.items c.saturating_sub-first.result c.deref.ensures.value)
+
+pub finish-requires-clause-within : goal.finish-requires-clause-within
+finish-requires-clause-within g c = (building_of g c).within
+
+pub finish-requires-clause-formed : goal.finish-requires-clause-formed
+finish-requires-clause-formed g c = (building_of g c).formed
+
+pub loop-task-smaller : goal.loop-task-smaller
+loop-task-smaller g c =
+    let f = g.F.TypeFolder in
+    less_after f.answers f.enters f.leaves f.rebuilds _ _ _ _ _ _ _ _ _ c.loop-task.invariant.ends c.in-Some.ensures.items c.in_ok-made-in-Build.ensures.extends
+
+pub loop-task-preserved : goal.loop-task-preserved
+loop-task-preserved g c =
+    let f = g.F.TypeFolder in
+    let made = c.in_ok-made-in-Build.ensures in
+    let first : c.saturating_sub-first.result ≡ length c.loop-task.found.items - c.in-Build.count = omega arith in
+    let last = slice_to_end c.deref.result.now c.loop-task.found.items c.saturating_sub-first.result c.deref.ensures.value in
+    let new : c.push-in-Build.new.list.items ≡ take c.saturating_sub-first.result c.loop-task.found.items ++ c.in_ok-made-in-Build.made ∷ [] = rw (← c.truncate.ensures.items) c.in_ok-push-in-Build.ensures in
+    record {
+      extends = Extends-trans c.loop-task.invariant.extends made.extends;
+      rest = KeepsRest-trans c.loop-task.invariant.rest made.rest;
+      ready = made.ready;
+      ends = ends_build f.answers f.enters f.leaves f.rebuilds _ _ _ _ _ _ _ _ _ _ _ _ _ _ _ _ c.loop-task.invariant.ends (rw c.in-Build.is at c.in-Some.ensures.items) made.extends first last made.within made.comes_back new;
+    }
+
+walked : (g : Over) (c : goal.After-found-2-1 g) → IsWalked g.F.TypeFolder.answers g.F.TypeFolder.enters g.F.TypeFolder.leaves g.F.TypeFolder.rebuilds (g.F.TypeFolder.meaning c.args.cx.now.nodes c.args.folder.now) (tree_at c.args.cx.now.nodes c.args.t) c.loop-task.cx.nodes c.loop-task.found.items (g.F.TypeFolder.meaning c.loop-task.cx.nodes c.loop-task.folder)
+walked g c =
+    let f = g.F.TypeFolder in
+    let none : c.loop-task.tasks.items ≡ [] = search rules in
+    ends_all f.answers f.enters f.leaves f.rebuilds _ _ _ _ _ _ c.loop-task.invariant.ends none
+
+pub index-requires : goal.index-requires
+index-requires g c = omega (arith, (walked g c).some)
+
+walked_so : (g : Over) (c : goal.After-drop-tasks-2 g) → IsWalked g.F.TypeFolder.answers g.F.TypeFolder.enters g.F.TypeFolder.leaves g.F.TypeFolder.rebuilds (g.F.TypeFolder.meaning c.args.cx.now.nodes c.args.folder.now) (tree_at c.args.cx.now.nodes c.args.t) c.loop-task.cx.nodes c.loop-task.found.items (g.F.TypeFolder.meaning c.loop-task.cx.nodes c.loop-task.folder)
+walked_so g c =
+    let f = g.F.TypeFolder in
+    let none : c.loop-task.tasks.items ≡ [] = search rules in
+    ends_all f.answers f.enters f.leaves f.rebuilds _ _ _ _ _ _ c.loop-task.invariant.ends none
+
+pub returns-clause-within : goal.returns-clause-within
+returns-clause-within g c = (walked_so g c).within c.index.result.now (sym c.index.ensures)
+
+pub returns-clause-walk : goal.returns-clause-walk
+returns-clause-walk g c = (walked_so g c).walk c.index.result.now (sym c.index.ensures)

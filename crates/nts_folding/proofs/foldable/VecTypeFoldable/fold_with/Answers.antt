@@ -1,0 +1,39 @@
+use Rattle.std.proofs.Common.{◌≡◌, ◌∷◌, length, ap, arith}
+use Rattle.std.specs.Vec.Iter.{into_iter_items}
+use Rattle.nts_terms.proofs.Moved.{KeepsRest-refl, KeepsRest-trans}
+use Rattle.nts_folding.proofs.FoldedList.{list_start, left_holds, list_more}
+use Rattle.nts_folding.proofs.foldable.VecTypeFoldable.fold_with.Goals as goal
+
+pub loop-x-init : goal.loop-x-init
+loop-x-init g c =
+    let f = g.F.TypeFolder in
+    let t = g.T.TypeFoldable in
+    let given = c.into_iter-x-iterator.ensures.into_iter_gives in
+    let long = ap length given.0 in
+    record {
+      list = list_start f.answers f.enters f.leaves f.rebuilds t.holds t.tree _ c.args.cx.now.nodes _ _ _ given.0 c.new-folded.ensures.items;
+      rest = KeepsRest-refl c.args.cx.now;
+      ready = c.requires.ready;
+      count = omega (arith, given.1, long);
+    }
+
+pub fold_with-requires-clause-holds : goal.fold_with-requires-clause-holds
+fold_with-requires-clause-holds g c =
+    let f = g.F.TypeFolder in
+    let t = g.T.TypeFoldable in
+    (left_holds f.answers f.enters f.leaves f.rebuilds t.holds t.tree g.met.T.TypeFoldable.holds_kept _ _ _ _ _ _ _ _ _ c.in-Some.x c.loop-x.invariant.list c.requires.holds c.in-Some.ensures.steps.0).now
+
+pub loop-x-preserved : goal.loop-x-preserved
+loop-x-preserved g c =
+    let f = g.F.TypeFolder in
+    let t = g.T.TypeFoldable in
+    let now = c.in_ok-value.ensures in
+    let steps : into_iter_items c.loop-x.x-iterator ≡ c.in-Some.x ∷ into_iter_items c.next.new.self = c.in-Some.ensures.steps.0 in
+    let gone = c.in-Some.ensures.steps.1 in
+    let short = ap length steps in
+    record {
+      list = list_more f.answers f.enters f.leaves f.rebuilds t.holds t.tree g.met.T.TypeFoldable.holds_kept g.met.T.TypeFoldable.tree_kept _ _ _ _ _ _ _ _ _ _ _ _ c.in-Some.x c.in_ok-value.value c.loop-x.invariant.list c.requires.holds steps now.extends now.holds now.walk c.in_ok-push.ensures;
+      rest = KeepsRest-trans c.loop-x.invariant.rest now.rest;
+      ready = now.ready;
+      count = omega (arith, c.loop-x.invariant.count, gone, short);
+    }

@@ -1,0 +1,208 @@
+-- What a term is under a table: the roots of variables, and their values.
+use Rattle.std.proofs.Common.{◌≡◌, ℕ, zero, suc, ◌<◌, ◌≤◌, List, [], ◌∷◌, length, Option, Some, None, refl, sym, ap, subst, ◌∙◌, arith}
+use Rattle.std.specs.Prelude.{slice_get}
+use Rattle.nts_model.specs.declared.labels.VariableKind.{VariableKind}
+use Rattle.nts_model.specs.declared.labels.VariableKind.TheVariants as kind
+use Rattle.nts_model.specs.declared.labels.Leaf.TheVariants as leaf
+use Rattle.nts_model.specs.declared.labels.Label.{Label}
+use Rattle.nts_model.specs.declared.labels.Label.TheVariants as label
+use Rattle.nts_model.specs.Trees.{Tree, empty, more, node, NodeKind, of_sort, sort_of_variable, kind_of, kind_of_label, children, label_of, shape, Meets, in_order, HavePlaces, IsClosed as IsClosedTree}
+use Rattle.nts_model.specs.Contents.{Content, known, state_of, kind_at}
+use Rattle.nts_model.specs.Resolving.{variable_of, variable_tree, infer_of, IsInfer, Knows, KnowsLabel, Reaches, here, on, resolved, rank_of, rank_of_kind, variable_rank}
+use Rattle.nts_model.proofs.Variables.{infer_label}
+use Rattle.nts_model.proofs.Slots.{some_slot}
+use Rattle.nts_model.proofs.Roots.{kind_at-reaches}
+use Rattle.nts_model.proofs.Resolved.{KnownStep, known_step, resolved-variable_reaches}
+use Rattle.nts_model.specs.Worlds.{World, inst, Solves}
+use Rattle.nts_model.proofs.Kept.{variable_label}
+use Rattle.nts_model.proofs.Instances.{inst-variable, tree-reaches, tree-known}
+use Rattle.nts_store.specs.declared.nodes.NodeId.{NodeId}
+use Rattle.nts_store.specs.Growth.{tree_at, IsIn}
+use Rattle.nts_unify.specs.declared.contents.State.{State}
+use Rattle.nts_unify.specs.declared.contents.State.TheVariants.{Unset, Link, Known}
+use Rattle.nts_unify.specs.declared.contents.Variable.{Variable}
+use Rattle.nts_unify.specs.Entries.{Entries}
+use Rattle.nts_unify.specs.Reading.{state_with, slot_of, content_of, IsLawful}
+use Rattle.nts_unify.specs.Roots.{Leads, IsRootState, IsRoot}
+use Rattle.nts_unify.specs.Changing.{region_variable, region_number}
+use Rattle.nts_unify.specs.Unchanged.{HasUnset}
+use Rattle.nts_relating.specs.Relating.{IsLike, IsOpen, IsHead}
+use Rattle.nts_relating.specs.declared.relate.Head.{Head}
+use Rattle.nts_relating.specs.declared.relate.Head.TheVariants.{Open, Closed}
+use Rattle.nts_relating.proofs.Ranks.{kind_of-like, like_of-kinds}
+use Rattle.nts_unify.proofs.Changes.{slot_at, AreHeld-at}
+
+pub state_at : (ts : List Tree) (e : Entries) (n : ℕ) (v : Variable) → slice_get e.variables n ≡ Some v → state_of (content_of ts e) n ≡ Some (state_with ts v.state)
+state_at ts e n v h = some_slot (λ x. x.state) (content_of ts e) n (slot_of ts v) (slot_at ts e n v h)
+
+pub kind_at-entry : (ts : List Tree) (e : Entries) (n : ℕ) (v : Variable) → slice_get e.variables n ≡ Some v → kind_at (content_of ts e) n ≡ Some v.kind
+kind_at-entry ts e n v h = some_slot (λ x. x.kind) (content_of ts e) n (slot_of ts v) (slot_at ts e n v h)
+
+pub reaches : (ts : List Tree) (e : Entries) (n r : ℕ) → Leads e n r → Reaches (content_of ts e) n r
+reaches ts e n r Leads.here = here
+reaches ts e n r (Leads.on {m = m} v before at s) = on (reaches ts e n m before) (state_at ts e m v at ∙ ap (λ x. Some (state_with ts x)) s)
+
+pub at_index : {A : Type 0} (xs : List A) (n : ℕ) → n < length xs → (x : A) × (slice_get xs n ≡ Some x)
+at_index [] n h = absurd (omega arith)
+at_index (x ∷ xs) zero h = (x, refl)
+at_index (x ∷ xs) (suc n) h = at_index xs n (omega arith)
+
+-- the variable that a label names
+kind_found : Option (VariableKind × ℕ) → NodeKind → NodeKind
+kind_found None k = k
+kind_found (Some v) k = of_sort (sort_of_variable v.0)
+
+found_kind : (l : Label) → kind_found (variable_of l) (kind_of_label l) ≡ kind_of_label l
+unfolding kind_found
+found_kind (label.Leaf (leaf.Variable k n)) = refl
+found_kind (label.Leaf (leaf.Region r)) = refl
+found_kind (label.Leaf (leaf.TyConstant c)) = refl
+found_kind (label.Leaf (leaf.ConstConstant c)) = refl
+found_kind (label.Bound s i n) = refl
+found_kind (label.Ty h) = refl
+found_kind (label.Const h) = refl
+found_kind (label.Clause h) = refl
+found_kind (label.Predicate h) = refl
+found_kind (label.List h) = refl
+
+pub kind_of-variable : (l : Label) (k : VariableKind) (n : ℕ) → variable_of l ≡ Some (k, n) → kind_of_label l ≡ of_sort (sort_of_variable k)
+unfolding kind_found
+kind_of-variable l k n e = sym (found_kind l) ∙ ap (λ o. kind_found o (kind_of_label l)) e
+
+number_is : (k : VariableKind) (m n : ℕ) → region_number k m ≡ Some n → (k ≡ kind.Region) × (m ≡ n)
+number_is kind.Ty m n e = cc
+number_is kind.Int m n e = cc
+number_is kind.Float m n e = cc
+number_is kind.Const m n e = cc
+number_is kind.Region m n e = (refl, cc)
+
+pub region_label : (l : Label) (n : ℕ) → region_variable l ≡ Some n → variable_of l ≡ Some (kind.Region, n)
+region_label l n e = by_case (variable_of l) refl
+  where
+    by_case : (o : Option (VariableKind × ℕ)) → variable_of l ≡ o → variable_of l ≡ Some (kind.Region, n)
+    by_case None q = let z : None ≡ Some n = sym (rw q refl) ∙ e in cc
+    by_case (Some v) q =
+        let z : region_number v.0 v.1 ≡ Some n = rw q at e in
+        let r = number_is v.0 v.1 n z in
+        q ∙ (λ i. Some (r.0 i, r.1 i))
+
+label_at : (t : Tree) (l : Label) → t ≡ node l (children t) → label_of t ≡ Some l
+label_at t l e = ap label_of e
+
+knows_label : (c : Content) (t : Tree) (l : Label) → t ≡ node l (children t) → Knows c t → KnowsLabel c (variable_of l)
+knows_label c t l e h = (let P : Tree → Type 0 = λ x. Knows c x in subst P e h).0
+
+pub infer_at : (t : Tree) (l : Label) (n : ℕ) → t ≡ node l (children t) → infer_of l ≡ Some n → IsInfer t
+infer_at t l n e h = subst (λ (x : Tree). IsInfer x) (sym e) (n, h)
+
+-- a value that a variable leads to
+pub record HeadKnown (ts : List Tree) (e : Entries) (t : Tree) (v : NodeId) : Type 0 where
+  pub within : IsIn ts v
+  pub infer : IsInfer t
+  pub sort : NodeKind
+  pub value_sort : kind_of (tree_at ts v) ≡ Some sort
+  pub own_sort : kind_of t ≡ Some sort
+  pub step : KnownStep (content_of ts e) t (tree_at ts v)
+  pub worlds : (w : World) → Solves (content_of ts e) w → inst w t ≡ inst w (tree_at ts v)
+  pub closed : IsClosedTree (tree_at ts v)
+
+no_children : (c : Tree) → HavePlaces [] c → c ≡ empty
+no_children empty h = refl
+no_children (more a b) h = absurd h
+no_children (node l c) h = absurd h
+
+-- a node that is a variable has no children
+pub variable_node : (t : Tree) (l : Label) (k : VariableKind) (n : ℕ) → t ≡ node l (children t) → Meets (shape l) (children t) → variable_of l ≡ Some (k, n) → t ≡ variable_tree k n
+variable_node t l k n is m v =
+    let e = variable_label l k n v in
+    let none : Meets (in_order []) (children t) = rw e at m in
+    is ∙ (λ i. node (e i) (no_children (children t) none i))
+
+inst-at : (w : World) (t : Tree) (l : Label) (k : VariableKind) (n : ℕ) → t ≡ node l (children t) → variable_of l ≡ Some (k, n) → inst w t ≡ w.tree n
+inst-at w t l k n is v = ap (inst w) is ∙ inst-variable w l (children t) k n v
+
+pub head_known : (ts : List Tree) (e : Entries) (t : Tree) (l : Label) (n r : ℕ) (w : Variable) (v : NodeId) → IsLawful ts e → Knows (content_of ts e) t → t ≡ node l (children t) → infer_of l ≡ Some n → IsRoot e n r → slice_get e.variables r ≡ Some w → w.state ≡ Known v → HeadKnown ts e t v
+head_known ts e t l n r w v h k is i root at s =
+    let c = content_of ts e in
+    let x = infer_label l n i in
+    let state : state_of c r ≡ Some (known (tree_at ts v)) = state_at ts e r w at ∙ ap (λ y. Some (state_with ts y)) s in
+    let held = AreHeld-at ts e.variables r w h.held at in
+    let there : KnowsLabel c (variable_of l) = knows_label c t l is k in
+    let has : kind_at c n ≡ Some x.of_kind = rw x.is at there in
+    let root_kind : kind_at c r ≡ Some x.of_kind = kind_at-reaches c n r h.sound (reaches ts e n r root.leads) ∙ has in
+    record {
+      within = rw s at held;
+      infer = infer_at t l n is i;
+      sort = of_sort (sort_of_variable x.of_kind);
+      value_sort = (h.sound.fits r (tree_at ts v) x.of_kind state root_kind).0;
+      own_sort = ap kind_of is ∙ ap Some (kind_of-variable l x.of_kind n x.is);
+      step = known_step c t l x.of_kind n r (tree_at ts v) h.sound k (label_at t l is) x.is x.no_region (reaches ts e n r root.leads) state;
+      worlds = λ w z. inst-at w t l x.of_kind n is x.is ∙ tree-known c w n r (tree_at ts v) z (reaches ts e n r root.leads) state;
+      closed = (h.proper.solvable.values r (tree_at ts v) x.of_kind state root_kind).closed;
+    }
+
+-- .. is what the variable is
+pub head_through : (ts : List Tree) (e : Entries) (t : Tree) (v : NodeId) (h : Head) → HeadKnown ts e t v → IsHead ts e (tree_at ts v) h → IsHead ts e t h
+head_through ts e t v (Open n) k o =
+    record {
+      bindable = o.bindable;
+      infer = k.infer;
+      like = like_of-kinds (variable_tree o.bindable.of_kind n) t k.sort (kind_of-like (variable_tree o.bindable.of_kind n) (tree_at ts v) o.like ∙ k.value_sort) k.own_sort;
+      rank = (let a = o.rank in let b = k.step.lower in omega (arith, a, b));
+      same = k.step.same ∙ o.same;
+      worlds = λ w z. k.worlds w z ∙ o.worlds w z;
+    }
+head_through ts e t v (Closed n) k o = (
+  o.0,
+  record {
+    knows = o.1.knows;
+    no_variable = o.1.no_variable;
+    same = k.step.same ∙ o.1.same;
+    worlds = λ w z. k.worlds w z ∙ o.1.worlds w z;
+  },
+)
+
+is_unset : (s : State) → IsRootState s → ((v : NodeId) → s ≡ Known v → ⊥) → s ≡ Unset
+is_unset Unset h k = refl
+is_unset (Link m) h k = absurd h
+is_unset (Known v) h k = absurd (k v refl)
+
+zero_less : (a b k : ℕ) → a ≡ k → b ≡ a → k ≤ b
+zero_less a b k e q = omega (arith, e, q)
+
+-- a root without a value
+pub head_open : (ts : List Tree) (e : Entries) (t : Tree) (l : Label) (n r : ℕ) (w : Variable) → IsLawful ts e → Knows (content_of ts e) t → t ≡ node l (children t) → Meets (shape l) (children t) → infer_of l ≡ Some n → IsRoot e n r → slice_get e.variables r ≡ Some w → ((v : NodeId) → w.state ≡ Known v → ⊥) → IsOpen ts e t r
+head_open ts e t l n r w h k is m i root at s =
+    let c = content_of ts e in
+    let x = infer_label l n i in
+    let there : KnowsLabel c (variable_of l) = knows_label c t l is k in
+    let has : kind_at c n ≡ Some x.of_kind = rw x.is at there in
+    let same : Some w.kind ≡ Some x.of_kind = sym (kind_at-entry ts e r w at) ∙ kind_at-reaches c n r h.sound (reaches ts e n r root.leads) ∙ has in
+    let of_kind : w.kind ≡ x.of_kind = cc in
+    let like : IsLike (variable_tree x.of_kind r) (node l (children t)) = sym (kind_of-variable l x.of_kind n x.is) in
+    record {
+      bindable = record { of_kind = x.of_kind; no_region = x.no_region; free = record { variable = w; at = at; of_kind = of_kind; state = is_unset w.state (root.ends w at) s } };
+      infer = infer_at t l n is i;
+      like = subst (λ (y : Tree). IsLike (variable_tree x.of_kind r) y) (sym is) like;
+      rank = zero_less (rank_of (variable_of l)) (variable_rank t) (rank_of_kind x.of_kind) (ap rank_of x.is) (ap variable_rank is);
+      same = ap (resolved c) (variable_node t l x.of_kind n is m x.is) ∙ resolved-variable_reaches c x.of_kind n r h.sound x.no_region has (reaches ts e n r root.leads);
+      worlds = λ w z. inst-at w t l x.of_kind n is x.is ∙ tree-reaches c w n r z (reaches ts e n r root.leads);
+    }
+
+-- the root of a region variable
+pub region_root : (ts : List Tree) (e : Entries) (t : Tree) (l : Label) (n r : ℕ) → IsLawful ts e → Knows (content_of ts e) t → t ≡ node l (children t) → region_variable l ≡ Some n → IsRoot e n r → HasUnset e r kind.Region
+region_root ts e t l n r h k is i root =
+    let c = content_of ts e in
+    let x = region_label l n i in
+    let there : KnowsLabel c (variable_of l) = knows_label c t l is k in
+    let has : kind_at c n ≡ Some kind.Region = rw x at there in
+    let w = at_index e.variables r root.within in
+    let region : kind_at c r ≡ Some kind.Region = kind_at-reaches c n r h.sound (reaches ts e n r root.leads) ∙ has in
+    let same : Some w.0.kind ≡ Some kind.Region = sym (kind_at-entry ts e r w.0 w.1) ∙ region in
+    let state = state_at ts e r w.0 w.1 in
+    record {
+      variable = w.0;
+      at = w.1;
+      of_kind = cc;
+      state = is_unset w.0.state (root.ends w.0 w.1) (λ v q. (h.sound.fits r (tree_at ts v) kind.Region (state ∙ ap (λ y. Some (state_with ts y)) q) region).1 refl);
+    }

@@ -1,0 +1,15 @@
+pub mod BindLemmas
+pub mod FreshValues
+pub mod GenLemmas
+pub mod HeadLemmas
+pub mod Judging
+pub mod Looking
+pub mod MetPairs
+pub mod Naming
+pub mod PairLemmas
+pub mod Ranks
+pub mod RefusalLemmas
+pub mod RegionLemmas
+pub mod ValueParts
+pub mod ValueTasks
+pub mod ValueTurns

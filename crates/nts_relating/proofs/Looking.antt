@@ -1,0 +1,91 @@
+-- Terms whose variables a table has.
+use Rattle.std.proofs.Common.{◌≡◌, ◌↔◌, ℕ, zero, suc, ◌+◌, ◌<◌, ◌||◌, Bool, true, false, not, List, Option, Some, None, refl, sym, ap, ◌∙◌, arith, add-one}
+use Rattle.std.specs.Prelude.{Result, Ok, Err, IfOk, IsTrue}
+use Rattle.nts_model.specs.declared.labels.VariableKind.{VariableKind}
+use Rattle.nts_model.specs.declared.labels.VariableKind.TheVariants as kind
+use Rattle.nts_model.specs.declared.labels.Leaf.TheVariants as leaf
+use Rattle.nts_model.specs.declared.labels.Label.{Label}
+use Rattle.nts_model.specs.declared.labels.Label.TheVariants as label
+use Rattle.nts_model.specs.Trees.{Tree, empty, more, node, row_length, row_at, IsRow, any_label, is_infer, is_region_infer}
+use Rattle.nts_model.specs.Contents.{Content}
+use Rattle.nts_model.specs.Resolving.{variable_of, Knows, KnowsLabel}
+use Rattle.nts_store.specs.Labels.{AllLabels}
+use Rattle.nts_unify.specs.Entries.{Entries}
+use Rattle.nts_unify.specs.Reading.{content_of}
+use Rattle.nts_relating.specs.Knowing.{HasNamed, row_from}
+use Rattle.nts_unify.proofs.Leading.{kind_within, kind_at-entry, entry_at}
+
+pub row_from-end : (r : Tree) → IsRow r → row_from (row_length r) r ≡ empty
+row_from-end empty h = refl
+row_from-end (more a b) h = rw add-one (row_from-end b h)
+row_from-end (node l x) h = absurd h
+
+pub row_from-step : (r : Tree) (i : ℕ) → i < row_length r → row_from i r ≡ more (row_at r i) (row_from (i + 1) r)
+row_from-step empty i h = absurd (omega arith)
+row_from-step (more a b) zero h = refl
+row_from-step (more a b) (suc i) h =
+    let e : suc i + 1 ≡ suc (i + 1) = omega arith in rw e (row_from-step b i (omega arith))
+row_from-step (node l x) i h = absurd (omega arith)
+
+or_false : (a b : Bool) → (a || b) ≡ false → (a ≡ false) × (b ≡ false)
+or_false true b e = cc
+or_false false b e = (refl, e)
+
+no_variable : (c : Content) (l : Label) → is_infer l ≡ false → is_region_infer l ≡ false → KnowsLabel c (variable_of l)
+no_variable c (label.Leaf (leaf.Variable kind.Ty n)) e h = cc
+no_variable c (label.Leaf (leaf.Variable kind.Int n)) e h = cc
+no_variable c (label.Leaf (leaf.Variable kind.Float n)) e h = cc
+no_variable c (label.Leaf (leaf.Variable kind.Const n)) e h = cc
+no_variable c (label.Leaf (leaf.Variable kind.Region n)) e h = cc
+no_variable c (label.Leaf (leaf.Region r)) e h = tt
+no_variable c (label.Leaf (leaf.TyConstant a)) e h = tt
+no_variable c (label.Leaf (leaf.ConstConstant a)) e h = tt
+no_variable c (label.Bound a b d) e h = tt
+no_variable c (label.Ty k) e h = tt
+no_variable c (label.Const k) e h = tt
+no_variable c (label.Clause k) e h = tt
+no_variable c (label.Predicate k) e h = tt
+no_variable c (label.List k) e h = tt
+
+pub Knows-none : (c : Content) (t : Tree) → any_label is_infer t ≡ false → any_label is_region_infer t ≡ false → Knows c t
+Knows-none c empty e h = tt
+Knows-none c (more a b) e h =
+    let p = or_false (any_label is_infer a) (any_label is_infer b) e in
+    let q = or_false (any_label is_region_infer a) (any_label is_region_infer b) h in
+    (Knows-none c a p.0 q.0, Knows-none c b p.1 q.1)
+Knows-none c (node l x) e h =
+    let p = or_false (is_infer l) (any_label is_infer x) e in
+    let q = or_false (is_region_infer l) (any_label is_region_infer x) h in
+    (no_variable c l p.0 q.0, Knows-none c x p.1 q.1)
+
+-- a variable that the table has is known, and the other way round
+pub named_known : (ts : List Tree) (e : Entries) (o : Option (VariableKind × ℕ)) → HasNamed e o → KnowsLabel (content_of ts e) o
+named_known ts e None h = tt
+named_known ts e (Some v) h = kind_at-entry ts e v.1 h.variable h.at ∙ ap Some h.of_kind
+
+pub known_named : (ts : List Tree) (e : Entries) (o : Option (VariableKind × ℕ)) → KnowsLabel (content_of ts e) o → HasNamed e o
+known_named ts e None h = tt
+known_named ts e (Some v) h =
+    let p = entry_at e.variables v.1 (kind_within ts e v.1 v.0 h) in
+    let z : Some p.0.kind ≡ Some v.0 = sym (kind_at-entry ts e v.1 p.0 p.1) ∙ h in
+    record { variable = p.0; at = p.1; of_kind = cc }
+
+pub from_not : (b : Bool) → not b ≡ true → b ≡ false
+from_not true h = cc
+from_not false h = refl
+
+-- all variables of a tree are of the table
+pub labels_known : (ts : List Tree) (e : Entries) (t : Tree) → AllLabels (λ l. HasNamed e (variable_of l)) t → Knows (content_of ts e) t
+labels_known ts e empty h = tt
+labels_known ts e (more a b) h = (labels_known ts e a h.0, labels_known ts e b h.1)
+labels_known ts e (node l x) h = (named_known ts e (variable_of l) h.0, labels_known ts e x h.1)
+
+pub known_labels : (ts : List Tree) (e : Entries) (t : Tree) → Knows (content_of ts e) t → AllLabels (λ l. HasNamed e (variable_of l)) t
+known_labels ts e empty h = tt
+known_labels ts e (more a b) h = (known_labels ts e a h.0, known_labels ts e b h.1)
+known_labels ts e (node l x) h = (known_named ts e (variable_of l) h.0, known_labels ts e x h.1)
+
+-- a test of one fact is a test of another that holds where it does
+pub if_both : {E P Q : Type 0} (r : Result Bool E) → (P → Q) → (Q → P) → IfOk r (λ b. IsTrue b ↔ P) → IfOk r (λ b. IsTrue b ↔ Q)
+if_both (Ok b) to from h = ((λ z. to (h.0 z)), λ q. h.1 (from q))
+if_both (Err e) to from h = tt

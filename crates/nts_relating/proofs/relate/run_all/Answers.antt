@@ -1,0 +1,29 @@
+use Rattle.std.proofs.Common.{refl, ◌∙◌}
+use Rattle.nts_store.proofs.Growing.{Extends-refl, Extends-trans}
+use Rattle.nts_unify.specs.Reading.{content_of}
+use Rattle.nts_relating.proofs.PairLemmas.{running_start, all_step, all_done, err_of}
+use Rattle.nts_relating.proofs.RefusalLemmas.{Refuses-before}
+use Rattle.nts_relating.proofs.relate.run_all.Goals as goal
+
+pub loop-error-init : goal.loop-error-init
+loop-error-init c =
+    record { extends = Extends-refl c.args.nodes.now; saved = refl; hidden = refl; valid = c.requires.valid; memo = c.requires.memo; running = running_start (content_of c.args.nodes.now c.args.table.now.entries) _ c.requires.valid.lawful.sound }
+
+pub loop-error-preserved : goal.loop-error-preserved
+loop-error-preserved c =
+    let i = c.loop-error.invariant in
+    record {
+      extends = Extends-trans i.extends c.in-Ok.ensures.extends;
+      saved = c.in-Ok.ensures.saved ∙ i.saved;
+      hidden = c.in-Ok.ensures.hidden ∙ i.hidden;
+      valid = c.in-Ok.ensures.valid;
+      memo = c.in-Ok.ensures.memo;
+      running = all_step c.requires.valid.lawful.sound i.valid.lawful.sound i.running c.in-Ok.ensures.run c.if-not-bound.false;
+    }
+
+pub returns-then-not-bound-clause-reduces : goal.returns-then-not-bound-clause-reduces
+returns-then-not-bound-clause-reduces c =
+    all_done c.requires.valid.lawful.sound c.loop-error.invariant.valid.lawful.sound c.loop-error.invariant.running c.in-Ok.ensures.run c.if-not-bound.true
+
+pub returns-in-Err-clause-no : goal.returns-in-Err-clause-no
+returns-in-Err-clause-no c = λ q. Refuses-before c.loop-error.invariant.running.reduces (c.in-Err.ensures.no (err_of _ _ q))

@@ -1,0 +1,4 @@
+pub mod Knowing
+pub mod Met
+pub mod Parts
+pub mod Relating

@@ -1,0 +1,204 @@
+-- What the steps of relating do to a table.
+use Rattle.std.specs.Prelude.{◌≡◌, ◌≢◌, ℕ, ◌+◌, ◌≤◌, ◌<◌, List, [], ◌∷◌, Option, Some, None, Bool, true, false}
+use Rattle.nts_model.specs.declared.labels.VariableKind.{VariableKind}
+use Rattle.nts_model.specs.declared.labels.VariableKind.TheVariants as kind
+use Rattle.nts_model.specs.declared.labels.Sort.TheVariants as sort
+use Rattle.nts_model.specs.Trees.{Tree, empty, more, node, size, kind_of, kind_of_label, of_sort, row_length, IsClosedUnder}
+use Rattle.nts_model.specs.Contents.{Content, unset, state_of, universe_of, kind_at}
+use Rattle.nts_model.specs.Resolving.{Knows, IsInfer, Lacks, resolved, variable_tree, variable_flag, variable_rank}
+use Rattle.nts_model.specs.Levels.{NamesAll, level_in, term_level, region_level}
+use Rattle.nts_model.specs.Fitting.{Fits}
+use Rattle.nts_model.specs.Worlds.{World, inst, Solves}
+use Rattle.nts_model.specs.Holding.{Continues}
+use Rattle.nts_model.specs.Regions.{IsRegion}
+use Rattle.nts_model.specs.Alike.{AreAlike}
+use Rattle.nts_model.specs.Equations.{ExtensionIf, Extension, Equates, AllAlike, Narrows, Reduces}
+use Rattle.nts_store.specs.declared.nodes.NodeId.{NodeId}
+use Rattle.nts_store.specs.declared.facts.Facts.{Facts}
+use Rattle.nts_store.specs.Growth.{tree_at, IsIn}
+use Rattle.nts_relating.specs.declared.relate.Pair.{Pair}
+use Rattle.nts_relating.specs.declared.relate.Head.{Head}
+use Rattle.nts_relating.specs.declared.relate.Head.TheVariants.{Open, Closed}
+use Rattle.nts_unify.specs.Entries.{Entries}
+use Rattle.nts_unify.specs.Reading.{content_of, IsLawful}
+use Rattle.nts_unify.specs.Changing.{IsLater, Keeps, unset_count}
+use Rattle.nts_unify.specs.Joining.{IsBindable, TakesVariable}
+use Rattle.nts_relating.specs.Knowing.{row_from}
+use Rattle.nts_relating.specs.Met.{Judge, judged_size, JudgesOne, OneBelow, AreOneAfter}
+
+-- a list of trees of the same sorts
+abbrev pub IsLike : Tree → Tree → Type 0
+IsLike empty empty = Unit {0}
+IsLike (more a b) (more c d) = (kind_of a ≡ kind_of c) × IsLike b d
+IsLike (node l a) (node m b) = kind_of_label l ≡ kind_of_label m
+IsLike s t = ⊥
+
+-- neither variables nor placeholders, and no bound variable passes the binders
+abbrev pub StaysBelow : Option ℕ → ℕ → Type 0
+StaysBelow None n = Unit {0}
+StaysBelow (Some d) n = d < n
+
+pub record IsSettled (facts : Facts) (binders : ℕ) : Type 0 where
+  pub no_infer : facts.has_infer ≡ false
+  pub no_region_infer : facts.has_region_infer ≡ false
+  pub no_placeholder : facts.has_placeholder ≡ false
+  pub escaping : StaysBelow facts.escaping binders
+
+-- the tree r stands for t in the value of the variable x, which the universe u bounds, under b binders
+pub record Generalised (c d : Content) (x u b : ℕ) (t r : Tree) : Type 0 where
+  pub keeps : Keeps c d
+  pub knows : Knows d r
+  pub rank : variable_rank r ≤ variable_rank t
+  pub fits : (k : VariableKind) → k ≢ kind.Region → variable_rank t ≡ 0 → Fits k t → Fits k r
+  pub like : IsLike r t
+  pub lacks : Lacks x (resolved d r)
+  pub continues : Continues c d
+  pub own : universe_of d x ≡ universe_of c x
+  pub named : NamesAll (level_in d) u r
+  pub named_regions : NamesAll region_level u r
+  pub closed : IsClosedUnder b r
+  pub alike : AreAlike d r t
+  pub sound : (w : World) → Solves d w → Solves c w × (inst w r ≡ inst w t)
+  pub complete : (w : World) → Solves c w → NamesAll term_level u (inst w t) → ExtensionIf c d w (λ f. NamesAll f u (inst w t))
+
+-- the walk may refuse the tree: no instance of it that the universe names and that is closed is the
+-- tree of the variable x, since each is larger
+pub record Blocks (c : Content) (x u b : ℕ) (t : Tree) : Type 0 where
+  pub none : (w : World) → Solves c w → NamesAll term_level u (inst w t) → IsClosedUnder b (inst w t) → size (w.tree x) < size (inst w t) + variable_flag t
+
+-- no world makes the variable one with the tree
+pub record Forbids (c : Content) (x : ℕ) (t : Tree) : Type 0 where
+  pub none : (w : World) → Solves c w → w.tree x ≡ inst w t → ⊥
+
+-- .. or two variables one
+pub record KeepsApart (c : Content) (x y : ℕ) : Type 0 where
+  pub none : (w : World) → Solves c w → w.tree x ≡ w.tree y → ⊥
+
+-- an inference variable that is no region and has no value
+pub record IsUnset (c : Content) (n : ℕ) (k : VariableKind) : Type 0 where
+  pub has : kind_at c n ≡ Some k
+  pub no_region : k ≢ kind.Region
+  pub state : state_of c n ≡ Some unset
+
+-- what a tree is under the table: such a variable, or another node
+pub record IsOpen (ts : List Tree) (e : Entries) (t : Tree) (n : ℕ) : Type 0 where
+  pub bindable : IsBindable e n
+  pub infer : IsInfer t
+  pub like : IsLike (variable_tree bindable.of_kind n) t
+  pub rank : variable_rank (variable_tree bindable.of_kind n) ≤ variable_rank t
+  pub same : resolved (content_of ts e) t ≡ resolved (content_of ts e) (variable_tree bindable.of_kind n)
+  pub worlds : (w : World) → Solves (content_of ts e) w → inst w t ≡ w.tree n
+
+pub record IsClosed (c : Content) (t v : Tree) : Type 0 where
+  pub knows : Knows c v
+  pub no_variable : IsInfer v → ⊥
+  pub same : resolved c t ≡ resolved c v
+  pub worlds : (w : World) → Solves c w → inst w t ≡ inst w v
+
+abbrev pub IsHead : List Tree → Entries → Tree → Head → Type 0
+IsHead ts e t (Open n) = IsOpen ts e t n
+IsHead ts e t (Closed v) = IsIn ts v × IsClosed (content_of ts e) t (tree_at ts v)
+
+-- a free region of the store and the table
+pub record IsRegionOf (ts : List Tree) (e : Entries) (t : NodeId) : Type 0 where
+  pub within : IsIn ts t
+  pub knows : Knows (content_of ts e) (tree_at ts t)
+  pub sort : kind_of (tree_at ts t) ≡ Some (of_sort sort.Region)
+  pub free : IsRegion (tree_at ts t)
+
+-- two regions made equal
+pub record RegionsRelate (c d : Content) (a b : Tree) : Type 0 where
+  pub keeps : Keeps c d
+  pub continues : Continues c d
+  pub narrows : Narrows c d (λ w. inst w a ≡ inst w b)
+  pub alike : AreAlike d a b
+
+-- a variable got a value, or was joined with another
+pub record IsSet (c d : Content) (x : ℕ) (t : Tree) : Type 0 where
+  pub later : IsLater c d
+  pub fewer : unset_count d.slots < unset_count c.slots
+  pub continues : Continues c d
+  pub alike : (k : VariableKind) → kind_at c x ≡ Some k → AreAlike d (variable_tree k x) t
+  pub sound : (w : World) → Solves d w → Solves c w × (w.tree x ≡ inst w t)
+  pub complete : (w : World) → Solves c w → w.tree x ≡ inst w t → Extension c d w
+
+-- two trees that are to be equal
+abbrev pub pair_at : List Tree → Pair → Tree × Tree
+pair_at ts p = (tree_at ts p.left, tree_at ts p.right)
+
+abbrev pub pairs_at : List Tree → List Pair → List (Tree × Tree)
+pairs_at ts [] = []
+pairs_at ts (p ∷ ps) = pair_at ts p ∷ pairs_at ts ps
+
+abbrev pub ArePairsIn : List Tree → List Pair → Type 0
+ArePairsIn ts [] = Unit {0}
+ArePairsIn ts (p ∷ ps) = IsIn ts p.left × IsIn ts p.right × ArePairsIn ts ps
+
+abbrev pub AreKnown : Content → List (Tree × Tree) → Type 0
+AreKnown c [] = Unit {0}
+AreKnown c (p ∷ ps) = Knows c p.0 × Knows c p.1 × AreKnown c ps
+
+-- for the measure: the sizes of the resolved trees
+abbrev pub total : Content → List (Tree × Tree) → ℕ
+total c [] = 0
+total c (p ∷ ps) = size (resolved c p.0) + size (resolved c p.1) + 1 + total c ps
+
+-- the pairs of the children from the i-th on stand at the end, the first ones last
+pub record Pushed (ts : List Tree) (ps qs : List Pair) (a b : Tree) (i : ℕ) : Type 0 where
+  pub within : ArePairsIn ts ps → ArePairsIn ts qs
+  pub known : (c : Content) → Knows c a → Knows c b → AreKnown c (pairs_at ts ps) → AreKnown c (pairs_at ts qs)
+  pub sound : (w : World) → Equates w (pairs_at ts qs) → Equates w (pairs_at ts ps) × (inst w (row_from i a) ≡ inst w (row_from i b))
+  pub complete : (w : World) → Equates w (pairs_at ts ps) → inst w (row_from i a) ≡ inst w (row_from i b) → Equates w (pairs_at ts qs)
+  pub alike : (c : Content) → AllAlike c (pairs_at ts qs) → AllAlike c (pairs_at ts ps) × AreAlike c (row_from i a) (row_from i b)
+  pub weight : (c : Content) → total c (pairs_at ts qs) + row_length (row_from i a) ≡ total c (pairs_at ts ps) + size (resolved c (row_from i a)) + size (resolved c (row_from i b))
+  pub below : (j : Judge) (n : ℕ) → OneBelow j n (pairs_at ts qs) → OneBelow j n (pairs_at ts ps) × (judged_size j (row_from i a) ≤ n → JudgesOne j (row_from i a) (row_from i b))
+
+pub record IsValid (ts : List Tree) (e : Entries) (ps : List Pair) : Type 0 where
+  pub lawful : IsLawful ts e
+  pub within : ArePairsIn ts ps
+  pub known : AreKnown (content_of ts e) (pairs_at ts ps)
+
+-- each pair that was met is one where the smaller ones of the pairs left are
+pub record IsMemo (ts : List Tree) (e : Entries) (ps ms : List Pair) : Type 0 where
+  pub within : ArePairsIn ts ms
+  pub met : AreOneAfter (content_of ts e) (pairs_at ts ps) (pairs_at ts ms)
+
+-- two variables are one: they were joined, or one got the other as its value
+pub record AreMadeOne (c d : Content) (x y : ℕ) : Type 0 where
+  pub later : IsLater c d
+  pub fewer : unset_count d.slots < unset_count c.slots
+  pub continues : Continues c d
+  pub alike : (j k : VariableKind) → kind_at c x ≡ Some j → kind_at c y ≡ Some k → AreAlike d (variable_tree j x) (variable_tree k y)
+  pub sound : (w : World) → Solves d w → Solves c w × (w.tree x ≡ w.tree y)
+  pub complete : (w : World) → Solves c w → w.tree x ≡ w.tree y → Extension c d w
+
+-- two variables without values made one, unless they were one
+pub record VariablesRelate (ts us : List Tree) (e f : Entries) (x y : ℕ) (bound : Bool) : Type 0 where
+  pub made : bound ≡ true → IsLawful us f × AreMadeOne (content_of ts e) (content_of us f) x y
+  pub same : bound ≡ false → (us ≡ ts) × (f ≡ e) × (x ≡ y)
+
+-- two variables of which the first may have the second as its value
+pub record CanTake (e : Entries) (x y : ℕ) : Type 0 where
+  pub first : IsBindable e x
+  pub second : IsBindable e y
+  pub takes : TakesVariable first.of_kind second.of_kind
+
+-- what is left after a pair
+pub record IsStep (c d : Content) (ps qs : List (Tree × Tree)) (bound : Bool) : Type 0 where
+  pub later : IsLater c d
+  pub reduces : Reduces c d ps qs
+  pub fewer : bound ≡ true → unset_count d.slots < unset_count c.slots
+  pub smaller : bound ≡ false → (total d qs < total c ps) × (unset_count d.slots ≡ unset_count c.slots)
+
+-- pairs related until a variable got a value
+pub record IsRun (c d : Content) (ps qs : List (Tree × Tree)) (bound : Bool) : Type 0 where
+  pub later : IsLater c d
+  pub reduces : Reduces c d ps qs
+  pub fewer : bound ≡ true → unset_count d.slots < unset_count c.slots
+  pub ends : bound ≡ false → qs ≡ []
+
+-- while pairs are taken
+pub record Running (c d : Content) (ps qs : List (Tree × Tree)) : Type 0 where
+  pub later : IsLater c d
+  pub reduces : Reduces c d ps qs
+  pub not_more : unset_count d.slots ≤ unset_count c.slots

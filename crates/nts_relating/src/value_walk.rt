@@ -1,0 +1,285 @@
+//! The walk that makes the value of a variable.
+ghost use Rattle.std.specs.Prelude.{◌≡◌, ◌≢◌, ◌+◌, ◌++◌, ◌∷◌, [], ◌^◌, ◌<◌, length, OnOk, IfOk, Some, Err};
+ghost use Rattle.nts_model.specs.declared.labels.VariableKind.TheVariants as kind;
+ghost use Rattle.nts_model.specs.Contents.{kind_at};
+ghost use Rattle.nts_model.specs.Trees.{children};
+ghost use Rattle.nts_model.specs.Resolving.{Knows};
+ghost use Rattle.nts_store.specs.Growth.{tree_at, IsIn, Extends};
+ghost use Rattle.nts_relating.specs.declared.value_walk.Task.TheVariants as task;
+ghost use Rattle.nts_unify.specs.Reading.{content_of, IsLawful};
+ghost use Rattle.nts_relating.specs.Relating.{Generalised, Blocks};
+ghost use Rattle.nts_relating.specs.Parts.{IsLook, IsEntered, IsWalk, IsTurn, Has, made_at, inner};
+
+use crate::generalise::{Target, is_allowed, is_settled, name_region, name_variable};
+use indexmap::IndexSet;
+use nts_store::{EvalError, NodeId, Nodes, binders_of};
+use nts_unify::{InferCtxtInner, State, infer_number, names_free_region};
+use std::alloc::Global;
+use std::collections::HashMap;
+
+/// A part of the term that a value is made for, and how many binders stand around it.
+#[derive(Clone, Copy, PartialEq, Eq, Hash)]
+pub struct Part {
+    pub term: NodeId,
+    pub binders: usize,
+}
+
+/// What is left to do. A term may be nested very deep, so this stands on the heap.
+#[derive(Clone, Copy)]
+pub enum Task {
+    /// Find what stands for a part.
+    Enter(Part),
+    /// Make the node again over what stands for its children.
+    Build(Part),
+    /// What stands for this value of the variable stands for the variable.
+    Pass(Part, NodeId),
+}
+
+/// What a part is.
+#[derive(Clone, Copy)]
+pub enum Look {
+    /// This term stands for it.
+    Made(NodeId),
+    /// A variable with this value.
+    Value(NodeId),
+    /// A node that is to be made again.
+    Node,
+}
+
+/// A walk under way: the part that it began with, what is left to do, what stands for the parts so
+/// far, and the variables that came down to the target's universe.
+#[derive(Drop)]
+pub struct Walk {
+    pub root: Part,
+    pub tasks: Vec<Task>,
+    pub made: HashMap<Part, NodeId>,
+    pub moved: IndexSet<usize>,
+}
+
+/// What a part is, with a term for it where it is a leaf or is its own value.
+fn look_at(
+    nodes: &mut Nodes,
+    table: &mut InferCtxtInner,
+    moved: &mut IndexSet<usize>,
+    target: Target,
+    t: NodeId,
+) -> Result<Look, EvalError>
+    requires within { IsIn nodes.old t }
+    requires knows { Knows (content_of nodes.old table.old.entries) (tree_at nodes.old t) }
+    requires lawful { IsLawful nodes.old table.old.entries }
+    requires known { target.variable < length table.old.entries.variables }
+    requires no_region { kind_at (content_of nodes.old table.old.entries) target.variable ≢ Some kind.Region }
+    ensures extends { Extends nodes.old nodes.new }
+    ensures saved { table.new.saved ≡ table.old.saved }
+    ensures hidden { table.new.entries.hidden ≡ table.old.entries.hidden }
+    ensures lawful { OnOk result (IsLawful nodes.new table.new.entries) }
+    ensures look { IfOk result (IsLook nodes.old nodes.new table.old.entries table.new.entries target.variable target.universe target.binders t) }
+    ensures full { result ≢ Err EvalError.Full }
+    ensures no { result ≡ Err EvalError.NoSolution → Blocks (content_of nodes.old table.old.entries) target.variable target.universe target.binders (tree_at nodes.old t) }
+{
+    let label = nodes.label(t);
+    if let Some(n) = infer_number(label) {
+        let root = table.root(n);
+        if let State::Known(value) = table.variable(root).state {
+            return Ok(Look::Value(value));
+        }
+        if root == target.variable {
+            return Err(EvalError::NoSolution);
+        }
+        let made = name_variable(nodes, table, moved, target, t, root)?;
+        return Ok(Look::Made(made));
+    }
+    if is_settled(nodes.facts(t), target.binders) {
+        return Ok(Look::Made(t));
+    }
+    if names_free_region(label) {
+        let made = name_region(nodes, table, moved, target, t)?;
+        return Ok(Look::Made(made));
+    }
+    if !is_allowed(target, label) {
+        return Err(EvalError::NoSolution);
+    }
+    Ok(Look::Node)
+}
+
+/// What is left to do for a node: first its children from left to right, and then the node.
+fn push_node(nodes: &Nodes, tasks: &mut Vec<Task>, part: Part) -> Result<(), EvalError>
+    requires within { IsIn nodes.now part.term }
+    requires room { part.binders + part.term.number < 2 ^ 64 }
+    ensures entered { OnOk result (IsEntered nodes.now (children (tree_at nodes.now part.term)) (inner part.binders (tree_at nodes.now part.term)) part.term.number 0 (tasks.old.items ++ task.Build part ∷ []) tasks.new.items) }
+    ensures full { result ≢ Err EvalError.Full }
+    ensures no { result ≢ Err EvalError.NoSolution }
+{
+    let label = nodes.label(part.term);
+    tasks.push(Task::Build(part))?;
+    let mut i = nodes.child_count(part.term);
+    while i > 0 {
+        i -= 1;
+        let term = nodes.child(part.term, i);
+        let binders = part.binders + binders_of(label);
+        tasks.push(Task::Enter(Part { term, binders }))?;
+    }
+    Ok(())
+}
+
+/// Finds what stands for a part, or leaves what it stands on to be found first.
+fn enter(
+    nodes: &mut Nodes,
+    table: &mut InferCtxtInner,
+    walk: &mut Walk,
+    target: Target,
+    part: Part,
+) -> Result<(), EvalError>
+    requires walk { IsWalk nodes.old table.old.entries target.variable target.universe walk.old.root (walk.old.tasks.items ++ task.Enter part ∷ []) (made_at walk.old.made) }
+    ensures extends { Extends nodes.old nodes.new }
+    ensures saved { table.new.saved ≡ table.old.saved }
+    ensures hidden { table.new.entries.hidden ≡ table.old.entries.hidden }
+    ensures root { walk.new.root ≡ walk.old.root }
+    ensures turn { OnOk result (IsTurn nodes.old nodes.new table.old.entries table.new.entries target.variable target.universe walk.old.root (walk.old.tasks.items ++ task.Enter part ∷ []) walk.new.tasks.items (made_at walk.new.made)) }
+    ensures full { result ≢ Err EvalError.Full }
+    ensures no { result ≡ Err EvalError.NoSolution → Blocks (content_of nodes.old table.old.entries) target.variable target.universe walk.old.root.binders (tree_at nodes.old walk.old.root.term) }
+{
+    // Equal terms have one number. So a node is entered once under as many binders, however often
+    // the term has it.
+    if walk.made.contains_key(&part) {
+        return Ok(());
+    }
+    let target = Target {
+        binders: part.binders,
+        ..target
+    };
+    match look_at(nodes, table, &mut walk.moved, target, part.term) {
+        Err(error) => Err(error),
+        Ok(Look::Made(made)) => {
+            walk.made.insert(part, made)?;
+            Ok(())
+        }
+        Ok(Look::Value(value)) => {
+            walk.tasks.push(Task::Pass(part, value))?;
+            let term = value;
+            walk.tasks.push(Task::Enter(Part { term, binders: 0 }))?;
+            Ok(())
+        }
+        Ok(Look::Node) => push_node(nodes, &mut walk.tasks, part),
+    }
+}
+
+/// What stands for a part.
+fn made_for(made: &HashMap<Part, NodeId>, part: Part) -> NodeId
+    requires { Has (made_at made.now) part }
+    ensures { made_at made.now part ≡ Some result }
+{
+    match made.get(&part) {
+        Some(found) => *found,
+        None => unreachable!(),
+    }
+}
+
+/// Makes a node again over what stands for its children. The table stays as it is.
+fn build(
+    alloc: Global,
+    nodes: &mut Nodes,
+    table: &InferCtxtInner,
+    walk: &mut Walk,
+    target: Target,
+    part: Part,
+) -> Result<(), EvalError>
+    requires walk { IsWalk nodes.old table.now.entries target.variable target.universe walk.old.root (walk.old.tasks.items ++ task.Build part ∷ []) (made_at walk.old.made) }
+    ensures extends { Extends nodes.old nodes.new }
+    ensures root { walk.new.root ≡ walk.old.root }
+    ensures turn { OnOk result (IsTurn nodes.old nodes.new table.now.entries table.now.entries target.variable target.universe walk.old.root (walk.old.tasks.items ++ task.Build part ∷ []) walk.new.tasks.items (made_at walk.new.made)) }
+    ensures full { result ≢ Err EvalError.Full }
+    ensures no { result ≢ Err EvalError.NoSolution }
+{
+    // Equal terms have one number, so what was made for a child is found by the child's number.
+    let _ = nodes.len();
+    let label = nodes.label(part.term);
+    let mut children = Vec::new(alloc);
+    for i in 0..nodes.child_count(part.term) {
+        let term = nodes.child(part.term, i);
+        let binders = part.binders + binders_of(label);
+        children.push(made_for(&walk.made, Part { term, binders }))?;
+    }
+    let made = nodes.make(label, &children)?;
+    walk.made.insert(part, made)?;
+    Ok(())
+}
+
+/// Does one task.
+fn step(
+    alloc: Global,
+    nodes: &mut Nodes,
+    table: &mut InferCtxtInner,
+    walk: &mut Walk,
+    target: Target,
+    task: Task,
+) -> Result<(), EvalError>
+    requires walk { IsWalk nodes.old table.old.entries target.variable target.universe walk.old.root (walk.old.tasks.items ++ task ∷ []) (made_at walk.old.made) }
+    ensures extends { Extends nodes.old nodes.new }
+    ensures saved { table.new.saved ≡ table.old.saved }
+    ensures hidden { table.new.entries.hidden ≡ table.old.entries.hidden }
+    ensures root { walk.new.root ≡ walk.old.root }
+    ensures turn { OnOk result (IsTurn nodes.old nodes.new table.old.entries table.new.entries target.variable target.universe walk.old.root (walk.old.tasks.items ++ task ∷ []) walk.new.tasks.items (made_at walk.new.made)) }
+    ensures full { result ≢ Err EvalError.Full }
+    ensures no { result ≡ Err EvalError.NoSolution → Blocks (content_of nodes.old table.old.entries) target.variable target.universe walk.old.root.binders (tree_at nodes.old walk.old.root.term) }
+{
+    match task {
+        Task::Enter(part) => enter(nodes, table, walk, target, part),
+        Task::Build(part) => build(alloc, nodes, table, walk, target, part),
+        Task::Pass(part, value) => {
+            let made = made_for(
+                &walk.made,
+                Part {
+                    term: value,
+                    binders: 0,
+                },
+            );
+            walk.made.insert(part, made)?;
+            Ok(())
+        }
+    }
+}
+
+/// A value for the target's variable that stands for the term: in it are leaves that the target's
+/// universe names alone, and not the variable.
+pub fn generalise(
+    alloc: Global,
+    nodes: &mut Nodes,
+    table: &mut InferCtxtInner,
+    target: Target,
+    t: NodeId,
+) -> Result<NodeId, EvalError>
+    requires within { IsIn nodes.old t }
+    requires knows { Knows (content_of nodes.old table.old.entries) (tree_at nodes.old t) }
+    requires lawful { IsLawful nodes.old table.old.entries }
+    requires known { target.variable < length table.old.entries.variables }
+    requires no_region { kind_at (content_of nodes.old table.old.entries) target.variable ≢ Some kind.Region }
+    requires room { target.binders + t.number < 2 ^ 64 }
+    ensures extends { Extends nodes.old nodes.new }
+    ensures saved { table.new.saved ≡ table.old.saved }
+    ensures hidden { table.new.entries.hidden ≡ table.old.entries.hidden }
+    ensures within { IfOk result (λ r. IsIn nodes.new r) }
+    ensures lawful { OnOk result (IsLawful nodes.new table.new.entries) }
+    ensures generalised { IfOk result (λ r. Generalised (content_of nodes.old table.old.entries) (content_of nodes.new table.new.entries) target.variable target.universe target.binders (tree_at nodes.old t) (tree_at nodes.new r)) }
+    ensures full { result ≢ Err EvalError.Full }
+    ensures no { result ≡ Err EvalError.NoSolution → Blocks (content_of nodes.old table.old.entries) target.variable target.universe target.binders (tree_at nodes.old t) }
+{
+    let root = Part {
+        term: t,
+        binders: target.binders,
+    };
+    let mut walk = Walk {
+        root,
+        tasks: Vec::new(alloc),
+        made: HashMap::new(alloc),
+        moved: IndexSet::new(alloc),
+    };
+    walk.tasks.push(Task::Enter(root))?;
+    while let Some(task) = walk.tasks.pop() {
+        match step(alloc, nodes, table, &mut walk, target, task) {
+            Err(error) => return Err(error),
+            Ok(()) => {}
+        }
+    }
+    Ok(made_for(&walk.made, root))
+}

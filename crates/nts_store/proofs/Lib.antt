@@ -1,0 +1,9 @@
+pub mod Equal
+pub mod Escaping
+pub mod Filling
+pub mod Forming
+pub mod Growing
+pub mod Inserting
+pub mod Pending
+pub mod Reading
+pub mod Replacing

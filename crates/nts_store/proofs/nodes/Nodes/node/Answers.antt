@@ -1,0 +1,29 @@
+use Rattle.std.proofs.Common.{arith, ap, sym, length, ◌∙◌}
+use Rattle.std.proofs.lemmas.Option.{slice_get_within, get_or_from_slice_get}
+use Rattle.nts_store.specs.Facts.{facts_of}
+use Rattle.nts_store.proofs.Inserting.{Found, found, length-trees}
+use Rattle.nts_store.proofs.nodes.Nodes.node.Goals as goal
+
+read : (c : goal.After-index) → Found c.args.self.now c.args.t.number c.index.result.now
+read c =
+    let ns = c.self.inside.nodes.keys in
+    let n = c.index.result.now in
+    found ns c.args.self.now c.args.t.number n c.self.view_is c.self.invariant (slice_get_within ns c.args.t.number n c.index.ensures) (get_or_from_slice_get ns c.args.t.number n n c.index.ensures)
+
+pub index-requires : goal.index-requires
+index-requires c = omega (arith, ap length c.self.view_is, length-trees c.self.inside.nodes.keys)
+
+pub returns-clause-is : goal.returns-clause-is
+returns-clause-is c = (read c).is
+
+pub returns-clause-all : goal.returns-clause-all
+returns-clause-all c = (read c).is_node.all
+
+pub returns-clause-before : goal.returns-clause-before
+returns-clause-before c = (read c).before
+
+pub returns-clause-formed : goal.returns-clause-formed
+returns-clause-formed c = (read c).is_node.formed
+
+pub returns-clause-facts : goal.returns-clause-facts
+returns-clause-facts c = (read c).is_node.facts ∙ ap facts_of (sym (read c).is)

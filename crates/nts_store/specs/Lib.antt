@@ -1,0 +1,10 @@
+pub mod Errors
+pub mod Facts
+pub mod Filled
+pub mod Formed
+pub mod Growth
+pub mod Kept
+pub mod Labels
+pub mod Replacement
+pub mod Sorts
+pub mod Store

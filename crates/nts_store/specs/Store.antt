@@ -1,0 +1,32 @@
+-- What the nodes of a store stand for.
+use Rattle.std.specs.Prelude.{◌≡◌, List, [], ◌∷◌, ◌++◌}
+use Rattle.nts_model.specs.Trees.{Tree, node, shape, Meets}
+use Rattle.nts_store.specs.declared.nodes.Node.{Node}
+use Rattle.nts_store.specs.Facts.{facts_of}
+use Rattle.nts_store.specs.Growth.{trees_at, AllIn, AreApart}
+
+abbrev pub tree_of_node : List Tree → Node → Tree
+tree_of_node ts n = node n.label (trees_at ts n.children.items)
+
+-- the trees of the nodes that stand after those of `ts`
+abbrev pub grown : List Tree → List Node → List Tree
+grown ts [] = ts
+grown ts (n ∷ ns) = grown (ts ++ tree_of_node ts n ∷ []) ns
+
+abbrev pub trees : List Node → List Tree
+trees ns = grown [] ns
+
+-- the children stand in the store and fit the label, and the facts are those of the tree
+pub record IsNode (ts : List Tree) (n : Node) : Type 0 where
+  pub all : AllIn ts n.children.items
+  pub formed : Meets (shape n.label) (trees_at ts n.children.items)
+  pub facts : n.facts ≡ facts_of (tree_of_node ts n)
+
+-- each node is one over those before it, where `ts` stand before all
+abbrev pub IsGrown : List Tree → List Node → Type 0
+IsGrown ts [] = Unit {0}
+IsGrown ts (n ∷ ns) = IsNode ts n × IsGrown (ts ++ tree_of_node ts n ∷ []) ns
+
+pub record IsShared (ns : List Node) : Type 0 where
+  pub ordered : IsGrown [] ns
+  pub apart : AreApart (trees ns)

@@ -1,0 +1,154 @@
+//! What a node keeps of its tree, so that walks can stop early.
+ghost use Rattle.std.specs.Prelude.{◌≡◌};
+ghost use Rattle.nts_model.specs.Trees.{is_infer, is_region_infer, is_placeholder, is_alias, is_canonical, binders};
+ghost use Rattle.nts_store.specs.Facts.{higher, past_binders, level_of, joined, labelled, no_facts};
+
+use nts_model::{
+    BoundIndex, ConstHead, Constant, FreeRegion, Label, Leaf, ListHead, TyHead, VariableKind,
+};
+
+/// What is known of a whole tree.
+#[derive(Clone, Copy, PartialEq, Eq, Hash)]
+pub struct Facts {
+    /// It has an inference variable that is no region.
+    pub has_infer: bool,
+    /// It has a region variable.
+    pub has_region_infer: bool,
+    /// It has a placeholder of a type, a const or a region.
+    pub has_placeholder: bool,
+    /// It has an alias, or a const that is to be evaluated.
+    pub has_alias: bool,
+    /// It has a bound variable that names a position of a canonical value.
+    pub has_canonical: bool,
+    /// The greatest level at which a bound variable escapes, if one does.
+    pub escaping: Option<usize>,
+}
+
+impl Facts {
+    /// What is known of no tree at all.
+    pub(crate) fn new() -> Facts
+        ensures { result ≡ no_facts }
+    {
+        Facts {
+            has_infer: false,
+            has_region_infer: false,
+            has_placeholder: false,
+            has_alias: false,
+            has_canonical: false,
+            escaping: None,
+        }
+    }
+
+    /// What is known of two trees together.
+    pub(crate) fn join(self, other: Facts) -> Facts
+        ensures { result ≡ joined self other }
+    {
+        Facts {
+            has_infer: self.has_infer || other.has_infer,
+            has_region_infer: self.has_region_infer || other.has_region_infer,
+            has_placeholder: self.has_placeholder || other.has_placeholder,
+            has_alias: self.has_alias || other.has_alias,
+            has_canonical: self.has_canonical || other.has_canonical,
+            escaping: higher_level(self.escaping, other.escaping),
+        }
+    }
+
+    /// What is known of a node with this label, where this is what is known of its children.
+    pub(crate) fn under(self, label: Label) -> Facts
+        ensures { result ≡ labelled label self }
+    {
+        Facts {
+            has_infer: is_infer_label(label) || self.has_infer,
+            has_region_infer: is_region_infer_label(label) || self.has_region_infer,
+            has_placeholder: is_placeholder_label(label) || self.has_placeholder,
+            has_alias: is_alias_label(label) || self.has_alias,
+            has_canonical: is_canonical_label(label) || self.has_canonical,
+            escaping: higher_level(
+                bound_level(label),
+                past_binders_of(binders_of(label), self.escaping),
+            ),
+        }
+    }
+}
+
+fn higher_level(a: Option<usize>, b: Option<usize>) -> Option<usize>
+    ensures { result ≡ higher a b }
+{
+    match (a, b) {
+        (None, other) => other,
+        (one, None) => one,
+        (Some(one), Some(other)) => Some(one.max(other)),
+    }
+}
+
+fn past_binders_of(binders: usize, level: Option<usize>) -> Option<usize>
+    ensures { result ≡ past_binders binders level }
+{
+    match level {
+        None => None,
+        Some(d) => { if d < binders { None } else { Some(d - binders) } }
+    }
+}
+
+/// How many binders a node is.
+pub fn binders_of(label: Label) -> usize
+    ensures { result ≡ binders label }
+{
+    match label {
+        Label::Ty(TyHead::FnPtr) => 1,
+        Label::List(ListHead::Binder) => 1,
+        _ => 0,
+    }
+}
+
+fn bound_level(label: Label) -> Option<usize>
+    ensures { result ≡ level_of label }
+{
+    match label {
+        Label::Bound(_, BoundIndex::Level(d), _) => Some(d),
+        _ => None,
+    }
+}
+
+fn is_infer_label(label: Label) -> bool
+    ensures { result ≡ is_infer label }
+{
+    match label {
+        Label::Leaf(Leaf::Variable(VariableKind::Region, _)) => false,
+        Label::Leaf(Leaf::Variable(_, _)) => true,
+        _ => false,
+    }
+}
+
+fn is_region_infer_label(label: Label) -> bool
+    ensures { result ≡ is_region_infer label }
+{
+    matches!(label, Label::Leaf(Leaf::Variable(VariableKind::Region, _)))
+}
+
+fn is_placeholder_label(label: Label) -> bool
+    ensures { result ≡ is_placeholder label }
+{
+    match label {
+        Label::Leaf(Leaf::Region(FreeRegion::Placeholder(_, _))) => true,
+        Label::Leaf(Leaf::TyConstant(Constant::Placeholder(_, _))) => true,
+        Label::Leaf(Leaf::ConstConstant(Constant::Placeholder(_, _))) => true,
+        _ => false,
+    }
+}
+
+fn is_alias_label(label: Label) -> bool
+    ensures { result ≡ is_alias label }
+{
+    match label {
+        Label::Ty(TyHead::Alias(_)) => true,
+        Label::Const(ConstHead::Unevaluated(_)) => true,
+        _ => false,
+    }
+}
+
+fn is_canonical_label(label: Label) -> bool
+    ensures { result ≡ is_canonical label }
+{
+    matches!(label, Label::Bound(_, BoundIndex::Canonical, _))
+}

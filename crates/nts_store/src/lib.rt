@@ -1,0 +1,22 @@
+//! The store of nodes, below all that has a sort.
+//!
+//! A term is a number in a store, and stands for a finite tree. The store shares nodes: equal trees of
+//! one store have one number. Here are the nodes, what is known of a whole tree, and the walks that
+//! replace parts of a tree or test its labels. Typed handles stand above, in `nts_terms`.
+#![tactic(auto)]
+
+mod facts;
+mod fault;
+mod instantiate;
+mod labels_walk;
+mod nodes;
+mod replacement;
+mod sorts;
+
+pub use facts::{Facts, binders_of};
+pub use fault::{EvalError, Fault};
+pub use instantiate::instantiate_canonical;
+pub use labels_walk::{LabelTest, all_labels};
+pub use nodes::{NodeId, Nodes};
+pub use replacement::{Replacer, Step, Task, push_node, replace};
+pub use sorts::sort_of;

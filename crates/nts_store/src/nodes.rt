@@ -1,0 +1,174 @@
+//! The store of nodes.
+ghost use Rattle.std.specs.Prelude.{◌≡◌, ◌↔◌, ◌<◌, ◌+◌, ◌++◌, ◌∷◌, [], length, drop, IsTrue, OnOk, OnErr, IfOk, Some, Option};
+ghost use Rattle.nts_model.specs.Trees.{Tree, node, empty, more, label_of, children, row_length, row_at, IsRow, shape, Meets};
+ghost use Rattle.nts_store.specs.Growth.{tree_at, trees_at, IsIn, AllIn, AllBelow, Extends, AreApart};
+ghost use Rattle.nts_store.specs.Formed.{AreFormed};
+ghost use Rattle.nts_store.specs.Facts.{facts_of};
+ghost use Rattle.nts_store.specs.Sorts.{ChildrenFit};
+
+use crate::facts::Facts;
+use indexmap::IndexSet;
+use nts_model::Label;
+use std::alloc::{AllocError, Global};
+use std::marker::Model;
+
+/// A place in a store.
+#[derive(Clone, Copy, PartialEq, Eq, Hash)]
+pub struct NodeId {
+    pub number: usize,
+}
+
+#[derive(PartialEq, Eq, Hash, Drop)]
+struct Node {
+    label: Label,
+    children: Vec<NodeId>,
+    facts: Facts,
+}
+
+/// The nodes of all terms, each once. A caller sees the list of their trees.
+#[derive(Drop)]
+pub struct Nodes {
+    alloc: Global,
+    nodes: IndexSet<Node>,
+}
+
+impl Model for Nodes {
+    ghost use Rattle.std.specs.Prelude.{List};
+    ghost use Rattle.nts_model.specs.Trees.{Tree};
+
+    ghost Value = { List Tree };
+
+    ghost use Rattle.std.specs.Coded.{coded_list};
+    ghost use Rattle.nts_model.specs.Coding.{coded_tree};
+
+    ghost coded = { coded_list coded_tree };
+
+    ghost use Rattle.nts_store.specs.Store.{trees, IsShared};
+
+    ghost view = { λ c. trees c.nodes.keys };
+
+    ghost invariant = { λ c. IsShared c.nodes.keys };
+}
+
+impl Nodes {
+    /// An empty store. It takes no memory.
+    pub fn new(alloc: Global) -> Self
+        ensures { result ≡ [] }
+    {
+        Nodes {
+            alloc,
+            nodes: IndexSet::new(alloc),
+        }
+    }
+
+    /// How many terms the store has. No two of them have equal trees, and in each tree the nodes have
+    /// the children of their labels.
+    pub fn len(&self) -> usize
+        ensures count { result ≡ length self.now }
+        ensures apart { AreApart self.now }
+        ensures formed { AreFormed self.now }
+    {
+        self.nodes.len()
+    }
+
+    /// The term with that label and these children. Every older term keeps its tree.
+    pub fn make(&mut self, label: Label, children: &[NodeId]) -> Result<NodeId, AllocError>
+        requires within { AllIn self.old children.now }
+        requires formed { Meets (shape label) (trees_at self.old children.now) }
+        ensures within { IfOk result (λ t. IsIn self.new t) }
+        ensures tree { IfOk result (λ t. tree_at self.new t ≡ node label (trees_at self.old children.now)) }
+        ensures extends { Extends self.old self.new }
+        ensures err { OnErr result (self.new ≡ self.old) }
+    {
+        let facts = self.facts_under(label, children);
+        let mut list = Vec::with_capacity(self.alloc, children.len())?;
+        list.extend_from_slice(children)?;
+        let (number, _) = self.nodes.insert_full(Node {
+            label,
+            children: list,
+            facts,
+        })?;
+        Ok(NodeId { number })
+    }
+
+    fn facts_under(&self, label: Label, children: &[NodeId]) -> Facts
+        requires { AllIn self.now children.now }
+        ensures { result ≡ facts_of (node label (trees_at self.now children.now)) }
+    {
+        let mut facts = Facts::new();
+        let mut i = children.len();
+        while i > 0 {
+            i -= 1;
+            facts = self.facts(children[i]).join(facts);
+        }
+        facts.under(label)
+    }
+
+    fn node(&self, t: NodeId) -> &Node
+        requires { IsIn self.now t }
+        ensures is { tree_at self.now t ≡ node result.now.label (trees_at self.now result.now.children.items) }
+        ensures all { AllIn self.now result.now.children.items }
+        ensures before { AllBelow t.number result.now.children.items }
+        ensures formed { Meets (shape result.now.label) (trees_at self.now result.now.children.items) }
+        ensures facts { result.now.facts ≡ facts_of (tree_at self.now t) }
+    {
+        &self.nodes[t.number]
+    }
+
+    /// The label of a term's node. Its children fit the label.
+    pub fn label(&self, t: NodeId) -> Label
+        requires { IsIn self.now t }
+        ensures is { tree_at self.now t ≡ node result (children (tree_at self.now t)) }
+        ensures formed { Meets (shape result) (children (tree_at self.now t)) }
+    {
+        self.node(t).label
+    }
+
+    /// What is known of the whole tree of a term.
+    pub fn facts(&self, t: NodeId) -> Facts
+        requires { IsIn self.now t }
+        ensures { result ≡ facts_of (tree_at self.now t) }
+    {
+        self.node(t).facts
+    }
+
+    /// How many children a term's node has.
+    #[tactic(auto, using(crate::proofs::Reading::rows))]
+    pub fn child_count(&self, t: NodeId) -> usize
+        requires { IsIn self.now t }
+        ensures count { result ≡ row_length (children (tree_at self.now t)) }
+        ensures row { IsRow (children (tree_at self.now t)) }
+    {
+        self.node(t).children.len()
+    }
+
+    /// One of the children, which always stands before its parent.
+    #[tactic(auto, using(crate::proofs::Reading::rows))]
+    pub fn child(&self, t: NodeId, i: usize) -> NodeId
+        requires within { IsIn self.now t }
+        requires index { i < row_length (children (tree_at self.now t)) }
+        ensures within { IsIn self.now result }
+        ensures before { result.number < t.number }
+        ensures tree { tree_at self.now result ≡ row_at (children (tree_at self.now t)) i }
+        ensures formed { ChildrenFit (tree_at self.now t) }
+    {
+        self.node(t).children[i]
+    }
+
+    /// Whether two terms have equal trees.
+    pub fn same(&self, a: NodeId, b: NodeId) -> bool
+        requires a_in { IsIn self.now a }
+        requires b_in { IsIn self.now b }
+        ensures { IsTrue result ↔ (tree_at self.now a ≡ tree_at self.now b) }
+    {
+        let _ = &self.nodes;
+        a.number == b.number
+    }
+
+    /// Whether a number is a term of this store.
+    pub fn contains(&self, t: NodeId) -> bool
+        ensures { IsTrue result ↔ IsIn self.now t }
+    {
+        t.number < self.len()
+    }
+}

@@ -1,5 +1,0 @@
-use Rattle.nts_table.specs.Reading.{IsTable}
-use Rattle.nts_table.proofs.deep_tests.ladder.Given as goal
-
-abbrev pub invariant-loop : goal.invariant-loop
-invariant-loop g l = IsTable l.fixture.cx.nodes l.fixture.table

@@ -1,0 +1,38 @@
+//! Nodes of a store made equal under a table.
+ghost use Rattle.std.specs.Prelude.{◌≡◌, ◌≢◌, OnOk, OnErr, Err};
+ghost use Rattle.nts_model.specs.Equations.{AreRelated, AreUnrelated};
+ghost use Rattle.nts_store.specs.Growth.{tree_at, Extends};
+ghost use Rattle.nts_unify.specs.Reading.{content_of};
+ghost use Rattle.nts_table.specs.Tables.{IsTable, IsTermOf};
+ghost use Rattle.nts_unify.specs.Changing.{IsLater};
+ghost use Rattle.nts_store.specs.declared.fault.EvalError.TheVariants.{NoSolution};
+
+use crate::infer_ctxt::InferCtxt;
+use nts_store::{EvalError, NodeId, Nodes};
+use std::alloc::Global;
+
+/// Makes two terms equal: afterwards the table has the solutions that it had before and that make
+/// them equal, and after an error it is as before.
+pub fn relate_nodes(
+    alloc: Global,
+    nodes: &mut Nodes,
+    table: &mut InferCtxt,
+    a: NodeId,
+    b: NodeId,
+) -> Result<(), EvalError>
+    requires table { IsTable nodes.old table.old }
+    requires left { IsTermOf nodes.old table.old a }
+    requires right { IsTermOf nodes.old table.old b }
+    ensures extends { Extends nodes.old nodes.new }
+    ensures table { IsTable nodes.new table.new }
+    ensures saved { table.new.saved ≡ table.old.saved }
+    ensures mode { table.new.mode ≡ table.old.mode }
+    ensures hidden { table.new.entries.hidden ≡ table.old.entries.hidden }
+    ensures later { IsLater (content_of nodes.old table.old.entries) (content_of nodes.new table.new.entries) }
+    ensures related { OnOk result (AreRelated (content_of nodes.old table.old.entries) (content_of nodes.new table.new.entries) (tree_at nodes.old a) (tree_at nodes.old b)) }
+    ensures err { OnErr result (table.new ≡ table.old) }
+    ensures no { result ≡ Err NoSolution → AreUnrelated (content_of nodes.old table.old.entries) (tree_at nodes.old a) (tree_at nodes.old b) }
+    ensures full { result ≢ Err EvalError.Full }
+{
+    nts_relating::relate_nodes(alloc, nodes, &mut table.inner, a, b)
+}

@@ -1,0 +1,422 @@
+//! A store and a table for tests, with each condition of a call tested by a public function.
+ghost use Rattle.std.specs.Prelude.{◌≡◌, false, All};
+ghost use Rattle.nts_model.specs.Trees.{any_label, is_alias};
+ghost use Rattle.nts_model.specs.Resolving.{Knows, resolved};
+ghost use Rattle.nts_store.specs.Growth.{tree_at, Extends};
+ghost use Rattle.nts_terms.specs.Handles.{HoldsArg, HoldsArgs, HoldsVars};
+ghost use Rattle.nts_terms.specs.Kinds.{TyFits, ConstFits};
+ghost use Rattle.nts_terms.specs.Signatures.{TyIsDeclared, ConstIsDeclared};
+ghost use Rattle.nts_unify.specs.Reading.{content_of};
+ghost use Rattle.nts_table.specs.Tables.{IsTable};
+
+use nts_model::{Sort, VariableKind, Variance};
+use nts_store::EvalError;
+use nts_table::InferCtxt;
+use nts_terms::{
+    AliasId, AliasKind, AliasTerm, Binder, BoundVars, ConstKind, CtorId, Cx, DefId, FnSig,
+    GenericArg, GenericArgs, ParamEnv, RegionKind, Span, TyKind, TypingMode,
+};
+use nts_unify::{Constraint, State, Variable};
+use std::alloc::Global;
+use std::process::Abort;
+
+/// A store and a table. Declared are constructors of a type, of two types, and of a region and a
+/// type, and an alias without arguments.
+#[derive(Drop)]
+pub struct Fixture {
+    pub cx: Cx,
+    pub table: InferCtxt,
+    pub env: ParamEnv,
+    pub one: CtorId,
+    pub two: CtorId,
+    pub borrow: CtorId,
+    pub item: AliasId,
+}
+
+/// What can be read of a table.
+#[derive(PartialEq, Eq, Drop)]
+pub struct Shown {
+    variables: Vec<Variable>,
+    roots: Vec<usize>,
+    constraints: Vec<Constraint>,
+    universe: u32,
+}
+
+impl Fixture {
+    pub fn new(rt: &impl Abort, alloc: Global) -> Fixture
+        ensures { IsTable result.cx.nodes result.table }
+    {
+        let mut cx = Cx::new(alloc);
+        let kept = Variance::Covariant;
+        let one = cx.declare_ctor(&[Sort::Ty], &[kept]).expect(rt, "memory");
+        let two = cx
+            .declare_ctor(&[Sort::Ty, Sort::Ty], &[kept, kept])
+            .expect(rt, "memory");
+        let borrow = cx
+            .declare_ctor(&[Sort::Region, Sort::Ty], &[kept, kept])
+            .expect(rt, "memory");
+        let item = cx
+            .declare_alias(&[], AliasKind::Projection)
+            .expect(rt, "memory");
+        let env = cx.mk_env(&[]).expect(rt, "memory");
+        let table = InferCtxt::new(alloc, TypingMode::PostAnalysis);
+        Fixture {
+            cx,
+            table,
+            env,
+            one,
+            two,
+            borrow,
+            item,
+        }
+    }
+
+    /// A new type variable.
+    pub fn ty_var(&mut self, rt: &impl Abort) -> GenericArg
+        requires { IsTable self.old.cx.nodes self.old.table }
+        ensures { IsTable self.new.cx.nodes self.new.table }
+    {
+        let ty = self.table.next_ty_infer(&mut self.cx).expect(rt, "memory");
+        ty.into()
+    }
+
+    /// A new region variable.
+    pub fn region_var(&mut self, rt: &impl Abort) -> GenericArg
+        requires { IsTable self.old.cx.nodes self.old.table }
+        ensures { IsTable self.new.cx.nodes self.new.table }
+    {
+        let region = self
+            .table
+            .next_region_infer(&mut self.cx)
+            .expect(rt, "memory");
+        region.into()
+    }
+
+    /// A new const variable.
+    pub fn const_var(&mut self, rt: &impl Abort) -> GenericArg
+        requires { IsTable self.old.cx.nodes self.old.table }
+        ensures { IsTable self.new.cx.nodes self.new.table }
+    {
+        let ct = self
+            .table
+            .next_const_infer(&mut self.cx)
+            .expect(rt, "memory");
+        ct.into()
+    }
+
+    /// A new variable of integer types.
+    pub fn int_var(&mut self, rt: &impl Abort) -> GenericArg
+        requires { IsTable self.old.cx.nodes self.old.table }
+        ensures { IsTable self.new.cx.nodes self.new.table }
+    {
+        let ty = self.table.next_int_infer(&mut self.cx).expect(rt, "memory");
+        ty.into()
+    }
+
+    /// A new variable of float types.
+    pub fn float_var(&mut self, rt: &impl Abort) -> GenericArg
+        requires { IsTable self.old.cx.nodes self.old.table }
+        ensures { IsTable self.new.cx.nodes self.new.table }
+    {
+        let ty = self
+            .table
+            .next_float_infer(&mut self.cx)
+            .expect(rt, "memory");
+        ty.into()
+    }
+
+    /// One more universe.
+    pub fn universe(&mut self, rt: &impl Abort)
+        requires { IsTable self.old.cx.nodes self.old.table }
+        ensures { IsTable self.new.cx.nodes self.new.table }
+    {
+        self.table.create_next_universe().expect(rt, "memory");
+    }
+
+    /// A new type variable of the root universe.
+    pub fn root_ty_var(&mut self, rt: &impl Abort) -> GenericArg
+        requires { IsTable self.old.cx.nodes self.old.table }
+        ensures { IsTable self.new.cx.nodes self.new.table }
+    {
+        self.table
+            .variable_in_universe(&mut self.cx, VariableKind::Ty, 0, None)
+            .expect(rt, "memory")
+    }
+
+    pub fn ty(&mut self, rt: &impl Abort, kind: TyKind) -> GenericArg
+        requires table { IsTable self.old.cx.nodes self.old.table }
+        requires parts { TyFits self.old.cx.nodes kind }
+        requires declared { TyIsDeclared self.old.cx.declarations self.old.cx.nodes kind }
+        ensures { IsTable self.new.cx.nodes self.new.table }
+    {
+        let ty = self.cx.mk_ty(kind).expect(rt, "memory");
+        ty.into()
+    }
+
+    pub fn region(&mut self, rt: &impl Abort, kind: RegionKind) -> GenericArg
+        requires { IsTable self.old.cx.nodes self.old.table }
+        ensures { IsTable self.new.cx.nodes self.new.table }
+    {
+        let region = self.cx.mk_region(kind).expect(rt, "memory");
+        region.into()
+    }
+
+    pub fn konst(&mut self, rt: &impl Abort, kind: ConstKind) -> GenericArg
+        requires table { IsTable self.old.cx.nodes self.old.table }
+        requires parts { ConstFits self.old.cx.nodes kind }
+        requires declared { ConstIsDeclared self.old.cx.declarations self.old.cx.nodes kind }
+        ensures { IsTable self.new.cx.nodes self.new.table }
+    {
+        let konst = self.cx.mk_const(kind).expect(rt, "memory");
+        konst.into()
+    }
+
+    /// A list of arguments.
+    fn args(&mut self, rt: &impl Abort, args: &[GenericArg]) -> GenericArgs
+        requires table { IsTable self.old.cx.nodes self.old.table }
+        requires holds { All (HoldsArg self.old.cx.nodes) args.now }
+        ensures table { IsTable self.new.cx.nodes self.new.table }
+        ensures holds { HoldsArgs self.new.cx.nodes result }
+    {
+        self.cx.mk_args(args).expect(rt, "memory")
+    }
+
+    /// The constructor with one argument, over a type.
+    pub fn wrap(&mut self, rt: &impl Abort, x: GenericArg) -> GenericArg
+        requires { IsTable self.old.cx.nodes self.old.table }
+        ensures { IsTable self.new.cx.nodes self.new.table }
+    {
+        assert!(rt; self.cx.holds(x));
+        let args = self.args(rt, &[x]);
+        assert!(rt; self.cx.fits(DefId::Ctor(self.one), args));
+        self.ty(rt, TyKind::Ctor(self.one, args))
+    }
+
+    /// A constructor with two arguments.
+    pub fn apply(
+        &mut self,
+        rt: &impl Abort,
+        ctor: CtorId,
+        x: GenericArg,
+        y: GenericArg,
+    ) -> GenericArg
+        requires { IsTable self.old.cx.nodes self.old.table }
+        ensures { IsTable self.new.cx.nodes self.new.table }
+    {
+        assert!(rt; self.cx.holds(x));
+        assert!(rt; self.cx.holds(y));
+        let args = self.args(rt, &[x, y]);
+        assert!(rt; self.cx.fits(DefId::Ctor(ctor), args));
+        self.ty(rt, TyKind::Ctor(ctor, args))
+    }
+
+    pub fn pair(&mut self, rt: &impl Abort, x: GenericArg, y: GenericArg) -> GenericArg
+        requires { IsTable self.old.cx.nodes self.old.table }
+        ensures { IsTable self.new.cx.nodes self.new.table }
+    {
+        self.apply(rt, self.two, x, y)
+    }
+
+    /// The alias.
+    pub fn alias(&mut self, rt: &impl Abort) -> GenericArg
+        requires { IsTable self.old.cx.nodes self.old.table }
+        ensures { IsTable self.new.cx.nodes self.new.table }
+    {
+        let args = self.args(rt, &[]);
+        let def_id = self.item;
+        assert!(rt; self.cx.fits(DefId::Alias(def_id), args));
+        self.ty(rt, TyKind::Alias(AliasTerm { def_id, args }))
+    }
+
+    /// The constructor with a region and a type.
+    pub fn reference(&mut self, rt: &impl Abort, x: GenericArg, y: GenericArg) -> GenericArg
+        requires { IsTable self.old.cx.nodes self.old.table }
+        ensures { IsTable self.new.cx.nodes self.new.table }
+    {
+        self.apply(rt, self.borrow, x, y)
+    }
+
+    /// A pointer to functions that give such a type, which may name a type that is bound there.
+    pub fn maker(&mut self, rt: &impl Abort, x: GenericArg) -> GenericArg
+        requires { IsTable self.old.cx.nodes self.old.table }
+        ensures { IsTable self.new.cx.nodes self.new.table }
+    {
+        assert!(rt; self.cx.holds(x));
+        let args = self.args(rt, &[x]);
+        self.pointer(rt, args)
+    }
+
+    /// A pointer to functions that take the first type and give the second one.
+    pub fn turner(&mut self, rt: &impl Abort, x: GenericArg, y: GenericArg) -> GenericArg
+        requires { IsTable self.old.cx.nodes self.old.table }
+        ensures { IsTable self.new.cx.nodes self.new.table }
+    {
+        assert!(rt; self.cx.holds(x));
+        assert!(rt; self.cx.holds(y));
+        let args = self.args(rt, &[x, y]);
+        self.pointer(rt, args)
+    }
+
+    /// The sorts of a binder of one type.
+    fn vars(&mut self, rt: &impl Abort) -> BoundVars
+        requires { IsTable self.old.cx.nodes self.old.table }
+        ensures table { IsTable self.new.cx.nodes self.new.table }
+        ensures holds { HoldsVars self.new.cx.nodes result }
+    {
+        self.cx.mk_bound_vars(&[Sort::Ty]).expect(rt, "memory")
+    }
+
+    fn pointer(&mut self, rt: &impl Abort, args: GenericArgs) -> GenericArg
+        requires { IsTable self.old.cx.nodes self.old.table }
+        ensures { IsTable self.new.cx.nodes self.new.table }
+    {
+        let vars = self.vars(rt);
+        assert!(rt; self.cx.holds(args));
+        let value = FnSig {
+            inputs_and_output: args,
+        };
+        self.ty(rt, TyKind::FnPtr(Binder { vars, value }))
+    }
+
+    /// Tests that a term is of the store and of the table.
+    fn seen(&self, rt: &impl Abort, x: GenericArg)
+        ensures holds { HoldsArg self.now.cx.nodes x }
+        ensures known { Knows (content_of self.now.cx.nodes self.now.table.entries) (tree_at self.now.cx.nodes x.node) }
+    {
+        assert!(rt; self.cx.holds(x));
+        assert!(rt; self.table.knows(&self.cx, x).expect(rt, "memory"));
+    }
+
+    /// Whether an alias stands in the term.
+    pub fn has_alias(&mut self, rt: &impl Abort, x: GenericArg) -> bool
+        requires { IsTable self.old.cx.nodes self.old.table }
+        ensures table { IsTable self.new.cx.nodes self.new.table }
+        ensures kept { self.new.table ≡ self.old.table }
+        ensures extends { Extends self.old.cx.nodes self.new.cx.nodes }
+        ensures holds { HoldsArg self.new.cx.nodes x }
+        ensures known { Knows (content_of self.new.cx.nodes self.new.table.entries) (tree_at self.new.cx.nodes x.node) }
+        ensures answer { result ≡ any_label is_alias (resolved (content_of self.new.cx.nodes self.new.table.entries) (tree_at self.new.cx.nodes x.node)) }
+    {
+        self.seen(rt, x);
+        self.table.has_alias(&mut self.cx, x).expect(rt, "memory")
+    }
+
+    /// Makes two arguments one, with aliases as they stand.
+    pub fn equates(&mut self, rt: &impl Abort, x: GenericArg, y: GenericArg)
+        requires { IsTable self.old.cx.nodes self.old.table }
+        ensures { IsTable self.new.cx.nodes self.new.table }
+    {
+        self.seen(rt, x);
+        self.seen(rt, y);
+        let (cx, table) = (&mut self.cx, &mut self.table);
+        table
+            .eq_structurally_relating_aliases(cx, self.env, x, y, Span(0))
+            .expect(rt, "memory");
+    }
+
+    /// Relates two arguments, once what it asks is tested, and says whether they were made one.
+    #[tactic(auto, using(crate::proofs::Conditions::conditions))]
+    pub fn relate(
+        &mut self,
+        rt: &impl Abort,
+        x: GenericArg,
+        variance: Variance,
+        y: GenericArg,
+    ) -> bool
+        requires { IsTable self.old.cx.nodes self.old.table }
+        ensures { IsTable self.new.cx.nodes self.new.table }
+    {
+        assert!(rt; variance == Variance::Invariant);
+        assert!(rt; !self.has_alias(rt, x));
+        assert!(rt; !self.has_alias(rt, y));
+        let (cx, table) = (&mut self.cx, &mut self.table);
+        let found = table.relate(cx, self.env, x, variance, y, Span(0));
+        if matches!(found, Err(EvalError::NoSolution)) {
+            return false;
+        }
+        let goals = found.expect(rt, "memory");
+        assert_eq!(rt; goals.len(), 0);
+        true
+    }
+
+    /// Sees that two arguments are made one.
+    pub fn relates(&mut self, rt: &impl Abort, x: GenericArg, y: GenericArg)
+        requires { IsTable self.old.cx.nodes self.old.table }
+        ensures { IsTable self.new.cx.nodes self.new.table }
+    {
+        assert!(rt; self.relate(rt, x, Variance::Invariant, y));
+    }
+
+    /// Sees that two arguments are refused, from either side, and that the table is as before.
+    pub fn refuses(&mut self, rt: &impl Abort, x: GenericArg, y: GenericArg)
+        requires { IsTable self.old.cx.nodes self.old.table }
+        ensures { IsTable self.new.cx.nodes self.new.table }
+    {
+        let before = self.shown(rt);
+        assert!(rt; !self.relate(rt, x, Variance::Invariant, y));
+        assert!(rt; !self.relate(rt, y, Variance::Invariant, x));
+        let after = self.shown(rt);
+        assert!(rt; before == after);
+    }
+
+    fn shown(&self, rt: &impl Abort) -> Shown
+        requires { IsTable self.now.cx.nodes self.now.table }
+    {
+        let mut variables = Vec::new(self.cx.alloc);
+        let mut roots = Vec::new(self.cx.alloc);
+        for n in 0..self.table.variable_count() {
+            variables.push(self.table.variable(n)).expect(rt, "memory");
+            roots.push(self.table.root(n)).expect(rt, "memory");
+        }
+        let mut constraints = Vec::new(self.cx.alloc);
+        for n in 0..self.table.constraint_count() {
+            constraints
+                .push(self.table.constraint(n))
+                .expect(rt, "memory");
+        }
+        Shown {
+            variables,
+            roots,
+            constraints,
+            universe: self.table.universe(),
+        }
+    }
+
+    /// A variable of the table.
+    pub fn variable(&self, rt: &impl Abort, n: usize) -> Variable {
+        assert!(rt; n < self.table.variable_count());
+        self.table.variable(n)
+    }
+
+    /// A constraint of the table.
+    pub fn constraint(&self, rt: &impl Abort, n: usize) -> Constraint {
+        assert!(rt; n < self.table.constraint_count());
+        self.table.constraint(n)
+    }
+
+    /// Sees that a variable has that state and universe.
+    pub fn has(&self, rt: &impl Abort, n: usize, universe: u32, state: State) {
+        let variable = self.variable(rt, n);
+        assert!(rt; variable.state == state);
+        assert_eq!(rt; variable.universe, universe);
+    }
+
+    /// Sees how many variables and constraints the table has.
+    pub fn counts(&self, rt: &impl Abort, variables: usize, constraints: usize) {
+        assert_eq!(rt; self.table.variable_count(), variables);
+        assert_eq!(rt; self.table.constraint_count(), constraints);
+    }
+
+    /// Sees that a term is another one, with values and roots in place of variables.
+    pub fn stands_for(&mut self, rt: &impl Abort, x: GenericArg, y: GenericArg)
+        requires { IsTable self.old.cx.nodes self.old.table }
+        ensures { IsTable self.new.cx.nodes self.new.table }
+    {
+        self.seen(rt, x);
+        let found = self
+            .table
+            .resolve_vars_if_possible(&mut self.cx, x)
+            .expect(rt, "memory");
+        assert!(rt; found == y);
+    }
+}

@@ -1,0 +1,141 @@
+//! Variables of integers, floats and consts, and hidden types.
+use crate::fixture::Fixture;
+use nts_model::{FloatTy, IntTy, UintTy};
+use nts_table::InferCtxt;
+use nts_terms::{AliasKind, AliasTerm, ConstKind, Cx, Span, TyKind, TypingMode};
+use nts_unify::State;
+
+#[test]
+fn integers(rt: HostRuntime) {
+    let mut fixture = Fixture::new(&rt, rt.alloc());
+    fixture.universe(&rt);
+    let number = fixture.int_var(&rt);
+    fixture.has(&rt, 0, 0, State::Unset);
+    let byte = fixture.ty(&rt, TyKind::Uint(UintTy::U8));
+    let signed = fixture.ty(&rt, TyKind::Int(IntTy::I64));
+    let real = fixture.ty(&rt, TyKind::Float(FloatTy::F32));
+    let bytes = fixture.wrap(&rt, byte);
+    fixture.refuses(&rt, number, real);
+    fixture.refuses(&rt, number, bytes);
+    fixture.relates(&rt, number, byte);
+    fixture.has(&rt, 0, 0, State::Known(byte.node));
+    fixture.refuses(&rt, signed, number);
+}
+
+#[test]
+fn floats(rt: HostRuntime) {
+    let mut fixture = Fixture::new(&rt, rt.alloc());
+    let first = fixture.float_var(&rt);
+    let second = fixture.float_var(&rt);
+    let number = fixture.int_var(&rt);
+    let byte = fixture.ty(&rt, TyKind::Uint(UintTy::U8));
+    let real = fixture.ty(&rt, TyKind::Float(FloatTy::F64));
+    fixture.refuses(&rt, first, byte);
+    fixture.refuses(&rt, first, number);
+    fixture.relates(&rt, second, first);
+    fixture.has(&rt, 1, 0, State::Link(0));
+    fixture.relates(&rt, second, real);
+    fixture.has(&rt, 0, 0, State::Known(real.node));
+}
+
+#[test]
+fn a_variable_for_a_type(rt: HostRuntime) {
+    let mut fixture = Fixture::new(&rt, rt.alloc());
+    let hole = fixture.ty_var(&rt);
+    let number = fixture.int_var(&rt);
+    let real = fixture.float_var(&rt);
+    let word = fixture.ty(&rt, TyKind::Uint(UintTy::U32));
+    fixture.relates(&rt, number, hole);
+    fixture.has(&rt, 0, 0, State::Known(number.node));
+    fixture.has(&rt, 1, 0, State::Unset);
+    fixture.refuses(&rt, hole, real);
+    fixture.stands_for(&rt, hole, number);
+    fixture.relates(&rt, hole, word);
+    fixture.has(&rt, 1, 0, State::Known(word.node));
+    fixture.stands_for(&rt, hole, word);
+}
+
+#[test]
+fn integers_of_two_types(rt: HostRuntime) {
+    let mut fixture = Fixture::new(&rt, rt.alloc());
+    let left = fixture.ty_var(&rt);
+    let right = fixture.ty_var(&rt);
+    let first = fixture.int_var(&rt);
+    let second = fixture.int_var(&rt);
+    fixture.relates(&rt, left, first);
+    fixture.relates(&rt, right, second);
+    fixture.relates(&rt, left, right);
+    fixture.has(&rt, 3, 0, State::Link(2));
+    fixture.stands_for(&rt, right, first);
+}
+
+#[test]
+fn shallow(rt: HostRuntime) {
+    let mut cx = Cx::new(rt.alloc());
+    let mut table = InferCtxt::new(rt.alloc(), TypingMode::PostAnalysis);
+    let hole = table.next_ty_infer(&mut cx).expect(&rt, "memory");
+    let same = table.shallow_resolve(&mut cx, hole).expect(&rt, "memory");
+    assert!(rt; cx.same(same, hole));
+    let number = table.next_int_infer(&mut cx).expect(&rt, "memory");
+    let root = table
+        .opportunistic_resolve_int_var(&mut cx, 1)
+        .expect(&rt, "memory");
+    assert!(rt; cx.same(root, number));
+    let real = table.next_float_infer(&mut cx).expect(&rt, "memory");
+    let root = table
+        .opportunistic_resolve_float_var(&mut cx, 2)
+        .expect(&rt, "memory");
+    assert!(rt; cx.same(root, real));
+    let size = table.next_const_infer(&mut cx).expect(&rt, "memory");
+    assert_eq!(rt; table.root_const_var(3), 3);
+    assert!(rt; table.universe_of_ct(3) == Some(0));
+    let root = table
+        .opportunistic_resolve_ct_var(&mut cx, 3)
+        .expect(&rt, "memory");
+    assert!(rt; cx.same(root, size));
+    let root = table
+        .shallow_resolve_const(&mut cx, size)
+        .expect(&rt, "memory");
+    assert!(rt; cx.same(root, size));
+}
+
+#[test]
+fn consts(rt: HostRuntime) {
+    let mut fixture = Fixture::new(&rt, rt.alloc());
+    let size = fixture.const_var(&rt);
+    let param = fixture.konst(&rt, ConstKind::Param(0));
+    let hole = fixture.ty_var(&rt);
+    fixture.refuses(&rt, hole, size);
+    fixture.relates(&rt, size, param);
+    fixture.has(&rt, 0, 0, State::Known(param.node));
+}
+
+#[test]
+fn hidden_types(rt: HostRuntime) {
+    let mut cx = Cx::new(rt.alloc());
+    let mut table = InferCtxt::new(rt.alloc(), TypingMode::PostAnalysis);
+    let def_id = cx
+        .declare_alias(&[], AliasKind::Opaque)
+        .expect(&rt, "memory");
+    let args = cx.mk_args(&[]).expect(&rt, "memory");
+    let byte = cx.mk_ty(TyKind::Uint(UintTy::U8)).expect(&rt, "memory");
+    let key = AliasTerm { def_id, args };
+    assert_eq!(rt; table.num_opaque_types(), 0);
+    assert!(rt; table.knows(&cx, args).expect(&rt, "memory"));
+    assert!(rt; table.knows(&cx, byte).expect(&rt, "memory"));
+    let older = table
+        .register_hidden_type_in_storage(&mut cx, key, byte, Span(0))
+        .expect(&rt, "memory");
+    assert!(rt; older.is_none());
+    assert_eq!(rt; table.num_opaque_types(), 1);
+    let word = cx.mk_ty(TyKind::Uint(UintTy::U32)).expect(&rt, "memory");
+    assert!(rt; cx.holds(args));
+    assert!(rt; table.knows(&cx, args).expect(&rt, "memory"));
+    assert!(rt; table.knows(&cx, word).expect(&rt, "memory"));
+    let older = table
+        .register_hidden_type_in_storage(&mut cx, key, word, Span(0))
+        .expect(&rt, "memory");
+    assert!(rt; older == Some(byte));
+    assert_eq!(rt; table.num_opaque_types(), 1);
+    assert!(rt; table.hidden_type(0).ty == word);
+}

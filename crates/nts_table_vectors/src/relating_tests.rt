@@ -1,0 +1,225 @@
+//! What relating makes of a table, case by case.
+use crate::fixture::Fixture;
+use nts_model::{Relation, UintTy};
+use nts_terms::{
+    BoundRegion, Const, ConstKind, GenericArg, PlaceholderRegion, Region, RegionKind, Span, Term,
+    TyKind,
+};
+use nts_unify::State;
+
+#[test]
+fn one_node(rt: HostRuntime) {
+    let mut fixture = Fixture::new(&rt, rt.alloc());
+    let byte = fixture.ty(&rt, TyKind::Uint(UintTy::U8));
+    let bytes = fixture.wrap(&rt, byte);
+    fixture.relates(&rt, bytes, bytes);
+    fixture.counts(&rt, 0, 0);
+    let hole = fixture.ty_var(&rt);
+    fixture.relates(&rt, hole, hole);
+    fixture.has(&rt, 0, 0, State::Unset);
+    fixture.counts(&rt, 1, 0);
+}
+
+#[test]
+fn constants(rt: HostRuntime) {
+    let mut fixture = Fixture::new(&rt, rt.alloc());
+    let param = fixture.ty(&rt, TyKind::Param(0));
+    fixture.relates(&rt, param, param);
+    let size = fixture.konst(&rt, ConstKind::Param(1));
+    let hole = fixture.const_var(&rt);
+    fixture.relates(&rt, size, hole);
+    fixture.has(&rt, 0, 0, State::Known(size.node));
+    fixture.relates(&rt, size, hole);
+    fixture.counts(&rt, 1, 0);
+}
+
+#[test]
+fn equal_arguments(rt: HostRuntime) {
+    let mut fixture = Fixture::new(&rt, rt.alloc());
+    let byte = fixture.ty(&rt, TyKind::Uint(UintTy::U8));
+    let hole = fixture.ty_var(&rt);
+    let twice = fixture.pair(&rt, hole, hole);
+    let bytes = fixture.pair(&rt, byte, byte);
+    fixture.relates(&rt, twice, bytes);
+    fixture.has(&rt, 0, 0, State::Known(byte.node));
+    fixture.counts(&rt, 1, 0);
+    fixture.relates(&rt, bytes, twice);
+    fixture.counts(&rt, 1, 0);
+}
+
+#[test]
+fn value_of_a_variable(rt: HostRuntime) {
+    let mut fixture = Fixture::new(&rt, rt.alloc());
+    let first = fixture.ty_var(&rt);
+    let second = fixture.ty_var(&rt);
+    let byte = fixture.ty(&rt, TyKind::Uint(UintTy::U8));
+    let bytes = fixture.wrap(&rt, byte);
+    fixture.relates(&rt, second, bytes);
+    fixture.has(&rt, 0, 0, State::Unset);
+    fixture.has(&rt, 1, 0, State::Known(bytes.node));
+    fixture.relates(&rt, byte, first);
+    fixture.has(&rt, 0, 0, State::Known(byte.node));
+    fixture.counts(&rt, 2, 0);
+}
+
+#[test]
+fn two_variables(rt: HostRuntime) {
+    let mut fixture = Fixture::new(&rt, rt.alloc());
+    let low = fixture.ty_var(&rt);
+    fixture.universe(&rt);
+    let high = fixture.ty_var(&rt);
+    fixture.relates(&rt, high, low);
+    fixture.has(&rt, 0, 0, State::Unset);
+    fixture.has(&rt, 1, 1, State::Link(0));
+    fixture.counts(&rt, 2, 0);
+    let byte = fixture.ty(&rt, TyKind::Uint(UintTy::U8));
+    fixture.relates(&rt, high, byte);
+    fixture.has(&rt, 0, 0, State::Known(byte.node));
+    fixture.has(&rt, 1, 1, State::Link(0));
+}
+
+#[test]
+fn lowered_universe(rt: HostRuntime) {
+    let mut fixture = Fixture::new(&rt, rt.alloc());
+    fixture.universe(&rt);
+    let first = fixture.ty_var(&rt);
+    let second = fixture.root_ty_var(&rt);
+    fixture.has(&rt, 0, 1, State::Unset);
+    fixture.relates(&rt, first, second);
+    fixture.has(&rt, 0, 0, State::Unset);
+    fixture.has(&rt, 1, 0, State::Link(0));
+}
+
+#[test]
+fn free_regions(rt: HostRuntime) {
+    let mut fixture = Fixture::new(&rt, rt.alloc());
+    let fixed = fixture.region(&rt, RegionKind::ReStatic);
+    let named = fixture.region(&rt, RegionKind::ReEarlyParam(0));
+    fixture.relates(&rt, fixed, fixed);
+    fixture.counts(&rt, 0, 0);
+    fixture.relates(&rt, fixed, named);
+    fixture.counts(&rt, 0, 1);
+    let first = fixture.constraint(&rt, 0);
+    assert!(rt; first.relation == Relation::Equal);
+    assert!(rt; first.left == fixed.node);
+    assert!(rt; first.right == named.node);
+    assert!(rt; first.is_visible);
+}
+
+#[test]
+fn region_variables(rt: HostRuntime) {
+    let mut fixture = Fixture::new(&rt, rt.alloc());
+    let low = fixture.region_var(&rt);
+    fixture.universe(&rt);
+    let high = fixture.region_var(&rt);
+    fixture.relates(&rt, high, low);
+    fixture.has(&rt, 0, 0, State::Unset);
+    fixture.has(&rt, 1, 1, State::Link(0));
+    fixture.counts(&rt, 2, 0);
+    fixture.relates(&rt, low, high);
+    fixture.counts(&rt, 2, 0);
+    let fixed = fixture.region(&rt, RegionKind::ReStatic);
+    fixture.relates(&rt, high, fixed);
+    fixture.has(&rt, 0, 0, State::Unset);
+    fixture.counts(&rt, 2, 1);
+    let first = fixture.constraint(&rt, 0);
+    assert!(rt; first.left == high.node);
+    assert!(rt; first.right == fixed.node);
+}
+
+#[test]
+fn generalised_variable(rt: HostRuntime) {
+    let mut fixture = Fixture::new(&rt, rt.alloc());
+    let low = fixture.ty_var(&rt);
+    fixture.universe(&rt);
+    let high = fixture.ty_var(&rt);
+    let value = fixture.pair(&rt, high, high);
+    fixture.relates(&rt, low, value);
+    fixture.counts(&rt, 3, 0);
+    fixture.has(&rt, 1, 0, State::Unset);
+    fixture.has(&rt, 2, 0, State::Link(1));
+    fixture.stands_for(&rt, low, value);
+}
+
+#[test]
+fn generalised_region(rt: HostRuntime) {
+    let mut fixture = Fixture::new(&rt, rt.alloc());
+    let low = fixture.ty_var(&rt);
+    let bound = BoundRegion { var: 0 };
+    let placeholder = PlaceholderRegion { universe: 1, bound };
+    let region = fixture.region(&rt, RegionKind::RePlaceholder(placeholder));
+    let byte = fixture.ty(&rt, TyKind::Uint(UintTy::U8));
+    let value = fixture.reference(&rt, region, byte);
+    fixture.relates(&rt, value, low);
+    fixture.counts(&rt, 2, 1);
+    fixture.has(&rt, 1, 0, State::Unset);
+    let first = fixture.constraint(&rt, 0);
+    assert!(rt; first.relation == Relation::Equal);
+    assert!(rt; first.right == region.node);
+    let fresh = GenericArg { node: first.left };
+    let named = fixture.reference(&rt, fresh, byte);
+    fixture.has(&rt, 0, 0, State::Known(named.node));
+}
+
+#[test]
+fn nested_arguments(rt: HostRuntime) {
+    let mut fixture = Fixture::new(&rt, rt.alloc());
+    let first = fixture.ty_var(&rt);
+    let second = fixture.ty_var(&rt);
+    let byte = fixture.ty(&rt, TyKind::Uint(UintTy::U8));
+    let bytes = fixture.wrap(&rt, byte);
+    let wrapped = fixture.wrap(&rt, first);
+    let left = fixture.pair(&rt, wrapped, second);
+    let right = fixture.pair(&rt, bytes, first);
+    fixture.relates(&rt, left, right);
+    fixture.counts(&rt, 2, 0);
+    fixture.has(&rt, 0, 0, State::Known(byte.node));
+    fixture.has(&rt, 1, 0, State::Known(byte.node));
+    let expected = fixture.pair(&rt, bytes, byte);
+    fixture.stands_for(&rt, left, expected);
+    fixture.stands_for(&rt, right, expected);
+}
+
+#[test]
+fn regions_alone(rt: HostRuntime) {
+    let mut fixture = Fixture::new(&rt, rt.alloc());
+    let node = fixture.region(&rt, RegionKind::ReStatic).node;
+    let region = Region { node };
+    assert!(rt; fixture.cx.holds(region));
+    assert!(rt;
+        fixture
+            .table
+            .knows(&fixture.cx, region)
+            .expect(&rt, "memory")
+    );
+    let (cx, table) = (&mut fixture.cx, &mut fixture.table);
+    table
+        .eq_structurally_relating_aliases(cx, fixture.env, region, region, Span(0))
+        .expect(&rt, "memory");
+}
+
+#[test]
+fn consts_alone(rt: HostRuntime) {
+    let mut fixture = Fixture::new(&rt, rt.alloc());
+    let node = fixture.konst(&rt, ConstKind::Param(0)).node;
+    let size = Const { node };
+    assert!(rt; fixture.cx.holds(size));
+    assert!(rt; fixture.table.knows(&fixture.cx, size).expect(&rt, "memory"));
+    let (cx, table) = (&mut fixture.cx, &mut fixture.table);
+    table
+        .eq_structurally_relating_aliases(cx, fixture.env, size, size, Span(0))
+        .expect(&rt, "memory");
+}
+
+#[test]
+fn terms_alone(rt: HostRuntime) {
+    let mut fixture = Fixture::new(&rt, rt.alloc());
+    let node = fixture.konst(&rt, ConstKind::Param(0)).node;
+    let term = Term { node };
+    assert!(rt; fixture.cx.holds(term));
+    assert!(rt; fixture.table.knows(&fixture.cx, term).expect(&rt, "memory"));
+    let (cx, table) = (&mut fixture.cx, &mut fixture.table);
+    table
+        .eq_structurally_relating_aliases(cx, fixture.env, term, term, Span(0))
+        .expect(&rt, "memory");
+}

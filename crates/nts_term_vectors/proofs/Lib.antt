@@ -1,0 +1,2 @@
+pub mod FoldedSame
+pub mod Nested

@@ -1,0 +1,350 @@
+//! Folders with a state, one that gives up, and one that looks at binders.
+ghost use Rattle.std.specs.Prelude.{◌≡◌, IfOk};
+ghost use Rattle.nts_store.specs.Growth.{tree_at};
+ghost use Rattle.nts_terms.specs.Handles.{HoldsPredicate};
+
+use crate::walk_tests::wrapped;
+use nts_folding::{TypeFoldable, TypeFolder, fold_node};
+use nts_model::{BoundIndex, Sort, Variance};
+use nts_store::Fault;
+use nts_terms::{
+    Binder, BoundTy, Const, Cx, FnSig, InferTy, Predicate, PredicateKind, Region, Term, Ty, TyKind,
+};
+use std::alloc::AllocError;
+use std::test::Fail;
+
+/// Puts positions in place of type variables, in the order in which it meets them.
+#[derive(Drop)]
+struct Numbering {
+    seen: Vec<usize>,
+}
+
+impl Numbering {
+    fn number(&mut self, variable: usize) -> Result<usize, AllocError> {
+        for i in 0..self.seen.len() {
+            if self.seen[i] == variable {
+                return Ok(i);
+            }
+        }
+        let number = self.seen.len();
+        self.seen.push(variable)?;
+        Ok(number)
+    }
+}
+
+impl TypeFolder for Numbering {
+    ghost use Rattle.std.specs.Prelude.{⊤, refl};
+
+    type Error = Fault;
+
+    ghost Meaning = { Unit {0} };
+
+    ghost meaning = { λ ts s. tt };
+
+    ghost ready = { λ ts s. ⊤ };
+
+    ghost answers = { λ s x o t. ⊤ };
+
+    ghost enters = { λ s t. ⊤ };
+
+    ghost leaves = { λ s t. ⊤ };
+
+    ghost rebuilds = { λ s x y t. ⊤ };
+
+    ghost fails = { λ e. ⊤ };
+
+    ghost ready_kept = { λ a b s h e. tt };
+
+    ghost memory_fails = { λ e h. tt };
+
+    ghost meaning_kept = { λ a b s h e. refl };
+
+    fn fold_ty(&mut self, cx: &mut Cx, t: Ty) -> Result<Option<Ty>, Fault> {
+        let TyKind::Infer(InferTy::TyVar(variable)) = t.kind(cx) else {
+            return Ok(None);
+        };
+        let var = self.number(variable)?;
+        let position = TyKind::Bound(BoundIndex::Canonical, BoundTy { var });
+        Ok(Some(cx.mk_ty(position)?))
+    }
+
+    fn fold_region(&mut self, _cx: &mut Cx, _t: Region) -> Result<Option<Region>, Fault> {
+        Ok(None)
+    }
+
+    fn fold_const(&mut self, _cx: &mut Cx, _t: Const) -> Result<Option<Const>, Fault> {
+        Ok(None)
+    }
+
+    fn fold_predicate(&mut self, _cx: &mut Cx, _t: Predicate) -> Result<Option<Predicate>, Fault> {
+        Ok(None)
+    }
+
+    fn enter_binder(&mut self) -> Result<(), Fault> {
+        Ok(())
+    }
+
+    fn leave_binder(&mut self) {}
+
+    fn rebuilt(&mut self, _cx: &mut Cx, t: Term) -> Result<Term, Fault> {
+        Ok(t)
+    }
+}
+
+/// Why a term was refused.
+#[derive(Drop, PartialEq, Eq)]
+enum Refusal {
+    Memory,
+    Variable(usize),
+}
+
+impl From<AllocError> for Refusal {
+    fn from(_e: AllocError) -> Refusal {
+        Refusal::Memory
+    }
+}
+
+/// Refuses type variables, and counts the types that it sees.
+#[derive(Drop)]
+struct Refusing {
+    types: usize,
+}
+
+impl TypeFolder for Refusing {
+    ghost use Rattle.std.specs.Prelude.{⊤, refl};
+
+    type Error = Refusal;
+
+    ghost Meaning = { Unit {0} };
+
+    ghost meaning = { λ ts s. tt };
+
+    ghost ready = { λ ts s. ⊤ };
+
+    ghost answers = { λ s x o t. ⊤ };
+
+    ghost enters = { λ s t. ⊤ };
+
+    ghost leaves = { λ s t. ⊤ };
+
+    ghost rebuilds = { λ s x y t. ⊤ };
+
+    ghost fails = { λ e. ⊤ };
+
+    ghost ready_kept = { λ a b s h e. tt };
+
+    ghost memory_fails = { λ e h. tt };
+
+    ghost meaning_kept = { λ a b s h e. refl };
+
+    fn fold_ty(&mut self, cx: &mut Cx, t: Ty) -> Result<Option<Ty>, Refusal> {
+        self.types = self.types.saturating_add(1);
+        match t.kind(cx) {
+            TyKind::Infer(InferTy::TyVar(variable)) => Err(Refusal::Variable(variable)),
+            _ => Ok(None),
+        }
+    }
+
+    fn fold_region(&mut self, _cx: &mut Cx, _t: Region) -> Result<Option<Region>, Refusal> {
+        Ok(None)
+    }
+
+    fn fold_const(&mut self, _cx: &mut Cx, _t: Const) -> Result<Option<Const>, Refusal> {
+        Ok(None)
+    }
+
+    fn fold_predicate(
+        &mut self,
+        _cx: &mut Cx,
+        _t: Predicate,
+    ) -> Result<Option<Predicate>, Refusal> {
+        Ok(None)
+    }
+
+    fn enter_binder(&mut self) -> Result<(), Refusal> {
+        Ok(())
+    }
+
+    fn leave_binder(&mut self) {}
+
+    fn rebuilt(&mut self, _cx: &mut Cx, t: Term) -> Result<Term, Refusal> {
+        Ok(t)
+    }
+}
+
+/// Counts the binders that it goes into, those that it is in, and the types and consts made again.
+#[derive(Drop)]
+struct Counting {
+    entered: usize,
+    inside: usize,
+    rebuilt: usize,
+}
+
+impl TypeFolder for Counting {
+    ghost use Rattle.std.specs.Prelude.{◌≡◌, ⊤, None, refl};
+
+    type Error = Fault;
+
+    ghost Meaning = { Unit {0} };
+
+    ghost meaning = { λ ts s. tt };
+
+    ghost ready = { λ ts s. ⊤ };
+
+    ghost answers = { λ s x o t. o ≡ None };
+
+    ghost enters = { λ s t. ⊤ };
+
+    ghost leaves = { λ s t. ⊤ };
+
+    ghost rebuilds = { λ s x y t. y ≡ x };
+
+    ghost fails = { λ e. ⊤ };
+
+    ghost ready_kept = { λ a b s h e. tt };
+
+    ghost memory_fails = { λ e h. tt };
+
+    ghost meaning_kept = { λ a b s h e. refl };
+
+    fn fold_ty(&mut self, _cx: &mut Cx, _t: Ty) -> Result<Option<Ty>, Fault> {
+        Ok(None)
+    }
+
+    fn fold_region(&mut self, _cx: &mut Cx, _t: Region) -> Result<Option<Region>, Fault> {
+        Ok(None)
+    }
+
+    fn fold_const(&mut self, _cx: &mut Cx, _t: Const) -> Result<Option<Const>, Fault> {
+        Ok(None)
+    }
+
+    fn fold_predicate(&mut self, _cx: &mut Cx, _t: Predicate) -> Result<Option<Predicate>, Fault> {
+        Ok(None)
+    }
+
+    fn enter_binder(&mut self) -> Result<(), Fault> {
+        self.entered = self.entered.saturating_add(1);
+        self.inside = self.inside.saturating_add(1);
+        Ok(())
+    }
+
+    fn leave_binder(&mut self) {
+        self.inside = self.inside.saturating_sub(1);
+    }
+
+    fn rebuilt(&mut self, _cx: &mut Cx, t: Term) -> Result<Term, Fault> {
+        self.rebuilt = self.rebuilt.saturating_add(1);
+        Ok(t)
+    }
+}
+
+/// This folder leaves each predicate as it is.
+fn counted(cx: &mut Cx, folder: &mut Counting, predicate: Predicate) -> Result<Predicate, Fault>
+    requires { HoldsPredicate cx.old.nodes predicate }
+    ensures { IfOk result (λ p. tree_at cx.new.nodes p.node ≡ tree_at cx.old.nodes predicate.node) }
+{
+    let folded = predicate.fold_with(cx, folder)?;
+    Ok(folded)
+}
+
+#[test]
+fn numbers_variables_at_first_sight(rt: HostRuntime) -> Result<(), Fail> {
+    let mut cx = Cx::new(rt.alloc());
+    let three = cx.declare_ctor(&[Sort::Ty; 3], &[Variance::Covariant; 3])?;
+    let a = cx.mk_ty(TyKind::Infer(InferTy::TyVar(7)))?;
+    let b = cx.mk_ty(TyKind::Infer(InferTy::TyVar(2)))?;
+    let args = cx.mk_args(&[a.into(), b.into(), a.into()])?;
+    let first = cx.mk_ty(TyKind::Bound(BoundIndex::Canonical, BoundTy { var: 0 }))?;
+    let second = cx.mk_ty(TyKind::Bound(BoundIndex::Canonical, BoundTy { var: 1 }))?;
+    let expected = cx.mk_args(&[first.into(), second.into(), first.into()])?;
+    let mut folder = Numbering {
+        seen: Vec::new(rt.alloc()),
+    };
+    assert!(rt; cx.holds(args));
+    assert!(rt; cx.holds(b));
+    let (folded, last) = (args, Some(b)).fold_with(&mut cx, &mut folder)?;
+    assert!(rt; folded == expected);
+    assert!(rt; last == Some(second));
+    assert_eq!(rt; folder.seen.len(), 2);
+    assert_eq!(rt; three.number, 0);
+    Ok(())
+}
+
+#[test]
+fn ends_at_the_first_refusal(rt: HostRuntime) -> Result<(), Fail> {
+    let mut cx = Cx::new(rt.alloc());
+    let a = cx.mk_ty(TyKind::Infer(InferTy::TyVar(7)))?;
+    let b = cx.mk_ty(TyKind::Infer(InferTy::TyVar(2)))?;
+    let byte = cx.mk_ty(TyKind::Param(0))?;
+    let args = cx.mk_args(&[byte.into(), a.into(), b.into()])?;
+    assert!(rt; cx.holds(args));
+    let mut folder = Refusing { types: 0 };
+    match args.fold_with(&mut cx, &mut folder) {
+        Ok(_) => assert!(rt; false),
+        Err(refusal) => assert!(rt; refusal == Refusal::Variable(7)),
+    }
+    assert_eq!(rt; folder.types, 2);
+    Ok(())
+}
+
+#[test]
+fn goes_through_binders(rt: HostRuntime) -> Result<(), Fail> {
+    let mut cx = Cx::new(rt.alloc());
+    let vars = cx.mk_bound_vars(&[Sort::Ty])?;
+    let bound = cx.mk_ty(TyKind::Bound(BoundIndex::Level(0), BoundTy { var: 0 }))?;
+    let inputs_and_output = cx.mk_args(&[bound.into()])?;
+    assert!(rt; cx.holds(vars));
+    let value = FnSig { inputs_and_output };
+    let pointer = cx.mk_ty(TyKind::FnPtr(Binder { vars, value }))?;
+    assert!(rt; cx.holds(vars));
+    let value = PredicateKind::Coerce {
+        a: pointer,
+        b: pointer,
+    };
+    let predicate = cx.mk_predicate(Binder { vars, value })?;
+    let mut folder = Counting {
+        entered: 0,
+        inside: 0,
+        rebuilt: 0,
+    };
+    let folded = counted(&mut cx, &mut folder, predicate)?;
+    assert!(rt; folded == predicate);
+    assert_eq!(rt; folder.entered, 3);
+    assert_eq!(rt; folder.inside, 0);
+    assert_eq!(rt; folder.rebuilt, 4);
+    Ok(())
+}
+
+#[test]
+fn folds_a_deep_type(rt: HostRuntime) -> Result<(), Fail> {
+    let mut cx = Cx::new(rt.alloc());
+    let variable = cx.mk_ty(TyKind::Infer(InferTy::TyVar(3)))?;
+    let mut deep = variable.node;
+    for _ in 0..100_000u32 {
+        deep = wrapped(&mut cx.nodes, deep)?;
+    }
+    let mut folder = Numbering {
+        seen: Vec::new(rt.alloc()),
+    };
+    let folded = fold_node(&mut cx, &mut folder, deep)?;
+    assert!(rt; folded != deep);
+    assert_eq!(rt; folder.seen.len(), 1);
+    Ok(())
+}
+
+#[test]
+fn folds_each_of_a_list(rt: HostRuntime) -> Result<(), Fail> {
+    let mut cx = Cx::new(rt.alloc());
+    let a = cx.mk_ty(TyKind::Infer(InferTy::TyVar(7)))?;
+    let b = cx.mk_ty(TyKind::Infer(InferTy::TyVar(2)))?;
+    assert!(rt; cx.holds(a));
+    let list = vec![in rt.alloc(); b, a, b]?;
+    let mut folder = Numbering {
+        seen: Vec::new(rt.alloc()),
+    };
+    let folded = list.fold_with(&mut cx, &mut folder)?;
+    assert_eq!(rt; folded.len(), 3);
+    assert_eq!(rt; folder.seen.len(), 2);
+    Ok(())
+}

@@ -1,0 +1,11 @@
+//! Tests of the store, of terms, of folds and of certainties.
+#![tactic(auto)]
+
+#[cfg(test)]
+mod fold_tests;
+#[cfg(test)]
+mod labels_tests;
+#[cfg(test)]
+mod tests;
+#[cfg(test)]
+mod walk_tests;

@@ -1,8 +1,0 @@
-use Rattle.nts_terms.proofs.Reading.{KnownFrom}
-use Rattle.nts_terms.proofs.nodes.Nodes.facts_under.Given as goal
-
-abbrev pub decreases-loop-i : goal.decreases-loop-i
-decreases-loop-i l = l.i
-
-abbrev pub invariant-loop-i : goal.invariant-loop-i
-invariant-loop-i l = KnownFrom l.self l.children l.i l.facts

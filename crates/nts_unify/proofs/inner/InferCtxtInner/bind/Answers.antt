@@ -1,0 +1,17 @@
+use Rattle.std.proofs.Common.{ap, ◌∙◌}
+use Rattle.nts_unify.specs.declared.contents.Change.TheVariants as change
+use Rattle.nts_unify.specs.Entries.{undone}
+use Rattle.nts_unify.proofs.SavedLemmas.{Logged, logged}
+use Rattle.nts_unify.proofs.EntryLemmas.{undone-bound}
+use Rattle.nts_unify.proofs.inner.InferCtxtInner.bind.Goals as goal
+
+recorded : (c : goal.In-Ok) → Logged c.args.self.now c.bind.new.self c.push.new.self.items c.self.inside.snapshots.items
+recorded c =
+    let x = change.Bound c.args.n c.variable-old.result in
+    logged _ _ _ _ _ x _ c.self.view_is c.self.invariant c.in_ok-push.ensures.items (ap (undone x) c.in-Ok.ensures.entries ∙ undone-bound _ _ _ _ c.variable-old.ensures)
+
+pub invariant_of-self-in-Ok : goal.invariant_of-self-in-Ok
+invariant_of-self-in-Ok c = (recorded c).marks
+
+pub returns-in-Ok-clause-saved : goal.returns-in-Ok-clause-saved
+returns-in-Ok-clause-saved c = (recorded c).saved

@@ -1,0 +1,12 @@
+pub mod Changing
+pub mod Entries
+pub mod Equating
+pub mod Joining
+pub mod Lawful
+pub mod Proper
+pub mod Reading
+pub mod Recording
+pub mod Roots
+pub mod Saved
+pub mod Setting
+pub mod Unchanged

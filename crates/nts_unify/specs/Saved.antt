@@ -1,0 +1,19 @@
+-- What the log of changes and the marks in it stand for.
+use Rattle.std.specs.Prelude.{ℕ, ◌≤◌, List, [], ◌∷◌, drop}
+use Rattle.nts_unify.specs.declared.contents.Change.{Change}
+use Rattle.nts_unify.specs.Entries.{Entries, all_undone}
+
+-- the entries at each mark
+abbrev pub saved_of : Entries → List Change → List ℕ → List Entries
+saved_of c log [] = []
+saved_of c log (p ∷ ps) = all_undone (drop p log) c ∷ saved_of c log ps
+
+-- the mark stands before all others
+abbrev pub IsFirst : ℕ → List ℕ → Type 0
+IsFirst p [] = Unit {0}
+IsFirst p (q ∷ qs) = (p ≤ q) × IsFirst p qs
+
+-- the marks stand in order, none past the end
+abbrev pub AreMarks : ℕ → List ℕ → Type 0
+AreMarks n [] = Unit {0}
+AreMarks n (p ∷ ps) = IsFirst p ps × (p ≤ n) × AreMarks n ps

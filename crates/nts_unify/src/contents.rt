@@ -1,0 +1,238 @@
+//! The entries of a table, and how one change of them is undone.
+ghost use Rattle.std.specs.Prelude.{◌≡◌, ◌<◌, ◌++◌, ◌∷◌, [], length, slice_set, slice_get, OnOk, OnErr, IfOk, Some};
+ghost use Rattle.nts_unify.specs.Entries.{Entries, undone, added, with_variable, bound, constrained, moved, registered, with_hidden};
+
+use nts_model::{Relation, VariableKind};
+use nts_store::NodeId;
+use nts_terms::{AliasId, GenericArgs, Ty};
+use std::alloc::{AllocError, Global};
+use std::marker::Model;
+
+/// What a variable is known to be.
+#[derive(Clone, Copy, PartialEq, Eq)]
+pub enum State {
+    /// Nothing is known of it.
+    Unset,
+    /// It is one with the variable of a lower number.
+    Link(usize),
+    /// It stands for a term that is no variable of its kind.
+    Known(NodeId),
+}
+
+/// An inference variable of a table.
+#[derive(Clone, Copy, PartialEq, Eq)]
+pub struct Variable {
+    pub kind: VariableKind,
+    /// The universe that bounds the leaves of its value.
+    pub universe: u32,
+    pub state: State,
+    /// The variable of a lower number with which its sub-unification class was joined.
+    pub sub_link: Option<usize>,
+}
+
+/// A region constraint that was recorded.
+#[derive(Clone, Copy, PartialEq, Eq)]
+pub struct Constraint {
+    pub relation: Relation,
+    pub left: NodeId,
+    pub right: NodeId,
+    /// Whether the leak check sees it.
+    pub is_visible: bool,
+}
+
+/// The type that an alias stands for where goals may not see it: a hidden type, with the alias that it
+/// is hidden behind.
+#[derive(Clone, Copy, PartialEq, Eq)]
+pub struct HiddenType {
+    pub alias: AliasId,
+    pub args: GenericArgs,
+    pub ty: Ty,
+}
+
+/// A change of a table, by what undoes it.
+#[derive(Clone, Copy, PartialEq, Eq)]
+pub enum Change {
+    /// A variable was added.
+    Added,
+    /// A variable was as given.
+    Changed(usize, Variable),
+    /// A variable was as given, and came last into the order of binding.
+    Bound(usize, Variable),
+    /// The current universe was as given.
+    Moved(u32),
+    /// A constraint was recorded.
+    Constrained,
+    /// A hidden type was registered.
+    Registered,
+    /// A hidden type was as given.
+    Replaced(usize, HiddenType),
+}
+
+/// What a rollback restores.
+#[derive(Drop)]
+pub struct Contents {
+    variables: Vec<Variable>,
+    order: Vec<usize>,
+    universe: u32,
+    constraints: Vec<Constraint>,
+    hidden: Vec<HiddenType>,
+}
+
+impl Model for Contents {
+    ghost use Rattle.nts_unify.specs.Entries.{Entries};
+
+    ghost Value = { Entries };
+
+    ghost view = { λ c. record { variables = c.variables.items; order = c.order.items; universe = c.universe; constraints = c.constraints.items; hidden = c.hidden.items } };
+}
+
+impl Contents {
+    pub fn new(alloc: Global) -> Self
+        ensures { result ≡ record { variables = []; order = []; universe = 0; constraints = []; hidden = [] } }
+    {
+        Contents {
+            variables: Vec::new(alloc),
+            order: Vec::new(alloc),
+            universe: 0,
+            constraints: Vec::new(alloc),
+            hidden: Vec::new(alloc),
+        }
+    }
+
+    pub fn len(&self) -> usize
+        ensures { result ≡ length self.now.variables }
+    {
+        self.variables.len()
+    }
+
+    pub fn universe(&self) -> u32
+        ensures { result ≡ self.now.universe }
+    {
+        self.universe
+    }
+
+    pub fn variable(&self, n: usize) -> Variable
+        requires { n < length self.now.variables }
+        ensures { slice_get self.now.variables n ≡ Some result }
+    {
+        self.variables[n]
+    }
+
+    pub fn constraint(&self, n: usize) -> Constraint
+        requires { n < length self.now.constraints }
+        ensures { slice_get self.now.constraints n ≡ Some result }
+    {
+        self.constraints[n]
+    }
+
+    pub fn constraint_count(&self) -> usize
+        ensures { result ≡ length self.now.constraints }
+    {
+        self.constraints.len()
+    }
+
+    pub fn hidden_type(&self, n: usize) -> HiddenType
+        requires { n < length self.now.hidden }
+        ensures { slice_get self.now.hidden n ≡ Some result }
+    {
+        self.hidden[n]
+    }
+
+    pub fn hidden_count(&self) -> usize
+        ensures { result ≡ length self.now.hidden }
+    {
+        self.hidden.len()
+    }
+
+    pub fn add(&mut self, variable: Variable) -> Result<usize, AllocError>
+        ensures number { IfOk result (λ v. v ≡ length self.old.variables) }
+        ensures entries { OnOk result (self.new ≡ added self.old variable) }
+        ensures err { OnErr result (self.new ≡ self.old) }
+    {
+        let number = self.variables.len();
+        self.variables.push(variable)?;
+        Ok(number)
+    }
+
+    pub fn set(&mut self, n: usize, variable: Variable)
+        requires { n < length self.old.variables }
+        ensures { self.new ≡ with_variable self.old n variable }
+    {
+        self.variables[n] = variable;
+    }
+
+    pub fn bind(&mut self, n: usize, variable: Variable) -> Result<(), AllocError>
+        requires { n < length self.old.variables }
+        ensures entries { OnOk result (self.new ≡ bound self.old n variable) }
+        ensures err { OnErr result (self.new ≡ self.old) }
+    {
+        self.order.push(n)?;
+        self.variables[n] = variable;
+        Ok(())
+    }
+
+    pub fn move_to(&mut self, universe: u32)
+        ensures { self.new ≡ moved self.old universe }
+    {
+        self.universe = universe;
+    }
+
+    pub fn constrain(&mut self, constraint: Constraint) -> Result<(), AllocError>
+        ensures entries { OnOk result (self.new ≡ constrained self.old constraint) }
+        ensures err { OnErr result (self.new ≡ self.old) }
+    {
+        self.constraints.push(constraint)?;
+        Ok(())
+    }
+
+    pub fn register(&mut self, hidden: HiddenType) -> Result<(), AllocError>
+        ensures entries { OnOk result (self.new ≡ registered self.old hidden) }
+        ensures err { OnErr result (self.new ≡ self.old) }
+    {
+        self.hidden.push(hidden)?;
+        Ok(())
+    }
+
+    pub fn replace(&mut self, n: usize, hidden: HiddenType)
+        requires { n < length self.old.hidden }
+        ensures { self.new ≡ with_hidden self.old n hidden }
+    {
+        self.hidden[n] = hidden;
+    }
+
+    /// Undoes one change. It takes no memory.
+    pub fn undo(&mut self, change: Change)
+        ensures { self.new ≡ undone change self.old }
+    {
+        match change {
+            Change::Added => {
+                self.variables.pop();
+            }
+            Change::Changed(n, variable) => {
+                if n < self.variables.len() {
+                    self.variables[n] = variable;
+                }
+            }
+            Change::Bound(n, variable) => {
+                self.order.pop();
+                if n < self.variables.len() {
+                    self.variables[n] = variable;
+                }
+            }
+            Change::Moved(universe) => {
+                self.universe = universe;
+            }
+            Change::Constrained => {
+                self.constraints.pop();
+            }
+            Change::Registered => {
+                self.hidden.pop();
+            }
+            Change::Replaced(n, hidden) => {
+                if n < self.hidden.len() {
+                    self.hidden[n] = hidden;
+                }
+            }
+        }
+    }
+}

@@ -1,0 +1,234 @@
+//! What can be undone of a table, and its snapshots.
+ghost use Rattle.std.specs.Prelude.{◌≡◌, ◌<◌, ◌+◌, ◌++◌, ◌∷◌, [], length, slice_get, OnOk, OnErr, IfOk, Some};
+ghost use Rattle.nts_unify.specs.Entries.{Entries, Inner, added, with_variable, bound, constrained, moved, registered, with_hidden};
+
+use crate::contents::{Change, Constraint, Contents, HiddenType, Variable};
+use std::alloc::{AllocError, Global};
+use std::marker::Model;
+
+/// The part of a table that snapshots restore: the entries, and the entries at the snapshots that are
+/// open.
+#[derive(Drop)]
+pub struct InferCtxtInner {
+    contents: Contents,
+    log: Vec<Change>,
+    snapshots: Vec<usize>,
+}
+
+impl Model for InferCtxtInner {
+    ghost use Rattle.nts_unify.specs.Entries.{Inner};
+
+    ghost Value = { Inner };
+
+    ghost use Rattle.std.specs.Prelude.{length};
+    ghost use Rattle.nts_unify.specs.Saved.{saved_of, AreMarks};
+
+    ghost view = { λ t. record { entries = t.contents; saved = saved_of t.contents t.log.items t.snapshots.items } };
+
+    ghost invariant = { λ t. AreMarks (length t.log.items) t.snapshots.items };
+}
+
+/// A moment to which the table can go back. Snapshots end last first.
+#[derive(Clone, Copy)]
+pub struct Snapshot {
+    pub depth: usize,
+}
+
+impl InferCtxtInner {
+    /// No variables, in the root universe. It takes no memory.
+    pub fn new(alloc: Global) -> Self
+        ensures entries { result.entries ≡ record { variables = []; order = []; universe = 0; constraints = []; hidden = [] } }
+        ensures saved { result.saved ≡ [] }
+    {
+        InferCtxtInner {
+            contents: Contents::new(alloc),
+            log: Vec::new(alloc),
+            snapshots: Vec::new(alloc),
+        }
+    }
+
+    pub fn variable_count(&self) -> usize
+        ensures { result ≡ length self.now.entries.variables }
+    {
+        self.contents.len()
+    }
+
+    pub fn variable(&self, n: usize) -> Variable
+        requires { n < length self.now.entries.variables }
+        ensures { slice_get self.now.entries.variables n ≡ Some result }
+    {
+        self.contents.variable(n)
+    }
+
+    pub fn constraint_count(&self) -> usize
+        ensures { result ≡ length self.now.entries.constraints }
+    {
+        self.contents.constraint_count()
+    }
+
+    pub fn constraint(&self, n: usize) -> Constraint
+        requires { n < length self.now.entries.constraints }
+        ensures { slice_get self.now.entries.constraints n ≡ Some result }
+    {
+        self.contents.constraint(n)
+    }
+
+    /// How many hidden types are registered. It takes no memory.
+    pub fn num_opaque_types(&self) -> usize
+        ensures { result ≡ length self.now.entries.hidden }
+    {
+        self.contents.hidden_count()
+    }
+
+    /// The hidden type at a position.
+    pub fn hidden_type(&self, n: usize) -> HiddenType
+        requires { n < length self.now.entries.hidden }
+        ensures { slice_get self.now.entries.hidden n ≡ Some result }
+    {
+        self.contents.hidden_type(n)
+    }
+
+    /// The current universe.
+    pub fn universe(&self) -> u32
+        ensures { result ≡ self.now.entries.universe }
+    {
+        self.contents.universe()
+    }
+
+    pub fn add(&mut self, variable: Variable) -> Result<usize, AllocError>
+        ensures number { IfOk result (λ v. v ≡ length self.old.entries.variables) }
+        ensures entries { OnOk result (self.new.entries ≡ added self.old.entries variable) }
+        ensures saved { self.new.saved ≡ self.old.saved }
+        ensures hidden { self.new.entries.hidden ≡ self.old.entries.hidden }
+        ensures err { OnErr result (self.new ≡ self.old) }
+    {
+        self.log.push(Change::Added)?;
+        match self.contents.add(variable) {
+            Ok(v) => Ok(v),
+            Err(error) => {
+                self.log.pop();
+                Err(error)
+            }
+        }
+    }
+
+    pub fn set(&mut self, n: usize, variable: Variable) -> Result<(), AllocError>
+        requires { n < length self.old.entries.variables }
+        ensures entries { OnOk result (self.new.entries ≡ with_variable self.old.entries n variable) }
+        ensures saved { self.new.saved ≡ self.old.saved }
+        ensures hidden { self.new.entries.hidden ≡ self.old.entries.hidden }
+        ensures err { OnErr result (self.new ≡ self.old) }
+    {
+        let old = self.contents.variable(n);
+        self.log.push(Change::Changed(n, old))?;
+        self.contents.set(n, variable);
+        Ok(())
+    }
+
+    pub fn bind(&mut self, n: usize, variable: Variable) -> Result<(), AllocError>
+        requires { n < length self.old.entries.variables }
+        ensures entries { OnOk result (self.new.entries ≡ bound self.old.entries n variable) }
+        ensures saved { self.new.saved ≡ self.old.saved }
+        ensures hidden { self.new.entries.hidden ≡ self.old.entries.hidden }
+        ensures err { OnErr result (self.new ≡ self.old) }
+    {
+        let old = self.contents.variable(n);
+        self.log.push(Change::Bound(n, old))?;
+        match self.contents.bind(n, variable) {
+            Ok(()) => Ok(()),
+            Err(error) => {
+                self.log.pop();
+                Err(error)
+            }
+        }
+    }
+
+    pub fn move_to(&mut self, universe: u32) -> Result<(), AllocError>
+        ensures entries { OnOk result (self.new.entries ≡ moved self.old.entries universe) }
+        ensures saved { self.new.saved ≡ self.old.saved }
+        ensures err { OnErr result (self.new ≡ self.old) }
+    {
+        let old = self.contents.universe();
+        self.log.push(Change::Moved(old))?;
+        self.contents.move_to(universe);
+        Ok(())
+    }
+
+    pub fn constrain(&mut self, constraint: Constraint) -> Result<(), AllocError>
+        ensures entries { OnOk result (self.new.entries ≡ constrained self.old.entries constraint) }
+        ensures saved { self.new.saved ≡ self.old.saved }
+        ensures hidden { self.new.entries.hidden ≡ self.old.entries.hidden }
+        ensures err { OnErr result (self.new ≡ self.old) }
+    {
+        self.log.push(Change::Constrained)?;
+        match self.contents.constrain(constraint) {
+            Ok(()) => Ok(()),
+            Err(error) => {
+                self.log.pop();
+                Err(error)
+            }
+        }
+    }
+
+    pub fn register(&mut self, hidden: HiddenType) -> Result<(), AllocError>
+        ensures entries { OnOk result (self.new.entries ≡ registered self.old.entries hidden) }
+        ensures saved { self.new.saved ≡ self.old.saved }
+        ensures err { OnErr result (self.new ≡ self.old) }
+    {
+        self.log.push(Change::Registered)?;
+        match self.contents.register(hidden) {
+            Ok(()) => Ok(()),
+            Err(error) => {
+                self.log.pop();
+                Err(error)
+            }
+        }
+    }
+
+    pub fn replace(&mut self, n: usize, hidden: HiddenType) -> Result<(), AllocError>
+        requires { n < length self.old.entries.hidden }
+        ensures entries { OnOk result (self.new.entries ≡ with_hidden self.old.entries n hidden) }
+        ensures saved { self.new.saved ≡ self.old.saved }
+        ensures err { OnErr result (self.new ≡ self.old) }
+    {
+        let old = self.contents.hidden_type(n);
+        self.log.push(Change::Replaced(n, old))?;
+        self.contents.replace(n, hidden);
+        Ok(())
+    }
+
+    /// Opens a snapshot.
+    pub fn start_snapshot(&mut self) -> Result<Snapshot, AllocError>
+        ensures entries { self.new.entries ≡ self.old.entries }
+        ensures saved { OnOk result (self.new.saved ≡ self.old.saved ++ self.old.entries ∷ []) }
+        ensures depth { IfOk result (λ s. s.depth ≡ length self.old.saved) }
+        ensures err { OnErr result (self.new ≡ self.old) }
+    {
+        let depth = self.snapshots.len();
+        self.snapshots.push(self.log.len())?;
+        Ok(Snapshot { depth })
+    }
+
+    /// Closes the last snapshot and keeps what was done since. It takes no memory.
+    pub fn commit(&mut self, snapshot: Snapshot)
+        requires { length self.old.saved ≡ snapshot.depth + 1 }
+        ensures entries { self.new.entries ≡ self.old.entries }
+        ensures saved { (c : Entries) × (self.old.saved ≡ self.new.saved ++ c ∷ []) }
+    {
+        self.snapshots.pop();
+    }
+
+    /// Closes the last snapshot and restores what stood when it was opened. It takes no memory.
+    pub fn rollback_to(&mut self, snapshot: Snapshot)
+        requires { length self.old.saved ≡ snapshot.depth + 1 }
+        ensures saved { self.old.saved ≡ self.new.saved ++ self.new.entries ∷ [] }
+    {
+        if let Some(mark) = self.snapshots.pop() {
+            while self.log.len() > mark {
+                if let Some(change) = self.log.pop() {
+                    self.contents.undo(change);
+                }
+            }
+        }
+    }
+}

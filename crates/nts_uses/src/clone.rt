@@ -1,0 +1,158 @@
+//! A store, two rules, and a goal.
+ghost use Rattle.std.specs.Prelude.{IfOk, IfSome, OnOk};
+ghost use Rattle.nts_store.specs.Growth.{Extends};
+ghost use Rattle.nts_terms.specs.Handles.{HoldsArg, HoldsTy, HoldsPredicate};
+ghost use Rattle.nts_terms.specs.Rest.{KeepsRest};
+ghost use Rattle.nts_delegate.specs.Candidates.{HoldsGoal};
+ghost use Rattle.nts_delegate.specs.Clauses.{AreReady};
+
+use next_trait_solver::clauses::{Clause, Clauses};
+use next_trait_solver::solve::{evaluate_root_goal, goal_is_admitted};
+use next_trait_solver::ty::{
+    Binder, BoundIndex, BoundTy, Certainty, ClauseKind, CtorId, Cx, DefId, EvalError, GenericArg,
+    Goal, InferCtxt, Predicate, PredicateKind, Sort, Span, TraitId, TraitRef, Ty, TyKind,
+    TypingMode, UintTy, Variance,
+};
+use std::alloc::Global;
+
+/// That a trait holds for one argument, or nothing where it takes other arguments.
+fn holds_for(cx: &mut Cx, id: TraitId, argument: GenericArg) -> Result<Option<Predicate>, EvalError>
+    requires { HoldsArg cx.old.nodes argument }
+    ensures holds { IfOk result (λ p. IfSome p (HoldsPredicate cx.new.nodes)) }
+    ensures extends { Extends cx.old.nodes cx.new.nodes }
+    ensures rest { KeepsRest cx.old cx.new }
+{
+    let args = cx.mk_args(&[argument])?;
+    let vars = cx.mk_bound_vars(&[])?;
+    if !cx.holds(args) || !cx.fits(DefId::Trait(id), args) {
+        return Ok(None);
+    }
+    let trait_ref = TraitRef { def_id: id, args };
+    let value = PredicateKind::Clause(ClauseKind::Trait(trait_ref));
+    Ok(Some(cx.mk_predicate(Binder { vars, value })?))
+}
+
+/// Adds a rule: over variables of these sorts the trait holds for the argument where the conditions hold. It answers
+/// whether the rule fits.
+#[tactic(auto, using(nts_evaluation::proofs::Asking::asking))]
+fn add_rule(
+    cx: &mut Cx,
+    rules: &mut Clauses,
+    fresh: Vec<Sort>,
+    trait_id: TraitId,
+    argument: GenericArg,
+    body: Vec<Predicate>,
+) -> Result<bool, EvalError>
+    requires argument { HoldsArg cx.old.nodes argument }
+    requires ready { AreReady cx.old.nodes rules.old }
+    ensures ready { OnOk result (AreReady cx.new.nodes rules.new) }
+    ensures extends { Extends cx.old.nodes cx.new.nodes }
+    ensures rest { KeepsRest cx.old cx.new }
+{
+    let head = cx.mk_args(&[argument])?;
+    let clause = Clause {
+        fresh,
+        trait_id,
+        head,
+        body,
+    };
+    if !Clauses::clause_fits(cx, &clause)? {
+        return Ok(false);
+    }
+    rules.add_clause(clause)?;
+    Ok(true)
+}
+
+/// The type `Vec(argument)`, or nothing where `Vec` takes other arguments.
+fn vec_of(cx: &mut Cx, vec: CtorId, argument: GenericArg) -> Result<Option<Ty>, EvalError>
+    requires { HoldsArg cx.old.nodes argument }
+    ensures holds { IfOk result (λ t. IfSome t (HoldsTy cx.new.nodes)) }
+    ensures extends { Extends cx.old.nodes cx.new.nodes }
+    ensures rest { KeepsRest cx.old cx.new }
+{
+    let args = cx.mk_args(&[argument])?;
+    if !cx.holds(args) || !cx.fits(DefId::Ctor(vec), args) {
+        return Ok(None);
+    }
+    Ok(Some(cx.mk_ty(TyKind::Ctor(vec, args))?))
+}
+
+/// Adds the rule that `Vec(T)` is `Clone` for each `T` that is. The rule's variable is the position 0.
+#[tactic(auto, using(nts_evaluation::proofs::Asking::asking, nts_terms::proofs::Moved::growth))]
+fn add_rule_of_vec(
+    cx: &mut Cx,
+    rules: &mut Clauses,
+    clone: TraitId,
+    vec: CtorId,
+) -> Result<bool, EvalError>
+    requires { AreReady cx.old.nodes rules.old }
+    ensures ready { OnOk result (AreReady cx.new.nodes rules.new) }
+    ensures extends { Extends cx.old.nodes cx.new.nodes }
+    ensures rest { KeepsRest cx.old cx.new }
+{
+    let any = cx.mk_ty(TyKind::Bound(BoundIndex::Canonical, BoundTy { var: 0 }))?;
+    let Some(condition) = holds_for(cx, clone, any.into())? else {
+        return Ok(false);
+    };
+    let Some(vec_of_any) = vec_of(cx, vec, any.into())? else {
+        return Ok(false);
+    };
+    let mut fresh = Vec::new(cx.alloc);
+    fresh.push(Sort::Ty)?;
+    let mut body = Vec::new(cx.alloc);
+    body.push(condition)?;
+    add_rule(cx, rules, fresh, clone, vec_of_any.into(), body)
+}
+
+/// How sure it is that a goal holds by the rules, or nothing where it may not be asked.
+#[tactic(auto, using(nts_evaluation::proofs::Asking::asking))]
+fn ask(cx: &mut Cx, rules: &Clauses, goal: Goal) -> Result<Option<Certainty>, EvalError>
+    requires holds { HoldsGoal cx.old.nodes goal }
+    requires ready { AreReady cx.old.nodes rules.now }
+{
+    let mut table = InferCtxt::new(cx.alloc, TypingMode::PostAnalysis);
+    if !goal_is_admitted(&table, cx, goal)? {
+        return Ok(None);
+    }
+    let evaluation = evaluate_root_goal(&mut table, cx, rules, goal, Span(0), None)?;
+    Ok(Some(evaluation.certainty))
+}
+
+/// How sure it is that `Vec(u32)` is `Clone`: `Yes`. There is no answer where a rule does not fit, or the goal may
+/// not be asked.
+#[tactic(auto, using(nts_evaluation::proofs::Asking::asking, nts_terms::proofs::Moved::growth))]
+pub fn clone_of_vec(alloc: Global) -> Result<Option<Certainty>, EvalError> {
+    let mut cx = Cx::new(alloc);
+    let clone = cx.declare_trait(&[Sort::Ty])?;
+    let vec = cx.declare_ctor(&[Sort::Ty], &[Variance::Covariant])?;
+    let word = cx.mk_ty(TyKind::Uint(UintTy::U32))?;
+
+    let mut rules = Clauses::new(alloc);
+    let none = Vec::new(alloc);
+    if !add_rule(
+        &mut cx,
+        &mut rules,
+        none,
+        clone,
+        word.into(),
+        Vec::new(alloc),
+    )? {
+        return Ok(None);
+    }
+    if !add_rule_of_vec(&mut cx, &mut rules, clone, vec)? {
+        return Ok(None);
+    }
+
+    let Some(vec_of_word) = vec_of(&mut cx, vec, word.into())? else {
+        return Ok(None);
+    };
+    let Some(predicate) = holds_for(&mut cx, clone, vec_of_word.into())? else {
+        return Ok(None);
+    };
+    let param_env = cx.mk_env(&[])?;
+    let goal = Goal {
+        param_env,
+        predicate,
+    };
+    ask(&mut cx, &rules, goal)
+}

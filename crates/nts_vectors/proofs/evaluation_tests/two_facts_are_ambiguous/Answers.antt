@@ -1,0 +1,7 @@
+use Rattle.nts_store.proofs.Growing.{Extends-trans}
+use Rattle.nts_delegate.specs.ClausesKept.{AreReady-kept}
+use Rattle.nts_vectors.proofs.evaluation_tests.two_facts_are_ambiguous.Goals as goal
+
+pub certainty-requires-clause-ready : goal.certainty-requires-clause-ready
+certainty-requires-clause-ready g c =
+    AreReady-kept _ _ c.fact-2.new.handler c.in_ok-fact-2.ensures.ready (Extends-trans c.in_ok-variable.ensures.extends c.in_ok-goal.ensures.extends)

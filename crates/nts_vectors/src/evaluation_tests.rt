@@ -1,0 +1,182 @@
+//! Goals asked of the library.
+ghost use Rattle.std.specs.Prelude.{IfOk, OnOk};
+ghost use Rattle.nts_store.specs.Growth.{Extends};
+ghost use Rattle.nts_terms.specs.Handles.{HoldsArgs};
+ghost use Rattle.nts_terms.specs.Rest.{KeepsRest};
+ghost use Rattle.nts_table.specs.Tables.{IsTable};
+ghost use Rattle.nts_terms.specs.Handles.{HoldsGoal};
+ghost use Rattle.nts_delegate.specs.Clauses.{AreReady};
+
+use nts_certainty::Certainty;
+use nts_delegate::{Clause, Clauses, GoalHandler};
+use nts_evaluation::{evaluate_root_goal, goal_is_admitted};
+use nts_model::{BoundIndex, Sort, UintTy};
+use nts_resolve::eager_resolve_vars;
+use nts_store::EvalError;
+use nts_table::InferCtxt;
+use nts_terms::{
+    Binder, BoundTy, ClauseKind, Cx, DefId, GenericArg, GenericArgs, Goal, PredicateKind, Span,
+    TraitId, TraitRef, Ty, TyKind, TypingMode,
+};
+use std::test::Fail;
+
+fn uint(cx: &mut Cx, int: UintTy) -> Result<Ty, Fail>
+    ensures extends { Extends cx.old.nodes cx.new.nodes }
+    ensures rest { KeepsRest cx.old cx.new }
+{
+    Ok(cx.mk_ty(TyKind::Uint(int))?)
+}
+
+/// The goal that a trait holds for one argument, in an empty environment.
+fn goal_about(cx: &mut Cx, id: TraitId, argument: GenericArg) -> Result<Goal, Fail>
+    ensures holds { IfOk result (λ g. HoldsGoal cx.new.nodes g) }
+    ensures extends { Extends cx.old.nodes cx.new.nodes }
+    ensures rest { KeepsRest cx.old cx.new }
+{
+    if !cx.holds(argument) {
+        return Err(Fail::new("no argument of the store"));
+    }
+    let args = cx.mk_args(&[argument])?;
+    let param_env = cx.mk_env(&[])?;
+    let vars = cx.mk_bound_vars(&[])?;
+    if !cx.holds(args) || !cx.fits(DefId::Trait(id), args) {
+        return Err(Fail::new("the trait takes other arguments"));
+    }
+    let value = PredicateKind::Clause(ClauseKind::Trait(TraitRef { def_id: id, args }));
+    let predicate = cx.mk_predicate(Binder { vars, value })?;
+    Ok(Goal {
+        param_env,
+        predicate,
+    })
+}
+
+/// How sure it is that a goal holds, or nothing where it has no solution; asked through the bound.
+#[tactic(auto, using(nts_evaluation::proofs::Asking::asking))]
+fn certainty<H: GoalHandler>(
+    table: &mut InferCtxt,
+    cx: &mut Cx,
+    handler: &H,
+    goal: Goal,
+) -> Result<Option<Certainty>, Fail>
+    requires table { IsTable cx.old.nodes table.old }
+    requires ready { H.ready cx.old.nodes handler.now }
+    requires holds { HoldsGoal cx.old.nodes goal }
+    ensures extends { Extends cx.old.nodes cx.new.nodes }
+    ensures rest { KeepsRest cx.old cx.new }
+{
+    if !goal_is_admitted(table, cx, goal)? {
+        return Err(Fail::new("the goal may not be asked"));
+    }
+    match evaluate_root_goal(table, cx, handler, goal, Span(0), None) {
+        Ok(evaluation) => Ok(Some(evaluation.certainty)),
+        Err(EvalError::NoSolution) => Ok(None),
+        Err(error) => Err(Fail::new(error)),
+    }
+}
+
+/// Adds the fact that a trait holds for an argument.
+#[tactic(auto, using(nts_evaluation::proofs::Asking::asking))]
+fn fact(cx: &mut Cx, handler: &mut Clauses, id: TraitId, argument: GenericArg) -> Result<(), Fail>
+    requires { AreReady cx.old.nodes handler.old }
+    ensures ready { OnOk result (AreReady cx.new.nodes handler.new) }
+    ensures extends { Extends cx.old.nodes cx.new.nodes }
+    ensures rest { KeepsRest cx.old cx.new }
+{
+    if !cx.holds(argument) {
+        return Err(Fail::new("no argument of the store"));
+    }
+    let head = cx.mk_args(&[argument])?;
+    let clause = Clause {
+        fresh: Vec::new(cx.alloc),
+        trait_id: id,
+        head,
+        body: Vec::new(cx.alloc),
+    };
+    if !Clauses::clause_fits(cx, &clause)? {
+        return Err(Fail::new("the clause does not fit"));
+    }
+    handler.add_clause(clause)?;
+    Ok(())
+}
+
+#[test]
+#[tactic(auto, using(nts_evaluation::proofs::Asking::asking))]
+fn a_fact_holds(rt: HostRuntime) -> Result<(), Fail> {
+    let mut cx = Cx::new(rt.alloc());
+    let mut table = InferCtxt::new(rt.alloc(), TypingMode::PostAnalysis);
+    let mut handler = Clauses::new(rt.alloc());
+    let clone = cx.declare_trait(&[Sort::Ty])?;
+    let word = uint(&mut cx, UintTy::U32)?;
+    fact(&mut cx, &mut handler, clone, word.into())?;
+    let goal = goal_about(&mut cx, clone, word.into())?;
+    let found = certainty(&mut table, &mut cx, &handler, goal)?;
+    assert!(rt; matches!(found, Some(Certainty::Yes)));
+    Ok(())
+}
+
+#[test]
+#[tactic(auto, using(nts_evaluation::proofs::Asking::asking))]
+fn without_a_fact_nothing_holds(rt: HostRuntime) -> Result<(), Fail> {
+    let mut cx = Cx::new(rt.alloc());
+    let mut table = InferCtxt::new(rt.alloc(), TypingMode::PostAnalysis);
+    let mut handler = Clauses::new(rt.alloc());
+    let clone = cx.declare_trait(&[Sort::Ty])?;
+    let word = uint(&mut cx, UintTy::U32)?;
+    let byte = uint(&mut cx, UintTy::U8)?;
+    fact(&mut cx, &mut handler, clone, word.into())?;
+    let goal = goal_about(&mut cx, clone, byte.into())?;
+    let none = certainty(&mut table, &mut cx, &handler, goal)?;
+    assert!(rt; none.is_none());
+    Ok(())
+}
+
+#[test]
+#[tactic(auto, using(nts_evaluation::proofs::Asking::asking))]
+fn two_facts_are_ambiguous(rt: HostRuntime) -> Result<(), Fail> {
+    let mut cx = Cx::new(rt.alloc());
+    let mut table = InferCtxt::new(rt.alloc(), TypingMode::Coherence);
+    let mut handler = Clauses::new(rt.alloc());
+    let clone = cx.declare_trait(&[Sort::Ty])?;
+    let word = uint(&mut cx, UintTy::U32)?;
+    let byte = uint(&mut cx, UintTy::U8)?;
+    fact(&mut cx, &mut handler, clone, word.into())?;
+    fact(&mut cx, &mut handler, clone, byte.into())?;
+    let variable = table.next_ty_infer(&mut cx)?;
+    let goal = goal_about(&mut cx, clone, variable.into())?;
+    let found = certainty(&mut table, &mut cx, &handler, goal)?;
+    assert!(rt; matches!(found, Some(Certainty::Maybe(_))));
+    Ok(())
+}
+
+#[test]
+#[tactic(auto, using(nts_evaluation::proofs::Asking::asking))]
+fn an_open_variable_is_its_root(rt: HostRuntime) -> Result<(), Fail> {
+    let mut cx = Cx::new(rt.alloc());
+    let mut table = InferCtxt::new(rt.alloc(), TypingMode::PostAnalysis);
+    let variable = table.next_ty_infer(&mut cx)?;
+    let resolved = eager_resolve_vars(&table, &mut cx, variable)?;
+    assert!(rt; cx.same(resolved, variable));
+    Ok(())
+}
+
+#[test]
+fn a_position_is_not_admitted(rt: HostRuntime) -> Result<(), Fail> {
+    let mut cx = Cx::new(rt.alloc());
+    let table = InferCtxt::new(rt.alloc(), TypingMode::PostAnalysis);
+    let clone = cx.declare_trait(&[Sort::Ty])?;
+    let position = cx.mk_ty(TyKind::Bound(BoundIndex::Canonical, BoundTy { var: 0 }))?;
+    let goal = goal_about(&mut cx, clone, position.into())?;
+    assert!(rt; !goal_is_admitted(&table, &mut cx, goal)?);
+    Ok(())
+}
+
+#[test]
+fn coinductive_traits(rt: HostRuntime) -> Result<(), Fail> {
+    let mut handler = Clauses::new(rt.alloc());
+    let send = TraitId { number: 3 };
+    assert!(rt; !handler.trait_is_coinductive(send));
+    handler.set_coinductive(send)?;
+    assert!(rt; handler.trait_is_coinductive(send));
+    assert!(rt; !handler.trait_is_coinductive(TraitId { number: 2 }));
+    Ok(())
+}
