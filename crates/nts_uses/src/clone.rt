@@ -1,9 +1,8 @@
 //! A store, two rules, and a goal.
 ghost use Rattle.std.specs.Prelude.{IfOk, IfSome, OnOk};
 ghost use Rattle.nts_store.specs.Growth.{Extends};
-ghost use Rattle.nts_terms.specs.Handles.{HoldsArg, HoldsTy, HoldsPredicate};
+ghost use Rattle.nts_terms.specs.Handles.{HoldsArg, HoldsTy, HoldsPredicate, HoldsGoal};
 ghost use Rattle.nts_terms.specs.Rest.{KeepsRest};
-ghost use Rattle.nts_delegate.specs.Candidates.{HoldsGoal};
 ghost use Rattle.nts_delegate.specs.Clauses.{AreReady};
 
 use next_trait_solver::clauses::{Clause, Clauses};
