@@ -5,7 +5,8 @@ pub use nts_certainty::{
 };
 pub use nts_folding::{TypeFoldable, TypeFolder};
 pub use nts_model::{
-    BoundIndex, Direction, FloatTy, IntTy, Relation, Sort, UintTy, VariableKind, Variance,
+    AliasRelationDirection, BoundVarIndexKind, DebruijnIndex, FloatTy, IntTy, Relation, Sort,
+    UintTy, VariableKind, Variance,
 };
 pub use nts_store::{EvalError, Fault, NodeId};
 pub use nts_table::InferCtxt;

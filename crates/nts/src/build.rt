@@ -11,7 +11,7 @@ ghost use Rattle.nts_terms.specs.Rest.{KeepsRest};
 use crate::status::Stop;
 use crate::variables::LineVariables;
 use next_trait_solver::ty::{
-    Binder, BoundIndex, BoundRegion, BoundTy, ClauseKind, CtorId, Cx, DefId, GenericArg,
+    Binder, BoundRegion, BoundTy, BoundVarIndexKind, ClauseKind, CtorId, Cx, DefId, GenericArg,
     GenericArgs, Predicate, PredicateKind, RegionKind, Sort, TraitId, TraitRef, TyKind,
 };
 use nts_text::{Refusal, Resolved};
@@ -191,10 +191,10 @@ pub fn positions(cx: &mut Cx, sorts: &[Sort]) -> Result<Vec<GenericArg>, Stop>
     for (var, sort) in sorts.iter().enumerate() {
         let value = match sort {
             Sort::Ty => cx
-                .mk_ty(TyKind::Bound(BoundIndex::Canonical, BoundTy { var }))?
+                .mk_ty(TyKind::Bound(BoundVarIndexKind::Canonical, BoundTy { var }))?
                 .into(),
             Sort::Region => {
-                let kind = RegionKind::ReBound(BoundIndex::Canonical, BoundRegion { var });
+                let kind = RegionKind::ReBound(BoundVarIndexKind::Canonical, BoundRegion { var });
                 cx.mk_region(kind)?.into()
             }
             Sort::Const => return Err(MISFIT),

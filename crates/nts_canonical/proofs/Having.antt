@@ -2,7 +2,7 @@
 use Rattle.std.proofs.Common.{◌≡◌, ◌<◌, ◌||◌, Bool, true, false, List, [], ◌∷◌, map, length, inl, inr, refl, ap, subst, sym, arith}
 use Rattle.std.specs.Prelude.{Some}
 use Rattle.nts_model.specs.declared.labels.Leaf.{Leaf}
-use Rattle.nts_model.specs.declared.labels.BoundIndex.TheVariants as index
+use Rattle.nts_model.specs.declared.labels.BoundVarIndexKind.TheVariants as index
 use Rattle.nts_model.specs.declared.labels.Label.{Label}
 use Rattle.nts_model.specs.declared.labels.Label.TheVariants as label
 use Rattle.nts_model.specs.Trees.{Tree, empty, more, node, any_label, is_canonical, kind_of, sort_of_leaf}
@@ -37,7 +37,7 @@ has_values-leaf stays u x h = elim (either (stays x)) [ inl e ↦ rw e (tt, tt) 
 
 has_values-node : (stays : Leaf → Bool) (u : List Leaf) (A : Type 0) (l : Label) (d : Tree) → is_canonical l ≡ false → (A → HasValues (map leaf_tree u) d) → IsReadAt stays u l A → HasValues (map leaf_tree u) (put (numbered_leaf stays u) l d)
 has_values-node stays u A (label.Leaf x) d n f h = has_values-leaf stays u x h
-has_values-node stays u A (label.Bound s (index.Level k) i) d n f h = (tt, f h)
+has_values-node stays u A (label.Bound s (index.Bound k) i) d n f h = (tt, f h)
 has_values-node stays u A (label.Bound s index.Canonical i) d n f h = absurd (let c : true ≡ false = n in cc)
 has_values-node stays u A (label.Ty x) d n f h = (tt, f h)
 has_values-node stays u A (label.Const x) d n f h = (tt, f h)

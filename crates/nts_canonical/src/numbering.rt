@@ -11,7 +11,7 @@ ghost use Rattle.nts_canonical.specs.Positions.{kind_of-numbered};
 
 use crate::collecting::stays;
 use indexmap::IndexSet;
-use nts_model::{BoundIndex, Label, Leaf, Sort, VariableKind};
+use nts_model::{BoundVarIndexKind, Label, Leaf, Sort, VariableKind};
 use nts_store::{NodeId, Nodes, Replacer, Step, replace};
 use nts_terms::Stored;
 use std::alloc::{AllocError, Global};
@@ -56,7 +56,7 @@ impl Replacer for Numberer<'_> {
             return Ok(Step::Done(t));
         }
         let position = number_of(self.leaves, leaf);
-        let label = Label::Bound(sort_of_leaf(leaf), BoundIndex::Canonical, position);
+        let label = Label::Bound(sort_of_leaf(leaf), BoundVarIndexKind::Canonical, position);
         Ok(Step::Done(nodes.make(label, &[])?))
     }
 }

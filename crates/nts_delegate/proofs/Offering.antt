@@ -4,7 +4,7 @@ use Rattle.std.specs.List.{filter}
 use Rattle.std.proofs.lemmas.List.{take_more}
 use Rattle.nts_model.specs.declared.labels.Sort.{Sort}
 use Rattle.nts_model.specs.declared.labels.Leaf.TheVariants as leaf
-use Rattle.nts_model.specs.declared.labels.BoundIndex.TheVariants as index
+use Rattle.nts_model.specs.declared.labels.BoundVarIndexKind.TheVariants as index
 use Rattle.nts_model.specs.declared.labels.ClauseHead.TheVariants as clause
 use Rattle.nts_model.specs.declared.labels.Label.{Label}
 use Rattle.nts_model.specs.declared.labels.Label.TheVariants as label
@@ -32,7 +32,7 @@ both_false false q h = (refl, h)
 -- a label that names no position
 no_name : (fresh : List Sort) (l : Label) → is_canonical l ≡ false → NamesAt fresh (position_of l) l
 no_name fresh (label.Leaf l) h = tt
-no_name fresh (label.Bound s (index.Level d) i) h = tt
+no_name fresh (label.Bound s (index.Bound d) i) h = tt
 no_name fresh (label.Bound s index.Canonical i) h = cc
 no_name fresh (label.Ty t) h = tt
 no_name fresh (label.Const k) h = tt

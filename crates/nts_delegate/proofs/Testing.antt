@@ -4,10 +4,10 @@ use Rattle.std.specs.Prelude.{IsTrue, IfOk, Result, Ok, Err}
 use Rattle.std.proofs.lemmas.List.{take_more}
 use Rattle.nts_model.specs.declared.labels.Sort.{Sort}
 use Rattle.nts_model.specs.Trees.{Tree, empty, more, node, any_label, IsClosed, of_sort}
-use Rattle.nts_store.specs.declared.facts.Facts.{Facts}
+use Rattle.nts_store.specs.declared.type_flags.TypeFlags.{TypeFlags}
 use Rattle.nts_store.specs.declared.nodes.NodeId.{NodeId}
 use Rattle.nts_terms.specs.declared.handles.Predicate.{Predicate}
-use Rattle.nts_store.specs.Facts.{facts_of, escaping}
+use Rattle.nts_store.specs.TypeFlags.{flags_of, escaping}
 use Rattle.nts_store.specs.Growth.{tree_at, IsIn}
 use Rattle.nts_terms.specs.Handles.{HoldsPredicate}
 use Rattle.nts_store.specs.Labels.{AllLabels}
@@ -46,14 +46,14 @@ fit_labels fresh (node l c) h k =
     ((h.0, w.0), fit_labels fresh c h.1 w.1)
 
 -- a term without escaping variables, by its labels
-pub term_fits : (ts : List Tree) (fresh : List Sort) (t : NodeId) (f : Facts) → IsIn ts t → f ≡ facts_of (tree_at ts t) → is_some f.escaping ≡ false → AllLabels (MayHave fresh) (tree_at ts t) ↔ IsClauseTerm ts fresh t
+pub term_fits : (ts : List Tree) (fresh : List Sort) (t : NodeId) (f : TypeFlags) → IsIn ts t → f ≡ flags_of (tree_at ts t) → is_some f.escaping ≡ false → AllLabels (MayHave fresh) (tree_at ts t) ↔ IsClauseTerm ts fresh t
 term_fits ts fresh t f w e h = (
   (λ l. let x = labels_fit fresh (tree_at ts t) l in
       record { within = w; names = x.0; own = x.1; closed = none_escapes (tree_at ts t) f.escaping (ap (λ g. g.escaping) e) h }),
   λ c. fit_labels fresh (tree_at ts t) c.names c.own,
 )
 
-pub term_escapes : (ts : List Tree) (fresh : List Sort) (t : NodeId) (f : Facts) → f ≡ facts_of (tree_at ts t) → is_some f.escaping ≡ true → IsClauseTerm ts fresh t → ⊥
+pub term_escapes : (ts : List Tree) (fresh : List Sort) (t : NodeId) (f : TypeFlags) → f ≡ flags_of (tree_at ts t) → is_some f.escaping ≡ true → IsClauseTerm ts fresh t → ⊥
 term_escapes ts fresh t f e h c =
     let some : IsTrue (is_some (escaping (tree_at ts t))) = rw (ap (λ g. g.escaping) e) at h in
     (escapes (tree_at ts t)).0 some c.closed

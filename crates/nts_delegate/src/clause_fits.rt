@@ -8,7 +8,7 @@ ghost use Rattle.nts_model.specs.Handlers.{IsOfSort, NamesAt};
 ghost use Rattle.nts_delegate.specs.Clauses.{MayHave, is_foreign, is_foreign_leaf, IsClauseTerm, IsClause};
 
 use crate::clauses::{Clause, Clauses};
-use nts_model::{BoundIndex, FreeRegion, Label, Leaf, PredicateHead, Sort};
+use nts_model::{BoundVarIndexKind, FreeRegion, Label, Leaf, PredicateHead, Sort};
 use nts_store::{Fault, LabelTest, NodeId, all_labels};
 use nts_terms::{Cx, GenericArgs, Predicate};
 use std::alloc::AllocError;
@@ -70,7 +70,7 @@ fn is_clause_term(cx: &Cx, fresh: &[Sort], t: NodeId) -> Result<bool, AllocError
     requires { IsIn cx.now.nodes t }
     ensures { IfOk result (λ b. IsTrue b ↔ IsClauseTerm cx.now.nodes fresh.now t) }
 {
-    if cx.nodes.facts(t).escaping.is_some() {
+    if cx.nodes.flags(t).escaping.is_some() {
         return Ok(false);
     }
     all_labels(cx.alloc, &cx.nodes, t, &ClauseLabels { fresh })
@@ -80,8 +80,10 @@ fn names_fresh(fresh: &[Sort], label: Label) -> bool
     ensures { IsTrue result ↔ NamesAt fresh.now (position_of label) label }
 {
     match label {
-        Label::Bound(sort, BoundIndex::Canonical, position) => is_sort_at(fresh, position, sort),
-        Label::Bound(_, BoundIndex::Level(_), _) => true,
+        Label::Bound(sort, BoundVarIndexKind::Canonical, position) => is_sort_at(
+            fresh, position, sort,
+        ),
+        Label::Bound(_, BoundVarIndexKind::Bound(_), _) => true,
         Label::Leaf(_) => true,
         Label::Ty(_) => true,
         Label::Const(_) => true,

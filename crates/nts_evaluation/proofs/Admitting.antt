@@ -4,9 +4,9 @@ use Rattle.std.specs.Prelude.{IsTrue}
 use Rattle.nts_model.specs.declared.labels.Label.{Label}
 use Rattle.nts_model.specs.Trees.{Tree, empty, more, node, any_label}
 use Rattle.nts_model.specs.Resolving.{Knows}
-use Rattle.nts_store.specs.declared.facts.Facts.{Facts}
+use Rattle.nts_store.specs.declared.type_flags.TypeFlags.{TypeFlags}
 use Rattle.nts_store.specs.declared.nodes.NodeId.{NodeId}
-use Rattle.nts_store.specs.Facts.{facts_of, escaping}
+use Rattle.nts_store.specs.TypeFlags.{flags_of, escaping}
 use Rattle.nts_store.specs.Growth.{tree_at}
 use Rattle.nts_store.specs.Labels.{AllLabels}
 use Rattle.nts_store.proofs.Escaping.{escapes}
@@ -34,7 +34,7 @@ pub no_label : (p : Label → Bool) (t : Tree) → AllLabels (λ l. p l ≡ fals
 no_label p t = (none_of p t, each_fails p t)
 
 -- a term whose variables are looked at, where nothing else stands in the way
-pub root_term : (ts : List Tree) (u : Table) (t : NodeId) (f : Facts) → f ≡ facts_of (tree_at ts t) → is_some f.escaping ≡ false → f.has_canonical ≡ false → Knows (content_of ts u.entries) (tree_at ts t) ↔ IsRootTerm ts u t
+pub root_term : (ts : List Tree) (u : Table) (t : NodeId) (f : TypeFlags) → f ≡ flags_of (tree_at ts t) → is_some f.escaping ≡ false → f.has_canonical ≡ false → Knows (content_of ts u.entries) (tree_at ts t) ↔ IsRootTerm ts u t
 root_term ts u t f e h k = (
   (λ n. record {
     closed = none_escapes (tree_at ts t) f.escaping (ap (λ g. g.escaping) e) h;
@@ -44,12 +44,12 @@ root_term ts u t f e h k = (
   λ r. r.knows,
 )
 
-pub root_escapes : (ts : List Tree) (u : Table) (t : NodeId) (f : Facts) → f ≡ facts_of (tree_at ts t) → is_some f.escaping ≡ true → IsRootTerm ts u t → ⊥
+pub root_escapes : (ts : List Tree) (u : Table) (t : NodeId) (f : TypeFlags) → f ≡ flags_of (tree_at ts t) → is_some f.escaping ≡ true → IsRootTerm ts u t → ⊥
 root_escapes ts u t f e h c =
     let some : IsTrue (is_some (escaping (tree_at ts t))) = rw (ap (λ g. g.escaping) e) at h in
     (escapes (tree_at ts t)).0 some c.closed
 
-pub root_named : (ts : List Tree) (u : Table) (t : NodeId) (f : Facts) → f ≡ facts_of (tree_at ts t) → f.has_canonical ≡ true → IsRootTerm ts u t → ⊥
+pub root_named : (ts : List Tree) (u : Table) (t : NodeId) (f : TypeFlags) → f ≡ flags_of (tree_at ts t) → f.has_canonical ≡ true → IsRootTerm ts u t → ⊥
 root_named ts u t f e h c =
     let both : false ≡ true = sym c.positions ∙ sym (ap (λ g. g.has_canonical) e) ∙ h in
     cc

@@ -5,14 +5,14 @@ use Rattle.nts_model.specs.declared.labels.ListHead.TheVariants as list
 use Rattle.nts_model.specs.declared.labels.Label.TheVariants as label
 use Rattle.nts_model.specs.Trees.{Tree, empty, more, node, children, row_length, IsRow, any_label, is_canonical, IsClosed}
 use Rattle.nts_model.specs.Related.{no_sorts, unbound}
-use Rattle.nts_store.specs.declared.facts.Facts.{Facts}
+use Rattle.nts_store.specs.declared.type_flags.TypeFlags.{TypeFlags}
 use Rattle.nts_terms.specs.declared.handles.Binder.{Binder}
 use Rattle.nts_terms.specs.declared.handles.Goal.{Goal}
 use Rattle.nts_terms.specs.declared.handles.TraitRef.{TraitRef}
 use Rattle.nts_terms.specs.declared.kinds.ClauseKind.TheVariants as clause
 use Rattle.nts_terms.specs.declared.kinds.PredicateKind.{PredicateKind}
 use Rattle.nts_terms.specs.declared.kinds.PredicateKind.TheVariants as predicate
-use Rattle.nts_store.specs.Facts.{facts_of}
+use Rattle.nts_store.specs.TypeFlags.{flags_of}
 use Rattle.nts_store.specs.Formed.{AreFormed}
 use Rattle.nts_store.specs.Growth.{tree_at, Extends}
 use Rattle.nts_terms.specs.Kinds.{tree_of_statement, tree_of_predicate, PredicateFits}
@@ -36,7 +36,7 @@ row_of_none (more a b) r e = absurd (omega (arith, e))
 row_of_none (node l c) r e = absurd r
 
 -- what the tests of a goal see
-pub record AreTests (ts : List Tree) (g : Goal) (b : Binder PredicateKind) (r : TraitRef) (env goal args : Facts) : Type 0 where
+pub record AreTests (ts : List Tree) (g : Goal) (b : Binder PredicateKind) (r : TraitRef) (env goal args : TypeFlags) : Type 0 where
   pub formed : AreFormed ts
   pub holds : HoldsGoal ts g
   pub says : tree_at ts g.predicate.node ≡ tree_of_predicate ts b
@@ -44,15 +44,15 @@ pub record AreTests (ts : List Tree) (g : Goal) (b : Binder PredicateKind) (r : 
   pub row : IsRow (children (tree_at ts b.vars.node))
   pub none : row_length (children (tree_at ts b.vars.node)) ≡ 0
   pub is_trait : b.value ≡ predicate.Clause (clause.Trait r)
-  pub env_facts : env ≡ facts_of (tree_at ts g.param_env.node)
-  pub goal_facts : goal ≡ facts_of (tree_at ts g.predicate.node)
-  pub args_facts : args ≡ facts_of (tree_at ts r.args.node)
+  pub env_facts : env ≡ flags_of (tree_at ts g.param_env.node)
+  pub goal_facts : goal ≡ flags_of (tree_at ts g.predicate.node)
+  pub args_facts : args ≡ flags_of (tree_at ts r.args.node)
   pub env_closed : is_some env.escaping ≡ false
   pub args_closed : is_some args.escaping ≡ false
   pub env_names : env.has_canonical ≡ false
   pub goal_names : goal.has_canonical ≡ false
 
-pub trait_asked : (ts : List Tree) (g : Goal) (b : Binder PredicateKind) (r : TraitRef) (env goal args : Facts) → AreTests ts g b r env goal args → IsAsked ts g
+pub trait_asked : (ts : List Tree) (g : Goal) (b : Binder PredicateKind) (r : TraitRef) (env goal args : TypeFlags) → AreTests ts g b r env goal args → IsAsked ts g
 trait_asked ts g b r env goal args t =
     let statement = node (label.Clause (clause_head.Trait r.def_id.number)) (more (tree_at ts r.args.node) empty) in
     let binder : tree_at ts b.vars.node ≡ no_sorts = vars_tree (tree_at ts b.vars.node) t.fits.0.fits ∙ ap (node (label.List list.Sorts)) (row_of_none (children (tree_at ts b.vars.node)) t.row t.none) in

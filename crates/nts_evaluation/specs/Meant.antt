@@ -2,6 +2,7 @@
 use Rattle.std.specs.Prelude.{◌≡◌, ℕ, List, map, Result, IfOk}
 use Rattle.nts_model.specs.declared.labels.Variance.{Variance}
 use Rattle.nts_model.specs.Trees.{Tree}
+use Rattle.nts_model.specs.Sequents.{Among}
 use Rattle.nts_model.specs.Rules.{Mode, Meaning}
 use Rattle.nts_model.specs.Handlers.{Candidate, Handler, meaning}
 use Rattle.nts_certainty.specs.declared.certainty.Certainty.TheVariants as certainty
@@ -12,10 +13,13 @@ use Rattle.nts_store.specs.Formed.{AreFormed}
 use Rattle.nts_store.specs.Growth.{tree_at, Extends}
 use Rattle.nts_table.specs.Tables.{Table}
 use Rattle.nts_unify.specs.Reading.{content_of}
+use Rattle.nts_terms.specs.declared.modes.TypingMode.{TypingMode}
+use Rattle.nts_terms.specs.Modes.{mode_of}
+use Rattle.nts_delegate.specs.declared.delegate.CandidateData.{CandidateData}
 use Rattle.nts_delegate.specs.declared.delegate.CandidateGoal.{CandidateGoal}
 use Rattle.nts_evaluation.specs.declared.evaluate.Answer.{Answer}
-use Rattle.nts_delegate.specs.Offered.{premise_of}
-use Rattle.nts_evaluation.specs.Running.{Stays, PremiseHolds}
+use Rattle.nts_delegate.specs.Offered.{premise_of, candidate_of, candidates_of}
+use Rattle.nts_evaluation.specs.Running.{Stays, PremiseHolds, IsProved}
 
 -- a store from which the present one has grown, and in which the handler's terms stood; and any declared variances
 pub record Since (ready : List Tree → Type 0) (now : List Tree) : Type 0 where
@@ -41,3 +45,14 @@ IfYes r P = IfOk r (λ a. a.certainty ≡ certainty.Yes → P)
 abbrev pub IsPremiseProved : Meaning → Mode → List Tree → List Tree → Table → List NodeId → CandidateGoal → Type 0
 IsPremiseProved m mode a b t vs h =
     Stays (content_of b t.entries) (PremiseHolds m mode (map (tree_at a) vs) (premise_of a h))
+
+-- candidates, the terms of which are of the store, are what the handler offers for a goal; a candidate is among them
+abbrev pub AreOffered : Handler → TypingMode → List Tree → Goal → List CandidateData → Type 0
+AreOffered h mode ts g cs = candidates_of ts cs ≡ offers_of h (mode_of mode) ts g
+
+abbrev pub IsOffered : Handler → TypingMode → List Tree → Goal → CandidateData → Type 0
+IsOffered h mode ts g c = Among (offers_of h (mode_of mode) ts g) (candidate_of ts c)
+
+-- a goal is proved by what the handler means since then, in a table of that mode, now and later
+abbrev pub IsProvedSince : {ready : List Tree → Type 0} {now : List Tree} → (List Tree → Handler) → Since ready now → TypingMode → List Tree → Table → Goal → Type 0
+IsProvedSince handler s mode ts t g = IsProved (meaning_since handler s) (mode_of mode) ts t g

@@ -8,7 +8,7 @@ use Rattle.nts_model.specs.Related.{Constraint}
 use Rattle.nts_model.specs.Sequents.{Premise}
 use Rattle.nts_model.specs.Rules.{Mode, Equation, Meaning}
 use Rattle.nts_model.specs.Proving as proving
-use Rattle.nts_model.specs.Proving.{HoldsTerms, AreConstraintsOf, HoldsEquationAt, IsHeldAt, IsProvedAt}
+use Rattle.nts_model.specs.Proving.{HoldsTerms, AreConstraintsOf, HoldsEquationAt, IsHeldAt, IsProvedAt, HasHeldProof}
 use Rattle.nts_store.specs.declared.nodes.NodeId.{NodeId}
 use Rattle.nts_terms.specs.declared.handles.Goal.{Goal}
 use Rattle.nts_store.specs.Growth.{tree_at}
@@ -58,3 +58,8 @@ Proves m mode a b t vs hs = EachStays (content_of b t.entries) (PremiseHolds m m
 abbrev pub IsProved : Meaning → Mode → List Tree → Table → Goal → Type 0
 IsProved m mode ts t g =
     Stays (content_of ts t.entries) (λ d. proving.IsProved m mode d (tree_at ts g.param_env.node) (tree_at ts g.predicate.node))
+
+-- a goal has a held proof under a table
+abbrev pub HasHeldProofIn : Meaning → Mode → List Tree → Table → Goal → Type 0
+HasHeldProofIn m mode ts t g =
+    HasHeldProof m mode (content_of ts t.entries) (tree_at ts g.param_env.node) (tree_at ts g.predicate.node)

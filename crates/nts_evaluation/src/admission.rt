@@ -49,11 +49,11 @@ pub fn is_root_term(table: &InferCtxt, cx: &Cx, t: NodeId) -> Result<bool, Alloc
     requires { IsIn cx.now.nodes t }
     ensures { IfOk result (λ b. IsTrue b ↔ IsRootTerm cx.now.nodes table.now t) }
 {
-    let facts = cx.nodes.facts(t);
-    if facts.escaping.is_some() {
+    let flags = cx.nodes.flags(t);
+    if flags.escaping.is_some() {
         return Ok(false);
     }
-    if facts.has_canonical {
+    if flags.has_canonical {
         return Ok(false);
     }
     table.knows_node(cx.alloc, &cx.nodes, t)

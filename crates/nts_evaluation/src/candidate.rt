@@ -36,8 +36,8 @@ fn has_no_variable(cx: &Cx, t: NodeId) -> bool
     requires { IsIn cx.now.nodes t }
     ensures { result ≡ true → IsResolved true (tree_at cx.now.nodes t) }
 {
-    let facts = cx.nodes.facts(t);
-    !facts.has_infer && !facts.has_region_infer
+    let flags = cx.nodes.flags(t);
+    !flags.has_infer && !flags.has_region_infer
 }
 
 /// What a candidate is tried with.
@@ -64,7 +64,7 @@ impl Trial<'_> {
     {
         terms_are_formed(cx);
         // Most terms name no position, and need no walk.
-        if !cx.nodes.facts(t).has_canonical {
+        if !cx.nodes.flags(t).has_canonical {
             return Ok(t);
         }
         let alloc = cx.alloc;

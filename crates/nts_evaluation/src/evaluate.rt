@@ -1,15 +1,12 @@
 //! The recursion over nested goals. Its functions stand on the stack once for each goal above, so what
 //! they call and is not of the recursion is kept out of their frames, by `inline(never)`.
-ghost use Rattle.std.specs.Prelude.{true, false, ◌≡◌, ◌≢◌, ◌<◌, ◌≤◌, ◌/◌, ◌-◌, IfOk, OnOk, OnErr, IfSome, IsNone, ◌↔◌, length, get_or};
-ghost use Rattle.nts_model.specs.Sequents.{Among};
+ghost use Rattle.std.specs.Prelude.{true, false, ◌≡◌, ◌≢◌, ◌<◌, ◌≤◌, ◌/◌, ◌-◌, IfOk, OnErr, IfSome, IsNone, ◌↔◌, length, get_or};
 ghost use Rattle.nts_store.specs.Growth.{Extends};
 ghost use Rattle.nts_terms.specs.Rest.{KeepsRest};
 ghost use Rattle.nts_delegate.specs.Candidates.{IsAsked, IsCandidate, AreCandidates, IsNested};
 ghost use Rattle.nts_terms.specs.Handles.{HoldsGoal};
-ghost use Rattle.nts_delegate.specs.Offered.{candidate_of, candidates_of};
 ghost use Rattle.nts_terms.specs.Modes.{mode_of};
-ghost use Rattle.nts_evaluation.specs.Running.{IsProved};
-ghost use Rattle.nts_evaluation.specs.Meant.{Since, meaning_since, offers_of, IfYes, IsPremiseProved};
+ghost use Rattle.nts_evaluation.specs.Meant.{Since, meaning_since, IfYes, IsPremiseProved, AreOffered, IsOffered, IsProvedSince};
 ghost use Rattle.nts_evaluation.specs.Evaluation.{Runs, IsPosed, AreValues};
 ghost use Rattle.nts_evaluation.specs.Choices.{IsWithin};
 ghost use Rattle.nts_certainty.specs.declared.certainty.Certainty.TheVariants as certainty;
@@ -61,9 +58,8 @@ pub fn evaluate_goal<H: GoalHandler>(
     ensures runs { Runs cx.old cx.new table.old table.new }
     ensures maybe { IfOk result (λ a. a.certainty ≢ certainty.Yes → table.new ≡ table.old) }
     ensures err { OnErr result (table.new ≡ table.old) }
-    ensures proved { (s : Since (λ ts. H.ready ts handler.now) cx.old.nodes) →
-        IfYes result (IsProved (meaning_since (λ ts. H.handler ts handler.now) s)
-        (mode_of table.old.mode) cx.new.nodes table.new goal) }
+    ensures proved { (s : Since (λ ts. H.ready ts handler.now) cx.old.nodes) → IfYes result
+        (IsProvedSince (λ ts. H.handler ts handler.now) s table.old.mode cx.new.nodes table.new goal) }
     ensures full { result ≢ Err EvalError.Full }
 {
     let snapshot = table.start_snapshot()?;
@@ -95,9 +91,8 @@ fn compute_goal<H: GoalHandler>(
     requires posed { IsPosed cx.old.nodes table.old goal }
     requires ready { H.ready cx.old.nodes handler.now }
     ensures runs { Runs cx.old cx.new table.old table.new }
-    ensures proved { (s : Since (λ ts. H.ready ts handler.now) cx.old.nodes) →
-        IfYes result (IsProved (meaning_since (λ ts. H.handler ts handler.now) s)
-        (mode_of table.old.mode) cx.new.nodes table.new goal) }
+    ensures proved { (s : Since (λ ts. H.ready ts handler.now) cx.old.nodes) → IfYes result
+        (IsProvedSince (λ ts. H.handler ts handler.now) s table.old.mode cx.new.nodes table.new goal) }
     ensures full { result ≢ Err EvalError.Full }
 {
     if !is_candidates_goal(cx, goal) {
@@ -117,9 +112,9 @@ fn is_candidates_goal(cx: &Cx, goal: Goal) -> bool
     requires { HoldsGoal cx.now.nodes goal }
     ensures { result ≡ true → IsAsked cx.now.nodes goal }
 {
-    let env = cx.nodes.facts(goal.param_env.node);
-    let facts = cx.nodes.facts(goal.predicate.node);
-    if env.has_canonical || facts.has_canonical || facts.has_alias || env.has_alias {
+    let env = cx.nodes.flags(goal.param_env.node);
+    let flags = cx.nodes.flags(goal.predicate.node);
+    if env.has_canonical || flags.has_canonical || flags.has_alias || env.has_alias {
         return false;
     }
     let predicate = goal.predicate.kind(cx);
@@ -133,7 +128,7 @@ fn is_candidates_goal(cx: &Cx, goal: Goal) -> bool
         return false;
     };
     terms_are_formed(cx);
-    let args = cx.nodes.facts(trait_ref.args.node);
+    let args = cx.nodes.flags(trait_ref.args.node);
     args.escaping.is_none()
 }
 
@@ -153,10 +148,9 @@ fn evaluate_candidates<H: GoalHandler>(
     requires ready { H.ready cx.old.nodes handler.now }
     requires candidates { AreCandidates cx.old.nodes goal candidates.items }
     ensures runs { Runs cx.old cx.new table.old table.new }
-    ensures proved { (s : Since (λ ts. H.ready ts handler.now) cx.old.nodes) →
-        candidates_of cx.old.nodes candidates.items ≡ offers_of (H.handler s.base handler.now)
-        (mode_of table.old.mode) cx.old.nodes goal → IfYes result (IsProved (meaning_since
-        (λ ts. H.handler ts handler.now) s) (mode_of table.old.mode) cx.new.nodes table.new goal) }
+    ensures proved { (s : Since (λ ts. H.ready ts handler.now) cx.old.nodes) → AreOffered
+        (H.handler s.base handler.now) table.old.mode cx.old.nodes goal candidates.items → IfYes result
+        (IsProvedSince (λ ts. H.handler ts handler.now) s table.old.mode cx.new.nodes table.new goal) }
     ensures full { result ≢ Err EvalError.Full }
 {
     match choose(table, cx, goal, &candidates)? {
@@ -234,10 +228,9 @@ fn run_candidate<H: GoalHandler>(
     requires ready { H.ready cx.old.nodes handler.now }
     requires candidate { IsCandidate cx.old.nodes goal candidate.now }
     ensures runs { Runs cx.old cx.new table.old table.new }
-    ensures proved { (s : Since (λ ts. H.ready ts handler.now) cx.old.nodes) →
-        Among (offers_of (H.handler s.base handler.now) (mode_of table.old.mode) cx.old.nodes goal)
-        (candidate_of cx.old.nodes candidate.now) → IfYes result (IsProved (meaning_since
-        (λ ts. H.handler ts handler.now) s) (mode_of table.old.mode) cx.new.nodes table.new goal) }
+    ensures proved { (s : Since (λ ts. H.ready ts handler.now) cx.old.nodes) → IsOffered
+        (H.handler s.base handler.now) table.old.mode cx.old.nodes goal candidate.now → IfYes result
+        (IsProvedSince (λ ts. H.handler ts handler.now) s table.old.mode cx.new.nodes table.new goal) }
     ensures full { result ≢ Err EvalError.Full }
 {
     let values = equate(table, cx, goal, candidate)?;

@@ -1,17 +1,15 @@
 //! The evaluation of goals.
-ghost use Rattle.std.specs.Prelude.{ℕ, ◌≡◌, ◌≢◌, ◌↔◌, List, IsTrue, None, IfOk, OnOk, OnErr, IsOkUnless};
+ghost use Rattle.std.specs.Prelude.{ℕ, ◌≡◌, ◌≢◌, ◌↔◌, List, IsTrue, None, IfOk, OnErr, IsOkUnless};
 ghost use Rattle.nts_model.specs.declared.labels.Variance.{Variance};
 ghost use Rattle.nts_model.specs.Handlers.{meaning};
-ghost use Rattle.nts_model.specs.Proving.{HasHeldProof};
-ghost use Rattle.nts_store.specs.Growth.{tree_at, Extends};
+ghost use Rattle.nts_store.specs.Growth.{Extends};
 ghost use Rattle.nts_terms.specs.Rest.{KeepsRest};
-ghost use Rattle.nts_unify.specs.Reading.{content_of};
 ghost use Rattle.nts_table.specs.Tables.{IsTable};
 ghost use Rattle.nts_terms.specs.Modes.{mode_of};
-ghost use Rattle.nts_evaluation.specs.Running.{IsProved};
+ghost use Rattle.nts_evaluation.specs.Running.{HasHeldProofIn};
 ghost use Rattle.nts_terms.specs.Handles.{HoldsGoal};
 ghost use Rattle.nts_evaluation.specs.Evaluation.{Runs, IsAdmitted, IsPosed};
-ghost use Rattle.nts_evaluation.specs.Meant.{Since, meaning_since};
+ghost use Rattle.nts_evaluation.specs.Meant.{Since, IsProvedSince};
 ghost use Rattle.nts_certainty.specs.declared.certainty.Certainty.TheVariants as certainty;
 
 use crate::admission::{is_asked, is_root_term, is_settled_env};
@@ -80,9 +78,8 @@ pub fn evaluate_root_goal<H: GoalHandler>(
     ensures stalled { IfOk result (λ e. e.stalled_on ≡ None) }
     ensures err { OnErr result (table.new ≡ table.old) }
     ensures proved { IfOk result (λ e. e.certainty ≡ certainty.Yes → (v : ℕ → List Variance) →
-        HasHeldProof (meaning (H.handler cx.old.nodes handler.now) v) (mode_of table.old.mode)
-        (content_of cx.new.nodes table.new.entries) (tree_at cx.new.nodes goal.param_env.node)
-        (tree_at cx.new.nodes goal.predicate.node)) }
+        HasHeldProofIn (meaning (H.handler cx.old.nodes handler.now) v) (mode_of table.old.mode)
+        cx.new.nodes table.new goal) }
     ensures full { result ≢ Err EvalError.Full }
 {
     let _ = (span, stalled_on);
@@ -117,9 +114,8 @@ fn evaluate_root<H: GoalHandler>(
     ensures runs { Runs cx.old cx.new table.old table.new }
     ensures stalled { IfOk result (λ e. e.stalled_on ≡ None) }
     ensures proved { (s : Since (λ ts. H.ready ts handler.now) cx.old.nodes) →
-        IfOk result (λ e. e.certainty ≡ certainty.Yes →
-        IsProved (meaning_since (λ ts. H.handler ts handler.now) s)
-        (mode_of table.old.mode) cx.new.nodes table.new goal) }
+        IfOk result (λ e. e.certainty ≡ certainty.Yes → IsProvedSince
+        (λ ts. H.handler ts handler.now) s table.old.mode cx.new.nodes table.new goal) }
     ensures full { result ≢ Err EvalError.Full }
 {
     let asked = resolve_goal(table, cx, goal)?;

@@ -2,7 +2,7 @@
 use Rattle.std.proofs.Common.{◌≡◌, Bool, true, false, cond, List, map, inl, inr, refl, sym, ap, ◌∙◌}
 use Rattle.std.specs.Prelude.{◌||◌}
 use Rattle.nts_model.specs.declared.labels.Leaf.{Leaf}
-use Rattle.nts_model.specs.declared.labels.BoundIndex.TheVariants as index
+use Rattle.nts_model.specs.declared.labels.BoundVarIndexKind.TheVariants as index
 use Rattle.nts_model.specs.declared.labels.Label.{Label}
 use Rattle.nts_model.specs.declared.labels.Label.TheVariants as label
 use Rattle.nts_model.specs.Trees.{Tree, empty, more, node, any_label, is_canonical, IsFormed, sort_of_leaf}
@@ -96,7 +96,7 @@ rest_none a b e = (or_false (any_label is_canonical a) (any_label is_canonical b
 
 filled-put : (vs : List Tree) (g : Leaf → Tree) (l : Label) (c : Tree) → is_canonical l ≡ false → filled vs (put g l c) ≡ put (λ x. filled vs (g x)) l (filled vs c)
 filled-put vs g (label.Leaf x) c e = refl
-filled-put vs g (label.Bound s (index.Level d) n) c e = refl
+filled-put vs g (label.Bound s (index.Bound d) n) c e = refl
 filled-put vs g (label.Bound s index.Canonical n) c e = absurd (let f : true ≡ false = e in cc)
 filled-put vs g (label.Ty x) c e = refl
 filled-put vs g (label.Const x) c e = refl

@@ -6,7 +6,7 @@ use Rattle.nts_model.specs.declared.labels.VariableKind.TheVariants as kind
 use Rattle.nts_model.specs.declared.labels.FreeRegion.{FreeRegion}
 use Rattle.nts_model.specs.declared.labels.FreeRegion.TheVariants as region
 use Rattle.nts_model.specs.declared.labels.Leaf.TheVariants as leaf
-use Rattle.nts_model.specs.declared.labels.BoundIndex.TheVariants as index
+use Rattle.nts_model.specs.declared.labels.BoundVarIndexKind.TheVariants as index
 use Rattle.nts_model.specs.declared.labels.ListHead.TheVariants as list
 use Rattle.nts_model.specs.declared.labels.Label.{Label}
 use Rattle.nts_model.specs.declared.labels.Label.TheVariants as label
@@ -86,7 +86,7 @@ region_label_name (label.Leaf (leaf.Variable kind.Const n)) e h k = cc
 region_label_name (label.Leaf (leaf.Region r)) e h k = (of_free r, refl)
 region_label_name (label.Leaf (leaf.TyConstant x)) e h k = cc
 region_label_name (label.Leaf (leaf.ConstConstant x)) e h k = cc
-region_label_name (label.Bound x (index.Level d) z) e h k = absurd (omega arith)
+region_label_name (label.Bound x (index.Bound d) z) e h k = absurd (omega arith)
 region_label_name (label.Bound x index.Canonical z) e h k = cc
 region_label_name (label.Ty y) e h k = cc
 region_label_name (label.Const y) e h k = cc

@@ -3,7 +3,7 @@ use Rattle.std.proofs.Common.{◌≡◌, ℕ, ◌+◌, ◌≤◌, true, List, []
 use Rattle.nts_model.specs.declared.labels.Sort.TheVariants as sort
 use Rattle.nts_model.specs.declared.labels.VariableKind.{VariableKind}
 use Rattle.nts_model.specs.declared.labels.VariableKind.TheVariants as kind
-use Rattle.nts_model.specs.declared.labels.BoundIndex.TheVariants as index
+use Rattle.nts_model.specs.declared.labels.BoundVarIndexKind.TheVariants as index
 use Rattle.nts_model.specs.declared.labels.Leaf.{Leaf}
 use Rattle.nts_model.specs.declared.labels.Leaf.TheVariants as leaf
 use Rattle.nts_model.specs.declared.labels.Label.{Label}
@@ -121,7 +121,7 @@ IsFormed-replace f k q (node l c) h = IsFormed-put f q l (replace f c) (Meets-re
 
 -- closed trees for leaves
 bound_below_more : (a b : ℕ) (l : Label) → a ≤ b → IsBoundBelow a l → IsBoundBelow b l
-bound_below_more a b (label.Bound s (index.Level d) n) h k = omega (arith, h, k)
+bound_below_more a b (label.Bound s (index.Bound d) n) h k = omega (arith, h, k)
 bound_below_more a b (label.Bound s index.Canonical n) h k = tt
 bound_below_more a b (label.Leaf x) h k = tt
 bound_below_more a b (label.Ty x) h k = tt

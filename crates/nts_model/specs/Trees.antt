@@ -10,7 +10,7 @@ use Rattle.nts_model.specs.declared.labels.Constant.{Constant}
 use Rattle.nts_model.specs.declared.labels.Constant.TheVariants as constant
 use Rattle.nts_model.specs.declared.labels.Leaf.{Leaf}
 use Rattle.nts_model.specs.declared.labels.Leaf.TheVariants as leaf
-use Rattle.nts_model.specs.declared.labels.BoundIndex.TheVariants as index
+use Rattle.nts_model.specs.declared.labels.BoundVarIndexKind.TheVariants as index
 use Rattle.nts_model.specs.declared.labels.TyHead.TheVariants as ty
 use Rattle.nts_model.specs.declared.labels.ConstHead.TheVariants as konst
 use Rattle.nts_model.specs.declared.labels.ClauseHead.TheVariants as clause
@@ -123,7 +123,7 @@ binders l = 0
 
 -- no bound variable passes c binders around the tree
 abbrev pub IsBoundBelow : ℕ → Label → Type 0
-IsBoundBelow c (label.Bound s (index.Level d) n) = d < c
+IsBoundBelow c (label.Bound s (index.Bound d) n) = d < c
 IsBoundBelow c l = Unit {0}
 
 abbrev pub IsClosedUnder : ℕ → Tree → Type 0

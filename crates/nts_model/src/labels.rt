@@ -29,7 +29,7 @@ pub enum Relation {
 
 /// Whether an alias is equal to a term, or a subtype of it.
 #[derive(Clone, Copy, PartialEq, Eq, Hash)]
-pub enum Direction {
+pub enum AliasRelationDirection {
     Equate,
     Subtype,
 }
@@ -103,11 +103,13 @@ pub enum Leaf {
     ConstConstant(Constant),
 }
 
-/// How a bound variable is named: by the number of binders between it and its own, or by its
-/// position in a canonical value.
+/// How many binders lie between a bound variable and its own binder.
+pub type DebruijnIndex = usize;
+
+/// How a bound variable is named: by its binder, or by its position in a canonical value.
 #[derive(Clone, Copy, PartialEq, Eq, Hash)]
-pub enum BoundIndex {
-    Level(usize),
+pub enum BoundVarIndexKind {
+    Bound(DebruijnIndex),
     Canonical,
 }
 
@@ -154,7 +156,7 @@ pub enum PredicateHead {
     DynCompatible(usize),
     ConstEquate,
     NormalizesTo(usize),
-    AliasRelate(Direction),
+    AliasRelate(AliasRelationDirection),
     Ambiguous,
 }
 
@@ -172,7 +174,7 @@ pub enum ListHead {
 #[derive(Clone, Copy, PartialEq, Eq, Hash)]
 pub enum Label {
     Leaf(Leaf),
-    Bound(Sort, BoundIndex, usize),
+    Bound(Sort, BoundVarIndexKind, usize),
     Ty(TyHead),
     Const(ConstHead),
     Clause(ClauseHead),

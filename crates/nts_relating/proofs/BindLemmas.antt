@@ -35,7 +35,7 @@ use Rattle.nts_unify.specs.Entries.{Entries, bound}
 use Rattle.nts_unify.specs.Reading.{state_with, slot_of, content_of, IsLawful}
 use Rattle.nts_unify.specs.Changing.{unset_count, unset_of, one_unset, IsLater}
 use Rattle.nts_unify.specs.Joining.{IsBindable}
-use Rattle.nts_relating.specs.Relating.{IsOpen, IsSet, Generalised, CanTake, AreMadeOne}
+use Rattle.nts_relating.specs.Relating.{IsOpen, IsSet, Generalized, CanTake, AreMadeOne}
 use Rattle.nts_unify.specs.Joining.{TakesVariable}
 use Rattle.nts_unify.specs.Lawful.{IsLawful-extended, content_of-extended}
 use Rattle.nts_unify.proofs.Changes.{slot_at, length-slots, content_of-bound, LeadsDown, leads_down, IsLawful-bound}
@@ -53,7 +53,7 @@ pub record HasValue (ts us : List Tree) (e g : Entries) (x : ℕ) (t : Tree) : T
   pub lawful : IsLawful us g
   pub set : IsSet (content_of ts e) (content_of us g) x t
 
-pub bind_value : (ts us : List Tree) (e f g : Entries) (x : ℕ) (t v : NodeId) (w z : Variable) → IsLawful ts e → IsBindable e x → slice_get e.variables x ≡ Some w → Knows (content_of ts e) (tree_at ts t) → IsLawful us f → IsIn us v → IsFormed (tree_at us v) → Generalised (content_of ts e) (content_of us f) x w.universe 0 (tree_at ts t) (tree_at us v) → variable_rank (tree_at us v) < rank_of_kind w.kind → Fits w.kind (tree_at us v) → slice_get f.variables x ≡ Some z → g ≡ bound f x (record z { state = Known v }) → HasValue ts us e g x (tree_at ts t)
+pub bind_value : (ts us : List Tree) (e f g : Entries) (x : ℕ) (t v : NodeId) (w z : Variable) → IsLawful ts e → IsBindable e x → slice_get e.variables x ≡ Some w → Knows (content_of ts e) (tree_at ts t) → IsLawful us f → IsIn us v → IsFormed (tree_at us v) → Generalized (content_of ts e) (content_of us f) x w.universe 0 (tree_at ts t) (tree_at us v) → variable_rank (tree_at us v) < rank_of_kind w.kind → Fits w.kind (tree_at us v) → slice_get f.variables x ≡ Some z → g ≡ bound f x (record z { state = Known v }) → HasValue ts us e g x (tree_at ts t)
 bind_value ts us e f g x t v w z before_lawful can_bind at knows_term h within formed gen lower fit now q =
     let c = content_of ts e in
     let d = content_of us f in
@@ -176,7 +176,7 @@ can_take e x y v w a b p q h =
     record { first = a; second = b; takes = rw (first, second) at h }
 
 -- a type variable got another variable as its value
-pub taken : (ts us vs : List Tree) (e f g : Entries) (x y : ℕ) (k : VariableKind) (t v : NodeId) (w z u : Variable) → IsLawful ts e → Extends ts us → CanTake e x y → slice_get e.variables x ≡ Some w → slice_get e.variables y ≡ Some u → k ≡ u.kind → tree_at us t ≡ variable_tree k y → IsLawful vs f → IsIn vs v → IsFormed (tree_at vs v) → Generalised (content_of us e) (content_of vs f) x w.universe 0 (tree_at us t) (tree_at vs v) → slice_get f.variables x ≡ Some z → g ≡ bound f x (record z { state = Known v }) → IsLawful vs g × AreMadeOne (content_of ts e) (content_of vs g) x y
+pub taken : (ts us vs : List Tree) (e f g : Entries) (x y : ℕ) (k : VariableKind) (t v : NodeId) (w z u : Variable) → IsLawful ts e → Extends ts us → CanTake e x y → slice_get e.variables x ≡ Some w → slice_get e.variables y ≡ Some u → k ≡ u.kind → tree_at us t ≡ variable_tree k y → IsLawful vs f → IsIn vs v → IsFormed (tree_at vs v) → Generalized (content_of us e) (content_of vs f) x w.universe 0 (tree_at us t) (tree_at vs v) → slice_get f.variables x ≡ Some z → g ≡ bound f x (record z { state = Known v }) → IsLawful vs g × AreMadeOne (content_of ts e) (content_of vs g) x y
 taken ts us vs e f g x y k t v w z u lawful ext can at_x at_y same is h within formed gen now q =
     let wk = kind_read e x can.first.of_kind w can.first.free at_x in
     let uk = kind_read e y can.second.of_kind u can.second.free at_y in

@@ -26,7 +26,7 @@ use Rattle.nts_model.proofs.Resolved.{resolved-variable_unset, resolved-variable
 use Rattle.nts_model.proofs.Sound.{resolved-with_slot, state_of-with_slot_old, state_of-with_slot_new, IsSound-with_slot}
 use Rattle.nts_unify.specs.Changing.{unset_count, unset_of, one_unset, IsLater}
 use Rattle.nts_unify.specs.Joining.{IsOneClass, IsJoined}
-use Rattle.nts_relating.specs.Relating.{IsLike, IsUnset, RegionsRelate, Generalised}
+use Rattle.nts_relating.specs.Relating.{IsLike, IsUnset, RegionsRelate, Generalized}
 use Rattle.nts_unify.proofs.Keeping.{IsLater-trans, Keeps-trans, unset-push, unset_of-infer}
 use Rattle.nts_relating.proofs.Ranks.{zero_le, infer_ranked, region_unfit}
 use Rattle.nts_relating.proofs.GenLemmas.{RegionNode, lacks_other, resolved-region_node}
@@ -98,7 +98,7 @@ slot_added c v s sides free =
     }
 
 -- the new variable is made one with an old one
-pub gen_fresh : (c d e : Content) (x u b y low high : ℕ) (v : Slot) (t : Tree) → IsSound c → Knows c t → IsUnset c y v.kind → v.state ≡ unset → v.universe ≡ u → x < length c.slots → IsInfer t → variable_rank (variable_tree v.kind y) ≤ variable_rank t → IsLike (variable_tree v.kind y) t → (y ≡ x → ⊥) → resolved c t ≡ resolved c (variable_tree v.kind y) → ((w : World) → Solves c w → inst w t ≡ w.tree y) → IsAdded c d v → low ≡ min y (length c.slots) → high ≡ max y (length c.slots) → IsJoined d e low high → IsOneClass d e low high → IsSound e → Generalised c e x u b t (variable_tree v.kind (length c.slots))
+pub gen_fresh : (c d e : Content) (x u b y low high : ℕ) (v : Slot) (t : Tree) → IsSound c → Knows c t → IsUnset c y v.kind → v.state ≡ unset → v.universe ≡ u → x < length c.slots → IsInfer t → variable_rank (variable_tree v.kind y) ≤ variable_rank t → IsLike (variable_tree v.kind y) t → (y ≡ x → ⊥) → resolved c t ≡ resolved c (variable_tree v.kind y) → ((w : World) → Solves c w → inst w t ≡ w.tree y) → IsAdded c d v → low ≡ min y (length c.slots) → high ≡ max y (length c.slots) → IsJoined d e low high → IsOneClass d e low high → IsSound e → Generalized c e x u b t (variable_tree v.kind (length c.slots))
 gen_fresh c d e x u b y low high v t s knows h free of_u within i rank like apart same worlds a is_low is_high j one_class after =
     let fresh = length c.slots in
     let below : y < length c.slots = field_below (λ z. z.kind) c y v.kind h.has in
@@ -188,7 +188,7 @@ IsRegion-value (node l (node m a)) h = let e = h.1 in cc
 IsRegion-value (node l empty) h = record { fits = h; closed = (region_below l h.0 h.1, tt); formed = (region_shape l h.0 h.1, tt) }
 
 -- a fresh region variable, made equal to the region
-pub gen_fresh_region : (c d e : Content) (x u b : ℕ) (v : Slot) (t : Tree) (l : Label) → IsSound c → v.kind ≡ kind.Region → x < length c.slots → RegionNode t l → kind_of t ≡ Some (of_sort sort.Region) → IsRegion t → Knows c t → v.universe ≡ u → IsAdded c d v → RegionsRelate d e (variable_tree kind.Region (length c.slots)) t → universe_of e x ≡ universe_of d x → CanName u (universe_of e (length c.slots)) → Generalised c e x u b t (variable_tree kind.Region (length c.slots))
+pub gen_fresh_region : (c d e : Content) (x u b : ℕ) (v : Slot) (t : Tree) (l : Label) → IsSound c → v.kind ≡ kind.Region → x < length c.slots → RegionNode t l → kind_of t ≡ Some (of_sort sort.Region) → IsRegion t → Knows c t → v.universe ≡ u → IsAdded c d v → RegionsRelate d e (variable_tree kind.Region (length c.slots)) t → universe_of e x ≡ universe_of d x → CanName u (universe_of e (length c.slots)) → Generalized c e x u b t (variable_tree kind.Region (length c.slots))
 gen_fresh_region c d e x u b v t l s region within r sorted is_region known of_u a related own named =
     let k = related.keeps in
     let fresh = length c.slots in

@@ -35,7 +35,7 @@ use Rattle.nts_store.proofs.Growing.{IsRow-trees_at, trees_at-push, trees_at-ext
 use Rattle.nts_unify.specs.Entries.{Entries}
 use Rattle.nts_unify.specs.Reading.{content_of}
 use Rattle.nts_unify.specs.Changing.{IsLater, is_free_region}
-use Rattle.nts_relating.specs.Relating.{IsLike, IsUnset, Generalised}
+use Rattle.nts_relating.specs.Relating.{IsLike, IsUnset, Generalized}
 use Rattle.nts_relating.proofs.RegionLemmas.{IsRegionVariable, regions-one}
 use Rattle.nts_unify.proofs.Keeping.{Knows-later, Keeps-refl, Keeps-trans}
 use Rattle.nts_unify.proofs.Changes.{length-slots}
@@ -231,7 +231,7 @@ unchanged c w z = record { world = w; agrees = Agrees-refl (length c.slots) w; s
 pub named_for : {c d : Content} {w : World} {P Q : (Label → Option ℕ) → Type 0} → ((f : Label → Option ℕ) → Q f → P f) → ExtensionIf c d w P → ExtensionIf c d w Q
 named_for h e = record { world = e.world; agrees = e.agrees; solves = e.solves; names = λ f k n. e.names f k (h f n) }
 
-pub gen_settled : (c : Content) (x u b : ℕ) (t : Tree) → IsSound c → Knows c t → any_label is_infer t ≡ false → any_label is_region_infer t ≡ false → any_label is_placeholder t ≡ false → IsClosedUnder b t → Generalised c c x u b t t
+pub gen_settled : (c : Content) (x u b : ℕ) (t : Tree) → IsSound c → Knows c t → any_label is_infer t ≡ false → any_label is_region_infer t ≡ false → any_label is_placeholder t ≡ false → IsClosedUnder b t → Generalized c c x u b t t
 gen_settled c x u b t s k e f g h =
     let names = settled_names c u t e f g in
     record {
@@ -252,7 +252,7 @@ gen_settled c x u b t s k e f g h =
     }
 
 -- a free region that stays
-pub gen_region : (c : Content) (x u b : ℕ) (t : Tree) (l : Label) → IsSound c → Knows c t → RegionNode t l → variable_of l ≡ None → is_free_region l ≡ true → CanName u (region_level l) → Generalised c c x u b t t
+pub gen_region : (c : Content) (x u b : ℕ) (t : Tree) (l : Label) → IsSound c → Knows c t → RegionNode t l → variable_of l ≡ None → is_free_region l ≡ true → CanName u (region_level l) → Generalized c c x u b t t
 gen_region c x u b t l s k r v f n =
     record {
       keeps = Keeps-refl c;
@@ -293,7 +293,7 @@ gen_region c x u b t l s k r v f n =
     free_below (label.List h) e = cc
 
 -- the root of a region variable
-pub gen_region_root : (c : Content) (x u b n r : ℕ) (t : Tree) → IsSound c → IsRegionVariable c t n r → kind_at c r ≡ Some kind.Region → CanName u (universe_of c r) → Generalised c c x u b t (variable_tree kind.Region r)
+pub gen_region_root : (c : Content) (x u b n r : ℕ) (t : Tree) → IsSound c → IsRegionVariable c t n r → kind_at c r ≡ Some kind.Region → CanName u (universe_of c r) → Generalized c c x u b t (variable_tree kind.Region r)
 gen_region_root c x u b n r t s v has named =
     let root : RegionNode (variable_tree kind.Region r) (label.Leaf (leaf.Variable kind.Region r)) = record { is = refl; no_infer = refl } in
     let again : root_of c r ≡ root_of c n = ap (root_of c) (sym v.root) ∙ root_of-root_of c n s.descends in
@@ -319,7 +319,7 @@ pub lacks_other : (k : VariableKind) (y x : ℕ) → k ≢ kind.Region → (y �
 lacks_other k y x n d = let f : (y == x) ≡ false = grind arith in rw (infer_number_some k y n) f
 
 -- a variable without value that stays
-pub gen_named : (c : Content) (x u b y : ℕ) (k : VariableKind) (t : Tree) → IsSound c → IsUnset c y k → IsInfer t → variable_rank (variable_tree k y) ≤ variable_rank t → IsLike (variable_tree k y) t → (y ≡ x → ⊥) → CanName u (universe_of c y) → resolved c t ≡ resolved c (variable_tree k y) → ((w : World) → Solves c w → inst w t ≡ w.tree y) → Generalised c c x u b t (variable_tree k y)
+pub gen_named : (c : Content) (x u b y : ℕ) (k : VariableKind) (t : Tree) → IsSound c → IsUnset c y k → IsInfer t → variable_rank (variable_tree k y) ≤ variable_rank t → IsLike (variable_tree k y) t → (y ≡ x → ⊥) → CanName u (universe_of c y) → resolved c t ≡ resolved c (variable_tree k y) → ((w : World) → Solves c w → inst w t ≡ w.tree y) → Generalized c c x u b t (variable_tree k y)
 gen_named c x u b y k t s h i rank like d named same worlds =
     record {
       keeps = Keeps-refl c;
@@ -360,7 +360,7 @@ IsRow-push empty t h = tt
 IsRow-push (more a b) t h = IsRow-push b t h
 IsRow-push (node l c) t h = absurd h
 
-pub gen_start : (c : Content) (x u b : ℕ) (row : Tree) → IsSound c → Generalised c c x u b (row_take 0 row) empty
+pub gen_start : (c : Content) (x u b : ℕ) (row : Tree) → IsSound c → Generalized c c x u b (row_take 0 row) empty
 gen_start c x u b row s =
     record {
       keeps = Keeps-refl c;
@@ -437,7 +437,7 @@ pub record IsFair (c : Content) : Type 0 where
   pub sides : KnowsAll c c.constraints
 
 -- one more child
-pub gen_push : (us vs : List Tree) (c d e : Content) (x u b i : ℕ) (row a : Tree) (rs qs : List NodeId) (r : NodeId) → IsSound c → IsFair d → IsSound e → Knows c row → Generalised c d x u b (row_take i row) (trees_at us rs) → Extends us vs → AllIn us rs → i < row_length row → a ≡ row_at row i → Generalised d e x u b a (tree_at vs r) → qs ≡ rs ++ r ∷ [] → Generalised c e x u b (row_take (i + 1) row) (trees_at vs qs)
+pub gen_push : (us vs : List Tree) (c d e : Content) (x u b i : ℕ) (row a : Tree) (rs qs : List NodeId) (r : NodeId) → IsSound c → IsFair d → IsSound e → Knows c row → Generalized c d x u b (row_take i row) (trees_at us rs) → Extends us vs → AllIn us rs → i < row_length row → a ≡ row_at row i → Generalized d e x u b a (tree_at vs r) → qs ≡ rs ++ r ∷ [] → Generalized c e x u b (row_take (i + 1) row) (trees_at vs qs)
 gen_push us vs c d e x u b i row a rs qs r sc fd se known g ext all lt ea h eq =
     let is : trees_at vs qs ≡ row_push (trees_at us rs) (tree_at vs r) = ap (trees_at vs) eq ∙ trees_at-push vs rs r ∙ ap (λ z. row_push z (tree_at vs r)) (trees_at-extended ext rs all) in
     let row' : row_take (i + 1) row ≡ row_push (row_take i row) a = row_take-more i row lt ∙ ap (row_push (row_take i row)) (sym ea) in
@@ -483,7 +483,7 @@ gen_push us vs c d e x u b i row a rs qs r sc fd se known g ext all lt ea h eq =
     })
 
 -- the node is made
-pub gen_node : (c d : Content) (x u b i : ℕ) (t row : Tree) (l : Label) → Knows c t → t ≡ node l (children t) → variable_of l ≡ None → is_free_region l ≡ false → CanName u (term_level l) → IsBoundBelow b l → IsRow (children t) → i ≡ row_length (children t) → Generalised c d x u (b + binders l) (row_take i (children t)) row → Generalised c d x u b t (node l row)
+pub gen_node : (c d : Content) (x u b i : ℕ) (t row : Tree) (l : Label) → Knows c t → t ≡ node l (children t) → variable_of l ≡ None → is_free_region l ≡ false → CanName u (term_level l) → IsBoundBelow b l → IsRow (children t) → i ≡ row_length (children t) → Generalized c d x u (b + binders l) (row_take i (children t)) row → Generalized c d x u b t (node l row)
 gen_node c d x u b i t row l known is alone not_free names below r n g =
     let none : infer_of l ≡ None = infer_of_none l alone in
     let whole : row_take i (children t) ≡ children t = rw n (row_take-all (children t) r) in
@@ -529,7 +529,7 @@ gen_node c d x u b i t row l known is alone not_free names below r n g =
     lacks_node n m y e h = rw e h
 
 -- from the value of a variable to the variable
-pub gen_known : (c d : Content) (x u b : ℕ) (t v r : Tree) (k : NodeKind) → IsInfer t → kind_of v ≡ Some k → kind_of t ≡ Some k → Knows c t → Knows c v → resolved c t ≡ resolved c v → ((w : World) → Solves c w → inst w t ≡ inst w v) → Generalised c d x u 0 v r → variable_rank v < variable_rank t → Generalised c d x u b t r
+pub gen_known : (c d : Content) (x u b : ℕ) (t v r : Tree) (k : NodeKind) → IsInfer t → kind_of v ≡ Some k → kind_of t ≡ Some k → Knows c t → Knows c v → resolved c t ≡ resolved c v → ((w : World) → Solves c w → inst w t ≡ inst w v) → Generalized c d x u 0 v r → variable_rank v < variable_rank t → Generalized c d x u b t r
 gen_known c d x u b t v r k i sv st kt kv same worlds g lower =
     let one : AreOne d t v = AreOne-continues c d t v g.continues kt kv (ap (rooted c) same) in
     record {
@@ -555,7 +555,7 @@ pub record GenChild (c d : Content) (t a : Tree) (i : ℕ) : Type 0 where
   pub knows : Knows d a
   pub is : a ≡ row_at (children t) i
 
-pub gen_child : (c d : Content) (x u b i : ℕ) (t a row : Tree) (l : Label) → Knows c t → t ≡ node l (children t) → infer_of l ≡ None → i < row_length (children t) → Generalised c d x u b (row_take i (children t)) row → a ≡ row_at (children t) i → GenChild c d t a i
+pub gen_child : (c d : Content) (x u b i : ℕ) (t a row : Tree) (l : Label) → Knows c t → t ≡ node l (children t) → infer_of l ≡ None → i < row_length (children t) → Generalized c d x u b (row_take i (children t)) row → a ≡ row_at (children t) i → GenChild c d t a i
 gen_child c d x u b i t a row l k is none less g q =
     let step = node_step c t l (ap label_of is) none k in
     let known : Knows c a = rw q (step.knows i) in

@@ -19,8 +19,8 @@ use Rattle.nts_model.specs.Worlds.{KnowsAll}
 use Rattle.nts_model.proofs.Alike.{AreAlike-turned}
 use Rattle.nts_model.proofs.Slots.{slice_get-push_old, slice_get-push_new, slice_get_below, field_below}
 use Rattle.nts_store.specs.declared.nodes.NodeId.{NodeId}
-use Rattle.nts_store.specs.declared.facts.Facts.{Facts}
-use Rattle.nts_store.specs.Facts.{facts_of, escaping}
+use Rattle.nts_store.specs.declared.type_flags.TypeFlags.{TypeFlags}
+use Rattle.nts_store.specs.TypeFlags.{flags_of, escaping}
 use Rattle.nts_store.proofs.Escaping.{IsBelow, closed_under}
 use Rattle.nts_store.specs.Growth.{tree_at, IsIn, Extends}
 use Rattle.nts_store.proofs.Growing.{IsIn-extended}
@@ -32,7 +32,7 @@ use Rattle.nts_unify.specs.Roots.{IsRoot}
 use Rattle.nts_unify.specs.Changing.{region_variable, is_free_region}
 use Rattle.nts_unify.specs.Unchanged.{HasUnset}
 use Rattle.nts_unify.specs.Joining.{CanJoin, CanJoinRegions, Joins, RegionsJoin}
-use Rattle.nts_relating.specs.Relating.{IsLike, IsUnset, IsOpen, IsRegionOf, RegionsRelate, IsSettled, StaysBelow, Generalised}
+use Rattle.nts_relating.specs.Relating.{IsLike, IsUnset, IsOpen, IsRegionOf, RegionsRelate, IsSettled, StaysBelow, Generalized}
 use Rattle.nts_unify.specs.Lawful.{IsNew, content_of-added, content_of-extended, IsLawful-added, IsLawful-extended}
 use Rattle.nts_unify.proofs.Changes.{length-slots}
 use Rattle.nts_unify.proofs.Leading.{universe_of-entry}
@@ -55,7 +55,7 @@ unset_in : (ts : List Tree) (e : Entries) (y : ℕ) (k : VariableKind) → k ≢
 unset_in ts e y k n h = let f = free_slot ts e y k h in record { has = f.kind; no_region = n; state = f.state }
 
 -- a variable that stays
-pub named_value : (ts us : List Tree) (e : Entries) (x u b y : ℕ) (t r : Tree) (w : Variable) → IsLawful ts e → IsOpen ts e t y → (y ≡ x → ⊥) → slice_get e.variables y ≡ Some w → w.universe ≤ u → Extends ts us → r ≡ variable_tree w.kind y → Generalised (content_of ts e) (content_of us e) x u b t r
+pub named_value : (ts us : List Tree) (e : Entries) (x u b y : ℕ) (t r : Tree) (w : Variable) → IsLawful ts e → IsOpen ts e t y → (y ≡ x → ⊥) → slice_get e.variables y ≡ Some w → w.universe ≤ u → Extends ts us → r ≡ variable_tree w.kind y → Generalized (content_of ts e) (content_of us e) x u b t r
 named_value ts us e x u b y t r w h o d at low ext q =
     let k = o.bindable.of_kind in
     let same = kind_read e y k w o.bindable.free at in
@@ -116,7 +116,7 @@ added_in ts e m v h new em =
     rw is (slot_added (content_of ts e) (slot_of ts v) h.sound (lawful_sides ts e h) (ap (state_with ts) new.state))
 
 -- a fresh variable, made one with the old one
-pub fresh_value : (ts us : List Tree) (e m f : Entries) (x u b y number : ℕ) (t r : Tree) (v w : Variable) → IsLawful ts e → Knows (content_of ts e) t → x < length e.variables → v.universe ≡ u → IsOpen ts e t y → (y ≡ x → ⊥) → slice_get e.variables y ≡ Some w → v.kind ≡ w.kind → IsNew v → m ≡ added e v → number ≡ length e.variables → Joins ts m f y number → Extends ts us → r ≡ variable_tree w.kind number → Generalised (content_of ts e) (content_of us f) x u b t r
+pub fresh_value : (ts us : List Tree) (e m f : Entries) (x u b y number : ℕ) (t r : Tree) (v w : Variable) → IsLawful ts e → Knows (content_of ts e) t → x < length e.variables → v.universe ≡ u → IsOpen ts e t y → (y ≡ x → ⊥) → slice_get e.variables y ≡ Some w → v.kind ≡ w.kind → IsNew v → m ≡ added e v → number ≡ length e.variables → Joins ts m f y number → Extends ts us → r ≡ variable_tree w.kind number → Generalized (content_of ts e) (content_of us f) x u b t r
 fresh_value ts us e m f x u b y number t r v w h knows within of_u o d at vk new em en j ext q =
     let k = o.bindable.of_kind in
     let same = kind_read e y k w o.bindable.free at in
@@ -153,7 +153,7 @@ pub region_free : (t : Tree) (l : Label) → t ≡ node l (children t) → IsReg
 region_free t l is h = (let k : IsRegion (node l (children t)) = subst (λ (x : Tree). IsRegion x) is h in free_label l k.0 (region_label l (children t) k.0 k.1).0)
 
 -- a region that stays
-pub region_value : (ts : List Tree) (e : Entries) (x u b : ℕ) (t : NodeId) (l : Label) → IsLawful ts e → IsRegionOf ts e t → tree_at ts t ≡ node l (children (tree_at ts t)) → Meets (shape l) (children (tree_at ts t)) → region_variable l ≡ None → CanName u (region_level l) → Generalised (content_of ts e) (content_of ts e) x u b (tree_at ts t) (tree_at ts t)
+pub region_value : (ts : List Tree) (e : Entries) (x u b : ℕ) (t : NodeId) (l : Label) → IsLawful ts e → IsRegionOf ts e t → tree_at ts t ≡ node l (children (tree_at ts t)) → Meets (shape l) (children (tree_at ts t)) → region_variable l ≡ None → CanName u (region_level l) → Generalized (content_of ts e) (content_of ts e) x u b (tree_at ts t) (tree_at ts t)
 region_value ts e x u b t l lawful h is m none named =
     let free = region_free (tree_at ts t) l is h.free in
     gen_region (content_of ts e) x u b (tree_at ts t) l lawful.sound h.knows (region_node (tree_at ts t) l is m h.sort) (no_variable l none free) free named
@@ -175,7 +175,7 @@ region_value ts e x u b t l lawful h is m none named =
     no_variable (label.List q) e f = refl
 
 -- the root of a region variable
-pub root_value : (ts us : List Tree) (e : Entries) (x u b n r : ℕ) (t s : Tree) (l : Label) (w : Variable) → IsLawful ts e → Knows (content_of ts e) t → t ≡ node l (children t) → Meets (shape l) (children t) → region_variable l ≡ Some n → IsRoot e n r → slice_get e.variables r ≡ Some w → w.universe ≤ u → Extends ts us → s ≡ variable_tree kind.Region r → Generalised (content_of ts e) (content_of us e) x u b t s
+pub root_value : (ts us : List Tree) (e : Entries) (x u b n r : ℕ) (t s : Tree) (l : Label) (w : Variable) → IsLawful ts e → Knows (content_of ts e) t → t ≡ node l (children t) → Meets (shape l) (children t) → region_variable l ≡ Some n → IsRoot e n r → slice_get e.variables r ≡ Some w → w.universe ≤ u → Extends ts us → s ≡ variable_tree kind.Region r → Generalized (content_of ts e) (content_of us e) x u b t s
 root_value ts us e x u b n r t s l w h k is m i root at low ext q =
     let f = free_slot ts e r kind.Region (region_root ts e t l n r h k is i root) in
     rw (q, content_of-extended ext h)
@@ -198,7 +198,7 @@ is_fresh ts us e m u v t l a b c d f g h i j =
     record { lawful = a; extends = b; region = c; is = d; meets = f; new = g; of_kind = h; of_universe = i; added = j }
 
 -- where the two are made equal
-fresh_region_value : (ts us : List Tree) (e m f : Entries) (x u b : ℕ) (t : NodeId) (r : Tree) (l : Label) (v : Variable) → IsFresh ts us e m u v t l → x < length e.variables → RegionsRelate (content_of us m) (content_of us f) (variable_tree kind.Region (length e.variables)) (tree_at us t) → universe_of (content_of us f) x ≡ universe_of (content_of us m) x → universe_of (content_of us f) (length e.variables) ≡ universe_of (content_of us m) (length e.variables) → r ≡ variable_tree kind.Region (length e.variables) → Generalised (content_of ts e) (content_of us f) x u b (tree_at ts t) r
+fresh_region_value : (ts us : List Tree) (e m f : Entries) (x u b : ℕ) (t : NodeId) (r : Tree) (l : Label) (v : Variable) → IsFresh ts us e m u v t l → x < length e.variables → RegionsRelate (content_of us m) (content_of us f) (variable_tree kind.Region (length e.variables)) (tree_at us t) → universe_of (content_of us f) x ≡ universe_of (content_of us m) x → universe_of (content_of us f) (length e.variables) ≡ universe_of (content_of us m) (length e.variables) → r ≡ variable_tree kind.Region (length e.variables) → Generalized (content_of ts e) (content_of us f) x u b (tree_at ts t) r
 fresh_region_value ts us e m f x u b t r l v h within related own level q =
     let same = content_of-extended h.extends h.lawful in
     let later = IsLawful-extended h.extends h.lawful in
@@ -248,7 +248,7 @@ region_constraint ts us e m t r v h ext region new vk em within is =
     }
 
 -- .. by a constraint
-pub fresh_recorded : (ts us : List Tree) (e m f : Entries) (x u b : ℕ) (t r : NodeId) (l : Label) (v : Variable) → IsFresh ts us e m u v t l → x < length e.variables → IsLawful us m → IsIn us r → tree_at us r ≡ variable_tree kind.Region (length e.variables) → f ≡ constrained m (record { relation = relation.Equal; left = r; right = t; is_visible = true }) → Generalised (content_of ts e) (content_of us f) x u b (tree_at ts t) (tree_at us r)
+pub fresh_recorded : (ts us : List Tree) (e m f : Entries) (x u b : ℕ) (t r : NodeId) (l : Label) (v : Variable) → IsFresh ts us e m u v t l → x < length e.variables → IsLawful us m → IsIn us r → tree_at us r ≡ variable_tree kind.Region (length e.variables) → f ≡ constrained m (record { relation = relation.Equal; left = r; right = t; is_visible = true }) → Generalized (content_of ts e) (content_of us f) x u b (tree_at ts t) (tree_at us r)
 fresh_recorded ts us e m f x u b t r l v h within lawful inside is q =
     let is_constraint = region_constraint ts us e m t r v h.lawful h.extends h.region h.new h.of_kind h.added inside is in
     let left : IsRegionOf us m r = record { within = inside; knows = is_constraint.left_known; sort = is_constraint.left_sort; free = rw is (of_variable (length e.variables), refl) } in
@@ -259,7 +259,7 @@ fresh_recorded ts us e m f x u b t r l v h within lawful inside is q =
     fresh_region_value ts us e m f x u b t (tree_at us r) l v h within (rw is at related) (same x) (same (length e.variables)) is
 
 -- .. by joining the variables
-pub fresh_joined : (ts us : List Tree) (e m f : Entries) (x u b n root : ℕ) (t r : NodeId) (l : Label) (v : Variable) → IsFresh ts us e m u v t l → x < length e.variables → kind_at (content_of ts e) x ≢ Some kind.Region → region_variable l ≡ Some n → IsRoot e n root → IsLawful us m → tree_at us r ≡ variable_tree kind.Region (length e.variables) → RegionsJoin us m f root (length e.variables) → Generalised (content_of ts e) (content_of us f) x u b (tree_at ts t) (tree_at us r)
+pub fresh_joined : (ts us : List Tree) (e m f : Entries) (x u b n root : ℕ) (t r : NodeId) (l : Label) (v : Variable) → IsFresh ts us e m u v t l → x < length e.variables → kind_at (content_of ts e) x ≢ Some kind.Region → region_variable l ≡ Some n → IsRoot e n root → IsLawful us m → tree_at us r ≡ variable_tree kind.Region (length e.variables) → RegionsJoin us m f root (length e.variables) → Generalized (content_of ts e) (content_of us f) x u b (tree_at ts t) (tree_at us r)
 fresh_joined ts us e m f x u b n root t r l v h within other i leads lawful is j =
     let same = content_of-extended h.extends h.lawful in
     let later = IsLawful-extended h.extends h.lawful in
@@ -285,12 +285,12 @@ fresh_joined ts us e m f x u b n root t r l v h within other i leads lawful is j
     fresh_region_value ts us e m f x u b t (tree_at us r) l v h within related (j.one.universes x apart) (j.one.universes fresh new_apart) is
 
 -- a term that stays: it has neither variables nor placeholders, and is closed
-pub settled_value : (c : Content) (x u b : ℕ) (t : Tree) (facts : Facts) → IsSound c → Knows c t → facts ≡ facts_of t → IsSettled facts b → Generalised c c x u b t t
-settled_value c x u b t facts s k e h =
-    let infer : any_label is_infer t ≡ false = sym (ap (λ (f : Facts). f.has_infer) e) ∙ h.no_infer in
-    let region : any_label is_region_infer t ≡ false = sym (ap (λ (f : Facts). f.has_region_infer) e) ∙ h.no_region_infer in
-    let placeholder : any_label is_placeholder t ≡ false = sym (ap (λ (f : Facts). f.has_placeholder) e) ∙ h.no_placeholder in
-    let stays : StaysBelow (escaping t) b = subst (λ (o : Option ℕ). StaysBelow o b) (ap (λ (f : Facts). f.escaping) e) h.escaping in
+pub settled_value : (c : Content) (x u b : ℕ) (t : Tree) (flags : TypeFlags) → IsSound c → Knows c t → flags ≡ flags_of t → IsSettled flags b → Generalized c c x u b t t
+settled_value c x u b t flags s k e h =
+    let infer : any_label is_infer t ≡ false = sym (ap (λ (f : TypeFlags). f.has_infer) e) ∙ h.no_infer in
+    let region : any_label is_region_infer t ≡ false = sym (ap (λ (f : TypeFlags). f.has_region_infer) e) ∙ h.no_region_infer in
+    let placeholder : any_label is_placeholder t ≡ false = sym (ap (λ (f : TypeFlags). f.has_placeholder) e) ∙ h.no_placeholder in
+    let stays : StaysBelow (escaping t) b = subst (λ (o : Option ℕ). StaysBelow o b) (ap (λ (f : TypeFlags). f.escaping) e) h.escaping in
     gen_settled c x u b t s k infer region placeholder ((closed_under b t).0 (below (escaping t) stays))
   where
     below : (o : Option ℕ) → StaysBelow o b → IsBelow b o

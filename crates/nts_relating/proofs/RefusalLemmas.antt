@@ -26,7 +26,7 @@ use Rattle.nts_model.specs.Fitting.{Fits}
 use Rattle.nts_unify.specs.Joining.{TakesVariable}
 use Rattle.nts_relating.proofs.Ranks.{region_unfit}
 use Rattle.nts_unify.specs.Changing.{is_free_region}
-use Rattle.nts_relating.specs.Relating.{IsClosed as IsClosedHead, Generalised, Blocks, Forbids, pair_at, pairs_at}
+use Rattle.nts_relating.specs.Relating.{IsClosed as IsClosedHead, Generalized, Blocks, Forbids, pair_at, pairs_at}
 use Rattle.nts_relating.proofs.HeadLemmas.{kind_of-variable}
 use Rattle.nts_relating.proofs.Naming.{region_free, alone_label}
 use Rattle.nts_relating.proofs.PairLemmas.{Equates-front, Knows-children, pairs_at-push, not_infer}
@@ -86,7 +86,7 @@ blocks_label c x u b t l is e h = record {
 }
 
 -- a child that is blocked after the older ones
-pub blocks_child : (c d : Content) (x u b i : ℕ) (t a row : Tree) (l : Label) → x < length c.slots → Knows c t → t ≡ node l (children t) → variable_of l ≡ None → i < row_length (children t) → a ≡ row_at (children t) i → Generalised c d x u (b + binders l) (row_take i (children t)) row → Blocks d x u (b + binders l) a → Blocks c x u b t
+pub blocks_child : (c d : Content) (x u b i : ℕ) (t a row : Tree) (l : Label) → x < length c.slots → Knows c t → t ≡ node l (children t) → variable_of l ≡ None → i < row_length (children t) → a ≡ row_at (children t) i → Generalized c d x u (b + binders l) (row_take i (children t)) row → Blocks d x u (b + binders l) a → Blocks c x u b t
 blocks_child c d x u b i t a row l within k is e less ea g h = record {
   none = λ w z names below.
       let r = children t in

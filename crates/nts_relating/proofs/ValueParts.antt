@@ -14,7 +14,7 @@ use Rattle.nts_model.proofs.Held.{Continues-refl, Continues-trans}
 use Rattle.nts_model.proofs.Alike.{AreAlike-continues}
 use Rattle.nts_model.proofs.Resolved.{Knows-row_at, flag_le}
 use Rattle.nts_relating.specs.Parts.{IsValueOf, IsMadeAgain, Grows, IsPartOf, inner}
-use Rattle.nts_relating.specs.Relating.{Generalised, Blocks}
+use Rattle.nts_relating.specs.Relating.{Generalized, Blocks}
 use Rattle.nts_unify.proofs.Keeping.{Knows-later, Keeps-refl, Keeps-trans}
 use Rattle.nts_relating.proofs.GenLemmas.{IsFair, unchanged, named_for}
 use Rattle.nts_relating.proofs.PairLemmas.{Knows-children}
@@ -120,7 +120,7 @@ blocks_before {c} {d} {x} {u} {n} {t} g within k h =
     }
 
 -- what stands for a part
-pub grows_by : {c d : Content} {x u n b : ℕ} {whole t r : Tree} → IsPartOf c u n whole b t → Generalised c d x u b t r → Grows c d x u whole
+pub grows_by : {c d : Content} {x u n b : ℕ} {whole t r : Tree} → IsPartOf c u n whole b t → Generalized c d x u b t r → Grows c d x u whole
 grows_by p g =
     record {
       keeps = g.keeps;
@@ -130,7 +130,7 @@ grows_by p g =
       complete = λ w z names. named_for (λ f n. p.names f w z n) (g.complete w z (p.names term_level w z names));
     }
 
-pub stands_now : {c d : Content} {x u b : ℕ} {t r : Tree} → IsSound d → Generalised c d x u b t r → Generalised d d x u b t r
+pub stands_now : {c d : Content} {x u b : ℕ} {t r : Tree} → IsSound d → Generalized c d x u b t r → Generalized d d x u b t r
 stands_now {c} {d} {x} {u} {b} {t} {r} s g =
     record {
       keeps = Keeps-refl d;
@@ -149,7 +149,7 @@ stands_now {c} {d} {x} {u} {b} {t} {r} s g =
       complete = λ w z q. unchanged d w z;
     }
 
-pub stands_later : {c d : Content} {x u b : ℕ} {whole t r : Tree} → IsFair c → IsSound d → Knows c t → Grows c d x u whole → Generalised c c x u b t r → Generalised d d x u b t r
+pub stands_later : {c d : Content} {x u b : ℕ} {whole t r : Tree} → IsFair c → IsSound d → Knows c t → Grows c d x u whole → Generalized c c x u b t r → Generalized d d x u b t r
 stands_later {c} {d} {x} {u} {b} {whole} {t} {r} fair s k h g =
     let old : resolved d r ≡ resolved c r = h.keeps.trees r g.knows in
     record {
@@ -169,7 +169,7 @@ stands_later {c} {d} {x} {u} {b} {whole} {t} {r} fair s k h g =
       complete = λ w z q. unchanged d w z;
     }
 
-pub stands_whole : {c d : Content} {x u b : ℕ} {t r : Tree} → Grows c d x u t → Generalised d d x u b t r → Generalised c d x u b t r
+pub stands_whole : {c d : Content} {x u b : ℕ} {t r : Tree} → Grows c d x u t → Generalized d d x u b t r → Generalized c d x u b t r
 stands_whole h g =
     record {
       keeps = h.keeps;

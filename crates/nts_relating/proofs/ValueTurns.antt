@@ -18,7 +18,7 @@ use Rattle.nts_relating.specs.declared.value_walk.Task.TheVariants as task
 use Rattle.nts_unify.specs.Entries.{Entries}
 use Rattle.nts_unify.specs.Reading.{content_of, IsLawful}
 use Rattle.nts_unify.specs.Lawful.{IsLawful-extended, content_of-extended}
-use Rattle.nts_relating.specs.Relating.{Generalised, Blocks}
+use Rattle.nts_relating.specs.Relating.{Generalized, Blocks}
 use Rattle.nts_relating.specs.Parts.{IsValueOf, IsMadeAgain, Grows, IsPart, part_of, IsTask, AreTasks, Has, IsCovered, AreReady, inner, IsMadeFor, IsWalk, weight, weights, IsTurn, IsEntered}
 use Rattle.nts_unify.proofs.Changes.{length-slots}
 use Rattle.nts_unify.proofs.Keeping.{Knows-later, no_region-later}
@@ -56,7 +56,7 @@ later_made {ts} {us} {c} {d} {x} {u} {whole} {p} {r} e fair s g h =
 
 -- the last task is done: a term stands for its part
 pub turn_done : (ts us : List Tree) (e f : Entries) (x u : ℕ) (root p : Part) (xs : List Task) (y : Task) (m n : Part → Option NodeId) (r : NodeId) → IsWalk ts e x u root (xs ++ y ∷ []) m → part_of y ≡ p → Extends ts us → IsLawful us f → IsIn us r
-    → Generalised (content_of ts e) (content_of us f) x u p.binders (tree_at ts p.term) (tree_at us r) → IsMore m n p r → IsTurn ts us e f x u root (xs ++ y ∷ []) xs n
+    → Generalized (content_of ts e) (content_of us f) x u p.binders (tree_at ts p.term) (tree_at us r) → IsMore m n p r → IsTurn ts us e f x u root (xs ++ y ∷ []) xs n
 turn_done ts us e f x u root p xs y m n r w is ext law made_in g more =
     let c = content_of ts e in
     let d = content_of us f in
@@ -161,7 +161,7 @@ turn_node_left ts us e f x u root p xs ys m w store table again h =
 
 -- a node was made over what stands for its children
 pub turn_built : (ts us : List Tree) (e : Entries) (x u i : ℕ) (root p : Part) (xs : List Task) (m n : Part → Option NodeId) (l : Label) (cs : List NodeId) (r : NodeId) → IsWalk ts e x u root (xs ++ task.Build p ∷ []) m → tree_at ts p.term ≡ node l (children (tree_at ts p.term)) → IsRow (children (tree_at ts p.term)) → i ≡ row_length (children (tree_at ts p.term))
-    → Generalised (content_of ts e) (content_of ts e) x u (inner p.binders (tree_at ts p.term)) (row_take i (children (tree_at ts p.term))) (trees_at ts cs) → Extends ts us → IsIn us r → tree_at us r ≡ node l (trees_at ts cs) → IsMore m n p r → IsTurn ts us e e x u root (xs ++ task.Build p ∷ []) xs n
+    → Generalized (content_of ts e) (content_of ts e) x u (inner p.binders (tree_at ts p.term)) (row_take i (children (tree_at ts p.term))) (trees_at ts cs) → Extends ts us → IsIn us r → tree_at us r ≡ node l (trees_at ts cs) → IsMore m n p r → IsTurn ts us e e x u root (xs ++ task.Build p ∷ []) xs n
 turn_built ts us e x u i root p xs m n l cs r w is row all g ext within tree more =
     let c = content_of ts e in
     let t = tree_at ts p.term in
@@ -169,9 +169,9 @@ turn_built ts us e x u i root p xs m n l cs r w is row all g ext within tree mor
     let again = front.1.1 in
     let one : again.label ≡ l = one_label again.label l (children t) (children t) (sym again.is ∙ is) in
     let under : inner p.binders t ≡ p.binders + binders again.label = ap (inner p.binders) again.is in
-    let row_stands : Generalised c c x u (p.binders + binders again.label) (row_take i (children t)) (trees_at ts cs) = subst (λ b. Generalised c c x u b (row_take i (children t)) (trees_at ts cs)) under g in
+    let row_stands : Generalized c c x u (p.binders + binders again.label) (row_take i (children t)) (trees_at ts cs) = subst (λ b. Generalized c c x u b (row_take i (children t)) (trees_at ts cs)) under g in
     let made : tree_at us r ≡ node again.label (trees_at ts cs) = tree ∙ ap (λ k. node k (trees_at ts cs)) (sym one) in
-    let stands : Generalised c c x u p.binders t (node again.label (trees_at ts cs)) = gen_node c c x u p.binders i t (trees_at ts cs) again.label front.1.0.part.knows again.is again.alone again.not_free again.named again.below row all row_stands in
+    let stands : Generalized c c x u p.binders t (node again.label (trees_at ts cs)) = gen_node c c x u p.binders i t (trees_at ts cs) again.label front.1.0.part.knows again.is again.alone again.not_free again.named again.below row all row_stands in
     let same : content_of us e ≡ c = content_of-extended ext w.lawful in
     turn_done ts us e e x u root p xs (task.Build p) m n r w refl ext (IsLawful-extended ext w.lawful) within (rw (made, same) stands) more
   where
@@ -221,7 +221,7 @@ walk_start ts e x u root ys m law known no_region within knows room none is =
 
 -- the whole loop
 pub walk_end : (ts us : List Tree) (e f : Entries) (x u : ℕ) (root : Part) (xs : List Task) (m : Part → Option NodeId) (r : NodeId) → Extends ts us → IsIn ts root.term → Grows (content_of ts e) (content_of us f) x u (tree_at ts root.term) → IsWalk us f x u root xs m → m root ≡ Some r
-    → Generalised (content_of ts e) (content_of us f) x u root.binders (tree_at ts root.term) (tree_at us r)
+    → Generalized (content_of ts e) (content_of us f) x u root.binders (tree_at ts root.term) (tree_at us r)
 walk_end ts us e f x u root xs m r ext within g w found =
     let old = w.made root r found in
     stands_whole g (rw (ext.kept root.term within) at old.stands)

@@ -22,7 +22,7 @@ use Rattle.nts_unify.specs.Entries.{Entries}
 use Rattle.nts_unify.specs.Reading.{content_of, IsLawful}
 use Rattle.nts_unify.specs.Changing.{Keeps, is_free_region}
 use Rattle.nts_relating.specs.Knowing.{row_from}
-use Rattle.nts_relating.specs.Relating.{Generalised}
+use Rattle.nts_relating.specs.Relating.{Generalized}
 
 -- a variable's value
 pub record IsValueOf (c : Content) (t v : Tree) : Type 0 where
@@ -47,7 +47,7 @@ pub record IsMadeAgain (u b : ℕ) (t : Tree) : Type 0 where
 
 -- what a look at a term finds
 abbrev pub IsLook : List Tree → List Tree → Entries → Entries → ℕ → ℕ → ℕ → NodeId → Look → Type 0
-IsLook ts us e f x u b t (look.Made r) = IsIn us r × Generalised (content_of ts e) (content_of us f) x u b (tree_at ts t) (tree_at us r)
+IsLook ts us e f x u b t (look.Made r) = IsIn us r × Generalized (content_of ts e) (content_of us f) x u b (tree_at ts t) (tree_at us r)
 IsLook ts us e f x u b t (look.Value v) = (us ≡ ts) × (f ≡ e) × IsIn ts v × IsValueOf (content_of ts e) (tree_at ts t) (tree_at ts v)
 IsLook ts us e f x u b t look.Node = (us ≡ ts) × (f ≡ e) × IsMadeAgain u b (tree_at ts t)
 
@@ -131,7 +131,7 @@ pub record IsMadeFor (ts : List Tree) (c : Content) (x u : ℕ) (p : Part) (r : 
   pub within : IsIn ts p.term
   pub made_in : IsIn ts r
   pub knows : Knows c (tree_at ts p.term)
-  pub stands : Generalised c c x u p.binders (tree_at ts p.term) (tree_at ts r)
+  pub stands : Generalized c c x u p.binders (tree_at ts p.term) (tree_at ts r)
 
 -- a walk under way: each task fits, what each stands on comes before it, and what was made stands for its part
 pub record IsWalk (ts : List Tree) (e : Entries) (x u : ℕ) (root : Part) (xs : List Task) (m : Part → Option NodeId) : Type 0 where

@@ -14,7 +14,7 @@ use Rattle.nts_model.specs.Regions.{IsRegion}
 use Rattle.nts_model.specs.Alike.{AreAlike}
 use Rattle.nts_model.specs.Equations.{ExtensionIf, Extension, Equates, AllAlike, Narrows, Reduces}
 use Rattle.nts_store.specs.declared.nodes.NodeId.{NodeId}
-use Rattle.nts_store.specs.declared.facts.Facts.{Facts}
+use Rattle.nts_store.specs.declared.type_flags.TypeFlags.{TypeFlags}
 use Rattle.nts_store.specs.Growth.{tree_at, IsIn}
 use Rattle.nts_relating.specs.declared.relate.Pair.{Pair}
 use Rattle.nts_relating.specs.declared.relate.Head.{Head}
@@ -38,14 +38,14 @@ abbrev pub StaysBelow : Option ℕ → ℕ → Type 0
 StaysBelow None n = Unit {0}
 StaysBelow (Some d) n = d < n
 
-pub record IsSettled (facts : Facts) (binders : ℕ) : Type 0 where
-  pub no_infer : facts.has_infer ≡ false
-  pub no_region_infer : facts.has_region_infer ≡ false
-  pub no_placeholder : facts.has_placeholder ≡ false
-  pub escaping : StaysBelow facts.escaping binders
+pub record IsSettled (flags : TypeFlags) (binders : ℕ) : Type 0 where
+  pub no_infer : flags.has_infer ≡ false
+  pub no_region_infer : flags.has_region_infer ≡ false
+  pub no_placeholder : flags.has_placeholder ≡ false
+  pub escaping : StaysBelow flags.escaping binders
 
 -- the tree r stands for t in the value of the variable x, which the universe u bounds, under b binders
-pub record Generalised (c d : Content) (x u b : ℕ) (t r : Tree) : Type 0 where
+pub record Generalized (c d : Content) (x u b : ℕ) (t r : Tree) : Type 0 where
   pub keeps : Keeps c d
   pub knows : Knows d r
   pub rank : variable_rank r ≤ variable_rank t

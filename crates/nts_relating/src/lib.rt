@@ -4,7 +4,7 @@
 //! (`value_walk`), with its occurs check and its universes.
 #![tactic(auto)]
 
-mod generalise;
+mod generalize;
 mod relate;
 mod value_walk;
 

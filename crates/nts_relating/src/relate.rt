@@ -11,8 +11,8 @@ ghost use Rattle.nts_unify.specs.Joining.{IsBindable};
 ghost use Rattle.nts_relating.specs.Relating.{IsHead, IsClosed, IsRegionOf, RegionsRelate, IsSet, Forbids, KeepsApart, AreMadeOne, VariablesRelate, CanTake, IsValid, IsStep, IsRun, IsMemo, Pushed, pairs_at};
 ghost use Rattle.nts_store.specs.declared.fault.EvalError.TheVariants.{NoSolution};
 
-use crate::generalise::{Target, name_variable};
-use crate::value_walk::generalise;
+use crate::generalize::{Target, name_variable};
+use crate::value_walk::generalize;
 use indexmap::IndexSet;
 use nts_model::{Label, Leaf, Relation};
 use nts_store::{EvalError, NodeId, Nodes};
@@ -196,7 +196,7 @@ fn bind(
         universe: variable.universe,
         binders: 0,
     };
-    match generalise(alloc, nodes, table, target, t) {
+    match generalize(alloc, nodes, table, target, t) {
         Err(error) => Err(error),
         Ok(value) => {
             let _ = nodes.len();

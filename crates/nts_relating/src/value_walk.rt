@@ -7,10 +7,10 @@ ghost use Rattle.nts_model.specs.Resolving.{Knows};
 ghost use Rattle.nts_store.specs.Growth.{tree_at, IsIn, Extends};
 ghost use Rattle.nts_relating.specs.declared.value_walk.Task.TheVariants as task;
 ghost use Rattle.nts_unify.specs.Reading.{content_of, IsLawful};
-ghost use Rattle.nts_relating.specs.Relating.{Generalised, Blocks};
+ghost use Rattle.nts_relating.specs.Relating.{Generalized, Blocks};
 ghost use Rattle.nts_relating.specs.Parts.{IsLook, IsEntered, IsWalk, IsTurn, Has, made_at, inner};
 
-use crate::generalise::{Target, is_allowed, is_settled, name_region, name_variable};
+use crate::generalize::{Target, is_allowed, is_settled, name_region, name_variable};
 use indexmap::IndexSet;
 use nts_store::{EvalError, NodeId, Nodes, binders_of};
 use nts_unify::{InferCtxtInner, State, infer_number, names_free_region};
@@ -89,7 +89,7 @@ fn look_at(
         let made = name_variable(nodes, table, moved, target, t, root)?;
         return Ok(Look::Made(made));
     }
-    if is_settled(nodes.facts(t), target.binders) {
+    if is_settled(nodes.flags(t), target.binders) {
         return Ok(Look::Made(t));
     }
     if names_free_region(label) {
@@ -242,7 +242,7 @@ fn step(
 
 /// A value for the target's variable that stands for the term: in it are leaves that the target's
 /// universe names alone, and not the variable.
-pub fn generalise(
+pub fn generalize(
     alloc: Global,
     nodes: &mut Nodes,
     table: &mut InferCtxtInner,
@@ -260,7 +260,7 @@ pub fn generalise(
     ensures hidden { table.new.entries.hidden ≡ table.old.entries.hidden }
     ensures within { IfOk result (λ r. IsIn nodes.new r) }
     ensures lawful { OnOk result (IsLawful nodes.new table.new.entries) }
-    ensures generalised { IfOk result (λ r. Generalised (content_of nodes.old table.old.entries) (content_of nodes.new table.new.entries) target.variable target.universe target.binders (tree_at nodes.old t) (tree_at nodes.new r)) }
+    ensures generalized { IfOk result (λ r. Generalized (content_of nodes.old table.old.entries) (content_of nodes.new table.new.entries) target.variable target.universe target.binders (tree_at nodes.old t) (tree_at nodes.new r)) }
     ensures full { result ≢ Err EvalError.Full }
     ensures no { result ≡ Err EvalError.NoSolution → Blocks (content_of nodes.old table.old.entries) target.variable target.universe target.binders (tree_at nodes.old t) }
 {

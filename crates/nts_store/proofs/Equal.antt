@@ -6,8 +6,8 @@ use lib.Pointwise.{pointwise}
 use mathlib.Core.Bool.{beq}
 use Rattle.nts_model.specs.declared.labels.Label.{Label}
 use Rattle.nts_model.specs.contracts.labels.LabelPartialEq.TheImpl as label_eq
-use Rattle.nts_store.specs.declared.facts.Facts.{Facts}
-use Rattle.nts_store.specs.contracts.facts.FactsPartialEq.TheImpl as facts_eq
+use Rattle.nts_store.specs.declared.type_flags.TypeFlags.{TypeFlags}
+use Rattle.nts_store.specs.contracts.type_flags.TypeFlagsPartialEq.TheImpl as facts_eq
 use Rattle.nts_store.specs.declared.nodes.NodeId.{NodeId}
 use Rattle.nts_store.specs.contracts.nodes.NodeIdPartialEq.TheImpl as id_eq
 use Rattle.nts_store.specs.declared.nodes.Node.{Node}
@@ -38,7 +38,7 @@ level_same (Some x) None = ((λ h. cc), λ e. cc)
 level_same (Some x) (Some y) =
     ((λ h. ap Some (eqb-true x y h)), λ e. let n : x ≡ y = cc in eq-eqb x y n)
 
-pub same_facts : (a b : Facts) → IsTrue (facts_eq.ghosts.eq a b) ↔ (a ≡ b)
+pub same_facts : (a b : TypeFlags) → IsTrue (facts_eq.ghosts.eq a b) ↔ (a ≡ b)
 same_facts a b =
     let l1 = level_same a.escaping b.escaping in
     let l2 = both_true _ _ _ _ (same_bool a.has_canonical b.has_canonical) l1 in
@@ -66,17 +66,17 @@ same_ids (x ∷ xs) (y ∷ ys) =
 pub record AreOne (a b : Node) : Type 0 where
   pub labels : a.label ≡ b.label
   pub items : a.children.items ≡ b.children.items
-  pub facts : a.facts ≡ b.facts
+  pub flags : a.flags ≡ b.flags
 
 pub one_node : (a b : Node) → IsTrue (node_eq.ghosts.eq a b) → AreOne a b
 one_node a b h =
-    let f = both_true _ _ _ _ (same_ids a.children.items b.children.items) (same_facts a.facts b.facts) in
+    let f = both_true _ _ _ _ (same_ids a.children.items b.children.items) (same_facts a.flags b.flags) in
     let l = both_true _ _ _ _ (same_label a.label b.label) f in
     let w = l.0 h in
-    record { labels = w.0; items = w.1.0; facts = w.1.1 }
+    record { labels = w.0; items = w.1.0; flags = w.1.1 }
 
 pub node_one : (a b : Node) → AreOne a b → IsTrue (node_eq.ghosts.eq a b)
 node_one a b w =
-    let f = both_true _ _ _ _ (same_ids a.children.items b.children.items) (same_facts a.facts b.facts) in
+    let f = both_true _ _ _ _ (same_ids a.children.items b.children.items) (same_facts a.flags b.flags) in
     let l = both_true _ _ _ _ (same_label a.label b.label) f in
-    l.1 (w.labels, (w.items, w.facts))
+    l.1 (w.labels, (w.items, w.flags))

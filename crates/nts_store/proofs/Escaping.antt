@@ -4,10 +4,10 @@ use Rattle.std.specs.Prelude.{IsTrue}
 use Rattle.std.proofs.lemmas.Bool.{ltb-true, ltb-false}
 use Rattle.nts_model.specs.declared.labels.Label.{Label}
 use Rattle.nts_model.specs.declared.labels.Label.TheVariants as label
-use Rattle.nts_model.specs.declared.labels.BoundIndex.TheVariants as index
+use Rattle.nts_model.specs.declared.labels.BoundVarIndexKind.TheVariants as index
 use Rattle.nts_model.specs.Trees.{Tree, empty, more, node, binders, IsBoundBelow, IsClosedUnder, IsClosed}
-use Rattle.nts_store.specs.declared.facts.Facts.{Facts}
-use Rattle.nts_store.specs.Facts.{higher, past_binders, level_of, escaping, facts_of}
+use Rattle.nts_store.specs.declared.type_flags.TypeFlags.{TypeFlags}
+use Rattle.nts_store.specs.TypeFlags.{higher, past_binders, level_of, escaping, flags_of}
 
 -- no level, or one below
 abbrev pub IsBelow : ℕ → Option ℕ → Type 0
@@ -29,7 +29,7 @@ below_past c n (Some d) = by_case (nat_lt d n) refl
 
 below_level : (c : ℕ) (l : Label) → IsBelow c (level_of l) ↔ IsBoundBelow c l
 below_level c (label.Leaf x) = ((λ h. tt), λ h. tt)
-below_level c (label.Bound s (index.Level d) n) = ((λ h. h), λ h. h)
+below_level c (label.Bound s (index.Bound d) n) = ((λ h. h), λ h. h)
 below_level c (label.Bound s index.Canonical n) = ((λ h. tt), λ h. tt)
 below_level c (label.Ty h) = ((λ h. tt), λ h. tt)
 below_level c (label.Const h) = ((λ h. tt), λ h. tt)
@@ -67,12 +67,12 @@ below_none None h = tt
 below_none (Some d) h = cc
 
 -- what the facts of a tree say of that
-pub closed_by_facts : (t : Tree) (f : Facts) → f ≡ facts_of t → is_some f.escaping ≡ false → IsClosed t
+pub closed_by_facts : (t : Tree) (f : TypeFlags) → f ≡ flags_of t → is_some f.escaping ≡ false → IsClosed t
 closed_by_facts t f e h =
     let none : is_some (escaping t) ≡ false = sym (ap (λ g. is_some g.escaping) e) ∙ h in
     (closed_under 0 t).0 (below_none (escaping t) none)
 
-pub open_by_facts : (t : Tree) (f : Facts) → f ≡ facts_of t → is_some f.escaping ≡ true → IsClosed t → ⊥
+pub open_by_facts : (t : Tree) (f : TypeFlags) → f ≡ flags_of t → is_some f.escaping ≡ true → IsClosed t → ⊥
 open_by_facts t f e h =
     let some : is_some (escaping t) ≡ true = sym (ap (λ g. is_some g.escaping) e) ∙ h in
     (escapes t).0 some

@@ -2,10 +2,10 @@
 use Rattle.std.proofs.Common.{◌≡◌, ◌||◌, not, Bool, true, false, List, None, refl, sym, ap, ◌∙◌}
 use Rattle.nts_model.specs.declared.labels.Label.{Label}
 use Rattle.nts_model.specs.declared.labels.Label.TheVariants as label
-use Rattle.nts_model.specs.declared.labels.BoundIndex.TheVariants as index
+use Rattle.nts_model.specs.declared.labels.BoundVarIndexKind.TheVariants as index
 use Rattle.nts_model.specs.Trees.{Tree, empty, more, node, any_label, is_canonical}
-use Rattle.nts_store.specs.declared.facts.Facts.{Facts}
-use Rattle.nts_store.specs.Facts.{facts_of}
+use Rattle.nts_store.specs.declared.type_flags.TypeFlags.{TypeFlags}
+use Rattle.nts_store.specs.TypeFlags.{flags_of}
 use Rattle.nts_model.specs.Handlers.{position_of, filled}
 
 both_false : (p q : Bool) → (p || q) ≡ false → (p ≡ false) × (q ≡ false)
@@ -14,7 +14,7 @@ both_false false q h = (refl, h)
 
 no_position : (l : Label) → is_canonical l ≡ false → position_of l ≡ None
 no_position (label.Leaf l) h = refl
-no_position (label.Bound s (index.Level d) i) h = refl
+no_position (label.Bound s (index.Bound d) i) h = refl
 no_position (label.Bound s index.Canonical i) h = cc
 no_position (label.Ty t) h = refl
 no_position (label.Const k) h = refl
@@ -36,7 +36,7 @@ from_not : (b : Bool) → not b ≡ true → b ≡ false
 from_not true h = cc
 from_not false h = refl
 
-pub filled-known : (values : List Tree) (t : Tree) (f : Facts) → f ≡ facts_of t → not f.has_canonical ≡ true → t ≡ filled values t
+pub filled-known : (values : List Tree) (t : Tree) (f : TypeFlags) → f ≡ flags_of t → not f.has_canonical ≡ true → t ≡ filled values t
 filled-known values t f e h =
     let none : any_label is_canonical t ≡ false = sym (ap (λ g. g.has_canonical) e) ∙ from_not f.has_canonical h in
     sym (filled-none values t none)

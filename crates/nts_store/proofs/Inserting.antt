@@ -9,7 +9,7 @@ use Rattle.nts_model.specs.Trees.{Tree, empty, node}
 use Rattle.nts_store.specs.declared.nodes.NodeId.{NodeId}
 use Rattle.nts_store.specs.declared.nodes.Node.{Node}
 use Rattle.nts_store.specs.contracts.nodes.NodePartialEq.TheImpl as node_eq
-use Rattle.nts_store.specs.Facts.{facts_of}
+use Rattle.nts_store.specs.TypeFlags.{flags_of}
 use Rattle.nts_store.specs.Growth.{tree_at, trees_at, IsIn, AllIn, AllBelow, Extends, AreApart}
 use Rattle.nts_store.specs.Store.{tree_of_node, grown, trees, IsNode, IsGrown, IsShared}
 use Rattle.nts_store.proofs.Growing.{Extends-refl, Extends-trans, AllIn-extended, trees_at-extended, Extends-push, get_or-front, get_or-last}
@@ -42,7 +42,7 @@ IsNode-extended e n k =
     record {
       all = AllIn-extended e n.children.items k.all;
       formed = rw same k.formed;
-      facts = k.facts ∙ ap facts_of (sym (tree_of_node-extended e n k.all));
+      flags = k.flags ∙ ap flags_of (sym (tree_of_node-extended e n k.all));
     }
 
 -- the node at a place is one over the trees before it, which the whole store extends
@@ -135,8 +135,8 @@ new_tree ns n j s h f k e =
     let label : n.label ≡ m.label = cc in
     let kids : trees_at (trees ns) n.children.items ≡ trees_at (trees ns) m.children.items = cc in
     let items = trees_at-apart (trees ns) n.children.items m.children.items s.apart h.all r.is_node.all kids in
-    let facts = h.facts ∙ ap facts_of is ∙ sym r.is_node.facts in
-    let one : AreOne n m = record { labels = label; items = items; facts = facts } in
+    let flags = h.flags ∙ ap flags_of is ∙ sym r.is_node.flags in
+    let one : AreOne n m = record { labels = label; items = items; flags = flags } in
     let there = list_any-at (node_eq.ghosts.eq n) ns j m k at (node_one n m one) in
     cc
 

@@ -1,5 +1,5 @@
 pub mod Errors
-pub mod Facts
+pub mod TypeFlags
 pub mod Filled
 pub mod Formed
 pub mod Growth

@@ -2,7 +2,7 @@
 use Rattle.std.specs.Prelude.{◌≡◌, List, [], ◌∷◌, ◌++◌}
 use Rattle.nts_model.specs.Trees.{Tree, node, shape, Meets}
 use Rattle.nts_store.specs.declared.nodes.Node.{Node}
-use Rattle.nts_store.specs.Facts.{facts_of}
+use Rattle.nts_store.specs.TypeFlags.{flags_of}
 use Rattle.nts_store.specs.Growth.{trees_at, AllIn, AreApart}
 
 abbrev pub tree_of_node : List Tree → Node → Tree
@@ -20,7 +20,7 @@ trees ns = grown [] ns
 pub record IsNode (ts : List Tree) (n : Node) : Type 0 where
   pub all : AllIn ts n.children.items
   pub formed : Meets (shape n.label) (trees_at ts n.children.items)
-  pub facts : n.facts ≡ facts_of (tree_of_node ts n)
+  pub flags : n.flags ≡ flags_of (tree_of_node ts n)
 
 -- each node is one over those before it, where `ts` stand before all
 abbrev pub IsGrown : List Tree → List Node → Type 0

@@ -8,7 +8,7 @@ ghost use Rattle.nts_model.specs.Handlers.{filled};
 
 use crate::nodes::{NodeId, Nodes};
 use crate::replacement::{Replacer, Step, replace};
-use nts_model::{BoundIndex, Label};
+use nts_model::{BoundVarIndexKind, Label};
 use std::alloc::{AllocError, Global};
 
 #[derive(Drop)]
@@ -41,10 +41,10 @@ impl Replacer for Filler<'_> {
 
     fn step(&self, nodes: &mut Nodes, t: NodeId) -> Result<Step, AllocError> {
         // Most terms hold no such variable, and are left alone without a walk.
-        if !nodes.facts(t).has_canonical {
+        if !nodes.flags(t).has_canonical {
             return Ok(Step::Done(t));
         }
-        let Label::Bound(_, BoundIndex::Canonical, position) = nodes.label(t) else {
+        let Label::Bound(_, BoundVarIndexKind::Canonical, position) = nodes.label(t) else {
             return Ok(Step::Down(t));
         };
         Ok(Step::Done(self.values[position]))

@@ -5,18 +5,18 @@
 //! replace parts of a tree or test its labels. Typed handles stand above, in `nts_terms`.
 #![tactic(auto)]
 
-mod facts;
 mod fault;
 mod instantiate;
 mod labels_walk;
 mod nodes;
 mod replacement;
 mod sorts;
+mod type_flags;
 
-pub use facts::{Facts, binders_of};
 pub use fault::{EvalError, Fault};
 pub use instantiate::instantiate_canonical;
 pub use labels_walk::{LabelTest, all_labels};
 pub use nodes::{NodeId, Nodes};
 pub use replacement::{Replacer, Step, Task, push_node, replace};
 pub use sorts::sort_of;
+pub use type_flags::{TypeFlags, binders_of};

@@ -3,10 +3,10 @@ ghost use Rattle.std.specs.Prelude.{◌≡◌, ◌↔◌, ◌<◌, ◌+◌, ◌+
 ghost use Rattle.nts_model.specs.Trees.{Tree, node, empty, more, label_of, children, row_length, row_at, IsRow, shape, Meets};
 ghost use Rattle.nts_store.specs.Growth.{tree_at, trees_at, IsIn, AllIn, AllBelow, Extends, AreApart};
 ghost use Rattle.nts_store.specs.Formed.{AreFormed};
-ghost use Rattle.nts_store.specs.Facts.{facts_of};
+ghost use Rattle.nts_store.specs.TypeFlags.{flags_of};
 ghost use Rattle.nts_store.specs.Sorts.{ChildrenFit};
 
-use crate::facts::Facts;
+use crate::type_flags::TypeFlags;
 use indexmap::IndexSet;
 use nts_model::Label;
 use std::alloc::{AllocError, Global};
@@ -22,7 +22,7 @@ pub struct NodeId {
 struct Node {
     label: Label,
     children: Vec<NodeId>,
-    facts: Facts,
+    flags: TypeFlags,
 }
 
 /// The nodes of all terms, each once. A caller sees the list of their trees.
@@ -80,28 +80,28 @@ impl Nodes {
         ensures extends { Extends self.old self.new }
         ensures err { OnErr result (self.new ≡ self.old) }
     {
-        let facts = self.facts_under(label, children);
+        let flags = self.flags_under(label, children);
         let mut list = Vec::with_capacity(self.alloc, children.len())?;
         list.extend_from_slice(children)?;
         let (number, _) = self.nodes.insert_full(Node {
             label,
             children: list,
-            facts,
+            flags,
         })?;
         Ok(NodeId { number })
     }
 
-    fn facts_under(&self, label: Label, children: &[NodeId]) -> Facts
+    fn flags_under(&self, label: Label, children: &[NodeId]) -> TypeFlags
         requires { AllIn self.now children.now }
-        ensures { result ≡ facts_of (node label (trees_at self.now children.now)) }
+        ensures { result ≡ flags_of (node label (trees_at self.now children.now)) }
     {
-        let mut facts = Facts::new();
+        let mut flags = TypeFlags::new();
         let mut i = children.len();
         while i > 0 {
             i -= 1;
-            facts = self.facts(children[i]).join(facts);
+            flags = self.flags(children[i]).join(flags);
         }
-        facts.under(label)
+        flags.under(label)
     }
 
     fn node(&self, t: NodeId) -> &Node
@@ -110,7 +110,7 @@ impl Nodes {
         ensures all { AllIn self.now result.now.children.items }
         ensures before { AllBelow t.number result.now.children.items }
         ensures formed { Meets (shape result.now.label) (trees_at self.now result.now.children.items) }
-        ensures facts { result.now.facts ≡ facts_of (tree_at self.now t) }
+        ensures flags { result.now.flags ≡ flags_of (tree_at self.now t) }
     {
         &self.nodes[t.number]
     }
@@ -125,11 +125,11 @@ impl Nodes {
     }
 
     /// What is known of the whole tree of a term.
-    pub fn facts(&self, t: NodeId) -> Facts
+    pub fn flags(&self, t: NodeId) -> TypeFlags
         requires { IsIn self.now t }
-        ensures { result ≡ facts_of (tree_at self.now t) }
+        ensures { result ≡ flags_of (tree_at self.now t) }
     {
-        self.node(t).facts
+        self.node(t).flags
     }
 
     /// How many children a term's node has.

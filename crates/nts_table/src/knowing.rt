@@ -43,8 +43,8 @@ impl InferCtxt {
         ensures { IfOk result (λ b. IsTrue b ↔ Knows (content_of nodes.now self.now.entries) (tree_at nodes.now t)) }
     {
         // Most terms hold no variable, and are not walked.
-        let facts = nodes.facts(t);
-        if !facts.has_infer && !facts.has_region_infer {
+        let flags = nodes.flags(t);
+        if !flags.has_infer && !flags.has_region_infer {
             return Ok(true);
         }
         all_labels(alloc, nodes, t, &NamesKnown { table: self })

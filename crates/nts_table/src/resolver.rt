@@ -63,8 +63,8 @@ impl Resolver<'_> {
         requires { IsIn nodes.now t }
         ensures { result ≡ true → IsResolved self.now.regions (tree_at nodes.now t) }
     {
-        let facts = nodes.facts(t);
-        !facts.has_infer && !(self.regions && facts.has_region_infer)
+        let flags = nodes.flags(t);
+        !flags.has_infer && !(self.regions && flags.has_region_infer)
     }
 
     fn region_step(&self, nodes: &mut Nodes, t: NodeId, n: usize) -> Result<Step, AllocError>

@@ -40,6 +40,6 @@ impl InferCtxt {
         ensures memory { IsOkUnless result Fault.Memory }
     {
         let found = resolve_nodes(cx.alloc, &mut cx.nodes, self, x.node(), false)?;
-        Ok(cx.nodes.facts(found).has_alias)
+        Ok(cx.nodes.flags(found).has_alias)
     }
 }

@@ -1,6 +1,6 @@
 //! What relating refuses, each with the table as before.
 use crate::fixture::Fixture;
-use nts_model::{BoundIndex, UintTy};
+use nts_model::{BoundVarIndexKind, UintTy};
 use nts_table::InferCtxt;
 use nts_terms::{BoundTy, ConstKind, Cx, PlaceholderType, RegionKind, TyKind, TypingMode};
 
@@ -113,9 +113,9 @@ fn escaping_variables(rt: HostRuntime) {
     let mut fixture = Fixture::new(&rt, rt.alloc());
     let hole = fixture.ty_var(&rt);
     let bound = BoundTy { var: 0 };
-    let inner = fixture.ty(&rt, TyKind::Bound(BoundIndex::Level(0), bound));
+    let inner = fixture.ty(&rt, TyKind::Bound(BoundVarIndexKind::Bound(0), bound));
     fixture.refuses(&rt, hole, inner);
-    let outer = fixture.ty(&rt, TyKind::Bound(BoundIndex::Level(1), bound));
+    let outer = fixture.ty(&rt, TyKind::Bound(BoundVarIndexKind::Bound(1), bound));
     let open = fixture.maker(&rt, outer);
     fixture.refuses(&rt, hole, open);
     let closed = fixture.maker(&rt, inner);

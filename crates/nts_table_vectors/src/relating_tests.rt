@@ -128,7 +128,7 @@ fn region_variables(rt: HostRuntime) {
 }
 
 #[test]
-fn generalised_variable(rt: HostRuntime) {
+fn generalized_variable(rt: HostRuntime) {
     let mut fixture = Fixture::new(&rt, rt.alloc());
     let low = fixture.ty_var(&rt);
     fixture.universe(&rt);
@@ -142,7 +142,7 @@ fn generalised_variable(rt: HostRuntime) {
 }
 
 #[test]
-fn generalised_region(rt: HostRuntime) {
+fn generalized_region(rt: HostRuntime) {
     let mut fixture = Fixture::new(&rt, rt.alloc());
     let low = fixture.ty_var(&rt);
     let bound = BoundRegion { var: 0 };

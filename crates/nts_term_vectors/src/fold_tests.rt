@@ -5,7 +5,7 @@ ghost use Rattle.nts_terms.specs.Handles.{HoldsPredicate};
 
 use crate::walk_tests::wrapped;
 use nts_folding::{TypeFoldable, TypeFolder, fold_node};
-use nts_model::{BoundIndex, Sort, Variance};
+use nts_model::{BoundVarIndexKind, Sort, Variance};
 use nts_store::Fault;
 use nts_terms::{
     Binder, BoundTy, Const, Cx, FnSig, InferTy, Predicate, PredicateKind, Region, Term, Ty, TyKind,
@@ -64,7 +64,7 @@ impl TypeFolder for Numbering {
             return Ok(None);
         };
         let var = self.number(variable)?;
-        let position = TyKind::Bound(BoundIndex::Canonical, BoundTy { var });
+        let position = TyKind::Bound(BoundVarIndexKind::Canonical, BoundTy { var });
         Ok(Some(cx.mk_ty(position)?))
     }
 
@@ -255,8 +255,8 @@ fn numbers_variables_at_first_sight(rt: HostRuntime) -> Result<(), Fail> {
     let a = cx.mk_ty(TyKind::Infer(InferTy::TyVar(7)))?;
     let b = cx.mk_ty(TyKind::Infer(InferTy::TyVar(2)))?;
     let args = cx.mk_args(&[a.into(), b.into(), a.into()])?;
-    let first = cx.mk_ty(TyKind::Bound(BoundIndex::Canonical, BoundTy { var: 0 }))?;
-    let second = cx.mk_ty(TyKind::Bound(BoundIndex::Canonical, BoundTy { var: 1 }))?;
+    let first = cx.mk_ty(TyKind::Bound(BoundVarIndexKind::Canonical, BoundTy { var: 0 }))?;
+    let second = cx.mk_ty(TyKind::Bound(BoundVarIndexKind::Canonical, BoundTy { var: 1 }))?;
     let expected = cx.mk_args(&[first.into(), second.into(), first.into()])?;
     let mut folder = Numbering {
         seen: Vec::new(rt.alloc()),
@@ -292,7 +292,7 @@ fn ends_at_the_first_refusal(rt: HostRuntime) -> Result<(), Fail> {
 fn goes_through_binders(rt: HostRuntime) -> Result<(), Fail> {
     let mut cx = Cx::new(rt.alloc());
     let vars = cx.mk_bound_vars(&[Sort::Ty])?;
-    let bound = cx.mk_ty(TyKind::Bound(BoundIndex::Level(0), BoundTy { var: 0 }))?;
+    let bound = cx.mk_ty(TyKind::Bound(BoundVarIndexKind::Bound(0), BoundTy { var: 0 }))?;
     let inputs_and_output = cx.mk_args(&[bound.into()])?;
     assert!(rt; cx.holds(vars));
     let value = FnSig { inputs_and_output };

@@ -1,5 +1,5 @@
 use nts_certainty::{Certainty, MaybeCause, MaybeInfo, OpaqueTypesJank};
-use nts_model::{BoundIndex, Label, ListHead, Sort, TyHead, UintTy, Variance};
+use nts_model::{BoundVarIndexKind, Label, ListHead, Sort, TyHead, UintTy, Variance};
 use nts_store::{EvalError, Fault, Nodes, binders_of};
 use nts_terms::{
     AliasKind, AliasTerm, Binder, BoundRegion, BoundTy, ClauseKind, ConstKind, Cx, DefId, FnSig,
@@ -54,7 +54,7 @@ fn binders(rt: HostRuntime) -> Result<(), Fail> {
     assert_eq!(rt; vars.len(&cx), 1);
     assert!(rt; matches!(vars.get(&cx, 0), Sort::Region));
     let bound = BoundRegion { var: 0 };
-    let region = cx.mk_region(RegionKind::ReBound(BoundIndex::Level(0), bound))?;
+    let region = cx.mk_region(RegionKind::ReBound(BoundVarIndexKind::Bound(0), bound))?;
     assert!(rt; cx.has_escaping_bound_vars(region));
     assert!(rt; !cx.has_canonical_bound(region));
     assert!(rt;
@@ -100,7 +100,7 @@ fn predicates(rt: HostRuntime) -> Result<(), Fail> {
     let mut cx = Cx::new(rt.alloc());
     let clone = cx.declare_trait(&[Sort::Ty])?;
     let vars = cx.mk_bound_vars(&[])?;
-    let first = TyKind::Bound(BoundIndex::Canonical, BoundTy { var: 0 });
+    let first = TyKind::Bound(BoundVarIndexKind::Canonical, BoundTy { var: 0 });
     let ty = cx.mk_ty(first)?;
     let args = cx.mk_args(&[ty.into()])?;
     assert!(rt; cx.holds(vars));
@@ -143,7 +143,7 @@ fn aliases(rt: HostRuntime) -> Result<(), Fail> {
 fn declared_consts(rt: HostRuntime) -> Result<(), Fail> {
     let mut cx = Cx::new(rt.alloc());
     let list = cx.declare_ctor(&[Sort::Ty], &[Variance::Covariant])?;
-    let position = |var| TyKind::Bound(BoundIndex::Canonical, BoundTy { var });
+    let position = |var| TyKind::Bound(BoundVarIndexKind::Canonical, BoundTy { var });
     let first = cx.mk_ty(position(0))?;
     let args = cx.mk_args(&[first.into()])?;
     assert!(rt; cx.holds(args));
@@ -175,7 +175,7 @@ fn types_that_no_const_has(rt: HostRuntime) -> Result<(), Fail> {
     assert!(rt; !cx.is_const_type(&[Sort::Ty], parameter)?);
     let variable = cx.mk_ty(TyKind::Infer(InferTy::TyVar(0)))?;
     assert!(rt; !cx.is_const_type(&[Sort::Ty], variable)?);
-    let bound = cx.mk_ty(TyKind::Bound(BoundIndex::Level(0), BoundTy { var: 0 }))?;
+    let bound = cx.mk_ty(TyKind::Bound(BoundVarIndexKind::Bound(0), BoundTy { var: 0 }))?;
     assert!(rt; !cx.is_const_type(&[Sort::Ty], bound)?);
     let byte = cx.mk_ty(TyKind::Uint(UintTy::U8))?;
     assert!(rt; cx.is_const_type(&[], byte)?);
@@ -191,7 +191,7 @@ fn nodes(rt: HostRuntime) -> Result<(), Fail> {
     assert_eq!(rt; nodes.child_count(args), 2);
     assert!(rt; nodes.same(nodes.child(args, 1), error));
     assert!(rt; nodes.label(args) == Label::List(ListHead::Args));
-    assert!(rt; !nodes.facts(args).has_infer);
+    assert!(rt; !nodes.flags(args).has_infer);
     assert!(rt; nodes.contains(args));
     assert_eq!(rt; binders_of(nodes.label(args)), 0);
     let ty = Ty::from_node(error);

@@ -7,7 +7,7 @@ ghost use Rattle.nts_model.specs.declared.labels.Label.TheVariants as label;
 ghost use Rattle.nts_model.specs.Trees.{empty, more, node, of_sort, kind_of};
 ghost use Rattle.nts_store.specs.Growth.{tree_at, IsIn, Extends};
 
-use nts_model::{BoundIndex, IntTy, Label, ListHead, Sort, TyHead};
+use nts_model::{BoundVarIndexKind, IntTy, Label, ListHead, Sort, TyHead};
 use nts_store::{NodeId, Nodes, instantiate_canonical};
 use std::alloc::AllocError;
 use std::test::Fail;
@@ -27,7 +27,7 @@ pub(crate) fn wrapped(nodes: &mut Nodes, inner: NodeId) -> Result<NodeId, AllocE
 fn reaches_the_bottom_of_a_deep_type(rt: HostRuntime) -> Result<(), Fail> {
     let mut nodes = Nodes::new(rt.alloc());
     let value = nodes.make(Label::Ty(TyHead::Int(IntTy::I32)), &[])?;
-    let mut deep = nodes.make(Label::Bound(Sort::Ty, BoundIndex::Canonical, 0), &[])?;
+    let mut deep = nodes.make(Label::Bound(Sort::Ty, BoundVarIndexKind::Canonical, 0), &[])?;
     let mut expected = value;
     for _ in 0..100_000u32 {
         deep = wrapped(&mut nodes, deep)?;
@@ -55,7 +55,7 @@ fn doubled(nodes: &mut Nodes, inner: NodeId) -> Result<NodeId, AllocError>
 fn replaces_what_is_shared_once(rt: HostRuntime) -> Result<(), Fail> {
     let mut nodes = Nodes::new(rt.alloc());
     let value = nodes.make(Label::Ty(TyHead::Int(IntTy::I32)), &[])?;
-    let mut deep = nodes.make(Label::Bound(Sort::Ty, BoundIndex::Canonical, 0), &[])?;
+    let mut deep = nodes.make(Label::Bound(Sort::Ty, BoundVarIndexKind::Canonical, 0), &[])?;
     let mut expected = value;
     for _ in 0..64u32 {
         deep = doubled(&mut nodes, deep)?;

@@ -6,7 +6,7 @@ ghost use Rattle.nts_terms.specs.ConstTypes.{IsConstType, MayStand};
 
 use crate::cx::Cx;
 use crate::handles::Ty;
-use nts_model::{BoundIndex, FreeRegion, Label, Leaf, Sort};
+use nts_model::{BoundVarIndexKind, FreeRegion, Label, Leaf, Sort};
 use nts_store::{Fault, LabelTest, all_labels};
 
 #[derive(Drop)]
@@ -23,7 +23,7 @@ impl LabelTest for OfArguments<'_> {
             Label::Leaf(Leaf::Region(FreeRegion::Erased)) => true,
             Label::Leaf(Leaf::Region(FreeRegion::Error)) => true,
             Label::Leaf(_) => false,
-            Label::Bound(sort, BoundIndex::Canonical, i) => match self.sorts.get(i) {
+            Label::Bound(sort, BoundVarIndexKind::Canonical, i) => match self.sorts.get(i) {
                 Some(its_sort) => *its_sort == sort,
                 None => false,
             },
@@ -39,7 +39,7 @@ impl Cx {
         ensures is { IfOk result (λ b. IsTrue b ↔ IsConstType sorts.now (tree_at self.now.nodes ty.node)) }
         ensures memory { IsOkUnless result Fault.Memory }
     {
-        if self.nodes.facts(ty.node).escaping.is_some() {
+        if self.nodes.flags(ty.node).escaping.is_some() {
             return Ok(false);
         }
         let test = OfArguments { sorts };

@@ -226,7 +226,7 @@ impl Cx {
         requires { IsIn self.now.nodes (T.id x) }
         ensures { IsTrue result ↔ ¬ IsClosed (tree_at self.now.nodes (T.id x)) }
     {
-        self.nodes.facts(x.node()).escaping.is_some()
+        self.nodes.flags(x.node()).escaping.is_some()
     }
 
     /// Whether some bound variable of a term names a position of a canonical value.
@@ -234,7 +234,7 @@ impl Cx {
         requires { IsIn self.now.nodes (T.id x) }
         ensures { result ≡ any_label is_canonical (tree_at self.now.nodes (T.id x)) }
     {
-        self.nodes.facts(x.node()).has_canonical
+        self.nodes.flags(x.node()).has_canonical
     }
 
     /// Whether a term has an inference variable that is no region.
@@ -242,6 +242,6 @@ impl Cx {
         requires { IsIn self.now.nodes (T.id x) }
         ensures { result ≡ any_label is_infer (tree_at self.now.nodes (T.id x)) }
     {
-        self.nodes.facts(x.node()).has_infer
+        self.nodes.flags(x.node()).has_infer
     }
 }

@@ -4,7 +4,7 @@ use crate::handles::{
     PlaceholderConst, PlaceholderRegion, PlaceholderType, Region, Term, TraitId, TraitRef, Ty,
     UnevaluatedConst,
 };
-use nts_model::{BoundIndex, Direction, FloatTy, IntTy, UintTy};
+use nts_model::{AliasRelationDirection, BoundVarIndexKind, FloatTy, IntTy, UintTy};
 
 /// A variable of a type that is to be found, by its number: of any type, of an integer type, or of a
 /// float type.
@@ -27,7 +27,7 @@ pub enum TyKind {
     Infer(InferTy),
     Param(u32),
     Placeholder(PlaceholderType),
-    Bound(BoundIndex, BoundTy),
+    Bound(BoundVarIndexKind, BoundTy),
     Error,
 }
 
@@ -37,7 +37,7 @@ pub enum RegionKind {
     ReStatic,
     ReEarlyParam(u32),
     ReLateParam(u32),
-    ReBound(BoundIndex, BoundRegion),
+    ReBound(BoundVarIndexKind, BoundRegion),
     ReVar(usize),
     RePlaceholder(PlaceholderRegion),
     ReErased,
@@ -49,7 +49,7 @@ pub enum RegionKind {
 pub enum ConstKind {
     Param(u32),
     Infer(usize),
-    Bound(BoundIndex, BoundConst),
+    Bound(BoundVarIndexKind, BoundConst),
     Placeholder(PlaceholderConst),
     Unevaluated(UnevaluatedConst),
     Value { ty: Ty, bits: u128 },
@@ -94,6 +94,6 @@ pub enum PredicateKind {
     DynCompatible(TraitId),
     ConstEquate(Const, Const),
     NormalizesTo { alias: AliasTerm, term: Term },
-    AliasRelate(Term, Term, Direction),
+    AliasRelate(Term, Term, AliasRelationDirection),
     Ambiguous,
 }

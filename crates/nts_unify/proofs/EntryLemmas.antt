@@ -5,7 +5,7 @@ use Rattle.std.proofs.lemmas.Grind.{common_steps}
 use Rattle.nts_unify.specs.declared.contents.Variable.{Variable}
 use Rattle.nts_unify.specs.declared.contents.Constraint.{Constraint}
 use Rattle.nts_unify.specs.declared.contents.HiddenType.{HiddenType}
-use Rattle.nts_unify.specs.declared.contents.Change.TheVariants.{Added, Changed, Bound, Moved, Constrained, Registered, Replaced}
+use Rattle.nts_unify.specs.declared.contents.UndoLog.TheVariants.{Added, Changed, Bound, Moved, Constrained, Registered, Replaced}
 use Rattle.nts_unify.specs.Entries.{Entries, undone, added, with_variable, bound, moved, constrained, registered, with_hidden, front}
 
 pub front-push : {A : Type 0} (xs : List A) (x : A) → front (xs ++ x ∷ []) ≡ xs

@@ -1,8 +1,8 @@
 -- The entries of a table, and how one change is undone.
 use Rattle.std.specs.Prelude.{ℕ, List, [], ◌∷◌, ◌++◌, length, slice_set, take, ◌-◌}
 use Rattle.nts_unify.specs.declared.contents.Variable.{Variable}
-use Rattle.nts_unify.specs.declared.contents.Change.{Change}
-use Rattle.nts_unify.specs.declared.contents.Change.TheVariants.{Added, Changed, Bound, Moved, Constrained, Registered, Replaced}
+use Rattle.nts_unify.specs.declared.contents.UndoLog.{UndoLog}
+use Rattle.nts_unify.specs.declared.contents.UndoLog.TheVariants.{Added, Changed, Bound, Moved, Constrained, Registered, Replaced}
 use Rattle.nts_unify.specs.declared.contents.Constraint.{Constraint}
 use Rattle.nts_unify.specs.declared.contents.HiddenType.{HiddenType}
 
@@ -47,7 +47,7 @@ registered c h = record c { hidden = c.hidden ++ h ∷ [] }
 abbrev pub with_hidden : Entries → ℕ → HiddenType → Entries
 with_hidden c n h = record c { hidden = slice_set c.hidden n h }
 
-abbrev pub undone : Change → Entries → Entries
+abbrev pub undone : UndoLog → Entries → Entries
 undone Added c = record c { variables = front c.variables }
 undone (Changed n v) c = with_variable c n v
 undone (Bound n v) c = record c { variables = slice_set c.variables n v; order = front c.order }
@@ -57,6 +57,6 @@ undone Registered c = record c { hidden = front c.hidden }
 undone (Replaced n h) c = with_hidden c n h
 
 -- the last change is undone first
-abbrev pub all_undone : List Change → Entries → Entries
+abbrev pub all_undone : List UndoLog → Entries → Entries
 all_undone [] c = c
 all_undone (x ∷ xs) c = undone x (all_undone xs c)

@@ -1,10 +1,10 @@
 -- What the log of changes and the marks in it stand for.
 use Rattle.std.specs.Prelude.{ℕ, ◌≤◌, List, [], ◌∷◌, drop}
-use Rattle.nts_unify.specs.declared.contents.Change.{Change}
+use Rattle.nts_unify.specs.declared.contents.UndoLog.{UndoLog}
 use Rattle.nts_unify.specs.Entries.{Entries, all_undone}
 
 -- the entries at each mark
-abbrev pub saved_of : Entries → List Change → List ℕ → List Entries
+abbrev pub saved_of : Entries → List UndoLog → List ℕ → List Entries
 saved_of c log [] = []
 saved_of c log (p ∷ ps) = all_undone (drop p log) c ∷ saved_of c log ps
 

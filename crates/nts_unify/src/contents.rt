@@ -51,7 +51,7 @@ pub struct HiddenType {
 
 /// A change of a table, by what undoes it.
 #[derive(Clone, Copy, PartialEq, Eq)]
-pub enum Change {
+pub enum UndoLog {
     /// A variable was added.
     Added,
     /// A variable was as given.
@@ -201,34 +201,34 @@ impl Contents {
     }
 
     /// Undoes one change. It takes no memory.
-    pub fn undo(&mut self, change: Change)
+    pub fn undo(&mut self, change: UndoLog)
         ensures { self.new ≡ undone change self.old }
     {
         match change {
-            Change::Added => {
+            UndoLog::Added => {
                 self.variables.pop();
             }
-            Change::Changed(n, variable) => {
+            UndoLog::Changed(n, variable) => {
                 if n < self.variables.len() {
                     self.variables[n] = variable;
                 }
             }
-            Change::Bound(n, variable) => {
+            UndoLog::Bound(n, variable) => {
                 self.order.pop();
                 if n < self.variables.len() {
                     self.variables[n] = variable;
                 }
             }
-            Change::Moved(universe) => {
+            UndoLog::Moved(universe) => {
                 self.universe = universe;
             }
-            Change::Constrained => {
+            UndoLog::Constrained => {
                 self.constraints.pop();
             }
-            Change::Registered => {
+            UndoLog::Registered => {
                 self.hidden.pop();
             }
-            Change::Replaced(n, hidden) => {
+            UndoLog::Replaced(n, hidden) => {
                 if n < self.hidden.len() {
                     self.hidden[n] = hidden;
                 }

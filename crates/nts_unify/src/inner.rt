@@ -2,7 +2,7 @@
 ghost use Rattle.std.specs.Prelude.{◌≡◌, ◌<◌, ◌+◌, ◌++◌, ◌∷◌, [], length, slice_get, OnOk, OnErr, IfOk, Some};
 ghost use Rattle.nts_unify.specs.Entries.{Entries, Inner, added, with_variable, bound, constrained, moved, registered, with_hidden};
 
-use crate::contents::{Change, Constraint, Contents, HiddenType, Variable};
+use crate::contents::{Constraint, Contents, HiddenType, UndoLog, Variable};
 use std::alloc::{AllocError, Global};
 use std::marker::Model;
 
@@ -11,7 +11,7 @@ use std::marker::Model;
 #[derive(Drop)]
 pub struct InferCtxtInner {
     contents: Contents,
-    log: Vec<Change>,
+    log: Vec<UndoLog>,
     snapshots: Vec<usize>,
 }
 
@@ -102,7 +102,7 @@ impl InferCtxtInner {
         ensures hidden { self.new.entries.hidden ≡ self.old.entries.hidden }
         ensures err { OnErr result (self.new ≡ self.old) }
     {
-        self.log.push(Change::Added)?;
+        self.log.push(UndoLog::Added)?;
         match self.contents.add(variable) {
             Ok(v) => Ok(v),
             Err(error) => {
@@ -120,7 +120,7 @@ impl InferCtxtInner {
         ensures err { OnErr result (self.new ≡ self.old) }
     {
         let old = self.contents.variable(n);
-        self.log.push(Change::Changed(n, old))?;
+        self.log.push(UndoLog::Changed(n, old))?;
         self.contents.set(n, variable);
         Ok(())
     }
@@ -133,7 +133,7 @@ impl InferCtxtInner {
         ensures err { OnErr result (self.new ≡ self.old) }
     {
         let old = self.contents.variable(n);
-        self.log.push(Change::Bound(n, old))?;
+        self.log.push(UndoLog::Bound(n, old))?;
         match self.contents.bind(n, variable) {
             Ok(()) => Ok(()),
             Err(error) => {
@@ -149,7 +149,7 @@ impl InferCtxtInner {
         ensures err { OnErr result (self.new ≡ self.old) }
     {
         let old = self.contents.universe();
-        self.log.push(Change::Moved(old))?;
+        self.log.push(UndoLog::Moved(old))?;
         self.contents.move_to(universe);
         Ok(())
     }
@@ -160,7 +160,7 @@ impl InferCtxtInner {
         ensures hidden { self.new.entries.hidden ≡ self.old.entries.hidden }
         ensures err { OnErr result (self.new ≡ self.old) }
     {
-        self.log.push(Change::Constrained)?;
+        self.log.push(UndoLog::Constrained)?;
         match self.contents.constrain(constraint) {
             Ok(()) => Ok(()),
             Err(error) => {
@@ -175,7 +175,7 @@ impl InferCtxtInner {
         ensures saved { self.new.saved ≡ self.old.saved }
         ensures err { OnErr result (self.new ≡ self.old) }
     {
-        self.log.push(Change::Registered)?;
+        self.log.push(UndoLog::Registered)?;
         match self.contents.register(hidden) {
             Ok(()) => Ok(()),
             Err(error) => {
@@ -192,7 +192,7 @@ impl InferCtxtInner {
         ensures err { OnErr result (self.new ≡ self.old) }
     {
         let old = self.contents.hidden_type(n);
-        self.log.push(Change::Replaced(n, old))?;
+        self.log.push(UndoLog::Replaced(n, old))?;
         self.contents.replace(n, hidden);
         Ok(())
     }

@@ -8,9 +8,9 @@ ghost use Rattle.nts_delegate.specs.Clauses.{AreReady};
 use next_trait_solver::clauses::{Clause, Clauses};
 use next_trait_solver::solve::{evaluate_root_goal, goal_is_admitted};
 use next_trait_solver::ty::{
-    Binder, BoundIndex, BoundTy, Certainty, ClauseKind, CtorId, Cx, DefId, EvalError, GenericArg,
-    Goal, InferCtxt, Predicate, PredicateKind, Sort, Span, TraitId, TraitRef, Ty, TyKind,
-    TypingMode, UintTy, Variance,
+    Binder, BoundTy, BoundVarIndexKind, Certainty, ClauseKind, CtorId, Cx, DefId, EvalError,
+    GenericArg, Goal, InferCtxt, Predicate, PredicateKind, Sort, Span, TraitId, TraitRef, Ty,
+    TyKind, TypingMode, UintTy, Variance,
 };
 use std::alloc::Global;
 
@@ -89,7 +89,7 @@ fn add_rule_of_vec(
     ensures extends { Extends cx.old.nodes cx.new.nodes }
     ensures rest { KeepsRest cx.old cx.new }
 {
-    let any = cx.mk_ty(TyKind::Bound(BoundIndex::Canonical, BoundTy { var: 0 }))?;
+    let any = cx.mk_ty(TyKind::Bound(BoundVarIndexKind::Canonical, BoundTy { var: 0 }))?;
     let Some(condition) = holds_for(cx, clone, any.into())? else {
         return Ok(false);
     };

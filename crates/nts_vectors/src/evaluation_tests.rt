@@ -10,7 +10,7 @@ ghost use Rattle.nts_delegate.specs.Clauses.{AreReady};
 use nts_certainty::Certainty;
 use nts_delegate::{Clause, Clauses, GoalHandler};
 use nts_evaluation::{evaluate_root_goal, goal_is_admitted};
-use nts_model::{BoundIndex, Sort, UintTy};
+use nts_model::{BoundVarIndexKind, Sort, UintTy};
 use nts_resolve::eager_resolve_vars;
 use nts_store::EvalError;
 use nts_table::InferCtxt;
@@ -164,7 +164,7 @@ fn a_position_is_not_admitted(rt: HostRuntime) -> Result<(), Fail> {
     let mut cx = Cx::new(rt.alloc());
     let table = InferCtxt::new(rt.alloc(), TypingMode::PostAnalysis);
     let clone = cx.declare_trait(&[Sort::Ty])?;
-    let position = cx.mk_ty(TyKind::Bound(BoundIndex::Canonical, BoundTy { var: 0 }))?;
+    let position = cx.mk_ty(TyKind::Bound(BoundVarIndexKind::Canonical, BoundTy { var: 0 }))?;
     let goal = goal_about(&mut cx, clone, position.into())?;
     assert!(rt; !goal_is_admitted(&table, &mut cx, goal)?);
     Ok(())

@@ -11,7 +11,7 @@ use nts_canonical::{
     CanonicalInput, CanonicalVarKind, build_with_canonical, canonicalize_goal,
     instantiate_canonical, instantiate_canonical_var, same_input,
 };
-use nts_model::{BoundIndex, Sort, Variance};
+use nts_model::{BoundVarIndexKind, Sort, Variance};
 use nts_table::InferCtxt;
 use nts_terms::{
     AliasId, AliasKind, AliasTerm, Binder, BoundTy, ClauseKind, CtorId, Cx, DefId, GenericArg,
@@ -107,7 +107,10 @@ impl Fixture {
         requires { IsTable self.old.cx.nodes self.old.table }
         ensures { IsTable self.new.cx.nodes self.new.table }
     {
-        self.ty(rt, TyKind::Bound(BoundIndex::Canonical, BoundTy { var }))
+        self.ty(
+            rt,
+            TyKind::Bound(BoundVarIndexKind::Canonical, BoundTy { var }),
+        )
     }
 
     /// A list of arguments.

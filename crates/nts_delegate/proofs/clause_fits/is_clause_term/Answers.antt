@@ -8,13 +8,13 @@ use Rattle.nts_delegate.proofs.clause_fits.is_clause_term.Goals as goal
 
 pub returns-then-is_some : goal.returns-then-is_some
 returns-then-is_some c =
-    let some : is_some c.facts.result.escaping ≡ true = first_of (cc, search rules) in
-    ((λ h. cc), λ h. absurd (term_escapes c.args.cx.now.nodes c.args.fresh.now c.args.t c.facts.result c.facts.ensures some h))
+    let some : is_some c.flags.result.escaping ≡ true = first_of (cc, search rules) in
+    ((λ h. cc), λ h. absurd (term_escapes c.args.cx.now.nodes c.args.fresh.now c.args.t c.flags.result c.flags.ensures some h))
 
 pub returns : goal.returns
 returns c =
-    let none : is_some c.facts.result.escaping ≡ false = first_of (cc, search rules) in
-    let fits = term_fits c.args.cx.now.nodes c.args.fresh.now c.args.t c.facts.result c.requires c.facts.ensures none in
+    let none : is_some c.flags.result.escaping ≡ false = first_of (cc, search rules) in
+    let fits = term_fits c.args.cx.now.nodes c.args.fresh.now c.args.t c.flags.result c.requires c.flags.ensures none in
     let both : Bool → Type 0 = λ b. IsTrue b ↔ AllLabels (MayHave c.args.fresh.now) (tree_at c.args.cx.now.nodes c.args.t) in
     let wanted : Bool → Type 0 = λ b. IsTrue b ↔ IsClauseTerm c.args.cx.now.nodes c.args.fresh.now c.args.t in
     if_then c.all_labels.result both wanted (λ b h. ((λ t. fits.0 (h.0 t)), λ k. h.1 (fits.1 k))) c.all_labels.ensures

@@ -10,19 +10,19 @@ use Rattle.nts_evaluation.proofs.admission.is_root_term.Goals as goal
 
 pub returns-then-is_some : goal.returns-then-is_some
 returns-then-is_some c =
-    let some : is_some c.facts-facts.result.escaping ≡ true = first_of (cc, search rules) in
-    ((λ h. cc), λ h. absurd (root_escapes c.args.cx.now.nodes c.args.table.now c.args.t c.facts-facts.result c.facts-facts.ensures some h))
+    let some : is_some c.flags-flags.result.escaping ≡ true = first_of (cc, search rules) in
+    ((λ h. cc), λ h. absurd (root_escapes c.args.cx.now.nodes c.args.table.now c.args.t c.flags-flags.result c.flags-flags.ensures some h))
 
-pub returns-then-facts : goal.returns-then-facts
-returns-then-facts c =
-    let named : c.facts-facts.result.has_canonical ≡ true = first_of (cc, search rules) in
-    ((λ h. cc), λ h. absurd (root_named c.args.cx.now.nodes c.args.table.now c.args.t c.facts-facts.result c.facts-facts.ensures named h))
+pub returns-then-flags : goal.returns-then-flags
+returns-then-flags c =
+    let named : c.flags-flags.result.has_canonical ≡ true = first_of (cc, search rules) in
+    ((λ h. cc), λ h. absurd (root_named c.args.cx.now.nodes c.args.table.now c.args.t c.flags-flags.result c.flags-flags.ensures named h))
 
 pub returns : goal.returns
 returns c =
-    let none : is_some c.facts-facts.result.escaping ≡ false = first_of (cc, search rules) in
-    let unnamed : c.facts-facts.result.has_canonical ≡ false = first_of (cc, search rules) in
-    let same = root_term c.args.cx.now.nodes c.args.table.now c.args.t c.facts-facts.result c.facts-facts.ensures none unnamed in
+    let none : is_some c.flags-flags.result.escaping ≡ false = first_of (cc, search rules) in
+    let unnamed : c.flags-flags.result.has_canonical ≡ false = first_of (cc, search rules) in
+    let same = root_term c.args.cx.now.nodes c.args.table.now c.args.t c.flags-flags.result c.flags-flags.ensures none unnamed in
     let known : Bool → Type 0 = λ b. IsTrue b ↔ Knows (content_of c.args.cx.now.nodes c.args.table.now.entries) (tree_at c.args.cx.now.nodes c.args.t) in
     let wanted : Bool → Type 0 = λ b. IsTrue b ↔ IsRootTerm c.args.cx.now.nodes c.args.table.now c.args.t in
     if_then c.knows_node.result known wanted (λ b h. ((λ t. same.0 (h.0 t)), λ k. h.1 (same.1 k))) c.knows_node.ensures

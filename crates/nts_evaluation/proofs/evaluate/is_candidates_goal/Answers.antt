@@ -7,12 +7,12 @@ use Rattle.nts_evaluation.proofs.evaluate.is_candidates_goal.Goals as goal
 
 pub returns : goal.returns
 returns c = λ yes.
-    let env_open : is_some c.facts-env.result.escaping ≡ false = first_of (cc, search rules) in
-    let args_open : is_some c.facts-args.result.escaping ≡ false = c.is_none.ensures ∙ ap not yes in
-    let env_names : c.facts-env.result.has_canonical ≡ false = first_of (cc, search rules) in
-    let goal_names : c.facts-facts.result.has_canonical ≡ false = first_of (cc, search rules) in
+    let env_open : is_some c.flags-env.result.escaping ≡ false = first_of (cc, search rules) in
+    let args_open : is_some c.flags-args.result.escaping ≡ false = c.is_none.ensures ∙ ap not yes in
+    let env_names : c.flags-env.result.has_canonical ≡ false = first_of (cc, search rules) in
+    let goal_names : c.flags-flags.result.has_canonical ≡ false = first_of (cc, search rules) in
     let none : row_length (children (tree_at c.args.cx.now.nodes c.kind-predicate.result.vars.node)) ≡ 0 = first_of (cc, search rules) in
-    trait_asked c.args.cx.now.nodes c.args.goal c.kind-predicate.result c.in-Trait.trait_ref c.facts-env.result c.facts-facts.result c.facts-args.result
+    trait_asked c.args.cx.now.nodes c.args.goal c.kind-predicate.result c.in-Trait.trait_ref c.flags-env.result c.flags-flags.result c.flags-args.result
     (record {
       formed = c.terms_are_formed.ensures;
       holds = c.requires;
@@ -21,9 +21,9 @@ returns c = λ yes.
       row = c.len.ensures.row;
       none = none;
       is_trait = c.in-Clause.is ∙ ap predicate.Clause c.in-Trait.is;
-      env_facts = c.facts-env.ensures;
-      goal_facts = c.facts-facts.ensures;
-      args_facts = c.facts-args.ensures;
+      env_facts = c.flags-env.ensures;
+      goal_facts = c.flags-flags.ensures;
+      args_facts = c.flags-args.ensures;
       env_closed = env_open;
       args_closed = args_open;
       env_names = env_names;

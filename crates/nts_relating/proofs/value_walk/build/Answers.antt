@@ -4,7 +4,7 @@ use Rattle.nts_store.specs.Growth.{tree_at, trees_at}
 use Rattle.nts_store.proofs.Growing.{AllIn-push, Extends-refl, row_take-all}
 use Rattle.nts_relating.specs.declared.value_walk.Task.TheVariants as task
 use Rattle.nts_unify.specs.Reading.{content_of}
-use Rattle.nts_relating.specs.Relating.{Generalised, IsLike}
+use Rattle.nts_relating.specs.Relating.{Generalized, IsLike}
 use Rattle.nts_relating.specs.Parts.{inner, made_at}
 use Rattle.nts_relating.proofs.Naming.{lawful_sides}
 use Rattle.nts_relating.proofs.GenLemmas.{gen_start, gen_push, Meets-like, binders_le}
@@ -48,7 +48,7 @@ loop-i-preserved c =
     let t = tree_at ts c.args.part.term in
     let front = (AreTasks-front ts d c.args.target.universe c.args.walk.now.root c.args.walk.now.tasks.items (task.Build c.args.part) w.tasks).1.0 in
     let old = w.made (record { term = c.child-term.result; binders = c.args.part.binders + c.binders_of.result }) c.made_for.result c.made_for.ensures in
-    let stands : Generalised d d c.args.target.variable c.args.target.universe (inner c.args.part.binders t) (tree_at ts c.child-term.result) (tree_at ts c.made_for.result) = rw (under c) at old.stands in
+    let stands : Generalized d d c.args.target.variable c.args.target.universe (inner c.args.part.binders t) (tree_at ts c.child-term.result) (tree_at ts c.made_for.result) = rw (under c) at old.stands in
     let items = c.in_ok-push.ensures.items in
     record {
       all = rw items (AllIn-push _ _ _ i.all old.made_in);

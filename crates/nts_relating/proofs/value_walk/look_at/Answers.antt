@@ -31,7 +31,7 @@ name_region-requires-clause-region c =
 pub returns-then-is_settled-clause-look : goal.returns-then-is_settled-clause-look
 returns-then-is_settled-clause-look c = (
   c.requires.within,
-  settled_value (content_of c.args.nodes.now c.args.table.now.entries) c.args.target.variable c.args.target.universe c.args.target.binders (tree_at c.args.nodes.now c.args.t) _ c.requires.lawful.sound c.requires.knows c.facts.ensures (c.is_settled.ensures c.if-is_settled.true),
+  settled_value (content_of c.args.nodes.now c.args.table.now.entries) c.args.target.variable c.args.target.universe c.args.target.binders (tree_at c.args.nodes.now c.args.t) _ c.requires.lawful.sound c.requires.knows c.flags.ensures (c.is_settled.ensures c.if-is_settled.true),
 )
 
 pub returns-then-root-target : goal.returns-then-root-target

@@ -8,12 +8,12 @@ use Rattle.nts_evaluation.proofs.candidate.Trial.instantiate.Goals as goal
 pub instantiate_canonical-requires-clause-positions : goal.instantiate_canonical-requires-clause-positions
 instantiate_canonical-requires-clause-positions c = has-values _ _ _ c.requires.values.sorts c.requires.over.names
 
-pub returns-then-not-facts-clause-instance : goal.returns-then-not-facts-clause-instance
-returns-then-not-facts-clause-instance c = record {
+pub returns-then-not-flags-clause-instance : goal.returns-then-not-flags-clause-instance
+returns-then-not-flags-clause-instance c = record {
   formed = c.terms_are_formed.ensures;
   within = c.requires.over.within;
   kind = refl;
-  tree = filled-known _ _ c.facts.result c.facts.ensures c.if-not-facts.true;
+  tree = filled-known _ _ c.flags.result c.flags.ensures c.if-not-flags.true;
 }
 
 pub returns-clause-instance : goal.returns-clause-instance

@@ -1,6 +1,6 @@
 use Rattle.std.proofs.Common.{rules, ap, sym, ◌∙◌, ◌≡◌}
 use Rattle.nts_model.specs.Trees.{node}
-use Rattle.nts_store.specs.Facts.{facts_of}
+use Rattle.nts_store.specs.TypeFlags.{flags_of}
 use Rattle.nts_store.specs.Growth.{trees_at}
 use Rattle.nts_store.specs.Store.{trees, IsNode}
 use Rattle.nts_store.proofs.Inserting.{Kept, inserted, Answered, answered}
@@ -9,19 +9,19 @@ use Rattle.nts_store.proofs.nodes.Nodes.make.Goals as goal
 copied : (c : goal.In_ok-number) → c.extend_from_slice.new.self.items ≡ c.args.children.now
 copied c = search rules
 
-is_node : (c : goal.In_ok-number) → IsNode (trees c.self.inside.nodes.keys) (record { label = c.args.label; children = c.extend_from_slice.new.self; facts = c.facts_under-facts.result })
+is_node : (c : goal.In_ok-number) → IsNode (trees c.self.inside.nodes.keys) (record { label = c.args.label; children = c.extend_from_slice.new.self; flags = c.flags_under-flags.result })
 is_node c =
     record {
       all = rw (copied c, c.self.view_is) c.requires.within;
       formed = rw (copied c, c.self.view_is) c.requires.formed;
-      facts = c.facts_under-facts.ensures ∙ ap (λ ts. facts_of (node c.args.label (trees_at ts c.args.children.now))) (sym c.self.view_is) ∙ ap (λ cs. facts_of (node c.args.label (trees_at (trees c.self.inside.nodes.keys) cs))) (sym (copied c));
+      flags = c.flags_under-flags.ensures ∙ ap (λ ts. flags_of (node c.args.label (trees_at ts c.args.children.now))) (sym c.self.view_is) ∙ ap (λ cs. flags_of (node c.args.label (trees_at (trees c.self.inside.nodes.keys) cs))) (sym (copied c));
     }
 
 kept : (c : goal.In_ok-number) → Kept c.self.inside.nodes.keys c.insert_full.new.self.keys
 kept c =
     inserted c.self.inside.nodes.keys c.insert_full.new.self.keys _ c.self.invariant (is_node c) c.in_ok-number.ensures.keys
 
-result_is : (c : goal.In_ok-number) → Answered c.insert_full.new.self.keys (trees c.self.inside.nodes.keys) c.in_ok-number.number (record { label = c.args.label; children = c.extend_from_slice.new.self; facts = c.facts_under-facts.result })
+result_is : (c : goal.In_ok-number) → Answered c.insert_full.new.self.keys (trees c.self.inside.nodes.keys) c.in_ok-number.number (record { label = c.args.label; children = c.extend_from_slice.new.self; flags = c.flags_under-flags.result })
 result_is c =
     let s = c.in_ok-number.ensures.stored in
     answered c.self.inside.nodes.keys _ _ s.0 _ (kept c) (is_node c) s.1 s.2

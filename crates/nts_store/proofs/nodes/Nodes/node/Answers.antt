@@ -1,6 +1,6 @@
 use Rattle.std.proofs.Common.{arith, ap, sym, length, ◌∙◌}
 use Rattle.std.proofs.lemmas.Option.{slice_get_within, get_or_from_slice_get}
-use Rattle.nts_store.specs.Facts.{facts_of}
+use Rattle.nts_store.specs.TypeFlags.{flags_of}
 use Rattle.nts_store.proofs.Inserting.{Found, found, length-trees}
 use Rattle.nts_store.proofs.nodes.Nodes.node.Goals as goal
 
@@ -25,5 +25,5 @@ returns-clause-before c = (read c).before
 pub returns-clause-formed : goal.returns-clause-formed
 returns-clause-formed c = (read c).is_node.formed
 
-pub returns-clause-facts : goal.returns-clause-facts
-returns-clause-facts c = (read c).is_node.facts ∙ ap facts_of (sym (read c).is)
+pub returns-clause-flags : goal.returns-clause-flags
+returns-clause-flags c = (read c).is_node.flags ∙ ap flags_of (sym (read c).is)

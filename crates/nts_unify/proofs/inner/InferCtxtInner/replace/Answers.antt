@@ -1,5 +1,5 @@
 use Rattle.std.proofs.Common.{ap, ◌∙◌}
-use Rattle.nts_unify.specs.declared.contents.Change.TheVariants as change
+use Rattle.nts_unify.specs.declared.contents.UndoLog.TheVariants as change
 use Rattle.nts_unify.specs.Entries.{undone}
 use Rattle.nts_unify.proofs.SavedLemmas.{Logged, logged}
 use Rattle.nts_unify.proofs.EntryLemmas.{undone-replaced}

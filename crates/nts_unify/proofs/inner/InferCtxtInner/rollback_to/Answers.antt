@@ -1,5 +1,5 @@
 use Rattle.std.proofs.Common.{refl, ap, sym, arith, ◌≤◌, ◌∙◌, ◌++◌, ◌∷◌, [], length, drop, List, length-append}
-use Rattle.nts_unify.specs.declared.contents.Change.{Change}
+use Rattle.nts_unify.specs.declared.contents.UndoLog.{UndoLog}
 use Rattle.nts_unify.specs.Entries.{Inner, all_undone}
 use Rattle.nts_unify.proofs.SavedLemmas.{rolled_back, undone-push, AreMarks-front}
 use Rattle.nts_unify.proofs.inner.InferCtxtInner.rollback_to.Goals as goal
@@ -21,7 +21,7 @@ loop-self-preserved-in-Some-pop c =
       same = λ p h.
           ap (all_undone (drop p log)) c.undo.ensures
           ∙ sym (undone-push log x old p (omega arith))
-          ∙ ap (λ (l : List Change). all_undone (drop p l) old) (sym e)
+          ∙ ap (λ (l : List UndoLog). all_undone (drop p l) old) (sym e)
           ∙ i.same p h;
       marks = i.marks;
       kept = i.kept;

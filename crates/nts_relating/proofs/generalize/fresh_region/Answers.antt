@@ -1,6 +1,6 @@
 use Rattle.std.proofs.Common.{refl}
 use Rattle.nts_unify.specs.Lawful.{IsLawful-added, IsLawful-extended}
-use Rattle.nts_relating.proofs.generalise.fresh_region.Goals as goal
+use Rattle.nts_relating.proofs.generalize.fresh_region.Goals as goal
 
 pub returns-clause-lawful : goal.returns-clause-lawful
 returns-clause-lawful c =

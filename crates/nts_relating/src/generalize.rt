@@ -8,11 +8,11 @@ ghost use Rattle.nts_model.specs.Levels.{CanName, term_level, region_level};
 ghost use Rattle.nts_store.specs.Growth.{tree_at, IsIn, Extends};
 ghost use Rattle.nts_unify.specs.Reading.{content_of, IsLawful};
 ghost use Rattle.nts_unify.specs.Entries.{added};
-ghost use Rattle.nts_relating.specs.Relating.{Generalised, IsOpen, IsRegionOf, IsSettled};
+ghost use Rattle.nts_relating.specs.Relating.{Generalized, IsOpen, IsRegionOf, IsSettled};
 
 use indexmap::IndexSet;
-use nts_model::{BoundIndex, Constant, FreeRegion, Label, Leaf, Relation, VariableKind};
-use nts_store::{EvalError, Facts, NodeId, Nodes};
+use nts_model::{BoundVarIndexKind, Constant, FreeRegion, Label, Leaf, Relation, VariableKind};
+use nts_store::{EvalError, NodeId, Nodes, TypeFlags};
 use nts_unify::{Constraint, InferCtxtInner, State, Variable, join, join_regions, region_number};
 
 /// What a value is made for: a variable, the universe that bounds its leaves, and how many binders
@@ -26,13 +26,13 @@ pub struct Target {
 
 /// Whether a term is its own value: it has no variable and no placeholder, and no bound variable
 /// passes the binders.
-pub fn is_settled(facts: Facts, binders: usize) -> bool
-    ensures { result ≡ true → IsSettled facts binders }
+pub fn is_settled(flags: TypeFlags, binders: usize) -> bool
+    ensures { result ≡ true → IsSettled flags binders }
 {
-    if facts.has_infer || facts.has_region_infer || facts.has_placeholder {
+    if flags.has_infer || flags.has_region_infer || flags.has_placeholder {
         return false;
     }
-    match facts.escaping {
+    match flags.escaping {
         None => true,
         Some(level) => level < binders,
     }
@@ -48,7 +48,7 @@ pub fn is_allowed(target: Target, label: Label) -> bool
     match label {
         Label::Leaf(Leaf::TyConstant(Constant::Placeholder(u, _))) => u <= target.universe,
         Label::Leaf(Leaf::ConstConstant(Constant::Placeholder(u, _))) => u <= target.universe,
-        Label::Bound(_, BoundIndex::Level(level), _) => level < target.binders,
+        Label::Bound(_, BoundVarIndexKind::Bound(level), _) => level < target.binders,
         _ => true,
     }
 }
@@ -75,7 +75,7 @@ pub fn name_variable(
     ensures hidden { table.new.entries.hidden ≡ table.old.entries.hidden }
     ensures within { IfOk result (λ r. IsIn nodes.new r) }
     ensures lawful { OnOk result (IsLawful nodes.new table.new.entries) }
-    ensures generalised { IfOk result (λ r. Generalised (content_of nodes.old table.old.entries) (content_of nodes.new table.new.entries) target.variable target.universe target.binders (tree_at nodes.old t) (tree_at nodes.new r)) }
+    ensures generalized { IfOk result (λ r. Generalized (content_of nodes.old table.old.entries) (content_of nodes.new table.new.entries) target.variable target.universe target.binders (tree_at nodes.old t) (tree_at nodes.new r)) }
     ensures full { result ≢ Err EvalError.Full }
     ensures no { result ≢ Err EvalError.NoSolution }
 {
@@ -142,7 +142,7 @@ pub fn name_region(
     ensures hidden { table.new.entries.hidden ≡ table.old.entries.hidden }
     ensures within { IfOk result (λ r. IsIn nodes.new r) }
     ensures lawful { OnOk result (IsLawful nodes.new table.new.entries) }
-    ensures generalised { IfOk result (λ r. Generalised (content_of nodes.old table.old.entries) (content_of nodes.new table.new.entries) target.variable target.universe target.binders (tree_at nodes.old t) (tree_at nodes.new r)) }
+    ensures generalized { IfOk result (λ r. Generalized (content_of nodes.old table.old.entries) (content_of nodes.new table.new.entries) target.variable target.universe target.binders (tree_at nodes.old t) (tree_at nodes.new r)) }
     ensures full { result ≢ Err EvalError.Full }
     ensures no { result ≢ Err EvalError.NoSolution }
 {

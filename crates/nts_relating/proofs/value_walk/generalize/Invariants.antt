@@ -2,7 +2,7 @@ use Rattle.std.proofs.Common.{◌≡◌}
 use Rattle.nts_store.specs.Growth.{tree_at, Extends}
 use Rattle.nts_unify.specs.Reading.{content_of}
 use Rattle.nts_relating.specs.Parts.{IsWalk, Grows, made_at, weights}
-use Rattle.nts_relating.proofs.value_walk.generalise.Given as goal
+use Rattle.nts_relating.proofs.value_walk.generalize.Given as goal
 
 abbrev pub invariant-loop-task : goal.invariant-loop-task
 invariant-loop-task l = record {

@@ -5,7 +5,7 @@ use Rattle.nts_relating.specs.Parts.{made_at}
 use Rattle.nts_relating.proofs.PairLemmas.{err_of}
 use Rattle.nts_relating.proofs.ValueParts.{Grows-refl}
 use Rattle.nts_relating.proofs.ValueTurns.{walk_start, walk_end, walk_grows, walk_blocks}
-use Rattle.nts_relating.proofs.value_walk.generalise.Goals as goal
+use Rattle.nts_relating.proofs.value_walk.generalize.Goals as goal
 
 pub loop-task-init : goal.loop-task-init
 loop-task-init c =
@@ -45,7 +45,7 @@ returns-clause-within c =
     let i = c.loop-task.invariant in
     (i.walk.made (record { term = c.args.t; binders = c.args.target.binders }) c.made_for.result c.made_for.ensures).made_in
 
-pub returns-clause-generalised : goal.returns-clause-generalised
-returns-clause-generalised c =
+pub returns-clause-generalized : goal.returns-clause-generalized
+returns-clause-generalized c =
     let i = c.loop-task.invariant in
     walk_end c.args.nodes.now c.loop-task.nodes c.args.table.now.entries c.loop-task.table.entries c.args.target.variable c.args.target.universe (record { term = c.args.t; binders = c.args.target.binders }) c.loop-task.walk.tasks.items (made_at c.loop-task.walk.made) c.made_for.result i.extends c.requires.within i.grows i.walk c.made_for.ensures

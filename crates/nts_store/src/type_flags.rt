@@ -1,15 +1,15 @@
 //! What a node keeps of its tree, so that walks can stop early.
 ghost use Rattle.std.specs.Prelude.{◌≡◌};
 ghost use Rattle.nts_model.specs.Trees.{is_infer, is_region_infer, is_placeholder, is_alias, is_canonical, binders};
-ghost use Rattle.nts_store.specs.Facts.{higher, past_binders, level_of, joined, labelled, no_facts};
+ghost use Rattle.nts_store.specs.TypeFlags.{higher, past_binders, level_of, joined, labelled, no_flags};
 
 use nts_model::{
-    BoundIndex, ConstHead, Constant, FreeRegion, Label, Leaf, ListHead, TyHead, VariableKind,
+    BoundVarIndexKind, ConstHead, Constant, FreeRegion, Label, Leaf, ListHead, TyHead, VariableKind,
 };
 
 /// What is known of a whole tree.
 #[derive(Clone, Copy, PartialEq, Eq, Hash)]
-pub struct Facts {
+pub struct TypeFlags {
     /// It has an inference variable that is no region.
     pub has_infer: bool,
     /// It has a region variable.
@@ -24,12 +24,12 @@ pub struct Facts {
     pub escaping: Option<usize>,
 }
 
-impl Facts {
+impl TypeFlags {
     /// What is known of no tree at all.
-    pub(crate) fn new() -> Facts
-        ensures { result ≡ no_facts }
+    pub(crate) fn new() -> TypeFlags
+        ensures { result ≡ no_flags }
     {
-        Facts {
+        TypeFlags {
             has_infer: false,
             has_region_infer: false,
             has_placeholder: false,
@@ -40,10 +40,10 @@ impl Facts {
     }
 
     /// What is known of two trees together.
-    pub(crate) fn join(self, other: Facts) -> Facts
+    pub(crate) fn join(self, other: TypeFlags) -> TypeFlags
         ensures { result ≡ joined self other }
     {
-        Facts {
+        TypeFlags {
             has_infer: self.has_infer || other.has_infer,
             has_region_infer: self.has_region_infer || other.has_region_infer,
             has_placeholder: self.has_placeholder || other.has_placeholder,
@@ -54,10 +54,10 @@ impl Facts {
     }
 
     /// What is known of a node with this label, where this is what is known of its children.
-    pub(crate) fn under(self, label: Label) -> Facts
+    pub(crate) fn under(self, label: Label) -> TypeFlags
         ensures { result ≡ labelled label self }
     {
-        Facts {
+        TypeFlags {
             has_infer: is_infer_label(label) || self.has_infer,
             has_region_infer: is_region_infer_label(label) || self.has_region_infer,
             has_placeholder: is_placeholder_label(label) || self.has_placeholder,
@@ -105,7 +105,7 @@ fn bound_level(label: Label) -> Option<usize>
     ensures { result ≡ level_of label }
 {
     match label {
-        Label::Bound(_, BoundIndex::Level(d), _) => Some(d),
+        Label::Bound(_, BoundVarIndexKind::Bound(d), _) => Some(d),
         _ => None,
     }
 }
@@ -150,5 +150,5 @@ fn is_alias_label(label: Label) -> bool
 fn is_canonical_label(label: Label) -> bool
     ensures { result ≡ is_canonical label }
 {
-    matches!(label, Label::Bound(_, BoundIndex::Canonical, _))
+    matches!(label, Label::Bound(_, BoundVarIndexKind::Canonical, _))
 }

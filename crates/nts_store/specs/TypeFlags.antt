@@ -2,9 +2,9 @@
 use Rattle.std.specs.Prelude.{ℕ, ◌-◌, max, nat_lt, ◌||◌, false, if◌then◌else◌, Option, Some, None}
 use Rattle.nts_model.specs.declared.labels.Label.{Label}
 use Rattle.nts_model.specs.declared.labels.Label.TheVariants as label
-use Rattle.nts_model.specs.declared.labels.BoundIndex.TheVariants as index
+use Rattle.nts_model.specs.declared.labels.BoundVarIndexKind.TheVariants as index
 use Rattle.nts_model.specs.Trees.{Tree, empty, more, node, any_label, is_infer, is_region_infer, is_placeholder, is_alias, is_canonical, binders}
-use Rattle.nts_store.specs.declared.facts.Facts.{Facts}
+use Rattle.nts_store.specs.declared.type_flags.TypeFlags.{TypeFlags}
 
 abbrev pub higher : Option ℕ → Option ℕ → Option ℕ
 higher None b = b
@@ -16,7 +16,7 @@ past_binders n None = None
 past_binders n (Some d) = if nat_lt d n then None else Some (d - n)
 
 abbrev pub level_of : Label → Option ℕ
-level_of (label.Bound s (index.Level d) n) = Some d
+level_of (label.Bound s (index.Bound d) n) = Some d
 level_of l = None
 
 -- the greatest level at which a bound variable escapes from the tree
@@ -25,18 +25,18 @@ escaping empty = None
 escaping (more a b) = higher (escaping a) (escaping b)
 escaping (node l c) = higher (level_of l) (past_binders (binders l) (escaping c))
 
-abbrev pub facts_of : Tree → Facts
-facts_of t =
+abbrev pub flags_of : Tree → TypeFlags
+flags_of t =
     record { has_infer = any_label is_infer t; has_region_infer = any_label is_region_infer t; has_placeholder = any_label is_placeholder t; has_alias = any_label is_alias t; has_canonical = any_label is_canonical t; escaping = escaping t }
 
-abbrev pub no_facts : Facts
-no_facts =
+abbrev pub no_flags : TypeFlags
+no_flags =
     record { has_infer = false; has_region_infer = false; has_placeholder = false; has_alias = false; has_canonical = false; escaping = None }
 
-abbrev pub joined : Facts → Facts → Facts
+abbrev pub joined : TypeFlags → TypeFlags → TypeFlags
 joined a b =
     record { has_infer = a.has_infer || b.has_infer; has_region_infer = a.has_region_infer || b.has_region_infer; has_placeholder = a.has_placeholder || b.has_placeholder; has_alias = a.has_alias || b.has_alias; has_canonical = a.has_canonical || b.has_canonical; escaping = higher a.escaping b.escaping }
 
-abbrev pub labelled : Label → Facts → Facts
+abbrev pub labelled : Label → TypeFlags → TypeFlags
 labelled l a =
     record { has_infer = is_infer l || a.has_infer; has_region_infer = is_region_infer l || a.has_region_infer; has_placeholder = is_placeholder l || a.has_placeholder; has_alias = is_alias l || a.has_alias; has_canonical = is_canonical l || a.has_canonical; escaping = higher (level_of l) (past_binders (binders l) a.escaping) }
