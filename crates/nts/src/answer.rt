@@ -1,7 +1,6 @@
 //! Asking a goal.
 ghost use Rattle.std.specs.Prelude.{◌≡◌, ◌≢◌, All, map, Some, IfOk, OnOk};
 ghost use Rattle.nts_store.specs.Growth.{Extends};
-ghost use Rattle.nts_terms.specs.Rest.{KeepsRest};
 ghost use Rattle.nts_unify.specs.Reading.{content_of};
 ghost use Rattle.nts_table.specs.Tables.{IsTable};
 ghost use Rattle.nts_terms.specs.Handles.{HoldsGoal};
@@ -12,6 +11,7 @@ ghost use Rattle.nts.specs.Proving.{IsTypingMode, IsProvedIn, IsJustified};
 ghost use Rattle.nts.specs.Found.{AreResolved, IsFoundIn, IsOf, IsValue};
 ghost use Rattle.nts.specs.Meaning.{IsGoalFor};
 ghost use Rattle.nts_store.specs.Growth.{tree_at};
+ghost use Rattle.nts_terms.specs.Rest.{Grows};
 
 use crate::build::{MISFIT, Terms, predicate_of, trait_refs};
 use crate::status::Stop;
@@ -64,8 +64,7 @@ fn typing_mode(alloc: Global, mode: Mode) -> TypingMode
 pub fn ask(cx: &mut Cx, clauses: &Clauses, mode: Mode, nodes: &[Resolved]) -> Result<Answer, Stop>
     requires ready { AreReady cx.old.nodes clauses.now }
     ensures yes { IfOk result (IsJustified mode nodes.now cx.old.nodes cx.new.nodes clauses.now) }
-    ensures extends { Extends cx.old.nodes cx.new.nodes }
-    ensures rest { KeepsRest cx.old cx.new }
+    ensures grows { Grows cx.old cx.new }
 {
     let mut variables = LineVariables::new(cx.alloc);
     variables.see(nodes)?;
@@ -99,8 +98,7 @@ fn answer_of(
     ensures variables { IfOk result (IsOf variables) }
     ensures found { IfOk result (IsFoundIn cx.old.nodes cx.new.nodes
         (content_of cx.old.nodes table.now.entries) values.now) }
-    ensures extends { Extends cx.old.nodes cx.new.nodes }
-    ensures rest { KeepsRest cx.old cx.new }
+    ensures grows { Grows cx.old cx.new }
 {
     let values = resolved_values(table, cx, values)?;
     let facts = table.make_deduplicated_region_constraints(cx)?;
@@ -114,8 +112,7 @@ fn answer_of(
 /// New variables of these sorts.
 fn fresh_values(table: &mut InferCtxt, cx: &mut Cx, sorts: &[Sort]) -> Result<Vec<GenericArg>, Stop>
     requires table { IsTable cx.old.nodes table.old }
-    ensures extends { Extends cx.old.nodes cx.new.nodes }
-    ensures rest { KeepsRest cx.old cx.new }
+    ensures grows { Grows cx.old cx.new }
     ensures table { IsTable cx.new.nodes table.new }
     ensures values { IfOk result (λ vs. All (λ v. IsValue cx.new.nodes table.new v) vs.items) }
     ensures sorts { IfOk result (λ vs. AreOfSorts sorts.now (map (tree_at cx.new.nodes) (map
@@ -143,8 +140,7 @@ fn goal_of(cx: &mut Cx, nodes: &[Resolved], terms: Terms<'_>) -> Result<Goal, St
     ensures asks { IfOk result (IsGoalFor cx.new.nodes terms.entry.variables.now
         terms.entry.values.now nodes.now) }
     ensures holds { IfOk result (λ g. HoldsGoal cx.new.nodes g) }
-    ensures extends { Extends cx.old.nodes cx.new.nodes }
-    ensures rest { KeepsRest cx.old cx.new }
+    ensures grows { Grows cx.old cx.new }
 {
     let found = trait_refs(cx, nodes, terms)?;
     let [trait_ref] = found.as_slice() else {
@@ -172,8 +168,7 @@ fn evaluated(
     requires ready { AreReady cx.old.nodes clauses.now }
     requires holds { HoldsGoal cx.old.nodes goal }
     requires values { All (λ v. IsValue cx.old.nodes table.old v) values.now }
-    ensures extends { Extends cx.old.nodes cx.new.nodes }
-    ensures rest { KeepsRest cx.old cx.new }
+    ensures grows { Grows cx.old cx.new }
     ensures table { OnOk result (IsTable cx.new.nodes table.new) }
     ensures values { OnOk result (All (λ v. IsValue cx.new.nodes table.new v) values.now) }
     ensures admitted { IfOk result (λ _. IsAdmitted cx.old.nodes table.old goal) }
@@ -205,8 +200,7 @@ fn resolved_values(
     requires values { All (λ v. IsValue cx.old.nodes table.now v) values.now }
     ensures resolved { IfOk result (λ vs. AreResolved cx.old.nodes cx.new.nodes
         (content_of cx.old.nodes table.now.entries) values.now vs.items) }
-    ensures extends { Extends cx.old.nodes cx.new.nodes }
-    ensures rest { KeepsRest cx.old cx.new }
+    ensures grows { Grows cx.old cx.new }
 {
     let mut found = Vec::new(cx.alloc);
     for value in values {

@@ -6,7 +6,7 @@ ghost use Rattle.nts_terms.specs.Kinds.{tree_of_ty};
 ghost use Rattle.nts_terms.specs.declared.kinds.TyKind.TheVariants as ty;
 ghost use Rattle.nts.specs.Meaning.{tree_at_place, TakesArguments, MakesArgument, AreSaid, States};
 ghost use Rattle.nts_terms.specs.Handles.{HoldsArg, HoldsArgs, HoldsPredicate};
-ghost use Rattle.nts_terms.specs.Rest.{KeepsRest};
+ghost use Rattle.nts_terms.specs.Rest.{Grows};
 
 use crate::status::Stop;
 use crate::variables::LineVariables;
@@ -62,8 +62,7 @@ fn parameter(number: usize) -> Result<u32, Stop>
 pub fn trait_refs(cx: &mut Cx, nodes: &[Resolved], terms: Terms<'_>) -> Result<Vec<TraitRef>, Stop>
     ensures said { IfOk result (λ rs. AreSaid cx.new.nodes terms.entry.variables.now
         terms.entry.values.now nodes.now rs.items) }
-    ensures extends { Extends cx.old.nodes cx.new.nodes }
-    ensures rest { KeepsRest cx.old cx.new }
+    ensures grows { Grows cx.old cx.new }
 {
     let alloc = cx.alloc;
     let mut made = Vec::new(alloc);
@@ -100,8 +99,7 @@ fn argument(
 ) -> Result<GenericArg, Stop>
     ensures makes { IfOk result (MakesArgument cx.new.nodes terms.entry.variables.now
         terms.entry.values.now node made.old made.new) }
-    ensures extends { Extends cx.old.nodes cx.new.nodes }
-    ensures rest { KeepsRest cx.old cx.new }
+    ensures grows { Grows cx.old cx.new }
 {
     match node {
         Resolved::Trait { .. } => Err(MISFIT),
@@ -136,8 +134,7 @@ fn are_held(cx: &Cx, args: &[GenericArg]) -> bool
 fn take_args(cx: &mut Cx, made: &mut Vec<GenericArg>, count: usize) -> Result<GenericArgs, Stop>
     ensures takes { IfOk result (TakesArguments cx.new.nodes made.old made.new count) }
     ensures holds { IfOk result (λ a. HoldsArgs cx.new.nodes a) }
-    ensures extends { Extends cx.old.nodes cx.new.nodes }
-    ensures rest { KeepsRest cx.old cx.new }
+    ensures grows { Grows cx.old cx.new }
 {
     let mut args = Vec::new(cx.alloc);
     'taking: while args.len() < count {
@@ -156,8 +153,7 @@ fn constructed(cx: &mut Cx, ctor: CtorId, args: GenericArgs) -> Result<GenericAr
     ensures tree { IfOk result (λ a. tree_at cx.new.nodes a.node ≡ tree_of_ty cx.old.nodes
         (ty.Ctor ctor args)) }
     ensures holds { IfOk result (HoldsArg cx.new.nodes) }
-    ensures extends { Extends cx.old.nodes cx.new.nodes }
-    ensures rest { KeepsRest cx.old cx.new }
+    ensures grows { Grows cx.old cx.new }
 {
     if !cx.fits(DefId::Ctor(ctor), args) {
         return Err(MISFIT);
@@ -170,8 +166,7 @@ fn constructed(cx: &mut Cx, ctor: CtorId, args: GenericArgs) -> Result<GenericAr
 pub fn predicate_of(cx: &mut Cx, trait_ref: TraitRef) -> Result<Predicate, Stop>
     ensures states { IfOk result (States cx.new.nodes trait_ref) }
     ensures holds { IfOk result (λ p. HoldsPredicate cx.new.nodes p) }
-    ensures extends { Extends cx.old.nodes cx.new.nodes }
-    ensures rest { KeepsRest cx.old cx.new }
+    ensures grows { Grows cx.old cx.new }
 {
     let vars = cx.mk_bound_vars(&[])?;
     if !cx.holds(trait_ref.args) || !cx.fits(DefId::Trait(trait_ref.def_id), trait_ref.args) {
@@ -184,8 +179,7 @@ pub fn predicate_of(cx: &mut Cx, trait_ref: TraitRef) -> Result<Predicate, Stop>
 /// The variables of a clause: the places of a canonical value, of these sorts.
 #[tactic(auto, using(crate::proofs::Asking::growing))]
 pub fn positions(cx: &mut Cx, sorts: &[Sort]) -> Result<Vec<GenericArg>, Stop>
-    ensures extends { Extends cx.old.nodes cx.new.nodes }
-    ensures rest { KeepsRest cx.old cx.new }
+    ensures grows { Grows cx.old cx.new }
 {
     let mut values = Vec::new(cx.alloc);
     for (var, sort) in sorts.iter().enumerate() {

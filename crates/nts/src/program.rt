@@ -1,7 +1,6 @@
 //! The state of a run, and what each command does to it.
 ghost use Rattle.std.specs.Prelude.{◌≡◌, true, false, length, map, IsNone, IfOk, OnOk, OnErr};
 ghost use Rattle.nts_store.specs.Growth.{Extends};
-ghost use Rattle.nts_terms.specs.Rest.{KeepsRest};
 ghost use Rattle.nts_terms.specs.Signatures.{with_ctor, with_trait};
 ghost use Rattle.nts_delegate.specs.Adding.{AddsClause, MakesCoinductive};
 ghost use Rattle.nts_delegate.specs.Clauses.{AreReady};
@@ -9,6 +8,7 @@ ghost use Rattle.nts_delegate.specs.declared.clauses.Clause.{Clause};
 ghost use Rattle.nts_text.specs.Lines.{IsPassedOver};
 ghost use Rattle.nts_text.specs.Resolution.{trait_sorts};
 ghost use Rattle.nts.specs.Obeying.{IsNew, Follows, Grows, KeepsRules, IsTold, IsObeyed};
+ghost use Rattle.nts_terms.specs.Rest.{Grows};
 
 use crate::answer::ask;
 use crate::build::{MISFIT, Terms, positions, predicate_of, trait_refs};
@@ -204,8 +204,7 @@ fn variances_of(alloc: Global, params: &[Param]) -> Result<Vec<Variance>, AllocE
 /// The rule that a line says: its head holds where its body does.
 #[tactic(auto, using(crate::proofs::Asking::growing))]
 fn clause_of(cx: &mut Cx, head: &[Resolved], body: &[Resolved]) -> Result<Clause, Stop>
-    ensures extends { Extends cx.old.nodes cx.new.nodes }
-    ensures rest { KeepsRest cx.old cx.new }
+    ensures grows { Grows cx.old cx.new }
 {
     let mut variables = LineVariables::new(cx.alloc);
     variables.see(head)?;
@@ -231,8 +230,7 @@ fn clause_of(cx: &mut Cx, head: &[Resolved], body: &[Resolved]) -> Result<Clause
 /// The predicates that these nodes say.
 #[tactic(auto, using(crate::proofs::Asking::growing))]
 fn conditions(cx: &mut Cx, body: &[Resolved], terms: Terms<'_>) -> Result<Vec<Predicate>, Stop>
-    ensures extends { Extends cx.old.nodes cx.new.nodes }
-    ensures rest { KeepsRest cx.old cx.new }
+    ensures grows { Grows cx.old cx.new }
 {
     let mut predicates = Vec::new(cx.alloc);
     for trait_ref in trait_refs(cx, body, terms)? {

@@ -9,13 +9,14 @@ ghost use Rattle.nts_terms.specs.Modes.{mode_of};
 ghost use Rattle.nts_canonical.specs.SubRoots.{sub_root_in};
 ghost use Rattle.nts_store.specs.Growth.{tree_at, IsIn, Extends};
 ghost use Rattle.nts_terms.specs.Handles.{HoldsArg};
-ghost use Rattle.nts_terms.specs.Rest.{KeepsRest, Grows};
 ghost use Rattle.nts_unify.specs.Reading.{content_of, IsHiddenType};
 ghost use Rattle.nts_table.specs.Tables.{IsTable};
 ghost use Rattle.nts_canonical.specs.Forms.{kind_of_var, form_of, query_tree, trees_of, HoldsQuery};
 ghost use Rattle.nts_canonical.specs.Kinds.{AreInputKinds, universe_of_kind, value_leaves, made_variables};
 ghost use Rattle.nts_canonical.specs.Replaced.{AreLeafArgs};
 ghost use Rattle.nts_canonical.specs.Building.{kinds_of, values_of, made_entries, type_variable_of, IsInputOf, IsValueOf, IsArgOf, hidden_of, RegistersAll};
+ghost use Rattle.nts_terms.specs.Rest.{Grows};
+ghost use Rattle.nts_table.specs.Frames.{ChangesEntries};
 
 use crate::instantiate::instantiate_canonical;
 use crate::types::{CanonicalInput, CanonicalVarKind, QueryInput};
@@ -73,11 +74,9 @@ pub fn instantiate_canonical_var<F: Fn(UniverseIndex) -> UniverseIndex>(
     requires callable { F.IsAlwaysCallable universe_map }
     ensures value { IfOk result (λ r. (u : ℕ) × F.post universe_map (universe_of_kind (kind_of_var kind)) u × IsValueOf (kind_of_var kind) u (trees_of cx.old.nodes var_values.now) table.old.entries table.new.entries (tree_at cx.new.nodes r.node)) }
     ensures holds { IfOk result (HoldsArg cx.new.nodes) }
-    ensures saved { table.new.saved ≡ table.old.saved }
-    ensures mode { table.new.mode ≡ table.old.mode }
+    ensures changes { ChangesEntries table.old table.new }
     ensures table { IsTable cx.new.nodes table.new }
-    ensures extends { Extends cx.old.nodes cx.new.nodes }
-    ensures rest { KeepsRest cx.old cx.new }
+    ensures grows { Grows cx.old cx.new }
     ensures err { OnErr result (table.new ≡ table.old) }
     ensures memory { IsOkUnless result Fault.Memory }
 {
@@ -113,11 +112,9 @@ fn value_in(
     requires values { All (IsArgOf cx.old.nodes table.old.entries) var_values.now }
     ensures value { IfOk result (λ r. IsValueOf (kind_of_var kind) universe (trees_of cx.old.nodes var_values.now) table.old.entries table.new.entries (tree_at cx.new.nodes r.node)) }
     ensures holds { IfOk result (HoldsArg cx.new.nodes) }
-    ensures saved { table.new.saved ≡ table.old.saved }
-    ensures mode { table.new.mode ≡ table.old.mode }
+    ensures changes { ChangesEntries table.old table.new }
     ensures table { IsTable cx.new.nodes table.new }
-    ensures extends { Extends cx.old.nodes cx.new.nodes }
-    ensures rest { KeepsRest cx.old cx.new }
+    ensures grows { Grows cx.old cx.new }
     ensures err { OnErr result (table.new ≡ table.old) }
     ensures memory { IsOkUnless result Fault.Memory }
 {
@@ -182,11 +179,9 @@ fn make_values(
     requires kinds { AreInputKinds (map kind_of_var kinds.now) }
     ensures values { IfOk result (λ v. AreLeafArgs cx.new.nodes v.items (value_leaves 0 (map kind_of_var kinds.now))) }
     ensures entries { OnOk result (table.new.entries ≡ record table.old.entries { variables = made_variables [] (map kind_of_var kinds.now) }) }
-    ensures saved { table.new.saved ≡ table.old.saved }
-    ensures mode { table.new.mode ≡ table.old.mode }
+    ensures changes { ChangesEntries table.old table.new }
     ensures table { IsTable cx.new.nodes table.new }
-    ensures extends { Extends cx.old.nodes cx.new.nodes }
-    ensures rest { KeepsRest cx.old cx.new }
+    ensures grows { Grows cx.old cx.new }
     ensures memory { IsOkUnless result Fault.Memory }
 {
     let mut values = Vec::with_capacity(cx.alloc, kinds.len())?;
@@ -208,11 +203,9 @@ fn register_hidden(
     requires hidden { All (λ h. IsHiddenType cx.old.nodes (content_of cx.old.nodes table.old.entries) (hidden_of h)) hidden.now }
     ensures registered { OnOk result (RegistersAll cx.new.nodes (content_of cx.new.nodes table.old.entries) table.old.entries.hidden hidden.now table.new.entries.hidden) }
     ensures entries { OnOk result (table.new.entries ≡ record table.old.entries { hidden = table.new.entries.hidden }) }
-    ensures saved { table.new.saved ≡ table.old.saved }
-    ensures mode { table.new.mode ≡ table.old.mode }
+    ensures changes { ChangesEntries table.old table.new }
     ensures table { IsTable cx.new.nodes table.new }
-    ensures extends { Extends cx.old.nodes cx.new.nodes }
-    ensures rest { KeepsRest cx.old cx.new }
+    ensures grows { Grows cx.old cx.new }
     ensures memory { IsOkUnless result Fault.Memory }
 {
     for i in 0..hidden.len() {

@@ -4,9 +4,9 @@ ghost use Rattle.nts_model.specs.Handlers.{filled};
 ghost use Rattle.nts_store.specs.Growth.{tree_at, AllIn, Extends};
 ghost use Rattle.nts_terms.specs.Handles.{Holds, HoldsArg};
 ghost use Rattle.nts_store.specs.Filled.{HasValues};
-ghost use Rattle.nts_terms.specs.Rest.{KeepsRest};
 ghost use Rattle.nts_canonical.specs.Forms.{alias_tree, hidden_row, query_tree, trees_of, IsHidden, AreHidden, HoldsQuery};
 ghost use Rattle.nts_canonical.specs.Replaced.{IsImage, AreImages};
+ghost use Rattle.nts_terms.specs.Rest.{Grows};
 
 use crate::types::{Canonical, QueryInput};
 use nts_store::{Fault, NodeId, Nodes};
@@ -25,8 +25,7 @@ pub fn instantiate_canonical(
     requires positions { HasValues (trees_of cx.old.nodes values.now) (query_tree cx.old.nodes canonical.now.value) }
     ensures tree { IfOk result (λ q. query_tree cx.new.nodes q ≡ filled (trees_of cx.old.nodes values.now) (query_tree cx.old.nodes canonical.now.value)) }
     ensures holds { IfOk result (HoldsQuery cx.new.nodes) }
-    ensures extends { Extends cx.old.nodes cx.new.nodes }
-    ensures rest { KeepsRest cx.old cx.new }
+    ensures grows { Grows cx.old cx.new }
     ensures memory { IsOkUnless result Fault.Memory }
 {
     let values = nodes_of(cx.alloc, values)?;

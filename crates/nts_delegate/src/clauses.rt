@@ -4,8 +4,8 @@ ghost use Rattle.nts_model.specs.Trees.{Tree, row_length, children, IsRow};
 ghost use Rattle.nts_store.specs.Growth.{tree_at, Extends};
 ghost use Rattle.nts_terms.specs.Handles.{HoldsArgs};
 ghost use Rattle.nts_terms.specs.Kinds.{tree_of_statement, StatementFits, tree_of_clause, ClauseFits};
-ghost use Rattle.nts_terms.specs.Rest.{KeepsRest};
 ghost use Rattle.nts_delegate.specs.Offers.{IsOffer, ArePairs, asked_by, read_trait, trait_read, HoldsTrait};
+ghost use Rattle.nts_terms.specs.Rest.{Grows};
 
 use crate::delegate::{CandidateData, CandidateGoal, Equation, EquationKind, GoalHandler};
 use nts_certainty::{Certainty, GoalSource, RerunCondition};
@@ -137,8 +137,7 @@ impl GoalHandler for Clauses {
             (tree_at cx.new.nodes goal.param_env.node) (tree_at cx.new.nodes goal.predicate.node)) }
         ensures same { cx.new ≡ cx.old }
         ensures candidates { IfOk result (λ cs. AreCandidates cx.new.nodes goal cs.items) }
-        ensures extends { Extends cx.old.nodes cx.new.nodes }
-        ensures rest { KeepsRest cx.old cx.new }
+        ensures grows { Grows cx.old cx.new }
         ensures memory { IsOkUnless result Fault.Memory }
     {
         let _ = mode;

@@ -2,7 +2,7 @@
 ghost use Rattle.std.specs.Prelude.{List, IfOk, IsOkUnless};
 ghost use Rattle.nts_model.specs.Trees.{Tree};
 ghost use Rattle.nts_store.specs.Growth.{Extends};
-ghost use Rattle.nts_terms.specs.Rest.{KeepsRest};
+ghost use Rattle.nts_terms.specs.Rest.{Grows};
 
 use nts_certainty::{Certainty, GoalSource, RerunCondition};
 use nts_model::{Relation, Sort};
@@ -92,8 +92,7 @@ pub trait GoalHandler {
         ensures offered { IfOk result (λ cs. candidates_of cx.new.nodes cs.items ≡
             (handler cx.new.nodes self.now).offers (mode_of mode.now)
             (tree_at cx.new.nodes goal.param_env.node) (tree_at cx.new.nodes goal.predicate.node)) }
-        ensures extends { Extends cx.old.nodes cx.new.nodes }
-        ensures rest { KeepsRest cx.old cx.new }
+        ensures grows { Grows cx.old cx.new }
         ensures memory { IsOkUnless result Fault.Memory };
 
     /// Whether a cycle through conditions of this trait's impls holds.

@@ -3,11 +3,11 @@ ghost use Rattle.std.specs.Prelude.{◌≡◌, ◌↔◌, IsTrue, false, IfOk, I
 ghost use Rattle.nts_model.specs.Trees.{any_label};
 ghost use Rattle.nts_model.specs.Resolving.{deeply_resolved};
 ghost use Rattle.nts_store.specs.Growth.{tree_at, IsIn, Extends};
-ghost use Rattle.nts_terms.specs.Rest.{KeepsRest};
 ghost use Rattle.nts_unify.specs.Reading.{content_of};
 ghost use Rattle.nts_table.specs.Tables.{IsTable};
 ghost use Rattle.nts_evaluation.specs.Evaluation.{IsRootTerm, is_type_variable, is_internal};
 ghost use Rattle.nts_table.specs.Tables.{IsTermOf};
+ghost use Rattle.nts_terms.specs.Rest.{Grows};
 
 use crate::candidate::resolve_term;
 use nts_model::{Label, Leaf, PredicateHead, VariableKind};
@@ -74,8 +74,7 @@ pub fn is_settled_env(table: &InferCtxt, cx: &mut Cx, t: NodeId) -> Result<bool,
     requires term { IsTermOf cx.old.nodes table.now t }
     ensures answer { IfOk result (λ b. IsTrue b ↔ (any_label is_type_variable (deeply_resolved
         (content_of cx.old.nodes table.now.entries) (tree_at cx.old.nodes t)) ≡ false)) }
-    ensures extends { Extends cx.old.nodes cx.new.nodes }
-    ensures rest { KeepsRest cx.old cx.new }
+    ensures grows { Grows cx.old cx.new }
     ensures memory { IsOkUnless result Fault.Memory }
 {
     let resolved = resolve_term(table, cx, t)?;

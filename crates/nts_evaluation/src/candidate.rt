@@ -3,7 +3,6 @@ ghost use Rattle.std.specs.Prelude.{◌≡◌, ◌≢◌, true, List, map, IfOk,
 ghost use Rattle.nts_model.specs.Trees.{kind_of};
 ghost use Rattle.nts_store.specs.Growth.{tree_at, IsIn, Extends};
 ghost use Rattle.nts_store.specs.Formed.{AreFormed};
-ghost use Rattle.nts_terms.specs.Rest.{KeepsRest};
 ghost use Rattle.nts_unify.specs.Reading.{content_of};
 ghost use Rattle.nts_table.specs.Tables.{IsTable};
 ghost use Rattle.nts_table.specs.Resolution.{IsResolved};
@@ -16,6 +15,7 @@ ghost use Rattle.nts_evaluation.specs.Running.{Stays, EquationHolds, ConstraintH
 ghost use Rattle.nts_evaluation.specs.Evaluation.{Runs, IsPosed, AreValues};
 ghost use Rattle.nts_table.specs.Tables.{IsTermOf};
 ghost use Rattle.nts_evaluation.specs.Instances.{HoldsValues, IsInstance, Asks};
+ghost use Rattle.nts_terms.specs.Rest.{Grows};
 
 use nts_delegate::{CandidateData, Equation, RegionConstraint};
 use nts_model::{Relation, Sort};
@@ -56,8 +56,7 @@ impl Trial<'_> {
     fn instantiate(self, cx: &mut Cx, t: NodeId) -> Result<NodeId, Fault>
         requires over { IsOver cx.old.nodes self.fresh.now self.goal t }
         requires values { HoldsValues cx.old.nodes self.fresh.now self.values.now }
-        ensures extends { Extends cx.old.nodes cx.new.nodes }
-        ensures rest { KeepsRest cx.old cx.new }
+        ensures grows { Grows cx.old cx.new }
         ensures instance { IfOk result (IsInstance cx.old.nodes cx.new.nodes self.entry.values.now
             t) }
         ensures memory { IsOkUnless result Fault.Memory }
@@ -79,8 +78,7 @@ impl Trial<'_> {
         requires right { IsOver cx.old.nodes self.fresh.now self.goal b }
         requires holds { HoldsGoal cx.old.nodes self.goal }
         requires values { HoldsValues cx.old.nodes self.fresh.now self.values.now }
-        ensures extends { Extends cx.old.nodes cx.new.nodes }
-        ensures rest { KeepsRest cx.old cx.new }
+        ensures grows { Grows cx.old cx.new }
         ensures left { IfOk result (λ r. IsInstance cx.old.nodes cx.new.nodes self.entry.values.now
             a r.0) }
         ensures right { IfOk result (λ r. IsInstance cx.old.nodes cx.new.nodes self.entry.values.now
@@ -98,8 +96,7 @@ impl Trial<'_> {
         requires posed { IsPosed cx.old.nodes table.now self.goal }
         requires nested { IsNested cx.old.nodes self.fresh.now self.goal nested }
         requires values { AreValues cx.old.nodes table.now self.fresh.now self.values.now }
-        ensures extends { Extends cx.old.nodes cx.new.nodes }
-        ensures rest { KeepsRest cx.old cx.new }
+        ensures grows { Grows cx.old cx.new }
         ensures posed { IfOk result (λ g. IsPosed cx.new.nodes table.now g) }
         ensures asks { IfOk result (Asks cx.old.nodes cx.new.nodes
             (content_of cx.old.nodes table.now.entries) self.entry.values.now nested) }
@@ -121,8 +118,7 @@ impl Trial<'_> {
 pub fn resolve_term(table: &InferCtxt, cx: &mut Cx, t: NodeId) -> Result<NodeId, Fault>
     requires table { IsTable cx.old.nodes table.now }
     requires term { IsTermOf cx.old.nodes table.now t }
-    ensures extends { Extends cx.old.nodes cx.new.nodes }
-    ensures rest { KeepsRest cx.old cx.new }
+    ensures grows { Grows cx.old cx.new }
     ensures term { IfOk result (λ r. IsTermOf cx.new.nodes table.now r) }
     ensures kind { IfOk result (λ r. kind_of (tree_at cx.new.nodes r) ≡ kind_of
         (tree_at cx.old.nodes t)) }
@@ -142,8 +138,7 @@ pub fn resolve_term(table: &InferCtxt, cx: &mut Cx, t: NodeId) -> Result<NodeId,
 /// A goal with all its variables replaced by values and roots.
 pub fn resolve_goal(table: &InferCtxt, cx: &mut Cx, goal: Goal) -> Result<Goal, Fault>
     requires { IsPosed cx.old.nodes table.now goal }
-    ensures extends { Extends cx.old.nodes cx.new.nodes }
-    ensures rest { KeepsRest cx.old cx.new }
+    ensures grows { Grows cx.old cx.new }
     ensures posed { IfOk result (λ g. IsPosed cx.new.nodes table.now g) }
     ensures env { IfOk result (λ g. tree_at cx.new.nodes g.param_env.node ≡ deeply_resolved
         (content_of cx.old.nodes table.now.entries) (tree_at cx.old.nodes goal.param_env.node)) }
@@ -244,8 +239,7 @@ pub fn candidate_holds(
     requires posed { IsPosed cx.old.nodes table.old goal }
     requires candidate { IsCandidate cx.old.nodes goal candidate.now }
     ensures same { table.new ≡ table.old }
-    ensures extends { Extends cx.old.nodes cx.new.nodes }
-    ensures rest { KeepsRest cx.old cx.new }
+    ensures grows { Grows cx.old cx.new }
     ensures no { result ≢ Err EvalError.NoSolution }
     ensures full { result ≢ Err EvalError.Full }
 {

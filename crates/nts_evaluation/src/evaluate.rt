@@ -2,7 +2,6 @@
 //! they call and is not of the recursion is kept out of their frames, by `inline(never)`.
 ghost use Rattle.std.specs.Prelude.{true, false, ◌≡◌, ◌≢◌, ◌<◌, ◌≤◌, ◌/◌, ◌-◌, IfOk, OnErr, IfSome, IsNone, ◌↔◌, length, get_or};
 ghost use Rattle.nts_store.specs.Growth.{Extends};
-ghost use Rattle.nts_terms.specs.Rest.{KeepsRest};
 ghost use Rattle.nts_delegate.specs.Candidates.{IsAsked, IsCandidate, AreCandidates, IsNested};
 ghost use Rattle.nts_terms.specs.Handles.{HoldsGoal};
 ghost use Rattle.nts_terms.specs.Modes.{mode_of};
@@ -10,6 +9,7 @@ ghost use Rattle.nts_evaluation.specs.Meant.{Since, meaning_since, IfYes, IsPrem
 ghost use Rattle.nts_evaluation.specs.Evaluation.{Runs, IsPosed, AreValues};
 ghost use Rattle.nts_evaluation.specs.Choices.{IsWithin};
 ghost use Rattle.nts_certainty.specs.declared.certainty.Certainty.TheVariants as certainty;
+ghost use Rattle.nts_terms.specs.Rest.{Grows};
 
 use crate::candidate::{Trial, candidate_holds, equate, record_constraints, terms_are_formed};
 use nts_certainty::Certainty;
@@ -194,8 +194,7 @@ fn choose(
     requires posed { IsPosed cx.old.nodes table.old goal }
     requires candidates { AreCandidates cx.old.nodes goal candidates.now }
     ensures same { table.new ≡ table.old }
-    ensures extends { Extends cx.old.nodes cx.new.nodes }
-    ensures rest { KeepsRest cx.old cx.new }
+    ensures grows { Grows cx.old cx.new }
     ensures within { IfOk result (IsWithin (length candidates.now)) }
     ensures no { result ≢ Err EvalError.NoSolution }
     ensures full { result ≢ Err EvalError.Full }

@@ -3,7 +3,6 @@ ghost use Rattle.std.specs.Prelude.{ℕ, ◌≡◌, ◌≢◌, ◌↔◌, List, 
 ghost use Rattle.nts_model.specs.declared.labels.Variance.{Variance};
 ghost use Rattle.nts_model.specs.Handlers.{meaning};
 ghost use Rattle.nts_store.specs.Growth.{Extends};
-ghost use Rattle.nts_terms.specs.Rest.{KeepsRest};
 ghost use Rattle.nts_table.specs.Tables.{IsTable};
 ghost use Rattle.nts_terms.specs.Modes.{mode_of};
 ghost use Rattle.nts_evaluation.specs.Running.{HasHeldProofIn};
@@ -11,6 +10,7 @@ ghost use Rattle.nts_terms.specs.Handles.{HoldsGoal};
 ghost use Rattle.nts_evaluation.specs.Evaluation.{Runs, IsAdmitted, IsPosed};
 ghost use Rattle.nts_evaluation.specs.Meant.{Since, IsProvedSince};
 ghost use Rattle.nts_certainty.specs.declared.certainty.Certainty.TheVariants as certainty;
+ghost use Rattle.nts_terms.specs.Rest.{Grows};
 
 use crate::admission::{is_asked, is_root_term, is_settled_env};
 use crate::candidate::{resolve_goal, terms_are_formed};
@@ -46,8 +46,7 @@ pub fn goal_is_admitted(table: &InferCtxt, cx: &mut Cx, goal: Goal) -> Result<bo
     requires table { IsTable cx.old.nodes table.now }
     requires holds { HoldsGoal cx.old.nodes goal }
     ensures admitted { IfOk result (λ b. IsTrue b ↔ IsAdmitted cx.old.nodes table.now goal) }
-    ensures extends { Extends cx.old.nodes cx.new.nodes }
-    ensures rest { KeepsRest cx.old cx.new }
+    ensures grows { Grows cx.old cx.new }
     ensures memory { IsOkUnless result Fault.Memory }
 {
     let env = goal.param_env.node;

@@ -4,8 +4,8 @@ ghost use Rattle.std.specs.Allocator.{alloc_error};
 ghost use Rattle.nts_model.specs.Trees.{Tree, node, children, kind_of, kind_of_label, shape, Meets, binders};
 ghost use Rattle.nts_store.specs.Growth.{tree_at, trees_at, IsIn, AllIn, Extends};
 ghost use Rattle.nts_terms.specs.Handles.{HoldsTy, HoldsRegion, HoldsConst, HoldsTerm, HoldsPredicate};
-ghost use Rattle.nts_terms.specs.Rest.{KeepsRest};
 ghost use Rattle.nts_folding.specs.Folding.{Asks, AtBinder, Starts, ComesBack, Walk};
+ghost use Rattle.nts_terms.specs.Rest.{Grows};
 
 use nts_model::{Label, ListHead, Sort};
 use nts_store::{NodeId, Task, binders_of, push_node, sort_of};
@@ -46,8 +46,7 @@ pub trait TypeFolder {
     fn fold_ty(&mut self, cx: &mut Cx, t: Ty) -> Result<Option<Ty>, Self::Error>
         requires holds { HoldsTy cx.old.nodes t }
         requires ready { ready cx.old.nodes self.old }
-        ensures extends { Extends cx.old.nodes cx.new.nodes }
-        ensures rest { KeepsRest cx.old cx.new }
+        ensures grows { Grows cx.old cx.new }
         ensures ready { ready cx.new.nodes self.new }
         ensures holds { IfOk result (λ o. IfSome o (HoldsTy cx.new.nodes)) }
         ensures answers { IfOk result (λ o. answers (meaning cx.old.nodes self.old) (tree_at cx.old.nodes t.node) (option_map (λ r. tree_at cx.new.nodes r.node) o) (meaning cx.new.nodes self.new)) }
@@ -57,8 +56,7 @@ pub trait TypeFolder {
     fn fold_region(&mut self, cx: &mut Cx, t: Region) -> Result<Option<Region>, Self::Error>
         requires holds { HoldsRegion cx.old.nodes t }
         requires ready { ready cx.old.nodes self.old }
-        ensures extends { Extends cx.old.nodes cx.new.nodes }
-        ensures rest { KeepsRest cx.old cx.new }
+        ensures grows { Grows cx.old cx.new }
         ensures ready { ready cx.new.nodes self.new }
         ensures holds { IfOk result (λ o. IfSome o (HoldsRegion cx.new.nodes)) }
         ensures answers { IfOk result (λ o. answers (meaning cx.old.nodes self.old) (tree_at cx.old.nodes t.node) (option_map (λ r. tree_at cx.new.nodes r.node) o) (meaning cx.new.nodes self.new)) }
@@ -68,8 +66,7 @@ pub trait TypeFolder {
     fn fold_const(&mut self, cx: &mut Cx, t: Const) -> Result<Option<Const>, Self::Error>
         requires holds { HoldsConst cx.old.nodes t }
         requires ready { ready cx.old.nodes self.old }
-        ensures extends { Extends cx.old.nodes cx.new.nodes }
-        ensures rest { KeepsRest cx.old cx.new }
+        ensures grows { Grows cx.old cx.new }
         ensures ready { ready cx.new.nodes self.new }
         ensures holds { IfOk result (λ o. IfSome o (HoldsConst cx.new.nodes)) }
         ensures answers { IfOk result (λ o. answers (meaning cx.old.nodes self.old) (tree_at cx.old.nodes t.node) (option_map (λ r. tree_at cx.new.nodes r.node) o) (meaning cx.new.nodes self.new)) }
@@ -83,8 +80,7 @@ pub trait TypeFolder {
     ) -> Result<Option<Predicate>, Self::Error>
         requires holds { HoldsPredicate cx.old.nodes t }
         requires ready { ready cx.old.nodes self.old }
-        ensures extends { Extends cx.old.nodes cx.new.nodes }
-        ensures rest { KeepsRest cx.old cx.new }
+        ensures grows { Grows cx.old cx.new }
         ensures ready { ready cx.new.nodes self.new }
         ensures holds { IfOk result (λ o. IfSome o (HoldsPredicate cx.new.nodes)) }
         ensures answers { IfOk result (λ o. answers (meaning cx.old.nodes self.old) (tree_at cx.old.nodes t.node) (option_map (λ r. tree_at cx.new.nodes r.node) o) (meaning cx.new.nodes self.new)) }
@@ -105,8 +101,7 @@ pub trait TypeFolder {
     fn rebuilt(&mut self, cx: &mut Cx, t: Term) -> Result<Term, Self::Error>
         requires holds { HoldsTerm cx.old.nodes t }
         requires ready { ready cx.old.nodes self.old }
-        ensures extends { Extends cx.old.nodes cx.new.nodes }
-        ensures rest { KeepsRest cx.old cx.new }
+        ensures grows { Grows cx.old cx.new }
         ensures ready { ready cx.new.nodes self.new }
         ensures within { IfOk result (λ r. IsIn cx.new.nodes r.node) }
         ensures kind { IfOk result (λ r. kind_of (tree_at cx.new.nodes r.node) ≡ kind_of (tree_at cx.old.nodes t.node)) }
@@ -124,8 +119,7 @@ pub trait TypeFolder {
 pub fn fold_node<F: TypeFolder>(cx: &mut Cx, folder: &mut F, t: NodeId) -> Result<NodeId, F::Error>
     requires within { IsIn cx.old.nodes t }
     requires ready { F.ready cx.old.nodes folder.old }
-    ensures extends { Extends cx.old.nodes cx.new.nodes }
-    ensures rest { KeepsRest cx.old cx.new }
+    ensures grows { Grows cx.old cx.new }
     ensures ready { F.ready cx.new.nodes folder.new }
     ensures within { IfOk result (IsIn cx.new.nodes) }
     ensures walk { IfOk result (λ r. Walk F.answers F.enters F.leaves F.rebuilds (F.meaning cx.old.nodes folder.old) (tree_at cx.old.nodes t) (tree_at cx.new.nodes r) (F.meaning cx.new.nodes folder.new)) }
@@ -166,8 +160,7 @@ pub(crate) fn push<T: Drop>(list: &mut Vec<T>, x: T) -> Result<(), AllocError>
 fn start<F: TypeFolder>(cx: &mut Cx, folder: &mut F, t: NodeId) -> Result<Option<NodeId>, F::Error>
     requires within { IsIn cx.old.nodes t }
     requires ready { F.ready cx.old.nodes folder.old }
-    ensures extends { Extends cx.old.nodes cx.new.nodes }
-    ensures rest { KeepsRest cx.old cx.new }
+    ensures grows { Grows cx.old cx.new }
     ensures ready { F.ready cx.new.nodes folder.new }
     ensures within { IfOk result (λ o. IfSome o (IsIn cx.new.nodes)) }
     ensures starts { IfOk result (λ o. Starts F.answers F.enters (F.meaning cx.old.nodes folder.old) (tree_at cx.old.nodes t) (option_map (tree_at cx.new.nodes) o) (F.meaning cx.new.nodes folder.new)) }
@@ -191,8 +184,7 @@ fn ask<F: TypeFolder>(
     requires within { IsIn cx.old.nodes t }
     requires label { tree_at cx.old.nodes t ≡ node label (children (tree_at cx.old.nodes t)) }
     requires ready { F.ready cx.old.nodes folder.old }
-    ensures extends { Extends cx.old.nodes cx.new.nodes }
-    ensures rest { KeepsRest cx.old cx.new }
+    ensures grows { Grows cx.old cx.new }
     ensures ready { F.ready cx.new.nodes folder.new }
     ensures within { IfOk result (λ o. IfSome o (IsIn cx.new.nodes)) }
     ensures kind { IfOk result (λ o. IfSome o (λ r. kind_of (tree_at cx.new.nodes r) ≡ Some (kind_of_label label))) }
@@ -246,8 +238,7 @@ fn finish<F: TypeFolder>(
     requires within { AllIn cx.old.nodes children.now }
     requires formed { Meets (shape label) (trees_at cx.old.nodes children.now) }
     requires ready { F.ready cx.old.nodes folder.old }
-    ensures extends { Extends cx.old.nodes cx.new.nodes }
-    ensures rest { KeepsRest cx.old cx.new }
+    ensures grows { Grows cx.old cx.new }
     ensures ready { F.ready cx.new.nodes folder.new }
     ensures within { IfOk result (IsIn cx.new.nodes) }
     ensures comes_back { IfOk result (λ r. ComesBack F.leaves F.rebuilds label (F.meaning cx.old.nodes folder.old) (trees_at cx.old.nodes children.now) (tree_at cx.new.nodes r) (F.meaning cx.new.nodes folder.new)) }

@@ -5,8 +5,8 @@ ghost use Rattle.nts_model.specs.Related.{pair};
 ghost use Rattle.nts_store.specs.Growth.{tree_at, Extends};
 ghost use Rattle.nts_terms.specs.Handles.{Holds, HoldsTy, HoldsRegion, HoldsConst, HoldsTerm, HoldsArg, HoldsArgs, HoldsPredicate, HoldsEnv};
 ghost use Rattle.nts_folding.specs.FoldLaws.{Holds-kept};
-ghost use Rattle.nts_terms.specs.Rest.{KeepsRest};
 ghost use Rattle.nts_folding.specs.Folding.{Walk};
+ghost use Rattle.nts_terms.specs.Rest.{Grows};
 
 use crate::fold::{TypeFolder, fold_node, push};
 use nts_terms::{
@@ -24,8 +24,7 @@ pub trait TypeFoldable: Drop {
     fn fold_with<F: TypeFolder>(self, cx: &mut Cx, folder: &mut F) -> Result<Self, F::Error>
         requires holds { holds cx.old.nodes self }
         requires ready { F.ready cx.old.nodes folder.old }
-        ensures extends { Extends cx.old.nodes cx.new.nodes }
-        ensures rest { KeepsRest cx.old cx.new }
+        ensures grows { Grows cx.old cx.new }
         ensures ready { F.ready cx.new.nodes folder.new }
         ensures holds { IfOk result (holds cx.new.nodes) }
         ensures walk { IfOk result (λ r. Walk F.answers F.enters F.leaves F.rebuilds (F.meaning cx.old.nodes folder.old) (tree cx.old.nodes self) (tree cx.new.nodes r) (F.meaning cx.new.nodes folder.new)) }
@@ -40,8 +39,7 @@ pub trait TypeFoldable: Drop {
 fn fold_handle<T: Stored, F: TypeFolder>(cx: &mut Cx, folder: &mut F, x: T) -> Result<T, F::Error>
     requires holds { Holds T.place cx.old.nodes (T.id x) }
     requires ready { F.ready cx.old.nodes folder.old }
-    ensures extends { Extends cx.old.nodes cx.new.nodes }
-    ensures rest { KeepsRest cx.old cx.new }
+    ensures grows { Grows cx.old cx.new }
     ensures ready { F.ready cx.new.nodes folder.new }
     ensures holds { IfOk result (λ r. Holds T.place cx.new.nodes (T.id r)) }
     ensures walk { IfOk result (λ r. Walk F.answers F.enters F.leaves F.rebuilds (F.meaning cx.old.nodes folder.old) (tree_at cx.old.nodes (T.id x)) (tree_at cx.new.nodes (T.id r)) (F.meaning cx.new.nodes folder.new)) }

@@ -9,6 +9,7 @@ ghost use Rattle.nts_store.specs.Growth.{tree_at, IsIn, Extends};
 ghost use Rattle.nts_unify.specs.Reading.{content_of, IsLawful};
 ghost use Rattle.nts_unify.specs.Entries.{added};
 ghost use Rattle.nts_relating.specs.Relating.{Generalized, IsOpen, IsRegionOf, IsSettled};
+ghost use Rattle.nts_unify.specs.Entries.{KeepsHidden};
 
 use indexmap::IndexSet;
 use nts_model::{BoundVarIndexKind, Constant, FreeRegion, Label, Leaf, Relation, VariableKind};
@@ -71,8 +72,7 @@ pub fn name_variable(
     requires other { y ≢ target.variable }
     requires known { target.variable < length table.old.entries.variables }
     ensures extends { Extends nodes.old nodes.new }
-    ensures saved { table.new.saved ≡ table.old.saved }
-    ensures hidden { table.new.entries.hidden ≡ table.old.entries.hidden }
+    ensures changes { KeepsHidden table.old table.new }
     ensures within { IfOk result (λ r. IsIn nodes.new r) }
     ensures lawful { OnOk result (IsLawful nodes.new table.new.entries) }
     ensures generalized { IfOk result (λ r. Generalized (content_of nodes.old table.old.entries) (content_of nodes.new table.new.entries) target.variable target.universe target.binders (tree_at nodes.old t) (tree_at nodes.new r)) }
@@ -103,8 +103,7 @@ fn fresh_region(
 ) -> Result<NodeId, EvalError>
     requires lawful { IsLawful nodes.old table.old.entries }
     ensures extends { Extends nodes.old nodes.new }
-    ensures saved { table.new.saved ≡ table.old.saved }
-    ensures hidden { table.new.entries.hidden ≡ table.old.entries.hidden }
+    ensures changes { KeepsHidden table.old table.new }
     ensures within { IfOk result (λ r. IsIn nodes.new r) }
     ensures lawful { OnOk result (IsLawful nodes.new table.new.entries) }
     ensures fresh { IfOk result (λ r. tree_at nodes.new r ≡ variable_tree kind.Region (length table.old.entries.variables)) }
@@ -138,8 +137,7 @@ pub fn name_region(
     requires known { target.variable < length table.old.entries.variables }
     requires no_region { kind_at (content_of nodes.old table.old.entries) target.variable ≢ Some kind.Region }
     ensures extends { Extends nodes.old nodes.new }
-    ensures saved { table.new.saved ≡ table.old.saved }
-    ensures hidden { table.new.entries.hidden ≡ table.old.entries.hidden }
+    ensures changes { KeepsHidden table.old table.new }
     ensures within { IfOk result (λ r. IsIn nodes.new r) }
     ensures lawful { OnOk result (IsLawful nodes.new table.new.entries) }
     ensures generalized { IfOk result (λ r. Generalized (content_of nodes.old table.old.entries) (content_of nodes.new table.new.entries) target.variable target.universe target.binders (tree_at nodes.old t) (tree_at nodes.new r)) }

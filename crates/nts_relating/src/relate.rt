@@ -10,6 +10,7 @@ ghost use Rattle.nts_unify.specs.Changing.{region_variable, is_free_region, IsLa
 ghost use Rattle.nts_unify.specs.Joining.{IsBindable};
 ghost use Rattle.nts_relating.specs.Relating.{IsHead, IsClosed, IsRegionOf, RegionsRelate, IsSet, Forbids, KeepsApart, AreMadeOne, VariablesRelate, CanTake, IsValid, IsStep, IsRun, IsMemo, Pushed, pairs_at};
 ghost use Rattle.nts_store.specs.declared.fault.EvalError.TheVariants.{NoSolution};
+ghost use Rattle.nts_unify.specs.Entries.{KeepsHidden};
 
 use crate::generalize::{Target, name_variable};
 use crate::value_walk::generalize;
@@ -65,8 +66,7 @@ fn relate_regions(
     requires lawful { IsLawful nodes.now table.old.entries }
     requires left { IsRegionOf nodes.now table.old.entries a }
     requires right { IsRegionOf nodes.now table.old.entries b }
-    ensures saved { table.new.saved ≡ table.old.saved }
-    ensures hidden { table.new.entries.hidden ≡ table.old.entries.hidden }
+    ensures changes { KeepsHidden table.old table.new }
     ensures lawful { OnOk result (IsLawful nodes.now table.new.entries) }
     ensures related { OnOk result (RegionsRelate (content_of nodes.now table.old.entries) (content_of nodes.now table.new.entries) (tree_at nodes.now a) (tree_at nodes.now b)) }
     ensures no { result ≢ Err NoSolution }
@@ -103,8 +103,7 @@ fn relate_variables(
     requires left { IsBindable table.old.entries x }
     requires right { IsBindable table.old.entries y }
     ensures extends { Extends nodes.old nodes.new }
-    ensures saved { table.new.saved ≡ table.old.saved }
-    ensures hidden { table.new.entries.hidden ≡ table.old.entries.hidden }
+    ensures changes { KeepsHidden table.old table.new }
     ensures related { IfOk result (VariablesRelate nodes.old nodes.new table.old.entries table.new.entries x y) }
     ensures no { result ≡ Err NoSolution → KeepsApart (content_of nodes.old table.old.entries) x y }
     ensures full { result ≢ Err EvalError.Full }
@@ -140,8 +139,7 @@ fn bind_variable(
     requires lawful { IsLawful nodes.old table.old.entries }
     requires can { CanTake table.old.entries x y }
     ensures extends { Extends nodes.old nodes.new }
-    ensures saved { table.new.saved ≡ table.old.saved }
-    ensures hidden { table.new.entries.hidden ≡ table.old.entries.hidden }
+    ensures changes { KeepsHidden table.old table.new }
     ensures lawful { OnOk result (IsLawful nodes.new table.new.entries) }
     ensures made { OnOk result (AreMadeOne (content_of nodes.old table.old.entries) (content_of nodes.new table.new.entries) x y) }
     ensures no { result ≢ Err NoSolution }
@@ -180,8 +178,7 @@ fn bind(
     requires lawful { IsLawful nodes.old table.old.entries }
     requires open { IsBindable table.old.entries x }
     ensures extends { Extends nodes.old nodes.new }
-    ensures saved { table.new.saved ≡ table.old.saved }
-    ensures hidden { table.new.entries.hidden ≡ table.old.entries.hidden }
+    ensures changes { KeepsHidden table.old table.new }
     ensures lawful { OnOk result (IsLawful nodes.new table.new.entries) }
     ensures set { OnOk result (IsSet (content_of nodes.old table.old.entries) (content_of nodes.new table.new.entries) x (tree_at nodes.old t)) }
     ensures no { result ≡ Err NoSolution → Forbids (content_of nodes.old table.old.entries) x (tree_at nodes.old t) }
@@ -251,8 +248,7 @@ fn relate_heads(
     requires right_in { IsIn nodes.now b }
     requires left { IsClosed (content_of nodes.now table.old.entries) (tree_at nodes.now pair.left) (tree_at nodes.now a) }
     requires right { IsClosed (content_of nodes.now table.old.entries) (tree_at nodes.now pair.right) (tree_at nodes.now b) }
-    ensures saved { table.new.saved ≡ table.old.saved }
-    ensures hidden { table.new.entries.hidden ≡ table.old.entries.hidden }
+    ensures changes { KeepsHidden table.old table.new }
     ensures valid { OnOk result (IsValid nodes.now table.new.entries pairs.new.items) }
     ensures memo { OnOk result (IsMemo nodes.now table.new.entries pairs.new.items met.new.keys) }
     ensures step { OnOk result (IsStep (content_of nodes.now table.old.entries) (content_of nodes.now table.new.entries) (pairs_at nodes.now (pairs.old.items ++ pair ∷ [])) (pairs_at nodes.now pairs.new.items) false) }
@@ -297,8 +293,7 @@ fn step(
     requires valid { IsValid nodes.old table.old.entries (pairs.old.items ++ pair ∷ []) }
     requires memo { IsMemo nodes.old table.old.entries (pairs.old.items ++ pair ∷ []) met.old.keys }
     ensures extends { Extends nodes.old nodes.new }
-    ensures saved { table.new.saved ≡ table.old.saved }
-    ensures hidden { table.new.entries.hidden ≡ table.old.entries.hidden }
+    ensures changes { KeepsHidden table.old table.new }
     ensures valid { OnOk result (IsValid nodes.new table.new.entries pairs.new.items) }
     ensures memo { OnOk result (IsMemo nodes.new table.new.entries pairs.new.items met.new.keys) }
     ensures step { IfOk result (λ bound. IsStep (content_of nodes.old table.old.entries) (content_of nodes.new table.new.entries) (pairs_at nodes.old (pairs.old.items ++ pair ∷ [])) (pairs_at nodes.new pairs.new.items) bound) }
@@ -339,8 +334,7 @@ fn run(
     requires valid { IsValid nodes.old table.old.entries pairs.old.items }
     requires memo { IsMemo nodes.old table.old.entries pairs.old.items met.old.keys }
     ensures extends { Extends nodes.old nodes.new }
-    ensures saved { table.new.saved ≡ table.old.saved }
-    ensures hidden { table.new.entries.hidden ≡ table.old.entries.hidden }
+    ensures changes { KeepsHidden table.old table.new }
     ensures valid { OnOk result (IsValid nodes.new table.new.entries pairs.new.items) }
     ensures memo { OnOk result (IsMemo nodes.new table.new.entries pairs.new.items met.new.keys) }
     ensures run { IfOk result (λ bound. IsRun (content_of nodes.old table.old.entries) (content_of nodes.new table.new.entries) (pairs_at nodes.old pairs.old.items) (pairs_at nodes.new pairs.new.items) bound) }
@@ -371,8 +365,7 @@ fn run_all(
     requires valid { IsValid nodes.old table.old.entries pairs.old.items }
     requires memo { IsMemo nodes.old table.old.entries pairs.old.items met.old.keys }
     ensures extends { Extends nodes.old nodes.new }
-    ensures saved { table.new.saved ≡ table.old.saved }
-    ensures hidden { table.new.entries.hidden ≡ table.old.entries.hidden }
+    ensures changes { KeepsHidden table.old table.new }
     ensures lawful { OnOk result (IsLawful nodes.new table.new.entries) }
     ensures later { OnOk result (IsLater (content_of nodes.old table.old.entries) (content_of nodes.new table.new.entries)) }
     ensures reduces { OnOk result (Reduces (content_of nodes.old table.old.entries) (content_of nodes.new table.new.entries) (pairs_at nodes.old pairs.old.items) []) }
@@ -407,8 +400,7 @@ pub fn relate_nodes(
     requires right_known { Knows (content_of nodes.old table.old.entries) (tree_at nodes.old b) }
     ensures extends { Extends nodes.old nodes.new }
     ensures lawful { IsLawful nodes.new table.new.entries }
-    ensures saved { table.new.saved ≡ table.old.saved }
-    ensures hidden { table.new.entries.hidden ≡ table.old.entries.hidden }
+    ensures changes { KeepsHidden table.old table.new }
     ensures later { IsLater (content_of nodes.old table.old.entries) (content_of nodes.new table.new.entries) }
     ensures related { OnOk result (AreRelated (content_of nodes.old table.old.entries) (content_of nodes.new table.new.entries) (tree_at nodes.old a) (tree_at nodes.old b)) }
     ensures err { OnErr result (table.new ≡ table.old) }

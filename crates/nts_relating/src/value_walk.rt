@@ -9,6 +9,7 @@ ghost use Rattle.nts_relating.specs.declared.value_walk.Task.TheVariants as task
 ghost use Rattle.nts_unify.specs.Reading.{content_of, IsLawful};
 ghost use Rattle.nts_relating.specs.Relating.{Generalized, Blocks};
 ghost use Rattle.nts_relating.specs.Parts.{IsLook, IsEntered, IsWalk, IsTurn, Has, made_at, inner};
+ghost use Rattle.nts_unify.specs.Entries.{KeepsHidden};
 
 use crate::generalize::{Target, is_allowed, is_settled, name_region, name_variable};
 use indexmap::IndexSet;
@@ -70,8 +71,7 @@ fn look_at(
     requires known { target.variable < length table.old.entries.variables }
     requires no_region { kind_at (content_of nodes.old table.old.entries) target.variable ≢ Some kind.Region }
     ensures extends { Extends nodes.old nodes.new }
-    ensures saved { table.new.saved ≡ table.old.saved }
-    ensures hidden { table.new.entries.hidden ≡ table.old.entries.hidden }
+    ensures changes { KeepsHidden table.old table.new }
     ensures lawful { OnOk result (IsLawful nodes.new table.new.entries) }
     ensures look { IfOk result (IsLook nodes.old nodes.new table.old.entries table.new.entries target.variable target.universe target.binders t) }
     ensures full { result ≢ Err EvalError.Full }
@@ -132,8 +132,7 @@ fn enter(
 ) -> Result<(), EvalError>
     requires walk { IsWalk nodes.old table.old.entries target.variable target.universe walk.old.root (walk.old.tasks.items ++ task.Enter part ∷ []) (made_at walk.old.made) }
     ensures extends { Extends nodes.old nodes.new }
-    ensures saved { table.new.saved ≡ table.old.saved }
-    ensures hidden { table.new.entries.hidden ≡ table.old.entries.hidden }
+    ensures changes { KeepsHidden table.old table.new }
     ensures root { walk.new.root ≡ walk.old.root }
     ensures turn { OnOk result (IsTurn nodes.old nodes.new table.old.entries table.new.entries target.variable target.universe walk.old.root (walk.old.tasks.items ++ task.Enter part ∷ []) walk.new.tasks.items (made_at walk.new.made)) }
     ensures full { result ≢ Err EvalError.Full }
@@ -216,8 +215,7 @@ fn step(
 ) -> Result<(), EvalError>
     requires walk { IsWalk nodes.old table.old.entries target.variable target.universe walk.old.root (walk.old.tasks.items ++ task ∷ []) (made_at walk.old.made) }
     ensures extends { Extends nodes.old nodes.new }
-    ensures saved { table.new.saved ≡ table.old.saved }
-    ensures hidden { table.new.entries.hidden ≡ table.old.entries.hidden }
+    ensures changes { KeepsHidden table.old table.new }
     ensures root { walk.new.root ≡ walk.old.root }
     ensures turn { OnOk result (IsTurn nodes.old nodes.new table.old.entries table.new.entries target.variable target.universe walk.old.root (walk.old.tasks.items ++ task ∷ []) walk.new.tasks.items (made_at walk.new.made)) }
     ensures full { result ≢ Err EvalError.Full }
@@ -256,8 +254,7 @@ pub fn generalize(
     requires no_region { kind_at (content_of nodes.old table.old.entries) target.variable ≢ Some kind.Region }
     requires room { target.binders + t.number < 2 ^ 64 }
     ensures extends { Extends nodes.old nodes.new }
-    ensures saved { table.new.saved ≡ table.old.saved }
-    ensures hidden { table.new.entries.hidden ≡ table.old.entries.hidden }
+    ensures changes { KeepsHidden table.old table.new }
     ensures within { IfOk result (λ r. IsIn nodes.new r) }
     ensures lawful { OnOk result (IsLawful nodes.new table.new.entries) }
     ensures generalized { IfOk result (λ r. Generalized (content_of nodes.old table.old.entries) (content_of nodes.new table.new.entries) target.variable target.universe target.binders (tree_at nodes.old t) (tree_at nodes.new r)) }

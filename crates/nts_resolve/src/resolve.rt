@@ -3,9 +3,9 @@ ghost use Rattle.std.specs.Prelude.{◌≡◌, IfOk, IsOkUnless};
 ghost use Rattle.nts_model.specs.Resolving.{Knows, deeply_resolved};
 ghost use Rattle.nts_store.specs.Growth.{tree_at, Extends};
 ghost use Rattle.nts_terms.specs.Handles.{Holds};
-ghost use Rattle.nts_terms.specs.Rest.{KeepsRest};
 ghost use Rattle.nts_unify.specs.Reading.{content_of};
 ghost use Rattle.nts_table.specs.Tables.{IsTable};
+ghost use Rattle.nts_terms.specs.Rest.{Grows};
 
 use nts_store::Fault;
 use nts_table::{InferCtxt, resolve_nodes};
@@ -18,8 +18,7 @@ pub fn eager_resolve_vars<T: Stored>(table: &InferCtxt, cx: &mut Cx, value: T) -
     requires holds { Holds T.place cx.old.nodes (T.id value) }
     requires knows { Knows (content_of cx.old.nodes table.now.entries) (tree_at cx.old.nodes
         (T.id value)) }
-    ensures extends { Extends cx.old.nodes cx.new.nodes }
-    ensures rest { KeepsRest cx.old cx.new }
+    ensures grows { Grows cx.old cx.new }
     ensures holds { IfOk result (λ r. Holds T.place cx.new.nodes (T.id r)) }
     ensures knows { IfOk result (λ r. Knows (content_of cx.new.nodes table.now.entries)
         (tree_at cx.new.nodes (T.id r))) }

@@ -5,6 +5,7 @@ ghost use Rattle.nts_unify.specs.Reading.{LinksDescend};
 ghost use Rattle.nts_table.specs.Tables.{IsTable};
 ghost use Rattle.nts_unify.specs.Roots.{IsRoot, IsSubRoot, SubRootsJoin};
 ghost use Rattle.nts_table.specs.Classes.{HasOpenUniverse, HasUniverse};
+ghost use Rattle.nts_table.specs.Frames.{ChangesVariables};
 
 use crate::infer_ctxt::InferCtxt;
 use nts_store::Fault;
@@ -78,9 +79,7 @@ impl InferCtxt {
         requires descends { LinksDescend self.old.entries }
         ensures joined { OnOk result (SubRootsJoin self.old.entries self.new.entries a b) }
         ensures table { (ts : List Tree) → IsTable ts self.old → IsTable ts self.new }
-        ensures saved { self.new.saved ≡ self.old.saved }
-        ensures mode { self.new.mode ≡ self.old.mode }
-        ensures hidden { self.new.entries.hidden ≡ self.old.entries.hidden }
+        ensures changes { ChangesVariables self.old self.new }
         ensures err { OnErr result (self.new ≡ self.old) }
         ensures memory { IsOkUnless result Fault.Memory }
     {

@@ -7,6 +7,7 @@ ghost use Rattle.nts_terms.specs.Handles.{HoldsTy, HoldsRegion};
 ghost use Rattle.nts_unify.specs.Reading.{content_of, IsConstraint};
 ghost use Rattle.nts_table.specs.Tables.{IsTable};
 ghost use Rattle.nts_unify.specs.Recording.{Records, is_visible};
+ghost use Rattle.nts_table.specs.Frames.{ChangesVariables};
 
 use crate::infer_ctxt::InferCtxt;
 use nts_model::Relation;
@@ -31,9 +32,7 @@ impl InferCtxt {
         requires right_known { Knows (content_of cx.now.nodes self.old.entries) (tree_at cx.now.nodes b.node) }
         ensures recorded { OnOk result (Records cx.now.nodes self.old.entries self.new.entries (record { relation = relation.RegionOutlives; left = b.node; right = a.node; is_visible = is_visible visible })) }
         ensures table { IsTable cx.now.nodes self.new }
-        ensures saved { self.new.saved ≡ self.old.saved }
-        ensures mode { self.new.mode ≡ self.old.mode }
-        ensures hidden { self.new.entries.hidden ≡ self.old.entries.hidden }
+        ensures changes { ChangesVariables self.old self.new }
         ensures err { OnErr result (self.new ≡ self.old) }
         ensures memory { IsOkUnless result Fault.Memory }
     {
@@ -63,9 +62,7 @@ impl InferCtxt {
         requires right_known { Knows (content_of cx.now.nodes self.old.entries) (tree_at cx.now.nodes region.node) }
         ensures recorded { OnOk result (Records cx.now.nodes self.old.entries self.new.entries (record { relation = relation.TypeOutlives; left = ty.node; right = region.node; is_visible = true })) }
         ensures table { IsTable cx.now.nodes self.new }
-        ensures saved { self.new.saved ≡ self.old.saved }
-        ensures mode { self.new.mode ≡ self.old.mode }
-        ensures hidden { self.new.entries.hidden ≡ self.old.entries.hidden }
+        ensures changes { ChangesVariables self.old self.new }
         ensures err { OnErr result (self.new ≡ self.old) }
         ensures memory { IsOkUnless result Fault.Memory }
     {
@@ -86,9 +83,7 @@ impl InferCtxt {
         requires sides { IsConstraint nodes.now (content_of nodes.now self.old.entries) constraint }
         ensures recorded { OnOk result (Records nodes.now self.old.entries self.new.entries constraint) }
         ensures table { IsTable nodes.now self.new }
-        ensures saved { self.new.saved ≡ self.old.saved }
-        ensures mode { self.new.mode ≡ self.old.mode }
-        ensures hidden { self.new.entries.hidden ≡ self.old.entries.hidden }
+        ensures changes { ChangesVariables self.old self.new }
         ensures err { OnErr result (self.new ≡ self.old) }
         ensures memory { IsOkUnless result Fault.Memory }
     {

@@ -1,10 +1,10 @@
 //! The region constraints of a table, as a caller asks for them.
 ghost use Rattle.std.specs.Prelude.{◌≡◌, ◌<◌, List, length, map, slice_get, Some, IfOk, OnOk, IsOkUnless};
 ghost use Rattle.nts_store.specs.Growth.{Extends};
-ghost use Rattle.nts_terms.specs.Rest.{KeepsRest};
 ghost use Rattle.nts_unify.specs.Reading.{content_of, recorded_of, IsConstraint, AreConstraints};
 ghost use Rattle.nts_table.specs.Tables.{IsTable};
 ghost use Rattle.nts_table.specs.Deduplicated.{resolved_constraint, resolved_constraints, AreNews, said, SidesIn, AllSidesIn, Tells};
+ghost use Rattle.nts_terms.specs.Rest.{Grows};
 
 use crate::infer_ctxt::InferCtxt;
 use crate::resolver::resolve_nodes;
@@ -33,8 +33,7 @@ impl InferCtxt {
         requires table { IsTable cx.old.nodes self.now }
         ensures news { IfOk result (λ v. AreNews (resolved_constraints (content_of cx.old.nodes self.now.entries)) (map (recorded_of cx.new.nodes) v.items)) }
         ensures sides { IfOk result (λ v. AreConstraints cx.new.nodes (content_of cx.new.nodes self.now.entries) v.items) }
-        ensures extends { Extends cx.old.nodes cx.new.nodes }
-        ensures rest { KeepsRest cx.old cx.new }
+        ensures grows { Grows cx.old cx.new }
         ensures memory { IsOkUnless result Fault.Memory }
     {
         let mut told = Vec::new(cx.alloc);
@@ -51,8 +50,7 @@ impl InferCtxt {
         requires has { i < length self.now.entries.constraints }
         ensures resolved { IfOk result (λ r. (x : Constraint) → slice_get self.now.entries.constraints i ≡ Some x → recorded_of cx.new.nodes r ≡ resolved_constraint (content_of cx.old.nodes self.now.entries) (recorded_of cx.old.nodes x)) }
         ensures sides { IfOk result (λ r. IsConstraint cx.new.nodes (content_of cx.new.nodes self.now.entries) r) }
-        ensures extends { Extends cx.old.nodes cx.new.nodes }
-        ensures rest { KeepsRest cx.old cx.new }
+        ensures grows { Grows cx.old cx.new }
         ensures memory { IsOkUnless result Fault.Memory }
     {
         let constraint = self.constraint(i);

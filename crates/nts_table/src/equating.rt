@@ -11,6 +11,7 @@ ghost use Rattle.nts_unify.specs.Reading.{content_of, LinksDescend};
 ghost use Rattle.nts_table.specs.Tables.{IsTable};
 ghost use Rattle.nts_unify.specs.Recording.{is_visible};
 ghost use Rattle.nts_unify.specs.Equating.{Equated, RegionsJoined, RegionsLinked, region_of};
+ghost use Rattle.nts_table.specs.Frames.{ChangesVariables};
 
 use crate::constraints::is_seen;
 use crate::infer_ctxt::InferCtxt;
@@ -39,9 +40,7 @@ impl InferCtxt {
         requires right_free { IsRegion (tree_at cx.now.nodes b.node) }
         ensures equated { OnOk result (Equated cx.now.nodes self.old.entries self.new.entries a.node b.node (is_visible visible)) }
         ensures table { IsTable cx.now.nodes self.new }
-        ensures saved { self.new.saved ≡ self.old.saved }
-        ensures mode { self.new.mode ≡ self.old.mode }
-        ensures hidden { self.new.entries.hidden ≡ self.old.entries.hidden }
+        ensures changes { ChangesVariables self.old self.new }
         ensures err { OnErr result (self.new ≡ self.old) }
         ensures memory { IsOkUnless result Fault.Memory }
     {
@@ -68,9 +67,7 @@ impl InferCtxt {
         requires within_y { y < length self.old.entries.variables }
         requires descends { LinksDescend self.old.entries }
         ensures joined { OnOk result (RegionsJoined self.old.entries self.new.entries x y) }
-        ensures saved { self.new.saved ≡ self.old.saved }
-        ensures mode { self.new.mode ≡ self.old.mode }
-        ensures hidden { self.new.entries.hidden ≡ self.old.entries.hidden }
+        ensures changes { ChangesVariables self.old self.new }
         ensures err { OnErr result (self.new ≡ self.old) }
         ensures memory { IsOkUnless result Fault.Memory }
     {

@@ -6,11 +6,12 @@ ghost use Rattle.nts_model.specs.Trees.{node, kind_of};
 ghost use Rattle.nts_model.specs.Resolving.{variable_tree};
 ghost use Rattle.nts_store.specs.Growth.{tree_at, trees_at, IsIn, AllIn, Extends};
 ghost use Rattle.nts_terms.specs.Handles.{HoldsArg, HoldsArgs};
-ghost use Rattle.nts_terms.specs.Rest.{KeepsRest};
 ghost use Rattle.nts_unify.specs.Entries.{added};
 ghost use Rattle.nts_table.specs.Tables.{IsTable};
 ghost use Rattle.nts_table.specs.Making.{new_variable};
 ghost use Rattle.nts_table.specs.Fresh.{variable_kind, with_fresh, fresh_row, IsFreshLike};
+ghost use Rattle.nts_terms.specs.Rest.{Grows};
+ghost use Rattle.nts_table.specs.Frames.{ChangesEntries};
 
 use crate::infer_ctxt::InferCtxt;
 use nts_model::{Label, Leaf, ListHead, Sort, VariableKind};
@@ -25,11 +26,9 @@ impl InferCtxt {
         ensures trees { IfOk result (λ v. trees_at cx.new.nodes v.items ≡ fresh_row (length self.old.entries.variables) sorts.now) }
         ensures within { IfOk result (λ v. AllIn cx.new.nodes v.items) }
         ensures entries { OnOk result (self.new.entries ≡ with_fresh self.old.entries sorts.now) }
-        ensures saved { self.new.saved ≡ self.old.saved }
-        ensures mode { self.new.mode ≡ self.old.mode }
+        ensures changes { ChangesEntries self.old self.new }
         ensures table { IsTable cx.new.nodes self.new }
-        ensures extends { Extends cx.old.nodes cx.new.nodes }
-        ensures rest { KeepsRest cx.old cx.new }
+        ensures grows { Grows cx.old cx.new }
         ensures err { OnErr result (self.new ≡ self.old) }
         ensures memory { IsOkUnless result Fault.Memory }
     {
@@ -52,11 +51,9 @@ impl InferCtxt {
         ensures tree { IfOk result (λ a. tree_at cx.new.nodes a.node ≡ node (labels.List heads.Args) (fresh_row (length self.old.entries.variables) sorts.now)) }
         ensures holds { IfOk result (λ a. HoldsArgs cx.new.nodes a) }
         ensures entries { OnOk result (self.new.entries ≡ with_fresh self.old.entries sorts.now) }
-        ensures saved { self.new.saved ≡ self.old.saved }
-        ensures mode { self.new.mode ≡ self.old.mode }
+        ensures changes { ChangesEntries self.old self.new }
         ensures table { IsTable cx.new.nodes self.new }
-        ensures extends { Extends cx.old.nodes cx.new.nodes }
-        ensures rest { KeepsRest cx.old cx.new }
+        ensures grows { Grows cx.old cx.new }
         ensures err { OnErr result (self.new ≡ self.old) }
         ensures memory { IsOkUnless result Fault.Memory }
     {
@@ -78,11 +75,9 @@ impl InferCtxt {
         ensures tree { IfOk result (λ a. tree_at cx.new.nodes a.node ≡ node (labels.List heads.Args) (fresh_row (length self.old.entries.variables) sorts.now)) }
         ensures holds { IfOk result (λ a. HoldsArgs cx.new.nodes a) }
         ensures entries { OnOk result (self.new.entries ≡ with_fresh self.old.entries sorts.now) }
-        ensures saved { self.new.saved ≡ self.old.saved }
-        ensures mode { self.new.mode ≡ self.old.mode }
+        ensures changes { ChangesEntries self.old self.new }
         ensures table { IsTable cx.new.nodes self.new }
-        ensures extends { Extends cx.old.nodes cx.new.nodes }
-        ensures rest { KeepsRest cx.old cx.new }
+        ensures grows { Grows cx.old cx.new }
         ensures memory { IsOkUnless result Fault.Memory }
     {
         let nodes = self.add_fresh(cx, sorts)?;
@@ -96,11 +91,9 @@ impl InferCtxt {
         ensures trees { IfOk result (λ v. trees_at cx.new.nodes v.items ≡ fresh_row (length self.old.entries.variables) sorts.now) }
         ensures within { IfOk result (λ v. AllIn cx.new.nodes v.items) }
         ensures entries { OnOk result (self.new.entries ≡ with_fresh self.old.entries sorts.now) }
-        ensures saved { self.new.saved ≡ self.old.saved }
-        ensures mode { self.new.mode ≡ self.old.mode }
+        ensures changes { ChangesEntries self.old self.new }
         ensures table { IsTable cx.new.nodes self.new }
-        ensures extends { Extends cx.old.nodes cx.new.nodes }
-        ensures rest { KeepsRest cx.old cx.new }
+        ensures grows { Grows cx.old cx.new }
         ensures memory { IsOkUnless result Fault.Memory }
     {
         let mut nodes = Vec::with_capacity(cx.alloc, sorts.len())?;
@@ -116,11 +109,9 @@ impl InferCtxt {
         ensures within { IfOk result (λ r. IsIn cx.new.nodes r) }
         ensures tree { IfOk result (λ r. tree_at cx.new.nodes r ≡ variable_tree (variable_kind sort) (length self.old.entries.variables)) }
         ensures entries { OnOk result (self.new.entries ≡ added self.old.entries (new_variable self.old.entries (variable_kind sort))) }
-        ensures saved { self.new.saved ≡ self.old.saved }
-        ensures mode { self.new.mode ≡ self.old.mode }
+        ensures changes { ChangesEntries self.old self.new }
         ensures table { IsTable cx.new.nodes self.new }
-        ensures extends { Extends cx.old.nodes cx.new.nodes }
-        ensures rest { KeepsRest cx.old cx.new }
+        ensures grows { Grows cx.old cx.new }
         ensures err { OnErr result (self.new ≡ self.old) }
         ensures memory { IsOkUnless result Fault.Memory }
     {
@@ -151,11 +142,9 @@ impl InferCtxt {
         requires holds { HoldsArg cx.old.nodes arg }
         ensures fresh { IfOk result (λ r. IsFreshLike (kind_of (tree_at cx.old.nodes arg.node)) (tree_at cx.new.nodes r.node) self.old.entries self.new.entries) }
         ensures holds { IfOk result (λ r. HoldsArg cx.new.nodes r) }
-        ensures saved { self.new.saved ≡ self.old.saved }
-        ensures mode { self.new.mode ≡ self.old.mode }
+        ensures changes { ChangesEntries self.old self.new }
         ensures table { IsTable cx.new.nodes self.new }
-        ensures extends { Extends cx.old.nodes cx.new.nodes }
-        ensures rest { KeepsRest cx.old cx.new }
+        ensures grows { Grows cx.old cx.new }
         ensures err { OnErr result (self.new ≡ self.old) }
         ensures memory { IsOkUnless result Fault.Memory }
     {

@@ -3,10 +3,11 @@ ghost use Rattle.std.specs.Prelude.{◌≡◌, true, false, IfOk, OnOk, OnErr, I
 ghost use Rattle.nts_model.specs.Resolving.{Knows};
 ghost use Rattle.nts_store.specs.Growth.{tree_at, Extends};
 ghost use Rattle.nts_terms.specs.Handles.{HoldsTy, HoldsArgs};
-ghost use Rattle.nts_terms.specs.Rest.{KeepsRest};
 ghost use Rattle.nts_unify.specs.Reading.{content_of, IsHiddenType};
 ghost use Rattle.nts_table.specs.Tables.{IsTable};
 ghost use Rattle.nts_table.specs.Registering.{Registers, IsPlace};
+ghost use Rattle.nts_terms.specs.Rest.{Grows};
+ghost use Rattle.nts_table.specs.Frames.{ChangesEntries};
 
 use crate::infer_ctxt::InferCtxt;
 use crate::resolver::resolve_nodes;
@@ -32,11 +33,9 @@ impl InferCtxt {
         requires ty_known { Knows (content_of cx.old.nodes self.old.entries) (tree_at cx.old.nodes ty.node) }
         ensures registered { IfOk result (Registers cx.old.nodes (content_of cx.old.nodes self.old.entries) self.old.entries.hidden (record { alias = key.def_id; args = key.args; ty = ty }) self.new.entries.hidden) }
         ensures entries { OnOk result (self.new.entries ≡ record self.old.entries { hidden = self.new.entries.hidden }) }
-        ensures saved { self.new.saved ≡ self.old.saved }
-        ensures mode { self.new.mode ≡ self.old.mode }
+        ensures changes { ChangesEntries self.old self.new }
         ensures table { IsTable cx.new.nodes self.new }
-        ensures extends { Extends cx.old.nodes cx.new.nodes }
-        ensures rest { KeepsRest cx.old cx.new }
+        ensures grows { Grows cx.old cx.new }
         ensures err { OnErr result (self.new ≡ self.old) }
         ensures memory { IsOkUnless result Fault.Memory }
     {

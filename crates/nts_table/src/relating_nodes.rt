@@ -6,6 +6,7 @@ ghost use Rattle.nts_unify.specs.Reading.{content_of};
 ghost use Rattle.nts_table.specs.Tables.{IsTable, IsTermOf};
 ghost use Rattle.nts_unify.specs.Changing.{IsLater};
 ghost use Rattle.nts_store.specs.declared.fault.EvalError.TheVariants.{NoSolution};
+ghost use Rattle.nts_table.specs.Frames.{ChangesVariables};
 
 use crate::infer_ctxt::InferCtxt;
 use nts_store::{EvalError, NodeId, Nodes};
@@ -25,9 +26,7 @@ pub fn relate_nodes(
     requires right { IsTermOf nodes.old table.old b }
     ensures extends { Extends nodes.old nodes.new }
     ensures table { IsTable nodes.new table.new }
-    ensures saved { table.new.saved ≡ table.old.saved }
-    ensures mode { table.new.mode ≡ table.old.mode }
-    ensures hidden { table.new.entries.hidden ≡ table.old.entries.hidden }
+    ensures changes { ChangesVariables table.old table.new }
     ensures later { IsLater (content_of nodes.old table.old.entries) (content_of nodes.new table.new.entries) }
     ensures related { OnOk result (AreRelated (content_of nodes.old table.old.entries) (content_of nodes.new table.new.entries) (tree_at nodes.old a) (tree_at nodes.old b)) }
     ensures err { OnErr result (table.new ≡ table.old) }

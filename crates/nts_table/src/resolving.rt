@@ -4,9 +4,9 @@ ghost use Rattle.nts_model.specs.Trees.{any_label, is_alias};
 ghost use Rattle.nts_model.specs.Resolving.{Knows, resolved};
 ghost use Rattle.nts_store.specs.Growth.{tree_at, IsIn, Extends};
 ghost use Rattle.nts_terms.specs.Handles.{Holds};
-ghost use Rattle.nts_terms.specs.Rest.{KeepsRest};
 ghost use Rattle.nts_unify.specs.Reading.{content_of};
 ghost use Rattle.nts_table.specs.Tables.{IsTable};
+ghost use Rattle.nts_terms.specs.Rest.{Grows};
 
 use crate::infer_ctxt::InferCtxt;
 use crate::resolver::resolve_nodes;
@@ -21,8 +21,7 @@ impl InferCtxt {
         requires knows { Knows (content_of cx.old.nodes self.now.entries) (tree_at cx.old.nodes (T.id x)) }
         ensures tree { IfOk result (λ r. tree_at cx.new.nodes (T.id r) ≡ resolved (content_of cx.old.nodes self.now.entries) (tree_at cx.old.nodes (T.id x))) }
         ensures holds { IfOk result (λ r. Holds T.place cx.new.nodes (T.id r)) }
-        ensures extends { Extends cx.old.nodes cx.new.nodes }
-        ensures rest { KeepsRest cx.old cx.new }
+        ensures grows { Grows cx.old cx.new }
         ensures memory { IsOkUnless result Fault.Memory }
     {
         let node = resolve_nodes(cx.alloc, &mut cx.nodes, self, x.node(), false)?;
@@ -35,8 +34,7 @@ impl InferCtxt {
         requires within { IsIn cx.old.nodes (T.id x) }
         requires knows { Knows (content_of cx.old.nodes self.now.entries) (tree_at cx.old.nodes (T.id x)) }
         ensures answer { IfOk result (λ b. b ≡ any_label is_alias (resolved (content_of cx.old.nodes self.now.entries) (tree_at cx.old.nodes (T.id x)))) }
-        ensures extends { Extends cx.old.nodes cx.new.nodes }
-        ensures rest { KeepsRest cx.old cx.new }
+        ensures grows { Grows cx.old cx.new }
         ensures memory { IsOkUnless result Fault.Memory }
     {
         let found = resolve_nodes(cx.alloc, &mut cx.nodes, self, x.node(), false)?;

@@ -6,10 +6,10 @@ ghost use Rattle.nts_model.specs.Contents.{kind_at};
 ghost use Rattle.nts_model.specs.Resolving.{Knows};
 ghost use Rattle.nts_store.specs.Growth.{tree_at, IsIn, Extends};
 ghost use Rattle.nts_terms.specs.Handles.{HoldsTy, HoldsConst, HoldsRegion};
-ghost use Rattle.nts_terms.specs.Rest.{KeepsRest};
 ghost use Rattle.nts_unify.specs.Reading.{content_of};
 ghost use Rattle.nts_table.specs.Tables.{IsTable};
 ghost use Rattle.nts_table.specs.Classes.{shallow_variable, shallowly_resolved};
+ghost use Rattle.nts_terms.specs.Rest.{Grows};
 
 use crate::infer_ctxt::InferCtxt;
 use nts_model::{Label, Leaf, VariableKind};
@@ -25,8 +25,7 @@ impl InferCtxt {
         requires has { kind_at (content_of cx.old.nodes self.now.entries) vid ≡ Some kinds.Ty }
         ensures tree { IfOk result (λ t. tree_at cx.new.nodes t.node ≡ shallow_variable (content_of cx.old.nodes self.now.entries) kinds.Ty vid) }
         ensures holds { IfOk result (λ t. HoldsTy cx.new.nodes t) }
-        ensures extends { Extends cx.old.nodes cx.new.nodes }
-        ensures rest { KeepsRest cx.old cx.new }
+        ensures grows { Grows cx.old cx.new }
         ensures err { OnErr result (cx.new.nodes ≡ cx.old.nodes) }
         ensures memory { IsOkUnless result Fault.Memory }
     {
@@ -40,8 +39,7 @@ impl InferCtxt {
         requires has { kind_at (content_of cx.old.nodes self.now.entries) vid ≡ Some kinds.Int }
         ensures tree { IfOk result (λ t. tree_at cx.new.nodes t.node ≡ shallow_variable (content_of cx.old.nodes self.now.entries) kinds.Int vid) }
         ensures holds { IfOk result (λ t. HoldsTy cx.new.nodes t) }
-        ensures extends { Extends cx.old.nodes cx.new.nodes }
-        ensures rest { KeepsRest cx.old cx.new }
+        ensures grows { Grows cx.old cx.new }
         ensures err { OnErr result (cx.new.nodes ≡ cx.old.nodes) }
         ensures memory { IsOkUnless result Fault.Memory }
     {
@@ -55,8 +53,7 @@ impl InferCtxt {
         requires has { kind_at (content_of cx.old.nodes self.now.entries) vid ≡ Some kinds.Float }
         ensures tree { IfOk result (λ t. tree_at cx.new.nodes t.node ≡ shallow_variable (content_of cx.old.nodes self.now.entries) kinds.Float vid) }
         ensures holds { IfOk result (λ t. HoldsTy cx.new.nodes t) }
-        ensures extends { Extends cx.old.nodes cx.new.nodes }
-        ensures rest { KeepsRest cx.old cx.new }
+        ensures grows { Grows cx.old cx.new }
         ensures err { OnErr result (cx.new.nodes ≡ cx.old.nodes) }
         ensures memory { IsOkUnless result Fault.Memory }
     {
@@ -70,8 +67,7 @@ impl InferCtxt {
         requires has { kind_at (content_of cx.old.nodes self.now.entries) vid ≡ Some kinds.Const }
         ensures tree { IfOk result (λ t. tree_at cx.new.nodes t.node ≡ shallow_variable (content_of cx.old.nodes self.now.entries) kinds.Const vid) }
         ensures holds { IfOk result (λ t. HoldsConst cx.new.nodes t) }
-        ensures extends { Extends cx.old.nodes cx.new.nodes }
-        ensures rest { KeepsRest cx.old cx.new }
+        ensures grows { Grows cx.old cx.new }
         ensures err { OnErr result (cx.new.nodes ≡ cx.old.nodes) }
         ensures memory { IsOkUnless result Fault.Memory }
     {
@@ -85,8 +81,7 @@ impl InferCtxt {
         requires has { kind_at (content_of cx.old.nodes self.now.entries) vid ≡ Some kinds.Region }
         ensures tree { IfOk result (λ r. tree_at cx.new.nodes r.node ≡ shallow_variable (content_of cx.old.nodes self.now.entries) kinds.Region vid) }
         ensures holds { IfOk result (λ r. HoldsRegion cx.new.nodes r) }
-        ensures extends { Extends cx.old.nodes cx.new.nodes }
-        ensures rest { KeepsRest cx.old cx.new }
+        ensures grows { Grows cx.old cx.new }
         ensures err { OnErr result (cx.new.nodes ≡ cx.old.nodes) }
         ensures memory { IsOkUnless result Fault.Memory }
     {
@@ -101,8 +96,7 @@ impl InferCtxt {
         requires knows { Knows (content_of cx.old.nodes self.now.entries) (tree_at cx.old.nodes ty.node) }
         ensures tree { IfOk result (λ t. tree_at cx.new.nodes t.node ≡ shallowly_resolved (content_of cx.old.nodes self.now.entries) (tree_at cx.old.nodes ty.node)) }
         ensures holds { IfOk result (λ t. HoldsTy cx.new.nodes t) }
-        ensures extends { Extends cx.old.nodes cx.new.nodes }
-        ensures rest { KeepsRest cx.old cx.new }
+        ensures grows { Grows cx.old cx.new }
         ensures err { OnErr result (cx.new.nodes ≡ cx.old.nodes) }
         ensures memory { IsOkUnless result Fault.Memory }
     {
@@ -117,8 +111,7 @@ impl InferCtxt {
         requires knows { Knows (content_of cx.old.nodes self.now.entries) (tree_at cx.old.nodes ct.node) }
         ensures tree { IfOk result (λ t. tree_at cx.new.nodes t.node ≡ shallowly_resolved (content_of cx.old.nodes self.now.entries) (tree_at cx.old.nodes ct.node)) }
         ensures holds { IfOk result (λ t. HoldsConst cx.new.nodes t) }
-        ensures extends { Extends cx.old.nodes cx.new.nodes }
-        ensures rest { KeepsRest cx.old cx.new }
+        ensures grows { Grows cx.old cx.new }
         ensures err { OnErr result (cx.new.nodes ≡ cx.old.nodes) }
         ensures memory { IsOkUnless result Fault.Memory }
     {

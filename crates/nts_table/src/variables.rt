@@ -5,11 +5,12 @@ ghost use Rattle.nts_model.specs.Trees.{Tree};
 ghost use Rattle.nts_model.specs.Resolving.{variable_tree};
 ghost use Rattle.nts_store.specs.Growth.{tree_at, Extends};
 ghost use Rattle.nts_terms.specs.Handles.{HoldsTy, HoldsConst, HoldsRegion, HoldsArg};
-ghost use Rattle.nts_terms.specs.Rest.{KeepsRest};
 ghost use Rattle.nts_unify.specs.Entries.{added, moved};
 ghost use Rattle.nts_table.specs.Tables.{Table};
 ghost use Rattle.nts_table.specs.Tables.{IsTable};
 ghost use Rattle.nts_table.specs.Making.{unset_variable, new_variable, IsAddedTo};
+ghost use Rattle.nts_terms.specs.Rest.{Grows};
+ghost use Rattle.nts_table.specs.Frames.{ChangesEntries};
 
 use crate::infer_ctxt::InferCtxt;
 use nts_model::{Label, Leaf, VariableKind};
@@ -24,11 +25,9 @@ impl InferCtxt {
         ensures tree { IfOk result (λ t. tree_at cx.new.nodes t.node ≡ variable_tree kind.Ty (length self.old.entries.variables)) }
         ensures holds { IfOk result (λ t. HoldsTy cx.new.nodes t) }
         ensures entries { OnOk result (self.new.entries ≡ added self.old.entries (new_variable self.old.entries kind.Ty)) }
-        ensures saved { self.new.saved ≡ self.old.saved }
-        ensures mode { self.new.mode ≡ self.old.mode }
+        ensures changes { ChangesEntries self.old self.new }
         ensures table { IsTable cx.new.nodes self.new }
-        ensures extends { Extends cx.old.nodes cx.new.nodes }
-        ensures rest { KeepsRest cx.old cx.new }
+        ensures grows { Grows cx.old cx.new }
         ensures err { OnErr result (self.new ≡ self.old) }
         ensures memory { IsOkUnless result Fault.Memory }
     {
@@ -44,11 +43,9 @@ impl InferCtxt {
         ensures tree { IfOk result (λ t. tree_at cx.new.nodes t.node ≡ variable_tree kind.Int (length self.old.entries.variables)) }
         ensures holds { IfOk result (λ t. HoldsTy cx.new.nodes t) }
         ensures entries { OnOk result (self.new.entries ≡ added self.old.entries (unset_variable kind.Int 0)) }
-        ensures saved { self.new.saved ≡ self.old.saved }
-        ensures mode { self.new.mode ≡ self.old.mode }
+        ensures changes { ChangesEntries self.old self.new }
         ensures table { IsTable cx.new.nodes self.new }
-        ensures extends { Extends cx.old.nodes cx.new.nodes }
-        ensures rest { KeepsRest cx.old cx.new }
+        ensures grows { Grows cx.old cx.new }
         ensures err { OnErr result (self.new ≡ self.old) }
         ensures memory { IsOkUnless result Fault.Memory }
     {
@@ -64,11 +61,9 @@ impl InferCtxt {
         ensures tree { IfOk result (λ t. tree_at cx.new.nodes t.node ≡ variable_tree kind.Float (length self.old.entries.variables)) }
         ensures holds { IfOk result (λ t. HoldsTy cx.new.nodes t) }
         ensures entries { OnOk result (self.new.entries ≡ added self.old.entries (unset_variable kind.Float 0)) }
-        ensures saved { self.new.saved ≡ self.old.saved }
-        ensures mode { self.new.mode ≡ self.old.mode }
+        ensures changes { ChangesEntries self.old self.new }
         ensures table { IsTable cx.new.nodes self.new }
-        ensures extends { Extends cx.old.nodes cx.new.nodes }
-        ensures rest { KeepsRest cx.old cx.new }
+        ensures grows { Grows cx.old cx.new }
         ensures err { OnErr result (self.new ≡ self.old) }
         ensures memory { IsOkUnless result Fault.Memory }
     {
@@ -84,11 +79,9 @@ impl InferCtxt {
         ensures tree { IfOk result (λ t. tree_at cx.new.nodes t.node ≡ variable_tree kind.Const (length self.old.entries.variables)) }
         ensures holds { IfOk result (λ t. HoldsConst cx.new.nodes t) }
         ensures entries { OnOk result (self.new.entries ≡ added self.old.entries (new_variable self.old.entries kind.Const)) }
-        ensures saved { self.new.saved ≡ self.old.saved }
-        ensures mode { self.new.mode ≡ self.old.mode }
+        ensures changes { ChangesEntries self.old self.new }
         ensures table { IsTable cx.new.nodes self.new }
-        ensures extends { Extends cx.old.nodes cx.new.nodes }
-        ensures rest { KeepsRest cx.old cx.new }
+        ensures grows { Grows cx.old cx.new }
         ensures err { OnErr result (self.new ≡ self.old) }
         ensures memory { IsOkUnless result Fault.Memory }
     {
@@ -104,11 +97,9 @@ impl InferCtxt {
         ensures tree { IfOk result (λ r. tree_at cx.new.nodes r.node ≡ variable_tree kind.Region (length self.old.entries.variables)) }
         ensures holds { IfOk result (λ r. HoldsRegion cx.new.nodes r) }
         ensures entries { OnOk result (self.new.entries ≡ added self.old.entries (new_variable self.old.entries kind.Region)) }
-        ensures saved { self.new.saved ≡ self.old.saved }
-        ensures mode { self.new.mode ≡ self.old.mode }
+        ensures changes { ChangesEntries self.old self.new }
         ensures table { IsTable cx.new.nodes self.new }
-        ensures extends { Extends cx.old.nodes cx.new.nodes }
-        ensures rest { KeepsRest cx.old cx.new }
+        ensures grows { Grows cx.old cx.new }
         ensures err { OnErr result (self.new ≡ self.old) }
         ensures memory { IsOkUnless result Fault.Memory }
     {
@@ -132,11 +123,9 @@ impl InferCtxt {
         ensures tree { IfOk result (λ r. tree_at cx.new.nodes r.node ≡ variable_tree kind (length self.old.entries.variables)) }
         ensures holds { IfOk result (λ r. HoldsArg cx.new.nodes r) }
         ensures entries { OnOk result (IsAddedTo self.old.entries self.new.entries (unset_variable kind universe) sub_root_of) }
-        ensures saved { self.new.saved ≡ self.old.saved }
-        ensures mode { self.new.mode ≡ self.old.mode }
+        ensures changes { ChangesEntries self.old self.new }
         ensures table { IsTable cx.new.nodes self.new }
-        ensures extends { Extends cx.old.nodes cx.new.nodes }
-        ensures rest { KeepsRest cx.old cx.new }
+        ensures grows { Grows cx.old cx.new }
         ensures err { OnErr result (self.new ≡ self.old) }
         ensures memory { IsOkUnless result Fault.Memory }
     {
@@ -159,8 +148,7 @@ impl InferCtxt {
 
     fn add_unset(&mut self, kind: VariableKind, universe: u32) -> Result<(), Fault>
         ensures entries { OnOk result (self.new.entries ≡ added self.old.entries (unset_variable kind universe)) }
-        ensures saved { self.new.saved ≡ self.old.saved }
-        ensures mode { self.new.mode ≡ self.old.mode }
+        ensures changes { ChangesEntries self.old self.new }
         ensures err { OnErr result (self.new ≡ self.old) }
         ensures memory { IsOkUnless result Fault.Memory }
     {
@@ -178,8 +166,7 @@ impl InferCtxt {
         ensures number { IfOk result (λ u. u ≡ self.old.entries.universe + 1) }
         ensures entries { OnOk result (self.new.entries ≡ moved self.old.entries (self.old.entries.universe + 1)) }
         ensures table { (ts : List Tree) → IsTable ts self.old → IsTable ts self.new }
-        ensures saved { self.new.saved ≡ self.old.saved }
-        ensures mode { self.new.mode ≡ self.old.mode }
+        ensures changes { ChangesEntries self.old self.new }
         ensures err { OnErr result (self.new ≡ self.old) }
         ensures full { result ≡ Err Fault.Full → self.old.entries.universe ≡ u32.MAX }
     {

@@ -1,4 +1,5 @@
 ghost use Rattle.std.specs.Prelude.{◌≡◌};
+ghost use Rattle.nts_table.specs.Frames.{ChangesEntries};
 
 use nts_model::{Sort, VariableKind};
 use nts_store::Fault;
@@ -115,8 +116,7 @@ fn probing(rt: HostRuntime) {
     let moved = table
         .probe(
             |inner: &mut InferCtxt| -> Result<u32, Fault>
-                ensures saved { inner.new.saved ≡ inner.old.saved }
-                ensures mode { inner.new.mode ≡ inner.old.mode }
+                ensures changes { ChangesEntries inner.old inner.new }
             { inner.create_next_universe() },
         )
         .expect(&rt, "memory");

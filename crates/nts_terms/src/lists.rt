@@ -6,7 +6,7 @@ ghost use Rattle.nts_model.specs.Trees.{Tree, node, empty, children, row_length,
 ghost use Rattle.nts_store.specs.Growth.{tree_at, trees_at, IsIn, Extends};
 ghost use Rattle.nts_terms.specs.Handles.{Holds, HoldsArg, HoldsArgs, HoldsPredicate, HoldsEnv, HoldsVars};
 ghost use Rattle.nts_terms.specs.Kinds.{tree_of_args, tree_of_env, tree_of_vars, tree_of_sort};
-ghost use Rattle.nts_terms.specs.Rest.{KeepsRest};
+ghost use Rattle.nts_terms.specs.Rest.{Grows};
 
 use crate::cx::Cx;
 use crate::handles::{BoundVars, GenericArg, GenericArgs, ParamEnv, Predicate};
@@ -21,8 +21,7 @@ impl Cx {
         requires { All (λ a. HoldsArg self.old.nodes a) args.now }
         ensures tree { IfOk result (λ l. tree_at self.new.nodes l.node ≡ tree_of_args self.old.nodes args.now) }
         ensures holds { IfOk result (λ l. HoldsArgs self.new.nodes l) }
-        ensures extends { Extends self.old.nodes self.new.nodes }
-        ensures rest { KeepsRest self.old self.new }
+        ensures grows { Grows self.old self.new }
         ensures err { OnErr result (self.new.nodes ≡ self.old.nodes) }
         ensures memory { IsOkUnless result Fault.Memory }
     {
@@ -37,8 +36,7 @@ impl Cx {
         requires { All (λ p. HoldsPredicate self.old.nodes p) predicates.now }
         ensures tree { IfOk result (λ e. tree_at self.new.nodes e.node ≡ tree_of_env self.old.nodes predicates.now) }
         ensures holds { IfOk result (λ e. HoldsEnv self.new.nodes e) }
-        ensures extends { Extends self.old.nodes self.new.nodes }
-        ensures rest { KeepsRest self.old self.new }
+        ensures grows { Grows self.old self.new }
         ensures err { OnErr result (self.new.nodes ≡ self.old.nodes) }
         ensures memory { IsOkUnless result Fault.Memory }
     {
@@ -51,8 +49,7 @@ impl Cx {
     pub fn mk_bound_vars(&mut self, sorts: &[Sort]) -> Result<BoundVars, Fault>
         ensures tree { IfOk result (λ v. tree_at self.new.nodes v.node ≡ tree_of_vars sorts.now) }
         ensures holds { IfOk result (λ v. HoldsVars self.new.nodes v) }
-        ensures extends { Extends self.old.nodes self.new.nodes }
-        ensures rest { KeepsRest self.old self.new }
+        ensures grows { Grows self.old self.new }
         ensures memory { IsOkUnless result Fault.Memory }
     {
         let mut children = Vec::with_capacity(self.alloc, sorts.len())?;

@@ -6,7 +6,7 @@ ghost use Rattle.nts_store.specs.Growth.{tree_at, Extends};
 ghost use Rattle.nts_terms.specs.Handles.{Holds, HoldsTy, HoldsRegion, HoldsConst, HoldsPredicate};
 ghost use Rattle.nts_terms.specs.Kinds.{tree_of_infer, tree_of_ty, TyFits, tree_of_region, tree_of_const, ConstFits, tree_of_clause, ClauseFits, tree_of_statement, StatementFits, tree_of_predicate, PredicateFits};
 ghost use Rattle.nts_terms.specs.Signatures.{TyIsDeclared, ConstIsDeclared, StatementIsDeclared};
-ghost use Rattle.nts_terms.specs.Rest.{KeepsRest};
+ghost use Rattle.nts_terms.specs.Rest.{Grows};
 
 use crate::cx::Cx;
 use crate::handles::{Binder, Const, Predicate, Region, Ty};
@@ -24,8 +24,7 @@ impl Cx {
         requires declared { TyIsDeclared self.old.declarations self.old.nodes kind }
         ensures tree { IfOk result (λ t. tree_at self.new.nodes t.node ≡ tree_of_ty self.old.nodes kind) }
         ensures holds { IfOk result (λ t. HoldsTy self.new.nodes t) }
-        ensures extends { Extends self.old.nodes self.new.nodes }
-        ensures rest { KeepsRest self.old self.new }
+        ensures grows { Grows self.old self.new }
         ensures err { OnErr result (self.new.nodes ≡ self.old.nodes) }
         ensures memory { IsOkUnless result Fault.Memory }
     {
@@ -68,8 +67,7 @@ impl Cx {
     pub fn mk_region(&mut self, kind: RegionKind) -> Result<Region, Fault>
         ensures tree { IfOk result (λ r. tree_at self.new.nodes r.node ≡ tree_of_region kind) }
         ensures holds { IfOk result (λ r. HoldsRegion self.new.nodes r) }
-        ensures extends { Extends self.old.nodes self.new.nodes }
-        ensures rest { KeepsRest self.old self.new }
+        ensures grows { Grows self.old self.new }
         ensures err { OnErr result (self.new.nodes ≡ self.old.nodes) }
         ensures memory { IsOkUnless result Fault.Memory }
     {
@@ -95,8 +93,7 @@ impl Cx {
         requires declared { ConstIsDeclared self.old.declarations self.old.nodes kind }
         ensures tree { IfOk result (λ c. tree_at self.new.nodes c.node ≡ tree_of_const self.old.nodes kind) }
         ensures holds { IfOk result (λ c. HoldsConst self.new.nodes c) }
-        ensures extends { Extends self.old.nodes self.new.nodes }
-        ensures rest { KeepsRest self.old self.new }
+        ensures grows { Grows self.old self.new }
         ensures err { OnErr result (self.new.nodes ≡ self.old.nodes) }
         ensures memory { IsOkUnless result Fault.Memory }
     {
@@ -138,8 +135,7 @@ impl Cx {
         requires declared { StatementIsDeclared self.old.declarations self.old.nodes predicate.value }
         ensures tree { IfOk result (λ p. tree_at self.new.nodes p.node ≡ tree_of_predicate self.old.nodes predicate) }
         ensures holds { IfOk result (λ p. HoldsPredicate self.new.nodes p) }
-        ensures extends { Extends self.old.nodes self.new.nodes }
-        ensures rest { KeepsRest self.old self.new }
+        ensures grows { Grows self.old self.new }
         ensures memory { IsOkUnless result Fault.Memory }
     {
         let statement = self.make_statement(predicate.value)?;
@@ -152,8 +148,7 @@ impl Cx {
         requires { StatementFits self.old.nodes kind }
         ensures tree { IfOk result (λ n. tree_at self.new.nodes n ≡ tree_of_statement self.old.nodes kind) }
         ensures holds { IfOk result (λ n. Holds (is statement) self.new.nodes n) }
-        ensures extends { Extends self.old.nodes self.new.nodes }
-        ensures rest { KeepsRest self.old self.new }
+        ensures grows { Grows self.old self.new }
         ensures memory { IsOkUnless result Fault.Memory }
     {
         let (head, a, b) = match kind {
@@ -193,8 +188,7 @@ impl Cx {
         requires { ClauseFits self.old.nodes kind }
         ensures tree { IfOk result (λ n. tree_at self.new.nodes n ≡ tree_of_clause self.old.nodes kind) }
         ensures holds { IfOk result (λ n. Holds (is statement) self.new.nodes n) }
-        ensures extends { Extends self.old.nodes self.new.nodes }
-        ensures rest { KeepsRest self.old self.new }
+        ensures grows { Grows self.old self.new }
         ensures memory { IsOkUnless result Fault.Memory }
     {
         let node = match kind {

@@ -1,5 +1,5 @@
 -- The entries of a table, and how one change is undone.
-use Rattle.std.specs.Prelude.{ℕ, List, [], ◌∷◌, ◌++◌, length, slice_set, take, ◌-◌}
+use Rattle.std.specs.Prelude.{◌≡◌, ℕ, List, [], ◌∷◌, ◌++◌, length, slice_set, take, ◌-◌}
 use Rattle.nts_unify.specs.declared.contents.Variable.{Variable}
 use Rattle.nts_unify.specs.declared.contents.UndoLog.{UndoLog}
 use Rattle.nts_unify.specs.declared.contents.UndoLog.TheVariants.{Added, Changed, Bound, Moved, Constrained, Registered, Replaced}
@@ -20,6 +20,11 @@ pub record Entries : Type 0 where
 pub record Inner : Type 0 where
   pub entries : Entries
   pub saved : List Entries
+
+-- the snapshots and the hidden types stay
+pub record KeepsHidden (old new : Inner) : Type 0 where
+  pub saved : new.saved ≡ old.saved
+  pub hidden : new.entries.hidden ≡ old.entries.hidden
 
 -- the list without its last element
 abbrev pub front : {A : Type 0} → List A → List A

@@ -14,8 +14,8 @@ use Rattle.nts_unify.specs.declared.contents.State.TheVariants.{Unset, Link, Kno
 use Rattle.nts_unify.specs.declared.contents.Variable.{Variable}
 use Rattle.nts_unify.specs.declared.contents.Constraint.{Constraint}
 use Rattle.nts_unify.specs.declared.contents.HiddenType.{HiddenType}
-use Rattle.nts_unify.specs.Entries.{Entries, added, moved, constrained, registered, with_hidden}
-use Rattle.nts_unify.specs.Proper.{IsProper-empty, IsProper-with_slot, IsProper-with_constraint, IsProper-in_universe}
+use Rattle.nts_unify.specs.Entries.{Entries, added, moved, constrained}
+use Rattle.nts_unify.specs.Proper.{IsProper-with_slot, IsProper-with_constraint, IsProper-in_universe}
 use Rattle.nts_unify.specs.Reading.{state_with, slot_of, recorded_of, content_of, IsHeldState, AreHeld, IsConstraint, AreConstraints, IsHiddenType, AreHiddenTypes, LinksDescend, IsLawful, AllLawful}
 
 state_with-extended : (a b : List Tree) (s : State) → Extends a b → IsHeldState a s → state_with b s ≡ state_with a s

@@ -4,6 +4,7 @@ ghost use Rattle.nts_model.specs.Trees.{Tree};
 ghost use Rattle.nts_unify.specs.Reading.{IsLawful};
 ghost use Rattle.nts_unify.specs.Joining.{Joins, RegionsJoin, CanJoin, CanJoinRegions};
 ghost use Rattle.nts_unify.specs.Equating.{RegionsLinked};
+ghost use Rattle.nts_unify.specs.Entries.{KeepsHidden};
 
 use crate::contents::{State, Variable};
 use crate::inner::InferCtxtInner;
@@ -14,8 +15,7 @@ use std::alloc::AllocError;
 pub fn join(table: &mut InferCtxtInner, x: usize, y: usize) -> Result<(), AllocError>
     requires { CanJoin table.old.entries x y }
     ensures joined { OnOk result ((ts : List Tree) → IsLawful ts table.old.entries → Joins ts table.old.entries table.new.entries x y) }
-    ensures saved { table.new.saved ≡ table.old.saved }
-    ensures hidden { table.new.entries.hidden ≡ table.old.entries.hidden }
+    ensures changes { KeepsHidden table.old table.new }
 {
     table.join_sub_roots(x, y)?;
     let low = x.min(y);
@@ -33,8 +33,7 @@ pub fn join(table: &mut InferCtxtInner, x: usize, y: usize) -> Result<(), AllocE
 pub fn join_regions(table: &mut InferCtxtInner, x: usize, y: usize) -> Result<(), AllocError>
     requires { CanJoinRegions table.old.entries x y }
     ensures joined { OnOk result ((ts : List Tree) → IsLawful ts table.old.entries → RegionsJoin ts table.old.entries table.new.entries x y) }
-    ensures saved { table.new.saved ≡ table.old.saved }
-    ensures hidden { table.new.entries.hidden ≡ table.old.entries.hidden }
+    ensures changes { KeepsHidden table.old table.new }
 {
     table.link_regions(x, y)?;
     Ok(())
@@ -47,8 +46,7 @@ impl InferCtxtInner {
         requires within_s { s < length self.old.entries.variables }
         requires apart { r ≡ s → ⊥ }
         ensures linked { OnOk result (RegionsLinked self.old.entries self.new.entries r s) }
-        ensures saved { self.new.saved ≡ self.old.saved }
-        ensures hidden { self.new.entries.hidden ≡ self.old.entries.hidden }
+        ensures changes { KeepsHidden self.old self.new }
     {
         let low = r.min(s);
         let high = r.max(s);

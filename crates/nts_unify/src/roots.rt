@@ -3,6 +3,7 @@ ghost use Rattle.std.specs.Prelude.{◌≡◌, ◌<◌, length, Some, OnOk, OnEr
 ghost use Rattle.nts_unify.specs.Entries.{Entries};
 ghost use Rattle.nts_unify.specs.Reading.{LinksDescend};
 ghost use Rattle.nts_unify.specs.Roots.{IsRoot, IsSubRoot, SubRootsJoin};
+ghost use Rattle.nts_unify.specs.Entries.{KeepsHidden};
 
 use crate::contents::{State, Variable};
 use crate::inner::InferCtxtInner;
@@ -41,8 +42,7 @@ impl InferCtxtInner {
         requires within_y { y < length self.old.entries.variables }
         requires descends { LinksDescend self.old.entries }
         ensures joined { OnOk result (SubRootsJoin self.old.entries self.new.entries x y) }
-        ensures saved { self.new.saved ≡ self.old.saved }
-        ensures hidden { self.new.entries.hidden ≡ self.old.entries.hidden }
+        ensures changes { KeepsHidden self.old self.new }
         ensures err { OnErr result (self.new ≡ self.old) }
     {
         let x_root = self.sub_root(x);

@@ -2,8 +2,8 @@
 ghost use Rattle.std.specs.Prelude.{IfOk, IfSome, OnOk};
 ghost use Rattle.nts_store.specs.Growth.{Extends};
 ghost use Rattle.nts_terms.specs.Handles.{HoldsArg, HoldsTy, HoldsPredicate, HoldsGoal};
-ghost use Rattle.nts_terms.specs.Rest.{KeepsRest};
 ghost use Rattle.nts_delegate.specs.Clauses.{AreReady};
+ghost use Rattle.nts_terms.specs.Rest.{Grows};
 
 use next_trait_solver::clauses::{Clause, Clauses};
 use next_trait_solver::solve::{evaluate_root_goal, goal_is_admitted};
@@ -18,8 +18,7 @@ use std::alloc::Global;
 fn holds_for(cx: &mut Cx, id: TraitId, argument: GenericArg) -> Result<Option<Predicate>, EvalError>
     requires { HoldsArg cx.old.nodes argument }
     ensures holds { IfOk result (λ p. IfSome p (HoldsPredicate cx.new.nodes)) }
-    ensures extends { Extends cx.old.nodes cx.new.nodes }
-    ensures rest { KeepsRest cx.old cx.new }
+    ensures grows { Grows cx.old cx.new }
 {
     let args = cx.mk_args(&[argument])?;
     let vars = cx.mk_bound_vars(&[])?;
@@ -45,8 +44,7 @@ fn add_rule(
     requires argument { HoldsArg cx.old.nodes argument }
     requires ready { AreReady cx.old.nodes rules.old }
     ensures ready { OnOk result (AreReady cx.new.nodes rules.new) }
-    ensures extends { Extends cx.old.nodes cx.new.nodes }
-    ensures rest { KeepsRest cx.old cx.new }
+    ensures grows { Grows cx.old cx.new }
 {
     let head = cx.mk_args(&[argument])?;
     let clause = Clause {
@@ -66,8 +64,7 @@ fn add_rule(
 fn vec_of(cx: &mut Cx, vec: CtorId, argument: GenericArg) -> Result<Option<Ty>, EvalError>
     requires { HoldsArg cx.old.nodes argument }
     ensures holds { IfOk result (λ t. IfSome t (HoldsTy cx.new.nodes)) }
-    ensures extends { Extends cx.old.nodes cx.new.nodes }
-    ensures rest { KeepsRest cx.old cx.new }
+    ensures grows { Grows cx.old cx.new }
 {
     let args = cx.mk_args(&[argument])?;
     if !cx.holds(args) || !cx.fits(DefId::Ctor(vec), args) {
@@ -86,8 +83,7 @@ fn add_rule_of_vec(
 ) -> Result<bool, EvalError>
     requires { AreReady cx.old.nodes rules.old }
     ensures ready { OnOk result (AreReady cx.new.nodes rules.new) }
-    ensures extends { Extends cx.old.nodes cx.new.nodes }
-    ensures rest { KeepsRest cx.old cx.new }
+    ensures grows { Grows cx.old cx.new }
 {
     let any = cx.mk_ty(TyKind::Bound(BoundVarIndexKind::Canonical, BoundTy { var: 0 }))?;
     let Some(condition) = holds_for(cx, clone, any.into())? else {

@@ -2,10 +2,10 @@
 ghost use Rattle.std.specs.Prelude.{IfOk, OnOk};
 ghost use Rattle.nts_store.specs.Growth.{Extends};
 ghost use Rattle.nts_terms.specs.Handles.{HoldsArgs};
-ghost use Rattle.nts_terms.specs.Rest.{KeepsRest};
 ghost use Rattle.nts_table.specs.Tables.{IsTable};
 ghost use Rattle.nts_terms.specs.Handles.{HoldsGoal};
 ghost use Rattle.nts_delegate.specs.Clauses.{AreReady};
+ghost use Rattle.nts_terms.specs.Rest.{Grows};
 
 use nts_certainty::Certainty;
 use nts_delegate::{Clause, Clauses, GoalHandler};
@@ -21,8 +21,7 @@ use nts_terms::{
 use std::test::Fail;
 
 fn uint(cx: &mut Cx, int: UintTy) -> Result<Ty, Fail>
-    ensures extends { Extends cx.old.nodes cx.new.nodes }
-    ensures rest { KeepsRest cx.old cx.new }
+    ensures grows { Grows cx.old cx.new }
 {
     Ok(cx.mk_ty(TyKind::Uint(int))?)
 }
@@ -30,8 +29,7 @@ fn uint(cx: &mut Cx, int: UintTy) -> Result<Ty, Fail>
 /// The goal that a trait holds for one argument, in an empty environment.
 fn goal_about(cx: &mut Cx, id: TraitId, argument: GenericArg) -> Result<Goal, Fail>
     ensures holds { IfOk result (λ g. HoldsGoal cx.new.nodes g) }
-    ensures extends { Extends cx.old.nodes cx.new.nodes }
-    ensures rest { KeepsRest cx.old cx.new }
+    ensures grows { Grows cx.old cx.new }
 {
     if !cx.holds(argument) {
         return Err(Fail::new("no argument of the store"));
@@ -61,8 +59,7 @@ fn certainty<H: GoalHandler>(
     requires table { IsTable cx.old.nodes table.old }
     requires ready { H.ready cx.old.nodes handler.now }
     requires holds { HoldsGoal cx.old.nodes goal }
-    ensures extends { Extends cx.old.nodes cx.new.nodes }
-    ensures rest { KeepsRest cx.old cx.new }
+    ensures grows { Grows cx.old cx.new }
 {
     if !goal_is_admitted(table, cx, goal)? {
         return Err(Fail::new("the goal may not be asked"));
@@ -79,8 +76,7 @@ fn certainty<H: GoalHandler>(
 fn fact(cx: &mut Cx, handler: &mut Clauses, id: TraitId, argument: GenericArg) -> Result<(), Fail>
     requires { AreReady cx.old.nodes handler.old }
     ensures ready { OnOk result (AreReady cx.new.nodes handler.new) }
-    ensures extends { Extends cx.old.nodes cx.new.nodes }
-    ensures rest { KeepsRest cx.old cx.new }
+    ensures grows { Grows cx.old cx.new }
 {
     if !cx.holds(argument) {
         return Err(Fail::new("no argument of the store"));

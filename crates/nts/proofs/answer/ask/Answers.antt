@@ -7,15 +7,15 @@ use Rattle.nts.proofs.Asking.{values-extended}
 use Rattle.nts.proofs.answer.ask.Goals as goal
 
 pub evaluated-requires-clause-table : goal.evaluated-requires-clause-table
-evaluated-requires-clause-table c = IsTable-extended c.in_ok-goal.ensures.extends c.in_ok-values.ensures.table
+evaluated-requires-clause-table c = IsTable-extended c.in_ok-goal.ensures.grows.extends c.in_ok-values.ensures.table
 
 pub evaluated-requires-clause-values : goal.evaluated-requires-clause-values
 evaluated-requires-clause-values c =
-    rw c.deref-3.ensures.value (values-extended c.in_ok-values.values.items c.in_ok-values.ensures.table c.in_ok-goal.ensures.extends c.in_ok-values.ensures.values)
+    rw c.deref-3.ensures.value (values-extended c.in_ok-values.values.items c.in_ok-values.ensures.table c.in_ok-goal.ensures.grows.extends c.in_ok-values.ensures.values)
 
 pub returns-in-Some-Yes-clause-yes : goal.returns-in-Some-Yes-clause-yes
 returns-in-Some-Yes-clause-yes c =
     justified c.args.mode c.args.nodes.now _ _ _ _ c.args.clauses.now _ c.in_ok-goal.goal _ _ c.answer_of.result
     (rw (c.in_ok-evaluated.ensures.mode, c.fresh_values.ensures.mode, c.new-table.ensures.mode) c.typing_mode.ensures)
-    (Extends-trans c.in_ok-values.ensures.extends c.in_ok-goal.ensures.extends)
-    (c.in_ok-evaluated.ensures.proved (c.in-Some-Yes.is ∙ ap Some c.in-Some-Yes.field-0-is)) (subst (λ vs. IsGoalOf c.evaluated.new.cx.nodes c.see.new.self vs c.args.nodes.now c.in_ok-goal.goal) (c.deref-2.ensures.value ∙ sym c.deref-in-Some-Yes.ensures.value) (c.in_ok-goal.ensures.asks _ c.in_ok-evaluated.ensures.extends)) c.answer_of.ensures.variables c.answer_of.ensures.found
+    (Extends-trans c.in_ok-values.ensures.grows.extends c.in_ok-goal.ensures.grows.extends)
+    (c.in_ok-evaluated.ensures.proved (c.in-Some-Yes.is ∙ ap Some c.in-Some-Yes.field-0-is)) (subst (λ vs. IsGoalOf c.evaluated.new.cx.nodes c.see.new.self vs c.args.nodes.now c.in_ok-goal.goal) (c.deref-2.ensures.value ∙ sym c.deref-in-Some-Yes.ensures.value) (c.in_ok-goal.ensures.asks _ c.in_ok-evaluated.ensures.grows.extends)) c.answer_of.ensures.variables c.answer_of.ensures.found

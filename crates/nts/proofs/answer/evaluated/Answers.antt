@@ -3,8 +3,8 @@ use Rattle.nts.proofs.Asking.{values-run, values-extended}
 use Rattle.nts.proofs.answer.evaluated.Goals as goal
 
 pub evaluate_root_goal-requires-clause-table : goal.evaluate_root_goal-requires-clause-table
-evaluate_root_goal-requires-clause-table c = IsTable-extended c.in_ok-admitted.ensures.extends c.requires.table
+evaluate_root_goal-requires-clause-table c = IsTable-extended c.in_ok-admitted.ensures.grows.extends c.requires.table
 
 pub returns-in-Ok-clause-values : goal.returns-in-Ok-clause-values
 returns-in-Ok-clause-values c =
-    values-run c.args.values.now c.in-Ok.ensures.runs (values-extended c.args.values.now c.requires.table c.in_ok-admitted.ensures.extends c.requires.values)
+    values-run c.args.values.now c.in-Ok.ensures.runs (values-extended c.args.values.now c.requires.table c.in_ok-admitted.ensures.grows.extends c.requires.values)

@@ -10,7 +10,7 @@ pub instantiate_both-requires-clause-values : goal.instantiate_both-requires-cla
 instantiate_both-requires-clause-values c = held_values c.requires.values
 
 pub returns-in_err-lhs-clause-runs : goal.returns-in_err-lhs-clause-runs
-returns-in_err-lhs-clause-runs c = Runs-extends c.requires.posed.table c.instantiate_both.ensures.extends c.instantiate_both.ensures.rest
+returns-in_err-lhs-clause-runs c = Runs-extends c.requires.posed.table c.instantiate_both.ensures.grows.extends c.instantiate_both.ensures.grows.rest
 
 pub relate_terms-requires-clause-left : goal.relate_terms-requires-clause-left
 relate_terms-requires-clause-left c =

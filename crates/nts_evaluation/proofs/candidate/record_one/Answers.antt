@@ -11,7 +11,7 @@ pub instantiate_both-requires-clause-values : goal.instantiate_both-requires-cla
 instantiate_both-requires-clause-values c = held_values c.requires.values
 
 pub returns-in_err-left-clause-runs : goal.returns-in_err-left-clause-runs
-returns-in_err-left-clause-runs c = Runs-extends c.requires.posed.table c.instantiate_both.ensures.extends c.instantiate_both.ensures.rest
+returns-in_err-left-clause-runs c = Runs-extends c.requires.posed.table c.instantiate_both.ensures.grows.extends c.instantiate_both.ensures.grows.rest
 
 pub relate_terms-requires-clause-table : goal.relate_terms-requires-clause-table
 relate_terms-requires-clause-table c = IsTable-extended c.in_ok-left.ensures.extends c.requires.posed.table

@@ -12,10 +12,10 @@ resolve_term-requires-clause-term c = env_term c.requires
 
 pub resolve_term-requires-2-clause-term : goal.resolve_term-requires-2-clause-term
 resolve_term-requires-2-clause-term c =
-    IsTermOf-later (Goes-extends c.requires.table c.in_ok-env.ensures.extends) (predicate_term c.requires)
+    IsTermOf-later (Goes-extends c.requires.table c.in_ok-env.ensures.grows.extends) (predicate_term c.requires)
 
 pub resolve_term-requires-2-clause-table : goal.resolve_term-requires-2-clause-table
-resolve_term-requires-2-clause-table c = IsTable-extended c.in_ok-env.ensures.extends c.requires.table
+resolve_term-requires-2-clause-table c = IsTable-extended c.in_ok-env.ensures.grows.extends c.requires.table
 
 pub returns-clause-posed : goal.returns-clause-posed
 returns-clause-posed c =
@@ -25,10 +25,10 @@ returns-clause-posed c =
 
 pub returns-clause-env : goal.returns-clause-env
 returns-clause-env c =
-    c.in_ok-predicate.ensures.extends.kept _ c.in_ok-env.ensures.term.within ∙ c.in_ok-env.ensures.tree
+    c.in_ok-predicate.ensures.grows.extends.kept _ c.in_ok-env.ensures.term.within ∙ c.in_ok-env.ensures.tree
 
 pub returns-clause-predicate : goal.returns-clause-predicate
 returns-clause-predicate c =
-    let same = content_of-extended c.in_ok-env.ensures.extends c.requires.table.now in
-    let kept = c.in_ok-env.ensures.extends.kept c.args.goal.predicate.node c.requires.holds.predicate.within in
+    let same = content_of-extended c.in_ok-env.ensures.grows.extends c.requires.table.now in
+    let kept = c.in_ok-env.ensures.grows.extends.kept c.args.goal.predicate.node c.requires.holds.predicate.within in
     c.in_ok-predicate.ensures.tree ∙ ap (λ d. deeply_resolved d (tree_at c.resolve_term.new.cx.nodes c.args.goal.predicate.node)) same ∙ ap (deeply_resolved (content_of c.args.cx.now.nodes c.args.table.now.entries)) kept

@@ -16,24 +16,24 @@ use Rattle.nts_evaluation.proofs.Evaluating.{Goes-trans, Goes-extends, goes-back
 use Rattle.nts_evaluation.proofs.evaluate.+evaluate.Goals as goal
 
 pub compute_goal-returns-in_err-candidates-clause-runs : goal.compute_goal-returns-in_err-candidates-clause-runs
-compute_goal-returns-in_err-candidates-clause-runs g t c = Runs-extends c.requires.posed.table c.candidates.ensures.extends c.candidates.ensures.rest
+compute_goal-returns-in_err-candidates-clause-runs g t c = Runs-extends c.requires.posed.table c.candidates.ensures.grows.extends c.candidates.ensures.grows.rest
 
 pub compute_goal-returns-clause-runs : goal.compute_goal-returns-clause-runs
 compute_goal-returns-clause-runs g t c =
-    Runs-trans (Runs-extends c.requires.posed.table c.in_ok-candidates.ensures.extends c.in_ok-candidates.ensures.rest) c.evaluate_candidates.ensures.runs
+    Runs-trans (Runs-extends c.requires.posed.table c.in_ok-candidates.ensures.grows.extends c.in_ok-candidates.ensures.grows.rest) c.evaluate_candidates.ensures.runs
 
 pub evaluate_candidates-returns-in_err-choose-clause-runs : goal.evaluate_candidates-returns-in_err-choose-clause-runs
-evaluate_candidates-returns-in_err-choose-clause-runs g t c = runs-back c.requires.posed.table c.choose.ensures.extends c.choose.ensures.rest c.choose.ensures.same
+evaluate_candidates-returns-in_err-choose-clause-runs g t c = runs-back c.requires.posed.table c.choose.ensures.grows.extends c.choose.ensures.grows.rest c.choose.ensures.same
 
 pub evaluate_candidates-returns-in-None-clause-runs : goal.evaluate_candidates-returns-in-None-clause-runs
-evaluate_candidates-returns-in-None-clause-runs g t c = runs-back c.requires.posed.table c.in_ok-choose.ensures.extends c.in_ok-choose.ensures.rest c.in_ok-choose.ensures.same
+evaluate_candidates-returns-in-None-clause-runs g t c = runs-back c.requires.posed.table c.in_ok-choose.ensures.grows.extends c.in_ok-choose.ensures.grows.rest c.in_ok-choose.ensures.same
 
 pub evaluate_candidates-returns-in-Several-clause-runs : goal.evaluate_candidates-returns-in-Several-clause-runs
-evaluate_candidates-returns-in-Several-clause-runs g t c = runs-back c.requires.posed.table c.in_ok-choose.ensures.extends c.in_ok-choose.ensures.rest c.in_ok-choose.ensures.same
+evaluate_candidates-returns-in-Several-clause-runs g t c = runs-back c.requires.posed.table c.in_ok-choose.ensures.grows.extends c.in_ok-choose.ensures.grows.rest c.in_ok-choose.ensures.same
 
 pub evaluate_candidates-returns-in-One-clause-runs : goal.evaluate_candidates-returns-in-One-clause-runs
 evaluate_candidates-returns-in-One-clause-runs g t c =
-    Runs-trans (runs-back c.requires.posed.table c.in_ok-choose.ensures.extends c.in_ok-choose.ensures.rest c.in_ok-choose.ensures.same) c.run_candidate.ensures.runs
+    Runs-trans (runs-back c.requires.posed.table c.in_ok-choose.ensures.grows.extends c.in_ok-choose.ensures.grows.rest c.in_ok-choose.ensures.same) c.run_candidate.ensures.runs
 
 pub evaluate_goal-returns-in-Err-clause-runs : goal.evaluate_goal-returns-in-Err-clause-runs
 evaluate_goal-returns-in-Err-clause-runs g t c =
@@ -77,7 +77,7 @@ evaluate_candidates-run_candidate-requires g t c = λ κs k.
     )
 
 pub evaluate_nested-returns-in_err-asked-in-Some-clause-runs : goal.evaluate_nested-returns-in_err-asked-in-Some-clause-runs
-evaluate_nested-returns-in_err-asked-in-Some-clause-runs g t c = Runs-extends c.requires.posed.table c.nested_goal.ensures.extends c.nested_goal.ensures.rest
+evaluate_nested-returns-in_err-asked-in-Some-clause-runs g t c = Runs-extends c.requires.posed.table c.nested_goal.ensures.grows.extends c.nested_goal.ensures.grows.rest
 
 pub evaluate_nested-returns-in_ok-asked-in-Some-clause-runs : goal.evaluate_nested-returns-in_ok-asked-in-Some-clause-runs
 evaluate_nested-returns-in_ok-asked-in-Some-clause-runs g t c =

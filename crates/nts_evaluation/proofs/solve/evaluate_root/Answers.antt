@@ -4,27 +4,27 @@ use Rattle.nts_evaluation.proofs.Evaluating.{Goes-trans, Goes-extends, Runs-tran
 use Rattle.nts_evaluation.proofs.solve.evaluate_root.Goals as goal
 
 pub returns-in_err-asked-clause-runs : goal.returns-in_err-asked-clause-runs
-returns-in_err-asked-clause-runs g c = Runs-extends c.requires.posed.table c.resolve_goal.ensures.extends c.resolve_goal.ensures.rest
+returns-in_err-asked-clause-runs g c = Runs-extends c.requires.posed.table c.resolve_goal.ensures.grows.extends c.resolve_goal.ensures.grows.rest
 
 pub returns-in_err-answer-clause-runs : goal.returns-in_err-answer-clause-runs
 returns-in_err-answer-clause-runs g c =
-    Runs-trans (Runs-extends c.requires.posed.table c.in_ok-asked.ensures.extends c.in_ok-asked.ensures.rest) c.evaluate_goal.ensures.runs
+    Runs-trans (Runs-extends c.requires.posed.table c.in_ok-asked.ensures.grows.extends c.in_ok-asked.ensures.grows.rest) c.evaluate_goal.ensures.runs
 
 pub returns-in_err-after-clause-runs : goal.returns-in_err-after-clause-runs
 returns-in_err-after-clause-runs g c =
     let step = c.in_ok-answer.ensures.runs in
-    Runs-trans (Runs-trans (Runs-extends c.requires.posed.table c.in_ok-asked.ensures.extends c.in_ok-asked.ensures.rest) step) (Runs-extends step.goes.table c.resolve_goal-2.ensures.extends c.resolve_goal-2.ensures.rest)
+    Runs-trans (Runs-trans (Runs-extends c.requires.posed.table c.in_ok-asked.ensures.grows.extends c.in_ok-asked.ensures.grows.rest) step) (Runs-extends step.goes.table c.resolve_goal-2.ensures.grows.extends c.resolve_goal-2.ensures.grows.rest)
 
 pub returns-clause-runs : goal.returns-clause-runs
 returns-clause-runs g c =
     let step = c.in_ok-answer.ensures.runs in
-    Runs-trans (Runs-trans (Runs-extends c.requires.posed.table c.in_ok-asked.ensures.extends c.in_ok-asked.ensures.rest) step) (Runs-extends step.goes.table c.in_ok-after.ensures.extends c.in_ok-after.ensures.rest)
+    Runs-trans (Runs-trans (Runs-extends c.requires.posed.table c.in_ok-asked.ensures.grows.extends c.in_ok-asked.ensures.grows.rest) step) (Runs-extends step.goes.table c.in_ok-after.ensures.grows.extends c.in_ok-after.ensures.grows.rest)
 
 pub returns-clause-proved : goal.returns-clause-proved
 returns-clause-proved g c = λ s y.
     let k = c.in_ok-asked.ensures in
     let a = c.in_ok-answer.ensures in
-    let last = Goes-extends a.runs.goes.table c.in_ok-after.ensures.extends in
+    let last = Goes-extends a.runs.goes.table c.in_ok-after.ensures.grows.extends in
     let all = Goes-trans (Goes-trans (Goes-extends c.requires.posed.table k.extends) a.runs.goes) last in
     let env = a.runs.goes.extends.kept _ k.posed.holds.env.within ∙ k.env in
     let predicate = a.runs.goes.extends.kept _ k.posed.holds.predicate.within ∙ k.predicate in

@@ -79,7 +79,7 @@ finish-requires-clause-formed g c = (building_of g c).formed
 pub loop-task-smaller : goal.loop-task-smaller
 loop-task-smaller g c =
     let f = g.F.TypeFolder in
-    less_after f.answers f.enters f.leaves f.rebuilds _ _ _ _ _ _ _ _ _ c.loop-task.invariant.ends c.in-Some.ensures.items c.in_ok-made-in-Build.ensures.extends
+    less_after f.answers f.enters f.leaves f.rebuilds _ _ _ _ _ _ _ _ _ c.loop-task.invariant.ends c.in-Some.ensures.items c.in_ok-made-in-Build.ensures.grows.extends
 
 pub loop-task-preserved : goal.loop-task-preserved
 loop-task-preserved g c =

@@ -10,7 +10,7 @@ use Rattle.nts_relating.proofs.relate.relate_nodes.Goals as goal
 
 pub returns-in-Err-clause-lawful : goal.returns-in-Err-clause-lawful
 returns-in-Err-clause-lawful c =
-    let back = back_to c.args.table.now c.rollback_to.new.self c.run_all.new.table.saved (c.in-Err.ensures.saved ∙ c.in_ok-snapshot.ensures.saved) c.rollback_to.ensures.saved in
+    let back = back_to c.args.table.now c.rollback_to.new.self c.run_all.new.table.saved (c.in-Err.ensures.changes.saved ∙ c.in_ok-snapshot.ensures.saved) c.rollback_to.ensures.saved in
     rw back (IsLawful-extended c.in-Err.ensures.extends c.requires.lawful)
 
 pub returns-clause-lawful : goal.returns-clause-lawful
@@ -18,7 +18,7 @@ returns-clause-lawful c = rw c.commit.ensures.entries c.in-Ok.ensures.lawful
 
 pub returns-in-Err-clause-later : goal.returns-in-Err-clause-later
 returns-in-Err-clause-later c =
-    let back = back_to c.args.table.now c.rollback_to.new.self c.run_all.new.table.saved (c.in-Err.ensures.saved ∙ c.in_ok-snapshot.ensures.saved) c.rollback_to.ensures.saved in
+    let back = back_to c.args.table.now c.rollback_to.new.self c.run_all.new.table.saved (c.in-Err.ensures.changes.saved ∙ c.in_ok-snapshot.ensures.saved) c.rollback_to.ensures.saved in
     rw back (rw (content_of-extended {a = c.args.nodes.now} {b = c.run_all.new.nodes} {c = c.args.table.now.entries} c.in-Err.ensures.extends c.requires.lawful) (IsLater-refl (content_of c.args.nodes.now c.args.table.now.entries)))
 
 pub returns-clause-related : goal.returns-clause-related

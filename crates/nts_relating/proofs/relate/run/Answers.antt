@@ -16,8 +16,8 @@ loop-pair-preserved c =
     let is : c.loop-pair.pairs.items ≡ c.pop.new.self.items ++ c.in-Some.pair ∷ [] = search rules in
     record {
       extends = Extends-trans i.extends c.in-Ok.ensures.extends;
-      saved = c.in-Ok.ensures.saved ∙ i.saved;
-      hidden = c.in-Ok.ensures.hidden ∙ i.hidden;
+      saved = c.in-Ok.ensures.changes.saved ∙ i.saved;
+      hidden = c.in-Ok.ensures.changes.hidden ∙ i.hidden;
       valid = c.in-Ok.ensures.valid;
       memo = c.in-Ok.ensures.memo;
       running = running_step c.requires.valid.lawful.sound i.valid.lawful.sound (rw is at i.running) c.in-Ok.ensures.step c.if-bound.false;

@@ -14,8 +14,8 @@ loop-error-preserved c =
     let i = c.loop-error.invariant in
     record {
       extends = Extends-trans i.extends c.in-Ok.ensures.extends;
-      saved = c.in-Ok.ensures.saved ∙ i.saved;
-      hidden = c.in-Ok.ensures.hidden ∙ i.hidden;
+      saved = c.in-Ok.ensures.changes.saved ∙ i.saved;
+      hidden = c.in-Ok.ensures.changes.hidden ∙ i.hidden;
       valid = c.in-Ok.ensures.valid;
       memo = c.in-Ok.ensures.memo;
       running = all_step c.requires.valid.lawful.sound i.valid.lawful.sound i.running c.in-Ok.ensures.run c.if-not-bound.false;

@@ -5,5 +5,5 @@ use Rattle.nts_table.proofs.relating_nodes.relate_nodes.Goals as goal
 
 pub returns-clause-table : goal.returns-clause-table
 returns-clause-table c =
-    let saved = c.relate_nodes.ensures.saved ∙ ap (λ (t : Table). t.saved) c.table.view_is in
+    let saved = c.relate_nodes.ensures.changes.saved ∙ ap (λ (t : Table). t.saved) c.table.view_is in
     IsTable-run c.requires.table c.relate_nodes.ensures.extends c.relate_nodes.ensures.lawful saved

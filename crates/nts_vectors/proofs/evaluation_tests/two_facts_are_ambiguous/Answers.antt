@@ -4,4 +4,4 @@ use Rattle.nts_vectors.proofs.evaluation_tests.two_facts_are_ambiguous.Goals as 
 
 pub certainty-requires-clause-ready : goal.certainty-requires-clause-ready
 certainty-requires-clause-ready g c =
-    AreReady-kept _ _ c.fact-2.new.handler c.in_ok-fact-2.ensures.ready (Extends-trans c.in_ok-variable.ensures.extends c.in_ok-goal.ensures.extends)
+    AreReady-kept _ _ c.fact-2.new.handler c.in_ok-fact-2.ensures.ready (Extends-trans c.in_ok-variable.ensures.grows.extends c.in_ok-goal.ensures.grows.extends)

@@ -10,4 +10,4 @@ returns-in_ok-join_regions_of-in-Some-Some-clause-table c =
     let content = content_of ts c.args.self.now.entries in
     let left = known_region content (tree_at ts c.args.a.node) c.in-Some-Some.x c.requires.left_known (sym c.in-Some-Some.ensures) in
     let right = known_region content (tree_at ts c.args.b.node) c.in-Some-Some.y c.requires.right_known (sym c.in-Some-Some.ensures') in
-    IsTable-regions_joined ts c.args.self.now c.join_regions_of.new.self c.in-Some-Some.x c.in-Some-Some.y c.in_ok-join_regions_of-in-Some-Some.ensures.joined c.join_regions_of.ensures.saved c.requires.table left right
+    IsTable-regions_joined ts c.args.self.now c.join_regions_of.new.self c.in-Some-Some.x c.in-Some-Some.y c.in_ok-join_regions_of-in-Some-Some.ensures.joined c.join_regions_of.ensures.changes.saved c.requires.table left right

@@ -13,4 +13,4 @@ returns-in-Ok-clause-table c =
 
 pub returns-in-Err-clause-table : goal.returns-in-Err-clause-table
 returns-in-Err-clause-table c =
-    IsTable-rolled_back c.add_fresh_args.new.self.saved c.requires.table c.add_fresh_args.ensures.extends (c.add_fresh_args.ensures.saved ∙ c.in_ok-snapshot.ensures.saved) c.rollback_to.ensures.saved
+    IsTable-rolled_back c.add_fresh_args.new.self.saved c.requires.table c.add_fresh_args.ensures.grows.extends (c.add_fresh_args.ensures.changes.saved ∙ c.in_ok-snapshot.ensures.saved) c.rollback_to.ensures.saved

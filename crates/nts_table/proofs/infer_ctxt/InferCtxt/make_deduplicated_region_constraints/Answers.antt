@@ -23,7 +23,7 @@ resolved_constraint-requires-clause-table c = IsTable-extended c.loop-i.invarian
 
 pub tell-requires-clause-told : goal.tell-requires-clause-told
 tell-requires-clause-told c =
-    SidesIn-all _ _ _ (AreConstraints-moved c.loop-i.cx.nodes c.resolved_constraint.new.cx.nodes c.args.self.now.entries c.loop-i.told.items (IsLawful-extended c.loop-i.invariant.extends c.requires.table.now) c.resolved_constraint.ensures.extends c.loop-i.invariant.sides)
+    SidesIn-all _ _ _ (AreConstraints-moved c.loop-i.cx.nodes c.resolved_constraint.new.cx.nodes c.args.self.now.entries c.loop-i.told.items (IsLawful-extended c.loop-i.invariant.extends c.requires.table.now) c.resolved_constraint.ensures.grows.extends c.loop-i.invariant.sides)
 
 pub loop-i-preserved : goal.loop-i-preserved
 loop-i-preserved c =
@@ -32,7 +32,7 @@ loop-i-preserved c =
     let d = c.resolved_constraint.new.cx.nodes in
     let e = c.args.self.now.entries in
     let up = c.loop-i.invariant.extends in
-    let on = c.resolved_constraint.ensures.extends in
+    let on = c.resolved_constraint.ensures.grows.extends in
     let lawful = IsLawful-extended up c.requires.table.now in
     let sides = AreConstraints-moved b d e c.loop-i.told.items lawful on c.loop-i.invariant.sides in
     let news = AreNews-moved b d (content_of b e) (take c.loop-i.i (resolved_constraints (content_of a e))) c.loop-i.told.items on c.loop-i.invariant.sides c.loop-i.invariant.news in
@@ -41,5 +41,5 @@ loop-i-preserved c =
       seen = c.in_ok-tell.ensures.seen;
       sides = AreConstraints-told d (content_of d e) c.loop-i.told.items c.tell.new.told.items c.in_ok-constraint.constraint sides c.in_ok-constraint.ensures.sides c.in_ok-tell.ensures.tells;
       extends = Extends-trans up on;
-      rest = KeepsRest-trans c.loop-i.invariant.rest c.resolved_constraint.ensures.rest;
+      rest = KeepsRest-trans c.loop-i.invariant.rest c.resolved_constraint.ensures.grows.rest;
     }

@@ -6,4 +6,4 @@ pub mk_args-requires : goal.mk_args-requires
 mk_args-requires g c = λ k d l. c.loop-arg.invariant k d (omega (arith, l, c.loop-arg-test.false))
 
 pub returns : goal.returns
-returns g c = IsTable-extended c.mk_args.ensures.extends c.requires
+returns g c = IsTable-extended c.mk_args.ensures.grows.extends c.requires

@@ -15,4 +15,4 @@ instantiate_canonical-requires-clause-positions g c =
     same_values ts c.deref.result.now c.expect-originals.result.0.items (query_tree ts c.expect-originals.result.1.canonical.value) c.deref.ensures.value (rw c.expect-originals.ensures at positions)
 
 pub returns : goal.returns
-returns g c = IsTable-extended (Extends-trans c.canonicalize_goal.ensures.grows.extends c.instantiate_canonical.ensures.extends) c.requires
+returns g c = IsTable-extended (Extends-trans c.canonicalize_goal.ensures.grows.extends c.instantiate_canonical.ensures.grows.extends) c.requires
