@@ -8,7 +8,7 @@ use Rattle.nts_store.specs.declared.nodes.NodeId.{NodeId}
 use Rattle.nts_terms.specs.declared.handles.Goal.{Goal}
 use Rattle.nts_certainty.specs.declared.sources.RerunCondition.TheVariants as rerun
 use Rattle.nts_store.specs.Growth.{tree_at, IsIn}
-use Rattle.nts_terms.specs.Handles.{HoldsPredicate, HoldsEnv, HoldsGoal}
+use Rattle.nts_terms.specs.Handles.{HoldsGoal}
 use Rattle.nts_model.specs.Handlers.{NamesFresh}
 use Rattle.nts_model.specs.Handlers as handlers
 use Rattle.nts_unify.specs.Reading.{left_kind}

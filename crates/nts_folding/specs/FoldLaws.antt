@@ -7,7 +7,7 @@ use Rattle.nts_model.specs.Related.{pair}
 use Rattle.nts_terms.specs.Handles.{Holds}
 use Rattle.nts_folding.specs.Folding.{tree_of_option, tree_of_list}
 use Rattle.nts_store.specs.declared.nodes.NodeId.{NodeId}
-use Rattle.nts_store.specs.Growth.{tree_at, Extends}
+use Rattle.nts_store.specs.Growth.{Extends}
 
 pub Holds-kept : (p : Place) (a b : List Tree) (n : NodeId) → Holds p a n → Extends a b → Holds p b n
 Holds-kept p a b n h e =

@@ -1,6 +1,6 @@
 -- Which constraints say something new: those told so far decide it as well as all that were recorded.
 use Rattle.std.proofs.Common.{◌≡◌, ◌⊎◌, inl, inr, ⊎_elim, ℕ, zero, suc, ◌+◌, ◌<◌, Bool, true, false, List, [], ◌∷◌, ◌++◌, length, map, take, Some, refl, sym, ap, ◌∙◌, arith, rules, add-one}
-use Rattle.std.specs.Prelude.{slice_get, IsTrue, ◌↔◌, ◌&&◌, ◌||◌, not}
+use Rattle.std.specs.Prelude.{slice_get, IsTrue, ◌↔◌, ◌&&◌, ◌||◌}
 use Rattle.std.specs.List.{list_any}
 use Rattle.std.proofs.lemmas.List.{map-append}
 use Rattle.nts_model.specs.declared.labels.Relation.{Relation}

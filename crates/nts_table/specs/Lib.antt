@@ -4,6 +4,7 @@ pub mod Classes
 pub mod Registering
 pub mod Deduplicated
 pub mod Probing
+pub mod Frames
 pub mod Fresh
 pub mod TableLaws
 pub mod Tables

@@ -8,7 +8,7 @@ use Rattle.nts_unify.specs.declared.contents.HiddenType.{HiddenType}
 use Rattle.nts_unify.specs.Entries.{Entries, added, moved, constrained, registered, with_hidden}
 use Rattle.nts_table.specs.Tables.{Table, IsTable}
 use Rattle.nts_unify.specs.Proper.{IsProper-empty}
-use Rattle.nts_unify.specs.Reading.{content_of, IsConstraint, IsHiddenType, IsLawful, AllLawful}
+use Rattle.nts_unify.specs.Reading.{content_of, IsConstraint, IsHiddenType, IsLawful}
 use Rattle.nts_unify.specs.Lawful.{IsNew, IsLawful-extended, IsLawful-added, IsLawful-moved, IsLawful-constrained, AllLawful-extended, AllLawful-append, AreHiddenTypes-push, AreHiddenTypes-set}
 
 pub IsTable-extended : {a b : List Tree} {t : Table} → Extends a b → IsTable a t → IsTable b t

@@ -19,7 +19,7 @@ start-requires-clause-within g c =
 pub loop-task-smaller-in-Continue-branch-4 : goal.loop-task-smaller-in-Continue-branch-4
 loop-task-smaller-in-Continue-branch-4 g c =
     let f = g.F.TypeFolder in
-    less_after f.answers f.enters f.leaves f.rebuilds _ _ _ _ _ _ _ _ _ c.loop-task.invariant.ends c.in-Some.ensures.items c.in_ok-answer-in-Enter.ensures.extends
+    less_after f.answers f.enters f.leaves f.rebuilds _ _ _ _ _ _ _ _ _ c.loop-task.invariant.ends c.in-Some.ensures.items c.in_ok-answer-in-Enter.ensures.grows.extends
 
 pub loop-task-preserved-in-Continue-branch-4 : goal.loop-task-preserved-in-Continue-branch-4
 loop-task-preserved-in-Continue-branch-4 g c =
@@ -28,10 +28,10 @@ loop-task-preserved-in-Continue-branch-4 g c =
     let within : IsIn c.start.new.cx.nodes c.in-Some-2.answer = rw c.in-Some-2.is at now.within in
     let starts : Starts f.answers f.enters (f.meaning c.loop-task.cx.nodes c.loop-task.folder) (tree_at c.loop-task.cx.nodes c.in-Enter.term) (Some (tree_at c.start.new.cx.nodes c.in-Some-2.answer)) (f.meaning c.start.new.cx.nodes c.start.new.folder) = rw c.in-Some-2.is at now.starts in
     record {
-      extends = Extends-trans c.loop-task.invariant.extends now.extends;
-      rest = KeepsRest-trans c.loop-task.invariant.rest now.rest;
+      extends = Extends-trans c.loop-task.invariant.extends now.grows.extends;
+      rest = KeepsRest-trans c.loop-task.invariant.rest now.grows.rest;
       ready = now.ready;
-      ends = ends_answer f.answers f.enters f.leaves f.rebuilds _ _ _ _ _ _ _ _ _ _ _ _ c.loop-task.invariant.ends (rw c.in-Enter.is at c.in-Some.ensures.items) now.extends within starts c.in_ok-push-in-Some-2.ensures;
+      ends = ends_answer f.answers f.enters f.leaves f.rebuilds _ _ _ _ _ _ _ _ _ _ _ _ c.loop-task.invariant.ends (rw c.in-Enter.is at c.in-Some.ensures.items) now.grows.extends within starts c.in_ok-push-in-Some-2.ensures;
     }
 
 -- a node whose children are to be folded
@@ -39,7 +39,7 @@ loop-task-preserved-in-Continue-branch-4 g c =
 pub push_node-requires-clause-tasks : goal.push_node-requires-clause-tasks
 push_node-requires-clause-tasks g c =
     let all : TasksIn c.loop-task.cx.nodes (c.pop.new.self.items ++ c.in-Some.task ∷ []) = rw c.in-Some.ensures.items at c.loop-task.invariant.ends.tasks_in in
-    TasksIn-extended c.in_ok-answer-in-Enter.ensures.extends c.pop.new.self.items (TasksIn-front c.loop-task.cx.nodes c.pop.new.self.items c.in-Some.task all).0
+    TasksIn-extended c.in_ok-answer-in-Enter.ensures.grows.extends c.pop.new.self.items (TasksIn-front c.loop-task.cx.nodes c.pop.new.self.items c.in-Some.task all).0
 
 goes_in : (g : Over) (c : goal.In_ok-push_node-in-None g) → Starts g.F.TypeFolder.answers g.F.TypeFolder.enters (g.F.TypeFolder.meaning c.loop-task.cx.nodes c.loop-task.folder) (tree_at c.loop-task.cx.nodes c.in-Enter.term) None (g.F.TypeFolder.meaning c.start.new.cx.nodes c.start.new.folder)
 goes_in g c = rw c.in-None.is at c.in_ok-answer-in-Enter.ensures.starts
@@ -48,7 +48,7 @@ pub loop-task-smaller-in-Continue-branch-5 : goal.loop-task-smaller-in-Continue-
 loop-task-smaller-in-Continue-branch-5 g c =
     let f = g.F.TypeFolder in
     let pushed = c.in_ok-push_node-in-None.ensures in
-    less_down f.answers f.enters f.leaves f.rebuilds _ _ _ _ _ _ _ _ _ _ _ c.loop-task.invariant.ends (rw c.in-Enter.is at c.in-Some.ensures.items) c.in_ok-answer-in-Enter.ensures.extends (goes_in g c) pushed.formed pushed.jobs
+    less_down f.answers f.enters f.leaves f.rebuilds _ _ _ _ _ _ _ _ _ _ _ c.loop-task.invariant.ends (rw c.in-Enter.is at c.in-Some.ensures.items) c.in_ok-answer-in-Enter.ensures.grows.extends (goes_in g c) pushed.formed pushed.jobs
 
 pub loop-task-preserved-in-Continue-branch-5 : goal.loop-task-preserved-in-Continue-branch-5
 loop-task-preserved-in-Continue-branch-5 g c =
@@ -56,10 +56,10 @@ loop-task-preserved-in-Continue-branch-5 g c =
     let now = c.in_ok-answer-in-Enter.ensures in
     let pushed = c.in_ok-push_node-in-None.ensures in
     record {
-      extends = Extends-trans c.loop-task.invariant.extends now.extends;
-      rest = KeepsRest-trans c.loop-task.invariant.rest now.rest;
+      extends = Extends-trans c.loop-task.invariant.extends now.grows.extends;
+      rest = KeepsRest-trans c.loop-task.invariant.rest now.grows.rest;
       ready = now.ready;
-      ends = ends_down f.answers f.enters f.leaves f.rebuilds _ _ _ _ _ _ _ _ _ _ _ c.loop-task.invariant.ends (rw c.in-Enter.is at c.in-Some.ensures.items) now.extends (goes_in g c) pushed.formed pushed.within pushed.jobs;
+      ends = ends_down f.answers f.enters f.leaves f.rebuilds _ _ _ _ _ _ _ _ _ _ _ c.loop-task.invariant.ends (rw c.in-Enter.is at c.in-Some.ensures.items) now.grows.extends (goes_in g c) pushed.formed pushed.within pushed.jobs;
     }
 
 -- a node that is to be made
@@ -89,10 +89,10 @@ loop-task-preserved g c =
     let last = slice_to_end c.deref.result.now c.loop-task.found.items c.saturating_sub-first.result c.deref.ensures.value in
     let new : c.push-in-Build.new.list.items ≡ take c.saturating_sub-first.result c.loop-task.found.items ++ c.in_ok-made-in-Build.made ∷ [] = rw (← c.truncate.ensures.items) c.in_ok-push-in-Build.ensures in
     record {
-      extends = Extends-trans c.loop-task.invariant.extends made.extends;
-      rest = KeepsRest-trans c.loop-task.invariant.rest made.rest;
+      extends = Extends-trans c.loop-task.invariant.extends made.grows.extends;
+      rest = KeepsRest-trans c.loop-task.invariant.rest made.grows.rest;
       ready = made.ready;
-      ends = ends_build f.answers f.enters f.leaves f.rebuilds _ _ _ _ _ _ _ _ _ _ _ _ _ _ _ _ c.loop-task.invariant.ends (rw c.in-Build.is at c.in-Some.ensures.items) made.extends first last made.within made.comes_back new;
+      ends = ends_build f.answers f.enters f.leaves f.rebuilds _ _ _ _ _ _ _ _ _ _ _ _ _ _ _ _ c.loop-task.invariant.ends (rw c.in-Build.is at c.in-Some.ensures.items) made.grows.extends first last made.within made.comes_back new;
     }
 
 walked : (g : Over) (c : goal.After-found-2-1 g) → IsWalked g.F.TypeFolder.answers g.F.TypeFolder.enters g.F.TypeFolder.leaves g.F.TypeFolder.rebuilds (g.F.TypeFolder.meaning c.args.cx.now.nodes c.args.folder.now) (tree_at c.args.cx.now.nodes c.args.t) c.loop-task.cx.nodes c.loop-task.found.items (g.F.TypeFolder.meaning c.loop-task.cx.nodes c.loop-task.folder)

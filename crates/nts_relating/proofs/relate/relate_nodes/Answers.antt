@@ -1,5 +1,5 @@
-use Rattle.std.proofs.Common.{◌≡◌, ◌++◌, ◌∷◌, [], sym, ap, ◌∙◌}
-use Rattle.nts_unify.proofs.SavedLemmas.{back_to, push_inj}
+use Rattle.std.proofs.Common.{◌≡◌, ◌++◌, ◌∷◌, [], ap, ◌∙◌}
+use Rattle.nts_unify.proofs.SavedLemmas.{back_to}
 use Rattle.nts_unify.specs.Lawful.{IsLawful-extended, content_of-extended}
 use Rattle.nts_unify.specs.Reading.{content_of}
 use Rattle.nts_unify.proofs.Keeping.{IsLater-refl}

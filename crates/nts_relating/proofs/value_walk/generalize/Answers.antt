@@ -27,8 +27,8 @@ loop-task-preserved c =
     let turn = rw i.root at s.turn in
     record {
       extends = Extends-trans i.extends s.extends;
-      saved = s.saved ∙ i.saved;
-      hidden = s.hidden ∙ i.hidden;
+      saved = s.changes.saved ∙ i.saved;
+      hidden = s.changes.hidden ∙ i.hidden;
       root = s.root ∙ i.root;
       walk = turn.walk;
       grows = walk_grows c.args.nodes.now c.loop-task.nodes c.step.new.nodes c.args.table.now.entries c.loop-task.table.entries c.step.new.table.entries c.args.target.variable c.args.target.universe (record { term = c.args.t; binders = c.args.target.binders }) c.requires.lawful.sound c.requires.knows i.extends c.requires.within i.grows turn.grows;

@@ -37,8 +37,7 @@ returns-then-is_settled-clause-look c = (
 pub returns-then-root-target : goal.returns-then-root-target
 returns-then-root-target c = record {
   extends = Extends-refl c.args.nodes.now;
-  saved = refl;
-  hidden = refl;
+  changes = record { saved = refl; hidden = refl };
   lawful = tt;
   look = tt;
   full = λ z. cc;

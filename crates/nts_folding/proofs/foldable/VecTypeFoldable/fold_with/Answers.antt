@@ -32,8 +32,8 @@ loop-x-preserved g c =
     let gone = c.in-Some.ensures.steps.1 in
     let short = ap length steps in
     record {
-      list = list_more f.answers f.enters f.leaves f.rebuilds t.holds t.tree g.met.T.TypeFoldable.holds_kept g.met.T.TypeFoldable.tree_kept _ _ _ _ _ _ _ _ _ _ _ _ c.in-Some.x c.in_ok-value.value c.loop-x.invariant.list c.requires.holds steps now.extends now.holds now.walk c.in_ok-push.ensures;
-      rest = KeepsRest-trans c.loop-x.invariant.rest now.rest;
+      list = list_more f.answers f.enters f.leaves f.rebuilds t.holds t.tree g.met.T.TypeFoldable.holds_kept g.met.T.TypeFoldable.tree_kept _ _ _ _ _ _ _ _ _ _ _ _ c.in-Some.x c.in_ok-value.value c.loop-x.invariant.list c.requires.holds steps now.grows.extends now.holds now.walk c.in_ok-push.ensures;
+      rest = KeepsRest-trans c.loop-x.invariant.rest now.grows.rest;
       ready = now.ready;
       count = omega (arith, c.loop-x.invariant.count, gone, short);
     }

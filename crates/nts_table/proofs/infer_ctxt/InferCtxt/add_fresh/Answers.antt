@@ -9,10 +9,10 @@ loop-sort-preserved c =
     let e = c.in_ok-fresh_node.ensures in
     let before = c.loop-sort.invariant in
     record {
-      fresh = rw c.in_ok-push.ensures.items (fresh_more c.loop-sort.cx.nodes c.fresh_node.new.cx.nodes c.loop-sort.nodes.items c.in_ok-fresh_node.field-0 c.args.self.now.entries c.loop-sort.self.entries c.fresh_node.new.self.entries c.args.sorts.now c.loop-sort.sort-index before.fresh e.extends (omega (arith, c.loop-sort-test.true)) e.within e.tree e.entries);
-      saved = e.saved ∙ before.saved;
-      mode = e.mode ∙ before.mode;
+      fresh = rw c.in_ok-push.ensures.items (fresh_more c.loop-sort.cx.nodes c.fresh_node.new.cx.nodes c.loop-sort.nodes.items c.in_ok-fresh_node.field-0 c.args.self.now.entries c.loop-sort.self.entries c.fresh_node.new.self.entries c.args.sorts.now c.loop-sort.sort-index before.fresh e.grows.extends (omega (arith, c.loop-sort-test.true)) e.within e.tree e.entries);
+      saved = e.changes.saved ∙ before.saved;
+      mode = e.changes.mode ∙ before.mode;
       table = e.table;
-      extends = Extends-trans before.extends e.extends;
-      rest = KeepsRest-trans before.rest e.rest;
+      extends = Extends-trans before.extends e.grows.extends;
+      rest = KeepsRest-trans before.rest e.grows.rest;
     }
