@@ -20,10 +20,10 @@ loop-i-preserved c =
     let b = c.value_in.new.cx.nodes in
     let at = slice_get-map kind_of_var c.args.kinds.now c.loop-i.i _ (slice_get-get_or c.args.kinds.now c.loop-i.i _ (omega (arith, c.loop-i-test.true))) in
     record {
-      made = made_more a b c.loop-i.values.items c.push.new.self.items c.in_ok-value.value c.args.table.now.entries c.loop-i.table.entries c.value_in.new.table.entries (map kind_of_var c.args.kinds.now) c.loop-i.i _ _ _ i.made c.requires.kinds at i.table.now.descends r.extends r.holds r.value c.universe_of.ensures c.as_slice.ensures.value c.in_ok-push.ensures.items;
-      saved = r.saved ∙ i.saved;
-      mode = r.mode ∙ i.mode;
+      made = made_more a b c.loop-i.values.items c.push.new.self.items c.in_ok-value.value c.args.table.now.entries c.loop-i.table.entries c.value_in.new.table.entries (map kind_of_var c.args.kinds.now) c.loop-i.i _ _ _ i.made c.requires.kinds at i.table.now.descends r.grows.extends r.holds r.value c.universe_of.ensures c.as_slice.ensures.value c.in_ok-push.ensures.items;
+      saved = r.changes.saved ∙ i.saved;
+      mode = r.changes.mode ∙ i.mode;
       table = r.table;
-      extends = Extends-trans i.extends r.extends;
-      rest = KeepsRest-trans i.rest r.rest;
+      extends = Extends-trans i.extends r.grows.extends;
+      rest = KeepsRest-trans i.rest r.grows.rest;
     }

@@ -28,11 +28,11 @@ loop-i-preserved c =
     let g = IsLawful-extended i.extends c.requires.table.now in
     let all : All (λ h. IsHiddenType a (content_of a e) (hidden_of h)) c.args.hidden.now = λ k d l. hidden-now c.args.cx.now.nodes a e e (hidden_of _) c.requires.table.now refl i.extends (c.requires.hidden k d l) in
     record {
-      registered = registered_more a b e c.loop-i.table.entries c.register_hidden_type_in_storage.new.self.entries.hidden c.args.hidden.now c.loop-i.i _ _ g i.table.now i.entries r.extends all (omega (arith, c.loop-i-test.true)) i.registered r.registered;
+      registered = registered_more a b e c.loop-i.table.entries c.register_hidden_type_in_storage.new.self.entries.hidden c.args.hidden.now c.loop-i.i _ _ g i.table.now i.entries r.grows.extends all (omega (arith, c.loop-i-test.true)) i.registered r.registered;
       entries = r.entries ∙ (λ j. record (i.entries j) { hidden = c.register_hidden_type_in_storage.new.self.entries.hidden });
-      saved = r.saved ∙ i.saved;
-      mode = r.mode ∙ i.mode;
+      saved = r.changes.saved ∙ i.saved;
+      mode = r.changes.mode ∙ i.mode;
       table = r.table;
-      extends = Extends-trans i.extends r.extends;
-      rest = KeepsRest-trans i.rest r.rest;
+      extends = Extends-trans i.extends r.grows.extends;
+      rest = KeepsRest-trans i.rest r.grows.rest;
     }
