@@ -16,7 +16,7 @@ use Rattle.nts_model.specs.Handlers.{AreValuesOf}
 use Rattle.nts_store.specs.declared.nodes.NodeId.{NodeId}
 use Rattle.nts_terms.specs.declared.handles.Goal.{Goal}
 use Rattle.nts_terms.specs.declared.cx.Cx.{Cx}
-use Rattle.nts_store.specs.Growth.{tree_at, IsIn, AllIn, Extends}
+use Rattle.nts_store.specs.Growth.{tree_at, AllIn, Extends}
 use Rattle.nts_terms.specs.Rest.{KeepsRest}
 use Rattle.nts_table.specs.Tables.{Table}
 use Rattle.nts_unify.specs.Reading.{content_of}

@@ -15,27 +15,27 @@ returns-in_err-lhs-clause-runs c = Runs-extends c.requires.posed.table c.instant
 pub relate_terms-requires-clause-left : goal.relate_terms-requires-clause-left
 relate_terms-requires-clause-left c =
     let e = c.in_ok-lhs.ensures in
-    instance_term c.requires.posed.table (can_fill c.requires.posed c.requires.equation.lhs c.requires.values) e.extends e.left
+    instance_term c.requires.posed.table (can_fill c.requires.posed c.requires.equation.lhs c.requires.values) e.grows.extends e.left
 
 pub relate_terms-requires-clause-right : goal.relate_terms-requires-clause-right
 relate_terms-requires-clause-right c =
     let e = c.in_ok-lhs.ensures in
-    instance_term c.requires.posed.table (can_fill c.requires.posed c.requires.equation.rhs c.requires.values) e.extends e.right
+    instance_term c.requires.posed.table (can_fill c.requires.posed c.requires.equation.rhs c.requires.values) e.grows.extends e.right
 
 pub relate_terms-requires-clause-table : goal.relate_terms-requires-clause-table
-relate_terms-requires-clause-table c = IsTable-extended c.in_ok-lhs.ensures.extends c.requires.posed.table
+relate_terms-requires-clause-table c = IsTable-extended c.in_ok-lhs.ensures.grows.extends c.requires.posed.table
 
 pub returns-clause-runs : goal.returns-clause-runs
 returns-clause-runs c =
     let e = c.in_ok-lhs.ensures in
-    Runs-trans (Runs-extends c.requires.posed.table e.extends e.rest) c.relate_terms.ensures.runs
+    Runs-trans (Runs-extends c.requires.posed.table e.grows.extends e.grows.rest) c.relate_terms.ensures.runs
 
 pub returns-clause-equal : goal.returns-clause-equal
 returns-clause-equal c =
     let e = c.in_ok-lhs.ensures in
     let p = c.requires.posed in
-    let l = instance_term p.table (can_fill p c.requires.equation.lhs c.requires.values) e.extends e.left in
-    let r = instance_term p.table (can_fill p c.requires.equation.rhs c.requires.values) e.extends e.right in
+    let l = instance_term p.table (can_fill p c.requires.equation.lhs c.requires.values) e.grows.extends e.left in
+    let r = instance_term p.table (can_fill p c.requires.equation.rhs c.requires.values) e.grows.extends e.right in
     OnOk-map c.relate_terms.result
     (λ h. equation_stays c.args.cx.now.nodes (map (tree_at c.args.cx.now.nodes) c.args.trial.values.now) c.args.equation c.relate_terms.ensures.runs.goes e.left.formed l r e.left.tree e.right.tree e.left.kind c.requires.equation.argument h)
     c.relate_terms.ensures.equal

@@ -2,14 +2,14 @@ use Rattle.nts_evaluation.proofs.Evaluating.{runs-back, gave_fresh}
 use Rattle.nts_evaluation.proofs.candidate.fresh_values.Goals as goal
 
 pub returns-in-Err-clause-runs : goal.returns-in-Err-clause-runs
-returns-in-Err-clause-runs c = runs-back c.requires c.in-Err.ensures.extends c.in-Err.ensures.rest c.in-Err.ensures.err
+returns-in-Err-clause-runs c = runs-back c.requires c.in-Err.ensures.grows.extends c.in-Err.ensures.grows.rest c.in-Err.ensures.err
 
 pub returns-in-Ok-clause-runs : goal.returns-in-Ok-clause-runs
 returns-in-Ok-clause-runs c =
     let e = c.in-Ok.ensures in
-    record { goes = (gave_fresh c.args.fresh.now c.in-Ok.values.items c.requires e.extends e.table e.entries e.saved e.mode e.within e.trees).goes; rest = e.rest }
+    record { goes = (gave_fresh c.args.fresh.now c.in-Ok.values.items c.requires e.grows.extends e.table e.entries e.changes.saved e.changes.mode e.within e.trees).goes; rest = e.grows.rest }
 
 pub returns-in-Ok-clause-values : goal.returns-in-Ok-clause-values
 returns-in-Ok-clause-values c =
     let e = c.in-Ok.ensures in
-    (gave_fresh c.args.fresh.now c.in-Ok.values.items c.requires e.extends e.table e.entries e.saved e.mode e.within e.trees).values
+    (gave_fresh c.args.fresh.now c.in-Ok.values.items c.requires e.grows.extends e.table e.entries e.changes.saved e.changes.mode e.within e.trees).values

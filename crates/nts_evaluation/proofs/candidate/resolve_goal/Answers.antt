@@ -21,7 +21,7 @@ pub returns-clause-posed : goal.returns-clause-posed
 returns-clause-posed c =
     let env = c.in_ok-env.ensures in
     let predicate = c.in_ok-predicate.ensures in
-    goal_made c.requires.table c.requires.holds env.extends predicate.extends env.term env.kind predicate.term predicate.kind
+    goal_made c.requires.table c.requires.holds env.grows.extends predicate.grows.extends env.term env.kind predicate.term predicate.kind
 
 pub returns-clause-env : goal.returns-clause-env
 returns-clause-env c =

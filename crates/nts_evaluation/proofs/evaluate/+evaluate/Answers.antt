@@ -54,7 +54,7 @@ evaluate_goal-compute_goal-requires g t c = λ κs k.
 pub compute_goal-evaluate_candidates-requires : goal.compute_goal-evaluate_candidates-requires
 compute_goal-evaluate_candidates-requires g t c = λ κs k.
     let e = c.in_ok-candidates.ensures in
-    (omega (arith, c.decreases), (k, (IsPosed-later (Goes-extends c.requires.posed.table e.extends) c.requires.posed, (IsAsked-extended e.extends (c.is_candidates_goal.ensures c.if-not-is_candidates_goal.false), (g.met.H.GoalHandler.ready_kept _ _ _ c.requires.ready e.extends, e.candidates)))))
+    (omega (arith, c.decreases), (k, (IsPosed-later (Goes-extends c.requires.posed.table e.grows.extends) c.requires.posed, (IsAsked-extended e.grows.extends (c.is_candidates_goal.ensures c.if-not-is_candidates_goal.false), (g.met.H.GoalHandler.ready_kept _ _ _ c.requires.ready e.grows.extends, e.candidates)))))
 
 pub evaluate_candidates-run_candidate-requires : goal.evaluate_candidates-run_candidate-requires
 evaluate_candidates-run_candidate-requires g t c = λ κs k.
@@ -63,13 +63,13 @@ evaluate_candidates-run_candidate-requires g t c = λ κs k.
       (
         k,
         (
-          IsPosed-later (goes-back c.requires.posed.table e.extends e.same) c.requires.posed,
+          IsPosed-later (goes-back c.requires.posed.table e.grows.extends e.same) c.requires.posed,
           (
-            IsAsked-extended e.extends c.requires.asked,
+            IsAsked-extended e.grows.extends c.requires.asked,
             (
-              g.met.H.GoalHandler.ready_kept _ _ _ c.requires.ready e.extends,
+              g.met.H.GoalHandler.ready_kept _ _ _ c.requires.ready e.grows.extends,
               let at : c.in-One.i < length c.args.candidates.items = rw (c.in-One.is, c.deref.ensures.value) at e.within in
-                  rw c.take_candidate-chosen.ensures (IsCandidate-extended e.extends c.requires.posed.holds (candidate_at c.args.cx.now.nodes c.args.goal c.args.candidates.items c.in-One.i _ c.requires.candidates at)),
+                  rw c.take_candidate-chosen.ensures (IsCandidate-extended e.grows.extends c.requires.posed.holds (candidate_at c.args.cx.now.nodes c.args.goal c.args.candidates.items c.in-One.i _ c.requires.candidates at)),
             ),
           ),
         ),
@@ -81,7 +81,7 @@ evaluate_nested-returns-in_err-asked-in-Some-clause-runs g t c = Runs-extends c.
 
 pub evaluate_nested-returns-in_ok-asked-in-Some-clause-runs : goal.evaluate_nested-returns-in_ok-asked-in-Some-clause-runs
 evaluate_nested-returns-in_ok-asked-in-Some-clause-runs g t c =
-    Runs-trans (Runs-extends c.requires.posed.table c.in_ok-asked-in-Some.ensures.extends c.in_ok-asked-in-Some.ensures.rest) c.evaluate_goal.ensures.runs
+    Runs-trans (Runs-extends c.requires.posed.table c.in_ok-asked-in-Some.ensures.grows.extends c.in_ok-asked-in-Some.ensures.grows.rest) c.evaluate_goal.ensures.runs
 
 pub run_candidate-record_constraints-requires-clause-constraints : goal.run_candidate-record_constraints-requires-clause-constraints
 run_candidate-record_constraints-requires-clause-constraints g t c =
@@ -94,16 +94,16 @@ compute_goal-returns-then-not-is_candidates_goal-clause-runs g t c = Runs-refl c
 pub compute_goal-returns-clause-proved : goal.compute_goal-returns-clause-proved
 compute_goal-returns-clause-proved g t c = λ s.
     let k = c.in_ok-candidates.ensures in
-    let same = g.met.H.GoalHandler.handler_kept s.base c.candidates.new.cx.nodes c.args.handler.now s.is_ready (Extends-trans s.extends k.extends) in
-    c.evaluate_candidates.ensures.proved (Since-later k.extends s)
+    let same = g.met.H.GoalHandler.handler_kept s.base c.candidates.new.cx.nodes c.args.handler.now s.is_ready (Extends-trans s.extends k.grows.extends) in
+    c.evaluate_candidates.ensures.proved (Since-later k.grows.extends s)
     (k.offered ∙ ap (λ m. (g.H.GoalHandler.handler c.candidates.new.cx.nodes c.args.handler.now).offers (mode_of m) (tree_at c.candidates.new.cx.nodes c.args.goal.param_env.node) (tree_at c.candidates.new.cx.nodes c.args.goal.predicate.node)) c.typing_mode.ensures ∙ same.offers _ _ _)
 
 pub evaluate_candidates-returns-in-One-clause-proved : goal.evaluate_candidates-returns-in-One-clause-proved
 evaluate_candidates-returns-in-One-clause-proved g t c = λ s offered.
     let k = c.in_ok-choose.ensures in
     let at : c.in-One.i < length c.args.candidates.items = rw (c.in-One.is, c.deref.ensures.value) at k.within in
-    let there = offered_there c.args.goal _ c.args.candidates.items c.in-One.i c.take_candidate-chosen.ensures at c.requires.candidates k.extends offered in
-    rw (k.same) at (c.run_candidate.ensures.proved (Since-later k.extends s) (rw (k.same, offers-kept (g.H.GoalHandler.handler s.base c.args.handler.now) (mode_of c.args.table.now.mode) k.extends c.requires.posed.holds) there))
+    let there = offered_there c.args.goal _ c.args.candidates.items c.in-One.i c.take_candidate-chosen.ensures at c.requires.candidates k.grows.extends offered in
+    rw (k.same) at (c.run_candidate.ensures.proved (Since-later k.grows.extends s) (rw (k.same, offers-kept (g.H.GoalHandler.handler s.base c.args.handler.now) (mode_of c.args.table.now.mode) k.grows.extends c.requires.posed.holds) there))
 
 pub evaluate_goal-returns-in_err-snapshot-clause-runs : goal.evaluate_goal-returns-in_err-snapshot-clause-runs
 evaluate_goal-returns-in_err-snapshot-clause-runs g t c = runs-back c.requires.posed.table (Extends-refl _) (KeepsRest-refl _) c.in_err-snapshot.ensures.err
@@ -114,7 +114,7 @@ evaluate_nested-returns-in-None-clause-runs g t c = Runs-refl c.requires.posed.t
 pub evaluate_nested-returns-in_ok-asked-in-Some-clause-proved : goal.evaluate_nested-returns-in_ok-asked-in-Some-clause-proved
 evaluate_nested-returns-in_ok-asked-in-Some-clause-proved g t c = λ s.
     let k = c.in_ok-asked-in-Some.ensures in
-    let goes = Goes-trans (Goes-extends c.requires.posed.table k.extends) c.evaluate_goal.ensures.runs.goes in
+    let goes = Goes-trans (Goes-extends c.requires.posed.table k.grows.extends) c.evaluate_goal.ensures.runs.goes in
     let later = c.evaluate_goal.ensures.runs.goes.extends in
     let env = later.kept _ k.posed.holds.env.within ∙ k.asks.env in
     let predicate = later.kept _ k.posed.holds.predicate.within ∙ k.asks.predicate in
@@ -122,7 +122,7 @@ evaluate_nested-returns-in_ok-asked-in-Some-clause-proved g t c = λ s.
     let can_predicate = can_fill c.requires.posed c.requires.nested.predicate c.requires.values in
     IfOk-map c.evaluate_goal.result
     (λ x h y. premise_stays goes can_env.knows can_predicate.knows k.asks.formed_env k.asks.formed_predicate (unread _ _ _ _ goes env predicate can_env.knows can_predicate.knows (h y)))
-    (c.evaluate_goal.ensures.proved (Since-later k.extends s))
+    (c.evaluate_goal.ensures.proved (Since-later k.grows.extends s))
 
 pub run_candidate-returns-in_err-record_constraints-clause-runs : goal.run_candidate-returns-in_err-record_constraints-clause-runs
 run_candidate-returns-in_err-record_constraints-clause-runs g t c = Runs-trans c.in_ok-values.ensures.runs c.record_constraints.ensures.runs

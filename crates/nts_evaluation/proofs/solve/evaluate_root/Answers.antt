@@ -25,8 +25,8 @@ returns-clause-proved g c = λ s y.
     let k = c.in_ok-asked.ensures in
     let a = c.in_ok-answer.ensures in
     let last = Goes-extends a.runs.goes.table c.in_ok-after.ensures.grows.extends in
-    let all = Goes-trans (Goes-trans (Goes-extends c.requires.posed.table k.extends) a.runs.goes) last in
+    let all = Goes-trans (Goes-trans (Goes-extends c.requires.posed.table k.grows.extends) a.runs.goes) last in
     let env = a.runs.goes.extends.kept _ k.posed.holds.env.within ∙ k.env in
     let predicate = a.runs.goes.extends.kept _ k.posed.holds.predicate.within ∙ k.predicate in
-    let proved = Stays-later last (a.proved (Since-later k.extends s) y) in
+    let proved = Stays-later last (a.proved (Since-later k.grows.extends s) y) in
     rw (all.extends.kept c.args.goal.param_env.node c.requires.posed.holds.env.within, all.extends.kept c.args.goal.predicate.node c.requires.posed.holds.predicate.within) (unread _ _ _ _ all env predicate c.requires.posed.knows.env c.requires.posed.knows.predicate proved)

@@ -13,13 +13,13 @@ resolve_goal-requires c =
     let n = c.requires.nested in
     let p = c.requires.posed in
     let v = c.requires.values in
-    goal_posed (IsTable-extended e.extends p.table) (instance_term p.table (can_fill p n.env v) e.extends e.left) (e.left.kind ∙ n.holds.env.fits) (instance_term p.table (can_fill p n.predicate v) e.extends e.right) (e.right.kind ∙ n.holds.predicate.fits)
+    goal_posed (IsTable-extended e.grows.extends p.table) (instance_term p.table (can_fill p n.env v) e.grows.extends e.left) (e.left.kind ∙ n.holds.env.fits) (instance_term p.table (can_fill p n.predicate v) e.grows.extends e.right) (e.right.kind ∙ n.holds.predicate.fits)
 
 pub returns-clause-asks : goal.returns-clause-asks
 returns-clause-asks c =
     let e = c.in_ok-env.ensures in
     let k = c.in_ok-asked.ensures in
-    let same = content_of-extended e.extends c.requires.posed.table.now in
+    let same = content_of-extended e.grows.extends c.requires.posed.table.now in
     record {
       env = rw (same, e.left.tree) at k.env;
       predicate = rw (same, e.right.tree) at k.predicate;
