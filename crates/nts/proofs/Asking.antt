@@ -15,7 +15,6 @@ use Rattle.nts_table.specs.Tables.{Table}
 use Rattle.nts_unify.specs.Reading.{content_of, IsConstraint, AreConstraints}
 use Rattle.nts_table.specs.Tables.{IsTable}
 use Rattle.nts_unify.specs.declared.contents.Constraint.{Constraint}
-use Rattle.nts_unify.specs.Lawful.{content_of-extended}
 use Rattle.nts_table.specs.TableLaws.{IsTable-extended, IsTable-same}
 use Rattle.nts_delegate.specs.ClausesKept.{AreReady-kept}
 use Rattle.nts_terms.specs.declared.cx.Cx.{Cx}

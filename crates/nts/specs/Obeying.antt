@@ -1,10 +1,8 @@
 -- What the lines of a run do.
 use Rattle.std.specs.Prelude.{◌≡◌, ◌⊎◌, ℕ, true, false, List, [], length, map, Option, None, Some}
 use Rattle.std.specs.Global.{Vec}
-use Rattle.nts_store.specs.Growth.{Extends}
-use Rattle.nts_terms.specs.Rest.{KeepsRest}
+use Rattle.nts_terms.specs.Rest.{Grows}
 use Rattle.nts_terms.specs.Signatures.{nothing_declared, with_ctor, with_trait}
-use Rattle.nts_terms.specs.declared.cx.Cx.{Cx}
 use Rattle.nts_delegate.specs.Adding.{AddsClause, MakesCoinductive}
 use Rattle.nts_delegate.specs.Clauses.{clauses_of, coinductive_of}
 use Rattle.nts_delegate.specs.declared.clauses.Clause.{Clause}
@@ -42,11 +40,6 @@ pub record IsTold (old new : Program) (rs : List Resolved) (text : List ℕ) : T
   pub answer : Answer
   pub says : IsAnswerText new.cx.nodes new.names new.scope answer text
   pub justified : IsJustified old.mode rs old.cx.nodes new.cx.nodes old.clauses answer
-
--- terms may be added, and no term, declaration or limit changes
-pub record Grows (old new : Cx) : Type 0 where
-  pub extends : Extends old.nodes new.nodes
-  pub rest : KeepsRest old new
 
 -- the rules and the mode stay
 pub record KeepsRules (old new : Program) : Type 0 where

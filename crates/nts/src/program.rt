@@ -7,7 +7,7 @@ ghost use Rattle.nts_delegate.specs.Clauses.{AreReady};
 ghost use Rattle.nts_delegate.specs.declared.clauses.Clause.{Clause};
 ghost use Rattle.nts_text.specs.Lines.{IsPassedOver};
 ghost use Rattle.nts_text.specs.Resolution.{trait_sorts};
-ghost use Rattle.nts.specs.Obeying.{IsNew, Follows, Grows, KeepsRules, IsTold, IsObeyed};
+ghost use Rattle.nts.specs.Obeying.{IsNew, Follows, KeepsRules, IsTold, IsObeyed};
 ghost use Rattle.nts_terms.specs.Rest.{Grows};
 
 use crate::answer::ask;

@@ -13,10 +13,10 @@ pub returns-clause-values : goal.returns-clause-values
 returns-clause-values c =
     let e = c.in_ok-nodes.ensures in
     let nodes = ap (map (λ (v : GenericArg). v.node)) c.in_ok-values.ensures ∙ unwrapped _ ∙ c.deref.ensures.value in
-    values-fresh c.args.sorts.now c.in_ok-nodes.nodes.items c.in_ok-values.values.items nodes (gave_fresh c.args.sorts.now _ c.requires.table e.extends e.table e.entries e.saved e.mode e.within e.trees).values
+    values-fresh c.args.sorts.now c.in_ok-nodes.nodes.items c.in_ok-values.values.items nodes (gave_fresh c.args.sorts.now _ c.requires.table e.grows.extends e.table e.entries e.changes.saved e.changes.mode e.within e.trees).values
 
 pub returns-clause-sorts : goal.returns-clause-sorts
 returns-clause-sorts c =
     let e = c.in_ok-nodes.ensures in
     let nodes = ap (map (λ (v : GenericArg). v.node)) c.in_ok-values.ensures ∙ unwrapped _ ∙ c.deref.ensures.value in
-    rw nodes (gave_fresh c.args.sorts.now _ c.requires.table e.extends e.table e.entries e.saved e.mode e.within e.trees).values.sorts
+    rw nodes (gave_fresh c.args.sorts.now _ c.requires.table e.grows.extends e.table e.entries e.changes.saved e.changes.mode e.within e.trees).values.sorts

@@ -28,12 +28,12 @@ loop-value-preserved c =
     let e = c.in_ok-eager_resolve_vars.ensures in
     let here = content_of c.args.cx.now.nodes c.args.table.now.entries in
     record {
-      extends = Extends-trans i.extends e.extends;
-      rest = KeepsRest-trans i.rest e.rest;
+      extends = Extends-trans i.extends e.grows.extends;
+      rest = KeepsRest-trans i.rest e.grows.rest;
       resolved =
           subst (λ vs. AreResolved c.args.cx.now.nodes c.eager_resolve_vars.new.cx.nodes here vs c.push.new.self.items)
           (sym (take_one c.args.values.now c.loop-value.value-index (record { node = record { number = 0 } }) c.loop-value-test.true)) (rw c.in_ok-push.ensures.items (resolved_more c.args.cx.now.nodes c.loop-value.cx.nodes c.eager_resolve_vars.new.cx.nodes here (take c.loop-value.value-index c.args.values.now) c.loop-value.found.items _ _
-          e.extends i.resolved e.holds.within
+          e.grows.extends i.resolved e.holds.within
           ((rw (content_of-extended i.extends c.requires.table.now) at e.tree)
           ∙ ap (deeply_resolved here) (i.extends.kept _ (c.requires.values c.loop-value.value-index (record { node = record { number = 0 } }) c.loop-value-test.true).holds.within))));
     }

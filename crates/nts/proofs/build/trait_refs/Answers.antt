@@ -13,13 +13,13 @@ loop-at-preserved-in-Continue-branch-2 c =
     let next : suc (c.loop-at.at - 1) ≡ c.loop-at.at = omega (arith, c.loop-at-test.true) in
     let split = drop-cons nodes (c.loop-at.at - 1) _ (omega (arith, c.loop-at-test.true, c.loop-at.invariant.placed)) in
     record {
-      extends = Extends-trans c.loop-at.invariant.extends e.extends;
-      rest = KeepsRest-trans c.loop-at.invariant.rest e.rest;
+      extends = Extends-trans c.loop-at.invariant.extends e.grows.extends;
+      rest = KeepsRest-trans c.loop-at.invariant.rest e.grows.rest;
       placed = omega (arith, c.loop-at.invariant.placed);
       made = subst (λ rs. IsMade c.take_args.new.cx.nodes c.args.terms.variables.now c.args.terms.values.now rs c.take_args.new.made c.push.new.self.items)
           (sym (split ∙ ap (λ n. n ∷ drop (suc (c.loop-at.at - 1)) nodes) c.in-Trait.is ∙ ap (λ k. resolved.Trait c.in-Trait.number c.in-Trait.arguments ∷ drop k nodes) next))
           (made_trait c.loop-at.cx.nodes c.take_args.new.cx.nodes c.args.terms.variables.now c.args.terms.values.now (drop c.loop-at.at nodes) c.loop-at.made c.take_args.new.made c.loop-at.found.items
-          c.in-Trait.number c.in-Trait.arguments c.in_ok-args-in-Trait.args c.push.new.self.items c.loop-at.invariant.made e.extends e.takes c.in_ok-push-in-Trait.ensures.items);
+          c.in-Trait.number c.in-Trait.arguments c.in_ok-args-in-Trait.args c.push.new.self.items c.loop-at.invariant.made e.grows.extends e.takes c.in_ok-push-in-Trait.ensures.items);
     }
 
 pub loop-at-preserved : goal.loop-at-preserved
@@ -30,11 +30,11 @@ loop-at-preserved c =
     let next : suc (c.loop-at.at - 1) ≡ c.loop-at.at = omega (arith, c.loop-at-test.true) in
     let split = drop-cons nodes (c.loop-at.at - 1) (resolved.Trait 0 0) (omega (arith, c.loop-at-test.true, c.loop-at.invariant.placed)) in
     record {
-      extends = Extends-trans c.loop-at.invariant.extends e.extends;
-      rest = KeepsRest-trans c.loop-at.invariant.rest e.rest;
+      extends = Extends-trans c.loop-at.invariant.extends e.grows.extends;
+      rest = KeepsRest-trans c.loop-at.invariant.rest e.grows.rest;
       placed = omega (arith, c.loop-at.invariant.placed);
       made = subst (λ rs. IsMade c.argument.new.cx.nodes c.args.terms.variables.now c.args.terms.values.now rs c.push-in_default.new.self c.loop-at.found.items)
           (sym (split ∙ ap (λ k. n ∷ drop k nodes) next))
           (made_argument c.loop-at.cx.nodes c.argument.new.cx.nodes c.args.terms.variables.now c.args.terms.values.now (drop c.loop-at.at nodes) c.loop-at.made c.argument.new.made c.loop-at.found.items
-          n c.push-in_default.new.self c.in_ok-argument-in_default.argument c.loop-at.invariant.made e.extends e.makes c.in_ok-push-in_default.ensures.items);
+          n c.push-in_default.new.self c.in_ok-argument-in_default.argument c.loop-at.invariant.made e.grows.extends e.makes c.in_ok-push-in_default.ensures.items);
     }
