@@ -1,5 +1,5 @@
 -- Constraints that are recorded.
-use Rattle.std.proofs.Common.{◌≡◌, Bool, true, false, List}
+use Rattle.std.proofs.Common.{◌≡◌, ◌⊎◌, Bool, true, false, List}
 use Rattle.nts_model.specs.Trees.{Tree}
 use Rattle.nts_terms.specs.declared.modes.VisibleForLeakCheck.{VisibleForLeakCheck}
 use Rattle.nts_terms.specs.declared.modes.VisibleForLeakCheck.TheVariants.{Yes, No}
@@ -12,7 +12,7 @@ abbrev pub is_visible : VisibleForLeakCheck → Bool
 is_visible Yes = true
 is_visible No = false
 
--- one more constraint, if its sides are two trees
-pub record Records (ts : List Tree) (e f : Entries) (x : Constraint) : Type 0 where
-  pub equal : tree_at ts x.left ≡ tree_at ts x.right → f ≡ e
-  pub unequal : (tree_at ts x.left ≡ tree_at ts x.right → ⊥) → f ≡ constrained e x
+-- one more constraint, unless its sides are one tree
+abbrev pub Records : List Tree → Entries → Entries → Constraint → Type 0
+Records ts e f x =
+    ((tree_at ts x.left ≡ tree_at ts x.right) × (f ≡ e)) ⊎ ((tree_at ts x.left ≡ tree_at ts x.right → ⊥) × (f ≡ constrained e x))
