@@ -1,5 +1,5 @@
 -- What evaluations keep, composed.
-use Rattle.std.proofs.Common.{◌≡◌, ℕ, zero, suc, ◌<◌, List, [], ◌∷◌, ◌++◌, length, map, get_or, Option, Some, None, refl, sym, ap, ◌∙◌, arith, length-append}
+use Rattle.std.proofs.Common.{◌≡◌, inl, inr, ℕ, zero, suc, ◌<◌, List, [], ◌∷◌, ◌++◌, length, map, get_or, Option, Some, None, refl, sym, ap, ◌∙◌, arith, length-append}
 use Rattle.std.specs.Prelude.{slice_get, Result, Ok, Err, OnOk, OnErr}
 use Rattle.nts_model.specs.Equations.{AreRelated}
 use Rattle.nts_model.specs.declared.labels.Sort.{Sort}
@@ -34,6 +34,7 @@ use Rattle.nts_table.proofs.Filling.{knows-filled}
 use Rattle.nts_delegate.specs.declared.delegate.CandidateData.{CandidateData}
 use Rattle.nts_delegate.specs.declared.delegate.RegionConstraint.{RegionConstraint}
 use Rattle.nts_delegate.specs.declared.delegate.CandidateGoal.{CandidateGoal}
+use Rattle.nts_unify.specs.Recording.{Records}
 use Rattle.nts_unify.specs.Reading.{content_of, slot_of, recorded_of, IsConstraint, left_kind}
 use Rattle.nts_table.specs.Tables.{IsTable}
 use Rattle.nts_unify.specs.Lawful.{content_of-extended, content_of-constrained, content_of-added}
@@ -409,6 +410,18 @@ goes-constrained {a} {t} {u} x h l r k j n e s m =
       mode = m;
       hidden = ap (λ (z : Entries). z.hidden) e;
     }
+
+-- .. that is recorded unless its sides are one tree
+same_table : {t u : Table} → u.entries ≡ t.entries → u.saved ≡ t.saved → u.mode ≡ t.mode → u ≡ t
+same_table e s m = λ i. record { entries = e i; saved = s i; mode = m i }
+
+goes-recorded : {a : List Tree} {t u : Table} (x : Constraint) → IsTable a t → IsTermOf a t x.left → IsTermOf a t x.right → kind_of (tree_at a x.left) ≡ Some (left_kind x.relation) → kind_of (tree_at a x.right) ≡ Some (of_sort sort.Region) → (x.relation ≡ relation.Equal → ⊥) → Records a t.entries u.entries x → u.saved ≡ t.saved → u.mode ≡ t.mode → Goes a a t u
+goes-recorded x h l r k j n (inl e) s m = rw (same_table e.1 s m) (Goes-extends h (Extends-refl _))
+goes-recorded x h l r k j n (inr e) s m = goes-constrained x h l r k j n e.1 s m
+
+pub recorded_goes : {a : List Tree} {t u : Table} {E : Type 0} (x : Constraint) (o : Result (Unit {0}) E) → IsTable a t → IsTermOf a t x.left → IsTermOf a t x.right → kind_of (tree_at a x.left) ≡ Some (left_kind x.relation) → kind_of (tree_at a x.right) ≡ Some (of_sort sort.Region) → (x.relation ≡ relation.Equal → ⊥) → OnOk o (Records a t.entries u.entries x) → u.saved ≡ t.saved → u.mode ≡ t.mode → OnErr o (u ≡ t) → Goes a a t u
+recorded_goes x (Ok z) h l r k j n e s m q = goes-recorded x h l r k j n e s m
+recorded_goes x (Err z) h l r k j n e s m q = rw q (Goes-extends h (Extends-refl _))
 
 -- all was undone
 pub goes-back : {a b : List Tree} {t u : Table} → IsTable a t → Extends a b → u ≡ t → Goes a b t u

@@ -16,7 +16,7 @@ use Rattle.nts_model.specs.Trees.{Tree, empty, node, kind_of, kind_of_label, of_
 use Rattle.nts_model.specs.Contents.{Content, Slot, SlotState, Recorded, known, map_slot}
 use Rattle.nts_model.specs.Resolving.{deeply_resolved, Knows}
 use Rattle.nts_model.specs.Worlds.{KnowsAll}
-use Rattle.nts_model.specs.Holding.{AreOne, HasSides, HoldsConstraint, Continues}
+use Rattle.nts_model.specs.Holding.{AreOne, IsTrivial, HasSides, HoldsConstraint, Continues}
 use Rattle.nts_model.specs.Alike.{Alike, one_tree, two_regions, one_label, two_rows, HoldsEqual, AreAlike}
 use Rattle.nts_model.specs.Sequents.{Among, Premise}
 use Rattle.nts_model.specs.Rules.{Mode, Meaning}
@@ -38,10 +38,10 @@ use Rattle.nts_store.specs.Growth.{tree_at, IsIn, AllIn, Extends}
 use Rattle.nts_store.specs.Kept.{map-kept}
 use Rattle.nts_store.specs.Formed.{AreFormed}
 use Rattle.nts_terms.proofs.Places.{no_places}
-use Rattle.nts_unify.specs.Entries.{constrained}
 use Rattle.nts_table.specs.Tables.{Table}
 use Rattle.nts_unify.specs.Lawful.{content_of-constrained}
 use Rattle.nts_unify.specs.declared.contents.Constraint.{Constraint}
+use Rattle.nts_unify.specs.Recording.{Records}
 use Rattle.nts_unify.specs.Reading.{content_of, slot_of, state_with, recorded_of, left_kind, IsHeldState, AreHeld, AreConstraints}
 use Rattle.nts_table.specs.Tables.{IsTable}
 use Rattle.nts_unify.specs.declared.contents.Variable.{Variable}
@@ -148,10 +148,27 @@ pub held_stays : {ts : List Tree} {t : Table} (x : Recorded) → IsTable ts t �
 held_stays {ts} {t} x h a b k =
     record { later = λ d s e. HoldsConstraint-continues (content_of ts t.entries) d x e (known_all h) a b k }
 
--- a constraint that was recorded is held
-pub recorded_stays : {ts : List Tree} {t u : Table} (x : Constraint) → Goes ts ts t u → IsTermOf ts t x.left → IsTermOf ts t x.right → u.entries ≡ constrained t.entries x → Stays (content_of ts u.entries) (λ d. HoldsConstraint d (recorded_of ts x))
-recorded_stays {ts} {t} {u} x g l r e =
-    held_stays (recorded_of ts x) g.table (g.known (tree_at ts x.left) l.knows) (g.known (tree_at ts x.right) r.knows) (rw (e, content_of-constrained ts t.entries x) (HoldsConstraint-with_constraint (content_of ts t.entries) (recorded_of ts x)))
+-- a constraint that was recorded is held, and one whose sides are one tree is trivial
+trivial_outlives : (d : Content) (r : Relation) (a b : Tree) → (r ≡ relation.TypeOutlives → ⊥) → a ≡ b → IsTrivial d r a b
+trivial_outlives d relation.Equal a b n e = ap (deeply_resolved d) e
+trivial_outlives d relation.RegionOutlives a b n e = ap (deeply_resolved d) e
+trivial_outlives d relation.TypeOutlives a b n e = absurd (n refl)
+
+pub is_region_outlives : (r : Relation) → (r ≡ relation.TypeOutlives → ⊥) → (r ≡ relation.Equal → ⊥) → r ≡ relation.RegionOutlives
+is_region_outlives relation.Equal n m = absurd (m refl)
+is_region_outlives relation.RegionOutlives n m = refl
+is_region_outlives relation.TypeOutlives n m = absurd (n refl)
+
+no_type : (r : Relation) (a b : Tree) → kind_of a ≡ Some (left_kind r) → kind_of b ≡ Some (of_sort sort.Region) → a ≡ b → r ≡ relation.TypeOutlives → ⊥
+no_type relation.Equal a b k j e q = cc
+no_type relation.RegionOutlives a b k j e q = cc
+no_type relation.TypeOutlives a b k j e q = let s : Some (left_kind relation.TypeOutlives) ≡ Some (of_sort sort.Region) = sym k ∙ ap kind_of e ∙ j in cc
+
+pub recorded_stays : {ts : List Tree} {t u : Table} (x : Constraint) → Goes ts ts t u → IsTermOf ts t x.left → IsTermOf ts t x.right → kind_of (tree_at ts x.left) ≡ Some (left_kind x.relation) → kind_of (tree_at ts x.right) ≡ Some (of_sort sort.Region) → Records ts t.entries u.entries x → Stays (content_of ts u.entries) (λ d. HoldsConstraint d (recorded_of ts x))
+recorded_stays {ts} {t} {u} x g l r k j (inl e) =
+    record { later = λ d s n. inl (trivial_outlives d x.relation (tree_at ts x.left) (tree_at ts x.right) (no_type x.relation (tree_at ts x.left) (tree_at ts x.right) k j e.0) e.0) }
+recorded_stays {ts} {t} {u} x g l r k j (inr e) =
+    held_stays (recorded_of ts x) g.table (g.known (tree_at ts x.left) l.knows) (g.known (tree_at ts x.right) r.knows) (rw (e.1, content_of-constrained ts t.entries x) (HoldsConstraint-with_constraint (content_of ts t.entries) (recorded_of ts x)))
 
 -- whether a constraint is seen has no say in whether it is held
 unseen_sides : (d : Content) (r : Relation) (a b : Tree) (v w : Bool) (y : Recorded) → HasSides d r (record { relation = r; left = a; right = b; is_visible = v }) y → HasSides d r (record { relation = r; left = a; right = b; is_visible = w }) y

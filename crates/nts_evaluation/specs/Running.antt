@@ -1,9 +1,11 @@
 -- What holds of a candidate that is run: its parts, with the values in place of its fresh variables.
 use Rattle.std.specs.Prelude.{List, [], ◌∷◌, map}
+use Rattle.std.specs.Prelude.{false}
+use Rattle.nts_model.specs.declared.labels.Relation.{Relation}
 use Rattle.nts_model.specs.Trees.{Tree}
 use Rattle.nts_model.specs.Contents.{Content}
 use Rattle.nts_model.specs.Resolving.{IsSound}
-use Rattle.nts_model.specs.Holding.{Continues}
+use Rattle.nts_model.specs.Holding.{HoldsConstraint, Continues}
 use Rattle.nts_model.specs.Related.{Constraint}
 use Rattle.nts_model.specs.Sequents.{Premise}
 use Rattle.nts_model.specs.Rules.{Mode, Equation, Meaning}
@@ -35,6 +37,10 @@ EquationHolds vs q d = HoldsEquationAt d vs q
 
 abbrev pub ConstraintHolds : List Tree → Constraint → Content → Type 0
 ConstraintHolds vs x d = IsHeldAt d vs x
+
+-- the constraint between two trees is held
+abbrev pub HoldsOutlives : Relation → Tree → Tree → Content → Type 0
+HoldsOutlives r a b d = HoldsConstraint d (record { relation = r; left = a; right = b; is_visible = false })
 
 abbrev pub PremiseHolds : Meaning → Mode → List Tree → Premise → Content → Type 0
 PremiseHolds m mode vs p d = IsProvedAt m mode d vs p

@@ -1,9 +1,11 @@
 //! Trying and running one candidate.
 ghost use Rattle.std.specs.Prelude.{◌≡◌, ◌≢◌, true, List, map, IfOk, OnOk, IsOkUnless};
-ghost use Rattle.nts_model.specs.Trees.{kind_of};
+ghost use Rattle.nts_model.specs.declared.labels.Sort.TheVariants as sort;
+ghost use Rattle.nts_model.specs.declared.labels.Relation.TheVariants as relations;
+ghost use Rattle.nts_model.specs.Trees.{kind_of, of_sort};
 ghost use Rattle.nts_store.specs.Growth.{tree_at, IsIn, Extends};
 ghost use Rattle.nts_store.specs.Formed.{AreFormed};
-ghost use Rattle.nts_unify.specs.Reading.{content_of};
+ghost use Rattle.nts_unify.specs.Reading.{content_of, left_kind};
 ghost use Rattle.nts_table.specs.Tables.{IsTable};
 ghost use Rattle.nts_table.specs.Resolution.{IsResolved};
 ghost use Rattle.nts_model.specs.Resolving.{deeply_resolved};
@@ -11,8 +13,8 @@ ghost use Rattle.nts_delegate.specs.Candidates.{IsOver, IsEquation, IsNested, Is
 ghost use Rattle.nts_terms.specs.Handles.{HoldsGoal};
 ghost use Rattle.nts_model.specs.Alike.{AreAlike};
 ghost use Rattle.nts_delegate.specs.Offered.{equation_of, constraint_of};
-ghost use Rattle.nts_evaluation.specs.Running.{Stays, EquationHolds, ConstraintHolds, Equates, Constrains};
-ghost use Rattle.nts_evaluation.specs.Evaluation.{Runs, IsPosed, AreValues};
+ghost use Rattle.nts_evaluation.specs.Running.{Stays, HoldsOutlives, EquationHolds, ConstraintHolds, Equates, Constrains};
+ghost use Rattle.nts_evaluation.specs.Evaluation.{Goes, Runs, IsPosed, AreValues};
 ghost use Rattle.nts_table.specs.Tables.{IsTermOf};
 ghost use Rattle.nts_evaluation.specs.Instances.{HoldsValues, IsInstance, Asks};
 ghost use Rattle.nts_terms.specs.Rest.{Grows};
@@ -21,8 +23,9 @@ use nts_delegate::{CandidateData, Equation, RegionConstraint};
 use nts_model::{Relation, Sort};
 use nts_store::{EvalError, Fault, NodeId, instantiate_canonical};
 use nts_table::{InferCtxt, relate_nodes, resolve_nodes};
-use nts_terms::{Cx, Goal, ParamEnv, Predicate};
-use nts_unify::Constraint;
+use nts_terms::{
+    Cx, Goal, ParamEnv, Predicate, Region, Span, Ty, VisibleForLeakCheck,
+};
 
 /// What a store has are terms: each node has the children of its label.
 pub fn terms_are_formed(cx: &Cx)
@@ -296,11 +299,36 @@ fn record_one(
     if let Relation::Equal = constraint.relation {
         return relate_terms(table, cx, left, right);
     }
-    table.constrain(Constraint {
-        relation: constraint.relation,
-        left,
-        right,
-        is_visible: true,
-    })?;
+    record_outlives(table, cx, constraint.relation, left, right)?;
     Ok(())
+}
+
+/// The rules of a handler stand in no text of the user's.
+const NO_PLACE: Span = Span(0);
+
+/// Records that a region or a type outlives a region, for the leak check to see.
+fn record_outlives(
+    table: &mut InferCtxt,
+    cx: &Cx,
+    relation: Relation,
+    left: NodeId,
+    right: NodeId,
+) -> Result<(), Fault>
+    requires table { IsTable cx.now.nodes table.old }
+    requires left { IsTermOf cx.now.nodes table.old left }
+    requires right { IsTermOf cx.now.nodes table.old right }
+    requires left_sort { kind_of (tree_at cx.now.nodes left) ≡ Some (left_kind relation) }
+    requires right_sort { kind_of (tree_at cx.now.nodes right) ≡ Some (of_sort sort.Region) }
+    requires outlives { relation ≢ relations.Equal }
+    ensures goes { Goes cx.now.nodes cx.now.nodes table.old table.new }
+    ensures held { OnOk result (Stays (content_of cx.now.nodes table.new.entries)
+        (HoldsOutlives relation (tree_at cx.now.nodes left) (tree_at cx.now.nodes right))) }
+    ensures memory { IsOkUnless result Fault.Memory }
+{
+    let region = Region { node: right };
+    if let Relation::TypeOutlives = relation {
+        return table.register_ty_outlives(cx, Ty { node: left }, region, NO_PLACE);
+    }
+    let outlives = Region { node: left };
+    table.sub_regions(cx, region, outlives, VisibleForLeakCheck::Yes, NO_PLACE)
 }

@@ -1,10 +1,10 @@
-use Rattle.std.proofs.Common.{◌∙◌, map, true, false}
+use Rattle.std.proofs.Common.{◌∙◌, map}
 use Rattle.nts_store.specs.Growth.{tree_at}
 use Rattle.nts_terms.proofs.Moved.{KeepsRest-refl}
 use Rattle.nts_table.specs.TableLaws.{IsTable-extended}
-use Rattle.nts_evaluation.proofs.Running.{Stays-map, recorded_stays, constraint_stays, equality_stays, unseen}
+use Rattle.nts_evaluation.proofs.Running.{constraint_stays, equality_stays}
 use Rattle.nts_delegate.proofs.Results.{OnOk-map}
-use Rattle.nts_evaluation.proofs.Evaluating.{Runs-trans, Runs-extends, runs-back, goes-constrained, can_fill, instance_term, held_values}
+use Rattle.nts_evaluation.proofs.Evaluating.{Runs-trans, Runs-extends, can_fill, instance_term, held_values}
 use Rattle.nts_evaluation.proofs.candidate.record_one.Goals as goal
 
 pub instantiate_both-requires-clause-values : goal.instantiate_both-requires-clause-values
@@ -44,29 +44,40 @@ returns-in-Equal-clause-held c =
     (equality_stays c.args.constraint.relation c.in-Equal.is goes e.left.formed l r (e.left.kind ∙ k.left_sort) (e.right.kind ∙ k.right_sort) h))
     c.relate_terms.ensures.equal
 
+pub record_outlives-requires-clause-table : goal.record_outlives-requires-clause-table
+record_outlives-requires-clause-table c = IsTable-extended c.in_ok-left.ensures.grows.extends c.requires.posed.table
+
+pub record_outlives-requires-clause-left : goal.record_outlives-requires-clause-left
+record_outlives-requires-clause-left c =
+    let e = c.in_ok-left.ensures in
+    instance_term c.requires.posed.table (can_fill c.requires.posed c.requires.constraint.left c.requires.values) e.grows.extends e.left
+
+pub record_outlives-requires-clause-right : goal.record_outlives-requires-clause-right
+record_outlives-requires-clause-right c =
+    let e = c.in_ok-left.ensures in
+    instance_term c.requires.posed.table (can_fill c.requires.posed c.requires.constraint.right c.requires.values) e.grows.extends e.right
+
+pub record_outlives-requires-clause-left_sort : goal.record_outlives-requires-clause-left_sort
+record_outlives-requires-clause-left_sort c = c.in_ok-left.ensures.left.kind ∙ c.requires.constraint.left_sort
+
+pub record_outlives-requires-clause-right_sort : goal.record_outlives-requires-clause-right_sort
+record_outlives-requires-clause-right_sort c = c.in_ok-left.ensures.right.kind ∙ c.requires.constraint.right_sort
+
 pub returns-clause-runs : goal.returns-clause-runs
 returns-clause-runs c =
     let e = c.in_ok-left.ensures in
-    let k = c.requires.constraint in
-    let w = c.in_ok-constrain.ensures in
-    let p = c.requires.posed in
-    let l = instance_term p.table (can_fill p k.left c.requires.values) e.grows.extends e.left in
-    let r = instance_term p.table (can_fill p k.right c.requires.values) e.grows.extends e.right in
-    let g = goes-constrained _ (IsTable-extended e.grows.extends p.table) l r (e.left.kind ∙ k.left_sort) (e.right.kind ∙ k.right_sort) c.in_default.not-Equal w.entries w.saved w.mode in
-    Runs-trans (Runs-extends p.table e.grows.extends e.grows.rest) (record { goes = g; rest = KeepsRest-refl _ })
+    Runs-trans (Runs-extends c.requires.posed.table e.grows.extends e.grows.rest) (record { goes = c.record_outlives.ensures.goes; rest = KeepsRest-refl _ })
 
 pub returns-clause-held : goal.returns-clause-held
 returns-clause-held c =
     let e = c.in_ok-left.ensures in
     let k = c.requires.constraint in
-    let w = c.in_ok-constrain.ensures in
     let p = c.requires.posed in
     let l = instance_term p.table (can_fill p k.left c.requires.values) e.grows.extends e.left in
     let r = instance_term p.table (can_fill p k.right c.requires.values) e.grows.extends e.right in
-    let g = goes-constrained _ (IsTable-extended e.grows.extends p.table) l r (e.left.kind ∙ k.left_sort) (e.right.kind ∙ k.right_sort) c.in_default.not-Equal w.entries w.saved w.mode in
-    constraint_stays c.args.cx.now.nodes (map (tree_at c.args.cx.now.nodes) c.args.trial.values.now) c.args.constraint g e.left.formed l r e.left.tree e.right.tree
-    (Stays-map (λ d s n z. unseen d c.args.constraint.relation _ _ true false z) (recorded_stays _ g l r w.entries))
+    constraint_stays c.args.cx.now.nodes (map (tree_at c.args.cx.now.nodes) c.args.trial.values.now) c.args.constraint c.record_outlives.ensures.goes e.left.formed l r e.left.tree e.right.tree c.in_ok-record_outlives.ensures.held
 
-pub returns-in_err-constrain-clause-runs : goal.returns-in_err-constrain-clause-runs
-returns-in_err-constrain-clause-runs c =
-    runs-back c.requires.posed.table c.in_ok-left.ensures.grows.extends c.in_ok-left.ensures.grows.rest c.in_err-constrain.ensures.err
+pub returns-in_err-record_outlives-clause-runs : goal.returns-in_err-record_outlives-clause-runs
+returns-in_err-record_outlives-clause-runs c =
+    let e = c.in_ok-left.ensures in
+    Runs-trans (Runs-extends c.requires.posed.table e.grows.extends e.grows.rest) (record { goes = c.record_outlives.ensures.goes; rest = KeepsRest-refl _ })
