@@ -41,7 +41,7 @@ use Rattle.nts_unify.specs.Lawful.{IsLawful-extended, content_of-extended}
 use Rattle.nts_unify.proofs.Changes.{slot_at, length-slots, content_of-bound, LeadsDown, leads_down, IsLawful-bound}
 use Rattle.nts_unify.proofs.Keeping.{IsLater-trans, Knows-later, unset-set, unset_of-infer}
 use Rattle.nts_unify.proofs.JoinLemmas.{free_slot}
-use Rattle.nts_relating.proofs.HeadLemmas.{state_at, kind_at-entry}
+use Rattle.nts_unify.proofs.Leading.{state_of-entry, kind_at-entry}
 
 some_inj : {A : Type 0} (a b : A) → Some a ≡ Some b → a ≡ b
 some_inj a b e = cc
@@ -66,7 +66,7 @@ bind_value ts us e f g x t v w z before_lawful can_bind at knows_term h within f
     let there : kind_at d x ≡ Some k = gen.keeps.later.kinds x k free.kind in
     let new : Variable = record z { state = Known v } in
     let slot = slot_at us f x z now in
-    let is_unset : state_with us z.state ≡ unset = some_inj _ _ (sym (state_at us f x z now) ∙ state) in
+    let is_unset : state_with us z.state ≡ unset = some_inj _ _ (sym (state_of-entry us f x z now) ∙ state) in
     let same : z.kind ≡ k = some_inj _ _ (sym (kind_at-entry us f x z now) ∙ there) in
     let first : w.kind ≡ k = some_inj _ _ (sym (kind_at-entry ts e x w at) ∙ free.kind) in
     let kinds : w.kind ≡ z.kind = first ∙ sym same in

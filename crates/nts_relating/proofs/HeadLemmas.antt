@@ -1,6 +1,5 @@
 -- What a term is under a table: the roots of variables, and their values.
-use Rattle.std.proofs.Common.{◌≡◌, ℕ, zero, suc, ◌<◌, ◌≤◌, List, [], ◌∷◌, length, Option, Some, None, refl, sym, ap, subst, ◌∙◌, arith}
-use Rattle.std.specs.Prelude.{slice_get}
+use Rattle.std.proofs.Common.{◌≡◌, ℕ, ◌≤◌, List, [], Option, Some, None, refl, sym, ap, subst, ◌∙◌, arith}
 use Rattle.nts_model.specs.declared.labels.VariableKind.{VariableKind}
 use Rattle.nts_model.specs.declared.labels.VariableKind.TheVariants as kind
 use Rattle.nts_model.specs.declared.labels.Leaf.TheVariants as leaf
@@ -8,9 +7,8 @@ use Rattle.nts_model.specs.declared.labels.Label.{Label}
 use Rattle.nts_model.specs.declared.labels.Label.TheVariants as label
 use Rattle.nts_model.specs.Trees.{Tree, empty, more, node, NodeKind, of_sort, sort_of_variable, kind_of, kind_of_label, children, label_of, shape, Meets, in_order, HavePlaces, IsClosed as IsClosedTree}
 use Rattle.nts_model.specs.Contents.{Content, known, state_of, kind_at}
-use Rattle.nts_model.specs.Resolving.{variable_of, variable_tree, infer_of, IsInfer, Knows, KnowsLabel, Reaches, here, on, resolved, rank_of, rank_of_kind, variable_rank}
+use Rattle.nts_model.specs.Resolving.{variable_of, variable_tree, infer_of, IsInfer, Knows, KnowsLabel, resolved, rank_of, rank_of_kind, variable_rank}
 use Rattle.nts_model.proofs.Variables.{infer_label}
-use Rattle.nts_model.proofs.Slots.{some_slot}
 use Rattle.nts_model.proofs.Roots.{kind_at-reaches}
 use Rattle.nts_model.proofs.Resolved.{KnownStep, known_step, resolved-variable_reaches}
 use Rattle.nts_model.specs.Worlds.{World, inst, Solves}
@@ -20,32 +18,17 @@ use Rattle.nts_store.specs.declared.nodes.NodeId.{NodeId}
 use Rattle.nts_store.specs.Growth.{tree_at, IsIn}
 use Rattle.nts_unify.specs.declared.contents.State.{State}
 use Rattle.nts_unify.specs.declared.contents.State.TheVariants.{Unset, Link, Known}
-use Rattle.nts_unify.specs.declared.contents.Variable.{Variable}
 use Rattle.nts_unify.specs.Entries.{Entries}
-use Rattle.nts_unify.specs.Reading.{state_with, slot_of, content_of, IsLawful}
-use Rattle.nts_unify.specs.Roots.{Leads, IsRootState, IsRoot}
+use Rattle.nts_unify.specs.Reading.{state_with, content_of, IsLawful}
+use Rattle.nts_unify.specs.Roots.{IsRootState, IsRoot, HasClass}
 use Rattle.nts_unify.specs.Changing.{region_variable, region_number}
 use Rattle.nts_unify.specs.Unchanged.{HasUnset}
 use Rattle.nts_relating.specs.Relating.{IsLike, IsOpen, IsHead}
 use Rattle.nts_relating.specs.declared.relate.Head.{Head}
 use Rattle.nts_relating.specs.declared.relate.Head.TheVariants.{Open, Closed}
 use Rattle.nts_relating.proofs.Ranks.{kind_of-like, like_of-kinds}
-use Rattle.nts_unify.proofs.Changes.{slot_at, AreHeld-at}
-
-pub state_at : (ts : List Tree) (e : Entries) (n : ℕ) (v : Variable) → slice_get e.variables n ≡ Some v → state_of (content_of ts e) n ≡ Some (state_with ts v.state)
-state_at ts e n v h = some_slot (λ x. x.state) (content_of ts e) n (slot_of ts v) (slot_at ts e n v h)
-
-pub kind_at-entry : (ts : List Tree) (e : Entries) (n : ℕ) (v : Variable) → slice_get e.variables n ≡ Some v → kind_at (content_of ts e) n ≡ Some v.kind
-kind_at-entry ts e n v h = some_slot (λ x. x.kind) (content_of ts e) n (slot_of ts v) (slot_at ts e n v h)
-
-pub reaches : (ts : List Tree) (e : Entries) (n r : ℕ) → Leads e n r → Reaches (content_of ts e) n r
-reaches ts e n r Leads.here = here
-reaches ts e n r (Leads.on {m = m} v before at s) = on (reaches ts e n m before) (state_at ts e m v at ∙ ap (λ x. Some (state_with ts x)) s)
-
-pub at_index : {A : Type 0} (xs : List A) (n : ℕ) → n < length xs → (x : A) × (slice_get xs n ≡ Some x)
-at_index [] n h = absurd (omega arith)
-at_index (x ∷ xs) zero h = (x, refl)
-at_index (x ∷ xs) (suc n) h = at_index xs n (omega arith)
+use Rattle.nts_unify.proofs.Changes.{AreHeld-at}
+use Rattle.nts_unify.proofs.Leading.{state_of-entry, state_of-class, kind_at-entry, Reaches-leads, entry_at}
 
 -- the variable that a label names
 kind_found : Option (VariableKind × ℕ) → NodeKind → NodeKind
@@ -121,23 +104,24 @@ variable_node t l k n is m v =
 inst-at : (w : World) (t : Tree) (l : Label) (k : VariableKind) (n : ℕ) → t ≡ node l (children t) → variable_of l ≡ Some (k, n) → inst w t ≡ w.tree n
 inst-at w t l k n is v = ap (inst w) is ∙ inst-variable w l (children t) k n v
 
-pub head_known : (ts : List Tree) (e : Entries) (t : Tree) (l : Label) (n r : ℕ) (w : Variable) (v : NodeId) → IsLawful ts e → Knows (content_of ts e) t → t ≡ node l (children t) → infer_of l ≡ Some n → IsRoot e n r → slice_get e.variables r ≡ Some w → w.state ≡ Known v → HeadKnown ts e t v
-head_known ts e t l n r w v h k is i root at s =
+pub head_known : (ts : List Tree) (e : Entries) (t : Tree) (l : Label) (n r : ℕ) (v : NodeId) → IsLawful ts e → Knows (content_of ts e) t → t ≡ node l (children t) → infer_of l ≡ Some n → HasClass e n r (Known v) → HeadKnown ts e t v
+head_known ts e t l n r v h k is i class =
     let c = content_of ts e in
+    let root = class.root in
     let x = infer_label l n i in
-    let state : state_of c r ≡ Some (known (tree_at ts v)) = state_at ts e r w at ∙ ap (λ y. Some (state_with ts y)) s in
-    let held = AreHeld-at ts e.variables r w h.held at in
+    let state : state_of c r ≡ Some (known (tree_at ts v)) = state_of-class ts e n r (Known v) class in
+    let held = AreHeld-at ts e.variables r class.variable h.held class.at in
     let there : KnowsLabel c (variable_of l) = knows_label c t l is k in
     let has : kind_at c n ≡ Some x.of_kind = rw x.is at there in
-    let root_kind : kind_at c r ≡ Some x.of_kind = kind_at-reaches c n r h.sound (reaches ts e n r root.leads) ∙ has in
+    let root_kind : kind_at c r ≡ Some x.of_kind = kind_at-reaches c n r h.sound (Reaches-leads ts e n r root.leads) ∙ has in
     record {
-      within = rw s at held;
+      within = rw class.state at held;
       infer = infer_at t l n is i;
       sort = of_sort (sort_of_variable x.of_kind);
       value_sort = (h.sound.fits r (tree_at ts v) x.of_kind state root_kind).0;
       own_sort = ap kind_of is ∙ ap Some (kind_of-variable l x.of_kind n x.is);
-      step = known_step c t l x.of_kind n r (tree_at ts v) h.sound k (label_at t l is) x.is x.no_region (reaches ts e n r root.leads) state;
-      worlds = λ w z. inst-at w t l x.of_kind n is x.is ∙ tree-known c w n r (tree_at ts v) z (reaches ts e n r root.leads) state;
+      step = known_step c t l x.of_kind n r (tree_at ts v) h.sound k (label_at t l is) x.is x.no_region (Reaches-leads ts e n r root.leads) state;
+      worlds = λ w z. inst-at w t l x.of_kind n is x.is ∙ tree-known c w n r (tree_at ts v) z (Reaches-leads ts e n r root.leads) state;
       closed = (h.proper.solvable.values r (tree_at ts v) x.of_kind state root_kind).closed;
     }
 
@@ -171,22 +155,24 @@ zero_less : (a b k : ℕ) → a ≡ k → b ≡ a → k ≤ b
 zero_less a b k e q = omega (arith, e, q)
 
 -- a root without a value
-pub head_open : (ts : List Tree) (e : Entries) (t : Tree) (l : Label) (n r : ℕ) (w : Variable) → IsLawful ts e → Knows (content_of ts e) t → t ≡ node l (children t) → Meets (shape l) (children t) → infer_of l ≡ Some n → IsRoot e n r → slice_get e.variables r ≡ Some w → ((v : NodeId) → w.state ≡ Known v → ⊥) → IsOpen ts e t r
-head_open ts e t l n r w h k is m i root at s =
+pub head_open : (ts : List Tree) (e : Entries) (t : Tree) (l : Label) (n r : ℕ) → IsLawful ts e → Knows (content_of ts e) t → t ≡ node l (children t) → Meets (shape l) (children t) → infer_of l ≡ Some n → HasClass e n r Unset → IsOpen ts e t r
+head_open ts e t l n r h k is m i class =
     let c = content_of ts e in
+    let root = class.root in
+    let w = class.variable in
     let x = infer_label l n i in
     let there : KnowsLabel c (variable_of l) = knows_label c t l is k in
     let has : kind_at c n ≡ Some x.of_kind = rw x.is at there in
-    let same : Some w.kind ≡ Some x.of_kind = sym (kind_at-entry ts e r w at) ∙ kind_at-reaches c n r h.sound (reaches ts e n r root.leads) ∙ has in
+    let same : Some w.kind ≡ Some x.of_kind = sym (kind_at-entry ts e r w class.at) ∙ kind_at-reaches c n r h.sound (Reaches-leads ts e n r root.leads) ∙ has in
     let of_kind : w.kind ≡ x.of_kind = cc in
     let like : IsLike (variable_tree x.of_kind r) (node l (children t)) = sym (kind_of-variable l x.of_kind n x.is) in
     record {
-      bindable = record { of_kind = x.of_kind; no_region = x.no_region; free = record { variable = w; at = at; of_kind = of_kind; state = is_unset w.state (root.ends w at) s } };
+      bindable = record { of_kind = x.of_kind; no_region = x.no_region; free = record { variable = w; at = class.at; of_kind = of_kind; state = class.state } };
       infer = infer_at t l n is i;
       like = subst (λ (y : Tree). IsLike (variable_tree x.of_kind r) y) (sym is) like;
       rank = zero_less (rank_of (variable_of l)) (variable_rank t) (rank_of_kind x.of_kind) (ap rank_of x.is) (ap variable_rank is);
-      same = ap (resolved c) (variable_node t l x.of_kind n is m x.is) ∙ resolved-variable_reaches c x.of_kind n r h.sound x.no_region has (reaches ts e n r root.leads);
-      worlds = λ w z. inst-at w t l x.of_kind n is x.is ∙ tree-reaches c w n r z (reaches ts e n r root.leads);
+      same = ap (resolved c) (variable_node t l x.of_kind n is m x.is) ∙ resolved-variable_reaches c x.of_kind n r h.sound x.no_region has (Reaches-leads ts e n r root.leads);
+      worlds = λ w z. inst-at w t l x.of_kind n is x.is ∙ tree-reaches c w n r z (Reaches-leads ts e n r root.leads);
     }
 
 -- the root of a region variable
@@ -196,10 +182,10 @@ region_root ts e t l n r h k is i root =
     let x = region_label l n i in
     let there : KnowsLabel c (variable_of l) = knows_label c t l is k in
     let has : kind_at c n ≡ Some kind.Region = rw x at there in
-    let w = at_index e.variables r root.within in
-    let region : kind_at c r ≡ Some kind.Region = kind_at-reaches c n r h.sound (reaches ts e n r root.leads) ∙ has in
+    let w = entry_at e.variables r root.within in
+    let region : kind_at c r ≡ Some kind.Region = kind_at-reaches c n r h.sound (Reaches-leads ts e n r root.leads) ∙ has in
     let same : Some w.0.kind ≡ Some kind.Region = sym (kind_at-entry ts e r w.0 w.1) ∙ region in
-    let state = state_at ts e r w.0 w.1 in
+    let state = state_of-entry ts e r w.0 w.1 in
     record {
       variable = w.0;
       at = w.1;

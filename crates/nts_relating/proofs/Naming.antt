@@ -72,14 +72,14 @@ HasUnset-added e v n k h =
       state = h.state;
     }
 
-HasUnset-new : (e : Entries) (v : Variable) (k : VariableKind) → IsNew v → v.kind ≡ k → HasUnset (added e v) (length e.variables) k
+HasUnset-new : (e : Entries) (v : Variable) (k : VariableKind) → IsNew e v → v.kind ≡ k → HasUnset (added e v) (length e.variables) k
 HasUnset-new e v k n q =
     record { variable = v; at = slice_get-push_new e.variables v; of_kind = q; state = n.state }
 
 apart_from_new : (e : Entries) (n : ℕ) (k : VariableKind) → HasUnset e n k → n ≡ length e.variables → ⊥
 apart_from_new e n k h q = let below = slice_get_below e.variables n h.variable h.at in omega (arith, q, below)
 
-pub can_join_fresh : (ts : List Tree) (e m : Entries) (y number : ℕ) (t : Tree) (v w : Variable) → IsLawful ts e → IsOpen ts e t y → slice_get e.variables y ≡ Some w → v.kind ≡ w.kind → IsNew v → m ≡ added e v → number ≡ length e.variables → CanJoin m y number
+pub can_join_fresh : (ts : List Tree) (e m : Entries) (y number : ℕ) (t : Tree) (v w : Variable) → IsLawful ts e → IsOpen ts e t y → slice_get e.variables y ≡ Some w → v.kind ≡ w.kind → IsNew e v → m ≡ added e v → number ≡ length e.variables → CanJoin m y number
 can_join_fresh ts e m y number t v w h o at vk new em en =
     let k = o.bindable.of_kind in
     let same = kind_read e y k w o.bindable.free at in
@@ -93,7 +93,7 @@ can_join_fresh ts e m y number t v w h o at vk new em en =
     } in
     rw (em, en) can
 
-pub can_join_fresh_region : (e m : Entries) (y number : ℕ) (v : Variable) → HasUnset e y kind.Region → v.kind ≡ kind.Region → IsNew v → m ≡ added e v → number ≡ length e.variables → CanJoinRegions m y number
+pub can_join_fresh_region : (e m : Entries) (y number : ℕ) (v : Variable) → HasUnset e y kind.Region → v.kind ≡ kind.Region → IsNew e v → m ≡ added e v → number ≡ length e.variables → CanJoinRegions m y number
 can_join_fresh_region e m y number v h vk new em en =
     let can : CanJoinRegions (added e v) y (length e.variables) = record {
       first = HasUnset-added e v y kind.Region h;
@@ -110,13 +110,13 @@ sides_of ts c (x ∷ xs) h = (h.0.left_known, h.0.right_known, sides_of ts c xs 
 pub lawful_sides : (ts : List Tree) (e : Entries) → IsLawful ts e → KnowsAll (content_of ts e) (content_of ts e).constraints
 lawful_sides ts e h = sides_of ts (content_of ts e) e.constraints h.constraints
 
-pub added_in : (ts : List Tree) (e m : Entries) (v : Variable) → IsLawful ts e → IsNew v → m ≡ added e v → IsAdded (content_of ts e) (content_of ts m) (slot_of ts v)
+pub added_in : (ts : List Tree) (e m : Entries) (v : Variable) → IsLawful ts e → IsNew e v → m ≡ added e v → IsAdded (content_of ts e) (content_of ts m) (slot_of ts v)
 added_in ts e m v h new em =
     let is : content_of ts m ≡ with_slot (content_of ts e) (slot_of ts v) = ap (content_of ts) em ∙ content_of-added ts e v in
     rw is (slot_added (content_of ts e) (slot_of ts v) h.sound (lawful_sides ts e h) (ap (state_with ts) new.state))
 
 -- a fresh variable, made one with the old one
-pub fresh_value : (ts us : List Tree) (e m f : Entries) (x u b y number : ℕ) (t r : Tree) (v w : Variable) → IsLawful ts e → Knows (content_of ts e) t → x < length e.variables → v.universe ≡ u → IsOpen ts e t y → (y ≡ x → ⊥) → slice_get e.variables y ≡ Some w → v.kind ≡ w.kind → IsNew v → m ≡ added e v → number ≡ length e.variables → Joins ts m f y number → Extends ts us → r ≡ variable_tree w.kind number → Generalized (content_of ts e) (content_of us f) x u b t r
+pub fresh_value : (ts us : List Tree) (e m f : Entries) (x u b y number : ℕ) (t r : Tree) (v w : Variable) → IsLawful ts e → Knows (content_of ts e) t → x < length e.variables → v.universe ≡ u → IsOpen ts e t y → (y ≡ x → ⊥) → slice_get e.variables y ≡ Some w → v.kind ≡ w.kind → IsNew e v → m ≡ added e v → number ≡ length e.variables → Joins ts m f y number → Extends ts us → r ≡ variable_tree w.kind number → Generalized (content_of ts e) (content_of us f) x u b t r
 fresh_value ts us e m f x u b y number t r v w h knows within of_u o d at vk new em en j ext q =
     let k = o.bindable.of_kind in
     let same = kind_read e y k w o.bindable.free at in
@@ -188,12 +188,12 @@ pub record IsFresh (ts us : List Tree) (e m : Entries) (u : ℕ) (v : Variable) 
   pub region : IsRegionOf ts e t
   pub is : tree_at ts t ≡ node l (children (tree_at ts t))
   pub meets : Meets (shape l) (children (tree_at ts t))
-  pub new : IsNew v
+  pub new : IsNew e v
   pub of_kind : v.kind ≡ kind.Region
   pub of_universe : v.universe ≡ u
   pub added : m ≡ added e v
 
-pub is_fresh : (ts us : List Tree) (e m : Entries) (u : ℕ) (v : Variable) (t : NodeId) (l : Label) → IsLawful ts e → Extends ts us → IsRegionOf ts e t → tree_at ts t ≡ node l (children (tree_at ts t)) → Meets (shape l) (children (tree_at ts t)) → IsNew v → v.kind ≡ kind.Region → v.universe ≡ u → m ≡ added e v → IsFresh ts us e m u v t l
+pub is_fresh : (ts us : List Tree) (e m : Entries) (u : ℕ) (v : Variable) (t : NodeId) (l : Label) → IsLawful ts e → Extends ts us → IsRegionOf ts e t → tree_at ts t ≡ node l (children (tree_at ts t)) → Meets (shape l) (children (tree_at ts t)) → IsNew e v → v.kind ≡ kind.Region → v.universe ≡ u → m ≡ added e v → IsFresh ts us e m u v t l
 is_fresh ts us e m u v t l a b c d f g h i j =
     record { lawful = a; extends = b; region = c; is = d; meets = f; new = g; of_kind = h; of_universe = i; added = j }
 
@@ -229,7 +229,7 @@ RegionsRelate-turned {c} {d} {a} {b} h =
     }
 
 -- the constraint between the two
-pub region_constraint : (ts us : List Tree) (e m : Entries) (t r : NodeId) (v : Variable) → IsLawful ts e → Extends ts us → IsRegionOf ts e t → IsNew v → v.kind ≡ kind.Region → m ≡ added e v → IsIn us r → tree_at us r ≡ variable_tree kind.Region (length e.variables) → IsConstraint us (content_of us m) (record { relation = relation.Equal; left = r; right = t; is_visible = true })
+pub region_constraint : (ts us : List Tree) (e m : Entries) (t r : NodeId) (v : Variable) → IsLawful ts e → Extends ts us → IsRegionOf ts e t → IsNew e v → v.kind ≡ kind.Region → m ≡ added e v → IsIn us r → tree_at us r ≡ variable_tree kind.Region (length e.variables) → IsConstraint us (content_of us m) (record { relation = relation.Equal; left = r; right = t; is_visible = true })
 region_constraint ts us e m t r v h ext region new vk em within is =
     let later = IsLawful-extended ext h in
     let same = content_of-extended ext h in

@@ -21,6 +21,7 @@ use Rattle.nts_store.specs.declared.nodes.NodeId.{NodeId}
 use Rattle.nts_store.specs.Growth.{tree_at, IsIn, Extends}
 use Rattle.nts_store.proofs.Growing.{IsIn-extended, Extends-refl}
 use Rattle.nts_relating.specs.declared.relate.Pair.{Pair}
+use Rattle.std.specs.Prelude.{OnOk}
 use Rattle.nts_unify.specs.Entries.{Entries}
 use Rattle.nts_unify.specs.Reading.{content_of, IsLawful}
 use Rattle.nts_unify.specs.Changing.{unset_count, IsLater, Keeps, is_free_region}
@@ -538,3 +539,8 @@ pair_related {c} {d} {a} {b} s r =
       sound = λ w z. (let q = r.sound w z tt in (q.0, q.1.0));
       complete = λ w z q. (r.complete w z (q, tt)).0;
     }
+
+-- .. where relating succeeds, and what its end leaves are the entries that it came to
+pub if_related : {A E : Type 0} (ts us : List Tree) (e m f : Entries) (a b : Tree) (r : Result A E) → OnOk r (f ≡ m) → OnOk r (IsLawful us m) → OnOk r (Reduces (content_of ts e) (content_of us m) ((a, b) ∷ []) []) → OnOk r (AreRelated (content_of ts e) (content_of us f) a b)
+if_related ts us e m f a b (Ok v) same h k = rw same (pair_related h.sound k)
+if_related ts us e m f a b (Err x) same h k = tt

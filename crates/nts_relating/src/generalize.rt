@@ -2,19 +2,18 @@
 ghost use Rattle.std.specs.Prelude.{◌≡◌, ◌≢◌, ◌<◌, length, OnOk, IfOk, Some, None, Err, true, false};
 ghost use Rattle.nts_model.specs.declared.labels.VariableKind.TheVariants as kind;
 ghost use Rattle.nts_model.specs.Contents.{kind_at};
-ghost use Rattle.nts_model.specs.Resolving.{Knows, variable_tree};
+ghost use Rattle.nts_model.specs.Resolving.{Knows};
 ghost use Rattle.nts_model.specs.Trees.{IsBoundBelow};
 ghost use Rattle.nts_model.specs.Levels.{CanName, term_level, region_level};
 ghost use Rattle.nts_store.specs.Growth.{tree_at, IsIn, Extends};
 ghost use Rattle.nts_unify.specs.Reading.{content_of, IsLawful};
-ghost use Rattle.nts_unify.specs.Entries.{added};
 ghost use Rattle.nts_relating.specs.Relating.{Generalized, IsOpen, IsRegionOf, IsSettled};
 ghost use Rattle.nts_unify.specs.Entries.{KeepsHidden};
 
 use indexmap::IndexSet;
 use nts_model::{BoundVarIndexKind, Constant, FreeRegion, Label, Leaf, Relation, VariableKind};
 use nts_store::{EvalError, NodeId, Nodes, TypeFlags};
-use nts_unify::{Constraint, InferCtxtInner, State, Variable, join, join_regions, region_number};
+use nts_unify::{Constraint, InferCtxtInner, add_variable, join, join_regions, region_number};
 
 /// What a value is made for: a variable, the universe that bounds its leaves, and how many binders
 /// stand around the part that is walked.
@@ -85,42 +84,10 @@ pub fn name_variable(
         return Ok(nodes.make(Label::Leaf(Leaf::Variable(kind, y)), &[])?);
     }
     moved.insert(y)?;
-    let fresh = table.add(Variable {
-        kind,
-        universe: target.universe,
-        state: State::Unset,
-        sub_link: None,
-    })?;
-    join(table, y, fresh)?;
-    Ok(nodes.make(Label::Leaf(Leaf::Variable(kind, fresh)), &[])?)
-}
-
-/// A fresh region variable, as a term.
-fn fresh_region(
-    nodes: &mut Nodes,
-    table: &mut InferCtxtInner,
-    universe: u32,
-) -> Result<NodeId, EvalError>
-    requires lawful { IsLawful nodes.old table.old.entries }
-    ensures extends { Extends nodes.old nodes.new }
-    ensures changes { KeepsHidden table.old table.new }
-    ensures within { IfOk result (λ r. IsIn nodes.new r) }
-    ensures lawful { OnOk result (IsLawful nodes.new table.new.entries) }
-    ensures fresh { IfOk result (λ r. tree_at nodes.new r ≡ variable_tree kind.Region (length table.old.entries.variables)) }
-    ensures added { OnOk result (table.new.entries ≡ added table.old.entries (record { kind = kind.Region; universe = universe; state = State.Unset; sub_link = None })) }
-    ensures full { result ≢ Err EvalError.Full }
-    ensures no { result ≢ Err EvalError.NoSolution }
-{
-    let fresh = table.add(Variable {
-        kind: VariableKind::Region,
-        universe,
-        state: State::Unset,
-        sub_link: None,
-    })?;
-    Ok(nodes.make(
-        Label::Leaf(Leaf::Variable(VariableKind::Region, fresh)),
-        &[],
-    )?)
+    let number = table.variable_count();
+    let fresh = add_variable(nodes, table, kind, target.universe, None)?;
+    join(table, y, number)?;
+    Ok(fresh)
 }
 
 /// A term for a free region: itself, or its root where it is a variable, or a fresh variable where the
@@ -152,14 +119,14 @@ pub fn name_region(
         }
         moved.insert(root)?;
         let number = table.variable_count();
-        let fresh = fresh_region(nodes, table, target.universe)?;
+        let fresh = add_variable(nodes, table, VariableKind::Region, target.universe, None)?;
         join_regions(table, root, number)?;
         return Ok(fresh);
     }
     if !is_beyond(label, target.universe) {
         return Ok(t);
     }
-    let fresh = fresh_region(nodes, table, target.universe)?;
+    let fresh = add_variable(nodes, table, VariableKind::Region, target.universe, None)?;
     table.constrain(Constraint {
         relation: Relation::Equal,
         left: fresh,

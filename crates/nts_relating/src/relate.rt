@@ -46,14 +46,13 @@ fn head_of(nodes: &Nodes, table: &InferCtxtInner, t: NodeId) -> Head
     requires lawful { IsLawful nodes.now table.now.entries }
     ensures { IsHead nodes.now table.now.entries (tree_at nodes.now t) result }
 {
-    if let Some(n) = infer_number(nodes.label(t)) {
-        let root = table.root(n);
-        if let State::Known(value) = table.variable(root).state {
-            return head_of(nodes, table, value);
-        }
-        return Head::Open(root);
+    let Some(n) = infer_number(nodes.label(t)) else {
+        return Head::Closed(t);
+    };
+    match table.probe_variable(n) {
+        Ok(value) => head_of(nodes, table, value),
+        Err(root) => Head::Open(root),
     }
-    Head::Closed(t)
 }
 
 /// Makes two free regions equal: two variables are joined, and else it is recorded.
@@ -411,14 +410,6 @@ pub fn relate_nodes(
     pairs.push(Pair { left: a, right: b })?;
     let mut met = IndexSet::new(alloc);
     let snapshot = table.start_snapshot()?;
-    match run_all(alloc, nodes, table, &mut pairs, &mut met) {
-        Err(error) => {
-            table.rollback_to(snapshot);
-            Err(error)
-        }
-        Ok(()) => {
-            table.commit(snapshot);
-            Ok(())
-        }
-    }
+    let related = run_all(alloc, nodes, table, &mut pairs, &mut met);
+    table.commit_if_ok(snapshot, related)
 }

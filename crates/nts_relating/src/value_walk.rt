@@ -14,7 +14,7 @@ ghost use Rattle.nts_unify.specs.Entries.{KeepsHidden};
 use crate::generalize::{Target, is_allowed, is_settled, name_region, name_variable};
 use indexmap::IndexSet;
 use nts_store::{EvalError, NodeId, Nodes, binders_of};
-use nts_unify::{InferCtxtInner, State, infer_number, names_free_region};
+use nts_unify::{InferCtxtInner, infer_number, names_free_region};
 use std::alloc::Global;
 use std::collections::HashMap;
 
@@ -79,15 +79,16 @@ fn look_at(
 {
     let label = nodes.label(t);
     if let Some(n) = infer_number(label) {
-        let root = table.root(n);
-        if let State::Known(value) = table.variable(root).state {
-            return Ok(Look::Value(value));
+        match table.probe_variable(n) {
+            Ok(value) => return Ok(Look::Value(value)),
+            Err(root) => {
+                if root == target.variable {
+                    return Err(EvalError::NoSolution);
+                }
+                let made = name_variable(nodes, table, moved, target, t, root)?;
+                return Ok(Look::Made(made));
+            }
         }
-        if root == target.variable {
-            return Err(EvalError::NoSolution);
-        }
-        let made = name_variable(nodes, table, moved, target, t, root)?;
-        return Ok(Look::Made(made));
     }
     if is_settled(nodes.flags(t), target.binders) {
         return Ok(Look::Made(t));

@@ -1,48 +1,37 @@
 -- The value or the root of a variable, by the entries.
 use Rattle.std.proofs.Common.{◌≡◌, ℕ, List, Some, refl, ap, ◌∙◌}
-use Rattle.std.specs.Prelude.{slice_get}
 use Rattle.nts_model.specs.declared.labels.VariableKind.{VariableKind}
 use Rattle.nts_model.specs.Trees.{Tree, kind_of, of_sort, sort_of_variable, Place}
-use Rattle.nts_model.specs.Contents.{state_of, kind_at}
+use Rattle.nts_model.specs.Contents.{kind_at}
 use Rattle.nts_model.specs.Resolving.{variable_tree, root_of, resolved, Knows}
 use Rattle.nts_model.proofs.Roots.{kind_at-reaches}
 use Rattle.nts_model.proofs.Kept.{kind_of-resolved}
 use Rattle.nts_store.specs.declared.nodes.NodeId.{NodeId}
 use Rattle.nts_store.specs.Growth.{tree_at, IsIn}
 use Rattle.nts_terms.specs.Handles.{Holds}
-use Rattle.nts_unify.specs.declared.contents.State.{State}
-use Rattle.nts_unify.specs.declared.contents.State.TheVariants.{Unset, Link, Known}
-use Rattle.nts_unify.specs.declared.contents.Variable.{Variable}
+use Rattle.nts_unify.specs.declared.contents.State.TheVariants.{Unset, Known}
 use Rattle.nts_table.specs.Tables.{Table}
-use Rattle.nts_unify.specs.Reading.{state_with, content_of}
+use Rattle.nts_unify.specs.Reading.{content_of}
 use Rattle.nts_table.specs.Tables.{IsTable}
-use Rattle.nts_unify.specs.Roots.{IsRoot}
+use Rattle.nts_unify.specs.Roots.{IsRoot, HasClass}
 use Rattle.nts_table.specs.Classes.{shallow_variable}
-use Rattle.nts_unify.proofs.Leading.{state_of-entry, Reaches-leads, IsRoot-content}
+use Rattle.nts_unify.proofs.Leading.{state_of-class, Reaches-leads, IsRoot-content}
 
-module _ (ts : List Tree) (t : Table) (k : VariableKind) (n r : ℕ) (v : Variable) (table : IsTable ts t) (root : IsRoot t.entries n r) (at : slice_get t.entries.variables r ≡ Some v) where
-  root_is : root_of (content_of ts t.entries) n ≡ r
-  root_is = IsRoot-content ts t.entries n r table.now.sound.descends root
+module _ (ts : List Tree) (t : Table) (k : VariableKind) (n r : ℕ) (table : IsTable ts t) where
+  root_is : IsRoot t.entries n r → root_of (content_of ts t.entries) n ≡ r
+  root_is root = IsRoot-content ts t.entries n r table.now.sound.descends root
 
-  state_is : (s : State) → v.state ≡ s → state_of (content_of ts t.entries) r ≡ Some (state_with ts s)
-  state_is s e = state_of-entry ts t.entries r v at ∙ ap (λ x. Some (state_with ts x)) e
+  pub shallow_known : (x : NodeId) → HasClass t.entries n r (Known x) → tree_at ts x ≡ shallow_variable (content_of ts t.entries) k n
+  shallow_known x class = rw (root_is class.root, state_of-class ts t.entries n r (Known x) class) refl
 
-  pub shallow_known : (x : NodeId) → v.state ≡ Known x → tree_at ts x ≡ shallow_variable (content_of ts t.entries) k n
-  shallow_known x e = rw (root_is, state_is (Known x) e) refl
-
-  pub shallow_known_kind : (x : NodeId) → v.state ≡ Known x → kind_at (content_of ts t.entries) n ≡ Some k → kind_of (tree_at ts x) ≡ Some (of_sort (sort_of_variable k))
-  shallow_known_kind x e has =
+  pub shallow_known_kind : (x : NodeId) → HasClass t.entries n r (Known x) → kind_at (content_of ts t.entries) n ≡ Some k → kind_of (tree_at ts x) ≡ Some (of_sort (sort_of_variable k))
+  shallow_known_kind x class has =
       let c = content_of ts t.entries in
-      let there : kind_at c r ≡ Some k = kind_at-reaches c n r table.now.sound (Reaches-leads ts t.entries n r root.leads) ∙ has in
-      (table.now.sound.fits r (tree_at ts x) k (state_is (Known x) e) there).0
+      let there : kind_at c r ≡ Some k = kind_at-reaches c n r table.now.sound (Reaches-leads ts t.entries n r class.root.leads) ∙ has in
+      (table.now.sound.fits r (tree_at ts x) k (state_of-class ts t.entries n r (Known x) class) there).0
 
-  pub shallow_unset : ((x : NodeId) → v.state ≡ Known x → ⊥) → variable_tree k r ≡ shallow_variable (content_of ts t.entries) k n
-  shallow_unset unvalued = by_state v.state refl
-    where
-      by_state : (s : State) → v.state ≡ s → variable_tree k r ≡ shallow_variable (content_of ts t.entries) k n
-      by_state Unset e = rw (root_is, state_is Unset e) refl
-      by_state (Link m) e = let z = root.ends v at in absurd (rw e at z)
-      by_state (Known x) e = absurd (unvalued x e)
+  pub shallow_unset : HasClass t.entries n r Unset → variable_tree k r ≡ shallow_variable (content_of ts t.entries) k n
+  shallow_unset class = rw (root_is class.root, state_of-class ts t.entries n r Unset class) refl
 
 -- a handle of the tree under the values
 pub Holds-resolved : (p : Place) (a b : List Tree) (t : Table) (x y : NodeId) → IsTable a t → Knows (content_of a t.entries) (tree_at a x) → Holds p a x → IsIn b y → tree_at b y ≡ resolved (content_of a t.entries) (tree_at a x) → Holds p b y

@@ -1,6 +1,5 @@
 -- Variables that are looked up: their values, and those of values that are variables.
 use Rattle.std.proofs.Common.{◌≡◌, ◌≢◌, ℕ, ◌<◌, List, Option, Some, None, refl, sym, ap, subst, ◌∙◌, arith}
-use Rattle.std.specs.Prelude.{slice_get}
 use Rattle.nts_model.specs.declared.labels.VariableKind.{VariableKind}
 use Rattle.nts_model.specs.declared.labels.VariableKind.TheVariants as kind
 use Rattle.nts_model.specs.declared.labels.Leaf.TheVariants as leaf
@@ -13,14 +12,13 @@ use Rattle.nts_model.proofs.Roots.{kind_at-reaches, kind_at-root_of, root_of-roo
 use Rattle.nts_store.specs.declared.nodes.NodeId.{NodeId}
 use Rattle.nts_store.specs.Growth.{tree_at}
 use Rattle.nts_unify.specs.declared.contents.State.{State}
-use Rattle.nts_unify.specs.declared.contents.State.TheVariants.{Unset, Link, Known}
-use Rattle.nts_unify.specs.declared.contents.Variable.{Variable}
+use Rattle.nts_unify.specs.declared.contents.State.TheVariants.{Unset, Known}
 use Rattle.nts_table.specs.Tables.{Table}
 use Rattle.nts_unify.specs.Reading.{state_with, content_of}
 use Rattle.nts_table.specs.Tables.{IsTable}
-use Rattle.nts_unify.specs.Roots.{IsRoot}
+use Rattle.nts_unify.specs.Roots.{HasClass}
 use Rattle.nts_table.specs.Classes.{value_or_root, shallow_variable, looked_up, shallowly_resolved}
-use Rattle.nts_unify.proofs.Leading.{state_of-entry, Reaches-leads, IsRoot-content}
+use Rattle.nts_unify.proofs.Leading.{state_of-class, Reaches-leads, IsRoot-content}
 use Rattle.nts_relating.proofs.HeadLemmas.{kind_of-variable}
 use Rattle.nts_relating.proofs.Ranks.{some_kind}
 use Rattle.nts_table.proofs.Walking.{no_region_sort}
@@ -97,7 +95,7 @@ not_variable c t l is e =
     let first : looked_up c t ≡ t = ap (looked_up c) is ∙ looked_up-none c l (children t) e ∙ sym is in
     sym (ap (looked_up c) first ∙ first)
 
-module _ (ts : List Tree) (t : Table) (u : Tree) (l : Label) (k : VariableKind) (n r : ℕ) (v : Variable) (table : IsTable ts t) (knows : Knows (content_of ts t.entries) u) (is : u ≡ node l (children u)) (names : l ≡ label.Leaf (leaf.Variable k n)) (root : IsRoot t.entries n r) (at : slice_get t.entries.variables r ≡ Some v) where
+module _ (ts : List Tree) (t : Table) (u : Tree) (l : Label) (k : VariableKind) (n r : ℕ) (s : State) (table : IsTable ts t) (knows : Knows (content_of ts t.entries) u) (is : u ≡ node l (children u)) (names : l ≡ label.Leaf (leaf.Variable k n)) (class : HasClass t.entries n r s) where
   abbrev c : Content
   c = content_of ts t.entries
 
@@ -105,16 +103,16 @@ module _ (ts : List Tree) (t : Table) (u : Tree) (l : Label) (k : VariableKind) 
   variable = ap variable_of names
 
   root_is : root_of c n ≡ r
-  root_is = IsRoot-content ts t.entries n r table.now.sound.descends root
+  root_is = IsRoot-content ts t.entries n r table.now.sound.descends class.root
 
   has : kind_at c n ≡ Some k
   has = (let h : Knows c (node l (children u)) = subst (λ (y : Tree). Knows c y) is knows in let e = variable in rw e at h.0)
 
   there : kind_at c r ≡ Some k
-  there = kind_at-reaches c n r table.now.sound (Reaches-leads ts t.entries n r root.leads) ∙ has
+  there = kind_at-reaches c n r table.now.sound (Reaches-leads ts t.entries n r class.root.leads) ∙ has
 
-  state_is : (s : State) → v.state ≡ s → state_of c r ≡ Some (state_with ts s)
-  state_is s e = state_of-entry ts t.entries r v at ∙ ap (λ x. Some (state_with ts x)) e
+  state_is : (z : State) → s ≡ z → state_of c r ≡ Some (state_with ts z)
+  state_is z e = state_of-class ts t.entries n r s class ∙ ap (λ x. Some (state_with ts x)) e
 
   own_sort : kind_of u ≡ Some (of_sort (sort_of_variable k))
   own_sort = ap kind_of is ∙ ap Some (kind_of-variable l k n variable)
@@ -122,18 +120,18 @@ module _ (ts : List Tree) (t : Table) (u : Tree) (l : Label) (k : VariableKind) 
   own_rank : variable_rank u ≡ rank_of_kind k
   own_rank = ap variable_rank is ∙ ap rank_of variable
 
-  pub look_known : (x : NodeId) → v.state ≡ Known x → Looked c u (tree_at ts x)
+  pub look_known : (x : NodeId) → s ≡ Known x → Looked c u (tree_at ts x)
   look_known x e =
-      let s = table.now.sound in
+      let sound = table.now.sound in
       let state : state_of c r ≡ Some (known (tree_at ts x)) = state_is (Known x) e in
       let first : looked_up c u ≡ tree_at ts x = ap (looked_up c) is ∙ looked_up-variable c l (children u) k n variable ∙ shallow_at_root c k n (Some (known (tree_at ts x))) (ap (state_of c) root_is ∙ state) in
-      let lower = s.ranks r (tree_at ts x) k state there in
-      let known_tree = s.known_trees r (tree_at ts x) state in
+      let lower = sound.ranks r (tree_at ts x) k state there in
+      let known_tree = sound.known_trees r (tree_at ts x) state in
       record {
         knows = known_tree;
         lower = omega (arith, lower, own_rank);
-        sort = (s.fits r (tree_at ts x) k state there).0 ∙ sym own_sort;
-        image = looked_up-twice c (tree_at ts x) s known_tree (below_two k lower) ∙ sym (ap (looked_up c) first);
+        sort = (sound.fits r (tree_at ts x) k state there).0 ∙ sym own_sort;
+        image = looked_up-twice c (tree_at ts x) sound known_tree (below_two k lower) ∙ sym (ap (looked_up c) first);
       }
     where
       below_two : (j : VariableKind) {m : ℕ} → m < rank_of_kind j → m < 2
@@ -143,20 +141,13 @@ module _ (ts : List Tree) (t : Table) (u : Tree) (l : Label) (k : VariableKind) 
       below_two kind.Const h = omega (arith, h)
       below_two kind.Region h = omega (arith, h)
 
-  pub look_unset : ((x : NodeId) → v.state ≡ Known x → ⊥) → variable_tree k r ≡ shallowly_resolved c u
-  look_unset unvalued = by_state v.state refl
-    where
-      at_root : (o : SlotState) → state_of c r ≡ Some o → value_or_root k r (Some o) ≡ variable_tree k r → variable_tree k r ≡ shallowly_resolved c u
-      at_root o e q =
-          let first : looked_up c u ≡ variable_tree k r = ap (looked_up c) is ∙ looked_up-variable c l (children u) k n variable ∙ shallow_at_root c k n (Some o) (ap (state_of c) root_is ∙ e) ∙ ap (λ m. value_or_root k m (Some o)) root_is ∙ q in
-          let again : root_of c r ≡ r = ap (root_of c) (sym root_is) ∙ root_of-root_of c n table.now.sound.descends ∙ root_is in
-          let second : looked_up c (variable_tree k r) ≡ variable_tree k r = looked_up-variable c (label.Leaf (leaf.Variable k r)) empty k r refl ∙ shallow_at_root c k r (Some o) (ap (state_of c) again ∙ e) ∙ ap (λ m. value_or_root k m (Some o)) again ∙ q in
-          sym (ap (looked_up c) first ∙ second)
-
-      by_state : (s : State) → v.state ≡ s → variable_tree k r ≡ shallowly_resolved c u
-      by_state Unset e = at_root unset (state_is Unset e) refl
-      by_state (Link m) e = let z = root.ends v at in absurd (rw e at z)
-      by_state (Known x) e = absurd (unvalued x e)
+  pub look_unset : s ≡ Unset → variable_tree k r ≡ shallowly_resolved c u
+  look_unset e =
+      let state : state_of c r ≡ Some unset = state_is Unset e in
+      let first : looked_up c u ≡ variable_tree k r = ap (looked_up c) is ∙ looked_up-variable c l (children u) k n variable ∙ shallow_at_root c k n (Some unset) (ap (state_of c) root_is ∙ state) ∙ ap (variable_tree k) root_is in
+      let again : root_of c r ≡ r = ap (root_of c) (sym root_is) ∙ root_of-root_of c n table.now.sound.descends ∙ root_is in
+      let second : looked_up c (variable_tree k r) ≡ variable_tree k r = looked_up-variable c (label.Leaf (leaf.Variable k r)) empty k r refl ∙ shallow_at_root c k r (Some unset) (ap (state_of c) again ∙ state) ∙ ap (variable_tree k) again in
+      sym (ap (looked_up c) first ∙ second)
 
   pub sort_kept : kind_of (variable_tree k r) ≡ kind_of u
   sort_kept = sym own_sort

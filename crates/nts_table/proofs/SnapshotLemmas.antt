@@ -1,33 +1,31 @@
 -- A table whose snapshots are opened and closed goes with its store.
-use Rattle.std.proofs.Common.{◌≡◌, List, [], ◌∷◌, ◌++◌, sym, ◌∙◌}
+use Rattle.std.specs.Prelude.{Result, Ok, Err, OnOk, OnErr}
+use Rattle.std.proofs.Common.{◌≡◌, ℕ, zero, suc, ◌-◌, length, take, List, [], ◌∷◌, ◌++◌}
 use Rattle.nts_model.specs.Trees.{Tree}
-use Rattle.nts_store.specs.Growth.{Extends}
-use Rattle.nts_unify.specs.Entries.{Entries}
+use Rattle.nts_unify.specs.Entries.{Entries, Inner, front}
 use Rattle.nts_table.specs.Tables.{Table}
 use Rattle.nts_unify.specs.Reading.{IsLawful, AllLawful}
 use Rattle.nts_table.specs.Tables.{IsTable}
-use Rattle.nts_table.specs.TableLaws.{IsTable-extended}
-use Rattle.nts_unify.proofs.SavedLemmas.{push_inj}
+use Rattle.nts_table.specs.TableLaws.{IsTable-opened}
+use Rattle.nts_terms.specs.declared.modes.TypingMode.{TypingMode}
 
-AllLawful-push : (ts : List Tree) (cs : List Entries) (c : Entries) → AllLawful ts cs → IsLawful ts c → AllLawful ts (cs ++ c ∷ [])
-AllLawful-push ts [] c h k = (k, tt)
-AllLawful-push ts (d ∷ cs) c h k = (h.0, AllLawful-push ts cs c h.1 k)
+AllLawful-take : (ts : List Tree) (n : ℕ) (cs : List Entries) → AllLawful ts cs → AllLawful ts (take n cs)
+AllLawful-take ts zero cs h = tt
+AllLawful-take ts (suc n) [] h = tt
+AllLawful-take ts (suc n) (c ∷ cs) h = (h.0, AllLawful-take ts n cs h.1)
 
-AllLawful-front : (ts : List Tree) (cs : List Entries) (c : Entries) → AllLawful ts (cs ++ c ∷ []) → AllLawful ts cs
-AllLawful-front ts [] c h = tt
-AllLawful-front ts (d ∷ cs) c h = (h.0, AllLawful-front ts cs c h.1)
+AllLawful-ends : (ts : List Tree) (cs : List Entries) (c : Entries) → AllLawful ts (cs ++ c ∷ []) → AllLawful ts cs × IsLawful ts c
+AllLawful-ends ts [] c h = (tt, h.0)
+AllLawful-ends ts (d ∷ cs) c h = let k = AllLawful-ends ts cs c h.1 in ((h.0, k.0), k.1)
 
-pub IsTable-started : {ts : List Tree} {t u : Table} → IsTable ts t → u.entries ≡ t.entries → u.saved ≡ t.saved ++ t.entries ∷ [] → IsTable ts u
-IsTable-started {ts} {t} {u} h e s =
-    record { now = rw e h.now; saved = rw s (AllLawful-push ts t.saved t.entries h.saved h.now) }
+-- a snapshot was opened
+pub IsTable-started : {T E : Type 0} (ts : List Tree) (i j : Inner) (m : TypingMode) (r : Result T E) → j.entries ≡ i.entries → OnOk r (j.saved ≡ i.saved ++ i.entries ∷ []) → OnErr r (j ≡ i) → IsTable ts (record { entries = i.entries; saved = i.saved; mode = m }) → IsTable ts (record { entries = j.entries; saved = j.saved; mode = m })
+IsTable-started ts i j m (Ok v) e s k h = IsTable-opened h e s
+IsTable-started ts i j m (Err x) e s k h = rw k h
 
-pub IsTable-committed : {ts : List Tree} {t u : Table} (c : Entries) → IsTable ts t → u.entries ≡ t.entries → t.saved ≡ u.saved ++ c ∷ [] → IsTable ts u
-IsTable-committed {ts} {t} {u} c h e s =
-    record { now = rw e h.now; saved = AllLawful-front ts u.saved c (rw s at h.saved) }
-
--- rolled back to where it was
-pub IsTable-rolled_back : {a b : List Tree} {t u : Table} (saved : List Entries) → IsTable a t → Extends a b → saved ≡ t.saved ++ t.entries ∷ [] → saved ≡ u.saved ++ u.entries ∷ [] → IsTable b u
-IsTable-rolled_back {a} {b} {t} {u} saved h e p q =
-    let i = push_inj u.saved t.saved u.entries t.entries (sym q ∙ p) in
-    let k : IsTable b t = IsTable-extended e h in
-    record { now = rw i.1 k.now; saved = rw i.0 k.saved }
+-- an attempt has ended
+pub IsTable-ended : {T E : Type 0} (ts : List Tree) (t u : Table) (r : Result T E) → OnOk r (u.entries ≡ t.entries) → OnErr r (t.saved ≡ u.saved ++ u.entries ∷ []) → u.saved ≡ front t.saved → IsTable ts t → IsTable ts u
+IsTable-ended ts t u (Ok v) same back front_is h =
+    record { now = rw same h.now; saved = rw front_is (AllLawful-take ts (length t.saved - 1) t.saved h.saved) }
+IsTable-ended ts t u (Err e) same back front_is h =
+    let k = AllLawful-ends ts u.saved u.entries (rw back at h.saved) in record { now = k.1; saved = k.0 }

@@ -1,6 +1,5 @@
 -- What the steps of a walk that resolves a term make of it.
-use Rattle.std.proofs.Common.{◌≡◌, ◌≢◌, Bool, true, false, ℕ, zero, suc, List, [], ◌∷◌, Some, None, refl, sym, ap, subst, ◌<◌, ◌∙◌}
-use Rattle.std.specs.Prelude.{slice_get}
+use Rattle.std.proofs.Common.{◌≡◌, ◌≢◌, Bool, true, false, ℕ, List, Some, None, refl, sym, ap, subst, ◌<◌, ◌∙◌}
 use Rattle.nts_model.specs.declared.labels.Sort.TheVariants as sort
 use Rattle.nts_model.specs.declared.labels.VariableKind.{VariableKind}
 use Rattle.nts_model.specs.declared.labels.VariableKind.TheVariants as kind
@@ -19,14 +18,14 @@ use Rattle.nts_store.specs.Replacement.{GoesDown, IsStep}
 use Rattle.nts_store.specs.declared.replacement.Step.{Step}
 use Rattle.nts_store.specs.declared.replacement.Step.TheVariants as step
 use Rattle.nts_unify.specs.declared.contents.State.{State}
-use Rattle.nts_unify.specs.declared.contents.State.TheVariants.{Unset, Link, Known}
-use Rattle.nts_unify.specs.declared.contents.Variable.{Variable}
+use Rattle.nts_unify.specs.declared.contents.State.TheVariants.{Unset, Known}
 use Rattle.nts_table.specs.Tables.{Table}
-use Rattle.nts_unify.specs.Reading.{state_with, content_of, IsHeldState, AreHeld}
+use Rattle.nts_unify.specs.Reading.{state_with, content_of}
 use Rattle.nts_table.specs.Tables.{IsTable}
-use Rattle.nts_unify.specs.Roots.{IsRoot}
+use Rattle.nts_unify.specs.Roots.{HasClass}
 use Rattle.nts_table.specs.Resolution.{resolved_to, Resolution, resolution, resolution_of, CanResolve, IsResolved}
-use Rattle.nts_unify.proofs.Leading.{state_of-entry, Reaches-leads}
+use Rattle.nts_unify.proofs.Leading.{state_of-class, Reaches-leads}
+use Rattle.nts_unify.proofs.Changes.{AreHeld-at}
 use Rattle.nts_relating.proofs.HeadLemmas.{variable_node}
 use Rattle.nts_relating.proofs.Ranks.{some_kind}
 
@@ -67,17 +66,13 @@ region_root c true n h =
     deeply_resolved-node c l empty refl ∙ ap (node (label.Leaf (leaf.Variable kind.Region (root_of c n)))) (deeply_resolved-empty c)
 region_root c false n h = cc
 
--- the values of variables are of the store
-IsHeld-at : (ts : List Tree) (vs : List Variable) (n : ℕ) (v : Variable) → AreHeld ts vs → slice_get vs n ≡ Some v → IsHeldState ts v.state
-IsHeld-at ts [] n v h e = cc
-IsHeld-at ts (w ∷ vs) zero v h e = let same : w ≡ v = cc in rw (← same) h.0
-IsHeld-at ts (w ∷ vs) (suc n) v h e = IsHeld-at ts vs n v h.1 e
-
-pub value_in : (ts : List Tree) (t : Table) (r : ℕ) (v : Variable) (x : NodeId) → IsTable ts t → slice_get t.entries.variables r ≡ Some v → v.state ≡ Known x → IsIn ts x
-value_in ts t r v x h at is = let held = IsHeld-at ts t.entries.variables r v h.now.held at in rw is at held
+-- the value of a class is of the store
+pub value_in : (ts : List Tree) (t : Table) (n r : ℕ) (x : NodeId) → IsTable ts t → HasClass t.entries n r (Known x) → IsIn ts x
+value_in ts t n r x h class =
+    let held = AreHeld-at ts t.entries.variables r class.variable h.now.held class.at in rw class.state at held
 
 -- what the table has of a variable that is no region, and of its root
-pub record HasRoot (c : Content) (k : VariableKind) (n r : ℕ) : Type 0 where
+pub record LeadsToRoot (c : Content) (k : VariableKind) (n r : ℕ) : Type 0 where
   pub sound : IsSound c
   pub has : kind_at c n ≡ Some k
   pub no_region : k ≢ kind.Region
@@ -87,11 +82,11 @@ resolved_to-same : (regions : Bool) (c : Content) (t u : Tree) → resolved c t 
 resolved_to-same true c t u e = ap (rooted c) e
 resolved_to-same false c t u e = e
 
-pub variable_value : (c : Content) (k : VariableKind) (n r : ℕ) (v : Tree) → HasRoot c k n r → state_of c r ≡ Some (known v) → resolved c (variable_tree k n) ≡ resolved c v
+pub variable_value : (c : Content) (k : VariableKind) (n r : ℕ) (v : Tree) → LeadsToRoot c k n r → state_of c r ≡ Some (known v) → resolved c (variable_tree k n) ≡ resolved c v
 variable_value c k n r v h e =
     resolved-reaches_known c (label.Leaf (leaf.Variable k n)) empty k n r v h.sound (record { is = refl; no_region = h.no_region; has = h.has }) h.reaches e
 
-pub variable_root : (c : Content) (k : VariableKind) (n r : ℕ) → HasRoot c k n r → state_of c r ≡ Some unset → resolved c (variable_tree k n) ≡ variable_tree k r
+pub variable_root : (c : Content) (k : VariableKind) (n r : ℕ) → LeadsToRoot c k n r → state_of c r ≡ Some unset → resolved c (variable_tree k n) ≡ variable_tree k r
 variable_root c k n r h e =
     let is : IsVariable c (label.Leaf (leaf.Variable k n)) k n = record { is = refl; no_region = h.no_region; has = h.has } in
     let there = IsVariable-reaches c (label.Leaf (leaf.Variable k n)) k n r h.sound is h.reaches in
@@ -123,21 +118,24 @@ IsStep-image covers image ts t v (step.Down n) e h = (h.0, down (tree_at ts n) h
     down (node l c) g = (e ∙ g.0, g.1)
 
 -- what stands at the root of a variable's class, by the entries
-module _ (ts : List Tree) (t : Table) (k : VariableKind) (n r : ℕ) (v : Variable) (table : IsTable ts t) (has : kind_at (content_of ts t.entries) n ≡ Some k) (no_region : k ≢ kind.Region) (root : IsRoot t.entries n r) (at : slice_get t.entries.variables r ≡ Some v) where
+module _ (ts : List Tree) (t : Table) (k : VariableKind) (n r : ℕ) (s : State) (table : IsTable ts t) (has : kind_at (content_of ts t.entries) n ≡ Some k) (no_region : k ≢ kind.Region) (class : HasClass t.entries n r s) where
   abbrev content : Content
   content = content_of ts t.entries
 
-  pub has_root : HasRoot content k n r
+  pub has_root : LeadsToRoot content k n r
   has_root =
-      record { sound = table.now.sound; has = has; no_region = no_region; reaches = Reaches-leads ts t.entries n r root.leads }
+      record { sound = table.now.sound; has = has; no_region = no_region; reaches = Reaches-leads ts t.entries n r class.root.leads }
 
   root_kind : kind_at content r ≡ Some k
   root_kind =
       (IsVariable-reaches content (label.Leaf (leaf.Variable k n)) k n r table.now.sound (record { is = refl; no_region = no_region; has = has }) has_root.reaches).has
 
-  module _ (x : NodeId) (is : v.state ≡ Known x) where
+  state_is : state_of content r ≡ Some (state_with ts s)
+  state_is = state_of-class ts t.entries n r s class
+
+  module _ (x : NodeId) (is : s ≡ Known x) where
     pub known_at : state_of content r ≡ Some (known (tree_at ts x))
-    known_at = state_of-entry ts t.entries r v at ∙ ap (λ s. Some (state_with ts s)) is
+    known_at = state_is ∙ ap (λ y. Some (state_with ts y)) is
 
     pub value_image : (regions : Bool) → resolution_of (resolution ts t regions) (variable_tree k n) ≡ resolution_of (resolution ts t regions) (tree_at ts x)
     value_image regions =
@@ -145,29 +143,30 @@ module _ (ts : List Tree) (t : Table) (k : VariableKind) (n r : ℕ) (v : Variab
 
     pub value_goes_down : (regions : Bool) (l : Label) → tree_at ts x ≡ node l (children (tree_at ts x)) → variable_of l ≡ None → GoesDown (CanResolve (resolution ts t regions)) (resolution_of (resolution ts t regions)) (variable_tree k n) (tree_at ts x)
     value_goes_down regions l node_is none =
-        let s = table.now.sound in
-        goes_down (resolution ts t regions) (variable_tree k n) (tree_at ts x) l (children (tree_at ts x)) node_is none (record { sound = s; knows = s.known_trees r (tree_at ts x) known_at }) (value_image regions)
+        let sound = table.now.sound in
+        goes_down (resolution ts t regions) (variable_tree k n) (tree_at ts x) l (children (tree_at ts x)) node_is none (record { sound = sound; knows = sound.known_trees r (tree_at ts x) known_at }) (value_image regions)
 
     -- the value is a variable
     pub value_variable : (l : Label) (j : VariableKind) (m : ℕ) → tree_at ts x ≡ node l (children (tree_at ts x)) → Meets (shape l) (children (tree_at ts x)) → l ≡ label.Leaf (leaf.Variable j m) → ValueVariable content k j m (tree_at ts x)
     value_variable l j m node_is formed names =
-        let s = table.now.sound in
+        let sound = table.now.sound in
         let v : tree_at ts x ≡ variable_tree j m = variable_node (tree_at ts x) l j m node_is formed (ap variable_of names) in
-        let knows : Knows content (variable_tree j m) = subst (λ (y : Tree). Knows content y) v (s.known_trees r (tree_at ts x) known_at) in
-        let sort : Some (of_sort (sort_of_variable j)) ≡ Some (of_sort (sort_of_variable k)) = ap kind_of (sym v) ∙ (s.fits r (tree_at ts x) k known_at root_kind).0 in
+        let knows : Knows content (variable_tree j m) = subst (λ (y : Tree). Knows content y) v (sound.known_trees r (tree_at ts x) known_at) in
+        let sort : Some (of_sort (sort_of_variable j)) ≡ Some (of_sort (sort_of_variable k)) = ap kind_of (sym v) ∙ (sound.fits r (tree_at ts x) k known_at root_kind).0 in
         record {
           has = knows.0;
           is = v;
           no_region = λ e. no_region_sort k no_region (some_kind _ _ (sym sort ∙ ap (λ i. Some (of_sort (sort_of_variable i))) e));
-          lower = subst (λ (y : Tree). variable_rank y < rank_of_kind k) v (s.ranks r (tree_at ts x) k known_at root_kind);
+          lower = subst (λ (y : Tree). variable_rank y < rank_of_kind k) v (sound.ranks r (tree_at ts x) k known_at root_kind);
         }
 
     -- a step for the value is one for the variable
     pub value_step : (regions : Bool) (us : List Tree) (h : Step) → IsStep (CanResolve (resolution ts t regions)) (resolution_of (resolution ts t regions)) us (tree_at ts x) h → IsStep (CanResolve (resolution ts t regions)) (resolution_of (resolution ts t regions)) us (variable_tree k n) h
     value_step regions us h i = IsStep-image (CanResolve (resolution ts t regions)) (resolution_of (resolution ts t regions)) us (variable_tree k n) (tree_at ts x) h (value_image regions) i
 
-  pub root_image : (regions : Bool) → ((x : NodeId) → v.state ≡ Known x → ⊥) → variable_tree k r ≡ resolution_of (resolution ts t regions) (variable_tree k n)
-  root_image regions unvalued = by_state v.state refl
+  pub root_image : (regions : Bool) → s ≡ Unset → variable_tree k r ≡ resolution_of (resolution ts t regions) (variable_tree k n)
+  root_image regions is =
+      sym (stays regions (variable_root content k n r has_root (state_is ∙ ap (λ y. Some (state_with ts y)) is)))
     where
       stays : (b : Bool) → resolved content (variable_tree k n) ≡ variable_tree k r → resolved_to b content (variable_tree k n) ≡ variable_tree k r
       stays true e = ap (rooted content) e ∙ same_node k no_region
@@ -179,8 +178,3 @@ module _ (ts : List Tree) (t : Table) (k : VariableKind) (n r : ℕ) (v : Variab
           same_node kind.Const d = refl
           same_node kind.Region d = absurd (d refl)
       stays false e = e
-
-      by_state : (s : State) → v.state ≡ s → variable_tree k r ≡ resolution_of (resolution ts t regions) (variable_tree k n)
-      by_state Unset e = sym (stays regions (variable_root content k n r has_root (state_of-entry ts t.entries r v at ∙ ap (λ s. Some (state_with ts s)) e)))
-      by_state (Link m) e = let z = root.ends v at in absurd (rw e at z)
-      by_state (Known x) e = absurd (unvalued x e)

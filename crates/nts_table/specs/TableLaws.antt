@@ -2,34 +2,23 @@
 use Rattle.std.proofs.Common.{◌≡◌, ℕ, List, [], ◌∷◌, ◌++◌, refl}
 use Rattle.nts_model.specs.Trees.{Tree}
 use Rattle.nts_store.specs.Growth.{Extends}
-use Rattle.nts_unify.specs.declared.contents.Variable.{Variable}
 use Rattle.nts_unify.specs.declared.contents.Constraint.{Constraint}
 use Rattle.nts_unify.specs.declared.contents.HiddenType.{HiddenType}
-use Rattle.nts_unify.specs.Entries.{Entries, added, moved, constrained, registered, with_hidden}
+use Rattle.nts_unify.specs.Entries.{Entries, moved, constrained, registered, with_hidden}
 use Rattle.nts_table.specs.Tables.{Table, IsTable}
 use Rattle.nts_unify.specs.Proper.{IsProper-empty}
 use Rattle.nts_unify.specs.Reading.{content_of, IsConstraint, IsHiddenType, IsLawful}
-use Rattle.nts_unify.specs.Lawful.{IsNew, IsLawful-extended, IsLawful-added, IsLawful-moved, IsLawful-constrained, AllLawful-extended, AllLawful-append, AreHiddenTypes-push, AreHiddenTypes-set}
+use Rattle.nts_unify.specs.Lawful.{IsLawful-extended, IsLawful-moved, IsLawful-constrained, AllLawful-extended, AllLawful-append, AreHiddenTypes-push, AreHiddenTypes-set}
 
 pub IsTable-extended : {a b : List Tree} {t : Table} → Extends a b → IsTable a t → IsTable b t
 IsTable-extended {a} {b} {t} e h =
     record { now = IsLawful-extended e h.now; saved = AllLawful-extended a b t.saved e h.saved }
-
--- the table after a new variable, in a store that has grown
-pub IsTable-added : {a b : List Tree} {t u : Table} {v : Variable} → IsTable a t → Extends a b → IsNew v → u.entries ≡ added t.entries v → u.saved ≡ t.saved → IsTable b u
-IsTable-added {a} {b} {t} {u} {v} h e w q s =
-    record {
-      now = rw q (IsLawful-added b t.entries v (IsLawful-extended e h.now) w);
-      saved = rw s (AllLawful-extended a b t.saved e h.saved);
-    }
 
 pub IsTable-moved : {a : List Tree} {t w : Table} {u : ℕ} → IsTable a t → w.entries ≡ moved t.entries u → w.saved ≡ t.saved → IsTable a w
 IsTable-moved {a} {t} {w} {u} h q s = record { now = rw q (IsLawful-moved a t.entries u h.now); saved = rw s h.saved }
 
 pub IsTable-same : {a b : List Tree} {t u : Table} → IsTable a t → Extends a b → u ≡ t → IsTable b u
 IsTable-same {a} {b} {t} {u} h e q = rw q (IsTable-extended e h)
-
-pub ruleset tables = (IsTable-added, IsTable-same, IsTable-moved)
 
 -- the table with one more snapshot
 pub IsTable-opened : {a : List Tree} {t u : Table} → IsTable a t → u.entries ≡ t.entries → u.saved ≡ t.saved ++ t.entries ∷ [] → IsTable a u

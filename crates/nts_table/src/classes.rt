@@ -9,7 +9,6 @@ ghost use Rattle.nts_table.specs.Frames.{ChangesVariables};
 
 use crate::infer_ctxt::InferCtxt;
 use nts_store::Fault;
-use nts_unify::State;
 
 impl InferCtxt {
     /// The universe of the root of a type variable, or nothing where the variable has a value.
@@ -18,11 +17,9 @@ impl InferCtxt {
         requires descends { LinksDescend self.now.entries }
         ensures { HasOpenUniverse self.now.entries vid result }
     {
-        let root = self.root(vid);
-        let variable = self.variable(root);
-        match variable.state {
-            State::Known(_) => None,
-            _ => Some(variable.universe),
+        match self.probe_variable(vid) {
+            Ok(_) => None,
+            Err(root) => Some(self.variable(root).universe),
         }
     }
 

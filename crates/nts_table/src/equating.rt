@@ -77,16 +77,9 @@ impl InferCtxt {
             return Ok(());
         }
         let snapshot = self.start_snapshot()?;
-        match self.link_regions(x_root, y_root) {
-            Ok(()) => {
-                self.commit(snapshot);
-                Ok(())
-            }
-            Err(_) => {
-                self.rollback_to(snapshot);
-                Err(Fault::Memory)
-            }
-        }
+        let linked = self.link_regions(x_root, y_root);
+        self.commit_if_ok(snapshot, linked)?;
+        Ok(())
     }
 }
 

@@ -14,10 +14,9 @@ ghost use Rattle.nts_terms.specs.Rest.{Grows};
 ghost use Rattle.nts_table.specs.Frames.{ChangesEntries};
 
 use crate::infer_ctxt::InferCtxt;
-use nts_model::{Label, Leaf, ListHead, Sort, VariableKind};
+use nts_model::{Label, ListHead, Sort, VariableKind};
 use nts_store::{Fault, NodeId};
 use nts_terms::{Cx, GenericArg, GenericArgKind, GenericArgs, Span};
-use nts_unify::{State, Variable};
 
 impl InferCtxt {
     /// New variables of these sorts, in their order.
@@ -33,16 +32,8 @@ impl InferCtxt {
         ensures memory { IsOkUnless result Fault.Memory }
     {
         let snapshot = self.start_snapshot()?;
-        match self.add_fresh(cx, sorts) {
-            Ok(nodes) => {
-                self.commit(snapshot);
-                Ok(nodes)
-            }
-            Err(fault) => {
-                self.rollback_to(snapshot);
-                Err(fault)
-            }
-        }
+        let nodes = self.add_fresh(cx, sorts);
+        self.commit_if_ok(snapshot, nodes)
     }
 
     /// A list of new variables of these sorts, as arguments of what is declared with them.
@@ -58,16 +49,8 @@ impl InferCtxt {
         ensures memory { IsOkUnless result Fault.Memory }
     {
         let snapshot = self.start_snapshot()?;
-        match self.add_fresh_args(cx, sorts) {
-            Ok(args) => {
-                self.commit(snapshot);
-                Ok(args)
-            }
-            Err(fault) => {
-                self.rollback_to(snapshot);
-                Err(fault)
-            }
-        }
+        let args = self.add_fresh_args(cx, sorts);
+        self.commit_if_ok(snapshot, args)
     }
 
     fn add_fresh_args(&mut self, cx: &mut Cx, sorts: &[Sort]) -> Result<GenericArgs, Fault>
@@ -115,18 +98,7 @@ impl InferCtxt {
         ensures err { OnErr result (self.new ≡ self.old) }
         ensures memory { IsOkUnless result Fault.Memory }
     {
-        let kind = kind_of_sort(sort);
-        let number = self.variable_count();
-        let node = cx
-            .nodes
-            .make(Label::Leaf(Leaf::Variable(kind, number)), &[])?;
-        self.add(Variable {
-            kind,
-            universe: self.universe(),
-            state: State::Unset,
-            sub_link: None,
-        })?;
-        Ok(node)
+        self.add_variable(cx, kind_of_sort(sort), self.universe(), None)
     }
 }
 

@@ -1,15 +1,17 @@
 //! The table of inference variables and its snapshots.
-ghost use Rattle.std.specs.Prelude.{◌≡◌, ◌<◌, ◌+◌, ◌++◌, ◌∷◌, [], length, slice_get, OnOk, OnErr, IfOk, Some};
+ghost use Rattle.std.specs.Prelude.{◌≡◌, ◌<◌, ◌+◌, ◌++◌, ◌∷◌, [], ℕ, length, slice_get, OnOk, OnErr, IfOk, Some};
+ghost use Rattle.std.specs.Result.{IfErr};
 ghost use Rattle.std.specs.Prelude.{List};
 ghost use Rattle.nts_model.specs.Trees.{Tree};
 ghost use Rattle.nts_table.specs.Tables.{Table, IsTable};
-ghost use Rattle.nts_unify.specs.Entries.{Entries, added, with_variable, constrained, moved, registered, with_hidden};
+ghost use Rattle.nts_unify.specs.Entries.{Entries, constrained, moved, registered, with_hidden, front};
 ghost use Rattle.nts_unify.specs.Reading.{LinksDescend};
-ghost use Rattle.nts_unify.specs.Roots.{IsRoot, IsSubRoot, SubRootsJoin};
+ghost use Rattle.nts_unify.specs.Roots.{IsRoot, HasClass, IsSubRoot, SubRootsJoin};
 ghost use Rattle.nts_unify.specs.Equating.{RegionsLinked};
 
+use nts_store::NodeId;
 use nts_terms::TypingMode;
-use nts_unify::{Constraint, HiddenType, InferCtxtInner, Snapshot, Variable};
+use nts_unify::{Constraint, HiddenType, InferCtxtInner, Snapshot, State, Variable};
 use std::alloc::{AllocError, Global};
 use std::marker::Model;
 
@@ -98,28 +100,6 @@ impl InferCtxt {
         self.inner.universe()
     }
 
-    pub(crate) fn add(&mut self, variable: Variable) -> Result<usize, AllocError>
-        ensures number { IfOk result (λ v. v ≡ length self.old.entries.variables) }
-        ensures entries { OnOk result (self.new.entries ≡ added self.old.entries variable) }
-        ensures saved { self.new.saved ≡ self.old.saved }
-        ensures mode { self.new.mode ≡ self.old.mode }
-        ensures hidden { self.new.entries.hidden ≡ self.old.entries.hidden }
-        ensures err { OnErr result (self.new ≡ self.old) }
-    {
-        self.inner.add(variable)
-    }
-
-    pub(crate) fn set(&mut self, n: usize, variable: Variable) -> Result<(), AllocError>
-        requires { n < length self.old.entries.variables }
-        ensures entries { OnOk result (self.new.entries ≡ with_variable self.old.entries n variable) }
-        ensures saved { self.new.saved ≡ self.old.saved }
-        ensures mode { self.new.mode ≡ self.old.mode }
-        ensures hidden { self.new.entries.hidden ≡ self.old.entries.hidden }
-        ensures err { OnErr result (self.new ≡ self.old) }
-    {
-        self.inner.set(n, variable)
-    }
-
     pub(crate) fn move_to(&mut self, universe: u32) -> Result<(), AllocError>
         ensures entries { OnOk result (self.new.entries ≡ moved self.old.entries universe) }
         ensures saved { self.new.saved ≡ self.old.saved }
@@ -164,6 +144,7 @@ impl InferCtxt {
         ensures saved { OnOk result (self.new.saved ≡ self.old.saved ++ self.old.entries ∷ []) }
         ensures depth { IfOk result (λ s. s.depth ≡ length self.old.saved) }
         ensures mode { self.new.mode ≡ self.old.mode }
+        ensures table { (ts : List Tree) → IsTable ts self.old → IsTable ts self.new }
         ensures err { OnErr result (self.new ≡ self.old) }
     {
         self.inner.start_snapshot()
@@ -186,6 +167,30 @@ impl InferCtxt {
         ensures mode { self.new.mode ≡ self.old.mode }
     {
         self.inner.rollback_to(snapshot)
+    }
+
+    /// Ends the last snapshot by what was tried since, and hands that on: what succeeded stays, and after
+    /// an error the entries are those of the snapshot. It takes no memory.
+    pub fn commit_if_ok<T, E>(&mut self, snapshot: Snapshot, tried: Result<T, E>) -> Result<T, E>
+        requires { length self.old.saved ≡ snapshot.depth + 1 }
+        ensures same { result ≡ tried }
+        ensures ok { OnOk result (self.new.entries ≡ self.old.entries) }
+        ensures err { OnErr result (self.old.saved ≡ self.new.saved ++ self.new.entries ∷ []) }
+        ensures saved { self.new.saved ≡ front self.old.saved }
+        ensures mode { self.new.mode ≡ self.old.mode }
+        ensures table { (ts : List Tree) → IsTable ts self.old → IsTable ts self.new }
+    {
+        self.inner.commit_if_ok(snapshot, tried)
+    }
+
+    /// The value of a variable's class, or else the root.
+    pub(crate) fn probe_variable(&self, n: usize) -> Result<NodeId, usize>
+        requires within { n < length self.now.entries.variables }
+        requires descends { LinksDescend self.now.entries }
+        ensures value { IfOk result (λ t. (r : ℕ) × HasClass self.now.entries n r (State.Known t)) }
+        ensures root { IfErr result (λ r. HasClass self.now.entries n r State.Unset) }
+    {
+        self.inner.probe_variable(n)
     }
 
     /// The root of a variable's class, which has the class's value or none.

@@ -13,7 +13,7 @@ ghost use Rattle.nts_table.specs.Resolution.{Resolution, resolution, CanResolve,
 use crate::infer_ctxt::InferCtxt;
 use nts_model::{Label, Leaf, VariableKind};
 use nts_store::{NodeId, Nodes, Replacer, Step, replace};
-use nts_unify::{State, named_variable};
+use nts_unify::named_variable;
 use std::alloc::{AllocError, Global};
 
 #[derive(Drop)]
@@ -98,19 +98,21 @@ impl Resolver<'_> {
         ensures extends { Extends nodes.old nodes.new }
         ensures step { IfOk result (IsStep (CanResolve (resolution nodes.old self.now.table.now self.now.regions)) (resolution_of (resolution nodes.old self.now.table.now self.now.regions)) nodes.new (tree_at nodes.old t)) }
     {
-        let root = self.table.root(n);
-        if let State::Known(value) = self.table.variable(root).state {
-            if self.leaves(nodes, value) {
-                return Ok(Step::Done(value));
+        let value = match self.table.probe_variable(n) {
+            Ok(value) => value,
+            Err(root) => {
+                let label = Label::Leaf(Leaf::Variable(kind, root));
+                return Ok(Step::Done(nodes.make(label, &[])?));
             }
-            // The value of a type variable may be a variable of integers or floats.
-            return match named_variable(nodes.label(value)) {
-                Some((of_kind, m)) => self.variable_step(nodes, value, of_kind, m),
-                None => Ok(Step::Down(value)),
-            };
+        };
+        if self.leaves(nodes, value) {
+            return Ok(Step::Done(value));
         }
-        let label = Label::Leaf(Leaf::Variable(kind, root));
-        Ok(Step::Done(nodes.make(label, &[])?))
+        // The value of a type variable may be a variable of integers or floats.
+        match named_variable(nodes.label(value)) {
+            Some((of_kind, m)) => self.variable_step(nodes, value, of_kind, m),
+            None => Ok(Step::Down(value)),
+        }
     }
 }
 

@@ -15,7 +15,7 @@ use crate::infer_ctxt::InferCtxt;
 use nts_model::{Label, Leaf, VariableKind};
 use nts_store::{Fault, NodeId, Nodes};
 use nts_terms::{Const, Cx, Region, Ty};
-use nts_unify::{State, named_variable};
+use nts_unify::named_variable;
 use std::alloc::AllocError;
 
 impl InferCtxt {
@@ -134,12 +134,10 @@ impl InferCtxt {
         let Some((kind, n)) = named_variable(nodes.label(t)) else {
             return Ok(t);
         };
-        let root = self.root(n);
-        if let State::Known(value) = self.variable(root).state {
-            return self.look_up(nodes, value);
+        match self.probe_variable(n) {
+            Ok(value) => self.look_up(nodes, value),
+            Err(root) => nodes.make(Label::Leaf(Leaf::Variable(kind, root)), &[]),
         }
-        let node = nodes.make(Label::Leaf(Leaf::Variable(kind, root)), &[])?;
-        Ok(node)
     }
 
     fn value_or_root(
@@ -156,11 +154,9 @@ impl InferCtxt {
         ensures extends { Extends nodes.old nodes.new }
         ensures err { OnErr result (nodes.new ≡ nodes.old) }
     {
-        let root = self.root(n);
-        if let State::Known(value) = self.variable(root).state {
-            return Ok(value);
+        match self.probe_variable(n) {
+            Ok(value) => Ok(value),
+            Err(root) => nodes.make(Label::Leaf(Leaf::Variable(kind, root)), &[]),
         }
-        let node = nodes.make(Label::Leaf(Leaf::Variable(kind, root)), &[])?;
-        Ok(node)
     }
 }

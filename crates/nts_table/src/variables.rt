@@ -3,7 +3,7 @@ ghost use Rattle.std.specs.Prelude.{List, ◌≡◌, ◌≢◌, ◌<◌, ◌+◌
 ghost use Rattle.nts_model.specs.declared.labels.VariableKind.TheVariants as kind;
 ghost use Rattle.nts_model.specs.Trees.{Tree};
 ghost use Rattle.nts_model.specs.Resolving.{variable_tree};
-ghost use Rattle.nts_store.specs.Growth.{tree_at, Extends};
+ghost use Rattle.nts_store.specs.Growth.{tree_at, IsIn, Extends};
 ghost use Rattle.nts_terms.specs.Handles.{HoldsTy, HoldsConst, HoldsRegion, HoldsArg};
 ghost use Rattle.nts_unify.specs.Entries.{added, moved};
 ghost use Rattle.nts_table.specs.Tables.{Table};
@@ -13,10 +13,10 @@ ghost use Rattle.nts_terms.specs.Rest.{Grows};
 ghost use Rattle.nts_table.specs.Frames.{ChangesEntries};
 
 use crate::infer_ctxt::InferCtxt;
-use nts_model::{Label, Leaf, VariableKind};
-use nts_store::Fault;
-use nts_terms::{Const, ConstKind, Cx, GenericArg, InferTy, Region, RegionKind, Ty, TyKind};
-use nts_unify::{State, Variable};
+use nts_model::VariableKind;
+use nts_store::{Fault, NodeId};
+use nts_terms::{Const, Cx, GenericArg, Region, Ty};
+use nts_unify::add_variable;
 
 impl InferCtxt {
     /// A new type variable of the current universe.
@@ -31,10 +31,8 @@ impl InferCtxt {
         ensures err { OnErr result (self.new ≡ self.old) }
         ensures memory { IsOkUnless result Fault.Memory }
     {
-        let number = self.variable_count();
-        let ty = cx.mk_ty(TyKind::Infer(InferTy::TyVar(number)))?;
-        self.add_unset(VariableKind::Ty, self.universe())?;
-        Ok(ty)
+        let node = self.add_variable(cx, VariableKind::Ty, self.universe(), None)?;
+        Ok(Ty { node })
     }
 
     /// A new variable of integer types, in the root universe.
@@ -49,10 +47,8 @@ impl InferCtxt {
         ensures err { OnErr result (self.new ≡ self.old) }
         ensures memory { IsOkUnless result Fault.Memory }
     {
-        let number = self.variable_count();
-        let ty = cx.mk_ty(TyKind::Infer(InferTy::IntVar(number)))?;
-        self.add_unset(VariableKind::Int, 0)?;
-        Ok(ty)
+        let node = self.add_variable(cx, VariableKind::Int, 0, None)?;
+        Ok(Ty { node })
     }
 
     /// A new variable of float types, in the root universe.
@@ -67,10 +63,8 @@ impl InferCtxt {
         ensures err { OnErr result (self.new ≡ self.old) }
         ensures memory { IsOkUnless result Fault.Memory }
     {
-        let number = self.variable_count();
-        let ty = cx.mk_ty(TyKind::Infer(InferTy::FloatVar(number)))?;
-        self.add_unset(VariableKind::Float, 0)?;
-        Ok(ty)
+        let node = self.add_variable(cx, VariableKind::Float, 0, None)?;
+        Ok(Ty { node })
     }
 
     /// A new variable of consts, of the current universe.
@@ -85,10 +79,8 @@ impl InferCtxt {
         ensures err { OnErr result (self.new ≡ self.old) }
         ensures memory { IsOkUnless result Fault.Memory }
     {
-        let number = self.variable_count();
-        let ct = cx.mk_const(ConstKind::Infer(number))?;
-        self.add_unset(VariableKind::Const, self.universe())?;
-        Ok(ct)
+        let node = self.add_variable(cx, VariableKind::Const, self.universe(), None)?;
+        Ok(Const { node })
     }
 
     /// A new region variable of the current universe.
@@ -103,10 +95,8 @@ impl InferCtxt {
         ensures err { OnErr result (self.new ≡ self.old) }
         ensures memory { IsOkUnless result Fault.Memory }
     {
-        let number = self.variable_count();
-        let region = cx.mk_region(RegionKind::ReVar(number))?;
-        self.add_unset(VariableKind::Region, self.universe())?;
-        Ok(region)
+        let node = self.add_variable(cx, VariableKind::Region, self.universe(), None)?;
+        Ok(Region { node })
     }
 
     /// A new variable of that kind and universe. Where another variable is named, the two are of one
@@ -129,36 +119,35 @@ impl InferCtxt {
         ensures err { OnErr result (self.new ≡ self.old) }
         ensures memory { IsOkUnless result Fault.Memory }
     {
-        let number = self.variable_count();
         let sub_link = match sub_root_of {
             Some(other) => Some(self.sub_root(other)),
             None => None,
         };
-        let node = cx
-            .nodes
-            .make(Label::Leaf(Leaf::Variable(kind, number)), &[])?;
-        self.add(Variable {
-            kind,
-            universe,
-            state: State::Unset,
-            sub_link,
-        })?;
+        let node = self.add_variable(cx, kind, universe, sub_link)?;
         Ok(GenericArg { node })
     }
 
-    fn add_unset(&mut self, kind: VariableKind, universe: u32) -> Result<(), Fault>
-        ensures entries { OnOk result (self.new.entries ≡ added self.old.entries (unset_variable kind universe)) }
+    /// A new variable of which nothing more is known than its sub-unification class, as a term.
+    pub(crate) fn add_variable(
+        &mut self,
+        cx: &mut Cx,
+        kind: VariableKind,
+        universe: u32,
+        sub_link: Option<usize>,
+    ) -> Result<NodeId, Fault>
+        requires table { IsTable cx.old.nodes self.old }
+        requires linked { IfSome sub_link (λ m. m < length self.old.entries.variables) }
+        ensures within { IfOk result (λ r. IsIn cx.new.nodes r) }
+        ensures tree { IfOk result (λ r. tree_at cx.new.nodes r ≡ variable_tree kind (length self.old.entries.variables)) }
+        ensures entries { OnOk result (self.new.entries ≡ added self.old.entries (record (unset_variable kind universe) { sub_link = sub_link })) }
         ensures changes { ChangesEntries self.old self.new }
+        ensures table { IsTable cx.new.nodes self.new }
+        ensures grows { Grows cx.old cx.new }
         ensures err { OnErr result (self.new ≡ self.old) }
         ensures memory { IsOkUnless result Fault.Memory }
     {
-        self.add(Variable {
-            kind,
-            universe,
-            state: State::Unset,
-            sub_link: None,
-        })?;
-        Ok(())
+        let node = add_variable(&mut cx.nodes, &mut self.inner, kind, universe, sub_link)?;
+        Ok(node)
     }
 
     /// One more universe, which becomes the current one. `Full` comes where there is none.

@@ -13,7 +13,7 @@ use Rattle.nts_unify.specs.declared.contents.State.TheVariants.{Unset, Link, Kno
 use Rattle.nts_unify.specs.declared.contents.Variable.{Variable}
 use Rattle.nts_unify.specs.Entries.{Entries}
 use Rattle.nts_unify.specs.Reading.{state_with, slot_of, content_of}
-use Rattle.nts_unify.specs.Roots.{Leads, here, on, IsRootState, IsRoot}
+use Rattle.nts_unify.specs.Roots.{Leads, here, on, IsRootState, IsRoot, HasClass}
 
 slot_at : (ts : List Tree) (vs : List Variable) (n : ℕ) (v : Variable) → slice_get vs n ≡ Some v → slice_get (map (slot_of ts) vs) n ≡ Some (slot_of ts v)
 slot_at ts [] n v e = cc
@@ -25,6 +25,9 @@ slot_of-entry ts e n v h = slot_at ts e.variables n v h
 
 pub state_of-entry : (ts : List Tree) (e : Entries) (n : ℕ) (v : Variable) → slice_get e.variables n ≡ Some v → state_of (content_of ts e) n ≡ Some (state_with ts v.state)
 state_of-entry ts e n v h = ap (map_slot (λ x. x.state)) (slot_at ts e.variables n v h)
+
+pub state_of-class : (ts : List Tree) (e : Entries) (n r : ℕ) (s : State) → HasClass e n r s → state_of (content_of ts e) r ≡ Some (state_with ts s)
+state_of-class ts e n r s h = state_of-entry ts e r h.variable h.at ∙ ap (λ x. Some (state_with ts x)) h.state
 
 pub kind_at-entry : (ts : List Tree) (e : Entries) (n : ℕ) (v : Variable) → slice_get e.variables n ≡ Some v → kind_at (content_of ts e) n ≡ Some v.kind
 kind_at-entry ts e n v h = ap (map_slot (λ x. x.kind)) (slot_at ts e.variables n v h)

@@ -1,5 +1,5 @@
 use Rattle.std.specs.Option.{option_to_list}
-use Rattle.std.specs.Prelude.{IsSome}
+use Rattle.std.specs.Prelude.{IsSome, Result, Ok, Err, OnOk, OnErr}
 use Rattle.std.proofs.Common.{Option, Some, None, append-nil, ◌≡◌, ℕ, suc, ◌≤◌, List, [], ◌∷◌, ◌++◌, length, drop, refl, sym, ap, ◌∙◌, arith, length-append}
 use Rattle.std.proofs.lemmas.Grind.{common_steps}
 use Rattle.nts_unify.specs.declared.contents.UndoLog.{UndoLog}
@@ -101,3 +101,9 @@ push_inj (a ∷ xs) (b ∷ ys) x y e =
 pub back_to : (old new : Inner) (saved : List Entries) → saved ≡ old.saved ++ old.entries ∷ [] → saved ≡ new.saved ++ new.entries ∷ [] → new ≡ old
 back_to old new saved p q =
     let i = push_inj new.saved old.saved new.entries old.entries (sym q ∙ p) in λ j. record { entries = i.1 j; saved = i.0 j }
+
+-- what holds of an attempt's entries where it succeeds, and held before it, holds of what its end leaves
+pub after_attempt : {T E : Type 0} (before middle after : Inner) (P : Entries → Type 0) (r : Result T E) → middle.saved ≡ before.saved ++ before.entries ∷ [] → OnOk r (after.entries ≡ middle.entries) → OnErr r (middle.saved ≡ after.saved ++ after.entries ∷ []) → OnOk r (P middle.entries) → P before.entries → P after.entries
+after_attempt before middle after P (Ok v) s same back h k = rw same h
+after_attempt before middle after P (Err e) s same back h k =
+    let i = push_inj after.saved before.saved after.entries before.entries (sym back ∙ s) in rw i.1 k

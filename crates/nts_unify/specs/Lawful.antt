@@ -1,5 +1,5 @@
 -- Entries that go with a store: what keeps them lawful.
-use Rattle.std.proofs.Common.{◌≡◌, ◌⊎◌, inl, inr, ⊎_elim, ℕ, zero, suc, List, [], ◌∷◌, ◌++◌, length, map, Some, None, refl, sym, ap, ◌∙◌}
+use Rattle.std.proofs.Common.{◌≡◌, ◌⊎◌, inl, inr, ⊎_elim, ℕ, ◌<◌, zero, suc, List, [], ◌∷◌, ◌++◌, length, map, Some, refl, sym, ap, ◌∙◌, arith}
 use Rattle.std.specs.Prelude.{slice_get, slice_set}
 use Rattle.std.proofs.lemmas.List.{map-append}
 use Rattle.nts_model.specs.Trees.{Tree}
@@ -136,10 +136,10 @@ AreHeld-push : (ts : List Tree) (vs : List Variable) (v : Variable) → AreHeld 
 AreHeld-push ts [] v h k = (k, tt)
 AreHeld-push ts (w ∷ vs) v h k = (h.0, AreHeld-push ts vs v h.1 k)
 
--- a variable of which nothing is known yet
-pub record IsNew (v : Variable) : Type 0 where
+-- a variable for the table of which nothing is known yet; it may be of the sub-unification class of one that the table has
+pub record IsNew (c : Entries) (v : Variable) : Type 0 where
   pub state : v.state ≡ Unset
-  pub sub_link : v.sub_link ≡ None
+  pub sub_link : (m : ℕ) → v.sub_link ≡ Some m → m < length c.variables
 
 pub content_of-added : (ts : List Tree) (c : Entries) (v : Variable) → content_of ts (added c v) ≡ with_slot (content_of ts c) (slot_of ts v)
 content_of-added ts c v =
@@ -149,7 +149,7 @@ content_of-added ts c v =
 other : (a b : ℕ) → (a ≡ b → ⊥) ⊎ (a ≡ b)
 other a b = ⊎_elim (λ (e : a ≡ b). inr e) (λ (d : a ≡ b → ⊥). inl d) (same_or_other a b)
 
-LinksDescend-added : (c : Entries) (v : Variable) → LinksDescend c → IsNew v → LinksDescend (added c v)
+LinksDescend-added : (c : Entries) (v : Variable) → LinksDescend c → IsNew c v → LinksDescend (added c v)
 LinksDescend-added c v d w =
     record {
       links = λ n m x h e. ⊎_elim
@@ -160,11 +160,11 @@ LinksDescend-added c v d w =
       sub_links = λ n m x h e. ⊎_elim
           (λ (old : n ≡ length c.variables → ⊥). d.sub_links n m x (sym (slice_get-push_old c.variables v n old) ∙ h) e)
           (λ (new : n ≡ length c.variables). let q : Some v ≡ Some x = sym (slice_get-push_new c.variables v) ∙ ap (slice_get (c.variables ++ v ∷ [])) (sym new) ∙ h in
-          let same : v ≡ x = cc in let z : None ≡ Some m = sym w.sub_link ∙ ap (λ (y : Variable). y.sub_link) same ∙ e in cc)
+          let same : v ≡ x = cc in let z = w.sub_link m (ap (λ (y : Variable). y.sub_link) same ∙ e) in omega (arith, z, new))
           (other n (length c.variables));
     }
 
-pub IsLawful-added : (ts : List Tree) (c : Entries) (v : Variable) → IsLawful ts c → IsNew v → IsLawful ts (added c v)
+pub IsLawful-added : (ts : List Tree) (c : Entries) (v : Variable) → IsLawful ts c → IsNew c v → IsLawful ts (added c v)
 IsLawful-added ts c v h w =
     let same = content_of-added ts c v in
     let slot = slot_of ts v in

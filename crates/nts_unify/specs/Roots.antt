@@ -21,6 +21,13 @@ pub record IsRoot (e : Entries) (n r : ℕ) : Type 0 where
   pub leads : Leads e n r
   pub ends : (v : Variable) → slice_get e.variables r ≡ Some v → IsRootState v.state
 
+-- the root of a variable's class, and what is known of the class
+pub record HasClass (e : Entries) (n r : ℕ) (s : State) : Type 0 where
+  pub root : IsRoot e n r
+  pub variable : Variable
+  pub at : slice_get e.variables r ≡ Some variable
+  pub state : variable.state ≡ s
+
 -- .. the links of sub-unification
 pub data SubLeads (e : Entries) : ℕ → ℕ → Type 0 where
   here : {n : ℕ} → SubLeads e n n

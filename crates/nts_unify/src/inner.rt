@@ -1,6 +1,6 @@
 //! What can be undone of a table, and its snapshots.
 ghost use Rattle.std.specs.Prelude.{◌≡◌, ◌<◌, ◌+◌, ◌++◌, ◌∷◌, [], length, slice_get, OnOk, OnErr, IfOk, Some};
-ghost use Rattle.nts_unify.specs.Entries.{Entries, Inner, added, with_variable, bound, constrained, moved, registered, with_hidden};
+ghost use Rattle.nts_unify.specs.Entries.{Entries, Inner, added, with_variable, bound, constrained, moved, registered, with_hidden, front};
 
 use crate::contents::{Constraint, Contents, HiddenType, UndoLog, Variable};
 use std::alloc::{AllocError, Global};
@@ -228,6 +228,27 @@ impl InferCtxtInner {
                 if let Some(change) = self.log.pop() {
                     self.contents.undo(change);
                 }
+            }
+        }
+    }
+
+    /// Ends the last snapshot by what was tried since, and hands that on: what succeeded stays, and after
+    /// an error the entries are those of the snapshot. It takes no memory.
+    pub fn commit_if_ok<T, E>(&mut self, snapshot: Snapshot, tried: Result<T, E>) -> Result<T, E>
+        requires { length self.old.saved ≡ snapshot.depth + 1 }
+        ensures same { result ≡ tried }
+        ensures ok { OnOk result (self.new.entries ≡ self.old.entries) }
+        ensures err { OnErr result (self.old.saved ≡ self.new.saved ++ self.new.entries ∷ []) }
+        ensures saved { self.new.saved ≡ front self.old.saved }
+    {
+        match tried {
+            Ok(value) => {
+                self.commit(snapshot);
+                Ok(value)
+            }
+            Err(error) => {
+                self.rollback_to(snapshot);
+                Err(error)
             }
         }
     }

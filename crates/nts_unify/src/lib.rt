@@ -3,6 +3,7 @@
 //! The typed table, `nts_table::InferCtxt`, stands above, and so does relating (`nts_relating`).
 #![tactic(auto)]
 
+mod adding;
 mod contents;
 mod inner;
 mod joining;
@@ -10,6 +11,7 @@ mod labels;
 mod named;
 mod roots;
 
+pub use adding::add_variable;
 pub use contents::{Constraint, HiddenType, State, Variable};
 pub use inner::{InferCtxtInner, Snapshot};
 pub use joining::{join, join_regions};

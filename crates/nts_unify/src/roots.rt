@@ -1,12 +1,14 @@
 //! Where the links of variables lead.
-ghost use Rattle.std.specs.Prelude.{◌≡◌, ◌<◌, length, Some, OnOk, OnErr};
+ghost use Rattle.std.specs.Prelude.{◌≡◌, ◌<◌, ℕ, length, Some, OnOk, OnErr, IfOk};
+ghost use Rattle.std.specs.Result.{IfErr};
 ghost use Rattle.nts_unify.specs.Entries.{Entries};
 ghost use Rattle.nts_unify.specs.Reading.{LinksDescend};
-ghost use Rattle.nts_unify.specs.Roots.{IsRoot, IsSubRoot, SubRootsJoin};
+ghost use Rattle.nts_unify.specs.Roots.{IsRoot, HasClass, IsSubRoot, SubRootsJoin};
 ghost use Rattle.nts_unify.specs.Entries.{KeepsHidden};
 
 use crate::contents::{State, Variable};
 use crate::inner::InferCtxtInner;
+use nts_store::NodeId;
 use std::alloc::AllocError;
 
 impl InferCtxtInner {
@@ -21,6 +23,20 @@ impl InferCtxtInner {
             root = next;
         }
         root
+    }
+
+    /// The value of a variable's class, or else the root.
+    pub fn probe_variable(&self, n: usize) -> Result<NodeId, usize>
+        requires within { n < length self.now.entries.variables }
+        requires descends { LinksDescend self.now.entries }
+        ensures value { IfOk result (λ t. (r : ℕ) × HasClass self.now.entries n r (State.Known t)) }
+        ensures root { IfErr result (λ r. HasClass self.now.entries n r State.Unset) }
+    {
+        let root = self.root(n);
+        match self.variable(root).state {
+            State::Known(value) => Ok(value),
+            _ => Err(root),
+        }
     }
 
     /// The root of a variable's sub-unification class.

@@ -1,6 +1,8 @@
-use Rattle.std.proofs.Common.{refl}
+use Rattle.std.proofs.Common.{refl, sym, ap, ◌∙◌, None}
+use Rattle.nts_model.specs.Resolving.{variable_tree}
+use Rattle.nts_unify.specs.declared.contents.State.TheVariants.{Unset}
 use Rattle.nts_unify.specs.Reading.{IsLawful}
-use Rattle.nts_unify.specs.Lawful.{IsLawful-extended, IsLawful-added}
+use Rattle.nts_unify.specs.Lawful.{IsNew, IsLawful-extended, IsLawful-added}
 use Rattle.nts_relating.proofs.Naming.{named_value, can_join_fresh, fresh_value}
 use Rattle.nts_relating.proofs.generalize.name_variable.Goals as goal
 
@@ -13,15 +15,11 @@ returns-then-not-contains-clause-generalized c =
 
 pub join-requires : goal.join-requires
 join-requires c =
-    can_join_fresh c.args.nodes.now c.args.table.now.entries _ c.args.y _ _ _ c.variable-variable.result c.requires.lawful c.requires.open c.variable-variable.ensures refl (record { state = refl; sub_link = refl }) c.in_ok-fresh.ensures.entries c.in_ok-fresh.ensures.number
-
-grown : (c : goal.In_ok-make-2) → IsLawful c.args.nodes.now c.add.new.self.entries
-grown c = rw c.in_ok-fresh.ensures.entries (IsLawful-added _ _ _ c.requires.lawful (record { state = refl; sub_link = refl }))
-
-pub returns-clause-lawful : goal.returns-clause-lawful
-returns-clause-lawful c =
-    IsLawful-extended c.in_ok-make-2.ensures.extends (c.in_ok-join.ensures.joined c.args.nodes.now (grown c)).lawful
+    can_join_fresh c.args.nodes.now c.args.table.now.entries _ c.args.y _ _ _ c.variable-variable.result c.requires.lawful c.requires.open c.variable-variable.ensures refl (record { state = refl; sub_link = λ m q. cc }) c.in_ok-fresh.ensures.entries c.variable_count-number.ensures
 
 pub returns-clause-generalized : goal.returns-clause-generalized
 returns-clause-generalized c =
-    fresh_value c.args.nodes.now c.make-2.new.self c.args.table.now.entries c.add.new.self.entries c.join.new.table.entries c.args.target.variable c.args.target.universe c.args.target.binders c.args.y c.in_ok-fresh.fresh _ _ _ c.variable-variable.result c.requires.lawful c.requires.knows c.requires.known refl c.requires.open c.requires.other c.variable-variable.ensures refl (record { state = refl; sub_link = refl }) c.in_ok-fresh.ensures.entries c.in_ok-fresh.ensures.number (c.in_ok-join.ensures.joined c.args.nodes.now (grown c)) c.in_ok-make-2.ensures.extends c.in_ok-make-2.ensures.tree
+    let new : IsNew c.args.table.now.entries (record { kind = c.variable-variable.result.kind; universe = c.args.target.universe; state = Unset; sub_link = None }) = record { state = refl; sub_link = λ m q. cc } in
+    let grown : IsLawful c.args.nodes.now c.add_variable.new.table.entries = rw c.in_ok-fresh.ensures.entries (IsLawful-added c.args.nodes.now _ _ c.requires.lawful new) in
+    fresh_value c.args.nodes.now c.add_variable.new.nodes c.args.table.now.entries c.add_variable.new.table.entries c.join.new.table.entries c.args.target.variable c.args.target.universe c.args.target.binders c.args.y c.variable_count-number.result _ _ _ c.variable-variable.result c.requires.lawful c.requires.knows c.requires.known refl c.requires.open c.requires.other c.variable-variable.ensures refl new c.in_ok-fresh.ensures.entries c.variable_count-number.ensures (c.in_ok-join.ensures.joined c.args.nodes.now grown) c.in_ok-fresh.ensures.extends
+    (c.in_ok-fresh.ensures.tree ∙ ap (variable_tree c.variable-variable.result.kind) (sym c.variable_count-number.ensures))

@@ -1,36 +1,29 @@
 use Rattle.std.proofs.Common.{◌≡◌, ◌++◌, ◌∷◌, [], ap, ◌∙◌}
-use Rattle.nts_unify.proofs.SavedLemmas.{back_to}
+use Rattle.nts_unify.proofs.SavedLemmas.{after_attempt}
 use Rattle.nts_unify.specs.Lawful.{IsLawful-extended, content_of-extended}
-use Rattle.nts_unify.specs.Reading.{content_of}
+use Rattle.nts_unify.specs.Reading.{content_of, IsLawful}
+use Rattle.nts_unify.specs.Changing.{IsLater}
 use Rattle.nts_unify.proofs.Keeping.{IsLater-refl}
-use Rattle.nts_relating.proofs.MetPairs.{memo_start}
-use Rattle.nts_relating.proofs.PairLemmas.{pair_related}
-use Rattle.nts_relating.proofs.RefusalLemmas.{pair_unrelated}
+use Rattle.nts_relating.proofs.PairLemmas.{if_related}
 use Rattle.nts_relating.proofs.relate.relate_nodes.Goals as goal
 
-pub returns-in-Err-clause-lawful : goal.returns-in-Err-clause-lawful
-returns-in-Err-clause-lawful c =
-    let back = back_to c.args.table.now c.rollback_to.new.self c.run_all.new.table.saved (c.in-Err.ensures.changes.saved ∙ c.in_ok-snapshot.ensures.saved) c.rollback_to.ensures.saved in
-    rw back (IsLawful-extended c.in-Err.ensures.extends c.requires.lawful)
-
 pub returns-clause-lawful : goal.returns-clause-lawful
-returns-clause-lawful c = rw c.commit.ensures.entries c.in-Ok.ensures.lawful
+returns-clause-lawful c =
+    let run = c.run_all-related.ensures in
+    let end = c.commit_if_ok.ensures in
+    after_attempt c.args.table.now c.run_all-related.new.table c.commit_if_ok.new.self (IsLawful c.run_all-related.new.nodes) c.run_all-related.result (run.changes.saved ∙ c.in_ok-snapshot.ensures.saved) (rw end.same at end.ok) (rw end.same at end.err) run.lawful (IsLawful-extended run.extends c.requires.lawful)
 
-pub returns-in-Err-clause-later : goal.returns-in-Err-clause-later
-returns-in-Err-clause-later c =
-    let back = back_to c.args.table.now c.rollback_to.new.self c.run_all.new.table.saved (c.in-Err.ensures.changes.saved ∙ c.in_ok-snapshot.ensures.saved) c.rollback_to.ensures.saved in
-    rw back (rw (content_of-extended {a = c.args.nodes.now} {b = c.run_all.new.nodes} {c = c.args.table.now.entries} c.in-Err.ensures.extends c.requires.lawful) (IsLater-refl (content_of c.args.nodes.now c.args.table.now.entries)))
+pub returns-clause-later : goal.returns-clause-later
+returns-clause-later c =
+    let run = c.run_all-related.ensures in
+    let end = c.commit_if_ok.ensures in
+    let start = c.args.table.now.entries in
+    let none : IsLater (content_of c.args.nodes.now start) (content_of c.run_all-related.new.nodes start) = rw (content_of-extended run.extends c.requires.lawful) (IsLater-refl (content_of c.args.nodes.now start)) in
+    after_attempt c.args.table.now c.run_all-related.new.table c.commit_if_ok.new.self (λ e. IsLater (content_of c.args.nodes.now start) (content_of c.run_all-related.new.nodes e)) c.run_all-related.result (run.changes.saved ∙ c.in_ok-snapshot.ensures.saved) (rw end.same at end.ok) (rw end.same at end.err) (rw c.in_ok-snapshot.ensures.entries at run.later) none
 
 pub returns-clause-related : goal.returns-clause-related
 returns-clause-related c =
     let items : c.push.new.self.items ≡ record { left = c.args.a; right = c.args.b } ∷ [] = c.in_ok-push.ensures.items ∙ ap (λ xs. xs ++ record { left = c.args.a; right = c.args.b } ∷ []) c.new-pairs.ensures.items in
-    let h = rw (items, c.in_ok-snapshot.ensures.entries) at c.in-Ok.ensures.reduces in
-    rw c.commit.ensures.entries (pair_related c.in-Ok.ensures.lawful.sound h)
-
-pub returns-in-Err-clause-no : goal.returns-in-Err-clause-no
-returns-in-Err-clause-no c = λ q.
-    let items : c.push.new.self.items ≡ record { left = c.args.a; right = c.args.b } ∷ [] = c.in_ok-push.ensures.items ∙ ap (λ xs. xs ++ record { left = c.args.a; right = c.args.b } ∷ []) c.new-pairs.ensures.items in
-    pair_unrelated (rw (items, c.in_ok-snapshot.ensures.entries) at (c.in-Err.ensures.no q))
-
-pub run_all-requires-clause-memo : goal.run_all-requires-clause-memo
-run_all-requires-clause-memo c = rw c.new-met.ensures.empty (memo_start c.args.nodes.now c.start_snapshot.new.self.entries c.push.new.self.items)
+    let run = c.run_all-related.ensures in
+    let end = c.commit_if_ok.ensures in
+    rw end.same (if_related c.args.nodes.now c.run_all-related.new.nodes c.args.table.now.entries c.run_all-related.new.table.entries c.commit_if_ok.new.self.entries _ _ c.run_all-related.result (rw end.same at end.ok) run.lawful (rw (items, c.in_ok-snapshot.ensures.entries) at run.reduces))

@@ -9,9 +9,9 @@ use Rattle.nts_relating.proofs.HeadLemmas.{head_known, head_open}
 use Rattle.nts_relating.proofs.ValueTasks.{value_of}
 use Rattle.nts_relating.proofs.value_walk.look_at.Goals as goal
 
-pub returns-in-Known-clause-look : goal.returns-in-Known-clause-look
-returns-in-Known-clause-look c =
-    let k = head_known c.args.nodes.now c.args.table.now.entries _ _ _ _ _ _ c.requires.lawful c.requires.knows c.label-label.ensures.is (sym c.in-Some.ensures) c.root-root.ensures c.variable.ensures c.in-Known.is in
+pub returns-in-Ok-clause-look : goal.returns-in-Ok-clause-look
+returns-in-Ok-clause-look c =
+    let k = head_known c.args.nodes.now c.args.table.now.entries _ _ _ _ _ c.requires.lawful c.requires.knows c.label-label.ensures.is (sym c.in-Some.ensures) c.in-Ok.ensures.value.1 in
     (refl, refl, k.within, value_of c.args.nodes.now c.args.table.now.entries _ _ k)
 
 pub name_variable-requires : goal.name_variable-requires
@@ -19,7 +19,7 @@ name_variable-requires c = record {
   within = c.requires.within;
   knows = c.requires.knows;
   lawful = c.requires.lawful;
-  «open» = head_open c.args.nodes.now c.args.table.now.entries _ _ _ _ _ c.requires.lawful c.requires.knows c.label-label.ensures.is c.label-label.ensures.formed (sym c.in-Some.ensures) c.root-root.ensures c.variable.ensures c.in_default-state.not-Known;
+  «open» = head_open c.args.nodes.now c.args.table.now.entries _ _ _ _ c.requires.lawful c.requires.knows c.label-label.ensures.is c.label-label.ensures.formed (sym c.in-Some.ensures) c.in-Err.ensures.root;
   other = c.if-root-target.false;
   known = c.requires.known;
 }
@@ -41,6 +41,6 @@ returns-then-root-target c = record {
   lawful = tt;
   look = tt;
   full = λ z. cc;
-  no = λ q. (let o = head_open c.args.nodes.now c.args.table.now.entries _ _ _ _ _ c.requires.lawful c.requires.knows c.label-label.ensures.is c.label-label.ensures.formed (sym c.in-Some.ensures) c.root-root.ensures c.variable.ensures c.in_default-state.not-Known in
-      blocks_own (content_of c.args.nodes.now c.args.table.now.entries) c.args.target.variable c.root-root.result c.args.target.universe c.args.target.binders _ o.worlds c.if-root-target.true o.infer);
+  no = λ q. (let o = head_open c.args.nodes.now c.args.table.now.entries _ _ _ _ c.requires.lawful c.requires.knows c.label-label.ensures.is c.label-label.ensures.formed (sym c.in-Some.ensures) c.in-Err.ensures.root in
+      blocks_own (content_of c.args.nodes.now c.args.table.now.entries) c.args.target.variable c.in-Err.root c.args.target.universe c.args.target.binders _ o.worlds c.if-root-target.true o.infer);
 }
