@@ -1,4 +1,4 @@
 //! What offers the rules of traits.
 pub use nts_delegate::{
-    CandidateData, CandidateGoal, Equation, EquationKind, GoalHandler, HiddenType, RegionConstraint,
+    CandidateData, CandidateGoal, Equation, EquationKind, GoalHandler, RegionConstraint,
 };

@@ -22,7 +22,8 @@ use Rattle.nts_table.specs.Making.{unset_variable, IsAddedTo}
 use Rattle.nts_unify.specs.Reading.{content_of, LinksDescend}
 use Rattle.nts_unify.proofs.Leading.{kind_within}
 use Rattle.nts_canonical.specs.Forms.{trees_of}
-use Rattle.nts_canonical.specs.Kinds.{IsInputKind, variables_before, if_there, link_to, universe_of_kind, value_leaves, made_variable, made_variables}
+use Rattle.nts_canonical.specs.Kinds.{IsInputKind, variables_before, if_there, link_to, value_leaves, made_variable, made_variables}
+use Rattle.nts_model.specs.Responses.{universe_of_kind}
 use Rattle.nts_canonical.specs.Building.{type_variable_of, AddsValue, IsArgOf}
 use Rattle.nts_canonical.proofs.SubRooted.{sub_root_is}
 use Rattle.nts_canonical.proofs.Making.{value-at, length-values, append-none}

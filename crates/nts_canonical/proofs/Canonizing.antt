@@ -23,7 +23,7 @@ use Rattle.nts_canonical.specs.declared.types.QueryInput.{QueryInput}
 use Rattle.nts_canonical.specs.declared.types.CanonicalInput.{CanonicalInput}
 use Rattle.nts_canonical.specs.SubRoots.{sub_root_in}
 use Rattle.nts_canonical.specs.Owned.{IsOwned, AreOwned}
-use Rattle.nts_canonical.specs.Forms.{kind_of_var, hidden_row, form_of, input_of, AreHidden}
+use Rattle.nts_canonical.specs.Forms.{kind_of_var, hidden_pairs, form_of, input_of, AreHidden}
 use Rattle.nts_canonical.proofs.PairLists.{hidden_row-kept}
 
 -- the variables of a tree that the table knows are the table's
@@ -76,7 +76,7 @@ equal_forms c d e p h k = λ j. record { environment = e j; predicate = p j; hid
 pub record IsNumbered (b d : List Tree) (u : List Leaf) (g : Goal) (hs : List (AliasTerm × Ty)) (q : QueryInput) : Type 0 where
   pub environment : tree_at d q.goal.param_env.node ≡ replace (numbered_leaf is_static u) (tree_at b g.param_env.node)
   pub predicate : tree_at d q.goal.predicate.node ≡ replace (numbered_leaf no_leaf u) (tree_at b g.predicate.node)
-  pub hidden : hidden_row d q.predefined_opaques_in_body.items ≡ replace (numbered_leaf no_leaf u) (hidden_row b hs)
+  pub hidden : hidden_pairs d q.predefined_opaques_in_body.items ≡ replace (numbered_leaf no_leaf u) (hidden_pairs b hs)
 
 pub form_is : (a b d : List Tree) (e : Entries) (u : List Leaf) (g : Goal) (hs : List (AliasTerm × Ty)) (c : CanonicalInput) → Extends a b → HoldsEnv a g.param_env → HoldsPredicate a g.predicate → AreHidden a hs
     → u ≡ originals (input_of a e g hs) → IsNumbered b d u g hs c.canonical.value → map kind_of_var c.canonical.var_kinds.items ≡ map (position_kind (sub_root_in e) u) u

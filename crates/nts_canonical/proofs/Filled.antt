@@ -9,7 +9,7 @@ use Rattle.nts_terms.specs.declared.handles.GenericArg.{GenericArg}
 use Rattle.nts_store.specs.Growth.{tree_at, IsIn, AllIn, Extends}
 use Rattle.nts_store.specs.Kept.{map-kept}
 use Rattle.nts_store.specs.Filled.{HasValues}
-use Rattle.nts_canonical.specs.Forms.{hidden_row, trees_of, AreHidden}
+use Rattle.nts_canonical.specs.Forms.{hidden_pairs, trees_of, AreHidden}
 use Rattle.nts_canonical.specs.Replaced.{IsImage}
 use Rattle.nts_canonical.proofs.PairLists.{hidden_row-kept}
 
@@ -18,23 +18,23 @@ pub has_values-kept : (a b : List Tree) (vs : List NodeId) (n : NodeId) → AllI
 has_values-kept a b vs n h w e k =
     subst (λ z. HasValues z (tree_at b n)) (sym (map-kept a b vs h e)) (subst (HasValues (map (tree_at a) vs)) (sym (e.kept n w)) k)
 
-pub has_values_row-kept : (a b : List Tree) (vs : List NodeId) (hs : List (AliasTerm × Ty)) → AllIn a vs → AreHidden a hs → Extends a b → HasValues (map (tree_at a) vs) (hidden_row a hs) → HasValues (map (tree_at b) vs) (hidden_row b hs)
+pub has_values_row-kept : (a b : List Tree) (vs : List NodeId) (hs : List (AliasTerm × Ty)) → AllIn a vs → AreHidden a hs → Extends a b → HasValues (map (tree_at a) vs) (hidden_pairs a hs) → HasValues (map (tree_at b) vs) (hidden_pairs b hs)
 has_values_row-kept a b vs hs h w e k =
-    subst (λ z. HasValues z (hidden_row b hs)) (sym (map-kept a b vs h e)) (subst (HasValues (map (tree_at a) vs)) (sym (hidden_row-kept a b hs w e)) k)
+    subst (λ z. HasValues z (hidden_pairs b hs)) (sym (map-kept a b vs h e)) (subst (HasValues (map (tree_at a) vs)) (sym (hidden_row-kept a b hs w e)) k)
 
 -- .. and the same tree with them
 pub filled-kept : (a b : List Tree) (vs : List NodeId) (n : NodeId) → AllIn a vs → IsIn a n → Extends a b → filled (map (tree_at b) vs) (tree_at b n) ≡ filled (map (tree_at a) vs) (tree_at a n)
 filled-kept a b vs n h w e = ap (λ z. filled z (tree_at b n)) (map-kept a b vs h e) ∙ ap (filled (map (tree_at a) vs)) (e.kept n w)
 
-pub filled_row-kept : (a b : List Tree) (vs : List NodeId) (hs : List (AliasTerm × Ty)) → AllIn a vs → AreHidden a hs → Extends a b → filled (map (tree_at b) vs) (hidden_row b hs) ≡ filled (map (tree_at a) vs) (hidden_row a hs)
-filled_row-kept a b vs hs h w e = ap (λ z. filled z (hidden_row b hs)) (map-kept a b vs h e) ∙ ap (filled (map (tree_at a) vs)) (hidden_row-kept a b hs w e)
+pub filled_row-kept : (a b : List Tree) (vs : List NodeId) (hs : List (AliasTerm × Ty)) → AllIn a vs → AreHidden a hs → Extends a b → filled (map (tree_at b) vs) (hidden_pairs b hs) ≡ filled (map (tree_at a) vs) (hidden_pairs a hs)
+filled_row-kept a b vs hs h w e = ap (λ z. filled z (hidden_pairs b hs)) (map-kept a b vs h e) ∙ ap (filled (map (tree_at a) vs)) (hidden_row-kept a b hs w e)
 
 -- an alias and its type that have values
 pub record PairHasValues (vs ts : List Tree) (h : AliasTerm × Ty) : Type 0 where
   pub alias : HasValues vs (tree_at ts h.0.args.node)
   pub hidden_type : HasValues vs (tree_at ts h.1.node)
 
-pub pair-at : (vs ts : List Tree) (hs : List (AliasTerm × Ty)) (i : ℕ) (d : AliasTerm × Ty) → HasValues vs (hidden_row ts hs) → i < length hs → PairHasValues vs ts (get_or hs i d)
+pub pair-at : (vs ts : List Tree) (hs : List (AliasTerm × Ty)) (i : ℕ) (d : AliasTerm × Ty) → HasValues vs (hidden_pairs ts hs) → i < length hs → PairHasValues vs ts (get_or hs i d)
 pair-at vs ts [] i d h l = absurd (omega arith)
 pair-at vs ts (x ∷ xs) zero d h l = record { alias = h.0.1.0; hidden_type = h.1.0 }
 pair-at vs ts (x ∷ xs) (suc i) d h l = pair-at vs ts xs i d h.1.1 (omega arith)

@@ -18,7 +18,7 @@ use Rattle.nts_relating.specs.Knowing.{row_from}
 use Rattle.nts_relating.proofs.Looking.{row_from-end, row_from-step}
 use Rattle.nts_canonical.specs.declared.collecting.Task.{Task}
 use Rattle.nts_canonical.specs.declared.collecting.Task.TheVariants as task
-use Rattle.nts_canonical.specs.Collecting.{after_leaf, Job, read, finish, job, jobs, TaskIn, TasksIn, entered, seen_after, IsReadAt, IsRead, AreRead, AreDue, weight, weights, IsReading, Continues}
+use Rattle.nts_canonical.specs.Collecting.{after_leaf, Job, read, finish, job, jobs, TaskIn, TasksIn, entered, seen_after, IsReadAt, IsRead, AreRead, AreDue, weight, weights, IsReading, WalkGoesOn}
 
 -- a leaf that was seen is not added once more
 pub added-among : (s : List Leaf) (l : Leaf) → Among s l → added s l ≡ s
@@ -154,7 +154,7 @@ weights-entered (node l c) = omega arith
 -- the last task with its place taken by others that show the same
 continues : (stays : Leaf → Bool) (ts : List Tree) (xs ys : List Task) (k : Task) (ws : List Job) (s u : List Leaf) (ns ms : List ℕ)
     → IsReading stays ts (xs ++ k ∷ []) s ns → TasksIn ts ys → jobs ts ys ≡ jobs ts xs ++ ws → seen_after stays ws u ≡ seen_after stays (job ts k ∷ []) s
-    → AreDue stays ws u → weights ws < weight (job ts k) → AreRead stays ts u ms → Continues stays ts (xs ++ k ∷ []) s ns ys u ms
+    → AreDue stays ws u → weights ws < weight (job ts k) → AreRead stays ts u ms → WalkGoesOn stays ts (xs ++ k ∷ []) s ns ys u ms
 continues stays ts xs ys k ws s u ns ms h within are same due less done =
     let push = jobs-push ts xs k in
     let split = AreDue-split stays (jobs ts xs) (job ts k ∷ []) s (subst (λ z. AreDue stays z s) push h.due) in
@@ -190,7 +190,7 @@ after_leaf-keeps stays s x m h = elim (either (stays x)) [ inl e ↦ rw e h | in
 -- a leaf is seen
 pub continues_leaf : (stays : Leaf → Bool) (ts : List Tree) (xs : List Task) (t : NodeId) (x : Leaf) (l : Label) (s u : List Leaf) (ns : List ℕ)
     → IsReading stays ts (xs ++ task.Enter t ∷ []) s ns → tree_at ts t ≡ node l (children (tree_at ts t)) → l ≡ label.Leaf x → u ≡ after_leaf stays s x
-    → Continues stays ts (xs ++ task.Enter t ∷ []) s ns xs u ns
+    → WalkGoesOn stays ts (xs ++ task.Enter t ∷ []) s ns xs u ns
 continues_leaf stays ts xs t x l s u ns h is e v =
     let shown : seen stays s (tree_at ts t) ≡ after_leaf stays s x = ap (seen stays s) (is ∙ ap (λ z. node z (children (tree_at ts t))) e) in
     continues stays ts xs xs (task.Enter t) [] s u ns ns h (front stays ts xs (task.Enter t) s ns h).0 (sym (append-nil (jobs ts xs))) (v ∙ sym shown) tt (size-some l (children (tree_at ts t)) (tree_at ts t) is)
@@ -199,7 +199,7 @@ continues_leaf stays ts xs t x l s u ns h is e v =
 -- a term that was finished shows nothing new
 pub continues_finished : (stays : Leaf → Bool) (ts : List Tree) (xs : List Task) (t : NodeId) (l : Label) (s : List Leaf) (ns : List ℕ)
     → IsReading stays ts (xs ++ task.Enter t ∷ []) s ns → tree_at ts t ≡ node l (children (tree_at ts t)) → list_any (nat_eq t.number) ns ≡ true
-    → Continues stays ts (xs ++ task.Enter t ∷ []) s ns xs s ns
+    → WalkGoesOn stays ts (xs ++ task.Enter t ∷ []) s ns xs s ns
 continues_finished stays ts xs t l s ns h is e =
     let done : IsRead stays s (tree_at ts t) = is_read-contained stays ts s ns t.number h.are_read e in
     continues stays ts xs xs (task.Enter t) [] s s ns ns h (front stays ts xs (task.Enter t) s ns h).0 (sym (append-nil (jobs ts xs))) (sym (seen-read stays s (tree_at ts t) done)) tt (size-some l (children (tree_at ts t)) (tree_at ts t) is) h.are_read
@@ -217,7 +217,7 @@ seen_node-other stays s i (label.List x) n = refl
 pub continues_down : (stays : Leaf → Bool) (ts : List Tree) (xs ys zs : List Task) (t : NodeId) (l : Label) (s : List Leaf) (ns : List ℕ)
     → IsReading stays ts (xs ++ task.Enter t ∷ []) s ns → tree_at ts t ≡ node l (children (tree_at ts t)) → ((x : Leaf) → l ≡ label.Leaf x → ⊥) → IsRow (children (tree_at ts t))
     → ys ≡ xs ++ task.Finish t ∷ [] → TasksIn ts zs → jobs ts zs ≡ jobs ts ys ++ entered (children (tree_at ts t))
-    → Continues stays ts (xs ++ task.Enter t ∷ []) s ns zs s ns
+    → WalkGoesOn stays ts (xs ++ task.Enter t ∷ []) s ns zs s ns
 continues_down stays ts xs ys zs t l s ns h is n row y within are =
     let u = tree_at ts t in
     let c = children u in
@@ -232,7 +232,7 @@ continues_down stays ts xs ys zs t l s ns h is n row y within are =
 
 -- a term is finished
 pub continues_finish : (stays : Leaf → Bool) (ts : List Tree) (xs : List Task) (t : NodeId) (s : List Leaf) (ns ms : List ℕ)
-    → IsReading stays ts (xs ++ task.Finish t ∷ []) s ns → ms ≡ insert_key nat_eq ns t.number → Continues stays ts (xs ++ task.Finish t ∷ []) s ns xs s ms
+    → IsReading stays ts (xs ++ task.Finish t ∷ []) s ns → ms ≡ insert_key nat_eq ns t.number → WalkGoesOn stays ts (xs ++ task.Finish t ∷ []) s ns xs s ms
 continues_finish stays ts xs t s ns ms h e =
     let push = jobs-push ts xs (task.Finish t) in
     let split = AreDue-split stays (jobs ts xs) (finish (tree_at ts t) ∷ []) s (subst (λ z. AreDue stays z s) push h.due) in
@@ -282,6 +282,6 @@ ok_map_both (Err e) P Q R f h k = h
 
 -- the turn that finishes a term
 pub finish_turn : (stays : Leaf → Bool) (ts : List Tree) (ys xs : List Task) (t : NodeId) (s : List Leaf) (ns ms : List ℕ)
-    → IsReading stays ts ys s ns → ys ≡ xs ++ task.Finish t ∷ [] → ms ≡ insert_key nat_eq ns t.number → Continues stays ts ys s ns xs s ms
+    → IsReading stays ts ys s ns → ys ≡ xs ++ task.Finish t ∷ [] → ms ≡ insert_key nat_eq ns t.number → WalkGoesOn stays ts ys s ns xs s ms
 finish_turn stays ts ys xs t s ns ms h y e =
-    subst (λ z. Continues stays ts z s ns xs s ms) (sym y) (continues_finish stays ts xs t s ns ms (subst (λ z. IsReading stays ts z s ns) y h) e)
+    subst (λ z. WalkGoesOn stays ts z s ns xs s ms) (sym y) (continues_finish stays ts xs t s ns ms (subst (λ z. IsReading stays ts z s ns) y h) e)

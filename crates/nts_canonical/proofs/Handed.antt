@@ -21,7 +21,8 @@ use Rattle.nts_model.proofs.Listed.{either}
 use Rattle.nts_model.proofs.Under.{eq-self}
 use Rattle.nts_store.specs.Filled.{HasValue, HasValues}
 use Rattle.nts_unify.proofs.Changes.{slice_get-map}
-use Rattle.nts_canonical.specs.Kinds.{IsInputKind, AreInputKinds, count_of, variable_kind, value_leaf, value_leaves, universe_of_kind}
+use Rattle.nts_canonical.specs.Kinds.{IsInputKind, AreInputKinds, count_of, kind_of_position, value_leaf, value_leaves}
+use Rattle.nts_model.specs.Responses.{universe_of_kind}
 use Rattle.nts_canonical.specs.declared.types.CanonicalInput.{CanonicalInput}
 use Rattle.nts_canonical.specs.Forms.{form_of, HoldsQuery}
 use Rattle.nts_canonical.specs.Building.{HasNoVariable, IsInputOf}
@@ -112,7 +113,7 @@ module _ (r : ℕ → ℕ) (s : List Leaf) where
   sorts-kept n [] = refl
   sorts-kept n (x ∷ ls) =
       let first = sort-kept x (universe_of_kind (position_kind r s x)) n in
-      let rest = sorts-kept (n + count_of (variable_kind (position_kind r s x))) ls in
+      let rest = sorts-kept (n + count_of (kind_of_position (position_kind r s x))) ls in
       λ j. first j ∷ rest j
 
 -- values of the same sorts serve the same terms

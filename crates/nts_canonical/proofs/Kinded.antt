@@ -23,7 +23,8 @@ use Rattle.nts_unify.specs.Reading.{LinksDescend}
 use Rattle.nts_unify.specs.Roots.{here, on, IsSubRoot}
 use Rattle.nts_unify.proofs.Changes.{slice_get-map}
 use Rattle.nts_canonical.specs.SubRoots.{sub_root_in}
-use Rattle.nts_canonical.specs.Kinds.{IsInputKind, AreInputKinds, variable_kind, count_of, variables_before, link_to, universe_of_kind, value_leaf, value_leaves, made_variables}
+use Rattle.nts_canonical.specs.Kinds.{IsInputKind, AreInputKinds, kind_of_position, count_of, variables_before, link_to, value_leaf, value_leaves, made_variables}
+use Rattle.nts_model.specs.Responses.{universe_of_kind}
 use Rattle.nts_canonical.proofs.SubRooted.{sub_root_is}
 use Rattle.nts_canonical.proofs.VarLists.{number-at}
 use Rattle.nts_canonical.proofs.Making.{some, value-at, length-values, made-at, link-self, link-earlier, before-later, before-type}
@@ -92,7 +93,7 @@ from-value all i n (placeholder sort.Ty u a) h = let q = h.1 in omega (arith, q)
 from-value all i n (placeholder sort.Region u a) h = let q = h.1 in omega (arith, q)
 from-value all i n (placeholder sort.Const u a) h = let q = h.1 in omega (arith, q)
 
-not-from : (all : List PositionKind) (i n : ℕ) (k : PositionKind) → IsInputKind all i k → IsFrom (i + 1) (n + count_of (variable_kind k)) (value_leaf k (universe_of_kind k) n) → ⊥
+not-from : (all : List PositionKind) (i n : ℕ) (k : PositionKind) → IsInputKind all i k → IsFrom (i + 1) (n + count_of (kind_of_position k)) (value_leaf k (universe_of_kind k) n) → ⊥
 unfolding IsFrom
 not-from all i n (type_variable u r) h f = omega (arith, f)
 not-from all i n integer_variable h f = omega (arith, f)
@@ -122,13 +123,13 @@ all-from all i n [] q l h = elim h [ ]
 all-from all i n (k ∷ ks) q l h =
     elim h [
       | inl p ↦ rw p (from-value all i n k (kinds-head all i k ks q))
-      | inr m ↦ from-later l i (i + 1) n (n + count_of (variable_kind k)) (omega arith) (omega arith) (all-from all (i + 1) (n + count_of (variable_kind k)) ks (kinds-tail all i k ks q) l m)
+      | inr m ↦ from-later l i (i + 1) n (n + count_of (kind_of_position k)) (omega arith) (omega arith) (all-from all (i + 1) (n + count_of (kind_of_position k)) ks (kinds-tail all i k ks q) l m)
     ]
 
 distinct-from : (all : List PositionKind) (i n : ℕ) (ks : List PositionKind) → KindsFrom all i ks → AreDistinct (value_leaves n ks)
 distinct-from all i n [] q = tt
 distinct-from all i n (k ∷ ks) q =
-    let m = n + count_of (variable_kind k) in
+    let m = n + count_of (kind_of_position k) in
     let tail = kinds-tail all i k ks q in (
       (λ h. not-from all i n k (kinds-head all i k ks q) (all-from all (i + 1) m ks tail (value_leaf k (universe_of_kind k) n) h)),
       distinct-from all (i + 1) m ks tail,

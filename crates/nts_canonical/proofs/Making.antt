@@ -4,7 +4,8 @@ use Rattle.std.specs.Prelude.{slice_get}
 use Rattle.std.proofs.lemmas.List.{append_assoc}
 use Rattle.nts_model.specs.Inputs.{PositionKind, type_variable, integer_variable, float_variable, const_variable, region_variable, placeholder}
 use Rattle.nts_unify.specs.declared.contents.Variable.{Variable}
-use Rattle.nts_canonical.specs.Kinds.{variable_kind, count_of, variables_before, if_there, link_to, universe_of_kind, value_leaf, value_leaves, made_variable, made_variables}
+use Rattle.nts_canonical.specs.Kinds.{kind_of_position, count_of, variables_before, if_there, link_to, value_leaf, value_leaves, made_variable, made_variables}
+use Rattle.nts_model.specs.Responses.{universe_of_kind}
 
 pub some : {A : Type 0} {x y : A} → Some x ≡ Some y → x ≡ y
 some e = cc
@@ -21,25 +22,25 @@ value-at n (x ∷ ks) zero k e =
     let all : n + 0 ≡ n = omega arith in
     rw (same, all) refl
 value-at n (x ∷ ks) (suc i) k e =
-    let sum : n + (count_of (variable_kind x) + variables_before ks i) ≡ (n + count_of (variable_kind x)) + variables_before ks i = omega arith in
-    rw sum (value-at (n + count_of (variable_kind x)) ks i k e)
+    let sum : n + (count_of (kind_of_position x) + variables_before ks i) ≡ (n + count_of (kind_of_position x)) + variables_before ks i = omega arith in
+    rw sum (value-at (n + count_of (kind_of_position x)) ks i k e)
 
 pub length-values : (n : ℕ) (ks : List PositionKind) → length (value_leaves n ks) ≡ length ks
 length-values n [] = refl
-length-values n (k ∷ ks) = omega (arith, length-values (n + count_of (variable_kind k)) ks)
+length-values n (k ∷ ks) = omega (arith, length-values (n + count_of (kind_of_position k)) ks)
 
 -- one more value
 pub values-push : (n : ℕ) (ks : List PositionKind) (k : PositionKind) → value_leaves n (ks ++ k ∷ []) ≡ value_leaves n ks ++ value_leaf k (universe_of_kind k) (n + variables_before ks (length ks)) ∷ []
 values-push n [] k = let all : n + 0 ≡ n = omega arith in rw all refl
 values-push n (x ∷ ks) k =
-    let sum : n + (count_of (variable_kind x) + variables_before ks (length ks)) ≡ (n + count_of (variable_kind x)) + variables_before ks (length ks) = omega arith in
-    rw sum (ap (λ r. value_leaf x (universe_of_kind x) n ∷ r) (values-push (n + count_of (variable_kind x)) ks k))
+    let sum : n + (count_of (kind_of_position x) + variables_before ks (length ks)) ≡ (n + count_of (kind_of_position x)) + variables_before ks (length ks) = omega arith in
+    rw sum (ap (λ r. value_leaf x (universe_of_kind x) n ∷ r) (values-push (n + count_of (kind_of_position x)) ks k))
 
 -- a variable after that of an earlier position
 one_more : (vs : List Variable) (v : Variable) (n : ℕ) → slice_get (v ∷ vs) (1 + n) ≡ slice_get vs n
 one_more vs v n = let one : 1 + n ≡ suc n = omega arith in rw one refl
 
-after_made : (ps : List PositionKind) (k : PositionKind) (vs : List Variable) (n : ℕ) → slice_get (made_variable ps k ++ vs) (count_of (variable_kind k) + n) ≡ slice_get vs n
+after_made : (ps : List PositionKind) (k : PositionKind) (vs : List Variable) (n : ℕ) → slice_get (made_variable ps k ++ vs) (count_of (kind_of_position k) + n) ≡ slice_get vs n
 after_made ps (type_variable u r) vs n = one_more vs _ n
 after_made ps integer_variable vs n = one_more vs _ n
 after_made ps float_variable vs n = one_more vs _ n
@@ -71,7 +72,7 @@ made-push ps (x ∷ ks) k =
     ap (λ r. made_variable ps x ++ r) (made-push (ps ++ x ∷ []) ks k ∙ ap (λ z. made_variables (ps ++ x ∷ []) ks ++ made_variable z k) (append_assoc ps (x ∷ []) ks))
     ∙ sym (append_assoc (made_variable ps x) (made_variables (ps ++ x ∷ []) ks) (made_variable (ps ++ x ∷ ks) k))
 
-length-after : (ps : List PositionKind) (k : PositionKind) (vs : List Variable) → length (made_variable ps k ++ vs) ≡ count_of (variable_kind k) + length vs
+length-after : (ps : List PositionKind) (k : PositionKind) (vs : List Variable) → length (made_variable ps k ++ vs) ≡ count_of (kind_of_position k) + length vs
 length-after ps (type_variable u r) vs = omega arith
 length-after ps integer_variable vs = omega arith
 length-after ps float_variable vs = omega arith
@@ -82,7 +83,7 @@ length-after ps (placeholder s u m) vs = omega arith
 pub length-made : (ps ks : List PositionKind) → length (made_variables ps ks) ≡ variables_before ks (length ks)
 length-made ps [] = refl
 length-made ps (k ∷ ks) =
-    length-after ps k (made_variables (ps ++ k ∷ []) ks) ∙ ap (λ n. count_of (variable_kind k) + n) (length-made (ps ++ k ∷ []) ks)
+    length-after ps k (made_variables (ps ++ k ∷ []) ks) ∙ ap (λ n. count_of (kind_of_position k) + n) (length-made (ps ++ k ∷ []) ks)
 
 -- what stands before a position stays where later ones are left out
 pub taken-at : (ks : List PositionKind) (i r : ℕ) → r < i → slice_get (take i ks) r ≡ slice_get ks r
@@ -101,7 +102,7 @@ taken-before ks zero r l = absurd (omega (arith, l))
 taken-before [] (suc i) zero l = refl
 taken-before [] (suc i) (suc r) l = refl
 taken-before (k ∷ ks) (suc i) zero l = refl
-taken-before (k ∷ ks) (suc i) (suc r) l = ap (λ n. count_of (variable_kind k) + n) (taken-before ks i r (omega (arith, l)))
+taken-before (k ∷ ks) (suc i) (suc r) l = ap (λ n. count_of (kind_of_position k) + n) (taken-before ks i r (omega (arith, l)))
 
 -- the first position of a sub root leads nowhere, and the others lead to it
 pub link-self : (ks : List PositionKind) (i : ℕ) → link_to (take i ks) i ≡ None

@@ -13,7 +13,7 @@ use Rattle.nts_terms.specs.declared.handles.Ty.{Ty}
 use Rattle.nts_store.specs.Growth.{tree_at, IsIn, Extends}
 use Rattle.nts_terms.specs.Handles.{Holds, HoldsArg}
 use Rattle.nts_store.proofs.Growing.{IsIn-extended}
-use Rattle.nts_canonical.specs.Forms.{alias_tree, hidden_row, trees_of, IsHidden, AreHidden}
+use Rattle.nts_canonical.specs.Forms.{alias_tree, hidden_pairs, trees_of, IsHidden, AreHidden}
 use Rattle.nts_canonical.specs.Replaced.{IsImage, AreImages, IsLeafArg, AreLeafArgs}
 
 -- what is held stays so, with its tree, when the store grows
@@ -30,7 +30,7 @@ pub are_hidden-kept : (a b : List Tree) (hs : List (AliasTerm × Ty)) → AreHid
 are_hidden-kept a b [] h e = tt
 are_hidden-kept a b (x ∷ xs) h e = (is_hidden-kept a b x h.0 e, are_hidden-kept a b xs h.1 e)
 
-pub hidden_row-kept : (a b : List Tree) (hs : List (AliasTerm × Ty)) → AreHidden a hs → Extends a b → hidden_row b hs ≡ hidden_row a hs
+pub hidden_row-kept : (a b : List Tree) (hs : List (AliasTerm × Ty)) → AreHidden a hs → Extends a b → hidden_pairs b hs ≡ hidden_pairs a hs
 hidden_row-kept a b [] h e = refl
 hidden_row-kept a b (x ∷ xs) h e =
     cc (alias-kept a b x.0 h.0.args.within e, e.kept x.1.node h.0.hidden_type.within, hidden_row-kept a b xs h.1 e)
@@ -67,7 +67,7 @@ pub record GoesInside (f : Tree → Tree) : Type 0 where
   pub of_empty : f empty ≡ empty
   pub of_more : (s t : Tree) → f (more s t) ≡ more (f s) (f t)
 
-pub AreImages-row : (f : Tree → Tree) → GoesInside f → (a b : List Tree) (hs rs : List (AliasTerm × Ty)) → AreImages f a b hs rs → hidden_row b rs ≡ f (hidden_row a hs)
+pub AreImages-row : (f : Tree → Tree) → GoesInside f → (a b : List Tree) (hs rs : List (AliasTerm × Ty)) → AreImages f a b hs rs → hidden_pairs b rs ≡ f (hidden_pairs a hs)
 AreImages-row f g a b [] [] m = sym g.of_empty
 AreImages-row f g a b [] (r ∷ rs) m = absurd m
 AreImages-row f g a b (h ∷ hs) [] m = absurd m

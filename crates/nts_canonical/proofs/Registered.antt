@@ -16,8 +16,8 @@ use Rattle.nts_unify.specs.Reading.{content_of, IsHiddenType, AreHiddenTypes, Is
 use Rattle.nts_unify.specs.Lawful.{content_of-extended, AreHiddenTypes-at}
 use Rattle.nts_table.specs.Registering.{HasAliasOf, NoneBefore, IsFirstOf, Registers}
 use Rattle.nts_table.proofs.HiddenLemmas.{IsHiddenType-extended}
-use Rattle.nts_canonical.specs.Forms.{hidden_row, AreHidden}
-use Rattle.nts_canonical.specs.Building.{hidden_of, RegistersAll}
+use Rattle.nts_canonical.specs.Forms.{hidden_pairs, AreHidden}
+use Rattle.nts_canonical.specs.Building.{stored_hidden, RegistersAll}
 use Rattle.nts_canonical.proofs.Making.{some}
 
 -- the arguments of the aliases are of the store
@@ -69,11 +69,11 @@ all-kept a b c xs (h ∷ hs) ys e i j (zs, o, r, rest) =
     let there = j 0 h (omega arith) in (
       zs,
       o,
-      registers-kept a b c xs (hidden_of h) zs o e i there r,
-      all-kept a b c zs hs ys e (args-after a c xs (hidden_of h) zs o i there r) (λ k d l. j (suc k) d (omega (arith, l))) rest,
+      registers-kept a b c xs (stored_hidden h) zs o e i there r,
+      all-kept a b c zs hs ys e (args-after a c xs (stored_hidden h) zs o i there r) (λ k d l. j (suc k) d (omega (arith, l))) rest,
     )
 
-all-push : (ts : List Tree) (c : Content) (xs : List HiddenType) (hs : List (AliasTerm × Ty)) (ys : List HiddenType) (h : AliasTerm × Ty) (zs : List HiddenType) (o : Option Ty) → RegistersAll ts c xs hs ys → Registers ts c ys (hidden_of h) zs o → RegistersAll ts c xs (hs ++ h ∷ []) zs
+all-push : (ts : List Tree) (c : Content) (xs : List HiddenType) (hs : List (AliasTerm × Ty)) (ys : List HiddenType) (h : AliasTerm × Ty) (zs : List HiddenType) (o : Option Ty) → RegistersAll ts c xs hs ys → Registers ts c ys (stored_hidden h) zs o → RegistersAll ts c xs (hs ++ h ∷ []) zs
 all-push ts c xs [] ys h zs o r k = (zs, o, rw (← r) k, refl)
 all-push ts c xs (g ∷ hs) ys h zs o (us, p, r, rest) k = (us, p, r, all-push ts c us hs ys h zs o rest k)
 
@@ -91,15 +91,15 @@ unfolding ArgsIn
 args-in ts c xs h = λ i x q. (AreHiddenTypes-at ts c xs i x h q).args.within
 
 -- one more, of a table of which only the hidden types change
-pub registered_more : (a b : List Tree) (e f : Entries) (zs : List HiddenType) (hs : List (AliasTerm × Ty)) (i : ℕ) (d : AliasTerm × Ty) (o : Option Ty) → IsLawful a e → IsLawful a f → f ≡ record e { hidden = f.hidden } → Extends a b → All (λ h. IsHiddenType a (content_of a e) (hidden_of h)) hs → i < length hs
-    → RegistersAll a (content_of a e) e.hidden (take i hs) f.hidden → Registers a (content_of a f) f.hidden (hidden_of (get_or hs i d)) zs o → RegistersAll b (content_of b e) e.hidden (take (i + 1) hs) zs
+pub registered_more : (a b : List Tree) (e f : Entries) (zs : List HiddenType) (hs : List (AliasTerm × Ty)) (i : ℕ) (d : AliasTerm × Ty) (o : Option Ty) → IsLawful a e → IsLawful a f → f ≡ record e { hidden = f.hidden } → Extends a b → All (λ h. IsHiddenType a (content_of a e) (stored_hidden h)) hs → i < length hs
+    → RegistersAll a (content_of a e) e.hidden (take i hs) f.hidden → Registers a (content_of a f) f.hidden (stored_hidden (get_or hs i d)) zs o → RegistersAll b (content_of b e) e.hidden (take (i + 1) hs) zs
 registered_more a b e f zs hs i d o g h q up all l r k =
     let c = content_of a e in
     let later : content_of b e ≡ c = content_of-extended up g in
     let here : content_of a f ≡ c = ap (content_of a) q in
     let within : All (λ h. IsIn a h.0.args.node) hs = (λ j x m. (all j x m).args.within) in
     let old = all-kept a b c e.hidden (take i hs) f.hidden up (args-in a c e.hidden g.hidden) (All-take (λ h. IsIn a h.0.args.node) i hs within) r in
-    let one = registers-kept a b c f.hidden (hidden_of (get_or hs i d)) zs o up (args-in a (content_of a f) f.hidden h.hidden) (within i d l) (subst (λ z. Registers a z f.hidden (hidden_of (get_or hs i d)) zs o) here k) in
+    let one = registers-kept a b c f.hidden (stored_hidden (get_or hs i d)) zs o up (args-in a (content_of a f) f.hidden h.hidden) (within i d l) (subst (λ z. Registers a z f.hidden (stored_hidden (get_or hs i d)) zs o) here k) in
     rw (take_more hs i d l, later) (all-push b c e.hidden (take i hs) f.hidden (get_or hs i d) zs o old one)
 
 -- what is to be registered, in a store that has grown and a table of which only the hidden types changed
@@ -107,10 +107,10 @@ pub hidden-now : (a b : List Tree) (e f : Entries) (x : HiddenType) → IsLawful
 hidden-now a b e f x h q up k = subst (λ c. IsHiddenType b c x) (sym (ap (content_of b) q)) (IsHiddenType-extended h up k)
 
 -- the hidden types of a row are a table's, if it knows the row
-pub hidden-of-row : (ts : List Tree) (c : Content) (hs : List (AliasTerm × Ty)) → AreHidden ts hs → Knows c (hidden_row ts hs) → All (λ h. IsHiddenType ts c (hidden_of h)) hs
+pub hidden-of-row : (ts : List Tree) (c : Content) (hs : List (AliasTerm × Ty)) → AreHidden ts hs → Knows c (hidden_pairs ts hs) → All (λ h. IsHiddenType ts c (stored_hidden h)) hs
 hidden-of-row ts c [] h k = λ i d l. absurd (omega (arith, l))
 hidden-of-row ts c (x ∷ hs) h k = go (hidden-of-row ts c hs h.1 k.1.1)
   where
-    go : All (λ h. IsHiddenType ts c (hidden_of h)) hs → (i : ℕ) (d : AliasTerm × Ty) → i < length (x ∷ hs) → IsHiddenType ts c (hidden_of (get_or (x ∷ hs) i d))
+    go : All (λ h. IsHiddenType ts c (stored_hidden h)) hs → (i : ℕ) (d : AliasTerm × Ty) → i < length (x ∷ hs) → IsHiddenType ts c (stored_hidden (get_or (x ∷ hs) i d))
     go rest zero d l = record { args = h.0.args; args_known = k.0.1.0; ty = h.0.hidden_type; ty_known = k.1.0 }
     go rest (suc i) d l = rest i d (omega (arith, l))

@@ -4,7 +4,7 @@ use Rattle.nts_model.specs.Trees.{Tree, empty, more, node}
 use Rattle.nts_terms.specs.declared.handles.AliasTerm.{AliasTerm}
 use Rattle.nts_terms.specs.declared.handles.Ty.{Ty}
 use Rattle.nts_canonical.specs.declared.types.CanonicalVarKind.{CanonicalVarKind}
-use Rattle.nts_canonical.specs.Forms.{kind_of_var, hidden_row}
+use Rattle.nts_canonical.specs.Forms.{kind_of_var, hidden_pairs}
 use Rattle.nts_canonical.specs.Alike.{AreOnePair}
 
 -- what lists stand for tells their lengths, and whether items are one
@@ -65,13 +65,13 @@ tail_of empty = empty
 tail_of (more a b) = b
 tail_of (node l c) = empty
 
-row_lengths : (ts : List Tree) (xs ys : List (AliasTerm × Ty)) → hidden_row ts xs ≡ hidden_row ts ys → length xs ≡ length ys
+row_lengths : (ts : List Tree) (xs ys : List (AliasTerm × Ty)) → hidden_pairs ts xs ≡ hidden_pairs ts ys → length xs ≡ length ys
 row_lengths ts [] [] e = refl
 row_lengths ts [] (y ∷ ys) e = cc
 row_lengths ts (x ∷ xs) [] e = cc
 row_lengths ts (x ∷ xs) (y ∷ ys) e = omega (arith, row_lengths ts xs ys (ap (λ t. tail_of (tail_of t)) e))
 
-pub rows_tell : (ts : List Tree) → Tells (hidden_row ts) (AreOnePair ts)
+pub rows_tell : (ts : List Tree) → Tells (hidden_pairs ts) (AreOnePair ts)
 rows_tell ts = record {
   together = λ x y xs ys s e. (λ j. more (s.alias j) (more (s.hidden_type j) (e j)));
   first = λ x y xs ys e. record { alias = ap head_of e; hidden_type = ap (λ t. head_of (tail_of t)) e };

@@ -19,8 +19,9 @@ use Rattle.nts_unify.specs.Entries.{Entries}
 use Rattle.nts_unify.specs.Reading.{content_of, LinksDescend}
 use Rattle.nts_unify.proofs.Leading.{kind_at-entry}
 use Rattle.nts_canonical.specs.Forms.{trees_of}
-use Rattle.nts_canonical.specs.Kinds.{IsInputKind, AreInputKinds, variables_before, universe_of_kind, value_leaf, value_leaves, made_variable, made_variables}
-use Rattle.nts_canonical.specs.Building.{AddsValue, IsValueOf, IsArgOf}
+use Rattle.nts_canonical.specs.Kinds.{IsInputKind, AreInputKinds, variables_before, value_leaf, value_leaves, made_variable, made_variables}
+use Rattle.nts_model.specs.Responses.{universe_of_kind}
+use Rattle.nts_canonical.specs.Building.{AddsValue, IsPositionValue, IsArgOf}
 use Rattle.nts_canonical.specs.Replaced.{AreLeafArgs}
 use Rattle.nts_canonical.proofs.PairLists.{AreLeafArgs-kept, AreLeafArgs-push, AreLeafArgs-hold, trees_of-leaves}
 use Rattle.nts_canonical.proofs.Making.{some, value-at, length-values, length-made, made-at, made-push, values-push, taken-at}
@@ -92,9 +93,9 @@ pub record MadeSoFar (ts : List Tree) (values : List GenericArg) (e f : Entries)
   pub entries : f ≡ record e { variables = made_variables [] ks }
 
 -- .. and one more
-pub made_more : (a b : List Tree) (xs zs : List GenericArg) (x : GenericArg) (e f g : Entries) (ks : List PositionKind) (i : ℕ) (k : PositionKind) (u : ℕ) (ys : List GenericArg) → MadeSoFar a xs e f (take i ks) → AreInputKinds ks → slice_get ks i ≡ Some k → LinksDescend f → Extends a b → HoldsArg b x → IsValueOf k u (trees_of a ys) f g (tree_at b x.node) → u ≡ universe_of_kind k → ys ≡ xs → zs ≡ xs ++ x ∷ [] → MadeSoFar b zs e g (take (i + 1) ks)
+pub made_more : (a b : List Tree) (xs zs : List GenericArg) (x : GenericArg) (e f g : Entries) (ks : List PositionKind) (i : ℕ) (k : PositionKind) (u : ℕ) (ys : List GenericArg) → MadeSoFar a xs e f (take i ks) → AreInputKinds ks → slice_get ks i ≡ Some k → LinksDescend f → Extends a b → HoldsArg b x → IsPositionValue k u (trees_of a ys) f g (tree_at b x.node) → u ≡ universe_of_kind k → ys ≡ xs → zs ≡ xs ++ x ∷ [] → MadeSoFar b zs e g (take (i + 1) ks)
 made_more a b xs zs x e f g ks i k u ys h q at d up holds given un same z =
-    let v : IsValueOf k (universe_of_kind k) (trees_of a xs) f g (tree_at b x.node) = subst (λ n. IsValueOf k n (trees_of a xs) f g (tree_at b x.node)) un (subst (λ us. IsValueOf k u (trees_of a us) f g (tree_at b x.node)) same given) in
+    let v : IsPositionValue k (universe_of_kind k) (trees_of a xs) f g (tree_at b x.node) = subst (λ n. IsPositionValue k n (trees_of a xs) f g (tree_at b x.node)) un (subst (λ us. IsPositionValue k u (trees_of a us) f g (tree_at b x.node)) same given) in
     let ps = take i ks in
     let variables : f.variables ≡ made_variables [] ps = ap (λ (y : Entries). y.variables) h.entries in
     let adds = subst (λ us. AddsValue k (universe_of_kind k) us f g) (trees_of-leaves a xs (value_leaves 0 ps) h.args) v.adds in

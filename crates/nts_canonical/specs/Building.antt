@@ -59,7 +59,7 @@ AddsValue (region_variable w) u values e f = f ≡ added e (unset_variable kind.
 AddsValue (placeholder s w a) u values e f = f ≡ e
 
 -- the tree is the value: the new variable, or the placeholder
-pub record IsValueOf (k : PositionKind) (u : ℕ) (values : List Tree) (e f : Entries) (t : Tree) : Type 0 where
+pub record IsPositionValue (k : PositionKind) (u : ℕ) (values : List Tree) (e f : Entries) (t : Tree) : Type 0 where
   pub tree : t ≡ leaf_tree (value_leaf k u (length e.variables))
   pub adds : AddsValue k u values e f
 
@@ -72,10 +72,10 @@ pub record IsArgOf (ts : List Tree) (e : Entries) (x : GenericArg) : Type 0 wher
 abbrev pub made_entries : List PositionKind → List HiddenType → Entries
 made_entries ks hs = record { variables = made_variables [] ks; order = []; universe = 0; constraints = []; hidden = hs }
 
-abbrev pub hidden_of : AliasTerm × Ty → HiddenType
-hidden_of h = record { alias = h.0.def_id; args = h.0.args; ty = h.1 }
+abbrev pub stored_hidden : AliasTerm × Ty → HiddenType
+stored_hidden h = record { alias = h.0.def_id; args = h.0.args; ty = h.1 }
 
 -- hidden types are registered in their order: of one alias the last stays
 abbrev pub RegistersAll : List Tree → Content → List HiddenType → List (AliasTerm × Ty) → List HiddenType → Type 0
 RegistersAll ts c xs [] ys = ys ≡ xs
-RegistersAll ts c xs (h ∷ hs) ys = (zs : List HiddenType) × (older : Option Ty) × Registers ts c xs (hidden_of h) zs older × RegistersAll ts c zs hs ys
+RegistersAll ts c xs (h ∷ hs) ys = (zs : List HiddenType) × (older : Option Ty) × Registers ts c xs (stored_hidden h) zs older × RegistersAll ts c zs hs ys

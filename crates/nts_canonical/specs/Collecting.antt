@@ -90,7 +90,7 @@ pub record IsReading (stays : Leaf → Bool) (ts : List Tree) (tasks : List Task
   pub are_read : AreRead stays ts s finished
 
 -- a walk that goes on: it will have seen the same, and has less to do
-pub record Continues (stays : Leaf → Bool) (ts : List Tree) (xs : List Task) (s : List Leaf) (ns : List ℕ) (ys : List Task) (u : List Leaf) (ms : List ℕ) : Type 0 where
+pub record WalkGoesOn (stays : Leaf → Bool) (ts : List Tree) (xs : List Task) (s : List Leaf) (ns : List ℕ) (ys : List Task) (u : List Leaf) (ms : List ℕ) : Type 0 where
   pub reading : IsReading stays ts ys u ms
   pub same : seen_after stays (jobs ts ys) u ≡ seen_after stays (jobs ts xs) s
   pub less : weights (jobs ts ys) < weights (jobs ts xs)

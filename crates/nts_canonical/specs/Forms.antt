@@ -34,14 +34,14 @@ abbrev pub alias_tree : List Tree → AliasTerm → Tree
 alias_tree ts a = node (label.Ty (ty_head.Alias a.def_id.number)) (more (tree_at ts a.args.node) empty)
 
 -- hidden types as one row: an alias and its type, and so on
-abbrev pub hidden_row : List Tree → List (AliasTerm × Ty) → Tree
-hidden_row ts [] = empty
-hidden_row ts (h ∷ hs) = more (alias_tree ts h.0) (more (tree_at ts h.1.node) (hidden_row ts hs))
+abbrev pub hidden_pairs : List Tree → List (AliasTerm × Ty) → Tree
+hidden_pairs ts [] = empty
+hidden_pairs ts (h ∷ hs) = more (alias_tree ts h.0) (more (tree_at ts h.1.node) (hidden_pairs ts hs))
 
 -- the environment, the predicate and the hidden types of a query, as one row
 abbrev pub query_tree : List Tree → QueryInput → Tree
 query_tree ts q =
-    more (tree_at ts q.goal.param_env.node) (more (tree_at ts q.goal.predicate.node) (more (hidden_row ts q.predefined_opaques_in_body.items) empty))
+    more (tree_at ts q.goal.param_env.node) (more (tree_at ts q.goal.predicate.node) (more (hidden_pairs ts q.predefined_opaques_in_body.items) empty))
 
 -- what a canonical input stands for in a store
 abbrev pub form_of : List Tree → CanonicalInput → Form
@@ -49,7 +49,7 @@ form_of ts c =
     record {
       environment = tree_at ts c.canonical.value.goal.param_env.node;
       predicate = tree_at ts c.canonical.value.goal.predicate.node;
-      hidden = hidden_row ts c.canonical.value.predefined_opaques_in_body.items;
+      hidden = hidden_pairs ts c.canonical.value.predefined_opaques_in_body.items;
       kinds = map kind_of_var c.canonical.var_kinds.items;
     }
 
@@ -59,7 +59,7 @@ input_of ts e g hs =
     record {
       environment = tree_at ts g.param_env.node;
       predicate = tree_at ts g.predicate.node;
-      hidden = hidden_row ts hs;
+      hidden = hidden_pairs ts hs;
       sub_root = sub_root_in e;
     }
 

@@ -7,6 +7,7 @@ use Rattle.nts_model.specs.declared.labels.FreeRegion.TheVariants as region
 use Rattle.nts_model.specs.declared.labels.Constant.TheVariants as constant
 use Rattle.nts_model.specs.declared.labels.Leaf.{Leaf}
 use Rattle.nts_model.specs.declared.labels.Leaf.TheVariants as leaf
+use Rattle.nts_model.specs.Responses.{universe_of_kind}
 use Rattle.nts_model.specs.Inputs.{PositionKind, type_variable, integer_variable, float_variable, const_variable, region_variable, placeholder}
 use Rattle.nts_unify.specs.declared.contents.Variable.{Variable}
 use Rattle.nts_table.specs.Making.{unset_variable}
@@ -25,26 +26,17 @@ abbrev pub AreInputKinds : List PositionKind → Type 0
 AreInputKinds ks = (i : ℕ) (k : PositionKind) → slice_get ks i ≡ Some k → IsInputKind ks i k
 
 -- the variable that a position stands for, if it is one
-abbrev pub variable_kind : PositionKind → Option VariableKind
-variable_kind (type_variable u r) = Some kind.Ty
-variable_kind integer_variable = Some kind.Int
-variable_kind float_variable = Some kind.Float
-variable_kind (const_variable u) = Some kind.Const
-variable_kind (region_variable u) = Some kind.Region
-variable_kind (placeholder s u n) = None
+abbrev pub kind_of_position : PositionKind → Option VariableKind
+kind_of_position (type_variable u r) = Some kind.Ty
+kind_of_position integer_variable = Some kind.Int
+kind_of_position float_variable = Some kind.Float
+kind_of_position (const_variable u) = Some kind.Const
+kind_of_position (region_variable u) = Some kind.Region
+kind_of_position (placeholder s u n) = None
 
 abbrev pub count_of : Option VariableKind → ℕ
 count_of None = 0
 count_of (Some k) = 1
-
--- integers and floats are of the root
-abbrev pub universe_of_kind : PositionKind → ℕ
-universe_of_kind (type_variable u r) = u
-universe_of_kind integer_variable = 0
-universe_of_kind float_variable = 0
-universe_of_kind (const_variable u) = u
-universe_of_kind (region_variable u) = u
-universe_of_kind (placeholder s u n) = u
 
 -- the variable of that number, or the placeholder in that universe
 abbrev pub value_leaf : PositionKind → (universe number : ℕ) → Leaf
@@ -60,13 +52,13 @@ value_leaf (placeholder sort.Const w a) u n = leaf.ConstConstant (constant.Place
 -- one for each kind. The variables have the numbers from n on
 abbrev pub value_leaves : ℕ → List PositionKind → List Leaf
 value_leaves n [] = []
-value_leaves n (k ∷ ks) = value_leaf k (universe_of_kind k) n ∷ value_leaves (n + count_of (variable_kind k)) ks
+value_leaves n (k ∷ ks) = value_leaf k (universe_of_kind k) n ∷ value_leaves (n + count_of (kind_of_position k)) ks
 
 -- how many of the positions before i are variables
 abbrev pub variables_before : List PositionKind → ℕ → ℕ
 variables_before ks zero = 0
 variables_before [] (suc i) = 0
-variables_before (k ∷ ks) (suc i) = count_of (variable_kind k) + variables_before ks i
+variables_before (k ∷ ks) (suc i) = count_of (kind_of_position k) + variables_before ks i
 
 abbrev pub if_there : Option PositionKind → ℕ → Option ℕ
 if_there None n = None

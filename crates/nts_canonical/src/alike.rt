@@ -1,6 +1,6 @@
 //! Whether canonical inputs are one.
 ghost use Rattle.std.specs.Prelude.{◌≡◌, ◌↔◌, map, IsTrue};
-ghost use Rattle.nts_canonical.specs.Forms.{kind_of_var, hidden_row, query_tree, IsHidden, AreHidden, HoldsQuery};
+ghost use Rattle.nts_canonical.specs.Forms.{kind_of_var, hidden_pairs, query_tree, IsHidden, AreHidden, HoldsQuery};
 ghost use Rattle.nts_canonical.specs.Alike.{AreOneInput, AreOnePair};
 
 use crate::types::{CanonicalInput, CanonicalVarKind, QueryInput};
@@ -44,7 +44,7 @@ fn same_query(nodes: &Nodes, a: &QueryInput, b: &QueryInput) -> bool
 fn same_hidden(nodes: &Nodes, a: &[(AliasTerm, Ty)], b: &[(AliasTerm, Ty)]) -> bool
     requires left { AreHidden nodes.now a.now }
     requires right { AreHidden nodes.now b.now }
-    ensures { IsTrue result ↔ (hidden_row nodes.now a.now ≡ hidden_row nodes.now b.now) }
+    ensures { IsTrue result ↔ (hidden_pairs nodes.now a.now ≡ hidden_pairs nodes.now b.now) }
 {
     if a.len() != b.len() {
         return false;

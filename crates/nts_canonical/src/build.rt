@@ -12,9 +12,10 @@ ghost use Rattle.nts_terms.specs.Handles.{HoldsArg};
 ghost use Rattle.nts_unify.specs.Reading.{content_of, IsHiddenType};
 ghost use Rattle.nts_table.specs.Tables.{IsTable};
 ghost use Rattle.nts_canonical.specs.Forms.{kind_of_var, form_of, query_tree, trees_of, HoldsQuery};
-ghost use Rattle.nts_canonical.specs.Kinds.{AreInputKinds, universe_of_kind, value_leaves, made_variables};
+ghost use Rattle.nts_canonical.specs.Kinds.{AreInputKinds, value_leaves, made_variables};
+ghost use Rattle.nts_model.specs.Responses.{universe_of_kind};
 ghost use Rattle.nts_canonical.specs.Replaced.{AreLeafArgs};
-ghost use Rattle.nts_canonical.specs.Building.{kinds_of, values_of, made_entries, type_variable_of, IsInputOf, IsValueOf, IsArgOf, hidden_of, RegistersAll};
+ghost use Rattle.nts_canonical.specs.Building.{kinds_of, values_of, made_entries, type_variable_of, IsInputOf, IsPositionValue, IsArgOf, stored_hidden, RegistersAll};
 ghost use Rattle.nts_terms.specs.Rest.{Grows};
 ghost use Rattle.nts_table.specs.Frames.{ChangesEntries};
 
@@ -72,7 +73,7 @@ pub fn instantiate_canonical_var<F: Fn(UniverseIndex) -> UniverseIndex>(
     requires table { IsTable cx.old.nodes table.old }
     requires values { All (IsArgOf cx.old.nodes table.old.entries) var_values.now }
     requires callable { F.IsAlwaysCallable universe_map }
-    ensures value { IfOk result (λ r. (u : ℕ) × F.post universe_map (universe_of_kind (kind_of_var kind)) u × IsValueOf (kind_of_var kind) u (trees_of cx.old.nodes var_values.now) table.old.entries table.new.entries (tree_at cx.new.nodes r.node)) }
+    ensures value { IfOk result (λ r. (u : ℕ) × F.post universe_map (universe_of_kind (kind_of_var kind)) u × IsPositionValue (kind_of_var kind) u (trees_of cx.old.nodes var_values.now) table.old.entries table.new.entries (tree_at cx.new.nodes r.node)) }
     ensures holds { IfOk result (HoldsArg cx.new.nodes) }
     ensures changes { ChangesEntries table.old table.new }
     ensures table { IsTable cx.new.nodes table.new }
@@ -110,7 +111,7 @@ fn value_in(
 ) -> Result<GenericArg, Fault>
     requires table { IsTable cx.old.nodes table.old }
     requires values { All (IsArgOf cx.old.nodes table.old.entries) var_values.now }
-    ensures value { IfOk result (λ r. IsValueOf (kind_of_var kind) universe (trees_of cx.old.nodes var_values.now) table.old.entries table.new.entries (tree_at cx.new.nodes r.node)) }
+    ensures value { IfOk result (λ r. IsPositionValue (kind_of_var kind) universe (trees_of cx.old.nodes var_values.now) table.old.entries table.new.entries (tree_at cx.new.nodes r.node)) }
     ensures holds { IfOk result (HoldsArg cx.new.nodes) }
     ensures changes { ChangesEntries table.old table.new }
     ensures table { IsTable cx.new.nodes table.new }
@@ -200,7 +201,7 @@ fn register_hidden(
     hidden: &[(AliasTerm, Ty)],
 ) -> Result<(), Fault>
     requires table { IsTable cx.old.nodes table.old }
-    requires hidden { All (λ h. IsHiddenType cx.old.nodes (content_of cx.old.nodes table.old.entries) (hidden_of h)) hidden.now }
+    requires hidden { All (λ h. IsHiddenType cx.old.nodes (content_of cx.old.nodes table.old.entries) (stored_hidden h)) hidden.now }
     ensures registered { OnOk result (RegistersAll cx.new.nodes (content_of cx.new.nodes table.old.entries) table.old.entries.hidden hidden.now table.new.entries.hidden) }
     ensures entries { OnOk result (table.new.entries ≡ record table.old.entries { hidden = table.new.entries.hidden }) }
     ensures changes { ChangesEntries table.old table.new }

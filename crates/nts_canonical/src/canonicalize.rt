@@ -11,7 +11,7 @@ ghost use Rattle.nts_terms.specs.Handles.{HoldsArg, HoldsEnv, HoldsPredicate, Ho
 ghost use Rattle.nts_terms.specs.Rest.{Grows};
 ghost use Rattle.nts_unify.specs.Reading.{content_of};
 ghost use Rattle.nts_table.specs.Tables.{IsTable};
-ghost use Rattle.nts_canonical.specs.Forms.{hidden_row, query_tree, form_of, input_of, trees_of, IsHidden, AreHidden, HoldsQuery};
+ghost use Rattle.nts_canonical.specs.Forms.{hidden_pairs, query_tree, form_of, input_of, trees_of, IsHidden, AreHidden, HoldsQuery};
 ghost use Rattle.nts_canonical.specs.Building.{IsInputOf};
 ghost use Rattle.nts_canonical.specs.Replaced.{IsImage, AreImages, AreLeafArgs};
 
@@ -79,7 +79,7 @@ fn leaves_of(
     requires environment { HoldsEnv cx.now.nodes goal.param_env }
     requires predicate { HoldsPredicate cx.now.nodes goal.predicate }
     requires hidden { AreHidden cx.now.nodes opaque_types.now }
-    ensures { IfOk result (λ s. s.keys ≡ seen no_leaf (seen no_leaf (seen is_static [] (tree_at cx.now.nodes goal.param_env.node)) (tree_at cx.now.nodes goal.predicate.node)) (hidden_row cx.now.nodes opaque_types.now)) }
+    ensures { IfOk result (λ s. s.keys ≡ seen no_leaf (seen no_leaf (seen is_static [] (tree_at cx.now.nodes goal.param_env.node)) (tree_at cx.now.nodes goal.predicate.node)) (hidden_pairs cx.now.nodes opaque_types.now)) }
 {
     let mut leaves = IndexSet::new(cx.alloc);
     collect(cx.alloc, &cx.nodes, true, &mut leaves, goal.param_env.node)?;
@@ -121,7 +121,7 @@ fn numbered_query(
     requires hidden { AreHidden nodes.old opaque_types.now }
     ensures environment { IfOk result (λ q. tree_at nodes.new q.goal.param_env.node ≡ replace (numbered_leaf is_static leaves.now.keys) (tree_at nodes.old goal.param_env.node)) }
     ensures predicate { IfOk result (λ q. tree_at nodes.new q.goal.predicate.node ≡ replace (numbered_leaf no_leaf leaves.now.keys) (tree_at nodes.old goal.predicate.node)) }
-    ensures hidden { IfOk result (λ q. hidden_row nodes.new q.predefined_opaques_in_body.items ≡ replace (numbered_leaf no_leaf leaves.now.keys) (hidden_row nodes.old opaque_types.now)) }
+    ensures hidden { IfOk result (λ q. hidden_pairs nodes.new q.predefined_opaques_in_body.items ≡ replace (numbered_leaf no_leaf leaves.now.keys) (hidden_pairs nodes.old opaque_types.now)) }
     ensures holds { IfOk result (HoldsQuery nodes.new) }
     ensures extends { Extends nodes.old nodes.new }
 {

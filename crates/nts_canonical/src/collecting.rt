@@ -4,7 +4,7 @@ ghost use Rattle.nts_model.specs.Numbered.{seen};
 ghost use Rattle.nts_model.specs.Trees.{children, IsRow};
 ghost use Rattle.nts_store.specs.Growth.{tree_at, IsIn};
 ghost use Rattle.nts_canonical.specs.declared.collecting.Task.TheVariants.{Enter, Finish};
-ghost use Rattle.nts_canonical.specs.Collecting.{stays_where, after_leaf, TasksIn, jobs, entered, IsReading, Continues};
+ghost use Rattle.nts_canonical.specs.Collecting.{stays_where, after_leaf, TasksIn, jobs, entered, IsReading, WalkGoesOn};
 
 use indexmap::IndexSet;
 use nts_model::{FreeRegion, Label, Leaf};
@@ -64,7 +64,7 @@ fn enter(
     term: NodeId,
 ) -> Result<(), AllocError>
     requires { IsReading (stays_where keeps_static) nodes.now (tasks.old.items ++ Enter term ∷ []) leaves.old.keys finished.now.keys }
-    ensures { OnOk result (Continues (stays_where keeps_static) nodes.now (tasks.old.items ++ Enter term ∷ []) leaves.old.keys finished.now.keys tasks.new.items leaves.new.keys finished.now.keys) }
+    ensures { OnOk result (WalkGoesOn (stays_where keeps_static) nodes.now (tasks.old.items ++ Enter term ∷ []) leaves.old.keys finished.now.keys tasks.new.items leaves.new.keys finished.now.keys) }
 {
     if let Label::Leaf(leaf) = nodes.label(term) {
         return see(keeps_static, leaves, leaf);

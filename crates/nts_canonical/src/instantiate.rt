@@ -4,7 +4,7 @@ ghost use Rattle.nts_model.specs.Handlers.{filled};
 ghost use Rattle.nts_store.specs.Growth.{tree_at, AllIn, Extends};
 ghost use Rattle.nts_terms.specs.Handles.{Holds, HoldsArg};
 ghost use Rattle.nts_store.specs.Filled.{HasValues};
-ghost use Rattle.nts_canonical.specs.Forms.{alias_tree, hidden_row, query_tree, trees_of, IsHidden, AreHidden, HoldsQuery};
+ghost use Rattle.nts_canonical.specs.Forms.{alias_tree, hidden_pairs, query_tree, trees_of, IsHidden, AreHidden, HoldsQuery};
 ghost use Rattle.nts_canonical.specs.Replaced.{IsImage, AreImages};
 ghost use Rattle.nts_terms.specs.Rest.{Grows};
 
@@ -72,7 +72,7 @@ fn fill_hidden(
 ) -> Result<Vec<(AliasTerm, Ty)>, AllocError>
     requires holds { AreHidden nodes.old opaque_types.now }
     requires values { AllIn nodes.old values.now }
-    requires positions { HasValues (map (tree_at nodes.old) values.now) (hidden_row nodes.old opaque_types.now) }
+    requires positions { HasValues (map (tree_at nodes.old) values.now) (hidden_pairs nodes.old opaque_types.now) }
     ensures images { IfOk result (λ v. AreImages (filled (map (tree_at nodes.old) values.now)) nodes.old nodes.new opaque_types.now v.items) }
     ensures extends { Extends nodes.old nodes.new }
 {

@@ -17,7 +17,7 @@ use Rattle.nts_store.specs.Growth.{tree_at}
 use Rattle.nts_model.specs.Handlers.{position_of, NamesAt, NamesFresh}
 use Rattle.nts_store.proofs.Growing.{row_take-all}
 use Rattle.nts_delegate.specs.Candidates.{IsAsked, KnowsGoal, AreEquations, AreNested, IsCandidate, AreCandidates}
-use Rattle.nts_delegate.specs.Clauses.{is_foreign, AreBodies, IsClause, AreClauses, clauses_of, AreReady}
+use Rattle.nts_delegate.specs.Clauses.{is_foreign, AreBodies, HoldsClause, AreClauses, clauses_of, AreReady}
 use Rattle.nts_delegate.specs.Adding.{AddsClause}
 use Rattle.nts_delegate.specs.Offers.{trait_read, trait_of_body, trait_of, IsPair, ArePairs, asked_by, IsOffer, takes, AreEach}
 use Rattle.nts_delegate.specs.declared.delegate.Equation.{Equation}
@@ -188,7 +188,7 @@ asked_nested ts fresh g (p ∷ ps) a b = (
   asked_nested ts fresh g ps a b.2,
 )
 
-pub offer_is_candidate : (ts : List Tree) (g : Goal) (args : Tree) (c : Clause) (d : CandidateData) → IsAsked ts g → IsClause ts c → IsPart (tree_at ts g.predicate.node) args → IsOffer ts g args c d → IsCandidate ts g d
+pub offer_is_candidate : (ts : List Tree) (g : Goal) (args : Tree) (c : Clause) (d : CandidateData) → IsAsked ts g → HoldsClause ts c → IsPart (tree_at ts g.predicate.node) args → IsOffer ts g args c d → IsCandidate ts g d
 offer_is_candidate ts g args c d a h part o =
     record {
       hidden = o.hidden;
@@ -231,7 +231,7 @@ found_none ts g args = record { each = tt; candidates = tt }
 pub taken : (cs : List Clause) (i : ℕ) (c : Clause) → i < length cs → c ≡ get_or cs i c → take (i + 1) cs ≡ take i cs ++ c ∷ []
 taken cs i c l e = take_more cs i c l ∙ ap (λ x. take i cs ++ x ∷ []) (sym e)
 
-pub found_more : (ts : List Tree) (g : Goal) (args : Tree) (cs ls : List Clause) (ds es : List CandidateData) (c : Clause) (d : CandidateData) → AreFound ts g args cs ds → takes ts args c ≡ true → IsAsked ts g → IsClause ts c → IsPart (tree_at ts g.predicate.node) args → IsOffer ts g args c d → ls ≡ cs ++ c ∷ [] → es ≡ ds ++ d ∷ [] → AreFound ts g args ls es
+pub found_more : (ts : List Tree) (g : Goal) (args : Tree) (cs ls : List Clause) (ds es : List CandidateData) (c : Clause) (d : CandidateData) → AreFound ts g args cs ds → takes ts args c ≡ true → IsAsked ts g → HoldsClause ts c → IsPart (tree_at ts g.predicate.node) args → IsOffer ts g args c d → ls ≡ cs ++ c ∷ [] → es ≡ ds ++ d ∷ [] → AreFound ts g args ls es
 found_more ts g args cs ls ds es c d f t a h p o l e =
     rw (l, e) (record {
       each = rw (filter_kept (takes ts args) cs c t) (each_push ts g args _ ds c d f.each o);
@@ -242,16 +242,16 @@ pub found_same : (ts : List Tree) (g : Goal) (args : Tree) (cs ls : List Clause)
 found_same ts g args cs ls ds es c f t l e =
     rw (l, e) (record { each = rw (filter_left (takes ts args) cs c t) f.each; candidates = f.candidates })
 
-pub clause_at : (ts : List Tree) (cs : List Clause) (i : ℕ) (c : Clause) → AreClauses ts cs → i < length cs → c ≡ get_or cs i c → IsClause ts c
+pub clause_at : (ts : List Tree) (cs : List Clause) (i : ℕ) (c : Clause) → AreClauses ts cs → i < length cs → c ≡ get_or cs i c → HoldsClause ts c
 clause_at ts [] i c h l e = absurd (omega arith)
 clause_at ts (x ∷ cs) zero c h l e = rw e h.0
 clause_at ts (x ∷ cs) (suc i) c h l e = clause_at ts cs i c h.1 (omega arith) e
 
-clauses_push : (ts : List Tree) (cs : List Clause) (c : Clause) → AreClauses ts cs → IsClause ts c → AreClauses ts (cs ++ c ∷ [])
+clauses_push : (ts : List Tree) (cs : List Clause) (c : Clause) → AreClauses ts cs → HoldsClause ts c → AreClauses ts (cs ++ c ∷ [])
 clauses_push ts [] c h k = (k, tt)
 clauses_push ts (x ∷ cs) c h k = (h.0, clauses_push ts cs c h.1 k)
 
-pub ready_added : (ts : List Tree) (a b : Clauses) (c : Clause) → AreReady ts a → IsClause ts c → AddsClause a b c → AreReady ts b
+pub ready_added : (ts : List Tree) (a b : Clauses) (c : Clause) → AreReady ts a → HoldsClause ts c → AddsClause a b c → AreReady ts b
 ready_added ts a b c r k h i = rw (h.clauses i) (by_case (i == c.trait_id.number))
   where
     by_case : (w : Bool) → AreClauses ts (if w then clauses_of a i ++ c ∷ [] else clauses_of a i)

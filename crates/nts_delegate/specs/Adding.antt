@@ -5,7 +5,7 @@ use Rattle.nts_delegate.specs.declared.clauses.Clauses.{Clauses}
 use Rattle.nts_delegate.specs.Clauses.{clauses_of, coinductive_of}
 
 -- each trait has the clauses that it had, and is as coinductive as it was
-pub record IsSame (old new : Clauses) : Type 0 where
+pub record KeepsClauses (old new : Clauses) : Type 0 where
   pub clauses : (i : ℕ) → clauses_of new i ≡ clauses_of old i
   pub coinductive : (i : ℕ) → coinductive_of new i ≡ coinductive_of old i
 

@@ -57,14 +57,14 @@ abbrev pub AreBodies : List Tree → List Sort → List Predicate → Type 0
 AreBodies ts fresh [] = Unit {0}
 AreBodies ts fresh (p ∷ ps) = HoldsPredicate ts p × IsClauseTerm ts fresh p.node × AreBodies ts fresh ps
 
-pub record IsClause (ts : List Tree) (c : Clause) : Type 0 where
+pub record HoldsClause (ts : List Tree) (c : Clause) : Type 0 where
   pub head_holds : HoldsArgs ts c.head
   pub head : IsClauseTerm ts c.fresh.items c.head.node
   pub body : AreBodies ts c.fresh.items c.body.items
 
 abbrev pub AreClauses : List Tree → List Clause → Type 0
 AreClauses ts [] = Unit {0}
-AreClauses ts (c ∷ cs) = IsClause ts c × AreClauses ts cs
+AreClauses ts (c ∷ cs) = HoldsClause ts c × AreClauses ts cs
 
 -- the clauses of a trait, in the order in which they were added
 abbrev pub clauses_in : Option TraitClauses → List Clause

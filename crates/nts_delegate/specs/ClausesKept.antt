@@ -8,7 +8,7 @@ use Rattle.nts_terms.specs.declared.handles.Predicate.{Predicate}
 use Rattle.nts_store.specs.Growth.{Extends}
 use Rattle.nts_terms.specs.Handles.{Holds}
 use Rattle.nts_model.specs.Trees.{Place}
-use Rattle.nts_delegate.specs.Clauses.{IsClauseTerm, AreBodies, IsClause, AreClauses, clauses_of, AreReady}
+use Rattle.nts_delegate.specs.Clauses.{IsClauseTerm, AreBodies, HoldsClause, AreClauses, clauses_of, AreReady}
 use Rattle.nts_delegate.specs.declared.clauses.Clause.{Clause}
 use Rattle.nts_delegate.specs.declared.clauses.Clauses.{Clauses}
 
@@ -31,7 +31,7 @@ AreBodies-kept a b fresh [] h e = tt
 AreBodies-kept a b fresh (p ∷ ps) h e =
     (Holds-kept h.0 e, IsClauseTerm-kept h.1 e, AreBodies-kept a b fresh ps h.2 e)
 
-pub IsClause-kept : {a b : List Tree} {c : Clause} → IsClause a c → Extends a b → IsClause b c
+pub IsClause-kept : {a b : List Tree} {c : Clause} → HoldsClause a c → Extends a b → HoldsClause b c
 IsClause-kept {a} {b} {c} h e =
     record {
       head_holds = Holds-kept h.head_holds e;

@@ -14,7 +14,7 @@ use Rattle.nts_terms.specs.declared.handles.Predicate.{Predicate}
 use Rattle.nts_store.specs.Growth.{tree_at, Extends}
 use Rattle.nts_store.specs.Formed.{AreFormed}
 use Rattle.nts_terms.proofs.Standing.{args_tree}
-use Rattle.nts_delegate.specs.Clauses.{is_foreign, IsClauseTerm, AreBodies, IsClause, AreClauses, clauses_of, coinductive_of, AreReady}
+use Rattle.nts_delegate.specs.Clauses.{is_foreign, IsClauseTerm, AreBodies, HoldsClause, AreClauses, clauses_of, coinductive_of, AreReady}
 use Rattle.nts_delegate.specs.Offers.{trait_of, IsPair, ArePairs, asked_by, IsOffer, takes, AreEach, AreOffersOf, AreOffers}
 use Rattle.nts_delegate.specs.ClauseHandlers.{ClauseTree, equations_of, asked_in, offer_by, takes_all, offers_by, handler_by, clause_tree, clauses_in_store, handler_of}
 use Rattle.nts_delegate.specs.Offered.{certainty_of, access_of, equation_as, equation_of, constraint_of, hidden_of, premise_of, candidate_of, candidates_of}
@@ -44,7 +44,7 @@ row_of empty h = tt
 row_of (more a b) h = row_of b h.1
 row_of (node l c) h = absurd h
 
-own_clause : (ts : List Tree) (c : Clause) → AreFormed ts → IsClause ts c → IsOwnClause (clause_tree ts c)
+own_clause : (ts : List Tree) (c : Clause) → AreFormed ts → HoldsClause ts c → IsOwnClause (clause_tree ts c)
 own_clause ts c f h =
     let is = args_tree (tree_at ts c.head.node) h.head_holds.fits in
     let whole : IsOwnTerm c.fresh.items (node (label.List list.Args) (children (tree_at ts c.head.node))) = rw is at (own_term ts c.fresh.items c.head.node f h.head) in
@@ -116,7 +116,7 @@ bodies_same : (a b : List Tree) (fresh : List Sort) (ps : List Predicate) → Ar
 bodies_same a b fresh [] h e = refl
 bodies_same a b fresh (p ∷ ps) h e = cc (e.kept p.node h.1.within, bodies_same a b fresh ps h.2 e)
 
-clause_same : (a b : List Tree) (c : Clause) → IsClause a c → Extends a b → clause_tree b c ≡ clause_tree a c
+clause_same : (a b : List Tree) (c : Clause) → HoldsClause a c → Extends a b → clause_tree b c ≡ clause_tree a c
 clause_same a b c h e =
     let head = ap children (e.kept c.head.node h.head.within) in
     let body = bodies_same a b c.fresh.items c.body.items h.body e in

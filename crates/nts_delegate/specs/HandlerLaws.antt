@@ -20,7 +20,7 @@ use Rattle.nts_terms.proofs.Standing.{args_tree}
 use Rattle.nts_delegate.specs.Clauses.{is_foreign}
 use Rattle.nts_delegate.specs.Offers.{trait_of}
 use Rattle.nts_delegate.specs.ClauseHandlers.{ClauseTree, ClausesOfTraits, equations_of, asked_in, trait_goal, IsInstanceOfClause, offer_by, takes_all, offers_by, handler_by}
-use Rattle.nts_delegate.specs.OwnTerms.{both_false, KeepsFixed, names_nothing, own_leaves, IsRow-replace, row_length-replace}
+use Rattle.nts_delegate.specs.OwnTerms.{both_false, KeepsFixed, names_nothing, leaves_fixed, IsRow-replace, row_length-replace}
 use Rattle.nts_delegate.specs.OwnClauses.{IsOwnTerm, AreOwnTerms, IsOwnClause, AreOwnClauses, AreOwn, own_among, replaced_equations, filled_equations, moved_equations, replaced_goals, filled_goals, moved_goals}
 
 -- a goal that is asked is a trait's, or has no offers
@@ -216,7 +216,7 @@ rules clauses is_coinductive own =
 -- candidates keep the environment, and have no foreign leaves, sorts or sources
 own_over : (fresh : List Sort) (e g t : Tree) → IsOwnTerm fresh t → IsOver fresh e g t
 own_over fresh e g t o =
-    record { names = o.names; leaves = λ l x. inr (own_leaves t o.own l x); formed = o.formed; closed = o.closed }
+    record { names = o.names; leaves = λ l x. inr (leaves_fixed t o.own l x); formed = o.formed; closed = o.closed }
 
 first_over : (fresh : List Sort) (e g a b : Tree) → IsOver fresh e g (more a b) → IsOver fresh e g a
 first_over fresh e g a b o =

@@ -25,8 +25,8 @@ use Rattle.nts_terms.specs.Modes.{numbers_of}
 use Rattle.nts_delegate.specs.declared.delegate.Equation.{Equation as EquationData}
 use Rattle.nts_delegate.specs.declared.delegate.EquationKind.{EquationKind}
 use Rattle.nts_delegate.specs.declared.delegate.EquationKind.TheVariants as kind_data
+use Rattle.nts_terms.specs.declared.handles.Ty.{Ty}
 use Rattle.nts_delegate.specs.declared.delegate.RegionConstraint.{RegionConstraint}
-use Rattle.nts_delegate.specs.declared.delegate.HiddenType.{HiddenType}
 use Rattle.nts_delegate.specs.declared.delegate.CandidateGoal.{CandidateGoal}
 use Rattle.nts_delegate.specs.declared.delegate.CandidateData.{CandidateData}
 
@@ -81,8 +81,8 @@ constraint_of ts x =
 abbrev pub tree_of_alias : List Tree → AliasTerm → Tree
 tree_of_alias ts a = node (label.Ty (ty.Alias a.def_id.number)) (more (tree_at ts a.args.node) empty)
 
-abbrev pub hidden_of : List Tree → HiddenType → Hidden
-hidden_of ts h = record { key = tree_of_alias ts h.key; hidden_type = tree_at ts h.ty.node }
+abbrev pub hidden_of : List Tree → AliasTerm × Ty → Hidden
+hidden_of ts h = record { key = tree_of_alias ts h.0; hidden_type = tree_at ts h.1.node }
 
 abbrev pub premise_of : List Tree → CandidateGoal → Premise
 premise_of ts q =

@@ -108,12 +108,12 @@ names_nothing fresh (node l c) h =
     (rw (no_position l s.0) tt, names_nothing fresh c s.1)
 
 -- its leaves
-pub own_leaves : (t : Tree) → any_label is_foreign t ≡ false → (l : Leaf) → Occurs l t → IsFixed l
-own_leaves empty h l o = absurd o
-own_leaves (more a b) h l (inl o) = own_leaves a (both_false (any_label is_foreign a) (any_label is_foreign b) h).0 l o
-own_leaves (more a b) h l (inr o) = own_leaves b (both_false (any_label is_foreign a) (any_label is_foreign b) h).1 l o
-own_leaves (node k c) h l (inl e) = fixed_leaf l (ap is_foreign e ∙ (both_false (is_foreign k) (any_label is_foreign c) h).0)
-own_leaves (node k c) h l (inr o) = own_leaves c (both_false (is_foreign k) (any_label is_foreign c) h).1 l o
+pub leaves_fixed : (t : Tree) → any_label is_foreign t ≡ false → (l : Leaf) → Occurs l t → IsFixed l
+leaves_fixed empty h l o = absurd o
+leaves_fixed (more a b) h l (inl o) = leaves_fixed a (both_false (any_label is_foreign a) (any_label is_foreign b) h).0 l o
+leaves_fixed (more a b) h l (inr o) = leaves_fixed b (both_false (any_label is_foreign a) (any_label is_foreign b) h).1 l o
+leaves_fixed (node k c) h l (inl e) = fixed_leaf l (ap is_foreign e ∙ (both_false (is_foreign k) (any_label is_foreign c) h).0)
+leaves_fixed (node k c) h l (inr o) = leaves_fixed c (both_false (is_foreign k) (any_label is_foreign c) h).1 l o
 
 -- lists of arguments
 pub IsRow-replace : (f : Leaf → Tree) (t : Tree) → IsRow t → IsRow (replace f t)

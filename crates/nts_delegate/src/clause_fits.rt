@@ -5,7 +5,7 @@ ghost use Rattle.nts_store.specs.Growth.{IsIn};
 ghost use Rattle.nts_model.specs.Handlers.{position_of};
 ghost use Rattle.nts_terms.specs.Handles.{HoldsArgs, HoldsPredicate};
 ghost use Rattle.nts_model.specs.Handlers.{IsOfSort, NamesAt};
-ghost use Rattle.nts_delegate.specs.Clauses.{MayHave, is_foreign, is_foreign_leaf, IsClauseTerm, IsClause};
+ghost use Rattle.nts_delegate.specs.Clauses.{MayHave, is_foreign, is_foreign_leaf, IsClauseTerm, HoldsClause};
 
 use crate::clauses::{Clause, Clauses};
 use nts_model::{BoundVarIndexKind, FreeRegion, Label, Leaf, PredicateHead, Sort};
@@ -31,7 +31,7 @@ impl Clauses {
     /// Whether a clause may be added to the handlers of this store: it names only its own variables,
     /// and has no leaf of a goal's.
     pub fn clause_fits(cx: &Cx, clause: &Clause) -> Result<bool, Fault>
-        ensures fits { IfOk result (λ b. IsTrue b ↔ IsClause cx.now.nodes clause.now) }
+        ensures fits { IfOk result (λ b. IsTrue b ↔ HoldsClause cx.now.nodes clause.now) }
         ensures memory { IsOkUnless result Fault.Memory }
     {
         if !head_fits(cx, &clause.fresh, clause.head)? {

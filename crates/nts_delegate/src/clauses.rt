@@ -41,8 +41,8 @@ pub struct Clauses {
 }
 
 impl Clauses {
-    ghost use Rattle.nts_delegate.specs.Clauses.{IsClause, AreReady, clauses_of, coinductive_of};
-    ghost use Rattle.nts_delegate.specs.Adding.{IsSame, AddsClause, MakesCoinductive};
+    ghost use Rattle.nts_delegate.specs.Clauses.{HoldsClause, AreReady, clauses_of, coinductive_of};
+    ghost use Rattle.nts_delegate.specs.Adding.{KeepsClauses, AddsClause, MakesCoinductive};
 
     /// No clauses. It takes no memory.
     pub fn new(alloc: Global) -> Self
@@ -59,8 +59,8 @@ impl Clauses {
     /// One more clause, after all others of its trait.
     pub fn add_clause(&mut self, clause: Clause) -> Result<(), Fault>
         ensures added { OnOk result (AddsClause self.old self.new clause) }
-        ensures err { OnErr result (IsSame self.old self.new) }
-        ensures ready { (ts : List Tree) → AreReady ts self.old → IsClause ts clause →
+        ensures err { OnErr result (KeepsClauses self.old self.new) }
+        ensures ready { (ts : List Tree) → AreReady ts self.old → HoldsClause ts clause →
             AreReady ts self.new }
         ensures memory { IsOkUnless result Fault.Memory }
     {
@@ -72,7 +72,7 @@ impl Clauses {
     /// Makes a trait coinductive: a cycle through conditions of its impls holds.
     pub fn set_coinductive(&mut self, id: TraitId) -> Result<(), Fault>
         ensures made { OnOk result (MakesCoinductive self.old self.new id.number) }
-        ensures err { OnErr result (IsSame self.old self.new) }
+        ensures err { OnErr result (KeepsClauses self.old self.new) }
         ensures ready { (ts : List Tree) → AreReady ts self.old → AreReady ts self.new }
         ensures memory { IsOkUnless result Fault.Memory }
     {
@@ -85,7 +85,7 @@ impl Clauses {
     fn entry(&mut self, id: TraitId) -> Result<usize, Fault>
         ensures is { IfOk result (λ i. i ≡ id.number) }
         ensures within { IfOk result (λ i. i < length self.new.traits.items) }
-        ensures same { IsSame self.old self.new }
+        ensures same { KeepsClauses self.old self.new }
         ensures memory { IsOkUnless result Fault.Memory }
     {
         while self.traits.len() <= id.number {

@@ -34,13 +34,6 @@ pub struct RegionConstraint {
     pub right: Region,
 }
 
-/// A type that an alias hides.
-#[derive(Clone, Copy)]
-pub struct HiddenType {
-    pub key: AliasTerm,
-    pub ty: Ty,
-}
-
 /// A goal that a candidate asks for.
 #[derive(Clone, Copy)]
 pub struct CandidateGoal {
@@ -55,7 +48,8 @@ pub struct CandidateData {
     pub fresh: Vec<Sort>,
     pub equations: Vec<Equation>,
     pub region_constraints: Vec<RegionConstraint>,
-    pub hidden_types: Vec<HiddenType>,
+    /// Aliases, each with the type that it hides.
+    pub hidden_types: Vec<(AliasTerm, Ty)>,
     pub goals: Vec<CandidateGoal>,
     /// How sure the candidate is where all that it asks for holds.
     pub certainty: Certainty,

@@ -7,5 +7,5 @@ mod delegate;
 
 pub use clauses::{Clause, Clauses};
 pub use delegate::{
-    CandidateData, CandidateGoal, Equation, EquationKind, GoalHandler, HiddenType, RegionConstraint,
+    CandidateData, CandidateGoal, Equation, EquationKind, GoalHandler, RegionConstraint,
 };

@@ -53,7 +53,7 @@ use Rattle.nts_terms.specs.Handles.{HoldsGoal}
 use Rattle.nts_store.specs.Formed.{AreFormed}
 use Rattle.nts_terms.proofs.Moved.{KeepsRest-refl}
 use Rattle.nts_evaluation.specs.Meant.{Since, offers_of}
-use Rattle.nts_evaluation.specs.Instances.{HoldsValues, IsInstance}
+use Rattle.nts_evaluation.specs.Instances.{HoldsValues, IsTermInstance}
 use Rattle.nts_evaluation.specs.Evaluation.{Goes, Runs, IsAdmitted, IsPosed, AllKnown, AreOfSorts, AreValues}
 use Rattle.nts_table.specs.Tables.{IsTermOf}
 
@@ -181,17 +181,17 @@ filled-kept : {a b : List Tree} (vs : List NodeId) (x : NodeId) → AllIn a vs �
 filled-kept {a} {b} vs x w i e = rw (map-kept a b vs w e, e.kept x i) refl
 
 -- an instance of a term is a term of the table, and it is one in a store that grows later or has grown before
-pub instance_term : {a b : List Tree} {t : Table} {vs : List NodeId} {x y : NodeId} → IsTable a t → CanFill a t vs x → Extends a b → IsInstance a b vs x y → IsTermOf b t y
+pub instance_term : {a b : List Tree} {t : Table} {vs : List NodeId} {x y : NodeId} → IsTable a t → CanFill a t vs x → Extends a b → IsTermInstance a b vs x y → IsTermOf b t y
 instance_term {a} {b} {t} {vs} {x} {y} h f e q =
     let same = content_of-extended e h.now in
     record { within = q.within; knows = rw (q.tree, same) f.knows }
 
-pub IsInstance-later : {a b d : List Tree} {vs : List NodeId} {x y : NodeId} → Extends b d → AreFormed d → IsInstance a b vs x y → IsInstance a d vs x y
+pub IsInstance-later : {a b d : List Tree} {vs : List NodeId} {x y : NodeId} → Extends b d → AreFormed d → IsTermInstance a b vs x y → IsTermInstance a d vs x y
 IsInstance-later {a} {b} {d} {vs} {x} {y} e f q =
     let kept = e.kept y q.within in
     record { formed = f; within = IsIn-extended e y q.within; kind = ap kind_of kept ∙ q.kind; tree = kept ∙ q.tree }
 
-pub IsInstance-earlier : {a b d : List Tree} {vs : List NodeId} {x y : NodeId} → AllIn a vs → IsIn a x → Extends a b → IsInstance b d vs x y → IsInstance a d vs x y
+pub IsInstance-earlier : {a b d : List Tree} {vs : List NodeId} {x y : NodeId} → AllIn a vs → IsIn a x → Extends a b → IsTermInstance b d vs x y → IsTermInstance a d vs x y
 IsInstance-earlier {a} {b} {d} {vs} {x} {y} w i e q =
     record { formed = q.formed; within = q.within; kind = q.kind ∙ ap kind_of (e.kept x i); tree = q.tree ∙ filled-kept vs x w i e }
 

@@ -56,7 +56,7 @@ use Rattle.nts_delegate.specs.declared.delegate.CandidateData.{CandidateData}
 use Rattle.nts_terms.specs.declared.handles.Goal.{Goal}
 use Rattle.nts_delegate.specs.Candidates.{AreEquations, AreRegionConstraints, AreNested, IsCandidate, AreCandidates}
 use Rattle.nts_delegate.specs.Offered.{certainty_of, access_of, source_of, equation_as, equation_of, hidden_of, constraint_of, premise_of, candidate_of, candidates_of}
-use Rattle.nts_evaluation.specs.Running.{IsTermTable, Stays, EquationHolds, ConstraintHolds, PremiseHolds, EachStays, Equates, Constrains, Proves}
+use Rattle.nts_evaluation.specs.Running.{IsTermTable, Stays, EquationHolds, ConstraintHolds, PremiseHolds, EachStays, EquatesEach, Constrains, Proves}
 use Rattle.nts_evaluation.specs.Evaluation.{Goes}
 use Rattle.nts_table.specs.Tables.{IsTermOf}
 use Rattle.nts_evaluation.proofs.Evaluating.{candidate_at}
@@ -294,7 +294,7 @@ has_run h v mode c x vs e g law asked ke kg offered run =
     }
 
 -- lists of a candidate's parts, whose values stand in a store that grows
-pub Equates-later : {b e : List Tree} {t u : Table} (a : List Tree) (vs : List NodeId) (qs : List Equation) → Goes b e t u → AllIn b vs → Equates a b t vs qs → Equates a e u vs qs
+pub Equates-later : {b e : List Tree} {t u : Table} (a : List Tree) (vs : List NodeId) (qs : List Equation) → Goes b e t u → AllIn b vs → EquatesEach a b t vs qs → EquatesEach a e u vs qs
 Equates-later {b} {e} {t} {u} a vs qs g w h =
     rw (map-kept b e vs w g.extends) (EachStays-later (EquationHolds (map (tree_at b) vs)) (map (equation_of a) qs) g h)
 
@@ -307,7 +307,7 @@ Proves-later {b} {e} {t} {u} m mode a vs hs g w h =
     rw (map-kept b e vs w g.extends) (EachStays-later (PremiseHolds m mode (map (tree_at b) vs)) (map (premise_of a) hs) g h)
 
 -- .. and one part more
-Equates-push : (a b : List Tree) (t : Table) (vs : List NodeId) (qs : List Equation) (q : Equation) → Equates a b t vs qs → Stays (content_of b t.entries) (EquationHolds (map (tree_at b) vs) (equation_of a q)) → Equates a b t vs (qs ++ q ∷ [])
+Equates-push : (a b : List Tree) (t : Table) (vs : List NodeId) (qs : List Equation) (q : Equation) → EquatesEach a b t vs qs → Stays (content_of b t.entries) (EquationHolds (map (tree_at b) vs) (equation_of a q)) → EquatesEach a b t vs (qs ++ q ∷ [])
 Equates-push a b t vs [] q h k = (k, tt)
 Equates-push a b t vs (x ∷ qs) q h k = (h.0, Equates-push a b t vs qs q h.1 k)
 
@@ -417,7 +417,7 @@ offered_there {a} {b} {y} {cs} g x ds k q l h e same =
     subst (λ z. Among z (candidate_of b y)) same (rw (q, kept) (among_at a ds k x l))
 
 -- one part more of a list that is gone through
-pub Equates-step : {b e : List Tree} {t u : Table} {ws : List NodeId} {rs : List Equation} (q : Equation) (a : List Tree) (vs : List NodeId) (qs : List Equation) (i : ℕ) → ws ≡ vs → rs ≡ qs → i < length qs → Goes b e t u → AllIn b vs → Equates a b t vs (take i qs) → Extends a b → ((d : Equation) → IsIn a (get_or qs i d).lhs.node × IsIn a (get_or qs i d).rhs.node) → Stays (content_of e u.entries) (EquationHolds (map (tree_at b) ws) (equation_of b (get_or rs i q))) → Equates a e u vs (take (i + 1) qs)
+pub Equates-step : {b e : List Tree} {t u : Table} {ws : List NodeId} {rs : List Equation} (q : Equation) (a : List Tree) (vs : List NodeId) (qs : List Equation) (i : ℕ) → ws ≡ vs → rs ≡ qs → i < length qs → Goes b e t u → AllIn b vs → EquatesEach a b t vs (take i qs) → Extends a b → ((d : Equation) → IsIn a (get_or qs i d).lhs.node × IsIn a (get_or qs i d).rhs.node) → Stays (content_of e u.entries) (EquationHolds (map (tree_at b) ws) (equation_of b (get_or rs i q))) → EquatesEach a e u vs (take (i + 1) qs)
 Equates-step {b} {e} {t} {u} {ws} {rs} q a vs qs i y z l g w h x o k =
     let item = get_or qs i q in
     let one : Stays (content_of e u.entries) (EquationHolds (map (tree_at e) vs) (equation_of a (get_or qs i q))) = rw (map-kept b e vs w g.extends, ← equation-kept {a = a} {b = b} item x (o q).0 (o q).1, ← y, ← z) k in

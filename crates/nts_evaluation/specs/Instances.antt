@@ -17,19 +17,19 @@ pub record HoldsValues (ts : List Tree) (fresh : List Sort) (vs : List NodeId) :
   pub sorts : AreOfSorts fresh (map (tree_at ts) vs)
 
 -- in the store b, which has grown from the store a, the term y is the term x with the values in place of its positions
-pub record IsInstance (a b : List Tree) (vs : List NodeId) (x y : NodeId) : Type 0 where
+pub record IsTermInstance (a b : List Tree) (vs : List NodeId) (x y : NodeId) : Type 0 where
   pub formed : AreFormed b
   pub within : IsIn b y
   pub kind : kind_of (tree_at b y) ≡ kind_of (tree_at a x)
   pub tree : tree_at b y ≡ filled (map (tree_at a) vs) (tree_at a x)
 
 -- the tree of a term with the values in place of its positions
-abbrev pub instance_of : List Tree → List NodeId → NodeId → Tree
-instance_of ts vs x = filled (map (tree_at ts) vs) (tree_at ts x)
+abbrev pub instance_at : List Tree → List NodeId → NodeId → Tree
+instance_at ts vs x = filled (map (tree_at ts) vs) (tree_at ts x)
 
 -- the goal g is the candidate's goal h with the values in place of its positions, and what the table knows of variables
-pub record Asks (a b : List Tree) (c : Content) (vs : List NodeId) (h g : Goal) : Type 0 where
-  pub env : tree_at b g.param_env.node ≡ deeply_resolved c (instance_of a vs h.param_env.node)
-  pub predicate : tree_at b g.predicate.node ≡ deeply_resolved c (instance_of a vs h.predicate.node)
-  pub formed_env : IsFormed (instance_of a vs h.param_env.node)
-  pub formed_predicate : IsFormed (instance_of a vs h.predicate.node)
+pub record IsGoalInstance (a b : List Tree) (c : Content) (vs : List NodeId) (h g : Goal) : Type 0 where
+  pub env : tree_at b g.param_env.node ≡ deeply_resolved c (instance_at a vs h.param_env.node)
+  pub predicate : tree_at b g.predicate.node ≡ deeply_resolved c (instance_at a vs h.predicate.node)
+  pub formed_env : IsFormed (instance_at a vs h.param_env.node)
+  pub formed_predicate : IsFormed (instance_at a vs h.predicate.node)

@@ -19,7 +19,7 @@ use Rattle.nts_delegate.specs.declared.delegate.CandidateData.{CandidateData}
 use Rattle.nts_delegate.specs.declared.delegate.CandidateGoal.{CandidateGoal}
 use Rattle.nts_evaluation.specs.declared.evaluate.Answer.{Answer}
 use Rattle.nts_delegate.specs.Offered.{premise_of, candidate_of, candidates_of}
-use Rattle.nts_evaluation.specs.Running.{Stays, PremiseHolds, IsProved}
+use Rattle.nts_evaluation.specs.Running.{Stays, PremiseHolds, StaysProved}
 
 -- a store from which the present one has grown, and in which the handler's terms stood; and any declared variances
 pub record Since (ready : List Tree → Type 0) (now : List Tree) : Type 0 where
@@ -55,4 +55,4 @@ IsOffered h mode ts g c = Among (offers_of h (mode_of mode) ts g) (candidate_of 
 
 -- a goal is proved by what the handler means since then, in a table of that mode, now and later
 abbrev pub IsProvedSince : {ready : List Tree → Type 0} {now : List Tree} → (List Tree → Handler) → Since ready now → TypingMode → List Tree → Table → Goal → Type 0
-IsProvedSince handler s mode ts t g = IsProved (meaning_since handler s) (mode_of mode) ts t g
+IsProvedSince handler s mode ts t g = StaysProved (meaning_since handler s) (mode_of mode) ts t g

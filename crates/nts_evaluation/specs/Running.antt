@@ -51,8 +51,8 @@ EachStays c P [] = Unit {0}
 EachStays c P (x ∷ xs) = Stays c (P x) × EachStays c P xs
 
 -- the equations hold, whose trees stand in the store a, and the values in the store b that has grown
-abbrev pub Equates : List Tree → List Tree → Table → List NodeId → List EquationData → Type 0
-Equates a b t vs qs = EachStays (content_of b t.entries) (EquationHolds (map (tree_at b) vs)) (map (equation_of a) qs)
+abbrev pub EquatesEach : List Tree → List Tree → Table → List NodeId → List EquationData → Type 0
+EquatesEach a b t vs qs = EachStays (content_of b t.entries) (EquationHolds (map (tree_at b) vs)) (map (equation_of a) qs)
 
 abbrev pub Constrains : List Tree → List Tree → Table → List NodeId → List RegionConstraint → Type 0
 Constrains a b t vs xs = EachStays (content_of b t.entries) (ConstraintHolds (map (tree_at b) vs)) (map (constraint_of a) xs)
@@ -61,8 +61,8 @@ abbrev pub Proves : Meaning → Mode → List Tree → List Tree → Table → L
 Proves m mode a b t vs hs = EachStays (content_of b t.entries) (PremiseHolds m mode (map (tree_at b) vs)) (map (premise_of a) hs)
 
 -- a goal is proved, now and later
-abbrev pub IsProved : Meaning → Mode → List Tree → Table → Goal → Type 0
-IsProved m mode ts t g =
+abbrev pub StaysProved : Meaning → Mode → List Tree → Table → Goal → Type 0
+StaysProved m mode ts t g =
     Stays (content_of ts t.entries) (λ d. proving.IsProved m mode d (tree_at ts g.param_env.node) (tree_at ts g.predicate.node))
 
 -- a goal has a held proof under a table

@@ -13,10 +13,10 @@ ghost use Rattle.nts_delegate.specs.Candidates.{IsOver, IsEquation, IsNested, Is
 ghost use Rattle.nts_terms.specs.Handles.{HoldsGoal};
 ghost use Rattle.nts_model.specs.Alike.{AreAlike};
 ghost use Rattle.nts_delegate.specs.Offered.{equation_of, constraint_of};
-ghost use Rattle.nts_evaluation.specs.Running.{Stays, HoldsOutlives, EquationHolds, ConstraintHolds, Equates, Constrains};
+ghost use Rattle.nts_evaluation.specs.Running.{Stays, HoldsOutlives, EquationHolds, ConstraintHolds, EquatesEach, Constrains};
 ghost use Rattle.nts_evaluation.specs.Evaluation.{Goes, Runs, IsPosed, AreValues};
 ghost use Rattle.nts_table.specs.Tables.{IsTermOf};
-ghost use Rattle.nts_evaluation.specs.Instances.{HoldsValues, IsInstance, Asks};
+ghost use Rattle.nts_evaluation.specs.Instances.{HoldsValues, IsTermInstance, IsGoalInstance};
 ghost use Rattle.nts_terms.specs.Rest.{Grows};
 
 use nts_delegate::{CandidateData, Equation, RegionConstraint};
@@ -60,7 +60,7 @@ impl Trial<'_> {
         requires over { IsOver cx.old.nodes self.fresh.now self.goal t }
         requires values { HoldsValues cx.old.nodes self.fresh.now self.values.now }
         ensures grows { Grows cx.old cx.new }
-        ensures instance { IfOk result (IsInstance cx.old.nodes cx.new.nodes self.entry.values.now
+        ensures instance { IfOk result (IsTermInstance cx.old.nodes cx.new.nodes self.entry.values.now
             t) }
         ensures memory { IsOkUnless result Fault.Memory }
     {
@@ -82,9 +82,9 @@ impl Trial<'_> {
         requires holds { HoldsGoal cx.old.nodes self.goal }
         requires values { HoldsValues cx.old.nodes self.fresh.now self.values.now }
         ensures grows { Grows cx.old cx.new }
-        ensures left { IfOk result (λ r. IsInstance cx.old.nodes cx.new.nodes self.entry.values.now
+        ensures left { IfOk result (λ r. IsTermInstance cx.old.nodes cx.new.nodes self.entry.values.now
             a r.0) }
-        ensures right { IfOk result (λ r. IsInstance cx.old.nodes cx.new.nodes self.entry.values.now
+        ensures right { IfOk result (λ r. IsTermInstance cx.old.nodes cx.new.nodes self.entry.values.now
             b r.1) }
         ensures memory { IsOkUnless result Fault.Memory }
     {
@@ -101,7 +101,7 @@ impl Trial<'_> {
         requires values { AreValues cx.old.nodes table.now self.fresh.now self.values.now }
         ensures grows { Grows cx.old cx.new }
         ensures posed { IfOk result (λ g. IsPosed cx.new.nodes table.now g) }
-        ensures asks { IfOk result (Asks cx.old.nodes cx.new.nodes
+        ensures asks { IfOk result (IsGoalInstance cx.old.nodes cx.new.nodes
             (content_of cx.old.nodes table.now.entries) self.entry.values.now nested) }
         ensures memory { IsOkUnless result Fault.Memory }
     {
@@ -183,7 +183,7 @@ pub fn equate(
     ensures runs { Runs cx.old cx.new table.old table.new }
     ensures values { IfOk result (λ vs. AreValues cx.new.nodes table.new candidate.now.fresh.items
         vs.items) }
-    ensures equal { IfOk result (λ vs. Equates cx.old.nodes cx.new.nodes table.new vs.items
+    ensures equal { IfOk result (λ vs. EquatesEach cx.old.nodes cx.new.nodes table.new vs.items
         candidate.now.equations.items) }
     ensures full { result ≢ Err EvalError.Full }
 {

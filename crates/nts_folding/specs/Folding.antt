@@ -5,10 +5,10 @@ use Rattle.nts_model.specs.declared.labels.Label.{Label}
 use Rattle.nts_model.specs.Trees.{Tree, empty, more, node, binders, NodeKind, of_sort, bound_predicate, kind_of, kind_of_label}
 
 -- a type, a region, a const or a predicate is asked for; anything else is gone into
-abbrev pub Asks : {S : Type 0} → (S → Tree → Option Tree → S → Type 0) → NodeKind → S → Tree → Option Tree → S → Type 0
-Asks answers (of_sort k) s x o t = answers s x o t
-Asks answers bound_predicate s x o t = answers s x o t
-Asks answers k s x o t = (o ≡ None) × (t ≡ s)
+abbrev pub MayAnswer : {S : Type 0} → (S → Tree → Option Tree → S → Type 0) → NodeKind → S → Tree → Option Tree → S → Type 0
+MayAnswer answers (of_sort k) s x o t = answers s x o t
+MayAnswer answers bound_predicate s x o t = answers s x o t
+MayAnswer answers k s x o t = (o ≡ None) × (t ≡ s)
 
 -- a rebuilt type or const is handed over; anything else stays as it was rebuilt
 abbrev pub HandsOver : {S : Type 0} → (S → Tree → Tree → S → Type 0) → NodeKind → S → Tree → Tree → S → Type 0
@@ -22,14 +22,14 @@ AtBinder step zero s t = t ≡ s
 AtBinder step (suc n) s t = step s t
 
 -- the tree u stands for the node x of label l
-pub record Answers {S : Type 0} (answers : S → Tree → Option Tree → S → Type 0) (l : Label) (s : S) (x u : Tree) (t : S) : Type 0 where
-  pub asks : Asks answers (kind_of_label l) s x (Some u) t
+pub record IsAnswerFor {S : Type 0} (answers : S → Tree → Option Tree → S → Type 0) (l : Label) (s : S) (x u : Tree) (t : S) : Type 0 where
+  pub asks : MayAnswer answers (kind_of_label l) s x (Some u) t
   pub kind : kind_of u ≡ Some (kind_of_label l)
 
 -- nothing stands for the node x of label l, so its children are folded
 pub record GoesInto {S : Type 0} (answers : S → Tree → Option Tree → S → Type 0) (enters : S → S → Type 0) (l : Label) (s : S) (x : Tree) (t : S) : Type 0 where
   pub asked : S
-  pub asks : Asks answers (kind_of_label l) s x None asked
+  pub asks : MayAnswer answers (kind_of_label l) s x None asked
   pub enters_binder : AtBinder enters (binders l) asked t
 
 -- the tree e stands for a node whose folded children are d
@@ -43,12 +43,12 @@ pub record ComesBack {S : Type 0} (leaves : S → S → Type 0) (rebuilds : S �
 pub data Walk {S : Type 0} (answers : S → Tree → Option Tree → S → Type 0) (enters leaves : S → S → Type 0) (rebuilds : S → Tree → Tree → S → Type 0) : S → Tree → Tree → S → Type 0 where
   done : {s : S} → Walk answers enters leaves rebuilds s empty empty s
   next : {r s t : S} {a b c d : Tree} → Walk answers enters leaves rebuilds r a c s → Walk answers enters leaves rebuilds s b d t → Walk answers enters leaves rebuilds r (more a b) (more c d) t
-  answer : {s t : S} {l : Label} {c u : Tree} → Answers answers l s (node l c) u t → Walk answers enters leaves rebuilds s (node l c) u t
+  answer : {s t : S} {l : Label} {c u : Tree} → IsAnswerFor answers l s (node l c) u t → Walk answers enters leaves rebuilds s (node l c) u t
   down : {r s t u : S} {l : Label} {c d e : Tree} → GoesInto answers enters l r (node l c) s → Walk answers enters leaves rebuilds s c d t → ComesBack leaves rebuilds l t d e u → Walk answers enters leaves rebuilds r (node l c) e u
 
 -- what a folder makes of a node before its children are folded
 abbrev pub Starts : {S : Type 0} → (S → Tree → Option Tree → S → Type 0) → (S → S → Type 0) → S → Tree → Option Tree → S → Type 0
-Starts answers enters s (node l c) (Some u) t = Answers answers l s (node l c) u t
+Starts answers enters s (node l c) (Some u) t = IsAnswerFor answers l s (node l c) u t
 Starts answers enters s (node l c) None t = GoesInto answers enters l s (node l c) t
 Starts answers enters s x o t = ⊥
 

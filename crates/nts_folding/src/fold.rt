@@ -4,7 +4,7 @@ ghost use Rattle.std.specs.Allocator.{alloc_error};
 ghost use Rattle.nts_model.specs.Trees.{Tree, node, children, kind_of, kind_of_label, shape, Meets, binders};
 ghost use Rattle.nts_store.specs.Growth.{tree_at, trees_at, IsIn, AllIn, Extends};
 ghost use Rattle.nts_terms.specs.Handles.{HoldsTy, HoldsRegion, HoldsConst, HoldsTerm, HoldsPredicate};
-ghost use Rattle.nts_folding.specs.Folding.{Asks, AtBinder, Starts, ComesBack, Walk};
+ghost use Rattle.nts_folding.specs.Folding.{MayAnswer, AtBinder, Starts, ComesBack, Walk};
 ghost use Rattle.nts_terms.specs.Rest.{Grows};
 
 use nts_model::{Label, ListHead, Sort};
@@ -188,7 +188,7 @@ fn ask<F: TypeFolder>(
     ensures ready { F.ready cx.new.nodes folder.new }
     ensures within { IfOk result (λ o. IfSome o (IsIn cx.new.nodes)) }
     ensures kind { IfOk result (λ o. IfSome o (λ r. kind_of (tree_at cx.new.nodes r) ≡ Some (kind_of_label label))) }
-    ensures asks { IfOk result (λ o. Asks F.answers (kind_of_label label) (F.meaning cx.old.nodes folder.old) (tree_at cx.old.nodes t) (option_map (tree_at cx.new.nodes) o) (F.meaning cx.new.nodes folder.new)) }
+    ensures asks { IfOk result (λ o. MayAnswer F.answers (kind_of_label label) (F.meaning cx.old.nodes folder.old) (tree_at cx.old.nodes t) (option_map (tree_at cx.new.nodes) o) (F.meaning cx.new.nodes folder.new)) }
     ensures err { IfErr result F.fails }
 {
     match sort_of(label) {

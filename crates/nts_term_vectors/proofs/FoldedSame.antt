@@ -2,9 +2,9 @@
 use Rattle.std.proofs.Common.{◌≡◌, Some, None, refl, ap, ◌∙◌}
 use Rattle.nts_model.specs.declared.labels.Sort.TheVariants as sort
 use Rattle.nts_model.specs.Trees.{Tree, empty, more, node, kind_of_label, NodeKind, of_sort, arguments, environment, bound_predicate, statement, sort_list, one_sort}
-use Rattle.nts_folding.specs.Folding.{Asks, HandsOver, Walk, done, next, answer, down}
+use Rattle.nts_folding.specs.Folding.{MayAnswer, HandsOver, Walk, done, next, answer, down}
 
-never_asked : {S : Type 0} (k : NodeKind) (s t : S) (x u : Tree) → Asks (λ r z o v. o ≡ None) k s x (Some u) t → ⊥
+never_asked : {S : Type 0} (k : NodeKind) (s t : S) (x u : Tree) → MayAnswer (λ r z o v. o ≡ None) k s x (Some u) t → ⊥
 never_asked (of_sort m) s t x u h = let q : Some u ≡ None = h in cc
 never_asked bound_predicate s t x u h = let q : Some u ≡ None = h in cc
 never_asked arguments s t x u h = let q : Some u ≡ None = h.0 in cc

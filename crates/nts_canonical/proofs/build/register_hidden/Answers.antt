@@ -4,7 +4,7 @@ use Rattle.nts_unify.specs.Reading.{content_of, IsHiddenType}
 use Rattle.nts_store.proofs.Growing.{Extends-trans}
 use Rattle.nts_terms.proofs.Moved.{KeepsRest-trans}
 use Rattle.nts_unify.specs.Lawful.{IsLawful-extended}
-use Rattle.nts_canonical.specs.Building.{hidden_of}
+use Rattle.nts_canonical.specs.Building.{stored_hidden}
 use Rattle.nts_canonical.proofs.Registered.{registered_more, hidden-now}
 use Rattle.nts_canonical.proofs.build.register_hidden.Goals as goal
 
@@ -26,7 +26,7 @@ loop-i-preserved c =
     let a = c.loop-i.cx.nodes in
     let b = c.register_hidden_type_in_storage.new.cx.nodes in
     let g = IsLawful-extended i.extends c.requires.table.now in
-    let all : All (λ h. IsHiddenType a (content_of a e) (hidden_of h)) c.args.hidden.now = λ k d l. hidden-now c.args.cx.now.nodes a e e (hidden_of _) c.requires.table.now refl i.extends (c.requires.hidden k d l) in
+    let all : All (λ h. IsHiddenType a (content_of a e) (stored_hidden h)) c.args.hidden.now = λ k d l. hidden-now c.args.cx.now.nodes a e e (stored_hidden _) c.requires.table.now refl i.extends (c.requires.hidden k d l) in
     record {
       registered = registered_more a b e c.loop-i.table.entries c.register_hidden_type_in_storage.new.self.entries.hidden c.args.hidden.now c.loop-i.i _ _ g i.table.now i.entries r.grows.extends all (omega (arith, c.loop-i-test.true)) i.registered r.registered;
       entries = r.entries ∙ (λ j. record (i.entries j) { hidden = c.register_hidden_type_in_storage.new.self.entries.hidden });

@@ -3,7 +3,7 @@ use Rattle.nts_model.specs.Handlers.{filled}
 use Rattle.nts_store.specs.Growth.{tree_at}
 use Rattle.nts_store.specs.Kept.{AllIn-kept}
 use Rattle.nts_store.proofs.Growing.{Extends-trans}
-use Rattle.nts_canonical.specs.Forms.{hidden_row}
+use Rattle.nts_canonical.specs.Forms.{hidden_pairs}
 use Rattle.nts_canonical.proofs.PairLists.{holds_kept, are_hidden-kept, AreImages-row, AreImages-held}
 use Rattle.nts_canonical.proofs.Filled.{has_values-kept, has_values_row-kept, filled-kept, filled_row-kept, three}
 use Rattle.nts_canonical.proofs.instantiate.fill_query.Goals as goal
@@ -37,7 +37,7 @@ returns-clause-tree c =
     let env = c.in_ok-param_env.ensures in
     let pred = c.in_ok-predicate.ensures in
     let up = Extends-trans c.fill.ensures.extends c.fill-2.ensures.extends in
-    let hidden : hidden_row d c.in_ok-hidden.hidden.items ≡ filled (map (tree_at b) vs) (hidden_row b hs) =
+    let hidden : hidden_pairs d c.in_ok-hidden.hidden.items ≡ filled (map (tree_at b) vs) (hidden_pairs b hs) =
     AreImages-row (filled (map (tree_at b) vs)) (record { of_empty = refl; of_more = λ s t. refl }) b d hs c.in_ok-hidden.hidden.items (rw c.deref.ensures.value at c.in_ok-hidden.ensures.images) in
     three ((Extends-trans c.fill-2.ensures.extends last).kept c.in_ok-param_env.param_env.node env.holds.within ∙ env.tree)
     (last.kept c.in_ok-predicate.predicate.node pred.holds.within ∙ pred.tree ∙ filled-kept a c.fill.new.nodes vs c.args.query.now.goal.predicate.node c.requires.values c.requires.holds.predicate.within c.fill.ensures.extends)

@@ -1,7 +1,7 @@
 use Rattle.std.proofs.Common.{◌≡◌, ◌+◌, ◌*◌, take}
 use Rattle.nts_certainty.specs.declared.certainty.Certainty.TheVariants as certainty
 use Rattle.nts_terms.specs.Modes.{mode_of}
-use Rattle.nts_evaluation.specs.Running.{Equates, Constrains, Proves}
+use Rattle.nts_evaluation.specs.Running.{EquatesEach, Constrains, Proves}
 use Rattle.nts_evaluation.specs.Meant.{Since, meaning_since}
 use Rattle.nts_evaluation.specs.Evaluation.{Runs, AreValues}
 use Rattle.nts_evaluation.proofs.evaluate.+evaluate.Given as goal
@@ -25,7 +25,7 @@ abbrev pub invariant-run_candidate-loop-nested : goal.invariant-run_candidate-lo
 invariant-run_candidate-loop-nested g l = record {
   runs : Runs l.fn.cx l.cx l.fn.table l.table;
   values : AreValues l.cx.nodes l.table l.trial.fresh.now l.trial.values.now;
-  equal : Equates l.fn.cx.nodes l.cx.nodes l.table l.trial.values.now l.candidate.equations.items;
+  equal : EquatesEach l.fn.cx.nodes l.cx.nodes l.table l.trial.values.now l.candidate.equations.items;
   held : Constrains l.fn.cx.nodes l.cx.nodes l.table l.trial.values.now l.candidate.region_constraints.items;
   sure : l.certainty ≡ certainty.Yes → l.candidate.certainty ≡ certainty.Yes;
   proved : (s : Since (λ ts. g.H.GoalHandler.ready ts l.handler) l.fn.cx.nodes) → l.certainty ≡ certainty.Yes → Proves (meaning_since (λ ts. g.H.GoalHandler.handler ts l.handler) s) (mode_of l.fn.table.mode) l.fn.cx.nodes l.cx.nodes l.table l.trial.values.now (take l.nested-index l.candidate.goals.items);
