@@ -1,6 +1,7 @@
 -- What evaluations keep, composed.
-use Rattle.std.proofs.Common.{◌≡◌, inl, inr, ℕ, zero, suc, ◌<◌, List, [], ◌∷◌, ◌++◌, length, map, get_or, Option, Some, None, refl, sym, ap, ◌∙◌, arith, length-append}
-use Rattle.std.specs.Prelude.{slice_get, Result, Ok, Err, OnOk, OnErr}
+use Rattle.std.proofs.Math.Seq.{take-append_seam}
+use Rattle.std.proofs.Common.{◌≡◌, ◌-◌, inl, inr, ℕ, zero, suc, ◌<◌, List, [], ◌∷◌, ◌++◌, length, map, get_or, Option, Some, None, refl, sym, ap, ◌∙◌, subst, arith, length-append}
+use Rattle.std.specs.Prelude.{slice_get, ◌↔◌, Result, Ok, Err, IfOk, OnOk, OnErr}
 use Rattle.nts_model.specs.Equations.{AreRelated}
 use Rattle.nts_model.specs.declared.labels.Sort.{Sort}
 use Rattle.nts_model.specs.declared.labels.Relation.TheVariants as relation
@@ -18,7 +19,7 @@ use Rattle.nts_model.specs.Rules.{Mode}
 use Rattle.nts_model.specs.Handlers.{Handler, position_of, filled, IsValueOf, AreValuesOf, IsOfSort, NamesAt, NamesFresh}
 use Rattle.nts_model.specs.Regions.{of_variable}
 use Rattle.nts_store.proofs.Growing.{Extends-trans, Extends-refl, IsIn-extended}
-use Rattle.nts_unify.specs.Entries.{Entries, added, constrained}
+use Rattle.nts_unify.specs.Entries.{front, Entries, added, constrained}
 use Rattle.nts_table.specs.Tables.{Table}
 use Rattle.nts_unify.specs.declared.contents.Constraint.{Constraint}
 use Rattle.nts_model.proofs.Kept.{kind_of-deeply_resolved}
@@ -54,7 +55,7 @@ use Rattle.nts_store.specs.Formed.{AreFormed}
 use Rattle.nts_terms.proofs.Moved.{KeepsRest-refl}
 use Rattle.nts_evaluation.specs.Meant.{Since, offers_of}
 use Rattle.nts_evaluation.specs.Instances.{HoldsValues, IsTermInstance}
-use Rattle.nts_evaluation.specs.Evaluation.{Goes, Runs, IsAdmitted, IsPosed, AllKnown, AreOfSorts, AreValues}
+use Rattle.nts_evaluation.specs.Evaluation.{IsGoalUnder, IsSameGoal, Goes, Runs, IsAdmitted, IsPosed, AllKnown, AreOfSorts, AreValues}
 use Rattle.nts_table.specs.Tables.{IsTermOf}
 
 pub Goes-trans : {a b c : List Tree} {t u v : Table} → Goes a b t u → Goes b c u v → Goes a c t v
@@ -436,6 +437,26 @@ related_goes x y (Err z) w e h k s m d n q = goes-back w e q
 pub rolled_back : {a b : List Tree} {t s u v : Table} → s.saved ≡ t.saved ++ t.entries ∷ [] → Goes a b s u → u.saved ≡ v.saved ++ v.entries ∷ [] → s.mode ≡ t.mode → v.mode ≡ u.mode → v ≡ t
 rolled_back {a} {b} {t} {s} {u} {v} opened step back first last = back_to t v u.saved (step.saved ∙ opened) back (last ∙ step.mode ∙ first)
 
+-- after a snapshot, a step, and its end by a result, the step stays where it succeeded, and else the table is as it was
+front-push : {A : Type 0} (xs : List A) (x : A) → front (xs ++ x ∷ []) ≡ xs
+front-push xs x = (let n : length (xs ++ x ∷ []) - 1 ≡ length xs = omega (arith, length-append xs (x ∷ [])) in rw n (take-append_seam xs (x ∷ [])))
+
+pub ended : {a b : List Tree} {t s u v : Table} {T E : Type 0} (r : Result T E) → s.entries ≡ t.entries → s.saved ≡ t.saved ++ t.entries ∷ [] → IsTable a t → Goes a b s u → OnOk r (v.entries ≡ u.entries) → OnErr r (u.saved ≡ v.saved ++ v.entries ∷ []) → v.saved ≡ front u.saved → s.mode ≡ t.mode → v.mode ≡ u.mode → Goes a b t v
+ended {a} {b} {t} {s} {u} {v} (Ok x) same opened h step kept undone closed first last =
+    let ends : v.saved ≡ t.saved = closed ∙ ap front (step.saved ∙ opened) ∙ front-push t.saved t.entries in
+    record {
+      sound = h.now.sound;
+      continues = rw kept (rw same at step.continues);
+      extends = step.extends;
+      table = record { now = rw kept step.table.now; saved = rw ends (IsTable-extended step.extends h).saved };
+      known = λ x k. rw kept (step.known x (rw same k));
+      saved = ends;
+      mode = last ∙ step.mode ∙ first;
+      hidden = ap (λ (z : Entries). z.hidden) kept ∙ step.hidden ∙ ap (λ (z : Entries). z.hidden) same;
+    }
+ended {a} {b} {t} {s} {u} {v} (Err x) same opened h step kept undone closed first last =
+    goes-back h step.extends (rolled_back opened step undone first last)
+
 -- .. and after its commit the step stays
 pub committed : {a b : List Tree} {t s u v : Table} (e : Entries) → s.entries ≡ t.entries → s.saved ≡ t.saved ++ t.entries ∷ [] → IsTable a t → Goes a b s u → v.entries ≡ u.entries → u.saved ≡ v.saved ++ e ∷ [] → s.mode ≡ t.mode → v.mode ≡ u.mode → Goes a b t v
 committed {a} {b} {t} {s} {u} {v} e same opened h step kept closed first last =
@@ -547,3 +568,18 @@ IsAdmitted-extended {a} {b} {t} {g} e h k =
     }
 
 pub ruleset asking = (Extends-trans, Extends-refl, IsTable-extended, IsAdmitted-extended)
+
+-- a goal is the same under a table as it stands if what the table makes of it is that goal
+pub same_under : {b c : List Tree} {t : Table} (g h : Goal) → IsTable b t → Extends b c → HoldsGoal b g → tree_at c h.param_env.node ≡ deeply_resolved (content_of b t.entries) (tree_at b g.param_env.node) → tree_at c h.predicate.node ≡ deeply_resolved (content_of b t.entries) (tree_at b g.predicate.node) → IsSameGoal c g h ↔ IsGoalUnder c c t g g
+same_under {b} {c} {t} g h w e p i j =
+    let same = content_of-extended e w.now in
+    let env : deeply_resolved (content_of c t.entries) (tree_at c g.param_env.node) ≡ tree_at c h.param_env.node = rw (same, e.kept g.param_env.node p.env.within) (sym i) in
+    let predicate : deeply_resolved (content_of c t.entries) (tree_at c g.predicate.node) ≡ tree_at c h.predicate.node = rw (same, e.kept g.predicate.node p.predicate.within) (sym j) in (
+      λ s. record { env = s.env ∙ sym env; predicate = s.predicate ∙ sym predicate },
+      λ u. record { env = u.env ∙ env; predicate = u.predicate ∙ predicate },
+    )
+
+-- what holds of a result for each s holds of the same result, where it is Ok
+pub handed_on : {T E S X : Type 0} {P : S → T → Type 0} {Q : T → Type 0} (r q : Result T E) → q ≡ r → OnOk q X → ((s : S) → IfOk r (P s)) → ((a : T) → X → ((s : S) → P s a) → Q a) → IfOk q Q
+handed_on {P = P} r (Ok a) e x p f = f a x (λ s. subst (λ z. IfOk z (P s)) (sym e) (p s))
+handed_on r (Err z) e x p f = tt

@@ -95,3 +95,13 @@ pub record IsAdmitted (ts : List Tree) (t : Table) (g : Goal) : Type 0 where
   pub predicate : IsRootTerm ts t g.predicate.node
   pub env_types : any_label is_type_variable (deeply_resolved (content_of ts t.entries) (tree_at ts g.param_env.node)) ≡ false
   pub asked : any_label is_internal (tree_at ts g.predicate.node) ≡ false
+
+-- the goal h in the store b is the goal g of the store a, with what the table knows in place of its variables
+pub record IsGoalUnder (a b : List Tree) (t : Table) (g h : Goal) : Type 0 where
+  pub env : tree_at b h.param_env.node ≡ deeply_resolved (content_of a t.entries) (tree_at a g.param_env.node)
+  pub predicate : tree_at b h.predicate.node ≡ deeply_resolved (content_of a t.entries) (tree_at a g.predicate.node)
+
+-- two goals are one
+pub record IsSameGoal (ts : List Tree) (g h : Goal) : Type 0 where
+  pub env : tree_at ts g.param_env.node ≡ tree_at ts h.param_env.node
+  pub predicate : tree_at ts g.predicate.node ≡ tree_at ts h.predicate.node

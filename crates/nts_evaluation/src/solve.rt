@@ -7,9 +7,10 @@ ghost use Rattle.nts_table.specs.Tables.{IsTable};
 ghost use Rattle.nts_terms.specs.Modes.{mode_of};
 ghost use Rattle.nts_evaluation.specs.Running.{HasHeldProofIn};
 ghost use Rattle.nts_terms.specs.Handles.{HoldsGoal};
-ghost use Rattle.nts_evaluation.specs.Evaluation.{Runs, IsAdmitted, IsPosed};
+ghost use Rattle.nts_evaluation.specs.Evaluation.{Runs, IsAdmitted, IsPosed, IsGoalUnder, IsSameGoal};
 ghost use Rattle.nts_evaluation.specs.Meant.{Since, IsProvedSince};
 ghost use Rattle.nts_certainty.specs.declared.certainty.Certainty.TheVariants as certainty;
+ghost use Rattle.nts_certainty.specs.declared.sources.HasChanged.TheVariants as changes;
 ghost use Rattle.nts_terms.specs.Rest.{Grows};
 
 use crate::admission::{is_asked, is_root_term, is_settled_env};
@@ -73,6 +74,9 @@ pub fn evaluate_root_goal<H: GoalHandler>(
     requires ready { H.ready cx.old.nodes handler.now }
     requires admitted { IsAdmitted cx.old.nodes table.old goal }
     ensures runs { Runs cx.old cx.new table.old table.new }
+    ensures goal { IfOk result (λ e. IsGoalUnder cx.old.nodes cx.new.nodes table.old goal e.goal) }
+    ensures changed { IfOk result (λ e. (e.has_changed ≡ changes.No) ↔
+        IsGoalUnder cx.new.nodes cx.new.nodes table.new e.goal e.goal) }
     ensures maybe { IfOk result (λ e. e.certainty ≢ certainty.Yes → table.new ≡ table.old) }
     ensures stalled { IfOk result (λ e. e.stalled_on ≡ None) }
     ensures err { OnErr result (table.new ≡ table.old) }
@@ -84,21 +88,9 @@ pub fn evaluate_root_goal<H: GoalHandler>(
     let _ = (span, stalled_on);
     terms_are_formed(cx);
     let snapshot = table.start_snapshot()?;
-    match evaluate_root(table, cx, handler, goal) {
-        Ok(evaluation) => {
-            if let Certainty::Yes = evaluation.certainty {
-                terms_are_formed(cx);
-                table.commit(snapshot);
-                return Ok(evaluation);
-            }
-            table.rollback_to(snapshot);
-            Ok(evaluation)
-        }
-        Err(error) => {
-            table.rollback_to(snapshot);
-            Err(error)
-        }
-    }
+    let evaluated = evaluate_root(table, cx, handler, goal);
+    terms_are_formed(cx);
+    table.commit_if_ok(snapshot, evaluated)
 }
 
 /// Evaluates a resolved goal at the recursion limit, and looks at what became of its variables.
@@ -111,6 +103,10 @@ fn evaluate_root<H: GoalHandler>(
     requires posed { IsPosed cx.old.nodes table.old goal }
     requires ready { H.ready cx.old.nodes handler.now }
     ensures runs { Runs cx.old cx.new table.old table.new }
+    ensures goal { IfOk result (λ e. IsGoalUnder cx.old.nodes cx.new.nodes table.old goal e.goal) }
+    ensures changed { IfOk result (λ e. (e.has_changed ≡ changes.No) ↔
+        IsGoalUnder cx.new.nodes cx.new.nodes table.new e.goal e.goal) }
+    ensures maybe { IfOk result (λ e. e.certainty ≢ certainty.Yes → table.new ≡ table.old) }
     ensures stalled { IfOk result (λ e. e.stalled_on ≡ None) }
     ensures proved { (s : Since (λ ts. H.ready ts handler.now) cx.old.nodes) →
         IfOk result (λ e. e.certainty ≡ certainty.Yes → IsProvedSince
@@ -121,15 +117,26 @@ fn evaluate_root<H: GoalHandler>(
     let depth = cx.recursion_limit();
     let answer = evaluate_goal(table, cx, handler, asked, depth)?;
     let after = resolve_goal(table, cx, asked)?;
-    let has_changed = if after.predicate == asked.predicate {
-        HasChanged::No
-    } else {
-        HasChanged::Yes
-    };
+    let has_changed = change_of(cx, asked, after);
     Ok(GoalEvaluation {
         goal: asked,
         certainty: answer.certainty,
         has_changed,
         stalled_on: None,
     })
+}
+
+/// What became of a goal.
+fn change_of(cx: &Cx, before: Goal, after: Goal) -> HasChanged
+    requires before { HoldsGoal cx.now.nodes before }
+    requires after { HoldsGoal cx.now.nodes after }
+    ensures { (result ≡ changes.No) ↔ IsSameGoal cx.now.nodes before after }
+{
+    let nodes = &cx.nodes;
+    let same_env = nodes.same(before.param_env.node, after.param_env.node);
+    if same_env && nodes.same(before.predicate.node, after.predicate.node) {
+        HasChanged::No
+    } else {
+        HasChanged::Yes
+    }
 }

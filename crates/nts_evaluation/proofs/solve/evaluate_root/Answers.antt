@@ -1,6 +1,6 @@
 use Rattle.std.proofs.Common.{◌∙◌}
 use Rattle.nts_evaluation.proofs.Running.{Stays-later, unread}
-use Rattle.nts_evaluation.proofs.Evaluating.{Goes-trans, Goes-extends, Runs-trans, Runs-extends, Since-later}
+use Rattle.nts_evaluation.proofs.Evaluating.{Goes-trans, Goes-extends, Runs-trans, Runs-extends, Since-later, same_under, HoldsGoal-extended}
 use Rattle.nts_evaluation.proofs.solve.evaluate_root.Goals as goal
 
 pub returns-in_err-asked-clause-runs : goal.returns-in_err-asked-clause-runs
@@ -30,3 +30,11 @@ returns-clause-proved g c = λ s y.
     let predicate = a.runs.goes.extends.kept _ k.posed.holds.predicate.within ∙ k.predicate in
     let proved = Stays-later last (a.proved (Since-later k.grows.extends s) y) in
     rw (all.extends.kept c.args.goal.param_env.node c.requires.posed.holds.env.within, all.extends.kept c.args.goal.predicate.node c.requires.posed.holds.predicate.within) (unread _ _ _ _ all env predicate c.requires.posed.knows.env c.requires.posed.knows.predicate proved)
+
+pub returns-clause-changed : goal.returns-clause-changed
+returns-clause-changed g c =
+    let k = c.in_ok-asked.ensures in
+    let a = c.in_ok-answer.ensures in
+    let last = c.in_ok-after.ensures in
+    let under = same_under c.in_ok-asked.asked c.in_ok-after.after a.runs.goes.table last.grows.extends (HoldsGoal-extended a.runs.goes.extends k.posed.holds) last.env last.predicate in
+    let is = c.change_of-has_changed.ensures in (λ z. under.0 (is.0 z), λ u. is.1 (under.1 u))
