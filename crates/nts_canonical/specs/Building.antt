@@ -1,5 +1,6 @@
 -- What a canonical input becomes in a new table.
-use Rattle.std.specs.Prelude.{◌≡◌, ℕ, false, List, [], ◌∷◌, map, length, slice_get, Option, Some, None}
+use Rattle.std.specs.Global.{Vec}
+use Rattle.std.specs.Prelude.{◌≡◌, All, ℕ, false, List, [], ◌∷◌, map, length, slice_get, Option, Some, None}
 use Rattle.nts_model.specs.declared.labels.Leaf.TheVariants as leaf
 use Rattle.nts_model.specs.declared.labels.VariableKind.TheVariants as kind
 use Rattle.nts_model.specs.declared.labels.Label.TheVariants as label
@@ -7,7 +8,7 @@ use Rattle.nts_model.specs.Trees.{Tree, node, any_label, is_infer, is_region_inf
 use Rattle.nts_model.specs.Contents.{Content}
 use Rattle.nts_model.specs.Resolving.{Knows}
 use Rattle.nts_model.specs.Substitutions.{leaf_tree}
-use Rattle.nts_model.specs.Inputs.{PositionKind, type_variable, integer_variable, float_variable, const_variable, region_variable, placeholder}
+use Rattle.nts_model.specs.Inputs.{Input, canonical_of, originals, PositionKind, type_variable, integer_variable, float_variable, const_variable, region_variable, placeholder}
 use Rattle.nts_store.specs.Filled.{HasValues}
 use Rattle.nts_terms.specs.declared.handles.AliasTerm.{AliasTerm}
 use Rattle.nts_terms.specs.declared.handles.Ty.{Ty}
@@ -20,7 +21,8 @@ use Rattle.nts_table.specs.Making.{unset_variable, IsAddedTo}
 use Rattle.nts_unify.specs.Reading.{content_of}
 use Rattle.nts_table.specs.Registering.{Registers}
 use Rattle.nts_canonical.specs.declared.types.CanonicalInput.{CanonicalInput}
-use Rattle.nts_canonical.specs.Forms.{kind_of_var, query_tree, HoldsQuery}
+use Rattle.nts_terms.specs.declared.modes.TypingMode.{TypingMode}
+use Rattle.nts_canonical.specs.Forms.{kind_of_var, form_of, trees_of, query_tree, HoldsQuery}
 use Rattle.nts_canonical.specs.Kinds.{AreInputKinds, value_leaf, value_leaves, made_variables}
 
 abbrev pub kinds_of : CanonicalInput → List PositionKind
@@ -41,6 +43,21 @@ pub record IsInputOf (ts : List Tree) (c : CanonicalInput) : Type 0 where
   pub kinds : AreInputKinds (kinds_of c)
   pub positions : HasValues (values_of c) (query_tree ts c.canonical.value)
   pub no_variable : HasNoVariable (query_tree ts c.canonical.value)
+
+-- what the input i is asked as in that mode: its leaves as arguments, which are terms of the store, and its canonical
+-- form, whose universe is the root
+pub record IsCanonicalOf (ts : List Tree) (i : Input) (m : TypingMode) (r : Vec GenericArg × CanonicalInput) : Type 0 where
+  pub form : form_of ts r.1 ≡ canonical_of i
+  pub universe : r.1.canonical.max_universe ≡ 0
+  pub mode : r.1.typing_mode ≡ m
+  pub originals : trees_of ts r.0.items ≡ map leaf_tree (originals i)
+  pub holds_originals : All (HoldsArg ts) r.0.items
+  pub holds : HoldsQuery ts r.1.canonical.value
+
+-- the originals are values for the positions of the input, which a table can be made for
+pub record IsAskable (ts : List Tree) (r : Vec GenericArg × CanonicalInput) : Type 0 where
+  pub positions : HasValues (trees_of ts r.0.items) (query_tree ts r.1.canonical.value)
+  pub input : IsInputOf ts r.1
 
 -- the type variable that a tree is
 abbrev pub type_variable_of : Option Tree → Option ℕ

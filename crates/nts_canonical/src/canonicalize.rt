@@ -12,7 +12,7 @@ ghost use Rattle.nts_terms.specs.Rest.{Grows};
 ghost use Rattle.nts_unify.specs.Reading.{content_of};
 ghost use Rattle.nts_table.specs.Tables.{IsTable};
 ghost use Rattle.nts_canonical.specs.Forms.{hidden_pairs, query_tree, form_of, input_of, trees_of, IsHidden, AreHidden, HoldsQuery};
-ghost use Rattle.nts_canonical.specs.Building.{IsInputOf};
+ghost use Rattle.nts_canonical.specs.Building.{IsCanonicalOf, IsAskable};
 ghost use Rattle.nts_canonical.specs.Replaced.{IsImage, AreImages, AreLeafArgs};
 
 use crate::collecting::collect;
@@ -39,16 +39,13 @@ pub fn canonicalize_goal(
     requires table { IsTable cx.old.nodes table.now }
     requires goal { HoldsGoal cx.old.nodes goal }
     requires hidden { AreHidden cx.old.nodes opaque_types.now }
-    requires knows { Knows (content_of cx.old.nodes table.now.entries) (whole (input_of cx.old.nodes table.now.entries goal opaque_types.now)) }
-
-    ensures form { IfOk result (λ r. form_of cx.new.nodes r.1 ≡ canonical_of (input_of cx.old.nodes table.now.entries goal opaque_types.now)) }
-    ensures universe { IfOk result (λ r. r.1.canonical.max_universe ≡ 0) }
-    ensures mode { IfOk result (λ r. r.1.typing_mode ≡ mode) }
-    ensures originals { IfOk result (λ r. trees_of cx.new.nodes r.0.items ≡ map leaf_tree (originals (input_of cx.old.nodes table.now.entries goal opaque_types.now))) }
-    ensures positions { any_label is_canonical (whole (input_of cx.old.nodes table.now.entries goal opaque_types.now)) ≡ false → IfOk result (λ r. HasValues (trees_of cx.new.nodes r.0.items) (query_tree cx.new.nodes r.1.canonical.value)) }
-    ensures input { any_label is_canonical (whole (input_of cx.old.nodes table.now.entries goal opaque_types.now)) ≡ false → IfOk result (λ r. IsInputOf cx.new.nodes r.1) }
-    ensures holds_originals { IfOk result (λ r. All (HoldsArg cx.new.nodes) r.0.items) }
-    ensures holds { IfOk result (λ r. HoldsQuery cx.new.nodes r.1.canonical.value) }
+    requires knows { Knows (content_of cx.old.nodes table.now.entries)
+        (whole (input_of cx.old.nodes table.now.entries goal opaque_types.now)) }
+    ensures canonical { IfOk result (IsCanonicalOf cx.new.nodes
+        (input_of cx.old.nodes table.now.entries goal opaque_types.now) mode) }
+    ensures askable { any_label is_canonical
+        (whole (input_of cx.old.nodes table.now.entries goal opaque_types.now)) ≡ false →
+        IfOk result (IsAskable cx.new.nodes) }
     ensures grows { Grows cx.old cx.new }
     ensures memory { IsOkUnless result Fault.Memory }
 {

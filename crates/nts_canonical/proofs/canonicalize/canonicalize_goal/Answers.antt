@@ -23,29 +23,26 @@ pub numbered_query-requires-clause-hidden : goal.numbered_query-requires-clause-
 numbered_query-requires-clause-hidden c =
     are_hidden-kept c.args.cx.now.nodes c.arguments.new.nodes c.args.opaque_types.now c.requires.hidden c.arguments.ensures.extends
 
-pub returns-clause-form : goal.returns-clause-form
-returns-clause-form c =
+pub returns-clause-canonical : goal.returns-clause-canonical
+returns-clause-canonical c =
     let e = c.args.table.now.entries in
     let q = c.in_ok-value.ensures in
     let kinds = c.in_ok-var_kinds.ensures ∙ ap (λ z. map (position_kind (sub_root_in e) z) z) c.as_slice.ensures.keys in
-    form_is c.args.cx.now.nodes c.arguments.new.nodes c.numbered_query.new.nodes e c.in_ok-leaves.leaves.keys c.args.goal c.args.opaque_types.now (record { canonical = record { value = c.in_ok-value.value; max_universe = 0; var_kinds = c.in_ok-var_kinds.var_kinds }; typing_mode = c.args.mode }) c.arguments.ensures.extends c.requires.goal.env c.requires.goal.predicate c.requires.hidden c.in_ok-leaves.ensures (record { environment = q.environment; predicate = q.predicate; hidden = q.hidden }) kinds
-
-pub returns-clause-originals : goal.returns-clause-originals
-returns-clause-originals c =
     let are = AreLeafArgs-kept c.arguments.new.nodes c.numbered_query.new.nodes c.in_ok-originals.originals.items c.as_slice-2.result.now c.in_ok-originals.ensures.arguments c.numbered_query.ensures.extends in
-    trees_of-leaves c.numbered_query.new.nodes c.in_ok-originals.originals.items c.as_slice-2.result.now are ∙ ap (map leaf_tree) (c.as_slice-2.ensures.keys ∙ c.in_ok-leaves.ensures)
+    record {
+      form = form_is c.args.cx.now.nodes c.arguments.new.nodes c.numbered_query.new.nodes e c.in_ok-leaves.leaves.keys c.args.goal c.args.opaque_types.now (record { canonical = record { value = c.in_ok-value.value; max_universe = 0; var_kinds = c.in_ok-var_kinds.var_kinds }; typing_mode = c.args.mode }) c.arguments.ensures.extends c.requires.goal.env c.requires.goal.predicate c.requires.hidden c.in_ok-leaves.ensures (record { environment = q.environment; predicate = q.predicate; hidden = q.hidden }) kinds;
+      universe = refl;
+      mode = refl;
+      originals = trees_of-leaves c.numbered_query.new.nodes c.in_ok-originals.originals.items c.as_slice-2.result.now are ∙ ap (map leaf_tree) (c.as_slice-2.ensures.keys ∙ c.in_ok-leaves.ensures);
+      holds_originals = AreLeafArgs-hold c.numbered_query.new.nodes c.in_ok-originals.originals.items c.as_slice-2.result.now are;
+      holds = q.holds;
+    }
 
-pub returns-clause-holds_originals : goal.returns-clause-holds_originals
-returns-clause-holds_originals c =
-    let are = AreLeafArgs-kept c.arguments.new.nodes c.numbered_query.new.nodes c.in_ok-originals.originals.items c.as_slice-2.result.now c.in_ok-originals.ensures.arguments c.numbered_query.ensures.extends in
-    AreLeafArgs-hold c.numbered_query.new.nodes c.in_ok-originals.originals.items c.as_slice-2.result.now are
-
-pub returns-clause-positions : goal.returns-clause-positions
-returns-clause-positions c =
+pub returns-clause-askable : goal.returns-clause-askable
+returns-clause-askable c =
     λ h. (let i = input_of c.args.cx.now.nodes c.args.table.now.entries c.args.goal c.args.opaque_types.now in
-    values_of (originals_are_values i h) (returns-clause-form c) (returns-clause-originals c))
-
-pub returns-clause-input : goal.returns-clause-input
-returns-clause-input c =
-    λ h. (let i = input_of c.args.cx.now.nodes c.args.table.now.entries c.args.goal c.args.opaque_types.now in
-    handed_in c.in_ok-value.ensures.holds refl (returns-clause-form c) (form-kinds i) (form-positions i h) (form-no_variable i))
+    let is = returns-clause-canonical c in
+    record {
+      positions = values_of (originals_are_values i h) is.form is.originals;
+      input = handed_in is.holds refl is.form (form-kinds i) (form-positions i h) (form-no_variable i);
+    })

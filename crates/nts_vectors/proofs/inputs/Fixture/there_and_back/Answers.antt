@@ -10,9 +10,9 @@ pub instantiate_canonical-requires-clause-positions : goal.instantiate_canonical
 instantiate_canonical-requires-clause-positions g c =
     let first : c.has_canonical_bound.result ≡ false = search rules in
     let second : c.has_canonical_bound-2.result ≡ false = search rules in
-    let positions = c.canonicalize_goal.ensures.positions (none_named (tree_at c.args.self.now.cx.nodes c.args.param_env.node) (tree_at c.args.self.now.cx.nodes c.args.predicate.node) (sym c.has_canonical_bound.ensures ∙ first) (sym c.has_canonical_bound-2.ensures ∙ second)) in
+    let askable = c.canonicalize_goal.ensures.askable (none_named (tree_at c.args.self.now.cx.nodes c.args.param_env.node) (tree_at c.args.self.now.cx.nodes c.args.predicate.node) (sym c.has_canonical_bound.ensures ∙ first) (sym c.has_canonical_bound-2.ensures ∙ second)) in
     let ts = c.canonicalize_goal.new.cx.nodes in
-    same_values ts c.deref.result.now c.expect-originals.result.0.items (query_tree ts c.expect-originals.result.1.canonical.value) c.deref.ensures.value (rw c.expect-originals.ensures at positions)
+    same_values ts c.deref.result.now c.expect-originals.result.0.items (query_tree ts c.expect-originals.result.1.canonical.value) c.deref.ensures.value (rw c.expect-originals.ensures at askable).positions
 
 pub returns : goal.returns
 returns g c = IsTable-extended (Extends-trans c.canonicalize_goal.ensures.grows.extends c.instantiate_canonical.ensures.grows.extends) c.requires
