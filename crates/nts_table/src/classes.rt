@@ -66,7 +66,7 @@ impl InferCtxt {
         requires descends { LinksDescend self.now.entries }
         ensures { IsSubRoot self.now.entries vid result }
     {
-        self.sub_root(vid)
+        self.inner.sub_root(vid)
     }
 
     /// Makes one sub-unification class of two.
@@ -80,7 +80,7 @@ impl InferCtxt {
         ensures err { OnErr result (self.new ≡ self.old) }
         ensures memory { IsOkUnless result Fault.Memory }
     {
-        self.join_sub_roots(a, b)?;
+        self.inner.join_sub_roots(a, b)?;
         Ok(())
     }
 }

@@ -90,7 +90,7 @@ impl InferCtxt {
         if nodes.same(constraint.left, constraint.right) {
             return Ok(());
         }
-        self.constrain(constraint)?;
+        self.inner.constrain(constraint)?;
         Ok(())
     }
 }

@@ -77,7 +77,7 @@ impl InferCtxt {
             return Ok(());
         }
         let snapshot = self.start_snapshot()?;
-        let linked = self.link_regions(x_root, y_root);
+        let linked = self.inner.link_regions(x_root, y_root);
         self.commit_if_ok(snapshot, linked)?;
         Ok(())
     }

@@ -47,11 +47,11 @@ impl InferCtxt {
         match self.place_of_hidden(cx.alloc, &mut cx.nodes, hidden)? {
             Some(place) => {
                 let old = self.hidden_type(place);
-                self.replace(place, HiddenType { ty, ..old })?;
+                self.inner.replace(place, HiddenType { ty, ..old })?;
                 Ok(Some(old.ty))
             }
             None => {
-                self.register(hidden)?;
+                self.inner.register(hidden)?;
                 Ok(None)
             }
         }

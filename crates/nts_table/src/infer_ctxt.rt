@@ -1,13 +1,11 @@
 //! The table of inference variables and its snapshots.
-ghost use Rattle.std.specs.Prelude.{◌≡◌, ◌<◌, ◌+◌, ◌++◌, ◌∷◌, [], ℕ, length, slice_get, OnOk, OnErr, IfOk, Some};
+ghost use Rattle.std.specs.Prelude.{◌≡◌, ◌<◌, ◌+◌, ◌++◌, ◌∷◌, [], ℕ, List, length, slice_get, OnOk, OnErr, IfOk, Some};
 ghost use Rattle.std.specs.Result.{IfErr};
-ghost use Rattle.std.specs.Prelude.{List};
 ghost use Rattle.nts_model.specs.Trees.{Tree};
 ghost use Rattle.nts_table.specs.Tables.{Table, IsTable};
-ghost use Rattle.nts_unify.specs.Entries.{Entries, constrained, moved, registered, with_hidden, front};
+ghost use Rattle.nts_unify.specs.Entries.{Entries, constrained, front};
 ghost use Rattle.nts_unify.specs.Reading.{LinksDescend};
-ghost use Rattle.nts_unify.specs.Roots.{IsRoot, HasClass, IsSubRoot, SubRootsJoin};
-ghost use Rattle.nts_unify.specs.Equating.{RegionsLinked};
+ghost use Rattle.nts_unify.specs.Roots.{IsRoot, HasClass};
 
 use nts_store::NodeId;
 use nts_terms::TypingMode;
@@ -100,44 +98,6 @@ impl InferCtxt {
         self.inner.universe()
     }
 
-    pub(crate) fn move_to(&mut self, universe: u32) -> Result<(), AllocError>
-        ensures entries { OnOk result (self.new.entries ≡ moved self.old.entries universe) }
-        ensures saved { self.new.saved ≡ self.old.saved }
-        ensures mode { self.new.mode ≡ self.old.mode }
-        ensures err { OnErr result (self.new ≡ self.old) }
-    {
-        self.inner.move_to(universe)
-    }
-
-    pub fn constrain(&mut self, constraint: Constraint) -> Result<(), AllocError>
-        ensures entries { OnOk result (self.new.entries ≡ constrained self.old.entries constraint) }
-        ensures saved { self.new.saved ≡ self.old.saved }
-        ensures mode { self.new.mode ≡ self.old.mode }
-        ensures hidden { self.new.entries.hidden ≡ self.old.entries.hidden }
-        ensures err { OnErr result (self.new ≡ self.old) }
-    {
-        self.inner.constrain(constraint)
-    }
-
-    pub(crate) fn register(&mut self, hidden: HiddenType) -> Result<(), AllocError>
-        ensures entries { OnOk result (self.new.entries ≡ registered self.old.entries hidden) }
-        ensures saved { self.new.saved ≡ self.old.saved }
-        ensures mode { self.new.mode ≡ self.old.mode }
-        ensures err { OnErr result (self.new ≡ self.old) }
-    {
-        self.inner.register(hidden)
-    }
-
-    pub(crate) fn replace(&mut self, n: usize, hidden: HiddenType) -> Result<(), AllocError>
-        requires { n < length self.old.entries.hidden }
-        ensures entries { OnOk result (self.new.entries ≡ with_hidden self.old.entries n hidden) }
-        ensures saved { self.new.saved ≡ self.old.saved }
-        ensures mode { self.new.mode ≡ self.old.mode }
-        ensures err { OnErr result (self.new ≡ self.old) }
-    {
-        self.inner.replace(n, hidden)
-    }
-
     /// Opens a snapshot.
     pub fn start_snapshot(&mut self) -> Result<Snapshot, AllocError>
         ensures entries { self.new.entries ≡ self.old.entries }
@@ -200,41 +160,5 @@ impl InferCtxt {
         ensures { IsRoot self.now.entries n result }
     {
         self.inner.root(n)
-    }
-
-    /// The root of a variable's sub-unification class.
-    pub(crate) fn sub_root(&self, n: usize) -> usize
-        requires within { n < length self.now.entries.variables }
-        requires descends { LinksDescend self.now.entries }
-        ensures { IsSubRoot self.now.entries n result }
-    {
-        self.inner.sub_root(n)
-    }
-
-    /// Makes one sub-unification class of two. Its root is the lower number.
-    pub(crate) fn join_sub_roots(&mut self, x: usize, y: usize) -> Result<(), AllocError>
-        requires within_x { x < length self.old.entries.variables }
-        requires within_y { y < length self.old.entries.variables }
-        requires descends { LinksDescend self.old.entries }
-        ensures joined { OnOk result (SubRootsJoin self.old.entries self.new.entries x y) }
-        ensures saved { self.new.saved ≡ self.old.saved }
-        ensures mode { self.new.mode ≡ self.old.mode }
-        ensures hidden { self.new.entries.hidden ≡ self.old.entries.hidden }
-        ensures err { OnErr result (self.new ≡ self.old) }
-    {
-        self.inner.join_sub_roots(x, y)
-    }
-
-    /// Links one root to the other. After an error the universe may be changed.
-    pub(crate) fn link_regions(&mut self, r: usize, s: usize) -> Result<(), AllocError>
-        requires within_r { r < length self.old.entries.variables }
-        requires within_s { s < length self.old.entries.variables }
-        requires apart { r ≡ s → ⊥ }
-        ensures linked { OnOk result (RegionsLinked self.old.entries self.new.entries r s) }
-        ensures saved { self.new.saved ≡ self.old.saved }
-        ensures mode { self.new.mode ≡ self.old.mode }
-        ensures hidden { self.new.entries.hidden ≡ self.old.entries.hidden }
-    {
-        self.inner.link_regions(r, s)
     }
 }

@@ -120,7 +120,7 @@ impl InferCtxt {
         ensures memory { IsOkUnless result Fault.Memory }
     {
         let sub_link = match sub_root_of {
-            Some(other) => Some(self.sub_root(other)),
+            Some(other) => Some(self.inner.sub_root(other)),
             None => None,
         };
         let node = self.add_variable(cx, kind, universe, sub_link)?;
@@ -162,7 +162,7 @@ impl InferCtxt {
         match self.universe().checked_add(1) {
             None => Err(Fault::Full),
             Some(next) => {
-                self.move_to(next)?;
+                self.inner.move_to(next)?;
                 Ok(next)
             }
         }

@@ -1,6 +1,9 @@
+use Rattle.std.proofs.Common.{ap, ◌∙◌}
+use Rattle.nts_unify.specs.Entries.{constrained}
+use Rattle.nts_table.specs.Tables.{Table}
 use Rattle.nts_table.specs.TableLaws.{IsTable-constrained}
 use Rattle.nts_table.proofs.infer_ctxt.InferCtxt.record.Goals as goal
 
 pub returns-clause-table : goal.returns-clause-table
 returns-clause-table c =
-    IsTable-constrained c.requires.table c.requires.sides c.in_ok-constrain.ensures.entries c.constrain.ensures.saved
+    IsTable-constrained c.requires.table c.requires.sides (c.in_ok-constrain.ensures.entries ∙ ap (λ (t : Table). constrained t.entries c.args.constraint) c.self.view_is) (c.constrain.ensures.saved ∙ ap (λ (t : Table). t.saved) c.self.view_is)
