@@ -1,4 +1,5 @@
 -- A variable gets a value.
+use Rattle.nts_unify.proofs.Changes.{some_inj}
 use Rattle.std.proofs.Common.{◌≡◌, ◌≢◌, ℕ, ◌<◌, List, length, Some, refl, sym, ap, subst, ◌∙◌, arith}
 use Rattle.std.specs.Prelude.{slice_get, slice_set}
 use Rattle.nts_model.specs.declared.labels.VariableKind.{VariableKind}
@@ -42,9 +43,6 @@ use Rattle.nts_unify.proofs.Changes.{slot_at, length-slots, content_of-bound, Le
 use Rattle.nts_unify.proofs.Keeping.{IsLater-trans, Knows-later, unset-set, unset_of-infer}
 use Rattle.nts_unify.proofs.JoinLemmas.{free_slot}
 use Rattle.nts_unify.proofs.Leading.{state_of-entry, kind_at-entry}
-
-some_inj : {A : Type 0} (a b : A) → Some a ≡ Some b → a ≡ b
-some_inj a b e = cc
 
 pub bindable_no_region : (ts : List Tree) (e : Entries) (x : ℕ) → IsBindable e x → kind_at (content_of ts e) x ≢ Some kind.Region
 bindable_no_region ts e x h r = h.no_region (some_inj _ _ (sym (free_slot ts e x h.of_kind h.free).kind ∙ r))

@@ -1,4 +1,5 @@
 -- Fresh variables in a value.
+use Rattle.nts_unify.proofs.Changes.{some_inj}
 use Rattle.std.proofs.Common.{◌≡◌, ℕ, ◌+◌, ◌<◌, ◌≤◌, min, max, false, [], ◌∷◌, length, length-append, Option, Some, None, refl, sym, ap, subst, ◌∙◌, arith}
 use Rattle.std.specs.Prelude.{◌==◌}
 use Rattle.nts_model.specs.declared.labels.Sort.TheVariants as sort
@@ -30,7 +31,7 @@ use Rattle.nts_relating.specs.Relating.{IsLike, IsUnset, RegionsRelate, Generali
 use Rattle.nts_unify.proofs.Keeping.{IsLater-trans, Keeps-trans, unset-push, unset_of-infer}
 use Rattle.nts_relating.proofs.Ranks.{zero_le, infer_ranked, region_unfit}
 use Rattle.nts_relating.proofs.GenLemmas.{RegionNode, lacks_other, resolved-region_node}
-use Rattle.nts_relating.proofs.Ranks.{some_kind, zero_le, infer_ranked, region_unfit}
+use Rattle.nts_relating.proofs.Ranks.{zero_le, infer_ranked, region_unfit}
 
 abbrev second_or : Option (VariableKind × ℕ) → ℕ
 second_or None = 0
@@ -230,4 +231,4 @@ gen_fresh_region c d e x u b v t l s region within r sorted is_region known of_u
     }
   where
     region_sort : (t : Tree) (l : Label) → RegionNode t l → kind_of t ≡ Some (of_sort sort.Region) → of_sort sort.Region ≡ kind_of_label l
-    region_sort t l r sorted = some_kind _ _ (sym sorted ∙ ap kind_of r.is)
+    region_sort t l r sorted = some_inj _ _ (sym sorted ∙ ap kind_of r.is)

@@ -1,6 +1,9 @@
 -- The value that a variable gets for a tree.
-use Rattle.std.proofs.Common.{◌≡◌, ◌≢◌, ℕ, zero, suc, ◌+◌, ◌*◌, ◌<◌, ◌≤◌, Bool, true, false, List, [], ◌∷◌, ◌++◌, length, Option, Some, None, refl, sym, ap, subst, ◌∙◌, arith}
-use Rattle.std.specs.Prelude.{◌==◌, ◌||◌, reverse}
+use Rattle.nts_model.proofs.Substituting.{no_children}
+use Rattle.std.proofs.lemmas.Bool.{or_parts}
+use Rattle.nts_unify.proofs.Changes.{some_inj}
+use Rattle.std.proofs.Common.{◌≡◌, ◌≢◌, ℕ, zero, suc, ◌+◌, ◌<◌, ◌≤◌, true, false, List, [], ◌∷◌, ◌++◌, length, Option, Some, None, refl, sym, ap, subst, ◌∙◌, arith}
+use Rattle.std.specs.Prelude.{◌==◌, reverse}
 use Rattle.nts_model.specs.declared.labels.Sort.TheVariants as sort
 use Rattle.nts_model.specs.declared.labels.VariableKind.{VariableKind}
 use Rattle.nts_model.specs.declared.labels.VariableKind.TheVariants as kind
@@ -11,7 +14,7 @@ use Rattle.nts_model.specs.declared.labels.FreeRegion.TheVariants as region
 use Rattle.nts_model.specs.declared.labels.Constant.TheVariants as constant
 use Rattle.nts_model.specs.declared.labels.ListHead.TheVariants as list
 use Rattle.nts_model.specs.declared.labels.TyHead.TheVariants as ty
-use Rattle.nts_model.specs.Trees.{Tree, empty, more, node, size, NodeKind, of_sort, kind_of, kind_of_label, any_label, is_infer, children, label_of, row_length, row_at, row_take, row_push, IsRow, Place, Shape, in_order, each, FitsPlace, HavePlaces, AllFit, Meets, shape, binders, IsBoundBelow, IsClosedUnder, is_region_infer, is_placeholder}
+use Rattle.nts_model.specs.Trees.{Tree, empty, more, node, NodeKind, of_sort, kind_of, kind_of_label, any_label, is_infer, children, row_length, row_at, row_take, row_push, IsRow, Place, Shape, in_order, each, FitsPlace, HavePlaces, AllFit, Meets, shape, binders, IsBoundBelow, IsClosedUnder, is_region_infer, is_placeholder}
 use Rattle.nts_model.specs.Contents.{Content, universe_of, kind_at}
 use Rattle.nts_model.specs.Resolving.{variable_of, variable_tree, infer_of, IsInfer, Knows, IsSound, Lacks, resolved, deeply_resolved, rooted, root_of, left_to_resolve, rank_of, variable_rank}
 use Rattle.nts_model.specs.Fitting.{Fits}
@@ -28,7 +31,7 @@ use Rattle.nts_model.proofs.Fitting.{IsClosedUnder-more}
 use Rattle.nts_model.proofs.Levelled.{NamesAll-falls}
 use Rattle.nts_model.proofs.Held.{AreOne-continues, Continues-refl, Continues-trans}
 use Rattle.nts_model.proofs.Alike.{Alike-row_push, AreAlike-one, AreAlike-itself, AreAlike-for, AreAlike-node, AreAlike-continues, deeply_resolved-more, row_length-deeply_resolved, IsRow-deeply_resolved}
-use Rattle.nts_model.proofs.Resolved.{resolved-empty, resolved-node, resolved-row_push, IsRow-resolved, resolved-variable_unset, node_step, deeply_resolved-empty, Knows-row_at}
+use Rattle.nts_model.proofs.Resolved.{resolved-empty, resolved-node, resolved-row_push, IsRow-resolved, resolved-variable_unset, deeply_resolved-empty, Knows-row_at}
 use Rattle.nts_store.specs.declared.nodes.NodeId.{NodeId}
 use Rattle.nts_store.specs.Growth.{tree_at, trees_at, AllIn, Extends}
 use Rattle.nts_store.proofs.Growing.{IsRow-trees_at, trees_at-push, trees_at-extended, row_take-more, row_take-all}
@@ -39,12 +42,7 @@ use Rattle.nts_relating.specs.Relating.{IsLike, IsUnset, Generalized}
 use Rattle.nts_relating.proofs.RegionLemmas.{IsRegionVariable, regions-one}
 use Rattle.nts_unify.proofs.Keeping.{Knows-later, Keeps-refl, Keeps-trans}
 use Rattle.nts_unify.proofs.Changes.{length-slots}
-use Rattle.nts_relating.proofs.Ranks.{some_kind, kind_of-like, like_of-kinds, zero_le, infer_ranked, region_unfit, row_unfit, fits_node, rank-push}
-
--- trees without inference variables
-or_false : (a b : Bool) → (a || b) ≡ false → (a ≡ false) × (b ≡ false)
-or_false false b e = (refl, e)
-or_false true b e = cc
+use Rattle.nts_relating.proofs.Ranks.{kind_of-like, like_of-kinds, zero_le, infer_ranked, region_unfit, row_unfit, fits_node, rank-push}
 
 not_infer_label : (l : Label) → is_infer l ≡ false → infer_of l ≡ None
 not_infer_label (label.Leaf (leaf.Variable kind.Ty n)) e = cc
@@ -65,10 +63,10 @@ not_infer_label (label.List h) e = refl
 pub Lacks-no_infer : (n : ℕ) (t : Tree) → any_label is_infer t ≡ false → Lacks n t
 Lacks-no_infer n empty e = tt
 Lacks-no_infer n (more a b) e =
-    let p = or_false (any_label is_infer a) (any_label is_infer b) e in
+    let p = or_parts (any_label is_infer a) (any_label is_infer b) e in
     (Lacks-no_infer n a p.0, Lacks-no_infer n b p.1)
 Lacks-no_infer n (node l c) e =
-    let p = or_false (is_infer l) (any_label is_infer c) e in
+    let p = or_parts (is_infer l) (any_label is_infer c) e in
     rw (not_infer_label l p.0) (Lacks-no_infer n c p.1)
 
 pub resolved-no_infer : (c : Content) (t : Tree) → any_label is_infer t ≡ false → resolved c t ≡ t
@@ -157,11 +155,6 @@ region_is (label.List list.Sorts) e = cc
 region_is (label.List (list.Sort s)) e = cc
 region_is (label.List list.Binder) e = cc
 
-no_children : (c : Tree) → HavePlaces [] c → c ≡ empty
-no_children empty h = refl
-no_children (more a b) h = absurd h
-no_children (node l c) h = absurd h
-
 -- a node of a region
 pub record RegionNode (t : Tree) (l : Label) : Type 0 where
   pub is : t ≡ node l empty
@@ -169,7 +162,7 @@ pub record RegionNode (t : Tree) (l : Label) : Type 0 where
 
 pub region_node : (t : Tree) (l : Label) → t ≡ node l (children t) → Meets (shape l) (children t) → kind_of t ≡ Some (of_sort sort.Region) → RegionNode t l
 region_node t l is m k =
-    let sorted : kind_of_label l ≡ of_sort sort.Region = some_kind _ _ (sym (ap kind_of is) ∙ k) in
+    let sorted : kind_of_label l ≡ of_sort sort.Region = some_inj _ _ (sym (ap kind_of is) ∙ k) in
     let r = region_is l sorted in
     let none : children t ≡ empty = no_children (children t) (rw r.leaf at m) in
     record { is = is ∙ ap (node l) none; no_infer = r.no_infer }
@@ -209,16 +202,16 @@ no_level c u (label.List h) e f g = (tt, tt)
 pub settled_names : (c : Content) (u : ℕ) (t : Tree) → any_label is_infer t ≡ false → any_label is_region_infer t ≡ false → any_label is_placeholder t ≡ false → NamesAll (level_in c) u t × NamesAll region_level u t
 settled_names c u empty e f g = (tt, tt)
 settled_names c u (more a b) e f g =
-    let i = or_false (any_label is_infer a) (any_label is_infer b) e in
-    let r = or_false (any_label is_region_infer a) (any_label is_region_infer b) f in
-    let p = or_false (any_label is_placeholder a) (any_label is_placeholder b) g in
+    let i = or_parts (any_label is_infer a) (any_label is_infer b) e in
+    let r = or_parts (any_label is_region_infer a) (any_label is_region_infer b) f in
+    let p = or_parts (any_label is_placeholder a) (any_label is_placeholder b) g in
     let h = settled_names c u a i.0 r.0 p.0 in
     let k = settled_names c u b i.1 r.1 p.1 in
     ((h.0, k.0), (h.1, k.1))
 settled_names c u (node l t) e f g =
-    let i = or_false (is_infer l) (any_label is_infer t) e in
-    let r = or_false (is_region_infer l) (any_label is_region_infer t) f in
-    let p = or_false (is_placeholder l) (any_label is_placeholder t) g in
+    let i = or_parts (is_infer l) (any_label is_infer t) e in
+    let r = or_parts (is_region_infer l) (any_label is_region_infer t) f in
+    let p = or_parts (is_placeholder l) (any_label is_placeholder t) g in
     let h = no_level c u l i.0 r.0 p.0 in
     let k = settled_names c u t i.1 r.1 p.1 in
     ((h.0, k.0), (h.1, k.1))
@@ -554,18 +547,6 @@ pub record GenChild (c d : Content) (t a : Tree) (i : ℕ) : Type 0 where
   pub smaller : left_to_resolve d a < left_to_resolve c t
   pub knows : Knows d a
   pub is : a ≡ row_at (children t) i
-
-pub gen_child : (c d : Content) (x u b i : ℕ) (t a row : Tree) (l : Label) → Knows c t → t ≡ node l (children t) → infer_of l ≡ None → i < row_length (children t) → Generalized c d x u b (row_take i (children t)) row → a ≡ row_at (children t) i → GenChild c d t a i
-gen_child c d x u b i t a row l k is none less g q =
-    let step = node_step c t l (ap label_of is) none k in
-    let known : Knows c a = rw q (step.knows i) in
-    let same : left_to_resolve d a ≡ left_to_resolve c a = ap (λ y. 3 * size y + variable_rank a) (g.keeps.trees a known) in
-    let small : left_to_resolve c a < left_to_resolve c t = rw q (step.smaller i less) in
-    record {
-      smaller = omega (arith, same, small);
-      knows = Knows-later a g.keeps.later known;
-      is = q;
-    }
 
 pub binders_le : (l : Label) → binders l ≤ 1
 binders_le (label.Leaf h) = omega arith

@@ -1,11 +1,12 @@
 -- What a term is under a table: the roots of variables, and their values.
+use Rattle.nts_model.proofs.Substituting.{no_children}
 use Rattle.std.proofs.Common.{◌≡◌, ℕ, ◌≤◌, List, [], Option, Some, None, refl, sym, ap, subst, ◌∙◌, arith}
 use Rattle.nts_model.specs.declared.labels.VariableKind.{VariableKind}
 use Rattle.nts_model.specs.declared.labels.VariableKind.TheVariants as kind
 use Rattle.nts_model.specs.declared.labels.Leaf.TheVariants as leaf
 use Rattle.nts_model.specs.declared.labels.Label.{Label}
 use Rattle.nts_model.specs.declared.labels.Label.TheVariants as label
-use Rattle.nts_model.specs.Trees.{Tree, empty, more, node, NodeKind, of_sort, sort_of_variable, kind_of, kind_of_label, children, label_of, shape, Meets, in_order, HavePlaces, IsClosed as IsClosedTree}
+use Rattle.nts_model.specs.Trees.{Tree, node, NodeKind, of_sort, sort_of_variable, kind_of, kind_of_label, children, label_of, shape, Meets, in_order, IsClosed}
 use Rattle.nts_model.specs.Contents.{Content, known, state_of, kind_at}
 use Rattle.nts_model.specs.Resolving.{variable_of, variable_tree, infer_of, IsInfer, Knows, KnowsLabel, resolved, rank_of, rank_of_kind, variable_rank}
 use Rattle.nts_model.proofs.Variables.{infer_label}
@@ -87,12 +88,7 @@ pub record HeadKnown (ts : List Tree) (e : Entries) (t : Tree) (v : NodeId) : Ty
   pub own_sort : kind_of t ≡ Some sort
   pub step : KnownStep (content_of ts e) t (tree_at ts v)
   pub worlds : (w : World) → Solves (content_of ts e) w → inst w t ≡ inst w (tree_at ts v)
-  pub closed : IsClosedTree (tree_at ts v)
-
-no_children : (c : Tree) → HavePlaces [] c → c ≡ empty
-no_children empty h = refl
-no_children (more a b) h = absurd h
-no_children (node l c) h = absurd h
+  pub closed : IsClosed (tree_at ts v)
 
 -- a node that is a variable has no children
 pub variable_node : (t : Tree) (l : Label) (k : VariableKind) (n : ℕ) → t ≡ node l (children t) → Meets (shape l) (children t) → variable_of l ≡ Some (k, n) → t ≡ variable_tree k n

@@ -1,5 +1,6 @@
 -- Terms whose variables a table has.
-use Rattle.std.proofs.Common.{◌≡◌, ◌↔◌, ℕ, zero, suc, ◌+◌, ◌<◌, ◌||◌, Bool, true, false, not, List, Option, Some, None, refl, sym, ap, ◌∙◌, arith, add-one}
+use Rattle.std.proofs.lemmas.Bool.{or_parts}
+use Rattle.std.proofs.Common.{◌≡◌, ◌↔◌, ℕ, zero, suc, ◌+◌, ◌<◌, Bool, true, false, not, List, Option, Some, None, refl, sym, ap, ◌∙◌, arith, add-one}
 use Rattle.std.specs.Prelude.{Result, Ok, Err, IfOk, IsTrue}
 use Rattle.nts_model.specs.declared.labels.VariableKind.{VariableKind}
 use Rattle.nts_model.specs.declared.labels.VariableKind.TheVariants as kind
@@ -27,10 +28,6 @@ row_from-step (more a b) (suc i) h =
     let e : suc i + 1 ≡ suc (i + 1) = omega arith in rw e (row_from-step b i (omega arith))
 row_from-step (node l x) i h = absurd (omega arith)
 
-or_false : (a b : Bool) → (a || b) ≡ false → (a ≡ false) × (b ≡ false)
-or_false true b e = cc
-or_false false b e = (refl, e)
-
 no_variable : (c : Content) (l : Label) → is_infer l ≡ false → is_region_infer l ≡ false → KnowsLabel c (variable_of l)
 no_variable c (label.Leaf (leaf.Variable kind.Ty n)) e h = cc
 no_variable c (label.Leaf (leaf.Variable kind.Int n)) e h = cc
@@ -50,12 +47,12 @@ no_variable c (label.List k) e h = tt
 pub Knows-none : (c : Content) (t : Tree) → any_label is_infer t ≡ false → any_label is_region_infer t ≡ false → Knows c t
 Knows-none c empty e h = tt
 Knows-none c (more a b) e h =
-    let p = or_false (any_label is_infer a) (any_label is_infer b) e in
-    let q = or_false (any_label is_region_infer a) (any_label is_region_infer b) h in
+    let p = or_parts (any_label is_infer a) (any_label is_infer b) e in
+    let q = or_parts (any_label is_region_infer a) (any_label is_region_infer b) h in
     (Knows-none c a p.0 q.0, Knows-none c b p.1 q.1)
 Knows-none c (node l x) e h =
-    let p = or_false (is_infer l) (any_label is_infer x) e in
-    let q = or_false (is_region_infer l) (any_label is_region_infer x) h in
+    let p = or_parts (is_infer l) (any_label is_infer x) e in
+    let q = or_parts (is_region_infer l) (any_label is_region_infer x) h in
     (no_variable c l p.0 q.0, Knows-none c x p.1 q.1)
 
 -- a variable that the table has is known, and the other way round

@@ -25,7 +25,7 @@ use Rattle.nts_unify.specs.Entries.{Entries}
 use Rattle.nts_unify.specs.Reading.{content_of, IsLawful}
 use Rattle.nts_unify.specs.Changing.{IsLater, is_free_region}
 use Rattle.nts_relating.specs.Met.{Judge, of_world, of_table, IsJudgeOf, judged_size, JudgesOne, OneBelow, IsOneAfter, AreOneAfter}
-use Rattle.nts_relating.specs.Relating.{IsOpen, IsClosed, VariablesRelate, pair_at, pairs_at, Pushed, IsValid, IsMemo}
+use Rattle.nts_relating.specs.Relating.{IsOpen, IsClosedHead, VariablesRelate, pair_at, pairs_at, Pushed, IsValid, IsMemo}
 use Rattle.nts_unify.proofs.Keeping.{Knows-later, IsLater-refl}
 use Rattle.nts_relating.proofs.GenLemmas.{IsFair, unchanged}
 use Rattle.nts_relating.proofs.Naming.{lawful_sides, alone_label}
@@ -45,7 +45,7 @@ AreEven : Judge → Tree → Tree → Type 0
 AreEven (of_world w) t v = inst w t ≡ inst w v
 AreEven (of_table f) t v = AreOne f t v
 
-even_closed : (c : Content) (t v : Tree) (j : Judge) → IsJudgeOf c j → Knows c t → IsClosed c t v → AreEven j t v
+even_closed : (c : Content) (t v : Tree) (j : Judge) → IsJudgeOf c j → Knows c t → IsClosedHead c t v → AreEven j t v
 unfolding AreEven
 even_closed c t v (of_world w) z k h = h.worlds w z
 even_closed c t v (of_table f) z k h = AreOne-continues c f t v z.1 k h.knows (ap (rooted c) h.same)
@@ -92,7 +92,7 @@ met_one c ps p a b j z left right m below =
     one_even j a b p.0 p.1 left right (m.one j z (below_push j (judged_size j a) ps p below (λ l. absurd (omega (arith, even, l)))))
 
 -- .. so it may be passed over
-met_passed : (c : Content) (ps : List (Tree × Tree)) (p : Tree × Tree) (a b : Tree) → Knows c p.0 → Knows c p.1 → IsClosed c p.0 a → IsClosed c p.1 b → IsOneAfter c (ps ++ p ∷ []) (a, b) → (ms : List (Tree × Tree)) → AreOneAfter c (ps ++ p ∷ []) ms → AreOneAfter c ps ms
+met_passed : (c : Content) (ps : List (Tree × Tree)) (p : Tree × Tree) (a b : Tree) → Knows c p.0 → Knows c p.1 → IsClosedHead c p.0 a → IsClosedHead c p.1 b → IsOneAfter c (ps ++ p ∷ []) (a, b) → (ms : List (Tree × Tree)) → AreOneAfter c (ps ++ p ∷ []) ms → AreOneAfter c ps ms
 met_passed c ps p a b kl kr hl hr m [] h = tt
 met_passed c ps p a b kl kr hl hr m (q ∷ ms) h = (
   record {
@@ -114,7 +114,7 @@ taken_one ts ps qs a b l m j n ia ib same alone k le below =
     let other : b ≡ node l (children b) = ib ∙ ap (λ x. node x (children b)) (sym same) in
     subst (λ x. JudgesOne j x b) (sym ia) (subst (λ y. JudgesOne j (node l (children a)) y) (sym other) (one-node j l (children a) (children b) alone inner))
 
-met_taken : (ts : List Tree) (c : Content) (ps qs : List Pair) (p : Tree × Tree) (a b : Tree) (l m : Label) → a ≡ node l (children a) → b ≡ node m (children b) → l ≡ m → variable_of l ≡ None → Knows c p.0 → Knows c p.1 → IsClosed c p.0 a → IsClosed c p.1 b → Pushed ts ps qs (children a) (children b) 0
+met_taken : (ts : List Tree) (c : Content) (ps qs : List Pair) (p : Tree × Tree) (a b : Tree) (l m : Label) → a ≡ node l (children a) → b ≡ node m (children b) → l ≡ m → variable_of l ≡ None → Knows c p.0 → Knows c p.1 → IsClosedHead c p.0 a → IsClosedHead c p.1 b → Pushed ts ps qs (children a) (children b) 0
     → (ms : List (Tree × Tree)) → AreOneAfter c (pairs_at ts ps ++ p ∷ []) ms → AreOneAfter c (pairs_at ts qs) (ms ++ (a, b) ∷ [])
 met_taken ts c ps qs p a b l m ia ib same alone kl kr hl hr k [] h =
     (record { one = λ j z below. taken_one ts ps qs a b l m j (judged_size j a) ia ib same alone k (omega arith) below }, tt)
@@ -142,10 +142,6 @@ met_done c d ps p s fair kl kr r (q ∷ ms) h = (
   met_done c d ps p s fair kl kr r ms h.1,
 )
 
--- nothing is met at first
-pub memo_start : (ts : List Tree) (e : Entries) (ps : List Pair) → IsMemo ts e ps []
-memo_start ts e ps = record { within = tt; met = tt }
-
 pub memo_done : (ts us : List Tree) (e f : Entries) (ps ms : List Pair) (p : Pair) → IsValid ts e (ps ++ p ∷ []) → Extends ts us → IsLawful us f → IsLater (content_of ts e) (content_of us f) → AreRelated (content_of ts e) (content_of us f) (tree_at ts p.left) (tree_at ts p.right) → IsMemo ts e (ps ++ p ∷ []) ms → IsMemo us f ps ms
 memo_done ts us e f ps ms p v x h later r o =
     let c = content_of ts e in
@@ -171,7 +167,7 @@ memo_variables ts us e f ps ms p x y false v ext o q r h =
     rw (store, is) (memo_done ts ts e e ps ms p v (Extends-refl ts) v.lawful (IsLater-refl (content_of ts e)) (variable_same ts e (tree_at ts p.left) (tree_at ts p.right) x y v.lawful o q same.2) h)
 
 -- two nodes whose children are left
-pub memo_pushed : (ts : List Tree) (e : Entries) (ps qs ms ns : List Pair) (p : Pair) (a b : NodeId) (l m : Label) → IsValid ts e (ps ++ p ∷ []) → IsIn ts a → IsIn ts b → IsClosed (content_of ts e) (tree_at ts p.left) (tree_at ts a) → IsClosed (content_of ts e) (tree_at ts p.right) (tree_at ts b)
+pub memo_pushed : (ts : List Tree) (e : Entries) (ps qs ms ns : List Pair) (p : Pair) (a b : NodeId) (l m : Label) → IsValid ts e (ps ++ p ∷ []) → IsIn ts a → IsIn ts b → IsClosedHead (content_of ts e) (tree_at ts p.left) (tree_at ts a) → IsClosedHead (content_of ts e) (tree_at ts p.right) (tree_at ts b)
     → tree_at ts a ≡ node l (children (tree_at ts a)) → tree_at ts b ≡ node m (children (tree_at ts b)) → l ≡ m → is_free_region l ≡ false → Pushed ts ps qs (children (tree_at ts a)) (children (tree_at ts b)) 0 → ns ≡ ms ++ record { left = a; right = b } ∷ []
     → IsMemo ts e (ps ++ p ∷ []) ms → IsMemo ts e qs ns
 memo_pushed ts e ps qs ms ns p a b l m v na nb ha hb ia ib same not_free k new o =
@@ -217,7 +213,7 @@ pub record Passed (ts : List Tree) (e : Entries) (ps ms : List Pair) (p : Pair) 
   pub stepped : Stepped ts ts e e ps ps p false
   pub memo : IsMemo ts e ps ms
 
-pub passed_met : (ts : List Tree) (e : Entries) (ps ms : List Pair) (p : Pair) (a b : NodeId) → IsValid ts e (ps ++ p ∷ []) → IsClosed (content_of ts e) (tree_at ts p.left) (tree_at ts a) → IsClosed (content_of ts e) (tree_at ts p.right) (tree_at ts b) → list_any (pair_eq.ghosts.eq (record { left = a; right = b })) ms ≡ true → IsMemo ts e (ps ++ p ∷ []) ms → Passed ts e ps ms p
+pub passed_met : (ts : List Tree) (e : Entries) (ps ms : List Pair) (p : Pair) (a b : NodeId) → IsValid ts e (ps ++ p ∷ []) → IsClosedHead (content_of ts e) (tree_at ts p.left) (tree_at ts a) → IsClosedHead (content_of ts e) (tree_at ts p.right) (tree_at ts b) → list_any (pair_eq.ghosts.eq (record { left = a; right = b })) ms ≡ true → IsMemo ts e (ps ++ p ∷ []) ms → Passed ts e ps ms p
 passed_met ts e ps ms p a b v ha hb found o =
     let c = content_of ts e in
     let last = last_pair ts e ps p v in

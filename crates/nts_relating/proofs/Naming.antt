@@ -1,4 +1,5 @@
 -- Leaves of a value: the variables and regions that stand in it, old ones or fresh ones.
+use Rattle.nts_unify.proofs.Changes.{some_inj}
 use Rattle.std.proofs.Common.{◌≡◌, ◌≢◌, true, false, ℕ, ◌<◌, ◌≤◌, min, max, List, [], ◌∷◌, length, map, Option, Some, None, refl, sym, ap, subst, ◌∙◌, arith}
 use Rattle.std.specs.Prelude.{slice_get}
 use Rattle.nts_model.specs.declared.labels.Relation.TheVariants as relation
@@ -43,13 +44,10 @@ use Rattle.nts_relating.proofs.HeadLemmas.{region_root}
 use Rattle.nts_relating.proofs.GenLemmas.{region_node, gen_named, gen_region, gen_region_root, gen_settled}
 use Rattle.nts_relating.proofs.FreshValues.{gen_fresh, gen_fresh_region, IsAdded, slot_added}
 
-some_variable : (v w : Variable) → Some v ≡ Some w → v ≡ w
-some_variable v w e = cc
-
 -- the kind that is read is the variable's
 pub kind_read : (e : Entries) (y : ℕ) (k : VariableKind) (w : Variable) → HasUnset e y k → slice_get e.variables y ≡ Some w → w.kind ≡ k
 kind_read e y k w h at =
-    let same = some_variable h.variable w (sym h.at ∙ at) in ap (λ (v : Variable). v.kind) (sym same) ∙ h.of_kind
+    let same = some_inj h.variable w (sym h.at ∙ at) in ap (λ (v : Variable). v.kind) (sym same) ∙ h.of_kind
 
 unset_in : (ts : List Tree) (e : Entries) (y : ℕ) (k : VariableKind) → k ≢ kind.Region → HasUnset e y k → IsUnset (content_of ts e) y k
 unset_in ts e y k n h = let f = free_slot ts e y k h in record { has = f.kind; no_region = n; state = f.state }

@@ -22,6 +22,7 @@ use Rattle.nts_store.specs.Growth.{tree_at, IsIn, Extends}
 use Rattle.nts_store.proofs.Growing.{IsIn-extended, Extends-refl}
 use Rattle.nts_relating.specs.declared.relate.Pair.{Pair}
 use Rattle.std.specs.Prelude.{OnOk}
+use Rattle.nts_unify.proofs.Changes.{some_inj}
 use Rattle.nts_unify.specs.Entries.{Entries}
 use Rattle.nts_unify.specs.Reading.{content_of, IsLawful}
 use Rattle.nts_unify.specs.Changing.{unset_count, IsLater, Keeps, is_free_region}
@@ -29,7 +30,7 @@ use Rattle.nts_unify.specs.Joining.{Joins}
 use Rattle.nts_unify.specs.Unchanged.{HasUnset}
 use Rattle.nts_relating.specs.Knowing.{row_from}
 use Rattle.nts_relating.specs.Met.{judged_size, JudgesOne, OneBelow}
-use Rattle.nts_relating.specs.Relating.{IsOpen, IsClosed, IsSet, RegionsRelate, pair_at, pairs_at, ArePairsIn, AreKnown, total, Pushed, IsValid, IsStep, IsRun, Running, AreMadeOne, VariablesRelate}
+use Rattle.nts_relating.specs.Relating.{IsOpen, IsClosedHead, IsSet, RegionsRelate, pair_at, pairs_at, ArePairsIn, AreKnown, total, Pushed, IsValid, IsPairStep, IsPairRun, Running, AreMadeOne, VariablesRelate}
 use Rattle.nts_unify.proofs.Keeping.{IsLater-refl, IsLater-trans, Knows-later, Keeps-refl}
 use Rattle.nts_unify.proofs.JoinLemmas.{free_slot, at_max}
 use Rattle.nts_relating.proofs.RegionLemmas.{from_sides, to_sides}
@@ -184,7 +185,7 @@ total-last ts c ps p = ap (total c) (pairs_at-push ts ps p) ∙ total-push c (pa
 
 pub record Stepped (ts us : List Tree) (e f : Entries) (ps qs : List Pair) (p : Pair) (bound : Bool) : Type 0 where
   pub valid : IsValid us f qs
-  pub step : IsStep (content_of ts e) (content_of us f) (pairs_at ts (ps ++ p ∷ [])) (pairs_at us qs) bound
+  pub step : IsPairStep (content_of ts e) (content_of us f) (pairs_at ts (ps ++ p ∷ [])) (pairs_at us qs) bound
 
 -- the last pair is made equal in a store that may have grown
 reduces_last : (ts us : List Tree) (e f : Entries) (ps : List Pair) (p : Pair) → IsValid ts e (ps ++ p ∷ []) → Extends ts us → IsLawful us f → IsLater (content_of ts e) (content_of us f) → AreRelated (content_of ts e) (content_of us f) (tree_at ts p.left) (tree_at ts p.right) → Reduces (content_of ts e) (content_of us f) (pairs_at ts (ps ++ p ∷ [])) (pairs_at us ps)
@@ -203,7 +204,7 @@ step_set ts us e f ps p v x h l less r =
     }
 
 -- the variable on one side
-pub set_left : (ts us : List Tree) (e f : Entries) (p : Pair) (x : ℕ) (b : Tree) → IsLawful ts e → IsLawful us f → Knows (content_of ts e) (tree_at ts p.left) → Knows (content_of ts e) (tree_at ts p.right) → IsOpen ts e (tree_at ts p.left) x → IsClosed (content_of ts e) (tree_at ts p.right) b → IsSet (content_of ts e) (content_of us f) x b → AreRelated (content_of ts e) (content_of us f) (tree_at ts p.left) (tree_at ts p.right)
+pub set_left : (ts us : List Tree) (e f : Entries) (p : Pair) (x : ℕ) (b : Tree) → IsLawful ts e → IsLawful us f → Knows (content_of ts e) (tree_at ts p.left) → Knows (content_of ts e) (tree_at ts p.right) → IsOpen ts e (tree_at ts p.left) x → IsClosedHead (content_of ts e) (tree_at ts p.right) b → IsSet (content_of ts e) (content_of us f) x b → AreRelated (content_of ts e) (content_of us f) (tree_at ts p.left) (tree_at ts p.right)
 set_left ts us e f p x b h k kl kr o r s =
     let c = content_of ts e in
     let d = content_of us f in
@@ -229,12 +230,9 @@ AreRelated-turned {c} {d} {a} {b} r =
       complete = λ w z q. r.complete w z (sym q);
     }
 
-pub set_right : (ts us : List Tree) (e f : Entries) (p : Pair) (y : ℕ) (a : Tree) → IsLawful ts e → IsLawful us f → Knows (content_of ts e) (tree_at ts p.left) → Knows (content_of ts e) (tree_at ts p.right) → IsOpen ts e (tree_at ts p.right) y → IsClosed (content_of ts e) (tree_at ts p.left) a → IsSet (content_of ts e) (content_of us f) y a → AreRelated (content_of ts e) (content_of us f) (tree_at ts p.left) (tree_at ts p.right)
+pub set_right : (ts us : List Tree) (e f : Entries) (p : Pair) (y : ℕ) (a : Tree) → IsLawful ts e → IsLawful us f → Knows (content_of ts e) (tree_at ts p.left) → Knows (content_of ts e) (tree_at ts p.right) → IsOpen ts e (tree_at ts p.right) y → IsClosedHead (content_of ts e) (tree_at ts p.left) a → IsSet (content_of ts e) (content_of us f) y a → AreRelated (content_of ts e) (content_of us f) (tree_at ts p.left) (tree_at ts p.right)
 set_right ts us e f p y a h k kl kr o r s =
     AreRelated-turned (set_left ts us e f (record { left = p.right; right = p.left }) y a h k kr kl o r s)
-
-some_variable_kind : (j k : VariableKind) → Some j ≡ Some k → j ≡ k
-some_variable_kind j k e = cc
 
 -- nothing that trees stand for changed
 pub step_kept : (ts : List Tree) (e f : Entries) (ps : List Pair) (p : Pair) → IsValid ts e (ps ++ p ∷ []) → IsLawful ts f → Keeps (content_of ts e) (content_of ts f) → AreRelated (content_of ts e) (content_of ts f) (tree_at ts p.left) (tree_at ts p.right) → Stepped ts ts e f ps ps p false
@@ -261,12 +259,12 @@ one_related c a b s e h =
     }
 
 -- one node on both sides
-pub heads_same : (c : Content) (a b s t : Tree) → IsSound c → IsClosed c a s → IsClosed c b t → s ≡ t → AreRelated c c a b
+pub heads_same : (c : Content) (a b s t : Tree) → IsSound c → IsClosedHead c a s → IsClosedHead c b t → s ≡ t → AreRelated c c a b
 heads_same c a b s t h p q e =
     one_related c a b h (ap (rooted c) (p.same ∙ ap (resolved c) e ∙ sym q.same)) (λ w z. p.worlds w z ∙ ap (inst w) e ∙ sym (q.worlds w z))
 
 -- two regions on both sides
-pub heads_regions : (c d : Content) (a b s t : Tree) → Knows c a → Knows c b → IsClosed c a s → IsClosed c b t → RegionsRelate c d s t → AreRelated c d a b
+pub heads_regions : (c d : Content) (a b s t : Tree) → Knows c a → Knows c b → IsClosedHead c a s → IsClosedHead c b t → RegionsRelate c d s t → AreRelated c d a b
 heads_regions c d a b s t ka kb p q r =
     let left : AreOne d a s = AreOne-continues c d a s r.continues ka p.knows (ap (rooted c) p.same) in
     let right : AreOne d b t = AreOne-continues c d b t r.continues kb q.knows (ap (rooted c) q.same) in
@@ -284,7 +282,7 @@ variable_same ts e a b x y h o r same =
     let c = content_of ts e in
     let first = (free_slot ts e x o.bindable.of_kind o.bindable.free).kind in
     let second = (free_slot ts e y r.bindable.of_kind r.bindable.free).kind in
-    let kinds : o.bindable.of_kind ≡ r.bindable.of_kind = some_variable_kind o.bindable.of_kind r.bindable.of_kind (sym first ∙ ap (kind_at c) same ∙ second) in
+    let kinds : o.bindable.of_kind ≡ r.bindable.of_kind = some_inj o.bindable.of_kind r.bindable.of_kind (sym first ∙ ap (kind_at c) same ∙ second) in
     one_related c a b h.sound (ap (rooted c) (o.same ∙ (λ i. resolved c (variable_tree (kinds i) (same i))) ∙ sym r.same)) (λ w z. o.worlds w z ∙ ap w.tree same ∙ sym (r.worlds w z))
 
 -- two variables that were joined
@@ -308,8 +306,8 @@ joined_one ts us e f x y j k h hx hy no_region kinds same_store joins =
         fewer = omega (arith, fewer);
         continues = one.continues;
         alike = λ a b p q.
-            let ea : a ≡ j = some_variable_kind a j (sym p ∙ first) in
-            let eb : b ≡ j = some_variable_kind b j (sym q ∙ second ∙ ap Some (sym kinds)) in
+            let ea : a ≡ j = some_inj a j (sym p ∙ first) in
+            let eb : b ≡ j = some_inj b j (sym q ∙ second ∙ ap Some (sym kinds)) in
             rw (ea, eb) (AreAlike-one d (variable_tree j x) (variable_tree j y) (ap (rooted d) both));
         sound = λ w z. (let q = one.narrows.sound w z in (q.0, from_sides w.tree x y q.1));
         complete = λ w z q. record {
@@ -328,7 +326,7 @@ set_one {c} {d} {x} {y} k has s =
       later = s.later;
       fewer = s.fewer;
       continues = s.continues;
-      alike = λ a b p q. (let e : b ≡ k = some_variable_kind b k (sym q ∙ has) in rw e (s.alike a p));
+      alike = λ a b p q. (let e : b ≡ k = some_inj b k (sym q ∙ has) in rw e (s.alike a p));
       sound = λ w z. s.sound w z;
       complete = λ w z q. s.complete w z q;
     }
@@ -458,7 +456,7 @@ node_eq : (l m : Label) (a b : Tree) → node l a ≡ node m b → (l ≡ m) × 
 node_eq l m a b e = (cc, cc)
 
 -- two nodes, whose children are left
-pub step_pushed : (ts : List Tree) (e : Entries) (ps qs : List Pair) (p : Pair) (a b : NodeId) (l m : Label) → IsValid ts e (ps ++ p ∷ []) → IsClosed (content_of ts e) (tree_at ts p.left) (tree_at ts a) → IsClosed (content_of ts e) (tree_at ts p.right) (tree_at ts b) → tree_at ts a ≡ node l (children (tree_at ts a)) → tree_at ts b ≡ node m (children (tree_at ts b)) → l ≡ m → is_free_region l ≡ false → Pushed ts ps qs (children (tree_at ts a)) (children (tree_at ts b)) 0 → Stepped ts ts e e ps qs p false
+pub step_pushed : (ts : List Tree) (e : Entries) (ps qs : List Pair) (p : Pair) (a b : NodeId) (l m : Label) → IsValid ts e (ps ++ p ∷ []) → IsClosedHead (content_of ts e) (tree_at ts p.left) (tree_at ts a) → IsClosedHead (content_of ts e) (tree_at ts p.right) (tree_at ts b) → tree_at ts a ≡ node l (children (tree_at ts a)) → tree_at ts b ≡ node m (children (tree_at ts b)) → l ≡ m → is_free_region l ≡ false → Pushed ts ps qs (children (tree_at ts a)) (children (tree_at ts b)) 0 → Stepped ts ts e e ps qs p false
 step_pushed ts e ps qs p a b l m v ha hb ia ib same not_free k =
     let c = content_of ts e in
     let last = last_pair ts e ps p v in
@@ -507,11 +505,11 @@ err_of e f q = let k : e ≡ f = cc in ap Err k
 pub running_start : (c : Content) (ps : List (Tree × Tree)) → IsSound c → Running c c ps ps
 running_start c ps s = record { later = IsLater-refl c; reduces = Reduces-refl c ps s; not_more = omega arith }
 
-pub running_step : {c d e : Content} {ps qs rs : List (Tree × Tree)} {b : Bool} → IsSound c → IsSound d → Running c d ps qs → IsStep d e qs rs b → b ≡ false → Running c e ps rs
+pub running_step : {c d e : Content} {ps qs rs : List (Tree × Tree)} {b : Bool} → IsSound c → IsSound d → Running c d ps qs → IsPairStep d e qs rs b → b ≡ false → Running c e ps rs
 running_step s z r k f =
     record { later = IsLater-trans r.later k.later; reduces = Reduces-trans s z r.reduces k.reduces; not_more = omega (arith, r.not_more, (k.smaller f).1) }
 
-pub running_bound : {c d e : Content} {ps qs rs : List (Tree × Tree)} {b : Bool} → IsSound c → IsSound d → Running c d ps qs → IsStep d e qs rs b → b ≡ true → IsRun c e ps rs true
+pub running_bound : {c d e : Content} {ps qs rs : List (Tree × Tree)} {b : Bool} → IsSound c → IsSound d → Running c d ps qs → IsPairStep d e qs rs b → b ≡ true → IsPairRun c e ps rs true
 running_bound s z r k f =
     record {
       later = IsLater-trans r.later k.later;
@@ -520,14 +518,14 @@ running_bound s z r k f =
       ends = λ (q : true ≡ false). cc;
     }
 
-pub running_end : {c d : Content} {ps qs : List (Tree × Tree)} → Running c d ps qs → qs ≡ [] → IsRun c d ps qs false
+pub running_end : {c d : Content} {ps qs : List (Tree × Tree)} → Running c d ps qs → qs ≡ [] → IsPairRun c d ps qs false
 running_end r e = record { later = r.later; reduces = r.reduces; fewer = λ (q : false ≡ true). cc; ends = λ q. e }
 
-pub all_step : {c d e : Content} {ps qs rs : List (Tree × Tree)} {b : Bool} → IsSound c → IsSound d → Running c d ps qs → IsRun d e qs rs b → b ≡ true → Running c e ps rs
+pub all_step : {c d e : Content} {ps qs rs : List (Tree × Tree)} {b : Bool} → IsSound c → IsSound d → Running c d ps qs → IsPairRun d e qs rs b → b ≡ true → Running c e ps rs
 all_step s z r k f =
     record { later = IsLater-trans r.later k.later; reduces = Reduces-trans s z r.reduces k.reduces; not_more = omega (arith, r.not_more, k.fewer f) }
 
-pub all_done : {c d e : Content} {ps qs rs : List (Tree × Tree)} {b : Bool} → IsSound c → IsSound d → Running c d ps qs → IsRun d e qs rs b → b ≡ false → Reduces c e ps []
+pub all_done : {c d e : Content} {ps qs rs : List (Tree × Tree)} {b : Bool} → IsSound c → IsSound d → Running c d ps qs → IsPairRun d e qs rs b → b ≡ false → Reduces c e ps []
 all_done s z r k f = let end = k.ends f in rw end at (Reduces-trans s z r.reduces k.reduces)
 
 -- one pair, of which nothing is left

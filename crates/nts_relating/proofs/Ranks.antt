@@ -1,4 +1,5 @@
 -- Sorts of trees, which kinds of variables they fit, and the ranks of trees that are variables.
+use Rattle.nts_unify.proofs.Changes.{some_inj}
 use Rattle.std.proofs.Common.{◌≡◌, ◌≢◌, ℕ, ◌≤◌, ◌<◌, Some, None, refl, sym, ap, ◌∙◌, arith}
 use Rattle.nts_model.specs.declared.labels.Sort.TheVariants as sort
 use Rattle.nts_model.specs.declared.labels.VariableKind.{VariableKind}
@@ -32,9 +33,6 @@ region_sort kind.Float h e = cc
 region_sort kind.Const h e = cc
 region_sort kind.Region h e = h refl
 
-pub some_kind : (a b : NodeKind) → Some a ≡ Some b → a ≡ b
-some_kind a b e = cc
-
 -- trees of the same sorts
 pub kind_of-like : (r t : Tree) → IsLike r t → kind_of r ≡ kind_of t
 kind_of-like empty empty h = refl
@@ -52,11 +50,11 @@ like_of-kinds empty t k h q = cc
 like_of-kinds (more a b) t k h q = cc
 like_of-kinds (node l c) empty k h q = cc
 like_of-kinds (node l c) (more a b) k h q = cc
-like_of-kinds (node l c) (node m d) k h q = some_kind _ _ (h ∙ sym q)
+like_of-kinds (node l c) (node m d) k h q = some_inj _ _ (h ∙ sym q)
 
 -- a region fits region variables alone, and a list fits none
 pub region_unfit : {A : Type 0} (k : VariableKind) (t : Tree) → k ≢ kind.Region → kind_of t ≡ Some (of_sort sort.Region) → Fits k t → A
-region_unfit k t n e f = absurd (region_sort k n (some_kind _ _ (sym (Fits-kind_of k t f) ∙ e)))
+region_unfit k t n e f = absurd (region_sort k n (some_inj _ _ (sym (Fits-kind_of k t f) ∙ e)))
 
 kind_of-row : (t : Tree) → IsRow t → kind_of t ≡ None
 kind_of-row empty h = refl

@@ -1,22 +1,21 @@
 -- Why no world makes a variable one with a tree, or two trees one.
-use Rattle.std.proofs.Common.{◌≡◌, ◌≢◌, ⊎_elim, ℕ, zero, suc, ◌+◌, ◌<◌, ◌≤◌, Bool, true, false, List, [], ◌∷◌, ◌++◌, length, Option, Some, None, refl, sym, ap, subst, ◌∙◌, arith}
+use Rattle.std.proofs.Common.{◌≡◌, ◌≢◌, ⊎_elim, ℕ, zero, suc, ◌+◌, ◌<◌, ◌≤◌, Bool, true, false, List, [], ◌∷◌, ◌++◌, Option, Some, None, refl, sym, ap, subst, ◌∙◌, arith}
 use Rattle.nts_model.specs.declared.labels.VariableKind.{VariableKind}
 use Rattle.nts_model.specs.declared.labels.VariableKind.TheVariants as kind
 use Rattle.nts_model.specs.declared.labels.FreeRegion.{FreeRegion}
 use Rattle.nts_model.specs.declared.labels.Leaf.TheVariants as leaf
 use Rattle.nts_model.specs.declared.labels.Label.{Label}
 use Rattle.nts_model.specs.declared.labels.Label.TheVariants as label
-use Rattle.nts_model.specs.Trees.{Tree, empty, more, node, size, children, label_of, IsRow, row_length, row_at, row_take, IsBoundBelow, IsClosedUnder, IsClosed, binders, of_sort, kind_of, kind_of_label, sort_of_variable}
+use Rattle.nts_model.specs.Trees.{Tree, empty, more, node, size, children, label_of, IsRow, row_length, row_at, row_take, IsClosedUnder, of_sort, kind_of, kind_of_label, sort_of_variable}
 use Rattle.nts_model.specs.Contents.{Content, kind_at, universe_of}
 use Rattle.nts_model.specs.Resolving.{variable_of, infer_of, IsInfer, Knows, KnowsLabel, variable_flag}
-use Rattle.nts_model.specs.Levels.{CanName, NamesAll, term_level}
+use Rattle.nts_model.specs.Levels.{NamesAll, term_level}
 use Rattle.nts_model.specs.Regions.{IsRegion}
 use Rattle.nts_model.specs.Worlds.{World, inst, renamed, Solves}
-use Rattle.nts_model.specs.Equations.{Reduces, Refuses, AreUnrelated}
-use Rattle.nts_model.proofs.Resolved.{Knows-row_at, flag_le}
-use Rattle.nts_model.proofs.Instances.{inst-node, inst-variable, inst-agrees}
-use Rattle.nts_model.proofs.Fitting.{Fits-kind_of, IsClosed-inst, kind_of_label-renamed}
-use Rattle.nts_model.proofs.Refuting.{names-node, closed-node, tree-named, one_node, IsFreeRegion, lengths_refute, sorts_refute, kind_refutes, integer_float_refute}
+use Rattle.nts_model.specs.Equations.{Reduces, Refuses}
+use Rattle.nts_model.proofs.Instances.{inst-node, inst-variable}
+use Rattle.nts_model.proofs.Fitting.{Fits-kind_of, kind_of_label-renamed}
+use Rattle.nts_model.proofs.Refuting.{tree-named, one_node, IsFreeRegion, lengths_refute, sorts_refute, kind_refutes, integer_float_refute}
 use Rattle.nts_store.specs.declared.nodes.NodeId.{NodeId}
 use Rattle.nts_store.specs.Growth.{tree_at}
 use Rattle.nts_relating.specs.declared.relate.Pair.{Pair}
@@ -26,10 +25,10 @@ use Rattle.nts_model.specs.Fitting.{Fits}
 use Rattle.nts_unify.specs.Joining.{TakesVariable}
 use Rattle.nts_relating.proofs.Ranks.{region_unfit}
 use Rattle.nts_unify.specs.Changing.{is_free_region}
-use Rattle.nts_relating.specs.Relating.{IsClosed as IsClosedHead, Generalized, Blocks, Forbids, pair_at, pairs_at}
+use Rattle.nts_relating.specs.Relating.{IsClosedHead, Blocks, Forbids, pair_at, pairs_at}
 use Rattle.nts_relating.proofs.HeadLemmas.{kind_of-variable}
 use Rattle.nts_relating.proofs.Naming.{region_free, alone_label}
-use Rattle.nts_relating.proofs.PairLemmas.{Equates-front, Knows-children, pairs_at-push, not_infer}
+use Rattle.nts_relating.proofs.PairLemmas.{Equates-front, pairs_at-push, not_infer}
 
 -- parts of an instance that is named and closed
 named_at : (w : World) (u : ℕ) (r : Tree) (i : ℕ) → i < row_length r → NamesAll term_level u (inst w r) → NamesAll term_level u (inst w (row_at r i))
@@ -61,50 +60,10 @@ flag_one empty h = absurd h
 flag_one (more a b) h = absurd h
 flag_one (node l c) h = (let q = h.1 in rw q refl)
 
--- a variable whose value is blocked
-pub blocks_known : (c : Content) (x u b : ℕ) (t v : Tree) → ((w : World) → Solves c w → inst w t ≡ inst w v) → Knows c v → IsClosed v → IsInfer t → Blocks c x u 0 v → Blocks c x u b t
-blocks_known c x u b t v worlds k closed infer h = record {
-  none = λ w z names below.
-      let same = worlds w z in
-      let inner : size (w.tree x) < size (inst w v) + variable_flag v = h.none w z (rw same at names) (IsClosed-inst c w 0 v z.fitting k closed) in
-      omega (arith, inner, flag_le v, flag_one t infer, ap size same);
-}
-
 -- the variable itself
 pub blocks_own : (c : Content) (x y u b : ℕ) (t : Tree) → ((w : World) → Solves c w → inst w t ≡ w.tree y) → y ≡ x → IsInfer t → Blocks c x u b t
 blocks_own c x y u b t worlds e i = record {
   none = λ w z names below. (let same : inst w t ≡ w.tree x = worlds w z ∙ ap w.tree e in omega (arith, flag_one t i, ap size same));
-}
-
--- a label that may not stand in the value
-pub blocks_label : (c : Content) (x u b : ℕ) (t : Tree) (l : Label) → t ≡ node l (children t) → variable_of l ≡ None → (CanName u (term_level l) → IsBoundBelow b l → ⊥) → Blocks c x u b t
-blocks_label c x u b t l is e h = record {
-  none = λ w z names below.
-      let at_names : NamesAll term_level u (inst w (node l (children t))) = subst (λ (y : Tree). NamesAll term_level u y) (ap (inst w) is) names in
-      let at_below : IsClosedUnder b (inst w (node l (children t))) = subst (λ (y : Tree). IsClosedUnder b y) (ap (inst w) is) below in
-      absurd (h (names-node w u l (children t) e at_names).0 (closed-node w b l (children t) e at_below).0);
-}
-
--- a child that is blocked after the older ones
-pub blocks_child : (c d : Content) (x u b i : ℕ) (t a row : Tree) (l : Label) → x < length c.slots → Knows c t → t ≡ node l (children t) → variable_of l ≡ None → i < row_length (children t) → a ≡ row_at (children t) i → Generalized c d x u (b + binders l) (row_take i (children t)) row → Blocks d x u (b + binders l) a → Blocks c x u b t
-blocks_child c d x u b i t a row l within k is e less ea g h = record {
-  none = λ w z names below.
-      let r = children t in
-      let at_names : NamesAll term_level u (inst w (node l r)) = subst (λ (y : Tree). NamesAll term_level u y) (ap (inst w) is) names in
-      let at_below : IsClosedUnder b (inst w (node l r)) = subst (λ (y : Tree). IsClosedUnder b y) (ap (inst w) is) below in
-      let row_names = (names-node w u l r e at_names).1 in
-      let row_below = (closed-node w b l r e at_below).1 in
-      let ext = g.complete w z (named_take w u r i less row_names) in
-      let v = ext.world in
-      let known : Knows c a = rw ea (Knows-row_at c r i (Knows-children c t k)) in
-      let same : inst v a ≡ inst w a = inst-agrees c w v a ext.agrees known in
-      let child_names : NamesAll term_level u (inst v a) = rw (same, ea) (named_at w u r i less row_names) in
-      let child_below : IsClosedUnder (b + binders l) (inst v a) = rw (same, ea) (closed_at w (b + binders l) r i less row_below) in
-      let inner : size (v.tree x) < size (inst v a) + variable_flag a = h.none v ext.solves child_names child_below in
-      let tree : v.tree x ≡ w.tree x = ext.agrees.trees x within in
-      let part = size_at w r i less in
-      let whole : inst w t ≡ node (renamed w l) (inst w r) = ap (inst w) is ∙ inst-node w l r e in
-      omega (arith, inner, ap size tree, ap size same, flag_le a, part, ap (λ y. size (inst w y)) ea, ap size whole);
 }
 
 -- a variable whose value is blocked is one with no such tree
@@ -274,6 +233,3 @@ refuse_heads ts e ps p a b l m ha hb ia ib two apart =
 -- what is refused later was refused before
 pub Refuses-before : {c d : Content} {ps qs : List (Tree × Tree)} → Reduces c d ps qs → Refuses d qs → Refuses c ps
 Refuses-before a h = record { none = λ w z q. (let r = a.complete w z q in h.none r.0.world r.0.solves r.1) }
-
-pub pair_unrelated : {c : Content} {a b : Tree} → Refuses c ((a, b) ∷ []) → AreUnrelated c a b
-pair_unrelated h = record { none = λ w z e. h.none w z (e, tt) }

@@ -1,5 +1,6 @@
 -- Two free regions made equal.
-use Rattle.std.proofs.Common.{◌≡◌, ⊎_elim, ℕ, ◌<◌, ◌≤◌, min, max, true, List, [], Some, refl, sym, ap, subst, ◌∙◌, arith}
+use Rattle.nts_model.proofs.Substituting.{no_children}
+use Rattle.std.proofs.Common.{◌≡◌, ⊎_elim, ℕ, ◌<◌, ◌≤◌, min, max, true, List, Some, refl, sym, ap, subst, ◌∙◌, arith}
 use Rattle.std.proofs.lemmas.Bool.{cases_lt}
 use Rattle.nts_model.specs.declared.labels.Sort.TheVariants as sort
 use Rattle.nts_model.specs.declared.labels.Relation.TheVariants as relation
@@ -7,7 +8,7 @@ use Rattle.nts_model.specs.declared.labels.VariableKind.TheVariants as kind
 use Rattle.nts_model.specs.declared.labels.Leaf.TheVariants as leaf
 use Rattle.nts_model.specs.declared.labels.Label.{Label}
 use Rattle.nts_model.specs.declared.labels.Label.TheVariants as label
-use Rattle.nts_model.specs.Trees.{Tree, empty, more, node, children, shape, Meets, HavePlaces, kind_of, kind_of_label, of_sort}
+use Rattle.nts_model.specs.Trees.{Tree, empty, node, children, shape, Meets, kind_of, kind_of_label, of_sort}
 use Rattle.nts_model.specs.Contents.{Content, kind_at, with_constraint}
 use Rattle.nts_model.specs.Resolving.{variable_tree, Knows, IsSound, deeply_resolved, root_of}
 use Rattle.nts_model.specs.Worlds.{World, inst, Solves}
@@ -33,11 +34,6 @@ use Rattle.nts_relating.specs.Relating.{IsRegionOf, RegionsRelate}
 use Rattle.nts_unify.proofs.Leading.{IsRoot-content, Reaches-leads}
 use Rattle.nts_unify.proofs.Keeping.{Keeps-refl, Keeps-with_constraint}
 use Rattle.nts_relating.proofs.HeadLemmas.{region_label, variable_node}
-
-no_children : (c : Tree) → HavePlaces [] c → c ≡ empty
-no_children empty h = refl
-no_children (more a b) h = absurd h
-no_children (node l c) h = absurd h
 
 -- a node that is no bound region
 region_at : (l : Label) (c : Tree) → Meets (shape l) c → is_free_region l ≡ true → IsRegion (node l c)

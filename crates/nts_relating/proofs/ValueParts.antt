@@ -13,7 +13,7 @@ use Rattle.nts_model.proofs.Refuting.{closed-node}
 use Rattle.nts_model.proofs.Held.{Continues-refl, Continues-trans}
 use Rattle.nts_model.proofs.Alike.{AreAlike-continues}
 use Rattle.nts_model.proofs.Resolved.{Knows-row_at, flag_le}
-use Rattle.nts_relating.specs.Parts.{IsValueOf, IsMadeAgain, Grows, IsPartOf, inner}
+use Rattle.nts_relating.specs.Parts.{IsValueOf, IsMadeAgain, WalkGrows, IsPartOf, inner}
 use Rattle.nts_relating.specs.Relating.{Generalized, Blocks}
 use Rattle.nts_unify.proofs.Keeping.{Knows-later, Keeps-refl, Keeps-trans}
 use Rattle.nts_relating.proofs.GenLemmas.{IsFair, unchanged, named_for}
@@ -21,12 +21,12 @@ use Rattle.nts_relating.proofs.PairLemmas.{Knows-children}
 use Rattle.nts_relating.proofs.RefusalLemmas.{closed_at, size_at, flag_one}
 
 -- growing
-pub Grows-refl : (c : Content) (x u : ℕ) (t : Tree) → IsSound c → Grows c c x u t
-Grows-refl c x u t s =
+pub WalkGrows-refl : (c : Content) (x u : ℕ) (t : Tree) → IsSound c → WalkGrows c c x u t
+WalkGrows-refl c x u t s =
     record { keeps = Keeps-refl c; continues = Continues-refl c s; own = refl; sound = λ w z. z; complete = λ w z q. unchanged c w z }
 
-pub Grows-trans : {c d e : Content} {x u : ℕ} {t : Tree} → IsSound c → Knows c t → Grows c d x u t → Grows d e x u t → Grows c e x u t
-Grows-trans {c} {d} {e} {x} {u} {t} s k g h =
+pub WalkGrows-trans : {c d e : Content} {x u : ℕ} {t : Tree} → IsSound c → Knows c t → WalkGrows c d x u t → WalkGrows d e x u t → WalkGrows c e x u t
+WalkGrows-trans {c} {d} {e} {x} {u} {t} s k g h =
     record {
       keeps = Keeps-trans g.keeps h.keeps;
       continues = Continues-trans c d e s g.continues h.continues;
@@ -80,7 +80,7 @@ part_value {c} {u} {n} {b} {whole} {t} {v} p h =
       smaller = λ w z. (let s = p.smaller w z in omega (arith, s, ap size (h.worlds w z), flag_le v, flag_one t h.infer));
     }
 
-pub part_later : {c d : Content} {x u n b : ℕ} {whole t : Tree} → Grows c d x u whole → IsPartOf c u n whole b t → IsPartOf d u n whole b t
+pub part_later : {c d : Content} {x u n b : ℕ} {whole t : Tree} → WalkGrows c d x u whole → IsPartOf c u n whole b t → IsPartOf d u n whole b t
 part_later {c} {d} {x} {u} {n} {b} {whole} {t} g p =
     record {
       knows = Knows-later t g.keeps.later p.knows;
@@ -89,7 +89,7 @@ part_later {c} {d} {x} {u} {n} {b} {whole} {t} g p =
       smaller = λ w z. p.smaller w (g.sound w z);
     }
 
-pub value_later : {c d : Content} {x u : ℕ} {whole t v : Tree} → Grows c d x u whole → Knows c t → IsValueOf c t v → IsValueOf d t v
+pub value_later : {c d : Content} {x u : ℕ} {whole t v : Tree} → WalkGrows c d x u whole → Knows c t → IsValueOf c t v → IsValueOf d t v
 value_later {c} {d} {x} {u} {whole} {t} {v} g k h =
     record {
       infer = h.infer;
@@ -109,7 +109,7 @@ blocks_whole p h =
     record { none = λ w z names below. (let inside = h.none w z (p.names term_level w z names) (p.closed w z below) in let s = p.smaller w z in omega (arith, inside, s)) }
 
 -- .. and what refuses it later refuses it before
-pub blocks_before : {c d : Content} {x u n : ℕ} {t : Tree} → Grows c d x u t → x < length c.slots → Knows c t → Blocks d x u n t → Blocks c x u n t
+pub blocks_before : {c d : Content} {x u n : ℕ} {t : Tree} → WalkGrows c d x u t → x < length c.slots → Knows c t → Blocks d x u n t → Blocks c x u n t
 blocks_before {c} {d} {x} {u} {n} {t} g within k h =
     record {
       none = λ w z names below.
@@ -120,7 +120,7 @@ blocks_before {c} {d} {x} {u} {n} {t} g within k h =
     }
 
 -- what stands for a part
-pub grows_by : {c d : Content} {x u n b : ℕ} {whole t r : Tree} → IsPartOf c u n whole b t → Generalized c d x u b t r → Grows c d x u whole
+pub grows_by : {c d : Content} {x u n b : ℕ} {whole t r : Tree} → IsPartOf c u n whole b t → Generalized c d x u b t r → WalkGrows c d x u whole
 grows_by p g =
     record {
       keeps = g.keeps;
@@ -149,7 +149,7 @@ stands_now {c} {d} {x} {u} {b} {t} {r} s g =
       complete = λ w z q. unchanged d w z;
     }
 
-pub stands_later : {c d : Content} {x u b : ℕ} {whole t r : Tree} → IsFair c → IsSound d → Knows c t → Grows c d x u whole → Generalized c c x u b t r → Generalized d d x u b t r
+pub stands_later : {c d : Content} {x u b : ℕ} {whole t r : Tree} → IsFair c → IsSound d → Knows c t → WalkGrows c d x u whole → Generalized c c x u b t r → Generalized d d x u b t r
 stands_later {c} {d} {x} {u} {b} {whole} {t} {r} fair s k h g =
     let old : resolved d r ≡ resolved c r = h.keeps.trees r g.knows in
     record {
@@ -169,7 +169,7 @@ stands_later {c} {d} {x} {u} {b} {whole} {t} {r} fair s k h g =
       complete = λ w z q. unchanged d w z;
     }
 
-pub stands_whole : {c d : Content} {x u b : ℕ} {t r : Tree} → Grows c d x u t → Generalized d d x u b t r → Generalized c d x u b t r
+pub stands_whole : {c d : Content} {x u b : ℕ} {t r : Tree} → WalkGrows c d x u t → Generalized d d x u b t r → Generalized c d x u b t r
 stands_whole h g =
     record {
       keeps = h.keeps;

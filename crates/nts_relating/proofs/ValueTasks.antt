@@ -17,7 +17,7 @@ use Rattle.nts_relating.specs.declared.value_walk.Task.TheVariants as task
 use Rattle.nts_relating.specs.contracts.value_walk.PartPartialEq.TheImpl as part_eq
 use Rattle.nts_unify.specs.Entries.{Entries}
 use Rattle.nts_unify.specs.Reading.{content_of}
-use Rattle.nts_relating.specs.Parts.{IsValueOf, IsMadeAgain, Grows, IsPart, part_of, IsTask, AreTasks, IsPending, Has, IsCovered, inner, IsReady, AreReady, weight, weights, IsChild, AreChildren, IsEntered}
+use Rattle.nts_relating.specs.Parts.{IsValueOf, IsMadeAgain, WalkGrows, IsPart, part_of, IsTask, AreTasks, IsPending, Has, IsCovered, inner, IsReady, AreReady, weight, weights, IsChild, AreChildren, IsEntered}
 use Rattle.nts_relating.specs.Knowing.{row_from}
 use Rattle.nts_relating.proofs.Looking.{row_from-step}
 use Rattle.nts_relating.proofs.HeadLemmas.{HeadKnown}
@@ -72,10 +72,6 @@ pub AreTasks-front : (ts : List Tree) (c : Content) (u : ℕ) (root : Part) (xs 
 AreTasks-front ts c u root [] x h = (tt, h.0)
 AreTasks-front ts c u root (y ∷ xs) x h = let r = AreTasks-front ts c u root xs x h.1 in ((h.0, r.0), r.1)
 
-pub AreTasks-push : (ts : List Tree) (c : Content) (u : ℕ) (root : Part) (xs : List Task) (x : Task) → AreTasks ts c u root xs → IsTask ts c u root x → AreTasks ts c u root (xs ++ x ∷ [])
-AreTasks-push ts c u root [] x h k = (k, tt)
-AreTasks-push ts c u root (y ∷ xs) x h k = (h.0, AreTasks-push ts c u root xs x h.1 k)
-
 pub AreTasks-append : (ts : List Tree) (c : Content) (u : ℕ) (root : Part) (xs ys : List Task) → AreTasks ts c u root xs → AreTasks ts c u root ys → AreTasks ts c u root (xs ++ ys)
 AreTasks-append ts c u root [] ys h k = k
 AreTasks-append ts c u root (x ∷ xs) ys h k = (h.0, AreTasks-append ts c u root xs ys h.1 k)
@@ -129,7 +125,7 @@ ready_last ts m x [] r = r.0
 ready_last ts m x (y ∷ xs) r = ready_last ts m x xs r.1
 
 -- a store and a table that grow
-later_part : {ts us : List Tree} {c d : Content} {x u : ℕ} {root p : Part} → Extends ts us → IsIn ts root.term → Grows c d x u (tree_at ts root.term) → IsPart ts c u root p → IsPart us d u root p
+later_part : {ts us : List Tree} {c d : Content} {x u : ℕ} {root p : Part} → Extends ts us → IsIn ts root.term → WalkGrows c d x u (tree_at ts root.term) → IsPart ts c u root p → IsPart us d u root p
 later_part {ts} {us} {c} {d} {x} {u} {root} {p} e i g h =
     record {
       within = IsIn-extended e p.term h.within;
@@ -137,7 +133,7 @@ later_part {ts} {us} {c} {d} {x} {u} {root} {p} e i g h =
       part = rw (e.kept p.term h.within, e.kept root.term i) (part_later g h.part);
     }
 
-later_task : {ts us : List Tree} {c d : Content} {x u : ℕ} (root : Part) → Extends ts us → IsIn ts root.term → Grows c d x u (tree_at ts root.term) → (y : Task) → IsTask ts c u root y → IsTask us d u root y
+later_task : {ts us : List Tree} {c d : Content} {x u : ℕ} (root : Part) → Extends ts us → IsIn ts root.term → WalkGrows c d x u (tree_at ts root.term) → (y : Task) → IsTask ts c u root y → IsTask us d u root y
 later_task root e i g (task.Enter p) h = later_part e i g h
 later_task root e i g (task.Build p) h = (later_part e i g h.0, rw (e.kept p.term h.0.within) h.1)
 later_task root e i g (task.Pass p v) h = (
@@ -146,7 +142,7 @@ later_task root e i g (task.Pass p v) h = (
   rw (e.kept p.term h.0.within, e.kept v h.1) (value_later g h.0.part.knows h.2),
 )
 
-pub later_tasks : {ts us : List Tree} {c d : Content} {x u : ℕ} (root : Part) → Extends ts us → IsIn ts root.term → Grows c d x u (tree_at ts root.term) → (xs : List Task) → AreTasks ts c u root xs → AreTasks us d u root xs
+pub later_tasks : {ts us : List Tree} {c d : Content} {x u : ℕ} (root : Part) → Extends ts us → IsIn ts root.term → WalkGrows c d x u (tree_at ts root.term) → (xs : List Task) → AreTasks ts c u root xs → AreTasks us d u root xs
 later_tasks root e i g [] h = tt
 later_tasks root e i g (y ∷ xs) h = (later_task root e i g y h.0, later_tasks root e i g xs h.1)
 
@@ -161,7 +157,7 @@ pub later_ready : {ts us : List Tree} (c : Content) (u : ℕ) (root : Part) → 
 later_ready c u root e m [] h k = tt
 later_ready c u root e m (y ∷ xs) h k = (later_one c u root e m xs y h.0 k.0, later_ready c u root e m xs h.1 k.1)
 
-later_weight : {ts us : List Tree} {c d : Content} {x u : ℕ} {whole : Tree} (root : Part) → Extends ts us → Grows c d x u whole → (y : Task) → IsTask ts c u root y → weight us d y ≡ weight ts c y
+later_weight : {ts us : List Tree} {c d : Content} {x u : ℕ} {whole : Tree} (root : Part) → Extends ts us → WalkGrows c d x u whole → (y : Task) → IsTask ts c u root y → weight us d y ≡ weight ts c y
 later_weight {ts} {us} {c} {d} root e g (task.Enter p) h =
     let tree = e.kept p.term h.within in
     let kept : resolved d (tree_at ts p.term) ≡ resolved c (tree_at ts p.term) = g.keeps.trees (tree_at ts p.term) h.part.knows in
@@ -169,7 +165,7 @@ later_weight {ts} {us} {c} {d} root e g (task.Enter p) h =
 later_weight root e g (task.Build p) h = refl
 later_weight root e g (task.Pass p v) h = refl
 
-pub later_weights : {ts us : List Tree} {c d : Content} {x u : ℕ} {whole : Tree} (root : Part) → Extends ts us → Grows c d x u whole → (xs : List Task) → AreTasks ts c u root xs → weights us d xs ≡ weights ts c xs
+pub later_weights : {ts us : List Tree} {c d : Content} {x u : ℕ} {whole : Tree} (root : Part) → Extends ts us → WalkGrows c d x u whole → (xs : List Task) → AreTasks ts c u root xs → weights us d xs ≡ weights ts c xs
 later_weights root e g [] h = refl
 later_weights root e g (y ∷ xs) h = omega (arith, later_weight root e g y h.0, later_weights root e g xs h.1)
 

@@ -19,12 +19,12 @@ use Rattle.nts_unify.specs.Entries.{Entries}
 use Rattle.nts_unify.specs.Reading.{content_of, IsLawful}
 use Rattle.nts_unify.specs.Lawful.{IsLawful-extended, content_of-extended}
 use Rattle.nts_relating.specs.Relating.{Generalized, Blocks}
-use Rattle.nts_relating.specs.Parts.{IsValueOf, IsMadeAgain, Grows, IsPart, part_of, IsTask, AreTasks, Has, IsCovered, AreReady, inner, IsMadeFor, IsWalk, weight, weights, IsTurn, IsEntered}
+use Rattle.nts_relating.specs.Parts.{IsValueOf, IsMadeAgain, WalkGrows, IsPart, part_of, IsTask, AreTasks, Has, IsCovered, AreReady, inner, IsMadeFor, IsWalk, weight, weights, IsTurn, IsEntered}
 use Rattle.nts_unify.proofs.Changes.{length-slots}
 use Rattle.nts_unify.proofs.Keeping.{Knows-later, no_region-later}
 use Rattle.nts_relating.proofs.Naming.{lawful_sides}
 use Rattle.nts_relating.proofs.GenLemmas.{IsFair, slots_later, binders_le, gen_known, gen_node}
-use Rattle.nts_relating.proofs.ValueParts.{Grows-refl, Grows-trans, part_whole, part_value, blocks_before, grows_by, stands_now, stands_later, stands_whole}
+use Rattle.nts_relating.proofs.ValueParts.{WalkGrows-refl, WalkGrows-trans, part_whole, part_value, blocks_before, grows_by, stands_now, stands_later, stands_whole}
 use Rattle.nts_relating.proofs.ValueTasks.{IsMore, AreTasks-front, AreTasks-append, weights-append, covers_done, covers_put, ready_front, ready_last, later_tasks, later_ready, later_weights, children_tasks, children_ready}
 
 pub task_part : (ts : List Tree) (c : Content) (u : ℕ) (root : Part) (y : Task) → IsTask ts c u root y → IsPart ts c u root (part_of y)
@@ -44,7 +44,7 @@ weight_some ts c (task.Pass p v) = omega arith
 some_node : (r s : NodeId) → Some r ≡ Some s → r ≡ s
 some_node r s e = cc
 
-later_made : {ts us : List Tree} {c d : Content} {x u : ℕ} {whole : Tree} {p : Part} {r : NodeId} → Extends ts us → IsFair c → IsSound d → Grows c d x u whole → IsMadeFor ts c x u p r → IsMadeFor us d x u p r
+later_made : {ts us : List Tree} {c d : Content} {x u : ℕ} {whole : Tree} {p : Part} {r : NodeId} → Extends ts us → IsFair c → IsSound d → WalkGrows c d x u whole → IsMadeFor ts c x u p r → IsMadeFor us d x u p r
 later_made {ts} {us} {c} {d} {x} {u} {whole} {p} {r} e fair s g h =
     let at = e.kept p.term h.within in
     record {
@@ -62,7 +62,7 @@ turn_done ts us e f x u root p xs y m n r w is ext law made_in g more =
     let d = content_of us f in
     let front = AreTasks-front ts c u root xs y w.tasks in
     let part : IsPart ts c u root p = subst (IsPart ts c u root) is (task_part ts c u root y front.1) in
-    let grows : Grows c d x u (tree_at ts root.term) = grows_by part.part g in
+    let grows : WalkGrows c d x u (tree_at ts root.term) = grows_by part.part g in
     let within : x < length c.slots = omega (arith, w.known, length-slots ts e.variables) in
     let at = ext.kept p.term part.within in
     let ready : AreReady ts n xs = subst (AreReady ts n) (append-nil xs) (ready_front ts m n y [] (λ zs. rw (append-nil zs) (covers_done y is more zs)) tt xs w.ready) in
@@ -114,7 +114,7 @@ turn_put ts e x u root p xs zs y m w is tasks ready less =
         made = w.made;
         whole = covers_put m (task.Enter p) y zs is xs root w.whole;
       };
-      grows = Grows-refl c x u (tree_at ts root.term) w.lawful.sound;
+      grows = WalkGrows-refl c x u (tree_at ts root.term) w.lawful.sound;
       less = omega (arith, weights-append ts c xs (y ∷ zs), weights-append ts c xs (task.Enter p ∷ []), less);
     }
 
@@ -220,18 +220,18 @@ walk_start ts e x u root ys m law known no_region within knows room none is =
     })
 
 -- the whole loop
-pub walk_end : (ts us : List Tree) (e f : Entries) (x u : ℕ) (root : Part) (xs : List Task) (m : Part → Option NodeId) (r : NodeId) → Extends ts us → IsIn ts root.term → Grows (content_of ts e) (content_of us f) x u (tree_at ts root.term) → IsWalk us f x u root xs m → m root ≡ Some r
+pub walk_end : (ts us : List Tree) (e f : Entries) (x u : ℕ) (root : Part) (xs : List Task) (m : Part → Option NodeId) (r : NodeId) → Extends ts us → IsIn ts root.term → WalkGrows (content_of ts e) (content_of us f) x u (tree_at ts root.term) → IsWalk us f x u root xs m → m root ≡ Some r
     → Generalized (content_of ts e) (content_of us f) x u root.binders (tree_at ts root.term) (tree_at us r)
 walk_end ts us e f x u root xs m r ext within g w found =
     let old = w.made root r found in
     stands_whole g (rw (ext.kept root.term within) at old.stands)
 
-pub walk_grows : (ts us vs : List Tree) (e f g : Entries) (x u : ℕ) (root : Part) → IsSound (content_of ts e) → Knows (content_of ts e) (tree_at ts root.term) → Extends ts us → IsIn ts root.term → Grows (content_of ts e) (content_of us f) x u (tree_at ts root.term) → Grows (content_of us f) (content_of vs g) x u (tree_at us root.term)
-    → Grows (content_of ts e) (content_of vs g) x u (tree_at ts root.term)
+pub walk_grows : (ts us vs : List Tree) (e f g : Entries) (x u : ℕ) (root : Part) → IsSound (content_of ts e) → Knows (content_of ts e) (tree_at ts root.term) → Extends ts us → IsIn ts root.term → WalkGrows (content_of ts e) (content_of us f) x u (tree_at ts root.term) → WalkGrows (content_of us f) (content_of vs g) x u (tree_at us root.term)
+    → WalkGrows (content_of ts e) (content_of vs g) x u (tree_at ts root.term)
 walk_grows ts us vs e f g x u root s knows ext within a b =
-    Grows-trans s knows a (rw (ext.kept root.term within) at b)
+    WalkGrows-trans s knows a (rw (ext.kept root.term within) at b)
 
-pub walk_blocks : (ts us : List Tree) (e f : Entries) (x u : ℕ) (root : Part) → x < length e.variables → Knows (content_of ts e) (tree_at ts root.term) → Extends ts us → IsIn ts root.term → Grows (content_of ts e) (content_of us f) x u (tree_at ts root.term) → Blocks (content_of us f) x u root.binders (tree_at us root.term)
+pub walk_blocks : (ts us : List Tree) (e f : Entries) (x u : ℕ) (root : Part) → x < length e.variables → Knows (content_of ts e) (tree_at ts root.term) → Extends ts us → IsIn ts root.term → WalkGrows (content_of ts e) (content_of us f) x u (tree_at ts root.term) → Blocks (content_of us f) x u root.binders (tree_at us root.term)
     → Blocks (content_of ts e) x u root.binders (tree_at ts root.term)
 walk_blocks ts us e f x u root known knows ext within g h =
     blocks_before g (omega (arith, known, length-slots ts e.variables)) knows (rw (ext.kept root.term within) at h)

@@ -52,7 +52,7 @@ IsLook ts us e f x u b t (look.Value v) = (us ≡ ts) × (f ≡ e) × IsIn ts v 
 IsLook ts us e f x u b t look.Node = (us ≡ ts) × (f ≡ e) × IsMadeAgain u b (tree_at ts t)
 
 -- the table has grown by what the value of the variable x for the tree t needs
-pub record Grows (c d : Content) (x u : ℕ) (t : Tree) : Type 0 where
+pub record WalkGrows (c d : Content) (x u : ℕ) (t : Tree) : Type 0 where
   pub keeps : Keeps c d
   pub continues : Continues c d
   pub own : universe_of d x ≡ universe_of c x
@@ -158,7 +158,7 @@ weights ts c (x ∷ xs) = weight ts c x + weights ts c xs
 -- a task was done, or what it stands on is left in its place
 pub record IsTurn (ts us : List Tree) (e f : Entries) (x u : ℕ) (root : Part) (xs ys : List Task) (m : Part → Option NodeId) : Type 0 where
   pub walk : IsWalk us f x u root ys m
-  pub grows : Grows (content_of ts e) (content_of us f) x u (tree_at ts root.term)
+  pub grows : WalkGrows (content_of ts e) (content_of us f) x u (tree_at ts root.term)
   pub less : weights us (content_of us f) ys < weights ts (content_of ts e) xs
 
 -- a part that is to be entered is a child of a node

@@ -89,7 +89,7 @@ pub record IsOpen (ts : List Tree) (e : Entries) (t : Tree) (n : ℕ) : Type 0 w
   pub same : resolved (content_of ts e) t ≡ resolved (content_of ts e) (variable_tree bindable.of_kind n)
   pub worlds : (w : World) → Solves (content_of ts e) w → inst w t ≡ w.tree n
 
-pub record IsClosed (c : Content) (t v : Tree) : Type 0 where
+pub record IsClosedHead (c : Content) (t v : Tree) : Type 0 where
   pub knows : Knows c v
   pub no_variable : IsInfer v → ⊥
   pub same : resolved c t ≡ resolved c v
@@ -97,7 +97,7 @@ pub record IsClosed (c : Content) (t v : Tree) : Type 0 where
 
 abbrev pub IsHead : List Tree → Entries → Tree → Head → Type 0
 IsHead ts e t (Open n) = IsOpen ts e t n
-IsHead ts e t (Closed v) = IsIn ts v × IsClosed (content_of ts e) t (tree_at ts v)
+IsHead ts e t (Closed v) = IsIn ts v × IsClosedHead (content_of ts e) t (tree_at ts v)
 
 -- a free region of the store and the table
 pub record IsRegionOf (ts : List Tree) (e : Entries) (t : NodeId) : Type 0 where
@@ -184,14 +184,14 @@ pub record CanTake (e : Entries) (x y : ℕ) : Type 0 where
   pub takes : TakesVariable first.of_kind second.of_kind
 
 -- what is left after a pair
-pub record IsStep (c d : Content) (ps qs : List (Tree × Tree)) (bound : Bool) : Type 0 where
+pub record IsPairStep (c d : Content) (ps qs : List (Tree × Tree)) (bound : Bool) : Type 0 where
   pub later : IsLater c d
   pub reduces : Reduces c d ps qs
   pub fewer : bound ≡ true → unset_count d.slots < unset_count c.slots
   pub smaller : bound ≡ false → (total d qs < total c ps) × (unset_count d.slots ≡ unset_count c.slots)
 
 -- pairs related until a variable got a value
-pub record IsRun (c d : Content) (ps qs : List (Tree × Tree)) (bound : Bool) : Type 0 where
+pub record IsPairRun (c d : Content) (ps qs : List (Tree × Tree)) (bound : Bool) : Type 0 where
   pub later : IsLater c d
   pub reduces : Reduces c d ps qs
   pub fewer : bound ≡ true → unset_count d.slots < unset_count c.slots

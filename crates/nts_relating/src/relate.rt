@@ -8,7 +8,7 @@ ghost use Rattle.nts_unify.specs.Entries.{Entries};
 ghost use Rattle.nts_unify.specs.Reading.{content_of, IsLawful, LinksDescend};
 ghost use Rattle.nts_unify.specs.Changing.{region_variable, is_free_region, IsLater};
 ghost use Rattle.nts_unify.specs.Joining.{IsBindable};
-ghost use Rattle.nts_relating.specs.Relating.{IsHead, IsClosed, IsRegionOf, RegionsRelate, IsSet, Forbids, KeepsApart, AreMadeOne, VariablesRelate, CanTake, IsValid, IsStep, IsRun, IsMemo, Pushed, pairs_at};
+ghost use Rattle.nts_relating.specs.Relating.{IsHead, IsClosedHead, IsRegionOf, RegionsRelate, IsSet, Forbids, KeepsApart, AreMadeOne, VariablesRelate, CanTake, IsValid, IsPairStep, IsPairRun, IsMemo, Pushed, pairs_at};
 ghost use Rattle.nts_store.specs.declared.fault.EvalError.TheVariants.{NoSolution};
 ghost use Rattle.nts_unify.specs.Entries.{KeepsHidden};
 
@@ -173,7 +173,7 @@ fn bind(
     t: NodeId,
 ) -> Result<(), EvalError>
     requires within { IsIn nodes.old t }
-    requires closed { IsClosed (content_of nodes.old table.old.entries) (tree_at nodes.old t) (tree_at nodes.old t) }
+    requires closed { IsClosedHead (content_of nodes.old table.old.entries) (tree_at nodes.old t) (tree_at nodes.old t) }
     requires lawful { IsLawful nodes.old table.old.entries }
     requires open { IsBindable table.old.entries x }
     ensures extends { Extends nodes.old nodes.new }
@@ -245,12 +245,12 @@ fn relate_heads(
     requires memo { IsMemo nodes.now table.old.entries (pairs.old.items ++ pair ∷ []) met.old.keys }
     requires left_in { IsIn nodes.now a }
     requires right_in { IsIn nodes.now b }
-    requires left { IsClosed (content_of nodes.now table.old.entries) (tree_at nodes.now pair.left) (tree_at nodes.now a) }
-    requires right { IsClosed (content_of nodes.now table.old.entries) (tree_at nodes.now pair.right) (tree_at nodes.now b) }
+    requires left { IsClosedHead (content_of nodes.now table.old.entries) (tree_at nodes.now pair.left) (tree_at nodes.now a) }
+    requires right { IsClosedHead (content_of nodes.now table.old.entries) (tree_at nodes.now pair.right) (tree_at nodes.now b) }
     ensures changes { KeepsHidden table.old table.new }
     ensures valid { OnOk result (IsValid nodes.now table.new.entries pairs.new.items) }
     ensures memo { OnOk result (IsMemo nodes.now table.new.entries pairs.new.items met.new.keys) }
-    ensures step { OnOk result (IsStep (content_of nodes.now table.old.entries) (content_of nodes.now table.new.entries) (pairs_at nodes.now (pairs.old.items ++ pair ∷ [])) (pairs_at nodes.now pairs.new.items) false) }
+    ensures step { OnOk result (IsPairStep (content_of nodes.now table.old.entries) (content_of nodes.now table.new.entries) (pairs_at nodes.now (pairs.old.items ++ pair ∷ [])) (pairs_at nodes.now pairs.new.items) false) }
     ensures no { result ≡ Err NoSolution → Refuses (content_of nodes.now table.old.entries) (pairs_at nodes.now (pairs.old.items ++ pair ∷ [])) }
     ensures full { result ≢ Err EvalError.Full }
 {
@@ -295,7 +295,7 @@ fn step(
     ensures changes { KeepsHidden table.old table.new }
     ensures valid { OnOk result (IsValid nodes.new table.new.entries pairs.new.items) }
     ensures memo { OnOk result (IsMemo nodes.new table.new.entries pairs.new.items met.new.keys) }
-    ensures step { IfOk result (λ bound. IsStep (content_of nodes.old table.old.entries) (content_of nodes.new table.new.entries) (pairs_at nodes.old (pairs.old.items ++ pair ∷ [])) (pairs_at nodes.new pairs.new.items) bound) }
+    ensures step { IfOk result (λ bound. IsPairStep (content_of nodes.old table.old.entries) (content_of nodes.new table.new.entries) (pairs_at nodes.old (pairs.old.items ++ pair ∷ [])) (pairs_at nodes.new pairs.new.items) bound) }
     ensures no { result ≡ Err NoSolution → Refuses (content_of nodes.old table.old.entries) (pairs_at nodes.old (pairs.old.items ++ pair ∷ [])) }
     ensures full { result ≢ Err EvalError.Full }
 {
@@ -336,7 +336,7 @@ fn run(
     ensures changes { KeepsHidden table.old table.new }
     ensures valid { OnOk result (IsValid nodes.new table.new.entries pairs.new.items) }
     ensures memo { OnOk result (IsMemo nodes.new table.new.entries pairs.new.items met.new.keys) }
-    ensures run { IfOk result (λ bound. IsRun (content_of nodes.old table.old.entries) (content_of nodes.new table.new.entries) (pairs_at nodes.old pairs.old.items) (pairs_at nodes.new pairs.new.items) bound) }
+    ensures run { IfOk result (λ bound. IsPairRun (content_of nodes.old table.old.entries) (content_of nodes.new table.new.entries) (pairs_at nodes.old pairs.old.items) (pairs_at nodes.new pairs.new.items) bound) }
     ensures no { result ≡ Err NoSolution → Refuses (content_of nodes.old table.old.entries) (pairs_at nodes.old pairs.old.items) }
     ensures full { result ≢ Err EvalError.Full }
 {

@@ -1,4 +1,5 @@
 -- Hidden types that are compared.
+use Rattle.nts_unify.proofs.Changes.{some_inj}
 use Rattle.std.proofs.Common.{◌≡◌, ⊎_elim, ℕ, ◌+◌, List, [], ◌∷◌, Some, sym, ap, ◌∙◌, arith}
 use Rattle.std.specs.Prelude.{slice_get}
 use Rattle.nts_model.specs.Trees.{Tree}
@@ -24,13 +25,10 @@ known_later ts us e x h a k = rw (content_of-extended a h, a.kept x.args.node k.
 pub compared : (ts us vs : List Tree) (e : Entries) (x : HiddenType) (r : NodeId) → IsLawful ts e → Extends ts us → IsHiddenType ts (content_of ts e) x → tree_at vs r ≡ deeply_resolved (content_of us e) (tree_at us x.args.node) → tree_at vs r ≡ deeply_resolved (content_of ts e) (tree_at ts x.args.node)
 compared ts us vs e x r h a k q = q ∙ (λ i. deeply_resolved (content_of-extended a h i) (a.kept x.args.node k.args.within i))
 
-some_hidden : (x y : HiddenType) → Some x ≡ Some y → x ≡ y
-some_hidden x y e = cc
-
 -- one more that is hidden behind another alias
 pub none_more : (ts : List Tree) (c : Content) (n : ℕ) (xs : List HiddenType) (h old : HiddenType) → NoneBefore ts c n xs h → slice_get xs n ≡ Some old → (HasAliasOf ts c old h → ⊥) → NoneBefore ts c (n + 1) xs h
 none_more ts c n xs h old before at other i x less q has = ⊎_elim
-    (λ (e : i ≡ n). let same : old ≡ x = some_hidden old x (sym at ∙ ap (slice_get xs) (sym e) ∙ q) in other (rw same has))
+    (λ (e : i ≡ n). let same : old ≡ x = some_inj old x (sym at ∙ ap (slice_get xs) (sym e) ∙ q) in other (rw same has))
     (λ (d : i ≡ n → ⊥). before i x (omega (arith, less, d)) q has)
     (same_or_other i n)
 

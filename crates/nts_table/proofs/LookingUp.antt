@@ -1,4 +1,5 @@
 -- Variables that are looked up: their values, and those of values that are variables.
+use Rattle.nts_unify.proofs.Changes.{some_inj}
 use Rattle.std.proofs.Common.{◌≡◌, ◌≢◌, ℕ, ◌<◌, List, Option, Some, None, refl, sym, ap, subst, ◌∙◌, arith}
 use Rattle.nts_model.specs.declared.labels.VariableKind.{VariableKind}
 use Rattle.nts_model.specs.declared.labels.VariableKind.TheVariants as kind
@@ -20,7 +21,6 @@ use Rattle.nts_unify.specs.Roots.{HasClass}
 use Rattle.nts_table.specs.Classes.{value_or_root, shallow_variable, looked_up, shallowly_resolved}
 use Rattle.nts_unify.proofs.Leading.{state_of-class, Reaches-leads, IsRoot-content}
 use Rattle.nts_relating.proofs.HeadLemmas.{kind_of-variable}
-use Rattle.nts_relating.proofs.Ranks.{some_kind}
 use Rattle.nts_table.proofs.Walking.{no_region_sort}
 
 looked_up-none : (c : Content) (l : Label) (x : Tree) → variable_of l ≡ None → looked_up c (node l x) ≡ node l x
@@ -50,7 +50,7 @@ stays c (node l x) k r s z = by_variable (variable_of l) refl
     by_variable (Some v) e =
         let rank : rank_of_kind v.0 ≡ 0 = sym (ap rank_of e) ∙ z in
         let own : kind_of_label l ≡ of_sort (sort_of_variable v.0) = kind_of-variable l v.0 v.1 e in
-        absurd (no_region_sort k r (some_kind _ _ (sym s ∙ ap Some (own ∙ ap (λ j. of_sort (sort_of_variable j)) (region v.0 rank)))))
+        absurd (no_region_sort k r (some_inj _ _ (sym s ∙ ap Some (own ∙ ap (λ j. of_sort (sort_of_variable j)) (region v.0 rank)))))
 
 -- looking up again finds nothing new, but for a type variable
 pub looked_up-twice : (c : Content) (v : Tree) → IsSound c → Knows c v → variable_rank v < 2 → looked_up c (looked_up c v) ≡ looked_up c v
@@ -89,11 +89,6 @@ pub record Looked (c : Content) (t v : Tree) : Type 0 where
   pub lower : variable_rank v < variable_rank t
   pub sort : kind_of v ≡ kind_of t
   pub image : shallowly_resolved c v ≡ shallowly_resolved c t
-
-pub not_variable : (c : Content) (t : Tree) (l : Label) → t ≡ node l (children t) → variable_of l ≡ None → t ≡ shallowly_resolved c t
-not_variable c t l is e =
-    let first : looked_up c t ≡ t = ap (looked_up c) is ∙ looked_up-none c l (children t) e ∙ sym is in
-    sym (ap (looked_up c) first ∙ first)
 
 module _ (ts : List Tree) (t : Table) (u : Tree) (l : Label) (k : VariableKind) (n r : ℕ) (s : State) (table : IsTable ts t) (knows : Knows (content_of ts t.entries) u) (is : u ≡ node l (children u)) (names : l ≡ label.Leaf (leaf.Variable k n)) (class : HasClass t.entries n r s) where
   abbrev c : Content

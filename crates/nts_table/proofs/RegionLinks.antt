@@ -21,7 +21,7 @@ use Rattle.nts_table.specs.Tables.{IsTable}
 use Rattle.nts_unify.specs.Roots.{IsRoot}
 use Rattle.nts_unify.specs.Equating.{RegionsLinked, RegionsJoined, region_of}
 use Rattle.nts_unify.specs.Changing.{region_of_variable}
-use Rattle.nts_unify.specs.Setting.{proper_lowered, LeadsDown, IsLawful-marked, IsLawful-region_link}
+use Rattle.nts_unify.proofs.Changes.{proper_lowered, LeadsDown, IsLawful-marked, IsLawful-region_link}
 use Rattle.nts_table.specs.TableLaws.{IsTable-now}
 use Rattle.nts_unify.proofs.Leading.{state_of-entry, kind_at-entry, Reaches-leads}
 
@@ -86,14 +86,14 @@ module _ (ts : List Tree) (e f : Entries) (x y r s : ℕ) (h : IsLawful ts e) (o
       let low_open = either (min r s) low (min_is r s) k.low_at in
       let high_open = either (max r s) high (max_is r s) k.high_at in
       let low_down : LeadsDown (min r s) lowered = record {
-        state = λ m q. h.descends.links (min r s) m low k.low_at q;
+        link = λ m q. h.descends.links (min r s) m low k.low_at q;
         sub_link = λ m q. h.descends.sub_links (min r s) m low k.low_at q;
       } in
       let lawful : IsLawful ts e1 = IsLawful-marked ts e (min r s) low lowered h k.low_at refl refl low_down (proper_lowered ts e (min r s) low lowered h k.low_at refl refl (omega arith) low_open.free) in
       let high_at : slice_get e1.variables (max r s) ≡ Some high = slice_get-slice_set_other e.variables (min r s) (max r s) lowered other ∙ k.high_at in
       let low_at : slice_get e1.variables (min r s) ≡ Some lowered = slice_get-slice_set_same e.variables (min r s) lowered (slice_get_below e.variables (min r s) low k.low_at) in
       let high_down : LeadsDown (max r s) linked = record {
-        state = λ m q. (let is : min r s ≡ m = cc in omega (arith, is, below));
+        link = λ m q. (let is : min r s ≡ m = cc in omega (arith, is, below));
         sub_link = λ m q. h.descends.sub_links (max r s) m high k.high_at q;
       } in
       rw k.entries (IsLawful-region_link ts e1 (max r s) (min r s) high lowered linked lawful high_at low_at high_open.region low_open.region high_open.free low_open.free refl refl refl (omega arith) high_down)

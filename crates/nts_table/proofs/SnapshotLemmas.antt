@@ -23,9 +23,18 @@ pub IsTable-started : {T E : Type 0} (ts : List Tree) (i j : Inner) (m : TypingM
 IsTable-started ts i j m (Ok v) e s k h = IsTable-opened h e s
 IsTable-started ts i j m (Err x) e s k h = rw k h
 
+-- the last one was closed
+pub IsTable-committed : (ts : List Tree) (t u : Table) (c : Entries) → u.entries ≡ t.entries → t.saved ≡ u.saved ++ c ∷ [] → IsTable ts t → IsTable ts u
+IsTable-committed ts t u c same saved h =
+    let k = AllLawful-ends ts u.saved c (rw saved at h.saved) in record { now = rw same h.now; saved = k.0 }
+
+-- .. and restored
+pub IsTable-rolled_back : (ts : List Tree) (t u : Table) → t.saved ≡ u.saved ++ u.entries ∷ [] → IsTable ts t → IsTable ts u
+IsTable-rolled_back ts t u saved h =
+    let k = AllLawful-ends ts u.saved u.entries (rw saved at h.saved) in record { now = k.1; saved = k.0 }
+
 -- an attempt has ended
 pub IsTable-ended : {T E : Type 0} (ts : List Tree) (t u : Table) (r : Result T E) → OnOk r (u.entries ≡ t.entries) → OnErr r (t.saved ≡ u.saved ++ u.entries ∷ []) → u.saved ≡ front t.saved → IsTable ts t → IsTable ts u
 IsTable-ended ts t u (Ok v) same back front_is h =
     record { now = rw same h.now; saved = rw front_is (AllLawful-take ts (length t.saved - 1) t.saved h.saved) }
-IsTable-ended ts t u (Err e) same back front_is h =
-    let k = AllLawful-ends ts u.saved u.entries (rw back at h.saved) in record { now = k.1; saved = k.0 }
+IsTable-ended ts t u (Err e) same back front_is h = IsTable-rolled_back ts t u back h

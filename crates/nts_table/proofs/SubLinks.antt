@@ -6,7 +6,7 @@ use Rattle.nts_table.specs.Tables.{Table}
 use Rattle.nts_unify.specs.Reading.{IsLawful}
 use Rattle.nts_table.specs.Tables.{IsTable}
 use Rattle.nts_unify.specs.Roots.{SubRootsJoin, SubLinked}
-use Rattle.nts_unify.specs.Setting.{proper_sub_linked, LeadsDown, IsLawful-marked}
+use Rattle.nts_unify.proofs.Changes.{proper_sub_linked, LeadsDown, IsLawful-marked}
 use Rattle.nts_table.specs.TableLaws.{IsTable-now}
 
 IsLawful-sub_linked : (ts : List Tree) (e f : Entries) (r s : ℕ) → IsLawful ts e → SubLinked e f r s → IsLawful ts f
@@ -14,7 +14,7 @@ IsLawful-sub_linked ts e f r s h k =
     let v = k.variable in
     let w = record v { sub_link = Some (min r s) } in
     let down : LeadsDown (max r s) w = record {
-      state = λ m q. h.descends.links (max r s) m v k.at q;
+      link = λ m q. h.descends.links (max r s) m v k.at q;
       sub_link = λ m q. (let is : min r s ≡ m = cc in let apart : r ≡ s → ⊥ = k.apart in omega (arith, is, apart));
     } in
     rw k.entries (IsLawful-marked ts e (max r s) v w h k.at refl refl down (proper_sub_linked ts e (max r s) v w h k.at refl refl refl))

@@ -23,10 +23,10 @@ use Rattle.nts_table.specs.contracts.deduplicated.SaidPartialEq.TheImpl as said_
 use Rattle.nts_unify.specs.Entries.{Entries}
 use Rattle.nts_unify.specs.Reading.{recorded_of, content_of, IsConstraint, AreConstraints, IsLawful}
 use Rattle.nts_unify.specs.Lawful.{content_of-extended, IsLawful-extended, AreConstraints-push}
-use Rattle.nts_table.specs.Deduplicated.{resolved_constraint, resolved_constraints, IsSame, IsAmong, SaysNothingNew, AreNews, none, passed, told, said, SidesIn, AllSidesIn, Tells}
+use Rattle.nts_table.specs.Deduplicated.{resolved_constraint, resolved_constraints, SaysSame, IsAmong, SaysNothingNew, AreNews, none, passed, told, said, SidesIn, AllSidesIn, Tells}
 
-IsSame-trans : {x y z : Recorded} → IsSame x y → IsSame y z → IsSame x z
-IsSame-trans h k =
+SaysSame-trans : {x y z : Recorded} → SaysSame x y → SaysSame y z → SaysSame x z
+SaysSame-trans h k =
     record { relation = h.relation ∙ k.relation; left = h.left ∙ k.left; right = h.right ∙ k.right }
 
 among-front : (xs ys : List Recorded) (z : Recorded) → IsAmong xs z → IsAmong (xs ++ ys) z
@@ -34,22 +34,22 @@ among-front [] ys z h = absurd h
 among-front (x ∷ xs) ys z (inl e) = inl e
 among-front (x ∷ xs) ys z (inr h) = inr (among-front xs ys z h)
 
-among-last : (xs : List Recorded) (x z : Recorded) → IsSame x z → IsAmong (xs ++ x ∷ []) z
+among-last : (xs : List Recorded) (x z : Recorded) → SaysSame x z → IsAmong (xs ++ x ∷ []) z
 among-last [] x z e = inl e
 among-last (y ∷ xs) x z e = inr (among-last xs x z e)
 
-among-split : (xs : List Recorded) (x z : Recorded) → IsAmong (xs ++ x ∷ []) z → IsAmong xs z ⊎ IsSame x z
+among-split : (xs : List Recorded) (x z : Recorded) → IsAmong (xs ++ x ∷ []) z → IsAmong xs z ⊎ SaysSame x z
 among-split [] x z (inl e) = inr e
 among-split [] x z (inr h) = absurd h
 among-split (y ∷ xs) x z (inl e) = inl (inl e)
 among-split (y ∷ xs) x z (inr h) = ⊎_elim (λ k. inl (inr k)) (λ e. inr e) (among-split xs x z h)
 
-among-same : (xs : List Recorded) (y z : Recorded) → IsSame y z → IsAmong xs y → IsAmong xs z
+among-same : (xs : List Recorded) (y z : Recorded) → SaysSame y z → IsAmong xs y → IsAmong xs z
 among-same [] y z e h = h
-among-same (x ∷ xs) y z e (inl k) = inl (IsSame-trans k e)
+among-same (x ∷ xs) y z e (inl k) = inl (SaysSame-trans k e)
 among-same (x ∷ xs) y z e (inr h) = inr (among-same xs y z e h)
 
-nothing-same : (xs : List Recorded) (y z : Recorded) → IsSame y z → SaysNothingNew xs y → SaysNothingNew xs z
+nothing-same : (xs : List Recorded) (y z : Recorded) → SaysSame y z → SaysNothingNew xs y → SaysNothingNew xs z
 nothing-same xs y z e (inl q) = inl (sym e.left ∙ q ∙ e.right)
 nothing-same xs y z e (inr h) = inr (among-same xs y z e h)
 

@@ -25,9 +25,8 @@ use Rattle.nts_table.specs.Tables.{IsTable}
 use Rattle.nts_unify.specs.Roots.{HasClass}
 use Rattle.nts_table.specs.Resolution.{resolved_to, Resolution, resolution, resolution_of, CanResolve, IsResolved}
 use Rattle.nts_unify.proofs.Leading.{state_of-class, Reaches-leads}
-use Rattle.nts_unify.proofs.Changes.{AreHeld-at}
+use Rattle.nts_unify.proofs.Changes.{AreHeld-at, some_inj}
 use Rattle.nts_relating.proofs.HeadLemmas.{variable_node}
-use Rattle.nts_relating.proofs.Ranks.{some_kind}
 
 -- a tree without variables to be replaced
 pub resolved_to-left : (regions : Bool) (c : Content) (t : Tree) → IsResolved regions t → resolved_to regions c t ≡ t
@@ -156,7 +155,7 @@ module _ (ts : List Tree) (t : Table) (k : VariableKind) (n r : ℕ) (s : State)
         record {
           has = knows.0;
           is = v;
-          no_region = λ e. no_region_sort k no_region (some_kind _ _ (sym sort ∙ ap (λ i. Some (of_sort (sort_of_variable i))) e));
+          no_region = λ e. no_region_sort k no_region (some_inj _ _ (sym sort ∙ ap (λ i. Some (of_sort (sort_of_variable i))) e));
           lower = subst (λ (y : Tree). variable_rank y < rank_of_kind k) v (sound.ranks r (tree_at ts x) k known_at root_kind);
         }
 

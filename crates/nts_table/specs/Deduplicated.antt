@@ -18,14 +18,14 @@ abbrev pub resolved_constraints : Content → List Recorded
 resolved_constraints c = map (resolved_constraint c) c.constraints
 
 -- both relate the same sides in the same order
-pub record IsSame (x y : Recorded) : Type 0 where
+pub record SaysSame (x y : Recorded) : Type 0 where
   pub relation : x.relation ≡ y.relation
   pub left : x.left ≡ y.left
   pub right : x.right ≡ y.right
 
 abbrev pub IsAmong : List Recorded → Recorded → Type 0
 IsAmong [] y = ⊥
-IsAmong (x ∷ xs) y = IsSame x y ⊎ IsAmong xs y
+IsAmong (x ∷ xs) y = SaysSame x y ⊎ IsAmong xs y
 
 -- after these it says nothing new: its sides are one, or one of them is the same
 abbrev pub SaysNothingNew : List Recorded → Recorded → Type 0

@@ -116,6 +116,7 @@ impl InferCtxt {
         ensures entries { self.new.entries ≡ self.old.entries }
         ensures saved { (c : Entries) × (self.old.saved ≡ self.new.saved ++ c ∷ []) }
         ensures mode { self.new.mode ≡ self.old.mode }
+        ensures table { (ts : List Tree) → IsTable ts self.old → IsTable ts self.new }
     {
         self.inner.commit(snapshot)
     }
@@ -125,6 +126,7 @@ impl InferCtxt {
         requires { length self.old.saved ≡ snapshot.depth + 1 }
         ensures saved { self.old.saved ≡ self.new.saved ++ self.new.entries ∷ [] }
         ensures mode { self.new.mode ≡ self.old.mode }
+        ensures table { (ts : List Tree) → IsTable ts self.old → IsTable ts self.new }
     {
         self.inner.rollback_to(snapshot)
     }

@@ -2,7 +2,7 @@
 ghost use Rattle.std.specs.Prelude.{◌≡◌, IfOk};
 ghost use Rattle.std.specs.Fn.{FnOnceReturnsAtMut};
 ghost use Rattle.nts_table.specs.Tables.{Table};
-ghost use Rattle.nts_table.specs.Probing.{Answers};
+ghost use Rattle.nts_table.specs.Probing.{ProbeAnswers};
 
 use crate::infer_ctxt::InferCtxt;
 use std::alloc::AllocError;
@@ -13,7 +13,7 @@ impl InferCtxt {
         requires callable { F.IsAlwaysCallable f }
         requires ends { (t u : Table) (r : R) → FnOnceReturnsAtMut F.FnOnce f t r u → u.saved ≡ t.saved }
         requires mode { (t u : Table) (r : R) → FnOnceReturnsAtMut F.FnOnce f t r u → u.mode ≡ t.mode }
-        ensures answered { IfOk result (λ r. Answers (λ t u. FnOnceReturnsAtMut F.FnOnce f t r u) self.old.entries) }
+        ensures answered { IfOk result (λ r. ProbeAnswers (λ t u. FnOnceReturnsAtMut F.FnOnce f t r u) self.old.entries) }
         ensures same { self.new ≡ self.old }
     {
         let snapshot = self.start_snapshot()?;

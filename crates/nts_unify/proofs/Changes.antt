@@ -1,17 +1,25 @@
 -- Entries before and after a change, and what keeps them lawful.
-use Rattle.std.proofs.Common.{◌≡◌, ⊎_elim, ℕ, zero, suc, ◌<◌, List, [], ◌∷◌, ◌++◌, length, map, Some, refl, sym, ap, ◌∙◌, arith}
+use Rattle.std.proofs.Common.{◌≡◌, ⊎_elim, ℕ, zero, suc, ◌<◌, ◌≤◌, List, [], ◌∷◌, ◌++◌, length, map, Some, refl, sym, ap, ◌∙◌, arith}
 use Rattle.std.specs.Prelude.{slice_get, slice_set}
 use Rattle.nts_model.specs.Trees.{Tree}
-use Rattle.nts_model.specs.Contents.{changed, bound_to}
+use Rattle.nts_model.specs.declared.labels.VariableKind.TheVariants as kind
+use Rattle.nts_model.specs.Contents.{map_slot, changed, bound_to, universe_of}
+use Rattle.nts_model.specs.Levels.{CanName}
+use Rattle.nts_model.proofs.Solving.{Lowers}
+use Rattle.nts_model.proofs.Sound.{IsSound-changed}
+use Rattle.nts_model.proofs.Binding.{IsLinkable, IsSound-region_link}
 use Rattle.nts_model.specs.Resolving.{IsSound}
 use Rattle.nts_model.proofs.Slots.{KeepsKinds, KeepsKinds-changed, slice_get-slice_set_same, slice_get-slice_set_other, slice_get_below}
 use Rattle.nts_model.proofs.Under.{same_or_other}
-use Rattle.nts_unify.specs.declared.contents.State.TheVariants.{Link}
+use Rattle.nts_unify.specs.declared.contents.State.TheVariants.{Unset, Link}
 use Rattle.nts_unify.specs.declared.contents.Variable.{Variable}
 use Rattle.nts_unify.specs.Entries.{Entries, with_variable, bound}
-use Rattle.nts_unify.specs.Proper.{IsProper}
-use Rattle.nts_unify.specs.Reading.{slot_of, recorded_of, content_of, IsHeldState, AreHeld, LinksDescend, IsLawful}
+use Rattle.nts_unify.specs.Proper.{IsProper, IsProper-lowered, IsProper-sub_linked, IsProper-region_link}
+use Rattle.nts_unify.specs.Reading.{state_with, slot_of, recorded_of, content_of, IsHeldState, AreHeld, LinksDescend, IsLawful}
 use Rattle.nts_unify.specs.Lawful.{AreHiddenTypes-kept, AreConstraints-kept}
+
+pub some_inj : {A : Type 0} (a b : A) → Some a ≡ Some b → a ≡ b
+some_inj a b e = cc
 
 map-slice_set : {A B : Type 0} (f : A → B) (xs : List A) (n : ℕ) (x : A) → map f (slice_set xs n x) ≡ slice_set (map f xs) n (f x)
 map-slice_set f [] n x = refl
@@ -103,3 +111,41 @@ IsLawful-bound ts e n v w h at k held l s p =
       sound = rw is s;
       proper = rw is p;
     }
+
+-- another universe or sub-unification link
+pub IsLawful-marked : (ts : List Tree) (e : Entries) (n : ℕ) (v w : Variable) → IsLawful ts e → slice_get e.variables n ≡ Some v → w.kind ≡ v.kind → w.state ≡ v.state → LeadsDown n w → IsProper (changed (content_of ts e) n (slot_of ts w)) → IsLawful ts (with_variable e n w)
+IsLawful-marked ts e n v w h at kind state down proper =
+    let held : IsHeldState ts w.state = rw state (AreHeld-at ts e.variables n v h.held at) in
+    IsLawful-set ts e n v w h at kind held down (IsSound-changed (content_of ts e) n (slot_of ts v) (slot_of ts w) h.sound (slot_at ts e n v at) kind (ap (state_with ts) state)) proper
+
+-- a region variable without a value becomes one with another one
+pub IsLawful-region_link : (ts : List Tree) (e : Entries) (n m : ℕ) (v u w : Variable) → IsLawful ts e → slice_get e.variables n ≡ Some v → slice_get e.variables m ≡ Some u → v.kind ≡ kind.Region → u.kind ≡ kind.Region → v.state ≡ Unset → u.state ≡ Unset → w.kind ≡ v.kind → w.state ≡ Link m → w.universe ≡ v.universe → u.universe ≤ v.universe → LeadsDown n w → IsLawful ts (with_variable e n w)
+IsLawful-region_link ts e n m v u w h at there region one free unset_too kind state universe low down =
+    let here = slot_at ts e n v at in
+    let root = slot_at ts e m u there in
+    let held : IsHeldState ts w.state = rw state tt in
+    let linkable : IsLinkable (content_of ts e) n (slot_of ts w) m = record {
+      binds = record { old = slot_of ts v; was = here; free = ap (state_with ts) free; same_kind = kind };
+      is = ap (state_with ts) state;
+      below = down.link m state;
+      free = ap (map_slot (λ x. x.state)) root ∙ ap (λ s. Some (state_with ts s)) unset_too;
+      one_kind = ap (map_slot (λ x. x.kind)) root ∙ ap Some (one ∙ sym (kind ∙ region));
+    } in
+    let root_universe : universe_of (content_of ts e) m ≡ Some u.universe = ap (map_slot (λ x. x.universe)) root in
+    let names : CanName w.universe (universe_of (content_of ts e) m) = rw (root_universe, universe) low in
+    IsLawful-set ts e n v w h at kind held down (IsSound-region_link (content_of ts e) n (slot_of ts w) m h.sound linkable (kind ∙ region))
+    (IsProper-region_link (content_of ts e) n (slot_of ts w) m linkable universe names h.sound h.proper)
+
+-- a variable comes down, or gets another sub-unification link
+pub marks : (ts : List Tree) (e : Entries) (n : ℕ) (v w : Variable) → slice_get e.variables n ≡ Some v → w.kind ≡ v.kind → w.state ≡ v.state → w.universe ≤ v.universe → Lowers (content_of ts e) n (slot_of ts w)
+marks ts e n v w at k s l =
+    record { old = slot_of ts v; was = slot_at ts e n v at; same_kind = k; same_state = ap (state_with ts) s; lower = l }
+
+pub proper_lowered : (ts : List Tree) (e : Entries) (n : ℕ) (v w : Variable) → IsLawful ts e → slice_get e.variables n ≡ Some v → w.kind ≡ v.kind → w.state ≡ v.state → w.universe ≤ v.universe → w.state ≡ Unset → IsProper (changed (content_of ts e) n (slot_of ts w))
+proper_lowered ts e n v w h at k s l free =
+    IsProper-lowered (content_of ts e) n (slot_of ts w) (marks ts e n v w at k s l) (ap (state_with ts) free) h.sound h.proper
+
+pub proper_sub_linked : (ts : List Tree) (e : Entries) (n : ℕ) (v w : Variable) → IsLawful ts e → slice_get e.variables n ≡ Some v → w.kind ≡ v.kind → w.state ≡ v.state → w.universe ≡ v.universe → IsProper (changed (content_of ts e) n (slot_of ts w))
+unfolding marks
+proper_sub_linked ts e n v w h at k s u =
+    IsProper-sub_linked (content_of ts e) n (slot_of ts w) (marks ts e n v w at k s (omega (arith, u))) u h.sound h.proper

@@ -1,4 +1,5 @@
 -- Two variables without values made one.
+use Rattle.nts_unify.proofs.Changes.{some_inj}
 use Rattle.std.proofs.Common.{◌≡◌, ◌≢◌, ⊎_elim, ℕ, ◌+◌, ◌<◌, ◌≤◌, min, max, List, Some, refl, sym, ap, ◌∙◌, arith}
 use Rattle.std.specs.Prelude.{slice_get, slice_set}
 use Rattle.std.proofs.lemmas.Bool.{cases_lt}
@@ -24,10 +25,9 @@ use Rattle.nts_model.proofs.Solving.{Lowers}
 use Rattle.nts_model.specs.Levels.{CanName}
 use Rattle.nts_store.specs.Growth.{tree_at}
 use Rattle.nts_unify.specs.Proper.{IsProper, IsProper-link, IsProper-region_link}
-use Rattle.nts_unify.specs.Setting.{proper_lowered, proper_sub_linked}
 use Rattle.nts_unify.proofs.Leading.{universe_of-entry}
 use Rattle.nts_unify.proofs.Merging.{Marked, Marked-refl, marked, ComesDown, comes_down, LeadsTo, leads_to, leads_to_region, one_class}
-use Rattle.nts_unify.proofs.Changes.{slot_at, content_of-with_variable, content_of-bound, AreHeld-at, LeadsDown, leads_down, IsLawful-set, IsLawful-bound}
+use Rattle.nts_unify.proofs.Changes.{proper_lowered, proper_sub_linked, slot_at, content_of-with_variable, content_of-bound, AreHeld-at, LeadsDown, leads_down, IsLawful-set, IsLawful-bound}
 use Rattle.nts_unify.proofs.Keeping.{IsLater-trans, Keeps-trans, Keeps-same, unset-set, unset_of-infer}
 
 -- a change of universes and sub-unification alone
@@ -139,9 +139,6 @@ unset_entry ts e n v at s = by_state v.state refl
     by_state Unset q = q
     by_state (Link m) q = let z : Some (link m) ≡ Some unset = ap (λ y. Some (state_with ts y)) (sym q) ∙ read in cc
     by_state (Known t) q = let z : Some (known (tree_at ts t)) ≡ Some unset = ap (λ y. Some (state_with ts y)) (sym q) ∙ read in cc
-
-some_inj : {A : Type 0} (a b : A) → Some a ≡ Some b → a ≡ b
-some_inj a b e = cc
 
 -- the higher variable leads to the lower one
 linkable : (ts : List Tree) (e : Entries) (low high : ℕ) (k : VariableKind) (v : Variable) → slice_get e.variables high ≡ Some v → FreeSlot (content_of ts e) low k → FreeSlot (content_of ts e) high k → low < high → IsLinkable (content_of ts e) high (slot_of ts (record v { state = Link low })) low

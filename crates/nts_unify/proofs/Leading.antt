@@ -1,5 +1,5 @@
 -- Where links lead, by the content that entries stand for.
-use Rattle.std.proofs.Common.{◌≡◌, ℕ, zero, suc, ◌<◌, List, [], ◌∷◌, length, map, Some, refl, ap, ◌∙◌, arith}
+use Rattle.std.proofs.Common.{◌≡◌, ℕ, zero, suc, ◌<◌, List, [], ◌∷◌, length, Some, refl, ap, ◌∙◌, arith}
 use Rattle.std.specs.Prelude.{slice_get}
 use Rattle.nts_model.specs.declared.labels.VariableKind.{VariableKind}
 use Rattle.nts_model.specs.Trees.{Tree}
@@ -12,32 +12,21 @@ use Rattle.nts_unify.specs.declared.contents.State.{State}
 use Rattle.nts_unify.specs.declared.contents.State.TheVariants.{Unset, Link, Known}
 use Rattle.nts_unify.specs.declared.contents.Variable.{Variable}
 use Rattle.nts_unify.specs.Entries.{Entries}
-use Rattle.nts_unify.specs.Reading.{state_with, slot_of, content_of}
+use Rattle.nts_unify.specs.Reading.{state_with, content_of}
+use Rattle.nts_unify.proofs.Changes.{slot_at, length-slots}
 use Rattle.nts_unify.specs.Roots.{Leads, here, on, IsRootState, IsRoot, HasClass}
 
-slot_at : (ts : List Tree) (vs : List Variable) (n : ℕ) (v : Variable) → slice_get vs n ≡ Some v → slice_get (map (slot_of ts) vs) n ≡ Some (slot_of ts v)
-slot_at ts [] n v e = cc
-slot_at ts (w ∷ vs) zero v e = let same : w ≡ v = cc in rw same refl
-slot_at ts (w ∷ vs) (suc n) v e = slot_at ts vs n v e
-
-pub slot_of-entry : (ts : List Tree) (e : Entries) (n : ℕ) (v : Variable) → slice_get e.variables n ≡ Some v → slice_get (content_of ts e).slots n ≡ Some (slot_of ts v)
-slot_of-entry ts e n v h = slot_at ts e.variables n v h
-
 pub state_of-entry : (ts : List Tree) (e : Entries) (n : ℕ) (v : Variable) → slice_get e.variables n ≡ Some v → state_of (content_of ts e) n ≡ Some (state_with ts v.state)
-state_of-entry ts e n v h = ap (map_slot (λ x. x.state)) (slot_at ts e.variables n v h)
+state_of-entry ts e n v h = ap (map_slot (λ x. x.state)) (slot_at ts e n v h)
 
 pub state_of-class : (ts : List Tree) (e : Entries) (n r : ℕ) (s : State) → HasClass e n r s → state_of (content_of ts e) r ≡ Some (state_with ts s)
 state_of-class ts e n r s h = state_of-entry ts e r h.variable h.at ∙ ap (λ x. Some (state_with ts x)) h.state
 
 pub kind_at-entry : (ts : List Tree) (e : Entries) (n : ℕ) (v : Variable) → slice_get e.variables n ≡ Some v → kind_at (content_of ts e) n ≡ Some v.kind
-kind_at-entry ts e n v h = ap (map_slot (λ x. x.kind)) (slot_at ts e.variables n v h)
+kind_at-entry ts e n v h = ap (map_slot (λ x. x.kind)) (slot_at ts e n v h)
 
 pub universe_of-entry : (ts : List Tree) (e : Entries) (n : ℕ) (v : Variable) → slice_get e.variables n ≡ Some v → universe_of (content_of ts e) n ≡ Some v.universe
-universe_of-entry ts e n v h = ap (map_slot (λ x. x.universe)) (slot_at ts e.variables n v h)
-
-length-slots : (ts : List Tree) (vs : List Variable) → length (map (slot_of ts) vs) ≡ length vs
-length-slots ts [] = refl
-length-slots ts (v ∷ vs) = ap suc (length-slots ts vs)
+universe_of-entry ts e n v h = ap (map_slot (λ x. x.universe)) (slot_at ts e n v h)
 
 -- a variable that has a kind is one of the table
 pub kind_within : (ts : List Tree) (e : Entries) (n : ℕ) (k : VariableKind) → kind_at (content_of ts e) n ≡ Some k → n < length e.variables

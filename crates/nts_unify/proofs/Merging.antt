@@ -1,4 +1,5 @@
 -- Two variables of a content made one: its worlds, universes and what it holds.
+use Rattle.nts_unify.proofs.Changes.{some_inj}
 use Rattle.std.proofs.Common.{◌≡◌, ◌≢◌, ◌⊎◌, inl, inr, ⊎_elim, ℕ, ◌<◌, ◌≤◌, min, Some, refl, sym, ap, ◌∙◌, arith}
 use Rattle.std.proofs.lemmas.Bool.{cases_lt}
 use Rattle.nts_model.specs.declared.labels.VariableKind.TheVariants as kind
@@ -88,9 +89,6 @@ leads_to_region c n v m b u region s =
 
 lower_of : (u a b : ℕ) → u ≡ min a b → (u ≡ a) ⊎ (u ≡ b)
 lower_of u a b e = ⊎_elim (λ (h : a < b). inl (omega (arith, e))) (λ (h : b ≤ a). inr (omega (arith, e))) (cases_lt a b)
-
-some_inj : (a b : ℕ) → Some a ≡ Some b → a ≡ b
-some_inj a b e = cc
 
 -- all three steps of joining
 pub one_class : (b c d e : Content) (low high u x y : ℕ) → IsSound b → IsSound c → IsSound d → Marked b c → ComesDown c d low u → LeadsTo d e high low → (high ≡ low → ⊥) → universe_of b low ≡ Some x → universe_of b high ≡ Some y → u ≡ min x y → IsOneClass b e low high

@@ -97,11 +97,6 @@ push_inj (a ∷ xs) (b ∷ ys) x y e =
     let i = push_inj xs ys x y t in
     (let h : a ≡ b = cc in cc (h, i.0), i.1)
 
--- a rollback right after what left the saved entries
-pub back_to : (old new : Inner) (saved : List Entries) → saved ≡ old.saved ++ old.entries ∷ [] → saved ≡ new.saved ++ new.entries ∷ [] → new ≡ old
-back_to old new saved p q =
-    let i = push_inj new.saved old.saved new.entries old.entries (sym q ∙ p) in λ j. record { entries = i.1 j; saved = i.0 j }
-
 -- what holds of an attempt's entries where it succeeds, and held before it, holds of what its end leaves
 pub after_attempt : {T E : Type 0} (before middle after : Inner) (P : Entries → Type 0) (r : Result T E) → middle.saved ≡ before.saved ++ before.entries ∷ [] → OnOk r (after.entries ≡ middle.entries) → OnErr r (middle.saved ≡ after.saved ++ after.entries ∷ []) → OnOk r (P middle.entries) → P before.entries → P after.entries
 after_attempt before middle after P (Ok v) s same back h k = rw same h

@@ -8,5 +8,4 @@ pub mod Reading
 pub mod Recording
 pub mod Roots
 pub mod Saved
-pub mod Setting
 pub mod Unchanged

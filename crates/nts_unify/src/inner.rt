@@ -99,7 +99,6 @@ impl InferCtxtInner {
         ensures number { IfOk result (λ v. v ≡ length self.old.entries.variables) }
         ensures entries { OnOk result (self.new.entries ≡ added self.old.entries variable) }
         ensures saved { self.new.saved ≡ self.old.saved }
-        ensures hidden { self.new.entries.hidden ≡ self.old.entries.hidden }
         ensures err { OnErr result (self.new ≡ self.old) }
     {
         self.log.push(UndoLog::Added)?;
@@ -116,7 +115,6 @@ impl InferCtxtInner {
         requires { n < length self.old.entries.variables }
         ensures entries { OnOk result (self.new.entries ≡ with_variable self.old.entries n variable) }
         ensures saved { self.new.saved ≡ self.old.saved }
-        ensures hidden { self.new.entries.hidden ≡ self.old.entries.hidden }
         ensures err { OnErr result (self.new ≡ self.old) }
     {
         let old = self.contents.variable(n);
@@ -129,7 +127,6 @@ impl InferCtxtInner {
         requires { n < length self.old.entries.variables }
         ensures entries { OnOk result (self.new.entries ≡ bound self.old.entries n variable) }
         ensures saved { self.new.saved ≡ self.old.saved }
-        ensures hidden { self.new.entries.hidden ≡ self.old.entries.hidden }
         ensures err { OnErr result (self.new ≡ self.old) }
     {
         let old = self.contents.variable(n);
@@ -157,7 +154,6 @@ impl InferCtxtInner {
     pub fn constrain(&mut self, constraint: Constraint) -> Result<(), AllocError>
         ensures entries { OnOk result (self.new.entries ≡ constrained self.old.entries constraint) }
         ensures saved { self.new.saved ≡ self.old.saved }
-        ensures hidden { self.new.entries.hidden ≡ self.old.entries.hidden }
         ensures err { OnErr result (self.new ≡ self.old) }
     {
         self.log.push(UndoLog::Constrained)?;

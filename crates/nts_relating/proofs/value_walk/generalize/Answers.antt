@@ -3,7 +3,7 @@ use Rattle.nts_store.proofs.Growing.{Extends-refl, Extends-trans}
 use Rattle.nts_relating.specs.declared.value_walk.Task.TheVariants as task
 use Rattle.nts_relating.specs.Parts.{made_at}
 use Rattle.nts_relating.proofs.PairLemmas.{err_of}
-use Rattle.nts_relating.proofs.ValueParts.{Grows-refl}
+use Rattle.nts_relating.proofs.ValueParts.{WalkGrows-refl}
 use Rattle.nts_relating.proofs.ValueTurns.{walk_start, walk_end, walk_grows, walk_blocks}
 use Rattle.nts_relating.proofs.value_walk.generalize.Goals as goal
 
@@ -16,7 +16,7 @@ loop-task-init c =
       hidden = refl;
       root = refl;
       walk = walk_start c.args.nodes.now c.args.table.now.entries c.args.target.variable c.args.target.universe (record { term = c.args.t; binders = c.args.target.binders }) c.push.new.self.items _ c.requires.lawful c.requires.known c.requires.no_region c.requires.within c.requires.knows c.requires.room (λ p. rw c.new-2.ensures.empty refl) items;
-      grows = Grows-refl _ _ _ _ c.requires.lawful.sound;
+      grows = WalkGrows-refl _ _ _ _ c.requires.lawful.sound;
     }
 
 pub loop-task-preserved : goal.loop-task-preserved

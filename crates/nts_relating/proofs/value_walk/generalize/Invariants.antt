@@ -1,7 +1,7 @@
 use Rattle.std.proofs.Common.{◌≡◌}
 use Rattle.nts_store.specs.Growth.{tree_at, Extends}
 use Rattle.nts_unify.specs.Reading.{content_of}
-use Rattle.nts_relating.specs.Parts.{IsWalk, Grows, made_at, weights}
+use Rattle.nts_relating.specs.Parts.{IsWalk, WalkGrows, made_at, weights}
 use Rattle.nts_relating.proofs.value_walk.generalize.Given as goal
 
 abbrev pub invariant-loop-task : goal.invariant-loop-task
@@ -11,7 +11,7 @@ invariant-loop-task l = record {
   hidden : l.table.entries.hidden ≡ l.initial.table.entries.hidden;
   root : l.walk.root ≡ record { term = l.fn.t; binders = l.target.binders };
   walk : IsWalk l.nodes l.table.entries l.target.variable l.target.universe (record { term = l.fn.t; binders = l.target.binders }) l.walk.tasks.items (made_at l.walk.made);
-  grows : Grows (content_of l.initial.nodes l.initial.table.entries) (content_of l.nodes l.table.entries) l.target.variable l.target.universe (tree_at l.initial.nodes l.fn.t);
+  grows : WalkGrows (content_of l.initial.nodes l.initial.table.entries) (content_of l.nodes l.table.entries) l.target.variable l.target.universe (tree_at l.initial.nodes l.fn.t);
 }
 
 abbrev pub decreases-loop-task : goal.decreases-loop-task
