@@ -5,7 +5,7 @@ use nts_table::{InferCtxt, is_unbound, relate_nodes, resolve_nodes};
 use nts_terms::{
     AliasKind, AliasTerm, Cx, RegionKind, Span, TraitRef, TyKind, TypingMode, VisibleForLeakCheck,
 };
-use nts_unify::{Constraint, State};
+use nts_unify::State;
 
 #[test]
 fn related(rt: HostRuntime) {
@@ -110,25 +110,22 @@ fn each_constraint_once(rt: HostRuntime) {
 
 #[test]
 fn snapshots(rt: HostRuntime) {
-    let mut cx = Cx::new(rt.alloc());
     let mut table = InferCtxt::new(rt.alloc(), TypingMode::PostAnalysis);
     assert!(rt; matches!(table.typing_mode(), TypingMode::PostAnalysis));
-    let a = table.next_region_infer(&mut cx).expect(&rt, "memory");
-    let fixed = cx.mk_region(RegionKind::ReStatic).expect(&rt, "memory");
     let outer = table.start_snapshot().expect(&rt, "memory");
     table.create_next_universe().expect(&rt, "memory");
     let inner = table.start_snapshot().expect(&rt, "memory");
-    let constraint = Constraint {
-        relation: Relation::Equal,
-        left: a.node,
-        right: fixed.node,
-        is_visible: true,
-    };
-    table.constrain(constraint).expect(&rt, "memory");
-    assert!(rt; table.constraint(0) == constraint);
+    table.create_next_universe().expect(&rt, "memory");
     table.commit(inner);
-    assert_eq!(rt; table.universe(), 1);
+    assert_eq!(rt; table.universe(), 2);
+    let tried = table.start_snapshot().expect(&rt, "memory");
+    table.create_next_universe().expect(&rt, "memory");
+    assert!(rt; table.commit_if_ok(tried, Err::<(), usize>(7)) == Err(7));
+    assert_eq!(rt; table.universe(), 2);
+    let tried = table.start_snapshot().expect(&rt, "memory");
+    table.create_next_universe().expect(&rt, "memory");
+    assert!(rt; table.commit_if_ok(tried, Ok::<usize, ()>(7)) == Ok(7));
+    assert_eq!(rt; table.universe(), 3);
     table.rollback_to(outer);
     assert_eq!(rt; table.universe(), 0);
-    assert_eq!(rt; table.constraint_count(), 0);
 }
