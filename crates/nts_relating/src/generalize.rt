@@ -13,6 +13,7 @@ ghost use Rattle.nts_unify.specs.Entries.{KeepsHidden};
 use indexmap::IndexSet;
 use nts_model::{BoundVarIndexKind, Constant, FreeRegion, Label, Leaf, Relation, VariableKind};
 use nts_store::{EvalError, NodeId, Nodes, TypeFlags};
+use nts_terms::UniverseIndex;
 use nts_unify::{Constraint, InferCtxtInner, add_variable, join, join_regions, region_number};
 
 /// What a value is made for: a variable, the universe that bounds its leaves, and how many binders
@@ -20,7 +21,7 @@ use nts_unify::{Constraint, InferCtxtInner, add_variable, join, join_regions, re
 #[derive(Clone, Copy)]
 pub struct Target {
     pub variable: usize,
-    pub universe: u32,
+    pub universe: UniverseIndex,
     pub binders: usize,
 }
 
@@ -137,7 +138,7 @@ pub fn name_region(
 }
 
 /// Whether a label is a placeholder region that the universe cannot name.
-fn is_beyond(label: Label, universe: u32) -> bool
+fn is_beyond(label: Label, universe: UniverseIndex) -> bool
     ensures { result ≡ false → CanName universe (region_level label) }
 {
     match label {

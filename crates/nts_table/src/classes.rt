@@ -9,10 +9,11 @@ ghost use Rattle.nts_table.specs.Frames.{ChangesVariables};
 
 use crate::infer_ctxt::InferCtxt;
 use nts_store::Fault;
+use nts_terms::UniverseIndex;
 
 impl InferCtxt {
     /// The universe of the root of a type variable, or nothing where the variable has a value.
-    pub fn universe_of_ty(&self, vid: usize) -> Option<u32>
+    pub fn universe_of_ty(&self, vid: usize) -> Option<UniverseIndex>
         requires within { vid < length self.now.entries.variables }
         requires descends { LinksDescend self.now.entries }
         ensures { HasOpenUniverse self.now.entries vid result }
@@ -24,7 +25,7 @@ impl InferCtxt {
     }
 
     /// The universe of the root of a const variable, or nothing where the variable has a value.
-    pub fn universe_of_ct(&self, ct: usize) -> Option<u32>
+    pub fn universe_of_ct(&self, ct: usize) -> Option<UniverseIndex>
         requires within { ct < length self.now.entries.variables }
         requires descends { LinksDescend self.now.entries }
         ensures { HasOpenUniverse self.now.entries ct result }
@@ -33,7 +34,7 @@ impl InferCtxt {
     }
 
     /// The universe of the root of a region variable, which has no value.
-    pub fn universe_of_lt(&self, vid: usize) -> Option<u32>
+    pub fn universe_of_lt(&self, vid: usize) -> Option<UniverseIndex>
         requires within { vid < length self.now.entries.variables }
         requires descends { LinksDescend self.now.entries }
         ensures { HasUniverse self.now.entries vid result }

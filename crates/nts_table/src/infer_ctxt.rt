@@ -8,7 +8,7 @@ ghost use Rattle.nts_unify.specs.Reading.{LinksDescend};
 ghost use Rattle.nts_unify.specs.Roots.{IsRoot, HasClass};
 
 use nts_store::NodeId;
-use nts_terms::TypingMode;
+use nts_terms::{TypingMode, UniverseIndex};
 use nts_unify::{Constraint, HiddenType, InferCtxtInner, Snapshot, State, Variable};
 use std::alloc::{AllocError, Global};
 use std::marker::Model;
@@ -92,7 +92,7 @@ impl InferCtxt {
     }
 
     /// The current universe.
-    pub fn universe(&self) -> u32
+    pub fn universe(&self) -> UniverseIndex
         ensures { result ≡ self.now.entries.universe }
     {
         self.inner.universe()

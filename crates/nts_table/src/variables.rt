@@ -15,7 +15,7 @@ ghost use Rattle.nts_table.specs.Frames.{ChangesEntries};
 use crate::infer_ctxt::InferCtxt;
 use nts_model::VariableKind;
 use nts_store::{Fault, NodeId};
-use nts_terms::{Const, Cx, GenericArg, Region, Ty};
+use nts_terms::{Const, Cx, GenericArg, Region, Ty, UniverseIndex};
 use nts_unify::add_variable;
 
 impl InferCtxt {
@@ -105,7 +105,7 @@ impl InferCtxt {
         &mut self,
         cx: &mut Cx,
         kind: VariableKind,
-        universe: u32,
+        universe: UniverseIndex,
         sub_root_of: Option<usize>,
     ) -> Result<GenericArg, Fault>
         requires table { IsTable cx.old.nodes self.old }
@@ -132,7 +132,7 @@ impl InferCtxt {
         &mut self,
         cx: &mut Cx,
         kind: VariableKind,
-        universe: u32,
+        universe: UniverseIndex,
         sub_link: Option<usize>,
     ) -> Result<NodeId, Fault>
         requires table { IsTable cx.old.nodes self.old }
@@ -151,7 +151,7 @@ impl InferCtxt {
     }
 
     /// One more universe, which becomes the current one. `Full` comes where there is none.
-    pub fn create_next_universe(&mut self) -> Result<u32, Fault>
+    pub fn create_next_universe(&mut self) -> Result<UniverseIndex, Fault>
         ensures number { IfOk result (λ u. u ≡ self.old.entries.universe + 1) }
         ensures entries { OnOk result (self.new.entries ≡ moved self.old.entries (self.old.entries.universe + 1)) }
         ensures table { (ts : List Tree) → IsTable ts self.old → IsTable ts self.new }

@@ -1,8 +1,8 @@
 -- `==` on typing modes is equality of what they are in the model.
-use Rattle.std.proofs.Common.{rules, ◌≡◌, ◌↔◌, ◌&&◌, Bool, true, false, ℕ, List, [], ◌∷◌, ap, refl}
+use Rattle.std.proofs.Common.{rules, ◌≡◌, ◌↔◌, ℕ, List, [], ◌∷◌, ap, refl}
 use Rattle.std.specs.Prelude.{IsTrue}
 use lib.Pointwise.{pointwise}
-use Rattle.nts_model.specs.Rules.{Mode, coherence, analysis, borrowck, post_borrowck, post_analysis, erased}
+use Rattle.nts_model.specs.Rules.{Mode, analysis, borrowck, post_borrowck}
 use Rattle.nts_terms.specs.declared.handles.AliasId.{AliasId}
 use Rattle.nts_terms.specs.contracts.handles.AliasIdPartialEq.TheImpl as id_eq
 use Rattle.nts_terms.specs.declared.modes.TypingMode.{TypingMode}

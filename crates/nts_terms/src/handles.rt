@@ -1,6 +1,7 @@
 //! Handles of the terms of a store, and plain data over them.
 ghost use Rattle.std.specs.Prelude.{◌≡◌};
 
+use crate::modes::UniverseIndex;
 use nts_store::NodeId;
 
 /// A type.
@@ -153,21 +154,21 @@ pub struct BoundConst {
 /// A type that stands for itself in a universe.
 #[derive(Clone, Copy)]
 pub struct PlaceholderType {
-    pub universe: u32,
+    pub universe: UniverseIndex,
     pub bound: BoundTy,
 }
 
 /// A region that stands for itself in a universe.
 #[derive(Clone, Copy)]
 pub struct PlaceholderRegion {
-    pub universe: u32,
+    pub universe: UniverseIndex,
     pub bound: BoundRegion,
 }
 
 /// A const that stands for itself in a universe.
 #[derive(Clone, Copy)]
 pub struct PlaceholderConst {
-    pub universe: u32,
+    pub universe: UniverseIndex,
     pub bound: BoundConst,
 }
 

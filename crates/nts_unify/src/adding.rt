@@ -9,6 +9,7 @@ use crate::contents::{State, Variable};
 use crate::inner::InferCtxtInner;
 use nts_model::{Label, Leaf, VariableKind};
 use nts_store::{NodeId, Nodes};
+use nts_terms::UniverseIndex;
 use std::alloc::AllocError;
 
 /// Adds a variable of which nothing is known, and answers the leaf that names it. The leaf is made
@@ -17,7 +18,7 @@ pub fn add_variable(
     nodes: &mut Nodes,
     table: &mut InferCtxtInner,
     kind: VariableKind,
-    universe: u32,
+    universe: UniverseIndex,
     sub_link: Option<usize>,
 ) -> Result<NodeId, AllocError>
     requires linked { IfSome sub_link (λ m. m < length table.old.entries.variables) }

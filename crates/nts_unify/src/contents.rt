@@ -4,7 +4,7 @@ ghost use Rattle.nts_unify.specs.Entries.{Entries, undone, added, with_variable,
 
 use nts_model::{Relation, VariableKind};
 use nts_store::NodeId;
-use nts_terms::{AliasId, GenericArgs, Ty};
+use nts_terms::{AliasId, GenericArgs, Ty, UniverseIndex};
 use std::alloc::{AllocError, Global};
 use std::marker::Model;
 
@@ -24,7 +24,7 @@ pub enum State {
 pub struct Variable {
     pub kind: VariableKind,
     /// The universe that bounds the leaves of its value.
-    pub universe: u32,
+    pub universe: UniverseIndex,
     pub state: State,
     /// The variable of a lower number with which its sub-unification class was joined.
     pub sub_link: Option<usize>,
@@ -59,7 +59,7 @@ pub enum UndoLog {
     /// A variable was as given, and came last into the order of binding.
     Bound(usize, Variable),
     /// The current universe was as given.
-    Moved(u32),
+    Moved(UniverseIndex),
     /// A constraint was recorded.
     Constrained,
     /// A hidden type was registered.
@@ -73,7 +73,7 @@ pub enum UndoLog {
 pub struct Contents {
     variables: Vec<Variable>,
     order: Vec<usize>,
-    universe: u32,
+    universe: UniverseIndex,
     constraints: Vec<Constraint>,
     hidden: Vec<HiddenType>,
 }
@@ -105,7 +105,7 @@ impl Contents {
         self.variables.len()
     }
 
-    pub fn universe(&self) -> u32
+    pub fn universe(&self) -> UniverseIndex
         ensures { result ≡ self.now.universe }
     {
         self.universe
@@ -171,7 +171,7 @@ impl Contents {
         Ok(())
     }
 
-    pub fn move_to(&mut self, universe: u32)
+    pub fn move_to(&mut self, universe: UniverseIndex)
         ensures { self.new ≡ moved self.old universe }
     {
         self.universe = universe;

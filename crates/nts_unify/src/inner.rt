@@ -3,6 +3,7 @@ ghost use Rattle.std.specs.Prelude.{◌≡◌, ◌<◌, ◌+◌, ◌++◌, ◌�
 ghost use Rattle.nts_unify.specs.Entries.{Entries, Inner, added, with_variable, bound, constrained, moved, registered, with_hidden, front};
 
 use crate::contents::{Constraint, Contents, HiddenType, UndoLog, Variable};
+use nts_terms::UniverseIndex;
 use std::alloc::{AllocError, Global};
 use std::marker::Model;
 
@@ -89,7 +90,7 @@ impl InferCtxtInner {
     }
 
     /// The current universe.
-    pub fn universe(&self) -> u32
+    pub fn universe(&self) -> UniverseIndex
         ensures { result ≡ self.now.entries.universe }
     {
         self.contents.universe()
@@ -140,7 +141,7 @@ impl InferCtxtInner {
         }
     }
 
-    pub fn move_to(&mut self, universe: u32) -> Result<(), AllocError>
+    pub fn move_to(&mut self, universe: UniverseIndex) -> Result<(), AllocError>
         ensures entries { OnOk result (self.new.entries ≡ moved self.old.entries universe) }
         ensures saved { self.new.saved ≡ self.old.saved }
         ensures err { OnErr result (self.new ≡ self.old) }
