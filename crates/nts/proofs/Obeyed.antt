@@ -2,7 +2,7 @@
 use Rattle.std.proofs.Common.{◌≡◌, ℕ, true, false, List, Option, Result, Ok, Err, inr}
 use Rattle.std.specs.Prelude.{IfOk, OnOk}
 use Rattle.std.specs.Global.{Vec}
-use Rattle.nts_text.specs.Commands.{IsCommandOf, Declares}
+use Rattle.nts_text.specs.Commands.{IsCommandOf}
 use Rattle.nts_text.specs.Spelled.{KeepsNumbers}
 use Rattle.nts_text.specs.declared.commands.Command.{Command}
 use Rattle.nts_text.specs.declared.commands.Command.TheVariants as commands
@@ -32,13 +32,12 @@ module _ (old new : Program) (names : NameTable) (scope : Scope) where
       (h.0, h.1, record { answer = t.answer; says = t.says; justified = t.justified }, h.3, rules_from h.4)
 
   pub obeyed : {E : Type 0} (line : List ℕ) (command : Command) (r : Result (Option (Vec ℕ)) E)
-      → new.names ≡ names → new.scope ≡ scope → IsCommandOf line names scope command → Declares old.names names command → KeepsNumbers old.scope.parameters scope.parameters
+      → new.names ≡ names → new.scope ≡ scope → IsCommandOf line old.names names scope command → KeepsNumbers old.scope.parameters scope.parameters
       → IfOk r (Follows (once_read old names scope) new command) → IfOk r (IsObeyed line old new)
-  obeyed line command (Err x) same here is declares kept h = tt
-  obeyed line command (Ok o) same here is declares kept h = inr (record {
+  obeyed line command (Err x) same here is kept h = tt
+  obeyed line command (Ok o) same here is kept h = inr (record {
     command = command;
     is = rw (same, here) is;
-    declares = rw same declares;
     parameters = rw here kept;
     follows = follows_from command o h;
   })

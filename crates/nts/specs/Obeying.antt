@@ -6,7 +6,7 @@ use Rattle.nts_terms.specs.Signatures.{nothing_declared, with_ctor, with_trait}
 use Rattle.nts_delegate.specs.Adding.{AddsClause, MakesCoinductive}
 use Rattle.nts_delegate.specs.Clauses.{clauses_of, coinductive_of}
 use Rattle.nts_delegate.specs.declared.clauses.Clause.{Clause}
-use Rattle.nts_text.specs.Commands.{IsCommandOf, Declares}
+use Rattle.nts_text.specs.Commands.{IsCommandOf}
 use Rattle.nts_text.specs.Lines.{IsPassedOver}
 use Rattle.nts_text.specs.NameTable.{declared_as}
 use Rattle.nts_text.specs.Resolution.{trait_sorts}
@@ -77,8 +77,7 @@ pub record PassesOver (line : List ℕ) (old new : Program) (o : Option (Vec ℕ
 -- is the first to name
 pub record FollowsLine (line : List ℕ) (old new : Program) (o : Option (Vec ℕ)) : Type 0 where
   pub command : Command
-  pub is : IsCommandOf line new.names new.scope command
-  pub declares : Declares old.names new.names command
+  pub is : IsCommandOf line old.names new.names new.scope command
   pub parameters : KeepsNumbers old.scope.parameters new.scope.parameters
   pub follows : Follows old new command o
 

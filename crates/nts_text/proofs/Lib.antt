@@ -5,3 +5,5 @@ pub mod NumberLemmas
 pub mod SortLemmas
 pub mod NodeLemmas
 pub mod SpellingLemmas
+pub mod NameLemmas
+pub mod ParamLemmas

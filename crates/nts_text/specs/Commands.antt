@@ -1,10 +1,9 @@
 -- What commands say.
-use Rattle.std.specs.Prelude.{◌≡◌, ℕ, List, [], ◌∷◌, ◌++◌, map, Some}
+use Rattle.std.specs.Prelude.{◌≡◌, ℕ, List, [], map, Some}
 use Rattle.std.specs.List.{AllZip}
-use Rattle.nts_model.specs.declared.labels.Sort.{Sort}
 use Rattle.nts_text.specs.Lines.{bytes_of, BeginsWithKeyword, Says}
-use Rattle.nts_text.specs.NameTable.{declared_as}
-use Rattle.nts_text.specs.Resolution.{trait_sorts, AreSorted, IsMeaningOf}
+use Rattle.nts_text.specs.NameTable.{declared_as, AddsType, AddsTrait}
+use Rattle.nts_text.specs.Resolution.{AreSorted, IsMeaningOf}
 use Rattle.nts_text.specs.Tokens.{AreTokensFrom}
 use Rattle.nts_text.specs.declared.commands.Command.{Command}
 use Rattle.nts_text.specs.declared.commands.Command.TheVariants as commands
@@ -35,8 +34,15 @@ IsMeant names scope line (lines.Impl head body) (commands.Impl first rest) =
 IsMeant names scope line (lines.Goal ns) (commands.Goal nodes) = AllZip (IsMeaningOf names scope line) ns.items nodes.items
 IsMeant names scope line _ _ = ⊥
 
--- the line begins with a keyword, and what the tokens behind it say is this command
-pub record IsCommandOf (line : List ℕ) (names : NameTable) (scope : Scope) (command : Command) : Type 0 where
+-- a declaration adds the type or trait that the line names, and no other line changes a name
+abbrev pub Declares : List ℕ → NameTable → NameTable → Line → Type 0
+Declares line old new (lines.Type name params) = AddsType old new (bytes_of line name) (map (λ p. p.sort) params.items)
+Declares line old new (lines.Trait name sorts coinductive) = AddsTrait old new (bytes_of line name) sorts.items
+Declares line old new _ = new ≡ old
+
+-- the line begins with a keyword, and what the tokens behind it say is this command; what it declares
+-- is added to the names
+pub record IsCommandOf (line : List ℕ) (old new : NameTable) (scope : Scope) (command : Command) : Type 0 where
   pub keyword : Keyword
   pub end : ℕ
   pub tokens : List Token
@@ -44,19 +50,5 @@ pub record IsCommandOf (line : List ℕ) (names : NameTable) (scope : Scope) (co
   pub begins : BeginsWithKeyword line keyword end
   pub cut : AreTokensFrom line end tokens
   pub says : Says line tokens keyword parsed
-  pub means : IsMeant names scope line parsed command
-
--- the sorts that each type takes, and each trait
-abbrev pub sorts_of_types : NameTable → List (List Sort)
-sorts_of_types names = map (λ s. s.sorts.items) names.types.items
-
-abbrev pub sorts_of_traits : NameTable → List (List Sort)
-sorts_of_traits names = map (λ s. s.sorts.items) names.traits.items
-
--- a declaration adds its own type or trait, as the last one, and no other command adds any
-abbrev pub Declares : NameTable → NameTable → Command → Type 0
-Declares old new (commands.Type number params) =
-    (sorts_of_types new ≡ sorts_of_types old ++ map (λ p. p.sort) params.items ∷ []) × (sorts_of_traits new ≡ sorts_of_traits old)
-Declares old new (commands.Trait number coinductive) =
-    (sorts_of_types new ≡ sorts_of_types old) × (sorts_of_traits new ≡ sorts_of_traits old ++ trait_sorts new number ∷ [])
-Declares old new _ = new ≡ old
+  pub declares : Declares line old new parsed
+  pub means : IsMeant new scope line parsed command

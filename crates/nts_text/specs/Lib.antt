@@ -3,6 +3,7 @@ pub mod Commands
 pub mod Input
 pub mod Tokens
 pub mod Predicates
+pub mod Declarations
 pub mod Lines
 pub mod NameTable
 pub mod Names

@@ -1,5 +1,7 @@
 -- What the words of a line are.
-use Rattle.std.specs.Prelude.{◌≡◌, ◌≢◌, ℕ, ◌<◌, true, false, List, [], ◌∷◌, ◌++◌, length, slice_range, slice_index, codes, ◌⊎◌, All}
+use Rattle.std.specs.Prelude.{◌≡◌, ◌≢◌, ℕ, ◌<◌, true, false, List, [], ◌∷◌, ◌++◌, length, slice_index, codes, ◌⊎◌, All}
+pub use Rattle.nts_text.specs.Declarations.{bytes_of}
+use Rattle.nts_text.specs.Declarations.{IsTypeBody, IsTraitBody}
 use Rattle.nts_text.specs.Bytes.{is_blank, AllFrom, IsRun, decimal_value}
 use Rattle.nts_text.specs.Tokens.{IsInside, IsTokenAt, token_begins}
 use Rattle.nts_text.specs.Predicates.{are_predicates, written_nodes}
@@ -25,10 +27,6 @@ abbrev pub word_of_mode : Mode → List ℕ
 word_of_mode modes.Coherence = codes "coherence"
 word_of_mode modes.Analysis = codes "analysis"
 word_of_mode modes.PostAnalysis = codes "postanalysis"
-
--- the bytes of a token
-abbrev pub bytes_of : List ℕ → Token → List ℕ
-bytes_of line t = slice_range line t.start t.end
 
 -- a line that is passed over: it begins with `#`, or has blanks alone
 abbrev pub IsPassedOver : List ℕ → Type 0
@@ -59,8 +57,10 @@ abbrev pub Says : List ℕ → List Token → Keyword → Line → Type 0
 Says line ts keywords.Mode (lines.Mode m) = (t : Token) × (ts ≡ t ∷ []) × (bytes_of line t ≡ word_of_mode m)
 Says line ts keywords.Depth (lines.Depth d) =
     (t : Token) × (ts ≡ t ∷ []) × (t.kind ≡ Number) × (decimal_value (bytes_of line t) ≡ d)
-Says line ts keywords.Type (lines.Type name params) = (rest : List Token) × (ts ≡ name ∷ rest) × (name.kind ≡ Name)
-Says line ts keywords.Trait (lines.Trait name sorts coinductive) = (rest : List Token) × (ts ≡ name ∷ rest) × (name.kind ≡ Name)
+Says line ts keywords.Type (lines.Type name params) =
+    (rest : List Token) × (ts ≡ name ∷ rest) × (name.kind ≡ Name) × IsTypeBody line rest params.items
+Says line ts keywords.Trait (lines.Trait name sorts coinductive) =
+    (rest : List Token) × (ts ≡ name ∷ rest) × (name.kind ≡ Name) × IsTraitBody line rest sorts.items coinductive
 Says line ts keywords.Impl (lines.Impl head body) = IsClause ts head.items body.items
 Says line ts keywords.Goal (lines.Goal ns) = (are_predicates false ts ≡ true) × (ns.items ≡ written_nodes ts)
 Says line ts _ _ = ⊥

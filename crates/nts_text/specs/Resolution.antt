@@ -7,7 +7,7 @@ use Rattle.nts_text.specs.declared.names.NameTable.{NameTable}
 use Rattle.nts_text.specs.Lines.{bytes_of}
 use Rattle.nts_text.specs.NameTable.{StandsFor}
 use Rattle.nts_text.specs.Spelled.{type_names, region_names, IsNumberOf}
-use Rattle.nts_text.specs.declared.lexer.TokenKind.TheVariants.{Name, TypeVariable, TypeParam, RegionVariable, RegionParam, Static}
+use Rattle.nts_text.specs.declared.lexer.TokenKind.TheVariants.{TypeVariable, TypeParam, RegionVariable, RegionParam, Static}
 use Rattle.nts_text.specs.declared.names.Declared.TheVariants as declared
 use Rattle.nts_text.specs.declared.names.Scope.{Scope}
 use Rattle.nts_text.specs.declared.predicates.Node.{Node}

@@ -1,6 +1,5 @@
 -- Names that are used without a declaration.
 use Rattle.std.specs.Prelude.{◌≡◌, ℕ, List, ◌++◌, map, Some, slice_get}
-use Rattle.indexmap.specs.IndexSet.{IndexSet}
 use Rattle.nts_text.specs.declared.names.Spellings.{Spellings}
 use Rattle.nts_text.specs.declared.names.Scope.{Scope}
 

@@ -1,6 +1,6 @@
 //! Commands: lines whose names have become numbers.
 
-ghost use Rattle.std.specs.Prelude.{◌≡◌, ◌↔◌, true, Err, map, MatchOption, IfOk, IfErr, OnOk, OnErr, IfSome, IsNone};
+ghost use Rattle.std.specs.Prelude.{◌≡◌, ◌↔◌, true, Err, map, IfOk, IfErr, OnOk, OnErr, IfSome, IsNone};
 ghost use Rattle.nts_text.specs.Commands.{IsSorted, IsMeant, IsCommandOf, Declares};
 ghost use Rattle.nts_text.specs.Lines.{IsPassedOver, HasNoKeyword, NamesAreInside};
 ghost use Rattle.nts_text.specs.Reasons.{is_name_reason};
@@ -54,7 +54,7 @@ fn meaning(
     requires { NamesAreInside line.now parsed }
     ensures sorted { IfOk result (IsSorted names.new) }
     ensures means { IfOk result (IsMeant names.new scope.new line.now parsed) }
-    ensures declares { IfOk result (Declares names.old names.new) }
+    ensures declares { OnOk result (Declares line.now names.old names.new parsed) }
     ensures kept { OnOk result (KeepsNames scope.old scope.new) }
     ensures reasons { IfErr result (λ e. is_name_reason e ≡ true) }
 {
@@ -100,8 +100,8 @@ pub fn read_command(
     ensures refused { OnErr result (IsPassedOver line.now → ⊥) }
     ensures unknown { result ≡ Err (Refused UnknownCommand) → HasNoKeyword line.now }
     ensures sorted { IfOk result (λ o. IfSome o (IsSorted names.new)) }
-    ensures said { IfOk result (λ o. IfSome o (IsCommandOf line.now names.new scope.new)) }
-    ensures declares { IfOk result (λ o. MatchOption o (names.new ≡ names.old) (Declares names.old names.new)) }
+    ensures said { IfOk result (λ o. IfSome o (IsCommandOf line.now names.old names.new scope.new)) }
+    ensures names { IfOk result (λ o. IsNone o → names.new ≡ names.old) }
     ensures parameters { OnOk result (KeepsNumbers scope.old.parameters scope.new.parameters) }
 {
     scope.begin_line(alloc);

@@ -64,7 +64,7 @@ pub fn known_type(name: &[u8]) -> Option<Declared>
 }
 
 impl NameTable {
-    ghost use Rattle.nts_text.specs.NameTable.{declared_as, IsTaken, StandsFor};
+    ghost use Rattle.nts_text.specs.NameTable.{declared_as, signatures, IsTaken, KeepsOthers, StandsFor};
 
     /// No names but those of the known types.
     pub fn new(alloc: Global) -> Self
@@ -99,9 +99,10 @@ impl NameTable {
         ensures taken { result ≡ Err (Refused NameDeclaredTwice) → IsTaken self.old name.now }
         ensures free { OnOk result (IsTaken self.old name.now → ⊥) }
         ensures declared { IfOk result (λ n. declared_as self.new name.now ≡ Some (Declared.Type n)) }
+        ensures others { KeepsOthers self.old self.new name.now }
         ensures reasons { IfErr result (λ e. is_name_reason e ≡ true) }
         ensures number { IfOk result (λ n. n ≡ vec_len self.old.types) }
-        ensures added { OnOk result (map (λ s. s.sorts.items) self.new.types.items ≡ map (λ s. s.sorts.items) self.old.types.items ++ sorts.items ∷ []) }
+        ensures listed { OnOk result (signatures self.new.types.items ≡ signatures self.old.types.items ++ (name.now, sorts.items) ∷ []) }
         ensures traits { self.new.traits ≡ self.old.traits }
     {
         if self.lookup(name).is_some() {
@@ -125,9 +126,10 @@ impl NameTable {
         ensures taken { result ≡ Err (Refused NameDeclaredTwice) → IsTaken self.old name.now }
         ensures free { OnOk result (IsTaken self.old name.now → ⊥) }
         ensures declared { IfOk result (λ n. declared_as self.new name.now ≡ Some (Declared.Trait n)) }
+        ensures others { KeepsOthers self.old self.new name.now }
         ensures reasons { IfErr result (λ e. is_name_reason e ≡ true) }
         ensures number { IfOk result (λ n. n ≡ vec_len self.old.traits) }
-        ensures added { OnOk result (map (λ s. s.sorts.items) self.new.traits.items ≡ map (λ s. s.sorts.items) self.old.traits.items ++ sorts.items ∷ []) }
+        ensures listed { OnOk result (signatures self.new.traits.items ≡ signatures self.old.traits.items ++ (name.now, sorts.items) ∷ []) }
         ensures types { self.new.types ≡ self.old.types }
     {
         if self.lookup(name).is_some() {

@@ -1,10 +1,11 @@
 //! The grammar of a line.
 
-ghost use Rattle.std.specs.Prelude.{◌≡◌, ◌≢◌, ◌<◌, ◌≤◌, ◌↔◌, true, false, [], ◌∷◌, length, All, IfOk, IfErr, OnErr, IfSome, IsNone, IsErr, SomeIff};
+ghost use Rattle.std.specs.Prelude.{◌≡◌, ◌≢◌, ◌<◌, ◌≤◌, ◌↔◌, true, false, [], ◌∷◌, length, All, IfOk, IfErr, OnErr, IfSome, IsNone, IsErr, IsTrue, SomeIff, codes, map};
 ghost use Rattle.nts_text.specs.Bytes.{decimal_value};
 ghost use Rattle.nts_text.specs.Tokens.{IsInside};
 ghost use Rattle.nts_text.specs.Predicates.{are_predicates};
 ghost use Rattle.nts_text.specs.Reasons.{is_form_reason};
+ghost use Rattle.nts_text.specs.Declarations.{AreParams, sign_of, unmarked, word_of_sort};
 ghost use Rattle.nts_text.specs.Lines.{word_of_keyword, word_of_mode, bytes_of, IsPassedOver, BeginsWithKeyword, HasNoKeyword, NamesAreInside, Says, SaysTooMuch};
 ghost use Rattle.nts_text.specs.declared.refusals.TextError.TheVariants.{Refused};
 ghost use Rattle.nts_text.specs.declared.refusals.Refusal.TheVariants.{Syntax, NumberOutOfRange, UnknownCommand};
@@ -136,12 +137,26 @@ fn mode_of(word: &[u8]) -> Option<Mode>
     }
 }
 
-fn sort_of(word: &[u8]) -> Option<Sort> {
+fn sort_of(word: &[u8]) -> Option<Sort>
+    ensures { IfSome result (λ s. word.now ≡ word_of_sort s) }
+{
     match word {
         b"type" => Some(Sort::Ty),
         b"region" => Some(Sort::Region),
         _ => None,
     }
+}
+
+/// The parameter of this variance whose sort is this word.
+fn param_of(line: &[u8], word: Token, variance: Variance) -> Option<Param>
+    requires { IsInside line.now word }
+    ensures sort { IfSome result (λ p. bytes_of line.now word ≡ word_of_sort p.sort) }
+    ensures variance { IfSome result (λ p. p.variance ≡ variance) }
+{
+    Some(Param {
+        sort: sort_of(text(line, word))?,
+        variance,
+    })
 }
 
 /// Where a list of parameters stands between two of its tokens.
@@ -162,6 +177,7 @@ enum Place {
 /// The parameters that stand in brackets, or `None` if these tokens are none.
 fn params_of(alloc: Global, line: &[u8], tokens: &[Token]) -> Result<Option<Vec<Param>>, AllocError>
     requires { All (IsInside line.now) tokens.now }
+    ensures { IfOk result (λ o. IfSome o (λ ps. AreParams line.now tokens.now ps.items)) }
 {
     let mut params = Vec::new(alloc);
     let mut place = Place::Bracket;
@@ -170,15 +186,18 @@ fn params_of(alloc: Global, line: &[u8], tokens: &[Token]) -> Result<Option<Vec<
             (Place::Bracket, TokenKind::Open) => Place::Param,
             (Place::Param, TokenKind::Minus) => Place::Sort(Variance::Contravariant),
             (Place::Param, TokenKind::Equals) => Place::Sort(Variance::Invariant),
-            (Place::Param | Place::Sort(_), TokenKind::Name) => {
-                let variance = match place {
-                    Place::Sort(variance) => variance,
-                    _ => Variance::Covariant,
-                };
-                let Some(sort) = sort_of(text(line, *token)) else {
+            (Place::Param, TokenKind::Name) => {
+                let Some(param) = param_of(line, *token, Variance::Covariant) else {
                     return Ok(None);
                 };
-                params.push(Param { sort, variance })?;
+                params.push(param)?;
+                Place::Behind
+            }
+            (Place::Sort(variance), TokenKind::Name) => {
+                let Some(param) = param_of(line, *token, variance) else {
+                    return Ok(None);
+                };
+                params.push(param)?;
                 Place::Behind
             }
             (Place::Behind, TokenKind::Comma) => Place::Param,
@@ -196,18 +215,19 @@ fn params_of(alloc: Global, line: &[u8], tokens: &[Token]) -> Result<Option<Vec<
 /// The sorts that stand in brackets, or `None` if these tokens are none.
 fn sorts_of(alloc: Global, line: &[u8], tokens: &[Token]) -> Result<Option<Vec<Sort>>, AllocError>
     requires { All (IsInside line.now) tokens.now }
+    ensures { IfOk result (λ o. IfSome o (λ v. AreParams line.now tokens.now (map unmarked v.items))) }
 {
     let Some(params) = params_of(alloc, line, tokens)? else {
         return Ok(None);
     };
-    // A parameter with a mark is not covariant, and a sort has no mark.
-    if params
-        .iter()
-        .any(|param| param.variance != Variance::Covariant)
-    {
-        return Ok(None);
+    let mut sorts = Vec::new(alloc);
+    for param in &params {
+        // A parameter with a mark is not covariant, and a sort has no mark.
+        if param.variance != Variance::Covariant {
+            return Ok(None);
+        }
+        sorts.push(param.sort)?;
     }
-    let sorts: Vec<Sort> = params.iter().map(|param| param.sort).collect(alloc)?;
     Ok(Some(sorts))
 }
 
@@ -264,6 +284,13 @@ fn type_line(alloc: Global, line: &[u8], tokens: &[Token]) -> Result<Option<Line
     }
 }
 
+fn is_coinductive(line: &[u8], token: Token) -> bool
+    requires { IsInside line.now token }
+    ensures { IsTrue result → sign_of line.now token ≡ (TokenKind.Name, codes "coinductive") }
+{
+    token.kind == TokenKind::Name && text(line, token) == b"coinductive".as_slice()
+}
+
 fn trait_line(alloc: Global, line: &[u8], tokens: &[Token]) -> Result<Option<Line>, AllocError>
     requires { All (IsInside line.now) tokens.now }
     ensures says { IfOk result (λ o. IfSome o (Says line.now tokens.now Keyword.Trait)) }
@@ -276,7 +303,7 @@ fn trait_line(alloc: Global, line: &[u8], tokens: &[Token]) -> Result<Option<Lin
         return Ok(None);
     }
     let (list, coinductive) = match rest {
-        [list @ .., word] if text(line, *word) == b"coinductive".as_slice() => (list, true),
+        [list @ .., word] if is_coinductive(line, *word) => (list, true),
         _ => (rest, false),
     };
     match sorts_of(alloc, line, list)? {

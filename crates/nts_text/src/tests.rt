@@ -1,7 +1,7 @@
 //! Whole lines, and their refusals.
 
 use crate::*;
-use nts_model::UintTy;
+use nts_model::{Sort, UintTy, Variance};
 use std::alloc::Global;
 use std::test::Fail;
 
@@ -271,5 +271,54 @@ fn shows_refusals(rt: HostRuntime) -> Result<(), Fail> {
         let shown = format!(in rt.alloc(); "{refusal}")?;
         assert_eq!(rt; shown.as_str(), words);
     }
+    Ok(())
+}
+
+#[test]
+fn declares(rt: HostRuntime) -> Result<(), Fail> {
+    let alloc = rt.alloc();
+    let mut names = NameTable::new(alloc);
+    let mut scope = Scope::new(alloc);
+    let line = b"type Fn(-type, =region, type)";
+    let Some(Command::Type { number, params }) = read_command(alloc, line, &mut names, &mut scope)?
+    else {
+        return Err(Fail::from("no type"));
+    };
+    let want = [
+        Param {
+            sort: Sort::Ty,
+            variance: Variance::Contravariant,
+        },
+        Param {
+            sort: Sort::Region,
+            variance: Variance::Invariant,
+        },
+        Param {
+            sort: Sort::Ty,
+            variance: Variance::Covariant,
+        },
+    ];
+    assert_eq!(rt; number, 0);
+    assert!(rt; params.as_slice() == want.as_slice());
+    for (line, wanted, coinductive) in [
+        (b"trait S(type, region)".as_slice(), 0, false),
+        (b"trait T(region) coinductive", 1, true),
+    ] {
+        let Some(
+            Command::Trait {
+                number,
+                coinductive: found,
+            },
+        ) = read_command(alloc, line, &mut names, &mut scope)?
+        else {
+            return Err(Fail::from("no trait"));
+        };
+        assert_eq!(rt; number, wanted);
+        assert_eq!(rt; found, coinductive);
+    }
+    assert!(rt; names.types[0].name.as_slice() == b"Fn".as_slice());
+    assert!(rt; names.types[0].sorts.as_slice() == [Sort::Ty, Sort::Region, Sort::Ty].as_slice());
+    assert!(rt; names.traits[0].sorts.as_slice() == [Sort::Ty, Sort::Region].as_slice());
+    assert!(rt; names.traits[1].name.as_slice() == b"T".as_slice());
     Ok(())
 }

@@ -5,4 +5,4 @@ pub returns-in-Some-clause-obeyed : goal.returns-in-Some-clause-obeyed
 returns-in-Some-clause-obeyed c =
     let e = c.in_ok-command.ensures in
     obeyed c.args.self.now c.follow.new.self c.read_command.new.names c.read_command.new.scope c.args.line.now c.in-Some.command c.follow.result
-    c.follow.ensures.names c.follow.ensures.scope (rw c.in-Some.is at e.said) (rw c.in-Some.is at e.declares) e.parameters c.follow.ensures.follows
+    c.follow.ensures.names c.follow.ensures.scope (rw c.in-Some.is at e.said) e.parameters c.follow.ensures.follows

@@ -2,6 +2,7 @@ use Rattle.std.proofs.Common.{arith, is_ok, ap}
 use Rattle.std.proofs.ResultArms.{chosen}
 use Rattle.std.proofs.lemmas.Grind.{common_steps}
 use Rattle.nts_text.proofs.NumberLemmas.{numbered_insert}
+use Rattle.nts_text.proofs.NameLemmas.{others_kept}
 use Rattle.nts_text.proofs.names.NameTable.declare_trait.Goals as goal
 
 -- the trait has the next number
@@ -12,3 +13,7 @@ invariant_of-self-2 c =
       numbered = numbered_insert _ _ _ _ _ _ _ _ _ _ c.insert.ensures.entries c.insert.ensures.err (omega arith) (omega (arith, longer))
           (grind (arith, common_steps, longer, c.len-number.ensures)) c.args.self.now.numbered;
     }
+
+pub returns-clause-others : goal.returns-clause-others
+returns-clause-others c = λ other differs.
+    others_kept other c.args.name.now c.in_ok-key.key _ c.args.self.now.numbers.entries c.insert.new.self.entries c.in_ok-key.ensures.items differs c.in_ok-insert.ensures.entries
