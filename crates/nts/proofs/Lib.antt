@@ -8,3 +8,5 @@ pub mod Justifying
 pub mod Obeyed
 pub mod Runs
 pub mod Meant
+pub mod Places
+pub mod Rules

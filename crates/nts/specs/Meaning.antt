@@ -1,6 +1,8 @@
 -- What the nodes of a line mean as terms.
-use Rattle.std.specs.Prelude.{◌≡◌, ℕ, List, [], ◌∷◌, Option, None, Some, map, reverse, take, drop, slice_get}
+use Rattle.std.specs.Prelude.{◌≡◌, ℕ, suc, List, [], ◌∷◌, Option, None, Some, map, reverse, take, drop, slice_get}
 use Rattle.std.specs.Global.{Vec}
+use Rattle.nts_model.specs.declared.labels.Sort.{Sort}
+use Rattle.nts_model.specs.declared.labels.Sort.TheVariants as sort
 use Rattle.nts_model.specs.declared.labels.Label.TheVariants as label
 use Rattle.nts_model.specs.declared.labels.Leaf.TheVariants as leaf
 use Rattle.nts_model.specs.declared.labels.FreeRegion.TheVariants as free
@@ -8,7 +10,11 @@ use Rattle.nts_model.specs.declared.labels.Constant.TheVariants as constant
 use Rattle.nts_model.specs.declared.labels.TyHead.TheVariants as ty
 use Rattle.nts_model.specs.declared.labels.ClauseHead.TheVariants as clause
 use Rattle.nts_model.specs.declared.labels.ListHead.TheVariants as list
+use Rattle.nts_model.specs.Numbered.{position}
+use Rattle.nts_model.specs.Resolving.{variable_tree}
 use Rattle.nts_model.specs.Trees.{Tree, empty, more, node}
+use Rattle.nts_table.specs.Fresh.{variable_kind}
+use Rattle.nts_delegate.specs.declared.clauses.Clause.{Clause}
 use Rattle.nts_terms.specs.declared.handles.GenericArg.{GenericArg}
 use Rattle.nts_terms.specs.declared.handles.GenericArgs.{GenericArgs}
 use Rattle.nts_terms.specs.declared.handles.TraitRef.{TraitRef}
@@ -88,6 +94,30 @@ values_in ts variables values = record {
   regions = λ i. tree_at_place ts values (slice_get variables.regions.items i);
 }
 
+-- the places are of this sort, and no two are the same
+pub record AreOwnPlaces (s : Sort) (sorts : List Sort) (places : List ℕ) : Type 0 where
+  pub sorted : (i p : ℕ) → slice_get places i ≡ Some p → slice_get sorts p ≡ Some s
+  pub apart : (i j p : ℕ) → slice_get places i ≡ Some p → slice_get places j ≡ Some p → i ≡ j
+
+-- each variable of a line has a place of its own, of its sort
+pub record HasOwnPlaces (v : LineVariables) : Type 0 where
+  pub types : AreOwnPlaces sort.Ty v.sorts.items v.types.items
+  pub regions : AreOwnPlaces sort.Region v.sorts.items v.regions.items
+
+-- a tree for each sort, with consecutive numbers
+abbrev pub trees_from : (Sort → ℕ → Tree) → ℕ → List Sort → List Tree
+trees_from f n [] = []
+trees_from f n (s ∷ ss) = f s n ∷ trees_from f (suc n) ss
+
+-- the values are variables of a table with consecutive numbers, one for each sort
+abbrev pub AreVariablesFrom : ℕ → List Tree → List Sort → List GenericArg → Type 0
+AreVariablesFrom n ts sorts values =
+    map (λ a. tree_at ts a.node) values ≡ trees_from (λ s k. variable_tree (variable_kind s) k) n sorts
+
+-- the values are the positions of a clause, one for each sort
+abbrev pub ArePositions : List Tree → List Sort → List GenericArg → Type 0
+ArePositions ts sorts values = map (λ a. tree_at ts a.node) values ≡ trees_from position 0 sorts
+
 -- the trees of arguments, the last one first
 abbrev pub made_trees : List Tree → Vec GenericArg → List Tree
 made_trees ts made = map (λ a. tree_at ts a.node) (reverse made.items)
@@ -133,3 +163,28 @@ IsGoalFor ts variables values rs g = (us : List Tree) → Extends ts us → IsGo
 
 abbrev pub States : List Tree → TraitRef → Predicate → Type 0
 States ts r p = (us : List Tree) → Extends ts us → tree_at us p.node ≡ binding_nothing (tree_of_clause us (clause_kind.Trait r))
+
+-- predicates are what nodes say, here and in each later store
+abbrev pub AreConditions : List Tree → LineVariables → List GenericArg → List Resolved → List Predicate → Type 0
+AreConditions ts variables values rs ps =
+    (us : List Tree) → Extends ts us
+    → map (λ p. tree_at us p.node) ps ≡ map binding_nothing (meaning_of (values_in us variables values) rs).predicates
+
+-- the head of a clause, as a predicate
+abbrev pub head_of : List Tree → Clause → Tree
+head_of ts c = node (label.Clause (clause.Trait c.trait_id.number)) (more (tree_at ts c.head.node) empty)
+
+-- the clause has a variable for each variable of the nodes, its head is the one predicate that the
+-- first nodes say, and its conditions are those that the others say, in order
+pub record IsRuleOf (ts : List Tree) (first others : List Resolved) (c : Clause) : Type 0 where
+  pub variables : LineVariables
+  pub values : List GenericArg
+  pub own : HasOwnPlaces variables
+  pub sorts : c.fresh.items ≡ variables.sorts.items
+  pub positions : ArePositions ts c.fresh.items values
+  pub head : (meaning_of (values_in ts variables values) first).predicates ≡ head_of ts c ∷ []
+  pub body : map (λ p. tree_at ts p.node) c.body.items ≡ map binding_nothing (meaning_of (values_in ts variables values) others).predicates
+
+-- here and in each later store
+abbrev pub IsRuleFor : List Tree → List Resolved → List Resolved → Clause → Type 0
+IsRuleFor ts head body c = (us : List Tree) → Extends ts us → IsRuleOf us head body c

@@ -18,6 +18,7 @@ use Rattle.nts_text.specs.declared.resolver.Resolved.{Resolved}
 use Rattle.nts.specs.declared.program.Program.{Program}
 use Rattle.nts.specs.declared.answer.Answer.{Answer}
 use Rattle.nts.specs.Answers.{IsAnswerText}
+use Rattle.nts.specs.Meaning.{IsRuleOf}
 use Rattle.nts.specs.Proving.{IsJustified}
 
 -- a program that was told nothing: there are no terms, declarations, rules, names or parameters, and
@@ -60,7 +61,8 @@ Follows old new (commands.Trait n false) o =
     (new.cx ≡ record old.cx { declarations = with_trait old.cx.declarations (trait_sorts new.names n) })
     × KeepsRules old new × (o ≡ None)
 Follows old new (commands.Impl head body) o =
-    (c : Clause) × AddsClause old.clauses new.clauses c × Grows old.cx new.cx × (new.mode ≡ old.mode) × (o ≡ None)
+    (c : Clause) × AddsClause old.clauses new.clauses c × IsRuleOf new.cx.nodes head.items body.items c
+    × Grows old.cx new.cx × (new.mode ≡ old.mode) × (o ≡ None)
 Follows old new (commands.Goal nodes) o =
     (text : Vec ℕ) × (o ≡ Some text) × IsTold old new nodes.items text.items × Grows old.cx new.cx × KeepsRules old new
 

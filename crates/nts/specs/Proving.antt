@@ -18,7 +18,7 @@ use Rattle.nts_text.specs.declared.parser.Mode.{Mode}
 use Rattle.nts_text.specs.declared.parser.Mode.TheVariants as modes
 use Rattle.nts.specs.Found.{IsFoundIn}
 use Rattle.nts_text.specs.declared.resolver.Resolved.{Resolved}
-use Rattle.nts.specs.Meaning.{IsGoalOf}
+use Rattle.nts.specs.Meaning.{HasOwnPlaces, AreVariablesFrom, IsGoalOf}
 use Rattle.nts.specs.declared.answer.Found.{Found}
 use Rattle.nts.specs.declared.answer.Answer.{Answer}
 use Rattle.nts.specs.declared.answer.Answer.TheVariants as answers
@@ -37,12 +37,14 @@ pub record IsProvedIn (ts us : List Tree) (h : Clauses) (t : Table) (g : Goal) :
   pub proved : (v : ℕ → List Variance) → HasHeldProof (meaning (handler_of store h) v) (mode_of t.mode) (content_of us t.entries) (tree_at us g.param_env.node) (tree_at us g.predicate.node)
 
 -- the goal that nodes say holds in a table, which is told of the goal's variables; it is asked in the
--- mode of a line
+-- mode of a line, of the first variables of that table, one for each variable of the line
 pub record IsHeld (m : Mode) (rs : List Resolved) (ts us : List Tree) (h : Clauses) (f : Found) : Type 0 where
   pub store : List Tree
   pub table : Table
   pub goal : Goal
   pub values : List GenericArg
+  pub own : HasOwnPlaces f.variables
+  pub first : AreVariablesFrom 0 store f.variables.sorts.items values
   pub mode : IsTypingMode m table.mode
   pub asked : IsGoalOf store f.variables values rs goal
   pub proved : IsProvedIn ts store h table goal

@@ -1,5 +1,6 @@
 //! Asking a goal.
-ghost use Rattle.std.specs.Prelude.{◌≡◌, ◌≢◌, All, map, Some, IfOk, OnOk};
+ghost use Rattle.std.specs.Prelude.{◌≡◌, ◌≢◌, All, List, length, map, Some, IfOk, OnOk};
+ghost use Rattle.nts_model.specs.Trees.{Tree};
 ghost use Rattle.nts_store.specs.Growth.{Extends};
 ghost use Rattle.nts_unify.specs.Reading.{content_of};
 ghost use Rattle.nts_table.specs.Tables.{IsTable};
@@ -9,7 +10,7 @@ ghost use Rattle.nts_evaluation.specs.Evaluation.{IsAdmitted, AreOfSorts};
 ghost use Rattle.nts_certainty.specs.declared.certainty.Certainty.TheVariants as certainty;
 ghost use Rattle.nts.specs.Proving.{IsTypingMode, IsProvedIn, IsJustified};
 ghost use Rattle.nts.specs.Found.{AreResolved, IsFoundIn, IsOf, IsValue};
-ghost use Rattle.nts.specs.Meaning.{IsGoalFor};
+ghost use Rattle.nts.specs.Meaning.{AreVariablesFrom, IsGoalFor};
 ghost use Rattle.nts_store.specs.Growth.{tree_at};
 ghost use Rattle.nts_terms.specs.Rest.{Grows};
 
@@ -117,6 +118,8 @@ fn fresh_values(table: &mut InferCtxt, cx: &mut Cx, sorts: &[Sort]) -> Result<Ve
     ensures values { IfOk result (λ vs. All (λ v. IsValue cx.new.nodes table.new v) vs.items) }
     ensures sorts { IfOk result (λ vs. AreOfSorts sorts.now (map (tree_at cx.new.nodes) (map
         (λ v. v.node) vs.items))) }
+    ensures variables { IfOk result (λ vs. (ts : List Tree) → Extends cx.new.nodes ts →
+        AreVariablesFrom (length table.old.entries.variables) ts sorts.now vs.items) }
     ensures mode { table.new.mode ≡ table.old.mode }
 {
     let nodes = table.fresh_nodes(cx, sorts)?;

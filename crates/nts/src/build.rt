@@ -4,7 +4,7 @@ ghost use Rattle.nts_model.specs.Trees.{Tree};
 ghost use Rattle.nts_store.specs.Growth.{Extends, tree_at};
 ghost use Rattle.nts_terms.specs.Kinds.{tree_of_ty};
 ghost use Rattle.nts_terms.specs.declared.kinds.TyKind.TheVariants as ty;
-ghost use Rattle.nts.specs.Meaning.{tree_at_place, TakesArguments, MakesArgument, AreSaid, States};
+ghost use Rattle.nts.specs.Meaning.{tree_at_place, TakesArguments, MakesArgument, AreSaid, States, ArePositions};
 ghost use Rattle.nts_terms.specs.Handles.{HoldsArg, HoldsArgs, HoldsPredicate};
 ghost use Rattle.nts_terms.specs.Rest.{Grows};
 
@@ -179,6 +179,8 @@ pub fn predicate_of(cx: &mut Cx, trait_ref: TraitRef) -> Result<Predicate, Stop>
 /// The variables of a clause: the places of a canonical value, of these sorts.
 #[tactic(auto, using(crate::proofs::Asking::growing))]
 pub fn positions(cx: &mut Cx, sorts: &[Sort]) -> Result<Vec<GenericArg>, Stop>
+    ensures positions { IfOk result (λ vs. (ts : List Tree) → Extends cx.new.nodes ts →
+        ArePositions ts sorts.now vs.items) }
     ensures grows { Grows cx.old cx.new }
 {
     let mut values = Vec::new(cx.alloc);

@@ -7,6 +7,7 @@ ghost use Rattle.nts_delegate.specs.Clauses.{AreReady};
 ghost use Rattle.nts_delegate.specs.declared.clauses.Clause.{Clause};
 ghost use Rattle.nts_text.specs.Lines.{IsPassedOver};
 ghost use Rattle.nts_text.specs.Resolution.{trait_sorts};
+ghost use Rattle.nts.specs.Meaning.{AreConditions, IsRuleOf, IsRuleFor};
 ghost use Rattle.nts.specs.Obeying.{IsNew, Follows, KeepsRules, IsTold, IsObeyed};
 ghost use Rattle.nts_terms.specs.Rest.{Grows};
 
@@ -153,7 +154,8 @@ impl Program {
     fn add_impl(&mut self, head: &[Resolved], body: &[Resolved]) -> Result<(), Stop>
         requires ready { AreReady self.old.cx.nodes self.old.clauses }
         ensures ready { OnOk result (AreReady self.new.cx.nodes self.new.clauses) }
-        ensures added { OnOk result ((c : Clause) × AddsClause self.old.clauses self.new.clauses c) }
+        ensures added { OnOk result ((c : Clause) × AddsClause self.old.clauses self.new.clauses c
+            × IsRuleOf self.new.cx.nodes head.now body.now c) }
         ensures grows { OnOk result (Grows self.old.cx self.new.cx) }
         ensures mode { self.new.mode ≡ self.old.mode }
         ensures names { self.new.names ≡ self.old.names }
@@ -204,6 +206,7 @@ fn variances_of(alloc: Global, params: &[Param]) -> Result<Vec<Variance>, AllocE
 /// The rule that a line says: its head holds where its body does.
 #[tactic(auto, using(crate::proofs::Asking::growing))]
 fn clause_of(cx: &mut Cx, head: &[Resolved], body: &[Resolved]) -> Result<Clause, Stop>
+    ensures rule { IfOk result (IsRuleFor cx.new.nodes head.now body.now) }
     ensures grows { Grows cx.old cx.new }
 {
     let mut variables = LineVariables::new(cx.alloc);
@@ -230,11 +233,14 @@ fn clause_of(cx: &mut Cx, head: &[Resolved], body: &[Resolved]) -> Result<Clause
 /// The predicates that these nodes say.
 #[tactic(auto, using(crate::proofs::Asking::growing))]
 fn conditions(cx: &mut Cx, body: &[Resolved], terms: Terms<'_>) -> Result<Vec<Predicate>, Stop>
+    ensures conditions { IfOk result (λ ps. AreConditions cx.new.nodes terms.entry.variables.now
+        terms.entry.values.now body.now ps.items) }
     ensures grows { Grows cx.old cx.new }
 {
+    let traits = trait_refs(cx, body, terms)?;
     let mut predicates = Vec::new(cx.alloc);
-    for trait_ref in trait_refs(cx, body, terms)? {
-        predicates.push(predicate_of(cx, trait_ref)?)?;
+    for trait_ref in &traits {
+        predicates.push(predicate_of(cx, *trait_ref)?)?;
     }
     Ok(predicates)
 }

@@ -1,7 +1,7 @@
 use Rattle.std.proofs.Common.{Some, ap, sym, subst, ◌∙◌}
 use Rattle.nts_store.proofs.Growing.{Extends-trans}
 use Rattle.nts_table.specs.TableLaws.{IsTable-extended}
-use Rattle.nts.specs.Meaning.{IsGoalOf}
+use Rattle.nts.specs.Meaning.{AreVariablesFrom, IsGoalOf}
 use Rattle.nts.proofs.Justifying.{justified}
 use Rattle.nts.proofs.Asking.{values-extended}
 use Rattle.nts.proofs.answer.ask.Goals as goal
@@ -15,7 +15,12 @@ evaluated-requires-clause-values c =
 
 pub returns-in-Some-Yes-clause-yes : goal.returns-in-Some-Yes-clause-yes
 returns-in-Some-Yes-clause-yes c =
+    let own = c.in_ok-see.ensures.own c.new-variables.ensures.own in
+    let numbered = rw c.new-table.ensures.entries at c.in_ok-values.ensures.variables c.evaluated.new.cx.nodes (Extends-trans c.in_ok-goal.ensures.grows.extends c.in_ok-evaluated.ensures.grows.extends) in
+    let placed = subst (λ ss. AreVariablesFrom 0 c.evaluated.new.cx.nodes ss c.in_ok-values.values.items) c.deref.ensures.value numbered in
+    let first = subst (AreVariablesFrom 0 c.evaluated.new.cx.nodes c.see.new.self.sorts.items) (sym c.deref-in-Some-Yes.ensures.value) placed in
     justified c.args.mode c.args.nodes.now _ _ _ _ c.args.clauses.now _ c.in_ok-goal.goal _ _ c.answer_of.result
+    own first
     (rw (c.in_ok-evaluated.ensures.mode, c.fresh_values.ensures.mode, c.new-table.ensures.mode) c.typing_mode.ensures)
     (Extends-trans c.in_ok-values.ensures.grows.extends c.in_ok-goal.ensures.grows.extends)
     (c.in_ok-evaluated.ensures.proved (c.in-Some-Yes.is ∙ ap Some c.in-Some-Yes.field-0-is)) (subst (λ vs. IsGoalOf c.evaluated.new.cx.nodes c.see.new.self vs c.args.nodes.now c.in_ok-goal.goal) (c.deref-2.ensures.value ∙ sym c.deref-in-Some-Yes.ensures.value) (c.in_ok-goal.ensures.asks _ c.in_ok-evaluated.ensures.grows.extends)) c.answer_of.ensures.variables c.answer_of.ensures.found
