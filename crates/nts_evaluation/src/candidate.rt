@@ -23,9 +23,7 @@ use nts_delegate::{CandidateData, Equation, RegionConstraint};
 use nts_model::{Relation, Sort};
 use nts_store::{EvalError, Fault, NodeId, instantiate_canonical};
 use nts_table::{InferCtxt, relate_nodes, resolve_nodes};
-use nts_terms::{
-    Cx, Goal, ParamEnv, Predicate, Region, Span, Ty, VisibleForLeakCheck,
-};
+use nts_terms::{Cx, Goal, ParamEnv, Predicate, Region, Span, Ty, VisibleForLeakCheck};
 
 /// What a store has are terms: each node has the children of its label.
 pub fn terms_are_formed(cx: &Cx)

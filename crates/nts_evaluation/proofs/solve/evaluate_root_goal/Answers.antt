@@ -26,5 +26,5 @@ returns-clause-proved g c =
     let e = c.evaluate_root-evaluated.ensures in
     let o = c.commit_if_ok.ensures in
     handed_on c.evaluate_root-evaluated.result c.commit_if_ok.result o.same o.ok e.proved (λ a kept proved y v.
-      let now = Stays-now c.terms_are_formed-2.ensures e.runs.goes.table (proved (record { base = c.args.cx.now.nodes; formed = c.terms_are_formed.ensures; extends = Extends-refl _; is_ready = c.requires.ready; variances = v }) y) in
-      rw (kept, ← c.start_snapshot.ensures.mode) (IsProved-held _ _ _ _ _ e.runs.goes.table.now.sound now))
+    let now = Stays-now c.terms_are_formed-2.ensures e.runs.goes.table (proved (record { base = c.args.cx.now.nodes; formed = c.terms_are_formed.ensures; extends = Extends-refl _; is_ready = c.requires.ready; variances = v }) y) in
+    rw (kept, ← c.start_snapshot.ensures.mode) (IsProved-held _ _ _ _ _ e.runs.goes.table.now.sound now))
