@@ -9,8 +9,8 @@ pub use nts_model::{
     UintTy, VariableKind, Variance,
 };
 pub use nts_store::{EvalError, Fault, NodeId};
-pub use nts_table::{InferCtxt, is_unbound};
 pub use nts_table::relating::Relate;
+pub use nts_table::{InferCtxt, is_unbound};
 pub use nts_terms::{
     AliasId, AliasKind, AliasTerm, Binder, BoundConst, BoundRegion, BoundTy, BoundVars, ClauseKind,
     Const, ConstId, ConstKind, CtorId, Cx, DefId, FnSig, GenericArg, GenericArgKind, GenericArgs,
