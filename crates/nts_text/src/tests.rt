@@ -316,9 +316,18 @@ fn declares(rt: HostRuntime) -> Result<(), Fail> {
         assert_eq!(rt; number, wanted);
         assert_eq!(rt; found, coinductive);
     }
-    assert!(rt; names.types[0].name.as_slice() == b"Fn".as_slice());
-    assert!(rt; names.types[0].sorts.as_slice() == [Sort::Ty, Sort::Region, Sort::Ty].as_slice());
-    assert!(rt; names.traits[0].sorts.as_slice() == [Sort::Ty, Sort::Region].as_slice());
-    assert!(rt; names.traits[1].name.as_slice() == b"T".as_slice());
+    let Some(function) = names.types.first() else {
+        return Err(Fail::from("no type is listed"));
+    };
+    assert!(rt; function.name.as_slice() == b"Fn".as_slice());
+    assert!(rt; function.sorts.as_slice() == [Sort::Ty, Sort::Region, Sort::Ty].as_slice());
+    let Some(first) = names.traits.first() else {
+        return Err(Fail::from("no trait is listed"));
+    };
+    assert!(rt; first.sorts.as_slice() == [Sort::Ty, Sort::Region].as_slice());
+    let Some(second) = names.traits.get(1) else {
+        return Err(Fail::from("one trait is listed"));
+    };
+    assert!(rt; second.name.as_slice() == b"T".as_slice());
     Ok(())
 }
