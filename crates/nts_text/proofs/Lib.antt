@@ -7,3 +7,6 @@ pub mod NodeLemmas
 pub mod SpellingLemmas
 pub mod NameLemmas
 pub mod ParamLemmas
+pub mod ComeLemmas
+pub mod FaultLemmas
+pub mod ArrowLemmas

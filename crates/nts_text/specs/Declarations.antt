@@ -57,10 +57,14 @@ unmarked s = record { sort = s; variance = variances.Covariant }
 abbrev pub IsTypeBody : List ℕ → List Token → List Param → Type 0
 IsTypeBody line ts params = ((ts ≡ []) × (params ≡ [])) ⊎ AreParams line ts params
 
+-- the last token is the word `coinductive`, behind these
+abbrev pub EndsInCoinductive : List ℕ → List Token → List Token → Type 0
+EndsInCoinductive line ts before =
+    (word : Token) × (ts ≡ before ++ word ∷ []) × (sign_of line word ≡ (Name, codes "coinductive"))
+
 -- the tokens behind the name of a trait: its sorts, with no marks, and `coinductive` behind them
 -- where it is so
 abbrev pub IsTraitBody : List ℕ → List Token → List Sort → Bool → Type 0
 IsTraitBody line ts given false = AreParams line ts (map unmarked given)
 IsTraitBody line ts given true =
-    (before : List Token) × (word : Token) × (ts ≡ before ++ word ∷ [])
-    × (sign_of line word ≡ (Name, codes "coinductive")) × AreParams line before (map unmarked given)
+    (before : List Token) × EndsInCoinductive line ts before × AreParams line before (map unmarked given)

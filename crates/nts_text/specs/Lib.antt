@@ -1,5 +1,6 @@
 pub mod Bytes
 pub mod Commands
+pub mod Faults
 pub mod Input
 pub mod Tokens
 pub mod Predicates

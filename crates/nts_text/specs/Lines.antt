@@ -65,6 +65,10 @@ Says line ts keywords.Impl (lines.Impl head body) = IsClause ts head.items body.
 Says line ts keywords.Goal (lines.Goal ns) = (are_predicates false ts ≡ true) × (ns.items ≡ written_nodes ts)
 Says line ts _ _ = ⊥
 
+-- the tokens behind a keyword say nothing
+abbrev pub SaysNothing : List ℕ → List Token → Keyword → Type 0
+SaysNothing line ts k = (l : Line) → Says line ts k l → ⊥
+
 -- the one token is a number that is no depth
 abbrev pub SaysTooMuch : List ℕ → List Token → Type 0
 SaysTooMuch line ts = (t : Token) × (ts ≡ t ∷ []) × (t.kind ≡ Number) × (65535 < decimal_value (bytes_of line t))

@@ -1,12 +1,10 @@
 //! Commands: lines whose names have become numbers.
 
-ghost use Rattle.std.specs.Prelude.{◌≡◌, ◌↔◌, true, Err, map, IfOk, IfErr, OnOk, OnErr, IfSome, IsNone};
+ghost use Rattle.std.specs.Prelude.{◌≡◌, ◌↔◌, map, IfOk, IfErr, OnOk, OnErr, IfSome, IsNone};
 ghost use Rattle.nts_text.specs.Commands.{IsSorted, IsMeant, IsCommandOf, Declares};
-ghost use Rattle.nts_text.specs.Lines.{IsPassedOver, HasNoKeyword, NamesAreInside};
-ghost use Rattle.nts_text.specs.Reasons.{is_name_reason};
+ghost use Rattle.nts_text.specs.Lines.{IsPassedOver, NamesAreInside};
+ghost use Rattle.nts_text.specs.Faults.{HasBadNames, IsFaultOf};
 ghost use Rattle.nts_text.specs.Spelled.{KeepsNumbers, KeepsNames};
-ghost use Rattle.nts_text.specs.declared.refusals.TextError.TheVariants.{Refused};
-ghost use Rattle.nts_text.specs.declared.refusals.Refusal.TheVariants.{UnknownCommand};
 
 use crate::lexer::tokens_of;
 use crate::names::{NameTable, Scope};
@@ -56,7 +54,7 @@ fn meaning(
     ensures means { IfOk result (IsMeant names.new scope.new line.now parsed) }
     ensures declares { OnOk result (Declares line.now names.old names.new parsed) }
     ensures kept { OnOk result (KeepsNames scope.old scope.new) }
-    ensures reasons { IfErr result (λ e. is_name_reason e ≡ true) }
+    ensures fault { IfErr result (λ e. HasBadNames names.old line.now e parsed) }
 {
     match parsed {
         Line::Mode(mode) => Ok(Command::Mode(mode)),
@@ -98,7 +96,7 @@ pub fn read_command(
 ) -> Result<Option<Command>, TextError>
     ensures passed { IfOk result (λ o. IsNone o ↔ IsPassedOver line.now) }
     ensures refused { OnErr result (IsPassedOver line.now → ⊥) }
-    ensures unknown { result ≡ Err (Refused UnknownCommand) → HasNoKeyword line.now }
+    ensures fault { IfErr result (IsFaultOf names.old line.now) }
     ensures sorted { IfOk result (λ o. IfSome o (IsSorted names.new)) }
     ensures said { IfOk result (λ o. IfSome o (IsCommandOf line.now names.old names.new scope.new)) }
     ensures names { IfOk result (λ o. IsNone o → names.new ≡ names.old) }

@@ -1,14 +1,13 @@
 //! The names that lines declare, and those that they only use.
 
-ghost use Rattle.std.specs.Prelude.{◌≡◌, ◌<◌, ◌++◌, ◌∷◌, [], None, Some, Err, true, ℕ, List, vec_len, map, IfSome, IfOk, IfErr, OnOk, IsNone};
+ghost use Rattle.std.specs.Prelude.{◌≡◌, ◌≢◌, ◌<◌, ◌++◌, ◌∷◌, [], None, Some, Err, true, ℕ, List, vec_len, map, IfSome, IfOk, IfErr, OnOk, IsNone};
 ghost use Rattle.std.specs.List.{list_all};
 ghost use Rattle.indexmap.specs.IndexMap.{values};
 ghost use Rattle.indexmap.specs.IndexSet.{index_set_len};
-ghost use Rattle.nts_text.specs.Reasons.{is_name_reason};
 ghost use Rattle.nts_text.specs.Spelled.{type_names, region_names, IsNumberOf, Lengthens};
 ghost use Rattle.nts_text.specs.Names.{is_numbered, IsNameOf};
 ghost use Rattle.nts_text.specs.declared.names.Declared.{Declared};
-ghost use Rattle.nts_text.specs.declared.refusals.TextError.TheVariants.{Refused};
+ghost use Rattle.nts_text.specs.declared.refusals.TextError.TheVariants.{Memory, Refused};
 ghost use Rattle.nts_text.specs.declared.refusals.Refusal.TheVariants.{NameDeclaredTwice};
 
 use crate::refusals::{Refusal, TextError};
@@ -96,11 +95,11 @@ impl NameTable {
         name: &[u8],
         sorts: Vec<Sort>,
     ) -> Result<usize, TextError>
-        ensures taken { result ≡ Err (Refused NameDeclaredTwice) → IsTaken self.old name.now }
+        ensures taken { IfErr result (λ e. e ≢ Memory → (e ≡ Refused NameDeclaredTwice) × IsTaken self.old name.now) }
+        ensures kept { result ≡ Err (Refused NameDeclaredTwice) → self.new ≡ self.old }
         ensures free { OnOk result (IsTaken self.old name.now → ⊥) }
         ensures declared { IfOk result (λ n. declared_as self.new name.now ≡ Some (Declared.Type n)) }
         ensures others { KeepsOthers self.old self.new name.now }
-        ensures reasons { IfErr result (λ e. is_name_reason e ≡ true) }
         ensures number { IfOk result (λ n. n ≡ vec_len self.old.types) }
         ensures listed { OnOk result (signatures self.new.types.items ≡ signatures self.old.types.items ++ (name.now, sorts.items) ∷ []) }
         ensures traits { self.new.traits ≡ self.old.traits }
@@ -123,11 +122,11 @@ impl NameTable {
         name: &[u8],
         sorts: Vec<Sort>,
     ) -> Result<usize, TextError>
-        ensures taken { result ≡ Err (Refused NameDeclaredTwice) → IsTaken self.old name.now }
+        ensures taken { IfErr result (λ e. e ≢ Memory → (e ≡ Refused NameDeclaredTwice) × IsTaken self.old name.now) }
+        ensures kept { result ≡ Err (Refused NameDeclaredTwice) → self.new ≡ self.old }
         ensures free { OnOk result (IsTaken self.old name.now → ⊥) }
         ensures declared { IfOk result (λ n. declared_as self.new name.now ≡ Some (Declared.Trait n)) }
         ensures others { KeepsOthers self.old self.new name.now }
-        ensures reasons { IfErr result (λ e. is_name_reason e ≡ true) }
         ensures number { IfOk result (λ n. n ≡ vec_len self.old.traits) }
         ensures listed { OnOk result (signatures self.new.traits.items ≡ signatures self.old.traits.items ++ (name.now, sorts.items) ∷ []) }
         ensures types { self.new.types ≡ self.old.types }

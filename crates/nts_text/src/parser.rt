@@ -1,17 +1,19 @@
 //! The grammar of a line.
 
-ghost use Rattle.std.specs.Prelude.{◌≡◌, ◌≢◌, ◌<◌, ◌≤◌, ◌↔◌, true, false, [], ◌∷◌, length, All, IfOk, IfErr, OnErr, IfSome, IsNone, IsErr, IsTrue, SomeIff, codes, map};
+ghost use Rattle.std.specs.Prelude.{◌≡◌, ◌≢◌, ◌<◌, ◌≤◌, ◌↔◌, true, false, [], ◌∷◌, length, All, IfOk, IfErr, OnErr, IfSome, IsSomeAnd, IsNone, IsErr, List, IsTrue, SomeIff, codes, map, slice_get, take};
 ghost use Rattle.nts_text.specs.Bytes.{decimal_value};
 ghost use Rattle.nts_text.specs.Tokens.{IsInside};
 ghost use Rattle.nts_text.specs.Predicates.{are_predicates};
 ghost use Rattle.nts_text.specs.Reasons.{is_form_reason};
-ghost use Rattle.nts_text.specs.Declarations.{AreParams, sign_of, unmarked, word_of_sort};
-ghost use Rattle.nts_text.specs.Lines.{word_of_keyword, word_of_mode, bytes_of, IsPassedOver, BeginsWithKeyword, HasNoKeyword, NamesAreInside, Says, SaysTooMuch};
+ghost use Rattle.nts_text.specs.Declarations.{AreParams, EndsInCoinductive, sign_of, unmarked, word_of_sort};
+ghost use Rattle.nts_text.specs.Lines.{word_of_keyword, word_of_mode, bytes_of, IsPassedOver, BeginsWithKeyword, HasNoKeyword, NamesAreInside, Says, SaysNothing, SaysTooMuch};
 ghost use Rattle.nts_text.specs.declared.refusals.TextError.TheVariants.{Refused};
 ghost use Rattle.nts_text.specs.declared.refusals.Refusal.TheVariants.{Syntax, NumberOutOfRange, UnknownCommand};
 ghost use Rattle.nts_text.specs.declared.lexer.Token.{Token};
 ghost use Rattle.nts_text.specs.declared.parser.Keyword.{Keyword};
 ghost use Rattle.nts_text.specs.declared.parser.Mode.{Mode};
+ghost use Rattle.nts_text.specs.declared.parser.Param.{Param};
+ghost use Rattle.nts_model.specs.declared.labels.Sort.{Sort};
 
 use crate::lexer::{Token, TokenKind, skip_blanks, token_at};
 use crate::predicates::{Node, predicates_of};
@@ -138,7 +140,8 @@ fn mode_of(word: &[u8]) -> Option<Mode>
 }
 
 fn sort_of(word: &[u8]) -> Option<Sort>
-    ensures { IfSome result (λ s. word.now ≡ word_of_sort s) }
+    ensures found { IfSome result (λ s. word.now ≡ word_of_sort s) }
+    ensures none { IsNone result → (s : Sort) → word.now ≡ word_of_sort s → word.now ≡ [] }
 {
     match word {
         b"type" => Some(Sort::Ty),
@@ -152,6 +155,7 @@ fn param_of(line: &[u8], word: Token, variance: Variance) -> Option<Param>
     requires { IsInside line.now word }
     ensures sort { IfSome result (λ p. bytes_of line.now word ≡ word_of_sort p.sort) }
     ensures variance { IfSome result (λ p. p.variance ≡ variance) }
+    ensures none { IsNone result → (s : Sort) → bytes_of line.now word ≢ word_of_sort s }
 {
     Some(Param {
         sort: sort_of(text(line, word))?,
@@ -177,7 +181,8 @@ enum Place {
 /// The parameters that stand in brackets, or `None` if these tokens are none.
 fn params_of(alloc: Global, line: &[u8], tokens: &[Token]) -> Result<Option<Vec<Param>>, AllocError>
     requires { All (IsInside line.now) tokens.now }
-    ensures { IfOk result (λ o. IfSome o (λ ps. AreParams line.now tokens.now ps.items)) }
+    ensures params { IfOk result (λ o. IfSome o (λ ps. AreParams line.now tokens.now ps.items)) }
+    ensures only { IfOk result (λ o. (ps : List Param) → AreParams line.now tokens.now ps → IsSomeAnd o (λ qs. qs.items ≡ ps)) }
 {
     let mut params = Vec::new(alloc);
     let mut place = Place::Bracket;
@@ -215,7 +220,8 @@ fn params_of(alloc: Global, line: &[u8], tokens: &[Token]) -> Result<Option<Vec<
 /// The sorts that stand in brackets, or `None` if these tokens are none.
 fn sorts_of(alloc: Global, line: &[u8], tokens: &[Token]) -> Result<Option<Vec<Sort>>, AllocError>
     requires { All (IsInside line.now) tokens.now }
-    ensures { IfOk result (λ o. IfSome o (λ v. AreParams line.now tokens.now (map unmarked v.items))) }
+    ensures sorts { IfOk result (λ o. IfSome o (λ v. AreParams line.now tokens.now (map unmarked v.items))) }
+    ensures none { IfOk result (λ o. IsNone o → (ss : List Sort) → AreParams line.now tokens.now (map unmarked ss) → ⊥) }
 {
     let Some(params) = params_of(alloc, line, tokens)? else {
         return Ok(None);
@@ -235,6 +241,7 @@ fn mode_line(line: &[u8], tokens: &[Token]) -> Option<Line>
     requires { All (IsInside line.now) tokens.now }
     ensures says { IfSome result (Says line.now tokens.now Keyword.Mode) }
     ensures inside { IfSome result (NamesAreInside line.now) }
+    ensures none { IsNone result → SaysNothing line.now tokens.now Keyword.Mode }
 {
     let [word] = tokens else {
         return None;
@@ -262,6 +269,7 @@ fn type_line(alloc: Global, line: &[u8], tokens: &[Token]) -> Result<Option<Line
     requires { All (IsInside line.now) tokens.now }
     ensures says { IfOk result (λ o. IfSome o (Says line.now tokens.now Keyword.Type)) }
     ensures inside { IfOk result (λ o. IfSome o (NamesAreInside line.now)) }
+    ensures none { IfOk result (λ o. IsNone o → SaysNothing line.now tokens.now Keyword.Type) }
 {
     let [name, rest @ ..] = tokens else {
         return Ok(None);
@@ -286,15 +294,31 @@ fn type_line(alloc: Global, line: &[u8], tokens: &[Token]) -> Result<Option<Line
 
 fn is_coinductive(line: &[u8], token: Token) -> bool
     requires { IsInside line.now token }
-    ensures { IsTrue result → sign_of line.now token ≡ (TokenKind.Name, codes "coinductive") }
+    ensures { IsTrue result ↔ (sign_of line.now token ≡ (TokenKind.Name, codes "coinductive")) }
 {
     token.kind == TokenKind::Name && text(line, token) == b"coinductive".as_slice()
+}
+
+/// What stands before a last word `coinductive`.
+fn before_coinductive<'a>(line: &[u8], tokens: &'a [Token]) -> Option<&'a [Token]>
+    requires { All (IsInside line.now) tokens.now }
+    ensures found { IfSome result (λ list. EndsInCoinductive line.now tokens.now list.now) }
+    ensures none { IsNone result → (list : List Token) → EndsInCoinductive line.now tokens.now list → ⊥ }
+    ensures inside { IfSome result (λ list. All (IsInside line.now) list.now) }
+{
+    let (word, list) = tokens.split_last()?;
+    if is_coinductive(line, *word) {
+        Some(list)
+    } else {
+        None
+    }
 }
 
 fn trait_line(alloc: Global, line: &[u8], tokens: &[Token]) -> Result<Option<Line>, AllocError>
     requires { All (IsInside line.now) tokens.now }
     ensures says { IfOk result (λ o. IfSome o (Says line.now tokens.now Keyword.Trait)) }
     ensures inside { IfOk result (λ o. IfSome o (NamesAreInside line.now)) }
+    ensures none { IfOk result (λ o. IsNone o → SaysNothing line.now tokens.now Keyword.Trait) }
 {
     let [name, rest @ ..] = tokens else {
         return Ok(None);
@@ -302,9 +326,9 @@ fn trait_line(alloc: Global, line: &[u8], tokens: &[Token]) -> Result<Option<Lin
     if name.kind != TokenKind::Name {
         return Ok(None);
     }
-    let (list, coinductive) = match rest {
-        [list @ .., word] if is_coinductive(line, *word) => (list, true),
-        _ => (rest, false),
+    let (list, coinductive) = match before_coinductive(line, rest) {
+        Some(list) => (list, true),
+        None => (rest, false),
     };
     match sorts_of(alloc, line, list)? {
         Some(sorts) => Ok(Some(Line::Trait {
@@ -316,17 +340,27 @@ fn trait_line(alloc: Global, line: &[u8], tokens: &[Token]) -> Result<Option<Lin
     }
 }
 
+/// The place of the first arrow.
+fn arrow_of(tokens: &[Token]) -> Option<usize>
+    ensures inside { IfSome result (λ at. at < length tokens.now) }
+    ensures found { IfSome result (λ at. IfSome (slice_get tokens.now at) (λ t. t.kind ≡ TokenKind.Arrow)) }
+    ensures first { IfSome result (λ at. All (λ t. t.kind ≢ TokenKind.Arrow) (take at tokens.now)) }
+    ensures none { IsNone result → All (λ t. t.kind ≢ TokenKind.Arrow) tokens.now }
+{
+    tokens
+        .iter()
+        .position(|token| token.kind == TokenKind::Arrow)
+}
+
 /// A clause: a predicate, and the predicates behind `<-` if that is there.
 #[tactic(auto, using(crate::proofs::NodeLemmas::inside_nodes, crate::proofs::NodeLemmas::inside_nodes_take, crate::proofs::NodeLemmas::inside_nodes_drop))]
 fn impl_line(alloc: Global, line: &[u8], tokens: &[Token]) -> Result<Option<Line>, AllocError>
     requires { All (IsInside line.now) tokens.now }
     ensures says { IfOk result (λ o. IfSome o (Says line.now tokens.now Keyword.Impl)) }
     ensures inside { IfOk result (λ o. IfSome o (NamesAreInside line.now)) }
+    ensures none { IfOk result (λ o. IsNone o → SaysNothing line.now tokens.now Keyword.Impl) }
 {
-    let Some(at) = tokens
-        .iter()
-        .position(|token| token.kind == TokenKind::Arrow)
-    else {
+    let Some(at) = arrow_of(tokens) else {
         return match predicates_of(alloc, tokens, false)? {
             Some(head) => Ok(Some(Line::Impl {
                 head,
@@ -369,7 +403,8 @@ pub fn line_of(
     ensures says { IfOk result (Says line.now tokens.now keyword) }
     ensures inside { IfOk result (NamesAreInside line.now) }
     ensures reasons { IfErr result (λ e. is_form_reason e ≡ true) }
-    ensures range { result ≡ Err (Refused NumberOutOfRange) → SaysTooMuch line.now tokens.now }
+    ensures syntax { result ≡ Err (Refused Syntax) → SaysNothing line.now tokens.now keyword }
+    ensures range { result ≡ Err (Refused NumberOutOfRange) → (keyword ≡ Keyword.Depth) × SaysTooMuch line.now tokens.now }
     ensures depth { keyword ≡ Keyword.Depth → IsErr result → (t : Token) → tokens.now ≡ t ∷ [] → t.kind ≡ TokenKind.Number → 65535 < decimal_value (bytes_of line.now t) }
     ensures goal { keyword ≡ Keyword.Goal → result ≡ Err (Refused Syntax) → are_predicates false tokens.now ≡ false }
 {

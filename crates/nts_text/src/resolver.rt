@@ -3,7 +3,8 @@
 ghost use Rattle.std.specs.Prelude.{◌≡◌, ◌≢◌, true, None, Some, Err, ◌++◌, [], length, vec_len, reverse, All, IfOk, IfErr, OnOk, MatchResult};
 ghost use Rattle.std.specs.List.{AllZip};
 ghost use Rattle.nts_text.specs.Lines.{bytes_of};
-ghost use Rattle.nts_text.specs.NameTable.{StandsFor};
+ghost use Rattle.nts_text.specs.NameTable.{IsTaken, StandsFor};
+ghost use Rattle.nts_text.specs.Faults.{HasFreeName};
 ghost use Rattle.nts_text.specs.Spelled.{KeepsNames};
 ghost use Rattle.nts_text.specs.Names.{is_numbered};
 ghost use Rattle.nts_text.specs.Reasons.{is_name_reason};
@@ -11,7 +12,7 @@ ghost use Rattle.nts_text.specs.Tokens.{IsInside};
 ghost use Rattle.nts_text.specs.Resolution.{argument_sorts, sort_of, IsDeclared, IsMeaningOf, AreSorted};
 ghost use Rattle.nts_text.specs.declared.names.Scope.{Scope};
 ghost use Rattle.nts_text.specs.declared.refusals.TextError.TheVariants.{Refused};
-ghost use Rattle.nts_text.specs.declared.refusals.Refusal.TheVariants.{ParameterInAClause};
+ghost use Rattle.nts_text.specs.declared.refusals.Refusal.TheVariants.{NameDeclaredTwice, ParameterInAClause, UnknownName};
 
 use crate::lexer::TokenKind;
 use crate::names::{Declared, NameTable, Scope, Signature};
@@ -52,8 +53,7 @@ fn refused<T>(refusal: Refusal) -> Result<T, TextError>
 /// What the name of a node stands for.
 fn declared(names: &NameTable, line: &[u8], node: Node) -> Result<Declared, TextError>
     requires { IsInside line.now node.token }
-    ensures reasons { IfErr result (λ e. is_name_reason e ≡ true) }
-    ensures reason { result ≢ Err (Refused ParameterInAClause) }
+    ensures unknown { IfErr result (λ e. (e ≡ Refused UnknownName) × (IsTaken names.now (bytes_of line.now node.token) → ⊥)) }
     ensures numbered { IfOk result (λ d. is_numbered (vec_len names.now.types) (vec_len names.now.traits) d ≡ true) }
     ensures found { IfOk result (StandsFor names.now (bytes_of line.now node.token)) }
 {
@@ -71,6 +71,8 @@ fn predicate(names: &NameTable, line: &[u8], node: Node) -> Result<Resolved, Tex
     ensures means { (scope : Scope) → IfOk result (IsMeaningOf names.now scope line.now node) }
     ensures reasons { IfErr result (λ e. is_name_reason e ≡ true) }
     ensures reason { result ≢ Err (Refused ParameterInAClause) }
+    ensures unknown { result ≡ Err (Refused UnknownName) → IsTaken names.now (bytes_of line.now node.token) → ⊥ }
+    ensures declares { result ≢ Err (Refused NameDeclaredTwice) }
 {
     let Declared::Trait(number) = declared(names, line, node)? else {
         return refused(Refusal::WrongArguments);
@@ -92,6 +94,8 @@ fn named_type(names: &NameTable, line: &[u8], node: Node) -> Result<Resolved, Te
     ensures means { (scope : Scope) → IfOk result (IsMeaningOf names.now scope line.now node) }
     ensures reasons { IfErr result (λ e. is_name_reason e ≡ true) }
     ensures reason { result ≢ Err (Refused ParameterInAClause) }
+    ensures unknown { result ≡ Err (Refused UnknownName) → IsTaken names.now (bytes_of line.now node.token) → ⊥ }
+    ensures declares { result ≢ Err (Refused NameDeclaredTwice) }
 {
     let (found, wanted) = match declared(names, line, node)? {
         Declared::Int(int) => (Resolved::Int(int), 0),
@@ -140,6 +144,8 @@ impl Reading<'_> {
         ensures kept { KeepsNames scope.old scope.new }
         ensures reasons { IfErr result (λ e. is_name_reason e ≡ true) }
         ensures parameter { result ≡ Err (Refused ParameterInAClause) → self.now.site ≡ Site.Clause }
+        ensures unknown { result ≡ Err (Refused UnknownName) → IsTaken self.now.names.now (bytes_of self.now.line.now node.token) → ⊥ }
+        ensures declares { result ≢ Err (Refused NameDeclaredTwice) }
     {
         let name = text(self.line, node.token);
         match node.token.kind {
@@ -164,6 +170,8 @@ impl Reading<'_> {
         ensures kept { KeepsNames scope.old scope.new }
         ensures reasons { IfErr result (λ e. is_name_reason e ≡ true) }
         ensures parameter { result ≡ Err (Refused ParameterInAClause) → self.now.site ≡ Site.Clause }
+        ensures unknown { result ≡ Err (Refused UnknownName) → IsTaken self.now.names.now (bytes_of self.now.line.now node.token) → ⊥ }
+        ensures declares { result ≢ Err (Refused NameDeclaredTwice) }
     {
         let name = text(self.line, node.token);
         match node.token.kind {
@@ -197,6 +205,8 @@ impl Reading<'_> {
         ensures kept { KeepsNames scope.old scope.new }
         ensures reasons { IfErr result (λ e. is_name_reason e ≡ true) }
         ensures parameter { result ≡ Err (Refused ParameterInAClause) → self.now.site ≡ Site.Clause }
+        ensures unknown { result ≡ Err (Refused UnknownName) → IsTaken self.now.names.now (bytes_of self.now.line.now node.token) → ⊥ }
+        ensures declares { result ≢ Err (Refused NameDeclaredTwice) }
     {
         match wanted {
             None => predicate(self.names, self.line, node),
@@ -249,6 +259,8 @@ pub fn resolve_nodes(
     ensures kept { KeepsNames scope.old scope.new }
     ensures reasons { IfErr result (λ e. is_name_reason e ≡ true) }
     ensures parameter { result ≡ Err (Refused ParameterInAClause) → site ≡ Site.Clause }
+    ensures unknown { result ≡ Err (Refused UnknownName) → HasFreeName names.now line.now nodes.now }
+    ensures declares { result ≢ Err (Refused NameDeclaredTwice) }
 {
     let reading = Reading {
         alloc,

@@ -1,4 +1,6 @@
-use Rattle.std.proofs.Common.{◌≡◌, [], reverse, drop, subst, sym, ap, arith, ◌∙◌}
+use Rattle.std.proofs.lemmas.Option.{slice_get-get_or}
+use Rattle.nts_text.proofs.FaultLemmas.{unknown_on}
+use Rattle.std.proofs.Common.{◌≡◌, Err, [], reverse, drop, subst, sym, ap, arith, ◌∙◌}
 use Rattle.std.proofs.lemmas.Grind.{common_steps}
 use Rattle.std.proofs.lemmas.List.{append-nil, take_all}
 use Rattle.std.proofs.lemmas.List.Elements.{All-nil, All-cons, All-append}
@@ -45,3 +47,9 @@ returns-then-is_empty-clause-kept c = c.loop-node.invariant.kept
 
 pub returns-clause-kept : goal.returns-clause-kept
 returns-clause-kept c = c.loop-node.invariant.kept
+
+-- the node whose name is free
+pub returns-in_err-resolved-clause-unknown : goal.returns-in_err-resolved-clause-unknown
+returns-in_err-resolved-clause-unknown c =
+    unknown_on c.from_residual.result c.in_err-resolved.field-0.0 _ c.from_residual.ensures.1
+    (λ e. (c.loop-node.node-index, _, slice_get-get_or c.args.nodes.now c.loop-node.node-index _ c.loop-node-test.true, c.in_err-resolved.ensures.unknown (ap Err e)))

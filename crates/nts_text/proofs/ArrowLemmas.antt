@@ -1,0 +1,90 @@
+-- Where the arrow of a clause stands.
+use Rattle.std.proofs.Common.{◌≡◌, ◌≢◌, ℕ, zero, suc, ◌<◌, Bool, true, false, ◌&&◌, nat_lt, List, [], ◌∷◌, ◌++◌, inl, inr, All, length, take, drop, get_or, refl, sym, ap, subst, ◌∙◌, arith}
+use Rattle.std.specs.Prelude.{IfSome, slice_get}
+use Rattle.std.proofs.lemmas.Option.{slice_get-get_or}
+use Rattle.std.proofs.lemmas.List.Elements.{All-nil, All-cons, All-head, All-tail}
+use Rattle.nts_text.specs.Lines.{SaysNothing}
+use Rattle.nts_text.specs.Predicates.{is_marked, may_follow, depth_behind, continues, are_predicates}
+use Rattle.nts_text.specs.declared.lexer.Token.{Token}
+use Rattle.nts_text.specs.declared.lexer.TokenKind.{TokenKind}
+use Rattle.nts_text.specs.declared.lexer.TokenKind.TheVariants.{Name, Open, Close, Comma, Arrow}
+use Rattle.nts_text.specs.declared.parser.Keyword.TheVariants as keywords
+use Rattle.nts_text.specs.declared.parser.Line.TheVariants as lines
+
+abbrev pub IsNoArrow : Token → Type 0
+IsNoArrow t = t.kind ≢ Arrow
+
+and_false : (b : Bool) → b && false ≡ false
+and_false true = refl
+and_false false = refl
+
+both : (a b : Bool) → a && b ≡ true → (a ≡ true) × (b ≡ true)
+both true b h = (refl, h)
+both false b h = cc
+
+-- no arrow follows in predicates
+never_follows : (many : Bool) (depth : ℕ) (k : TokenKind) → may_follow many depth k Arrow ≡ false
+never_follows many depth Open = refl
+never_follows many depth Comma = and_false (nat_lt 0 depth)
+never_follows many depth Name = and_false (nat_lt 0 depth)
+never_follows many depth Close = refl
+never_follows many depth k = and_false (is_marked k)
+
+continues_without : (many : Bool) (depth : ℕ) (k : TokenKind) (ts : List Token) → continues many depth k ts ≡ true → All IsNoArrow ts
+continues_without many depth k [] h = All-nil IsNoArrow
+continues_without many depth k (t ∷ ts) h =
+    let e = both (may_follow many depth k t.kind) (continues many (depth_behind depth t.kind) t.kind ts) h in
+    All-cons IsNoArrow t ts (λ arrow. let f : true ≡ false = sym e.0 ∙ ap (may_follow many depth k) arrow ∙ never_follows many depth k in cc)
+    (continues_without many (depth_behind depth t.kind) t.kind ts e.1)
+
+holds_between : (P : Token → Type 0) (xs : List Token) (t : Token) (ys : List Token) → All P (xs ++ t ∷ ys) → P t
+holds_between P [] t ys h = All-head P t ys h
+holds_between P (x ∷ xs) t ys h = holds_between P xs t ys (All-tail P x (xs ++ t ∷ ys) h)
+
+-- the first arrow parts tokens in one way
+parted : (before after : List Token) (t : Token) (at : ℕ) → All IsNoArrow before → t.kind ≡ Arrow
+    → IfSome (slice_get (before ++ t ∷ after) at) (λ u. u.kind ≡ Arrow) → All IsNoArrow (take at (before ++ t ∷ after))
+    → (before ≡ take at (before ++ t ∷ after)) × (after ≡ drop (suc at) (before ++ t ∷ after))
+parted [] after t zero none arrow here first = (refl, refl)
+parted [] after t (suc at) none arrow here first = absurd (All-head IsNoArrow t (take at after) first arrow)
+parted (b ∷ bs) after t zero none arrow here first = absurd (All-head IsNoArrow b bs none here)
+parted (b ∷ bs) after t (suc at) none arrow here first =
+    let e = parted bs after t at (All-tail IsNoArrow b bs none) arrow here (All-tail IsNoArrow b (take at (bs ++ t ∷ after)) first) in
+    (ap (λ xs. b ∷ xs) e.0, e.1)
+
+-- the tokens before an arrow, and those behind it
+pub parts_at : (ts : List Token) (at : ℕ) → at < length ts → IfSome (slice_get ts at) (λ t. t.kind ≡ Arrow) → (t : Token) × (ts ≡ take at ts ++ t ∷ drop (suc at) ts) × (t.kind ≡ Arrow)
+parts_at [] at lt here = absurd (omega (arith, lt))
+parts_at (t ∷ ts) zero lt here = (t, refl, here)
+parts_at (t ∷ ts) (suc at) lt here =
+    let e = parts_at ts at (omega (arith, lt)) here in
+    (e.0, ap (λ xs. t ∷ xs) e.1, e.2)
+
+module _ (line : List ℕ) (ts : List Token) where
+  -- no clause is said where there is no arrow and the tokens are no predicate
+  pub says_no_fact : All IsNoArrow ts → are_predicates false ts ≡ false → SaysNothing line ts keywords.Impl
+  says_no_fact none fails (lines.Mode m) says = says
+  says_no_fact none fails (lines.Depth d) says = says
+  says_no_fact none fails (lines.Type name params) says = says
+  says_no_fact none fails (lines.Trait name sorts coinductive) says = says
+  says_no_fact none fails (lines.Goal ns) says = says
+  says_no_fact none fails (lines.Impl head body) (inl h) = let f : true ≡ false = sym h.0 ∙ fails in cc
+  says_no_fact none fails (lines.Impl head body) (inr (before, after, t, parts, arrow, is, head_is, are, body_is)) =
+      holds_between IsNoArrow before t after (subst (All IsNoArrow) parts none) arrow
+
+  -- .. or where there is one, and not predicates before and behind it
+  pub says_no_rule : (at : ℕ) → at < length ts → IfSome (slice_get ts at) (λ t. t.kind ≡ Arrow) → All IsNoArrow (take at ts)
+      → (are_predicates false (take at ts) ≡ true → are_predicates true (drop (suc at) ts) ≡ true → ⊥) → SaysNothing line ts keywords.Impl
+  says_no_rule at lt here first fails (lines.Mode m) says = says
+  says_no_rule at lt here first fails (lines.Depth d) says = says
+  says_no_rule at lt here first fails (lines.Type name params) says = says
+  says_no_rule at lt here first fails (lines.Trait name sorts coinductive) says = says
+  says_no_rule at lt here first fails (lines.Goal ns) says = says
+  says_no_rule at lt here first fails (lines.Impl head body) (inl h) =
+      let d : Token = record { kind = Name; start = 0; end = 0 } in
+      let arrow : (get_or ts at d).kind ≡ Arrow = subst (λ o. IfSome o (λ t. t.kind ≡ Arrow)) (slice_get-get_or ts at d lt) here in
+      continues_without false 0 Comma ts h.0 at d lt arrow
+  says_no_rule at lt here first fails (lines.Impl head body) (inr (before, after, t, parts, arrow, is, head_is, are, body_is)) =
+      let e = parted before after t at (continues_without false 0 Comma before is) arrow
+      (subst (λ xs. IfSome (slice_get xs at) (λ u. u.kind ≡ Arrow)) parts here) (subst (λ xs. All IsNoArrow (take at xs)) parts first) in
+      fails (ap (are_predicates false) (ap (take at) parts ∙ sym e.0) ∙ is) (ap (are_predicates true) (ap (drop (suc at)) parts ∙ sym e.1) ∙ are)

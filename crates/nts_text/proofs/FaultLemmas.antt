@@ -1,0 +1,120 @@
+-- What lines do not say, and why they are refused.
+use Rattle.std.proofs.Common.{◌≡◌, ◌≢◌, ℕ, ◌-◌, true, false, List, [], ◌∷◌, ◌++◌, inl, inr, length, map, take, drop, refl, sym, ap, subst, ◌∙◌, arith}
+use Rattle.std.specs.Prelude.{codes, Result, Ok, Err, IsErrAnd, IfErr}
+use Rattle.std.proofs.lemmas.List.{map-append, take_all, length-drop}
+use Rattle.nts_model.specs.declared.labels.Sort.{Sort}
+use Rattle.nts_text.specs.Declarations.{sign_of, signs_of_params, unmarked, AreParams, EndsInCoinductive}
+use Rattle.nts_text.specs.Faults.{HasBadNames, IsFaultOf}
+use Rattle.nts_text.specs.Lines.{BeginsWithKeyword, Says, SaysNothing, SaysTooMuch}
+use Rattle.nts_text.specs.Reasons.{is_form_reason}
+use Rattle.nts_text.specs.Tokens.{AreTokensFrom, HasStrayByte}
+use Rattle.nts_text.specs.declared.lexer.Token.{Token}
+use Rattle.nts_text.specs.declared.lexer.TokenKind.TheVariants.{Name, Close, Open}
+use Rattle.nts_text.specs.declared.names.NameTable.{NameTable}
+use Rattle.nts_text.specs.declared.parser.Keyword.{Keyword}
+use Rattle.nts_text.specs.declared.parser.Keyword.TheVariants as keywords
+use Rattle.nts_text.specs.declared.parser.Line.{Line}
+use Rattle.nts_text.specs.declared.parser.Line.TheVariants as lines
+use Rattle.nts_text.specs.declared.parser.Param.{Param}
+use Rattle.nts_text.specs.declared.refusals.Refusal.TheVariants as reasons
+use Rattle.nts_text.specs.declared.refusals.TextError.{TextError}
+use Rattle.nts_text.specs.declared.refusals.TextError.TheVariants.{Memory, Refused}
+
+-- lists with the same end
+last_same : {A : Type 0} (xs ys : List A) (a b : A) → xs ++ a ∷ [] ≡ ys ++ b ∷ [] → (xs ≡ ys) × (a ≡ b)
+last_same [] [] a b h = (refl, cc)
+last_same [] (y ∷ []) a b h = cc
+last_same [] (y ∷ z ∷ ys) a b h = cc
+last_same (x ∷ []) [] a b h = cc
+last_same (x ∷ z ∷ xs) [] a b h = cc
+last_same (x ∷ xs) (y ∷ ys) a b h =
+    let rest : xs ++ a ∷ [] ≡ ys ++ b ∷ [] = cc in
+    let first : x ≡ y = cc in
+    let e = last_same xs ys a b rest in
+    (ap (λ z. z ∷ xs) first ∙ ap (λ zs. y ∷ zs) e.0, e.1)
+
+-- parameters end in a bracket, and not in a word
+closed : (line : List ℕ) (before : List Token) (word : Token) (ps : List Param) (w : List ℕ) → sign_of line word ≡ (Name, w) → AreParams line (before ++ word ∷ []) ps → ⊥
+closed line before word [] w s h = h
+closed line before word (p ∷ ps) w s h =
+    let e = last_same (map (sign_of line) before) ((Open, []) ∷ signs_of_params p ps) (sign_of line word) (Close, []) (sym (map-append (sign_of line) before (word ∷ [])) ∙ h) in
+    let f : Name ≡ Close = ap (λ x. x.0) (sym s ∙ e.1) in
+    cc
+
+-- a trait's line says nothing where what stands before `coinductive` is no list of sorts
+pub no_coinductive_trait : (line : List ℕ) (ts rest list : List Token) → rest ≡ drop 1 ts → EndsInCoinductive line rest list
+    → ((ss : List Sort) → AreParams line list (map unmarked ss) → ⊥) → SaysNothing line ts keywords.Trait
+no_coinductive_trait line ts rest list r ends none (lines.Mode m) says = says
+no_coinductive_trait line ts rest list r ends none (lines.Depth d) says = says
+no_coinductive_trait line ts rest list r ends none (lines.Type name params) says = says
+no_coinductive_trait line ts rest list r ends none (lines.Impl head body) says = says
+no_coinductive_trait line ts rest list r ends none (lines.Goal ns) says = says
+no_coinductive_trait line ts rest list r ends none (lines.Trait name sorts true) says =
+    let (others, all, named, body) = says in
+    let same : others ≡ rest = ap (drop 1) (sym all) ∙ sym r in
+    let e = last_same body.0 list body.1.0 ends.0 (sym body.1.1 ∙ same ∙ ends.1) in
+    none sorts.items (subst (λ xs. AreParams line xs (map unmarked sorts.items)) e.0 body.2)
+no_coinductive_trait line ts rest list r ends none (lines.Trait name sorts false) says =
+    let (others, all, named, are) = says in
+    let same : others ≡ list ++ ends.0 ∷ [] = ap (drop 1) (sym all) ∙ sym r ∙ ends.1 in
+    closed line list ends.0 (map unmarked sorts.items) (codes "coinductive") ends.2 (subst (λ xs. AreParams line xs (map unmarked sorts.items)) same are)
+
+-- .. or where there is no `coinductive`, and the whole is none
+pub no_trait : (line : List ℕ) (ts rest : List Token) → rest ≡ drop 1 ts → ((list : List Token) → EndsInCoinductive line rest list → ⊥)
+    → ((ss : List Sort) → AreParams line rest (map unmarked ss) → ⊥) → SaysNothing line ts keywords.Trait
+no_trait line ts rest r other none (lines.Mode m) says = says
+no_trait line ts rest r other none (lines.Depth d) says = says
+no_trait line ts rest r other none (lines.Type name params) says = says
+no_trait line ts rest r other none (lines.Impl head body) says = says
+no_trait line ts rest r other none (lines.Goal ns) says = says
+no_trait line ts rest r other none (lines.Trait name sorts true) says =
+    let (others, all, named, body) = says in
+    let same : others ≡ rest = ap (drop 1) (sym all) ∙ sym r in
+    other body.0 (body.1.0, sym same ∙ body.1.1, body.1.2)
+no_trait line ts rest r other none (lines.Trait name sorts false) says =
+    let (others, all, named, are) = says in
+    let same : others ≡ rest = ap (drop 1) (sym all) ∙ sym r in
+    none sorts.items (subst (λ xs. AreParams line xs (map unmarked sorts.items)) same are)
+
+-- what stands behind the first token
+pub rest_is : (ts : List Token) → take (length ts - 1) (drop 1 ts) ≡ drop 1 ts
+rest_is ts = take_all (length ts - 1) (drop 1 ts) (omega (arith, length-drop 1 ts))
+
+-- why a call fails is passed on
+pub passed_on : {T : Type 0} (r : Result T TextError) (e : TextError) (P : TextError → Type 0) → IsErrAnd r (λ x. x ≡ e) → P e → IfErr r P
+passed_on (Ok x) e P h k = tt
+passed_on (Err x) e P h k = subst P (sym h) k
+
+-- .. and so is what an unknown name says
+pub unknown_on : {T : Type 0} (r : Result T TextError) (e : TextError) (A : Type 0) → IsErrAnd r (λ x. x ≡ e) → (e ≡ Refused reasons.UnknownName → A) → r ≡ Err (Refused reasons.UnknownName) → A
+unknown_on (Ok x) e A h k is = cc
+unknown_on (Err x) e A h k is = k (sym h ∙ (let f : x ≡ Refused reasons.UnknownName = cc in f))
+
+-- a byte of no token
+pub fault_of_byte : (names : NameTable) (line : List ℕ) (k : Keyword) (end : ℕ) (e : TextError) → BeginsWithKeyword line k end
+    → (e ≢ Memory → (e ≡ Refused reasons.Syntax) × HasStrayByte line end) → IsFaultOf names line e
+fault_of_byte names line k end Memory begins h = tt
+fault_of_byte names line k end (Refused reasons.Syntax) begins h = record { keyword = k; end = end; begins = begins; nothing = inl (h (λ m. cc)).1 }
+fault_of_byte names line k end (Refused r) begins h = absurd (let e : Refused r ≡ Refused reasons.Syntax = (h (λ m. cc)).0 in cc)
+
+-- tokens that say nothing, or a number that is no depth
+pub fault_of_form : (names : NameTable) (line : List ℕ) (k : Keyword) (end : ℕ) (ts : List Token) (e : TextError) → BeginsWithKeyword line k end → AreTokensFrom line end ts
+    → is_form_reason e ≡ true → (e ≡ Refused reasons.Syntax → SaysNothing line ts k) → (e ≡ Refused reasons.NumberOutOfRange → (k ≡ keywords.Depth) × SaysTooMuch line ts) → IsFaultOf names line e
+fault_of_form names line k end ts Memory begins cut form nothing range = tt
+fault_of_form names line k end ts (Refused reasons.Syntax) begins cut form nothing range = record { keyword = k; end = end; begins = begins; nothing = inr (ts, cut, nothing refl) }
+fault_of_form names line k end ts (Refused reasons.NumberOutOfRange) begins cut form nothing range =
+    let e = range refl in
+    record { end = end; tokens = ts; begins = subst (λ x. BeginsWithKeyword line x end) e.0 begins; cut = cut; above = e.1 }
+fault_of_form names line k end ts (Refused r) begins cut form nothing range = cc
+
+-- names
+pub fault_of_names : (names : NameTable) (line : List ℕ) (k : Keyword) (end : ℕ) (ts : List Token) (l : Line) (e : TextError) → BeginsWithKeyword line k end → AreTokensFrom line end ts
+    → Says line ts k l → HasBadNames names line e l → IsFaultOf names line e
+fault_of_names names line k end ts l Memory begins cut says bad = tt
+fault_of_names names line k end ts l (Refused reasons.UnknownCommand) begins cut says bad = absurd bad
+fault_of_names names line k end ts l (Refused reasons.Syntax) begins cut says bad = absurd bad
+fault_of_names names line k end ts l (Refused reasons.NumberOutOfRange) begins cut says bad = absurd bad
+fault_of_names names line k end ts l (Refused reasons.UnknownName) begins cut says bad = record { keyword = k; end = end; tokens = ts; parsed = l; begins = begins; cut = cut; says = says; bad = bad }
+fault_of_names names line k end ts l (Refused reasons.NameDeclaredTwice) begins cut says bad = record { keyword = k; end = end; tokens = ts; parsed = l; begins = begins; cut = cut; says = says; bad = bad }
+fault_of_names names line k end ts l (Refused reasons.WrongArguments) begins cut says bad = record { keyword = k; end = end; tokens = ts; parsed = l; begins = begins; cut = cut; says = says; bad = bad }
+fault_of_names names line k end ts l (Refused reasons.ParameterInAClause) begins cut says bad = record { keyword = k; end = end; tokens = ts; parsed = l; begins = begins; cut = cut; says = says; bad = bad }
