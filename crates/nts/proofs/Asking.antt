@@ -20,20 +20,20 @@ use Rattle.nts_delegate.specs.ClausesKept.{AreReady-kept}
 use Rattle.nts_terms.specs.declared.cx.Cx.{Cx}
 use Rattle.nts_evaluation.specs.Evaluation.{Goes, Runs, AreValues, AllKnown, AreOfSorts}
 use Rattle.nts_table.specs.Tables.{IsTermOf}
-use Rattle.nts.specs.Found.{IsValue}
+use Rattle.nts.specs.Found.{IsKnownValue}
 use Rattle.nts_evaluation.proofs.Asking.{IsAdmitted-extended}
 use Rattle.nts_evaluation.proofs.Evaluating.{Goes-extends, IsTermOf-later}
 
 -- the values later on
-pub IsValue-later : {a b : List Tree} {t u : Table} {x : GenericArg} → Goes a b t u → IsValue a t x → IsValue b u x
-IsValue-later {a} {b} {t} {u} {x} g h =
+pub IsKnownValue-later : {a b : List Tree} {t u : Table} {x : GenericArg} → Goes a b t u → IsKnownValue a t x → IsKnownValue b u x
+IsKnownValue-later {a} {b} {t} {u} {x} g h =
     let kept = g.extends.kept x.node h.holds.within in
     record { holds = record { within = IsIn-extended g.extends x.node h.holds.within; fits = rw kept h.holds.fits }; knows = rw kept (g.known (tree_at a x.node) h.knows) }
 
-pub values-later : {a b : List Tree} {t u : Table} (vs : List GenericArg) → Goes a b t u → All (λ v. IsValue a t v) vs → All (λ v. IsValue b u v) vs
-values-later vs g h = λ k d l. IsValue-later g (h k d l)
+pub values-later : {a b : List Tree} {t u : Table} (vs : List GenericArg) → Goes a b t u → All (λ v. IsKnownValue a t v) vs → All (λ v. IsKnownValue b u v) vs
+values-later vs g h = λ k d l. IsKnownValue-later g (h k d l)
 
-pub values-extended : {a b : List Tree} {t : Table} (vs : List GenericArg) → IsTable a t → Extends a b → All (λ v. IsValue a t v) vs → All (λ v. IsValue b t v) vs
+pub values-extended : {a b : List Tree} {t : Table} (vs : List GenericArg) → IsTable a t → Extends a b → All (λ v. IsKnownValue a t v) vs → All (λ v. IsKnownValue b t v) vs
 values-extended vs h e k = values-later vs (Goes-extends h e) k
 
 fits_sort : (s : Sort) → FitsPlace any_argument (Some (of_sort s))
@@ -41,13 +41,13 @@ fits_sort sort.Ty = tt
 fits_sort sort.Region = tt
 fits_sort sort.Const = tt
 
-values-each : (ts : List Tree) (t : Table) (ss : List Sort) (vs : List GenericArg) → AllIn ts (map (λ v. v.node) vs) → AreOfSorts ss (map (tree_at ts) (map (λ v. v.node) vs)) → AllKnown (content_of ts t.entries) (map (tree_at ts) (map (λ v. v.node) vs)) → All (λ v. IsValue ts t v) vs
-values-each ts t ss [] h s k = All-nil (λ v. IsValue ts t v)
+values-each : (ts : List Tree) (t : Table) (ss : List Sort) (vs : List GenericArg) → AllIn ts (map (λ v. v.node) vs) → AreOfSorts ss (map (tree_at ts) (map (λ v. v.node) vs)) → AllKnown (content_of ts t.entries) (map (tree_at ts) (map (λ v. v.node) vs)) → All (λ v. IsKnownValue ts t v) vs
+values-each ts t ss [] h s k = All-nil (λ v. IsKnownValue ts t v)
 values-each ts t [] (v ∷ vs) h s k = absurd s
 values-each ts t (x ∷ ss) (v ∷ vs) h s k =
-    All-cons (λ w. IsValue ts t w) v vs (record { holds = record { within = h.0; fits = rw s.0 (fits_sort x) }; knows = k.0 }) (values-each ts t ss vs h.1 s.1 k.1)
+    All-cons (λ w. IsKnownValue ts t w) v vs (record { holds = record { within = h.0; fits = rw s.0 (fits_sort x) }; knows = k.0 }) (values-each ts t ss vs h.1 s.1 k.1)
 
-pub values-fresh : {ts : List Tree} {t : Table} (fresh : List Sort) (ns : List NodeId) (vs : List GenericArg) → map (λ v. v.node) vs ≡ ns → AreValues ts t fresh ns → All (λ v. IsValue ts t v) vs
+pub values-fresh : {ts : List Tree} {t : Table} (fresh : List Sort) (ns : List NodeId) (vs : List GenericArg) → map (λ v. v.node) vs ≡ ns → AreValues ts t fresh ns → All (λ v. IsKnownValue ts t v) vs
 values-fresh {ts} {t} fresh ns vs e h =
     let k : AreValues ts t fresh (map (λ v. v.node) vs) = rw e h in
     values-each ts t fresh vs k.within k.sorts k.known
@@ -65,7 +65,7 @@ pub constraint-known : {a b : List Tree} {t : Table} (x : Constraint) → IsTabl
 constraint-known x h e k = IsTermOf-later (Goes-extends h e) (record { within = k.right_in; knows = k.right_known })
 
 -- .. after an evaluation
-pub values-run : {a b : Cx} {t u : Table} (vs : List GenericArg) → Runs a b t u → All (λ v. IsValue a.nodes t v) vs → All (λ v. IsValue b.nodes u v) vs
+pub values-run : {a b : Cx} {t u : Table} (vs : List GenericArg) → Runs a b t u → All (λ v. IsKnownValue a.nodes t v) vs → All (λ v. IsKnownValue b.nodes u v) vs
 values-run vs r h = values-later vs r.goes h
 
 pub ruleset growing = (Extends-trans, Extends-refl, KeepsRest-trans, KeepsRest-refl, Holds-extended)

@@ -14,16 +14,16 @@ use Rattle.nts.specs.declared.variables.LineVariables.{LineVariables}
 use Rattle.nts.specs.Meaning.{HasOwnPlaces, AreVariablesFrom, IsGoalOf}
 use Rattle.nts.specs.Found.{IsFoundIn, IsOf}
 use Rattle.nts_text.specs.declared.parser.Mode.{Mode}
-use Rattle.nts.specs.Proving.{IsTypingMode, IsProvedIn, IsJustified}
+use Rattle.nts.specs.Proving.{IsTypingMode, IsProvedGoal, IsJustifiedAnswer}
 use Rattle.nts.specs.declared.answer.Answer.{Answer}
 use Rattle.nts.specs.declared.answer.Answer.TheVariants as answers
 
-earlier : (a b us : List Tree) (h : Clauses) (t : Table) (g : Goal) → Extends a b → IsProvedIn b us h t g → IsProvedIn a us h t g
+earlier : (a b us : List Tree) (h : Clauses) (t : Table) (g : Goal) → Extends a b → IsProvedGoal b us h t g → IsProvedGoal a us h t g
 earlier a b us h t g e k = record { store = k.store; extends = Extends-trans e k.extends; proved = k.proved }
 
 pub justified : {E : Type 0} (m : Mode) (rs : List Resolved) (a b store us : List Tree) (h : Clauses) (t : Table) (g : Goal) (variables : LineVariables) (vs : List GenericArg) (r : Result Answer E)
-    → HasOwnPlaces variables → AreVariablesFrom 0 store variables.sorts.items vs → IsTypingMode m t.mode → Extends a b → IsProvedIn b store h t g → IsGoalOf store variables vs rs g
-    → IfOk r (IsOf variables) → IfOk r (IsFoundIn store us (content_of store t.entries) vs) → IfOk r (IsJustified m rs a us h)
+    → HasOwnPlaces variables → AreVariablesFrom 0 store variables.sorts.items vs → IsTypingMode m t.mode → Extends a b → IsProvedGoal b store h t g → IsGoalOf store variables vs rs g
+    → IfOk r (IsOf variables) → IfOk r (IsFoundIn store us (content_of store t.entries) vs) → IfOk r (IsJustifiedAnswer m rs a us h)
 justified m rs a b store us h t g variables vs (Err x) own first i e k asked of found = tt
 justified m rs a b store us h t g variables vs (Ok answers.No) own first i e k asked of found = tt
 justified m rs a b store us h t g variables vs (Ok answers.Ambiguity) own first i e k asked of found = tt

@@ -22,7 +22,7 @@ use Rattle.nts_terms.specs.declared.handles.TraitRef.{TraitRef}
 use Rattle.nts_text.specs.declared.resolver.Resolved.{Resolved}
 use Rattle.nts_text.specs.declared.resolver.Resolved.TheVariants as nodes
 use Rattle.nts.specs.declared.variables.LineVariables.{LineVariables}
-use Rattle.nts.specs.Meaning.{row_of, argument_list, term_of, meaning_of, values_in, made_trees, trait_trees, TakesArguments, MakesArgument, AreSaid, States, IsGoalFor, binding_nothing, empty_environment}
+use Rattle.nts.specs.Meaning.{argument_row, argument_list, term_of, meaning_of, values_in, made_trees, trait_trees, TakesArguments, MakesArgument, AreSaid, States, IsGoalFor, binding_nothing, empty_environment}
 
 -- the front of a list, and what stands behind it
 take_front : {A : Type 0} (n : ℕ) (xs ys : List A) → length xs ≡ n → take n (xs ++ ys) ≡ xs
@@ -46,7 +46,7 @@ length_map f [] = refl
 length_map f (x ∷ xs) = ap suc (length_map f xs)
 
 -- terms of a store have the same trees later
-row_later : (ts us : List Tree) (xs : List GenericArg) → Extends ts us → All (λ a. HoldsArg ts a) xs → trees_at ts (map (λ a. a.node) xs) ≡ row_of (map (λ a. tree_at us a.node) xs)
+row_later : (ts us : List Tree) (xs : List GenericArg) → Extends ts us → All (λ a. HoldsArg ts a) xs → trees_at ts (map (λ a. a.node) xs) ≡ argument_row (map (λ a. tree_at us a.node) xs)
 row_later ts us [] e h = refl
 row_later ts us (x ∷ xs) e h =
     let here : tree_at us x.node ≡ tree_at ts x.node = e.kept x.node (All-head (λ a. HoldsArg ts a) x xs h).within in

@@ -18,8 +18,8 @@ use Rattle.nts.specs.declared.status.Stop.{Stop}
 use Rattle.nts.specs.declared.status.Stop.TheVariants as stop
 use Rattle.nts.specs.Growing.{refusal_line, IsTold}
 use Rattle.nts.specs.Statuses.{status_of}
-use Rattle.nts.specs.Obeying.{IsNew, IsObeyed}
-use Rattle.nts.specs.Running.{answer_text, IsAnswered, AreObeyed, AnswersAll, StopsAtRefusal}
+use Rattle.nts.specs.Obeying.{IsNewProgram, IsObeyed}
+use Rattle.nts.specs.Running.{answer_text, IsAnsweredLine, AreObeyed, AnswersAll, StopsAtRefusal}
 use Rattle.nts.proofs.Growths.{Appends-trans, Appends-none}
 
 obeyed_more : (lines : List (List ℕ)) (line : List ℕ) (p q r : Program) (s : List ℕ) (o : Option (Vec ℕ))
@@ -35,13 +35,13 @@ pub record HasRun (input left before after : Option (List ℕ)) (program : Progr
   pub lines : List (List ℕ)
   pub text : List ℕ
   pub first : Program
-  pub new : IsNew first
+  pub new : IsNewProgram first
   pub counted : number ≡ length lines + 1
   pub obeyed : AreObeyed lines first program text
   pub written : Appends before after text
   pub others : IfSome input (λ xs. (ys : List ℕ) × (left ≡ Some ys) × (lines_of xs ≡ lines ++ lines_of ys))
 
-pub run_begins : (input before : Option (List ℕ)) (p : Program) → IsNew p → HasRun input input before before p 1
+pub run_begins : (input before : Option (List ℕ)) (p : Program) → IsNewProgram p → HasRun input input before before p 1
 run_begins input before p h = record {
   lines = [];
   text = [];
@@ -80,7 +80,7 @@ none_left (Some xs) more e h = λ l. let t : IsTrue more = h.1 l in let f : fals
 -- one more line is answered
 pub run_more : {input left next before mid after : Option (List ℕ)} {p q : Program} {n : ℕ} (line : List ℕ)
     → HasRun input left before mid p n → IfSome left (λ xs. 0 < length xs) → IfSome left (λ xs. line ≡ first_line xs) → DropsThrough left next 10
-    → IsAnswered line p q mid after → HasRun input next before after q (n + 1)
+    → IsAnsweredLine line p q mid after → HasRun input next before after q (n + 1)
 run_more {input} {left} {next} {before} {mid} {after} {p} {q} {n} line h some is rest k = record {
   lines = h.lines ++ line ∷ [];
   text = h.text ++ answer_text k.answer;
@@ -172,6 +172,6 @@ buffered f inner r same empty capacity = rw (capacity, empty, same) (prepend_kno
 
 -- a line is answered where it is obeyed and its answer is written
 pub answered_where : {T E : Type 0} (r : Result T E) (line : List ℕ) (p q : Program) (before after : Option (List ℕ)) (text : Vec ℕ) (bytes : List ℕ)
-    → IsObeyed line p q (Some text) → bytes ≡ text.items → OnOk r (Appends before after bytes) → OnOk r (IsAnswered line p q before after)
+    → IsObeyed line p q (Some text) → bytes ≡ text.items → OnOk r (Appends before after bytes) → OnOk r (IsAnsweredLine line p q before after)
 answered_where (Ok x) line p q before after text bytes h e w = record { answer = Some text; obeyed = h; written = rw e at w }
 answered_where (Err x) line p q before after text bytes h e w = tt

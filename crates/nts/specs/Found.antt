@@ -19,7 +19,7 @@ pub record AreResolved (ts us : List Tree) (c : Content) (old new : List Generic
   pub trees : map (λ a. tree_at us a.node) new ≡ map (λ a. deeply_resolved c (tree_at ts a.node)) old
 
 -- a value of the store and the table
-pub record IsValue (ts : List Tree) (t : Table) (a : GenericArg) : Type 0 where
+pub record IsKnownValue (ts : List Tree) (t : Table) (a : GenericArg) : Type 0 where
   pub holds : HoldsArg ts a
   pub knows : Knows (content_of ts t.entries) (tree_at ts a.node)
 

@@ -33,12 +33,12 @@ pub record Values : Type 0 where
   pub regions : ℕ → Tree
 
 -- the list of these arguments
-abbrev pub row_of : List Tree → Tree
-row_of [] = empty
-row_of (t ∷ ts) = more t (row_of ts)
+abbrev pub argument_row : List Tree → Tree
+argument_row [] = empty
+argument_row (t ∷ ts) = more t (argument_row ts)
 
 abbrev pub argument_list : List Tree → Tree
-argument_list ts = node (label.List list.Args) (row_of ts)
+argument_list ts = node (label.List list.Args) (argument_row ts)
 
 -- how many arguments a node takes
 abbrev pub argument_count : Resolved → ℕ
@@ -59,12 +59,12 @@ term_of v (nodes.RegionParam i) args = node (label.Leaf (leaf.Region (free.Early
 term_of v nodes.Static args = node (label.Leaf (leaf.Region free.Static)) empty
 
 -- what nodes mean: arguments, which a node before them may take, and predicates
-pub record Meaning : Type 0 where
+pub record NodesMeaning : Type 0 where
   pub arguments : List Tree
   pub predicates : List Tree
 
 -- a node takes as many arguments as it has from the front of those that stand behind it
-abbrev pub meaning_before : Values → Resolved → Meaning → Meaning
+abbrev pub meaning_before : Values → Resolved → NodesMeaning → NodesMeaning
 meaning_before v (nodes.Trait i n) m = record {
   arguments = drop n m.arguments;
   predicates = term_of v (nodes.Trait i n) (take n m.arguments) ∷ m.predicates;
@@ -74,7 +74,7 @@ meaning_before v r m = record {
   predicates = m.predicates;
 }
 
-abbrev pub meaning_of : Values → List Resolved → Meaning
+abbrev pub meaning_of : Values → List Resolved → NodesMeaning
 meaning_of v [] = record { arguments = []; predicates = [] }
 meaning_of v (r ∷ rs) = meaning_before v r (meaning_of v rs)
 

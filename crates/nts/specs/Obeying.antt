@@ -19,11 +19,11 @@ use Rattle.nts.specs.declared.program.Program.{Program}
 use Rattle.nts.specs.declared.answer.Answer.{Answer}
 use Rattle.nts.specs.Answers.{IsAnswerText}
 use Rattle.nts.specs.Meaning.{IsRuleOf}
-use Rattle.nts.specs.Proving.{IsJustified}
+use Rattle.nts.specs.Proving.{IsJustifiedAnswer}
 
 -- a program that was told nothing: there are no terms, declarations, rules, names or parameters, and
 -- the depth is 128 and the mode analysis
-pub record IsNew (p : Program) : Type 0 where
+pub record IsNewProgram (p : Program) : Type 0 where
   pub nodes : p.cx.nodes ≡ []
   pub declarations : p.cx.declarations ≡ nothing_declared
   pub depth : p.cx.recursion_limit ≡ 128
@@ -40,7 +40,7 @@ pub record IsNew (p : Program) : Type 0 where
 pub record IsTold (old new : Program) (rs : List Resolved) (text : List ℕ) : Type 0 where
   pub answer : Answer
   pub says : IsAnswerText new.cx.nodes new.names new.scope answer text
-  pub justified : IsJustified old.mode rs old.cx.nodes new.cx.nodes old.clauses answer
+  pub justified : IsJustifiedAnswer old.mode rs old.cx.nodes new.cx.nodes old.clauses answer
 
 -- the rules and the mode stay
 pub record KeepsRules (old new : Program) : Type 0 where

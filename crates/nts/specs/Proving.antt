@@ -31,7 +31,7 @@ IsTypingMode modes.PostAnalysis typing.PostAnalysis = Unit {0}
 IsTypingMode m t = ⊥
 
 -- a goal has a ranked proof by the clauses, in the mode of a table and under its values
-pub record IsProvedIn (ts us : List Tree) (h : Clauses) (t : Table) (g : Goal) : Type 0 where
+pub record IsProvedGoal (ts us : List Tree) (h : Clauses) (t : Table) (g : Goal) : Type 0 where
   pub store : List Tree
   pub extends : Extends ts store
   pub proved : (v : ℕ → List Variance) → HasHeldProof (meaning (handler_of store h) v) (mode_of t.mode) (content_of us t.entries) (tree_at us g.param_env.node) (tree_at us g.predicate.node)
@@ -47,10 +47,10 @@ pub record IsHeld (m : Mode) (rs : List Resolved) (ts us : List Tree) (h : Claus
   pub first : AreVariablesFrom 0 store f.variables.sorts.items values
   pub mode : IsTypingMode m table.mode
   pub asked : IsGoalOf store f.variables values rs goal
-  pub proved : IsProvedIn ts store h table goal
+  pub proved : IsProvedGoal ts store h table goal
   pub found : IsFoundIn store us (content_of store table.entries) values (answers.Yes f)
 
 -- a goal that is answered `yes` is proved
-abbrev pub IsJustified : Mode → List Resolved → List Tree → List Tree → Clauses → Answer → Type 0
-IsJustified m rs ts us h (answers.Yes f) = IsHeld m rs ts us h f
-IsJustified m rs ts us h a = Unit {0}
+abbrev pub IsJustifiedAnswer : Mode → List Resolved → List Tree → List Tree → Clauses → Answer → Type 0
+IsJustifiedAnswer m rs ts us h (answers.Yes f) = IsHeld m rs ts us h f
+IsJustifiedAnswer m rs ts us h a = Unit {0}

@@ -7,7 +7,7 @@ use Rattle.nts_text.specs.Lines.{IsPassedOver}
 use Rattle.nts_text.specs.declared.refusals.Refusal.{Refusal}
 use Rattle.nts.specs.declared.program.Program.{Program}
 use Rattle.nts.specs.Growing.{refusal_line}
-use Rattle.nts.specs.Obeying.{IsNew, IsObeyed}
+use Rattle.nts.specs.Obeying.{IsNewProgram, IsObeyed}
 
 -- the text of an answer, which only a goal has
 abbrev pub answer_text : Option (Vec ℕ) → List ℕ
@@ -15,7 +15,7 @@ answer_text None = []
 answer_text (Some text) = text.items
 
 -- a line is obeyed, and its answer is written
-pub record IsAnswered (line : List ℕ) (old new : Program) (before after : Option (List ℕ)) : Type 0 where
+pub record IsAnsweredLine (line : List ℕ) (old new : Program) (before after : Option (List ℕ)) : Type 0 where
   pub answer : Option (Vec ℕ)
   pub obeyed : IsObeyed line old new answer
   pub written : Appends before after (answer_text answer)
@@ -33,7 +33,7 @@ pub record AreAnswered (lines : List (List ℕ)) (before after : Option (List �
   pub first : Program
   pub last : Program
   pub text : List ℕ
-  pub new : IsNew first
+  pub new : IsNewProgram first
   pub obeyed : AreObeyed lines first last text
   pub written : Appends before after text
 

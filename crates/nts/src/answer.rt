@@ -8,8 +8,8 @@ ghost use Rattle.nts_terms.specs.Handles.{HoldsGoal};
 ghost use Rattle.nts_delegate.specs.Clauses.{AreReady};
 ghost use Rattle.nts_evaluation.specs.Evaluation.{IsAdmitted, AreOfSorts};
 ghost use Rattle.nts_certainty.specs.declared.certainty.Certainty.TheVariants as certainty;
-ghost use Rattle.nts.specs.Proving.{IsTypingMode, IsProvedIn, IsJustified};
-ghost use Rattle.nts.specs.Found.{AreResolved, IsFoundIn, IsOf, IsValue};
+ghost use Rattle.nts.specs.Proving.{IsTypingMode, IsProvedGoal, IsJustifiedAnswer};
+ghost use Rattle.nts.specs.Found.{AreResolved, IsFoundIn, IsOf, IsKnownValue};
 ghost use Rattle.nts.specs.Meaning.{AreVariablesFrom, IsGoalFor};
 ghost use Rattle.nts_store.specs.Growth.{tree_at};
 ghost use Rattle.nts_terms.specs.Rest.{Grows};
@@ -64,7 +64,7 @@ fn typing_mode(alloc: Global, mode: Mode) -> TypingMode
 #[tactic(auto, using(crate::proofs::Asking::asking))]
 pub fn ask(cx: &mut Cx, clauses: &Clauses, mode: Mode, nodes: &[Resolved]) -> Result<Answer, Stop>
     requires ready { AreReady cx.old.nodes clauses.now }
-    ensures yes { IfOk result (IsJustified mode nodes.now cx.old.nodes cx.new.nodes clauses.now) }
+    ensures yes { IfOk result (IsJustifiedAnswer mode nodes.now cx.old.nodes cx.new.nodes clauses.now) }
     ensures grows { Grows cx.old cx.new }
 {
     let mut variables = LineVariables::new(cx.alloc);
@@ -95,7 +95,7 @@ fn answer_of(
     values: &[GenericArg],
 ) -> Result<Answer, Stop>
     requires table { IsTable cx.old.nodes table.now }
-    requires values { All (λ v. IsValue cx.old.nodes table.now v) values.now }
+    requires values { All (λ v. IsKnownValue cx.old.nodes table.now v) values.now }
     ensures variables { IfOk result (IsOf variables) }
     ensures found { IfOk result (IsFoundIn cx.old.nodes cx.new.nodes
         (content_of cx.old.nodes table.now.entries) values.now) }
@@ -115,7 +115,7 @@ fn fresh_values(table: &mut InferCtxt, cx: &mut Cx, sorts: &[Sort]) -> Result<Ve
     requires table { IsTable cx.old.nodes table.old }
     ensures grows { Grows cx.old cx.new }
     ensures table { IsTable cx.new.nodes table.new }
-    ensures values { IfOk result (λ vs. All (λ v. IsValue cx.new.nodes table.new v) vs.items) }
+    ensures values { IfOk result (λ vs. All (λ v. IsKnownValue cx.new.nodes table.new v) vs.items) }
     ensures sorts { IfOk result (λ vs. AreOfSorts sorts.now (map (tree_at cx.new.nodes) (map
         (λ v. v.node) vs.items))) }
     ensures variables { IfOk result (λ vs. (ts : List Tree) → Extends cx.new.nodes ts →
@@ -170,13 +170,13 @@ fn evaluated(
     requires table { IsTable cx.old.nodes table.old }
     requires ready { AreReady cx.old.nodes clauses.now }
     requires holds { HoldsGoal cx.old.nodes goal }
-    requires values { All (λ v. IsValue cx.old.nodes table.old v) values.now }
+    requires values { All (λ v. IsKnownValue cx.old.nodes table.old v) values.now }
     ensures grows { Grows cx.old cx.new }
     ensures table { OnOk result (IsTable cx.new.nodes table.new) }
-    ensures values { OnOk result (All (λ v. IsValue cx.new.nodes table.new v) values.now) }
+    ensures values { OnOk result (All (λ v. IsKnownValue cx.new.nodes table.new v) values.now) }
     ensures admitted { IfOk result (λ _. IsAdmitted cx.old.nodes table.old goal) }
     ensures proved { IfOk result (λ o. o ≡ Some certainty.Yes →
-        IsProvedIn cx.old.nodes cx.new.nodes clauses.now table.new goal) }
+        IsProvedGoal cx.old.nodes cx.new.nodes clauses.now table.new goal) }
     ensures unsure { IfOk result (λ o. o ≢ Some certainty.Yes → table.new ≡ table.old) }
     ensures mode { OnOk result (table.new.mode ≡ table.old.mode) }
 {
@@ -200,7 +200,7 @@ fn resolved_values(
     values: &[GenericArg],
 ) -> Result<Vec<GenericArg>, Stop>
     requires table { IsTable cx.old.nodes table.now }
-    requires values { All (λ v. IsValue cx.old.nodes table.now v) values.now }
+    requires values { All (λ v. IsKnownValue cx.old.nodes table.now v) values.now }
     ensures resolved { IfOk result (λ vs. AreResolved cx.old.nodes cx.new.nodes
         (content_of cx.old.nodes table.now.entries) values.now vs.items) }
     ensures grows { Grows cx.old cx.new }

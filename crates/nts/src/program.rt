@@ -8,7 +8,7 @@ ghost use Rattle.nts_delegate.specs.declared.clauses.Clause.{Clause};
 ghost use Rattle.nts_text.specs.Lines.{IsPassedOver};
 ghost use Rattle.nts_text.specs.Resolution.{trait_sorts};
 ghost use Rattle.nts.specs.Meaning.{AreConditions, IsRuleOf, IsRuleFor};
-ghost use Rattle.nts.specs.Obeying.{IsNew, Follows, KeepsRules, IsTold, IsObeyed};
+ghost use Rattle.nts.specs.Obeying.{IsNewProgram, Follows, KeepsRules, IsTold, IsObeyed};
 ghost use Rattle.nts_terms.specs.Rest.{Grows};
 
 use crate::answer::ask;
@@ -39,7 +39,7 @@ impl Program {
     /// Nothing said. It takes no memory.
     pub fn new(alloc: Global) -> Self
         ensures ready { AreReady result.cx.nodes result.clauses }
-        ensures new { IsNew result }
+        ensures new { IsNewProgram result }
     {
         Program {
             alloc,

@@ -3,7 +3,7 @@ ghost use Rattle.std.specs.Prelude.{◌≡◌, OnOk, IfErr};
 ghost use Rattle.nts_delegate.specs.Clauses.{AreReady};
 ghost use Rattle.nts_text.specs.Lines.{IsPassedOver};
 ghost use Rattle.nts.specs.Growing.{Begins, IsTold};
-ghost use Rattle.nts.specs.Running.{IsAnswered, AnswersAll, StopsAtRefusal};
+ghost use Rattle.nts.specs.Running.{IsAnsweredLine, AnswersAll, StopsAtRefusal};
 ghost use Rattle.nts.specs.Statuses.{status_of};
 ghost use Rattle.nts.specs.declared.status.Status.TheVariants.{Done, Refused};
 
@@ -79,7 +79,7 @@ fn handle_line<W: Write>(
 ) -> Result<(), Stop>
     requires ready { AreReady program.old.cx.nodes program.old.clauses }
     ensures ready { OnOk result (AreReady program.new.cx.nodes program.new.clauses) }
-    ensures answered { OnOk result (IsAnswered line.now program.old program.new
+    ensures answered { OnOk result (IsAnsweredLine line.now program.old program.new
         (W.contents output.old) (W.contents output.new)) }
     ensures refused { IfErr result (λ s. status_of s ≡ Refused → IsPassedOver line.now → ⊥) }
     ensures told { IfErr result (IsTold (W.contents output.old) (W.contents output.new) number) }
