@@ -1,5 +1,5 @@
 -- Why a goal is answered `yes`.
-use Rattle.std.proofs.Common.{List, Result, Ok, Err, subst, sym}
+use Rattle.std.proofs.Common.{List, All, Result, Ok, Err, subst, sym}
 use Rattle.std.specs.Prelude.{IfOk}
 use Rattle.nts_model.specs.Trees.{Tree}
 use Rattle.nts_terms.specs.declared.handles.GenericArg.{GenericArg}
@@ -11,7 +11,7 @@ use Rattle.nts_unify.specs.Reading.{content_of}
 use Rattle.nts_delegate.specs.declared.clauses.Clauses.{Clauses}
 use Rattle.nts_text.specs.declared.resolver.Resolved.{Resolved}
 use Rattle.nts.specs.declared.variables.LineVariables.{LineVariables}
-use Rattle.nts.specs.Meaning.{HasOwnPlaces, AreVariablesFrom, IsGoalOf}
+use Rattle.nts.specs.Meaning.{HasOwnPlaces, HasPlace, AreVariablesFrom, IsGoalOf}
 use Rattle.nts.specs.Found.{IsFoundIn, IsOf}
 use Rattle.nts_text.specs.declared.parser.Mode.{Mode}
 use Rattle.nts.specs.Proving.{IsTypingMode, IsProvedGoal, IsJustifiedAnswer}
@@ -22,11 +22,11 @@ earlier : (a b us : List Tree) (h : Clauses) (t : Table) (g : Goal) → Extends 
 earlier a b us h t g e k = record { store = k.store; extends = Extends-trans e k.extends; proved = k.proved }
 
 pub justified : {E : Type 0} (m : Mode) (rs : List Resolved) (a b store us : List Tree) (h : Clauses) (t : Table) (g : Goal) (variables : LineVariables) (vs : List GenericArg) (r : Result Answer E)
-    → HasOwnPlaces variables → AreVariablesFrom 0 store variables.sorts.items vs → IsTypingMode m t.mode → Extends a b → IsProvedGoal b store h t g → IsGoalOf store variables vs rs g
+    → HasOwnPlaces variables → All (HasPlace variables) rs → AreVariablesFrom 0 store variables.sorts.items vs → IsTypingMode m t.mode → Extends a b → IsProvedGoal b store h t g → IsGoalOf store variables vs rs g
     → IfOk r (IsOf variables) → IfOk r (IsFoundIn store us (content_of store t.entries) vs) → IfOk r (IsJustifiedAnswer m rs a us h)
-justified m rs a b store us h t g variables vs (Err x) own first i e k asked of found = tt
-justified m rs a b store us h t g variables vs (Ok answers.No) own first i e k asked of found = tt
-justified m rs a b store us h t g variables vs (Ok answers.Ambiguity) own first i e k asked of found = tt
-justified m rs a b store us h t g variables vs (Ok answers.Overflow) own first i e k asked of found = tt
-justified m rs a b store us h t g variables vs (Ok (answers.Yes f)) own first i e k asked of found =
-    record { store = store; table = t; goal = g; values = vs; own = rw of own; first = rw of first; mode = i; asked = subst (λ w. IsGoalOf store w vs rs g) (sym of) asked; proved = earlier a b store h t g e k; found = found }
+justified m rs a b store us h t g variables vs (Err x) own placed first i e k asked of found = tt
+justified m rs a b store us h t g variables vs (Ok answers.No) own placed first i e k asked of found = tt
+justified m rs a b store us h t g variables vs (Ok answers.Ambiguity) own placed first i e k asked of found = tt
+justified m rs a b store us h t g variables vs (Ok answers.Overflow) own placed first i e k asked of found = tt
+justified m rs a b store us h t g variables vs (Ok (answers.Yes f)) own placed first i e k asked of found =
+    record { store = store; table = t; goal = g; values = vs; own = rw of own; placed = rw of placed; first = rw of first; mode = i; asked = subst (λ w. IsGoalOf store w vs rs g) (sym of) asked; proved = earlier a b store h t g e k; found = found }

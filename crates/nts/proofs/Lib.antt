@@ -10,3 +10,4 @@ pub mod Runs
 pub mod Meant
 pub mod Places
 pub mod Rules
+pub mod Steps

@@ -1,17 +1,20 @@
 -- Places of variables, and what stands at them.
-use Rattle.std.proofs.Common.{◌≡◌, ◌≢◌, ℕ, zero, suc, ◌+◌, ◌<◌, List, [], ◌∷◌, ◌++◌, ◌⊎◌, inl, inr, Option, None, Some, slice_get, length, map, take, get_or, refl, sym, ap, subst, ◌∙◌, arith}
+use Rattle.std.proofs.Common.{◌≡◌, ℕ, zero, suc, ◌+◌, ◌<◌, List, [], ◌∷◌, ◌++◌, ◌⊎◌, inl, inr, Some, All, slice_get, length, map, take, get_or, refl, sym, ap, subst, ◌∙◌, arith}
 use Rattle.std.proofs.lemmas.List.{map-append, take_more, length-take-le}
 use Rattle.nts_model.specs.declared.labels.Sort.{Sort}
 use Rattle.nts_model.specs.declared.labels.Sort.TheVariants as sort
 use Rattle.nts_model.specs.Numbered.{position}
 use Rattle.nts_model.specs.Resolving.{variable_tree}
-use Rattle.nts_model.specs.Trees.{Tree, empty, more}
+use Rattle.nts_model.specs.Trees.{Tree}
 use Rattle.nts_store.specs.declared.nodes.NodeId.{NodeId}
 use Rattle.nts_store.specs.Growth.{tree_at, trees_at, AllIn, Extends}
 use Rattle.nts_store.proofs.Growing.{Extends-trans}
 use Rattle.nts_table.specs.Fresh.{fresh_row, variable_kind}
 use Rattle.nts_terms.specs.declared.handles.GenericArg.{GenericArg}
-use Rattle.nts.specs.Meaning.{AreOwnPlaces, HasOwnPlaces, ArePositions, AreVariablesFrom, trees_from}
+use Rattle.std.proofs.lemmas.List.Elements.{All-push}
+use Rattle.nts_text.specs.declared.resolver.Resolved.{Resolved}
+use Rattle.nts_text.specs.declared.resolver.Resolved.TheVariants as nodes
+use Rattle.nts.specs.Meaning.{AreOwnPlaces, HasOwnPlaces, HasPlace, KeepsPlaces, ArePositions, trees_from}
 use Rattle.nts.specs.declared.variables.LineVariables.{LineVariables}
 
 get-front : {A : Type 0} (xs ys : List A) (i : ℕ) (x : A) → slice_get xs i ≡ Some x → slice_get (xs ++ ys) i ≡ Some x
@@ -93,7 +96,33 @@ own_none v e f = record {
   regions = rw f (record { sorted = λ i p h. cc; apart = λ i j p h k. cc });
 }
 
-pub ruleset placed = (own_sort, own_type, own_region)
+-- places that are kept
+pub places_refl : (v : LineVariables) → KeepsPlaces v v
+places_refl v = record { types = omega arith; regions = omega arith }
+
+pub places_trans : {u v w : LineVariables} → KeepsPlaces u v → KeepsPlaces v w → KeepsPlaces u w
+places_trans {u} {v} {w} h k = record { types = omega (arith, h.types, k.types); regions = omega (arith, h.regions, k.regions) }
+
+pub place_kept : (v w : LineVariables) (r : Resolved) → KeepsPlaces v w → HasPlace v r → HasPlace w r
+place_kept v w (nodes.Trait i n) k h = tt
+place_kept v w (nodes.Ctor i n) k h = tt
+place_kept v w (nodes.Int i) k h = tt
+place_kept v w (nodes.Uint i) k h = tt
+place_kept v w (nodes.TypeVariable i) k h = omega (arith, h, k.types)
+place_kept v w (nodes.TypeParam i) k h = tt
+place_kept v w (nodes.RegionVariable i) k h = omega (arith, h, k.regions)
+place_kept v w (nodes.RegionParam i) k h = tt
+place_kept v w nodes.Static k h = tt
+
+pub all_placed : (v w : LineVariables) (rs : List Resolved) → KeepsPlaces v w → All (HasPlace v) rs → All (HasPlace w) rs
+all_placed v w rs k h = λ i d lt. place_kept v w (get_or rs i d) k (h i d lt)
+
+-- one more node that has its place
+pub placed_more : (v w : LineVariables) (rs : List Resolved) (i : ℕ) (d : Resolved) → i < length rs → KeepsPlaces v w → All (HasPlace v) (take i rs) → HasPlace w (get_or rs i d) → All (HasPlace w) (take (i + 1) rs)
+placed_more v w rs i d lt k h here =
+    subst (All (HasPlace w)) (sym (take_more rs i d lt)) (All-push (HasPlace w) (take i rs) (get_or rs i d) (all_placed v w (take i rs) k h) here)
+
+pub ruleset placed = (own_sort, own_type, own_region, places_refl, places_trans)
 
 -- the values of one sort more
 trees_push : (f : Sort → ℕ → Tree) (n : ℕ) (ss : List Sort) (s : Sort) → trees_from f n (ss ++ s ∷ []) ≡ trees_from f n ss ++ f s (n + length ss) ∷ []

@@ -1,5 +1,5 @@
 -- The clause that an impl says.
-use Rattle.std.proofs.Common.{◌≡◌, ℕ, ◌+◌, ◌<◌, List, [], ◌∷◌, ◌++◌, map, take, get_or, length, refl, sym, ap, subst, ◌∙◌}
+use Rattle.std.proofs.Common.{◌≡◌, ℕ, ◌+◌, ◌<◌, List, [], ◌∷◌, ◌++◌, All, map, take, get_or, length, sym, ap, ◌∙◌}
 use Rattle.std.proofs.lemmas.List.{map-append, take_more}
 use Rattle.nts_model.specs.declared.labels.Label.TheVariants as label
 use Rattle.nts_model.specs.declared.labels.ClauseHead.TheVariants as clause
@@ -12,7 +12,7 @@ use Rattle.nts_terms.specs.declared.handles.Predicate.{Predicate}
 use Rattle.nts_terms.specs.declared.handles.TraitRef.{TraitRef}
 use Rattle.nts_text.specs.declared.resolver.Resolved.{Resolved}
 use Rattle.nts.specs.declared.variables.LineVariables.{LineVariables}
-use Rattle.nts.specs.Meaning.{meaning_of, values_in, trait_trees, AreSaid, States, AreConditions, binding_nothing, HasOwnPlaces, ArePositions, head_of, IsRuleOf}
+use Rattle.nts.specs.Meaning.{trait_trees, AreSaid, States, AreConditions, binding_nothing, HasOwnPlaces, HasPlace, ArePositions, IsRuleOf}
 
 -- what holds of the traits holds of the conditions
 pub conditions_said : (a ts : List Tree) (variables : LineVariables) (values : List GenericArg) (rs : List Resolved) (traits : List TraitRef) (ps : List Predicate)
@@ -35,14 +35,15 @@ stated_push mid ts traits i d ps p lt h e states us later =
 
 -- the clause of the one trait that the head says
 pub rule_of : (a b ts : List Tree) (variables : LineVariables) (values : List GenericArg) (head body : List Resolved) (traits : List TraitRef) (r : TraitRef) (c : Clause)
-    → HasOwnPlaces variables → c.fresh.items ≡ variables.sorts.items → c.trait_id ≡ r.def_id → c.head ≡ r.args
+    → HasOwnPlaces variables → All (HasPlace variables) head × All (HasPlace variables) body → c.fresh.items ≡ variables.sorts.items → c.trait_id ≡ r.def_id → c.head ≡ r.args
     → ArePositions ts variables.sorts.items values → AreSaid a variables values head traits → traits ≡ r ∷ [] → Extends a ts
     → AreConditions b variables values body c.body.items → Extends b ts
     → IsRuleOf ts head body c
-rule_of a b ts variables values head body traits r c own fresh trait args positions said one e conditions f = record {
+rule_of a b ts variables values head body traits r c own placed fresh trait args positions said one e conditions f = record {
   variables = variables;
   values = values;
   own = own;
+  placed = placed;
   sorts = fresh;
   positions = rw fresh positions;
   head = sym (said ts e) ∙ ap (trait_trees ts) one ∙ ap (λ i. node (label.Clause (clause.Trait i.number)) (more (tree_at ts r.args.node) empty) ∷ []) (sym trait)

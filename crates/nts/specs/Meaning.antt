@@ -1,5 +1,5 @@
 -- What the nodes of a line mean as terms.
-use Rattle.std.specs.Prelude.{◌≡◌, ℕ, suc, List, [], ◌∷◌, Option, None, Some, map, reverse, take, drop, slice_get}
+use Rattle.std.specs.Prelude.{◌≡◌, ℕ, suc, ◌<◌, ◌≤◌, All, length, List, [], ◌∷◌, Option, None, Some, map, reverse, take, drop, slice_get}
 use Rattle.std.specs.Global.{Vec}
 use Rattle.nts_model.specs.declared.labels.Sort.{Sort}
 use Rattle.nts_model.specs.declared.labels.Sort.TheVariants as sort
@@ -104,6 +104,17 @@ pub record HasOwnPlaces (v : LineVariables) : Type 0 where
   pub types : AreOwnPlaces sort.Ty v.sorts.items v.types.items
   pub regions : AreOwnPlaces sort.Region v.sorts.items v.regions.items
 
+-- where the node is a variable, it has a place
+abbrev pub HasPlace : LineVariables → Resolved → Type 0
+HasPlace v (nodes.TypeVariable i) = i < length v.types.items
+HasPlace v (nodes.RegionVariable i) = i < length v.regions.items
+HasPlace v r = Unit {0}
+
+-- variables that have places keep them
+pub record KeepsPlaces (old new : LineVariables) : Type 0 where
+  pub types : length old.types.items ≤ length new.types.items
+  pub regions : length old.regions.items ≤ length new.regions.items
+
 -- a tree for each sort, with consecutive numbers
 abbrev pub trees_from : (Sort → ℕ → Tree) → ℕ → List Sort → List Tree
 trees_from f n [] = []
@@ -180,6 +191,7 @@ pub record IsRuleOf (ts : List Tree) (first others : List Resolved) (c : Clause)
   pub variables : LineVariables
   pub values : List GenericArg
   pub own : HasOwnPlaces variables
+  pub placed : All (HasPlace variables) first × All (HasPlace variables) others
   pub sorts : c.fresh.items ≡ variables.sorts.items
   pub positions : ArePositions ts c.fresh.items values
   pub head : (meaning_of (values_in ts variables values) first).predicates ≡ head_of ts c ∷ []

@@ -35,6 +35,12 @@ pub record IsNewProgram (p : Program) : Type 0 where
   pub regions : region_names p.scope.parameters ≡ []
   pub mode : p.mode ≡ modes.Analysis
 
+-- names and declarations are in step: the types and the traits that have names are those of the store,
+-- in order, with their sorts
+pub record IsInStep (p : Program) : Type 0 where
+  pub types : map (λ s. s.sorts.items) p.names.types.items ≡ map (λ d. d.sorts) p.cx.declarations.ctors
+  pub traits : map (λ s. s.sorts.items) p.names.traits.items ≡ p.cx.declarations.traits
+
 -- what is written of a goal: the text of an answer, which is `yes` only where the goal that the nodes
 -- say is proved
 pub record IsTold (old new : Program) (rs : List Resolved) (text : List ℕ) : Type 0 where

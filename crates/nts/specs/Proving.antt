@@ -1,5 +1,5 @@
 -- Why a goal is answered as it is.
-use Rattle.std.specs.Prelude.{◌≡◌, ℕ, List, []}
+use Rattle.std.specs.Prelude.{◌≡◌, ℕ, List, [], All}
 use Rattle.nts_model.specs.declared.labels.Variance.{Variance}
 use Rattle.nts_model.specs.Handlers.{meaning}
 use Rattle.nts_model.specs.Proving.{HasHeldProof}
@@ -18,7 +18,7 @@ use Rattle.nts_text.specs.declared.parser.Mode.{Mode}
 use Rattle.nts_text.specs.declared.parser.Mode.TheVariants as modes
 use Rattle.nts.specs.Found.{IsFoundIn}
 use Rattle.nts_text.specs.declared.resolver.Resolved.{Resolved}
-use Rattle.nts.specs.Meaning.{HasOwnPlaces, AreVariablesFrom, IsGoalOf}
+use Rattle.nts.specs.Meaning.{HasOwnPlaces, HasPlace, AreVariablesFrom, IsGoalOf}
 use Rattle.nts.specs.declared.answer.Found.{Found}
 use Rattle.nts.specs.declared.answer.Answer.{Answer}
 use Rattle.nts.specs.declared.answer.Answer.TheVariants as answers
@@ -44,6 +44,7 @@ pub record IsHeld (m : Mode) (rs : List Resolved) (ts us : List Tree) (h : Claus
   pub goal : Goal
   pub values : List GenericArg
   pub own : HasOwnPlaces f.variables
+  pub placed : All (HasPlace f.variables) rs
   pub first : AreVariablesFrom 0 store f.variables.sorts.items values
   pub mode : IsTypingMode m table.mode
   pub asked : IsGoalOf store f.variables values rs goal

@@ -8,7 +8,7 @@ ghost use Rattle.nts_delegate.specs.declared.clauses.Clause.{Clause};
 ghost use Rattle.nts_text.specs.Lines.{IsPassedOver};
 ghost use Rattle.nts_text.specs.Resolution.{trait_sorts};
 ghost use Rattle.nts.specs.Meaning.{AreConditions, IsRuleOf, IsRuleFor};
-ghost use Rattle.nts.specs.Obeying.{IsNewProgram, Follows, KeepsRules, IsTold, IsObeyed};
+ghost use Rattle.nts.specs.Obeying.{IsNewProgram, Follows, KeepsRules, IsTold, IsObeyed, IsInStep};
 ghost use Rattle.nts_terms.specs.Rest.{Grows};
 
 use crate::answer::ask;
@@ -40,6 +40,7 @@ impl Program {
     pub fn new(alloc: Global) -> Self
         ensures ready { AreReady result.cx.nodes result.clauses }
         ensures new { IsNewProgram result }
+        ensures step { IsInStep result }
     {
         Program {
             alloc,
@@ -58,6 +59,7 @@ impl Program {
         ensures passed { IfOk result (λ o. IsPassedOver line.now → IsNone o) }
         ensures refused { OnErr result (IsPassedOver line.now → ⊥) }
         ensures obeyed { IfOk result (IsObeyed line.now self.old self.new) }
+        ensures step { OnOk result (IsInStep self.old → IsInStep self.new) }
     {
         match read_command(self.alloc, line, &mut self.names, &mut self.scope)? {
             Some(command) => self.follow(command),

@@ -68,6 +68,8 @@ impl NameTable {
     /// No names but those of the known types.
     pub fn new(alloc: Global) -> Self
         ensures empty { (name : List ℕ) → declared_as result name ≡ None }
+        ensures types { result.types.items ≡ [] }
+        ensures traits { result.traits.items ≡ [] }
     {
         NameTable {
             numbers: IndexMap::new(alloc),

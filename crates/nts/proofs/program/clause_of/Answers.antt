@@ -1,6 +1,7 @@
 use Rattle.std.proofs.Common.{refl, sym, ◌∙◌}
 use Rattle.nts_store.proofs.Growing.{Extends-trans}
 use Rattle.nts.proofs.Meant.{one_item}
+use Rattle.nts.proofs.Places.{all_placed}
 use Rattle.nts.proofs.Rules.{rule_of}
 use Rattle.nts.proofs.program.clause_of.Goals as goal
 
@@ -12,4 +13,4 @@ returns-clause-rule c = λ us later.
     let said = rw c.deref-2.ensures.value at c.in_ok-heads.ensures.said in
     let conditions = rw c.deref-2.ensures.value at c.in_ok-body.ensures.conditions in
     rule_of c.trait_refs.new.cx.nodes c.conditions.new.cx.nodes us c.see-2.new.self c.in_ok-values.values.items c.args.head.now c.args.body.now c.in_ok-heads.heads.items _ _
-    own refl refl refl placed said (sym c.as_slice.ensures.value ∙ one_item c.as_slice.result.now _ c.in-len1.len_at_least c.in-len1.len_below) after conditions later
+    own (all_placed _ _ c.args.head.now c.in_ok-see-2.ensures.kept c.in_ok-see.ensures.placed, c.in_ok-see-2.ensures.placed) refl refl refl placed said (sym c.as_slice.ensures.value ∙ one_item c.as_slice.result.now _ c.in-len1.len_at_least c.in-len1.len_below) after conditions later

@@ -4,8 +4,8 @@ use Rattle.nts_model.specs.declared.labels.Sort.TheVariants as sort
 use Rattle.nts.proofs.Places.{own_sort, own_type}
 use Rattle.nts.proofs.variables.LineVariables.add_type.Goals as goal
 
-pub returns-in_err-push-2 : goal.returns-in_err-push-2
-returns-in_err-push-2 c = record { own = own_sort _ _ sort.Ty c.in_ok-push.ensures.items c.in_err-push-2.ensures.items refl }
+pub returns-in_err-push-2-clause-own : goal.returns-in_err-push-2-clause-own
+returns-in_err-push-2-clause-own c = own_sort _ _ sort.Ty c.in_ok-push.ensures.items c.in_err-push-2.ensures.items refl
 
-pub returns : goal.returns
-returns c = record { own = own_type _ _ c.len-place.result (grind (arith, common_steps, c.len-place.ensures)) c.in_ok-push.ensures.items c.in_ok-push-2.ensures.items refl }
+pub returns-clause-own : goal.returns-clause-own
+returns-clause-own c = own_type _ _ c.len-place.result (grind (arith, common_steps, c.len-place.ensures)) c.in_ok-push.ensures.items c.in_ok-push-2.ensures.items refl
