@@ -4,12 +4,14 @@ use Rattle.nts_model.specs.declared.labels.Sort.{Sort}
 use Rattle.nts_model.specs.declared.labels.TyHead.TheVariants as ty
 use Rattle.nts_model.specs.declared.labels.ConstHead.TheVariants as konst
 use Rattle.nts_model.specs.declared.labels.ListHead.TheVariants as list
+use Rattle.nts_model.specs.declared.labels.AliasHead.{AliasHead}
+use Rattle.nts_model.specs.declared.labels.AliasHead.TheVariants as alias_of
 use Rattle.nts_model.specs.declared.labels.Label.{Label}
 use Rattle.nts_model.specs.declared.labels.Label.TheVariants as label
 use Rattle.nts_model.specs.Trees.{Tree, empty, more, node, kind_of, arguments, sort_list, one_sort, binders, IsClosedUnder, is_alias, is, any_argument, HavePlaces, AllFit, IsFormed}
 use Rattle.nts_model.specs.Regions.{RegionName, name_of_label, IsRegion}
 use Rattle.nts_model.specs.Alike.{Alike, one_tree, two_regions, one_label, two_rows}
-use Rattle.nts_model.specs.Related.{AliasHead, of_type, of_const, alias_label, IsAlias}
+use Rattle.nts_model.specs.Related.{alias_label, IsAlias}
 use Rattle.nts_model.specs.Related.{arguments as arguments_of}
 use Rattle.nts_model.proofs.Substituting.{region_alone, no_children}
 use Rattle.nts_model.proofs.Served.{closed_or_not}
@@ -36,17 +38,17 @@ arguments_in (more a r) h f =
 
 -- whether a node is an alias
 alias_of_label : (l : Label) → is_alias l ≡ true → (h : AliasHead) × (l ≡ alias_label h)
-alias_of_label (label.Ty (ty.Alias i)) e = (of_type i, refl)
-alias_of_label (label.Const (konst.Unevaluated i)) e = (of_const i, refl)
+alias_of_label (label.Ty (ty.Alias i)) e = (alias_of.Ty i, refl)
+alias_of_label (label.Const (konst.Unevaluated i)) e = (alias_of.Const i, refl)
 alias_of_label l e = absurd (cc e)
 
 alias_label_is : (h : AliasHead) → is_alias (alias_label h) ≡ true
-alias_label_is (of_type i) = refl
-alias_label_is (of_const i) = refl
+alias_label_is (alias_of.Ty i) = refl
+alias_label_is (alias_of.Const i) = refl
 
 pub alias_places : (h : AliasHead) (c : Tree) → IsFormed (node (alias_label h) c) → HavePlaces (is arguments ∷ []) c × IsFormed c
-alias_places (of_type i) c f = f
-alias_places (of_const i) c f = f
+alias_places (alias_of.Ty i) c f = f
+alias_places (alias_of.Const i) c f = f
 
 label_same : (l m : Label) (c d : Tree) → node l c ≡ node m d → l ≡ m
 label_same l m c d e = cc e

@@ -11,6 +11,8 @@ use Rattle.nts_model.specs.declared.labels.Constant.TheVariants as constant
 use Rattle.nts_model.specs.declared.labels.Leaf.{Leaf}
 use Rattle.nts_model.specs.declared.labels.Leaf.TheVariants as leaf
 use Rattle.nts_model.specs.declared.labels.BoundVarIndexKind.TheVariants as index
+use Rattle.nts_model.specs.declared.labels.AliasHead.{AliasHead}
+use Rattle.nts_model.specs.declared.labels.AliasHead.TheVariants as alias_of
 use Rattle.nts_model.specs.declared.labels.TyHead.TheVariants as ty
 use Rattle.nts_model.specs.declared.labels.ConstHead.TheVariants as konst
 use Rattle.nts_model.specs.declared.labels.ClauseHead.TheVariants as clause
@@ -153,6 +155,11 @@ sort_of_leaf (leaf.Region r) = sort.Region
 sort_of_leaf (leaf.TyConstant c) = sort.Ty
 sort_of_leaf (leaf.ConstConstant c) = sort.Const
 
+-- the sort of an alias, and of what it stands for
+abbrev pub sort_of_alias : AliasHead → Sort
+sort_of_alias (alias_of.Ty i) = sort.Ty
+sort_of_alias (alias_of.Const i) = sort.Const
+
 abbrev pub kind_of_label : Label → NodeKind
 kind_of_label (label.Leaf l) = of_sort (sort_of_leaf l)
 kind_of_label (label.Bound s i n) = of_sort s
@@ -210,6 +217,10 @@ a_region = is (of_sort sort.Region)
 abbrev pub a_const : Place
 a_const = is (of_sort sort.Const)
 
+-- what an alias stands for: a type for an alias of a type, a const for one that is to be evaluated
+abbrev pub a_result : AliasHead → Place
+a_result h = is (of_sort (sort_of_alias h))
+
 abbrev pub shape : Label → Shape
 shape (label.Ty (ty.Ctor i)) = in_order (is arguments ∷ [])
 shape (label.Ty ty.FnPtr) = in_order (is sort_list ∷ is arguments ∷ [])
@@ -218,7 +229,7 @@ shape (label.Const (konst.Unevaluated i)) = in_order (is arguments ∷ [])
 shape (label.Const (konst.Value b)) = in_order (a_type ∷ [])
 shape (label.Clause (clause.Trait i)) = in_order (is arguments ∷ [])
 shape (label.Clause (clause.HostEffect i)) = in_order (is arguments ∷ [])
-shape (label.Clause (clause.Projection i)) = in_order (is arguments ∷ any_term ∷ [])
+shape (label.Clause (clause.Projection h)) = in_order (is arguments ∷ a_result h ∷ [])
 shape (label.Clause clause.TypeOutlives) = in_order (a_type ∷ a_region ∷ [])
 shape (label.Clause clause.RegionOutlives) = in_order (a_region ∷ a_region ∷ [])
 shape (label.Clause clause.ConstArgHasType) = in_order (a_const ∷ a_type ∷ [])
@@ -227,7 +238,7 @@ shape (label.Clause clause.ConstEvaluatable) = in_order (a_const ∷ [])
 shape (label.Predicate (predicate.Subtype e)) = in_order (a_type ∷ a_type ∷ [])
 shape (label.Predicate predicate.Coerce) = in_order (a_type ∷ a_type ∷ [])
 shape (label.Predicate predicate.ConstEquate) = in_order (a_const ∷ a_const ∷ [])
-shape (label.Predicate (predicate.NormalizesTo i)) = in_order (is arguments ∷ any_term ∷ [])
+shape (label.Predicate (predicate.NormalizesTo h)) = in_order (is arguments ∷ a_result h ∷ [])
 shape (label.Predicate (predicate.AliasRelate d)) = in_order (any_term ∷ any_term ∷ [])
 shape (label.List list.Args) = each any_argument
 shape (label.List list.Env) = each (is bound_predicate)

@@ -113,6 +113,13 @@ pub enum BoundVarIndexKind {
     Canonical,
 }
 
+/// An alias by its declaration's number: one of a type, or a const that is to be evaluated.
+#[derive(Clone, Copy, PartialEq, Eq, Hash)]
+pub enum AliasHead {
+    Ty(usize),
+    Const(usize),
+}
+
 /// The types that are built from others. An alias has its declaration's number.
 #[derive(Clone, Copy, PartialEq, Eq, Hash)]
 pub enum TyHead {
@@ -133,12 +140,12 @@ pub enum ConstHead {
     Error,
 }
 
-/// The predicates that may stand in an environment.
+/// The predicates that may stand in an environment. A Projection says what its alias stands for.
 #[derive(Clone, Copy, PartialEq, Eq, Hash)]
 pub enum ClauseHead {
     Trait(usize),
     HostEffect(usize),
-    Projection(usize),
+    Projection(AliasHead),
     TypeOutlives,
     RegionOutlives,
     ConstArgHasType,
@@ -155,7 +162,7 @@ pub enum PredicateHead {
     Coerce,
     DynCompatible(usize),
     ConstEquate,
-    NormalizesTo(usize),
+    NormalizesTo(AliasHead),
     AliasRelate(AliasRelationDirection),
     Ambiguous,
 }

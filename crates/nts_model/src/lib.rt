@@ -12,7 +12,7 @@ mod labels;
 
 pub use inputs::{forms_tell_inputs, making_gives_form, originals_give_input};
 pub use labels::{
-    AliasRelationDirection, BoundVarIndexKind, ClauseHead, ConstHead, Constant, DebruijnIndex,
-    FloatTy, FreeRegion, IntTy, Label, Leaf, ListHead, PredicateHead, Relation, Sort, TyHead,
-    UintTy, VariableKind, Variance,
+    AliasHead, AliasRelationDirection, BoundVarIndexKind, ClauseHead, ConstHead, Constant,
+    DebruijnIndex, FloatTy, FreeRegion, IntTy, Label, Leaf, ListHead, PredicateHead, Relation,
+    Sort, TyHead, UintTy, VariableKind, Variance,
 };
