@@ -1,6 +1,9 @@
 -- What a handle stands for.
-use Rattle.std.specs.Prelude.{List}
-use Rattle.nts_model.specs.Trees.{Tree, kind_of, arguments, environment, bound_predicate, sort_list, Place, is, any_term, any_argument, FitsPlace, a_type, a_region, a_const}
+use Rattle.std.specs.Prelude.{◌≡◌, List}
+use Rattle.nts_model.specs.declared.labels.Sort.{Sort}
+use Rattle.nts_model.specs.declared.labels.AliasHead.{AliasHead}
+use Rattle.nts_model.specs.declared.labels.AliasHead.TheVariants as alias_of
+use Rattle.nts_model.specs.Trees.{Tree, kind_of, arguments, environment, bound_predicate, sort_list, Place, is, any_term, any_argument, FitsPlace, a_type, a_region, a_const, a_result, sort_of_alias}
 use Rattle.nts_store.specs.declared.nodes.NodeId.{NodeId}
 use Rattle.nts_terms.specs.declared.handles.Ty.{Ty}
 use Rattle.nts_terms.specs.declared.handles.Region.{Region}
@@ -12,6 +15,9 @@ use Rattle.nts_terms.specs.declared.handles.Predicate.{Predicate}
 use Rattle.nts_terms.specs.declared.handles.ParamEnv.{ParamEnv}
 use Rattle.nts_terms.specs.declared.handles.Goal.{Goal}
 use Rattle.nts_terms.specs.declared.handles.BoundVars.{BoundVars}
+use Rattle.nts_terms.specs.declared.handles.AliasDefId.{AliasDefId}
+use Rattle.nts_terms.specs.declared.handles.AliasDefId.TheVariants as alias_def
+use Rattle.nts_terms.specs.declared.handles.AliasTerm.{AliasTerm}
 use Rattle.nts_store.specs.Growth.{tree_at, IsIn}
 
 -- a term of the store that may stand at such a place
@@ -45,6 +51,19 @@ HoldsPredicate ts p = Holds (is bound_predicate) ts p.node
 
 abbrev pub HoldsEnv : List Tree → ParamEnv → Type 0
 HoldsEnv ts e = Holds (is environment) ts e.node
+
+-- an alias by its head in a label
+abbrev pub head_of : AliasDefId → AliasHead
+head_of (alias_def.Ty a) = alias_of.Ty a.number
+head_of (alias_def.Const c) = alias_of.Const c.number
+
+-- an alias of types, or a const that is to be evaluated
+abbrev pub IsAliasOf : Sort → AliasTerm → Type 0
+IsAliasOf s a = sort_of_alias (head_of a.def_id) ≡ s
+
+-- a term that the alias may stand for: a type or a const, as the alias is
+abbrev pub HoldsResult : List Tree → AliasTerm → Term → Type 0
+HoldsResult ts a t = Holds (a_result (head_of a.def_id)) ts t.node
 
 -- a goal of the store
 pub record HoldsGoal (ts : List Tree) (g : Goal) : Type 0 where

@@ -5,6 +5,7 @@ use Rattle.nts_model.specs.declared.labels.Variance.{Variance}
 use Rattle.nts_model.specs.Trees.{Tree, empty, more, children, kind_of, of_sort}
 use Rattle.nts_terms.specs.declared.handles.DefId.{DefId}
 use Rattle.nts_terms.specs.declared.handles.DefId.TheVariants as def
+use Rattle.nts_terms.specs.declared.handles.AliasDefId.TheVariants as alias_def
 use Rattle.nts_terms.specs.declared.declarations.AliasKind.{AliasKind}
 use Rattle.nts_terms.specs.declared.kinds.TyKind.{TyKind}
 use Rattle.nts_terms.specs.declared.kinds.TyKind.TheVariants as ty
@@ -74,8 +75,8 @@ const_type (Some c) = Some c.ty
 abbrev pub sorts_of : Declared → DefId → Option (List Sort)
 sorts_of d (def.Ctor c) = ctor_sorts (slice_get d.ctors c.number)
 sorts_of d (def.Trait t) = slice_get d.traits t.number
-sorts_of d (def.Alias a) = alias_sorts (slice_get d.aliases a.number)
-sorts_of d (def.Const c) = const_sorts (slice_get d.consts c.number)
+sorts_of d (def.Alias (alias_def.Ty a)) = alias_sorts (slice_get d.aliases a.number)
+sorts_of d (def.Alias (alias_def.Const c)) = const_sorts (slice_get d.consts c.number)
 
 -- the type of a declared const
 abbrev pub type_of : Declared → ConstId → Option Ty
@@ -102,7 +103,7 @@ TyIsDeclared d ts (ty.Alias a) = AreDeclared d (def.Alias a.def_id) (tree_at ts 
 TyIsDeclared d ts k = Unit {0}
 
 abbrev pub ConstIsDeclared : Declared → List Tree → ConstKind → Type 0
-ConstIsDeclared d ts (konst.Unevaluated c) = AreDeclared d (def.Const c.def_id) (tree_at ts c.args.node)
+ConstIsDeclared d ts (konst.Unevaluated a) = AreDeclared d (def.Alias a.def_id) (tree_at ts a.args.node)
 ConstIsDeclared d ts k = Unit {0}
 
 abbrev pub ClauseIsDeclared : Declared → List Tree → ClauseKind → Type 0

@@ -1,7 +1,7 @@
 //! What is declared, by number.
 ghost use Rattle.std.specs.Prelude.{◌≡◌, ◌++◌, ◌∷◌, [], length, IfOk, OnOk, OnErr, IsOkUnless, MatchOption, Some, None};
 
-use crate::handles::{AliasId, ConstId, CtorId, DefId, TraitId, Ty};
+use crate::handles::{AliasDefId, AliasId, ConstId, CtorId, DefId, TraitId, Ty};
 use nts_model::{Sort, Variance};
 use nts_store::Fault;
 use std::alloc::Global;
@@ -189,11 +189,11 @@ impl Declarations {
                 Some(signature) => Some(signature.sorts.as_slice()),
                 None => None,
             },
-            DefId::Alias(a) => match self.aliases.get(a.number) {
+            DefId::Alias(AliasDefId::Ty(a)) => match self.aliases.get(a.number) {
                 Some(alias) => Some(alias.sorts.as_slice()),
                 None => None,
             },
-            DefId::Const(c) => match self.consts.get(c.number) {
+            DefId::Alias(AliasDefId::Const(c)) => match self.consts.get(c.number) {
                 Some(ct) => Some(ct.sorts.as_slice()),
                 None => None,
             },

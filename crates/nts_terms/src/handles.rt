@@ -1,7 +1,11 @@
 //! Handles of the terms of a store, and plain data over them.
 ghost use Rattle.std.specs.Prelude.{◌≡◌};
+ghost use Rattle.nts_model.specs.Related.{alias_label};
+ghost use Rattle.nts_terms.specs.Handles.{head_of};
+ghost use Rattle.nts_terms.specs.declared.handles.AliasDefId.TheVariants as alias_def;
 
 use crate::modes::UniverseIndex;
+use nts_model::{AliasHead, ConstHead, Label, TyHead};
 use nts_store::NodeId;
 
 /// A type.
@@ -82,13 +86,67 @@ pub struct ConstId {
     pub number: usize,
 }
 
+/// What is declared as an alias: one of types, or a const, which is to be evaluated.
+#[derive(Clone, Copy, PartialEq, Eq, Hash)]
+pub enum AliasDefId {
+    Ty(AliasId),
+    Const(ConstId),
+}
+
+impl AliasDefId {
+    /// The alias that a predicate names.
+    pub(crate) fn of_head(head: AliasHead) -> AliasDefId
+        ensures { head_of result ≡ head }
+    {
+        match head {
+            AliasHead::Ty(number) => AliasDefId::Ty(AliasId { number }),
+            AliasHead::Const(number) => AliasDefId::Const(ConstId { number }),
+        }
+    }
+
+    /// How a predicate names the alias.
+    pub(crate) fn head(self) -> AliasHead
+        ensures { result ≡ head_of self }
+    {
+        match self {
+            AliasDefId::Ty(alias) => AliasHead::Ty(alias.number),
+            AliasDefId::Const(ct) => AliasHead::Const(ct.number),
+        }
+    }
+
+    /// The label of a type or a const that is the alias.
+    pub(crate) fn label(self) -> Label
+        ensures { result ≡ alias_label (head_of self) }
+    {
+        match self {
+            AliasDefId::Ty(alias) => Label::Ty(TyHead::Alias(alias.number)),
+            AliasDefId::Const(ct) => Label::Const(ConstHead::Unevaluated(ct.number)),
+        }
+    }
+}
+
+impl From<AliasId> for AliasDefId {
+    ghost from_gives = { λ a r. r ≡ alias_def.Ty a };
+
+    fn from(alias: AliasId) -> AliasDefId {
+        AliasDefId::Ty(alias)
+    }
+}
+
+impl From<ConstId> for AliasDefId {
+    ghost from_gives = { λ c r. r ≡ alias_def.Const c };
+
+    fn from(ct: ConstId) -> AliasDefId {
+        AliasDefId::Const(ct)
+    }
+}
+
 /// Something declared that takes arguments.
 #[derive(Clone, Copy, PartialEq, Eq, Hash)]
 pub enum DefId {
     Ctor(CtorId),
     Trait(TraitId),
-    Alias(AliasId),
-    Const(ConstId),
+    Alias(AliasDefId),
 }
 
 /// A value in which variables of these sorts are bound.
@@ -98,17 +156,10 @@ pub struct Binder<T> {
     pub value: T,
 }
 
-/// An alias applied to arguments.
+/// An alias of types, or a const that is to be evaluated, applied to arguments.
 #[derive(Clone, Copy)]
 pub struct AliasTerm {
-    pub def_id: AliasId,
-    pub args: GenericArgs,
-}
-
-/// A declared const applied to arguments, which is to be evaluated.
-#[derive(Clone, Copy)]
-pub struct UnevaluatedConst {
-    pub def_id: ConstId,
+    pub def_id: AliasDefId,
     pub args: GenericArgs,
 }
 

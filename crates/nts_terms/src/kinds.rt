@@ -2,7 +2,6 @@
 use crate::handles::{
     AliasTerm, Binder, BoundConst, BoundRegion, BoundTy, Const, CtorId, FnSig, GenericArgs,
     PlaceholderConst, PlaceholderRegion, PlaceholderType, Region, Term, TraitId, TraitRef, Ty,
-    UnevaluatedConst,
 };
 use nts_model::{AliasRelationDirection, BoundVarIndexKind, FloatTy, IntTy, UintTy};
 
@@ -51,7 +50,7 @@ pub enum ConstKind {
     Infer(usize),
     Bound(BoundVarIndexKind, BoundConst),
     Placeholder(PlaceholderConst),
-    Unevaluated(UnevaluatedConst),
+    Unevaluated(AliasTerm),
     Value { ty: Ty, bits: u128 },
     Error,
 }

@@ -19,10 +19,9 @@ mod views;
 pub use cx::Cx;
 pub use declarations::{AliasKind, Declarations};
 pub use handles::{
-    AliasId, AliasTerm, Binder, BoundConst, BoundRegion, BoundTy, BoundVars, Const, ConstId,
-    CtorId, DefId, FnSig, GenericArg, GenericArgs, Goal, ParamEnv, PlaceholderConst,
+    AliasDefId, AliasId, AliasTerm, Binder, BoundConst, BoundRegion, BoundTy, BoundVars, Const,
+    ConstId, CtorId, DefId, FnSig, GenericArg, GenericArgs, Goal, ParamEnv, PlaceholderConst,
     PlaceholderRegion, PlaceholderType, Predicate, Region, Term, TraitId, TraitRef, Ty,
-    UnevaluatedConst,
 };
 pub use holding::Stored;
 pub use kinds::{

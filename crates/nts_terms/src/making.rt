@@ -37,10 +37,7 @@ impl Cx {
                 let children = [sig.vars.node, sig.value.inputs_and_output.node];
                 self.nodes.make(Label::Ty(TyHead::FnPtr), &children)?
             }
-            TyKind::Alias(alias) => {
-                let head = TyHead::Alias(alias.def_id.number);
-                self.nodes.make(Label::Ty(head), &[alias.args.node])?
-            }
+            TyKind::Alias(alias) => self.nodes.make(alias.def_id.label(), &[alias.args.node])?,
             TyKind::Int(int) => self.nodes.make(Label::Ty(TyHead::Int(int)), &[])?,
             TyKind::Uint(uint) => self.nodes.make(Label::Ty(TyHead::Uint(uint)), &[])?,
             TyKind::Float(float) => self.nodes.make(Label::Ty(TyHead::Float(float)), &[])?,
@@ -115,9 +112,8 @@ impl Cx {
                 self.nodes
                     .make(Label::Leaf(Leaf::ConstConstant(constant)), &[])?
             }
-            ConstKind::Unevaluated(ct) => {
-                let head = ConstHead::Unevaluated(ct.def_id.number);
-                self.nodes.make(Label::Const(head), &[ct.args.node])?
+            ConstKind::Unevaluated(alias) => {
+                self.nodes.make(alias.def_id.label(), &[alias.args.node])?
             }
             ConstKind::Value { ty, bits } => {
                 self.nodes
@@ -172,7 +168,7 @@ impl Cx {
             PredicateKind::ConstEquate(a, b) => (PredicateHead::ConstEquate, a.node, b.node),
             PredicateKind::NormalizesTo { alias, term } => {
                 (
-                    PredicateHead::NormalizesTo(alias.def_id.number),
+                    PredicateHead::NormalizesTo(alias.def_id.head()),
                     alias.args.node,
                     term.node,
                 )
@@ -201,7 +197,7 @@ impl Cx {
                 self.nodes.make(Label::Clause(head), &[r.args.node])?
             }
             ClauseKind::Projection { alias, term } => {
-                let head = ClauseHead::Projection(alias.def_id.number);
+                let head = ClauseHead::Projection(alias.def_id.head());
                 self.nodes
                     .make(Label::Clause(head), &[alias.args.node, term.node])?
             }

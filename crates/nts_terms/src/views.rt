@@ -1,24 +1,24 @@
 //! Reading the kinds of terms off their nodes.
 ghost use Rattle.std.specs.Prelude.{◌≡◌, List, [], ◌∷◌};
-ghost use Rattle.nts_model.specs.Trees.{Tree, node, more, empty, children, sort_of_leaf, shape, Meets, Place, is, any_term, arguments, statement, HavePlaces};
+ghost use Rattle.nts_model.specs.Trees.{Tree, node, more, empty, children, sort_of_leaf, shape, Meets, Place, is, arguments, statement, a_result, HavePlaces};
 ghost use Rattle.nts_model.specs.declared.labels.Sort.TheVariants as sort;
 ghost use Rattle.nts_model.specs.declared.labels.Label.TheVariants as label;
 ghost use Rattle.nts_store.specs.Growth.{tree_at, IsIn};
-ghost use Rattle.nts_terms.specs.Handles.{Holds, HoldsTy, HoldsRegion, HoldsConst, HoldsTerm, HoldsArg, HoldsArgs, HoldsPredicate};
+ghost use Rattle.nts_terms.specs.Handles.{Holds, HoldsTy, HoldsRegion, HoldsConst, HoldsTerm, HoldsArg, HoldsArgs, HoldsPredicate, HoldsResult, head_of};
 ghost use Rattle.nts_terms.specs.Kinds.{IsOne, AreTwo, one, two, tree_of_ty, TyFits, tree_of_region, tree_of_const, ConstFits, tree_of_clause, ClauseFits, tree_of_statement, StatementFits, tree_of_predicate, PredicateFits, node_of_term, TermFits, node_of_argument, ArgumentFits};
 
 use crate::cx::Cx;
 use crate::handles::{
-    AliasId, AliasTerm, Binder, BoundConst, BoundRegion, BoundTy, BoundVars, Const, ConstId,
-    CtorId, FnSig, GenericArg, GenericArgs, PlaceholderConst, PlaceholderRegion, PlaceholderType,
-    Predicate, Region, Term, TraitId, TraitRef, Ty, UnevaluatedConst,
+    AliasDefId, AliasId, AliasTerm, Binder, BoundConst, BoundRegion, BoundTy, BoundVars, Const,
+    ConstId, CtorId, FnSig, GenericArg, GenericArgs, PlaceholderConst, PlaceholderRegion,
+    PlaceholderType, Predicate, Region, Term, TraitId, TraitRef, Ty,
 };
 use crate::kinds::{
     ClauseKind, ConstKind, GenericArgKind, InferTy, PredicateKind, RegionKind, TermKind, TyKind,
 };
 use nts_model::{
-    ClauseHead, ConstHead, Constant, FreeRegion, Label, Leaf, ListHead, PredicateHead, Sort,
-    TyHead, VariableKind,
+    AliasHead, ClauseHead, ConstHead, Constant, FreeRegion, Label, Leaf, ListHead, PredicateHead,
+    Sort, TyHead, VariableKind,
 };
 use nts_store::{NodeId, Nodes, sort_of};
 
@@ -79,10 +79,8 @@ impl Ty {
                 let args = GenericArgs {
                     node: only_child(nodes, self.node),
                 };
-                TyKind::Alias(AliasTerm {
-                    def_id: AliasId { number },
-                    args,
-                })
+                let def_id = AliasDefId::Ty(AliasId { number });
+                TyKind::Alias(AliasTerm { def_id, args })
             }
             Label::Ty(TyHead::Error) => TyKind::Error,
             Label::Const(_) => unreachable!(),
@@ -169,10 +167,8 @@ impl Const {
                 let args = GenericArgs {
                     node: only_child(nodes, self.node),
                 };
-                ConstKind::Unevaluated(UnevaluatedConst {
-                    def_id: ConstId { number },
-                    args,
-                })
+                let def_id = AliasDefId::Const(ConstId { number });
+                ConstKind::Unevaluated(AliasTerm { def_id, args })
             }
             Label::Const(ConstHead::Value(bits)) => {
                 let ty = Ty {
@@ -305,8 +301,8 @@ fn goal_kind(nodes: &Nodes, t: NodeId, head: PredicateHead) -> PredicateKind
             let (a, b) = both_children(nodes, t);
             PredicateKind::ConstEquate(Const { node: a }, Const { node: b })
         }
-        PredicateHead::NormalizesTo(number) => {
-            let (alias, term) = alias_and_term(nodes, t, AliasId { number });
+        PredicateHead::NormalizesTo(head) => {
+            let (alias, term) = alias_and_result(nodes, t, head);
             PredicateKind::NormalizesTo { alias, term }
         }
         PredicateHead::AliasRelate(direction) => {
@@ -331,8 +327,8 @@ fn clause_kind(nodes: &Nodes, t: NodeId, head: ClauseHead) -> ClauseKind
         ClauseHead::HostEffect(number) => {
             ClauseKind::HostEffect(trait_ref(nodes, t, TraitId { number }))
         }
-        ClauseHead::Projection(number) => {
-            let (alias, term) = alias_and_term(nodes, t, AliasId { number });
+        ClauseHead::Projection(head) => {
+            let (alias, term) = alias_and_result(nodes, t, head);
             ClauseKind::Projection { alias, term }
         }
         ClauseHead::TypeOutlives => {
@@ -373,17 +369,18 @@ fn trait_ref(nodes: &Nodes, t: NodeId, def_id: TraitId) -> TraitRef
     TraitRef { def_id, args }
 }
 
-/// The alias and the term that a node has as its children.
+/// The alias with its arguments and what it stands for, which a node has as its children.
 #[tactic(auto, using(crate::proofs::Places::places))]
-fn alias_and_term(nodes: &Nodes, t: NodeId, def_id: AliasId) -> (AliasTerm, Term)
+fn alias_and_result(nodes: &Nodes, t: NodeId, head: AliasHead) -> (AliasTerm, Term)
     requires within { IsIn nodes.now t }
-    requires formed { HavePlaces (is arguments ∷ any_term ∷ []) (children (tree_at nodes.now t)) }
-    ensures def { result.0.def_id ≡ def_id }
+    requires formed { HavePlaces (is arguments ∷ a_result head ∷ []) (children (tree_at nodes.now t)) }
+    ensures def { head_of result.0.def_id ≡ head }
     ensures children { children (tree_at nodes.now t) ≡ two nodes.now result.0.args.node result.1.node }
     ensures alias { HoldsArgs nodes.now result.0.args }
-    ensures term { HoldsTerm nodes.now result.1 }
+    ensures term { HoldsResult nodes.now result.0 result.1 }
 {
     let (args, term) = both_children(nodes, t);
     let args = GenericArgs { node: args };
+    let def_id = AliasDefId::of_head(head);
     (AliasTerm { def_id, args }, Term { node: term })
 }
