@@ -13,7 +13,7 @@ use Rattle.nts_terms.specs.declared.kinds.PredicateKind.{PredicateKind}
 use Rattle.nts_terms.specs.declared.kinds.PredicateKind.TheVariants as predicate
 use Rattle.nts_terms.specs.declared.cx.Cx.{Cx}
 use Rattle.nts_store.specs.Growth.{tree_at, IsIn, Extends}
-use Rattle.nts_terms.specs.Handles.{Holds, head_of}
+use Rattle.nts_terms.specs.Handles.{Holds, alias_head}
 use Rattle.nts_terms.specs.Kinds.{one, two, tree_of_ty, TyFits, tree_of_const, ConstFits, tree_of_clause, ClauseFits, tree_of_statement, StatementFits, tree_of_predicate, PredicateFits}
 use Rattle.nts_terms.specs.Signatures.{Declared, AreDeclared}
 use Rattle.nts_terms.specs.declared.handles.DefId.{DefId}
@@ -91,7 +91,7 @@ one_extended e p m h = cc (e.kept m h.within)
 pub ClauseFits-extended : {a b : List Tree} → Extends a b → (k : ClauseKind) → ClauseFits a k → ClauseFits b k
 ClauseFits-extended e (clause.Trait r) h = Holds-extended (is arguments) r.args.node e h
 ClauseFits-extended e (clause.HostEffect r) h = Holds-extended (is arguments) r.args.node e h
-ClauseFits-extended e (clause.Projection x t) h = both_extended e (is arguments) (a_result (head_of x.def_id)) x.args.node t.node h
+ClauseFits-extended e (clause.Projection x t) h = both_extended e (is arguments) (a_result (alias_head x.def_id)) x.args.node t.node h
 ClauseFits-extended e (clause.TypeOutlives t r) h = both_extended e a_type a_region t.node r.node h
 ClauseFits-extended e (clause.RegionOutlives r s) h = both_extended e a_region a_region r.node s.node h
 ClauseFits-extended e (clause.ConstArgHasType c t) h = both_extended e a_const a_type c.node t.node h
@@ -102,7 +102,7 @@ ClauseFits-extended e (clause.UnstableFeature n) h = tt
 pub tree_of_clause-extended : {a b : List Tree} → Extends a b → (k : ClauseKind) → ClauseFits a k → tree_of_clause b k ≡ tree_of_clause a k
 tree_of_clause-extended e (clause.Trait r) h = cc (one_extended e (is arguments) r.args.node h)
 tree_of_clause-extended e (clause.HostEffect r) h = cc (one_extended e (is arguments) r.args.node h)
-tree_of_clause-extended e (clause.Projection x t) h = cc (two_extended e (is arguments) (a_result (head_of x.def_id)) x.args.node t.node h)
+tree_of_clause-extended e (clause.Projection x t) h = cc (two_extended e (is arguments) (a_result (alias_head x.def_id)) x.args.node t.node h)
 tree_of_clause-extended e (clause.TypeOutlives t r) h = cc (two_extended e a_type a_region t.node r.node h)
 tree_of_clause-extended e (clause.RegionOutlives r s) h = cc (two_extended e a_region a_region r.node s.node h)
 tree_of_clause-extended e (clause.ConstArgHasType c t) h = cc (two_extended e a_const a_type c.node t.node h)
@@ -116,7 +116,7 @@ StatementFits-extended e (predicate.Subtype x s t) h = both_extended e a_type a_
 StatementFits-extended e (predicate.Coerce s t) h = both_extended e a_type a_type s.node t.node h
 StatementFits-extended e (predicate.DynCompatible i) h = tt
 StatementFits-extended e (predicate.ConstEquate s t) h = both_extended e a_const a_const s.node t.node h
-StatementFits-extended e (predicate.NormalizesTo x t) h = both_extended e (is arguments) (a_result (head_of x.def_id)) x.args.node t.node h
+StatementFits-extended e (predicate.NormalizesTo x t) h = both_extended e (is arguments) (a_result (alias_head x.def_id)) x.args.node t.node h
 StatementFits-extended e (predicate.AliasRelate s t d) h = both_extended e any_term any_term s.node t.node h
 StatementFits-extended e predicate.Ambiguous h = tt
 
@@ -127,7 +127,7 @@ tree_of_statement-extended e (predicate.Coerce s t) h = cc (two_extended e a_typ
 tree_of_statement-extended e (predicate.DynCompatible i) h = refl
 tree_of_statement-extended e (predicate.ConstEquate s t) h = cc (two_extended e a_const a_const s.node t.node h)
 tree_of_statement-extended e (predicate.NormalizesTo x t) h =
-    cc (two_extended e (is arguments) (a_result (head_of x.def_id)) x.args.node t.node h)
+    cc (two_extended e (is arguments) (a_result (alias_head x.def_id)) x.args.node t.node h)
 tree_of_statement-extended e (predicate.AliasRelate s t d) h = cc (two_extended e any_term any_term s.node t.node h)
 tree_of_statement-extended e predicate.Ambiguous h = refl
 

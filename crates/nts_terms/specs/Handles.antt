@@ -53,17 +53,17 @@ abbrev pub HoldsEnv : List Tree → ParamEnv → Type 0
 HoldsEnv ts e = Holds (is environment) ts e.node
 
 -- an alias by its head in a label
-abbrev pub head_of : AliasDefId → AliasHead
-head_of (alias_def.Ty a) = alias_of.Ty a.number
-head_of (alias_def.Const c) = alias_of.Const c.number
+abbrev pub alias_head : AliasDefId → AliasHead
+alias_head (alias_def.Ty a) = alias_of.Ty a.number
+alias_head (alias_def.Const c) = alias_of.Const c.number
 
 -- an alias of types, or a const that is to be evaluated
-abbrev pub IsAliasOf : Sort → AliasTerm → Type 0
-IsAliasOf s a = sort_of_alias (head_of a.def_id) ≡ s
+abbrev pub IsAliasOf : Sort → AliasDefId → Type 0
+IsAliasOf s a = sort_of_alias (alias_head a) ≡ s
 
 -- a term that the alias may stand for: a type or a const, as the alias is
 abbrev pub HoldsResult : List Tree → AliasTerm → Term → Type 0
-HoldsResult ts a t = Holds (a_result (head_of a.def_id)) ts t.node
+HoldsResult ts a t = Holds (a_result (alias_head a.def_id)) ts t.node
 
 -- a goal of the store
 pub record HoldsGoal (ts : List Tree) (g : Goal) : Type 0 where

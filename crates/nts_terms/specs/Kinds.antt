@@ -35,7 +35,7 @@ use Rattle.nts_terms.specs.declared.kinds.ClauseKind.TheVariants as clause
 use Rattle.nts_terms.specs.declared.kinds.PredicateKind.{PredicateKind}
 use Rattle.nts_terms.specs.declared.kinds.PredicateKind.TheVariants as predicate
 use Rattle.nts_store.specs.Growth.{tree_at, trees_at}
-use Rattle.nts_terms.specs.Handles.{HoldsTy, HoldsRegion, HoldsConst, HoldsTerm, HoldsArgs, HoldsVars, HoldsResult, IsAliasOf, head_of}
+use Rattle.nts_terms.specs.Handles.{HoldsTy, HoldsRegion, HoldsConst, HoldsTerm, HoldsArgs, HoldsVars, HoldsResult, IsAliasOf, alias_head}
 
 -- there is one child, there are two
 abbrev pub IsOne : Tree → Type 0
@@ -67,7 +67,7 @@ tree_of_ty ts (ty.Uint i) = node (label.Ty (ty_head.Uint i)) empty
 tree_of_ty ts (ty.Float f) = node (label.Ty (ty_head.Float f)) empty
 tree_of_ty ts (ty.FnPtr b) =
     node (label.Ty ty_head.FnPtr) (two ts b.vars.node b.value.inputs_and_output.node)
-tree_of_ty ts (ty.Alias a) = node (alias_label (head_of a.def_id)) (one ts a.args.node)
+tree_of_ty ts (ty.Alias a) = node (alias_label (alias_head a.def_id)) (one ts a.args.node)
 tree_of_ty ts (ty.Infer i) = tree_of_infer i
 tree_of_ty ts (ty.Param n) = node (label.Leaf (leaf.TyConstant (constant.Param n))) empty
 tree_of_ty ts (ty.Placeholder p) =
@@ -79,7 +79,7 @@ tree_of_ty ts ty.Error = node (label.Ty ty_head.Error) empty
 abbrev pub TyFits : List Tree → TyKind → Type 0
 TyFits ts (ty.Ctor i a) = HoldsArgs ts a
 TyFits ts (ty.FnPtr b) = HoldsVars ts b.vars × HoldsArgs ts b.value.inputs_and_output
-TyFits ts (ty.Alias a) = IsAliasOf sort.Ty a × HoldsArgs ts a.args
+TyFits ts (ty.Alias a) = IsAliasOf sort.Ty a.def_id × HoldsArgs ts a.args
 TyFits ts k = Unit {0}
 
 abbrev pub tree_of_region : RegionKind → Tree
@@ -100,12 +100,12 @@ tree_of_const ts (konst.Bound i b) = node (label.Bound sort.Const i b.var) empty
 tree_of_const ts (konst.Placeholder p) =
     node (label.Leaf (leaf.ConstConstant (constant.Placeholder p.universe p.bound.var))) empty
 tree_of_const ts (konst.Unevaluated a) =
-    node (alias_label (head_of a.def_id)) (one ts a.args.node)
+    node (alias_label (alias_head a.def_id)) (one ts a.args.node)
 tree_of_const ts (konst.Value t b) = node (label.Const (const_head.Value b)) (one ts t.node)
 tree_of_const ts konst.Error = node (label.Const const_head.Error) empty
 
 abbrev pub ConstFits : List Tree → ConstKind → Type 0
-ConstFits ts (konst.Unevaluated a) = IsAliasOf sort.Const a × HoldsArgs ts a.args
+ConstFits ts (konst.Unevaluated a) = IsAliasOf sort.Const a.def_id × HoldsArgs ts a.args
 ConstFits ts (konst.Value t b) = HoldsTy ts t
 ConstFits ts k = Unit {0}
 
@@ -133,7 +133,7 @@ tree_of_clause ts (clause.Trait r) = node (label.Clause (clause_head.Trait r.def
 tree_of_clause ts (clause.HostEffect r) =
     node (label.Clause (clause_head.HostEffect r.def_id.number)) (one ts r.args.node)
 tree_of_clause ts (clause.Projection a t) =
-    node (label.Clause (clause_head.Projection (head_of a.def_id))) (two ts a.args.node t.node)
+    node (label.Clause (clause_head.Projection (alias_head a.def_id))) (two ts a.args.node t.node)
 tree_of_clause ts (clause.TypeOutlives t r) = node (label.Clause clause_head.TypeOutlives) (two ts t.node r.node)
 tree_of_clause ts (clause.RegionOutlives a b) = node (label.Clause clause_head.RegionOutlives) (two ts a.node b.node)
 tree_of_clause ts (clause.ConstArgHasType c t) =
@@ -162,7 +162,7 @@ tree_of_statement ts (predicate.DynCompatible i) = node (label.Predicate (predic
 tree_of_statement ts (predicate.ConstEquate a b) =
     node (label.Predicate predicate_head.ConstEquate) (two ts a.node b.node)
 tree_of_statement ts (predicate.NormalizesTo a t) =
-    node (label.Predicate (predicate_head.NormalizesTo (head_of a.def_id))) (two ts a.args.node t.node)
+    node (label.Predicate (predicate_head.NormalizesTo (alias_head a.def_id))) (two ts a.args.node t.node)
 tree_of_statement ts (predicate.AliasRelate a b d) =
     node (label.Predicate (predicate_head.AliasRelate d)) (two ts a.node b.node)
 tree_of_statement ts predicate.Ambiguous = node (label.Predicate predicate_head.Ambiguous) empty

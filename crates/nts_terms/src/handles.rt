@@ -1,7 +1,7 @@
 //! Handles of the terms of a store, and plain data over them.
 ghost use Rattle.std.specs.Prelude.{◌≡◌};
 ghost use Rattle.nts_model.specs.Related.{alias_label};
-ghost use Rattle.nts_terms.specs.Handles.{head_of};
+ghost use Rattle.nts_terms.specs.Handles.{alias_head};
 ghost use Rattle.nts_terms.specs.declared.handles.AliasDefId.TheVariants as alias_def;
 
 use crate::modes::UniverseIndex;
@@ -96,7 +96,7 @@ pub enum AliasDefId {
 impl AliasDefId {
     /// The alias that a predicate names.
     pub(crate) fn of_head(head: AliasHead) -> AliasDefId
-        ensures { head_of result ≡ head }
+        ensures { alias_head result ≡ head }
     {
         match head {
             AliasHead::Ty(number) => AliasDefId::Ty(AliasId { number }),
@@ -106,7 +106,7 @@ impl AliasDefId {
 
     /// How a predicate names the alias.
     pub(crate) fn head(self) -> AliasHead
-        ensures { result ≡ head_of self }
+        ensures { result ≡ alias_head self }
     {
         match self {
             AliasDefId::Ty(alias) => AliasHead::Ty(alias.number),
@@ -116,7 +116,7 @@ impl AliasDefId {
 
     /// The label of a type or a const that is the alias.
     pub(crate) fn label(self) -> Label
-        ensures { result ≡ alias_label (head_of self) }
+        ensures { result ≡ alias_label (alias_head self) }
     {
         match self {
             AliasDefId::Ty(alias) => Label::Ty(TyHead::Alias(alias.number)),

@@ -4,7 +4,7 @@ ghost use Rattle.nts_model.specs.Trees.{Tree, node, more, empty, children, sort_
 ghost use Rattle.nts_model.specs.declared.labels.Sort.TheVariants as sort;
 ghost use Rattle.nts_model.specs.declared.labels.Label.TheVariants as label;
 ghost use Rattle.nts_store.specs.Growth.{tree_at, IsIn};
-ghost use Rattle.nts_terms.specs.Handles.{Holds, HoldsTy, HoldsRegion, HoldsConst, HoldsTerm, HoldsArg, HoldsArgs, HoldsPredicate, HoldsResult, head_of};
+ghost use Rattle.nts_terms.specs.Handles.{Holds, HoldsTy, HoldsRegion, HoldsConst, HoldsTerm, HoldsArg, HoldsArgs, HoldsPredicate, HoldsResult, alias_head};
 ghost use Rattle.nts_terms.specs.Kinds.{IsOne, AreTwo, one, two, tree_of_ty, TyFits, tree_of_region, tree_of_const, ConstFits, tree_of_clause, ClauseFits, tree_of_statement, StatementFits, tree_of_predicate, PredicateFits, node_of_term, TermFits, node_of_argument, ArgumentFits};
 
 use crate::cx::Cx;
@@ -374,7 +374,7 @@ fn trait_ref(nodes: &Nodes, t: NodeId, def_id: TraitId) -> TraitRef
 fn alias_and_result(nodes: &Nodes, t: NodeId, head: AliasHead) -> (AliasTerm, Term)
     requires within { IsIn nodes.now t }
     requires formed { HavePlaces (is arguments ∷ a_result head ∷ []) (children (tree_at nodes.now t)) }
-    ensures def { head_of result.0.def_id ≡ head }
+    ensures def { alias_head result.0.def_id ≡ head }
     ensures children { children (tree_at nodes.now t) ≡ two nodes.now result.0.args.node result.1.node }
     ensures alias { HoldsArgs nodes.now result.0.args }
     ensures term { HoldsResult nodes.now result.0 result.1 }
