@@ -37,4 +37,4 @@ IsHiddenType-extended {a} {b} {e} {x} h g k = rw (content_of-extended g h) (AreH
 
 -- another type behind the alias
 pub other_type : {ts : List Tree} {c : Content} {old h : HiddenType} → IsHiddenType ts c old → IsHiddenType ts c h → IsHiddenType ts c (record old { ty = h.ty })
-other_type o h = record { args = o.args; args_known = o.args_known; ty = h.ty; ty_known = h.ty_known }
+other_type o h = record { of_types = o.of_types; args = o.args; args_known = o.args_known; ty = h.ty; ty_known = h.ty_known }

@@ -1,8 +1,9 @@
 //! Hidden types of aliases.
 ghost use Rattle.std.specs.Prelude.{◌≡◌, true, false, IfOk, OnOk, OnErr, IsOkUnless};
+ghost use Rattle.nts_model.specs.declared.labels.Sort.TheVariants as sort;
 ghost use Rattle.nts_model.specs.Resolving.{Knows};
 ghost use Rattle.nts_store.specs.Growth.{tree_at, Extends};
-ghost use Rattle.nts_terms.specs.Handles.{HoldsTy, HoldsArgs};
+ghost use Rattle.nts_terms.specs.Handles.{HoldsTy, HoldsArgs, IsAliasOf};
 ghost use Rattle.nts_unify.specs.Reading.{content_of, IsHiddenType};
 ghost use Rattle.nts_table.specs.Tables.{IsTable};
 ghost use Rattle.nts_table.specs.Registering.{Registers, IsPlace};
@@ -12,12 +13,12 @@ ghost use Rattle.nts_table.specs.Frames.{ChangesEntries};
 use crate::infer_ctxt::InferCtxt;
 use crate::resolver::resolve_nodes;
 use nts_store::{Fault, Nodes};
-use nts_terms::{AliasId, AliasTerm, Cx, Span, Ty};
+use nts_terms::{AliasDefId, AliasTerm, Cx, Span, Ty};
 use nts_unify::HiddenType;
 use std::alloc::{AllocError, Global};
 
 impl InferCtxt {
-    /// Registers the type that is hidden behind an alias. The first type that was hidden behind it, its
+    /// Registers the type that is hidden behind an alias of types. The first type that was hidden behind it, its
     /// arguments compared under the table's values, is answered, and the new one takes its place.
     pub fn register_hidden_type_in_storage(
         &mut self,
@@ -27,6 +28,7 @@ impl InferCtxt {
         _span: Span,
     ) -> Result<Option<Ty>, Fault>
         requires table { IsTable cx.old.nodes self.old }
+        requires of_types { IsAliasOf sort.Ty key.def_id }
         requires args { HoldsArgs cx.old.nodes key.args }
         requires args_known { Knows (content_of cx.old.nodes self.old.entries) (tree_at cx.old.nodes key.args.node) }
         requires ty { HoldsTy cx.old.nodes ty }
@@ -82,7 +84,7 @@ impl InferCtxt {
 }
 
 /// Whether two aliases are one, where their arguments are.
-fn is_one_alias(a: AliasId, b: AliasId, same_args: bool) -> bool
+fn is_one_alias(a: AliasDefId, b: AliasDefId, same_args: bool) -> bool
     ensures yes { result ≡ true → (a ≡ b) × (same_args ≡ true) }
     ensures no { result ≡ false → a ≡ b → same_args ≡ true → ⊥ }
 {

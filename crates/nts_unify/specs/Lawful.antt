@@ -79,6 +79,7 @@ AreHiddenTypes-extended a b c (x ∷ xs) e h =
     let args = e.kept x.args.node h.0.args.within in
     let ty = e.kept x.ty.node h.0.ty.within in (
       record {
+        of_types = h.0.of_types;
         args = record { within = IsIn-extended e x.args.node h.0.args.within; fits = rw args h.0.args.fits };
         args_known = rw args h.0.args_known;
         ty = record { within = IsIn-extended e x.ty.node h.0.ty.within; fits = rw ty h.0.ty.fits };
@@ -92,6 +93,7 @@ pub AreHiddenTypes-kept : (ts : List Tree) (c d : Content) (hs : List HiddenType
 AreHiddenTypes-kept ts c d [] k h = tt
 AreHiddenTypes-kept ts c d (x ∷ xs) k h = (
   record {
+    of_types = h.0.of_types;
     args = h.0.args;
     args_known = Knows-kept c d (tree_at ts x.args.node) k h.0.args_known;
     ty = h.0.ty;

@@ -8,7 +8,7 @@ use Rattle.nts_model.specs.Contents.{Content, Slot, SlotState, unset, link, know
 use Rattle.nts_model.specs.Resolving.{Knows, IsSound}
 use Rattle.nts_model.specs.RegionClasses.{AreRegions}
 use Rattle.nts_unify.specs.declared.contents.HiddenType.{HiddenType}
-use Rattle.nts_terms.specs.Handles.{HoldsTy, HoldsArgs}
+use Rattle.nts_terms.specs.Handles.{HoldsTy, HoldsArgs, IsAliasOf}
 use Rattle.nts_store.specs.Growth.{tree_at, IsIn}
 use Rattle.nts_unify.specs.declared.contents.State.{State}
 use Rattle.nts_unify.specs.declared.contents.State.TheVariants.{Unset, Link, Known}
@@ -66,8 +66,9 @@ abbrev pub AreConstraints : List Tree → Content → List Constraint → Type 0
 AreConstraints ts c [] = Unit {0}
 AreConstraints ts c (x ∷ xs) = IsConstraint ts c x × AreConstraints ts c xs
 
--- a hidden type and its alias are of the store and the table
+-- a hidden type and its alias, which is one of types, are of the store and the table
 pub record IsHiddenType (ts : List Tree) (c : Content) (h : HiddenType) : Type 0 where
+  pub of_types : IsAliasOf sort.Ty h.alias
   pub args : HoldsArgs ts h.args
   pub args_known : Knows c (tree_at ts h.args.node)
   pub ty : HoldsTy ts h.ty

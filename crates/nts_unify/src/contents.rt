@@ -4,7 +4,7 @@ ghost use Rattle.nts_unify.specs.Entries.{Entries, undone, added, with_variable,
 
 use nts_model::{Relation, VariableKind};
 use nts_store::NodeId;
-use nts_terms::{AliasId, GenericArgs, Ty, UniverseIndex};
+use nts_terms::{AliasDefId, GenericArgs, Ty, UniverseIndex};
 use std::alloc::{AllocError, Global};
 use std::marker::Model;
 
@@ -44,7 +44,7 @@ pub struct Constraint {
 /// is hidden behind.
 #[derive(Clone, Copy, PartialEq, Eq)]
 pub struct HiddenType {
-    pub alias: AliasId,
+    pub alias: AliasDefId,
     pub args: GenericArgs,
     pub ty: Ty,
 }

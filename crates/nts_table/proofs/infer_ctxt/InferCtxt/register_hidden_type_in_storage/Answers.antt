@@ -29,11 +29,11 @@ pub returns-in_ok-replace-in-Some-clause-table : goal.returns-in_ok-replace-in-S
 returns-in_ok-replace-in-Some-clause-table c =
     let ext = c.place_of_hidden.ensures.extends in
     let old = hidden_at c.args.cx.now.nodes c.args.self.now.entries c.in-Some.place _ c.requires.table.now c.hidden_type-old.ensures in
-    let new : IsHiddenType c.args.cx.now.nodes (content_of c.args.cx.now.nodes c.args.self.now.entries) (record { alias = c.args.key.def_id; args = c.args.key.args; ty = c.args.ty }) = record { args = c.requires.args; args_known = c.requires.args_known; ty = c.requires.ty; ty_known = c.requires.ty_known } in
+    let new : IsHiddenType c.args.cx.now.nodes (content_of c.args.cx.now.nodes c.args.self.now.entries) (record { alias = c.args.key.def_id; args = c.args.key.args; ty = c.args.ty }) = record { of_types = c.requires.of_types; args = c.requires.args; args_known = c.requires.args_known; ty = c.requires.ty; ty_known = c.requires.ty_known } in
     IsTable-with_hidden c.in-Some.place (IsTable-extended ext c.requires.table) (IsHiddenType-extended c.requires.table.now ext (other_type old new)) (c.in_ok-replace-in-Some.ensures.entries ∙ ap (λ (t : Table). with_hidden t.entries c.in-Some.place (record c.hidden_type-old.result { ty = c.args.ty })) c.self.view_is) (c.replace.ensures.saved ∙ ap (λ (t : Table). t.saved) c.self.view_is)
 
 pub returns-in_ok-register-in-None-clause-table : goal.returns-in_ok-register-in-None-clause-table
 returns-in_ok-register-in-None-clause-table c =
     let ext = c.place_of_hidden.ensures.extends in
-    let new : IsHiddenType c.args.cx.now.nodes (content_of c.args.cx.now.nodes c.args.self.now.entries) (record { alias = c.args.key.def_id; args = c.args.key.args; ty = c.args.ty }) = record { args = c.requires.args; args_known = c.requires.args_known; ty = c.requires.ty; ty_known = c.requires.ty_known } in
+    let new : IsHiddenType c.args.cx.now.nodes (content_of c.args.cx.now.nodes c.args.self.now.entries) (record { alias = c.args.key.def_id; args = c.args.key.args; ty = c.args.ty }) = record { of_types = c.requires.of_types; args = c.requires.args; args_known = c.requires.args_known; ty = c.requires.ty; ty_known = c.requires.ty_known } in
     IsTable-registered (IsTable-extended ext c.requires.table) (IsHiddenType-extended c.requires.table.now ext new) (c.in_ok-register-in-None.ensures.entries ∙ ap (λ (t : Table). registered t.entries (record { alias = c.args.key.def_id; args = c.args.key.args; ty = c.args.ty })) c.self.view_is) (c.register.ensures.saved ∙ ap (λ (t : Table). t.saved) c.self.view_is)
