@@ -12,10 +12,10 @@ pub use nts_store::{EvalError, Fault, NodeId};
 pub use nts_table::relating::Relate;
 pub use nts_table::{InferCtxt, is_unbound};
 pub use nts_terms::{
-    AliasId, AliasKind, AliasTerm, Binder, BoundConst, BoundRegion, BoundTy, BoundVars, ClauseKind,
-    Const, ConstId, ConstKind, CtorId, Cx, DefId, FnSig, GenericArg, GenericArgKind, GenericArgs,
-    Goal, InferTy, ParamEnv, PlaceholderConst, PlaceholderRegion, PlaceholderType, Predicate,
-    PredicateKind, Region, RegionKind, Span, Stored, Term, TermKind, TraitId, TraitRef, Ty, TyKind,
-    TypingMode, UnevaluatedConst, UniverseIndex, VisibleForLeakCheck,
+    AliasDefId, AliasId, AliasKind, AliasTerm, Binder, BoundConst, BoundRegion, BoundTy, BoundVars,
+    ClauseKind, Const, ConstId, ConstKind, CtorId, Cx, DefId, FnSig, GenericArg, GenericArgKind,
+    GenericArgs, Goal, InferTy, ParamEnv, PlaceholderConst, PlaceholderRegion, PlaceholderType,
+    Predicate, PredicateKind, Region, RegionKind, Span, Stored, Term, TermKind, TraitId, TraitRef,
+    Ty, TyKind, TypingMode, UniverseIndex, VisibleForLeakCheck,
 };
 pub use nts_unify::{Constraint, HiddenType, Snapshot, State, Variable};

@@ -2,29 +2,44 @@
 use Rattle.std.proofs.Common.{◌≡◌, ℕ, zero, suc, ◌+◌, ◌<◌, List, [], ◌∷◌, ◌++◌, map, length, take, get_or, All, subst, refl, sym, ap, ◌∙◌, arith}
 use Rattle.std.proofs.lemmas.List.{take_more}
 use Rattle.nts_model.specs.declared.labels.Leaf.{Leaf}
-use Rattle.nts_model.specs.Substitutions.{leaf_tree}
+use Rattle.nts_model.specs.Substitutions.{leaf_tree, replace}
+use Rattle.nts_model.specs.Handlers.{filled}
 use Rattle.nts_terms.specs.declared.handles.GenericArg.{GenericArg}
-use Rattle.nts_model.specs.declared.labels.TyHead.TheVariants as ty_head
-use Rattle.nts_model.specs.declared.labels.Label.TheVariants as label
 use Rattle.nts_model.specs.Trees.{Tree, empty, more, node, Place}
+use Rattle.nts_model.specs.Related.{alias_label}
 use Rattle.nts_store.specs.declared.nodes.NodeId.{NodeId}
+use Rattle.nts_terms.specs.declared.handles.AliasDefId.{AliasDefId}
+use Rattle.nts_terms.specs.declared.handles.AliasDefId.TheVariants as alias_def
 use Rattle.nts_terms.specs.declared.handles.AliasTerm.{AliasTerm}
 use Rattle.nts_terms.specs.declared.handles.Ty.{Ty}
 use Rattle.nts_store.specs.Growth.{tree_at, IsIn, Extends}
-use Rattle.nts_terms.specs.Handles.{Holds, HoldsArg}
+use Rattle.nts_terms.specs.Handles.{Holds, HoldsArg, alias_head}
 use Rattle.nts_store.proofs.Growing.{IsIn-extended}
-use Rattle.nts_canonical.specs.Forms.{alias_tree, hidden_pairs, trees_of, IsHidden, AreHidden}
+use Rattle.nts_terms.specs.Kinds.{tree_of_alias}
+use Rattle.nts_canonical.specs.Forms.{hidden_pairs, trees_of, IsHidden, AreHidden}
 use Rattle.nts_canonical.specs.Replaced.{IsImage, AreImages, IsLeafArg, AreLeafArgs}
+
+-- a replacement goes into an alias
+pub alias_replaced : (f : Leaf → Tree) (a : AliasDefId) (c : Tree) → replace f (node (alias_label (alias_head a)) c) ≡ node (alias_label (alias_head a)) (replace f c)
+alias_replaced f (alias_def.Ty a) c = refl
+alias_replaced f (alias_def.Const a) c = refl
+
+label_filled : (vs : List Tree) (a : AliasDefId) (c : Tree) → filled vs (node (alias_label (alias_head a)) c) ≡ node (alias_label (alias_head a)) (filled vs c)
+label_filled vs (alias_def.Ty a) c = refl
+label_filled vs (alias_def.Const a) c = refl
+
+pub alias-filled : (vs a b : List Tree) (x : AliasTerm) (n : NodeId) → tree_at b n ≡ filled vs (tree_at a x.args.node) → tree_of_alias b (record x { args = record { node = n } }) ≡ filled vs (tree_of_alias a x)
+alias-filled vs a b x n e = ap (λ t. node (alias_label (alias_head x.def_id)) (more t empty)) e ∙ sym (label_filled vs x.def_id (more (tree_at a x.args.node) empty))
 
 -- what is held stays so, with its tree, when the store grows
 pub holds_kept : (p : Place) (a b : List Tree) (n : NodeId) → Holds p a n → Extends a b → Holds p b n
 holds_kept p a b n h e = record { within = IsIn-extended e n h.within; fits = rw (e.kept n h.within) h.fits }
 
-pub alias-kept : (a b : List Tree) (x : AliasTerm) → IsIn a x.args.node → Extends a b → alias_tree b x ≡ alias_tree a x
-alias-kept a b x h e = ap (λ t. node (label.Ty (ty_head.Alias x.def_id.number)) (more t empty)) (e.kept x.args.node h)
+pub alias-kept : (a b : List Tree) (x : AliasTerm) → IsIn a x.args.node → Extends a b → tree_of_alias b x ≡ tree_of_alias a x
+alias-kept a b x h e = ap (λ t. node (alias_label (alias_head x.def_id)) (more t empty)) (e.kept x.args.node h)
 
 pub is_hidden-kept : (a b : List Tree) (h : AliasTerm × Ty) → IsHidden a h → Extends a b → IsHidden b h
-is_hidden-kept a b h i e = record { args = holds_kept _ a b h.0.args.node i.args e; hidden_type = holds_kept _ a b h.1.node i.hidden_type e }
+is_hidden-kept a b h i e = record { of_types = i.of_types; args = holds_kept _ a b h.0.args.node i.args e; hidden_type = holds_kept _ a b h.1.node i.hidden_type e }
 
 pub are_hidden-kept : (a b : List Tree) (hs : List (AliasTerm × Ty)) → AreHidden a hs → Extends a b → AreHidden b hs
 are_hidden-kept a b [] h e = tt
@@ -72,7 +87,7 @@ AreImages-row f g a b [] [] m = sym g.of_empty
 AreImages-row f g a b [] (r ∷ rs) m = absurd m
 AreImages-row f g a b (h ∷ hs) [] m = absurd m
 AreImages-row f g a b (h ∷ hs) (r ∷ rs) m =
-    rw (m.0.alias, m.0.hidden_type, AreImages-row f g a b hs rs m.1) (sym (g.of_more _ _ ∙ ap (more (f (alias_tree a h.0))) (g.of_more _ _)))
+    rw (m.0.alias, m.0.hidden_type, AreImages-row f g a b hs rs m.1) (sym (g.of_more _ _ ∙ ap (more (f (tree_of_alias a h.0))) (g.of_more _ _)))
 
 pub AreImages-held : (f : Tree → Tree) (a b : List Tree) (hs rs : List (AliasTerm × Ty)) → AreImages f a b hs rs → AreHidden b rs
 AreImages-held f a b [] [] m = tt

@@ -112,5 +112,5 @@ hidden-of-row ts c [] h k = λ i d l. absurd (omega (arith, l))
 hidden-of-row ts c (x ∷ hs) h k = go (hidden-of-row ts c hs h.1 k.1.1)
   where
     go : All (λ h. IsHiddenType ts c (stored_hidden h)) hs → (i : ℕ) (d : AliasTerm × Ty) → i < length (x ∷ hs) → IsHiddenType ts c (stored_hidden (get_or (x ∷ hs) i d))
-    go rest zero d l = record { args = h.0.args; args_known = k.0.1.0; ty = h.0.hidden_type; ty_known = k.1.0 }
+    go rest zero d l = record { of_types = h.0.of_types; args = h.0.args; args_known = k.0.1.0; ty = h.0.hidden_type; ty_known = k.1.0 }
     go rest (suc i) d l = rest i d (omega (arith, l))

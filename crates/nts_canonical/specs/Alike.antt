@@ -6,7 +6,8 @@ use Rattle.nts_terms.specs.declared.handles.Ty.{Ty}
 use Rattle.nts_store.specs.Growth.{tree_at}
 use Rattle.nts_terms.specs.Modes.{mode_of}
 use Rattle.nts_canonical.specs.declared.types.CanonicalInput.{CanonicalInput}
-use Rattle.nts_canonical.specs.Forms.{alias_tree, form_of}
+use Rattle.nts_terms.specs.Kinds.{tree_of_alias}
+use Rattle.nts_canonical.specs.Forms.{form_of}
 
 -- they stand for one form, in one universe and one mode
 pub record AreOneInput (ts : List Tree) (a b : CanonicalInput) : Type 0 where
@@ -16,7 +17,7 @@ pub record AreOneInput (ts : List Tree) (a b : CanonicalInput) : Type 0 where
 
 -- two hidden types are one, of one alias
 pub record AreOnePair (ts : List Tree) (a b : AliasTerm × Ty) : Type 0 where
-  pub alias : alias_tree ts a.0 ≡ alias_tree ts b.0
+  pub alias : tree_of_alias ts a.0 ≡ tree_of_alias ts b.0
   pub hidden_type : tree_at ts a.1.node ≡ tree_at ts b.1.node
 
 -- the same terms, kinds and mode once more

@@ -1,16 +1,15 @@
 -- What canonical inputs stand for, and which input a goal in a table is.
 use Rattle.std.specs.Prelude.{List, [], ◌∷◌, map}
 use Rattle.nts_model.specs.declared.labels.Sort.TheVariants as sort
-use Rattle.nts_model.specs.declared.labels.TyHead.TheVariants as ty_head
-use Rattle.nts_model.specs.declared.labels.Label.TheVariants as label
-use Rattle.nts_model.specs.Trees.{Tree, empty, more, node}
+use Rattle.nts_model.specs.Trees.{Tree, empty, more}
 use Rattle.nts_model.specs.Inputs.{Input, CanonicalInput as Form, PositionKind, type_variable, integer_variable, float_variable, const_variable, region_variable, placeholder}
 use Rattle.nts_terms.specs.declared.handles.AliasTerm.{AliasTerm}
 use Rattle.nts_terms.specs.declared.handles.Ty.{Ty}
 use Rattle.nts_terms.specs.declared.handles.Goal.{Goal}
 use Rattle.nts_terms.specs.declared.handles.GenericArg.{GenericArg}
 use Rattle.nts_store.specs.Growth.{tree_at}
-use Rattle.nts_terms.specs.Handles.{HoldsTy, HoldsArgs, HoldsPredicate, HoldsEnv}
+use Rattle.nts_terms.specs.Handles.{HoldsTy, HoldsArgs, HoldsPredicate, HoldsEnv, IsAliasOf}
+use Rattle.nts_terms.specs.Kinds.{tree_of_alias}
 use Rattle.nts_unify.specs.Entries.{Entries}
 use Rattle.nts_canonical.specs.declared.types.CanonicalVarKind.{CanonicalVarKind}
 use Rattle.nts_canonical.specs.declared.types.CanonicalVarKind.TheVariants as var
@@ -29,14 +28,10 @@ kind_of_var (var.PlaceholderTy p) = placeholder sort.Ty p.universe p.bound.var
 kind_of_var (var.PlaceholderRegion p) = placeholder sort.Region p.universe p.bound.var
 kind_of_var (var.PlaceholderConst p) = placeholder sort.Const p.universe p.bound.var
 
--- the tree of an alias
-abbrev pub alias_tree : List Tree → AliasTerm → Tree
-alias_tree ts a = node (label.Ty (ty_head.Alias a.def_id.number)) (more (tree_at ts a.args.node) empty)
-
 -- hidden types as one row: an alias and its type, and so on
 abbrev pub hidden_pairs : List Tree → List (AliasTerm × Ty) → Tree
 hidden_pairs ts [] = empty
-hidden_pairs ts (h ∷ hs) = more (alias_tree ts h.0) (more (tree_at ts h.1.node) (hidden_pairs ts hs))
+hidden_pairs ts (h ∷ hs) = more (tree_of_alias ts h.0) (more (tree_at ts h.1.node) (hidden_pairs ts hs))
 
 -- the environment, the predicate and the hidden types of a query, as one row
 abbrev pub query_tree : List Tree → QueryInput → Tree
@@ -67,8 +62,9 @@ input_of ts e g hs =
 abbrev pub trees_of : List Tree → List GenericArg → List Tree
 trees_of ts xs = map (λ x. tree_at ts x.node) xs
 
--- hidden types are of the store
+-- hidden types are of the store, each behind an alias of types
 pub record IsHidden (ts : List Tree) (h : AliasTerm × Ty) : Type 0 where
+  pub of_types : IsAliasOf sort.Ty h.0.def_id
   pub args : HoldsArgs ts h.0.args
   pub hidden_type : HoldsTy ts h.1
 

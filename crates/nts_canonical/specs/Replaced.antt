@@ -7,11 +7,12 @@ use Rattle.nts_terms.specs.declared.handles.AliasTerm.{AliasTerm}
 use Rattle.nts_terms.specs.declared.handles.Ty.{Ty}
 use Rattle.nts_terms.specs.declared.handles.GenericArg.{GenericArg}
 use Rattle.nts_store.specs.Growth.{tree_at, IsIn}
-use Rattle.nts_canonical.specs.Forms.{alias_tree, IsHidden}
+use Rattle.nts_terms.specs.Kinds.{tree_of_alias}
+use Rattle.nts_canonical.specs.Forms.{IsHidden}
 
 -- in a store b an alias and its type are the images of those in a store a
 pub record IsImage (f : Tree → Tree) (a b : List Tree) (h r : AliasTerm × Ty) : Type 0 where
-  pub alias : alias_tree b r.0 ≡ f (alias_tree a h.0)
+  pub alias : tree_of_alias b r.0 ≡ f (tree_of_alias a h.0)
   pub hidden_type : tree_at b r.1.node ≡ f (tree_at a h.1.node)
   pub held : IsHidden b r
 

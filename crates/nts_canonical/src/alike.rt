@@ -62,7 +62,7 @@ fn same_pair(nodes: &Nodes, a: (AliasTerm, Ty), b: (AliasTerm, Ty)) -> bool
     requires right { IsHidden nodes.now b }
     ensures { IsTrue result ↔ AreOnePair nodes.now a b }
 {
-    if a.0.def_id.number != b.0.def_id.number {
+    if a.0.def_id != b.0.def_id {
         return false;
     }
     if !nodes.same(a.0.args.node, b.0.args.node) {

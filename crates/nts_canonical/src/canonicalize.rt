@@ -152,6 +152,7 @@ fn numbered_hidden(
     Ok(hidden)
 }
 
+#[tactic(auto, using(crate::proofs::PairLists::alias_replaced))]
 fn numbered_pair(
     alloc: Global,
     nodes: &mut Nodes,

@@ -4,7 +4,7 @@ ghost use Rattle.nts_model.specs.Handlers.{filled};
 ghost use Rattle.nts_store.specs.Growth.{tree_at, AllIn, Extends};
 ghost use Rattle.nts_terms.specs.Handles.{Holds, HoldsArg};
 ghost use Rattle.nts_store.specs.Filled.{HasValues};
-ghost use Rattle.nts_canonical.specs.Forms.{alias_tree, hidden_pairs, query_tree, trees_of, IsHidden, AreHidden, HoldsQuery};
+ghost use Rattle.nts_canonical.specs.Forms.{hidden_pairs, query_tree, trees_of, IsHidden, AreHidden, HoldsQuery};
 ghost use Rattle.nts_canonical.specs.Replaced.{IsImage, AreImages};
 ghost use Rattle.nts_terms.specs.Rest.{Grows};
 

@@ -1,8 +1,6 @@
 -- A candidate's data as trees.
 use Rattle.std.specs.Prelude.{Bool, true, false, List, map}
-use Rattle.nts_model.specs.declared.labels.TyHead.TheVariants as ty
-use Rattle.nts_model.specs.declared.labels.Label.TheVariants as label
-use Rattle.nts_model.specs.Trees.{Tree, empty, more, node}
+use Rattle.nts_model.specs.Trees.{Tree}
 use Rattle.nts_model.specs.Related.{Constraint}
 use Rattle.nts_model.specs.Sequents.{PathKind, coinductive, unknown, inductive, forced_ambiguity, Source, misc, type_relating, impl_where_bound, alias_bound_const, alias_well_formed, normalize_goal, Premise, Hidden}
 use Rattle.nts_model.specs.Rules.{Equation, related, alike}
@@ -21,6 +19,7 @@ use Rattle.nts_certainty.specs.declared.sources.RerunCondition.{RerunCondition}
 use Rattle.nts_certainty.specs.declared.sources.RerunCondition.TheVariants as rerun_data
 use Rattle.nts_terms.specs.declared.handles.AliasTerm.{AliasTerm}
 use Rattle.nts_store.specs.Growth.{tree_at}
+use Rattle.nts_terms.specs.Kinds.{tree_of_alias}
 use Rattle.nts_terms.specs.Modes.{numbers_of}
 use Rattle.nts_delegate.specs.declared.delegate.Equation.{Equation as EquationData}
 use Rattle.nts_delegate.specs.declared.delegate.EquationKind.{EquationKind}
@@ -77,9 +76,6 @@ equation_of ts q = equation_as q.kind (tree_at ts q.lhs.node) (tree_at ts q.rhs.
 abbrev pub constraint_of : List Tree → RegionConstraint → Constraint
 constraint_of ts x =
     record { relation = x.relation; left = tree_at ts x.left.node; right = tree_at ts x.right.node }
-
-abbrev pub tree_of_alias : List Tree → AliasTerm → Tree
-tree_of_alias ts a = node (label.Ty (ty.Alias a.def_id.number)) (more (tree_at ts a.args.node) empty)
 
 abbrev pub hidden_of : List Tree → AliasTerm × Ty → Hidden
 hidden_of ts h = record { key = tree_of_alias ts h.0; hidden_type = tree_at ts h.1.node }

@@ -3,7 +3,8 @@ use nts_model::{Relation, UintTy, Variance};
 use nts_store::EvalError;
 use nts_table::{InferCtxt, is_unbound, relate_nodes, resolve_nodes};
 use nts_terms::{
-    AliasKind, AliasTerm, Cx, RegionKind, Span, TraitRef, TyKind, TypingMode, VisibleForLeakCheck,
+    AliasDefId, AliasKind, AliasTerm, Cx, RegionKind, Span, TraitRef, TyKind, TypingMode,
+    VisibleForLeakCheck,
 };
 use nts_unify::State;
 
@@ -68,7 +69,7 @@ fn heads(rt: HostRuntime) {
     let apart = table.eq_structurally_relating_aliases(&mut cx, env, cloning, copying, Span(0));
     assert!(rt; matches!(apart, Err(EvalError::NoSolution)));
     let alias = AliasTerm {
-        def_id: item,
+        def_id: AliasDefId::Ty(item),
         args: none,
     };
     table

@@ -13,8 +13,8 @@ use nts_model::{Sort, VariableKind, Variance};
 use nts_store::EvalError;
 use nts_table::InferCtxt;
 use nts_terms::{
-    AliasId, AliasKind, AliasTerm, Binder, BoundVars, ConstKind, CtorId, Cx, DefId, FnSig,
-    GenericArg, GenericArgs, ParamEnv, RegionKind, Span, TyKind, TypingMode,
+    AliasDefId, AliasId, AliasKind, AliasTerm, Binder, BoundVars, ConstKind, CtorId, Cx, DefId,
+    FnSig, GenericArg, GenericArgs, ParamEnv, RegionKind, Span, TyKind, TypingMode,
 };
 use nts_unify::{Constraint, State, Variable};
 use std::alloc::Global;
@@ -223,7 +223,7 @@ impl Fixture {
         ensures { IsTable self.new.cx.nodes self.new.table }
     {
         let args = self.args(rt, &[]);
-        let def_id = self.item;
+        let def_id = AliasDefId::Ty(self.item);
         assert!(rt; self.cx.fits(DefId::Alias(def_id), args));
         self.ty(rt, TyKind::Alias(AliasTerm { def_id, args }))
     }

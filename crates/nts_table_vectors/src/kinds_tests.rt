@@ -2,7 +2,7 @@
 use crate::fixture::Fixture;
 use nts_model::{FloatTy, IntTy, UintTy};
 use nts_table::InferCtxt;
-use nts_terms::{AliasKind, AliasTerm, ConstKind, Cx, Span, TyKind, TypingMode};
+use nts_terms::{AliasDefId, AliasKind, AliasTerm, ConstKind, Cx, Span, TyKind, TypingMode};
 use nts_unify::State;
 
 #[test]
@@ -114,9 +114,10 @@ fn consts(rt: HostRuntime) {
 fn hidden_types(rt: HostRuntime) {
     let mut cx = Cx::new(rt.alloc());
     let mut table = InferCtxt::new(rt.alloc(), TypingMode::PostAnalysis);
-    let def_id = cx
+    let alias = cx
         .declare_alias(&[], AliasKind::Opaque)
         .expect(&rt, "memory");
+    let def_id = AliasDefId::Ty(alias);
     let args = cx.mk_args(&[]).expect(&rt, "memory");
     let byte = cx.mk_ty(TyKind::Uint(UintTy::U8)).expect(&rt, "memory");
     let key = AliasTerm { def_id, args };

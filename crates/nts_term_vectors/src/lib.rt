@@ -2,6 +2,8 @@
 #![tactic(auto)]
 
 #[cfg(test)]
+mod alias_tests;
+#[cfg(test)]
 mod fold_tests;
 #[cfg(test)]
 mod labels_tests;

@@ -2,9 +2,9 @@ use nts_certainty::{Certainty, MaybeCause, MaybeInfo, OpaqueTypesJank};
 use nts_model::{BoundVarIndexKind, Label, ListHead, Sort, TyHead, UintTy, Variance};
 use nts_store::{EvalError, Fault, Nodes, binders_of};
 use nts_terms::{
-    AliasKind, AliasTerm, Binder, BoundRegion, BoundTy, ClauseKind, ConstKind, Cx, DefId, FnSig,
-    GenericArg, GenericArgKind, InferTy, PlaceholderRegion, PredicateKind, RegionKind, Stored,
-    Term, TermKind, TraitId, TraitRef, Ty, TyKind, UnevaluatedConst,
+    AliasDefId, AliasKind, AliasTerm, Binder, BoundRegion, BoundTy, ClauseKind, ConstKind, Cx,
+    DefId, FnSig, GenericArg, GenericArgKind, InferTy, PlaceholderRegion, PredicateKind,
+    RegionKind, Stored, Term, TermKind, TraitId, TraitRef, Ty, TyKind,
 };
 use std::test::Fail;
 
@@ -130,12 +130,15 @@ fn aliases(rt: HostRuntime) -> Result<(), Fail> {
     let placeholder = PlaceholderRegion { universe: 2, bound };
     let region = cx.mk_region(RegionKind::RePlaceholder(placeholder))?;
     let args = cx.mk_args(&[region.into()])?;
-    assert!(rt; cx.fits(DefId::Alias(item), args));
-    let alias = AliasTerm { def_id: item, args };
+    assert!(rt; cx.fits(DefId::Alias(AliasDefId::Ty(item)), args));
+    let alias = AliasTerm {
+        def_id: item.into(),
+        args,
+    };
     let ty = cx.mk_ty(TyKind::Alias(alias))?;
     assert!(rt; matches!(ty.kind(&cx), TyKind::Alias(_)));
     assert!(rt; cx.holds(args));
-    assert!(rt; cx.fits(DefId::Alias(item), args));
+    assert!(rt; cx.fits(DefId::Alias(AliasDefId::Ty(item)), args));
     Ok(())
 }
 
@@ -156,13 +159,13 @@ fn declared_consts(rt: HostRuntime) -> Result<(), Fail> {
     let length = cx.declare_const(&[Sort::Ty], ty)?;
     assert!(rt; cx.declarations.const_type(length) == Some(ty));
     let none = cx.mk_args(&[])?;
-    assert!(rt; !cx.fits(DefId::Const(length), none));
+    assert!(rt; !cx.fits(DefId::Alias(AliasDefId::Const(length)), none));
     assert!(rt; cx.holds(args));
-    assert!(rt; cx.fits(DefId::Const(length), args));
-    let def_id = length;
-    let ct = cx.mk_const(ConstKind::Unevaluated(UnevaluatedConst { def_id, args }))?;
+    assert!(rt; cx.fits(DefId::Alias(AliasDefId::Const(length)), args));
+    let def_id = AliasDefId::Const(length);
+    let ct = cx.mk_const(ConstKind::Unevaluated(AliasTerm { def_id, args }))?;
     match ct.kind(&cx) {
-        ConstKind::Unevaluated(it) => assert!(rt; it.def_id == length),
+        ConstKind::Unevaluated(it) => assert!(rt; it.def_id == def_id),
         _ => assert!(rt; false),
     }
     Ok(())

@@ -18,6 +18,7 @@ use Rattle.nts_store.specs.declared.nodes.NodeId.{NodeId}
 use Rattle.nts_terms.specs.declared.handles.GenericArg.{GenericArg}
 use Rattle.nts_terms.specs.declared.handles.Predicate.{Predicate}
 use Rattle.nts_terms.specs.declared.handles.Binder.{Binder}
+use Rattle.nts_terms.specs.declared.handles.AliasTerm.{AliasTerm}
 use Rattle.nts_terms.specs.declared.kinds.InferTy.{InferTy}
 use Rattle.nts_terms.specs.declared.kinds.InferTy.TheVariants as infer
 use Rattle.nts_terms.specs.declared.kinds.TyKind.{TyKind}
@@ -55,6 +56,10 @@ one ts a = more (tree_at ts a) empty
 abbrev pub two : List Tree → NodeId → NodeId → Tree
 two ts a b = more (tree_at ts a) (more (tree_at ts b) empty)
 
+-- an alias, whether of a type or a const
+abbrev pub tree_of_alias : List Tree → AliasTerm → Tree
+tree_of_alias ts a = node (alias_label (alias_head a.def_id)) (one ts a.args.node)
+
 abbrev pub tree_of_infer : InferTy → Tree
 tree_of_infer (infer.TyVar n) = node (label.Leaf (leaf.Variable variable.Ty n)) empty
 tree_of_infer (infer.IntVar n) = node (label.Leaf (leaf.Variable variable.Int n)) empty
@@ -67,7 +72,7 @@ tree_of_ty ts (ty.Uint i) = node (label.Ty (ty_head.Uint i)) empty
 tree_of_ty ts (ty.Float f) = node (label.Ty (ty_head.Float f)) empty
 tree_of_ty ts (ty.FnPtr b) =
     node (label.Ty ty_head.FnPtr) (two ts b.vars.node b.value.inputs_and_output.node)
-tree_of_ty ts (ty.Alias a) = node (alias_label (alias_head a.def_id)) (one ts a.args.node)
+tree_of_ty ts (ty.Alias a) = tree_of_alias ts a
 tree_of_ty ts (ty.Infer i) = tree_of_infer i
 tree_of_ty ts (ty.Param n) = node (label.Leaf (leaf.TyConstant (constant.Param n))) empty
 tree_of_ty ts (ty.Placeholder p) =
@@ -99,8 +104,7 @@ tree_of_const ts (konst.Infer n) = node (label.Leaf (leaf.Variable variable.Cons
 tree_of_const ts (konst.Bound i b) = node (label.Bound sort.Const i b.var) empty
 tree_of_const ts (konst.Placeholder p) =
     node (label.Leaf (leaf.ConstConstant (constant.Placeholder p.universe p.bound.var))) empty
-tree_of_const ts (konst.Unevaluated a) =
-    node (alias_label (alias_head a.def_id)) (one ts a.args.node)
+tree_of_const ts (konst.Unevaluated a) = tree_of_alias ts a
 tree_of_const ts (konst.Value t b) = node (label.Const (const_head.Value b)) (one ts t.node)
 tree_of_const ts konst.Error = node (label.Const const_head.Error) empty
 

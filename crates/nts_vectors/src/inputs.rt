@@ -14,9 +14,9 @@ use nts_canonical::{
 use nts_model::{BoundVarIndexKind, Sort, Variance};
 use nts_table::InferCtxt;
 use nts_terms::{
-    AliasId, AliasKind, AliasTerm, Binder, BoundTy, ClauseKind, CtorId, Cx, DefId, GenericArg,
-    GenericArgs, Goal, ParamEnv, PlaceholderType, Predicate, PredicateKind, RegionKind, Span,
-    TraitId, TraitRef, Ty, TyKind, TypingMode,
+    AliasDefId, AliasId, AliasKind, AliasTerm, Binder, BoundTy, ClauseKind, CtorId, Cx, DefId,
+    GenericArg, GenericArgs, Goal, ParamEnv, PlaceholderType, Predicate, PredicateKind, RegionKind,
+    Span, TraitId, TraitRef, Ty, TyKind, TypingMode,
 };
 use std::alloc::Global;
 use std::process::Abort;
@@ -285,7 +285,7 @@ impl Fixture {
         assert!(rt; self.table.knows(&self.cx, args).expect(rt, "memory"));
         assert!(rt; self.table.knows(&self.cx, ty).expect(rt, "memory"));
         let alias = AliasTerm {
-            def_id: self.hidden,
+            def_id: AliasDefId::Ty(self.hidden),
             args,
         };
         let goal = Goal {
@@ -332,7 +332,7 @@ impl Fixture {
         assert!(rt; !self.cx.has_canonical_bound(first));
         assert!(rt; !self.cx.has_canonical_bound(second));
         let alias = AliasTerm {
-            def_id: self.hidden,
+            def_id: AliasDefId::Ty(self.hidden),
             args,
         };
         let goal = Goal {

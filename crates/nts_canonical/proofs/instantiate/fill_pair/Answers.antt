@@ -1,9 +1,7 @@
-use Rattle.std.proofs.Common.{ap, ◌∙◌}
-use Rattle.nts_model.specs.declared.labels.TyHead.TheVariants as ty_head
-use Rattle.nts_model.specs.declared.labels.Label.TheVariants as label
-use Rattle.nts_model.specs.Trees.{more, node, empty}
+use Rattle.std.proofs.Common.{map, ◌∙◌}
+use Rattle.nts_store.specs.Growth.{tree_at}
 use Rattle.nts_store.specs.Kept.{AllIn-kept}
-use Rattle.nts_canonical.proofs.PairLists.{holds_kept}
+use Rattle.nts_canonical.proofs.PairLists.{holds_kept, alias-filled}
 use Rattle.nts_canonical.proofs.Filled.{has_values-kept, filled-kept}
 use Rattle.nts_canonical.proofs.instantiate.fill_pair.Goals as goal
 
@@ -19,7 +17,7 @@ returns-clause-image c =
     let last = c.fill-2.ensures.extends in
     let args = c.in_ok-args.ensures in
     record {
-      alias = ap (λ t. node (label.Ty (ty_head.Alias c.args.hidden.0.def_id.number)) (more t empty)) (last.kept c.in_ok-args.args.node args.holds.within ∙ args.tree);
+      alias = alias-filled (map (tree_at c.args.nodes.now) c.args.values.now) c.args.nodes.now c.fill-2.new.nodes c.args.hidden.0 c.in_ok-args.args.node (last.kept c.in_ok-args.args.node args.holds.within ∙ args.tree);
       hidden_type = c.in_ok-ty.ensures.tree ∙ filled-kept c.args.nodes.now c.fill.new.nodes c.args.values.now c.args.hidden.1.node c.requires.values c.requires.holds.hidden_type.within c.fill.ensures.extends;
-      held = record { args = holds_kept _ _ _ _ args.holds last; hidden_type = c.in_ok-ty.ensures.holds };
+      held = record { of_types = c.requires.holds.of_types; args = holds_kept _ _ _ _ args.holds last; hidden_type = c.in_ok-ty.ensures.holds };
     }
