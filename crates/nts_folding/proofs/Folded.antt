@@ -2,6 +2,7 @@
 use Rattle.std.proofs.Common.{◌≡◌, ℕ, ◌+◌, ◌-◌, ◌<◌, List, [], ◌∷◌, ◌++◌, length, map, take, drop, get_or, Option, Some, None, refl, sym, ap, subst, ◌∙◌, arith, append_assoc, length-append}
 use Rattle.std.proofs.lemmas.List.{append-nil, length-map, take-map, drop-map}
 use Rattle.std.proofs.Math.Seq.{take-append_seam, drop-append_seam}
+use Rattle.nts_model.specs.declared.labels.ClauseHead.{ClauseHead}
 use Rattle.nts_model.specs.declared.labels.Label.{Label}
 use Rattle.nts_model.specs.Trees.{Tree, empty, more, node, kind_of, row_length, row_push, IsRow, Place, Shape, in_order, each, shape, HavePlaces, AllFit, Meets}
 use Rattle.nts_model.specs.Related.{pair}
@@ -12,7 +13,7 @@ use Rattle.nts_store.specs.Growth.{tree_at, trees_at, IsIn, AllIn, Extends}
 use Rattle.nts_terms.specs.Handles.{Holds}
 use Rattle.nts_store.specs.Kept.{map-kept}
 use Rattle.nts_store.specs.Replacement.{Job, enter, build, job, jobs, TaskIn, TasksIn, entered, building, IsFormedNode}
-use Rattle.nts_folding.specs.Folding.{GoesInto, ComesBack, Walk, done, next, answer, down, Starts, tree_of_list}
+use Rattle.nts_folding.specs.Folding.{GoesInto, ComesBack, Walk, done, next, answer, down, Starts, statement_about, tree_of_list}
 use Rattle.nts_store.proofs.Growing.{AllIn-extended, AllIn-push}
 use Rattle.nts_store.proofs.Replacing.{AreLaws, jobs-push, TasksIn-front, TasksIn-extended, jobs-extended, map-push, row, row-trees, IsRow-Meets, AllIn-take, AllIn-drop, MayBuild, weight, weights, weights-append, weights-building, weights_split, weights_extended}
 
@@ -105,6 +106,11 @@ module _ {S : Type 0} (A : S → Tree → Option Tree → S → Type 0) (E L : S
   -- one after the other
   pub walk_pair : {r s t : S} {a b c d e f : Tree} → e ≡ b → f ≡ c → Walk A E L R r a c s → Walk A E L R s e d t → Walk A E L R r (pair a b) (pair f d) t
   walk_pair e q v w = rw (← e, q) (next v (next w done))
+
+  pub walk_statement : {h : ClauseHead} {r s : S} {a c : Tree} → Walk A E L R r a c s → Walk A E L R r (statement_about h a) (statement_about h c) s
+  walk_statement {r = r} {s = s} w =
+      down (record { asked = r; asks = (refl, refl); enters_binder = refl }) (next w done)
+      (record { left = s; leaves_binder = refl; hands = (refl, refl); kind = refl })
 
   pub walk_some : {r s : S} {a c : Tree} → Walk A E L R r a c s → Walk A E L R r (more a empty) (more c empty) s
   walk_some w = next w done

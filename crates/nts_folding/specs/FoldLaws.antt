@@ -2,10 +2,11 @@
 use Rattle.std.specs.Prelude.{◌≡◌, suc, List, [], ◌∷◌, map, All, refl}
 use Rattle.std.proofs.Common.{arith}
 use Rattle.std.specs.Prelude.{Option, Some, None, IfSome, option_map}
+use Rattle.nts_model.specs.declared.labels.ClauseHead.{ClauseHead}
 use Rattle.nts_model.specs.Trees.{Tree, Place}
 use Rattle.nts_model.specs.Related.{pair}
 use Rattle.nts_terms.specs.Handles.{Holds}
-use Rattle.nts_folding.specs.Folding.{tree_of_option, tree_of_list}
+use Rattle.nts_folding.specs.Folding.{statement_about, tree_of_option, tree_of_list}
 use Rattle.nts_store.specs.declared.nodes.NodeId.{NodeId}
 use Rattle.nts_store.specs.Growth.{Extends}
 
@@ -16,6 +17,9 @@ Holds-kept p a b n h e =
 
 pub same_pair : {a b c d : Tree} → b ≡ a → d ≡ c → pair b d ≡ pair a c
 same_pair e q = cc (e, q)
+
+pub same_statement : {h : ClauseHead} {a b : Tree} → b ≡ a → statement_about h b ≡ statement_about h a
+same_statement e = cc e
 
 pub option_holds : {T : Type 0} (P Q : T → Type 0) → ((x : T) → P x → Q x) → (o : Option T) → IfSome o P → IfSome o Q
 option_holds P Q f None h = h

@@ -1,8 +1,15 @@
 -- What a walk by a folder makes of a tree, for any folder. A folder has a state: S are its states.
 use Rattle.std.specs.Prelude.{◌≡◌, ℕ, zero, suc, List, [], ◌∷◌, Option, Some, None}
 use Rattle.nts_model.specs.declared.labels.Sort.TheVariants as sort
+use Rattle.nts_model.specs.declared.labels.ClauseHead.{ClauseHead}
+use Rattle.nts_model.specs.declared.labels.ClauseHead.TheVariants as clause
 use Rattle.nts_model.specs.declared.labels.Label.{Label}
+use Rattle.nts_model.specs.declared.labels.Label.TheVariants as label
 use Rattle.nts_model.specs.Trees.{Tree, empty, more, node, binders, NodeKind, of_sort, bound_predicate, kind_of, kind_of_label}
+use Rattle.nts_store.specs.Growth.{tree_at}
+use Rattle.nts_terms.specs.declared.handles.TraitRef.{TraitRef}
+use Rattle.nts_terms.specs.declared.handles.AliasTerm.{AliasTerm}
+use Rattle.nts_terms.specs.Handles.{alias_head}
 
 -- a type, a region, a const or a predicate is asked for; anything else is gone into
 abbrev pub MayAnswer : {S : Type 0} → (S → Tree → Option Tree → S → Type 0) → NodeKind → S → Tree → Option Tree → S → Type 0
@@ -51,6 +58,17 @@ abbrev pub Starts : {S : Type 0} → (S → Tree → Option Tree → S → Type 
 Starts answers enters s (node l c) (Some u) t = IsAnswerFor answers l s (node l c) u t
 Starts answers enters s (node l c) None t = GoesInto answers enters l s (node l c) t
 Starts answers enters s x o t = ⊥
+
+-- a trait over arguments, as the statement that it holds; an alias over arguments, as a projection of it without its
+-- result. A statement is no term, so that a walk goes into it at once
+abbrev pub statement_about : ClauseHead → Tree → Tree
+statement_about h args = node (label.Clause h) (more args empty)
+
+abbrev pub tree_of_trait_ref : List Tree → TraitRef → Tree
+tree_of_trait_ref ts r = statement_about (clause.Trait r.def_id.number) (tree_at ts r.args.node)
+
+abbrev pub tree_of_alias_args : List Tree → AliasTerm → Tree
+tree_of_alias_args ts a = statement_about (clause.Projection (alias_head a.def_id)) (tree_at ts a.args.node)
 
 -- an optional value as a list
 abbrev pub tree_of_option : Option Tree → Tree

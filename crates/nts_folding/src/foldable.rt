@@ -10,7 +10,8 @@ ghost use Rattle.nts_terms.specs.Rest.{Grows};
 
 use crate::fold::{TypeFolder, fold_node, push};
 use nts_terms::{
-    Const, Cx, GenericArg, GenericArgs, Goal, ParamEnv, Predicate, Region, Stored, Term, Ty,
+    AliasTerm, Const, Cx, GenericArg, GenericArgs, Goal, ParamEnv, Predicate, Region, Stored, Term,
+    TraitRef, Ty,
 };
 
 /// A value that holds terms. It is seen as a tree, which a folder maps.
@@ -162,6 +163,53 @@ impl TypeFoldable for ParamEnv {
 
     fn fold_with<F: TypeFolder>(self, cx: &mut Cx, folder: &mut F) -> Result<ParamEnv, F::Error> {
         fold_handle(cx, folder, self)
+    }
+}
+
+/// An alias over its arguments, which alone are folded. It is seen as what a projection says of it, but
+/// for the result, so that no folder is asked for the alias itself.
+impl TypeFoldable for AliasTerm {
+    ghost use Rattle.nts_folding.specs.Folding.{tree_of_alias_args};
+
+    ghost holds = { λ ts a. HoldsArgs ts a.args };
+
+    ghost tree = { tree_of_alias_args };
+
+    ghost holds_kept = { λ a b x h e. Holds-kept (is arguments) a b x.args.node h e };
+
+    ghost use Rattle.nts_folding.specs.FoldLaws.{same_statement};
+
+    ghost tree_kept = { λ a b x h e. same_statement (e.kept x.args.node h.within) };
+
+    fn fold_with<F: TypeFolder>(self, cx: &mut Cx, folder: &mut F) -> Result<AliasTerm, F::Error> {
+        let args = self.args.fold_with(cx, folder)?;
+        Ok(AliasTerm {
+            def_id: self.def_id,
+            args,
+        })
+    }
+}
+
+/// A trait over its arguments, which alone are folded. It is seen as the statement that it holds.
+impl TypeFoldable for TraitRef {
+    ghost use Rattle.nts_folding.specs.Folding.{tree_of_trait_ref};
+
+    ghost holds = { λ ts r. HoldsArgs ts r.args };
+
+    ghost tree = { tree_of_trait_ref };
+
+    ghost holds_kept = { λ a b x h e. Holds-kept (is arguments) a b x.args.node h e };
+
+    ghost use Rattle.nts_folding.specs.FoldLaws.{same_statement};
+
+    ghost tree_kept = { λ a b x h e. same_statement (e.kept x.args.node h.within) };
+
+    fn fold_with<F: TypeFolder>(self, cx: &mut Cx, folder: &mut F) -> Result<TraitRef, F::Error> {
+        let args = self.args.fold_with(cx, folder)?;
+        Ok(TraitRef {
+            def_id: self.def_id,
+            args,
+        })
     }
 }
 

@@ -8,7 +8,8 @@ use nts_folding::{TypeFoldable, TypeFolder, fold_node};
 use nts_model::{BoundVarIndexKind, Sort, Variance};
 use nts_store::Fault;
 use nts_terms::{
-    Binder, BoundTy, Const, Cx, FnSig, InferTy, Predicate, PredicateKind, Region, Term, Ty, TyKind,
+    AliasKind, AliasTerm, Binder, BoundTy, Const, Cx, FnSig, InferTy, Predicate, PredicateKind,
+    Region, Term, TraitRef, Ty, TyKind,
 };
 use std::alloc::AllocError;
 use std::test::Fail;
@@ -346,5 +347,35 @@ fn folds_each_of_a_list(rt: HostRuntime) -> Result<(), Fail> {
     let folded = list.fold_with(&mut cx, &mut folder)?;
     assert_eq!(rt; folded.len(), 3);
     assert_eq!(rt; folder.seen.len(), 2);
+    Ok(())
+}
+
+#[test]
+fn folds_the_arguments_of_an_alias_and_a_trait(rt: HostRuntime) -> Result<(), Fail> {
+    let mut cx = Cx::new(rt.alloc());
+    let item = cx.declare_alias(&[Sort::Ty], AliasKind::Projection)?;
+    let clone = cx.declare_trait(&[Sort::Ty])?;
+    let variable = cx.mk_ty(TyKind::Infer(InferTy::TyVar(7)))?;
+    let args = cx.mk_args(&[variable.into()])?;
+    let first = cx.mk_ty(TyKind::Bound(BoundVarIndexKind::Canonical, BoundTy { var: 0 }))?;
+    let expected = cx.mk_args(&[first.into()])?;
+    assert!(rt; cx.holds(args));
+    let alias = AliasTerm {
+        def_id: item.into(),
+        args,
+    };
+    let trait_ref = TraitRef {
+        def_id: clone,
+        args,
+    };
+    let mut folder = Numbering {
+        seen: Vec::new(rt.alloc()),
+    };
+    let (of_alias, of_trait) = (alias, trait_ref).fold_with(&mut cx, &mut folder)?;
+    assert!(rt; of_alias.args == expected);
+    assert!(rt; of_alias.def_id == item.into());
+    assert!(rt; of_trait.args == expected);
+    assert!(rt; of_trait.def_id == clone);
+    assert_eq!(rt; folder.seen.len(), 1);
     Ok(())
 }

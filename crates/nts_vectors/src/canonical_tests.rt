@@ -2,7 +2,9 @@
 use crate::inputs::Fixture;
 use nts_canonical::{CanonicalInput, CanonicalVarKind};
 use nts_model::{Sort, VariableKind};
-use nts_terms::{BoundRegion, BoundTy, GenericArg, PlaceholderRegion, PlaceholderType, RegionKind};
+use nts_terms::{
+    AliasDefId, BoundRegion, BoundTy, GenericArg, PlaceholderRegion, PlaceholderType, RegionKind,
+};
 use nts_unify::State;
 use std::process::Abort;
 
@@ -201,7 +203,7 @@ fn hidden_types_are_part_of_an_input(rt: HostRuntime) {
     let wanted = fixture.args(&rt, &[first]);
     match input.canonical.value.predefined_opaques_in_body.get(0) {
         Some((alias, ty)) => {
-            assert!(rt; alias.def_id == fixture.hidden);
+            assert!(rt; alias.def_id == AliasDefId::Ty(fixture.hidden));
             assert!(rt; alias.args == wanted);
             assert!(rt; GenericArg::from(*ty) == second);
         }
