@@ -18,7 +18,7 @@ fn what_a_const_normalizes_to(rt: HostRuntime) -> Result<(), Fail> {
     let three = cx.mk_const(ConstKind::Value { ty: byte, bits: 3 })?;
     let vars = cx.mk_bound_vars(&[])?;
     let alias = AliasTerm {
-        def_id: length.into(),
+        def_id: AliasDefId::Const(length),
         args,
     };
     let term = three.into();
@@ -78,11 +78,11 @@ fn aliases_of_one_number(rt: HostRuntime) -> Result<(), Fail> {
     assert_eq!(rt; length.number, item.number);
     let args = cx.mk_args(&[])?;
     let of_types = AliasTerm {
-        def_id: item.into(),
+        def_id: AliasDefId::Ty(item),
         args,
     };
     let of_consts = AliasTerm {
-        def_id: length.into(),
+        def_id: AliasDefId::Const(length),
         args,
     };
     assert!(rt; of_types.def_id != of_consts.def_id);

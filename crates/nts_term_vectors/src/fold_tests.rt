@@ -8,8 +8,8 @@ use nts_folding::{TypeFoldable, TypeFolder, fold_node};
 use nts_model::{BoundVarIndexKind, Sort, Variance};
 use nts_store::Fault;
 use nts_terms::{
-    AliasKind, AliasTerm, Binder, BoundTy, Const, Cx, FnSig, InferTy, Predicate, PredicateKind,
-    Region, Term, TraitRef, Ty, TyKind,
+    AliasDefId, AliasKind, AliasTerm, Binder, BoundTy, Const, Cx, FnSig, InferTy, Predicate,
+    PredicateKind, Region, Term, TraitRef, Ty, TyKind,
 };
 use std::alloc::AllocError;
 use std::test::Fail;
@@ -361,7 +361,7 @@ fn folds_the_arguments_of_an_alias_and_a_trait(rt: HostRuntime) -> Result<(), Fa
     let expected = cx.mk_args(&[first.into()])?;
     assert!(rt; cx.holds(args));
     let alias = AliasTerm {
-        def_id: item.into(),
+        def_id: AliasDefId::Ty(item),
         args,
     };
     let trait_ref = TraitRef {
@@ -373,7 +373,7 @@ fn folds_the_arguments_of_an_alias_and_a_trait(rt: HostRuntime) -> Result<(), Fa
     };
     let (of_alias, of_trait) = (alias, trait_ref).fold_with(&mut cx, &mut folder)?;
     assert!(rt; of_alias.args == expected);
-    assert!(rt; of_alias.def_id == item.into());
+    assert!(rt; of_alias.def_id == AliasDefId::Ty(item));
     assert!(rt; of_trait.args == expected);
     assert!(rt; of_trait.def_id == clone);
     assert_eq!(rt; folder.seen.len(), 1);

@@ -132,7 +132,7 @@ fn aliases(rt: HostRuntime) -> Result<(), Fail> {
     let args = cx.mk_args(&[region.into()])?;
     assert!(rt; cx.fits(DefId::Alias(AliasDefId::Ty(item)), args));
     let alias = AliasTerm {
-        def_id: item.into(),
+        def_id: AliasDefId::Ty(item),
         args,
     };
     let ty = cx.mk_ty(TyKind::Alias(alias))?;

@@ -2,7 +2,6 @@
 ghost use Rattle.std.specs.Prelude.{◌≡◌};
 ghost use Rattle.nts_model.specs.Related.{alias_label};
 ghost use Rattle.nts_terms.specs.Handles.{alias_head};
-ghost use Rattle.nts_terms.specs.declared.handles.AliasDefId.TheVariants as alias_def;
 
 use crate::modes::UniverseIndex;
 use nts_model::{AliasHead, ConstHead, Label, TyHead};
@@ -122,22 +121,6 @@ impl AliasDefId {
             AliasDefId::Ty(alias) => Label::Ty(TyHead::Alias(alias.number)),
             AliasDefId::Const(ct) => Label::Const(ConstHead::Unevaluated(ct.number)),
         }
-    }
-}
-
-impl From<AliasId> for AliasDefId {
-    ghost from_gives = { λ a r. r ≡ alias_def.Ty a };
-
-    fn from(alias: AliasId) -> AliasDefId {
-        AliasDefId::Ty(alias)
-    }
-}
-
-impl From<ConstId> for AliasDefId {
-    ghost from_gives = { λ c r. r ≡ alias_def.Const c };
-
-    fn from(ct: ConstId) -> AliasDefId {
-        AliasDefId::Const(ct)
     }
 }
 
