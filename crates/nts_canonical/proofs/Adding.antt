@@ -31,7 +31,7 @@ use Rattle.nts_canonical.proofs.Kinded.{root-first}
 
 -- a type variable that a table knows is the table's
 within-leaf : (ts : List Tree) (e : Entries) (l : Leaf) (c : Tree) → Knows (content_of ts e) (node (label.Leaf l) c) → IfSome (type_variable_of (Some (node (label.Leaf l) c))) (λ n. n < length e.variables)
-within-leaf ts e (leaf.Variable kind.Ty n) c h = kind_within ts e n kind.Ty h.0
+within-leaf ts e (leaf.Variable kind.Ty n) c h = kind_within ts e n kind.Ty h.0.0
 within-leaf ts e (leaf.Variable kind.Int n) c h = tt
 within-leaf ts e (leaf.Variable kind.Float n) c h = tt
 within-leaf ts e (leaf.Variable kind.Const n) c h = tt

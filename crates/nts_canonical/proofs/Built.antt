@@ -16,11 +16,11 @@ use Rattle.nts_table.proofs.Filling.{knows-filled}
 use Rattle.nts_canonical.specs.declared.types.QueryInput.{QueryInput}
 use Rattle.nts_canonical.specs.Forms.{query_tree, trees_of, HoldsQuery}
 use Rattle.nts_canonical.specs.Kinds.{value_leaves, made_variables}
-use Rattle.nts_canonical.specs.Building.{HasNoVariable}
+use Rattle.nts_canonical.specs.Building.{HasNoName}
 use Rattle.nts_canonical.specs.Replaced.{AreLeafArgs}
 use Rattle.nts_canonical.proofs.PairLists.{are_hidden-kept, hidden_row-kept, AreLeafArgs-kept, trees_of-leaves}
 use Rattle.nts_canonical.proofs.Filled.{three}
-use Rattle.nts_canonical.proofs.Valued.{values-known}
+use Rattle.nts_canonical.proofs.Valued.{values-known, AreRootKinds}
 
 -- a query in a store that grows
 pub holds-kept : (a b : List Tree) (q : QueryInput) → HoldsQuery a q → Extends a b → HoldsQuery b q
@@ -49,6 +49,6 @@ pub query-made : (a b : List Tree) (q : QueryInput) (ts vs : List Tree) (t : Tre
 query-made a b q ts vs t h e same is = is ∙ ap (λ z. filled z (query_tree b q)) same ∙ ap (filled vs) (query_tree-kept a b q h e)
 
 -- .. and the table knows it
-pub query-known : (ts : List Tree) (e : Entries) (ks : List PositionKind) (s t : Tree) → e.variables ≡ made_variables [] ks → HasNoVariable t → s ≡ filled (map leaf_tree (value_leaves 0 ks)) t → Knows (content_of ts e) s
-query-known ts e ks s t m n is =
-    subst (Knows (content_of ts e)) (sym is) (knows-filled (content_of ts e) (map leaf_tree (value_leaves 0 ks)) t (values-known ts e ks m) (Knows-none (content_of ts e) t n.0 n.1))
+pub query-known : (ts : List Tree) (e : Entries) (ks : List PositionKind) (s t : Tree) → e.variables ≡ made_variables [] ks → AreRootKinds ks → HasNoName t → s ≡ filled (map leaf_tree (value_leaves 0 ks)) t → Knows (content_of ts e) s
+query-known ts e ks s t m z n is =
+    subst (Knows (content_of ts e)) (sym is) (knows-filled (content_of ts e) (map leaf_tree (value_leaves 0 ks)) t (values-known ts e ks m z) (Knows-none (content_of ts e) t n.0 n.1 n.2))

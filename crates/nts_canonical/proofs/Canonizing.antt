@@ -5,7 +5,7 @@ use Rattle.nts_model.specs.declared.labels.Leaf.TheVariants as leaf
 use Rattle.nts_model.specs.declared.labels.Label.{Label}
 use Rattle.nts_model.specs.declared.labels.Label.TheVariants as label
 use Rattle.nts_model.specs.Trees.{Tree, empty, more, node}
-use Rattle.nts_model.specs.Resolving.{Knows, KnowsLabel, variable_of}
+use Rattle.nts_model.specs.Resolving.{Knows, KnowsVariable, variable_of}
 use Rattle.nts_model.specs.Substitutions.{replace}
 use Rattle.nts_model.specs.Numbered.{same, added, seen_node, seen, numbered, numbered_leaf, no_leaf, AreDistinct}
 use Rattle.nts_model.specs.Inputs.{Input, CanonicalInput as Form, is_static, after_environment, after_predicate, originals, canonical_of, position_kind, whole}
@@ -27,7 +27,7 @@ use Rattle.nts_canonical.specs.Forms.{kind_of_var, hidden_pairs, form_of, input_
 use Rattle.nts_canonical.proofs.PairLists.{hidden_row-kept}
 
 -- the variables of a tree that the table knows are the table's
-owned-leaf : (ts : List Tree) (e : Entries) (x : Leaf) → KnowsLabel (content_of ts e) (variable_of (label.Leaf x)) → IsOwned e x
+owned-leaf : (ts : List Tree) (e : Entries) (x : Leaf) → KnowsVariable (content_of ts e) (variable_of (label.Leaf x)) → IsOwned e x
 owned-leaf ts e (leaf.Variable k n) h = kind_within ts e n k h
 owned-leaf ts e (leaf.Region r) h = tt
 owned-leaf ts e (leaf.TyConstant a) h = tt
@@ -37,7 +37,7 @@ owned-added : (e : Entries) (s : List Leaf) (x : Leaf) → AreOwned e s → IsOw
 owned-added e [] x h o = (o, tt)
 owned-added e (y ∷ s) x h o = elim (either (same x y)) [ inl p ↦ rw p h | inr p ↦ rw p (h.0, owned-added e s x h.1 o) ]
 
-owned-node : (ts : List Tree) (e : Entries) (stays : Leaf → Bool) (s inside : List Leaf) (l : Label) → AreOwned e s → AreOwned e inside → KnowsLabel (content_of ts e) (variable_of l) → AreOwned e (seen_node stays s l inside)
+owned-node : (ts : List Tree) (e : Entries) (stays : Leaf → Bool) (s inside : List Leaf) (l : Label) → AreOwned e s → AreOwned e inside → KnowsVariable (content_of ts e) (variable_of l) → AreOwned e (seen_node stays s l inside)
 owned-node ts e stays s i (label.Leaf x) h o k = elim (either (stays x)) [ inl p ↦ rw p h | inr p ↦ rw p (owned-added e s x h (owned-leaf ts e x k)) ]
 owned-node ts e stays s i (label.Bound a b n) h o k = o
 owned-node ts e stays s i (label.Ty x) h o k = o
@@ -49,7 +49,7 @@ owned-node ts e stays s i (label.List x) h o k = o
 owned-seen : (ts : List Tree) (e : Entries) (stays : Leaf → Bool) (s : List Leaf) (t : Tree) → AreOwned e s → Knows (content_of ts e) t → AreOwned e (seen stays s t)
 owned-seen ts e stays s empty h k = h
 owned-seen ts e stays s (more a b) h k = owned-seen ts e stays (seen stays s a) b (owned-seen ts e stays s a h k.0) k.1
-owned-seen ts e stays s (node l c) h k = owned-node ts e stays s (seen stays s c) l h (owned-seen ts e stays s c h k.1) k.0
+owned-seen ts e stays s (node l c) h k = owned-node ts e stays s (seen stays s c) l h (owned-seen ts e stays s c h k.1) k.0.0
 
 pub owned-originals : (ts : List Tree) (e : Entries) (i : Input) → Knows (content_of ts e) (whole i) → AreOwned e (originals i)
 owned-originals ts e i k =

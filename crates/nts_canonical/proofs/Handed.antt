@@ -12,7 +12,7 @@ use Rattle.nts_model.specs.declared.labels.Leaf.{Leaf}
 use Rattle.nts_model.specs.declared.labels.Leaf.TheVariants as leaf
 use Rattle.nts_model.specs.declared.labels.Label.{Label}
 use Rattle.nts_model.specs.declared.labels.Label.TheVariants as label
-use Rattle.nts_model.specs.Trees.{Tree, empty, more, node, kind_of, any_label, is_infer, is_region_infer, is_canonical, sort_of_leaf}
+use Rattle.nts_model.specs.Trees.{Tree, empty, more, node, kind_of, any_label, is_infer, is_region_infer, is_placeholder, is_canonical, sort_of_leaf}
 use Rattle.nts_model.specs.Handlers.{position_of}
 use Rattle.nts_model.specs.Substitutions.{leaf_tree, put, replace}
 use Rattle.nts_model.specs.Numbered.{number, numbered, numbered_leaf, no_leaf, AreDistinct}
@@ -25,7 +25,7 @@ use Rattle.nts_canonical.specs.Kinds.{IsInputKind, AreInputKinds, count_of, kind
 use Rattle.nts_model.specs.Responses.{universe_of_kind}
 use Rattle.nts_canonical.specs.declared.types.CanonicalInput.{CanonicalInput}
 use Rattle.nts_canonical.specs.Forms.{form_of, HoldsQuery}
-use Rattle.nts_canonical.specs.Building.{HasNoVariable, IsInputOf}
+use Rattle.nts_canonical.specs.Building.{HasNoName, IsInputOf}
 use Rattle.nts_canonical.proofs.VarLists.{number-at}
 use Rattle.nts_canonical.proofs.Making.{some}
 use Rattle.nts_canonical.proofs.Canonizing.{distinct-originals, numbered-environment, numbered-predicate, numbered-hidden}
@@ -161,6 +161,26 @@ region-others f (label.Clause x) c h k = h
 region-others f (label.Predicate x) c h k = h
 region-others f (label.List x) c h k = h
 
+placeholder-others : (f : Leaf → Tree) (l : Label) (c : Tree) → any_label is_placeholder c ≡ false → ((x : Leaf) → any_label is_placeholder (f x) ≡ false) → any_label is_placeholder (put f l c) ≡ false
+placeholder-others f (label.Leaf x) c h k = k x
+placeholder-others f (label.Bound s i n) c h k = h
+placeholder-others f (label.Ty x) c h k = h
+placeholder-others f (label.Const x) c h k = h
+placeholder-others f (label.Clause x) c h k = h
+placeholder-others f (label.Predicate x) c h k = h
+placeholder-others f (label.List x) c h k = h
+
+static-placeholder : (l : Leaf) → is_static l ≡ true → is_placeholder (label.Leaf l) ≡ false
+static-placeholder (leaf.Variable k n) e = cc
+static-placeholder (leaf.Region region.Static) e = refl
+static-placeholder (leaf.Region region.Erased) e = refl
+static-placeholder (leaf.Region region.Error) e = refl
+static-placeholder (leaf.Region (region.EarlyParam n)) e = refl
+static-placeholder (leaf.Region (region.LateParam n)) e = refl
+static-placeholder (leaf.Region (region.Placeholder v n)) e = cc
+static-placeholder (leaf.TyConstant a) e = cc
+static-placeholder (leaf.ConstConstant a) e = cc
+
 static-infer : (l : Leaf) → is_static l ≡ true → is_infer (label.Leaf l) ≡ false
 static-infer (leaf.Variable k n) e = cc
 static-infer (leaf.Region a) e = refl
@@ -173,16 +193,17 @@ static-region (leaf.Region a) e = refl
 static-region (leaf.TyConstant a) e = refl
 static-region (leaf.ConstConstant a) e = refl
 
-no-variable : (stays : Leaf → Bool) (u : List Leaf) (t : Tree) → ((l : Leaf) → stays l ≡ true → is_static l ≡ true) → HasNoVariable (replace (numbered_leaf stays u) t)
-no-variable stays u t h = (
+no-name : (stays : Leaf → Bool) (u : List Leaf) (t : Tree) → ((l : Leaf) → stays l ≡ true → is_static l ≡ true) → HasNoName (replace (numbered_leaf stays u) t)
+no-name stays u t h = (
   none-numbered is_infer stays u t (record { leaves = λ l e. static-infer l (h l e); positions = λ l n. refl; others = infer-others }),
   none-numbered is_region_infer stays u t (record { leaves = λ l e. static-region l (h l e); positions = λ l n. refl; others = region-others }),
+  none-numbered is_placeholder stays u t (record { leaves = λ l e. static-placeholder l (h l e); positions = λ l n. refl; others = placeholder-others }),
 )
 
-row-no-variable : (a b : Tree) → HasNoVariable a → HasNoVariable b → HasNoVariable (more a b)
-row-no-variable a b h k = (rw (h.0, k.0) refl, rw (h.1, k.1) refl)
+row-no-name : (a b : Tree) → HasNoName a → HasNoName b → HasNoName (more a b)
+row-no-name a b h k = (rw (h.0, k.0) refl, rw (h.1, k.1) refl, rw (h.2, k.2) refl)
 
--- a canonical form has the kinds of an input, its positions are of their sorts, and it holds no variable
+-- a canonical form has the kinds of an input, its positions are of their sorts, and it holds neither variables nor placeholders
 pub form-kinds : (i : Input) → AreInputKinds ((canonical_of i).kinds)
 form-kinds i = input-kinds i.sub_root (originals i) (distinct-originals i)
 
@@ -190,23 +211,23 @@ pub form-positions : (i : Input) → any_label is_canonical (whole i) ≡ false 
 form-positions i n =
     same-values (map leaf_tree (originals i)) (map leaf_tree (value_leaves 0 ((canonical_of i).kinds))) (whole_of (canonical_of i)) (sym (sorts-kept i.sub_root (originals i) 0 (originals i))) (originals_are_values i n)
 
-pub form-no_variable : (i : Input) → HasNoVariable (whole_of (canonical_of i))
-form-no_variable i =
+pub form-no_name : (i : Input) → HasNoName (whole_of (canonical_of i))
+form-no_name i =
     let u = originals i in
     let none : (l : Leaf) → no_leaf l ≡ true → is_static l ≡ true = (λ l e. cc) in
     let env = numbered is_static [] i.environment in
     let pred = numbered no_leaf (after_environment i) i.predicate in
     let hid = numbered no_leaf (after_predicate i) i.hidden in
-    row-no-variable env (more pred (more hid empty)) (subst HasNoVariable (sym (numbered-environment i)) (no-variable is_static u i.environment (λ l e. e)))
-    (row-no-variable pred (more hid empty) (subst HasNoVariable (sym (numbered-predicate i)) (no-variable no_leaf u i.predicate none))
-    (row-no-variable hid empty (subst HasNoVariable (sym (numbered-hidden i)) (no-variable no_leaf u i.hidden none)) (refl, refl)))
+    row-no-name env (more pred (more hid empty)) (subst HasNoName (sym (numbered-environment i)) (no-name is_static u i.environment (λ l e. e)))
+    (row-no-name pred (more hid empty) (subst HasNoName (sym (numbered-predicate i)) (no-name no_leaf u i.predicate none))
+    (row-no-name hid empty (subst HasNoName (sym (numbered-hidden i)) (no-name no_leaf u i.hidden none)) (refl, refl, refl)))
 
-pub handed_in : {ts : List Tree} {c : CanonicalInput} {f : Form} → HoldsQuery ts c.canonical.value → c.canonical.max_universe ≡ 0 → form_of ts c ≡ f → AreInputKinds f.kinds → HasValues (map leaf_tree (value_leaves 0 f.kinds)) (whole_of f) → HasNoVariable (whole_of f) → IsInputOf ts c
+pub handed_in : {ts : List Tree} {c : CanonicalInput} {f : Form} → HoldsQuery ts c.canonical.value → c.canonical.max_universe ≡ 0 → form_of ts c ≡ f → AreInputKinds f.kinds → HasValues (map leaf_tree (value_leaves 0 f.kinds)) (whole_of f) → HasNoName (whole_of f) → IsInputOf ts c
 handed_in {ts} {c} {f} h u e k p n =
     record {
       holds = h;
       universe = u;
       kinds = subst (λ (z : Form). AreInputKinds z.kinds) (sym e) k;
       positions = subst (λ (z : Form). HasValues (map leaf_tree (value_leaves 0 z.kinds)) (whole_of z)) (sym e) p;
-      no_variable = subst (λ (z : Form). HasNoVariable (whole_of z)) (sym e) n;
+      no_name = subst (λ (z : Form). HasNoName (whole_of z)) (sym e) n;
     }

@@ -18,7 +18,7 @@ use Rattle.nts_terms.specs.Handles.{HoldsArg}
 use Rattle.nts_unify.specs.Entries.{Entries}
 use Rattle.nts_unify.specs.Reading.{content_of, LinksDescend}
 use Rattle.nts_unify.proofs.Leading.{kind_at-entry}
-use Rattle.nts_canonical.specs.Forms.{trees_of}
+use Rattle.nts_canonical.specs.Forms.{trees_of, kind_of_var}
 use Rattle.nts_canonical.specs.Kinds.{IsInputKind, AreInputKinds, variables_before, value_leaf, value_leaves, made_variable, made_variables}
 use Rattle.nts_model.specs.Responses.{universe_of_kind}
 use Rattle.nts_canonical.specs.Building.{AddsValue, IsPositionValue, IsArgOf}
@@ -26,17 +26,47 @@ use Rattle.nts_canonical.specs.Replaced.{AreLeafArgs}
 use Rattle.nts_canonical.proofs.PairLists.{AreLeafArgs-kept, AreLeafArgs-push, AreLeafArgs-hold, trees_of-leaves}
 use Rattle.nts_canonical.proofs.Making.{some, value-at, length-values, length-made, made-at, made-push, values-push, taken-at}
 use Rattle.nts_canonical.proofs.Adding.{IsNextKind, adds_made}
+use Rattle.nts_unify.proofs.Changes.{slice_get-map}
+use Rattle.nts_canonical.specs.declared.types.CanonicalVarKind.{CanonicalVarKind}
+
+-- kinds of the root universe
+abbrev pub AreRootKinds : List PositionKind → Type 0
+AreRootKinds ks = (i : ℕ) (k : PositionKind) → slice_get ks i ≡ Some k → universe_of_kind k ≡ 0
+
+input_kind : (ks : List PositionKind) (i : ℕ) (k : PositionKind) → IsInputKind ks i k → universe_of_kind k ≡ 0
+input_kind ks i (type_variable u r) h = h.0
+input_kind ks i integer_variable h = refl
+input_kind ks i float_variable h = refl
+input_kind ks i (const_variable u) h = h
+input_kind ks i (region_variable u) h = absurd h
+input_kind ks i (placeholder s u n) h = h.0
+
+pub root_kinds : (ks : List PositionKind) → AreInputKinds ks → AreRootKinds ks
+root_kinds ks h i k q = input_kind ks i k (h i k q)
+
+pub root_universe : (ks : List CanonicalVarKind) (i : ℕ) (k : CanonicalVarKind) (u : ℕ) → AreInputKinds (map kind_of_var ks) → i < length ks → u ≡ universe_of_kind (kind_of_var (get_or ks i k)) → u ≡ 0
+root_universe ks i k u h l e = e ∙ root_kinds (map kind_of_var ks) h i _ (slice_get-map kind_of_var ks i _ (slice_get-get_or ks i k l))
+
+-- .. the first of them too
+pub root_taken : (ks : List PositionKind) (n : ℕ) → AreRootKinds ks → AreRootKinds (take n ks)
+root_taken ks n h i k q = h i k (sym (taken-at ks n i (below ks n i k q)) ∙ q)
+  where
+    below : (ks : List PositionKind) (n i : ℕ) (k : PositionKind) → slice_get (take n ks) i ≡ Some k → i < n
+    below ks zero i k q = cc
+    below [] (suc n) i k q = cc
+    below (x ∷ ks) (suc n) zero k q = omega arith
+    below (x ∷ ks) (suc n) (suc i) k q = let l = below ks n i k q in omega (arith, l)
 
 -- the value of a kind is one of the table that is made
-known-kind : (ts : List Tree) (e : Entries) (ks : List PositionKind) (j : ℕ) (k : PositionKind) → e.variables ≡ made_variables [] ks → slice_get ks j ≡ Some k → Knows (content_of ts e) (leaf_tree (value_leaf k (universe_of_kind k) (variables_before ks j)))
-known-kind ts e ks j (type_variable u r) m h = (kind_at-entry ts e (variables_before ks j) _ (ap (λ vs. slice_get vs (variables_before ks j)) m ∙ (made-at [] ks j (type_variable u r) h).at), tt)
-known-kind ts e ks j integer_variable m h = (kind_at-entry ts e (variables_before ks j) _ (ap (λ vs. slice_get vs (variables_before ks j)) m ∙ (made-at [] ks j integer_variable h).at), tt)
-known-kind ts e ks j float_variable m h = (kind_at-entry ts e (variables_before ks j) _ (ap (λ vs. slice_get vs (variables_before ks j)) m ∙ (made-at [] ks j float_variable h).at), tt)
-known-kind ts e ks j (const_variable u) m h = (kind_at-entry ts e (variables_before ks j) _ (ap (λ vs. slice_get vs (variables_before ks j)) m ∙ (made-at [] ks j (const_variable u) h).at), tt)
-known-kind ts e ks j (region_variable u) m h = (kind_at-entry ts e (variables_before ks j) _ (ap (λ vs. slice_get vs (variables_before ks j)) m ∙ (made-at [] ks j (region_variable u) h).at), tt)
-known-kind ts e ks j (placeholder sort.Ty u a) m h = (tt, tt)
-known-kind ts e ks j (placeholder sort.Region u a) m h = (tt, tt)
-known-kind ts e ks j (placeholder sort.Const u a) m h = (tt, tt)
+known-kind : (ts : List Tree) (e : Entries) (ks : List PositionKind) (j : ℕ) (k : PositionKind) → e.variables ≡ made_variables [] ks → universe_of_kind k ≡ 0 → slice_get ks j ≡ Some k → Knows (content_of ts e) (leaf_tree (value_leaf k (universe_of_kind k) (variables_before ks j)))
+known-kind ts e ks j (type_variable u r) m z h = ((kind_at-entry ts e (variables_before ks j) _ (ap (λ vs. slice_get vs (variables_before ks j)) m ∙ (made-at [] ks j (type_variable u r) h).at), tt), tt)
+known-kind ts e ks j integer_variable m z h = ((kind_at-entry ts e (variables_before ks j) _ (ap (λ vs. slice_get vs (variables_before ks j)) m ∙ (made-at [] ks j integer_variable h).at), tt), tt)
+known-kind ts e ks j float_variable m z h = ((kind_at-entry ts e (variables_before ks j) _ (ap (λ vs. slice_get vs (variables_before ks j)) m ∙ (made-at [] ks j float_variable h).at), tt), tt)
+known-kind ts e ks j (const_variable u) m z h = ((kind_at-entry ts e (variables_before ks j) _ (ap (λ vs. slice_get vs (variables_before ks j)) m ∙ (made-at [] ks j (const_variable u) h).at), tt), tt)
+known-kind ts e ks j (region_variable u) m z h = ((kind_at-entry ts e (variables_before ks j) _ (ap (λ vs. slice_get vs (variables_before ks j)) m ∙ (made-at [] ks j (region_variable u) h).at), tt), tt)
+known-kind ts e ks j (placeholder sort.Ty u a) m z h = ((tt, omega (arith, z)), tt)
+known-kind ts e ks j (placeholder sort.Region u a) m z h = ((tt, omega (arith, z)), tt)
+known-kind ts e ks j (placeholder sort.Const u a) m z h = ((tt, omega (arith, z)), tt)
 
 tree-past : {A : Type 0} (f : A → Tree) (xs : List A) (j : ℕ) → length xs ≤ j → get_or (map f xs) j empty ≡ empty
 tree-past f [] j l = refl
@@ -50,8 +80,8 @@ value-given ks j d k h =
     let none : 0 + variables_before ks j ≡ variables_before ks j = omega arith in
     some (sym (slice_get-get_or (value_leaves 0 ks) j d below) ∙ at) ∙ ap (value_leaf k (universe_of_kind k)) none
 
-pub values-known : (ts : List Tree) (e : Entries) (ks : List PositionKind) → e.variables ≡ made_variables [] ks → (j : ℕ) → Knows (content_of ts e) (get_or (map leaf_tree (value_leaves 0 ks)) j empty)
-values-known ts e ks m j = by_case (cases_lt j (length (value_leaves 0 ks)))
+pub values-known : (ts : List Tree) (e : Entries) (ks : List PositionKind) → e.variables ≡ made_variables [] ks → AreRootKinds ks → (j : ℕ) → Knows (content_of ts e) (get_or (map leaf_tree (value_leaves 0 ks)) j empty)
+values-known ts e ks m z j = by_case (cases_lt j (length (value_leaves 0 ks)))
   where
     by_case : (j < length (value_leaves 0 ks)) ⊎ (length (value_leaves 0 ks) ≤ j) → Knows (content_of ts e) (get_or (map leaf_tree (value_leaves 0 ks)) j empty)
     by_case (inr past) = rw (tree-past leaf_tree (value_leaves 0 ks) j past) tt
@@ -59,13 +89,13 @@ values-known ts e ks m j = by_case (cases_lt j (length (value_leaves 0 ks)))
         let is = slice_get-get_or ks j integer_variable (let n = length-values 0 ks in omega (arith, n, below)) in
         let k = get_or ks j integer_variable in
         let d = leaf.Region region.Static in
-        rw (get_or-map leaf_tree (value_leaves 0 ks) j d empty below, value-given ks j d k is) (known-kind ts e ks j k m is)
+        rw (get_or-map leaf_tree (value_leaves 0 ks) j d empty below, value-given ks j d k is) (known-kind ts e ks j k m (z j k is) is)
 
 -- as arguments
-pub args-known : (ts : List Tree) (e : Entries) (xs : List GenericArg) (ks : List PositionKind) → AreLeafArgs ts xs (value_leaves 0 ks) → e.variables ≡ made_variables [] ks → All (IsArgOf ts e) xs
-args-known ts e xs ks h m = λ j d l. record {
+pub args-known : (ts : List Tree) (e : Entries) (xs : List GenericArg) (ks : List PositionKind) → AreLeafArgs ts xs (value_leaves 0 ks) → e.variables ≡ made_variables [] ks → AreRootKinds ks → All (IsArgOf ts e) xs
+args-known ts e xs ks h m z = λ j d l. record {
   holds = AreLeafArgs-hold ts xs (value_leaves 0 ks) h j d l;
-  known = subst (Knows (content_of ts e)) (ap (λ us. get_or us j empty) (sym (trees_of-leaves ts xs (value_leaves 0 ks) h)) ∙ get_or-map (λ (x : GenericArg). tree_at ts x.node) xs j d empty l) (values-known ts e ks m j);
+  known = subst (Knows (content_of ts e)) (ap (λ us. get_or us j empty) (sym (trees_of-leaves ts xs (value_leaves 0 ks) h)) ∙ get_or-map (λ (x : GenericArg). tree_at ts x.node) xs j d empty l) (values-known ts e ks m z j);
 }
 
 -- the kind of a position goes with the kinds before it

@@ -1,5 +1,5 @@
 //! A table for a canonical input.
-ghost use Rattle.std.specs.Prelude.{◌≡◌, ℕ, List, [], map, All, IfOk, OnOk, OnErr, IsOkUnless};
+ghost use Rattle.std.specs.Prelude.{◌≡◌, ◌≤◌, ℕ, List, [], map, All, IfOk, OnOk, OnErr, IsOkUnless};
 ghost use Rattle.std.specs.Prelude.{slice_get};
 ghost use Rattle.nts_model.specs.Substitutions.{leaf_tree};
 ghost use Rattle.nts_model.specs.Handlers.{filled};
@@ -60,7 +60,7 @@ pub fn build_with_canonical(
 
 /// The value of a position of that kind: a new variable, or the placeholder, in the universe that
 /// `universe_map` answers for the kind's. Those of integers and floats are of the root.
-/// `var_values` are the values of the earlier positions: a new type variable is of one sub-unification class
+/// That universe is one of the table's. `var_values` are the values of the earlier positions: a new type variable is of one sub-unification class
 /// with the value at its `sub_root`, where that is a type variable.
 pub fn instantiate_canonical_var<F: Fn(UniverseIndex) -> UniverseIndex>(
     table: &mut InferCtxt,
@@ -73,6 +73,7 @@ pub fn instantiate_canonical_var<F: Fn(UniverseIndex) -> UniverseIndex>(
     requires table { IsTable cx.old.nodes table.old }
     requires values { All (IsArgOf cx.old.nodes table.old.entries) var_values.now }
     requires callable { F.IsAlwaysCallable universe_map }
+    requires named { (u : ℕ) → F.post universe_map (universe_of_kind (kind_of_var kind)) u → u ≤ table.old.entries.universe }
     ensures value { IfOk result (λ r. (u : ℕ) × F.post universe_map (universe_of_kind (kind_of_var kind)) u × IsPositionValue (kind_of_var kind) u (trees_of cx.old.nodes var_values.now) table.old.entries table.new.entries (tree_at cx.new.nodes r.node)) }
     ensures holds { IfOk result (HoldsArg cx.new.nodes) }
     ensures changes { ChangesEntries table.old table.new }
@@ -111,6 +112,7 @@ fn value_in(
 ) -> Result<GenericArg, Fault>
     requires table { IsTable cx.old.nodes table.old }
     requires values { All (IsArgOf cx.old.nodes table.old.entries) var_values.now }
+    requires named { universe ≤ table.old.entries.universe }
     ensures value { IfOk result (λ r. IsPositionValue (kind_of_var kind) universe (trees_of cx.old.nodes var_values.now) table.old.entries table.new.entries (tree_at cx.new.nodes r.node)) }
     ensures holds { IfOk result (HoldsArg cx.new.nodes) }
     ensures changes { ChangesEntries table.old table.new }

@@ -10,7 +10,7 @@ use Rattle.nts_model.specs.declared.labels.Label.{Label}
 use Rattle.nts_model.specs.declared.labels.Label.TheVariants as label
 use Rattle.nts_model.specs.Trees.{Tree, empty, more, node, children, any_label, is_canonical, row_length, row_at, row_take, IsRow}
 use Rattle.nts_model.specs.Contents.{Content}
-use Rattle.nts_model.specs.Resolving.{Knows, KnowsLabel, variable_of}
+use Rattle.nts_model.specs.Resolving.{Knows, KnowsVariable, variable_of}
 use Rattle.nts_terms.specs.declared.handles.Goal.{Goal}
 use Rattle.nts_terms.specs.declared.handles.Predicate.{Predicate}
 use Rattle.nts_store.specs.Growth.{tree_at}
@@ -24,6 +24,8 @@ use Rattle.nts_delegate.specs.declared.delegate.Equation.{Equation}
 use Rattle.nts_delegate.specs.declared.delegate.CandidateData.{CandidateData}
 use Rattle.nts_delegate.specs.declared.clauses.Clause.{Clause}
 use Rattle.nts_delegate.specs.declared.clauses.Clauses.{Clauses}
+use Rattle.nts_model.specs.declared.labels.FreeRegion.TheVariants as region
+use Rattle.nts_model.specs.Placeholders.{CanName, leaf_level}
 
 both_false : (p q : Bool) → (p || q) ≡ false → (p ≡ false) × (q ≡ false)
 both_false true q h = cc
@@ -50,7 +52,7 @@ names_none fresh (node l c) h =
     (no_name fresh l w.0, names_none fresh c w.1)
 
 -- a label that is no variable
-no_variable : (c : Content) (l : Label) → is_foreign l ≡ false → KnowsLabel c (variable_of l)
+no_variable : (c : Content) (l : Label) → is_foreign l ≡ false → KnowsVariable c (variable_of l)
 no_variable c (label.Leaf (leaf.Variable k n)) h = cc
 no_variable c (label.Leaf (leaf.Region r)) h = tt
 no_variable c (label.Leaf (leaf.TyConstant k)) h = tt
@@ -62,6 +64,24 @@ no_variable c (label.Clause k) h = tt
 no_variable c (label.Predicate p) h = tt
 no_variable c (label.List k) h = tt
 
+-- .. and no placeholder
+no_placeholder : (u : ℕ) (l : Label) → is_foreign l ≡ false → CanName u (leaf_level l)
+no_placeholder u (label.Leaf (leaf.Variable k n)) h = cc
+no_placeholder u (label.Leaf (leaf.Region region.Static)) h = tt
+no_placeholder u (label.Leaf (leaf.Region region.Erased)) h = tt
+no_placeholder u (label.Leaf (leaf.Region region.Error)) h = tt
+no_placeholder u (label.Leaf (leaf.Region (region.EarlyParam n))) h = cc
+no_placeholder u (label.Leaf (leaf.Region (region.LateParam n))) h = cc
+no_placeholder u (label.Leaf (leaf.Region (region.Placeholder v n))) h = cc
+no_placeholder u (label.Leaf (leaf.TyConstant k)) h = cc
+no_placeholder u (label.Leaf (leaf.ConstConstant k)) h = cc
+no_placeholder u (label.Bound s i n) h = tt
+no_placeholder u (label.Ty t) h = tt
+no_placeholder u (label.Const k) h = tt
+no_placeholder u (label.Clause k) h = tt
+no_placeholder u (label.Predicate p) h = tt
+no_placeholder u (label.List k) h = tt
+
 pub knows_none : (c : Content) (t : Tree) → any_label is_foreign t ≡ false → Knows c t
 knows_none c empty h = tt
 knows_none c (more a b) h =
@@ -69,7 +89,7 @@ knows_none c (more a b) h =
     (knows_none c a w.0, knows_none c b w.1)
 knows_none c (node l t) h =
     let w = both_false (is_foreign l) (any_label is_foreign t) h in
-    (no_variable c l w.0, knows_none c t w.1)
+    ((no_variable c l w.0, no_placeholder c.universe l w.0), knows_none c t w.1)
 
 -- the children of a node
 children_lack : (p : Label → Bool) (t : Tree) → any_label p t ≡ false → any_label p (children t) ≡ false

@@ -1,6 +1,6 @@
 -- What evaluations keep, composed.
 use Rattle.std.proofs.Math.Seq.{take-append_seam}
-use Rattle.std.proofs.Common.{◌≡◌, ◌-◌, inl, inr, ℕ, zero, suc, ◌<◌, List, [], ◌∷◌, ◌++◌, length, map, get_or, Option, Some, None, refl, sym, ap, ◌∙◌, subst, arith, length-append}
+use Rattle.std.proofs.Common.{◌≡◌, ◌-◌, inl, inr, ℕ, zero, suc, ◌<◌, List, [], ◌∷◌, ◌++◌, length, map, get_or, Option, Some, None, refl, sym, ap, ◌∙◌, subst, arith, length-append, true}
 use Rattle.std.specs.Prelude.{slice_get, ◌↔◌, Result, Ok, Err, IfOk, OnOk, OnErr}
 use Rattle.nts_model.specs.Equations.{AreRelated}
 use Rattle.nts_model.specs.declared.labels.Sort.{Sort}
@@ -28,7 +28,7 @@ use Rattle.nts_model.specs.Resolving.{IsSound}
 use Rattle.nts_model.specs.Holding.{Continues}
 use Rattle.nts_model.proofs.Held.{Continues-refl, Continues-trans, Continues-with_slot, Continues-with_constraint}
 use Rattle.nts_model.proofs.Sound.{IsSound-with_slot}
-use Rattle.nts_model.proofs.Slots.{Knows-kept, KeepsKinds, KeepsKinds-with_slot, field-with_slot_new}
+use Rattle.nts_model.proofs.Slots.{Knows-kept, KeepsKinds, KeepsKinds-with_slot, field-with_slot_new, KeepsKinds-refl, KeepsKinds-trans}
 use Rattle.nts_unify.proofs.SavedLemmas.{push_inj}
 use Rattle.nts_table.proofs.GoingBack.{back_to}
 use Rattle.nts_table.proofs.Filling.{knows-filled}
@@ -57,6 +57,7 @@ use Rattle.nts_evaluation.specs.Meant.{Since, offers_of}
 use Rattle.nts_evaluation.specs.Instances.{HoldsValues, IsTermInstance}
 use Rattle.nts_evaluation.specs.Evaluation.{IsGoalUnder, IsSameGoal, Goes, Runs, IsAdmitted, IsPosed, AllKnown, AreOfSorts, AreValues}
 use Rattle.nts_table.specs.Tables.{IsTermOf}
+use Rattle.nts_unify.proofs.Keeping.{IsLater-refl, IsLater-trans, IsLater-with_slot, Knows-later, Keeps-with_constraint}
 
 pub Goes-trans : {a b c : List Tree} {t u v : Table} → Goes a b t u → Goes b c u v → Goes a c t v
 Goes-trans {a} {b} {c} {t} {u} {v} g h =
@@ -64,10 +65,11 @@ Goes-trans {a} {b} {c} {t} {u} {v} g h =
       sound = g.sound;
       extends = Extends-trans g.extends h.extends;
       table = h.table;
-      known = λ x k. h.known x (g.known x k);
+      later = IsLater-trans g.later h.later;
       continues = Continues-trans (content_of a t.entries) (content_of b u.entries) (content_of c v.entries) g.sound g.continues h.continues;
       saved = h.saved ∙ g.saved;
       mode = h.mode ∙ g.mode;
+      universe = h.universe ∙ g.universe;
       hidden = h.hidden ∙ g.hidden;
     }
 
@@ -79,10 +81,11 @@ Goes-extends {a} {b} {t} h e =
       sound = h.now.sound;
       extends = e;
       table = IsTable-extended e h;
-      known = λ x k. rw same k;
+      later = rw same (IsLater-refl (content_of a t.entries));
       continues = rw same (Continues-refl (content_of a t.entries) h.now.sound);
       saved = refl;
       mode = refl;
+      universe = refl;
       hidden = refl;
     }
 
@@ -94,7 +97,7 @@ HoldsGoal-extended e h = record { env = Holds-extended e h.env; predicate = Hold
 
 pub IsTermOf-later : {a b : List Tree} {t u : Table} {x : NodeId} → Goes a b t u → IsTermOf a t x → IsTermOf b u x
 IsTermOf-later {a} {b} {t} {u} {x} g h =
-    record { within = IsIn-extended g.extends x h.within; knows = rw (g.extends.kept x h.within) (g.known (tree_at a x) h.knows) }
+    record { within = IsIn-extended g.extends x h.within; knows = rw (g.extends.kept x h.within) (Knows-later (tree_at a x) g.later h.knows) }
 
 pub IsPosed-later : {a b : List Tree} {t u : Table} {g : Goal} → Goes a b t u → IsPosed a t g → IsPosed b u g
 IsPosed-later {a} {b} {t} {u} {g} s p =
@@ -102,8 +105,8 @@ IsPosed-later {a} {b} {t} {u} {g} s p =
       table = s.table;
       holds = HoldsGoal-extended s.extends p.holds;
       knows = record {
-        env = rw (s.extends.kept g.param_env.node p.holds.env.within) (s.known (tree_at a g.param_env.node) p.knows.env);
-        predicate = rw (s.extends.kept g.predicate.node p.holds.predicate.within) (s.known (tree_at a g.predicate.node) p.knows.predicate);
+        env = rw (s.extends.kept g.param_env.node p.holds.env.within) (Knows-later (tree_at a g.param_env.node) s.later p.knows.env);
+        predicate = rw (s.extends.kept g.predicate.node p.holds.predicate.within) (Knows-later (tree_at a g.predicate.node) s.later p.knows.predicate);
       };
     }
 
@@ -118,7 +121,7 @@ AreValues-later {a} {b} {t} {u} {fresh} {vs} s h =
       within = AllIn-kept a b vs h.within s.extends;
       sorts = rw same h.sorts;
       values = rw same h.values;
-      known = rw same (AllKnown-later (content_of a t.entries) (content_of b u.entries) (map (tree_at a) vs) s.known h.known);
+      known = rw same (AllKnown-later (content_of a t.entries) (content_of b u.entries) (map (tree_at a) vs) (λ x k. Knows-later x s.later k) h.known);
     }
 
 pub IsOver-extended : {a b : List Tree} {fresh : List Sort} {g : Goal} {x : NodeId} → Extends a b → HoldsGoal a g → IsOver a fresh g x → IsOver b fresh g x
@@ -260,20 +263,21 @@ values-fresh ts (v ∷ vs) n (s ∷ ss) e =
     let rest : trees_at ts vs ≡ fresh_row (suc n) ss = cc in
     (rw first (value-fresh s n), values-fresh ts vs (suc n) ss rest)
 
-KeepsKinds-refl : (c : Content) → KeepsKinds c c
-KeepsKinds-refl c = record { kinds = λ n k h. h }
-
-KeepsKinds-trans : (c d e : Content) → KeepsKinds c d → KeepsKinds d e → KeepsKinds c e
-KeepsKinds-trans c d e h k = record { kinds = λ n i q. k.kinds n i (h.kinds n i q) }
-
 kinds-added : (ts : List Tree) (e : Entries) (v : Variable) → KeepsKinds (content_of ts e) (content_of ts (added e v))
 kinds-added ts e v = rw (content_of-added ts e v) (KeepsKinds-with_slot (content_of ts e) (slot_of ts v))
+
+later-fresh : (ts : List Tree) (e : Entries) (ss : List Sort) → IsLater (content_of ts e) (content_of ts (with_fresh e ss))
+later-fresh ts e [] = IsLater-refl (content_of ts e)
+later-fresh ts e (s ∷ ss) =
+    let v = new_variable e (variable_kind s) in
+    let first : IsLater (content_of ts e) (content_of ts (added e v)) = rw (content_of-added ts e v) (IsLater-with_slot (content_of ts e) (slot_of ts v) refl refl) in
+    IsLater-trans first (later-fresh ts (added e v) ss)
 
 kinds-fresh : (ts : List Tree) (e : Entries) (ss : List Sort) → KeepsKinds (content_of ts e) (content_of ts (with_fresh e ss))
 kinds-fresh ts e [] = KeepsKinds-refl (content_of ts e)
 kinds-fresh ts e (s ∷ ss) =
     let next = added e (new_variable e (variable_kind s)) in
-    KeepsKinds-trans (content_of ts e) (content_of ts next) (content_of ts (with_fresh next ss)) (kinds-added ts e (new_variable e (variable_kind s))) (kinds-fresh ts next ss)
+    KeepsKinds-trans (kinds-added ts e (new_variable e (variable_kind s))) (kinds-fresh ts next ss)
 
 length-slots : (ts : List Tree) (vs : List Variable) → length (map (slot_of ts) vs) ≡ length vs
 length-slots ts [] = refl
@@ -296,7 +300,7 @@ known-fresh ts us (v ∷ vs) e (s ∷ ss) h =
     let more_vars : length next.variables ≡ suc (length e.variables) = omega (arith, length-append e.variables (new_variable e k ∷ [])) in
     let rest : trees_at us vs ≡ fresh_row (length next.variables) ss = rw more_vars cc in
     let is : kind_at (content_of ts (with_fresh next ss)) (length e.variables) ≡ Some k = (kinds-fresh ts next ss).kinds (length e.variables) k (kind-new ts e (new_variable e k)) in
-    (rw first (is, tt), known-fresh ts us vs next ss rest)
+    (rw first ((is, tt), tt), known-fresh ts us vs next ss rest)
 
 continues-fresh : (ts : List Tree) (e : Entries) (ss : List Sort) → IsSound (content_of ts e) → Continues (content_of ts e) (content_of ts (with_fresh e ss))
 continues-fresh ts e [] h = Continues-refl (content_of ts e) h
@@ -308,7 +312,11 @@ continues-fresh ts e (s ∷ ss) h =
     let one : Continues (content_of ts e) (content_of ts next) = rw same (Continues-with_slot (content_of ts e) (slot_of ts v) refl h) in
     Continues-trans (content_of ts e) (content_of ts next) (content_of ts (with_fresh next ss)) h one (continues-fresh ts next ss sound)
 
--- new variables leave the hidden types
+-- new variables leave the current universe and the hidden types
+universe-with_fresh : (e : Entries) (ss : List Sort) → (with_fresh e ss).universe ≡ e.universe
+universe-with_fresh e [] = refl
+universe-with_fresh e (s ∷ ss) = universe-with_fresh (added e (new_variable e (variable_kind s))) ss
+
 hidden-with_fresh : (e : Entries) (ss : List Sort) → (with_fresh e ss).hidden ≡ e.hidden
 hidden-with_fresh e [] = refl
 hidden-with_fresh e (s ∷ ss) = hidden-with_fresh (added e (new_variable e (variable_kind s))) ss
@@ -328,9 +336,10 @@ gave_fresh {a} {b} {t} {u} fresh vs h e k q s m w r =
         extends = e;
         table = k;
         continues = rw (q, ← same) (continues-fresh b t.entries fresh (rw same h.now.sound));
-        known = λ x z. rw q (Knows-kept (content_of b t.entries) (content_of b (with_fresh t.entries fresh)) x kinds (rw same z));
+        later = rw (q, ← same) (later-fresh b t.entries fresh);
         saved = s;
         mode = m;
+        universe = ap (λ (z : Entries). z.universe) q ∙ universe-with_fresh t.entries fresh;
         hidden = ap (λ (z : Entries). z.hidden) q ∙ hidden-with_fresh t.entries fresh;
       };
       values = record {
@@ -373,8 +382,8 @@ offers-kept {a} {b} {g} h mode e p =
     ap (λ x. h.offers mode x (tree_at b g.predicate.node)) (e.kept g.param_env.node p.env.within) ∙ ap (h.offers mode (tree_at a g.param_env.node)) (e.kept g.predicate.node p.predicate.within)
 
 -- a call on the store and the table
-pub goes : {a b : List Tree} {t u : Table} → IsTable a t → Extends a b → IsTable b u → IsLater (content_of a t.entries) (content_of b u.entries) → Continues (content_of a t.entries) (content_of b u.entries) → u.saved ≡ t.saved → u.mode ≡ t.mode → u.entries.hidden ≡ t.entries.hidden → Goes a b t u
-goes {a} {b} {t} {u} w e h k n s m d = record { sound = w.now.sound; continues = n; extends = e; table = h; known = λ x. Knows-kept (content_of a t.entries) (content_of b u.entries) x (record { kinds = k.kinds }); saved = s; mode = m; hidden = d }
+pub goes : {a b : List Tree} {t u : Table} → IsTable a t → Extends a b → IsTable b u → IsLater (content_of a t.entries) (content_of b u.entries) → Continues (content_of a t.entries) (content_of b u.entries) → u.saved ≡ t.saved → u.mode ≡ t.mode → u.entries.universe ≡ t.entries.universe → u.entries.hidden ≡ t.entries.hidden → Goes a b t u
+goes {a} {b} {t} {u} w e h k n s m v d = record { sound = w.now.sound; continues = n; extends = e; table = h; later = k; saved = s; mode = m; universe = v; hidden = d }
 
 pub kind-kept : {a b : List Tree} {x : NodeId} → Extends a b → IsIn a x → kind_of (tree_at b x) ≡ kind_of (tree_at a x)
 kind-kept {a} {b} {x} e w = ap kind_of (e.kept x w)
@@ -389,8 +398,8 @@ IsPosed-opened {a} {t} {u} {g} p e s =
     }
 
 -- a constraint whose sides are terms of the table
-pub goes-constrained : {a : List Tree} {t u : Table} (x : Constraint) → IsTable a t → IsTermOf a t x.left → IsTermOf a t x.right → kind_of (tree_at a x.left) ≡ Some (left_kind x.relation) → kind_of (tree_at a x.right) ≡ Some (of_sort sort.Region) → (x.relation ≡ relation.Equal → ⊥) → u.entries ≡ constrained t.entries x → u.saved ≡ t.saved → u.mode ≡ t.mode → Goes a a t u
-goes-constrained {a} {t} {u} x h l r k j n e s m =
+pub goes-constrained : {a : List Tree} {t u : Table} (x : Constraint) → IsTable a t → IsTermOf a t x.left → IsTermOf a t x.right → kind_of (tree_at a x.left) ≡ Some (left_kind x.relation) → kind_of (tree_at a x.right) ≡ Some (of_sort sort.Region) → (x.relation ≡ relation.Equal → ⊥) → x.is_visible ≡ true → u.entries ≡ constrained t.entries x → u.saved ≡ t.saved → u.mode ≡ t.mode → Goes a a t u
+goes-constrained {a} {t} {u} x h l r k j n v e s m =
     let is : IsConstraint a (content_of a t.entries) x = record {
       left_in = l.within;
       right_in = r.within;
@@ -406,9 +415,10 @@ goes-constrained {a} {t} {u} x h l r k j n e s m =
       extends = Extends-refl a;
       table = IsTable-constrained h is e s;
       continues = rw (e, same) (Continues-with_constraint (content_of a t.entries) (recorded_of a x) h.now.sound);
-      known = λ y q. rw (e, same) (Knows-kept (content_of a t.entries) (with_constraint (content_of a t.entries) (recorded_of a x)) y (record { kinds = λ n i z. z }) q);
+      later = rw (e, same) (let k = Keeps-with_constraint (content_of a t.entries) (recorded_of a x) v in k.later);
       saved = s;
       mode = m;
+      universe = ap (λ (z : Entries). z.universe) e;
       hidden = ap (λ (z : Entries). z.hidden) e;
     }
 
@@ -416,22 +426,22 @@ goes-constrained {a} {t} {u} x h l r k j n e s m =
 same_table : {t u : Table} → u.entries ≡ t.entries → u.saved ≡ t.saved → u.mode ≡ t.mode → u ≡ t
 same_table e s m = λ i. record { entries = e i; saved = s i; mode = m i }
 
-goes-recorded : {a : List Tree} {t u : Table} (x : Constraint) → IsTable a t → IsTermOf a t x.left → IsTermOf a t x.right → kind_of (tree_at a x.left) ≡ Some (left_kind x.relation) → kind_of (tree_at a x.right) ≡ Some (of_sort sort.Region) → (x.relation ≡ relation.Equal → ⊥) → Records a t.entries u.entries x → u.saved ≡ t.saved → u.mode ≡ t.mode → Goes a a t u
-goes-recorded x h l r k j n (inl e) s m = rw (same_table e.1 s m) (Goes-extends h (Extends-refl _))
-goes-recorded x h l r k j n (inr e) s m = goes-constrained x h l r k j n e.1 s m
+goes-recorded : {a : List Tree} {t u : Table} (x : Constraint) → IsTable a t → IsTermOf a t x.left → IsTermOf a t x.right → kind_of (tree_at a x.left) ≡ Some (left_kind x.relation) → kind_of (tree_at a x.right) ≡ Some (of_sort sort.Region) → (x.relation ≡ relation.Equal → ⊥) → x.is_visible ≡ true → Records a t.entries u.entries x → u.saved ≡ t.saved → u.mode ≡ t.mode → Goes a a t u
+goes-recorded x h l r k j n v (inl e) s m = rw (same_table e.1 s m) (Goes-extends h (Extends-refl _))
+goes-recorded x h l r k j n v (inr e) s m = goes-constrained x h l r k j n v e.1 s m
 
-pub recorded_goes : {a : List Tree} {t u : Table} {E : Type 0} (x : Constraint) (o : Result (Unit {0}) E) → IsTable a t → IsTermOf a t x.left → IsTermOf a t x.right → kind_of (tree_at a x.left) ≡ Some (left_kind x.relation) → kind_of (tree_at a x.right) ≡ Some (of_sort sort.Region) → (x.relation ≡ relation.Equal → ⊥) → OnOk o (Records a t.entries u.entries x) → u.saved ≡ t.saved → u.mode ≡ t.mode → OnErr o (u ≡ t) → Goes a a t u
-recorded_goes x (Ok z) h l r k j n e s m q = goes-recorded x h l r k j n e s m
-recorded_goes x (Err z) h l r k j n e s m q = rw q (Goes-extends h (Extends-refl _))
+pub recorded_goes : {a : List Tree} {t u : Table} {E : Type 0} (x : Constraint) (o : Result (Unit {0}) E) → IsTable a t → IsTermOf a t x.left → IsTermOf a t x.right → kind_of (tree_at a x.left) ≡ Some (left_kind x.relation) → kind_of (tree_at a x.right) ≡ Some (of_sort sort.Region) → (x.relation ≡ relation.Equal → ⊥) → x.is_visible ≡ true → OnOk o (Records a t.entries u.entries x) → u.saved ≡ t.saved → u.mode ≡ t.mode → OnErr o (u ≡ t) → Goes a a t u
+recorded_goes x (Ok z) h l r k j n v e s m q = goes-recorded x h l r k j n v e s m
+recorded_goes x (Err z) h l r k j n v e s m q = rw q (Goes-extends h (Extends-refl _))
 
 -- all was undone
 pub goes-back : {a b : List Tree} {t u : Table} → IsTable a t → Extends a b → u ≡ t → Goes a b t u
 goes-back {a} {b} {t} {u} h e q = rw q (Goes-extends h e)
 
 -- .. that makes two trees equal, or leaves the table
-pub related_goes : {a b : List Tree} {t u : Table} {E : Type 0} (x y : Tree) (r : Result (Unit {0}) E) → IsTable a t → Extends a b → IsTable b u → IsLater (content_of a t.entries) (content_of b u.entries) → u.saved ≡ t.saved → u.mode ≡ t.mode → u.entries.hidden ≡ t.entries.hidden → OnOk r (AreRelated (content_of a t.entries) (content_of b u.entries) x y) → OnErr r (u ≡ t) → Goes a b t u
-related_goes x y (Ok z) w e h k s m d n q = goes w e h k n.continues s m d
-related_goes x y (Err z) w e h k s m d n q = goes-back w e q
+pub related_goes : {a b : List Tree} {t u : Table} {E : Type 0} (x y : Tree) (r : Result (Unit {0}) E) → IsTable a t → Extends a b → IsTable b u → IsLater (content_of a t.entries) (content_of b u.entries) → u.saved ≡ t.saved → u.mode ≡ t.mode → u.entries.universe ≡ t.entries.universe → u.entries.hidden ≡ t.entries.hidden → OnOk r (AreRelated (content_of a t.entries) (content_of b u.entries) x y) → OnErr r (u ≡ t) → Goes a b t u
+related_goes x y (Ok z) w e h k s m v d n q = goes w e h k n.continues s m v d
+related_goes x y (Err z) w e h k s m v d n q = goes-back w e q
 
 -- after a snapshot, a step, and its rollback the table is as it was
 pub rolled_back : {a b : List Tree} {t s u v : Table} → s.saved ≡ t.saved ++ t.entries ∷ [] → Goes a b s u → u.saved ≡ v.saved ++ v.entries ∷ [] → s.mode ≡ t.mode → v.mode ≡ u.mode → v ≡ t
@@ -449,9 +459,10 @@ ended {a} {b} {t} {s} {u} {v} (Ok x) same opened h step kept undone closed first
       continues = rw kept (rw same at step.continues);
       extends = step.extends;
       table = record { now = rw kept step.table.now; saved = rw ends (IsTable-extended step.extends h).saved };
-      known = λ x k. rw kept (step.known x (rw same k));
+      later = rw kept (rw same at step.later);
       saved = ends;
       mode = last ∙ step.mode ∙ first;
+      universe = ap (λ (z : Entries). z.universe) kept ∙ step.universe ∙ ap (λ (z : Entries). z.universe) same;
       hidden = ap (λ (z : Entries). z.hidden) kept ∙ step.hidden ∙ ap (λ (z : Entries). z.hidden) same;
     }
 ended {a} {b} {t} {s} {u} {v} (Err x) same opened h step kept undone closed first last =
@@ -466,9 +477,10 @@ committed {a} {b} {t} {s} {u} {v} e same opened h step kept closed first last =
       continues = rw kept (rw same at step.continues);
       extends = step.extends;
       table = record { now = rw kept step.table.now; saved = rw ends.0 (IsTable-extended step.extends h).saved };
-      known = λ x k. rw kept (step.known x (rw same k));
+      later = rw kept (rw same at step.later);
       saved = ends.0;
       mode = last ∙ step.mode ∙ first;
+      universe = ap (λ (z : Entries). z.universe) kept ∙ step.universe ∙ ap (λ (z : Entries). z.universe) same;
       hidden = ap (λ (z : Entries). z.hidden) kept ∙ step.hidden ∙ ap (λ (z : Entries). z.hidden) same;
     }
 

@@ -60,6 +60,7 @@ use Rattle.nts_evaluation.specs.Running.{IsTermTable, Stays, EquationHolds, Cons
 use Rattle.nts_evaluation.specs.Evaluation.{Goes}
 use Rattle.nts_table.specs.Tables.{IsTermOf}
 use Rattle.nts_evaluation.proofs.Evaluating.{candidate_at}
+use Rattle.nts_unify.proofs.Keeping.{Knows-later}
 
 -- what stays, stays
 pub Stays-later : {a b : List Tree} {t u : Table} {P : Content → Type 0} → Goes a b t u → Stays (content_of a t.entries) P → Stays (content_of b u.entries) P
@@ -137,7 +138,7 @@ Stays-now {a} {t} {P} f h k =
 
 -- a term stays one
 pub term_later : (c d : Content) (t : Tree) → Continues c d → Knows c t → IsFormed t → proving.IsTermOf d t
-term_later c d t k h f = record { knows = Knows-kept c d t (record { kinds = k.kinds }) h; formed = f }
+term_later c d t k h f = record { knows = Knows-kept c d t (record { grows = k.grows; kinds = k.kinds }) h; formed = f }
 
 -- trees that are alike stay so, and a constraint that is held is held later
 pub alike_stays : {ts : List Tree} {t : Table} (a b : Tree) → IsTable ts t → Knows (content_of ts t.entries) a → Knows (content_of ts t.entries) b → AreAlike (content_of ts t.entries) a b → Stays (content_of ts t.entries) (λ d. AreAlike d a b)
@@ -168,7 +169,7 @@ pub recorded_stays : {ts : List Tree} {t u : Table} (x : Constraint) → Goes ts
 recorded_stays {ts} {t} {u} x g l r k j (inl e) =
     record { later = λ d s n. inl (trivial_outlives d x.relation (tree_at ts x.left) (tree_at ts x.right) (no_type x.relation (tree_at ts x.left) (tree_at ts x.right) k j e.0) e.0) }
 recorded_stays {ts} {t} {u} x g l r k j (inr e) =
-    held_stays (recorded_of ts x) g.table (g.known (tree_at ts x.left) l.knows) (g.known (tree_at ts x.right) r.knows) (rw (e.1, content_of-constrained ts t.entries x) (HoldsConstraint-with_constraint (content_of ts t.entries) (recorded_of ts x)))
+    held_stays (recorded_of ts x) g.table (Knows-later (tree_at ts x.left) g.later l.knows) (Knows-later (tree_at ts x.right) g.later r.knows) (rw (e.1, content_of-constrained ts t.entries x) (HoldsConstraint-with_constraint (content_of ts t.entries) (recorded_of ts x)))
 
 -- whether a constraint is seen has no say in whether it is held
 unseen_sides : (d : Content) (r : Relation) (a b : Tree) (v w : Bool) (y : Recorded) → HasSides d r (record { relation = r; left = a; right = b; is_visible = v }) y → HasSides d r (record { relation = r; left = a; right = b; is_visible = w }) y
@@ -236,7 +237,7 @@ equated d vs kind_data.Structural a b h = h
 -- the term y of the store b, with the tree of a filled one, is a term of each later table
 later_term : {b e : List Tree} {t u : Table} {y : NodeId} {x : Tree} (d : Content) → Goes b e t u → AreFormed b → IsTermOf b t y → tree_at b y ≡ x → Continues (content_of e u.entries) d → proving.IsTermOf d x
 later_term {b} {e} {t} {u} {y} {x} d g f h q k =
-    subst (proving.IsTermOf d) q (term_later (content_of e u.entries) d (tree_at b y) k (g.known (tree_at b y) h.knows) (f y h.within))
+    subst (proving.IsTermOf d) q (term_later (content_of e u.entries) d (tree_at b y) k (Knows-later (tree_at b y) g.later h.knows) (f y h.within))
 
 -- an equation whose sides were made equal
 pub equation_stays : {b e : List Tree} {t u : Table} {x y : NodeId} (a : List Tree) (vs : List Tree) (q : Equation) → Goes b e t u → AreFormed b → IsTermOf b t x → IsTermOf b t y → tree_at b x ≡ filled vs (tree_at a q.lhs.node) → tree_at b y ≡ filled vs (tree_at a q.rhs.node) → kind_of (tree_at b x) ≡ kind_of (tree_at a q.lhs.node) → FitsPlace any_argument (kind_of (tree_at a q.lhs.node)) → Stays (content_of e u.entries) (λ d. AreAlike d (tree_at b x) (tree_at b y)) → Stays (content_of e u.entries) (EquationHolds vs (equation_of a q))
@@ -361,8 +362,8 @@ pub premise_stays : {a b : List Tree} {t u : Table} {m : Meaning} {mode : Mode} 
 premise_stays {a} {b} {t} {u} {m} {mode} {vs} {q} g i j f k h =
     record {
       later = λ d s n. record {
-        environment = term_later (content_of b u.entries) d (filled vs q.environment) n (g.known (filled vs q.environment) i) f;
-        predicate = term_later (content_of b u.entries) d (filled vs q.predicate) n (g.known (filled vs q.predicate) j) k;
+        environment = term_later (content_of b u.entries) d (filled vs q.environment) n (Knows-later (filled vs q.environment) g.later i) f;
+        predicate = term_later (content_of b u.entries) d (filled vs q.predicate) n (Knows-later (filled vs q.predicate) g.later j) k;
         proved = h.later d s n;
       };
     }

@@ -23,17 +23,19 @@ use Rattle.nts_unify.specs.Reading.{content_of}
 use Rattle.nts_table.specs.Tables.{IsTable}
 use Rattle.nts_delegate.specs.Candidates.{KnowsGoal}
 use Rattle.nts_terms.specs.Handles.{HoldsGoal}
+use Rattle.nts_unify.specs.Changing.{IsLater}
 
--- the store and the table later on: terms keep their trees, known variables stay known, the table has
--- all that it had, the snapshots that were open are open, and the mode and the hidden types are the same
+-- the store and the table later on: terms keep their trees, the table is a later one and has all that it had, the snapshots that were open are open, and the mode, the current universe and the hidden types are the
+-- same
 pub record Goes (ts us : List Tree) (t u : Table) : Type 0 where
   pub sound : IsSound (content_of ts t.entries)
   pub extends : Extends ts us
   pub table : IsTable us u
-  pub known : (x : Tree) → Knows (content_of ts t.entries) x → Knows (content_of us u.entries) x
+  pub later : IsLater (content_of ts t.entries) (content_of us u.entries)
   pub continues : Continues (content_of ts t.entries) (content_of us u.entries)
   pub saved : u.saved ≡ t.saved
   pub mode : u.mode ≡ t.mode
+  pub universe : u.entries.universe ≡ t.entries.universe
   pub hidden : u.entries.hidden ≡ t.entries.hidden
 
 -- .. and what else the store keeps is the same

@@ -40,7 +40,7 @@ module _ (c : Content) (n : ℕ) (w : Slot) (b : Binds c n w) where
   KeepsKinds-set = KeepsKinds-changed c n b.old w b.was b.same_kind
 
   pub KeepsKinds-bound : KeepsKinds c (bound_to c n w)
-  KeepsKinds-bound = record { kinds = λ m k q. kind_at-set m ∙ q }
+  KeepsKinds-bound = record { grows = omega arith; kinds = λ m k q. kind_at-set m ∙ q }
 
   order-bound : reverse (bound_to c n w).order ≡ n ∷ reverse c.order
   order-bound = reverse-push c.order n

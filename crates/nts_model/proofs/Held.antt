@@ -72,6 +72,7 @@ pub Continues-refl : (c : Content) → IsSound c → Continues c c
 Continues-refl c s =
     record {
       more = omega arith;
+      grows = omega arith;
       kinds = λ n k e. e;
       falls = Falls-refl c;
       values = λ t k. deeply_resolved-deeply_resolved c t s;
@@ -82,11 +83,12 @@ pub Continues-trans : (c d e : Content) → IsSound c → Continues c d → Cont
 Continues-trans c d e s a b =
     record {
       more = (let p = a.more in let q = b.more in omega (arith, p, q));
+      grows = (let p = a.grows in let q = b.grows in omega (arith, p, q));
       kinds = λ n k h. b.kinds n k (a.kinds n k h);
       falls = Falls-trans c d e a.more a.falls b.falls;
       values = λ t k.
-          (let older : Knows d (deeply_resolved c t) = Knows-kept c d (deeply_resolved c t) (record { kinds = a.kinds }) (Knows-deeply_resolved c t s k) in
-          let now : Knows d t = Knows-kept c d t (record { kinds = a.kinds }) k in
+          (let older : Knows d (deeply_resolved c t) = Knows-kept c d (deeply_resolved c t) (record { grows = a.grows; kinds = a.kinds }) (Knows-deeply_resolved c t s k) in
+          let now : Knows d t = Knows-kept c d t (record { grows = a.grows; kinds = a.kinds }) k in
           sym (b.values (deeply_resolved c t) older) ∙ ap (deeply_resolved e) (a.values t k) ∙ b.values t now);
       constraints = λ x h. b.constraints x (a.constraints x h);
     }
@@ -96,6 +98,7 @@ Continues-same : (c d : Content) → IsSound c → length c.slots ≤ length d.s
 Continues-same c d s l k f e h =
     record {
       more = l;
+      grows = k.grows;
       kinds = k.kinds;
       falls = f;
       values = λ t q. e (deeply_resolved c t) ∙ deeply_resolved-deeply_resolved c t s ∙ sym (e t);
@@ -108,13 +111,13 @@ Continues-with_slot c v free s =
 
 pub Continues-with_constraint : (c : Content) (x : Recorded) → IsSound c → Continues c (with_constraint c x)
 Continues-with_constraint c x s =
-    Continues-same c (with_constraint c x) s (omega arith) (record { kinds = λ n k e. e }) (Falls-same c (with_constraint c x) (λ n l. refl))
+    Continues-same c (with_constraint c x) s (omega arith) (record { grows = omega arith; kinds = λ n k e. e }) (Falls-same c (with_constraint c x) (λ n l. refl))
     (λ t. deeply_resolved-same c (with_constraint c x) t (SameStates-with_constraint c x)) (λ y h. Contains-append_left c.constraints (x ∷ []) y h)
 
-pub Continues-in_universe : (c : Content) (u : ℕ) → IsSound c → Continues c (in_universe c u)
-Continues-in_universe c u s =
-    Continues-same c (in_universe c u) s (omega arith) (record { kinds = λ n k e. e }) (Falls-same c (in_universe c u) (λ n l. refl))
-    (λ t. deeply_resolved-same c (in_universe c u) t (SameStates-in_universe c u)) (λ y h. h)
+pub Continues-in_universe : (c : Content) (u : ℕ) → c.universe ≤ u → IsSound c → Continues c (in_universe c u)
+Continues-in_universe c u b s =
+    Continues-same c (in_universe c u) s (omega arith) (record { grows = b; kinds = λ n k e. e }) (Falls-same c (in_universe c u) (λ n l. refl))
+    (λ t. deeply_resolved-same c (in_universe c u) t (SameStates-in_universe c u b)) (λ y h. h)
 
 pub Continues-lowered : (c : Content) (n : ℕ) (v : Slot) → Lowers c n v → IsSound c → Continues c (changed c n v)
 Continues-lowered c n v b s =
@@ -125,6 +128,7 @@ pub Continues-known : (c : Content) (n : ℕ) (v : Slot) (t : Tree) (b : IsKnowa
 Continues-known c n v t b u s =
     record {
       more = omega (arith, length-slice_set c.slots n v);
+      grows = omega arith;
       kinds = (KeepsKinds-bound c n v b.binds).kinds;
       falls = Falls-bound_to c n v b.binds u;
       values = λ r k.
@@ -156,6 +160,7 @@ pub Continues-link : (c : Content) (n : ℕ) (v : Slot) (m : ℕ) (b : IsLinkabl
 Continues-link c n v m b u no_region s =
     record {
       more = omega (arith, length-slice_set c.slots n v);
+      grows = omega arith;
       kinds = (KeepsKinds-bound c n v b.binds).kinds;
       falls = Falls-bound_to c n v b.binds u;
       values = λ t k. (let d = bound_to c n v in
@@ -171,6 +176,7 @@ pub Continues-region_link : (c : Content) (n : ℕ) (v : Slot) (m : ℕ) (b : Is
 Continues-region_link c n v m b u region s =
     record {
       more = omega (arith, length-slice_set c.slots n v);
+      grows = omega arith;
       kinds = (KeepsKinds-set c n v b.binds).kinds;
       falls = Falls-set c n v b.binds u;
       values = λ t k. (let d = changed c n v in

@@ -8,7 +8,7 @@ use Rattle.nts_model.specs.declared.labels.Label.{Label}
 use Rattle.nts_model.specs.declared.labels.Label.TheVariants as label
 use Rattle.nts_model.specs.Trees.{Tree, empty, more, node, kind_of, of_sort, sort_of_variable, kind_of_label, any_label, is_infer, is_infer_kind, is_region_infer, is_region_infer_kind}
 use Rattle.nts_model.specs.Contents.{Content, Slot, SlotState, unset, link, known, map_slot, state_of, kind_at}
-use Rattle.nts_model.specs.Resolving.{variable_of, infer_of, infer_number, replaced, replaced_at, Lacks, under, IsOneOf, value_at, resolved, deeply_resolved, rooted, rooted_variable, Knows, KnowsLabel, IsSound}
+use Rattle.nts_model.specs.Resolving.{variable_of, infer_of, infer_number, replaced, replaced_at, Lacks, under, IsOneOf, value_at, resolved, deeply_resolved, rooted, rooted_variable, Knows, KnowsVariable, IsSound}
 use Rattle.nts_model.proofs.Variables.{infer_label}
 use Rattle.nts_model.proofs.Under.{under-lacks, none-one}
 use Rattle.nts_model.proofs.Open.{Knows-under, Knows-value_at}
@@ -40,7 +40,7 @@ kind_of_infer l v e = ap kind_of_label (variable_label l v.0 v.1 e)
 abbrev pub FitKinds : Content → (ℕ → Tree) → List ℕ → Type 0
 FitKinds c val ns = (n : ℕ) (k : VariableKind) → IsOneOf n ns → kind_at c n ≡ Some k → kind_of (val n) ≡ Some (of_sort (sort_of_variable k))
 
-kind_of-replaced_at : (c : Content) (o : Option ℕ) (n : ℕ) (s : Tree) (l : Label) (t x : Tree) → infer_of l ≡ o → KnowsLabel c (variable_of l) → ((k : VariableKind) → kind_at c n ≡ Some k → kind_of s ≡ Some (of_sort (sort_of_variable k))) → kind_of (replaced_at o n s (node l t) (node l x)) ≡ Some (kind_of_label l)
+kind_of-replaced_at : (c : Content) (o : Option ℕ) (n : ℕ) (s : Tree) (l : Label) (t x : Tree) → infer_of l ≡ o → KnowsVariable c (variable_of l) → ((k : VariableKind) → kind_at c n ≡ Some k → kind_of s ≡ Some (of_sort (sort_of_variable k))) → kind_of (replaced_at o n s (node l t) (node l x)) ≡ Some (kind_of_label l)
 kind_of-replaced_at c None n s l t x e k h = refl
 kind_of-replaced_at c (Some m) n s l t x e k h = by_case (m == n) refl
   where
@@ -55,7 +55,7 @@ kind_of-replaced_at c (Some m) n s l t x e k h = by_case (m == n) refl
 pub kind_of-replaced : (c : Content) (n : ℕ) (s t : Tree) → Knows c t → ((k : VariableKind) → kind_at c n ≡ Some k → kind_of s ≡ Some (of_sort (sort_of_variable k))) → kind_of (replaced n s t) ≡ kind_of t
 kind_of-replaced c n s empty k h = refl
 kind_of-replaced c n s (more a b) k h = refl
-kind_of-replaced c n s (node l t) k h = kind_of-replaced_at c (infer_of l) n s l t (replaced n s t) refl k.0 h
+kind_of-replaced c n s (node l t) k h = kind_of-replaced_at c (infer_of l) n s l t (replaced n s t) refl k.0.0 h
 
 pub kind_of-under : (c : Content) (val : ℕ → Tree) (ns : List ℕ) (t : Tree) → ((n : ℕ) → Knows c (val n)) → FitKinds c val ns → Knows c t → kind_of (under val ns t) ≡ kind_of t
 kind_of-under c val [] t h f k = refl

@@ -4,13 +4,15 @@ use Rattle.nts_model.specs.declared.labels.VariableKind.{VariableKind}
 use Rattle.nts_model.specs.declared.labels.Label.{Label}
 use Rattle.nts_model.specs.Trees.{Tree, empty, more, node}
 use Rattle.nts_model.specs.Contents.{Content, Slot, SlotState, unset, link, known, Recorded, state_of, universe_of, with_slot, changed, bound_to, with_constraint, in_universe}
-use Rattle.nts_model.specs.Resolving.{variable_of, number_of, Knows, KnowsLabel, IsSound}
-use Rattle.nts_model.specs.Levels.{CanName, NamesAll, region_level, level_at, level_in, IsLevelled, AreRegionsLevelled, Falls}
+use Rattle.nts_model.specs.Resolving.{variable_of, number_of, Knows, KnowsVariable, IsSound}
+use Rattle.nts_model.specs.Placeholders.{CanName}
+use Rattle.nts_model.specs.Levels.{NamesAll, region_level, level_at, level_in, IsLevelled, AreRegionsLevelled, Falls, AreCurrent}
 use Rattle.nts_model.proofs.Under.{same_or_other}
-use Rattle.nts_model.proofs.Slots.{field_below, field-changed_kept, field-with_slot_old, some_slot}
+use Rattle.nts_model.proofs.Slots.{field_below, field-changed_kept, field-with_slot_old, some_slot, slice_get_below, field-changed_same, field-changed_other, field-with_slot_new}
 use Rattle.nts_model.proofs.Sound.{state_of-with_slot_new}
 use Rattle.nts_model.proofs.Binding.{Binds, IsKnowable, IsLinkable, state_of-set_same, state_of-set_other}
 use Rattle.nts_model.proofs.Solving.{universe_of-set, Lowers, state_of-lowered, universe_of-lowered_same, universe_of-lowered_other}
+use Rattle.std.specs.Prelude.{slice_get}
 
 pub Falls-refl : (c : Content) → Falls c c
 Falls-refl c = record { universes = λ n h u k. k }
@@ -42,7 +44,7 @@ Falls-lowered c n v b = record {
       (λ (d : m ≡ n → ⊥). rw (universe_of-lowered_other c n v b m d) k) (same_or_other m n);
 }
 
-level_at-falls : (c d : Content) (o : Option (VariableKind × ℕ)) (l : Label) (u : ℕ) → Falls c d → KnowsLabel c o → CanName u (level_at c (number_of o) l) → CanName u (level_at d (number_of o) l)
+level_at-falls : (c d : Content) (o : Option (VariableKind × ℕ)) (l : Label) (u : ℕ) → Falls c d → KnowsVariable c o → CanName u (level_at c (number_of o) l) → CanName u (level_at d (number_of o) l)
 level_at-falls c d None l u f k h = h
 level_at-falls c d (Some v) l u f k h = f.universes v.1 (field_below (λ x. x.kind) c v.1 v.0 k) u h
 
@@ -50,7 +52,7 @@ level_at-falls c d (Some v) l u f k h = f.universes v.1 (field_below (λ x. x.ki
 pub NamesAll-falls : (c d : Content) (u : ℕ) (t : Tree) → Falls c d → Knows c t → NamesAll (level_in c) u t → NamesAll (level_in d) u t
 NamesAll-falls c d u empty f k h = tt
 NamesAll-falls c d u (more a b) f k h = (NamesAll-falls c d u a f k.0 h.0, NamesAll-falls c d u b f k.1 h.1)
-NamesAll-falls c d u (node l t) f k h = (level_at-falls c d (variable_of l) l u f k.0 h.0, NamesAll-falls c d u t f k.1 h.1)
+NamesAll-falls c d u (node l t) f k h = (level_at-falls c d (variable_of l) l u f k.0.0 h.0, NamesAll-falls c d u t f k.1 h.1)
 
 -- a change after which each value is an old one, or is named; and so each link
 pub record KeepsLevels (c d : Content) : Type 0 where
@@ -225,3 +227,23 @@ AreRegionsLevelled-region_link c n v m b e h =
 
 pub AreRegionsLevelled-link : (c : Content) (n : ℕ) (v : Slot) (m : ℕ) (b : IsLinkable c n v m) → v.universe ≡ b.binds.old.universe → AreRegionsLevelled c → AreRegionsLevelled (bound_to c n v)
 AreRegionsLevelled-link c n v m b e h = record { regions = (AreRegionsLevelled-region_link c n v m b e h).regions }
+
+-- each variable is of a universe of the table: where one is added, or comes down
+pub AreCurrent-with_slot : (c : Content) (v : Slot) → v.universe ≤ c.universe → AreCurrent c → AreCurrent (with_slot c v)
+AreCurrent-with_slot c v low h = record {
+  universes = λ n u q. ⊎_elim
+      (λ (e : n ≡ length c.slots). let z : Some v.universe ≡ Some u = sym (field-with_slot_new (λ x. x.universe) c v) ∙ ap (universe_of (with_slot c v)) (sym e) ∙ q in
+      let same : v.universe ≡ u = cc in rw (← same) low)
+      (λ (d : n ≡ length c.slots → ⊥). h.universes n u (sym (field-with_slot_old (λ x. x.universe) c v n d) ∙ q)) (same_or_other n (length c.slots));
+}
+
+pub AreCurrent-changed : (c : Content) (n : ℕ) (old v : Slot) → slice_get c.slots n ≡ Some old → v.universe ≤ old.universe → AreCurrent c → AreCurrent (changed c n v)
+AreCurrent-changed c n old v was low h = record {
+  universes = λ m u q. ⊎_elim
+      (λ (e : m ≡ n). let z : Some v.universe ≡ Some u = sym (field-changed_same (λ x. x.universe) c n v (slice_get_below c.slots n old was)) ∙ ap (universe_of (changed c n v)) (sym e) ∙ q in
+      let same : v.universe ≡ u = cc in let below = h.universes n old.universe (some_slot (λ x. x.universe) c n old was) in omega (arith, low, below, same))
+      (λ (d : m ≡ n → ⊥). h.universes m u (sym (field-changed_other (λ x. x.universe) c n m v d) ∙ q)) (same_or_other m n);
+}
+
+pub AreCurrent-in_universe : (c : Content) (u : ℕ) → c.universe ≤ u → AreCurrent c → AreCurrent (in_universe c u)
+AreCurrent-in_universe c u low h = record { universes = λ n v q. (let below = h.universes n v q in omega (arith, low, below)) }

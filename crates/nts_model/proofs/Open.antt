@@ -5,8 +5,11 @@ use Rattle.nts_model.specs.declared.labels.VariableKind.{VariableKind}
 use Rattle.nts_model.specs.declared.labels.VariableKind.TheVariants as kind
 use Rattle.nts_model.specs.declared.labels.Label.{Label}
 use Rattle.nts_model.specs.Trees.{Tree, empty, more, node}
+use Rattle.nts_model.specs.declared.labels.Leaf.TheVariants as leaf
+use Rattle.nts_model.specs.declared.labels.Label.TheVariants as label
+use Rattle.nts_model.specs.Placeholders.{leaf_level}
 use Rattle.nts_model.specs.Contents.{Content, Slot, SlotState, unset, link, known, map_slot, state_of, kind_at}
-use Rattle.nts_model.specs.Resolving.{variable_of, infer_of, replaced, replaced_at, Lacks, LacksAt, under, IsOneOf, value_of_state, value_at, resolved, deeply_resolved, rooted, rooted_variable, root_of, Knows, KnowsLabel, IsRootState, IsSound, UnsetAt, AllUnset, number_of, AllRoots}
+use Rattle.nts_model.specs.Resolving.{variable_of, infer_of, replaced, replaced_at, Lacks, LacksAt, under, IsOneOf, value_of_state, value_at, resolved, deeply_resolved, rooted, rooted_variable, root_of, Knows, KnowsVariable, KnowsLabel, IsRootState, IsSound, UnsetAt, AllUnset, number_of, AllRoots}
 use Rattle.nts_model.proofs.Variables.{infer_label}
 use Rattle.nts_model.proofs.Under.{not_equal}
 use Rattle.nts_model.proofs.Slots.{some_slot}
@@ -37,7 +40,7 @@ Knows-value_at c n s = by_case (slice_get c.slots n) refl
     by_state : (v : Slot) (o : SlotState) → slice_get c.slots n ≡ Some v → v.state ≡ o → Knows c (value_of_state v.kind (Some o))
     by_state v unset e q = tt
     by_state v (link m) e q =
-        (s.one_kind n m (some_slot (λ x. x.state) c n v e ∙ ap Some q) ∙ some_slot (λ x. x.kind) c n v e, tt)
+        ((s.one_kind n m (some_slot (λ x. x.state) c n v e ∙ ap Some q) ∙ some_slot (λ x. x.kind) c n v e, tt), tt)
     by_state v (known t) e q = s.known_trees n t (some_slot (λ x. x.state) c n v e ∙ ap Some q)
 
     by_case : (o : Option Slot) → slice_get c.slots n ≡ o → Knows c (value_at c n)
@@ -47,18 +50,37 @@ Knows-value_at c n s = by_case (slice_get c.slots n) refl
 pub Knows-resolved : (c : Content) (t : Tree) → IsSound c → Knows c t → Knows c (resolved c t)
 Knows-resolved c t s k = Knows-under c (value_at c) (reverse c.order) t (λ n. Knows-value_at c n s) k
 
-KnowsLabel-rooted : (c : Content) (o : Option (VariableKind × ℕ)) (l : Label) → IsSound c → variable_of l ≡ o → KnowsLabel c o → KnowsLabel c (variable_of (rooted_variable c o l))
-KnowsLabel-rooted c None l s e h = rw e tt
-KnowsLabel-rooted c (Some (kind.Ty, n)) l s e h = rw e h
-KnowsLabel-rooted c (Some (kind.Int, n)) l s e h = rw e h
-KnowsLabel-rooted c (Some (kind.Float, n)) l s e h = rw e h
-KnowsLabel-rooted c (Some (kind.Const, n)) l s e h = rw e h
-KnowsLabel-rooted c (Some (kind.Region, n)) l s e h = kind_at-root_of c n s ∙ h
+-- a variable is no placeholder
+variable_level : (l : Label) (v : VariableKind × ℕ) → variable_of l ≡ Some v → leaf_level l ≡ None
+variable_level (label.Leaf (leaf.Variable k n)) v e = refl
+variable_level (label.Leaf (leaf.Region r)) v e = cc
+variable_level (label.Leaf (leaf.TyConstant a)) v e = cc
+variable_level (label.Leaf (leaf.ConstConstant a)) v e = cc
+variable_level l v e = cc
+
+KnowsVariable-rooted : (c : Content) (o : Option (VariableKind × ℕ)) (l : Label) → IsSound c → variable_of l ≡ o → KnowsVariable c o → KnowsVariable c (variable_of (rooted_variable c o l))
+KnowsVariable-rooted c None l s e h = rw e tt
+KnowsVariable-rooted c (Some (kind.Ty, n)) l s e h = rw e h
+KnowsVariable-rooted c (Some (kind.Int, n)) l s e h = rw e h
+KnowsVariable-rooted c (Some (kind.Float, n)) l s e h = rw e h
+KnowsVariable-rooted c (Some (kind.Const, n)) l s e h = rw e h
+KnowsVariable-rooted c (Some (kind.Region, n)) l s e h = kind_at-root_of c n s ∙ h
+
+leaf_level-rooted : (c : Content) (o : Option (VariableKind × ℕ)) (l : Label) → variable_of l ≡ o → leaf_level (rooted_variable c o l) ≡ leaf_level l
+leaf_level-rooted c None l e = refl
+leaf_level-rooted c (Some (kind.Ty, n)) l e = refl
+leaf_level-rooted c (Some (kind.Int, n)) l e = refl
+leaf_level-rooted c (Some (kind.Float, n)) l e = refl
+leaf_level-rooted c (Some (kind.Const, n)) l e = refl
+leaf_level-rooted c (Some (kind.Region, n)) l e = sym (variable_level l (kind.Region, n) e)
+
+KnowsLabel-rooted : (c : Content) (l : Label) → IsSound c → KnowsLabel c l → KnowsLabel c (rooted_variable c (variable_of l) l)
+KnowsLabel-rooted c l s k = (KnowsVariable-rooted c (variable_of l) l s refl k.0, rw (leaf_level-rooted c (variable_of l) l refl) k.1)
 
 pub Knows-rooted : (c : Content) (t : Tree) → IsSound c → Knows c t → Knows c (rooted c t)
 Knows-rooted c empty s k = tt
 Knows-rooted c (more a b) s k = (Knows-rooted c a s k.0, Knows-rooted c b s k.1)
-Knows-rooted c (node l t) s k = (KnowsLabel-rooted c (variable_of l) l s refl k.0, Knows-rooted c t s k.1)
+Knows-rooted c (node l t) s k = (KnowsLabel-rooted c l s k.0, Knows-rooted c t s k.1)
 
 pub Knows-deeply_resolved : (c : Content) (t : Tree) → IsSound c → Knows c t → Knows c (deeply_resolved c t)
 Knows-deeply_resolved c t s k = Knows-rooted c (resolved c t) s (Knows-resolved c t s k)
@@ -102,7 +124,7 @@ LacksAt-none : (o : Option ℕ) (n : ℕ) (P : Type 0) → o ≡ None → LacksA
 LacksAt-none None n P e h = h
 LacksAt-none (Some m) n P e h = cc
 
-unset_here : (c : Content) (l : Label) (t : Tree) → IsSound c → KnowsLabel c (variable_of l) → ((n : ℕ) → IsOneOf n (reverse c.order) → LacksAt (infer_of l) n (Lacks n t)) → (((n : ℕ) → IsOneOf n (reverse c.order) → Lacks n t) → AllUnset c t) → UnsetAt c (infer_of l) (AllUnset c t)
+unset_here : (c : Content) (l : Label) (t : Tree) → IsSound c → KnowsVariable c (variable_of l) → ((n : ℕ) → IsOneOf n (reverse c.order) → LacksAt (infer_of l) n (Lacks n t)) → (((n : ℕ) → IsOneOf n (reverse c.order) → Lacks n t) → AllUnset c t) → UnsetAt c (infer_of l) (AllUnset c t)
 unset_here c l t s k h rec = by_case (infer_of l) refl
   where
     by_case : (o : Option ℕ) → infer_of l ≡ o → UnsetAt c (infer_of l) (AllUnset c t)
@@ -116,12 +138,12 @@ unset_here c l t s k h rec = by_case (infer_of l) refl
 pub AllUnset-lacks : (c : Content) (t : Tree) → IsSound c → Knows c t → ((n : ℕ) → IsOneOf n (reverse c.order) → Lacks n t) → AllUnset c t
 AllUnset-lacks c empty s k h = tt
 AllUnset-lacks c (more a b) s k h = (AllUnset-lacks c a s k.0 (λ n q. (h n q).0), AllUnset-lacks c b s k.1 (λ n q. (h n q).1))
-AllUnset-lacks c (node l t) s k h = unset_here c l t s k.0 h (AllUnset-lacks c t s k.1)
+AllUnset-lacks c (node l t) s k h = unset_here c l t s k.0.0 h (AllUnset-lacks c t s k.1)
 
 pub AllUnset-resolved : (c : Content) (t : Tree) → IsSound c → Knows c t → AllUnset c (resolved c t)
 AllUnset-resolved c t s k = AllUnset-lacks c (resolved c t) s (Knows-resolved c t s k) (λ n q. Lacks-resolved c t n s q)
 
-unset_root : (c : Content) (o : Option (VariableKind × ℕ)) (l : Label) (P Q : Type 0) → IsSound c → variable_of l ≡ o → KnowsLabel c o → (P → Q) → UnsetAt c (infer_of l) P → UnsetAt c (number_of (variable_of (rooted_variable c o l))) Q
+unset_root : (c : Content) (o : Option (VariableKind × ℕ)) (l : Label) (P Q : Type 0) → IsSound c → variable_of l ≡ o → KnowsVariable c o → (P → Q) → UnsetAt c (infer_of l) P → UnsetAt c (number_of (variable_of (rooted_variable c o l))) Q
 unset_root c None l P Q s e k f h = rw e (f (rw e at h))
 unset_root c (Some (kind.Ty, n)) l P Q s e k f h = rw e (rw e at h)
 unset_root c (Some (kind.Int, n)) l P Q s e k f h = rw e (rw e at h)
@@ -132,7 +154,7 @@ unset_root c (Some (kind.Region, n)) l P Q s e k f h = root_of-unset c n s k
 pub AllRoots-rooted : (c : Content) (t : Tree) → IsSound c → Knows c t → AllUnset c t → AllRoots c (rooted c t)
 AllRoots-rooted c empty s k h = tt
 AllRoots-rooted c (more a b) s k h = (AllRoots-rooted c a s k.0 h.0, AllRoots-rooted c b s k.1 h.1)
-AllRoots-rooted c (node l t) s k h = unset_root c (variable_of l) l (AllUnset c t) (AllRoots c (rooted c t)) s refl k.0 (AllRoots-rooted c t s k.1) h
+AllRoots-rooted c (node l t) s k h = unset_root c (variable_of l) l (AllUnset c t) (AllRoots c (rooted c t)) s refl k.0.0 (AllRoots-rooted c t s k.1) h
 
 pub AllRoots-deeply_resolved : (c : Content) (t : Tree) → IsSound c → Knows c t → AllRoots c (deeply_resolved c t)
 AllRoots-deeply_resolved c t s k = AllRoots-rooted c (resolved c t) s (Knows-resolved c t s k) (AllUnset-resolved c t s k)

@@ -12,8 +12,9 @@ use Rattle.nts_model.specs.declared.labels.Label.{Label}
 use Rattle.nts_model.specs.declared.labels.Label.TheVariants as label
 use Rattle.nts_model.specs.Trees.{Tree, empty, more, node}
 use Rattle.nts_model.specs.Contents.{Content, Slot, SlotState, unset, link, known, Recorded, state_of, universe_of, kind_at}
-use Rattle.nts_model.specs.Resolving.{variable_of, variable_tree, infer_of, replaced, replaced_at, under, IsOneOf, kind_or_type, value_of_state, value_at, resolved, Knows, KnowsLabel, IsSound}
-use Rattle.nts_model.specs.Levels.{CanName, NamesAll, IfNamesAll, term_level, level_in, IsLevelled}
+use Rattle.nts_model.specs.Resolving.{variable_of, variable_tree, infer_of, replaced, replaced_at, under, IsOneOf, kind_or_type, value_of_state, value_at, resolved, Knows, KnowsVariable, IsSound}
+use Rattle.nts_model.specs.Placeholders.{CanName}
+use Rattle.nts_model.specs.Levels.{NamesAll, IfNamesAll, term_level, level_in, IsLevelled}
 use Rattle.nts_model.specs.Worlds.{World, renamed, inst, SolvesState, IsTrueOf, AreMet, with_tree, KnowsAll}
 use Rattle.nts_model.specs.Regions.{RegionName, of_variable, of_free, region_tree, region_name, name_of_label}
 use Rattle.nts_model.specs.RegionClasses.{are_same, free_regions_are_same, collapse, root_name, equated, merged, class_of, free_of, plain_tree, plain, composed, reading, AreRegions, AllRegions}
@@ -24,7 +25,8 @@ use Rattle.nts_model.proofs.Roots.{root_of-link}
 use Rattle.nts_model.proofs.Resolved.{IsVariable, resolved-node, resolved-variable_known, resolved-variable_link}
 use Rattle.nts_model.proofs.Open.{Knows-under, Knows-value_at}
 use Rattle.nts_model.proofs.Instances.{inst-variable, inst-node}
-use Rattle.nts_model.proofs.Solving.{CanName-more, NamesAll-more}
+use Rattle.nts_model.proofs.Solving.{NamesAll-more}
+use Rattle.nts_model.proofs.Slots.{CanName-more}
 
 -- instances of resolved trees
 renamed-with_tree : (w : World) (n : ℕ) (t : Tree) (l : Label) → renamed (with_tree w n t) l ≡ renamed w l
@@ -55,7 +57,7 @@ inst-replaced_infer : (w : World) (n : ℕ) (s : Tree) (l : Label) (t x : Tree) 
 inst-replaced_infer w n s l t x k m e i =
     rw i (inst-if w (m == n) s (node l t) ∙ ap (λ z. if m == n then inst w s else z) (inst-variable w l t k m e) ∙ sym (inst-variable (with_tree w n (inst w s)) l t k m e))
 
-inst-replaced_variable : (c : Content) (w : World) (n : ℕ) (s : Tree) (l : Label) (t x : Tree) (o : Option (VariableKind × ℕ)) → (kind_at c n ≡ Some kind.Region → ⊥) → KnowsLabel c o → variable_of l ≡ o → inst w x ≡ inst (with_tree w n (inst w s)) t → inst w (replaced_at (infer_of l) n s (node l t) (node l x)) ≡ inst (with_tree w n (inst w s)) (node l t)
+inst-replaced_variable : (c : Content) (w : World) (n : ℕ) (s : Tree) (l : Label) (t x : Tree) (o : Option (VariableKind × ℕ)) → (kind_at c n ≡ Some kind.Region → ⊥) → KnowsVariable c o → variable_of l ≡ o → inst w x ≡ inst (with_tree w n (inst w s)) t → inst w (replaced_at (infer_of l) n s (node l t) (node l x)) ≡ inst (with_tree w n (inst w s)) (node l t)
 inst-replaced_variable c w n s l t x None h k e q =
     rw (infer_of_none l e) (inst-node w l x e ∙ cc (renamed-with_tree w n (inst w s) l, q) ∙ sym (inst-node (with_tree w n (inst w s)) l t e))
 inst-replaced_variable c w n s l t x (Some (kind.Region, m)) h k e q =
@@ -69,7 +71,7 @@ inst-replaced_variable c w n s l t x (Some (kind.Const, m)) h k e q = inst-repla
 inst-replaced : (c : Content) (w : World) (n : ℕ) (s t : Tree) → (kind_at c n ≡ Some kind.Region → ⊥) → Knows c t → inst w (replaced n s t) ≡ inst (with_tree w n (inst w s)) t
 inst-replaced c w n s empty h k = refl
 inst-replaced c w n s (more a b) h k = cc (inst-replaced c w n s a h k.0, inst-replaced c w n s b h k.1)
-inst-replaced c w n s (node l t) h k = inst-replaced_variable c w n s l t (replaced n s t) (variable_of l) h k.0 refl (inst-replaced c w n s t h k.1)
+inst-replaced c w n s (node l t) h k = inst-replaced_variable c w n s l t (replaced n s t) (variable_of l) h k.0.0 refl (inst-replaced c w n s t h k.1)
 
 -- the instance of a tree under values is its instance in a world with the values' instances
 pub inst-under : (c : Content) (w : World) (val : ℕ → Tree) (ns : List ℕ) (t : Tree) → ((n : ℕ) → IsOneOf n ns → kind_at c n ≡ Some kind.Region → ⊥) → ((n : ℕ) → Knows c (val n)) → Knows c t → inst w (under val ns t) ≡ inst (composed w val ns) t
@@ -204,7 +206,7 @@ pub tree-region : (c : Content) (n : ℕ) → IsSound c → kind_at c n ≡ Some
 tree-region c n s k =
     let alone : resolved c (variable_tree kind.Region n) ≡ node (label.Leaf (leaf.Variable kind.Region n)) (resolved c empty) = resolved-node c (label.Leaf (leaf.Variable kind.Region n)) empty refl in
     let is : (plain c (classes c)).tree n ≡ region_tree (classes c (of_variable n)) = rw k refl in
-    inst-reading c (variable_tree kind.Region n) s (k, tt) ∙ ap (inst (plain c (classes c))) alone ∙ is
+    inst-reading c (variable_tree kind.Region n) s ((k, tt), tt) ∙ ap (inst (plain c (classes c))) alone ∙ is
 
 inst-region : (c : Content) (t : Tree) (a : RegionName) → IsSound c → Knows c t → region_name t ≡ Some a → inst (reading c) t ≡ region_tree (classes c a)
 inst-region c empty a s k e = cc
@@ -213,7 +215,7 @@ inst-region c (node l (more x y)) a s k e = cc
 inst-region c (node l (node m x)) a s k e = cc
 inst-region c (node l empty) a s k e = ⊎_elim
     (λ (v : (n : ℕ) × (variable_of l ≡ Some (kind.Region, n)) × (a ≡ of_variable n)).
-    let has : kind_at c v.0 ≡ Some kind.Region = (let q = v.1 in rw q at k.0) in
+    let has : kind_at c v.0 ≡ Some kind.Region = (let q = v.1 in rw q at k.0.0) in
     inst-variable (reading c) l empty kind.Region v.0 v.1 ∙ tree-region c v.0 s has ∙ ap (λ x. region_tree (classes c x)) (sym v.2))
     (λ (r : (r : FreeRegion) × (l ≡ label.Leaf (leaf.Region r)) × (a ≡ of_free r)).
     let what : inst (reading c) (node l empty) ≡ node (label.Leaf (leaf.Region ((reading c).region r.0))) empty = ap (λ z. inst (reading c) (node z empty)) r.1 in
@@ -253,7 +255,7 @@ is_region kind.Float = inr (λ e. cc)
 is_region kind.Const = inr (λ e. cc)
 
 pub tree-reading : (c : Content) (n : ℕ) (k : VariableKind) → IsSound c → kind_at c n ≡ Some k → (reading c).tree n ≡ inst (plain c (classes c)) (resolved c (variable_tree k n))
-tree-reading c n k s e = inst-reading c (variable_tree k n) s (e, tt)
+tree-reading c n k s e = inst-reading c (variable_tree k n) s ((e, tt), tt)
 
 reading-link : (c : Content) (n m : ℕ) (k : VariableKind) → IsSound c → kind_at c n ≡ Some k → state_of c n ≡ Some (link m) → (k ≡ kind.Region) ⊎ (k ≢ kind.Region) → (reading c).tree n ≡ (reading c).tree m
 reading-link c n m k s h e (inl r) =

@@ -10,7 +10,8 @@ use Rattle.nts_model.specs.declared.labels.Label.TheVariants as label
 use Rattle.nts_model.specs.Trees.{Tree, empty, more, node, size, IsRow, row_length, row_at, of_sort, sort_of_variable, binders, IsBoundBelow, IsClosedUnder, IsClosed}
 use Rattle.nts_model.specs.Contents.{Content, universe_of, kind_at}
 use Rattle.nts_model.specs.Resolving.{variable_of, infer_of, variable_flag, flag, resolved, IsSound}
-use Rattle.nts_model.specs.Levels.{CanName, NamesAll, term_level}
+use Rattle.nts_model.specs.Placeholders.{CanName}
+use Rattle.nts_model.specs.Levels.{NamesAll, term_level}
 use Rattle.nts_model.specs.Fitting.{is_integer, is_float, Fits}
 use Rattle.nts_model.specs.Worlds.{World, renamed, inst, Solves}
 use Rattle.nts_model.proofs.Variables.{infer_label}

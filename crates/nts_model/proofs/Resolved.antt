@@ -40,7 +40,7 @@ pub record IsVariable (c : Content) (l : Label) (k : VariableKind) (n : ℕ) : T
   pub has : kind_at c n ≡ Some k
 
 pub is_variable : (c : Content) (l : Label) (x : Tree) (k : VariableKind) (n : ℕ) → Knows c (node l x) → variable_of l ≡ Some (k, n) → k ≢ kind.Region → IsVariable c l k n
-is_variable c l x k n h e r = record { is = e; no_region = r; has = rw e at h.0 }
+is_variable c l x k n h e r = record { is = e; no_region = r; has = rw e at h.0.0 }
 
 pub IsVariable-infer : (c : Content) (l : Label) (k : VariableKind) (n : ℕ) → IsVariable c l k n → infer_of l ≡ Some n
 IsVariable-infer c l k n v = infer_of_variable_label l k n v.is v.no_region

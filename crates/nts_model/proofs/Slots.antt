@@ -1,11 +1,13 @@
 -- The fields of the variables before and after a change.
-use Rattle.std.proofs.Common.{◌≡◌, ⊎_elim, ℕ, zero, suc, ◌<◌, List, [], ◌∷◌, ◌++◌, length, Option, Some, None, refl, sym, ap, ◌∙◌, arith, rules}
+use Rattle.std.proofs.Common.{◌≡◌, ⊎_elim, ℕ, zero, suc, ◌<◌, ◌≤◌, List, [], ◌∷◌, ◌++◌, length, Option, Some, None, refl, sym, ap, ◌∙◌, arith, rules}
 use Rattle.std.specs.Prelude.{slice_get, slice_set, reverse}
 use Rattle.std.proofs.lemmas.Grind.{common_steps}
 use Rattle.nts_model.specs.declared.labels.VariableKind.{VariableKind}
 use Rattle.nts_model.specs.Trees.{Tree, empty, more, node}
+use Rattle.nts_model.specs.declared.labels.Label.{Label}
+use Rattle.nts_model.specs.Placeholders.{leaf_level, CanName}
 use Rattle.nts_model.specs.Contents.{Content, Slot, map_slot, kind_at, with_slot, changed}
-use Rattle.nts_model.specs.Resolving.{variable_of, Knows, KnowsLabel}
+use Rattle.nts_model.specs.Resolving.{variable_of, Knows, KnowsVariable, KnowsLabel}
 use Rattle.nts_model.proofs.Under.{same_or_other}
 
 pub slice_get-slice_set_same : {A : Type 0} (xs : List A) (n : ℕ) (x : A) → n < length xs → slice_get (slice_set xs n x) n ≡ Some x
@@ -81,22 +83,37 @@ field_below f c n x h = by_case (slice_get c.slots n) refl
     by_case None e = let z : None ≡ Some x = sym (no_slot f c n e) ∙ h in cc
     by_case (Some v) e = slice_get_below c.slots n v e
 
--- the variables keep their kinds
+-- the variables keep their kinds, and the current universe does not fall
 pub record KeepsKinds (c d : Content) : Type 0 where
+  pub grows : c.universe ≤ d.universe
   pub kinds : (n : ℕ) (k : VariableKind) → kind_at c n ≡ Some k → kind_at d n ≡ Some k
 
 pub KeepsKinds-with_slot : (c : Content) (v : Slot) → KeepsKinds c (with_slot c v)
-KeepsKinds-with_slot c v = record { kinds = λ n k h. field-with_slot_old (λ x. x.kind) c v n (λ e. (let b = field_below (λ x. x.kind) c n k h in omega (arith, b, e))) ∙ h }
+KeepsKinds-with_slot c v = record { grows = omega arith; kinds = λ n k h. field-with_slot_old (λ x. x.kind) c v n (λ e. (let b = field_below (λ x. x.kind) c n k h in omega (arith, b, e))) ∙ h }
 
 pub KeepsKinds-changed : (c : Content) (n : ℕ) (v w : Slot) → slice_get c.slots n ≡ Some v → w.kind ≡ v.kind → KeepsKinds c (changed c n w)
-KeepsKinds-changed c n v w h e = record { kinds = λ m k q. field-changed_kept (λ x. x.kind) c n m v w h e ∙ q }
+KeepsKinds-changed c n v w h e = record { grows = omega arith; kinds = λ m k q. field-changed_kept (λ x. x.kind) c n m v w h e ∙ q }
 
-KnowsLabel-kept : (c d : Content) (o : Option (VariableKind × ℕ)) → KeepsKinds c d → KnowsLabel c o → KnowsLabel d o
-KnowsLabel-kept c d None e k = tt
-KnowsLabel-kept c d (Some v) e k = e.kinds v.1 v.0 k
+pub KeepsKinds-refl : (c : Content) → KeepsKinds c c
+KeepsKinds-refl c = record { grows = omega arith; kinds = λ n k h. h }
+
+pub KeepsKinds-trans : {c d e : Content} → KeepsKinds c d → KeepsKinds d e → KeepsKinds c e
+KeepsKinds-trans a b = record { grows = (let p = a.grows in let q = b.grows in omega (arith, p, q)); kinds = λ n k h. b.kinds n k (a.kinds n k h) }
+
+KnowsVariable-kept : (c d : Content) (o : Option (VariableKind × ℕ)) → KeepsKinds c d → KnowsVariable c o → KnowsVariable d o
+KnowsVariable-kept c d None e k = tt
+KnowsVariable-kept c d (Some v) e k = e.kinds v.1 v.0 k
+
+-- a greater universe names more
+pub CanName-more : (u v : ℕ) (o : Option ℕ) → u ≤ v → CanName u o → CanName v o
+CanName-more u v None h k = tt
+CanName-more u v (Some x) h k = omega (arith, h, k)
+
+KnowsLabel-kept : (c d : Content) (l : Label) → KeepsKinds c d → KnowsLabel c l → KnowsLabel d l
+KnowsLabel-kept c d l e k = (KnowsVariable-kept c d (variable_of l) e k.0, CanName-more c.universe d.universe (leaf_level l) e.grows k.1)
 
 -- what was known is known
 pub Knows-kept : (c d : Content) (t : Tree) → KeepsKinds c d → Knows c t → Knows d t
 Knows-kept c d empty e h = tt
 Knows-kept c d (more a b) e h = (Knows-kept c d a e h.0, Knows-kept c d b e h.1)
-Knows-kept c d (node l t) e h = (KnowsLabel-kept c d (variable_of l) e h.0, Knows-kept c d t e h.1)
+Knows-kept c d (node l t) e h = (KnowsLabel-kept c d l e h.0, Knows-kept c d t e h.1)

@@ -5,18 +5,15 @@ use Rattle.nts_model.specs.declared.labels.Label.{Label}
 use Rattle.nts_model.specs.Trees.{Tree, empty, more, node}
 use Rattle.nts_model.specs.Contents.{Content, Slot, SlotState, unset, link, known, Recorded, state_of, universe_of, kind_at, with_slot, changed, bound_to, with_constraint, in_universe}
 use Rattle.nts_model.specs.Resolving.{IsSound}
-use Rattle.nts_model.specs.Levels.{CanName, NamesAll, IfNamesAll, term_level}
+use Rattle.nts_model.specs.Placeholders.{CanName}
+use Rattle.nts_model.specs.Levels.{NamesAll, IfNamesAll, term_level}
 use Rattle.nts_model.specs.Worlds.{World, inst, SolvesState, IsMet, IsNameable, IsValue, IsFitting, Solves, Agrees, with_tree, KnowsAll}
 use Rattle.nts_model.proofs.Under.{same_or_other}
-use Rattle.nts_model.proofs.Slots.{no_slot, some_slot, slice_get_length, slice_get_below, field_below, field-changed_same, field-changed_other, field-changed_kept, field-with_slot_new, field-with_slot_old}
+use Rattle.nts_model.proofs.Slots.{CanName-more, no_slot, some_slot, slice_get_length, slice_get_below, field_below, field-changed_same, field-changed_other, field-changed_kept, field-with_slot_new, field-with_slot_old}
 use Rattle.nts_model.proofs.Binding.{Binds, Binds-unset, IsKnowable, IsLinkable, state_of-set_same, state_of-set_other}
 use Rattle.nts_model.proofs.Instances.{inst-agrees, Agrees-with_tree, AreMet-agrees, AreMet-push, AreMet-front, tree-with_tree}
 
 -- levels
-pub CanName-more : (a b : ℕ) (o : Option ℕ) → a ≤ b → CanName a o → CanName b o
-CanName-more a b None l h = tt
-CanName-more a b (Some v) l h = omega (arith, h, l)
-
 pub NamesAll-more : (f : Label → Option ℕ) (a b : ℕ) (t : Tree) → a ≤ b → NamesAll f a t → NamesAll f b t
 NamesAll-more f a b empty l h = tt
 NamesAll-more f a b (more s t) l h = (NamesAll-more f a b s l h.0, NamesAll-more f a b t l h.1)

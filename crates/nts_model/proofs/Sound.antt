@@ -1,5 +1,5 @@
 -- What keeps a table sound, and what each change does to what trees stand for.
-use Rattle.std.proofs.Common.{◌≡◌, ⊎_elim, ℕ, ◌<◌, [], ◌∷◌, length, length-append, Some, refl, sym, ap, ◌∙◌, arith}
+use Rattle.std.proofs.Common.{◌≡◌, ⊎_elim, ℕ, ◌<◌, ◌≤◌, [], ◌∷◌, length, length-append, Some, refl, sym, ap, ◌∙◌, arith}
 use Rattle.std.specs.Prelude.{slice_get, reverse}
 use Rattle.nts_model.specs.Trees.{Tree}
 use Rattle.nts_model.specs.Contents.{Content, Slot, SlotState, unset, link, known, Recorded, state_of, kind_at, with_slot, changed, with_constraint, in_universe}
@@ -12,6 +12,7 @@ pub record SameStates (c d : Content) : Type 0 where
   pub states : (n : ℕ) → state_of d n ≡ state_of c n
   pub kinds : (n : ℕ) → kind_at d n ≡ kind_at c n
   pub order : d.order ≡ c.order
+  pub grows : c.universe ≤ d.universe
   pub more : length d.slots ≡ length c.slots
 
 pub value_at-same : (c d : Content) → SameStates c d → value_at d ≡ value_at c
@@ -21,7 +22,7 @@ pub resolved-same : (c d : Content) (t : Tree) → SameStates c d → resolved d
 resolved-same c d t e = rw (value_at-same c d e, e.order) refl
 
 KeepsKinds-same : (c d : Content) → SameStates c d → KeepsKinds c d
-KeepsKinds-same c d e = record { kinds = λ n k q. e.kinds n ∙ q }
+KeepsKinds-same c d e = record { grows = e.grows; kinds = λ n k q. e.kinds n ∙ q }
 
 pub IsSound-same : (c d : Content) → IsSound c → SameStates c d → IsSound d
 IsSound-same c d s e =
@@ -45,14 +46,15 @@ SameStates-changed c n v w h k e =
       states = λ m. field-changed_kept (λ x. x.state) c n m v w h e;
       kinds = λ m. field-changed_kept (λ x. x.kind) c n m v w h k;
       order = refl;
+      grows = omega arith;
       more = length-slice_set c.slots n w;
     }
 
 pub SameStates-with_constraint : (c : Content) (x : Recorded) → SameStates c (with_constraint c x)
-SameStates-with_constraint c x = record { states = λ n. refl; kinds = λ n. refl; order = refl; more = refl }
+SameStates-with_constraint c x = record { states = λ n. refl; kinds = λ n. refl; order = refl; grows = omega arith; more = refl }
 
-pub SameStates-in_universe : (c : Content) (u : ℕ) → SameStates c (in_universe c u)
-SameStates-in_universe c u = record { states = λ n. refl; kinds = λ n. refl; order = refl; more = refl }
+pub SameStates-in_universe : (c : Content) (u : ℕ) → c.universe ≤ u → SameStates c (in_universe c u)
+SameStates-in_universe c u b = record { states = λ n. refl; kinds = λ n. refl; order = refl; grows = b; more = refl }
 
 -- another universe, or sub-unification class
 pub IsSound-changed : (c : Content) (n : ℕ) (v w : Slot) → IsSound c → slice_get c.slots n ≡ Some v → w.kind ≡ v.kind → w.state ≡ v.state → IsSound (changed c n w)
@@ -61,8 +63,8 @@ IsSound-changed c n v w s h k e = IsSound-same c (changed c n w) s (SameStates-c
 pub IsSound-with_constraint : (c : Content) (x : Recorded) → IsSound c → IsSound (with_constraint c x)
 IsSound-with_constraint c x s = IsSound-same c (with_constraint c x) s (SameStates-with_constraint c x)
 
-pub IsSound-in_universe : (c : Content) (u : ℕ) → IsSound c → IsSound (in_universe c u)
-IsSound-in_universe c u s = IsSound-same c (in_universe c u) s (SameStates-in_universe c u)
+pub IsSound-in_universe : (c : Content) (u : ℕ) → c.universe ≤ u → IsSound c → IsSound (in_universe c u)
+IsSound-in_universe c u b s = IsSound-same c (in_universe c u) s (SameStates-in_universe c u b)
 
 -- one more variable
 module _ (c : Content) (v : Slot) (s : IsSound c) (free : v.state ≡ unset) where

@@ -8,7 +8,7 @@ use Rattle.nts_model.specs.declared.labels.Label.{Label}
 use Rattle.nts_model.specs.declared.labels.Label.TheVariants as label
 use Rattle.nts_model.specs.Trees.{Tree, empty, more, node, IsClosed, IsFormed}
 use Rattle.nts_model.specs.Contents.{Content, kind_at}
-use Rattle.nts_model.specs.Resolving.{rooted, variable_of, variable_tree, deeply_resolved, Knows, KnowsLabel, IsSound}
+use Rattle.nts_model.specs.Resolving.{rooted, variable_of, variable_tree, deeply_resolved, Knows, KnowsVariable, IsSound}
 use Rattle.nts_model.specs.Holding.{Continues}
 use Rattle.nts_model.specs.Regions.{of_free}
 use Rattle.nts_model.specs.Fitting.{Fits}
@@ -68,7 +68,7 @@ pub deeply_resolved-more : (c : Content) (a b : Tree) → deeply_resolved c (mor
 deeply_resolved-more c a b = ap (rooted c) (resolved-more c a b)
 
 -- the tree under a table has read leaves
-read_node : (c : Content) (l : Label) (x : Tree) → KnowsLabel c (variable_of l) → IsFormed (node l x) → put (read_leaf c) l (deeply_resolved c x) ≡ deeply_resolved c (node l x)
+read_node : (c : Content) (l : Label) (x : Tree) → KnowsVariable c (variable_of l) → IsFormed (node l x) → put (read_leaf c) l (deeply_resolved c x) ≡ deeply_resolved c (node l x)
 read_node c (label.Leaf (leaf.Variable k n)) x h i = rw (leaf_alone (leaf.Variable k n) x i) (read_known c k n h)
 read_node c (label.Leaf (leaf.Region r)) x h i =
     rw (leaf_alone (leaf.Region r) x i) (sym (deeply_resolved-node c (label.Leaf (leaf.Region r)) empty refl ∙ ap (node (label.Leaf (leaf.Region r))) (deeply_resolved-empty c)))
@@ -89,7 +89,7 @@ replace-read_leaf c (more a b) k h =
     let x = replace-read_leaf c a k.0 h.0 in
     let y = replace-read_leaf c b k.1 h.1 in
     rw (x, y) (sym (deeply_resolved-more c a b))
-replace-read_leaf c (node l x) k h = ap (put (read_leaf c) l) (replace-read_leaf c x k.1 h.1) ∙ read_node c l x k.0 h
+replace-read_leaf c (node l x) k h = ap (put (read_leaf c) l) (replace-read_leaf c x k.1 h.1) ∙ read_node c l x k.0.0 h
 
 -- the values of a table make an instance
 read_fits : (c : Content) (l : Leaf) → IsSound c → HoldsTerms c → FitsLeaf l (read_leaf c l)
@@ -106,7 +106,7 @@ read_formed : (c : Content) (l : Leaf) → IsSound c → HoldsTerms c → IsForm
 read_formed c (leaf.Variable k n) s h = by_kind (is_kind (kind_at c n) k) refl
   where
     by_kind : (z : Bool) → is_kind (kind_at c n) k ≡ z → IsFormed (read_variable c k n z)
-    by_kind true e = IsFormed-deeply_resolved c (variable_tree k n) s h (is_kind-same (kind_at c n) k e, tt) (tt, tt)
+    by_kind true e = IsFormed-deeply_resolved c (variable_tree k n) s h ((is_kind-same (kind_at c n) k e, tt), tt) (tt, tt)
     by_kind false e = (tt, tt)
 read_formed c (leaf.Region r) s h = (tt, tt)
 read_formed c (leaf.TyConstant a) s h = (tt, tt)
@@ -153,5 +153,5 @@ instance_of-reading c s h t k i = replace-read_leaf c t k i
 pub instance_of-later : (c d : Content) (s : IsSound c) (r : IsSound d) (h : HoldsTerms c) (i : HoldsTerms d) (t : Tree) → Continues c d → Knows c t → IsFormed t
     → instance_of (reading_of d r i) (deeply_resolved c t) ≡ deeply_resolved d t
 instance_of-later c d s r h i t g k f =
-    instance_of-reading d r i (deeply_resolved c t) (Knows-kept c d (deeply_resolved c t) (record { kinds = g.kinds }) (Knows-deeply_resolved c t s k)) (IsFormed-deeply_resolved c t s h k f)
+    instance_of-reading d r i (deeply_resolved c t) (Knows-kept c d (deeply_resolved c t) (record { grows = g.grows; kinds = g.kinds }) (Knows-deeply_resolved c t s k)) (IsFormed-deeply_resolved c t s h k f)
     ∙ g.values t k

@@ -37,6 +37,7 @@ HoldsConstraint c x = IsTrivial c x.relation x.left x.right ⊎ IsRecorded c x
 -- the second table has all that the first has: variables, values, links and constraints
 pub record Continues (c d : Content) : Type 0 where
   pub more : length c.slots ≤ length d.slots
+  pub grows : c.universe ≤ d.universe
   pub kinds : (n : ℕ) (k : VariableKind) → kind_at c n ≡ Some k → kind_at d n ≡ Some k
   pub falls : Falls c d
   pub values : (t : Tree) → Knows c t → deeply_resolved d (deeply_resolved c t) ≡ deeply_resolved d t

@@ -1,22 +1,15 @@
 -- Which universe names which leaves of a tree.
 use Rattle.std.specs.Prelude.{◌≡◌, ℕ, ◌≤◌, ◌<◌, length, Option, Some, None}
-use Rattle.nts_model.specs.declared.labels.FreeRegion.{FreeRegion}
-use Rattle.nts_model.specs.declared.labels.FreeRegion.TheVariants as region
-use Rattle.nts_model.specs.declared.labels.Constant.{Constant}
-use Rattle.nts_model.specs.declared.labels.Constant.TheVariants as constant
 use Rattle.nts_model.specs.declared.labels.Leaf.{Leaf}
 use Rattle.nts_model.specs.declared.labels.Leaf.TheVariants as leaf
 use Rattle.nts_model.specs.declared.labels.Label.{Label}
 use Rattle.nts_model.specs.declared.labels.Label.TheVariants as label
 use Rattle.nts_model.specs.Trees.{Tree, empty, more, node}
 use Rattle.nts_model.specs.Contents.{Content, link, known, state_of, universe_of}
+use Rattle.nts_model.specs.Placeholders.{constant_level, free_region_level, CanName}
 use Rattle.nts_model.specs.Resolving.{variable_of, number_of}
 
 -- the universe of a placeholder that is a type or const, and of one that is a region
-abbrev pub constant_level : Constant → Option ℕ
-constant_level (constant.Placeholder u n) = Some u
-constant_level (constant.Param n) = None
-
 abbrev pub term_level_of_leaf : Leaf → Option ℕ
 term_level_of_leaf (leaf.TyConstant a) = constant_level a
 term_level_of_leaf (leaf.ConstConstant a) = constant_level a
@@ -25,10 +18,6 @@ term_level_of_leaf l = None
 abbrev pub term_level : Label → Option ℕ
 term_level (label.Leaf l) = term_level_of_leaf l
 term_level l = None
-
-abbrev pub free_region_level : FreeRegion → Option ℕ
-free_region_level (region.Placeholder u n) = Some u
-free_region_level r = None
 
 abbrev pub region_level_of_leaf : Leaf → Option ℕ
 region_level_of_leaf (leaf.Region r) = free_region_level r
@@ -46,12 +35,7 @@ level_at c None l = term_level l
 abbrev pub level_in : Content → Label → Option ℕ
 level_in c l = level_at c (number_of (variable_of l)) l
 
--- the universe u names what is of that universe, if it is of any
-abbrev pub CanName : ℕ → Option ℕ → Type 0
-CanName u None = Unit {0}
-CanName u (Some v) = v ≤ u
-
--- .. each node of the tree, where f gives their universes
+-- the universe u names each node of the tree, where f gives their universes
 abbrev pub NamesAll : (Label → Option ℕ) → ℕ → Tree → Type 0
 NamesAll f u empty = Unit {0}
 NamesAll f u (more a b) = NamesAll f u a × NamesAll f u b
@@ -66,7 +50,11 @@ pub record IsLevelled (c : Content) : Type 0 where
   pub values : (n u : ℕ) (t : Tree) → state_of c n ≡ Some (known t) → universe_of c n ≡ Some u → NamesAll (level_in c) u t
   pub links : (n m u : ℕ) → state_of c n ≡ Some (link m) → universe_of c n ≡ Some u → CanName u (universe_of c m)
 
--- .. and the regions in its value
+-- each variable is of a universe that the table has made
+pub record AreCurrent (c : Content) : Type 0 where
+  pub universes : (n u : ℕ) → universe_of c n ≡ Some u → u ≤ c.universe
+
+-- a variable's universe names the regions in its value too
 pub record AreRegionsLevelled (c : Content) : Type 0 where
   pub regions : (n u : ℕ) (t : Tree) → state_of c n ≡ Some (known t) → universe_of c n ≡ Some u → NamesAll region_level u t
 

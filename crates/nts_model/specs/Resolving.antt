@@ -7,6 +7,7 @@ use Rattle.nts_model.specs.declared.labels.Leaf.TheVariants as leaf
 use Rattle.nts_model.specs.declared.labels.Label.{Label}
 use Rattle.nts_model.specs.declared.labels.Label.TheVariants as label
 use Rattle.nts_model.specs.Trees.{Tree, empty, more, node, size, kind_of, of_sort, sort_of_variable}
+use Rattle.nts_model.specs.Placeholders.{leaf_level, CanName}
 use Rattle.nts_model.specs.Contents.{Content, SlotState, unset, link, known, state_of, kind_at}
 
 -- the tree of a variable
@@ -123,15 +124,18 @@ IsInfer empty = ⊥
 IsInfer (more a b) = ⊥
 IsInfer (node l c) = (n : ℕ) × (infer_of l ≡ Some n)
 
--- the variables of the tree are of the table, with their kinds
-abbrev pub KnowsLabel : Content → Option (VariableKind × ℕ) → Type 0
-KnowsLabel c None = Unit {0}
-KnowsLabel c (Some v) = kind_at c v.1 ≡ Some v.0
+-- the variables of the tree are of the table, with their kinds, and the current universe names its placeholders
+abbrev pub KnowsVariable : Content → Option (VariableKind × ℕ) → Type 0
+KnowsVariable c None = Unit {0}
+KnowsVariable c (Some v) = kind_at c v.1 ≡ Some v.0
+
+abbrev pub KnowsLabel : Content → Label → Type 0
+KnowsLabel c l = KnowsVariable c (variable_of l) × CanName c.universe (leaf_level l)
 
 abbrev pub Knows : Content → Tree → Type 0
 Knows c empty = Unit {0}
 Knows c (more a b) = Knows c a × Knows c b
-Knows c (node l t) = KnowsLabel c (variable_of l) × Knows c t
+Knows c (node l t) = KnowsLabel c l × Knows c t
 
 -- the value of a type variable may be a variable of integers or floats; no other variable has one as its value
 abbrev pub rank_of_kind : VariableKind → ℕ

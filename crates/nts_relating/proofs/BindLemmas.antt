@@ -34,7 +34,7 @@ use Rattle.nts_unify.specs.declared.contents.State.TheVariants.{Link, Known}
 use Rattle.nts_unify.specs.declared.contents.Variable.{Variable}
 use Rattle.nts_unify.specs.Entries.{Entries, bound}
 use Rattle.nts_unify.specs.Reading.{state_with, slot_of, content_of, IsLawful}
-use Rattle.nts_unify.specs.Changing.{unset_count, unset_of, one_unset, IsLater}
+use Rattle.nts_unify.specs.Changing.{unset_count, unset_of, one_unset, IsLater, nothing_more}
 use Rattle.nts_unify.specs.Joining.{IsBindable}
 use Rattle.nts_relating.specs.Relating.{IsOpen, IsSet, Generalized, CanTake, AreMadeOne}
 use Rattle.nts_unify.specs.Joining.{TakesVariable}
@@ -43,6 +43,7 @@ use Rattle.nts_unify.proofs.Changes.{slot_at, length-slots, content_of-bound, Le
 use Rattle.nts_unify.proofs.Keeping.{IsLater-trans, Knows-later, unset-set, unset_of-infer}
 use Rattle.nts_unify.proofs.JoinLemmas.{free_slot}
 use Rattle.nts_unify.proofs.Leading.{state_of-entry, kind_at-entry}
+use Rattle.nts_model.proofs.SubUnified.{JoinsSubRoots-known}
 
 pub bindable_no_region : (ts : List Tree) (e : Entries) (x : ℕ) → IsBindable e x → kind_at (content_of ts e) x ≢ Some kind.Region
 bindable_no_region ts e x h r = h.no_region (some_inj _ _ (sym (free_slot ts e x h.of_kind h.free).kind ∙ r))
@@ -89,7 +90,7 @@ bind_value ts us e f g x t v w z before_lawful can_bind at knows_term h within f
     let none : unset_of z.kind (known (tree_at us v)) ≡ 0 = unset_of-infer z.kind (known (tree_at us v)) no_region in
     let fewer : unset_count (slice_set d.slots x (slot_of us new)) < unset_count c.slots = omega (arith, count, one, none, gen.keeps.unset_kept) in
     let longer = length-slice_set d.slots x (slot_of us new) in
-    let bound_later : IsLater d (bound_to d x (slot_of us new)) = record { more = omega (arith, longer); kinds = λ n j y. kind_at-set d x (slot_of us new) can.binds n ∙ y } in
+    let bound_later : IsLater d (bound_to d x (slot_of us new)) = record { more = omega (arith, longer); grows = omega arith; kinds = λ n j y. kind_at-set d x (slot_of us new) can.binds n ∙ y; subs = JoinsSubRoots-known d x (slot_of us new) (tree_at us v) can.binds refl refl; visible = nothing_more } in
     let after = bound_to d x (slot_of us new) in
     let sound_after = IsSound-known d x (slot_of us new) (tree_at us v) h.sound can in
     let known_continues = Continues-known d x (slot_of us new) (tree_at us v) can refl h.sound in
@@ -186,7 +187,7 @@ taken ts us vs e f g x y k t v w z u lawful ext can at_x at_y same is h within f
     let sort : kind_of (tree_at vs v) ≡ Some (of_sort (sort_of_variable w.kind)) = kind_of-like (tree_at vs v) (tree_at us t) gen.like ∙ ap kind_of tree ∙ ap (λ s. Some (of_sort s)) low.1 in
     let fit = takes_fits w.kind u.kind (tree_at vs v) takes sort in
     let has : kind_at (content_of us e) y ≡ Some u.kind = kind_at-entry us e y u at_y in
-    let knows : Knows (content_of us e) (tree_at us t) = rw tree (has, tt) in
+    let knows : Knows (content_of us e) (tree_at us t) = rw tree ((has, tt), tt) in
     let value = bind_value us vs e f g x t v w z (IsLawful-extended ext lawful) can.first at_x knows h within formed gen lower fit now q in
     let set : IsSet (content_of us e) (content_of vs g) x (variable_tree u.kind y) = subst (λ (s : Tree). IsSet (content_of us e) (content_of vs g) x s) tree value.set in
     (value.lawful, subst (λ (c : Content). AreMadeOne c (content_of vs g) x y) (content_of-extended ext lawful) (set_one u.kind has set))

@@ -10,8 +10,9 @@ use Rattle.nts_model.specs.declared.labels.Label.{Label}
 use Rattle.nts_model.specs.declared.labels.Label.TheVariants as label
 use Rattle.nts_model.specs.Trees.{Tree, empty, more, node, of_sort, kind_of, kind_of_label, IsBoundBelow, Meets, shape}
 use Rattle.nts_model.specs.Contents.{Content, Slot, unset, link, state_of, universe_of, kind_at, with_slot}
-use Rattle.nts_model.specs.Resolving.{variable_of, variable_tree, infer_of, IsInfer, Knows, KnowsLabel, IsSound, Lacks, LacksAt, resolved, rooted, variable_rank}
-use Rattle.nts_model.specs.Levels.{CanName, NamesAll, term_level}
+use Rattle.nts_model.specs.Resolving.{variable_of, variable_tree, infer_of, IsInfer, Knows, KnowsVariable, IsSound, Lacks, LacksAt, resolved, rooted, variable_rank}
+use Rattle.nts_model.specs.Placeholders.{CanName}
+use Rattle.nts_model.specs.Levels.{NamesAll, term_level}
 use Rattle.nts_model.specs.Regions.{RegionName, IsRegion, name_of_label}
 use Rattle.nts_model.specs.Worlds.{World, inst, IsValue, Solves, KnowsAll, with_tree, IsNameable}
 use Rattle.nts_model.specs.Holding.{AreOne, Continues}
@@ -25,13 +26,14 @@ use Rattle.nts_model.proofs.Alike.{AreAlike-one}
 use Rattle.nts_model.proofs.Open.{Knows-resolved}
 use Rattle.nts_model.proofs.Resolved.{resolved-variable_unset, resolved-variable_link, IsVariable}
 use Rattle.nts_model.proofs.Sound.{resolved-with_slot, state_of-with_slot_old, state_of-with_slot_new, IsSound-with_slot}
-use Rattle.nts_unify.specs.Changing.{unset_count, unset_of, one_unset, IsLater}
+use Rattle.nts_unify.specs.Changing.{unset_count, unset_of, one_unset, IsLater, nothing_more}
 use Rattle.nts_unify.specs.Joining.{IsOneClass, IsJoined}
 use Rattle.nts_relating.specs.Relating.{IsLike, IsUnset, RegionsRelate, Generalized}
-use Rattle.nts_unify.proofs.Keeping.{IsLater-trans, Keeps-trans, unset-push, unset_of-infer}
+use Rattle.nts_unify.proofs.Keeping.{IsLater-trans, Keeps-trans, unset-push, unset_of-infer, IsLater-with_slot}
 use Rattle.nts_relating.proofs.Ranks.{zero_le, infer_ranked, region_unfit}
 use Rattle.nts_relating.proofs.GenLemmas.{RegionNode, lacks_other, resolved-region_node}
 use Rattle.nts_relating.proofs.Ranks.{zero_le, infer_ranked, region_unfit}
+use Rattle.nts_model.proofs.SubUnified.{JoinsSubRoots-added}
 
 abbrev second_or : Option (VariableKind × ℕ) → ℕ
 second_or None = 0
@@ -41,7 +43,7 @@ below_apart : (m k : ℕ) → m < k → (m == k) ≡ false
 below_apart m k less = grind arith
 
 -- a number past the end is of no tree
-LacksAt-new : (c : Content) (o : Option (VariableKind × ℕ)) (l : Label) (t : Tree) → variable_of l ≡ o → KnowsLabel c o → Lacks (length c.slots) t → LacksAt (infer_of l) (length c.slots) (Lacks (length c.slots) t)
+LacksAt-new : (c : Content) (o : Option (VariableKind × ℕ)) (l : Label) (t : Tree) → variable_of l ≡ o → KnowsVariable c o → Lacks (length c.slots) t → LacksAt (infer_of l) (length c.slots) (Lacks (length c.slots) t)
 LacksAt-new c None l t e k h = rw (infer_of_none l e) h
 LacksAt-new c (Some v) l t e k h = by_case (infer_of l) refl
   where
@@ -56,7 +58,7 @@ LacksAt-new c (Some v) l t e k h = by_case (infer_of l) refl
 pub Lacks-new : (c : Content) (t : Tree) → Knows c t → Lacks (length c.slots) t
 Lacks-new c empty h = tt
 Lacks-new c (more a b) h = (Lacks-new c a h.0, Lacks-new c b h.1)
-Lacks-new c (node l t) h = LacksAt-new c (variable_of l) l t refl h.0 (Lacks-new c t h.1)
+Lacks-new c (node l t) h = LacksAt-new c (variable_of l) l t refl h.0.0 (Lacks-new c t h.1)
 
 -- a new variable of the table
 pub record IsAdded (c d : Content) (v : Slot) : Type 0 where
@@ -74,13 +76,10 @@ pub record IsAdded (c d : Content) (v : Slot) : Type 0 where
   pub grow : (w : World) (t : Tree) → Solves c w → NamesAll term_level v.universe t → IsValue v.kind t → Solves d (with_tree w (length c.slots) t)
   pub grow_names : (f : Label → Option ℕ) (w : World) (t : Tree) → IsNameable f c w → NamesAll f v.universe t → IsNameable f d (with_tree w (length c.slots) t)
 
-pub slot_added : (c : Content) (v : Slot) → IsSound c → KnowsAll c c.constraints → v.state ≡ unset → IsAdded c (with_slot c v) v
-slot_added c v s sides free =
+pub slot_added : (c : Content) (v : Slot) → IsSound c → KnowsAll c c.constraints → v.state ≡ unset → v.sub_link ≡ None → IsAdded c (with_slot c v) v
+slot_added c v s sides free alone =
     record {
-      later = record {
-        more = omega (arith, length-append c.slots (v ∷ []));
-        kinds = (KeepsKinds-with_slot c v).kinds;
-      };
+      later = IsLater-with_slot c v free alone;
       has = field-with_slot_new (λ x. x.kind) c v;
       states = λ n h. state_of-with_slot_old c v s free n (λ e. omega (arith, e, h));
       state = state_of-with_slot_new c v s free;
@@ -116,7 +115,7 @@ gen_fresh c d e x u b y low high v t s knows h free of_u within i rank like apar
     let value : resolved e (variable_tree v.kind fresh) ≡ variable_tree v.kind y =
     resolved-variable_link e (label.Leaf (leaf.Variable v.kind fresh)) empty v.kind fresh y after is linked ∙ root in
     let all = Continues-trans c d e s a.continues one_class.continues in
-    let old_one : AreOne e t (variable_tree v.kind y) = AreOne-continues c e t (variable_tree v.kind y) all knows (h.has, tt) (ap (rooted c) same) in
+    let old_one : AreOne e t (variable_tree v.kind y) = AreOne-continues c e t (variable_tree v.kind y) all knows ((h.has, tt), tt) (ap (rooted c) same) in
     let new_one : AreOne e (variable_tree v.kind fresh) (variable_tree v.kind y) = ap (rooted e) (value ∙ sym root) in
     let universe : universe_of e fresh ≡ Some u = one_class.universes fresh (λ q. omega (arith, q, ly, below)) ∙ a.universe ∙ ap Some of_u in
     record {
@@ -126,7 +125,7 @@ gen_fresh c d e x u b y low high v t s knows h free of_u within i rank like apar
         trees = λ z q. let same = a.trees z in let none = Lacks-new c (resolved c z) (Knows-resolved c z s q) in j.trees z (rw (same, hy) none) ∙ same;
         unset_kept = omega (arith, j.fewer, a.count, one);
       };
-      knows = (has, tt);
+      knows = ((has, tt), tt);
       rank = rank;
       fits = λ j n z f. infer_ranked t i z;
       like = fresh_like v.kind y (length c.slots) t like;
@@ -203,7 +202,7 @@ gen_fresh_region c d e x u b v t l s region within r sorted is_region known of_u
         trees = λ z q. a.trees z;
         unset_kept = omega (arith, a.count, none);
       }) k;
-      knows = (has, tt);
+      knows = ((has, tt), tt);
       rank = zero_le _ _ refl;
       fits = λ j n z. region_unfit j t n sorted;
       like = subst (λ (y : Tree). IsLike (variable_tree kind.Region fresh) y) (sym r.is) (region_sort t l r sorted);

@@ -18,7 +18,8 @@ use Rattle.nts_model.specs.Trees.{Tree, empty, more, node, NodeKind, of_sort, ki
 use Rattle.nts_model.specs.Contents.{Content, universe_of, kind_at}
 use Rattle.nts_model.specs.Resolving.{variable_of, variable_tree, infer_of, IsInfer, Knows, IsSound, Lacks, resolved, deeply_resolved, rooted, root_of, left_to_resolve, rank_of, variable_rank}
 use Rattle.nts_model.specs.Fitting.{Fits}
-use Rattle.nts_model.specs.Levels.{CanName, NamesAll, term_level, region_level, level_in}
+use Rattle.nts_model.specs.Placeholders.{CanName}
+use Rattle.nts_model.specs.Levels.{NamesAll, term_level, region_level, level_in}
 use Rattle.nts_model.specs.Worlds.{World, inst, renamed, Solves, KnowsAll}
 use Rattle.nts_model.specs.Equations.{ExtensionIf}
 use Rattle.nts_model.specs.Holding.{AreOne}
@@ -293,7 +294,7 @@ gen_region_root c x u b n r t s v has named =
     let one : AreOne c (variable_tree kind.Region r) t = rw (v.is) (regions-one c r n again) in
     record {
       keeps = Keeps-refl c;
-      knows = (has, tt);
+      knows = ((has, tt), tt);
       rank = zero_le _ _ refl;
       fits = λ j n z. region_unfit j t n (ap kind_of v.is);
       like = rw (v.is) refl;
@@ -316,7 +317,7 @@ pub gen_named : (c : Content) (x u b y : ℕ) (k : VariableKind) (t : Tree) → 
 gen_named c x u b y k t s h i rank like d named same worlds =
     record {
       keeps = Keeps-refl c;
-      knows = (h.has, tt);
+      knows = ((h.has, tt), tt);
       rank = rank;
       fits = λ j n z f. infer_ranked t i z;
       like = like;

@@ -8,7 +8,7 @@ use Rattle.nts_model.specs.declared.labels.Label.{Label}
 use Rattle.nts_model.specs.declared.labels.Label.TheVariants as label
 use Rattle.nts_model.specs.Trees.{Tree, node, NodeKind, of_sort, sort_of_variable, kind_of, kind_of_label, children, label_of, shape, Meets, in_order, IsClosed}
 use Rattle.nts_model.specs.Contents.{Content, known, state_of, kind_at}
-use Rattle.nts_model.specs.Resolving.{variable_of, variable_tree, infer_of, IsInfer, Knows, KnowsLabel, resolved, rank_of, rank_of_kind, variable_rank}
+use Rattle.nts_model.specs.Resolving.{variable_of, variable_tree, infer_of, IsInfer, Knows, KnowsVariable, resolved, rank_of, rank_of_kind, variable_rank}
 use Rattle.nts_model.proofs.Variables.{infer_label}
 use Rattle.nts_model.proofs.Roots.{kind_at-reaches}
 use Rattle.nts_model.proofs.Resolved.{KnownStep, known_step, resolved-variable_reaches}
@@ -73,8 +73,8 @@ region_label l n e = by_case (variable_of l) refl
 label_at : (t : Tree) (l : Label) → t ≡ node l (children t) → label_of t ≡ Some l
 label_at t l e = ap label_of e
 
-knows_label : (c : Content) (t : Tree) (l : Label) → t ≡ node l (children t) → Knows c t → KnowsLabel c (variable_of l)
-knows_label c t l e h = (let P : Tree → Type 0 = λ x. Knows c x in subst P e h).0
+knows_label : (c : Content) (t : Tree) (l : Label) → t ≡ node l (children t) → Knows c t → KnowsVariable c (variable_of l)
+knows_label c t l e h = (let P : Tree → Type 0 = λ x. Knows c x in subst P e h).0.0
 
 pub infer_at : (t : Tree) (l : Label) (n : ℕ) → t ≡ node l (children t) → infer_of l ≡ Some n → IsInfer t
 infer_at t l n e h = subst (λ (x : Tree). IsInfer x) (sym e) (n, h)
@@ -107,7 +107,7 @@ head_known ts e t l n r v h k is i class =
     let x = infer_label l n i in
     let state : state_of c r ≡ Some (known (tree_at ts v)) = state_of-class ts e n r (Known v) class in
     let held = AreHeld-at ts e.variables r class.variable h.held class.at in
-    let there : KnowsLabel c (variable_of l) = knows_label c t l is k in
+    let there : KnowsVariable c (variable_of l) = knows_label c t l is k in
     let has : kind_at c n ≡ Some x.of_kind = rw x.is at there in
     let root_kind : kind_at c r ≡ Some x.of_kind = kind_at-reaches c n r h.sound (Reaches-leads ts e n r root.leads) ∙ has in
     record {
@@ -157,7 +157,7 @@ head_open ts e t l n r h k is m i class =
     let root = class.root in
     let w = class.variable in
     let x = infer_label l n i in
-    let there : KnowsLabel c (variable_of l) = knows_label c t l is k in
+    let there : KnowsVariable c (variable_of l) = knows_label c t l is k in
     let has : kind_at c n ≡ Some x.of_kind = rw x.is at there in
     let same : Some w.kind ≡ Some x.of_kind = sym (kind_at-entry ts e r w class.at) ∙ kind_at-reaches c n r h.sound (Reaches-leads ts e n r root.leads) ∙ has in
     let of_kind : w.kind ≡ x.of_kind = cc in
@@ -176,7 +176,7 @@ pub region_root : (ts : List Tree) (e : Entries) (t : Tree) (l : Label) (n r : �
 region_root ts e t l n r h k is i root =
     let c = content_of ts e in
     let x = region_label l n i in
-    let there : KnowsLabel c (variable_of l) = knows_label c t l is k in
+    let there : KnowsVariable c (variable_of l) = knows_label c t l is k in
     let has : kind_at c n ≡ Some kind.Region = rw x at there in
     let w = entry_at e.variables r root.within in
     let region : kind_at c r ≡ Some kind.Region = kind_at-reaches c n r h.sound (Reaches-leads ts e n r root.leads) ∙ has in

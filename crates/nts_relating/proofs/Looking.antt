@@ -1,4 +1,4 @@
--- Terms whose variables a table has.
+-- Terms whose variables and universes a table has.
 use Rattle.std.proofs.lemmas.Bool.{or_parts}
 use Rattle.std.proofs.Common.{◌≡◌, ◌↔◌, ℕ, zero, suc, ◌+◌, ◌<◌, Bool, true, false, not, List, Option, Some, None, refl, sym, ap, ◌∙◌, arith, add-one}
 use Rattle.std.specs.Prelude.{Result, Ok, Err, IfOk, IsTrue}
@@ -7,14 +7,18 @@ use Rattle.nts_model.specs.declared.labels.VariableKind.TheVariants as kind
 use Rattle.nts_model.specs.declared.labels.Leaf.TheVariants as leaf
 use Rattle.nts_model.specs.declared.labels.Label.{Label}
 use Rattle.nts_model.specs.declared.labels.Label.TheVariants as label
-use Rattle.nts_model.specs.Trees.{Tree, empty, more, node, row_length, row_at, IsRow, any_label, is_infer, is_region_infer}
+use Rattle.nts_model.specs.Trees.{Tree, empty, more, node, row_length, row_at, IsRow, any_label, is_infer, is_region_infer, is_placeholder, is_placeholder_constant}
 use Rattle.nts_model.specs.Contents.{Content}
-use Rattle.nts_model.specs.Resolving.{variable_of, Knows, KnowsLabel}
+use Rattle.nts_model.specs.Resolving.{variable_of, Knows, KnowsVariable}
 use Rattle.nts_store.specs.Labels.{AllLabels}
 use Rattle.nts_unify.specs.Entries.{Entries}
 use Rattle.nts_unify.specs.Reading.{content_of}
-use Rattle.nts_relating.specs.Knowing.{HasNamed, row_from}
+use Rattle.nts_relating.specs.Knowing.{HasNamed, IsNamed, row_from}
 use Rattle.nts_unify.proofs.Leading.{kind_within, kind_at-entry, entry_at}
+use Rattle.nts_model.specs.declared.labels.FreeRegion.TheVariants as region
+use Rattle.nts_model.specs.declared.labels.Constant.{Constant}
+use Rattle.nts_model.specs.declared.labels.Constant.TheVariants as constant
+use Rattle.nts_model.specs.Placeholders.{CanName, constant_level, leaf_level}
 
 pub row_from-end : (r : Tree) → IsRow r → row_from (row_length r) r ≡ empty
 row_from-end empty h = refl
@@ -28,7 +32,7 @@ row_from-step (more a b) (suc i) h =
     let e : suc i + 1 ≡ suc (i + 1) = omega arith in rw e (row_from-step b i (omega arith))
 row_from-step (node l x) i h = absurd (omega arith)
 
-no_variable : (c : Content) (l : Label) → is_infer l ≡ false → is_region_infer l ≡ false → KnowsLabel c (variable_of l)
+no_variable : (c : Content) (l : Label) → is_infer l ≡ false → is_region_infer l ≡ false → KnowsVariable c (variable_of l)
 no_variable c (label.Leaf (leaf.Variable kind.Ty n)) e h = cc
 no_variable c (label.Leaf (leaf.Variable kind.Int n)) e h = cc
 no_variable c (label.Leaf (leaf.Variable kind.Float n)) e h = cc
@@ -44,23 +48,47 @@ no_variable c (label.Clause k) e h = tt
 no_variable c (label.Predicate k) e h = tt
 no_variable c (label.List k) e h = tt
 
-pub Knows-none : (c : Content) (t : Tree) → any_label is_infer t ≡ false → any_label is_region_infer t ≡ false → Knows c t
-Knows-none c empty e h = tt
-Knows-none c (more a b) e h =
+no_constant : (u : ℕ) (a : Constant) → is_placeholder_constant a ≡ false → CanName u (constant_level a)
+no_constant u (constant.Placeholder v n) e = cc
+no_constant u (constant.Param n) e = tt
+
+no_placeholder : (u : ℕ) (l : Label) → is_placeholder l ≡ false → CanName u (leaf_level l)
+no_placeholder u (label.Leaf (leaf.Variable k n)) e = tt
+no_placeholder u (label.Leaf (leaf.Region (region.Placeholder v n))) e = cc
+no_placeholder u (label.Leaf (leaf.Region region.Static)) e = tt
+no_placeholder u (label.Leaf (leaf.Region region.Erased)) e = tt
+no_placeholder u (label.Leaf (leaf.Region region.Error)) e = tt
+no_placeholder u (label.Leaf (leaf.Region (region.EarlyParam n))) e = tt
+no_placeholder u (label.Leaf (leaf.Region (region.LateParam n))) e = tt
+no_placeholder u (label.Leaf (leaf.TyConstant a)) e = no_constant u a e
+no_placeholder u (label.Leaf (leaf.ConstConstant a)) e = no_constant u a e
+no_placeholder u (label.Bound a b d) e = tt
+no_placeholder u (label.Ty k) e = tt
+no_placeholder u (label.Const k) e = tt
+no_placeholder u (label.Clause k) e = tt
+no_placeholder u (label.Predicate k) e = tt
+no_placeholder u (label.List k) e = tt
+
+-- a tree without variables and placeholders
+pub Knows-none : (c : Content) (t : Tree) → any_label is_infer t ≡ false → any_label is_region_infer t ≡ false → any_label is_placeholder t ≡ false → Knows c t
+Knows-none c empty e h f = tt
+Knows-none c (more a b) e h f =
+    let r = or_parts (any_label is_placeholder a) (any_label is_placeholder b) f in
     let p = or_parts (any_label is_infer a) (any_label is_infer b) e in
     let q = or_parts (any_label is_region_infer a) (any_label is_region_infer b) h in
-    (Knows-none c a p.0 q.0, Knows-none c b p.1 q.1)
-Knows-none c (node l x) e h =
+    (Knows-none c a p.0 q.0 r.0, Knows-none c b p.1 q.1 r.1)
+Knows-none c (node l x) e h f =
+    let r = or_parts (is_placeholder l) (any_label is_placeholder x) f in
     let p = or_parts (is_infer l) (any_label is_infer x) e in
     let q = or_parts (is_region_infer l) (any_label is_region_infer x) h in
-    (no_variable c l p.0 q.0, Knows-none c x p.1 q.1)
+    ((no_variable c l p.0 q.0, no_placeholder c.universe l r.0), Knows-none c x p.1 q.1 r.1)
 
 -- a variable that the table has is known, and the other way round
-pub named_known : (ts : List Tree) (e : Entries) (o : Option (VariableKind × ℕ)) → HasNamed e o → KnowsLabel (content_of ts e) o
+pub named_known : (ts : List Tree) (e : Entries) (o : Option (VariableKind × ℕ)) → HasNamed e o → KnowsVariable (content_of ts e) o
 named_known ts e None h = tt
 named_known ts e (Some v) h = kind_at-entry ts e v.1 h.variable h.at ∙ ap Some h.of_kind
 
-pub known_named : (ts : List Tree) (e : Entries) (o : Option (VariableKind × ℕ)) → KnowsLabel (content_of ts e) o → HasNamed e o
+pub known_named : (ts : List Tree) (e : Entries) (o : Option (VariableKind × ℕ)) → KnowsVariable (content_of ts e) o → HasNamed e o
 known_named ts e None h = tt
 known_named ts e (Some v) h =
     let p = entry_at e.variables v.1 (kind_within ts e v.1 v.0 h) in
@@ -71,16 +99,16 @@ pub from_not : (b : Bool) → not b ≡ true → b ≡ false
 from_not true h = cc
 from_not false h = refl
 
--- all variables of a tree are of the table
-pub labels_known : (ts : List Tree) (e : Entries) (t : Tree) → AllLabels (λ l. HasNamed e (variable_of l)) t → Knows (content_of ts e) t
+-- all labels of a tree are of the table
+pub labels_known : (ts : List Tree) (e : Entries) (t : Tree) → AllLabels (IsNamed e) t → Knows (content_of ts e) t
 labels_known ts e empty h = tt
 labels_known ts e (more a b) h = (labels_known ts e a h.0, labels_known ts e b h.1)
-labels_known ts e (node l x) h = (named_known ts e (variable_of l) h.0, labels_known ts e x h.1)
+labels_known ts e (node l x) h = (let k = h.0 in (named_known ts e (variable_of l) k.variable, k.level), labels_known ts e x h.1)
 
-pub known_labels : (ts : List Tree) (e : Entries) (t : Tree) → Knows (content_of ts e) t → AllLabels (λ l. HasNamed e (variable_of l)) t
+pub known_labels : (ts : List Tree) (e : Entries) (t : Tree) → Knows (content_of ts e) t → AllLabels (IsNamed e) t
 known_labels ts e empty h = tt
 known_labels ts e (more a b) h = (known_labels ts e a h.0, known_labels ts e b h.1)
-known_labels ts e (node l x) h = (known_named ts e (variable_of l) h.0, known_labels ts e x h.1)
+known_labels ts e (node l x) h = (record { variable = known_named ts e (variable_of l) h.0.0; level = h.0.1 }, known_labels ts e x h.1)
 
 -- a test of one fact is a test of another that holds where it does
 pub if_both : {E P Q : Type 0} (r : Result Bool E) → (P → Q) → (Q → P) → IfOk r (λ b. IsTrue b ↔ P) → IfOk r (λ b. IsTrue b ↔ Q)

@@ -15,7 +15,8 @@ use Rattle.nts_model.specs.Regions.{RegionName, of_variable, IsRegion, name_of_l
 use Rattle.nts_model.proofs.Fitting.{region_label}
 use Rattle.nts_model.proofs.Roots.{root_of-root}
 use Rattle.nts_model.proofs.Classes.{root_of-with_slot}
-use Rattle.nts_model.specs.Levels.{CanName, region_level}
+use Rattle.nts_model.specs.Placeholders.{CanName}
+use Rattle.nts_model.specs.Levels.{region_level}
 use Rattle.nts_model.specs.Worlds.{KnowsAll}
 use Rattle.nts_model.proofs.Alike.{AreAlike-turned}
 use Rattle.nts_model.proofs.Slots.{slice_get-push_old, slice_get-push_new, slice_get_below, field_below}
@@ -108,14 +109,14 @@ sides_of ts c (x ∷ xs) h = (h.0.left_known, h.0.right_known, sides_of ts c xs 
 pub lawful_sides : (ts : List Tree) (e : Entries) → IsLawful ts e → KnowsAll (content_of ts e) (content_of ts e).constraints
 lawful_sides ts e h = sides_of ts (content_of ts e) e.constraints h.constraints
 
-pub added_in : (ts : List Tree) (e m : Entries) (v : Variable) → IsLawful ts e → IsNew e v → m ≡ added e v → IsAdded (content_of ts e) (content_of ts m) (slot_of ts v)
-added_in ts e m v h new em =
+pub added_in : (ts : List Tree) (e m : Entries) (v : Variable) → IsLawful ts e → IsNew e v → v.sub_link ≡ None → m ≡ added e v → IsAdded (content_of ts e) (content_of ts m) (slot_of ts v)
+added_in ts e m v h new alone em =
     let is : content_of ts m ≡ with_slot (content_of ts e) (slot_of ts v) = ap (content_of ts) em ∙ content_of-added ts e v in
-    rw is (slot_added (content_of ts e) (slot_of ts v) h.sound (lawful_sides ts e h) (ap (state_with ts) new.state))
+    rw is (slot_added (content_of ts e) (slot_of ts v) h.sound (lawful_sides ts e h) (ap (state_with ts) new.state) alone)
 
 -- a fresh variable, made one with the old one
-pub fresh_value : (ts us : List Tree) (e m f : Entries) (x u b y number : ℕ) (t r : Tree) (v w : Variable) → IsLawful ts e → Knows (content_of ts e) t → x < length e.variables → v.universe ≡ u → IsOpen ts e t y → (y ≡ x → ⊥) → slice_get e.variables y ≡ Some w → v.kind ≡ w.kind → IsNew e v → m ≡ added e v → number ≡ length e.variables → Joins ts m f y number → Extends ts us → r ≡ variable_tree w.kind number → Generalized (content_of ts e) (content_of us f) x u b t r
-fresh_value ts us e m f x u b y number t r v w h knows within of_u o d at vk new em en j ext q =
+pub fresh_value : (ts us : List Tree) (e m f : Entries) (x u b y number : ℕ) (t r : Tree) (v w : Variable) → IsLawful ts e → Knows (content_of ts e) t → x < length e.variables → v.universe ≡ u → IsOpen ts e t y → (y ≡ x → ⊥) → slice_get e.variables y ≡ Some w → v.kind ≡ w.kind → IsNew e v → v.sub_link ≡ None → m ≡ added e v → number ≡ length e.variables → Joins ts m f y number → Extends ts us → r ≡ variable_tree w.kind number → Generalized (content_of ts e) (content_of us f) x u b t r
+fresh_value ts us e m f x u b y number t r v w h knows within of_u o d at vk new alone em en j ext q =
     let k = o.bindable.of_kind in
     let same = kind_read e y k w o.bindable.free at in
     let c = content_of ts e in
@@ -128,7 +129,7 @@ fresh_value ts us e m f x u b y number t r v w h knows within of_u o d at vk new
     let same_tree : resolved c t ≡ resolved c (variable_tree v.kind y) = o.same ∙ ap (λ z. resolved c (variable_tree z y)) kv in
     let below : x < length c.slots = omega (arith, within, length-slots ts e.variables) in
     rw (is, content_of-extended ext j.lawful)
-    (gen_fresh c (content_of ts m) (content_of ts f) x u b y (min y number) (max y number) (slot_of ts v) t h.sound knows free (ap (state_with ts) new.state) of_u below o.infer rank like d same_tree o.worlds (added_in ts e m v h new em) (ap (λ n. min y n) len) (ap (λ n. max y n) len) j.joined j.one j.lawful.sound)
+    (gen_fresh c (content_of ts m) (content_of ts f) x u b y (min y number) (max y number) (slot_of ts v) t h.sound knows free (ap (state_with ts) new.state) of_u below o.infer rank like d same_tree o.worlds (added_in ts e m v h new alone em) (ap (λ n. min y n) len) (ap (λ n. max y n) len) j.joined j.one j.lawful.sound)
 
 -- the label of a free region
 free_label : (l : Label) (x : RegionName) → name_of_label l ≡ Some x → is_free_region l ≡ true
@@ -187,13 +188,14 @@ pub record IsFresh (ts us : List Tree) (e m : Entries) (u : ℕ) (v : Variable) 
   pub is : tree_at ts t ≡ node l (children (tree_at ts t))
   pub meets : Meets (shape l) (children (tree_at ts t))
   pub new : IsNew e v
+  pub alone : v.sub_link ≡ None
   pub of_kind : v.kind ≡ kind.Region
   pub of_universe : v.universe ≡ u
   pub added : m ≡ added e v
 
-pub is_fresh : (ts us : List Tree) (e m : Entries) (u : ℕ) (v : Variable) (t : NodeId) (l : Label) → IsLawful ts e → Extends ts us → IsRegionOf ts e t → tree_at ts t ≡ node l (children (tree_at ts t)) → Meets (shape l) (children (tree_at ts t)) → IsNew e v → v.kind ≡ kind.Region → v.universe ≡ u → m ≡ added e v → IsFresh ts us e m u v t l
-is_fresh ts us e m u v t l a b c d f g h i j =
-    record { lawful = a; extends = b; region = c; is = d; meets = f; new = g; of_kind = h; of_universe = i; added = j }
+pub is_fresh : (ts us : List Tree) (e m : Entries) (u : ℕ) (v : Variable) (t : NodeId) (l : Label) → IsLawful ts e → Extends ts us → IsRegionOf ts e t → tree_at ts t ≡ node l (children (tree_at ts t)) → Meets (shape l) (children (tree_at ts t)) → IsNew e v → v.sub_link ≡ None → v.kind ≡ kind.Region → v.universe ≡ u → m ≡ added e v → IsFresh ts us e m u v t l
+is_fresh ts us e m u v t l a b c d f g k h i j =
+    record { lawful = a; extends = b; region = c; is = d; meets = f; new = g; alone = k; of_kind = h; of_universe = i; added = j }
 
 -- where the two are made equal
 fresh_region_value : (ts us : List Tree) (e m f : Entries) (x u b : ℕ) (t : NodeId) (r : Tree) (l : Label) (v : Variable) → IsFresh ts us e m u v t l → x < length e.variables → RegionsRelate (content_of us m) (content_of us f) (variable_tree kind.Region (length e.variables)) (tree_at us t) → universe_of (content_of us f) x ≡ universe_of (content_of us m) x → universe_of (content_of us f) (length e.variables) ≡ universe_of (content_of us m) (length e.variables) → r ≡ variable_tree kind.Region (length e.variables) → Generalized (content_of ts e) (content_of us f) x u b (tree_at ts t) r
@@ -204,7 +206,7 @@ fresh_region_value ts us e m f x u b t r l v h within related own level q =
     let len : length e.variables ≡ length c.slots = sym (length-slots us e.variables) in
     let value : r ≡ variable_tree kind.Region (length c.slots) = q ∙ ap (λ n. variable_tree kind.Region n) len in
     let kept : tree_at us t ≡ tree_at ts t = h.extends.kept t h.region.within in
-    let a = added_in us e m v later h.new h.added in
+    let a = added_in us e m v later h.new h.alone h.added in
     let known : Knows c (tree_at ts t) = rw same h.region.knows in
     let related_here : RegionsRelate (content_of us m) (content_of us f) (variable_tree kind.Region (length c.slots)) (tree_at ts t) = rw (kept, len) at related in
     let below : x < length c.slots = omega (arith, within, len) in
@@ -227,18 +229,18 @@ RegionsRelate-turned {c} {d} {a} {b} h =
     }
 
 -- the constraint between the two
-pub region_constraint : (ts us : List Tree) (e m : Entries) (t r : NodeId) (v : Variable) → IsLawful ts e → Extends ts us → IsRegionOf ts e t → IsNew e v → v.kind ≡ kind.Region → m ≡ added e v → IsIn us r → tree_at us r ≡ variable_tree kind.Region (length e.variables) → IsConstraint us (content_of us m) (record { relation = relation.Equal; left = r; right = t; is_visible = true })
-region_constraint ts us e m t r v h ext region new vk em within is =
+pub region_constraint : (ts us : List Tree) (e m : Entries) (t r : NodeId) (v : Variable) → IsLawful ts e → Extends ts us → IsRegionOf ts e t → IsNew e v → v.sub_link ≡ None → v.kind ≡ kind.Region → m ≡ added e v → IsIn us r → tree_at us r ≡ variable_tree kind.Region (length e.variables) → IsConstraint us (content_of us m) (record { relation = relation.Equal; left = r; right = t; is_visible = true })
+region_constraint ts us e m t r v h ext region new alone vk em within is =
     let later = IsLawful-extended ext h in
     let same = content_of-extended ext h in
-    let a = added_in us e m v later new em in
+    let a = added_in us e m v later new alone em in
     let c = content_of us e in
     let kept = ext.kept t region.within in
     let has : kind_at (content_of us m) (length e.variables) ≡ Some kind.Region = rw (length-slots us e.variables) at (a.has ∙ ap Some vk) in
     record {
       left_in = within;
       right_in = IsIn-extended ext t region.within;
-      left_known = rw is (has, tt);
+      left_known = rw is ((has, tt), tt);
       right_known = rw kept (Knows-later (tree_at ts t) a.later (rw same region.knows));
       left_sort = rw is refl;
       right_sort = rw kept region.sort;
@@ -248,11 +250,11 @@ region_constraint ts us e m t r v h ext region new vk em within is =
 -- .. by a constraint
 pub fresh_recorded : (ts us : List Tree) (e m f : Entries) (x u b : ℕ) (t r : NodeId) (l : Label) (v : Variable) → IsFresh ts us e m u v t l → x < length e.variables → IsLawful us m → IsIn us r → tree_at us r ≡ variable_tree kind.Region (length e.variables) → f ≡ constrained m (record { relation = relation.Equal; left = r; right = t; is_visible = true }) → Generalized (content_of ts e) (content_of us f) x u b (tree_at ts t) (tree_at us r)
 fresh_recorded ts us e m f x u b t r l v h within lawful inside is q =
-    let is_constraint = region_constraint ts us e m t r v h.lawful h.extends h.region h.new h.of_kind h.added inside is in
+    let is_constraint = region_constraint ts us e m t r v h.lawful h.extends h.region h.new h.alone h.of_kind h.added inside is in
     let left : IsRegionOf us m r = record { within = inside; knows = is_constraint.left_known; sort = is_constraint.left_sort; free = rw is (of_variable (length e.variables), refl) } in
     let kept = h.extends.kept t h.region.within in
     let right : IsRegionOf us m t = record { within = is_constraint.right_in; knows = is_constraint.right_known; sort = is_constraint.right_sort; free = rw kept h.region.free } in
-    let related = regions_recorded us m f (record { relation = relation.Equal; left = r; right = t; is_visible = true }) lawful left right refl q in
+    let related = regions_recorded us m f (record { relation = relation.Equal; left = r; right = t; is_visible = true }) lawful left right refl refl q in
     let same : (n : ℕ) → universe_of (content_of us f) n ≡ universe_of (content_of us m) n = λ n. rw q refl in
     fresh_region_value ts us e m f x u b t (tree_at us r) l v h within (rw is at related) (same x) (same (length e.variables)) is
 
@@ -266,14 +268,14 @@ fresh_joined ts us e m f x u b n root t r l v h within other i leads lawful is j
     let fresh = length e.variables in
     let kept : tree_at us t ≡ tree_at ts t = h.extends.kept t h.region.within in
     let knows : Knows c (tree_at ts t) = rw same h.region.knows in
-    let a = added_in us e m v later h.new h.added in
+    let a = added_in us e m v later h.new h.alone h.added in
     let old = region_variable_at us e (tree_at ts t) l n root later knows h.is h.meets i leads in
     let moved : root_of d n ≡ root = rw (h.added, content_of-added us e v) (root_of-with_slot c (slot_of us v) later.sound (ap (state_with us) h.new.state) n ∙ old.root) in
     let first : IsRegionVariable d (tree_at us t) n root = record { is = kept ∙ old.is; knows = rw kept (Knows-later (tree_at ts t) a.later knows); root = moved; tree = λ w z. old.tree w (a.back w z) } in
     let len : fresh ≡ length c.slots = sym (length-slots us e.variables) in
     let has : kind_at d fresh ≡ Some kind.Region = rw (← len) at a.has ∙ ap Some h.of_kind in
     let state : state_of d fresh ≡ Some unset = rw (← len) at a.state in
-    let second : IsRegionVariable d (variable_tree kind.Region fresh) fresh fresh = record { is = refl; knows = (has, tt); root = root_of-root d fresh (rw state tt); tree = λ w z. refl } in
+    let second : IsRegionVariable d (variable_tree kind.Region fresh) fresh fresh = record { is = refl; knows = ((has, tt), tt); root = root_of-root d fresh (rw state tt); tree = λ w z. refl } in
     let related = RegionsRelate-turned (regions_joined us m f (tree_at us t) (variable_tree kind.Region fresh) n fresh root fresh lawful first second j) in
     let f0 = free_slot us e root kind.Region (region_root us e (tree_at ts t) l n root later knows h.is i leads) in
     let below : root < length c.slots = field_below (λ z. z.kind) c root kind.Region f0.kind in

@@ -8,7 +8,7 @@ use Rattle.nts_model.specs.declared.labels.Label.{Label}
 use Rattle.nts_model.specs.declared.labels.Label.TheVariants as label
 use Rattle.nts_model.specs.Trees.{Tree, empty, more, node, size, children, label_of, IsRow, row_length, row_at, row_take, IsClosedUnder, of_sort, kind_of, kind_of_label, sort_of_variable}
 use Rattle.nts_model.specs.Contents.{Content, kind_at, universe_of}
-use Rattle.nts_model.specs.Resolving.{variable_of, infer_of, IsInfer, Knows, KnowsLabel, variable_flag}
+use Rattle.nts_model.specs.Resolving.{variable_of, infer_of, IsInfer, Knows, KnowsVariable, variable_flag}
 use Rattle.nts_model.specs.Levels.{NamesAll, term_level}
 use Rattle.nts_model.specs.Regions.{IsRegion}
 use Rattle.nts_model.specs.Worlds.{World, inst, renamed, Solves}
@@ -76,8 +76,8 @@ forbids_blocked c x u t k level has none h = record {
       omega (arith, inner, none, ap size e);
 }
 
-knows_label : (c : Content) (t : Tree) (l : Label) → t ≡ node l (children t) → Knows c t → KnowsLabel c (variable_of l)
-knows_label c t l e h = (subst (λ (x : Tree). Knows c x) e h).0
+knows_label : (c : Content) (t : Tree) (l : Label) → t ≡ node l (children t) → Knows c t → KnowsVariable c (variable_of l)
+knows_label c t l e h = (subst (λ (x : Tree). Knows c x) e h).0.0
 
 no_infer : (l : Label) (k : VariableKind) (n : ℕ) → variable_of l ≡ Some (k, n) → infer_of l ≡ None → k ≡ kind.Region
 no_infer l kind.Region n e i = refl

@@ -154,13 +154,13 @@ regions_joined ts e f a b x y r s h va vb j =
   where
     region_root_one : (c d : Content) (n m : ℕ) → IsSound c → root_of c n ≡ m → IsOneClass c d (min r s) (max r s) → Knows c (variable_tree kind.Region n) → AreOne d (variable_tree kind.Region n) (variable_tree kind.Region m)
     region_root_one c d n m z q one k =
-        let there : kind_at c m ≡ Some kind.Region = rw (← q) (kind_at-root_of c n z ∙ k.0) in
-        AreOne-continues c d (variable_tree kind.Region n) (variable_tree kind.Region m) one.continues k (there, tt)
+        let there : kind_at c m ≡ Some kind.Region = rw (← q) (kind_at-root_of c n z ∙ k.0.0) in
+        AreOne-continues c d (variable_tree kind.Region n) (variable_tree kind.Region m) one.continues k ((there, tt), tt)
         (regions-one c n m (sym (root_of-root_of c n z.descends) ∙ ap (root_of c) q))
 
 -- of which it is recorded
-pub regions_recorded : (ts : List Tree) (e f : Entries) (x : Constraint) → IsLawful ts e → IsRegionOf ts e x.left → IsRegionOf ts e x.right → x.relation ≡ relation.Equal → f ≡ constrained e x → RegionsRelate (content_of ts e) (content_of ts f) (tree_at ts x.left) (tree_at ts x.right)
-regions_recorded ts e f x h left right equal q =
+pub regions_recorded : (ts : List Tree) (e f : Entries) (x : Constraint) → IsLawful ts e → IsRegionOf ts e x.left → IsRegionOf ts e x.right → x.relation ≡ relation.Equal → x.is_visible ≡ true → f ≡ constrained e x → RegionsRelate (content_of ts e) (content_of ts f) (tree_at ts x.left) (tree_at ts x.right)
+regions_recorded ts e f x h left right equal visible q =
     let c = content_of ts e in
     let a = tree_at ts x.left in
     let b = tree_at ts x.right in
@@ -168,7 +168,7 @@ regions_recorded ts e f x h left right equal q =
     let d = with_constraint c (recorded_of ts x) in
     let held = HoldsEqual-recorded d (recorded_of ts x) equal (HoldsConstraint-with_constraint c (recorded_of ts x)) in
     rw is (record {
-      keeps = Keeps-with_constraint c (recorded_of ts x);
+      keeps = Keeps-with_constraint c (recorded_of ts x) visible;
       continues = Continues-with_constraint c (recorded_of ts x) h.sound;
       narrows = record {
         sound = λ w z. (let p = Solves-from_with_constraint c (recorded_of ts x) w z in (p.0, rw equal at p.1));

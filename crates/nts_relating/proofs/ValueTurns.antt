@@ -77,6 +77,7 @@ turn_done ts us e f x u root p xs y m n r w is ext law made_in g more =
       walk = record {
         lawful = law;
         known = slots_later ts us e f x grows.keeps.later w.known;
+        named = omega (arith, w.named, grows.keeps.later.grows);
         no_region = no_region-later x grows.keeps.later within w.no_region;
         root_in = IsIn-extended ext root.term w.root_in;
         root_known = rw (ext.kept root.term w.root_in) (Knows-later (tree_at ts root.term) grows.keeps.later w.root_known);
@@ -106,6 +107,7 @@ turn_put ts e x u root p xs zs y m w is tasks ready less =
       walk = record {
         lawful = w.lawful;
         known = w.known;
+        named = w.named;
         no_region = w.no_region;
         root_in = w.root_in;
         root_known = w.root_known;
@@ -205,11 +207,12 @@ turn_passed ts e x u root p xs m n v r w found more =
     (gen_known c c x u p.binders (tree_at ts p.term) (tree_at ts v) (tree_at ts r) value.sort value.infer value.value_sort value.own_sort front.1.0.part.knows value.knows value.same value.worlds old.stands value.lower) more
 
 -- at first
-pub walk_start : (ts : List Tree) (e : Entries) (x u : ℕ) (root : Part) (ys : List Task) (m : Part → Option NodeId) → IsLawful ts e → x < length e.variables → (kind_at (content_of ts e) x ≡ Some kind.Region → ⊥) → IsIn ts root.term → Knows (content_of ts e) (tree_at ts root.term) → root.binders + root.term.number < 2 ^ 64 → ((p : Part) → m p ≡ None) → ys ≡ task.Enter root ∷ [] → IsWalk ts e x u root ys m
-walk_start ts e x u root ys m law known no_region within knows room none is =
+pub walk_start : (ts : List Tree) (e : Entries) (x u : ℕ) (root : Part) (ys : List Task) (m : Part → Option NodeId) → IsLawful ts e → x < length e.variables → u ≤ e.universe → (kind_at (content_of ts e) x ≡ Some kind.Region → ⊥) → IsIn ts root.term → Knows (content_of ts e) (tree_at ts root.term) → root.binders + root.term.number < 2 ^ 64 → ((p : Part) → m p ≡ None) → ys ≡ task.Enter root ∷ [] → IsWalk ts e x u root ys m
+walk_start ts e x u root ys m law known named no_region within knows room none is =
     rw is (record {
       lawful = law;
       known = known;
+      named = named;
       no_region = no_region;
       root_in = within;
       root_known = knows;

@@ -1,9 +1,12 @@
--- Variables that a table has, and the places of a row.
+-- Variables and universes that a table has, and the places of a row.
 use Rattle.std.specs.Prelude.{◌≡◌, ℕ, zero, suc, Option, Some, None, slice_get}
 use Rattle.nts_model.specs.declared.labels.VariableKind.{VariableKind}
 use Rattle.nts_model.specs.Trees.{Tree, empty, more, node}
 use Rattle.nts_unify.specs.declared.contents.Variable.{Variable}
 use Rattle.nts_unify.specs.Entries.{Entries}
+use Rattle.nts_model.specs.declared.labels.Label.{Label}
+use Rattle.nts_model.specs.Placeholders.{leaf_level, CanName}
+use Rattle.nts_model.specs.Resolving.{variable_of}
 
 -- the table has the variable, of that kind
 pub record HasVariable (e : Entries) (k : VariableKind) (n : ℕ) : Type 0 where
@@ -14,6 +17,11 @@ pub record HasVariable (e : Entries) (k : VariableKind) (n : ℕ) : Type 0 where
 abbrev pub HasNamed : Entries → Option (VariableKind × ℕ) → Type 0
 HasNamed e None = Unit {0}
 HasNamed e (Some v) = HasVariable e v.0 v.1
+
+-- the table has the variable that a label names, and its current universe names the placeholder that it is
+pub record IsNamed (e : Entries) (l : Label) : Type 0 where
+  pub variable : HasNamed e (variable_of l)
+  pub level : CanName e.universe (leaf_level l)
 
 -- the places of a row from one on
 abbrev pub row_from : ℕ → Tree → Tree

@@ -6,7 +6,8 @@ use Rattle.nts_model.specs.declared.labels.Label.{Label}
 use Rattle.nts_model.specs.Trees.{Tree, empty, more, node, NodeKind, kind_of, children, size, row_length, row_at, binders, IsBoundBelow, IsClosedUnder, IsClosed}
 use Rattle.nts_model.specs.Contents.{Content, universe_of, kind_at}
 use Rattle.nts_model.specs.Resolving.{Knows, IsInfer, resolved, variable_of, variable_flag, variable_rank, left_to_resolve}
-use Rattle.nts_model.specs.Levels.{CanName, NamesAll, term_level}
+use Rattle.nts_model.specs.Placeholders.{CanName}
+use Rattle.nts_model.specs.Levels.{NamesAll, term_level}
 use Rattle.nts_model.specs.Worlds.{World, inst, Solves}
 use Rattle.nts_model.specs.Holding.{Continues}
 use Rattle.nts_model.specs.Equations.{ExtensionIf}
@@ -137,6 +138,7 @@ pub record IsMadeFor (ts : List Tree) (c : Content) (x u : ℕ) (p : Part) (r : 
 pub record IsWalk (ts : List Tree) (e : Entries) (x u : ℕ) (root : Part) (xs : List Task) (m : Part → Option NodeId) : Type 0 where
   pub lawful : IsLawful ts e
   pub known : x < length e.variables
+  pub named : u ≤ e.universe
   pub no_region : kind_at (content_of ts e) x ≢ Some kind.Region
   pub root_in : IsIn ts root.term
   pub root_known : Knows (content_of ts e) (tree_at ts root.term)

@@ -1,10 +1,11 @@
 //! The leaves of the value that a variable gets for a term.
-ghost use Rattle.std.specs.Prelude.{◌≡◌, ◌≢◌, ◌<◌, length, OnOk, IfOk, Some, None, Err, true, false};
+ghost use Rattle.std.specs.Prelude.{◌≡◌, ◌≢◌, ◌<◌, ◌≤◌, length, OnOk, IfOk, Some, None, Err, true, false};
 ghost use Rattle.nts_model.specs.declared.labels.VariableKind.TheVariants as kind;
 ghost use Rattle.nts_model.specs.Contents.{kind_at};
 ghost use Rattle.nts_model.specs.Resolving.{Knows};
 ghost use Rattle.nts_model.specs.Trees.{IsBoundBelow};
-ghost use Rattle.nts_model.specs.Levels.{CanName, term_level, region_level};
+ghost use Rattle.nts_model.specs.Placeholders.{CanName};
+ghost use Rattle.nts_model.specs.Levels.{term_level, region_level};
 ghost use Rattle.nts_store.specs.Growth.{tree_at, IsIn, Extends};
 ghost use Rattle.nts_unify.specs.Reading.{content_of, IsLawful};
 ghost use Rattle.nts_relating.specs.Relating.{Generalized, IsOpen, IsRegionOf, IsSettled};
@@ -71,6 +72,7 @@ pub fn name_variable(
     requires open { IsOpen nodes.old table.old.entries (tree_at nodes.old t) y }
     requires other { y ≢ target.variable }
     requires known { target.variable < length table.old.entries.variables }
+    requires named { target.universe ≤ table.old.entries.universe }
     ensures extends { Extends nodes.old nodes.new }
     ensures changes { KeepsHidden table.old table.new }
     ensures within { IfOk result (λ r. IsIn nodes.new r) }
@@ -103,6 +105,7 @@ pub fn name_region(
     requires lawful { IsLawful nodes.old table.old.entries }
     requires region { IsRegionOf nodes.old table.old.entries t }
     requires known { target.variable < length table.old.entries.variables }
+    requires named { target.universe ≤ table.old.entries.universe }
     requires no_region { kind_at (content_of nodes.old table.old.entries) target.variable ≢ Some kind.Region }
     ensures extends { Extends nodes.old nodes.new }
     ensures changes { KeepsHidden table.old table.new }

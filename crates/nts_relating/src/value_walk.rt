@@ -1,5 +1,5 @@
 //! The walk that makes the value of a variable.
-ghost use Rattle.std.specs.Prelude.{◌≡◌, ◌≢◌, ◌+◌, ◌++◌, ◌∷◌, [], ◌^◌, ◌<◌, length, OnOk, IfOk, Some, Err};
+ghost use Rattle.std.specs.Prelude.{◌≡◌, ◌≢◌, ◌+◌, ◌++◌, ◌∷◌, [], ◌^◌, ◌<◌, ◌≤◌, length, OnOk, IfOk, Some, Err};
 ghost use Rattle.nts_model.specs.declared.labels.VariableKind.TheVariants as kind;
 ghost use Rattle.nts_model.specs.Contents.{kind_at};
 ghost use Rattle.nts_model.specs.Trees.{children};
@@ -69,6 +69,7 @@ fn look_at(
     requires knows { Knows (content_of nodes.old table.old.entries) (tree_at nodes.old t) }
     requires lawful { IsLawful nodes.old table.old.entries }
     requires known { target.variable < length table.old.entries.variables }
+    requires named { target.universe ≤ table.old.entries.universe }
     requires no_region { kind_at (content_of nodes.old table.old.entries) target.variable ≢ Some kind.Region }
     ensures extends { Extends nodes.old nodes.new }
     ensures changes { KeepsHidden table.old table.new }
@@ -252,6 +253,7 @@ pub fn generalize(
     requires knows { Knows (content_of nodes.old table.old.entries) (tree_at nodes.old t) }
     requires lawful { IsLawful nodes.old table.old.entries }
     requires known { target.variable < length table.old.entries.variables }
+    requires named { target.universe ≤ table.old.entries.universe }
     requires no_region { kind_at (content_of nodes.old table.old.entries) target.variable ≢ Some kind.Region }
     requires room { target.binders + t.number < 2 ^ 64 }
     ensures extends { Extends nodes.old nodes.new }

@@ -79,7 +79,7 @@ looked_up-twice c (node l x) s h low = by_variable (variable_of l) refl
     by_variable : (o : Option (VariableKind × ℕ)) → variable_of l ≡ o → looked_up c (looked_up c (node l x)) ≡ looked_up c (node l x)
     by_variable None e = let first = looked_up-none c l x e in rw first first
     by_variable (Some v) e =
-        let has : kind_at c v.1 ≡ Some v.0 = rw e at h.0 in
+        let has : kind_at c v.1 ≡ Some v.0 = rw e at h.0.0 in
         let rank : rank_of (variable_of l) ≡ rank_of_kind v.0 = ap rank_of e in
         by_state v.0 v.1 (state_of c (root_of c v.1)) refl has (omega (arith, low, rank)) e
 
@@ -101,7 +101,7 @@ module _ (ts : List Tree) (t : Table) (u : Tree) (l : Label) (k : VariableKind) 
   root_is = IsRoot-content ts t.entries n r table.now.sound.descends class.root
 
   has : kind_at c n ≡ Some k
-  has = (let h : Knows c (node l (children u)) = subst (λ (y : Tree). Knows c y) is knows in let e = variable in rw e at h.0)
+  has = (let h : Knows c (node l (children u)) = subst (λ (y : Tree). Knows c y) is knows in let e = variable in rw e at h.0.0)
 
   there : kind_at c r ≡ Some k
   there = kind_at-reaches c n r table.now.sound (Reaches-leads ts t.entries n r class.root.leads) ∙ has

@@ -32,7 +32,7 @@ known_region_at c (Some (kind.Int, n)) l t x q h e = cc
 known_region_at c (Some (kind.Float, n)) l t x q h e = cc
 known_region_at c (Some (kind.Const, n)) l t x q h e = cc
 known_region_at c (Some (kind.Region, n)) l t x q h e =
-    let same : n ≡ x = cc in let k = rw q at h.0 in rw (← same) k
+    let same : n ≡ x = cc in let k = rw q at h.0.0 in rw (← same) k
 
 -- a region variable of a known tree is one of the table
 pub known_region : (c : Content) (t : Tree) (x : ℕ) → Knows c t → region_of t ≡ Some x → kind_at c x ≡ Some kind.Region

@@ -153,7 +153,7 @@ module _ (ts : List Tree) (t : Table) (k : VariableKind) (n r : ℕ) (s : State)
         let knows : Knows content (variable_tree j m) = subst (λ (y : Tree). Knows content y) v (sound.known_trees r (tree_at ts x) known_at) in
         let sort : Some (of_sort (sort_of_variable j)) ≡ Some (of_sort (sort_of_variable k)) = ap kind_of (sym v) ∙ (sound.fits r (tree_at ts x) k known_at root_kind).0 in
         record {
-          has = knows.0;
+          has = knows.0.0;
           is = v;
           no_region = λ e. no_region_sort k no_region (some_inj _ _ (sym sort ∙ ap (λ i. Some (of_sort (sort_of_variable i))) e));
           lower = subst (λ (y : Tree). variable_rank y < rank_of_kind k) v (sound.ranks r (tree_at ts x) k known_at root_kind);

@@ -7,8 +7,9 @@ pub record ChangesEntries (old new : Table) : Type 0 where
   pub saved : new.saved ≡ old.saved
   pub mode : new.mode ≡ old.mode
 
--- the variables and the constraints change at most: hidden types stay too
+-- the variables and the constraints change at most: the current universe and the hidden types stay too
 pub record ChangesVariables (old new : Table) : Type 0 where
   pub saved : new.saved ≡ old.saved
   pub mode : new.mode ≡ old.mode
+  pub universe : new.entries.universe ≡ old.entries.universe
   pub hidden : new.entries.hidden ≡ old.entries.hidden

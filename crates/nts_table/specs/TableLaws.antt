@@ -1,5 +1,5 @@
 -- What keeps a table with its store.
-use Rattle.std.proofs.Common.{◌≡◌, ℕ, List, [], ◌∷◌, ◌++◌, refl}
+use Rattle.std.proofs.Common.{◌≡◌, ℕ, ◌≤◌, List, [], ◌∷◌, ◌++◌, refl}
 use Rattle.nts_model.specs.Trees.{Tree}
 use Rattle.nts_store.specs.Growth.{Extends}
 use Rattle.nts_unify.specs.declared.contents.Constraint.{Constraint}
@@ -14,8 +14,8 @@ pub IsTable-extended : {a b : List Tree} {t : Table} → Extends a b → IsTable
 IsTable-extended {a} {b} {t} e h =
     record { now = IsLawful-extended e h.now; saved = AllLawful-extended a b t.saved e h.saved }
 
-pub IsTable-moved : {a : List Tree} {t w : Table} {u : ℕ} → IsTable a t → w.entries ≡ moved t.entries u → w.saved ≡ t.saved → IsTable a w
-IsTable-moved {a} {t} {w} {u} h q s = record { now = rw q (IsLawful-moved a t.entries u h.now); saved = rw s h.saved }
+pub IsTable-moved : {a : List Tree} {t w : Table} {u : ℕ} → IsTable a t → t.entries.universe ≤ u → w.entries ≡ moved t.entries u → w.saved ≡ t.saved → IsTable a w
+IsTable-moved {a} {t} {w} {u} h low q s = record { now = rw q (IsLawful-moved a t.entries u low h.now); saved = rw s h.saved }
 
 pub IsTable-same : {a b : List Tree} {t u : Table} → IsTable a t → Extends a b → u ≡ t → IsTable b u
 IsTable-same {a} {b} {t} {u} h e q = rw q (IsTable-extended e h)

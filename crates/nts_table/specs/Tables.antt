@@ -41,11 +41,12 @@ pub record IsPlainSide (p : Place) (ts : List Tree) (t : Table) (x : NodeId) : T
   pub plain : any_label is_alias (resolved (content_of ts t.entries) (tree_at ts x)) ≡ false
 
 -- what relating keeps, whatever it answers: the store grew at most, and the table is one of it, with the variables that it
--- had; its snapshots, mode and hidden types are as before
+-- had; its snapshots, mode, current universe and hidden types are as before
 pub record RelatingKeeps (old new : Cx) (t u : Table) : Type 0 where
   pub grows : Grows old new
   pub table : IsTable new.nodes u
   pub later : IsLater (content_of old.nodes t.entries) (content_of new.nodes u.entries)
   pub saved : u.saved ≡ t.saved
   pub mode : u.mode ≡ t.mode
+  pub universe : u.entries.universe ≡ t.entries.universe
   pub hidden : u.entries.hidden ≡ t.entries.hidden

@@ -1,5 +1,5 @@
 //! The table of inference variables and its snapshots.
-ghost use Rattle.std.specs.Prelude.{◌≡◌, ◌<◌, ◌+◌, ◌++◌, ◌∷◌, [], ℕ, List, length, slice_get, OnOk, OnErr, IfOk, Some};
+ghost use Rattle.std.specs.Prelude.{◌≡◌, ◌<◌, ◌+◌, ◌++◌, ◌∷◌, [], ℕ, List, length, slice_get, OnOk, OnErr, IfOk, IsOkUnless, Some};
 ghost use Rattle.std.specs.Result.{IfErr};
 ghost use Rattle.nts_model.specs.Trees.{Tree};
 ghost use Rattle.nts_table.specs.Tables.{Table, IsTable};
@@ -7,10 +7,10 @@ ghost use Rattle.nts_unify.specs.Entries.{Entries, constrained, front};
 ghost use Rattle.nts_unify.specs.Reading.{LinksDescend};
 ghost use Rattle.nts_unify.specs.Roots.{IsRoot, HasClass};
 
-use nts_store::NodeId;
+use nts_store::{Fault, NodeId};
 use nts_terms::{TypingMode, UniverseIndex};
 use nts_unify::{Constraint, HiddenType, InferCtxtInner, Snapshot, State, Variable};
-use std::alloc::{AllocError, Global};
+use std::alloc::Global;
 use std::marker::Model;
 
 /// The table of inference variables. A caller sees its entries, and the entries at the snapshots that
@@ -99,15 +99,17 @@ impl InferCtxt {
     }
 
     /// Opens a snapshot.
-    pub fn start_snapshot(&mut self) -> Result<Snapshot, AllocError>
+    pub fn start_snapshot(&mut self) -> Result<Snapshot, Fault>
         ensures entries { self.new.entries ≡ self.old.entries }
         ensures saved { OnOk result (self.new.saved ≡ self.old.saved ++ self.old.entries ∷ []) }
         ensures depth { IfOk result (λ s. s.depth ≡ length self.old.saved) }
         ensures mode { self.new.mode ≡ self.old.mode }
         ensures table { (ts : List Tree) → IsTable ts self.old → IsTable ts self.new }
         ensures err { OnErr result (self.new ≡ self.old) }
+        ensures memory { IsOkUnless result Fault.Memory }
     {
-        self.inner.start_snapshot()
+        let snapshot = self.inner.start_snapshot()?;
+        Ok(snapshot)
     }
 
     /// Closes the last snapshot and keeps what was done since. It takes no memory.

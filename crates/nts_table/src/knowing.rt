@@ -1,33 +1,35 @@
-//! Whether a term's variables are of a table.
+//! Whether a term's variables and universes are of a table.
 ghost use Rattle.std.specs.Prelude.{◌≡◌, ◌↔◌, IsTrue, true, false, IfOk, IsOkUnless};
 ghost use Rattle.nts_model.specs.Resolving.{Knows, variable_of};
+ghost use Rattle.nts_model.specs.Placeholders.{CanName, leaf_level};
 ghost use Rattle.nts_store.specs.Growth.{tree_at, IsIn};
 ghost use Rattle.nts_unify.specs.Reading.{content_of};
-ghost use Rattle.nts_relating.specs.Knowing.{HasNamed};
+ghost use Rattle.nts_relating.specs.Knowing.{HasNamed, IsNamed};
 
 use crate::infer_ctxt::InferCtxt;
 use nts_model::Label;
 use nts_store::{Fault, LabelTest, NodeId, Nodes, all_labels};
 use nts_terms::{Cx, Stored};
-use nts_unify::named_variable;
+use nts_unify::{named_variable, placeholder_universe};
 use std::alloc::{AllocError, Global};
 
-/// A label names no variable that the table lacks.
+/// A label names neither a variable nor a universe that the table lacks.
 #[derive(Drop)]
-struct NamesKnown<'a> {
+struct Named<'a> {
     table: &'a InferCtxt,
 }
 
-impl LabelTest for NamesKnown<'_> {
-    ghost passes = { λ s l. HasNamed s.table.now.entries (variable_of l) };
+impl LabelTest for Named<'_> {
+    ghost passes = { λ s l. IsNamed s.table.now.entries l };
 
     fn test(&self, label: Label) -> bool {
-        self.table.has_named(label)
+        self.table.has_variable(label) && self.table.has_universe(label)
     }
 }
 
 impl InferCtxt {
-    /// Whether all variables of a term are of this table, with their kinds.
+    /// Whether all variables of a term are of this table, with their kinds, and the current universe can
+    /// name all its placeholders.
     pub fn knows<T: Stored>(&self, cx: &Cx, x: T) -> Result<bool, Fault>
         requires { IsIn cx.now.nodes (T.id x) }
         ensures answer { IfOk result (λ b. IsTrue b ↔ Knows (content_of cx.now.nodes self.now.entries) (tree_at cx.now.nodes (T.id x))) }
@@ -42,22 +44,33 @@ impl InferCtxt {
         requires { IsIn nodes.now t }
         ensures { IfOk result (λ b. IsTrue b ↔ Knows (content_of nodes.now self.now.entries) (tree_at nodes.now t)) }
     {
-        // Most terms hold no variable, and are not walked.
+        // Most terms hold neither variables nor placeholders, and are not walked.
         let flags = nodes.flags(t);
-        if !flags.has_infer && !flags.has_region_infer {
+        if !flags.has_infer && !flags.has_region_infer && !flags.has_placeholder {
             return Ok(true);
         }
-        all_labels(alloc, nodes, t, &NamesKnown { table: self })
+        all_labels(alloc, nodes, t, &Named { table: self })
     }
 
     /// Whether the label names no variable that the table lacks.
-    fn has_named(&self, label: Label) -> bool
+    fn has_variable(&self, label: Label) -> bool
         ensures yes { result ≡ true → HasNamed self.now.entries (variable_of label) }
         ensures no { result ≡ false → HasNamed self.now.entries (variable_of label) → ⊥ }
     {
         match named_variable(label) {
             None => true,
             Some((kind, n)) => n < self.variable_count() && self.variable(n).kind == kind,
+        }
+    }
+
+    /// Whether the label is no placeholder of a universe above the current one.
+    fn has_universe(&self, label: Label) -> bool
+        ensures yes { result ≡ true → CanName self.now.entries.universe (leaf_level label) }
+        ensures no { result ≡ false → CanName self.now.entries.universe (leaf_level label) → ⊥ }
+    {
+        match placeholder_universe(label) {
+            None => true,
+            Some(universe) => universe <= self.universe(),
         }
     }
 }

@@ -1,5 +1,5 @@
 //! Making variables, and what is known of them.
-ghost use Rattle.std.specs.Prelude.{List, ◌≡◌, ◌≢◌, ◌<◌, ◌+◌, length, IfOk, OnOk, OnErr, Some, IfSome, IsOkUnless};
+ghost use Rattle.std.specs.Prelude.{List, ◌≡◌, ◌≢◌, ◌<◌, ◌≤◌, ◌+◌, length, IfOk, OnOk, OnErr, Some, IfSome, IsOkUnless};
 ghost use Rattle.nts_model.specs.declared.labels.VariableKind.TheVariants as kind;
 ghost use Rattle.nts_model.specs.Trees.{Tree};
 ghost use Rattle.nts_model.specs.Resolving.{variable_tree};
@@ -99,7 +99,7 @@ impl InferCtxt {
         Ok(Region { node })
     }
 
-    /// A new variable of that kind and universe. Where another variable is named, the two are of one
+    /// A new variable of that kind and universe, which is one of the table's. Where another variable is named, the two are of one
     /// sub-unification class.
     pub fn variable_in_universe(
         &mut self,
@@ -109,6 +109,7 @@ impl InferCtxt {
         sub_root_of: Option<usize>,
     ) -> Result<GenericArg, Fault>
         requires table { IsTable cx.old.nodes self.old }
+        requires named { universe ≤ self.old.entries.universe }
         requires within { IfSome sub_root_of (λ n. n < length self.old.entries.variables) }
         ensures tree { IfOk result (λ r. tree_at cx.new.nodes r.node ≡ variable_tree kind (length self.old.entries.variables)) }
         ensures holds { IfOk result (λ r. HoldsArg cx.new.nodes r) }
@@ -136,6 +137,7 @@ impl InferCtxt {
         sub_link: Option<usize>,
     ) -> Result<NodeId, Fault>
         requires table { IsTable cx.old.nodes self.old }
+        requires named { universe ≤ self.old.entries.universe }
         requires linked { IfSome sub_link (λ m. m < length self.old.entries.variables) }
         ensures within { IfOk result (λ r. IsIn cx.new.nodes r) }
         ensures tree { IfOk result (λ r. tree_at cx.new.nodes r ≡ variable_tree kind (length self.old.entries.variables)) }

@@ -401,6 +401,16 @@ impl Fixture {
         assert_eq!(rt; variable.universe, universe);
     }
 
+    /// Whether two variables are of one sub-unification class.
+    pub fn shares(&self, rt: &impl Abort, x: usize, y: usize) -> bool
+        requires { IsTable self.now.cx.nodes self.now.table }
+    {
+        assert!(rt; x < self.table.variable_count());
+        assert!(rt; y < self.table.variable_count());
+        let x_root = self.table.sub_unification_table_root_var(x);
+        x_root == self.table.sub_unification_table_root_var(y)
+    }
+
     /// Sees how many variables and constraints the table has.
     pub fn counts(&self, rt: &impl Abort, variables: usize, constraints: usize) {
         assert_eq!(rt; self.table.variable_count(), variables);

@@ -142,9 +142,30 @@ fn generalized_variable(rt: HostRuntime) {
 }
 
 #[test]
+fn sub_roots(rt: HostRuntime) {
+    let mut fixture = Fixture::new(&rt, rt.alloc());
+    let low = fixture.ty_var(&rt);
+    fixture.universe(&rt);
+    let high = fixture.ty_var(&rt);
+    let other = fixture.ty_var(&rt);
+    let value = fixture.wrap(&rt, high);
+    fixture.relates(&rt, low, value);
+    fixture.counts(&rt, 4, 0);
+    assert!(rt; fixture.shares(&rt, 1, 3));
+    assert!(rt; !fixture.shares(&rt, 0, 1));
+    assert!(rt; !fixture.shares(&rt, 1, 2));
+    fixture.relates(&rt, other, high);
+    assert!(rt; fixture.shares(&rt, 1, 2));
+    assert!(rt; fixture.shares(&rt, 2, 3));
+    assert!(rt; !fixture.shares(&rt, 0, 2));
+    assert_eq!(rt; fixture.table.universe(), 1);
+}
+
+#[test]
 fn generalized_region(rt: HostRuntime) {
     let mut fixture = Fixture::new(&rt, rt.alloc());
     let low = fixture.ty_var(&rt);
+    fixture.universe(&rt);
     let bound = BoundRegion { var: 0 };
     let placeholder = PlaceholderRegion { universe: 1, bound };
     let region = fixture.region(&rt, RegionKind::RePlaceholder(placeholder));
@@ -156,6 +177,7 @@ fn generalized_region(rt: HostRuntime) {
     let first = fixture.constraint(&rt, 0);
     assert!(rt; first.relation == Relation::Equal);
     assert!(rt; first.right == region.node);
+    assert!(rt; first.is_visible);
     let fresh = GenericArg { node: first.left };
     let named = fixture.reference(&rt, fresh, byte);
     fixture.has(&rt, 0, 0, State::Known(named.node));

@@ -4,7 +4,7 @@ use Rattle.std.specs.Prelude.{slice_get, slice_set}
 use Rattle.nts_model.specs.Trees.{Tree}
 use Rattle.nts_model.specs.declared.labels.VariableKind.TheVariants as kind
 use Rattle.nts_model.specs.Contents.{map_slot, changed, bound_to, universe_of}
-use Rattle.nts_model.specs.Levels.{CanName}
+use Rattle.nts_model.specs.Placeholders.{CanName}
 use Rattle.nts_model.proofs.Solving.{Lowers}
 use Rattle.nts_model.proofs.Sound.{IsSound-changed}
 use Rattle.nts_model.proofs.Binding.{IsLinkable, IsSound-region_link}
@@ -101,7 +101,7 @@ pub IsLawful-bound : (ts : List Tree) (e : Entries) (n : â„•) (v w : Variable) â
 IsLawful-bound ts e n v w h at k held l s p =
     let is = content_of-bound ts e n w in
     let kinds = KeepsKinds-slot ts e n v w at k in
-    let later : KeepsKinds (content_of ts e) (bound_to (content_of ts e) n (slot_of ts w)) = record { kinds = kinds.kinds } in
+    let later : KeepsKinds (content_of ts e) (bound_to (content_of ts e) n (slot_of ts w)) = record { grows = omega arith; kinds = kinds.kinds } in
     let d = LinksDescend-set e n v w at h.descends l in
     record {
       held = AreHeld-set ts e.variables n w h.held held;

@@ -1,15 +1,15 @@
 -- Two variables without values made one.
 use Rattle.nts_unify.proofs.Changes.{some_inj}
-use Rattle.std.proofs.Common.{◌≡◌, ◌≢◌, ⊎_elim, ℕ, ◌+◌, ◌<◌, ◌≤◌, min, max, List, Some, refl, sym, ap, ◌∙◌, arith}
+use Rattle.std.proofs.Common.{◌≡◌, ◌≢◌, ⊎_elim, ℕ, ◌+◌, ◌<◌, ◌≤◌, min, max, List, Some, refl, sym, ap, ◌∙◌, arith, length}
 use Rattle.std.specs.Prelude.{slice_get, slice_set}
 use Rattle.std.proofs.lemmas.Bool.{cases_lt}
 use Rattle.nts_model.specs.declared.labels.VariableKind.{VariableKind}
 use Rattle.nts_model.specs.declared.labels.VariableKind.TheVariants as kind
 use Rattle.nts_model.specs.Trees.{Tree}
-use Rattle.nts_model.specs.Contents.{Content, SlotState, unset, link, known, state_of, universe_of, kind_at, changed}
-use Rattle.nts_model.specs.Resolving.{resolved, variable_tree}
+use Rattle.nts_model.specs.Contents.{Content, SlotState, unset, link, known, state_of, universe_of, kind_at, changed, sub_link_of}
+use Rattle.nts_model.specs.Resolving.{resolved, variable_tree, Lacks}
 use Rattle.nts_model.proofs.Under.{replaced-lacks}
-use Rattle.nts_model.proofs.Slots.{some_slot, length-slice_set, slice_get-slice_set_other}
+use Rattle.nts_model.proofs.Slots.{some_slot, length-slice_set, slice_get-slice_set_other, field-changed_kept}
 use Rattle.nts_model.proofs.Sound.{SameStates, SameStates-changed, IsSound-same, resolved-same}
 use Rattle.nts_model.proofs.Binding.{IsLinkable, state_of-set_same, state_of-set_other, kind_at-set, resolved-link, IsSound-link, resolved-region_link, IsSound-region_link}
 use Rattle.nts_unify.specs.declared.contents.State.{State}
@@ -18,17 +18,20 @@ use Rattle.nts_unify.specs.declared.contents.Variable.{Variable}
 use Rattle.nts_unify.specs.Entries.{Entries, with_variable, bound}
 use Rattle.nts_unify.specs.Reading.{state_with, slot_of, content_of, IsLawful}
 use Rattle.nts_unify.specs.Roots.{SubLinked, SubRootsJoin}
-use Rattle.nts_unify.specs.Changing.{unset_count, unset_of, one_unset, IsLater, Keeps}
+use Rattle.nts_unify.specs.Changing.{unset_count, unset_of, one_unset, IsLater, Keeps, AddsVisible, nothing_more}
 use Rattle.nts_unify.specs.Unchanged.{HasUnset}
 use Rattle.nts_unify.specs.Joining.{CanJoin, CanJoinRegions, IsOneClass, IsJoined, Joins, RegionsJoin}
 use Rattle.nts_model.proofs.Solving.{Lowers}
-use Rattle.nts_model.specs.Levels.{CanName}
+use Rattle.nts_model.specs.Placeholders.{CanName}
 use Rattle.nts_store.specs.Growth.{tree_at}
 use Rattle.nts_unify.specs.Proper.{IsProper, IsProper-link, IsProper-region_link}
 use Rattle.nts_unify.proofs.Leading.{universe_of-entry}
 use Rattle.nts_unify.proofs.Merging.{Marked, Marked-refl, marked, ComesDown, comes_down, LeadsTo, leads_to, leads_to_region, one_class}
 use Rattle.nts_unify.proofs.Changes.{proper_lowered, proper_sub_linked, slot_at, content_of-with_variable, content_of-bound, AreHeld-at, LeadsDown, leads_down, IsLawful-set, IsLawful-bound}
 use Rattle.nts_unify.proofs.Keeping.{IsLater-trans, Keeps-trans, Keeps-same, unset-set, unset_of-infer}
+use Rattle.nts_unify.proofs.SubJoins.{sub_kept, sub_bound, links_sub_roots, joined_subs}
+use Rattle.nts_model.specs.SubUnifying.{JoinsSubRoots}
+use Rattle.nts_model.proofs.SubUnified.{JoinsSubRoots-same}
 
 -- a change of universes and sub-unification alone
 pub record Relabelled (ts : List Tree) (e f : Entries) : Type 0 where
@@ -37,11 +40,11 @@ pub record Relabelled (ts : List Tree) (e f : Entries) : Type 0 where
   pub unset_kept : unset_count (content_of ts f).slots ≡ unset_count (content_of ts e).slots
 
 SameStates-refl : (c : Content) → SameStates c c
-SameStates-refl c = record { states = λ n. refl; kinds = λ n. refl; order = refl; more = refl }
+SameStates-refl c = record { states = λ n. refl; kinds = λ n. refl; order = refl; grows = omega arith; more = refl }
 
 SameStates-trans : {c d e : Content} → SameStates c d → SameStates d e → SameStates c e
 SameStates-trans a b =
-    record { states = λ n. b.states n ∙ a.states n; kinds = λ n. b.kinds n ∙ a.kinds n; order = b.order ∙ a.order; more = b.more ∙ a.more }
+    record { states = λ n. b.states n ∙ a.states n; kinds = λ n. b.kinds n ∙ a.kinds n; order = b.order ∙ a.order; grows = omega (arith, a.grows, b.grows); more = b.more ∙ a.more }
 
 pub Relabelled-refl : (ts : List Tree) (e : Entries) → IsLawful ts e → Relabelled ts e e
 Relabelled-refl ts e h = record { lawful = h; same = SameStates-refl (content_of ts e); unset_kept = refl }
@@ -155,9 +158,19 @@ linkable ts e low high k v at fl fh l =
       one_kind = fl.kind ∙ ap Some (sym same);
     }
 
+-- one variable leads to another, whatever became of sub-unification
+record IsLinked (c d : Content) (low high : ℕ) : Type 0 where
+  more : length c.slots ≤ length d.slots
+  grows : c.universe ≤ d.universe
+  kinds : (n : ℕ) (k : VariableKind) → kind_at c n ≡ Some k → kind_at d n ≡ Some k
+  fewer : unset_count d.slots + 1 ≡ unset_count c.slots
+  linked : state_of d high ≡ Some (link low)
+  others : (n : ℕ) → (n ≡ high → ⊥) → state_of d n ≡ state_of c n
+  trees : (t : Tree) → Lacks high (resolved c t) → resolved d t ≡ resolved c t
+
 record Joined (ts : List Tree) (e f : Entries) (low high : ℕ) : Type 0 where
   lawful : IsLawful ts f
-  joined : IsJoined (content_of ts e) (content_of ts f) low high
+  joined : IsLinked (content_of ts e) (content_of ts f) low high
   leads : LeadsTo (content_of ts e) (content_of ts f) high low
 
 record RegionsJoined (ts : List Tree) (e f : Entries) (low high : ℕ) : Type 0 where
@@ -193,8 +206,21 @@ module _ (ts : List Tree) (e : Entries) (low high : ℕ) (k : VariableKind) (v :
       let none : unset_of v.kind (link low) ≡ 0 = unset_of-infer v.kind (link low) no_region in
       omega (arith, count, one, none)
 
-  later : IsLater before (changed before high (slot_of ts linked))
-  later = record { more = omega (arith, length-slice_set before.slots high (slot_of ts linked)); kinds = λ n j q. kind_at-set before high (slot_of ts linked) can.binds n ∙ q }
+  sub_links : (n : ℕ) → sub_link_of (changed before high (slot_of ts linked)) n ≡ sub_link_of before n
+  sub_links n = field-changed_kept (λ x. x.sub_link) before high n (slot_of ts v) (slot_of ts linked) (slot_at ts e high v at) refl
+
+  -- a link of a region joins no classes
+  region_subs : k ≡ kind.Region → JoinsSubRoots before (changed before high (slot_of ts linked))
+  region_subs region =
+      let w = slot_of ts linked in
+      let is_region : v.kind ≡ kind.Region = same_kind ∙ region in
+      JoinsSubRoots-same before (changed before high w)
+      (λ n m q. (let d : n ≡ high → ⊥ = λ i. (let z : Some unset ≡ Some (link m) = sym fh.state ∙ ap (state_of before) (sym i) ∙ q in cc) in state_of-set_other before high w can.binds n d ∙ q))
+      (λ n m j q i no. (let d : n ≡ high → ⊥ = λ z. no (let y : Some kind.Region ≡ Some j = ap Some (sym region) ∙ sym fh.kind ∙ ap (kind_at before) (sym z) ∙ sym (kind_at-set before high w can.binds n) ∙ i in cc) in sym (state_of-set_other before high w can.binds n d) ∙ q))
+      (λ n m q. sub_links n ∙ q) (λ n m q. sym (sub_links n) ∙ q)
+
+  later : k ≡ kind.Region → IsLater before (changed before high (slot_of ts linked))
+  later region = record { more = omega (arith, length-slice_set before.slots high (slot_of ts linked)); grows = omega arith; kinds = λ n j q. kind_at-set before high (slot_of ts linked) can.binds n ∙ q; subs = region_subs region; visible = nothing_more }
 
   link_infer : k ≢ kind.Region → Joined ts e (bound e high linked) low high
   unfolding can linkable
@@ -206,7 +232,9 @@ module _ (ts : List Tree) (e : Entries) (low high : ℕ) (k : VariableKind) (v :
       record {
         lawful = IsLawful-bound ts e high v linked h at refl tt goes_down sound (IsProper-link before high w low can refl names h.sound h.proper);
         joined = rw is (record {
-          later = record { more = later.more; kinds = later.kinds };
+          more = omega (arith, length-slice_set before.slots high w);
+          grows = omega arith;
+          kinds = λ n j q. kind_at-set before high w can.binds n ∙ q;
           fewer = fewer other;
           linked = state_of-set_same before high w can.binds;
           others = λ n d. state_of-set_other before high w can.binds n d;
@@ -226,13 +254,18 @@ module _ (ts : List Tree) (e : Entries) (low high : ℕ) (k : VariableKind) (v :
       record {
         lawful = IsLawful-set ts e high v linked h at refl tt goes_down sound (IsProper-region_link before high w low can refl names h.sound h.proper);
         keeps = rw is (record {
-          later = later;
+          later = later region;
           states = λ n l q. state_of-set_other before high w can.binds n (λ same. q (ap (kind_at before) same ∙ fh.kind ∙ ap Some region));
           trees = λ t q. resolved-region_link before high w low h.sound can is_region t;
           unset_kept = omega (arith, count, none (state_with ts v.state), none (link low));
         });
         leads = rw is (leads_to_region before high w low can refl is_region h.sound);
       }
+
+subs_constraints : {e m : Entries} {x y : ℕ} → SubRootsJoin e m x y → m.constraints ≡ e.constraints
+subs_constraints {e} {m} j = ⊎_elim
+    (λ (p : (j.first ≡ j.second) × (m ≡ e)). ap (λ z. z.constraints) p.1)
+    (λ (p : SubLinked e m j.first j.second). ap (λ z. z.constraints) p.entries) j.joined
 
 -- the classes joined
 pub joins : (ts : List Tree) (e m d f : Entries) (x y u low high : ℕ) (root linked : Variable) → CanJoin e x y → IsLawful ts e → low ≡ min x y → high ≡ max x y → SubRootsJoin e m x y → slice_get m.variables low ≡ Some root → slice_get m.variables high ≡ Some linked → u ≡ min root.universe linked.universe → d ≡ with_variable m low (record root { universe = u }) → f ≡ bound d high (record linked { state = Link low }) → Joins ts e f x y
@@ -255,8 +288,17 @@ joins ts e m d f x y u low high root linked can h is_low is_high subs at_low at_
     let low_universe = l1.universe in
     let names : CanName linked.universe (universe_of (content_of ts d) low) = rw low_universe (omega (arith, is_u)) in
     let j = link_infer ts d low high can.of_kind linked both.lawful at fl fh less names can.no_region in
+    let links : (n : ℕ) → sub_link_of (content_of ts f) n ≡ sub_link_of (content_of ts m) n =
+    λ n. ap (λ z. sub_link_of (content_of ts z) n) is_bound ∙ sub_bound ts d high linked (record linked { state = Link low }) at refl n ∙ ap (λ z. sub_link_of (content_of ts z) n) is_lowered ∙ sub_kept ts m low root (record root { universe = u }) at_low refl n in
+    let fh0 : FreeSlot (content_of ts e) high can.of_kind = rw is_high (at_max (λ n. FreeSlot (content_of ts e) n can.of_kind) x y fx fy) in
+    let to_low : state_of (content_of ts f) high ≡ Some (link low) = rw is_bound j.joined.linked in
+    let rest : (n : ℕ) → (n ≡ high → ⊥) → state_of (content_of ts f) n ≡ state_of (content_of ts e) n = rw is_bound (λ n q. j.joined.others n q ∙ both.same.states n) in
+    let has : kind_at (content_of ts f) high ≡ Some can.of_kind = rw is_bound (j.joined.kinds high can.of_kind fh.kind) in
+    let classes : JoinsSubRoots (content_of ts e) (content_of ts f) =
+    joined_subs (content_of ts e) (content_of ts m) (content_of ts f) x y low high can.of_kind (links_sub_roots ts e m x y subs) links is_low is_high fh0.state can.no_region to_low rest has in
+    let same_constraints : AddsVisible (content_of ts e).constraints (content_of ts (bound d high (record linked { state = Link low }))).constraints = rw (is_lowered, subs_constraints subs) nothing_more in
     let joined : IsJoined (content_of ts e) (content_of ts f) low high = rw is_bound (record {
-      later = IsLater-trans (Keeps-same both.same both.unset_kept).later j.joined.later;
+      later = record { more = omega (arith, j.joined.more, both.same.more); grows = omega (arith, j.joined.grows, both.same.grows); kinds = λ n i q. j.joined.kinds n i (both.same.kinds n ∙ q); subs = rw is_bound at classes; visible = same_constraints };
       fewer = j.joined.fewer ∙ both.unset_kept;
       linked = j.joined.linked;
       others = λ n q. j.joined.others n q ∙ both.same.states n;
@@ -288,5 +330,5 @@ regions_join ts e d f x y u low high root linked can h is_low is_high at_low at_
     let one : IsOneClass (content_of ts e) (content_of ts f) low high =
     one_class (content_of ts e) (content_of ts e) (content_of ts d) (content_of ts f) low high u root.universe linked.universe h.sound h.sound both.lawful.sound (Marked-refl (content_of ts e) h.sound) l1 k1 other (universe_of-entry ts e low root at_low) (universe_of-entry ts e high linked at_high) is_u in
     let lawful : IsLawful ts f = rw is_linked j.lawful in
-    let keeps : Keeps (content_of ts e) (content_of ts f) = rw is_linked (Keeps-trans (Keeps-same both.same both.unset_kept) j.keeps) in
+    let keeps : Keeps (content_of ts e) (content_of ts f) = rw is_linked (Keeps-trans (Keeps-same both.same (rw is_lowered (sub_kept ts e low root (record root { universe = u }) at_low refl)) (rw is_lowered nothing_more) both.unset_kept) j.keeps) in
     record { lawful = lawful; keeps = keeps; one = rw (is_low, is_high) at one }

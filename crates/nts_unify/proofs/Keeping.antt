@@ -1,23 +1,37 @@
 -- What changes of a table keep.
-use Rattle.std.proofs.Common.{◌≡◌, ◌≢◌, ℕ, zero, suc, ◌+◌, ◌<◌, List, [], ◌∷◌, ◌++◌, length, Some, refl, sym, ap, ◌∙◌, arith}
+use Rattle.std.proofs.Common.{◌≡◌, ◌≢◌, ℕ, zero, suc, ◌+◌, ◌<◌, List, [], ◌∷◌, ◌++◌, length, Some, refl, sym, ap, ◌∙◌, arith, true, None, length-append}
 use Rattle.std.specs.Prelude.{slice_get, slice_set}
 use Rattle.nts_model.specs.declared.labels.VariableKind.{VariableKind}
 use Rattle.nts_model.specs.declared.labels.VariableKind.TheVariants as kind
 use Rattle.nts_model.specs.Trees.{Tree}
-use Rattle.nts_model.specs.Contents.{Content, Slot, SlotState, Recorded, kind_at, with_constraint}
+use Rattle.nts_model.specs.Contents.{Content, Slot, SlotState, Recorded, kind_at, with_constraint, sub_link_of, unset, with_slot}
 use Rattle.nts_model.specs.Resolving.{Knows}
-use Rattle.nts_model.proofs.Slots.{Knows-kept}
+use Rattle.nts_model.proofs.Slots.{Knows-kept, KeepsKinds-with_slot}
 use Rattle.nts_model.proofs.Sound.{SameStates, resolved-same, SameStates-with_constraint}
-use Rattle.nts_unify.specs.Changing.{one_unset, unset_of, unset_count, IsLater, Keeps}
+use Rattle.nts_unify.specs.Changing.{one_unset, unset_of, unset_count, IsLater, Keeps, AddsVisible, nothing_more, one_more}
+use Rattle.nts_unify.specs.Entries.{Inner, KeepsHidden}
+use Rattle.nts_model.proofs.SubUnified.{JoinsSubRoots-refl, JoinsSubRoots-trans, JoinsSubRoots-same, JoinsSubRoots-added}
+use Rattle.nts_model.specs.SubUnifying.{JoinsSubRoots}
 
 pub IsLater-refl : (c : Content) → IsLater c c
-IsLater-refl c = record { more = omega arith; kinds = λ n k h. h }
+IsLater-refl c = record { more = omega arith; grows = omega arith; kinds = λ n k h. h; subs = JoinsSubRoots-refl c; visible = nothing_more }
+
+AddsVisible-trans : {xs ys zs : List Recorded} → AddsVisible xs ys → AddsVisible ys zs → AddsVisible xs zs
+AddsVisible-trans a nothing_more = a
+AddsVisible-trans a (one_more x b v) = one_more x (AddsVisible-trans a b) v
 
 pub IsLater-trans : {c d e : Content} → IsLater c d → IsLater d e → IsLater c e
-IsLater-trans a b = record { more = omega (arith, a.more, b.more); kinds = λ n k h. b.kinds n k (a.kinds n k h) }
+IsLater-trans {c} {d} {e} a b =
+    record { more = omega (arith, a.more, b.more); grows = omega (arith, a.grows, b.grows); kinds = λ n k h. b.kinds n k (a.kinds n k h); subs = JoinsSubRoots-trans c d e b.kinds a.subs b.subs; visible = AddsVisible-trans a.visible b.visible }
 
 pub Knows-later : {c d : Content} (t : Tree) → IsLater c d → Knows c t → Knows d t
-Knows-later {c} {d} t l h = Knows-kept c d t (record { kinds = l.kinds }) h
+Knows-later {c} {d} t l h = Knows-kept c d t (record { grows = l.grows; kinds = l.kinds }) h
+
+-- one more variable, of which nothing is known
+pub IsLater-with_slot : (c : Content) (v : Slot) → v.state ≡ unset → v.sub_link ≡ None → IsLater c (with_slot c v)
+IsLater-with_slot c v free alone =
+    let kept = KeepsKinds-with_slot c v in
+    record { more = omega (arith, length-append c.slots (v ∷ [])); grows = kept.grows; kinds = kept.kinds; subs = JoinsSubRoots-added c v free alone; visible = nothing_more }
 
 pub Keeps-refl : (c : Content) → Keeps c c
 Keeps-refl c = record { later = IsLater-refl c; states = λ n h k. refl; trees = λ t h. refl; unset_kept = refl }
@@ -67,15 +81,25 @@ unset_of-infer kind.Float s h = refl
 unset_of-infer kind.Const s h = refl
 unset_of-infer kind.Region s h = absurd (h refl)
 
--- where states and kinds stay
-pub Keeps-same : {c d : Content} → SameStates c d → unset_count d.slots ≡ unset_count c.slots → Keeps c d
-Keeps-same {c} {d} s u =
+-- where states, kinds and sub-unification stay
+pub same_subs : {c d : Content} → SameStates c d → ((n : ℕ) → sub_link_of d n ≡ sub_link_of c n) → JoinsSubRoots c d
+same_subs {c} {d} s l =
+    JoinsSubRoots-same c d (λ n m h. s.states n ∙ h) (λ n m k h i j. sym (s.states n) ∙ h) (λ n m h. l n ∙ h) (λ n m h. sym (l n) ∙ h)
+
+pub Keeps-same : {c d : Content} → SameStates c d → ((n : ℕ) → sub_link_of d n ≡ sub_link_of c n) → AddsVisible c.constraints d.constraints → unset_count d.slots ≡ unset_count c.slots → Keeps c d
+Keeps-same {c} {d} s l v u =
     record {
-      later = record { more = omega (arith, s.more); kinds = λ n k h. s.kinds n ∙ h };
+      later = record { more = omega (arith, s.more); grows = s.grows; kinds = λ n k h. s.kinds n ∙ h; subs = same_subs s l; visible = v };
       states = λ n h k. s.states n;
       trees = λ t h. resolved-same c d t s;
       unset_kept = u;
     }
 
-pub Keeps-with_constraint : (c : Content) (x : Recorded) → Keeps c (with_constraint c x)
-Keeps-with_constraint c x = Keeps-same (SameStates-with_constraint c x) refl
+pub Keeps-with_constraint : (c : Content) (x : Recorded) → x.is_visible ≡ true → Keeps c (with_constraint c x)
+Keeps-with_constraint c x v = Keeps-same (SameStates-with_constraint c x) (λ n. refl) (one_more x nothing_more v) refl
+
+pub KeepsHidden-refl : (a : Inner) → KeepsHidden a a
+KeepsHidden-refl a = record { saved = refl; universe = refl; hidden = refl }
+
+pub KeepsHidden-trans : {a b c : Inner} → KeepsHidden a b → KeepsHidden b c → KeepsHidden a c
+KeepsHidden-trans p q = record { saved = q.saved ∙ p.saved; universe = q.universe ∙ p.universe; hidden = q.hidden ∙ p.hidden }

@@ -6,3 +6,4 @@ pub mod Leading
 pub mod Merging
 pub mod SavedLemmas
 pub mod Tests
+pub mod SubJoins

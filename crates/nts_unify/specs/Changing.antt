@@ -1,13 +1,14 @@
 -- What a change of a table keeps.
-use Rattle.std.specs.Prelude.{◌≡◌, ◌≢◌, ℕ, ◌+◌, ◌≤◌, ◌<◌, List, [], ◌∷◌, length, Option, Some, None, Bool, true, false}
+use Rattle.std.specs.Prelude.{◌≡◌, ◌≢◌, ℕ, ◌+◌, ◌≤◌, ◌<◌, List, [], ◌∷◌, length, Option, Some, None, Bool, true, false, ◌++◌}
 use Rattle.nts_model.specs.declared.labels.VariableKind.{VariableKind}
 use Rattle.nts_model.specs.declared.labels.VariableKind.TheVariants as kind
 use Rattle.nts_model.specs.declared.labels.Leaf.TheVariants as leaf
 use Rattle.nts_model.specs.declared.labels.Label.{Label}
 use Rattle.nts_model.specs.declared.labels.Label.TheVariants as label
 use Rattle.nts_model.specs.Trees.{Tree}
-use Rattle.nts_model.specs.Contents.{Content, Slot, SlotState, unset, state_of, kind_at}
+use Rattle.nts_model.specs.Contents.{Content, Slot, SlotState, unset, state_of, kind_at, Recorded}
 use Rattle.nts_model.specs.Resolving.{Knows, resolved, variable_of}
+use Rattle.nts_model.specs.SubUnifying.{JoinsSubRoots}
 
 -- the variable of a region
 abbrev pub region_number : VariableKind → ℕ → Option ℕ
@@ -44,10 +45,19 @@ abbrev pub unset_count : List Slot → ℕ
 unset_count [] = 0
 unset_count (v ∷ vs) = unset_of v.kind v.state + unset_count vs
 
--- the table has its variables, and may have more
+-- the constraints that were, in order, and then some that the leak check sees
+pub data AddsVisible (xs : List Recorded) : List Recorded → Type 0 where
+  nothing_more : AddsVisible xs xs
+  one_more : {ys : List Recorded} (x : Recorded) → AddsVisible xs ys → x.is_visible ≡ true → AddsVisible xs (ys ++ x ∷ [])
+
+-- the table has its variables and its universes, and may have more; its classes of sub-unification are those that it had,
+-- but for variables that became one; what was recorded since is visible for the leak check
 pub record IsLater (c d : Content) : Type 0 where
   pub more : length c.slots ≤ length d.slots
+  pub grows : c.universe ≤ d.universe
   pub kinds : (n : ℕ) (k : VariableKind) → kind_at c n ≡ Some k → kind_at d n ≡ Some k
+  pub subs : JoinsSubRoots c d
+  pub visible : AddsVisible c.constraints d.constraints
 
 -- what the table knew of trees, it knows no more and no less of
 pub record Keeps (c d : Content) : Type 0 where

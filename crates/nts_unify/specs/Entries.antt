@@ -21,9 +21,10 @@ pub record Inner : Type 0 where
   pub entries : Entries
   pub saved : List Entries
 
--- the snapshots and the hidden types stay
+-- the snapshots, the current universe and the hidden types stay
 pub record KeepsHidden (old new : Inner) : Type 0 where
   pub saved : new.saved ≡ old.saved
+  pub universe : new.entries.universe ≡ old.entries.universe
   pub hidden : new.entries.hidden ≡ old.entries.hidden
 
 -- the list without its last element

@@ -1,5 +1,5 @@
 -- Entries that go with a store: what keeps them lawful.
-use Rattle.std.proofs.Common.{◌≡◌, ◌⊎◌, inl, inr, ⊎_elim, ℕ, ◌<◌, zero, suc, List, [], ◌∷◌, ◌++◌, length, map, Some, refl, sym, ap, ◌∙◌, arith}
+use Rattle.std.proofs.Common.{◌≡◌, ◌⊎◌, inl, inr, ⊎_elim, ℕ, ◌<◌, zero, suc, List, [], ◌∷◌, ◌++◌, length, map, Some, refl, sym, ap, ◌∙◌, arith, ◌≤◌}
 use Rattle.std.specs.Prelude.{slice_get, slice_set}
 use Rattle.std.proofs.lemmas.List.{map-append}
 use Rattle.nts_model.specs.Trees.{Tree}
@@ -138,9 +138,11 @@ AreHeld-push : (ts : List Tree) (vs : List Variable) (v : Variable) → AreHeld 
 AreHeld-push ts [] v h k = (k, tt)
 AreHeld-push ts (w ∷ vs) v h k = (h.0, AreHeld-push ts vs v h.1 k)
 
--- a variable for the table of which nothing is known yet; it may be of the sub-unification class of one that the table has
+-- a variable for the table of which nothing is known yet, of a universe of the table; it may be of the sub-unification
+-- class of one that the table has
 pub record IsNew (c : Entries) (v : Variable) : Type 0 where
   pub state : v.state ≡ Unset
+  pub universe : v.universe ≤ c.universe
   pub sub_link : (m : ℕ) → v.sub_link ≡ Some m → m < length c.variables
 
 pub content_of-added : (ts : List Tree) (c : Entries) (v : Variable) → content_of ts (added c v) ≡ with_slot (content_of ts c) (slot_of ts v)
@@ -177,18 +179,18 @@ IsLawful-added ts c v h w =
       hidden = rw same (AreHiddenTypes-kept ts (content_of ts c) (with_slot (content_of ts c) slot) c.hidden (KeepsKinds-with_slot (content_of ts c) slot) h.hidden);
       descends = LinksDescend-added c v h.descends w;
       sound = rw same (IsSound-with_slot (content_of ts c) slot h.sound free);
-      proper = rw same (IsProper-with_slot (content_of ts c) slot free h.sound h.proper);
+      proper = rw same (IsProper-with_slot (content_of ts c) slot free w.universe h.sound h.proper);
     }
 
-pub IsLawful-moved : (ts : List Tree) (c : Entries) (u : ℕ) → IsLawful ts c → IsLawful ts (moved c u)
-IsLawful-moved ts c u h =
+pub IsLawful-moved : (ts : List Tree) (c : Entries) (u : ℕ) → c.universe ≤ u → IsLawful ts c → IsLawful ts (moved c u)
+IsLawful-moved ts c u low h =
     record {
       held = h.held;
-      constraints = AreConstraints-kept ts (content_of ts c) (in_universe (content_of ts c) u) c.constraints (record { kinds = λ n k q. q }) h.constraints;
-      hidden = AreHiddenTypes-kept ts (content_of ts c) (in_universe (content_of ts c) u) c.hidden (record { kinds = λ n k q. q }) h.hidden;
+      constraints = AreConstraints-kept ts (content_of ts c) (in_universe (content_of ts c) u) c.constraints (record { grows = low; kinds = λ n k q. q }) h.constraints;
+      hidden = AreHiddenTypes-kept ts (content_of ts c) (in_universe (content_of ts c) u) c.hidden (record { grows = low; kinds = λ n k q. q }) h.hidden;
       descends = record { links = h.descends.links; sub_links = h.descends.sub_links };
-      sound = IsSound-in_universe (content_of ts c) u h.sound;
-      proper = IsProper-in_universe (content_of ts c) u h.sound h.proper;
+      sound = IsSound-in_universe (content_of ts c) u low h.sound;
+      proper = IsProper-in_universe (content_of ts c) u low h.sound h.proper;
     }
 
 pub AllLawful-append : (ts : List Tree) (cs : List Entries) (c : Entries) → AllLawful ts cs → IsLawful ts c → AllLawful ts (cs ++ c ∷ [])
@@ -208,7 +210,7 @@ pub IsLawful-constrained : (ts : List Tree) (c : Entries) (x : Constraint) → I
 IsLawful-constrained ts c x h k =
     let same = content_of-constrained ts c x in
     let next = with_constraint (content_of ts c) (recorded_of ts x) in
-    let kinds : KeepsKinds (content_of ts c) next = record { kinds = λ n j q. q } in
+    let kinds : KeepsKinds (content_of ts c) next = record { grows = omega arith; kinds = λ n j q. q } in
     record {
       held = h.held;
       constraints = rw same (AreConstraints-kept ts (content_of ts c) next (c.constraints ++ x ∷ []) kinds (AreConstraints-push ts (content_of ts c) c.constraints x h.constraints k));

@@ -1,5 +1,5 @@
 //! New variables.
-ghost use Rattle.std.specs.Prelude.{◌≡◌, ◌<◌, length, OnOk, OnErr, IfOk, IfSome};
+ghost use Rattle.std.specs.Prelude.{◌≡◌, ◌<◌, ◌≤◌, length, OnOk, OnErr, IfOk, IfSome};
 ghost use Rattle.nts_model.specs.Resolving.{variable_tree};
 ghost use Rattle.nts_store.specs.Growth.{tree_at, IsIn, Extends};
 ghost use Rattle.nts_unify.specs.Entries.{added, KeepsHidden};
@@ -12,7 +12,7 @@ use nts_store::{NodeId, Nodes};
 use nts_terms::UniverseIndex;
 use std::alloc::AllocError;
 
-/// Adds a variable of which nothing is known, and answers the leaf that names it. The leaf is made
+/// Adds a variable of which nothing is known, of a universe of the table, and answers the leaf that names it. The leaf is made
 /// first, so that after an error the table is as before.
 pub fn add_variable(
     nodes: &mut Nodes,
@@ -21,6 +21,7 @@ pub fn add_variable(
     universe: UniverseIndex,
     sub_link: Option<usize>,
 ) -> Result<NodeId, AllocError>
+    requires named { universe ≤ table.old.entries.universe }
     requires linked { IfSome sub_link (λ m. m < length table.old.entries.variables) }
     ensures extends { Extends nodes.old nodes.new }
     ensures within { IfOk result (λ r. IsIn nodes.new r) }

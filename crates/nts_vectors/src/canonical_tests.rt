@@ -132,6 +132,7 @@ fn variables_of_two_tables(rt: HostRuntime) {
 #[test]
 fn placeholders(rt: HostRuntime) {
     let mut fixture = Fixture::new(&rt, rt.alloc());
+    fixture.make_universes(&rt, 1);
     let id = fixture.declare(&rt, &[Sort::Ty, Sort::Ty]);
     let a = fixture.placeholder(&rt, 3);
     let b = fixture.placeholder(&rt, 5);
@@ -214,6 +215,7 @@ fn hidden_types_are_part_of_an_input(rt: HostRuntime) {
 #[test]
 fn a_table_that_is_made_has_the_input_again(rt: HostRuntime) {
     let mut fixture = Fixture::new(&rt, rt.alloc());
+    fixture.make_universes(&rt, 1);
     let id = fixture.declare(&rt, &[Sort::Ty, Sort::Ty, Sort::Ty, Sort::Ty]);
     let a = fixture.ty_var(&rt);
     let b = fixture.ty_var(&rt);
@@ -254,6 +256,7 @@ fn leads_to(rt: &impl Abort, fixture: &Fixture, n: usize, root: usize) {
 #[test]
 fn values_of_kinds(rt: HostRuntime) {
     let mut fixture = Fixture::new(&rt, rt.alloc());
+    fixture.make_universes(&rt, 7);
     let ty = CanonicalVarKind::Ty { ui: 4, sub_root: 0 };
     let first = fixture.value(&rt, ty, &[]);
     is_last(&rt, &fixture, VariableKind::Ty, 5);
@@ -275,6 +278,7 @@ fn values_of_kinds(rt: HostRuntime) {
 #[test]
 fn placeholders_are_moved_into_universes(rt: HostRuntime) {
     let mut fixture = Fixture::new(&rt, rt.alloc());
+    fixture.make_universes(&rt, 7);
     let bound = BoundTy { var: 3 };
     let kind = CanonicalVarKind::PlaceholderTy(PlaceholderType { universe: 0, bound });
     let value = fixture.value(&rt, kind, &[]);

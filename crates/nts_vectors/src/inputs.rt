@@ -373,7 +373,18 @@ impl Fixture {
         (values, originals, same)
     }
 
-    /// The value of a kind, where the universes are moved up by one and the positions have these values.
+    /// That many universes more.
+    pub fn make_universes(&mut self, rt: &impl Abort, count: u32)
+        requires { IsTable self.old.cx.nodes self.old.table }
+        ensures { IsTable self.new.cx.nodes self.new.table }
+    {
+        for _ in 0..count {
+            self.table.create_next_universe().expect(rt, "memory");
+        }
+    }
+
+    /// The value of a kind, where the universes are moved up by one, but not above the current one, and
+    /// the positions have these values.
     pub fn value(
         &mut self,
         rt: &impl Abort,
@@ -387,8 +398,9 @@ impl Fixture {
             assert!(rt; self.cx.holds(*value));
             assert!(rt; self.table.knows(&self.cx, *value).expect(rt, "memory"));
         }
+        let current = self.table.universe();
         instantiate_canonical_var(&mut self.table, &mut self.cx, kind, Span(0), values, |u| {
-            u.saturating_add(1)
+            u.saturating_add(1).min(current)
         })
         .expect(rt, "memory")
     }

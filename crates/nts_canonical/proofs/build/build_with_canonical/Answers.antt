@@ -8,7 +8,7 @@ use Rattle.nts_canonical.specs.Building.{kinds_of, values_of}
 use Rattle.nts_canonical.specs.Replaced.{AreLeafArgs}
 use Rattle.nts_canonical.proofs.PairLists.{AreLeafArgs-kept, AreLeafArgs-hold}
 use Rattle.nts_canonical.proofs.Kinded.{have_kinds}
-use Rattle.nts_canonical.proofs.Valued.{args-known}
+use Rattle.nts_canonical.proofs.Valued.{args-known, root_kinds}
 use Rattle.nts_canonical.proofs.Registered.{hidden-of-row}
 use Rattle.nts_canonical.proofs.Built.{holds-kept, query_tree-kept, value-trees, values-fit, query-made, query-known}
 use Rattle.nts_canonical.proofs.build.build_with_canonical.Goals as goal
@@ -47,7 +47,7 @@ register_hidden-requires-clause-hidden c =
     let are = value-trees b b c.in_ok-values.values.items c.as_slice.result.now ks given (Extends-refl b) c.as_slice.ensures.value in
     let made = query-made a b q (trees_of b c.as_slice.result.now) (values_of c.args.input.now) (query_tree d c.in_ok-query.query) c.requires.holds c.make_values.ensures.grows.extends are c.in_ok-query.ensures.tree in
     let variables : f.variables ≡ made_variables [] ks = ap (λ e. e.variables) c.in_ok-values.ensures.entries ∙ ap (λ us. made_variables [] (map kind_of_var us)) c.deref.ensures.value in
-    let known = query-known d f ks (query_tree d c.in_ok-query.query) (query_tree a q) variables c.requires.no_variable made in
+    let known = query-known d f ks (query_tree d c.in_ok-query.query) (query_tree a q) variables (root_kinds ks c.requires.kinds) c.requires.no_name made in
     rw c.deref-2.ensures.value (hidden-of-row d (content_of d f) c.in_ok-query.query.predefined_opaques_in_body.items c.in_ok-query.ensures.holds.hidden known.1.1.0)
 
 pub returns-clause-values : goal.returns-clause-values
@@ -82,7 +82,7 @@ returns-clause-args c =
     let xs = c.in_ok-values.values.items in
     let given : AreLeafArgs b xs (value_leaves 0 ks) = rw c.deref.ensures.value at c.in_ok-values.ensures.values in
     let variables : t.entries.variables ≡ made_variables [] ks = ap (λ e. e.variables) (c.in_ok-register_hidden.ensures.entries ∙ (λ i. record (c.in_ok-values.ensures.entries i) { hidden = t.entries.hidden })) ∙ ap (λ us. made_variables [] (map kind_of_var us)) c.deref.ensures.value in
-    args-known e t.entries xs ks (AreLeafArgs-kept b e xs (value_leaves 0 ks) given (Extends-trans c.instantiate_canonical.ensures.grows.extends c.register_hidden.ensures.grows.extends)) variables
+    args-known e t.entries xs ks (AreLeafArgs-kept b e xs (value_leaves 0 ks) given (Extends-trans c.instantiate_canonical.ensures.grows.extends c.register_hidden.ensures.grows.extends)) variables (root_kinds ks c.requires.kinds)
 
 pub returns-clause-holds : goal.returns-clause-holds
 returns-clause-holds c =
@@ -93,4 +93,4 @@ returns-clause-knows c =
     let t = c.register_hidden.new.table in
     let ks = kinds_of c.args.input.now in
     let variables : t.entries.variables ≡ made_variables [] ks = ap (λ e. e.variables) (c.in_ok-register_hidden.ensures.entries ∙ (λ i. record (c.in_ok-values.ensures.entries i) { hidden = t.entries.hidden })) ∙ ap (λ us. made_variables [] (map kind_of_var us)) c.deref.ensures.value in
-    query-known c.register_hidden.new.cx.nodes t.entries ks _ (query_tree c.args.cx.now.nodes c.args.input.now.canonical.value) variables c.requires.no_variable (returns-clause-query c)
+    query-known c.register_hidden.new.cx.nodes t.entries ks _ (query_tree c.args.cx.now.nodes c.args.input.now.canonical.value) variables (root_kinds ks c.requires.kinds) c.requires.no_name (returns-clause-query c)

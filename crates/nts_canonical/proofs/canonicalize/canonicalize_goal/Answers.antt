@@ -5,7 +5,7 @@ use Rattle.nts_canonical.specs.SubRoots.{sub_root_in}
 use Rattle.nts_canonical.specs.Forms.{input_of}
 use Rattle.nts_canonical.proofs.PairLists.{are_hidden-kept, AreLeafArgs-kept, trees_of-leaves, AreLeafArgs-hold}
 use Rattle.nts_canonical.proofs.Canonizing.{owned-originals, distinct-originals, form_is}
-use Rattle.nts_canonical.proofs.Handed.{handed_in, form-kinds, form-positions, form-no_variable}
+use Rattle.nts_canonical.proofs.Handed.{handed_in, form-kinds, form-positions, form-no_name}
 use Rattle.nts_canonical.proofs.Having.{originals_are_values, values_of}
 use Rattle.nts_canonical.proofs.canonicalize.canonicalize_goal.Goals as goal
 
@@ -44,5 +44,5 @@ returns-clause-askable c =
     let is = returns-clause-canonical c in
     record {
       positions = values_of (originals_are_values i h) is.form is.originals;
-      input = handed_in is.holds refl is.form (form-kinds i) (form-positions i h) (form-no_variable i);
+      input = handed_in is.holds refl is.form (form-kinds i) (form-positions i h) (form-no_name i);
     })

@@ -3,7 +3,7 @@ use Rattle.std.proofs.lemmas.List.{take_all}
 use Rattle.nts_evaluation.proofs.Running.{Equates-step}
 use Rattle.nts_delegate.specs.declared.delegate.Equation.{Equation}
 use Rattle.nts_delegate.specs.Candidates.{IsEquation}
-use Rattle.nts_evaluation.proofs.Evaluating.{Runs-trans, AreValues-later, IsEquation-extended, equation_at}
+use Rattle.nts_evaluation.proofs.Evaluating.{Runs-trans, AreValues-later, IsEquation-extended, equation_at, IsPosed-later}
 use Rattle.nts_evaluation.proofs.candidate.equate.Goals as goal
 
 pub loop-equation-init : goal.loop-equation-init
@@ -41,3 +41,6 @@ loop-equation-preserved c =
       equal = Equates-step _ c.args.cx.now.nodes c.in_ok-values.values.items c.args.candidate.now.equations.items c.loop-equation.equation-index c.deref-in-loop-equation-2.ensures.value c.deref-equation-items.ensures.value (inside c) e.runs.goes i.values.within i.equal i.runs.goes.extends (λ d. ((over c d).lhs.within, (over c d).rhs.within)) e.equal;
       values = AreValues-later e.runs.goes i.values;
     }
+
+pub equate_one-requires-clause-posed : goal.equate_one-requires-clause-posed
+equate_one-requires-clause-posed c = IsPosed-later c.loop-equation.invariant.runs.goes c.requires.posed

@@ -3,7 +3,7 @@ use Rattle.std.proofs.lemmas.List.{take_all}
 use Rattle.nts_evaluation.proofs.Running.{Constrains-step}
 use Rattle.nts_delegate.specs.Candidates.{IsRegionConstraint}
 use Rattle.nts_delegate.specs.declared.delegate.RegionConstraint.{RegionConstraint}
-use Rattle.nts_evaluation.proofs.Evaluating.{Runs-refl, Runs-trans, AreValues-later, IsRegionConstraint-extended, constraint_at}
+use Rattle.nts_evaluation.proofs.Evaluating.{Runs-refl, Runs-trans, AreValues-later, IsRegionConstraint-extended, constraint_at, IsPosed-later}
 use Rattle.nts_evaluation.proofs.candidate.record_constraints.Goals as goal
 
 pub record_one-requires-clause-constraint : goal.record_one-requires-clause-constraint
@@ -35,3 +35,6 @@ loop-constraint-preserved c =
 pub returns-clause-held : goal.returns-clause-held
 returns-clause-held c =
     rw (take_all c.loop-constraint.constraint-index c.args.constraints.now (omega (arith, c.loop-constraint-test.false))) at c.loop-constraint.invariant.held
+
+pub record_one-requires-clause-posed : goal.record_one-requires-clause-posed
+record_one-requires-clause-posed c = IsPosed-later c.loop-constraint.invariant.runs.goes c.requires.posed

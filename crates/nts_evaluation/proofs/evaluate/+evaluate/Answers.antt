@@ -14,6 +14,7 @@ use Rattle.nts_evaluation.proofs.Running.{unread, premise_stays, HasRun, has_run
 use Rattle.nts_delegate.proofs.Results.{IfOk-map}
 use Rattle.nts_evaluation.proofs.Evaluating.{Goes-trans, Goes-extends, goes-back, Runs-trans, Runs-extends, Runs-refl, runs-back, Since-later, offers-kept, IsPosed-opened, IsPosed-later, AreValues-later, IsCandidate-extended, IsNested-extended, can_fill, candidate_at, nested_at, committed, rolled_back}
 use Rattle.nts_evaluation.proofs.evaluate.+evaluate.Goals as goal
+use Rattle.nts_unify.proofs.Keeping.{Knows-later}
 
 pub compute_goal-returns-in_err-candidates-clause-runs : goal.compute_goal-returns-in_err-candidates-clause-runs
 compute_goal-returns-in_err-candidates-clause-runs g t c = Runs-extends c.requires.posed.table c.candidates.ensures.grows.extends c.candidates.ensures.grows.rest
@@ -127,6 +128,9 @@ evaluate_nested-returns-in_ok-asked-in-Some-clause-proved g t c = λ s.
 pub run_candidate-returns-in_err-record_constraints-clause-runs : goal.run_candidate-returns-in_err-record_constraints-clause-runs
 run_candidate-returns-in_err-record_constraints-clause-runs g t c = Runs-trans c.in_ok-values.ensures.runs c.record_constraints.ensures.runs
 
+pub run_candidate-record_constraints-requires-clause-posed : goal.run_candidate-record_constraints-requires-clause-posed
+run_candidate-record_constraints-requires-clause-posed g t c = IsPosed-later c.in_ok-values.ensures.runs.goes c.requires.posed
+
 pub run_candidate-returns-in_err-answer-clause-runs : goal.run_candidate-returns-in_err-answer-clause-runs
 run_candidate-returns-in_err-answer-clause-runs g t c = Runs-trans c.loop-nested.invariant.runs c.evaluate_nested.ensures.runs
 
@@ -203,4 +207,4 @@ run_candidate-returns-clause-proved g t c = λ s offered y.
     } in
     let law = g.met.H.GoalHandler.lawful s.base c.args.handler.now s.formed s.is_ready in
     rw (i.runs.goes.extends.kept c.args.goal.param_env.node c.requires.posed.holds.env.within, i.runs.goes.extends.kept c.args.goal.predicate.node c.requires.posed.holds.predicate.within)
-    (has_run handler s.variances mode here seen vs (tree_at c.args.cx.now.nodes c.args.goal.param_env.node) (tree_at c.args.cx.now.nodes c.args.goal.predicate.node) law c.requires.asked.asked (i.runs.goes.known _ c.requires.posed.knows.env) (i.runs.goes.known _ c.requires.posed.knows.predicate) offered run)
+    (has_run handler s.variances mode here seen vs (tree_at c.args.cx.now.nodes c.args.goal.param_env.node) (tree_at c.args.cx.now.nodes c.args.goal.predicate.node) law c.requires.asked.asked (Knows-later _ i.runs.goes.later c.requires.posed.knows.env) (Knows-later _ i.runs.goes.later c.requires.posed.knows.predicate) offered run)

@@ -1,6 +1,6 @@
 use Rattle.std.proofs.Common.{◌∙◌}
 use Rattle.nts_evaluation.proofs.Running.{Stays-later, unread}
-use Rattle.nts_evaluation.proofs.Evaluating.{Goes-trans, Goes-extends, Runs-trans, Runs-extends, Since-later, same_under, HoldsGoal-extended}
+use Rattle.nts_evaluation.proofs.Evaluating.{Goes-trans, Goes-extends, Runs-trans, Runs-extends, Since-later, same_under, HoldsGoal-extended, IsPosed-later}
 use Rattle.nts_evaluation.proofs.solve.evaluate_root.Goals as goal
 
 pub returns-in_err-asked-clause-runs : goal.returns-in_err-asked-clause-runs
@@ -38,3 +38,6 @@ returns-clause-changed g c =
     let last = c.in_ok-after.ensures in
     let under = same_under c.in_ok-asked.asked c.in_ok-after.after a.runs.goes.table last.grows.extends (HoldsGoal-extended a.runs.goes.extends k.posed.holds) last.env last.predicate in
     let is = c.change_of-has_changed.ensures in (λ z. under.0 (is.0 z), λ u. is.1 (under.1 u))
+
+pub resolve_goal-requires-2 : goal.resolve_goal-requires-2
+resolve_goal-requires-2 g c = IsPosed-later c.in_ok-answer.ensures.runs.goes c.in_ok-asked.ensures.posed

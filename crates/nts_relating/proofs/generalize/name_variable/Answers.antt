@@ -15,11 +15,11 @@ returns-then-not-contains-clause-generalized c =
 
 pub join-requires : goal.join-requires
 join-requires c =
-    can_join_fresh c.args.nodes.now c.args.table.now.entries _ c.args.y _ _ _ c.variable-variable.result c.requires.lawful c.requires.open c.variable-variable.ensures refl (record { state = refl; sub_link = λ m q. cc }) c.in_ok-fresh.ensures.entries c.variable_count-number.ensures
+    can_join_fresh c.args.nodes.now c.args.table.now.entries _ c.args.y _ _ _ c.variable-variable.result c.requires.lawful c.requires.open c.variable-variable.ensures refl (record { state = refl; universe = c.requires.named; sub_link = λ m q. cc }) c.in_ok-fresh.ensures.entries c.variable_count-number.ensures
 
 pub returns-clause-generalized : goal.returns-clause-generalized
 returns-clause-generalized c =
-    let new : IsNew c.args.table.now.entries (record { kind = c.variable-variable.result.kind; universe = c.args.target.universe; state = Unset; sub_link = None }) = record { state = refl; sub_link = λ m q. cc } in
+    let new : IsNew c.args.table.now.entries (record { kind = c.variable-variable.result.kind; universe = c.args.target.universe; state = Unset; sub_link = None }) = record { state = refl; universe = c.requires.named; sub_link = λ m q. cc } in
     let grown : IsLawful c.args.nodes.now c.add_variable.new.table.entries = rw c.in_ok-fresh.ensures.entries (IsLawful-added c.args.nodes.now _ _ c.requires.lawful new) in
-    fresh_value c.args.nodes.now c.add_variable.new.nodes c.args.table.now.entries c.add_variable.new.table.entries c.join.new.table.entries c.args.target.variable c.args.target.universe c.args.target.binders c.args.y c.variable_count-number.result _ _ _ c.variable-variable.result c.requires.lawful c.requires.knows c.requires.known refl c.requires.open c.requires.other c.variable-variable.ensures refl new c.in_ok-fresh.ensures.entries c.variable_count-number.ensures (c.in_ok-join.ensures.joined c.args.nodes.now grown) c.in_ok-fresh.ensures.extends
+    fresh_value c.args.nodes.now c.add_variable.new.nodes c.args.table.now.entries c.add_variable.new.table.entries c.join.new.table.entries c.args.target.variable c.args.target.universe c.args.target.binders c.args.y c.variable_count-number.result _ _ _ c.variable-variable.result c.requires.lawful c.requires.knows c.requires.known refl c.requires.open c.requires.other c.variable-variable.ensures refl new refl c.in_ok-fresh.ensures.entries c.variable_count-number.ensures (c.in_ok-join.ensures.joined c.args.nodes.now grown) c.in_ok-fresh.ensures.extends
     (c.in_ok-fresh.ensures.tree ∙ ap (variable_tree c.variable-variable.result.kind) (sym c.variable_count-number.ensures))

@@ -55,3 +55,7 @@ variable-variable-requires-in-Ok c =
 pub bind-requires : goal.bind-requires
 bind-requires c =
     slots_later c.args.nodes.now c.generalize.new.nodes c.args.table.now.entries c.generalize.new.table.entries c.args.x c.in-Ok.ensures.generalized.keeps.later (slice_get_below c.args.table.now.entries.variables c.args.x c.variable-variable.result c.variable-variable.ensures)
+
+pub generalize-requires-clause-named : goal.generalize-requires-clause-named
+generalize-requires-clause-named c =
+    (let p = c.requires.lawful.proper.current in p.universes c.args.x _ (universe_of-entry c.args.nodes.now c.args.table.now.entries c.args.x c.variable-variable.result c.variable-variable.ensures))

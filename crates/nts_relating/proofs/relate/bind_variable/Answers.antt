@@ -3,14 +3,14 @@ use Rattle.nts_model.proofs.Slots.{slice_get_below}
 use Rattle.nts_unify.specs.Reading.{content_of, IsLawful}
 use Rattle.nts_relating.specs.Relating.{AreMadeOne}
 use Rattle.nts_unify.specs.Lawful.{IsLawful-extended}
-use Rattle.nts_unify.proofs.Leading.{kind_at-entry}
+use Rattle.nts_unify.proofs.Leading.{kind_at-entry, universe_of-entry}
 use Rattle.nts_relating.proofs.GenLemmas.{slots_later}
 use Rattle.nts_relating.proofs.BindLemmas.{taken_open, taken}
 use Rattle.nts_relating.proofs.relate.bind_variable.Goals as goal
 
 pub name_variable-requires-clause-knows : goal.name_variable-requires-clause-knows
 name_variable-requires-clause-knows c =
-    rw c.in_ok-t.ensures.tree (kind_at-entry c.make.new.self c.args.table.now.entries c.args.y c.variable-kind.result c.variable-kind.ensures, tt)
+    rw c.in_ok-t.ensures.tree ((kind_at-entry c.make.new.self c.args.table.now.entries c.args.y c.variable-kind.result c.variable-kind.ensures, tt), tt)
 
 pub name_variable-requires-clause-lawful : goal.name_variable-requires-clause-lawful
 name_variable-requires-clause-lawful c = IsLawful-extended c.in_ok-t.ensures.extends c.requires.lawful
@@ -39,3 +39,7 @@ returns-clause-lawful c = (made c).0
 
 pub returns-clause-made : goal.returns-clause-made
 returns-clause-made c = (made c).1
+
+pub name_variable-requires-clause-named : goal.name_variable-requires-clause-named
+name_variable-requires-clause-named c =
+    (let p = c.requires.lawful.proper.current in p.universes c.args.x _ (universe_of-entry c.args.nodes.now c.args.table.now.entries c.args.x c.variable.result c.variable.ensures))

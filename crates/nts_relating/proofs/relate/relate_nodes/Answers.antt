@@ -27,3 +27,9 @@ returns-clause-related c =
     let run = c.run_all-related.ensures in
     let end = c.commit_if_ok.ensures in
     rw end.same (if_related c.args.nodes.now c.run_all-related.new.nodes c.args.table.now.entries c.run_all-related.new.table.entries c.commit_if_ok.new.self.entries _ _ c.run_all-related.result (rw end.same at end.ok) run.lawful (rw (items, c.in_ok-snapshot.ensures.entries) at run.reduces))
+
+pub returns-in_err-push-clause-later : goal.returns-in_err-push-clause-later
+returns-in_err-push-clause-later c = IsLater-refl (content_of c.args.nodes.now c.args.table.now.entries)
+
+pub returns-in_err-snapshot-clause-later : goal.returns-in_err-snapshot-clause-later
+returns-in_err-snapshot-clause-later c = rw c.in_err-snapshot.ensures.err (IsLater-refl (content_of c.args.nodes.now c.args.table.now.entries))

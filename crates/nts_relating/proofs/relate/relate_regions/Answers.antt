@@ -15,7 +15,7 @@ join_regions-requires c =
 
 pub returns-clause-related : goal.returns-clause-related
 returns-clause-related c =
-    regions_recorded c.args.nodes.now c.args.table.now.entries _ _ c.requires.lawful c.requires.left c.requires.right refl c.in_ok-constrain.ensures.entries
+    regions_recorded c.args.nodes.now c.args.table.now.entries _ _ c.requires.lawful c.requires.left c.requires.right refl refl c.in_ok-constrain.ensures.entries
 
 pub returns-clause-lawful : goal.returns-clause-lawful
 returns-clause-lawful c =

@@ -5,10 +5,11 @@ use Rattle.nts_relating.specs.Relating.{pairs_at}
 use Rattle.nts_relating.proofs.PairLemmas.{running_start, running_step, running_bound, running_end}
 use Rattle.nts_relating.proofs.RefusalLemmas.{Refuses-before}
 use Rattle.nts_relating.proofs.relate.run.Goals as goal
+use Rattle.nts_unify.proofs.Keeping.{KeepsHidden-refl, KeepsHidden-trans}
 
 pub loop-pair-init : goal.loop-pair-init
 loop-pair-init c =
-    record { extends = Extends-refl c.args.nodes.now; saved = refl; hidden = refl; valid = c.requires.valid; memo = c.requires.memo; running = running_start (content_of c.args.nodes.now c.args.table.now.entries) _ c.requires.valid.lawful.sound }
+    record { extends = Extends-refl c.args.nodes.now; changes = KeepsHidden-refl _; valid = c.requires.valid; memo = c.requires.memo; running = running_start (content_of c.args.nodes.now c.args.table.now.entries) _ c.requires.valid.lawful.sound }
 
 pub loop-pair-preserved : goal.loop-pair-preserved
 loop-pair-preserved c =
@@ -16,8 +17,7 @@ loop-pair-preserved c =
     let is : c.loop-pair.pairs.items ≡ c.pop.new.self.items ++ c.in-Some.pair ∷ [] = search rules in
     record {
       extends = Extends-trans i.extends c.in-Ok.ensures.extends;
-      saved = c.in-Ok.ensures.changes.saved ∙ i.saved;
-      hidden = c.in-Ok.ensures.changes.hidden ∙ i.hidden;
+      changes = KeepsHidden-trans i.changes c.in-Ok.ensures.changes;
       valid = c.in-Ok.ensures.valid;
       memo = c.in-Ok.ensures.memo;
       running = running_step c.requires.valid.lawful.sound i.valid.lawful.sound (rw is at i.running) c.in-Ok.ensures.step c.if-bound.false;

@@ -4,18 +4,18 @@ use Rattle.nts_unify.specs.Reading.{content_of}
 use Rattle.nts_relating.proofs.PairLemmas.{running_start, all_step, all_done, err_of}
 use Rattle.nts_relating.proofs.RefusalLemmas.{Refuses-before}
 use Rattle.nts_relating.proofs.relate.run_all.Goals as goal
+use Rattle.nts_unify.proofs.Keeping.{KeepsHidden-refl, KeepsHidden-trans, IsLater-trans}
 
 pub loop-error-init : goal.loop-error-init
 loop-error-init c =
-    record { extends = Extends-refl c.args.nodes.now; saved = refl; hidden = refl; valid = c.requires.valid; memo = c.requires.memo; running = running_start (content_of c.args.nodes.now c.args.table.now.entries) _ c.requires.valid.lawful.sound }
+    record { extends = Extends-refl c.args.nodes.now; changes = KeepsHidden-refl _; valid = c.requires.valid; memo = c.requires.memo; running = running_start (content_of c.args.nodes.now c.args.table.now.entries) _ c.requires.valid.lawful.sound }
 
 pub loop-error-preserved : goal.loop-error-preserved
 loop-error-preserved c =
     let i = c.loop-error.invariant in
     record {
       extends = Extends-trans i.extends c.in-Ok.ensures.extends;
-      saved = c.in-Ok.ensures.changes.saved ∙ i.saved;
-      hidden = c.in-Ok.ensures.changes.hidden ∙ i.hidden;
+      changes = KeepsHidden-trans i.changes c.in-Ok.ensures.changes;
       valid = c.in-Ok.ensures.valid;
       memo = c.in-Ok.ensures.memo;
       running = all_step c.requires.valid.lawful.sound i.valid.lawful.sound i.running c.in-Ok.ensures.run c.if-not-bound.false;
@@ -27,3 +27,6 @@ returns-then-not-bound-clause-reduces c =
 
 pub returns-in-Err-clause-no : goal.returns-in-Err-clause-no
 returns-in-Err-clause-no c = λ q. Refuses-before c.loop-error.invariant.running.reduces (c.in-Err.ensures.no (err_of _ _ q))
+
+pub returns-then-not-bound-clause-later : goal.returns-then-not-bound-clause-later
+returns-then-not-bound-clause-later c = IsLater-trans c.loop-error.invariant.running.later c.in-Ok.ensures.run.later

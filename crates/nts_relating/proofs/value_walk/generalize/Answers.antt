@@ -6,16 +6,16 @@ use Rattle.nts_relating.proofs.PairLemmas.{err_of}
 use Rattle.nts_relating.proofs.ValueParts.{WalkGrows-refl}
 use Rattle.nts_relating.proofs.ValueTurns.{walk_start, walk_end, walk_grows, walk_blocks}
 use Rattle.nts_relating.proofs.value_walk.generalize.Goals as goal
+use Rattle.nts_unify.proofs.Keeping.{KeepsHidden-refl, KeepsHidden-trans}
 
 pub loop-task-init : goal.loop-task-init
 loop-task-init c =
     let items : c.push.new.self.items ≡ task.Enter (record { term = c.args.t; binders = c.args.target.binders }) ∷ [] = search rules in
     record {
       extends = Extends-refl c.args.nodes.now;
-      saved = refl;
-      hidden = refl;
+      changes = KeepsHidden-refl _;
       root = refl;
-      walk = walk_start c.args.nodes.now c.args.table.now.entries c.args.target.variable c.args.target.universe (record { term = c.args.t; binders = c.args.target.binders }) c.push.new.self.items _ c.requires.lawful c.requires.known c.requires.no_region c.requires.within c.requires.knows c.requires.room (λ p. rw c.new-2.ensures.empty refl) items;
+      walk = walk_start c.args.nodes.now c.args.table.now.entries c.args.target.variable c.args.target.universe (record { term = c.args.t; binders = c.args.target.binders }) c.push.new.self.items _ c.requires.lawful c.requires.known c.requires.named c.requires.no_region c.requires.within c.requires.knows c.requires.room (λ p. rw c.new-2.ensures.empty refl) items;
       grows = WalkGrows-refl _ _ _ _ c.requires.lawful.sound;
     }
 
@@ -27,8 +27,7 @@ loop-task-preserved c =
     let turn = rw i.root at s.turn in
     record {
       extends = Extends-trans i.extends s.extends;
-      saved = s.changes.saved ∙ i.saved;
-      hidden = s.changes.hidden ∙ i.hidden;
+      changes = KeepsHidden-trans i.changes s.changes;
       root = s.root ∙ i.root;
       walk = turn.walk;
       grows = walk_grows c.args.nodes.now c.loop-task.nodes c.step.new.nodes c.args.table.now.entries c.loop-task.table.entries c.step.new.table.entries c.args.target.variable c.args.target.universe (record { term = c.args.t; binders = c.args.target.binders }) c.requires.lawful.sound c.requires.knows i.extends c.requires.within i.grows turn.grows;

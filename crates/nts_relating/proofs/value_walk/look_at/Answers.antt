@@ -22,6 +22,7 @@ name_variable-requires c = record {
   «open» = head_open c.args.nodes.now c.args.table.now.entries _ _ _ _ c.requires.lawful c.requires.knows c.label-label.ensures.is c.label-label.ensures.formed (sym c.in-Some.ensures) c.in-Err.ensures.root;
   other = c.if-root-target.false;
   known = c.requires.known;
+  named = c.requires.named;
 }
 
 pub name_region-requires-clause-region : goal.name_region-requires-clause-region
@@ -37,7 +38,7 @@ returns-then-is_settled-clause-look c = (
 pub returns-then-root-target : goal.returns-then-root-target
 returns-then-root-target c = record {
   extends = Extends-refl c.args.nodes.now;
-  changes = record { saved = refl; hidden = refl };
+  changes = record { saved = refl; universe = refl; hidden = refl };
   lawful = tt;
   look = tt;
   full = λ z. cc;

@@ -7,4 +7,4 @@ returns-in_err-add-clause-lawful c = λ h. rw c.in_err-add.ensures.err (IsLawful
 
 pub returns-clause-lawful : goal.returns-clause-lawful
 returns-clause-lawful c = λ h.
-    rw c.in_ok-add.ensures.entries (IsLawful-added _ _ _ (IsLawful-extended c.in_ok-leaf.ensures.extends h) (record { state = refl; sub_link = λ m q. rw q at c.requires.linked }))
+    rw c.in_ok-add.ensures.entries (IsLawful-added _ _ _ (IsLawful-extended c.in_ok-leaf.ensures.extends h) (record { state = refl; universe = c.requires.named; sub_link = λ m q. rw q at c.requires.linked }))
