@@ -8,31 +8,32 @@ use Rattle.nts_model.specs.declared.labels.AliasHead.{AliasHead}
 use Rattle.nts_model.specs.declared.labels.AliasHead.TheVariants as alias_of
 use Rattle.nts_model.specs.declared.labels.Label.{Label}
 use Rattle.nts_model.specs.declared.labels.Label.TheVariants as label
-use Rattle.nts_model.specs.Trees.{Tree, empty, more, node, kind_of, arguments, sort_list, one_sort, binders, IsClosedUnder, is_alias, is, any_argument, HavePlaces, AllFit, IsFormed}
+use Rattle.nts_model.specs.Trees.{Tree, empty, more, node, kind_of, arguments, sort_list, one_sort, binders, IsClosedUnder, is_alias, is, any_argument, HavePlaces, AllFit}
 use Rattle.nts_model.specs.Regions.{RegionName, name_of_label, IsRegion}
 use Rattle.nts_model.specs.Alike.{Alike, one_tree, two_regions, one_label, two_rows}
 use Rattle.nts_model.specs.Related.{alias_label, IsAlias}
 use Rattle.nts_model.specs.Related.{arguments as arguments_of}
 use Rattle.nts_model.proofs.Substituting.{region_alone, no_children}
 use Rattle.nts_model.proofs.Served.{closed_or_not}
+use Rattle.nts_model.proofs.Unpositioned.{IsFormedTerm}
 
 -- the arguments of a node
 pub record HasArguments (c : Tree) : Type 0 where
   pub parts : Tree
   pub is : c ≡ arguments_of parts
   pub fit : AllFit any_argument parts
-  pub formed : IsFormed parts
+  pub formed : IsFormedTerm parts
 
 arguments_node : (a : Tree) → kind_of a ≡ Some arguments → (ts : Tree) × (a ≡ node (label.List list.Args) ts)
 arguments_node (node (label.List list.Args) ts) e = (ts, refl)
 arguments_node a e = absurd (cc e)
 
-pub arguments_in : (c : Tree) → HavePlaces (is arguments ∷ []) c → IsFormed c → HasArguments c
+pub arguments_in : (c : Tree) → HavePlaces (is arguments ∷ []) c → IsFormedTerm c → HasArguments c
 arguments_in empty h f = absurd h
 arguments_in (node l t) h f = absurd h
 arguments_in (more a r) h f =
     let (ts, same) = arguments_node a h.0 in
-    let parts : IsFormed (node (label.List list.Args) ts) = subst IsFormed same f.0 in
+    let parts : IsFormedTerm (node (label.List list.Args) ts) = subst IsFormedTerm same f.0 in
     let alone : r ≡ empty = no_children r h.1 in
     record { parts = ts; is = cc (same, alone); fit = parts.0; formed = parts.1 }
 
@@ -46,21 +47,21 @@ alias_label_is : (h : AliasHead) → is_alias (alias_label h) ≡ true
 alias_label_is (alias_of.Ty i) = refl
 alias_label_is (alias_of.Const i) = refl
 
-pub alias_places : (h : AliasHead) (c : Tree) → IsFormed (node (alias_label h) c) → HavePlaces (is arguments ∷ []) c × IsFormed c
-alias_places (alias_of.Ty i) c f = f
-alias_places (alias_of.Const i) c f = f
+pub alias_places : (h : AliasHead) (c : Tree) → IsFormedTerm (node (alias_label h) c) → HavePlaces (is arguments ∷ []) c × IsFormedTerm c
+alias_places (alias_of.Ty i) c f = (f.0, f.1)
+alias_places (alias_of.Const i) c f = (f.0, f.1)
 
 label_same : (l m : Label) (c d : Tree) → node l c ≡ node m d → l ≡ m
 label_same l m c d e = cc e
 
-pub alias_or_not : (l : Label) (c : Tree) → IsFormed (node l c) → IsAlias (node l c) ⊎ (IsAlias (node l c) → ⊥)
+pub alias_or_not : (l : Label) (c : Tree) → IsFormedTerm (node l c) → IsAlias (node l c) ⊎ (IsAlias (node l c) → ⊥)
 alias_or_not l c f = by_case (is_alias l) refl
   where
     by_case : (z : Bool) → is_alias l ≡ z → IsAlias (node l c) ⊎ (IsAlias (node l c) → ⊥)
     by_case false e = inr (λ x. let same : is_alias l ≡ true = ap is_alias (label_same l (alias_label x.head) c (arguments_of x.parts) x.is) ∙ alias_label_is x.head in let z : true ≡ false = sym same ∙ e in cc z)
     by_case true e =
         let (h, same) = alias_of_label l e in
-        let places = alias_places h c (subst (λ x. IsFormed (node x c)) same f) in
+        let places = alias_places h c (subst (λ x. IsFormedTerm (node x c)) same f) in
         let args = arguments_in c places.0 places.1 in
         ⊎_elim (λ k. inl (record { head = h; parts = args.parts; is = cc (same, args.is); closed = k }))
         (λ n. inr (λ x. n x.closed)) (closed_or_not 0 (node l c))
@@ -134,10 +135,10 @@ sort_node : (a : Tree) → kind_of a ≡ Some one_sort → (s : Sort) × (c : Tr
 sort_node (node (label.List (list.Sort s)) c) e = (s, c, refl)
 sort_node a e = absurd (cc e)
 
-sort_like : (R : Tree → Tree → Type 0) (a b : Tree) → kind_of a ≡ Some one_sort → IsFormed a → Alike R a b → b ≡ a
+sort_like : (R : Tree → Tree → Type 0) (a b : Tree) → kind_of a ≡ Some one_sort → IsFormedTerm a → Alike R a b → b ≡ a
 sort_like R a b e f al =
     let (s, c, same) = sort_node a e in
-    let none : c ≡ empty = no_children c (subst IsFormed same f).0 in
+    let none : c ≡ empty = no_children c (subst IsFormedTerm same f).0 in
     by_node s c same none (node_like R (label.List (list.Sort s)) c b (subst (λ x. Alike R x b) same al))
   where
     by_node : (s : Sort) (c : Tree) → a ≡ node (label.List (list.Sort s)) c → c ≡ empty → IsNodeLike R (label.List (list.Sort s)) c b → b ≡ a
@@ -145,7 +146,7 @@ sort_like R a b e f al =
     by_node s c same none (that_region i j r) = absurd (no_region_list (list.Sort s) c i)
     by_node s c same none (that_label d x al) = x ∙ ap (node (label.List (list.Sort s))) (empty_like R d (subst (λ y. Alike R y d) none al) ∙ sym none) ∙ sym same
 
-sorts_like : (R : Tree → Tree → Type 0) (ss us : Tree) → AllFit (is one_sort) ss → IsFormed ss → Alike R ss us → us ≡ ss
+sorts_like : (R : Tree → Tree → Type 0) (ss us : Tree) → AllFit (is one_sort) ss → IsFormedTerm ss → Alike R ss us → us ≡ ss
 sorts_like R empty us h f al = empty_like R us al
 sorts_like R (node l c) us h f al = absurd h
 sorts_like R (more a s) us h f al = by_row (λ u. sorts_like R s u h.1 f.1) (row_like R a s us al)
@@ -158,13 +159,13 @@ sorts_node : (a : Tree) → kind_of a ≡ Some sort_list → (ss : Tree) × (a �
 sorts_node (node (label.List list.Sorts) ss) e = (ss, refl)
 sorts_node a e = absurd (cc e)
 
-pub sort_list_like : (R : Tree → Tree → Type 0) (a b : Tree) → kind_of a ≡ Some sort_list → IsFormed a → Alike R a b → (ss : Tree) × (a ≡ node (label.List list.Sorts) ss) × (b ≡ node (label.List list.Sorts) ss)
+pub sort_list_like : (R : Tree → Tree → Type 0) (a b : Tree) → kind_of a ≡ Some sort_list → IsFormedTerm a → Alike R a b → (ss : Tree) × (a ≡ node (label.List list.Sorts) ss) × (b ≡ node (label.List list.Sorts) ss)
 sort_list_like R a b e f al =
     let (ss, same) = sorts_node a e in
-    let g : IsFormed (node (label.List list.Sorts) ss) = subst IsFormed same f in
+    let g : IsFormedTerm (node (label.List list.Sorts) ss) = subst IsFormedTerm same f in
     (ss, same, by_node ss g (node_like R (label.List list.Sorts) ss b (subst (λ x. Alike R x b) same al)))
   where
-    by_node : (ss : Tree) → IsFormed (node (label.List list.Sorts) ss) → IsNodeLike R (label.List list.Sorts) ss b → b ≡ node (label.List list.Sorts) ss
+    by_node : (ss : Tree) → IsFormedTerm (node (label.List list.Sorts) ss) → IsNodeLike R (label.List list.Sorts) ss b → b ≡ node (label.List list.Sorts) ss
     by_node ss g (that_node x) = x
     by_node ss g (that_region i j r) = absurd (no_region_list list.Sorts ss i)
     by_node ss g (that_label d x al) = x ∙ ap (node (label.List list.Sorts)) (sorts_like R ss d g.0 g.1 al)

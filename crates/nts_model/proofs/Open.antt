@@ -4,7 +4,7 @@ use Rattle.std.specs.Prelude.{◌==◌, if◌then◌else◌, slice_get, reverse}
 use Rattle.nts_model.specs.declared.labels.VariableKind.{VariableKind}
 use Rattle.nts_model.specs.declared.labels.VariableKind.TheVariants as kind
 use Rattle.nts_model.specs.declared.labels.Label.{Label}
-use Rattle.nts_model.specs.Trees.{Tree, empty, more, node}
+use Rattle.nts_model.specs.Trees.{Tree, empty, more, node, is_canonical}
 use Rattle.nts_model.specs.declared.labels.Leaf.TheVariants as leaf
 use Rattle.nts_model.specs.declared.labels.Label.TheVariants as label
 use Rattle.nts_model.specs.Placeholders.{leaf_level}
@@ -40,7 +40,7 @@ Knows-value_at c n s = by_case (slice_get c.slots n) refl
     by_state : (v : Slot) (o : SlotState) → slice_get c.slots n ≡ Some v → v.state ≡ o → Knows c (value_of_state v.kind (Some o))
     by_state v unset e q = tt
     by_state v (link m) e q =
-        ((s.one_kind n m (some_slot (λ x. x.state) c n v e ∙ ap Some q) ∙ some_slot (λ x. x.kind) c n v e, tt), tt)
+        ((s.one_kind n m (some_slot (λ x. x.state) c n v e ∙ ap Some q) ∙ some_slot (λ x. x.kind) c n v e, tt, refl), tt)
     by_state v (known t) e q = s.known_trees n t (some_slot (λ x. x.state) c n v e ∙ ap Some q)
 
     by_case : (o : Option Slot) → slice_get c.slots n ≡ o → Knows c (value_at c n)
@@ -74,8 +74,16 @@ leaf_level-rooted c (Some (kind.Float, n)) l e = refl
 leaf_level-rooted c (Some (kind.Const, n)) l e = refl
 leaf_level-rooted c (Some (kind.Region, n)) l e = sym (variable_level l (kind.Region, n) e)
 
+is_canonical-rooted : (c : Content) (o : Option (VariableKind × ℕ)) (l : Label) → is_canonical l ≡ false → is_canonical (rooted_variable c o l) ≡ false
+is_canonical-rooted c None l e = e
+is_canonical-rooted c (Some (kind.Ty, n)) l e = e
+is_canonical-rooted c (Some (kind.Int, n)) l e = e
+is_canonical-rooted c (Some (kind.Float, n)) l e = e
+is_canonical-rooted c (Some (kind.Const, n)) l e = e
+is_canonical-rooted c (Some (kind.Region, n)) l e = refl
+
 KnowsLabel-rooted : (c : Content) (l : Label) → IsSound c → KnowsLabel c l → KnowsLabel c (rooted_variable c (variable_of l) l)
-KnowsLabel-rooted c l s k = (KnowsVariable-rooted c (variable_of l) l s refl k.0, rw (leaf_level-rooted c (variable_of l) l refl) k.1)
+KnowsLabel-rooted c l s k = (KnowsVariable-rooted c (variable_of l) l s refl k.0, rw (leaf_level-rooted c (variable_of l) l refl) k.1, is_canonical-rooted c (variable_of l) l k.2)
 
 pub Knows-rooted : (c : Content) (t : Tree) → IsSound c → Knows c t → Knows c (rooted c t)
 Knows-rooted c empty s k = tt

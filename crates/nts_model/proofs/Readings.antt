@@ -206,7 +206,7 @@ pub tree-region : (c : Content) (n : ℕ) → IsSound c → kind_at c n ≡ Some
 tree-region c n s k =
     let alone : resolved c (variable_tree kind.Region n) ≡ node (label.Leaf (leaf.Variable kind.Region n)) (resolved c empty) = resolved-node c (label.Leaf (leaf.Variable kind.Region n)) empty refl in
     let is : (plain c (classes c)).tree n ≡ region_tree (classes c (of_variable n)) = rw k refl in
-    inst-reading c (variable_tree kind.Region n) s ((k, tt), tt) ∙ ap (inst (plain c (classes c))) alone ∙ is
+    inst-reading c (variable_tree kind.Region n) s ((k, tt, refl), tt) ∙ ap (inst (plain c (classes c))) alone ∙ is
 
 inst-region : (c : Content) (t : Tree) (a : RegionName) → IsSound c → Knows c t → region_name t ≡ Some a → inst (reading c) t ≡ region_tree (classes c a)
 inst-region c empty a s k e = cc
@@ -255,7 +255,7 @@ is_region kind.Float = inr (λ e. cc)
 is_region kind.Const = inr (λ e. cc)
 
 pub tree-reading : (c : Content) (n : ℕ) (k : VariableKind) → IsSound c → kind_at c n ≡ Some k → (reading c).tree n ≡ inst (plain c (classes c)) (resolved c (variable_tree k n))
-tree-reading c n k s e = inst-reading c (variable_tree k n) s ((e, tt), tt)
+tree-reading c n k s e = inst-reading c (variable_tree k n) s ((e, tt, refl), tt)
 
 reading-link : (c : Content) (n m : ℕ) (k : VariableKind) → IsSound c → kind_at c n ≡ Some k → state_of c n ≡ Some (link m) → (k ≡ kind.Region) ⊎ (k ≢ kind.Region) → (reading c).tree n ≡ (reading c).tree m
 reading-link c n m k s h e (inl r) =

@@ -110,7 +110,7 @@ CanName-more u v None h k = tt
 CanName-more u v (Some x) h k = omega (arith, h, k)
 
 KnowsLabel-kept : (c d : Content) (l : Label) → KeepsKinds c d → KnowsLabel c l → KnowsLabel d l
-KnowsLabel-kept c d l e k = (KnowsVariable-kept c d (variable_of l) e k.0, CanName-more c.universe d.universe (leaf_level l) e.grows k.1)
+KnowsLabel-kept c d l e k = (KnowsVariable-kept c d (variable_of l) e k.0, CanName-more c.universe d.universe (leaf_level l) e.grows k.1, k.2)
 
 -- what was known is known
 pub Knows-kept : (c d : Content) (t : Tree) → KeepsKinds c d → Knows c t → Knows d t

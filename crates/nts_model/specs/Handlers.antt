@@ -15,7 +15,7 @@ use Rattle.nts_model.specs.Trees.{Tree, empty, more, node, kind_of_label, of_sor
 use Rattle.nts_model.specs.Fitting.{Fits}
 use Rattle.nts_model.specs.Substitutions.{put, Occurs, StaysItself, Instance, instance_of, Renaming, rename, IsPlain}
 use Rattle.nts_model.specs.Related.{Constraint, pair, unbound}
-use Rattle.nts_model.specs.Sequents.{Among, Source, normalize_goal, Premise, Hidden}
+use Rattle.nts_model.specs.Sequents.{Among, Source, normalize_goal, Premise, Hidden, HasClosedStatements}
 use Rattle.nts_model.specs.Rules.{Mode, Equation, related, alike, Application, Meaning, meaning_of, statement_of, IsHandlers}
 
 -- how sure an answer is
@@ -144,7 +144,8 @@ abbrev pub meaning : Handler → (ℕ → List Variance) → Meaning
 meaning h variances = meaning_of h.applies h.is_coinductive variances
 
 -- the goals that a handler is asked: closed terms without positions, that bind nothing, of the kinds that it answers.
--- What is said is closed by itself: it names no variable of the binder that binds nothing
+-- What is said is closed by itself: it names no variable of the binder that binds nothing. So are the statements of the
+-- environment
 pub record IsAsked (e g : Tree) : Type 0 where
   pub statement : Tree
   pub binds_nothing : g ≡ unbound statement
@@ -152,6 +153,7 @@ pub record IsAsked (e g : Tree) : Type 0 where
   pub formed : IsFormed (pair e g)
   pub closed : IsClosed (pair e statement)
   pub no_positions : any_label is_canonical (pair e g) ≡ false
+  pub statements : HasClosedStatements e
 
 -- candidates are a function of mode and goal, and commute with plain renaming
 pub record CandidatesCommute (h : Handler) : Type 0 where

@@ -105,11 +105,12 @@ pub record IsProvedAt (m : Meaning) (mode : Mode) (c : Content) (vs : List Tree)
   pub predicate : IsTermOf c (filled vs q.predicate)
   pub proved : IsProved m mode c (filled vs q.environment) (filled vs q.predicate)
 
--- a candidate holds under the table: values for its fresh variables, for which its equations and constraints hold and its
+-- a candidate holds under the table: terms of the table for its fresh variables, for which its equations and constraints hold and its
 -- goals are proved
 pub record HoldsCandidate (m : Meaning) (mode : Mode) (c : Content) (d : Candidate) : Type 0 where
   pub chosen : List Tree
   pub values : AreValuesOf d.fresh chosen
+  pub known : (v : Tree) → Among chosen v → Knows c v
   pub equations : (q : Equation) → Among d.equations q → HoldsEquationAt c chosen q
   pub constraints : (x : Constraint) → Among d.constraints x → IsHeldAt c chosen x
   pub goals : (q : Premise) → Among d.goals q → IsProvedAt m mode c chosen q

@@ -6,7 +6,7 @@ use Rattle.nts_model.specs.declared.labels.Leaf.{Leaf}
 use Rattle.nts_model.specs.declared.labels.Leaf.TheVariants as leaf
 use Rattle.nts_model.specs.declared.labels.Label.{Label}
 use Rattle.nts_model.specs.declared.labels.Label.TheVariants as label
-use Rattle.nts_model.specs.Trees.{Tree, empty, more, node, size, kind_of, of_sort, sort_of_variable}
+use Rattle.nts_model.specs.Trees.{Tree, empty, more, node, size, is_canonical, kind_of, of_sort, sort_of_variable}
 use Rattle.nts_model.specs.Placeholders.{leaf_level, CanName}
 use Rattle.nts_model.specs.Contents.{Content, SlotState, unset, link, known, state_of, kind_at}
 
@@ -124,13 +124,14 @@ IsInfer empty = ⊥
 IsInfer (more a b) = ⊥
 IsInfer (node l c) = (n : ℕ) × (infer_of l ≡ Some n)
 
--- the variables of the tree are of the table, with their kinds, and the current universe names its placeholders
+-- the variables of the tree are of the table, with their kinds, the current universe names its placeholders, and it has no
+-- position of a canonical value
 abbrev pub KnowsVariable : Content → Option (VariableKind × ℕ) → Type 0
 KnowsVariable c None = Unit {0}
 KnowsVariable c (Some v) = kind_at c v.1 ≡ Some v.0
 
 abbrev pub KnowsLabel : Content → Label → Type 0
-KnowsLabel c l = KnowsVariable c (variable_of l) × CanName c.universe (leaf_level l)
+KnowsLabel c l = KnowsVariable c (variable_of l) × CanName c.universe (leaf_level l) × (is_canonical l ≡ false)
 
 abbrev pub Knows : Content → Tree → Type 0
 Knows c empty = Unit {0}

@@ -1,6 +1,6 @@
 -- Finite trees of labelled nodes: one shape for types, regions, consts, arguments, predicates,
 -- environments and goals. A list of trees is a tree too: `empty`, or `more` of a first tree and the rest.
-use Rattle.std.specs.Prelude.{◌≡◌, ℕ, zero, suc, ◌+◌, ◌<◌, ◌||◌, Bool, true, false, List, [], ◌∷◌, Option, Some, None}
+use Rattle.std.specs.Prelude.{◌≡◌, ◌⊎◌, ℕ, zero, suc, ◌+◌, ◌<◌, ◌||◌, Bool, true, false, List, [], ◌∷◌, Option, Some, None}
 use Rattle.nts_model.specs.declared.labels.Sort.{Sort}
 use Rattle.nts_model.specs.declared.labels.Sort.TheVariants as sort
 use Rattle.nts_model.specs.declared.labels.VariableKind.{VariableKind}
@@ -66,6 +66,12 @@ row_take zero r = empty
 row_take (suc i) empty = empty
 row_take (suc i) (more a b) = more a (row_take i b)
 row_take (suc i) (node l c) = empty
+
+-- the tree is one of a list
+abbrev pub IsInRow : Tree → Tree → Type 0
+IsInRow t empty = ⊥
+IsInRow t (more u us) = (t ≡ u) ⊎ IsInRow t us
+IsInRow t (node l c) = ⊥
 
 abbrev pub row_push : Tree → Tree → Tree
 row_push empty t = more t empty
