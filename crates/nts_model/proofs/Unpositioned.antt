@@ -4,7 +4,7 @@ use Rattle.std.specs.Prelude.{◌||◌}
 use Rattle.nts_model.specs.declared.labels.Label.{Label}
 use Rattle.nts_model.specs.Trees.{Tree, empty, more, node, any_label, is_canonical, Meets, shape, IsFormed}
 use Rattle.nts_model.specs.Contents.{Content}
-use Rattle.nts_model.specs.Resolving.{Knows}
+use Rattle.nts_model.specs.Resolving.{KnowsLeaves, Knows}
 
 pub or_false : (a b : Bool) → (a || b) ≡ false → (a ≡ false) × (b ≡ false)
 or_false true b e = cc
@@ -19,6 +19,21 @@ pub known_no_positions : (c : Content) (t : Tree) → Knows c t → any_label is
 known_no_positions c empty h = refl
 known_no_positions c (more a b) h = false_or (any_label is_canonical a) (any_label is_canonical b) (known_no_positions c a h.0) (known_no_positions c b h.1)
 known_no_positions c (node l t) h = false_or (is_canonical l) (any_label is_canonical t) h.0.2 (known_no_positions c t h.1)
+
+-- .. and a table knows what has none, where it knows the leaves
+pub leaves_known : (c : Content) (t : Tree) → KnowsLeaves c t → any_label is_canonical t ≡ false → Knows c t
+leaves_known c empty h e = tt
+leaves_known c (more a b) h e =
+    let p = or_false (any_label is_canonical a) (any_label is_canonical b) e in
+    (leaves_known c a h.0 p.0, leaves_known c b h.1 p.1)
+leaves_known c (node l t) h e =
+    let p = or_false (is_canonical l) (any_label is_canonical t) e in
+    ((h.0.0, h.0.1, p.0), leaves_known c t h.1 p.1)
+
+pub known_leaves : (c : Content) (t : Tree) → Knows c t → KnowsLeaves c t
+known_leaves c empty h = tt
+known_leaves c (more a b) h = (known_leaves c a h.0, known_leaves c b h.1)
+known_leaves c (node l t) h = ((h.0.0, h.0.1), known_leaves c t h.1)
 
 -- a pair has none where its parts have none
 pub pair_no_positions : (a b : Tree) → any_label is_canonical a ≡ false → any_label is_canonical b ≡ false → any_label is_canonical (more a (more b empty)) ≡ false

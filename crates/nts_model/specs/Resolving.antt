@@ -124,12 +124,20 @@ IsInfer empty = ⊥
 IsInfer (more a b) = ⊥
 IsInfer (node l c) = (n : ℕ) × (infer_of l ≡ Some n)
 
--- the variables of the tree are of the table, with their kinds, the current universe names its placeholders, and it has no
--- position of a canonical value
+-- the variables of the tree are of the table, with their kinds, and the current universe names its placeholders
 abbrev pub KnowsVariable : Content → Option (VariableKind × ℕ) → Type 0
 KnowsVariable c None = Unit {0}
 KnowsVariable c (Some v) = kind_at c v.1 ≡ Some v.0
 
+abbrev pub KnowsLeaf : Content → Label → Type 0
+KnowsLeaf c l = KnowsVariable c (variable_of l) × CanName c.universe (leaf_level l)
+
+abbrev pub KnowsLeaves : Content → Tree → Type 0
+KnowsLeaves c empty = Unit {0}
+KnowsLeaves c (more a b) = KnowsLeaves c a × KnowsLeaves c b
+KnowsLeaves c (node l t) = KnowsLeaf c l × KnowsLeaves c t
+
+-- .. and it has no position of a canonical value
 abbrev pub KnowsLabel : Content → Label → Type 0
 KnowsLabel c l = KnowsVariable c (variable_of l) × CanName c.universe (leaf_level l) × (is_canonical l ≡ false)
 

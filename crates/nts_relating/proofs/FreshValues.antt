@@ -115,7 +115,7 @@ gen_fresh c d e x u b y low high v t s knows h free of_u within i rank like apar
     let value : resolved e (variable_tree v.kind fresh) ≡ variable_tree v.kind y =
     resolved-variable_link e (label.Leaf (leaf.Variable v.kind fresh)) empty v.kind fresh y after is linked ∙ root in
     let all = Continues-trans c d e s a.continues one_class.continues in
-    let old_one : AreOne e t (variable_tree v.kind y) = AreOne-continues c e t (variable_tree v.kind y) all knows ((h.has, tt), tt) (ap (rooted c) same) in
+    let old_one : AreOne e t (variable_tree v.kind y) = AreOne-continues c e t (variable_tree v.kind y) all knows ((h.has, tt, refl), tt) (ap (rooted c) same) in
     let new_one : AreOne e (variable_tree v.kind fresh) (variable_tree v.kind y) = ap (rooted e) (value ∙ sym root) in
     let universe : universe_of e fresh ≡ Some u = one_class.universes fresh (λ q. omega (arith, q, ly, below)) ∙ a.universe ∙ ap Some of_u in
     record {
@@ -125,7 +125,7 @@ gen_fresh c d e x u b y low high v t s knows h free of_u within i rank like apar
         trees = λ z q. let same = a.trees z in let none = Lacks-new c (resolved c z) (Knows-resolved c z s q) in j.trees z (rw (same, hy) none) ∙ same;
         unset_kept = omega (arith, j.fewer, a.count, one);
       };
-      knows = ((has, tt), tt);
+      knows = ((has, tt, refl), tt);
       rank = rank;
       fits = λ j n z f. infer_ranked t i z;
       like = fresh_like v.kind y (length c.slots) t like;
@@ -202,7 +202,7 @@ gen_fresh_region c d e x u b v t l s region within r sorted is_region known of_u
         trees = λ z q. a.trees z;
         unset_kept = omega (arith, a.count, none);
       }) k;
-      knows = ((has, tt), tt);
+      knows = ((has, tt, refl), tt);
       rank = zero_le _ _ refl;
       fits = λ j n z. region_unfit j t n sorted;
       like = subst (λ (y : Tree). IsLike (variable_tree kind.Region fresh) y) (sym r.is) (region_sort t l r sorted);

@@ -294,7 +294,7 @@ gen_region_root c x u b n r t s v has named =
     let one : AreOne c (variable_tree kind.Region r) t = rw (v.is) (regions-one c r n again) in
     record {
       keeps = Keeps-refl c;
-      knows = ((has, tt), tt);
+      knows = ((has, tt, refl), tt);
       rank = zero_le _ _ refl;
       fits = λ j n z. region_unfit j t n (ap kind_of v.is);
       like = rw (v.is) refl;
@@ -317,7 +317,7 @@ pub gen_named : (c : Content) (x u b y : ℕ) (k : VariableKind) (t : Tree) → 
 gen_named c x u b y k t s h i rank like d named same worlds =
     record {
       keeps = Keeps-refl c;
-      knows = ((h.has, tt), tt);
+      knows = ((h.has, tt, refl), tt);
       rank = rank;
       fits = λ j n z f. infer_ranked t i z;
       like = like;

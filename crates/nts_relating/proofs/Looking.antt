@@ -7,9 +7,10 @@ use Rattle.nts_model.specs.declared.labels.VariableKind.TheVariants as kind
 use Rattle.nts_model.specs.declared.labels.Leaf.TheVariants as leaf
 use Rattle.nts_model.specs.declared.labels.Label.{Label}
 use Rattle.nts_model.specs.declared.labels.Label.TheVariants as label
-use Rattle.nts_model.specs.Trees.{Tree, empty, more, node, row_length, row_at, IsRow, any_label, is_infer, is_region_infer, is_placeholder, is_placeholder_constant}
+use Rattle.nts_model.specs.Trees.{Tree, empty, more, node, row_length, row_at, IsRow, any_label, is_infer, is_region_infer, is_placeholder, is_placeholder_constant, is_canonical}
 use Rattle.nts_model.specs.Contents.{Content}
-use Rattle.nts_model.specs.Resolving.{variable_of, Knows, KnowsVariable}
+use Rattle.nts_model.specs.Resolving.{variable_of, KnowsLeaves, Knows, KnowsVariable}
+use Rattle.nts_model.proofs.Unpositioned.{leaves_known}
 use Rattle.nts_store.specs.Labels.{AllLabels}
 use Rattle.nts_unify.specs.Entries.{Entries}
 use Rattle.nts_unify.specs.Reading.{content_of}
@@ -69,19 +70,23 @@ no_placeholder u (label.Clause k) e = tt
 no_placeholder u (label.Predicate k) e = tt
 no_placeholder u (label.List k) e = tt
 
--- a tree without variables and placeholders
-pub Knows-none : (c : Content) (t : Tree) → any_label is_infer t ≡ false → any_label is_region_infer t ≡ false → any_label is_placeholder t ≡ false → Knows c t
-Knows-none c empty e h f = tt
-Knows-none c (more a b) e h f =
+-- the leaves of a tree without variables and placeholders
+pub leaves-none : (c : Content) (t : Tree) → any_label is_infer t ≡ false → any_label is_region_infer t ≡ false → any_label is_placeholder t ≡ false → KnowsLeaves c t
+leaves-none c empty e h f = tt
+leaves-none c (more a b) e h f =
     let r = or_parts (any_label is_placeholder a) (any_label is_placeholder b) f in
     let p = or_parts (any_label is_infer a) (any_label is_infer b) e in
     let q = or_parts (any_label is_region_infer a) (any_label is_region_infer b) h in
-    (Knows-none c a p.0 q.0 r.0, Knows-none c b p.1 q.1 r.1)
-Knows-none c (node l x) e h f =
+    (leaves-none c a p.0 q.0 r.0, leaves-none c b p.1 q.1 r.1)
+leaves-none c (node l x) e h f =
     let r = or_parts (is_placeholder l) (any_label is_placeholder x) f in
     let p = or_parts (is_infer l) (any_label is_infer x) e in
     let q = or_parts (is_region_infer l) (any_label is_region_infer x) h in
-    ((no_variable c l p.0 q.0, no_placeholder c.universe l r.0), Knows-none c x p.1 q.1 r.1)
+    ((no_variable c l p.0 q.0, no_placeholder c.universe l r.0), leaves-none c x p.1 q.1 r.1)
+
+-- a tree without variables, placeholders and positions of canonical values
+pub Knows-none : (c : Content) (t : Tree) → any_label is_infer t ≡ false → any_label is_region_infer t ≡ false → any_label is_placeholder t ≡ false → any_label is_canonical t ≡ false → Knows c t
+Knows-none c t e h f i = leaves_known c t (leaves-none c t e h f) i
 
 -- a variable that the table has is known, and the other way round
 pub named_known : (ts : List Tree) (e : Entries) (o : Option (VariableKind × ℕ)) → HasNamed e o → KnowsVariable (content_of ts e) o
@@ -100,7 +105,7 @@ from_not true h = cc
 from_not false h = refl
 
 -- all labels of a tree are of the table
-pub labels_known : (ts : List Tree) (e : Entries) (t : Tree) → AllLabels (IsNamed e) t → Knows (content_of ts e) t
+pub labels_known : (ts : List Tree) (e : Entries) (t : Tree) → AllLabels (IsNamed e) t → KnowsLeaves (content_of ts e) t
 labels_known ts e empty h = tt
 labels_known ts e (more a b) h = (labels_known ts e a h.0, labels_known ts e b h.1)
 labels_known ts e (node l x) h = (let k = h.0 in (named_known ts e (variable_of l) k.variable, k.level), labels_known ts e x h.1)

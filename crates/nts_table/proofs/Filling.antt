@@ -1,16 +1,30 @@
 -- Terms in whose positions values are put.
-use Rattle.std.proofs.Common.{ℕ, List, get_or, Option, Some, None}
-use Rattle.nts_model.specs.Trees.{Tree, empty, more, node}
+use Rattle.std.proofs.Common.{◌≡◌, ℕ, false, List, get_or, Option, Some, None, refl}
+use Rattle.nts_model.specs.declared.labels.BoundVarIndexKind.TheVariants as index
+use Rattle.nts_model.specs.declared.labels.Label.{Label}
+use Rattle.nts_model.specs.declared.labels.Label.TheVariants as label
+use Rattle.nts_model.specs.Trees.{Tree, empty, more, node, is_canonical}
 use Rattle.nts_model.specs.Contents.{Content}
 use Rattle.nts_model.specs.Handlers.{position_of, value_or, filled}
-use Rattle.nts_model.specs.Resolving.{Knows}
+use Rattle.nts_model.specs.Resolving.{KnowsLeaves, Knows}
 
-known-value : (c : Content) (vs : List Tree) (o : Option ℕ) (t : Tree) → ((j : ℕ) → Knows c (get_or vs j empty)) → Knows c t → Knows c (value_or o vs t)
-known-value c vs None t h k = k
+known-value : (c : Content) (vs : List Tree) (o : Option ℕ) (t : Tree) → ((j : ℕ) → Knows c (get_or vs j empty)) → (o ≡ None → Knows c t) → Knows c (value_or o vs t)
+known-value c vs None t h k = k refl
 known-value c vs (Some i) t h k = h i
 
--- where a table knows the term and the values, it knows what they give
-pub knows-filled : (c : Content) (vs : List Tree) (t : Tree) → ((j : ℕ) → Knows c (get_or vs j empty)) → Knows c t → Knows c (filled vs t)
+-- what names no position is none
+no_position : (l : Label) → position_of l ≡ None → is_canonical l ≡ false
+no_position (label.Bound s index.Canonical n) e = cc
+no_position (label.Bound s (index.Bound d) n) e = refl
+no_position (label.Leaf x) e = refl
+no_position (label.Ty x) e = refl
+no_position (label.Const x) e = refl
+no_position (label.Clause x) e = refl
+no_position (label.Predicate x) e = refl
+no_position (label.List x) e = refl
+
+-- where a table knows the term's leaves and the values, it knows what they give
+pub knows-filled : (c : Content) (vs : List Tree) (t : Tree) → ((j : ℕ) → Knows c (get_or vs j empty)) → KnowsLeaves c t → Knows c (filled vs t)
 knows-filled c vs empty h k = tt
 knows-filled c vs (more a b) h k = (knows-filled c vs a h k.0, knows-filled c vs b h k.1)
-knows-filled c vs (node l x) h k = known-value c vs (position_of l) (node l (filled vs x)) h (k.0, knows-filled c vs x h k.1)
+knows-filled c vs (node l x) h k = known-value c vs (position_of l) (node l (filled vs x)) h (λ e. ((k.0.0, k.0.1, no_position l e), knows-filled c vs x h k.1))
