@@ -10,7 +10,8 @@ use Rattle.nts_model.specs.declared.labels.Label.{Label}
 use Rattle.nts_model.specs.declared.labels.Label.TheVariants as label
 use Rattle.nts_model.specs.Trees.{Tree, empty, more, node, children, any_label, is_canonical, row_length, row_at, row_take, IsRow}
 use Rattle.nts_model.specs.Contents.{Content}
-use Rattle.nts_model.specs.Resolving.{Knows, KnowsVariable, variable_of}
+use Rattle.nts_model.specs.Resolving.{KnowsLeaves, Knows, KnowsVariable, variable_of}
+use Rattle.nts_model.proofs.Unpositioned.{known_leaves}
 use Rattle.nts_terms.specs.declared.handles.Goal.{Goal}
 use Rattle.nts_terms.specs.declared.handles.Predicate.{Predicate}
 use Rattle.nts_store.specs.Growth.{tree_at}
@@ -82,7 +83,7 @@ no_placeholder u (label.Clause k) h = tt
 no_placeholder u (label.Predicate p) h = tt
 no_placeholder u (label.List k) h = tt
 
-pub knows_none : (c : Content) (t : Tree) → any_label is_foreign t ≡ false → Knows c t
+pub knows_none : (c : Content) (t : Tree) → any_label is_foreign t ≡ false → KnowsLeaves c t
 knows_none c empty h = tt
 knows_none c (more a b) h =
     let w = both_false (any_label is_foreign a) (any_label is_foreign b) h in
@@ -177,7 +178,7 @@ pairs_over ts fresh g (more a us) (more b vs) (q ∷ qs) p n k f o =
         lhs = record {
           within = p.0.left_in;
           names = rw p.0.left (names_none fresh a lacks.0);
-          knows = λ c w. rw p.0.left (k c w).0;
+          knows = λ c w. rw p.0.left (known_leaves c a (k c w).0);
         };
         rhs = record { within = p.0.right_in; names = rw p.0.right f.0; knows = λ c w. rw p.0.right (knows_none c b own.0) };
         argument = rw p.0.left p.0.argument;
@@ -202,7 +203,7 @@ asked_nested ts fresh g (p ∷ ps) a b = (
   record {
     environment = refl;
     holds = record { env = a.holds.env; predicate = b.0 };
-    env = record { within = a.holds.env.within; names = names_none fresh _ (positions a).0; knows = λ c w. w.env };
+    env = record { within = a.holds.env.within; names = names_none fresh _ (positions a).0; knows = λ c w. known_leaves c _ w.env };
     predicate = record { within = b.1.within; names = b.1.names; knows = λ c w. knows_none c _ b.1.own };
   },
   asked_nested ts fresh g ps a b.2,

@@ -3,7 +3,7 @@ use Rattle.std.specs.Prelude.{◌≡◌, List, [], ◌∷◌, Some}
 use Rattle.nts_model.specs.declared.labels.Sort.{Sort}
 use Rattle.nts_model.specs.Trees.{Tree, kind_of, of_sort, any_argument, FitsPlace}
 use Rattle.nts_model.specs.Contents.{Content}
-use Rattle.nts_model.specs.Resolving.{Knows}
+use Rattle.nts_model.specs.Resolving.{KnowsLeaves, Knows}
 use Rattle.nts_store.specs.declared.nodes.NodeId.{NodeId}
 use Rattle.nts_terms.specs.declared.handles.Goal.{Goal}
 use Rattle.nts_certainty.specs.declared.sources.RerunCondition.TheVariants as rerun
@@ -32,7 +32,7 @@ pub record KnowsGoal (ts : List Tree) (c : Content) (g : Goal) : Type 0 where
 pub record IsOver (ts : List Tree) (fresh : List Sort) (g : Goal) (t : NodeId) : Type 0 where
   pub within : IsIn ts t
   pub names : NamesFresh fresh (tree_at ts t)
-  pub knows : (c : Content) → KnowsGoal ts c g → Knows c (tree_at ts t)
+  pub knows : (c : Content) → KnowsGoal ts c g → KnowsLeaves c (tree_at ts t)
 
 -- an equation between arguments
 pub record IsEquation (ts : List Tree) (fresh : List Sort) (g : Goal) (q : Equation) : Type 0 where
