@@ -4,3 +4,4 @@ pub mod Standing
 pub mod Sorted
 pub mod StillDeclared
 pub mod SameModes
+pub mod Binders

@@ -1,7 +1,9 @@
 //! Reading the kinds of terms off their nodes.
-ghost use Rattle.std.specs.Prelude.{◌≡◌, List, [], ◌∷◌};
-ghost use Rattle.nts_model.specs.Trees.{Tree, node, more, empty, children, sort_of_leaf, shape, Meets, Place, is, arguments, statement, a_result, HavePlaces};
+ghost use Rattle.std.specs.Prelude.{◌≡◌, ◌↔◌, IsTrue, List, [], ◌∷◌};
+ghost use Rattle.nts_model.specs.Trees.{Tree, node, more, empty, children, sort_of_leaf, shape, Meets, Place, is, arguments, bound_predicate, sort_list, statement, a_result, HavePlaces};
+ghost use Rattle.nts_model.specs.Sequents.{HasClosedStatement};
 ghost use Rattle.nts_model.specs.declared.labels.Sort.TheVariants as sort;
+ghost use Rattle.nts_model.specs.declared.labels.ListHead.TheVariants as list;
 ghost use Rattle.nts_model.specs.declared.labels.Label.TheVariants as label;
 ghost use Rattle.nts_store.specs.Growth.{tree_at, IsIn};
 ghost use Rattle.nts_terms.specs.Handles.{Holds, HoldsTy, HoldsRegion, HoldsConst, HoldsTerm, HoldsArg, HoldsArgs, HoldsPredicate, HoldsResult, alias_head};
@@ -224,32 +226,53 @@ impl GenericArg {
 
 impl Predicate {
     /// What the predicate states of the variables of its binder.
-    #[tactic(auto, using(crate::proofs::Places::places))]
     pub fn kind(self, cx: &Cx) -> Binder<PredicateKind>
         requires { HoldsPredicate cx.now.nodes self }
         ensures tree { tree_at cx.now.nodes self.node ≡ tree_of_predicate cx.now.nodes result }
         ensures fits { PredicateFits cx.now.nodes result }
     {
         let nodes = &cx.nodes;
-        match nodes.label(self.node) {
-            Label::List(ListHead::Binder) => {
-                let (vars, body) = both_children(nodes, self.node);
-                Binder {
-                    vars: BoundVars { node: vars },
-                    value: statement_kind(nodes, body),
-                }
-            }
-            Label::List(ListHead::Args) => unreachable!(),
-            Label::List(ListHead::Env) => unreachable!(),
-            Label::List(ListHead::Sorts) => unreachable!(),
-            Label::List(ListHead::Sort(_)) => unreachable!(),
-            Label::Leaf(_) => unreachable!(),
-            Label::Bound(_, _, _) => unreachable!(),
-            Label::Ty(_) => unreachable!(),
-            Label::Const(_) => unreachable!(),
-            Label::Clause(_) => unreachable!(),
-            Label::Predicate(_) => unreachable!(),
+        let (vars, body) = binder_children(nodes, self.node);
+        Binder {
+            vars: BoundVars { node: vars },
+            value: statement_kind(nodes, body),
         }
+    }
+
+    /// Whether no bound variable names the binder, if that binds nothing.
+    pub fn has_closed_statement(self, cx: &Cx) -> bool
+        requires { HoldsPredicate cx.now.nodes self }
+        ensures { IsTrue result ↔ HasClosedStatement (tree_at cx.now.nodes self.node) }
+    {
+        let nodes = &cx.nodes;
+        let (vars, body) = binder_children(nodes, self.node);
+        if nodes.child_count(vars) != 0 {
+            return true;
+        }
+        nodes.flags(body).escaping.is_none()
+    }
+}
+
+/// The sorts that a predicate binds, and the node of what it states of them.
+#[tactic(auto, using(crate::proofs::Places::places))]
+fn binder_children(nodes: &Nodes, t: NodeId) -> (NodeId, NodeId)
+    requires { Holds (is bound_predicate) nodes.now t }
+    ensures tree { tree_at nodes.now t ≡ node (label.List list.Binder) (two nodes.now result.0 result.1) }
+    ensures vars { Holds (is sort_list) nodes.now result.0 }
+    ensures body { Holds (is statement) nodes.now result.1 }
+{
+    match nodes.label(t) {
+        Label::List(ListHead::Binder) => both_children(nodes, t),
+        Label::List(ListHead::Args) => unreachable!(),
+        Label::List(ListHead::Env) => unreachable!(),
+        Label::List(ListHead::Sorts) => unreachable!(),
+        Label::List(ListHead::Sort(_)) => unreachable!(),
+        Label::Leaf(_) => unreachable!(),
+        Label::Bound(_, _, _) => unreachable!(),
+        Label::Ty(_) => unreachable!(),
+        Label::Const(_) => unreachable!(),
+        Label::Clause(_) => unreachable!(),
+        Label::Predicate(_) => unreachable!(),
     }
 }
 
