@@ -11,7 +11,7 @@ use Rattle.nts_store.specs.Filled.{HasValues}
 use Rattle.nts_terms.proofs.Moved.{Holds-extended}
 use Rattle.nts_unify.specs.Entries.{Entries}
 use Rattle.nts_unify.specs.Reading.{content_of}
-use Rattle.nts_relating.proofs.Looking.{Knows-none}
+use Rattle.nts_relating.proofs.Looking.{leaves-none}
 use Rattle.nts_table.proofs.Filling.{knows-filled}
 use Rattle.nts_canonical.specs.declared.types.QueryInput.{QueryInput}
 use Rattle.nts_canonical.specs.Forms.{query_tree, trees_of, HoldsQuery}
@@ -51,4 +51,4 @@ query-made a b q ts vs t h e same is = is ∙ ap (λ z. filled z (query_tree b q
 -- .. and the table knows it
 pub query-known : (ts : List Tree) (e : Entries) (ks : List PositionKind) (s t : Tree) → e.variables ≡ made_variables [] ks → AreRootKinds ks → HasNoName t → s ≡ filled (map leaf_tree (value_leaves 0 ks)) t → Knows (content_of ts e) s
 query-known ts e ks s t m z n is =
-    subst (Knows (content_of ts e)) (sym is) (knows-filled (content_of ts e) (map leaf_tree (value_leaves 0 ks)) t (values-known ts e ks m z) (Knows-none (content_of ts e) t n.0 n.1 n.2))
+    subst (Knows (content_of ts e)) (sym is) (knows-filled (content_of ts e) (map leaf_tree (value_leaves 0 ks)) t (values-known ts e ks m z) (leaves-none (content_of ts e) t n.0 n.1 n.2))

@@ -1,7 +1,7 @@
 -- What tests ask of lists of arguments and of goals.
-use Rattle.std.proofs.Common.{◌≡◌, ℕ, zero, suc, ◌+◌, ◌<◌, false, List, [], ◌∷◌, length, get_or, refl, sym, subst, arith, inl, inr}
+use Rattle.std.proofs.Common.{◌≡◌, ℕ, zero, suc, ◌+◌, ◌<◌, List, [], ◌∷◌, length, get_or, refl, sym, subst, arith, inl, inr}
 use Rattle.std.proofs.lemmas.Bool.{cases_lt}
-use Rattle.nts_model.specs.Trees.{Tree, empty, more, any_label, is_canonical}
+use Rattle.nts_model.specs.Trees.{Tree}
 use Rattle.nts_terms.specs.declared.handles.GenericArg.{GenericArg}
 use Rattle.nts_store.specs.Filled.{HasValues}
 use Rattle.nts_canonical.specs.Forms.{trees_of}
@@ -21,10 +21,6 @@ before_more P xs i e h l x k d j =
       | inl q ↦ h k d q
       | inr q ↦ (let same : i ≡ k = omega (arith, q, j) in subst (λ n. P (get_or xs n d)) same (subst P (within xs i e d l) x))
     ]
-
--- a goal without hidden types names no position
-pub none_named : (e p : Tree) → any_label is_canonical e ≡ false → any_label is_canonical p ≡ false → any_label is_canonical (more e (more p (more empty empty))) ≡ false
-none_named e p h k = rw (h, k) refl
 
 pub same_values : (ts : List Tree) (xs ys : List GenericArg) (t : Tree) → xs ≡ ys → HasValues (trees_of ts ys) t → HasValues (trees_of ts xs) t
 same_values ts xs ys t e h = subst (λ z. HasValues (trees_of ts z) t) (sym e) h

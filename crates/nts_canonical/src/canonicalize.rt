@@ -1,6 +1,5 @@
 //! The canonical input of a goal.
 ghost use Rattle.std.specs.Prelude.{◌≡◌, [], map, false, IfOk, IsOkUnless, All};
-ghost use Rattle.nts_model.specs.Trees.{any_label, is_canonical};
 ghost use Rattle.nts_model.specs.Substitutions.{leaf_tree, replace};
 ghost use Rattle.nts_model.specs.Numbered.{seen, numbered_leaf, no_leaf};
 ghost use Rattle.nts_model.specs.Inputs.{is_static, canonical_of, originals, whole};
@@ -27,8 +26,8 @@ use nts_terms::{AliasTerm, Cx, GenericArg, Goal, Ty, TypingMode};
 use std::alloc::{AllocError, Global};
 
 /// The originals and the canonical input of a goal that is asked in that mode with these hidden types. The
-/// originals stand in the goal where the input has positions; where the goal itself names no position, they
-/// are values for these (`instantiate_canonical`).
+/// originals stand in the goal where the input has positions, and are values for these
+/// (`instantiate_canonical`).
 pub fn canonicalize_goal(
     table: &InferCtxt,
     cx: &mut Cx,
@@ -43,9 +42,7 @@ pub fn canonicalize_goal(
         (whole (input_of cx.old.nodes table.now.entries goal opaque_types.now)) }
     ensures canonical { IfOk result (IsCanonicalOf cx.new.nodes
         (input_of cx.old.nodes table.now.entries goal opaque_types.now) mode) }
-    ensures askable { any_label is_canonical
-        (whole (input_of cx.old.nodes table.now.entries goal opaque_types.now)) ≡ false →
-        IfOk result (IsAskable cx.new.nodes) }
+    ensures askable { IfOk result (IsAskable cx.new.nodes) }
     ensures grows { Grows cx.old cx.new }
     ensures memory { IsOkUnless result Fault.Memory }
 {

@@ -34,11 +34,10 @@ pub no_label : (p : Label → Bool) (t : Tree) → AllLabels (λ l. p l ≡ fals
 no_label p t = (none_of p t, each_fails p t)
 
 -- a term whose variables are looked at, where nothing else stands in the way
-pub root_term : (ts : List Tree) (u : Table) (t : NodeId) (f : TypeFlags) → f ≡ flags_of (tree_at ts t) → is_some f.escaping ≡ false → f.has_canonical ≡ false → Knows (content_of ts u.entries) (tree_at ts t) ↔ IsRootTerm ts u t
-root_term ts u t f e h k = (
+pub root_term : (ts : List Tree) (u : Table) (t : NodeId) (f : TypeFlags) → f ≡ flags_of (tree_at ts t) → is_some f.escaping ≡ false → Knows (content_of ts u.entries) (tree_at ts t) ↔ IsRootTerm ts u t
+root_term ts u t f e h = (
   (λ n. record {
     closed = none_escapes (tree_at ts t) f.escaping (ap (λ g. g.escaping) e) h;
-    positions = sym (ap (λ g. g.has_canonical) e) ∙ k;
     knows = n;
   }),
   λ r. r.knows,
@@ -48,8 +47,3 @@ pub root_escapes : (ts : List Tree) (u : Table) (t : NodeId) (f : TypeFlags) →
 root_escapes ts u t f e h c =
     let some : IsTrue (is_some (escaping (tree_at ts t))) = rw (ap (λ g. g.escaping) e) at h in
     (escapes (tree_at ts t)).0 some c.closed
-
-pub root_named : (ts : List Tree) (u : Table) (t : NodeId) (f : TypeFlags) → f ≡ flags_of (tree_at ts t) → f.has_canonical ≡ true → IsRootTerm ts u t → ⊥
-root_named ts u t f e h c =
-    let both : false ≡ true = sym c.positions ∙ sym (ap (λ g. g.has_canonical) e) ∙ h in
-    cc

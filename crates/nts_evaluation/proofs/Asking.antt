@@ -1,10 +1,11 @@
 -- Which goals are asked of a handler.
-use Rattle.std.proofs.Common.{◌≡◌, ◌||◌, false, List, is_some, refl, sym, ap, ◌∙◌, arith}
+use Rattle.std.proofs.Common.{◌≡◌, ◌⊎◌, inl, inr, ⊎_elim, ℕ, zero, suc, ◌+◌, ◌<◌, ◌≤◌, ◌||◌, false, List, is_some, refl, sym, ap, ◌∙◌, subst, arith}
 use Rattle.nts_model.specs.declared.labels.ClauseHead.TheVariants as clause_head
 use Rattle.nts_model.specs.declared.labels.ListHead.TheVariants as list
 use Rattle.nts_model.specs.declared.labels.Label.TheVariants as label
-use Rattle.nts_model.specs.Trees.{Tree, empty, more, node, children, row_length, IsRow, any_label, is_canonical, IsClosed}
+use Rattle.nts_model.specs.Trees.{Tree, empty, more, node, children, row_length, row_at, IsInRow, IsRow, any_label, is_canonical, IsClosed}
 use Rattle.nts_model.specs.Related.{no_sorts, unbound}
+use Rattle.nts_model.specs.Sequents.{HasClosedStatement, HasClosedStatements}
 use Rattle.nts_store.specs.declared.type_flags.TypeFlags.{TypeFlags}
 use Rattle.nts_terms.specs.declared.handles.Binder.{Binder}
 use Rattle.nts_terms.specs.declared.handles.Goal.{Goal}
@@ -35,6 +36,31 @@ row_of_none empty r e = refl
 row_of_none (more a b) r e = absurd (omega (arith, e))
 row_of_none (node l c) r e = absurd r
 
+-- the statements of the first predicates of an environment are closed
+abbrev pub AreClosedBelow : ℕ → Tree → Type 0
+AreClosedBelow i r = (j : ℕ) → j < i → HasClosedStatement (row_at r j)
+
+pub closed_more : (r : Tree) (i : ℕ) → AreClosedBelow i r → HasClosedStatement (row_at r i) → AreClosedBelow (i + 1) r
+closed_more r i h k j l = ⊎_elim (λ (below : j < i). h j below) (λ (e : j ≡ i). rw e k) (below_or_same j i l)
+  where
+    below_or_same : (j i : ℕ) → j < i + 1 → (j < i) ⊎ (j ≡ i)
+    below_or_same zero zero l = inr refl
+    below_or_same zero (suc i) l = inl (omega arith)
+    below_or_same (suc j) zero l = absurd (omega (arith, l))
+    below_or_same (suc j) (suc i) l = ⊎_elim (λ h. inl (omega (arith, h))) (λ e. inr (ap suc e)) (below_or_same j i (omega (arith, l)))
+
+row_closed : (r p : Tree) → AreClosedBelow (row_length r) r → IsInRow p r → HasClosedStatement p
+row_closed empty p h i = absurd i
+row_closed (node l c) p h i = absurd i
+row_closed (more a b) p h (inl e) = rw e (h 0 (omega arith))
+row_closed (more a b) p h (inr i) = row_closed b p (λ j l. h (suc j) (omega (arith, l))) i
+
+-- .. so those of the environment are, where these are all
+pub closed_all : (e : Tree) (i : ℕ) → row_length (children e) ≤ i → AreClosedBelow i (children e) → HasClosedStatements e
+closed_all e i n h ps p is found =
+    let same : children e ≡ ps = ap children is in
+    row_closed ps p (subst (λ r. AreClosedBelow (row_length r) r) same (λ j l. h j (omega (arith, l, n)))) found
+
 -- what the tests of a goal see
 pub record AreTests (ts : List Tree) (g : Goal) (b : Binder PredicateKind) (r : TraitRef) (env goal args : TypeFlags) : Type 0 where
   pub formed : AreFormed ts
@@ -51,6 +77,7 @@ pub record AreTests (ts : List Tree) (g : Goal) (b : Binder PredicateKind) (r : 
   pub args_closed : is_some args.escaping ≡ false
   pub env_names : env.has_canonical ≡ false
   pub goal_names : goal.has_canonical ≡ false
+  pub statements : HasClosedStatements (tree_at ts g.param_env.node)
 
 pub trait_asked : (ts : List Tree) (g : Goal) (b : Binder PredicateKind) (r : TraitRef) (env goal args : TypeFlags) → AreTests ts g b r env goal args → IsAsked ts g
 trait_asked ts g b r env goal args t =
@@ -73,6 +100,7 @@ trait_asked ts g b r env goal args t =
         formed = (t.formed g.param_env.node h.env.within, (t.formed g.predicate.node h.predicate.within, tt));
         closed = (env_tree_closed, ((tt, (args_tree_closed, tt)), tt));
         no_positions = or_false (any_label is_canonical (tree_at ts g.param_env.node)) (any_label is_canonical (tree_at ts g.predicate.node) || false) env_none (or_false (any_label is_canonical (tree_at ts g.predicate.node)) false goal_none refl);
+        statements = t.statements;
       };
     }
 
@@ -93,8 +121,8 @@ IsAdmitted-extended {a} {b} {t} {g} e h k =
     let same = content_of-extended e h.now in
     record {
       holds = HoldsGoal-extended e k.holds;
-      env = record { closed = rw env k.env.closed; positions = rw env k.env.positions; knows = rw (env, same) k.env.knows };
-      predicate = record { closed = rw predicate k.predicate.closed; positions = rw predicate k.predicate.positions; knows = rw (predicate, same) k.predicate.knows };
+      env = record { closed = rw env k.env.closed; knows = rw (env, same) k.env.knows };
+      predicate = record { closed = rw predicate k.predicate.closed; knows = rw (predicate, same) k.predicate.knows };
       env_types = rw (env, same) k.env_types;
       asked = rw predicate k.asked;
     }

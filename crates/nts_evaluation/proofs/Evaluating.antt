@@ -300,7 +300,7 @@ known-fresh ts us (v ∷ vs) e (s ∷ ss) h =
     let more_vars : length next.variables ≡ suc (length e.variables) = omega (arith, length-append e.variables (new_variable e k ∷ [])) in
     let rest : trees_at us vs ≡ fresh_row (length next.variables) ss = rw more_vars cc in
     let is : kind_at (content_of ts (with_fresh next ss)) (length e.variables) ≡ Some k = (kinds-fresh ts next ss).kinds (length e.variables) k (kind-new ts e (new_variable e k)) in
-    (rw first ((is, tt), tt), known-fresh ts us vs next ss rest)
+    (rw first ((is, tt, refl), tt), known-fresh ts us vs next ss rest)
 
 continues-fresh : (ts : List Tree) (e : Entries) (ss : List Sort) → IsSound (content_of ts e) → Continues (content_of ts e) (content_of ts (with_fresh e ss))
 continues-fresh ts e [] h = Continues-refl (content_of ts e) h
@@ -573,8 +573,8 @@ IsAdmitted-extended {a} {b} {t} {g} e h k =
     let same = content_of-extended e h.now in
     record {
       holds = HoldsGoal-extended e k.holds;
-      env = record { closed = rw env k.env.closed; positions = rw env k.env.positions; knows = rw (env, same) k.env.knows };
-      predicate = record { closed = rw predicate k.predicate.closed; positions = rw predicate k.predicate.positions; knows = rw (predicate, same) k.predicate.knows };
+      env = record { closed = rw env k.env.closed; knows = rw (env, same) k.env.knows };
+      predicate = record { closed = rw predicate k.predicate.closed; knows = rw (predicate, same) k.predicate.knows };
       env_types = rw (env, same) k.env_types;
       asked = rw predicate k.asked;
     }

@@ -57,7 +57,7 @@ use Rattle.nts_terms.specs.declared.handles.Goal.{Goal}
 use Rattle.nts_delegate.specs.Candidates.{AreEquations, AreRegionConstraints, AreNested, IsCandidate, AreCandidates}
 use Rattle.nts_delegate.specs.Offered.{certainty_of, access_of, source_of, equation_as, equation_of, hidden_of, constraint_of, premise_of, candidate_of, candidates_of}
 use Rattle.nts_evaluation.specs.Running.{IsTermTable, Stays, EquationHolds, ConstraintHolds, PremiseHolds, EachStays, EquatesEach, Constrains, Proves}
-use Rattle.nts_evaluation.specs.Evaluation.{Goes}
+use Rattle.nts_evaluation.specs.Evaluation.{Goes, AllKnown}
 use Rattle.nts_table.specs.Tables.{IsTermOf}
 use Rattle.nts_evaluation.proofs.Evaluating.{candidate_at}
 use Rattle.nts_unify.proofs.Keeping.{Knows-later}
@@ -270,10 +270,17 @@ equality_stays {b} {e} {t} {u} {y} {z} r q g f l k i j h =
       later = λ d s n. rw q (regions_held d (tree_at b y) (tree_at b z) s (later_term d g f l refl n) (later_term d g f k refl n) (rw q at i) j (h.later d s n));
     }
 
+-- one of the values
+one_known : (c : Content) (vs : List Tree) (v : Tree) → AllKnown c vs → Among vs v → Knows c v
+one_known c [] v h i = absurd i
+one_known c (x ∷ xs) v h (inl e) = rw e h.0
+one_known c (x ∷ xs) v h (inr i) = one_known c xs v h.1 i
+
 -- the parts of a candidate that was run hold
 pub record HasRun (m : Meaning) (mode : Mode) (c : Content) (x : Candidate) (vs : List Tree) : Type 0 where
   pub sure : x.certainty ≡ certain
   pub values : AreValuesOf x.fresh vs
+  pub known : AllKnown c vs
   pub equations : EachStays c (EquationHolds vs) x.equations
   pub constraints : EachStays c (ConstraintHolds vs) x.constraints
   pub goals : EachStays c (PremiseHolds m mode vs) x.goals
@@ -288,6 +295,7 @@ has_run h v mode c x vs e g law asked ke kg offered run =
           (record {
             chosen = vs;
             values = run.values;
+            known = λ v i. Knows-kept c d v (record { grows = k.grows; kinds = k.kinds }) (one_known c vs v run.known i);
             equations = λ q i. (let s = each_stays c (EquationHolds vs) x.equations q run.equations i in s.later d t k);
             constraints = λ q i. (let s = each_stays c (ConstraintHolds vs) x.constraints q run.constraints i in s.later d t k);
             goals = λ q i. (let s = each_stays c (PremiseHolds (meaning h v) mode vs) x.goals q run.goals i in s.later d t k);

@@ -8,7 +8,7 @@ use Rattle.nts_model.specs.declared.labels.PredicateHead.TheVariants as predicat
 use Rattle.nts_model.specs.declared.labels.Label.{Label}
 use Rattle.nts_model.specs.declared.labels.Label.TheVariants as label
 use Rattle.nts_model.specs.declared.labels.Sort.{Sort}
-use Rattle.nts_model.specs.Trees.{Tree, kind_of, of_sort, IsClosed, any_label, is_canonical}
+use Rattle.nts_model.specs.Trees.{Tree, kind_of, of_sort, IsClosed, any_label}
 use Rattle.nts_model.specs.Contents.{Content}
 use Rattle.nts_model.specs.Resolving.{Knows, deeply_resolved, IsSound}
 use Rattle.nts_model.specs.Holding.{Continues}
@@ -87,7 +87,6 @@ is_internal l = false
 -- a term that may stand in a goal at the root
 pub record IsRootTerm (ts : List Tree) (t : Table) (x : NodeId) : Type 0 where
   pub closed : IsClosed (tree_at ts x)
-  pub positions : any_label is_canonical (tree_at ts x) ≡ false
   pub knows : Knows (content_of ts t.entries) (tree_at ts x)
 
 -- a goal that may be asked at the root

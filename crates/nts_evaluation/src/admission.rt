@@ -43,17 +43,14 @@ impl LabelTest for NoInternalPredicate {
     }
 }
 
-/// Whether a term may stand in a goal at the root: no bound variable escapes, none names a position
-/// of a canonical value, and the variables are the table's.
+/// Whether a term may stand in a goal at the root: no bound variable escapes, and it is a term of the
+/// table's.
 pub fn is_root_term(table: &InferCtxt, cx: &Cx, t: NodeId) -> Result<bool, AllocError>
     requires { IsIn cx.now.nodes t }
     ensures { IfOk result (λ b. IsTrue b ↔ IsRootTerm cx.now.nodes table.now t) }
 {
     let flags = cx.nodes.flags(t);
     if flags.escaping.is_some() {
-        return Ok(false);
-    }
-    if flags.has_canonical {
         return Ok(false);
     }
     table.knows_node(cx.alloc, &cx.nodes, t)

@@ -1,9 +1,10 @@
 //! The recursion over nested goals. Its functions stand on the stack once for each goal above, so what
 //! they call and is not of the recursion is kept out of their frames, by `inline(never)`.
 ghost use Rattle.std.specs.Prelude.{true, false, ◌≡◌, ◌≢◌, ◌<◌, ◌≤◌, ◌/◌, ◌-◌, IfOk, OnErr, IfSome, IsNone, ◌↔◌, length, get_or};
-ghost use Rattle.nts_store.specs.Growth.{Extends};
+ghost use Rattle.nts_model.specs.Sequents.{HasClosedStatements};
+ghost use Rattle.nts_store.specs.Growth.{tree_at, Extends};
 ghost use Rattle.nts_delegate.specs.Candidates.{IsAsked, IsCandidate, AreCandidates, IsNested};
-ghost use Rattle.nts_terms.specs.Handles.{HoldsGoal};
+ghost use Rattle.nts_terms.specs.Handles.{HoldsEnv, HoldsGoal};
 ghost use Rattle.nts_terms.specs.Modes.{mode_of};
 ghost use Rattle.nts_evaluation.specs.Meant.{Since, meaning_since, IfYes, IsPremiseProved, AreOffered, IsOffered, IsProvedSince};
 ghost use Rattle.nts_evaluation.specs.Evaluation.{Runs, IsPosed, AreValues};
@@ -16,7 +17,7 @@ use nts_certainty::Certainty;
 use nts_delegate::{CandidateData, CandidateGoal, GoalHandler};
 use nts_store::EvalError;
 use nts_table::InferCtxt;
-use nts_terms::{ClauseKind, Cx, Goal, PredicateKind};
+use nts_terms::{ClauseKind, Cx, Goal, ParamEnv, PredicateKind};
 
 /// What a goal inside of an evaluation was answered.
 #[derive(Clone, Copy)]
@@ -106,7 +107,8 @@ fn compute_goal<H: GoalHandler>(
 }
 
 /// Whether a goal is answered by the handler's candidates: a closed trait goal that binds nothing, and
-/// that has neither aliases nor positions of a canonical value.
+/// that has neither aliases nor positions of a canonical value. In its environment, too, no bound variable
+/// names a binder that binds nothing.
 #[inline(never)]
 fn is_candidates_goal(cx: &Cx, goal: Goal) -> bool
     requires { HoldsGoal cx.now.nodes goal }
@@ -121,6 +123,9 @@ fn is_candidates_goal(cx: &Cx, goal: Goal) -> bool
     if env.escaping.is_some() || predicate.vars.len(cx) != 0 {
         return false;
     }
+    if !statements_are_closed(cx, goal.param_env) {
+        return false;
+    }
     let PredicateKind::Clause(clause) = predicate.value else {
         return false;
     };
@@ -130,6 +135,20 @@ fn is_candidates_goal(cx: &Cx, goal: Goal) -> bool
     terms_are_formed(cx);
     let args = cx.nodes.flags(trait_ref.args.node);
     args.escaping.is_none()
+}
+
+/// Whether no bound variable names a binder of the environment that binds nothing.
+#[inline(never)]
+fn statements_are_closed(cx: &Cx, env: ParamEnv) -> bool
+    requires { HoldsEnv cx.now.nodes env }
+    ensures { result ≡ true → HasClosedStatements (tree_at cx.now.nodes env.node) }
+{
+    for i in 0..env.len(cx) {
+        if !env.get(cx, i).has_closed_statement(cx) {
+            return false;
+        }
+    }
+    true
 }
 
 /// Answers by the one candidate whose equations hold. Where none does, nothing holds; where several do,

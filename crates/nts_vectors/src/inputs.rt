@@ -241,8 +241,6 @@ impl Fixture {
         assert!(rt; self.cx.holds(predicate));
         assert!(rt; self.table.knows(&self.cx, param_env).expect(rt, "memory"));
         assert!(rt; self.table.knows(&self.cx, predicate).expect(rt, "memory"));
-        assert!(rt; !self.cx.has_canonical_bound(param_env));
-        assert!(rt; !self.cx.has_canonical_bound(predicate));
         let goal = Goal {
             param_env,
             predicate,

@@ -1,6 +1,8 @@
 use Rattle.std.proofs.Common.{refl, ap, ◌∙◌, map}
 use Rattle.nts_model.specs.Substitutions.{leaf_tree}
-use Rattle.nts_model.specs.Inputs.{position_kind}
+use Rattle.nts_model.specs.Inputs.{whole, position_kind}
+use Rattle.nts_model.proofs.Unpositioned.{known_no_positions}
+use Rattle.nts_unify.specs.Reading.{content_of}
 use Rattle.nts_canonical.specs.SubRoots.{sub_root_in}
 use Rattle.nts_canonical.specs.Forms.{input_of}
 use Rattle.nts_canonical.proofs.PairLists.{are_hidden-kept, AreLeafArgs-kept, trees_of-leaves, AreLeafArgs-hold}
@@ -40,9 +42,10 @@ returns-clause-canonical c =
 
 pub returns-clause-askable : goal.returns-clause-askable
 returns-clause-askable c =
-    λ h. (let i = input_of c.args.cx.now.nodes c.args.table.now.entries c.args.goal c.args.opaque_types.now in
+    let i = input_of c.args.cx.now.nodes c.args.table.now.entries c.args.goal c.args.opaque_types.now in
+    let h = known_no_positions (content_of c.args.cx.now.nodes c.args.table.now.entries) (whole i) c.requires.knows in
     let is = returns-clause-canonical c in
     record {
       positions = values_of (originals_are_values i h) is.form is.originals;
       input = handed_in is.holds refl is.form (form-kinds i) (form-positions i h) (form-no_name i);
-    })
+    }

@@ -201,6 +201,7 @@ run_candidate-returns-clause-proved g t c = λ s offered y.
     let run : HasRun (meaning (g.H.GoalHandler.handler s.base c.args.handler.now) s.variances) (mode_of c.args.table.now.mode) (content_of c.loop-nested.cx.nodes c.loop-nested.table.entries) (candidate_of c.args.cx.now.nodes c.args.candidate.now) (map (tree_at c.loop-nested.cx.nodes) c.deref-2.result.now) = record {
       sure = ap certainty_of (i.sure y);
       values = rw c.deref.ensures.value at i.values.values;
+      known = i.values.known;
       equations = i.equal;
       constraints = i.held;
       goals = rw all at (i.proved s y);

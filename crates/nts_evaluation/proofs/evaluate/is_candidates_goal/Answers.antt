@@ -1,5 +1,6 @@
 use Rattle.std.proofs.Common.{rules, ◌≡◌, ◌∙◌, false, not, is_some, ap}
 use Rattle.nts_model.specs.Trees.{children, row_length}
+use Rattle.nts_model.specs.Sequents.{HasClosedStatements}
 use Rattle.nts_store.specs.Growth.{tree_at}
 use Rattle.nts_terms.specs.declared.kinds.PredicateKind.TheVariants as predicate
 use Rattle.nts_evaluation.proofs.Asking.{trait_asked}
@@ -11,6 +12,7 @@ returns c = λ yes.
     let args_open : is_some c.flags-args.result.escaping ≡ false = c.is_none.ensures ∙ ap not yes in
     let env_names : c.flags-env.result.has_canonical ≡ false = first_of (cc, search rules) in
     let goal_names : c.flags-flags.result.has_canonical ≡ false = first_of (cc, search rules) in
+    let statements : HasClosedStatements (tree_at c.args.cx.now.nodes c.args.goal.param_env.node) = c.statements_are_closed.ensures (first_of (cc, search rules)) in
     let none : row_length (children (tree_at c.args.cx.now.nodes c.kind-predicate.result.vars.node)) ≡ 0 = first_of (cc, search rules) in
     trait_asked c.args.cx.now.nodes c.args.goal c.kind-predicate.result c.in-Trait.trait_ref c.flags-env.result c.flags-flags.result c.flags-args.result
     (record {
@@ -28,4 +30,5 @@ returns c = λ yes.
       args_closed = args_open;
       env_names = env_names;
       goal_names = goal_names;
+      statements = statements;
     })

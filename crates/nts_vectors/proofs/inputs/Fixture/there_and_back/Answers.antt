@@ -1,16 +1,12 @@
-use Rattle.std.proofs.Common.{◌≡◌, false, rules, sym, ◌∙◌}
 use Rattle.nts_store.proofs.Growing.{Extends-trans}
-use Rattle.nts_store.specs.Growth.{tree_at}
 use Rattle.nts_table.specs.TableLaws.{IsTable-extended}
 use Rattle.nts_canonical.specs.Forms.{query_tree}
-use Rattle.nts_canonical.proofs.Trying.{none_named, same_values}
+use Rattle.nts_canonical.proofs.Trying.{same_values}
 use Rattle.nts_vectors.proofs.inputs.Fixture.there_and_back.Goals as goal
 
 pub instantiate_canonical-requires-clause-positions : goal.instantiate_canonical-requires-clause-positions
 instantiate_canonical-requires-clause-positions g c =
-    let first : c.has_canonical_bound.result ≡ false = search rules in
-    let second : c.has_canonical_bound-2.result ≡ false = search rules in
-    let askable = c.canonicalize_goal.ensures.askable (none_named (tree_at c.args.self.now.cx.nodes c.args.param_env.node) (tree_at c.args.self.now.cx.nodes c.args.predicate.node) (sym c.has_canonical_bound.ensures ∙ first) (sym c.has_canonical_bound-2.ensures ∙ second)) in
+    let askable = c.canonicalize_goal.ensures.askable in
     let ts = c.canonicalize_goal.new.cx.nodes in
     same_values ts c.deref.result.now c.expect-originals.result.0.items (query_tree ts c.expect-originals.result.1.canonical.value) c.deref.ensures.value (rw c.expect-originals.ensures at askable).positions
 
