@@ -1,5 +1,5 @@
 -- What the tests of a goal at the root say.
-use Rattle.std.proofs.Common.{◌≡◌, ◌↔◌, Bool, true, false, List, is_some, refl, ap, sym, ◌∙◌}
+use Rattle.std.proofs.Common.{◌≡◌, ◌↔◌, Bool, true, false, List, is_some, refl, ap}
 use Rattle.std.specs.Prelude.{IsTrue}
 use Rattle.nts_model.specs.declared.labels.Label.{Label}
 use Rattle.nts_model.specs.Trees.{Tree, empty, more, node, any_label}

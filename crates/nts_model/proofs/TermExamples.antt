@@ -1,5 +1,5 @@
 -- What a proof does not speak of: positions of canonical values, and bound variables that name a binder that binds nothing.
-use Rattle.std.proofs.Common.{◌≡◌, ◌<◌, List, [], ◌∷◌, true, false, inl, refl, arith}
+use Rattle.std.proofs.Common.{◌≡◌, ◌<◌, [], true, false, inl, refl, arith}
 use Rattle.nts_model.specs.declared.labels.Sort.TheVariants as sort
 use Rattle.nts_model.specs.declared.labels.BoundVarIndexKind.TheVariants as index
 use Rattle.nts_model.specs.declared.labels.ClauseHead.TheVariants as clause
@@ -7,7 +7,7 @@ use Rattle.nts_model.specs.declared.labels.ListHead.TheVariants as list
 use Rattle.nts_model.specs.declared.labels.Label.TheVariants as label
 use Rattle.nts_model.specs.Trees.{Tree, empty, more, node, IsClosed, IsFormed}
 use Rattle.nts_model.specs.Numbered.{position}
-use Rattle.nts_model.specs.Related.{Constraint, pair, arguments, unbound}
+use Rattle.nts_model.specs.Related.{Constraint, arguments, unbound}
 use Rattle.nts_model.specs.Sequents.{Among, Premise, Hidden, Sequent, IsOfTerms}
 use Rattle.nts_model.specs.Rules.{Meaning, Mode, IsTerm, IsApplied}
 use Rattle.nts_model.proofs.ProofExamples.{nowhere, auto_list}

@@ -1,7 +1,6 @@
 -- Terms without positions of canonical values.
-use Rattle.std.proofs.Common.{◌≡◌, Bool, true, false, refl, sym, ap, ◌∙◌}
+use Rattle.std.proofs.Common.{◌≡◌, Bool, true, false, refl}
 use Rattle.std.specs.Prelude.{◌||◌}
-use Rattle.nts_model.specs.declared.labels.Label.{Label}
 use Rattle.nts_model.specs.Trees.{Tree, empty, more, node, any_label, is_canonical, Meets, shape, IsFormed}
 use Rattle.nts_model.specs.Contents.{Content}
 use Rattle.nts_model.specs.Resolving.{KnowsLeaves, Knows}

@@ -324,11 +324,6 @@ impl Fixture {
         assert!(rt; self.table.knows(&self.cx, args).expect(rt, "memory"));
         assert!(rt; self.table.knows(&self.cx, first).expect(rt, "memory"));
         assert!(rt; self.table.knows(&self.cx, second).expect(rt, "memory"));
-        assert!(rt; !self.cx.has_canonical_bound(param_env));
-        assert!(rt; !self.cx.has_canonical_bound(predicate));
-        assert!(rt; !self.cx.has_canonical_bound(args));
-        assert!(rt; !self.cx.has_canonical_bound(first));
-        assert!(rt; !self.cx.has_canonical_bound(second));
         let alias = AliasTerm {
             def_id: AliasDefId::Ty(self.hidden),
             args,

@@ -18,10 +18,9 @@ returns c =
     let t = tree_at ts c.args.self.node in
     let v = tree_at ts c.binder_children.result.0 in
     let b = tree_at ts c.binder_children.result.1 in
-    let none : row_length (children v) ≡ 0 = first_of (cc, search rules) in
-    (
+    let none : row_length (children v) ≡ 0 = first_of (cc, search rules) in (
       (λ yes. body_closed t v b c.binder_children.ensures.tree (closed_by_facts b c.flags.result c.flags.ensures (c.is_none.ensures ∙ ap not yes))),
       (λ h.
-      let closed : IsClosed b = closed_body t v b c.binder_children.ensures.tree c.binder_children.ensures.vars.fits c.child_count.ensures.row none h in
-      by_flag (is_some c.flags.result.escaping) c.is_none.result c.is_none.ensures (λ k. open_by_facts b c.flags.result c.flags.ensures k closed)),
+          let closed : IsClosed b = closed_body t v b c.binder_children.ensures.tree c.binder_children.ensures.vars.fits c.child_count.ensures.row none h in
+          by_flag (is_some c.flags.result.escaping) c.is_none.result c.is_none.ensures (λ k. open_by_facts b c.flags.result c.flags.ensures k closed)),
     )
