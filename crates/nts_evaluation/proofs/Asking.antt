@@ -1,5 +1,5 @@
 -- Which goals are asked of a handler.
-use Rattle.std.proofs.Common.{◌≡◌, ◌⊎◌, inl, inr, ⊎_elim, ℕ, zero, suc, ◌+◌, ◌<◌, ◌≤◌, ◌||◌, false, List, is_some, refl, sym, ap, ◌∙◌, subst, arith}
+use Rattle.std.proofs.Common.{◌≡◌, inl, inr, ℕ, suc, ◌<◌, ◌≤◌, ◌||◌, false, List, is_some, refl, sym, ap, ◌∙◌, subst, arith}
 use Rattle.nts_model.specs.declared.labels.ClauseHead.TheVariants as clause_head
 use Rattle.nts_model.specs.declared.labels.ListHead.TheVariants as list
 use Rattle.nts_model.specs.declared.labels.Label.TheVariants as label
@@ -39,15 +39,6 @@ row_of_none (node l c) r e = absurd r
 -- the statements of the first predicates of an environment are closed
 abbrev pub AreClosedBelow : ℕ → Tree → Type 0
 AreClosedBelow i r = (j : ℕ) → j < i → HasClosedStatement (row_at r j)
-
-pub closed_more : (r : Tree) (i : ℕ) → AreClosedBelow i r → HasClosedStatement (row_at r i) → AreClosedBelow (i + 1) r
-closed_more r i h k j l = ⊎_elim (λ (below : j < i). h j below) (λ (e : j ≡ i). rw e k) (below_or_same j i l)
-  where
-    below_or_same : (j i : ℕ) → j < i + 1 → (j < i) ⊎ (j ≡ i)
-    below_or_same zero zero l = inr refl
-    below_or_same zero (suc i) l = inl (omega arith)
-    below_or_same (suc j) zero l = absurd (omega (arith, l))
-    below_or_same (suc j) (suc i) l = ⊎_elim (λ h. inl (omega (arith, h))) (λ e. inr (ap suc e)) (below_or_same j i (omega (arith, l)))
 
 row_closed : (r p : Tree) → AreClosedBelow (row_length r) r → IsInRow p r → HasClosedStatement p
 row_closed empty p h i = absurd i
