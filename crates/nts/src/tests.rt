@@ -86,6 +86,16 @@ fn cycles_and_depths(rt: HostRuntime) {
                 b"trait Clone(type)\ntype Vec(type)\nimpl Clone(u32)\nimpl Clone(Vec(?T)) <- Clone(?T)\ndepth 0\ngoal Clone(u32)\ngoal Clone(Vec(u32))\n",
                 b"yes\nmaybe overflow\n",
             ),
+            // A goal of height two at its depth and one below, held and refuted.
+            done(
+                b"trait Clone(type)\ntype Vec(type)\nimpl Clone(u32)\nimpl Clone(Vec(?T)) <- Clone(?T)\ndepth 2\ngoal Clone(Vec(Vec(u32)))\ngoal Clone(Vec(Vec(u8)))\ndepth 1\ngoal Clone(Vec(Vec(u32)))\ngoal Clone(Vec(Vec(u8)))\n",
+                b"yes\nno\nmaybe overflow\nmaybe overflow\n",
+            ),
+            // After an overflow a goal has a quarter of the depth: two levels of eight, not three.
+            done(
+                b"trait L(type)\ntrait C(type)\ntrait A(type)\ntype W(type)\nimpl L(W(?X)) <- L(W(W(?X)))\nimpl C(W(?T)) <- C(?T)\nimpl A(u8) <- L(W(u8)), C(W(W(u8)))\nimpl A(u16) <- L(W(u8)), C(W(W(W(u8))))\nimpl A(u32) <- C(W(W(W(u8)))), L(W(u8))\ndepth 8\ngoal A(u8)\ngoal A(u16)\ngoal A(u32)\n",
+                b"no\nmaybe overflow\nno\n",
+            ),
         ],
     );
 }

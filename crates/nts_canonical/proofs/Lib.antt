@@ -15,3 +15,6 @@ pub mod Valued
 pub mod Registered
 pub mod Built
 pub mod Handed
+pub mod FoldedIn
+pub mod FoldedQueries
+pub mod FilledQueries

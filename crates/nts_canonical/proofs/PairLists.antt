@@ -24,7 +24,8 @@ pub alias_replaced : (f : Leaf → Tree) (a : AliasDefId) (c : Tree) → replace
 alias_replaced f (alias_def.Ty a) c = refl
 alias_replaced f (alias_def.Const a) c = refl
 
-label_filled : (vs : List Tree) (a : AliasDefId) (c : Tree) → filled vs (node (alias_label (alias_head a)) c) ≡ node (alias_label (alias_head a)) (filled vs c)
+-- values in place of positions leave the label of an alias
+pub label_filled : (vs : List Tree) (a : AliasDefId) (c : Tree) → filled vs (node (alias_label (alias_head a)) c) ≡ node (alias_label (alias_head a)) (filled vs c)
 label_filled vs (alias_def.Ty a) c = refl
 label_filled vs (alias_def.Const a) c = refl
 

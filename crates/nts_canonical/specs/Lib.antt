@@ -7,3 +7,4 @@ pub mod Owned
 pub mod Alike
 pub mod Kinds
 pub mod Building
+pub mod Folds

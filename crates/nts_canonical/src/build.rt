@@ -19,7 +19,7 @@ ghost use Rattle.nts_canonical.specs.Building.{kinds_of, values_of, made_entries
 ghost use Rattle.nts_terms.specs.Rest.{Grows};
 ghost use Rattle.nts_table.specs.Frames.{ChangesEntries};
 
-use crate::instantiate::instantiate_canonical;
+use crate::queries::instantiate_query;
 use crate::types::{CanonicalInput, CanonicalVarKind, QueryInput};
 use nts_model::{Constant, FreeRegion, Label, Leaf, VariableKind};
 use nts_store::{Fault, Nodes};
@@ -53,7 +53,7 @@ pub fn build_with_canonical(
     let mode = input.typing_mode.clone()?;
     let mut table = InferCtxt::new(cx.alloc, mode);
     let values = make_values(&mut table, cx, &input.canonical.var_kinds)?;
-    let query = instantiate_canonical(cx, &input.canonical, values.as_slice())?;
+    let query = instantiate_query(cx, &input.canonical, values.as_slice())?;
     register_hidden(&mut table, cx, &query.predefined_opaques_in_body)?;
     Ok((table, query, values))
 }

@@ -1,126 +1,119 @@
-//! Values in place of the positions of a canonical input.
-ghost use Rattle.std.specs.Prelude.{◌≡◌, List, All, map, IfOk, IsOkUnless};
+//! Values in place of the positions of a canonical value.
+ghost use Rattle.std.specs.Prelude.{◌≡◌, List, All, IfOk, IfSome, IsOkUnless, option_map, refl};
+ghost use Rattle.nts_model.specs.Trees.{Tree};
 ghost use Rattle.nts_model.specs.Handlers.{filled};
-ghost use Rattle.nts_store.specs.Growth.{tree_at, AllIn, Extends};
-ghost use Rattle.nts_terms.specs.Handles.{Holds, HoldsArg};
+ghost use Rattle.nts_store.specs.declared.fault.Fault.TheVariants.{Memory};
+ghost use Rattle.nts_store.specs.Growth.{tree_at};
 ghost use Rattle.nts_store.specs.Filled.{HasValues};
-ghost use Rattle.nts_canonical.specs.Forms.{hidden_pairs, query_tree, trees_of, IsHidden, AreHidden, HoldsQuery};
-ghost use Rattle.nts_canonical.specs.Replaced.{IsImage, AreImages};
+ghost use Rattle.nts_terms.specs.Handles.{Holds, HoldsArg};
 ghost use Rattle.nts_terms.specs.Rest.{Grows};
+ghost use Rattle.nts_canonical.specs.Forms.{trees_of};
+ghost use Rattle.nts_canonical.specs.Folds.{StandsFor, AreHeld-kept, trees_of-kept};
 
-use crate::types::{Canonical, QueryInput};
-use nts_store::{Fault, NodeId, Nodes};
-use nts_terms::{AliasTerm, Cx, GenericArg, Goal, Stored, Ty};
-use std::alloc::{AllocError, Global};
+use crate::types::Canonical;
+use nts_folding::{TypeFoldable, TypeFolder};
+use nts_model::{BoundVarIndexKind, Label};
+use nts_store::Fault;
+use nts_terms::{Const, Cx, GenericArg, Predicate, Region, Stored, Term, Ty};
 
-/// The query with value i in place of the bound variable that names position i. With the originals of a
-/// goal as values it is the goal again (`nts_model::originals_give_input`).
-pub fn instantiate_canonical(
+/// The value with value i in place of the bound variable that names position i. With the originals of a
+/// goal as values, its canonical query is the goal again (`nts_model::originals_give_input`). What has
+/// positions is walked at each place where it stands.
+pub fn instantiate_canonical<T: TypeFoldable>(
     cx: &mut Cx,
-    canonical: &Canonical<QueryInput>,
+    canonical: Canonical<T>,
     values: &[GenericArg],
-) -> Result<QueryInput, Fault>
-    requires holds { HoldsQuery cx.old.nodes canonical.now.value }
+) -> Result<T, Fault>
+    requires holds { T.holds cx.old.nodes canonical.value }
     requires values { All (HoldsArg cx.old.nodes) values.now }
-    requires positions { HasValues (trees_of cx.old.nodes values.now) (query_tree cx.old.nodes canonical.now.value) }
-    ensures tree { IfOk result (λ q. query_tree cx.new.nodes q ≡ filled (trees_of cx.old.nodes values.now) (query_tree cx.old.nodes canonical.now.value)) }
-    ensures holds { IfOk result (HoldsQuery cx.new.nodes) }
+    requires positions { HasValues (trees_of cx.old.nodes values.now) (T.tree cx.old.nodes canonical.value) }
+    ensures tree { IfOk result (λ r. T.tree cx.new.nodes r ≡ filled (trees_of cx.old.nodes values.now) (T.tree cx.old.nodes canonical.value)) }
+    ensures holds { IfOk result (T.holds cx.new.nodes) }
     ensures grows { Grows cx.old cx.new }
     ensures memory { IsOkUnless result Fault.Memory }
 {
-    let values = nodes_of(cx.alloc, values)?;
-    let query = fill_query(cx.alloc, &mut cx.nodes, &values, &canonical.value)?;
-    Ok(query)
+    let mut filler = Filler { values };
+    let value = canonical.value.fold_with(cx, &mut filler)?;
+    Ok(value)
 }
 
-fn nodes_of(alloc: Global, values: &[GenericArg]) -> Result<Vec<NodeId>, AllocError>
-    ensures { IfOk result (λ v. v.items ≡ map (λ a. a.node) values.now) }
-{
-    values.iter().map(|value| value.node).collect(alloc)
+/// Puts values in place of positions. Values have no positions of their own, and bind nothing that
+/// stands outside of them, so that binders do not matter.
+#[derive(Drop)]
+struct Filler<'a> {
+    values: &'a [GenericArg],
 }
 
-fn fill_query(
-    alloc: Global,
-    nodes: &mut Nodes,
-    values: &[NodeId],
-    query: &QueryInput,
-) -> Result<QueryInput, AllocError>
-    requires holds { HoldsQuery nodes.old query.now }
-    requires values { AllIn nodes.old values.now }
-    requires positions { HasValues (map (tree_at nodes.old) values.now) (query_tree nodes.old query.now) }
-    ensures tree { IfOk result (λ q. query_tree nodes.new q ≡ filled (map (tree_at nodes.old) values.now) (query_tree nodes.old query.now)) }
-    ensures holds { IfOk result (HoldsQuery nodes.new) }
-    ensures extends { Extends nodes.old nodes.new }
-{
-    let param_env = fill(alloc, nodes, values, query.goal.param_env)?;
-    let predicate = fill(alloc, nodes, values, query.goal.predicate)?;
-    let hidden = fill_hidden(alloc, nodes, values, &query.predefined_opaques_in_body)?;
-    Ok(QueryInput {
-        goal: Goal {
-            param_env,
-            predicate,
-        },
-        predefined_opaques_in_body: hidden,
-    })
-}
+impl TypeFolder for Filler<'_> {
+    type Error = Fault;
 
-fn fill_hidden(
-    alloc: Global,
-    nodes: &mut Nodes,
-    values: &[NodeId],
-    opaque_types: &[(AliasTerm, Ty)],
-) -> Result<Vec<(AliasTerm, Ty)>, AllocError>
-    requires holds { AreHidden nodes.old opaque_types.now }
-    requires values { AllIn nodes.old values.now }
-    requires positions { HasValues (map (tree_at nodes.old) values.now) (hidden_pairs nodes.old opaque_types.now) }
-    ensures images { IfOk result (λ v. AreImages (filled (map (tree_at nodes.old) values.now)) nodes.old nodes.new opaque_types.now v.items) }
-    ensures extends { Extends nodes.old nodes.new }
-{
-    let mut hidden = Vec::with_capacity(alloc, opaque_types.len())?;
-    for i in 0..opaque_types.len() {
-        let one = fill_pair(alloc, nodes, values, opaque_types[i])?;
-        hidden.push(one)?;
+    ghost Meaning = { List Tree };
+
+    ghost meaning = { λ ts s. trees_of ts s.values.now };
+
+    ghost ready = { λ ts s. All (HoldsArg ts) s.values.now };
+
+    ghost answers = { λ s x o t. StandsFor s x o × (t ≡ s) };
+
+    ghost enters = { λ s t. t ≡ s };
+
+    ghost leaves = { λ s t. t ≡ s };
+
+    ghost rebuilds = { λ s x y t. (y ≡ x) × (t ≡ s) };
+
+    ghost fails = { λ e. e ≡ Memory };
+
+    ghost ready_kept = { λ a b s h e. AreHeld-kept a b s.values.now h e };
+
+    ghost memory_fails = { λ e h. h };
+
+    ghost meaning_kept = { λ a b s h e. trees_of-kept a b s.values.now h e };
+
+    fn fold_ty(&mut self, cx: &mut Cx, t: Ty) -> Result<Option<Ty>, Fault> {
+        Ok(value_for(cx, self.values, t))
     }
-    Ok(hidden)
+
+    fn fold_region(&mut self, cx: &mut Cx, t: Region) -> Result<Option<Region>, Fault> {
+        Ok(value_for(cx, self.values, t))
+    }
+
+    fn fold_const(&mut self, cx: &mut Cx, t: Const) -> Result<Option<Const>, Fault> {
+        Ok(value_for(cx, self.values, t))
+    }
+
+    fn fold_predicate(&mut self, cx: &mut Cx, t: Predicate) -> Result<Option<Predicate>, Fault> {
+        Ok(value_for(cx, self.values, t))
+    }
+
+    fn enter_binder(&mut self) -> Result<(), Fault> {
+        Ok(())
+    }
+
+    fn leave_binder(&mut self) {}
+
+    fn rebuilt(&mut self, _cx: &mut Cx, t: Term) -> Result<Term, Fault> {
+        Ok(t)
+    }
 }
 
-fn fill_pair(
-    alloc: Global,
-    nodes: &mut Nodes,
-    values: &[NodeId],
-    hidden: (AliasTerm, Ty),
-) -> Result<(AliasTerm, Ty), AllocError>
-    requires holds { IsHidden nodes.old hidden }
-    requires values { AllIn nodes.old values.now }
-    requires alias_positions { HasValues (map (tree_at nodes.old) values.now) (tree_at nodes.old hidden.0.args.node) }
-    requires positions { HasValues (map (tree_at nodes.old) values.now) (tree_at nodes.old hidden.1.node) }
-    ensures image { IfOk result (IsImage (filled (map (tree_at nodes.old) values.now)) nodes.old nodes.new hidden) }
-    ensures extends { Extends nodes.old nodes.new }
+/// What stands for a term that is a position, or has none.
+fn value_for<T: Stored>(cx: &Cx, values: &[GenericArg], t: T) -> Option<T>
+    requires holds { Holds T.place cx.now.nodes (T.id t) }
+    requires values { All (HoldsArg cx.now.nodes) values.now }
+    ensures holds { IfSome result (λ r. Holds T.place cx.now.nodes (T.id r)) }
+    ensures stands { StandsFor (trees_of cx.now.nodes values.now) (tree_at cx.now.nodes (T.id t)) (option_map (λ r. tree_at cx.now.nodes (T.id r)) result) }
 {
-    let (alias, ty) = hidden;
-    let args = fill(alloc, nodes, values, alias.args)?;
-    let ty = fill(alloc, nodes, values, ty)?;
-    let alias = AliasTerm {
-        def_id: alias.def_id,
-        args,
+    let node = t.node();
+    // Most terms hold no such variable, and are left alone without a walk.
+    if !cx.nodes.flags(node).has_canonical {
+        return Some(t);
+    }
+    let Label::Bound(_, BoundVarIndexKind::Canonical, position) = cx.nodes.label(node) else {
+        return None;
     };
-    Ok((alias, ty))
-}
-
-/// The term with the values in place of its positions.
-fn fill<T: Stored>(
-    alloc: Global,
-    nodes: &mut Nodes,
-    values: &[NodeId],
-    x: T,
-) -> Result<T, AllocError>
-    requires holds { Holds T.place nodes.old (T.id x) }
-    requires values { AllIn nodes.old values.now }
-    requires positions { HasValues (map (tree_at nodes.old) values.now) (tree_at nodes.old (T.id x)) }
-    ensures extends { Extends nodes.old nodes.new }
-    ensures holds { IfOk result (λ r. Holds T.place nodes.new (T.id r)) }
-    ensures tree { IfOk result (λ r. tree_at nodes.new (T.id r) ≡ filled (map (tree_at nodes.old) values.now) (tree_at nodes.old (T.id x))) }
-{
-    let node = nts_store::instantiate_canonical(alloc, nodes, values, x.node())?;
-    Ok(T::from_node(node))
+    let value = values.get(position)?;
+    if T::may_have(cx.nodes.label(value.node)) {
+        return Some(T::from_node(value.node));
+    }
+    None
 }

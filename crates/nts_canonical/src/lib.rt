@@ -11,6 +11,7 @@ mod canonicalize;
 mod collecting;
 mod instantiate;
 mod numbering;
+mod queries;
 mod types;
 mod var_kinds;
 

@@ -2,9 +2,10 @@
 ghost use Rattle.std.specs.Prelude.{IfOk, IsOkUnless};
 ghost use Rattle.nts_canonical.specs.Alike.{IsCopy};
 
+use nts_folding::{TypeFoldable, TypeFolder};
 use nts_store::Fault;
 use nts_terms::{
-    AliasTerm, Goal, PlaceholderConst, PlaceholderRegion, PlaceholderType, Ty, TypingMode,
+    AliasTerm, Cx, Goal, PlaceholderConst, PlaceholderRegion, PlaceholderType, Ty, TypingMode,
     UniverseIndex,
 };
 
@@ -41,6 +42,29 @@ pub struct Canonical<V> {
 pub struct QueryInput {
     pub goal: Goal,
     pub predefined_opaques_in_body: Vec<(AliasTerm, Ty)>,
+}
+
+/// A query is folded as its goal and the list of its hidden types. Of an alias the arguments alone are folded.
+impl TypeFoldable for QueryInput {
+    ghost use Rattle.nts_canonical.specs.Forms.{HoldsQuery};
+    ghost use Rattle.nts_canonical.specs.Folds.{tree_of_query, HoldsQuery-kept, tree_of_query-kept};
+
+    ghost holds = { HoldsQuery };
+
+    ghost tree = { tree_of_query };
+
+    ghost holds_kept = { HoldsQuery-kept };
+
+    ghost tree_kept = { tree_of_query-kept };
+
+    fn fold_with<F: TypeFolder>(self, cx: &mut Cx, folder: &mut F) -> Result<QueryInput, F::Error> {
+        let goal = self.goal.fold_with(cx, folder)?;
+        let predefined_opaques_in_body = self.predefined_opaques_in_body.fold_with(cx, folder)?;
+        Ok(QueryInput {
+            goal,
+            predefined_opaques_in_body,
+        })
+    }
 }
 
 /// A canonical goal, and what it may know of hidden types.

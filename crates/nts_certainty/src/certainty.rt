@@ -3,7 +3,7 @@ ghost use Rattle.std.specs.Prelude.{◌≡◌};
 ghost use Rattle.nts_certainty.specs.Certainties.{both, either, cause_of_both, cause_of_either, jank_of_both, jank_of_either, ambiguous, overflowing};
 
 /// Why an answer is not known.
-#[derive(Clone, Copy, PartialEq, Eq)]
+#[derive(Clone, Copy, PartialEq, Eq, Debug)]
 pub enum MaybeCause {
     /// More must be known of the goal's variables.
     Ambiguity,
@@ -17,21 +17,21 @@ pub enum MaybeCause {
 }
 
 /// Whether the answer may become an error where a hidden type stays rigid.
-#[derive(Clone, Copy, PartialEq, Eq)]
+#[derive(Clone, Copy, PartialEq, Eq, Debug)]
 pub enum OpaqueTypesJank {
     AllGood,
     ErrorIfRigidSelfTy,
 }
 
 /// What is known of an answer that is not known.
-#[derive(Clone, Copy, PartialEq, Eq)]
+#[derive(Clone, Copy, PartialEq, Eq, Debug)]
 pub struct MaybeInfo {
     pub cause: MaybeCause,
     pub opaque_types_jank: OpaqueTypesJank,
 }
 
 /// How sure it is that a goal holds.
-#[derive(Clone, Copy, PartialEq, Eq)]
+#[derive(Clone, Copy, PartialEq, Eq, Debug)]
 pub enum Certainty {
     Yes,
     Maybe(MaybeInfo),

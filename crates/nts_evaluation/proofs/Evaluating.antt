@@ -7,7 +7,7 @@ use Rattle.nts_model.specs.declared.labels.Sort.{Sort}
 use Rattle.nts_model.specs.declared.labels.Relation.TheVariants as relation
 use Rattle.nts_model.specs.declared.labels.Label.{Label}
 use Rattle.nts_model.specs.Trees.{Tree, empty, more, node, kind_of, kind_of_label, of_sort, NodeKind, environment, bound_predicate}
-use Rattle.nts_model.specs.Contents.{Content, with_constraint, with_slot, kind_at}
+use Rattle.nts_model.specs.Contents.{Content, with_slot, kind_at}
 use Rattle.nts_model.specs.Resolving.{Knows, variable_tree, deeply_resolved}
 use Rattle.nts_store.specs.declared.nodes.NodeId.{NodeId}
 use Rattle.nts_terms.specs.declared.handles.Goal.{Goal}
@@ -28,7 +28,7 @@ use Rattle.nts_model.specs.Resolving.{IsSound}
 use Rattle.nts_model.specs.Holding.{Continues}
 use Rattle.nts_model.proofs.Held.{Continues-refl, Continues-trans, Continues-with_slot, Continues-with_constraint}
 use Rattle.nts_model.proofs.Sound.{IsSound-with_slot}
-use Rattle.nts_model.proofs.Slots.{Knows-kept, KeepsKinds, KeepsKinds-with_slot, field-with_slot_new, KeepsKinds-refl, KeepsKinds-trans}
+use Rattle.nts_model.proofs.Slots.{KeepsKinds, KeepsKinds-with_slot, field-with_slot_new, KeepsKinds-refl, KeepsKinds-trans}
 use Rattle.nts_unify.proofs.SavedLemmas.{push_inj}
 use Rattle.nts_table.proofs.GoingBack.{back_to}
 use Rattle.nts_table.proofs.Filling.{knows-filled}
@@ -279,7 +279,7 @@ kinds-fresh ts e (s ∷ ss) =
     let next = added e (new_variable e (variable_kind s)) in
     KeepsKinds-trans (kinds-added ts e (new_variable e (variable_kind s))) (kinds-fresh ts next ss)
 
-length-slots : (ts : List Tree) (vs : List Variable) → length (map (slot_of ts) vs) ≡ length vs
+pub length-slots : (ts : List Tree) (vs : List Variable) → length (map (slot_of ts) vs) ≡ length vs
 length-slots ts [] = refl
 length-slots ts (v ∷ vs) = ap suc (length-slots ts vs)
 

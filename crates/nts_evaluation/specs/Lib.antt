@@ -3,3 +3,4 @@ pub mod Evaluation
 pub mod Instances
 pub mod Meant
 pub mod Running
+pub mod Refuting

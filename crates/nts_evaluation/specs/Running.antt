@@ -38,7 +38,10 @@ EquationHolds vs q d = HoldsEquationAt d vs q
 abbrev pub ConstraintHolds : List Tree → Constraint → Content → Type 0
 ConstraintHolds vs x d = IsHeldAt d vs x
 
--- the constraint between two trees is held
+-- the constraint between two trees; it is held
+abbrev pub constraint_between : Relation → Tree → Tree → Constraint
+constraint_between r a b = record { relation = r; left = a; right = b }
+
 abbrev pub HoldsOutlives : Relation → Tree → Tree → Content → Type 0
 HoldsOutlives r a b d = HoldsConstraint d (record { relation = r; left = a; right = b; is_visible = false })
 

@@ -1,5 +1,5 @@
 //! Trying and running one candidate.
-ghost use Rattle.std.specs.Prelude.{◌≡◌, ◌≢◌, true, List, map, IfOk, OnOk, IsOkUnless};
+ghost use Rattle.std.specs.Prelude.{◌≡◌, ◌≢◌, ◌↔◌, true, List, map, IsTrue, IfOk, OnOk, IsOkUnless};
 ghost use Rattle.nts_model.specs.declared.labels.Sort.TheVariants as sort;
 ghost use Rattle.nts_model.specs.declared.labels.Relation.TheVariants as relations;
 ghost use Rattle.nts_model.specs.Trees.{kind_of, of_sort};
@@ -12,11 +12,17 @@ ghost use Rattle.nts_model.specs.Resolving.{deeply_resolved};
 ghost use Rattle.nts_delegate.specs.Candidates.{IsOver, IsEquation, IsNested, IsCandidate, IsRegionConstraint, AreRegionConstraints};
 ghost use Rattle.nts_terms.specs.Handles.{HoldsGoal};
 ghost use Rattle.nts_model.specs.Alike.{AreAlike};
-ghost use Rattle.nts_delegate.specs.Offered.{equation_of, constraint_of};
-ghost use Rattle.nts_evaluation.specs.Running.{Stays, HoldsOutlives, EquationHolds, ConstraintHolds, EquatesEach, Constrains};
+ghost use Rattle.nts_model.specs.Equations.{AreRelated, AreUnrelated};
+ghost use Rattle.nts_model.specs.Choosing.{Freshens, IsMet};
+ghost use Rattle.nts_model.specs.Forcing.{Adds, AddsBy, AddsAll};
+ghost use Rattle.nts_model.specs.Handlers.{filled, constraint_by};
+ghost use Rattle.nts_delegate.specs.Offered.{equation_of, constraint_of, candidate_of};
+ghost use Rattle.nts_evaluation.specs.Running.{Stays, HoldsOutlives, constraint_between, EquationHolds, ConstraintHolds, EquatesEach, Constrains};
 ghost use Rattle.nts_evaluation.specs.Evaluation.{Goes, Runs, IsPosed, AreValues};
 ghost use Rattle.nts_table.specs.Tables.{IsTermOf};
-ghost use Rattle.nts_evaluation.specs.Instances.{HoldsValues, IsTermInstance, IsGoalInstance};
+ghost use Rattle.nts_evaluation.specs.Instances.{HoldsValues, IsTermInstance, IsGoalInstance, instance_at};
+ghost use Rattle.nts_evaluation.specs.Choices.{Equated};
+ghost use Rattle.nts_evaluation.specs.Refuting.{FailsToAdd};
 ghost use Rattle.nts_terms.specs.Rest.{Grows};
 
 use nts_delegate::{CandidateData, Equation, RegionConstraint};
@@ -160,6 +166,9 @@ fn fresh_values(table: &mut InferCtxt, cx: &mut Cx, fresh: &[Sort]) -> Result<Ve
     requires { IsTable cx.old.nodes table.old }
     ensures runs { Runs cx.old cx.new table.old table.new }
     ensures values { IfOk result (λ vs. AreValues cx.new.nodes table.new fresh.now vs.items) }
+    ensures fresh { IfOk result (λ vs. Freshens table.old.entries.universe fresh.now (map (tree_at
+        cx.new.nodes) vs.items) (content_of cx.old.nodes table.old.entries) (content_of cx.new.nodes
+        table.new.entries)) }
     ensures memory { IsOkUnless result Fault.Memory }
 {
     match table.fresh_nodes(cx, fresh) {
@@ -168,7 +177,8 @@ fn fresh_values(table: &mut InferCtxt, cx: &mut Cx, fresh: &[Sort]) -> Result<Ve
     }
 }
 
-/// Makes a candidate's fresh variables and equates its equations; answers the variables.
+/// Makes a candidate's fresh variables and equates its equations; answers the variables. Where an
+/// equation fails, no world of the table meets all of them.
 #[inline(never)]
 pub fn equate(
     table: &mut InferCtxt,
@@ -183,8 +193,13 @@ pub fn equate(
         vs.items) }
     ensures equal { IfOk result (λ vs. EquatesEach cx.old.nodes cx.new.nodes table.new vs.items
         candidate.now.equations.items) }
+    ensures equated { IfOk result (λ vs. Equated cx.old.nodes cx.new.nodes table.old table.new
+        candidate.now.fresh.items vs.items candidate.now.equations.items) }
+    ensures unmet { result ≡ Err EvalError.NoSolution → IsMet (content_of cx.old.nodes
+        table.old.entries) (candidate_of cx.old.nodes candidate.now) → ⊥ }
     ensures full { result ≢ Err EvalError.Full }
 {
+    terms_are_formed(cx);
     let values = fresh_values(table, cx, &candidate.fresh)?;
     for equation in &candidate.equations {
         let trial = Trial {
@@ -210,6 +225,12 @@ fn equate_one(
     ensures runs { Runs cx.old cx.new table.old table.new }
     ensures equal { OnOk result (Stays (content_of cx.new.nodes table.new.entries) (EquationHolds
         (map (tree_at cx.old.nodes) trial.entry.values.now) (equation_of cx.old.nodes equation))) }
+    ensures related { OnOk result (AreRelated (content_of cx.old.nodes table.old.entries) (content_of
+        cx.new.nodes table.new.entries) (instance_at cx.old.nodes trial.entry.values.now
+        equation.lhs.node) (instance_at cx.old.nodes trial.entry.values.now equation.rhs.node)) }
+    ensures no { result ≡ Err EvalError.NoSolution → AreUnrelated (content_of cx.old.nodes
+        table.old.entries) (instance_at cx.old.nodes trial.entry.values.now equation.lhs.node)
+        (instance_at cx.old.nodes trial.entry.values.now equation.rhs.node) }
     ensures full { result ≢ Err EvalError.Full }
 {
     let (lhs, rhs) = trial.instantiate_both(cx, equation.lhs.node, equation.rhs.node)?;
@@ -224,13 +245,17 @@ fn relate_terms(table: &mut InferCtxt, cx: &mut Cx, a: NodeId, b: NodeId) -> Res
     ensures runs { Runs cx.old cx.new table.old table.new }
     ensures equal { OnOk result (Stays (content_of cx.new.nodes table.new.entries) (λ d. AreAlike d
         (tree_at cx.old.nodes a) (tree_at cx.old.nodes b))) }
+    ensures related { OnOk result (AreRelated (content_of cx.old.nodes table.old.entries) (content_of
+        cx.new.nodes table.new.entries) (tree_at cx.old.nodes a) (tree_at cx.old.nodes b)) }
+    ensures no { result ≡ Err EvalError.NoSolution → AreUnrelated (content_of cx.old.nodes
+        table.old.entries) (tree_at cx.old.nodes a) (tree_at cx.old.nodes b) }
     ensures full { result ≢ Err EvalError.Full }
 {
     let alloc = cx.alloc;
     relate_nodes(alloc, &mut cx.nodes, table, a, b)
 }
 
-/// Whether a candidate's equations hold. The table is as before.
+/// Whether some world of the table meets a candidate's equations. The table is as before.
 pub fn candidate_holds(
     table: &mut InferCtxt,
     cx: &mut Cx,
@@ -241,9 +266,12 @@ pub fn candidate_holds(
     requires candidate { IsCandidate cx.old.nodes goal candidate.now }
     ensures same { table.new ≡ table.old }
     ensures grows { Grows cx.old cx.new }
+    ensures met { IfOk result (λ b. IsTrue b ↔ IsMet (content_of cx.old.nodes table.old.entries)
+        (candidate_of cx.old.nodes candidate.now)) }
     ensures no { result ≢ Err EvalError.NoSolution }
     ensures full { result ≢ Err EvalError.Full }
 {
+    terms_are_formed(cx);
     let snapshot = table.start_snapshot()?;
     let tried = equate(table, cx, goal, candidate);
     table.rollback_to(snapshot);
@@ -269,6 +297,12 @@ pub fn record_constraints(
     ensures runs { Runs cx.old cx.new table.old table.new }
     ensures held { OnOk result (Constrains cx.old.nodes cx.new.nodes table.new
         trial.entry.values.now constraints.now) }
+    ensures added { OnOk result (AddsAll (map (tree_at cx.old.nodes) trial.entry.values.now) (map
+        (constraint_of cx.old.nodes) constraints.now) (content_of cx.old.nodes table.old.entries)
+        (content_of cx.new.nodes table.new.entries)) }
+    ensures no { result ≡ Err EvalError.NoSolution → FailsToAdd (map (tree_at cx.old.nodes)
+        trial.entry.values.now) (map (constraint_of cx.old.nodes) constraints.now) (content_of
+        cx.old.nodes table.old.entries) }
     ensures full { result ≢ Err EvalError.Full }
 {
     for constraint in constraints {
@@ -291,6 +325,13 @@ fn record_one(
     ensures held { OnOk result (Stays (content_of cx.new.nodes table.new.entries) (ConstraintHolds
         (map (tree_at cx.old.nodes) trial.entry.values.now)
         (constraint_of cx.old.nodes constraint))) }
+    ensures added { OnOk result (Adds (constraint_by (filled (map (tree_at cx.old.nodes)
+        trial.entry.values.now)) (constraint_of cx.old.nodes constraint)) (content_of cx.old.nodes
+        table.old.entries) (content_of cx.new.nodes table.new.entries)) }
+    ensures no { result ≡ Err EvalError.NoSolution → (constraint.relation ≡ relations.Equal) ×
+        AreUnrelated (content_of cx.old.nodes table.old.entries) (instance_at cx.old.nodes
+        trial.entry.values.now constraint.left.node) (instance_at cx.old.nodes
+        trial.entry.values.now constraint.right.node) }
     ensures full { result ≢ Err EvalError.Full }
 {
     let (left, right) = trial.instantiate_both(cx, constraint.left.node, constraint.right.node)?;
@@ -321,6 +362,9 @@ fn record_outlives(
     ensures goes { Goes cx.now.nodes cx.now.nodes table.old table.new }
     ensures held { OnOk result (Stays (content_of cx.now.nodes table.new.entries)
         (HoldsOutlives relation (tree_at cx.now.nodes left) (tree_at cx.now.nodes right))) }
+    ensures added { OnOk result (AddsBy relation (constraint_between relation (tree_at cx.now.nodes
+        left) (tree_at cx.now.nodes right)) (content_of cx.now.nodes table.old.entries) (content_of
+        cx.now.nodes table.new.entries)) }
     ensures memory { IsOkUnless result Fault.Memory }
 {
     let region = Region { node: right };

@@ -1,14 +1,15 @@
 //! The recursion over nested goals. Its functions stand on the stack once for each goal above, so what
 //! they call and is not of the recursion is kept out of their frames, by `inline(never)`.
-ghost use Rattle.std.specs.Prelude.{true, false, ◌≡◌, ◌≢◌, ◌<◌, ◌≤◌, ◌/◌, ◌-◌, IfOk, OnErr, IfSome, IsNone, ◌↔◌, length, get_or};
+ghost use Rattle.std.specs.Prelude.{true, false, ◌≡◌, ◌≢◌, ◌<◌, ◌≤◌, ◌/◌, ◌+◌, ◌-◌, IfOk, OnErr, IfSome, IsNone, ◌↔◌, length, get_or};
 ghost use Rattle.nts_model.specs.Sequents.{HasClosedStatements};
 ghost use Rattle.nts_store.specs.Growth.{tree_at, Extends};
 ghost use Rattle.nts_delegate.specs.Candidates.{IsAsked, IsCandidate, AreCandidates, IsNested};
 ghost use Rattle.nts_terms.specs.Handles.{HoldsEnv, HoldsGoal};
 ghost use Rattle.nts_terms.specs.Modes.{mode_of};
-ghost use Rattle.nts_evaluation.specs.Meant.{Since, meaning_since, IfYes, IsPremiseProved, AreOffered, IsOffered, IsProvedSince};
+ghost use Rattle.nts_evaluation.specs.Meant.{Since, meaning_since, IfYes, IsPremiseProved, AreOffered, IsOffered, IsProvedSince, IsForcedTo, IsPremiseForced, IsOnlyMet, IsRefutedBy, IsPremiseRefuted};
 ghost use Rattle.nts_evaluation.specs.Evaluation.{Runs, IsPosed, AreValues};
-ghost use Rattle.nts_evaluation.specs.Choices.{IsWithin};
+ghost use Rattle.nts_evaluation.specs.Choices.{IsChoiceOf};
+ghost use Rattle.nts_unify.specs.Reading.{content_of};
 ghost use Rattle.nts_certainty.specs.declared.certainty.Certainty.TheVariants as certainty;
 ghost use Rattle.nts_terms.specs.Rest.{Grows};
 
@@ -61,6 +62,12 @@ pub fn evaluate_goal<H: GoalHandler>(
     ensures err { OnErr result (table.new ≡ table.old) }
     ensures proved { (s : Since (λ ts. H.ready ts handler.now) cx.old.nodes) → IfYes result
         (IsProvedSince (λ ts. H.handler ts handler.now) s table.old.mode cx.new.nodes table.new goal) }
+    ensures forced { (s : Since (λ ts. H.ready ts handler.now) cx.old.nodes) → IfYes result
+        (IsForcedTo (H.handler s.base handler.now) table.old.mode (depth + 1) cx.old.nodes table.old
+        cx.new.nodes table.new goal) }
+    ensures refuted { (s : Since (λ ts. H.ready ts handler.now) cx.old.nodes) →
+        result ≡ Err EvalError.NoSolution → IsRefutedBy (H.handler s.base handler.now) table.old.mode
+        (depth + 1) cx.old.nodes table.old goal }
     ensures full { result ≢ Err EvalError.Full }
 {
     let snapshot = table.start_snapshot()?;
@@ -94,6 +101,12 @@ fn compute_goal<H: GoalHandler>(
     ensures runs { Runs cx.old cx.new table.old table.new }
     ensures proved { (s : Since (λ ts. H.ready ts handler.now) cx.old.nodes) → IfYes result
         (IsProvedSince (λ ts. H.handler ts handler.now) s table.old.mode cx.new.nodes table.new goal) }
+    ensures forced { (s : Since (λ ts. H.ready ts handler.now) cx.old.nodes) → IfYes result
+        (IsForcedTo (H.handler s.base handler.now) table.old.mode (depth + 1) cx.old.nodes table.old
+        cx.new.nodes table.new goal) }
+    ensures refuted { (s : Since (λ ts. H.ready ts handler.now) cx.old.nodes) →
+        result ≡ Err EvalError.NoSolution → IsRefutedBy (H.handler s.base handler.now) table.old.mode
+        (depth + 1) cx.old.nodes table.old goal }
     ensures full { result ≢ Err EvalError.Full }
 {
     if !is_candidates_goal(cx, goal) {
@@ -170,6 +183,14 @@ fn evaluate_candidates<H: GoalHandler>(
     ensures proved { (s : Since (λ ts. H.ready ts handler.now) cx.old.nodes) → AreOffered
         (H.handler s.base handler.now) table.old.mode cx.old.nodes goal candidates.items → IfYes result
         (IsProvedSince (λ ts. H.handler ts handler.now) s table.old.mode cx.new.nodes table.new goal) }
+    ensures forced { (s : Since (λ ts. H.ready ts handler.now) cx.old.nodes) → AreOffered
+        (H.handler s.base handler.now) table.old.mode cx.old.nodes goal candidates.items → IfYes result
+        (IsForcedTo (H.handler s.base handler.now) table.old.mode (depth + 1) cx.old.nodes table.old
+        cx.new.nodes table.new goal) }
+    ensures refuted { (s : Since (λ ts. H.ready ts handler.now) cx.old.nodes) → AreOffered
+        (H.handler s.base handler.now) table.old.mode cx.old.nodes goal candidates.items →
+        result ≡ Err EvalError.NoSolution → IsRefutedBy (H.handler s.base handler.now) table.old.mode
+        (depth + 1) cx.old.nodes table.old goal }
     ensures full { result ≢ Err EvalError.Full }
 {
     match choose(table, cx, goal, &candidates)? {
@@ -202,7 +223,8 @@ enum Choice {
     Several,
 }
 
-/// Tries the equations of each candidate. The table is as before.
+/// Tries the equations of each candidate: none is met by a world of the table, this one alone, or
+/// several. The table is as before.
 #[inline(never)]
 fn choose(
     table: &mut InferCtxt,
@@ -214,7 +236,8 @@ fn choose(
     requires candidates { AreCandidates cx.old.nodes goal candidates.now }
     ensures same { table.new ≡ table.old }
     ensures grows { Grows cx.old cx.new }
-    ensures within { IfOk result (IsWithin (length candidates.now)) }
+    ensures choice { IfOk result (IsChoiceOf cx.old.nodes (content_of cx.old.nodes table.old.entries)
+        candidates.now) }
     ensures no { result ≢ Err EvalError.NoSolution }
     ensures full { result ≢ Err EvalError.Full }
 {
@@ -249,6 +272,14 @@ fn run_candidate<H: GoalHandler>(
     ensures proved { (s : Since (λ ts. H.ready ts handler.now) cx.old.nodes) → IsOffered
         (H.handler s.base handler.now) table.old.mode cx.old.nodes goal candidate.now → IfYes result
         (IsProvedSince (λ ts. H.handler ts handler.now) s table.old.mode cx.new.nodes table.new goal) }
+    ensures forced { (s : Since (λ ts. H.ready ts handler.now) cx.old.nodes) → IsOnlyMet
+        (H.handler s.base handler.now) table.old.mode cx.old.nodes table.old goal candidate.now →
+        IfYes result (IsForcedTo (H.handler s.base handler.now) table.old.mode (depth + 1)
+        cx.old.nodes table.old cx.new.nodes table.new goal) }
+    ensures refuted { (s : Since (λ ts. H.ready ts handler.now) cx.old.nodes) → IsOnlyMet
+        (H.handler s.base handler.now) table.old.mode cx.old.nodes table.old goal candidate.now →
+        result ≡ Err EvalError.NoSolution → IsRefutedBy (H.handler s.base handler.now) table.old.mode
+        (depth + 1) cx.old.nodes table.old goal }
     ensures full { result ≢ Err EvalError.Full }
 {
     let values = equate(table, cx, goal, candidate)?;
@@ -290,6 +321,13 @@ fn evaluate_nested<H: GoalHandler>(
     ensures proved { (s : Since (λ ts. H.ready ts handler.now) cx.old.nodes) →
         IfYes result (IsPremiseProved (meaning_since (λ ts. H.handler ts handler.now) s)
         (mode_of table.old.mode) cx.old.nodes cx.new.nodes table.new trial.entry.values.now nested) }
+    ensures forced { (s : Since (λ ts. H.ready ts handler.now) cx.old.nodes) → IfYes result
+        (IsPremiseForced (H.handler s.base handler.now) table.old.mode depth cx.old.nodes table.old
+        cx.new.nodes table.new trial.entry.values.now nested) }
+    ensures refuted { (s : Since (λ ts. H.ready ts handler.now) cx.old.nodes) →
+        result ≡ Err EvalError.NoSolution → IsPremiseRefuted (H.handler s.base handler.now)
+        table.old.mode depth cx.old.nodes table.old trial.entry.values.now nested }
+    ensures maybe { IfOk result (λ a. a.certainty ≢ certainty.Yes → table.new ≡ table.old) }
     ensures full { result ≢ Err EvalError.Full }
 {
     match depth_below(depth, has_overflowed) {

@@ -1,5 +1,5 @@
 //! The evaluation of goals.
-ghost use Rattle.std.specs.Prelude.{ℕ, ◌≡◌, ◌≢◌, ◌↔◌, List, IsTrue, None, IfOk, OnErr, IsOkUnless};
+ghost use Rattle.std.specs.Prelude.{ℕ, ◌+◌, ◌≡◌, ◌≢◌, ◌↔◌, List, IsTrue, None, IfOk, OnErr, IsOkUnless};
 ghost use Rattle.nts_model.specs.declared.labels.Variance.{Variance};
 ghost use Rattle.nts_model.specs.Handlers.{meaning};
 ghost use Rattle.nts_store.specs.Growth.{Extends};
@@ -8,7 +8,7 @@ ghost use Rattle.nts_terms.specs.Modes.{mode_of};
 ghost use Rattle.nts_evaluation.specs.Running.{HasHeldProofIn};
 ghost use Rattle.nts_terms.specs.Handles.{HoldsGoal};
 ghost use Rattle.nts_evaluation.specs.Evaluation.{Runs, IsAdmitted, IsPosed, IsGoalUnder, IsSameGoal};
-ghost use Rattle.nts_evaluation.specs.Meant.{Since, IsProvedSince};
+ghost use Rattle.nts_evaluation.specs.Meant.{Since, IsProvedSince, IsForcedUnder, IsRefutedUnder};
 ghost use Rattle.nts_certainty.specs.declared.certainty.Certainty.TheVariants as certainty;
 ghost use Rattle.nts_certainty.specs.declared.sources.HasChanged.TheVariants as changes;
 ghost use Rattle.nts_terms.specs.Rest.{Grows};
@@ -23,7 +23,7 @@ use nts_table::InferCtxt;
 use nts_terms::{Cx, GenericArg, Goal, Span};
 
 /// What is kept of a goal that stalled, so that it is asked again only when that can help.
-#[derive(Drop)]
+#[derive(Debug, Drop)]
 pub struct GoalStalledOn {
     pub num_opaques: usize,
     pub stalled_vars: Vec<GenericArg>,
@@ -32,7 +32,7 @@ pub struct GoalStalledOn {
 }
 
 /// What an evaluation found out.
-#[derive(Drop)]
+#[derive(Debug, Drop)]
 pub struct GoalEvaluation {
     /// The goal as it was asked, its variables resolved.
     pub goal: Goal,
@@ -61,7 +61,11 @@ pub fn goal_is_admitted(table: &InferCtxt, cx: &mut Cx, goal: Goal) -> Result<bo
     is_settled_env(table, cx, env)
 }
 
-/// Evaluates a goal in the table.
+/// Evaluates a goal in the table, with the store's recursion limit as depth. Where the answer is yes, the
+/// goal has a proof, and the table gained what the candidates say that alone can be met, and nothing
+/// else. `NoSolution` says that no candidate can be met, or that the one that can asks for what is
+/// refuted. Where the answer is not yes, and after an error, the table is as it was. The one fault is
+/// want of memory.
 pub fn evaluate_root_goal<H: GoalHandler>(
     table: &mut InferCtxt,
     cx: &mut Cx,
@@ -83,6 +87,11 @@ pub fn evaluate_root_goal<H: GoalHandler>(
     ensures proved { IfOk result (λ e. e.certainty ≡ certainty.Yes → (v : ℕ → List Variance) →
         HasHeldProofIn (meaning (H.handler cx.old.nodes handler.now) v) (mode_of table.old.mode)
         cx.new.nodes table.new goal) }
+    ensures forced { IfOk result (λ e. e.certainty ≡ certainty.Yes → IsForcedUnder (H.handler
+        cx.old.nodes handler.now) table.old.mode (cx.old.recursion_limit + 1) cx.old.nodes table.old
+        cx.new.nodes table.new goal) }
+    ensures refuted { result ≡ Err EvalError.NoSolution → IsRefutedUnder (H.handler cx.old.nodes
+        handler.now) table.old.mode (cx.old.recursion_limit + 1) cx.old.nodes table.old goal }
     ensures full { result ≢ Err EvalError.Full }
 {
     let _ = (span, stalled_on);
@@ -111,6 +120,13 @@ fn evaluate_root<H: GoalHandler>(
     ensures proved { (s : Since (λ ts. H.ready ts handler.now) cx.old.nodes) →
         IfOk result (λ e. e.certainty ≡ certainty.Yes → IsProvedSince
         (λ ts. H.handler ts handler.now) s table.old.mode cx.new.nodes table.new goal) }
+    ensures forced { (s : Since (λ ts. H.ready ts handler.now) cx.old.nodes) → IfOk result
+        (λ e. e.certainty ≡ certainty.Yes → IsForcedUnder (H.handler s.base handler.now)
+        table.old.mode (cx.old.recursion_limit + 1) cx.old.nodes table.old cx.new.nodes table.new
+        goal) }
+    ensures refuted { (s : Since (λ ts. H.ready ts handler.now) cx.old.nodes) →
+        result ≡ Err EvalError.NoSolution → IsRefutedUnder (H.handler s.base handler.now)
+        table.old.mode (cx.old.recursion_limit + 1) cx.old.nodes table.old goal }
     ensures full { result ≢ Err EvalError.Full }
 {
     let asked = resolve_goal(table, cx, goal)?;

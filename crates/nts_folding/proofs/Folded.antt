@@ -4,6 +4,8 @@ use Rattle.std.proofs.lemmas.List.{append-nil, length-map, take-map, drop-map}
 use Rattle.std.proofs.Math.Seq.{take-append_seam, drop-append_seam}
 use Rattle.nts_model.specs.declared.labels.ClauseHead.{ClauseHead}
 use Rattle.nts_model.specs.declared.labels.Label.{Label}
+use Rattle.nts_model.specs.declared.labels.Label.TheVariants as label
+use Rattle.nts_model.specs.declared.labels.ListHead.TheVariants as list
 use Rattle.nts_model.specs.Trees.{Tree, empty, more, node, kind_of, row_length, row_push, IsRow, Place, Shape, in_order, each, shape, HavePlaces, AllFit, Meets}
 use Rattle.nts_model.specs.Related.{pair}
 use Rattle.nts_store.specs.declared.nodes.NodeId.{NodeId}
@@ -13,7 +15,7 @@ use Rattle.nts_store.specs.Growth.{tree_at, trees_at, IsIn, AllIn, Extends}
 use Rattle.nts_terms.specs.Handles.{Holds}
 use Rattle.nts_store.specs.Kept.{map-kept}
 use Rattle.nts_store.specs.Replacement.{Job, enter, build, job, jobs, TaskIn, TasksIn, entered, building, IsFormedNode}
-use Rattle.nts_folding.specs.Folding.{GoesInto, ComesBack, Walk, done, next, answer, down, Starts, statement_about, tree_of_list}
+use Rattle.nts_folding.specs.Folding.{GoesInto, ComesBack, Walk, done, next, answer, down, Starts, statement_about, tree_of_binder, tree_of_list}
 use Rattle.nts_store.proofs.Growing.{AllIn-extended, AllIn-push}
 use Rattle.nts_store.proofs.Replacing.{AreLaws, jobs-push, TasksIn-front, TasksIn-extended, jobs-extended, map-push, row, row-trees, IsRow-Meets, AllIn-take, AllIn-drop, MayBuild, weight, weights, weights-append, weights-building, weights_split, weights_extended}
 
@@ -111,6 +113,13 @@ module _ {S : Type 0} (A : S → Tree → Option Tree → S → Type 0) (E L : S
   walk_statement {r = r} {s = s} w =
       down (record { asked = r; asks = (refl, refl); enters_binder = refl }) (next w done)
       (record { left = s; leaves_binder = refl; hands = (refl, refl); kind = refl })
+
+  -- a binder's sorts and value, between the steps of the binder
+  pub walk_binder : {q r s t u : S} {a b c d e f : Tree} → e ≡ b → f ≡ c → E q r → Walk A E L R r a c s → Walk A E L R s e d t → L t u → Walk A E L R q (tree_of_binder a b) (tree_of_binder f d) u
+  walk_binder {q = q} {r = r} {t = t} {u = u} {a = a} {c = c} {d = d} {e = e} same kept enters v w leaves =
+      let into : GoesInto A E (label.List list.Binder) q (tree_of_binder a e) r = record { asked = q; asks = (refl, refl); enters_binder = enters } in
+      let back : ComesBack L R (label.List list.Binder) t (pair c (more d empty)) (tree_of_binder c d) u = record { left = u; leaves_binder = leaves; hands = (refl, refl); kind = refl } in
+      rw (← same, kept) (down into (next v (next (next w done) done)) back)
 
   pub walk_some : {r s : S} {a c : Tree} → Walk A E L R r a c s → Walk A E L R r (more a empty) (more c empty) s
   walk_some w = next w done

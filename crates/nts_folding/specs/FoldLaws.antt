@@ -6,7 +6,7 @@ use Rattle.nts_model.specs.declared.labels.ClauseHead.{ClauseHead}
 use Rattle.nts_model.specs.Trees.{Tree, Place}
 use Rattle.nts_model.specs.Related.{pair}
 use Rattle.nts_terms.specs.Handles.{Holds}
-use Rattle.nts_folding.specs.Folding.{statement_about, tree_of_option, tree_of_list}
+use Rattle.nts_folding.specs.Folding.{statement_about, tree_of_binder, tree_of_option, tree_of_list}
 use Rattle.nts_store.specs.declared.nodes.NodeId.{NodeId}
 use Rattle.nts_store.specs.Growth.{Extends}
 
@@ -20,6 +20,9 @@ same_pair e q = cc (e, q)
 
 pub same_statement : {h : ClauseHead} {a b : Tree} → b ≡ a → statement_about h b ≡ statement_about h a
 same_statement e = cc e
+
+pub same_binder : {a b c d : Tree} → b ≡ a → d ≡ c → tree_of_binder b d ≡ tree_of_binder a c
+same_binder e q = cc (e, q)
 
 pub option_holds : {T : Type 0} (P Q : T → Type 0) → ((x : T) → P x → Q x) → (o : Option T) → IfSome o P → IfSome o Q
 option_holds P Q f None h = h

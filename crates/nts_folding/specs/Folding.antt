@@ -5,7 +5,9 @@ use Rattle.nts_model.specs.declared.labels.ClauseHead.{ClauseHead}
 use Rattle.nts_model.specs.declared.labels.ClauseHead.TheVariants as clause
 use Rattle.nts_model.specs.declared.labels.Label.{Label}
 use Rattle.nts_model.specs.declared.labels.Label.TheVariants as label
-use Rattle.nts_model.specs.Trees.{Tree, empty, more, node, binders, NodeKind, of_sort, bound_predicate, kind_of, kind_of_label}
+use Rattle.nts_model.specs.declared.labels.ListHead.TheVariants as list
+use Rattle.nts_model.specs.Trees.{Tree, empty, more, node, binders, NodeKind, of_sort, bound_predicate, statement, kind_of, kind_of_label}
+use Rattle.nts_model.specs.Related.{pair}
 use Rattle.nts_store.specs.Growth.{tree_at}
 use Rattle.nts_terms.specs.declared.handles.TraitRef.{TraitRef}
 use Rattle.nts_terms.specs.declared.handles.AliasTerm.{AliasTerm}
@@ -16,6 +18,12 @@ abbrev pub MayAnswer : {S : Type 0} → (S → Tree → Option Tree → S → Ty
 MayAnswer answers (of_sort k) s x o t = answers s x o t
 MayAnswer answers bound_predicate s x o t = answers s x o t
 MayAnswer answers k s x o t = (o ≡ None) × (t ≡ s)
+
+-- what a node is asked for as. A binder over a list binds variables of a value: it is no predicate, and is not asked for
+abbrev pub asked_as : Tree → NodeKind
+asked_as (node (label.List list.Binder) (more v (more (more a b) c))) = statement
+asked_as (node l c) = kind_of_label l
+asked_as t = statement
 
 -- a rebuilt type or const is handed over; anything else stays as it was rebuilt
 abbrev pub HandsOver : {S : Type 0} → (S → Tree → Tree → S → Type 0) → NodeKind → S → Tree → Tree → S → Type 0
@@ -30,13 +38,13 @@ AtBinder step (suc n) s t = step s t
 
 -- the tree u stands for the node x of label l
 pub record IsAnswerFor {S : Type 0} (answers : S → Tree → Option Tree → S → Type 0) (l : Label) (s : S) (x u : Tree) (t : S) : Type 0 where
-  pub asks : MayAnswer answers (kind_of_label l) s x (Some u) t
+  pub asks : MayAnswer answers (asked_as x) s x (Some u) t
   pub kind : kind_of u ≡ Some (kind_of_label l)
 
 -- nothing stands for the node x of label l, so its children are folded
 pub record GoesInto {S : Type 0} (answers : S → Tree → Option Tree → S → Type 0) (enters : S → S → Type 0) (l : Label) (s : S) (x : Tree) (t : S) : Type 0 where
   pub asked : S
-  pub asks : MayAnswer answers (kind_of_label l) s x None asked
+  pub asks : MayAnswer answers (asked_as x) s x None asked
   pub enters_binder : AtBinder enters (binders l) asked t
 
 -- the tree e stands for a node whose folded children are d
@@ -69,6 +77,10 @@ tree_of_trait_ref ts r = statement_about (clause.Trait r.def_id.number) (tree_at
 
 abbrev pub tree_of_alias_args : List Tree → AliasTerm → Tree
 tree_of_alias_args ts a = statement_about (clause.Projection (alias_head a.def_id)) (tree_at ts a.args.node)
+
+-- a binder over a value, which stands in a list, so that the binder is no predicate
+abbrev pub tree_of_binder : Tree → Tree → Tree
+tree_of_binder vars value = node (label.List list.Binder) (pair vars (more value empty))
 
 -- an optional value as a list
 abbrev pub tree_of_option : Option Tree → Tree

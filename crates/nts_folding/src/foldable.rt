@@ -1,17 +1,17 @@
 //! The values that a folder maps.
 ghost use Rattle.std.specs.Prelude.{◌≡◌, [], List, All, map, IfOk, IfErr, IfSome, option_map};
-ghost use Rattle.nts_model.specs.Trees.{Tree, empty, more, a_type, a_region, a_const, any_term, any_argument, is, arguments, bound_predicate, environment};
+ghost use Rattle.nts_model.specs.Trees.{Tree, empty, more, a_type, a_region, a_const, any_term, any_argument, is, arguments, bound_predicate, environment, sort_list};
 ghost use Rattle.nts_model.specs.Related.{pair};
 ghost use Rattle.nts_store.specs.Growth.{tree_at, Extends};
-ghost use Rattle.nts_terms.specs.Handles.{Holds, HoldsTy, HoldsRegion, HoldsConst, HoldsTerm, HoldsArg, HoldsArgs, HoldsPredicate, HoldsEnv};
+ghost use Rattle.nts_terms.specs.Handles.{Holds, HoldsTy, HoldsRegion, HoldsConst, HoldsTerm, HoldsArg, HoldsArgs, HoldsPredicate, HoldsEnv, HoldsVars};
 ghost use Rattle.nts_folding.specs.FoldLaws.{Holds-kept};
 ghost use Rattle.nts_folding.specs.Folding.{Walk};
 ghost use Rattle.nts_terms.specs.Rest.{Grows};
 
 use crate::fold::{TypeFolder, fold_node, push};
 use nts_terms::{
-    AliasTerm, Const, Cx, GenericArg, GenericArgs, Goal, ParamEnv, Predicate, Region, Stored, Term,
-    TraitRef, Ty,
+    AliasTerm, Binder, BoundVars, Const, Cx, GenericArg, GenericArgs, Goal, ParamEnv, Predicate,
+    Region, Stored, Term, TraitRef, Ty,
 };
 
 /// A value that holds terms. It is seen as a tree, which a folder maps.
@@ -163,6 +163,45 @@ impl TypeFoldable for ParamEnv {
 
     fn fold_with<F: TypeFolder>(self, cx: &mut Cx, folder: &mut F) -> Result<ParamEnv, F::Error> {
         fold_handle(cx, folder, self)
+    }
+}
+
+impl TypeFoldable for BoundVars {
+    ghost holds = { HoldsVars };
+
+    ghost tree = { λ ts x. tree_at ts x.node };
+
+    ghost holds_kept = { λ a b x h e. Holds-kept (is sort_list) a b x.node h e };
+
+    ghost tree_kept = { λ a b x h e. e.kept x.node h.within };
+
+    fn fold_with<F: TypeFolder>(self, cx: &mut Cx, folder: &mut F) -> Result<BoundVars, F::Error> {
+        fold_handle(cx, folder, self)
+    }
+}
+
+/// A value under a binder. It is seen as a node that binds variables, so that the folder enters the binder
+/// before the value is folded and leaves it afterwards. It is no predicate, and the folder is not asked for it.
+impl<T: TypeFoldable> TypeFoldable for Binder<T> {
+    ghost use Rattle.nts_folding.specs.Folding.{tree_of_binder};
+
+    ghost holds = { λ ts b. HoldsVars ts b.vars × T.holds ts b.value };
+
+    ghost tree = { λ ts b. tree_of_binder (tree_at ts b.vars.node) (T.tree ts b.value) };
+
+    ghost holds_kept = { λ a b x h e. (Holds-kept (is sort_list) a b x.vars.node h.0 e, T.holds_kept a b x.value h.1 e) };
+
+    ghost use Rattle.nts_folding.specs.FoldLaws.{same_binder};
+
+    ghost tree_kept = { λ a b x h e. same_binder (e.kept x.vars.node h.0.within) (T.tree_kept a b x.value h.1 e) };
+
+    fn fold_with<F: TypeFolder>(self, cx: &mut Cx, folder: &mut F) -> Result<Binder<T>, F::Error> {
+        let Binder { vars, value } = self;
+        folder.enter_binder()?;
+        let vars = vars.fold_with(cx, folder)?;
+        let value = value.fold_with(cx, folder)?;
+        folder.leave_binder();
+        Ok(Binder { vars, value })
     }
 }
 

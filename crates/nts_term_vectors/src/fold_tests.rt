@@ -240,6 +240,75 @@ impl TypeFolder for Counting {
     }
 }
 
+/// Puts a parameter in place of each type variable, numbered by the binders around it, and counts the binders
+/// that it goes into.
+#[derive(Drop)]
+struct Levelling {
+    entered: u32,
+    inside: u32,
+}
+
+impl TypeFolder for Levelling {
+    ghost use Rattle.std.specs.Prelude.{⊤, refl};
+
+    type Error = Fault;
+
+    ghost Meaning = { Unit {0} };
+
+    ghost meaning = { λ ts s. tt };
+
+    ghost ready = { λ ts s. ⊤ };
+
+    ghost answers = { λ s x o t. ⊤ };
+
+    ghost enters = { λ s t. ⊤ };
+
+    ghost leaves = { λ s t. ⊤ };
+
+    ghost rebuilds = { λ s x y t. ⊤ };
+
+    ghost fails = { λ e. ⊤ };
+
+    ghost ready_kept = { λ a b s h e. tt };
+
+    ghost memory_fails = { λ e h. tt };
+
+    ghost meaning_kept = { λ a b s h e. refl };
+
+    fn fold_ty(&mut self, cx: &mut Cx, t: Ty) -> Result<Option<Ty>, Fault> {
+        match t.kind(cx) {
+            TyKind::Infer(InferTy::TyVar(_)) => Ok(Some(cx.mk_ty(TyKind::Param(self.inside))?)),
+            _ => Ok(None),
+        }
+    }
+
+    fn fold_region(&mut self, _cx: &mut Cx, _t: Region) -> Result<Option<Region>, Fault> {
+        Ok(None)
+    }
+
+    fn fold_const(&mut self, _cx: &mut Cx, _t: Const) -> Result<Option<Const>, Fault> {
+        Ok(None)
+    }
+
+    fn fold_predicate(&mut self, _cx: &mut Cx, _t: Predicate) -> Result<Option<Predicate>, Fault> {
+        Ok(None)
+    }
+
+    fn enter_binder(&mut self) -> Result<(), Fault> {
+        self.entered = self.entered.saturating_add(1);
+        self.inside = self.inside.saturating_add(1);
+        Ok(())
+    }
+
+    fn leave_binder(&mut self) {
+        self.inside = self.inside.saturating_sub(1);
+    }
+
+    fn rebuilt(&mut self, _cx: &mut Cx, t: Term) -> Result<Term, Fault> {
+        Ok(t)
+    }
+}
+
 /// This folder leaves each predicate as it is.
 fn counted(cx: &mut Cx, folder: &mut Counting, predicate: Predicate) -> Result<Predicate, Fault>
     requires { HoldsPredicate cx.old.nodes predicate }
@@ -377,5 +446,31 @@ fn folds_the_arguments_of_an_alias_and_a_trait(rt: HostRuntime) -> Result<(), Fa
     assert!(rt; of_trait.args == expected);
     assert!(rt; of_trait.def_id == clone);
     assert_eq!(rt; folder.seen.len(), 1);
+    Ok(())
+}
+
+#[test]
+fn folds_a_value_under_a_binder(rt: HostRuntime) -> Result<(), Fail> {
+    let mut cx = Cx::new(rt.alloc());
+    let vars = cx.mk_bound_vars(&[Sort::Ty, Sort::Region])?;
+    let variable = cx.mk_ty(TyKind::Infer(InferTy::TyVar(7)))?;
+    let args = cx.mk_args(&[variable.into()])?;
+    let inside = cx.mk_ty(TyKind::Param(1))?;
+    let outside = cx.mk_ty(TyKind::Param(0))?;
+    let expected = cx.mk_args(&[inside.into()])?;
+    assert!(rt; cx.holds(vars));
+    assert!(rt; cx.holds(args));
+    assert!(rt; cx.holds(variable));
+    let mut folder = Levelling {
+        entered: 0,
+        inside: 0,
+    };
+    let value = (Binder { vars, value: args }, variable);
+    let (bound, last) = value.fold_with(&mut cx, &mut folder)?;
+    assert!(rt; bound.vars == vars);
+    assert!(rt; bound.value == expected);
+    assert!(rt; last == outside);
+    assert_eq!(rt; folder.entered, 1);
+    assert_eq!(rt; folder.inside, 0);
     Ok(())
 }

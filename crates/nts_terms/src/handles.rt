@@ -8,85 +8,85 @@ use nts_model::{AliasHead, ConstHead, Label, TyHead};
 use nts_store::NodeId;
 
 /// A type.
-#[derive(Clone, Copy, PartialEq, Eq, Hash)]
+#[derive(Clone, Copy, PartialEq, Eq, Hash, Debug)]
 pub struct Ty {
     pub node: NodeId,
 }
 
 /// A region.
-#[derive(Clone, Copy, PartialEq, Eq, Hash)]
+#[derive(Clone, Copy, PartialEq, Eq, Hash, Debug)]
 pub struct Region {
     pub node: NodeId,
 }
 
 /// A const.
-#[derive(Clone, Copy, PartialEq, Eq, Hash)]
+#[derive(Clone, Copy, PartialEq, Eq, Hash, Debug)]
 pub struct Const {
     pub node: NodeId,
 }
 
 /// A type or a const.
-#[derive(Clone, Copy, PartialEq, Eq, Hash)]
+#[derive(Clone, Copy, PartialEq, Eq, Hash, Debug)]
 pub struct Term {
     pub node: NodeId,
 }
 
 /// A type, a region or a const.
-#[derive(Clone, Copy, PartialEq, Eq, Hash)]
+#[derive(Clone, Copy, PartialEq, Eq, Hash, Debug)]
 pub struct GenericArg {
     pub node: NodeId,
 }
 
 /// A list of arguments.
-#[derive(Clone, Copy, PartialEq, Eq, Hash)]
+#[derive(Clone, Copy, PartialEq, Eq, Hash, Debug)]
 pub struct GenericArgs {
     pub node: NodeId,
 }
 
 /// What may hold: a statement under a binder.
-#[derive(Clone, Copy, PartialEq, Eq, Hash)]
+#[derive(Clone, Copy, PartialEq, Eq, Hash, Debug)]
 pub struct Predicate {
     pub node: NodeId,
 }
 
 /// A list of predicates that are taken to hold.
-#[derive(Clone, Copy, PartialEq, Eq, Hash)]
+#[derive(Clone, Copy, PartialEq, Eq, Hash, Debug)]
 pub struct ParamEnv {
     pub node: NodeId,
 }
 
 /// The sorts of the variables of a binder.
-#[derive(Clone, Copy, PartialEq, Eq, Hash)]
+#[derive(Clone, Copy, PartialEq, Eq, Hash, Debug)]
 pub struct BoundVars {
     pub node: NodeId,
 }
 
 /// The number of a declared type constructor.
-#[derive(Clone, Copy, PartialEq, Eq, Hash)]
+#[derive(Clone, Copy, PartialEq, Eq, Hash, Debug)]
 pub struct CtorId {
     pub number: usize,
 }
 
 /// The number of a declared trait.
-#[derive(Clone, Copy, PartialEq, Eq, Hash)]
+#[derive(Clone, Copy, PartialEq, Eq, Hash, Debug)]
 pub struct TraitId {
     pub number: usize,
 }
 
 /// The number of a declared alias of types.
-#[derive(Clone, Copy, PartialEq, Eq, Hash)]
+#[derive(Clone, Copy, PartialEq, Eq, Hash, Debug)]
 pub struct AliasId {
     pub number: usize,
 }
 
 /// The number of a declared const.
-#[derive(Clone, Copy, PartialEq, Eq, Hash)]
+#[derive(Clone, Copy, PartialEq, Eq, Hash, Debug)]
 pub struct ConstId {
     pub number: usize,
 }
 
 /// What is declared as an alias: one of types, or a const, which is to be evaluated.
-#[derive(Clone, Copy, PartialEq, Eq, Hash)]
+#[derive(Clone, Copy, PartialEq, Eq, Hash, Debug)]
 pub enum AliasDefId {
     Ty(AliasId),
     Const(ConstId),
@@ -125,7 +125,7 @@ impl AliasDefId {
 }
 
 /// Something declared that takes arguments.
-#[derive(Clone, Copy, PartialEq, Eq, Hash)]
+#[derive(Clone, Copy, PartialEq, Eq, Hash, Debug)]
 pub enum DefId {
     Ctor(CtorId),
     Trait(TraitId),
@@ -133,74 +133,74 @@ pub enum DefId {
 }
 
 /// A value in which variables of these sorts are bound.
-#[derive(Clone, Copy)]
+#[derive(Clone, Copy, Debug, Drop)]
 pub struct Binder<T> {
     pub vars: BoundVars,
     pub value: T,
 }
 
 /// An alias of types, or a const that is to be evaluated, applied to arguments.
-#[derive(Clone, Copy)]
+#[derive(Clone, Copy, Debug)]
 pub struct AliasTerm {
     pub def_id: AliasDefId,
     pub args: GenericArgs,
 }
 
 /// A trait applied to arguments.
-#[derive(Clone, Copy)]
+#[derive(Clone, Copy, Debug)]
 pub struct TraitRef {
     pub def_id: TraitId,
     pub args: GenericArgs,
 }
 
 /// A predicate to be proved where those of the environment hold.
-#[derive(Clone, Copy)]
+#[derive(Clone, Copy, Debug)]
 pub struct Goal {
     pub param_env: ParamEnv,
     pub predicate: Predicate,
 }
 
 /// What a function pointer takes and gives.
-#[derive(Clone, Copy)]
+#[derive(Clone, Copy, Debug)]
 pub struct FnSig {
     /// The inputs, and the output as the last.
     pub inputs_and_output: GenericArgs,
 }
 
 /// Which type variable of its binder, or of its universe.
-#[derive(Clone, Copy)]
+#[derive(Clone, Copy, Debug)]
 pub struct BoundTy {
     pub var: usize,
 }
 
 /// Which region variable of its binder, or of its universe.
-#[derive(Clone, Copy)]
+#[derive(Clone, Copy, Debug)]
 pub struct BoundRegion {
     pub var: usize,
 }
 
 /// Which const variable of its binder, or of its universe.
-#[derive(Clone, Copy)]
+#[derive(Clone, Copy, Debug)]
 pub struct BoundConst {
     pub var: usize,
 }
 
 /// A type that stands for itself in a universe.
-#[derive(Clone, Copy)]
+#[derive(Clone, Copy, Debug)]
 pub struct PlaceholderType {
     pub universe: UniverseIndex,
     pub bound: BoundTy,
 }
 
 /// A region that stands for itself in a universe.
-#[derive(Clone, Copy)]
+#[derive(Clone, Copy, Debug)]
 pub struct PlaceholderRegion {
     pub universe: UniverseIndex,
     pub bound: BoundRegion,
 }
 
 /// A const that stands for itself in a universe.
-#[derive(Clone, Copy)]
+#[derive(Clone, Copy, Debug)]
 pub struct PlaceholderConst {
     pub universe: UniverseIndex,
     pub bound: BoundConst,

@@ -1,12 +1,14 @@
 //! Canonical inputs of goals, case by case.
 use crate::inputs::Fixture;
-use nts_canonical::{CanonicalInput, CanonicalVarKind};
-use nts_model::{Sort, VariableKind};
+use nts_canonical::{Canonical, CanonicalInput, CanonicalVarKind, instantiate_canonical};
+use nts_model::{BoundVarIndexKind, Sort, UintTy, VariableKind};
 use nts_terms::{
-    AliasDefId, BoundRegion, BoundTy, GenericArg, PlaceholderRegion, PlaceholderType, RegionKind,
+    AliasDefId, BoundRegion, BoundTy, Cx, GenericArg, PlaceholderRegion, PlaceholderType,
+    RegionKind, TyKind,
 };
 use nts_unify::State;
 use std::process::Abort;
+use std::test::Fail;
 
 /// Sees that the arguments are these.
 fn are(rt: &impl Abort, found: &[GenericArg], wanted: &[GenericArg]) {
@@ -293,4 +295,22 @@ fn placeholders_are_moved_into_universes(rt: HostRuntime) {
     );
     assert!(rt; value == wanted);
     assert_eq!(rt; fixture.table.variable_count(), 0);
+}
+
+#[test]
+fn instantiates_a_list_of_types(rt: HostRuntime) -> Result<(), Fail> {
+    let mut cx = Cx::new(rt.alloc());
+    let position = cx.mk_ty(TyKind::Bound(BoundVarIndexKind::Canonical, BoundTy { var: 0 }))?;
+    let word = cx.mk_ty(TyKind::Uint(UintTy::U32))?;
+    let canonical = Canonical {
+        value: vec![in rt.alloc(); position, word, position]?,
+        max_universe: 0,
+        var_kinds: Vec::new(rt.alloc()),
+    };
+    let found = instantiate_canonical(&mut cx, canonical, &[word.into()])?;
+    assert_eq!(rt; found.len(), 3);
+    for ty in found {
+        assert!(rt; ty == word);
+    }
+    Ok(())
 }

@@ -7,9 +7,9 @@ ghost use Rattle.nts_terms.specs.Handles.{HoldsGoal};
 ghost use Rattle.nts_delegate.specs.Clauses.{AreReady};
 ghost use Rattle.nts_terms.specs.Rest.{Grows};
 
-use nts_certainty::Certainty;
+use nts_certainty::{Certainty, HasChanged};
 use nts_delegate::{Clause, Clauses, GoalHandler};
-use nts_evaluation::{evaluate_root_goal, goal_is_admitted};
+use nts_evaluation::{GoalEvaluation, GoalStalledOn, evaluate_root_goal, goal_is_admitted};
 use nts_model::{BoundVarIndexKind, Sort, UintTy};
 use nts_resolve::eager_resolve_vars;
 use nts_store::EvalError;
@@ -174,5 +174,28 @@ fn coinductive_traits(rt: HostRuntime) -> Result<(), Fail> {
     handler.set_coinductive(send)?;
     assert!(rt; handler.trait_is_coinductive(send));
     assert!(rt; !handler.trait_is_coinductive(TraitId { number: 2 }));
+    Ok(())
+}
+
+#[test]
+fn an_evaluation_is_shown(rt: HostRuntime) -> Result<(), Fail> {
+    let mut cx = Cx::new(rt.alloc());
+    let clone = cx.declare_trait(&[Sort::Ty])?;
+    let word = uint(&mut cx, UintTy::U32)?;
+    let goal = goal_about(&mut cx, clone, word.into())?;
+    let stalled_on = GoalStalledOn {
+        num_opaques: 0,
+        stalled_vars: vec![in rt.alloc(); word.into()]?,
+        sub_roots: Vec::new(rt.alloc()),
+        stalled_certainty: Certainty::AMBIGUOUS,
+    };
+    let evaluation = GoalEvaluation {
+        goal,
+        certainty: Certainty::AMBIGUOUS,
+        has_changed: HasChanged::No,
+        stalled_on: Some(stalled_on),
+    };
+    let text = format!(in rt.alloc(); "{evaluation:?}")?;
+    assert!(rt; !text.is_empty());
     Ok(())
 }

@@ -1,17 +1,21 @@
 //! A store and a table for tests, with each condition of a call tested by a public function.
-ghost use Rattle.std.specs.Prelude.{◌≡◌, [], All};
+ghost use Rattle.std.specs.Prelude.{◌≡◌, [], All, IfOk};
+ghost use Rattle.nts_model.specs.Handlers.{filled};
+ghost use Rattle.nts_store.specs.Filled.{HasValues};
 ghost use Rattle.nts_terms.specs.Handles.{HoldsArg};
 ghost use Rattle.nts_terms.specs.Kinds.{TyFits};
 ghost use Rattle.nts_terms.specs.Signatures.{TyIsDeclared};
 ghost use Rattle.nts_table.specs.Tables.{IsTable};
-ghost use Rattle.nts_canonical.specs.Forms.{HoldsQuery};
+ghost use Rattle.nts_terms.specs.Rest.{Grows};
+ghost use Rattle.nts_canonical.specs.Forms.{query_tree, trees_of, HoldsQuery};
 ghost use Rattle.nts_canonical.specs.Building.{IsInputOf};
 
 use nts_canonical::{
-    CanonicalInput, CanonicalVarKind, build_with_canonical, canonicalize_goal,
-    instantiate_canonical, instantiate_canonical_var, same_input,
+    Canonical, CanonicalInput, CanonicalVarKind, QueryInput, build_with_canonical,
+    canonicalize_goal, instantiate_canonical, instantiate_canonical_var, same_input,
 };
 use nts_model::{BoundVarIndexKind, Sort, Variance};
+use nts_store::Fault;
 use nts_table::InferCtxt;
 use nts_terms::{
     AliasDefId, AliasId, AliasKind, AliasTerm, Binder, BoundTy, ClauseKind, CtorId, Cx, DefId,
@@ -253,9 +257,7 @@ impl Fixture {
             &[],
             mode,
         ).expect(rt, "memory");
-        let query = instantiate_canonical(&mut self.cx, &input.canonical, &originals).expect(
-            rt, "memory",
-        );
+        let query = filled_query(&mut self.cx, input.canonical, &originals).expect(rt, "memory");
         query.goal
     }
 
@@ -397,4 +399,21 @@ impl Fixture {
         })
         .expect(rt, "memory")
     }
+}
+
+/// The query with values in place of its positions, as the folder of any value makes it.
+fn filled_query(
+    cx: &mut Cx,
+    canonical: Canonical<QueryInput>,
+    values: &[GenericArg],
+) -> Result<QueryInput, Fault>
+    requires holds { HoldsQuery cx.old.nodes canonical.value }
+    requires values { All (HoldsArg cx.old.nodes) values.now }
+    requires positions { HasValues (trees_of cx.old.nodes values.now) (query_tree cx.old.nodes canonical.value) }
+    ensures tree { IfOk result (λ q. query_tree cx.new.nodes q ≡ filled (trees_of cx.old.nodes values.now) (query_tree cx.old.nodes canonical.value)) }
+    ensures holds { IfOk result (HoldsQuery cx.new.nodes) }
+    ensures grows { Grows cx.old cx.new }
+{
+    let query = instantiate_canonical(cx, canonical, values)?;
+    Ok(query)
 }

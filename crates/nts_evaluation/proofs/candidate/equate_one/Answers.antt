@@ -4,6 +4,7 @@ use Rattle.nts_table.specs.TableLaws.{IsTable-extended}
 use Rattle.nts_evaluation.proofs.Running.{equation_stays}
 use Rattle.nts_delegate.proofs.Results.{OnOk-map}
 use Rattle.nts_evaluation.proofs.Evaluating.{Runs-trans, Runs-extends, can_fill, instance_term, held_values}
+use Rattle.nts_unify.specs.Lawful.{content_of-extended}
 use Rattle.nts_evaluation.proofs.candidate.equate_one.Goals as goal
 
 pub instantiate_both-requires-clause-values : goal.instantiate_both-requires-clause-values
@@ -39,3 +40,15 @@ returns-clause-equal c =
     OnOk-map c.relate_terms.result
     (λ h. equation_stays c.args.cx.now.nodes (map (tree_at c.args.cx.now.nodes) c.args.trial.values.now) c.args.equation c.relate_terms.ensures.runs.goes e.left.formed l r e.left.tree e.right.tree e.left.kind c.requires.equation.argument h)
     c.relate_terms.ensures.equal
+
+pub returns-clause-related : goal.returns-clause-related
+returns-clause-related c =
+    let e = c.in_ok-lhs.ensures in
+    let same = content_of-extended e.grows.extends c.requires.posed.table.now in
+    OnOk-map c.relate_terms.result (λ h. rw (e.left.tree, e.right.tree, same) at h) c.relate_terms.ensures.related
+
+pub returns-clause-no : goal.returns-clause-no
+returns-clause-no c = λ q.
+    let e = c.in_ok-lhs.ensures in
+    let same = content_of-extended e.grows.extends c.requires.posed.table.now in
+    rw (e.left.tree, e.right.tree, same) at (c.relate_terms.ensures.no q)

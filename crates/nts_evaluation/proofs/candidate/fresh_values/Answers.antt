@@ -1,4 +1,5 @@
 use Rattle.nts_evaluation.proofs.Evaluating.{runs-back, gave_fresh}
+use Rattle.nts_evaluation.proofs.Trying.{gave_freshened}
 use Rattle.nts_evaluation.proofs.candidate.fresh_values.Goals as goal
 
 pub returns-in-Err-clause-runs : goal.returns-in-Err-clause-runs
@@ -13,3 +14,8 @@ pub returns-in-Ok-clause-values : goal.returns-in-Ok-clause-values
 returns-in-Ok-clause-values c =
     let e = c.in-Ok.ensures in
     (gave_fresh c.args.fresh.now c.in-Ok.values.items c.requires e.grows.extends e.table e.entries e.changes.saved e.changes.mode e.within e.trees).values
+
+pub returns-in-Ok-clause-fresh : goal.returns-in-Ok-clause-fresh
+returns-in-Ok-clause-fresh c =
+    let e = c.in-Ok.ensures in
+    gave_freshened c.args.fresh.now c.in-Ok.values.items c.requires e.table e.grows.extends e.entries e.trees

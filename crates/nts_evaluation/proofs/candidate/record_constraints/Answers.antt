@@ -1,6 +1,9 @@
-use Rattle.std.proofs.Common.{arith, refl, get_or}
+use Rattle.std.proofs.Common.{◌≡◌, Err, arith, rules, refl, get_or}
+use Rattle.nts_store.specs.declared.fault.EvalError.TheVariants as EvalError
 use Rattle.std.proofs.lemmas.List.{take_all}
 use Rattle.nts_evaluation.proofs.Running.{Constrains-step}
+use Rattle.nts_evaluation.proofs.Forcing.{adds_more}
+use Rattle.nts_evaluation.proofs.Refuting.{add_fails}
 use Rattle.nts_delegate.specs.Candidates.{IsRegionConstraint}
 use Rattle.nts_delegate.specs.declared.delegate.RegionConstraint.{RegionConstraint}
 use Rattle.nts_evaluation.proofs.Evaluating.{Runs-refl, Runs-trans, AreValues-later, IsRegionConstraint-extended, constraint_at, IsPosed-later}
@@ -18,7 +21,7 @@ over c d =
     constraint_at c.args.cx.now.nodes c.args.trial.fresh.now c.args.trial.goal c.args.constraints.now c.loop-constraint.constraint-index d c.requires.constraints c.loop-constraint-test.true
 
 pub loop-constraint-init : goal.loop-constraint-init
-loop-constraint-init c = record { runs = Runs-refl c.requires.posed.table; held = tt }
+loop-constraint-init c = record { runs = Runs-refl c.requires.posed.table; held = tt; added = refl }
 
 pub returns-in_err-record_one-clause-runs : goal.returns-in_err-record_one-clause-runs
 returns-in_err-record_one-clause-runs c = Runs-trans c.loop-constraint.invariant.runs c.record_one.ensures.runs
@@ -29,6 +32,7 @@ loop-constraint-preserved c =
     let e = c.in_ok-record_one.ensures in
     record {
       runs = Runs-trans i.runs e.runs;
+      added = adds_more _ _ _ c.args.trial.values.now c.args.constraints.now c.loop-constraint.constraint-index _ _ _ c.loop-constraint-test.true i.runs.goes.extends c.requires.values.within (over c _).left.within (over c _).right.within i.added e.added;
       held = Constrains-step _ c.args.cx.now.nodes c.args.trial.values.now c.args.constraints.now c.loop-constraint.constraint-index refl refl c.loop-constraint-test.true e.runs.goes (AreValues-later i.runs.goes c.requires.values).within i.held i.runs.goes.extends (λ d. ((over c d).left.within, (over c d).right.within)) e.held;
     }
 
@@ -38,3 +42,14 @@ returns-clause-held c =
 
 pub record_one-requires-clause-posed : goal.record_one-requires-clause-posed
 record_one-requires-clause-posed c = IsPosed-later c.loop-constraint.invariant.runs.goes c.requires.posed
+
+pub returns-clause-added : goal.returns-clause-added
+returns-clause-added c =
+    rw (take_all c.loop-constraint.constraint-index c.args.constraints.now (omega (arith, c.loop-constraint-test.false))) at c.loop-constraint.invariant.added
+
+pub returns-in_err-record_one-clause-no : goal.returns-in_err-record_one-clause-no
+returns-in_err-record_one-clause-no c = λ q.
+    let i = c.loop-constraint.invariant in
+    let at = constraint_at c.args.cx.now.nodes c.args.trial.fresh.now c.args.trial.goal c.args.constraints.now c.loop-constraint.constraint-index _ c.requires.constraints c.loop-constraint-test.true in
+    let no : c.record_one.result ≡ Err EvalError.NoSolution = search rules in
+    add_fails _ _ _ c.args.trial.values.now c.args.constraints.now c.loop-constraint.constraint-index _ _ c.loop-constraint-test.true i.runs.goes.extends c.requires.values.within at.left.within at.right.within i.added (c.record_one.ensures.no no)

@@ -5,6 +5,10 @@ use Rattle.nts_table.specs.TableLaws.{IsTable-extended}
 use Rattle.nts_evaluation.proofs.Running.{constraint_stays, equality_stays}
 use Rattle.nts_delegate.proofs.Results.{OnOk-map}
 use Rattle.nts_evaluation.proofs.Evaluating.{Runs-trans, Runs-extends, can_fill, instance_term, held_values}
+use Rattle.nts_model.specs.Handlers.{filled, constraint_by}
+use Rattle.nts_unify.specs.Lawful.{content_of-extended}
+use Rattle.nts_delegate.specs.Offered.{constraint_of}
+use Rattle.nts_evaluation.proofs.Forcing.{added_equal}
 use Rattle.nts_evaluation.proofs.candidate.record_one.Goals as goal
 
 pub instantiate_both-requires-clause-values : goal.instantiate_both-requires-clause-values
@@ -81,3 +85,22 @@ pub returns-in_err-record_outlives-clause-runs : goal.returns-in_err-record_outl
 returns-in_err-record_outlives-clause-runs c =
     let e = c.in_ok-left.ensures in
     Runs-trans (Runs-extends c.requires.posed.table e.grows.extends e.grows.rest) (record { goes = c.record_outlives.ensures.goes; rest = KeepsRest-refl _ })
+
+pub returns-in-Equal-clause-added : goal.returns-in-Equal-clause-added
+returns-in-Equal-clause-added c =
+    let e = c.in_ok-left.ensures in
+    let same = content_of-extended e.grows.extends c.requires.posed.table.now in
+    let a = c.args.cx.now.nodes in
+    OnOk-map c.relate_terms.result (λ h. added_equal (constraint_by (filled (map (tree_at a) c.args.trial.values.now)) (constraint_of a c.args.constraint)) _ _ c.in-Equal.is (rw (e.left.tree, e.right.tree, same) at h)) c.relate_terms.ensures.related
+
+pub returns-clause-added : goal.returns-clause-added
+returns-clause-added c =
+    let e = c.in_ok-left.ensures in
+    let same = content_of-extended e.grows.extends c.requires.posed.table.now in
+    rw (e.left.tree, e.right.tree, same) at c.in_ok-record_outlives.ensures.added
+
+pub returns-in-Equal-clause-no : goal.returns-in-Equal-clause-no
+returns-in-Equal-clause-no c = λ q.
+    let e = c.in_ok-left.ensures in
+    let same = content_of-extended e.grows.extends c.requires.posed.table.now in
+    (c.in-Equal.is, rw (e.left.tree, e.right.tree, same) at (c.relate_terms.ensures.no q))

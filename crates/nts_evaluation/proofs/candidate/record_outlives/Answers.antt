@@ -4,6 +4,7 @@ use Rattle.nts_unify.specs.declared.contents.Constraint.{Constraint}
 use Rattle.nts_delegate.proofs.Results.{OnOk-map}
 use Rattle.nts_evaluation.proofs.Running.{Stays-map, recorded_stays, unseen, is_region_outlives}
 use Rattle.nts_evaluation.proofs.Evaluating.{recorded_goes}
+use Rattle.nts_evaluation.proofs.Forcing.{added_entry}
 use Rattle.nts_evaluation.proofs.candidate.record_outlives.Goals as goal
 
 -- a type outlives a region
@@ -22,6 +23,10 @@ returns-in-TypeOutlives-clause-held c =
     let goes = recorded_goes x c.register_ty_outlives.result c.requires.table c.requires.left c.requires.right k c.requires.right_sort (λ q. cc) refl e.recorded e.changes.saved e.changes.mode e.err in
     rw c.in-TypeOutlives.is (OnOk-map c.register_ty_outlives.result (λ h. Stays-map (λ d s n z. unseen d relations.TypeOutlives _ _ true false z) (recorded_stays x goes c.requires.left c.requires.right k c.requires.right_sort h)) e.recorded)
 
+pub returns-in-TypeOutlives-clause-added : goal.returns-in-TypeOutlives-clause-added
+returns-in-TypeOutlives-clause-added c =
+    rw c.in-TypeOutlives.is (OnOk-map c.register_ty_outlives.result (λ h. added_entry _ _ _ relations.TypeOutlives c.args.left c.args.right h) c.register_ty_outlives.ensures.recorded)
+
 -- a region outlives another
 
 pub returns : goal.returns
@@ -34,5 +39,6 @@ returns c =
     record {
       goes = goes;
       held = rw is (OnOk-map c.sub_regions.result (λ h. Stays-map (λ d s n z. unseen d relations.RegionOutlives _ _ true false z) (recorded_stays x goes c.requires.left c.requires.right k c.requires.right_sort h)) e.recorded);
+      added = rw is (OnOk-map c.sub_regions.result (λ h. added_entry _ _ _ relations.RegionOutlives c.args.left c.args.right h) e.recorded);
       memory = e.memory;
     }

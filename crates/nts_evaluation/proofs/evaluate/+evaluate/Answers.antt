@@ -1,4 +1,4 @@
-use Rattle.std.proofs.Common.{arith, ◌<◌, map, length, refl, ap, sym, ◌∙◌}
+use Rattle.std.proofs.Common.{◌≡◌, Err, arith, rules, ◌+◌, ◌<◌, ◌≤◌, map, length, refl, ap, sym, ◌∙◌}
 use Rattle.std.proofs.lemmas.List.{take_all}
 use Rattle.nts_store.specs.Growth.{tree_at}
 use Rattle.nts_store.proofs.Growing.{Extends-refl, Extends-trans}
@@ -12,6 +12,11 @@ use Rattle.nts_terms.specs.Modes.{mode_of}
 use Rattle.nts_evaluation.proofs.Asking.{IsAsked-extended}
 use Rattle.nts_evaluation.proofs.Running.{unread, premise_stays, HasRun, has_run, both_sure, constraints-kept, offered_there, Equates-later, Constrains-later, Proves-step}
 use Rattle.nts_delegate.proofs.Results.{IfOk-map}
+use Rattle.nts_model.proofs.Forcing.{Forces-more}
+use Rattle.nts_unify.specs.Lawful.{content_of-extended}
+use Rattle.nts_evaluation.proofs.Refuting.{Refutes-more, some_first, some_more, settled_or_open, refuted_none, refuted_by_goal, refuted_by_constraint, refuted_back, only_met}
+use Rattle.nts_store.specs.declared.fault.EvalError.TheVariants as EvalError
+use Rattle.nts_evaluation.proofs.Forcing.{only_later, forced_back, run_first, run_more, run_last}
 use Rattle.nts_evaluation.proofs.Evaluating.{Goes-trans, Goes-extends, goes-back, Runs-trans, Runs-extends, Runs-refl, runs-back, Since-later, offers-kept, IsPosed-opened, IsPosed-later, AreValues-later, IsCandidate-extended, IsNested-extended, can_fill, candidate_at, nested_at, committed, rolled_back}
 use Rattle.nts_evaluation.proofs.evaluate.+evaluate.Goals as goal
 use Rattle.nts_unify.proofs.Keeping.{Knows-later}
@@ -69,7 +74,7 @@ evaluate_candidates-run_candidate-requires g t c = λ κs k.
             IsAsked-extended e.grows.extends c.requires.asked,
             (
               g.met.H.GoalHandler.ready_kept _ _ _ c.requires.ready e.grows.extends,
-              let at : c.in-One.i < length c.args.candidates.items = rw (c.in-One.is, c.deref.ensures.value) at e.within in
+              let at : c.in-One.i < length c.args.candidates.items = (rw (c.in-One.is, c.deref.ensures.value) at e.choice).0 in
                   rw c.take_candidate-chosen.ensures (IsCandidate-extended e.grows.extends c.requires.posed.holds (candidate_at c.args.cx.now.nodes c.args.goal c.args.candidates.items c.in-One.i _ c.requires.candidates at)),
             ),
           ),
@@ -102,7 +107,7 @@ compute_goal-returns-clause-proved g t c = λ s.
 pub evaluate_candidates-returns-in-One-clause-proved : goal.evaluate_candidates-returns-in-One-clause-proved
 evaluate_candidates-returns-in-One-clause-proved g t c = λ s offered.
     let k = c.in_ok-choose.ensures in
-    let at : c.in-One.i < length c.args.candidates.items = rw (c.in-One.is, c.deref.ensures.value) at k.within in
+    let at : c.in-One.i < length c.args.candidates.items = (rw (c.in-One.is, c.deref.ensures.value) at k.choice).0 in
     let there = offered_there c.args.goal _ c.args.candidates.items c.in-One.i c.take_candidate-chosen.ensures at c.requires.candidates k.grows.extends offered in
     rw (k.same) at (c.run_candidate.ensures.proved (Since-later k.grows.extends s) (rw (k.same, offers-kept (g.H.GoalHandler.handler s.base c.args.handler.now) (mode_of c.args.table.now.mode) k.grows.extends c.requires.posed.holds) there))
 
@@ -146,6 +151,8 @@ run_candidate-loop-nested-init g t c =
       held = rw (c.deref-3.ensures.value, constraints) at k.held;
       sure = λ y. y;
       proved = λ s y. tt;
+      forced = λ s y. run_first {u = c.equate.new.table} ((g.H.GoalHandler.handler s.base c.args.handler.now).offers (mode_of c.args.table.now.mode)) c.args.depth c.args.candidate.now c.deref-2.result.now (rw c.deref-2.ensures.value v.equated) (rw (c.deref-3.ensures.value) at k.added) constraints k.runs.goes.extends (rw c.deref-2.ensures.value v.values.within);
+      some = λ s. some_first (run_first {u = c.equate.new.table} ((g.H.GoalHandler.handler s.base c.args.handler.now).offers (mode_of c.args.table.now.mode)) c.args.depth c.args.candidate.now c.deref-2.result.now (rw c.deref-2.ensures.value v.equated) (rw (c.deref-3.ensures.value) at k.added) constraints k.runs.goes.extends (rw c.deref-2.ensures.value v.values.within));
     }
 
 pub run_candidate-evaluate_nested-requires : goal.run_candidate-evaluate_nested-requires
@@ -184,6 +191,10 @@ run_candidate-loop-nested-preserved g t c =
       sure = λ y. i.sure (both_sure _ _ (sym c.and-certainty.ensures ∙ y)).0;
       proved = λ s y. (let z = both_sure _ _ (sym c.and-certainty.ensures ∙ y) in
           Proves-step _ (meaning_since (λ ts. g.H.GoalHandler.handler ts c.args.handler.now) s) (mode_of c.args.table.now.mode) a vs c.args.candidate.now.goals.items c.loop-nested.nested-index refl c.deref-nested-items.ensures.value at e.runs.goes i.values.within (i.proved s z.0) i.runs.goes.extends (λ d. ((nested d).env.within, (nested d).predicate.within)) (rw (i.runs.goes.mode) at (e.proved (Since-later i.runs.goes.extends s) z.1)));
+      forced = λ s y. (let z = both_sure _ _ (sym c.and-certainty.ensures ∙ y) in
+          run_more ((g.H.GoalHandler.handler s.base c.args.handler.now).offers (mode_of c.args.table.now.mode)) c.args.depth c.args.candidate.now vs c.loop-nested.nested-index _ c.deref-nested-items.result.now c.deref-nested-items.ensures.value at i.runs.goes.extends e.runs.goes.extends i.values.within (nested _).env.within (nested _).predicate.within (i.forced s z.0) (rw (i.runs.goes.mode) at (e.forced (Since-later i.runs.goes.extends s) z.1)));
+      some = λ s. some_more ((g.H.GoalHandler.handler s.base c.args.handler.now).offers (mode_of c.args.table.now.mode)) c.args.depth c.args.candidate.now vs c.loop-nested.nested-index _ c.deref-nested-items.result.now c.deref-nested-items.ensures.value at i.runs.goes.extends e.runs.goes.extends i.values.within (nested _).env.within (nested _).predicate.within (i.some s)
+          (settled_or_open _ (λ y. rw (i.runs.goes.mode) at (e.forced (Since-later i.runs.goes.extends s) y)) (λ n. rw (e.maybe n) (content_of-extended e.runs.goes.extends i.runs.goes.table.now)));
     }
 
 pub run_candidate-returns-clause-runs : goal.run_candidate-returns-clause-runs
@@ -209,3 +220,94 @@ run_candidate-returns-clause-proved g t c = λ s offered y.
     let law = g.met.H.GoalHandler.lawful s.base c.args.handler.now s.formed s.is_ready in
     rw (i.runs.goes.extends.kept c.args.goal.param_env.node c.requires.posed.holds.env.within, i.runs.goes.extends.kept c.args.goal.predicate.node c.requires.posed.holds.predicate.within)
     (has_run handler s.variances mode here seen vs (tree_at c.args.cx.now.nodes c.args.goal.param_env.node) (tree_at c.args.cx.now.nodes c.args.goal.predicate.node) law c.requires.asked.asked (Knows-later _ i.runs.goes.later c.requires.posed.knows.env) (Knows-later _ i.runs.goes.later c.requires.posed.knows.predicate) offered run)
+
+pub evaluate_nested-returns-in_ok-asked-in-Some-clause-forced : goal.evaluate_nested-returns-in_ok-asked-in-Some-clause-forced
+evaluate_nested-returns-in_ok-asked-in-Some-clause-forced g t c = λ s.
+    let k = c.in_ok-asked-in-Some.ensures in
+    let same = content_of-extended k.grows.extends c.requires.posed.table.now in
+    let offers = (g.H.GoalHandler.handler s.base c.args.handler.now).offers (mode_of c.args.table.now.mode) in
+    let less : c.in-Some.below + 1 ≤ c.args.depth = omega (arith, c.in-Some.ensures.less) in
+    IfOk-map c.evaluate_goal.result (λ x h y. Forces-more offers _ _ less _ _ _ _ (rw (same, k.asks.env, k.asks.predicate) at (h y))) (c.evaluate_goal.ensures.forced (Since-later k.grows.extends s))
+
+pub evaluate_candidates-returns-in-One-clause-forced : goal.evaluate_candidates-returns-in-One-clause-forced
+evaluate_candidates-returns-in-One-clause-forced g t c = λ s offered.
+    let k = c.in_ok-choose.ensures in
+    let h = g.H.GoalHandler.handler s.base c.args.handler.now in
+    let mode = c.args.table.now.mode in
+    let p = c.requires.posed in
+    let choice = rw (c.in-One.is, c.deref.ensures.value) at k.choice in
+    let only = only_later h mode c.args.goal c.args.candidates.items c.in-One.i _ c.take_candidate-chosen.ensures choice.0 c.requires.candidates k.grows.extends p.table p.holds refl offered (choice.1 _) in
+    let run = rw (k.same) at (c.run_candidate.ensures.forced (Since-later k.grows.extends s) (rw (k.same) only)) in
+    IfOk-map c.run_candidate.result (λ x f y. forced_back c.run_candidate.new.cx.nodes c.args.table.now c.run_candidate.new.table h mode _ c.args.goal k.grows.extends p.table p.holds refl (f y)) run
+
+pub compute_goal-returns-clause-forced : goal.compute_goal-returns-clause-forced
+compute_goal-returns-clause-forced g t c = λ s.
+    let k = c.in_ok-candidates.ensures in
+    let p = c.requires.posed in
+    let same = g.met.H.GoalHandler.handler_kept s.base c.candidates.new.cx.nodes c.args.handler.now s.is_ready (Extends-trans s.extends k.grows.extends) in
+    let run = c.evaluate_candidates.ensures.forced (Since-later k.grows.extends s)
+    (k.offered ∙ ap (λ m. (g.H.GoalHandler.handler c.candidates.new.cx.nodes c.args.handler.now).offers (mode_of m) (tree_at c.candidates.new.cx.nodes c.args.goal.param_env.node) (tree_at c.candidates.new.cx.nodes c.args.goal.predicate.node)) c.typing_mode.ensures ∙ same.offers _ _ _) in
+    IfOk-map c.evaluate_candidates.result (λ x f y. forced_back c.evaluate_candidates.new.cx.nodes c.args.table.now c.evaluate_candidates.new.table (g.H.GoalHandler.handler s.base c.args.handler.now) c.args.table.now.mode _ c.args.goal k.grows.extends p.table p.holds refl (f y)) run
+
+pub run_candidate-returns-clause-forced : goal.run_candidate-returns-clause-forced
+run_candidate-returns-clause-forced g t c = λ s only y.
+    let i = c.loop-nested.invariant in
+    let all = take_all c.loop-nested.nested-index c.args.candidate.now.goals.items (omega (arith, c.loop-nested-test.false, ap (length {A = CandidateGoal}) c.deref-nested-items.ensures.value)) in
+    let offers = (g.H.GoalHandler.handler s.base c.args.handler.now).offers (mode_of c.args.table.now.mode) in
+    run_last offers c.args.depth c.args.candidate.now c.deref-2.result.now c.loop-nested.nested-index _ _ all (i.forced s y) only (ap certainty_of (i.sure y))
+
+pub evaluate_nested-returns-in_ok-asked-in-Some-clause-refuted : goal.evaluate_nested-returns-in_ok-asked-in-Some-clause-refuted
+evaluate_nested-returns-in_ok-asked-in-Some-clause-refuted g t c = λ s q.
+    let k = c.in_ok-asked-in-Some.ensures in
+    let same = content_of-extended k.grows.extends c.requires.posed.table.now in
+    let offers = (g.H.GoalHandler.handler s.base c.args.handler.now).offers (mode_of c.args.table.now.mode) in
+    let less : c.in-Some.below + 1 ≤ c.args.depth = omega (arith, c.in-Some.ensures.less) in
+    Refutes-more offers _ _ less _ _ _ (rw (same, k.asks.env, k.asks.predicate) at (c.evaluate_goal.ensures.refuted (Since-later k.grows.extends s) q))
+
+pub evaluate_candidates-returns-in-None-clause-refuted : goal.evaluate_candidates-returns-in-None-clause-refuted
+evaluate_candidates-returns-in-None-clause-refuted g t c = λ s offered q.
+    let h = g.H.GoalHandler.handler s.base c.args.handler.now in
+    let choice = rw (c.in-None.is, c.deref.ensures.value, offered) at c.in_ok-choose.ensures.choice in
+    refuted_none (h.offers (mode_of c.args.table.now.mode)) c.args.depth _ _ _ choice
+
+pub evaluate_candidates-returns-in-One-clause-refuted : goal.evaluate_candidates-returns-in-One-clause-refuted
+evaluate_candidates-returns-in-One-clause-refuted g t c = λ s offered q.
+    let k = c.in_ok-choose.ensures in
+    let h = g.H.GoalHandler.handler s.base c.args.handler.now in
+    let mode = c.args.table.now.mode in
+    let p = c.requires.posed in
+    let choice = rw (c.in-One.is, c.deref.ensures.value) at k.choice in
+    let only = only_later h mode c.args.goal c.args.candidates.items c.in-One.i _ c.take_candidate-chosen.ensures choice.0 c.requires.candidates k.grows.extends p.table p.holds refl offered (choice.1 _) in
+    let run = rw (k.same) at (c.run_candidate.ensures.refuted (Since-later k.grows.extends s) (rw (k.same) only) q) in
+    refuted_back c.args.table.now h mode _ c.args.goal k.grows.extends p.table p.holds refl run
+
+pub compute_goal-returns-clause-refuted : goal.compute_goal-returns-clause-refuted
+compute_goal-returns-clause-refuted g t c = λ s q.
+    let k = c.in_ok-candidates.ensures in
+    let p = c.requires.posed in
+    let same = g.met.H.GoalHandler.handler_kept s.base c.candidates.new.cx.nodes c.args.handler.now s.is_ready (Extends-trans s.extends k.grows.extends) in
+    let run = c.evaluate_candidates.ensures.refuted (Since-later k.grows.extends s)
+    (k.offered ∙ ap (λ m. (g.H.GoalHandler.handler c.candidates.new.cx.nodes c.args.handler.now).offers (mode_of m) (tree_at c.candidates.new.cx.nodes c.args.goal.param_env.node) (tree_at c.candidates.new.cx.nodes c.args.goal.predicate.node)) c.typing_mode.ensures ∙ same.offers _ _ _) q in
+    refuted_back c.args.table.now (g.H.GoalHandler.handler s.base c.args.handler.now) c.args.table.now.mode _ c.args.goal k.grows.extends p.table p.holds refl run
+
+pub run_candidate-returns-in_err-answer-clause-refuted : goal.run_candidate-returns-in_err-answer-clause-refuted
+run_candidate-returns-in_err-answer-clause-refuted g t c = λ s only q.
+    let i = c.loop-nested.invariant in
+    let at : c.loop-nested.nested-index < length c.args.candidate.now.goals.items = omega (arith, c.loop-nested-test.true, ap (length {A = CandidateGoal}) c.deref-nested-items.ensures.value) in
+    let nested = nested_at c.args.cx.now.nodes c.args.candidate.now.fresh.items c.args.goal c.args.candidate.now.goals.items c.loop-nested.nested-index _ c.requires.candidate.goals at in
+    let offers = (g.H.GoalHandler.handler s.base c.args.handler.now).offers (mode_of c.args.table.now.mode) in
+    let no : c.evaluate_nested.result ≡ Err EvalError.NoSolution = search rules in
+    refuted_by_goal offers c.args.depth c.args.candidate.now c.deref-2.result.now c.loop-nested.nested-index _ c.deref-nested-items.result.now _ _ c.deref-nested-items.ensures.value at i.runs.goes.extends nested.env.within nested.predicate.within (i.some s) only (rw (i.runs.goes.mode) at (c.evaluate_nested.ensures.refuted (Since-later i.runs.goes.extends s) no))
+
+pub run_candidate-returns-in_err-record_constraints-clause-refuted : goal.run_candidate-returns-in_err-record_constraints-clause-refuted
+run_candidate-returns-in_err-record_constraints-clause-refuted g t c = λ s only q.
+    let v = c.in_ok-values.ensures in
+    let offers = (g.H.GoalHandler.handler s.base c.args.handler.now).offers (mode_of c.args.table.now.mode) in
+    let constraints = constraints-kept c.args.cx.now.nodes c.equate.new.cx.nodes c.args.candidate.now.fresh.items c.args.goal c.args.candidate.now.region_constraints.items v.runs.goes.extends c.requires.candidate.constraints in
+    let no : c.record_constraints.result ≡ Err EvalError.NoSolution = search rules in
+    refuted_by_constraint {t = c.args.table.now} {u = c.equate.new.table} offers c.args.depth c.args.candidate.now c.deref-2.result.now _ _ (rw c.deref-2.ensures.value v.equated) constraints only (rw c.deref-3.ensures.value at (c.record_constraints.ensures.no no))
+
+pub run_candidate-returns-in_err-values-clause-refuted : goal.run_candidate-returns-in_err-values-clause-refuted
+run_candidate-returns-in_err-values-clause-refuted g t c = λ s only q.
+    let no : c.equate.result ≡ Err EvalError.NoSolution = search rules in
+    absurd (c.equate.ensures.unmet no (only_met _ _ _ only))

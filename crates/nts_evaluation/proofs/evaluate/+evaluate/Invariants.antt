@@ -4,6 +4,8 @@ use Rattle.nts_terms.specs.Modes.{mode_of}
 use Rattle.nts_evaluation.specs.Running.{EquatesEach, Constrains, Proves}
 use Rattle.nts_evaluation.specs.Meant.{Since, meaning_since}
 use Rattle.nts_evaluation.specs.Evaluation.{Runs, AreValues}
+use Rattle.nts_evaluation.proofs.Forcing.{RunSoFar}
+use Rattle.nts_evaluation.proofs.Refuting.{SomeSoFar}
 use Rattle.nts_evaluation.proofs.evaluate.+evaluate.Given as goal
 
 abbrev pub decreases-evaluate_goal : goal.decreases-evaluate_goal
@@ -29,4 +31,6 @@ invariant-run_candidate-loop-nested g l = record {
   held : Constrains l.fn.cx.nodes l.cx.nodes l.table l.trial.values.now l.candidate.region_constraints.items;
   sure : l.certainty ≡ certainty.Yes → l.candidate.certainty ≡ certainty.Yes;
   proved : (s : Since (λ ts. g.H.GoalHandler.ready ts l.handler) l.fn.cx.nodes) → l.certainty ≡ certainty.Yes → Proves (meaning_since (λ ts. g.H.GoalHandler.handler ts l.handler) s) (mode_of l.fn.table.mode) l.fn.cx.nodes l.cx.nodes l.table l.trial.values.now (take l.nested-index l.candidate.goals.items);
+  forced : (s : Since (λ ts. g.H.GoalHandler.ready ts l.handler) l.fn.cx.nodes) → l.certainty ≡ certainty.Yes → RunSoFar ((g.H.GoalHandler.handler s.base l.handler).offers (mode_of l.fn.table.mode)) l.depth l.fn.cx.nodes l.cx.nodes l.fn.table l.table l.candidate l.trial.values.now l.nested-index;
+  some : (s : Since (λ ts. g.H.GoalHandler.ready ts l.handler) l.fn.cx.nodes) → SomeSoFar ((g.H.GoalHandler.handler s.base l.handler).offers (mode_of l.fn.table.mode)) l.depth l.fn.cx.nodes l.cx.nodes l.fn.table l.table l.candidate l.trial.values.now l.nested-index;
 }

@@ -1,6 +1,8 @@
-use Rattle.std.proofs.Common.{◌∙◌}
+use Rattle.std.proofs.Common.{◌≡◌, ◌∙◌, Err, rules}
+use Rattle.nts_store.specs.declared.fault.EvalError.TheVariants as EvalError
 use Rattle.nts_evaluation.proofs.Running.{Stays-later, unread}
 use Rattle.nts_evaluation.proofs.Evaluating.{Goes-trans, Goes-extends, Runs-trans, Runs-extends, Since-later, same_under, HoldsGoal-extended, IsPosed-later}
+use Rattle.nts_unify.specs.Lawful.{content_of-extended}
 use Rattle.nts_evaluation.proofs.solve.evaluate_root.Goals as goal
 
 pub returns-in_err-asked-clause-runs : goal.returns-in_err-asked-clause-runs
@@ -41,3 +43,20 @@ returns-clause-changed g c =
 
 pub resolve_goal-requires-2 : goal.resolve_goal-requires-2
 resolve_goal-requires-2 g c = IsPosed-later c.in_ok-answer.ensures.runs.goes c.in_ok-asked.ensures.posed
+
+pub returns-clause-forced : goal.returns-clause-forced
+returns-clause-forced g c = λ s y.
+    let k = c.in_ok-asked.ensures in
+    let a = c.in_ok-answer.ensures in
+    let here = content_of-extended k.grows.extends c.requires.posed.table.now in
+    let there = content_of-extended c.in_ok-after.ensures.grows.extends a.runs.goes.table.now in
+    let limit = c.recursion_limit-depth.ensures ∙ k.grows.rest.limit in
+    rw (there) (rw (limit, here, k.env, k.predicate) at (a.forced (Since-later k.grows.extends s) y))
+
+pub returns-in_err-answer-clause-refuted : goal.returns-in_err-answer-clause-refuted
+returns-in_err-answer-clause-refuted g c = λ s q.
+    let k = c.in_ok-asked.ensures in
+    let here = content_of-extended k.grows.extends c.requires.posed.table.now in
+    let limit = c.recursion_limit-depth.ensures ∙ k.grows.rest.limit in
+    let no : c.evaluate_goal.result ≡ Err EvalError.NoSolution = search rules in
+    rw (limit, here, k.env, k.predicate) at (c.evaluate_goal.ensures.refuted (Since-later k.grows.extends s) no)

@@ -1,3 +1,4 @@
+use Rattle.std.proofs.Common.{[], sym, ◌∙◌}
 use Rattle.nts_store.proofs.Growing.{Extends-refl}
 use Rattle.nts_terms.proofs.Moved.{KeepsRest-refl}
 use Rattle.nts_evaluation.proofs.Running.{Stays-now}
@@ -28,3 +29,16 @@ returns-clause-proved g c =
     handed_on c.evaluate_root-evaluated.result c.commit_if_ok.result o.same o.ok e.proved (λ a kept proved y v.
     let now = Stays-now c.terms_are_formed-2.ensures e.runs.goes.table (proved (record { base = c.args.cx.now.nodes; formed = c.terms_are_formed.ensures; extends = Extends-refl _; is_ready = c.requires.ready; variances = v }) y) in
     rw (kept, ← c.start_snapshot.ensures.mode) (IsProved-held _ _ _ _ _ e.runs.goes.table.now.sound now))
+
+pub returns-clause-forced : goal.returns-clause-forced
+returns-clause-forced g c =
+    let e = c.evaluate_root-evaluated.ensures in
+    let o = c.commit_if_ok.ensures in
+    handed_on c.evaluate_root-evaluated.result c.commit_if_ok.result o.same o.ok e.forced (λ a kept forced y.
+    rw (kept) (rw (c.start_snapshot.ensures.entries, c.start_snapshot.ensures.mode) at (forced (record { base = c.args.cx.now.nodes; formed = c.terms_are_formed.ensures; extends = Extends-refl _; is_ready = c.requires.ready; variances = λ i. [] }) y)))
+
+pub returns-clause-refuted : goal.returns-clause-refuted
+returns-clause-refuted g c = λ q.
+    let e = c.evaluate_root-evaluated.ensures in
+    let o = c.commit_if_ok.ensures in
+    rw (c.start_snapshot.ensures.entries, c.start_snapshot.ensures.mode) at (e.refuted (record { base = c.args.cx.now.nodes; formed = c.terms_are_formed.ensures; extends = Extends-refl _; is_ready = c.requires.ready; variances = λ i. [] }) (sym o.same ∙ q))

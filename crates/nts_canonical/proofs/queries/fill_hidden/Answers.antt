@@ -5,7 +5,7 @@ use Rattle.nts_store.specs.Kept.{AllIn-kept, map-kept}
 use Rattle.nts_store.proofs.Growing.{Extends-trans}
 use Rattle.nts_canonical.proofs.PairLists.{are_hidden-at, is_hidden-kept, IsImage-later, AreImages-kept, image_more}
 use Rattle.nts_canonical.proofs.Filled.{has_values-kept, pair-at, image-filled}
-use Rattle.nts_canonical.proofs.instantiate.fill_hidden.Goals as goal
+use Rattle.nts_canonical.proofs.queries.fill_hidden.Goals as goal
 
 pub fill_pair-requires : goal.fill_pair-requires
 fill_pair-requires c =

@@ -3,7 +3,7 @@ use Rattle.nts_store.specs.Growth.{tree_at}
 use Rattle.nts_store.specs.Kept.{AllIn-kept}
 use Rattle.nts_canonical.proofs.PairLists.{holds_kept, alias-filled}
 use Rattle.nts_canonical.proofs.Filled.{has_values-kept, filled-kept}
-use Rattle.nts_canonical.proofs.instantiate.fill_pair.Goals as goal
+use Rattle.nts_canonical.proofs.queries.fill_pair.Goals as goal
 
 pub fill-requires-2-clause-values : goal.fill-requires-2-clause-values
 fill-requires-2-clause-values c = AllIn-kept _ _ c.args.values.now c.requires.values c.fill.ensures.extends

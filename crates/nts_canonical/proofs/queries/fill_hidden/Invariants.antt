@@ -2,7 +2,7 @@ use Rattle.std.proofs.Common.{map, take}
 use Rattle.nts_model.specs.Handlers.{filled}
 use Rattle.nts_store.specs.Growth.{tree_at, Extends}
 use Rattle.nts_canonical.specs.Replaced.{AreImages}
-use Rattle.nts_canonical.proofs.instantiate.fill_hidden.Given as goal
+use Rattle.nts_canonical.proofs.queries.fill_hidden.Given as goal
 
 abbrev pub invariant-loop-i : goal.invariant-loop-i
 invariant-loop-i l = record {

@@ -6,7 +6,7 @@ use Rattle.nts_store.specs.Growth.{tree_at}
 use Rattle.nts_terms.specs.Handles.{Holds}
 use Rattle.nts_store.specs.Filled.{kind_of-filled}
 use Rattle.nts_canonical.proofs.Placing.{holds_alike}
-use Rattle.nts_canonical.proofs.instantiate.fill.Goals as goal
+use Rattle.nts_canonical.proofs.queries.fill.Goals as goal
 
 pub returns-clause-holds : goal.returns-clause-holds
 returns-clause-holds g c =

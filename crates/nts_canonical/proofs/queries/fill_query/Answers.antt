@@ -6,7 +6,7 @@ use Rattle.nts_store.proofs.Growing.{Extends-trans}
 use Rattle.nts_canonical.specs.Forms.{hidden_pairs}
 use Rattle.nts_canonical.proofs.PairLists.{holds_kept, are_hidden-kept, AreImages-row, AreImages-held}
 use Rattle.nts_canonical.proofs.Filled.{has_values-kept, has_values_row-kept, filled-kept, filled_row-kept, three}
-use Rattle.nts_canonical.proofs.instantiate.fill_query.Goals as goal
+use Rattle.nts_canonical.proofs.queries.fill_query.Goals as goal
 
 pub fill-requires-2-clause-values : goal.fill-requires-2-clause-values
 fill-requires-2-clause-values c = AllIn-kept _ _ c.args.values.now c.requires.values c.fill.ensures.extends

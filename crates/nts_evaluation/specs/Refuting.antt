@@ -1,0 +1,54 @@
+-- What refutes a goal, and what leaves it open: the candidates that alone are met, and their goals.
+use Rattle.std.specs.Prelude.{◌≡◌, ◌⊎◌, ℕ, zero, suc, List, [], ◌∷◌}
+use Rattle.nts_model.specs.declared.labels.Relation.TheVariants as relation
+use Rattle.nts_model.specs.Trees.{Tree}
+use Rattle.nts_model.specs.Contents.{Content}
+use Rattle.nts_model.specs.Resolving.{deeply_resolved}
+use Rattle.nts_model.specs.Equations.{AreUnrelated}
+use Rattle.nts_model.specs.Related.{Constraint}
+use Rattle.nts_model.specs.Sequents.{Premise}
+use Rattle.nts_model.specs.Handlers.{Candidate, filled, constraint_by}
+use Rattle.nts_model.specs.Choosing.{Freshens, EquatesAll, NoneIsMet, OnlyIsMet}
+use Rattle.nts_model.specs.Forcing.{Adds, AddsAll, Leaves, Forces}
+
+-- constraint by constraint, until the sides of an equality are not related
+abbrev pub FailsToAdd : List Tree → List Constraint → Content → Type 0
+FailsToAdd xs [] c = ⊥
+FailsToAdd xs (x ∷ ys) c =
+    (x.relation ≡ relation.Equal) × AreUnrelated c (filled xs x.left) (filled xs x.right)
+    ⊎ ((e : Content) × Adds (constraint_by (filled xs) x) c e × FailsToAdd xs ys e)
+
+-- goal by goal, each is settled or left open
+abbrev pub LeavesSome : Leaves → List Tree → List Premise → Content → Content → Type 0
+LeavesSome P xs [] c d = d ≡ c
+LeavesSome P xs (p ∷ ps) c d =
+    ((e : Content) × P c e (deeply_resolved c (filled xs p.environment)) (deeply_resolved c (filled xs p.predicate)) × LeavesSome P xs ps e d)
+    ⊎ LeavesSome P xs ps c d
+
+-- goals that a table refutes
+abbrev pub Refuses : Type 1
+Refuses = Content → Tree → Tree → Type 0
+
+-- .. until one of them is refuted
+abbrev pub RefutesOne : Leaves → Refuses → List Tree → List Premise → Content → Type 0
+RefutesOne P N xs [] c = ⊥
+RefutesOne P N xs (p ∷ ps) c =
+    N c (deeply_resolved c (filled xs p.environment)) (deeply_resolved c (filled xs p.predicate))
+    ⊎ ((e : Content) × P c e (deeply_resolved c (filled xs p.environment)) (deeply_resolved c (filled xs p.predicate)) × RefutesOne P N xs ps e)
+    ⊎ RefutesOne P N xs ps c
+
+-- the candidate that alone is met asks for an equality of regions that can't be, or for a goal that is refuted
+pub record IsRefuted (offers : Tree → Tree → List Candidate) (Above : Leaves) (Below : Refuses) (c : Content) (e g : Tree) : Type 0 where
+  pub candidate : Candidate
+  pub only : OnlyIsMet c candidate (offers e g)
+  pub values : List Tree
+  pub made : Content
+  pub equal : Content
+  pub freshens : Freshens c.universe candidate.fresh values c made
+  pub equates : EquatesAll values candidate.equations made equal
+  pub fails : FailsToAdd values candidate.constraints equal ⊎ ((met : Content) × AddsAll values candidate.constraints equal met × RefutesOne Above Below values candidate.goals met)
+
+-- no candidate is met, or the one that is fails, in a tree of goals that is less than n goals high
+abbrev pub Refutes : (Tree → Tree → List Candidate) → ℕ → Refuses
+Refutes offers zero c e g = ⊥
+Refutes offers (suc n) c e g = NoneIsMet c (offers e g) ⊎ IsRefuted offers (Forces offers n) (Refutes offers n) c e g
