@@ -1,0 +1,52 @@
+-- What responses stand for.
+use Rattle.std.specs.Prelude.{List, map}
+use Rattle.nts_model.specs.Trees.{Tree}
+use Rattle.nts_model.specs.Contents.{Recorded}
+use Rattle.nts_model.specs.Sequents.{Premise}
+use Rattle.nts_model.specs.Responses.{Findings, Response as Form}
+use Rattle.nts_certainty.specs.declared.sources.GoalSource.{GoalSource}
+use Rattle.nts_terms.specs.declared.handles.Goal.{Goal}
+use Rattle.nts_terms.specs.declared.modes.VisibleForLeakCheck.{VisibleForLeakCheck}
+use Rattle.nts_store.specs.Growth.{tree_at}
+use Rattle.nts_unify.specs.Recording.{is_visible}
+use Rattle.nts_delegate.specs.declared.delegate.RegionConstraint.{RegionConstraint}
+use Rattle.nts_delegate.specs.Offered.{source_of, hidden_of}
+use Rattle.nts_canonical.specs.declared.types.Canonical.{Canonical}
+use Rattle.nts_canonical.specs.Forms.{kind_of_var, trees_of}
+use Rattle.nts_response.specs.declared.types.Response.{Response}
+
+-- a region constraint, a goal that is left open, and all that was found out, as trees
+abbrev pub recorded_at : List Tree → RegionConstraint × VisibleForLeakCheck → Recorded
+recorded_at ts x =
+    record {
+      relation = x.0.relation;
+      left = tree_at ts x.0.left.node;
+      right = tree_at ts x.0.right.node;
+      is_visible = is_visible x.1;
+    }
+
+abbrev pub premise_at : List Tree → GoalSource × Goal → Premise
+premise_at ts g =
+    record {
+      source = source_of g.0;
+      environment = tree_at ts g.1.param_env.node;
+      predicate = tree_at ts g.1.predicate.node;
+    }
+
+abbrev pub findings_at : List Tree → Response → Findings
+findings_at ts r =
+    record {
+      values = trees_of ts r.var_values.items;
+      constraints = map (recorded_at ts) r.external_constraints.region_constraints.items;
+      hidden = map (hidden_of ts) r.external_constraints.opaque_types.items;
+      open_goals = map (premise_at ts) r.external_constraints.normalization_nested_goals.items;
+    }
+
+-- the response that a canonical one stands for in a store
+abbrev pub response_at : List Tree → Canonical Response → Form
+response_at ts c =
+    record {
+      findings = findings_at ts c.value;
+      kinds = map kind_of_var c.var_kinds.items;
+      max_universe = c.max_universe;
+    }
