@@ -46,7 +46,7 @@ owned-node ts e stays s i (label.Clause x) h o k = o
 owned-node ts e stays s i (label.Predicate x) h o k = o
 owned-node ts e stays s i (label.List x) h o k = o
 
-owned-seen : (ts : List Tree) (e : Entries) (stays : Leaf → Bool) (s : List Leaf) (t : Tree) → AreOwned e s → Knows (content_of ts e) t → AreOwned e (seen stays s t)
+pub owned-seen : (ts : List Tree) (e : Entries) (stays : Leaf → Bool) (s : List Leaf) (t : Tree) → AreOwned e s → Knows (content_of ts e) t → AreOwned e (seen stays s t)
 owned-seen ts e stays s empty h k = h
 owned-seen ts e stays s (more a b) h k = owned-seen ts e stays (seen stays s a) b (owned-seen ts e stays s a h k.0) k.1
 owned-seen ts e stays s (node l c) h k = owned-node ts e stays s (seen stays s c) l h (owned-seen ts e stays s c h k.1) k.0.0

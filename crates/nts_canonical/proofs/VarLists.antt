@@ -33,15 +33,15 @@ number-at (x ∷ xs) (suc i) d h l =
       | inr e ↦ rw e (omega (arith, number-at xs i d h.1 (omega arith)))
     ]
 
-place-map : {X : Type 0} (f : Leaf → X) (p : X → Bool) (s : List Leaf) → position_or_len p (map f s) ≡ position_or_len (λ x. p (f x)) s
+pub place-map : {X : Type 0} (f : Leaf → X) (p : X → Bool) (s : List Leaf) → position_or_len p (map f s) ≡ position_or_len (λ x. p (f x)) s
 place-map f p [] = refl
 place-map f p (x ∷ xs) = elim (either (p (f x))) [ inl e ↦ rw e refl | inr e ↦ rw e (ap (λ n. 1 + n) (place-map f p xs)) ]
 
-map-push : {X Y : Type 0} (f : X → Y) (xs : List X) (x : X) → map f (xs ++ x ∷ []) ≡ map f xs ++ f x ∷ []
+pub map-push : {X Y : Type 0} (f : X → Y) (xs : List X) (x : X) → map f (xs ++ x ∷ []) ≡ map f xs ++ f x ∷ []
 map-push f [] x = refl
 map-push f (y ∷ xs) x = ap (λ r. f y ∷ r) (map-push f xs x)
 
-map-take-more : {X Y : Type 0} (f : X → Y) (xs : List X) (i : ℕ) (d : X) → i < length xs → map f (take (i + 1) xs) ≡ map f (take i xs) ++ f (get_or xs i d) ∷ []
+pub map-take-more : {X Y : Type 0} (f : X → Y) (xs : List X) (i : ℕ) (d : X) → i < length xs → map f (take (i + 1) xs) ≡ map f (take i xs) ++ f (get_or xs i d) ∷ []
 map-take-more f xs i d l = ap (map f) (take_more xs i d l) ∙ map-push f (take i xs) (get_or xs i d)
 
 -- one more kind

@@ -7,14 +7,18 @@ use Rattle.nts_model.specs.Trees.{Tree, empty, more, node, size}
 use Rattle.nts_model.specs.Sequents.{Among}
 use Rattle.nts_model.specs.Numbered.{added, seen, no_leaf}
 use Rattle.nts_model.specs.Inputs.{is_static}
+use Rattle.nts_model.specs.Responses.{is_fixed}
 use Rattle.nts_store.specs.Growth.{tree_at, IsIn}
+use Rattle.nts_canonical.specs.declared.collecting.Staying.{Staying}
+use Rattle.nts_canonical.specs.declared.collecting.Staying.TheVariants as staying
 use Rattle.nts_canonical.specs.declared.collecting.Task.{Task}
 use Rattle.nts_canonical.specs.declared.collecting.Task.TheVariants as task
 
--- the leaves that stay as they are: 'static, where it is kept, or none
-abbrev pub stays_where : Bool → Leaf → Bool
-stays_where true = is_static
-stays_where false = no_leaf
+-- the leaves that stay as they are
+abbrev pub stays_where : Staying → Leaf → Bool
+stays_where staying.Nothing = no_leaf
+stays_where staying.Static = is_static
+stays_where staying.FixedRegions = is_fixed
 
 -- the leaves that were seen once a leaf is read
 abbrev pub after_leaf : (Leaf → Bool) → List Leaf → Leaf → List Leaf

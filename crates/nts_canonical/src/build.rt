@@ -87,7 +87,7 @@ pub fn instantiate_canonical_var<F: Fn(UniverseIndex) -> UniverseIndex>(
 }
 
 /// The universe of a kind.
-fn universe_of(kind: CanonicalVarKind) -> UniverseIndex
+pub fn universe_of(kind: CanonicalVarKind) -> UniverseIndex
     ensures { result ≡ universe_of_kind (kind_of_var kind) }
 {
     match kind {

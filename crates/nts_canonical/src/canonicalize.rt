@@ -14,7 +14,7 @@ ghost use Rattle.nts_canonical.specs.Forms.{hidden_pairs, query_tree, form_of, i
 ghost use Rattle.nts_canonical.specs.Building.{IsCanonicalOf, IsAskable};
 ghost use Rattle.nts_canonical.specs.Replaced.{IsImage, AreImages, AreLeafArgs};
 
-use crate::collecting::collect;
+use crate::collecting::{Staying, collect};
 use crate::numbering::numbered;
 use crate::types::{Canonical, CanonicalInput, QueryInput};
 use crate::var_kinds::kinds_of;
@@ -76,12 +76,12 @@ fn leaves_of(
     ensures { IfOk result (λ s. s.keys ≡ seen no_leaf (seen no_leaf (seen is_static [] (tree_at cx.now.nodes goal.param_env.node)) (tree_at cx.now.nodes goal.predicate.node)) (hidden_pairs cx.now.nodes opaque_types.now)) }
 {
     let mut leaves = IndexSet::new(cx.alloc);
-    collect(cx.alloc, &cx.nodes, true, &mut leaves, goal.param_env.node)?;
-    collect(cx.alloc, &cx.nodes, false, &mut leaves, goal.predicate.node)?;
+    collect(cx.alloc, &cx.nodes, Staying::Static, &mut leaves, goal.param_env.node)?;
+    collect(cx.alloc, &cx.nodes, Staying::Nothing, &mut leaves, goal.predicate.node)?;
     for i in 0..opaque_types.len() {
         let (alias, ty) = opaque_types[i];
-        collect(cx.alloc, &cx.nodes, false, &mut leaves, alias.args.node)?;
-        collect(cx.alloc, &cx.nodes, false, &mut leaves, ty.node)?;
+        collect(cx.alloc, &cx.nodes, Staying::Nothing, &mut leaves, alias.args.node)?;
+        collect(cx.alloc, &cx.nodes, Staying::Nothing, &mut leaves, ty.node)?;
     }
     Ok(leaves)
 }
@@ -119,8 +119,8 @@ fn numbered_query(
     ensures holds { IfOk result (HoldsQuery nodes.new) }
     ensures extends { Extends nodes.old nodes.new }
 {
-    let param_env = numbered(alloc, nodes, true, leaves, goal.param_env)?;
-    let predicate = numbered(alloc, nodes, false, leaves, goal.predicate)?;
+    let param_env = numbered(alloc, nodes, Staying::Static, leaves, goal.param_env)?;
+    let predicate = numbered(alloc, nodes, Staying::Nothing, leaves, goal.predicate)?;
     let hidden = numbered_hidden(alloc, nodes, leaves, opaque_types)?;
     Ok(QueryInput {
         goal: Goal {
@@ -161,8 +161,8 @@ fn numbered_pair(
     ensures extends { Extends nodes.old nodes.new }
 {
     let (alias, ty) = hidden;
-    let args = numbered(alloc, nodes, false, leaves, alias.args)?;
-    let ty = numbered(alloc, nodes, false, leaves, ty)?;
+    let args = numbered(alloc, nodes, Staying::Nothing, leaves, alias.args)?;
+    let ty = numbered(alloc, nodes, Staying::Nothing, leaves, ty)?;
     let alias = AliasTerm {
         def_id: alias.def_id,
         args,

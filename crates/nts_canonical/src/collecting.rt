@@ -20,24 +20,42 @@ pub enum Task {
     Finish(NodeId),
 }
 
-/// Whether the leaf stays as it is, and is not seen: 'static does where it is kept.
-pub(crate) fn stays(keeps_static: bool, leaf: Leaf) -> bool
-    ensures { result ≡ stays_where keeps_static leaf }
+/// Which leaves stay as they are, and have no position.
+#[derive(Clone, Copy)]
+pub enum Staying {
+    /// None, as in the predicate and the hidden types of an input.
+    Nothing,
+    /// 'static, as in the environment of an input.
+    Static,
+    /// 'static, the erased and the error region, as in a response.
+    FixedRegions,
+}
+
+/// Whether the leaf stays as it is, and is not seen.
+pub(crate) fn stays(staying: Staying, leaf: Leaf) -> bool
+    ensures { result ≡ stays_where staying leaf }
 {
-    keeps_static && matches!(leaf, Leaf::Region(FreeRegion::Static))
+    match staying {
+        Staying::Nothing => false,
+        Staying::Static => matches!(leaf, Leaf::Region(FreeRegion::Static)),
+        Staying::FixedRegions => matches!(
+            leaf,
+            Leaf::Region(FreeRegion::Static | FreeRegion::Erased | FreeRegion::Error)
+        ),
+    }
 }
 
 /// Adds the leaves of a term that were not seen before. A node that the term has at several places is
 /// read once.
-pub(crate) fn collect(
+pub fn collect(
     alloc: Global,
     nodes: &Nodes,
-    keeps_static: bool,
+    staying: Staying,
     leaves: &mut IndexSet<Leaf>,
     t: NodeId,
 ) -> Result<(), AllocError>
     requires { IsIn nodes.now t }
-    ensures { OnOk result (leaves.new.keys ≡ seen (stays_where keeps_static) leaves.old.keys (tree_at nodes.now t)) }
+    ensures { OnOk result (leaves.new.keys ≡ seen (stays_where staying) leaves.old.keys (tree_at nodes.now t)) }
 {
     let mut finished = IndexSet::new(alloc);
     let mut tasks = Vec::new(alloc);
@@ -45,7 +63,7 @@ pub(crate) fn collect(
     while let Some(task) = tasks.pop() {
         match task {
             Task::Enter(term) => {
-                enter(nodes, &finished, keeps_static, leaves, &mut tasks, term)?;
+                enter(nodes, &finished, staying, leaves, &mut tasks, term)?;
             }
             Task::Finish(term) => {
                 finished.insert(term.number)?;
@@ -58,16 +76,16 @@ pub(crate) fn collect(
 fn enter(
     nodes: &Nodes,
     finished: &IndexSet<usize>,
-    keeps_static: bool,
+    staying: Staying,
     leaves: &mut IndexSet<Leaf>,
     tasks: &mut Vec<Task>,
     term: NodeId,
 ) -> Result<(), AllocError>
-    requires { IsReading (stays_where keeps_static) nodes.now (tasks.old.items ++ Enter term ∷ []) leaves.old.keys finished.now.keys }
-    ensures { OnOk result (WalkGoesOn (stays_where keeps_static) nodes.now (tasks.old.items ++ Enter term ∷ []) leaves.old.keys finished.now.keys tasks.new.items leaves.new.keys finished.now.keys) }
+    requires { IsReading (stays_where staying) nodes.now (tasks.old.items ++ Enter term ∷ []) leaves.old.keys finished.now.keys }
+    ensures { OnOk result (WalkGoesOn (stays_where staying) nodes.now (tasks.old.items ++ Enter term ∷ []) leaves.old.keys finished.now.keys tasks.new.items leaves.new.keys finished.now.keys) }
 {
     if let Label::Leaf(leaf) = nodes.label(term) {
-        return see(keeps_static, leaves, leaf);
+        return see(staying, leaves, leaf);
     }
     if finished.contains(&term.number) {
         return Ok(());
@@ -76,10 +94,10 @@ fn enter(
     push_children(nodes, term, tasks)
 }
 
-fn see(keeps_static: bool, leaves: &mut IndexSet<Leaf>, leaf: Leaf) -> Result<(), AllocError>
-    ensures { OnOk result (leaves.new.keys ≡ after_leaf (stays_where keeps_static) leaves.old.keys leaf) }
+fn see(staying: Staying, leaves: &mut IndexSet<Leaf>, leaf: Leaf) -> Result<(), AllocError>
+    ensures { OnOk result (leaves.new.keys ≡ after_leaf (stays_where staying) leaves.old.keys leaf) }
 {
-    if stays(keeps_static, leaf) {
+    if stays(staying, leaf) {
         return Ok(());
     }
     leaves.insert(leaf)?;

@@ -16,7 +16,10 @@ mod types;
 mod var_kinds;
 
 pub use alike::same_input;
-pub use build::{build_with_canonical, instantiate_canonical_var};
+pub use build::{build_with_canonical, instantiate_canonical_var, universe_of};
 pub use canonicalize::canonicalize_goal;
+pub use collecting::{Staying, collect};
 pub use instantiate::instantiate_canonical;
+pub use numbering::numbered;
 pub use types::{Canonical, CanonicalInput, CanonicalVarKind, QueryInput};
+pub use var_kinds::{first_of, sub_root_of, sub_roots};

@@ -6,10 +6,11 @@ ghost use Rattle.nts_model.specs.Substitutions.{replace};
 ghost use Rattle.nts_model.specs.Numbered.{number, numbered_leaf};
 ghost use Rattle.nts_store.specs.Growth.{tree_at, Extends};
 ghost use Rattle.nts_terms.specs.Handles.{Holds};
+ghost use Rattle.nts_canonical.specs.declared.collecting.Staying.{Staying};
 ghost use Rattle.nts_canonical.specs.Collecting.{stays_where};
 ghost use Rattle.nts_canonical.specs.Positions.{kind_of-numbered};
 
-use crate::collecting::stays;
+use crate::collecting::{Staying, stays};
 use indexmap::IndexSet;
 use nts_model::{BoundVarIndexKind, Label, Leaf, Sort, VariableKind};
 use nts_store::{NodeId, Nodes, Replacer, Step, replace};
@@ -20,15 +21,13 @@ use std::alloc::{AllocError, Global};
 #[derive(Drop)]
 struct Numberer<'a> {
     leaves: &'a IndexSet<Leaf>,
-    keeps_static: bool,
+    staying: Staying,
 }
 
 impl Replacer for Numberer<'_> {
-    ghost use Rattle.std.specs.Prelude.{Bool};
+    ghost Meaning = { Staying × List Leaf };
 
-    ghost Meaning = { Bool × List Leaf };
-
-    ghost meaning = { λ ts s. (s.keeps_static, s.leaves.now.keys) };
+    ghost meaning = { λ ts s. (s.staying, s.leaves.now.keys) };
 
     ghost ready = { λ ts s. Unit {0} };
 
@@ -52,7 +51,7 @@ impl Replacer for Numberer<'_> {
         let Label::Leaf(leaf) = nodes.label(t) else {
             return Ok(Step::Down(t));
         };
-        if stays(self.keeps_static, leaf) {
+        if stays(self.staying, leaf) {
             return Ok(Step::Done(t));
         }
         let position = number_of(self.leaves, leaf);
@@ -81,21 +80,21 @@ fn sort_of_leaf(leaf: Leaf) -> Sort
 }
 
 /// The term with a position in place of each leaf but those that stay.
-pub(crate) fn numbered<T: Stored>(
+pub fn numbered<T: Stored>(
     alloc: Global,
     nodes: &mut Nodes,
-    keeps_static: bool,
+    staying: Staying,
     leaves: &IndexSet<Leaf>,
     x: T,
 ) -> Result<T, AllocError>
     requires { Holds T.place nodes.old (T.id x) }
     ensures extends { Extends nodes.old nodes.new }
     ensures holds { IfOk result (λ r. Holds T.place nodes.new (T.id r)) }
-    ensures tree { IfOk result (λ r. tree_at nodes.new (T.id r) ≡ replace (numbered_leaf (stays_where keeps_static) leaves.now.keys) (tree_at nodes.old (T.id x))) }
+    ensures tree { IfOk result (λ r. tree_at nodes.new (T.id r) ≡ replace (numbered_leaf (stays_where staying) leaves.now.keys) (tree_at nodes.old (T.id x))) }
 {
     let numberer = Numberer {
         leaves,
-        keeps_static,
+        staying,
     };
     let node = replace(alloc, nodes, &numberer, x.node())?;
     Ok(T::from_node(node))

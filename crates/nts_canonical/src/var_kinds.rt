@@ -40,7 +40,7 @@ pub(crate) fn kinds_of(
 }
 
 /// The root of the sub-unification class of each type variable.
-fn sub_roots(
+pub fn sub_roots(
     alloc: Global,
     table: &InferCtxt,
     leaves: &[Leaf],
@@ -56,7 +56,7 @@ fn sub_roots(
     Ok(roots)
 }
 
-fn sub_root_of(table: &InferCtxt, leaf: Leaf) -> Option<usize>
+pub fn sub_root_of(table: &InferCtxt, leaf: Leaf) -> Option<usize>
     requires descends { LinksDescend table.now.entries }
     requires owned { IsOwned table.now.entries leaf }
     ensures { result ≡ sub_root_of (sub_root_in table.now.entries) leaf }
@@ -68,7 +68,7 @@ fn sub_root_of(table: &InferCtxt, leaf: Leaf) -> Option<usize>
 }
 
 /// The first place of a root, or the length.
-fn first_of(roots: &[Option<usize>], root: Option<usize>) -> usize
+pub fn first_of(roots: &[Option<usize>], root: Option<usize>) -> usize
     ensures { result ≡ position_or_len (are_one root) roots.now }
 {
     for i in 0..roots.len() {

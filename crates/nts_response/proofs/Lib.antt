@@ -1,0 +1,4 @@
+pub mod KindLists
+pub mod Rows
+pub mod Each
+pub mod Found

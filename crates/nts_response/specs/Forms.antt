@@ -1,9 +1,10 @@
 -- What responses stand for.
-use Rattle.std.specs.Prelude.{List, map}
+use Rattle.std.specs.Prelude.{List, map, All}
 use Rattle.nts_model.specs.Trees.{Tree}
-use Rattle.nts_model.specs.Contents.{Recorded}
+use Rattle.nts_model.specs.Contents.{Content, Recorded}
+use Rattle.nts_model.specs.Resolving.{Knows}
 use Rattle.nts_model.specs.Sequents.{Premise}
-use Rattle.nts_model.specs.Responses.{Findings, Response as Form}
+use Rattle.nts_model.specs.Responses.{Findings, row_of, Response as Form}
 use Rattle.nts_certainty.specs.declared.sources.GoalSource.{GoalSource}
 use Rattle.nts_terms.specs.declared.handles.Goal.{Goal}
 use Rattle.nts_terms.specs.declared.modes.VisibleForLeakCheck.{VisibleForLeakCheck}
@@ -12,7 +13,8 @@ use Rattle.nts_unify.specs.Recording.{is_visible}
 use Rattle.nts_delegate.specs.declared.delegate.RegionConstraint.{RegionConstraint}
 use Rattle.nts_delegate.specs.Offered.{source_of, hidden_of}
 use Rattle.nts_canonical.specs.declared.types.Canonical.{Canonical}
-use Rattle.nts_canonical.specs.Forms.{kind_of_var, trees_of}
+use Rattle.nts_terms.specs.Handles.{HoldsArg, HoldsRegion, HoldsGoal}
+use Rattle.nts_canonical.specs.Forms.{kind_of_var, trees_of, IsHidden}
 use Rattle.nts_response.specs.declared.types.Response.{Response}
 
 -- a region constraint, a goal that is left open, and all that was found out, as trees
@@ -50,3 +52,21 @@ response_at ts c =
       kinds = map kind_of_var c.var_kinds.items;
       max_universe = c.max_universe;
     }
+
+-- its terms are of the store
+pub record HoldsConstraint (ts : List Tree) (x : RegionConstraint × VisibleForLeakCheck) : Type 0 where
+  pub left : HoldsArg ts x.0.left
+  pub right : HoldsRegion ts x.0.right
+
+pub record HoldsOpen (ts : List Tree) (g : GoalSource × Goal) : Type 0 where
+  pub goal : HoldsGoal ts g.1
+
+pub record HoldsResponse (ts : List Tree) (r : Response) : Type 0 where
+  pub values : All (HoldsArg ts) r.var_values.items
+  pub constraints : All (HoldsConstraint ts) r.external_constraints.region_constraints.items
+  pub hidden : All (IsHidden ts) r.external_constraints.opaque_types.items
+  pub open_goals : All (HoldsOpen ts) r.external_constraints.normalization_nested_goals.items
+
+-- its trees are of the table
+pub record KnowsFindings (c : Content) (x : Findings) : Type 0 where
+  pub trees : Knows c (row_of x)

@@ -1,1 +1,3 @@
 pub mod Forms
+pub mod Kinds
+pub mod Replacing

@@ -1,6 +1,11 @@
 //! Responses: what queries answer, as canonical values, and how they are applied to the tables of those who ask.
 #![tactic(auto)]
 
+mod answer_kinds;
+mod canonicalize;
+mod leaves;
+mod numbered;
 mod types;
 
+pub use canonicalize::canonicalize_response;
 pub use types::{CanonicalResponse, ExternalConstraintsData, Response};
