@@ -1,0 +1,5 @@
+//! Tests of responses, through the names that users of the library see.
+#![tactic(auto)]
+
+#[cfg(test)]
+mod tests;

@@ -1,0 +1,155 @@
+//! Responses as canonical values, case by case.
+ghost use Rattle.std.specs.Prelude.{◌≡◌};
+ghost use Rattle.nts_table.specs.Tables.{IsTable};
+
+use nts_canonical::CanonicalVarKind;
+use nts_certainty::Certainty;
+use nts_delegate::RegionConstraint;
+use nts_model::{BoundVarIndexKind, Relation, VariableKind};
+use nts_response::{CanonicalResponse, ExternalConstraintsData, Response, canonicalize_response};
+use nts_table::InferCtxt;
+use nts_terms::{
+    BoundRegion, BoundTy, Cx, GenericArg, PlaceholderRegion, Region, RegionKind, Ty, TyKind,
+    TypingMode, VisibleForLeakCheck,
+};
+use std::process::Abort;
+
+/// A table in the universe 3, of the root at first.
+fn table_in_universe_three(rt: &impl Abort, cx: &Cx) -> InferCtxt
+    ensures table { IsTable cx.now.nodes result }
+    ensures universe { result.entries.universe ≡ 3 }
+{
+    let mut table = InferCtxt::new(cx.alloc, TypingMode::PostAnalysis);
+    table.create_next_universe().expect(rt, "memory");
+    table.create_next_universe().expect(rt, "memory");
+    table.create_next_universe().expect(rt, "memory");
+    table
+}
+
+/// The response to an input whose greatest universe is 2, which found these two values and this constraint.
+fn response(
+    rt: &impl Abort,
+    table: &InferCtxt,
+    cx: &mut Cx,
+    first: GenericArg,
+    second: GenericArg,
+    constraint: RegionConstraint,
+) -> CanonicalResponse
+    requires { IsTable cx.old.nodes table.now }
+    ensures { IsTable cx.new.nodes table.now }
+{
+    assert!(rt; cx.holds(first));
+    assert!(rt; cx.holds(second));
+    assert!(rt; cx.holds(constraint.left));
+    assert!(rt; cx.holds(constraint.right));
+    assert!(rt; table.knows(cx, first).expect(rt, "memory"));
+    assert!(rt; table.knows(cx, second).expect(rt, "memory"));
+    assert!(rt; table.knows(cx, constraint.left).expect(rt, "memory"));
+    assert!(rt; table.knows(cx, constraint.right).expect(rt, "memory"));
+    let alloc = cx.alloc;
+    let mut var_values = Vec::new(alloc);
+    var_values.push(first).expect(rt, "memory");
+    var_values.push(second).expect(rt, "memory");
+    let mut region_constraints = Vec::new(alloc);
+    region_constraints
+        .push((constraint, VisibleForLeakCheck::No))
+        .expect(rt, "memory");
+    let external_constraints = ExternalConstraintsData {
+        region_constraints,
+        opaque_types: Vec::new(alloc),
+        normalization_nested_goals: Vec::new(alloc),
+    };
+    let value = Response {
+        certainty: Certainty::Yes,
+        var_values,
+        external_constraints,
+    };
+    canonicalize_response(table, cx, 2, value).expect(rt, "memory")
+}
+
+fn region(rt: &impl Abort, cx: &mut Cx, table: &InferCtxt, kind: RegionKind) -> Region
+    requires { IsTable cx.old.nodes table.now }
+    ensures { IsTable cx.new.nodes table.now }
+{
+    cx.mk_region(kind).expect(rt, "memory")
+}
+
+/// The response has these two values, which are types.
+fn has_positions(rt: &impl Abort, cx: &mut Cx, response: &CanonicalResponse, positions: &[usize]) {
+    let values = &response.value.var_values;
+    assert_eq!(rt; values.len(), positions.len());
+    for i in 0..positions.len() {
+        let var = positions[i];
+        let kind = TyKind::Bound(BoundVarIndexKind::Canonical, BoundTy { var });
+        let position: GenericArg = cx.mk_ty(kind).expect(rt, "memory").into();
+        assert!(rt; *values.get(i).expect(rt, "a value") == position);
+    }
+}
+
+#[test]
+fn universes_are_counted_from_the_greatest_of_the_input(rt: HostRuntime) {
+    let mut cx = Cx::new(rt.alloc());
+    let mut table = table_in_universe_three(&rt, &cx);
+    let far = table
+        .variable_in_universe(&mut cx, VariableKind::Ty, 3, None)
+        .expect(&rt, "memory");
+    let near = table
+        .variable_in_universe(&mut cx, VariableKind::Ty, 1, None)
+        .expect(&rt, "memory");
+    let fixed = region(&rt, &mut cx, &table, RegionKind::ReStatic);
+    let trivial = RegionConstraint {
+        relation: Relation::RegionOutlives,
+        left: fixed.into(),
+        right: fixed,
+    };
+    let found = response(&rt, &table, &mut cx, far, near, trivial);
+    has_positions(&rt, &mut cx, &found, &[0, 1]);
+    assert_eq!(rt; found.max_universe, 1);
+    assert_eq!(rt; found.var_kinds.len(), 2);
+    let far_kind = *found.var_kinds.get(0).expect(&rt, "a kind");
+    assert!(rt; matches!(far_kind, CanonicalVarKind::Ty { ui: 1, sub_root: 0 }));
+    let near_kind = *found.var_kinds.get(1).expect(&rt, "a kind");
+    assert!(rt; matches!(near_kind, CanonicalVarKind::Ty { ui: 0, sub_root: 1 }));
+    assert!(rt; matches!(found.value.certainty, Certainty::Yes));
+}
+
+#[test]
+fn equal_leaves_have_one_position_and_static_has_none(rt: HostRuntime) {
+    let mut cx = Cx::new(rt.alloc());
+    let mut table = table_in_universe_three(&rt, &cx);
+    let x = table
+        .variable_in_universe(&mut cx, VariableKind::Ty, 0, None)
+        .expect(&rt, "memory");
+    let placeholder = PlaceholderRegion {
+        universe: 3,
+        bound: BoundRegion { var: 7 },
+    };
+    let a = region(&rt, &mut cx, &table, RegionKind::RePlaceholder(placeholder));
+    let fixed = region(&rt, &mut cx, &table, RegionKind::ReStatic);
+    let outlives = RegionConstraint {
+        relation: Relation::RegionOutlives,
+        left: a.into(),
+        right: fixed,
+    };
+    let found = response(&rt, &table, &mut cx, x, x, outlives);
+    has_positions(&rt, &mut cx, &found, &[0, 0]);
+    assert_eq!(rt; found.max_universe, 1);
+    assert_eq!(rt; found.var_kinds.len(), 2);
+    let kind = *found.var_kinds.get(1).expect(&rt, "a kind");
+    match kind {
+        CanonicalVarKind::PlaceholderRegion(p) => {
+            assert_eq!(rt; p.universe, 1);
+            assert_eq!(rt; p.bound.var, 7);
+        }
+        _ => assert!(rt; false),
+    }
+    let constraints = &found.value.external_constraints.region_constraints;
+    assert_eq!(rt; constraints.len(), 1);
+    let (constraint, visible) = *constraints.get(0).expect(&rt, "a constraint");
+    let position = RegionKind::ReBound(BoundVarIndexKind::Canonical, BoundRegion { var: 1 });
+    let position: GenericArg = cx.mk_region(position).expect(&rt, "memory").into();
+    assert!(rt; constraint.left == position);
+    assert!(rt; constraint.right == fixed);
+    assert!(rt; matches!(constraint.relation, Relation::RegionOutlives));
+    assert!(rt; matches!(visible, VisibleForLeakCheck::No));
+}
