@@ -76,11 +76,24 @@ fn leaves_of(
     ensures { IfOk result (λ s. s.keys ≡ seen no_leaf (seen no_leaf (seen is_static [] (tree_at cx.now.nodes goal.param_env.node)) (tree_at cx.now.nodes goal.predicate.node)) (hidden_pairs cx.now.nodes opaque_types.now)) }
 {
     let mut leaves = IndexSet::new(cx.alloc);
-    collect(cx.alloc, &cx.nodes, Staying::Static, &mut leaves, goal.param_env.node)?;
-    collect(cx.alloc, &cx.nodes, Staying::Nothing, &mut leaves, goal.predicate.node)?;
+    let env = goal.param_env.node;
+    collect(cx.alloc, &cx.nodes, Staying::Static, &mut leaves, env)?;
+    collect(
+        cx.alloc,
+        &cx.nodes,
+        Staying::Nothing,
+        &mut leaves,
+        goal.predicate.node,
+    )?;
     for i in 0..opaque_types.len() {
         let (alias, ty) = opaque_types[i];
-        collect(cx.alloc, &cx.nodes, Staying::Nothing, &mut leaves, alias.args.node)?;
+        collect(
+            cx.alloc,
+            &cx.nodes,
+            Staying::Nothing,
+            &mut leaves,
+            alias.args.node,
+        )?;
         collect(cx.alloc, &cx.nodes, Staying::Nothing, &mut leaves, ty.node)?;
     }
     Ok(leaves)

@@ -92,10 +92,7 @@ pub fn numbered<T: Stored>(
     ensures holds { IfOk result (λ r. Holds T.place nodes.new (T.id r)) }
     ensures tree { IfOk result (λ r. tree_at nodes.new (T.id r) ≡ replace (numbered_leaf (stays_where staying) leaves.now.keys) (tree_at nodes.old (T.id x))) }
 {
-    let numberer = Numberer {
-        leaves,
-        staying,
-    };
+    let numberer = Numberer { leaves, staying };
     let node = replace(alloc, nodes, &numberer, x.node())?;
     Ok(T::from_node(node))
 }

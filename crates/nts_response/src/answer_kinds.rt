@@ -53,7 +53,10 @@ fn answer_kind(
 {
     match leaf {
         Leaf::Variable(kind, n) => {
-            let ui = table.variable(n).universe.saturating_sub(max_input_universe);
+            let ui = table
+                .variable(n)
+                .universe
+                .saturating_sub(max_input_universe);
             variable_kind(kind, ui, first)
         }
         Leaf::Region(region) => region_kind(max_input_universe, region),
@@ -82,7 +85,10 @@ fn region_kind(max_input_universe: UniverseIndex, region: FreeRegion) -> Canonic
     ensures { kind_of_var result ≡ region_kind max_input_universe region }
 {
     let (universe, var) = match region {
-        FreeRegion::Placeholder(universe, var) => (universe.saturating_sub(max_input_universe), var),
+        FreeRegion::Placeholder(universe, var) => (
+            universe.saturating_sub(max_input_universe),
+            var,
+        ),
         _ => (0, 0),
     };
     CanonicalVarKind::PlaceholderRegion(PlaceholderRegion {

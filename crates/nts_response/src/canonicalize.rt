@@ -65,11 +65,14 @@ fn numbered_response(
 {
     let found = &value.external_constraints;
     let var_values = numbered_values(alloc, nodes, leaves, &value.var_values)?;
-    let region_constraints =
-        numbered_constraints(alloc, nodes, leaves, &found.region_constraints)?;
+    let region_constraints = numbered_constraints(alloc, nodes, leaves, &found.region_constraints)?;
     let opaque_types = numbered_hidden(alloc, nodes, leaves, &found.opaque_types)?;
-    let normalization_nested_goals =
-        numbered_goals(alloc, nodes, leaves, &found.normalization_nested_goals)?;
+    let normalization_nested_goals = numbered_goals(
+        alloc,
+        nodes,
+        leaves,
+        &found.normalization_nested_goals,
+    )?;
     let external_constraints = ExternalConstraintsData {
         region_constraints,
         opaque_types,

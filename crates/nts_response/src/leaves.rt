@@ -41,11 +41,7 @@ fn see(cx: &Cx, leaves: &mut IndexSet<Leaf>, t: NodeId) -> Result<(), AllocError
     collect(cx.alloc, &cx.nodes, Staying::FixedRegions, leaves, t)
 }
 
-fn see_values(
-    cx: &Cx,
-    leaves: &mut IndexSet<Leaf>,
-    values: &[GenericArg],
-) -> Result<(), AllocError>
+fn see_values(cx: &Cx, leaves: &mut IndexSet<Leaf>, values: &[GenericArg]) -> Result<(), AllocError>
     requires { All (HoldsArg cx.now.nodes) values.now }
     ensures { OnOk result (leaves.new.keys ≡ seen is_fixed leaves.old.keys (value_row (trees_of cx.now.nodes values.now) empty)) }
 {
