@@ -5,4 +5,5 @@ pub use nts_canonical::{
 };
 pub use nts_response::{
     CanonicalResponse, ExternalConstraintsData, Response, canonicalize_response,
+    response_no_constraints_raw,
 };

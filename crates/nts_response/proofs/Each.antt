@@ -18,7 +18,7 @@ pub record IsKept {X V : Type 0} (holds : List Tree → X → Type 0) (view : Li
   pub held : (a b : List Tree) (x : X) → holds a x → Extends a b → holds b x
   pub same : (a b : List Tree) (x : X) → holds a x → Extends a b → view b x ≡ view a x
 
-all_push : {X : Type 0} (P : X → Type 0) (xs : List X) (x : X) → All P xs → P x → All P (xs ++ x ∷ [])
+pub all_push : {X : Type 0} (P : X → Type 0) (xs : List X) (x : X) → All P xs → P x → All P (xs ++ x ∷ [])
 all_push P [] x h p = one
   where
     one : (k : ℕ) → (d : _) → k < length (x ∷ []) → P (get_or (x ∷ []) k d)
@@ -30,7 +30,7 @@ all_push P (y ∷ xs) x h p = go (all_push P xs x (λ k d l. h (suc k) d (omega 
     go r zero d l = h 0 d (omega arith)
     go r (suc k) d l = r k d (omega arith)
 
-same_views : {X V : Type 0} (holds : List Tree → X → Type 0) (view : List Tree → X → V) → IsKept holds view → (a b : List Tree) (xs : List X) → All (holds a) xs → Extends a b → map (view b) xs ≡ map (view a) xs
+pub same_views : {X V : Type 0} (holds : List Tree → X → Type 0) (view : List Tree → X → V) → IsKept holds view → (a b : List Tree) (xs : List X) → All (holds a) xs → Extends a b → map (view b) xs ≡ map (view a) xs
 same_views holds view k a b [] h e = refl
 same_views holds view k a b (x ∷ xs) h e = cc (k.same a b x (h 0 x (omega arith)) e, same_views holds view k a b xs (λ j d l. h (suc j) d (omega arith)) e)
 

@@ -2,3 +2,4 @@ pub mod KindLists
 pub mod Rows
 pub mod Each
 pub mod Found
+pub mod Positioned

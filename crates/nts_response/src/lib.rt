@@ -6,6 +6,8 @@ mod canonicalize;
 mod leaves;
 mod numbered;
 mod types;
+mod unconstrained;
 
 pub use canonicalize::canonicalize_response;
 pub use types::{CanonicalResponse, ExternalConstraintsData, Response};
+pub use unconstrained::response_no_constraints_raw;

@@ -6,7 +6,10 @@ use nts_canonical::CanonicalVarKind;
 use nts_certainty::Certainty;
 use nts_delegate::RegionConstraint;
 use nts_model::{BoundVarIndexKind, Relation, VariableKind};
-use nts_response::{CanonicalResponse, ExternalConstraintsData, Response, canonicalize_response};
+use nts_response::{
+    CanonicalResponse, ExternalConstraintsData, Response, canonicalize_response,
+    response_no_constraints_raw,
+};
 use nts_table::InferCtxt;
 use nts_terms::{
     BoundRegion, BoundTy, Cx, GenericArg, PlaceholderRegion, Region, RegionKind, Ty, TyKind,
@@ -145,6 +148,7 @@ fn equal_leaves_have_one_position_and_static_has_none(rt: HostRuntime) {
     }
     let constraints = &found.value.external_constraints.region_constraints;
     assert_eq!(rt; constraints.len(), 1);
+    assert!(rt; !found.value.external_constraints.is_empty());
     let (constraint, visible) = *constraints.get(0).expect(&rt, "a constraint");
     let position = RegionKind::ReBound(BoundVarIndexKind::Canonical, BoundRegion { var: 1 });
     let position: GenericArg = cx.mk_region(position).expect(&rt, "memory").into();
@@ -152,4 +156,31 @@ fn equal_leaves_have_one_position_and_static_has_none(rt: HostRuntime) {
     assert!(rt; constraint.right == fixed);
     assert!(rt; matches!(constraint.relation, Relation::RegionOutlives));
     assert!(rt; matches!(visible, VisibleForLeakCheck::No));
+}
+
+#[test]
+fn what_found_nothing_out_has_its_positions_as_values(rt: HostRuntime) {
+    let mut cx = Cx::new(rt.alloc());
+    let mut kinds = Vec::new(rt.alloc());
+    kinds
+        .push(CanonicalVarKind::Ty { ui: 0, sub_root: 0 })
+        .expect(&rt, "memory");
+    kinds.push(CanonicalVarKind::Int).expect(&rt, "memory");
+    kinds
+        .push(CanonicalVarKind::Region(2))
+        .expect(&rt, "memory");
+    let certainty = Certainty::overflow(true);
+    let found = response_no_constraints_raw(&mut cx, 2, kinds, certainty).expect(&rt, "memory");
+    assert!(rt; found.value.external_constraints.is_empty());
+    assert_eq!(rt; found.max_universe, 2);
+    assert_eq!(rt; found.var_kinds.len(), 3);
+    assert!(rt; matches!(found.value.certainty, Certainty::Maybe(_)));
+    let values = &found.value.var_values;
+    assert_eq!(rt; values.len(), 3);
+    let second = TyKind::Bound(BoundVarIndexKind::Canonical, BoundTy { var: 1 });
+    let second: GenericArg = cx.mk_ty(second).expect(&rt, "memory").into();
+    assert!(rt; *values.get(1).expect(&rt, "a value") == second);
+    let third = RegionKind::ReBound(BoundVarIndexKind::Canonical, BoundRegion { var: 2 });
+    let third: GenericArg = cx.mk_region(third).expect(&rt, "memory").into();
+    assert!(rt; *values.get(2).expect(&rt, "a value") == third);
 }
