@@ -1,4 +1,4 @@
-//! Responses: what queries answer, as canonical values, and how they are applied to the tables of those who ask.
+//! Responses: what queries answer, as canonical values.
 #![tactic(auto)]
 
 mod answer_kinds;
