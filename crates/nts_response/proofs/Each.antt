@@ -1,7 +1,8 @@
 -- Lists whose trees are replaced, one by one.
-use Rattle.std.proofs.Common.{◌≡◌, ℕ, zero, suc, ◌+◌, ◌<◌, List, [], ◌∷◌, ◌++◌, map, length, take, get_or, subst, refl, sym, ap, ◌∙◌, arith}
+use Rattle.std.proofs.Common.{◌≡◌, ℕ, suc, ◌+◌, ◌<◌, List, [], ◌∷◌, ◌++◌, map, length, take, get_or, subst, refl, sym, ap, ◌∙◌, arith}
 use Rattle.std.specs.Prelude.{All}
 use Rattle.std.proofs.lemmas.List.{take_more}
+use Rattle.std.proofs.lemmas.List.Elements.{All-push}
 use Rattle.nts_model.specs.Trees.{Tree}
 use Rattle.nts_store.specs.Growth.{Extends}
 use Rattle.nts_folding.specs.FoldLaws.{list_holds}
@@ -17,18 +18,6 @@ use Rattle.nts_delegate.specs.Offered.{hidden_of}
 pub record IsKept {X V : Type 0} (holds : List Tree → X → Type 0) (view : List Tree → X → V) : Type 0 where
   pub held : (a b : List Tree) (x : X) → holds a x → Extends a b → holds b x
   pub same : (a b : List Tree) (x : X) → holds a x → Extends a b → view b x ≡ view a x
-
-pub all_push : {X : Type 0} (P : X → Type 0) (xs : List X) (x : X) → All P xs → P x → All P (xs ++ x ∷ [])
-all_push P [] x h p = one
-  where
-    one : (k : ℕ) → (d : _) → k < length (x ∷ []) → P (get_or (x ∷ []) k d)
-    one zero d l = p
-    one (suc k) d l = absurd (omega arith)
-all_push P (y ∷ xs) x h p = go (all_push P xs x (λ k d l. h (suc k) d (omega arith)) p)
-  where
-    go : All P (xs ++ x ∷ []) → (k : ℕ) → (d : _) → k < length (y ∷ xs ++ x ∷ []) → P (get_or (y ∷ xs ++ x ∷ []) k d)
-    go r zero d l = h 0 d (omega arith)
-    go r (suc k) d l = r k d (omega arith)
 
 pub same_views : {X V : Type 0} (holds : List Tree → X → Type 0) (view : List Tree → X → V) → IsKept holds view → (a b : List Tree) (xs : List X) → All (holds a) xs → Extends a b → map (view b) xs ≡ map (view a) xs
 same_views holds view k a b [] h e = refl
@@ -47,7 +36,7 @@ replaced_more holds view image k a b c xs ys zs i d r up more h l so held is e =
     ap (λ us. map image (map (view a) us)) (take_more xs i d l) ∙ ap (map image) (map-push (view a) (take i xs) x) ∙ map-push image (map (view a) (take i xs)) (view a x) in
     record {
       views = left ∙ sym right;
-      held = subst (All (holds c)) (sym e) (all_push (holds c) ys r (list_holds (holds b) (holds c) (λ y q. k.held b c y q more) ys so.held) held);
+      held = subst (All (holds c)) (sym e) (All-push (holds c) ys r (list_holds (holds b) (holds c) (λ y q. k.held b c y q more) ys so.held) held);
     }
 
 -- values, constraints, hidden types and goals are kept

@@ -22,8 +22,8 @@ use std::alloc::{AllocError, Global};
 
 /// The response of a table to an input of that greatest universe, as a canonical value: each leaf gives place to a
 /// position, which is numbered at first sight, and stands for the leaf; each universe is counted from the greatest of
-/// the input. 'static, the erased and the error region stay. What is handed in is resolved, so that its variables
-/// have no values.
+/// the input. 'static, the erased and the error region stay. Values of variables are not looked up: hand in what is
+/// resolved.
 pub fn canonicalize_response(
     table: &InferCtxt,
     cx: &mut Cx,
