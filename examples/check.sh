@@ -1,7 +1,15 @@
 #!/usr/bin/env bash
-# Runs each program NAME.nts of this folder, over one build and without proof, and compares what it prints with NAME.out.
+# Compares the library example of README.md with the crate that it is quoted from. Then runs each program NAME.nts of this
+# folder, over one build and without proof, and compares what it prints with NAME.out.
 set -u
 here=$(cd "$(dirname "$0")" && pwd)
+quoted=$(sed -n '/^```rust$/,/^```$/p' "$here/../README.md" | sed '1d;$d')
+example=$(cat "$here/../crates/nts_uses/src/clone.rt")
+if [ -z "$quoted" ] || [ "${example#*"$quoted"}" = "$example" ]; then
+    echo "README: its example is not that of crates/nts_uses/src/clone.rt"
+    exit 1
+fi
+echo "README: quotes the example as it is"
 cd "$here/../crates/nts" || exit 1
 work=$(mktemp -d)
 trap 'rm -r "$work"' EXIT
