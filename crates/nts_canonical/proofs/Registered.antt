@@ -91,19 +91,19 @@ unfolding ArgsIn
 args-in ts c xs h = λ i x q. (AreHiddenTypes-at ts c xs i x h q).args.within
 
 -- one more, of a table of which only the hidden types change
-pub registered_more : (a b : List Tree) (e f : Entries) (zs : List HiddenType) (hs : List (AliasTerm × Ty)) (i : ℕ) (d : AliasTerm × Ty) (o : Option Ty) → IsLawful a e → IsLawful a f → f ≡ record e { hidden = f.hidden } → Extends a b → All (λ h. IsHiddenType a (content_of a e) (stored_hidden h)) hs → i < length hs
-    → RegistersAll a (content_of a e) e.hidden (take i hs) f.hidden → Registers a (content_of a f) f.hidden (stored_hidden (get_or hs i d)) zs o → RegistersAll b (content_of b e) e.hidden (take (i + 1) hs) zs
+pub registered_more : (a b : List Tree) (e f : Entries) (zs : List HiddenType) (hs : List (AliasTerm × Ty)) (i : ℕ) (d : AliasTerm × Ty) (o : Option Ty) → IsLawful a e → IsLawful a f → f ≡ record e { hidden = record e.hidden { lookup = f.hidden.lookup } } → Extends a b → All (λ h. IsHiddenType a (content_of a e) (stored_hidden h)) hs → i < length hs
+    → RegistersAll a (content_of a e) e.hidden.lookup (take i hs) f.hidden.lookup → Registers a (content_of a f) f.hidden.lookup (stored_hidden (get_or hs i d)) zs o → RegistersAll b (content_of b e) e.hidden.lookup (take (i + 1) hs) zs
 registered_more a b e f zs hs i d o g h q up all l r k =
     let c = content_of a e in
     let later : content_of b e ≡ c = content_of-extended up g in
     let here : content_of a f ≡ c = ap (content_of a) q in
     let within : All (λ h. IsIn a h.0.args.node) hs = (λ j x m. (all j x m).args.within) in
-    let old = all-kept a b c e.hidden (take i hs) f.hidden up (args-in a c e.hidden g.hidden) (All-take (λ h. IsIn a h.0.args.node) i hs within) r in
-    let one = registers-kept a b c f.hidden (stored_hidden (get_or hs i d)) zs o up (args-in a (content_of a f) f.hidden h.hidden) (within i d l) (subst (λ z. Registers a z f.hidden (stored_hidden (get_or hs i d)) zs o) here k) in
-    rw (take_more hs i d l, later) (all-push b c e.hidden (take i hs) f.hidden (get_or hs i d) zs o old one)
+    let old = all-kept a b c e.hidden.lookup (take i hs) f.hidden.lookup up (args-in a c e.hidden.lookup g.hidden.lookup) (All-take (λ h. IsIn a h.0.args.node) i hs within) r in
+    let one = registers-kept a b c f.hidden.lookup (stored_hidden (get_or hs i d)) zs o up (args-in a (content_of a f) f.hidden.lookup h.hidden.lookup) (within i d l) (subst (λ z. Registers a z f.hidden.lookup (stored_hidden (get_or hs i d)) zs o) here k) in
+    rw (take_more hs i d l, later) (all-push b c e.hidden.lookup (take i hs) f.hidden.lookup (get_or hs i d) zs o old one)
 
 -- what is to be registered, in a store that has grown and a table of which only the hidden types changed
-pub hidden-now : (a b : List Tree) (e f : Entries) (x : HiddenType) → IsLawful a e → f ≡ record e { hidden = f.hidden } → Extends a b → IsHiddenType a (content_of a e) x → IsHiddenType b (content_of b f) x
+pub hidden-now : (a b : List Tree) (e f : Entries) (x : HiddenType) → IsLawful a e → f ≡ record e { hidden = record e.hidden { lookup = f.hidden.lookup } } → Extends a b → IsHiddenType a (content_of a e) x → IsHiddenType b (content_of b f) x
 hidden-now a b e f x h q up k = subst (λ c. IsHiddenType b c x) (sym (ap (content_of b) q)) (IsHiddenType-extended h up k)
 
 -- the hidden types of a row are a table's, if it knows the row

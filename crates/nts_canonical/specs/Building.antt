@@ -86,9 +86,9 @@ pub record IsArgOf (ts : List Tree) (e : Entries) (x : GenericArg) : Type 0 wher
   pub holds : HoldsArg ts x
   pub known : Knows (content_of ts e) (tree_at ts x.node)
 
--- a table of the variables of these kinds alone, with these hidden types
+-- a table of the variables of these kinds alone, in which these hidden types are registered
 abbrev pub made_entries : List PositionKind → List HiddenType → Entries
-made_entries ks hs = record { variables = made_variables [] ks; order = []; universe = 0; constraints = []; hidden = hs }
+made_entries ks hs = record { variables = made_variables [] ks; order = []; universe = 0; constraints = []; hidden = record { lookup = hs; duplicates = [] } }
 
 abbrev pub stored_hidden : AliasTerm × Ty → HiddenType
 stored_hidden h = record { alias = h.0.def_id; args = h.0.args; ty = h.1 }

@@ -4,6 +4,7 @@ use Rattle.nts_model.specs.Trees.{Tree}
 use Rattle.nts_model.specs.Contents.{Content}
 use Rattle.nts_model.specs.Holding.{AreOne}
 use Rattle.nts_store.specs.Growth.{tree_at}
+use Rattle.nts_terms.specs.declared.handles.AliasTerm.{AliasTerm}
 use Rattle.nts_terms.specs.declared.handles.Ty.{Ty}
 use Rattle.nts_unify.specs.declared.contents.HiddenType.{HiddenType}
 
@@ -26,6 +27,10 @@ pub record IsFirstOf (ts : List Tree) (c : Content) (xs : List HiddenType) (h ol
 abbrev pub IsPlace : List Tree → Content → List HiddenType → HiddenType → Option ℕ → Type 0
 IsPlace ts c xs h None = NoneBefore ts c (length xs) xs h
 IsPlace ts c xs h (Some n) = (old : HiddenType) × IsFirstOf ts c xs h old n
+
+-- a hidden type as callers have it: the alias, and the type behind it
+abbrev pub pair_of : HiddenType → AliasTerm × Ty
+pair_of h = (record { def_id = h.alias; args = h.args }, h.ty)
 
 -- a type is registered: it takes the place of the first one that was hidden behind the alias, which is answered, or it
 -- is the last

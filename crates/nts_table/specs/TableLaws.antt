@@ -4,7 +4,7 @@ use Rattle.nts_model.specs.Trees.{Tree}
 use Rattle.nts_store.specs.Growth.{Extends}
 use Rattle.nts_unify.specs.declared.contents.Constraint.{Constraint}
 use Rattle.nts_unify.specs.declared.contents.HiddenType.{HiddenType}
-use Rattle.nts_unify.specs.Entries.{Entries, moved, constrained, registered, with_hidden}
+use Rattle.nts_unify.specs.Entries.{Entries, moved, constrained, registered, with_hidden, duplicated}
 use Rattle.nts_table.specs.Tables.{Table, IsTable}
 use Rattle.nts_unify.specs.Proper.{IsProper-empty}
 use Rattle.nts_unify.specs.Reading.{content_of, IsConstraint, IsHiddenType, IsLawful}
@@ -35,7 +35,7 @@ IsTable-registered {a} {t} {u} {x} h k q s =
       now = rw q (record {
         held = l.held;
         constraints = l.constraints;
-        hidden = AreHiddenTypes-push a (content_of a t.entries) t.entries.hidden x l.hidden k;
+        hidden = record { lookup = AreHiddenTypes-push a (content_of a t.entries) t.entries.hidden.lookup x l.hidden.lookup k; duplicates = l.hidden.duplicates };
         descends = record { links = l.descends.links; sub_links = l.descends.sub_links };
         sound = l.sound;
         proper = l.proper;
@@ -50,7 +50,22 @@ IsTable-with_hidden {a} {t} {u} n {x} h k q s =
       now = rw q (record {
         held = l.held;
         constraints = l.constraints;
-        hidden = AreHiddenTypes-set a (content_of a t.entries) t.entries.hidden n x l.hidden k;
+        hidden = record { lookup = AreHiddenTypes-set a (content_of a t.entries) t.entries.hidden.lookup n x l.hidden.lookup k; duplicates = l.hidden.duplicates };
+        descends = record { links = l.descends.links; sub_links = l.descends.sub_links };
+        sound = l.sound;
+        proper = l.proper;
+      });
+      saved = rw s h.saved;
+    }
+
+pub IsTable-duplicated : {a : List Tree} {t u : Table} {x : HiddenType} → IsTable a t → IsHiddenType a (content_of a t.entries) x → u.entries ≡ duplicated t.entries x → u.saved ≡ t.saved → IsTable a u
+IsTable-duplicated {a} {t} {u} {x} h k q s =
+    let l = h.now in
+    record {
+      now = rw q (record {
+        held = l.held;
+        constraints = l.constraints;
+        hidden = record { lookup = l.hidden.lookup; duplicates = AreHiddenTypes-push a (content_of a t.entries) t.entries.hidden.duplicates x l.hidden.duplicates k };
         descends = record { links = l.descends.links; sub_links = l.descends.sub_links };
         sound = l.sound;
         proper = l.proper;
@@ -59,13 +74,13 @@ IsTable-with_hidden {a} {t} {u} n {x} h k q s =
     }
 
 -- a table without variables
-pub IsTable-new : (ts : List Tree) (t : Table) → t.entries ≡ record { variables = []; order = []; universe = 0; constraints = []; hidden = [] } → t.saved ≡ [] → IsTable ts t
+pub IsTable-new : (ts : List Tree) (t : Table) → t.entries ≡ record { variables = []; order = []; universe = 0; constraints = []; hidden = record { lookup = []; duplicates = [] } } → t.saved ≡ [] → IsTable ts t
 IsTable-new ts t e s =
-    let c : Entries = record { variables = []; order = []; universe = 0; constraints = []; hidden = [] } in
+    let c : Entries = record { variables = []; order = []; universe = 0; constraints = []; hidden = record { lookup = []; duplicates = [] } } in
     let now : IsLawful ts c = record {
       held = tt;
       constraints = tt;
-      hidden = tt;
+      hidden = record { lookup = tt; duplicates = tt };
       descends = record { links = λ n m v h q. cc; sub_links = λ n m v h q. cc };
       sound = record {
         descends = λ n m q. cc;

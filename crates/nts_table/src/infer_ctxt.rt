@@ -32,7 +32,7 @@ impl Model for InferCtxt {
 impl InferCtxt {
     /// A table without variables, in the root universe. It takes no memory.
     pub fn new(alloc: Global, mode: TypingMode) -> Self
-        ensures entries { result.entries ≡ record { variables = []; order = []; universe = 0; constraints = []; hidden = [] } }
+        ensures entries { result.entries ≡ record { variables = []; order = []; universe = 0; constraints = []; hidden = record { lookup = []; duplicates = [] } } }
         ensures saved { result.saved ≡ [] }
         ensures mode { result.mode ≡ mode }
         ensures table { (ts : List Tree) → IsTable ts result }
@@ -78,15 +78,15 @@ impl InferCtxt {
 
     /// How many hidden types are registered. It takes no memory.
     pub fn num_opaque_types(&self) -> usize
-        ensures { result ≡ length self.now.entries.hidden }
+        ensures { result ≡ length self.now.entries.hidden.lookup }
     {
         self.inner.num_opaque_types()
     }
 
     /// The hidden type at a position.
     pub fn hidden_type(&self, n: usize) -> HiddenType
-        requires { n < length self.now.entries.hidden }
-        ensures { slice_get self.now.entries.hidden n ≡ Some result }
+        requires { n < length self.now.entries.hidden.lookup }
+        ensures { slice_get self.now.entries.hidden.lookup n ≡ Some result }
     {
         self.inner.hidden_type(n)
     }

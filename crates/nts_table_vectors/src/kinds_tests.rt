@@ -140,3 +140,65 @@ fn hidden_types(rt: HostRuntime) {
     assert_eq!(rt; table.num_opaque_types(), 1);
     assert!(rt; table.hidden_type(0).ty == word);
 }
+
+#[test]
+fn duplicates_of_hidden_types(rt: HostRuntime) {
+    let mut cx = Cx::new(rt.alloc());
+    let mut table = InferCtxt::new(rt.alloc(), TypingMode::PostAnalysis);
+    let alias = cx
+        .declare_alias(&[], AliasKind::Opaque)
+        .expect(&rt, "memory");
+    let def_id = AliasDefId::Ty(alias);
+    let args = cx.mk_args(&[]).expect(&rt, "memory");
+    let byte = cx.mk_ty(TyKind::Uint(UintTy::U8)).expect(&rt, "memory");
+    let word = cx.mk_ty(TyKind::Uint(UintTy::U32)).expect(&rt, "memory");
+    let key = AliasTerm { def_id, args };
+    assert!(rt; cx.holds(args));
+    assert!(rt; cx.holds(byte));
+    assert!(rt; table.knows(&cx, args).expect(&rt, "memory"));
+    assert!(rt; table.knows(&cx, byte).expect(&rt, "memory"));
+    table
+        .register_hidden_type_in_storage(&mut cx, key, byte, Span(0))
+        .expect(&rt, "memory");
+    assert!(rt; cx.holds(args));
+    assert!(rt; cx.holds(word));
+    assert!(rt; table.knows(&cx, args).expect(&rt, "memory"));
+    assert!(rt; table.knows(&cx, word).expect(&rt, "memory"));
+    table
+        .add_duplicate_opaque_type(&cx, key, word, Span(0))
+        .expect(&rt, "memory");
+    let snapshot = table.start_snapshot().expect(&rt, "memory");
+    assert!(rt; cx.holds(byte));
+    assert!(rt; table.knows(&cx, args).expect(&rt, "memory"));
+    assert!(rt; table.knows(&cx, byte).expect(&rt, "memory"));
+    table
+        .add_duplicate_opaque_type(&cx, key, byte, Span(0))
+        .expect(&rt, "memory");
+    let duplicates = table.clone_duplicate_opaque_types().expect(&rt, "memory");
+    assert_eq!(rt; duplicates.len(), 2);
+    assert!(rt; duplicates[0].1 == word);
+    assert!(rt; duplicates[1].1 == byte);
+    table.rollback_to(snapshot);
+    let duplicates = table.clone_duplicate_opaque_types().expect(&rt, "memory");
+    assert_eq!(rt; duplicates.len(), 1);
+    assert!(rt; duplicates[0].1 == word);
+    let lookup = table
+        .clone_opaque_types_lookup_table()
+        .expect(&rt, "memory");
+    assert_eq!(rt; lookup.len(), 1);
+    assert!(rt; lookup[0].0.def_id == def_id);
+    assert!(rt; lookup[0].1 == byte);
+    let all = table
+        .clone_opaque_types_added_since(0)
+        .expect(&rt, "memory");
+    assert_eq!(rt; all.len(), 1);
+    assert!(rt; all[0].1 == byte);
+    let none = table
+        .clone_opaque_types_added_since(1)
+        .expect(&rt, "memory");
+    assert!(rt; none.is_empty());
+    let past = table
+        .clone_opaque_types_added_since(7)
+        .expect(&rt, "memory");
+    assert!(rt; past.is_empty());
+}

@@ -16,7 +16,7 @@ use Rattle.nts_unify.specs.declared.contents.Variable.{Variable}
 use Rattle.nts_unify.specs.Entries.{Entries, with_variable, bound}
 use Rattle.nts_unify.specs.Proper.{IsProper, IsProper-lowered, IsProper-sub_linked, IsProper-region_link}
 use Rattle.nts_unify.specs.Reading.{state_with, slot_of, recorded_of, content_of, IsHeldState, AreHeld, LinksDescend, IsLawful}
-use Rattle.nts_unify.specs.Lawful.{AreHiddenTypes-kept, AreConstraints-kept}
+use Rattle.nts_unify.specs.Lawful.{AllHiddenTypes-kept, AreConstraints-kept}
 
 pub some_inj : {A : Type 0} (a b : A) → Some a ≡ Some b → a ≡ b
 some_inj a b e = cc
@@ -91,7 +91,7 @@ IsLawful-set ts e n v w h at k held l s p =
     record {
       held = AreHeld-set ts e.variables n w h.held held;
       constraints = rw is (AreConstraints-kept ts (content_of ts e) (changed (content_of ts e) n (slot_of ts w)) e.constraints kinds h.constraints);
-      hidden = rw is (AreHiddenTypes-kept ts (content_of ts e) (changed (content_of ts e) n (slot_of ts w)) e.hidden kinds h.hidden);
+      hidden = rw is (AllHiddenTypes-kept ts (content_of ts e) (changed (content_of ts e) n (slot_of ts w)) e.hidden kinds h.hidden);
       descends = LinksDescend-set e n v w at h.descends l;
       sound = rw is s;
       proper = rw is p;
@@ -106,7 +106,7 @@ IsLawful-bound ts e n v w h at k held l s p =
     record {
       held = AreHeld-set ts e.variables n w h.held held;
       constraints = rw is (AreConstraints-kept ts (content_of ts e) (bound_to (content_of ts e) n (slot_of ts w)) e.constraints later h.constraints);
-      hidden = rw is (AreHiddenTypes-kept ts (content_of ts e) (bound_to (content_of ts e) n (slot_of ts w)) e.hidden later h.hidden);
+      hidden = rw is (AllHiddenTypes-kept ts (content_of ts e) (bound_to (content_of ts e) n (slot_of ts w)) e.hidden later h.hidden);
       descends = record { links = d.links; sub_links = d.sub_links };
       sound = rw is s;
       proper = rw is p;

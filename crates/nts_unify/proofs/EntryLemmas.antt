@@ -5,8 +5,8 @@ use Rattle.std.proofs.lemmas.Grind.{common_steps}
 use Rattle.nts_unify.specs.declared.contents.Variable.{Variable}
 use Rattle.nts_unify.specs.declared.contents.Constraint.{Constraint}
 use Rattle.nts_unify.specs.declared.contents.HiddenType.{HiddenType}
-use Rattle.nts_unify.specs.declared.contents.UndoLog.TheVariants.{Added, Changed, Bound, Moved, Constrained, Registered, Replaced}
-use Rattle.nts_unify.specs.Entries.{Entries, undone, added, with_variable, bound, moved, constrained, registered, with_hidden, front}
+use Rattle.nts_unify.specs.declared.contents.UndoLog.TheVariants.{Added, Changed, Bound, Moved, Constrained, Registered, Replaced, Duplicated}
+use Rattle.nts_unify.specs.Entries.{Entries, undone, added, with_variable, bound, moved, constrained, registered, with_hidden, duplicated, front}
 
 pub front-push : {A : Type 0} (xs : List A) (x : A) → front (xs ++ x ∷ []) ≡ xs
 front-push xs x = grind (arith, common_steps)
@@ -33,7 +33,10 @@ pub undone-moved : (c : Entries) (u old : ℕ) → old ≡ c.universe → undone
 undone-moved c u old h = λ i. record c { universe = h i }
 
 pub undone-registered : (c : Entries) (h : HiddenType) → undone Registered (registered c h) ≡ c
-undone-registered c h = rw (front-push c.hidden h) refl
+undone-registered c h = rw (front-push c.hidden.lookup h) refl
 
-pub undone-replaced : (c : Entries) (n : ℕ) (h old : HiddenType) → slice_get c.hidden n ≡ Some old → undone (Replaced n old) (with_hidden c n h) ≡ c
-undone-replaced c n h old e = rw (slice_set-twice c.hidden n h old e) refl
+pub undone-replaced : (c : Entries) (n : ℕ) (h old : HiddenType) → slice_get c.hidden.lookup n ≡ Some old → undone (Replaced n old) (with_hidden c n h) ≡ c
+undone-replaced c n h old e = rw (slice_set-twice c.hidden.lookup n h old e) refl
+
+pub undone-duplicated : (c : Entries) (h : HiddenType) → undone Duplicated (duplicated c h) ≡ c
+undone-duplicated c h = rw (front-push c.hidden.duplicates h) refl

@@ -14,9 +14,9 @@ use Rattle.nts_unify.specs.declared.contents.State.TheVariants.{Unset, Link, Kno
 use Rattle.nts_unify.specs.declared.contents.Variable.{Variable}
 use Rattle.nts_unify.specs.declared.contents.Constraint.{Constraint}
 use Rattle.nts_unify.specs.declared.contents.HiddenType.{HiddenType}
-use Rattle.nts_unify.specs.Entries.{Entries, added, moved, constrained}
+use Rattle.nts_unify.specs.Entries.{HiddenTypes, Entries, added, moved, constrained}
 use Rattle.nts_unify.specs.Proper.{IsProper-with_slot, IsProper-with_constraint, IsProper-in_universe}
-use Rattle.nts_unify.specs.Reading.{state_with, slot_of, recorded_of, content_of, IsHeldState, AreHeld, IsConstraint, AreConstraints, IsHiddenType, AreHiddenTypes, LinksDescend, IsLawful, AllLawful}
+use Rattle.nts_unify.specs.Reading.{state_with, slot_of, recorded_of, content_of, IsHeldState, AreHeld, IsConstraint, AreConstraints, IsHiddenType, AreHiddenTypes, AllHiddenTypes, LinksDescend, IsLawful, AllLawful}
 
 state_with-extended : (a b : List Tree) (s : State) → Extends a b → IsHeldState a s → state_with b s ≡ state_with a s
 state_with-extended a b Unset e h = refl
@@ -102,13 +102,21 @@ AreHiddenTypes-kept ts c d (x ∷ xs) k h = (
   AreHiddenTypes-kept ts c d xs k h.1,
 )
 
+pub AllHiddenTypes-extended : (a b : List Tree) (c : Content) (h : HiddenTypes) → Extends a b → AllHiddenTypes a c h → AllHiddenTypes b c h
+AllHiddenTypes-extended a b c h e k =
+    record { lookup = AreHiddenTypes-extended a b c h.lookup e k.lookup; duplicates = AreHiddenTypes-extended a b c h.duplicates e k.duplicates }
+
+pub AllHiddenTypes-kept : (ts : List Tree) (c d : Content) (h : HiddenTypes) → KeepsKinds c d → AllHiddenTypes ts c h → AllHiddenTypes ts d h
+AllHiddenTypes-kept ts c d h k a =
+    record { lookup = AreHiddenTypes-kept ts c d h.lookup k a.lookup; duplicates = AreHiddenTypes-kept ts c d h.duplicates k a.duplicates }
+
 pub IsLawful-extended : {a b : List Tree} {c : Entries} → Extends a b → IsLawful a c → IsLawful b c
 IsLawful-extended {a} {b} {c} e h =
     let same = content_of-extended e h in
     record {
       held = AreHeld-extended a b c.variables e h.held;
       constraints = rw same (AreConstraints-extended a b (content_of a c) c.constraints e h.constraints);
-      hidden = rw same (AreHiddenTypes-extended a b (content_of a c) c.hidden e h.hidden);
+      hidden = rw same (AllHiddenTypes-extended a b (content_of a c) c.hidden e h.hidden);
       descends = h.descends;
       sound = rw same h.sound;
       proper = rw same h.proper;
@@ -176,7 +184,7 @@ IsLawful-added ts c v h w =
     record {
       held = AreHeld-push ts c.variables v h.held (rw w.state tt);
       constraints = rw same (AreConstraints-kept ts (content_of ts c) (with_slot (content_of ts c) slot) c.constraints (KeepsKinds-with_slot (content_of ts c) slot) h.constraints);
-      hidden = rw same (AreHiddenTypes-kept ts (content_of ts c) (with_slot (content_of ts c) slot) c.hidden (KeepsKinds-with_slot (content_of ts c) slot) h.hidden);
+      hidden = rw same (AllHiddenTypes-kept ts (content_of ts c) (with_slot (content_of ts c) slot) c.hidden (KeepsKinds-with_slot (content_of ts c) slot) h.hidden);
       descends = LinksDescend-added c v h.descends w;
       sound = rw same (IsSound-with_slot (content_of ts c) slot h.sound free);
       proper = rw same (IsProper-with_slot (content_of ts c) slot free w.universe h.sound h.proper);
@@ -187,7 +195,7 @@ IsLawful-moved ts c u low h =
     record {
       held = h.held;
       constraints = AreConstraints-kept ts (content_of ts c) (in_universe (content_of ts c) u) c.constraints (record { grows = low; kinds = λ n k q. q }) h.constraints;
-      hidden = AreHiddenTypes-kept ts (content_of ts c) (in_universe (content_of ts c) u) c.hidden (record { grows = low; kinds = λ n k q. q }) h.hidden;
+      hidden = AllHiddenTypes-kept ts (content_of ts c) (in_universe (content_of ts c) u) c.hidden (record { grows = low; kinds = λ n k q. q }) h.hidden;
       descends = record { links = h.descends.links; sub_links = h.descends.sub_links };
       sound = IsSound-in_universe (content_of ts c) u low h.sound;
       proper = IsProper-in_universe (content_of ts c) u low h.sound h.proper;
@@ -214,7 +222,7 @@ IsLawful-constrained ts c x h k =
     record {
       held = h.held;
       constraints = rw same (AreConstraints-kept ts (content_of ts c) next (c.constraints ++ x ∷ []) kinds (AreConstraints-push ts (content_of ts c) c.constraints x h.constraints k));
-      hidden = rw same (AreHiddenTypes-kept ts (content_of ts c) next c.hidden kinds h.hidden);
+      hidden = rw same (AllHiddenTypes-kept ts (content_of ts c) next c.hidden kinds h.hidden);
       descends = record { links = h.descends.links; sub_links = h.descends.sub_links };
       sound = rw same (IsSound-with_constraint (content_of ts c) (recorded_of ts x) h.sound);
       proper = rw same (IsProper-with_constraint (content_of ts c) (recorded_of ts x) k.left_known k.right_known k.regions h.sound h.proper);

@@ -14,7 +14,7 @@ use Rattle.nts_unify.specs.declared.contents.State.{State}
 use Rattle.nts_unify.specs.declared.contents.State.TheVariants.{Unset, Link, Known}
 use Rattle.nts_unify.specs.declared.contents.Variable.{Variable}
 use Rattle.nts_unify.specs.declared.contents.Constraint.{Constraint}
-use Rattle.nts_unify.specs.Entries.{Entries}
+use Rattle.nts_unify.specs.Entries.{Entries, HiddenTypes}
 use Rattle.nts_unify.specs.Proper.{IsProper}
 
 abbrev pub state_with : List Tree → State → SlotState
@@ -78,6 +78,11 @@ abbrev pub AreHiddenTypes : List Tree → Content → List HiddenType → Type 0
 AreHiddenTypes ts c [] = Unit {0}
 AreHiddenTypes ts c (h ∷ hs) = IsHiddenType ts c h × AreHiddenTypes ts c hs
 
+-- the hidden types that are looked up, and the duplicates, are of the store and the table
+pub record AllHiddenTypes (ts : List Tree) (c : Content) (h : HiddenTypes) : Type 0 where
+  pub lookup : AreHiddenTypes ts c h.lookup
+  pub duplicates : AreHiddenTypes ts c h.duplicates
+
 -- links lead to lower numbers, and so do those of sub-unification
 pub record LinksDescend (c : Entries) : Type 0 where
   pub links : (n m : ℕ) (v : Variable) → slice_get c.variables n ≡ Some v → v.state ≡ Link m → m < n
@@ -87,7 +92,7 @@ pub record LinksDescend (c : Entries) : Type 0 where
 pub record IsLawful (ts : List Tree) (c : Entries) : Type 0 where
   pub held : AreHeld ts c.variables
   pub constraints : AreConstraints ts (content_of ts c) c.constraints
-  pub hidden : AreHiddenTypes ts (content_of ts c) c.hidden
+  pub hidden : AllHiddenTypes ts (content_of ts c) c.hidden
   pub descends : LinksDescend c
   pub sound : IsSound (content_of ts c)
   pub proper : IsProper (content_of ts c)

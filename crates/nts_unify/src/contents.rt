@@ -1,6 +1,6 @@
 //! The entries of a table, and how one change of them is undone.
 ghost use Rattle.std.specs.Prelude.{◌≡◌, ◌<◌, ◌++◌, ◌∷◌, [], length, slice_set, slice_get, OnOk, OnErr, IfOk, Some};
-ghost use Rattle.nts_unify.specs.Entries.{Entries, undone, added, with_variable, bound, constrained, moved, registered, with_hidden};
+ghost use Rattle.nts_unify.specs.Entries.{Entries, undone, added, with_variable, bound, constrained, moved, registered, with_hidden, duplicated};
 
 use nts_model::{Relation, VariableKind};
 use nts_store::NodeId;
@@ -66,6 +66,8 @@ pub enum UndoLog {
     Registered,
     /// A hidden type was as given.
     Replaced(usize, HiddenType),
+    /// A duplicate was added.
+    Duplicated,
 }
 
 /// What a rollback restores.
@@ -76,6 +78,7 @@ pub struct Contents {
     universe: UniverseIndex,
     constraints: Vec<Constraint>,
     hidden: Vec<HiddenType>,
+    duplicates: Vec<HiddenType>,
 }
 
 impl Model for Contents {
@@ -83,12 +86,12 @@ impl Model for Contents {
 
     ghost Value = { Entries };
 
-    ghost view = { λ c. record { variables = c.variables.items; order = c.order.items; universe = c.universe; constraints = c.constraints.items; hidden = c.hidden.items } };
+    ghost view = { λ c. record { variables = c.variables.items; order = c.order.items; universe = c.universe; constraints = c.constraints.items; hidden = record { lookup = c.hidden.items; duplicates = c.duplicates.items } } };
 }
 
 impl Contents {
     pub fn new(alloc: Global) -> Self
-        ensures { result ≡ record { variables = []; order = []; universe = 0; constraints = []; hidden = [] } }
+        ensures { result ≡ record { variables = []; order = []; universe = 0; constraints = []; hidden = record { lookup = []; duplicates = [] } } }
     {
         Contents {
             variables: Vec::new(alloc),
@@ -96,6 +99,7 @@ impl Contents {
             universe: 0,
             constraints: Vec::new(alloc),
             hidden: Vec::new(alloc),
+            duplicates: Vec::new(alloc),
         }
     }
 
@@ -132,16 +136,34 @@ impl Contents {
     }
 
     pub fn hidden_type(&self, n: usize) -> HiddenType
-        requires { n < length self.now.hidden }
-        ensures { slice_get self.now.hidden n ≡ Some result }
+        requires { n < length self.now.hidden.lookup }
+        ensures { slice_get self.now.hidden.lookup n ≡ Some result }
     {
         self.hidden[n]
     }
 
     pub fn hidden_count(&self) -> usize
-        ensures { result ≡ length self.now.hidden }
+        ensures { result ≡ length self.now.hidden.lookup }
     {
         self.hidden.len()
+    }
+
+    /// The hidden types that are registered.
+    pub fn hidden_types(&self) -> &[HiddenType]
+        ensures { result.now ≡ self.now.hidden.lookup }
+    {
+        &self.hidden
+    }
+
+    pub fn duplicates(&self) -> &[HiddenType]
+        ensures { result.now ≡ self.now.hidden.duplicates }
+    {
+        &self.duplicates
+    }
+
+    /// Where the lists are.
+    pub fn allocator(&self) -> Global {
+        *self.hidden.allocator()
     }
 
     pub fn add(&mut self, variable: Variable) -> Result<usize, AllocError>
@@ -194,10 +216,18 @@ impl Contents {
     }
 
     pub fn replace(&mut self, n: usize, hidden: HiddenType)
-        requires { n < length self.old.hidden }
+        requires { n < length self.old.hidden.lookup }
         ensures { self.new ≡ with_hidden self.old n hidden }
     {
         self.hidden[n] = hidden;
+    }
+
+    pub fn add_duplicate(&mut self, hidden: HiddenType) -> Result<(), AllocError>
+        ensures entries { OnOk result (self.new ≡ duplicated self.old hidden) }
+        ensures err { OnErr result (self.new ≡ self.old) }
+    {
+        self.duplicates.push(hidden)?;
+        Ok(())
     }
 
     /// Undoes one change. It takes no memory.
@@ -232,6 +262,9 @@ impl Contents {
                 if n < self.hidden.len() {
                     self.hidden[n] = hidden;
                 }
+            }
+            UndoLog::Duplicated => {
+                self.duplicates.pop();
             }
         }
     }

@@ -1,6 +1,6 @@
 //! What can be undone of a table, and its snapshots.
 ghost use Rattle.std.specs.Prelude.{◌≡◌, ◌<◌, ◌+◌, ◌++◌, ◌∷◌, [], length, slice_get, OnOk, OnErr, IfOk, Some};
-ghost use Rattle.nts_unify.specs.Entries.{Entries, Inner, added, with_variable, bound, constrained, moved, registered, with_hidden, front};
+ghost use Rattle.nts_unify.specs.Entries.{Entries, Inner, added, with_variable, bound, constrained, moved, registered, with_hidden, duplicated, front};
 
 use crate::contents::{Constraint, Contents, HiddenType, UndoLog, Variable};
 use nts_terms::UniverseIndex;
@@ -38,7 +38,7 @@ pub struct Snapshot {
 impl InferCtxtInner {
     /// No variables, in the root universe. It takes no memory.
     pub fn new(alloc: Global) -> Self
-        ensures entries { result.entries ≡ record { variables = []; order = []; universe = 0; constraints = []; hidden = [] } }
+        ensures entries { result.entries ≡ record { variables = []; order = []; universe = 0; constraints = []; hidden = record { lookup = []; duplicates = [] } } }
         ensures saved { result.saved ≡ [] }
     {
         InferCtxtInner {
@@ -76,17 +76,36 @@ impl InferCtxtInner {
 
     /// How many hidden types are registered. It takes no memory.
     pub fn num_opaque_types(&self) -> usize
-        ensures { result ≡ length self.now.entries.hidden }
+        ensures { result ≡ length self.now.entries.hidden.lookup }
     {
         self.contents.hidden_count()
     }
 
     /// The hidden type at a position.
     pub fn hidden_type(&self, n: usize) -> HiddenType
-        requires { n < length self.now.entries.hidden }
-        ensures { slice_get self.now.entries.hidden n ≡ Some result }
+        requires { n < length self.now.entries.hidden.lookup }
+        ensures { slice_get self.now.entries.hidden.lookup n ≡ Some result }
     {
         self.contents.hidden_type(n)
+    }
+
+    /// The hidden types that are registered.
+    pub fn hidden_types(&self) -> &[HiddenType]
+        ensures { result.now ≡ self.now.entries.hidden.lookup }
+    {
+        self.contents.hidden_types()
+    }
+
+    /// The duplicates of hidden types.
+    pub fn duplicates(&self) -> &[HiddenType]
+        ensures { result.now ≡ self.now.entries.hidden.duplicates }
+    {
+        self.contents.duplicates()
+    }
+
+    /// Where the table's lists are.
+    pub fn allocator(&self) -> Global {
+        self.contents.allocator()
     }
 
     /// The current universe.
@@ -183,7 +202,7 @@ impl InferCtxtInner {
     }
 
     pub fn replace(&mut self, n: usize, hidden: HiddenType) -> Result<(), AllocError>
-        requires { n < length self.old.entries.hidden }
+        requires { n < length self.old.entries.hidden.lookup }
         ensures entries { OnOk result (self.new.entries ≡ with_hidden self.old.entries n hidden) }
         ensures saved { self.new.saved ≡ self.old.saved }
         ensures err { OnErr result (self.new ≡ self.old) }
@@ -192,6 +211,21 @@ impl InferCtxtInner {
         self.log.push(UndoLog::Replaced(n, old))?;
         self.contents.replace(n, hidden);
         Ok(())
+    }
+
+    pub fn add_duplicate(&mut self, hidden: HiddenType) -> Result<(), AllocError>
+        ensures entries { OnOk result (self.new.entries ≡ duplicated self.old.entries hidden) }
+        ensures saved { self.new.saved ≡ self.old.saved }
+        ensures err { OnErr result (self.new ≡ self.old) }
+    {
+        self.log.push(UndoLog::Duplicated)?;
+        match self.contents.add_duplicate(hidden) {
+            Ok(()) => Ok(()),
+            Err(error) => {
+                self.log.pop();
+                Err(error)
+            }
+        }
     }
 
     /// Opens a snapshot.

@@ -70,7 +70,7 @@ pub returns-clause-kinds : goal.returns-clause-kinds
 returns-clause-kinds c =
     let t = c.register_hidden.new.table in
     let ks = kinds_of c.args.input.now in
-    let variables : t.entries.variables ≡ made_variables [] ks = ap (λ e. e.variables) (c.in_ok-register_hidden.ensures.entries ∙ (λ i. record (c.in_ok-values.ensures.entries i) { hidden = t.entries.hidden })) ∙ ap (λ us. made_variables [] (map kind_of_var us)) c.deref.ensures.value in
+    let variables : t.entries.variables ≡ made_variables [] ks = ap (λ e. e.variables) (c.in_ok-register_hidden.ensures.entries ∙ (λ i. record (c.in_ok-values.ensures.entries i) { hidden = record ((c.in_ok-values.ensures.entries i).hidden) { lookup = t.entries.hidden.lookup } })) ∙ ap (λ us. made_variables [] (map kind_of_var us)) c.deref.ensures.value in
     have_kinds (form_of c.args.cx.now.nodes c.args.input.now) t.entries c.in_ok-register_hidden.ensures.table.now.descends variables c.requires.kinds
 
 pub returns-clause-args : goal.returns-clause-args
@@ -81,7 +81,7 @@ returns-clause-args c =
     let ks = kinds_of c.args.input.now in
     let xs = c.in_ok-values.values.items in
     let given : AreLeafArgs b xs (value_leaves 0 ks) = rw c.deref.ensures.value at c.in_ok-values.ensures.values in
-    let variables : t.entries.variables ≡ made_variables [] ks = ap (λ e. e.variables) (c.in_ok-register_hidden.ensures.entries ∙ (λ i. record (c.in_ok-values.ensures.entries i) { hidden = t.entries.hidden })) ∙ ap (λ us. made_variables [] (map kind_of_var us)) c.deref.ensures.value in
+    let variables : t.entries.variables ≡ made_variables [] ks = ap (λ e. e.variables) (c.in_ok-register_hidden.ensures.entries ∙ (λ i. record (c.in_ok-values.ensures.entries i) { hidden = record ((c.in_ok-values.ensures.entries i).hidden) { lookup = t.entries.hidden.lookup } })) ∙ ap (λ us. made_variables [] (map kind_of_var us)) c.deref.ensures.value in
     args-known e t.entries xs ks (AreLeafArgs-kept b e xs (value_leaves 0 ks) given (Extends-trans c.instantiate_query.ensures.grows.extends c.register_hidden.ensures.grows.extends)) variables (root_kinds ks c.requires.kinds)
 
 pub returns-clause-holds : goal.returns-clause-holds
@@ -92,5 +92,5 @@ pub returns-clause-knows : goal.returns-clause-knows
 returns-clause-knows c =
     let t = c.register_hidden.new.table in
     let ks = kinds_of c.args.input.now in
-    let variables : t.entries.variables ≡ made_variables [] ks = ap (λ e. e.variables) (c.in_ok-register_hidden.ensures.entries ∙ (λ i. record (c.in_ok-values.ensures.entries i) { hidden = t.entries.hidden })) ∙ ap (λ us. made_variables [] (map kind_of_var us)) c.deref.ensures.value in
+    let variables : t.entries.variables ≡ made_variables [] ks = ap (λ e. e.variables) (c.in_ok-register_hidden.ensures.entries ∙ (λ i. record (c.in_ok-values.ensures.entries i) { hidden = record ((c.in_ok-values.ensures.entries i).hidden) { lookup = t.entries.hidden.lookup } })) ∙ ap (λ us. made_variables [] (map kind_of_var us)) c.deref.ensures.value in
     query-known c.register_hidden.new.cx.nodes t.entries ks _ (query_tree c.args.cx.now.nodes c.args.input.now.canonical.value) variables (root_kinds ks c.requires.kinds) c.requires.no_name (returns-clause-query c)

@@ -28,8 +28,8 @@ loop-i-preserved c =
     let g = IsLawful-extended i.extends c.requires.table.now in
     let all : All (λ h. IsHiddenType a (content_of a e) (stored_hidden h)) c.args.hidden.now = λ k d l. hidden-now c.args.cx.now.nodes a e e (stored_hidden _) c.requires.table.now refl i.extends (c.requires.hidden k d l) in
     record {
-      registered = registered_more a b e c.loop-i.table.entries c.register_hidden_type_in_storage.new.self.entries.hidden c.args.hidden.now c.loop-i.i _ _ g i.table.now i.entries r.grows.extends all (omega (arith, c.loop-i-test.true)) i.registered r.registered;
-      entries = r.entries ∙ (λ j. record (i.entries j) { hidden = c.register_hidden_type_in_storage.new.self.entries.hidden });
+      registered = registered_more a b e c.loop-i.table.entries c.register_hidden_type_in_storage.new.self.entries.hidden.lookup c.args.hidden.now c.loop-i.i _ _ g i.table.now i.entries r.grows.extends all (omega (arith, c.loop-i-test.true)) i.registered r.registered;
+      entries = r.entries ∙ (λ j. record (i.entries j) { hidden = record ((i.entries j).hidden) { lookup = c.register_hidden_type_in_storage.new.self.entries.hidden.lookup } });
       saved = r.changes.saved ∙ i.saved;
       mode = r.changes.mode ∙ i.mode;
       table = r.table;

@@ -8,8 +8,8 @@ use Rattle.nts_canonical.proofs.build.register_hidden.Given as goal
 
 abbrev pub invariant-loop-i : goal.invariant-loop-i
 invariant-loop-i l = record {
-  registered : RegistersAll l.cx.nodes (content_of l.cx.nodes l.fn.table.entries) l.fn.table.entries.hidden (take l.i l.hidden) l.table.entries.hidden;
-  entries : l.table.entries ≡ record l.fn.table.entries { hidden = l.table.entries.hidden };
+  registered : RegistersAll l.cx.nodes (content_of l.cx.nodes l.fn.table.entries) l.fn.table.entries.hidden.lookup (take l.i l.hidden) l.table.entries.hidden.lookup;
+  entries : l.table.entries ≡ record l.fn.table.entries { hidden = record l.fn.table.entries.hidden { lookup = l.table.entries.hidden.lookup } };
   saved : l.table.saved ≡ l.fn.table.saved;
   mode : l.table.mode ≡ l.fn.table.mode;
   table : IsTable l.cx.nodes l.table;

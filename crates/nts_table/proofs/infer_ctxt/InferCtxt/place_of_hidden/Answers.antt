@@ -48,6 +48,6 @@ loop-i-preserved c =
       extends = Extends-trans i.extends c.in_ok-old_args.ensures.extends;
       within = IsIn-extended c.in_ok-old_args.ensures.extends _ i.within;
       args = kept ∙ i.args;
-      none = none_more ts (content_of ts e) c.loop-i.i e.hidden c.args.hidden old i.none c.hidden_type-old.ensures
+      none = none_more ts (content_of ts e) c.loop-i.i e.hidden.lookup c.args.hidden old i.none c.hidden_type-old.ensures
           (λ (h : HasAliasOf ts (content_of ts e) old c.args.hidden). c.is_one_alias.ensures.no c.if-is_one_alias.false h.alias (c.same.ensures.1 (one ∙ h.args ∙ sym i.args ∙ sym kept)));
     }

@@ -10,5 +10,5 @@ invariant-loop-i l = record {
   extends : Extends l.fn.nodes l.nodes;
   within : IsIn l.nodes l.args;
   args : tree_at l.nodes l.args ≡ deeply_resolved (content_of l.fn.nodes l.self.entries) (tree_at l.fn.nodes l.hidden.args.node);
-  none : NoneBefore l.fn.nodes (content_of l.fn.nodes l.self.entries) l.i l.self.entries.hidden l.hidden;
+  none : NoneBefore l.fn.nodes (content_of l.fn.nodes l.self.entries) l.i l.self.entries.hidden.lookup l.hidden;
 }

@@ -12,12 +12,12 @@ returns-in_err-place-clause-table c = IsTable-extended c.place_of_hidden.ensures
 
 pub hidden_type-old-requires : goal.hidden_type-old-requires
 hidden_type-old-requires c =
-    let p = rw c.in-Some.is at c.in_ok-place.ensures.place in slice_get_below c.args.self.now.entries.hidden c.in-Some.place p.0 p.1.at
+    let p = rw c.in-Some.is at c.in_ok-place.ensures.place in slice_get_below c.args.self.now.entries.hidden.lookup c.in-Some.place p.0 p.1.at
 
 pub replace-requires : goal.replace-requires
 replace-requires c =
     let p = rw c.in-Some.is at c.in_ok-place.ensures.place in
-    rw (ap (λ (t : Table). t.entries) c.self.view_is) (slice_get_below c.args.self.now.entries.hidden c.in-Some.place p.0 p.1.at)
+    rw (ap (λ (t : Table). t.entries) c.self.view_is) (slice_get_below c.args.self.now.entries.hidden.lookup c.in-Some.place p.0 p.1.at)
 
 pub returns-in_err-replace-in-Some-clause-table : goal.returns-in_err-replace-in-Some-clause-table
 returns-in_err-replace-in-Some-clause-table c = IsTable-same c.requires.table c.place_of_hidden.ensures.extends (ap (λ (i : Inner). record { entries = i.entries; saved = i.saved; mode = c.self.inside.mode }) c.in_err-replace-in-Some.ensures.err ∙ c.self.view_is)

@@ -1,6 +1,3 @@
-use Rattle.std.proofs.Common.{ap, ◌∙◌}
-use Rattle.nts_table.specs.Tables.{Table}
-use Rattle.nts_table.specs.TableLaws.{IsTable-same}
 use Rattle.nts_table.proofs.SnapshotLemmas.{IsTable-started}
 use Rattle.nts_table.proofs.infer_ctxt.InferCtxt.start_snapshot.Goals as goal
 
