@@ -102,8 +102,9 @@ pub fn universe_of(kind: CanonicalVarKind) -> UniverseIndex
     }
 }
 
-/// The value of a kind in that universe.
-fn value_in(
+/// The value of a position of that kind in that universe, which is one of the table's: a new variable, or the placeholder.
+/// Those of integers and floats are of the root. `var_values` are the values of the earlier positions.
+pub fn value_in(
     table: &mut InferCtxt,
     cx: &mut Cx,
     kind: CanonicalVarKind,

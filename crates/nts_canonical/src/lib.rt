@@ -16,7 +16,7 @@ mod types;
 mod var_kinds;
 
 pub use alike::same_input;
-pub use build::{build_with_canonical, instantiate_canonical_var, universe_of};
+pub use build::{build_with_canonical, instantiate_canonical_var, universe_of, value_in};
 pub use canonicalize::canonicalize_goal;
 pub use collecting::{Staying, collect};
 pub use instantiate::instantiate_canonical;

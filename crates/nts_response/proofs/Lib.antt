@@ -3,3 +3,7 @@ pub mod Rows
 pub mod Each
 pub mod Found
 pub mod Positioned
+pub mod Guessed
+pub mod Stepping
+pub mod MadeValues
+pub mod EqualLemmas

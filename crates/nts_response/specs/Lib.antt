@@ -1,3 +1,4 @@
+pub mod Applied
 pub mod Forms
 pub mod Kinds
 pub mod Replacing

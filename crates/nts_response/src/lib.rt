@@ -3,6 +3,10 @@
 
 mod answer_kinds;
 mod canonicalize;
+mod choosing;
+mod equating;
+mod formed;
+mod guessing;
 mod leaves;
 mod numbered;
 mod types;

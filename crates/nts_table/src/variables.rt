@@ -1,5 +1,5 @@
 //! Making variables, and what is known of them.
-ghost use Rattle.std.specs.Prelude.{List, ◌≡◌, ◌≢◌, ◌<◌, ◌≤◌, ◌+◌, length, IfOk, OnOk, OnErr, Some, IfSome, IsOkUnless};
+ghost use Rattle.std.specs.Prelude.{List, ◌≡◌, ◌≢◌, ◌↔◌, ◌<◌, ◌≤◌, ◌+◌, length, IfOk, OnOk, OnErr, Some, IfSome, IsOkUnless};
 ghost use Rattle.nts_model.specs.declared.labels.VariableKind.TheVariants as kind;
 ghost use Rattle.nts_model.specs.Trees.{Tree};
 ghost use Rattle.nts_model.specs.Resolving.{variable_tree};
@@ -166,6 +166,24 @@ impl InferCtxt {
             Some(next) => {
                 self.inner.move_to(next)?;
                 Ok(next)
+            }
+        }
+    }
+
+    /// That many more universes, in one step; the last of them becomes the current one. `Full` comes exactly where there
+    /// are not so many.
+    pub fn create_universes(&mut self, count: UniverseIndex) -> Result<(), Fault>
+        ensures entries { OnOk result (self.new.entries ≡ moved self.old.entries (self.old.entries.universe + count)) }
+        ensures table { (ts : List Tree) → IsTable ts self.old → IsTable ts self.new }
+        ensures changes { ChangesEntries self.old self.new }
+        ensures err { OnErr result (self.new ≡ self.old) }
+        ensures full { (result ≡ Err Fault.Full) ↔ (u32.MAX < self.old.entries.universe + count) }
+    {
+        match self.universe().checked_add(count) {
+            None => Err(Fault::Full),
+            Some(last) => {
+                self.inner.move_to(last)?;
+                Ok(())
             }
         }
     }

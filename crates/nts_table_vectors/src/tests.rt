@@ -50,6 +50,15 @@ fn universes(rt: HostRuntime) {
     assert_eq!(rt; table.universe_of_ty(0), Some(0));
     assert_eq!(rt; table.universe_of_lt(1), Some(1));
     assert_eq!(rt; table.root_ty_var(0), 0);
+    table.create_universes(3).expect(&rt, "memory");
+    assert_eq!(rt; table.universe(), 4);
+    table.create_universes(0).expect(&rt, "memory");
+    assert_eq!(rt; table.universe(), 4);
+    let refused = table.create_universes(u32::MAX - 3);
+    assert!(rt; matches!(refused, Err(Fault::Full)));
+    assert_eq!(rt; table.universe(), 4);
+    table.create_universes(u32::MAX - 4).expect(&rt, "memory");
+    assert_eq!(rt; table.universe(), u32::MAX);
 }
 
 #[test]

@@ -1,0 +1,109 @@
+-- The steps of applying, one after another.
+use Rattle.std.proofs.Common.{◌≡◌, List, [], ◌∷◌, map, refl, subst, ◌∙◌}
+use Rattle.nts_model.specs.Trees.{Tree}
+use Rattle.nts_model.specs.Contents.{Content}
+use Rattle.nts_model.specs.Worlds.{KnowsAll}
+use Rattle.nts_model.specs.Applying.{IsProperContent}
+use Rattle.nts_model.proofs.Slots.{KeepsKinds, KeepsKinds-refl, KeepsKinds-trans, Knows-kept}
+use Rattle.nts_store.specs.Growth.{tree_at, Extends}
+use Rattle.nts_store.proofs.Growing.{Extends-refl, Extends-trans}
+use Rattle.nts_terms.specs.declared.cx.Cx.{Cx}
+use Rattle.nts_terms.specs.Rest.{Grows}
+use Rattle.nts_terms.proofs.Moved.{KeepsRest-refl, KeepsRest-trans}
+use Rattle.nts_unify.specs.declared.contents.Constraint.{Constraint}
+use Rattle.nts_unify.specs.Reading.{content_of, recorded_of, AreConstraints}
+use Rattle.nts_unify.specs.Lawful.{content_of-extended}
+use Rattle.nts_unify.specs.Changing.{IsLater}
+use Rattle.nts_table.specs.Frames.{ChangesVariables}
+use Rattle.nts_table.specs.Tables.{Table, IsTable, RelatingKeeps}
+use Rattle.nts_table.specs.TableLaws.{IsTable-extended}
+use Rattle.nts_canonical.proofs.PairLists.{holds_kept}
+use Rattle.nts_canonical.specs.Building.{IsArgOf}
+use Rattle.nts_terms.specs.declared.handles.GenericArg.{GenericArg}
+use Rattle.nts_response.specs.Applied.{StepKeeps}
+
+pub step_none : (a : Cx) (t : Table) → IsTable a.nodes t → StepKeeps a a t t
+step_none a t h = record {
+  grows = record { extends = Extends-refl a.nodes; rest = KeepsRest-refl a };
+  table = h;
+  kinds = KeepsKinds-refl (content_of a.nodes t.entries);
+  saved = refl;
+  mode = refl;
+  universe = refl;
+  hidden = refl;
+}
+
+-- the store alone grew
+pub step_grows : (a b : Cx) (t u : Table) → IsTable a.nodes t → Grows a b → u ≡ t → StepKeeps a b t u
+step_grows a b t u h g e =
+    let same = content_of-extended g.extends h.now in
+    rw e (record {
+      grows = g;
+      table = IsTable-extended g.extends h;
+      kinds = rw same (KeepsKinds-refl (content_of a.nodes t.entries));
+      saved = refl;
+      mode = refl;
+      universe = refl;
+      hidden = refl;
+    })
+
+pub step_then : {a b c : Cx} {t u v : Table} → StepKeeps a b t u → StepKeeps b c u v → StepKeeps a c t v
+step_then {a} {b} {c} {t} {u} {v} x y =
+    let p = x.grows in
+    let q = y.grows in
+    record {
+      grows = record { extends = Extends-trans p.extends q.extends; rest = KeepsRest-trans p.rest q.rest };
+      table = y.table;
+      kinds = KeepsKinds-trans x.kinds y.kinds;
+      saved = y.saved ∙ x.saved;
+      mode = y.mode ∙ x.mode;
+      universe = y.universe ∙ x.universe;
+      hidden = y.hidden ∙ x.hidden;
+    }
+
+pub step_related : {a b : Cx} {t u : Table} → RelatingKeeps a b t u → StepKeeps a b t u
+step_related k = record {
+  grows = k.grows;
+  table = k.table;
+  kinds = (let l = k.later in record { grows = l.grows; kinds = l.kinds });
+  saved = k.saved;
+  mode = k.mode;
+  universe = k.universe;
+  hidden = k.hidden;
+}
+
+-- a table is proper
+known_sides : (ts : List Tree) (c : Content) (xs : List Constraint) → AreConstraints ts c xs → KnowsAll c (map (recorded_of ts) xs)
+known_sides ts c [] h = tt
+known_sides ts c (x ∷ xs) h = (h.0.left_known, h.0.right_known, known_sides ts c xs h.1)
+
+pub proper_content : (ts : List Tree) (t : Table) → IsTable ts t → IsProperContent (content_of ts t.entries)
+proper_content ts t h =
+    let l = h.now in
+    record { sound = l.sound; sides = known_sides ts (content_of ts t.entries) t.entries.constraints l.constraints }
+
+-- an argument of the table is one later
+pub arg_later : {a b : Cx} {t u : Table} {x : GenericArg} → StepKeeps a b t u → IsArgOf a.nodes t.entries x → IsArgOf b.nodes u.entries x
+arg_later {a} {b} {t} {u} {x} k h =
+    let held = h.holds in
+    let g = k.grows in
+    let e = g.extends in
+    record {
+      holds = holds_kept _ a.nodes b.nodes x.node held e;
+      known = rw (e.kept x.node held.within) (Knows-kept (content_of a.nodes t.entries) (content_of b.nodes u.entries) (tree_at a.nodes x.node) k.kinds h.known);
+    }
+
+-- the nodes grew, and terms of them were made equal
+pub nodes_grown : (a : Cx) (ns : List Tree) (t : Table) → IsTable a.nodes t → Extends a.nodes ns → StepKeeps a (record a { nodes = ns }) t t
+nodes_grown a ns t h e = step_grows a (record a { nodes = ns }) t t h (record { extends = e; rest = record { declarations = refl; limit = refl; fast_paths = refl } }) refl
+
+pub nodes_related : (a : Cx) (ns ms : List Tree) (t u : Table) → IsTable a.nodes t → Extends a.nodes ns → Extends ns ms → IsTable ms u → ChangesVariables t u → IsLater (content_of ns t.entries) (content_of ms u.entries) → StepKeeps a (record a { nodes = ms }) t u
+nodes_related a ns ms t u h e f i c l = record {
+  grows = record { extends = Extends-trans e f; rest = record { declarations = refl; limit = refl; fast_paths = refl } };
+  table = i;
+  kinds = subst (λ z. KeepsKinds z (content_of ms u.entries)) (content_of-extended e h.now) (record { grows = l.grows; kinds = l.kinds });
+  saved = c.saved;
+  mode = c.mode;
+  universe = c.universe;
+  hidden = c.hidden;
+}
