@@ -108,7 +108,7 @@ fn fill_pair(
 }
 
 /// The term with the values in place of its positions.
-fn fill<T: Stored>(
+pub fn fill<T: Stored>(
     alloc: Global,
     nodes: &mut Nodes,
     values: &[NodeId],

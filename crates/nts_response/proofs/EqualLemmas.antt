@@ -55,7 +55,7 @@ pub tree_in : (ts : List Tree) (xs : List GenericArg) (i : ℕ) (d : GenericArg)
 tree_in ts xs i d l = get_or-map (λ (x : GenericArg). tree_at ts x.node) xs i d empty l
 
 -- of arguments of a store that has grown
-filled_same : (a b : Cx) (t u : Table) (chosen : List NodeId) (x : NodeId) → StepKeeps a b t u → AllIn a.nodes chosen → IsFillable a.nodes (content_of a.nodes t.entries) (map (tree_at a.nodes) chosen) x → filled (map (tree_at b.nodes) chosen) (tree_at b.nodes x) ≡ filled (map (tree_at a.nodes) chosen) (tree_at a.nodes x)
+pub filled_same : (a b : Cx) (t u : Table) (chosen : List NodeId) (x : NodeId) → StepKeeps a b t u → AllIn a.nodes chosen → IsFillable a.nodes (content_of a.nodes t.entries) (map (tree_at a.nodes) chosen) x → filled (map (tree_at b.nodes) chosen) (tree_at b.nodes x) ≡ filled (map (tree_at a.nodes) chosen) (tree_at a.nodes x)
 filled_same a b t u chosen x s w h = (let g = s.grows in let e = g.extends in rw (map-kept a.nodes b.nodes chosen w e, e.kept x h.within) refl)
 
 pub equal_next : (a b : Cx) (t u : Table) (chosen : List NodeId) (values originals : List GenericArg) (i : ℕ) (d f : GenericArg) (e : Content) → i < length values → length originals ≡ length values → StepKeeps a b t u → AllIn a.nodes chosen

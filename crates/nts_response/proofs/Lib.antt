@@ -6,4 +6,7 @@ pub mod Positioned
 pub mod Guessed
 pub mod Stepping
 pub mod MadeValues
+pub mod OpenSteps
+pub mod RecordLemmas
+pub mod RecordSteps
 pub mod EqualLemmas

@@ -107,3 +107,15 @@ nodes_related a ns ms t u h e f i c l = record {
   universe = c.universe;
   hidden = c.hidden;
 }
+
+-- the store grew, and then the table alone changed
+pub nodes_recorded : (a : Cx) (ns : List Tree) (t u : Table) → IsTable a.nodes t → Extends a.nodes ns → IsTable ns u → ChangesVariables t u → KeepsKinds (content_of ns t.entries) (content_of ns u.entries) → StepKeeps a (record a { nodes = ns }) t u
+nodes_recorded a ns t u h e i c k = record {
+  grows = record { extends = e; rest = record { declarations = refl; limit = refl; fast_paths = refl } };
+  table = i;
+  kinds = subst (λ z. KeepsKinds z (content_of ns u.entries)) (content_of-extended e h.now) k;
+  saved = c.saved;
+  mode = c.mode;
+  universe = c.universe;
+  hidden = c.hidden;
+}

@@ -9,6 +9,8 @@ mod formed;
 mod guessing;
 mod leaves;
 mod numbered;
+mod opening;
+mod recording;
 mod types;
 mod unconstrained;
 

@@ -41,11 +41,11 @@ known_region c (more a b) x h e = cc
 known_region c (node l t) x h e = known_region_at c (variable_of l) l t x refl h e
 
 -- the root of a region variable is one, and has no value
-record IsOpenRegion (v : Variable) : Type 0 where
-  region : v.kind ≡ kind.Region
-  free : v.state ≡ Unset
+pub record IsOpenRegion (v : Variable) : Type 0 where
+  pub region : v.kind ≡ kind.Region
+  pub free : v.state ≡ Unset
 
-open_region : (ts : List Tree) (e : Entries) (n r : ℕ) (v : Variable) → IsLawful ts e → IsRoot e n r → kind_at (content_of ts e) n ≡ Some kind.Region → slice_get e.variables r ≡ Some v → IsOpenRegion v
+pub open_region : (ts : List Tree) (e : Entries) (n r : ℕ) (v : Variable) → IsLawful ts e → IsRoot e n r → kind_at (content_of ts e) n ≡ Some kind.Region → slice_get e.variables r ≡ Some v → IsOpenRegion v
 open_region ts e n r v h root region at =
     record { region = is; free = by_state v.state refl }
   where
