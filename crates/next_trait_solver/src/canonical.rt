@@ -4,6 +4,7 @@ pub use nts_canonical::{
     canonicalize_goal, instantiate_canonical, instantiate_canonical_var, same_input,
 };
 pub use nts_response::{
-    CanonicalResponse, ExternalConstraintsData, Response, canonicalize_response,
-    response_no_constraints_raw,
+    CanonicalResponse, ExternalConstraintsData, Response, canonicalize_response, clone_response,
+    has_no_inference_or_external_constraints, instantiate_and_apply_query_response, is_identity,
+    response_fits, response_no_constraints_raw,
 };

@@ -1,7 +1,7 @@
 -- Hidden types that are registered one after another, in a store that grows.
 use Rattle.std.proofs.Common.{◌≡◌, ⊎_elim, ℕ, zero, suc, ◌+◌, ◌<◌, List, [], ◌∷◌, ◌++◌, length, take, get_or, Option, Some, None, refl, sym, ap, subst, ◌∙◌, arith}
 use Rattle.std.specs.Prelude.{slice_get, slice_set, All}
-use Rattle.std.proofs.lemmas.List.{take_more}
+use Rattle.std.proofs.lemmas.List.{take_more, append-nil, append_assoc}
 use Rattle.nts_model.specs.Trees.{Tree}
 use Rattle.nts_model.specs.Contents.{Content}
 use Rattle.nts_model.specs.Resolving.{Knows}
@@ -17,7 +17,7 @@ use Rattle.nts_unify.specs.Lawful.{content_of-extended, AreHiddenTypes-at}
 use Rattle.nts_table.specs.Registering.{HasAliasOf, NoneBefore, IsFirstOf, Registers}
 use Rattle.nts_table.proofs.HiddenLemmas.{IsHiddenType-extended}
 use Rattle.nts_canonical.specs.Forms.{hidden_pairs, AreHidden}
-use Rattle.nts_canonical.specs.Building.{stored_hidden, RegistersAll}
+use Rattle.nts_canonical.specs.Building.{stored_hidden, replaced_by, RegistersAll}
 use Rattle.nts_canonical.proofs.Making.{some}
 
 -- the arguments of the aliases are of the store
@@ -63,19 +63,36 @@ args-after : (a : List Tree) (c : Content) (xs : List HiddenType) (h : HiddenTyp
 args-after a c xs h ys None i j r = rw r.1 (args-push a xs h i j)
 args-after a c xs h ys (Some ty) i j (n, old, first, is, ends) = rw ends (args-set a xs n old h.ty i first.at)
 
-all-kept : (a b : List Tree) (c : Content) (xs : List HiddenType) (hs : List (AliasTerm × Ty)) (ys : List HiddenType) → Extends a b → ArgsIn a xs → All (λ h. IsIn a h.0.args.node) hs → RegistersAll a c xs hs ys → RegistersAll b c xs hs ys
-all-kept a b c xs [] ys e i j r = r
-all-kept a b c xs (h ∷ hs) ys e i j (zs, o, r, rest) =
+all-kept : (a b : List Tree) (c : Content) (xs : List HiddenType) (hs : List (AliasTerm × Ty)) (ys ds : List HiddenType) → Extends a b → ArgsIn a xs → All (λ h. IsIn a h.0.args.node) hs → RegistersAll a c xs hs ys ds → RegistersAll b c xs hs ys ds
+all-kept a b c xs [] ys ds e i j r = r
+all-kept a b c xs (h ∷ hs) ys ds e i j (zs, o, es, r, rest, is) =
     let there = j 0 h (omega arith) in (
       zs,
       o,
+      es,
       registers-kept a b c xs (stored_hidden h) zs o e i there r,
-      all-kept a b c zs hs ys e (args-after a c xs (stored_hidden h) zs o i there r) (λ k d l. j (suc k) d (omega (arith, l))) rest,
+      all-kept a b c zs hs ys es e (args-after a c xs (stored_hidden h) zs o i there r) (λ k d l. j (suc k) d (omega (arith, l))) rest,
+      is,
     )
 
-all-push : (ts : List Tree) (c : Content) (xs : List HiddenType) (hs : List (AliasTerm × Ty)) (ys : List HiddenType) (h : AliasTerm × Ty) (zs : List HiddenType) (o : Option Ty) → RegistersAll ts c xs hs ys → Registers ts c ys (stored_hidden h) zs o → RegistersAll ts c xs (hs ++ h ∷ []) zs
-all-push ts c xs [] ys h zs o r k = (zs, o, rw (← r) k, refl)
-all-push ts c xs (g ∷ hs) ys h zs o (us, p, r, rest) k = (us, p, r, all-push ts c us hs ys h zs o rest k)
+all-push : (ts : List Tree) (c : Content) (xs : List HiddenType) (hs : List (AliasTerm × Ty)) (ys ds : List HiddenType) (h : AliasTerm × Ty) (zs : List HiddenType) (o : Option Ty) → RegistersAll ts c xs hs ys ds → Registers ts c ys (stored_hidden h) zs o
+    → RegistersAll ts c xs (hs ++ h ∷ []) zs (ds ++ replaced_by (stored_hidden h) o)
+all-push ts c xs [] ys ds h zs o r k = (
+  zs,
+  o,
+  [],
+  subst (λ z. Registers ts c z (stored_hidden h) zs o) r.0 k,
+  (refl, refl),
+  ap (λ (z : List HiddenType). z ++ replaced_by (stored_hidden h) o) r.1 ∙ sym (append-nil (replaced_by (stored_hidden h) o)),
+)
+all-push ts c xs (g ∷ hs) ys ds h zs o (us, p, es, r, rest, is) k = (
+  us,
+  p,
+  es ++ replaced_by (stored_hidden h) o,
+  r,
+  all-push ts c us hs ys es h zs o rest k,
+  ap (λ (z : List HiddenType). z ++ replaced_by (stored_hidden h) o) is ∙ append_assoc (replaced_by (stored_hidden g) p) es (replaced_by (stored_hidden h) o),
+)
 
 All-take : {A : Type 0} (P : A → Type 0) (i : ℕ) (xs : List A) → All P xs → All P (take i xs)
 All-take P zero xs h = λ k d l. absurd (omega (arith, l))
@@ -91,19 +108,24 @@ unfolding ArgsIn
 args-in ts c xs h = λ i x q. (AreHiddenTypes-at ts c xs i x h q).args.within
 
 -- one more, of a table of which only the hidden types change
-pub registered_more : (a b : List Tree) (e f : Entries) (zs : List HiddenType) (hs : List (AliasTerm × Ty)) (i : ℕ) (d : AliasTerm × Ty) (o : Option Ty) → IsLawful a e → IsLawful a f → f ≡ record e { hidden = record e.hidden { lookup = f.hidden.lookup } } → Extends a b → All (λ h. IsHiddenType a (content_of a e) (stored_hidden h)) hs → i < length hs
-    → RegistersAll a (content_of a e) e.hidden.lookup (take i hs) f.hidden.lookup → Registers a (content_of a f) f.hidden.lookup (stored_hidden (get_or hs i d)) zs o → RegistersAll b (content_of b e) e.hidden.lookup (take (i + 1) hs) zs
-registered_more a b e f zs hs i d o g h q up all l r k =
+pub registered_more : (a b : List Tree) (e f : Entries) (zs : List HiddenType) (hs : List (AliasTerm × Ty)) (ds : List HiddenType) (i : ℕ) (d : AliasTerm × Ty) (o : Option Ty) → IsLawful a e → IsLawful a f → f ≡ record e { hidden = f.hidden } → Extends a b → All (λ h. IsHiddenType a (content_of a e) (stored_hidden h)) hs → i < length hs
+    → RegistersAll a (content_of a e) e.hidden.lookup (take i hs) f.hidden.lookup ds → Registers a (content_of a f) f.hidden.lookup (stored_hidden (get_or hs i d)) zs o
+    → RegistersAll b (content_of b e) e.hidden.lookup (take (i + 1) hs) zs (ds ++ replaced_by (stored_hidden (get_or hs i d)) o)
+registered_more a b e f zs hs ds i d o g h q up all l r k =
     let c = content_of a e in
     let later : content_of b e ≡ c = content_of-extended up g in
     let here : content_of a f ≡ c = ap (content_of a) q in
     let within : All (λ h. IsIn a h.0.args.node) hs = (λ j x m. (all j x m).args.within) in
-    let old = all-kept a b c e.hidden.lookup (take i hs) f.hidden.lookup up (args-in a c e.hidden.lookup g.hidden.lookup) (All-take (λ h. IsIn a h.0.args.node) i hs within) r in
+    let old = all-kept a b c e.hidden.lookup (take i hs) f.hidden.lookup ds up (args-in a c e.hidden.lookup g.hidden.lookup) (All-take (λ h. IsIn a h.0.args.node) i hs within) r in
     let one = registers-kept a b c f.hidden.lookup (stored_hidden (get_or hs i d)) zs o up (args-in a (content_of a f) f.hidden.lookup h.hidden.lookup) (within i d l) (subst (λ z. Registers a z f.hidden.lookup (stored_hidden (get_or hs i d)) zs o) here k) in
-    rw (take_more hs i d l, later) (all-push b c e.hidden.lookup (take i hs) f.hidden.lookup (get_or hs i d) zs o old one)
+    rw (take_more hs i d l, later) (all-push b c e.hidden.lookup (take i hs) f.hidden.lookup ds (get_or hs i d) zs o old one)
+
+-- a table of which only the registered types change changes in its hidden types alone
+pub hidden_alone : (e f : Entries) → f ≡ record e { hidden = record e.hidden { lookup = f.hidden.lookup } } → f ≡ record e { hidden = f.hidden }
+hidden_alone e f q = q ∙ ap (λ z. record e { hidden = z }) (sym (ap (λ z. z.hidden) q))
 
 -- what is to be registered, in a store that has grown and a table of which only the hidden types changed
-pub hidden-now : (a b : List Tree) (e f : Entries) (x : HiddenType) → IsLawful a e → f ≡ record e { hidden = record e.hidden { lookup = f.hidden.lookup } } → Extends a b → IsHiddenType a (content_of a e) x → IsHiddenType b (content_of b f) x
+pub hidden-now : (a b : List Tree) (e f : Entries) (x : HiddenType) → IsLawful a e → f ≡ record e { hidden = f.hidden } → Extends a b → IsHiddenType a (content_of a e) x → IsHiddenType b (content_of b f) x
 hidden-now a b e f x h q up k = subst (λ c. IsHiddenType b c x) (sym (ap (content_of b) q)) (IsHiddenType-extended h up k)
 
 -- the hidden types of a row are a table's, if it knows the row

@@ -1,6 +1,6 @@
 -- What a canonical input becomes in a new table.
 use Rattle.std.specs.Global.{Vec}
-use Rattle.std.specs.Prelude.{◌≡◌, All, ℕ, false, List, [], ◌∷◌, map, length, slice_get, Option, Some, None}
+use Rattle.std.specs.Prelude.{◌≡◌, All, ℕ, false, List, [], ◌∷◌, ◌++◌, map, length, slice_get, Option, Some, None}
 use Rattle.nts_model.specs.declared.labels.Leaf.TheVariants as leaf
 use Rattle.nts_model.specs.declared.labels.VariableKind.TheVariants as kind
 use Rattle.nts_model.specs.declared.labels.Label.TheVariants as label
@@ -93,7 +93,14 @@ made_entries ks hs = record { variables = made_variables [] ks; order = []; univ
 abbrev pub stored_hidden : AliasTerm × Ty → HiddenType
 stored_hidden h = record { alias = h.0.def_id; args = h.0.args; ty = h.1 }
 
--- hidden types are registered in their order: of one alias the last stays
-abbrev pub RegistersAll : List Tree → Content → List HiddenType → List (AliasTerm × Ty) → List HiddenType → Type 0
-RegistersAll ts c xs [] ys = ys ≡ xs
-RegistersAll ts c xs (h ∷ hs) ys = (zs : List HiddenType) × (older : Option Ty) × Registers ts c xs (stored_hidden h) zs older × RegistersAll ts c zs hs ys
+-- the type that gave place, behind the alias of the one that took it
+abbrev pub replaced_by : HiddenType → Option Ty → List HiddenType
+replaced_by h None = []
+replaced_by h (Some ty) = record h { ty = ty } ∷ []
+
+-- hidden types are registered in their order: of one alias the last stays. ds are those that gave place, in their order
+abbrev pub RegistersAll : List Tree → Content → List HiddenType → List (AliasTerm × Ty) → List HiddenType → List HiddenType → Type 0
+RegistersAll ts c xs [] ys ds = (ys ≡ xs) × (ds ≡ [])
+RegistersAll ts c xs (h ∷ hs) ys ds =
+    (zs : List HiddenType) × (older : Option Ty) × (es : List HiddenType) × Registers ts c xs (stored_hidden h) zs older
+    × RegistersAll ts c zs hs ys es × (ds ≡ replaced_by (stored_hidden h) older ++ es)

@@ -10,6 +10,7 @@ ghost use Rattle.nts_canonical.specs.SubRoots.{sub_root_in};
 ghost use Rattle.nts_store.specs.Growth.{tree_at, IsIn, Extends};
 ghost use Rattle.nts_terms.specs.Handles.{HoldsArg};
 ghost use Rattle.nts_unify.specs.Reading.{content_of, IsHiddenType};
+ghost use Rattle.nts_unify.specs.declared.contents.HiddenType.{HiddenType};
 ghost use Rattle.nts_table.specs.Tables.{IsTable};
 ghost use Rattle.nts_canonical.specs.Forms.{kind_of_var, form_of, query_tree, trees_of, HoldsQuery};
 ghost use Rattle.nts_canonical.specs.Kinds.{AreInputKinds, value_leaves, made_variables};
@@ -40,7 +41,7 @@ pub fn build_with_canonical(
     ensures query { IfOk result (λ r. query_tree cx.new.nodes r.1 ≡ filled (values_of input.now) (query_tree cx.old.nodes input.now.canonical.value)) }
     ensures entries { IfOk result (λ r. r.0.entries ≡ made_entries (kinds_of input.now) r.0.entries.hidden.lookup) }
     ensures kinds { IfOk result (λ r. HaveKinds (form_of cx.old.nodes input.now) (value_leaves 0 (kinds_of input.now)) (sub_root_in r.0.entries)) }
-    ensures hidden { IfOk result (λ r. RegistersAll cx.new.nodes (content_of cx.new.nodes r.0.entries) [] r.1.predefined_opaques_in_body.items r.0.entries.hidden.lookup) }
+    ensures hidden { IfOk result (λ r. (ds : List HiddenType) × RegistersAll cx.new.nodes (content_of cx.new.nodes r.0.entries) [] r.1.predefined_opaques_in_body.items r.0.entries.hidden.lookup ds) }
     ensures mode { IfOk result (λ r. mode_of r.0.mode ≡ mode_of input.now.typing_mode) }
     ensures saved { IfOk result (λ r. r.0.saved ≡ []) }
     ensures table { IfOk result (λ r. IsTable cx.new.nodes r.0) }
@@ -205,7 +206,7 @@ fn register_hidden(
 ) -> Result<(), Fault>
     requires table { IsTable cx.old.nodes table.old }
     requires hidden { All (λ h. IsHiddenType cx.old.nodes (content_of cx.old.nodes table.old.entries) (stored_hidden h)) hidden.now }
-    ensures registered { OnOk result (RegistersAll cx.new.nodes (content_of cx.new.nodes table.old.entries) table.old.entries.hidden.lookup hidden.now table.new.entries.hidden.lookup) }
+    ensures registered { OnOk result ((ds : List HiddenType) × RegistersAll cx.new.nodes (content_of cx.new.nodes table.old.entries) table.old.entries.hidden.lookup hidden.now table.new.entries.hidden.lookup ds) }
     ensures entries { OnOk result (table.new.entries ≡ record table.old.entries { hidden = record table.old.entries.hidden { lookup = table.new.entries.hidden.lookup } }) }
     ensures changes { ChangesEntries table.old table.new }
     ensures table { IsTable cx.new.nodes table.new }

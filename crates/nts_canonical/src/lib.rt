@@ -21,6 +21,6 @@ pub use canonicalize::canonicalize_goal;
 pub use collecting::{Staying, collect};
 pub use instantiate::instantiate_canonical;
 pub use numbering::numbered;
-pub use queries::fill;
+pub use queries::{fill, fill_hidden, nodes_of};
 pub use types::{Canonical, CanonicalInput, CanonicalVarKind, QueryInput};
 pub use var_kinds::{first_of, sub_root_of, sub_roots};

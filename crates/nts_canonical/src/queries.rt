@@ -33,7 +33,8 @@ pub(crate) fn instantiate_query(
     Ok(query)
 }
 
-fn nodes_of(alloc: Global, values: &[GenericArg]) -> Result<Vec<NodeId>, AllocError>
+/// The nodes of arguments.
+pub fn nodes_of(alloc: Global, values: &[GenericArg]) -> Result<Vec<NodeId>, AllocError>
     ensures { IfOk result (λ v. v.items ≡ map (λ a. a.node) values.now) }
 {
     values.iter().map(|value| value.node).collect(alloc)
@@ -64,7 +65,8 @@ fn fill_query(
     })
 }
 
-fn fill_hidden(
+/// Hidden types with the values in place of their positions, in order.
+pub fn fill_hidden(
     alloc: Global,
     nodes: &mut Nodes,
     values: &[NodeId],

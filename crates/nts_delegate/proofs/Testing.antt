@@ -11,13 +11,9 @@ use Rattle.nts_store.specs.TypeFlags.{flags_of, escaping}
 use Rattle.nts_store.specs.Growth.{tree_at, IsIn}
 use Rattle.nts_terms.specs.Handles.{HoldsPredicate}
 use Rattle.nts_store.specs.Labels.{AllLabels}
-use Rattle.nts_store.proofs.Escaping.{closed_under, escapes}
+use Rattle.nts_store.proofs.Escaping.{closed_by_facts, escapes}
 use Rattle.nts_model.specs.Handlers.{NamesFresh}
 use Rattle.nts_delegate.specs.Clauses.{MayHave, is_foreign, IsClauseTerm, AreBodies}
-
-pub none_escapes : (t : Tree) (o : Option ℕ) → o ≡ escaping t → is_some o ≡ false → IsClosed t
-none_escapes t None e h = (closed_under 0 t).0 (rw (← e) tt)
-none_escapes t (Some d) e h = cc
 
 pub both_false : (p q : Bool) → (p || q) ≡ false → (p ≡ false) × (q ≡ false)
 both_false true q h = cc
@@ -49,7 +45,7 @@ fit_labels fresh (node l c) h k =
 pub term_fits : (ts : List Tree) (fresh : List Sort) (t : NodeId) (f : TypeFlags) → IsIn ts t → f ≡ flags_of (tree_at ts t) → is_some f.escaping ≡ false → AllLabels (MayHave fresh) (tree_at ts t) ↔ IsClauseTerm ts fresh t
 term_fits ts fresh t f w e h = (
   (λ l. let x = labels_fit fresh (tree_at ts t) l in
-      record { within = w; names = x.0; own = x.1; closed = none_escapes (tree_at ts t) f.escaping (ap (λ g. g.escaping) e) h }),
+      record { within = w; names = x.0; own = x.1; closed = closed_by_facts (tree_at ts t) f e h }),
   λ c. fit_labels fresh (tree_at ts t) c.names c.own,
 )
 

@@ -76,7 +76,8 @@ fn is_clause_term(cx: &Cx, fresh: &[Sort], t: NodeId) -> Result<bool, AllocError
     all_labels(cx.alloc, &cx.nodes, t, &ClauseLabels { fresh })
 }
 
-fn names_fresh(fresh: &[Sort], label: Label) -> bool
+/// Whether the position that a label names, if it is one, is among the variables of these sorts, and of its sort.
+pub fn names_fresh(fresh: &[Sort], label: Label) -> bool
     ensures { IsTrue result ↔ NamesAt fresh.now (position_of label) label }
 {
     match label {
@@ -114,7 +115,8 @@ fn is_foreign_label(label: Label) -> bool
     }
 }
 
-fn is_foreign_leaf_of(leaf: Leaf) -> bool
+/// Whether a leaf stands for something else elsewhere: all do but 'static, the erased and the error region.
+pub fn is_foreign_leaf_of(leaf: Leaf) -> bool
     ensures { result ≡ is_foreign_leaf leaf }
 {
     match leaf {

@@ -5,6 +5,7 @@ mod clause_fits;
 mod clauses;
 mod delegate;
 
+pub use clause_fits::{is_foreign_leaf_of, names_fresh};
 pub use clauses::{Clause, Clauses};
 pub use delegate::{
     CandidateData, CandidateGoal, Equation, EquationKind, GoalHandler, RegionConstraint,

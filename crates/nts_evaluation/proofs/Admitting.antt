@@ -9,11 +9,11 @@ use Rattle.nts_store.specs.declared.nodes.NodeId.{NodeId}
 use Rattle.nts_store.specs.TypeFlags.{flags_of, escaping}
 use Rattle.nts_store.specs.Growth.{tree_at}
 use Rattle.nts_store.specs.Labels.{AllLabels}
-use Rattle.nts_store.proofs.Escaping.{escapes}
+use Rattle.nts_store.proofs.Escaping.{escapes, closed_by_facts}
 use Rattle.nts_table.specs.Tables.{Table}
 use Rattle.nts_unify.specs.Reading.{content_of}
 use Rattle.nts_evaluation.specs.Evaluation.{IsRootTerm}
-use Rattle.nts_delegate.proofs.Testing.{both_false, or_false, none_escapes}
+use Rattle.nts_delegate.proofs.Testing.{both_false, or_false}
 
 -- no label passes a test
 none_of : (p : Label → Bool) (t : Tree) → AllLabels (λ l. p l ≡ false) t → any_label p t ≡ false
@@ -37,7 +37,7 @@ no_label p t = (none_of p t, each_fails p t)
 pub root_term : (ts : List Tree) (u : Table) (t : NodeId) (f : TypeFlags) → f ≡ flags_of (tree_at ts t) → is_some f.escaping ≡ false → Knows (content_of ts u.entries) (tree_at ts t) ↔ IsRootTerm ts u t
 root_term ts u t f e h = (
   (λ n. record {
-    closed = none_escapes (tree_at ts t) f.escaping (ap (λ g. g.escaping) e) h;
+    closed = closed_by_facts (tree_at ts t) f e h;
     knows = n;
   }),
   λ r. r.knows,

@@ -28,7 +28,8 @@ use Rattle.nts_evaluation.specs.Evaluation.{IsAdmitted}
 use Rattle.nts_delegate.specs.Candidates.{IsAsked}
 use Rattle.nts_terms.specs.Handles.{HoldsGoal}
 use Rattle.nts_evaluation.proofs.Evaluating.{HoldsGoal-extended}
-use Rattle.nts_delegate.proofs.Testing.{or_false, none_escapes}
+use Rattle.nts_store.proofs.Escaping.{closed_by_facts}
+use Rattle.nts_delegate.proofs.Testing.{or_false}
 
 -- a binder without variables
 row_of_none : (t : Tree) → IsRow t → row_length t ≡ 0 → t ≡ empty
@@ -77,8 +78,8 @@ trait_asked ts g b r env goal args t =
     let says : tree_of_statement ts b.value ≡ node (label.Clause (clause_head.Trait r.def_id.number)) (more (tree_at ts r.args.node) empty) = ap (tree_of_statement ts) t.is_trait in
     let is : tree_at ts g.predicate.node ≡ unbound (node (label.Clause (clause_head.Trait r.def_id.number)) (more (tree_at ts r.args.node) empty)) =
     t.says ∙ (λ i. node (label.List list.Binder) (more (binder i) (more (says i) empty))) in
-    let env_tree_closed : IsClosed (tree_at ts g.param_env.node) = none_escapes (tree_at ts g.param_env.node) env.escaping (ap (λ f. f.escaping) t.env_facts) t.env_closed in
-    let args_tree_closed : IsClosed (tree_at ts r.args.node) = none_escapes (tree_at ts r.args.node) args.escaping (ap (λ f. f.escaping) t.args_facts) t.args_closed in
+    let env_tree_closed : IsClosed (tree_at ts g.param_env.node) = closed_by_facts (tree_at ts g.param_env.node) env t.env_facts t.env_closed in
+    let args_tree_closed : IsClosed (tree_at ts r.args.node) = closed_by_facts (tree_at ts r.args.node) args t.args_facts t.args_closed in
     let env_none : any_label is_canonical (tree_at ts g.param_env.node) ≡ false = sym (ap (λ f. f.has_canonical) t.env_facts) ∙ t.env_names in
     let goal_none : any_label is_canonical (tree_at ts g.predicate.node) ≡ false = sym (ap (λ f. f.has_canonical) t.goal_facts) ∙ t.goal_names in
     let h = t.holds in

@@ -38,6 +38,7 @@ use Rattle.nts_store.specs.Growth.{tree_at, IsIn, AllIn, Extends}
 use Rattle.nts_store.specs.Kept.{map-kept}
 use Rattle.nts_store.specs.Formed.{AreFormed}
 use Rattle.nts_terms.proofs.Places.{no_places}
+use Rattle.nts_table.proofs.TermTables.{known_all, holds_terms}
 use Rattle.nts_table.specs.Tables.{Table}
 use Rattle.nts_unify.specs.Lawful.{content_of-constrained}
 use Rattle.nts_unify.specs.declared.contents.Constraint.{Constraint}
@@ -83,14 +84,6 @@ each_stays : {A : Type 0} (c : Content) (P : A → Content → Type 0) (xs : Lis
 each_stays c P [] x h i = absurd i
 each_stays c P (y ∷ xs) x h i = ⊎_elim (λ e. subst (λ z. Stays c (P z)) (sym e) h.0) (λ j. each_stays c P xs x h.1 j) i
 
--- the sides of the recorded constraints are known
-known_sides : (ts : List Tree) (c : Content) (xs : List Constraint) → AreConstraints ts c xs → KnowsAll c (map (recorded_of ts) xs)
-known_sides ts c [] h = tt
-known_sides ts c (x ∷ xs) h = (h.0.left_known, h.0.right_known, known_sides ts c xs h.1)
-
-pub known_all : {ts : List Tree} {t : Table} → IsTable ts t → KnowsAll (content_of ts t.entries) (content_of ts t.entries).constraints
-known_all {ts} {t} h = known_sides ts (content_of ts t.entries) t.entries.constraints h.now.constraints
-
 -- a table in a store of terms
 sides_formed : (ts : List Tree) (c : Content) (xs : List Constraint) → AreFormed ts → AreConstraints ts c xs → (k : ℕ) (x : Recorded) → k < length (map (recorded_of ts) xs) → get_or (map (recorded_of ts) xs) k x ≡ x → proving.IsTermOf c x.left × proving.IsTermOf c x.right
 sides_formed ts c [] f h k x l e = absurd (omega arith)
@@ -100,31 +93,12 @@ sides_formed ts c (y ∷ xs) f h zero x l e =
     (record { knows = q.left_known; formed = f y.left q.left_in }, record { knows = q.right_known; formed = f y.right q.right_in })
 sides_formed ts c (y ∷ xs) f h (suc k) x l e = sides_formed ts c xs f h.1 k x (omega (arith, l)) e
 
-value_formed : (ts : List Tree) (vs : List Variable) (n : ℕ) (t : Tree) → AreFormed ts → AreHeld ts vs → map_slot (λ v. v.state) (slice_get (map (slot_of ts) vs) n) ≡ Some (known t) → IsFormed t
-value_formed ts [] n t f h e = cc
-value_formed ts (v ∷ vs) zero t f h e = state_formed ts v.state t f h.0 e
-  where
-    state_formed : (ts : List Tree) (s : State) (t : Tree) → AreFormed ts → IsHeldState ts s → Some (state_with ts s) ≡ Some (known t) → IsFormed t
-    state_formed ts state.Unset t f h e = cc
-    state_formed ts (state.Link m) t f h e = cc
-    state_formed ts (state.Known x) t f h e = let same : tree_at ts x ≡ t = cc in subst IsFormed same (f x h)
-value_formed ts (v ∷ vs) (suc n) t f h e = value_formed ts vs n t f h.1 e
-
-slot_kind : (o : Option Slot) (x : SlotState) → map_slot (λ v. v.state) o ≡ Some x → (k : VariableKind) × (map_slot (λ v. v.kind) o ≡ Some k)
-slot_kind None x e = cc
-slot_kind (Some v) x e = (v.kind, refl)
-
 pub term_table : {ts : List Tree} {t : Table} → AreFormed ts → IsTable ts t → IsTermTable (content_of ts t.entries)
 term_table {ts} {t} f h =
-    let values = h.now.proper.solvable.values in
     let sides = sides_formed ts (content_of ts t.entries) t.entries.constraints f h.now.constraints in
     record {
       sound = h.now.sound;
-      values = record {
-        fitting = λ n x k p q. (values n x k p q).fits;
-        closed = λ n x p. (let k = slot_kind (slice_get (content_of ts t.entries).slots n) (known x) p in (values n x k.0 p k.1).closed);
-        formed = λ n x p. value_formed ts t.entries.variables n x f h.now.held p;
-      };
+      values = holds_terms f h;
       constraints = record {
         left = λ x i. (sides i.0 x i.1 i.2).0;
         right = λ x i. (sides i.0 x i.1 i.2).1;

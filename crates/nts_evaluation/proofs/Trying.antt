@@ -23,6 +23,7 @@ use Rattle.nts_terms.specs.declared.handles.Goal.{Goal}
 use Rattle.nts_unify.specs.Entries.{Entries, added}
 use Rattle.nts_unify.specs.Reading.{content_of, slot_of}
 use Rattle.nts_unify.specs.Lawful.{content_of-extended, content_of-added}
+use Rattle.nts_table.proofs.TermTables.{proper_content}
 use Rattle.nts_table.specs.Tables.{Table, IsTable}
 use Rattle.nts_table.specs.Fresh.{variable_kind, with_fresh, fresh_row}
 use Rattle.nts_table.specs.Making.{new_variable}
@@ -38,10 +39,7 @@ use Rattle.nts_evaluation.specs.Instances.{instance_at}
 use Rattle.nts_evaluation.specs.Evaluation.{IsPosed}
 use Rattle.nts_evaluation.specs.Choices.{Equated, IsChoiceOf}
 use Rattle.nts_evaluation.proofs.Evaluating.{length-slots, candidate_at}
-use Rattle.nts_evaluation.proofs.Running.{known_all, equation-kept, candidate-kept}
-
-pub proper_content : {ts : List Tree} {t : Table} → IsTable ts t → IsProperContent (content_of ts t.entries)
-proper_content h = record { sound = h.now.sound; sides = known_all h }
+use Rattle.nts_evaluation.proofs.Running.{equation-kept, candidate-kept}
 
 -- new variables for a list of sorts
 kinds_are : (s : Sort) → variable_kind s ≡ kind_of_sort s

@@ -35,11 +35,12 @@ use Rattle.nts_canonical.specs.Forms.{kind_of_var, trees_of}
 use Rattle.nts_canonical.specs.Kinds.{value_leaf}
 use Rattle.nts_canonical.specs.Building.{AddsValue, IsPositionValue, IsArgOf}
 use Rattle.nts_canonical.proofs.PairLists.{holds_kept}
+use Rattle.nts_table.proofs.TermTables.{proper_content}
 use Rattle.nts_response.specs.Applied.{IsOriginal, AreGuesses, StepKeeps, content_in, IsMadeFor, GuessFits, HasSort, HaveSorts, NamesOriginal, original_named}
 use Rattle.nts_canonical.proofs.VarLists.{map-push}
 use Rattle.nts_response.specs.Replacing.{value_at}
 use Rattle.nts_response.proofs.Each.{same_views, values_kept}
-use Rattle.nts_response.proofs.Stepping.{proper_content, step_none, step_then, arg_later}
+use Rattle.nts_response.proofs.Stepping.{step_none, step_then, arg_later}
 
 -- one variable more, of which nothing is known but its sub-unification class
 record IsAdded (e f : Entries) (k : VariableKind) (u : ℕ) : Type 0 where
@@ -64,7 +65,7 @@ is_new a b t w k u x h i up n q =
       free = ap (state_with b) n.free;
       entries = ap (content_of b) n.entries ∙ content_of-added b t.entries v ∙ ap (λ z. with_slot z (slot_of b v)) (content_of-extended up h.now);
       tree = q ∙ ap (variable_tree k) (sym (length-map t.entries.variables (slot_of a)));
-      proper = proper_content b w i;
+      proper = proper_content i;
     }
 
 -- the value of a kind is what is made for it

@@ -1,17 +1,13 @@
 -- The steps of applying, one after another.
-use Rattle.std.proofs.Common.{◌≡◌, List, [], ◌∷◌, map, refl, subst, ◌∙◌}
+use Rattle.std.proofs.Common.{◌≡◌, List, refl, subst, ◌∙◌}
 use Rattle.nts_model.specs.Trees.{Tree}
-use Rattle.nts_model.specs.Contents.{Content}
-use Rattle.nts_model.specs.Worlds.{KnowsAll}
-use Rattle.nts_model.specs.Applying.{IsProperContent}
 use Rattle.nts_model.proofs.Slots.{KeepsKinds, KeepsKinds-refl, KeepsKinds-trans, Knows-kept}
 use Rattle.nts_store.specs.Growth.{tree_at, Extends}
 use Rattle.nts_store.proofs.Growing.{Extends-refl, Extends-trans}
 use Rattle.nts_terms.specs.declared.cx.Cx.{Cx}
 use Rattle.nts_terms.specs.Rest.{Grows}
 use Rattle.nts_terms.proofs.Moved.{KeepsRest-refl, KeepsRest-trans}
-use Rattle.nts_unify.specs.declared.contents.Constraint.{Constraint}
-use Rattle.nts_unify.specs.Reading.{content_of, recorded_of, AreConstraints}
+use Rattle.nts_unify.specs.Reading.{content_of}
 use Rattle.nts_unify.specs.Lawful.{content_of-extended}
 use Rattle.nts_unify.specs.Changing.{IsLater}
 use Rattle.nts_table.specs.Frames.{ChangesVariables}
@@ -71,16 +67,6 @@ step_related k = record {
   universe = k.universe;
   hidden = k.hidden;
 }
-
--- a table is proper
-known_sides : (ts : List Tree) (c : Content) (xs : List Constraint) → AreConstraints ts c xs → KnowsAll c (map (recorded_of ts) xs)
-known_sides ts c [] h = tt
-known_sides ts c (x ∷ xs) h = (h.0.left_known, h.0.right_known, known_sides ts c xs h.1)
-
-pub proper_content : (ts : List Tree) (t : Table) → IsTable ts t → IsProperContent (content_of ts t.entries)
-proper_content ts t h =
-    let l = h.now in
-    record { sound = l.sound; sides = known_sides ts (content_of ts t.entries) t.entries.constraints l.constraints }
 
 -- an argument of the table is one later
 pub arg_later : {a b : Cx} {t u : Table} {x : GenericArg} → StepKeeps a b t u → IsArgOf a.nodes t.entries x → IsArgOf b.nodes u.entries x

@@ -1,12 +1,18 @@
 -- What responses stand for.
-use Rattle.std.specs.Prelude.{List, map, All}
-use Rattle.nts_model.specs.Trees.{Tree}
+use Rattle.std.specs.Prelude.{◌≡◌, ℕ, ◌<◌, List, [], map, length, get_or, All}
+use Rattle.nts_model.specs.declared.labels.Sort.{Sort}
+use Rattle.nts_model.specs.Trees.{Tree, empty}
+use Rattle.nts_model.specs.Numbered.{position}
 use Rattle.nts_model.specs.Contents.{Content, Recorded}
 use Rattle.nts_model.specs.Resolving.{Knows}
 use Rattle.nts_model.specs.Sequents.{Premise}
 use Rattle.nts_model.specs.Responses.{Findings, row_of, Response as Form}
 use Rattle.nts_certainty.specs.declared.sources.GoalSource.{GoalSource}
+use Rattle.nts_certainty.specs.declared.certainty.Certainty.{Certainty}
+use Rattle.nts_terms.specs.declared.handles.AliasTerm.{AliasTerm}
+use Rattle.nts_terms.specs.declared.handles.GenericArg.{GenericArg}
 use Rattle.nts_terms.specs.declared.handles.Goal.{Goal}
+use Rattle.nts_terms.specs.declared.handles.Ty.{Ty}
 use Rattle.nts_terms.specs.declared.modes.VisibleForLeakCheck.{VisibleForLeakCheck}
 use Rattle.nts_store.specs.Growth.{tree_at}
 use Rattle.nts_unify.specs.Recording.{is_visible}
@@ -15,6 +21,7 @@ use Rattle.nts_delegate.specs.Offered.{source_of, hidden_of}
 use Rattle.nts_canonical.specs.declared.types.Canonical.{Canonical}
 use Rattle.nts_terms.specs.Handles.{HoldsArg, HoldsRegion, HoldsGoal}
 use Rattle.nts_canonical.specs.Forms.{kind_of_var, trees_of, IsHidden}
+use Rattle.nts_response.specs.declared.types.ExternalConstraintsData.{ExternalConstraintsData}
 use Rattle.nts_response.specs.declared.types.Response.{Response}
 
 -- a region constraint, a goal that is left open, and all that was found out, as trees
@@ -70,3 +77,20 @@ pub record HoldsResponse (ts : List Tree) (r : Response) : Type 0 where
 -- its trees are of the table
 pub record KnowsFindings (c : Content) (x : Findings) : Type 0 where
   pub trees : Knows c (row_of x)
+
+-- a response, its memory left out
+abbrev pub found_in : ExternalConstraintsData → List (RegionConstraint × VisibleForLeakCheck) × List (AliasTerm × Ty) × List (GoalSource × Goal)
+found_in x = (x.region_constraints.items, x.opaque_types.items, x.normalization_nested_goals.items)
+
+abbrev pub parts_of : Response → Certainty × List GenericArg × List (RegionConstraint × VisibleForLeakCheck) × List (AliasTerm × Ty) × List (GoalSource × Goal)
+parts_of r =
+    let x = r.external_constraints in
+    (r.certainty, r.var_values.items, x.region_constraints.items, x.opaque_types.items, x.normalization_nested_goals.items)
+
+-- no region constraints, no hidden types and no open goals
+abbrev pub FoundNothing : ExternalConstraintsData → Type 0
+FoundNothing x = (x.region_constraints.items ≡ []) × (x.opaque_types.items ≡ []) × (x.normalization_nested_goals.items ≡ [])
+
+-- each tree is the position of its own number
+abbrev pub ArePositions : List Tree → Type 0
+ArePositions ts = (i : ℕ) → i < length ts → (s : Sort) × (get_or ts i empty ≡ position s i)

@@ -1,6 +1,9 @@
+pub mod Applicable
 pub mod Applied
 pub mod Forms
 pub mod Kinds
 pub mod Opened
+pub mod OverSorts
 pub mod Recorded
+pub mod Registered
 pub mod Replacing

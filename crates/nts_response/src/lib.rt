@@ -2,18 +2,27 @@
 #![tactic(auto)]
 
 mod answer_kinds;
+mod applying;
 mod canonicalize;
 mod choosing;
+mod cloning;
 mod equating;
+mod fitting;
 mod formed;
 mod guessing;
 mod leaves;
 mod numbered;
 mod opening;
 mod recording;
+mod registering;
+mod telling;
 mod types;
 mod unconstrained;
 
+pub use applying::instantiate_and_apply_query_response;
 pub use canonicalize::canonicalize_response;
+pub use cloning::clone_response;
+pub use fitting::response_fits;
+pub use telling::{has_no_inference_or_external_constraints, is_identity};
 pub use types::{CanonicalResponse, ExternalConstraintsData, Response};
 pub use unconstrained::response_no_constraints_raw;

@@ -5,7 +5,7 @@ ghost use Rattle.nts_store.specs.Growth.{tree_at, Extends};
 ghost use Rattle.nts_terms.specs.Handles.{HoldsArg};
 ghost use Rattle.nts_terms.specs.Rest.{Grows};
 ghost use Rattle.nts_canonical.specs.Forms.{kind_of_var, trees_of};
-ghost use Rattle.nts_response.specs.Forms.{findings_at, response_at, HoldsResponse};
+ghost use Rattle.nts_response.specs.Forms.{findings_at, response_at, HoldsResponse, FoundNothing};
 
 use crate::types::{CanonicalResponse, ExternalConstraintsData, Response};
 use nts_canonical::{Canonical, CanonicalVarKind};
@@ -86,7 +86,7 @@ fn sort_of(kind: CanonicalVarKind) -> Sort
 impl ExternalConstraintsData {
     /// Whether there are neither region constraints nor hidden types nor open goals.
     pub fn is_empty(&self) -> bool
-        ensures { IsTrue result ↔ ((self.now.region_constraints.items ≡ []) × (self.now.opaque_types.items ≡ []) × (self.now.normalization_nested_goals.items ≡ [])) }
+        ensures { IsTrue result ↔ FoundNothing self.now }
     {
         self.region_constraints.is_empty()
             && self.opaque_types.is_empty()

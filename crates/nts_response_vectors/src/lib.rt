@@ -2,4 +2,8 @@
 #![tactic(auto)]
 
 #[cfg(test)]
+mod applying_tests;
+#[cfg(test)]
+mod fixture;
+#[cfg(test)]
 mod tests;

@@ -2,18 +2,19 @@
 ghost use Rattle.std.specs.Prelude.{◌≡◌};
 ghost use Rattle.nts_table.specs.Tables.{IsTable};
 
+use crate::fixture::Fixture;
 use nts_canonical::CanonicalVarKind;
-use nts_certainty::Certainty;
+use nts_certainty::{Certainty, GoalSource};
 use nts_delegate::RegionConstraint;
 use nts_model::{BoundVarIndexKind, Relation, VariableKind};
 use nts_response::{
-    CanonicalResponse, ExternalConstraintsData, Response, canonicalize_response,
-    response_no_constraints_raw,
+    CanonicalResponse, ExternalConstraintsData, Response, canonicalize_response, clone_response,
+    has_no_inference_or_external_constraints, is_identity, response_no_constraints_raw,
 };
 use nts_table::InferCtxt;
 use nts_terms::{
-    BoundRegion, BoundTy, Cx, GenericArg, PlaceholderRegion, Region, RegionKind, Ty, TyKind,
-    TypingMode, VisibleForLeakCheck,
+    BoundRegion, BoundTy, Cx, GenericArg, Goal, PlaceholderRegion, Predicate, Region, RegionKind,
+    Ty, TyKind, TypingMode, VisibleForLeakCheck,
 };
 use std::process::Abort;
 
@@ -171,6 +172,7 @@ fn what_found_nothing_out_has_its_positions_as_values(rt: HostRuntime) {
         .expect(&rt, "memory");
     let certainty = Certainty::overflow(true);
     let found = response_no_constraints_raw(&mut cx, 2, kinds, certainty).expect(&rt, "memory");
+    assert!(rt; has_no_inference_or_external_constraints(&cx, &found));
     assert!(rt; found.value.external_constraints.is_empty());
     assert_eq!(rt; found.max_universe, 2);
     assert_eq!(rt; found.var_kinds.len(), 3);
@@ -183,4 +185,41 @@ fn what_found_nothing_out_has_its_positions_as_values(rt: HostRuntime) {
     let third = RegionKind::ReBound(BoundVarIndexKind::Canonical, BoundRegion { var: 2 });
     let third: GenericArg = cx.mk_region(third).expect(&rt, "memory").into();
     assert!(rt; *values.get(2).expect(&rt, "a value") == third);
+}
+
+#[test]
+fn values_in_another_order_are_no_identity(rt: HostRuntime) {
+    let mut fixture = Fixture::new(&rt, rt.alloc());
+    let (first, second) = (fixture.ty_at(&rt, 0), fixture.ty_at(&rt, 1));
+    assert!(rt; fixture.cx.holds(first));
+    assert!(rt; fixture.cx.holds(second));
+    assert!(rt; is_identity(&fixture.cx, &[first, second]));
+    assert!(rt; !is_identity(&fixture.cx, &[second, first]));
+    assert!(rt; !is_identity(&fixture.cx, &[first, first]));
+}
+
+#[test]
+fn a_clone_has_what_its_source_has(rt: HostRuntime) {
+    let mut fixture = Fixture::new(&rt, rt.alloc());
+    let first = fixture.ty_at(&rt, 0);
+    let kind = CanonicalVarKind::Ty { ui: 3, sub_root: 0 };
+    let mut response = fixture.response(&rt, 5, &[kind], &[first, first]);
+    let goal = Goal {
+        param_env: fixture.env,
+        predicate: Predicate { node: first.node },
+    };
+    let goals = &mut response
+        .value
+        .external_constraints
+        .normalization_nested_goals;
+    goals.push((GoalSource::Misc, goal)).expect(&rt, "memory");
+    let copy = clone_response(&response).expect(&rt, "memory");
+    assert_eq!(rt; copy.max_universe, 5);
+    assert_eq!(rt; copy.var_kinds.len(), 1);
+    assert_eq!(rt; copy.value.var_values.len(), 2);
+    assert!(rt; matches!(copy.value.certainty, Certainty::Yes));
+    let found = &copy.value.external_constraints;
+    assert!(rt; found.region_constraints.is_empty());
+    assert!(rt; found.opaque_types.is_empty());
+    assert_eq!(rt; found.normalization_nested_goals.len(), 1);
 }

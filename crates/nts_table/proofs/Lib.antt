@@ -9,3 +9,4 @@ pub mod LookingUp
 pub mod Telling
 pub mod Filling
 pub mod GoingBack
+pub mod TermTables

@@ -1,5 +1,5 @@
 //! What all handles share, and the tests of terms.
-ghost use Rattle.std.specs.Prelude.{◌≡◌, ◌↔◌, ◌≢◌, true, Some, IsTrue};
+ghost use Rattle.std.specs.Prelude.{◌≡◌, ◌↔◌, ◌≢◌, true, false, Some, IsTrue};
 ghost use Rattle.nts_model.specs.Trees.{Place, is, any_term, any_argument, arguments, environment, bound_predicate, sort_list, FitsPlace, a_type, a_region, a_const, kind_of_label, any_label, is_infer, is_canonical, IsClosed};
 ghost use Rattle.nts_store.specs.declared.nodes.NodeId.{NodeId};
 ghost use Rattle.nts_store.specs.Growth.{tree_at, IsIn};
@@ -221,10 +221,11 @@ impl Cx {
     }
 
     /// Whether some bound variable of a term has its binder outside of the term.
-    #[tactic(auto, using(nts_store::proofs::Escaping::escapes))]
+    #[tactic(auto, using(nts_store::proofs::Escaping::closed_by_facts, nts_store::proofs::Escaping::open_by_facts))]
     pub fn has_escaping_bound_vars<T: Stored>(&self, x: T) -> bool
         requires { IsIn self.now.nodes (T.id x) }
-        ensures { IsTrue result ↔ ¬ IsClosed (tree_at self.now.nodes (T.id x)) }
+        ensures yes { result ≡ true → ¬ IsClosed (tree_at self.now.nodes (T.id x)) }
+        ensures no { result ≡ false → IsClosed (tree_at self.now.nodes (T.id x)) }
     {
         self.nodes.flags(x.node()).escaping.is_some()
     }

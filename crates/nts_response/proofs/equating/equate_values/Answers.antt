@@ -2,7 +2,8 @@ use Rattle.std.proofs.Common.{arith, rules, ◌≡◌, Err}
 use Rattle.nts_store.specs.declared.fault.EvalError.TheVariants as EvalError
 use Rattle.nts_store.specs.Kept.{AllIn-kept}
 use Rattle.nts_unify.specs.Reading.{content_of}
-use Rattle.nts_response.proofs.Stepping.{step_then, arg_later, proper_content}
+use Rattle.nts_table.proofs.TermTables.{proper_content}
+use Rattle.nts_response.proofs.Stepping.{step_then, arg_later}
 use Rattle.nts_response.proofs.EqualLemmas.{equal_all, equal_next, equal_fault, fillable_later}
 use Rattle.nts_response.proofs.equating.equate_values.Goals as goal
 
@@ -24,7 +25,7 @@ loop-i-preserved c =
     let e = c.in_ok-equate_one.ensures in
     let keeps = step_then c.loop-i.invariant.keeps e.keeps in
     record {
-      equal = equal_next c.args.cx.now c.loop-i.cx c.args.table.now c.loop-i.table c.args.chosen.now c.args.values.now c.args.originals.now c.loop-i.i (record { node = record { number = 0 } }) (record { node = record { number = 0 } }) (content_of c.equate_one.new.cx.nodes c.equate_one.new.table.entries) c.loop-i-test.true c.requires.long c.loop-i.invariant.keeps c.requires.chosen c.requires.values c.requires.originals c.loop-i.invariant.equal e.related (proper_content c.equate_one.new.cx.nodes c.equate_one.new.table keeps.table);
+      equal = equal_next c.args.cx.now c.loop-i.cx c.args.table.now c.loop-i.table c.args.chosen.now c.args.values.now c.args.originals.now c.loop-i.i (record { node = record { number = 0 } }) (record { node = record { number = 0 } }) (content_of c.equate_one.new.cx.nodes c.equate_one.new.table.entries) c.loop-i-test.true c.requires.long c.loop-i.invariant.keeps c.requires.chosen c.requires.values c.requires.originals c.loop-i.invariant.equal e.related (proper_content keeps.table);
       keeps = keeps;
     }
 

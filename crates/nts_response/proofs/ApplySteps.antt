@@ -1,0 +1,166 @@
+-- A response applied to a table: what was chosen, and what follows once it was put into the table.
+use Rattle.std.proofs.Common.{◌≡◌, ℕ, suc, ◌+◌, List, [], ◌∷◌, map, get_or, sym, subst, arith}
+use Rattle.std.specs.Prelude.{All, Bool}
+use Rattle.nts_model.specs.Trees.{Tree, IsClosed}
+use Rattle.nts_model.specs.Contents.{in_universe}
+use Rattle.nts_model.specs.Resolving.{Knows}
+use Rattle.nts_model.specs.Applying.{IsProperContent, ChoosesAll, AreKnownTrees}
+use Rattle.nts_model.specs.Responses.{Findings, RefusesResponse}
+use Rattle.nts_model.proofs.Answering.{AllTrees}
+use Rattle.nts_model.proofs.Applied.{FailsToEqual, applied, refused}
+use Rattle.nts_model.proofs.Slots.{Knows-kept}
+use Rattle.nts_store.specs.Growth.{tree_at, AllIn, Extends}
+use Rattle.nts_store.specs.Formed.{AreFormed}
+use Rattle.nts_folding.specs.FoldLaws.{list_holds}
+use Rattle.nts_terms.specs.declared.cx.Cx.{Cx}
+use Rattle.nts_terms.specs.declared.handles.GenericArg.{GenericArg}
+use Rattle.nts_terms.specs.declared.handles.Goal.{Goal}
+use Rattle.nts_terms.specs.Handles.{HoldsArg}
+use Rattle.nts_certainty.specs.declared.sources.GoalSource.{GoalSource}
+use Rattle.nts_unify.specs.Entries.{Entries, moved}
+use Rattle.nts_unify.specs.Reading.{content_of}
+use Rattle.nts_unify.specs.Lawful.{IsLawful-moved}
+use Rattle.nts_table.specs.Tables.{Table, IsTable}
+use Rattle.nts_table.proofs.TermTables.{proper_content, holds_terms}
+use Rattle.nts_delegate.specs.Offered.{hidden_of}
+use Rattle.nts_canonical.specs.declared.types.Canonical.{Canonical}
+use Rattle.nts_canonical.specs.declared.types.CanonicalVarKind.{CanonicalVarKind}
+use Rattle.nts_canonical.specs.Forms.{kind_of_var, trees_of, IsHidden}
+use Rattle.nts_canonical.specs.Building.{IsArgOf}
+use Rattle.nts_response.specs.declared.types.Response.{Response}
+use Rattle.nts_response.specs.Forms.{findings_at, response_at, HoldsResponse, HoldsConstraint, HoldsOpen, recorded_at, premise_at}
+use Rattle.nts_response.specs.Replacing.{value_at}
+use Rattle.nts_response.specs.Applied.{StepKeeps, content_in, HaveSorts}
+use Rattle.nts_response.specs.Applicable.{IsKindFor, IsApplicable, IsApplied, IsPut}
+use Rattle.nts_response.specs.Registered.{TakesAll}
+use Rattle.nts_response.proofs.Each.{same_views, values_kept, constraints_kept, hidden_kept, goals_kept}
+use Rattle.nts_response.proofs.Stepping.{arg_later}
+use Rattle.nts_response.proofs.MadeValues.{known_originals}
+use Rattle.nts_response.proofs.Chosen.{IsClosedTerm, NameOriginals, regions_chosen}
+use Rattle.nts_response.proofs.Readying.{CanPut, can_put, values_over, sides_over}
+
+-- a response in a store that has grown
+pub response_kept : (a b : List Tree) (r : Response) → Extends a b → HoldsResponse a r → HoldsResponse b r
+response_kept a b r e h =
+    let v = values_kept in
+    let c = constraints_kept in
+    let p = hidden_kept in
+    let g = goals_kept in
+    record {
+      values = list_holds (HoldsArg a) (HoldsArg b) (λ x q. v.held a b x q e) r.var_values.items h.values;
+      constraints = list_holds (HoldsConstraint a) (HoldsConstraint b) (λ x q. c.held a b x q e) r.external_constraints.region_constraints.items h.constraints;
+      hidden = list_holds (IsHidden a) (IsHidden b) (λ x q. p.held a b x q e) r.external_constraints.opaque_types.items h.hidden;
+      open_goals = list_holds (HoldsOpen a) (HoldsOpen b) (λ x q. g.held a b x q e) r.external_constraints.normalization_nested_goals.items h.open_goals;
+    }
+
+-- values were chosen for the positions of the response r to the originals os
+pub record Chose (a b : List Tree) (t u : Table) (os : List GenericArg) (r : Canonical Response) (chosen : List GenericArg) : Type 0 where
+  pub chooses : ChoosesAll (content_of a t.entries) (trees_of a r.value.var_values.items) (trees_of a os) 0 (map kind_of_var r.var_kinds.items) (trees_of b chosen) (in_universe (content_of a t.entries) (t.entries.universe + r.max_universe)) (content_of b u.entries)
+  pub args : All (IsArgOf b u.entries) chosen
+  pub sorts : HaveSorts (map kind_of_var r.var_kinds.items) (trees_of b chosen)
+  pub extends : Extends a b
+
+pub chose : (a b : List Tree) (t w u : Table) (os : List GenericArg) (r : Canonical Response) (chosen : List GenericArg) (p : ℕ) → p ≡ t.entries.universe → w.entries ≡ moved t.entries (t.entries.universe + r.max_universe)
+    → ChoosesAll (content_in a w.entries p) (trees_of a r.value.var_values.items) (trees_of a os) 0 (map kind_of_var r.var_kinds.items) (trees_of b chosen) (content_of a w.entries) (content_of b u.entries)
+    → All (IsArgOf b u.entries) chosen → HaveSorts (map kind_of_var r.var_kinds.items) (trees_of b chosen) → Extends a b → Chose a b t u os r chosen
+chose a b t w u os r chosen p q e h args sorts up =
+    let vs = trees_of a r.value.var_values.items in
+    let ks = map kind_of_var r.var_kinds.items in
+    record {
+      chooses = subst (λ (z : Entries). ChoosesAll (content_in a z t.entries.universe) vs (trees_of a os) 0 ks (trees_of b chosen) (content_of a z) (content_of b u.entries)) e
+          (subst (λ z. ChoosesAll (content_in a w.entries z) vs (trees_of a os) 0 ks (trees_of b chosen) (content_of a w.entries) (content_of b u.entries)) q h);
+      args = args;
+      sorts = sorts;
+      extends = up;
+    }
+
+-- the originals are arguments of the table later, and so are their nodes of the store
+pub args_later : (a b : Cx) (t w u : Table) (os : List GenericArg) (m : ℕ) → w.entries ≡ moved t.entries (t.entries.universe + m) → StepKeeps a b w u → All (IsArgOf a.nodes t.entries) os → All (IsArgOf b.nodes u.entries) os
+args_later a b t w u os m e s h = λ k d l.
+    (let y = h k d l in
+    let known : Knows (content_of a.nodes (moved t.entries (t.entries.universe + m))) (tree_at a.nodes (get_or os k d).node) =
+    Knows-kept (content_of a.nodes t.entries) (in_universe (content_of a.nodes t.entries) (t.entries.universe + m)) (tree_at a.nodes (get_or os k d).node) (record { grows = omega arith; kinds = λ n j q. q }) y.known in
+    arg_later s (record { holds = y.holds; known = subst (λ (z : Entries). Knows (content_of a.nodes z) (tree_at a.nodes (get_or os k d).node)) (sym e) known }))
+
+pub nodes_in : (ts : List Tree) (e : Entries) (xs : List GenericArg) → All (IsArgOf ts e) xs → AllIn ts (map (λ x. x.node) xs)
+nodes_in ts e [] h = tt
+nodes_in ts e (x ∷ xs) h = ((let y = h 0 x (omega arith) in let held = y.holds in held.within), nodes_in ts e xs (λ k d l. h (suc k) d (omega (arith, l))))
+
+-- the originals as trees
+originals_known : (ts : List Tree) (e : Entries) (os : List GenericArg) → All (IsArgOf ts e) os → AreKnownTrees (content_of ts e) (trees_of ts os)
+originals_known ts e [] h = tt
+originals_known ts e (x ∷ xs) h = ((let y = h 0 x (omega arith) in y.known), originals_known ts e xs (λ k d l. h (suc k) d (omega (arith, l))))
+
+originals_closed : (ts : List Tree) (e : Entries) (os : List GenericArg) → AreFormed ts → All (IsArgOf ts e) os → All (λ o. IsClosed (tree_at ts o.node)) os → AllTrees (IsClosedTerm (content_of ts e)) (trees_of ts os)
+originals_closed ts e [] f h c = tt
+originals_closed ts e (x ∷ xs) f h c =
+    let y = h 0 x (omega arith) in
+    let held = y.holds in (
+      record { knows = y.known; formed = f x.node held.within; closed = c 0 x (omega arith) },
+      originals_closed ts e xs f (λ k d l. h (suc k) d (omega (arith, l))) (λ k d l. c (suc k) d (omega (arith, l))),
+    )
+
+name_originals : (m : ℕ) (os : List Tree) (ks : List CanonicalVarKind) → All (λ k. IsKindFor m os (kind_of_var k)) ks → NameOriginals os (map kind_of_var ks)
+name_originals m os [] h = tt
+name_originals m os (k ∷ ks) h = ((let y = h 0 k (omega arith) in y.original), name_originals m os ks (λ j d l. h (suc j) d (omega (arith, l))))
+
+module _ (a b : List Tree) (t u : Table) (os : List GenericArg) (r : Canonical Response) (chosen : List GenericArg) (formed : AreFormed a) (table : IsTable a t)
+    (args : All (IsArgOf a t.entries) os) (closed : All (λ o. IsClosed (tree_at a o.node)) os) (fits : IsApplicable a (trees_of a os) r) (chosen_so : Chose a b t u os r chosen) where
+  -- what was chosen can be put in
+  pub chosen_ready : CanPut a b (content_of b u.entries) (trees_of b chosen) r
+  chosen_ready =
+      let h = fits.holds in
+      can_put a b (content_of b u.entries) (trees_of a os) (trees_of b chosen) r formed chosen_so.extends fits chosen_so.sorts
+      (regions_chosen (content_of a t.entries) (trees_of a r.value.var_values.items) (trees_of a os) (originals_closed a t.entries os formed args closed) 0 (map kind_of_var r.var_kinds.items) (trees_of b chosen)
+      (in_universe (content_of a t.entries) (t.entries.universe + r.max_universe)) (content_of b u.entries) (name_originals r.max_universe (trees_of a os) r.var_kinds.items fits.kinds) chosen_so.chooses)
+      (λ j. known_originals b u.entries (content_of b u.entries) chosen j (λ z k. k) chosen_so.args)
+      (response_kept a b r.value chosen_so.extends h)
+
+  -- the content with its new universes
+  moved_proper : IsProperContent (in_universe (content_of a t.entries) (t.entries.universe + r.max_universe))
+  moved_proper = proper_content {ts = a} {t = record t { entries = moved t.entries (t.entries.universe + r.max_universe) }} (record { now = IsLawful-moved a t.entries (t.entries.universe + r.max_universe) (omega arith) table.now; saved = table.saved })
+
+  -- what the response found, and the originals, in the store after choosing
+  found_same : findings_at b r.value ≡ findings_at a r.value
+  found_same =
+      let h = fits.holds in
+      let x = r.value.external_constraints in
+      cc (
+        same_views HoldsArg value_at values_kept a b r.value.var_values.items h.values chosen_so.extends,
+        same_views HoldsConstraint recorded_at constraints_kept a b x.region_constraints.items h.constraints chosen_so.extends,
+        same_views IsHidden hidden_of hidden_kept a b x.opaque_types.items h.hidden chosen_so.extends,
+        same_views HoldsOpen premise_at goals_kept a b x.normalization_nested_goals.items h.open_goals chosen_so.extends,
+      )
+
+  originals_same : trees_of b os ≡ trees_of a os
+  originals_same = same_views HoldsArg value_at values_kept a b os (λ k d l. (let y = args k d l in y.holds)) chosen_so.extends
+
+  -- it was refused
+  pub refuses : FailsToEqual (trees_of b chosen) (trees_of b r.value.var_values.items) (trees_of b os) (content_of b u.entries) → RefusesResponse (content_of a t.entries) (trees_of a os) (response_at a r)
+  refuses fails =
+      let h = fits.holds in
+      let k = chosen_ready in
+      refused (content_of a t.entries) (content_of b u.entries) (trees_of a os) (trees_of b chosen) (response_at a r) (proper_content table) moved_proper (originals_known a t.entries os args)
+      (values_over a _ r.value.var_values.items formed h.values fits.values) chosen_so.chooses k.values
+      (subst (λ z. FailsToEqual (trees_of b chosen) (trees_of a r.value.var_values.items) z (content_of b u.entries)) originals_same
+      (subst (λ (z : Findings). FailsToEqual (trees_of b chosen) z.values (trees_of b os) (content_of b u.entries)) found_same fails))
+
+  -- it was put into the table
+  pub is_applied : (d : List Tree) (v : Table) (visible : Bool) (goals : List (GoalSource × Goal)) → AreFormed d → IsTable d v → u.entries.hidden ≡ t.entries.hidden
+      → IsPut b d u.entries v.entries (trees_of b os) (trees_of b chosen) (findings_at b r.value) visible goals → IsApplied a d t.entries v.entries (trees_of a os) (response_at a r) visible goals
+  is_applied d v visible goals formed_later table_later hidden put_there =
+      let h = fits.holds in
+      let k = chosen_ready in
+      let x = r.value.external_constraints in
+      let put : IsPut b d u.entries v.entries (trees_of a os) (trees_of b chosen) (findings_at a r.value) visible goals =
+      subst (λ z. IsPut b d u.entries v.entries z (trees_of b chosen) (findings_at a r.value) visible goals) originals_same
+      (subst (λ z. IsPut b d u.entries v.entries (trees_of b os) (trees_of b chosen) z visible goals) found_same put_there) in
+      record {
+        applies = applied (content_of a t.entries) (content_of b u.entries) put.equal (content_of d v.entries) (trees_of a os) (trees_of b chosen) (response_at a r) (proper_content table) moved_proper (originals_known a t.entries os args)
+            (values_over a _ r.value.var_values.items formed h.values fits.values) (sides_over a _ x.region_constraints.items formed h.constraints fits.constraints) chosen_so.chooses k.values put.makes k.sides put.records (holds_terms formed_later table_later);
+        hidden_types = put.hidden_types;
+        hidden = put.hidden;
+        registers = subst (λ z. TakesAll d (content_of d v.entries) z put.hidden_types v.entries.hidden) hidden put.registers;
+        open_goals = put.open_goals;
+        shows = record { first = content_of b u.entries; equal = put.equal; chooses = chosen_so.chooses; makes = put.makes; seen = put.seen };
+      }
