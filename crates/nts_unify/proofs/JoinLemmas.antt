@@ -1,6 +1,6 @@
 -- Two variables without values made one.
 use Rattle.nts_unify.proofs.Changes.{some_inj}
-use Rattle.std.proofs.Common.{◌≡◌, ◌≢◌, ⊎_elim, ℕ, ◌+◌, ◌<◌, ◌≤◌, min, max, List, Some, refl, sym, ap, ◌∙◌, arith, length}
+use Rattle.std.proofs.Common.{◌≡◌, ◌≢◌, ⊎_elim, ℕ, ◌+◌, ◌<◌, ◌≤◌, min, max, List, Some, refl, sym, ap, ◌∙◌, arith, length, map}
 use Rattle.std.specs.Prelude.{slice_get, slice_set}
 use Rattle.std.proofs.lemmas.Bool.{cases_lt}
 use Rattle.nts_model.specs.declared.labels.VariableKind.{VariableKind}
@@ -16,7 +16,7 @@ use Rattle.nts_unify.specs.declared.contents.State.{State}
 use Rattle.nts_unify.specs.declared.contents.State.TheVariants.{Unset, Link, Known}
 use Rattle.nts_unify.specs.declared.contents.Variable.{Variable}
 use Rattle.nts_unify.specs.Entries.{Entries, with_variable, bound}
-use Rattle.nts_unify.specs.Reading.{state_with, slot_of, content_of, IsLawful}
+use Rattle.nts_unify.specs.Reading.{state_with, slot_of, recorded_of, content_of, IsLawful}
 use Rattle.nts_unify.specs.Roots.{SubLinked, SubRootsJoin}
 use Rattle.nts_unify.specs.Changing.{unset_count, unset_of, one_unset, IsLater, Keeps, AddsVisible, nothing_more}
 use Rattle.nts_unify.specs.Unchanged.{HasUnset}
@@ -31,6 +31,8 @@ use Rattle.nts_unify.proofs.Changes.{proper_lowered, proper_sub_linked, slot_at,
 use Rattle.nts_unify.proofs.Keeping.{IsLater-trans, Keeps-trans, Keeps-same, unset-set, unset_of-infer}
 use Rattle.nts_unify.proofs.SubJoins.{sub_kept, sub_bound, links_sub_roots, joined_subs}
 use Rattle.nts_model.specs.SubUnifying.{JoinsSubRoots}
+use Rattle.nts_model.specs.Passing.{BringsNoLabels}
+use Rattle.nts_model.proofs.Bringing.{brings-linked}
 use Rattle.nts_model.proofs.SubUnified.{JoinsSubRoots-same}
 
 -- a change of universes and sub-unification alone
@@ -176,6 +178,7 @@ record Joined (ts : List Tree) (e f : Entries) (low high : ℕ) : Type 0 where
 record RegionsJoined (ts : List Tree) (e f : Entries) (low high : ℕ) : Type 0 where
   lawful : IsLawful ts f
   keeps : Keeps (content_of ts e) (content_of ts f)
+  others : (n : ℕ) → (n ≡ high → ⊥) → state_of (content_of ts f) n ≡ state_of (content_of ts e) n
   leads : LeadsTo (content_of ts e) (content_of ts f) high low
 
 module _ (ts : List Tree) (e : Entries) (low high : ℕ) (k : VariableKind) (v : Variable) (h : IsLawful ts e) (at : slice_get e.variables high ≡ Some v) (fl : FreeSlot (content_of ts e) low k) (fh : FreeSlot (content_of ts e) high k) (l : low < high) (names : CanName v.universe (universe_of (content_of ts e) low)) where
@@ -259,6 +262,7 @@ module _ (ts : List Tree) (e : Entries) (low high : ℕ) (k : VariableKind) (v :
           trees = λ t q. resolved-region_link before high w low h.sound can is_region t;
           unset_kept = omega (arith, count, none (state_with ts v.state), none (link low));
         });
+        others = λ n d. ap (λ (z : Content). state_of z n) is ∙ state_of-set_other before high w can.binds n d;
         leads = rw is (leads_to_region before high w low can refl is_region h.sound);
       }
 
@@ -307,7 +311,9 @@ joins ts e m d f x y u low high root linked can h is_low is_high subs at_low at_
     let k1 : LeadsTo (content_of ts d) (content_of ts f) high low = rw is_bound j.leads in
     let one : IsOneClass (content_of ts e) (content_of ts f) low high =
     one_class (content_of ts e) (content_of ts m) (content_of ts d) (content_of ts f) low high u root.universe linked.universe h.sound first.lawful.sound both.lawful.sound m1 l1 k1 other (sym (m1.universes low) ∙ universe_of-entry ts m low root at_low) (sym (m1.universes high) ∙ universe_of-entry ts m high linked at_high) is_u in
-    record { lawful = rw is_bound j.lawful; joined = rw (is_low, is_high) at joined; one = rw (is_low, is_high) at one }
+    let constraints : f.constraints ≡ e.constraints = ap (λ (z : Entries). z.constraints) is_bound ∙ ap (λ (z : Entries). z.constraints) is_lowered ∙ subs_constraints subs in
+    let brings : BringsNoLabels (content_of ts e) (content_of ts f) = brings-linked (content_of ts e) (content_of ts f) low high to_low rest (ap (map (recorded_of ts)) constraints) in
+    record { lawful = rw is_bound j.lawful; joined = rw (is_low, is_high) at joined; brings = brings; one = rw (is_low, is_high) at one }
 
 pub regions_join : (ts : List Tree) (e d f : Entries) (x y u low high : ℕ) (root linked : Variable) → CanJoinRegions e x y → IsLawful ts e → low ≡ min x y → high ≡ max x y → slice_get e.variables low ≡ Some root → slice_get e.variables high ≡ Some linked → u ≡ min root.universe linked.universe → d ≡ with_variable e low (record root { universe = u }) → f ≡ with_variable d high (record linked { state = Link low }) → RegionsJoin ts e f x y
 regions_join ts e d f x y u low high root linked can h is_low is_high at_low at_high is_u is_lowered is_linked =
@@ -331,4 +337,8 @@ regions_join ts e d f x y u low high root linked can h is_low is_high at_low at_
     one_class (content_of ts e) (content_of ts e) (content_of ts d) (content_of ts f) low high u root.universe linked.universe h.sound h.sound both.lawful.sound (Marked-refl (content_of ts e) h.sound) l1 k1 other (universe_of-entry ts e low root at_low) (universe_of-entry ts e high linked at_high) is_u in
     let lawful : IsLawful ts f = rw is_linked j.lawful in
     let keeps : Keeps (content_of ts e) (content_of ts f) = rw is_linked (Keeps-trans (Keeps-same both.same (rw is_lowered (sub_kept ts e low root (record root { universe = u }) at_low refl)) (rw is_lowered nothing_more) both.unset_kept) j.keeps) in
-    record { lawful = lawful; keeps = keeps; one = rw (is_low, is_high) at one }
+    let others : (n : ℕ) → (n ≡ high → ⊥) → state_of (content_of ts f) n ≡ state_of (content_of ts d) n = rw is_linked j.others in
+    let constraints : f.constraints ≡ e.constraints = ap (λ (z : Entries). z.constraints) is_linked ∙ ap (λ (z : Entries). z.constraints) is_lowered in
+    let brings : BringsNoLabels (content_of ts e) (content_of ts f) =
+    brings-linked (content_of ts e) (content_of ts f) low high k1.linked (λ n q. others n q ∙ both.same.states n) (ap (map (recorded_of ts)) constraints) in
+    record { lawful = lawful; keeps = keeps; brings = brings; one = rw (is_low, is_high) at one }

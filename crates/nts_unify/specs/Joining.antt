@@ -7,6 +7,7 @@ use Rattle.nts_model.specs.Contents.{Content, link, state_of, universe_of}
 use Rattle.nts_model.specs.Resolving.{Lacks, resolved}
 use Rattle.nts_model.specs.Holding.{Continues}
 use Rattle.nts_model.specs.Equations.{Narrows}
+use Rattle.nts_model.specs.Passing.{BringsNoLabels}
 use Rattle.nts_unify.specs.Entries.{Entries}
 use Rattle.nts_unify.specs.Reading.{content_of, IsLawful, LinksDescend}
 use Rattle.nts_unify.specs.Changing.{IsLater, Keeps, unset_count}
@@ -51,11 +52,13 @@ pub record IsJoined (c d : Content) (low high : ℕ) : Type 0 where
 pub record Joins (ts : List Tree) (e f : Entries) (x y : ℕ) : Type 0 where
   pub lawful : IsLawful ts f
   pub joined : IsJoined (content_of ts e) (content_of ts f) (min x y) (max x y)
+  pub brings : BringsNoLabels (content_of ts e) (content_of ts f)
   pub one : IsOneClass (content_of ts e) (content_of ts f) (min x y) (max x y)
 
 pub record RegionsJoin (ts : List Tree) (e f : Entries) (x y : ℕ) : Type 0 where
   pub lawful : IsLawful ts f
   pub keeps : Keeps (content_of ts e) (content_of ts f)
+  pub brings : BringsNoLabels (content_of ts e) (content_of ts f)
   pub one : IsOneClass (content_of ts e) (content_of ts f) (min x y) (max x y)
 
 -- a variable of the first kind may have one of the second kind as its value
