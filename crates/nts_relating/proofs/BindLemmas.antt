@@ -19,6 +19,7 @@ use Rattle.nts_model.proofs.Classes.{resolved-known_variable}
 use Rattle.nts_model.proofs.Instances.{inst-agrees}
 use Rattle.nts_model.proofs.Solving.{Solves-known, Solves-from_known, IsNameable-set}
 use Rattle.nts_model.proofs.Held.{Continues-known, Continues-trans}
+use Rattle.nts_model.proofs.Bringing.{brings-known}
 use Rattle.nts_model.proofs.Alike.{AreAlike-continues, AreAlike-for}
 use Rattle.nts_unify.proofs.Leading.{universe_of-entry}
 use Rattle.nts_relating.proofs.Naming.{lawful_sides, kind_read}
@@ -65,6 +66,7 @@ bind_value ts us e f g x t v w z before_lawful can_bind at knows_term h within f
     let there : kind_at d x ≡ Some k = gen.keeps.later.kinds x k free.kind in
     let new : Variable = record z { state = Known v } in
     let slot = slot_at us f x z now in
+    let there_now : x < length d.slots = slice_get_below d.slots x (slot_of us z) slot in
     let is_unset : state_with us z.state ≡ unset = some_inj _ _ (sym (state_of-entry us f x z now) ∙ state) in
     let same : z.kind ≡ k = some_inj _ _ (sym (kind_at-entry us f x z now) ∙ there) in
     let first : w.kind ≡ k = some_inj _ _ (sym (kind_at-entry ts e x w at) ∙ free.kind) in
@@ -115,6 +117,7 @@ bind_value ts us e f g x t v w z before_lawful can_bind at knows_term h within f
         fewer = fewer;
         continues = all;
         alike = λ j has. AreAlike-for after (tree_at us v) (tree_at ts t) (variable_tree j x) (tree_at ts t) (one j has) refl alike;
+        brings = record { labels = λ P f p i j. let made = gen.labels P f p i in (brings-known d x (slot_of us new) (tree_at us v) there_now refl).labels P f made.0 made.1 tt };
         sound = λ y a.
             let b = Solves-from_known d x (slot_of us new) (tree_at us v) can refl y a in
             let p = gen.sound y b.0 in

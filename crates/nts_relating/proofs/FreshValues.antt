@@ -12,6 +12,7 @@ use Rattle.nts_model.specs.Trees.{Tree, empty, more, node, of_sort, kind_of, kin
 use Rattle.nts_model.specs.Contents.{Content, Slot, unset, link, state_of, universe_of, kind_at, with_slot}
 use Rattle.nts_model.specs.Resolving.{variable_of, variable_tree, infer_of, IsInfer, Knows, KnowsVariable, IsSound, Lacks, LacksAt, resolved, rooted, variable_rank}
 use Rattle.nts_model.specs.Placeholders.{CanName}
+use Rattle.nts_model.specs.Passing.{BringsNoLabels}
 use Rattle.nts_model.specs.Levels.{NamesAll, term_level}
 use Rattle.nts_model.specs.Regions.{RegionName, IsRegion, name_of_label}
 use Rattle.nts_model.specs.Worlds.{World, inst, IsValue, Solves, KnowsAll, with_tree, IsNameable}
@@ -23,6 +24,7 @@ use Rattle.nts_model.proofs.Fitting.{IsValue-inst}
 use Rattle.nts_model.proofs.Solving.{Solves-from_with_slot, Solves-with_slot, IsNameable-with_slot, IsNameable-agrees}
 use Rattle.nts_model.proofs.Held.{AreOne-continues, Continues-trans, Continues-with_slot}
 use Rattle.nts_model.proofs.Alike.{AreAlike-one}
+use Rattle.nts_model.proofs.Bringing.{brings-with_slot}
 use Rattle.nts_model.proofs.Open.{Knows-resolved}
 use Rattle.nts_model.proofs.Resolved.{resolved-variable_unset, resolved-variable_link, IsVariable}
 use Rattle.nts_model.proofs.Sound.{resolved-with_slot, state_of-with_slot_old, state_of-with_slot_new, IsSound-with_slot}
@@ -72,6 +74,7 @@ pub record IsAdded (c d : Content) (v : Slot) : Type 0 where
   pub continues : Continues c d
   pub universe : universe_of d (length c.slots) ≡ Some v.universe
   pub universes : (n : ℕ) → n < length c.slots → universe_of d n ≡ universe_of c n
+  pub brings : BringsNoLabels c d
   pub back : (w : World) → Solves d w → Solves c w
   pub grow : (w : World) (t : Tree) → Solves c w → NamesAll term_level v.universe t → IsValue v.kind t → Solves d (with_tree w (length c.slots) t)
   pub grow_names : (f : Label → Option ℕ) (w : World) (t : Tree) → IsNameable f c w → NamesAll f v.universe t → IsNameable f d (with_tree w (length c.slots) t)
@@ -89,6 +92,7 @@ slot_added c v s sides free alone =
       continues = Continues-with_slot c v free s;
       universe = field-with_slot_new (λ x. x.universe) c v;
       universes = λ n h. field-with_slot_old (λ x. x.universe) c v n (λ e. omega (arith, e, h));
+      brings = brings-with_slot c v free;
       back = λ w z. Solves-from_with_slot c v free w z;
       grow = λ w t z n k. Solves-with_slot c v free s sides w t z n k;
       grow_names = λ f w t k n.
@@ -98,8 +102,8 @@ slot_added c v s sides free alone =
     }
 
 -- the new variable is made one with an old one
-pub gen_fresh : (c d e : Content) (x u b y low high : ℕ) (v : Slot) (t : Tree) → IsSound c → Knows c t → IsUnset c y v.kind → v.state ≡ unset → v.universe ≡ u → x < length c.slots → IsInfer t → variable_rank (variable_tree v.kind y) ≤ variable_rank t → IsLike (variable_tree v.kind y) t → (y ≡ x → ⊥) → resolved c t ≡ resolved c (variable_tree v.kind y) → ((w : World) → Solves c w → inst w t ≡ w.tree y) → IsAdded c d v → low ≡ min y (length c.slots) → high ≡ max y (length c.slots) → IsJoined d e low high → IsOneClass d e low high → IsSound e → Generalized c e x u b t (variable_tree v.kind (length c.slots))
-gen_fresh c d e x u b y low high v t s knows h free of_u within i rank like apart same worlds a is_low is_high j one_class after =
+pub gen_fresh : (c d e : Content) (x u b y low high : ℕ) (v : Slot) (t : Tree) → IsSound c → Knows c t → IsUnset c y v.kind → v.state ≡ unset → v.universe ≡ u → x < length c.slots → IsInfer t → variable_rank (variable_tree v.kind y) ≤ variable_rank t → IsLike (variable_tree v.kind y) t → (y ≡ x → ⊥) → resolved c t ≡ resolved c (variable_tree v.kind y) → ((w : World) → Solves c w → inst w t ≡ w.tree y) → IsAdded c d v → low ≡ min y (length c.slots) → high ≡ max y (length c.slots) → IsJoined d e low high → IsOneClass d e low high → BringsNoLabels d e → IsSound e → Generalized c e x u b t (variable_tree v.kind (length c.slots))
+gen_fresh c d e x u b y low high v t s knows h free of_u within i rank like apart same worlds a is_low is_high j one_class brings after =
     let fresh = length c.slots in
     let below : y < length c.slots = field_below (λ z. z.kind) c y v.kind h.has in
     let ly : low ≡ y = omega (arith, is_low, below) in
@@ -136,6 +140,7 @@ gen_fresh c d e x u b y low high v t s knows h free of_u within i rank like apar
       named_regions = (tt, tt);
       closed = (tt, tt);
       alike = AreAlike-one e (variable_tree v.kind fresh) t (new_one ∙ sym old_one);
+      labels = λ P f p q. (brings.labels P f (a.brings.labels P f p), (f v.kind fresh, tt));
       sound = λ w z.
           let q = one_class.narrows.sound w z in
           let before = a.back w q.0 in
@@ -213,6 +218,7 @@ gen_fresh_region c d e x u b v t l s region within r sorted is_region known of_u
       named_regions = (tt, tt);
       closed = (tt, tt);
       alike = related.alike;
+      labels = λ P f p q. (related.brings.labels P f (a.brings.labels P f p) (f kind.Region fresh, tt) q, (f kind.Region fresh, tt));
       sound = λ w z. (let q = related.narrows.sound w z in (a.back w q.0, q.1));
       complete = λ w z names.
           let s = inst w t in

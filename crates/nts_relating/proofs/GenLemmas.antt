@@ -2,7 +2,7 @@
 use Rattle.nts_model.proofs.Substituting.{no_children}
 use Rattle.std.proofs.lemmas.Bool.{or_parts}
 use Rattle.nts_unify.proofs.Changes.{some_inj}
-use Rattle.std.proofs.Common.{◌≡◌, ◌≢◌, ℕ, zero, suc, ◌+◌, ◌<◌, ◌≤◌, true, false, List, [], ◌∷◌, ◌++◌, length, Option, Some, None, refl, sym, ap, subst, ◌∙◌, arith}
+use Rattle.std.proofs.Common.{◌≡◌, ◌≢◌, ℕ, zero, suc, ◌+◌, ◌<◌, ◌≤◌, Bool, true, false, List, [], ◌∷◌, ◌++◌, length, Option, Some, None, refl, sym, ap, subst, ◌∙◌, arith}
 use Rattle.std.specs.Prelude.{◌==◌, reverse}
 use Rattle.nts_model.specs.declared.labels.Sort.TheVariants as sort
 use Rattle.nts_model.specs.declared.labels.VariableKind.{VariableKind}
@@ -19,12 +19,14 @@ use Rattle.nts_model.specs.Contents.{Content, universe_of, kind_at}
 use Rattle.nts_model.specs.Resolving.{variable_of, variable_tree, infer_of, IsInfer, Knows, IsSound, Lacks, resolved, deeply_resolved, rooted, root_of, left_to_resolve, rank_of, variable_rank}
 use Rattle.nts_model.specs.Fitting.{Fits}
 use Rattle.nts_model.specs.Placeholders.{CanName}
+use Rattle.nts_model.specs.Passing.{TreePasses, TablePasses}
 use Rattle.nts_model.specs.Levels.{NamesAll, term_level, region_level, level_in}
 use Rattle.nts_model.specs.Worlds.{World, inst, renamed, Solves, KnowsAll}
 use Rattle.nts_model.specs.Equations.{ExtensionIf}
 use Rattle.nts_model.specs.Holding.{AreOne}
 use Rattle.nts_model.specs.Alike.{HoldsEqual, AreAlike}
 use Rattle.nts_model.proofs.Variables.{infer_number_some, infer_of_none}
+use Rattle.nts_model.proofs.Bringing.{passes-pushed, passes-row_push}
 use Rattle.nts_model.proofs.Under.{under-lacks}
 use Rattle.nts_model.proofs.Roots.{root_of-root_of}
 use Rattle.nts_model.proofs.Instances.{inst-node, inst-agrees, Agrees-refl, Agrees-trans}
@@ -241,6 +243,7 @@ gen_settled c x u b t s k e f g h =
       named_regions = names.1;
       closed = h;
       alike = AreAlike-itself c t;
+      labels = λ P v p q. (p, q);
       sound = λ w z. (z, refl);
       complete = λ w z q. unchanged c w z;
     }
@@ -261,6 +264,7 @@ gen_region c x u b t l s k r v f n =
       named_regions = subst (λ (y : Tree). NamesAll region_level u y) (sym r.is) (n, tt);
       closed = subst (λ (y : Tree). IsClosedUnder b y) (sym r.is) (free_below l f, tt);
       alike = AreAlike-itself c t;
+      labels = λ P v p q. (p, q);
       sound = λ w z. (z, refl);
       complete = λ w z q. unchanged c w z;
     }
@@ -305,6 +309,7 @@ gen_region_root c x u b n r t s v has named =
       named_regions = (tt, tt);
       closed = (tt, tt);
       alike = AreAlike-one c (variable_tree kind.Region r) t one;
+      labels = λ P f p q. (p, (f kind.Region r, tt));
       sound = λ w z. (z, rw (v.is) (sym (v.tree w z)));
       complete = λ w z q. unchanged c w z;
     }
@@ -328,6 +333,7 @@ gen_named c x u b y k t s h i rank like d named same worlds =
       named_regions = (tt, tt);
       closed = (tt, tt);
       alike = AreAlike-one c (variable_tree k y) t (ap (rooted c) (sym same));
+      labels = λ P f p q. (p, (f k y, tt));
       sound = λ w z. (z, sym (worlds w z));
       complete = λ w z q. unchanged c w z;
     }
@@ -369,6 +375,7 @@ gen_start c x u b row s =
       named_regions = tt;
       closed = tt;
       alike = AreAlike-itself c empty;
+      labels = λ P v p q. (p, tt);
       sound = λ w z. (z, refl);
       complete = λ w z q. unchanged c w z;
     }
@@ -454,6 +461,11 @@ gen_push us vs c d e x u b i row a rs qs r sc fd se known g ext all lt ea h eq =
       named_regions = NamesAll-push region_level u (trees_at us rs) (tree_at vs r) ir g.named_regions h.named_regions;
       closed = IsClosedUnder-push b (trees_at us rs) (tree_at vs r) ir g.closed h.closed;
       alike = AreAlike-push e (trees_at us rs) (row_take i row) (tree_at vs r) a ir it (IsLike-length (trees_at us rs) (row_take i row) ir g.like) later_alike h.alike;
+      labels = λ P v p q.
+          let parts = passes-pushed (λ z. P z ≡ true) (row_take i row) a it q in
+          let first = g.labels P v p parts.0 in
+          let second = h.labels P v first.0 parts.1 in
+          (second.0, passes-row_push (λ z. P z ≡ true) (trees_at us rs) (tree_at vs r) ir first.1 second.1);
       sound = λ w z.
           let q = h.sound w z in
           let p = g.sound w q.0 in
@@ -495,6 +507,10 @@ gen_node c d x u b i t row l known is alone not_free names below r n g =
       named_regions = (no_region_level l not_free, g.named_regions);
       closed = (below, g.closed);
       alike = subst (λ (y : Tree). AreAlike d (node l row) y) (sym is) (AreAlike-node d l row (children t) none alike);
+      labels = λ P v p q.
+          let parts : TreePasses P (node l (children t)) = subst (λ (y : Tree). TreePasses P y) is q in
+          let made = g.labels P v p (rw whole parts.1) in
+          (made.0, (parts.0, made.1));
       sound = λ w z.
           let q = g.sound w z in
           let same : inst w row ≡ inst w (children t) = rw whole at q.1 in
@@ -523,8 +539,8 @@ gen_node c d x u b i t row l known is alone not_free names below r n g =
     lacks_node n m y e h = rw e h
 
 -- from the value of a variable to the variable
-pub gen_known : (c d : Content) (x u b : ℕ) (t v r : Tree) (k : NodeKind) → IsInfer t → kind_of v ≡ Some k → kind_of t ≡ Some k → Knows c t → Knows c v → resolved c t ≡ resolved c v → ((w : World) → Solves c w → inst w t ≡ inst w v) → Generalized c d x u 0 v r → variable_rank v < variable_rank t → Generalized c d x u b t r
-gen_known c d x u b t v r k i sv st kt kv same worlds g lower =
+pub gen_known : (c d : Content) (x u b : ℕ) (t v r : Tree) (k : NodeKind) → IsInfer t → kind_of v ≡ Some k → kind_of t ≡ Some k → Knows c t → Knows c v → resolved c t ≡ resolved c v → ((w : World) → Solves c w → inst w t ≡ inst w v) → Generalized c d x u 0 v r → variable_rank v < variable_rank t → ((P : Label → Bool) → TablePasses P c → TreePasses P v) → Generalized c d x u b t r
+gen_known c d x u b t v r k i sv st kt kv same worlds g lower labels =
     let one : AreOne d t v = AreOne-continues c d t v g.continues kt kv (ap (rooted c) same) in
     record {
       keeps = g.keeps;
@@ -539,6 +555,7 @@ gen_known c d x u b t v r k i sv st kt kv same worlds g lower =
       named_regions = g.named_regions;
       closed = IsClosedUnder-more 0 b r (omega arith) g.closed;
       alike = AreAlike-for d r v r t refl one g.alike;
+      labels = λ P f p q. g.labels P f p (labels P p);
       sound = λ w z. (let q = g.sound w z in (q.0, q.1 ∙ sym (worlds w q.0)));
       complete = λ w z names. named_for (λ f n. rw (worlds w z) at n) (g.complete w z (rw (worlds w z) at names));
     }

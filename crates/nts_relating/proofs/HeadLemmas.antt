@@ -1,6 +1,6 @@
 -- What a term is under a table: the roots of variables, and their values.
 use Rattle.nts_model.proofs.Substituting.{no_children}
-use Rattle.std.proofs.Common.{◌≡◌, ℕ, ◌≤◌, List, [], Option, Some, None, refl, sym, ap, subst, ◌∙◌, arith}
+use Rattle.std.proofs.Common.{◌≡◌, ℕ, ◌≤◌, Bool, List, [], Option, Some, None, refl, sym, ap, subst, ◌∙◌, arith}
 use Rattle.nts_model.specs.declared.labels.VariableKind.{VariableKind}
 use Rattle.nts_model.specs.declared.labels.VariableKind.TheVariants as kind
 use Rattle.nts_model.specs.declared.labels.Leaf.TheVariants as leaf
@@ -13,6 +13,7 @@ use Rattle.nts_model.proofs.Variables.{infer_label}
 use Rattle.nts_model.proofs.Roots.{kind_at-reaches}
 use Rattle.nts_model.proofs.Resolved.{KnownStep, known_step, resolved-variable_reaches}
 use Rattle.nts_model.specs.Worlds.{World, inst, Solves}
+use Rattle.nts_model.specs.Passing.{TreePasses, TablePasses}
 use Rattle.nts_model.proofs.Kept.{variable_label}
 use Rattle.nts_model.proofs.Instances.{inst-variable, tree-reaches, tree-known}
 use Rattle.nts_store.specs.declared.nodes.NodeId.{NodeId}
@@ -89,6 +90,7 @@ pub record HeadKnown (ts : List Tree) (e : Entries) (t : Tree) (v : NodeId) : Ty
   pub step : KnownStep (content_of ts e) t (tree_at ts v)
   pub worlds : (w : World) → Solves (content_of ts e) w → inst w t ≡ inst w (tree_at ts v)
   pub closed : IsClosed (tree_at ts v)
+  pub labels : (P : Label → Bool) → TablePasses P (content_of ts e) → TreePasses P (tree_at ts v)
 
 -- a node that is a variable has no children
 pub variable_node : (t : Tree) (l : Label) (k : VariableKind) (n : ℕ) → t ≡ node l (children t) → Meets (shape l) (children t) → variable_of l ≡ Some (k, n) → t ≡ variable_tree k n
@@ -119,6 +121,7 @@ head_known ts e t l n r v h k is i class =
       step = known_step c t l x.of_kind n r (tree_at ts v) h.sound k (label_at t l is) x.is x.no_region (Reaches-leads ts e n r root.leads) state;
       worlds = λ w z. inst-at w t l x.of_kind n is x.is ∙ tree-known c w n r (tree_at ts v) z (Reaches-leads ts e n r root.leads) state;
       closed = (h.proper.solvable.values r (tree_at ts v) x.of_kind state root_kind).closed;
+      labels = λ P p. p.values r (tree_at ts v) state;
     }
 
 -- .. is what the variable is
@@ -137,6 +140,7 @@ head_through ts e t v (Closed n) k o = (
   record {
     knows = o.1.knows;
     no_variable = o.1.no_variable;
+    labels = λ P p q. o.1.labels P p (k.labels P p);
     same = k.step.same ∙ o.1.same;
     worlds = λ w z. k.worlds w z ∙ o.1.worlds w z;
   },

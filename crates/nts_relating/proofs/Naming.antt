@@ -19,6 +19,7 @@ use Rattle.nts_model.specs.Placeholders.{CanName}
 use Rattle.nts_model.specs.Levels.{region_level}
 use Rattle.nts_model.specs.Worlds.{KnowsAll}
 use Rattle.nts_model.proofs.Alike.{AreAlike-turned}
+use Rattle.nts_model.proofs.Bringing.{brings-turned}
 use Rattle.nts_model.proofs.Slots.{slice_get-push_old, slice_get-push_new, slice_get_below, field_below}
 use Rattle.nts_store.specs.declared.nodes.NodeId.{NodeId}
 use Rattle.nts_store.specs.declared.type_flags.TypeFlags.{TypeFlags}
@@ -129,7 +130,7 @@ fresh_value ts us e m f x u b y number t r v w h knows within of_u o d at vk new
     let same_tree : resolved c t ≡ resolved c (variable_tree v.kind y) = o.same ∙ ap (λ z. resolved c (variable_tree z y)) kv in
     let below : x < length c.slots = omega (arith, within, length-slots ts e.variables) in
     rw (is, content_of-extended ext j.lawful)
-    (gen_fresh c (content_of ts m) (content_of ts f) x u b y (min y number) (max y number) (slot_of ts v) t h.sound knows free (ap (state_with ts) new.state) of_u below o.infer rank like d same_tree o.worlds (added_in ts e m v h new alone em) (ap (λ n. min y n) len) (ap (λ n. max y n) len) j.joined j.one j.lawful.sound)
+    (gen_fresh c (content_of ts m) (content_of ts f) x u b y (min y number) (max y number) (slot_of ts v) t h.sound knows free (ap (state_with ts) new.state) of_u below o.infer rank like d same_tree o.worlds (added_in ts e m v h new alone em) (ap (λ n. min y n) len) (ap (λ n. max y n) len) j.joined j.one j.brings j.lawful.sound)
 
 -- the label of a free region
 free_label : (l : Label) (x : RegionName) → name_of_label l ≡ Some x → is_free_region l ≡ true
@@ -226,6 +227,7 @@ RegionsRelate-turned {c} {d} {a} {b} h =
         names = λ f w z k q. h.narrows.names f w z k (sym q);
       };
       alike = AreAlike-turned d a b h.alike;
+      brings = brings-turned h.brings;
     }
 
 -- the constraint between the two

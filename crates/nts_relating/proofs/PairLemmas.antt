@@ -12,7 +12,9 @@ use Rattle.nts_model.specs.Worlds.{World, inst, renamed, Solves, Agrees}
 use Rattle.nts_model.specs.Holding.{AreOne}
 use Rattle.nts_model.specs.Alike.{AreAlike}
 use Rattle.nts_model.specs.Equations.{Equates, AllAlike, Reduces, AreRelated}
+use Rattle.nts_model.specs.Passing.{TreePasses, BringsLabelsOf}
 use Rattle.nts_model.proofs.Variables.{infer_of_none}
+use Rattle.nts_model.proofs.Bringing.{brings-of, brings-refl, passes-children, passes-row_at}
 use Rattle.nts_model.proofs.Instances.{inst-node, inst-agrees, Agrees-refl, Agrees-trans}
 use Rattle.nts_model.proofs.Held.{AreOne-continues, Continues-refl, Continues-trans}
 use Rattle.nts_model.proofs.Alike.{AreAlike-one, AreAlike-itself, AreAlike-for, AreAlike-turned, AreAlike-more, AreAlike-children, AreAlike-continues}
@@ -30,7 +32,7 @@ use Rattle.nts_unify.specs.Joining.{Joins}
 use Rattle.nts_unify.specs.Unchanged.{HasUnset}
 use Rattle.nts_relating.specs.Knowing.{row_from}
 use Rattle.nts_relating.specs.Met.{judged_size, JudgesOne, OneBelow}
-use Rattle.nts_relating.specs.Relating.{IsOpen, IsClosedHead, IsSet, RegionsRelate, pair_at, pairs_at, ArePairsIn, AreKnown, total, Pushed, IsValid, IsPairStep, IsPairRun, Running, AreMadeOne, VariablesRelate}
+use Rattle.nts_relating.specs.Relating.{IsOpen, IsClosedHead, IsSet, RegionsRelate, pair_at, pairs_at, ArePairsIn, AreKnown, PairsPass, PairsBring, total, Pushed, IsValid, IsPairStep, IsPairRun, Running, AreMadeOne, VariablesRelate}
 use Rattle.nts_unify.proofs.Keeping.{IsLater-refl, IsLater-trans, Knows-later, Keeps-refl}
 use Rattle.nts_unify.proofs.JoinLemmas.{free_slot, at_max}
 use Rattle.nts_relating.proofs.RegionLemmas.{from_sides, to_sides}
@@ -62,6 +64,25 @@ AreKnown-front c (q ∷ ps) p h = let i = AreKnown-front c ps p h.2 in ((h.0, h.
 AreKnown-later : {c d : Content} (ps : List (Tree × Tree)) → IsLater c d → AreKnown c ps → AreKnown d ps
 AreKnown-later [] l h = tt
 AreKnown-later (p ∷ ps) l h = (Knows-later p.0 l h.0, Knows-later p.1 l h.1, AreKnown-later ps l h.2)
+
+PairsPass-push : (P : Label → Bool) (ps : List (Tree × Tree)) (p : Tree × Tree) → PairsPass P ps → TreePasses P p.0 → TreePasses P p.1 → PairsPass P (ps ++ p ∷ [])
+PairsPass-push P [] p h l r = (l, r, tt)
+PairsPass-push P (q ∷ ps) p h l r = (h.0, h.1, PairsPass-push P ps p h.2 l r)
+
+PairsPass-front : (P : Label → Bool) (ps : List (Tree × Tree)) (p : Tree × Tree) → PairsPass P (ps ++ p ∷ []) → PairsPass P ps × TreePasses P p.0 × TreePasses P p.1
+PairsPass-front P [] p h = (tt, h.0, h.1)
+PairsPass-front P (q ∷ ps) p h = let i = PairsPass-front P ps p h.2 in ((h.0, h.1, i.0), i.1, i.2)
+
+PairsBring-refl : (c : Content) (ps : List (Tree × Tree)) → PairsBring c c ps ps
+PairsBring-refl c ps = record { labels = λ P v h k. (h, k) }
+
+PairsBring-trans : {c d e : Content} {ps qs rs : List (Tree × Tree)} → PairsBring c d ps qs → PairsBring d e qs rs → PairsBring c e ps rs
+PairsBring-trans a b = record { labels = λ P v h k. let q = a.labels P v h k in b.labels P v q.0 q.1 }
+
+-- the last pair is done
+pub PairsBring-last : (c d : Content) (ps : List (Tree × Tree)) (p : Tree × Tree) → BringsLabelsOf c d p.0 p.1 → PairsBring c d (ps ++ p ∷ []) ps
+PairsBring-last c d ps p h =
+    record { labels = λ P v k l. let parts = PairsPass-front P ps p l in (h.labels P v k parts.1 parts.2, parts.0) }
 
 total-push : (c : Content) (ps : List (Tree × Tree)) (p : Tree × Tree) → total c (ps ++ p ∷ []) ≡ total c ps + size (resolved c p.0) + size (resolved c p.1) + 1
 total-push c [] p = omega arith
@@ -194,13 +215,18 @@ reduces_last ts us e f ps p v x h l r =
     rw (pairs_at-push ts ps p, pairs_at-extended ps x last.front.within)
     (Reduces-last (content_of ts e) (content_of us f) (pairs_at ts ps) (pair_at ts p) (record { sound = h.sound; sides = lawful_sides us f h }) l last.front.known last.left_known last.right_known r)
 
+brings_last : (ts us : List Tree) (e f : Entries) (ps : List Pair) (p : Pair) → IsValid ts e (ps ++ p ∷ []) → Extends ts us → BringsLabelsOf (content_of ts e) (content_of us f) (tree_at ts p.left) (tree_at ts p.right) → PairsBring (content_of ts e) (content_of us f) (pairs_at ts (ps ++ p ∷ [])) (pairs_at us ps)
+brings_last ts us e f ps p v x h =
+    let last = last_pair ts e ps p v in
+    rw (pairs_at-push ts ps p, pairs_at-extended ps x last.front.within) (PairsBring-last (content_of ts e) (content_of us f) (pairs_at ts ps) (pair_at ts p) h)
+
 -- a variable got a value
-pub step_set : (ts us : List Tree) (e f : Entries) (ps : List Pair) (p : Pair) → IsValid ts e (ps ++ p ∷ []) → Extends ts us → IsLawful us f → IsLater (content_of ts e) (content_of us f) → unset_count (content_of us f).slots < unset_count (content_of ts e).slots → AreRelated (content_of ts e) (content_of us f) (tree_at ts p.left) (tree_at ts p.right) → Stepped ts us e f ps ps p true
-step_set ts us e f ps p v x h l less r =
+pub step_set : (ts us : List Tree) (e f : Entries) (ps : List Pair) (p : Pair) → IsValid ts e (ps ++ p ∷ []) → Extends ts us → IsLawful us f → IsLater (content_of ts e) (content_of us f) → unset_count (content_of us f).slots < unset_count (content_of ts e).slots → AreRelated (content_of ts e) (content_of us f) (tree_at ts p.left) (tree_at ts p.right) → BringsLabelsOf (content_of ts e) (content_of us f) (tree_at ts p.left) (tree_at ts p.right) → Stepped ts us e f ps ps p true
+step_set ts us e f ps p v x h l less r brings =
     let last = last_pair ts e ps p v in
     record {
       valid = valid_later ps last.front x l h;
-      step = record { later = l; reduces = reduces_last ts us e f ps p v x h l r; fewer = λ q. less; smaller = λ (q : true ≡ false). cc };
+      step = record { later = l; reduces = reduces_last ts us e f ps p v x h l r; brings = brings_last ts us e f ps p v x brings; fewer = λ q. less; smaller = λ (q : true ≡ false). cc };
     }
 
 -- the variable on one side
@@ -221,6 +247,10 @@ set_left ts us e f p x b h k kl kr o r s =
       complete = λ w z q. s.complete w z (sym (o.worlds w z) ∙ q ∙ r.worlds w z);
     }
 
+-- .. brings only labels of both sides
+pub set_brings : {c d : Content} {x : ℕ} {a b t : Tree} → IsClosedHead c t b → IsSet c d x b → BringsLabelsOf c d a t
+set_brings r s = record { labels = λ P v h i j. s.brings.labels P v h (r.labels P h j) tt }
+
 pub AreRelated-turned : {c d : Content} {a b : Tree} → AreRelated c d a b → AreRelated c d b a
 AreRelated-turned {c} {d} {a} {b} r =
     record {
@@ -235,14 +265,15 @@ set_right ts us e f p y a h k kl kr o r s =
     AreRelated-turned (set_left ts us e f (record { left = p.right; right = p.left }) y a h k kr kl o r s)
 
 -- nothing that trees stand for changed
-pub step_kept : (ts : List Tree) (e f : Entries) (ps : List Pair) (p : Pair) → IsValid ts e (ps ++ p ∷ []) → IsLawful ts f → Keeps (content_of ts e) (content_of ts f) → AreRelated (content_of ts e) (content_of ts f) (tree_at ts p.left) (tree_at ts p.right) → Stepped ts ts e f ps ps p false
-step_kept ts e f ps p v h k r =
+pub step_kept : (ts : List Tree) (e f : Entries) (ps : List Pair) (p : Pair) → IsValid ts e (ps ++ p ∷ []) → IsLawful ts f → Keeps (content_of ts e) (content_of ts f) → AreRelated (content_of ts e) (content_of ts f) (tree_at ts p.left) (tree_at ts p.right) → BringsLabelsOf (content_of ts e) (content_of ts f) (tree_at ts p.left) (tree_at ts p.right) → Stepped ts ts e f ps ps p false
+step_kept ts e f ps p v h k r brings =
     let last = last_pair ts e ps p v in
     record {
       valid = valid_later ps last.front (Extends-refl ts) k.later h;
       step = record {
         later = k.later;
         reduces = reduces_last ts ts e f ps p v (Extends-refl ts) h k.later r;
+        brings = brings_last ts ts e f ps p v (Extends-refl ts) brings;
         fewer = λ (q : false ≡ true). cc;
         smaller = λ q. (omega (arith, total-kept (pairs_at ts ps) k last.front.known, total-last ts (content_of ts e) ps p), k.unset_kept);
       };
@@ -275,6 +306,9 @@ heads_regions c d a b s t ka kb p q r =
       complete = λ w z k. (let v = r.narrows.complete w z (sym (p.worlds w z) ∙ k ∙ q.worlds w z) in
           record { world = w; agrees = Agrees-refl (length c.slots) w; solves = v; names = λ f n u. r.narrows.names f w z n (sym (p.worlds w z) ∙ k ∙ q.worlds w z) });
     }
+
+pub regions_bring : {c d : Content} {a b s t : Tree} → IsClosedHead c a s → IsClosedHead c b t → RegionsRelate c d s t → BringsLabelsOf c d a b
+regions_bring p q r = record { labels = λ P v h i j. r.brings.labels P v h (p.labels P h i) (q.labels P h j) }
 
 -- one variable on both sides
 pub variable_same : (ts : List Tree) (e : Entries) (a b : Tree) (x y : ℕ) → IsLawful ts e → IsOpen ts e a x → IsOpen ts e b y → x ≡ y → AreRelated (content_of ts e) (content_of ts e) a b
@@ -309,6 +343,7 @@ joined_one ts us e f x y j k h hx hy no_region kinds same_store joins =
             let ea : a ≡ j = some_inj a j (sym p ∙ first) in
             let eb : b ≡ j = some_inj b j (sym q ∙ second ∙ ap Some (sym kinds)) in
             rw (ea, eb) (AreAlike-one d (variable_tree j x) (variable_tree j y) (ap (rooted d) both));
+        brings = joins.brings;
         sound = λ w z. (let q = one.narrows.sound w z in (q.0, from_sides w.tree x y q.1));
         complete = λ w z q. record {
           world = w;
@@ -327,6 +362,7 @@ set_one {c} {d} {x} {y} k has s =
       fewer = s.fewer;
       continues = s.continues;
       alike = λ a b p q. (let e : b ≡ k = some_inj b k (sym q ∙ has) in rw e (s.alike a p));
+      brings = record { labels = λ P v h. s.brings.labels P v h (v k y, tt) tt };
       sound = λ w z. s.sound w z;
       complete = λ w z q. s.complete w z q;
     }
@@ -338,6 +374,7 @@ AreMadeOne-turned {c} {d} {x} {y} m =
       fewer = m.fewer;
       continues = m.continues;
       alike = λ a b p q. AreAlike-turned d (variable_tree b x) (variable_tree a y) (m.alike b a q p);
+      brings = m.brings;
       sound = λ w z. (let q = m.sound w z in (q.0, sym q.1));
       complete = λ w z q. m.complete w z (sym q);
     }
@@ -365,12 +402,12 @@ pub step_variables : (ts us : List Tree) (e f : Entries) (ps : List Pair) (p : P
 step_variables ts us e f ps p x y true v ext o q r =
     let m = r.made refl in
     let last = last_pair ts e ps p v in
-    step_set ts us e f ps p v ext m.0 m.1.later m.1.fewer (variables_related ts us e f (tree_at ts p.left) (tree_at ts p.right) x y last.left_known last.right_known o q m.1)
+    step_set ts us e f ps p v ext m.0 m.1.later m.1.fewer (variables_related ts us e f (tree_at ts p.left) (tree_at ts p.right) x y last.left_known last.right_known o q m.1) (brings-of (tree_at ts p.left) (tree_at ts p.right) m.1.brings)
 step_variables ts us e f ps p x y false v ext o q r =
     let same = r.same refl in
     let store : us ≡ ts = same.0 in
     let is : f ≡ e = same.1 in
-    rw (store, is) (step_kept ts e e ps p v v.lawful (Keeps-refl (content_of ts e)) (variable_same ts e (tree_at ts p.left) (tree_at ts p.right) x y v.lawful o q same.2))
+    rw (store, is) (step_kept ts e e ps p v v.lawful (Keeps-refl (content_of ts e)) (variable_same ts e (tree_at ts p.left) (tree_at ts p.right) x y v.lawful o q same.2) (brings-of (tree_at ts p.left) (tree_at ts p.right) (brings-refl (content_of ts e))))
 
 -- the children of two nodes
 pub pushed_none : (ts : List Tree) (ps : List Pair) (a b : Tree) (i : ℕ) → IsRow a → IsRow b → i ≡ row_length a → row_length a ≡ row_length b → Pushed ts ps ps a b i
@@ -384,6 +421,7 @@ pushed_none ts ps a b i ra rb ia ib =
       complete = λ w h q. h;
       alike = λ c h. (h, rw (ea, eb) (AreAlike-itself c empty));
       weight = λ c. omega (arith, ap row_length ea, ap (λ t. size (resolved c t)) ea, ap (λ t. size (resolved c t)) eb, ap size (resolved-empty c));
+      labels = λ P i j h. h;
       below = λ j n h. (h, λ l. rw (ea, eb) (one-itself j empty));
     }
 
@@ -418,6 +456,10 @@ pushed_more ts ps qs rs a b i j x y h next la lb ix iy ex ey e =
           (rest.0, rw (da, db) (AreAlike-more c (row_at a i) (row_from (i + 1) a) (row_at b i) (row_from (i + 1) b) first tail));
       weight = λ c.
           omega (arith, ap (λ z. total c (pairs_at ts z)) e, total-last ts c qs p, rw next at (h.weight c), ap row_length da, ap (λ t. size (resolved c t)) da, ap (λ t. size (resolved c t)) db, ap size (resolved-more c (row_at a i) (row_from (i + 1) a)), ap size (resolved-more c (row_at b i) (row_from (i + 1) b)), ap (λ t. size (resolved c t)) ex, ap (λ t. size (resolved c t)) ey);
+      labels = λ P ka kb w.
+          let kx : TreePasses P (tree_at ts x) = rw ex (passes-row_at (λ z. P z ≡ true) a i ka) in
+          let ky : TreePasses P (tree_at ts y) = rw ey (passes-row_at (λ z. P z ≡ true) b i kb) in
+          rw (e, pairs_at-push ts qs p) (PairsPass-push P (pairs_at ts qs) (pair_at ts p) (h.labels P ka kb w) kx ky);
       below = λ k n z.
           let q : OneBelow k n (pairs_at ts qs ++ pair_at ts p ∷ []) = rw (e, pairs_at-push ts qs p) at z in
           let parts = below_front k n (pairs_at ts qs) (pair_at ts p) q in
@@ -488,6 +530,13 @@ step_pushed ts e ps qs p a b l m v ha hb ia ib same not_free k =
               let right : AreOne f (tree_at ts p.right) (tree_at ts b) = AreOne-continues c f (tree_at ts p.right) (tree_at ts b) next last.right_known hb.knows (ap (rooted c) hb.same) in
               AllAlike-push f (pairs_at ts ps) (pair_at ts p) parts.0 (AreAlike-for f (tree_at ts a) (tree_at ts b) (tree_at ts p.left) (tree_at ts p.right) left right inner);
         });
+        brings = rw (pairs_at-push ts ps p) (record {
+          labels = λ P f h q.
+              let parts = PairsPass-front P (pairs_at ts ps) (pair_at ts p) q in
+              let left = passes-children (λ z. P z ≡ true) (tree_at ts a) (ha.labels P h parts.1) in
+              let right = passes-children (λ z. P z ≡ true) (tree_at ts b) (hb.labels P h parts.2) in
+              (h, k.labels P left right parts.0);
+        });
         fewer = λ (q : false ≡ true). cc;
         smaller = λ q. (omega (arith, k.weight c, total-last ts c ps p, ap size ha.same, ap size hb.same, ap size sa, ap size sb), refl);
       };
@@ -503,30 +552,34 @@ err_of e f q = let k : e ≡ f = cc in ap Err k
 
 -- the loops
 pub running_start : (c : Content) (ps : List (Tree × Tree)) → IsSound c → Running c c ps ps
-running_start c ps s = record { later = IsLater-refl c; reduces = Reduces-refl c ps s; not_more = omega arith }
+running_start c ps s = record { later = IsLater-refl c; reduces = Reduces-refl c ps s; brings = PairsBring-refl c ps; not_more = omega arith }
 
 pub running_step : {c d e : Content} {ps qs rs : List (Tree × Tree)} {b : Bool} → IsSound c → IsSound d → Running c d ps qs → IsPairStep d e qs rs b → b ≡ false → Running c e ps rs
 running_step s z r k f =
-    record { later = IsLater-trans r.later k.later; reduces = Reduces-trans s z r.reduces k.reduces; not_more = omega (arith, r.not_more, (k.smaller f).1) }
+    record { later = IsLater-trans r.later k.later; reduces = Reduces-trans s z r.reduces k.reduces; brings = PairsBring-trans r.brings k.brings; not_more = omega (arith, r.not_more, (k.smaller f).1) }
 
 pub running_bound : {c d e : Content} {ps qs rs : List (Tree × Tree)} {b : Bool} → IsSound c → IsSound d → Running c d ps qs → IsPairStep d e qs rs b → b ≡ true → IsPairRun c e ps rs true
 running_bound s z r k f =
     record {
       later = IsLater-trans r.later k.later;
       reduces = Reduces-trans s z r.reduces k.reduces;
+      brings = PairsBring-trans r.brings k.brings;
       fewer = λ q. omega (arith, r.not_more, k.fewer f);
       ends = λ (q : true ≡ false). cc;
     }
 
 pub running_end : {c d : Content} {ps qs : List (Tree × Tree)} → Running c d ps qs → qs ≡ [] → IsPairRun c d ps qs false
-running_end r e = record { later = r.later; reduces = r.reduces; fewer = λ (q : false ≡ true). cc; ends = λ q. e }
+running_end r e = record { later = r.later; reduces = r.reduces; brings = r.brings; fewer = λ (q : false ≡ true). cc; ends = λ q. e }
 
 pub all_step : {c d e : Content} {ps qs rs : List (Tree × Tree)} {b : Bool} → IsSound c → IsSound d → Running c d ps qs → IsPairRun d e qs rs b → b ≡ true → Running c e ps rs
 all_step s z r k f =
-    record { later = IsLater-trans r.later k.later; reduces = Reduces-trans s z r.reduces k.reduces; not_more = omega (arith, r.not_more, k.fewer f) }
+    record { later = IsLater-trans r.later k.later; reduces = Reduces-trans s z r.reduces k.reduces; brings = PairsBring-trans r.brings k.brings; not_more = omega (arith, r.not_more, k.fewer f) }
 
 pub all_done : {c d e : Content} {ps qs rs : List (Tree × Tree)} {b : Bool} → IsSound c → IsSound d → Running c d ps qs → IsPairRun d e qs rs b → b ≡ false → Reduces c e ps []
 all_done s z r k f = let end = k.ends f in rw end at (Reduces-trans s z r.reduces k.reduces)
+
+pub all_bring : {c d e : Content} {ps qs rs : List (Tree × Tree)} {b : Bool} → Running c d ps qs → IsPairRun d e qs rs b → b ≡ false → PairsBring c e ps []
+all_bring r k f = let end = k.ends f in rw end at (PairsBring-trans r.brings k.brings)
 
 -- one pair, of which nothing is left
 pub pair_related : {c d : Content} {a b : Tree} → IsSound d → Reduces c d ((a, b) ∷ []) [] → AreRelated c d a b
@@ -542,3 +595,7 @@ pair_related {c} {d} {a} {b} s r =
 pub if_related : {A E : Type 0} (ts us : List Tree) (e m f : Entries) (a b : Tree) (r : Result A E) → OnOk r (f ≡ m) → OnOk r (IsLawful us m) → OnOk r (Reduces (content_of ts e) (content_of us m) ((a, b) ∷ []) []) → OnOk r (AreRelated (content_of ts e) (content_of us f) a b)
 if_related ts us e m f a b (Ok v) same h k = rw same (pair_related h.sound k)
 if_related ts us e m f a b (Err x) same h k = tt
+
+pub if_brings : {A E : Type 0} (ts us : List Tree) (e m f : Entries) (a b : Tree) (r : Result A E) → OnOk r (f ≡ m) → OnOk r (PairsBring (content_of ts e) (content_of us m) ((a, b) ∷ []) []) → OnOk r (BringsLabelsOf (content_of ts e) (content_of us f) a b)
+if_brings ts us e m f a b (Ok v) same k = rw same (record { labels = λ P v h i j. (k.labels P v h (i, j, tt)).0 })
+if_brings ts us e m f a b (Err x) same k = tt

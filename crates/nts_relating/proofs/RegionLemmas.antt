@@ -16,6 +16,7 @@ use Rattle.nts_model.specs.Regions.{of_variable, of_free, IsRegion}
 use Rattle.nts_model.specs.Holding.{AreOne}
 use Rattle.nts_model.proofs.Roots.{root_of-link, root_of-root_of, kind_at-root_of}
 use Rattle.nts_model.proofs.Sound.{IsSound-with_constraint}
+use Rattle.nts_model.proofs.Bringing.{brings-refl, brings-of, brings-with_constraint}
 use Rattle.nts_model.proofs.Resolved.{resolved-empty, deeply_resolved-node}
 use Rattle.nts_model.proofs.Instances.{tree-reaches}
 use Rattle.nts_model.proofs.Solving.{Solves-with_constraint, Solves-from_with_constraint}
@@ -115,6 +116,7 @@ regions_same c a b x y r s h va vb same =
         names = λ f w z k q. k;
       };
       alike = AreAlike-one c a b one;
+      brings = brings-of a b (brings-refl c);
     }
 
 -- of two numbers the lower and the higher, and back
@@ -150,6 +152,7 @@ regions_joined ts e f a b x y r s h va vb j =
         names = λ f w z k q. one.narrows.names f w z k (to_sides w.tree r s (sym (inst-is w c a x r va z) ∙ q ∙ inst-is w c b y s vb z));
       };
       alike = AreAlike-one d a b all;
+      brings = brings-of a b j.brings;
     }
   where
     region_root_one : (c d : Content) (n m : ℕ) → IsSound c → root_of c n ≡ m → IsOneClass c d (min r s) (max r s) → Knows c (variable_tree kind.Region n) → AreOne d (variable_tree kind.Region n) (variable_tree kind.Region m)
@@ -176,4 +179,5 @@ regions_recorded ts e f x h left right equal visible q =
         names = λ f w z k p. record { each = k.each };
       };
       alike = AreAlike-regions d a b (IsSound-with_constraint c (recorded_of ts x) h.sound) left.free right.free held;
+      brings = brings-with_constraint c (recorded_of ts x);
     })

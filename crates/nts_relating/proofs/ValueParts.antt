@@ -1,8 +1,9 @@
 -- Parts of a term that a value is made for, in a table that grows.
-use Rattle.std.proofs.Common.{◌≡◌, ℕ, zero, suc, ◌+◌, ◌<◌, length, Option, refl, sym, ap, ◌∙◌, subst, arith}
+use Rattle.std.proofs.Common.{◌≡◌, ℕ, zero, suc, ◌+◌, ◌<◌, length, true, Option, Some, refl, sym, ap, ◌∙◌, subst, arith}
 use Rattle.nts_model.specs.declared.labels.Label.{Label}
 use Rattle.nts_model.specs.Trees.{Tree, empty, more, node, size, children, row_length, row_at, binders, IsClosedUnder}
-use Rattle.nts_model.specs.Contents.{Content}
+use Rattle.nts_model.specs.Contents.{Content, known, state_of}
+use Rattle.nts_model.specs.declared.labels.VariableKind.TheVariants as kind
 use Rattle.nts_model.specs.Resolving.{Knows, IsSound, resolved}
 use Rattle.nts_model.specs.Levels.{NamesAll, term_level}
 use Rattle.nts_model.specs.Worlds.{World, inst, renamed}
@@ -13,6 +14,9 @@ use Rattle.nts_model.proofs.Refuting.{closed-node}
 use Rattle.nts_model.proofs.Held.{Continues-refl, Continues-trans}
 use Rattle.nts_model.proofs.Alike.{AreAlike-continues}
 use Rattle.nts_model.proofs.Resolved.{Knows-row_at, flag_le}
+use Rattle.nts_model.proofs.Bringing.{passes-before, passes-row_at, passes-children}
+use Rattle.nts_model.proofs.Slots.{field_below}
+use Rattle.nts_unify.specs.Changing.{Keeps}
 use Rattle.nts_relating.specs.Parts.{IsValueOf, IsMadeAgain, WalkGrows, IsPartOf, inner}
 use Rattle.nts_relating.specs.Relating.{Generalized, Blocks}
 use Rattle.nts_unify.proofs.Keeping.{Knows-later, Keeps-refl, Keeps-trans}
@@ -20,10 +24,14 @@ use Rattle.nts_relating.proofs.GenLemmas.{IsFair, unchanged, named_for}
 use Rattle.nts_relating.proofs.PairLemmas.{Knows-children}
 use Rattle.nts_relating.proofs.RefusalLemmas.{closed_at, size_at, flag_one}
 
+-- the values that a table has stay
+values_kept : {c d : Content} → IsSound c → Keeps c d → (n : ℕ) (t : Tree) → state_of c n ≡ Some (known t) → state_of d n ≡ Some (known t)
+values_kept {c} {d} s k n t e = k.states n (field_below (λ z. z.state) c n (known t) e) (λ r. (s.fits n t kind.Region e r).1 refl) ∙ e
+
 -- growing
 pub WalkGrows-refl : (c : Content) (x u : ℕ) (t : Tree) → IsSound c → WalkGrows c c x u t
 WalkGrows-refl c x u t s =
-    record { keeps = Keeps-refl c; continues = Continues-refl c s; own = refl; sound = λ w z. z; complete = λ w z q. unchanged c w z }
+    record { keeps = Keeps-refl c; continues = Continues-refl c s; own = refl; labels = λ P v p q. p; labels_before = λ P p. p; sound = λ w z. z; complete = λ w z q. unchanged c w z }
 
 pub WalkGrows-trans : {c d e : Content} {x u : ℕ} {t : Tree} → IsSound c → Knows c t → WalkGrows c d x u t → WalkGrows d e x u t → WalkGrows c e x u t
 WalkGrows-trans {c} {d} {e} {x} {u} {t} s k g h =
@@ -31,6 +39,8 @@ WalkGrows-trans {c} {d} {e} {x} {u} {t} s k g h =
       keeps = Keeps-trans g.keeps h.keeps;
       continues = Continues-trans c d e s g.continues h.continues;
       own = h.own ∙ g.own;
+      labels = λ P v p q. h.labels P v (g.labels P v p q) q;
+      labels_before = λ P p. g.labels_before P (h.labels_before P p);
       sound = λ w z. g.sound w (h.sound w z);
       complete = λ w z names.
           let first = g.complete w z names in
@@ -46,7 +56,7 @@ WalkGrows-trans {c} {d} {e} {x} {u} {t} s k g h =
 
 -- parts
 pub part_whole : (c : Content) (u b : ℕ) (t : Tree) → Knows c t → IsPartOf c u b t b t
-part_whole c u b t k = record { knows = k; names = λ f w z n. n; closed = λ w z h. h; smaller = λ w z. omega arith }
+part_whole c u b t k = record { knows = k; labels = λ P p q. q; names = λ f w z n. n; closed = λ w z h. h; smaller = λ w z. omega arith }
 
 named_child : (f : Label → Option ℕ) (w : World) (u : ℕ) (r : Tree) (i : ℕ) → i < row_length r → NamesAll f u (inst w r) → NamesAll f u (inst w (row_at r i))
 named_child f w u empty i h k = absurd (omega arith)
@@ -62,6 +72,7 @@ part_child {c} {u} {n} {b} {i} {whole} {t} {a} p m less is =
     let at = λ (w : World). ap (inst w) m.is ∙ inst-node w l r m.alone in
     rw (is, under) (record {
       knows = Knows-row_at c r i (Knows-children c t p.knows);
+      labels = λ P h k. passes-row_at (λ z. P z ≡ true) r i (passes-children (λ z. P z ≡ true) t (p.labels P h k));
       names = λ f w z k.
           let here : NamesAll f u (node (renamed w l) (inst w r)) = subst (NamesAll f u) (at w) (p.names f w z k) in
           named_child f w u r i less here.1;
@@ -75,6 +86,7 @@ pub part_value : {c : Content} {u n b : ℕ} {whole t v : Tree} → IsPartOf c u
 part_value {c} {u} {n} {b} {whole} {t} {v} p h =
     record {
       knows = h.knows;
+      labels = λ P k q. h.labels P k;
       names = λ f w z k. subst (NamesAll f u) (h.worlds w z) (p.names f w z k);
       closed = λ w z k. IsClosed-inst c w 0 v z.fitting h.knows h.closed;
       smaller = λ w z. (let s = p.smaller w z in omega (arith, s, ap size (h.worlds w z), flag_le v, flag_one t h.infer));
@@ -84,6 +96,7 @@ pub part_later : {c d : Content} {x u n b : ℕ} {whole t : Tree} → WalkGrows 
 part_later {c} {d} {x} {u} {n} {b} {whole} {t} g p =
     record {
       knows = Knows-later t g.keeps.later p.knows;
+      labels = λ P h k. p.labels P (g.labels_before P h) k;
       names = λ f w z. p.names f w (g.sound w z);
       closed = λ w z. p.closed w (g.sound w z);
       smaller = λ w z. p.smaller w (g.sound w z);
@@ -100,6 +113,7 @@ value_later {c} {d} {x} {u} {whole} {t} {v} g k h =
       same = g.keeps.trees t k ∙ h.same ∙ sym (g.keeps.trees v h.knows);
       lower = h.lower;
       closed = h.closed;
+      labels = λ P k. h.labels P (g.labels_before P k);
       worlds = λ w z. h.worlds w (g.sound w z);
     }
 
@@ -120,18 +134,20 @@ blocks_before {c} {d} {x} {u} {n} {t} g within k h =
     }
 
 -- what stands for a part
-pub grows_by : {c d : Content} {x u n b : ℕ} {whole t r : Tree} → IsPartOf c u n whole b t → Generalized c d x u b t r → WalkGrows c d x u whole
-grows_by p g =
+pub grows_by : {c d : Content} {x u n b : ℕ} {whole t r : Tree} → IsSound c → IsPartOf c u n whole b t → Generalized c d x u b t r → WalkGrows c d x u whole
+grows_by {c} {d} s p g =
     record {
       keeps = g.keeps;
       continues = g.continues;
       own = g.own;
+      labels = λ P v h k. (g.labels P v h (p.labels P h k)).0;
+      labels_before = λ P h. passes-before (λ z. P z ≡ true) c d (λ n t e. values_kept s g.keeps n t e) g.continues h;
       sound = λ w z. (g.sound w z).0;
       complete = λ w z names. named_for (λ f n. p.names f w z n) (g.complete w z (p.names term_level w z names));
     }
 
-pub stands_now : {c d : Content} {x u b : ℕ} {t r : Tree} → IsSound d → Generalized c d x u b t r → Generalized d d x u b t r
-stands_now {c} {d} {x} {u} {b} {t} {r} s g =
+pub stands_now : {c d : Content} {x u b : ℕ} {t r : Tree} → IsSound c → IsSound d → Generalized c d x u b t r → Generalized d d x u b t r
+stands_now {c} {d} {x} {u} {b} {t} {r} before s g =
     record {
       keeps = Keeps-refl d;
       knows = g.knows;
@@ -145,6 +161,7 @@ stands_now {c} {d} {x} {u} {b} {t} {r} s g =
       named_regions = g.named_regions;
       closed = g.closed;
       alike = g.alike;
+      labels = λ P v p q. (p, (g.labels P v (passes-before (λ z. P z ≡ true) c d (λ n t e. values_kept before g.keeps n t e) g.continues p) q).1);
       sound = λ w z. (z, (g.sound w z).1);
       complete = λ w z q. unchanged d w z;
     }
@@ -165,6 +182,7 @@ stands_later {c} {d} {x} {u} {b} {whole} {t} {r} fair s k h g =
       named_regions = g.named_regions;
       closed = g.closed;
       alike = AreAlike-continues c d r t fair.sound s h.continues fair.sides g.knows k g.alike;
+      labels = λ P v p q. (p, (g.labels P v (h.labels_before P p) q).1);
       sound = λ w z. (z, (g.sound w (h.sound w z)).1);
       complete = λ w z q. unchanged d w z;
     }
@@ -184,6 +202,7 @@ stands_whole h g =
       named_regions = g.named_regions;
       closed = g.closed;
       alike = g.alike;
+      labels = λ P v p q. let later = h.labels P v p q in (later, (g.labels P v later q).1);
       sound = λ w z. (h.sound w z, (g.sound w z).1);
       complete = λ w z names. h.complete w z names;
     }

@@ -34,6 +34,7 @@ value_of ts e t v k =
       same = k.step.same;
       lower = k.step.lower;
       closed = k.closed;
+      labels = k.labels;
       worlds = k.worlds;
     }
 

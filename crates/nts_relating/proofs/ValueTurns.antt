@@ -62,7 +62,7 @@ turn_done ts us e f x u root p xs y m n r w is ext law made_in g more =
     let d = content_of us f in
     let front = AreTasks-front ts c u root xs y w.tasks in
     let part : IsPart ts c u root p = subst (IsPart ts c u root) is (task_part ts c u root y front.1) in
-    let grows : WalkGrows c d x u (tree_at ts root.term) = grows_by part.part g in
+    let grows : WalkGrows c d x u (tree_at ts root.term) = grows_by w.lawful.sound part.part g in
     let within : x < length c.slots = omega (arith, w.known, length-slots ts e.variables) in
     let at = ext.kept p.term part.within in
     let ready : AreReady ts n xs = subst (AreReady ts n) (append-nil xs) (ready_front ts m n y [] (λ zs. rw (append-nil zs) (covers_done y is more zs)) tt xs w.ready) in
@@ -70,7 +70,7 @@ turn_done ts us e f x u root p xs y m n r w is ext law made_in g more =
       within = IsIn-extended ext p.term part.within;
       made_in = made_in;
       knows = rw at (Knows-later (tree_at ts p.term) grows.keeps.later part.part.knows);
-      stands = rw at (stands_now law.sound g);
+      stands = rw at (stands_now w.lawful.sound law.sound g);
     } in
     let fair : IsFair c = record { sound = w.lawful.sound; sides = lawful_sides ts e w.lawful } in
     record {
@@ -204,7 +204,7 @@ turn_passed ts e x u root p xs m n v r w found more =
     let value = front.1.2 in
     let old = w.made (record { term = v; binders = 0 }) r found in
     turn_done ts ts e e x u root p xs (task.Pass p v) m n r w refl (Extends-refl ts) w.lawful old.made_in
-    (gen_known c c x u p.binders (tree_at ts p.term) (tree_at ts v) (tree_at ts r) value.sort value.infer value.value_sort value.own_sort front.1.0.part.knows value.knows value.same value.worlds old.stands value.lower) more
+    (gen_known c c x u p.binders (tree_at ts p.term) (tree_at ts v) (tree_at ts r) value.sort value.infer value.value_sort value.own_sort front.1.0.part.knows value.knows value.same value.worlds old.stands value.lower value.labels) more
 
 -- at first
 pub walk_start : (ts : List Tree) (e : Entries) (x u : ℕ) (root : Part) (ys : List Task) (m : Part → Option NodeId) → IsLawful ts e → x < length e.variables → u ≤ e.universe → (kind_at (content_of ts e) x ≡ Some kind.Region → ⊥) → IsIn ts root.term → Knows (content_of ts e) (tree_at ts root.term) → root.binders + root.term.number < 2 ^ 64 → ((p : Part) → m p ≡ None) → ys ≡ task.Enter root ∷ [] → IsWalk ts e x u root ys m

@@ -1,5 +1,5 @@
 -- The walk that makes the value of a variable: what is left to do, and what stands for the parts so far.
-use Rattle.std.specs.Prelude.{◌≡◌, ◌≢◌, ◌⊎◌, ℕ, ◌+◌, ◌*◌, ◌^◌, ◌<◌, ◌≤◌, length, List, [], ◌∷◌, ◌++◌, Option, Some, None, false}
+use Rattle.std.specs.Prelude.{◌≡◌, ◌≢◌, ◌⊎◌, ℕ, ◌+◌, ◌*◌, ◌^◌, ◌<◌, ◌≤◌, length, List, [], ◌∷◌, ◌++◌, Option, Some, None, Bool, false}
 use Rattle.std.specs.HashMap.{HashMap, get}
 use Rattle.nts_model.specs.declared.labels.VariableKind.TheVariants as kind
 use Rattle.nts_model.specs.declared.labels.Label.{Label}
@@ -7,6 +7,7 @@ use Rattle.nts_model.specs.Trees.{Tree, empty, more, node, NodeKind, kind_of, ch
 use Rattle.nts_model.specs.Contents.{Content, universe_of, kind_at}
 use Rattle.nts_model.specs.Resolving.{Knows, IsInfer, resolved, variable_of, variable_flag, variable_rank, left_to_resolve}
 use Rattle.nts_model.specs.Placeholders.{CanName}
+use Rattle.nts_model.specs.Passing.{PassesVariables, TreePasses, TablePasses}
 use Rattle.nts_model.specs.Levels.{NamesAll, term_level}
 use Rattle.nts_model.specs.Worlds.{World, inst, Solves}
 use Rattle.nts_model.specs.Holding.{Continues}
@@ -35,6 +36,7 @@ pub record IsValueOf (c : Content) (t v : Tree) : Type 0 where
   pub same : resolved c t ≡ resolved c v
   pub lower : variable_rank v < variable_rank t
   pub closed : IsClosed v
+  pub labels : (P : Label → Bool) → TablePasses P c → TreePasses P v
   pub worlds : (w : World) → Solves c w → inst w t ≡ inst w v
 
 -- a node that may stand in the value, over other children
@@ -57,12 +59,15 @@ pub record WalkGrows (c d : Content) (x u : ℕ) (t : Tree) : Type 0 where
   pub keeps : Keeps c d
   pub continues : Continues c d
   pub own : universe_of d x ≡ universe_of c x
+  pub labels : (P : Label → Bool) → PassesVariables P → TablePasses P c → TreePasses P t → TablePasses P d
+  pub labels_before : (P : Label → Bool) → TablePasses P d → TablePasses P c
   pub sound : (w : World) → Solves d w → Solves c w
   pub complete : (w : World) → Solves c w → NamesAll term_level u (inst w t) → ExtensionIf c d w (λ f. NamesAll f u (inst w t))
 
 -- t, under b binders, is a part of the whole, which stands under n, or of what the whole is under the table's values
 pub record IsPartOf (c : Content) (u n : ℕ) (whole : Tree) (b : ℕ) (t : Tree) : Type 0 where
   pub knows : Knows c t
+  pub labels : (P : Label → Bool) → TablePasses P c → TreePasses P whole → TreePasses P t
   pub names : (f : Label → Option ℕ) (w : World) → Solves c w → NamesAll f u (inst w whole) → NamesAll f u (inst w t)
   pub closed : (w : World) → Solves c w → IsClosedUnder n (inst w whole) → IsClosedUnder b (inst w t)
   pub smaller : (w : World) → Solves c w → size (inst w t) + variable_flag t ≤ size (inst w whole) + variable_flag whole

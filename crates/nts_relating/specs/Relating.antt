@@ -3,11 +3,13 @@ use Rattle.std.specs.Prelude.{◌≡◌, ◌≢◌, ℕ, ◌+◌, ◌≤◌, ◌
 use Rattle.nts_model.specs.declared.labels.VariableKind.{VariableKind}
 use Rattle.nts_model.specs.declared.labels.VariableKind.TheVariants as kind
 use Rattle.nts_model.specs.declared.labels.Sort.TheVariants as sort
+use Rattle.nts_model.specs.declared.labels.Label.{Label}
 use Rattle.nts_model.specs.Trees.{Tree, empty, more, node, size, kind_of, kind_of_label, of_sort, row_length, IsClosedUnder}
 use Rattle.nts_model.specs.Contents.{Content, unset, state_of, universe_of, kind_at}
 use Rattle.nts_model.specs.Resolving.{Knows, IsInfer, Lacks, resolved, variable_tree, variable_flag, variable_rank}
 use Rattle.nts_model.specs.Levels.{NamesAll, level_in, term_level, region_level}
 use Rattle.nts_model.specs.Fitting.{Fits}
+use Rattle.nts_model.specs.Passing.{PassesVariables, TreePasses, TablePasses, BringsLabelsOf, BringsNoLabels}
 use Rattle.nts_model.specs.Worlds.{World, inst, Solves}
 use Rattle.nts_model.specs.Holding.{Continues}
 use Rattle.nts_model.specs.Regions.{IsRegion}
@@ -58,6 +60,7 @@ pub record Generalized (c d : Content) (x u b : ℕ) (t r : Tree) : Type 0 where
   pub named_regions : NamesAll region_level u r
   pub closed : IsClosedUnder b r
   pub alike : AreAlike d r t
+  pub labels : (P : Label → Bool) → PassesVariables P → TablePasses P c → TreePasses P t → TablePasses P d × TreePasses P r
   pub sound : (w : World) → Solves d w → Solves c w × (inst w r ≡ inst w t)
   pub complete : (w : World) → Solves c w → NamesAll term_level u (inst w t) → ExtensionIf c d w (λ f. NamesAll f u (inst w t))
 
@@ -92,6 +95,7 @@ pub record IsOpen (ts : List Tree) (e : Entries) (t : Tree) (n : ℕ) : Type 0 w
 pub record IsClosedHead (c : Content) (t v : Tree) : Type 0 where
   pub knows : Knows c v
   pub no_variable : IsInfer v → ⊥
+  pub labels : (P : Label → Bool) → TablePasses P c → TreePasses P t → TreePasses P v
   pub same : resolved c t ≡ resolved c v
   pub worlds : (w : World) → Solves c w → inst w t ≡ inst w v
 
@@ -112,6 +116,7 @@ pub record RegionsRelate (c d : Content) (a b : Tree) : Type 0 where
   pub continues : Continues c d
   pub narrows : Narrows c d (λ w. inst w a ≡ inst w b)
   pub alike : AreAlike d a b
+  pub brings : BringsLabelsOf c d a b
 
 -- a variable got a value, or was joined with another
 pub record IsSet (c d : Content) (x : ℕ) (t : Tree) : Type 0 where
@@ -119,6 +124,7 @@ pub record IsSet (c d : Content) (x : ℕ) (t : Tree) : Type 0 where
   pub fewer : unset_count d.slots < unset_count c.slots
   pub continues : Continues c d
   pub alike : (k : VariableKind) → kind_at c x ≡ Some k → AreAlike d (variable_tree k x) t
+  pub brings : BringsLabelsOf c d t empty
   pub sound : (w : World) → Solves d w → Solves c w × (w.tree x ≡ inst w t)
   pub complete : (w : World) → Solves c w → w.tree x ≡ inst w t → Extension c d w
 
@@ -138,6 +144,10 @@ abbrev pub AreKnown : Content → List (Tree × Tree) → Type 0
 AreKnown c [] = Unit {0}
 AreKnown c (p ∷ ps) = Knows c p.0 × Knows c p.1 × AreKnown c ps
 
+abbrev pub PairsPass : (Label → Bool) → List (Tree × Tree) → Type 0
+PairsPass P [] = Unit {0}
+PairsPass P (p ∷ ps) = TreePasses P p.0 × TreePasses P p.1 × PairsPass P ps
+
 -- for the measure: the sizes of the resolved trees
 abbrev pub total : Content → List (Tree × Tree) → ℕ
 total c [] = 0
@@ -151,6 +161,7 @@ pub record Pushed (ts : List Tree) (ps qs : List Pair) (a b : Tree) (i : ℕ) : 
   pub complete : (w : World) → Equates w (pairs_at ts ps) → inst w (row_from i a) ≡ inst w (row_from i b) → Equates w (pairs_at ts qs)
   pub alike : (c : Content) → AllAlike c (pairs_at ts qs) → AllAlike c (pairs_at ts ps) × AreAlike c (row_from i a) (row_from i b)
   pub weight : (c : Content) → total c (pairs_at ts qs) + row_length (row_from i a) ≡ total c (pairs_at ts ps) + size (resolved c (row_from i a)) + size (resolved c (row_from i b))
+  pub labels : (P : Label → Bool) → TreePasses P a → TreePasses P b → PairsPass P (pairs_at ts ps) → PairsPass P (pairs_at ts qs)
   pub below : (j : Judge) (n : ℕ) → OneBelow j n (pairs_at ts qs) → OneBelow j n (pairs_at ts ps) × (judged_size j (row_from i a) ≤ n → JudgesOne j (row_from i a) (row_from i b))
 
 pub record IsValid (ts : List Tree) (e : Entries) (ps : List Pair) : Type 0 where
@@ -169,6 +180,7 @@ pub record AreMadeOne (c d : Content) (x y : ℕ) : Type 0 where
   pub fewer : unset_count d.slots < unset_count c.slots
   pub continues : Continues c d
   pub alike : (j k : VariableKind) → kind_at c x ≡ Some j → kind_at c y ≡ Some k → AreAlike d (variable_tree j x) (variable_tree k y)
+  pub brings : BringsNoLabels c d
   pub sound : (w : World) → Solves d w → Solves c w × (w.tree x ≡ w.tree y)
   pub complete : (w : World) → Solves c w → w.tree x ≡ w.tree y → Extension c d w
 
@@ -183,10 +195,15 @@ pub record CanTake (e : Entries) (x y : ℕ) : Type 0 where
   pub second : IsBindable e y
   pub takes : TakesVariable first.of_kind second.of_kind
 
+-- the second table and the pairs left have no labels but those of variables, of the first table and of the pairs before
+pub record PairsBring (c d : Content) (ps qs : List (Tree × Tree)) : Type 0 where
+  pub labels : (P : Label → Bool) → PassesVariables P → TablePasses P c → PairsPass P ps → TablePasses P d × PairsPass P qs
+
 -- what is left after a pair
 pub record IsPairStep (c d : Content) (ps qs : List (Tree × Tree)) (bound : Bool) : Type 0 where
   pub later : IsLater c d
   pub reduces : Reduces c d ps qs
+  pub brings : PairsBring c d ps qs
   pub fewer : bound ≡ true → unset_count d.slots < unset_count c.slots
   pub smaller : bound ≡ false → (total d qs < total c ps) × (unset_count d.slots ≡ unset_count c.slots)
 
@@ -194,6 +211,7 @@ pub record IsPairStep (c d : Content) (ps qs : List (Tree × Tree)) (bound : Boo
 pub record IsPairRun (c d : Content) (ps qs : List (Tree × Tree)) (bound : Bool) : Type 0 where
   pub later : IsLater c d
   pub reduces : Reduces c d ps qs
+  pub brings : PairsBring c d ps qs
   pub fewer : bound ≡ true → unset_count d.slots < unset_count c.slots
   pub ends : bound ≡ false → qs ≡ []
 
@@ -201,4 +219,5 @@ pub record IsPairRun (c d : Content) (ps qs : List (Tree × Tree)) (bound : Bool
 pub record Running (c d : Content) (ps qs : List (Tree × Tree)) : Type 0 where
   pub later : IsLater c d
   pub reduces : Reduces c d ps qs
+  pub brings : PairsBring c d ps qs
   pub not_more : unset_count d.slots ≤ unset_count c.slots

@@ -3,12 +3,13 @@ ghost use Rattle.std.specs.Prelude.{◌≡◌, ◌≢◌, ◌⊎◌, ℕ, ◌+�
 ghost use Rattle.nts_model.specs.Trees.{Tree, IsRow, row_length, children};
 ghost use Rattle.nts_model.specs.Resolving.{Knows};
 ghost use Rattle.nts_model.specs.Equations.{Reduces, Refuses, AreRelated, AreUnrelated};
+ghost use Rattle.nts_model.specs.Passing.{BringsLabelsOf};
 ghost use Rattle.nts_store.specs.Growth.{tree_at, IsIn, Extends};
 ghost use Rattle.nts_unify.specs.Entries.{Entries};
 ghost use Rattle.nts_unify.specs.Reading.{content_of, IsLawful, LinksDescend};
 ghost use Rattle.nts_unify.specs.Changing.{region_variable, is_free_region, IsLater};
 ghost use Rattle.nts_unify.specs.Joining.{IsBindable};
-ghost use Rattle.nts_relating.specs.Relating.{IsHead, IsClosedHead, IsRegionOf, RegionsRelate, IsSet, Forbids, KeepsApart, AreMadeOne, VariablesRelate, CanTake, IsValid, IsPairStep, IsPairRun, IsMemo, Pushed, pairs_at};
+ghost use Rattle.nts_relating.specs.Relating.{IsHead, IsClosedHead, IsRegionOf, RegionsRelate, IsSet, Forbids, KeepsApart, AreMadeOne, VariablesRelate, CanTake, IsValid, IsPairStep, IsPairRun, PairsBring, IsMemo, Pushed, pairs_at};
 ghost use Rattle.nts_store.specs.declared.fault.EvalError.TheVariants.{NoSolution};
 ghost use Rattle.nts_unify.specs.Entries.{KeepsHidden};
 
@@ -368,6 +369,7 @@ fn run_all(
     ensures lawful { OnOk result (IsLawful nodes.new table.new.entries) }
     ensures later { OnOk result (IsLater (content_of nodes.old table.old.entries) (content_of nodes.new table.new.entries)) }
     ensures reduces { OnOk result (Reduces (content_of nodes.old table.old.entries) (content_of nodes.new table.new.entries) (pairs_at nodes.old pairs.old.items) []) }
+    ensures brings { OnOk result (PairsBring (content_of nodes.old table.old.entries) (content_of nodes.new table.new.entries) (pairs_at nodes.old pairs.old.items) []) }
     ensures no { result ≡ Err NoSolution → Refuses (content_of nodes.old table.old.entries) (pairs_at nodes.old pairs.old.items) }
     ensures full { result ≢ Err EvalError.Full }
 {
@@ -384,7 +386,8 @@ fn run_all(
 }
 
 /// Makes two terms equal: afterwards the table has the solutions that it had before and that make
-/// them equal, and after an error it is as before.
+/// them equal, and no labels but its own, those of the terms and variables; after an error it is as
+/// before.
 pub fn relate_nodes(
     alloc: Global,
     nodes: &mut Nodes,
@@ -402,6 +405,7 @@ pub fn relate_nodes(
     ensures changes { KeepsHidden table.old table.new }
     ensures later { IsLater (content_of nodes.old table.old.entries) (content_of nodes.new table.new.entries) }
     ensures related { OnOk result (AreRelated (content_of nodes.old table.old.entries) (content_of nodes.new table.new.entries) (tree_at nodes.old a) (tree_at nodes.old b)) }
+    ensures labels { OnOk result (BringsLabelsOf (content_of nodes.old table.old.entries) (content_of nodes.new table.new.entries) (tree_at nodes.old a) (tree_at nodes.old b)) }
     ensures err { OnErr result (table.new ≡ table.old) }
     ensures no { result ≡ Err NoSolution → AreUnrelated (content_of nodes.old table.old.entries) (tree_at nodes.old a) (tree_at nodes.old b) }
     ensures full { result ≢ Err EvalError.Full }

@@ -7,8 +7,9 @@ use Rattle.nts_store.proofs.Growing.{Extends-refl}
 use Rattle.nts_unify.specs.Changing.{is_free_region}
 use Rattle.nts_unify.specs.Reading.{content_of}
 use Rattle.nts_unify.proofs.Keeping.{Keeps-refl, IsLater-refl}
+use Rattle.nts_model.proofs.Bringing.{brings-refl, brings-of}
 use Rattle.nts_relating.proofs.RegionLemmas.{region_of_term}
-use Rattle.nts_relating.proofs.PairLemmas.{Stepped, last_pair, step_kept, step_pushed, heads_same, heads_regions}
+use Rattle.nts_relating.proofs.PairLemmas.{Stepped, last_pair, step_kept, step_pushed, heads_same, heads_regions, regions_bring}
 use Rattle.nts_relating.proofs.MetPairs.{Passed, memo_done, memo_pushed, passed_met, met_keys, new_keys}
 use Rattle.nts_unify.proofs.Tests.{is_true, is_false}
 use Rattle.nts_relating.proofs.RefusalLemmas.{refuse_heads, true_false}
@@ -21,7 +22,7 @@ same_related c =
 
 same : (c : goal.Then-a-b) → Stepped c.args.nodes.now c.args.nodes.now c.args.table.now.entries c.args.table.now.entries c.args.pairs.now.items c.args.pairs.now.items c.args.pair false
 same c =
-    step_kept c.args.nodes.now c.args.table.now.entries c.args.table.now.entries c.args.pairs.now.items c.args.pair c.requires.valid c.requires.valid.lawful (Keeps-refl (content_of c.args.nodes.now c.args.table.now.entries)) (same_related c)
+    step_kept c.args.nodes.now c.args.table.now.entries c.args.table.now.entries c.args.pairs.now.items c.args.pair c.requires.valid c.requires.valid.lawful (Keeps-refl (content_of c.args.nodes.now c.args.table.now.entries)) (same_related c) (brings-of _ _ (brings-refl (content_of c.args.nodes.now c.args.table.now.entries)))
 
 pub returns-then-a-b-clause-valid : goal.returns-then-a-b-clause-valid
 returns-then-a-b-clause-valid c = (same c).valid
@@ -48,7 +49,7 @@ regions_related c =
 
 regions : (c : goal.In_ok-relate_regions) → Stepped c.args.nodes.now c.args.nodes.now c.args.table.now.entries c.relate_regions.new.table.entries c.args.pairs.now.items c.args.pairs.now.items c.args.pair false
 regions c =
-    step_kept c.args.nodes.now c.args.table.now.entries c.relate_regions.new.table.entries c.args.pairs.now.items c.args.pair c.requires.valid c.in_ok-relate_regions.ensures.lawful c.in_ok-relate_regions.ensures.related.keeps (regions_related c)
+    step_kept c.args.nodes.now c.args.table.now.entries c.relate_regions.new.table.entries c.args.pairs.now.items c.args.pair c.requires.valid c.in_ok-relate_regions.ensures.lawful c.in_ok-relate_regions.ensures.related.keeps (regions_related c) (regions_bring c.requires.left c.requires.right c.in_ok-relate_regions.ensures.related)
 
 pub returns-then-names_free_region-2-clause-valid : goal.returns-then-names_free_region-2-clause-valid
 returns-then-names_free_region-2-clause-valid c = (regions c).valid

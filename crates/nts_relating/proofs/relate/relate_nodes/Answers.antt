@@ -4,7 +4,7 @@ use Rattle.nts_unify.specs.Lawful.{IsLawful-extended, content_of-extended}
 use Rattle.nts_unify.specs.Reading.{content_of, IsLawful}
 use Rattle.nts_unify.specs.Changing.{IsLater}
 use Rattle.nts_unify.proofs.Keeping.{IsLater-refl}
-use Rattle.nts_relating.proofs.PairLemmas.{if_related}
+use Rattle.nts_relating.proofs.PairLemmas.{if_related, if_brings}
 use Rattle.nts_relating.proofs.relate.relate_nodes.Goals as goal
 
 pub returns-clause-lawful : goal.returns-clause-lawful
@@ -27,6 +27,13 @@ returns-clause-related c =
     let run = c.run_all-related.ensures in
     let end = c.commit_if_ok.ensures in
     rw end.same (if_related c.args.nodes.now c.run_all-related.new.nodes c.args.table.now.entries c.run_all-related.new.table.entries c.commit_if_ok.new.self.entries _ _ c.run_all-related.result (rw end.same at end.ok) run.lawful (rw (items, c.in_ok-snapshot.ensures.entries) at run.reduces))
+
+pub returns-clause-labels : goal.returns-clause-labels
+returns-clause-labels c =
+    let items : c.push.new.self.items ≡ record { left = c.args.a; right = c.args.b } ∷ [] = c.in_ok-push.ensures.items ∙ ap (λ xs. xs ++ record { left = c.args.a; right = c.args.b } ∷ []) c.new-pairs.ensures.items in
+    let run = c.run_all-related.ensures in
+    let end = c.commit_if_ok.ensures in
+    rw end.same (if_brings c.args.nodes.now c.run_all-related.new.nodes c.args.table.now.entries c.run_all-related.new.table.entries c.commit_if_ok.new.self.entries _ _ c.run_all-related.result (rw end.same at end.ok) (rw (items, c.in_ok-snapshot.ensures.entries) at run.brings))
 
 pub returns-in_err-push-clause-later : goal.returns-in_err-push-clause-later
 returns-in_err-push-clause-later c = IsLater-refl (content_of c.args.nodes.now c.args.table.now.entries)

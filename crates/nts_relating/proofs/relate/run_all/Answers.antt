@@ -1,7 +1,7 @@
 use Rattle.std.proofs.Common.{refl, ◌∙◌}
 use Rattle.nts_store.proofs.Growing.{Extends-refl, Extends-trans}
 use Rattle.nts_unify.specs.Reading.{content_of}
-use Rattle.nts_relating.proofs.PairLemmas.{running_start, all_step, all_done, err_of}
+use Rattle.nts_relating.proofs.PairLemmas.{running_start, all_step, all_done, all_bring, err_of}
 use Rattle.nts_relating.proofs.RefusalLemmas.{Refuses-before}
 use Rattle.nts_relating.proofs.relate.run_all.Goals as goal
 use Rattle.nts_unify.proofs.Keeping.{KeepsHidden-refl, KeepsHidden-trans, IsLater-trans}
@@ -24,6 +24,9 @@ loop-error-preserved c =
 pub returns-then-not-bound-clause-reduces : goal.returns-then-not-bound-clause-reduces
 returns-then-not-bound-clause-reduces c =
     all_done c.requires.valid.lawful.sound c.loop-error.invariant.valid.lawful.sound c.loop-error.invariant.running c.in-Ok.ensures.run c.if-not-bound.true
+
+pub returns-then-not-bound-clause-brings : goal.returns-then-not-bound-clause-brings
+returns-then-not-bound-clause-brings c = all_bring c.loop-error.invariant.running c.in-Ok.ensures.run c.if-not-bound.true
 
 pub returns-in-Err-clause-no : goal.returns-in-Err-clause-no
 returns-in-Err-clause-no c = λ q. Refuses-before c.loop-error.invariant.running.reduces (c.in-Err.ensures.no (err_of _ _ q))
