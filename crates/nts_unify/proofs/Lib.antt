@@ -2,6 +2,7 @@ pub mod Changes
 pub mod EntryLemmas
 pub mod JoinLemmas
 pub mod Keeping
+pub mod Labelled
 pub mod Leading
 pub mod Merging
 pub mod SavedLemmas
