@@ -2,6 +2,7 @@
 ghost use Rattle.std.specs.Prelude.{◌≡◌, true, OnOk, OnErr, IsOkUnless};
 ghost use Rattle.nts_model.specs.declared.labels.Relation.TheVariants as relation;
 ghost use Rattle.nts_model.specs.Resolving.{Knows};
+ghost use Rattle.nts_model.specs.Passing.{BringsLabelsOf};
 ghost use Rattle.nts_store.specs.Growth.{tree_at};
 ghost use Rattle.nts_terms.specs.Handles.{HoldsTy, HoldsRegion};
 ghost use Rattle.nts_unify.specs.Reading.{content_of, IsConstraint};
@@ -31,6 +32,7 @@ impl InferCtxt {
         requires left_known { Knows (content_of cx.now.nodes self.old.entries) (tree_at cx.now.nodes a.node) }
         requires right_known { Knows (content_of cx.now.nodes self.old.entries) (tree_at cx.now.nodes b.node) }
         ensures recorded { OnOk result (Records cx.now.nodes self.old.entries self.new.entries (record { relation = relation.RegionOutlives; left = b.node; right = a.node; is_visible = is_visible visible })) }
+        ensures labels { OnOk result (BringsLabelsOf (content_of cx.now.nodes self.old.entries) (content_of cx.now.nodes self.new.entries) (tree_at cx.now.nodes b.node) (tree_at cx.now.nodes a.node)) }
         ensures table { IsTable cx.now.nodes self.new }
         ensures changes { ChangesVariables self.old self.new }
         ensures err { OnErr result (self.new ≡ self.old) }
@@ -61,6 +63,7 @@ impl InferCtxt {
         requires left_known { Knows (content_of cx.now.nodes self.old.entries) (tree_at cx.now.nodes ty.node) }
         requires right_known { Knows (content_of cx.now.nodes self.old.entries) (tree_at cx.now.nodes region.node) }
         ensures recorded { OnOk result (Records cx.now.nodes self.old.entries self.new.entries (record { relation = relation.TypeOutlives; left = ty.node; right = region.node; is_visible = true })) }
+        ensures labels { OnOk result (BringsLabelsOf (content_of cx.now.nodes self.old.entries) (content_of cx.now.nodes self.new.entries) (tree_at cx.now.nodes ty.node) (tree_at cx.now.nodes region.node)) }
         ensures table { IsTable cx.now.nodes self.new }
         ensures changes { ChangesVariables self.old self.new }
         ensures err { OnErr result (self.new ≡ self.old) }
@@ -82,6 +85,7 @@ impl InferCtxt {
         requires table { IsTable nodes.now self.old }
         requires sides { IsConstraint nodes.now (content_of nodes.now self.old.entries) constraint }
         ensures recorded { OnOk result (Records nodes.now self.old.entries self.new.entries constraint) }
+        ensures labels { OnOk result (BringsLabelsOf (content_of nodes.now self.old.entries) (content_of nodes.now self.new.entries) (tree_at nodes.now constraint.left) (tree_at nodes.now constraint.right)) }
         ensures table { IsTable nodes.now self.new }
         ensures changes { ChangesVariables self.old self.new }
         ensures err { OnErr result (self.new ≡ self.old) }

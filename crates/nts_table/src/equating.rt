@@ -3,6 +3,7 @@ ghost use Rattle.std.specs.Prelude.{◌≡◌, ◌⊎◌, ◌<◌, length, List,
 ghost use Rattle.nts_model.specs.declared.labels.VariableKind.TheVariants as kinds;
 ghost use Rattle.nts_model.specs.Contents.{kind_at};
 ghost use Rattle.nts_model.specs.Resolving.{Knows};
+ghost use Rattle.nts_model.specs.Passing.{BringsLabelsOf};
 ghost use Rattle.nts_model.specs.Regions.{IsRegion};
 ghost use Rattle.nts_model.specs.Trees.{Tree};
 ghost use Rattle.nts_store.specs.Growth.{tree_at, IsIn};
@@ -39,6 +40,7 @@ impl InferCtxt {
         requires left_free { IsRegion (tree_at cx.now.nodes a.node) }
         requires right_free { IsRegion (tree_at cx.now.nodes b.node) }
         ensures equated { OnOk result (Equated cx.now.nodes self.old.entries self.new.entries a.node b.node (is_visible visible)) }
+        ensures labels { OnOk result (BringsLabelsOf (content_of cx.now.nodes self.old.entries) (content_of cx.now.nodes self.new.entries) (tree_at cx.now.nodes a.node) (tree_at cx.now.nodes b.node)) }
         ensures table { IsTable cx.now.nodes self.new }
         ensures changes { ChangesVariables self.old self.new }
         ensures err { OnErr result (self.new ≡ self.old) }

@@ -3,6 +3,7 @@ ghost use Rattle.std.specs.Prelude.{◌≡◌, ◌≢◌, [], Err, IfOk, OnOk, O
 ghost use Rattle.nts_model.specs.declared.labels.Variance.TheVariants as variances;
 ghost use Rattle.nts_model.specs.Trees.{Place, is, any_term, any_argument, arguments, a_type, a_region, a_const};
 ghost use Rattle.nts_model.specs.Equations.{AreRelated, AreUnrelated};
+ghost use Rattle.nts_model.specs.Passing.{BringsLabelsOf};
 ghost use Rattle.nts_store.specs.declared.nodes.NodeId.{NodeId};
 ghost use Rattle.nts_store.specs.Growth.{tree_at};
 ghost use Rattle.nts_unify.specs.Reading.{content_of};
@@ -183,6 +184,7 @@ impl InferCtxt {
         ensures goals { IfOk result (λ gs. gs.items ≡ []) }
         ensures heads { OnOk result (T.head lhs ≡ T.head rhs) }
         ensures related { OnOk result (AreRelated (content_of cx.old.nodes self.old.entries) (content_of cx.new.nodes self.new.entries) (tree_at cx.old.nodes (T.id lhs)) (tree_at cx.old.nodes (T.id rhs))) }
+        ensures labels { OnOk result (BringsLabelsOf (content_of cx.old.nodes self.old.entries) (content_of cx.new.nodes self.new.entries) (tree_at cx.old.nodes (T.id lhs)) (tree_at cx.old.nodes (T.id rhs))) }
         ensures no { result ≡ Err EvalError.NoSolution → T.head lhs ≡ T.head rhs → AreUnrelated (content_of cx.old.nodes self.old.entries) (tree_at cx.old.nodes (T.id lhs)) (tree_at cx.old.nodes (T.id rhs)) }
         ensures keeps { RelatingKeeps cx.old cx.new self.old self.new }
         ensures err { OnErr result (self.new ≡ self.old) }
@@ -207,6 +209,7 @@ impl InferCtxt {
         requires right { IsSide T.place cx.old.nodes self.old (T.id rhs) }
         ensures heads { OnOk result (T.head lhs ≡ T.head rhs) }
         ensures related { OnOk result (AreRelated (content_of cx.old.nodes self.old.entries) (content_of cx.new.nodes self.new.entries) (tree_at cx.old.nodes (T.id lhs)) (tree_at cx.old.nodes (T.id rhs))) }
+        ensures labels { OnOk result (BringsLabelsOf (content_of cx.old.nodes self.old.entries) (content_of cx.new.nodes self.new.entries) (tree_at cx.old.nodes (T.id lhs)) (tree_at cx.old.nodes (T.id rhs))) }
         ensures no { result ≡ Err EvalError.NoSolution → T.head lhs ≡ T.head rhs → AreUnrelated (content_of cx.old.nodes self.old.entries) (tree_at cx.old.nodes (T.id lhs)) (tree_at cx.old.nodes (T.id rhs)) }
         ensures keeps { RelatingKeeps cx.old cx.new self.old self.new }
         ensures err { OnErr result (self.new ≡ self.old) }

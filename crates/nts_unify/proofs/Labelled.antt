@@ -10,7 +10,7 @@ use Rattle.nts_store.specs.Growth.{tree_at, Extends}
 use Rattle.nts_unify.specs.declared.contents.State.TheVariants.{Unset, Link}
 use Rattle.nts_unify.specs.declared.contents.Variable.{Variable}
 use Rattle.nts_unify.specs.declared.contents.Constraint.{Constraint}
-use Rattle.nts_unify.specs.Entries.{Entries, added, moved, with_variable}
+use Rattle.nts_unify.specs.Entries.{Entries, added, moved, with_variable, constrained}
 use Rattle.nts_unify.specs.Reading.{state_with, slot_of, recorded_of, content_of, IsLawful}
 use Rattle.nts_unify.specs.Lawful.{content_of-extended, content_of-added, content_of-constrained}
 use Rattle.nts_unify.specs.Recording.{Records}
@@ -25,11 +25,14 @@ added_brings ts us e f v h ext q free =
 pub moved_brings : (ts : List Tree) (e f : Entries) (u : ℕ) → f ≡ moved e u → BringsNoLabels (content_of ts e) (content_of ts f)
 moved_brings ts e f u q = rw q (brings-same (content_of ts e) (content_of ts (moved e u)) (λ n t h. h) refl)
 
--- a constraint
+-- one more constraint
+pub constrained_brings : (ts : List Tree) (e f : Entries) (x : Constraint) → f ≡ constrained e x → BringsLabelsOf (content_of ts e) (content_of ts f) (tree_at ts x.left) (tree_at ts x.right)
+constrained_brings ts e f x q = rw (q, content_of-constrained ts e x) (brings-with_constraint (content_of ts e) (recorded_of ts x))
+
 pub records_bring : (ts : List Tree) (e f : Entries) (x : Constraint) → Records ts e f x → BringsLabelsOf (content_of ts e) (content_of ts f) (tree_at ts x.left) (tree_at ts x.right)
 records_bring ts e f x h = ⊎_elim
     (λ p. rw p.1 (brings-of (tree_at ts x.left) (tree_at ts x.right) (brings-refl (content_of ts e))))
-    (λ p. rw (p.1, content_of-constrained ts e x) (brings-with_constraint (content_of ts e) (recorded_of ts x))) h
+    (λ p. constrained_brings ts e f x p.1) h
 
 -- two classes of regions that become one
 links_bring : (ts : List Tree) (e f : Entries) (r s : ℕ) → RegionsLinked e f r s → BringsNoLabels (content_of ts e) (content_of ts f)
