@@ -9,6 +9,11 @@ use Rattle.nts_store.specs.declared.nodes.NodeId.{NodeId}
 use Rattle.nts_store.specs.Growth.{tree_at, trees_at, IsIn, AllIn, Extends}
 use Rattle.nts_store.proofs.Growing.{trees_at-push, trees_at-extended, AllIn-extended, AllIn-push}
 use Rattle.nts_unify.specs.Entries.{Entries, added}
+use Rattle.nts_unify.specs.Reading.{content_of, IsLawful}
+use Rattle.nts_unify.specs.Lawful.{content_of-extended}
+use Rattle.nts_unify.proofs.Labelled.{new_brings}
+use Rattle.nts_model.specs.Passing.{BringsNoLabels}
+use Rattle.nts_model.proofs.Bringing.{brings-refl, brings-trans}
 use Rattle.nts_table.specs.Making.{new_variable}
 use Rattle.nts_table.specs.Fresh.{variable_kind, with_fresh, fresh_row}
 
@@ -53,3 +58,12 @@ fresh_more a b ns n e f g ss i h x below within tree entries =
       within = AllIn-push b ns n (AllIn-extended x ns h.within) within;
       entries = rw taken (entries ∙ ap (λ z. added z (new_variable z (variable_kind s))) h.entries ∙ sym (with_fresh-push e (take i ss) s));
     }
+
+-- new variables bring no labels
+pub fresh_brings : (ts us : List Tree) (e f : Entries) (ss : List Sort) → IsLawful ts e → Extends ts us → f ≡ with_fresh e ss → BringsNoLabels (content_of ts e) (content_of us f)
+fresh_brings ts us e f ss h ext q = rw (q, ← content_of-extended ext h) (by_list e ss)
+  where
+    by_list : (c : Entries) (rs : List Sort) → BringsNoLabels (content_of us c) (content_of us (with_fresh c rs))
+    by_list c [] = brings-refl (content_of us c)
+    by_list c (s ∷ rs) =
+        brings-trans (new_brings us c (new_variable c (variable_kind s)) refl) (by_list (added c (new_variable c (variable_kind s))) rs)

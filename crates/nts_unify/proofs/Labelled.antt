@@ -1,7 +1,7 @@
 -- Changes of a table's entries that bring no labels but those of given trees.
-use Rattle.std.proofs.Common.{◌≡◌, ⊎_elim, ℕ, Bool, min, max, List, Option, Some, None, refl, ap, ◌∙◌, arith}
+use Rattle.std.proofs.Common.{◌≡◌, ⊎_elim, ℕ, Bool, min, max, List, Option, Some, None, refl, sym, ap, ◌∙◌, arith}
 use Rattle.nts_model.specs.Trees.{Tree}
-use Rattle.nts_model.specs.Contents.{Content, changed}
+use Rattle.nts_model.specs.Contents.{Content, state_of, changed}
 use Rattle.nts_model.specs.Passing.{BringsLabelsOf, BringsNoLabels}
 use Rattle.nts_model.proofs.Slots.{slice_get_below, slice_get-slice_set_other, field-changed_same, field-changed_other, field-changed_kept}
 use Rattle.nts_model.proofs.Bringing.{brings-refl, brings-of, brings-same, brings-linked, brings-with_slot, brings-with_constraint}
@@ -14,16 +14,34 @@ use Rattle.nts_unify.specs.Entries.{Entries, added, moved, with_variable, constr
 use Rattle.nts_unify.specs.Reading.{state_with, slot_of, recorded_of, content_of, IsLawful}
 use Rattle.nts_unify.specs.Lawful.{content_of-extended, content_of-added, content_of-constrained}
 use Rattle.nts_unify.specs.Recording.{Records}
+use Rattle.nts_unify.specs.Roots.{SubLinked, SubRootsJoin}
 use Rattle.nts_unify.specs.Equating.{RegionsLinked, RegionsJoined, EquatedAt}
 use Rattle.nts_unify.proofs.Changes.{slot_at, content_of-with_variable}
 
--- a new variable of which nothing is known, in a store that may have grown; another universe
-pub added_brings : (ts us : List Tree) (e f : Entries) (v : Variable) → IsLawful ts e → Extends ts us → f ≡ added e v → v.state ≡ Unset → BringsNoLabels (content_of ts e) (content_of us f)
-added_brings ts us e f v h ext q free =
-    rw (q, content_of-added us e v, ← content_of-extended ext h) (brings-with_slot (content_of us e) (slot_of us v) (ap (state_with us) free))
+-- a new variable of which nothing is known
+pub new_brings : (ts : List Tree) (e : Entries) (v : Variable) → v.state ≡ Unset → BringsNoLabels (content_of ts e) (content_of ts (added e v))
+new_brings ts e v free = rw (content_of-added ts e v) (brings-with_slot (content_of ts e) (slot_of ts v) (ap (state_with ts) free))
 
+-- .. in a store that has grown
+pub added_brings : (ts us : List Tree) (e f : Entries) (v : Variable) → IsLawful ts e → Extends ts us → f ≡ added e v → v.state ≡ Unset → BringsNoLabels (content_of ts e) (content_of us f)
+added_brings ts us e f v h ext q free = rw (q, ← content_of-extended ext h) (new_brings us e v free)
+
+-- another universe
 pub moved_brings : (ts : List Tree) (e f : Entries) (u : ℕ) → f ≡ moved e u → BringsNoLabels (content_of ts e) (content_of ts f)
 moved_brings ts e f u q = rw q (brings-same (content_of ts e) (content_of ts (moved e u)) (λ n t h. h) refl)
+
+-- sub-unification classes that become one
+pub sub_joined_brings : (ts : List Tree) (e f : Entries) (x y : ℕ) → SubRootsJoin e f x y → BringsNoLabels (content_of ts e) (content_of ts f)
+sub_joined_brings ts e f x y j = ⊎_elim
+    (λ (p : (j.first ≡ j.second) × (f ≡ e)). rw p.1 (brings-refl (content_of ts e)))
+    (λ (p : SubLinked e f j.first j.second).
+    let c = content_of ts e in
+    let n = max j.first j.second in
+    let w : Variable = record p.variable { sub_link = Some (min j.first j.second) } in
+    let d = changed c n (slot_of ts w) in
+    let is : content_of ts f ≡ d = ap (content_of ts) p.entries ∙ content_of-with_variable ts e n w in
+    let same : (m : ℕ) → state_of d m ≡ state_of c m = λ m. field-changed_kept (λ x. x.state) c n m (slot_of ts p.variable) (slot_of ts w) (slot_at ts e n p.variable p.at) refl in
+    rw is (brings-same c d (λ m t h. sym (same m) ∙ h) refl)) j.joined
 
 -- one more constraint
 pub constrained_brings : (ts : List Tree) (e f : Entries) (x : Constraint) → f ≡ constrained e x → BringsLabelsOf (content_of ts e) (content_of ts f) (tree_at ts x.left) (tree_at ts x.right)
