@@ -57,7 +57,8 @@ fn same_hidden(nodes: &Nodes, a: &[(AliasTerm, Ty)], b: &[(AliasTerm, Ty)]) -> b
     true
 }
 
-fn same_pair(nodes: &Nodes, a: (AliasTerm, Ty), b: (AliasTerm, Ty)) -> bool
+/// Whether two hidden types of one store are one, of one alias.
+pub fn same_pair(nodes: &Nodes, a: (AliasTerm, Ty), b: (AliasTerm, Ty)) -> bool
     requires left { IsHidden nodes.now a }
     requires right { IsHidden nodes.now b }
     ensures { IsTrue result ↔ AreOnePair nodes.now a b }
@@ -71,7 +72,8 @@ fn same_pair(nodes: &Nodes, a: (AliasTerm, Ty), b: (AliasTerm, Ty)) -> bool
     nodes.same(a.1.node, b.1.node)
 }
 
-fn same_kinds(a: &[CanonicalVarKind], b: &[CanonicalVarKind]) -> bool
+/// Whether the kinds of two lists of positions are the same, in order.
+pub fn same_kinds(a: &[CanonicalVarKind], b: &[CanonicalVarKind]) -> bool
     ensures { IsTrue result ↔ (map kind_of_var a.now ≡ map kind_of_var b.now) }
 {
     if a.len() != b.len() {

@@ -33,6 +33,8 @@ use Rattle.nts_response.specs.Replacing.{value_at}
 use Rattle.nts_response.specs.Applied.{StepKeeps, content_in, HaveSorts}
 use Rattle.nts_response.specs.Applicable.{IsKindFor, IsApplicable, IsApplied, IsPut}
 use Rattle.nts_response.specs.Registered.{TakesAll}
+use Rattle.nts_response.specs.Placing.{ArePlaced, JoinsNew}
+use Rattle.nts_response.proofs.Placed.{placed_moved, joins_since}
 use Rattle.nts_response.proofs.Each.{same_views, values_kept, constraints_kept, hidden_kept, goals_kept}
 use Rattle.nts_response.proofs.Stepping.{arg_later}
 use Rattle.nts_response.proofs.MadeValues.{known_originals}
@@ -53,23 +55,32 @@ response_kept a b r e h =
       open_goals = list_holds (HoldsOpen a) (HoldsOpen b) (λ x q. g.held a b x q e) r.external_constraints.normalization_nested_goals.items h.open_goals;
     }
 
--- values were chosen for the positions of the response r to the originals os
-pub record Chose (a b : List Tree) (t u : Table) (os : List GenericArg) (r : Canonical Response) (chosen : List GenericArg) : Type 0 where
-  pub chooses : ChoosesAll (content_of a t.entries) (trees_of a r.value.var_values.items) (trees_of a os) 0 (map kind_of_var r.var_kinds.items) (trees_of b chosen) (in_universe (content_of a t.entries) (t.entries.universe + r.max_universe)) (content_of b u.entries)
+-- values were chosen for positions of these kinds, where the values vs are applied to the originals os and m universes were
+-- made
+pub record ChoseFor (a b : List Tree) (t u : Table) (os vs : List GenericArg) (ks : List CanonicalVarKind) (m : ℕ) (chosen : List GenericArg) : Type 0 where
+  pub chooses : ChoosesAll (content_of a t.entries) (trees_of a vs) (trees_of a os) 0 (map kind_of_var ks) (trees_of b chosen) (in_universe (content_of a t.entries) (t.entries.universe + m)) (content_of b u.entries)
   pub args : All (IsArgOf b u.entries) chosen
-  pub sorts : HaveSorts (map kind_of_var r.var_kinds.items) (trees_of b chosen)
+  pub placed : JoinsNew (ArePlaced (map kind_of_var ks) (trees_of b chosen)) (content_of a t.entries) (content_of b u.entries)
+  pub sorts : HaveSorts (map kind_of_var ks) (trees_of b chosen)
   pub extends : Extends a b
 
-pub chose : (a b : List Tree) (t w u : Table) (os : List GenericArg) (r : Canonical Response) (chosen : List GenericArg) (p : ℕ) → p ≡ t.entries.universe → w.entries ≡ moved t.entries (t.entries.universe + r.max_universe)
-    → ChoosesAll (content_in a w.entries p) (trees_of a r.value.var_values.items) (trees_of a os) 0 (map kind_of_var r.var_kinds.items) (trees_of b chosen) (content_of a w.entries) (content_of b u.entries)
-    → All (IsArgOf b u.entries) chosen → HaveSorts (map kind_of_var r.var_kinds.items) (trees_of b chosen) → Extends a b → Chose a b t u os r chosen
-chose a b t w u os r chosen p q e h args sorts up =
-    let vs = trees_of a r.value.var_values.items in
-    let ks = map kind_of_var r.var_kinds.items in
+-- .. of the response r
+abbrev pub Chose : List Tree → List Tree → Table → Table → List GenericArg → Canonical Response → List GenericArg → Type 0
+Chose a b t u os r chosen = ChoseFor a b t u os r.value.var_values.items r.var_kinds.items r.max_universe chosen
+
+pub chose : (a b : List Tree) (t w u : Table) (os vs : List GenericArg) (ks : List CanonicalVarKind) (m : ℕ) (chosen : List GenericArg) (p : ℕ) → p ≡ t.entries.universe → w.entries ≡ moved t.entries (t.entries.universe + m)
+    → ChoosesAll (content_in a w.entries p) (trees_of a vs) (trees_of a os) 0 (map kind_of_var ks) (trees_of b chosen) (content_of a w.entries) (content_of b u.entries)
+    → JoinsNew (ArePlaced (map kind_of_var ks) (trees_of b chosen)) (content_of a w.entries) (content_of b u.entries)
+    → All (IsArgOf b u.entries) chosen → HaveSorts (map kind_of_var ks) (trees_of b chosen) → Extends a b → ChoseFor a b t u os vs ks m chosen
+chose a b t w u os vs ks m chosen p q e h placed args sorts up =
+    let xs = trees_of a vs in
+    let kinds = map kind_of_var ks in
     record {
-      chooses = subst (λ (z : Entries). ChoosesAll (content_in a z t.entries.universe) vs (trees_of a os) 0 ks (trees_of b chosen) (content_of a z) (content_of b u.entries)) e
-          (subst (λ z. ChoosesAll (content_in a w.entries z) vs (trees_of a os) 0 ks (trees_of b chosen) (content_of a w.entries) (content_of b u.entries)) q h);
+      chooses = subst (λ (z : Entries). ChoosesAll (content_in a z t.entries.universe) xs (trees_of a os) 0 kinds (trees_of b chosen) (content_of a z) (content_of b u.entries)) e
+          (subst (λ z. ChoosesAll (content_in a w.entries z) xs (trees_of a os) 0 kinds (trees_of b chosen) (content_of a w.entries) (content_of b u.entries)) q h);
       args = args;
+      placed = placed_moved (ArePlaced kinds (trees_of b chosen)) (content_of a t.entries) (content_of b u.entries) (t.entries.universe + m)
+          (subst (λ (z : Entries). JoinsNew (ArePlaced kinds (trees_of b chosen)) (content_of a z) (content_of b u.entries)) e placed);
       sorts = sorts;
       extends = up;
     }
@@ -87,11 +98,11 @@ nodes_in ts e [] h = tt
 nodes_in ts e (x ∷ xs) h = ((let y = h 0 x (omega arith) in let held = y.holds in held.within), nodes_in ts e xs (λ k d l. h (suc k) d (omega (arith, l))))
 
 -- the originals as trees
-originals_known : (ts : List Tree) (e : Entries) (os : List GenericArg) → All (IsArgOf ts e) os → AreKnownTrees (content_of ts e) (trees_of ts os)
+pub originals_known : (ts : List Tree) (e : Entries) (os : List GenericArg) → All (IsArgOf ts e) os → AreKnownTrees (content_of ts e) (trees_of ts os)
 originals_known ts e [] h = tt
 originals_known ts e (x ∷ xs) h = ((let y = h 0 x (omega arith) in y.known), originals_known ts e xs (λ k d l. h (suc k) d (omega (arith, l))))
 
-originals_closed : (ts : List Tree) (e : Entries) (os : List GenericArg) → AreFormed ts → All (IsArgOf ts e) os → All (λ o. IsClosed (tree_at ts o.node)) os → AllTrees (IsClosedTerm (content_of ts e)) (trees_of ts os)
+pub originals_closed : (ts : List Tree) (e : Entries) (os : List GenericArg) → AreFormed ts → All (IsArgOf ts e) os → All (λ o. IsClosed (tree_at ts o.node)) os → AllTrees (IsClosedTerm (content_of ts e)) (trees_of ts os)
 originals_closed ts e [] f h c = tt
 originals_closed ts e (x ∷ xs) f h c =
     let y = h 0 x (omega arith) in
@@ -100,7 +111,7 @@ originals_closed ts e (x ∷ xs) f h c =
       originals_closed ts e xs f (λ k d l. h (suc k) d (omega (arith, l))) (λ k d l. c (suc k) d (omega (arith, l))),
     )
 
-name_originals : (m : ℕ) (os : List Tree) (ks : List CanonicalVarKind) → All (λ k. IsKindFor m os (kind_of_var k)) ks → NameOriginals os (map kind_of_var ks)
+pub name_originals : (m : ℕ) (os : List Tree) (ks : List CanonicalVarKind) → All (λ k. IsKindFor m os (kind_of_var k)) ks → NameOriginals os (map kind_of_var ks)
 name_originals m os [] h = tt
 name_originals m os (k ∷ ks) h = ((let y = h 0 k (omega arith) in y.original), name_originals m os ks (λ j d l. h (suc j) d (omega (arith, l))))
 
@@ -162,5 +173,8 @@ module _ (a b : List Tree) (t u : Table) (os : List GenericArg) (r : Canonical R
         hidden = put.hidden;
         registers = subst (λ z. TakesAll d (content_of d v.entries) z put.hidden_types v.entries.hidden) hidden put.registers;
         open_goals = put.open_goals;
+        shares = joins_since (ArePlaced (map kind_of_var r.var_kinds.items) (trees_of b chosen)) (content_of a t.entries) (content_of b u.entries) (content_of d v.entries) chosen_so.placed put.joins;
+        held = put.held;
+        known = put.known;
         shows = record { first = content_of b u.entries; equal = put.equal; chooses = chosen_so.chooses; makes = put.makes; seen = put.seen };
       }

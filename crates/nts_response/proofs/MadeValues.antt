@@ -39,11 +39,14 @@ use Rattle.nts_table.proofs.TermTables.{proper_content}
 use Rattle.nts_response.specs.Applied.{IsOriginal, AreGuesses, StepKeeps, content_in, IsMadeFor, GuessFits, HasSort, HaveSorts, NamesOriginal, original_named}
 use Rattle.nts_canonical.proofs.VarLists.{map-push}
 use Rattle.nts_response.specs.Replacing.{value_at}
+use Rattle.nts_store.proofs.Growing.{Extends-refl}
+use Rattle.nts_response.specs.Placing.{ArePlaced, IsPlacedNext, JoinsNew}
 use Rattle.nts_response.proofs.Each.{same_views, values_kept}
+use Rattle.nts_response.proofs.Placed.{placed_none, placed_more, guess_placed}
 use Rattle.nts_response.proofs.Stepping.{step_none, step_then, arg_later}
 
 -- one variable more, of which nothing is known but its sub-unification class
-record IsAdded (e f : Entries) (k : VariableKind) (u : ℕ) : Type 0 where
+pub record IsAdded (e f : Entries) (k : VariableKind) (u : ℕ) : Type 0 where
   pub variable : Variable
   pub entries : f ≡ added e variable
   pub of_kind : variable.kind ≡ k
@@ -55,7 +58,7 @@ is_added e f k u None h = record { variable = unset_variable k u; entries = h; o
 is_added e f k u (Some n) (r, root, h) = record { variable = record (unset_variable k u) { sub_link = Some r }; entries = h; of_kind = refl; universe = refl; free = refl }
 
 -- the table has one new variable
-is_new : (a b : List Tree) (t w : Table) (k : VariableKind) (u : ℕ) (x : Tree) → IsTable a t → IsTable b w → Extends a b → IsAdded t.entries w.entries k u → x ≡ variable_tree k (length t.entries.variables) → IsNew (content_of a t.entries) (content_of b w.entries) k u x
+pub is_new : (a b : List Tree) (t w : Table) (k : VariableKind) (u : ℕ) (x : Tree) → IsTable a t → IsTable b w → Extends a b → IsAdded t.entries w.entries k u → x ≡ variable_tree k (length t.entries.variables) → IsNew (content_of a t.entries) (content_of b w.entries) k u x
 is_new a b t w k u x h i up n q =
     let v = n.variable in
     record {
@@ -89,21 +92,24 @@ adds_entries (const_variable w) u vs e f h = inr (unset_variable kind.Const u, h
 adds_entries (region_variable w) u vs e f h = inr (unset_variable kind.Region u, h)
 adds_entries (placeholder s w n) u vs e f h = inl h
 
+module _ (a b : Cx) (t w : Table) (h : IsTable a.nodes t) (i : IsTable b.nodes w) (g : Grows a b) (changes : ChangesEntries t w) where
+  kept : KeepsKinds (content_of a.nodes t.entries) (content_of b.nodes w.entries) → w.entries.universe ≡ t.entries.universe → w.entries.hidden ≡ t.entries.hidden → StepKeeps a b t w
+  kept kinds universe hidden = record { grows = g; table = i; kinds = kinds; saved = changes.saved; mode = changes.mode; universe = universe; hidden = hidden }
+
+  none_added : w.entries ≡ t.entries → StepKeeps a b t w
+  none_added e =
+      let same : content_of b.nodes w.entries ≡ content_of a.nodes t.entries = ap (content_of b.nodes) e ∙ content_of-extended g.extends h.now in
+      kept (subst (KeepsKinds (content_of a.nodes t.entries)) (sym same) (KeepsKinds-refl (content_of a.nodes t.entries))) (ap (λ z. z.universe) e) (ap (λ z. z.hidden) e)
+
+  pub added_keeps : (v : Variable) → w.entries ≡ added t.entries v → StepKeeps a b t w
+  added_keeps v e =
+      let same : content_of b.nodes w.entries ≡ with_slot (content_of a.nodes t.entries) (slot_of b.nodes v) = ap (content_of b.nodes) e ∙ content_of-added b.nodes t.entries v ∙ ap (λ z. with_slot z (slot_of b.nodes v)) (content_of-extended g.extends h.now) in
+      kept (subst (KeepsKinds (content_of a.nodes t.entries)) (sym same) (KeepsKinds-with_slot (content_of a.nodes t.entries) (slot_of b.nodes v))) (ap (λ z. z.universe) e) (ap (λ z. z.hidden) e)
+
 pub value_keeps : (a b : Cx) (t w : Table) (k : PositionKind) (u : ℕ) (vs : List Tree) → IsTable a.nodes t → IsTable b.nodes w → Grows a b → ChangesEntries t w → AddsValue k u vs t.entries w.entries → StepKeeps a b t w
 value_keeps a b t w k u vs h i g changes adds = ⊎_elim
-    (λ (e : w.entries ≡ t.entries). made (ap (content_of b.nodes) e ∙ content_of-extended g.extends h.now) (ap (λ z. z.universe) e) (ap (λ z. z.hidden) e))
-    (λ (p : (v : Variable) × (w.entries ≡ added t.entries v)). grown p.0 p.1) (adds_entries k u vs t.entries w.entries adds)
-  where
-    kept : KeepsKinds (content_of a.nodes t.entries) (content_of b.nodes w.entries) → w.entries.universe ≡ t.entries.universe → w.entries.hidden ≡ t.entries.hidden → StepKeeps a b t w
-    kept kinds universe hidden = record { grows = g; table = i; kinds = kinds; saved = changes.saved; mode = changes.mode; universe = universe; hidden = hidden }
-
-    made : content_of b.nodes w.entries ≡ content_of a.nodes t.entries → w.entries.universe ≡ t.entries.universe → w.entries.hidden ≡ t.entries.hidden → StepKeeps a b t w
-    made same universe hidden = kept (subst (KeepsKinds (content_of a.nodes t.entries)) (sym same) (KeepsKinds-refl (content_of a.nodes t.entries))) universe hidden
-
-    grown : (v : Variable) → w.entries ≡ added t.entries v → StepKeeps a b t w
-    grown v e =
-        let same : content_of b.nodes w.entries ≡ with_slot (content_of a.nodes t.entries) (slot_of b.nodes v) = ap (content_of b.nodes) e ∙ content_of-added b.nodes t.entries v ∙ ap (λ z. with_slot z (slot_of b.nodes v)) (content_of-extended g.extends h.now) in
-        kept (subst (KeepsKinds (content_of a.nodes t.entries)) (sym same) (KeepsKinds-with_slot (content_of a.nodes t.entries) (slot_of b.nodes v))) (ap (λ z. z.universe) e) (ap (λ z. z.hidden) e)
+    (λ (e : w.entries ≡ t.entries). none_added a b t w h i g changes e)
+    (λ (p : (v : Variable) × (w.entries ≡ added t.entries v)). added_keeps a b t w h i g changes p.0 p.1) (adds_entries k u vs t.entries w.entries adds)
 
 -- the originals are known
 pub known_originals : (ts : List Tree) (e : Entries) (c : Content) (xs : List GenericArg) (n : ℕ) → ((t : Tree) → Knows (content_of ts e) t → Knows c t) → All (IsArgOf ts e) xs → Knows c (get_or (trees_of ts xs) n empty)
@@ -193,21 +199,29 @@ guess_sort c values os b (const_variable u) x h = (let v = h.value in Fits-kind_
 guess_sort c values os b (region_variable u) x h = (let v = h.value in Fits-kind_of kind.Region x v.fits)
 guess_sort c values os b (placeholder s u n) x h = absurd h
 
+as_many : (ks : List PositionKind) (ts : List Tree) → HaveSorts ks ts → length ts ≡ length ks
+as_many [] [] h = refl
+as_many [] (t ∷ ts) h = absurd h
+as_many (k ∷ ks) [] h = absurd h
+as_many (k ∷ ks) (t ∷ ts) h = ap suc (as_many ks ts h.1)
+
 -- what was chosen for the positions of these kinds
 pub record ChosenSoFar (a b : Cx) (t u : Table) (p : ℕ) (values os : List Tree) (ks : List CanonicalVarKind) (xs : List GenericArg) : Type 0 where
   pub chosen : ChoosesAll (content_in a.nodes t.entries p) values os 0 (map kind_of_var ks) (trees_of b.nodes xs) (content_of a.nodes t.entries) (content_of b.nodes u.entries)
   pub args : All (IsArgOf b.nodes u.entries) xs
   pub sorts : HaveSorts (map kind_of_var ks) (trees_of b.nodes xs)
+  pub placed : JoinsNew (ArePlaced (map kind_of_var ks) (trees_of b.nodes xs)) (content_of a.nodes t.entries) (content_of b.nodes u.entries)
   pub keeps : StepKeeps a b t u
 
 pub none_chosen : (a : Cx) (t : Table) (p : ℕ) (values os : List Tree) → IsTable a.nodes t → ChosenSoFar a a t t p values os [] []
-none_chosen a t p values os h = record { chosen = refl; args = λ i d l. absurd (omega (arith, l)); sorts = tt; keeps = step_none a t h }
+none_chosen a t p values os h = record { chosen = refl; args = λ i d l. absurd (omega (arith, l)); sorts = tt; placed = placed_none (content_of a.nodes t.entries); keeps = step_none a t h }
 
 -- one position more
 pub one_chosen : (a b c : Cx) (t u v : Table) (p : ℕ) (values os : List Tree) (ks : List CanonicalVarKind) (xs zs : List GenericArg) (i : ℕ) (k : CanonicalVarKind) (x : GenericArg) → i < length ks → ChosenSoFar a b t u p values os (take i ks) xs → StepKeeps b c u v → IsArgOf c.nodes v.entries x
-    → HasSort (kind_of_var (get_or ks i k)) (tree_at c.nodes x.node) → Chooses (content_in a.nodes t.entries p) values os i (kind_of_var (get_or ks i k)) (tree_at c.nodes x.node) (content_of b.nodes u.entries) (content_of c.nodes v.entries) → zs ≡ xs ++ x ∷ []
+    → HasSort (kind_of_var (get_or ks i k)) (tree_at c.nodes x.node) → Chooses (content_in a.nodes t.entries p) values os i (kind_of_var (get_or ks i k)) (tree_at c.nodes x.node) (content_of b.nodes u.entries) (content_of c.nodes v.entries)
+    → JoinsNew (IsPlacedNext (kind_of_var (get_or ks i k)) (trees_of b.nodes xs) (tree_at c.nodes x.node)) (content_of b.nodes u.entries) (content_of c.nodes v.entries) → zs ≡ xs ++ x ∷ []
     → ChosenSoFar a c t v p values os (take (i + 1) ks) zs
-one_chosen a b c t u v p values os ks xs zs i k x l h s arg sort choice q =
+one_chosen a b c t u v p values os ks xs zs i k x l h s arg sort choice next q =
     let item = get_or ks i k in
     let g = s.grows in
     let held : All (HoldsArg b.nodes) xs = λ j d m. (let y = h.args j d m in y.holds) in
@@ -218,15 +232,17 @@ one_chosen a b c t u v p values os ks xs zs i k x l h s arg sort choice q =
       chosen = rw (trees, kinds) (choose_more (content_in a.nodes t.entries p) values os 0 i (map kind_of_var (take i ks)) (kind_of_var item) (trees_of b.nodes xs) (tree_at c.nodes x.node) (content_of a.nodes t.entries) (content_of b.nodes u.entries) (content_of c.nodes v.entries) long h.chosen choice);
       args = subst (All (IsArgOf c.nodes v.entries)) (sym q) (All-push (IsArgOf c.nodes v.entries) xs x (λ j d m. arg_later s (h.args j d m)) arg);
       sorts = rw (trees, kinds) (sorts_more (map kind_of_var (take i ks)) (kind_of_var item) (trees_of b.nodes xs) (tree_at c.nodes x.node) h.sorts sort);
+      placed = rw (trees, kinds) (placed_more (content_of a.nodes t.entries) (content_of b.nodes u.entries) (content_of c.nodes v.entries) (map kind_of_var (take i ks)) (kind_of_var item) (trees_of b.nodes xs) (tree_at c.nodes x.node) (as_many (map kind_of_var (take i ks)) (trees_of b.nodes xs) h.sorts) h.placed next);
       keeps = step_then h.keeps s;
     }
 
 -- a value was chosen for a position, between the contexts b and c
-pub record IsChoice (a b c : Cx) (t u v : Table) (p : ℕ) (values os : List Tree) (i : ℕ) (k : CanonicalVarKind) (x : GenericArg) : Type 0 where
+pub record IsChoice (a b c : Cx) (t u v : Table) (p : ℕ) (values os xs : List Tree) (i : ℕ) (k : CanonicalVarKind) (x : GenericArg) : Type 0 where
   pub keeps : StepKeeps b c u v
   pub arg : IsArgOf c.nodes v.entries x
   pub sort : HasSort (kind_of_var k) (tree_at c.nodes x.node)
   pub chosen : Chooses (content_in a.nodes t.entries p) values os i (kind_of_var k) (tree_at c.nodes x.node) (content_of b.nodes u.entries) (content_of c.nodes v.entries)
+  pub placed : JoinsNew (IsPlacedNext (kind_of_var k) xs (tree_at c.nodes x.node)) (content_of b.nodes u.entries) (content_of c.nodes v.entries)
 
 -- an original is an argument of the table later
 known_in : (a b : Cx) (t u : Table) (p : ℕ) (x : Tree) → p ≤ t.entries.universe → StepKeeps a b t u → Knows (content_in a.nodes t.entries p) x → Knows (content_of b.nodes u.entries) x
@@ -243,9 +259,9 @@ original_arg a b t u p x l s h =
     record { holds = holds_kept _ a.nodes b.nodes x.node held e; known = rw (e.kept x.node held.within) (known_in a b t u p (tree_at a.nodes x.node) l s h.knows) }
 
 -- a guess
-pub guess_choice : (a b : Cx) (t u : Table) (p : ℕ) (values os : List Tree) (ks : List CanonicalVarKind) (gs : List (Option GenericArg)) (i : ℕ) (k : CanonicalVarKind) (x : GenericArg) → AreGuesses a.nodes (content_in a.nodes t.entries p) values os ks gs → slice_get ks i ≡ Some k → slice_get gs i ≡ Some (Some x)
-    → p ≤ t.entries.universe → StepKeeps a b t u → IsChoice a b b t u u p values os i k x
-guess_choice a b t u p values os ks gs i k x h at is l s =
+pub guess_choice : (a b : Cx) (t u : Table) (p : ℕ) (values os xs : List Tree) (ks : List CanonicalVarKind) (gs : List (Option GenericArg)) (i : ℕ) (k : CanonicalVarKind) (x : GenericArg) → AreGuesses a.nodes (content_in a.nodes t.entries p) values os ks gs → slice_get ks i ≡ Some k → slice_get gs i ≡ Some (Some x)
+    → p ≤ t.entries.universe → StepKeeps a b t u → IsChoice a b b t u u p values os xs i k x
+guess_choice a b t u p values os xs ks gs i k x h at is l s =
     let fits = h.each i k (Some x) at is in
     let held = fits.0 in
     let g = s.grows in
@@ -257,16 +273,19 @@ guess_choice a b t u p values os ks gs i k x h at is l s =
       arg = record { holds = holds_kept _ a.nodes b.nodes x.node held e; known = rw same (known_in a b t u p (tree_at a.nodes x.node) l s (guess_known c values os i (kind_of_var k) (tree_at a.nodes x.node) fits.1)) };
       sort = subst (HasSort (kind_of_var k)) (sym same) (guess_sort c values os i (kind_of_var k) (tree_at a.nodes x.node) fits.1);
       chosen = subst (λ z. Chooses c values os i (kind_of_var k) z (content_of b.nodes u.entries) (content_of b.nodes u.entries)) (sym same) (guess_chosen c values os i (kind_of_var k) (tree_at a.nodes x.node) (content_of b.nodes u.entries) (content_of b.nodes u.entries) refl fits.1);
+      placed = (let table = s.table in guess_placed b.nodes b.nodes u.entries u.entries table.now (Extends-refl b.nodes) c values os i (kind_of_var k) xs (tree_at b.nodes x.node) (subst (GuessFits c values os i (kind_of_var k)) (sym same) fits.1) refl);
     }
 
 -- .. or what was made
-pub made_choice : (a b c : Cx) (t u v : Table) (p : ℕ) (values os zs : List Tree) (i : ℕ) (k : CanonicalVarKind) (x : GenericArg) → zs ≡ os → StepKeeps b c u v → IsArgOf c.nodes v.entries x → HasSort (kind_of_var k) (tree_at c.nodes x.node)
-    → IsMadeFor p zs (kind_of_var k) (tree_at c.nodes x.node) (content_of b.nodes u.entries) (content_of c.nodes v.entries) → IsChoice a b c t u v p values os i k x
-made_choice a b c t u v p values os zs i k x same s arg sort h = record {
+pub made_choice : (a b c : Cx) (t u v : Table) (p : ℕ) (values os zs xs : List Tree) (i : ℕ) (k : CanonicalVarKind) (x : GenericArg) → zs ≡ os → StepKeeps b c u v → IsArgOf c.nodes v.entries x → HasSort (kind_of_var k) (tree_at c.nodes x.node)
+    → IsMadeFor p zs (kind_of_var k) (tree_at c.nodes x.node) (content_of b.nodes u.entries) (content_of c.nodes v.entries)
+    → JoinsNew (IsPlacedNext (kind_of_var k) xs (tree_at c.nodes x.node)) (content_of b.nodes u.entries) (content_of c.nodes v.entries) → IsChoice a b c t u v p values os xs i k x
+made_choice a b c t u v p values os zs xs i k x same s arg sort h placed = record {
   keeps = s;
   arg = arg;
   sort = sort;
   chosen = made_chosen (content_in a.nodes t.entries p) values os i (kind_of_var k) (tree_at c.nodes x.node) (content_of b.nodes u.entries) (content_of c.nodes v.entries) (subst (λ ws. IsMadeFor p ws (kind_of_var k) (tree_at c.nodes x.node) (content_of b.nodes u.entries) (content_of c.nodes v.entries)) same h);
+  placed = placed;
 }
 
 -- the originals in a store that has grown

@@ -4,7 +4,9 @@ use Rattle.std.specs.Prelude.{All}
 use Rattle.nts_model.specs.Trees.{Tree}
 use Rattle.nts_model.specs.Resolving.{Knows}
 use Rattle.nts_model.specs.Handlers.{filled, hidden_by}
-use Rattle.nts_model.proofs.Slots.{Knows-kept}
+use Rattle.nts_model.specs.Contents.{Content}
+use Rattle.nts_model.specs.Sequents.{Premise}
+use Rattle.nts_model.proofs.Slots.{KeepsKinds, Knows-kept}
 use Rattle.nts_store.specs.declared.nodes.NodeId.{NodeId}
 use Rattle.nts_store.specs.Growth.{tree_at, AllIn, Extends}
 use Rattle.nts_store.specs.Kept.{map-kept}
@@ -20,7 +22,7 @@ use Rattle.nts_canonical.specs.Replaced.{AreImages}
 use Rattle.nts_canonical.proofs.PairLists.{are_hidden-kept, hidden_row-kept, GoesInside, AreImages-row, AreImages-held, alias-kept}
 use Rattle.nts_canonical.proofs.Registered.{hidden-of-row}
 use Rattle.nts_response.specs.Applied.{StepKeeps}
-use Rattle.nts_response.specs.Applicable.{AreRegistrable}
+use Rattle.nts_response.specs.Applicable.{AreRegistrable, AreKnownPremises}
 
 -- values in place of positions go into rows
 goes_inside : (xs : List Tree) → GoesInside (filled xs)
@@ -61,3 +63,8 @@ images_views f a b c (h ∷ hs) (r ∷ rs) e m =
     let args = held.args in
     let ty = held.hidden_type in
     cc (alias-kept b c r.0 args.within e ∙ k.alias, e.kept r.1.node ty.within ∙ k.hidden_type, images_views f a b c hs rs e m.1)
+
+-- goals of the table are of a later one
+pub premises_later : (c d : Content) (ps : List Premise) → KeepsKinds c d → AreKnownPremises c ps → AreKnownPremises d ps
+premises_later c d [] k h = tt
+premises_later c d (p ∷ ps) k h = (Knows-kept c d p.environment k h.0, Knows-kept c d p.predicate k h.1, premises_later c d ps k h.2)

@@ -7,7 +7,7 @@ use Rattle.nts_model.specs.Related.{alias_label}
 use Rattle.nts_terms.specs.declared.handles.AliasDefId.{AliasDefId}
 use Rattle.nts_model.specs.Contents.{Content}
 use Rattle.nts_model.specs.Resolving.{Knows, KnowsLeaves}
-use Rattle.nts_model.specs.Handlers.{filled, NamesFresh}
+use Rattle.nts_model.specs.Handlers.{filled, premise_by, NamesFresh}
 use Rattle.nts_model.specs.Driving.{sort_at}
 use Rattle.nts_model.specs.Responses.{IsOverPositions}
 use Rattle.nts_model.proofs.Answering.{AllTrees, AllSides}
@@ -33,11 +33,11 @@ use Rattle.nts_terms.specs.declared.handles.Goal.{Goal}
 use Rattle.nts_terms.specs.Handles.{HoldsArg, alias_head}
 use Rattle.nts_response.specs.declared.types.Response.{Response}
 use Rattle.nts_response.specs.Opened.{IsOpenable}
-use Rattle.nts_response.specs.Forms.{HoldsConstraint, HoldsOpen, HoldsResponse, recorded_at}
+use Rattle.nts_response.specs.Forms.{HoldsConstraint, HoldsOpen, HoldsResponse, recorded_at, premise_at}
 use Rattle.nts_response.specs.Applied.{HaveSorts, IsFillable}
-use Rattle.nts_response.specs.Applicable.{IsOverSorts, IsConstraintOver, IsHiddenOver, IsGoalOver, IsApplicable, AreRegistrable, IsReady}
+use Rattle.nts_response.specs.Applicable.{IsOverSorts, IsConstraintOver, IsHiddenOver, IsGoalOver, IsApplicable, AreRegistrable, IsReady, AreKnownPremises}
 use Rattle.nts_response.specs.Recorded.{IsRecordable}
-use Rattle.nts_response.proofs.Each.{goals_kept}
+use Rattle.nts_response.proofs.Each.{goals_kept, same_views}
 use Rattle.nts_response.proofs.Over.{fixed_known, has_values}
 use Rattle.nts_response.proofs.Chosen.{AreRegionsAt, filled_region, left_filled}
 
@@ -80,7 +80,7 @@ module _ (a b : List Tree) (c : Content) (ks : List CanonicalVarKind) (xs : List
   knows : (t : NodeId) → IsIn a t → IsOverSorts a ss t → Knows c (filled xs (tree_at a t))
   knows t w o = knows-filled c xs (tree_at a t) known (fixed_known c (tree_at a t) o.leaves)
 
-  fillable : (t : NodeId) → IsIn a t → IsOverSorts a ss t → IsFillable b c xs t
+  pub fillable : (t : NodeId) → IsIn a t → IsOverSorts a ss t → IsFillable b c xs t
   fillable t w o = record { within = IsIn-extended up t w; positions = has t w o; knows = rw (there t w) (knows t w o) }
 
   recordable : (x : RegionConstraint × VisibleForLeakCheck) → HoldsConstraint a x → IsConstraintOver a ss x → IsRecordable b c xs x
@@ -120,7 +120,7 @@ module _ (a b : List Tree) (c : Content) (ks : List CanonicalVarKind) (xs : List
       record { holds = k.held a b g h up; environment = has g.1.param_env.node env.within o.environment; predicate = has g.1.predicate.node predicate.within o.predicate }
 
   -- seen from the store before
-  values_known : (vs : List GenericArg) → All (HoldsArg a) vs → All (λ v. IsOverSorts a ss v.node) vs → AreKnownFilled c xs (trees_of a vs)
+  pub values_known : (vs : List GenericArg) → All (HoldsArg a) vs → All (λ v. IsOverSorts a ss v.node) vs → AreKnownFilled c xs (trees_of a vs)
   values_known [] h o = tt
   values_known (v ∷ vs) h o = (
     (let held = h 0 v (omega arith) in knows v.node held.within (o 0 v (omega arith))),
@@ -137,6 +137,19 @@ module _ (a b : List Tree) (c : Content) (ks : List CanonicalVarKind) (xs : List
         knows x.0.left.node left.within over.left,
         knows x.0.right.node right.within over.right,
         sides_known cs (λ k d l. h (suc k) d (omega (arith, l))) (λ k d l. o (suc k) d (omega (arith, l))),
+      )
+
+  goals_known : (gs : List (GoalSource × Goal)) → All (HoldsOpen a) gs → All (IsGoalOver a ss) gs → AreKnownPremises c (map (premise_by (filled xs)) (map (premise_at a) gs))
+  goals_known [] h o = tt
+  goals_known (g ∷ gs) h o =
+      let held = h 0 g (omega arith) in
+      let goal = held.goal in
+      let env = goal.env in
+      let predicate = goal.predicate in
+      let over = o 0 g (omega arith) in (
+        knows g.1.param_env.node env.within over.environment,
+        knows g.1.predicate.node predicate.within over.predicate,
+        goals_known gs (λ k d l. h (suc k) d (omega (arith, l))) (λ k d l. o (suc k) d (omega (arith, l))),
       )
 
 -- its trees are over positions
@@ -181,6 +194,7 @@ can_put a b c os xs r f up p sorts regions known later =
         constraints = λ k d l. recordable a b c ks xs f up sorts regions known _ (h.constraints k d l) (p.constraints k d l);
         hidden = registrable a b c ks xs f up sorts regions known x.opaque_types.items h.hidden p.hidden;
         open_goals = λ k d l. openable a b c ks xs f up sorts regions known _ (h.open_goals k d l) (p.open_goals k d l);
+        known = rw (same_views HoldsOpen premise_at goals_kept a b x.normalization_nested_goals.items h.open_goals up) (goals_known a b c ks xs f up sorts regions known x.normalization_nested_goals.items h.open_goals p.open_goals);
       };
       values = values_known a b c ks xs f up sorts regions known r.value.var_values.items h.values p.values;
       sides = sides_known a b c ks xs f up sorts regions known x.region_constraints.items h.constraints p.constraints;

@@ -2,6 +2,8 @@
 use Rattle.std.proofs.Common.{◌≡◌, inl, inr, ⊎_elim, ℕ, ◌<◌, ◌≤◌, Bool, false, min, max, List, Option, Some, None, refl, sym, ap, subst, ◌∙◌, arith}
 use Rattle.std.specs.Prelude.{slice_get, Result, Ok, Err, OnOk, OnErr}
 use Rattle.std.proofs.lemmas.Bool.{cases_lt}
+use Rattle.nts_model.specs.SubUnifying.{JoinsSubRoots}
+use Rattle.nts_model.proofs.SubUnified.{JoinsSubRoots-refl, JoinsSubRoots-same}
 use Rattle.nts_model.specs.declared.labels.Relation.{Relation}
 use Rattle.nts_model.specs.declared.labels.Relation.TheVariants as relation
 use Rattle.nts_model.specs.declared.labels.VariableKind.TheVariants as kind
@@ -212,6 +214,25 @@ equated_in ts e f a b v h p q ka kb ra rb k = by_region (region_of (tree_at ts a
         (related_recorded (content_of ts e) (content_of ts f) (tree_at ts a) (tree_at ts b) v (joined_relate ts e f (tree_at ts a) (tree_at ts b) x y h ka kb ra rb i j z) ra q, inl (joined_constraints ts e f x y z))
     by_region None s i j z = by_record z
     by_region (Some x) None i j z = by_record z
+
+-- no classes of sub-unification are joined by what is recorded, and none by regions
+pub recorded_joins : (ts : List Tree) (e f : Entries) (x : Constraint) → recording.Records ts e f x → JoinsSubRoots (content_of ts e) (content_of ts f)
+recorded_joins ts e f x (inl (same, is)) = subst (λ z. JoinsSubRoots (content_of ts e) (content_of ts z)) (sym is) (JoinsSubRoots-refl (content_of ts e))
+recorded_joins ts e f x (inr (apart, is)) =
+    let at : content_of ts f ≡ with_constraint (content_of ts e) (recorded_of ts x) = ap (content_of ts) is ∙ content_of-constrained ts e x in
+    subst (JoinsSubRoots (content_of ts e)) (sym at) (JoinsSubRoots-same (content_of ts e) (with_constraint (content_of ts e) (recorded_of ts x)) (λ n m h. h) (λ n m k h i j. h) (λ n m h. h) (λ n m h. h))
+
+pub equated_joins : (ts : List Tree) (e f : Entries) (a b : NodeId) (v : Bool) → IsLawful ts e → Knows (content_of ts e) (tree_at ts a) → Knows (content_of ts e) (tree_at ts b) → IsRegion (tree_at ts a) → IsRegion (tree_at ts b) → Equated ts e f a b v → JoinsSubRoots (content_of ts e) (content_of ts f)
+equated_joins ts e f a b v h ka kb ra rb k = by_region (region_of (tree_at ts a)) (region_of (tree_at ts b)) refl refl k
+  where
+    by_region : (o s : Option ℕ) → region_of (tree_at ts a) ≡ o → region_of (tree_at ts b) ≡ s → EquatedAt o s ts e f a b v → JoinsSubRoots (content_of ts e) (content_of ts f)
+    by_region (Some m) (Some n) i j z =
+        let related = joined_relate ts e f (tree_at ts a) (tree_at ts b) m n h ka kb ra rb i j z in
+        let keeps = related.keeps in
+        let later = keeps.later in
+        later.subs
+    by_region None s i j z = recorded_joins ts e f (record { relation = relation.Equal; left = a; right = b; is_visible = v }) z
+    by_region (Some m) None i j z = recorded_joins ts e f (record { relation = relation.Equal; left = a; right = b; is_visible = v }) z
 
 -- the variables stay, whatever was answered
 pub recorded_kinds : (r : Result (Unit {0}) Fault) (ts : List Tree) (t u : Table) (x : Recorded) → OnOk r (IsRecordedIn (content_of ts t.entries) (content_of ts u.entries) x) → OnErr r (u ≡ t) → KeepsKinds (content_of ts t.entries) (content_of ts u.entries)

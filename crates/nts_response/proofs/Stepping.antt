@@ -1,6 +1,8 @@
 -- The steps of applying, one after another.
-use Rattle.std.proofs.Common.{◌≡◌, List, refl, subst, ◌∙◌}
+use Rattle.std.proofs.Common.{◌≡◌, List, refl, sym, subst, ◌∙◌}
 use Rattle.nts_model.specs.Trees.{Tree}
+use Rattle.nts_model.specs.SubUnifying.{JoinsSubRoots}
+use Rattle.nts_model.proofs.SubUnified.{JoinsSubRoots-refl, JoinsSubRoots-trans}
 use Rattle.nts_model.proofs.Slots.{KeepsKinds, KeepsKinds-refl, KeepsKinds-trans, Knows-kept}
 use Rattle.nts_store.specs.Growth.{tree_at, Extends}
 use Rattle.nts_store.proofs.Growing.{Extends-refl, Extends-trans}
@@ -105,3 +107,12 @@ nodes_recorded a ns t u h e i c k = record {
   universe = c.universe;
   hidden = c.hidden;
 }
+
+-- classes of sub-unification joined in two steps
+pub joins_next : {a b c : Cx} {t u v : Table} → StepKeeps a b t u → JoinsSubRoots (content_of a.nodes t.entries) (content_of b.nodes u.entries) → StepKeeps b c u v → JoinsSubRoots (content_of b.nodes u.entries) (content_of c.nodes v.entries)
+    → JoinsSubRoots (content_of a.nodes t.entries) (content_of c.nodes v.entries)
+joins_next {a} {b} {c} {t} {u} {v} x h y k = (let kinds = y.kinds in JoinsSubRoots-trans (content_of a.nodes t.entries) (content_of b.nodes u.entries) (content_of c.nodes v.entries) kinds.kinds h k)
+
+-- the store alone grew
+pub joins_grown : (a : List Tree) (b : List Tree) (t : Table) → IsTable a t → Extends a b → JoinsSubRoots (content_of a t.entries) (content_of b t.entries)
+joins_grown a b t h e = subst (JoinsSubRoots (content_of a t.entries)) (sym (content_of-extended e h.now)) (JoinsSubRoots-refl (content_of a t.entries))

@@ -1,5 +1,5 @@
 -- Responses that can be applied to originals, and what applying one leaves.
-use Rattle.std.specs.Prelude.{◌≡◌, ℕ, ◌+◌, ◌≤◌, Bool, List, map, length, All}
+use Rattle.std.specs.Prelude.{◌≡◌, ℕ, ◌+◌, ◌≤◌, Bool, List, [], ◌∷◌, map, length, All}
 use Rattle.nts_model.specs.declared.labels.Sort.{Sort}
 use Rattle.nts_model.specs.declared.labels.Relation.{Relation}
 use Rattle.nts_model.specs.declared.labels.Relation.TheVariants as relation
@@ -9,9 +9,11 @@ use Rattle.nts_model.specs.Contents.{Content, in_universe}
 use Rattle.nts_model.specs.Substitutions.{Occurs}
 use Rattle.nts_model.specs.Resolving.{Knows}
 use Rattle.nts_model.specs.Handlers.{NamesFresh, IsFixed, filled, hidden_by, premise_by}
+use Rattle.nts_model.specs.Sequents.{Premise}
 use Rattle.nts_model.specs.Inputs.{PositionKind}
 use Rattle.nts_model.specs.Driving.{sort_at}
 use Rattle.nts_model.specs.Applying.{ChoosesAll, MakesEqual, Records}
+use Rattle.nts_model.specs.SubUnifying.{JoinsSubRoots}
 use Rattle.nts_model.specs.Responses.{Findings, universe_of_kind, Applies, Response as Form}
 use Rattle.nts_store.specs.declared.nodes.NodeId.{NodeId}
 use Rattle.nts_store.specs.Filled.{HasValues}
@@ -29,9 +31,10 @@ use Rattle.nts_delegate.specs.Offered.{hidden_of}
 use Rattle.nts_canonical.specs.declared.types.Canonical.{Canonical}
 use Rattle.nts_canonical.specs.Forms.{kind_of_var, hidden_pairs, AreHidden}
 use Rattle.nts_response.specs.declared.types.Response.{Response}
-use Rattle.nts_response.specs.Forms.{HoldsResponse, premise_at}
+use Rattle.nts_response.specs.Forms.{HoldsResponse, HoldsOpen, premise_at}
 use Rattle.nts_response.specs.Applied.{NamesOriginal, IsFillable}
 use Rattle.nts_response.specs.Opened.{IsOpenable}
+use Rattle.nts_response.specs.Placing.{JoinsBy, PlacedOrOne}
 use Rattle.nts_response.specs.Recorded.{IsRecordable, AddsAllSeen}
 use Rattle.nts_response.specs.Registered.{TakesAll}
 
@@ -87,14 +90,23 @@ pub record ShowsConstraints (c f : Content) (os chosen : List Tree) (r : Form) (
   pub makes : MakesEqual chosen r.findings.values os first equal
   pub seen : AddsAllSeen visible r.findings.constraints equal.constraints f.constraints
 
--- a response was applied to originals, and these are its open goals. Values were chosen for its positions: they stand in
--- what it adds, in its hidden types and in its goals
+-- goals whose terms are of the table
+abbrev pub AreKnownPremises : Content → List Premise → Type 0
+AreKnownPremises c [] = Unit {0}
+AreKnownPremises c (p ∷ ps) = Knows c p.environment × Knows c p.predicate × AreKnownPremises c ps
+
+-- a response was applied to originals, and these are its open goals, of the store and of the table. Values were chosen for
+-- its positions: they stand in what it adds, in its hidden types and in its goals. Two variables are of one class of
+-- sub-unification exactly if they were, if their positions are, if they became one, or by such variables
 pub record IsApplied (a b : List Tree) (e f : Entries) (os : List Tree) (r : Form) (visible : Bool) (goals : List (GoalSource × Goal)) : Type 0 where
   pub applies : Applies (content_of a e) (content_of b f) os r
   pub hidden_types : List (AliasTerm × Ty)
   pub hidden : map (hidden_of b) hidden_types ≡ map (hidden_by (filled applies.chosen)) r.findings.hidden
   pub registers : TakesAll b (content_of b f) e.hidden hidden_types f.hidden
   pub open_goals : map (premise_at b) goals ≡ map (premise_by (filled applies.chosen)) r.findings.open_goals
+  pub held : All (HoldsOpen b) goals
+  pub known : AreKnownPremises (content_of b f) (map (premise_at b) goals)
+  pub shares : JoinsBy (PlacedOrOne (content_of a e) (content_of b f) r.kinds applies.chosen) (content_of a e) (content_of b f)
   pub shows : ShowsConstraints (content_of a e) (content_of b f) os applies.chosen r visible
 
 -- hidden types that can be filled, and are then of the table
@@ -110,14 +122,18 @@ pub record IsReady (ts : List Tree) (c : Content) (xs : List Tree) (r : Response
   pub constraints : All (IsRecordable ts c xs) r.external_constraints.region_constraints.items
   pub hidden : AreRegistrable ts c xs r.external_constraints.opaque_types.items
   pub open_goals : All (IsOpenable ts xs) r.external_constraints.normalization_nested_goals.items
+  pub known : AreKnownPremises c (map (premise_by (filled xs)) (map (premise_at ts) r.external_constraints.normalization_nested_goals.items))
 
 -- .. and was put into a table with these values in place of its positions
 pub record IsPut (a b : List Tree) (e f : Entries) (os chosen : List Tree) (x : Findings) (visible : Bool) (goals : List (GoalSource × Goal)) : Type 0 where
   pub equal : Content
   pub makes : MakesEqual chosen x.values os (content_of a e) equal
   pub records : Records chosen x.constraints equal (content_of b f)
+  pub joins : JoinsSubRoots (content_of a e) (content_of b f)
   pub seen : AddsAllSeen visible x.constraints equal.constraints (content_of b f).constraints
   pub hidden_types : List (AliasTerm × Ty)
   pub hidden : map (hidden_of b) hidden_types ≡ map (hidden_by (filled chosen)) x.hidden
   pub registers : TakesAll b (content_of b f) e.hidden hidden_types f.hidden
   pub open_goals : map (premise_at b) goals ≡ map (premise_by (filled chosen)) x.open_goals
+  pub held : All (HoldsOpen b) goals
+  pub known : AreKnownPremises (content_of b f) (map (premise_at b) goals)

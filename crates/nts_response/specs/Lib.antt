@@ -1,9 +1,14 @@
 pub mod Applicable
 pub mod Applied
 pub mod Forms
+pub mod Instantiated
 pub mod Kinds
 pub mod Opened
+pub mod Placing
 pub mod OverSorts
 pub mod Recorded
 pub mod Registered
 pub mod Replacing
+pub mod Same
+pub mod StateTrees
+pub mod States

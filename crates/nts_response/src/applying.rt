@@ -113,7 +113,8 @@ fn apply(
 /// response, and for each of its positions an original, a new variable or a placeholder is chosen. Then, with what was
 /// chosen in place of the positions, each original is made equal to its value, the region constraints are recorded,
 /// and the hidden types are registered, where one that gives place becomes a duplicate. Answered are the goals that
-/// the response leaves open, and its certainty.
+/// the response leaves open, of the store and of the table, and its certainty. The originals are closed terms, as those of
+/// a query are, which are leaves.
 ///
 /// The leak check sees a constraint between regions if it saw it in the query and `visible` says so, and each one that a
 /// type outlives a region. `NoSolution` comes where no solution of the table makes the originals equal to the

@@ -9,6 +9,7 @@ ghost use Rattle.nts_table.specs.Tables.{IsTable};
 ghost use Rattle.nts_canonical.specs.Forms.{kind_of_var, trees_of};
 ghost use Rattle.nts_canonical.specs.Building.{IsArgOf};
 ghost use Rattle.nts_response.specs.Applied.{StepKeeps, content_in, IsOriginal, IsChoosable, IsMadeFor, HasSort, HaveSorts, if_root, original_named};
+ghost use Rattle.nts_response.specs.Placing.{ArePlaced, IsPlacedNext, JoinsNew};
 
 use crate::guessing::guesses;
 use nts_canonical::{CanonicalVarKind, universe_of, value_in};
@@ -18,7 +19,8 @@ use nts_terms::{Cx, GenericArg, UniverseIndex};
 
 /// What stands for the positions of these kinds where a response is applied, in their order: what is guessed, a new
 /// variable, or a placeholder. `universe` is the table's before those of the response were made: each universe of a kind
-/// is counted from it, and a placeholder of the root is the original at its position.
+/// is counted from it, and a placeholder of the root is the original at its position. A new type variable is of one sub root
+/// with the one at the earlier position that its kind names.
 pub(crate) fn choose_values(
     table: &mut InferCtxt,
     cx: &mut Cx,
@@ -35,6 +37,7 @@ pub(crate) fn choose_values(
     requires kinds { All (λ k. IsChoosable universe table.old.entries.universe (trees_of cx.old.nodes originals.now) (kind_of_var k)) kinds.now }
     ensures chosen { IfOk result (λ r. ChoosesAll (content_in cx.old.nodes table.old.entries universe) (trees_of cx.old.nodes values.now) (trees_of cx.old.nodes originals.now) 0 (map kind_of_var kinds.now) (trees_of cx.new.nodes r.items) (content_of cx.old.nodes table.old.entries) (content_of cx.new.nodes table.new.entries)) }
     ensures args { IfOk result (λ r. All (IsArgOf cx.new.nodes table.new.entries) r.items) }
+    ensures placed { IfOk result (λ r. JoinsNew (ArePlaced (map kind_of_var kinds.now) (trees_of cx.new.nodes r.items)) (content_of cx.old.nodes table.old.entries) (content_of cx.new.nodes table.new.entries)) }
     ensures sorts { IfOk result (λ r. HaveSorts (map kind_of_var kinds.now) (trees_of cx.new.nodes r.items)) }
     ensures keeps { StepKeeps cx.old cx.new table.old table.new }
     ensures memory { IsOkUnless result Fault.Memory }
@@ -66,6 +69,7 @@ fn choose_value(
     requires kind { IsChoosable universe table.old.entries.universe (trees_of cx.old.nodes originals.now) (kind_of_var kind) }
     ensures made { IfOk result (λ r. IsMadeFor universe (trees_of cx.old.nodes originals.now) (kind_of_var kind) (tree_at cx.new.nodes r.node) (content_of cx.old.nodes table.old.entries) (content_of cx.new.nodes table.new.entries)) }
     ensures arg { IfOk result (IsArgOf cx.new.nodes table.new.entries) }
+    ensures placed { IfOk result (λ r. JoinsNew (IsPlacedNext (kind_of_var kind) (trees_of cx.old.nodes chosen.now) (tree_at cx.new.nodes r.node)) (content_of cx.old.nodes table.old.entries) (content_of cx.new.nodes table.new.entries)) }
     ensures sort { IfOk result (λ r. HasSort (kind_of_var kind) (tree_at cx.new.nodes r.node)) }
     ensures keeps { StepKeeps cx.old cx.new table.old table.new }
     ensures memory { IsOkUnless result Fault.Memory }

@@ -1,5 +1,5 @@
 //! Whether a response can be applied to originals.
-ghost use Rattle.std.specs.Prelude.{◌≡◌, ◌↔◌, List, map, All, IsTrue, IfOk, IsOkUnless};
+ghost use Rattle.std.specs.Prelude.{◌≡◌, ◌↔◌, ◌≤◌, ◌++◌, List, map, drop, length, All, IsTrue, IfOk, IsOkUnless};
 ghost use Rattle.nts_model.specs.declared.labels.Sort.{Sort};
 ghost use Rattle.nts_model.specs.Inputs.{placeholder};
 ghost use Rattle.nts_model.specs.Trees.{Tree};
@@ -9,9 +9,11 @@ ghost use Rattle.nts_terms.specs.Handles.{Holds, HoldsArg};
 ghost use Rattle.nts_canonical.specs.Forms.{kind_of_var, trees_of};
 ghost use Rattle.nts_response.specs.Applied.{NamesOriginal};
 ghost use Rattle.nts_response.specs.Applicable.{IsOverSorts, left_place, IsKindFor, IsApplicable};
+ghost use Rattle.nts_response.specs.Instantiated.{IsInstantiable};
 ghost use Rattle.nts_response.specs.OverSorts.{is_moved, MayStay, IsArgIn, IsConstraintIn, IsHiddenIn, IsGoalIn, IsValueOver};
 
-use crate::types::{CanonicalResponse, Response};
+use crate::types::{CanonicalResponse, CanonicalState, Response};
+use crate::unconstrained::sort_of_kind;
 use nts_canonical::{CanonicalVarKind, universe_of};
 use nts_certainty::GoalSource;
 use nts_delegate::{RegionConstraint, is_foreign_leaf_of, names_fresh};
@@ -127,6 +129,45 @@ pub fn response_fits(
     }
     let sorts = sorts_of(cx.alloc, &response.var_kinds)?;
     Ok(value_fits(cx, &sorts, &response.value)?)
+}
+
+/// Whether the values of a state can be applied to these originals, whatever its payload is: they are of the store, and are
+/// closed terms over positions of its kinds, whose other leaves are regions that stay themselves; there are at least as many
+/// as originals; the universe of each kind is at most the greatest; and a placeholder of the root names an original of its
+/// sort, or a value that has no original.
+pub fn state_fits<T>(
+    cx: &Cx,
+    originals: &[GenericArg],
+    state: &CanonicalState<T>,
+) -> Result<bool, Fault>
+    requires originals { All (HoldsArg cx.now.nodes) originals.now }
+    ensures fits { IfOk result (λ b. IsTrue b ↔ IsInstantiable cx.now.nodes (trees_of cx.now.nodes originals.now) state.now) }
+    ensures memory { IsOkUnless result Fault.Memory }
+{
+    let values: &[GenericArg] = &state.value.var_values;
+    if originals.len() > values.len() {
+        return Ok(false);
+    }
+    let sorts = sorts_of(cx.alloc, &state.var_kinds)?;
+    if !all_fit(cx, &sorts, values)? {
+        return Ok(false);
+    }
+    let named = lengthened(cx.alloc, originals, values)?;
+    Ok(kinds_fit(cx, &named, state.max_universe, &state.var_kinds))
+}
+
+/// The originals, and behind them the values that have none.
+fn lengthened(
+    alloc: Global,
+    originals: &[GenericArg],
+    values: &[GenericArg],
+) -> Result<Vec<GenericArg>, AllocError>
+    requires { length originals.now ≤ length values.now }
+    ensures { IfOk result (λ v. v.items ≡ originals.now ++ drop (length originals.now) values.now) }
+{
+    let mut all = originals.to_vec(alloc)?;
+    all.extend_from_slice(&values[originals.len()..])?;
+    Ok(all)
 }
 
 /// Whether each entry of the lists of a response fits.
@@ -265,20 +306,4 @@ fn sorts_of(alloc: Global, kinds: &[CanonicalVarKind]) -> Result<Vec<Sort>, Allo
     ensures { IfOk result (λ v. v.items ≡ map (λ k. sort_at (kind_of_var k)) kinds.now) }
 {
     kinds.iter().map(|kind| sort_of_kind(*kind)).collect(alloc)
-}
-
-/// The sort of what a position stands for.
-fn sort_of_kind(kind: CanonicalVarKind) -> Sort
-    ensures { result ≡ sort_at (kind_of_var kind) }
-{
-    match kind {
-        CanonicalVarKind::Ty { .. } => Sort::Ty,
-        CanonicalVarKind::Int => Sort::Ty,
-        CanonicalVarKind::Float => Sort::Ty,
-        CanonicalVarKind::Const(_) => Sort::Const,
-        CanonicalVarKind::Region(_) => Sort::Region,
-        CanonicalVarKind::PlaceholderTy(_) => Sort::Ty,
-        CanonicalVarKind::PlaceholderRegion(_) => Sort::Region,
-        CanonicalVarKind::PlaceholderConst(_) => Sort::Const,
-    }
 }

@@ -60,7 +60,7 @@ fn positions(
 {
     let mut values = Vec::with_capacity(alloc, kinds.len())?;
     for i in 0..kinds.len() {
-        let label = Label::Bound(sort_of(kinds[i]), BoundVarIndexKind::Canonical, i);
+        let label = Label::Bound(sort_of_kind(kinds[i]), BoundVarIndexKind::Canonical, i);
         let node = nodes.make(label, &[])?;
         values.push(GenericArg { node })?;
     }
@@ -68,7 +68,7 @@ fn positions(
 }
 
 /// The sort of what a position stands for.
-fn sort_of(kind: CanonicalVarKind) -> Sort
+pub(crate) fn sort_of_kind(kind: CanonicalVarKind) -> Sort
     ensures { result ≡ sort_at (kind_of_var kind) }
 {
     match kind {

@@ -9,8 +9,9 @@ use nts_canonical::{Canonical, CanonicalVarKind};
 use nts_certainty::{Certainty, GoalSource};
 use nts_model::{BoundVarIndexKind, UintTy, VariableKind};
 use nts_response::{
-    CanonicalResponse, ExternalConstraintsData, Response, instantiate_and_apply_query_response,
-    response_fits,
+    CanonicalResponse, CanonicalState, ExternalConstraintsData, Response, State,
+    instantiate_and_apply_query_response, instantiate_canonical_state, make_canonical_state,
+    response_fits, state_fits,
 };
 use nts_store::EvalError;
 use nts_table::InferCtxt;
@@ -137,6 +138,60 @@ impl Fixture {
         )?;
         assert!(rt; matches!(certainty, Certainty::Yes));
         Ok(goals)
+    }
+
+    /// Puts a state of the root into the table, which fits these originals: of these kinds, with these values, and the value
+    /// at that place as its payload.
+    pub fn instantiate(
+        &mut self,
+        rt: &impl Abort,
+        originals: &mut Vec<GenericArg>,
+        kinds: &[CanonicalVarKind],
+        values: &[GenericArg],
+        place: usize,
+    ) -> Result<GenericArg, EvalError>
+        requires { IsTable self.old.cx.nodes self.old.table }
+        ensures table { IsTable self.new.cx.nodes self.new.table }
+        ensures err { OnErr result (self.new.table ≡ self.old.table) }
+    {
+        let alloc = self.cx.alloc;
+        assert!(rt; place < values.len());
+        let value = State {
+            var_values: values.to_vec(alloc).expect(rt, "memory"),
+            payload: values[place],
+        };
+        let state = Canonical {
+            value,
+            max_universe: 0,
+            var_kinds: kinds.to_vec(alloc).expect(rt, "memory"),
+        };
+        self.are_originals(rt, originals);
+        assert!(rt; state_fits(&self.cx, originals, &state).expect(rt, "memory"));
+        instantiate_canonical_state(
+            &mut self.table,
+            &mut self.cx,
+            Span(0),
+            self.env,
+            originals,
+            state,
+        )
+    }
+
+    /// The state of one value and a payload, as it is in the table.
+    pub fn state(
+        &mut self,
+        rt: &impl Abort,
+        value: GenericArg,
+        payload: GenericArg,
+    ) -> CanonicalState<GenericArg>
+        requires { IsTable self.old.cx.nodes self.old.table }
+        ensures { IsTable self.new.cx.nodes self.new.table }
+    {
+        assert!(rt; self.cx.holds(value));
+        assert!(rt; self.cx.holds(payload));
+        assert!(rt; self.table.knows(&self.cx, value).expect(rt, "memory"));
+        assert!(rt; self.table.knows(&self.cx, payload).expect(rt, "memory"));
+        make_canonical_state(&self.table, &mut self.cx, &[value], 0, payload).expect(rt, "memory")
     }
 
     /// Sees that each is a closed argument of the table.

@@ -6,4 +6,8 @@ mod applying_tests;
 #[cfg(test)]
 mod fixture;
 #[cfg(test)]
+mod same_tests;
+#[cfg(test)]
+mod state_tests;
+#[cfg(test)]
 mod tests;

@@ -3,6 +3,7 @@ use Rattle.nts_model.specs.Trees.{Tree}
 use Rattle.nts_model.specs.Contents.{Content}
 use Rattle.nts_model.specs.Handlers.{filled, hidden_by, premise_by}
 use Rattle.nts_model.specs.Applying.{Records}
+use Rattle.nts_model.specs.SubUnifying.{JoinsSubRoots}
 use Rattle.nts_store.specs.Growth.{tree_at, Extends}
 use Rattle.nts_store.specs.Kept.{map-kept}
 use Rattle.nts_store.proofs.Growing.{AllIn-extended, Extends-trans}
@@ -15,12 +16,13 @@ use Rattle.nts_canonical.specs.Forms.{IsHidden}
 use Rattle.nts_response.specs.Applied.{StepKeeps}
 use Rattle.nts_response.specs.Recorded.{AddsAllSeen}
 use Rattle.nts_response.specs.Registered.{TakesAll}
+use Rattle.nts_response.specs.Applicable.{AreKnownPremises}
 use Rattle.nts_response.specs.Forms.{HoldsConstraint, HoldsOpen, recorded_at, premise_at}
 use Rattle.nts_response.proofs.Each.{same_views, constraints_kept, hidden_kept, goals_kept, replaced_later}
-use Rattle.nts_response.proofs.Stepping.{step_then, nodes_grown}
+use Rattle.nts_response.proofs.Stepping.{step_then, joins_next, nodes_grown}
 use Rattle.nts_response.proofs.RecordSteps.{recordable_later}
 use Rattle.nts_response.proofs.OpenSteps.{openable_later}
-use Rattle.nts_response.proofs.PutSteps.{registrable_later, registered_ready, images_views}
+use Rattle.nts_response.proofs.PutSteps.{registrable_later, registered_ready, images_views, premises_later}
 use Rattle.nts_response.proofs.applying.put.Goals as goal
 
 -- the constraints are recorded after the originals were made equal
@@ -109,6 +111,7 @@ returns-clause-put c =
     let pairs : map (hidden_of n) hs ≡ map (hidden_of a) hs = same_views IsHidden hidden_of hidden_kept a n hs holds.hidden grew.extends in
     let opened = replaced_later HoldsOpen premise_at (premise_by (filled (map (tree_at c.fill_hidden.new.nodes) nodes))) goals_kept a c.fill_hidden.new.nodes c.opened_goals.new.nodes b gs c.in_ok-goals.goals.items
     (Extends-trans grew.extends c.fill_hidden.ensures.extends) c.register_hidden.ensures.grows.extends holds.open_goals (rw c.deref-4.ensures.value at c.in_ok-goals.ensures.each) in
+    let views = opened.views ∙ ap (λ z. map (premise_by (filled z)) (map (premise_at a) gs)) (map-kept a c.fill_hidden.new.nodes nodes c.requires.chosen (Extends-trans grew.extends c.fill_hidden.ensures.extends)) in
     record {
       equal = equal;
       makes = rw c.deref.ensures.value at c.in_ok-equate_values.ensures.equal;
@@ -116,10 +119,15 @@ returns-clause-put c =
           (subst (λ z. Records z (map (recorded_at a) cs) equal (content_of n t.entries)) (map-kept a m nodes c.requires.chosen first) (subst (λ z. Records (map (tree_at m) nodes) z equal (content_of n t.entries)) sides recorded_there));
       seen = subst (λ (z : Content). AddsAllSeen (is_visible c.args.visible) (map (recorded_at a) cs) equal.constraints z.constraints) (sym last)
           (subst (λ z. AddsAllSeen (is_visible c.args.visible) z equal.constraints (content_of n t.entries).constraints) sides seen_there);
+      joins = subst (JoinsSubRoots (content_of a c.args.table.now.entries)) (sym last) (joins_next c.equate_values.ensures.keeps c.equate_values.ensures.joins c.record_constraints.ensures.keeps c.in_ok-record_constraints.ensures.joins);
       hidden_types = rs;
       hidden = images_views (filled (map (tree_at n) nodes)) n c.fill_hidden.new.nodes b hs rs later (rw c.deref-3.ensures.value at c.in_ok-hidden.ensures.images)
           ∙ ap (map (hidden_by (filled (map (tree_at n) nodes)))) pairs ∙ ap (λ z. map (hidden_by (filled z)) (map (hidden_of a) hs)) there;
       registers = subst (λ z. TakesAll b z c.args.table.now.entries.hidden rs u.entries.hidden) (sym (ap (content_of b) is))
           (subst (λ z. TakesAll b (content_of b t.entries) z rs u.entries.hidden) s.hidden (rw c.deref-5.ensures.value at c.in_ok-register_hidden.ensures.registered));
-      open_goals = opened.views ∙ ap (λ z. map (premise_by (filled z)) (map (premise_at a) gs)) (map-kept a c.fill_hidden.new.nodes nodes c.requires.chosen (Extends-trans grew.extends c.fill_hidden.ensures.extends));
+      open_goals = views;
+      held = opened.held;
+      known = subst (AreKnownPremises (content_of b u.entries)) (sym views)
+          (subst (λ z. AreKnownPremises z (map (premise_by (filled xs)) (map (premise_at a) gs))) (sym last)
+          (premises_later (content_of a c.args.table.now.entries) (content_of n t.entries) (map (premise_by (filled xs)) (map (premise_at a) gs)) s.kinds c.requires.ready.known));
     }

@@ -1,9 +1,11 @@
-use Rattle.std.proofs.Common.{rules, arith}
+use Rattle.std.proofs.Common.{rules, arith, refl}
 use Rattle.nts_model.proofs.Slots.{Knows-kept}
 use Rattle.nts_unify.specs.Reading.{content_of}
 use Rattle.nts_canonical.specs.Forms.{kind_of_var, trees_of}
 use Rattle.nts_response.proofs.MadeValues.{made_value, made_known, made_sort, value_keeps, known_originals, original_sort, original_within}
 use Rattle.nts_response.proofs.Stepping.{step_grows}
+use Rattle.nts_response.proofs.Placed.{named_placed, value_placed}
+use Rattle.nts_store.proofs.Growing.{Extends-refl}
 use Rattle.nts_response.proofs.choosing.choose_value.Goals as goal
 
 pub returns-in-Some-clause-sort : goal.returns-in-Some-clause-sort
@@ -41,3 +43,13 @@ returns-clause-arg c =
 
 pub returns-in_err-value-clause-keeps : goal.returns-in_err-value-clause-keeps
 returns-in_err-value-clause-keeps c = step_grows c.args.cx.now c.value_in.new.cx c.args.table.now c.value_in.new.table c.requires.table c.value_in.ensures.grows (search rules)
+
+pub returns-in-Some-clause-placed : goal.returns-in-Some-clause-placed
+returns-in-Some-clause-placed c =
+    let e = content_of c.args.cx.now.nodes c.args.table.now.entries in
+    named_placed c.args.cx.now.nodes c.args.cx.now.nodes c.args.table.now.entries c.args.table.now.entries c.requires.table.now (Extends-refl c.args.cx.now.nodes) (kind_of_var c.args.kind) _ _ c.in-Some.n (search rules) refl
+
+pub returns-clause-placed : goal.returns-clause-placed
+returns-clause-placed c =
+    let e = c.in_ok-value.ensures in
+    value_placed c.args.cx.now.nodes c.value_in.new.cx.nodes c.args.table.now.entries c.value_in.new.table.entries c.requires.table.now e.grows.extends (kind_of_var c.args.kind) _ _ _ e.value

@@ -5,7 +5,7 @@ use Rattle.nts_canonical.specs.declared.types.CanonicalVarKind.TheVariants as va
 use Rattle.nts_canonical.specs.Forms.{kind_of_var, trees_of}
 use Rattle.nts_response.specs.Applied.{NamesOriginal}
 use Rattle.nts_response.proofs.Stepping.{step_then}
-use Rattle.nts_response.proofs.MadeValues.{IsChoice, original_arg, originals_kept, guess_choice, made_choice, one_chosen}
+use Rattle.nts_response.proofs.MadeValues.{IsChoice, original_arg, originals_kept, guess_choice, made_choice, one_chosen, none_chosen}
 use Rattle.nts_response.proofs.choosing.choose_values.Goals.{in-Some, in-None+in_ok-value-in-None}
 use Rattle.nts_response.proofs.choosing.choose_values.Goals as goal
 
@@ -30,7 +30,10 @@ returns-in_err-push-clause-keeps c =
       | in-None+in_ok-value-in-None w ↦ rw (w.cx-is, w.table-is) (step_then c.loop-i.invariant.keeps w.choose_value.ensures.keeps)
     ]
 
-choice : (c : goal.In_ok-push) → IsChoice c.args.cx.now c.loop-i.cx c.match-index.cx c.args.table.now c.loop-i.table c.match-index.table c.args.universe (trees_of c.args.cx.now.nodes c.args.values.now) (trees_of c.args.cx.now.nodes c.args.originals.now) c.loop-i.i (get_or c.args.kinds.now c.loop-i.i (var.Ty 0 0)) c.match-index.value
+pub loop-i-init : goal.loop-i-init
+loop-i-init c = rw c.in_ok-chosen.ensures.items (none_chosen c.args.cx.now c.args.table.now c.args.universe (trees_of c.args.cx.now.nodes c.args.values.now) (trees_of c.args.cx.now.nodes c.args.originals.now) c.requires.table)
+
+choice : (c : goal.In_ok-push) → IsChoice c.args.cx.now c.loop-i.cx c.match-index.cx c.args.table.now c.loop-i.table c.match-index.table c.args.universe (trees_of c.args.cx.now.nodes c.args.values.now) (trees_of c.args.cx.now.nodes c.args.originals.now) (trees_of c.loop-i.cx.nodes c.loop-i.chosen.items) c.loop-i.i (get_or c.args.kinds.now c.loop-i.i (var.Ty 0 0)) c.match-index.value
 choice c =
     let l = (c.requires.kinds c.loop-i.i (var.Ty 0 0) c.loop-i-test.true).universe in
     let at = slice_get-get_or c.args.kinds.now c.loop-i.i (var.Ty 0 0) c.loop-i-test.true in
@@ -39,13 +42,13 @@ choice c =
     elim c.match-index.branch [
       | in-Some w ↦ (let below : c.loop-i.i < length c.in_ok-guessed.guessed.items = omega (arith, c.loop-i-test.true, g.long) in
           let found = slice_get-get_or c.in_ok-guessed.guessed.items c.loop-i.i c.index.result.now below ∙ ap Some (sym c.index.ensures ∙ w.in-Some.is) in
-          rw (w.cx-is, w.table-is, w.value-is) (guess_choice c.args.cx.now c.loop-i.cx c.args.table.now c.loop-i.table c.args.universe (trees_of c.args.cx.now.nodes c.args.values.now) (trees_of c.args.cx.now.nodes c.args.originals.now) c.args.kinds.now c.in_ok-guessed.guessed.items c.loop-i.i _ w.in-Some.original g at found (omega (arith, l)) s))
+          rw (w.cx-is, w.table-is, w.value-is) (guess_choice c.args.cx.now c.loop-i.cx c.args.table.now c.loop-i.table c.args.universe (trees_of c.args.cx.now.nodes c.args.values.now) (trees_of c.args.cx.now.nodes c.args.originals.now) _ c.args.kinds.now c.in_ok-guessed.guessed.items c.loop-i.i _ w.in-Some.original g at found (omega (arith, l)) s))
       | in-None+in_ok-value-in-None w ↦ (let e = w.in_ok-value-in-None.ensures in
           let same = originals_kept c.args.cx.now c.loop-i.cx c.args.table.now c.loop-i.table _ c.args.originals.now s c.requires.originals in
-          rw (w.cx-is, w.table-is, w.value-is) (made_choice c.args.cx.now c.loop-i.cx w.choose_value.new.cx c.args.table.now c.loop-i.table w.choose_value.new.table c.args.universe _ _ _ c.loop-i.i _ w.in_ok-value-in-None.value same w.choose_value.ensures.keeps e.arg e.sort e.made))
+          rw (w.cx-is, w.table-is, w.value-is) (made_choice c.args.cx.now c.loop-i.cx w.choose_value.new.cx c.args.table.now c.loop-i.table w.choose_value.new.table c.args.universe _ _ _ _ c.loop-i.i _ w.in_ok-value-in-None.value same w.choose_value.ensures.keeps e.arg e.sort e.made (rw w.deref.ensures.value at e.placed)))
     ]
 
 pub loop-i-preserved : goal.loop-i-preserved
 loop-i-preserved c =
     let x = choice c in
-    one_chosen c.args.cx.now c.loop-i.cx c.match-index.cx c.args.table.now c.loop-i.table c.match-index.table c.args.universe _ _ c.args.kinds.now c.loop-i.chosen.items c.push.new.self.items c.loop-i.i (var.Ty 0 0) c.match-index.value c.loop-i-test.true c.loop-i.invariant x.keeps x.arg x.sort x.chosen c.in_ok-push.ensures.items
+    one_chosen c.args.cx.now c.loop-i.cx c.match-index.cx c.args.table.now c.loop-i.table c.match-index.table c.args.universe _ _ c.args.kinds.now c.loop-i.chosen.items c.push.new.self.items c.loop-i.i (var.Ty 0 0) c.match-index.value c.loop-i-test.true c.loop-i.invariant x.keeps x.arg x.sort x.chosen x.placed c.in_ok-push.ensures.items

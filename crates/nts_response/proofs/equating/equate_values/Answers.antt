@@ -1,9 +1,10 @@
-use Rattle.std.proofs.Common.{arith, rules, ◌≡◌, Err}
+use Rattle.std.proofs.Common.{arith, rules, refl, ◌≡◌, Err}
+use Rattle.nts_model.proofs.SubUnified.{JoinsSubRoots-refl}
 use Rattle.nts_store.specs.declared.fault.EvalError.TheVariants as EvalError
 use Rattle.nts_store.specs.Kept.{AllIn-kept}
 use Rattle.nts_unify.specs.Reading.{content_of}
 use Rattle.nts_table.proofs.TermTables.{proper_content}
-use Rattle.nts_response.proofs.Stepping.{step_then, arg_later}
+use Rattle.nts_response.proofs.Stepping.{step_none, step_then, joins_next, arg_later}
 use Rattle.nts_response.proofs.EqualLemmas.{equal_all, equal_next, equal_fault, fillable_later}
 use Rattle.nts_response.proofs.equating.equate_values.Goals as goal
 
@@ -20,12 +21,20 @@ equate_one-requires-clause-original c =
     let h = x.holds in
     record { within = h.within; knows = x.known }
 
+pub loop-i-init : goal.loop-i-init
+loop-i-init c = record {
+  equal = refl;
+  joins = JoinsSubRoots-refl (content_of c.args.cx.now.nodes c.args.table.now.entries);
+  keeps = step_none c.args.cx.now c.args.table.now c.requires.table;
+}
+
 pub loop-i-preserved : goal.loop-i-preserved
 loop-i-preserved c =
     let e = c.in_ok-equate_one.ensures in
     let keeps = step_then c.loop-i.invariant.keeps e.keeps in
     record {
       equal = equal_next c.args.cx.now c.loop-i.cx c.args.table.now c.loop-i.table c.args.chosen.now c.args.values.now c.args.originals.now c.loop-i.i (record { node = record { number = 0 } }) (record { node = record { number = 0 } }) (content_of c.equate_one.new.cx.nodes c.equate_one.new.table.entries) c.loop-i-test.true c.requires.long c.loop-i.invariant.keeps c.requires.chosen c.requires.values c.requires.originals c.loop-i.invariant.equal e.related (proper_content keeps.table);
+      joins = joins_next c.loop-i.invariant.keeps c.loop-i.invariant.joins e.keeps e.joins;
       keeps = keeps;
     }
 
@@ -37,3 +46,6 @@ pub returns-in_err-equate_one-clause-no : goal.returns-in_err-equate_one-clause-
 returns-in_err-equate_one-clause-no c = λ q.
     let no : c.equate_one.result ≡ Err EvalError.NoSolution = search rules in
     equal_fault c.args.cx.now c.loop-i.cx c.args.table.now c.loop-i.table c.args.chosen.now c.args.values.now c.args.originals.now c.loop-i.i (record { node = record { number = 0 } }) (record { node = record { number = 0 } }) c.loop-i-test.true c.requires.long c.loop-i.invariant.keeps c.requires.chosen c.requires.values c.requires.originals c.loop-i.invariant.equal (c.equate_one.ensures.no no)
+
+pub returns-in_err-equate_one-clause-joins : goal.returns-in_err-equate_one-clause-joins
+returns-in_err-equate_one-clause-joins c = joins_next c.loop-i.invariant.keeps c.loop-i.invariant.joins c.equate_one.ensures.keeps c.equate_one.ensures.joins

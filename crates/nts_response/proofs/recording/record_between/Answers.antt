@@ -10,7 +10,7 @@ use Rattle.nts_unify.specs.Recording.{is_visible}
 use Rattle.nts_delegate.proofs.Results.{OnOk-map}
 use Rattle.nts_table.proofs.TermTables.{proper_content}
 use Rattle.nts_response.specs.Recorded.{IsLeftSide, AddsSeen, seen_as}
-use Rattle.nts_response.proofs.RecordLemmas.{recorded_in, recorded_seen, equated_in}
+use Rattle.nts_response.proofs.RecordLemmas.{recorded_in, recorded_seen, recorded_joins, equated_in, equated_joins}
 use Rattle.nts_response.proofs.recording.record_between.Goals as goal
 
 pub returns-in-Equal-clause-recorded : goal.returns-in-Equal-clause-recorded
@@ -50,3 +50,17 @@ returns-in-TypeOutlives-clause-recorded c =
     (OnOk-map c.register_ty_outlives.result (λ k. recorded_seen (content_of ts t.entries) (content_of ts u.entries) (record { relation = relation.TypeOutlives; left = tree_at ts c.args.left; right = tree_at ts c.args.right; is_visible = true }) (is_visible c.args.visible)
     (recorded_in ts t.entries u.entries (record { relation = relation.TypeOutlives; left = c.args.left; right = c.args.right; is_visible = true }) (proper_content c.requires.table) (proper_content c.register_ty_outlives.ensures.table)
     (λ i j. (let z : Some (of_sort sort.Ty) ≡ Some (of_sort sort.Region) = sym side ∙ ap kind_of j ∙ other in cc z)) k)) c.register_ty_outlives.ensures.recorded)
+
+pub returns-in-Equal-clause-joins : goal.returns-in-Equal-clause-joins
+returns-in-Equal-clause-joins c =
+    let ts = c.args.cx.now.nodes in
+    let side : IsLeftSide relation.Equal (tree_at ts c.args.left) = subst (λ z. IsLeftSide z (tree_at ts c.args.left)) c.in-Equal.is c.requires.left_side in
+    OnOk-map c.equate_regions.result (λ k. equated_joins ts c.args.table.now.entries c.equate_regions.new.self.entries c.args.left c.args.right (is_visible c.args.visible) c.requires.table.now c.requires.left.knows c.requires.right.knows side c.requires.right_side k) c.equate_regions.ensures.equated
+
+pub returns-in-RegionOutlives-clause-joins : goal.returns-in-RegionOutlives-clause-joins
+returns-in-RegionOutlives-clause-joins c =
+    OnOk-map c.sub_regions.result (λ k. recorded_joins c.args.cx.now.nodes c.args.table.now.entries c.sub_regions.new.self.entries _ k) c.sub_regions.ensures.recorded
+
+pub returns-in-TypeOutlives-clause-joins : goal.returns-in-TypeOutlives-clause-joins
+returns-in-TypeOutlives-clause-joins c =
+    OnOk-map c.register_ty_outlives.result (λ k. recorded_joins c.args.cx.now.nodes c.args.table.now.entries c.register_ty_outlives.new.self.entries _ k) c.register_ty_outlives.ensures.recorded

@@ -1,5 +1,6 @@
 use Rattle.std.proofs.Common.{take, map}
 use Rattle.nts_model.specs.Applying.{Records}
+use Rattle.nts_model.specs.SubUnifying.{JoinsSubRoots}
 use Rattle.nts_store.specs.Growth.{tree_at}
 use Rattle.nts_unify.specs.Reading.{content_of}
 use Rattle.nts_unify.specs.Recording.{is_visible}
@@ -12,5 +13,6 @@ abbrev pub invariant-loop-i : goal.invariant-loop-i
 invariant-loop-i l = record {
   recorded : Records (map (tree_at l.fn.cx.nodes) l.chosen) (take l.i (map (recorded_at l.fn.cx.nodes) l.constraints)) (content_of l.fn.cx.nodes l.fn.table.entries) (content_of l.cx.nodes l.table.entries);
   seen : AddsAllSeen (is_visible l.visible) (take l.i (map (recorded_at l.fn.cx.nodes) l.constraints)) (content_of l.fn.cx.nodes l.fn.table.entries).constraints (content_of l.cx.nodes l.table.entries).constraints;
+  joins : JoinsSubRoots (content_of l.fn.cx.nodes l.fn.table.entries) (content_of l.cx.nodes l.table.entries);
   keeps : StepKeeps l.fn.cx l.cx l.fn.table l.table;
 }

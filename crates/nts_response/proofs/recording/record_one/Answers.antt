@@ -1,4 +1,5 @@
 use Rattle.std.proofs.Common.{subst}
+use Rattle.nts_model.specs.SubUnifying.{JoinsSubRoots}
 use Rattle.nts_store.specs.Growth.{tree_at}
 use Rattle.nts_store.proofs.Growing.{IsIn-extended, AllIn-extended, Extends-trans}
 use Rattle.nts_store.specs.Kept.{map-kept}
@@ -81,3 +82,9 @@ pub returns-clause-keeps : goal.returns-clause-keeps
 returns-clause-keeps c =
     let e = c.record_between.ensures in
     nodes_recorded c.args.cx.now c.instantiate_canonical-2.new.nodes c.args.table.now c.record_between.new.table c.requires.table (Extends-trans c.instantiate_canonical.ensures.extends c.instantiate_canonical-2.ensures.extends) e.table e.changes (recorded_kinds c.record_between.result _ c.args.table.now c.record_between.new.table _ e.recorded e.err)
+
+pub returns-clause-joins : goal.returns-clause-joins
+returns-clause-joins c =
+    let same = content_of-extended (Extends-trans c.in_ok-left.ensures.extends c.in_ok-right.ensures.extends) c.requires.table.now in
+    let new = content_of c.instantiate_canonical-2.new.nodes c.record_between.new.table.entries in
+    OnOk-map c.record_between.result (λ h. subst (λ z. JoinsSubRoots z new) same h) c.record_between.ensures.joins

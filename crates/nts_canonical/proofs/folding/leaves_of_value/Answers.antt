@@ -1,0 +1,15 @@
+use Rattle.std.proofs.Common.{◌≡◌, [], rules, ap, ◌∙◌}
+use Rattle.nts_model.specs.Numbered.{seen}
+use Rattle.nts_model.specs.Responses.{is_fixed}
+use Rattle.nts_canonical.specs.Mapping.{IsAny, itself}
+use Rattle.nts_canonical.proofs.Mapped.{seeing, walk_mapped}
+use Rattle.nts_canonical.proofs.folding.leaves_of_value.Goals as goal
+
+pub returns-clause-tree : goal.returns-clause-tree
+returns-clause-tree g c = (walk_mapped IsAny itself (seen is_fixed) seeing _ _ _ _ tt c.in_ok-value.ensures.walk).0
+
+pub returns-clause-leaves : goal.returns-clause-leaves
+returns-clause-leaves g c =
+    let x = g.T.TypeFoldable.tree c.args.cx.now.nodes c.args.value in
+    let none : c.new.result.keys ≡ [] = search rules in
+    (walk_mapped IsAny itself (seen is_fixed) seeing _ _ _ _ tt c.in_ok-value.ensures.walk).1 ∙ ap (λ s. seen is_fixed s x) none
