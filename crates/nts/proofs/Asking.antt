@@ -22,14 +22,14 @@ use Rattle.nts_evaluation.specs.Evaluation.{Goes, Runs, AreValues, AllKnown, Are
 use Rattle.nts_table.specs.Tables.{IsTermOf}
 use Rattle.nts.specs.Found.{IsKnownValue}
 use Rattle.nts_evaluation.proofs.Asking.{IsAdmitted-extended}
-use Rattle.nts_evaluation.proofs.Evaluating.{Goes-extends, IsTermOf-later}
+use Rattle.nts_evaluation.proofs.Evaluating.{Knows-goes, Goes-extends, IsTermOf-later}
 use Rattle.nts_unify.proofs.Keeping.{Knows-later}
 
 -- the values later on
 pub IsKnownValue-later : {a b : List Tree} {t u : Table} {x : GenericArg} → Goes a b t u → IsKnownValue a t x → IsKnownValue b u x
 IsKnownValue-later {a} {b} {t} {u} {x} g h =
     let kept = g.extends.kept x.node h.holds.within in
-    record { holds = record { within = IsIn-extended g.extends x.node h.holds.within; fits = rw kept h.holds.fits }; knows = rw kept (Knows-later (tree_at a x.node) g.later h.knows) }
+    record { holds = record { within = IsIn-extended g.extends x.node h.holds.within; fits = rw kept h.holds.fits }; knows = rw kept (Knows-goes (tree_at a x.node) g h.knows) }
 
 pub values-later : {a b : List Tree} {t u : Table} (vs : List GenericArg) → Goes a b t u → All (λ v. IsKnownValue a t v) vs → All (λ v. IsKnownValue b u v) vs
 values-later vs g h = λ k d l. IsKnownValue-later g (h k d l)

@@ -1,5 +1,5 @@
 //! Asking a goal.
-ghost use Rattle.std.specs.Prelude.{◌≡◌, ◌≢◌, All, List, length, map, Some, IfOk, OnOk};
+ghost use Rattle.std.specs.Prelude.{◌≡◌, All, List, length, map, None, Some, IfOk, OnOk};
 ghost use Rattle.nts_model.specs.Trees.{Tree};
 ghost use Rattle.nts_store.specs.Growth.{Extends};
 ghost use Rattle.nts_unify.specs.Reading.{content_of};
@@ -177,7 +177,7 @@ fn evaluated(
     ensures admitted { IfOk result (λ _. IsAdmitted cx.old.nodes table.old goal) }
     ensures proved { IfOk result (λ o. o ≡ Some certainty.Yes →
         IsProvedGoal cx.old.nodes cx.new.nodes clauses.now table.new goal) }
-    ensures unsure { IfOk result (λ o. o ≢ Some certainty.Yes → table.new ≡ table.old) }
+    ensures none { IfOk result (λ o. o ≡ None → table.new ≡ table.old) }
     ensures mode { OnOk result (table.new.mode ≡ table.old.mode) }
 {
     let _ = values.len();

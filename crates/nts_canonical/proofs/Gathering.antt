@@ -6,7 +6,7 @@ use Rattle.indexmap.specs.IndexSet.{insert_key}
 use Rattle.nts_model.specs.declared.labels.Leaf.{Leaf}
 use Rattle.nts_model.specs.declared.labels.Label.{Label}
 use Rattle.nts_model.specs.declared.labels.Label.TheVariants as label
-use Rattle.nts_model.specs.Trees.{Tree, empty, more, node, size, children, IsRow, row_length, row_at}
+use Rattle.nts_model.specs.Trees.{Tree, empty, more, node, size, children, any_label, IsRow, row_length, row_at}
 use Rattle.nts_model.specs.Sequents.{Among}
 use Rattle.nts_model.specs.Numbered.{same, added, seen_node, seen}
 use Rattle.nts_model.specs.contracts.labels.LeafPartialEq.TheImpl as leaf_eq
@@ -14,8 +14,10 @@ use Rattle.nts_model.proofs.Listed.{either, tell, differ, same-yes, added-has, a
 use Rattle.nts_model.proofs.Numbering.{Extends, extends-self, extends-trans, extends-seen}
 use Rattle.nts_store.specs.declared.nodes.NodeId.{NodeId}
 use Rattle.nts_store.specs.Growth.{tree_at, IsIn}
+use Rattle.nts_store.specs.TypeFlags.{is_leaf}
 use Rattle.nts_relating.specs.Knowing.{row_from}
 use Rattle.nts_relating.proofs.Looking.{row_from-end, row_from-step}
+use Rattle.nts_canonical.proofs.Leafless.{both_false}
 use Rattle.nts_canonical.specs.declared.collecting.Task.{Task}
 use Rattle.nts_canonical.specs.declared.collecting.Task.TheVariants as task
 use Rattle.nts_canonical.specs.Collecting.{after_leaf, Job, read, finish, job, jobs, TaskIn, TasksIn, entered, seen_after, IsReadAt, IsRead, AreRead, AreDue, weight, weights, IsReading, WalkGoesOn}
@@ -43,6 +45,23 @@ pub seen-read : (stays : Leaf → Bool) (s : List Leaf) (t : Tree) → IsRead st
 seen-read stays s empty h = refl
 seen-read stays s (more a b) h = ap (λ z. seen stays z b) (seen-read stays s a h.0) ∙ seen-read stays s b h.1
 seen-read stays s (node l c) h = seen-read_at stays s (seen stays s c) (IsRead stays s c) l (seen-read stays s c) h
+
+-- a tree without leaves is read
+read_at-leafless : (stays : Leaf → Bool) (s : List Leaf) (A : Type 0) (l : Label) → is_leaf l ≡ false → A → IsReadAt stays s l A
+read_at-leafless stays s A (label.Leaf x) e h = absurd (let f : true ≡ false = e in cc)
+read_at-leafless stays s A (label.Bound o b n) e h = h
+read_at-leafless stays s A (label.Ty x) e h = h
+read_at-leafless stays s A (label.Const x) e h = h
+read_at-leafless stays s A (label.Clause x) e h = h
+read_at-leafless stays s A (label.Predicate x) e h = h
+read_at-leafless stays s A (label.List x) e h = h
+
+read-leafless : (stays : Leaf → Bool) (s : List Leaf) (t : Tree) → any_label is_leaf t ≡ false → IsRead stays s t
+read-leafless stays s empty e = tt
+read-leafless stays s (more a b) e =
+    let h = both_false (any_label is_leaf a) (any_label is_leaf b) e in (read-leafless stays s a h.0, read-leafless stays s b h.1)
+read-leafless stays s (node l c) e =
+    let h = both_false (is_leaf l) (any_label is_leaf c) e in read_at-leafless stays s (IsRead stays s c) l h.0 (read-leafless stays s c h.1)
 
 -- once its leaves are seen, a tree is read
 read_at-seen : (stays : Leaf → Bool) (s inside u : List Leaf) (A : Type 0) (l : Label) → (Extends inside u → A) → Extends (seen_node stays s l inside) u → IsReadAt stays u l A
@@ -196,13 +215,24 @@ continues_leaf stays ts xs t x l s u ns h is e v =
     continues stays ts xs xs (task.Enter t) [] s u ns ns h (front stays ts xs (task.Enter t) s ns h).0 (sym (append-nil (jobs ts xs))) (v ∙ sym shown) tt (size-some l (children (tree_at ts t)) (tree_at ts t) is)
     (are_read-more stays ts s u ns (λ m i. rw v (after_leaf-keeps stays s x m i)) h.are_read)
 
--- a term that was finished shows nothing new
+-- a term that was read shows nothing new
+continues_read : (stays : Leaf → Bool) (ts : List Tree) (xs : List Task) (t : NodeId) (l : Label) (s : List Leaf) (ns : List ℕ)
+    → IsReading stays ts (xs ++ task.Enter t ∷ []) s ns → tree_at ts t ≡ node l (children (tree_at ts t)) → IsRead stays s (tree_at ts t)
+    → WalkGoesOn stays ts (xs ++ task.Enter t ∷ []) s ns xs s ns
+continues_read stays ts xs t l s ns h is done =
+    continues stays ts xs xs (task.Enter t) [] s s ns ns h (front stays ts xs (task.Enter t) s ns h).0 (sym (append-nil (jobs ts xs))) (sym (seen-read stays s (tree_at ts t) done)) tt (size-some l (children (tree_at ts t)) (tree_at ts t) is) h.are_read
+
+-- .. such as one that was finished
 pub continues_finished : (stays : Leaf → Bool) (ts : List Tree) (xs : List Task) (t : NodeId) (l : Label) (s : List Leaf) (ns : List ℕ)
     → IsReading stays ts (xs ++ task.Enter t ∷ []) s ns → tree_at ts t ≡ node l (children (tree_at ts t)) → list_any (nat_eq t.number) ns ≡ true
     → WalkGoesOn stays ts (xs ++ task.Enter t ∷ []) s ns xs s ns
-continues_finished stays ts xs t l s ns h is e =
-    let done : IsRead stays s (tree_at ts t) = is_read-contained stays ts s ns t.number h.are_read e in
-    continues stays ts xs xs (task.Enter t) [] s s ns ns h (front stays ts xs (task.Enter t) s ns h).0 (sym (append-nil (jobs ts xs))) (sym (seen-read stays s (tree_at ts t) done)) tt (size-some l (children (tree_at ts t)) (tree_at ts t) is) h.are_read
+continues_finished stays ts xs t l s ns h is e = continues_read stays ts xs t l s ns h is (is_read-contained stays ts s ns t.number h.are_read e)
+
+-- .. or one without leaves
+pub continues_leafless : (stays : Leaf → Bool) (ts : List Tree) (xs : List Task) (t : NodeId) (l : Label) (s : List Leaf) (ns : List ℕ)
+    → IsReading stays ts (xs ++ task.Enter t ∷ []) s ns → tree_at ts t ≡ node l (children (tree_at ts t)) → any_label is_leaf (tree_at ts t) ≡ false
+    → WalkGoesOn stays ts (xs ++ task.Enter t ∷ []) s ns xs s ns
+continues_leafless stays ts xs t l s ns h is e = continues_read stays ts xs t l s ns h is (read-leafless stays s (tree_at ts t) e)
 
 -- the children of another term are to be read, and then it is finished
 seen_node-other : (stays : Leaf → Bool) (s inside : List Leaf) (l : Label) → ((x : Leaf) → l ≡ label.Leaf x → ⊥) → seen_node stays s l inside ≡ inside

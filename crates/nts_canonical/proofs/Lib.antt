@@ -9,6 +9,7 @@ pub mod Gathering
 pub mod Handed
 pub mod Having
 pub mod Kinded
+pub mod Leafless
 pub mod Making
 pub mod Mapped
 pub mod PairLists

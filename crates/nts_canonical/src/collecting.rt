@@ -46,7 +46,7 @@ pub(crate) fn stays(staying: Staying, leaf: Leaf) -> bool
 }
 
 /// Adds the leaves of a term that were not seen before. A node that the term has at several places is
-/// read once.
+/// read once, and one without leaves is not read.
 pub fn collect(
     alloc: Global,
     nodes: &Nodes,
@@ -88,6 +88,9 @@ fn enter(
         return see(staying, leaves, leaf);
     }
     if finished.contains(&term.number) {
+        return Ok(());
+    }
+    if !nodes.flags(term).has_leaf {
         return Ok(());
     }
     tasks.push(Task::Finish(term))?;

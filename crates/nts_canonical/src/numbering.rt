@@ -48,6 +48,9 @@ impl Replacer for Numberer<'_> {
     ghost kind_kept = { λ m t h. kind_of-numbered (stays_where m.0) m.1 t };
 
     fn step(&self, nodes: &mut Nodes, t: NodeId) -> Result<Step, AllocError> {
+        if !nodes.flags(t).has_leaf {
+            return Ok(Step::Done(t));
+        }
         let Label::Leaf(leaf) = nodes.label(t) else {
             return Ok(Step::Down(t));
         };

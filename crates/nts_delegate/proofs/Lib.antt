@@ -1,4 +1,5 @@
 pub mod Offering
+pub mod Over
 pub mod Results
 pub mod Testing
 pub mod Traits

@@ -1,32 +1,30 @@
 -- What a clause offers is a candidate.
-use Rattle.std.proofs.Common.{◌≡◌, ℕ, zero, suc, ◌+◌, ◌<◌, ◌==◌, ◌||◌, Bool, true, false, cond, if◌then◌else◌, List, [], ◌∷◌, ◌++◌, length, get_or, take, map, Option, Some, None, eqb-true, refl, ap, sym, ◌∙◌, arith}
+use Rattle.std.proofs.Common.{◌≡◌, inl, inr, ℕ, zero, suc, ◌+◌, ◌<◌, ◌==◌, ◌||◌, Bool, true, false, cond, if◌then◌else◌, List, [], ◌∷◌, ◌++◌, length, get_or, take, map, Option, Some, None, eqb-true, refl, ap, sym, ◌∙◌, arith}
 use Rattle.std.specs.List.{filter}
 use Rattle.std.proofs.lemmas.List.{take_more}
 use Rattle.nts_model.specs.declared.labels.Sort.{Sort}
-use Rattle.nts_model.specs.declared.labels.Leaf.TheVariants as leaf
+use Rattle.nts_model.specs.declared.labels.Leaf.{Leaf}
 use Rattle.nts_model.specs.declared.labels.BoundVarIndexKind.TheVariants as index
 use Rattle.nts_model.specs.declared.labels.ClauseHead.TheVariants as clause
 use Rattle.nts_model.specs.declared.labels.Label.{Label}
 use Rattle.nts_model.specs.declared.labels.Label.TheVariants as label
 use Rattle.nts_model.specs.Trees.{Tree, empty, more, node, children, any_label, is_canonical, row_length, row_at, row_take, IsRow}
-use Rattle.nts_model.specs.Contents.{Content}
-use Rattle.nts_model.specs.Resolving.{KnowsLeaves, Knows, KnowsVariable, variable_of}
-use Rattle.nts_model.proofs.Unpositioned.{known_leaves}
+use Rattle.nts_model.specs.Substitutions.{Occurs}
+use Rattle.nts_model.specs.Related.{pair}
 use Rattle.nts_terms.specs.declared.handles.Goal.{Goal}
 use Rattle.nts_terms.specs.declared.handles.Predicate.{Predicate}
 use Rattle.nts_store.specs.Growth.{tree_at}
 use Rattle.nts_model.specs.Handlers.{position_of, NamesAt, NamesFresh}
 use Rattle.nts_store.proofs.Growing.{row_take-all}
-use Rattle.nts_delegate.specs.Candidates.{IsAsked, KnowsGoal, AreEquations, AreNested, IsCandidate, AreCandidates}
+use Rattle.nts_delegate.specs.Candidates.{IsAsked, AreEquations, AreNested, IsCandidate, AreCandidates}
 use Rattle.nts_delegate.specs.Clauses.{is_foreign, AreBodies, HoldsClause, AreClauses, clauses_of, AreReady}
 use Rattle.nts_delegate.specs.Adding.{AddsClause}
+use Rattle.nts_delegate.specs.OwnTerms.{leaves_fixed}
 use Rattle.nts_delegate.specs.Offers.{trait_read, trait_of_body, trait_of, IsPair, ArePairs, asked_by, IsOffer, takes, AreEach}
 use Rattle.nts_delegate.specs.declared.delegate.Equation.{Equation}
 use Rattle.nts_delegate.specs.declared.delegate.CandidateData.{CandidateData}
 use Rattle.nts_delegate.specs.declared.clauses.Clause.{Clause}
 use Rattle.nts_delegate.specs.declared.clauses.Clauses.{Clauses}
-use Rattle.nts_model.specs.declared.labels.FreeRegion.TheVariants as region
-use Rattle.nts_model.specs.Placeholders.{CanName, leaf_level}
 
 both_false : (p q : Bool) → (p || q) ≡ false → (p ≡ false) × (q ≡ false)
 both_false true q h = cc
@@ -52,46 +50,6 @@ names_none fresh (node l c) h =
     let w = both_false (is_canonical l) (any_label is_canonical c) h in
     (no_name fresh l w.0, names_none fresh c w.1)
 
--- a label that is no variable
-no_variable : (c : Content) (l : Label) → is_foreign l ≡ false → KnowsVariable c (variable_of l)
-no_variable c (label.Leaf (leaf.Variable k n)) h = cc
-no_variable c (label.Leaf (leaf.Region r)) h = tt
-no_variable c (label.Leaf (leaf.TyConstant k)) h = tt
-no_variable c (label.Leaf (leaf.ConstConstant k)) h = tt
-no_variable c (label.Bound s i n) h = tt
-no_variable c (label.Ty t) h = tt
-no_variable c (label.Const k) h = tt
-no_variable c (label.Clause k) h = tt
-no_variable c (label.Predicate p) h = tt
-no_variable c (label.List k) h = tt
-
--- .. and no placeholder
-no_placeholder : (u : ℕ) (l : Label) → is_foreign l ≡ false → CanName u (leaf_level l)
-no_placeholder u (label.Leaf (leaf.Variable k n)) h = cc
-no_placeholder u (label.Leaf (leaf.Region region.Static)) h = tt
-no_placeholder u (label.Leaf (leaf.Region region.Erased)) h = tt
-no_placeholder u (label.Leaf (leaf.Region region.Error)) h = tt
-no_placeholder u (label.Leaf (leaf.Region (region.EarlyParam n))) h = cc
-no_placeholder u (label.Leaf (leaf.Region (region.LateParam n))) h = cc
-no_placeholder u (label.Leaf (leaf.Region (region.Placeholder v n))) h = cc
-no_placeholder u (label.Leaf (leaf.TyConstant k)) h = cc
-no_placeholder u (label.Leaf (leaf.ConstConstant k)) h = cc
-no_placeholder u (label.Bound s i n) h = tt
-no_placeholder u (label.Ty t) h = tt
-no_placeholder u (label.Const k) h = tt
-no_placeholder u (label.Clause k) h = tt
-no_placeholder u (label.Predicate p) h = tt
-no_placeholder u (label.List k) h = tt
-
-pub knows_none : (c : Content) (t : Tree) → any_label is_foreign t ≡ false → KnowsLeaves c t
-knows_none c empty h = tt
-knows_none c (more a b) h =
-    let w = both_false (any_label is_foreign a) (any_label is_foreign b) h in
-    (knows_none c a w.0, knows_none c b w.1)
-knows_none c (node l t) h =
-    let w = both_false (is_foreign l) (any_label is_foreign t) h in
-    ((no_variable c l w.0, no_placeholder c.universe l w.0), knows_none c t w.1)
-
 -- the children of a node
 children_lack : (p : Label → Bool) (t : Tree) → any_label p t ≡ false → any_label p (children t) ≡ false
 children_lack p empty h = refl
@@ -103,20 +61,20 @@ children_named fresh empty h = tt
 children_named fresh (more a b) h = tt
 children_named fresh (node l c) h = h.1
 
-children_known : (c : Content) (t : Tree) → Knows c t → Knows c (children t)
-children_known c empty h = tt
-children_known c (more a b) h = tt
-children_known c (node l t) h = h.1
+children_leaves : (l : Leaf) (t : Tree) → Occurs l (children t) → Occurs l t
+children_leaves l empty o = absurd o
+children_leaves l (more a b) o = absurd o
+children_leaves l (node m t) o = inr o
 
--- a part of a whole has no position and no variable that the whole lacks
+-- a part of a whole has no position and no leaf that the whole lacks
 pub record IsPart (whole part : Tree) : Type 0 where
   pub lacks : (p : Label → Bool) → any_label p whole ≡ false → any_label p part ≡ false
-  pub knows : (c : Content) → Knows c whole → Knows c part
+  pub leaves : (l : Leaf) → Occurs l part → Occurs l whole
 
 is_part_of_statement : (s : Tree) (r : ℕ × Tree) → trait_read s ≡ Some r → IsPart s r.1
 is_part_of_statement (node (label.Clause (clause.Trait i)) (more a b)) r e =
     let is : a ≡ r.1 = ap (λ o. or_empty o) e in
-    rw (← is) (record { lacks = λ p h. let w : any_label p (more a b) ≡ false = (both_false (p (label.Clause (clause.Trait i))) (any_label p (more a b)) h).1 in (both_false (any_label p a) (any_label p b) w).0; knows = λ c h. h.1.0 })
+    rw (← is) (record { lacks = λ p h. let w : any_label p (more a b) ≡ false = (both_false (p (label.Clause (clause.Trait i))) (any_label p (more a b)) h).1 in (both_false (any_label p a) (any_label p b) w).0; leaves = λ l o. inr (inl o) })
   where
     or_empty : Option (ℕ × Tree) → Tree
     or_empty None = empty
@@ -129,7 +87,7 @@ is_part_of_body (more v (more s e)) r h =
     record {
       lacks = λ p w. let u = both_false (any_label p v) (any_label p (more s e)) w in
           part.lacks p (both_false (any_label p s) (any_label p e) u.1).0;
-      knows = λ c w. part.knows c w.1.0;
+      leaves = λ l o. inr (inl (part.leaves l o));
     }
 is_part_of_body t r h = cc
 
@@ -146,7 +104,7 @@ is_part t r h =
     let part = is_part_of_body (children t) r h in
     record {
       lacks = λ p w. part.lacks p (children_lack p t w);
-      knows = λ c w. part.knows c (children_known c t w);
+      leaves = λ l o. children_leaves l t (part.leaves l o);
     }
 
 -- pairs of arguments
@@ -169,7 +127,7 @@ pairs_all ts i us vs qs r s e l p =
     let second : row_take i vs ≡ vs = rw long (row_take-all vs s) in
     rw (first, second) at p
 
-pairs_over : (ts : List Tree) (fresh : List Sort) (g : Goal) (us vs : Tree) (qs : List Equation) → ArePairs ts us vs qs → any_label is_canonical us ≡ false → ((c : Content) → KnowsGoal ts c g → Knows c us) → NamesFresh fresh vs → any_label is_foreign vs ≡ false → AreEquations ts fresh g qs
+pairs_over : (ts : List Tree) (fresh : List Sort) (g : Goal) (us vs : Tree) (qs : List Equation) → ArePairs ts us vs qs → any_label is_canonical us ≡ false → ((l : Leaf) → Occurs l us → Occurs l (pair (tree_at ts g.param_env.node) (tree_at ts g.predicate.node))) → NamesFresh fresh vs → any_label is_foreign vs ≡ false → AreEquations ts fresh g qs
 pairs_over ts fresh g empty empty [] p n k f o = tt
 pairs_over ts fresh g (more a us) (more b vs) (q ∷ qs) p n k f o =
     let lacks = both_false (any_label is_canonical a) (any_label is_canonical us) n in
@@ -178,12 +136,12 @@ pairs_over ts fresh g (more a us) (more b vs) (q ∷ qs) p n k f o =
         lhs = record {
           within = p.0.left_in;
           names = rw p.0.left (names_none fresh a lacks.0);
-          knows = λ c w. rw p.0.left (known_leaves c a (k c w).0);
+          leaves = λ l x. inl (k l (inl (rw p.0.left at x)));
         };
-        rhs = record { within = p.0.right_in; names = rw p.0.right f.0; knows = λ c w. rw p.0.right (knows_none c b own.0) };
+        rhs = record { within = p.0.right_in; names = rw p.0.right f.0; leaves = λ l x. inr (leaves_fixed b own.0 l (rw p.0.right at x)) };
         argument = rw p.0.left p.0.argument;
       },
-      pairs_over ts fresh g us vs qs p.1 lacks.1 (λ c w. (k c w).1) f.1 own.1,
+      pairs_over ts fresh g us vs qs p.1 lacks.1 (λ l x. k l (inr x)) f.1 own.1,
     )
 pairs_over ts fresh g us vs qs p n k f o = absurd p
 
@@ -203,8 +161,8 @@ asked_nested ts fresh g (p ∷ ps) a b = (
   record {
     environment = refl;
     holds = record { env = a.holds.env; predicate = b.0 };
-    env = record { within = a.holds.env.within; names = names_none fresh _ (positions a).0; knows = λ c w. known_leaves c _ w.env };
-    predicate = record { within = b.1.within; names = b.1.names; knows = λ c w. knows_none c _ b.1.own };
+    env = record { within = a.holds.env.within; names = names_none fresh _ (positions a).0; leaves = λ l x. inl (inl x) };
+    predicate = record { within = b.1.within; names = b.1.names; leaves = λ l x. inr (leaves_fixed _ b.1.own l x) };
   },
   asked_nested ts fresh g ps a b.2,
 )
@@ -214,7 +172,7 @@ offer_is_candidate ts g args c d a h part o =
     record {
       hidden = o.hidden;
       accesses = o.accesses;
-      equations = rw o.fresh (pairs_over ts c.fresh.items g (children args) (children (tree_at ts c.head.node)) d.equations.items o.equations (children_lack is_canonical args (part.lacks is_canonical (positions a).1)) (λ k w. children_known k args (part.knows k w.predicate)) (children_named c.fresh.items (tree_at ts c.head.node) h.head.names) (children_lack is_foreign (tree_at ts c.head.node) h.head.own));
+      equations = rw o.fresh (pairs_over ts c.fresh.items g (children args) (children (tree_at ts c.head.node)) d.equations.items o.equations (children_lack is_canonical args (part.lacks is_canonical (positions a).1)) (λ l x. inr (inl (part.leaves l (children_leaves l args x)))) (children_named c.fresh.items (tree_at ts c.head.node) h.head.names) (children_lack is_foreign (tree_at ts c.head.node) h.head.own));
       constraints = rw o.constraints tt;
       goals = rw (o.fresh, o.goals) (asked_nested ts c.fresh.items g c.body.items a h.body);
     }

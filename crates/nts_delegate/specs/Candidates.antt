@@ -1,15 +1,18 @@
 -- What a handler may offer for a goal.
-use Rattle.std.specs.Prelude.{◌≡◌, List, [], ◌∷◌, Some}
+use Rattle.std.specs.Prelude.{◌≡◌, ◌⊎◌, List, [], ◌∷◌, Some}
 use Rattle.nts_model.specs.declared.labels.Sort.{Sort}
+use Rattle.nts_model.specs.declared.labels.Leaf.{Leaf}
 use Rattle.nts_model.specs.Trees.{Tree, kind_of, of_sort, any_argument, FitsPlace}
 use Rattle.nts_model.specs.Contents.{Content}
-use Rattle.nts_model.specs.Resolving.{KnowsLeaves, Knows}
+use Rattle.nts_model.specs.Resolving.{Knows}
+use Rattle.nts_model.specs.Substitutions.{Occurs}
+use Rattle.nts_model.specs.Related.{pair}
 use Rattle.nts_store.specs.declared.nodes.NodeId.{NodeId}
 use Rattle.nts_terms.specs.declared.handles.Goal.{Goal}
 use Rattle.nts_certainty.specs.declared.sources.RerunCondition.TheVariants as rerun
 use Rattle.nts_store.specs.Growth.{tree_at, IsIn}
 use Rattle.nts_terms.specs.Handles.{HoldsGoal}
-use Rattle.nts_model.specs.Handlers.{NamesFresh}
+use Rattle.nts_model.specs.Handlers.{NamesFresh, IsFixed}
 use Rattle.nts_model.specs.Handlers as handlers
 use Rattle.nts_unify.specs.Reading.{left_kind}
 use Rattle.nts_model.specs.declared.labels.Sort.TheVariants as sort
@@ -28,11 +31,12 @@ pub record KnowsGoal (ts : List Tree) (c : Content) (g : Goal) : Type 0 where
   pub env : Knows c (tree_at ts g.param_env.node)
   pub predicate : Knows c (tree_at ts g.predicate.node)
 
--- a term over the fresh variables and those of the goal
+-- a term over the fresh variables and the goal: it has no other leaves than the goal, but for regions that stay
+-- themselves
 pub record IsOver (ts : List Tree) (fresh : List Sort) (g : Goal) (t : NodeId) : Type 0 where
   pub within : IsIn ts t
   pub names : NamesFresh fresh (tree_at ts t)
-  pub knows : (c : Content) → KnowsGoal ts c g → KnowsLeaves c (tree_at ts t)
+  pub leaves : (l : Leaf) → Occurs l (tree_at ts t) → Occurs l (pair (tree_at ts g.param_env.node) (tree_at ts g.predicate.node)) ⊎ IsFixed l
 
 -- an equation between arguments
 pub record IsEquation (ts : List Tree) (fresh : List Sort) (g : Goal) (q : Equation) : Type 0 where

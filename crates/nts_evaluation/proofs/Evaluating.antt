@@ -1,7 +1,7 @@
 -- What evaluations keep, composed.
 use Rattle.std.proofs.Math.Seq.{take-append_seam}
 use Rattle.std.proofs.Common.{◌≡◌, ◌-◌, inl, inr, ℕ, zero, suc, ◌<◌, List, [], ◌∷◌, ◌++◌, length, map, get_or, Option, Some, None, refl, sym, ap, ◌∙◌, subst, arith, length-append, true}
-use Rattle.std.specs.Prelude.{slice_get, ◌↔◌, Result, Ok, Err, IfOk, OnOk, OnErr}
+use Rattle.std.specs.Prelude.{Bool, slice_get, ◌↔◌, Result, Ok, Err, IfOk, OnOk, OnErr}
 use Rattle.nts_model.specs.Equations.{AreRelated}
 use Rattle.nts_model.specs.declared.labels.Sort.{Sort}
 use Rattle.nts_model.specs.declared.labels.Relation.TheVariants as relation
@@ -16,6 +16,8 @@ use Rattle.nts_terms.specs.Handles.{Holds}
 use Rattle.nts_store.specs.Kept.{AllIn-kept, map-kept}
 use Rattle.nts_store.specs.Filled.{HasValue, HasValues}
 use Rattle.nts_model.specs.Rules.{Mode}
+use Rattle.nts_model.specs.Sequents.{Among}
+use Rattle.nts_model.specs.Passing.{TreePasses, PassesQueries}
 use Rattle.nts_model.specs.Handlers.{Handler, position_of, filled, IsValueOf, AreValuesOf, IsOfSort, NamesAt, NamesFresh}
 use Rattle.nts_model.specs.Regions.{of_variable}
 use Rattle.nts_store.proofs.Growing.{Extends-trans, Extends-refl, IsIn-extended}
@@ -28,7 +30,7 @@ use Rattle.nts_model.specs.Resolving.{IsSound}
 use Rattle.nts_model.specs.Holding.{Continues}
 use Rattle.nts_model.proofs.Held.{Continues-refl, Continues-trans, Continues-with_slot, Continues-with_constraint}
 use Rattle.nts_model.proofs.Sound.{IsSound-with_slot}
-use Rattle.nts_model.proofs.Slots.{KeepsKinds, KeepsKinds-with_slot, field-with_slot_new, KeepsKinds-refl, KeepsKinds-trans}
+use Rattle.nts_model.proofs.Slots.{KeepsKinds, KeepsKinds-with_slot, field-with_slot_new, KeepsKinds-refl, KeepsKinds-trans, Knows-kept}
 use Rattle.nts_unify.proofs.SavedLemmas.{push_inj}
 use Rattle.nts_table.proofs.GoingBack.{back_to}
 use Rattle.nts_table.proofs.Filling.{knows-filled}
@@ -40,7 +42,6 @@ use Rattle.nts_unify.specs.Reading.{content_of, slot_of, recorded_of, IsConstrai
 use Rattle.nts_table.specs.Tables.{IsTable}
 use Rattle.nts_unify.specs.Lawful.{content_of-extended, content_of-constrained, content_of-added}
 use Rattle.nts_table.specs.TableLaws.{IsTable-extended, IsTable-opened, IsTable-constrained}
-use Rattle.nts_unify.specs.Changing.{IsLater}
 use Rattle.nts_unify.specs.Proper.{outlives_sides}
 use Rattle.nts_table.specs.Fresh.{variable_kind, with_fresh, fresh_row}
 use Rattle.nts_table.specs.Making.{new_variable}
@@ -50,14 +51,14 @@ use Rattle.nts_terms.specs.Rest.{KeepsRest}
 use Rattle.nts_delegate.specs.declared.delegate.Equation.{Equation}
 use Rattle.nts_model.specs.declared.labels.Sort.TheVariants as sort
 use Rattle.nts_delegate.specs.Candidates.{IsEquation, AreEquations, IsRegionConstraint, AreRegionConstraints, IsNested, AreNested, IsCandidate, AreCandidates, IsOver}
+use Rattle.nts_delegate.proofs.Over.{over_knows}
 use Rattle.nts_terms.specs.Handles.{HoldsGoal}
 use Rattle.nts_store.specs.Formed.{AreFormed}
 use Rattle.nts_terms.proofs.Moved.{KeepsRest-refl}
 use Rattle.nts_evaluation.specs.Meant.{Since, offers_of}
 use Rattle.nts_evaluation.specs.Instances.{HoldsValues, IsTermInstance}
-use Rattle.nts_evaluation.specs.Evaluation.{IsGoalUnder, IsSameGoal, Goes, Runs, IsAdmitted, IsPosed, AllKnown, AreOfSorts, AreValues}
+use Rattle.nts_evaluation.specs.Evaluation.{Goes, Runs, IsAdmitted, IsPosed, AllKnown, AreOfSorts, AreValues}
 use Rattle.nts_table.specs.Tables.{IsTermOf}
-use Rattle.nts_unify.proofs.Keeping.{IsLater-refl, IsLater-trans, IsLater-with_slot, Knows-later, Keeps-with_constraint}
 
 pub Goes-trans : {a b c : List Tree} {t u v : Table} → Goes a b t u → Goes b c u v → Goes a c t v
 Goes-trans {a} {b} {c} {t} {u} {v} g h =
@@ -65,7 +66,6 @@ Goes-trans {a} {b} {c} {t} {u} {v} g h =
       sound = g.sound;
       extends = Extends-trans g.extends h.extends;
       table = h.table;
-      later = IsLater-trans g.later h.later;
       continues = Continues-trans (content_of a t.entries) (content_of b u.entries) (content_of c v.entries) g.sound g.continues h.continues;
       saved = h.saved ∙ g.saved;
       mode = h.mode ∙ g.mode;
@@ -81,13 +81,18 @@ Goes-extends {a} {b} {t} h e =
       sound = h.now.sound;
       extends = e;
       table = IsTable-extended e h;
-      later = rw same (IsLater-refl (content_of a t.entries));
       continues = rw same (Continues-refl (content_of a t.entries) h.now.sound);
       saved = refl;
       mode = refl;
       universe = refl;
       hidden = refl;
     }
+
+-- what the table knew it knows
+pub Knows-goes : {a b : List Tree} {t u : Table} (x : Tree) → Goes a b t u → Knows (content_of a t.entries) x → Knows (content_of b u.entries) x
+Knows-goes {a} {b} {t} {u} x g h =
+    let k = g.continues in
+    Knows-kept (content_of a t.entries) (content_of b u.entries) x (record { grows = k.grows; kinds = k.kinds }) h
 
 Holds-extended : {a b : List Tree} {p : _} {n : NodeId} → Extends a b → Holds p a n → Holds p b n
 Holds-extended {a} {b} {p} {n} e h = record { within = IsIn-extended e n h.within; fits = rw (e.kept n h.within) h.fits }
@@ -97,7 +102,7 @@ HoldsGoal-extended e h = record { env = Holds-extended e h.env; predicate = Hold
 
 pub IsTermOf-later : {a b : List Tree} {t u : Table} {x : NodeId} → Goes a b t u → IsTermOf a t x → IsTermOf b u x
 IsTermOf-later {a} {b} {t} {u} {x} g h =
-    record { within = IsIn-extended g.extends x h.within; knows = rw (g.extends.kept x h.within) (Knows-later (tree_at a x) g.later h.knows) }
+    record { within = IsIn-extended g.extends x h.within; knows = rw (g.extends.kept x h.within) (Knows-goes (tree_at a x) g h.knows) }
 
 pub IsPosed-later : {a b : List Tree} {t u : Table} {g : Goal} → Goes a b t u → IsPosed a t g → IsPosed b u g
 IsPosed-later {a} {b} {t} {u} {g} s p =
@@ -105,8 +110,8 @@ IsPosed-later {a} {b} {t} {u} {g} s p =
       table = s.table;
       holds = HoldsGoal-extended s.extends p.holds;
       knows = record {
-        env = rw (s.extends.kept g.param_env.node p.holds.env.within) (Knows-later (tree_at a g.param_env.node) s.later p.knows.env);
-        predicate = rw (s.extends.kept g.predicate.node p.holds.predicate.within) (Knows-later (tree_at a g.predicate.node) s.later p.knows.predicate);
+        env = rw (s.extends.kept g.param_env.node p.holds.env.within) (Knows-goes (tree_at a g.param_env.node) s p.knows.env);
+        predicate = rw (s.extends.kept g.predicate.node p.holds.predicate.within) (Knows-goes (tree_at a g.predicate.node) s p.knows.predicate);
       };
     }
 
@@ -121,7 +126,8 @@ AreValues-later {a} {b} {t} {u} {fresh} {vs} s h =
       within = AllIn-kept a b vs h.within s.extends;
       sorts = rw same h.sorts;
       values = rw same h.values;
-      known = rw same (AllKnown-later (content_of a t.entries) (content_of b u.entries) (map (tree_at a) vs) (λ x k. Knows-later x s.later k) h.known);
+      known = rw same (AllKnown-later (content_of a t.entries) (content_of b u.entries) (map (tree_at a) vs) (λ x k. Knows-goes x s k) h.known);
+      labels = λ P q v i. h.labels P q v (rw same at i);
     }
 
 pub IsOver-extended : {a b : List Tree} {fresh : List Sort} {g : Goal} {x : NodeId} → Extends a b → HoldsGoal a g → IsOver a fresh g x → IsOver b fresh g x
@@ -132,7 +138,7 @@ IsOver-extended {a} {b} {fresh} {g} {x} e p h =
     record {
       within = IsIn-extended e x h.within;
       names = rw same h.names;
-      knows = λ c k. rw same (h.knows c (record { env = rw env at k.env; predicate = rw predicate at k.predicate }));
+      leaves = λ l i. rw (env, predicate) (h.leaves l (rw same at i));
     }
 
 -- values of the sorts of the fresh variables serve every position
@@ -169,7 +175,7 @@ can_fill {a} {t} {g} {fresh} {vs} {x} p o v =
       within = o.within;
       values = v.within;
       positions = has-values fresh (map (tree_at a) vs) (tree_at a x) v.sorts o.names;
-      knows = knows-filled (content_of a t.entries) (map (tree_at a) vs) (tree_at a x) (λ i. known-there (content_of a t.entries) (map (tree_at a) vs) i v.known) (o.knows (content_of a t.entries) p.knows);
+      knows = knows-filled (content_of a t.entries) (map (tree_at a) vs) (tree_at a x) (λ i. known-there (content_of a t.entries) (map (tree_at a) vs) i v.known) (over_knows o (content_of a t.entries) p.knows);
     }
 
 -- values that stand for variables are terms of their sorts
@@ -263,15 +269,18 @@ values-fresh ts (v ∷ vs) n (s ∷ ss) e =
     let rest : trees_at ts vs ≡ fresh_row (suc n) ss = cc in
     (rw first (value-fresh s n), values-fresh ts vs (suc n) ss rest)
 
+labels-fresh : (ts : List Tree) (vs : List NodeId) (n : ℕ) (ss : List Sort) → trees_at ts vs ≡ fresh_row n ss → (P : Label → Bool) → PassesQueries P → (v : Tree) → Among (map (tree_at ts) vs) v → TreePasses P v
+labels-fresh ts [] n ss e P q v i = absurd i
+labels-fresh ts (w ∷ vs) n [] e P q v i = cc
+labels-fresh ts (w ∷ vs) n (s ∷ ss) e P q v (inl j) =
+    let first : tree_at ts w ≡ variable_tree (variable_kind s) n = cc in
+    rw (j, first) (q _ tt, tt)
+labels-fresh ts (w ∷ vs) n (s ∷ ss) e P q v (inr j) =
+    let rest : trees_at ts vs ≡ fresh_row (suc n) ss = cc in
+    labels-fresh ts vs (suc n) ss rest P q v j
+
 kinds-added : (ts : List Tree) (e : Entries) (v : Variable) → KeepsKinds (content_of ts e) (content_of ts (added e v))
 kinds-added ts e v = rw (content_of-added ts e v) (KeepsKinds-with_slot (content_of ts e) (slot_of ts v))
-
-later-fresh : (ts : List Tree) (e : Entries) (ss : List Sort) → IsLater (content_of ts e) (content_of ts (with_fresh e ss))
-later-fresh ts e [] = IsLater-refl (content_of ts e)
-later-fresh ts e (s ∷ ss) =
-    let v = new_variable e (variable_kind s) in
-    let first : IsLater (content_of ts e) (content_of ts (added e v)) = rw (content_of-added ts e v) (IsLater-with_slot (content_of ts e) (slot_of ts v) refl refl) in
-    IsLater-trans first (later-fresh ts (added e v) ss)
 
 kinds-fresh : (ts : List Tree) (e : Entries) (ss : List Sort) → KeepsKinds (content_of ts e) (content_of ts (with_fresh e ss))
 kinds-fresh ts e [] = KeepsKinds-refl (content_of ts e)
@@ -336,7 +345,6 @@ gave_fresh {a} {b} {t} {u} fresh vs h e k q s m w r =
         extends = e;
         table = k;
         continues = rw (q, ← same) (continues-fresh b t.entries fresh (rw same h.now.sound));
-        later = rw (q, ← same) (later-fresh b t.entries fresh);
         saved = s;
         mode = m;
         universe = ap (λ (z : Entries). z.universe) q ∙ universe-with_fresh t.entries fresh;
@@ -347,6 +355,7 @@ gave_fresh {a} {b} {t} {u} fresh vs h e k q s m w r =
         sorts = sorts-fresh b vs (length t.entries.variables) fresh r;
         values = values-fresh b vs (length t.entries.variables) fresh r;
         known = rw q (known-fresh b b vs t.entries fresh r);
+        labels = λ P p v i. labels-fresh b vs (length t.entries.variables) fresh r P p v i;
       };
     }
 
@@ -382,8 +391,8 @@ offers-kept {a} {b} {g} h mode e p =
     ap (λ x. h.offers mode x (tree_at b g.predicate.node)) (e.kept g.param_env.node p.env.within) ∙ ap (h.offers mode (tree_at a g.param_env.node)) (e.kept g.predicate.node p.predicate.within)
 
 -- a call on the store and the table
-pub goes : {a b : List Tree} {t u : Table} → IsTable a t → Extends a b → IsTable b u → IsLater (content_of a t.entries) (content_of b u.entries) → Continues (content_of a t.entries) (content_of b u.entries) → u.saved ≡ t.saved → u.mode ≡ t.mode → u.entries.universe ≡ t.entries.universe → u.entries.hidden ≡ t.entries.hidden → Goes a b t u
-goes {a} {b} {t} {u} w e h k n s m v d = record { sound = w.now.sound; continues = n; extends = e; table = h; later = k; saved = s; mode = m; universe = v; hidden = d }
+pub goes : {a b : List Tree} {t u : Table} → IsTable a t → Extends a b → IsTable b u → Continues (content_of a t.entries) (content_of b u.entries) → u.saved ≡ t.saved → u.mode ≡ t.mode → u.entries.universe ≡ t.entries.universe → u.entries.hidden ≡ t.entries.hidden → Goes a b t u
+goes {a} {b} {t} {u} w e h n s m v d = record { sound = w.now.sound; continues = n; extends = e; table = h; saved = s; mode = m; universe = v; hidden = d }
 
 pub kind-kept : {a b : List Tree} {x : NodeId} → Extends a b → IsIn a x → kind_of (tree_at b x) ≡ kind_of (tree_at a x)
 kind-kept {a} {b} {x} e w = ap kind_of (e.kept x w)
@@ -398,8 +407,8 @@ IsPosed-opened {a} {t} {u} {g} p e s =
     }
 
 -- a constraint whose sides are terms of the table
-pub goes-constrained : {a : List Tree} {t u : Table} (x : Constraint) → IsTable a t → IsTermOf a t x.left → IsTermOf a t x.right → kind_of (tree_at a x.left) ≡ Some (left_kind x.relation) → kind_of (tree_at a x.right) ≡ Some (of_sort sort.Region) → (x.relation ≡ relation.Equal → ⊥) → x.is_visible ≡ true → u.entries ≡ constrained t.entries x → u.saved ≡ t.saved → u.mode ≡ t.mode → Goes a a t u
-goes-constrained {a} {t} {u} x h l r k j n v e s m =
+pub goes-constrained : {a : List Tree} {t u : Table} (x : Constraint) → IsTable a t → IsTermOf a t x.left → IsTermOf a t x.right → kind_of (tree_at a x.left) ≡ Some (left_kind x.relation) → kind_of (tree_at a x.right) ≡ Some (of_sort sort.Region) → (x.relation ≡ relation.Equal → ⊥) → u.entries ≡ constrained t.entries x → u.saved ≡ t.saved → u.mode ≡ t.mode → Goes a a t u
+goes-constrained {a} {t} {u} x h l r k j n e s m =
     let is : IsConstraint a (content_of a t.entries) x = record {
       left_in = l.within;
       right_in = r.within;
@@ -415,7 +424,6 @@ goes-constrained {a} {t} {u} x h l r k j n v e s m =
       extends = Extends-refl a;
       table = IsTable-constrained h is e s;
       continues = rw (e, same) (Continues-with_constraint (content_of a t.entries) (recorded_of a x) h.now.sound);
-      later = rw (e, same) (let k = Keeps-with_constraint (content_of a t.entries) (recorded_of a x) v in k.later);
       saved = s;
       mode = m;
       universe = ap (λ (z : Entries). z.universe) e;
@@ -426,22 +434,22 @@ goes-constrained {a} {t} {u} x h l r k j n v e s m =
 same_table : {t u : Table} → u.entries ≡ t.entries → u.saved ≡ t.saved → u.mode ≡ t.mode → u ≡ t
 same_table e s m = λ i. record { entries = e i; saved = s i; mode = m i }
 
-goes-recorded : {a : List Tree} {t u : Table} (x : Constraint) → IsTable a t → IsTermOf a t x.left → IsTermOf a t x.right → kind_of (tree_at a x.left) ≡ Some (left_kind x.relation) → kind_of (tree_at a x.right) ≡ Some (of_sort sort.Region) → (x.relation ≡ relation.Equal → ⊥) → x.is_visible ≡ true → Records a t.entries u.entries x → u.saved ≡ t.saved → u.mode ≡ t.mode → Goes a a t u
-goes-recorded x h l r k j n v (inl e) s m = rw (same_table e.1 s m) (Goes-extends h (Extends-refl _))
-goes-recorded x h l r k j n v (inr e) s m = goes-constrained x h l r k j n v e.1 s m
+goes-recorded : {a : List Tree} {t u : Table} (x : Constraint) → IsTable a t → IsTermOf a t x.left → IsTermOf a t x.right → kind_of (tree_at a x.left) ≡ Some (left_kind x.relation) → kind_of (tree_at a x.right) ≡ Some (of_sort sort.Region) → (x.relation ≡ relation.Equal → ⊥) → Records a t.entries u.entries x → u.saved ≡ t.saved → u.mode ≡ t.mode → Goes a a t u
+goes-recorded x h l r k j n (inl e) s m = rw (same_table e.1 s m) (Goes-extends h (Extends-refl _))
+goes-recorded x h l r k j n (inr e) s m = goes-constrained x h l r k j n e.1 s m
 
-pub recorded_goes : {a : List Tree} {t u : Table} {E : Type 0} (x : Constraint) (o : Result (Unit {0}) E) → IsTable a t → IsTermOf a t x.left → IsTermOf a t x.right → kind_of (tree_at a x.left) ≡ Some (left_kind x.relation) → kind_of (tree_at a x.right) ≡ Some (of_sort sort.Region) → (x.relation ≡ relation.Equal → ⊥) → x.is_visible ≡ true → OnOk o (Records a t.entries u.entries x) → u.saved ≡ t.saved → u.mode ≡ t.mode → OnErr o (u ≡ t) → Goes a a t u
-recorded_goes x (Ok z) h l r k j n v e s m q = goes-recorded x h l r k j n v e s m
-recorded_goes x (Err z) h l r k j n v e s m q = rw q (Goes-extends h (Extends-refl _))
+pub recorded_goes : {a : List Tree} {t u : Table} {E : Type 0} (x : Constraint) (o : Result (Unit {0}) E) → IsTable a t → IsTermOf a t x.left → IsTermOf a t x.right → kind_of (tree_at a x.left) ≡ Some (left_kind x.relation) → kind_of (tree_at a x.right) ≡ Some (of_sort sort.Region) → (x.relation ≡ relation.Equal → ⊥) → OnOk o (Records a t.entries u.entries x) → u.saved ≡ t.saved → u.mode ≡ t.mode → OnErr o (u ≡ t) → Goes a a t u
+recorded_goes x (Ok z) h l r k j n e s m q = goes-recorded x h l r k j n e s m
+recorded_goes x (Err z) h l r k j n e s m q = rw q (Goes-extends h (Extends-refl _))
 
 -- all was undone
 pub goes-back : {a b : List Tree} {t u : Table} → IsTable a t → Extends a b → u ≡ t → Goes a b t u
 goes-back {a} {b} {t} {u} h e q = rw q (Goes-extends h e)
 
 -- .. that makes two trees equal, or leaves the table
-pub related_goes : {a b : List Tree} {t u : Table} {E : Type 0} (x y : Tree) (r : Result (Unit {0}) E) → IsTable a t → Extends a b → IsTable b u → IsLater (content_of a t.entries) (content_of b u.entries) → u.saved ≡ t.saved → u.mode ≡ t.mode → u.entries.universe ≡ t.entries.universe → u.entries.hidden ≡ t.entries.hidden → OnOk r (AreRelated (content_of a t.entries) (content_of b u.entries) x y) → OnErr r (u ≡ t) → Goes a b t u
-related_goes x y (Ok z) w e h k s m v d n q = goes w e h k n.continues s m v d
-related_goes x y (Err z) w e h k s m v d n q = goes-back w e q
+pub related_goes : {a b : List Tree} {t u : Table} {E : Type 0} (x y : Tree) (r : Result (Unit {0}) E) → IsTable a t → Extends a b → IsTable b u → u.saved ≡ t.saved → u.mode ≡ t.mode → u.entries.universe ≡ t.entries.universe → u.entries.hidden ≡ t.entries.hidden → OnOk r (AreRelated (content_of a t.entries) (content_of b u.entries) x y) → OnErr r (u ≡ t) → Goes a b t u
+related_goes x y (Ok z) w e h s m v d n q = goes w e h n.continues s m v d
+related_goes x y (Err z) w e h s m v d n q = goes-back w e q
 
 -- after a snapshot, a step, and its rollback the table is as it was
 pub rolled_back : {a b : List Tree} {t s u v : Table} → s.saved ≡ t.saved ++ t.entries ∷ [] → Goes a b s u → u.saved ≡ v.saved ++ v.entries ∷ [] → s.mode ≡ t.mode → v.mode ≡ u.mode → v ≡ t
@@ -459,7 +467,6 @@ ended {a} {b} {t} {s} {u} {v} (Ok x) same opened h step kept undone closed first
       continues = rw kept (rw same at step.continues);
       extends = step.extends;
       table = record { now = rw kept step.table.now; saved = rw ends (IsTable-extended step.extends h).saved };
-      later = rw kept (rw same at step.later);
       saved = ends;
       mode = last ∙ step.mode ∙ first;
       universe = ap (λ (z : Entries). z.universe) kept ∙ step.universe ∙ ap (λ (z : Entries). z.universe) same;
@@ -477,7 +484,6 @@ committed {a} {b} {t} {s} {u} {v} e same opened h step kept closed first last =
       continues = rw kept (rw same at step.continues);
       extends = step.extends;
       table = record { now = rw kept step.table.now; saved = rw ends.0 (IsTable-extended step.extends h).saved };
-      later = rw kept (rw same at step.later);
       saved = ends.0;
       mode = last ∙ step.mode ∙ first;
       universe = ap (λ (z : Entries). z.universe) kept ∙ step.universe ∙ ap (λ (z : Entries). z.universe) same;
@@ -581,17 +587,7 @@ IsAdmitted-extended {a} {b} {t} {g} e h k =
 
 pub ruleset asking = (Extends-trans, Extends-refl, IsTable-extended, IsAdmitted-extended)
 
--- a goal is the same under a table as it stands if what the table makes of it is that goal
-pub same_under : {b c : List Tree} {t : Table} (g h : Goal) → IsTable b t → Extends b c → HoldsGoal b g → tree_at c h.param_env.node ≡ deeply_resolved (content_of b t.entries) (tree_at b g.param_env.node) → tree_at c h.predicate.node ≡ deeply_resolved (content_of b t.entries) (tree_at b g.predicate.node) → IsSameGoal c g h ↔ IsGoalUnder c c t g g
-same_under {b} {c} {t} g h w e p i j =
-    let same = content_of-extended e w.now in
-    let env : deeply_resolved (content_of c t.entries) (tree_at c g.param_env.node) ≡ tree_at c h.param_env.node = rw (same, e.kept g.param_env.node p.env.within) (sym i) in
-    let predicate : deeply_resolved (content_of c t.entries) (tree_at c g.predicate.node) ≡ tree_at c h.predicate.node = rw (same, e.kept g.predicate.node p.predicate.within) (sym j) in (
-      λ s. record { env = s.env ∙ sym env; predicate = s.predicate ∙ sym predicate },
-      λ u. record { env = u.env ∙ env; predicate = u.predicate ∙ predicate },
-    )
-
--- what holds of a result for each s holds of the same result, where it is Ok
-pub handed_on : {T E S X : Type 0} {P : S → T → Type 0} {Q : T → Type 0} (r q : Result T E) → q ≡ r → OnOk q X → ((s : S) → IfOk r (P s)) → ((a : T) → X → ((s : S) → P s a) → Q a) → IfOk q Q
-handed_on {P = P} r (Ok a) e x p f = f a x (λ s. subst (λ z. IfOk z (P s)) (sym e) (p s))
-handed_on r (Err z) e x p f = tt
+-- what holds of a result for each s, where it is Ok
+pub each_of : {T E S : Type 0} {P : S → T → Type 0} {Q : T → Type 0} (r : Result T E) → ((s : S) → IfOk r (P s)) → ((a : T) → ((s : S) → P s a) → Q a) → IfOk r Q
+each_of (Ok a) p f = f a p
+each_of (Err z) p f = tt

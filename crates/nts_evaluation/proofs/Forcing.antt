@@ -10,7 +10,7 @@ use Rattle.nts_model.specs.Equations.{AreRelated}
 use Rattle.nts_model.specs.Related.{Constraint}
 use Rattle.nts_model.specs.Handlers.{Candidate, Handler, certain, filled, constraint_by}
 use Rattle.nts_model.specs.Choosing.{Freshens, EquatesAll, OnlyIsMet}
-use Rattle.nts_model.specs.Forcing.{seen_as, Adds, AddsBy, AddsAll, Leaves, LeavesAll, IsForced, Forces}
+use Rattle.nts_model.specs.Forcing.{seen_as, Adds, AddsBy, AddsAll, Leaves, LeavesAll, IsForced}
 use Rattle.nts_store.specs.declared.nodes.NodeId.{NodeId}
 use Rattle.nts_store.specs.Growth.{tree_at, IsIn, AllIn, Extends}
 use Rattle.nts_store.specs.Kept.{map-kept}
@@ -29,6 +29,8 @@ use Rattle.nts_delegate.specs.declared.delegate.CandidateData.{CandidateData}
 use Rattle.nts_delegate.specs.Offered.{equation_of, constraint_of, premise_of, candidate_of, candidates_of}
 use Rattle.nts_delegate.specs.Candidates.{AreCandidates}
 use Rattle.nts_evaluation.specs.Running.{constraint_between}
+use Rattle.nts_evaluation.specs.Asking.{Asks, Answers}
+use Rattle.nts_evaluation.specs.Refuting.{Forces}
 use Rattle.nts_evaluation.specs.Choices.{Equated}
 use Rattle.nts_evaluation.specs.Meant.{offers_of, AreOffered, IsForcedTo, IsOnlyMet}
 use Rattle.nts_evaluation.proofs.Evaluating.{candidate_at, offers-kept}
@@ -55,19 +57,19 @@ adds_more a b k vs ks i c d e l x w y z h r =
     let here : Adds (constraint_by (filled (map (tree_at a) vs)) (constraint_of b item)) d e = rw (map-kept a b vs w x) at r in
     rw (take_more ks i k l) (adds_push a (map (tree_at a) vs) (take i ks) item c d e h (subst (λ q. Adds (constraint_by (filled (map (tree_at a) vs)) q) d e) (constraint-kept {a = a} {b = b} item x y z) here))
 
--- a candidate whose equations hold, whose constraints were recorded, and whose first i goals were evaluated
-pub record RunSoFar (offers : Tree → Tree → List Candidate) (n : ℕ) (a b : List Tree) (t u : Table) (x : CandidateData) (vs : List NodeId) (i : ℕ) : Type 0 where
+-- a candidate whose equations hold, whose constraints were recorded, and of whose first i goals P says what they left
+pub record RunSoFar (P : Leaves) (a b : List Tree) (t u : Table) (x : CandidateData) (vs : List NodeId) (i : ℕ) : Type 0 where
   pub made : Content
   pub equal : Content
   pub met : Content
   pub freshens : Freshens t.entries.universe x.fresh.items (map (tree_at b) vs) (content_of a t.entries) made
   pub equates : EquatesAll (map (tree_at b) vs) (map (equation_of a) x.equations.items) made equal
   pub adds : AddsAll (map (tree_at b) vs) (map (constraint_of a) x.region_constraints.items) equal met
-  pub goals : LeavesAll (Forces offers n) (map (tree_at b) vs) (map (premise_of a) (take i x.goals.items)) met (content_of b u.entries)
+  pub goals : LeavesAll P (map (tree_at b) vs) (map (premise_of a) (take i x.goals.items)) met (content_of b u.entries)
 
-pub run_first : {a b e : List Tree} {t u v : Table} (offers : Tree → Tree → List Candidate) (n : ℕ) (x : CandidateData) (vs : List NodeId) → Equated a b t u x.fresh.items vs x.equations.items → AddsAll (map (tree_at b) vs) (map (constraint_of b) x.region_constraints.items) (content_of b u.entries) (content_of e v.entries)
-    → map (constraint_of b) x.region_constraints.items ≡ map (constraint_of a) x.region_constraints.items → Extends b e → AllIn b vs → RunSoFar offers n a e t v x vs 0
-run_first {a} {b} {e} {t} {u} {v} offers n x vs h k q l w =
+pub run_first : {a b e : List Tree} {t u v : Table} (P : Leaves) (x : CandidateData) (vs : List NodeId) → Equated a b t u x.fresh.items vs x.equations.items → AddsAll (map (tree_at b) vs) (map (constraint_of b) x.region_constraints.items) (content_of b u.entries) (content_of e v.entries)
+    → map (constraint_of b) x.region_constraints.items ≡ map (constraint_of a) x.region_constraints.items → Extends b e → AllIn b vs → RunSoFar P a e t v x vs 0
+run_first {a} {b} {e} {t} {u} {v} P x vs h k q l w =
     let same = map-kept b e vs w l in
     record { made = h.made; equal = content_of b u.entries; met = content_of e v.entries; freshens = rw same h.freshens; equates = rw same h.equates; adds = rw (same, ← q) k; goals = refl }
 
@@ -75,15 +77,15 @@ leaves_push : (P : Leaves) (a : List Tree) (xs : List Tree) (ps : List Candidate
 leaves_push P a xs [] p c d e h r = (e, subst (λ z. P z e (deeply_resolved z (filled xs (premise_of a p).environment)) (deeply_resolved z (filled xs (premise_of a p).predicate))) h r, refl)
 leaves_push P a xs (x ∷ ps) p c d e (m, y, rest) r = (m, y, leaves_push P a xs ps p m d e rest r)
 
-pub run_more : {a b e : List Tree} {t u v : Table} (offers : Tree → Tree → List Candidate) (n : ℕ) (x : CandidateData) (vs : List NodeId) (i : ℕ) (p : CandidateGoal) (rs : List CandidateGoal) → rs ≡ x.goals.items → i < length x.goals.items → Extends a b → Extends b e → AllIn b vs → IsIn a (get_or x.goals.items i p).goal.param_env.node → IsIn a (get_or x.goals.items i p).goal.predicate.node
-    → RunSoFar offers n a b t u x vs i → Forces offers n (content_of b u.entries) (content_of e v.entries) (deeply_resolved (content_of b u.entries) (filled (map (tree_at b) vs) (premise_of b (get_or rs i p)).environment)) (deeply_resolved (content_of b u.entries) (filled (map (tree_at b) vs) (premise_of b (get_or rs i p)).predicate)) → RunSoFar offers n a e t v x vs (i + 1)
-run_more {a} {b} {e} {t} {u} {v} offers n x vs i p rs is l k m w y z h r =
+pub run_more : {a b e : List Tree} {t u v : Table} (P : Leaves) (x : CandidateData) (vs : List NodeId) (i : ℕ) (p : CandidateGoal) (rs : List CandidateGoal) → rs ≡ x.goals.items → i < length x.goals.items → Extends a b → Extends b e → AllIn b vs → IsIn a (get_or x.goals.items i p).goal.param_env.node → IsIn a (get_or x.goals.items i p).goal.predicate.node
+    → RunSoFar P a b t u x vs i → P (content_of b u.entries) (content_of e v.entries) (deeply_resolved (content_of b u.entries) (filled (map (tree_at b) vs) (premise_of b (get_or rs i p)).environment)) (deeply_resolved (content_of b u.entries) (filled (map (tree_at b) vs) (premise_of b (get_or rs i p)).predicate)) → RunSoFar P a e t v x vs (i + 1)
+run_more {a} {b} {e} {t} {u} {v} P x vs i p rs is l k m w y z h r =
     let item = get_or x.goals.items i p in
     let same = map-kept b e vs w m in
     let c = content_of b u.entries in
     let xs = map (tree_at b) vs in
-    let here : Forces offers n c (content_of e v.entries) (deeply_resolved c (filled xs (premise_of b item).environment)) (deeply_resolved c (filled xs (premise_of b item).predicate)) = rw is at r in
-    let one = subst (λ o. Forces offers n c (content_of e v.entries) (deeply_resolved c (filled xs o.environment)) (deeply_resolved c (filled xs o.predicate))) (premise-kept {a = a} {b = b} item k y z) here in
+    let here : P c (content_of e v.entries) (deeply_resolved c (filled xs (premise_of b item).environment)) (deeply_resolved c (filled xs (premise_of b item).predicate)) = rw is at r in
+    let one = subst (λ o. P c (content_of e v.entries) (deeply_resolved c (filled xs o.environment)) (deeply_resolved c (filled xs o.predicate))) (premise-kept {a = a} {b = b} item k y z) here in
     record {
       made = h.made;
       equal = h.equal;
@@ -91,15 +93,15 @@ run_more {a} {b} {e} {t} {u} {v} offers n x vs i p rs is l k m w y z h r =
       freshens = rw same h.freshens;
       equates = rw same h.equates;
       adds = rw same h.adds;
-      goals = rw (same, take_more x.goals.items i p l) (leaves_push (Forces offers n) a xs (take i x.goals.items) item h.met c (content_of e v.entries) h.goals one);
+      goals = rw (same, take_more x.goals.items i p l) (leaves_push P a xs (take i x.goals.items) item h.met c (content_of e v.entries) h.goals one);
     }
 
-forces_next : (offers : Tree → Tree → List Candidate) (n : ℕ) (c d : Content) (e g : Tree) → IsForced offers (Forces offers n) c d e g → Forces offers (n + 1) c d e g
+forces_next : (offers : Tree → Tree → List Candidate) (n : ℕ) (c d : Content) (e g : Tree) → IsForced offers (Asks (Answers (Forces offers n))) c d e g → Forces offers (n + 1) c d e g
 forces_next offers n c d e g h =
     let next : n + 1 ≡ suc n = omega arith in
     subst (λ m. Forces offers m c d e g) (sym next) h
 
-pub run_last : {a b : List Tree} {t u : Table} (offers : Tree → Tree → List Candidate) (n : ℕ) (x : CandidateData) (vs : List NodeId) (i : ℕ) (e g : Tree) → take i x.goals.items ≡ x.goals.items → RunSoFar offers n a b t u x vs i → OnlyIsMet (content_of a t.entries) (candidate_of a x) (offers e g) → (candidate_of a x).certainty ≡ certain → Forces offers (n + 1) (content_of a t.entries) (content_of b u.entries) e g
+pub run_last : {a b : List Tree} {t u : Table} (offers : Tree → Tree → List Candidate) (n : ℕ) (x : CandidateData) (vs : List NodeId) (i : ℕ) (e g : Tree) → take i x.goals.items ≡ x.goals.items → RunSoFar (Asks (Answers (Forces offers n))) a b t u x vs i → OnlyIsMet (content_of a t.entries) (candidate_of a x) (offers e g) → (candidate_of a x).certainty ≡ certain → Forces offers (n + 1) (content_of a t.entries) (content_of b u.entries) e g
 run_last {a} {b} {t} {u} offers n x vs i e g all h only sure =
     forces_next offers n (content_of a t.entries) (content_of b u.entries) e g
     (record {

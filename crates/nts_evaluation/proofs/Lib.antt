@@ -1,7 +1,14 @@
 pub mod Admitting
+pub mod AnsweredQueries
+pub mod AskedGoals
 pub mod Asking
 pub mod Evaluating
+pub mod Queried
+pub mod QueryTables
+pub mod Labels
 pub mod Running
 pub mod Trying
 pub mod Forcing
 pub mod Refuting
+pub mod Told
+pub mod Fitting

@@ -1,11 +1,9 @@
 -- From what was found while a candidate ran to a proof of its goal.
-use Rattle.std.proofs.Common.{◌≡◌, ◌⊎◌, inl, inr, ⊎_elim, ℕ, zero, suc, ◌+◌, ◌<◌, Bool, false, List, [], ◌∷◌, ◌++◌, length, get_or, take, map, Option, Some, None, refl, sym, ap, ◌∙◌, subst, arith}
-use Rattle.std.specs.Prelude.{slice_get}
+use Rattle.std.proofs.Common.{◌≡◌, ◌⊎◌, inl, inr, ⊎_elim, ℕ, zero, suc, ◌+◌, ◌<◌, Bool, false, List, [], ◌∷◌, ◌++◌, length, get_or, take, map, Some, refl, sym, ap, ◌∙◌, subst, arith}
 use Rattle.std.proofs.lemmas.List.{take_more}
 use Rattle.nts_model.specs.declared.labels.Sort.{Sort}
 use Rattle.nts_model.specs.declared.labels.Sort.TheVariants as sort
 use Rattle.nts_model.specs.declared.labels.Variance.{Variance}
-use Rattle.nts_model.specs.declared.labels.VariableKind.{VariableKind}
 use Rattle.nts_model.specs.declared.labels.Relation.{Relation}
 use Rattle.nts_model.specs.declared.labels.Relation.TheVariants as relation
 use Rattle.nts_model.specs.declared.labels.ListHead.{ListHead}
@@ -13,9 +11,8 @@ use Rattle.nts_model.specs.declared.labels.ListHead.TheVariants as list
 use Rattle.nts_model.specs.declared.labels.Label.{Label}
 use Rattle.nts_model.specs.declared.labels.Label.TheVariants as label
 use Rattle.nts_model.specs.Trees.{Tree, empty, node, kind_of, kind_of_label, of_sort, any_argument, FitsPlace, shape, Meets, IsFormed}
-use Rattle.nts_model.specs.Contents.{Content, Slot, SlotState, Recorded, known, map_slot}
+use Rattle.nts_model.specs.Contents.{Content, Recorded}
 use Rattle.nts_model.specs.Resolving.{deeply_resolved, Knows}
-use Rattle.nts_model.specs.Worlds.{KnowsAll}
 use Rattle.nts_model.specs.Holding.{AreOne, IsTrivial, HasSides, HoldsConstraint, Continues}
 use Rattle.nts_model.specs.Alike.{Alike, one_tree, two_regions, one_label, two_rows, HoldsEqual, AreAlike}
 use Rattle.nts_model.specs.Sequents.{Among, Premise}
@@ -43,11 +40,8 @@ use Rattle.nts_table.specs.Tables.{Table}
 use Rattle.nts_unify.specs.Lawful.{content_of-constrained}
 use Rattle.nts_unify.specs.declared.contents.Constraint.{Constraint}
 use Rattle.nts_unify.specs.Recording.{Records}
-use Rattle.nts_unify.specs.Reading.{content_of, slot_of, state_with, recorded_of, left_kind, IsHeldState, AreHeld, AreConstraints}
+use Rattle.nts_unify.specs.Reading.{content_of, recorded_of, left_kind, AreConstraints}
 use Rattle.nts_table.specs.Tables.{IsTable}
-use Rattle.nts_unify.specs.declared.contents.Variable.{Variable}
-use Rattle.nts_unify.specs.declared.contents.State.{State}
-use Rattle.nts_unify.specs.declared.contents.State.TheVariants as state
 use Rattle.nts_delegate.specs.declared.delegate.Equation.{Equation}
 use Rattle.nts_delegate.specs.declared.delegate.EquationKind.{EquationKind}
 use Rattle.nts_delegate.specs.declared.delegate.EquationKind.TheVariants as kind_data
@@ -60,8 +54,7 @@ use Rattle.nts_delegate.specs.Offered.{certainty_of, access_of, source_of, equat
 use Rattle.nts_evaluation.specs.Running.{IsTermTable, Stays, EquationHolds, ConstraintHolds, PremiseHolds, EachStays, EquatesEach, Constrains, Proves}
 use Rattle.nts_evaluation.specs.Evaluation.{Goes, AllKnown}
 use Rattle.nts_table.specs.Tables.{IsTermOf}
-use Rattle.nts_evaluation.proofs.Evaluating.{candidate_at}
-use Rattle.nts_unify.proofs.Keeping.{Knows-later}
+use Rattle.nts_evaluation.proofs.Evaluating.{candidate_at, Knows-goes}
 
 -- what stays, stays
 pub Stays-later : {a b : List Tree} {t u : Table} {P : Content → Type 0} → Goes a b t u → Stays (content_of a t.entries) P → Stays (content_of b u.entries) P
@@ -143,7 +136,7 @@ pub recorded_stays : {ts : List Tree} {t u : Table} (x : Constraint) → Goes ts
 recorded_stays {ts} {t} {u} x g l r k j (inl e) =
     record { later = λ d s n. inl (trivial_outlives d x.relation (tree_at ts x.left) (tree_at ts x.right) (no_type x.relation (tree_at ts x.left) (tree_at ts x.right) k j e.0) e.0) }
 recorded_stays {ts} {t} {u} x g l r k j (inr e) =
-    held_stays (recorded_of ts x) g.table (Knows-later (tree_at ts x.left) g.later l.knows) (Knows-later (tree_at ts x.right) g.later r.knows) (rw (e.1, content_of-constrained ts t.entries x) (HoldsConstraint-with_constraint (content_of ts t.entries) (recorded_of ts x)))
+    held_stays (recorded_of ts x) g.table (Knows-goes (tree_at ts x.left) g l.knows) (Knows-goes (tree_at ts x.right) g r.knows) (rw (e.1, content_of-constrained ts t.entries x) (HoldsConstraint-with_constraint (content_of ts t.entries) (recorded_of ts x)))
 
 -- whether a constraint is seen has no say in whether it is held
 unseen_sides : (d : Content) (r : Relation) (a b : Tree) (v w : Bool) (y : Recorded) → HasSides d r (record { relation = r; left = a; right = b; is_visible = v }) y → HasSides d r (record { relation = r; left = a; right = b; is_visible = w }) y
@@ -211,7 +204,7 @@ equated d vs kind_data.Structural a b h = h
 -- the term y of the store b, with the tree of a filled one, is a term of each later table
 later_term : {b e : List Tree} {t u : Table} {y : NodeId} {x : Tree} (d : Content) → Goes b e t u → AreFormed b → IsTermOf b t y → tree_at b y ≡ x → Continues (content_of e u.entries) d → proving.IsTermOf d x
 later_term {b} {e} {t} {u} {y} {x} d g f h q k =
-    subst (proving.IsTermOf d) q (term_later (content_of e u.entries) d (tree_at b y) k (Knows-later (tree_at b y) g.later h.knows) (f y h.within))
+    subst (proving.IsTermOf d) q (term_later (content_of e u.entries) d (tree_at b y) k (Knows-goes (tree_at b y) g h.knows) (f y h.within))
 
 -- an equation whose sides were made equal
 pub equation_stays : {b e : List Tree} {t u : Table} {x y : NodeId} (a : List Tree) (vs : List Tree) (q : Equation) → Goes b e t u → AreFormed b → IsTermOf b t x → IsTermOf b t y → tree_at b x ≡ filled vs (tree_at a q.lhs.node) → tree_at b y ≡ filled vs (tree_at a q.rhs.node) → kind_of (tree_at b x) ≡ kind_of (tree_at a q.lhs.node) → FitsPlace any_argument (kind_of (tree_at a q.lhs.node)) → Stays (content_of e u.entries) (λ d. AreAlike d (tree_at b x) (tree_at b y)) → Stays (content_of e u.entries) (EquationHolds vs (equation_of a q))
@@ -344,8 +337,8 @@ pub premise_stays : {a b : List Tree} {t u : Table} {m : Meaning} {mode : Mode} 
 premise_stays {a} {b} {t} {u} {m} {mode} {vs} {q} g i j f k h =
     record {
       later = λ d s n. record {
-        environment = term_later (content_of b u.entries) d (filled vs q.environment) n (Knows-later (filled vs q.environment) g.later i) f;
-        predicate = term_later (content_of b u.entries) d (filled vs q.predicate) n (Knows-later (filled vs q.predicate) g.later j) k;
+        environment = term_later (content_of b u.entries) d (filled vs q.environment) n (Knows-goes (filled vs q.environment) g i) f;
+        predicate = term_later (content_of b u.entries) d (filled vs q.predicate) n (Knows-goes (filled vs q.predicate) g j) k;
         proved = h.later d s n;
       };
     }

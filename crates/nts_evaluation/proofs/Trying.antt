@@ -5,10 +5,9 @@ use Rattle.std.proofs.lemmas.List.{take_more, take-append-drop, map-append}
 use Rattle.nts_model.specs.declared.labels.Sort.{Sort}
 use Rattle.nts_model.specs.declared.labels.Sort.TheVariants as sort
 use Rattle.nts_model.specs.declared.labels.Leaf.{Leaf}
-use Rattle.nts_model.specs.Trees.{Tree, empty, more, node}
+use Rattle.nts_model.specs.Trees.{Tree}
 use Rattle.nts_model.specs.Contents.{Content}
-use Rattle.nts_model.specs.declared.labels.Label.TheVariants as label
-use Rattle.nts_model.specs.Resolving.{variable_tree, KnowsLeaf, KnowsLeaves, Knows}
+use Rattle.nts_model.specs.Resolving.{variable_tree, Knows}
 use Rattle.nts_model.specs.Substitutions.{leaf_tree, Occurs}
 use Rattle.nts_model.specs.Equations.{AreRelated, AreUnrelated}
 use Rattle.nts_model.specs.Handlers.{filled, kind_of_sort}
@@ -32,6 +31,7 @@ use Rattle.nts_delegate.specs.declared.delegate.EquationKind.{EquationKind}
 use Rattle.nts_delegate.specs.declared.delegate.EquationKind.TheVariants as kind_data
 use Rattle.nts_delegate.specs.declared.delegate.CandidateData.{CandidateData}
 use Rattle.nts_delegate.specs.Candidates.{KnowsGoal, IsOver, IsEquation, AreEquations, AreCandidates}
+use Rattle.nts_delegate.proofs.Over.{leaf_known, over_knows}
 use Rattle.nts_delegate.specs.Offered.{equation_as, equation_of, candidate_of, candidates_of}
 use Rattle.nts_evaluation.specs.declared.evaluate.Choice.{Choice}
 use Rattle.nts_evaluation.specs.declared.evaluate.Choice.TheVariants as choice
@@ -87,15 +87,8 @@ pub right_is : (k : EquationKind) (a b : Tree) → right_of (equation_as k a b) 
 right_is kind_data.Related a b = refl
 right_is kind_data.Structural a b = refl
 
-leaf_of : (c : Content) (l : Leaf) (t : Tree) → Occurs l t → KnowsLeaves c t → Knows c (leaf_tree l)
-leaf_of c l empty o k = absurd o
-leaf_of c l (more a b) (inl o) k = leaf_of c l a o k.0
-leaf_of c l (more a b) (inr o) k = leaf_of c l b o k.1
-leaf_of c l (node m t) (inl e) k = (let h : KnowsLeaf c (label.Leaf l) = subst (KnowsLeaf c) (sym e) k.0 in ((h.0, h.1, refl), tt))
-leaf_of c l (node m t) (inr o) k = leaf_of c l t o k.1
-
 leaves_known : (ts : List Tree) (fresh : List Sort) (g : Goal) (c : Content) (x : NodeId) (l : Leaf) → KnowsGoal ts c g → IsOver ts fresh g x → Occurs l (tree_at ts x) → Knows c (leaf_tree l)
-leaves_known ts fresh g c x l k o i = leaf_of c l (tree_at ts x) i (o.knows c k)
+leaves_known ts fresh g c x l k o i = (let h = leaf_known c l (tree_at ts x) i (over_knows o c k) in ((h.0, h.1, refl), tt))
 
 -- the equations of a candidate are formed, and over what the table knows
 equations_of_table : (ts : List Tree) (fresh : List Sort) (g : Goal) (c : Content) (qs : List Equation) → AreFormed ts → KnowsGoal ts c g → AreEquations ts fresh g qs → AreOfTable c (map (equation_of ts) qs)

@@ -13,6 +13,8 @@ use Rattle.nts_model.specs.Contents.{Content}
 use Rattle.nts_model.specs.Resolving.{Knows, deeply_resolved, IsSound}
 use Rattle.nts_model.specs.Holding.{Continues}
 use Rattle.nts_model.specs.Handlers.{AreValuesOf}
+use Rattle.nts_model.specs.Sequents.{Among}
+use Rattle.nts_model.specs.Passing.{TreePasses, TablePasses, PassesQueries}
 use Rattle.nts_store.specs.declared.nodes.NodeId.{NodeId}
 use Rattle.nts_terms.specs.declared.handles.Goal.{Goal}
 use Rattle.nts_terms.specs.declared.cx.Cx.{Cx}
@@ -23,7 +25,6 @@ use Rattle.nts_unify.specs.Reading.{content_of}
 use Rattle.nts_table.specs.Tables.{IsTable}
 use Rattle.nts_delegate.specs.Candidates.{KnowsGoal}
 use Rattle.nts_terms.specs.Handles.{HoldsGoal}
-use Rattle.nts_unify.specs.Changing.{IsLater}
 
 -- the store and the table later on: terms keep their trees, the table is a later one and has all that it had, the snapshots that were open are open, and the mode, the current universe and the hidden types are the
 -- same
@@ -31,7 +32,6 @@ pub record Goes (ts us : List Tree) (t u : Table) : Type 0 where
   pub sound : IsSound (content_of ts t.entries)
   pub extends : Extends ts us
   pub table : IsTable us u
-  pub later : IsLater (content_of ts t.entries) (content_of us u.entries)
   pub continues : Continues (content_of ts t.entries) (content_of us u.entries)
   pub saved : u.saved ≡ t.saved
   pub mode : u.mode ≡ t.mode
@@ -58,12 +58,22 @@ AreOfSorts [] [] = Unit {0}
 AreOfSorts (s ∷ ss) (t ∷ ts) = (kind_of t ≡ Some (of_sort s)) × AreOfSorts ss ts
 AreOfSorts ss ts = ⊥
 
--- terms of the store and the table that stand for variables of these sorts
+-- terms of the store and the table that stand for variables of these sorts, with labels that any query's table may have
 pub record AreValues (ts : List Tree) (t : Table) (fresh : List Sort) (vs : List NodeId) : Type 0 where
   pub within : AllIn ts vs
   pub sorts : AreOfSorts fresh (map (tree_at ts) vs)
   pub values : AreValuesOf fresh (map (tree_at ts) vs)
   pub known : AllKnown (content_of ts t.entries) (map (tree_at ts) vs)
+  pub labels : (P : Label → Bool) → PassesQueries P → (v : Tree) → Among (map (tree_at ts) vs) v → TreePasses P v
+
+-- the terms of a goal
+abbrev pub asked_terms : List Tree → Goal → List Tree
+asked_terms ts g = tree_at ts g.param_env.node ∷ tree_at ts g.predicate.node ∷ []
+
+-- the goal h of the store b has no labels but those of the goal g of the store a, of the table, and what any query's table
+-- may hold
+pub record AsksOnly (a b : List Tree) (c : Content) (g h : Goal) : Type 0 where
+  pub labels : (P : Label → Bool) → PassesQueries P → ((t : Tree) → Among (asked_terms a g) t → TreePasses P t) → TablePasses P c → (t : Tree) → Among (asked_terms b h) t → TreePasses P t
 
 -- a type variable
 abbrev pub is_type_variable_kind : VariableKind → Bool
@@ -101,8 +111,3 @@ pub record IsAdmitted (ts : List Tree) (t : Table) (g : Goal) : Type 0 where
 pub record IsGoalUnder (a b : List Tree) (t : Table) (g h : Goal) : Type 0 where
   pub env : tree_at b h.param_env.node ≡ deeply_resolved (content_of a t.entries) (tree_at a g.param_env.node)
   pub predicate : tree_at b h.predicate.node ≡ deeply_resolved (content_of a t.entries) (tree_at a g.predicate.node)
-
--- two goals are one
-pub record IsSameGoal (ts : List Tree) (g h : Goal) : Type 0 where
-  pub env : tree_at ts g.param_env.node ≡ tree_at ts h.param_env.node
-  pub predicate : tree_at ts g.predicate.node ≡ tree_at ts h.predicate.node

@@ -1,3 +1,5 @@
+pub mod Answering
+pub mod Asking
 pub mod Choices
 pub mod Evaluation
 pub mod Instances

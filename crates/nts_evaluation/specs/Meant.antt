@@ -1,5 +1,5 @@
 -- What a certain answer means, for a handler whose terms stood in an earlier store.
-use Rattle.std.specs.Prelude.{◌≡◌, ℕ, List, map, Result, IfOk}
+use Rattle.std.specs.Prelude.{◌≡◌, ◌⊎◌, ℕ, List, map, Result, IfOk}
 use Rattle.nts_model.specs.declared.labels.Variance.{Variance}
 use Rattle.nts_model.specs.Trees.{Tree}
 use Rattle.nts_model.specs.Sequents.{Among}
@@ -7,7 +7,7 @@ use Rattle.nts_model.specs.Rules.{Mode, Meaning}
 use Rattle.nts_model.specs.Resolving.{deeply_resolved}
 use Rattle.nts_model.specs.Handlers.{Candidate, Handler, meaning, filled}
 use Rattle.nts_model.specs.Choosing.{OnlyIsMet}
-use Rattle.nts_model.specs.Forcing.{Forces}
+use Rattle.nts_model.specs.Forcing.{Leaves}
 use Rattle.nts_certainty.specs.declared.certainty.Certainty.TheVariants as certainty
 use Rattle.nts_store.specs.declared.fault.EvalError.{EvalError}
 use Rattle.nts_terms.specs.declared.handles.Goal.{Goal}
@@ -22,7 +22,8 @@ use Rattle.nts_delegate.specs.declared.delegate.CandidateData.{CandidateData}
 use Rattle.nts_delegate.specs.declared.delegate.CandidateGoal.{CandidateGoal}
 use Rattle.nts_evaluation.specs.declared.evaluate.Answer.{Answer}
 use Rattle.nts_delegate.specs.Offered.{premise_of, candidate_of, candidates_of}
-use Rattle.nts_evaluation.specs.Refuting.{Refutes}
+use Rattle.nts_evaluation.specs.Asking.{Refuses, Answers, AnswersInPart, Asks, RefusesAsked}
+use Rattle.nts_evaluation.specs.Refuting.{Forces, Gains, Refutes}
 use Rattle.nts_evaluation.specs.Running.{Stays, PremiseHolds, StaysProved}
 
 -- a store from which the present one has grown, and in which the handler's terms stood; and any declared variances
@@ -61,34 +62,59 @@ IsOffered h mode ts g c = Among (offers_of h (mode_of mode) ts g) (candidate_of 
 abbrev pub IsProvedSince : {ready : List Tree → Type 0} {now : List Tree} → (List Tree → Handler) → Since ready now → TypingMode → List Tree → Table → Goal → Type 0
 IsProvedSince handler s mode ts t g = StaysProved (meaning_since handler s) (mode_of mode) ts t g
 
--- a goal of the store a is forced from the table t to the table u of the store b, in a tree of goals less than n high
+-- a goal of the store a is forced from the table t to the table u of the store b by its candidates, in a tree of queries less
+-- than n high; what an evaluation that is not sure leaves
 abbrev pub IsForcedTo : Handler → TypingMode → ℕ → List Tree → Table → List Tree → Table → Goal → Type 0
 IsForcedTo h mode n a t b u g =
     Forces (h.offers (mode_of mode)) n (content_of a t.entries) (content_of b u.entries) (tree_at a g.param_env.node) (tree_at a g.predicate.node)
 
+abbrev pub IsGainedTo : Handler → TypingMode → ℕ → List Tree → Table → List Tree → Table → Goal → Type 0
+IsGainedTo h mode n a t b u g =
+    Gains (h.offers (mode_of mode)) n (content_of a t.entries) (content_of b u.entries) (tree_at a g.param_env.node) (tree_at a g.predicate.node)
+
+-- .. by its query, whose response was applied
+abbrev pub AsksForced : Handler → TypingMode → ℕ → Leaves
+AsksForced h mode n = Asks (Answers (Forces (h.offers (mode_of mode)) n))
+
+abbrev pub AsksGained : Handler → TypingMode → ℕ → Leaves
+AsksGained h mode n = Asks (AnswersInPart (Gains (h.offers (mode_of mode)) n))
+
+abbrev pub AsksRefuted : Handler → TypingMode → ℕ → Refuses
+AsksRefuted h mode n = RefusesAsked (Refutes (h.offers (mode_of mode)) n) (AnswersInPart (Gains (h.offers (mode_of mode)) n))
+
+abbrev pub LeavesGoal : Leaves → List Tree → Table → List Tree → Table → Goal → Type 0
+LeavesGoal P a t b u g = P (content_of a t.entries) (content_of b u.entries) (tree_at a g.param_env.node) (tree_at a g.predicate.node)
+
+abbrev pub RefusesGoal : Refuses → List Tree → Table → Goal → Type 0
+RefusesGoal N ts t g = N (content_of ts t.entries) (tree_at ts g.param_env.node) (tree_at ts g.predicate.node)
+
 -- .. as the table knows it
-abbrev pub IsForcedUnder : Handler → TypingMode → ℕ → List Tree → Table → List Tree → Table → Goal → Type 0
-IsForcedUnder h mode n a t b u g =
-    Forces (h.offers (mode_of mode)) n (content_of a t.entries) (content_of b u.entries) (deeply_resolved (content_of a t.entries) (tree_at a g.param_env.node)) (deeply_resolved (content_of a t.entries) (tree_at a g.predicate.node))
+abbrev pub LeavesUnder : Leaves → List Tree → Table → List Tree → Table → Goal → Type 0
+LeavesUnder P a t b u g =
+    P (content_of a t.entries) (content_of b u.entries) (deeply_resolved (content_of a t.entries) (tree_at a g.param_env.node)) (deeply_resolved (content_of a t.entries) (tree_at a g.predicate.node))
+
+abbrev pub RefusesUnder : Refuses → List Tree → Table → Goal → Type 0
+RefusesUnder N ts t g =
+    N (content_of ts t.entries) (deeply_resolved (content_of ts t.entries) (tree_at ts g.param_env.node)) (deeply_resolved (content_of ts t.entries) (tree_at ts g.predicate.node))
 
 -- .. a goal of a candidate, its values being of the store a
-abbrev pub IsPremiseForced : Handler → TypingMode → ℕ → List Tree → Table → List Tree → Table → List NodeId → CandidateGoal → Type 0
-IsPremiseForced h mode n a t b u vs p =
-    Forces (h.offers (mode_of mode)) n (content_of a t.entries) (content_of b u.entries) (deeply_resolved (content_of a t.entries) (filled (map (tree_at a) vs) (premise_of a p).environment))
+abbrev pub LeavesPremise : Leaves → List Tree → Table → List Tree → Table → List NodeId → CandidateGoal → Type 0
+LeavesPremise P a t b u vs p =
+    P (content_of a t.entries) (content_of b u.entries) (deeply_resolved (content_of a t.entries) (filled (map (tree_at a) vs) (premise_of a p).environment))
     (deeply_resolved (content_of a t.entries) (filled (map (tree_at a) vs) (premise_of a p).predicate))
+
+-- .. or is left open, and the table is as it was
+abbrev pub LeavesOrSkips : Type 0 → Table → Table → Type 0
+LeavesOrSkips P t u = P ⊎ (u ≡ t)
+
+abbrev pub RefusesPremise : Refuses → List Tree → Table → List NodeId → CandidateGoal → Type 0
+RefusesPremise N ts t vs p =
+    N (content_of ts t.entries) (deeply_resolved (content_of ts t.entries) (filled (map (tree_at ts) vs) (premise_of ts p).environment)) (deeply_resolved (content_of ts t.entries) (filled (map (tree_at ts) vs) (premise_of ts p).predicate))
 
 -- the candidate alone is met of those that are offered for a goal
 abbrev pub IsOnlyMet : Handler → TypingMode → List Tree → Table → Goal → CandidateData → Type 0
 IsOnlyMet h mode ts t g x = OnlyIsMet (content_of ts t.entries) (candidate_of ts x) (offers_of h (mode_of mode) ts g)
 
--- a goal of the store is refuted in the table, in a tree of goals less than n high; as the table knows it; a goal of a candidate
+-- a goal of the store is refuted in the table, in a tree of queries less than n high
 abbrev pub IsRefutedBy : Handler → TypingMode → ℕ → List Tree → Table → Goal → Type 0
 IsRefutedBy h mode n ts t g = Refutes (h.offers (mode_of mode)) n (content_of ts t.entries) (tree_at ts g.param_env.node) (tree_at ts g.predicate.node)
-
-abbrev pub IsRefutedUnder : Handler → TypingMode → ℕ → List Tree → Table → Goal → Type 0
-IsRefutedUnder h mode n ts t g =
-    Refutes (h.offers (mode_of mode)) n (content_of ts t.entries) (deeply_resolved (content_of ts t.entries) (tree_at ts g.param_env.node)) (deeply_resolved (content_of ts t.entries) (tree_at ts g.predicate.node))
-
-abbrev pub IsPremiseRefuted : Handler → TypingMode → ℕ → List Tree → Table → List NodeId → CandidateGoal → Type 0
-IsPremiseRefuted h mode n ts t vs p =
-    Refutes (h.offers (mode_of mode)) n (content_of ts t.entries) (deeply_resolved (content_of ts t.entries) (filled (map (tree_at ts) vs) (premise_of ts p).environment)) (deeply_resolved (content_of ts t.entries) (filled (map (tree_at ts) vs) (premise_of ts p).predicate))

@@ -1,4 +1,4 @@
--- What refutes a goal, and what leaves it open: the candidates that alone are met, and their goals.
+-- What forces a goal, what refutes it, and what leaves it open: the candidates that alone are met, and their goals.
 use Rattle.std.specs.Prelude.{◌≡◌, ◌⊎◌, ℕ, zero, suc, List, [], ◌∷◌}
 use Rattle.nts_model.specs.declared.labels.Relation.TheVariants as relation
 use Rattle.nts_model.specs.Trees.{Tree}
@@ -9,7 +9,9 @@ use Rattle.nts_model.specs.Related.{Constraint}
 use Rattle.nts_model.specs.Sequents.{Premise}
 use Rattle.nts_model.specs.Handlers.{Candidate, filled, constraint_by}
 use Rattle.nts_model.specs.Choosing.{Freshens, EquatesAll, NoneIsMet, OnlyIsMet}
-use Rattle.nts_model.specs.Forcing.{Adds, AddsAll, Leaves, Forces}
+use Rattle.nts_model.specs.Forcing.{Adds, AddsAll, Leaves, IsForced}
+use Rattle.nts_model.specs.Inputs.{CanonicalInput}
+use Rattle.nts_evaluation.specs.Asking.{first_table, asked_environment, asked_predicate, Refuses, Answers, AnswersInPart, Asks, RefusesAsked}
 
 -- constraint by constraint, until the sides of an equality are not related
 abbrev pub FailsToAdd : List Tree → List Constraint → Content → Type 0
@@ -24,10 +26,6 @@ LeavesSome P xs [] c d = d ≡ c
 LeavesSome P xs (p ∷ ps) c d =
     ((e : Content) × P c e (deeply_resolved c (filled xs p.environment)) (deeply_resolved c (filled xs p.predicate)) × LeavesSome P xs ps e d)
     ⊎ LeavesSome P xs ps c d
-
--- goals that a table refutes
-abbrev pub Refuses : Type 1
-Refuses = Content → Tree → Tree → Type 0
 
 -- .. until one of them is refuted
 abbrev pub RefutesOne : Leaves → Refuses → List Tree → List Premise → Content → Type 0
@@ -48,7 +46,38 @@ pub record IsRefuted (offers : Tree → Tree → List Candidate) (Above : Leaves
   pub equates : EquatesAll values candidate.equations made equal
   pub fails : FailsToAdd values candidate.constraints equal ⊎ ((met : Content) × AddsAll values candidate.constraints equal met × RefutesOne Above Below values candidate.goals met)
 
--- no candidate is met, or the one that is fails, in a tree of goals that is less than n goals high
+-- one candidate alone is met: what its equations, its constraints and some of its goals leave
+pub record IsGained (offers : Tree → Tree → List Candidate) (Below : Leaves) (c d : Content) (e g : Tree) : Type 0 where
+  pub candidate : Candidate
+  pub only : OnlyIsMet c candidate (offers e g)
+  pub values : List Tree
+  pub made : Content
+  pub equal : Content
+  pub met : Content
+  pub freshens : Freshens c.universe candidate.fresh values c made
+  pub equates : EquatesAll values candidate.equations made equal
+  pub adds : AddsAll values candidate.constraints equal met
+  pub goals : LeavesSome Below values candidate.goals met d
+
+-- what an evaluation that is not sure may leave: nothing, or what the one candidate that is met forces, in a tree of queries
+-- that is less than n high
+abbrev pub Gains : (Tree → Tree → List Candidate) → ℕ → Leaves
+Gains offers zero c d e g = d ≡ c
+Gains offers (suc n) c d e g = (d ≡ c) ⊎ IsGained offers (Asks (AnswersInPart (Gains offers n))) c d e g
+
+-- what a sure one leaves: what the candidate that alone is met says, and the responses to its goals, each forced in its own
+-- query, in a tree of queries that is less than n high
+abbrev pub Forces : (Tree → Tree → List Candidate) → ℕ → Leaves
+Forces offers zero c d e g = ⊥
+Forces offers (suc n) c d e g = IsForced offers (Asks (Answers (Forces offers n))) c d e g
+
+-- no candidate is met, or the one that is fails, in a tree of queries that is less than n high
 abbrev pub Refutes : (Tree → Tree → List Candidate) → ℕ → Refuses
 Refutes offers zero c e g = ⊥
-Refutes offers (suc n) c e g = NoneIsMet c (offers e g) ⊎ IsRefuted offers (Forces offers n) (Refutes offers n) c e g
+Refutes offers (suc n) c e g =
+    NoneIsMet c (offers e g)
+    ⊎ IsRefuted offers (Asks (AnswersInPart (Gains offers n))) (RefusesAsked (Refutes offers n) (AnswersInPart (Gains offers n))) c e g
+
+-- .. the goal of an input, in the first table of its query
+abbrev pub IsQueryRefuted : (Tree → Tree → List Candidate) → ℕ → CanonicalInput → Type 0
+IsQueryRefuted offers n f = Refutes offers n (first_table f.kinds) (asked_environment f) (asked_predicate f)

@@ -14,11 +14,12 @@ ghost use Rattle.nts_terms.specs.Handles.{HoldsGoal};
 ghost use Rattle.nts_model.specs.Alike.{AreAlike};
 ghost use Rattle.nts_model.specs.Equations.{AreRelated, AreUnrelated};
 ghost use Rattle.nts_model.specs.Choosing.{Freshens, IsMet};
+ghost use Rattle.nts_model.specs.Passing.{BringsLabelsOf, BringsNoLabels, BringsOnly};
 ghost use Rattle.nts_model.specs.Forcing.{Adds, AddsBy, AddsAll};
 ghost use Rattle.nts_model.specs.Handlers.{filled, constraint_by};
 ghost use Rattle.nts_delegate.specs.Offered.{equation_of, constraint_of, candidate_of};
 ghost use Rattle.nts_evaluation.specs.Running.{Stays, HoldsOutlives, constraint_between, EquationHolds, ConstraintHolds, EquatesEach, Constrains};
-ghost use Rattle.nts_evaluation.specs.Evaluation.{Goes, Runs, IsPosed, AreValues};
+ghost use Rattle.nts_evaluation.specs.Evaluation.{Goes, Runs, IsPosed, AreValues, asked_terms, AsksOnly};
 ghost use Rattle.nts_table.specs.Tables.{IsTermOf};
 ghost use Rattle.nts_evaluation.specs.Instances.{HoldsValues, IsTermInstance, IsGoalInstance, instance_at};
 ghost use Rattle.nts_evaluation.specs.Choices.{Equated};
@@ -107,6 +108,8 @@ impl Trial<'_> {
         ensures posed { IfOk result (λ g. IsPosed cx.new.nodes table.now g) }
         ensures asks { IfOk result (IsGoalInstance cx.old.nodes cx.new.nodes
             (content_of cx.old.nodes table.now.entries) self.entry.values.now nested) }
+        ensures labels { IfOk result (AsksOnly cx.old.nodes cx.new.nodes (content_of cx.old.nodes
+            table.now.entries) self.entry.goal) }
         ensures memory { IsOkUnless result Fault.Memory }
     {
         let env = nested.param_env.node;
@@ -169,6 +172,8 @@ fn fresh_values(table: &mut InferCtxt, cx: &mut Cx, fresh: &[Sort]) -> Result<Ve
     ensures fresh { IfOk result (λ vs. Freshens table.old.entries.universe fresh.now (map (tree_at
         cx.new.nodes) vs.items) (content_of cx.old.nodes table.old.entries) (content_of cx.new.nodes
         table.new.entries)) }
+    ensures labels { OnOk result (BringsNoLabels (content_of cx.old.nodes table.old.entries)
+        (content_of cx.new.nodes table.new.entries)) }
     ensures memory { IsOkUnless result Fault.Memory }
 {
     match table.fresh_nodes(cx, fresh) {
@@ -195,6 +200,8 @@ pub fn equate(
         candidate.now.equations.items) }
     ensures equated { IfOk result (λ vs. Equated cx.old.nodes cx.new.nodes table.old table.new
         candidate.now.fresh.items vs.items candidate.now.equations.items) }
+    ensures labels { OnOk result (BringsOnly (asked_terms cx.old.nodes goal)
+        (content_of cx.old.nodes table.old.entries) (content_of cx.new.nodes table.new.entries)) }
     ensures unmet { result ≡ Err EvalError.NoSolution → IsMet (content_of cx.old.nodes
         table.old.entries) (candidate_of cx.old.nodes candidate.now) → ⊥ }
     ensures full { result ≢ Err EvalError.Full }
@@ -228,6 +235,8 @@ fn equate_one(
     ensures related { OnOk result (AreRelated (content_of cx.old.nodes table.old.entries) (content_of
         cx.new.nodes table.new.entries) (instance_at cx.old.nodes trial.entry.values.now
         equation.lhs.node) (instance_at cx.old.nodes trial.entry.values.now equation.rhs.node)) }
+    ensures labels { OnOk result (BringsOnly (asked_terms cx.old.nodes trial.entry.goal)
+        (content_of cx.old.nodes table.old.entries) (content_of cx.new.nodes table.new.entries)) }
     ensures no { result ≡ Err EvalError.NoSolution → AreUnrelated (content_of cx.old.nodes
         table.old.entries) (instance_at cx.old.nodes trial.entry.values.now equation.lhs.node)
         (instance_at cx.old.nodes trial.entry.values.now equation.rhs.node) }
@@ -247,6 +256,8 @@ fn relate_terms(table: &mut InferCtxt, cx: &mut Cx, a: NodeId, b: NodeId) -> Res
         (tree_at cx.old.nodes a) (tree_at cx.old.nodes b))) }
     ensures related { OnOk result (AreRelated (content_of cx.old.nodes table.old.entries) (content_of
         cx.new.nodes table.new.entries) (tree_at cx.old.nodes a) (tree_at cx.old.nodes b)) }
+    ensures labels { OnOk result (BringsLabelsOf (content_of cx.old.nodes table.old.entries)
+        (content_of cx.new.nodes table.new.entries) (tree_at cx.old.nodes a) (tree_at cx.old.nodes b)) }
     ensures no { result ≡ Err EvalError.NoSolution → AreUnrelated (content_of cx.old.nodes
         table.old.entries) (tree_at cx.old.nodes a) (tree_at cx.old.nodes b) }
     ensures full { result ≢ Err EvalError.Full }
@@ -300,6 +311,8 @@ pub fn record_constraints(
     ensures added { OnOk result (AddsAll (map (tree_at cx.old.nodes) trial.entry.values.now) (map
         (constraint_of cx.old.nodes) constraints.now) (content_of cx.old.nodes table.old.entries)
         (content_of cx.new.nodes table.new.entries)) }
+    ensures labels { OnOk result (BringsOnly (asked_terms cx.old.nodes trial.entry.goal)
+        (content_of cx.old.nodes table.old.entries) (content_of cx.new.nodes table.new.entries)) }
     ensures no { result ≡ Err EvalError.NoSolution → FailsToAdd (map (tree_at cx.old.nodes)
         trial.entry.values.now) (map (constraint_of cx.old.nodes) constraints.now) (content_of
         cx.old.nodes table.old.entries) }
@@ -328,6 +341,8 @@ fn record_one(
     ensures added { OnOk result (Adds (constraint_by (filled (map (tree_at cx.old.nodes)
         trial.entry.values.now)) (constraint_of cx.old.nodes constraint)) (content_of cx.old.nodes
         table.old.entries) (content_of cx.new.nodes table.new.entries)) }
+    ensures labels { OnOk result (BringsOnly (asked_terms cx.old.nodes trial.entry.goal)
+        (content_of cx.old.nodes table.old.entries) (content_of cx.new.nodes table.new.entries)) }
     ensures no { result ≡ Err EvalError.NoSolution → (constraint.relation ≡ relations.Equal) ×
         AreUnrelated (content_of cx.old.nodes table.old.entries) (instance_at cx.old.nodes
         trial.entry.values.now constraint.left.node) (instance_at cx.old.nodes
@@ -365,6 +380,8 @@ fn record_outlives(
     ensures added { OnOk result (AddsBy relation (constraint_between relation (tree_at cx.now.nodes
         left) (tree_at cx.now.nodes right)) (content_of cx.now.nodes table.old.entries) (content_of
         cx.now.nodes table.new.entries)) }
+    ensures labels { OnOk result (BringsLabelsOf (content_of cx.now.nodes table.old.entries) (content_of
+        cx.now.nodes table.new.entries) (tree_at cx.now.nodes left) (tree_at cx.now.nodes right)) }
     ensures memory { IsOkUnless result Fault.Memory }
 {
     let region = Region { node: right };

@@ -1,21 +1,34 @@
 //! The recursion over nested goals. Its functions stand on the stack once for each goal above, so what
 //! they call and is not of the recursion is kept out of their frames, by `inline(never)`.
-ghost use Rattle.std.specs.Prelude.{true, false, ◌≡◌, ◌≢◌, ◌<◌, ◌≤◌, ◌/◌, ◌+◌, ◌-◌, IfOk, OnErr, IfSome, IsNone, ◌↔◌, length, get_or};
+ghost use Rattle.std.specs.Prelude.{true, false, ◌≡◌, ◌≢◌, ◌<◌, ◌≤◌, ◌/◌, ◌+◌, ◌-◌, IfOk, OnOk, OnErr, IfSome, IsNone, ◌↔◌, length, get_or};
+ghost use Rattle.nts_model.specs.Passing.{BringsOnly};
+ghost use Rattle.nts_model.specs.Proving.{IsDerived};
+ghost use Rattle.nts_model.specs.Responses.{answer_sequent};
+ghost use Rattle.nts_canonical.specs.Forms.{form_of};
+ghost use Rattle.nts_canonical.specs.Building.{kinds_of};
+ghost use Rattle.nts_response.specs.Forms.{response_at};
 ghost use Rattle.nts_model.specs.Sequents.{HasClosedStatements};
 ghost use Rattle.nts_store.specs.Growth.{tree_at, Extends};
 ghost use Rattle.nts_delegate.specs.Candidates.{IsAsked, IsCandidate, AreCandidates, IsNested};
 ghost use Rattle.nts_terms.specs.Handles.{HoldsEnv, HoldsGoal};
 ghost use Rattle.nts_terms.specs.Modes.{mode_of};
-ghost use Rattle.nts_evaluation.specs.Meant.{Since, meaning_since, IfYes, IsPremiseProved, AreOffered, IsOffered, IsProvedSince, IsForcedTo, IsPremiseForced, IsOnlyMet, IsRefutedBy, IsPremiseRefuted};
-ghost use Rattle.nts_evaluation.specs.Evaluation.{Runs, IsPosed, AreValues};
+ghost use Rattle.nts_evaluation.specs.Meant.{Since, meaning_since, IfYes, IsPremiseProved, AreOffered, IsOffered, IsProvedSince, IsForcedTo, IsGainedTo, AsksForced, AsksGained, AsksRefuted, LeavesGoal, RefusesGoal, LeavesPremise, LeavesOrSkips, RefusesPremise, IsOnlyMet, IsRefutedBy};
+ghost use Rattle.nts_evaluation.specs.Asking.{Answers, AnswersInPart};
+ghost use Rattle.nts_evaluation.specs.Refuting.{Forces, Gains, IsQueryRefuted};
+ghost use Rattle.nts_evaluation.specs.Answering.{IsQueryInput, IsAnswerTo, EvaluatesGoal, IfSure, IfCertain};
+ghost use Rattle.nts_evaluation.specs.Evaluation.{Runs, IsPosed, AreValues, asked_terms};
 ghost use Rattle.nts_evaluation.specs.Choices.{IsChoiceOf};
 ghost use Rattle.nts_unify.specs.Reading.{content_of};
 ghost use Rattle.nts_certainty.specs.declared.certainty.Certainty.TheVariants as certainty;
 ghost use Rattle.nts_terms.specs.Rest.{Grows};
 
 use crate::candidate::{Trial, candidate_holds, equate, record_constraints, terms_are_formed};
-use nts_certainty::Certainty;
+use crate::query::{end_query, query_of};
+use crate::response::{apply_answer, closed_response};
+use nts_canonical::{CanonicalInput, build_with_canonical};
+use nts_certainty::{Certainty, HasChanged};
 use nts_delegate::{CandidateData, CandidateGoal, GoalHandler};
+use nts_response::CanonicalResponse;
 use nts_store::EvalError;
 use nts_table::InferCtxt;
 use nts_terms::{ClauseKind, Cx, Goal, ParamEnv, PredicateKind};
@@ -46,7 +59,25 @@ pub fn depth_below(depth: usize, has_overflowed: bool) -> Option<usize>
     }
 }
 
-/// Evaluates a resolved goal. What it finds out stays in the table only where the answer is yes.
+/// What a goal that was asked in a query of its own was answered.
+#[derive(Clone, Copy)]
+pub struct Evaluated {
+    pub certainty: Certainty,
+    /// Whether the response says anything of the goal's variables.
+    pub has_changed: HasChanged,
+    /// A goal below it was nested too deep.
+    pub has_overflowed: bool,
+}
+
+/// What a query was answered.
+#[derive(Drop)]
+pub struct QueryAnswer {
+    pub response: CanonicalResponse,
+    pub has_overflowed: bool,
+}
+
+/// Evaluates a goal in a query of its own: its leaves give place to positions, the query runs in a table that is made for these,
+/// and its response is applied to the leaves. Nothing else is added to the table.
 #[cycle(evaluate)]
 pub fn evaluate_goal<H: GoalHandler>(
     table: &mut InferCtxt,
@@ -54,37 +85,75 @@ pub fn evaluate_goal<H: GoalHandler>(
     handler: &H,
     goal: Goal,
     depth: usize,
-) -> Result<Answer, EvalError>
+) -> Result<Evaluated, EvalError>
     requires posed { IsPosed cx.old.nodes table.old goal }
     requires ready { H.ready cx.old.nodes handler.now }
     ensures runs { Runs cx.old cx.new table.old table.new }
-    ensures maybe { IfOk result (λ a. a.certainty ≢ certainty.Yes → table.new ≡ table.old) }
     ensures err { OnErr result (table.new ≡ table.old) }
-    ensures proved { (s : Since (λ ts. H.ready ts handler.now) cx.old.nodes) → IfYes result
+    ensures evaluates { IfOk result (λ e. EvaluatesGoal cx.old.nodes cx.new.nodes table.old table.new
+        goal e.has_changed) }
+    ensures labels { OnOk result (BringsOnly (asked_terms cx.old.nodes goal) (content_of cx.old.nodes
+        table.old.entries) (content_of cx.new.nodes table.new.entries)) }
+    ensures proved { (s : Since (λ ts. H.ready ts handler.now) cx.old.nodes) → IfSure result
         (IsProvedSince (λ ts. H.handler ts handler.now) s table.old.mode cx.new.nodes table.new goal) }
-    ensures forced { (s : Since (λ ts. H.ready ts handler.now) cx.old.nodes) → IfYes result
-        (IsForcedTo (H.handler s.base handler.now) table.old.mode (depth + 1) cx.old.nodes table.old
-        cx.new.nodes table.new goal) }
+    ensures forced { (s : Since (λ ts. H.ready ts handler.now) cx.old.nodes) → IfSure result
+        (LeavesGoal (AsksForced (H.handler s.base handler.now) table.old.mode (depth + 1))
+        cx.old.nodes table.old cx.new.nodes table.new goal) }
+    ensures gained { (s : Since (λ ts. H.ready ts handler.now) cx.old.nodes) → OnOk result
+        (LeavesGoal (AsksGained (H.handler s.base handler.now) table.old.mode (depth + 1))
+        cx.old.nodes table.old cx.new.nodes table.new goal) }
     ensures refuted { (s : Since (λ ts. H.ready ts handler.now) cx.old.nodes) →
-        result ≡ Err EvalError.NoSolution → IsRefutedBy (H.handler s.base handler.now) table.old.mode
-        (depth + 1) cx.old.nodes table.old goal }
+        result ≡ Err EvalError.NoSolution → RefusesGoal (AsksRefuted (H.handler s.base handler.now)
+        table.old.mode (depth + 1)) cx.old.nodes table.old goal }
     ensures full { result ≢ Err EvalError.Full }
 {
+    let (originals, input) = query_of(table, cx, goal)?;
+    let answer = evaluate_query(cx, handler, &input, depth)?;
+    let evaluated = apply_answer(table, cx, goal.param_env, &originals, &answer);
+    terms_are_formed(cx);
+    evaluated
+}
+
+/// Answers a query: evaluates the goal of a canonical input in a table that is made for it, and answers what that table
+/// found out. An answer names no table.
+#[cycle(evaluate)]
+fn evaluate_query<H: GoalHandler>(
+    cx: &mut Cx,
+    handler: &H,
+    input: &CanonicalInput,
+    depth: usize,
+) -> Result<QueryAnswer, EvalError>
+    requires input { IsQueryInput cx.old.nodes input.now }
+    requires ready { H.ready cx.old.nodes handler.now }
+    ensures grows { Grows cx.old cx.new }
+    ensures fits { IfOk result (λ a. IsAnswerTo cx.new.nodes (kinds_of input.now) a.response) }
+    ensures proved { (s : Since (λ ts. H.ready ts handler.now) cx.old.nodes) → IfCertain result
+        (λ r. IsDerived (meaning_since (λ ts. H.handler ts handler.now) s) (mode_of
+        input.now.typing_mode) (answer_sequent (form_of cx.old.nodes input.now) (response_at
+        cx.new.nodes r))) }
+    ensures forced { (s : Since (λ ts. H.ready ts handler.now) cx.old.nodes) → IfCertain result
+        (λ r. Answers (Forces ((H.handler s.base handler.now).offers (mode_of
+        input.now.typing_mode)) (depth + 1)) (form_of cx.old.nodes input.now) (response_at
+        cx.new.nodes r)) }
+    ensures gained { (s : Since (λ ts. H.ready ts handler.now) cx.old.nodes) → IfOk result
+        (λ a. AnswersInPart (Gains ((H.handler s.base handler.now).offers (mode_of
+        input.now.typing_mode)) (depth + 1)) (form_of cx.old.nodes input.now) (response_at
+        cx.new.nodes a.response)) }
+    ensures refuted { (s : Since (λ ts. H.ready ts handler.now) cx.old.nodes) →
+        result ≡ Err EvalError.NoSolution → IsQueryRefuted ((H.handler s.base handler.now).offers
+        (mode_of input.now.typing_mode)) (depth + 1) (form_of cx.old.nodes input.now) }
+    ensures full { result ≢ Err EvalError.Full }
+{
+    let (mut table, query, values) = build_with_canonical(cx, input)?;
     let snapshot = table.start_snapshot()?;
-    match compute_goal(table, cx, handler, goal, depth) {
-        Ok(answer) => {
-            if let Certainty::Yes = answer.certainty {
-                table.commit(snapshot);
-                return Ok(answer);
-            }
-            table.rollback_to(snapshot);
-            Ok(answer)
-        }
-        Err(error) => {
-            table.rollback_to(snapshot);
-            Err(error)
-        }
-    }
+    let answer = compute_goal(&mut table, cx, handler, query.goal, depth)?;
+    end_query(&mut table, snapshot, answer.certainty);
+    terms_are_formed(cx);
+    let response = closed_response(&table, cx, &values, answer.certainty)?;
+    Ok(QueryAnswer {
+        response,
+        has_overflowed: answer.has_overflowed,
+    })
 }
 
 /// Answers a goal by its kind. Kinds and terms that are not there yet are ambiguous.
@@ -99,10 +168,15 @@ fn compute_goal<H: GoalHandler>(
     requires posed { IsPosed cx.old.nodes table.old goal }
     requires ready { H.ready cx.old.nodes handler.now }
     ensures runs { Runs cx.old cx.new table.old table.new }
+    ensures labels { OnOk result (BringsOnly (asked_terms cx.old.nodes goal) (content_of cx.old.nodes
+        table.old.entries) (content_of cx.new.nodes table.new.entries)) }
     ensures proved { (s : Since (λ ts. H.ready ts handler.now) cx.old.nodes) → IfYes result
         (IsProvedSince (λ ts. H.handler ts handler.now) s table.old.mode cx.new.nodes table.new goal) }
     ensures forced { (s : Since (λ ts. H.ready ts handler.now) cx.old.nodes) → IfYes result
         (IsForcedTo (H.handler s.base handler.now) table.old.mode (depth + 1) cx.old.nodes table.old
+        cx.new.nodes table.new goal) }
+    ensures gained { (s : Since (λ ts. H.ready ts handler.now) cx.old.nodes) → OnOk result
+        (IsGainedTo (H.handler s.base handler.now) table.old.mode (depth + 1) cx.old.nodes table.old
         cx.new.nodes table.new goal) }
     ensures refuted { (s : Since (λ ts. H.ready ts handler.now) cx.old.nodes) →
         result ≡ Err EvalError.NoSolution → IsRefutedBy (H.handler s.base handler.now) table.old.mode
@@ -180,12 +254,18 @@ fn evaluate_candidates<H: GoalHandler>(
     requires ready { H.ready cx.old.nodes handler.now }
     requires candidates { AreCandidates cx.old.nodes goal candidates.items }
     ensures runs { Runs cx.old cx.new table.old table.new }
+    ensures labels { OnOk result (BringsOnly (asked_terms cx.old.nodes goal) (content_of cx.old.nodes
+        table.old.entries) (content_of cx.new.nodes table.new.entries)) }
     ensures proved { (s : Since (λ ts. H.ready ts handler.now) cx.old.nodes) → AreOffered
         (H.handler s.base handler.now) table.old.mode cx.old.nodes goal candidates.items → IfYes result
         (IsProvedSince (λ ts. H.handler ts handler.now) s table.old.mode cx.new.nodes table.new goal) }
     ensures forced { (s : Since (λ ts. H.ready ts handler.now) cx.old.nodes) → AreOffered
         (H.handler s.base handler.now) table.old.mode cx.old.nodes goal candidates.items → IfYes result
         (IsForcedTo (H.handler s.base handler.now) table.old.mode (depth + 1) cx.old.nodes table.old
+        cx.new.nodes table.new goal) }
+    ensures gained { (s : Since (λ ts. H.ready ts handler.now) cx.old.nodes) → AreOffered
+        (H.handler s.base handler.now) table.old.mode cx.old.nodes goal candidates.items → OnOk result
+        (IsGainedTo (H.handler s.base handler.now) table.old.mode (depth + 1) cx.old.nodes table.old
         cx.new.nodes table.new goal) }
     ensures refuted { (s : Since (λ ts. H.ready ts handler.now) cx.old.nodes) → AreOffered
         (H.handler s.base handler.now) table.old.mode cx.old.nodes goal candidates.items →
@@ -269,6 +349,8 @@ fn run_candidate<H: GoalHandler>(
     requires ready { H.ready cx.old.nodes handler.now }
     requires candidate { IsCandidate cx.old.nodes goal candidate.now }
     ensures runs { Runs cx.old cx.new table.old table.new }
+    ensures labels { OnOk result (BringsOnly (asked_terms cx.old.nodes goal) (content_of cx.old.nodes
+        table.old.entries) (content_of cx.new.nodes table.new.entries)) }
     ensures proved { (s : Since (λ ts. H.ready ts handler.now) cx.old.nodes) → IsOffered
         (H.handler s.base handler.now) table.old.mode cx.old.nodes goal candidate.now → IfYes result
         (IsProvedSince (λ ts. H.handler ts handler.now) s table.old.mode cx.new.nodes table.new goal) }
@@ -276,6 +358,10 @@ fn run_candidate<H: GoalHandler>(
         (H.handler s.base handler.now) table.old.mode cx.old.nodes table.old goal candidate.now →
         IfYes result (IsForcedTo (H.handler s.base handler.now) table.old.mode (depth + 1)
         cx.old.nodes table.old cx.new.nodes table.new goal) }
+    ensures gained { (s : Since (λ ts. H.ready ts handler.now) cx.old.nodes) → IsOnlyMet
+        (H.handler s.base handler.now) table.old.mode cx.old.nodes table.old goal candidate.now → OnOk result
+        (IsGainedTo (H.handler s.base handler.now) table.old.mode (depth + 1) cx.old.nodes table.old
+        cx.new.nodes table.new goal) }
     ensures refuted { (s : Since (λ ts. H.ready ts handler.now) cx.old.nodes) → IsOnlyMet
         (H.handler s.base handler.now) table.old.mode cx.old.nodes table.old goal candidate.now →
         result ≡ Err EvalError.NoSolution → IsRefutedBy (H.handler s.base handler.now) table.old.mode
@@ -318,16 +404,21 @@ fn evaluate_nested<H: GoalHandler>(
     requires nested { IsNested cx.old.nodes trial.fresh.now trial.goal nested.goal }
     requires values { AreValues cx.old.nodes table.old trial.fresh.now trial.values.now }
     ensures runs { Runs cx.old cx.new table.old table.new }
+    ensures labels { OnOk result (BringsOnly (asked_terms cx.old.nodes trial.entry.goal)
+        (content_of cx.old.nodes table.old.entries) (content_of cx.new.nodes table.new.entries)) }
     ensures proved { (s : Since (λ ts. H.ready ts handler.now) cx.old.nodes) →
         IfYes result (IsPremiseProved (meaning_since (λ ts. H.handler ts handler.now) s)
         (mode_of table.old.mode) cx.old.nodes cx.new.nodes table.new trial.entry.values.now nested) }
     ensures forced { (s : Since (λ ts. H.ready ts handler.now) cx.old.nodes) → IfYes result
-        (IsPremiseForced (H.handler s.base handler.now) table.old.mode depth cx.old.nodes table.old
-        cx.new.nodes table.new trial.entry.values.now nested) }
+        (LeavesPremise (AsksForced (H.handler s.base handler.now) table.old.mode depth) cx.old.nodes
+        table.old cx.new.nodes table.new trial.entry.values.now nested) }
+    ensures gained { (s : Since (λ ts. H.ready ts handler.now) cx.old.nodes) → OnOk result
+        (LeavesOrSkips (LeavesPremise (AsksGained (H.handler s.base handler.now) table.old.mode
+        depth) cx.old.nodes table.old cx.new.nodes table.new trial.entry.values.now nested)
+        table.old table.new) }
     ensures refuted { (s : Since (λ ts. H.ready ts handler.now) cx.old.nodes) →
-        result ≡ Err EvalError.NoSolution → IsPremiseRefuted (H.handler s.base handler.now)
-        table.old.mode depth cx.old.nodes table.old trial.entry.values.now nested }
-    ensures maybe { IfOk result (λ a. a.certainty ≢ certainty.Yes → table.new ≡ table.old) }
+        result ≡ Err EvalError.NoSolution → RefusesPremise (AsksRefuted (H.handler s.base
+        handler.now) table.old.mode depth) cx.old.nodes table.old trial.entry.values.now nested }
     ensures full { result ≢ Err EvalError.Full }
 {
     match depth_below(depth, has_overflowed) {
@@ -337,7 +428,11 @@ fn evaluate_nested<H: GoalHandler>(
         }),
         Some(below) => {
             let asked = trial.nested_goal(table, cx, nested.goal)?;
-            evaluate_goal(table, cx, handler, asked, below)
+            let evaluated = evaluate_goal(table, cx, handler, asked, below)?;
+            Ok(Answer {
+                certainty: evaluated.certainty,
+                has_overflowed: evaluated.has_overflowed,
+            })
         }
     }
 }

@@ -4,6 +4,8 @@
 mod admission;
 mod candidate;
 mod evaluate;
+mod query;
+mod response;
 mod solve;
 
 pub use solve::{GoalEvaluation, GoalStalledOn, evaluate_root_goal, goal_is_admitted};

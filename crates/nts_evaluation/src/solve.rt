@@ -1,5 +1,5 @@
 //! The evaluation of goals.
-ghost use Rattle.std.specs.Prelude.{ℕ, ◌+◌, ◌≡◌, ◌≢◌, ◌↔◌, List, IsTrue, None, IfOk, OnErr, IsOkUnless};
+ghost use Rattle.std.specs.Prelude.{ℕ, ◌+◌, ◌≡◌, ◌≢◌, ◌↔◌, List, IsTrue, None, IfOk, OnOk, OnErr, IsOkUnless};
 ghost use Rattle.nts_model.specs.declared.labels.Variance.{Variance};
 ghost use Rattle.nts_model.specs.Handlers.{meaning};
 ghost use Rattle.nts_store.specs.Growth.{Extends};
@@ -7,10 +7,10 @@ ghost use Rattle.nts_table.specs.Tables.{IsTable};
 ghost use Rattle.nts_terms.specs.Modes.{mode_of};
 ghost use Rattle.nts_evaluation.specs.Running.{HasHeldProofIn};
 ghost use Rattle.nts_terms.specs.Handles.{HoldsGoal};
-ghost use Rattle.nts_evaluation.specs.Evaluation.{Runs, IsAdmitted, IsPosed, IsGoalUnder, IsSameGoal};
-ghost use Rattle.nts_evaluation.specs.Meant.{Since, IsProvedSince, IsForcedUnder, IsRefutedUnder};
+ghost use Rattle.nts_evaluation.specs.Evaluation.{Runs, IsAdmitted, IsPosed, IsGoalUnder};
+ghost use Rattle.nts_evaluation.specs.Meant.{Since, IsProvedSince, AsksForced, AsksGained, AsksRefuted, LeavesUnder, RefusesUnder};
+ghost use Rattle.nts_evaluation.specs.Answering.{EvaluatesUnder};
 ghost use Rattle.nts_certainty.specs.declared.certainty.Certainty.TheVariants as certainty;
-ghost use Rattle.nts_certainty.specs.declared.sources.HasChanged.TheVariants as changes;
 ghost use Rattle.nts_terms.specs.Rest.{Grows};
 
 use crate::admission::{is_asked, is_root_term, is_settled_env};
@@ -61,11 +61,12 @@ pub fn goal_is_admitted(table: &InferCtxt, cx: &mut Cx, goal: Goal) -> Result<bo
     is_settled_env(table, cx, env)
 }
 
-/// Evaluates a goal in the table, with the store's recursion limit as depth. Where the answer is yes, the
-/// goal has a proof, and the table gained what the candidates say that alone can be met, and nothing
-/// else. `NoSolution` says that no candidate can be met, or that the one that can asks for what is
-/// refuted. Where the answer is not yes, and after an error, the table is as it was. The one fault is
-/// want of memory.
+/// Evaluates a goal in the table, with the store's recursion limit as depth. The goal, resolved, is asked in a query of its own,
+/// and the response is applied to its leaves: nothing else is added to the table. Where the answer is yes, the goal has a
+/// proof, and the response says what the candidates say that alone can be met. Where it is not, the response says of the goal's
+/// variables what each way to meet the goal must make them, and of regions nothing. `NoSolution` says that no
+/// candidate can be met, or that the one that can asks for what is refuted. After an error the table is as it was.
+/// The one fault is want of memory.
 pub fn evaluate_root_goal<H: GoalHandler>(
     table: &mut InferCtxt,
     cx: &mut Cx,
@@ -79,30 +80,32 @@ pub fn evaluate_root_goal<H: GoalHandler>(
     requires admitted { IsAdmitted cx.old.nodes table.old goal }
     ensures runs { Runs cx.old cx.new table.old table.new }
     ensures goal { IfOk result (λ e. IsGoalUnder cx.old.nodes cx.new.nodes table.old goal e.goal) }
-    ensures changed { IfOk result (λ e. (e.has_changed ≡ changes.No) ↔
-        IsGoalUnder cx.new.nodes cx.new.nodes table.new e.goal e.goal) }
-    ensures maybe { IfOk result (λ e. e.certainty ≢ certainty.Yes → table.new ≡ table.old) }
+    ensures evaluates { IfOk result (λ e. EvaluatesUnder cx.old.nodes cx.new.nodes table.old table.new
+        goal e.has_changed) }
     ensures stalled { IfOk result (λ e. e.stalled_on ≡ None) }
     ensures err { OnErr result (table.new ≡ table.old) }
     ensures proved { IfOk result (λ e. e.certainty ≡ certainty.Yes → (v : ℕ → List Variance) →
         HasHeldProofIn (meaning (H.handler cx.old.nodes handler.now) v) (mode_of table.old.mode)
         cx.new.nodes table.new goal) }
-    ensures forced { IfOk result (λ e. e.certainty ≡ certainty.Yes → IsForcedUnder (H.handler
-        cx.old.nodes handler.now) table.old.mode (cx.old.recursion_limit + 1) cx.old.nodes table.old
+    ensures forced { IfOk result (λ e. e.certainty ≡ certainty.Yes → LeavesUnder (AsksForced (H.handler
+        cx.old.nodes handler.now) table.old.mode (cx.old.recursion_limit + 1)) cx.old.nodes table.old
         cx.new.nodes table.new goal) }
-    ensures refuted { result ≡ Err EvalError.NoSolution → IsRefutedUnder (H.handler cx.old.nodes
-        handler.now) table.old.mode (cx.old.recursion_limit + 1) cx.old.nodes table.old goal }
+    ensures gained { OnOk result (LeavesUnder (AsksGained (H.handler cx.old.nodes handler.now)
+        table.old.mode (cx.old.recursion_limit + 1)) cx.old.nodes table.old cx.new.nodes table.new
+        goal) }
+    ensures refuted { result ≡ Err EvalError.NoSolution → RefusesUnder (AsksRefuted (H.handler
+        cx.old.nodes handler.now) table.old.mode (cx.old.recursion_limit + 1)) cx.old.nodes table.old
+        goal }
     ensures full { result ≢ Err EvalError.Full }
 {
     let _ = (span, stalled_on);
     terms_are_formed(cx);
-    let snapshot = table.start_snapshot()?;
     let evaluated = evaluate_root(table, cx, handler, goal);
     terms_are_formed(cx);
-    table.commit_if_ok(snapshot, evaluated)
+    evaluated
 }
 
-/// Evaluates a resolved goal at the recursion limit, and looks at what became of its variables.
+/// Evaluates a goal, resolved, at the recursion limit.
 fn evaluate_root<H: GoalHandler>(
     table: &mut InferCtxt,
     cx: &mut Cx,
@@ -113,46 +116,32 @@ fn evaluate_root<H: GoalHandler>(
     requires ready { H.ready cx.old.nodes handler.now }
     ensures runs { Runs cx.old cx.new table.old table.new }
     ensures goal { IfOk result (λ e. IsGoalUnder cx.old.nodes cx.new.nodes table.old goal e.goal) }
-    ensures changed { IfOk result (λ e. (e.has_changed ≡ changes.No) ↔
-        IsGoalUnder cx.new.nodes cx.new.nodes table.new e.goal e.goal) }
-    ensures maybe { IfOk result (λ e. e.certainty ≢ certainty.Yes → table.new ≡ table.old) }
+    ensures evaluates { IfOk result (λ e. EvaluatesUnder cx.old.nodes cx.new.nodes table.old table.new
+        goal e.has_changed) }
     ensures stalled { IfOk result (λ e. e.stalled_on ≡ None) }
+    ensures err { OnErr result (table.new ≡ table.old) }
     ensures proved { (s : Since (λ ts. H.ready ts handler.now) cx.old.nodes) →
         IfOk result (λ e. e.certainty ≡ certainty.Yes → IsProvedSince
         (λ ts. H.handler ts handler.now) s table.old.mode cx.new.nodes table.new goal) }
     ensures forced { (s : Since (λ ts. H.ready ts handler.now) cx.old.nodes) → IfOk result
-        (λ e. e.certainty ≡ certainty.Yes → IsForcedUnder (H.handler s.base handler.now)
-        table.old.mode (cx.old.recursion_limit + 1) cx.old.nodes table.old cx.new.nodes table.new
+        (λ e. e.certainty ≡ certainty.Yes → LeavesUnder (AsksForced (H.handler s.base handler.now)
+        table.old.mode (cx.old.recursion_limit + 1)) cx.old.nodes table.old cx.new.nodes table.new
         goal) }
+    ensures gained { (s : Since (λ ts. H.ready ts handler.now) cx.old.nodes) → OnOk result
+        (LeavesUnder (AsksGained (H.handler s.base handler.now) table.old.mode
+        (cx.old.recursion_limit + 1)) cx.old.nodes table.old cx.new.nodes table.new goal) }
     ensures refuted { (s : Since (λ ts. H.ready ts handler.now) cx.old.nodes) →
-        result ≡ Err EvalError.NoSolution → IsRefutedUnder (H.handler s.base handler.now)
-        table.old.mode (cx.old.recursion_limit + 1) cx.old.nodes table.old goal }
+        result ≡ Err EvalError.NoSolution → RefusesUnder (AsksRefuted (H.handler s.base handler.now)
+        table.old.mode (cx.old.recursion_limit + 1)) cx.old.nodes table.old goal }
     ensures full { result ≢ Err EvalError.Full }
 {
     let asked = resolve_goal(table, cx, goal)?;
     let depth = cx.recursion_limit();
-    let answer = evaluate_goal(table, cx, handler, asked, depth)?;
-    let after = resolve_goal(table, cx, asked)?;
-    let has_changed = change_of(cx, asked, after);
+    let evaluated = evaluate_goal(table, cx, handler, asked, depth)?;
     Ok(GoalEvaluation {
         goal: asked,
-        certainty: answer.certainty,
-        has_changed,
+        certainty: evaluated.certainty,
+        has_changed: evaluated.has_changed,
         stalled_on: None,
     })
-}
-
-/// What became of a goal.
-fn change_of(cx: &Cx, before: Goal, after: Goal) -> HasChanged
-    requires before { HoldsGoal cx.now.nodes before }
-    requires after { HoldsGoal cx.now.nodes after }
-    ensures { (result ≡ changes.No) ↔ IsSameGoal cx.now.nodes before after }
-{
-    let nodes = &cx.nodes;
-    let same_env = nodes.same(before.param_env.node, after.param_env.node);
-    if same_env && nodes.same(before.predicate.node, after.predicate.node) {
-        HasChanged::No
-    } else {
-        HasChanged::Yes
-    }
 }

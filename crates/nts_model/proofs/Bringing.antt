@@ -1,12 +1,18 @@
 -- Changes of a table that bring no labels but those of given trees.
-use Rattle.std.proofs.Common.{◌≡◌, ⊎_elim, ℕ, zero, suc, ◌<◌, Bool, true, [], ◌∷◌, length, Some, refl, sym, ap, ◌∙◌, subst}
-use Rattle.std.specs.Prelude.{Contains}
+use Rattle.std.proofs.Common.{◌≡◌, ⊎_elim, inl, inr, ℕ, zero, suc, ◌<◌, Bool, true, List, [], ◌∷◌, length, Some, refl, sym, ap, ◌∙◌, subst}
+use Rattle.std.specs.Prelude.{Contains, get_or}
 use Rattle.std.proofs.lemmas.List.Elements.{Contains-append_cases}
+use Rattle.nts_model.specs.declared.labels.Leaf.{Leaf}
+use Rattle.nts_model.specs.declared.labels.BoundVarIndexKind.TheVariants as index
 use Rattle.nts_model.specs.declared.labels.Label.{Label}
+use Rattle.nts_model.specs.declared.labels.Label.TheVariants as label
 use Rattle.nts_model.specs.Trees.{Tree, empty, more, node, children, IsRow, row_at, row_take, row_push}
 use Rattle.nts_model.specs.Contents.{Content, Slot, Recorded, unset, link, known, state_of, with_slot, bound_to, with_constraint}
 use Rattle.nts_model.specs.Holding.{Continues}
-use Rattle.nts_model.specs.Passing.{AllLabels, AllPass, TreePasses, TablePasses, BringsLabelsOf, BringsNoLabels}
+use Rattle.nts_model.specs.Sequents.{Among}
+use Rattle.nts_model.specs.Substitutions.{Occurs}
+use Rattle.nts_model.specs.Handlers.{filled}
+use Rattle.nts_model.specs.Passing.{AllLabels, AllPass, PassesVariables, TreePasses, TablePasses, BringsLabelsOf, BringsNoLabels, PassesQueries, BringsOnly}
 use Rattle.nts_model.proofs.Slots.{field-changed_same, field-changed_other, field-with_slot_new, field-with_slot_old}
 use Rattle.nts_model.proofs.Under.{same_or_other}
 use Rattle.nts_model.proofs.ProvedLater.{contains_none, first_or_later}
@@ -118,3 +124,45 @@ pub passes-children : (P : Label → Type 0) (t : Tree) → AllLabels P t → Al
 passes-children P empty h = tt
 passes-children P (more a b) h = tt
 passes-children P (node l c) h = h.1
+
+-- where what any query's table may hold passes, its variables do
+pub query_variables : (P : Label → Bool) → PassesQueries P → PassesVariables P
+query_variables P h k n = h (label.Leaf _) tt
+
+pub only-refl : (ts : List Tree) (c : Content) → BringsOnly ts c c
+only-refl ts c = record { labels = λ P q g h. h }
+
+pub only-trans : {ts : List Tree} {c d e : Content} → BringsOnly ts c d → BringsOnly ts d e → BringsOnly ts c e
+only-trans a b = record { labels = λ P q g h. b.labels P q g (a.labels P q g h) }
+
+pub only-none : {c d : Content} (ts : List Tree) → BringsNoLabels c d → BringsOnly ts c d
+only-none ts h = record { labels = λ P q g k. h.labels P (query_variables P q) k }
+
+-- a change that brings the labels of two trees, whose labels are those of ts and of queries
+pub only-of : {c d : Content} (ts : List Tree) (a b : Tree) → BringsLabelsOf c d a b
+    → ((P : Label → Bool) → PassesQueries P → ((t : Tree) → Among ts t → TreePasses P t) → TablePasses P c → TreePasses P a × TreePasses P b) → BringsOnly ts c d
+only-of ts a b h k = record { labels = λ P q g i. let z = k P q g i in h.labels P (query_variables P q) i z.0 z.1 }
+
+-- a tree with values in place of its positions
+passes-get : (P : Label → Bool) (vs : List Tree) (n : ℕ) → ((v : Tree) → Among vs v → TreePasses P v) → TreePasses P (get_or vs n empty)
+passes-get P [] n h = tt
+passes-get P (v ∷ vs) zero h = h v (inl refl)
+passes-get P (v ∷ vs) (suc n) h = passes-get P vs n (λ w i. h w (inr i))
+
+pub passes-filled : (P : Label → Bool) (vs : List Tree) (t : Tree) → PassesQueries P → ((v : Tree) → Among vs v → TreePasses P v) → ((l : Leaf) → Occurs l t → P (label.Leaf l) ≡ true) → TreePasses P (filled vs t)
+passes-filled P vs empty q h o = tt
+passes-filled P vs (more a b) q h o = (passes-filled P vs a q h (λ l i. o l (inl i)), passes-filled P vs b q h (λ l i. o l (inr i)))
+passes-filled P vs (node (label.Leaf x) c) q h o = (o x (inl refl), passes-filled P vs c q h (λ l i. o l (inr i)))
+passes-filled P vs (node (label.Bound s index.Canonical n) c) q h o = passes-get P vs n h
+passes-filled P vs (node (label.Bound s (index.Bound d) n) c) q h o = (q (label.Bound s (index.Bound d) n) tt, passes-filled P vs c q h (λ l i. o l (inr i)))
+passes-filled P vs (node (label.Ty x) c) q h o = (q (label.Ty x) tt, passes-filled P vs c q h (λ l i. o l (inr i)))
+passes-filled P vs (node (label.Const x) c) q h o = (q (label.Const x) tt, passes-filled P vs c q h (λ l i. o l (inr i)))
+passes-filled P vs (node (label.Clause x) c) q h o = (q (label.Clause x) tt, passes-filled P vs c q h (λ l i. o l (inr i)))
+passes-filled P vs (node (label.Predicate x) c) q h o = (q (label.Predicate x) tt, passes-filled P vs c q h (λ l i. o l (inr i)))
+passes-filled P vs (node (label.List x) c) q h o = (q (label.List x) tt, passes-filled P vs c q h (λ l i. o l (inr i)))
+
+-- a leaf of a tree whose labels pass
+pub passes-leaf : (P : Label → Bool) (t : Tree) (l : Leaf) → TreePasses P t → Occurs l t → P (label.Leaf l) ≡ true
+passes-leaf P empty l h i = absurd i
+passes-leaf P (more a b) l h i = ⊎_elim (λ j. passes-leaf P a l h.0 j) (λ j. passes-leaf P b l h.1 j) i
+passes-leaf P (node m c) l h i = ⊎_elim (λ e. subst (λ z. P z ≡ true) (sym e) h.0) (λ j. passes-leaf P c l h.1 j) i

@@ -1,5 +1,5 @@
 -- Which candidates are met, seen from what trying them does.
-use Rattle.std.proofs.Common.{◌≡◌, ◌⊎◌, inl, inr, ℕ, zero, suc, List, [], ◌∷◌, ◌++◌, map, get_or, length, refl, sym, ap, ◌∙◌, subst}
+use Rattle.std.proofs.Common.{◌≡◌, inl, inr, ℕ, zero, suc, List, [], ◌∷◌, ◌++◌, map, get_or, length, refl, sym, ap, ◌∙◌, subst}
 use Rattle.nts_model.specs.declared.labels.Sort.{Sort}
 use Rattle.nts_model.specs.declared.labels.Leaf.{Leaf}
 use Rattle.nts_model.specs.declared.labels.BoundVarIndexKind.TheVariants as index
@@ -9,10 +9,9 @@ use Rattle.nts_model.specs.Trees.{Tree, empty, more, node, IsFormed}
 use Rattle.nts_model.specs.Contents.{Content, Slot, unset, with_slot}
 use Rattle.nts_model.specs.Resolving.{Knows, IsSound}
 use Rattle.nts_model.specs.Solvable.{IsSolvable}
-use Rattle.nts_model.specs.Worlds.{World, inst, Solves, Agrees}
+use Rattle.nts_model.specs.Worlds.{World, inst, Agrees}
 use Rattle.nts_model.specs.Substitutions.{leaf_tree, Occurs}
-use Rattle.nts_model.specs.Equations.{AreRelated, AreUnrelated}
-use Rattle.nts_model.specs.Rules.{Equation, related, alike}
+use Rattle.nts_model.specs.Rules.{Equation}
 use Rattle.nts_model.specs.Sequents.{Among}
 use Rattle.nts_model.specs.Handlers.{Candidate, filled, position_of, value_or, kind_of_sort}
 use Rattle.nts_model.specs.Responses.{read_in}
@@ -26,7 +25,7 @@ use Rattle.nts_model.proofs.Sound.{IsSound-with_slot}
 use Rattle.nts_model.proofs.Slots.{Knows-kept, KeepsKinds, KeepsKinds-refl, KeepsKinds-trans, KeepsKinds-with_slot}
 use Rattle.nts_model.proofs.Freshening.{new_kinds, freshened_world, freshened_back, filled_agree}
 use Rattle.nts_model.proofs.Applying.{new_knows}
-use Rattle.nts_model.proofs.Trying.{KnowsEquations, Equalizes, equated_back, equated_never_fails}
+use Rattle.nts_model.proofs.Trying.{KnowsEquations, equated_back, equated_never_fails}
 
 -- the sides of the equations are formed, and their leaves are of the table
 pub record AreOfTable (c : Content) (qs : List Equation) : Type 0 where

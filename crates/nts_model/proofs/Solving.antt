@@ -5,7 +5,6 @@ use Rattle.nts_model.specs.declared.labels.Label.{Label}
 use Rattle.nts_model.specs.Trees.{Tree, empty, more, node}
 use Rattle.nts_model.specs.Contents.{Content, Slot, SlotState, unset, link, known, Recorded, state_of, universe_of, kind_at, with_slot, changed, bound_to, with_constraint, in_universe}
 use Rattle.nts_model.specs.Resolving.{IsSound}
-use Rattle.nts_model.specs.Placeholders.{CanName}
 use Rattle.nts_model.specs.Levels.{NamesAll, IfNamesAll, term_level}
 use Rattle.nts_model.specs.Worlds.{World, inst, SolvesState, IsMet, IsNameable, IsValue, IsFitting, Solves, Agrees, with_tree, KnowsAll}
 use Rattle.nts_model.proofs.Under.{same_or_other}

@@ -1,5 +1,5 @@
 -- What the candidates that alone are met force: a tree of goals, and the table that it leaves.
-use Rattle.std.specs.Prelude.{◌≡◌, ◌⊎◌, ℕ, zero, suc, true, List, [], ◌∷◌}
+use Rattle.std.specs.Prelude.{◌≡◌, ◌⊎◌, true, List, [], ◌∷◌}
 use Rattle.nts_model.specs.declared.labels.Relation.{Relation}
 use Rattle.nts_model.specs.declared.labels.Relation.TheVariants as relation
 use Rattle.nts_model.specs.Trees.{Tree}
@@ -50,8 +50,3 @@ pub record IsForced (offers : Tree → Tree → List Candidate) (Below : Leaves)
   pub equates : EquatesAll values candidate.equations made equal
   pub adds : AddsAll values candidate.constraints equal met
   pub goals : LeavesAll Below values candidate.goals met d
-
--- .. in a tree of goals that is less than n goals high
-abbrev pub Forces : (Tree → Tree → List Candidate) → ℕ → Leaves
-Forces offers zero c d e g = ⊥
-Forces offers (suc n) c d e g = IsForced offers (Forces offers n) c d e g

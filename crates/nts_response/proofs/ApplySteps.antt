@@ -1,11 +1,15 @@
 -- A response applied to a table: what was chosen, and what follows once it was put into the table.
-use Rattle.std.proofs.Common.{◌≡◌, ℕ, suc, ◌+◌, List, [], ◌∷◌, map, get_or, sym, subst, arith}
+use Rattle.std.proofs.Common.{◌≡◌, ⊎_elim, ℕ, suc, ◌+◌, List, [], ◌∷◌, map, get_or, sym, subst, arith}
 use Rattle.std.specs.Prelude.{All, Bool}
 use Rattle.nts_model.specs.Trees.{Tree, IsClosed}
 use Rattle.nts_model.specs.Contents.{in_universe}
 use Rattle.nts_model.specs.Resolving.{Knows}
 use Rattle.nts_model.specs.Applying.{IsProperContent, ChoosesAll, AreKnownTrees}
 use Rattle.nts_model.specs.Responses.{Findings, RefusesResponse}
+use Rattle.nts_model.specs.Handlers.{filled}
+use Rattle.nts_model.specs.Passing.{BringsOnly}
+use Rattle.nts_model.proofs.Bringing.{brings-trans, only-trans, only-none}
+use Rattle.nts_model.proofs.ChosenLabels.{brings-in_universe, chosen_brings, chosen_passes}
 use Rattle.nts_model.proofs.Answering.{AllTrees}
 use Rattle.nts_model.proofs.Applied.{FailsToEqual, applied, refused}
 use Rattle.nts_model.proofs.Slots.{Knows-kept}
@@ -31,11 +35,12 @@ use Rattle.nts_response.specs.declared.types.Response.{Response}
 use Rattle.nts_response.specs.Forms.{findings_at, response_at, HoldsResponse, HoldsConstraint, HoldsOpen, recorded_at, premise_at}
 use Rattle.nts_response.specs.Replacing.{value_at}
 use Rattle.nts_response.specs.Applied.{StepKeeps, content_in, HaveSorts}
-use Rattle.nts_response.specs.Applicable.{IsKindFor, IsApplicable, IsApplied, IsPut}
+use Rattle.nts_response.specs.Applicable.{IsKindFor, sorts_of, IsApplicable, IsApplied, IsPut}
 use Rattle.nts_response.specs.Registered.{TakesAll}
 use Rattle.nts_response.specs.Placing.{ArePlaced, JoinsNew}
 use Rattle.nts_response.proofs.Placed.{placed_moved, joins_since}
 use Rattle.nts_response.proofs.Each.{same_views, values_kept, constraints_kept, hidden_kept, goals_kept}
+use Rattle.nts_response.proofs.LabelSteps.{among_either, only_by, values_pass, sides_pass}
 use Rattle.nts_response.proofs.Stepping.{arg_later}
 use Rattle.nts_response.proofs.MadeValues.{known_originals}
 use Rattle.nts_response.proofs.Chosen.{IsClosedTerm, NameOriginals, regions_chosen}
@@ -178,3 +183,22 @@ module _ (a b : List Tree) (t u : Table) (os : List GenericArg) (r : Canonical R
         known = put.known;
         shows = record { first = content_of b u.entries; equal = put.equal; chooses = chosen_so.chooses; makes = put.makes; seen = put.seen };
       }
+
+  -- it brought no labels but those of the originals and of queries
+  pub applied_labels : (d : List Tree) (v : Table) (visible : Bool) (goals : List (GoalSource × Goal)) → IsPut b d u.entries v.entries (trees_of b os) (trees_of b chosen) (findings_at b r.value) visible goals → BringsOnly (trees_of a os) (content_of a t.entries) (content_of d v.entries)
+  applied_labels d v visible goals put_there =
+      let x = r.value.external_constraints in
+      let put : IsPut b d u.entries v.entries (trees_of a os) (trees_of b chosen) (findings_at a r.value) visible goals =
+      subst (λ z. IsPut b d u.entries v.entries z (trees_of b chosen) (findings_at a r.value) visible goals) originals_same
+      (subst (λ z. IsPut b d u.entries v.entries (trees_of b os) (trees_of b chosen) z visible goals) found_same put_there) in
+      let c = content_of a t.entries in
+      let moved_there = in_universe c (t.entries.universe + r.max_universe) in
+      let vs = trees_of a r.value.var_values.items in
+      let ks = map kind_of_var r.var_kinds.items in
+      let xs = trees_of b chosen in
+      only-trans (only-none (trees_of a os) (brings-trans (brings-in_universe c (t.entries.universe + r.max_universe)) (chosen_brings c vs (trees_of a os) 0 ks xs moved_there (content_of b u.entries) chosen_so.chooses)))
+      (only-trans
+      (only_by put.equal_labels (λ P q g z i. ⊎_elim
+      (λ j. values_pass P q a (sorts_of r) xs (chosen_passes P q c vs (trees_of a os) 0 ks xs moved_there (content_of b u.entries) g chosen_so.chooses) r.value.var_values.items fits.values z j)
+      (λ j. g z j) (among_either (map (filled xs) vs) (trees_of a os) z i)))
+      (only_by put.recorded_labels (λ P q g z i. sides_pass P q a (sorts_of r) xs (chosen_passes P q c vs (trees_of a os) 0 ks xs moved_there (content_of b u.entries) g chosen_so.chooses) x.region_constraints.items fits.constraints z i)))

@@ -1,3 +1,4 @@
+pub mod Answered
 pub mod ApplySteps
 pub mod Chosen
 pub mod Each
@@ -8,8 +9,10 @@ pub mod Found
 pub mod Guessed
 pub mod HiddenSteps
 pub mod EntriesTold
+pub mod Identities
 pub mod InstantiateSteps
 pub mod KindLists
+pub mod LabelSteps
 pub mod MadeValues
 pub mod MissingSteps
 pub mod OpenSteps

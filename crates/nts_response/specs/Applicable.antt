@@ -1,5 +1,5 @@
 -- Responses that can be applied to originals, and what applying one leaves.
-use Rattle.std.specs.Prelude.{◌≡◌, ℕ, ◌+◌, ◌≤◌, Bool, List, [], ◌∷◌, map, length, All}
+use Rattle.std.specs.Prelude.{◌≡◌, ℕ, ◌+◌, ◌≤◌, Bool, List, [], ◌∷◌, ◌++◌, map, length, All}
 use Rattle.nts_model.specs.declared.labels.Sort.{Sort}
 use Rattle.nts_model.specs.declared.labels.Relation.{Relation}
 use Rattle.nts_model.specs.declared.labels.Relation.TheVariants as relation
@@ -10,6 +10,7 @@ use Rattle.nts_model.specs.Substitutions.{Occurs}
 use Rattle.nts_model.specs.Resolving.{Knows}
 use Rattle.nts_model.specs.Handlers.{NamesFresh, IsFixed, filled, hidden_by, premise_by}
 use Rattle.nts_model.specs.Sequents.{Premise}
+use Rattle.nts_model.specs.Passing.{BringsOnly}
 use Rattle.nts_model.specs.Inputs.{PositionKind}
 use Rattle.nts_model.specs.Driving.{sort_at}
 use Rattle.nts_model.specs.Applying.{ChoosesAll, MakesEqual, Records}
@@ -35,7 +36,7 @@ use Rattle.nts_response.specs.Forms.{HoldsResponse, HoldsOpen, premise_at}
 use Rattle.nts_response.specs.Applied.{NamesOriginal, IsFillable}
 use Rattle.nts_response.specs.Opened.{IsOpenable}
 use Rattle.nts_response.specs.Placing.{JoinsBy, PlacedOrOne}
-use Rattle.nts_response.specs.Recorded.{IsRecordable, AddsAllSeen}
+use Rattle.nts_response.specs.Recorded.{sides_of, IsRecordable, AddsAllSeen}
 use Rattle.nts_response.specs.Registered.{TakesAll}
 
 -- a closed term over positions of these sorts: its leaves are regions that stay themselves
@@ -130,6 +131,8 @@ pub record IsPut (a b : List Tree) (e f : Entries) (os chosen : List Tree) (x : 
   pub makes : MakesEqual chosen x.values os (content_of a e) equal
   pub records : Records chosen x.constraints equal (content_of b f)
   pub joins : JoinsSubRoots (content_of a e) (content_of b f)
+  pub equal_labels : BringsOnly (map (filled chosen) x.values ++ os) (content_of a e) equal
+  pub recorded_labels : BringsOnly (map (filled chosen) (sides_of x.constraints)) equal (content_of b f)
   pub seen : AddsAllSeen visible x.constraints equal.constraints (content_of b f).constraints
   pub hidden_types : List (AliasTerm × Ty)
   pub hidden : map (hidden_of b) hidden_types ≡ map (hidden_by (filled chosen)) x.hidden

@@ -6,7 +6,7 @@ use Rattle.nts_model.specs.Numbered.{position}
 use Rattle.nts_model.specs.Contents.{Content, Recorded}
 use Rattle.nts_model.specs.Resolving.{Knows}
 use Rattle.nts_model.specs.Sequents.{Premise}
-use Rattle.nts_model.specs.Responses.{Findings, row_of, Response as Form}
+use Rattle.nts_model.specs.Responses.{Findings, row_of, Response as Form, IsIdentity}
 use Rattle.nts_certainty.specs.declared.sources.GoalSource.{GoalSource}
 use Rattle.nts_certainty.specs.declared.certainty.Certainty.{Certainty}
 use Rattle.nts_terms.specs.declared.handles.AliasTerm.{AliasTerm}
@@ -94,3 +94,9 @@ FoundNothing x = (x.region_constraints.items ≡ []) × (x.opaque_types.items �
 -- each tree is the position of its own number
 abbrev pub ArePositions : List Tree → Type 0
 ArePositions ts = (i : ℕ) → i < length ts → (s : Sort) × (get_or ts i empty ≡ position s i)
+
+-- it says nothing of types and consts, hides no types and leaves no goals
+pub record HasOnlyRegionConstraints (ts : List Tree) (c : Canonical Response) : Type 0 where
+  pub identity : IsIdentity 0 (trees_of ts c.value.var_values.items)
+  pub no_hidden : c.value.external_constraints.opaque_types.items ≡ []
+  pub no_goals : c.value.external_constraints.normalization_nested_goals.items ≡ []

@@ -12,6 +12,11 @@ use Rattle.nts_terms.specs.declared.modes.VisibleForLeakCheck.{VisibleForLeakChe
 use Rattle.nts_delegate.specs.declared.delegate.RegionConstraint.{RegionConstraint}
 use Rattle.nts_response.specs.Applied.{IsFillable}
 
+-- the sides of constraints, one after another
+abbrev pub sides_of : List Recorded → List Tree
+sides_of [] = []
+sides_of (x ∷ xs) = x.left ∷ x.right ∷ sides_of xs
+
 -- the left side of a constraint: a type that outlives, or a region
 abbrev pub IsLeftSide : Relation → Tree → Type 0
 IsLeftSide relation.TypeOutlives t = kind_of t ≡ Some (of_sort sort.Ty)

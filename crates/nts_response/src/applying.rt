@@ -1,6 +1,7 @@
 //! A response applied to a table.
 ghost use Rattle.std.specs.Prelude.{◌≡◌, ◌≢◌, ◌↔◌, ◌+◌, ◌≤◌, ◌<◌, Err, map, All, length, IfOk, OnOk, OnErr};
 ghost use Rattle.nts_model.specs.Responses.{RefusesResponse};
+ghost use Rattle.nts_model.specs.Passing.{BringsOnly};
 ghost use Rattle.nts_model.specs.Trees.{IsClosed};
 ghost use Rattle.nts_model.proofs.Applied.{FailsToEqual};
 ghost use Rattle.nts_store.specs.Growth.{tree_at, AllIn};
@@ -83,6 +84,7 @@ fn apply(
     requires fits { IsApplicable cx.old.nodes (trees_of cx.old.nodes originals.now) response.now }
     requires room { table.old.entries.universe + response.now.max_universe ≤ u32.MAX }
     ensures applied { IfOk result (λ p. IsApplied cx.old.nodes cx.new.nodes table.old.entries table.new.entries (trees_of cx.old.nodes originals.now) (response_at cx.old.nodes response.now) (is_visible visible) p.0.items) }
+    ensures labels { OnOk result (BringsOnly (trees_of cx.old.nodes originals.now) (content_of cx.old.nodes table.old.entries) (content_of cx.new.nodes table.new.entries)) }
     ensures certainty { IfOk result (λ p. p.1 ≡ response.now.value.certainty) }
     ensures no { result ≡ Err NoSolution → RefusesResponse (content_of cx.old.nodes table.old.entries) (trees_of cx.old.nodes originals.now) (response_at cx.old.nodes response.now) }
     ensures universe { OnOk result (table.new.entries.universe ≡ table.old.entries.universe + response.now.max_universe) }
@@ -116,9 +118,11 @@ fn apply(
 /// the response leaves open, of the store and of the table, and its certainty. The originals are closed terms, as those of
 /// a query are, which are leaves.
 ///
-/// The leak check sees a constraint between regions if it saw it in the query and `visible` says so, and each one that a
-/// type outlives a region. `NoSolution` comes where no solution of the table makes the originals equal to the
-/// values, and `Full` where the table has not so many universes left. After any error the table is as before.
+/// The leaves that come to the table are those of the originals, variables, regions that stay themselves, and placeholders
+/// of universes above the root. The leak check sees a constraint between regions if it saw it in the query and `visible`
+/// says so, and each one that a type outlives a region. `NoSolution` comes where no solution of the table makes the
+/// originals equal to the values, and `Full` where the table has not so many universes left. After any error the table is
+/// as before.
 pub fn instantiate_and_apply_query_response(
     table: &mut InferCtxt,
     cx: &mut Cx,
@@ -133,6 +137,7 @@ pub fn instantiate_and_apply_query_response(
     requires closed { All (λ o. IsClosed (tree_at cx.old.nodes o.node)) originals.now }
     requires fits { IsApplicable cx.old.nodes (trees_of cx.old.nodes originals.now) response.now }
     ensures applied { IfOk result (λ p. IsApplied cx.old.nodes cx.new.nodes table.old.entries table.new.entries (trees_of cx.old.nodes originals.now) (response_at cx.old.nodes response.now) (is_visible visible) p.0.items) }
+    ensures labels { OnOk result (BringsOnly (trees_of cx.old.nodes originals.now) (content_of cx.old.nodes table.old.entries) (content_of cx.new.nodes table.new.entries)) }
     ensures certainty { IfOk result (λ p. p.1 ≡ response.now.value.certainty) }
     ensures no { result ≡ Err NoSolution → RefusesResponse (content_of cx.old.nodes table.old.entries) (trees_of cx.old.nodes originals.now) (response_at cx.old.nodes response.now) }
     ensures full { (result ≡ Err EvalError.Full) ↔ (u32.MAX < table.old.entries.universe + response.now.max_universe) }

@@ -1,9 +1,10 @@
 //! Originals made equal to the values of a response.
-ghost use Rattle.std.specs.Prelude.{◌≡◌, ◌≢◌, Err, map, All, length, OnOk};
+ghost use Rattle.std.specs.Prelude.{◌≡◌, ◌≢◌, ◌++◌, Err, map, All, length, OnOk};
 ghost use Rattle.nts_model.specs.Handlers.{filled};
 ghost use Rattle.nts_model.specs.Equations.{AreRelated, AreUnrelated};
 ghost use Rattle.nts_model.specs.Applying.{MakesEqual};
 ghost use Rattle.nts_model.specs.SubUnifying.{JoinsSubRoots};
+ghost use Rattle.nts_model.specs.Passing.{BringsLabelsOf, BringsOnly};
 ghost use Rattle.nts_model.proofs.Applied.{FailsToEqual};
 ghost use Rattle.nts_store.specs.Growth.{tree_at, AllIn};
 ghost use Rattle.nts_store.specs.declared.fault.EvalError.TheVariants.{NoSolution};
@@ -32,6 +33,7 @@ pub(crate) fn equate_values(
     requires originals { All (IsArgOf cx.old.nodes table.old.entries) originals.now }
     requires long { length originals.now ≡ length values.now }
     ensures equal { OnOk result (MakesEqual (map (tree_at cx.old.nodes) chosen.now) (trees_of cx.old.nodes values.now) (trees_of cx.old.nodes originals.now) (content_of cx.old.nodes table.old.entries) (content_of cx.new.nodes table.new.entries)) }
+    ensures labels { OnOk result (BringsOnly (map (filled (map (tree_at cx.old.nodes) chosen.now)) (trees_of cx.old.nodes values.now) ++ trees_of cx.old.nodes originals.now) (content_of cx.old.nodes table.old.entries) (content_of cx.new.nodes table.new.entries)) }
     ensures no { result ≡ Err NoSolution → FailsToEqual (map (tree_at cx.old.nodes) chosen.now) (trees_of cx.old.nodes values.now) (trees_of cx.old.nodes originals.now) (content_of cx.old.nodes table.old.entries) }
     ensures joins { JoinsSubRoots (content_of cx.old.nodes table.old.entries) (content_of cx.new.nodes table.new.entries) }
     ensures keeps { StepKeeps cx.old cx.new table.old table.new }
@@ -56,6 +58,7 @@ fn equate_one(
     requires value { IsFillable cx.old.nodes (content_of cx.old.nodes table.old.entries) (map (tree_at cx.old.nodes) chosen.now) value }
     requires original { IsTermOf cx.old.nodes table.old original }
     ensures related { OnOk result (AreRelated (content_of cx.old.nodes table.old.entries) (content_of cx.new.nodes table.new.entries) (filled (map (tree_at cx.old.nodes) chosen.now) (tree_at cx.old.nodes value)) (tree_at cx.old.nodes original)) }
+    ensures labels { OnOk result (BringsLabelsOf (content_of cx.old.nodes table.old.entries) (content_of cx.new.nodes table.new.entries) (filled (map (tree_at cx.old.nodes) chosen.now) (tree_at cx.old.nodes value)) (tree_at cx.old.nodes original)) }
     ensures no { result ≡ Err NoSolution → AreUnrelated (content_of cx.old.nodes table.old.entries) (filled (map (tree_at cx.old.nodes) chosen.now) (tree_at cx.old.nodes value)) (tree_at cx.old.nodes original) }
     ensures joins { JoinsSubRoots (content_of cx.old.nodes table.old.entries) (content_of cx.new.nodes table.new.entries) }
     ensures keeps { StepKeeps cx.old cx.new table.old table.new }

@@ -29,6 +29,9 @@ pub use fitting::{response_fits, state_fits};
 pub use instantiating::instantiate_canonical_state;
 pub use same::same_response;
 pub use states::make_canonical_state;
-pub use telling::{has_no_inference_or_external_constraints, is_identity};
+pub use telling::{
+    has_no_inference_or_external_constraints, has_only_region_constraints, is_identity,
+    is_identity_modulo_regions,
+};
 pub use types::{CanonicalResponse, CanonicalState, ExternalConstraintsData, Response, State};
 pub use unconstrained::response_no_constraints_raw;

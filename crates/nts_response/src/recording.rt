@@ -5,6 +5,7 @@ ghost use Rattle.nts_model.specs.Handlers.{filled};
 ghost use Rattle.nts_model.specs.Responses.{recorded_by};
 ghost use Rattle.nts_model.specs.Applying.{IsRecordedIn, Records};
 ghost use Rattle.nts_model.specs.SubUnifying.{JoinsSubRoots};
+ghost use Rattle.nts_model.specs.Passing.{BringsLabelsOf, BringsOnly};
 ghost use Rattle.nts_store.specs.Growth.{tree_at, AllIn};
 ghost use Rattle.nts_unify.specs.Reading.{content_of};
 ghost use Rattle.nts_unify.specs.Recording.{is_visible};
@@ -12,7 +13,7 @@ ghost use Rattle.nts_table.specs.Tables.{IsTable, IsTermOf};
 ghost use Rattle.nts_table.specs.Frames.{ChangesVariables};
 ghost use Rattle.nts_response.specs.Forms.{recorded_at};
 ghost use Rattle.nts_response.specs.Applied.{StepKeeps};
-ghost use Rattle.nts_response.specs.Recorded.{IsLeftSide, IsRecordable, AddsSeen, AddsAllSeen, seen_as, seen_if};
+ghost use Rattle.nts_response.specs.Recorded.{sides_of, IsLeftSide, IsRecordable, AddsSeen, AddsAllSeen, seen_as, seen_if};
 
 use nts_delegate::RegionConstraint;
 use nts_model::Relation;
@@ -35,6 +36,7 @@ pub(crate) fn record_constraints(
     requires constraints { All (IsRecordable cx.old.nodes (content_of cx.old.nodes table.old.entries) (map (tree_at cx.old.nodes) chosen.now)) constraints.now }
     ensures recorded { OnOk result (Records (map (tree_at cx.old.nodes) chosen.now) (map (recorded_at cx.old.nodes) constraints.now) (content_of cx.old.nodes table.old.entries) (content_of cx.new.nodes table.new.entries)) }
     ensures seen { OnOk result (AddsAllSeen (is_visible visible) (map (recorded_at cx.old.nodes) constraints.now) (content_of cx.old.nodes table.old.entries).constraints (content_of cx.new.nodes table.new.entries).constraints) }
+    ensures labels { OnOk result (BringsOnly (map (filled (map (tree_at cx.old.nodes) chosen.now)) (sides_of (map (recorded_at cx.old.nodes) constraints.now))) (content_of cx.old.nodes table.old.entries) (content_of cx.new.nodes table.new.entries)) }
     ensures joins { OnOk result (JoinsSubRoots (content_of cx.old.nodes table.old.entries) (content_of cx.new.nodes table.new.entries)) }
     ensures keeps { StepKeeps cx.old cx.new table.old table.new }
     ensures memory { IsOkUnless result Fault.Memory }
@@ -59,6 +61,7 @@ fn record_one(
     requires constraint { IsRecordable cx.old.nodes (content_of cx.old.nodes table.old.entries) (map (tree_at cx.old.nodes) chosen.now) constraint }
     ensures recorded { OnOk result (IsRecordedIn (content_of cx.old.nodes table.old.entries) (content_of cx.new.nodes table.new.entries) (recorded_by (filled (map (tree_at cx.old.nodes) chosen.now)) (recorded_at cx.old.nodes constraint))) }
     ensures seen { OnOk result (AddsSeen (seen_if (is_visible visible) (recorded_at cx.old.nodes constraint)) (content_of cx.old.nodes table.old.entries).constraints (content_of cx.new.nodes table.new.entries).constraints) }
+    ensures labels { OnOk result (BringsLabelsOf (content_of cx.old.nodes table.old.entries) (content_of cx.new.nodes table.new.entries) (filled (map (tree_at cx.old.nodes) chosen.now) (tree_at cx.old.nodes constraint.0.left.node)) (filled (map (tree_at cx.old.nodes) chosen.now) (tree_at cx.old.nodes constraint.0.right.node))) }
     ensures joins { OnOk result (JoinsSubRoots (content_of cx.old.nodes table.old.entries) (content_of cx.new.nodes table.new.entries)) }
     ensures keeps { StepKeeps cx.old cx.new table.old table.new }
     ensures memory { IsOkUnless result Fault.Memory }
@@ -88,6 +91,7 @@ fn record_between(
     requires right_side { IsRegion (tree_at cx.now.nodes right) }
     ensures recorded { OnOk result (IsRecordedIn (content_of cx.now.nodes table.old.entries) (content_of cx.now.nodes table.new.entries) (record { relation = relation; left = tree_at cx.now.nodes left; right = tree_at cx.now.nodes right; is_visible = is_visible visible })) }
     ensures seen { OnOk result (AddsSeen (seen_as relation (is_visible visible)) (content_of cx.now.nodes table.old.entries).constraints (content_of cx.now.nodes table.new.entries).constraints) }
+    ensures labels { OnOk result (BringsLabelsOf (content_of cx.now.nodes table.old.entries) (content_of cx.now.nodes table.new.entries) (tree_at cx.now.nodes left) (tree_at cx.now.nodes right)) }
     ensures joins { OnOk result (JoinsSubRoots (content_of cx.now.nodes table.old.entries) (content_of cx.now.nodes table.new.entries)) }
     ensures changes { ChangesVariables table.old table.new }
     ensures table { IsTable cx.now.nodes table.new }

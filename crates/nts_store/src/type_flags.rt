@@ -1,7 +1,7 @@
 //! What a node keeps of its tree, so that walks can stop early.
 ghost use Rattle.std.specs.Prelude.{◌≡◌};
 ghost use Rattle.nts_model.specs.Trees.{is_infer, is_region_infer, is_placeholder, is_alias, is_canonical, binders};
-ghost use Rattle.nts_store.specs.TypeFlags.{higher, past_binders, level_of, joined, labelled, no_flags};
+ghost use Rattle.nts_store.specs.TypeFlags.{higher, past_binders, level_of, joined, labelled, no_flags, is_leaf};
 
 use nts_model::{
     BoundVarIndexKind, ConstHead, Constant, FreeRegion, Label, Leaf, ListHead, TyHead, VariableKind,
@@ -20,6 +20,8 @@ pub struct TypeFlags {
     pub has_alias: bool,
     /// It has a bound variable that names a position of a canonical value.
     pub has_canonical: bool,
+    /// It has a leaf: a variable, a free region, or a parameter or placeholder of a type or a const.
+    pub has_leaf: bool,
     /// The greatest level at which a bound variable escapes, if one does.
     pub escaping: Option<usize>,
 }
@@ -35,6 +37,7 @@ impl TypeFlags {
             has_placeholder: false,
             has_alias: false,
             has_canonical: false,
+            has_leaf: false,
             escaping: None,
         }
     }
@@ -49,6 +52,7 @@ impl TypeFlags {
             has_placeholder: self.has_placeholder || other.has_placeholder,
             has_alias: self.has_alias || other.has_alias,
             has_canonical: self.has_canonical || other.has_canonical,
+            has_leaf: self.has_leaf || other.has_leaf,
             escaping: higher_level(self.escaping, other.escaping),
         }
     }
@@ -63,6 +67,7 @@ impl TypeFlags {
             has_placeholder: is_placeholder_label(label) || self.has_placeholder,
             has_alias: is_alias_label(label) || self.has_alias,
             has_canonical: is_canonical_label(label) || self.has_canonical,
+            has_leaf: is_leaf_label(label) || self.has_leaf,
             escaping: higher_level(
                 bound_level(label),
                 past_binders_of(binders_of(label), self.escaping),
@@ -151,4 +156,10 @@ fn is_canonical_label(label: Label) -> bool
     ensures { result ≡ is_canonical label }
 {
     matches!(label, Label::Bound(_, BoundVarIndexKind::Canonical, _))
+}
+
+fn is_leaf_label(label: Label) -> bool
+    ensures { result ≡ is_leaf label }
+{
+    matches!(label, Label::Leaf(_))
 }

@@ -1,6 +1,8 @@
-use Rattle.std.proofs.Common.{sym, ◌∙◌}
+use Rattle.std.proofs.Common.{rules, ◌≡◌, false, sym, ◌∙◌}
+use Rattle.nts_store.specs.Growth.{tree_at}
 use Rattle.nts_canonical.specs.Collecting.{stays_where}
-use Rattle.nts_canonical.proofs.Gathering.{ok_map, ok_map_both, term_within, tasks_within, continues_leaf, continues_finished, continues_down}
+use Rattle.nts_canonical.proofs.Gathering.{ok_map, ok_map_both, term_within, tasks_within, continues_leaf, continues_finished, continues_leafless, continues_down}
+use Rattle.nts_canonical.proofs.Leafless.{leafless}
 use Rattle.nts_canonical.proofs.collecting.enter.Goals as goal
 
 pub label-requires : goal.label-requires
@@ -13,6 +15,11 @@ returns-in-Leaf c =
 pub returns-then-contains : goal.returns-then-contains
 returns-then-contains c =
     continues_finished (stays_where c.args.staying) _ _ _ _ _ _ c.requires c.label.ensures.is (sym c.contains.ensures ∙ c.if-contains.true)
+
+pub returns-then-not-flags : goal.returns-then-not-flags
+returns-then-not-flags c =
+    let none : c.flags.result.has_leaf ≡ false = first_of (cc, search rules) in
+    continues_leafless (stays_where c.args.staying) _ _ _ _ _ _ c.requires c.label.ensures.is (leafless (tree_at c.args.nodes.now c.args.term) c.flags.result c.flags.ensures none)
 
 pub push_children-requires : goal.push_children-requires
 push_children-requires c = record {

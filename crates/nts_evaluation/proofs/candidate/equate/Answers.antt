@@ -7,11 +7,13 @@ use Rattle.nts_delegate.specs.Candidates.{IsEquation}
 use Rattle.nts_evaluation.proofs.Evaluating.{Runs-trans, AreValues-later, IsEquation-extended, equation_at, IsPosed-later}
 use Rattle.nts_evaluation.proofs.Trying.{equated_first, equated_more, none_meets}
 use Rattle.nts_evaluation.proofs.candidate.equate.Goals as goal
+use Rattle.nts_model.proofs.Bringing.{only-none, only-trans}
+use Rattle.nts_evaluation.proofs.Labels.{only_earlier}
 
 pub loop-equation-init : goal.loop-equation-init
 loop-equation-init c =
     let e = c.in_ok-values.ensures in
-    record { runs = e.runs; equal = tt; values = rw c.deref.ensures.value at e.values; equated = equated_first _ _ (rw c.deref.ensures.value at e.fresh) }
+    record { runs = e.runs; equal = tt; labels = only-none _ e.labels; values = rw c.deref.ensures.value at e.values; equated = equated_first _ _ (rw c.deref.ensures.value at e.fresh) }
 
 pub equate_one-requires-clause-equation : goal.equate_one-requires-clause-equation
 equate_one-requires-clause-equation c =
@@ -41,6 +43,7 @@ loop-equation-preserved c =
     record {
       runs = Runs-trans i.runs e.runs;
       equal = Equates-step _ c.args.cx.now.nodes c.in_ok-values.values.items c.args.candidate.now.equations.items c.loop-equation.equation-index c.deref-in-loop-equation-2.ensures.value c.deref-equation-items.ensures.value (inside c) e.runs.goes i.values.within i.equal i.runs.goes.extends (λ d. ((over c d).lhs.within, (over c d).rhs.within)) e.equal;
+      labels = only-trans i.labels (only_earlier i.runs.goes.extends c.requires.posed.holds e.labels);
       values = AreValues-later e.runs.goes i.values;
       equated = equated_more _ c.args.candidate.now.fresh.items c.in_ok-values.values.items c.args.candidate.now.equations.items c.loop-equation.equation-index c.deref-in-loop-equation-2.ensures.value c.deref-equation-items.ensures.value (inside c) i.runs.goes.extends e.runs.goes.extends i.values.within (over c _) i.equated e.related;
     }

@@ -6,6 +6,7 @@ use Rattle.nts_delegate.proofs.Results.{OnOk-map}
 use Rattle.nts_evaluation.proofs.Evaluating.{Runs-trans, Runs-extends, can_fill, instance_term, held_values}
 use Rattle.nts_unify.specs.Lawful.{content_of-extended}
 use Rattle.nts_evaluation.proofs.candidate.equate_one.Goals as goal
+use Rattle.nts_evaluation.proofs.Labels.{over_only}
 
 pub instantiate_both-requires-clause-values : goal.instantiate_both-requires-clause-values
 instantiate_both-requires-clause-values c = held_values c.requires.values
@@ -52,3 +53,9 @@ returns-clause-no c = λ q.
     let e = c.in_ok-lhs.ensures in
     let same = content_of-extended e.grows.extends c.requires.posed.table.now in
     rw (e.left.tree, e.right.tree, same) at (c.relate_terms.ensures.no q)
+
+pub returns-clause-labels : goal.returns-clause-labels
+returns-clause-labels c =
+    let e = c.in_ok-lhs.ensures in
+    let same = content_of-extended e.grows.extends c.requires.posed.table.now in
+    OnOk-map c.relate_terms.result (λ h. over_only c.requires.values c.requires.equation.lhs c.requires.equation.rhs (rw (e.left.tree, e.right.tree, same) at h)) c.relate_terms.ensures.labels

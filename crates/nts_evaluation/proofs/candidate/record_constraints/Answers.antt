@@ -8,6 +8,8 @@ use Rattle.nts_delegate.specs.Candidates.{IsRegionConstraint}
 use Rattle.nts_delegate.specs.declared.delegate.RegionConstraint.{RegionConstraint}
 use Rattle.nts_evaluation.proofs.Evaluating.{Runs-refl, Runs-trans, AreValues-later, IsRegionConstraint-extended, constraint_at, IsPosed-later}
 use Rattle.nts_evaluation.proofs.candidate.record_constraints.Goals as goal
+use Rattle.nts_model.proofs.Bringing.{only-refl, only-trans}
+use Rattle.nts_evaluation.proofs.Labels.{only_earlier}
 
 pub record_one-requires-clause-constraint : goal.record_one-requires-clause-constraint
 record_one-requires-clause-constraint c =
@@ -21,7 +23,7 @@ over c d =
     constraint_at c.args.cx.now.nodes c.args.trial.fresh.now c.args.trial.goal c.args.constraints.now c.loop-constraint.constraint-index d c.requires.constraints c.loop-constraint-test.true
 
 pub loop-constraint-init : goal.loop-constraint-init
-loop-constraint-init c = record { runs = Runs-refl c.requires.posed.table; held = tt; added = refl }
+loop-constraint-init c = record { runs = Runs-refl c.requires.posed.table; labels = only-refl _ _; held = tt; added = refl }
 
 pub returns-in_err-record_one-clause-runs : goal.returns-in_err-record_one-clause-runs
 returns-in_err-record_one-clause-runs c = Runs-trans c.loop-constraint.invariant.runs c.record_one.ensures.runs
@@ -32,6 +34,7 @@ loop-constraint-preserved c =
     let e = c.in_ok-record_one.ensures in
     record {
       runs = Runs-trans i.runs e.runs;
+      labels = only-trans i.labels (only_earlier i.runs.goes.extends c.requires.posed.holds e.labels);
       added = adds_more _ _ _ c.args.trial.values.now c.args.constraints.now c.loop-constraint.constraint-index _ _ _ c.loop-constraint-test.true i.runs.goes.extends c.requires.values.within (over c _).left.within (over c _).right.within i.added e.added;
       held = Constrains-step _ c.args.cx.now.nodes c.args.trial.values.now c.args.constraints.now c.loop-constraint.constraint-index refl refl c.loop-constraint-test.true e.runs.goes (AreValues-later i.runs.goes c.requires.values).within i.held i.runs.goes.extends (λ d. ((over c d).left.within, (over c d).right.within)) e.held;
     }

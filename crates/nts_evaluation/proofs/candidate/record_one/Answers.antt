@@ -10,6 +10,7 @@ use Rattle.nts_unify.specs.Lawful.{content_of-extended}
 use Rattle.nts_delegate.specs.Offered.{constraint_of}
 use Rattle.nts_evaluation.proofs.Forcing.{added_equal}
 use Rattle.nts_evaluation.proofs.candidate.record_one.Goals as goal
+use Rattle.nts_evaluation.proofs.Labels.{over_only}
 
 pub instantiate_both-requires-clause-values : goal.instantiate_both-requires-clause-values
 instantiate_both-requires-clause-values c = held_values c.requires.values
@@ -104,3 +105,15 @@ returns-in-Equal-clause-no c = λ q.
     let e = c.in_ok-left.ensures in
     let same = content_of-extended e.grows.extends c.requires.posed.table.now in
     (c.in-Equal.is, rw (e.left.tree, e.right.tree, same) at (c.relate_terms.ensures.no q))
+
+pub returns-in-Equal-clause-labels : goal.returns-in-Equal-clause-labels
+returns-in-Equal-clause-labels c =
+    let e = c.in_ok-left.ensures in
+    let same = content_of-extended e.grows.extends c.requires.posed.table.now in
+    OnOk-map c.relate_terms.result (λ h. over_only c.requires.values c.requires.constraint.left c.requires.constraint.right (rw (e.left.tree, e.right.tree, same) at h)) c.relate_terms.ensures.labels
+
+pub returns-clause-labels : goal.returns-clause-labels
+returns-clause-labels c =
+    let e = c.in_ok-left.ensures in
+    let same = content_of-extended e.grows.extends c.requires.posed.table.now in
+    over_only c.requires.values c.requires.constraint.left c.requires.constraint.right (rw (e.left.tree, e.right.tree, same) at c.in_ok-record_outlives.ensures.labels)

@@ -9,7 +9,7 @@ use Rattle.nts_store.specs.Growth.{tree_at}
 use Rattle.nts_unify.specs.Entries.{Entries}
 use Rattle.nts_canonical.specs.Forms.{trees_of}
 use Rattle.nts_canonical.proofs.Filled.{trees_of-nodes}
-use Rattle.nts_response.proofs.ApplySteps.{Chose, chose, args_later, nodes_in, chosen_ready, refuses, is_applied}
+use Rattle.nts_response.proofs.ApplySteps.{Chose, chose, args_later, nodes_in, chosen_ready, refuses, is_applied, applied_labels}
 use Rattle.nts_response.proofs.applying.apply.Goals as goal
 
 -- what was chosen
@@ -58,4 +58,15 @@ returns-clause-applied c =
     (chose c.args.cx.now.nodes c.choose_values.new.cx.nodes c.args.table.now c.create_universes.new.self c.choose_values.new.table c.args.originals.now c.args.response.now.value.var_values.items c.args.response.now.var_kinds.items c.args.response.now.max_universe c.in_ok-chosen.chosen.items _ c.universe-universe.ensures c.in_ok-create_universes.ensures.entries
     (rw (c.deref.ensures.value, c.deref-2.ensures.value) at k.chosen) (rw c.deref.ensures.value at k.placed) k.args (rw c.deref.ensures.value at k.sorts) k.keeps.grows.extends)
     c.put.new.cx.nodes c.put.new.table (is_visible c.args.visible) c.in_ok-goals.goals.items c.terms_are_formed-2.ensures c.put.ensures.table hidden
+    (subst (λ z. IsPut b c.put.new.cx.nodes c.choose_values.new.table.entries c.put.new.table.entries (trees_of b c.args.originals.now) z (findings_at b c.args.response.now.value) (is_visible c.args.visible) c.in_ok-goals.goals.items) nodes c.in_ok-goals.ensures.put)
+
+pub returns-clause-labels : goal.returns-clause-labels
+returns-clause-labels c =
+    let k = c.in_ok-chosen.ensures in
+    let b = c.choose_values.new.cx.nodes in
+    let nodes : map (tree_at b) c.deref-4.result.now ≡ trees_of b c.in_ok-chosen.chosen.items = ap (map (tree_at b)) (c.deref-4.ensures.value ∙ (rw c.deref-3.ensures.value at c.in_ok-chosen-2.ensures)) ∙ trees_of-nodes b c.in_ok-chosen.chosen.items in
+    applied_labels c.args.cx.now.nodes b c.args.table.now c.choose_values.new.table c.args.originals.now c.args.response.now c.in_ok-chosen.chosen.items c.terms_are_formed.ensures c.requires.table c.requires.originals c.requires.closed c.requires.fits
+    (chose c.args.cx.now.nodes c.choose_values.new.cx.nodes c.args.table.now c.create_universes.new.self c.choose_values.new.table c.args.originals.now c.args.response.now.value.var_values.items c.args.response.now.var_kinds.items c.args.response.now.max_universe c.in_ok-chosen.chosen.items _ c.universe-universe.ensures c.in_ok-create_universes.ensures.entries
+    (rw (c.deref.ensures.value, c.deref-2.ensures.value) at k.chosen) (rw c.deref.ensures.value at k.placed) k.args (rw c.deref.ensures.value at k.sorts) k.keeps.grows.extends)
+    c.put.new.cx.nodes c.put.new.table (is_visible c.args.visible) c.in_ok-goals.goals.items
     (subst (λ z. IsPut b c.put.new.cx.nodes c.choose_values.new.table.entries c.put.new.table.entries (trees_of b c.args.originals.now) z (findings_at b c.args.response.now.value) (is_visible c.args.visible) c.in_ok-goals.goals.items) nodes c.in_ok-goals.ensures.put)

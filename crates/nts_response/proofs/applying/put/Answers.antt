@@ -3,6 +3,7 @@ use Rattle.nts_model.specs.Trees.{Tree}
 use Rattle.nts_model.specs.Contents.{Content}
 use Rattle.nts_model.specs.Handlers.{filled, hidden_by, premise_by}
 use Rattle.nts_model.specs.Applying.{Records}
+use Rattle.nts_model.specs.Passing.{BringsOnly}
 use Rattle.nts_model.specs.SubUnifying.{JoinsSubRoots}
 use Rattle.nts_store.specs.Growth.{tree_at, Extends}
 use Rattle.nts_store.specs.Kept.{map-kept}
@@ -14,7 +15,7 @@ use Rattle.nts_table.specs.TableLaws.{IsTable-extended}
 use Rattle.nts_delegate.specs.Offered.{hidden_of}
 use Rattle.nts_canonical.specs.Forms.{IsHidden}
 use Rattle.nts_response.specs.Applied.{StepKeeps}
-use Rattle.nts_response.specs.Recorded.{AddsAllSeen}
+use Rattle.nts_response.specs.Recorded.{sides_of, AddsAllSeen}
 use Rattle.nts_response.specs.Registered.{TakesAll}
 use Rattle.nts_response.specs.Applicable.{AreKnownPremises}
 use Rattle.nts_response.specs.Forms.{HoldsConstraint, HoldsOpen, recorded_at, premise_at}
@@ -106,6 +107,7 @@ returns-clause-put c =
     let last : content_of b u.entries ≡ content_of n t.entries = ap (content_of b) is ∙ content_of-extended beyond s.table.now in
     let sides : map (recorded_at m) cs ≡ map (recorded_at a) cs = same_views HoldsConstraint recorded_at constraints_kept a m cs holds.constraints first in
     let recorded_there : Records (map (tree_at m) nodes) (map (recorded_at m) cs) equal (content_of n t.entries) = rw c.deref-2.ensures.value at c.in_ok-record_constraints.ensures.recorded in
+    let labels_there : BringsOnly (map (filled (map (tree_at m) nodes)) (sides_of (map (recorded_at m) cs))) equal (content_of n t.entries) = rw c.deref-2.ensures.value at c.in_ok-record_constraints.ensures.labels in
     let seen_there : AddsAllSeen (is_visible c.args.visible) (map (recorded_at m) cs) equal.constraints (content_of n t.entries).constraints = rw c.deref-2.ensures.value at c.in_ok-record_constraints.ensures.seen in
     let there : map (tree_at n) nodes ≡ xs = map-kept a n nodes c.requires.chosen grew.extends in
     let pairs : map (hidden_of n) hs ≡ map (hidden_of a) hs = same_views IsHidden hidden_of hidden_kept a n hs holds.hidden grew.extends in
@@ -120,6 +122,9 @@ returns-clause-put c =
       seen = subst (λ (z : Content). AddsAllSeen (is_visible c.args.visible) (map (recorded_at a) cs) equal.constraints z.constraints) (sym last)
           (subst (λ z. AddsAllSeen (is_visible c.args.visible) z equal.constraints (content_of n t.entries).constraints) sides seen_there);
       joins = subst (JoinsSubRoots (content_of a c.args.table.now.entries)) (sym last) (joins_next c.equate_values.ensures.keeps c.equate_values.ensures.joins c.record_constraints.ensures.keeps c.in_ok-record_constraints.ensures.joins);
+      equal_labels = rw c.deref.ensures.value at c.in_ok-equate_values.ensures.labels;
+      recorded_labels = subst (λ z. BringsOnly (map (filled xs) (sides_of (map (recorded_at a) cs))) equal z) (sym last)
+          (subst (λ z. BringsOnly (map (filled z) (sides_of (map (recorded_at a) cs))) equal (content_of n t.entries)) (map-kept a m nodes c.requires.chosen first) (subst (λ z. BringsOnly (map (filled (map (tree_at m) nodes)) (sides_of z)) equal (content_of n t.entries)) sides labels_there));
       hidden_types = rs;
       hidden = images_views (filled (map (tree_at n) nodes)) n c.fill_hidden.new.nodes b hs rs later (rw c.deref-3.ensures.value at c.in_ok-hidden.ensures.images)
           ∙ ap (map (hidden_by (filled (map (tree_at n) nodes)))) pairs ∙ ap (λ z. map (hidden_by (filled z)) (map (hidden_of a) hs)) there;

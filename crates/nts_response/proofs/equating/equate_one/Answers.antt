@@ -30,6 +30,12 @@ returns-clause-related c =
     let same = content_of-extended e.extends c.requires.table.now in
     OnOk-map c.relate_nodes.result (λ h. rw (e.tree, e.extends.kept c.args.original c.requires.original.within, same) at h) c.relate_nodes.ensures.related
 
+pub returns-clause-labels : goal.returns-clause-labels
+returns-clause-labels c =
+    let e = c.in_ok-value.ensures in
+    let same = content_of-extended e.extends c.requires.table.now in
+    OnOk-map c.relate_nodes.result (λ h. rw (e.tree, e.extends.kept c.args.original c.requires.original.within, same) at h) c.relate_nodes.ensures.labels
+
 pub returns-clause-no : goal.returns-clause-no
 returns-clause-no c = λ q.
     let e = c.in_ok-value.ensures in

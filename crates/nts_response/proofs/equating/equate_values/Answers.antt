@@ -1,10 +1,12 @@
 use Rattle.std.proofs.Common.{arith, rules, refl, ◌≡◌, Err}
+use Rattle.nts_model.proofs.Bringing.{only-refl}
 use Rattle.nts_model.proofs.SubUnified.{JoinsSubRoots-refl}
 use Rattle.nts_store.specs.declared.fault.EvalError.TheVariants as EvalError
 use Rattle.nts_store.specs.Kept.{AllIn-kept}
 use Rattle.nts_unify.specs.Reading.{content_of}
 use Rattle.nts_table.proofs.TermTables.{proper_content}
 use Rattle.nts_response.proofs.Stepping.{step_none, step_then, joins_next, arg_later}
+use Rattle.nts_response.proofs.LabelSteps.{equal_brings}
 use Rattle.nts_response.proofs.EqualLemmas.{equal_all, equal_next, equal_fault, fillable_later}
 use Rattle.nts_response.proofs.equating.equate_values.Goals as goal
 
@@ -24,6 +26,7 @@ equate_one-requires-clause-original c =
 pub loop-i-init : goal.loop-i-init
 loop-i-init c = record {
   equal = refl;
+  labels = only-refl _ (content_of c.args.cx.now.nodes c.args.table.now.entries);
   joins = JoinsSubRoots-refl (content_of c.args.cx.now.nodes c.args.table.now.entries);
   keeps = step_none c.args.cx.now c.args.table.now c.requires.table;
 }
@@ -34,6 +37,7 @@ loop-i-preserved c =
     let keeps = step_then c.loop-i.invariant.keeps e.keeps in
     record {
       equal = equal_next c.args.cx.now c.loop-i.cx c.args.table.now c.loop-i.table c.args.chosen.now c.args.values.now c.args.originals.now c.loop-i.i (record { node = record { number = 0 } }) (record { node = record { number = 0 } }) (content_of c.equate_one.new.cx.nodes c.equate_one.new.table.entries) c.loop-i-test.true c.requires.long c.loop-i.invariant.keeps c.requires.chosen c.requires.values c.requires.originals c.loop-i.invariant.equal e.related (proper_content keeps.table);
+      labels = equal_brings c.args.cx.now c.loop-i.cx c.args.table.now c.loop-i.table c.args.chosen.now c.loop-i.invariant.keeps c.requires.chosen c.args.values.now c.args.originals.now c.loop-i.i (record { node = record { number = 0 } }) (record { node = record { number = 0 } }) (content_of c.equate_one.new.cx.nodes c.equate_one.new.table.entries) c.loop-i-test.true c.requires.long c.requires.values c.requires.originals c.loop-i.invariant.labels e.labels;
       joins = joins_next c.loop-i.invariant.keeps c.loop-i.invariant.joins e.keeps e.joins;
       keeps = keeps;
     }

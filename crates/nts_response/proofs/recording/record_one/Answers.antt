@@ -68,6 +68,15 @@ returns-clause-recorded c =
     (recorded_seen (content_of c.instantiate_canonical-2.new.nodes c.args.table.now.entries) (content_of c.instantiate_canonical-2.new.nodes c.record_between.new.table.entries)
     (record { relation = c.args.constraint.0.relation; left = tree_at c.instantiate_canonical-2.new.nodes c.in_ok-left.left; right = tree_at c.instantiate_canonical-2.new.nodes c.in_ok-right.right; is_visible = is_visible c.seen_in_both-seen.result }) (is_visible c.args.constraint.1) h)) c.record_between.ensures.recorded
 
+pub returns-clause-labels : goal.returns-clause-labels
+returns-clause-labels c =
+    let a = c.in_ok-left.ensures in
+    let b = c.in_ok-right.ensures in
+    let r = c.requires.constraint.right in
+    let same = content_of-extended (Extends-trans a.extends b.extends) c.requires.table.now in
+    OnOk-map c.record_between.result
+    (λ h. rw (b.extends.kept c.in_ok-left.left a.within, a.tree, b.tree, map-kept c.args.cx.now.nodes c.instantiate_canonical.new.nodes c.args.chosen.now c.requires.chosen a.extends, a.extends.kept c.args.constraint.0.right.node r.within, same) at h) c.record_between.ensures.labels
+
 pub returns-clause-seen : goal.returns-clause-seen
 returns-clause-seen c =
     let a = c.in_ok-left.ensures in

@@ -3,6 +3,7 @@ use Rattle.nts_unify.specs.Lawful.{content_of-extended}
 use Rattle.nts_table.specs.TableLaws.{IsTable-extended}
 use Rattle.nts_evaluation.proofs.Evaluating.{goal_posed, can_fill, instance_term, held_values}
 use Rattle.nts_evaluation.proofs.candidate.Trial.nested_goal.Goals as goal
+use Rattle.nts_evaluation.proofs.Labels.{nested_only}
 
 pub instantiate_both-requires-clause-values : goal.instantiate_both-requires-clause-values
 instantiate_both-requires-clause-values c = held_values c.requires.values
@@ -26,3 +27,6 @@ returns-clause-asks c =
       formed_env = rw e.left.tree at (e.left.formed _ e.left.within);
       formed_predicate = rw e.right.tree at (e.right.formed _ e.right.within);
     }
+
+pub returns-clause-labels : goal.returns-clause-labels
+returns-clause-labels c = nested_only _ c.requires.nested c.requires.values (returns-clause-asks c)
