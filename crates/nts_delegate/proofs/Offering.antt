@@ -1,16 +1,17 @@
 -- What a clause offers is a candidate.
-use Rattle.std.proofs.Common.{◌≡◌, inl, inr, ℕ, zero, suc, ◌+◌, ◌<◌, ◌==◌, ◌||◌, Bool, true, false, cond, if◌then◌else◌, List, [], ◌∷◌, ◌++◌, length, get_or, take, map, Option, Some, None, eqb-true, refl, ap, sym, ◌∙◌, arith}
+use Rattle.std.proofs.Common.{◌≡◌, inl, inr, ℕ, zero, suc, ◌+◌, ◌<◌, ◌==◌, ◌||◌, Bool, true, false, cond, if◌then◌else◌, List, [], ◌∷◌, ◌++◌, length, get_or, take, map, Option, Some, None, eqb-true, refl, ap, sym, ◌∙◌, subst, arith}
 use Rattle.std.specs.List.{filter}
 use Rattle.std.proofs.lemmas.List.{take_more}
 use Rattle.nts_model.specs.declared.labels.Sort.{Sort}
 use Rattle.nts_model.specs.declared.labels.Leaf.{Leaf}
 use Rattle.nts_model.specs.declared.labels.BoundVarIndexKind.TheVariants as index
 use Rattle.nts_model.specs.declared.labels.ClauseHead.TheVariants as clause
+use Rattle.nts_model.specs.declared.labels.ListHead.TheVariants as list
 use Rattle.nts_model.specs.declared.labels.Label.{Label}
 use Rattle.nts_model.specs.declared.labels.Label.TheVariants as label
-use Rattle.nts_model.specs.Trees.{Tree, empty, more, node, children, any_label, is_canonical, row_length, row_at, row_take, IsRow}
+use Rattle.nts_model.specs.Trees.{Tree, empty, more, node, children, any_label, is_canonical, row_length, row_at, row_take, IsRow, IsClosed, IsFormed, kind_of, arguments}
 use Rattle.nts_model.specs.Substitutions.{Occurs}
-use Rattle.nts_model.specs.Related.{pair}
+use Rattle.nts_model.specs.Related.{pair, unbound}
 use Rattle.nts_terms.specs.declared.handles.Goal.{Goal}
 use Rattle.nts_terms.specs.declared.handles.Predicate.{Predicate}
 use Rattle.nts_store.specs.Growth.{tree_at}
@@ -127,9 +128,9 @@ pairs_all ts i us vs qs r s e l p =
     let second : row_take i vs ≡ vs = rw long (row_take-all vs s) in
     rw (first, second) at p
 
-pairs_over : (ts : List Tree) (fresh : List Sort) (g : Goal) (us vs : Tree) (qs : List Equation) → ArePairs ts us vs qs → any_label is_canonical us ≡ false → ((l : Leaf) → Occurs l us → Occurs l (pair (tree_at ts g.param_env.node) (tree_at ts g.predicate.node))) → NamesFresh fresh vs → any_label is_foreign vs ≡ false → AreEquations ts fresh g qs
-pairs_over ts fresh g empty empty [] p n k f o = tt
-pairs_over ts fresh g (more a us) (more b vs) (q ∷ qs) p n k f o =
+pairs_over : (ts : List Tree) (fresh : List Sort) (g : Goal) (us vs : Tree) (qs : List Equation) → ArePairs ts us vs qs → IsClosed us → IsClosed vs → any_label is_canonical us ≡ false → ((l : Leaf) → Occurs l us → Occurs l (pair (tree_at ts g.param_env.node) (tree_at ts g.predicate.node))) → NamesFresh fresh vs → any_label is_foreign vs ≡ false → AreEquations ts fresh g qs
+pairs_over ts fresh g empty empty [] p cu cv n k f o = tt
+pairs_over ts fresh g (more a us) (more b vs) (q ∷ qs) p cu cv n k f o =
     let lacks = both_false (any_label is_canonical a) (any_label is_canonical us) n in
     let own = both_false (any_label is_foreign b) (any_label is_foreign vs) o in (
       record {
@@ -137,13 +138,14 @@ pairs_over ts fresh g (more a us) (more b vs) (q ∷ qs) p n k f o =
           within = p.0.left_in;
           names = rw p.0.left (names_none fresh a lacks.0);
           leaves = λ l x. inl (k l (inl (rw p.0.left at x)));
+          closed = rw p.0.left cu.0;
         };
-        rhs = record { within = p.0.right_in; names = rw p.0.right f.0; leaves = λ l x. inr (leaves_fixed b own.0 l (rw p.0.right at x)) };
+        rhs = record { within = p.0.right_in; names = rw p.0.right f.0; leaves = λ l x. inr (leaves_fixed b own.0 l (rw p.0.right at x)); closed = rw p.0.right cv.0 };
         argument = rw p.0.left p.0.argument;
       },
-      pairs_over ts fresh g us vs qs p.1 lacks.1 (λ l x. k l (inr x)) f.1 own.1,
+      pairs_over ts fresh g us vs qs p.1 cu.1 cv.1 lacks.1 (λ l x. k l (inr x)) f.1 own.1,
     )
-pairs_over ts fresh g us vs qs p n k f o = absurd p
+pairs_over ts fresh g us vs qs p cu cv n k f o = absurd p
 
 -- a goal that handlers are asked has no positions
 positions : {ts : List Tree} {g : Goal} → IsAsked ts g → (any_label is_canonical (tree_at ts g.param_env.node) ≡ false) × (any_label is_canonical (tree_at ts g.predicate.node) ≡ false)
@@ -161,18 +163,57 @@ asked_nested ts fresh g (p ∷ ps) a b = (
   record {
     environment = refl;
     holds = record { env = a.holds.env; predicate = b.0 };
-    env = record { within = a.holds.env.within; names = names_none fresh _ (positions a).0; leaves = λ l x. inl (inl x) };
-    predicate = record { within = b.1.within; names = b.1.names; leaves = λ l x. inr (leaves_fixed _ b.1.own l x) };
+    env = record { within = a.holds.env.within; names = names_none fresh _ (positions a).0; leaves = λ l x. inl (inl x); closed = let asked = a.asked in asked.closed.0 };
+    predicate = record { within = b.1.within; names = b.1.names; leaves = λ l x. inr (leaves_fixed _ b.1.own l x); closed = b.1.closed };
   },
   asked_nested ts fresh g ps a b.2,
 )
 
-pub offer_is_candidate : (ts : List Tree) (g : Goal) (args : Tree) (c : Clause) (d : CandidateData) → IsAsked ts g → HoldsClause ts c → IsPart (tree_at ts g.predicate.node) args → IsOffer ts g args c d → IsCandidate ts g d
-offer_is_candidate ts g args c d a h part o =
+-- a closed list of arguments
+pub record AreClosedArguments (t : Tree) : Type 0 where
+  pub kind : kind_of t ≡ Some arguments
+  pub closed : IsClosed t
+
+-- each of which is closed
+closed_children : (t : Tree) → kind_of t ≡ Some arguments → IsClosed t → IsClosed (children t)
+closed_children empty k h = tt
+closed_children (more a b) k h = tt
+closed_children (node (label.List list.Args) c) k h = h.1
+closed_children (node (label.List list.Env) c) k h = cc
+closed_children (node (label.List list.Sorts) c) k h = cc
+closed_children (node (label.List (list.Sort s)) c) k h = cc
+closed_children (node (label.List list.Binder) c) k h = cc
+closed_children (node (label.Leaf x) c) k h = cc
+closed_children (node (label.Bound s i n) c) k h = cc
+closed_children (node (label.Ty x) c) k h = cc
+closed_children (node (label.Const x) c) k h = cc
+closed_children (node (label.Clause x) c) k h = cc
+closed_children (node (label.Predicate x) c) k h = cc
+
+statement_arguments : (s : Tree) (r : ℕ × Tree) → trait_read s ≡ Some r → IsFormed s → IsClosed s → AreClosedArguments r.1
+statement_arguments (node (label.Clause (clause.Trait i)) (more a b)) r e f h =
+    let is : a ≡ r.1 = ap (λ o. or_empty o) e in
+    subst AreClosedArguments is (record { kind = f.0.0; closed = h.1.0 })
+  where
+    or_empty : Option (ℕ × Tree) → Tree
+    or_empty None = empty
+    or_empty (Some q) = q.1
+statement_arguments s r e f h = cc
+
+-- those of a goal that handlers are asked
+pub goal_arguments : {ts : List Tree} {g : Goal} (r : ℕ × Tree) → IsAsked ts g → trait_of (tree_at ts g.predicate.node) ≡ Some r → AreClosedArguments r.1
+goal_arguments {ts} {g} r a e =
+    let asked = a.asked in
+    let here : trait_read asked.statement ≡ Some r = subst (λ z. trait_of z ≡ Some r) asked.binds_nothing e in
+    let formed : IsFormed (unbound asked.statement) = subst IsFormed asked.binds_nothing asked.formed.1.0 in
+    statement_arguments asked.statement r here formed.1.1.0 asked.closed.1.0
+
+pub offer_is_candidate : (ts : List Tree) (g : Goal) (args : Tree) (c : Clause) (d : CandidateData) → IsAsked ts g → HoldsClause ts c → IsPart (tree_at ts g.predicate.node) args → AreClosedArguments args → IsOffer ts g args c d → IsCandidate ts g d
+offer_is_candidate ts g args c d a h part closed o =
     record {
       hidden = o.hidden;
       accesses = o.accesses;
-      equations = rw o.fresh (pairs_over ts c.fresh.items g (children args) (children (tree_at ts c.head.node)) d.equations.items o.equations (children_lack is_canonical args (part.lacks is_canonical (positions a).1)) (λ l x. inr (inl (part.leaves l (children_leaves l args x)))) (children_named c.fresh.items (tree_at ts c.head.node) h.head.names) (children_lack is_foreign (tree_at ts c.head.node) h.head.own));
+      equations = rw o.fresh (pairs_over ts c.fresh.items g (children args) (children (tree_at ts c.head.node)) d.equations.items o.equations (closed_children args closed.kind closed.closed) (closed_children (tree_at ts c.head.node) (let head = h.head_holds in head.fits) h.head.closed) (children_lack is_canonical args (part.lacks is_canonical (positions a).1)) (λ l x. inr (inl (part.leaves l (children_leaves l args x)))) (children_named c.fresh.items (tree_at ts c.head.node) h.head.names) (children_lack is_foreign (tree_at ts c.head.node) h.head.own));
       constraints = rw o.constraints tt;
       goals = rw (o.fresh, o.goals) (asked_nested ts c.fresh.items g c.body.items a h.body);
     }
@@ -210,11 +251,11 @@ found_none ts g args = record { each = tt; candidates = tt }
 pub taken : (cs : List Clause) (i : ℕ) (c : Clause) → i < length cs → c ≡ get_or cs i c → take (i + 1) cs ≡ take i cs ++ c ∷ []
 taken cs i c l e = take_more cs i c l ∙ ap (λ x. take i cs ++ x ∷ []) (sym e)
 
-pub found_more : (ts : List Tree) (g : Goal) (args : Tree) (cs ls : List Clause) (ds es : List CandidateData) (c : Clause) (d : CandidateData) → AreFound ts g args cs ds → takes ts args c ≡ true → IsAsked ts g → HoldsClause ts c → IsPart (tree_at ts g.predicate.node) args → IsOffer ts g args c d → ls ≡ cs ++ c ∷ [] → es ≡ ds ++ d ∷ [] → AreFound ts g args ls es
-found_more ts g args cs ls ds es c d f t a h p o l e =
+pub found_more : (ts : List Tree) (g : Goal) (args : Tree) (cs ls : List Clause) (ds es : List CandidateData) (c : Clause) (d : CandidateData) → AreFound ts g args cs ds → takes ts args c ≡ true → IsAsked ts g → HoldsClause ts c → IsPart (tree_at ts g.predicate.node) args → AreClosedArguments args → IsOffer ts g args c d → ls ≡ cs ++ c ∷ [] → es ≡ ds ++ d ∷ [] → AreFound ts g args ls es
+found_more ts g args cs ls ds es c d f t a h p closed o l e =
     rw (l, e) (record {
       each = rw (filter_kept (takes ts args) cs c t) (each_push ts g args _ ds c d f.each o);
-      candidates = candidates_push ts g ds d f.candidates (offer_is_candidate ts g args c d a h p o);
+      candidates = candidates_push ts g ds d f.candidates (offer_is_candidate ts g args c d a h p closed o);
     })
 
 pub found_same : (ts : List Tree) (g : Goal) (args : Tree) (cs ls : List Clause) (ds es : List CandidateData) (c : Clause) → AreFound ts g args cs ds → takes ts args c ≡ false → ls ≡ cs ++ c ∷ [] → es ≡ ds → AreFound ts g args ls es

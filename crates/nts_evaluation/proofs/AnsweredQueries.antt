@@ -28,6 +28,7 @@ use Rattle.nts_terms.specs.declared.handles.GenericArg.{GenericArg}
 use Rattle.nts_terms.specs.declared.handles.Goal.{Goal}
 use Rattle.nts_terms.specs.Handles.{HoldsArg}
 use Rattle.nts_unify.specs.Entries.{Entries}
+use Rattle.nts_unify.specs.Changing.{HasClosedSides}
 use Rattle.nts_unify.specs.Reading.{content_of}
 use Rattle.nts_unify.specs.Lawful.{content_of-extended}
 use Rattle.nts_unify.specs.declared.contents.HiddenType.{HiddenType}
@@ -80,6 +81,11 @@ module _ (b d : List Tree) (q p u v : Table) (table : IsTable b q) (same : p.ent
   ended_passes P h k = ⊎_elim
       (λ (e : v.entries ≡ u.entries). subst (λ z. TablePasses P (content_of d z)) (sym e) k)
       (λ (e : v.entries ≡ q.entries). subst (TablePasses P) (sym (ap (content_of d) e ∙ content_of-extended goes.extends table.now)) h) ended
+
+  pub ended_sides : HasClosedSides (content_of b q.entries) → HasClosedSides (content_of d v.entries)
+  ended_sides h = ⊎_elim
+      (λ (e : v.entries ≡ u.entries). subst (λ z. HasClosedSides (content_of d z)) (sym e) (goes.sides (subst (λ z. HasClosedSides (content_of b z)) (sym same) h)))
+      (λ (e : v.entries ≡ q.entries). subst HasClosedSides (sym (ap (content_of d) e ∙ content_of-extended goes.extends table.now)) h) ended
 
   pub ended_universe : v.entries.universe ≡ q.entries.universe
   ended_universe = ⊎_elim

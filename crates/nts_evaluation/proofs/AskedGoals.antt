@@ -38,7 +38,7 @@ use Rattle.nts_canonical.specs.Forms.{form_of, input_of, trees_of}
 use Rattle.nts_canonical.specs.Building.{IsArgOf, kinds_of}
 use Rattle.nts_response.specs.declared.types.Response.{Response}
 use Rattle.nts_response.specs.Forms.{response_at}
-use Rattle.nts_response.specs.Applicable.{IsApplicable, IsApplied}
+use Rattle.nts_response.specs.Applicable.{ShowsConstraints, IsApplicable, IsApplied}
 use Rattle.nts_evaluation.specs.Asking.{Refuses, Asks, RefusesAsked, IsInputFor, first_table, asked_environment, asked_predicate}
 use Rattle.nts_evaluation.specs.Refuting.{IsQueryRefuted}
 use Rattle.nts_evaluation.specs.Running.{Stays}
@@ -115,7 +115,7 @@ applied_at {a} {d} {e} {x} {y} {os} {r} same h =
       held = h.held;
       known = h.known;
       shares = rw same at h.shares;
-      shows = rw same at h.shows;
+      shows = subst (λ (z : Content). ShowsConstraints z.constraints (let c = content_of e y in c.constraints) r false) same h.shows;
     }
 
 -- a goal of the table t in the store a, its query q in the store b, and the query's answer r in the store d

@@ -6,7 +6,7 @@ use Rattle.nts_model.specs.Equations.{AreRelated}
 use Rattle.nts_model.specs.declared.labels.Sort.{Sort}
 use Rattle.nts_model.specs.declared.labels.Relation.TheVariants as relation
 use Rattle.nts_model.specs.declared.labels.Label.{Label}
-use Rattle.nts_model.specs.Trees.{Tree, empty, more, node, kind_of, kind_of_label, of_sort, NodeKind, environment, bound_predicate}
+use Rattle.nts_model.specs.Trees.{Tree, empty, more, node, kind_of, kind_of_label, of_sort, NodeKind, environment, bound_predicate, IsClosed}
 use Rattle.nts_model.specs.Contents.{Content, with_slot, kind_at}
 use Rattle.nts_model.specs.Resolving.{Knows, variable_tree, deeply_resolved}
 use Rattle.nts_store.specs.declared.nodes.NodeId.{NodeId}
@@ -43,6 +43,8 @@ use Rattle.nts_table.specs.Tables.{IsTable}
 use Rattle.nts_unify.specs.Lawful.{content_of-extended, content_of-constrained, content_of-added}
 use Rattle.nts_table.specs.TableLaws.{IsTable-extended, IsTable-opened, IsTable-constrained}
 use Rattle.nts_unify.specs.Proper.{outlives_sides}
+use Rattle.nts_unify.specs.Changing.{HasClosedSides, IsLater}
+use Rattle.nts_unify.proofs.Keeping.{closed_later, closed_same, closed_constrained}
 use Rattle.nts_table.specs.Fresh.{variable_kind, with_fresh, fresh_row}
 use Rattle.nts_table.specs.Making.{new_variable}
 use Rattle.nts_unify.specs.declared.contents.Variable.{Variable}
@@ -71,6 +73,7 @@ Goes-trans {a} {b} {c} {t} {u} {v} g h =
       mode = h.mode ∙ g.mode;
       universe = h.universe ∙ g.universe;
       hidden = h.hidden ∙ g.hidden;
+      sides = λ k. h.sides (g.sides k);
     }
 
 -- a store that grows beside the table
@@ -86,6 +89,7 @@ Goes-extends {a} {b} {t} h e =
       mode = refl;
       universe = refl;
       hidden = refl;
+      sides = λ k. rw same k;
     }
 
 -- what the table knew it knows
@@ -139,6 +143,7 @@ IsOver-extended {a} {b} {fresh} {g} {x} e p h =
       within = IsIn-extended e x h.within;
       names = rw same h.names;
       leaves = λ l i. rw (env, predicate) (h.leaves l (rw same at i));
+      closed = rw same h.closed;
     }
 
 -- values of the sorts of the fresh variables serve every position
@@ -335,6 +340,14 @@ pub record GaveFresh (a b : List Tree) (t u : Table) (fresh : List Sort) (vs : L
   pub goes : Goes a b t u
   pub values : AreValues b u fresh vs
 
+constraints-with_fresh : (e : Entries) (ss : List Sort) → (with_fresh e ss).constraints ≡ e.constraints
+constraints-with_fresh e [] = refl
+constraints-with_fresh e (s ∷ ss) = constraints-with_fresh (added e (new_variable e (variable_kind s))) ss
+
+-- new variables record nothing
+closed_fresh : (ts : List Tree) (e : Entries) (ss : List Sort) → HasClosedSides (content_of ts e) → HasClosedSides (content_of ts (with_fresh e ss))
+closed_fresh ts e ss h = closed_same (ap (map (recorded_of ts)) (constraints-with_fresh e ss)) h
+
 pub gave_fresh : {a b : List Tree} {t u : Table} (fresh : List Sort) (vs : List NodeId) → IsTable a t → Extends a b → IsTable b u → u.entries ≡ with_fresh t.entries fresh → u.saved ≡ t.saved → u.mode ≡ t.mode → AllIn b vs → trees_at b vs ≡ fresh_row (length t.entries.variables) fresh → GaveFresh a b t u fresh vs
 gave_fresh {a} {b} {t} {u} fresh vs h e k q s m w r =
     let same = content_of-extended e h.now in
@@ -349,6 +362,7 @@ gave_fresh {a} {b} {t} {u} fresh vs h e k q s m w r =
         mode = m;
         universe = ap (λ (z : Entries). z.universe) q ∙ universe-with_fresh t.entries fresh;
         hidden = ap (λ (z : Entries). z.hidden) q ∙ hidden-with_fresh t.entries fresh;
+        sides = rw (q, ← same) (closed_fresh b t.entries fresh);
       };
       values = record {
         within = w;
@@ -391,8 +405,8 @@ offers-kept {a} {b} {g} h mode e p =
     ap (λ x. h.offers mode x (tree_at b g.predicate.node)) (e.kept g.param_env.node p.env.within) ∙ ap (h.offers mode (tree_at a g.param_env.node)) (e.kept g.predicate.node p.predicate.within)
 
 -- a call on the store and the table
-pub goes : {a b : List Tree} {t u : Table} → IsTable a t → Extends a b → IsTable b u → Continues (content_of a t.entries) (content_of b u.entries) → u.saved ≡ t.saved → u.mode ≡ t.mode → u.entries.universe ≡ t.entries.universe → u.entries.hidden ≡ t.entries.hidden → Goes a b t u
-goes {a} {b} {t} {u} w e h n s m v d = record { sound = w.now.sound; continues = n; extends = e; table = h; saved = s; mode = m; universe = v; hidden = d }
+pub goes : {a b : List Tree} {t u : Table} → IsTable a t → Extends a b → IsTable b u → Continues (content_of a t.entries) (content_of b u.entries) → u.saved ≡ t.saved → u.mode ≡ t.mode → u.entries.universe ≡ t.entries.universe → u.entries.hidden ≡ t.entries.hidden → (HasClosedSides (content_of a t.entries) → HasClosedSides (content_of b u.entries)) → Goes a b t u
+goes {a} {b} {t} {u} w e h n s m v d k = record { sound = w.now.sound; continues = n; extends = e; table = h; saved = s; mode = m; universe = v; hidden = d; sides = k }
 
 pub kind-kept : {a b : List Tree} {x : NodeId} → Extends a b → IsIn a x → kind_of (tree_at b x) ≡ kind_of (tree_at a x)
 kind-kept {a} {b} {x} e w = ap kind_of (e.kept x w)
@@ -407,8 +421,8 @@ IsPosed-opened {a} {t} {u} {g} p e s =
     }
 
 -- a constraint whose sides are terms of the table
-pub goes-constrained : {a : List Tree} {t u : Table} (x : Constraint) → IsTable a t → IsTermOf a t x.left → IsTermOf a t x.right → kind_of (tree_at a x.left) ≡ Some (left_kind x.relation) → kind_of (tree_at a x.right) ≡ Some (of_sort sort.Region) → (x.relation ≡ relation.Equal → ⊥) → u.entries ≡ constrained t.entries x → u.saved ≡ t.saved → u.mode ≡ t.mode → Goes a a t u
-goes-constrained {a} {t} {u} x h l r k j n e s m =
+pub goes-constrained : {a : List Tree} {t u : Table} (x : Constraint) → IsTable a t → IsTermOf a t x.left → IsTermOf a t x.right → kind_of (tree_at a x.left) ≡ Some (left_kind x.relation) → kind_of (tree_at a x.right) ≡ Some (of_sort sort.Region) → (x.relation ≡ relation.Equal → ⊥) → IsClosed (tree_at a x.left) → IsClosed (tree_at a x.right) → u.entries ≡ constrained t.entries x → u.saved ≡ t.saved → u.mode ≡ t.mode → Goes a a t u
+goes-constrained {a} {t} {u} x h l r k j n cl cr e s m =
     let is : IsConstraint a (content_of a t.entries) x = record {
       left_in = l.within;
       right_in = r.within;
@@ -428,28 +442,29 @@ goes-constrained {a} {t} {u} x h l r k j n e s m =
       mode = m;
       universe = ap (λ (z : Entries). z.universe) e;
       hidden = ap (λ (z : Entries). z.hidden) e;
+      sides = rw (e, same) (closed_constrained (content_of a t.entries) (recorded_of a x) cl cr);
     }
 
 -- .. that is recorded unless its sides are one tree
 same_table : {t u : Table} → u.entries ≡ t.entries → u.saved ≡ t.saved → u.mode ≡ t.mode → u ≡ t
 same_table e s m = λ i. record { entries = e i; saved = s i; mode = m i }
 
-goes-recorded : {a : List Tree} {t u : Table} (x : Constraint) → IsTable a t → IsTermOf a t x.left → IsTermOf a t x.right → kind_of (tree_at a x.left) ≡ Some (left_kind x.relation) → kind_of (tree_at a x.right) ≡ Some (of_sort sort.Region) → (x.relation ≡ relation.Equal → ⊥) → Records a t.entries u.entries x → u.saved ≡ t.saved → u.mode ≡ t.mode → Goes a a t u
-goes-recorded x h l r k j n (inl e) s m = rw (same_table e.1 s m) (Goes-extends h (Extends-refl _))
-goes-recorded x h l r k j n (inr e) s m = goes-constrained x h l r k j n e.1 s m
+goes-recorded : {a : List Tree} {t u : Table} (x : Constraint) → IsTable a t → IsTermOf a t x.left → IsTermOf a t x.right → kind_of (tree_at a x.left) ≡ Some (left_kind x.relation) → kind_of (tree_at a x.right) ≡ Some (of_sort sort.Region) → (x.relation ≡ relation.Equal → ⊥) → IsClosed (tree_at a x.left) → IsClosed (tree_at a x.right) → Records a t.entries u.entries x → u.saved ≡ t.saved → u.mode ≡ t.mode → Goes a a t u
+goes-recorded x h l r k j n cl cr (inl e) s m = rw (same_table e.1 s m) (Goes-extends h (Extends-refl _))
+goes-recorded x h l r k j n cl cr (inr e) s m = goes-constrained x h l r k j n cl cr e.1 s m
 
-pub recorded_goes : {a : List Tree} {t u : Table} {E : Type 0} (x : Constraint) (o : Result (Unit {0}) E) → IsTable a t → IsTermOf a t x.left → IsTermOf a t x.right → kind_of (tree_at a x.left) ≡ Some (left_kind x.relation) → kind_of (tree_at a x.right) ≡ Some (of_sort sort.Region) → (x.relation ≡ relation.Equal → ⊥) → OnOk o (Records a t.entries u.entries x) → u.saved ≡ t.saved → u.mode ≡ t.mode → OnErr o (u ≡ t) → Goes a a t u
-recorded_goes x (Ok z) h l r k j n e s m q = goes-recorded x h l r k j n e s m
-recorded_goes x (Err z) h l r k j n e s m q = rw q (Goes-extends h (Extends-refl _))
+pub recorded_goes : {a : List Tree} {t u : Table} {E : Type 0} (x : Constraint) (o : Result (Unit {0}) E) → IsTable a t → IsTermOf a t x.left → IsTermOf a t x.right → kind_of (tree_at a x.left) ≡ Some (left_kind x.relation) → kind_of (tree_at a x.right) ≡ Some (of_sort sort.Region) → (x.relation ≡ relation.Equal → ⊥) → IsClosed (tree_at a x.left) → IsClosed (tree_at a x.right) → OnOk o (Records a t.entries u.entries x) → u.saved ≡ t.saved → u.mode ≡ t.mode → OnErr o (u ≡ t) → Goes a a t u
+recorded_goes x (Ok z) h l r k j n cl cr e s m q = goes-recorded x h l r k j n cl cr e s m
+recorded_goes x (Err z) h l r k j n cl cr e s m q = rw q (Goes-extends h (Extends-refl _))
 
 -- all was undone
 pub goes-back : {a b : List Tree} {t u : Table} → IsTable a t → Extends a b → u ≡ t → Goes a b t u
 goes-back {a} {b} {t} {u} h e q = rw q (Goes-extends h e)
 
 -- .. that makes two trees equal, or leaves the table
-pub related_goes : {a b : List Tree} {t u : Table} {E : Type 0} (x y : Tree) (r : Result (Unit {0}) E) → IsTable a t → Extends a b → IsTable b u → u.saved ≡ t.saved → u.mode ≡ t.mode → u.entries.universe ≡ t.entries.universe → u.entries.hidden ≡ t.entries.hidden → OnOk r (AreRelated (content_of a t.entries) (content_of b u.entries) x y) → OnErr r (u ≡ t) → Goes a b t u
-related_goes x y (Ok z) w e h s m v d n q = goes w e h n.continues s m v d
-related_goes x y (Err z) w e h s m v d n q = goes-back w e q
+pub related_goes : {a b : List Tree} {t u : Table} {E : Type 0} (x y : Tree) (r : Result (Unit {0}) E) → IsTable a t → Extends a b → IsTable b u → u.saved ≡ t.saved → u.mode ≡ t.mode → u.entries.universe ≡ t.entries.universe → u.entries.hidden ≡ t.entries.hidden → OnOk r (AreRelated (content_of a t.entries) (content_of b u.entries) x y) → OnErr r (u ≡ t) → IsLater (content_of a t.entries) (content_of b u.entries) → Goes a b t u
+related_goes x y (Ok z) w e h s m v d n q l = goes w e h n.continues s m v d (λ k. closed_later l k)
+related_goes x y (Err z) w e h s m v d n q l = goes-back w e q
 
 -- after a snapshot, a step, and its rollback the table is as it was
 pub rolled_back : {a b : List Tree} {t s u v : Table} → s.saved ≡ t.saved ++ t.entries ∷ [] → Goes a b s u → u.saved ≡ v.saved ++ v.entries ∷ [] → s.mode ≡ t.mode → v.mode ≡ u.mode → v ≡ t
@@ -471,6 +486,7 @@ ended {a} {b} {t} {s} {u} {v} (Ok x) same opened h step kept undone closed first
       mode = last ∙ step.mode ∙ first;
       universe = ap (λ (z : Entries). z.universe) kept ∙ step.universe ∙ ap (λ (z : Entries). z.universe) same;
       hidden = ap (λ (z : Entries). z.hidden) kept ∙ step.hidden ∙ ap (λ (z : Entries). z.hidden) same;
+      sides = rw kept (rw same at step.sides);
     }
 ended {a} {b} {t} {s} {u} {v} (Err x) same opened h step kept undone closed first last =
     goes-back h step.extends (rolled_back opened step undone first last)
@@ -488,6 +504,7 @@ committed {a} {b} {t} {s} {u} {v} e same opened h step kept closed first last =
       mode = last ∙ step.mode ∙ first;
       universe = ap (λ (z : Entries). z.universe) kept ∙ step.universe ∙ ap (λ (z : Entries). z.universe) same;
       hidden = ap (λ (z : Entries). z.hidden) kept ∙ step.hidden ∙ ap (λ (z : Entries). z.hidden) same;
+      sides = rw kept (rw same at step.sides);
     }
 
 pub candidate_at : (ts : List Tree) (g : Goal) (cs : List CandidateData) (k : ℕ) (d : CandidateData) → AreCandidates ts g cs → k < length cs → IsCandidate ts g (get_or cs k d)

@@ -38,7 +38,8 @@ use Rattle.nts_response.specs.Forms.{response_at, HoldsResponse}
 use Rattle.nts_response.specs.Applicable.{left_place, IsApplicable}
 use Rattle.nts_response.proofs.Answered.{table_places, answered_applicable}
 use Rattle.nts_evaluation.specs.Asking.{first_values, without_constraints, IsResponseOf}
-use Rattle.nts_evaluation.specs.Answering.{told_in, HasClosedConstraints, IsAnswerTo}
+use Rattle.nts_unify.specs.Changing.{HasClosedSides}
+use Rattle.nts_evaluation.specs.Answering.{told_in, IsAnswerTo}
 use Rattle.nts_evaluation.proofs.Running.{term_table}
 use Rattle.nts_evaluation.proofs.QueryTables.{labels_in, values_pass, value_formed}
 
@@ -48,6 +49,7 @@ record IsRootTable (ks : List PositionKind) (c : Content) : Type 0 where
   pub places : (y : Recorded) → Contains c.constraints y → FitsPlace (left_place y.relation) (kind_of y.left)
   pub current : AreCurrent c
   pub root : c.universe ≡ 0
+  pub sides : HasClosedSides c
 
 -- .. is one without its region constraints
 states_without : (c : Content) → SameStates c (without_constraints c)
@@ -76,6 +78,7 @@ root_without ks c h =
       places = λ y i. absurd (contains_none y i);
       current = record { universes = u.universes };
       root = h.root;
+      sides = record { left = λ x i. absurd (contains_none x i); right = λ x i. absurd (contains_none x i) };
     }
 
 root_told : (ks : List PositionKind) (c : Content) (x : Certainty) → IsRootTable ks c → IsRootTable ks (told_in x c)
@@ -139,7 +142,7 @@ low_greatest m (k ∷ ks) h = max-le (h k (contains_first k ks)) (low_greatest m
 
 -- what such a table answers
 module _ (e : List Tree) (ks : List PositionKind) (q : Content) (r : Canonical Response) (h : IsRootTable ks q) (says : IsResponseOf q (first_values ks) (response_at e r))
-    (holds : HoldsResponse e r.value) (closed : HasClosedConstraints e r) (no_hidden : r.value.external_constraints.opaque_types.items ≡ []) (no_goals : r.value.external_constraints.normalization_nested_goals.items ≡ []) where
+    (holds : HoldsResponse e r.value) (no_hidden : r.value.external_constraints.opaque_types.items ≡ []) (no_goals : r.value.external_constraints.normalization_nested_goals.items ≡ []) where
   abbrev found : Findings
   found = says.findings
 
@@ -180,7 +183,7 @@ module _ (e : List Tree) (ks : List PositionKind) (q : Content) (r : Canonical R
   applicable_to i same =
       let long : length (first_values ks) ≡ length (originals i) = many_values ks 0 ∙ sym (ap length same) ∙ length-map (originals i) (position_kind i.sub_root (originals i)) in
       answered_applicable e i q (first_values ks) says.roots found r (subst (λ z. IsQueryTable z q (first_values ks)) (sym same) h.table) says.reads says.no_hidden says.no_goals
-      (value_closed ks 0) h.places closed holds says.is long
+      (value_closed ks 0) h.places h.sides holds says.is long
 
   found_answers : IsAnswerTo e ks r
   found_answers =
@@ -192,9 +195,9 @@ module _ (e : List Tree) (ks : List PositionKind) (q : Content) (r : Canonical R
       }
 
 pub answer_to : {b e : List Tree} {u : Table} (ks : List PositionKind) (x : Certainty) (r : Canonical Response) → AreFormed b → IsTable b u → u.entries.universe ≡ 0 → AreInputKinds ks → AllPass (IsLabelIn ks) (content_of b u.entries)
-    → ((t : Tree) → Among (first_values ks) t → Knows (content_of b u.entries) t) → IsResponseOf (told_in x (content_of b u.entries)) (first_values ks) (response_at e r) → HoldsResponse e r.value → HasClosedConstraints e r
+    → ((t : Tree) → Among (first_values ks) t → Knows (content_of b u.entries) t) → IsResponseOf (told_in x (content_of b u.entries)) (first_values ks) (response_at e r) → HoldsResponse e r.value → HasClosedSides (content_of b u.entries)
     → r.value.external_constraints.opaque_types.items ≡ [] → r.value.external_constraints.normalization_nested_goals.items ≡ [] → IsAnswerTo e ks r
-answer_to {b} {e} {u} ks x r formed table root kinds labels known says holds closed no_hidden no_goals =
+answer_to {b} {e} {u} ks x r formed table root kinds labels known says holds sides no_hidden no_goals =
     let c = content_of b u.entries in
     let terms = term_table formed table in
     let now : IsRootTable ks c = record {
@@ -208,5 +211,6 @@ answer_to {b} {e} {u} ks x r formed table root kinds labels known says holds clo
       places = table_places table;
       current = table.now.proper.current;
       root = root;
+      sides = sides;
     } in
-    found_answers e ks (told_in x c) r (root_told ks c x now) says holds closed no_hidden no_goals
+    found_answers e ks (told_in x c) r (root_told ks c x now) says holds no_hidden no_goals

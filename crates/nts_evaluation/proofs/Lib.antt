@@ -6,6 +6,7 @@ pub mod Evaluating
 pub mod Queried
 pub mod QueryTables
 pub mod Labels
+pub mod Sides
 pub mod Running
 pub mod Trying
 pub mod Forcing

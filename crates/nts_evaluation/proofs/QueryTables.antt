@@ -26,6 +26,7 @@ use Rattle.nts_model.proofs.ProvedLater.{contains_none}
 use Rattle.nts_model.proofs.Bringing.{passes-filled}
 use Rattle.nts_unify.specs.declared.contents.Variable.{Variable}
 use Rattle.nts_unify.specs.declared.contents.HiddenType.{HiddenType}
+use Rattle.nts_unify.specs.Changing.{HasClosedSides}
 use Rattle.nts_unify.specs.Reading.{content_of, slot_of}
 use Rattle.nts_canonical.specs.Kinds.{AreInputKinds, IsInputKind, kind_of_position, count_of, value_leaf, value_leaves, made_variable, made_variables}
 use Rattle.nts_canonical.specs.Building.{made_entries}
@@ -276,3 +277,7 @@ pub value_formed : (ks : List PositionKind) (n : ℕ) (v : Tree) → Among (map 
 value_formed [] n v m = absurd m
 value_formed (k ∷ ks) n v (inl e) = rw e (tt, tt)
 value_formed (k ∷ ks) n v (inr m) = value_formed ks (n + count_of (kind_of_position k)) v m
+
+-- it has recorded nothing
+pub first_sides : (ks : List PositionKind) → HasClosedSides (first_table ks)
+first_sides ks = record { left = λ x i. absurd (contains_none x i); right = λ x i. absurd (contains_none x i) }

@@ -47,7 +47,7 @@ use Rattle.nts_response.specs.Forms.{recorded_at, premise_at, findings_at, respo
 use Rattle.nts_response.proofs.Each.{same_views, values_kept}
 use Rattle.nts_response.specs.Replacing.{ReplacesEach, value_at}
 use Rattle.nts_evaluation.specs.Asking.{IsResponseOf, without_constraints}
-use Rattle.nts_evaluation.specs.Answering.{told_in, AreTold, KnowsSides, HasClosedConstraints}
+use Rattle.nts_evaluation.specs.Answering.{told_in, AreTold, KnowsSides}
 
 -- an argument of a table is a term of it while the store grows
 pub term_of_arg : {a b : List Tree} {t : Table} {x : GenericArg} → IsTable a t → Extends a b → IsArgOf a t.entries x → IsTermOf b t x.node
@@ -263,30 +263,3 @@ answers_told a b d e q root qs x r h up more args values t hidden goals is =
     let views = same_views HoldsArg value_at values_kept b d x.var_values.items (λ j y l. (args j y l).holds) more ∙ values in
     let all : AreTold (told_in q (content_of a e)) (map (recorded_at d) x.external_constraints.region_constraints.items) = subst (λ c. AreTold (told_in q c) (map (recorded_at d) x.external_constraints.region_constraints.items)) first t in
     response_told q (content_of a e) root qs (findings_at d x) r views all (ap (map (hidden_of d)) hidden) (ap (map (premise_at d)) goals) (is ∙ ap (λ c. response_of c root 0 (findings_at d x)) second)
-
--- a response that is told without constraints has none
-no_elements : (xs : List Recorded) → ((y : Recorded) → Contains xs y → ⊥) → xs ≡ []
-no_elements [] h = refl
-no_elements (y ∷ ys) h = absurd (h y (contains_first y ys))
-
-none_below : {X Y : Type 0} (f : X → Y) (xs : List X) → map f xs ≡ [] → (k : ℕ) → k < length xs → ⊥
-none_below f [] e k l = omega (arith, l)
-none_below f (x ∷ xs) e k l = cc
-
-pub closed_untold : (ts : List Tree) (c : Content) (qs : List Tree) (r : Canonical Response) → IsResponseOf (without_constraints c) qs (response_at ts r) → HasClosedConstraints ts r
-closed_untold ts c qs r w =
-    let x = w.findings in
-    let nothing : x.constraints ≡ [] = no_elements x.constraints (λ y i. contains_none (w.reads.found y i).0 (w.reads.found y i).1) in
-    let told : map (recorded_at ts) r.value.external_constraints.region_constraints.items ≡ [] =
-    ap (λ (z : Form). let f = z.findings in f.constraints) w.is ∙ ap (map (recorded_by (positioned (own_leaves x)))) nothing in
-    λ k d l. absurd (none_below (recorded_at ts) r.value.external_constraints.region_constraints.items told k l)
-
--- a response that was made later says the same of the table as it was
-pub told_before : (a b d : List Tree) (e : Entries) (q : Certainty) (vs : List GenericArg) (r : Canonical Response) → content_of b e ≡ content_of a e → trees_of b vs ≡ trees_of a vs → r.value.certainty ≡ q
-    → IsResponseOf (told_in q (content_of b e)) (trees_of b vs) (response_at d r) → IsResponseOf (told_in r.value.certainty (content_of a e)) (trees_of a vs) (response_at d r)
-told_before a b d e q vs r same trees k w = rw k (rw (same, trees) at w)
-
--- where the answer is no yes, no bound variable escapes in what is told
-pub closed_unsure : (ts : List Tree) (c : Content) (qs : List Tree) (r : Canonical Response) (q : Certainty) → q ≢ certainty.Yes → IsResponseOf (told_in q c) qs (response_at ts r) → HasClosedConstraints ts r
-closed_unsure ts c qs r certainty.Yes n w = absurd (n refl)
-closed_unsure ts c qs r (certainty.Maybe i) n w = closed_untold ts c qs r w

@@ -69,10 +69,6 @@ pub record IsOfRoot (r : Canonical Response) : Type 0 where
   pub no_hidden : r.value.external_constraints.opaque_types.items ≡ []
   pub no_goals : r.value.external_constraints.normalization_nested_goals.items ≡ []
 
--- in its region constraints no bound variable escapes
-abbrev pub HasClosedConstraints : List Tree → Canonical Response → Type 0
-HasClosedConstraints ts r = All (λ x. IsClosed (tree_at ts x.0.left.node) × IsClosed (tree_at ts x.0.right.node)) r.value.external_constraints.region_constraints.items
-
 -- a response to an input of these kinds, which can be applied to the leaves of each such input
 pub record IsAnswerTo (ts : List Tree) (ks : List PositionKind) (r : Canonical Response) : Type 0 where
   pub holds : HoldsResponse ts r.value

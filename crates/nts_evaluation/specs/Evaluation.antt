@@ -22,12 +22,14 @@ use Rattle.nts_store.specs.Growth.{tree_at, AllIn, Extends}
 use Rattle.nts_terms.specs.Rest.{KeepsRest}
 use Rattle.nts_table.specs.Tables.{Table}
 use Rattle.nts_unify.specs.Reading.{content_of}
+use Rattle.nts_unify.specs.Changing.{HasClosedSides}
 use Rattle.nts_table.specs.Tables.{IsTable}
 use Rattle.nts_delegate.specs.Candidates.{KnowsGoal}
 use Rattle.nts_terms.specs.Handles.{HoldsGoal}
 
--- the store and the table later on: terms keep their trees, the table is a later one and has all that it had, the snapshots that were open are open, and the mode, the current universe and the hidden types are the
--- same
+-- the store and the table later on: terms keep their trees, the table is a later one and has all that it had, the snapshots
+-- that were open are open, the mode, the current universe and the hidden types are the same, and what was recorded since is
+-- between closed terms
 pub record Goes (ts us : List Tree) (t u : Table) : Type 0 where
   pub sound : IsSound (content_of ts t.entries)
   pub extends : Extends ts us
@@ -37,6 +39,7 @@ pub record Goes (ts us : List Tree) (t u : Table) : Type 0 where
   pub mode : u.mode ≡ t.mode
   pub universe : u.entries.universe ≡ t.entries.universe
   pub hidden : u.entries.hidden ≡ t.entries.hidden
+  pub sides : HasClosedSides (content_of ts t.entries) → HasClosedSides (content_of us u.entries)
 
 -- .. and what else the store keeps is the same
 pub record Runs (a b : Cx) (t u : Table) : Type 0 where

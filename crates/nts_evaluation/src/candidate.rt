@@ -2,7 +2,7 @@
 ghost use Rattle.std.specs.Prelude.{◌≡◌, ◌≢◌, ◌↔◌, true, List, map, IsTrue, IfOk, OnOk, IsOkUnless};
 ghost use Rattle.nts_model.specs.declared.labels.Sort.TheVariants as sort;
 ghost use Rattle.nts_model.specs.declared.labels.Relation.TheVariants as relations;
-ghost use Rattle.nts_model.specs.Trees.{kind_of, of_sort};
+ghost use Rattle.nts_model.specs.Trees.{kind_of, of_sort, IsClosed};
 ghost use Rattle.nts_store.specs.Growth.{tree_at, IsIn, Extends};
 ghost use Rattle.nts_store.specs.Formed.{AreFormed};
 ghost use Rattle.nts_unify.specs.Reading.{content_of, left_kind};
@@ -374,6 +374,8 @@ fn record_outlives(
     requires left_sort { kind_of (tree_at cx.now.nodes left) ≡ Some (left_kind relation) }
     requires right_sort { kind_of (tree_at cx.now.nodes right) ≡ Some (of_sort sort.Region) }
     requires outlives { relation ≢ relations.Equal }
+    requires left_closed { IsClosed (tree_at cx.now.nodes left) }
+    requires right_closed { IsClosed (tree_at cx.now.nodes right) }
     ensures goes { Goes cx.now.nodes cx.now.nodes table.old table.new }
     ensures held { OnOk result (Stays (content_of cx.now.nodes table.new.entries)
         (HoldsOutlives relation (tree_at cx.now.nodes left) (tree_at cx.now.nodes right))) }

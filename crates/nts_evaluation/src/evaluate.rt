@@ -24,7 +24,7 @@ ghost use Rattle.nts_terms.specs.Rest.{Grows};
 
 use crate::candidate::{Trial, candidate_holds, equate, record_constraints, terms_are_formed};
 use crate::query::{end_query, query_of};
-use crate::response::{apply_answer, closed_response};
+use crate::response::{apply_answer, make_response};
 use nts_canonical::{CanonicalInput, build_with_canonical};
 use nts_certainty::{Certainty, HasChanged};
 use nts_delegate::{CandidateData, CandidateGoal, GoalHandler};
@@ -149,7 +149,7 @@ fn evaluate_query<H: GoalHandler>(
     let answer = compute_goal(&mut table, cx, handler, query.goal, depth)?;
     end_query(&mut table, snapshot, answer.certainty);
     terms_are_formed(cx);
-    let response = closed_response(&table, cx, &values, answer.certainty)?;
+    let response = make_response(&table, cx, &values, answer.certainty)?;
     Ok(QueryAnswer {
         response,
         has_overflowed: answer.has_overflowed,

@@ -1,10 +1,9 @@
 //! What a query's table answers, and what a response changes.
-ghost use Rattle.std.specs.Prelude.{◌≡◌, ◌≢◌, ◌↔◌, IsTrue, false, List, [], map, All, IfOk, OnOk, OnErr, IsOkUnless};
+ghost use Rattle.std.specs.Prelude.{◌≡◌, ◌≢◌, ◌↔◌, false, List, [], map, All, IfOk, OnOk, OnErr, IsOkUnless};
 ghost use Rattle.nts_model.specs.Trees.{Tree, IsClosed};
 ghost use Rattle.nts_model.specs.Passing.{BringsOnly};
 ghost use Rattle.nts_model.specs.Responses.{RefusesResponse, IsIdentity};
 ghost use Rattle.nts_certainty.specs.declared.sources.HasChanged.TheVariants as changes;
-ghost use Rattle.nts_certainty.specs.declared.certainty.Certainty.TheVariants as certainties;
 ghost use Rattle.nts_evaluation.specs.Evaluation.{Runs};
 ghost use Rattle.nts_response.specs.Applicable.{IsApplicable, IsApplied};
 ghost use Rattle.nts_model.specs.Resolving.{deeply_resolved};
@@ -17,7 +16,7 @@ ghost use Rattle.nts_canonical.specs.Forms.{trees_of};
 ghost use Rattle.nts_canonical.specs.Building.{IsArgOf};
 ghost use Rattle.nts_response.specs.Forms.{response_at, recorded_at, HoldsResponse, HoldsConstraint};
 ghost use Rattle.nts_evaluation.specs.Asking.{IsResponseOf};
-ghost use Rattle.nts_evaluation.specs.Answering.{told_in, AreTold, KnowsSides, IsOfRoot, HasClosedConstraints};
+ghost use Rattle.nts_evaluation.specs.Answering.{told_in, AreTold, KnowsSides, IsOfRoot};
 
 use crate::candidate::{resolve_term, terms_are_formed};
 use crate::evaluate::{Evaluated, QueryAnswer};
@@ -114,50 +113,6 @@ pub fn make_response(
         external_constraints,
     };
     canonicalize_response(table, cx, 0, value)
-}
-
-/// The response of a query's table, of whose region constraints no side has a bound variable that escapes. Candidates ask for none
-/// that has; should one, the answer is ambiguous.
-#[inline(never)]
-pub fn closed_response(
-    table: &InferCtxt,
-    cx: &mut Cx,
-    values: &[GenericArg],
-    certainty: Certainty,
-) -> Result<CanonicalResponse, Fault>
-    requires table { IsTable cx.old.nodes table.now }
-    requires values { All (IsArgOf cx.old.nodes table.now.entries) values.now }
-    ensures says { IfOk result (λ r. IsResponseOf (told_in r.value.certainty (content_of cx.old.nodes table.now.entries)) (trees_of cx.old.nodes values.now) (response_at cx.new.nodes r)) }
-    ensures yes { IfOk result (λ r. r.value.certainty ≡ certainties.Yes → certainty ≡ certainties.Yes) }
-    ensures kept { certainty ≢ certainties.Yes → IfOk result (λ r. r.value.certainty ≡ certainty) }
-    ensures closed { IfOk result (λ r. HasClosedConstraints cx.new.nodes r) }
-    ensures holds { IfOk result (λ r. HoldsResponse cx.new.nodes r.value) }
-    ensures nothing { IfOk result (λ r. (r.value.external_constraints.opaque_types.items ≡ []) × (r.value.external_constraints.normalization_nested_goals.items ≡ [])) }
-    ensures grows { Grows cx.old cx.new }
-    ensures memory { IsOkUnless result Fault.Memory }
-{
-    let response = make_response(table, cx, values, certainty)?;
-    if has_closed_constraints(cx, &response) {
-        return Ok(response);
-    }
-    make_response(table, cx, values, Certainty::AMBIGUOUS)
-}
-
-/// Whether no bound variable escapes in a region constraint of a response.
-fn has_closed_constraints(cx: &Cx, response: &CanonicalResponse) -> bool
-    requires { HoldsResponse cx.now.nodes response.now.value }
-    ensures { IsTrue result ↔ HasClosedConstraints cx.now.nodes response.now }
-{
-    let constraints = &response.value.external_constraints.region_constraints;
-    for i in 0..constraints.len() {
-        let (constraint, _) = constraints[i];
-        if cx.has_escaping_bound_vars(constraint.left)
-            || cx.has_escaping_bound_vars(constraint.right)
-        {
-            return false;
-        }
-    }
-    true
 }
 
 /// Values with their variables replaced by what the table knows of them.

@@ -14,7 +14,7 @@ use Rattle.nts_model.specs.declared.labels.Label.{Label}
 use Rattle.nts_model.specs.declared.labels.Label.TheVariants as label
 use Rattle.nts_model.specs.Trees.{Tree, empty, more, node, any_label, is_canonical, kind_of, kind_of_label, sort_of_leaf, IsClosed}
 use Rattle.nts_model.specs.Contents.{Content}
-use Rattle.nts_model.specs.Substitutions.{leaf_tree, put, replace, Occurs}
+use Rattle.nts_model.specs.Substitutions.{put, replace, Occurs}
 use Rattle.nts_model.specs.Sequents.{Among}
 use Rattle.nts_model.specs.Handlers.{NamesFresh, IsFixed}
 use Rattle.nts_model.specs.Numbered.{number, numbered_leaf}

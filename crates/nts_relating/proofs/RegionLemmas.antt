@@ -14,6 +14,7 @@ use Rattle.nts_model.specs.Resolving.{variable_tree, Knows, IsSound, deeply_reso
 use Rattle.nts_model.specs.Worlds.{World, inst, Solves}
 use Rattle.nts_model.specs.Regions.{of_variable, of_free, IsRegion}
 use Rattle.nts_model.specs.Holding.{AreOne}
+use Rattle.nts_model.proofs.AliasLabels.{region_closed}
 use Rattle.nts_model.proofs.Roots.{root_of-link, root_of-root_of, kind_at-root_of}
 use Rattle.nts_model.proofs.Sound.{IsSound-with_constraint}
 use Rattle.nts_model.proofs.Bringing.{brings-refl, brings-of, brings-with_constraint}
@@ -171,7 +172,7 @@ regions_recorded ts e f x h left right equal visible q =
     let d = with_constraint c (recorded_of ts x) in
     let held = HoldsEqual-recorded d (recorded_of ts x) equal (HoldsConstraint-with_constraint c (recorded_of ts x)) in
     rw is (record {
-      keeps = Keeps-with_constraint c (recorded_of ts x) visible;
+      keeps = Keeps-with_constraint c (recorded_of ts x) (record { visible = visible; left = region_closed 0 a left.free; right = region_closed 0 b right.free });
       continues = Continues-with_constraint c (recorded_of ts x) h.sound;
       narrows = record {
         sound = λ w z. (let p = Solves-from_with_constraint c (recorded_of ts x) w z in (p.0, rw equal at p.1));

@@ -36,6 +36,7 @@ use Rattle.nts_model.proofs.Querying.{all_plain, own_in, leaf_in_for}
 use Rattle.nts_store.specs.declared.nodes.NodeId.{NodeId}
 use Rattle.nts_store.specs.Growth.{tree_at}
 use Rattle.nts_unify.specs.declared.contents.Constraint.{Constraint}
+use Rattle.nts_unify.specs.Changing.{HasClosedSides}
 use Rattle.nts_unify.specs.Reading.{content_of, recorded_of, left_kind, AreConstraints}
 use Rattle.nts_table.specs.Tables.{Table, IsTable}
 use Rattle.nts_canonical.specs.declared.types.Canonical.{Canonical}
@@ -114,28 +115,11 @@ names_original os c f (leaf.ConstConstant (constant.Placeholder zero n)) h e = p
 names_original os c f (leaf.ConstConstant (constant.Placeholder (suc u) n)) h e = placeholder_named os sort.Const (suc u) n tt
 names_original os c f (leaf.ConstConstant (constant.Param n)) h e = absurd h
 
--- a tree is closed if it is with positions in place of its leaves
-no_row : (c : ℕ) (t : Tree) → Meets (shape (label.Leaf (leaf.Region region.Static))) t → IsClosedUnder c t
-no_row c empty h = tt
-no_row c (more a b) h = absurd h
-no_row c (node l t) h = absurd h
-
-closed_before : (f : Leaf → Tree) (c : ℕ) (t : Tree) → IsFormed t → IsClosedUnder c (replace f t) → IsClosedUnder c t
-closed_before f c empty h k = tt
-closed_before f c (more a b) h k = (closed_before f c a h.0 k.0, closed_before f c b h.1 k.1)
-closed_before f c (node (label.Leaf x) t) h k = (tt, no_row (c + 0) t h.0)
-closed_before f c (node (label.Bound s d n) t) h k = (k.0, closed_before f (c + 0) t h.1 k.1)
-closed_before f c (node (label.Ty x) t) h k = (tt, closed_before f (c + binders (label.Ty x)) t h.1 k.1)
-closed_before f c (node (label.Const x) t) h k = (tt, closed_before f (c + binders (label.Const x)) t h.1 k.1)
-closed_before f c (node (label.Clause x) t) h k = (tt, closed_before f (c + binders (label.Clause x)) t h.1 k.1)
-closed_before f c (node (label.Predicate x) t) h k = (tt, closed_before f (c + binders (label.Predicate x)) t h.1 k.1)
-closed_before f c (node (label.List x) t) h k = (tt, closed_before f (c + binders (label.List x)) t h.1 k.1)
-
--- the response r stands for what the table q found out, x, and its constraints are closed
+-- the response r stands for what the table q found out, x
 module _ (ts : List Tree) (ks : List PositionKind) (os : List Tree) (q : Content) (qs : List Tree) (sub : ℕ → ℕ) (x : Findings) (r : Canonical Response)
     (table : IsQueryTable ks q qs) (found : AreFindings q qs x) (no_hidden : x.hidden ≡ []) (no_goals : x.open_goals ≡ []) (holds : HoldsResponse ts r.value) (is : response_at ts r ≡ response_of q sub 0 x)
     (closed : (t : Tree) → Among qs t → IsClosed t) (places : (y : Recorded) → Contains q.constraints y → FitsPlace (left_place y.relation) (kind_of y.left))
-    (sides : All (λ c. IsClosed (tree_at ts c.0.left.node) × IsClosed (tree_at ts c.0.right.node)) r.value.external_constraints.region_constraints.items) (leaves : (l : Leaf) → IsLeafIn ks l → IsLeafFor os l) (long : length qs ≡ length os) where
+    (sides : HasClosedSides q) (leaves : (l : Leaf) → IsLeafIn ks l → IsLeafFor os l) (long : length qs ≡ length os) where
   abbrev own : List Leaf
   own = own_leaves x
 
@@ -178,10 +162,10 @@ module _ (ts : List Tree) (ks : List PositionKind) (os : List Tree) (q : Content
   constraints_are : map (recorded_at ts) r.value.external_constraints.region_constraints.items ≡ map (recorded_by (positioned own)) x.constraints
   constraints_are = ap (λ (z : Form). z.findings.constraints) is
 
-  side_closed : (y : Recorded) → Contains x.constraints y → IsClosed (positioned own y.left) × IsClosed (positioned own y.right)
+  side_closed : (y : Recorded) → Contains x.constraints y → IsClosed y.left × IsClosed y.right
   side_closed y i =
-      let (z, at, e) = contained_from (recorded_at ts) r.value.external_constraints.region_constraints.items (recorded_by (positioned own) y) (subst (λ ys. Contains ys (recorded_by (positioned own) y)) (sym constraints_are) (contained_map (recorded_by (positioned own)) x.constraints y i)) in
-      subst (λ v. IsClosed v.left × IsClosed v.right) (sym e) (All-contains (λ c. IsClosed (tree_at ts c.0.left.node) × IsClosed (tree_at ts c.0.right.node)) r.value.external_constraints.region_constraints.items z sides at)
+      let z = found.found y i in
+      subst (λ v. IsClosed v.left × IsClosed v.right) (sym z.2) (IsClosed-deeply_resolved q z.0.left table.values (sides.left z.0 z.1), IsClosed-deeply_resolved q z.0.right table.values (sides.right z.0 z.1))
 
   side_fits : (y : Recorded) → Contains x.constraints y → FitsPlace (left_place y.relation) (kind_of y.left)
   side_fits y i =
@@ -206,8 +190,8 @@ module _ (ts : List Tree) (ks : List PositionKind) (os : List Tree) (q : Content
       let right = p.1 in
       let c = side_closed z at in
       subst IsOverThere (sym e) (record {
-        left = positioned_is_over own z.left left (closed_before (numbered_leaf is_fixed own) 0 z.left left.formed c.0) h.0;
-        right = positioned_is_over own z.right right (closed_before (numbered_leaf is_fixed own) 0 z.right right.formed c.1) h.1;
+        left = positioned_is_over own z.left left c.0 h.0;
+        right = positioned_is_over own z.right right c.1 h.1;
         place = subst (FitsPlace (left_place z.relation)) (sym (positioned_kind own z.left)) (side_fits z at);
       })
 
@@ -241,11 +225,11 @@ module _ (ts : List Tree) (ks : List PositionKind) (os : List Tree) (q : Content
         long = many;
       }
 
--- a query's values are closed, as leaves are, and so are the sides of the response's constraints
+-- a query's values are closed, as leaves are, and so are the sides of its table's constraints
 pub answered_applicable : (ts : List Tree) (i : Input) (q : Content) (qs : List Tree) (sub : ℕ → ℕ) (x : Findings) (r : Canonical Response)
     → IsQueryTable (canonical_of i).kinds q qs → AreFindings q qs x → x.hidden ≡ [] → x.open_goals ≡ []
     → ((t : Tree) → Among qs t → IsClosed t) → ((y : Recorded) → Contains q.constraints y → FitsPlace (left_place y.relation) (kind_of y.left))
-    → All (λ c. IsClosed (tree_at ts c.0.left.node) × IsClosed (tree_at ts c.0.right.node)) r.value.external_constraints.region_constraints.items
+    → HasClosedSides q
     → HoldsResponse ts r.value → response_at ts r ≡ response_of q sub 0 x → length qs ≡ length (originals i) → IsApplicable ts (map leaf_tree (originals i)) r
 answered_applicable ts i q qs sub x r table found no_hidden no_goals closed places sides holds is long =
     found_applicable ts (canonical_of i).kinds (map leaf_tree (originals i)) q qs sub x r table found no_hidden no_goals holds is closed places sides (leaf_in_for i) (long ∙ sym (length-map (originals i) leaf_tree))

@@ -6,13 +6,14 @@ use Rattle.nts_model.specs.Contents.{in_universe}
 use Rattle.nts_model.specs.Applying.{IsProperContent, MakesEqual}
 use Rattle.nts_model.specs.Responses.{RefusesResponse}
 use Rattle.nts_model.proofs.Applied.{FailsToEqual, AreKnownFilled, applied, refused}
-use Rattle.nts_model.specs.SubUnifying.{JoinsSubRoots}
 use Rattle.nts_store.specs.Growth.{tree_at}
 use Rattle.nts_store.specs.Formed.{AreFormed}
 use Rattle.nts_terms.specs.declared.handles.GenericArg.{GenericArg}
 use Rattle.nts_terms.specs.Handles.{HoldsArg}
 use Rattle.nts_unify.specs.Entries.{moved}
 use Rattle.nts_unify.specs.Lawful.{IsLawful-moved}
+use Rattle.nts_model.proofs.ChosenClosed.{chosen_records}
+use Rattle.nts_unify.specs.Changing.{IsLater, AddsVisible}
 use Rattle.nts_unify.specs.Reading.{content_of}
 use Rattle.nts_table.specs.Tables.{Table, IsTable}
 use Rattle.nts_table.proofs.TermTables.{proper_content, holds_terms}
@@ -64,10 +65,14 @@ module _ (a b : List Tree) (t u : Table) (os vs : List GenericArg) (ks : List Ca
       (subst (λ z. FailsToEqual (trees_of b chosen) (trees_of a vs) z (content_of b u.entries)) originals_same
       (subst (λ z. FailsToEqual (trees_of b chosen) z (trees_of b os) (content_of b u.entries)) values_same fails))
 
+  -- choosing records nothing
+  recorded_nothing : (content_of b u.entries).constraints ≡ (content_of a t.entries).constraints
+  recorded_nothing = chosen_records (content_of a t.entries) (trees_of a vs) (trees_of a os) 0 (map kind_of_var ks) (trees_of b chosen) (in_universe (content_of a t.entries) (t.entries.universe + m)) (content_of b u.entries) chosen_so.chooses
+
   -- they were made equal
-  pub values_applied : (d : List Tree) (v : Table) → AreFormed d → IsTable d v → JoinsSubRoots (content_of b u.entries) (content_of d v.entries) → MakesEqual (trees_of b chosen) (trees_of b vs) (trees_of b os) (content_of b u.entries) (content_of d v.entries)
+  pub values_applied : (d : List Tree) (v : Table) → AreFormed d → IsTable d v → IsLater (content_of b u.entries) (content_of d v.entries) → MakesEqual (trees_of b chosen) (trees_of b vs) (trees_of b os) (content_of b u.entries) (content_of d v.entries)
       → AreEquated (content_of a t.entries) (content_of d v.entries) (trees_of a os) (values_alone (trees_of a vs) (map kind_of_var ks) m) (trees_of b chosen)
-  values_applied d v formed_later table_later joined equal =
+  values_applied d v formed_later table_later later equal =
       let makes : MakesEqual (trees_of b chosen) (trees_of a vs) (trees_of a os) (content_of b u.entries) (content_of d v.entries) =
       subst (λ z. MakesEqual (trees_of b chosen) (trees_of a vs) z (content_of b u.entries) (content_of d v.entries)) originals_same
       (subst (λ z. MakesEqual (trees_of b chosen) z (trees_of b os) (content_of b u.entries) (content_of d v.entries)) values_same equal) in
@@ -75,6 +80,6 @@ module _ (a b : List Tree) (t u : Table) (os vs : List GenericArg) (ks : List Ca
         applies = applied (content_of a t.entries) (content_of b u.entries) (content_of d v.entries) (content_of d v.entries) (trees_of a os) (trees_of b chosen) (values_alone (trees_of a vs) (map kind_of_var ks) m) (proper_content table) moved_proper (originals_known a t.entries os args)
             (values_over a _ vs formed fits.held fits.values) tt chosen_so.chooses filled_known makes tt refl (holds_terms formed_later table_later);
         is = refl;
-        shares = joins_since (ArePlaced (map kind_of_var ks) (trees_of b chosen)) (content_of a t.entries) (content_of b u.entries) (content_of d v.entries) chosen_so.placed joined;
-        shows = record { first = content_of b u.entries; equal = content_of d v.entries; chooses = chosen_so.chooses; makes = makes; seen = refl };
+        shares = joins_since (ArePlaced (map kind_of_var ks) (trees_of b chosen)) (content_of a t.entries) (content_of b u.entries) (content_of d v.entries) chosen_so.placed later.subs;
+        shows = record { equal = (content_of d v.entries).constraints; related = subst (λ xs. AddsVisible xs (content_of d v.entries).constraints) recorded_nothing later.visible; seen = refl };
       }

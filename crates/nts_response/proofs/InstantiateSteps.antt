@@ -153,6 +153,6 @@ module _ {T : Type 0} (a b : Cx) (t u : Table) (os new : List GenericArg) (s : C
         applies = y.applies;
         filled_in = is ∙ ap (λ v. filled v (tree a.nodes s.value.payload)) (sym y.is);
         shares = subst (λ v. JoinsBy (PlacedOrOne (content_of b.nodes u.entries) (content_of z w.entries) (map kind_of_var s.var_kinds.items) v) (content_of b.nodes u.entries) (content_of z w.entries)) (sym y.is) y.shares;
-        shows = subst (λ v. ShowsConstraints (content_of b.nodes u.entries) (content_of z w.entries) (trees_of a.nodes os ++ trees_of z m.fresh) v answer true) (sym y.is) y.shows;
+        shows = y.shows;
         hidden = hidden ∙ keeps.hidden;
       }

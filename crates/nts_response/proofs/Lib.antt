@@ -26,3 +26,4 @@ pub mod RecordSteps
 pub mod Rows
 pub mod StateSteps
 pub mod Stepping
+pub mod ShownClosed

@@ -2,7 +2,7 @@
 use Rattle.std.proofs.Common.{◌≡◌, ℕ, suc, List, [], ◌∷◌, map, get_or, arith}
 use Rattle.std.specs.Prelude.{All}
 use Rattle.nts_model.specs.declared.labels.Sort.{Sort}
-use Rattle.nts_model.specs.Trees.{Tree, empty, more, node}
+use Rattle.nts_model.specs.Trees.{Tree, empty, more, node, IsClosed}
 use Rattle.nts_model.specs.Related.{alias_label}
 use Rattle.nts_terms.specs.declared.handles.AliasDefId.{AliasDefId}
 use Rattle.nts_model.specs.Contents.{Content}
@@ -11,6 +11,7 @@ use Rattle.nts_model.specs.Handlers.{filled, premise_by, NamesFresh}
 use Rattle.nts_model.specs.Driving.{sort_at}
 use Rattle.nts_model.specs.Responses.{IsOverPositions}
 use Rattle.nts_model.proofs.Answering.{AllTrees, AllSides}
+use Rattle.nts_model.proofs.ChosenClosed.{closed-filled}
 use Rattle.nts_model.proofs.Applied.{AreKnownFilled, AreKnownSides}
 use Rattle.nts_store.specs.declared.nodes.NodeId.{NodeId}
 use Rattle.nts_store.specs.Growth.{tree_at, IsIn, Extends}
@@ -83,8 +84,8 @@ module _ (a b : List Tree) (c : Content) (ks : List CanonicalVarKind) (xs : List
   pub fillable : (t : NodeId) → IsIn a t → IsOverSorts a ss t → IsFillable b c xs t
   fillable t w o = record { within = IsIn-extended up t w; positions = has t w o; knows = rw (there t w) (knows t w o) }
 
-  recordable : (x : RegionConstraint × VisibleForLeakCheck) → HoldsConstraint a x → IsConstraintOver a ss x → IsRecordable b c xs x
-  recordable x h o =
+  recordable : ((j : ℕ) → IsClosed (get_or xs j empty)) → (x : RegionConstraint × VisibleForLeakCheck) → HoldsConstraint a x → IsConstraintOver a ss x → IsRecordable b c xs x
+  recordable closed x h o =
       let held_left = h.left in
       let held_right = h.right in
       let w = held_left.within in
@@ -97,6 +98,7 @@ module _ (a b : List Tree) (c : Content) (ks : List CanonicalVarKind) (xs : List
         left = fillable x.0.left.node w left;
         right = fillable x.0.right.node v right;
         left_side = rw (there x.0.left.node w) (left_filled x.0.relation ks xs (tree_at a x.0.left.node) regions place.fits (formed x.0.left.node w) left.closed left.names (has_values ks xs (tree_at a x.0.left.node) sorts left.names));
+        left_closed = rw (there x.0.left.node w) (closed-filled xs closed 0 (tree_at a x.0.left.node) left.closed);
         right_side = rw (there x.0.right.node v) (filled_region ks xs (tree_at a x.0.right.node) regions r (formed x.0.right.node v) right.closed right.names);
       }
 
@@ -182,8 +184,8 @@ pub record CanPut (a b : List Tree) (c : Content) (xs : List Tree) (r : Canonica
   pub sides : AreKnownSides c xs (map (recorded_at a) r.value.external_constraints.region_constraints.items)
 
 pub can_put : (a b : List Tree) (c : Content) (os xs : List Tree) (r : Canonical Response) → AreFormed a → Extends a b → IsApplicable a os r → HaveSorts (map kind_of_var r.var_kinds.items) xs → AreRegionsAt (map kind_of_var r.var_kinds.items) xs
-    → ((j : ℕ) → Knows c (get_or xs j empty)) → HoldsResponse b r.value → CanPut a b c xs r
-can_put a b c os xs r f up p sorts regions known later =
+    → ((j : ℕ) → Knows c (get_or xs j empty)) → ((j : ℕ) → IsClosed (get_or xs j empty)) → HoldsResponse b r.value → CanPut a b c xs r
+can_put a b c os xs r f up p sorts regions known closed later =
     let h = p.holds in
     let ks = r.var_kinds.items in
     let x = r.value.external_constraints in
@@ -191,7 +193,7 @@ can_put a b c os xs r f up p sorts regions known later =
       ready = record {
         holds = later;
         values = λ k d l. (let held = h.values k d l in fillable a b c ks xs f up sorts regions known _ held.within (p.values k d l));
-        constraints = λ k d l. recordable a b c ks xs f up sorts regions known _ (h.constraints k d l) (p.constraints k d l);
+        constraints = λ k d l. recordable a b c ks xs f up sorts regions known closed _ (h.constraints k d l) (p.constraints k d l);
         hidden = registrable a b c ks xs f up sorts regions known x.opaque_types.items h.hidden p.hidden;
         open_goals = λ k d l. openable a b c ks xs f up sorts regions known _ (h.open_goals k d l) (p.open_goals k d l);
         known = rw (same_views HoldsOpen premise_at goals_kept a b x.normalization_nested_goals.items h.open_goals up) (goals_known a b c ks xs f up sorts regions known x.normalization_nested_goals.items h.open_goals p.open_goals);

@@ -9,7 +9,7 @@ use Rattle.nts_model.specs.declared.labels.Relation.TheVariants as relation
 use Rattle.nts_model.specs.declared.labels.VariableKind.TheVariants as kind
 use Rattle.nts_model.specs.declared.labels.Leaf.TheVariants as leaf
 use Rattle.nts_model.specs.declared.labels.Label.TheVariants as label
-use Rattle.nts_model.specs.Trees.{Tree, empty, more, node}
+use Rattle.nts_model.specs.Trees.{Tree, empty, more, node, IsClosed}
 use Rattle.nts_model.specs.Contents.{Content, Recorded, with_constraint}
 use Rattle.nts_model.specs.Resolving.{variable_tree, Knows, IsSound, deeply_resolved}
 use Rattle.nts_model.specs.Worlds.{World, inst, IsTrueOf}
@@ -18,6 +18,7 @@ use Rattle.nts_model.specs.Holding.{IsTrivial, HasSides, IsRecorded}
 use Rattle.nts_model.specs.Alike.{Alike, one_tree, two_regions, one_label, two_rows, HoldsEqual}
 use Rattle.nts_model.specs.Applying.{IsProperContent, IsRecordedIn}
 use Rattle.nts_model.proofs.AlikeRelated.{empty_like}
+use Rattle.nts_model.proofs.AliasLabels.{region_closed}
 use Rattle.nts_model.proofs.Alike.{IsRegion-deeply_resolved, HoldsEqual-one}
 use Rattle.nts_model.proofs.Resolved.{deeply_resolved-deeply_resolved}
 use Rattle.nts_model.proofs.Fitting.{region_label}
@@ -82,10 +83,10 @@ recorded_in ts e f x p q d (inr (apart, is)) =
     let at : content_of ts f ≡ with_constraint (content_of ts e) (recorded_of ts x) = ap (content_of ts) is ∙ content_of-constrained ts e x in
     subst (λ z. IsRecordedIn (content_of ts e) z (recorded_of ts x)) (sym at) (recorded_last (content_of ts e) (recorded_of ts x) p (subst IsProperContent at q))
 
-pub seen_in : (ts : List Tree) (e f : Entries) (x : Constraint) → recording.Records ts e f x → AddsSeen x.is_visible (content_of ts e).constraints (content_of ts f).constraints
-seen_in ts e f x (inl (same, is)) = inl (ap (λ z. (content_of ts z).constraints) is)
-seen_in ts e f x (inr (apart, is)) =
-    inr (recorded_of ts x, ap (λ z. (content_of ts z).constraints) is ∙ ap (λ (z : Content). z.constraints) (content_of-constrained ts e x), refl)
+pub seen_in : (ts : List Tree) (e f : Entries) (x : Constraint) → IsClosed (tree_at ts x.left) → IsRegion (tree_at ts x.right) → recording.Records ts e f x → AddsSeen x.is_visible (content_of ts e).constraints (content_of ts f).constraints
+seen_in ts e f x l r (inl (same, is)) = inl (ap (λ z. (content_of ts z).constraints) is)
+seen_in ts e f x l r (inr (apart, is)) =
+    inr (recorded_of ts x, ap (λ z. (content_of ts z).constraints) is ∙ ap (λ (z : Content). z.constraints) (content_of-constrained ts e x), record { visible = refl; left = l; right = region_closed 0 (tree_at ts x.right) r })
 
 -- the same, whatever the leak check sees of it
 HasSides-seen : (c : Content) (r : Relation) (x y : Recorded) (v : Bool) → HasSides c r x y → HasSides c r (record x { is_visible = v }) y
@@ -206,7 +207,7 @@ equated_in ts e f a b v h p q ka kb ra rb k = by_region (region_of (tree_at ts a
         → IsRecordedIn (content_of ts e) (content_of ts f) (record { relation = relation.Equal; left = tree_at ts a; right = tree_at ts b; is_visible = v }) × AddsSeen v (content_of ts e).constraints (content_of ts f).constraints
     by_record z =
         let x : Constraint = record { relation = relation.Equal; left = a; right = b; is_visible = v } in
-        (recorded_in ts e f x p q (λ i j. cc i) z, seen_in ts e f x z)
+        (recorded_in ts e f x p q (λ i j. cc i) z, seen_in ts e f x (region_closed 0 (tree_at ts a) ra) rb z)
 
     by_region : (o s : Option ℕ) → region_of (tree_at ts a) ≡ o → region_of (tree_at ts b) ≡ s → EquatedAt o s ts e f a b v
         → IsRecordedIn (content_of ts e) (content_of ts f) (record { relation = relation.Equal; left = tree_at ts a; right = tree_at ts b; is_visible = v }) × AddsSeen v (content_of ts e).constraints (content_of ts f).constraints

@@ -2,7 +2,7 @@
 use Rattle.std.proofs.Common.{◌≡◌, ℕ, ◌+◌, ◌<◌, Bool, List, [], ◌∷◌, ◌++◌, map, length, take, get_or, refl, sym, ap, subst, ◌∙◌, arith}
 use Rattle.std.specs.Prelude.{All}
 use Rattle.std.proofs.lemmas.List.{take_more, length-map, get_or-map}
-use Rattle.nts_model.specs.Trees.{Tree}
+use Rattle.nts_model.specs.Trees.{Tree, IsClosed}
 use Rattle.nts_model.specs.Contents.{Content, Recorded}
 use Rattle.nts_model.specs.Regions.{IsRegion}
 use Rattle.nts_model.specs.Applying.{IsRecordedIn, Records}
@@ -50,6 +50,7 @@ module _ (a b : Cx) (t u : Table) (chosen : List NodeId) (s : StepKeeps a b t u)
         right = fillable_later a b t u chosen x.0.right.node s w h.right;
         left_side = subst (IsLeftSide x.0.relation) (sym (filled_same a b t u chosen x.0.left.node s w h.left)) h.left_side;
         right_side = subst IsRegion (sym (filled_same a b t u chosen x.0.right.node s w h.right)) h.right_side;
+        left_closed = subst IsClosed (sym (filled_same a b t u chosen x.0.left.node s w h.left)) h.left_closed;
       }
 
   pub records_next : (cs : List (RegionConstraint × VisibleForLeakCheck)) (i : ℕ) (d : RegionConstraint × VisibleForLeakCheck) (e : Content) → i < length cs → All (IsRecordable a.nodes (content_of a.nodes t.entries) (map (tree_at a.nodes) chosen)) cs

@@ -2,7 +2,7 @@
 use Rattle.std.proofs.Common.{◌≡◌, List, refl, sym, subst, ◌∙◌}
 use Rattle.nts_model.specs.Trees.{Tree}
 use Rattle.nts_model.specs.SubUnifying.{JoinsSubRoots}
-use Rattle.nts_model.proofs.SubUnified.{JoinsSubRoots-refl, JoinsSubRoots-trans}
+use Rattle.nts_model.proofs.SubUnified.{JoinsSubRoots-trans}
 use Rattle.nts_model.proofs.Slots.{KeepsKinds, KeepsKinds-refl, KeepsKinds-trans, Knows-kept}
 use Rattle.nts_store.specs.Growth.{tree_at, Extends}
 use Rattle.nts_store.proofs.Growing.{Extends-refl, Extends-trans}
@@ -12,6 +12,7 @@ use Rattle.nts_terms.proofs.Moved.{KeepsRest-refl, KeepsRest-trans}
 use Rattle.nts_unify.specs.Reading.{content_of}
 use Rattle.nts_unify.specs.Lawful.{content_of-extended}
 use Rattle.nts_unify.specs.Changing.{IsLater}
+use Rattle.nts_unify.proofs.Keeping.{IsLater-refl}
 use Rattle.nts_table.specs.Frames.{ChangesVariables}
 use Rattle.nts_table.specs.Tables.{Table, IsTable, RelatingKeeps}
 use Rattle.nts_table.specs.TableLaws.{IsTable-extended}
@@ -114,5 +115,5 @@ pub joins_next : {a b c : Cx} {t u v : Table} → StepKeeps a b t u → JoinsSub
 joins_next {a} {b} {c} {t} {u} {v} x h y k = (let kinds = y.kinds in JoinsSubRoots-trans (content_of a.nodes t.entries) (content_of b.nodes u.entries) (content_of c.nodes v.entries) kinds.kinds h k)
 
 -- the store alone grew
-pub joins_grown : (a : List Tree) (b : List Tree) (t : Table) → IsTable a t → Extends a b → JoinsSubRoots (content_of a t.entries) (content_of b t.entries)
-joins_grown a b t h e = subst (JoinsSubRoots (content_of a t.entries)) (sym (content_of-extended e h.now)) (JoinsSubRoots-refl (content_of a t.entries))
+pub later_grown : (a : List Tree) (b : List Tree) (t : Table) → IsTable a t → Extends a b → IsLater (content_of a t.entries) (content_of b t.entries)
+later_grown a b t h e = subst (IsLater (content_of a t.entries)) (sym (content_of-extended e h.now)) (IsLater-refl (content_of a t.entries))

@@ -1,11 +1,11 @@
 -- Responses that can be applied to originals, and what applying one leaves.
-use Rattle.std.specs.Prelude.{◌≡◌, ℕ, ◌+◌, ◌≤◌, Bool, List, [], ◌∷◌, ◌++◌, map, length, All}
+use Rattle.std.specs.Prelude.{◌≡◌, ℕ, ◌≤◌, Bool, List, [], ◌∷◌, ◌++◌, map, length, All}
 use Rattle.nts_model.specs.declared.labels.Sort.{Sort}
 use Rattle.nts_model.specs.declared.labels.Relation.{Relation}
 use Rattle.nts_model.specs.declared.labels.Relation.TheVariants as relation
 use Rattle.nts_model.specs.declared.labels.Leaf.{Leaf}
 use Rattle.nts_model.specs.Trees.{Tree, Place, a_type, a_region, IsClosed}
-use Rattle.nts_model.specs.Contents.{Content, in_universe}
+use Rattle.nts_model.specs.Contents.{Content, Recorded}
 use Rattle.nts_model.specs.Substitutions.{Occurs}
 use Rattle.nts_model.specs.Resolving.{Knows}
 use Rattle.nts_model.specs.Handlers.{NamesFresh, IsFixed, filled, hidden_by, premise_by}
@@ -13,7 +13,7 @@ use Rattle.nts_model.specs.Sequents.{Premise}
 use Rattle.nts_model.specs.Passing.{BringsOnly}
 use Rattle.nts_model.specs.Inputs.{PositionKind}
 use Rattle.nts_model.specs.Driving.{sort_at}
-use Rattle.nts_model.specs.Applying.{ChoosesAll, MakesEqual, Records}
+use Rattle.nts_model.specs.Applying.{MakesEqual, Records}
 use Rattle.nts_model.specs.SubUnifying.{JoinsSubRoots}
 use Rattle.nts_model.specs.Responses.{Findings, universe_of_kind, Applies, Response as Form}
 use Rattle.nts_store.specs.declared.nodes.NodeId.{NodeId}
@@ -27,6 +27,7 @@ use Rattle.nts_terms.specs.Handles.{Holds}
 use Rattle.nts_certainty.specs.declared.sources.GoalSource.{GoalSource}
 use Rattle.nts_unify.specs.Entries.{Entries}
 use Rattle.nts_unify.specs.Reading.{content_of}
+use Rattle.nts_unify.specs.Changing.{AddsVisible}
 use Rattle.nts_delegate.specs.declared.delegate.RegionConstraint.{RegionConstraint}
 use Rattle.nts_delegate.specs.Offered.{hidden_of}
 use Rattle.nts_canonical.specs.declared.types.Canonical.{Canonical}
@@ -82,14 +83,13 @@ pub record IsApplicable (ts : List Tree) (os : List Tree) (r : Canonical Respons
   pub open_goals : All (IsGoalOver ts (sorts_of r)) r.value.external_constraints.normalization_nested_goals.items
   pub long : length os ≡ length r.value.var_values.items
 
--- the table when the originals had been made equal to the values, and then the constraints that are recorded for the
--- response are seen as told
-pub record ShowsConstraints (c f : Content) (os chosen : List Tree) (r : Form) (visible : Bool) : Type 0 where
-  pub first : Content
-  pub equal : Content
-  pub chooses : ChoosesAll c r.findings.values os 0 r.kinds chosen (in_universe c (c.universe + r.max_universe)) first
-  pub makes : MakesEqual chosen r.findings.values os first equal
-  pub seen : AddsAllSeen visible r.findings.constraints equal.constraints f.constraints
+-- the constraints of a table to which a response was applied: those that there were, then those by which originals became equal
+-- to values, which the leak check sees, and then those of the response, which it sees as told; the new ones are between closed
+-- terms
+pub record ShowsConstraints (xs zs : List Recorded) (r : Form) (visible : Bool) : Type 0 where
+  pub equal : List Recorded
+  pub related : AddsVisible xs equal
+  pub seen : AddsAllSeen visible r.findings.constraints equal zs
 
 -- goals whose terms are of the table
 abbrev pub AreKnownPremises : Content → List Premise → Type 0
@@ -108,7 +108,7 @@ pub record IsApplied (a b : List Tree) (e f : Entries) (os : List Tree) (r : For
   pub held : All (HoldsOpen b) goals
   pub known : AreKnownPremises (content_of b f) (map (premise_at b) goals)
   pub shares : JoinsBy (PlacedOrOne (content_of a e) (content_of b f) r.kinds applies.chosen) (content_of a e) (content_of b f)
-  pub shows : ShowsConstraints (content_of a e) (content_of b f) os applies.chosen r visible
+  pub shows : ShowsConstraints (content_of a e).constraints (content_of b f).constraints r visible
 
 -- hidden types that can be filled, and are then of the table
 pub record AreRegistrable (ts : List Tree) (c : Content) (xs : List Tree) (hs : List (AliasTerm × Ty)) : Type 0 where
@@ -133,6 +133,7 @@ pub record IsPut (a b : List Tree) (e f : Entries) (os chosen : List Tree) (x : 
   pub joins : JoinsSubRoots (content_of a e) (content_of b f)
   pub equal_labels : BringsOnly (map (filled chosen) x.values ++ os) (content_of a e) equal
   pub recorded_labels : BringsOnly (map (filled chosen) (sides_of x.constraints)) equal (content_of b f)
+  pub related : AddsVisible (content_of a e).constraints equal.constraints
   pub seen : AddsAllSeen visible x.constraints equal.constraints (content_of b f).constraints
   pub hidden_types : List (AliasTerm × Ty)
   pub hidden : map (hidden_of b) hidden_types ≡ map (hidden_by (filled chosen)) x.hidden

@@ -49,7 +49,7 @@ pub record AreEquated (c d : Content) (os : List Tree) (r : Form) (chosen : List
   pub applies : Applies c d os r
   pub is : applies.chosen ≡ chosen
   pub shares : JoinsBy (PlacedOrOne c d r.kinds chosen) c d
-  pub shows : ShowsConstraints c d os chosen r true
+  pub shows : ShowsConstraints c.constraints d.constraints r true
 
 -- the values for which there are no originals
 abbrev pub missing : List Tree → List Tree → List Tree
@@ -96,7 +96,7 @@ pub record IsInstantiated (a b : List Tree) (e f : Entries) (old new : List Gene
   pub applies : Applies made (content_of b f) (trees_of a old ++ trees_of b fresh) (answer_of s)
   pub filled_in : payload ≡ filled applies.chosen s.payload
   pub shares : JoinsBy (PlacedOrOne made (content_of b f) s.kinds applies.chosen) made (content_of b f)
-  pub shows : ShowsConstraints made (content_of b f) (trees_of a old ++ trees_of b fresh) applies.chosen (answer_of s) true
+  pub shows : ShowsConstraints made.constraints (content_of b f).constraints (answer_of s) true
   pub hidden : f.hidden ≡ e.hidden
 
 -- no solution of the table makes the originals, with new variables for the missing ones, equal to the values

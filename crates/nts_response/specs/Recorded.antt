@@ -3,7 +3,7 @@ use Rattle.std.specs.Prelude.{◌≡◌, ◌⊎◌, ◌&&◌, Bool, true, List, 
 use Rattle.nts_model.specs.declared.labels.Sort.TheVariants as sort
 use Rattle.nts_model.specs.declared.labels.Relation.{Relation}
 use Rattle.nts_model.specs.declared.labels.Relation.TheVariants as relation
-use Rattle.nts_model.specs.Trees.{Tree, kind_of, of_sort}
+use Rattle.nts_model.specs.Trees.{Tree, kind_of, of_sort, IsClosed}
 use Rattle.nts_model.specs.Contents.{Content, Recorded}
 use Rattle.nts_model.specs.Regions.{IsRegion}
 use Rattle.nts_model.specs.Handlers.{filled}
@@ -22,12 +22,13 @@ abbrev pub IsLeftSide : Relation → Tree → Type 0
 IsLeftSide relation.TypeOutlives t = kind_of t ≡ Some (of_sort sort.Ty)
 IsLeftSide r t = IsRegion t
 
--- both sides can be filled, and are then those of such a constraint
+-- both sides can be filled, and are then those of such a constraint, and closed
 pub record IsRecordable (ts : List Tree) (c : Content) (xs : List Tree) (x : RegionConstraint × VisibleForLeakCheck) : Type 0 where
   pub left : IsFillable ts c xs x.0.left.node
   pub right : IsFillable ts c xs x.0.right.node
   pub left_side : IsLeftSide x.0.relation (filled xs (tree_at ts x.0.left.node))
   pub right_side : IsRegion (filled xs (tree_at ts x.0.right.node))
+  pub left_closed : IsClosed (filled xs (tree_at ts x.0.left.node))
 
 -- that a type outlives a region the leak check always sees; a constraint between regions, as told
 abbrev pub seen_as : Relation → Bool → Bool
@@ -38,9 +39,15 @@ seen_as r v = v
 abbrev pub seen_if : Bool → Recorded → Bool
 seen_if v x = seen_as x.relation (x.is_visible && v)
 
--- one constraint more at most, which the leak check sees as told
+-- a constraint between closed terms, which the leak check sees or not
+pub record IsShown (v : Bool) (x : Recorded) : Type 0 where
+  pub visible : x.is_visible ≡ v
+  pub left : IsClosed x.left
+  pub right : IsClosed x.right
+
+-- one constraint more at most, between closed terms, which the leak check sees as told
 abbrev pub AddsSeen : Bool → List Recorded → List Recorded → Type 0
-AddsSeen v xs ys = (ys ≡ xs) ⊎ ((x : Recorded) × (ys ≡ xs ++ x ∷ []) × (x.is_visible ≡ v))
+AddsSeen v xs ys = (ys ≡ xs) ⊎ ((x : Recorded) × (ys ≡ xs ++ x ∷ []) × IsShown v x)
 
 -- .. for each constraint of a response
 abbrev pub AddsAllSeen : Bool → List Recorded → List Recorded → List Recorded → Type 0

@@ -3,12 +3,12 @@ ghost use Rattle.std.specs.Prelude.{◌≡◌, ◌≢◌, ◌++◌, Err, map, Al
 ghost use Rattle.nts_model.specs.Handlers.{filled};
 ghost use Rattle.nts_model.specs.Equations.{AreRelated, AreUnrelated};
 ghost use Rattle.nts_model.specs.Applying.{MakesEqual};
-ghost use Rattle.nts_model.specs.SubUnifying.{JoinsSubRoots};
 ghost use Rattle.nts_model.specs.Passing.{BringsLabelsOf, BringsOnly};
 ghost use Rattle.nts_model.proofs.Applied.{FailsToEqual};
 ghost use Rattle.nts_store.specs.Growth.{tree_at, AllIn};
 ghost use Rattle.nts_store.specs.declared.fault.EvalError.TheVariants.{NoSolution};
 ghost use Rattle.nts_unify.specs.Reading.{content_of};
+ghost use Rattle.nts_unify.specs.Changing.{IsLater};
 ghost use Rattle.nts_table.specs.Tables.{IsTable, IsTermOf};
 ghost use Rattle.nts_canonical.specs.Forms.{trees_of};
 ghost use Rattle.nts_canonical.specs.Building.{IsArgOf};
@@ -35,7 +35,7 @@ pub(crate) fn equate_values(
     ensures equal { OnOk result (MakesEqual (map (tree_at cx.old.nodes) chosen.now) (trees_of cx.old.nodes values.now) (trees_of cx.old.nodes originals.now) (content_of cx.old.nodes table.old.entries) (content_of cx.new.nodes table.new.entries)) }
     ensures labels { OnOk result (BringsOnly (map (filled (map (tree_at cx.old.nodes) chosen.now)) (trees_of cx.old.nodes values.now) ++ trees_of cx.old.nodes originals.now) (content_of cx.old.nodes table.old.entries) (content_of cx.new.nodes table.new.entries)) }
     ensures no { result ≡ Err NoSolution → FailsToEqual (map (tree_at cx.old.nodes) chosen.now) (trees_of cx.old.nodes values.now) (trees_of cx.old.nodes originals.now) (content_of cx.old.nodes table.old.entries) }
-    ensures joins { JoinsSubRoots (content_of cx.old.nodes table.old.entries) (content_of cx.new.nodes table.new.entries) }
+    ensures later { IsLater (content_of cx.old.nodes table.old.entries) (content_of cx.new.nodes table.new.entries) }
     ensures keeps { StepKeeps cx.old cx.new table.old table.new }
     ensures full { result ≢ Err EvalError.Full }
 {
@@ -60,7 +60,7 @@ fn equate_one(
     ensures related { OnOk result (AreRelated (content_of cx.old.nodes table.old.entries) (content_of cx.new.nodes table.new.entries) (filled (map (tree_at cx.old.nodes) chosen.now) (tree_at cx.old.nodes value)) (tree_at cx.old.nodes original)) }
     ensures labels { OnOk result (BringsLabelsOf (content_of cx.old.nodes table.old.entries) (content_of cx.new.nodes table.new.entries) (filled (map (tree_at cx.old.nodes) chosen.now) (tree_at cx.old.nodes value)) (tree_at cx.old.nodes original)) }
     ensures no { result ≡ Err NoSolution → AreUnrelated (content_of cx.old.nodes table.old.entries) (filled (map (tree_at cx.old.nodes) chosen.now) (tree_at cx.old.nodes value)) (tree_at cx.old.nodes original) }
-    ensures joins { JoinsSubRoots (content_of cx.old.nodes table.old.entries) (content_of cx.new.nodes table.new.entries) }
+    ensures later { IsLater (content_of cx.old.nodes table.old.entries) (content_of cx.new.nodes table.new.entries) }
     ensures keeps { StepKeeps cx.old cx.new table.old table.new }
     ensures full { result ≢ Err EvalError.Full }
 {

@@ -1,5 +1,6 @@
 //! Region constraints of a response, recorded in a table.
 ghost use Rattle.std.specs.Prelude.{◌≡◌, ◌&&◌, map, All, OnOk, OnErr, IsOkUnless};
+ghost use Rattle.nts_model.specs.Trees.{IsClosed};
 ghost use Rattle.nts_model.specs.Regions.{IsRegion};
 ghost use Rattle.nts_model.specs.Handlers.{filled};
 ghost use Rattle.nts_model.specs.Responses.{recorded_by};
@@ -89,6 +90,7 @@ fn record_between(
     requires right { IsTermOf cx.now.nodes table.old right }
     requires left_side { IsLeftSide relation (tree_at cx.now.nodes left) }
     requires right_side { IsRegion (tree_at cx.now.nodes right) }
+    requires closed { IsClosed (tree_at cx.now.nodes left) }
     ensures recorded { OnOk result (IsRecordedIn (content_of cx.now.nodes table.old.entries) (content_of cx.now.nodes table.new.entries) (record { relation = relation; left = tree_at cx.now.nodes left; right = tree_at cx.now.nodes right; is_visible = is_visible visible })) }
     ensures seen { OnOk result (AddsSeen (seen_as relation (is_visible visible)) (content_of cx.now.nodes table.old.entries).constraints (content_of cx.now.nodes table.new.entries).constraints) }
     ensures labels { OnOk result (BringsLabelsOf (content_of cx.now.nodes table.old.entries) (content_of cx.now.nodes table.new.entries) (tree_at cx.now.nodes left) (tree_at cx.now.nodes right)) }

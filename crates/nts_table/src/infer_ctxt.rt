@@ -15,10 +15,16 @@ use std::marker::Model;
 
 /// The table of inference variables. A caller sees its entries, and the entries at the snapshots that
 /// are open.
-#[derive(Drop)]
 pub struct InferCtxt {
     mode: TypingMode,
     pub(crate) inner: InferCtxtInner,
+}
+
+// Written out, as that of `Cx` is, and for the same reason.
+impl Drop for InferCtxt {
+    fn drop(self) {
+        let InferCtxt { mode: _, inner: _ } = self;
+    }
 }
 
 impl Model for InferCtxt {

@@ -1,6 +1,7 @@
 //! What is declared, by number.
 ghost use Rattle.std.specs.Prelude.{◌≡◌, ◌++◌, ◌∷◌, [], length, IfOk, OnOk, OnErr, IsOkUnless, MatchOption, Some, None};
 
+use crate::cx::Cx;
 use crate::handles::{AliasDefId, AliasId, ConstId, CtorId, DefId, TraitId, Ty};
 use nts_model::{Sort, Variance};
 use nts_store::Fault;
@@ -89,7 +90,7 @@ impl Model for Declarations {
 }
 
 impl Declarations {
-    ghost use Rattle.nts_terms.specs.Signatures.{nothing_declared, with_ctor, with_trait, with_alias, with_const, sorts_of, type_of};
+    ghost use Rattle.nts_terms.specs.Signatures.{nothing_declared, sorts_of, type_of};
 
     /// Nothing declared. It takes no memory.
     pub(crate) fn new(alloc: Global) -> Self
@@ -102,68 +103,6 @@ impl Declarations {
             aliases: Vec::new(alloc),
             consts: Vec::new(alloc),
         }
-    }
-
-    /// A new constructor, which takes arguments of these sorts.
-    pub(crate) fn declare_ctor(
-        &mut self,
-        sorts: &[Sort],
-        variances: &[Variance],
-    ) -> Result<CtorId, Fault>
-        requires { length sorts.now ≡ length variances.now }
-        ensures number { IfOk result (λ c. c.number ≡ length self.old.ctors) }
-        ensures declared { OnOk result (self.new ≡ with_ctor self.old sorts.now variances.now) }
-        ensures err { OnErr result (self.new ≡ self.old) }
-        ensures memory { IsOkUnless result Fault.Memory }
-    {
-        let number = self.ctors.len();
-        let sorts = sorts.to_vec(self.alloc)?;
-        let variances = variances.to_vec(self.alloc)?;
-        self.ctors.push(CtorSignature { sorts, variances })?;
-        Ok(CtorId { number })
-    }
-
-    /// A new trait, which takes arguments of these sorts.
-    pub(crate) fn declare_trait(&mut self, sorts: &[Sort]) -> Result<TraitId, Fault>
-        ensures number { IfOk result (λ t. t.number ≡ length self.old.traits) }
-        ensures declared { OnOk result (self.new ≡ with_trait self.old sorts.now) }
-        ensures err { OnErr result (self.new ≡ self.old) }
-        ensures memory { IsOkUnless result Fault.Memory }
-    {
-        let number = self.traits.len();
-        let sorts = sorts.to_vec(self.alloc)?;
-        self.traits.push(TraitSignature { sorts })?;
-        Ok(TraitId { number })
-    }
-
-    /// A new alias, which takes arguments of these sorts.
-    pub(crate) fn declare_alias(
-        &mut self,
-        sorts: &[Sort],
-        kind: AliasKind,
-    ) -> Result<AliasId, Fault>
-        ensures number { IfOk result (λ a. a.number ≡ length self.old.aliases) }
-        ensures declared { OnOk result (self.new ≡ with_alias self.old sorts.now kind) }
-        ensures err { OnErr result (self.new ≡ self.old) }
-        ensures memory { IsOkUnless result Fault.Memory }
-    {
-        let number = self.aliases.len();
-        let sorts = sorts.to_vec(self.alloc)?;
-        self.aliases.push(AliasSignature { sorts, kind })?;
-        Ok(AliasId { number })
-    }
-
-    /// A new const, which takes arguments of these sorts and has this type.
-    pub(crate) fn declare_const(&mut self, sorts: &[Sort], ty: Ty) -> Result<ConstId, Fault>
-        ensures number { IfOk result (λ c. c.number ≡ length self.old.consts) }
-        ensures declared { OnOk result (self.new ≡ with_const self.old sorts.now ty) }
-        ensures err { OnErr result (self.new ≡ self.old) }
-        ensures memory { IsOkUnless result Fault.Memory }
-    {
-        let number = self.consts.len();
-        let sorts = sorts.to_vec(self.alloc)?;
-        self.consts.push(ConstSignature { sorts, ty })?;
-        Ok(ConstId { number })
     }
 
     /// The type that a const was declared with; `None` for a number that isn't declared.
@@ -198,5 +137,73 @@ impl Declarations {
                 None => None,
             },
         }
+    }
+}
+
+impl Cx {
+    ghost use Rattle.nts_store.specs.Growth.{tree_at};
+    ghost use Rattle.nts_terms.specs.Handles.{HoldsTy};
+    ghost use Rattle.nts_terms.specs.ConstTypes.{IsConstType};
+    ghost use Rattle.nts_terms.specs.Signatures.{with_ctor, with_trait, with_alias, with_const};
+
+    /// A new constructor, which takes arguments of these sorts.
+    pub fn declare_ctor(&mut self, sorts: &[Sort], variances: &[Variance]) -> Result<CtorId, Fault>
+        requires { length sorts.now ≡ length variances.now }
+        ensures number { IfOk result (λ c. c.number ≡ length self.old.declarations.ctors) }
+        ensures declared { OnOk result (self.new ≡ record self.old { declarations = with_ctor self.old.declarations sorts.now variances.now }) }
+        ensures err { OnErr result (self.new ≡ self.old) }
+        ensures memory { IsOkUnless result Fault.Memory }
+    {
+        let number = self.declarations.ctors.len();
+        let sorts = sorts.to_vec(self.alloc)?;
+        let variances = variances.to_vec(self.alloc)?;
+        self.declarations
+            .ctors
+            .push(CtorSignature { sorts, variances })?;
+        Ok(CtorId { number })
+    }
+
+    /// A new trait, which takes arguments of these sorts.
+    pub fn declare_trait(&mut self, sorts: &[Sort]) -> Result<TraitId, Fault>
+        ensures number { IfOk result (λ t. t.number ≡ length self.old.declarations.traits) }
+        ensures declared { OnOk result (self.new ≡ record self.old { declarations = with_trait self.old.declarations sorts.now }) }
+        ensures err { OnErr result (self.new ≡ self.old) }
+        ensures memory { IsOkUnless result Fault.Memory }
+    {
+        let number = self.declarations.traits.len();
+        let sorts = sorts.to_vec(self.alloc)?;
+        self.declarations.traits.push(TraitSignature { sorts })?;
+        Ok(TraitId { number })
+    }
+
+    /// A new alias of types, which takes arguments of these sorts.
+    pub fn declare_alias(&mut self, sorts: &[Sort], kind: AliasKind) -> Result<AliasId, Fault>
+        ensures number { IfOk result (λ a. a.number ≡ length self.old.declarations.aliases) }
+        ensures declared { OnOk result (self.new ≡ record self.old { declarations = with_alias self.old.declarations sorts.now kind }) }
+        ensures err { OnErr result (self.new ≡ self.old) }
+        ensures memory { IsOkUnless result Fault.Memory }
+    {
+        let number = self.declarations.aliases.len();
+        let sorts = sorts.to_vec(self.alloc)?;
+        self.declarations
+            .aliases
+            .push(AliasSignature { sorts, kind })?;
+        Ok(AliasId { number })
+    }
+
+    /// A new const, which takes arguments of these sorts and has this type. In the type, argument i is
+    /// the canonical bound variable i of its sort. `is_const_type` is the test.
+    pub fn declare_const(&mut self, sorts: &[Sort], ty: Ty) -> Result<ConstId, Fault>
+        requires holds { HoldsTy self.old.nodes ty }
+        requires ty { IsConstType sorts.now (tree_at self.old.nodes ty.node) }
+        ensures number { IfOk result (λ c. c.number ≡ length self.old.declarations.consts) }
+        ensures declared { OnOk result (self.new ≡ record self.old { declarations = with_const self.old.declarations sorts.now ty }) }
+        ensures err { OnErr result (self.new ≡ self.old) }
+        ensures memory { IsOkUnless result Fault.Memory }
+    {
+        let number = self.declarations.consts.len();
+        let sorts = sorts.to_vec(self.alloc)?;
+        self.declarations.consts.push(ConstSignature { sorts, ty })?;
+        Ok(ConstId { number })
     }
 }

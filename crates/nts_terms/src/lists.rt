@@ -10,6 +10,7 @@ ghost use Rattle.nts_terms.specs.Rest.{Grows};
 
 use crate::cx::Cx;
 use crate::handles::{BoundVars, GenericArg, GenericArgs, ParamEnv, Predicate};
+use crate::holding::Stored;
 use nts_model::{Label, ListHead, Sort};
 use nts_store::{Fault, NodeId};
 use std::alloc::{AllocError, Global};
@@ -25,7 +26,7 @@ impl Cx {
         ensures err { OnErr result (self.new.nodes ≡ self.old.nodes) }
         ensures memory { IsOkUnless result Fault.Memory }
     {
-        let children = nodes_of_args(self.alloc, args)?;
+        let children = nodes_of(self.alloc, args)?;
         let node = self.nodes.make(Label::List(ListHead::Args), &children)?;
         Ok(GenericArgs { node })
     }
@@ -40,7 +41,7 @@ impl Cx {
         ensures err { OnErr result (self.new.nodes ≡ self.old.nodes) }
         ensures memory { IsOkUnless result Fault.Memory }
     {
-        let children = nodes_of_predicates(self.alloc, predicates)?;
+        let children = nodes_of(self.alloc, predicates)?;
         let node = self.nodes.make(Label::List(ListHead::Env), &children)?;
         Ok(ParamEnv { node })
     }
@@ -62,16 +63,11 @@ impl Cx {
     }
 }
 
-fn nodes_of_args(alloc: Global, args: &[GenericArg]) -> Result<Vec<NodeId>, AllocError>
-    ensures { IfOk result (λ v. v.items ≡ map (λ a. a.node) args.now) }
+/// The nodes of handles, in order.
+fn nodes_of<T: Stored>(alloc: Global, handles: &[T]) -> Result<Vec<NodeId>, AllocError>
+    ensures { IfOk result (λ v. v.items ≡ map T.id handles.now) }
 {
-    args.iter().map(|arg| arg.node).collect(alloc)
-}
-
-fn nodes_of_predicates(alloc: Global, predicates: &[Predicate]) -> Result<Vec<NodeId>, AllocError>
-    ensures { IfOk result (λ v. v.items ≡ map (λ p. p.node) predicates.now) }
-{
-    predicates.iter().map(|p| p.node).collect(alloc)
+    handles.iter().map(|handle| handle.node()).collect(alloc)
 }
 
 impl GenericArgs {

@@ -42,7 +42,14 @@ impl Cx {
             TyKind::Uint(uint) => self.nodes.make(Label::Ty(TyHead::Uint(uint)), &[])?,
             TyKind::Float(float) => self.nodes.make(Label::Ty(TyHead::Float(float)), &[])?,
             TyKind::Error => self.nodes.make(Label::Ty(TyHead::Error), &[])?,
-            TyKind::Infer(infer) => self.nodes.make(Label::Leaf(infer_leaf(infer)), &[])?,
+            TyKind::Infer(infer) => {
+                let leaf = match infer {
+                    InferTy::TyVar(n) => Leaf::Variable(VariableKind::Ty, n),
+                    InferTy::IntVar(n) => Leaf::Variable(VariableKind::Int, n),
+                    InferTy::FloatVar(n) => Leaf::Variable(VariableKind::Float, n),
+                };
+                self.nodes.make(Label::Leaf(leaf), &[])?
+            }
             TyKind::Param(n) => {
                 let leaf = Leaf::TyConstant(Constant::Param(n));
                 self.nodes.make(Label::Leaf(leaf), &[])?
@@ -228,15 +235,5 @@ impl Cx {
             }
         };
         Ok(node)
-    }
-}
-
-fn infer_leaf(infer: InferTy) -> Leaf
-    ensures { node (label.Leaf result) empty ≡ tree_of_infer infer }
-{
-    match infer {
-        InferTy::TyVar(n) => Leaf::Variable(VariableKind::Ty, n),
-        InferTy::IntVar(n) => Leaf::Variable(VariableKind::Int, n),
-        InferTy::FloatVar(n) => Leaf::Variable(VariableKind::Float, n),
     }
 }

@@ -1,14 +1,16 @@
 -- What changes of a table keep.
-use Rattle.std.proofs.Common.{◌≡◌, ◌≢◌, ℕ, zero, suc, ◌+◌, ◌<◌, List, [], ◌∷◌, ◌++◌, length, Some, refl, sym, ap, ◌∙◌, arith, true, None, length-append}
-use Rattle.std.specs.Prelude.{slice_get, slice_set}
+use Rattle.std.proofs.Common.{◌≡◌, ⊎_elim, subst, ◌≢◌, ℕ, zero, suc, ◌+◌, ◌<◌, List, [], ◌∷◌, ◌++◌, length, Some, refl, sym, ap, ◌∙◌, arith, true, None, length-append}
+use Rattle.std.specs.Prelude.{slice_get, slice_set, Contains}
+use Rattle.std.proofs.lemmas.List.Elements.{Contains-append_cases}
 use Rattle.nts_model.specs.declared.labels.VariableKind.{VariableKind}
 use Rattle.nts_model.specs.declared.labels.VariableKind.TheVariants as kind
-use Rattle.nts_model.specs.Trees.{Tree}
+use Rattle.nts_model.specs.Trees.{Tree, IsClosed}
 use Rattle.nts_model.specs.Contents.{Content, Slot, SlotState, Recorded, kind_at, with_constraint, sub_link_of, unset, with_slot}
 use Rattle.nts_model.specs.Resolving.{Knows}
+use Rattle.nts_model.proofs.ProvedLater.{contains_none, first_or_later}
 use Rattle.nts_model.proofs.Slots.{Knows-kept, KeepsKinds-with_slot}
 use Rattle.nts_model.proofs.Sound.{SameStates, resolved-same, SameStates-with_constraint}
-use Rattle.nts_unify.specs.Changing.{one_unset, unset_of, unset_count, IsLater, Keeps, AddsVisible, nothing_more, one_more}
+use Rattle.nts_unify.specs.Changing.{one_unset, unset_of, unset_count, IsSeen, HasClosedSides, IsLater, Keeps, AddsVisible, nothing_more, one_more}
 use Rattle.nts_unify.specs.Entries.{Inner, KeepsHidden}
 use Rattle.nts_model.proofs.SubUnified.{JoinsSubRoots-refl, JoinsSubRoots-trans, JoinsSubRoots-same, JoinsSubRoots-added}
 use Rattle.nts_model.specs.SubUnifying.{JoinsSubRoots}
@@ -23,6 +25,34 @@ AddsVisible-trans a (one_more x b v) = one_more x (AddsVisible-trans a b) v
 pub IsLater-trans : {c d e : Content} → IsLater c d → IsLater d e → IsLater c e
 IsLater-trans {c} {d} {e} a b =
     record { more = omega (arith, a.more, b.more); grows = omega (arith, a.grows, b.grows); kinds = λ n k h. b.kinds n k (a.kinds n k h); subs = JoinsSubRoots-trans c d e b.kinds a.subs b.subs; visible = AddsVisible-trans a.visible b.visible }
+
+-- what holds of the constraints that were, and of those that are seen, holds of all
+pub sides-added : {xs ys : List Recorded} (P : Recorded → Type 0) → ((x : Recorded) → IsSeen x → P x) → AddsVisible xs ys → ((x : Recorded) → Contains xs x → P x) → (x : Recorded) → Contains ys x → P x
+sides-added P new nothing_more old x i = old x i
+sides-added P new (one_more {ys} y before seen) old x i =
+    ⊎_elim (λ j. sides-added P new before old x j) (λ j. last j) (Contains-append_cases ys (y ∷ []) x i)
+  where
+    last : Contains (y ∷ []) x → P x
+    last j = ⊎_elim (λ e. subst P e (new y seen)) (λ k. absurd (contains_none x k)) (first_or_later y [] x j)
+
+-- no bound variable escapes from what a later table has recorded since
+pub closed_later : {c d : Content} → IsLater c d → HasClosedSides c → HasClosedSides d
+closed_later l h =
+    record {
+      left = sides-added (λ x. IsClosed x.left) (λ x s. s.left) l.visible h.left;
+      right = sides-added (λ x. IsClosed x.right) (λ x s. s.right) l.visible h.right;
+    }
+
+pub closed_same : {c d : Content} → d.constraints ≡ c.constraints → HasClosedSides c → HasClosedSides d
+closed_same {c} {d} e h = record { left = λ x i. h.left x (subst (λ xs. Contains xs x) e i); right = λ x i. h.right x (subst (λ xs. Contains xs x) e i) }
+
+-- one more constraint, between closed terms
+pub closed_constrained : (c : Content) (x : Recorded) → IsClosed x.left → IsClosed x.right → HasClosedSides c → HasClosedSides (with_constraint c x)
+closed_constrained c x l r h =
+    record { left = by_case (λ y. IsClosed y.left) h.left l; right = by_case (λ y. IsClosed y.right) h.right r }
+  where
+    by_case : (P : Recorded → Type 0) → ((y : Recorded) → Contains c.constraints y → P y) → P x → (y : Recorded) → Contains (with_constraint c x).constraints y → P y
+    by_case P old new y i = ⊎_elim (λ j. old y j) (λ j. ⊎_elim (λ e. subst P e new) (λ k. absurd (contains_none y k)) (first_or_later x [] y j)) (Contains-append_cases c.constraints (x ∷ []) y i)
 
 pub Knows-later : {c d : Content} (t : Tree) → IsLater c d → Knows c t → Knows d t
 Knows-later {c} {d} t l h = Knows-kept c d t (record { grows = l.grows; kinds = l.kinds }) h
@@ -95,7 +125,7 @@ Keeps-same {c} {d} s l v u =
       unset_kept = u;
     }
 
-pub Keeps-with_constraint : (c : Content) (x : Recorded) → x.is_visible ≡ true → Keeps c (with_constraint c x)
+pub Keeps-with_constraint : (c : Content) (x : Recorded) → IsSeen x → Keeps c (with_constraint c x)
 Keeps-with_constraint c x v = Keeps-same (SameStates-with_constraint c x) (λ n. refl) (one_more x nothing_more v) refl
 
 pub KeepsHidden-refl : (a : Inner) → KeepsHidden a a

@@ -1,11 +1,11 @@
 -- What a change of a table keeps.
-use Rattle.std.specs.Prelude.{◌≡◌, ◌≢◌, ℕ, ◌+◌, ◌≤◌, ◌<◌, List, [], ◌∷◌, length, Option, Some, None, Bool, true, false, ◌++◌}
+use Rattle.std.specs.Prelude.{Contains, ◌≡◌, ◌≢◌, ℕ, ◌+◌, ◌≤◌, ◌<◌, List, [], ◌∷◌, length, Option, Some, None, Bool, true, false, ◌++◌}
 use Rattle.nts_model.specs.declared.labels.VariableKind.{VariableKind}
 use Rattle.nts_model.specs.declared.labels.VariableKind.TheVariants as kind
 use Rattle.nts_model.specs.declared.labels.Leaf.TheVariants as leaf
 use Rattle.nts_model.specs.declared.labels.Label.{Label}
 use Rattle.nts_model.specs.declared.labels.Label.TheVariants as label
-use Rattle.nts_model.specs.Trees.{Tree}
+use Rattle.nts_model.specs.Trees.{Tree, IsClosed}
 use Rattle.nts_model.specs.Contents.{Content, Slot, SlotState, unset, state_of, kind_at, Recorded}
 use Rattle.nts_model.specs.Resolving.{Knows, resolved, variable_of}
 use Rattle.nts_model.specs.SubUnifying.{JoinsSubRoots}
@@ -45,13 +45,24 @@ abbrev pub unset_count : List Slot → ℕ
 unset_count [] = 0
 unset_count (v ∷ vs) = unset_of v.kind v.state + unset_count vs
 
--- the constraints that were, in order, and then some that the leak check sees
+-- a constraint that the leak check sees, between closed terms
+pub record IsSeen (x : Recorded) : Type 0 where
+  pub visible : x.is_visible ≡ true
+  pub left : IsClosed x.left
+  pub right : IsClosed x.right
+
+-- the constraints that were, in order, and then some that are seen
 pub data AddsVisible (xs : List Recorded) : List Recorded → Type 0 where
   nothing_more : AddsVisible xs xs
-  one_more : {ys : List Recorded} (x : Recorded) → AddsVisible xs ys → x.is_visible ≡ true → AddsVisible xs (ys ++ x ∷ [])
+  one_more : {ys : List Recorded} (x : Recorded) → AddsVisible xs ys → IsSeen x → AddsVisible xs (ys ++ x ∷ [])
+
+-- no bound variable escapes from a side of the table's constraints
+pub record HasClosedSides (c : Content) : Type 0 where
+  pub left : (x : Recorded) → Contains c.constraints x → IsClosed x.left
+  pub right : (x : Recorded) → Contains c.constraints x → IsClosed x.right
 
 -- the table has its variables and its universes, and may have more; its classes of sub-unification are those that it had,
--- but for variables that became one; what was recorded since is visible for the leak check
+-- but for variables that became one; what was recorded since is visible for the leak check, and between closed terms
 pub record IsLater (c d : Content) : Type 0 where
   pub more : length c.slots ≤ length d.slots
   pub grows : c.universe ≤ d.universe

@@ -11,6 +11,7 @@ use Rattle.nts_delegate.specs.Offered.{constraint_of}
 use Rattle.nts_evaluation.proofs.Forcing.{added_equal}
 use Rattle.nts_evaluation.proofs.candidate.record_one.Goals as goal
 use Rattle.nts_evaluation.proofs.Labels.{over_only}
+use Rattle.nts_evaluation.proofs.Sides.{instance_closed}
 
 pub instantiate_both-requires-clause-values : goal.instantiate_both-requires-clause-values
 instantiate_both-requires-clause-values c = held_values c.requires.values
@@ -67,6 +68,18 @@ record_outlives-requires-clause-left_sort c = c.in_ok-left.ensures.left.kind ∙
 
 pub record_outlives-requires-clause-right_sort : goal.record_outlives-requires-clause-right_sort
 record_outlives-requires-clause-right_sort c = c.in_ok-left.ensures.right.kind ∙ c.requires.constraint.right_sort
+
+pub record_outlives-requires-clause-left_closed :
+    goal.record_outlives-requires-clause-left_closed
+record_outlives-requires-clause-left_closed c =
+    let e = c.in_ok-left.ensures in
+    rw e.left.tree (instance_closed c.requires.constraint.left c.requires.values)
+
+pub record_outlives-requires-clause-right_closed :
+    goal.record_outlives-requires-clause-right_closed
+record_outlives-requires-clause-right_closed c =
+    let e = c.in_ok-left.ensures in
+    rw e.right.tree (instance_closed c.requires.constraint.right c.requires.values)
 
 pub returns-clause-runs : goal.returns-clause-runs
 returns-clause-runs c =

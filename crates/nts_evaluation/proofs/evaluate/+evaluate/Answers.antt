@@ -23,8 +23,8 @@ use Rattle.nts_canonical.specs.Building.{kinds_of}
 use Rattle.nts_canonical.specs.Forms.{form_of, trees_of}
 use Rattle.nts_response.specs.Forms.{response_at}
 use Rattle.nts_evaluation.specs.Asking.{first_values}
-use Rattle.nts_evaluation.proofs.QueryTables.{is_label_in, first_passes, table_in}
-use Rattle.nts_evaluation.proofs.AnsweredQueries.{first_entries, query_environment, query_predicate, ended_as, ended_continues, ended_passes, ended_universe, ended_contents, args_later, args_know, query_passes, query_table, query_says, answers_of, answers_in_part_of}
+use Rattle.nts_evaluation.proofs.QueryTables.{is_label_in, first_passes, first_sides, table_in}
+use Rattle.nts_evaluation.proofs.AnsweredQueries.{first_entries, query_environment, query_predicate, ended_as, ended_continues, ended_passes, ended_sides, ended_universe, ended_contents, args_later, args_know, query_passes, query_table, query_says, answers_of, answers_in_part_of}
 use Rattle.nts_evaluation.proofs.Labels.{only_earlier, only_back, only_same, only_nested, content_same}
 use Rattle.nts_evaluation.proofs.Refuting.{asks_forced_more, asks_gained_more, asks_refuted_more, some_first, some_more, skipped, gained_last, gained_nothing, gained_back, refuted_none, refuted_by_goal, refuted_by_constraint, refuted_back, only_met}
 use Rattle.nts_store.specs.declared.fault.EvalError.TheVariants as EvalError
@@ -474,8 +474,8 @@ evaluate_query-returns-in_err-answer-clause-refuted g t c = λ s n.
     rw (first_entries b (kinds_of c.args.input.now) c.in_ok-table.table.entries c.start_snapshot.new.self.entries _ o.entries k.entries, query_environment c.args.cx.now.nodes b c.args.input.now c.in_ok-table.query k.query, query_predicate c.args.cx.now.nodes b c.args.input.now c.in_ok-table.query k.query, o.mode, k.mode) at
     (c.compute_goal.ensures.refuted (Since-later k.grows.extends s) refused)
 
-pub evaluate_query-closed_response-requires-clause-values : goal.evaluate_query-closed_response-requires-clause-values
-evaluate_query-closed_response-requires-clause-values g t c =
+pub evaluate_query-make_response-requires-clause-values : goal.evaluate_query-make_response-requires-clause-values
+evaluate_query-make_response-requires-clause-values g t c =
     let k = c.in_ok-table.ensures in
     let o = c.in_ok-snapshot.ensures in
     let r = c.in_ok-answer.ensures in
@@ -505,10 +505,10 @@ evaluate_query-returns-clause-forced g t c = λ s y.
     let predicate = query_predicate a b input query k.query in
     let values = trees_kept b d q.entries c.in_ok-table.values.items r.runs.goes.extends k.args ∙ k.values in
     let ended = ended_as q p u v o.saved r.runs.goes.saved c.end_query.ensures.ends in
-    let yes = w.yes y in
+    let yes = sym w.certainty ∙ y in
     let kept = c.end_query.ensures.yes yes in
-    let says = rw (y, c.deref.ensures.value, kept) at w.says in
-    answers_of (form_of a input) (content_of b p.entries) (content_of d u.entries) (tree_at b query.goal.param_env.node) (tree_at b query.goal.predicate.node) (trees_of d c.in_ok-table.values.items) (response_at c.closed_response.new.cx.nodes c.in_ok-response.response) first env predicate values
+    let says = rw (yes, c.deref.ensures.value, kept) at w.says in
+    answers_of (form_of a input) (content_of b p.entries) (content_of d u.entries) (tree_at b query.goal.param_env.node) (tree_at b query.goal.predicate.node) (trees_of d c.in_ok-table.values.items) (response_at c.make_response.new.cx.nodes c.in_ok-response.response) first env predicate values
     (rw (o.mode, k.mode) at (r.forced (Since-later k.grows.extends s) yes)) says
 
 pub evaluate_query-returns-clause-gained : goal.evaluate_query-returns-clause-gained
@@ -532,7 +532,7 @@ evaluate_query-returns-clause-gained g t c = λ s.
     let predicate = query_predicate a b input query k.query in
     let values = trees_kept b d q.entries c.in_ok-table.values.items r.runs.goes.extends k.args ∙ k.values in
     let ended = ended_as q p u v o.saved r.runs.goes.saved c.end_query.ensures.ends in
-    answers_in_part_of ((g.H.GoalHandler.handler s.base c.args.handler.now).offers (mode_of input.typing_mode)) (c.args.depth + 1) (form_of a input) (content_of b p.entries) (content_of d u.entries) (content_of d v.entries) (tree_at b query.goal.param_env.node) (tree_at b query.goal.predicate.node) (trees_of d c.in_ok-table.values.items) c.in_ok-response.response.value.certainty (response_at c.closed_response.new.cx.nodes c.in_ok-response.response) first env predicate values
+    answers_in_part_of ((g.H.GoalHandler.handler s.base c.args.handler.now).offers (mode_of input.typing_mode)) (c.args.depth + 1) (form_of a input) (content_of b p.entries) (content_of d u.entries) (content_of d v.entries) (tree_at b query.goal.param_env.node) (tree_at b query.goal.predicate.node) (trees_of d c.in_ok-table.values.items) c.in_ok-answer.answer.certainty (response_at c.make_response.new.cx.nodes c.in_ok-response.response) first env predicate values
     (rw (o.mode, k.mode) at (r.gained (Since-later k.grows.extends s))) (ended_contents b d q p u v k.table o.entries r.runs.goes ended) (rw c.deref.ensures.value at w.says)
 
 pub evaluate_query-returns-clause-proved : goal.evaluate_query-returns-clause-proved
@@ -561,15 +561,15 @@ evaluate_query-returns-clause-proved g t c = λ s y.
     let args = args_later b d q.entries v.entries c.in_ok-table.values.items r.runs.goes.extends (ended_continues b d q p u v k.table o.entries r.runs.goes ended) k.args in
     let pass = ended_passes b d q p u v k.table o.entries r.runs.goes ended (is_label_in ks) (rw (first_entries b ks q.entries q.entries _ refl k.entries) (first_passes (is_label_in ks) ks)) (query_passes b d p u query.goal ks (form_of a input) refl kinds over.environment over.predicate first env predicate r.labels) in
     let known = args_know d v.entries c.in_ok-table.values.items (first_values ks) args values in
-    let yes = w.yes y in
+    let yes = sym w.certainty ∙ y in
     let kept = c.end_query.ensures.yes yes in
-    let says = rw (y, c.deref.ensures.value, values) at w.says in
+    let says = rw (yes, c.deref.ensures.value, values) at w.says in
     let formed = c.terms_are_formed.ensures in
     let table = query_table ks formed (c.end_query.ensures.table d r.runs.goes.table) kinds pass known in
     let there = Stays-now formed r.runs.goes.table (r.proved (Since-later k.grows.extends s) yes) in
     let holds = k.holds in
     let later = r.runs.goes.extends in
-    query_says ks (content_of d v.entries) (form_of a input) (response_at c.closed_response.new.cx.nodes c.in_ok-response.response) (meaning_since (λ ts. g.H.GoalHandler.handler ts c.args.handler.now) s) (mode_of input.typing_mode) refl table says over.environment over.predicate
+    query_says ks (content_of d v.entries) (form_of a input) (response_at c.make_response.new.cx.nodes c.in_ok-response.response) (meaning_since (λ ts. g.H.GoalHandler.handler ts c.args.handler.now) s) (mode_of input.typing_mode) refl table says over.environment over.predicate
     (rw (later.kept query.goal.param_env.node holds.environment.within ∙ env, later.kept query.goal.predicate.node holds.predicate.within ∙ predicate, o.mode, k.mode, ← kept) at there)
 
 pub evaluate_query-returns-clause-fits : goal.evaluate_query-returns-clause-fits
@@ -599,5 +599,6 @@ evaluate_query-returns-clause-fits g t c =
     let pass = ended_passes b d q p u v k.table o.entries r.runs.goes ended (is_label_in ks) (rw (first_entries b ks q.entries q.entries _ refl k.entries) (first_passes (is_label_in ks) ks)) (query_passes b d p u query.goal ks (form_of a input) refl kinds over.environment over.predicate first env predicate r.labels) in
     let known = args_know d v.entries c.in_ok-table.values.items (first_values ks) args values in
     let root = ended_universe b d q p u v k.table o.entries r.runs.goes ended ∙ ap (λ (z : Entries). z.universe) k.entries in
-    answer_to ks c.in_ok-response.response.value.certainty c.in_ok-response.response c.terms_are_formed.ensures (c.end_query.ensures.table d r.runs.goes.table) root kinds (table_in ks (content_of d v.entries) pass) known
-    (rw (c.deref.ensures.value, values) at w.says) w.holds w.closed w.nothing.0 w.nothing.1
+    let sides = ended_sides b d q p u v k.table o.entries r.runs.goes ended (rw (first_entries b ks q.entries q.entries _ refl k.entries) (first_sides ks)) in
+    answer_to ks c.in_ok-answer.answer.certainty c.in_ok-response.response c.terms_are_formed.ensures (c.end_query.ensures.table d r.runs.goes.table) root kinds (table_in ks (content_of d v.entries) pass) known
+    (rw (c.deref.ensures.value, values) at w.says) w.holds sides w.nothing.0 w.nothing.1

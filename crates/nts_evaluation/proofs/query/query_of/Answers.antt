@@ -1,9 +1,6 @@
-use Rattle.nts_evaluation.proofs.AskedGoals.{trees_kept}
-use Rattle.nts_evaluation.proofs.AnsweredQueries.{query_says}
 use Rattle.std.proofs.Common.{ap, ◌∙◌}
 use Rattle.nts_terms.specs.Modes.{mode_of}
 use Rattle.nts_evaluation.proofs.Queried.{query_made}
-use Rattle.nts_evaluation.proofs.QueryTables.{first_passes}
 use Rattle.nts_evaluation.proofs.query.query_of.Goals as goal
 
 pub returns-clause-query : goal.returns-clause-query

@@ -1,6 +1,8 @@
-use Rattle.std.proofs.Common.{◌≡◌, ◌+◌, ◌<◌, Err, rules, arith}
+use Rattle.std.proofs.Common.{◌≡◌, Err, rules, arith}
 use Rattle.nts_store.specs.declared.fault.EvalError.TheVariants as EvalError
-use Rattle.nts_evaluation.proofs.Evaluating.{runs-back}
+use Rattle.std.proofs.lemmas.Grind.{common_steps}
+use Rattle.nts_response.proofs.ShownClosed.{closed_shown}
+use Rattle.nts_evaluation.proofs.Evaluating.{runs-back, goes}
 use Rattle.nts_evaluation.proofs.response.apply_answer.Goals as goal
 
 pub returns-in_err-certainty-clause-runs : goal.returns-in_err-certainty-clause-runs
@@ -16,3 +18,13 @@ returns-in_err-certainty-clause-full c = λ q.
 
 pub returns-clause-labels : goal.returns-clause-labels
 returns-clause-labels c = c.in_ok-certainty.ensures.labels
+
+pub returns-clause-runs : goal.returns-clause-runs
+returns-clause-runs c =
+    let e = c.in_ok-certainty.ensures in
+    let same : c.instantiate_and_apply_query_response.new.table.entries.universe ≡ c.args.table.now.entries.universe = omega (arith, e.universe, c.requires.rootless.universe) in
+    let kept : c.instantiate_and_apply_query_response.new.table.entries.hidden ≡ c.args.table.now.entries.hidden = first_of (search rules, grind (arith, common_steps)) in
+    record {
+      goes = goes c.requires.table e.grows.extends e.table e.applied.applies.continues e.changes.saved e.changes.mode same kept (λ k. closed_shown e.applied.shows k);
+      rest = e.grows.rest;
+    }

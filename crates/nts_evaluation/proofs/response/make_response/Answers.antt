@@ -1,4 +1,4 @@
-use Rattle.std.proofs.Common.{◌≡◌, map, subst}
+use Rattle.std.proofs.Common.{◌≡◌}
 use Rattle.std.proofs.lemmas.Result.{IfOk-weaker}
 use Rattle.nts_store.proofs.Growing.{Extends-trans}
 use Rattle.nts_unify.specs.Reading.{content_of}

@@ -1,10 +1,8 @@
-use Rattle.std.proofs.Common.{List, ap, arith, get_or, map, subst, sym, ◌∙◌}
+use Rattle.std.proofs.Common.{ap, arith, map, subst, sym, ◌∙◌}
 use Rattle.std.proofs.lemmas.List.{take_all}
 use Rattle.std.proofs.lemmas.List.Elements.{All-push}
-use Rattle.nts_model.specs.Contents.{Recorded}
 use Rattle.nts_unify.specs.Reading.{content_of, recorded_of, IsConstraint}
-use Rattle.nts_response.specs.Forms.{recorded_at, HoldsConstraint}
-use Rattle.nts_evaluation.specs.Answering.{told_in, AreTold, KnowsSides}
+use Rattle.nts_response.specs.Forms.{HoldsConstraint}
 use Rattle.nts_evaluation.proofs.Told.{news_told, sides_known, holds_told, is_constraint_at, more_recorded}
 use Rattle.nts_evaluation.proofs.response.told_constraints.Goals as goal
 use Rattle.std.specs.Prelude.{All}

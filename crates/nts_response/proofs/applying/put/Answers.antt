@@ -119,9 +119,10 @@ returns-clause-put c =
       makes = rw c.deref.ensures.value at c.in_ok-equate_values.ensures.equal;
       records = subst (λ z. Records xs (map (recorded_at a) cs) equal z) (sym last)
           (subst (λ z. Records z (map (recorded_at a) cs) equal (content_of n t.entries)) (map-kept a m nodes c.requires.chosen first) (subst (λ z. Records (map (tree_at m) nodes) z equal (content_of n t.entries)) sides recorded_there));
+      related = (let later = c.equate_values.ensures.later in later.visible);
       seen = subst (λ (z : Content). AddsAllSeen (is_visible c.args.visible) (map (recorded_at a) cs) equal.constraints z.constraints) (sym last)
           (subst (λ z. AddsAllSeen (is_visible c.args.visible) z equal.constraints (content_of n t.entries).constraints) sides seen_there);
-      joins = subst (JoinsSubRoots (content_of a c.args.table.now.entries)) (sym last) (joins_next c.equate_values.ensures.keeps c.equate_values.ensures.joins c.record_constraints.ensures.keeps c.in_ok-record_constraints.ensures.joins);
+      joins = subst (JoinsSubRoots (content_of a c.args.table.now.entries)) (sym last) (joins_next c.equate_values.ensures.keeps (let later = c.equate_values.ensures.later in later.subs) c.record_constraints.ensures.keeps c.in_ok-record_constraints.ensures.joins);
       equal_labels = rw c.deref.ensures.value at c.in_ok-equate_values.ensures.labels;
       recorded_labels = subst (λ z. BringsOnly (map (filled xs) (sides_of (map (recorded_at a) cs))) equal z) (sym last)
           (subst (λ z. BringsOnly (map (filled z) (sides_of (map (recorded_at a) cs))) equal (content_of n t.entries)) (map-kept a m nodes c.requires.chosen first) (subst (λ z. BringsOnly (map (filled (map (tree_at m) nodes)) (sides_of z)) equal (content_of n t.entries)) sides labels_there));

@@ -1,11 +1,11 @@
 use Rattle.std.proofs.Common.{subst}
-use Rattle.nts_model.specs.SubUnifying.{JoinsSubRoots}
+use Rattle.nts_unify.specs.Changing.{IsLater}
 use Rattle.nts_unify.specs.Reading.{content_of}
 use Rattle.nts_store.proofs.Growing.{IsIn-extended}
 use Rattle.nts_unify.specs.Lawful.{content_of-extended}
 use Rattle.nts_table.specs.TableLaws.{IsTable-extended}
 use Rattle.nts_delegate.proofs.Results.{OnOk-map}
-use Rattle.nts_response.proofs.Stepping.{nodes_grown, nodes_related, joins_grown}
+use Rattle.nts_response.proofs.Stepping.{nodes_grown, nodes_related, later_grown}
 use Rattle.nts_response.proofs.equating.equate_one.Goals as goal
 
 pub relate_nodes-requires-clause-table : goal.relate_nodes-requires-clause-table
@@ -50,11 +50,10 @@ returns-clause-keeps c =
 pub returns-in_err-value-clause-keeps : goal.returns-in_err-value-clause-keeps
 returns-in_err-value-clause-keeps c = nodes_grown c.args.cx.now c.instantiate_canonical.new.nodes c.args.table.now c.requires.table c.instantiate_canonical.ensures.extends
 
-pub returns-clause-joins : goal.returns-clause-joins
-returns-clause-joins c =
+pub returns-clause-later : goal.returns-clause-later
+returns-clause-later c =
     let same = content_of-extended c.instantiate_canonical.ensures.extends c.requires.table.now in
-    let later = c.relate_nodes.ensures.later in
-    subst (λ z. JoinsSubRoots z (content_of c.relate_nodes.new.nodes c.relate_nodes.new.table.entries)) same later.subs
+    subst (λ z. IsLater z (content_of c.relate_nodes.new.nodes c.relate_nodes.new.table.entries)) same c.relate_nodes.ensures.later
 
-pub returns-in_err-value-clause-joins : goal.returns-in_err-value-clause-joins
-returns-in_err-value-clause-joins c = joins_grown c.args.cx.now.nodes c.instantiate_canonical.new.nodes c.args.table.now c.requires.table c.instantiate_canonical.ensures.extends
+pub returns-in_err-value-clause-later : goal.returns-in_err-value-clause-later
+returns-in_err-value-clause-later c = later_grown c.args.cx.now.nodes c.instantiate_canonical.new.nodes c.args.table.now c.requires.table c.instantiate_canonical.ensures.extends

@@ -1,11 +1,11 @@
 use Rattle.std.proofs.Common.{arith, rules, refl, ◌≡◌, Err}
 use Rattle.nts_model.proofs.Bringing.{only-refl}
-use Rattle.nts_model.proofs.SubUnified.{JoinsSubRoots-refl}
+use Rattle.nts_unify.proofs.Keeping.{IsLater-refl, IsLater-trans}
 use Rattle.nts_store.specs.declared.fault.EvalError.TheVariants as EvalError
 use Rattle.nts_store.specs.Kept.{AllIn-kept}
 use Rattle.nts_unify.specs.Reading.{content_of}
 use Rattle.nts_table.proofs.TermTables.{proper_content}
-use Rattle.nts_response.proofs.Stepping.{step_none, step_then, joins_next, arg_later}
+use Rattle.nts_response.proofs.Stepping.{step_none, step_then, arg_later}
 use Rattle.nts_response.proofs.LabelSteps.{equal_brings}
 use Rattle.nts_response.proofs.EqualLemmas.{equal_all, equal_next, equal_fault, fillable_later}
 use Rattle.nts_response.proofs.equating.equate_values.Goals as goal
@@ -27,7 +27,7 @@ pub loop-i-init : goal.loop-i-init
 loop-i-init c = record {
   equal = refl;
   labels = only-refl _ (content_of c.args.cx.now.nodes c.args.table.now.entries);
-  joins = JoinsSubRoots-refl (content_of c.args.cx.now.nodes c.args.table.now.entries);
+  later = IsLater-refl (content_of c.args.cx.now.nodes c.args.table.now.entries);
   keeps = step_none c.args.cx.now c.args.table.now c.requires.table;
 }
 
@@ -38,7 +38,7 @@ loop-i-preserved c =
     record {
       equal = equal_next c.args.cx.now c.loop-i.cx c.args.table.now c.loop-i.table c.args.chosen.now c.args.values.now c.args.originals.now c.loop-i.i (record { node = record { number = 0 } }) (record { node = record { number = 0 } }) (content_of c.equate_one.new.cx.nodes c.equate_one.new.table.entries) c.loop-i-test.true c.requires.long c.loop-i.invariant.keeps c.requires.chosen c.requires.values c.requires.originals c.loop-i.invariant.equal e.related (proper_content keeps.table);
       labels = equal_brings c.args.cx.now c.loop-i.cx c.args.table.now c.loop-i.table c.args.chosen.now c.loop-i.invariant.keeps c.requires.chosen c.args.values.now c.args.originals.now c.loop-i.i (record { node = record { number = 0 } }) (record { node = record { number = 0 } }) (content_of c.equate_one.new.cx.nodes c.equate_one.new.table.entries) c.loop-i-test.true c.requires.long c.requires.values c.requires.originals c.loop-i.invariant.labels e.labels;
-      joins = joins_next c.loop-i.invariant.keeps c.loop-i.invariant.joins e.keeps e.joins;
+      later = IsLater-trans c.loop-i.invariant.later e.later;
       keeps = keeps;
     }
 
@@ -51,5 +51,5 @@ returns-in_err-equate_one-clause-no c = λ q.
     let no : c.equate_one.result ≡ Err EvalError.NoSolution = search rules in
     equal_fault c.args.cx.now c.loop-i.cx c.args.table.now c.loop-i.table c.args.chosen.now c.args.values.now c.args.originals.now c.loop-i.i (record { node = record { number = 0 } }) (record { node = record { number = 0 } }) c.loop-i-test.true c.requires.long c.loop-i.invariant.keeps c.requires.chosen c.requires.values c.requires.originals c.loop-i.invariant.equal (c.equate_one.ensures.no no)
 
-pub returns-in_err-equate_one-clause-joins : goal.returns-in_err-equate_one-clause-joins
-returns-in_err-equate_one-clause-joins c = joins_next c.loop-i.invariant.keeps c.loop-i.invariant.joins c.equate_one.ensures.keeps c.equate_one.ensures.joins
+pub returns-in_err-equate_one-clause-later : goal.returns-in_err-equate_one-clause-later
+returns-in_err-equate_one-clause-later c = IsLater-trans c.loop-i.invariant.later c.equate_one.ensures.later

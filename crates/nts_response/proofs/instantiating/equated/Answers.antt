@@ -68,7 +68,7 @@ returns-clause-equated c =
     (values_applied c.args.cx.now.nodes b c.args.table.now u c.args.originals.now c.args.values.now c.args.kinds.now c.args.max_universe c.in_ok-chosen.chosen.items c.terms_are_formed.ensures c.requires.table c.requires.originals c.requires.closed c.requires.fits
     (chose c.args.cx.now.nodes b c.args.table.now c.create_universes.new.self u c.args.originals.now c.args.values.now c.args.kinds.now c.args.max_universe c.in_ok-chosen.chosen.items _ c.universe-universe.ensures c.in_ok-create_universes.ensures.entries
     k.chosen k.placed k.args k.sorts k.keeps.grows.extends)
-    d w c.terms_are_formed-2.ensures c.equate_values.ensures.keeps.table c.equate_values.ensures.joins
+    d w c.terms_are_formed-2.ensures c.equate_values.ensures.keeps.table c.equate_values.ensures.later
     (subst (λ z. MakesEqual z (trees_of b c.args.values.now) (trees_of b c.args.originals.now) (content_of b u.entries) (content_of d w.entries)) nodes c.in_ok-equate_values.ensures.equal))
 
 pub returns-clause-args : goal.returns-clause-args

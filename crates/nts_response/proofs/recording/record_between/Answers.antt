@@ -10,7 +10,7 @@ use Rattle.nts_unify.specs.Recording.{is_visible}
 use Rattle.nts_delegate.proofs.Results.{OnOk-map}
 use Rattle.nts_table.proofs.TermTables.{proper_content}
 use Rattle.nts_response.specs.Recorded.{IsLeftSide, AddsSeen, seen_as}
-use Rattle.nts_response.proofs.RecordLemmas.{recorded_in, recorded_seen, recorded_joins, equated_in, equated_joins}
+use Rattle.nts_response.proofs.RecordLemmas.{recorded_in, recorded_seen, seen_in, recorded_joins, equated_in, equated_joins}
 use Rattle.nts_response.proofs.recording.record_between.Goals as goal
 
 pub returns-in-Equal-clause-recorded : goal.returns-in-Equal-clause-recorded
@@ -38,6 +38,22 @@ returns-in-RegionOutlives-clause-recorded c =
     let u = c.sub_regions.new.self in
     subst (λ z. OnOk c.sub_regions.result (IsRecordedIn (content_of ts t.entries) (content_of ts u.entries) (record { relation = z; left = tree_at ts c.args.left; right = tree_at ts c.args.right; is_visible = is_visible c.args.visible }))) (sym c.in-RegionOutlives.is)
     (OnOk-map c.sub_regions.result (λ k. recorded_in ts t.entries u.entries (record { relation = relation.RegionOutlives; left = c.args.left; right = c.args.right; is_visible = is_visible c.args.visible }) (proper_content c.requires.table) (proper_content c.sub_regions.ensures.table) (λ i j. cc i) k) c.sub_regions.ensures.recorded)
+
+pub returns-in-RegionOutlives-clause-seen : goal.returns-in-RegionOutlives-clause-seen
+returns-in-RegionOutlives-clause-seen c =
+    let ts = c.args.cx.now.nodes in
+    let t = c.args.table.now in
+    let u = c.sub_regions.new.self in
+    subst (λ z. OnOk c.sub_regions.result (AddsSeen (seen_as z (is_visible c.args.visible)) (content_of ts t.entries).constraints (content_of ts u.entries).constraints)) (sym c.in-RegionOutlives.is)
+    (OnOk-map c.sub_regions.result (λ k. seen_in ts t.entries u.entries (record { relation = relation.RegionOutlives; left = c.args.left; right = c.args.right; is_visible = is_visible c.args.visible }) c.requires.closed c.requires.right_side k) c.sub_regions.ensures.recorded)
+
+pub returns-in-TypeOutlives-clause-seen : goal.returns-in-TypeOutlives-clause-seen
+returns-in-TypeOutlives-clause-seen c =
+    let ts = c.args.cx.now.nodes in
+    let t = c.args.table.now in
+    let u = c.register_ty_outlives.new.self in
+    subst (λ z. OnOk c.register_ty_outlives.result (AddsSeen (seen_as z (is_visible c.args.visible)) (content_of ts t.entries).constraints (content_of ts u.entries).constraints)) (sym c.in-TypeOutlives.is)
+    (OnOk-map c.register_ty_outlives.result (λ k. seen_in ts t.entries u.entries (record { relation = relation.TypeOutlives; left = c.args.left; right = c.args.right; is_visible = true }) c.requires.closed c.requires.right_side k) c.register_ty_outlives.ensures.recorded)
 
 pub returns-in-TypeOutlives-clause-recorded : goal.returns-in-TypeOutlives-clause-recorded
 returns-in-TypeOutlives-clause-recorded c =

@@ -50,6 +50,12 @@ record_between-requires-clause-right c =
     let same = content_of-extended (Extends-trans a.extends b.extends) c.requires.table.now in
     record { within = b.within; knows = rw (b.tree, map-kept c.args.cx.now.nodes c.instantiate_canonical.new.nodes c.args.chosen.now c.requires.chosen a.extends, a.extends.kept c.args.constraint.0.right.node r.within, same) r.knows }
 
+pub record_between-requires-clause-closed : goal.record_between-requires-clause-closed
+record_between-requires-clause-closed c =
+    let a = c.in_ok-left.ensures in
+    let b = c.in_ok-right.ensures in
+    rw (b.extends.kept c.in_ok-left.left a.within, a.tree) c.requires.constraint.left_closed
+
 pub record_between-requires-clause-right_side : goal.record_between-requires-clause-right_side
 record_between-requires-clause-right_side c =
     let a = c.in_ok-left.ensures in

@@ -3,7 +3,7 @@ use Rattle.nts_model.specs.Trees.{children, row_length}
 use Rattle.nts_store.specs.Growth.{tree_at}
 use Rattle.nts_delegate.specs.Clauses.{AreClauses}
 use Rattle.nts_delegate.specs.Offers.{trait_of}
-use Rattle.nts_delegate.proofs.Offering.{clause_at, is_part, taken, found_more, found_same, not_equal}
+use Rattle.nts_delegate.proofs.Offering.{clause_at, is_part, goal_arguments, taken, found_more, found_same, not_equal}
 use Rattle.nts_delegate.proofs.clauses.Clauses.offers.Goals.{then-len+in_ok-offer_of+in_ok-push, else-len}
 use Rattle.nts_delegate.proofs.clauses.Clauses.offers.Goals as goal
 
@@ -28,10 +28,11 @@ loop-clause-preserved c =
     let is_clause = clause_at ts clauses c.loop-clause.clause-index clause all inside c.clause-item.is in
     let one_more = taken clauses c.loop-clause.clause-index clause inside c.clause-item.is in
     let part = is_part (tree_at ts c.args.goal.predicate.node) _ (ap trait_of c.kind.ensures.tree ∙ c.in-Some.ensures.is ts) in
+    let closed = goal_arguments _ c.requires.goal (ap trait_of c.kind.ensures.tree ∙ c.in-Some.ensures.is ts) in
     elim c.if-len.branch [
       | then-len+in_ok-offer_of+in_ok-push w ↦
           let long : row_length (children (tree_at c.args.cx.now.nodes c.in-Some.trait_ref.args.node)) ≡ row_length (children (tree_at c.args.cx.now.nodes c.clause-item.result.head.node)) = sym c.len.ensures.count ∙ w.if-len.true ∙ c.len-in-loop-clause.ensures.count in
-          found_more ts c.args.goal args _ _ _ _ clause _ c.loop-clause.invariant (eq-eqb _ _ long) c.requires.goal is_clause part w.in_ok-offer_of.ensures.offer one_more (ap (λ v. v.items) w.found-is ∙ w.in_ok-push.ensures.items)
+          found_more ts c.args.goal args _ _ _ _ clause _ c.loop-clause.invariant (eq-eqb _ _ long) c.requires.goal is_clause part closed w.in_ok-offer_of.ensures.offer one_more (ap (λ v. v.items) w.found-is ∙ w.in_ok-push.ensures.items)
       | else-len w ↦
           found_same ts c.args.goal args _ _ _ _ clause c.loop-clause.invariant (not_equal _ _ (λ e. w.if-len.false (c.len.ensures.count ∙ e ∙ sym c.len-in-loop-clause.ensures.count))) one_more (ap (λ v. v.items) w.found-is)
     ]
