@@ -5,6 +5,8 @@ use Rattle.nts_model.specs.Handlers.{filled}
 use Rattle.nts_model.specs.Resolving.{Knows}
 use Rattle.nts_model.specs.Substitutions.{leaf_tree}
 use Rattle.nts_model.specs.Inputs.{PositionKind}
+use Rattle.nts_model.specs.Scoping.{IsWellBound}
+use Rattle.nts_model.proofs.Scoping.{leaf_patches}
 use Rattle.nts_terms.specs.declared.handles.GenericArg.{GenericArg}
 use Rattle.nts_store.specs.Growth.{Extends}
 use Rattle.nts_store.specs.Filled.{HasValues}
@@ -49,6 +51,6 @@ pub query-made : (a b : List Tree) (q : QueryInput) (ts vs : List Tree) (t : Tre
 query-made a b q ts vs t h e same is = is ∙ ap (λ z. filled z (query_tree b q)) same ∙ ap (filled vs) (query_tree-kept a b q h e)
 
 -- .. and the table knows it
-pub query-known : (ts : List Tree) (e : Entries) (ks : List PositionKind) (s t : Tree) → e.variables ≡ made_variables [] ks → AreRootKinds ks → HasNoName t → s ≡ filled (map leaf_tree (value_leaves 0 ks)) t → Knows (content_of ts e) s
-query-known ts e ks s t m z n is =
-    subst (Knows (content_of ts e)) (sym is) (knows-filled (content_of ts e) (map leaf_tree (value_leaves 0 ks)) t (values-known ts e ks m z) (leaves-none (content_of ts e) t n.0 n.1 n.2))
+pub query-known : (ts : List Tree) (e : Entries) (ks : List PositionKind) (s t : Tree) → e.variables ≡ made_variables [] ks → AreRootKinds ks → HasNoName t → IsWellBound t → s ≡ filled (map leaf_tree (value_leaves 0 ks)) t → Knows (content_of ts e) s
+query-known ts e ks s t m z n w is =
+    subst (Knows (content_of ts e)) (sym is) (knows-filled (content_of ts e) (map leaf_tree (value_leaves 0 ks)) t (values-known ts e ks m z) (λ j. (leaf_patches (value_leaves 0 ks) j).0) (leaves-none (content_of ts e) t n.0 n.1 n.2) w)

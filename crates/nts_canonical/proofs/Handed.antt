@@ -17,6 +17,8 @@ use Rattle.nts_model.specs.Handlers.{position_of}
 use Rattle.nts_model.specs.Substitutions.{leaf_tree, put, replace}
 use Rattle.nts_model.specs.Numbered.{number, numbered, numbered_leaf, no_leaf, AreDistinct}
 use Rattle.nts_model.specs.Inputs.{Input, CanonicalInput as Form, type_variable, sub_root_of, are_one, share, position_kind, is_static, after_environment, after_predicate, originals, canonical_of, whole, whole_of}
+use Rattle.nts_model.specs.Scoping.{IsWellBound}
+use Rattle.nts_model.proofs.Scoping.{well_bound_patched, numbered_patched}
 use Rattle.nts_model.proofs.Listed.{either}
 use Rattle.nts_model.proofs.Under.{eq-self}
 use Rattle.nts_store.specs.Filled.{HasValue, HasValues}
@@ -222,12 +224,23 @@ form-no_name i =
     (row-no-name pred (more hid empty) (subst HasNoName (sym (numbered-predicate i)) (no-name no_leaf u i.predicate none))
     (row-no-name hid empty (subst HasNoName (sym (numbered-hidden i)) (no-name no_leaf u i.hidden none)) (refl, refl, refl)))
 
-pub handed_in : {ts : List Tree} {c : CanonicalInput} {f : Form} → HoldsQuery ts c.canonical.value → c.canonical.max_universe ≡ 0 → form_of ts c ≡ f → AreInputKinds f.kinds → HasValues (map leaf_tree (value_leaves 0 f.kinds)) (whole_of f) → HasNoName (whole_of f) → IsInputOf ts c
-handed_in {ts} {c} {f} h u e k p n =
+-- .. and its binders list what they bind, where those of the input do
+pub form-well_bound : (i : Input) → IsWellBound (whole i) → IsWellBound (whole_of (canonical_of i))
+form-well_bound i h = (
+  well_bound_patched i.environment (numbered is_static [] i.environment) (numbered_patched is_static [] i.environment) h.0,
+  (
+    well_bound_patched i.predicate (numbered no_leaf (after_environment i) i.predicate) (numbered_patched no_leaf (after_environment i) i.predicate) h.1.0,
+    (well_bound_patched i.hidden (numbered no_leaf (after_predicate i) i.hidden) (numbered_patched no_leaf (after_predicate i) i.hidden) h.1.1.0, tt),
+  ),
+)
+
+pub handed_in : {ts : List Tree} {c : CanonicalInput} {f : Form} → HoldsQuery ts c.canonical.value → c.canonical.max_universe ≡ 0 → form_of ts c ≡ f → AreInputKinds f.kinds → HasValues (map leaf_tree (value_leaves 0 f.kinds)) (whole_of f) → HasNoName (whole_of f) → IsWellBound (whole_of f) → IsInputOf ts c
+handed_in {ts} {c} {f} h u e k p n w =
     record {
       holds = h;
       universe = u;
       kinds = subst (λ (z : Form). AreInputKinds z.kinds) (sym e) k;
       positions = subst (λ (z : Form). HasValues (map leaf_tree (value_leaves 0 z.kinds)) (whole_of z)) (sym e) p;
       no_name = subst (λ (z : Form). HasNoName (whole_of z)) (sym e) n;
+      well_bound = subst (λ (z : Form). IsWellBound (whole_of z)) (sym e) w;
     }

@@ -59,14 +59,14 @@ root_taken ks n h i k q = h i k (sym (taken-at ks n i (below ks n i k q)) ∙ q)
 
 -- the value of a kind is one of the table that is made
 known-kind : (ts : List Tree) (e : Entries) (ks : List PositionKind) (j : ℕ) (k : PositionKind) → e.variables ≡ made_variables [] ks → universe_of_kind k ≡ 0 → slice_get ks j ≡ Some k → Knows (content_of ts e) (leaf_tree (value_leaf k (universe_of_kind k) (variables_before ks j)))
-known-kind ts e ks j (type_variable u r) m z h = ((kind_at-entry ts e (variables_before ks j) _ (ap (λ vs. slice_get vs (variables_before ks j)) m ∙ (made-at [] ks j (type_variable u r) h).at), tt, refl), tt)
-known-kind ts e ks j integer_variable m z h = ((kind_at-entry ts e (variables_before ks j) _ (ap (λ vs. slice_get vs (variables_before ks j)) m ∙ (made-at [] ks j integer_variable h).at), tt, refl), tt)
-known-kind ts e ks j float_variable m z h = ((kind_at-entry ts e (variables_before ks j) _ (ap (λ vs. slice_get vs (variables_before ks j)) m ∙ (made-at [] ks j float_variable h).at), tt, refl), tt)
-known-kind ts e ks j (const_variable u) m z h = ((kind_at-entry ts e (variables_before ks j) _ (ap (λ vs. slice_get vs (variables_before ks j)) m ∙ (made-at [] ks j (const_variable u) h).at), tt, refl), tt)
-known-kind ts e ks j (region_variable u) m z h = ((kind_at-entry ts e (variables_before ks j) _ (ap (λ vs. slice_get vs (variables_before ks j)) m ∙ (made-at [] ks j (region_variable u) h).at), tt, refl), tt)
-known-kind ts e ks j (placeholder sort.Ty u a) m z h = ((tt, omega (arith, z), refl), tt)
-known-kind ts e ks j (placeholder sort.Region u a) m z h = ((tt, omega (arith, z), refl), tt)
-known-kind ts e ks j (placeholder sort.Const u a) m z h = ((tt, omega (arith, z), refl), tt)
+known-kind ts e ks j (type_variable u r) m z h = ((kind_at-entry ts e (variables_before ks j) _ (ap (λ vs. slice_get vs (variables_before ks j)) m ∙ (made-at [] ks j (type_variable u r) h).at), tt, refl), tt, tt)
+known-kind ts e ks j integer_variable m z h = ((kind_at-entry ts e (variables_before ks j) _ (ap (λ vs. slice_get vs (variables_before ks j)) m ∙ (made-at [] ks j integer_variable h).at), tt, refl), tt, tt)
+known-kind ts e ks j float_variable m z h = ((kind_at-entry ts e (variables_before ks j) _ (ap (λ vs. slice_get vs (variables_before ks j)) m ∙ (made-at [] ks j float_variable h).at), tt, refl), tt, tt)
+known-kind ts e ks j (const_variable u) m z h = ((kind_at-entry ts e (variables_before ks j) _ (ap (λ vs. slice_get vs (variables_before ks j)) m ∙ (made-at [] ks j (const_variable u) h).at), tt, refl), tt, tt)
+known-kind ts e ks j (region_variable u) m z h = ((kind_at-entry ts e (variables_before ks j) _ (ap (λ vs. slice_get vs (variables_before ks j)) m ∙ (made-at [] ks j (region_variable u) h).at), tt, refl), tt, tt)
+known-kind ts e ks j (placeholder sort.Ty u a) m z h = ((tt, omega (arith, z), refl), tt, tt)
+known-kind ts e ks j (placeholder sort.Region u a) m z h = ((tt, omega (arith, z), refl), tt, tt)
+known-kind ts e ks j (placeholder sort.Const u a) m z h = ((tt, omega (arith, z), refl), tt, tt)
 
 tree-past : {A : Type 0} (f : A → Tree) (xs : List A) (j : ℕ) → length xs ≤ j → get_or (map f xs) j empty ≡ empty
 tree-past f [] j l = refl

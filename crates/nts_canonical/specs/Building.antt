@@ -5,6 +5,7 @@ use Rattle.nts_model.specs.declared.labels.Leaf.TheVariants as leaf
 use Rattle.nts_model.specs.declared.labels.VariableKind.TheVariants as kind
 use Rattle.nts_model.specs.declared.labels.Label.TheVariants as label
 use Rattle.nts_model.specs.Trees.{Tree, node, any_label, is_infer, is_region_infer, is_placeholder}
+use Rattle.nts_model.specs.Scoping.{IsWellBound}
 use Rattle.nts_model.specs.Contents.{Content}
 use Rattle.nts_model.specs.Resolving.{Knows}
 use Rattle.nts_model.specs.Substitutions.{leaf_tree}
@@ -37,13 +38,14 @@ abbrev pub HasNoName : Tree → Type 0
 HasNoName t = (any_label is_infer t ≡ false) × (any_label is_region_infer t ≡ false) × (any_label is_placeholder t ≡ false)
 
 -- an input that a table can be made for: its kinds are those of inputs, each position that its terms name is of the
--- sort of its kind, and they hold neither variables nor placeholders
+-- sort of its kind, they hold neither variables nor placeholders, and their binders list what they bind
 pub record IsInputOf (ts : List Tree) (c : CanonicalInput) : Type 0 where
   pub holds : HoldsQuery ts c.canonical.value
   pub universe : c.canonical.max_universe ≡ 0
   pub kinds : AreInputKinds (kinds_of c)
   pub positions : HasValues (values_of c) (query_tree ts c.canonical.value)
   pub no_name : HasNoName (query_tree ts c.canonical.value)
+  pub well_bound : IsWellBound (query_tree ts c.canonical.value)
 
 -- what the input i is asked as in that mode: its leaves as arguments, which are terms of the store, and its canonical
 -- form, whose universe is the root

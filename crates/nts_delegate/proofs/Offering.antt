@@ -10,6 +10,7 @@ use Rattle.nts_model.specs.declared.labels.ListHead.TheVariants as list
 use Rattle.nts_model.specs.declared.labels.Label.{Label}
 use Rattle.nts_model.specs.declared.labels.Label.TheVariants as label
 use Rattle.nts_model.specs.Trees.{Tree, empty, more, node, children, any_label, is_canonical, row_length, row_at, row_take, IsRow, IsClosed, IsFormed, kind_of, arguments}
+use Rattle.nts_model.specs.Scoping.{IsWellBound}
 use Rattle.nts_model.specs.Substitutions.{Occurs}
 use Rattle.nts_model.specs.Related.{pair, unbound}
 use Rattle.nts_terms.specs.declared.handles.Goal.{Goal}
@@ -67,15 +68,21 @@ children_leaves l empty o = absurd o
 children_leaves l (more a b) o = absurd o
 children_leaves l (node m t) o = inr o
 
--- a part of a whole has no position and no leaf that the whole lacks
+children_well_bound : (t : Tree) → IsWellBound t → IsWellBound (children t)
+children_well_bound empty h = tt
+children_well_bound (more a b) h = tt
+children_well_bound (node l c) h = h.1
+
+-- a part of a whole has no position and no leaf that the whole lacks, and its binders list what they bind if those of the whole do
 pub record IsPart (whole part : Tree) : Type 0 where
   pub lacks : (p : Label → Bool) → any_label p whole ≡ false → any_label p part ≡ false
   pub leaves : (l : Leaf) → Occurs l part → Occurs l whole
+  pub well_bound : IsWellBound whole → IsWellBound part
 
 is_part_of_statement : (s : Tree) (r : ℕ × Tree) → trait_read s ≡ Some r → IsPart s r.1
 is_part_of_statement (node (label.Clause (clause.Trait i)) (more a b)) r e =
     let is : a ≡ r.1 = ap (λ o. or_empty o) e in
-    rw (← is) (record { lacks = λ p h. let w : any_label p (more a b) ≡ false = (both_false (p (label.Clause (clause.Trait i))) (any_label p (more a b)) h).1 in (both_false (any_label p a) (any_label p b) w).0; leaves = λ l o. inr (inl o) })
+    rw (← is) (record { lacks = λ p h. let w : any_label p (more a b) ≡ false = (both_false (p (label.Clause (clause.Trait i))) (any_label p (more a b)) h).1 in (both_false (any_label p a) (any_label p b) w).0; leaves = λ l o. inr (inl o); well_bound = λ w. w.1.0 })
   where
     or_empty : Option (ℕ × Tree) → Tree
     or_empty None = empty
@@ -89,6 +96,7 @@ is_part_of_body (more v (more s e)) r h =
       lacks = λ p w. let u = both_false (any_label p v) (any_label p (more s e)) w in
           part.lacks p (both_false (any_label p s) (any_label p e) u.1).0;
       leaves = λ l o. inr (inl (part.leaves l o));
+      well_bound = λ w. part.well_bound w.1.0;
     }
 is_part_of_body t r h = cc
 
@@ -106,6 +114,7 @@ is_part t r h =
     record {
       lacks = λ p w. part.lacks p (children_lack p t w);
       leaves = λ l o. children_leaves l t (part.leaves l o);
+      well_bound = λ w. part.well_bound (children_well_bound t w);
     }
 
 -- pairs of arguments
@@ -128,24 +137,25 @@ pairs_all ts i us vs qs r s e l p =
     let second : row_take i vs ≡ vs = rw long (row_take-all vs s) in
     rw (first, second) at p
 
-pairs_over : (ts : List Tree) (fresh : List Sort) (g : Goal) (us vs : Tree) (qs : List Equation) → ArePairs ts us vs qs → IsClosed us → IsClosed vs → any_label is_canonical us ≡ false → ((l : Leaf) → Occurs l us → Occurs l (pair (tree_at ts g.param_env.node) (tree_at ts g.predicate.node))) → NamesFresh fresh vs → any_label is_foreign vs ≡ false → AreEquations ts fresh g qs
-pairs_over ts fresh g empty empty [] p cu cv n k f o = tt
-pairs_over ts fresh g (more a us) (more b vs) (q ∷ qs) p cu cv n k f o =
+pairs_over : (ts : List Tree) (fresh : List Sort) (g : Goal) (us vs : Tree) (qs : List Equation) → ArePairs ts us vs qs → IsClosed us → IsClosed vs → any_label is_canonical us ≡ false → ((l : Leaf) → Occurs l us → Occurs l (pair (tree_at ts g.param_env.node) (tree_at ts g.predicate.node))) → NamesFresh fresh vs → any_label is_foreign vs ≡ false → IsWellBound us → IsWellBound vs → AreEquations ts fresh g qs
+pairs_over ts fresh g empty empty [] p cu cv n k f o x y = tt
+pairs_over ts fresh g (more a us) (more b vs) (q ∷ qs) p cu cv n k f o x y =
     let lacks = both_false (any_label is_canonical a) (any_label is_canonical us) n in
     let own = both_false (any_label is_foreign b) (any_label is_foreign vs) o in (
       record {
         lhs = record {
           within = p.0.left_in;
           names = rw p.0.left (names_none fresh a lacks.0);
-          leaves = λ l x. inl (k l (inl (rw p.0.left at x)));
+          leaves = λ l i. inl (k l (inl (rw p.0.left at i)));
           closed = rw p.0.left cu.0;
+          well_bound = rw p.0.left x.0;
         };
-        rhs = record { within = p.0.right_in; names = rw p.0.right f.0; leaves = λ l x. inr (leaves_fixed b own.0 l (rw p.0.right at x)); closed = rw p.0.right cv.0 };
+        rhs = record { within = p.0.right_in; names = rw p.0.right f.0; leaves = λ l i. inr (leaves_fixed b own.0 l (rw p.0.right at i)); closed = rw p.0.right cv.0; well_bound = rw p.0.right y.0 };
         argument = rw p.0.left p.0.argument;
       },
-      pairs_over ts fresh g us vs qs p.1 cu.1 cv.1 lacks.1 (λ l x. k l (inr x)) f.1 own.1,
+      pairs_over ts fresh g us vs qs p.1 cu.1 cv.1 lacks.1 (λ l i. k l (inr i)) f.1 own.1 x.1 y.1,
     )
-pairs_over ts fresh g us vs qs p cu cv n k f o = absurd p
+pairs_over ts fresh g us vs qs p cu cv n k f o x y = absurd p
 
 -- a goal that handlers are asked has no positions
 positions : {ts : List Tree} {g : Goal} → IsAsked ts g → (any_label is_canonical (tree_at ts g.param_env.node) ≡ false) × (any_label is_canonical (tree_at ts g.predicate.node) ≡ false)
@@ -163,8 +173,8 @@ asked_nested ts fresh g (p ∷ ps) a b = (
   record {
     environment = refl;
     holds = record { env = a.holds.env; predicate = b.0 };
-    env = record { within = a.holds.env.within; names = names_none fresh _ (positions a).0; leaves = λ l x. inl (inl x); closed = let asked = a.asked in asked.closed.0 };
-    predicate = record { within = b.1.within; names = b.1.names; leaves = λ l x. inr (leaves_fixed _ b.1.own l x); closed = b.1.closed };
+    env = record { within = a.holds.env.within; names = names_none fresh _ (positions a).0; leaves = λ l x. inl (inl x); closed = (let k = a.asked in k.closed.0); well_bound = (let k = a.asked in k.well_bound.0) };
+    predicate = record { within = b.1.within; names = b.1.names; leaves = λ l x. inr (leaves_fixed _ b.1.own l x); closed = b.1.closed; well_bound = b.1.well_bound };
   },
   asked_nested ts fresh g ps a b.2,
 )
@@ -213,7 +223,7 @@ offer_is_candidate ts g args c d a h part closed o =
     record {
       hidden = o.hidden;
       accesses = o.accesses;
-      equations = rw o.fresh (pairs_over ts c.fresh.items g (children args) (children (tree_at ts c.head.node)) d.equations.items o.equations (closed_children args closed.kind closed.closed) (closed_children (tree_at ts c.head.node) (let head = h.head_holds in head.fits) h.head.closed) (children_lack is_canonical args (part.lacks is_canonical (positions a).1)) (λ l x. inr (inl (part.leaves l (children_leaves l args x)))) (children_named c.fresh.items (tree_at ts c.head.node) h.head.names) (children_lack is_foreign (tree_at ts c.head.node) h.head.own));
+      equations = rw o.fresh (pairs_over ts c.fresh.items g (children args) (children (tree_at ts c.head.node)) d.equations.items o.equations (closed_children args closed.kind closed.closed) (closed_children (tree_at ts c.head.node) (let head = h.head_holds in head.fits) h.head.closed) (children_lack is_canonical args (part.lacks is_canonical (positions a).1)) (λ l x. inr (inl (part.leaves l (children_leaves l args x)))) (children_named c.fresh.items (tree_at ts c.head.node) h.head.names) (children_lack is_foreign (tree_at ts c.head.node) h.head.own) (children_well_bound args (part.well_bound (let k = a.asked in k.well_bound.1.0))) (children_well_bound (tree_at ts c.head.node) h.head.well_bound));
       constraints = rw o.constraints tt;
       goals = rw (o.fresh, o.goals) (asked_nested ts c.fresh.items g c.body.items a h.body);
     }

@@ -4,6 +4,7 @@ use Rattle.std.specs.Prelude.{IsTrue, IfOk, Result, Ok, Err}
 use Rattle.std.proofs.lemmas.List.{take_more}
 use Rattle.nts_model.specs.declared.labels.Sort.{Sort}
 use Rattle.nts_model.specs.Trees.{Tree, empty, more, node, any_label, of_sort}
+use Rattle.nts_model.specs.Scoping.{IsWellBound}
 use Rattle.nts_store.specs.declared.type_flags.TypeFlags.{TypeFlags}
 use Rattle.nts_store.specs.declared.nodes.NodeId.{NodeId}
 use Rattle.nts_terms.specs.declared.handles.Predicate.{Predicate}
@@ -42,10 +43,10 @@ fit_labels fresh (node l c) h k =
     ((h.0, w.0), fit_labels fresh c h.1 w.1)
 
 -- a term without escaping variables, by its labels
-pub term_fits : (ts : List Tree) (fresh : List Sort) (t : NodeId) (f : TypeFlags) → IsIn ts t → f ≡ flags_of (tree_at ts t) → is_some f.escaping ≡ false → AllLabels (MayHave fresh) (tree_at ts t) ↔ IsClauseTerm ts fresh t
-term_fits ts fresh t f w e h = (
+pub term_fits : (ts : List Tree) (fresh : List Sort) (t : NodeId) (f : TypeFlags) → IsIn ts t → f ≡ flags_of (tree_at ts t) → is_some f.escaping ≡ false → IsWellBound (tree_at ts t) → AllLabels (MayHave fresh) (tree_at ts t) ↔ IsClauseTerm ts fresh t
+term_fits ts fresh t f w e h b = (
   (λ l. let x = labels_fit fresh (tree_at ts t) l in
-      record { within = w; names = x.0; own = x.1; closed = closed_by_facts (tree_at ts t) f e h }),
+      record { within = w; names = x.0; own = x.1; closed = closed_by_facts (tree_at ts t) f e h; well_bound = b }),
   λ c. fit_labels fresh (tree_at ts t) c.names c.own,
 )
 

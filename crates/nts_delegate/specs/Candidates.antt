@@ -3,6 +3,7 @@ use Rattle.std.specs.Prelude.{◌≡◌, ◌⊎◌, List, [], ◌∷◌, Some}
 use Rattle.nts_model.specs.declared.labels.Sort.{Sort}
 use Rattle.nts_model.specs.declared.labels.Leaf.{Leaf}
 use Rattle.nts_model.specs.Trees.{Tree, kind_of, of_sort, any_argument, FitsPlace, IsClosed}
+use Rattle.nts_model.specs.Scoping.{IsWellBound}
 use Rattle.nts_model.specs.Contents.{Content}
 use Rattle.nts_model.specs.Resolving.{Knows}
 use Rattle.nts_model.specs.Substitutions.{Occurs}
@@ -32,12 +33,13 @@ pub record KnowsGoal (ts : List Tree) (c : Content) (g : Goal) : Type 0 where
   pub predicate : Knows c (tree_at ts g.predicate.node)
 
 -- a closed term over the fresh variables and the goal: it has no other leaves than the goal, but for regions that stay
--- themselves
+-- themselves, and its binders list what they bind
 pub record IsOver (ts : List Tree) (fresh : List Sort) (g : Goal) (t : NodeId) : Type 0 where
   pub within : IsIn ts t
   pub names : NamesFresh fresh (tree_at ts t)
   pub leaves : (l : Leaf) → Occurs l (tree_at ts t) → Occurs l (pair (tree_at ts g.param_env.node) (tree_at ts g.predicate.node)) ⊎ IsFixed l
   pub closed : IsClosed (tree_at ts t)
+  pub well_bound : IsWellBound (tree_at ts t)
 
 -- an equation between arguments
 pub record IsEquation (ts : List Tree) (fresh : List Sort) (g : Goal) (q : Equation) : Type 0 where

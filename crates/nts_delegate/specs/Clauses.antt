@@ -10,6 +10,7 @@ use Rattle.nts_model.specs.declared.labels.PredicateHead.TheVariants as predicat
 use Rattle.nts_model.specs.declared.labels.Label.{Label}
 use Rattle.nts_model.specs.declared.labels.Label.TheVariants as label
 use Rattle.nts_model.specs.Trees.{Tree, any_label, IsClosed}
+use Rattle.nts_model.specs.Scoping.{IsWellBound}
 use Rattle.nts_store.specs.declared.nodes.NodeId.{NodeId}
 use Rattle.nts_terms.specs.declared.handles.Predicate.{Predicate}
 use Rattle.nts_store.specs.Growth.{tree_at, IsIn}
@@ -46,12 +47,13 @@ is_foreign l = false
 abbrev pub MayHave : List Sort → Label → Type 0
 MayHave fresh l = NamesAt fresh (position_of l) l × (is_foreign l ≡ false)
 
--- a term of a clause: it names its variables as positions, and has no leaves of a goal's
+-- a term of a clause: it names its variables as positions, and has no leaves of a goal's; its binders list what they bind
 pub record IsClauseTerm (ts : List Tree) (fresh : List Sort) (t : NodeId) : Type 0 where
   pub within : IsIn ts t
   pub names : NamesFresh fresh (tree_at ts t)
   pub own : any_label is_foreign (tree_at ts t) ≡ false
   pub closed : IsClosed (tree_at ts t)
+  pub well_bound : IsWellBound (tree_at ts t)
 
 abbrev pub AreBodies : List Tree → List Sort → List Predicate → Type 0
 AreBodies ts fresh [] = Unit {0}

@@ -24,6 +24,7 @@ IsClauseTerm-kept {a} {b} {fresh} {t} h e =
       names = rw same h.names;
       own = rw same h.own;
       closed = rw same h.closed;
+      well_bound = rw same h.well_bound;
     }
 
 AreBodies-kept : (a b : List Tree) (fresh : List Sort) (ps : List Predicate) → AreBodies a fresh ps → Extends a b → AreBodies b fresh ps

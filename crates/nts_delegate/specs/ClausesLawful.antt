@@ -28,7 +28,7 @@ use Rattle.nts_delegate.specs.HandlerLaws.{IsLawful-clauses}
 
 own_term : (ts : List Tree) (fresh : List Sort) (t : NodeId) → AreFormed ts → IsClauseTerm ts fresh t → IsOwnTerm fresh (tree_at ts t)
 own_term ts fresh t f h =
-    record { names = h.names; own = h.own; formed = f t h.within; closed = h.closed }
+    record { names = h.names; own = h.own; formed = f t h.within; closed = h.closed; well_bound = h.well_bound }
 
 own_bodies : (ts : List Tree) (fresh : List Sort) (ps : List Predicate) → AreFormed ts → AreBodies ts fresh ps → AreOwnTerms fresh (map (λ p. tree_at ts p.node) ps)
 own_bodies ts fresh [] f h = tt
@@ -37,7 +37,7 @@ own_bodies ts fresh (p ∷ ps) f h = (own_term ts fresh p.node f h.1, own_bodies
 -- the arguments of a head
 own_arguments : (fresh : List Sort) (us : Tree) → IsOwnTerm fresh (node (label.List list.Args) us) → IsOwnTerm fresh us
 own_arguments fresh us h =
-    record { names = h.names.1; own = (both_false false (any_label is_foreign us) h.own).1; formed = h.formed.1; closed = h.closed.1 }
+    record { names = h.names.1; own = (both_false false (any_label is_foreign us) h.own).1; formed = h.formed.1; closed = h.closed.1; well_bound = h.well_bound.1 }
 
 row_of : (t : Tree) → AllFit any_argument t → IsRow t
 row_of empty h = tt

@@ -216,15 +216,15 @@ rules clauses is_coinductive own =
 -- candidates keep the environment, and have no foreign leaves, sorts or sources
 own_over : (fresh : List Sort) (e g t : Tree) → IsOwnTerm fresh t → IsOver fresh e g t
 own_over fresh e g t o =
-    record { names = o.names; leaves = λ l x. inr (leaves_fixed t o.own l x); formed = o.formed; closed = o.closed }
+    record { names = o.names; leaves = λ l x. inr (leaves_fixed t o.own l x); formed = o.formed; closed = o.closed; well_bound = o.well_bound }
 
 first_over : (fresh : List Sort) (e g a b : Tree) → IsOver fresh e g (more a b) → IsOver fresh e g a
 first_over fresh e g a b o =
-    record { names = o.names.0; leaves = λ l x. o.leaves l (inl x); formed = o.formed.0; closed = o.closed.0 }
+    record { names = o.names.0; leaves = λ l x. o.leaves l (inl x); formed = o.formed.0; closed = o.closed.0; well_bound = o.well_bound.0 }
 
 rest_over : (fresh : List Sort) (e g a b : Tree) → IsOver fresh e g (more a b) → IsOver fresh e g b
 rest_over fresh e g a b o =
-    record { names = o.names.1; leaves = λ l x. o.leaves l (inr x); formed = o.formed.1; closed = o.closed.1 }
+    record { names = o.names.1; leaves = λ l x. o.leaves l (inr x); formed = o.formed.1; closed = o.closed.1; well_bound = o.well_bound.1 }
 
 equations_over : (fresh : List Sort) (e g us hs : Tree) → IsOver fresh e g us → IsOver fresh e g hs → (q : Equation) → Among (equations_of us hs) q → IsEquationOver fresh e g q
 equations_over fresh e g (more a us) (more b hs) u h q (inl i) =
@@ -258,6 +258,7 @@ args_over fresh e us i h =
       leaves = λ l x. inl (inr (inl (inr (inr (inl (inr (inl (inr x))))))));
       formed = h.formed.1.0.1.1.0.1.0.1;
       closed = closed.1.0.1.0.1;
+      well_bound = h.well_bound.1.0.1.1.0.1.0.1;
     }
 
 candidate_over : (e us : Tree) (i : ℕ) (c : Candidate) (cs : List ClauseTree) → AreOwnClauses cs → IsAsked e (trait_goal i us) → IsOfferOf cs e us c → IsCandidateFor e (trait_goal i us) c

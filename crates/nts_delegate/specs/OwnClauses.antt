@@ -3,6 +3,7 @@ use Rattle.std.proofs.Common.{◌≡◌, inl, inr, ℕ, false, List, [], ◌∷�
 use Rattle.nts_model.specs.declared.labels.Sort.{Sort}
 use Rattle.nts_model.specs.declared.labels.Leaf.{Leaf}
 use Rattle.nts_model.specs.Trees.{Tree, empty, more, node, any_label, is_canonical, IsRow, IsClosed, IsFormed}
+use Rattle.nts_model.specs.Scoping.{IsWellBound}
 use Rattle.nts_model.specs.Substitutions.{replace}
 use Rattle.nts_model.specs.Sequents.{Among}
 use Rattle.nts_model.specs.Handlers.{filled, filled_under, equation_by, premise_by, NamesFresh}
@@ -16,6 +17,7 @@ pub record IsOwnTerm (fresh : List Sort) (t : Tree) : Type 0 where
   pub own : any_label is_foreign t ≡ false
   pub formed : IsFormed t
   pub closed : IsClosed t
+  pub well_bound : IsWellBound t
 
 abbrev pub AreOwnTerms : List Sort → List Tree → Type 0
 AreOwnTerms fresh [] = Unit {0}
@@ -46,6 +48,7 @@ first_own fresh a b h =
       own = (both_false (any_label is_foreign a) (any_label is_foreign b) h.own).0;
       formed = h.formed.0;
       closed = h.closed.0;
+      well_bound = h.well_bound.0;
     }
 
 pub rest_own : (fresh : List Sort) (a b : Tree) → IsOwnTerm fresh (more a b) → IsOwnTerm fresh b
@@ -55,6 +58,7 @@ rest_own fresh a b h =
       own = (both_false (any_label is_foreign a) (any_label is_foreign b) h.own).1;
       formed = h.formed.1;
       closed = h.closed.1;
+      well_bound = h.well_bound.1;
     }
 
 -- equations with the head's arguments as they stand

@@ -29,7 +29,7 @@ impl LabelTest for ClauseLabels<'_> {
 
 impl Clauses {
     /// Whether a clause may be added to the handlers of this store: it names only its own variables,
-    /// and has no leaf of a goal's.
+    /// has no leaf of a goal's, and its binders list what they bind.
     pub fn clause_fits(cx: &Cx, clause: &Clause) -> Result<bool, Fault>
         ensures fits { IfOk result (λ b. IsTrue b ↔ HoldsClause cx.now.nodes clause.now) }
         ensures memory { IsOkUnless result Fault.Memory }
@@ -71,6 +71,9 @@ fn is_clause_term(cx: &Cx, fresh: &[Sort], t: NodeId) -> Result<bool, AllocError
     ensures { IfOk result (λ b. IsTrue b ↔ IsClauseTerm cx.now.nodes fresh.now t) }
 {
     if cx.nodes.flags(t).escaping.is_some() {
+        return Ok(false);
+    }
+    if !cx.nodes.is_well_bound(t) {
         return Ok(false);
     }
     all_labels(cx.alloc, &cx.nodes, t, &ClauseLabels { fresh })

@@ -4,6 +4,7 @@ use Rattle.nts_model.specs.declared.labels.ClauseHead.TheVariants as clause_head
 use Rattle.nts_model.specs.declared.labels.ListHead.TheVariants as list
 use Rattle.nts_model.specs.declared.labels.Label.TheVariants as label
 use Rattle.nts_model.specs.Trees.{Tree, empty, more, node, children, row_length, row_at, IsInRow, IsRow, any_label, is_canonical, IsClosed}
+use Rattle.nts_model.specs.Scoping.{IsWellBound}
 use Rattle.nts_model.specs.Related.{no_sorts, unbound}
 use Rattle.nts_model.specs.Sequents.{HasClosedStatement, HasClosedStatements}
 use Rattle.nts_store.specs.declared.type_flags.TypeFlags.{TypeFlags}
@@ -69,6 +70,8 @@ pub record AreTests (ts : List Tree) (g : Goal) (b : Binder PredicateKind) (r : 
   pub args_closed : is_some args.escaping ≡ false
   pub env_names : env.has_canonical ≡ false
   pub goal_names : goal.has_canonical ≡ false
+  pub env_well_bound : IsWellBound (tree_at ts g.param_env.node)
+  pub goal_well_bound : IsWellBound (tree_at ts g.predicate.node)
   pub statements : HasClosedStatements (tree_at ts g.param_env.node)
 
 pub trait_asked : (ts : List Tree) (g : Goal) (b : Binder PredicateKind) (r : TraitRef) (env goal args : TypeFlags) → AreTests ts g b r env goal args → IsAsked ts g
@@ -92,6 +95,7 @@ trait_asked ts g b r env goal args t =
         formed = (t.formed g.param_env.node h.env.within, (t.formed g.predicate.node h.predicate.within, tt));
         closed = (env_tree_closed, ((tt, (args_tree_closed, tt)), tt));
         no_positions = or_false (any_label is_canonical (tree_at ts g.param_env.node)) (any_label is_canonical (tree_at ts g.predicate.node) || false) env_none (or_false (any_label is_canonical (tree_at ts g.predicate.node)) false goal_none refl);
+        well_bound = (t.env_well_bound, (t.goal_well_bound, tt));
         statements = t.statements;
       };
     }

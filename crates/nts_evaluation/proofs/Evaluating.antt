@@ -144,6 +144,7 @@ IsOver-extended {a} {b} {fresh} {g} {x} e p h =
       names = rw same h.names;
       leaves = λ l i. rw (env, predicate) (h.leaves l (rw same at i));
       closed = rw same h.closed;
+      well_bound = rw same h.well_bound;
     }
 
 -- values of the sorts of the fresh variables serve every position
@@ -167,6 +168,13 @@ known-there c [] i h = tt
 known-there c (t ∷ ts) zero h = h.0
 known-there c (t ∷ ts) (suc i) h = known-there c ts i h.1
 
+closed-there : (fresh : List Sort) (ts : List Tree) (i : ℕ) → AreValuesOf fresh ts → IsClosed (get_or ts i empty)
+closed-there [] [] i h = tt
+closed-there [] (t ∷ ts) i h = absurd h
+closed-there (s ∷ ss) [] i h = absurd h
+closed-there (s ∷ ss) (t ∷ ts) zero h = (let v = h.0 in v.closed)
+closed-there (s ∷ ss) (t ∷ ts) (suc i) h = closed-there ss ts i h.1
+
 -- what filling asks for, and what it gives
 pub record CanFill (a : List Tree) (t : Table) (vs : List NodeId) (x : NodeId) : Type 0 where
   pub within : IsIn a x
@@ -180,7 +188,7 @@ can_fill {a} {t} {g} {fresh} {vs} {x} p o v =
       within = o.within;
       values = v.within;
       positions = has-values fresh (map (tree_at a) vs) (tree_at a x) v.sorts o.names;
-      knows = knows-filled (content_of a t.entries) (map (tree_at a) vs) (tree_at a x) (λ i. known-there (content_of a t.entries) (map (tree_at a) vs) i v.known) (over_knows o (content_of a t.entries) p.knows);
+      knows = knows-filled (content_of a t.entries) (map (tree_at a) vs) (tree_at a x) (λ i. known-there (content_of a t.entries) (map (tree_at a) vs) i v.known) (λ i. closed-there fresh (map (tree_at a) vs) i v.values) (over_knows o (content_of a t.entries) p.knows) o.well_bound;
     }
 
 -- values that stand for variables are terms of their sorts
@@ -314,7 +322,7 @@ known-fresh ts us (v ∷ vs) e (s ∷ ss) h =
     let more_vars : length next.variables ≡ suc (length e.variables) = omega (arith, length-append e.variables (new_variable e k ∷ [])) in
     let rest : trees_at us vs ≡ fresh_row (length next.variables) ss = rw more_vars cc in
     let is : kind_at (content_of ts (with_fresh next ss)) (length e.variables) ≡ Some k = (kinds-fresh ts next ss).kinds (length e.variables) k (kind-new ts e (new_variable e k)) in
-    (rw first ((is, tt, refl), tt), known-fresh ts us vs next ss rest)
+    (rw first ((is, tt, refl), tt, tt), known-fresh ts us vs next ss rest)
 
 continues-fresh : (ts : List Tree) (e : Entries) (ss : List Sort) → IsSound (content_of ts e) → Continues (content_of ts e) (content_of ts (with_fresh e ss))
 continues-fresh ts e [] h = Continues-refl (content_of ts e) h

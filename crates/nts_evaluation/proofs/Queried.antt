@@ -43,7 +43,7 @@ use Rattle.nts_evaluation.specs.Answering.{IsQueryOf}
 pub leaf_known : (c : Content) (t : Tree) (l : Leaf) → Knows c t → Occurs l t → Knows c (leaf_tree l)
 leaf_known c empty l h o = absurd o
 leaf_known c (more a b) l h o = ⊎_elim (λ i. leaf_known c a l h.0 i) (λ i. leaf_known c b l h.1 i) o
-leaf_known c (node m s) l h o = ⊎_elim (λ e. (subst (KnowsLabel c) (sym e) h.0, tt)) (λ i. leaf_known c s l h.1 i) o
+leaf_known c (node m s) l h o = ⊎_elim (λ e. (subst (KnowsLabel c) (sym e) h.0, tt, tt)) (λ i. leaf_known c s l h.1 i) o
 
 -- the leaves of an input without hidden types
 input_leaf : (i : Input) (l : Leaf) (c : Content) → i.hidden ≡ empty → Knows c i.environment → Knows c i.predicate → OccursIn l i → Knows c (leaf_tree l)

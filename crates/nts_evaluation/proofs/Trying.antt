@@ -88,11 +88,11 @@ right_is kind_data.Related a b = refl
 right_is kind_data.Structural a b = refl
 
 leaves_known : (ts : List Tree) (fresh : List Sort) (g : Goal) (c : Content) (x : NodeId) (l : Leaf) → KnowsGoal ts c g → IsOver ts fresh g x → Occurs l (tree_at ts x) → Knows c (leaf_tree l)
-leaves_known ts fresh g c x l k o i = (let h = leaf_known c l (tree_at ts x) i (over_knows o c k) in ((h.0, h.1, refl), tt))
+leaves_known ts fresh g c x l k o i = (let h = leaf_known c l (tree_at ts x) i (over_knows o c k) in ((h.0, h.1, refl), tt, tt))
 
 -- the equations of a candidate are formed, and over what the table knows
 equations_of_table : (ts : List Tree) (fresh : List Sort) (g : Goal) (c : Content) (qs : List Equation) → AreFormed ts → KnowsGoal ts c g → AreEquations ts fresh g qs → AreOfTable c (map (equation_of ts) qs)
-equations_of_table ts fresh g c [] f k h = record { left_formed = λ q i. absurd i; right_formed = λ q i. absurd i; left_leaves = λ q i. absurd i; right_leaves = λ q i. absurd i }
+equations_of_table ts fresh g c [] f k h = record { left_formed = λ q i. absurd i; right_formed = λ q i. absurd i; left_well_bound = λ q i. absurd i; right_well_bound = λ q i. absurd i; left_leaves = λ q i. absurd i; right_leaves = λ q i. absurd i }
 equations_of_table ts fresh g c (x ∷ qs) f k h =
     let rest = equations_of_table ts fresh g c qs f k h.1 in
     let one = h.0 in
@@ -101,6 +101,8 @@ equations_of_table ts fresh g c (x ∷ qs) f k h =
     record {
       left_formed = λ q i. elim i [ inl e ↦ rw (e, left) (f x.lhs.node one.lhs.within) | inr j ↦ rest.left_formed q j ];
       right_formed = λ q i. elim i [ inl e ↦ rw (e, right) (f x.rhs.node one.rhs.within) | inr j ↦ rest.right_formed q j ];
+      left_well_bound = λ q i. elim i [ inl e ↦ rw (e, left) one.lhs.well_bound | inr j ↦ rest.left_well_bound q j ];
+      right_well_bound = λ q i. elim i [ inl e ↦ rw (e, right) one.rhs.well_bound | inr j ↦ rest.right_well_bound q j ];
       left_leaves = λ q i l o. elim i [ inl e ↦ leaves_known ts fresh g c x.lhs.node l k one.lhs (rw (e, left) at o) | inr j ↦ rest.left_leaves q j l o ];
       right_leaves = λ q i l o. elim i [ inl e ↦ leaves_known ts fresh g c x.rhs.node l k one.rhs (rw (e, right) at o) | inr j ↦ rest.right_leaves q j l o ];
     }
@@ -154,7 +156,7 @@ none_meets {a} {b} {t} {u} {ws} {rs} {g} q fresh vs qs i y z l x f p all o h r =
     let terms = equations_of_table a fresh g c qs f p.knows all in
     let fails = failed_at a xs qs i q h.made (content_of b u.entries) l h.equates one in
     let known = fresh_known t.entries.universe fresh xs c h.made h.freshens in
-    unmet_when_failed fresh (map (equation_of a) qs) xs c h.made (proper_content p.table) h.freshens fails (equations_known c h.made xs (map (equation_of a) qs) known.keeps known.known terms) terms
+    unmet_when_failed fresh (map (equation_of a) qs) xs c h.made (proper_content p.table) h.freshens fails (equations_known c h.made xs (map (equation_of a) qs) known.keeps known.known known.patches terms) terms
 
 -- where they were all made equal, one does
 pub some_meets : {a b : List Tree} {t u : Table} {g : Goal} (fresh : List Sort) (vs : List NodeId) (qs : List Equation) → AreFormed a → IsPosed a t g → AreEquations a fresh g qs → IsTable b u → Equated a b t u fresh vs qs → MeetsEquations (content_of a t.entries) fresh (map (equation_of a) qs)

@@ -194,8 +194,8 @@ fn compute_goal<H: GoalHandler>(
 }
 
 /// Whether a goal is answered by the handler's candidates: a closed trait goal that binds nothing, and
-/// that has neither aliases nor positions of a canonical value. In its environment, too, no bound variable
-/// names a binder that binds nothing.
+/// that has neither aliases nor positions of a canonical value, and each bound variable of which is of the
+/// list of its binder. In its environment, too, no bound variable names a binder that binds nothing.
 #[inline(never)]
 fn is_candidates_goal(cx: &Cx, goal: Goal) -> bool
     requires { HoldsGoal cx.now.nodes goal }
@@ -204,6 +204,12 @@ fn is_candidates_goal(cx: &Cx, goal: Goal) -> bool
     let env = cx.nodes.flags(goal.param_env.node);
     let flags = cx.nodes.flags(goal.predicate.node);
     if env.has_canonical || flags.has_canonical || flags.has_alias || env.has_alias {
+        return false;
+    }
+    if !cx.nodes.is_well_bound(goal.param_env.node) {
+        return false;
+    }
+    if !cx.nodes.is_well_bound(goal.predicate.node) {
         return false;
     }
     let predicate = goal.predicate.kind(cx);

@@ -4,7 +4,7 @@ use Rattle.std.specs.Prelude.{◌==◌, slice_get, reverse}
 use Rattle.nts_model.specs.declared.labels.VariableKind.TheVariants as kind
 use Rattle.nts_model.specs.declared.labels.Leaf.TheVariants as leaf
 use Rattle.nts_model.specs.declared.labels.Label.TheVariants as label
-use Rattle.nts_model.specs.Trees.{Tree, empty, kind_of, of_sort, sort_of_variable}
+use Rattle.nts_model.specs.Trees.{Tree, empty, kind_of, of_sort, sort_of_variable, IsClosed}
 use Rattle.nts_model.specs.Contents.{Content, Slot, SlotState, unset, link, known, state_of, kind_at, changed, bound_to}
 use Rattle.nts_model.specs.Resolving.{variable_tree, infer_of, rank_of_kind, variable_rank, replaced, Lacks, IsOneOf, kind_or_type, value_of_state, value_at, resolved, Knows, IsSound}
 use Rattle.nts_model.proofs.Variables.{infer_number_some}
@@ -74,6 +74,7 @@ pub record IsKnowable (c : Content) (n : ℕ) (w : Slot) (t : Tree) : Type 0 whe
   pub is : w.state ≡ known t
   pub no_region : w.kind ≢ kind.Region
   pub knows : Knows c t
+  pub closed : IsClosed t
   pub lower : variable_rank t < rank_of_kind w.kind
   pub fits : kind_of t ≡ Some (of_sort (sort_of_variable w.kind))
   pub lacks : Lacks n (resolved c t)
@@ -104,6 +105,9 @@ module _ (c : Content) (n : ℕ) (w : Slot) (t : Tree) (s : IsSound c) (b : IsKn
         known_trees = λ m u q. Knows-kept c (bound_to c n w) u (KeepsKinds-bound c n w b.binds) (⊎_elim
             (λ e. let y : known t ≡ known u = sym b.is ∙ e.1 in let z : t ≡ u = cc in rw (← z) b.knows)
             (λ e. s.known_trees m u e) (set-either c n w b.binds s m (known u) q));
+        closed = λ m u q. ⊎_elim
+            (λ e. let y : known t ≡ known u = sym b.is ∙ e.1 in let z : t ≡ u = cc in rw (← z) b.closed)
+            (λ e. s.closed m u e) (set-either c n w b.binds s m (known u) q);
         ranks = λ m u k q r. ⊎_elim
             (λ e. let y : known t ≡ known u = sym b.is ∙ e.1 in let z : t ≡ u = cc in
             let p : Some w.kind ≡ Some k = sym (Binds-kind c n w b.binds) ∙ sym (kind_at-set c n w b.binds n) ∙ ap (kind_at (bound_to c n w)) (sym e.0) ∙ r in
@@ -185,6 +189,7 @@ module _ (c : Content) (n : ℕ) (w : Slot) (m : ℕ) (s : IsSound c) (b : IsLin
             there ∙ sym here)
             (λ e. kind_at-set c n w b.binds j ∙ s.one_kind k j e ∙ sym (kind_at-set c n w b.binds k)) (set-either c n w b.binds s k (link j) q);
         known_trees = λ k u q. Knows-kept c (bound_to c n w) u (KeepsKinds-bound c n w b.binds) (s.known_trees k u (set-old c n w b.binds s k (known u) q (λ z. (let y : link m ≡ known u = sym b.is ∙ z in cc))));
+        closed = λ k u q. s.closed k u (set-old c n w b.binds s k (known u) q (λ z. (let y : link m ≡ known u = sym b.is ∙ z in cc)));
         ranks = λ k u j q r. s.ranks k u j (set-old c n w b.binds s k (known u) q (λ z. (let y : link m ≡ known u = sym b.is ∙ z in cc))) (sym (kind_at-set c n w b.binds k) ∙ r);
         fits = λ k u j q r. s.fits k u j (set-old c n w b.binds s k (known u) q (λ z. (let y : link m ≡ known u = sym b.is ∙ z in cc))) (sym (kind_at-set c n w b.binds k) ∙ r);
         linked = λ k j q r. rw order (⊎_elim (λ e. inl e.0) (λ e. inr (s.linked k j e (λ z. r (kind_at-set c n w b.binds k ∙ z)))) (set-either c n w b.binds s k (link j) q));
@@ -226,6 +231,7 @@ module _ (c : Content) (n : ℕ) (w : Slot) (m : ℕ) (s : IsSound c) (b : IsLin
             there ∙ sym here)
             (λ e. kind_at-set c n w b.binds j ∙ s.one_kind k j e ∙ sym (kind_at-set c n w b.binds k)) (set-either c n w b.binds s k (link j) q);
         known_trees = λ k u q. Knows-kept c (changed c n w) u (KeepsKinds-set c n w b.binds) (s.known_trees k u (set-old c n w b.binds s k (known u) q (λ z. (let y : link m ≡ known u = sym b.is ∙ z in cc))));
+        closed = λ k u q. s.closed k u (set-old c n w b.binds s k (known u) q (λ z. (let y : link m ≡ known u = sym b.is ∙ z in cc)));
         ranks = λ k u j q r. s.ranks k u j (set-old c n w b.binds s k (known u) q (λ z. (let y : link m ≡ known u = sym b.is ∙ z in cc))) (sym (kind_at-set c n w b.binds k) ∙ r);
         fits = λ k u j q r. s.fits k u j (set-old c n w b.binds s k (known u) q (λ z. (let y : link m ≡ known u = sym b.is ∙ z in cc))) (sym (kind_at-set c n w b.binds k) ∙ r);
         linked = λ k j q r. ⊎_elim

@@ -5,7 +5,8 @@ use Rattle.nts_model.specs.declared.labels.Leaf.{Leaf}
 use Rattle.nts_model.specs.declared.labels.BoundVarIndexKind.TheVariants as index
 use Rattle.nts_model.specs.declared.labels.Label.{Label}
 use Rattle.nts_model.specs.declared.labels.Label.TheVariants as label
-use Rattle.nts_model.specs.Trees.{Tree, empty, more, node, IsFormed}
+use Rattle.nts_model.specs.Trees.{Tree, empty, more, node, binders, IsFormed}
+use Rattle.nts_model.specs.Scoping.{ListsBound, IsWellBound}
 use Rattle.nts_model.specs.Contents.{Content, Slot, unset, with_slot}
 use Rattle.nts_model.specs.Resolving.{Knows, IsSound}
 use Rattle.nts_model.specs.Solvable.{IsSolvable}
@@ -25,12 +26,16 @@ use Rattle.nts_model.proofs.Sound.{IsSound-with_slot}
 use Rattle.nts_model.proofs.Slots.{Knows-kept, KeepsKinds, KeepsKinds-refl, KeepsKinds-trans, KeepsKinds-with_slot}
 use Rattle.nts_model.proofs.Freshening.{new_kinds, freshened_world, freshened_back, filled_agree}
 use Rattle.nts_model.proofs.Applying.{new_knows}
+use Rattle.nts_model.specs.Patching.{IsPatch}
+use Rattle.nts_model.proofs.Scoping.{ArePatches, no_patches, more_patches, lists_patched, filled_patched}
 use Rattle.nts_model.proofs.Trying.{KnowsEquations, equated_back, equated_never_fails}
 
--- the sides of the equations are formed, and their leaves are of the table
+-- the sides of the equations are formed and list what they bind, and their leaves are of the table
 pub record AreOfTable (c : Content) (qs : List Equation) : Type 0 where
   pub left_formed : (q : Equation) → Among qs q → IsFormed (left_of q)
   pub right_formed : (q : Equation) → Among qs q → IsFormed (right_of q)
+  pub left_well_bound : (q : Equation) → Among qs q → IsWellBound (left_of q)
+  pub right_well_bound : (q : Equation) → Among qs q → IsWellBound (right_of q)
   pub left_leaves : (q : Equation) → Among qs q → (l : Leaf) → Occurs l (left_of q) → Knows c (leaf_tree l)
   pub right_leaves : (q : Equation) → Among qs q → (l : Leaf) → Occurs l (right_of q) → Knows c (leaf_tree l)
 
@@ -105,9 +110,10 @@ IsProperContent-with_slot c v free p = record { sound = IsSound-with_slot c v p.
 pub record AreFresh (c d : Content) (ts : List Tree) : Type 0 where
   pub keeps : KeepsKinds c d
   pub known : AreKnownTrees d ts
+  pub patches : ArePatches ts
 
 pub fresh_known : (u : ℕ) (ss : List Sort) (ts : List Tree) (c d : Content) → Freshens u ss ts c d → AreFresh c d ts
-fresh_known u [] [] c d h = record { keeps = subst (KeepsKinds c) (sym h) (KeepsKinds-refl c); known = tt }
+fresh_known u [] [] c d h = record { keeps = subst (KeepsKinds c) (sym h) (KeepsKinds-refl c); known = tt; patches = no_patches }
 fresh_known u [] (t ∷ ts) c d h = absurd h
 fresh_known u (o ∷ ss) [] c d h = absurd h
 fresh_known u (o ∷ ss) (t ∷ ts) c d (e, new, up, rest) =
@@ -115,6 +121,7 @@ fresh_known u (o ∷ ss) (t ∷ ts) c d (e, new, up, rest) =
     record {
       keeps = KeepsKinds-trans (new_kinds c e (kind_of_sort o) u t new) more.keeps;
       known = (Knows-kept e d t more.keeps (new_knows c e u (kind_of_sort o) t new), more.known);
+      patches = more_patches t ts (rw new.tree ((tt, tt), (tt, tt))) more.patches;
     }
 
 known_there : (c : Content) (xs : List Tree) (i : ℕ) → AreKnownTrees c xs → Knows c (get_or xs i empty)
@@ -123,25 +130,26 @@ known_there c (x ∷ xs) zero h = h.0
 known_there c (x ∷ xs) (suc i) h = known_there c xs i h.1
 
 -- a term over positions, filled with terms of the table, is one
-filled_label : (c : Content) (xs : List Tree) (l : Label) (a : Tree) → AreKnownTrees c xs → ((x : Leaf) → (label.Leaf x ≡ l) → Knows c (leaf_tree x)) → Knows c a → Knows c (value_or (position_of l) xs (node l a))
-filled_label c xs (label.Leaf x) a h k z = ((k x refl).0, z)
-filled_label c xs (label.Bound s (index.Bound d) n) a h k z = ((tt, tt, refl), z)
-filled_label c xs (label.Bound s index.Canonical n) a h k z = known_there c xs n h
-filled_label c xs (label.Ty y) a h k z = ((tt, tt, refl), z)
-filled_label c xs (label.Const y) a h k z = ((tt, tt, refl), z)
-filled_label c xs (label.Clause y) a h k z = ((tt, tt, refl), z)
-filled_label c xs (label.Predicate y) a h k z = ((tt, tt, refl), z)
-filled_label c xs (label.List y) a h k z = ((tt, tt, refl), z)
+filled_label : (c : Content) (xs : List Tree) (l : Label) (a : Tree) → AreKnownTrees c xs → ((x : Leaf) → (label.Leaf x ≡ l) → Knows c (leaf_tree x)) → Knows c a → ListsBound (binders l) a → Knows c (value_or (position_of l) xs (node l a))
+filled_label c xs (label.Leaf x) a h k z w = ((k x refl).0, z, tt)
+filled_label c xs (label.Bound s (index.Bound d) n) a h k z w = ((tt, tt, refl), z, tt)
+filled_label c xs (label.Bound s index.Canonical n) a h k z w = known_there c xs n h
+filled_label c xs (label.Ty y) a h k z w = ((tt, tt, refl), z, w)
+filled_label c xs (label.Const y) a h k z w = ((tt, tt, refl), z, tt)
+filled_label c xs (label.Clause y) a h k z w = ((tt, tt, refl), z, tt)
+filled_label c xs (label.Predicate y) a h k z w = ((tt, tt, refl), z, tt)
+filled_label c xs (label.List y) a h k z w = ((tt, tt, refl), z, w)
 
-filled_known : (c : Content) (xs : List Tree) (t : Tree) → IsFormed t → AreKnownTrees c xs → ((l : Leaf) → Occurs l t → Knows c (leaf_tree l)) → Knows c (filled xs t)
-filled_known c xs empty f h k = tt
-filled_known c xs (more a b) f h k = (filled_known c xs a f.0 h (λ l o. k l (inl o)), filled_known c xs b f.1 h (λ l o. k l (inr o)))
-filled_known c xs (node l a) f h k = filled_label c xs l (filled xs a) h (λ x e. k x (inl e)) (filled_known c xs a f.1 h (λ x o. k x (inr o)))
+filled_known : (c : Content) (xs : List Tree) (t : Tree) → IsWellBound t → AreKnownTrees c xs → ArePatches xs → ((l : Leaf) → Occurs l t → Knows c (leaf_tree l)) → Knows c (filled xs t)
+filled_known c xs empty w h p k = tt
+filled_known c xs (more a b) w h p k = (filled_known c xs a w.0 h p (λ l o. k l (inl o)), filled_known c xs b w.1 h p (λ l o. k l (inr o)))
+filled_known c xs (node l a) w h p k =
+    filled_label c xs l (filled xs a) h (λ x e. k x (inl e)) (filled_known c xs a w.1 h p (λ x o. k x (inr o))) (lists_patched (binders l) a (filled xs a) (filled_patched xs p a) w.0)
 
 -- so are the filled sides of a candidate's equations
-pub equations_known : (c d : Content) (xs : List Tree) (qs : List Equation) → KeepsKinds c d → AreKnownTrees d xs → AreOfTable c qs → KnowsEquations d xs qs
-equations_known c d xs qs k h t =
+pub equations_known : (c d : Content) (xs : List Tree) (qs : List Equation) → KeepsKinds c d → AreKnownTrees d xs → ArePatches xs → AreOfTable c qs → KnowsEquations d xs qs
+equations_known c d xs qs k h p t =
     record {
-      left = λ q i. filled_known d xs (left_of q) (t.left_formed q i) h (λ l o. Knows-kept c d (leaf_tree l) k (t.left_leaves q i l o));
-      right = λ q i. filled_known d xs (right_of q) (t.right_formed q i) h (λ l o. Knows-kept c d (leaf_tree l) k (t.right_leaves q i l o));
+      left = λ q i. filled_known d xs (left_of q) (t.left_well_bound q i) h p (λ l o. Knows-kept c d (leaf_tree l) k (t.left_leaves q i l o));
+      right = λ q i. filled_known d xs (right_of q) (t.right_well_bound q i) h p (λ l o. Knows-kept c d (leaf_tree l) k (t.right_leaves q i l o));
     }

@@ -1,4 +1,4 @@
--- What is chosen for the positions of a response: it is closed, and choosing records nothing.
+-- Closed trees in place of positions; choosing for the positions of a response records nothing.
 use Rattle.std.proofs.Common.{◌≡◌, ⊎_elim, inl, inr, ℕ, zero, suc, ◌+◌, List, [], ◌∷◌, refl, sym, ap, ◌∙◌, subst, arith}
 use Rattle.std.specs.Prelude.{get_or}
 use Rattle.nts_model.specs.declared.labels.Sort.{Sort}
@@ -34,33 +34,6 @@ pub closed_get : (vs : List Tree) → ((v : Tree) → Among vs v → IsClosed v)
 closed_get [] h j = tt
 closed_get (v ∷ vs) h zero = h v (inl refl)
 closed_get (v ∷ vs) h (suc j) = closed_get vs (λ w i. h w (inr i)) j
-
-placeholder_closed : (p : ℕ) (os : List Tree) (s : Sort) (u n : ℕ) → ((v : Tree) → Among os v → IsClosed v) → IsClosed (placeholder_at p os s u n)
-placeholder_closed p os s zero n h = closed_get os h n
-placeholder_closed p os sort.Ty (suc u) n h = (tt, tt)
-placeholder_closed p os sort.Const (suc u) n h = (tt, tt)
-placeholder_closed p os sort.Region (suc u) n h = (tt, tt)
-
-variable_closed : (c : Content) (values os : List Tree) (b : ℕ) (k : PositionKind) (v : VariableKind) (t : Tree) (d e : Content) → ChoosesVariable c values os b k v t d e → IsClosed t
-variable_closed c values os b k v t d e h = ⊎_elim
-    (λ (n : IsNew d e v _ t). subst IsClosed (sym n.tree) (tt, tt))
-    (λ g. (let i = g.0 in let value = i.value in value.closed)) h
-
-choice_closed : (c : Content) (values os : List Tree) (b : ℕ) (k : PositionKind) (t : Tree) (d e : Content) → ((v : Tree) → Among os v → IsClosed v) → Chooses c values os b k t d e → IsClosed t
-choice_closed c values os b (type_variable u r) t d e all h = variable_closed c values os b (type_variable u r) kind.Ty t d e h
-choice_closed c values os b integer_variable t d e all h = variable_closed c values os b integer_variable kind.Int t d e h
-choice_closed c values os b float_variable t d e all h = variable_closed c values os b float_variable kind.Float t d e h
-choice_closed c values os b (const_variable u) t d e all h = variable_closed c values os b (const_variable u) kind.Const t d e h
-choice_closed c values os b (region_variable u) t d e all h = variable_closed c values os b (region_variable u) kind.Region t d e h
-choice_closed c values os b (placeholder s u n) t d e all h = subst IsClosed (sym h.0) (placeholder_closed c.universe os s u n all)
-
--- what is chosen is closed where the originals are
-pub chosen_closed : (c : Content) (values os : List Tree) → ((v : Tree) → Among os v → IsClosed v) → (b : ℕ) (ks : List PositionKind) (ts : List Tree) (d f : Content) → ChoosesAll c values os b ks ts d f → (j : ℕ) → IsClosed (get_or ts j empty)
-chosen_closed c values os all b [] [] d f h j = tt
-chosen_closed c values os all b [] (x ∷ ts) d f h j = absurd h
-chosen_closed c values os all b (k ∷ ks) [] d f h j = absurd h
-chosen_closed c values os all b (k ∷ ks) (x ∷ ts) d f h zero = choice_closed c values os b k x d h.0 all h.1
-chosen_closed c values os all b (k ∷ ks) (x ∷ ts) d f h (suc j) = chosen_closed c values os all (suc b) ks ts h.0 f h.2 j
 
 -- choosing records nothing
 recorded_same : (c d : Content) → d ≡ c → d.constraints ≡ c.constraints

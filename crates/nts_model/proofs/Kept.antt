@@ -11,7 +11,7 @@ use Rattle.nts_model.specs.Contents.{Content, Slot, SlotState, unset, link, know
 use Rattle.nts_model.specs.Resolving.{variable_of, infer_of, infer_number, replaced, replaced_at, Lacks, under, IsOneOf, value_at, resolved, deeply_resolved, rooted, rooted_variable, Knows, KnowsVariable, IsSound}
 use Rattle.nts_model.proofs.Variables.{infer_label}
 use Rattle.nts_model.proofs.Under.{under-lacks, none-one}
-use Rattle.nts_model.proofs.Open.{Knows-under, Knows-value_at}
+use Rattle.nts_model.proofs.Open.{AreClosedOf, Knows-under, values_closed_of}
 
 pub variable_label : (l : Label) (k : VariableKind) (n : ℕ) → variable_of l ≡ Some (k, n) → l ≡ label.Leaf (leaf.Variable k n)
 variable_label (label.Leaf (leaf.Variable j m)) k n e = let p : j ≡ k = ap first e in let q : m ≡ n = ap second e in cc
@@ -57,11 +57,11 @@ kind_of-replaced c n s empty k h = refl
 kind_of-replaced c n s (more a b) k h = refl
 kind_of-replaced c n s (node l t) k h = kind_of-replaced_at c (infer_of l) n s l t (replaced n s t) refl k.0.0 h
 
-pub kind_of-under : (c : Content) (val : ℕ → Tree) (ns : List ℕ) (t : Tree) → ((n : ℕ) → Knows c (val n)) → FitKinds c val ns → Knows c t → kind_of (under val ns t) ≡ kind_of t
+pub kind_of-under : (c : Content) (val : ℕ → Tree) (ns : List ℕ) (t : Tree) → AreClosedOf c val → FitKinds c val ns → Knows c t → kind_of (under val ns t) ≡ kind_of t
 kind_of-under c val [] t h f k = refl
 kind_of-under c val (n ∷ ns) t h f k =
     let fits : FitKinds c val ns = λ m j q e. f m j (inr q) e in
-    let value : kind_of (under val ns (val n)) ≡ kind_of (val n) = kind_of-under c val ns (val n) h fits (h n) in
+    let value : kind_of (under val ns (val n)) ≡ kind_of (val n) = kind_of-under c val ns (val n) h fits (h n).0 in
     kind_of-replaced c n (under val ns (val n)) (under val ns t) (Knows-under c val ns t h k) (λ j e. value ∙ f n j (inl refl) e)
     ∙ kind_of-under c val ns t h fits k
 
@@ -80,7 +80,7 @@ FitKinds-value_at c s n k h e = by_case (state_of c n) refl
 
 -- a resolved tree is of the kind that it was
 pub kind_of-resolved : (c : Content) (t : Tree) → IsSound c → Knows c t → kind_of (resolved c t) ≡ kind_of t
-kind_of-resolved c t s k = kind_of-under c (value_at c) (reverse c.order) t (λ n. Knows-value_at c n s) (FitKinds-value_at c s) k
+kind_of-resolved c t s k = kind_of-under c (value_at c) (reverse c.order) t (values_closed_of c s) (FitKinds-value_at c s) k
 
 kind_of-rooted_variable : (c : Content) (o : Option (VariableKind × ℕ)) (l : Label) → variable_of l ≡ o → kind_of_label (rooted_variable c o l) ≡ kind_of_label l
 kind_of-rooted_variable c None l e = refl

@@ -4,7 +4,8 @@ use Rattle.std.specs.Prelude.{◌==◌, if◌then◌else◌, slice_get, reverse}
 use Rattle.nts_model.specs.declared.labels.VariableKind.{VariableKind}
 use Rattle.nts_model.specs.declared.labels.VariableKind.TheVariants as kind
 use Rattle.nts_model.specs.declared.labels.Label.{Label}
-use Rattle.nts_model.specs.Trees.{Tree, empty, more, node, is_canonical}
+use Rattle.nts_model.specs.Trees.{Tree, empty, more, node, is_canonical, binders, IsClosed}
+use Rattle.nts_model.specs.Scoping.{ListsBound}
 use Rattle.nts_model.specs.declared.labels.Leaf.TheVariants as leaf
 use Rattle.nts_model.specs.declared.labels.Label.TheVariants as label
 use Rattle.nts_model.specs.Placeholders.{leaf_level}
@@ -15,6 +16,8 @@ use Rattle.nts_model.proofs.Under.{not_equal}
 use Rattle.nts_model.proofs.Slots.{some_slot}
 use Rattle.nts_model.proofs.Roots.{IsRootState-root_of, kind_at-root_of}
 use Rattle.nts_model.proofs.Resolved.{Lacks-resolved}
+use Rattle.nts_model.proofs.Unpositioned.{known_well_bound}
+use Rattle.nts_model.proofs.Scoping.{lists_patched, replaced_patched, rooted_patched, patch_under}
 
 -- values are of the table
 Knows-replaced_at : (c : Content) (o : Option ℕ) (n : ℕ) (s t u : Tree) → Knows c s → Knows c t → Knows c u → Knows c (replaced_at o n s t u)
@@ -25,14 +28,22 @@ Knows-replaced_at c (Some m) n s t u h k q = by_case (m == n)
     by_case true = h
     by_case false = k
 
-pub Knows-replaced : (c : Content) (n : ℕ) (s t : Tree) → Knows c s → Knows c t → Knows c (replaced n s t)
-Knows-replaced c n s empty h k = tt
-Knows-replaced c n s (more a b) h k = (Knows-replaced c n s a h k.0, Knows-replaced c n s b h k.1)
-Knows-replaced c n s (node l t) h k = Knows-replaced_at c (infer_of l) n s (node l t) (node l (replaced n s t)) h k (k.0, Knows-replaced c n s t h k.1)
+pub Knows-replaced : (c : Content) (n : ℕ) (s t : Tree) → Knows c s → IsClosed s → Knows c t → Knows c (replaced n s t)
+Knows-replaced c n s empty h i k = tt
+Knows-replaced c n s (more a b) h i k = (Knows-replaced c n s a h i k.0, Knows-replaced c n s b h i k.1)
+Knows-replaced c n s (node l t) h i k =
+    Knows-replaced_at c (infer_of l) n s (node l t) (node l (replaced n s t)) h k
+    (k.0, Knows-replaced c n s t h i k.1, lists_patched (binders l) t (replaced n s t) (replaced_patched n s t (i, known_well_bound c s h)) k.2)
 
-pub Knows-under : (c : Content) (val : ℕ → Tree) (ns : List ℕ) (t : Tree) → ((n : ℕ) → Knows c (val n)) → Knows c t → Knows c (under val ns t)
+-- closed trees of the table
+abbrev pub AreClosedOf : Content → (ℕ → Tree) → Type 0
+AreClosedOf c val = (n : ℕ) → Knows c (val n) × IsClosed (val n)
+
+pub Knows-under : (c : Content) (val : ℕ → Tree) (ns : List ℕ) (t : Tree) → AreClosedOf c val → Knows c t → Knows c (under val ns t)
 Knows-under c val [] t h k = k
-Knows-under c val (n ∷ ns) t h k = Knows-replaced c n (under val ns (val n)) (under val ns t) (Knows-under c val ns (val n) h (h n)) (Knows-under c val ns t h k)
+Knows-under c val (n ∷ ns) t h k =
+    let value = patch_under val (λ m. ((h m).1, known_well_bound c (val m) (h m).0)) ns (val n) ((h n).1, known_well_bound c (val n) (h n).0) in
+    Knows-replaced c n (under val ns (val n)) (under val ns t) (Knows-under c val ns (val n) h (h n).0) value.0 (Knows-under c val ns t h k)
 
 pub Knows-value_at : (c : Content) (n : ℕ) → IsSound c → Knows c (value_at c n)
 Knows-value_at c n s = by_case (slice_get c.slots n) refl
@@ -40,15 +51,27 @@ Knows-value_at c n s = by_case (slice_get c.slots n) refl
     by_state : (v : Slot) (o : SlotState) → slice_get c.slots n ≡ Some v → v.state ≡ o → Knows c (value_of_state v.kind (Some o))
     by_state v unset e q = tt
     by_state v (link m) e q =
-        ((s.one_kind n m (some_slot (λ x. x.state) c n v e ∙ ap Some q) ∙ some_slot (λ x. x.kind) c n v e, tt, refl), tt)
+        ((s.one_kind n m (some_slot (λ x. x.state) c n v e ∙ ap Some q) ∙ some_slot (λ x. x.kind) c n v e, tt, refl), tt, tt)
     by_state v (known t) e q = s.known_trees n t (some_slot (λ x. x.state) c n v e ∙ ap Some q)
 
     by_case : (o : Option Slot) → slice_get c.slots n ≡ o → Knows c (value_at c n)
     by_case None e = rw e tt
     by_case (Some v) e = rw e (by_state v v.state e refl)
 
+closed_value_at : (c : Content) (n : ℕ) → IsSound c → IsClosed (value_at c n)
+closed_value_at c n s = by_state (state_of c n) refl
+  where
+    by_state : (o : Option SlotState) → state_of c n ≡ o → IsClosed (value_at c n)
+    by_state None e = rw e tt
+    by_state (Some unset) e = rw e tt
+    by_state (Some (link m)) e = rw e (tt, tt)
+    by_state (Some (known t)) e = rw e (s.closed n t e)
+
+pub values_closed_of : (c : Content) → IsSound c → AreClosedOf c (value_at c)
+values_closed_of c s n = (Knows-value_at c n s, closed_value_at c n s)
+
 pub Knows-resolved : (c : Content) (t : Tree) → IsSound c → Knows c t → Knows c (resolved c t)
-Knows-resolved c t s k = Knows-under c (value_at c) (reverse c.order) t (λ n. Knows-value_at c n s) k
+Knows-resolved c t s k = Knows-under c (value_at c) (reverse c.order) t (values_closed_of c s) k
 
 -- a variable is no placeholder
 variable_level : (l : Label) (v : VariableKind × ℕ) → variable_of l ≡ Some v → leaf_level l ≡ None
@@ -85,10 +108,18 @@ is_canonical-rooted c (Some (kind.Region, n)) l e = refl
 KnowsLabel-rooted : (c : Content) (l : Label) → IsSound c → KnowsLabel c l → KnowsLabel c (rooted_variable c (variable_of l) l)
 KnowsLabel-rooted c l s k = (KnowsVariable-rooted c (variable_of l) l s refl k.0, rw (leaf_level-rooted c (variable_of l) l refl) k.1, is_canonical-rooted c (variable_of l) l k.2)
 
+rooted_binds : (c : Content) (o : Option (VariableKind × ℕ)) (l : Label) (t : Tree) → ListsBound (binders l) t → ListsBound (binders (rooted_variable c o l)) (rooted c t)
+rooted_binds c None l t h = lists_patched (binders l) t (rooted c t) (rooted_patched c t) h
+rooted_binds c (Some (kind.Ty, n)) l t h = lists_patched (binders l) t (rooted c t) (rooted_patched c t) h
+rooted_binds c (Some (kind.Int, n)) l t h = lists_patched (binders l) t (rooted c t) (rooted_patched c t) h
+rooted_binds c (Some (kind.Float, n)) l t h = lists_patched (binders l) t (rooted c t) (rooted_patched c t) h
+rooted_binds c (Some (kind.Const, n)) l t h = lists_patched (binders l) t (rooted c t) (rooted_patched c t) h
+rooted_binds c (Some (kind.Region, n)) l t h = tt
+
 pub Knows-rooted : (c : Content) (t : Tree) → IsSound c → Knows c t → Knows c (rooted c t)
 Knows-rooted c empty s k = tt
 Knows-rooted c (more a b) s k = (Knows-rooted c a s k.0, Knows-rooted c b s k.1)
-Knows-rooted c (node l t) s k = (KnowsLabel-rooted c l s k.0, Knows-rooted c t s k.1)
+Knows-rooted c (node l t) s k = (KnowsLabel-rooted c l s k.0, Knows-rooted c t s k.1, rooted_binds c (variable_of l) l t k.2)
 
 pub Knows-deeply_resolved : (c : Content) (t : Tree) → IsSound c → Knows c t → Knows c (deeply_resolved c t)
 Knows-deeply_resolved c t s k = Knows-rooted c (resolved c t) s (Knows-resolved c t s k)

@@ -25,13 +25,16 @@ use Rattle.nts_model.proofs.Listed.{either, tell, differ, same-yes, map-map, map
 use Rattle.nts_model.proofs.Numbering.{AtNode, AllLeaves, AllLeaves-map, HasNoPositions, IsSeen}
 use Rattle.nts_model.proofs.ProvedLater.{contains_first, contains_later, contains_none, first_or_later}
 use Rattle.nts_model.proofs.Substituting.{kind_of-replace, IsClosed-replace}
+use Rattle.nts_model.specs.Scoping.{IsWellBound}
+use Rattle.nts_model.proofs.Scoping.{well_bound_patched, replace_patched, numbered_leaf_patch}
 use Rattle.nts_model.proofs.Answering.{AreSeen, IsPlainTerm, positioned_over}
 
--- a closed term over positions of these sorts
+-- a closed term over positions of these sorts, whose binders list what they bind
 pub record IsTreeOver (ss : List Sort) (t : Tree) : Type 0 where
   pub names : NamesFresh ss t
   pub leaves : (l : Leaf) → Occurs l t → IsFixed l
   pub closed : IsClosed t
+  pub well_bound : IsWellBound t
 
 -- the sort at the number of a leaf
 slice_get-next : (x : Sort) (xs : List Sort) (n : ℕ) → slice_get (x ∷ xs) (1 + n) ≡ slice_get xs n
@@ -81,6 +84,7 @@ positioned_is_over s t p c h =
       names = named_replace (map sort_of_leaf s) (numbered_leaf is_fixed s) t p.no_positions (AllLeaves-map _ _ t (named_leaf s) h);
       leaves = o.leaves;
       closed = IsClosed-replace (numbered_leaf is_fixed s) (numbered_closed s) 0 t c;
+      well_bound = well_bound_patched t (positioned s t) (replace_patched (numbered_leaf is_fixed s) (λ l. numbered_leaf_patch is_fixed s l (is_fixed l)) t) p.well_bound;
     }
 
 pub positioned_kind : (s : List Leaf) (t : Tree) → kind_of (positioned s t) ≡ kind_of t

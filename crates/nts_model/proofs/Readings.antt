@@ -23,7 +23,7 @@ use Rattle.nts_model.proofs.Under.{eq-self, same_or_other}
 use Rattle.nts_model.proofs.Slots.{no_slot, some_slot}
 use Rattle.nts_model.proofs.Roots.{root_of-link}
 use Rattle.nts_model.proofs.Resolved.{IsVariable, resolved-node, resolved-variable_known, resolved-variable_link}
-use Rattle.nts_model.proofs.Open.{Knows-under, Knows-value_at}
+use Rattle.nts_model.proofs.Open.{AreClosedOf, Knows-under, values_closed_of}
 use Rattle.nts_model.proofs.Instances.{inst-variable, inst-node}
 use Rattle.nts_model.proofs.Solving.{NamesAll-more}
 use Rattle.nts_model.proofs.Slots.{CanName-more}
@@ -74,7 +74,7 @@ inst-replaced c w n s (more a b) h k = cc (inst-replaced c w n s a h k.0, inst-r
 inst-replaced c w n s (node l t) h k = inst-replaced_variable c w n s l t (replaced n s t) (variable_of l) h k.0.0 refl (inst-replaced c w n s t h k.1)
 
 -- the instance of a tree under values is its instance in a world with the values' instances
-pub inst-under : (c : Content) (w : World) (val : ℕ → Tree) (ns : List ℕ) (t : Tree) → ((n : ℕ) → IsOneOf n ns → kind_at c n ≡ Some kind.Region → ⊥) → ((n : ℕ) → Knows c (val n)) → Knows c t → inst w (under val ns t) ≡ inst (composed w val ns) t
+pub inst-under : (c : Content) (w : World) (val : ℕ → Tree) (ns : List ℕ) (t : Tree) → ((n : ℕ) → IsOneOf n ns → kind_at c n ≡ Some kind.Region → ⊥) → AreClosedOf c val → Knows c t → inst w (under val ns t) ≡ inst (composed w val ns) t
 inst-under c w val [] t h v k = refl
 inst-under c w val (n ∷ ns) t h v k =
     inst-replaced c w n (under val ns (val n)) (under val ns t) (h n (inl refl)) (Knows-under c val ns t v k)
@@ -95,7 +95,7 @@ classes c = class_of c c.constraints
 -- what a tree is in the table's reading: its resolved tree, where regions stand for their classes
 pub inst-reading : (c : Content) (t : Tree) → IsSound c → Knows c t → inst (reading c) t ≡ inst (plain c (classes c)) (resolved c t)
 inst-reading c t s k =
-    sym (inst-under c (plain c (classes c)) (value_at c) (reverse c.order) t (λ n q. s.no_region n q) (λ n. Knows-value_at c n s) k)
+    sym (inst-under c (plain c (classes c)) (value_at c) (reverse c.order) t (λ n q. s.no_region n q) (values_closed_of c s) k)
 
 -- regions with one root are of one class
 merged-same : (f : RegionName → RegionName) (o : Option (RegionName × RegionName)) (x y : RegionName) → f x ≡ f y → merged f o x ≡ merged f o y
@@ -206,7 +206,7 @@ pub tree-region : (c : Content) (n : ℕ) → IsSound c → kind_at c n ≡ Some
 tree-region c n s k =
     let alone : resolved c (variable_tree kind.Region n) ≡ node (label.Leaf (leaf.Variable kind.Region n)) (resolved c empty) = resolved-node c (label.Leaf (leaf.Variable kind.Region n)) empty refl in
     let is : (plain c (classes c)).tree n ≡ region_tree (classes c (of_variable n)) = rw k refl in
-    inst-reading c (variable_tree kind.Region n) s ((k, tt, refl), tt) ∙ ap (inst (plain c (classes c))) alone ∙ is
+    inst-reading c (variable_tree kind.Region n) s ((k, tt, refl), tt, tt) ∙ ap (inst (plain c (classes c))) alone ∙ is
 
 inst-region : (c : Content) (t : Tree) (a : RegionName) → IsSound c → Knows c t → region_name t ≡ Some a → inst (reading c) t ≡ region_tree (classes c a)
 inst-region c empty a s k e = cc
@@ -255,7 +255,7 @@ is_region kind.Float = inr (λ e. cc)
 is_region kind.Const = inr (λ e. cc)
 
 pub tree-reading : (c : Content) (n : ℕ) (k : VariableKind) → IsSound c → kind_at c n ≡ Some k → (reading c).tree n ≡ inst (plain c (classes c)) (resolved c (variable_tree k n))
-tree-reading c n k s e = inst-reading c (variable_tree k n) s ((e, tt, refl), tt)
+tree-reading c n k s e = inst-reading c (variable_tree k n) s ((e, tt, refl), tt, tt)
 
 reading-link : (c : Content) (n m : ℕ) (k : VariableKind) → IsSound c → kind_at c n ≡ Some k → state_of c n ≡ Some (link m) → (k ≡ kind.Region) ⊎ (k ≢ kind.Region) → (reading c).tree n ≡ (reading c).tree m
 reading-link c n m k s h e (inl r) =

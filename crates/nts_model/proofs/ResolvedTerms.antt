@@ -15,7 +15,7 @@ use Rattle.nts_model.specs.Proving.{HoldsTerms}
 use Rattle.nts_model.proofs.Variables.{infer_number_some}
 use Rattle.nts_model.proofs.Roots.{Reaches-root_of, IsRootState-root_of, kind_at-root_of}
 use Rattle.nts_model.proofs.Resolved.{rank_none, resolved-node, resolved-variable_unset, resolved-variable_reaches, resolved-variable_known, deeply_resolved-node, deeply_resolved-empty}
-use Rattle.nts_model.proofs.Open.{Knows-under, Knows-value_at, Knows-resolved}
+use Rattle.nts_model.proofs.Open.{AreClosedOf, Knows-under, values_closed_of, Knows-resolved}
 use Rattle.nts_model.proofs.Kept.{FitKinds, FitKinds-value_at, kind_of-replaced, kind_of-under, kind_of-resolved, kind_of-rooted}
 use Rattle.nts_model.proofs.Substituting.{closed_under_more}
 
@@ -65,13 +65,13 @@ IsFormed-replaced c n s (node l t) f h k i =
     IsFormed-replaced_at n (infer_of l) s (node l t) (node l (replaced n s t)) h i
     (Meets-kept c (replaced n s) rows (shape l) t k.1 i.0, IsFormed-replaced c n s t f h k.1 i.1)
 
-IsFormed-under : (c : Content) (val : ℕ → Tree) (ns : List ℕ) (t : Tree) → ((n : ℕ) → Knows c (val n)) → FitKinds c val ns → ((n : ℕ) → IsFormed (val n)) → Knows c t → IsFormed t → IsFormed (under val ns t)
+IsFormed-under : (c : Content) (val : ℕ → Tree) (ns : List ℕ) (t : Tree) → AreClosedOf c val → FitKinds c val ns → ((n : ℕ) → IsFormed (val n)) → Knows c t → IsFormed t → IsFormed (under val ns t)
 IsFormed-under c val [] t h f g k i = i
 IsFormed-under c val (n ∷ ns) t h f g k i =
     let fits : FitKinds c val ns = λ m j q e. f m j (inr q) e in
-    let value : kind_of (under val ns (val n)) ≡ kind_of (val n) = kind_of-under c val ns (val n) h fits (h n) in
+    let value : kind_of (under val ns (val n)) ≡ kind_of (val n) = kind_of-under c val ns (val n) h fits (h n).0 in
     IsFormed-replaced c n (under val ns (val n)) (under val ns t) (λ j e. value ∙ f n j (inl refl) e)
-    (IsFormed-under c val ns (val n) h fits g (h n) (g n)) (Knows-under c val ns t h k) (IsFormed-under c val ns t h fits g k i)
+    (IsFormed-under c val ns (val n) h fits g (h n).0 (g n)) (Knows-under c val ns t h k) (IsFormed-under c val ns t h fits g k i)
 
 -- the values of a table
 value_is : (P : Tree → Type 0) (c : Content) (n : ℕ) → P empty → ((k : VariableKind) (m : ℕ) → P (variable_tree k m)) → ((t : Tree) → state_of c n ≡ Some (known t) → P t) → P (value_at c n)
@@ -91,7 +91,7 @@ IsClosed-value_at c n h = value_is IsClosed c n tt (λ k m. (tt, tt)) (h.closed 
 
 pub IsFormed-resolved : (c : Content) (t : Tree) → IsSound c → HoldsTerms c → Knows c t → IsFormed t → IsFormed (resolved c t)
 IsFormed-resolved c t s h k i =
-    IsFormed-under c (value_at c) (reverse c.order) t (λ n. Knows-value_at c n s) (FitKinds-value_at c s) (λ n. IsFormed-value_at c n h) k i
+    IsFormed-under c (value_at c) (reverse c.order) t (values_closed_of c s) (FitKinds-value_at c s) (λ n. IsFormed-value_at c n h) k i
 
 -- closed trees for variables
 IsClosed-replaced_at : (b n : ℕ) (o : Option ℕ) (s : Tree) (l : Label) (t x : Tree) → IsClosed s → IsClosedUnder b (node l t) → IsClosedUnder (b + binders l) x → IsClosedUnder b (replaced_at o n s (node l t) (node l x))

@@ -116,4 +116,4 @@ KnowsLabel-kept c d l e k = (KnowsVariable-kept c d (variable_of l) e k.0, CanNa
 pub Knows-kept : (c d : Content) (t : Tree) → KeepsKinds c d → Knows c t → Knows d t
 Knows-kept c d empty e h = tt
 Knows-kept c d (more a b) e h = (Knows-kept c d a e h.0, Knows-kept c d b e h.1)
-Knows-kept c d (node l t) e h = (KnowsLabel-kept c d l e h.0, Knows-kept c d t e h.1)
+Knows-kept c d (node l t) e h = (KnowsLabel-kept c d l e h.0, Knows-kept c d t e h.1, h.2)

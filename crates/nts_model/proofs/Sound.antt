@@ -30,6 +30,7 @@ IsSound-same c d s e =
       descends = λ n m q. s.descends n m (sym (e.states n) ∙ q);
       one_kind = λ n m q. e.kinds m ∙ s.one_kind n m (sym (e.states n) ∙ q) ∙ sym (e.kinds n);
       known_trees = λ n t q. Knows-kept c d t (KeepsKinds-same c d e) (s.known_trees n t (sym (e.states n) ∙ q));
+      closed = λ n t q. s.closed n t (sym (e.states n) ∙ q);
       ranks = λ n t k q r. s.ranks n t k (sym (e.states n) ∙ q) (sym (e.kinds n) ∙ r);
       fits = λ n t k q r. s.fits n t k (sym (e.states n) ∙ q) (sym (e.kinds n) ∙ r);
       linked = λ n m q r. rw e.order (s.linked n m (sym (e.states n) ∙ q) (λ z. r (e.kinds n ∙ z)));
@@ -104,6 +105,7 @@ module _ (c : Content) (v : Slot) (s : IsSound c) (free : v.state ≡ unset) whe
             let l = s.descends n m q' in
             kind_at-with_slot_old m (λ e. omega (arith, e, b, l)) ∙ s.one_kind n m q' ∙ sym (kind_at-with_slot_old n d);
         known_trees = λ n t q. Knows-kept c grown t (KeepsKinds-with_slot c v) (s.known_trees n t (sym (state_of-with_slot_old n (grown_old n (known t) q (λ z. cc))) ∙ q));
+        closed = λ n t q. s.closed n t (sym (state_of-with_slot_old n (grown_old n (known t) q (λ z. cc))) ∙ q);
         ranks = λ n t k q r.
             let d = grown_old n (known t) q (λ z. cc) in
             s.ranks n t k (sym (state_of-with_slot_old n d) ∙ q) (sym (kind_at-with_slot_old n d) ∙ r);

@@ -106,7 +106,7 @@ read_formed : (c : Content) (l : Leaf) → IsSound c → HoldsTerms c → IsForm
 read_formed c (leaf.Variable k n) s h = by_kind (is_kind (kind_at c n) k) refl
   where
     by_kind : (z : Bool) → is_kind (kind_at c n) k ≡ z → IsFormed (read_variable c k n z)
-    by_kind true e = IsFormed-deeply_resolved c (variable_tree k n) s h ((is_kind-same (kind_at c n) k e, tt, refl), tt) (tt, tt)
+    by_kind true e = IsFormed-deeply_resolved c (variable_tree k n) s h ((is_kind-same (kind_at c n) k e, tt, refl), tt, tt) (tt, tt)
     by_kind false e = (tt, tt)
 read_formed c (leaf.Region r) s h = (tt, tt)
 read_formed c (leaf.TyConstant a) s h = (tt, tt)

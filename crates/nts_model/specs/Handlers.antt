@@ -12,6 +12,7 @@ use Rattle.nts_model.specs.declared.labels.PredicateHead.TheVariants as predicat
 use Rattle.nts_model.specs.declared.labels.Label.{Label}
 use Rattle.nts_model.specs.declared.labels.Label.TheVariants as label
 use Rattle.nts_model.specs.Trees.{Tree, empty, more, node, kind_of_label, of_sort, NodeKind, any_label, is_canonical, IsClosed, IsFormed}
+use Rattle.nts_model.specs.Scoping.{IsWellBound}
 use Rattle.nts_model.specs.Fitting.{Fits}
 use Rattle.nts_model.specs.Substitutions.{put, Occurs, StaysItself, Instance, instance_of, Renaming, rename, IsPlain}
 use Rattle.nts_model.specs.Related.{Constraint, pair, unbound}
@@ -145,7 +146,7 @@ meaning h variances = meaning_of h.applies h.is_coinductive variances
 
 -- the goals that a handler is asked: closed terms without positions, that bind nothing, of the kinds that it answers.
 -- What is said is closed by itself: it names no variable of the binder that binds nothing. So are the statements of the
--- environment
+-- environment. Each bound variable is of the list of its binder
 pub record IsAsked (e g : Tree) : Type 0 where
   pub statement : Tree
   pub binds_nothing : g ≡ unbound statement
@@ -153,6 +154,7 @@ pub record IsAsked (e g : Tree) : Type 0 where
   pub formed : IsFormed (pair e g)
   pub closed : IsClosed (pair e statement)
   pub no_positions : any_label is_canonical (pair e g) ≡ false
+  pub well_bound : IsWellBound (pair e g)
   pub statements : HasClosedStatements e
 
 -- candidates are a function of mode and goal, and commute with plain renaming
@@ -186,12 +188,13 @@ IsFixed (leaf.Region r) = StaysItself r
 IsFixed l = ⊥
 
 -- a closed term over the fresh variables and the goal: it has no other leaves than the goal, but for regions that
--- stay themselves
+-- stay themselves, and each bound variable is of the list of its binder
 pub record IsOver (fresh : List Sort) (e g t : Tree) : Type 0 where
   pub names : NamesFresh fresh t
   pub leaves : (l : Leaf) → Occurs l t → Occurs l (pair e g) ⊎ IsFixed l
   pub formed : IsFormed t
   pub closed : IsClosed t
+  pub well_bound : IsWellBound t
 
 abbrev pub IsEquationOver : List Sort → Tree → Tree → Equation → Type 0
 IsEquationOver fresh e g (related a b) = IsOver fresh e g a × IsOver fresh e g b

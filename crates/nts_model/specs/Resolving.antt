@@ -6,7 +6,8 @@ use Rattle.nts_model.specs.declared.labels.Leaf.{Leaf}
 use Rattle.nts_model.specs.declared.labels.Leaf.TheVariants as leaf
 use Rattle.nts_model.specs.declared.labels.Label.{Label}
 use Rattle.nts_model.specs.declared.labels.Label.TheVariants as label
-use Rattle.nts_model.specs.Trees.{Tree, empty, more, node, size, is_canonical, kind_of, of_sort, sort_of_variable}
+use Rattle.nts_model.specs.Trees.{Tree, empty, more, node, size, is_canonical, binders, kind_of, of_sort, sort_of_variable, IsClosed}
+use Rattle.nts_model.specs.Scoping.{ListsBound}
 use Rattle.nts_model.specs.Placeholders.{leaf_level, CanName}
 use Rattle.nts_model.specs.Contents.{Content, SlotState, unset, link, known, state_of, kind_at}
 
@@ -137,14 +138,14 @@ KnowsLeaves c empty = Unit {0}
 KnowsLeaves c (more a b) = KnowsLeaves c a × KnowsLeaves c b
 KnowsLeaves c (node l t) = KnowsLeaf c l × KnowsLeaves c t
 
--- .. and it has no position of a canonical value
+-- .. and it has no position of a canonical value, and what it binds is listed
 abbrev pub KnowsLabel : Content → Label → Type 0
 KnowsLabel c l = KnowsVariable c (variable_of l) × CanName c.universe (leaf_level l) × (is_canonical l ≡ false)
 
 abbrev pub Knows : Content → Tree → Type 0
 Knows c empty = Unit {0}
 Knows c (more a b) = Knows c a × Knows c b
-Knows c (node l t) = KnowsLabel c l × Knows c t
+Knows c (node l t) = KnowsLabel c l × Knows c t × ListsBound (binders l) t
 
 -- the value of a type variable may be a variable of integers or floats; no other variable has one as its value
 abbrev pub rank_of_kind : VariableKind → ℕ
@@ -162,12 +163,13 @@ variable_rank empty = 0
 variable_rank (more a b) = 0
 variable_rank (node l c) = rank_of (variable_of l)
 
--- the values are of lower ranks, fit their variables and are of the table; links lead down within a kind;
+-- the values are of lower ranks, fit their variables, are of the table and closed; links lead down within a kind;
 -- a variable is bound once, and never to a tree that leads back to it
 pub record IsSound (c : Content) : Type 0 where
   pub descends : (n m : ℕ) → state_of c n ≡ Some (link m) → m < n
   pub one_kind : (n m : ℕ) → state_of c n ≡ Some (link m) → kind_at c m ≡ kind_at c n
   pub known_trees : (n : ℕ) (t : Tree) → state_of c n ≡ Some (known t) → Knows c t
+  pub closed : (n : ℕ) (t : Tree) → state_of c n ≡ Some (known t) → IsClosed t
   pub ranks : (n : ℕ) (t : Tree) (k : VariableKind) → state_of c n ≡ Some (known t) → kind_at c n ≡ Some k → variable_rank t < rank_of_kind k
   pub fits : (n : ℕ) (t : Tree) (k : VariableKind) → state_of c n ≡ Some (known t) → kind_at c n ≡ Some k → (kind_of t ≡ Some (of_sort (sort_of_variable k))) × (k ≢ kind.Region)
   pub linked : (n m : ℕ) → state_of c n ≡ Some (link m) → kind_at c n ≢ Some kind.Region → IsOneOf n (reverse c.order)

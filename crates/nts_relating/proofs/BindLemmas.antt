@@ -80,6 +80,7 @@ bind_value ts us e f g x t v w z before_lawful can_bind at knows_term h within f
       is = refl;
       no_region = no_region;
       knows = gen.knows;
+      closed = gen.closed;
       lower = lower_now;
       fits = sort;
       lacks = gen.lacks;
@@ -190,7 +191,7 @@ taken ts us vs e f g x y k t v w z u lawful ext can at_x at_y same is h within f
     let sort : kind_of (tree_at vs v) ≡ Some (of_sort (sort_of_variable w.kind)) = kind_of-like (tree_at vs v) (tree_at us t) gen.like ∙ ap kind_of tree ∙ ap (λ s. Some (of_sort s)) low.1 in
     let fit = takes_fits w.kind u.kind (tree_at vs v) takes sort in
     let has : kind_at (content_of us e) y ≡ Some u.kind = kind_at-entry us e y u at_y in
-    let knows : Knows (content_of us e) (tree_at us t) = rw tree ((has, tt, refl), tt) in
+    let knows : Knows (content_of us e) (tree_at us t) = rw tree ((has, tt, refl), tt, tt) in
     let value = bind_value us vs e f g x t v w z (IsLawful-extended ext lawful) can.first at_x knows h within formed gen lower fit now q in
     let set : IsSet (content_of us e) (content_of vs g) x (variable_tree u.kind y) = subst (λ (s : Tree). IsSet (content_of us e) (content_of vs g) x s) tree value.set in
     (value.lawful, subst (λ (c : Content). AreMadeOne c (content_of vs g) x y) (content_of-extended ext lawful) (set_one u.kind has set))

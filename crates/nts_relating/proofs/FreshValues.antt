@@ -17,6 +17,7 @@ use Rattle.nts_model.specs.Levels.{NamesAll, term_level}
 use Rattle.nts_model.specs.Regions.{RegionName, IsRegion, name_of_label}
 use Rattle.nts_model.specs.Worlds.{World, inst, IsValue, Solves, KnowsAll, with_tree, IsNameable}
 use Rattle.nts_model.specs.Holding.{AreOne, Continues}
+use Rattle.nts_model.proofs.Scoping.{leaf_patch, term_patched, infer_patched}
 use Rattle.nts_model.proofs.Variables.{infer_number_some, infer_label, infer_of_none}
 use Rattle.nts_model.proofs.Slots.{field_below, field-with_slot_new, field-with_slot_old, KeepsKinds-with_slot}
 use Rattle.nts_model.proofs.Instances.{inst-agrees, Agrees-with_tree, tree-with_tree}
@@ -119,7 +120,7 @@ gen_fresh c d e x u b y low high v t s knows h free of_u within i rank like apar
     let value : resolved e (variable_tree v.kind fresh) ≡ variable_tree v.kind y =
     resolved-variable_link e (label.Leaf (leaf.Variable v.kind fresh)) empty v.kind fresh y after is linked ∙ root in
     let all = Continues-trans c d e s a.continues one_class.continues in
-    let old_one : AreOne e t (variable_tree v.kind y) = AreOne-continues c e t (variable_tree v.kind y) all knows ((h.has, tt, refl), tt) (ap (rooted c) same) in
+    let old_one : AreOne e t (variable_tree v.kind y) = AreOne-continues c e t (variable_tree v.kind y) all knows ((h.has, tt, refl), tt, tt) (ap (rooted c) same) in
     let new_one : AreOne e (variable_tree v.kind fresh) (variable_tree v.kind y) = ap (rooted e) (value ∙ sym root) in
     let universe : universe_of e fresh ≡ Some u = one_class.universes fresh (λ q. omega (arith, q, ly, below)) ∙ a.universe ∙ ap Some of_u in
     record {
@@ -129,7 +130,7 @@ gen_fresh c d e x u b y low high v t s knows h free of_u within i rank like apar
         trees = λ z q. let same = a.trees z in let none = Lacks-new c (resolved c z) (Knows-resolved c z s q) in j.trees z (rw (same, hy) none) ∙ same;
         unset_kept = omega (arith, j.fewer, a.count, one);
       };
-      knows = ((has, tt, refl), tt);
+      knows = ((has, tt, refl), tt, tt);
       rank = rank;
       fits = λ j n z f. infer_ranked t i z;
       like = fresh_like v.kind y (length c.slots) t like;
@@ -139,6 +140,7 @@ gen_fresh c d e x u b y low high v t s knows h free of_u within i rank like apar
       named = (rw universe (omega arith), tt);
       named_regions = (tt, tt);
       closed = (tt, tt);
+      patched = infer_patched t (variable_tree v.kind (length c.slots)) i (leaf_patch (leaf.Variable v.kind (length c.slots)));
       alike = AreAlike-one e (variable_tree v.kind fresh) t (new_one ∙ sym old_one);
       labels = λ P f p q. (brings.labels P f (a.brings.labels P f p), (f v.kind fresh, tt));
       sound = λ w z.
@@ -207,7 +209,7 @@ gen_fresh_region c d e x u b v t l s region within r sorted is_region known of_u
         trees = λ z q. a.trees z;
         unset_kept = omega (arith, a.count, none);
       }) k;
-      knows = ((has, tt, refl), tt);
+      knows = ((has, tt, refl), tt, tt);
       rank = zero_le _ _ refl;
       fits = λ j n z. region_unfit j t n sorted;
       like = subst (λ (y : Tree). IsLike (variable_tree kind.Region fresh) y) (sym r.is) (region_sort t l r sorted);
@@ -217,6 +219,7 @@ gen_fresh_region c d e x u b v t l s region within r sorted is_region known of_u
       named = (named, tt);
       named_regions = (tt, tt);
       closed = (tt, tt);
+      patched = term_patched sort.Region t (variable_tree kind.Region (length c.slots)) sorted (leaf_patch (leaf.Variable kind.Region (length c.slots)));
       alike = related.alike;
       labels = λ P f p q. (related.brings.labels P f (a.brings.labels P f p) (f kind.Region fresh, tt) q, (f kind.Region fresh, tt));
       sound = λ w z. (let q = related.narrows.sound w z in (a.back w q.0, q.1));

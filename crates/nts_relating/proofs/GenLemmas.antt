@@ -34,6 +34,9 @@ use Rattle.nts_model.proofs.Fitting.{IsClosedUnder-more}
 use Rattle.nts_model.proofs.Levelled.{NamesAll-falls}
 use Rattle.nts_model.proofs.Held.{AreOne-continues, Continues-refl, Continues-trans}
 use Rattle.nts_model.proofs.Alike.{Alike-row_push, AreAlike-one, AreAlike-itself, AreAlike-for, AreAlike-node, AreAlike-continues, deeply_resolved-more, row_length-deeply_resolved, IsRow-deeply_resolved}
+use Rattle.nts_model.specs.Patching.{IsPatched, in_end, in_node}
+use Rattle.nts_model.proofs.Unpositioned.{known_well_bound}
+use Rattle.nts_model.proofs.Scoping.{patched_itself, leaf_patch, term_patched, infer_patched, push_patched, lists_patched}
 use Rattle.nts_model.proofs.Resolved.{resolved-empty, resolved-node, resolved-row_push, IsRow-resolved, resolved-variable_unset, deeply_resolved-empty, Knows-row_at}
 use Rattle.nts_store.specs.declared.nodes.NodeId.{NodeId}
 use Rattle.nts_store.specs.Growth.{tree_at, trees_at, AllIn, Extends}
@@ -242,6 +245,7 @@ gen_settled c x u b t s k e f g h =
       named = names.0;
       named_regions = names.1;
       closed = h;
+      patched = patched_itself t;
       alike = AreAlike-itself c t;
       labels = λ P v p q. (p, q);
       sound = λ w z. (z, refl);
@@ -263,6 +267,7 @@ gen_region c x u b t l s k r v f n =
       named = subst (λ (y : Tree). NamesAll (level_in c) u y) (sym r.is) (rw v (free_term_level l f), tt);
       named_regions = subst (λ (y : Tree). NamesAll region_level u y) (sym r.is) (n, tt);
       closed = subst (λ (y : Tree). IsClosedUnder b y) (sym r.is) (free_below l f, tt);
+      patched = patched_itself t;
       alike = AreAlike-itself c t;
       labels = λ P v p q. (p, q);
       sound = λ w z. (z, refl);
@@ -298,7 +303,7 @@ gen_region_root c x u b n r t s v has named =
     let one : AreOne c (variable_tree kind.Region r) t = rw (v.is) (regions-one c r n again) in
     record {
       keeps = Keeps-refl c;
-      knows = ((has, tt, refl), tt);
+      knows = ((has, tt, refl), tt, tt);
       rank = zero_le _ _ refl;
       fits = λ j n z. region_unfit j t n (ap kind_of v.is);
       like = rw (v.is) refl;
@@ -308,6 +313,7 @@ gen_region_root c x u b n r t s v has named =
       named = (named, tt);
       named_regions = (tt, tt);
       closed = (tt, tt);
+      patched = term_patched sort.Region t (variable_tree kind.Region r) (ap kind_of v.is) (leaf_patch (leaf.Variable kind.Region r));
       alike = AreAlike-one c (variable_tree kind.Region r) t one;
       labels = λ P f p q. (p, (f kind.Region r, tt));
       sound = λ w z. (z, rw (v.is) (sym (v.tree w z)));
@@ -322,7 +328,7 @@ pub gen_named : (c : Content) (x u b y : ℕ) (k : VariableKind) (t : Tree) → 
 gen_named c x u b y k t s h i rank like d named same worlds =
     record {
       keeps = Keeps-refl c;
-      knows = ((h.has, tt, refl), tt);
+      knows = ((h.has, tt, refl), tt, tt);
       rank = rank;
       fits = λ j n z f. infer_ranked t i z;
       like = like;
@@ -332,6 +338,7 @@ gen_named c x u b y k t s h i rank like d named same worlds =
       named = (named, tt);
       named_regions = (tt, tt);
       closed = (tt, tt);
+      patched = infer_patched t (variable_tree k y) i (leaf_patch (leaf.Variable k y));
       alike = AreAlike-one c (variable_tree k y) t (ap (rooted c) (sym same));
       labels = λ P f p q. (p, (f k y, tt));
       sound = λ w z. (z, sym (worlds w z));
@@ -374,6 +381,7 @@ gen_start c x u b row s =
       named = tt;
       named_regions = tt;
       closed = tt;
+      patched = in_end;
       alike = AreAlike-itself c empty;
       labels = λ P v p q. (p, tt);
       sound = λ w z. (z, refl);
@@ -460,6 +468,7 @@ gen_push us vs c d e x u b i row a rs qs r sc fd se known g ext all lt ea h eq =
       named = NamesAll-push (level_in e) u (trees_at us rs) (tree_at vs r) ir (NamesAll-falls d e u (trees_at us rs) h.continues.falls g.knows g.named) h.named;
       named_regions = NamesAll-push region_level u (trees_at us rs) (tree_at vs r) ir g.named_regions h.named_regions;
       closed = IsClosedUnder-push b (trees_at us rs) (tree_at vs r) ir g.closed h.closed;
+      patched = push_patched (row_take i row) (trees_at us rs) a (tree_at vs r) it g.patched h.patched;
       alike = AreAlike-push e (trees_at us rs) (row_take i row) (tree_at vs r) a ir it (IsLike-length (trees_at us rs) (row_take i row) ir g.like) later_alike h.alike;
       labels = λ P v p q.
           let parts = passes-pushed (λ z. P z ≡ true) (row_take i row) a it q in
@@ -494,9 +503,10 @@ gen_node c d x u b i t row l known is alone not_free names below r n g =
     let none : infer_of l ≡ None = infer_of_none l alone in
     let whole : row_take i (children t) ≡ children t = rw n (row_take-all (children t) r) in
     let alike : AreAlike d row (children t) = rw whole at g.alike in
+    let row_patched : IsPatched (children t) row = rw whole at g.patched in
     record {
       keeps = g.keeps;
-      knows = (let k : Knows d (node l (children t)) = subst (λ (y : Tree). Knows d y) is (Knows-later t g.keeps.later known) in k.0, g.knows);
+      knows = (let k : Knows d (node l (children t)) = subst (λ (y : Tree). Knows d y) is (Knows-later t g.keeps.later known) in k.0, g.knows, lists_patched (binders l) (children t) row row_patched (let k : Knows d (node l (children t)) = subst (λ (y : Tree). Knows d y) is (Knows-later t g.keeps.later known) in k.2));
       rank = zero_le _ _ (ap rank_of alone);
       fits = λ j n z f. fits_node j l (children t) row n (subst (λ (y : Tree). Fits j y) is f);
       like = subst (λ (y : Tree). IsLike (node l row) y) (sym is) refl;
@@ -506,6 +516,7 @@ gen_node c d x u b i t row l known is alone not_free names below r n g =
       named = (rw alone names, g.named);
       named_regions = (no_region_level l not_free, g.named_regions);
       closed = (below, g.closed);
+      patched = subst (λ (y : Tree). IsPatched y (node l row)) (sym is) (in_node row_patched);
       alike = subst (λ (y : Tree). AreAlike d (node l row) y) (sym is) (AreAlike-node d l row (children t) none alike);
       labels = λ P v p q.
           let parts : TreePasses P (node l (children t)) = subst (λ (y : Tree). TreePasses P y) is q in
@@ -554,6 +565,7 @@ gen_known c d x u b t v r k i sv st kt kv same worlds g lower labels =
       named = g.named;
       named_regions = g.named_regions;
       closed = IsClosedUnder-more 0 b r (omega arith) g.closed;
+      patched = infer_patched t r i (g.closed, known_well_bound d r g.knows);
       alike = AreAlike-for d r v r t refl one g.alike;
       labels = λ P f p q. g.labels P f p (labels P p);
       sound = λ w z. (let q = g.sound w z in (q.0, q.1 ∙ sym (worlds w q.0)));

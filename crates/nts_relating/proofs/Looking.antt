@@ -10,6 +10,7 @@ use Rattle.nts_model.specs.declared.labels.Label.TheVariants as label
 use Rattle.nts_model.specs.Trees.{Tree, empty, more, node, row_length, row_at, IsRow, any_label, is_infer, is_region_infer, is_placeholder, is_placeholder_constant, is_canonical}
 use Rattle.nts_model.specs.Contents.{Content}
 use Rattle.nts_model.specs.Resolving.{variable_of, KnowsLeaves, Knows, KnowsVariable}
+use Rattle.nts_model.specs.Scoping.{IsWellBound}
 use Rattle.nts_model.proofs.Unpositioned.{leaves_known}
 use Rattle.nts_store.specs.Labels.{AllLabels}
 use Rattle.nts_unify.specs.Entries.{Entries}
@@ -84,9 +85,9 @@ leaves-none c (node l x) e h f =
     let q = or_parts (is_region_infer l) (any_label is_region_infer x) h in
     ((no_variable c l p.0 q.0, no_placeholder c.universe l r.0), leaves-none c x p.1 q.1 r.1)
 
--- a tree without variables, placeholders and positions of canonical values
-pub Knows-none : (c : Content) (t : Tree) → any_label is_infer t ≡ false → any_label is_region_infer t ≡ false → any_label is_placeholder t ≡ false → any_label is_canonical t ≡ false → Knows c t
-Knows-none c t e h f i = leaves_known c t (leaves-none c t e h f) i
+-- a tree without variables, placeholders and positions of canonical values that lists what it binds
+pub Knows-none : (c : Content) (t : Tree) → any_label is_infer t ≡ false → any_label is_region_infer t ≡ false → any_label is_placeholder t ≡ false → any_label is_canonical t ≡ false → IsWellBound t → Knows c t
+Knows-none c t e h f i w = leaves_known c t (leaves-none c t e h f) i w
 
 -- a variable that the table has is known, and the other way round
 pub named_known : (ts : List Tree) (e : Entries) (o : Option (VariableKind × ℕ)) → HasNamed e o → KnowsVariable (content_of ts e) o

@@ -242,7 +242,7 @@ region_constraint ts us e m t r v h ext region new alone vk em within is =
     record {
       left_in = within;
       right_in = IsIn-extended ext t region.within;
-      left_known = rw is ((has, tt, refl), tt);
+      left_known = rw is ((has, tt, refl), tt, tt);
       right_known = rw kept (Knows-later (tree_at ts t) a.later (rw same region.knows));
       left_sort = rw is refl;
       right_sort = rw kept region.sort;
@@ -277,7 +277,7 @@ fresh_joined ts us e m f x u b n root t r l v h within other i leads lawful is j
     let len : fresh ≡ length c.slots = sym (length-slots us e.variables) in
     let has : kind_at d fresh ≡ Some kind.Region = rw (← len) at a.has ∙ ap Some h.of_kind in
     let state : state_of d fresh ≡ Some unset = rw (← len) at a.state in
-    let second : IsRegionVariable d (variable_tree kind.Region fresh) fresh fresh = record { is = refl; knows = ((has, tt, refl), tt); root = root_of-root d fresh (rw state tt); tree = λ w z. refl } in
+    let second : IsRegionVariable d (variable_tree kind.Region fresh) fresh fresh = record { is = refl; knows = ((has, tt, refl), tt, tt); root = root_of-root d fresh (rw state tt); tree = λ w z. refl } in
     let related = RegionsRelate-turned (regions_joined us m f (tree_at us t) (variable_tree kind.Region fresh) n fresh root fresh lawful first second j) in
     let f0 = free_slot us e root kind.Region (region_root us e (tree_at ts t) l n root later knows h.is i leads) in
     let below : root < length c.slots = field_below (λ z. z.kind) c root kind.Region f0.kind in

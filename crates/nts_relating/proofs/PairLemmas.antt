@@ -238,7 +238,7 @@ set_left ts us e f p x b h k kl kr o r s =
     let t = tree_at ts p.right in
     let j = o.bindable.of_kind in
     let has = (free_slot ts e x j o.bindable.free).kind in
-    let left : AreOne d a (variable_tree j x) = AreOne-continues c d a (variable_tree j x) s.continues kl ((has, tt, refl), tt) (ap (rooted c) o.same) in
+    let left : AreOne d a (variable_tree j x) = AreOne-continues c d a (variable_tree j x) s.continues kl ((has, tt, refl), tt, tt) (ap (rooted c) o.same) in
     let right : AreOne d t b = AreOne-continues c d t b s.continues kr r.knows (ap (rooted c) r.same) in
     record {
       continues = s.continues;
@@ -388,8 +388,8 @@ variables_related ts us e f a b x y ka kb o r m =
     let k = r.bindable.of_kind in
     let first = (free_slot ts e x j o.bindable.free).kind in
     let second = (free_slot ts e y k r.bindable.free).kind in
-    let left : AreOne d a (variable_tree j x) = AreOne-continues c d a (variable_tree j x) m.continues ka ((first, tt, refl), tt) (ap (rooted c) o.same) in
-    let right : AreOne d b (variable_tree k y) = AreOne-continues c d b (variable_tree k y) m.continues kb ((second, tt, refl), tt) (ap (rooted c) r.same) in
+    let left : AreOne d a (variable_tree j x) = AreOne-continues c d a (variable_tree j x) m.continues ka ((first, tt, refl), tt, tt) (ap (rooted c) o.same) in
+    let right : AreOne d b (variable_tree k y) = AreOne-continues c d b (variable_tree k y) m.continues kb ((second, tt, refl), tt, tt) (ap (rooted c) r.same) in
     record {
       continues = m.continues;
       alike = AreAlike-for d (variable_tree j x) (variable_tree k y) a b left right (m.alike j k first second);

@@ -159,7 +159,7 @@ regions_joined ts e f a b x y r s h va vb j =
     region_root_one : (c d : Content) (n m : ℕ) → IsSound c → root_of c n ≡ m → IsOneClass c d (min r s) (max r s) → Knows c (variable_tree kind.Region n) → AreOne d (variable_tree kind.Region n) (variable_tree kind.Region m)
     region_root_one c d n m z q one k =
         let there : kind_at c m ≡ Some kind.Region = rw (← q) (kind_at-root_of c n z ∙ k.0.0) in
-        AreOne-continues c d (variable_tree kind.Region n) (variable_tree kind.Region m) one.continues k ((there, tt, refl), tt)
+        AreOne-continues c d (variable_tree kind.Region n) (variable_tree kind.Region m) one.continues k ((there, tt, refl), tt, tt)
         (regions-one c n m (sym (root_of-root_of c n z.descends) ∙ ap (root_of c) q))
 
 -- of which it is recorded

@@ -5,6 +5,7 @@ use Rattle.nts_model.specs.declared.labels.VariableKind.TheVariants as kind
 use Rattle.nts_model.specs.declared.labels.Sort.TheVariants as sort
 use Rattle.nts_model.specs.declared.labels.Label.{Label}
 use Rattle.nts_model.specs.Trees.{Tree, empty, more, node, size, kind_of, kind_of_label, of_sort, row_length, IsClosedUnder}
+use Rattle.nts_model.specs.Patching.{IsPatched}
 use Rattle.nts_model.specs.Contents.{Content, unset, state_of, universe_of, kind_at}
 use Rattle.nts_model.specs.Resolving.{Knows, IsInfer, Lacks, resolved, variable_tree, variable_flag, variable_rank}
 use Rattle.nts_model.specs.Levels.{NamesAll, level_in, term_level, region_level}
@@ -59,6 +60,7 @@ pub record Generalized (c d : Content) (x u b : ℕ) (t r : Tree) : Type 0 where
   pub named : NamesAll (level_in d) u r
   pub named_regions : NamesAll region_level u r
   pub closed : IsClosedUnder b r
+  pub patched : IsPatched t r
   pub alike : AreAlike d r t
   pub labels : (P : Label → Bool) → PassesVariables P → TablePasses P c → TreePasses P t → TablePasses P d × TreePasses P r
   pub sound : (w : World) → Solves d w → Solves c w × (inst w r ≡ inst w t)

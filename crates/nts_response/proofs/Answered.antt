@@ -196,7 +196,7 @@ module _ (ts : List Tree) (ks : List PositionKind) (os : List Tree) (q : Content
       })
 
   node_over : (t : NodeId) → IsTreeOver sorts (tree_at ts t) → IsOverSorts ts (sorts_of r) t
-  node_over t h = subst (λ ss. IsOverSorts ts ss t) sorts_are (record { names = h.names; leaves = h.leaves; closed = h.closed })
+  node_over t h = subst (λ ss. IsOverSorts ts ss t) sorts_are (record { names = h.names; leaves = h.leaves; closed = h.closed; well_bound = h.well_bound })
 
   many : length os ≡ length r.value.var_values.items
   many =

@@ -22,8 +22,7 @@ use Rattle.nts_terms.specs.declared.handles.Goal.{Goal}
 use Rattle.nts_terms.specs.Handles.{HoldsArg}
 use Rattle.nts_certainty.specs.declared.sources.GoalSource.{GoalSource}
 use Rattle.nts_unify.specs.Entries.{Entries, moved}
-use Rattle.nts_model.specs.Sequents.{Among}
-use Rattle.nts_model.proofs.ChosenClosed.{chosen_closed, chosen_records}
+use Rattle.nts_model.proofs.ChosenClosed.{chosen_records}
 use Rattle.nts_unify.specs.Changing.{AddsVisible}
 use Rattle.nts_unify.specs.Reading.{content_of}
 use Rattle.nts_unify.specs.Lawful.{IsLawful-moved}
@@ -46,7 +45,7 @@ use Rattle.nts_response.proofs.Each.{same_views, values_kept, constraints_kept, 
 use Rattle.nts_response.proofs.LabelSteps.{among_either, only_by, values_pass, sides_pass}
 use Rattle.nts_response.proofs.Stepping.{arg_later}
 use Rattle.nts_response.proofs.MadeValues.{known_originals}
-use Rattle.nts_response.proofs.Chosen.{IsClosedTerm, NameOriginals, regions_chosen}
+use Rattle.nts_response.proofs.Chosen.{IsClosedTerm, NameOriginals, regions_chosen, all_closed}
 use Rattle.nts_response.proofs.Readying.{CanPut, can_put, values_over, sides_over}
 
 -- a response in a store that has grown
@@ -119,10 +118,6 @@ originals_closed ts e (x ∷ xs) f h c =
       originals_closed ts e xs f (λ k d l. h (suc k) d (omega (arith, l))) (λ k d l. c (suc k) d (omega (arith, l))),
     )
 
-pub all_closed : (ts : List Tree) (os : List GenericArg) → All (λ o. IsClosed (tree_at ts o.node)) os → (v : Tree) → Among (trees_of ts os) v → IsClosed v
-all_closed ts [] h v i = absurd i
-all_closed ts (x ∷ xs) h v i = ⊎_elim (λ e. subst IsClosed (sym e) (h 0 x (omega arith))) (λ j. all_closed ts xs (λ k d l. h (suc k) d (omega (arith, l))) v j) i
-
 pub name_originals : (m : ℕ) (os : List Tree) (ks : List CanonicalVarKind) → All (λ k. IsKindFor m os (kind_of_var k)) ks → NameOriginals os (map kind_of_var ks)
 name_originals m os [] h = tt
 name_originals m os (k ∷ ks) h = ((let y = h 0 k (omega arith) in y.original), name_originals m os ks (λ j d l. h (suc j) d (omega (arith, l))))
@@ -137,7 +132,8 @@ module _ (a b : List Tree) (t u : Table) (os : List GenericArg) (r : Canonical R
       (regions_chosen (content_of a t.entries) (trees_of a r.value.var_values.items) (trees_of a os) (originals_closed a t.entries os formed args closed) 0 (map kind_of_var r.var_kinds.items) (trees_of b chosen)
       (in_universe (content_of a t.entries) (t.entries.universe + r.max_universe)) (content_of b u.entries) (name_originals r.max_universe (trees_of a os) r.var_kinds.items fits.kinds) chosen_so.chooses)
       (λ j. known_originals b u.entries (content_of b u.entries) chosen j (λ z k. k) chosen_so.args)
-      (chosen_closed (content_of a t.entries) (trees_of a r.value.var_values.items) (trees_of a os) (all_closed a os closed) 0 (map kind_of_var r.var_kinds.items) (trees_of b chosen) (in_universe (content_of a t.entries) (t.entries.universe + r.max_universe)) (content_of b u.entries) chosen_so.chooses)
+      (all_closed (content_of a t.entries) (trees_of a r.value.var_values.items) (trees_of a os) (originals_closed a t.entries os formed args closed) 0 (map kind_of_var r.var_kinds.items) (trees_of b chosen)
+      (in_universe (content_of a t.entries) (t.entries.universe + r.max_universe)) (content_of b u.entries) chosen_so.chooses)
       (response_kept a b r.value chosen_so.extends h)
 
   -- the content with its new universes

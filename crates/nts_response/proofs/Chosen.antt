@@ -2,6 +2,8 @@
 use Rattle.std.proofs.Common.{◌≡◌, ⊎_elim, inl, inr, ℕ, zero, suc, List, [], ◌∷◌, map, get_or, Some, refl, sym, ap, subst, ◌∙◌}
 use Rattle.std.specs.Prelude.{slice_get}
 use Rattle.nts_model.specs.declared.labels.Sort.TheVariants as sort
+use Rattle.nts_model.specs.declared.labels.VariableKind.{VariableKind}
+use Rattle.nts_model.specs.declared.labels.VariableKind.TheVariants as kind
 use Rattle.nts_model.specs.declared.labels.Relation.{Relation}
 use Rattle.nts_model.specs.declared.labels.Relation.TheVariants as relation
 use Rattle.nts_model.specs.declared.labels.BoundVarIndexKind.TheVariants as index
@@ -14,7 +16,7 @@ use Rattle.nts_model.specs.Resolving.{Knows}
 use Rattle.nts_model.specs.Handlers.{filled, NamesFresh, IsOfSort}
 use Rattle.nts_model.specs.Inputs.{PositionKind, type_variable, integer_variable, float_variable, const_variable, region_variable, placeholder}
 use Rattle.nts_model.specs.Driving.{sort_at}
-use Rattle.nts_model.specs.Applying.{Chooses, ChoosesAll}
+use Rattle.nts_model.specs.Applying.{ChoosesVariable, Chooses, ChoosesAll}
 use Rattle.nts_model.proofs.Answering.{AllTrees}
 use Rattle.nts_model.proofs.Identified.{named_tree}
 use Rattle.nts_canonical.specs.declared.types.CanonicalVarKind.{CanonicalVarKind}
@@ -73,6 +75,35 @@ module _ (c : Content) (values os : List Tree) (terms : AllTrees (IsClosedTerm c
   regions_chosen b [] (t ∷ ts) d f n h = absurd h
   regions_chosen b (k ∷ ks) [] d f n h = absurd h
   regions_chosen b (k ∷ ks) (t ∷ ts) d f n (e, one, rest) = (region_chosen b k t d e n.0 one, regions_chosen (suc b) ks ts e f n.1 rest)
+
+-- the trees at positions are closed
+module _ (c : Content) (values os : List Tree) (terms : AllTrees (IsClosedTerm c) os) where
+  original_closed : (os : List Tree) (n : ℕ) → AllTrees (IsClosedTerm c) os → IsClosed (get_or os n empty)
+  original_closed [] n h = tt
+  original_closed (o ∷ os) zero h = (let k = h.0 in k.closed)
+  original_closed (o ∷ os) (suc n) h = original_closed os n h.1
+
+  variable_closed : (b : ℕ) (k : PositionKind) (v : VariableKind) (t : Tree) (d e : Content) → ChoosesVariable c values os b k v t d e → IsClosed t
+  variable_closed b k v t d e (inl new) = subst IsClosed (sym new.tree) (tt, tt)
+  variable_closed b k v t d e (inr (g, same)) = (let x = g.value in x.closed)
+
+  closed_chosen : (b : ℕ) (k : PositionKind) (t : Tree) (d e : Content) → Chooses c values os b k t d e → IsClosed t
+  closed_chosen b (type_variable u r) t d e h = variable_closed b (type_variable u r) kind.Ty t d e h
+  closed_chosen b integer_variable t d e h = variable_closed b integer_variable kind.Int t d e h
+  closed_chosen b float_variable t d e h = variable_closed b float_variable kind.Float t d e h
+  closed_chosen b (const_variable u) t d e h = variable_closed b (const_variable u) kind.Const t d e h
+  closed_chosen b (region_variable u) t d e h = variable_closed b (region_variable u) kind.Region t d e h
+  closed_chosen b (placeholder s zero m) t d e h = subst IsClosed (sym h.0) (original_closed os m terms)
+  closed_chosen b (placeholder sort.Ty (suc u) m) t d e h = subst IsClosed (sym h.0) (tt, tt)
+  closed_chosen b (placeholder sort.Region (suc u) m) t d e h = subst IsClosed (sym h.0) (tt, tt)
+  closed_chosen b (placeholder sort.Const (suc u) m) t d e h = subst IsClosed (sym h.0) (tt, tt)
+
+  pub all_closed : (b : ℕ) (ks : List PositionKind) (ts : List Tree) (d f : Content) → ChoosesAll c values os b ks ts d f → (j : ℕ) → IsClosed (get_or ts j empty)
+  all_closed b [] [] d f h j = tt
+  all_closed b [] (t ∷ ts) d f h j = absurd h
+  all_closed b (k ∷ ks) [] d f h j = absurd h
+  all_closed b (k ∷ ks) (t ∷ ts) d f (e, one, rest) zero = closed_chosen b k t d e one
+  all_closed b (k ∷ ks) (t ∷ ts) d f (e, one, rest) (suc j) = all_closed (suc b) ks ts e f rest j
 
 -- .. so a closed term of a region stays a region where its positions are filled
 region_at : (ks : List CanonicalVarKind) (xs : List Tree) (b : ℕ) → AreRegionsAt (map kind_of_var ks) xs → IsOfSort (slice_get (map (λ k. sort_at (kind_of_var k)) ks) b) (of_sort sort.Region) → IsRegion (get_or xs b empty)

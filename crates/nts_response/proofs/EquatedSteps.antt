@@ -1,7 +1,7 @@
 -- Values applied to as many originals: what was chosen, and what follows once they were made equal.
-use Rattle.std.proofs.Common.{◌≡◌, ℕ, ◌+◌, List, map, refl, subst, arith}
+use Rattle.std.proofs.Common.{◌≡◌, ℕ, ◌+◌, List, map, get_or, refl, subst, arith}
 use Rattle.std.specs.Prelude.{All}
-use Rattle.nts_model.specs.Trees.{Tree, IsClosed}
+use Rattle.nts_model.specs.Trees.{Tree, empty, IsClosed}
 use Rattle.nts_model.specs.Contents.{in_universe}
 use Rattle.nts_model.specs.Applying.{IsProperContent, MakesEqual}
 use Rattle.nts_model.specs.Responses.{RefusesResponse}
@@ -27,7 +27,7 @@ use Rattle.nts_response.specs.Placing.{ArePlaced}
 use Rattle.nts_response.proofs.Placed.{joins_since}
 use Rattle.nts_response.proofs.Each.{same_views, values_kept}
 use Rattle.nts_response.proofs.MadeValues.{known_originals}
-use Rattle.nts_response.proofs.Chosen.{AreRegionsAt, regions_chosen}
+use Rattle.nts_response.proofs.Chosen.{AreRegionsAt, regions_chosen, all_closed}
 use Rattle.nts_response.proofs.Readying.{fillable, values_known, values_over}
 use Rattle.nts_response.proofs.ApplySteps.{ChoseFor, originals_known, originals_closed, name_originals}
 
@@ -38,15 +38,20 @@ module _ (a b : List Tree) (t u : Table) (os vs : List GenericArg) (ks : List Ca
       regions_chosen (content_of a t.entries) (trees_of a vs) (trees_of a os) (originals_closed a t.entries os formed args closed) 0 (map kind_of_var ks) (trees_of b chosen)
       (in_universe (content_of a t.entries) (t.entries.universe + m)) (content_of b u.entries) (name_originals m (trees_of a os) ks fits.kinds) chosen_so.chooses
 
+  closed_values : (j : ℕ) → IsClosed (get_or (trees_of b chosen) j empty)
+  closed_values =
+      all_closed (content_of a t.entries) (trees_of a vs) (trees_of a os) (originals_closed a t.entries os formed args closed) 0 (map kind_of_var ks) (trees_of b chosen)
+      (in_universe (content_of a t.entries) (t.entries.universe + m)) (content_of b u.entries) chosen_so.chooses
+
   -- the values can be filled
   pub values_ready : All (λ v. IsFillable b (content_of b u.entries) (trees_of b chosen) v.node) vs
   values_ready = λ k d l.
       (let held = fits.held k d l in
-      fillable a b (content_of b u.entries) ks (trees_of b chosen) formed chosen_so.extends chosen_so.sorts regions (λ j. known_originals b u.entries (content_of b u.entries) chosen j (λ z p. p) chosen_so.args) _ held.within (fits.values k d l))
+      fillable a b (content_of b u.entries) ks (trees_of b chosen) formed chosen_so.extends chosen_so.sorts regions (λ j. known_originals b u.entries (content_of b u.entries) chosen j (λ z p. p) chosen_so.args) closed_values _ held.within (fits.values k d l))
 
   filled_known : AreKnownFilled (content_of b u.entries) (trees_of b chosen) (trees_of a vs)
   filled_known =
-      values_known a b (content_of b u.entries) ks (trees_of b chosen) formed chosen_so.extends chosen_so.sorts regions (λ j. known_originals b u.entries (content_of b u.entries) chosen j (λ z p. p) chosen_so.args) vs fits.held fits.values
+      values_known a b (content_of b u.entries) ks (trees_of b chosen) formed chosen_so.extends chosen_so.sorts regions (λ j. known_originals b u.entries (content_of b u.entries) chosen j (λ z p. p) chosen_so.args) closed_values vs fits.held fits.values
 
   moved_proper : IsProperContent (in_universe (content_of a t.entries) (t.entries.universe + m))
   moved_proper = proper_content {ts = a} {t = record t { entries = moved t.entries (t.entries.universe + m) }} (record { now = IsLawful-moved a t.entries (t.entries.universe + m) (omega arith) table.now; saved = table.saved })

@@ -10,6 +10,7 @@ use Rattle.nts_model.specs.declared.labels.Label.TheVariants as label
 use Rattle.nts_model.specs.Trees.{Tree, empty, more, node}
 use Rattle.nts_model.specs.Substitutions.{Occurs}
 use Rattle.nts_model.specs.Handlers.{NamesFresh, IsFixed}
+use Rattle.nts_model.specs.Scoping.{IsWellBound}
 use Rattle.nts_store.specs.declared.type_flags.TypeFlags.{TypeFlags}
 use Rattle.nts_store.specs.declared.nodes.NodeId.{NodeId}
 use Rattle.nts_store.specs.TypeFlags.{flags_of, escaping}
@@ -72,12 +73,13 @@ labels_stay ss (more a b) n f = (labels_stay ss a n.0 (λ x o. f x (inl o)), lab
 labels_stay ss (node l c) n f = ((n.0, label_stays l (λ x e. f x (inl e))), labels_stay ss c n.1 (λ x o. f x (inr o)))
 
 -- a term without escaping variables, by its labels
-pub over_sorts : (ts : List Tree) (ss : List Sort) (t : NodeId) (f : TypeFlags) → f ≡ flags_of (tree_at ts t) → is_some f.escaping ≡ false → AllLabels (MayStay ss) (tree_at ts t) ↔ IsOverSorts ts ss t
-over_sorts ts ss t f e h = (
+pub over_sorts : (ts : List Tree) (ss : List Sort) (t : NodeId) (f : TypeFlags) → f ≡ flags_of (tree_at ts t) → is_some f.escaping ≡ false → IsWellBound (tree_at ts t) → AllLabels (MayStay ss) (tree_at ts t) ↔ IsOverSorts ts ss t
+over_sorts ts ss t f e h w = (
   (λ a. record {
     names = names_all ss (tree_at ts t) a;
     leaves = λ x o. leaves_stay ss (tree_at ts t) x a o;
     closed = closed_by_facts (tree_at ts t) f e h;
+    well_bound = w;
   }),
   λ c. labels_stay ss (tree_at ts t) c.names c.leaves,
 )

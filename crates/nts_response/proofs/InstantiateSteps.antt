@@ -9,6 +9,7 @@ use Rattle.nts_model.specs.Inputs.{PositionKind, type_variable, integer_variable
 use Rattle.nts_model.specs.Handlers.{filled, NamesFresh}
 use Rattle.nts_model.specs.Substitutions.{Occurs}
 use Rattle.nts_model.specs.Responses.{RefusesResponse}
+use Rattle.nts_model.specs.Scoping.{IsWellBound}
 use Rattle.nts_store.specs.declared.nodes.NodeId.{NodeId}
 use Rattle.nts_store.specs.Growth.{IsIn, Extends}
 use Rattle.nts_store.proofs.Growing.{Extends-trans}
@@ -62,7 +63,7 @@ like_long (v ∷ vs) (t ∷ ts) c d (e, one, rest) = ap suc (like_long vs ts e d
 over_later : (a b : List Tree) (ss : List Sort) (t : NodeId) → IsIn a t → Extends a b → IsOverSorts a ss t → IsOverSorts b ss t
 over_later a b ss t w e h =
     let same = e.kept t w in
-    record { names = subst (NamesFresh ss) (sym same) h.names; leaves = λ l o. h.leaves l (subst (Occurs l) same o); closed = subst IsClosed (sym same) h.closed }
+    record { names = subst (NamesFresh ss) (sym same) h.names; leaves = λ l o. h.leaves l (subst (Occurs l) same o); closed = subst IsClosed (sym same) h.closed; well_bound = subst IsWellBound (sym same) h.well_bound }
 
 -- the trees of the missing values
 pub missing_trees : (ts : List Tree) (os vs : List GenericArg) → missing (trees_of ts os) (trees_of ts vs) ≡ trees_of ts (drop (length os) vs)

@@ -136,9 +136,9 @@ made_known p os float_variable x c d k l h = new_knows c d 0 kind.Float x h
 made_known p os (const_variable v) x c d k l h = new_knows c d (p + v) kind.Const x h
 made_known p os (region_variable v) x c d k l h = new_knows c d (p + v) kind.Region x h
 made_known p os (placeholder s zero n) x c d k l (q, b, e) = rw q (k n)
-made_known p os (placeholder sort.Ty (suc v) n) x c d k l (q, b, e) = rw q ((tt, omega (arith, b, l), refl), tt)
-made_known p os (placeholder sort.Const (suc v) n) x c d k l (q, b, e) = rw q ((tt, omega (arith, b, l), refl), tt)
-made_known p os (placeholder sort.Region (suc v) n) x c d k l (q, b, e) = rw q ((tt, omega (arith, b, l), refl), tt)
+made_known p os (placeholder sort.Ty (suc v) n) x c d k l (q, b, e) = rw q ((tt, omega (arith, b, l), refl), tt, tt)
+made_known p os (placeholder sort.Const (suc v) n) x c d k l (q, b, e) = rw q ((tt, omega (arith, b, l), refl), tt, tt)
+made_known p os (placeholder sort.Region (suc v) n) x c d k l (q, b, e) = rw q ((tt, omega (arith, b, l), refl), tt, tt)
 
 pub made_sort : (p : ℕ) (os : List Tree) (k : PositionKind) (x : Tree) (c d : Content) → NamesOriginal os k → IsMadeFor p os k x c d → HasSort k x
 made_sort p os (type_variable v r) x c d o h = rw h.tree refl

@@ -3,6 +3,7 @@ use Rattle.std.proofs.Common.{◌≡◌, ℕ, suc, List, [], ◌∷◌, map, get
 use Rattle.std.specs.Prelude.{All}
 use Rattle.nts_model.specs.declared.labels.Sort.{Sort}
 use Rattle.nts_model.specs.Trees.{Tree, empty, more, node, IsClosed}
+use Rattle.nts_model.specs.Scoping.{IsWellBound}
 use Rattle.nts_model.specs.Related.{alias_label}
 use Rattle.nts_terms.specs.declared.handles.AliasDefId.{AliasDefId}
 use Rattle.nts_model.specs.Contents.{Content}
@@ -51,24 +52,25 @@ are_hidden ts (x ∷ xs) h = (h 0 x (omega arith), are_hidden ts xs (λ k d l. h
 record IsRowOver (c : Content) (ss : List Sort) (t : Tree) : Type 0 where
   pub names : NamesFresh ss t
   pub known : KnowsLeaves c t
+  pub well_bound : IsWellBound t
 
-alias_over : (c : Content) (ss : List Sort) (d : AliasDefId) (t : Tree) → NamesFresh ss t → KnowsLeaves c t → IsRowOver c ss (node (alias_label (alias_head d)) (more t empty))
-alias_over c ss (alias_def.Ty a) t n k = record { names = (tt, (n, tt)); known = ((tt, tt), (k, tt)) }
-alias_over c ss (alias_def.Const a) t n k = record { names = (tt, (n, tt)); known = ((tt, tt), (k, tt)) }
+alias_over : (c : Content) (ss : List Sort) (d : AliasDefId) (t : Tree) → NamesFresh ss t → KnowsLeaves c t → IsWellBound t → IsRowOver c ss (node (alias_label (alias_head d)) (more t empty))
+alias_over c ss (alias_def.Ty a) t n k w = record { names = (tt, (n, tt)); known = ((tt, tt), (k, tt)); well_bound = (tt, (w, tt)) }
+alias_over c ss (alias_def.Const a) t n k w = record { names = (tt, (n, tt)); known = ((tt, tt), (k, tt)); well_bound = (tt, (w, tt)) }
 
 row_over : (ts : List Tree) (c : Content) (ss : List Sort) (hs : List (AliasTerm × Ty)) → All (IsHiddenOver ts ss) hs → IsRowOver c ss (hidden_pairs ts hs)
-row_over ts c ss [] h = record { names = tt; known = tt }
+row_over ts c ss [] h = record { names = tt; known = tt; well_bound = tt }
 row_over ts c ss (x ∷ xs) h =
     let o = h 0 x (omega arith) in
     let args = o.args in
     let ty = o.hidden_type in
-    let alias = alias_over c ss x.0.def_id (tree_at ts x.0.args.node) args.names (fixed_known c (tree_at ts x.0.args.node) args.leaves) in
+    let alias = alias_over c ss x.0.def_id (tree_at ts x.0.args.node) args.names (fixed_known c (tree_at ts x.0.args.node) args.leaves) args.well_bound in
     let rest = row_over ts c ss xs (λ k d l. h (suc k) d (omega (arith, l))) in
-    record { names = (alias.names, (ty.names, rest.names)); known = (alias.known, (fixed_known c (tree_at ts x.1.node) ty.leaves, rest.known)) }
+    record { names = (alias.names, (ty.names, rest.names)); known = (alias.known, (fixed_known c (tree_at ts x.1.node) ty.leaves, rest.known)); well_bound = (alias.well_bound, (ty.well_bound, rest.well_bound)) }
 
 -- with these values of the sorts of the positions
 module _ (a b : List Tree) (c : Content) (ks : List CanonicalVarKind) (xs : List Tree) (formed : AreFormed a) (up : Extends a b)
-    (sorts : HaveSorts (map kind_of_var ks) xs) (regions : AreRegionsAt (map kind_of_var ks) xs) (known : (j : ℕ) → Knows c (get_or xs j empty)) where
+    (sorts : HaveSorts (map kind_of_var ks) xs) (regions : AreRegionsAt (map kind_of_var ks) xs) (known : (j : ℕ) → Knows c (get_or xs j empty)) (closed : (j : ℕ) → IsClosed (get_or xs j empty)) where
   abbrev ss : List Sort
   ss = map (λ k. sort_at (kind_of_var k)) ks
 
@@ -79,13 +81,13 @@ module _ (a b : List Tree) (c : Content) (ks : List CanonicalVarKind) (xs : List
   has t w o = rw (there t w) (has_values ks xs (tree_at a t) sorts o.names)
 
   knows : (t : NodeId) → IsIn a t → IsOverSorts a ss t → Knows c (filled xs (tree_at a t))
-  knows t w o = knows-filled c xs (tree_at a t) known (fixed_known c (tree_at a t) o.leaves)
+  knows t w o = knows-filled c xs (tree_at a t) known closed (fixed_known c (tree_at a t) o.leaves) o.well_bound
 
   pub fillable : (t : NodeId) → IsIn a t → IsOverSorts a ss t → IsFillable b c xs t
   fillable t w o = record { within = IsIn-extended up t w; positions = has t w o; knows = rw (there t w) (knows t w o) }
 
-  recordable : ((j : ℕ) → IsClosed (get_or xs j empty)) → (x : RegionConstraint × VisibleForLeakCheck) → HoldsConstraint a x → IsConstraintOver a ss x → IsRecordable b c xs x
-  recordable closed x h o =
+  recordable : (x : RegionConstraint × VisibleForLeakCheck) → HoldsConstraint a x → IsConstraintOver a ss x → IsRecordable b c xs x
+  recordable x h o =
       let held_left = h.left in
       let held_right = h.right in
       let w = held_left.within in
@@ -110,7 +112,7 @@ module _ (a b : List Tree) (c : Content) (ks : List CanonicalVarKind) (xs : List
       record {
         held = are_hidden-kept a b hs held up;
         positions = rw same (has_values ks xs (hidden_pairs a hs) sorts row.names);
-        knows = rw same (knows-filled c xs (hidden_pairs a hs) known row.known);
+        knows = rw same (knows-filled c xs (hidden_pairs a hs) known closed row.known row.well_bound);
       }
 
   openable : (g : GoalSource × Goal) → HoldsOpen a g → IsGoalOver a ss g → IsOpenable b xs g
@@ -192,12 +194,12 @@ can_put a b c os xs r f up p sorts regions known closed later =
     record {
       ready = record {
         holds = later;
-        values = λ k d l. (let held = h.values k d l in fillable a b c ks xs f up sorts regions known _ held.within (p.values k d l));
+        values = λ k d l. (let held = h.values k d l in fillable a b c ks xs f up sorts regions known closed _ held.within (p.values k d l));
         constraints = λ k d l. recordable a b c ks xs f up sorts regions known closed _ (h.constraints k d l) (p.constraints k d l);
-        hidden = registrable a b c ks xs f up sorts regions known x.opaque_types.items h.hidden p.hidden;
-        open_goals = λ k d l. openable a b c ks xs f up sorts regions known _ (h.open_goals k d l) (p.open_goals k d l);
-        known = rw (same_views HoldsOpen premise_at goals_kept a b x.normalization_nested_goals.items h.open_goals up) (goals_known a b c ks xs f up sorts regions known x.normalization_nested_goals.items h.open_goals p.open_goals);
+        hidden = registrable a b c ks xs f up sorts regions known closed x.opaque_types.items h.hidden p.hidden;
+        open_goals = λ k d l. openable a b c ks xs f up sorts regions known closed _ (h.open_goals k d l) (p.open_goals k d l);
+        known = rw (same_views HoldsOpen premise_at goals_kept a b x.normalization_nested_goals.items h.open_goals up) (goals_known a b c ks xs f up sorts regions known closed x.normalization_nested_goals.items h.open_goals p.open_goals);
       };
-      values = values_known a b c ks xs f up sorts regions known r.value.var_values.items h.values p.values;
-      sides = sides_known a b c ks xs f up sorts regions known x.region_constraints.items h.constraints p.constraints;
+      values = values_known a b c ks xs f up sorts regions known closed r.value.var_values.items h.values p.values;
+      sides = sides_known a b c ks xs f up sorts regions known closed x.region_constraints.items h.constraints p.constraints;
     }

@@ -5,6 +5,7 @@ use Rattle.nts_model.specs.declared.labels.Relation.{Relation}
 use Rattle.nts_model.specs.declared.labels.Relation.TheVariants as relation
 use Rattle.nts_model.specs.declared.labels.Leaf.{Leaf}
 use Rattle.nts_model.specs.Trees.{Tree, Place, a_type, a_region, IsClosed}
+use Rattle.nts_model.specs.Scoping.{IsWellBound}
 use Rattle.nts_model.specs.Contents.{Content, Recorded}
 use Rattle.nts_model.specs.Substitutions.{Occurs}
 use Rattle.nts_model.specs.Resolving.{Knows}
@@ -40,11 +41,12 @@ use Rattle.nts_response.specs.Placing.{JoinsBy, PlacedOrOne}
 use Rattle.nts_response.specs.Recorded.{sides_of, IsRecordable, AddsAllSeen}
 use Rattle.nts_response.specs.Registered.{TakesAll}
 
--- a closed term over positions of these sorts: its leaves are regions that stay themselves
+-- a closed term over positions of these sorts: its leaves are regions that stay themselves, and its binders list what they bind
 pub record IsOverSorts (ts : List Tree) (ss : List Sort) (t : NodeId) : Type 0 where
   pub names : NamesFresh ss (tree_at ts t)
   pub leaves : (l : Leaf) → Occurs l (tree_at ts t) → IsFixed l
   pub closed : IsClosed (tree_at ts t)
+  pub well_bound : IsWellBound (tree_at ts t)
 
 -- what may stand on the left of a constraint: a type outlives a region, other relations are between regions
 abbrev pub left_place : Relation → Place

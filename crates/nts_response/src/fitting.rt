@@ -209,12 +209,15 @@ fn term_fits<T: Stored>(cx: &Cx, sorts: &[Sort], x: T) -> Result<bool, AllocErro
     is_over_sorts(cx, sorts, x.node())
 }
 
-/// Whether a term is a closed one over positions of these sorts.
+/// Whether a term is a closed one over positions of these sorts, whose binders list what they bind.
 fn is_over_sorts(cx: &Cx, sorts: &[Sort], t: NodeId) -> Result<bool, AllocError>
     requires { IsIn cx.now.nodes t }
     ensures { IfOk result (λ b. IsTrue b ↔ IsOverSorts cx.now.nodes sorts.now t) }
 {
     if cx.nodes.flags(t).escaping.is_some() {
+        return Ok(false);
+    }
+    if !cx.nodes.is_well_bound(t) {
         return Ok(false);
     }
     all_labels(cx.alloc, &cx.nodes, t, &PositionLabels { sorts })

@@ -63,21 +63,31 @@ same_ids (x ∷ xs) (y ∷ ys) =
     let b = both_true _ _ _ _ (same_id x y) (same_ids xs ys) in
     ((λ f. let w = b.0 f in cc (w.0, w.1)), λ e. let h : x ≡ y = cc in let t : xs ≡ ys = cc in b.1 (h, t))
 
--- label, children and facts are one
+-- label, children and what is kept of the tree are one
 pub record AreOne (a b : Node) : Type 0 where
   pub labels : a.label ≡ b.label
   pub items : a.children.items ≡ b.children.items
   pub flags : a.flags ≡ b.flags
+  pub well_bound : a.is_well_bound ≡ b.is_well_bound
+
+-- two answers to one question are one
+pub one_answer : (p q : Bool) (A : Type 0) → (IsTrue p ↔ A) → (IsTrue q ↔ A) → p ≡ q
+one_answer true true A h k = refl
+one_answer false false A h k = refl
+one_answer true false A h k = let e : IsTrue false = k.1 (h.0 refl) in cc e
+one_answer false true A h k = let e : IsTrue false = h.1 (k.0 refl) in cc e
 
 pub one_node : (a b : Node) → IsTrue (node_eq.ghosts.eq a b) → AreOne a b
 one_node a b h =
-    let f = both_true _ _ _ _ (same_ids a.children.items b.children.items) (same_facts a.flags b.flags) in
+    let g = both_true _ _ _ _ (same_facts a.flags b.flags) (same_bool a.is_well_bound b.is_well_bound) in
+    let f = both_true _ _ _ _ (same_ids a.children.items b.children.items) g in
     let l = both_true _ _ _ _ (same_label a.label b.label) f in
     let w = l.0 h in
-    record { labels = w.0; items = w.1.0; flags = w.1.1 }
+    record { labels = w.0; items = w.1.0; flags = w.1.1.0; well_bound = w.1.1.1 }
 
 pub node_one : (a b : Node) → AreOne a b → IsTrue (node_eq.ghosts.eq a b)
 node_one a b w =
-    let f = both_true _ _ _ _ (same_ids a.children.items b.children.items) (same_facts a.flags b.flags) in
+    let g = both_true _ _ _ _ (same_facts a.flags b.flags) (same_bool a.is_well_bound b.is_well_bound) in
+    let f = both_true _ _ _ _ (same_ids a.children.items b.children.items) g in
     let l = both_true _ _ _ _ (same_label a.label b.label) f in
-    l.1 (w.labels, (w.items, w.flags))
+    l.1 (w.labels, (w.items, (w.flags, w.well_bound)))

@@ -1,11 +1,12 @@
 -- What an insertion does to a store, and what is read at a place.
-use Rattle.std.proofs.Common.{◌≡◌, ⊎_elim, ℕ, zero, suc, ◌+◌, ◌<◌, ◌≤◌, Bool, true, false, ◌||◌, List, [], ◌∷◌, ◌++◌, length, get_or, Some, refl, sym, ap, ◌∙◌, arith, rules, length-append, add-zero, zero-add}
-use Rattle.std.specs.Prelude.{slice_get}
+use Rattle.std.proofs.Common.{◌≡◌, ⊎_elim, ℕ, zero, suc, ◌+◌, ◌<◌, ◌≤◌, Bool, true, false, ◌||◌, List, [], ◌∷◌, ◌++◌, length, get_or, Some, refl, sym, ap, subst, ◌∙◌, arith, rules, length-append, add-zero, zero-add}
+use Rattle.std.specs.Prelude.{◌↔◌, IsTrue, slice_get}
 use Rattle.std.specs.List.{list_any}
 use Rattle.indexmap.specs.IndexSet.{insert_key}
 use Rattle.std.proofs.lemmas.Bool.{cases_lt}
 use Rattle.std.proofs.lemmas.Option.{slice_get_within, get_or_from_slice_get, slice_get-get_or}
 use Rattle.nts_model.specs.Trees.{Tree, empty, node}
+use Rattle.nts_model.specs.Scoping.{IsWellBound}
 use Rattle.nts_store.specs.declared.nodes.NodeId.{NodeId}
 use Rattle.nts_store.specs.declared.nodes.Node.{Node}
 use Rattle.nts_store.specs.contracts.nodes.NodePartialEq.TheImpl as node_eq
@@ -13,7 +14,7 @@ use Rattle.nts_store.specs.TypeFlags.{flags_of}
 use Rattle.nts_store.specs.Growth.{tree_at, trees_at, IsIn, AllIn, AllBelow, Extends, AreApart}
 use Rattle.nts_store.specs.Store.{tree_of_node, grown, trees, IsNode, IsGrown, IsShared}
 use Rattle.nts_store.proofs.Growing.{Extends-refl, Extends-trans, AllIn-extended, trees_at-extended, Extends-push, get_or-front, get_or-last}
-use Rattle.nts_store.proofs.Equal.{AreOne, one_node, node_one}
+use Rattle.nts_store.proofs.Equal.{AreOne, one_answer, one_node, node_one}
 
 pub grown-push : (ts : List Tree) (ns : List Node) (n : Node) → grown ts (ns ++ n ∷ []) ≡ grown ts ns ++ tree_of_node (grown ts ns) n ∷ []
 grown-push ts [] n = refl
@@ -43,6 +44,7 @@ IsNode-extended e n k =
       all = AllIn-extended e n.children.items k.all;
       formed = rw same k.formed;
       flags = k.flags ∙ ap flags_of (sym (tree_of_node-extended e n k.all));
+      well_bound = subst (λ t. IsTrue n.is_well_bound ↔ IsWellBound t) (sym (tree_of_node-extended e n k.all)) k.well_bound;
     }
 
 -- the node at a place is one over the trees before it, which the whole store extends
@@ -136,7 +138,8 @@ new_tree ns n j s h f k e =
     let kids : trees_at (trees ns) n.children.items ≡ trees_at (trees ns) m.children.items = cc in
     let items = trees_at-apart (trees ns) n.children.items m.children.items s.apart h.all r.is_node.all kids in
     let flags = h.flags ∙ ap flags_of is ∙ sym r.is_node.flags in
-    let one : AreOne n m = record { labels = label; items = items; flags = flags } in
+    let well = one_answer n.is_well_bound m.is_well_bound (IsWellBound (tree_of_node (trees ns) n)) h.well_bound (subst (λ t. IsTrue m.is_well_bound ↔ IsWellBound t) (sym is) r.is_node.well_bound) in
+    let one : AreOne n m = record { labels = label; items = items; flags = flags; well_bound = well } in
     let there = list_any-at (node_eq.ghosts.eq n) ns j m k at (node_one n m one) in
     cc
 

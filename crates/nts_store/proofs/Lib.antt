@@ -4,6 +4,8 @@ pub mod Filling
 pub mod Forming
 pub mod Growing
 pub mod Inserting
+pub mod Levels
 pub mod Pending
 pub mod Reading
 pub mod Replacing
+pub mod WellBound

@@ -8,6 +8,7 @@ use Rattle.std.specs.BTreeMap.Range.{IsLtBy}
 use Rattle.nts_model.specs.declared.labels.Label.{Label}
 use Rattle.nts_model.specs.Trees.{Tree, empty, more, node, row_length, row_at, row_take, IsRow}
 use Rattle.nts_store.specs.Labels.{AllLabels}
+use Rattle.nts_store.specs.Levels.{above}
 use Rattle.nts_store.proofs.Growing.{row_take-all}
 
 -- each term passes
@@ -15,15 +16,10 @@ abbrev pub AllPass : (Label → Type 0) → List Tree → List ℕ → Type 0
 AllPass P ts [] = Unit {0}
 AllPass P ts (k ∷ ks) = AllLabels P (get_or ts k empty) × AllPass P ts ks
 
--- the first number above all of these
-abbrev pub above : List ℕ → ℕ
-above [] = 0
-above (k ∷ ks) = max (k + 1) (above ks)
-
-cmp-less : (a b : ℕ) → nat_cmp a b ≡ Less → a < b
+pub cmp-less : (a b : ℕ) → nat_cmp a b ≡ Less → a < b
 cmp-less a b e = search rules
 
-cmp-equal : (a b : ℕ) → nat_cmp a b ≡ Equal → a ≡ b
+pub cmp-equal : (a b : ℕ) → nat_cmp a b ≡ Equal → a ≡ b
 cmp-equal a b e = search rules
 
 inserted_cases : (P : Label → Type 0) (ts : List Tree) (k x : ℕ) (xs : List ℕ) (rest : List ℕ) → (AllPass P ts rest ↔ (AllLabels P (get_or ts k empty) × AllPass P ts xs)) → (o : Ordering) → nat_cmp k x ≡ o → AllPass P ts (match_ordering o (k ∷ x ∷ xs) (x ∷ xs) (x ∷ rest)) ↔ (AllLabels P (get_or ts k empty) × AllPass P ts (x ∷ xs))
@@ -84,7 +80,7 @@ pub record IsAdded (P : Label → Type 0) (ts : List Tree) (rest : List ℕ) (r 
   pub below : above ks ≤ n
   pub pass : AllPass P ts ks ↔ (AllPass P ts rest × AllLabels P (row_take i r))
 
-above-all : (ks : List ℕ) (n : ℕ) → All (λ q. IsLtBy nat_cmp q n) ks → above ks ≤ n
+pub above-all : (ks : List ℕ) (n : ℕ) → All (λ q. IsLtBy nat_cmp q n) ks → above ks ≤ n
 above-all [] n h = omega arith
 above-all (k ∷ ks) n h =
     let first : k < n = cmp-less k n (h 0 k (omega arith)) in

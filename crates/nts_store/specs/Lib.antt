@@ -5,6 +5,7 @@ pub mod Formed
 pub mod Growth
 pub mod Kept
 pub mod Labels
+pub mod Levels
 pub mod Replacement
 pub mod Sorts
 pub mod Store

@@ -1,6 +1,7 @@
 -- What the nodes of a store stand for.
-use Rattle.std.specs.Prelude.{◌≡◌, List, [], ◌∷◌, ◌++◌}
+use Rattle.std.specs.Prelude.{◌≡◌, ◌↔◌, IsTrue, List, [], ◌∷◌, ◌++◌}
 use Rattle.nts_model.specs.Trees.{Tree, node, shape, Meets}
+use Rattle.nts_model.specs.Scoping.{IsWellBound}
 use Rattle.nts_store.specs.declared.nodes.Node.{Node}
 use Rattle.nts_store.specs.TypeFlags.{flags_of}
 use Rattle.nts_store.specs.Growth.{trees_at, AllIn, AreApart}
@@ -16,11 +17,12 @@ grown ts (n ∷ ns) = grown (ts ++ tree_of_node ts n ∷ []) ns
 abbrev pub trees : List Node → List Tree
 trees ns = grown [] ns
 
--- the children stand in the store and fit the label, and the facts are those of the tree
+-- the children stand in the store and fit the label, and what is kept of the tree is true of it
 pub record IsNode (ts : List Tree) (n : Node) : Type 0 where
   pub all : AllIn ts n.children.items
   pub formed : Meets (shape n.label) (trees_at ts n.children.items)
   pub flags : n.flags ≡ flags_of (tree_of_node ts n)
+  pub well_bound : IsTrue n.is_well_bound ↔ IsWellBound (tree_of_node ts n)
 
 -- each node is one over those before it, where `ts` stand before all
 abbrev pub IsGrown : List Tree → List Node → Type 0

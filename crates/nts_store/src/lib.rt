@@ -8,6 +8,7 @@
 mod fault;
 mod instantiate;
 mod labels_walk;
+mod levels_walk;
 mod nodes;
 mod replacement;
 mod sorts;

@@ -1,12 +1,14 @@
 //! The store of nodes.
 ghost use Rattle.std.specs.Prelude.{◌≡◌, ◌↔◌, ◌<◌, ◌+◌, ◌++◌, ◌∷◌, [], length, drop, IsTrue, OnOk, OnErr, IfOk, Some, Option};
 ghost use Rattle.nts_model.specs.Trees.{Tree, node, empty, more, label_of, children, row_length, row_at, IsRow, shape, Meets};
+ghost use Rattle.nts_model.specs.Scoping.{IsWellBound};
 ghost use Rattle.nts_store.specs.Growth.{tree_at, trees_at, IsIn, AllIn, AllBelow, Extends, AreApart};
 ghost use Rattle.nts_store.specs.Formed.{AreFormed};
 ghost use Rattle.nts_store.specs.TypeFlags.{flags_of};
 ghost use Rattle.nts_store.specs.Sorts.{ChildrenFit};
 
-use crate::type_flags::TypeFlags;
+use crate::levels_walk::all_listed;
+use crate::type_flags::{TypeFlags, binders_of};
 use indexmap::IndexSet;
 use nts_model::Label;
 use std::alloc::{AllocError, Global};
@@ -23,6 +25,8 @@ struct Node {
     label: Label,
     children: Vec<NodeId>,
     flags: TypeFlags,
+    /// Whether each bound variable of a binder in the tree is of that binder's list.
+    is_well_bound: bool,
 }
 
 /// The nodes of all terms, each once. A caller sees the list of their trees.
@@ -81,12 +85,14 @@ impl Nodes {
         ensures err { OnErr result (self.new ≡ self.old) }
     {
         let flags = self.flags_under(label, children);
+        let is_well_bound = self.is_well_bound_under(label, children)?;
         let mut list = Vec::with_capacity(self.alloc, children.len())?;
         list.extend_from_slice(children)?;
         let (number, _) = self.nodes.insert_full(Node {
             label,
             children: list,
             flags,
+            is_well_bound,
         })?;
         Ok(NodeId { number })
     }
@@ -104,6 +110,26 @@ impl Nodes {
         flags.under(label)
     }
 
+    /// Whether a node with this label, and each node below it, lists what it binds.
+    fn is_well_bound_under(&self, label: Label, children: &[NodeId]) -> Result<bool, AllocError>
+        requires within { AllIn self.now children.now }
+        requires formed { Meets (shape label) (trees_at self.now children.now) }
+        ensures { IfOk result (λ b. IsTrue b ↔ IsWellBound (node label (trees_at self.now children.now))) }
+    {
+        let binds = binders_of(label) > 0;
+        let mut i = children.len();
+        while i > 0 {
+            i -= 1;
+            if !self.node(children[i]).is_well_bound {
+                return Ok(false);
+            }
+            if binds && !all_listed(self.alloc, self, children[0], children[i])? {
+                return Ok(false);
+            }
+        }
+        Ok(true)
+    }
+
     fn node(&self, t: NodeId) -> &Node
         requires { IsIn self.now t }
         ensures is { tree_at self.now t ≡ node result.now.label (trees_at self.now result.now.children.items) }
@@ -111,6 +137,7 @@ impl Nodes {
         ensures before { AllBelow t.number result.now.children.items }
         ensures formed { Meets (shape result.now.label) (trees_at self.now result.now.children.items) }
         ensures flags { result.now.flags ≡ flags_of (tree_at self.now t) }
+        ensures well_bound { IsTrue result.now.is_well_bound ↔ IsWellBound (tree_at self.now t) }
     {
         &self.nodes[t.number]
     }
@@ -130,6 +157,15 @@ impl Nodes {
         ensures { result ≡ flags_of (tree_at self.now t) }
     {
         self.node(t).flags
+    }
+
+    /// Whether each bound variable of a binder in a term is of that binder's list: it has the sort that
+    /// stands at its index.
+    pub fn is_well_bound(&self, t: NodeId) -> bool
+        requires { IsIn self.now t }
+        ensures { IsTrue result ↔ IsWellBound (tree_at self.now t) }
+    {
+        self.node(t).is_well_bound
     }
 
     /// How many children a term's node has.

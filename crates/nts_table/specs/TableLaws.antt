@@ -86,6 +86,7 @@ IsTable-new ts t e s =
         descends = λ n m q. cc;
         one_kind = λ n m q. cc;
         known_trees = λ n x q. cc;
+        closed = λ n x q. cc;
         ranks = λ n x k q. cc;
         fits = λ n x k q. cc;
         linked = λ n m q. cc;

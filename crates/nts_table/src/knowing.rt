@@ -1,4 +1,5 @@
-//! Whether a term's variables and universes are of a table, and it has no positions of canonical values.
+//! Whether a term's variables and universes are of a table, it has no positions of canonical values, and
+//! what it binds is listed.
 ghost use Rattle.std.specs.Prelude.{◌≡◌, ◌↔◌, IsTrue, true, false, IfOk, IsOkUnless};
 ghost use Rattle.nts_model.specs.Resolving.{Knows, variable_of};
 ghost use Rattle.nts_model.specs.Placeholders.{CanName, leaf_level};
@@ -29,7 +30,8 @@ impl LabelTest for Named<'_> {
 
 impl InferCtxt {
     /// Whether all variables of a term are of this table, with their kinds, the current universe can name
-    /// all its placeholders, and none of its bound variables is a position of a canonical value.
+    /// all its placeholders, none of its bound variables is a position of a canonical value, and each is
+    /// of the list of its binder.
     pub fn knows<T: Stored>(&self, cx: &Cx, x: T) -> Result<bool, Fault>
         requires { IsIn cx.now.nodes (T.id x) }
         ensures answer { IfOk result (λ b. IsTrue b ↔ Knows (content_of cx.now.nodes self.now.entries) (tree_at cx.now.nodes (T.id x))) }
@@ -44,9 +46,12 @@ impl InferCtxt {
         requires { IsIn nodes.now t }
         ensures { IfOk result (λ b. IsTrue b ↔ Knows (content_of nodes.now self.now.entries) (tree_at nodes.now t)) }
     {
-        // Positions are told by the flags. Most terms hold neither variables nor placeholders, and are not walked.
+        // Positions and binders are told by what the node keeps. Most terms hold neither variables nor placeholders, and are not walked.
         let flags = nodes.flags(t);
         if flags.has_canonical {
+            return Ok(false);
+        }
+        if !nodes.is_well_bound(t) {
             return Ok(false);
         }
         if !flags.has_infer && !flags.has_region_infer && !flags.has_placeholder {

@@ -15,8 +15,8 @@ use nts_resolve::eager_resolve_vars;
 use nts_store::EvalError;
 use nts_table::InferCtxt;
 use nts_terms::{
-    Binder, BoundTy, ClauseKind, Cx, DefId, GenericArg, GenericArgs, Goal, PredicateKind, Span,
-    TraitId, TraitRef, Ty, TyKind, TypingMode,
+    Binder, BoundTy, ClauseKind, Cx, DefId, GenericArg, GenericArgs, Goal, PlaceholderType,
+    PredicateKind, Span, TraitId, TraitRef, Ty, TyKind, TypingMode,
 };
 use std::test::Fail;
 
@@ -48,24 +48,25 @@ fn goal_about(cx: &mut Cx, id: TraitId, argument: GenericArg) -> Result<Goal, Fa
     })
 }
 
-/// How sure it is that a goal holds, or nothing where it has no solution; asked through the bound.
+/// How sure it is that a goal holds, and whether its variables changed, or nothing where it has no solution; asked through the bound.
 #[tactic(auto, using(nts_evaluation::proofs::Asking::asking))]
-fn certainty<H: GoalHandler>(
+fn evaluated<H: GoalHandler>(
     table: &mut InferCtxt,
     cx: &mut Cx,
     handler: &H,
     goal: Goal,
-) -> Result<Option<Certainty>, Fail>
+) -> Result<Option<(Certainty, HasChanged)>, Fail>
     requires table { IsTable cx.old.nodes table.old }
     requires ready { H.ready cx.old.nodes handler.now }
     requires holds { HoldsGoal cx.old.nodes goal }
+    ensures table { OnOk result (IsTable cx.new.nodes table.new) }
     ensures grows { Grows cx.old cx.new }
 {
     if !goal_is_admitted(table, cx, goal)? {
         return Err(Fail::new("the goal may not be asked"));
     }
     match evaluate_root_goal(table, cx, handler, goal, Span(0), None) {
-        Ok(evaluation) => Ok(Some(evaluation.certainty)),
+        Ok(evaluation) => Ok(Some((evaluation.certainty, evaluation.has_changed))),
         Err(EvalError::NoSolution) => Ok(None),
         Err(error) => Err(Fail::new(error)),
     }
@@ -95,6 +96,90 @@ fn fact(cx: &mut Cx, handler: &mut Clauses, id: TraitId, argument: GenericArg) -
     Ok(())
 }
 
+/// The goal that a trait holds between two arguments, in an empty environment.
+fn goal_between(cx: &mut Cx, id: TraitId, left: GenericArg, right: GenericArg) -> Result<Goal, Fail>
+    ensures holds { IfOk result (λ g. HoldsGoal cx.new.nodes g) }
+    ensures grows { Grows cx.old cx.new }
+{
+    if !cx.holds(left) || !cx.holds(right) {
+        return Err(Fail::new("no arguments of the store"));
+    }
+    let args = cx.mk_args(&[left, right])?;
+    let param_env = cx.mk_env(&[])?;
+    let vars = cx.mk_bound_vars(&[])?;
+    if !cx.holds(args) || !cx.fits(DefId::Trait(id), args) {
+        return Err(Fail::new("the trait takes other arguments"));
+    }
+    let value = PredicateKind::Clause(ClauseKind::Trait(TraitRef { def_id: id, args }));
+    let predicate = cx.mk_predicate(Binder { vars, value })?;
+    Ok(Goal {
+        param_env,
+        predicate,
+    })
+}
+
+/// Adds the rule that a trait holds between a type and itself.
+#[tactic(auto, using(nts_evaluation::proofs::Asking::asking))]
+fn rule_of_one(cx: &mut Cx, handler: &mut Clauses, id: TraitId) -> Result<(), Fail>
+    requires { AreReady cx.old.nodes handler.old }
+    ensures ready { OnOk result (AreReady cx.new.nodes handler.new) }
+    ensures grows { Grows cx.old cx.new }
+{
+    let position = cx.mk_ty(TyKind::Bound(BoundVarIndexKind::Canonical, BoundTy { var: 0 }))?;
+    let argument = position.into();
+    let head = cx.mk_args(&[argument, argument])?;
+    let clause = Clause {
+        fresh: vec![in cx.alloc; Sort::Ty]?,
+        trait_id: id,
+        head,
+        body: Vec::new(cx.alloc),
+    };
+    if !Clauses::clause_fits(cx, &clause)? {
+        return Err(Fail::new("the clause does not fit"));
+    }
+    handler.add_clause(clause)?;
+    Ok(())
+}
+
+#[test]
+#[tactic(auto, using(nts_evaluation::proofs::Asking::asking))]
+fn two_variables_become_one(rt: HostRuntime) -> Result<(), Fail> {
+    let mut cx = Cx::new(rt.alloc());
+    let mut table = InferCtxt::new(rt.alloc(), TypingMode::Coherence);
+    let mut handler = Clauses::new(rt.alloc());
+    let same = cx.declare_trait(&[Sort::Ty, Sort::Ty])?;
+    let x = table.next_ty_infer(&mut cx)?;
+    let y = table.next_ty_infer(&mut cx)?;
+    rule_of_one(&mut cx, &mut handler, same)?;
+    let goal = goal_between(&mut cx, same, x.into(), y.into())?;
+    let first = evaluated(&mut table, &mut cx, &handler, goal)?;
+    assert!(rt; matches!(first, Some((Certainty::Yes, HasChanged::Yes))));
+    let goal = goal_between(&mut cx, same, x.into(), y.into())?;
+    let again = evaluated(&mut table, &mut cx, &handler, goal)?;
+    assert!(rt; matches!(again, Some((Certainty::Yes, HasChanged::No))));
+    Ok(())
+}
+
+/// The query itself holds, but the variable cannot name what it would be.
+#[test]
+#[tactic(auto, using(nts_evaluation::proofs::Asking::asking))]
+fn a_placeholder_that_the_variable_cannot_name(rt: HostRuntime) -> Result<(), Fail> {
+    let mut cx = Cx::new(rt.alloc());
+    let mut table = InferCtxt::new(rt.alloc(), TypingMode::Coherence);
+    let mut handler = Clauses::new(rt.alloc());
+    let same = cx.declare_trait(&[Sort::Ty, Sort::Ty])?;
+    let x = table.next_ty_infer(&mut cx)?;
+    let universe = table.create_next_universe()?;
+    let bound = BoundTy { var: 0 };
+    let p = cx.mk_ty(TyKind::Placeholder(PlaceholderType { universe, bound }))?;
+    rule_of_one(&mut cx, &mut handler, same)?;
+    let goal = goal_between(&mut cx, same, x.into(), p.into())?;
+    let refused = evaluated(&mut table, &mut cx, &handler, goal)?;
+    assert!(rt; refused.is_none());
+    assert!(rt; table.variable_count() == 1);
+    Ok(())
+}
+
 #[test]
 #[tactic(auto, using(nts_evaluation::proofs::Asking::asking))]
 fn a_fact_holds(rt: HostRuntime) -> Result<(), Fail> {
@@ -105,8 +190,8 @@ fn a_fact_holds(rt: HostRuntime) -> Result<(), Fail> {
     let word = uint(&mut cx, UintTy::U32)?;
     fact(&mut cx, &mut handler, clone, word.into())?;
     let goal = goal_about(&mut cx, clone, word.into())?;
-    let found = certainty(&mut table, &mut cx, &handler, goal)?;
-    assert!(rt; matches!(found, Some(Certainty::Yes)));
+    let found = evaluated(&mut table, &mut cx, &handler, goal)?;
+    assert!(rt; matches!(found, Some((Certainty::Yes, _))));
     Ok(())
 }
 
@@ -121,7 +206,7 @@ fn without_a_fact_nothing_holds(rt: HostRuntime) -> Result<(), Fail> {
     let byte = uint(&mut cx, UintTy::U8)?;
     fact(&mut cx, &mut handler, clone, word.into())?;
     let goal = goal_about(&mut cx, clone, byte.into())?;
-    let none = certainty(&mut table, &mut cx, &handler, goal)?;
+    let none = evaluated(&mut table, &mut cx, &handler, goal)?;
     assert!(rt; none.is_none());
     Ok(())
 }
@@ -139,8 +224,8 @@ fn two_facts_are_ambiguous(rt: HostRuntime) -> Result<(), Fail> {
     fact(&mut cx, &mut handler, clone, byte.into())?;
     let variable = table.next_ty_infer(&mut cx)?;
     let goal = goal_about(&mut cx, clone, variable.into())?;
-    let found = certainty(&mut table, &mut cx, &handler, goal)?;
-    assert!(rt; matches!(found, Some(Certainty::Maybe(_))));
+    let found = evaluated(&mut table, &mut cx, &handler, goal)?;
+    assert!(rt; matches!(found, Some((Certainty::Maybe(_), _))));
     Ok(())
 }
 

@@ -47,7 +47,7 @@ register_hidden-requires-clause-hidden c =
     let are = value-trees b b c.in_ok-values.values.items c.as_slice.result.now ks given (Extends-refl b) c.as_slice.ensures.value in
     let made = query-made a b q (trees_of b c.as_slice.result.now) (values_of c.args.input.now) (query_tree d c.in_ok-query.query) c.requires.holds c.make_values.ensures.grows.extends are c.in_ok-query.ensures.tree in
     let variables : f.variables ≡ made_variables [] ks = ap (λ e. e.variables) c.in_ok-values.ensures.entries ∙ ap (λ us. made_variables [] (map kind_of_var us)) c.deref.ensures.value in
-    let known = query-known d f ks (query_tree d c.in_ok-query.query) (query_tree a q) variables (root_kinds ks c.requires.kinds) c.requires.no_name made in
+    let known = query-known d f ks (query_tree d c.in_ok-query.query) (query_tree a q) variables (root_kinds ks c.requires.kinds) c.requires.no_name c.requires.well_bound made in
     rw c.deref-2.ensures.value (hidden-of-row d (content_of d f) c.in_ok-query.query.predefined_opaques_in_body.items c.in_ok-query.ensures.holds.hidden known.1.1.0)
 
 pub returns-clause-values : goal.returns-clause-values
@@ -93,4 +93,4 @@ returns-clause-knows c =
     let t = c.register_hidden.new.table in
     let ks = kinds_of c.args.input.now in
     let variables : t.entries.variables ≡ made_variables [] ks = ap (λ e. e.variables) (c.in_ok-register_hidden.ensures.entries ∙ (λ i. record (c.in_ok-values.ensures.entries i) { hidden = record ((c.in_ok-values.ensures.entries i).hidden) { lookup = t.entries.hidden.lookup } })) ∙ ap (λ us. made_variables [] (map kind_of_var us)) c.deref.ensures.value in
-    query-known c.register_hidden.new.cx.nodes t.entries ks _ (query_tree c.args.cx.now.nodes c.args.input.now.canonical.value) variables (root_kinds ks c.requires.kinds) c.requires.no_name (returns-clause-query c)
+    query-known c.register_hidden.new.cx.nodes t.entries ks _ (query_tree c.args.cx.now.nodes c.args.input.now.canonical.value) variables (root_kinds ks c.requires.kinds) c.requires.no_name c.requires.well_bound (returns-clause-query c)

@@ -1,13 +1,13 @@
 use Rattle.std.proofs.Common.{refl, ap, ◌∙◌, map}
 use Rattle.nts_model.specs.Substitutions.{leaf_tree}
 use Rattle.nts_model.specs.Inputs.{whole, position_kind}
-use Rattle.nts_model.proofs.Unpositioned.{known_no_positions}
+use Rattle.nts_model.proofs.Unpositioned.{known_no_positions, known_well_bound}
 use Rattle.nts_unify.specs.Reading.{content_of}
 use Rattle.nts_canonical.specs.SubRoots.{sub_root_in}
 use Rattle.nts_canonical.specs.Forms.{input_of}
 use Rattle.nts_canonical.proofs.PairLists.{are_hidden-kept, AreLeafArgs-kept, trees_of-leaves, AreLeafArgs-hold}
 use Rattle.nts_canonical.proofs.Canonizing.{owned-originals, distinct-originals, form_is}
-use Rattle.nts_canonical.proofs.Handed.{handed_in, form-kinds, form-positions, form-no_name}
+use Rattle.nts_canonical.proofs.Handed.{handed_in, form-kinds, form-positions, form-no_name, form-well_bound}
 use Rattle.nts_canonical.proofs.Having.{originals_are_values, values_of}
 use Rattle.nts_canonical.proofs.canonicalize.canonicalize_goal.Goals as goal
 
@@ -47,5 +47,5 @@ returns-clause-askable c =
     let is = returns-clause-canonical c in
     record {
       positions = values_of (originals_are_values i h) is.form is.originals;
-      input = handed_in is.holds refl is.form (form-kinds i) (form-positions i h) (form-no_name i);
+      input = handed_in is.holds refl is.form (form-kinds i) (form-positions i h) (form-no_name i) (form-well_bound i (known_well_bound (content_of c.args.cx.now.nodes c.args.table.now.entries) (whole i) c.requires.knows));
     }

@@ -11,10 +11,13 @@ returns-then-is_some c =
     let some : is_some c.flags.result.escaping ≡ true = first_of (cc, search rules) in
     ((λ h. cc), λ h. absurd (term_escapes c.args.cx.now.nodes c.args.fresh.now c.args.t c.flags.result c.flags.ensures some h))
 
+pub returns-then-not-is_well_bound : goal.returns-then-not-is_well_bound
+returns-then-not-is_well_bound c = ((λ h. cc), λ h. let yes : IsTrue c.is_well_bound.result = c.is_well_bound.ensures.1 h.well_bound in cc)
+
 pub returns : goal.returns
 returns c =
     let none : is_some c.flags.result.escaping ≡ false = first_of (cc, search rules) in
-    let fits = term_fits c.args.cx.now.nodes c.args.fresh.now c.args.t c.flags.result c.requires c.flags.ensures none in
+    let fits = term_fits c.args.cx.now.nodes c.args.fresh.now c.args.t c.flags.result c.requires c.flags.ensures none (c.is_well_bound.ensures.0 c.if-not-is_well_bound.false) in
     let both : Bool → Type 0 = λ b. IsTrue b ↔ AllLabels (MayHave c.args.fresh.now) (tree_at c.args.cx.now.nodes c.args.t) in
     let wanted : Bool → Type 0 = λ b. IsTrue b ↔ IsClauseTerm c.args.cx.now.nodes c.args.fresh.now c.args.t in
     if_then c.all_labels.result both wanted (λ b h. ((λ t. fits.0 (h.0 t)), λ k. h.1 (fits.1 k))) c.all_labels.ensures

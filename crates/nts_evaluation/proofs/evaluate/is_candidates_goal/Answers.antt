@@ -30,5 +30,7 @@ returns c = λ yes.
       args_closed = args_open;
       env_names = env_names;
       goal_names = goal_names;
+      env_well_bound = c.is_well_bound.ensures.0 c.if-not-is_well_bound.false;
+      goal_well_bound = c.is_well_bound-2.ensures.0 c.if-not-is_well_bound-2.false;
       statements = statements;
     })

@@ -10,7 +10,7 @@ use Rattle.nts_relating.proofs.relate.bind_variable.Goals as goal
 
 pub name_variable-requires-clause-knows : goal.name_variable-requires-clause-knows
 name_variable-requires-clause-knows c =
-    rw c.in_ok-t.ensures.tree ((kind_at-entry c.make.new.self c.args.table.now.entries c.args.y c.variable-kind.result c.variable-kind.ensures, tt, refl), tt)
+    rw c.in_ok-t.ensures.tree ((kind_at-entry c.make.new.self c.args.table.now.entries c.args.y c.variable-kind.result c.variable-kind.ensures, tt, refl), tt, tt)
 
 pub name_variable-requires-clause-lawful : goal.name_variable-requires-clause-lawful
 name_variable-requires-clause-lawful c = IsLawful-extended c.in_ok-t.ensures.extends c.requires.lawful

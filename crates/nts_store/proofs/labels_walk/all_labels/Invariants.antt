@@ -1,6 +1,7 @@
 use Rattle.nts_model.specs.Trees.{children}
 use Rattle.nts_store.specs.Growth.{tree_at}
-use Rattle.nts_store.proofs.Pending.{IsLeft, IsAdded, above}
+use Rattle.nts_store.specs.Levels.{above}
+use Rattle.nts_store.proofs.Pending.{IsLeft, IsAdded}
 use Rattle.nts_store.proofs.labels_walk.all_labels.Given as goal
 
 abbrev pub invariant-loop-i : goal.invariant-loop-i

@@ -1,4 +1,6 @@
-use Rattle.std.proofs.Common.{rules, ap, sym, ◌∙◌, ◌≡◌}
+use Rattle.std.proofs.Common.{rules, ap, sym, subst, ◌∙◌, ◌≡◌}
+use Rattle.std.specs.Prelude.{◌↔◌, IsTrue}
+use Rattle.nts_model.specs.Scoping.{IsWellBound}
 use Rattle.nts_model.specs.Trees.{node}
 use Rattle.nts_store.specs.TypeFlags.{flags_of}
 use Rattle.nts_store.specs.Growth.{trees_at}
@@ -9,19 +11,21 @@ use Rattle.nts_store.proofs.nodes.Nodes.make.Goals as goal
 copied : (c : goal.In_ok-number) → c.extend_from_slice.new.self.items ≡ c.args.children.now
 copied c = search rules
 
-is_node : (c : goal.In_ok-number) → IsNode (trees c.self.inside.nodes.keys) (record { label = c.args.label; children = c.extend_from_slice.new.self; flags = c.flags_under-flags.result })
+is_node : (c : goal.In_ok-number) → IsNode (trees c.self.inside.nodes.keys) (record { label = c.args.label; children = c.extend_from_slice.new.self; flags = c.flags_under-flags.result; is_well_bound = c.in_ok-is_well_bound.is_well_bound })
 is_node c =
     record {
       all = rw (copied c, c.self.view_is) c.requires.within;
       formed = rw (copied c, c.self.view_is) c.requires.formed;
       flags = c.flags_under-flags.ensures ∙ ap (λ ts. flags_of (node c.args.label (trees_at ts c.args.children.now))) (sym c.self.view_is) ∙ ap (λ cs. flags_of (node c.args.label (trees_at (trees c.self.inside.nodes.keys) cs))) (sym (copied c));
+      well_bound = subst (λ cs. IsTrue c.in_ok-is_well_bound.is_well_bound ↔ IsWellBound (node c.args.label (trees_at (trees c.self.inside.nodes.keys) cs))) (sym (copied c))
+          (subst (λ ts. IsTrue c.in_ok-is_well_bound.is_well_bound ↔ IsWellBound (node c.args.label (trees_at ts c.args.children.now))) (sym c.self.view_is) c.in_ok-is_well_bound.ensures);
     }
 
 kept : (c : goal.In_ok-number) → Kept c.self.inside.nodes.keys c.insert_full.new.self.keys
 kept c =
     inserted c.self.inside.nodes.keys c.insert_full.new.self.keys _ c.self.invariant (is_node c) c.in_ok-number.ensures.keys
 
-result_is : (c : goal.In_ok-number) → Answered c.insert_full.new.self.keys (trees c.self.inside.nodes.keys) c.in_ok-number.number (record { label = c.args.label; children = c.extend_from_slice.new.self; flags = c.flags_under-flags.result })
+result_is : (c : goal.In_ok-number) → Answered c.insert_full.new.self.keys (trees c.self.inside.nodes.keys) c.in_ok-number.number (record { label = c.args.label; children = c.extend_from_slice.new.self; flags = c.flags_under-flags.result; is_well_bound = c.in_ok-is_well_bound.is_well_bound })
 result_is c =
     let s = c.in_ok-number.ensures.stored in
     answered c.self.inside.nodes.keys _ _ s.0 _ (kept c) (is_node c) s.1 s.2

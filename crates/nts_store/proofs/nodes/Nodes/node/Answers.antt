@@ -1,4 +1,6 @@
-use Rattle.std.proofs.Common.{arith, ap, sym, length, ◌∙◌}
+use Rattle.std.proofs.Common.{arith, ap, sym, subst, length, ◌∙◌}
+use Rattle.std.specs.Prelude.{◌↔◌, IsTrue}
+use Rattle.nts_model.specs.Scoping.{IsWellBound}
 use Rattle.std.proofs.lemmas.Option.{slice_get_within, get_or_from_slice_get}
 use Rattle.nts_store.specs.TypeFlags.{flags_of}
 use Rattle.nts_store.proofs.Inserting.{Found, found, length-trees}
@@ -27,3 +29,6 @@ returns-clause-formed c = (read c).is_node.formed
 
 pub returns-clause-flags : goal.returns-clause-flags
 returns-clause-flags c = (read c).is_node.flags ∙ ap flags_of (sym (read c).is)
+
+pub returns-clause-well_bound : goal.returns-clause-well_bound
+returns-clause-well_bound c = subst (λ t. IsTrue c.index.result.now.is_well_bound ↔ IsWellBound t) (sym (read c).is) (read c).is_node.well_bound

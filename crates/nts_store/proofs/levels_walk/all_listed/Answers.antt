@@ -1,0 +1,6 @@
+use Rattle.std.proofs.Common.{refl, arith}
+use Rattle.nts_store.proofs.Levels.{levels_end}
+use Rattle.nts_store.proofs.levels_walk.all_listed.Goals as goal
+
+pub returns : goal.returns
+returns c = ((λ h. levels_end _ _ _ _ _ c.loop-level.invariant (omega (arith, c.loop-level-test.false, c.len-count.ensures.count))), λ h. refl)
