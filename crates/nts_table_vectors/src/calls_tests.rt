@@ -1,9 +1,10 @@
 //! Calls of the table that the other tests do not make.
+use crate::fixture::Fixture;
 use nts_model::{Relation, UintTy, Variance};
 use nts_store::EvalError;
-use nts_table::{InferCtxt, is_unbound, relate_nodes, resolve_nodes};
+use nts_table::{InferCtxt, relate_nodes};
 use nts_terms::{
-    AliasDefId, AliasKind, AliasTerm, Cx, RegionKind, Span, TraitRef, TyKind, TypingMode,
+    AliasDefId, AliasKind, AliasTerm, Cx, Region, RegionKind, Span, TraitRef, TyKind, TypingMode,
     VisibleForLeakCheck,
 };
 use nts_unify::State;
@@ -20,16 +21,17 @@ fn related(rt: HostRuntime) {
         .expect(&rt, "memory");
     assert_eq!(rt; goals.len(), 0);
     assert!(rt; matches!(table.variable(0).state, State::Known(_)));
-    assert!(rt; table.is_changed_arg(&cx, ty.into()));
-    assert!(rt;
-        table
-            .knows_node(rt.alloc(), &cx.nodes, ty.node)
-            .expect(&rt, "memory")
-    );
-    let found = resolve_nodes(rt.alloc(), &mut cx.nodes, &table, ty.node, true).expect(
-        &rt, "memory",
-    );
-    assert!(rt; cx.nodes.same(found, byte.node));
+}
+
+#[test]
+fn read_back(rt: HostRuntime) {
+    let mut fixture = Fixture::new(&rt, rt.alloc());
+    let ty = fixture.ty_var(&rt);
+    let byte = fixture.ty(&rt, TyKind::Uint(UintTy::U8));
+    assert!(rt; !fixture.changed(&rt, ty));
+    fixture.relates(&rt, ty, byte);
+    assert!(rt; fixture.changed(&rt, ty));
+    fixture.stands_for(&rt, ty, byte);
 }
 
 #[test]
@@ -79,28 +81,16 @@ fn heads(rt: HostRuntime) {
 
 #[test]
 fn each_constraint_once(rt: HostRuntime) {
-    let mut cx = Cx::new(rt.alloc());
-    let mut table = InferCtxt::new(rt.alloc(), TypingMode::PostAnalysis);
-    let a = table.next_region_infer(&mut cx).expect(&rt, "memory");
-    let b = table.next_region_infer(&mut cx).expect(&rt, "memory");
-    let fixed = cx.mk_region(RegionKind::ReStatic).expect(&rt, "memory");
-    table
-        .sub_regions(&cx, a, fixed, VisibleForLeakCheck::No, Span(0))
-        .expect(&rt, "memory");
-    table
-        .sub_regions(&cx, a, b, VisibleForLeakCheck::Yes, Span(0))
-        .expect(&rt, "memory");
-    table
-        .sub_regions(&cx, b, fixed, VisibleForLeakCheck::Yes, Span(0))
-        .expect(&rt, "memory");
-    assert!(rt; is_unbound(&cx, a));
-    assert!(rt; is_unbound(&cx, b));
-    table
-        .equate_regions(&cx, a, b, VisibleForLeakCheck::Yes, Span(0))
-        .expect(&rt, "memory");
-    let told = table
-        .make_deduplicated_region_constraints(&mut cx)
-        .expect(&rt, "memory");
+    let mut fixture = Fixture::new(&rt, rt.alloc());
+    let a = fixture.region_infer(&rt);
+    let b = fixture.region_infer(&rt);
+    let fixed = fixture.region(&rt, RegionKind::ReStatic);
+    let fixed = Region { node: fixed.node };
+    fixture.outlives(&rt, fixed, a, VisibleForLeakCheck::No);
+    fixture.outlives(&rt, b, a, VisibleForLeakCheck::Yes);
+    fixture.outlives(&rt, fixed, b, VisibleForLeakCheck::Yes);
+    fixture.equates_regions(&rt, a, b);
+    let told = fixture.told(&rt);
     assert_eq!(rt; told.len(), 1);
     let first = told[0];
     assert!(rt; first.relation == Relation::RegionOutlives);

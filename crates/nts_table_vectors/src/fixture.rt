@@ -7,14 +7,16 @@ ghost use Rattle.nts_terms.specs.Handles.{HoldsArg, HoldsArgs, HoldsVars};
 ghost use Rattle.nts_terms.specs.Kinds.{TyFits, ConstFits};
 ghost use Rattle.nts_terms.specs.Signatures.{TyIsDeclared, ConstIsDeclared};
 ghost use Rattle.nts_unify.specs.Reading.{content_of};
+ghost use Rattle.nts_table.specs.Frames.{ChangesEntries};
 ghost use Rattle.nts_table.specs.Tables.{IsTable};
 
-use nts_model::{Sort, VariableKind, Variance};
+use nts_model::{Sort, UintTy, VariableKind, Variance};
 use nts_store::EvalError;
-use nts_table::InferCtxt;
+use nts_table::{InferCtxt, is_unbound};
 use nts_terms::{
     AliasDefId, AliasId, AliasKind, AliasTerm, Binder, BoundVars, ConstKind, CtorId, Cx, DefId,
-    FnSig, GenericArg, GenericArgs, ParamEnv, RegionKind, Span, TyKind, TypingMode,
+    FnSig, GenericArg, GenericArgs, ParamEnv, Region, RegionKind, Span, Ty, TyKind, TypingMode,
+    VisibleForLeakCheck,
 };
 use nts_unify::{Constraint, State, Variable};
 use std::alloc::Global;
@@ -85,11 +87,17 @@ impl Fixture {
         requires { IsTable self.old.cx.nodes self.old.table }
         ensures { IsTable self.new.cx.nodes self.new.table }
     {
-        let region = self
-            .table
+        self.region_infer(rt).into()
+    }
+
+    /// A new region variable, as a region.
+    pub fn region_infer(&mut self, rt: &impl Abort) -> Region
+        requires { IsTable self.old.cx.nodes self.old.table }
+        ensures { IsTable self.new.cx.nodes self.new.table }
+    {
+        self.table
             .next_region_infer(&mut self.cx)
-            .expect(rt, "memory");
-        region.into()
+            .expect(rt, "memory")
     }
 
     /// A new const variable.
@@ -176,6 +184,7 @@ impl Fixture {
         requires table { IsTable self.old.cx.nodes self.old.table }
         requires holds { All (HoldsArg self.old.cx.nodes) args.now }
         ensures table { IsTable self.new.cx.nodes self.new.table }
+        ensures kept { self.new.table ≡ self.old.table }
         ensures holds { HoldsArgs self.new.cx.nodes result }
     {
         self.cx.mk_args(args).expect(rt, "memory")
@@ -226,6 +235,110 @@ impl Fixture {
         let def_id = AliasDefId::Ty(self.item);
         assert!(rt; self.cx.fits(DefId::Alias(def_id), args));
         self.ty(rt, TyKind::Alias(AliasTerm { def_id, args }))
+    }
+
+    /// A new opaque alias without arguments.
+    pub fn opaque(&mut self, rt: &impl Abort) -> AliasId
+        requires { IsTable self.old.cx.nodes self.old.table }
+        ensures { IsTable self.new.cx.nodes self.new.table }
+    {
+        self.cx
+            .declare_alias(&[], AliasKind::Opaque)
+            .expect(rt, "memory")
+    }
+
+    /// A type of integers without a sign.
+    pub fn uint(&mut self, rt: &impl Abort, kind: UintTy) -> Ty
+        requires { IsTable self.old.cx.nodes self.old.table }
+        ensures { IsTable self.new.cx.nodes self.new.table }
+    {
+        self.cx.mk_ty(TyKind::Uint(kind)).expect(rt, "memory")
+    }
+
+    /// Registers a hidden type of an alias over nothing, and gives the older one.
+    pub fn hide(&mut self, rt: &impl Abort, alias: AliasId, ty: Ty) -> Option<Ty>
+        requires { IsTable self.old.cx.nodes self.old.table }
+        ensures { IsTable self.new.cx.nodes self.new.table }
+    {
+        let args = self.args(rt, &[]);
+        assert!(rt; self.table.knows(&self.cx, args).expect(rt, "memory"));
+        assert!(rt; self.cx.holds(ty));
+        assert!(rt; self.table.knows(&self.cx, ty).expect(rt, "memory"));
+        let def_id = AliasDefId::Ty(alias);
+        let key = AliasTerm { def_id, args };
+        let (cx, table) = (&mut self.cx, &mut self.table);
+        table
+            .register_hidden_type_in_storage(cx, key, ty, Span(0))
+            .expect(rt, "memory")
+    }
+
+    /// Adds a duplicate of a hidden type of an alias over nothing.
+    pub fn hide_beside(&mut self, rt: &impl Abort, alias: AliasId, ty: Ty)
+        requires { IsTable self.old.cx.nodes self.old.table }
+        ensures table { IsTable self.new.cx.nodes self.new.table }
+        ensures changes { ChangesEntries self.old.table self.new.table }
+    {
+        let args = self.args(rt, &[]);
+        assert!(rt; self.table.knows(&self.cx, args).expect(rt, "memory"));
+        assert!(rt; self.cx.holds(ty));
+        assert!(rt; self.table.knows(&self.cx, ty).expect(rt, "memory"));
+        let def_id = AliasDefId::Ty(alias);
+        let key = AliasTerm { def_id, args };
+        self.table
+            .add_duplicate_opaque_type(&self.cx, key, ty, Span(0))
+            .expect(rt, "memory");
+    }
+
+    pub fn duplicates(&self, rt: &impl Abort) -> Vec<(AliasTerm, Ty)> {
+        self.table
+            .clone_duplicate_opaque_types()
+            .expect(rt, "memory")
+    }
+
+    /// The hidden types from that place on.
+    pub fn hidden_since(&self, rt: &impl Abort, entries: usize) -> Vec<(AliasTerm, Ty)> {
+        self.table
+            .clone_opaque_types_added_since(entries)
+            .expect(rt, "memory")
+    }
+
+    /// Records that one region outlives another.
+    pub fn outlives(&mut self, rt: &impl Abort, a: Region, b: Region, visible: VisibleForLeakCheck)
+        requires { IsTable self.old.cx.nodes self.old.table }
+        ensures { IsTable self.new.cx.nodes self.new.table }
+    {
+        assert!(rt; self.cx.holds(a));
+        assert!(rt; self.cx.holds(b));
+        assert!(rt; self.table.knows(&self.cx, a).expect(rt, "memory"));
+        assert!(rt; self.table.knows(&self.cx, b).expect(rt, "memory"));
+        self.table
+            .sub_regions(&self.cx, b, a, visible, Span(0))
+            .expect(rt, "memory");
+    }
+
+    /// Makes two regions equal.
+    pub fn equates_regions(&mut self, rt: &impl Abort, a: Region, b: Region)
+        requires { IsTable self.old.cx.nodes self.old.table }
+        ensures { IsTable self.new.cx.nodes self.new.table }
+    {
+        assert!(rt; self.cx.holds(a));
+        assert!(rt; self.cx.holds(b));
+        assert!(rt; self.table.knows(&self.cx, a).expect(rt, "memory"));
+        assert!(rt; self.table.knows(&self.cx, b).expect(rt, "memory"));
+        assert!(rt; is_unbound(&self.cx, a));
+        assert!(rt; is_unbound(&self.cx, b));
+        self.table
+            .equate_regions(&self.cx, a, b, VisibleForLeakCheck::Yes, Span(0))
+            .expect(rt, "memory");
+    }
+
+    /// The region constraints, each once.
+    pub fn told(&mut self, rt: &impl Abort) -> Vec<Constraint>
+        requires { IsTable self.old.cx.nodes self.old.table }
+    {
+        self.table
+            .make_deduplicated_region_constraints(&mut self.cx)
+            .expect(rt, "memory")
     }
 
     /// The constructor with a region and a type.
@@ -299,6 +412,12 @@ impl Fixture {
     {
         self.seen(rt, x);
         self.table.has_alias(&mut self.cx, x).expect(rt, "memory")
+    }
+
+    /// Whether a variable has got a value or another root.
+    pub fn changed(&self, rt: &impl Abort, x: GenericArg) -> bool {
+        assert!(rt; self.cx.holds(x));
+        self.table.is_changed_arg(&self.cx, x)
     }
 
     /// Makes two arguments one, with aliases as they stand.

@@ -2,7 +2,7 @@
 use crate::fixture::Fixture;
 use nts_model::{FloatTy, IntTy, UintTy};
 use nts_table::InferCtxt;
-use nts_terms::{AliasDefId, AliasKind, AliasTerm, ConstKind, Cx, Span, TyKind, TypingMode};
+use nts_terms::{AliasDefId, ConstKind, Cx, TyKind, TypingMode};
 use nts_unify::State;
 
 #[test]
@@ -112,93 +112,56 @@ fn consts(rt: HostRuntime) {
 
 #[test]
 fn hidden_types(rt: HostRuntime) {
-    let mut cx = Cx::new(rt.alloc());
-    let mut table = InferCtxt::new(rt.alloc(), TypingMode::PostAnalysis);
-    let alias = cx
-        .declare_alias(&[], AliasKind::Opaque)
-        .expect(&rt, "memory");
-    let def_id = AliasDefId::Ty(alias);
-    let args = cx.mk_args(&[]).expect(&rt, "memory");
-    let byte = cx.mk_ty(TyKind::Uint(UintTy::U8)).expect(&rt, "memory");
-    let key = AliasTerm { def_id, args };
-    assert_eq!(rt; table.num_opaque_types(), 0);
-    assert!(rt; table.knows(&cx, args).expect(&rt, "memory"));
-    assert!(rt; table.knows(&cx, byte).expect(&rt, "memory"));
-    let older = table
-        .register_hidden_type_in_storage(&mut cx, key, byte, Span(0))
-        .expect(&rt, "memory");
-    assert!(rt; older.is_none());
-    assert_eq!(rt; table.num_opaque_types(), 1);
-    let word = cx.mk_ty(TyKind::Uint(UintTy::U32)).expect(&rt, "memory");
-    assert!(rt; cx.holds(args));
-    assert!(rt; table.knows(&cx, args).expect(&rt, "memory"));
-    assert!(rt; table.knows(&cx, word).expect(&rt, "memory"));
-    let older = table
-        .register_hidden_type_in_storage(&mut cx, key, word, Span(0))
-        .expect(&rt, "memory");
-    assert!(rt; older == Some(byte));
-    assert_eq!(rt; table.num_opaque_types(), 1);
-    assert!(rt; table.hidden_type(0).ty == word);
+    let mut fixture = Fixture::new(&rt, rt.alloc());
+    let alias = fixture.opaque(&rt);
+    let byte = fixture.uint(&rt, UintTy::U8);
+    let word = fixture.uint(&rt, UintTy::U32);
+    assert_eq!(rt; fixture.table.num_opaque_types(), 0);
+    assert!(rt; fixture.hide(&rt, alias, byte).is_none());
+    assert_eq!(rt; fixture.table.num_opaque_types(), 1);
+    assert!(rt; fixture.hide(&rt, alias, word) == Some(byte));
+    assert_eq!(rt; fixture.table.num_opaque_types(), 1);
+    assert!(rt; fixture.table.hidden_type(0).ty == word);
 }
 
 #[test]
 fn duplicates_of_hidden_types(rt: HostRuntime) {
-    let mut cx = Cx::new(rt.alloc());
-    let mut table = InferCtxt::new(rt.alloc(), TypingMode::PostAnalysis);
-    let alias = cx
-        .declare_alias(&[], AliasKind::Opaque)
-        .expect(&rt, "memory");
-    let def_id = AliasDefId::Ty(alias);
-    let args = cx.mk_args(&[]).expect(&rt, "memory");
-    let byte = cx.mk_ty(TyKind::Uint(UintTy::U8)).expect(&rt, "memory");
-    let word = cx.mk_ty(TyKind::Uint(UintTy::U32)).expect(&rt, "memory");
-    let key = AliasTerm { def_id, args };
-    assert!(rt; cx.holds(args));
-    assert!(rt; cx.holds(byte));
-    assert!(rt; table.knows(&cx, args).expect(&rt, "memory"));
-    assert!(rt; table.knows(&cx, byte).expect(&rt, "memory"));
-    table
-        .register_hidden_type_in_storage(&mut cx, key, byte, Span(0))
-        .expect(&rt, "memory");
-    assert!(rt; cx.holds(args));
-    assert!(rt; cx.holds(word));
-    assert!(rt; table.knows(&cx, args).expect(&rt, "memory"));
-    assert!(rt; table.knows(&cx, word).expect(&rt, "memory"));
-    table
-        .add_duplicate_opaque_type(&cx, key, word, Span(0))
-        .expect(&rt, "memory");
-    let snapshot = table.start_snapshot().expect(&rt, "memory");
-    assert!(rt; cx.holds(byte));
-    assert!(rt; table.knows(&cx, args).expect(&rt, "memory"));
-    assert!(rt; table.knows(&cx, byte).expect(&rt, "memory"));
-    table
-        .add_duplicate_opaque_type(&cx, key, byte, Span(0))
-        .expect(&rt, "memory");
-    let duplicates = table.clone_duplicate_opaque_types().expect(&rt, "memory");
+    let mut fixture = Fixture::new(&rt, rt.alloc());
+    let alias = fixture.opaque(&rt);
+    let byte = fixture.uint(&rt, UintTy::U8);
+    let word = fixture.uint(&rt, UintTy::U32);
+    fixture.hide(&rt, alias, byte);
+    fixture.hide_beside(&rt, alias, word);
+    let snapshot = fixture.table.start_snapshot().expect(&rt, "memory");
+    fixture.hide_beside(&rt, alias, byte);
+    let duplicates = fixture.duplicates(&rt);
     assert_eq!(rt; duplicates.len(), 2);
     assert!(rt; duplicates[0].1 == word);
     assert!(rt; duplicates[1].1 == byte);
-    table.rollback_to(snapshot);
-    let duplicates = table.clone_duplicate_opaque_types().expect(&rt, "memory");
+    fixture.table.rollback_to(snapshot);
+    let duplicates = fixture.duplicates(&rt);
     assert_eq!(rt; duplicates.len(), 1);
     assert!(rt; duplicates[0].1 == word);
-    let lookup = table
+}
+
+#[test]
+fn lists_of_hidden_types(rt: HostRuntime) {
+    let mut fixture = Fixture::new(&rt, rt.alloc());
+    let alias = fixture.opaque(&rt);
+    let byte = fixture.uint(&rt, UintTy::U8);
+    let word = fixture.uint(&rt, UintTy::U32);
+    fixture.hide(&rt, alias, byte);
+    fixture.hide_beside(&rt, alias, word);
+    let lookup = fixture
+        .table
         .clone_opaque_types_lookup_table()
         .expect(&rt, "memory");
     assert_eq!(rt; lookup.len(), 1);
-    assert!(rt; lookup[0].0.def_id == def_id);
+    assert!(rt; lookup[0].0.def_id == AliasDefId::Ty(alias));
     assert!(rt; lookup[0].1 == byte);
-    let all = table
-        .clone_opaque_types_added_since(0)
-        .expect(&rt, "memory");
+    let all = fixture.hidden_since(&rt, 0);
     assert_eq!(rt; all.len(), 1);
     assert!(rt; all[0].1 == byte);
-    let none = table
-        .clone_opaque_types_added_since(1)
-        .expect(&rt, "memory");
-    assert!(rt; none.is_empty());
-    let past = table
-        .clone_opaque_types_added_since(7)
-        .expect(&rt, "memory");
-    assert!(rt; past.is_empty());
+    assert!(rt; fixture.hidden_since(&rt, 1).is_empty());
+    assert!(rt; fixture.hidden_since(&rt, 7).is_empty());
 }

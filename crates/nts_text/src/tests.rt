@@ -3,6 +3,7 @@
 use crate::*;
 use nts_model::{Sort, UintTy, Variance};
 use std::alloc::Global;
+use std::process::Abort;
 use std::test::Fail;
 
 /// The first line that is refused, and why, or `None` if all are taken.
@@ -24,133 +25,101 @@ fn refusal_of(alloc: Global, text: &[u8]) -> Result<Option<(usize, Refusal)>, Fa
     Ok(None)
 }
 
-#[test]
-fn refuses(rt: HostRuntime) -> Result<(), Fail> {
-    for (text, number, refusal) in [
-        (b"gaol x".as_slice(), 1, Refusal::UnknownCommand),
-        (b"gaol \x80".as_slice(), 1, Refusal::UnknownCommand),
-        (b"\x80".as_slice(), 1, Refusal::UnknownCommand),
-        (b" # x".as_slice(), 1, Refusal::UnknownCommand),
-        (b"for<a> T(a)".as_slice(), 1, Refusal::UnknownCommand),
-        (b"alias A".as_slice(), 1, Refusal::UnknownCommand),
-        (
-            b"\n\n# note\n\t \ngoals".as_slice(),
-            5,
-            Refusal::UnknownCommand,
-        ),
-        (b"goal".as_slice(), 1, Refusal::Syntax),
-        (b"type X\x80".as_slice(), 1, Refusal::Syntax),
-        (b"type\x80".as_slice(), 1, Refusal::Syntax),
-        (b"type X # note".as_slice(), 1, Refusal::Syntax),
-        (b"type X\rY".as_slice(), 1, Refusal::Syntax),
-        (b"type X()".as_slice(), 1, Refusal::Syntax),
-        (b"type X(+type)".as_slice(), 1, Refusal::Syntax),
-        (b"type X(type,)".as_slice(), 1, Refusal::Syntax),
-        (b"type ?X".as_slice(), 1, Refusal::Syntax),
-        (b"trait T".as_slice(), 1, Refusal::Syntax),
-        (b"trait T(-type)".as_slice(), 1, Refusal::Syntax),
-        (b"trait T(type) inductive".as_slice(), 1, Refusal::Syntax),
-        (b"mode erased".as_slice(), 1, Refusal::Syntax),
-        (b"depth 65536 x".as_slice(), 1, Refusal::Syntax),
-        (b"depth -1".as_slice(), 1, Refusal::Syntax),
-        (b"goal Clone(".as_slice(), 1, Refusal::Syntax),
-        (b"goal Clone".as_slice(), 1, Refusal::Syntax),
-        (b"goal Clone(u8))".as_slice(), 1, Refusal::Syntax),
-        (b"goal Clone(u8 u8)".as_slice(), 1, Refusal::Syntax),
-        (b"goal Clone(?x(u8))".as_slice(), 1, Refusal::Syntax),
-        (b"goal Clone(u8), Clone(u8)".as_slice(), 1, Refusal::Syntax),
-        (b"goal Clone(? x)".as_slice(), 1, Refusal::Syntax),
-        (b"goal u8: 'a".as_slice(), 1, Refusal::Syntax),
-        (b"goal?x: 'a".as_slice(), 1, Refusal::Syntax),
-        (b"goal for<a> Clone(a)".as_slice(), 1, Refusal::Syntax),
-        (b"impl T(u8) <-".as_slice(), 1, Refusal::Syntax),
-        (b"impl T(u8), T(u8)".as_slice(), 1, Refusal::Syntax),
-        (
-            b"impl T(u8) <- T(u8) <- T(u8)".as_slice(),
-            1,
-            Refusal::Syntax,
-        ),
-        (b"depth 65536".as_slice(), 1, Refusal::NumberOutOfRange),
-        (
-            b"depth 99999999999999999999".as_slice(),
-            1,
-            Refusal::NumberOutOfRange,
-        ),
-        (b"goal Clone(u32)".as_slice(), 1, Refusal::UnknownName),
-        (
-            b"trait A(region)\ngoal A(Zzz)".as_slice(),
-            2,
-            Refusal::UnknownName,
-        ),
-        (
-            b"trait A(type)\ngoal A(Zzz(u8(u8)))".as_slice(),
-            2,
-            Refusal::UnknownName,
-        ),
-        (
-            b"trait A(type)\ntype A".as_slice(),
-            2,
-            Refusal::NameDeclaredTwice,
-        ),
-        (b"type u8".as_slice(), 1, Refusal::NameDeclaredTwice),
-        (
-            b"trait A(type)\ngoal A(u8, u8)".as_slice(),
-            2,
-            Refusal::WrongArguments,
-        ),
-        (
-            b"trait A(type)\ngoal A(u8, Zzz)".as_slice(),
-            2,
-            Refusal::WrongArguments,
-        ),
-        (
-            b"trait A(type)\ngoal A(u8(u8))".as_slice(),
-            2,
-            Refusal::WrongArguments,
-        ),
-        (
-            b"trait A(type)\ngoal A(A)".as_slice(),
-            2,
-            Refusal::WrongArguments,
-        ),
-        (
-            b"trait A(type)\ngoal A('a)".as_slice(),
-            2,
-            Refusal::WrongArguments,
-        ),
-        (
-            b"trait A(region)\ngoal A(u8)".as_slice(),
-            2,
-            Refusal::WrongArguments,
-        ),
-        (
-            b"trait A(region)\nimpl A(!B)".as_slice(),
-            2,
-            Refusal::WrongArguments,
-        ),
-        (b"goal u8(u8)".as_slice(), 1, Refusal::WrongArguments),
-        (
-            b"trait A(type)\nimpl A(!B)".as_slice(),
-            2,
-            Refusal::ParameterInAClause,
-        ),
-        (
-            b"trait A(region)\nimpl A('b)".as_slice(),
-            2,
-            Refusal::ParameterInAClause,
-        ),
-        (
-            b"trait A(type)\nimpl A(u8) <- A(!B), B(u8)".as_slice(),
-            2,
-            Refusal::ParameterInAClause,
-        ),
-    ] {
+/// Sees that each of these lines is refused for that reason, as the line of that number, behind the text before it.
+fn refuse(
+    rt: &impl Abort,
+    alloc: Global,
+    before: &[u8],
+    number: usize,
+    refusal: Refusal,
+    lines: &[u8],
+) -> Result<(), Fail> {
+    let mut reader = lines;
+    let mut line = Vec::new(alloc);
+    for _ in 0..1000usize {
+        if !next_line(&mut reader, &mut line)? {
+            break;
+        }
+        let mut text = Vec::from_slice(alloc, before)?;
+        text.extend_from_slice(&line)?;
         assert!(rt;
-            refusal_of(rt.alloc(), text)? == Some((number, refusal)),
+            refusal_of(alloc, &text)? == Some((number, refusal)),
             "in {text:?}"
         );
     }
     Ok(())
+}
+
+#[test]
+fn refuses_commands(rt: HostRuntime) -> Result<(), Fail> {
+    let lines = b"gaol x\ngaol \x80\n\x80\n # x\nfor<a> T(a)\nalias A";
+    refuse(&rt, rt.alloc(), b"", 1, Refusal::UnknownCommand, lines)?;
+    let before = b"\n\n# note\n\t \n";
+    refuse(
+        &rt,
+        rt.alloc(),
+        before,
+        5,
+        Refusal::UnknownCommand,
+        b"goals",
+    )
+}
+
+#[test]
+fn refuses_syntax(rt: HostRuntime) -> Result<(), Fail> {
+    let lines = b"goal\ntype X\x80\ntype\x80\ntype X # note\ntype X\rY\ntype X()\ntype X(+type)\n\
+        type X(type,)\ntype ?X\ntrait T\ntrait T(-type)\ntrait T(type) inductive\nmode erased\n\
+        depth 65536 x\ndepth -1\ngoal Clone(\ngoal Clone\ngoal Clone(u8))\ngoal Clone(u8 u8)\n\
+        goal Clone(?x(u8))\ngoal Clone(u8), Clone(u8)\ngoal Clone(? x)\ngoal u8: 'a\ngoal?x: 'a\n\
+        goal for<a> Clone(a)\nimpl T(u8) <-\nimpl T(u8), T(u8)\nimpl T(u8) <- T(u8) <- T(u8)";
+    refuse(&rt, rt.alloc(), b"", 1, Refusal::Syntax, lines)
+}
+
+#[test]
+fn refuses_numbers(rt: HostRuntime) -> Result<(), Fail> {
+    let lines = b"depth 65536\ndepth 99999999999999999999";
+    refuse(&rt, rt.alloc(), b"", 1, Refusal::NumberOutOfRange, lines)
+}
+
+#[test]
+fn refuses_names(rt: HostRuntime) -> Result<(), Fail> {
+    let alloc = rt.alloc();
+    let types = b"trait A(type)\n";
+    let regions = b"trait A(region)\n";
+    refuse(&rt, alloc, b"", 1, Refusal::UnknownName, b"goal Clone(u32)")?;
+    refuse(&rt, alloc, regions, 2, Refusal::UnknownName, b"goal A(Zzz)")?;
+    refuse(
+        &rt,
+        alloc,
+        types,
+        2,
+        Refusal::UnknownName,
+        b"goal A(Zzz(u8(u8)))",
+    )?;
+    refuse(&rt, alloc, types, 2, Refusal::NameDeclaredTwice, b"type A")?;
+    refuse(&rt, alloc, b"", 1, Refusal::NameDeclaredTwice, b"type u8")
+}
+
+#[test]
+fn refuses_arguments(rt: HostRuntime) -> Result<(), Fail> {
+    let alloc = rt.alloc();
+    let types = b"trait A(type)\n";
+    let regions = b"trait A(region)\n";
+    let lines = b"goal A(u8, u8)\ngoal A(u8, Zzz)\ngoal A(u8(u8))\ngoal A(A)\ngoal A('a)";
+    refuse(&rt, alloc, types, 2, Refusal::WrongArguments, lines)?;
+    let lines = b"goal A(u8)\nimpl A(!B)";
+    refuse(&rt, alloc, regions, 2, Refusal::WrongArguments, lines)?;
+    refuse(&rt, alloc, b"", 1, Refusal::WrongArguments, b"goal u8(u8)")?;
+    let lines = b"impl A(!B)\nimpl A(u8) <- A(!B), B(u8)";
+    refuse(&rt, alloc, types, 2, Refusal::ParameterInAClause, lines)?;
+    refuse(
+        &rt,
+        alloc,
+        regions,
+        2,
+        Refusal::ParameterInAClause,
+        b"impl A('b)",
+    )
 }
 
 #[test]
