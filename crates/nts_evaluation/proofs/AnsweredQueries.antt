@@ -1,5 +1,5 @@
 -- What the table of a query answers, once its goal was evaluated there.
-use Rattle.std.proofs.Common.{◌≡◌, ◌⊎◌, ⊎_elim, inl, inr, ℕ, ◌+◌, Bool, true, List, [], ◌∷◌, ◌++◌, map, refl, sym, ap, ◌∙◌, subst, arith}
+use Rattle.std.proofs.Common.{◌≡◌, ◌⊎◌, ⊎_elim, inl, inr, ℕ, ◌+◌, Bool, true, false, List, [], ◌∷◌, ◌++◌, map, refl, sym, ap, ◌∙◌, subst, arith}
 use Rattle.std.specs.Prelude.{All}
 use Rattle.std.proofs.lemmas.List.Elements.{All-head, All-tail, All-cons}
 use Rattle.nts_model.specs.declared.labels.Label.{Label}
@@ -42,7 +42,7 @@ use Rattle.nts_canonical.specs.Building.{IsArgOf, kinds_of, values_of, made_entr
 use Rattle.nts_evaluation.specs.Asking.{Answers, AnswersInPart, IsResponseOf, first_table, first_values, asked_environment, asked_predicate, without_constraints}
 use Rattle.nts_evaluation.specs.Refuting.{Gains}
 use Rattle.nts_evaluation.specs.Evaluation.{Goes, asked_terms}
-use Rattle.nts_evaluation.specs.Answering.{told_in, IsQueryInput}
+use Rattle.nts_evaluation.specs.Answering.{is_kept, told_in, IsQueryInput}
 use Rattle.nts_evaluation.proofs.QueryTables.{first_content, first_passes, is_label_in, queries_pass, labels_in, table_in, values_pass, asked_passes, value_formed}
 use Rattle.nts_evaluation.proofs.Refuting.{gained_nothing}
 use Rattle.nts_evaluation.proofs.Running.{term_table}
@@ -64,9 +64,13 @@ pub first_entries : (ts : List Tree) (ks : List PositionKind) (e f : Entries) (h
 first_entries ts ks e f hs same is = ap (content_of ts) (same ∙ is) ∙ first_content ts ks hs
 
 -- how the run of a query ended: as it was left, or as it began
-pub ended_as : (q p u v : Table) → p.saved ≡ q.saved ++ q.entries ∷ [] → u.saved ≡ p.saved → (v.entries ≡ u.entries) ⊎ (u.saved ≡ v.saved ++ v.entries ∷ []) → (v.entries ≡ u.entries) ⊎ (v.entries ≡ q.entries)
-ended_as q p u v opened kept (inl e) = inl e
-ended_as q p u v opened kept (inr e) = inr (push_inj v.saved q.saved v.entries q.entries (sym e ∙ kept ∙ opened)).1
+pub ended_as : (k : Bool) (q p u v : Table) → p.saved ≡ q.saved ++ q.entries ∷ [] → u.saved ≡ p.saved → (k ≡ true → v.entries ≡ u.entries) → (k ≡ false → u.saved ≡ v.saved ++ v.entries ∷ []) → (v.entries ≡ u.entries) ⊎ (v.entries ≡ q.entries)
+ended_as true q p u v opened same kept taken = inl (kept refl)
+ended_as false q p u v opened same kept taken = inr (push_inj v.saved q.saved v.entries q.entries (sym (taken refl) ∙ same ∙ opened)).1
+
+-- a yes is kept
+pub yes_is_kept : {c : Certainty} → c ≡ certainty.Yes → is_kept c ≡ true
+yes_is_kept e = rw e refl
 
 module _ (b d : List Tree) (q p u v : Table) (table : IsTable b q) (same : p.entries ≡ q.entries) (goes : Goes b d p u) (ended : (v.entries ≡ u.entries) ⊎ (v.entries ≡ q.entries)) where
   before : content_of b p.entries ≡ content_of b q.entries

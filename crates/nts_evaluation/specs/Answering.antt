@@ -1,6 +1,6 @@
 -- What a query's table answers, and what evaluating a goal leaves of the table that asked.
 use Rattle.std.specs.Global.{Vec}
-use Rattle.std.specs.Prelude.{◌≡◌, ◌⊎◌, ◌↔◌, false, List, [], map, All, Contains, Result, IfOk}
+use Rattle.std.specs.Prelude.{◌≡◌, ◌⊎◌, ◌↔◌, Bool, true, false, List, [], map, All, Contains, Result, IfOk}
 use Rattle.nts_model.specs.Trees.{Tree, IsClosed}
 use Rattle.nts_model.specs.Contents.{Content, Recorded}
 use Rattle.nts_model.specs.Resolving.{Knows, deeply_resolved}
@@ -11,6 +11,8 @@ use Rattle.nts_model.specs.Inputs.{Input, IsInput, PositionKind, canonical_of, o
 use Rattle.nts_model.specs.Responses.{Response as Answer, recorded_by, said, IsOverPositions, IsResponseTo, IsIdentity}
 use Rattle.nts_certainty.specs.declared.certainty.Certainty.{Certainty}
 use Rattle.nts_certainty.specs.declared.certainty.Certainty.TheVariants as certainty
+use Rattle.nts_certainty.specs.declared.certainty.MaybeCause.{MaybeCause}
+use Rattle.nts_certainty.specs.declared.certainty.MaybeCause.TheVariants as causes
 use Rattle.nts_certainty.specs.declared.sources.HasChanged.{HasChanged}
 use Rattle.nts_certainty.specs.declared.sources.HasChanged.TheVariants as changes
 use Rattle.nts_store.specs.declared.fault.EvalError.{EvalError}
@@ -30,6 +32,15 @@ use Rattle.nts_response.specs.Applicable.{IsApplicable, IsApplied}
 use Rattle.nts_evaluation.specs.declared.evaluate.Evaluated.{Evaluated}
 use Rattle.nts_evaluation.specs.declared.evaluate.QueryAnswer.{QueryAnswer}
 use Rattle.nts_evaluation.specs.Asking.{IsInputFor, without_constraints}
+
+-- what was found out on the way to an answer is kept, unless the answer overflowed and keeps no constraints
+abbrev pub cause_keeps : MaybeCause → Bool
+cause_keeps causes.Ambiguity = true
+cause_keeps (causes.Overflow s k) = k
+
+abbrev pub is_kept : Certainty → Bool
+is_kept certainty.Yes = true
+is_kept (certainty.Maybe i) = cause_keeps i.cause
 
 -- what an answer of that certainty tells of a table: all, or no region constraints
 abbrev pub told_in : Certainty → Content → Content

@@ -343,10 +343,9 @@ fn record_one(
         table.old.entries) (content_of cx.new.nodes table.new.entries)) }
     ensures labels { OnOk result (BringsOnly (asked_terms cx.old.nodes trial.entry.goal)
         (content_of cx.old.nodes table.old.entries) (content_of cx.new.nodes table.new.entries)) }
-    ensures no { result ≡ Err EvalError.NoSolution → (constraint.relation ≡ relations.Equal) ×
-        AreUnrelated (content_of cx.old.nodes table.old.entries) (instance_at cx.old.nodes
-        trial.entry.values.now constraint.left.node) (instance_at cx.old.nodes
-        trial.entry.values.now constraint.right.node) }
+    ensures no { result ≡ Err EvalError.NoSolution → (constraint.relation ≡ relations.Equal) × AreUnrelated
+        (content_of cx.old.nodes table.old.entries) (instance_at cx.old.nodes trial.entry.values.now
+        constraint.left.node) (instance_at cx.old.nodes trial.entry.values.now constraint.right.node) }
     ensures full { result ≢ Err EvalError.Full }
 {
     let (left, right) = trial.instantiate_both(cx, constraint.left.node, constraint.right.node)?;

@@ -127,18 +127,15 @@ fn evaluate_query<H: GoalHandler>(
     requires ready { H.ready cx.old.nodes handler.now }
     ensures grows { Grows cx.old cx.new }
     ensures fits { IfOk result (λ a. IsAnswerTo cx.new.nodes (kinds_of input.now) a.response) }
-    ensures proved { (s : Since (λ ts. H.ready ts handler.now) cx.old.nodes) → IfCertain result
-        (λ r. IsDerived (meaning_since (λ ts. H.handler ts handler.now) s) (mode_of
-        input.now.typing_mode) (answer_sequent (form_of cx.old.nodes input.now) (response_at
-        cx.new.nodes r))) }
-    ensures forced { (s : Since (λ ts. H.ready ts handler.now) cx.old.nodes) → IfCertain result
-        (λ r. Answers (Forces ((H.handler s.base handler.now).offers (mode_of
-        input.now.typing_mode)) (depth + 1)) (form_of cx.old.nodes input.now) (response_at
-        cx.new.nodes r)) }
-    ensures gained { (s : Since (λ ts. H.ready ts handler.now) cx.old.nodes) → IfOk result
-        (λ a. AnswersInPart (Gains ((H.handler s.base handler.now).offers (mode_of
-        input.now.typing_mode)) (depth + 1)) (form_of cx.old.nodes input.now) (response_at
-        cx.new.nodes a.response)) }
+    ensures proved { (s : Since (λ ts. H.ready ts handler.now) cx.old.nodes) → IfCertain result (λ r.
+        IsDerived (meaning_since (λ ts. H.handler ts handler.now) s) (mode_of input.now.typing_mode)
+        (answer_sequent (form_of cx.old.nodes input.now) (response_at cx.new.nodes r))) }
+    ensures forced { (s : Since (λ ts. H.ready ts handler.now) cx.old.nodes) → IfCertain result (λ r.
+        Answers (Forces ((H.handler s.base handler.now).offers (mode_of input.now.typing_mode))
+        (depth + 1)) (form_of cx.old.nodes input.now) (response_at cx.new.nodes r)) }
+    ensures gained { (s : Since (λ ts. H.ready ts handler.now) cx.old.nodes) → IfOk result (λ a.
+        AnswersInPart (Gains ((H.handler s.base handler.now).offers (mode_of input.now.typing_mode))
+        (depth + 1)) (form_of cx.old.nodes input.now) (response_at cx.new.nodes a.response)) }
     ensures refuted { (s : Since (λ ts. H.ready ts handler.now) cx.old.nodes) →
         result ≡ Err EvalError.NoSolution → IsQueryRefuted ((H.handler s.base handler.now).offers
         (mode_of input.now.typing_mode)) (depth + 1) (form_of cx.old.nodes input.now) }
@@ -265,18 +262,15 @@ fn evaluate_candidates<H: GoalHandler>(
     ensures proved { (s : Since (λ ts. H.ready ts handler.now) cx.old.nodes) → AreOffered
         (H.handler s.base handler.now) table.old.mode cx.old.nodes goal candidates.items → IfYes result
         (IsProvedSince (λ ts. H.handler ts handler.now) s table.old.mode cx.new.nodes table.new goal) }
-    ensures forced { (s : Since (λ ts. H.ready ts handler.now) cx.old.nodes) → AreOffered
-        (H.handler s.base handler.now) table.old.mode cx.old.nodes goal candidates.items → IfYes result
-        (IsForcedTo (H.handler s.base handler.now) table.old.mode (depth + 1) cx.old.nodes table.old
-        cx.new.nodes table.new goal) }
-    ensures gained { (s : Since (λ ts. H.ready ts handler.now) cx.old.nodes) → AreOffered
-        (H.handler s.base handler.now) table.old.mode cx.old.nodes goal candidates.items → OnOk result
-        (IsGainedTo (H.handler s.base handler.now) table.old.mode (depth + 1) cx.old.nodes table.old
-        cx.new.nodes table.new goal) }
-    ensures refuted { (s : Since (λ ts. H.ready ts handler.now) cx.old.nodes) → AreOffered
-        (H.handler s.base handler.now) table.old.mode cx.old.nodes goal candidates.items →
-        result ≡ Err EvalError.NoSolution → IsRefutedBy (H.handler s.base handler.now) table.old.mode
-        (depth + 1) cx.old.nodes table.old goal }
+    ensures forced { (s : Since (λ ts. H.ready ts handler.now) cx.old.nodes) → AreOffered (H.handler s.base
+        handler.now) table.old.mode cx.old.nodes goal candidates.items → IfYes result (IsForcedTo (H.handler
+        s.base handler.now) table.old.mode (depth + 1) cx.old.nodes table.old cx.new.nodes table.new goal) }
+    ensures gained { (s : Since (λ ts. H.ready ts handler.now) cx.old.nodes) → AreOffered (H.handler s.base
+        handler.now) table.old.mode cx.old.nodes goal candidates.items → OnOk result (IsGainedTo (H.handler
+        s.base handler.now) table.old.mode (depth + 1) cx.old.nodes table.old cx.new.nodes table.new goal) }
+    ensures refuted { (s : Since (λ ts. H.ready ts handler.now) cx.old.nodes) → AreOffered (H.handler s.base
+        handler.now) table.old.mode cx.old.nodes goal candidates.items → result ≡ Err EvalError.NoSolution →
+        IsRefutedBy (H.handler s.base handler.now) table.old.mode (depth + 1) cx.old.nodes table.old goal }
     ensures full { result ≢ Err EvalError.Full }
 {
     match choose(table, cx, goal, &candidates)? {
@@ -360,18 +354,15 @@ fn run_candidate<H: GoalHandler>(
     ensures proved { (s : Since (λ ts. H.ready ts handler.now) cx.old.nodes) → IsOffered
         (H.handler s.base handler.now) table.old.mode cx.old.nodes goal candidate.now → IfYes result
         (IsProvedSince (λ ts. H.handler ts handler.now) s table.old.mode cx.new.nodes table.new goal) }
-    ensures forced { (s : Since (λ ts. H.ready ts handler.now) cx.old.nodes) → IsOnlyMet
-        (H.handler s.base handler.now) table.old.mode cx.old.nodes table.old goal candidate.now →
-        IfYes result (IsForcedTo (H.handler s.base handler.now) table.old.mode (depth + 1)
-        cx.old.nodes table.old cx.new.nodes table.new goal) }
-    ensures gained { (s : Since (λ ts. H.ready ts handler.now) cx.old.nodes) → IsOnlyMet
-        (H.handler s.base handler.now) table.old.mode cx.old.nodes table.old goal candidate.now → OnOk result
-        (IsGainedTo (H.handler s.base handler.now) table.old.mode (depth + 1) cx.old.nodes table.old
-        cx.new.nodes table.new goal) }
-    ensures refuted { (s : Since (λ ts. H.ready ts handler.now) cx.old.nodes) → IsOnlyMet
-        (H.handler s.base handler.now) table.old.mode cx.old.nodes table.old goal candidate.now →
-        result ≡ Err EvalError.NoSolution → IsRefutedBy (H.handler s.base handler.now) table.old.mode
-        (depth + 1) cx.old.nodes table.old goal }
+    ensures forced { (s : Since (λ ts. H.ready ts handler.now) cx.old.nodes) → IsOnlyMet (H.handler s.base
+        handler.now) table.old.mode cx.old.nodes table.old goal candidate.now → IfYes result (IsForcedTo (H.handler
+        s.base handler.now) table.old.mode (depth + 1) cx.old.nodes table.old cx.new.nodes table.new goal) }
+    ensures gained { (s : Since (λ ts. H.ready ts handler.now) cx.old.nodes) → IsOnlyMet (H.handler s.base
+        handler.now) table.old.mode cx.old.nodes table.old goal candidate.now → OnOk result (IsGainedTo (H.handler
+        s.base handler.now) table.old.mode (depth + 1) cx.old.nodes table.old cx.new.nodes table.new goal) }
+    ensures refuted { (s : Since (λ ts. H.ready ts handler.now) cx.old.nodes) → IsOnlyMet (H.handler s.base
+        handler.now) table.old.mode cx.old.nodes table.old goal candidate.now → result ≡ Err EvalError.NoSolution
+        → IsRefutedBy (H.handler s.base handler.now) table.old.mode (depth + 1) cx.old.nodes table.old goal }
     ensures full { result ≢ Err EvalError.Full }
 {
     let values = equate(table, cx, goal, candidate)?;
@@ -418,10 +409,9 @@ fn evaluate_nested<H: GoalHandler>(
     ensures forced { (s : Since (λ ts. H.ready ts handler.now) cx.old.nodes) → IfYes result
         (LeavesPremise (AsksForced (H.handler s.base handler.now) table.old.mode depth) cx.old.nodes
         table.old cx.new.nodes table.new trial.entry.values.now nested) }
-    ensures gained { (s : Since (λ ts. H.ready ts handler.now) cx.old.nodes) → OnOk result
-        (LeavesOrSkips (LeavesPremise (AsksGained (H.handler s.base handler.now) table.old.mode
-        depth) cx.old.nodes table.old cx.new.nodes table.new trial.entry.values.now nested)
-        table.old table.new) }
+    ensures gained { (s : Since (λ ts. H.ready ts handler.now) cx.old.nodes) → OnOk result (LeavesOrSkips
+        (LeavesPremise (AsksGained (H.handler s.base handler.now) table.old.mode depth) cx.old.nodes
+        table.old cx.new.nodes table.new trial.entry.values.now nested) table.old table.new) }
     ensures refuted { (s : Since (λ ts. H.ready ts handler.now) cx.old.nodes) →
         result ≡ Err EvalError.NoSolution → RefusesPremise (AsksRefuted (H.handler s.base
         handler.now) table.old.mode depth) cx.old.nodes table.old trial.entry.values.now nested }

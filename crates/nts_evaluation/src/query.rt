@@ -1,11 +1,10 @@
 //! A goal as a query: its canonical input, and the end of the table that it ran in.
-ghost use Rattle.std.specs.Prelude.{◌≡◌, ◌⊎◌, ◌+◌, ◌++◌, true, length, List, [], ◌∷◌, IfOk, IsOkUnless};
+ghost use Rattle.std.specs.Prelude.{◌≡◌, ◌+◌, ◌++◌, true, false, length, List, [], ◌∷◌, IfOk, IsOkUnless};
 ghost use Rattle.nts_model.specs.Trees.{Tree};
-ghost use Rattle.nts_certainty.specs.declared.certainty.Certainty.TheVariants as certainties;
 ghost use Rattle.nts_table.specs.Tables.{IsTable};
 ghost use Rattle.nts_terms.specs.Rest.{Grows};
 ghost use Rattle.nts_evaluation.specs.Evaluation.{IsPosed};
-ghost use Rattle.nts_evaluation.specs.Answering.{IsQueryOf};
+ghost use Rattle.nts_evaluation.specs.Answering.{is_kept, IsQueryOf};
 
 use crate::candidate::terms_are_formed;
 use nts_canonical::{CanonicalInput, canonicalize_goal};
@@ -37,8 +36,8 @@ pub fn query_of(
 #[inline(never)]
 pub fn end_query(table: &mut InferCtxt, snapshot: Snapshot, certainty: Certainty)
     requires open { length table.old.saved ≡ snapshot.depth + 1 }
-    ensures yes { certainty ≡ certainties.Yes → table.new.entries ≡ table.old.entries }
-    ensures ends { (table.new.entries ≡ table.old.entries) ⊎ (table.old.saved ≡ table.new.saved ++ table.new.entries ∷ []) }
+    ensures kept { is_kept certainty ≡ true → table.new.entries ≡ table.old.entries }
+    ensures taken_back { is_kept certainty ≡ false → table.old.saved ≡ table.new.saved ++ table.new.entries ∷ [] }
     ensures mode { table.new.mode ≡ table.old.mode }
     ensures table { (ts : List Tree) → IsTable ts table.old → IsTable ts table.new }
 {
@@ -51,7 +50,7 @@ pub fn end_query(table: &mut InferCtxt, snapshot: Snapshot, certainty: Certainty
 
 /// Whether what was found out on the way to an answer of that certainty is kept.
 fn keeps_constraints(certainty: Certainty) -> bool
-    ensures { certainty ≡ certainties.Yes → result ≡ true }
+    ensures { result ≡ is_kept certainty }
 {
     let Certainty::Maybe(info) = certainty else {
         return true;

@@ -123,10 +123,9 @@ fn evaluate_root<H: GoalHandler>(
     ensures proved { (s : Since (λ ts. H.ready ts handler.now) cx.old.nodes) →
         IfOk result (λ e. e.certainty ≡ certainty.Yes → IsProvedSince
         (λ ts. H.handler ts handler.now) s table.old.mode cx.new.nodes table.new goal) }
-    ensures forced { (s : Since (λ ts. H.ready ts handler.now) cx.old.nodes) → IfOk result
-        (λ e. e.certainty ≡ certainty.Yes → LeavesUnder (AsksForced (H.handler s.base handler.now)
-        table.old.mode (cx.old.recursion_limit + 1)) cx.old.nodes table.old cx.new.nodes table.new
-        goal) }
+    ensures forced { (s : Since (λ ts. H.ready ts handler.now) cx.old.nodes) → IfOk result (λ e.
+        e.certainty ≡ certainty.Yes → LeavesUnder (AsksForced (H.handler s.base handler.now)
+        table.old.mode (cx.old.recursion_limit + 1)) cx.old.nodes table.old cx.new.nodes table.new goal) }
     ensures gained { (s : Since (λ ts. H.ready ts handler.now) cx.old.nodes) → OnOk result
         (LeavesUnder (AsksGained (H.handler s.base handler.now) table.old.mode
         (cx.old.recursion_limit + 1)) cx.old.nodes table.old cx.new.nodes table.new goal) }

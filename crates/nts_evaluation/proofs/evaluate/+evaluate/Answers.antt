@@ -24,7 +24,7 @@ use Rattle.nts_canonical.specs.Forms.{form_of, trees_of}
 use Rattle.nts_response.specs.Forms.{response_at}
 use Rattle.nts_evaluation.specs.Asking.{first_values}
 use Rattle.nts_evaluation.proofs.QueryTables.{is_label_in, first_passes, first_sides, table_in}
-use Rattle.nts_evaluation.proofs.AnsweredQueries.{first_entries, query_environment, query_predicate, ended_as, ended_continues, ended_passes, ended_sides, ended_universe, ended_contents, args_later, args_know, query_passes, query_table, query_says, answers_of, answers_in_part_of}
+use Rattle.nts_evaluation.proofs.AnsweredQueries.{first_entries, query_environment, query_predicate, ended_as, yes_is_kept, ended_continues, ended_passes, ended_sides, ended_universe, ended_contents, args_later, args_know, query_passes, query_table, query_says, answers_of, answers_in_part_of}
 use Rattle.nts_evaluation.proofs.Labels.{only_earlier, only_back, only_same, only_nested, content_same}
 use Rattle.nts_evaluation.proofs.Refuting.{asks_forced_more, asks_gained_more, asks_refuted_more, some_first, some_more, skipped, gained_last, gained_nothing, gained_back, refuted_none, refuted_by_goal, refuted_by_constraint, refuted_back, only_met}
 use Rattle.nts_store.specs.declared.fault.EvalError.TheVariants as EvalError
@@ -479,7 +479,7 @@ evaluate_query-make_response-requires-clause-values g t c =
     let k = c.in_ok-table.ensures in
     let o = c.in_ok-snapshot.ensures in
     let r = c.in_ok-answer.ensures in
-    let ended = ended_as c.in_ok-table.table c.start_snapshot.new.self c.compute_goal.new.table c.end_query.new.table o.saved r.runs.goes.saved c.end_query.ensures.ends in
+    let ended = ended_as _ c.in_ok-table.table c.start_snapshot.new.self c.compute_goal.new.table c.end_query.new.table o.saved r.runs.goes.saved c.end_query.ensures.kept c.end_query.ensures.taken_back in
     rw c.deref.ensures.value
     (args_later c.build_with_canonical.new.cx.nodes c.compute_goal.new.cx.nodes c.in_ok-table.table.entries c.end_query.new.table.entries c.in_ok-table.values.items r.runs.goes.extends
     (ended_continues c.build_with_canonical.new.cx.nodes c.compute_goal.new.cx.nodes c.in_ok-table.table c.start_snapshot.new.self c.compute_goal.new.table c.end_query.new.table k.table o.entries r.runs.goes ended) k.args)
@@ -504,9 +504,9 @@ evaluate_query-returns-clause-forced g t c = λ s y.
     let env = query_environment a b input query k.query in
     let predicate = query_predicate a b input query k.query in
     let values = trees_kept b d q.entries c.in_ok-table.values.items r.runs.goes.extends k.args ∙ k.values in
-    let ended = ended_as q p u v o.saved r.runs.goes.saved c.end_query.ensures.ends in
+    let ended = ended_as _ q p u v o.saved r.runs.goes.saved c.end_query.ensures.kept c.end_query.ensures.taken_back in
     let yes = sym w.certainty ∙ y in
-    let kept = c.end_query.ensures.yes yes in
+    let kept = c.end_query.ensures.kept (yes_is_kept yes) in
     let says = rw (yes, c.deref.ensures.value, kept) at w.says in
     answers_of (form_of a input) (content_of b p.entries) (content_of d u.entries) (tree_at b query.goal.param_env.node) (tree_at b query.goal.predicate.node) (trees_of d c.in_ok-table.values.items) (response_at c.make_response.new.cx.nodes c.in_ok-response.response) first env predicate values
     (rw (o.mode, k.mode) at (r.forced (Since-later k.grows.extends s) yes)) says
@@ -531,7 +531,7 @@ evaluate_query-returns-clause-gained g t c = λ s.
     let env = query_environment a b input query k.query in
     let predicate = query_predicate a b input query k.query in
     let values = trees_kept b d q.entries c.in_ok-table.values.items r.runs.goes.extends k.args ∙ k.values in
-    let ended = ended_as q p u v o.saved r.runs.goes.saved c.end_query.ensures.ends in
+    let ended = ended_as _ q p u v o.saved r.runs.goes.saved c.end_query.ensures.kept c.end_query.ensures.taken_back in
     answers_in_part_of ((g.H.GoalHandler.handler s.base c.args.handler.now).offers (mode_of input.typing_mode)) (c.args.depth + 1) (form_of a input) (content_of b p.entries) (content_of d u.entries) (content_of d v.entries) (tree_at b query.goal.param_env.node) (tree_at b query.goal.predicate.node) (trees_of d c.in_ok-table.values.items) c.in_ok-answer.answer.certainty (response_at c.make_response.new.cx.nodes c.in_ok-response.response) first env predicate values
     (rw (o.mode, k.mode) at (r.gained (Since-later k.grows.extends s))) (ended_contents b d q p u v k.table o.entries r.runs.goes ended) (rw c.deref.ensures.value at w.says)
 
@@ -555,14 +555,14 @@ evaluate_query-returns-clause-proved g t c = λ s y.
     let env = query_environment a b input query k.query in
     let predicate = query_predicate a b input query k.query in
     let values = trees_kept b d q.entries c.in_ok-table.values.items r.runs.goes.extends k.args ∙ k.values in
-    let ended = ended_as q p u v o.saved r.runs.goes.saved c.end_query.ensures.ends in
+    let ended = ended_as _ q p u v o.saved r.runs.goes.saved c.end_query.ensures.kept c.end_query.ensures.taken_back in
     let kinds = c.requires.input.input.kinds in
     let over = c.requires.input in
     let args = args_later b d q.entries v.entries c.in_ok-table.values.items r.runs.goes.extends (ended_continues b d q p u v k.table o.entries r.runs.goes ended) k.args in
     let pass = ended_passes b d q p u v k.table o.entries r.runs.goes ended (is_label_in ks) (rw (first_entries b ks q.entries q.entries _ refl k.entries) (first_passes (is_label_in ks) ks)) (query_passes b d p u query.goal ks (form_of a input) refl kinds over.environment over.predicate first env predicate r.labels) in
     let known = args_know d v.entries c.in_ok-table.values.items (first_values ks) args values in
     let yes = sym w.certainty ∙ y in
-    let kept = c.end_query.ensures.yes yes in
+    let kept = c.end_query.ensures.kept (yes_is_kept yes) in
     let says = rw (yes, c.deref.ensures.value, values) at w.says in
     let formed = c.terms_are_formed.ensures in
     let table = query_table ks formed (c.end_query.ensures.table d r.runs.goes.table) kinds pass known in
@@ -592,7 +592,7 @@ evaluate_query-returns-clause-fits g t c =
     let env = query_environment a b input query k.query in
     let predicate = query_predicate a b input query k.query in
     let values = trees_kept b d q.entries c.in_ok-table.values.items r.runs.goes.extends k.args ∙ k.values in
-    let ended = ended_as q p u v o.saved r.runs.goes.saved c.end_query.ensures.ends in
+    let ended = ended_as _ q p u v o.saved r.runs.goes.saved c.end_query.ensures.kept c.end_query.ensures.taken_back in
     let kinds = c.requires.input.input.kinds in
     let over = c.requires.input in
     let args = args_later b d q.entries v.entries c.in_ok-table.values.items r.runs.goes.extends (ended_continues b d q p u v k.table o.entries r.runs.goes ended) k.args in
