@@ -19,7 +19,7 @@ use Rattle.nts_table.specs.TableLaws.{IsTable-extended}
 use Rattle.nts_canonical.proofs.PairLists.{holds_kept}
 use Rattle.nts_canonical.specs.Building.{IsArgOf}
 use Rattle.nts_terms.specs.declared.handles.GenericArg.{GenericArg}
-use Rattle.nts_response.specs.Applied.{StepKeeps}
+use Rattle.nts_response.specs.Applied.{StepKeeps, KeepsFrame}
 
 pub step_none : (a : Cx) (t : Table) → IsTable a.nodes t → StepKeeps a a t t
 step_none a t h = record {
@@ -58,6 +58,33 @@ step_then {a} {b} {c} {t} {u} {v} x y =
       mode = y.mode ∙ x.mode;
       universe = y.universe ∙ x.universe;
       hidden = y.hidden ∙ x.hidden;
+    }
+
+-- what a step keeps is a frame, and one frame goes after another
+
+pub frame_of : {a b : Cx} {t u : Table} → StepKeeps a b t u → KeepsFrame a b t u
+frame_of s = record { grows = s.grows; table = s.table; saved = s.saved; mode = s.mode }
+
+pub frame_then : {a b c : Cx} {t u v : Table} → KeepsFrame a b t u → KeepsFrame b c u v → KeepsFrame a c t v
+frame_then x y =
+    let p = x.grows in
+    let q = y.grows in
+    record {
+      grows = record { extends = Extends-trans p.extends q.extends; rest = KeepsRest-trans p.rest q.rest };
+      table = y.table;
+      saved = y.saved ∙ x.saved;
+      mode = y.mode ∙ x.mode;
+    }
+
+-- the store alone grew then
+pub frame_grows : {a b c : Cx} {t u : Table} → KeepsFrame a b t u → Grows b c → KeepsFrame a c t u
+frame_grows x q =
+    let p = x.grows in
+    record {
+      grows = record { extends = Extends-trans p.extends q.extends; rest = KeepsRest-trans p.rest q.rest };
+      table = IsTable-extended q.extends x.table;
+      saved = x.saved;
+      mode = x.mode;
     }
 
 pub step_related : {a b : Cx} {t u : Table} → RelatingKeeps a b t u → StepKeeps a b t u

@@ -33,6 +33,13 @@ use Rattle.nts_table.specs.Tables.{Table, IsTable}
 use Rattle.nts_canonical.specs.declared.types.CanonicalVarKind.{CanonicalVarKind}
 use Rattle.nts_canonical.specs.Forms.{kind_of_var}
 
+-- the store grew at most, and the table is one of it; its open snapshots and its mode are as before
+pub record KeepsFrame (old new : Cx) (t u : Table) : Type 0 where
+  pub grows : Grows old new
+  pub table : IsTable new.nodes u
+  pub saved : u.saved ≡ t.saved
+  pub mode : u.mode ≡ t.mode
+
 -- what each step keeps, whatever it answers: the store grew at most, and the table is one of it, with the variables that it
 -- had; its snapshots, mode, current universe and hidden types are as before
 pub record StepKeeps (old new : Cx) (t u : Table) : Type 0 where

@@ -6,13 +6,11 @@ ghost use Rattle.nts_model.specs.Handlers.{NamesFresh};
 ghost use Rattle.nts_store.specs.Growth.{tree_at};
 ghost use Rattle.nts_store.specs.declared.fault.EvalError.TheVariants.{NoSolution};
 ghost use Rattle.nts_terms.specs.Handles.{HoldsArg};
-ghost use Rattle.nts_terms.specs.Rest.{Grows};
 ghost use Rattle.nts_unify.specs.Reading.{content_of};
-ghost use Rattle.nts_table.specs.Frames.{ChangesEntries};
 ghost use Rattle.nts_table.specs.Tables.{IsTable};
 ghost use Rattle.nts_canonical.specs.Forms.{kind_of_var, trees_of};
 ghost use Rattle.nts_canonical.specs.Building.{IsArgOf};
-ghost use Rattle.nts_response.specs.Applied.{StepKeeps, HaveSorts};
+ghost use Rattle.nts_response.specs.Applied.{StepKeeps, KeepsFrame, HaveSorts};
 ghost use Rattle.nts_response.specs.States.{state_at};
 ghost use Rattle.nts_response.specs.Instantiated.{values_alone, AreValuesFor, AreEquated, state_sorts, IsInstantiable, IsInstantiated, RefusesState, AddsMissing};
 
@@ -53,11 +51,8 @@ pub fn instantiate_canonical_state<T: TypeFoldable>(
     ensures no { result ≡ Err NoSolution → RefusesState (content_of cx.old.nodes table.old.entries) (trees_of cx.old.nodes orig_values.old.items) (state_at T.tree cx.old.nodes state) }
     ensures full { (result ≡ Err EvalError.Full) ↔ (u32.MAX < table.old.entries.universe + state.max_universe) }
     ensures universe { OnOk result (table.new.entries.universe ≡ table.old.entries.universe + state.max_universe) }
-    ensures err { OnErr result (table.new ≡ table.old) }
-    ensures kept { OnErr result (orig_values.new.items ≡ orig_values.old.items) }
-    ensures changes { ChangesEntries table.old table.new }
-    ensures table { IsTable cx.new.nodes table.new }
-    ensures grows { Grows cx.old cx.new }
+    ensures err { OnErr result ((table.new ≡ table.old) × (orig_values.new.items ≡ orig_values.old.items)) }
+    ensures keeps { KeepsFrame cx.old cx.new table.old table.new }
 {
     if table.universe().checked_add(state.max_universe).is_none() {
         return Err(EvalError::Full);
@@ -91,9 +86,7 @@ fn instantiate<T: TypeFoldable>(
     ensures no { result ≡ Err NoSolution → RefusesState (content_of cx.old.nodes table.old.entries) (trees_of cx.old.nodes orig_values.now) (state_at T.tree cx.old.nodes state) }
     ensures full { result ≢ Err EvalError.Full }
     ensures universe { OnOk result (table.new.entries.universe ≡ table.old.entries.universe + state.max_universe) }
-    ensures changes { ChangesEntries table.old table.new }
-    ensures table { IsTable cx.new.nodes table.new }
-    ensures grows { Grows cx.old cx.new }
+    ensures keeps { KeepsFrame cx.old cx.new table.old table.new }
 {
     let Canonical {
         value,
@@ -139,9 +132,7 @@ fn equated(
     ensures full { result ≢ Err EvalError.Full }
     ensures universe { OnOk result (table.new.entries.universe ≡ table.old.entries.universe + max_universe) }
     ensures hidden { OnOk result (table.new.entries.hidden ≡ table.old.entries.hidden) }
-    ensures changes { ChangesEntries table.old table.new }
-    ensures table { IsTable cx.new.nodes table.new }
-    ensures grows { Grows cx.old cx.new }
+    ensures keeps { KeepsFrame cx.old cx.new table.old table.new }
 {
     terms_are_formed(cx);
     let universe = table.universe();
