@@ -1,6 +1,8 @@
 -- What the lines of a run do.
 use Rattle.std.specs.Prelude.{◌≡◌, ◌⊎◌, ℕ, true, false, List, [], length, map, Option, None, Some}
 use Rattle.std.specs.Global.{Vec}
+use Rattle.nts_model.specs.declared.labels.Sort.{Sort}
+use Rattle.nts_terms.specs.declared.cx.Cx.{Cx}
 use Rattle.nts_terms.specs.Rest.{Grows}
 use Rattle.nts_terms.specs.Signatures.{nothing_declared, with_ctor, with_trait}
 use Rattle.nts_delegate.specs.Adding.{AddsClause, MakesCoinductive}
@@ -14,6 +16,7 @@ use Rattle.nts_text.specs.Spelled.{type_names, region_names, KeepsNumbers}
 use Rattle.nts_text.specs.declared.commands.Command.{Command}
 use Rattle.nts_text.specs.declared.commands.Command.TheVariants as commands
 use Rattle.nts_text.specs.declared.parser.Mode.TheVariants as modes
+use Rattle.nts_text.specs.declared.parser.Param.{Param}
 use Rattle.nts_text.specs.declared.resolver.Resolved.{Resolved}
 use Rattle.nts.specs.declared.program.Program.{Program}
 use Rattle.nts.specs.declared.answer.Answer.{Answer}
@@ -53,19 +56,22 @@ pub record KeepsRules (old new : Program) : Type 0 where
   pub clauses : new.clauses ≡ old.clauses
   pub mode : new.mode ≡ old.mode
 
+-- a type is declared with these parameters, and a trait over these sorts: nothing else of the store changes
+abbrev pub DeclaresType : List Param → Cx → Cx → Type 0
+DeclaresType params old new =
+    new ≡ record old { declarations = with_ctor old.declarations (map (λ p. p.sort) params) (map (λ p. p.variance) params) }
+
+abbrev pub DeclaresTrait : List Sort → Cx → Cx → Type 0
+DeclaresTrait sorts old new = new ≡ record old { declarations = with_trait old.declarations sorts }
+
 -- what a command changes, and how it is answered
 abbrev pub Follows : Program → Program → Command → Option (Vec ℕ) → Type 0
 Follows old new (commands.Mode m) o = (new.mode ≡ m) × (new.cx ≡ old.cx) × (new.clauses ≡ old.clauses) × (o ≡ None)
 Follows old new (commands.Depth d) o = (new.cx ≡ record old.cx { recursion_limit = d }) × KeepsRules old new × (o ≡ None)
-Follows old new (commands.Type n params) o =
-    (new.cx ≡ record old.cx { declarations = with_ctor old.cx.declarations (map (λ p. p.sort) params.items) (map (λ p. p.variance) params.items) })
-    × KeepsRules old new × (o ≡ None)
+Follows old new (commands.Type n params) o = DeclaresType params.items old.cx new.cx × KeepsRules old new × (o ≡ None)
 Follows old new (commands.Trait n true) o =
-    (new.cx ≡ record old.cx { declarations = with_trait old.cx.declarations (trait_sorts new.names n) })
-    × MakesCoinductive old.clauses new.clauses (length old.cx.declarations.traits) × (new.mode ≡ old.mode) × (o ≡ None)
-Follows old new (commands.Trait n false) o =
-    (new.cx ≡ record old.cx { declarations = with_trait old.cx.declarations (trait_sorts new.names n) })
-    × KeepsRules old new × (o ≡ None)
+    DeclaresTrait (trait_sorts new.names n) old.cx new.cx × MakesCoinductive old.clauses new.clauses (length old.cx.declarations.traits) × (new.mode ≡ old.mode) × (o ≡ None)
+Follows old new (commands.Trait n false) o = DeclaresTrait (trait_sorts new.names n) old.cx new.cx × KeepsRules old new × (o ≡ None)
 Follows old new (commands.Impl head body) o =
     (c : Clause) × AddsClause old.clauses new.clauses c × IsRuleOf new.cx.nodes head.items body.items c
     × Grows old.cx new.cx × (new.mode ≡ old.mode) × (o ≡ None)

@@ -1,14 +1,13 @@
 //! The state of a run, and what each command does to it.
 ghost use Rattle.std.specs.Prelude.{◌≡◌, true, false, length, map, IsNone, IfOk, OnOk, OnErr};
 ghost use Rattle.nts_store.specs.Growth.{Extends};
-ghost use Rattle.nts_terms.specs.Signatures.{with_ctor, with_trait};
 ghost use Rattle.nts_delegate.specs.Adding.{AddsClause, MakesCoinductive};
 ghost use Rattle.nts_delegate.specs.Clauses.{AreReady};
 ghost use Rattle.nts_delegate.specs.declared.clauses.Clause.{Clause};
 ghost use Rattle.nts_text.specs.Lines.{IsPassedOver};
 ghost use Rattle.nts_text.specs.Resolution.{trait_sorts};
 ghost use Rattle.nts.specs.Meaning.{AreConditions, IsRuleOf, IsRuleFor};
-ghost use Rattle.nts.specs.Obeying.{IsNewProgram, Follows, KeepsRules, IsTold, IsObeyed, IsInStep};
+ghost use Rattle.nts.specs.Obeying.{IsNewProgram, DeclaresType, DeclaresTrait, Follows, KeepsRules, IsTold, IsObeyed, IsInStep};
 ghost use Rattle.nts_terms.specs.Rest.{Grows};
 
 use crate::answer::ask;
@@ -109,11 +108,7 @@ impl Program {
     fn declare_type(&mut self, params: &[Param]) -> Result<(), Stop>
         requires ready { AreReady self.old.cx.nodes self.old.clauses }
         ensures ready { OnOk result (AreReady self.new.cx.nodes self.new.clauses) }
-        ensures declared { OnOk result (self.new.cx ≡ record self.old.cx {
-          declarations = with_ctor
-              self.old.cx.declarations (map (λ p. p.sort) params.now) (map
-              (λ p. p.variance) params.now);
-        }) }
+        ensures declared { OnOk result (DeclaresType params.now self.old.cx self.new.cx) }
         ensures rules { KeepsRules self.old self.new }
         ensures names { self.new.names ≡ self.old.names }
         ensures scope { self.new.scope ≡ self.old.scope }
@@ -128,10 +123,7 @@ impl Program {
     fn declare_trait(&mut self, number: usize, coinductive: bool) -> Result<(), Stop>
         requires ready { AreReady self.old.cx.nodes self.old.clauses }
         ensures ready { OnOk result (AreReady self.new.cx.nodes self.new.clauses) }
-        ensures declared { OnOk result (self.new.cx ≡ record self.old.cx {
-          declarations = with_trait
-              self.old.cx.declarations (trait_sorts self.old.names number);
-        }) }
+        ensures declared { OnOk result (DeclaresTrait (trait_sorts self.old.names number) self.old.cx self.new.cx) }
         ensures coinductive { OnOk result (coinductive ≡ true →
             MakesCoinductive self.old.clauses self.new.clauses
             (length self.old.cx.declarations.traits)) }

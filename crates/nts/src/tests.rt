@@ -187,9 +187,9 @@ fn append_deep(text: &mut Vec<u8>, depth: u32) -> Result<(), Fail> {
 #[test]
 fn deep_types(rt: HostRuntime) -> Result<(), Fail> {
     let alloc = rt.alloc();
-    let text = deep_text(alloc, 100_000)?;
+    let text = deep_text(alloc, 10_000)?;
     let mut expected = Vec::from_slice(alloc, b"yes\nyes\n  ?x = ")?;
-    append_deep(&mut expected, 100_000)?;
+    append_deep(&mut expected, 10_000)?;
     expected.push(b'\n')?;
     let mut output = Vec::new(alloc);
     let status = run(alloc, text.as_slice(), &mut output);
