@@ -1,6 +1,6 @@
 #!/usr/bin/env bash
 # Compares the library example of README.md with the crate that it is quoted from. Then runs each program NAME.nts of this
-# folder, over one build and without proof, and compares what it prints with NAME.out; and one whose types are nested 100,000 deep.
+# folder, over one build and without proof, and compares what it prints with NAME.out; and one whose types are nested 50,000 deep.
 set -u
 here=$(cd "$(dirname "$0")" && pwd)
 quoted=$(sed -n '/^```rust$/,/^```$/p' "$here/../README.md" | sed '1d;$d')
@@ -18,14 +18,14 @@ for program in "$here"/*.nts; do
     cp "$program" "$work/$name"
     cp "${program%.nts}.out" "$work/$name.stdout"
 done
-nested() { printf 'W(%.0s' {1..100000}; printf u8; printf ')%.0s' {1..100000}; }
+nested() { printf 'W(%.0s' {1..50000}; printf u8; printf ')%.0s' {1..50000}; }
 deep=$(nested)
 {
     printf 'trait T(type)\ntype W(type)\nimpl T(?X)\ntrait Pair(type, type)\nimpl Pair(?X, ?X)\n'
     printf 'goal T(%s)\ngoal Pair(?x, %s)\n' "$deep" "$deep"
 } > "$work/deep.nts"
 printf 'yes\nyes\n  ?x = %s\n' "$deep" > "$work/deep.nts.stdout"
-if rt try --cases "$work" > "$work.log" 2>&1; then
+if rt try --seconds 600 --cases "$work" > "$work.log" 2>&1; then
     rm -f "$work.log"
     echo "examples: all print what they should"
 else

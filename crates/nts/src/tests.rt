@@ -1,7 +1,6 @@
 //! Whole runs, with their output and status.
 
-use crate::run::run;
-use crate::status::Status;
+use nts_program::{Status, run};
 use std::alloc::Global;
 use std::io::{self, ErrorKind, Read, Write};
 use std::process::Abort;

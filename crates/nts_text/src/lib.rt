@@ -13,8 +13,6 @@ mod predicates;
 mod reader;
 mod refusals;
 mod resolver;
-#[cfg(test)]
-mod tests;
 
 pub use commands::{Command, read_command};
 pub use lexer::{Token, TokenKind, skip_blanks, token_at, tokens_of};

@@ -1,0 +1,48 @@
+-- What a line does, by its command.
+use Rattle.std.proofs.Common.{◌≡◌, ℕ, true, false, List, Option, Result, Ok, Err, inr}
+use Rattle.std.specs.Prelude.{IfOk, OnOk}
+use Rattle.std.specs.Global.{Vec}
+use Rattle.nts_text.specs.Commands.{IsCommandOf}
+use Rattle.nts_text.specs.Spelled.{KeepsNumbers}
+use Rattle.nts_text.specs.declared.commands.Command.{Command}
+use Rattle.nts_text.specs.declared.commands.Command.TheVariants as commands
+use Rattle.nts_text.specs.declared.names.NameTable.{NameTable}
+use Rattle.nts_text.specs.declared.names.Scope.{Scope}
+use Rattle.nts_program.specs.declared.program.Program.{Program}
+use Rattle.nts_program.specs.Obeying.{KeepsRules, Follows, IsObeyed}
+
+-- the program once a line is read
+abbrev once_read : Program → NameTable → Scope → Program
+once_read p names scope = record p { names = names; scope = scope }
+
+module _ (old new : Program) (names : NameTable) (scope : Scope) where
+  rules_from : KeepsRules (once_read old names scope) new → KeepsRules old new
+  rules_from h = record { clauses = h.clauses; mode = h.mode }
+
+  -- names and variables of the line play no part
+  follows_from : (command : Command) (o : Option (Vec ℕ)) → Follows (once_read old names scope) new command o → Follows old new command o
+  follows_from (commands.Mode m) o h = h
+  follows_from (commands.Depth d) o h = (h.0, rules_from h.1, h.2)
+  follows_from (commands.Type n params) o h = (h.0, rules_from h.1, h.2)
+  follows_from (commands.Trait n true) o h = h
+  follows_from (commands.Trait n false) o h = (h.0, rules_from h.1, h.2)
+  follows_from (commands.Impl head body) o h = h
+  follows_from (commands.Goal nodes) o h =
+      let t = h.2 in
+      (h.0, h.1, record { answer = t.answer; says = t.says; justified = t.justified }, h.3, rules_from h.4)
+
+  pub obeyed : {E : Type 0} (line : List ℕ) (command : Command) (r : Result (Option (Vec ℕ)) E)
+      → new.names ≡ names → new.scope ≡ scope → IsCommandOf line old.names names scope command → KeepsNumbers old.scope.parameters scope.parameters
+      → IfOk r (Follows (once_read old names scope) new command) → IfOk r (IsObeyed line old new)
+  obeyed line command (Err x) same here is kept h = tt
+  obeyed line command (Ok o) same here is kept h = inr (record {
+    command = command;
+    is = rw (same, here) is;
+    parameters = rw here kept;
+    follows = follows_from command o h;
+  })
+
+-- what does not come about
+pub never : {T E A : Type 0} (B : Type 0) (r : Result T E) → (A → true ≡ false) → OnOk r (A → B)
+never B (Ok x) h = λ a. let e : true ≡ false = h a in cc
+never B (Err x) h = tt

@@ -1,0 +1,10 @@
+use Rattle.nts_table.specs.TableLaws.{IsTable-extended}
+use Rattle.nts_program.proofs.Asking.{values-run, values-extended}
+use Rattle.nts_program.proofs.answer.evaluated.Goals as goal
+
+pub evaluate_root_goal-requires-clause-table : goal.evaluate_root_goal-requires-clause-table
+evaluate_root_goal-requires-clause-table c = IsTable-extended c.in_ok-admitted.ensures.grows.extends c.requires.table
+
+pub returns-in-Ok-clause-values : goal.returns-in-Ok-clause-values
+returns-in-Ok-clause-values c =
+    values-run c.args.values.now c.in-Ok.ensures.runs (values-extended c.args.values.now c.requires.table c.in_ok-admitted.ensures.grows.extends c.requires.values)

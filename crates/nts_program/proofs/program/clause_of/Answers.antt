@@ -1,0 +1,16 @@
+use Rattle.std.proofs.Common.{refl, sym, ◌∙◌}
+use Rattle.nts_store.proofs.Growing.{Extends-trans}
+use Rattle.nts_program.proofs.Meant.{one_item}
+use Rattle.nts_program.proofs.Places.{all_placed}
+use Rattle.nts_program.proofs.Rules.{rule_of}
+use Rattle.nts_program.proofs.program.clause_of.Goals as goal
+
+pub returns-clause-rule : goal.returns-clause-rule
+returns-clause-rule c = λ us later.
+    let own = c.in_ok-see-2.ensures.own (c.in_ok-see.ensures.own c.new-variables.ensures.own) in
+    let after = Extends-trans c.in_ok-body.ensures.grows.extends later in
+    let placed = rw c.deref.ensures.value at c.in_ok-values.ensures.positions us (Extends-trans c.in_ok-heads.ensures.grows.extends after) in
+    let said = rw c.deref-2.ensures.value at c.in_ok-heads.ensures.said in
+    let conditions = rw c.deref-2.ensures.value at c.in_ok-body.ensures.conditions in
+    rule_of c.trait_refs.new.cx.nodes c.conditions.new.cx.nodes us c.see-2.new.self c.in_ok-values.values.items c.args.head.now c.args.body.now c.in_ok-heads.heads.items _ _
+    own (all_placed _ _ c.args.head.now c.in_ok-see-2.ensures.kept c.in_ok-see.ensures.placed, c.in_ok-see-2.ensures.placed) refl refl refl placed said (sym c.as_slice.ensures.value ∙ one_item c.as_slice.result.now _ c.in-len1.len_at_least c.in-len1.len_below) after conditions later

@@ -1,0 +1,57 @@
+-- Why a goal is answered as it is.
+use Rattle.std.specs.Prelude.{◌≡◌, ℕ, List, [], All}
+use Rattle.nts_model.specs.declared.labels.Variance.{Variance}
+use Rattle.nts_model.specs.Handlers.{meaning}
+use Rattle.nts_model.specs.Proving.{HasHeldProof}
+use Rattle.nts_model.specs.Trees.{Tree}
+use Rattle.nts_terms.specs.declared.handles.GenericArg.{GenericArg}
+use Rattle.nts_terms.specs.declared.handles.Goal.{Goal}
+use Rattle.nts_terms.specs.declared.modes.TypingMode.{TypingMode}
+use Rattle.nts_terms.specs.declared.modes.TypingMode.TheVariants as typing
+use Rattle.nts_store.specs.Growth.{tree_at, Extends}
+use Rattle.nts_table.specs.Tables.{Table}
+use Rattle.nts_unify.specs.Reading.{content_of}
+use Rattle.nts_delegate.specs.ClauseHandlers.{handler_of}
+use Rattle.nts_terms.specs.Modes.{mode_of}
+use Rattle.nts_delegate.specs.declared.clauses.Clauses.{Clauses}
+use Rattle.nts_text.specs.declared.parser.Mode.{Mode}
+use Rattle.nts_text.specs.declared.parser.Mode.TheVariants as modes
+use Rattle.nts_program.specs.Found.{IsFoundIn}
+use Rattle.nts_text.specs.declared.resolver.Resolved.{Resolved}
+use Rattle.nts_program.specs.Meaning.{HasOwnPlaces, HasPlace, AreVariablesFrom, IsGoalOf}
+use Rattle.nts_program.specs.declared.answer.Found.{Found}
+use Rattle.nts_program.specs.declared.answer.Answer.{Answer}
+use Rattle.nts_program.specs.declared.answer.Answer.TheVariants as answers
+
+-- the mode that a line names, with no hidden types
+abbrev pub IsTypingMode : Mode → TypingMode → Type 0
+IsTypingMode modes.Coherence typing.Coherence = Unit {0}
+IsTypingMode modes.Analysis (typing.Analysis hidden) = hidden.items ≡ []
+IsTypingMode modes.PostAnalysis typing.PostAnalysis = Unit {0}
+IsTypingMode m t = ⊥
+
+-- a goal has a ranked proof by the clauses, in the mode of a table and under its values
+pub record IsProvedGoal (ts us : List Tree) (h : Clauses) (t : Table) (g : Goal) : Type 0 where
+  pub store : List Tree
+  pub extends : Extends ts store
+  pub proved : (v : ℕ → List Variance) → HasHeldProof (meaning (handler_of store h) v) (mode_of t.mode) (content_of us t.entries) (tree_at us g.param_env.node) (tree_at us g.predicate.node)
+
+-- the goal that nodes say holds in a table, which is told of the goal's variables; it is asked in the
+-- mode of a line, of the first variables of that table, one for each variable of the line
+pub record IsHeld (m : Mode) (rs : List Resolved) (ts us : List Tree) (h : Clauses) (f : Found) : Type 0 where
+  pub store : List Tree
+  pub table : Table
+  pub goal : Goal
+  pub values : List GenericArg
+  pub own : HasOwnPlaces f.variables
+  pub placed : All (HasPlace f.variables) rs
+  pub first : AreVariablesFrom 0 store f.variables.sorts.items values
+  pub mode : IsTypingMode m table.mode
+  pub asked : IsGoalOf store f.variables values rs goal
+  pub proved : IsProvedGoal ts store h table goal
+  pub found : IsFoundIn store us (content_of store table.entries) values (answers.Yes f)
+
+-- a goal that is answered `yes` is proved
+abbrev pub IsJustifiedAnswer : Mode → List Resolved → List Tree → List Tree → Clauses → Answer → Type 0
+IsJustifiedAnswer m rs ts us h (answers.Yes f) = IsHeld m rs ts us h f
+IsJustifiedAnswer m rs ts us h a = Unit {0}

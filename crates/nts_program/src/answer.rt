@@ -1,0 +1,213 @@
+//! Asking a goal.
+ghost use Rattle.std.specs.Prelude.{◌≡◌, All, List, length, map, None, Some, IfOk, OnOk};
+ghost use Rattle.nts_model.specs.Trees.{Tree};
+ghost use Rattle.nts_store.specs.Growth.{Extends};
+ghost use Rattle.nts_unify.specs.Reading.{content_of};
+ghost use Rattle.nts_table.specs.Tables.{IsTable};
+ghost use Rattle.nts_terms.specs.Handles.{HoldsGoal};
+ghost use Rattle.nts_delegate.specs.Clauses.{AreReady};
+ghost use Rattle.nts_evaluation.specs.Evaluation.{IsAdmitted, AreOfSorts};
+ghost use Rattle.nts_certainty.specs.declared.certainty.Certainty.TheVariants as certainty;
+ghost use Rattle.nts_program.specs.Proving.{IsTypingMode, IsProvedGoal, IsJustifiedAnswer};
+ghost use Rattle.nts_program.specs.Found.{AreResolved, IsFoundIn, IsOf, IsKnownValue};
+ghost use Rattle.nts_program.specs.Meaning.{AreVariablesFrom, IsGoalFor};
+ghost use Rattle.nts_store.specs.Growth.{tree_at};
+ghost use Rattle.nts_terms.specs.Rest.{Grows};
+
+use crate::build::{MISFIT, Terms, predicate_of, trait_refs};
+use crate::status::Stop;
+use crate::variables::LineVariables;
+use next_trait_solver::clauses::Clauses;
+use next_trait_solver::resolve::eager_resolve_vars;
+use next_trait_solver::solve::{evaluate_root_goal, goal_is_admitted};
+use next_trait_solver::ty::{
+    Certainty, Constraint, Cx, EvalError, GenericArg, Goal, InferCtxt, MaybeCause, NodeId, Sort,
+    Span, TypingMode,
+};
+use nts_text::{Mode, Resolved};
+use std::alloc::{AllocError, Global};
+
+/// What a goal that holds says of its variables.
+#[derive(Drop)]
+pub struct Found {
+    /// The variables of the goal.
+    pub variables: LineVariables,
+    /// Their values, each at its variable's place.
+    pub values: Vec<GenericArg>,
+    /// What holds of regions, in the order in which it was found.
+    pub facts: Vec<Constraint>,
+}
+
+/// The answer to a goal.
+#[derive(Drop)]
+pub enum Answer {
+    Yes(Found),
+    No,
+    Ambiguity,
+    Overflow,
+}
+
+/// What a goal may know of hidden types in this mode: there are none.
+fn typing_mode(alloc: Global, mode: Mode) -> TypingMode
+    ensures { IsTypingMode mode result }
+{
+    match mode {
+        Mode::Coherence => TypingMode::Coherence,
+        Mode::Analysis => TypingMode::Analysis {
+            defining_opaque_types_and_generators: Vec::new(alloc),
+        },
+        Mode::PostAnalysis => TypingMode::PostAnalysis,
+    }
+}
+
+/// Asks a goal, with these clauses as the rules.
+#[tactic(auto, using(crate::proofs::Asking::asking))]
+pub fn ask(cx: &mut Cx, clauses: &Clauses, mode: Mode, nodes: &[Resolved]) -> Result<Answer, Stop>
+    requires ready { AreReady cx.old.nodes clauses.now }
+    ensures yes { IfOk result (IsJustifiedAnswer mode nodes.now cx.old.nodes cx.new.nodes clauses.now) }
+    ensures grows { Grows cx.old cx.new }
+{
+    let mut variables = LineVariables::new(cx.alloc);
+    variables.see(nodes)?;
+    let mut table = InferCtxt::new(cx.alloc, typing_mode(cx.alloc, mode));
+    let values = fresh_values(&mut table, cx, &variables.sorts)?;
+    let terms = Terms {
+        variables: &variables,
+        values: &values,
+    };
+    let goal = goal_of(cx, nodes, terms)?;
+    match evaluated(&mut table, cx, clauses, goal, &values)? {
+        None => Ok(Answer::No),
+        Some(Certainty::Yes) => answer_of(&table, cx, variables, &values),
+        Some(Certainty::Maybe(info)) => match info.cause {
+            MaybeCause::Ambiguity => Ok(Answer::Ambiguity),
+            MaybeCause::Overflow { .. } => Ok(Answer::Overflow),
+        },
+    }
+}
+
+/// What the table knows of the variables of a goal that holds.
+#[tactic(auto, using(crate::proofs::Asking::asking))]
+fn answer_of(
+    table: &InferCtxt,
+    cx: &mut Cx,
+    variables: LineVariables,
+    values: &[GenericArg],
+) -> Result<Answer, Stop>
+    requires table { IsTable cx.old.nodes table.now }
+    requires values { All (λ v. IsKnownValue cx.old.nodes table.now v) values.now }
+    ensures variables { IfOk result (IsOf variables) }
+    ensures found { IfOk result (IsFoundIn cx.old.nodes cx.new.nodes
+        (content_of cx.old.nodes table.now.entries) values.now) }
+    ensures grows { Grows cx.old cx.new }
+{
+    let values = resolved_values(table, cx, values)?;
+    let facts = table.make_deduplicated_region_constraints(cx)?;
+    Ok(Answer::Yes(Found {
+        variables,
+        values,
+        facts,
+    }))
+}
+
+/// New variables of these sorts.
+fn fresh_values(table: &mut InferCtxt, cx: &mut Cx, sorts: &[Sort]) -> Result<Vec<GenericArg>, Stop>
+    requires table { IsTable cx.old.nodes table.old }
+    ensures grows { Grows cx.old cx.new }
+    ensures table { IsTable cx.new.nodes table.new }
+    ensures values { IfOk result (λ vs. All (λ v. IsKnownValue cx.new.nodes table.new v) vs.items) }
+    ensures sorts { IfOk result (λ vs. AreOfSorts sorts.now (map (tree_at cx.new.nodes) (map
+        (λ v. v.node) vs.items))) }
+    ensures variables { IfOk result (λ vs. (ts : List Tree) → Extends cx.new.nodes ts →
+        AreVariablesFrom (length table.old.entries.variables) ts sorts.now vs.items) }
+    ensures mode { table.new.mode ≡ table.old.mode }
+{
+    let nodes = table.fresh_nodes(cx, sorts)?;
+    let values = arguments_of(cx.alloc, &nodes)?;
+    Ok(values)
+}
+
+/// Terms of variables, as arguments.
+fn arguments_of(alloc: Global, nodes: &[NodeId]) -> Result<Vec<GenericArg>, AllocError>
+    ensures { IfOk result (λ vs. vs.items ≡ map (λ n. record { node = n }) nodes.now) }
+{
+    nodes
+        .iter()
+        .map(|node| GenericArg { node: *node })
+        .collect(alloc)
+}
+
+/// The goal that these nodes say, in an empty environment.
+#[tactic(auto, using(crate::proofs::Asking::asking))]
+fn goal_of(cx: &mut Cx, nodes: &[Resolved], terms: Terms<'_>) -> Result<Goal, Stop>
+    ensures asks { IfOk result (IsGoalFor cx.new.nodes terms.entry.variables.now
+        terms.entry.values.now nodes.now) }
+    ensures holds { IfOk result (λ g. HoldsGoal cx.new.nodes g) }
+    ensures grows { Grows cx.old cx.new }
+{
+    let found = trait_refs(cx, nodes, terms)?;
+    let [trait_ref] = found.as_slice() else {
+        return Err(MISFIT);
+    };
+    let param_env = cx.mk_env(&[])?;
+    let predicate = predicate_of(cx, *trait_ref)?;
+    Ok(Goal {
+        param_env,
+        predicate,
+    })
+}
+
+/// How sure it is that a goal holds, or `None` if it has no solution. The table then still knows
+/// the goal's variables.
+#[tactic(auto, using(crate::proofs::Asking::asking))]
+fn evaluated(
+    table: &mut InferCtxt,
+    cx: &mut Cx,
+    clauses: &Clauses,
+    goal: Goal,
+    values: &[GenericArg],
+) -> Result<Option<Certainty>, Stop>
+    requires table { IsTable cx.old.nodes table.old }
+    requires ready { AreReady cx.old.nodes clauses.now }
+    requires holds { HoldsGoal cx.old.nodes goal }
+    requires values { All (λ v. IsKnownValue cx.old.nodes table.old v) values.now }
+    ensures grows { Grows cx.old cx.new }
+    ensures table { OnOk result (IsTable cx.new.nodes table.new) }
+    ensures values { OnOk result (All (λ v. IsKnownValue cx.new.nodes table.new v) values.now) }
+    ensures admitted { IfOk result (λ _. IsAdmitted cx.old.nodes table.old goal) }
+    ensures proved { IfOk result (λ o. o ≡ Some certainty.Yes →
+        IsProvedGoal cx.old.nodes cx.new.nodes clauses.now table.new goal) }
+    ensures none { IfOk result (λ o. o ≡ None → table.new ≡ table.old) }
+    ensures mode { OnOk result (table.new.mode ≡ table.old.mode) }
+{
+    let _ = values.len();
+    let admitted = goal_is_admitted(table, cx, goal)?;
+    if !admitted {
+        return Err(MISFIT);
+    }
+    match evaluate_root_goal(table, cx, clauses, goal, Span(0), None) {
+        Ok(evaluation) => Ok(Some(evaluation.certainty)),
+        Err(EvalError::NoSolution) => Ok(None),
+        Err(EvalError::Memory | EvalError::Full) => Err(Stop::Memory),
+    }
+}
+
+/// The values with each variable replaced by what the table knows of it.
+#[tactic(auto, using(crate::proofs::Asking::asking))]
+fn resolved_values(
+    table: &InferCtxt,
+    cx: &mut Cx,
+    values: &[GenericArg],
+) -> Result<Vec<GenericArg>, Stop>
+    requires table { IsTable cx.old.nodes table.now }
+    requires values { All (λ v. IsKnownValue cx.old.nodes table.now v) values.now }
+    ensures resolved { IfOk result (λ vs. AreResolved cx.old.nodes cx.new.nodes
+        (content_of cx.old.nodes table.now.entries) values.now vs.items) }
+    ensures grows { Grows cx.old cx.new }
+{
+    let mut found = Vec::new(cx.alloc);
+    for value in values {
+        found.push(eager_resolve_vars(table, cx, *value)?)?;
+    }
+    Ok(found)
+}

@@ -1,0 +1,240 @@
+//! The state of a run, and what each command does to it.
+ghost use Rattle.std.specs.Prelude.{◌≡◌, true, false, length, map, IsNone, IfOk, OnOk, OnErr};
+ghost use Rattle.nts_store.specs.Growth.{Extends};
+ghost use Rattle.nts_delegate.specs.Adding.{AddsClause, MakesCoinductive};
+ghost use Rattle.nts_delegate.specs.Clauses.{AreReady};
+ghost use Rattle.nts_delegate.specs.declared.clauses.Clause.{Clause};
+ghost use Rattle.nts_text.specs.Lines.{IsPassedOver};
+ghost use Rattle.nts_text.specs.Resolution.{trait_sorts};
+ghost use Rattle.nts_program.specs.Meaning.{AreConditions, IsRuleOf, IsRuleFor};
+ghost use Rattle.nts_program.specs.Obeying.{IsNewProgram, DeclaresType, DeclaresTrait, Follows, KeepsRules, IsTold, IsObeyed, IsInStep};
+ghost use Rattle.nts_terms.specs.Rest.{Grows};
+
+use crate::answer::ask;
+use crate::build::{MISFIT, Terms, positions, predicate_of, trait_refs};
+use crate::printer::text_of;
+use crate::status::Stop;
+use crate::variables::LineVariables;
+use next_trait_solver::clauses::{Clause, Clauses};
+use next_trait_solver::ty::{Cx, Predicate, Sort, Variance};
+use nts_text::{Command, Mode, NameTable, Param, Resolved, Scope, read_command};
+use std::alloc::{AllocError, Global};
+
+/// What the lines of a run have said so far.
+#[derive(Drop)]
+pub struct Program {
+    pub alloc: Global,
+    /// The terms, what is declared, and the depth.
+    pub cx: Cx,
+    pub clauses: Clauses,
+    /// The names that are declared.
+    pub names: NameTable,
+    /// The variables of the last line, and the parameters of all.
+    pub scope: Scope,
+    pub mode: Mode,
+}
+
+impl Program {
+    /// Nothing said. It takes no memory.
+    pub fn new(alloc: Global) -> Self
+        ensures ready { AreReady result.cx.nodes result.clauses }
+        ensures new { IsNewProgram result }
+        ensures step { IsInStep result }
+    {
+        Program {
+            alloc,
+            cx: Cx::new(alloc),
+            clauses: Clauses::new(alloc),
+            names: NameTable::new(alloc),
+            scope: Scope::new(alloc),
+            mode: Mode::Analysis,
+        }
+    }
+
+    /// Does what a line says. The result is the text of its answer, if it asks for one.
+    pub fn obey(&mut self, line: &[u8]) -> Result<Option<Vec<u8>>, Stop>
+        requires ready { AreReady self.old.cx.nodes self.old.clauses }
+        ensures ready { OnOk result (AreReady self.new.cx.nodes self.new.clauses) }
+        ensures passed { IfOk result (λ o. IsPassedOver line.now → IsNone o) }
+        ensures refused { OnErr result (IsPassedOver line.now → ⊥) }
+        ensures obeyed { IfOk result (IsObeyed line.now self.old self.new) }
+        ensures step { OnOk result (IsInStep self.old → IsInStep self.new) }
+    {
+        match read_command(self.alloc, line, &mut self.names, &mut self.scope)? {
+            Some(command) => self.follow(command),
+            None => Ok(None),
+        }
+    }
+
+    /// Does what a command says, likewise.
+    fn follow(&mut self, command: Command) -> Result<Option<Vec<u8>>, Stop>
+        requires ready { AreReady self.old.cx.nodes self.old.clauses }
+        ensures ready { OnOk result (AreReady self.new.cx.nodes self.new.clauses) }
+        ensures names { self.new.names ≡ self.old.names }
+        ensures scope { self.new.scope ≡ self.old.scope }
+        ensures follows { IfOk result (Follows self.old self.new command) }
+    {
+        match command {
+            Command::Mode(mode) => {
+                self.mode = mode;
+                Ok(None)
+            }
+            Command::Depth(depth) => {
+                self.cx.set_recursion_limit(usize::from(depth));
+                Ok(None)
+            }
+            Command::Type { params, .. } => {
+                self.declare_type(&params)?;
+                Ok(None)
+            }
+            Command::Trait {
+                number,
+                coinductive,
+            } => {
+                self.declare_trait(number, coinductive)?;
+                Ok(None)
+            }
+            Command::Impl { head, body } => {
+                self.add_impl(&head, &body)?;
+                Ok(None)
+            }
+            Command::Goal(nodes) => {
+                let text = self.answer(&nodes)?;
+                Ok(Some(text))
+            }
+        }
+    }
+
+    fn declare_type(&mut self, params: &[Param]) -> Result<(), Stop>
+        requires ready { AreReady self.old.cx.nodes self.old.clauses }
+        ensures ready { OnOk result (AreReady self.new.cx.nodes self.new.clauses) }
+        ensures declared { OnOk result (DeclaresType params.now self.old.cx self.new.cx) }
+        ensures rules { KeepsRules self.old self.new }
+        ensures names { self.new.names ≡ self.old.names }
+        ensures scope { self.new.scope ≡ self.old.scope }
+    {
+        let sorts = sorts_of(self.alloc, params)?;
+        let variances = variances_of(self.alloc, params)?;
+        self.cx.declare_ctor(&sorts, &variances)?;
+        Ok(())
+    }
+
+    #[tactic(auto, using(crate::proofs::Asking::keeping))]
+    fn declare_trait(&mut self, number: usize, coinductive: bool) -> Result<(), Stop>
+        requires ready { AreReady self.old.cx.nodes self.old.clauses }
+        ensures ready { OnOk result (AreReady self.new.cx.nodes self.new.clauses) }
+        ensures declared { OnOk result (DeclaresTrait (trait_sorts self.old.names number) self.old.cx self.new.cx) }
+        ensures coinductive { OnOk result (coinductive ≡ true →
+            MakesCoinductive self.old.clauses self.new.clauses
+            (length self.old.cx.declarations.traits)) }
+        ensures inductive { OnOk result (coinductive ≡ false →
+            self.new.clauses ≡ self.old.clauses) }
+        ensures mode { self.new.mode ≡ self.old.mode }
+        ensures names { self.new.names ≡ self.old.names }
+        ensures scope { self.new.scope ≡ self.old.scope }
+    {
+        let names = &self.names;
+        let Some(signature) = names.traits.get(number) else {
+            return Err(MISFIT);
+        };
+        let id = self.cx.declare_trait(&signature.sorts)?;
+        if coinductive {
+            self.clauses.set_coinductive(id)?;
+        }
+        Ok(())
+    }
+
+    #[tactic(auto, using(crate::proofs::Asking::keeping))]
+    fn add_impl(&mut self, head: &[Resolved], body: &[Resolved]) -> Result<(), Stop>
+        requires ready { AreReady self.old.cx.nodes self.old.clauses }
+        ensures ready { OnOk result (AreReady self.new.cx.nodes self.new.clauses) }
+        ensures added { OnOk result ((c : Clause) × AddsClause self.old.clauses self.new.clauses c
+            × IsRuleOf self.new.cx.nodes head.now body.now c) }
+        ensures grows { OnOk result (Grows self.old.cx self.new.cx) }
+        ensures mode { self.new.mode ≡ self.old.mode }
+        ensures names { self.new.names ≡ self.old.names }
+        ensures scope { self.new.scope ≡ self.old.scope }
+    {
+        let clause = clause_of(&mut self.cx, head, body)?;
+        if !Clauses::clause_fits(&self.cx, &clause)? {
+            return Err(MISFIT);
+        }
+        self.clauses.add_clause(clause)?;
+        Ok(())
+    }
+
+    #[tactic(auto, using(crate::proofs::Asking::keeping))]
+    fn answer(&mut self, nodes: &[Resolved]) -> Result<Vec<u8>, Stop>
+        requires ready { AreReady self.old.cx.nodes self.old.clauses }
+        ensures ready { OnOk result (AreReady self.new.cx.nodes self.new.clauses) }
+        ensures told { IfOk result (λ text. IsTold self.old self.new nodes.now text.items) }
+        ensures grows { OnOk result (Grows self.old.cx self.new.cx) }
+        ensures rules { KeepsRules self.old self.new }
+        ensures names { self.new.names ≡ self.old.names }
+        ensures scope { self.new.scope ≡ self.old.scope }
+    {
+        let answer = ask(&mut self.cx, &self.clauses, self.mode, nodes)?;
+        let text = text_of(
+            self.alloc,
+            &self.cx.nodes,
+            &self.names,
+            &self.scope,
+            &answer,
+        )?;
+        Ok(text)
+    }
+}
+
+fn sorts_of(alloc: Global, params: &[Param]) -> Result<Vec<Sort>, AllocError>
+    ensures { IfOk result (λ v. v.items ≡ map (λ p. p.sort) params.now) }
+{
+    params.iter().map(|param| param.sort).collect(alloc)
+}
+
+fn variances_of(alloc: Global, params: &[Param]) -> Result<Vec<Variance>, AllocError>
+    ensures { IfOk result (λ v. v.items ≡ map (λ p. p.variance) params.now) }
+{
+    params.iter().map(|param| param.variance).collect(alloc)
+}
+
+/// The rule that a line says: its head holds where its body does.
+#[tactic(auto, using(crate::proofs::Asking::growing))]
+fn clause_of(cx: &mut Cx, head: &[Resolved], body: &[Resolved]) -> Result<Clause, Stop>
+    ensures rule { IfOk result (IsRuleFor cx.new.nodes head.now body.now) }
+    ensures grows { Grows cx.old cx.new }
+{
+    let mut variables = LineVariables::new(cx.alloc);
+    variables.see(head)?;
+    variables.see(body)?;
+    let values = positions(cx, &variables.sorts)?;
+    let terms = Terms {
+        variables: &variables,
+        values: &values,
+    };
+    let heads = trait_refs(cx, head, terms)?;
+    let [head] = heads.as_slice() else {
+        return Err(MISFIT);
+    };
+    let body = conditions(cx, body, terms)?;
+    Ok(Clause {
+        fresh: variables.sorts,
+        trait_id: head.def_id,
+        head: head.args,
+        body,
+    })
+}
+
+/// The predicates that these nodes say.
+#[tactic(auto, using(crate::proofs::Asking::growing))]
+fn conditions(cx: &mut Cx, body: &[Resolved], terms: Terms<'_>) -> Result<Vec<Predicate>, Stop>
+    ensures conditions { IfOk result (λ ps. AreConditions cx.new.nodes terms.entry.variables.now
+        terms.entry.values.now body.now ps.items) }
+    ensures grows { Grows cx.old cx.new }
+{
+    let traits = trait_refs(cx, body, terms)?;
+    let mut predicates = Vec::new(cx.alloc);
+    for trait_ref in &traits {
+        predicates.push(predicate_of(cx, *trait_ref)?)?;
+    }
+    Ok(predicates)
+}

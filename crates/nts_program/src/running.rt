@@ -1,0 +1,98 @@
+//! A run over all lines of an input.
+ghost use Rattle.std.specs.Prelude.{◌≡◌, OnOk, IfErr};
+ghost use Rattle.nts_delegate.specs.Clauses.{AreReady};
+ghost use Rattle.nts_text.specs.Lines.{IsPassedOver};
+ghost use Rattle.nts_program.specs.Growing.{Begins, IsTold};
+ghost use Rattle.nts_program.specs.Running.{IsAnsweredLine, AnswersAll, StopsAtRefusal};
+ghost use Rattle.nts_program.specs.Statuses.{status_of};
+ghost use Rattle.nts_program.specs.declared.status.Status.TheVariants.{Done, Refused};
+
+use crate::output::{put, put_refusal};
+use crate::program::Program;
+use crate::status::{Status, Stop};
+use nts_text::next_line;
+use std::alloc::Global;
+use std::io::{BufRead, BufReader, Read, Write};
+
+/// Handles the lines of the input in order, and writes the answers. Whatever happens, what was
+/// written before stays.
+#[tactic(auto, using(crate::proofs::Growths::writes))]
+pub fn run<R: Read + Drop, W: Write>(alloc: Global, input: R, output: &mut W) -> Status
+    ensures done { result ≡ Done → AnswersAll (R.remaining input) (W.contents output.old)
+        (W.contents output.new) }
+    ensures refused { result ≡ Refused → StopsAtRefusal (R.remaining input) (W.contents output.old)
+        (W.contents output.new) }
+    ensures begins { Begins (W.contents output.old) (W.contents output.new) }
+{
+    let status = match run_input(alloc, input, output) {
+        Ok(()) => Status::Done,
+        Err(stop) => stop.status(),
+    };
+    match output.flush() {
+        Ok(()) => status,
+        Err(_) => Status::Failed,
+    }
+}
+
+#[tactic(auto, using(crate::proofs::Growths::writes))]
+fn run_input<R: Read + Drop, W: Write>(alloc: Global, input: R, output: &mut W) -> Result<(), Stop>
+    ensures done { OnOk result (AnswersAll (R.remaining input) (W.contents output.old)
+        (W.contents output.new)) }
+    ensures refused { IfErr result (λ s. status_of s ≡ Refused →
+        StopsAtRefusal (R.remaining input) (W.contents output.old) (W.contents output.new)) }
+    ensures begins { Begins (W.contents output.old) (W.contents output.new) }
+{
+    let mut reader = BufReader::new(alloc, input)?;
+    run_lines(alloc, &mut reader, output)
+}
+
+#[tactic(auto, using(crate::proofs::Growths::writes))]
+fn run_lines<R: BufRead, W: Write>(
+    alloc: Global,
+    reader: &mut R,
+    output: &mut W,
+) -> Result<(), Stop>
+    ensures done { OnOk result (AnswersAll (R.remaining reader.old) (W.contents output.old)
+        (W.contents output.new)) }
+    ensures refused { IfErr result (λ s. status_of s ≡ Refused →
+        StopsAtRefusal (R.remaining reader.old) (W.contents output.old) (W.contents output.new)) }
+    ensures begins { Begins (W.contents output.old) (W.contents output.new) }
+{
+    let mut program = Program::new(alloc);
+    let mut line = Vec::new(alloc);
+    'lines: for number in 1..u64::MAX {
+        if !next_line(reader, &mut line)? {
+            return Ok(());
+        }
+        handle_line(&mut program, &line, number, output)?;
+    }
+    Err(Stop::Failed)
+}
+
+/// Does what a line says, and writes its answer or why it is refused.
+#[tactic(auto, using(crate::proofs::Growths::writes))]
+fn handle_line<W: Write>(
+    program: &mut Program,
+    line: &[u8],
+    number: u64,
+    output: &mut W,
+) -> Result<(), Stop>
+    requires ready { AreReady program.old.cx.nodes program.old.clauses }
+    ensures ready { OnOk result (AreReady program.new.cx.nodes program.new.clauses) }
+    ensures answered { OnOk result (IsAnsweredLine line.now program.old program.new
+        (W.contents output.old) (W.contents output.new)) }
+    ensures refused { IfErr result (λ s. status_of s ≡ Refused → IsPassedOver line.now → ⊥) }
+    ensures told { IfErr result (IsTold (W.contents output.old) (W.contents output.new) number) }
+    ensures begins { Begins (W.contents output.old) (W.contents output.new) }
+    ensures passed { OnOk result (IsPassedOver line.now → output.new ≡ output.old) }
+{
+    match program.obey(line) {
+        Ok(Some(text)) => put(output, &text),
+        Ok(None) => Ok(()),
+        Err(Stop::Refused(refusal)) => {
+            put_refusal(program.alloc, output, number, refusal)?;
+            Err(Stop::Refused(refusal))
+        }
+        Err(stop) => Err(stop),
+    }
+}

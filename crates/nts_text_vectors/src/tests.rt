@@ -1,0 +1,318 @@
+//! Whole lines, and their refusals.
+
+use nts_model::{Sort, UintTy, Variance};
+use nts_text::*;
+use std::alloc::Global;
+use std::process::Abort;
+use std::test::Fail;
+
+/// The first line that is refused, and why, or `None` if all are taken.
+fn refusal_of(alloc: Global, text: &[u8]) -> Result<Option<(usize, Refusal)>, Fail> {
+    let mut reader = text;
+    let mut line = Vec::new(alloc);
+    let mut names = NameTable::new(alloc);
+    let mut scope = Scope::new(alloc);
+    for number in 1..1000usize {
+        if !next_line(&mut reader, &mut line)? {
+            break;
+        }
+        match read_command(alloc, &line, &mut names, &mut scope) {
+            Ok(_) => {}
+            Err(TextError::Refused(refusal)) => return Ok(Some((number, refusal))),
+            Err(TextError::Memory) => return Err(Fail::from("out of memory")),
+        }
+    }
+    Ok(None)
+}
+
+/// Sees that each of these lines is refused for that reason, as the line of that number, behind the text before it.
+fn refuse(
+    rt: &impl Abort,
+    alloc: Global,
+    before: &[u8],
+    number: usize,
+    refusal: Refusal,
+    lines: &[u8],
+) -> Result<(), Fail> {
+    let mut reader = lines;
+    let mut line = Vec::new(alloc);
+    for _ in 0..1000usize {
+        if !next_line(&mut reader, &mut line)? {
+            break;
+        }
+        let mut text = Vec::from_slice(alloc, before)?;
+        text.extend_from_slice(&line)?;
+        assert!(rt;
+            refusal_of(alloc, &text)? == Some((number, refusal)),
+            "in {text:?}"
+        );
+    }
+    Ok(())
+}
+
+#[test]
+fn refuses_commands(rt: HostRuntime) -> Result<(), Fail> {
+    let lines = b"gaol x\ngaol \x80\n\x80\n # x\nfor<a> T(a)\nalias A";
+    refuse(&rt, rt.alloc(), b"", 1, Refusal::UnknownCommand, lines)?;
+    let before = b"\n\n# note\n\t \n";
+    refuse(
+        &rt,
+        rt.alloc(),
+        before,
+        5,
+        Refusal::UnknownCommand,
+        b"goals",
+    )
+}
+
+#[test]
+fn refuses_syntax(rt: HostRuntime) -> Result<(), Fail> {
+    let lines = b"goal\ntype X\x80\ntype\x80\ntype X # note\ntype X\rY\ntype X()\ntype X(+type)\n\
+        type X(type,)\ntype ?X\ntrait T\ntrait T(-type)\ntrait T(type) inductive\nmode erased\n\
+        depth 65536 x\ndepth -1\ngoal Clone(\ngoal Clone\ngoal Clone(u8))\ngoal Clone(u8 u8)\n\
+        goal Clone(?x(u8))\ngoal Clone(u8), Clone(u8)\ngoal Clone(? x)\ngoal u8: 'a\ngoal?x: 'a\n\
+        goal for<a> Clone(a)\nimpl T(u8) <-\nimpl T(u8), T(u8)\nimpl T(u8) <- T(u8) <- T(u8)";
+    refuse(&rt, rt.alloc(), b"", 1, Refusal::Syntax, lines)
+}
+
+#[test]
+fn refuses_numbers(rt: HostRuntime) -> Result<(), Fail> {
+    let lines = b"depth 65536\ndepth 99999999999999999999";
+    refuse(&rt, rt.alloc(), b"", 1, Refusal::NumberOutOfRange, lines)
+}
+
+#[test]
+fn refuses_names(rt: HostRuntime) -> Result<(), Fail> {
+    let alloc = rt.alloc();
+    let types = b"trait A(type)\n";
+    let regions = b"trait A(region)\n";
+    refuse(&rt, alloc, b"", 1, Refusal::UnknownName, b"goal Clone(u32)")?;
+    refuse(&rt, alloc, regions, 2, Refusal::UnknownName, b"goal A(Zzz)")?;
+    refuse(
+        &rt,
+        alloc,
+        types,
+        2,
+        Refusal::UnknownName,
+        b"goal A(Zzz(u8(u8)))",
+    )?;
+    refuse(&rt, alloc, types, 2, Refusal::NameDeclaredTwice, b"type A")?;
+    refuse(&rt, alloc, b"", 1, Refusal::NameDeclaredTwice, b"type u8")
+}
+
+#[test]
+fn refuses_arguments(rt: HostRuntime) -> Result<(), Fail> {
+    let alloc = rt.alloc();
+    let types = b"trait A(type)\n";
+    let regions = b"trait A(region)\n";
+    let lines = b"goal A(u8, u8)\ngoal A(u8, Zzz)\ngoal A(u8(u8))\ngoal A(A)\ngoal A('a)";
+    refuse(&rt, alloc, types, 2, Refusal::WrongArguments, lines)?;
+    let lines = b"goal A(u8)\nimpl A(!B)";
+    refuse(&rt, alloc, regions, 2, Refusal::WrongArguments, lines)?;
+    refuse(&rt, alloc, b"", 1, Refusal::WrongArguments, b"goal u8(u8)")?;
+    let lines = b"impl A(!B)\nimpl A(u8) <- A(!B), B(u8)";
+    refuse(&rt, alloc, types, 2, Refusal::ParameterInAClause, lines)?;
+    refuse(
+        &rt,
+        alloc,
+        regions,
+        2,
+        Refusal::ParameterInAClause,
+        b"impl A('b)",
+    )
+}
+
+#[test]
+fn takes(rt: HostRuntime) -> Result<(), Fail> {
+    let text = b"# note\r\n\n \t\nmode coherence\nmode postanalysis\r\n\tdepth 0000000000065535\n\
+        type type\ntype for\ntype Ref ( region , type )\ntype Fn(-type, =type, type)\n\
+        trait coinductive(type)coinductive\ntrait S(region)\n\
+        impl coinductive(Ref('static, ?x))<-coinductive(?x),S('?r)\n\
+        goal coinductive(Fn(type, for, Ref('a, !A)))";
+    assert!(rt; refusal_of(rt.alloc(), text)?.is_none());
+    Ok(())
+}
+
+/// The nodes of the predicate of a line that asks a goal, behind the lines of these declarations.
+fn goal_nodes(alloc: Global, before: &[u8], line: &[u8]) -> Result<Vec<Resolved>, Fail> {
+    let mut names = NameTable::new(alloc);
+    let mut scope = Scope::new(alloc);
+    let mut reader = before;
+    let mut declaration = Vec::new(alloc);
+    for _ in 0..1000usize {
+        if !next_line(&mut reader, &mut declaration)? {
+            break;
+        }
+        read_command(alloc, &declaration, &mut names, &mut scope)?;
+    }
+    match read_command(alloc, line, &mut names, &mut scope)? {
+        Some(Command::Goal(nodes)) => Ok(nodes),
+        _ => Err(Fail::from("no goal")),
+    }
+}
+
+/// A type constructor, by its number and how many arguments it takes.
+fn ctor(number: usize, arguments: usize) -> Resolved {
+    Resolved::Ctor { number, arguments }
+}
+
+#[test]
+fn numbers_names(rt: HostRuntime) -> Result<(), Fail> {
+    let before = b"trait S(type)\ntype V(type)\ntype Ref(region, type)\ntrait T(type, type)";
+    let line = b"goal T(Ref('?r, V(?y)), Ref('?r, V(!B)))";
+    let nodes = goal_nodes(rt.alloc(), before, line)?;
+    let head = Resolved::Trait {
+        number: 1,
+        arguments: 2,
+    };
+    let first = [head, ctor(1, 2), Resolved::RegionVariable(0), ctor(0, 1)];
+    let second = [
+        Resolved::TypeVariable(0),
+        ctor(1, 2),
+        Resolved::RegionVariable(0),
+    ];
+    let third = [ctor(0, 1), Resolved::TypeParam(0)];
+    assert!(rt; nodes.get(..4) == Some(first.as_slice()));
+    assert!(rt; nodes.get(4..7) == Some(second.as_slice()));
+    assert!(rt; nodes.get(7..) == Some(third.as_slice()));
+    Ok(())
+}
+
+#[test]
+fn nests_deeply(rt: HostRuntime) -> Result<(), Fail> {
+    let alloc = rt.alloc();
+    let mut names = NameTable::new(alloc);
+    let mut scope = Scope::new(alloc);
+    read_command(alloc, b"trait T(type)", &mut names, &mut scope)?;
+    read_command(alloc, b"type V(type)", &mut names, &mut scope)?;
+    let mut line = Vec::from_slice(alloc, b"goal T(")?;
+    for _ in 0..100_000 {
+        line.extend_from_slice(b"V(")?;
+    }
+    line.extend_from_slice(b"u8")?;
+    for _ in 0..100_001 {
+        line.push(b')')?;
+    }
+    let Some(Command::Goal(nodes)) = read_command(alloc, &line, &mut names, &mut scope)? else {
+        return Err(Fail::from("no goal"));
+    };
+    assert_eq!(rt; nodes.len(), 100_002);
+    assert!(rt; nodes.last() == Some(&Resolved::Uint(UintTy::U8)));
+    Ok(())
+}
+
+#[test]
+fn ends_lines(rt: HostRuntime) -> Result<(), Fail> {
+    let mut reader = b"one\r\n\r\r\n\ntwo\r".as_slice();
+    let mut line = Vec::new(rt.alloc());
+    for want in [b"one".as_slice(), b"\r", b"", b"two"] {
+        assert!(rt; next_line(&mut reader, &mut line)?);
+        assert!(rt; line.as_slice() == want);
+    }
+    assert!(rt; !next_line(&mut reader, &mut line)?);
+    Ok(())
+}
+
+#[test]
+fn shows_refusals(rt: HostRuntime) -> Result<(), Fail> {
+    for (refusal, words) in [
+        (Refusal::UnknownCommand, "unknown command"),
+        (Refusal::Syntax, "syntax"),
+        (Refusal::NumberOutOfRange, "number out of range"),
+        (Refusal::UnknownName, "unknown name"),
+        (Refusal::NameDeclaredTwice, "name declared twice"),
+        (Refusal::WrongArguments, "wrong arguments"),
+        (Refusal::ParameterInAClause, "parameter in a clause"),
+    ] {
+        let shown = format!(in rt.alloc(); "{refusal}")?;
+        assert_eq!(rt; shown.as_str(), words);
+    }
+    Ok(())
+}
+
+/// What a line that declares a type makes of it.
+fn type_of(alloc: Global, line: &[u8], names: &mut NameTable) -> Result<(usize, Vec<Param>), Fail> {
+    let mut scope = Scope::new(alloc);
+    match read_command(alloc, line, names, &mut scope)? {
+        Some(Command::Type { number, params }) => Ok((number, params)),
+        _ => Err(Fail::from("no type")),
+    }
+}
+
+/// What a line that declares a trait makes of it: its number, and whether it is coinductive.
+fn trait_of(alloc: Global, line: &[u8], names: &mut NameTable) -> Result<(usize, bool), Fail> {
+    let mut scope = Scope::new(alloc);
+    match read_command(alloc, line, names, &mut scope)? {
+        Some(
+            Command::Trait {
+                number,
+                coinductive,
+            },
+        ) => Ok((number, coinductive)),
+        _ => Err(Fail::from("no trait")),
+    }
+}
+
+#[test]
+fn numbers_types(rt: HostRuntime) -> Result<(), Fail> {
+    let alloc = rt.alloc();
+    let mut names = NameTable::new(alloc);
+    let (first, params) = type_of(alloc, b"type Fn(-type, =region)", &mut names)?;
+    let want = [
+        Param {
+            sort: Sort::Ty,
+            variance: Variance::Contravariant,
+        },
+        Param {
+            sort: Sort::Region,
+            variance: Variance::Invariant,
+        },
+    ];
+    assert_eq!(rt; first, 0);
+    assert!(rt; params.as_slice() == want.as_slice());
+    let (second, params) = type_of(alloc, b"type Leaf", &mut names)?;
+    assert_eq!(rt; second, 1);
+    assert!(rt; params.is_empty());
+    Ok(())
+}
+
+#[test]
+fn lists_types(rt: HostRuntime) -> Result<(), Fail> {
+    let alloc = rt.alloc();
+    let mut names = NameTable::new(alloc);
+    type_of(alloc, b"type Fn(-type, =region, type)", &mut names)?;
+    let Some(function) = names.types.first() else {
+        return Err(Fail::from("no type is listed"));
+    };
+    assert!(rt; function.name.as_slice() == b"Fn".as_slice());
+    assert!(rt; function.sorts.as_slice() == [Sort::Ty, Sort::Region, Sort::Ty].as_slice());
+    Ok(())
+}
+
+#[test]
+fn numbers_traits(rt: HostRuntime) -> Result<(), Fail> {
+    let alloc = rt.alloc();
+    let mut names = NameTable::new(alloc);
+    let (first, coinductive) = trait_of(alloc, b"trait S(type, region)", &mut names)?;
+    assert_eq!(rt; first, 0);
+    assert!(rt; !coinductive);
+    let (second, coinductive) = trait_of(alloc, b"trait T(region) coinductive", &mut names)?;
+    assert_eq!(rt; second, 1);
+    assert!(rt; coinductive);
+    Ok(())
+}
+
+#[test]
+fn lists_traits(rt: HostRuntime) -> Result<(), Fail> {
+    let alloc = rt.alloc();
+    let mut names = NameTable::new(alloc);
+    trait_of(alloc, b"trait S(type, region)", &mut names)?;
+    trait_of(alloc, b"trait T(region) coinductive", &mut names)?;
+    let [first, second] = names.traits.as_slice() else {
+        return Err(Fail::from("not two traits are listed"));
+    };
+    assert!(rt; first.name.as_slice() == b"S".as_slice());
+    assert!(rt; first.sorts.as_slice() == [Sort::Ty, Sort::Region].as_slice());
+    assert!(rt; second.name.as_slice() == b"T".as_slice());
+    Ok(())
+}
