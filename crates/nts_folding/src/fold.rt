@@ -42,12 +42,16 @@ pub trait TypeFolder {
     /// The errors that may end a walk.
     ghost fails: { Self.Error → Type 0 };
 
+    /// What a folder keeps of itself, whether a hook answers or fails.
+    ghost keeps: { Self → Self → Type 0 };
+
     /// What stands for a type, or `None` to fold its children.
     fn fold_ty(&mut self, cx: &mut Cx, t: Ty) -> Result<Option<Ty>, Self::Error>
         requires holds { HoldsTy cx.old.nodes t }
         requires ready { ready cx.old.nodes self.old }
         ensures grows { Grows cx.old cx.new }
         ensures ready { ready cx.new.nodes self.new }
+        ensures keeps { keeps self.old self.new }
         ensures holds { IfOk result (λ o. IfSome o (HoldsTy cx.new.nodes)) }
         ensures answers { IfOk result (λ o. answers (meaning cx.old.nodes self.old) (tree_at cx.old.nodes t.node) (option_map (λ r. tree_at cx.new.nodes r.node) o) (meaning cx.new.nodes self.new)) }
         ensures err { IfErr result fails };
@@ -58,6 +62,7 @@ pub trait TypeFolder {
         requires ready { ready cx.old.nodes self.old }
         ensures grows { Grows cx.old cx.new }
         ensures ready { ready cx.new.nodes self.new }
+        ensures keeps { keeps self.old self.new }
         ensures holds { IfOk result (λ o. IfSome o (HoldsRegion cx.new.nodes)) }
         ensures answers { IfOk result (λ o. answers (meaning cx.old.nodes self.old) (tree_at cx.old.nodes t.node) (option_map (λ r. tree_at cx.new.nodes r.node) o) (meaning cx.new.nodes self.new)) }
         ensures err { IfErr result fails };
@@ -68,6 +73,7 @@ pub trait TypeFolder {
         requires ready { ready cx.old.nodes self.old }
         ensures grows { Grows cx.old cx.new }
         ensures ready { ready cx.new.nodes self.new }
+        ensures keeps { keeps self.old self.new }
         ensures holds { IfOk result (λ o. IfSome o (HoldsConst cx.new.nodes)) }
         ensures answers { IfOk result (λ o. answers (meaning cx.old.nodes self.old) (tree_at cx.old.nodes t.node) (option_map (λ r. tree_at cx.new.nodes r.node) o) (meaning cx.new.nodes self.new)) }
         ensures err { IfErr result fails };
@@ -82,6 +88,7 @@ pub trait TypeFolder {
         requires ready { ready cx.old.nodes self.old }
         ensures grows { Grows cx.old cx.new }
         ensures ready { ready cx.new.nodes self.new }
+        ensures keeps { keeps self.old self.new }
         ensures holds { IfOk result (λ o. IfSome o (HoldsPredicate cx.new.nodes)) }
         ensures answers { IfOk result (λ o. answers (meaning cx.old.nodes self.old) (tree_at cx.old.nodes t.node) (option_map (λ r. tree_at cx.new.nodes r.node) o) (meaning cx.new.nodes self.new)) }
         ensures err { IfErr result fails };
@@ -89,12 +96,14 @@ pub trait TypeFolder {
     /// Called before the children of a binder are folded.
     fn enter_binder(&mut self) -> Result<(), Self::Error>
         ensures ready { (ts : List Tree) → ready ts self.old → ready ts self.new }
+        ensures keeps { keeps self.old self.new }
         ensures enters { OnOk result ((ts : List Tree) → ready ts self.old → enters (meaning ts self.old) (meaning ts self.new)) }
         ensures err { IfErr result fails };
 
     /// Called after they were folded.
     fn leave_binder(&mut self)
         ensures ready { (ts : List Tree) → ready ts self.old → ready ts self.new }
+        ensures keeps { keeps self.old self.new }
         ensures leaves { (ts : List Tree) → ready ts self.old → leaves (meaning ts self.old) (meaning ts self.new) };
 
     /// What stands for a type or const that was made again, after its children were folded.
@@ -103,10 +112,15 @@ pub trait TypeFolder {
         requires ready { ready cx.old.nodes self.old }
         ensures grows { Grows cx.old cx.new }
         ensures ready { ready cx.new.nodes self.new }
+        ensures keeps { keeps self.old self.new }
         ensures within { IfOk result (λ r. IsIn cx.new.nodes r.node) }
         ensures kind { IfOk result (λ r. kind_of (tree_at cx.new.nodes r.node) ≡ kind_of (tree_at cx.old.nodes t.node)) }
         ensures rebuilds { IfOk result (λ r. rebuilds (meaning cx.old.nodes self.old) (tree_at cx.old.nodes t.node) (tree_at cx.new.nodes r.node) (meaning cx.new.nodes self.new)) }
         ensures err { IfErr result fails };
+
+    ghost keeps_refl: { (s : Self) → keeps s s };
+
+    ghost keeps_trans: { (s t u : Self) → keeps s t → keeps t u → keeps s u };
 
     ghost ready_kept: { (a b : List Tree) (s : Self) → ready a s → Extends a b → ready b s };
 
@@ -121,6 +135,7 @@ pub fn fold_node<F: TypeFolder>(cx: &mut Cx, folder: &mut F, t: NodeId) -> Resul
     requires ready { F.ready cx.old.nodes folder.old }
     ensures grows { Grows cx.old cx.new }
     ensures ready { F.ready cx.new.nodes folder.new }
+    ensures keeps { F.keeps folder.old folder.new }
     ensures within { IfOk result (IsIn cx.new.nodes) }
     ensures walk { IfOk result (λ r. Walk F.answers F.enters F.leaves F.rebuilds (F.meaning cx.old.nodes folder.old) (tree_at cx.old.nodes t) (tree_at cx.new.nodes r) (F.meaning cx.new.nodes folder.new)) }
     ensures err { IfErr result F.fails }
@@ -162,6 +177,7 @@ fn start<F: TypeFolder>(cx: &mut Cx, folder: &mut F, t: NodeId) -> Result<Option
     requires ready { F.ready cx.old.nodes folder.old }
     ensures grows { Grows cx.old cx.new }
     ensures ready { F.ready cx.new.nodes folder.new }
+    ensures keeps { F.keeps folder.old folder.new }
     ensures within { IfOk result (λ o. IfSome o (IsIn cx.new.nodes)) }
     ensures starts { IfOk result (λ o. Starts F.answers F.enters (F.meaning cx.old.nodes folder.old) (tree_at cx.old.nodes t) (option_map (tree_at cx.new.nodes) o) (F.meaning cx.new.nodes folder.new)) }
     ensures err { IfErr result F.fails }
@@ -186,6 +202,7 @@ fn ask<F: TypeFolder>(
     requires ready { F.ready cx.old.nodes folder.old }
     ensures grows { Grows cx.old cx.new }
     ensures ready { F.ready cx.new.nodes folder.new }
+    ensures keeps { F.keeps folder.old folder.new }
     ensures within { IfOk result (λ o. IfSome o (IsIn cx.new.nodes)) }
     ensures kind { IfOk result (λ o. IfSome o (λ r. kind_of (tree_at cx.new.nodes r) ≡ Some (kind_of_label label))) }
     ensures asks { IfOk result (λ o. MayAnswer F.answers (kind_of_label label) (F.meaning cx.old.nodes folder.old) (tree_at cx.old.nodes t) (option_map (tree_at cx.new.nodes) o) (F.meaning cx.new.nodes folder.new)) }
@@ -210,6 +227,7 @@ fn ask<F: TypeFolder>(
 
 fn enter<F: TypeFolder>(folder: &mut F, label: Label) -> Result<(), F::Error>
     ensures ready { (ts : List Tree) → F.ready ts folder.old → F.ready ts folder.new }
+    ensures keeps { F.keeps folder.old folder.new }
     ensures enters { OnOk result ((ts : List Tree) → F.ready ts folder.old → AtBinder F.enters (binders label) (F.meaning ts folder.old) (F.meaning ts folder.new)) }
     ensures err { IfErr result F.fails }
 {
@@ -221,6 +239,7 @@ fn enter<F: TypeFolder>(folder: &mut F, label: Label) -> Result<(), F::Error>
 
 fn leave<F: TypeFolder>(folder: &mut F, label: Label)
     ensures ready { (ts : List Tree) → F.ready ts folder.old → F.ready ts folder.new }
+    ensures keeps { F.keeps folder.old folder.new }
     ensures leaves { (ts : List Tree) → F.ready ts folder.old → AtBinder F.leaves (binders label) (F.meaning ts folder.old) (F.meaning ts folder.new) }
 {
     if binders_of(label) > 0 {
@@ -240,6 +259,7 @@ fn finish<F: TypeFolder>(
     requires ready { F.ready cx.old.nodes folder.old }
     ensures grows { Grows cx.old cx.new }
     ensures ready { F.ready cx.new.nodes folder.new }
+    ensures keeps { F.keeps folder.old folder.new }
     ensures within { IfOk result (IsIn cx.new.nodes) }
     ensures comes_back { IfOk result (λ r. ComesBack F.leaves F.rebuilds label (F.meaning cx.old.nodes folder.old) (trees_at cx.old.nodes children.now) (tree_at cx.new.nodes r) (F.meaning cx.new.nodes folder.new)) }
     ensures err { IfErr result F.fails }

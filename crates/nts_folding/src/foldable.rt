@@ -27,6 +27,7 @@ pub trait TypeFoldable: Drop {
         requires ready { F.ready cx.old.nodes folder.old }
         ensures grows { Grows cx.old cx.new }
         ensures ready { F.ready cx.new.nodes folder.new }
+        ensures keeps { F.keeps folder.old folder.new }
         ensures holds { IfOk result (holds cx.new.nodes) }
         ensures walk { IfOk result (λ r. Walk F.answers F.enters F.leaves F.rebuilds (F.meaning cx.old.nodes folder.old) (tree cx.old.nodes self) (tree cx.new.nodes r) (F.meaning cx.new.nodes folder.new)) }
         ensures err { IfErr result F.fails };
@@ -42,6 +43,7 @@ fn fold_handle<T: Stored, F: TypeFolder>(cx: &mut Cx, folder: &mut F, x: T) -> R
     requires ready { F.ready cx.old.nodes folder.old }
     ensures grows { Grows cx.old cx.new }
     ensures ready { F.ready cx.new.nodes folder.new }
+    ensures keeps { F.keeps folder.old folder.new }
     ensures holds { IfOk result (λ r. Holds T.place cx.new.nodes (T.id r)) }
     ensures walk { IfOk result (λ r. Walk F.answers F.enters F.leaves F.rebuilds (F.meaning cx.old.nodes folder.old) (tree_at cx.old.nodes (T.id x)) (tree_at cx.new.nodes (T.id r)) (F.meaning cx.new.nodes folder.new)) }
     ensures err { IfErr result F.fails }

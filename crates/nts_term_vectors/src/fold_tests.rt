@@ -54,6 +54,12 @@ impl TypeFolder for Numbering {
 
     ghost fails = { λ e. ⊤ };
 
+    ghost keeps = { λ s t. ⊤ };
+
+    ghost keeps_refl = { λ s. tt };
+
+    ghost keeps_trans = { λ s t u a b. tt };
+
     ghost ready_kept = { λ a b s h e. tt };
 
     ghost memory_fails = { λ e h. tt };
@@ -132,6 +138,12 @@ impl TypeFolder for Refusing {
 
     ghost fails = { λ e. ⊤ };
 
+    ghost keeps = { λ s t. ⊤ };
+
+    ghost keeps_refl = { λ s. tt };
+
+    ghost keeps_trans = { λ s t u a b. tt };
+
     ghost ready_kept = { λ a b s h e. tt };
 
     ghost memory_fails = { λ e h. tt };
@@ -202,6 +214,12 @@ impl TypeFolder for Counting {
 
     ghost fails = { λ e. ⊤ };
 
+    ghost keeps = { λ s t. ⊤ };
+
+    ghost keeps_refl = { λ s. tt };
+
+    ghost keeps_trans = { λ s t u a b. tt };
+
     ghost ready_kept = { λ a b s h e. tt };
 
     ghost memory_fails = { λ e h. tt };
@@ -268,6 +286,12 @@ impl TypeFolder for Levelling {
     ghost rebuilds = { λ s x y t. ⊤ };
 
     ghost fails = { λ e. ⊤ };
+
+    ghost keeps = { λ s t. ⊤ };
+
+    ghost keeps_refl = { λ s. tt };
+
+    ghost keeps_trans = { λ s t u a b. tt };
 
     ghost ready_kept = { λ a b s h e. tt };
 

@@ -31,6 +31,7 @@ loop-task-preserved-in-Continue-branch-4 g c =
       extends = Extends-trans c.loop-task.invariant.extends now.grows.extends;
       rest = KeepsRest-trans c.loop-task.invariant.rest now.grows.rest;
       ready = now.ready;
+      keeps = g.met.F.TypeFolder.keeps_trans _ _ _ c.loop-task.invariant.keeps now.keeps;
       ends = ends_answer f.answers f.enters f.leaves f.rebuilds _ _ _ _ _ _ _ _ _ _ _ _ c.loop-task.invariant.ends (rw c.in-Enter.is at c.in-Some.ensures.items) now.grows.extends within starts c.in_ok-push-in-Some-2.ensures;
     }
 
@@ -59,6 +60,7 @@ loop-task-preserved-in-Continue-branch-5 g c =
       extends = Extends-trans c.loop-task.invariant.extends now.grows.extends;
       rest = KeepsRest-trans c.loop-task.invariant.rest now.grows.rest;
       ready = now.ready;
+      keeps = g.met.F.TypeFolder.keeps_trans _ _ _ c.loop-task.invariant.keeps now.keeps;
       ends = ends_down f.answers f.enters f.leaves f.rebuilds _ _ _ _ _ _ _ _ _ _ _ c.loop-task.invariant.ends (rw c.in-Enter.is at c.in-Some.ensures.items) now.grows.extends (goes_in g c) pushed.formed pushed.within pushed.jobs;
     }
 
@@ -92,6 +94,7 @@ loop-task-preserved g c =
       extends = Extends-trans c.loop-task.invariant.extends made.grows.extends;
       rest = KeepsRest-trans c.loop-task.invariant.rest made.grows.rest;
       ready = made.ready;
+      keeps = g.met.F.TypeFolder.keeps_trans _ _ _ c.loop-task.invariant.keeps made.keeps;
       ends = ends_build f.answers f.enters f.leaves f.rebuilds _ _ _ _ _ _ _ _ _ _ _ _ _ _ _ _ c.loop-task.invariant.ends (rw c.in-Build.is at c.in-Some.ensures.items) made.grows.extends first last made.within made.comes_back new;
     }
 

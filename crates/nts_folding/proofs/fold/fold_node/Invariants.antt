@@ -11,6 +11,7 @@ invariant-loop-task g l =
       extends : Extends l.fn.cx.nodes l.cx.nodes;
       rest : KeepsRest l.fn.cx l.cx;
       ready : f.ready l.cx.nodes l.folder;
+      keeps : f.keeps l.fn.folder l.folder;
       ends : EndsBy f.answers f.enters f.leaves f.rebuilds (f.meaning l.fn.cx.nodes l.fn.folder) (tree_at l.fn.cx.nodes l.fn.t) l.cx.nodes l.tasks.items l.found.items (f.meaning l.cx.nodes l.folder);
     }
 

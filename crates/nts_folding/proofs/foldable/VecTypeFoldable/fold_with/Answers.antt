@@ -14,6 +14,7 @@ loop-x-init g c =
       list = list_start f.answers f.enters f.leaves f.rebuilds t.holds t.tree _ c.args.cx.now.nodes _ _ _ given.0 c.new-folded.ensures.items;
       rest = KeepsRest-refl c.args.cx.now;
       ready = c.requires.ready;
+      keeps = g.met.F.TypeFolder.keeps_refl _;
       count = omega (arith, given.1, long);
     }
 
@@ -35,5 +36,6 @@ loop-x-preserved g c =
       list = list_more f.answers f.enters f.leaves f.rebuilds t.holds t.tree g.met.T.TypeFoldable.holds_kept g.met.T.TypeFoldable.tree_kept _ _ _ _ _ _ _ _ _ _ _ _ c.in-Some.x c.in_ok-value.value c.loop-x.invariant.list c.requires.holds steps now.grows.extends now.holds now.walk c.in_ok-push.ensures;
       rest = KeepsRest-trans c.loop-x.invariant.rest now.grows.rest;
       ready = now.ready;
+      keeps = g.met.F.TypeFolder.keeps_trans _ _ _ c.loop-x.invariant.keeps now.keeps;
       count = omega (arith, c.loop-x.invariant.count, gone, short);
     }

@@ -12,5 +12,6 @@ invariant-loop-x g l =
       list : ListFolded f.answers f.enters f.leaves f.rebuilds t.holds t.tree (f.meaning l.fn.cx.nodes l.fn.folder) (f.meaning l.cx.nodes l.folder) l.fn.cx.nodes l.cx.nodes l.fn.self.items l.yielded (into_iter_items l.x-iterator) l.folded.items;
       rest : KeepsRest l.fn.cx l.cx;
       ready : f.ready l.cx.nodes l.folder;
+      keeps : f.keeps l.fn.folder l.folder;
       count : into_iter_len l.x-iterator ≡ length (into_iter_items l.x-iterator);
     }
