@@ -1,5 +1,6 @@
 //! Values of any form that can be folded: what a table knows of them, their leaves, and positions in place of these.
 ghost use Rattle.std.specs.Prelude.{◌≡◌, List, [], IfOk, IfSome, IsOkUnless, option_map, refl};
+ghost use Rattle.std.proofs.Common.{◌∙◌};
 ghost use Rattle.nts_model.specs.declared.labels.Leaf.{Leaf};
 ghost use Rattle.nts_model.specs.Contents.{Content};
 ghost use Rattle.nts_model.specs.Resolving.{Knows, deeply_resolved};
@@ -99,6 +100,12 @@ impl TypeFolder for Resolver<'_> {
 
     ghost fails = { λ e. e ≡ Memory };
 
+    ghost keeps = { λ s t. t ≡ s };
+
+    ghost keeps_refl = { λ s. refl };
+
+    ghost keeps_trans = { λ s t u a b. b ∙ a };
+
     ghost ready_kept = { λ a b s h e. IsTable-extended e h };
 
     ghost memory_fails = { λ e h. h };
@@ -174,6 +181,12 @@ impl TypeFolder for Reader {
 
     ghost fails = { λ e. e ≡ Memory };
 
+    ghost keeps = { λ s t. Unit {0} };
+
+    ghost keeps_refl = { λ s. tt };
+
+    ghost keeps_trans = { λ s t u a b. tt };
+
     ghost ready_kept = { λ a b s h e. tt };
 
     ghost memory_fails = { λ e h. h };
@@ -242,6 +255,12 @@ impl TypeFolder for Positioner<'_> {
     ghost rebuilds = { StaysMade };
 
     ghost fails = { λ e. e ≡ Memory };
+
+    ghost keeps = { λ s t. t ≡ s };
+
+    ghost keeps_refl = { λ s. refl };
+
+    ghost keeps_trans = { λ s t u a b. b ∙ a };
 
     ghost ready_kept = { λ a b s h e. tt };
 

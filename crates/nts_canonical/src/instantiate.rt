@@ -1,5 +1,6 @@
 //! Values in place of the positions of a canonical value.
 ghost use Rattle.std.specs.Prelude.{◌≡◌, List, All, IfOk, IfSome, IsOkUnless, option_map, refl};
+ghost use Rattle.std.proofs.Common.{◌∙◌};
 ghost use Rattle.nts_model.specs.Trees.{Tree};
 ghost use Rattle.nts_model.specs.Handlers.{filled};
 ghost use Rattle.nts_store.specs.declared.fault.Fault.TheVariants.{Memory};
@@ -62,6 +63,12 @@ impl TypeFolder for Filler<'_> {
     ghost rebuilds = { λ s x y t. (y ≡ x) × (t ≡ s) };
 
     ghost fails = { λ e. e ≡ Memory };
+
+    ghost keeps = { λ s t. t ≡ s };
+
+    ghost keeps_refl = { λ s. refl };
+
+    ghost keeps_trans = { λ s t u a b. b ∙ a };
 
     ghost ready_kept = { λ a b s h e. AreHeld-kept a b s.values.now h e };
 
