@@ -4,19 +4,21 @@ use nts_placeholder::{BoundVarReplacer, PlaceholderMaps, PlaceholderReplacer};
 use nts_store::Fault;
 use nts_table::InferCtxt;
 use nts_terms::{
-    Binder, BoundTy, CtorId, Cx, DefId, FnSig, GenericArg, PlaceholderType, TyKind, TypingMode,
+    Binder, BoundConst, BoundRegion, BoundTy, ConstKind, CtorId, Cx, DefId, FnSig, GenericArg,
+    PlaceholderConst, PlaceholderRegion, PlaceholderType, RegionKind, TyKind, TypingMode,
     UniverseIndex,
 };
 use std::alloc::Global;
 use std::process::Abort;
 
-/// A store in which constructors of one and of two types are declared.
+/// A store in which constructors of one and of two types, and of a region, a type and a const are declared.
 #[derive(Drop)]
 pub struct Fixture {
     pub alloc: Global,
     pub cx: Cx,
     pub one: CtorId,
     pub two: CtorId,
+    pub mixed: CtorId,
 }
 
 impl Fixture {
@@ -27,11 +29,16 @@ impl Fixture {
         let two = cx
             .declare_ctor(&[Sort::Ty, Sort::Ty], &[kept, kept])
             .expect(rt, "memory");
+        let sorts = [Sort::Region, Sort::Ty, Sort::Const];
+        let mixed = cx
+            .declare_ctor(&sorts, &[kept, kept, kept])
+            .expect(rt, "memory");
         Fixture {
             alloc,
             cx,
             one,
             two,
+            mixed,
         }
     }
 
@@ -69,6 +76,46 @@ impl Fixture {
         assert!(rt; self.cx.fits(DefId::Ctor(self.two), args));
         let kind = TyKind::Ctor(self.two, args);
         self.cx.mk_ty(kind).expect(rt, "memory").into()
+    }
+
+    /// A constructor of a region, a type and a const over these.
+    pub fn mixed(&mut self, rt: &impl Abort, args: [GenericArg; 3]) -> GenericArg {
+        let [region, ty, ct] = args;
+        assert!(rt; self.cx.holds(region));
+        assert!(rt; self.cx.holds(ty));
+        assert!(rt; self.cx.holds(ct));
+        let args = self.cx.mk_args(&[region, ty, ct]).expect(rt, "memory");
+        assert!(rt; self.cx.fits(DefId::Ctor(self.mixed), args));
+        let kind = TyKind::Ctor(self.mixed, args);
+        self.cx.mk_ty(kind).expect(rt, "memory").into()
+    }
+
+    /// A region, a type and a const that the innermost binder binds, with these numbers in its list.
+    pub fn bound_of_each(&mut self, rt: &impl Abort, vars: [usize; 3]) -> [GenericArg; 3] {
+        let index = BoundVarIndexKind::Bound(0);
+        let region = RegionKind::ReBound(index, BoundRegion { var: vars[0] });
+        let region = self.cx.mk_region(region).expect(rt, "memory").into();
+        let ty = self.bound(rt, 0, vars[1]);
+        let ct = ConstKind::Bound(index, BoundConst { var: vars[2] });
+        let ct = self.cx.mk_const(ct).expect(rt, "memory").into();
+        [region, ty, ct]
+    }
+
+    /// A region, a type and a const placeholder of a universe, with these numbers.
+    pub fn placeholder_of_each(
+        &mut self,
+        rt: &impl Abort,
+        universe: UniverseIndex,
+        vars: [usize; 3],
+    ) -> [GenericArg; 3] {
+        let bound = BoundRegion { var: vars[0] };
+        let region = RegionKind::RePlaceholder(PlaceholderRegion { universe, bound });
+        let region = self.cx.mk_region(region).expect(rt, "memory").into();
+        let ty = self.placeholder(rt, universe, vars[1]);
+        let bound = BoundConst { var: vars[2] };
+        let ct = ConstKind::Placeholder(PlaceholderConst { universe, bound });
+        let ct = self.cx.mk_const(ct).expect(rt, "memory").into();
+        [region, ty, ct]
     }
 
     /// A pointer to functions that give such a type. It is a binder of one type.

@@ -114,3 +114,28 @@ fn no_universe_is_left(rt: HostRuntime) {
     assert!(rt; opened == fixture.placeholder(&rt, 7, 0));
     assert_eq!(rt; table.universe(), 4_294_967_295);
 }
+
+#[test]
+fn each_sort_has_its_map(rt: HostRuntime) {
+    let mut fixture = Fixture::new(&rt, rt.alloc());
+    let mut table = fixture.table(&rt, 4);
+    let mut list = vec![in rt.alloc(); None].expect(&rt, "memory");
+    let bound = fixture.bound_of_each(&rt, [2, 0, 1]);
+    let value = fixture.mixed(&rt, bound);
+    let (opened, maps) = fixture
+        .open(&rt, &mut table, &mut list, value)
+        .expect(&rt, "memory");
+    let placeholders = fixture.placeholder_of_each(&rt, 5, [2, 0, 1]);
+    assert!(rt; opened == fixture.mixed(&rt, placeholders));
+    assert_eq!(rt; maps.regions.len(), 1);
+    assert_eq!(rt; maps.types.len(), 1);
+    assert_eq!(rt; maps.consts.len(), 1);
+    let region = Placeholder {
+        universe: 5,
+        var: 2,
+    };
+    let bound = BoundVar { level: 0, var: 2 };
+    assert!(rt; maps.bound_var(Sort::Region, region) == Some(bound));
+    assert!(rt; maps.bound_var(Sort::Ty, region).is_none());
+    assert!(rt; fixture.close(&rt, &maps, &list, opened) == value);
+}
