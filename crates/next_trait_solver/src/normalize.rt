@@ -1,0 +1,2 @@
+//! The folder that normalizes.
+pub use nts_normalize::NormalizationFolder;

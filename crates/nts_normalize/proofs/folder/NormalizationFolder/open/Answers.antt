@@ -1,0 +1,23 @@
+use Rattle.std.proofs.Common.{◌∙◌, refl, sym}
+use Rattle.nts_table.specs.TableLaws.{IsTable-extended}
+use Rattle.nts_normalize.proofs.Stepping.{Goes-changed, fills}
+use Rattle.nts_normalize.proofs.folder.NormalizationFolder.open.Goals as goal
+
+pub returns-in_err-opened-clause-goes : goal.returns-in_err-opened-clause-goes
+returns-in_err-opened-clause-goes g c =
+    let did = c.replace_bound_vars.ensures in
+    Goes-changed c.requires.ready did.grows (did.table _ (IsTable-extended did.grows.extends c.requires.ready.table)) did.changes refl
+
+pub returns-clause-goes : goal.returns-clause-goes
+returns-clause-goes g c =
+    let did = c.replace_bound_vars.ensures in
+    Goes-changed c.requires.ready did.grows (did.table _ (IsTable-extended did.grows.extends c.requires.ready.table)) did.changes refl
+
+pub returns-clause-opens : goal.returns-clause-opens
+returns-clause-opens g c =
+    let did = c.in_ok-opened.ensures in
+    record {
+      fills = fills c.args.self.now (record c.args.self.now { table = c.replace_bound_vars.new.table; universes = c.replace_bound_vars.new.universe_indices }) _ c.requires.ready did.grows.extends did.universes refl refl;
+      are_maps = did.maps;
+      tree = sym c.in-Some.ensures.alias ∙ did.tree;
+    }

@@ -1,0 +1,4 @@
+pub mod Calling
+pub mod Normalizing
+pub mod Naming
+pub mod Walking
