@@ -91,11 +91,6 @@ module _ (b d : List Tree) (q p u v : Table) (table : IsTable b q) (same : p.ent
       (λ (e : v.entries ≡ u.entries). subst (λ z. HasClosedSides (content_of d z)) (sym e) (goes.sides (subst (λ z. HasClosedSides (content_of b z)) (sym same) h)))
       (λ (e : v.entries ≡ q.entries). subst HasClosedSides (sym (ap (content_of d) e ∙ content_of-extended goes.extends table.now)) h) ended
 
-  pub ended_universe : v.entries.universe ≡ q.entries.universe
-  ended_universe = ⊎_elim
-      (λ (e : v.entries ≡ u.entries). ap (λ (z : Entries). z.universe) e ∙ goes.universe ∙ ap (λ (z : Entries). z.universe) same)
-      (λ (e : v.entries ≡ q.entries). ap (λ (z : Entries). z.universe) e) ended
-
   pub ended_contents : (content_of d v.entries ≡ content_of d u.entries) ⊎ (content_of d v.entries ≡ content_of b p.entries)
   ended_contents = ⊎_elim (λ (e : v.entries ≡ u.entries). inl (ap (content_of d) e)) (λ (e : v.entries ≡ q.entries). inr (ap (content_of d) e ∙ content_of-extended goes.extends table.now ∙ sym before)) ended
 

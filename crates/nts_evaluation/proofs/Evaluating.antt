@@ -71,7 +71,6 @@ Goes-trans {a} {b} {c} {t} {u} {v} g h =
       continues = Continues-trans (content_of a t.entries) (content_of b u.entries) (content_of c v.entries) g.sound g.continues h.continues;
       saved = h.saved ∙ g.saved;
       mode = h.mode ∙ g.mode;
-      universe = h.universe ∙ g.universe;
       hidden = h.hidden ∙ g.hidden;
       sides = λ k. h.sides (g.sides k);
     }
@@ -87,7 +86,6 @@ Goes-extends {a} {b} {t} h e =
       continues = rw same (Continues-refl (content_of a t.entries) h.now.sound);
       saved = refl;
       mode = refl;
-      universe = refl;
       hidden = refl;
       sides = λ k. rw same k;
     }
@@ -334,11 +332,7 @@ continues-fresh ts e (s ∷ ss) h =
     let one : Continues (content_of ts e) (content_of ts next) = rw same (Continues-with_slot (content_of ts e) (slot_of ts v) refl h) in
     Continues-trans (content_of ts e) (content_of ts next) (content_of ts (with_fresh next ss)) h one (continues-fresh ts next ss sound)
 
--- new variables leave the current universe and the hidden types
-universe-with_fresh : (e : Entries) (ss : List Sort) → (with_fresh e ss).universe ≡ e.universe
-universe-with_fresh e [] = refl
-universe-with_fresh e (s ∷ ss) = universe-with_fresh (added e (new_variable e (variable_kind s))) ss
-
+-- new variables leave the hidden types
 hidden-with_fresh : (e : Entries) (ss : List Sort) → (with_fresh e ss).hidden ≡ e.hidden
 hidden-with_fresh e [] = refl
 hidden-with_fresh e (s ∷ ss) = hidden-with_fresh (added e (new_variable e (variable_kind s))) ss
@@ -368,7 +362,6 @@ gave_fresh {a} {b} {t} {u} fresh vs h e k q s m w r =
         continues = rw (q, ← same) (continues-fresh b t.entries fresh (rw same h.now.sound));
         saved = s;
         mode = m;
-        universe = ap (λ (z : Entries). z.universe) q ∙ universe-with_fresh t.entries fresh;
         hidden = ap (λ (z : Entries). z.hidden) q ∙ hidden-with_fresh t.entries fresh;
         sides = rw (q, ← same) (closed_fresh b t.entries fresh);
       };
@@ -413,8 +406,8 @@ offers-kept {a} {b} {g} h mode e p =
     ap (λ x. h.offers mode x (tree_at b g.predicate.node)) (e.kept g.param_env.node p.env.within) ∙ ap (h.offers mode (tree_at a g.param_env.node)) (e.kept g.predicate.node p.predicate.within)
 
 -- a call on the store and the table
-pub goes : {a b : List Tree} {t u : Table} → IsTable a t → Extends a b → IsTable b u → Continues (content_of a t.entries) (content_of b u.entries) → u.saved ≡ t.saved → u.mode ≡ t.mode → u.entries.universe ≡ t.entries.universe → u.entries.hidden ≡ t.entries.hidden → (HasClosedSides (content_of a t.entries) → HasClosedSides (content_of b u.entries)) → Goes a b t u
-goes {a} {b} {t} {u} w e h n s m v d k = record { sound = w.now.sound; continues = n; extends = e; table = h; saved = s; mode = m; universe = v; hidden = d; sides = k }
+pub goes : {a b : List Tree} {t u : Table} → IsTable a t → Extends a b → IsTable b u → Continues (content_of a t.entries) (content_of b u.entries) → u.saved ≡ t.saved → u.mode ≡ t.mode → u.entries.hidden ≡ t.entries.hidden → (HasClosedSides (content_of a t.entries) → HasClosedSides (content_of b u.entries)) → Goes a b t u
+goes {a} {b} {t} {u} w e h n s m d k = record { sound = w.now.sound; continues = n; extends = e; table = h; saved = s; mode = m; hidden = d; sides = k }
 
 pub kind-kept : {a b : List Tree} {x : NodeId} → Extends a b → IsIn a x → kind_of (tree_at b x) ≡ kind_of (tree_at a x)
 kind-kept {a} {b} {x} e w = ap kind_of (e.kept x w)
@@ -448,7 +441,6 @@ goes-constrained {a} {t} {u} x h l r k j n cl cr e s m =
       continues = rw (e, same) (Continues-with_constraint (content_of a t.entries) (recorded_of a x) h.now.sound);
       saved = s;
       mode = m;
-      universe = ap (λ (z : Entries). z.universe) e;
       hidden = ap (λ (z : Entries). z.hidden) e;
       sides = rw (e, same) (closed_constrained (content_of a t.entries) (recorded_of a x) cl cr);
     }
@@ -470,9 +462,9 @@ pub goes-back : {a b : List Tree} {t u : Table} → IsTable a t → Extends a b 
 goes-back {a} {b} {t} {u} h e q = rw q (Goes-extends h e)
 
 -- .. that makes two trees equal, or leaves the table
-pub related_goes : {a b : List Tree} {t u : Table} {E : Type 0} (x y : Tree) (r : Result (Unit {0}) E) → IsTable a t → Extends a b → IsTable b u → u.saved ≡ t.saved → u.mode ≡ t.mode → u.entries.universe ≡ t.entries.universe → u.entries.hidden ≡ t.entries.hidden → OnOk r (AreRelated (content_of a t.entries) (content_of b u.entries) x y) → OnErr r (u ≡ t) → IsLater (content_of a t.entries) (content_of b u.entries) → Goes a b t u
-related_goes x y (Ok z) w e h s m v d n q l = goes w e h n.continues s m v d (λ k. closed_later l k)
-related_goes x y (Err z) w e h s m v d n q l = goes-back w e q
+pub related_goes : {a b : List Tree} {t u : Table} {E : Type 0} (x y : Tree) (r : Result (Unit {0}) E) → IsTable a t → Extends a b → IsTable b u → u.saved ≡ t.saved → u.mode ≡ t.mode → u.entries.hidden ≡ t.entries.hidden → OnOk r (AreRelated (content_of a t.entries) (content_of b u.entries) x y) → OnErr r (u ≡ t) → IsLater (content_of a t.entries) (content_of b u.entries) → Goes a b t u
+related_goes x y (Ok z) w e h s m d n q l = goes w e h n.continues s m d (λ k. closed_later l k)
+related_goes x y (Err z) w e h s m d n q l = goes-back w e q
 
 -- after a snapshot, a step, and its rollback the table is as it was
 pub rolled_back : {a b : List Tree} {t s u v : Table} → s.saved ≡ t.saved ++ t.entries ∷ [] → Goes a b s u → u.saved ≡ v.saved ++ v.entries ∷ [] → s.mode ≡ t.mode → v.mode ≡ u.mode → v ≡ t
@@ -492,7 +484,6 @@ ended {a} {b} {t} {s} {u} {v} (Ok x) same opened h step kept undone closed first
       table = record { now = rw kept step.table.now; saved = rw ends (IsTable-extended step.extends h).saved };
       saved = ends;
       mode = last ∙ step.mode ∙ first;
-      universe = ap (λ (z : Entries). z.universe) kept ∙ step.universe ∙ ap (λ (z : Entries). z.universe) same;
       hidden = ap (λ (z : Entries). z.hidden) kept ∙ step.hidden ∙ ap (λ (z : Entries). z.hidden) same;
       sides = rw kept (rw same at step.sides);
     }
@@ -510,7 +501,6 @@ committed {a} {b} {t} {s} {u} {v} e same opened h step kept closed first last =
       table = record { now = rw kept step.table.now; saved = rw ends.0 (IsTable-extended step.extends h).saved };
       saved = ends.0;
       mode = last ∙ step.mode ∙ first;
-      universe = ap (λ (z : Entries). z.universe) kept ∙ step.universe ∙ ap (λ (z : Entries). z.universe) same;
       hidden = ap (λ (z : Entries). z.hidden) kept ∙ step.hidden ∙ ap (λ (z : Entries). z.hidden) same;
       sides = rw kept (rw same at step.sides);
     }

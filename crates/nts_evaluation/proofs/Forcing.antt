@@ -30,9 +30,9 @@ use Rattle.nts_delegate.specs.Offered.{equation_of, constraint_of, premise_of, c
 use Rattle.nts_delegate.specs.Candidates.{AreCandidates}
 use Rattle.nts_evaluation.specs.Running.{constraint_between}
 use Rattle.nts_evaluation.specs.Asking.{Asks, Answers}
-use Rattle.nts_evaluation.specs.Refuting.{Forces}
+use Rattle.nts_evaluation.specs.Refuting.{Forces, ForcesOpened}
 use Rattle.nts_evaluation.specs.Choices.{Equated}
-use Rattle.nts_evaluation.specs.Meant.{offers_of, AreOffered, IsForcedTo, IsOnlyMet}
+use Rattle.nts_evaluation.specs.Meant.{offers_of, AreOffered, IsOpenForcedTo, IsOnlyMet}
 use Rattle.nts_evaluation.proofs.Evaluating.{candidate_at, offers-kept}
 use Rattle.nts_evaluation.proofs.Running.{constraint-kept, premise-kept, candidate-kept}
 
@@ -96,12 +96,12 @@ run_more {a} {b} {e} {t} {u} {v} P x vs i p rs is l k m w y z h r =
       goals = rw (same, take_more x.goals.items i p l) (leaves_push P a xs (take i x.goals.items) item h.met c (content_of e v.entries) h.goals one);
     }
 
-forces_next : (offers : Tree → Tree → List Candidate) (n : ℕ) (c d : Content) (e g : Tree) → IsForced offers (Asks (Answers (Forces offers n))) c d e g → Forces offers (n + 1) c d e g
+forces_next : (offers : Tree → Tree → List Candidate) (n : ℕ) (c d : Content) (e g : Tree) → IsForced offers (Asks (Answers (Forces offers n))) c d e g → ForcesOpened offers (n + 1) c d e g
 forces_next offers n c d e g h =
     let next : n + 1 ≡ suc n = omega arith in
-    subst (λ m. Forces offers m c d e g) (sym next) h
+    subst (λ m. ForcesOpened offers m c d e g) (sym next) h
 
-pub run_last : {a b : List Tree} {t u : Table} (offers : Tree → Tree → List Candidate) (n : ℕ) (x : CandidateData) (vs : List NodeId) (i : ℕ) (e g : Tree) → take i x.goals.items ≡ x.goals.items → RunSoFar (Asks (Answers (Forces offers n))) a b t u x vs i → OnlyIsMet (content_of a t.entries) (candidate_of a x) (offers e g) → (candidate_of a x).certainty ≡ certain → Forces offers (n + 1) (content_of a t.entries) (content_of b u.entries) e g
+pub run_last : {a b : List Tree} {t u : Table} (offers : Tree → Tree → List Candidate) (n : ℕ) (x : CandidateData) (vs : List NodeId) (i : ℕ) (e g : Tree) → take i x.goals.items ≡ x.goals.items → RunSoFar (Asks (Answers (Forces offers n))) a b t u x vs i → OnlyIsMet (content_of a t.entries) (candidate_of a x) (offers e g) → (candidate_of a x).certainty ≡ certain → ForcesOpened offers (n + 1) (content_of a t.entries) (content_of b u.entries) e g
 run_last {a} {b} {t} {u} offers n x vs i e g all h only sure =
     forces_next offers n (content_of a t.entries) (content_of b u.entries) e g
     (record {
@@ -130,6 +130,6 @@ only_later {a} {b} {t} {u} {y} h mode g ds i d q l all k w p same offered only =
     rw (same, q) one
 
 -- what is forced from a table, seen from a smaller store
-pub forced_back : {a b : List Tree} {t : Table} (e : List Tree) (s u : Table) (h : Handler) (mode : TypingMode) (n : ℕ) (g : Goal) → Extends a b → IsTable a t → HoldsGoal a g → s.entries ≡ t.entries → IsForcedTo h mode n b s e u g → IsForcedTo h mode n a t e u g
+pub forced_back : {a b : List Tree} {t : Table} (e : List Tree) (s u : Table) (h : Handler) (mode : TypingMode) (n : ℕ) (g : Goal) → Extends a b → IsTable a t → HoldsGoal a g → s.entries ≡ t.entries → IsOpenForcedTo h mode n b s e u g → IsOpenForcedTo h mode n a t e u g
 forced_back {a} {b} {t} e s u h mode n g k w p same f =
     rw (same, content_of-extended k w.now, k.kept g.param_env.node p.env.within, k.kept g.predicate.node p.predicate.within) at f

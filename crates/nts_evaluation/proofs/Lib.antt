@@ -13,3 +13,5 @@ pub mod Forcing
 pub mod Refuting
 pub mod Told
 pub mod Fitting
+pub mod Opened
+pub mod Entering

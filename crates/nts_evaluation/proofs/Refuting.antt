@@ -10,6 +10,7 @@ use Rattle.nts_model.specs.Sequents.{Premise}
 use Rattle.nts_model.specs.Handlers.{Candidate, Handler, filled}
 use Rattle.nts_model.specs.Choosing.{Freshens, EquatesAll, IsMet, NoneIsMet, OnlyIsMet}
 use Rattle.nts_model.specs.Inputs.{CanonicalInput}
+use Rattle.nts_model.specs.Opening.{entered, opened_in}
 use Rattle.nts_model.specs.Responses.{Response}
 use Rattle.nts_model.specs.Forcing.{AddsAll, Leaves}
 use Rattle.nts_model.proofs.Forcing.{IsForced-map}
@@ -26,9 +27,9 @@ use Rattle.nts_delegate.specs.declared.delegate.RegionConstraint.{RegionConstrai
 use Rattle.nts_delegate.specs.declared.delegate.CandidateGoal.{CandidateGoal}
 use Rattle.nts_delegate.specs.declared.delegate.CandidateData.{CandidateData}
 use Rattle.nts_delegate.specs.Offered.{equation_of, constraint_of, premise_of, candidate_of}
-use Rattle.nts_evaluation.specs.Meant.{IsRefutedBy, IsGainedTo}
+use Rattle.nts_evaluation.specs.Meant.{IsOpenRefutedBy, IsOpenGainedTo}
 use Rattle.nts_evaluation.specs.Asking.{Refuses, Answers, AnswersInPart, Asks, RefusesAsked}
-use Rattle.nts_evaluation.specs.Refuting.{FailsToAdd, LeavesSome, RefutesOne, IsRefuted, IsGained, Forces, Gains, Refutes}
+use Rattle.nts_evaluation.specs.Refuting.{FailsToAdd, LeavesSome, RefutesOne, IsRefuted, IsGained, Forces, Gains, Refutes, GainsOpened, RefutesOpened}
 use Rattle.nts_evaluation.specs.Choices.{Equated}
 use Rattle.nts_evaluation.proofs.Running.{premise-kept}
 use Rattle.nts_evaluation.proofs.Forcing.{RunSoFar}
@@ -53,7 +54,7 @@ Forces-more offers zero m l c d e g h = absurd h
 Forces-more offers (suc n) zero l c d e g h = absurd (omega (arith, l))
 Forces-more offers (suc n) (suc m) l c d e g h =
     IsForced-map offers (Asks (Answers (Forces offers n))) (Asks (Answers (Forces offers m)))
-    (Asks-map (Answers (Forces offers n)) (Answers (Forces offers m)) (Answers-map (Forces offers n) (Forces offers m) (Forces-more offers n m (omega (arith, l))))) c d e g h
+    (Asks-map (Answers (Forces offers n)) (Answers (Forces offers m)) (Answers-map (Forces offers n) (Forces offers m) (Forces-more offers n m (omega (arith, l))))) (entered c g) d e (opened_in c g) h
 
 LeavesSome-map : (P Q : Leaves) → ((c d : Content) (e g : Tree) → P c d e g → Q c d e g) → (xs : List Tree) (ps : List Premise) (c d : Content) → LeavesSome P xs ps c d → LeavesSome Q xs ps c d
 LeavesSome-map P Q f xs [] c d h = h
@@ -83,9 +84,10 @@ pub Gains-more : (offers : Tree → Tree → List Candidate) (n m : ℕ) → n �
 Gains-more offers zero m l c d e g h = gains_none offers m c d e g h
 Gains-more offers (suc n) zero l c d e g h = absurd (omega (arith, l))
 Gains-more offers (suc n) (suc m) l c d e g (inl h) = inl h
-Gains-more offers (suc n) (suc m) l c d e g (inr h) =
-    inr (IsGained-map offers (Asks (AnswersInPart (Gains offers n))) (Asks (AnswersInPart (Gains offers m)))
-    (Asks-map (AnswersInPart (Gains offers n)) (AnswersInPart (Gains offers m)) (AnswersInPart-map (Gains offers n) (Gains offers m) (Gains-more offers n m (omega (arith, l))))) c d e g h)
+Gains-more offers (suc n) (suc m) l c d e g (inr (inl h)) = inr (inl h)
+Gains-more offers (suc n) (suc m) l c d e g (inr (inr h)) =
+    inr (inr (IsGained-map offers (Asks (AnswersInPart (Gains offers n))) (Asks (AnswersInPart (Gains offers m)))
+    (Asks-map (AnswersInPart (Gains offers n)) (AnswersInPart (Gains offers m)) (AnswersInPart-map (Gains offers n) (Gains offers m) (Gains-more offers n m (omega (arith, l))))) (entered c g) d e (opened_in c g) h))
 
 RefutesOne-map : (P Q : Leaves) (M N : Refuses) → ((c d : Content) (e g : Tree) → P c d e g → Q c d e g) → ((c : Content) (e g : Tree) → M c e g → N c e g) → (xs : List Tree) (ps : List Premise) (c : Content) → RefutesOne P M xs ps c → RefutesOne Q N xs ps c
 RefutesOne-map P Q M N f k xs [] c h = h
@@ -192,21 +194,21 @@ refuted_at P N a xs (x ∷ ps) zero p c d l h r = inl (subst (λ z. N z (deeply_
 refuted_at P N a xs (x ∷ ps) (suc i) p c d l (inl (m, y, rest)) r = inr (inl (m, y, refuted_at P N a xs ps i p m d (omega (arith, l)) rest r))
 refuted_at P N a xs (x ∷ ps) (suc i) p c d l (inr rest) r = inr (inr (refuted_at P N a xs ps i p c d (omega (arith, l)) rest r))
 
-refutes_next : (offers : Tree → Tree → List Candidate) (n : ℕ) (c : Content) (e g : Tree) → IsRefuted offers (Asks (AnswersInPart (Gains offers n))) (RefusesAsked (Refutes offers n) (AnswersInPart (Gains offers n))) c e g → Refutes offers (n + 1) c e g
+refutes_next : (offers : Tree → Tree → List Candidate) (n : ℕ) (c : Content) (e g : Tree) → IsRefuted offers (Asks (AnswersInPart (Gains offers n))) (RefusesAsked (Refutes offers n) (AnswersInPart (Gains offers n))) c e g → RefutesOpened offers (n + 1) c e g
 refutes_next offers n c e g h =
     let next : n + 1 ≡ suc n = omega arith in
-    let all : Refutes offers (suc n) c e g = inr h in
-    subst (λ m. Refutes offers m c e g) (sym next) all
+    let all : RefutesOpened offers (suc n) c e g = inr h in
+    subst (λ m. RefutesOpened offers m c e g) (sym next) all
 
-pub refuted_none : (offers : Tree → Tree → List Candidate) (n : ℕ) (c : Content) (e g : Tree) → NoneIsMet c (offers e g) → Refutes offers (n + 1) c e g
+pub refuted_none : (offers : Tree → Tree → List Candidate) (n : ℕ) (c : Content) (e g : Tree) → NoneIsMet c (offers e g) → RefutesOpened offers (n + 1) c e g
 refuted_none offers n c e g h =
     let next : n + 1 ≡ suc n = omega arith in
-    let all : Refutes offers (suc n) c e g = inl h in
-    subst (λ m. Refutes offers m c e g) (sym next) all
+    let all : RefutesOpened offers (suc n) c e g = inl h in
+    subst (λ m. RefutesOpened offers m c e g) (sym next) all
 
 pub refuted_by_goal : {a b : List Tree} {t u : Table} (offers : Tree → Tree → List Candidate) (n : ℕ) (x : CandidateData) (vs : List NodeId) (i : ℕ) (p : CandidateGoal) (rs : List CandidateGoal) (e g : Tree) → rs ≡ x.goals.items → i < length x.goals.items → Extends a b → IsIn a (get_or x.goals.items i p).goal.param_env.node → IsIn a (get_or x.goals.items i p).goal.predicate.node
     → SomeSoFar (Asks (AnswersInPart (Gains offers n))) a b t u x vs i → OnlyIsMet (content_of a t.entries) (candidate_of a x) (offers e g) → RefusesAsked (Refutes offers n) (AnswersInPart (Gains offers n)) (content_of b u.entries) (deeply_resolved (content_of b u.entries) (filled (map (tree_at b) vs) (premise_of b (get_or rs i p)).environment)) (deeply_resolved (content_of b u.entries) (filled (map (tree_at b) vs) (premise_of b (get_or rs i p)).predicate))
-    → Refutes offers (n + 1) (content_of a t.entries) e g
+    → RefutesOpened offers (n + 1) (content_of a t.entries) e g
 refuted_by_goal {a} {b} {t} {u} offers n x vs i p rs e g is l k y z h only r =
     let item = get_or x.goals.items i p in
     let c = content_of b u.entries in
@@ -226,7 +228,7 @@ refuted_by_goal {a} {b} {t} {u} offers n x vs i p rs e g is l k y z h only r =
     })
 
 pub refuted_by_constraint : {a b : List Tree} {t u : Table} (offers : Tree → Tree → List Candidate) (n : ℕ) (x : CandidateData) (vs : List NodeId) (e g : Tree) → Equated a b t u x.fresh.items vs x.equations.items → map (constraint_of b) x.region_constraints.items ≡ map (constraint_of a) x.region_constraints.items → OnlyIsMet (content_of a t.entries) (candidate_of a x) (offers e g)
-    → FailsToAdd (map (tree_at b) vs) (map (constraint_of b) x.region_constraints.items) (content_of b u.entries) → Refutes offers (n + 1) (content_of a t.entries) e g
+    → FailsToAdd (map (tree_at b) vs) (map (constraint_of b) x.region_constraints.items) (content_of b u.entries) → RefutesOpened offers (n + 1) (content_of a t.entries) e g
 refuted_by_constraint {a} {b} {t} {u} offers n x vs e g h q only r =
     refutes_next offers n (content_of a t.entries) e g
     (record {
@@ -241,7 +243,7 @@ refuted_by_constraint {a} {b} {t} {u} offers n x vs e g h q only r =
     })
 
 -- what a table refutes, seen from a smaller store
-pub refuted_back : {a b : List Tree} {t : Table} (s : Table) (h : Handler) (mode : TypingMode) (n : ℕ) (g : Goal) → Extends a b → IsTable a t → HoldsGoal a g → s.entries ≡ t.entries → IsRefutedBy h mode n b s g → IsRefutedBy h mode n a t g
+pub refuted_back : {a b : List Tree} {t : Table} (s : Table) (h : Handler) (mode : TypingMode) (n : ℕ) (g : Goal) → Extends a b → IsTable a t → HoldsGoal a g → s.entries ≡ t.entries → IsOpenRefutedBy h mode n b s g → IsOpenRefutedBy h mode n a t g
 refuted_back {a} {b} {t} s h mode n g k w p same f =
     rw (same, content_of-extended k w.now, k.kept g.param_env.node p.env.within, k.kept g.predicate.node p.predicate.within) at f
 
@@ -252,10 +254,10 @@ only_met c x (y ∷ ys) (inl h) = subst (IsMet c) h.0 h.1
 only_met c x (y ∷ ys) (inr h) = only_met c x ys h.1
 
 -- what a candidate that was run leaves
-pub gained_last : {a b : List Tree} {t u : Table} (offers : Tree → Tree → List Candidate) (n : ℕ) (x : CandidateData) (vs : List NodeId) (i : ℕ) (e g : Tree) → take i x.goals.items ≡ x.goals.items → SomeSoFar (Asks (AnswersInPart (Gains offers n))) a b t u x vs i → OnlyIsMet (content_of a t.entries) (candidate_of a x) (offers e g) → Gains offers (n + 1) (content_of a t.entries) (content_of b u.entries) e g
+pub gained_last : {a b : List Tree} {t u : Table} (offers : Tree → Tree → List Candidate) (n : ℕ) (x : CandidateData) (vs : List NodeId) (i : ℕ) (e g : Tree) → take i x.goals.items ≡ x.goals.items → SomeSoFar (Asks (AnswersInPart (Gains offers n))) a b t u x vs i → OnlyIsMet (content_of a t.entries) (candidate_of a x) (offers e g) → GainsOpened offers (n + 1) (content_of a t.entries) (content_of b u.entries) e g
 gained_last {a} {b} {t} {u} offers n x vs i e g all h only =
     let next : n + 1 ≡ suc n = omega arith in
-    let here : Gains offers (suc n) (content_of a t.entries) (content_of b u.entries) e g = inr (record {
+    let here : GainsOpened offers (suc n) (content_of a t.entries) (content_of b u.entries) e g = inr (record {
       candidate = candidate_of a x;
       only = only;
       values = map (tree_at b) vs;
@@ -267,14 +269,18 @@ gained_last {a} {b} {t} {u} offers n x vs i e g all h only =
       adds = h.adds;
       goals = rw all at h.goals;
     }) in
-    subst (λ m. Gains offers m (content_of a t.entries) (content_of b u.entries) e g) (sym next) here
+    subst (λ m. GainsOpened offers m (content_of a t.entries) (content_of b u.entries) e g) (sym next) here
 
 -- .. and what leaves the table
 pub gained_nothing : (offers : Tree → Tree → List Candidate) (n : ℕ) (c d : Content) (e g : Tree) → d ≡ c → Gains offers n c d e g
 gained_nothing = gains_none
 
+pub open_gains_nothing : (offers : Tree → Tree → List Candidate) (n : ℕ) (c d : Content) (e g : Tree) → d ≡ c → GainsOpened offers n c d e g
+open_gains_nothing offers zero c d e g h = h
+open_gains_nothing offers (suc n) c d e g h = inl h
+
 -- what is gained, seen from a smaller store
-pub gained_back : {a b : List Tree} {t : Table} (e : List Tree) (s u : Table) (h : Handler) (mode : TypingMode) (n : ℕ) (g : Goal) → Extends a b → IsTable a t → HoldsGoal a g → s.entries ≡ t.entries → IsGainedTo h mode n b s e u g → IsGainedTo h mode n a t e u g
+pub gained_back : {a b : List Tree} {t : Table} (e : List Tree) (s u : Table) (h : Handler) (mode : TypingMode) (n : ℕ) (g : Goal) → Extends a b → IsTable a t → HoldsGoal a g → s.entries ≡ t.entries → IsOpenGainedTo h mode n b s e u g → IsOpenGainedTo h mode n a t e u g
 gained_back {a} {b} {t} e s u h mode n g k w p same f =
     rw (same, content_of-extended k w.now, k.kept g.param_env.node p.env.within, k.kept g.predicate.node p.predicate.within) at f
 

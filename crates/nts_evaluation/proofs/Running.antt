@@ -26,7 +26,6 @@ use Rattle.nts_model.proofs.Resolved.{deeply_resolved-deeply_resolved}
 use Rattle.nts_model.proofs.Slots.{Knows-kept}
 use Rattle.nts_model.proofs.Kept.{kind_of-deeply_resolved}
 use Rattle.nts_model.proofs.ResolvedTerms.{IsFormed-deeply_resolved}
-use Rattle.nts_model.proofs.ByCandidate.{lawful_candidate}
 use Rattle.nts_certainty.specs.declared.certainty.Certainty.{Certainty}
 use Rattle.nts_certainty.specs.declared.certainty.Certainty.TheVariants as certainty
 use Rattle.nts_store.specs.declared.nodes.NodeId.{NodeId}
@@ -51,6 +50,7 @@ use Rattle.nts_delegate.specs.declared.delegate.CandidateData.{CandidateData}
 use Rattle.nts_terms.specs.declared.handles.Goal.{Goal}
 use Rattle.nts_delegate.specs.Candidates.{AreEquations, AreRegionConstraints, AreNested, IsCandidate, AreCandidates}
 use Rattle.nts_delegate.specs.Offered.{certainty_of, access_of, source_of, equation_as, equation_of, hidden_of, constraint_of, premise_of, candidate_of, candidates_of}
+use Rattle.nts_evaluation.specs.Meant.{IsServed}
 use Rattle.nts_evaluation.specs.Running.{IsTermTable, Stays, EquationHolds, ConstraintHolds, PremiseHolds, EachStays, EquatesEach, Constrains, Proves}
 use Rattle.nts_evaluation.specs.Evaluation.{Goes, AllKnown}
 use Rattle.nts_table.specs.Tables.{IsTermOf}
@@ -252,21 +252,22 @@ pub record HasRun (m : Meaning) (mode : Mode) (c : Content) (x : Candidate) (vs 
   pub constraints : EachStays c (ConstraintHolds vs) x.constraints
   pub goals : EachStays c (PremiseHolds m mode vs) x.goals
 
--- so its goal is proved
-pub has_run : (h : Handler) (v : ℕ → List Variance) (mode : Mode) (c : Content) (x : Candidate) (vs : List Tree) (e g : Tree) → IsLawful h → IsAsked e g → Knows c e → Knows c g → Among (h.offers mode e g) x → HasRun (meaning h v) mode c x vs → Stays c (λ d. proving.IsProved (meaning h v) mode d e g)
-has_run h v mode c x vs e g law asked ke kg offered run =
-    let f = asked.formed in
+-- so a candidate that is offered holds
+pub has_run : (h : Handler) (v : ℕ → List Variance) (mode : Mode) (c : Content) (x : Candidate) (vs : List Tree) (e g : Tree) → IsTermTable c → Among (h.offers mode e g) x → HasRun (meaning h v) mode c x vs → IsServed h (meaning h v) mode c e g
+has_run h v mode c x vs e g t offered run =
+    let same = Continues-refl c t.sound in
     record {
-      later = λ d t k.
-          lawful_candidate h v mode d t.sound t.values t.constraints e g asked (term_later c d e k ke f.0) (term_later c d g k kg f.1.0) x law offered run.sure
-          (record {
-            chosen = vs;
-            values = run.values;
-            known = λ v i. Knows-kept c d v (record { grows = k.grows; kinds = k.kinds }) (one_known c vs v run.known i);
-            equations = λ q i. (let s = each_stays c (EquationHolds vs) x.equations q run.equations i in s.later d t k);
-            constraints = λ q i. (let s = each_stays c (ConstraintHolds vs) x.constraints q run.constraints i in s.later d t k);
-            goals = λ q i. (let s = each_stays c (PremiseHolds (meaning h v) mode vs) x.goals q run.goals i in s.later d t k);
-          });
+      candidate = x;
+      offered = offered;
+      sure = run.sure;
+      holds = record {
+        chosen = vs;
+        values = run.values;
+        known = λ v i. one_known c vs v run.known i;
+        equations = λ q i. (let s = each_stays c (EquationHolds vs) x.equations q run.equations i in s.later c t same);
+        constraints = λ q i. (let s = each_stays c (ConstraintHolds vs) x.constraints q run.constraints i in s.later c t same);
+        goals = λ q i. (let s = each_stays c (PremiseHolds (meaning h v) mode vs) x.goals q run.goals i in s.later c t same);
+      };
     }
 
 -- lists of a candidate's parts, whose values stand in a store that grows

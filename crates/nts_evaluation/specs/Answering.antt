@@ -74,9 +74,8 @@ pub record IsQueryOf (a b : List Tree) (t : Table) (g : Goal) (r : Vec GenericAr
   pub args : All (IsArgOf b t.entries) r.0.items
   pub closed : All (λ o. IsClosed (tree_at b o.node)) r.0.items
 
--- a response that makes no universes, hides no types and leaves no goals
-pub record IsOfRoot (r : Canonical Response) : Type 0 where
-  pub universe : r.max_universe ≡ 0
+-- a response of values and region constraints: it hides no types and leaves no goals
+pub record TellsNoMore (r : Canonical Response) : Type 0 where
   pub no_hidden : r.value.external_constraints.opaque_types.items ≡ []
   pub no_goals : r.value.external_constraints.normalization_nested_goals.items ≡ []
 
@@ -85,7 +84,7 @@ pub record IsAnswerTo (ts : List Tree) (ks : List PositionKind) (r : Canonical R
   pub holds : HoldsResponse ts r.value
   pub to : IsResponseTo ks (response_at ts r)
   pub applicable : (i : Input) → IsInput i → (let f = canonical_of i in f.kinds) ≡ ks → IsApplicable ts (map leaf_tree (originals i)) r
-  pub of_root : IsOfRoot r
+  pub no_more : TellsNoMore r
 
 -- what evaluating a goal of the store a leaves of the table t: the table u of the store b, in which the response to the goal's
 -- input was applied to its leaves, and nothing else. Nothing changed if the values of the response are the positions in order,

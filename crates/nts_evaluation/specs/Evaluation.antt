@@ -28,8 +28,7 @@ use Rattle.nts_delegate.specs.Candidates.{KnowsGoal}
 use Rattle.nts_terms.specs.Handles.{HoldsGoal}
 
 -- the store and the table later on: terms keep their trees, the table is a later one and has all that it had, the snapshots
--- that were open are open, the mode, the current universe and the hidden types are the same, and what was recorded since is
--- between closed terms
+-- that were open are open, the mode and the hidden types are the same, and what was recorded since is between closed terms
 pub record Goes (ts us : List Tree) (t u : Table) : Type 0 where
   pub sound : IsSound (content_of ts t.entries)
   pub extends : Extends ts us
@@ -37,7 +36,6 @@ pub record Goes (ts us : List Tree) (t u : Table) : Type 0 where
   pub continues : Continues (content_of ts t.entries) (content_of us u.entries)
   pub saved : u.saved ≡ t.saved
   pub mode : u.mode ≡ t.mode
-  pub universe : u.entries.universe ≡ t.entries.universe
   pub hidden : u.entries.hidden ≡ t.entries.hidden
   pub sides : HasClosedSides (content_of ts t.entries) → HasClosedSides (content_of us u.entries)
 

@@ -4,5 +4,6 @@ pub mod Choices
 pub mod Evaluation
 pub mod Instances
 pub mod Meant
+pub mod Opening
 pub mod Running
 pub mod Refuting

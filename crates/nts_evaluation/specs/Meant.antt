@@ -5,7 +5,9 @@ use Rattle.nts_model.specs.Trees.{Tree}
 use Rattle.nts_model.specs.Sequents.{Among}
 use Rattle.nts_model.specs.Rules.{Mode, Meaning}
 use Rattle.nts_model.specs.Resolving.{deeply_resolved}
-use Rattle.nts_model.specs.Handlers.{Candidate, Handler, meaning, filled}
+use Rattle.nts_model.specs.Handlers.{Candidate, certain, Handler, meaning, filled}
+use Rattle.nts_model.specs.Proving.{HoldsCandidate, IsProved}
+use Rattle.nts_model.specs.Contents.{Content}
 use Rattle.nts_model.specs.Choosing.{OnlyIsMet}
 use Rattle.nts_model.specs.Forcing.{Leaves}
 use Rattle.nts_certainty.specs.declared.certainty.Certainty.TheVariants as certainty
@@ -23,7 +25,7 @@ use Rattle.nts_delegate.specs.declared.delegate.CandidateGoal.{CandidateGoal}
 use Rattle.nts_evaluation.specs.declared.evaluate.Answer.{Answer}
 use Rattle.nts_delegate.specs.Offered.{premise_of, candidate_of, candidates_of}
 use Rattle.nts_evaluation.specs.Asking.{Refuses, Answers, AnswersInPart, Asks, RefusesAsked}
-use Rattle.nts_evaluation.specs.Refuting.{Forces, Gains, Refutes}
+use Rattle.nts_evaluation.specs.Refuting.{Forces, Gains, Refutes, ForcesOpened, GainsOpened, RefutesOpened}
 use Rattle.nts_evaluation.specs.Running.{Stays, PremiseHolds, StaysProved}
 
 -- a store from which the present one has grown, and in which the handler's terms stood; and any declared variances
@@ -58,7 +60,22 @@ AreOffered h mode ts g cs = candidates_of ts cs ≡ offers_of h (mode_of mode) t
 abbrev pub IsOffered : Handler → TypingMode → List Tree → Goal → CandidateData → Type 0
 IsOffered h mode ts g c = Among (offers_of h (mode_of mode) ts g) (candidate_of ts c)
 
--- a goal is proved by what the handler means since then, in a table of that mode, now and later
+-- one of the candidates that a handler offers for a goal is certain, and holds
+pub record IsServed (h : Handler) (m : Meaning) (mode : Mode) (c : Content) (e g : Tree) : Type 0 where
+  pub candidate : Candidate
+  pub offered : Among (h.offers mode e g) candidate
+  pub sure : candidate.certainty ≡ certain
+  pub holds : HoldsCandidate m mode c candidate
+
+abbrev pub IsServedSince : {ready : List Tree → Type 0} {now : List Tree} → (List Tree → Handler) → Since ready now → TypingMode → List Tree → Table → Goal → Type 0
+IsServedSince handler s mode ts t g =
+    IsServed (handler s.base) (meaning_since handler s) (mode_of mode) (content_of ts t.entries) (tree_at ts g.param_env.node) (tree_at ts g.predicate.node)
+
+-- a goal is proved by what the handler means since then, in a table of that mode; now and later
+abbrev pub IsProvedNow : {ready : List Tree → Type 0} {now : List Tree} → (List Tree → Handler) → Since ready now → TypingMode → List Tree → Table → Goal → Type 0
+IsProvedNow handler s mode ts t g =
+    IsProved (meaning_since handler s) (mode_of mode) (content_of ts t.entries) (tree_at ts g.param_env.node) (tree_at ts g.predicate.node)
+
 abbrev pub IsProvedSince : {ready : List Tree → Type 0} {now : List Tree} → (List Tree → Handler) → Since ready now → TypingMode → List Tree → Table → Goal → Type 0
 IsProvedSince handler s mode ts t g = StaysProved (meaning_since handler s) (mode_of mode) ts t g
 
@@ -71,6 +88,15 @@ IsForcedTo h mode n a t b u g =
 abbrev pub IsGainedTo : Handler → TypingMode → ℕ → List Tree → Table → List Tree → Table → Goal → Type 0
 IsGainedTo h mode n a t b u g =
     Gains (h.offers (mode_of mode)) n (content_of a t.entries) (content_of b u.entries) (tree_at a g.param_env.node) (tree_at a g.predicate.node)
+
+-- .. a goal that is open
+abbrev pub IsOpenForcedTo : Handler → TypingMode → ℕ → List Tree → Table → List Tree → Table → Goal → Type 0
+IsOpenForcedTo h mode n a t b u g =
+    ForcesOpened (h.offers (mode_of mode)) n (content_of a t.entries) (content_of b u.entries) (tree_at a g.param_env.node) (tree_at a g.predicate.node)
+
+abbrev pub IsOpenGainedTo : Handler → TypingMode → ℕ → List Tree → Table → List Tree → Table → Goal → Type 0
+IsOpenGainedTo h mode n a t b u g =
+    GainsOpened (h.offers (mode_of mode)) n (content_of a t.entries) (content_of b u.entries) (tree_at a g.param_env.node) (tree_at a g.predicate.node)
 
 -- .. by its query, whose response was applied
 abbrev pub AsksForced : Handler → TypingMode → ℕ → Leaves
@@ -118,3 +144,6 @@ IsOnlyMet h mode ts t g x = OnlyIsMet (content_of ts t.entries) (candidate_of ts
 -- a goal of the store is refuted in the table, in a tree of queries less than n high
 abbrev pub IsRefutedBy : Handler → TypingMode → ℕ → List Tree → Table → Goal → Type 0
 IsRefutedBy h mode n ts t g = Refutes (h.offers (mode_of mode)) n (content_of ts t.entries) (tree_at ts g.param_env.node) (tree_at ts g.predicate.node)
+
+abbrev pub IsOpenRefutedBy : Handler → TypingMode → ℕ → List Tree → Table → Goal → Type 0
+IsOpenRefutedBy h mode n ts t g = RefutesOpened (h.offers (mode_of mode)) n (content_of ts t.entries) (tree_at ts g.param_env.node) (tree_at ts g.predicate.node)

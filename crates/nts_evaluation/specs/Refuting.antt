@@ -11,6 +11,7 @@ use Rattle.nts_model.specs.Handlers.{Candidate, filled, constraint_by}
 use Rattle.nts_model.specs.Choosing.{Freshens, EquatesAll, NoneIsMet, OnlyIsMet}
 use Rattle.nts_model.specs.Forcing.{Adds, AddsAll, Leaves, IsForced}
 use Rattle.nts_model.specs.Inputs.{CanonicalInput}
+use Rattle.nts_model.specs.Opening.{entered, opened_in}
 use Rattle.nts_evaluation.specs.Asking.{first_table, asked_environment, asked_predicate, Refuses, Answers, AnswersInPart, Asks, RefusesAsked}
 
 -- constraint by constraint, until the sides of an equality are not related
@@ -59,22 +60,39 @@ pub record IsGained (offers : Tree → Tree → List Candidate) (Below : Leaves)
   pub adds : AddsAll values candidate.constraints equal met
   pub goals : LeavesSome Below values candidate.goals met d
 
--- what an evaluation that is not sure may leave: nothing, or what the one candidate that is met forces, in a tree of queries
--- that is less than n high
+-- what an evaluation that is not sure may leave: nothing, or a new universe for what the goal binds, or there what the one
+-- candidate that is met forces, in a tree of queries that is less than n high
 abbrev pub Gains : (Tree → Tree → List Candidate) → ℕ → Leaves
 Gains offers zero c d e g = d ≡ c
-Gains offers (suc n) c d e g = (d ≡ c) ⊎ IsGained offers (Asks (AnswersInPart (Gains offers n))) c d e g
+Gains offers (suc n) c d e g =
+    (d ≡ c) ⊎ (d ≡ entered c g) ⊎ IsGained offers (Asks (AnswersInPart (Gains offers n))) (entered c g) d e (opened_in c g)
 
--- what a sure one leaves: what the candidate that alone is met says, and the responses to its goals, each forced in its own
--- query, in a tree of queries that is less than n high
+-- what a sure one leaves: what the candidate that alone is met says of the goal, opened if it binds variables, and the
+-- responses to the candidate's goals, each forced in its own query, in a tree of queries that is less than n high
 abbrev pub Forces : (Tree → Tree → List Candidate) → ℕ → Leaves
 Forces offers zero c d e g = ⊥
-Forces offers (suc n) c d e g = IsForced offers (Asks (Answers (Forces offers n))) c d e g
+Forces offers (suc n) c d e g = IsForced offers (Asks (Answers (Forces offers n))) (entered c g) d e (opened_in c g)
 
--- no candidate is met, or the one that is fails, in a tree of queries that is less than n high
+-- of the goal, opened if it binds variables, no candidate is met, or the one that is fails, in a tree of queries that is less
+-- than n high
 abbrev pub Refutes : (Tree → Tree → List Candidate) → ℕ → Refuses
 Refutes offers zero c e g = ⊥
 Refutes offers (suc n) c e g =
+    NoneIsMet (entered c g) (offers e (opened_in c g))
+    ⊎ IsRefuted offers (Asks (AnswersInPart (Gains offers n))) (RefusesAsked (Refutes offers n) (AnswersInPart (Gains offers n))) (entered c g) e (opened_in c g)
+
+-- .. of a goal that is open
+abbrev pub GainsOpened : (Tree → Tree → List Candidate) → ℕ → Leaves
+GainsOpened offers zero c d e g = d ≡ c
+GainsOpened offers (suc n) c d e g = (d ≡ c) ⊎ IsGained offers (Asks (AnswersInPart (Gains offers n))) c d e g
+
+abbrev pub ForcesOpened : (Tree → Tree → List Candidate) → ℕ → Leaves
+ForcesOpened offers zero c d e g = ⊥
+ForcesOpened offers (suc n) c d e g = IsForced offers (Asks (Answers (Forces offers n))) c d e g
+
+abbrev pub RefutesOpened : (Tree → Tree → List Candidate) → ℕ → Refuses
+RefutesOpened offers zero c e g = ⊥
+RefutesOpened offers (suc n) c e g =
     NoneIsMet c (offers e g)
     ⊎ IsRefuted offers (Asks (AnswersInPart (Gains offers n))) (RefusesAsked (Refutes offers n) (AnswersInPart (Gains offers n))) c e g
 

@@ -12,16 +12,17 @@ ghost use Rattle.nts_store.specs.Growth.{tree_at, Extends};
 ghost use Rattle.nts_delegate.specs.Candidates.{IsAsked, IsCandidate, AreCandidates, IsNested};
 ghost use Rattle.nts_terms.specs.Handles.{HoldsEnv, HoldsGoal};
 ghost use Rattle.nts_terms.specs.Modes.{mode_of};
-ghost use Rattle.nts_evaluation.specs.Meant.{Since, meaning_since, IfYes, IsPremiseProved, AreOffered, IsOffered, IsProvedSince, IsForcedTo, IsGainedTo, AsksForced, AsksGained, AsksRefuted, LeavesGoal, RefusesGoal, LeavesPremise, LeavesOrSkips, RefusesPremise, IsOnlyMet, IsRefutedBy};
+ghost use Rattle.nts_evaluation.specs.Meant.{Since, meaning_since, IfYes, IsPremiseProved, AreOffered, IsOffered, IsServedSince, IsProvedNow, IsProvedSince, IsForcedTo, IsGainedTo, IsOpenForcedTo, IsOpenGainedTo, IsOpenRefutedBy, AsksForced, AsksGained, AsksRefuted, LeavesGoal, RefusesGoal, LeavesPremise, LeavesOrSkips, RefusesPremise, IsOnlyMet, IsRefutedBy};
 ghost use Rattle.nts_evaluation.specs.Asking.{Answers, AnswersInPart};
 ghost use Rattle.nts_evaluation.specs.Refuting.{Forces, Gains, IsQueryRefuted};
 ghost use Rattle.nts_evaluation.specs.Answering.{IsQueryInput, IsAnswerTo, EvaluatesGoal, IfSure, IfCertain};
-ghost use Rattle.nts_evaluation.specs.Evaluation.{Runs, IsPosed, AreValues, asked_terms};
+ghost use Rattle.nts_evaluation.specs.Evaluation.{Goes, Runs, IsPosed, AreValues, asked_terms};
 ghost use Rattle.nts_evaluation.specs.Choices.{IsChoiceOf};
 ghost use Rattle.nts_unify.specs.Reading.{content_of};
 ghost use Rattle.nts_certainty.specs.declared.certainty.Certainty.TheVariants as certainty;
 ghost use Rattle.nts_terms.specs.Rest.{Grows};
 
+use crate::binder::enter_forall;
 use crate::candidate::{Trial, candidate_holds, equate, record_constraints, terms_are_formed};
 use crate::query::{end_query, query_of};
 use crate::response::{apply_answer, make_response};
@@ -105,7 +106,6 @@ pub fn evaluate_goal<H: GoalHandler>(
     ensures refuted { (s : Since (λ ts. H.ready ts handler.now) cx.old.nodes) →
         result ≡ Err EvalError.NoSolution → RefusesGoal (AsksRefuted (H.handler s.base handler.now)
         table.old.mode (depth + 1)) cx.old.nodes table.old goal }
-    ensures full { result ≢ Err EvalError.Full }
 {
     let (originals, input) = query_of(table, cx, goal)?;
     let answer = evaluate_query(cx, handler, &input, depth)?;
@@ -139,7 +139,6 @@ fn evaluate_query<H: GoalHandler>(
     ensures refuted { (s : Since (λ ts. H.ready ts handler.now) cx.old.nodes) →
         result ≡ Err EvalError.NoSolution → IsQueryRefuted ((H.handler s.base handler.now).offers
         (mode_of input.now.typing_mode)) (depth + 1) (form_of cx.old.nodes input.now) }
-    ensures full { result ≢ Err EvalError.Full }
 {
     let (mut table, query, values) = build_with_canonical(cx, input)?;
     let snapshot = table.start_snapshot()?;
@@ -153,7 +152,7 @@ fn evaluate_query<H: GoalHandler>(
     })
 }
 
-/// Answers a goal by its kind. Kinds and terms that are not there yet are ambiguous.
+/// Answers a goal by its kind, with placeholders in place of what it binds. Kinds and terms that are not there yet are ambiguous.
 #[cycle(evaluate)]
 fn compute_goal<H: GoalHandler>(
     table: &mut InferCtxt,
@@ -164,11 +163,12 @@ fn compute_goal<H: GoalHandler>(
 ) -> Result<Answer, EvalError>
     requires posed { IsPosed cx.old.nodes table.old goal }
     requires ready { H.ready cx.old.nodes handler.now }
-    ensures runs { Runs cx.old cx.new table.old table.new }
+    ensures grows { Grows cx.old cx.new }
+    ensures goes { OnOk result (Goes cx.old.nodes cx.new.nodes table.old table.new) }
     ensures labels { OnOk result (BringsOnly (asked_terms cx.old.nodes goal) (content_of cx.old.nodes
         table.old.entries) (content_of cx.new.nodes table.new.entries)) }
     ensures proved { (s : Since (λ ts. H.ready ts handler.now) cx.old.nodes) → IfYes result
-        (IsProvedSince (λ ts. H.handler ts handler.now) s table.old.mode cx.new.nodes table.new goal) }
+        (IsProvedNow (λ ts. H.handler ts handler.now) s table.old.mode cx.new.nodes table.new goal) }
     ensures forced { (s : Since (λ ts. H.ready ts handler.now) cx.old.nodes) → IfYes result
         (IsForcedTo (H.handler s.base handler.now) table.old.mode (depth + 1) cx.old.nodes table.old
         cx.new.nodes table.new goal) }
@@ -178,16 +178,23 @@ fn compute_goal<H: GoalHandler>(
     ensures refuted { (s : Since (λ ts. H.ready ts handler.now) cx.old.nodes) →
         result ≡ Err EvalError.NoSolution → IsRefutedBy (H.handler s.base handler.now) table.old.mode
         (depth + 1) cx.old.nodes table.old goal }
-    ensures full { result ≢ Err EvalError.Full }
 {
-    if !is_candidates_goal(cx, goal) {
+    let Some(opened) = enter_forall(table, cx, goal)? else {
+        return Ok(Answer {
+            certainty: Certainty::AMBIGUOUS,
+            has_overflowed: false,
+        });
+    };
+    if !is_candidates_goal(cx, opened) {
         return Ok(Answer {
             certainty: Certainty::AMBIGUOUS,
             has_overflowed: false,
         });
     }
-    let candidates = handler.candidates(cx, table.typing_mode(), goal)?;
-    evaluate_candidates(table, cx, handler, goal, candidates, depth)
+    let candidates = handler.candidates(cx, table.typing_mode(), opened)?;
+    let answer = evaluate_candidates(table, cx, handler, opened, candidates, depth);
+    terms_are_formed(cx);
+    answer
 }
 
 /// Whether a goal is answered by the handler's candidates: a closed trait goal that binds nothing, and
@@ -261,17 +268,16 @@ fn evaluate_candidates<H: GoalHandler>(
         table.old.entries) (content_of cx.new.nodes table.new.entries)) }
     ensures proved { (s : Since (λ ts. H.ready ts handler.now) cx.old.nodes) → AreOffered
         (H.handler s.base handler.now) table.old.mode cx.old.nodes goal candidates.items → IfYes result
-        (IsProvedSince (λ ts. H.handler ts handler.now) s table.old.mode cx.new.nodes table.new goal) }
+        (IsServedSince (λ ts. H.handler ts handler.now) s table.old.mode cx.new.nodes table.new goal) }
     ensures forced { (s : Since (λ ts. H.ready ts handler.now) cx.old.nodes) → AreOffered (H.handler s.base
-        handler.now) table.old.mode cx.old.nodes goal candidates.items → IfYes result (IsForcedTo (H.handler
+        handler.now) table.old.mode cx.old.nodes goal candidates.items → IfYes result (IsOpenForcedTo (H.handler
         s.base handler.now) table.old.mode (depth + 1) cx.old.nodes table.old cx.new.nodes table.new goal) }
     ensures gained { (s : Since (λ ts. H.ready ts handler.now) cx.old.nodes) → AreOffered (H.handler s.base
-        handler.now) table.old.mode cx.old.nodes goal candidates.items → OnOk result (IsGainedTo (H.handler
+        handler.now) table.old.mode cx.old.nodes goal candidates.items → OnOk result (IsOpenGainedTo (H.handler
         s.base handler.now) table.old.mode (depth + 1) cx.old.nodes table.old cx.new.nodes table.new goal) }
     ensures refuted { (s : Since (λ ts. H.ready ts handler.now) cx.old.nodes) → AreOffered (H.handler s.base
         handler.now) table.old.mode cx.old.nodes goal candidates.items → result ≡ Err EvalError.NoSolution →
-        IsRefutedBy (H.handler s.base handler.now) table.old.mode (depth + 1) cx.old.nodes table.old goal }
-    ensures full { result ≢ Err EvalError.Full }
+        IsOpenRefutedBy (H.handler s.base handler.now) table.old.mode (depth + 1) cx.old.nodes table.old goal }
 {
     match choose(table, cx, goal, &candidates)? {
         Choice::None => Err(EvalError::NoSolution),
@@ -353,17 +359,16 @@ fn run_candidate<H: GoalHandler>(
         table.old.entries) (content_of cx.new.nodes table.new.entries)) }
     ensures proved { (s : Since (λ ts. H.ready ts handler.now) cx.old.nodes) → IsOffered
         (H.handler s.base handler.now) table.old.mode cx.old.nodes goal candidate.now → IfYes result
-        (IsProvedSince (λ ts. H.handler ts handler.now) s table.old.mode cx.new.nodes table.new goal) }
+        (IsServedSince (λ ts. H.handler ts handler.now) s table.old.mode cx.new.nodes table.new goal) }
     ensures forced { (s : Since (λ ts. H.ready ts handler.now) cx.old.nodes) → IsOnlyMet (H.handler s.base
-        handler.now) table.old.mode cx.old.nodes table.old goal candidate.now → IfYes result (IsForcedTo (H.handler
+        handler.now) table.old.mode cx.old.nodes table.old goal candidate.now → IfYes result (IsOpenForcedTo (H.handler
         s.base handler.now) table.old.mode (depth + 1) cx.old.nodes table.old cx.new.nodes table.new goal) }
     ensures gained { (s : Since (λ ts. H.ready ts handler.now) cx.old.nodes) → IsOnlyMet (H.handler s.base
-        handler.now) table.old.mode cx.old.nodes table.old goal candidate.now → OnOk result (IsGainedTo (H.handler
+        handler.now) table.old.mode cx.old.nodes table.old goal candidate.now → OnOk result (IsOpenGainedTo (H.handler
         s.base handler.now) table.old.mode (depth + 1) cx.old.nodes table.old cx.new.nodes table.new goal) }
     ensures refuted { (s : Since (λ ts. H.ready ts handler.now) cx.old.nodes) → IsOnlyMet (H.handler s.base
         handler.now) table.old.mode cx.old.nodes table.old goal candidate.now → result ≡ Err EvalError.NoSolution
-        → IsRefutedBy (H.handler s.base handler.now) table.old.mode (depth + 1) cx.old.nodes table.old goal }
-    ensures full { result ≢ Err EvalError.Full }
+        → IsOpenRefutedBy (H.handler s.base handler.now) table.old.mode (depth + 1) cx.old.nodes table.old goal }
 {
     let values = equate(table, cx, goal, candidate)?;
     let trial = Trial {
@@ -379,6 +384,7 @@ fn run_candidate<H: GoalHandler>(
         certainty = certainty.and(answer.certainty);
         has_overflowed = has_overflowed || answer.has_overflowed;
     }
+    terms_are_formed(cx);
     Ok(Answer {
         certainty,
         has_overflowed,
@@ -415,7 +421,6 @@ fn evaluate_nested<H: GoalHandler>(
     ensures refuted { (s : Since (λ ts. H.ready ts handler.now) cx.old.nodes) →
         result ≡ Err EvalError.NoSolution → RefusesPremise (AsksRefuted (H.handler s.base
         handler.now) table.old.mode depth) cx.old.nodes table.old trial.entry.values.now nested }
-    ensures full { result ≢ Err EvalError.Full }
 {
     match depth_below(depth, has_overflowed) {
         None => Ok(Answer {

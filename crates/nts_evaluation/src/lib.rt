@@ -2,6 +2,7 @@
 #![tactic(auto)]
 
 mod admission;
+mod binder;
 mod candidate;
 mod evaluate;
 mod query;

@@ -1,5 +1,5 @@
 //! What a query's table answers, and what a response changes.
-ghost use Rattle.std.specs.Prelude.{◌≡◌, ◌≢◌, ◌↔◌, false, List, [], map, All, IfOk, OnOk, OnErr, IsOkUnless};
+ghost use Rattle.std.specs.Prelude.{◌≡◌, ◌↔◌, ◌<◌, ◌+◌, false, List, [], map, All, IfOk, OnOk, OnErr, IsOkUnless};
 ghost use Rattle.nts_model.specs.Trees.{Tree, IsClosed};
 ghost use Rattle.nts_model.specs.Passing.{BringsOnly};
 ghost use Rattle.nts_model.specs.Responses.{RefusesResponse, IsIdentity};
@@ -16,7 +16,7 @@ ghost use Rattle.nts_canonical.specs.Forms.{trees_of};
 ghost use Rattle.nts_canonical.specs.Building.{IsArgOf};
 ghost use Rattle.nts_response.specs.Forms.{response_at, recorded_at, HoldsResponse, HoldsConstraint};
 ghost use Rattle.nts_evaluation.specs.Asking.{IsResponseOf};
-ghost use Rattle.nts_evaluation.specs.Answering.{told_in, AreTold, KnowsSides, IsOfRoot};
+ghost use Rattle.nts_evaluation.specs.Answering.{told_in, AreTold, KnowsSides, TellsNoMore};
 
 use crate::candidate::{resolve_term, terms_are_formed};
 use crate::evaluate::{Evaluated, QueryAnswer};
@@ -46,7 +46,7 @@ pub fn apply_answer(
     requires originals { All (IsArgOf cx.old.nodes table.old.entries) originals.now }
     requires closed { All (λ o. IsClosed (tree_at cx.old.nodes o.node)) originals.now }
     requires fits { IsApplicable cx.old.nodes (trees_of cx.old.nodes originals.now) answer.now.response }
-    requires rootless { IsOfRoot answer.now.response }
+    requires no_more { TellsNoMore answer.now.response }
     ensures runs { Runs cx.old cx.new table.old table.new }
     ensures err { OnErr result (table.new ≡ table.old) }
     ensures applied { OnOk result (IsApplied cx.old.nodes cx.new.nodes table.old.entries table.new.entries (trees_of cx.old.nodes originals.now) (response_at cx.old.nodes answer.now.response) false []) }
@@ -54,10 +54,8 @@ pub fn apply_answer(
     ensures certainty { IfOk result (λ e. e.certainty ≡ answer.now.response.value.certainty) }
     ensures changed { IfOk result (λ e. (e.has_changed ≡ changes.No) ↔ IsIdentity 0 (trees_of cx.old.nodes answer.now.response.value.var_values.items)) }
     ensures no { result ≡ Err EvalError.NoSolution → RefusesResponse (content_of cx.old.nodes table.old.entries) (trees_of cx.old.nodes originals.now) (response_at cx.old.nodes answer.now.response) }
-    ensures full { result ≢ Err EvalError.Full }
+    ensures full { result ≡ Err EvalError.Full → u32.MAX < table.old.entries.universe + answer.now.response.max_universe }
 {
-    // A response of the root makes no universes, so there is room for those of the table, which have numbers.
-    let _ = table.universe();
     let response = &answer.response;
     let has_changed = if has_only_region_constraints(cx, response) {
         HasChanged::No

@@ -1,5 +1,5 @@
 //! The evaluation of goals.
-ghost use Rattle.std.specs.Prelude.{ℕ, ◌+◌, ◌≡◌, ◌≢◌, ◌↔◌, List, IsTrue, None, IfOk, OnOk, OnErr, IsOkUnless};
+ghost use Rattle.std.specs.Prelude.{ℕ, ◌+◌, ◌≡◌, ◌↔◌, List, IsTrue, None, IfOk, OnOk, OnErr, IsOkUnless};
 ghost use Rattle.nts_model.specs.declared.labels.Variance.{Variance};
 ghost use Rattle.nts_model.specs.Handlers.{meaning};
 ghost use Rattle.nts_store.specs.Growth.{Extends};
@@ -66,7 +66,7 @@ pub fn goal_is_admitted(table: &InferCtxt, cx: &mut Cx, goal: Goal) -> Result<bo
 /// proof, and the response says what the candidates say that alone can be met. Where it is not, the response says of the goal's
 /// variables what each way to meet the goal must make them, and of regions nothing. `NoSolution` says that no
 /// candidate can be met, or that the one that can asks for what is refuted. After an error the table is as it was.
-/// The one fault is want of memory.
+/// A fault is want of memory, or `Full` where a universe above the greatest is asked for.
 pub fn evaluate_root_goal<H: GoalHandler>(
     table: &mut InferCtxt,
     cx: &mut Cx,
@@ -96,7 +96,6 @@ pub fn evaluate_root_goal<H: GoalHandler>(
     ensures refuted { result ≡ Err EvalError.NoSolution → RefusesUnder (AsksRefuted (H.handler
         cx.old.nodes handler.now) table.old.mode (cx.old.recursion_limit + 1)) cx.old.nodes table.old
         goal }
-    ensures full { result ≢ Err EvalError.Full }
 {
     let _ = (span, stalled_on);
     terms_are_formed(cx);
@@ -132,7 +131,6 @@ fn evaluate_root<H: GoalHandler>(
     ensures refuted { (s : Since (λ ts. H.ready ts handler.now) cx.old.nodes) →
         result ≡ Err EvalError.NoSolution → RefusesUnder (AsksRefuted (H.handler s.base handler.now)
         table.old.mode (cx.old.recursion_limit + 1)) cx.old.nodes table.old goal }
-    ensures full { result ≢ Err EvalError.Full }
 {
     let asked = resolve_goal(table, cx, goal)?;
     let depth = cx.recursion_limit();

@@ -149,6 +149,10 @@ pub instance_of-reading : (c : Content) (s : IsSound c) (h : HoldsTerms c) (t : 
 unfolding reading_of
 instance_of-reading c s h t k i = replace-read_leaf c t k i
 
+pub reading-leaf : (c : Content) (s : IsSound c) (h : HoldsTerms c) (l : Leaf) → (reading_of c s h).value l ≡ read_leaf c l
+unfolding reading_of
+reading-leaf c s h l = refl
+
 -- under a later table
 pub instance_of-later : (c d : Content) (s : IsSound c) (r : IsSound d) (h : HoldsTerms c) (i : HoldsTerms d) (t : Tree) → Continues c d → Knows c t → IsFormed t
     → instance_of (reading_of d r i) (deeply_resolved c t) ≡ deeply_resolved d t

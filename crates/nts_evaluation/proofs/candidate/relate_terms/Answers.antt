@@ -8,7 +8,7 @@ pub returns-clause-runs : goal.returns-clause-runs
 returns-clause-runs c =
     let e = c.relate_nodes.ensures in
     record {
-      goes = related_goes _ _ c.relate_nodes.result c.requires.table e.extends e.table e.changes.saved e.changes.mode e.changes.universe e.changes.hidden e.related e.err e.later;
+      goes = related_goes _ _ c.relate_nodes.result c.requires.table e.extends e.table e.changes.saved e.changes.mode e.changes.hidden e.related e.err e.later;
       rest = search rules;
     }
 

@@ -1,4 +1,5 @@
-use Rattle.std.proofs.Common.{◌≡◌, inl, inr, Err, arith, rules, ◌+◌, ◌<◌, ◌≤◌, map, length, refl, ap, sym, ◌∙◌}
+use Rattle.std.proofs.Common.{◌≡◌, inl, inr, Err, arith, rules, ◌+◌, ◌<◌, ◌≤◌, map, length, refl, ap, sym, ◌∙◌, subst}
+use Rattle.std.specs.Prelude.{is_some}
 use Rattle.std.proofs.lemmas.List.{take_all}
 use Rattle.nts_store.specs.Growth.{tree_at}
 use Rattle.nts_store.proofs.Growing.{Extends-refl, Extends-trans}
@@ -7,10 +8,11 @@ use Rattle.nts_evaluation.specs.Meant.{meaning_since}
 use Rattle.nts_unify.specs.Reading.{content_of}
 use Rattle.nts_delegate.specs.declared.delegate.CandidateGoal.{CandidateGoal}
 use Rattle.nts_model.specs.Handlers.{meaning}
+use Rattle.nts_model.specs.Proving.{IsProved}
 use Rattle.nts_delegate.specs.Offered.{certainty_of, candidate_of}
 use Rattle.nts_terms.specs.Modes.{mode_of}
 use Rattle.nts_evaluation.proofs.Asking.{IsAsked-extended}
-use Rattle.nts_evaluation.proofs.Running.{Stays-now, unread, premise_stays, HasRun, has_run, both_sure, constraints-kept, offered_there, Equates-later, Constrains-later, Proves-step}
+use Rattle.nts_evaluation.proofs.Running.{term_table, unread, premise_stays, HasRun, has_run, both_sure, constraints-kept, offered_there, Equates-later, Constrains-later, Proves-step}
 use Rattle.nts_delegate.proofs.Results.{IfOk-map, OnOk-map}
 use Rattle.nts_unify.specs.Lawful.{content_of-extended}
 use Rattle.nts_model.proofs.Bringing.{only-refl, only-trans, only-none}
@@ -24,20 +26,14 @@ use Rattle.nts_canonical.specs.Forms.{form_of, trees_of}
 use Rattle.nts_response.specs.Forms.{response_at}
 use Rattle.nts_evaluation.specs.Asking.{first_values}
 use Rattle.nts_evaluation.proofs.QueryTables.{is_label_in, first_passes, first_sides, table_in}
-use Rattle.nts_evaluation.proofs.AnsweredQueries.{first_entries, query_environment, query_predicate, ended_as, yes_is_kept, ended_continues, ended_passes, ended_sides, ended_universe, ended_contents, args_later, args_know, query_passes, query_table, query_says, answers_of, answers_in_part_of}
+use Rattle.nts_evaluation.proofs.AnsweredQueries.{first_entries, query_environment, query_predicate, ended_as, yes_is_kept, ended_continues, ended_passes, ended_sides, ended_contents, args_later, args_know, query_passes, query_table, query_says, answers_of, answers_in_part_of}
 use Rattle.nts_evaluation.proofs.Labels.{only_earlier, only_back, only_same, only_nested, content_same}
-use Rattle.nts_evaluation.proofs.Refuting.{asks_forced_more, asks_gained_more, asks_refuted_more, some_first, some_more, skipped, gained_last, gained_nothing, gained_back, refuted_none, refuted_by_goal, refuted_by_constraint, refuted_back, only_met}
+use Rattle.nts_evaluation.proofs.Refuting.{asks_forced_more, asks_gained_more, asks_refuted_more, some_first, some_more, skipped, gained_last, gained_nothing, open_gains_nothing, gained_back, refuted_none, refuted_by_goal, refuted_by_constraint, refuted_back, only_met}
 use Rattle.nts_store.specs.declared.fault.EvalError.TheVariants as EvalError
 use Rattle.nts_evaluation.proofs.Forcing.{only_later, forced_back, run_first, run_more, run_last}
 use Rattle.nts_evaluation.proofs.Evaluating.{Knows-goes, KeepsRest-trans, Goes-trans, Goes-extends, goes-back, Runs-trans, Runs-extends, Runs-refl, runs-back, Since-later, offers-kept, IsPosed-opened, IsPosed-later, AreValues-later, IsCandidate-extended, IsNested-extended, can_fill, candidate_at, nested_at, committed, rolled_back}
+use Rattle.nts_evaluation.proofs.Opened.{on_ok, forced_through, gained_through, refuted_through, entered_through, labels_through, labels_entered, proved_through}
 use Rattle.nts_evaluation.proofs.evaluate.+evaluate.Goals as goal
-
-pub compute_goal-returns-in_err-candidates-clause-runs : goal.compute_goal-returns-in_err-candidates-clause-runs
-compute_goal-returns-in_err-candidates-clause-runs g t c = Runs-extends c.requires.posed.table c.candidates.ensures.grows.extends c.candidates.ensures.grows.rest
-
-pub compute_goal-returns-clause-runs : goal.compute_goal-returns-clause-runs
-compute_goal-returns-clause-runs g t c =
-    Runs-trans (Runs-extends c.requires.posed.table c.in_ok-candidates.ensures.grows.extends c.in_ok-candidates.ensures.grows.rest) c.evaluate_candidates.ensures.runs
 
 pub evaluate_candidates-returns-in_err-choose-clause-runs : goal.evaluate_candidates-returns-in_err-choose-clause-runs
 evaluate_candidates-returns-in_err-choose-clause-runs g t c = runs-back c.requires.posed.table c.choose.ensures.grows.extends c.choose.ensures.grows.rest c.choose.ensures.same
@@ -51,11 +47,6 @@ evaluate_candidates-returns-in-Several-clause-runs g t c = runs-back c.requires.
 pub evaluate_candidates-returns-in-One-clause-runs : goal.evaluate_candidates-returns-in-One-clause-runs
 evaluate_candidates-returns-in-One-clause-runs g t c =
     Runs-trans (runs-back c.requires.posed.table c.in_ok-choose.ensures.grows.extends c.in_ok-choose.ensures.grows.rest c.in_ok-choose.ensures.same) c.run_candidate.ensures.runs
-
-pub compute_goal-evaluate_candidates-requires : goal.compute_goal-evaluate_candidates-requires
-compute_goal-evaluate_candidates-requires g t c = λ κs k.
-    let e = c.in_ok-candidates.ensures in
-    (omega (arith, c.decreases), (k, (IsPosed-later (Goes-extends c.requires.posed.table e.grows.extends) c.requires.posed, (IsAsked-extended e.grows.extends (c.is_candidates_goal.ensures c.if-not-is_candidates_goal.false), (g.met.H.GoalHandler.ready_kept _ _ _ c.requires.ready e.grows.extends, e.candidates)))))
 
 pub evaluate_candidates-run_candidate-requires : goal.evaluate_candidates-run_candidate-requires
 evaluate_candidates-run_candidate-requires g t c = λ κs k.
@@ -84,16 +75,6 @@ pub run_candidate-record_constraints-requires-clause-constraints : goal.run_cand
 run_candidate-record_constraints-requires-clause-constraints g t c =
     let k = IsCandidate-extended c.in_ok-values.ensures.runs.goes.extends c.requires.posed.holds c.requires.candidate in
     rw (c.deref.ensures.value, c.deref-3.ensures.value) k.constraints
-
-pub compute_goal-returns-then-not-is_candidates_goal-clause-runs : goal.compute_goal-returns-then-not-is_candidates_goal-clause-runs
-compute_goal-returns-then-not-is_candidates_goal-clause-runs g t c = Runs-refl c.requires.posed.table
-
-pub compute_goal-returns-clause-proved : goal.compute_goal-returns-clause-proved
-compute_goal-returns-clause-proved g t c = λ s.
-    let k = c.in_ok-candidates.ensures in
-    let same = g.met.H.GoalHandler.handler_kept s.base c.candidates.new.cx.nodes c.args.handler.now s.is_ready (Extends-trans s.extends k.grows.extends) in
-    c.evaluate_candidates.ensures.proved (Since-later k.grows.extends s)
-    (k.offered ∙ ap (λ m. (g.H.GoalHandler.handler c.candidates.new.cx.nodes c.args.handler.now).offers (mode_of m) (tree_at c.candidates.new.cx.nodes c.args.goal.param_env.node) (tree_at c.candidates.new.cx.nodes c.args.goal.predicate.node)) c.typing_mode.ensures ∙ same.offers _ _ _)
 
 pub evaluate_candidates-returns-in-One-clause-proved : goal.evaluate_candidates-returns-in-One-clause-proved
 evaluate_candidates-returns-in-One-clause-proved g t c = λ s offered.
@@ -194,9 +175,8 @@ run_candidate-returns-clause-proved g t c = λ s offered y.
       constraints = i.held;
       goals = rw all at (i.proved s y);
     } in
-    let law = g.met.H.GoalHandler.lawful s.base c.args.handler.now s.formed s.is_ready in
     rw (i.runs.goes.extends.kept c.args.goal.param_env.node c.requires.posed.holds.env.within, i.runs.goes.extends.kept c.args.goal.predicate.node c.requires.posed.holds.predicate.within)
-    (has_run handler s.variances mode here seen vs (tree_at c.args.cx.now.nodes c.args.goal.param_env.node) (tree_at c.args.cx.now.nodes c.args.goal.predicate.node) law c.requires.asked.asked (Knows-goes _ i.runs.goes c.requires.posed.knows.env) (Knows-goes _ i.runs.goes c.requires.posed.knows.predicate) offered run)
+    (has_run handler s.variances mode here seen vs (tree_at c.args.cx.now.nodes c.args.goal.param_env.node) (tree_at c.args.cx.now.nodes c.args.goal.predicate.node) (term_table c.terms_are_formed.ensures i.runs.goes.table) offered run)
 
 pub evaluate_candidates-returns-in-One-clause-forced : goal.evaluate_candidates-returns-in-One-clause-forced
 evaluate_candidates-returns-in-One-clause-forced g t c = λ s offered.
@@ -208,15 +188,6 @@ evaluate_candidates-returns-in-One-clause-forced g t c = λ s offered.
     let only = only_later h mode c.args.goal c.args.candidates.items c.in-One.i _ c.take_candidate-chosen.ensures choice.0 c.requires.candidates k.grows.extends p.table p.holds refl offered (choice.1 _) in
     let run = rw (k.same) at (c.run_candidate.ensures.forced (Since-later k.grows.extends s) (rw (k.same) only)) in
     IfOk-map c.run_candidate.result (λ x f y. forced_back c.run_candidate.new.cx.nodes c.args.table.now c.run_candidate.new.table h mode _ c.args.goal k.grows.extends p.table p.holds refl (f y)) run
-
-pub compute_goal-returns-clause-forced : goal.compute_goal-returns-clause-forced
-compute_goal-returns-clause-forced g t c = λ s.
-    let k = c.in_ok-candidates.ensures in
-    let p = c.requires.posed in
-    let same = g.met.H.GoalHandler.handler_kept s.base c.candidates.new.cx.nodes c.args.handler.now s.is_ready (Extends-trans s.extends k.grows.extends) in
-    let run = c.evaluate_candidates.ensures.forced (Since-later k.grows.extends s)
-    (k.offered ∙ ap (λ m. (g.H.GoalHandler.handler c.candidates.new.cx.nodes c.args.handler.now).offers (mode_of m) (tree_at c.candidates.new.cx.nodes c.args.goal.param_env.node) (tree_at c.candidates.new.cx.nodes c.args.goal.predicate.node)) c.typing_mode.ensures ∙ same.offers _ _ _) in
-    IfOk-map c.evaluate_candidates.result (λ x f y. forced_back c.evaluate_candidates.new.cx.nodes c.args.table.now c.evaluate_candidates.new.table (g.H.GoalHandler.handler s.base c.args.handler.now) c.args.table.now.mode _ c.args.goal k.grows.extends p.table p.holds refl (f y)) run
 
 pub run_candidate-returns-clause-forced : goal.run_candidate-returns-clause-forced
 run_candidate-returns-clause-forced g t c = λ s only y.
@@ -242,15 +213,6 @@ evaluate_candidates-returns-in-One-clause-refuted g t c = λ s offered q.
     let run = rw (k.same) at (c.run_candidate.ensures.refuted (Since-later k.grows.extends s) (rw (k.same) only) q) in
     refuted_back c.args.table.now h mode _ c.args.goal k.grows.extends p.table p.holds refl run
 
-pub compute_goal-returns-clause-refuted : goal.compute_goal-returns-clause-refuted
-compute_goal-returns-clause-refuted g t c = λ s q.
-    let k = c.in_ok-candidates.ensures in
-    let p = c.requires.posed in
-    let same = g.met.H.GoalHandler.handler_kept s.base c.candidates.new.cx.nodes c.args.handler.now s.is_ready (Extends-trans s.extends k.grows.extends) in
-    let run = c.evaluate_candidates.ensures.refuted (Since-later k.grows.extends s)
-    (k.offered ∙ ap (λ m. (g.H.GoalHandler.handler c.candidates.new.cx.nodes c.args.handler.now).offers (mode_of m) (tree_at c.candidates.new.cx.nodes c.args.goal.param_env.node) (tree_at c.candidates.new.cx.nodes c.args.goal.predicate.node)) c.typing_mode.ensures ∙ same.offers _ _ _) q in
-    refuted_back c.args.table.now (g.H.GoalHandler.handler s.base c.args.handler.now) c.args.table.now.mode _ c.args.goal k.grows.extends p.table p.holds refl run
-
 pub run_candidate-returns-in_err-answer-clause-refuted : goal.run_candidate-returns-in_err-answer-clause-refuted
 run_candidate-returns-in_err-answer-clause-refuted g t c = λ s only q.
     let i = c.loop-nested.invariant in
@@ -273,20 +235,6 @@ run_candidate-returns-in_err-values-clause-refuted g t c = λ s only q.
     let no : c.equate.result ≡ Err EvalError.NoSolution = search rules in
     absurd (c.equate.ensures.unmet no (only_met _ _ _ only))
 
-pub compute_goal-returns-clause-labels : goal.compute_goal-returns-clause-labels
-compute_goal-returns-clause-labels g t c =
-    let k = c.in_ok-candidates.ensures in
-    OnOk-map c.evaluate_candidates.result (λ h. only_back k.grows.extends c.requires.posed.table c.requires.posed.holds h) c.evaluate_candidates.ensures.labels
-
-pub compute_goal-returns-clause-gained : goal.compute_goal-returns-clause-gained
-compute_goal-returns-clause-gained g t c = λ s.
-    let k = c.in_ok-candidates.ensures in
-    let p = c.requires.posed in
-    let same = g.met.H.GoalHandler.handler_kept s.base c.candidates.new.cx.nodes c.args.handler.now s.is_ready (Extends-trans s.extends k.grows.extends) in
-    let run = c.evaluate_candidates.ensures.gained (Since-later k.grows.extends s)
-    (k.offered ∙ ap (λ m. (g.H.GoalHandler.handler c.candidates.new.cx.nodes c.args.handler.now).offers (mode_of m) (tree_at c.candidates.new.cx.nodes c.args.goal.param_env.node) (tree_at c.candidates.new.cx.nodes c.args.goal.predicate.node)) c.typing_mode.ensures ∙ same.offers _ _ _) in
-    OnOk-map c.evaluate_candidates.result (λ f. gained_back c.evaluate_candidates.new.cx.nodes c.args.table.now c.evaluate_candidates.new.table (g.H.GoalHandler.handler s.base c.args.handler.now) c.args.table.now.mode _ c.args.goal k.grows.extends p.table p.holds refl f) run
-
 pub evaluate_candidates-returns-in-Several-clause-labels : goal.evaluate_candidates-returns-in-Several-clause-labels
 evaluate_candidates-returns-in-Several-clause-labels g t c =
     let k = c.in_ok-choose.ensures in only_same _ k.grows.extends c.requires.posed.table k.same
@@ -294,7 +242,7 @@ evaluate_candidates-returns-in-Several-clause-labels g t c =
 pub evaluate_candidates-returns-in-Several-clause-gained : goal.evaluate_candidates-returns-in-Several-clause-gained
 evaluate_candidates-returns-in-Several-clause-gained g t c = λ s offered.
     let k = c.in_ok-choose.ensures in
-    gained_nothing ((g.H.GoalHandler.handler s.base c.args.handler.now).offers (mode_of c.args.table.now.mode)) (c.args.depth + 1) _ _ _ _ (content_same k.grows.extends c.requires.posed.table k.same)
+    open_gains_nothing ((g.H.GoalHandler.handler s.base c.args.handler.now).offers (mode_of c.args.table.now.mode)) (c.args.depth + 1) _ _ _ _ (content_same k.grows.extends c.requires.posed.table k.same)
 
 pub evaluate_candidates-returns-in-One-clause-labels : goal.evaluate_candidates-returns-in-One-clause-labels
 evaluate_candidates-returns-in-One-clause-labels g t c =
@@ -402,8 +350,8 @@ evaluate_goal-apply_answer-evaluated-requires-clause-fits g t c =
     let q = c.in_ok-originals.ensures in
     rw c.deref.ensures.value (applicable c.requires.posed q.query q.grows.extends c.in_ok-answer.ensures.grows.extends c.in_ok-answer.answer.response c.in_ok-answer.ensures.fits)
 
-pub evaluate_goal-apply_answer-evaluated-requires-clause-rootless : goal.evaluate_goal-apply_answer-evaluated-requires-clause-rootless
-evaluate_goal-apply_answer-evaluated-requires-clause-rootless g t c = c.in_ok-answer.ensures.fits.of_root
+pub evaluate_goal-apply_answer-evaluated-requires-clause-no_more : goal.evaluate_goal-apply_answer-evaluated-requires-clause-no_more
+evaluate_goal-apply_answer-evaluated-requires-clause-no_more g t c = c.in_ok-answer.ensures.fits.no_more
 
 pub evaluate_goal-returns-clause-runs : goal.evaluate_goal-returns-clause-runs
 evaluate_goal-returns-clause-runs g t c =
@@ -479,10 +427,10 @@ evaluate_query-make_response-requires-clause-values g t c =
     let k = c.in_ok-table.ensures in
     let o = c.in_ok-snapshot.ensures in
     let r = c.in_ok-answer.ensures in
-    let ended = ended_as _ c.in_ok-table.table c.start_snapshot.new.self c.compute_goal.new.table c.end_query.new.table o.saved r.runs.goes.saved c.end_query.ensures.kept c.end_query.ensures.taken_back in
+    let ended = ended_as _ c.in_ok-table.table c.start_snapshot.new.self c.compute_goal.new.table c.end_query.new.table o.saved r.goes.saved c.end_query.ensures.kept c.end_query.ensures.taken_back in
     rw c.deref.ensures.value
-    (args_later c.build_with_canonical.new.cx.nodes c.compute_goal.new.cx.nodes c.in_ok-table.table.entries c.end_query.new.table.entries c.in_ok-table.values.items r.runs.goes.extends
-    (ended_continues c.build_with_canonical.new.cx.nodes c.compute_goal.new.cx.nodes c.in_ok-table.table c.start_snapshot.new.self c.compute_goal.new.table c.end_query.new.table k.table o.entries r.runs.goes ended) k.args)
+    (args_later c.build_with_canonical.new.cx.nodes c.compute_goal.new.cx.nodes c.in_ok-table.table.entries c.end_query.new.table.entries c.in_ok-table.values.items r.goes.extends
+    (ended_continues c.build_with_canonical.new.cx.nodes c.compute_goal.new.cx.nodes c.in_ok-table.table c.start_snapshot.new.self c.compute_goal.new.table c.end_query.new.table k.table o.entries r.goes ended) k.args)
 
 pub evaluate_query-returns-clause-forced : goal.evaluate_query-returns-clause-forced
 evaluate_query-returns-clause-forced g t c = λ s y.
@@ -503,8 +451,8 @@ evaluate_query-returns-clause-forced g t c = λ s y.
     let first = first_entries b ks q.entries p.entries _ o.entries k.entries in
     let env = query_environment a b input query k.query in
     let predicate = query_predicate a b input query k.query in
-    let values = trees_kept b d q.entries c.in_ok-table.values.items r.runs.goes.extends k.args ∙ k.values in
-    let ended = ended_as _ q p u v o.saved r.runs.goes.saved c.end_query.ensures.kept c.end_query.ensures.taken_back in
+    let values = trees_kept b d q.entries c.in_ok-table.values.items r.goes.extends k.args ∙ k.values in
+    let ended = ended_as _ q p u v o.saved r.goes.saved c.end_query.ensures.kept c.end_query.ensures.taken_back in
     let yes = sym w.certainty ∙ y in
     let kept = c.end_query.ensures.kept (yes_is_kept yes) in
     let says = rw (yes, c.deref.ensures.value, kept) at w.says in
@@ -530,10 +478,10 @@ evaluate_query-returns-clause-gained g t c = λ s.
     let first = first_entries b ks q.entries p.entries _ o.entries k.entries in
     let env = query_environment a b input query k.query in
     let predicate = query_predicate a b input query k.query in
-    let values = trees_kept b d q.entries c.in_ok-table.values.items r.runs.goes.extends k.args ∙ k.values in
-    let ended = ended_as _ q p u v o.saved r.runs.goes.saved c.end_query.ensures.kept c.end_query.ensures.taken_back in
+    let values = trees_kept b d q.entries c.in_ok-table.values.items r.goes.extends k.args ∙ k.values in
+    let ended = ended_as _ q p u v o.saved r.goes.saved c.end_query.ensures.kept c.end_query.ensures.taken_back in
     answers_in_part_of ((g.H.GoalHandler.handler s.base c.args.handler.now).offers (mode_of input.typing_mode)) (c.args.depth + 1) (form_of a input) (content_of b p.entries) (content_of d u.entries) (content_of d v.entries) (tree_at b query.goal.param_env.node) (tree_at b query.goal.predicate.node) (trees_of d c.in_ok-table.values.items) c.in_ok-answer.answer.certainty (response_at c.make_response.new.cx.nodes c.in_ok-response.response) first env predicate values
-    (rw (o.mode, k.mode) at (r.gained (Since-later k.grows.extends s))) (ended_contents b d q p u v k.table o.entries r.runs.goes ended) (rw c.deref.ensures.value at w.says)
+    (rw (o.mode, k.mode) at (r.gained (Since-later k.grows.extends s))) (ended_contents b d q p u v k.table o.entries r.goes ended) (rw c.deref.ensures.value at w.says)
 
 pub evaluate_query-returns-clause-proved : goal.evaluate_query-returns-clause-proved
 evaluate_query-returns-clause-proved g t c = λ s y.
@@ -554,23 +502,25 @@ evaluate_query-returns-clause-proved g t c = λ s y.
     let first = first_entries b ks q.entries p.entries _ o.entries k.entries in
     let env = query_environment a b input query k.query in
     let predicate = query_predicate a b input query k.query in
-    let values = trees_kept b d q.entries c.in_ok-table.values.items r.runs.goes.extends k.args ∙ k.values in
-    let ended = ended_as _ q p u v o.saved r.runs.goes.saved c.end_query.ensures.kept c.end_query.ensures.taken_back in
+    let values = trees_kept b d q.entries c.in_ok-table.values.items r.goes.extends k.args ∙ k.values in
+    let ended = ended_as _ q p u v o.saved r.goes.saved c.end_query.ensures.kept c.end_query.ensures.taken_back in
     let kinds = c.requires.input.input.kinds in
     let over = c.requires.input in
-    let args = args_later b d q.entries v.entries c.in_ok-table.values.items r.runs.goes.extends (ended_continues b d q p u v k.table o.entries r.runs.goes ended) k.args in
-    let pass = ended_passes b d q p u v k.table o.entries r.runs.goes ended (is_label_in ks) (rw (first_entries b ks q.entries q.entries _ refl k.entries) (first_passes (is_label_in ks) ks)) (query_passes b d p u query.goal ks (form_of a input) refl kinds over.environment over.predicate first env predicate r.labels) in
+    let args = args_later b d q.entries v.entries c.in_ok-table.values.items r.goes.extends (ended_continues b d q p u v k.table o.entries r.goes ended) k.args in
+    let pass = ended_passes b d q p u v k.table o.entries r.goes ended (is_label_in ks) (rw (first_entries b ks q.entries q.entries _ refl k.entries) (first_passes (is_label_in ks) ks)) (query_passes b d p u query.goal ks (form_of a input) refl kinds over.environment over.predicate first env predicate r.labels) in
     let known = args_know d v.entries c.in_ok-table.values.items (first_values ks) args values in
     let yes = sym w.certainty ∙ y in
     let kept = c.end_query.ensures.kept (yes_is_kept yes) in
     let says = rw (yes, c.deref.ensures.value, values) at w.says in
     let formed = c.terms_are_formed.ensures in
-    let table = query_table ks formed (c.end_query.ensures.table d r.runs.goes.table) kinds pass known in
-    let there = Stays-now formed r.runs.goes.table (r.proved (Since-later k.grows.extends s) yes) in
+    let table = query_table ks formed (c.end_query.ensures.table d r.goes.table) kinds pass known in
+    let m = meaning_since (λ ts. g.H.GoalHandler.handler ts c.args.handler.now) s in
+    let there : IsProved (meaning_since (λ ts. g.H.GoalHandler.handler ts c.args.handler.now) s) (mode_of c.start_snapshot.new.self.mode) (content_of c.compute_goal.new.cx.nodes c.compute_goal.new.table.entries) (tree_at c.compute_goal.new.cx.nodes c.in_ok-table.query.goal.param_env.node) (tree_at c.compute_goal.new.cx.nodes c.in_ok-table.query.goal.predicate.node) = r.proved (Since-later k.grows.extends s) yes in
+    let kept_there = subst (λ z. IsProved m (mode_of p.mode) (content_of d z) (tree_at d query.goal.param_env.node) (tree_at d query.goal.predicate.node)) (sym kept) there in
     let holds = k.holds in
-    let later = r.runs.goes.extends in
+    let later = r.goes.extends in
     query_says ks (content_of d v.entries) (form_of a input) (response_at c.make_response.new.cx.nodes c.in_ok-response.response) (meaning_since (λ ts. g.H.GoalHandler.handler ts c.args.handler.now) s) (mode_of input.typing_mode) refl table says over.environment over.predicate
-    (rw (later.kept query.goal.param_env.node holds.environment.within ∙ env, later.kept query.goal.predicate.node holds.predicate.within ∙ predicate, o.mode, k.mode, ← kept) at there)
+    (rw (later.kept query.goal.param_env.node holds.environment.within ∙ env, later.kept query.goal.predicate.node holds.predicate.within ∙ predicate, o.mode, k.mode) at kept_there)
 
 pub evaluate_query-returns-clause-fits : goal.evaluate_query-returns-clause-fits
 evaluate_query-returns-clause-fits g t c =
@@ -591,14 +541,111 @@ evaluate_query-returns-clause-fits g t c =
     let first = first_entries b ks q.entries p.entries _ o.entries k.entries in
     let env = query_environment a b input query k.query in
     let predicate = query_predicate a b input query k.query in
-    let values = trees_kept b d q.entries c.in_ok-table.values.items r.runs.goes.extends k.args ∙ k.values in
-    let ended = ended_as _ q p u v o.saved r.runs.goes.saved c.end_query.ensures.kept c.end_query.ensures.taken_back in
+    let values = trees_kept b d q.entries c.in_ok-table.values.items r.goes.extends k.args ∙ k.values in
+    let ended = ended_as _ q p u v o.saved r.goes.saved c.end_query.ensures.kept c.end_query.ensures.taken_back in
     let kinds = c.requires.input.input.kinds in
     let over = c.requires.input in
-    let args = args_later b d q.entries v.entries c.in_ok-table.values.items r.runs.goes.extends (ended_continues b d q p u v k.table o.entries r.runs.goes ended) k.args in
-    let pass = ended_passes b d q p u v k.table o.entries r.runs.goes ended (is_label_in ks) (rw (first_entries b ks q.entries q.entries _ refl k.entries) (first_passes (is_label_in ks) ks)) (query_passes b d p u query.goal ks (form_of a input) refl kinds over.environment over.predicate first env predicate r.labels) in
+    let args = args_later b d q.entries v.entries c.in_ok-table.values.items r.goes.extends (ended_continues b d q p u v k.table o.entries r.goes ended) k.args in
+    let pass = ended_passes b d q p u v k.table o.entries r.goes ended (is_label_in ks) (rw (first_entries b ks q.entries q.entries _ refl k.entries) (first_passes (is_label_in ks) ks)) (query_passes b d p u query.goal ks (form_of a input) refl kinds over.environment over.predicate first env predicate r.labels) in
     let known = args_know d v.entries c.in_ok-table.values.items (first_values ks) args values in
-    let root = ended_universe b d q p u v k.table o.entries r.runs.goes ended ∙ ap (λ (z : Entries). z.universe) k.entries in
-    let sides = ended_sides b d q p u v k.table o.entries r.runs.goes ended (rw (first_entries b ks q.entries q.entries _ refl k.entries) (first_sides ks)) in
-    answer_to ks c.in_ok-answer.answer.certainty c.in_ok-response.response c.terms_are_formed.ensures (c.end_query.ensures.table d r.runs.goes.table) root kinds (table_in ks (content_of d v.entries) pass) known
+    let sides = ended_sides b d q p u v k.table o.entries r.goes ended (rw (first_entries b ks q.entries q.entries _ refl k.entries) (first_sides ks)) in
+    answer_to ks c.in_ok-answer.answer.certainty c.in_ok-response.response c.terms_are_formed.ensures (c.end_query.ensures.table d r.goes.table) kinds (table_in ks (content_of d v.entries) pass) known
     (rw (c.deref.ensures.value, values) at w.says) w.holds sides w.nothing.0 w.nothing.1
+
+pub compute_goal-returns-in_default-clause-labels : goal.compute_goal-returns-in_default-clause-labels
+compute_goal-returns-in_default-clause-labels g t c =
+    let e = c.in_ok-opened.ensures in only_same _ e.grows.extends c.requires.posed.table (e.left (ap is_some c.in_default.is))
+
+pub compute_goal-returns-in_default-clause-gained : goal.compute_goal-returns-in_default-clause-gained
+compute_goal-returns-in_default-clause-gained g t c = λ s.
+    let e = c.in_ok-opened.ensures in
+    gained_nothing ((g.H.GoalHandler.handler s.base c.args.handler.now).offers (mode_of c.args.table.now.mode)) (c.args.depth + 1) _ _ _ _ (content_same e.grows.extends c.requires.posed.table (e.left (ap is_some c.in_default.is)))
+
+pub compute_goal-returns-then-not-is_candidates_goal-clause-labels : goal.compute_goal-returns-then-not-is_candidates_goal-clause-labels
+compute_goal-returns-then-not-is_candidates_goal-clause-labels g t c =
+    let e = c.in_ok-opened.ensures in
+    labels_entered c.requires.posed (rw c.in-Some.is at e.opened) e.grows.extends
+
+pub compute_goal-returns-then-not-is_candidates_goal-clause-gained : goal.compute_goal-returns-then-not-is_candidates_goal-clause-gained
+compute_goal-returns-then-not-is_candidates_goal-clause-gained g t c = λ s.
+    let e = c.in_ok-opened.ensures in
+    entered_through c.requires.posed (rw c.in-Some.is at e.opened) e.grows.extends (g.H.GoalHandler.handler s.base c.args.handler.now) c.args.table.now.mode c.args.depth
+
+pub compute_goal-evaluate_candidates-answer-requires : goal.compute_goal-evaluate_candidates-answer-requires
+compute_goal-evaluate_candidates-answer-requires g t c = λ κs k.
+    let o = c.in_ok-opened.ensures in
+    let e = c.in_ok-candidates.ensures in
+    (omega (arith, c.decreases), (k, (IsPosed-later (Goes-extends o.goes.table e.grows.extends) (rw c.in-Some.is at o.posed), (IsAsked-extended e.grows.extends (c.is_candidates_goal.ensures c.if-not-is_candidates_goal.false), (g.met.H.GoalHandler.ready_kept _ _ _ c.requires.ready (Extends-trans o.grows.extends e.grows.extends), e.candidates)))))
+
+pub compute_goal-returns-clause-goes : goal.compute_goal-returns-clause-goes
+compute_goal-returns-clause-goes g t c =
+    let o = c.in_ok-opened.ensures in
+    let e = c.in_ok-candidates.ensures in
+    on_ok c.evaluate_candidates-answer.result (Goes-trans o.goes (Goes-trans (Goes-extends o.goes.table e.grows.extends) c.evaluate_candidates-answer.ensures.runs.goes))
+
+pub compute_goal-returns-clause-labels : goal.compute_goal-returns-clause-labels
+compute_goal-returns-clause-labels g t c =
+    let o = c.in_ok-opened.ensures in
+    let e = c.in_ok-candidates.ensures in
+    let posed = rw c.in-Some.is at o.posed in
+    OnOk-map c.evaluate_candidates-answer.result (λ h. labels_through c.requires.posed (rw c.in-Some.is at o.opened) o.grows.extends (only_back e.grows.extends o.goes.table posed.holds h)) c.evaluate_candidates-answer.ensures.labels
+
+pub compute_goal-returns-clause-proved : goal.compute_goal-returns-clause-proved
+compute_goal-returns-clause-proved g t c = λ s.
+    let o = c.in_ok-opened.ensures in
+    let e = c.in_ok-candidates.ensures in
+    let h = g.H.GoalHandler.handler s.base c.args.handler.now in
+    let up = Extends-trans o.grows.extends e.grows.extends in
+    let same = g.met.H.GoalHandler.handler_kept s.base c.candidates.new.cx.nodes c.args.handler.now s.is_ready (Extends-trans s.extends up) in
+    let goes = Goes-trans (Goes-extends o.goes.table e.grows.extends) c.evaluate_candidates-answer.ensures.runs.goes in
+    let later = (Goes-trans o.goes goes).continues in
+    let law = g.met.H.GoalHandler.lawful s.base c.args.handler.now s.formed s.is_ready in
+    let run = c.evaluate_candidates-answer.ensures.proved (Since-later up s)
+    (e.offered ∙ ap (λ m. (g.H.GoalHandler.handler c.candidates.new.cx.nodes c.args.handler.now).offers (mode_of m) (tree_at c.candidates.new.cx.nodes c.in-Some.opened.param_env.node) (tree_at c.candidates.new.cx.nodes c.in-Some.opened.predicate.node)) c.typing_mode.ensures ∙ same.offers _ _ _) in
+    IfOk-map c.evaluate_candidates-answer.result
+    (λ x f y. proved_through c.requires.posed (rw c.in-Some.is at o.opened) o.grows.extends h s.variances (mode_of c.args.table.now.mode) (rw c.in-Some.is at o.posed) (c.is_candidates_goal.ensures c.if-not-is_candidates_goal.false) goes later c.terms_are_formed.ensures law (rw o.goes.mode at (f y))) run
+
+pub compute_goal-returns-clause-forced : goal.compute_goal-returns-clause-forced
+compute_goal-returns-clause-forced g t c = λ s.
+    let o = c.in_ok-opened.ensures in
+    let e = c.in_ok-candidates.ensures in
+    let h = g.H.GoalHandler.handler s.base c.args.handler.now in
+    let up = Extends-trans o.grows.extends e.grows.extends in
+    let same = g.met.H.GoalHandler.handler_kept s.base c.candidates.new.cx.nodes c.args.handler.now s.is_ready (Extends-trans s.extends up) in
+    let posed = rw c.in-Some.is at o.posed in
+    let run = c.evaluate_candidates-answer.ensures.forced (Since-later up s)
+    (e.offered ∙ ap (λ m. (g.H.GoalHandler.handler c.candidates.new.cx.nodes c.args.handler.now).offers (mode_of m) (tree_at c.candidates.new.cx.nodes c.in-Some.opened.param_env.node) (tree_at c.candidates.new.cx.nodes c.in-Some.opened.predicate.node)) c.typing_mode.ensures ∙ same.offers _ _ _) in
+    let d = c.evaluate_candidates-answer.new.cx.nodes in
+    let v = c.evaluate_candidates-answer.new.table in
+    IfOk-map c.evaluate_candidates-answer.result
+    (λ x f y. forced_through c.requires.posed (rw c.in-Some.is at o.opened) o.grows.extends h c.args.table.now.mode c.args.depth d v
+    (rw o.goes.mode at (forced_back d c.enter_forall.new.table v h c.enter_forall.new.table.mode _ c.in-Some.opened e.grows.extends o.goes.table posed.holds refl (f y)))) run
+
+pub compute_goal-returns-clause-gained : goal.compute_goal-returns-clause-gained
+compute_goal-returns-clause-gained g t c = λ s.
+    let o = c.in_ok-opened.ensures in
+    let e = c.in_ok-candidates.ensures in
+    let h = g.H.GoalHandler.handler s.base c.args.handler.now in
+    let up = Extends-trans o.grows.extends e.grows.extends in
+    let same = g.met.H.GoalHandler.handler_kept s.base c.candidates.new.cx.nodes c.args.handler.now s.is_ready (Extends-trans s.extends up) in
+    let posed = rw c.in-Some.is at o.posed in
+    let run = c.evaluate_candidates-answer.ensures.gained (Since-later up s)
+    (e.offered ∙ ap (λ m. (g.H.GoalHandler.handler c.candidates.new.cx.nodes c.args.handler.now).offers (mode_of m) (tree_at c.candidates.new.cx.nodes c.in-Some.opened.param_env.node) (tree_at c.candidates.new.cx.nodes c.in-Some.opened.predicate.node)) c.typing_mode.ensures ∙ same.offers _ _ _) in
+    let d = c.evaluate_candidates-answer.new.cx.nodes in
+    let v = c.evaluate_candidates-answer.new.table in
+    OnOk-map c.evaluate_candidates-answer.result
+    (λ f. gained_through c.requires.posed (rw c.in-Some.is at o.opened) o.grows.extends h c.args.table.now.mode c.args.depth d v
+    (rw o.goes.mode at (gained_back d c.enter_forall.new.table v h c.enter_forall.new.table.mode (c.args.depth + 1) c.in-Some.opened e.grows.extends o.goes.table posed.holds refl f))) run
+
+pub compute_goal-returns-clause-refuted : goal.compute_goal-returns-clause-refuted
+compute_goal-returns-clause-refuted g t c = λ s q.
+    let o = c.in_ok-opened.ensures in
+    let e = c.in_ok-candidates.ensures in
+    let h = g.H.GoalHandler.handler s.base c.args.handler.now in
+    let up = Extends-trans o.grows.extends e.grows.extends in
+    let same = g.met.H.GoalHandler.handler_kept s.base c.candidates.new.cx.nodes c.args.handler.now s.is_ready (Extends-trans s.extends up) in
+    let posed = rw c.in-Some.is at o.posed in
+    let run = c.evaluate_candidates-answer.ensures.refuted (Since-later up s)
+    (e.offered ∙ ap (λ m. (g.H.GoalHandler.handler c.candidates.new.cx.nodes c.args.handler.now).offers (mode_of m) (tree_at c.candidates.new.cx.nodes c.in-Some.opened.param_env.node) (tree_at c.candidates.new.cx.nodes c.in-Some.opened.predicate.node)) c.typing_mode.ensures ∙ same.offers _ _ _) q in
+    refuted_through c.requires.posed (rw c.in-Some.is at o.opened) o.grows.extends h c.args.table.now.mode c.args.depth
+    (rw o.goes.mode at (refuted_back c.enter_forall.new.table h c.enter_forall.new.table.mode _ c.in-Some.opened e.grows.extends o.goes.table posed.holds refl run))

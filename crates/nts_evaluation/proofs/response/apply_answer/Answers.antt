@@ -13,8 +13,7 @@ returns-in_err-certainty-clause-runs c =
 pub returns-in_err-certainty-clause-full : goal.returns-in_err-certainty-clause-full
 returns-in_err-certainty-clause-full c = λ q.
     let full : c.instantiate_and_apply_query_response.result ≡ Err EvalError.Full = search rules in
-    let more = c.instantiate_and_apply_query_response.ensures.full.0 full in
-    absurd (omega (arith, more, c.requires.rootless.universe, c.universe.ensures, c.universe.auto))
+    c.instantiate_and_apply_query_response.ensures.full.0 full
 
 pub returns-clause-labels : goal.returns-clause-labels
 returns-clause-labels c = c.in_ok-certainty.ensures.labels
@@ -22,9 +21,8 @@ returns-clause-labels c = c.in_ok-certainty.ensures.labels
 pub returns-clause-runs : goal.returns-clause-runs
 returns-clause-runs c =
     let e = c.in_ok-certainty.ensures in
-    let same : c.instantiate_and_apply_query_response.new.table.entries.universe ≡ c.args.table.now.entries.universe = omega (arith, e.universe, c.requires.rootless.universe) in
     let kept : c.instantiate_and_apply_query_response.new.table.entries.hidden ≡ c.args.table.now.entries.hidden = first_of (search rules, grind (arith, common_steps)) in
     record {
-      goes = goes c.requires.table e.grows.extends e.table e.applied.applies.continues e.changes.saved e.changes.mode same kept (λ k. closed_shown e.applied.shows k);
+      goes = goes c.requires.table e.grows.extends e.table e.applied.applies.continues e.changes.saved e.changes.mode kept (λ k. closed_shown e.applied.shows k);
       rest = e.grows.rest;
     }

@@ -1,0 +1,141 @@
+-- A goal that binds variables is proved by one certain candidate for the goal with fresh placeholders.
+use Rattle.std.proofs.Common.{◌≡◌, inl, inr, ℕ, ◌+◌, arith, Bool, true, false, List, Option, Some, None, refl, sym, ap, ◌∙◌, subst}
+use Rattle.std.specs.Prelude.{◌==◌, if◌then◌else◌}
+use Rattle.nts_model.specs.declared.labels.Sort.{Sort}
+use Rattle.nts_model.specs.declared.labels.Variance.{Variance}
+use Rattle.nts_model.specs.declared.labels.Leaf.{Leaf}
+use Rattle.nts_model.specs.declared.labels.Leaf.TheVariants as leaf
+use Rattle.nts_model.specs.declared.labels.BoundVarIndexKind.TheVariants as index
+use Rattle.nts_model.specs.declared.labels.ListHead.TheVariants as list
+use Rattle.nts_model.specs.declared.labels.Label.{Label}
+use Rattle.nts_model.specs.declared.labels.Label.TheVariants as label
+use Rattle.nts_model.specs.Trees.{Tree, empty, more, node, binders, any_label, is_canonical, is_placeholder, IsClosed, IsClosedUnder, IsFormed}
+use Rattle.nts_model.specs.Contents.{Content}
+use Rattle.nts_model.specs.Resolving.{deeply_resolved, IsSound, Knows}
+use Rattle.nts_model.specs.Levels.{IsLevelled, AreRegionsLevelled, AreCurrent}
+use Rattle.nts_model.specs.Holding.{Continues}
+use Rattle.nts_model.specs.Opening.{placeholder_in, opened_in}
+use Rattle.nts_model.specs.Substitutions.{leaf_tree, put, replace, instance_of}
+use Rattle.nts_model.specs.Related.{Constraint, pair, unbound}
+use Rattle.nts_model.specs.Sequents.{Among, Premise, HasClosedStatement, IsOfTerms, Grants, Hides}
+use Rattle.nts_model.specs.Rules.{Mode, goal_kind, opened, opened_at, AreFresh, bound, IsPlainRule, IsRule}
+use Rattle.nts_model.specs.Proofs.{by_rule}
+use Rattle.nts_model.specs.Handlers.{Handler, meaning, Candidate, certain, IsAsked, IsLawful}
+use Rattle.nts_model.specs.Proving.{HoldsTerms, IsTermOf, AreConstraintsOf, read_constraints, sequent_at, IsProved, HoldsCandidate}
+use Rattle.nts_model.proofs.Monotone.{rule_more}
+use Rattle.nts_model.proofs.Fitting.{IsClosed-under}
+use Rattle.nts_model.proofs.Composing.{itself, instance_of-itself}
+use Rattle.nts_model.proofs.Covering.{opened_closed}
+use Rattle.nts_model.proofs.ResolvedTerms.{IsFormed-deeply_resolved, IsClosed-deeply_resolved}
+use Rattle.nts_model.proofs.TableInstances.{read_leaf, reading_of, reading-leaf, instance_of-reading}
+use Rattle.nts_model.proofs.Identified.{one_itself}
+use Rattle.nts_model.proofs.Open.{Knows-deeply_resolved}
+use Rattle.nts_model.proofs.Unpositioned.{known_no_positions, known_well_bound, pair_no_positions}
+use Rattle.nts_model.proofs.ClosedStatements.{one_statement}
+use Rattle.nts_model.proofs.Served.{derive_all}
+use Rattle.nts_model.proofs.ByCandidate.{handlers_instance, formed_here, closed_here, candidate_follows, candidate_applies, read_itself, lawful_candidate}
+use Rattle.nts_model.proofs.Naming.{known_named, names_read, fresh_in}
+
+-- the terms that a table knew before a universe was entered name none of that universe's placeholders later
+pub fresh_later : (c d : Content) (e g : Tree) → Knows c e → Knows c g → AreCurrent c → Continues c d → IsLevelled d → AreRegionsLevelled d → AreFresh (pair (deeply_resolved d e) (deeply_resolved d g)) (placeholder_in (c.universe + 1))
+fresh_later c d e g ke kg a k l r =
+    fresh_in c.universe (c.universe + 1) (pair (deeply_resolved d e) (deeply_resolved d g)) (omega arith)
+    (names_read d c.universe e l r (known_named c d e ke a k.falls), (names_read d c.universe g l r (known_named c d g kg a k.falls), tt))
+
+-- closed trees in place of leaves, where the placeholders stay themselves, and placeholders in place of bound variables: in either order
+module _ (r : Leaf → Tree) (closed : (l : Leaf) → IsClosed (r l)) (f : Sort → ℕ → Leaf) (themselves : (s : Sort) (n : ℕ) → r (f s n) ≡ leaf_tree (f s n)) where
+  replaced_if : (b : Bool) (s : Sort) (d n : ℕ) (t : Tree) → replace r (if b then leaf_tree (f s n) else node (label.Bound s (index.Bound d) n) t) ≡ (if b then leaf_tree (f s n) else node (label.Bound s (index.Bound d) n) (replace r t))
+  replaced_if true s d n t = themselves s n
+  replaced_if false s d n t = refl
+
+  replaced_label : (b : ℕ) (l : Label) (t : Tree) → replace r (opened f (b + binders l) t) ≡ opened f (b + binders l) (replace r t) → replace r (opened_at f b l (opened f (b + binders l) t)) ≡ opened f b (replace r (node l t))
+  replaced_label b (label.Leaf x) t e = sym (opened_closed f b (r x) (IsClosed-under b (r x) (closed x)))
+  replaced_label b (label.Bound s (index.Bound d) n) t e = replaced_if (d == b) s d n (opened f (b + 0) t) ∙ ap (λ z. if d == b then leaf_tree (f s n) else node (label.Bound s (index.Bound d) n) z) e
+  replaced_label b (label.Bound s index.Canonical n) t e = ap (node (label.Bound s index.Canonical n)) e
+  replaced_label b (label.Ty x) t e = ap (node (label.Ty x)) e
+  replaced_label b (label.Const x) t e = ap (node (label.Const x)) e
+  replaced_label b (label.Clause x) t e = ap (node (label.Clause x)) e
+  replaced_label b (label.Predicate x) t e = ap (node (label.Predicate x)) e
+  replaced_label b (label.List x) t e = ap (node (label.List x)) e
+
+  pub replaced_opened : (b : ℕ) (t : Tree) → replace r (opened f b t) ≡ opened f b (replace r t)
+  replaced_opened b empty = refl
+  replaced_opened b (more x y) = cc (replaced_opened b x, replaced_opened b y)
+  replaced_opened b (node l t) = replaced_label b l t (replaced_opened (b + binders l) t)
+
+-- a table reads no placeholder
+reads_leaf : (c : Content) (l : Leaf) → is_placeholder (label.Leaf l) ≡ true → read_leaf c l ≡ leaf_tree l
+reads_leaf c (leaf.Variable k n) e = cc
+reads_leaf c (leaf.Region x) e = refl
+reads_leaf c (leaf.TyConstant x) e = refl
+reads_leaf c (leaf.ConstConstant x) e = refl
+
+binds_some : (s ss t u : Tree) → bound (more s ss) t ≡ unbound u → ⊥
+binds_some s ss t u e = cc e
+
+module _ (h : Handler) (V : ℕ → List Variance) (mode : Mode) (c : Content) (s : IsSound c) (t : HoldsTerms c) (k : AreConstraintsOf c) where
+  module _ (e sort sorts u : Tree) (f : Sort → ℕ → Leaf) (asked : IsAsked e (unbound (opened f 0 u))) (ke : IsTermOf c e) (kg : IsTermOf c (bound (more sort sorts) u)) (ko : IsTermOf c (unbound (opened f 0 u)))
+      (closed : IsClosed (bound (more sort sorts) u)) (fresh : AreFresh (pair (deeply_resolved c e) (deeply_resolved c (bound (more sort sorts) u))) f) (d : Candidate) (x : HoldsCandidate (meaning h V) mode c d) where
+    abbrev goal : Tree
+    goal = bound (more sort sorts) u
+
+    abbrev read : Tree → Tree
+    read = instance_of (reading_of c s t)
+
+    goal_reads : deeply_resolved c goal ≡ bound (more (read sort) (read sorts)) (read u)
+    goal_reads = sym (instance_of-reading c s t goal kg.knows kg.formed)
+
+    statement_reads : read asked.statement ≡ opened f 0 (read u)
+    statement_reads =
+        let r = reading_of c s t in
+        ap read (sym (one_statement (opened f 0 u) asked.statement asked.binds_nothing))
+        ∙ replaced_opened r.value r.closed f (λ o n. reading-leaf c s t (f o n) ∙ reads_leaf c (f o n) (fresh.placeholders o n)) 0 u
+
+    binder_terms : IsOfTerms (sequent_at c e goal)
+    binder_terms =
+        let envs = closed_here h V mode c s t k e (unbound (opened f 0 u)) asked ke ko d x in
+        let known = Knows-deeply_resolved c goal s kg.knows in
+        record {
+          formed = (formed_here h V mode c s t k e (unbound (opened f 0 u)) asked ke ko d x, (IsFormed-deeply_resolved c goal s t kg.knows kg.formed, tt));
+          closed = (envs.closed, (IsClosed-deeply_resolved c goal t closed, tt));
+          no_positions = pair_no_positions (deeply_resolved c e) (deeply_resolved c goal) envs.no_positions (known_no_positions c (deeply_resolved c goal) known);
+          well_bound = (envs.well_bound, (known_well_bound c (deeply_resolved c goal) known, tt));
+          statement = λ p q. absurd (binds_some (read sort) (read sorts) (read u) p (sym goal_reads ∙ q));
+          statements = envs.statements;
+        }
+
+    -- the goal that binds variables is proved under the table
+    pub by_opened_candidate : IsLawful h → Among (h.offers mode e (unbound (opened f 0 u))) d → d.certainty ≡ certain → IsProved (meaning h V) mode c e goal
+    by_opened_candidate law offered sure =
+        let keep = law.keep in
+        let keeps = keep.each mode e (unbound (opened f 0 u)) d asked offered in
+        let m = meaning h V in
+        let z = goal_kind m (unbound (read asked.statement)) in
+        let o = candidate_follows h V mode c s t k e (unbound (opened f 0 u)) asked ke ko d x z keeps in
+        let both = o.holds in
+        let applies = candidate_applies h V mode c s t k e (unbound (opened f 0 u)) asked ke ko d x law.rules keeps offered sure o.premises both.0 both.1 in
+        let plain : IsPlainRule m mode (λ y. Unit {0}) (Grants (sequent_at c e goal)) (Hides (sequent_at c e goal)) (Among o.premises) (deeply_resolved c e) (read asked.statement) =
+        inl (handlers_instance (reading_of c s t) asked.statement asked.handlers, applies) in
+        let rule : IsRule m mode (λ y. Unit {0}) (Grants (sequent_at c e goal)) (Hides (sequent_at c e goal)) (Among o.premises) (deeply_resolved c e) (deeply_resolved c goal) =
+        inr (more (read sort) (read sorts), read u, f, goal_reads, fresh, subst (λ y. IsPlainRule m mode (λ v. Unit {0}) (Grants (sequent_at c e goal)) (Hides (sequent_at c e goal)) (Among o.premises) (deeply_resolved c e) y) statement_reads plain) in
+        let all = derive_all m mode (deeply_resolved c e) (read_constraints c c.constraints) (deeply_resolved c goal) o.premises o.premises o.served in
+        record {
+          sequent = sequent_at c e goal;
+          derivation = by_rule o.premises binder_terms (rule_more (λ q i. inl i) (deeply_resolved c e) (deeply_resolved c goal) rule) all.0;
+          tree = all.1;
+          instance = itself;
+          is_instance = record {
+            environment = (let y = binder_terms.formed in one_itself _ _ _ (instance_of-itself (deeply_resolved c e) y.0));
+            predicate = (let y = binder_terms.formed in let y' = y.1 in one_itself _ _ _ (instance_of-itself (deeply_resolved c goal) y'.0));
+            constraints = λ y i. inr (subst (Among (read_constraints c c.constraints)) (sym (read_itself c s t k y i)) i);
+            hidden = λ y i. absurd i;
+            open_goals = λ y i. absurd i;
+          };
+        }
+
+  -- .. and so is a goal that a table knew before it was entered
+  pub by_entered_candidate : (b : Content) (e g : Tree) → AreCurrent b → Continues b c → IsLevelled c → AreRegionsLevelled c → IsTermOf b e → IsTermOf b g → IsClosed g → IsAsked e (opened_in b g) → IsTermOf c e → IsTermOf c g → IsTermOf c (opened_in b g)
+      → (d : Candidate) → IsLawful h → Among (h.offers mode e (opened_in b g)) d → d.certainty ≡ certain → HoldsCandidate (meaning h V) mode c d → IsProved (meaning h V) mode c e g
+  by_entered_candidate b e (node (label.List list.Binder) (more (node (label.List list.Sorts) (more o os)) (more u empty))) now later l r te tg closed asked ke kg ko d law offered sure x =
+      by_opened_candidate e o os u (placeholder_in (b.universe + 1)) asked ke kg ko closed (fresh_later b c e (bound (more o os) u) te.knows tg.knows now later l r) d x law offered sure
+  by_entered_candidate b e g now later l r te tg closed asked ke kg ko d law offered sure x = lawful_candidate h V mode c s t k e g asked ke kg d law offered sure x
