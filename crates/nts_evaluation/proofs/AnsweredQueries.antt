@@ -1,9 +1,9 @@
 -- What the table of a query answers, once its goal was evaluated there.
-use Rattle.std.proofs.Common.{◌≡◌, ◌⊎◌, ⊎_elim, inl, inr, ℕ, ◌+◌, Bool, true, false, List, [], ◌∷◌, ◌++◌, map, refl, sym, ap, ◌∙◌, subst, arith}
+use Rattle.std.proofs.Common.{◌≡◌, ◌⊎◌, ⊎_elim, inl, inr, ℕ, Bool, true, false, List, [], ◌∷◌, ◌++◌, refl, sym, ap, ◌∙◌, subst, arith}
 use Rattle.std.specs.Prelude.{All}
 use Rattle.std.proofs.lemmas.List.Elements.{All-head, All-tail, All-cons}
 use Rattle.nts_model.specs.declared.labels.Label.{Label}
-use Rattle.nts_model.specs.Trees.{Tree, empty, more}
+use Rattle.nts_model.specs.Trees.{Tree, more}
 use Rattle.nts_model.specs.Contents.{Content}
 use Rattle.nts_model.specs.Resolving.{Knows}
 use Rattle.nts_model.specs.Sequents.{Among}
@@ -26,7 +26,6 @@ use Rattle.nts_store.specs.Growth.{tree_at, Extends}
 use Rattle.nts_store.proofs.Growing.{IsIn-extended}
 use Rattle.nts_terms.specs.declared.handles.GenericArg.{GenericArg}
 use Rattle.nts_terms.specs.declared.handles.Goal.{Goal}
-use Rattle.nts_terms.specs.Handles.{HoldsArg}
 use Rattle.nts_unify.specs.Entries.{Entries}
 use Rattle.nts_unify.specs.Changing.{HasClosedSides}
 use Rattle.nts_unify.specs.Reading.{content_of}
@@ -38,11 +37,11 @@ use Rattle.nts_canonical.specs.declared.types.CanonicalInput.{CanonicalInput}
 use Rattle.nts_canonical.specs.declared.types.QueryInput.{QueryInput}
 use Rattle.nts_canonical.specs.Forms.{form_of, query_tree, trees_of}
 use Rattle.nts_canonical.specs.Kinds.{AreInputKinds}
-use Rattle.nts_canonical.specs.Building.{IsArgOf, kinds_of, values_of, made_entries}
+use Rattle.nts_canonical.specs.Building.{IsArgOf, values_of, made_entries}
 use Rattle.nts_evaluation.specs.Asking.{Answers, AnswersInPart, IsResponseOf, first_table, first_values, asked_environment, asked_predicate, without_constraints}
 use Rattle.nts_evaluation.specs.Refuting.{Gains}
 use Rattle.nts_evaluation.specs.Evaluation.{Goes, asked_terms}
-use Rattle.nts_evaluation.specs.Answering.{is_kept, told_in, IsQueryInput}
+use Rattle.nts_evaluation.specs.Answering.{is_kept, told_in}
 use Rattle.nts_evaluation.proofs.QueryTables.{first_content, first_passes, is_label_in, queries_pass, labels_in, table_in, values_pass, asked_passes, value_formed}
 use Rattle.nts_evaluation.proofs.Refuting.{gained_nothing}
 use Rattle.nts_evaluation.proofs.Running.{term_table}

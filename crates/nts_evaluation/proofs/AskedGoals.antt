@@ -1,21 +1,19 @@
 -- A goal that was asked in a query: what the response that was applied says of the goal.
-use Rattle.std.proofs.Common.{◌≡◌, ⊎_elim, inl, inr, ℕ, Bool, true, List, [], ◌∷◌, map, refl, sym, ap, ◌∙◌, subst, arith, false}
+use Rattle.std.proofs.Common.{◌≡◌, ⊎_elim, inl, inr, Bool, List, [], ◌∷◌, map, refl, sym, ap, ◌∙◌, subst, arith, false}
 use Rattle.std.specs.Prelude.{All, ◌↔◌, Result, Ok, Err, IfOk, OnOk}
 use Rattle.std.specs.Global.{Vec}
 use Rattle.std.proofs.lemmas.List.Elements.{All-head, All-tail, All-cons}
 use Rattle.nts_model.specs.declared.labels.Leaf.{Leaf}
 use Rattle.nts_model.specs.declared.labels.Label.{Label}
-use Rattle.nts_model.specs.declared.labels.Label.TheVariants as label
 use Rattle.nts_model.specs.Trees.{Tree, empty, IsClosed}
 use Rattle.nts_model.specs.Contents.{Content}
 use Rattle.nts_model.specs.Substitutions.{leaf_tree, Occurs}
 use Rattle.nts_model.specs.Sequents.{Among}
 use Rattle.nts_model.specs.Rules.{Meaning, Mode}
 use Rattle.nts_model.specs.Inputs.{Input, IsInput, CanonicalInput as Form, OccursIn, originals, canonical_of}
-use Rattle.nts_model.specs.Forcing.{Leaves}
-use Rattle.nts_model.specs.Passing.{TreePasses, PassesQueries, BringsOnly}
+use Rattle.nts_model.specs.Passing.{TreePasses, BringsOnly}
 use Rattle.nts_model.specs.Proving as proving
-use Rattle.nts_model.specs.Responses.{Response as Answer, Applies, RefusesResponse, answer_sequent, IsIdentity}
+use Rattle.nts_model.specs.Responses.{Response as Answer, RefusesResponse, answer_sequent, IsIdentity}
 use Rattle.nts_model.proofs.Asked.{asked_proved}
 use Rattle.nts_model.proofs.Bringing.{passes-leaf}
 use Rattle.nts_model.proofs.CanonicalForms.{originals_are_leaves}
@@ -40,11 +38,9 @@ use Rattle.nts_response.specs.declared.types.Response.{Response}
 use Rattle.nts_response.specs.Forms.{response_at}
 use Rattle.nts_response.specs.Applicable.{ShowsConstraints, IsApplicable, IsApplied}
 use Rattle.nts_evaluation.specs.Asking.{Refuses, Asks, RefusesAsked, IsInputFor, first_table, asked_environment, asked_predicate}
-use Rattle.nts_evaluation.specs.Refuting.{IsQueryRefuted}
 use Rattle.nts_evaluation.specs.Running.{Stays}
 use Rattle.nts_evaluation.specs.Evaluation.{IsPosed, asked_terms}
 use Rattle.nts_evaluation.specs.Answering.{IsQueryOf, IsAnswerTo, Evaluates}
-use Rattle.nts_evaluation.proofs.Evaluating.{HoldsGoal-extended}
 use Rattle.nts_evaluation.proofs.Queried.{original_named}
 use Rattle.nts_evaluation.proofs.Running.{term_table, term_later}
 

@@ -1,7 +1,7 @@
 -- What evaluations keep, composed.
 use Rattle.std.proofs.Math.Seq.{take-append_seam}
-use Rattle.std.proofs.Common.{◌≡◌, ◌-◌, inl, inr, ℕ, zero, suc, ◌<◌, List, [], ◌∷◌, ◌++◌, length, map, get_or, Option, Some, None, refl, sym, ap, ◌∙◌, subst, arith, length-append, true}
-use Rattle.std.specs.Prelude.{Bool, slice_get, ◌↔◌, Result, Ok, Err, IfOk, OnOk, OnErr}
+use Rattle.std.proofs.Common.{◌≡◌, ◌-◌, inl, inr, ℕ, zero, suc, ◌<◌, List, [], ◌∷◌, ◌++◌, length, map, get_or, Option, Some, None, refl, sym, ap, ◌∙◌, arith, length-append}
+use Rattle.std.specs.Prelude.{Bool, slice_get, Result, Ok, Err, IfOk, OnOk, OnErr}
 use Rattle.nts_model.specs.Equations.{AreRelated}
 use Rattle.nts_model.specs.declared.labels.Sort.{Sort}
 use Rattle.nts_model.specs.declared.labels.Relation.TheVariants as relation

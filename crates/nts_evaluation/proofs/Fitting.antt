@@ -1,30 +1,18 @@
 -- The response of a query's table answers each input of the query's kinds.
-use Rattle.std.proofs.Common.{◌≡◌, inl, inr, ⊎_elim, ℕ, ◌+◌, ◌≤◌, List, [], ◌∷◌, map, length, Option, Some, None, refl, sym, ap, ◌∙◌, subst, arith}
-use Rattle.std.specs.Prelude.{◌-◌, Contains}
-use Rattle.std.specs.List.{position_or_len}
-use Rattle.std.proofs.Math.Nat.{max-le}
+use Rattle.std.proofs.Common.{◌≡◌, inl, inr, ℕ, ◌+◌, List, [], ◌∷◌, map, length, refl, sym, ap, ◌∙◌, subst, arith}
+use Rattle.std.specs.Prelude.{Contains}
 use Rattle.std.proofs.lemmas.List.{length-map}
-use Rattle.nts_model.specs.declared.labels.VariableKind.TheVariants as kind
-use Rattle.nts_model.specs.declared.labels.FreeRegion.TheVariants as region
-use Rattle.nts_model.specs.declared.labels.Constant.TheVariants as constant
-use Rattle.nts_model.specs.declared.labels.Leaf.{Leaf}
-use Rattle.nts_model.specs.declared.labels.Leaf.TheVariants as leaf
-use Rattle.nts_model.specs.declared.labels.Label.TheVariants as label
-use Rattle.nts_model.specs.Trees.{Tree, empty, more, node, kind_of, FitsPlace, IsClosed}
-use Rattle.nts_model.specs.Contents.{Content, Recorded, universe_of}
-use Rattle.nts_model.specs.Resolving.{Knows, KnowsLabel, deeply_resolved, IsSound}
-use Rattle.nts_model.specs.Levels.{AreCurrent}
+use Rattle.nts_model.specs.Trees.{Tree, kind_of, FitsPlace, IsClosed}
+use Rattle.nts_model.specs.Contents.{Content, Recorded}
+use Rattle.nts_model.specs.Resolving.{Knows}
 use Rattle.nts_model.specs.Substitutions.{leaf_tree}
-use Rattle.nts_model.specs.Sequents.{Among, Hidden, Premise}
-use Rattle.nts_model.specs.Inputs.{Input, PositionKind, share, position_kind, canonical_of, originals}
-use Rattle.nts_model.specs.Passing.{AllLabels, AllPass}
-use Rattle.nts_model.specs.Responses.{Findings, Response as Form, value_row, constraint_row, hidden_row, goal_row, row_of, is_fixed, own_leaves, answer_kind, answer_kinds, universe_or, universe_of_kind, greatest, IsLabelIn, IsQueryTable, IsResponseTo}
+use Rattle.nts_model.specs.Sequents.{Among}
+use Rattle.nts_model.specs.Inputs.{Input, PositionKind, position_kind, canonical_of, originals}
+use Rattle.nts_model.specs.Passing.{AllPass}
+use Rattle.nts_model.specs.Responses.{Findings, IsLabelIn, IsQueryTable, IsResponseTo}
 use Rattle.nts_model.proofs.Slots.{Knows-kept}
 use Rattle.nts_model.proofs.Sound.{SameStates, IsSound-same}
-use Rattle.nts_model.proofs.Open.{Knows-deeply_resolved}
-use Rattle.nts_model.proofs.Passing.{passes-seen}
-use Rattle.nts_model.proofs.PositionSorts.{contained_from, contained_among}
-use Rattle.nts_model.proofs.ProvedLater.{contains_none, contains_first, contains_later}
+use Rattle.nts_model.proofs.ProvedLater.{contains_none}
 use Rattle.nts_model.proofs.Querying.{query_fits}
 use Rattle.nts_certainty.specs.declared.certainty.Certainty.{Certainty}
 use Rattle.nts_certainty.specs.declared.certainty.Certainty.TheVariants as certainty

@@ -1,5 +1,5 @@
 -- A goal that was opened: what is said of it where it was opened is said of the goal.
-use Rattle.std.proofs.Common.{◌≡◌, inl, inr, ℕ, zero, suc, ◌+◌, ◌-◌, ◌<◌, ◌≤◌, Bool, true, false, List, [], ◌∷◌, Option, Some, None, refl, sym, ap, ◌∙◌, subst, rules, arith}
+use Rattle.std.proofs.Common.{◌≡◌, inl, inr, ℕ, suc, ◌+◌, Bool, true, false, List, refl, sym, ap, ◌∙◌, subst, arith}
 use Rattle.std.specs.Prelude.{◌==◌, if◌then◌else◌, Result, Ok, Err, OnOk}
 use Rattle.nts_model.specs.declared.labels.Sort.{Sort}
 use Rattle.nts_model.specs.declared.labels.Sort.TheVariants as sort
@@ -10,7 +10,7 @@ use Rattle.nts_model.specs.declared.labels.Label.TheVariants as label
 use Rattle.nts_model.specs.Trees.{Tree, empty, more, node, binders, IsClosed, IsFormed}
 use Rattle.nts_model.specs.Contents.{Content, in_universe}
 use Rattle.nts_model.specs.Related.{unbound}
-use Rattle.nts_model.specs.Rules.{opened, opened_at, bound, statement_of}
+use Rattle.nts_model.specs.Rules.{opened, opened_at, statement_of}
 use Rattle.nts_model.specs.Handlers.{Candidate}
 use Rattle.nts_model.specs.Passing.{TreePasses, TablePasses, PassesQueries, BringsOnly}
 use Rattle.nts_model.specs.Opening.{binds, placeholder_in, entered, opened_in}

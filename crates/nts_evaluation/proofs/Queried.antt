@@ -1,11 +1,10 @@
 -- A goal as the input of a query: its leaves are terms of the table.
-use Rattle.std.proofs.Common.{◌≡◌, ⊎_elim, inl, inr, ℕ, List, [], ◌∷◌, map, refl, sym, ap, ◌∙◌, subst, false, arith}
-use Rattle.std.specs.Prelude.{All, ◌||◌}
+use Rattle.std.proofs.Common.{◌≡◌, ⊎_elim, inl, inr, ℕ, List, [], ◌∷◌, map, refl, sym, ap, ◌∙◌, subst, arith}
+use Rattle.std.specs.Prelude.{All}
 use Rattle.std.specs.Global.{Vec}
 use Rattle.std.proofs.lemmas.List.Elements.{All-head, All-tail, All-cons}
 use Rattle.nts_model.specs.declared.labels.Leaf.{Leaf}
 use Rattle.nts_model.specs.declared.labels.Leaf.TheVariants as leaf
-use Rattle.nts_model.specs.declared.labels.Label.{Label}
 use Rattle.nts_model.specs.declared.labels.Label.TheVariants as label
 use Rattle.nts_model.specs.Trees.{Tree, empty, more, node, any_label, is_canonical, IsClosed}
 use Rattle.nts_model.specs.Contents.{Content}
@@ -14,7 +13,7 @@ use Rattle.nts_model.specs.Levels.{NamesAll, term_level}
 use Rattle.nts_model.specs.Resolving.{Knows, KnowsLabel}
 use Rattle.nts_model.specs.Substitutions.{leaf_tree, Occurs}
 use Rattle.nts_model.specs.Sequents.{Among}
-use Rattle.nts_model.specs.Inputs.{Input, IsInput, OccursIn, originals, canonical_of}
+use Rattle.nts_model.specs.Inputs.{Input, IsInput, OccursIn, originals}
 use Rattle.nts_model.proofs.CanonicalForms.{originals_are_leaves}
 use Rattle.nts_model.proofs.Answering.{canonical_environment_over, canonical_predicate_over}
 use Rattle.nts_model.proofs.Unpositioned.{known_no_positions, false_or}
@@ -28,13 +27,12 @@ use Rattle.nts_terms.specs.declared.handles.Ty.{Ty}
 use Rattle.nts_terms.specs.declared.modes.TypingMode.{TypingMode}
 use Rattle.nts_terms.specs.Handles.{HoldsArg}
 use Rattle.nts_terms.specs.Modes.{mode_of}
-use Rattle.nts_terms.specs.Kinds.{tree_of_alias}
 use Rattle.nts_unify.specs.Entries.{Entries}
 use Rattle.nts_unify.specs.Reading.{content_of}
 use Rattle.nts_unify.specs.Lawful.{content_of-extended}
 use Rattle.nts_table.specs.Tables.{Table}
 use Rattle.nts_canonical.specs.declared.types.CanonicalInput.{CanonicalInput}
-use Rattle.nts_canonical.specs.Forms.{form_of, input_of, trees_of, hidden_pairs}
+use Rattle.nts_canonical.specs.Forms.{input_of, trees_of, hidden_pairs}
 use Rattle.nts_canonical.specs.Building.{IsArgOf, IsCanonicalOf, IsAskable}
 use Rattle.nts_evaluation.specs.Evaluation.{IsPosed}
 use Rattle.nts_evaluation.specs.Answering.{IsQueryOf}

@@ -1,9 +1,8 @@
 -- The table of a query: what it is at first, and which labels it may hold.
 use Rattle.std.proofs.Common.{◌≡◌, inl, inr, ℕ, zero, suc, ◌+◌, Bool, true, false, List, [], ◌∷◌, ◌++◌, map, Option, Some, None, refl, sym, ap, ◌∙◌, subst, arith}
-use Rattle.std.specs.Prelude.{◌==◌, ◌&&◌, slice_get, Contains, None}
+use Rattle.std.specs.Prelude.{◌==◌, ◌&&◌, slice_get, None}
 use Rattle.nts_model.specs.declared.labels.Sort.{Sort}
 use Rattle.nts_model.specs.declared.labels.Sort.TheVariants as sort
-use Rattle.nts_model.specs.declared.labels.VariableKind.TheVariants as kind
 use Rattle.nts_model.specs.declared.labels.FreeRegion.{FreeRegion}
 use Rattle.nts_model.specs.declared.labels.FreeRegion.TheVariants as region
 use Rattle.nts_model.specs.declared.labels.Constant.{Constant}
@@ -14,13 +13,13 @@ use Rattle.nts_model.specs.declared.labels.BoundVarIndexKind.TheVariants as inde
 use Rattle.nts_model.specs.declared.labels.Label.{Label}
 use Rattle.nts_model.specs.declared.labels.Label.TheVariants as label
 use Rattle.nts_model.specs.Trees.{Tree, empty, more, node, IsFormed}
-use Rattle.nts_model.specs.Contents.{Content, SlotState, unset, known, map_slot, Slot, state_of, Recorded}
-use Rattle.nts_model.specs.Substitutions.{leaf_tree, Occurs}
+use Rattle.nts_model.specs.Contents.{Content, SlotState, unset, known, map_slot, Slot}
+use Rattle.nts_model.specs.Substitutions.{leaf_tree}
 use Rattle.nts_model.specs.Sequents.{Among}
 use Rattle.nts_model.specs.Handlers.{filled, IsFixed}
 use Rattle.nts_model.specs.Inputs.{PositionKind, type_variable, integer_variable, float_variable, const_variable, region_variable, placeholder}
-use Rattle.nts_model.specs.Passing.{AllLabels, AllPass, TreePasses, TablePasses, PassesQueries, IsQueryLabel, IsQueryLeaf, IsQueryRegion, IsQueryConstant}
-use Rattle.nts_model.specs.Responses.{IsLabelIn, IsLeafIn, IsRegionIn, IsConstantIn, IsOverPositions, universe_of_kind}
+use Rattle.nts_model.specs.Passing.{AllLabels, AllPass, TreePasses, TablePasses, PassesQueries, IsQueryRegion, IsQueryConstant}
+use Rattle.nts_model.specs.Responses.{IsLabelIn, IsRegionIn, IsConstantIn, IsOverPositions, universe_of_kind}
 use Rattle.nts_model.proofs.Under.{eq-self}
 use Rattle.nts_model.proofs.ProvedLater.{contains_none}
 use Rattle.nts_model.proofs.Bringing.{passes-filled}

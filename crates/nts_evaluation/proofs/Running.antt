@@ -17,7 +17,7 @@ use Rattle.nts_model.specs.Holding.{AreOne, IsTrivial, HasSides, HoldsConstraint
 use Rattle.nts_model.specs.Alike.{Alike, one_tree, two_regions, one_label, two_rows, HoldsEqual, AreAlike}
 use Rattle.nts_model.specs.Sequents.{Among, Premise}
 use Rattle.nts_model.specs.Rules.{Mode, Meaning}
-use Rattle.nts_model.specs.Handlers.{Handler, meaning, Candidate, certain, filled, AreValuesOf, IsAsked, IsLawful}
+use Rattle.nts_model.specs.Handlers.{Handler, meaning, Candidate, certain, filled, AreValuesOf}
 use Rattle.nts_model.specs.Proving as proving
 use Rattle.nts_model.specs.Proving.{HoldsTerms, AreConstraintsOf, recorded_as, sequent_at, AreEquated, HoldsEquationAt, IsHeldAt, IsProvedAt}
 use Rattle.nts_model.proofs.Held.{Continues-refl, Continues-trans, HoldsConstraint-continues, HoldsConstraint-with_constraint}

@@ -1,5 +1,5 @@
 -- Terms of a candidate with closed values in place of its fresh variables, and what a query's table has recorded.
-use Rattle.std.proofs.Common.{◌≡◌, ⊎_elim, List, [], ◌∷◌, map, sym, subst}
+use Rattle.std.proofs.Common.{⊎_elim, List, [], ◌∷◌, map, sym, subst}
 use Rattle.nts_model.specs.declared.labels.Sort.{Sort}
 use Rattle.nts_model.specs.Trees.{Tree, IsClosed}
 use Rattle.nts_model.specs.Sequents.{Among}

@@ -1,6 +1,6 @@
 -- What a response tells: values under the table, and its constraints.
 use Rattle.std.proofs.Common.{◌≡◌, ◌⊎◌, inl, inr, ⊎_elim, ℕ, zero, suc, ◌+◌, ◌<◌, List, [], ◌∷◌, ◌++◌, map, length, take, get_or, Option, Some, refl, sym, ap, subst, ◌∙◌, arith}
-use Rattle.std.specs.Prelude.{◌≢◌, All, Contains}
+use Rattle.std.specs.Prelude.{All, Contains}
 use Rattle.std.proofs.lemmas.List.{map_push, map_more}
 use Rattle.std.proofs.lemmas.List.Elements.{All-cons, Contains-append_left, Contains-push, Contains-push_cases, Contains-get_or}
 use Rattle.std.specs.List.{position_or_len}
@@ -22,7 +22,6 @@ use Rattle.nts_model.proofs.Sound.{SameStates}
 use Rattle.nts_model.proofs.Classes.{deeply_resolved-same}
 use Rattle.nts_model.proofs.Kept.{kind_of-deeply_resolved}
 use Rattle.nts_model.proofs.Open.{Knows-deeply_resolved}
-use Rattle.nts_model.proofs.ProvedLater.{contains_first, contains_none}
 use Rattle.nts_store.specs.declared.nodes.NodeId.{NodeId}
 use Rattle.nts_store.specs.Growth.{tree_at, Extends}
 use Rattle.nts_store.proofs.Growing.{IsIn-extended, Extends-trans}
@@ -42,8 +41,7 @@ use Rattle.nts_canonical.specs.Building.{IsArgOf}
 use Rattle.nts_certainty.specs.declared.certainty.Certainty.{Certainty}
 use Rattle.nts_certainty.specs.declared.certainty.Certainty.TheVariants as certainty
 use Rattle.nts_response.specs.declared.types.Response.{Response}
-use Rattle.nts_canonical.specs.declared.types.Canonical.{Canonical}
-use Rattle.nts_response.specs.Forms.{recorded_at, premise_at, findings_at, response_at, HoldsConstraint, KnowsFindings}
+use Rattle.nts_response.specs.Forms.{recorded_at, premise_at, findings_at, HoldsConstraint, KnowsFindings}
 use Rattle.nts_response.proofs.Each.{same_views, values_kept}
 use Rattle.nts_response.specs.Replacing.{ReplacesEach, value_at}
 use Rattle.nts_evaluation.specs.Asking.{IsResponseOf, without_constraints}

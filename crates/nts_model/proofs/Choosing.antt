@@ -26,7 +26,6 @@ use Rattle.nts_model.proofs.Sound.{IsSound-with_slot}
 use Rattle.nts_model.proofs.Slots.{Knows-kept, KeepsKinds, KeepsKinds-refl, KeepsKinds-trans, KeepsKinds-with_slot}
 use Rattle.nts_model.proofs.Freshening.{new_kinds, freshened_world, freshened_back, filled_agree}
 use Rattle.nts_model.proofs.Applying.{new_knows}
-use Rattle.nts_model.specs.Patching.{IsPatch}
 use Rattle.nts_model.proofs.Scoping.{ArePatches, no_patches, more_patches, lists_patched, filled_patched}
 use Rattle.nts_model.proofs.Trying.{KnowsEquations, equated_back, equated_never_fails}
 

@@ -1,8 +1,6 @@
 -- Closed trees in place of positions; choosing for the positions of a response records nothing.
-use Rattle.std.proofs.Common.{◌≡◌, ⊎_elim, inl, inr, ℕ, zero, suc, ◌+◌, List, [], ◌∷◌, refl, sym, ap, ◌∙◌, subst, arith}
+use Rattle.std.proofs.Common.{◌≡◌, ⊎_elim, inl, inr, ℕ, zero, suc, ◌+◌, List, [], ◌∷◌, refl, ap, ◌∙◌, arith}
 use Rattle.std.specs.Prelude.{get_or}
-use Rattle.nts_model.specs.declared.labels.Sort.{Sort}
-use Rattle.nts_model.specs.declared.labels.Sort.TheVariants as sort
 use Rattle.nts_model.specs.declared.labels.VariableKind.{VariableKind}
 use Rattle.nts_model.specs.declared.labels.VariableKind.TheVariants as kind
 use Rattle.nts_model.specs.declared.labels.BoundVarIndexKind.TheVariants as index
@@ -12,7 +10,6 @@ use Rattle.nts_model.specs.Contents.{Content}
 use Rattle.nts_model.specs.Sequents.{Among}
 use Rattle.nts_model.specs.Handlers.{filled}
 use Rattle.nts_model.specs.Inputs.{PositionKind, type_variable, integer_variable, float_variable, const_variable, region_variable, placeholder}
-use Rattle.nts_model.specs.Responses.{placeholder_at}
 use Rattle.nts_model.specs.Applying.{IsNew, ChoosesVariable, Chooses, ChoosesAll}
 use Rattle.nts_model.proofs.Substituting.{closed_under_more}
 

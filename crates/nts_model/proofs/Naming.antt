@@ -1,9 +1,8 @@
 -- A universe that names what a tree holds names what it holds under a table; so a placeholder of a later universe is not in it.
-use Rattle.std.proofs.Common.{◌≡◌, ◌⊎◌, inl, inr, ⊎_elim, ℕ, zero, suc, ◌+◌, ◌<◌, ◌≤◌, Bool, true, false, List, [], ◌∷◌, Option, Some, None, refl, sym, ap, ◌∙◌, subst, rules, arith}
-use Rattle.std.specs.Prelude.{◌==◌, if◌then◌else◌, reverse, slice_get, length}
+use Rattle.std.proofs.Common.{◌≡◌, ⊎_elim, ℕ, ◌<◌, ◌≤◌, Bool, true, false, List, [], ◌∷◌, Option, Some, None, refl, sym, ap, ◌∙◌, subst, rules, arith}
+use Rattle.std.specs.Prelude.{◌==◌, if◌then◌else◌, reverse, slice_get}
 use Rattle.nts_model.specs.declared.labels.Sort.{Sort}
 use Rattle.nts_model.specs.declared.labels.Sort.TheVariants as sort
-use Rattle.nts_model.specs.declared.labels.VariableKind.{VariableKind}
 use Rattle.nts_model.specs.declared.labels.VariableKind.TheVariants as kind
 use Rattle.nts_model.specs.declared.labels.Leaf.{Leaf}
 use Rattle.nts_model.specs.declared.labels.Leaf.TheVariants as leaf
@@ -12,12 +11,11 @@ use Rattle.nts_model.specs.declared.labels.Label.TheVariants as label
 use Rattle.nts_model.specs.Trees.{Tree, empty, more, node, is_placeholder, sort_of_leaf}
 use Rattle.nts_model.specs.Contents.{Content, Slot, SlotState, unset, link, known, state_of, universe_of}
 use Rattle.nts_model.specs.Placeholders.{leaf_level, CanName}
-use Rattle.nts_model.specs.Resolving.{variable_tree, variable_of, number_of, infer_of, replaced, replaced_at, under, value_at, value_of_state, resolved, rooted, rooted_variable, deeply_resolved, Knows, KnowsVariable, IsSound}
-use Rattle.nts_model.specs.Holding.{Continues}
-use Rattle.nts_model.specs.Levels.{NamesAll, term_level, region_level, level_at, level_in, IsLevelled, AreRegionsLevelled, AreCurrent, Falls}
+use Rattle.nts_model.specs.Resolving.{variable_of, infer_of, replaced, replaced_at, under, value_at, value_of_state, resolved, rooted, rooted_variable, deeply_resolved, Knows, KnowsVariable}
+use Rattle.nts_model.specs.Levels.{NamesAll, term_level, region_level, level_in, IsLevelled, AreRegionsLevelled, AreCurrent, Falls}
 use Rattle.nts_model.specs.Substitutions.{Occurs}
 use Rattle.nts_model.specs.Rules.{AreFresh}
-use Rattle.nts_model.specs.Opening.{placeholder_in, universe_at, universe_in}
+use Rattle.nts_model.specs.Opening.{placeholder_in, universe_in}
 use Rattle.nts_model.proofs.Slots.{some_slot, field_below}
 use Rattle.nts_model.proofs.Solving.{NamesAll-more}
 use Rattle.nts_model.proofs.Variables.{infer_label}

@@ -1,5 +1,5 @@
 -- A goal that binds variables is proved by one certain candidate for the goal with fresh placeholders.
-use Rattle.std.proofs.Common.{◌≡◌, inl, inr, ℕ, ◌+◌, arith, Bool, true, false, List, Option, Some, None, refl, sym, ap, ◌∙◌, subst}
+use Rattle.std.proofs.Common.{◌≡◌, inl, inr, ℕ, ◌+◌, arith, Bool, true, false, List, refl, sym, ap, ◌∙◌, subst}
 use Rattle.std.specs.Prelude.{◌==◌, if◌then◌else◌}
 use Rattle.nts_model.specs.declared.labels.Sort.{Sort}
 use Rattle.nts_model.specs.declared.labels.Variance.{Variance}
@@ -9,15 +9,15 @@ use Rattle.nts_model.specs.declared.labels.BoundVarIndexKind.TheVariants as inde
 use Rattle.nts_model.specs.declared.labels.ListHead.TheVariants as list
 use Rattle.nts_model.specs.declared.labels.Label.{Label}
 use Rattle.nts_model.specs.declared.labels.Label.TheVariants as label
-use Rattle.nts_model.specs.Trees.{Tree, empty, more, node, binders, any_label, is_canonical, is_placeholder, IsClosed, IsClosedUnder, IsFormed}
+use Rattle.nts_model.specs.Trees.{Tree, empty, more, node, binders, is_placeholder, IsClosed}
 use Rattle.nts_model.specs.Contents.{Content}
 use Rattle.nts_model.specs.Resolving.{deeply_resolved, IsSound, Knows}
 use Rattle.nts_model.specs.Levels.{IsLevelled, AreRegionsLevelled, AreCurrent}
 use Rattle.nts_model.specs.Holding.{Continues}
 use Rattle.nts_model.specs.Opening.{placeholder_in, opened_in}
-use Rattle.nts_model.specs.Substitutions.{leaf_tree, put, replace, instance_of}
-use Rattle.nts_model.specs.Related.{Constraint, pair, unbound}
-use Rattle.nts_model.specs.Sequents.{Among, Premise, HasClosedStatement, IsOfTerms, Grants, Hides}
+use Rattle.nts_model.specs.Substitutions.{leaf_tree, replace, instance_of}
+use Rattle.nts_model.specs.Related.{pair, unbound}
+use Rattle.nts_model.specs.Sequents.{Among, IsOfTerms, Grants, Hides}
 use Rattle.nts_model.specs.Rules.{Mode, goal_kind, opened, opened_at, AreFresh, bound, IsPlainRule, IsRule}
 use Rattle.nts_model.specs.Proofs.{by_rule}
 use Rattle.nts_model.specs.Handlers.{Handler, meaning, Candidate, certain, IsAsked, IsLawful}

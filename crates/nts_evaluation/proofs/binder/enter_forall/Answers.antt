@@ -1,4 +1,4 @@
-use Rattle.std.proofs.Common.{rules, ◌≡◌, ◌∙◌, refl, Bool, false}
+use Rattle.std.proofs.Common.{rules, ◌≡◌, ◌∙◌, refl, false}
 use Rattle.std.specs.Prelude.{is_some}
 use Rattle.nts_model.specs.Trees.{IsClosed}
 use Rattle.nts_store.specs.Growth.{tree_at}

@@ -1,9 +1,8 @@
-use Rattle.std.proofs.Common.{◌≡◌, inl, inr, Err, arith, rules, ◌+◌, ◌<◌, ◌≤◌, map, length, refl, ap, sym, ◌∙◌, subst}
+use Rattle.std.proofs.Common.{◌≡◌, inl, Err, arith, rules, ◌+◌, ◌<◌, ◌≤◌, map, length, refl, ap, sym, ◌∙◌, subst}
 use Rattle.std.specs.Prelude.{is_some}
 use Rattle.std.proofs.lemmas.List.{take_all}
 use Rattle.nts_store.specs.Growth.{tree_at}
-use Rattle.nts_store.proofs.Growing.{Extends-refl, Extends-trans}
-use Rattle.nts_terms.proofs.Moved.{KeepsRest-refl}
+use Rattle.nts_store.proofs.Growing.{Extends-trans}
 use Rattle.nts_evaluation.specs.Meant.{meaning_since}
 use Rattle.nts_unify.specs.Reading.{content_of}
 use Rattle.nts_delegate.specs.declared.delegate.CandidateGoal.{CandidateGoal}
@@ -15,11 +14,10 @@ use Rattle.nts_evaluation.proofs.Asking.{IsAsked-extended}
 use Rattle.nts_evaluation.proofs.Running.{term_table, unread, premise_stays, HasRun, has_run, both_sure, constraints-kept, offered_there, Equates-later, Constrains-later, Proves-step}
 use Rattle.nts_delegate.proofs.Results.{IfOk-map, OnOk-map}
 use Rattle.nts_unify.specs.Lawful.{content_of-extended}
-use Rattle.nts_model.proofs.Bringing.{only-refl, only-trans, only-none}
-use Rattle.nts_evaluation.specs.Meant.{AsksForced, AsksGained, AsksRefuted}
+use Rattle.nts_model.proofs.Bringing.{only-trans}
+use Rattle.nts_evaluation.specs.Meant.{AsksForced, AsksGained}
 use Rattle.nts_table.specs.TableLaws.{IsTable-extended}
 use Rattle.nts_evaluation.proofs.AskedGoals.{trees_kept, ok_both, args_there, closed_there, applicable, evaluates, asks, asked_stays, asked_labels, query_refutes, response_refused}
-use Rattle.nts_unify.specs.Entries.{Entries}
 use Rattle.nts_evaluation.proofs.Fitting.{answer_to}
 use Rattle.nts_canonical.specs.Building.{kinds_of}
 use Rattle.nts_canonical.specs.Forms.{form_of, trees_of}
@@ -31,7 +29,7 @@ use Rattle.nts_evaluation.proofs.Labels.{only_earlier, only_back, only_same, onl
 use Rattle.nts_evaluation.proofs.Refuting.{asks_forced_more, asks_gained_more, asks_refuted_more, some_first, some_more, skipped, gained_last, gained_nothing, open_gains_nothing, gained_back, refuted_none, refuted_by_goal, refuted_by_constraint, refuted_back, only_met}
 use Rattle.nts_store.specs.declared.fault.EvalError.TheVariants as EvalError
 use Rattle.nts_evaluation.proofs.Forcing.{only_later, forced_back, run_first, run_more, run_last}
-use Rattle.nts_evaluation.proofs.Evaluating.{Knows-goes, KeepsRest-trans, Goes-trans, Goes-extends, goes-back, Runs-trans, Runs-extends, Runs-refl, runs-back, Since-later, offers-kept, IsPosed-opened, IsPosed-later, AreValues-later, IsCandidate-extended, IsNested-extended, can_fill, candidate_at, nested_at, committed, rolled_back}
+use Rattle.nts_evaluation.proofs.Evaluating.{KeepsRest-trans, Goes-trans, Goes-extends, goes-back, Runs-trans, Runs-extends, Runs-refl, runs-back, Since-later, offers-kept, IsPosed-later, AreValues-later, IsCandidate-extended, IsNested-extended, can_fill, candidate_at, nested_at}
 use Rattle.nts_evaluation.proofs.Opened.{on_ok, forced_through, gained_through, refuted_through, entered_through, labels_through, labels_entered, proved_through}
 use Rattle.nts_evaluation.proofs.evaluate.+evaluate.Goals as goal
 

@@ -1,5 +1,4 @@
 use Rattle.std.proofs.Common.{[]}
-use Rattle.nts_delegate.proofs.Results.{IfOk-map}
 use Rattle.nts_store.proofs.Growing.{Extends-refl}
 use Rattle.nts_evaluation.proofs.Running.{Stays-now}
 use Rattle.nts_model.proofs.ProvedLater.{IsProved-held}
