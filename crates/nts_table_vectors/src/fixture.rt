@@ -3,7 +3,7 @@ ghost use Rattle.std.specs.Prelude.{◌≡◌, false, All};
 ghost use Rattle.nts_model.specs.Trees.{any_label, is_alias};
 ghost use Rattle.nts_model.specs.Resolving.{Knows, resolved};
 ghost use Rattle.nts_store.specs.Growth.{tree_at, Extends};
-ghost use Rattle.nts_terms.specs.Handles.{HoldsArg, HoldsArgs, HoldsVars};
+ghost use Rattle.nts_terms.specs.Handles.{HoldsArg, HoldsArgs};
 ghost use Rattle.nts_terms.specs.Kinds.{TyFits, ConstFits};
 ghost use Rattle.nts_terms.specs.Signatures.{TyIsDeclared, ConstIsDeclared};
 ghost use Rattle.nts_unify.specs.Reading.{content_of};
@@ -14,8 +14,8 @@ use nts_model::{Sort, UintTy, VariableKind, Variance};
 use nts_store::EvalError;
 use nts_table::{InferCtxt, is_unbound};
 use nts_terms::{
-    AliasDefId, AliasId, AliasKind, AliasTerm, Binder, BoundVars, ConstKind, CtorId, Cx, DefId,
-    FnSig, GenericArg, GenericArgs, ParamEnv, Region, RegionKind, Span, Ty, TyKind, TypingMode,
+    AliasDefId, AliasId, AliasKind, AliasTerm, Binder, ConstKind, CtorId, Cx, DefId, FnSig,
+    GenericArg, GenericArgs, ParamEnv, Region, RegionKind, Span, Ty, TyKind, TypingMode,
     VisibleForLeakCheck,
 };
 use nts_unify::{Constraint, State, Variable};
@@ -356,34 +356,33 @@ impl Fixture {
     {
         assert!(rt; self.cx.holds(x));
         let args = self.args(rt, &[x]);
-        self.pointer(rt, args)
+        self.pointer(rt, Sort::Ty, args)
     }
 
-    /// A pointer to functions that take the first type and give the second one.
-    pub fn turner(&mut self, rt: &impl Abort, x: GenericArg, y: GenericArg) -> GenericArg
+    /// A pointer to functions that take the first type and give the second one. They may name a
+    /// variable of that sort that is bound there.
+    pub fn turner(
+        &mut self,
+        rt: &impl Abort,
+        sort: Sort,
+        x: GenericArg,
+        y: GenericArg,
+    ) -> GenericArg
         requires { IsTable self.old.cx.nodes self.old.table }
         ensures { IsTable self.new.cx.nodes self.new.table }
     {
         assert!(rt; self.cx.holds(x));
         assert!(rt; self.cx.holds(y));
         let args = self.args(rt, &[x, y]);
-        self.pointer(rt, args)
+        self.pointer(rt, sort, args)
     }
 
-    /// The sorts of a binder of one type.
-    fn vars(&mut self, rt: &impl Abort) -> BoundVars
-        requires { IsTable self.old.cx.nodes self.old.table }
-        ensures table { IsTable self.new.cx.nodes self.new.table }
-        ensures holds { HoldsVars self.new.cx.nodes result }
-    {
-        self.cx.mk_bound_vars(&[Sort::Ty]).expect(rt, "memory")
-    }
-
-    fn pointer(&mut self, rt: &impl Abort, args: GenericArgs) -> GenericArg
+    /// A pointer to functions, under a binder of one variable of that sort.
+    fn pointer(&mut self, rt: &impl Abort, sort: Sort, args: GenericArgs) -> GenericArg
         requires { IsTable self.old.cx.nodes self.old.table }
         ensures { IsTable self.new.cx.nodes self.new.table }
     {
-        let vars = self.vars(rt);
+        let vars = self.cx.mk_bound_vars(&[sort]).expect(rt, "memory");
         assert!(rt; self.cx.holds(args));
         let value = FnSig {
             inputs_and_output: args,

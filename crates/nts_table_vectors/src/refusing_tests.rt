@@ -1,8 +1,10 @@
 //! What relating refuses, each with the table as before.
 use crate::fixture::Fixture;
-use nts_model::{BoundVarIndexKind, UintTy};
+use nts_model::{BoundVarIndexKind, Sort, UintTy};
 use nts_table::InferCtxt;
-use nts_terms::{BoundTy, ConstKind, Cx, PlaceholderType, RegionKind, TyKind, TypingMode};
+use nts_terms::{
+    BoundRegion, BoundTy, ConstKind, Cx, PlaceholderType, RegionKind, TyKind, TypingMode,
+};
 
 #[test]
 fn occurs(rt: HostRuntime) {
@@ -104,8 +106,24 @@ fn numbers_of_arguments(rt: HostRuntime) {
     let hole = fixture.ty_var(&rt);
     let byte = fixture.ty(&rt, TyKind::Uint(UintTy::U8));
     let one = fixture.maker(&rt, hole);
-    let two = fixture.turner(&rt, byte, byte);
+    let two = fixture.turner(&rt, Sort::Ty, byte, byte);
     fixture.refuses(&rt, one, two);
+}
+
+#[test]
+fn a_bound_region_and_a_free_one(rt: HostRuntime) {
+    let mut fixture = Fixture::new(&rt, rt.alloc());
+    let byte = fixture.ty(&rt, TyKind::Uint(UintTy::U8));
+    let index = BoundVarIndexKind::Bound(0);
+    let bound = fixture.region(&rt, RegionKind::ReBound(index, BoundRegion { var: 0 }));
+    let free = fixture.region(&rt, RegionKind::ReEarlyParam(0));
+    let of_each = fixture.reference(&rt, bound, byte);
+    let of_each = fixture.turner(&rt, Sort::Region, of_each, byte);
+    let of_one = fixture.reference(&rt, free, byte);
+    let of_one = fixture.turner(&rt, Sort::Region, of_one, byte);
+    fixture.refuses(&rt, of_each, of_one);
+    fixture.relates(&rt, of_each, of_each);
+    fixture.counts(&rt, 0, 0);
 }
 
 #[test]
