@@ -98,7 +98,7 @@ impl TypeFolder for Resolver<'_> {
 
     ghost rebuilds = { StaysMade };
 
-    ghost fails = { λ e. e ≡ Memory };
+    ghost fails = { λ s o e. e ≡ Memory };
 
     ghost keeps = { λ s t. t ≡ s };
 
@@ -108,7 +108,7 @@ impl TypeFolder for Resolver<'_> {
 
     ghost ready_kept = { λ a b s h e. IsTable-extended e h };
 
-    ghost memory_fails = { λ e h. h };
+    ghost memory_fails = { λ m e h. h };
 
     ghost meaning_kept = { λ a b s h e. content_of-extended e h.now };
 
@@ -179,7 +179,7 @@ impl TypeFolder for Reader {
 
     ghost rebuilds = { StaysMade };
 
-    ghost fails = { λ e. e ≡ Memory };
+    ghost fails = { λ s o e. e ≡ Memory };
 
     ghost keeps = { λ s t. Unit {0} };
 
@@ -189,7 +189,7 @@ impl TypeFolder for Reader {
 
     ghost ready_kept = { λ a b s h e. tt };
 
-    ghost memory_fails = { λ e h. h };
+    ghost memory_fails = { λ m e h. h };
 
     ghost meaning_kept = { λ a b s h e. refl };
 
@@ -254,7 +254,7 @@ impl TypeFolder for Positioner<'_> {
 
     ghost rebuilds = { StaysMade };
 
-    ghost fails = { λ e. e ≡ Memory };
+    ghost fails = { λ s o e. e ≡ Memory };
 
     ghost keeps = { λ s t. t ≡ s };
 
@@ -264,7 +264,7 @@ impl TypeFolder for Positioner<'_> {
 
     ghost ready_kept = { λ a b s h e. tt };
 
-    ghost memory_fails = { λ e h. h };
+    ghost memory_fails = { λ m e h. h };
 
     ghost meaning_kept = { λ a b s h e. refl };
 

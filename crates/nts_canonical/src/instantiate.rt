@@ -62,7 +62,7 @@ impl TypeFolder for Filler<'_> {
 
     ghost rebuilds = { λ s x y t. (y ≡ x) × (t ≡ s) };
 
-    ghost fails = { λ e. e ≡ Memory };
+    ghost fails = { λ s o e. e ≡ Memory };
 
     ghost keeps = { λ s t. t ≡ s };
 
@@ -72,7 +72,7 @@ impl TypeFolder for Filler<'_> {
 
     ghost ready_kept = { λ a b s h e. AreHeld-kept a b s.values.now h e };
 
-    ghost memory_fails = { λ e h. h };
+    ghost memory_fails = { λ m e h. h };
 
     ghost meaning_kept = { λ a b s h e. trees_of-kept a b s.values.now h e };
 

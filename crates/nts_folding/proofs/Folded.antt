@@ -1,12 +1,14 @@
 -- What a walk by a folder still has to do, and what it has found so far.
-use Rattle.std.proofs.Common.{◌≡◌, ℕ, ◌+◌, ◌-◌, ◌<◌, List, [], ◌∷◌, ◌++◌, length, map, take, drop, get_or, Option, Some, None, refl, sym, ap, subst, ◌∙◌, arith, append_assoc, length-append}
+use Rattle.std.proofs.Common.{◌≡◌, ◌⊎◌, inl, inr, Bool, true, not, Result, Ok, Err, IfErr, ℕ, ◌+◌, ◌-◌, ◌<◌, List, [], ◌∷◌, ◌++◌, length, map, take, drop, get_or, Option, Some, None, refl, sym, ap, subst, ◌∙◌, arith, append_assoc, length-append}
+use Rattle.std.specs.Option.{is_some}
+use Rattle.std.specs.Result.{IsErrAnd}
 use Rattle.std.proofs.lemmas.List.{append-nil, length-map, take-map, drop-map}
 use Rattle.std.proofs.Math.Seq.{take-append_seam, drop-append_seam}
 use Rattle.nts_model.specs.declared.labels.ClauseHead.{ClauseHead}
 use Rattle.nts_model.specs.declared.labels.Label.{Label}
 use Rattle.nts_model.specs.declared.labels.Label.TheVariants as label
 use Rattle.nts_model.specs.declared.labels.ListHead.TheVariants as list
-use Rattle.nts_model.specs.Trees.{Tree, empty, more, node, kind_of, row_length, row_push, IsRow, Place, Shape, in_order, each, shape, HavePlaces, AllFit, Meets}
+use Rattle.nts_model.specs.Trees.{Tree, empty, more, node, children, NodeKind, kind_of, kind_of_label, row_length, row_push, IsRow, Place, Shape, in_order, each, shape, HavePlaces, AllFit, Meets}
 use Rattle.nts_model.specs.Related.{pair}
 use Rattle.nts_store.specs.declared.nodes.NodeId.{NodeId}
 use Rattle.nts_store.specs.declared.replacement.Task.{Task}
@@ -15,7 +17,7 @@ use Rattle.nts_store.specs.Growth.{tree_at, trees_at, IsIn, AllIn, Extends}
 use Rattle.nts_terms.specs.Handles.{Holds}
 use Rattle.nts_store.specs.Kept.{map-kept}
 use Rattle.nts_store.specs.Replacement.{Job, enter, build, job, jobs, TaskIn, TasksIn, entered, building, IsFormedNode}
-use Rattle.nts_folding.specs.Folding.{GoesInto, ComesBack, Walk, done, next, answer, down, Starts, statement_about, tree_of_binder, tree_of_list}
+use Rattle.nts_folding.specs.Folding.{MayAnswer, asked_as, GoesInto, ComesBack, Walk, done, next, answer, down, Starts, CannotMake, Stops, anywhere, early, late, at_term, at_binder, inside, at_made, statement_about, tree_of_binder, tree_of_list}
 use Rattle.nts_store.proofs.Growing.{AllIn-extended, AllIn-push}
 use Rattle.nts_store.proofs.Replacing.{AreLaws, jobs-push, TasksIn-front, TasksIn-extended, jobs-extended, map-push, row, row-trees, IsRow-Meets, AllIn-take, AllIn-drop, MayBuild, weight, weights, weights-append, weights-building, weights_split, weights_extended}
 
@@ -31,6 +33,39 @@ itself_keeps = record { of_empty = refl; of_more = λ a b. refl; covers = λ a b
 
 abbrev pub work : List Job → ℕ
 work js = weights Anything itself js
+
+-- a node of the store is asked for as its label says
+asked_formed : (l : Label) (c : Tree) → Meets (shape l) c → asked_as (node l c) ≡ kind_of_label l
+asked_formed (label.Leaf l) c h = refl
+asked_formed (label.Bound s i n) c h = refl
+asked_formed (label.Ty t) c h = refl
+asked_formed (label.Const t) c h = refl
+asked_formed (label.Clause t) c h = refl
+asked_formed (label.Predicate t) c h = refl
+asked_formed (label.List list.Args) c h = refl
+asked_formed (label.List list.Env) c h = refl
+asked_formed (label.List list.Sorts) c h = refl
+asked_formed (label.List (list.Sort s)) c h = refl
+asked_formed (label.List list.Binder) empty h = refl
+asked_formed (label.List list.Binder) (node l c) h = refl
+asked_formed (label.List list.Binder) (more v empty) h = refl
+asked_formed (label.List list.Binder) (more v (node l c)) h = refl
+asked_formed (label.List list.Binder) (more v (more empty d)) h = refl
+asked_formed (label.List list.Binder) (more v (more (node l c) d)) h = refl
+asked_formed (label.List list.Binder) (more v (more (more a b) d)) h = cc (h.1.0)
+
+-- what holds of an error that a call hands on
+pub on_same_err : {T E : Type 0} (P : E → Type 0) (r : Result T E) (e : E) → IsErrAnd r (λ x. x ≡ e) → P e → IfErr r P
+on_same_err P (Ok x) e h p = tt
+on_same_err P (Err x) e h p = rw h p
+
+pub none_of : {T : Type 0} (o : Option T) (b : Bool) → is_some o ≡ not b → b ≡ true → o ≡ None
+none_of None b h e = refl
+none_of (Some x) b h e = cc (h, e)
+
+pub on_err : {T E : Type 0} (P Q : E → Type 0) (r : Result T E) → IsErrAnd r Q → ((e : E) → Q e → P e) → IfErr r P
+on_err P Q (Ok x) h f = tt
+on_err P Q (Err x) h f = f x h
 
 module _ {S : Type 0} (A : S → Tree → Option Tree → S → Type 0) (E L : S → S → Type 0) (R : S → Tree → Tree → S → Type 0) where
   -- a job leads from a state and the trees found before it to others
@@ -242,125 +277,286 @@ module _ {S : Type 0} (A : S → Tree → Option Tree → S → Type 0) (E L : S
   work_into (more a b) s m h k = absurd h
   work_into (node l c) s m h k = weights-building Anything itself itself_keeps (node l c) (node l c) (refl, tt) k
 
-  -- doing the tasks from the state s, over the terms found so far, ends the walk of x from the first state
-  pub record EndsBy (first : S) (x : Tree) (ts : List Tree) (xs : List Task) (found : List NodeId) (s : S) : Type 0 where
-    pub tasks_in : TasksIn ts xs
-    pub found_in : AllIn ts found
-    pub are_ready : AreReady (jobs ts xs) s (map (tree_at ts) found)
-    pub ends : (t : S) (qs : List Tree) → Runs (jobs ts xs) s (map (tree_at ts) found) t qs → (y : Tree) × Walk A E L R first x y t × (qs ≡ y ∷ [])
+  module _ {X : Type 0} (N : S → Option Tree → X → Type 0) where
+    -- a node at which the walk stops, before its children are folded
 
-  pub ends_start : (ts : List Tree) (xs : List Task) (cs : List NodeId) (t : NodeId) (s : S) → IsIn ts t → xs ≡ task.Enter t ∷ [] → cs ≡ [] → EndsBy s (tree_at ts t) ts xs cs s
-  ends_start ts xs cs t s h e q =
-      record {
-        tasks_in = rw e (h, tt);
-        found_in = rw q tt;
-        are_ready = rw e (tt, λ m ms r. tt);
-        ends = λ u qs r. let here : Runs (enter (tree_at ts t) ∷ []) s [] u qs = rw (e, q) at r in does_one (enter (tree_at ts t)) s u [] qs here;
-      }
+    pub stops_term : (x : Tree) (l : Label) (s : S) (e : X) → x ≡ node l (children x) → N s (Some x) e → Stops A E L R N s x e
+    stops_term empty l s e q h = cc
+    stops_term (more a b) l s e q h = cc
+    stops_term (node k c) l s e q h = at_term h
 
-  -- the last task with its place taken by others that do the same
-  ends_after : (first : S) (x : Tree) (a b : List Tree) (xs ys zs : List Task) (k : Task) (ws : List Job) (rs qs : List NodeId) (s t : S) → EndsBy first x a ys rs s → ys ≡ xs ++ k ∷ [] → Extends a b → jobs b zs ≡ jobs b xs ++ ws → ((m : S) (ms : List Tree) → Runs ws t (map (tree_at b) qs) m ms → Does (job a k) s (map (tree_at a) rs) m ms) → AreReady ws t (map (tree_at b) qs) → TasksIn b zs → AllIn b qs → EndsBy first x b zs qs t
-  ends_after first x a b xs ys zs k ws rs qs s t p e up is same ready tasks found =
-      let was_found = map (tree_at a) rs in
-      let old : jobs a ys ≡ jobs a xs ++ job a k ∷ [] = rw e (jobs-push a xs k) in
-      let front : TasksIn a xs × TaskIn a k = TasksIn-front a xs k (rw e at p.tasks_in) in
-      let new : jobs b zs ≡ jobs a xs ++ ws = is ∙ ap (λ js. js ++ ws) (jobs-extended up xs front.0) in
-      let was : AreReady (jobs a xs ++ job a k ∷ []) s was_found = subst (λ (js : List Job). AreReady js s was_found) old p.are_ready in
-      record {
-        tasks_in = tasks;
-        found_in = found;
-        are_ready = subst (λ (js : List Job). AreReady js t (map (tree_at b) qs)) (sym new)
-            (ready_more (jobs a xs) ws t (map (tree_at b) qs) ready
-            (λ m ms r. ready_rest (jobs a xs) (job a k ∷ []) s m was_found ms was (runs_one (job a k) s m was_found ms (same m ms r))));
-        ends = λ u us r.
-            let f = runs_split (jobs a xs) ws t u (map (tree_at b) qs) us (subst (λ (js : List Job). Runs js t (map (tree_at b) qs) u us) new r) in
-            let one = runs_one (job a k) s f.state was_found f.found (same f.state f.found f.first) in
-            let all = runs_more (jobs a xs) (job a k ∷ []) s f.state u was_found f.found us one f.rest in
-            p.ends u us (subst (λ (js : List Job). Runs js s was_found u us) (sym old) all);
-      }
+    pub stops_enter : (x : Tree) (l : Label) (s t : S) (e : X) → x ≡ node l (children x) → Meets (shape l) (children x) → MayAnswer A (kind_of_label l) s x None t → N t None e → Stops A E L R N s x e
+    stops_enter empty l s t e q f m h = cc
+    stops_enter (more a b) l s t e q f m h = cc
+    stops_enter (node k c) l s t e q f m h =
+        let same : l ≡ k = cc in
+        let asks = subst (λ (z : NodeKind). MayAnswer A z s (node k c) None t) (sym (asked_formed l c f)) m in
+        at_binder (subst (λ (z : Label). MayAnswer A (asked_as (node z c)) s (node k c) None t) same asks) h
 
-  pub ends_answer : (first : S) (x : Tree) (a b : List Tree) (xs ys : List Task) (t r : NodeId) (rs qs : List NodeId) (s m : S) → EndsBy first x a ys rs s → ys ≡ xs ++ task.Enter t ∷ [] → Extends a b → IsIn b r → Starts A E s (tree_at a t) (Some (tree_at b r)) m → qs ≡ rs ++ r ∷ [] → EndsBy first x b xs qs m
-  ends_answer first x a b xs ys t r rs qs s m p e up within h is =
-      let front : TasksIn a xs × TaskIn a (task.Enter t) = TasksIn-front a xs (task.Enter t) (rw e at p.tasks_in) in
-      let same : map (tree_at b) qs ≡ map (tree_at a) rs ++ tree_at b r ∷ [] = rw (is, map-push b rs r, map-kept a b rs p.found_in up) refl in
-      let walk = answered (tree_at a t) (tree_at b r) s m h in
-      ends_after first x a b xs ys xs (task.Enter t) [] rs qs s m p e up (sym (append-nil (jobs b xs)))
-      (λ n ns w. (tree_at b r, subst (λ (z : S). Walk A E L R s (tree_at a t) (tree_at b r) z) (sym w.0) walk, w.1 ∙ same))
-      tt (TasksIn-extended up xs front.0) (rw is (AllIn-push b rs r (AllIn-extended up rs p.found_in) within))
+    -- what holds of each error at which a hook may fail holds of those at which a walk stops
+    pub stops_only : (P : X → Type 0) → ((s : S) (o : Option Tree) (e : X) → N s o e → P e) → (s : S) (x : Tree) (e : X) → Stops A E L R N s x e → P e
+    stops_only P k s x e (anywhere h) = k s None e (h s)
+    stops_only P k s (more a b) e (early h) = stops_only P k s a e h
+    stops_only P k s (more a b) e (late w h) = stops_only P k _ b e h
+    stops_only P k s (node l c) e (at_term h) = k s _ e h
+    stops_only P k s (node l c) e (at_binder a h) = k _ None e h
+    stops_only P k s (node l c) e (inside g h) = stops_only P k _ c e h
+    stops_only P k s (node l c) e (at_made g w h) = k h.left _ e h.refused
 
-  pub ends_down : (first : S) (x : Tree) (a b : List Tree) (xs ys zs : List Task) (t : NodeId) (rs : List NodeId) (s m : S) → EndsBy first x a ys rs s → ys ≡ xs ++ task.Enter t ∷ [] → Extends a b → Starts A E s (tree_at a t) None m → IsFormedNode (tree_at b t) → TasksIn b zs → jobs b zs ≡ jobs b xs ++ building (tree_at b t) → EndsBy first x b zs rs m
-  ends_down first x a b xs ys zs t rs s m p e up h formed within is =
-      let front : TasksIn a xs × TaskIn a (task.Enter t) = TasksIn-front a xs (task.Enter t) (rw e at p.tasks_in) in
-      let kept = up.kept t front.1 in
-      let node_formed : IsFormedNode (tree_at a t) = rw kept at formed in
-      let now : jobs b zs ≡ jobs b xs ++ building (tree_at a t) = rw kept at is in
-      let found = map-kept a b rs p.found_in up in
-      ends_after first x a b xs ys zs (task.Enter t) (building (tree_at a t)) rs rs s m p e up now
-      (λ n ns w. runs_into (tree_at a t) s m n (map (tree_at a) rs) ns h node_formed (subst (λ (us : List Tree). Runs (building (tree_at a t)) m us n ns) found w))
-      (ready_into (tree_at a t) s m (map (tree_at b) rs) h node_formed) within (AllIn-extended up rs p.found_in)
+    -- a part of a value at which the walk stops
 
-  pub ends_build : (first : S) (x : Tree) (a b : List Tree) (xs ys : List Task) (o : NodeId) (l : Label) (n i : ℕ) (d : NodeId) (rs cs qs : List NodeId) (s m : S) → EndsBy first x a ys rs s → ys ≡ xs ++ task.Build o l n ∷ [] → Extends a b → i ≡ length rs - n → cs ≡ drop i rs → IsIn b d → ComesBack L R l s (trees_at a cs) (tree_at b d) m → qs ≡ take i rs ++ d ∷ [] → EndsBy first x b xs qs m
-  ends_build first x a b xs ys o l n i d rs cs qs s m p e up q is within back new =
-      let front : TasksIn a xs × TaskIn a (task.Build o l n) = TasksIn-front a xs (task.Build o l n) (rw e at p.tasks_in) in
-      let kept = AllIn-take a i rs p.found_in in
-      let len : length (map (tree_at a) rs) - n ≡ i = rw (length-map rs (tree_at a)) (sym q) in
-      let last : row (drop i (map (tree_at a) rs)) ≡ trees_at a cs = ap row (drop-map (tree_at a) i rs) ∙ row-trees a (drop i rs) ∙ ap (trees_at a) (sym is) in
-      let same : map (tree_at b) qs ≡ take i (map (tree_at a) rs) ++ tree_at b d ∷ [] = rw (new, map-push b (take i rs) d, map-kept a b (take i rs) kept up, take-map (tree_at a) i rs) refl in
-      let comes : ComesBack L R l s (row (drop (length (map (tree_at a) rs) - n) (map (tree_at a) rs))) (tree_at b d) m = rw (len, last) back in
-      let ends_so : map (tree_at b) qs ≡ take (length (map (tree_at a) rs) - n) (map (tree_at a) rs) ++ tree_at b d ∷ [] = rw len same in
-      ends_after first x a b xs ys xs (task.Build o l n) [] rs qs s m p e up (sym (append-nil (jobs b xs)))
-      (λ u us w. (tree_at b d, subst (λ (z : S). ComesBack L R l s (row (drop (length (map (tree_at a) rs) - n) (map (tree_at a) rs))) (tree_at b d) z) (sym w.0) comes, w.1 ∙ ends_so))
-      tt (TasksIn-extended up xs front.0) (rw new (AllIn-push b (take i rs) d (AllIn-extended up (take i rs) kept) within))
+    pub stops_first : {r : S} {a b : Tree} {e : X} → Stops A E L R N r a e → Stops A E L R N r (pair a b) e
+    stops_first h = early h
 
-  pub may_enter : (first : S) (x : Tree) (a : List Tree) (xs ys : List Task) (t : NodeId) (rs : List NodeId) (s : S) → EndsBy first x a ys rs s → ys ≡ xs ++ task.Enter t ∷ [] → IsIn a t
-  may_enter first x a xs ys t rs s p e = (TasksIn-front a xs (task.Enter t) (rw e at p.tasks_in)).1
+    pub stops_second : {r s : S} {a b c d : Tree} {e : X} → d ≡ b → Walk A E L R r a c s → Stops A E L R N s d e → Stops A E L R N r (pair a b) e
+    stops_second q w h = rw (← q) (late w (early h))
 
-  pub may_build : (first : S) (x : Tree) (a : List Tree) (xs ys : List Task) (o : NodeId) (l : Label) (n i : ℕ) (rs cs : List NodeId) (s : S) → EndsBy first x a ys rs s → ys ≡ xs ++ task.Build o l n ∷ [] → i ≡ length rs - n → cs ≡ drop i rs → MayBuild a l cs
-  may_build first x a xs ys o l n i rs cs s p e q is =
-      let was_found = map (tree_at a) rs in
-      let old : jobs a ys ≡ jobs a xs ++ build (tree_at a o) l n ∷ [] = rw e (jobs-push a xs (task.Build o l n)) in
-      let was = ready_first (jobs a xs) (build (tree_at a o) l n ∷ []) s was_found (subst (λ (js : List Job). AreReady js s was_found) old p.are_ready) in
-      let now : Meets (shape l) (row (drop (length was_found - n) was_found)) = was.1 s was_found (refl, refl) in
-      let len : length was_found - n ≡ i = rw (length-map rs (tree_at a)) (sym q) in
-      let meets : Meets (shape l) (row (drop i was_found)) = rw len at now in
-      let same : row (drop i was_found) ≡ trees_at a (drop i rs) = ap row (drop-map (tree_at a) i rs) ∙ row-trees a (drop i rs) in
-      record { within = rw is (AllIn-drop a i rs p.found_in); formed = rw (is, ← same) meets }
+    pub stops_statement : {h : ClauseHead} {r : S} {a : Tree} {e : X} → Stops A E L R N r a e → Stops A E L R N r (statement_about h a) e
+    stops_statement {r = r} h = inside (record { asked = r; asks = (refl, refl); enters_binder = refl }) (early h)
 
-  pub record IsWalked (first : S) (x : Tree) (ts : List Tree) (found : List NodeId) (s : S) : Type 0 where
-    pub some : 0 < length found
-    pub within : (c : NodeId) → get_or found 0 c ≡ c → IsIn ts c
-    pub walk : (c : NodeId) → get_or found 0 c ≡ c → Walk A E L R first x (tree_at ts c) s
+    pub stops_entering : {r : S} {a b : Tree} {e : X} → N r None e → Stops A E L R N r (tree_of_binder a b) e
+    stops_entering {r = r} h = at_binder {t = r} (refl, refl) h
 
-  pub ends_all : (first : S) (x : Tree) (ts : List Tree) (xs : List Task) (found : List NodeId) (s : S) → EndsBy first x ts xs found s → xs ≡ [] → IsWalked first x ts found s
-  ends_all first x ts xs found s p e =
-      let none : jobs ts xs ≡ [] = rw e refl in
-      let end = p.ends s (map (tree_at ts) found) (subst (λ (js : List Job). Runs js s (map (tree_at ts) found) s (map (tree_at ts) found)) (sym none) (refl, refl)) in
-      one_found first x ts found s end.0 p.found_in end.1 end.2
-    where
-      one_found : (first : S) (x : Tree) (ts : List Tree) (found : List NodeId) (s : S) (y : Tree) → AllIn ts found → Walk A E L R first x y s → map (tree_at ts) found ≡ y ∷ [] → IsWalked first x ts found s
-      one_found first x ts [] s y h w q = cc
-      one_found first x ts (c ∷ cs) s y h w q =
-          let is : tree_at ts c ≡ y = cc in
-          record {
-            some = omega arith;
-            within = λ d k. rw (← k) h.0;
-            walk = λ d k. subst (λ (z : Tree). Walk A E L R first x z s) (sym (ap (tree_at ts) (sym k) ∙ is)) w;
-          }
+    pub stops_sorts : {q r : S} {a b : Tree} {e : X} → E q r → Stops A E L R N r a e → Stops A E L R N q (tree_of_binder a b) e
+    stops_sorts {q = q} enters h = inside (record { asked = q; asks = (refl, refl); enters_binder = enters }) (early h)
 
-  -- each turn there is less to do
+    pub stops_value : {q r s : S} {a b c d : Tree} {e : X} → d ≡ b → E q r → Walk A E L R r a c s → Stops A E L R N s d e → Stops A E L R N q (tree_of_binder a b) e
+    stops_value {q = q} {r = r} {a = a} {d = d} same enters w h =
+        let into : GoesInto A E (label.List list.Binder) q (tree_of_binder a d) r = record { asked = q; asks = (refl, refl); enters_binder = enters } in
+        rw (← same) (inside into (late w (early (early h))))
 
-  pub less_after : (first : S) (x : Tree) (a b : List Tree) (xs ys : List Task) (k : Task) (rs : List NodeId) (s : S) → EndsBy first x a ys rs s → ys ≡ xs ++ k ∷ [] → Extends a b → work (jobs b xs) < work (jobs a ys)
-  less_after first x a b xs ys (task.Enter t) rs s p e up =
-      omega (arith, weights_split Anything itself a xs ys (task.Enter t) e, weights_extended Anything itself a b xs ys (task.Enter t) p.tasks_in e up)
-  less_after first x a b xs ys (task.Build o l n) rs s p e up =
-      omega (arith, weights_split Anything itself a xs ys (task.Build o l n) e, weights_extended Anything itself a b xs ys (task.Build o l n) p.tasks_in e up)
+    pub stops_some : {r : S} {a : Tree} {e : X} → Stops A E L R N r a e → Stops A E L R N r (more a empty) e
+    stops_some h = early h
 
-  pub less_down : (first : S) (x : Tree) (a b : List Tree) (xs ys zs : List Task) (t : NodeId) (rs : List NodeId) (s m : S) → EndsBy first x a ys rs s → ys ≡ xs ++ task.Enter t ∷ [] → Extends a b → Starts A E s (tree_at a t) None m → IsFormedNode (tree_at b t) → jobs b zs ≡ jobs b xs ++ building (tree_at b t) → work (jobs b zs) < work (jobs a ys)
-  less_down first x a b xs ys zs t rs s m p e up h formed is =
-      let front : TasksIn a xs × TaskIn a (task.Enter t) = TasksIn-front a xs (task.Enter t) (rw e at p.tasks_in) in
-      let kept = up.kept t front.1 in
-      let node_formed : IsFormedNode (tree_at a t) = rw kept at formed in
-      let now : jobs b zs ≡ jobs b xs ++ building (tree_at a t) = rw kept at is in
-      let less = work_into (tree_at a t) s m h node_formed in
-      let sum : work (jobs b zs) ≡ work (jobs b xs) + work (building (tree_at a t)) = ap (weights Anything itself) now ∙ weights-append Anything itself (jobs b xs) (building (tree_at a t)) in
-      omega (arith, sum, less, weights_split Anything itself a xs ys (task.Enter t) e, weights_extended Anything itself a b xs ys (task.Enter t) p.tasks_in e up)
+    stops_last : {r s : S} {a b d : Tree} {e : X} → Walk A E L R r empty d s → Stops A E L R N s a e → Stops A E L R N r (more a b) e
+    stops_last done h = early h
+
+    stops_then : {r s : S} {d x y z : Tree} {e : X} → ((c : Tree) (m : S) → Walk A E L R m y c s → Stops A E L R N m z e) → Walk A E L R r (more x y) d s → Stops A E L R N r (more x z) e
+    stops_then k (next p q) = late p (k _ _ q)
+
+    -- one of a list, after others
+    pub stops_at : (xs ys : List Tree) (r s : S) (a d : Tree) (e : X) → Walk A E L R r (tree_of_list xs) d s → Stops A E L R N s a e → Stops A E L R N r (tree_of_list (xs ++ a ∷ ys)) e
+    stops_at [] ys r s a d e w h = stops_last w h
+    stops_at (x ∷ xs) ys r s a d e w h = stops_then (λ c m v. stops_at xs ys m s a c e v h) w
+
+    -- the walk stops within a job
+    abbrev pub Halts : Job → S → List Tree → X → Type 0
+    Halts (enter x) s rs e = Stops A E L R N s x e
+    Halts (build y l n) s rs e = CannotMake L N l s (row (drop (length rs - n) rs)) e
+
+    -- it does so within one of several, of which the last is done first
+    abbrev pub HaltsIn : List Job → S → List Tree → X → Type 0
+    HaltsIn [] s rs e = ⊥
+    HaltsIn (x ∷ xs) s rs e = HaltsIn xs s rs e ⊎ ((m : S) × (ms : List Tree) × Runs xs s rs m ms × Halts x m ms e)
+
+    halts_first : (xs ys : List Job) (s : S) (rs : List Tree) (e : X) → HaltsIn ys s rs e → HaltsIn (xs ++ ys) s rs e
+    halts_first [] ys s rs e h = h
+    halts_first (x ∷ xs) ys s rs e h = inl (halts_first xs ys s rs e h)
+
+    halts_rest : (xs ys : List Job) (s m : S) (rs ms : List Tree) (e : X) → Runs ys s rs m ms → HaltsIn xs m ms e → HaltsIn (xs ++ ys) s rs e
+    halts_rest [] ys s m rs ms e r h = absurd h
+    halts_rest (x ∷ xs) ys s m rs ms e r (inl h) = inl (halts_rest xs ys s m rs ms e r h)
+    halts_rest (x ∷ xs) ys s m rs ms e r (inr h) = inr (h.0, h.1, runs_more xs ys s m h.0 rs ms h.1 r h.2, h.3)
+
+    record HaltsLater (xs ys : List Job) (s : S) (rs : List Tree) (e : X) : Type 0 where
+      pub state : S
+      pub found : List Tree
+      pub first : Runs ys s rs state found
+      pub rest : HaltsIn xs state found e
+
+    halts_before : (x : Job) (xs ys : List Job) (s : S) (rs : List Tree) (e : X) → HaltsIn ys s rs e ⊎ HaltsLater xs ys s rs e → HaltsIn ys s rs e ⊎ HaltsLater (x ∷ xs) ys s rs e
+    halts_before x xs ys s rs e (inl h) = inl h
+    halts_before x xs ys s rs e (inr k) = inr (record { state = k.state; found = k.found; first = k.first; rest = inl k.rest })
+
+    halts_split : (xs ys : List Job) (s : S) (rs : List Tree) (e : X) → HaltsIn (xs ++ ys) s rs e → HaltsIn ys s rs e ⊎ HaltsLater xs ys s rs e
+    halts_split [] ys s rs e h = inl h
+    halts_split (x ∷ xs) ys s rs e (inl h) = halts_before x xs ys s rs e (halts_split xs ys s rs e h)
+    halts_split (x ∷ xs) ys s rs e (inr h) =
+        let b = runs_split xs ys s h.0 rs h.1 h.2 in
+        inr (record { state = b.state; found = b.found; first = b.first; rest = inr (h.0, h.1, b.rest, h.3) })
+
+    halts_one : (x : Job) (s : S) (rs : List Tree) (e : X) → Halts x s rs e → HaltsIn (x ∷ []) s rs e
+    halts_one x s rs e h = inr (s, rs, (refl, refl), h)
+
+    one_halts : (x : Job) (s : S) (rs : List Tree) (e : X) → HaltsIn (x ∷ []) s rs e → Halts x s rs e
+    one_halts x s rs e (inl h) = absurd h
+    one_halts x s rs e (inr h) =
+        subst (λ (z : S). Halts x z rs e) h.2.0 (subst (λ (zs : List Tree). Halts x h.0 zs e) h.2.1 h.3)
+
+    stops_row : (a b : Tree) (s : S) (rs : List Tree) (e : X) → ((m : S) (ms : List Tree) → HaltsIn (entered b) m ms e → Stops A E L R N m b e) → HaltsIn (enter a ∷ []) s rs e ⊎ HaltsLater (entered b) (enter a ∷ []) s rs e → Stops A E L R N s (more a b) e
+    stops_row a b s rs e k (inl h) = early (one_halts (enter a) s rs e h)
+    stops_row a b s rs e k (inr h) =
+        let one = does_one (enter a) s h.state rs h.found h.first in
+        late one.1 (k h.state h.found h.rest)
+
+    halts_entered : (c : Tree) (s : S) (rs : List Tree) (e : X) → IsRow c → HaltsIn (entered c) s rs e → Stops A E L R N s c e
+    halts_entered empty s rs e r h = absurd h
+    halts_entered (more a b) s rs e r h =
+        stops_row a b s rs e (λ m ms k. halts_entered b m ms e r k) (halts_split (entered b) (enter a ∷ []) s rs e h)
+    halts_entered (node l c) s rs e r h = absurd r
+
+    stops_made : (l : Label) (c d : Tree) (s m n : S) (e : X) → GoesInto A E l s (node l c) m → Walk A E L R m c d n → CannotMake L N l n d e → Stops A E L R N s (node l c) e
+    stops_made l c d s m n e g w (inl h) = anywhere h
+    stops_made l c d s m n e g w (inr h) = at_made g w h
+
+    halts_building : (l : Label) (c : Tree) (s m : S) (rs : List Tree) (e : X) → IsRow c → GoesInto A E l s (node l c) m → HaltsIn (build (node l c) l (row_length c) ∷ entered c) m rs e → Stops A E L R N s (node l c) e
+    halts_building l c s m rs e r g (inl h) = inside g (halts_entered c m rs e r h)
+    halts_building l c s m rs e r g (inr h) =
+        let k = runs_entered c m h.0 rs h.1 r h.2 in
+        let so : CannotMake L N l h.0 (row (drop (length (rs ++ k.trees) - row_length c) (rs ++ k.trees))) e = subst (λ (zs : List Tree). CannotMake L N l h.0 (row (drop (length zs - row_length c) zs)) e) k.found h.3 in
+        stops_made l c (row k.trees) s m h.0 e g k.walk (subst (λ (zs : List Tree). CannotMake L N l h.0 (row zs) e) (last_of rs k.trees (row_length c) k.count) so)
+
+    halts_into : (x : Tree) (s m : S) (rs : List Tree) (e : X) → Starts A E s x None m → IsFormedNode x → HaltsIn (building x) m rs e → Stops A E L R N s x e
+    halts_into empty s m rs e h k r = absurd h
+    halts_into (more a b) s m rs e h k r = absurd h
+    halts_into (node l c) s m rs e h k r = halts_building l c s m rs e (IsRow-Meets (shape l) c k) h r
+
+    -- doing the tasks from the state s, over the terms found so far, ends the walk of x from the first state
+    pub record EndsBy (first : S) (x : Tree) (ts : List Tree) (xs : List Task) (found : List NodeId) (s : S) : Type 0 where
+      pub tasks_in : TasksIn ts xs
+      pub found_in : AllIn ts found
+      pub are_ready : AreReady (jobs ts xs) s (map (tree_at ts) found)
+      pub ends : (t : S) (qs : List Tree) → Runs (jobs ts xs) s (map (tree_at ts) found) t qs → (y : Tree) × Walk A E L R first x y t × (qs ≡ y ∷ [])
+      pub stops : (e : X) → HaltsIn (jobs ts xs) s (map (tree_at ts) found) e → Stops A E L R N first x e
+
+    pub ends_start : (ts : List Tree) (xs : List Task) (cs : List NodeId) (t : NodeId) (s : S) → IsIn ts t → xs ≡ task.Enter t ∷ [] → cs ≡ [] → EndsBy s (tree_at ts t) ts xs cs s
+    ends_start ts xs cs t s h e q =
+        record {
+          tasks_in = rw e (h, tt);
+          found_in = rw q tt;
+          are_ready = rw e (tt, λ m ms r. tt);
+          ends = λ u qs r. let here : Runs (enter (tree_at ts t) ∷ []) s [] u qs = rw (e, q) at r in does_one (enter (tree_at ts t)) s u [] qs here;
+          stops = λ u r. let here : HaltsIn (enter (tree_at ts t) ∷ []) s [] u = rw (e, q) at r in one_halts (enter (tree_at ts t)) s [] u here;
+        }
+
+    halts_after : (xs ws : List Job) (k : Job) (s t : S) (rs qs : List Tree) (e : X) → ((m : S) (ms : List Tree) → Runs ws t qs m ms → Does k s rs m ms) → (HaltsIn ws t qs e → Halts k s rs e) → HaltsIn ws t qs e ⊎ HaltsLater xs ws t qs e → HaltsIn (xs ++ k ∷ []) s rs e
+    halts_after xs ws k s t rs qs e same halting (inl h) = halts_first xs (k ∷ []) s rs e (halts_one k s rs e (halting h))
+    halts_after xs ws k s t rs qs e same halting (inr h) =
+        halts_rest xs (k ∷ []) s h.state rs h.found e (runs_one k s h.state rs h.found (same h.state h.found h.first)) h.rest
+
+    -- the walk stops where it does so within the last task
+    pub stops_within : (first : S) (x : Tree) (a : List Tree) (xs ys : List Task) (k : Task) (rs : List NodeId) (s : S) (e : X) → EndsBy first x a ys rs s → ys ≡ xs ++ k ∷ [] → Halts (job a k) s (map (tree_at a) rs) e → Stops A E L R N first x e
+    stops_within first x a xs ys k rs s e p q h =
+        let was_found = map (tree_at a) rs in
+        let old : jobs a ys ≡ jobs a xs ++ job a k ∷ [] = rw q (jobs-push a xs k) in
+        p.stops e (subst (λ (js : List Job). HaltsIn js s was_found e) (sym old) (halts_first (jobs a xs) (job a k ∷ []) s was_found e (halts_one (job a k) s was_found e h)))
+
+    -- the last task with its place taken by others that do the same
+    ends_after : (first : S) (x : Tree) (a b : List Tree) (xs ys zs : List Task) (k : Task) (ws : List Job) (rs qs : List NodeId) (s t : S) → EndsBy first x a ys rs s → ys ≡ xs ++ k ∷ [] → Extends a b → jobs b zs ≡ jobs b xs ++ ws → ((m : S) (ms : List Tree) → Runs ws t (map (tree_at b) qs) m ms → Does (job a k) s (map (tree_at a) rs) m ms) → ((u : X) → HaltsIn ws t (map (tree_at b) qs) u → Halts (job a k) s (map (tree_at a) rs) u) → AreReady ws t (map (tree_at b) qs) → TasksIn b zs → AllIn b qs → EndsBy first x b zs qs t
+    ends_after first x a b xs ys zs k ws rs qs s t p e up is same halting ready tasks found =
+        let was_found = map (tree_at a) rs in
+        let old : jobs a ys ≡ jobs a xs ++ job a k ∷ [] = rw e (jobs-push a xs k) in
+        let front : TasksIn a xs × TaskIn a k = TasksIn-front a xs k (rw e at p.tasks_in) in
+        let new : jobs b zs ≡ jobs a xs ++ ws = is ∙ ap (λ js. js ++ ws) (jobs-extended up xs front.0) in
+        let was : AreReady (jobs a xs ++ job a k ∷ []) s was_found = subst (λ (js : List Job). AreReady js s was_found) old p.are_ready in
+        record {
+          tasks_in = tasks;
+          found_in = found;
+          are_ready = subst (λ (js : List Job). AreReady js t (map (tree_at b) qs)) (sym new)
+              (ready_more (jobs a xs) ws t (map (tree_at b) qs) ready
+              (λ m ms r. ready_rest (jobs a xs) (job a k ∷ []) s m was_found ms was (runs_one (job a k) s m was_found ms (same m ms r))));
+          ends = λ u us r.
+              let f = runs_split (jobs a xs) ws t u (map (tree_at b) qs) us (subst (λ (js : List Job). Runs js t (map (tree_at b) qs) u us) new r) in
+              let one = runs_one (job a k) s f.state was_found f.found (same f.state f.found f.first) in
+              let all = runs_more (jobs a xs) (job a k ∷ []) s f.state u was_found f.found us one f.rest in
+              p.ends u us (subst (λ (js : List Job). Runs js s was_found u us) (sym old) all);
+          stops = λ u r.
+              let h = halts_split (jobs a xs) ws t (map (tree_at b) qs) u (subst (λ (js : List Job). HaltsIn js t (map (tree_at b) qs) u) new r) in
+              p.stops u (subst (λ (js : List Job). HaltsIn js s was_found u) (sym old) (halts_after (jobs a xs) ws (job a k) s t was_found (map (tree_at b) qs) u same (halting u) h));
+        }
+
+    pub ends_answer : (first : S) (x : Tree) (a b : List Tree) (xs ys : List Task) (t r : NodeId) (rs qs : List NodeId) (s m : S) → EndsBy first x a ys rs s → ys ≡ xs ++ task.Enter t ∷ [] → Extends a b → IsIn b r → Starts A E s (tree_at a t) (Some (tree_at b r)) m → qs ≡ rs ++ r ∷ [] → EndsBy first x b xs qs m
+    ends_answer first x a b xs ys t r rs qs s m p e up within h is =
+        let front : TasksIn a xs × TaskIn a (task.Enter t) = TasksIn-front a xs (task.Enter t) (rw e at p.tasks_in) in
+        let same : map (tree_at b) qs ≡ map (tree_at a) rs ++ tree_at b r ∷ [] = rw (is, map-push b rs r, map-kept a b rs p.found_in up) refl in
+        let walk = answered (tree_at a t) (tree_at b r) s m h in
+        ends_after first x a b xs ys xs (task.Enter t) [] rs qs s m p e up (sym (append-nil (jobs b xs)))
+        (λ n ns w. (tree_at b r, subst (λ (z : S). Walk A E L R s (tree_at a t) (tree_at b r) z) (sym w.0) walk, w.1 ∙ same))
+        (λ u w. absurd w)
+        tt (TasksIn-extended up xs front.0) (rw is (AllIn-push b rs r (AllIn-extended up rs p.found_in) within))
+
+    pub ends_down : (first : S) (x : Tree) (a b : List Tree) (xs ys zs : List Task) (t : NodeId) (rs : List NodeId) (s m : S) → EndsBy first x a ys rs s → ys ≡ xs ++ task.Enter t ∷ [] → Extends a b → Starts A E s (tree_at a t) None m → IsFormedNode (tree_at b t) → TasksIn b zs → jobs b zs ≡ jobs b xs ++ building (tree_at b t) → EndsBy first x b zs rs m
+    ends_down first x a b xs ys zs t rs s m p e up h formed within is =
+        let front : TasksIn a xs × TaskIn a (task.Enter t) = TasksIn-front a xs (task.Enter t) (rw e at p.tasks_in) in
+        let kept = up.kept t front.1 in
+        let node_formed : IsFormedNode (tree_at a t) = rw kept at formed in
+        let now : jobs b zs ≡ jobs b xs ++ building (tree_at a t) = rw kept at is in
+        let found = map-kept a b rs p.found_in up in
+        ends_after first x a b xs ys zs (task.Enter t) (building (tree_at a t)) rs rs s m p e up now
+        (λ n ns w. runs_into (tree_at a t) s m n (map (tree_at a) rs) ns h node_formed (subst (λ (us : List Tree). Runs (building (tree_at a t)) m us n ns) found w))
+        (λ u w. halts_into (tree_at a t) s m (map (tree_at b) rs) u h node_formed w)
+        (ready_into (tree_at a t) s m (map (tree_at b) rs) h node_formed) within (AllIn-extended up rs p.found_in)
+
+    pub ends_build : (first : S) (x : Tree) (a b : List Tree) (xs ys : List Task) (o : NodeId) (l : Label) (n i : ℕ) (d : NodeId) (rs cs qs : List NodeId) (s m : S) → EndsBy first x a ys rs s → ys ≡ xs ++ task.Build o l n ∷ [] → Extends a b → i ≡ length rs - n → cs ≡ drop i rs → IsIn b d → ComesBack L R l s (trees_at a cs) (tree_at b d) m → qs ≡ take i rs ++ d ∷ [] → EndsBy first x b xs qs m
+    ends_build first x a b xs ys o l n i d rs cs qs s m p e up q is within back new =
+        let front : TasksIn a xs × TaskIn a (task.Build o l n) = TasksIn-front a xs (task.Build o l n) (rw e at p.tasks_in) in
+        let kept = AllIn-take a i rs p.found_in in
+        let len : length (map (tree_at a) rs) - n ≡ i = rw (length-map rs (tree_at a)) (sym q) in
+        let last : row (drop i (map (tree_at a) rs)) ≡ trees_at a cs = ap row (drop-map (tree_at a) i rs) ∙ row-trees a (drop i rs) ∙ ap (trees_at a) (sym is) in
+        let same : map (tree_at b) qs ≡ take i (map (tree_at a) rs) ++ tree_at b d ∷ [] = rw (new, map-push b (take i rs) d, map-kept a b (take i rs) kept up, take-map (tree_at a) i rs) refl in
+        let comes : ComesBack L R l s (row (drop (length (map (tree_at a) rs) - n) (map (tree_at a) rs))) (tree_at b d) m = rw (len, last) back in
+        let ends_so : map (tree_at b) qs ≡ take (length (map (tree_at a) rs) - n) (map (tree_at a) rs) ++ tree_at b d ∷ [] = rw len same in
+        ends_after first x a b xs ys xs (task.Build o l n) [] rs qs s m p e up (sym (append-nil (jobs b xs)))
+        (λ u us w. (tree_at b d, subst (λ (z : S). ComesBack L R l s (row (drop (length (map (tree_at a) rs) - n) (map (tree_at a) rs))) (tree_at b d) z) (sym w.0) comes, w.1 ∙ ends_so))
+        (λ u w. absurd w)
+        tt (TasksIn-extended up xs front.0) (rw new (AllIn-push b (take i rs) d (AllIn-extended up (take i rs) kept) within))
+
+    pub may_enter : (first : S) (x : Tree) (a : List Tree) (xs ys : List Task) (t : NodeId) (rs : List NodeId) (s : S) → EndsBy first x a ys rs s → ys ≡ xs ++ task.Enter t ∷ [] → IsIn a t
+    may_enter first x a xs ys t rs s p e = (TasksIn-front a xs (task.Enter t) (rw e at p.tasks_in)).1
+
+    pub may_build : (first : S) (x : Tree) (a : List Tree) (xs ys : List Task) (o : NodeId) (l : Label) (n i : ℕ) (rs cs : List NodeId) (s : S) → EndsBy first x a ys rs s → ys ≡ xs ++ task.Build o l n ∷ [] → i ≡ length rs - n → cs ≡ drop i rs → MayBuild a l cs
+    may_build first x a xs ys o l n i rs cs s p e q is =
+        let was_found = map (tree_at a) rs in
+        let old : jobs a ys ≡ jobs a xs ++ build (tree_at a o) l n ∷ [] = rw e (jobs-push a xs (task.Build o l n)) in
+        let was = ready_first (jobs a xs) (build (tree_at a o) l n ∷ []) s was_found (subst (λ (js : List Job). AreReady js s was_found) old p.are_ready) in
+        let now : Meets (shape l) (row (drop (length was_found - n) was_found)) = was.1 s was_found (refl, refl) in
+        let len : length was_found - n ≡ i = rw (length-map rs (tree_at a)) (sym q) in
+        let meets : Meets (shape l) (row (drop i was_found)) = rw len at now in
+        let same : row (drop i was_found) ≡ trees_at a (drop i rs) = ap row (drop-map (tree_at a) i rs) ∙ row-trees a (drop i rs) in
+        record { within = rw is (AllIn-drop a i rs p.found_in); formed = rw (is, ← same) meets }
+
+    pub stops_building : (first : S) (x : Tree) (a : List Tree) (xs ys : List Task) (o : NodeId) (l : Label) (n i : ℕ) (rs cs : List NodeId) (s : S) (e : X) → EndsBy first x a ys rs s → ys ≡ xs ++ task.Build o l n ∷ [] → i ≡ length rs - n → cs ≡ drop i rs → CannotMake L N l s (trees_at a cs) e → Stops A E L R N first x e
+    stops_building first x a xs ys o l n i rs cs s e p q at is h =
+        let len : length (map (tree_at a) rs) - n ≡ i = rw (length-map rs (tree_at a)) (sym at) in
+        let last : row (drop i (map (tree_at a) rs)) ≡ trees_at a cs = ap row (drop-map (tree_at a) i rs) ∙ row-trees a (drop i rs) ∙ ap (trees_at a) (sym is) in
+        let halts : CannotMake L N l s (row (drop (length (map (tree_at a) rs) - n) (map (tree_at a) rs))) e = rw (len, last) h in
+        stops_within first x a xs ys (task.Build o l n) rs s e p q halts
+
+    pub record IsWalked (first : S) (x : Tree) (ts : List Tree) (found : List NodeId) (s : S) : Type 0 where
+      pub some : 0 < length found
+      pub within : (c : NodeId) → get_or found 0 c ≡ c → IsIn ts c
+      pub walk : (c : NodeId) → get_or found 0 c ≡ c → Walk A E L R first x (tree_at ts c) s
+
+    pub ends_all : (first : S) (x : Tree) (ts : List Tree) (xs : List Task) (found : List NodeId) (s : S) → EndsBy first x ts xs found s → xs ≡ [] → IsWalked first x ts found s
+    ends_all first x ts xs found s p e =
+        let none : jobs ts xs ≡ [] = rw e refl in
+        let end = p.ends s (map (tree_at ts) found) (subst (λ (js : List Job). Runs js s (map (tree_at ts) found) s (map (tree_at ts) found)) (sym none) (refl, refl)) in
+        one_found first x ts found s end.0 p.found_in end.1 end.2
+      where
+        one_found : (first : S) (x : Tree) (ts : List Tree) (found : List NodeId) (s : S) (y : Tree) → AllIn ts found → Walk A E L R first x y s → map (tree_at ts) found ≡ y ∷ [] → IsWalked first x ts found s
+        one_found first x ts [] s y h w q = cc
+        one_found first x ts (c ∷ cs) s y h w q =
+            let is : tree_at ts c ≡ y = cc in
+            record {
+              some = omega arith;
+              within = λ d k. rw (← k) h.0;
+              walk = λ d k. subst (λ (z : Tree). Walk A E L R first x z s) (sym (ap (tree_at ts) (sym k) ∙ is)) w;
+            }
+
+    -- each turn there is less to do
+
+    pub less_after : (first : S) (x : Tree) (a b : List Tree) (xs ys : List Task) (k : Task) (rs : List NodeId) (s : S) → EndsBy first x a ys rs s → ys ≡ xs ++ k ∷ [] → Extends a b → work (jobs b xs) < work (jobs a ys)
+    less_after first x a b xs ys (task.Enter t) rs s p e up =
+        omega (arith, weights_split Anything itself a xs ys (task.Enter t) e, weights_extended Anything itself a b xs ys (task.Enter t) p.tasks_in e up)
+    less_after first x a b xs ys (task.Build o l n) rs s p e up =
+        omega (arith, weights_split Anything itself a xs ys (task.Build o l n) e, weights_extended Anything itself a b xs ys (task.Build o l n) p.tasks_in e up)
+
+    pub less_down : (first : S) (x : Tree) (a b : List Tree) (xs ys zs : List Task) (t : NodeId) (rs : List NodeId) (s m : S) → EndsBy first x a ys rs s → ys ≡ xs ++ task.Enter t ∷ [] → Extends a b → Starts A E s (tree_at a t) None m → IsFormedNode (tree_at b t) → jobs b zs ≡ jobs b xs ++ building (tree_at b t) → work (jobs b zs) < work (jobs a ys)
+    less_down first x a b xs ys zs t rs s m p e up h formed is =
+        let front : TasksIn a xs × TaskIn a (task.Enter t) = TasksIn-front a xs (task.Enter t) (rw e at p.tasks_in) in
+        let kept = up.kept t front.1 in
+        let node_formed : IsFormedNode (tree_at a t) = rw kept at formed in
+        let now : jobs b zs ≡ jobs b xs ++ building (tree_at a t) = rw kept at is in
+        let less = work_into (tree_at a t) s m h node_formed in
+        let sum : work (jobs b zs) ≡ work (jobs b xs) + work (building (tree_at a t)) = ap (weights Anything itself) now ∙ weights-append Anything itself (jobs b xs) (building (tree_at a t)) in
+        omega (arith, sum, less, weights_split Anything itself a xs ys (task.Enter t) e, weights_extended Anything itself a b xs ys (task.Enter t) p.tasks_in e up)

@@ -1,12 +1,13 @@
 -- What a walk over a list of values has made so far.
 use Rattle.std.proofs.Common.{◌≡◌, suc, List, [], ◌∷◌, ◌++◌, map, Option, All, refl, sym, ap, ◌∙◌, arith, append_assoc}
+use Rattle.std.proofs.lemmas.List.{map-append}
 use Rattle.std.proofs.lemmas.List.Elements.{All-nil, All-push}
 use Rattle.nts_model.specs.Trees.{Tree, more, row_push}
 use Rattle.nts_store.specs.Growth.{Extends}
 use Rattle.nts_folding.specs.FoldLaws.{list_holds, list_same}
-use Rattle.nts_folding.specs.Folding.{Walk, done, tree_of_list}
+use Rattle.nts_folding.specs.Folding.{Walk, done, Stops, tree_of_list}
 use Rattle.nts_store.proofs.Growing.{Extends-refl, Extends-trans}
-use Rattle.nts_folding.proofs.Folded.{walk_push}
+use Rattle.nts_folding.proofs.Folded.{walk_push, stops_at}
 
 all_rest : {X : Type 0} (P : X → Type 0) (x : X) (xs : List X) → All P (x ∷ xs) → All P xs
 all_rest P x xs h = λ k d l. h (suc k) d (omega arith)
@@ -59,3 +60,11 @@ module _ {S X : Type 0} (A : S → Tree → Option Tree → S → Type 0) (E L :
         holds = rw q (All-push (H new) folded y (list_holds (H mid) (H new) (λ z j. kept mid new z j up) folded p.holds) k);
         walk = rw (q, pushed, map_push (T old) taken x) walked;
       }
+
+  -- the walk stops at the next value
+  pub list_stops : {Z : Type 0} (N : S → Option Tree → Z → Type 0) → ((a b : List Tree) (x : X) → H a x → Extends a b → H b x) → ((a b : List Tree) (x : X) → H a x → Extends a b → T b x ≡ T a x) → (first now : S) (old mid : List Tree) (all taken left folded rest : List X) (x : X) (e : Z) → ListFolded first now old mid all taken left folded → All (H old) all → left ≡ x ∷ rest → Stops A E L R N now (T mid x) e → Stops A E L R N first (tree_of_list (map (T old) all)) e
+  list_stops N kept same first now old mid all taken left folded rest x e p h q w =
+      let at = left_holds kept first now old mid all taken left folded rest x p h q in
+      let one = rw (same old mid x at.before p.extends) at w in
+      let is : map (T old) all ≡ map (T old) taken ++ T old x ∷ map (T old) rest = rw (← p.items, q, map-append) refl in
+      rw is (stops_at A E L R N (map (T old) taken) (map (T old) rest) first now (T old x) _ e p.walk one)

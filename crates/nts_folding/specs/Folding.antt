@@ -1,5 +1,5 @@
 -- What a walk by a folder makes of a tree, for any folder. A folder has a state: S are its states.
-use Rattle.std.specs.Prelude.{◌≡◌, ℕ, zero, suc, List, [], ◌∷◌, Option, Some, None}
+use Rattle.std.specs.Prelude.{◌≡◌, ◌⊎◌, ℕ, zero, suc, List, [], ◌∷◌, Option, Some, None}
 use Rattle.nts_model.specs.declared.labels.Sort.TheVariants as sort
 use Rattle.nts_model.specs.declared.labels.ClauseHead.{ClauseHead}
 use Rattle.nts_model.specs.declared.labels.ClauseHead.TheVariants as clause
@@ -66,6 +66,27 @@ abbrev pub Starts : {S : Type 0} → (S → Tree → Option Tree → S → Type 
 Starts answers enters s (node l c) (Some u) t = IsAnswerFor answers l s (node l c) u t
 Starts answers enters s (node l c) None t = GoesInto answers enters l s (node l c) t
 Starts answers enters s x o t = ⊥
+
+-- the node of label l over the folded children d is handed over, once its binder was left, and that fails
+pub record FailsMade {S E : Type 0} (leaves : S → S → Type 0) (fails : S → Option Tree → E → Type 0) (l : Label) (s : S) (d : Tree) (e : E) : Type 0 where
+  pub left : S
+  pub leaves_binder : AtBinder leaves (binders l) s left
+  pub refused : fails left (Some (node l d)) e
+
+-- the walk of a tree from a state ends at an error: one that may come in each state, as want of memory, or one at which
+-- a hook fails. The hook was handed a term, or none at a binder
+pub data Stops {S E : Type 0} (answers : S → Tree → Option Tree → S → Type 0) (enters leaves : S → S → Type 0) (rebuilds : S → Tree → Tree → S → Type 0) (fails : S → Option Tree → E → Type 0) : S → Tree → E → Type 0 where
+  anywhere : {s : S} {x : Tree} {e : E} → ((t : S) → fails t None e) → Stops answers enters leaves rebuilds fails s x e
+  early : {s : S} {a b : Tree} {e : E} → Stops answers enters leaves rebuilds fails s a e → Stops answers enters leaves rebuilds fails s (more a b) e
+  late : {s t : S} {a b c : Tree} {e : E} → Walk answers enters leaves rebuilds s a c t → Stops answers enters leaves rebuilds fails t b e → Stops answers enters leaves rebuilds fails s (more a b) e
+  at_term : {s : S} {l : Label} {c : Tree} {e : E} → fails s (Some (node l c)) e → Stops answers enters leaves rebuilds fails s (node l c) e
+  at_binder : {s t : S} {l : Label} {c : Tree} {e : E} → MayAnswer answers (asked_as (node l c)) s (node l c) None t → fails t None e → Stops answers enters leaves rebuilds fails s (node l c) e
+  inside : {s t : S} {l : Label} {c : Tree} {e : E} → GoesInto answers enters l s (node l c) t → Stops answers enters leaves rebuilds fails t c e → Stops answers enters leaves rebuilds fails s (node l c) e
+  at_made : {r s t : S} {l : Label} {c d : Tree} {e : E} → GoesInto answers enters l r (node l c) s → Walk answers enters leaves rebuilds s c d t → FailsMade leaves fails l t d e → Stops answers enters leaves rebuilds fails r (node l c) e
+
+-- the node of label l over the folded children d cannot be made, or is handed over and that fails
+abbrev pub CannotMake : {S E : Type 0} → (S → S → Type 0) → (S → Option Tree → E → Type 0) → Label → S → Tree → E → Type 0
+CannotMake {S} {E} leaves fails l s d e = ((t : S) → fails t None e) ⊎ FailsMade leaves fails l s d e
 
 -- a trait over arguments, as the statement that it holds; an alias over arguments, as a projection of it without its
 -- result. A statement is no term, so that a walk goes into it at once

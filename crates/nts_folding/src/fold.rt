@@ -1,10 +1,10 @@
 //! One walk over terms, for all folders.
-ghost use Rattle.std.specs.Prelude.{◌≡◌, ◌++◌, ◌∷◌, [], List, Option, IfOk, IfErr, IfSome, OnOk, Some, option_map};
+ghost use Rattle.std.specs.Prelude.{◌≡◌, ◌++◌, ◌∷◌, [], List, Option, IfOk, IfErr, IfSome, OnOk, None, Some, option_map};
 ghost use Rattle.std.specs.Allocator.{alloc_error};
 ghost use Rattle.nts_model.specs.Trees.{Tree, node, children, kind_of, kind_of_label, shape, Meets, binders};
 ghost use Rattle.nts_store.specs.Growth.{tree_at, trees_at, IsIn, AllIn, Extends};
 ghost use Rattle.nts_terms.specs.Handles.{HoldsTy, HoldsRegion, HoldsConst, HoldsTerm, HoldsPredicate};
-ghost use Rattle.nts_folding.specs.Folding.{MayAnswer, AtBinder, Starts, ComesBack, Walk};
+ghost use Rattle.nts_folding.specs.Folding.{MayAnswer, AtBinder, Starts, ComesBack, Walk, Stops, CannotMake};
 ghost use Rattle.nts_terms.specs.Rest.{Grows};
 
 use nts_model::{Label, ListHead, Sort};
@@ -39,8 +39,8 @@ pub trait TypeFolder {
     /// What stands for a type or const that was made again.
     ghost rebuilds: { Meaning → Tree → Tree → Meaning → Type 0 };
 
-    /// The errors that may end a walk.
-    ghost fails: { Self.Error → Type 0 };
+    /// At which errors a walk may end where a hook is handed this term, or none at a binder.
+    ghost fails: { Meaning → Option Tree → Self.Error → Type 0 };
 
     /// What a folder keeps of itself, whether a hook answers or fails.
     ghost keeps: { Self → Self → Type 0 };
@@ -54,7 +54,7 @@ pub trait TypeFolder {
         ensures keeps { keeps self.old self.new }
         ensures holds { IfOk result (λ o. IfSome o (HoldsTy cx.new.nodes)) }
         ensures answers { IfOk result (λ o. answers (meaning cx.old.nodes self.old) (tree_at cx.old.nodes t.node) (option_map (λ r. tree_at cx.new.nodes r.node) o) (meaning cx.new.nodes self.new)) }
-        ensures err { IfErr result fails };
+        ensures err { IfErr result (fails (meaning cx.old.nodes self.old) (Some (tree_at cx.old.nodes t.node))) };
 
     /// What stands for a region, or `None` to leave it.
     fn fold_region(&mut self, cx: &mut Cx, t: Region) -> Result<Option<Region>, Self::Error>
@@ -65,7 +65,7 @@ pub trait TypeFolder {
         ensures keeps { keeps self.old self.new }
         ensures holds { IfOk result (λ o. IfSome o (HoldsRegion cx.new.nodes)) }
         ensures answers { IfOk result (λ o. answers (meaning cx.old.nodes self.old) (tree_at cx.old.nodes t.node) (option_map (λ r. tree_at cx.new.nodes r.node) o) (meaning cx.new.nodes self.new)) }
-        ensures err { IfErr result fails };
+        ensures err { IfErr result (fails (meaning cx.old.nodes self.old) (Some (tree_at cx.old.nodes t.node))) };
 
     /// What stands for a const, or `None` to fold its children.
     fn fold_const(&mut self, cx: &mut Cx, t: Const) -> Result<Option<Const>, Self::Error>
@@ -76,7 +76,7 @@ pub trait TypeFolder {
         ensures keeps { keeps self.old self.new }
         ensures holds { IfOk result (λ o. IfSome o (HoldsConst cx.new.nodes)) }
         ensures answers { IfOk result (λ o. answers (meaning cx.old.nodes self.old) (tree_at cx.old.nodes t.node) (option_map (λ r. tree_at cx.new.nodes r.node) o) (meaning cx.new.nodes self.new)) }
-        ensures err { IfErr result fails };
+        ensures err { IfErr result (fails (meaning cx.old.nodes self.old) (Some (tree_at cx.old.nodes t.node))) };
 
     /// What stands for a predicate, or `None` to fold its children.
     fn fold_predicate(
@@ -91,14 +91,14 @@ pub trait TypeFolder {
         ensures keeps { keeps self.old self.new }
         ensures holds { IfOk result (λ o. IfSome o (HoldsPredicate cx.new.nodes)) }
         ensures answers { IfOk result (λ o. answers (meaning cx.old.nodes self.old) (tree_at cx.old.nodes t.node) (option_map (λ r. tree_at cx.new.nodes r.node) o) (meaning cx.new.nodes self.new)) }
-        ensures err { IfErr result fails };
+        ensures err { IfErr result (fails (meaning cx.old.nodes self.old) (Some (tree_at cx.old.nodes t.node))) };
 
     /// Called before the children of a binder are folded.
     fn enter_binder(&mut self) -> Result<(), Self::Error>
         ensures ready { (ts : List Tree) → ready ts self.old → ready ts self.new }
         ensures keeps { keeps self.old self.new }
         ensures enters { OnOk result ((ts : List Tree) → ready ts self.old → enters (meaning ts self.old) (meaning ts self.new)) }
-        ensures err { IfErr result fails };
+        ensures err { (ts : List Tree) → ready ts self.old → IfErr result (fails (meaning ts self.old) None) };
 
     /// Called after they were folded.
     fn leave_binder(&mut self)
@@ -116,7 +116,7 @@ pub trait TypeFolder {
         ensures within { IfOk result (λ r. IsIn cx.new.nodes r.node) }
         ensures kind { IfOk result (λ r. kind_of (tree_at cx.new.nodes r.node) ≡ kind_of (tree_at cx.old.nodes t.node)) }
         ensures rebuilds { IfOk result (λ r. rebuilds (meaning cx.old.nodes self.old) (tree_at cx.old.nodes t.node) (tree_at cx.new.nodes r.node) (meaning cx.new.nodes self.new)) }
-        ensures err { IfErr result fails };
+        ensures err { IfErr result (fails (meaning cx.old.nodes self.old) (Some (tree_at cx.old.nodes t.node))) };
 
     ghost keeps_refl: { (s : Self) → keeps s s };
 
@@ -124,7 +124,7 @@ pub trait TypeFolder {
 
     ghost ready_kept: { (a b : List Tree) (s : Self) → ready a s → Extends a b → ready b s };
 
-    ghost memory_fails: { (e : Self.Error) → Self.Error.from_gives alloc_error e → fails e };
+    ghost memory_fails: { (m : Meaning) (e : Self.Error) → Self.Error.from_gives alloc_error e → fails m None e };
 
     ghost meaning_kept: { (a b : List Tree) (s : Self) → ready a s → Extends a b → meaning b s ≡ meaning a s };
 }
@@ -138,7 +138,7 @@ pub fn fold_node<F: TypeFolder>(cx: &mut Cx, folder: &mut F, t: NodeId) -> Resul
     ensures keeps { F.keeps folder.old folder.new }
     ensures within { IfOk result (IsIn cx.new.nodes) }
     ensures walk { IfOk result (λ r. Walk F.answers F.enters F.leaves F.rebuilds (F.meaning cx.old.nodes folder.old) (tree_at cx.old.nodes t) (tree_at cx.new.nodes r) (F.meaning cx.new.nodes folder.new)) }
-    ensures err { IfErr result F.fails }
+    ensures err { IfErr result (Stops F.answers F.enters F.leaves F.rebuilds F.fails (F.meaning cx.old.nodes folder.old) (tree_at cx.old.nodes t)) }
 {
     let alloc = cx.alloc;
     let mut tasks = Vec::new(alloc);
@@ -180,7 +180,7 @@ fn start<F: TypeFolder>(cx: &mut Cx, folder: &mut F, t: NodeId) -> Result<Option
     ensures keeps { F.keeps folder.old folder.new }
     ensures within { IfOk result (λ o. IfSome o (IsIn cx.new.nodes)) }
     ensures starts { IfOk result (λ o. Starts F.answers F.enters (F.meaning cx.old.nodes folder.old) (tree_at cx.old.nodes t) (option_map (tree_at cx.new.nodes) o) (F.meaning cx.new.nodes folder.new)) }
-    ensures err { IfErr result F.fails }
+    ensures err { IfErr result (Stops F.answers F.enters F.leaves F.rebuilds F.fails (F.meaning cx.old.nodes folder.old) (tree_at cx.old.nodes t)) }
 {
     let label = cx.nodes.label(t);
     let answer = ask(cx, folder, t, label)?;
@@ -206,7 +206,7 @@ fn ask<F: TypeFolder>(
     ensures within { IfOk result (λ o. IfSome o (IsIn cx.new.nodes)) }
     ensures kind { IfOk result (λ o. IfSome o (λ r. kind_of (tree_at cx.new.nodes r) ≡ Some (kind_of_label label))) }
     ensures asks { IfOk result (λ o. MayAnswer F.answers (kind_of_label label) (F.meaning cx.old.nodes folder.old) (tree_at cx.old.nodes t) (option_map (tree_at cx.new.nodes) o) (F.meaning cx.new.nodes folder.new)) }
-    ensures err { IfErr result F.fails }
+    ensures err { IfErr result (F.fails (F.meaning cx.old.nodes folder.old) (Some (tree_at cx.old.nodes t))) }
 {
     match sort_of(label) {
         Some(Sort::Ty) => Ok(folder.fold_ty(cx, Ty { node: t })?.map(|r| r.node)),
@@ -229,7 +229,7 @@ fn enter<F: TypeFolder>(folder: &mut F, label: Label) -> Result<(), F::Error>
     ensures ready { (ts : List Tree) → F.ready ts folder.old → F.ready ts folder.new }
     ensures keeps { F.keeps folder.old folder.new }
     ensures enters { OnOk result ((ts : List Tree) → F.ready ts folder.old → AtBinder F.enters (binders label) (F.meaning ts folder.old) (F.meaning ts folder.new)) }
-    ensures err { IfErr result F.fails }
+    ensures err { (ts : List Tree) → F.ready ts folder.old → IfErr result (F.fails (F.meaning ts folder.old) None) }
 {
     if binders_of(label) > 0 {
         return folder.enter_binder();
@@ -262,7 +262,7 @@ fn finish<F: TypeFolder>(
     ensures keeps { F.keeps folder.old folder.new }
     ensures within { IfOk result (IsIn cx.new.nodes) }
     ensures comes_back { IfOk result (λ r. ComesBack F.leaves F.rebuilds label (F.meaning cx.old.nodes folder.old) (trees_at cx.old.nodes children.now) (tree_at cx.new.nodes r) (F.meaning cx.new.nodes folder.new)) }
-    ensures err { IfErr result F.fails }
+    ensures err { IfErr result (CannotMake F.leaves F.fails label (F.meaning cx.old.nodes folder.old) (trees_at cx.old.nodes children.now)) }
 {
     leave(folder, label);
     let node = cx.nodes.make(label, children)?;

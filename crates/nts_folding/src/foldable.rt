@@ -5,7 +5,7 @@ ghost use Rattle.nts_model.specs.Related.{pair};
 ghost use Rattle.nts_store.specs.Growth.{tree_at, Extends};
 ghost use Rattle.nts_terms.specs.Handles.{Holds, HoldsTy, HoldsRegion, HoldsConst, HoldsTerm, HoldsArg, HoldsArgs, HoldsPredicate, HoldsEnv, HoldsVars};
 ghost use Rattle.nts_folding.specs.FoldLaws.{Holds-kept};
-ghost use Rattle.nts_folding.specs.Folding.{Walk};
+ghost use Rattle.nts_folding.specs.Folding.{Walk, Stops};
 ghost use Rattle.nts_terms.specs.Rest.{Grows};
 
 use crate::fold::{TypeFolder, fold_node, push};
@@ -30,7 +30,7 @@ pub trait TypeFoldable: Drop {
         ensures keeps { F.keeps folder.old folder.new }
         ensures holds { IfOk result (holds cx.new.nodes) }
         ensures walk { IfOk result (λ r. Walk F.answers F.enters F.leaves F.rebuilds (F.meaning cx.old.nodes folder.old) (tree cx.old.nodes self) (tree cx.new.nodes r) (F.meaning cx.new.nodes folder.new)) }
-        ensures err { IfErr result F.fails };
+        ensures err { IfErr result (Stops F.answers F.enters F.leaves F.rebuilds F.fails (F.meaning cx.old.nodes folder.old) (tree cx.old.nodes self)) };
 
     ghost holds_kept: { (a b : List Tree) (x : Self) → holds a x → Extends a b → holds b x };
 
@@ -46,7 +46,7 @@ fn fold_handle<T: Stored, F: TypeFolder>(cx: &mut Cx, folder: &mut F, x: T) -> R
     ensures keeps { F.keeps folder.old folder.new }
     ensures holds { IfOk result (λ r. Holds T.place cx.new.nodes (T.id r)) }
     ensures walk { IfOk result (λ r. Walk F.answers F.enters F.leaves F.rebuilds (F.meaning cx.old.nodes folder.old) (tree_at cx.old.nodes (T.id x)) (tree_at cx.new.nodes (T.id r)) (F.meaning cx.new.nodes folder.new)) }
-    ensures err { IfErr result F.fails }
+    ensures err { IfErr result (Stops F.answers F.enters F.leaves F.rebuilds F.fails (F.meaning cx.old.nodes folder.old) (tree_at cx.old.nodes (T.id x))) }
 {
     let node = fold_node(cx, folder, x.node())?;
     Ok(T::from_node(node))

@@ -45,12 +45,6 @@ module _ {F : Type 0} (g : Normalizes F) where
     pub called : Called g f (table, (store, (a, tt))) (r, left) f'
     pub leaves : (left.0.now ≡ t') × (left.1.0.now ≡ cx')
 
-  -- an error that some call may answer
-  abbrev pub IsErrorOf : EvalError → Type 0
-  IsErrorOf e =
-      (f : F) × (t : Table) × (cx : Cx) × (a : AliasTerm) × (f' : F) × (t' : Table) × (cx' : Cx)
-      × IsCalled f t cx a (Err e) f' t' cx'
-
 -- an alias over arguments of the store
 abbrev pub IsAliasTerm : List Tree → AliasTerm → Type 0
 IsAliasTerm ts a = HoldsArgs ts a.args
@@ -91,3 +85,15 @@ pub record Answers {F : Type 0} (g : Normalizes F) (f : F) (c : Content) (x y : 
   pub left : content_of new.nodes after.entries ≡ d
   pub answered : tree_at new.nodes term.node ≡ y
   pub ambiguous : option_map (tree_of_goal new.nodes) goal ≡ o
+
+-- the closure, handed a table of the content c and the alias x, may answer the error e
+pub record Refuses {F : Type 0} (g : Normalizes F) (f : F) (c : Content) (x : Tree) (e : EvalError) : Type 0 where
+  pub before : Table
+  pub after : Table
+  pub old : Cx
+  pub new : Cx
+  pub alias : AliasTerm
+  pub left : F
+  pub called : IsCalled g f before old alias (Err e) left after new
+  pub content : content_of old.nodes before.entries ≡ c
+  pub asked : tree_of_alias old.nodes alias ≡ x

@@ -6,16 +6,16 @@ use Rattle.nts_model.specs.Trees.{Tree, empty, more, node, any_label, is_alias, 
 use Rattle.nts_model.specs.Contents.{Content, universe_of}
 use Rattle.nts_model.specs.Passing.{AllLabels}
 use Rattle.nts_model.specs.Resolving.{deeply_resolved, variable_of}
-use Rattle.nts_folding.specs.Folding.{Walk}
+use Rattle.nts_folding.specs.Folding.{Walk, Stops}
 use Rattle.nts_placeholder.specs.declared.maps.Placeholder.{Placeholder}
 use Rattle.nts_placeholder.specs.declared.maps.BoundVar.{BoundVar}
 use Rattle.nts_placeholder.specs.Closing.{closed_by}
 use Rattle.nts_placeholder.specs.Escaping.{escapes}
 use Rattle.nts_placeholder.specs.Opening.{opened_by, AreMapsOf}
-use Rattle.nts_placeholder.specs.Universes.{filled, open_before, IsReach}
+use Rattle.nts_placeholder.specs.Universes.{filled, open_before, IsReach, RunsOut}
 use Rattle.nts_store.specs.declared.fault.EvalError.{EvalError}
 use Rattle.nts_store.specs.declared.fault.EvalError.TheVariants.{Memory, Full}
-use Rattle.nts_normalize.specs.Calling.{Normalizes, Answers, IsErrorOf}
+use Rattle.nts_normalize.specs.Calling.{Normalizes, Answers, Refuses}
 
 -- where a walk stands: what the table holds, the universes of the binders around, the innermost last, the goals that were
 -- collected, and the closure
@@ -30,6 +30,10 @@ abbrev pub is_alias_tree : Tree → Bool
 is_alias_tree empty = false
 is_alias_tree (more a b) = false
 is_alias_tree (node l c) = is_alias l
+
+-- no universe comes after this one
+abbrev pub last_universe : ℕ
+last_universe = 4294967295
 
 -- the content in this universe
 abbrev pub in_universe : Content → ℕ → Content
@@ -120,9 +124,25 @@ module _ {F : Type 0} (g : Normalizes F) where
       (is_alias_tree x ≡ false) × (y ≡ x) × (t ≡ s)
       ⊎ (is_alias_tree x ≡ true) × (IsReplaced s x y t ⊎ IsReplacedUnder s x y t ⊎ IsBeyond s x y t)
 
-  -- the errors of a walk: want of memory or of universes, and what the closure answers
-  abbrev pub IsFailure : EvalError → Type 0
-  IsFailure e = (e ≡ Memory) ⊎ (e ≡ Full) ⊎ IsErrorOf g e
+  -- the question about the alias x fails: no universe is left to ask it in, or the closure answers an error
+  abbrev pub FailsToAsk : Standing F → Tree → EvalError → Type 0
+  FailsToAsk s x e =
+      (e ≡ Full) × (s.content.universe ≡ last_universe)
+      ⊎ Refuses g s.normalize (in_universe s.content (s.content.universe + 1)) x e
+
+  -- an alias under binders fails: there are too few universes to open it, or the question about the opened one fails
+  pub record FailsUnder (s : Standing F) (x : Tree) (e : EvalError) : Type 0 where
+    pub escaping : IsClosed x → ⊥
+    pub listed : IsClosedUnder (length s.universes) x
+    pub ends :
+        (e ≡ Full) × RunsOut (escapes x) s.universes s.content.universe last_universe
+        ⊎ ((between : Standing F) × (alias : Tree) × (maps : Sort → Placeholder → Option BoundVar)
+        × Opens s x alias maps between × FailsToAsk between alias e)
+
+  -- the errors at a term: want of memory, and what fails at an alias
+  abbrev pub Fails : Standing F → Option Tree → EvalError → Type 0
+  Fails s None e = e ≡ Memory
+  Fails s (Some x) e = (e ≡ Memory) ⊎ (is_alias_tree x ≡ true) × (IsClosed x × FailsToAsk s x e ⊎ FailsUnder s x e)
 
 -- a part without aliases may be left as it is; any other is gone into
 abbrev pub Skips : {F : Type 0} → Standing F → Tree → Option Tree → Standing F → Type 0
@@ -139,3 +159,7 @@ Leaves s t = t ≡ record s { universes = take (length s.universes - 1) s.univer
 -- from one standing to another the tree x becomes y
 abbrev pub IsNormalized : {F : Type 0} → Normalizes F → Standing F → Tree → Tree → Standing F → Type 0
 IsNormalized g s x y t = Walk Skips Enters Leaves (Rebuilds g) s x y t
+
+-- the walk of the tree x from that standing ends at the error e
+abbrev pub StopsNormalizing : {F : Type 0} → Normalizes F → Standing F → Tree → EvalError → Type 0
+StopsNormalizing g s x e = Stops Skips Enters Leaves (Rebuilds g) (Fails g) s x e

@@ -1,6 +1,5 @@
 //! The folder, which asks its closure for each alias.
-ghost use Rattle.std.specs.Prelude.{◌≡◌, ◌↔◌, ◌++◌, true, false, List, All, length, IfOk, IfErr, OnErr, OnOk, IfSome, IsTrue, IsOkUnless, option_map};
-ghost use Rattle.std.proofs.Common.{inl};
+ghost use Rattle.std.specs.Prelude.{◌≡◌, ◌⊎◌, ◌↔◌, ◌++◌, Some, true, false, List, All, length, IfOk, IfErr, OnErr, OnOk, IfSome, IsTrue, IsOkUnless, option_map};
 ghost use Rattle.nts_model.specs.Trees.{kind_of, any_label, is_alias, IsClosed, IsClosedUnder};
 ghost use Rattle.nts_model.specs.Resolving.{Knows, deeply_resolved};
 ghost use Rattle.nts_store.specs.Growth.{tree_at, IsIn};
@@ -12,8 +11,10 @@ ghost use Rattle.nts_table.specs.Tables.{IsTable};
 ghost use Rattle.nts_table.specs.Frames.{ChangesEntries};
 ghost use Rattle.nts_terms.specs.declared.handles.Goal.{Goal};
 ghost use Rattle.nts_placeholder.specs.Closing.{mapped, closed_by};
+ghost use Rattle.nts_placeholder.specs.Escaping.{escapes};
+ghost use Rattle.nts_placeholder.specs.Universes.{RunsOut};
 ghost use Rattle.nts_normalize.specs.Calling.{IsNormalizer, IsAliasTerm, IsAnswerIn, tree_of_goal};
-ghost use Rattle.nts_normalize.specs.Normalizing.{Standing, Skips, Enters, Leaves, Rebuilds, Asks, Opens, IsLeftOut, IsReplacedUnder, IsFailure, IsNormalized, is_alias_tree, collected};
+ghost use Rattle.nts_normalize.specs.Normalizing.{Standing, Skips, Enters, Leaves, Rebuilds, Asks, Opens, IsLeftOut, IsReplacedUnder, Fails, FailsToAsk, FailsUnder, IsNormalized, StopsNormalizing, is_alias_tree, collected};
 ghost use Rattle.nts_normalize.specs.Walking.{IsReady, Keeps, Goes, standing_of, standing_with, IsReady-kept, standing_of-kept, Keeps-refl, Keeps-trans};
 
 use crate::aliases::{alias_of, names_variables};
@@ -76,7 +77,8 @@ where
     /// Arguments are normalized before their alias, and each alias makes one universe. One from which bound
     /// variables escape is opened first, and what the closure answers is closed again; it stays, and the goal is dropped,
     /// where the closure left a goal ambiguous and the answer has a variable that was made for it. After a
-    /// refusal the universes of the folder are as before; the table is not rolled back.
+    /// refusal, for want of memory, at an alias for which no universe is left, or of the closure, the universes
+    /// of the folder are as before; the table is not rolled back.
     pub fn fold<T: TypeFoldable>(
         &mut self,
         table: &mut InferCtxt,
@@ -96,7 +98,8 @@ where
         ensures changes { ChangesEntries table.old table.new }
         ensures collects { (more : List Goal) × (self.new.stalled_goals.items ≡ self.old.stalled_goals.items ++ more) }
         ensures grows { Grows cx.old cx.new }
-        ensures err { IfErr result (IsFailure F.FnMut) }
+        ensures err { IfErr result (StopsNormalizing F.FnMut (standing_with cx.old.nodes table.old
+            self.old) (T.tree cx.old.nodes value)) }
         ensures universes_err { OnErr result (self.new.universes.items ≡ self.old.universes.items) }
     {
         let before = Vec::from_slice(cx.alloc, &self.universes)?;
@@ -121,7 +124,8 @@ where
         ensures kind { IfOk result (λ r. kind_of (tree_at cx.new.nodes r.node) ≡ kind_of (tree_at cx.old.nodes t.node)) }
         ensures rebuilds { IfOk result (λ r. Rebuilds F.FnMut (standing_of cx.old.nodes self.old) (tree_at
             cx.old.nodes t.node) (tree_at cx.new.nodes r.node) (standing_of cx.new.nodes self.new)) }
-        ensures err { IfErr result (IsFailure F.FnMut) }
+        ensures err { IfErr result (Fails F.FnMut (standing_of cx.old.nodes self.old) (Some (tree_at
+            cx.old.nodes t.node))) }
     {
         if cx.has_escaping_bound_vars(t) {
             if BoundVarReplacer::may_replace(cx, &self.universes, t) {
@@ -146,7 +150,8 @@ where
         ensures kind { IfOk result (λ r. kind_of (tree_at cx.new.nodes r.node) ≡ kind_of (tree_at cx.old.nodes t.node)) }
         ensures replaced { IfOk result (λ r. IsReplacedUnder F.FnMut (standing_of cx.old.nodes self.old) (tree_at
             cx.old.nodes t.node) (tree_at cx.new.nodes r.node) (standing_of cx.new.nodes self.new)) }
-        ensures err { IfErr result (IsFailure F.FnMut) }
+        ensures err { IfErr result (λ e. (e ≡ EvalError.Memory) ⊎ FailsUnder F.FnMut (standing_of
+            cx.old.nodes self.old) (tree_at cx.old.nodes t.node) e) }
     {
         let (alias, maps) = self.open(cx, t)?;
         let universe = self.table.universe();
@@ -171,7 +176,8 @@ where
         ensures opens { IfOk result (λ r. Opens F.FnMut (standing_of cx.old.nodes self.old) (tree_at
             cx.old.nodes t.node) (tree_of_alias cx.new.nodes r.0) (mapped r.1) (standing_of cx.new.nodes
             self.new)) }
-        ensures err { IfErr result (IsFailure F.FnMut) }
+        ensures err { IfErr result (λ e. (e ≡ EvalError.Memory) ⊎ ((e ≡ EvalError.Full) × RunsOut (escapes
+            (tree_at cx.old.nodes t.node)) self.old.universes.items self.old.table.entries.universe u32.MAX)) }
     {
         let (opened, maps) = BoundVarReplacer::replace_bound_vars(
             &mut self.table,
@@ -235,7 +241,8 @@ where
             cx.old.nodes alias) (tree_at cx.new.nodes r.0.node) (option_map (tree_of_goal cx.new.nodes) r.1)
             (standing_of cx.new.nodes self.new)) }
         ensures universes { self.new.universes ≡ self.old.universes }
-        ensures err { IfErr result (IsFailure F.FnMut) }
+        ensures err { IfErr result (λ e. (e ≡ EvalError.Memory) ⊎ FailsToAsk F.FnMut (standing_of
+            cx.old.nodes self.old) (tree_of_alias cx.old.nodes alias) e) }
     {
         self.table.create_next_universe()?;
         (self.normalize)(&mut self.table, cx, alias)
@@ -289,7 +296,7 @@ where
 
     ghost rebuilds = { Rebuilds F.FnMut };
 
-    ghost fails = { IsFailure F.FnMut };
+    ghost fails = { Fails F.FnMut };
 
     ghost keeps = { Keeps };
 
@@ -299,7 +306,7 @@ where
 
     ghost ready_kept = { λ a b s h e. IsReady-kept F.FnMut a b s h e };
 
-    ghost memory_fails = { λ e h. inl h };
+    ghost memory_fails = { λ m e h. h };
 
     ghost meaning_kept = { λ a b s h e. standing_of-kept F.FnMut a b s h e };
 

@@ -1,5 +1,5 @@
 -- What is opened.
-use Rattle.std.proofs.Common.{◌≡◌, ⊎_elim, ℕ, zero, suc, ◌+◌, ◌<◌, nat_lt, nat_eq, Bool, true, false, ◌&&◌, List, [], ◌∷◌, length, Option, Some, None, Result, Err, refl, ap, sym, subst, ◌∙◌, eqb-true, arith}
+use Rattle.std.proofs.Common.{◌≡◌, ◌⊎◌, inl, inr, ⊎_elim, ℕ, zero, suc, ◌+◌, ◌<◌, ◌≤◌, nat_lt, nat_eq, Bool, true, false, ◌&&◌, List, [], ◌∷◌, length, Option, Some, None, Result, Err, refl, ap, sym, subst, ◌∙◌, eqb-true, arith}
 use Rattle.std.proofs.lemmas.Bool.{ltb-false}
 use Rattle.nts_model.specs.declared.labels.Sort.{Sort}
 use Rattle.nts_model.specs.declared.labels.BoundVarIndexKind.TheVariants as index
@@ -12,7 +12,7 @@ use Rattle.nts_placeholder.specs.declared.escaping.Escaping.{Escaping}
 use Rattle.nts_placeholder.specs.Escaping.{same_sort, is_bound, escapes_under, escapes, is_among}
 use Rattle.nts_placeholder.specs.declared.maps.Placeholder.{Placeholder}
 use Rattle.nts_placeholder.specs.Opening.{opened_label, opened_by, AreMapsOf}
-use Rattle.nts_placeholder.specs.Universes.{filled, open_before, IsReach}
+use Rattle.nts_placeholder.specs.Universes.{filled, open_before, IsNeeded, IsReach}
 use Rattle.nts_placeholder.proofs.Reaching.{both, either, reach_same}
 use Rattle.nts_placeholder.proofs.Mapping.{maps_same}
 
@@ -88,6 +88,14 @@ low_of xs ys U V t u h e q k l s b w =
 pub reach_for : (xs ys : List Escaping) (U V : List (Option ℕ)) (t u : Tree) (n : ℕ) → ((s : Sort) (b : BoundVar) → is_among xs s b ≡ escapes u s b) → u ≡ t → ys ≡ xs → V ≡ U → IsReach V (is_among ys) n → IsReach U (escapes t) n
 reach_for xs ys U V t u n h e q r w =
     reach_same (found_of xs ys t u h e q) (subst (λ (W : List (Option ℕ)). IsReach W (is_among ys) n) r w)
+
+below_last : (U : List (Option ℕ)) (f : Sort → BoundVar → Bool) (n m : ℕ) → (n ≡ 0) ⊎ ((e : ℕ) × (n ≡ e + 1) × IsNeeded U f e) → IsReach U f m → n ≤ m
+below_last U f n m (inl q) k = omega (arith, q)
+below_last U f n m (inr (e, is, needed)) k = let less = k.all e needed in omega (arith, is, less)
+
+-- there is one place after the last open entry that is named
+pub reach_once : (U : List (Option ℕ)) (f : Sort → BoundVar → Bool) (n m : ℕ) → IsReach U f n → IsReach U f m → n ≡ m
+reach_once U f n m h k = omega (arith, below_last U f n m h.last k, below_last U f m n k.last h)
 
 pub maps_for : (xs ys : List Escaping) (U V : List (Option ℕ)) (t u : Tree) (m : Sort → Placeholder → Option BoundVar) → ((s : Sort) (b : BoundVar) → is_among xs s b ≡ escapes u s b) → u ≡ t → ys ≡ xs → V ≡ U → AreMapsOf V (is_among ys) m → AreMapsOf U (escapes t) m
 maps_for xs ys U V t u m h e q r w =

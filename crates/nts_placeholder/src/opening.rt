@@ -72,6 +72,8 @@ impl BoundVarReplacer {
         ensures table_err { OnErr result (table.new ≡ table.old) }
         ensures full { result ≡ Err Fault.Full → RunsOut (escapes (tree_at cx.old.nodes (T.id value)))
             universe_indices.old.items table.old.entries.universe u32.MAX }
+        ensures enough { OnOk result (RunsOut (escapes (tree_at cx.old.nodes (T.id value)))
+            universe_indices.old.items table.old.entries.universe u32.MAX → ⊥) }
     {
         let found = escaping_variables(cx.alloc, &cx.nodes, value.node())?;
         let end = reach_of(universe_indices, &found);

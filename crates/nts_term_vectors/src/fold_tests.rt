@@ -52,7 +52,7 @@ impl TypeFolder for Numbering {
 
     ghost rebuilds = { λ s x y t. ⊤ };
 
-    ghost fails = { λ e. ⊤ };
+    ghost fails = { λ s o e. ⊤ };
 
     ghost keeps = { λ s t. ⊤ };
 
@@ -62,7 +62,7 @@ impl TypeFolder for Numbering {
 
     ghost ready_kept = { λ a b s h e. tt };
 
-    ghost memory_fails = { λ e h. tt };
+    ghost memory_fails = { λ m e h. tt };
 
     ghost meaning_kept = { λ a b s h e. refl };
 
@@ -136,7 +136,7 @@ impl TypeFolder for Refusing {
 
     ghost rebuilds = { λ s x y t. ⊤ };
 
-    ghost fails = { λ e. ⊤ };
+    ghost fails = { λ s o e. ⊤ };
 
     ghost keeps = { λ s t. ⊤ };
 
@@ -146,7 +146,7 @@ impl TypeFolder for Refusing {
 
     ghost ready_kept = { λ a b s h e. tt };
 
-    ghost memory_fails = { λ e h. tt };
+    ghost memory_fails = { λ m e h. tt };
 
     ghost meaning_kept = { λ a b s h e. refl };
 
@@ -212,7 +212,7 @@ impl TypeFolder for Counting {
 
     ghost rebuilds = { λ s x y t. y ≡ x };
 
-    ghost fails = { λ e. ⊤ };
+    ghost fails = { λ s o e. ⊤ };
 
     ghost keeps = { λ s t. ⊤ };
 
@@ -222,7 +222,7 @@ impl TypeFolder for Counting {
 
     ghost ready_kept = { λ a b s h e. tt };
 
-    ghost memory_fails = { λ e h. tt };
+    ghost memory_fails = { λ m e h. tt };
 
     ghost meaning_kept = { λ a b s h e. refl };
 
@@ -285,7 +285,7 @@ impl TypeFolder for Levelling {
 
     ghost rebuilds = { λ s x y t. ⊤ };
 
-    ghost fails = { λ e. ⊤ };
+    ghost fails = { λ s o e. ⊤ };
 
     ghost keeps = { λ s t. ⊤ };
 
@@ -295,7 +295,7 @@ impl TypeFolder for Levelling {
 
     ghost ready_kept = { λ a b s h e. tt };
 
-    ghost memory_fails = { λ e h. tt };
+    ghost memory_fails = { λ m e h. tt };
 
     ghost meaning_kept = { λ a b s h e. refl };
 

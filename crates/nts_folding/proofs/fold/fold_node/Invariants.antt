@@ -12,7 +12,7 @@ invariant-loop-task g l =
       rest : KeepsRest l.fn.cx l.cx;
       ready : f.ready l.cx.nodes l.folder;
       keeps : f.keeps l.fn.folder l.folder;
-      ends : EndsBy f.answers f.enters f.leaves f.rebuilds (f.meaning l.fn.cx.nodes l.fn.folder) (tree_at l.fn.cx.nodes l.fn.t) l.cx.nodes l.tasks.items l.found.items (f.meaning l.cx.nodes l.folder);
+      ends : EndsBy f.answers f.enters f.leaves f.rebuilds f.fails (f.meaning l.fn.cx.nodes l.fn.folder) (tree_at l.fn.cx.nodes l.fn.t) l.cx.nodes l.tasks.items l.found.items (f.meaning l.cx.nodes l.folder);
     }
 
 abbrev pub decreases-loop-task : goal.decreases-loop-task

@@ -1,7 +1,9 @@
 use Rattle.std.proofs.Common.{◌≡◌, ◌∷◌, length, ap, arith}
 use Rattle.std.specs.Vec.Iter.{into_iter_items}
 use Rattle.nts_terms.proofs.Moved.{KeepsRest-refl, KeepsRest-trans}
-use Rattle.nts_folding.proofs.FoldedList.{list_start, left_holds, list_more}
+use Rattle.nts_folding.specs.Folding.{anywhere}
+use Rattle.nts_folding.proofs.Folded.{on_err, on_same_err}
+use Rattle.nts_folding.proofs.FoldedList.{list_start, left_holds, list_more, list_stops}
 use Rattle.nts_folding.proofs.foldable.VecTypeFoldable.fold_with.Goals as goal
 
 pub loop-x-init : goal.loop-x-init
@@ -39,3 +41,14 @@ loop-x-preserved g c =
       keeps = g.met.F.TypeFolder.keeps_trans _ _ _ c.loop-x.invariant.keeps now.keeps;
       count = omega (arith, c.loop-x.invariant.count, gone, short);
     }
+
+pub returns-in_err-value-clause-err : goal.returns-in_err-value-clause-err
+returns-in_err-value-clause-err g c =
+    let f = g.F.TypeFolder in
+    let t = g.T.TypeFoldable in
+    let steps : into_iter_items c.loop-x.x-iterator ≡ c.in-Some.x ∷ into_iter_items c.next.new.self = c.in-Some.ensures.steps.0 in
+    on_same_err _ _ _ c.from_residual.ensures.1 (list_stops f.answers f.enters f.leaves f.rebuilds t.holds t.tree f.fails g.met.T.TypeFoldable.holds_kept g.met.T.TypeFoldable.tree_kept _ _ _ _ _ _ _ _ _ c.in-Some.x _ c.loop-x.invariant.list c.requires.holds steps c.in_err-value.ensures.err)
+
+pub returns-in_err-push-clause-err : goal.returns-in_err-push-clause-err
+returns-in_err-push-clause-err g c =
+    on_err _ _ _ c.from_residual-in_err-push.ensures.1 (λ e h. anywhere (λ t. g.met.F.TypeFolder.memory_fails t e h))

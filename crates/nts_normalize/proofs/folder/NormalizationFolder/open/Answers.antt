@@ -1,5 +1,7 @@
-use Rattle.std.proofs.Common.{◌∙◌, refl, sym}
+use Rattle.std.proofs.Common.{◌∙◌, Err, ap, refl, sym}
 use Rattle.nts_table.specs.TableLaws.{IsTable-extended}
+use Rattle.nts_folding.proofs.Folded.{on_err}
+use Rattle.nts_normalize.proofs.Asked.{of_fault}
 use Rattle.nts_normalize.proofs.Stepping.{Goes-changed, fills}
 use Rattle.nts_normalize.proofs.folder.NormalizationFolder.open.Goals as goal
 
@@ -21,3 +23,7 @@ returns-clause-opens g c =
       are_maps = did.maps;
       tree = sym c.in-Some.ensures.alias ∙ did.tree;
     }
+
+pub returns-in_err-opened-clause-err : goal.returns-in_err-opened-clause-err
+returns-in_err-opened-clause-err g c =
+    on_err _ _ _ c.from_residual.ensures.1 (λ e q. of_fault _ _ e q (λ h. c.in_err-opened.ensures.full (ap Err h)))

@@ -8,6 +8,8 @@ use Rattle.nts_normalize.specs.Calling.{tree_of_goal}
 use Rattle.nts_normalize.specs.Normalizing.{collected, IsLeftOut}
 use Rattle.nts_unify.specs.Lawful.{content_of-extended}
 use Rattle.nts_normalize.specs.Walking.{standing_of-kept}
+use Rattle.nts_folding.proofs.Folded.{on_same_err, on_err}
+use Rattle.nts_normalize.proofs.Asked.{not_opened, not_asked, of_memory}
 use Rattle.nts_normalize.proofs.Stepping.{Goes-trans, Goes-grown, Goes-collects, collected_held, collects, known_on, result_kind}
 use Rattle.nts_normalize.proofs.folder.NormalizationFolder.replace_under.Goals as goal
 
@@ -91,3 +93,11 @@ returns-clause-replaced g c =
       asks = c.in_ok-term.ensures.asks;
       ends = inr (rw c.universe-universe.ensures at no, tree, collects c.ask.new.self c.collect.new.self c.in_ok-term.goal c.ask.ensures.goes.ready on answer.goal c.collect.ensures.table c.collect.ensures.universes c.collect.ensures.normalize c.in_ok-collect.ensures.goals);
     }
+
+pub returns-in_err-alias-clause-err : goal.returns-in_err-alias-clause-err
+returns-in_err-alias-clause-err g c =
+    on_same_err _ _ _ c.from_residual.ensures.1 (not_opened g.F.FnMut _ _ _ c.requires.open c.requires.listed c.in_err-alias.ensures.err)
+
+pub returns-in_err-term-clause-err : goal.returns-in_err-term-clause-err
+returns-in_err-term-clause-err g c =
+    on_same_err _ _ _ c.from_residual-in_err-term.ensures.1 (not_asked g.F.FnMut _ _ _ _ _ _ c.requires.open c.requires.listed c.in_ok-alias.ensures.opens c.in_err-term.ensures.err)

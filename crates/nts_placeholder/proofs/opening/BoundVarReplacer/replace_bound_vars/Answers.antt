@@ -3,9 +3,9 @@ use Rattle.nts_model.specs.Trees.{kind_of}
 use Rattle.nts_store.specs.Growth.{tree_at}
 use Rattle.nts_unify.specs.Entries.{moved}
 use Rattle.nts_placeholder.specs.Closing.{mapped}
-use Rattle.nts_placeholder.specs.Universes.{open_before, AreFilled}
+use Rattle.nts_placeholder.specs.Universes.{open_before, AreFilled, IsReach}
 use Rattle.nts_placeholder.specs.OpeningLaws.{opened_by-same_kind}
-use Rattle.nts_placeholder.proofs.OpeningLemmas.{low_of, length-filled, reach_for, maps_for, filled_for, open_for, same_fault}
+use Rattle.nts_placeholder.proofs.OpeningLemmas.{low_of, length-filled, reach_for, reach_once, maps_for, filled_for, open_for, same_fault}
 use Rattle.nts_store.specs.declared.nodes.NodeId.{NodeId}
 use Rattle.nts_placeholder.specs.Escaping.{escapes}
 use Rattle.nts_placeholder.specs.Opening.{opened_by}
@@ -59,18 +59,32 @@ pub returns-clause-maps : goal.returns-clause-maps
 returns-clause-maps g c =
     maps_for _ _ _ _ (tree_at c.args.cx.now.nodes (g.T.Stored.id c.args.value)) _ (mapped c.in_ok-maps.maps) c.in_ok-found.ensures.found (ap (tree_at c.args.cx.now.nodes) c.node.ensures) c.deref-4.ensures.value c.deref-5.ensures.value c.in_ok-maps.ensures
 
+reached : (g : Over) (c : goal.After-drop-found-2 g) → IsReach c.args.universe_indices.now.items (escapes (tree_at c.args.cx.now.nodes (g.T.Stored.id c.args.value))) c.reach_of-end.result
+reached g c =
+    reach_for _ _ c.args.universe_indices.now.items _ (tree_at c.args.cx.now.nodes (g.T.Stored.id c.args.value)) _ c.reach_of-end.result c.in_ok-found.ensures.found (ap (tree_at c.args.cx.now.nodes) c.node.ensures) c.deref-2.ensures.value c.deref.ensures.value c.reach_of-end.ensures
+
 filling_of : (g : Over) (c : goal.After-drop-found-2 g) → AreFilled (escapes (tree_at c.args.cx.now.nodes (g.T.Stored.id c.args.value))) c.args.universe_indices.now.items c.in-Ok.filled.universes.items c.args.table.now.entries c.create_universes.new.self.entries
 filling_of g c =
     let opens = open_for c.args.universe_indices.now.items c.deref-3.result.now c.reach_of-end.result _ c.in-Ok.ensures.count c.deref-3.ensures.value in
     record {
       reach = c.reach_of-end.result;
-      is_reach = reach_for _ _ c.args.universe_indices.now.items _ (tree_at c.args.cx.now.nodes (g.T.Stored.id c.args.value)) _ c.reach_of-end.result c.in_ok-found.ensures.found (ap (tree_at c.args.cx.now.nodes) c.node.ensures) c.deref-2.ensures.value c.deref.ensures.value c.reach_of-end.ensures;
+      is_reach = reached g c;
       list = filled_for c.args.universe_indices.now.items c.deref-3.result.now _ _ _ c.reach_of-end.result c.in-Ok.ensures.list c.universe.ensures c.deref-3.ensures.value;
       entries = c.in-Ok-create_universes.ensures.entries ∙ ap (λ k. moved c.args.table.now.entries (c.args.table.now.entries.universe + k)) opens;
     }
 
 pub returns-clause-universes : goal.returns-clause-universes
 returns-clause-universes g c = filling_of g c
+
+pub returns-clause-enough : goal.returns-clause-enough
+returns-clause-enough g c =
+    λ r.
+    let named = escapes (tree_at c.args.cx.now.nodes (g.T.Stored.id c.args.value)) in
+    let reach = reach_once c.args.universe_indices.now.items named r.reach c.reach_of-end.result r.is_reach (reached g c) in
+    let counted = ap (λ n. open_before n c.args.universe_indices.now.items) reach in
+    let opens = open_for c.args.universe_indices.now.items c.deref-3.result.now c.reach_of-end.result _ c.in-Ok.ensures.count c.deref-3.ensures.value in
+    let past = c.create_universes.ensures.full.1 (omega (arith, r.past, counted, opens)) in
+    cc (past, c.in-Ok-create_universes.is)
 
 pub returns-clause-knows : goal.returns-clause-knows
 returns-clause-knows g c =
