@@ -1,2 +1,3 @@
 //! The evaluation of goals.
 pub use nts_evaluation::{GoalEvaluation, GoalStalledOn, evaluate_root_goal, goal_is_admitted};
+pub use nts_merging::{MergeCandidateInfo, bail_with_ambiguity, flounder, try_merge_candidates};

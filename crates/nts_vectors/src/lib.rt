@@ -7,3 +7,5 @@ mod canonical_tests;
 mod evaluation_tests;
 #[cfg(test)]
 mod inputs;
+#[cfg(test)]
+mod merging_tests;
