@@ -146,6 +146,56 @@ fn refusals(rt: HostRuntime) {
     );
 }
 
+/// A goal and a condition may bind names. What such a goal is answered is not looked at here.
+#[test]
+fn takes_binders(rt: HostRuntime) {
+    let text = b"trait T(type, type)\ntrait S(region)\ntype Ref(region, type)\nimpl T(?X, ?X)\n\
+        impl S('?r) <- for<P, 'a> T(Ref('a, P), ?x), for<P> T(P, P)\n\
+        goal for<P> T(P, ?x)\ngoal for<'a, P> T(Ref('a, P), Ref('a, P))\ngoal for<'a> S('a)\n";
+    let mut output = Vec::new(rt.alloc());
+    let status = run(rt.alloc(), text.as_slice(), &mut output);
+    assert_eq!(rt; status, Status::Done);
+}
+
+#[test]
+fn refuses_binders(rt: HostRuntime) {
+    check(
+        &rt,
+        rt.alloc(),
+        &[
+            refused(
+                b"trait T(type)\ngoal T(u8)\ngoal for<> T(u8)\n",
+                b"no\nline 3: syntax\n",
+            ),
+            refused(b"trait T(type)\nimpl for<P> T(P)\n", b"line 2: syntax\n"),
+            refused(
+                b"trait T(type)\ngoal for<P, T> T(P)\n",
+                b"line 2: name declared twice\n",
+            ),
+            refused(
+                b"trait S(region)\nimpl S('?r) <- for<'a, 'a> S('a)\n",
+                b"line 2: name declared twice\n",
+            ),
+            refused(
+                b"trait S(region)\ngoal for<'static> S('a)\n",
+                b"line 2: name declared twice\n",
+            ),
+            refused(
+                b"trait S(region)\ngoal for<P> S(P)\n",
+                b"line 2: wrong arguments\n",
+            ),
+            refused(
+                b"trait T(type)\nimpl T(?x) <- for<P> T(P), T(P)\n",
+                b"line 2: unknown name\n",
+            ),
+            refused(
+                b"trait S(region)\nimpl S('?r) <- for<'a> S('a), S('a)\n",
+                b"line 2: parameter in a clause\n",
+            ),
+        ],
+    );
+}
+
 /// What was answered stays where a later line is refused, and no line after it is read.
 #[test]
 fn earlier_answers_stay(rt: HostRuntime) {

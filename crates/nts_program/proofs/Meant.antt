@@ -11,18 +11,15 @@ use Rattle.nts_terms.specs.declared.handles.GenericArg.{GenericArg}
 use Rattle.nts_terms.specs.declared.handles.GenericArgs.{GenericArgs}
 use Rattle.nts_store.specs.Growth.{tree_at, trees_at, Extends}
 use Rattle.nts_terms.specs.declared.handles.Goal.{Goal}
-use Rattle.nts_terms.specs.declared.handles.BoundVars.{BoundVars}
-use Rattle.nts_terms.specs.declared.handles.Predicate.{Predicate}
 use Rattle.nts_terms.specs.declared.kinds.ClauseKind.TheVariants as clause_kind
-use Rattle.nts_terms.specs.declared.kinds.PredicateKind.TheVariants as statement
-use Rattle.nts_terms.specs.Handles.{HoldsArg, HoldsArgs, HoldsPredicate, HoldsEnv}
-use Rattle.nts_terms.specs.Kinds.{tree_of_args, tree_of_vars, tree_of_predicate, tree_of_clause}
+use Rattle.nts_terms.specs.Handles.{HoldsArg, HoldsArgs, HoldsEnv}
+use Rattle.nts_terms.specs.Kinds.{tree_of_args, tree_of_clause}
 use Rattle.nts_store.proofs.Growing.{Extends-trans}
-use Rattle.nts_terms.specs.declared.handles.TraitRef.{TraitRef}
 use Rattle.nts_text.specs.declared.resolver.Resolved.{Resolved}
 use Rattle.nts_text.specs.declared.resolver.Resolved.TheVariants as nodes
+use Rattle.nts_program.specs.declared.build.BoundTrait.{BoundTrait}
 use Rattle.nts_program.specs.declared.variables.LineVariables.{LineVariables}
-use Rattle.nts_program.specs.Meaning.{argument_row, argument_list, term_of, meaning_of, values_in, made_trees, trait_trees, TakesArguments, MakesArgument, AreSaid, States, IsGoalFor, binding_nothing, empty_environment}
+use Rattle.nts_program.specs.Meaning.{argument_row, argument_list, term_of, meaning_of, values_in, made_trees, binding_nothing, predicate_tree, statement_of, statements, TakesArguments, MakesArgument, AreSaid, States, IsGoalFor, empty_environment}
 
 -- the front of a list, and what stands behind it
 take_front : {A : Type 0} (n : ℕ) (xs ys : List A) → length xs ≡ n → take n (xs ++ ys) ≡ xs
@@ -66,12 +63,12 @@ takes ts mid old new args count l parts counted held e within tree us later =
     )
 
 -- what was made of the last nodes, here and in each later store
-abbrev pub IsMade : List Tree → LineVariables → List GenericArg → List Resolved → Vec GenericArg → List TraitRef → Type 0
+abbrev pub IsMade : List Tree → LineVariables → List GenericArg → List Resolved → Vec GenericArg → List BoundTrait → Type 0
 IsMade ts variables values rs made found =
     (us : List Tree) → Extends ts us
-    → (made_trees us made ≡ (meaning_of (values_in us variables values) rs).arguments) × (trait_trees us (reverse found) ≡ (meaning_of (values_in us variables values) rs).predicates)
+    → (made_trees us made ≡ (meaning_of (values_in us variables values) rs).arguments) × (statements us (reverse found) ≡ (meaning_of (values_in us variables values) rs).predicates)
 
-module _ (ts mid : List Tree) (variables : LineVariables) (values : List GenericArg) (rs : List Resolved) (old new : Vec GenericArg) (found : List TraitRef) where
+module _ (ts mid : List Tree) (variables : LineVariables) (values : List GenericArg) (rs : List Resolved) (old new : Vec GenericArg) (found : List BoundTrait) where
   one_more : (us : List Tree) (last : Vec GenericArg) (a : GenericArg) (args : List Tree) (f : List Tree → Tree) (k : ℕ) → last.items ≡ new.items ++ a ∷ []
       → made_trees us old ≡ args → tree_at us a.node ≡ f (take k (made_trees us old)) → made_trees us new ≡ drop k (made_trees us old)
       → made_trees us last ≡ f (take k args) ∷ drop k args
@@ -82,6 +79,13 @@ module _ (ts mid : List Tree) (variables : LineVariables) (values : List Generic
   -- one more argument
   pub made_argument : (r : Resolved) (last : Vec GenericArg) (a : GenericArg) → IsMade ts variables values rs old found → Extends ts mid
       → MakesArgument mid variables values r old new a → last.items ≡ new.items ++ a ∷ [] → IsMade mid variables values (r ∷ rs) last found
+  made_argument (nodes.Binds s) last a h e makes pushed = absurd makes
+  made_argument (nodes.BoundType i) last a h e makes pushed = λ us later.
+      let was = h us (Extends-trans e later) in
+      (one_more us last a _ (term_of (values_in us variables values) (nodes.BoundType i)) 0 pushed was.0 (makes us later).0 (makes us later).1, was.1)
+  made_argument (nodes.BoundRegion i) last a h e makes pushed = λ us later.
+      let was = h us (Extends-trans e later) in
+      (one_more us last a _ (term_of (values_in us variables values) (nodes.BoundRegion i)) 0 pushed was.0 (makes us later).0 (makes us later).1, was.1)
   made_argument (nodes.Trait i n) last a h e makes pushed = absurd makes
   made_argument (nodes.Ctor i n) last a h e makes pushed = λ us later.
       let was = h us (Extends-trans e later) in
@@ -109,31 +113,25 @@ module _ (ts mid : List Tree) (variables : LineVariables) (values : List Generic
       (one_more us last a _ (term_of (values_in us variables values) nodes.Static) 0 pushed was.0 (makes us later).0 (makes us later).1, was.1)
 
   -- one more predicate
-  pub made_trait : (i n : ℕ) (args : GenericArgs) (last : List TraitRef) → IsMade ts variables values rs old found → Extends ts mid → TakesArguments mid old new n args
-      → last ≡ found ++ record { def_id = record { number = i }; args = args } ∷ [] → IsMade mid variables values (nodes.Trait i n ∷ rs) new last
-  made_trait i n args last h e takes pushed = λ us later.
+  pub made_trait : (i n : ℕ) (args : GenericArgs) (b : BoundTrait) (last : List BoundTrait) → IsMade ts variables values rs old found → Extends ts mid → TakesArguments mid old new n args
+      → b.binds.items ≡ [] → b.trait_ref ≡ record { def_id = record { number = i }; args = args } → last ≡ found ++ b ∷ [] → IsMade mid variables values (nodes.Trait i n ∷ rs) new last
+  made_trait i n args b last h e takes unbound is pushed = λ us later.
       let was = h us (Extends-trans e later) in
-      let taken = takes us later in (
+      let taken = takes us later in
+      let first : statement_of us b ≡ binding_nothing (node (label.Clause (clause.Trait i)) (more (tree_at us args.node) empty)) =
+      ap (λ xs. record { binds = reverse xs; statement = tree_of_clause us (clause_kind.Trait b.trait_ref) }) unbound ∙ ap (λ r. binding_nothing (tree_of_clause us (clause_kind.Trait r))) is in (
         taken.1 ∙ ap (drop n) was.0,
-        ap (λ xs. trait_trees us (reverse xs)) pushed ∙ ap (trait_trees us) (reverse-append found (record { def_id = record { number = i }; args = args } ∷ []))
-            ∙ ap (λ t. node (label.Clause (clause.Trait i)) (more t empty) ∷ trait_trees us (reverse found)) (taken.0 ∙ ap (λ xs. argument_list (take n xs)) was.0)
-            ∙ ap (λ ps. node (label.Clause (clause.Trait i)) (more (argument_list (take n (meaning_of (values_in us variables values) rs).arguments)) empty) ∷ ps) was.1,
+        ap (λ xs. statements us (reverse xs)) pushed ∙ ap (statements us) (reverse-append found (b ∷ []))
+            ∙ ap (λ s. s ∷ statements us (reverse found)) first
+            ∙ ap (λ t. binding_nothing (node (label.Clause (clause.Trait i)) (more t empty)) ∷ statements us (reverse found)) (taken.0 ∙ ap (λ xs. argument_list (take n xs)) was.0)
+            ∙ ap (λ ps. binding_nothing (node (label.Clause (clause.Trait i)) (more (argument_list (take n (meaning_of (values_in us variables values) rs).arguments)) empty)) ∷ ps) was.1,
       )
 
 -- nothing is made of no nodes
-pub made_none : (ts : List Tree) (variables : LineVariables) (values : List GenericArg) (made : Vec GenericArg) (found : List TraitRef) → made.items ≡ [] → found ≡ [] → IsMade ts variables values [] made found
-made_none ts variables values made found e f = λ us later. (ap (λ xs. map (λ a. tree_at us a.node) (reverse xs)) e, ap (λ xs. trait_trees us (reverse xs)) f)
+pub made_none : (ts : List Tree) (variables : LineVariables) (values : List GenericArg) (made : Vec GenericArg) (found : List BoundTrait) → made.items ≡ [] → found ≡ [] → IsMade ts variables values [] made found
+made_none ts variables values made found e f = λ us later. (ap (λ xs. map (λ a. tree_at us a.node) (reverse xs)) e, ap (λ xs. statements us (reverse xs)) f)
 
 pub ruleset meant = (made_none, made_trait)
-
--- a predicate of a trait, here and in each later store
-pub states : (ts mid us : List Tree) (r : TraitRef) (vars : BoundVars) (p : Predicate) → HoldsArgs ts r.args → HoldsPredicate mid p → Extends ts mid
-    → tree_at ts vars.node ≡ tree_of_vars [] → tree_at mid p.node ≡ tree_of_predicate ts (record { vars = vars; value = statement.Clause (clause_kind.Trait r) }) → Extends mid us
-    → tree_at us p.node ≡ binding_nothing (tree_of_clause us (clause_kind.Trait r))
-states ts mid us r vars p args holds e bound tree later =
-    let same : tree_at us r.args.node ≡ tree_at ts r.args.node = (Extends-trans e later).kept r.args.node args.within in
-    later.kept p.node holds.within ∙ tree ∙ ap (λ v. node (label.List list.Binder) (more v (more (node (label.Clause (clause.Trait r.def_id.number)) (more (tree_at ts r.args.node) empty)) empty))) bound
-    ∙ ap (λ a. binding_nothing (node (label.Clause (clause.Trait r.def_id.number)) (more a empty))) (sym same)
 
 pub one_item : {A : Type 0} (xs : List A) (d : A) → 1 ≤ length xs → length xs < 2 → xs ≡ get_or xs 0 d ∷ []
 one_item [] d l h = absurd (omega (arith, l))
@@ -141,13 +139,13 @@ one_item (x ∷ []) d l h = refl
 one_item (x ∷ y ∷ ys) d l h = absurd (omega (arith, h))
 
 -- the goal of the one trait that nodes say
-pub goal_for : (a mid ts : List Tree) (variables : LineVariables) (values : List GenericArg) (rs : List Resolved) (traits : List TraitRef) (r : TraitRef) (g : Goal)
+pub goal_for : (a mid ts : List Tree) (variables : LineVariables) (values : List GenericArg) (rs : List Resolved) (traits : List BoundTrait) (r : BoundTrait) (g : Goal)
     → AreSaid a variables values rs traits → traits ≡ r ∷ [] → Extends a mid → Extends mid ts → States ts r g.predicate → HoldsEnv mid g.param_env → tree_at mid g.param_env.node ≡ empty_environment
     → IsGoalFor ts variables values rs g
 goal_for a mid ts variables values rs traits r g said one e f states holds environment = λ us later.
     let after = Extends-trans f later in
     let here = said us (Extends-trans e after) in
     record {
-      said = ap (map binding_nothing) (sym here) ∙ ap (λ xs. map binding_nothing (trait_trees us xs)) one ∙ ap (λ t. t ∷ []) (sym (states us later));
+      said = ap (map predicate_tree) (sym here) ∙ ap (λ xs. map predicate_tree (statements us xs)) one ∙ ap (λ t. t ∷ []) (sym (states us later));
       nothing_assumed = after.kept g.param_env.node holds.within ∙ environment;
     }

@@ -104,6 +104,9 @@ pub places_trans : {u v w : LineVariables} → KeepsPlaces u v → KeepsPlaces v
 places_trans {u} {v} {w} h k = record { types = omega (arith, h.types, k.types); regions = omega (arith, h.regions, k.regions) }
 
 pub place_kept : (v w : LineVariables) (r : Resolved) → KeepsPlaces v w → HasPlace v r → HasPlace w r
+place_kept v w (nodes.Binds s) k h = tt
+place_kept v w (nodes.BoundType i) k h = tt
+place_kept v w (nodes.BoundRegion i) k h = tt
 place_kept v w (nodes.Trait i n) k h = tt
 place_kept v w (nodes.Ctor i n) k h = tt
 place_kept v w (nodes.Int i) k h = tt

@@ -14,7 +14,7 @@ ghost use Rattle.nts_program.specs.Meaning.{AreVariablesFrom, IsGoalFor};
 ghost use Rattle.nts_store.specs.Growth.{tree_at};
 ghost use Rattle.nts_terms.specs.Rest.{Grows};
 
-use crate::build::{MISFIT, Terms, predicate_of, trait_refs};
+use crate::build::{MISFIT, Terms, bound_traits, predicate_of};
 use crate::status::Stop;
 use crate::variables::LineVariables;
 use next_trait_solver::clauses::Clauses;
@@ -145,12 +145,12 @@ fn goal_of(cx: &mut Cx, nodes: &[Resolved], terms: Terms<'_>) -> Result<Goal, St
     ensures holds { IfOk result (λ g. HoldsGoal cx.new.nodes g) }
     ensures grows { Grows cx.old cx.new }
 {
-    let found = trait_refs(cx, nodes, terms)?;
-    let [trait_ref] = found.as_slice() else {
+    let found = bound_traits(cx, nodes, terms)?;
+    let [bound] = found.as_slice() else {
         return Err(MISFIT);
     };
     let param_env = cx.mk_env(&[])?;
-    let predicate = predicate_of(cx, *trait_ref)?;
+    let predicate = predicate_of(cx, bound)?;
     Ok(Goal {
         param_env,
         predicate,

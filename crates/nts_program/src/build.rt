@@ -1,10 +1,10 @@
 //! Terms of the predicates that a line says.
-ghost use Rattle.std.specs.Prelude.{◌≡◌, All, IsTrue, IfOk, IfSome, Some, List, slice_get};
+ghost use Rattle.std.specs.Prelude.{◌≡◌, All, IsTrue, IfOk, IfSome, OnOk, Some, List, reverse, slice_get};
 ghost use Rattle.nts_model.specs.Trees.{Tree};
 ghost use Rattle.nts_store.specs.Growth.{Extends, tree_at};
 ghost use Rattle.nts_terms.specs.Kinds.{tree_of_ty};
 ghost use Rattle.nts_terms.specs.declared.kinds.TyKind.TheVariants as ty;
-ghost use Rattle.nts_program.specs.Meaning.{tree_at_place, TakesArguments, MakesArgument, AreSaid, States, ArePositions};
+ghost use Rattle.nts_program.specs.Meaning.{tree_at_place, BindsFirst, TakesArguments, MakesArgument, AreSaid, States, ArePositions};
 ghost use Rattle.nts_terms.specs.Handles.{HoldsArg, HoldsArgs, HoldsPredicate};
 ghost use Rattle.nts_terms.specs.Rest.{Grows};
 
@@ -15,6 +15,7 @@ use next_trait_solver::ty::{
     GenericArgs, Predicate, PredicateKind, RegionKind, Sort, TraitId, TraitRef, TyKind,
 };
 use nts_text::{Refusal, Resolved};
+use std::alloc::{AllocError, Global};
 
 /// The terms that the variables of a line stand for, each at the variable's place.
 #[derive(Clone, Copy)]
@@ -47,6 +48,14 @@ impl Terms<'_> {
     }
 }
 
+/// A trait with its arguments, under a binder.
+#[derive(Drop)]
+pub struct BoundTrait {
+    /// The sorts of the variables that the binder binds, the last one first.
+    pub binds: Vec<Sort>,
+    pub trait_ref: TraitRef,
+}
+
 /// What is answered where terms don't fit, though the names of the line do.
 pub const MISFIT: Stop = Stop::Refused(Refusal::WrongArguments);
 
@@ -57,9 +66,13 @@ fn parameter(number: usize) -> Result<u32, Stop>
     u32::try_from(number).map_err(|_| Stop::Memory)
 }
 
-/// The traits that these nodes name, with their arguments, in order.
+/// The traits that these nodes name, with their arguments and binders, in order.
 #[tactic(auto, using(crate::proofs::Asking::growing))]
-pub fn trait_refs(cx: &mut Cx, nodes: &[Resolved], terms: Terms<'_>) -> Result<Vec<TraitRef>, Stop>
+pub fn bound_traits(
+    cx: &mut Cx,
+    nodes: &[Resolved],
+    terms: Terms<'_>,
+) -> Result<Vec<BoundTrait>, Stop>
     ensures said { IfOk result (λ rs. AreSaid cx.new.nodes terms.entry.variables.now
         terms.entry.values.now nodes.now rs.items) }
     ensures grows { Grows cx.old cx.new }
@@ -74,11 +87,16 @@ pub fn trait_refs(cx: &mut Cx, nodes: &[Resolved], terms: Terms<'_>) -> Result<V
         match nodes[at] {
             Resolved::Trait { number, arguments } => {
                 let args = take_args(cx, &mut made, arguments)?;
-                found.push(TraitRef {
+                let trait_ref = TraitRef {
                     def_id: TraitId { number },
                     args,
+                };
+                found.push(BoundTrait {
+                    binds: Vec::new(alloc),
+                    trait_ref,
                 })?;
             }
+            Resolved::Binds(sort) => bind_first(&mut found, sort)?,
             node => {
                 let argument = argument(cx, &mut made, terms, node)?;
                 made.push(argument)?;
@@ -87,6 +105,18 @@ pub fn trait_refs(cx: &mut Cx, nodes: &[Resolved], terms: Terms<'_>) -> Result<V
     }
     found.reverse();
     Ok(found)
+}
+
+/// Binds a variable more by the binder of the last trait, before the others that it binds.
+fn bind_first(found: &mut Vec<BoundTrait>, sort: Sort) -> Result<(), Stop>
+    ensures { OnOk result (BindsFirst sort found.old.items found.new.items) }
+{
+    let Some(mut last) = found.pop() else {
+        return Err(MISFIT);
+    };
+    last.binds.push(sort)?;
+    found.push(last)?;
+    Ok(())
 }
 
 /// The argument of a node, whose own arguments were made last.
@@ -102,7 +132,15 @@ fn argument(
     ensures grows { Grows cx.old cx.new }
 {
     match node {
-        Resolved::Trait { .. } => Err(MISFIT),
+        Resolved::Binds(_) | Resolved::Trait { .. } => Err(MISFIT),
+        Resolved::BoundType(var) => {
+            let kind = TyKind::Bound(BoundVarIndexKind::Bound(0), BoundTy { var });
+            Ok(cx.mk_ty(kind)?.into())
+        }
+        Resolved::BoundRegion(var) => {
+            let kind = RegionKind::ReBound(BoundVarIndexKind::Bound(0), BoundRegion { var });
+            Ok(cx.mk_region(kind)?.into())
+        }
         Resolved::Ctor { number, arguments } => {
             let args = take_args(cx, made, arguments)?;
             constructed(cx, CtorId { number }, args)
@@ -161,14 +199,23 @@ fn constructed(cx: &mut Cx, ctor: CtorId, args: GenericArgs) -> Result<GenericAr
     Ok(cx.mk_ty(TyKind::Ctor(ctor, args))?.into())
 }
 
-/// The predicate that a trait holds for its arguments.
+/// The sorts of a binder, the first one first.
+fn in_order(alloc: Global, binds: &[Sort]) -> Result<Vec<Sort>, AllocError>
+    ensures { IfOk result (λ v. v.items ≡ reverse binds.now) }
+{
+    binds.iter().rev().copied().collect(alloc)
+}
+
+/// The predicate that a trait holds for its arguments, under its binder.
 #[tactic(auto, using(crate::proofs::Asking::growing))]
-pub fn predicate_of(cx: &mut Cx, trait_ref: TraitRef) -> Result<Predicate, Stop>
-    ensures states { IfOk result (States cx.new.nodes trait_ref) }
+pub fn predicate_of(cx: &mut Cx, bound: &BoundTrait) -> Result<Predicate, Stop>
+    ensures states { IfOk result (States cx.new.nodes bound.now) }
     ensures holds { IfOk result (λ p. HoldsPredicate cx.new.nodes p) }
     ensures grows { Grows cx.old cx.new }
 {
-    let vars = cx.mk_bound_vars(&[])?;
+    let sorts = in_order(cx.alloc, &bound.binds)?;
+    let vars = cx.mk_bound_vars(&sorts)?;
+    let trait_ref = bound.trait_ref;
     if !cx.holds(trait_ref.args) || !cx.fits(DefId::Trait(trait_ref.def_id), trait_ref.args) {
         return Err(MISFIT);
     }

@@ -11,7 +11,7 @@ ghost use Rattle.nts_program.specs.Obeying.{IsNewProgram, DeclaresType, Declares
 ghost use Rattle.nts_terms.specs.Rest.{Grows};
 
 use crate::answer::ask;
-use crate::build::{MISFIT, Terms, positions, predicate_of, trait_refs};
+use crate::build::{MISFIT, Terms, bound_traits, positions, predicate_of};
 use crate::printer::text_of;
 use crate::status::Stop;
 use crate::variables::LineVariables;
@@ -211,15 +211,18 @@ fn clause_of(cx: &mut Cx, head: &[Resolved], body: &[Resolved]) -> Result<Clause
         variables: &variables,
         values: &values,
     };
-    let heads = trait_refs(cx, head, terms)?;
+    let heads = bound_traits(cx, head, terms)?;
     let [head] = heads.as_slice() else {
         return Err(MISFIT);
     };
+    if !head.binds.is_empty() {
+        return Err(MISFIT);
+    }
     let body = conditions(cx, body, terms)?;
     Ok(Clause {
         fresh: variables.sorts,
-        trait_id: head.def_id,
-        head: head.args,
+        trait_id: head.trait_ref.def_id,
+        head: head.trait_ref.args,
         body,
     })
 }
@@ -231,10 +234,10 @@ fn conditions(cx: &mut Cx, body: &[Resolved], terms: Terms<'_>) -> Result<Vec<Pr
         terms.entry.values.now body.now ps.items) }
     ensures grows { Grows cx.old cx.new }
 {
-    let traits = trait_refs(cx, body, terms)?;
+    let traits = bound_traits(cx, body, terms)?;
     let mut predicates = Vec::new(cx.alloc);
-    for trait_ref in &traits {
-        predicates.push(predicate_of(cx, *trait_ref)?)?;
+    for bound in &traits {
+        predicates.push(predicate_of(cx, bound)?)?;
     }
     Ok(predicates)
 }

@@ -4,12 +4,13 @@ use Rattle.std.specs.Prelude.{IfSome, slice_get}
 use Rattle.std.proofs.lemmas.Option.{slice_get-get_or}
 use Rattle.std.proofs.lemmas.List.Elements.{All-nil, All-cons, All-head, All-tail}
 use Rattle.nts_text.specs.Lines.{SaysNothing}
-use Rattle.nts_text.specs.Predicates.{is_marked, may_follow, depth_behind, continues, are_predicates}
+use Rattle.nts_text.specs.Predicates.{is_marked, may_follow, may_follow_bound, may_stand, binding_behind, depth_behind, continues, are_predicates}
 use Rattle.nts_text.specs.declared.lexer.Token.{Token}
 use Rattle.nts_text.specs.declared.lexer.TokenKind.{TokenKind}
-use Rattle.nts_text.specs.declared.lexer.TokenKind.TheVariants.{Name, Open, Close, Comma, Arrow}
+use Rattle.nts_text.specs.declared.lexer.TokenKind.TheVariants.{Name, Open, Close, Comma, Greater, For, Arrow}
 use Rattle.nts_text.specs.declared.parser.Keyword.TheVariants as keywords
 use Rattle.nts_text.specs.declared.parser.Line.TheVariants as lines
+use Rattle.nts_text.specs.declared.predicates.Wanted.TheVariants as wanted
 
 abbrev pub IsNoArrow : Token → Type 0
 IsNoArrow t = t.kind ≢ Arrow
@@ -26,16 +27,26 @@ both false b h = cc
 never_follows : (many : Bool) (depth : ℕ) (k : TokenKind) → may_follow many depth k Arrow ≡ false
 never_follows many depth Open = refl
 never_follows many depth Comma = and_false (nat_lt 0 depth)
+never_follows many depth Greater = refl
 never_follows many depth Name = and_false (nat_lt 0 depth)
 never_follows many depth Close = refl
 never_follows many depth k = and_false (is_marked k)
 
-continues_without : (many : Bool) (depth : ℕ) (k : TokenKind) (ts : List Token) → continues many depth k ts ≡ true → All IsNoArrow ts
-continues_without many depth k [] h = All-nil IsNoArrow
-continues_without many depth k (t ∷ ts) h =
-    let e = both (may_follow many depth k t.kind) (continues many (depth_behind depth t.kind) t.kind ts) h in
-    All-cons IsNoArrow t ts (λ arrow. let f : true ≡ false = sym e.0 ∙ ap (may_follow many depth k) arrow ∙ never_follows many depth k in cc)
-    (continues_without many (depth_behind depth t.kind) t.kind ts e.1)
+never_bound : (k : TokenKind) → may_follow_bound k Arrow ≡ false
+never_bound For = refl
+never_bound Comma = refl
+never_bound k = refl
+
+never_stands : (many binding : Bool) (depth : ℕ) (k : TokenKind) → may_stand many binding depth k Arrow ≡ false
+never_stands many true depth k = never_bound k
+never_stands many false depth k = never_follows many depth k
+
+continues_without : (many binding : Bool) (depth : ℕ) (k : TokenKind) (ts : List Token) → continues many binding depth k ts ≡ true → All IsNoArrow ts
+continues_without many binding depth k [] h = All-nil IsNoArrow
+continues_without many binding depth k (t ∷ ts) h =
+    let e = both (may_stand many binding depth k t.kind) (continues many (binding_behind binding t.kind) (depth_behind depth t.kind) t.kind ts) h in
+    All-cons IsNoArrow t ts (λ arrow. let f : true ≡ false = sym e.0 ∙ ap (may_stand many binding depth k) arrow ∙ never_stands many binding depth k in cc)
+    (continues_without many (binding_behind binding t.kind) (depth_behind depth t.kind) t.kind ts e.1)
 
 holds_between : (P : Token → Type 0) (xs : List Token) (t : Token) (ys : List Token) → All P (xs ++ t ∷ ys) → P t
 holds_between P [] t ys h = All-head P t ys h
@@ -62,7 +73,7 @@ parts_at (t ∷ ts) (suc at) lt here =
 
 module _ (line : List ℕ) (ts : List Token) where
   -- no clause is said where there is no arrow and the tokens are no predicate
-  pub says_no_fact : All IsNoArrow ts → are_predicates false ts ≡ false → SaysNothing line ts keywords.Impl
+  pub says_no_fact : All IsNoArrow ts → are_predicates wanted.Base ts ≡ false → SaysNothing line ts keywords.Impl
   says_no_fact none fails (lines.Mode m) says = says
   says_no_fact none fails (lines.Depth d) says = says
   says_no_fact none fails (lines.Type name params) says = says
@@ -74,7 +85,7 @@ module _ (line : List ℕ) (ts : List Token) where
 
   -- .. or where there is one, and not predicates before and behind it
   pub says_no_rule : (at : ℕ) → at < length ts → IfSome (slice_get ts at) (λ t. t.kind ≡ Arrow) → All IsNoArrow (take at ts)
-      → (are_predicates false (take at ts) ≡ true → are_predicates true (drop (suc at) ts) ≡ true → ⊥) → SaysNothing line ts keywords.Impl
+      → (are_predicates wanted.Base (take at ts) ≡ true → are_predicates wanted.Many (drop (suc at) ts) ≡ true → ⊥) → SaysNothing line ts keywords.Impl
   says_no_rule at lt here first fails (lines.Mode m) says = says
   says_no_rule at lt here first fails (lines.Depth d) says = says
   says_no_rule at lt here first fails (lines.Type name params) says = says
@@ -83,8 +94,8 @@ module _ (line : List ℕ) (ts : List Token) where
   says_no_rule at lt here first fails (lines.Impl head body) (inl h) =
       let d : Token = record { kind = Name; start = 0; end = 0 } in
       let arrow : (get_or ts at d).kind ≡ Arrow = subst (λ o. IfSome o (λ t. t.kind ≡ Arrow)) (slice_get-get_or ts at d lt) here in
-      continues_without false 0 Comma ts h.0 at d lt arrow
+      continues_without false false 0 Greater ts h.0 at d lt arrow
   says_no_rule at lt here first fails (lines.Impl head body) (inr (before, after, t, parts, arrow, is, head_is, are, body_is)) =
-      let e = parted before after t at (continues_without false 0 Comma before is) arrow
+      let e = parted before after t at (continues_without false false 0 Greater before is) arrow
       (subst (λ xs. IfSome (slice_get xs at) (λ u. u.kind ≡ Arrow)) parts here) (subst (λ xs. All IsNoArrow (take at xs)) parts first) in
-      fails (ap (are_predicates false) (ap (take at) parts ∙ sym e.0) ∙ is) (ap (are_predicates true) (ap (drop (suc at)) parts ∙ sym e.1) ∙ are)
+      fails (ap (are_predicates wanted.Base) (ap (take at) parts ∙ sym e.0) ∙ is) (ap (are_predicates wanted.Many) (ap (drop (suc at)) parts ∙ sym e.1) ∙ are)

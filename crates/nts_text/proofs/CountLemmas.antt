@@ -1,7 +1,9 @@
 -- How the numbers of words at each level of brackets grow by one token.
-use Rattle.std.proofs.Common.{◌≡◌, ℕ, ◌+◌, zero, suc, Bool, true, false, List, [], ◌∷◌, ◌++◌, Option, None, Some, unwrap_or, option_to_list, reverse, get_or, map, filter, refl, sym, ap, subst, ◌∙◌, arith}
-use Rattle.std.proofs.lemmas.List.{reverse-append}
-use Rattle.nts_text.specs.Predicates.{is_open, is_close, is_word, words_at, written_nodes, arguments_behind}
+use Rattle.std.proofs.Common.{◌≡◌, ℕ, ◌+◌, ◌-◌, ◌==◌, if◌then◌else◌, length, zero, suc, Bool, true, false, List, [], ◌∷◌, ◌++◌, Option, None, Some, unwrap_or, option_to_list, reverse, get_or, map, filter, refl, sym, ap, subst, ◌∙◌, arith}
+use Rattle.std.proofs.lemmas.List.{reverse-append, length-append}
+use Rattle.nts_text.specs.declared.predicates.Role.{Role}
+use Rattle.nts_text.specs.declared.predicates.Role.TheVariants as roles
+use Rattle.nts_text.specs.Predicates.{is_open, is_close, is_word, words_at, written_nodes, arguments_behind, open_before, is_binding, role_before}
 use Rattle.nts_text.specs.declared.lexer.Token.{Token}
 use Rattle.nts_text.specs.declared.lexer.TokenKind.{TokenKind}
 use Rattle.nts_text.specs.declared.lexer.TokenKind.TheVariants.{Open, Close}
@@ -78,7 +80,7 @@ counts_comma count outer t ts opens close word counts = λ n. by n
     by zero = counts 0 ∙ sym (words_at-comma t ts opens close word)
     by (suc n) = counts (suc n) ∙ sym (words_at-other n t ts opens close)
 
-pub written_nodes-word : (t : Token) (ts : List Token) → is_word t.kind ≡ true → written_nodes (t ∷ ts) ≡ record { token = t; arguments = arguments_behind ts } ∷ written_nodes ts
+pub written_nodes-word : (t : Token) (ts : List Token) → is_word t.kind ≡ true → written_nodes (t ∷ ts) ≡ record { token = t; arguments = arguments_behind ts; role = role_before ts } ∷ written_nodes ts
 written_nodes-word t ts h = grind (arith, h)
 
 pub written_nodes-other : (t : Token) (ts : List Token) → is_word t.kind ≡ false → written_nodes (t ∷ ts) ≡ written_nodes ts
@@ -89,6 +91,29 @@ arguments_behind-open t ts h = grind (arith, h)
 
 pub arguments_behind-other : (t : Token) (ts : List Token) → is_open t.kind ≡ false → arguments_behind (t ∷ ts) ≡ 0
 arguments_behind-other t ts h = grind (arith, h)
+
+pub open_before-open : (t : Token) (ts : List Token) → is_open t.kind ≡ true → open_before (t ∷ ts) ≡ open_before ts - 1
+open_before-open t ts h = grind (arith, h)
+
+pub open_before-close : (t : Token) (ts : List Token) → is_open t.kind ≡ false → is_close t.kind ≡ true → open_before (t ∷ ts) ≡ open_before ts + 1
+open_before-close t ts h k = grind (arith, h, k)
+
+pub open_before-other : (t : Token) (ts : List Token) → is_open t.kind ≡ false → is_close t.kind ≡ false → open_before (t ∷ ts) ≡ open_before ts
+open_before-other t ts h k = grind (arith, h, k)
+
+-- one bracket less is open
+pub fewer_open : (outer rest : List ℕ) (top : Option ℕ) (n : ℕ) → outer ≡ rest ++ option_to_list top → (top ≡ None → rest ≡ []) → length outer ≡ n → length rest ≡ n - 1
+fewer_open outer rest (Some x) n e none h = omega (arith, h, ap length e ∙ length-append rest (x ∷ []))
+fewer_open outer rest None n e none h =
+    let counted : length outer ≡ length rest + 0 = ap length e ∙ length-append rest [] in
+    omega (arith, h, counted, ap length (none refl))
+
+-- the role of a word, where this is known of what stands behind it
+pub role_of-behind : (binding : Bool) (depth : ℕ) (ts : List Token) (r : Role) → r ≡ (if binding then roles.Bound else (if depth == 0 then roles.Trait else roles.Argument))
+    → binding ≡ is_binding ts → depth ≡ open_before ts → r ≡ role_before ts
+role_of-behind binding depth ts r h e f =
+    h ∙ ap (λ b. if b then roles.Bound else (if depth == 0 then roles.Trait else roles.Argument)) e
+    ∙ ap (λ d. if is_binding ts then roles.Bound else (if d == 0 then roles.Trait else roles.Argument)) f
 
 pub is_open_false : (k : TokenKind) → (k ≡ Open → ⊥) → is_open k ≡ false
 is_open_false Open h = absurd (h refl)

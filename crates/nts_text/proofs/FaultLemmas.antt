@@ -1,12 +1,12 @@
 -- What lines do not say, and why they are refused.
-use Rattle.std.proofs.Common.{◌≡◌, ◌≢◌, ℕ, ◌-◌, true, false, List, [], ◌∷◌, ◌++◌, inl, inr, length, map, take, drop, refl, sym, ap, subst, ◌∙◌, arith}
+use Rattle.std.proofs.Common.{◌≡◌, ◌≢◌, ℕ, ◌-◌, true, false, List, [], ◌∷◌, ◌++◌, ◌⊎◌, inl, inr, length, map, take, drop, refl, sym, ap, subst, ◌∙◌, arith}
 use Rattle.std.specs.Prelude.{codes, Result, Ok, Err, IsErrAnd, IfErr}
 use Rattle.std.proofs.lemmas.List.{map-append, take_all, length-drop}
 use Rattle.nts_model.specs.declared.labels.Sort.{Sort}
 use Rattle.nts_text.specs.Declarations.{sign_of, signs_of_params, unmarked, AreParams, EndsInCoinductive}
-use Rattle.nts_text.specs.Faults.{HasBadNames, IsFaultOf}
+use Rattle.nts_text.specs.Faults.{HasFreeName, HasBoundTwice, HasBadNames, IsFaultOf}
 use Rattle.nts_text.specs.Lines.{BeginsWithKeyword, Says, SaysNothing, SaysTooMuch}
-use Rattle.nts_text.specs.Reasons.{is_form_reason}
+use Rattle.nts_text.specs.Reasons.{is_form_reason, is_name_reason}
 use Rattle.nts_text.specs.Tokens.{AreTokensFrom, HasStrayByte}
 use Rattle.nts_text.specs.declared.lexer.Token.{Token}
 use Rattle.nts_text.specs.declared.lexer.TokenKind.TheVariants.{Name, Close, Open}
@@ -16,7 +16,10 @@ use Rattle.nts_text.specs.declared.parser.Keyword.TheVariants as keywords
 use Rattle.nts_text.specs.declared.parser.Line.{Line}
 use Rattle.nts_text.specs.declared.parser.Line.TheVariants as lines
 use Rattle.nts_text.specs.declared.parser.Param.{Param}
+use Rattle.nts_text.specs.declared.predicates.Node.{Node}
 use Rattle.nts_text.specs.declared.refusals.Refusal.TheVariants as reasons
+use Rattle.nts_text.specs.declared.resolver.Site.TheVariants as sites
+use Rattle.std.specs.Global.{Vec}
 use Rattle.nts_text.specs.declared.refusals.TextError.{TextError}
 use Rattle.nts_text.specs.declared.refusals.TextError.TheVariants.{Memory, Refused}
 
@@ -89,6 +92,34 @@ passed_on (Err x) e P h k = subst P (sym h) k
 pub unknown_on : {T : Type 0} (r : Result T TextError) (e : TextError) (A : Type 0) → IsErrAnd r (λ x. x ≡ e) → (e ≡ Refused reasons.UnknownName → A) → r ≡ Err (Refused reasons.UnknownName) → A
 unknown_on (Ok x) e A h k is = cc
 unknown_on (Err x) e A h k is = k (sym h ∙ (let f : x ≡ Refused reasons.UnknownName = cc in f))
+
+pub twice_on : {T : Type 0} (r : Result T TextError) (e : TextError) (A : Type 0) → IsErrAnd r (λ x. x ≡ e) → (e ≡ Refused reasons.NameDeclaredTwice → A) → r ≡ Err (Refused reasons.NameDeclaredTwice) → A
+twice_on (Ok x) e A h k is = cc
+twice_on (Err x) e A h k is = k (sym h ∙ (let f : x ≡ Refused reasons.NameDeclaredTwice = cc in f))
+
+-- why the nodes of a clause are refused, and those of a goal
+pub bad_clause : (names : NameTable) (line : List ℕ) (head body : Vec Node) (e : TextError) → is_name_reason e ≡ true
+    → (e ≡ Refused reasons.UnknownName → HasFreeName names line head.items ⊎ HasFreeName names line body.items)
+    → (e ≡ Refused reasons.NameDeclaredTwice → HasBoundTwice names line head.items ⊎ HasBoundTwice names line body.items) → HasBadNames names line e (lines.Impl head body)
+bad_clause names line head body Memory reason unknown twice = tt
+bad_clause names line head body (Refused reasons.UnknownName) reason unknown twice = unknown refl
+bad_clause names line head body (Refused reasons.NameDeclaredTwice) reason unknown twice = twice refl
+bad_clause names line head body (Refused reasons.WrongArguments) reason unknown twice = tt
+bad_clause names line head body (Refused reasons.ParameterInAClause) reason unknown twice = tt
+bad_clause names line head body (Refused reasons.UnknownCommand) reason unknown twice = cc
+bad_clause names line head body (Refused reasons.Syntax) reason unknown twice = cc
+bad_clause names line head body (Refused reasons.NumberOutOfRange) reason unknown twice = cc
+
+pub bad_goal : (names : NameTable) (line : List ℕ) (ns : Vec Node) (e : TextError) → is_name_reason e ≡ true → (e ≡ Refused reasons.ParameterInAClause → sites.Goal ≡ sites.Clause)
+    → (e ≡ Refused reasons.UnknownName → HasFreeName names line ns.items) → (e ≡ Refused reasons.NameDeclaredTwice → HasBoundTwice names line ns.items) → HasBadNames names line e (lines.Goal ns)
+bad_goal names line ns Memory reason parameter unknown twice = tt
+bad_goal names line ns (Refused reasons.UnknownName) reason parameter unknown twice = unknown refl
+bad_goal names line ns (Refused reasons.NameDeclaredTwice) reason parameter unknown twice = twice refl
+bad_goal names line ns (Refused reasons.WrongArguments) reason parameter unknown twice = tt
+bad_goal names line ns (Refused reasons.ParameterInAClause) reason parameter unknown twice = let f : sites.Goal ≡ sites.Clause = parameter refl in cc
+bad_goal names line ns (Refused reasons.UnknownCommand) reason parameter unknown twice = cc
+bad_goal names line ns (Refused reasons.Syntax) reason parameter unknown twice = cc
+bad_goal names line ns (Refused reasons.NumberOutOfRange) reason parameter unknown twice = cc
 
 -- a byte of no token
 pub fault_of_byte : (names : NameTable) (line : List ℕ) (k : Keyword) (end : ℕ) (e : TextError) → BeginsWithKeyword line k end

@@ -1,6 +1,7 @@
 -- How sorted nodes grow by one.
-use Rattle.std.proofs.Common.{◌≡◌, List, [], ◌∷◌, ◌++◌, Option, None, Some, slice_get, drop, reverse, option_to_list, refl, sym, ap, subst, ◌∙◌, append_assoc}
-use Rattle.std.proofs.lemmas.List.{reverse-append, reverse-reverse}
+use Rattle.std.proofs.Common.{◌≡◌, ℕ, ◌==◌, true, length, List, [], ◌∷◌, ◌++◌, Option, None, Some, slice_get, drop, reverse, option_to_list, refl, sym, ap, subst, ◌∙◌, append_assoc}
+use Rattle.std.proofs.lemmas.Bool.{eqb-true}
+use Rattle.std.proofs.lemmas.List.{nil_from_length, reverse-append, reverse-reverse}
 use Rattle.nts_model.specs.declared.labels.Sort.{Sort}
 use Rattle.nts_text.specs.Resolution.{argument_sorts, sort_of, AreSorted}
 use Rattle.nts_text.specs.declared.names.NameTable.{NameTable}
@@ -31,3 +32,7 @@ first_wanted stack rest None e none =
 pub sorts_left : (new rest arguments tail : List Sort) → new ≡ rest ++ reverse arguments → tail ≡ reverse rest → reverse new ≡ arguments ++ tail
 sorts_left new rest arguments tail e h =
     ap reverse e ∙ reverse-append rest (reverse arguments) ∙ ap (λ xs. xs ++ reverse rest) (reverse-reverse arguments) ∙ ap (λ xs. arguments ++ xs) (sym h)
+
+-- nothing is wanted where the stack is empty
+pub none_left : (xs : List Sort) (n : ℕ) → n ≡ length xs → (n == 0) ≡ true → xs ≡ []
+none_left xs n h e = nil_from_length xs (sym h ∙ eqb-true n 0 e)

@@ -1,9 +1,9 @@
 -- What commands say.
 use Rattle.std.specs.Prelude.{◌≡◌, ℕ, List, [], map, Some}
-use Rattle.std.specs.List.{AllZip}
 use Rattle.nts_text.specs.Lines.{bytes_of, BeginsWithKeyword, Says}
 use Rattle.nts_text.specs.NameTable.{declared_as, AddsType, AddsTrait}
-use Rattle.nts_text.specs.Resolution.{AreSorted, IsMeaningOf}
+use Rattle.nts_text.specs.Binders.{nothing_bound}
+use Rattle.nts_text.specs.Resolution.{AreSorted, AreMeanings}
 use Rattle.nts_text.specs.Tokens.{AreTokensFrom}
 use Rattle.nts_text.specs.declared.commands.Command.{Command}
 use Rattle.nts_text.specs.declared.commands.Command.TheVariants as commands
@@ -30,8 +30,10 @@ IsMeant names scope line (lines.Type name params) (commands.Type number given) =
 IsMeant names scope line (lines.Trait name sorts coinductive) (commands.Trait number word) =
     (declared_as names (bytes_of line name) ≡ Some (declared.Trait number)) × (word ≡ coinductive)
 IsMeant names scope line (lines.Impl head body) (commands.Impl first rest) =
-    AllZip (IsMeaningOf names scope line) head.items first.items × AllZip (IsMeaningOf names scope line) body.items rest.items
-IsMeant names scope line (lines.Goal ns) (commands.Goal nodes) = AllZip (IsMeaningOf names scope line) ns.items nodes.items
+    AreMeanings names scope line nothing_bound head.items first.items
+    × AreMeanings names scope line nothing_bound body.items rest.items
+IsMeant names scope line (lines.Goal ns) (commands.Goal nodes) =
+    AreMeanings names scope line nothing_bound ns.items nodes.items
 IsMeant names scope line _ _ = ⊥
 
 -- a declaration adds the type or trait that the line names, and no other line changes a name

@@ -1,29 +1,52 @@
 -- What is at fault with a line that is refused.
-use Rattle.std.specs.Prelude.{◌≡◌, ℕ, List, ◌⊎◌, Some, slice_get}
+use Rattle.std.specs.Prelude.{◌≡◌, ℕ, List, ◌⊎◌, Some, slice_get, take}
+use Rattle.nts_text.specs.Binders.{BoundNames, bound_behind, bound_after}
 use Rattle.nts_text.specs.Lines.{bytes_of, BeginsWithKeyword, HasNoKeyword, Says, SaysNothing, SaysTooMuch}
 use Rattle.nts_text.specs.NameTable.{IsTaken}
+use Rattle.nts_text.specs.Spelled.{IsNumberOf, HasNoNumber}
 use Rattle.nts_text.specs.Tokens.{AreTokensFrom, HasStrayByte}
 use Rattle.nts_text.specs.declared.lexer.Token.{Token}
+use Rattle.nts_text.specs.declared.lexer.TokenKind.TheVariants.{Static}
 use Rattle.nts_text.specs.declared.names.NameTable.{NameTable}
 use Rattle.nts_text.specs.declared.parser.Keyword.{Keyword}
 use Rattle.nts_text.specs.declared.parser.Keyword.TheVariants as keywords
 use Rattle.nts_text.specs.declared.parser.Line.{Line}
 use Rattle.nts_text.specs.declared.parser.Line.TheVariants as lines
 use Rattle.nts_text.specs.declared.predicates.Node.{Node}
+use Rattle.nts_text.specs.declared.predicates.Role.TheVariants.{Bound}
 use Rattle.nts_text.specs.declared.refusals.Refusal.TheVariants.{UnknownCommand, Syntax, NumberOutOfRange, UnknownName, NameDeclaredTwice, WrongArguments, ParameterInAClause}
 use Rattle.nts_text.specs.declared.refusals.TextError.{TextError}
 use Rattle.nts_text.specs.declared.refusals.TextError.TheVariants.{Memory, Refused}
 
--- a node's name is neither known nor declared
-abbrev pub HasFreeName : NameTable → List ℕ → List Node → Type 0
-HasFreeName names line ns = (i : ℕ) × (n : Node) × (slice_get ns i ≡ Some n) × (IsTaken names (bytes_of line n.token) → ⊥)
+-- the node's name is neither known, nor declared, nor one that its predicate's binder binds
+abbrev pub IsUnknown : NameTable → List ℕ → BoundNames → Node → Type 0
+IsUnknown names line b n =
+    (IsTaken names (bytes_of line n.token) → ⊥) × HasNoNumber (bound_behind line b n).here (bytes_of line n.token)
 
--- why the names of a line are refused: a declaration only for a name that is taken, and no other line
--- for that
+-- some node has an unknown name
+abbrev pub HasFreeName : NameTable → List ℕ → List Node → Type 0
+HasFreeName names line ns =
+    (i : ℕ) × (n : Node) × (slice_get ns i ≡ Some n) × IsUnknown names line (bound_after line (take i ns)) n
+
+-- a binder is to bind a name that it may not: `'static`, one that is known or declared, or one that its list
+-- has already
+abbrev pub IsBoundTwice : NameTable → List ℕ → BoundNames → Node → Type 0
+IsBoundTwice names line b n =
+    (n.role ≡ Bound)
+    × ((n.token.kind ≡ Static) ⊎ IsTaken names (bytes_of line n.token) ⊎ ((i : ℕ) × IsNumberOf b.next i (bytes_of line n.token)))
+
+abbrev pub HasBoundTwice : NameTable → List ℕ → List Node → Type 0
+HasBoundTwice names line ns =
+    (i : ℕ) × (n : Node) × (slice_get ns i ≡ Some n) × IsBoundTwice names line (bound_after line (take i ns)) n
+
+-- why the names of a line are refused
 abbrev pub HasBadNames : NameTable → List ℕ → TextError → Line → Type 0
 HasBadNames names line Memory l = Unit {0}
 HasBadNames names line (Refused NameDeclaredTwice) (lines.Type name params) = IsTaken names (bytes_of line name)
 HasBadNames names line (Refused NameDeclaredTwice) (lines.Trait name sorts coinductive) = IsTaken names (bytes_of line name)
+HasBadNames names line (Refused NameDeclaredTwice) (lines.Impl head body) =
+    HasBoundTwice names line head.items ⊎ HasBoundTwice names line body.items
+HasBadNames names line (Refused NameDeclaredTwice) (lines.Goal ns) = HasBoundTwice names line ns.items
 HasBadNames names line (Refused UnknownName) (lines.Impl head body) =
     HasFreeName names line head.items ⊎ HasFreeName names line body.items
 HasBadNames names line (Refused UnknownName) (lines.Goal ns) = HasFreeName names line ns.items

@@ -11,3 +11,4 @@ pub mod Names
 pub mod Reasons
 pub mod Resolution
 pub mod Spelled
+pub mod Binders

@@ -14,6 +14,7 @@ use Rattle.nts_text.specs.declared.parser.Line.TheVariants as lines
 use Rattle.nts_text.specs.declared.parser.Mode.{Mode}
 use Rattle.nts_text.specs.declared.parser.Mode.TheVariants as modes
 use Rattle.nts_text.specs.declared.predicates.Node.{Node}
+use Rattle.nts_text.specs.declared.predicates.Wanted.TheVariants as wanted
 
 abbrev pub word_of_keyword : Keyword → List ℕ
 word_of_keyword keywords.Mode = codes "mode"
@@ -44,13 +45,13 @@ HasNoKeyword line =
     × ((token_begins line start ≡ false)
     ⊎ ((t : Token) × IsTokenAt line start t × ((k : Keyword) → bytes_of line t ≢ word_of_keyword k)))
 
--- the tokens are a predicate, and behind `<-`, if that is there, predicates
+-- the tokens are a predicate without a binder, and behind `<-`, if that is there, predicates
 abbrev pub IsClause : List Token → List Node → List Node → Type 0
 IsClause ts head body =
-    ((are_predicates false ts ≡ true) × (head ≡ written_nodes ts) × (body ≡ []))
+    ((are_predicates wanted.Base ts ≡ true) × (head ≡ written_nodes ts) × (body ≡ []))
     ⊎ ((before after : List Token) × (t : Token) × (ts ≡ before ++ t ∷ after) × (t.kind ≡ Arrow)
-    × (are_predicates false before ≡ true) × (head ≡ written_nodes before)
-    × (are_predicates true after ≡ true) × (body ≡ written_nodes after))
+    × (are_predicates wanted.Base before ≡ true) × (head ≡ written_nodes before)
+    × (are_predicates wanted.Many after ≡ true) × (body ≡ written_nodes after))
 
 -- what the tokens behind a keyword say
 abbrev pub Says : List ℕ → List Token → Keyword → Line → Type 0
@@ -62,7 +63,7 @@ Says line ts keywords.Type (lines.Type name params) =
 Says line ts keywords.Trait (lines.Trait name sorts coinductive) =
     (rest : List Token) × (ts ≡ name ∷ rest) × (name.kind ≡ Name) × IsTraitBody line rest sorts.items coinductive
 Says line ts keywords.Impl (lines.Impl head body) = IsClause ts head.items body.items
-Says line ts keywords.Goal (lines.Goal ns) = (are_predicates false ts ≡ true) × (ns.items ≡ written_nodes ts)
+Says line ts keywords.Goal (lines.Goal ns) = (are_predicates wanted.One ts ≡ true) × (ns.items ≡ written_nodes ts)
 Says line ts _ _ = ⊥
 
 -- the tokens behind a keyword say nothing

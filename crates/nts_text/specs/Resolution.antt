@@ -2,15 +2,19 @@
 use Rattle.std.specs.Prelude.{◌≡◌, ℕ, ◌<◌, List, [], ◌∷◌, ◌++◌, length, vec_len, Option, None, Some, slice_get, drop}
 use Rattle.std.specs.Option.{option_map_or}
 use Rattle.nts_model.specs.declared.labels.Sort.{Sort}
-use Rattle.nts_model.specs.declared.labels.Sort.TheVariants.{Ty, Region}
+use Rattle.nts_model.specs.declared.labels.Sort.TheVariants.{Ty, Region, Const}
 use Rattle.nts_text.specs.declared.names.NameTable.{NameTable}
 use Rattle.nts_text.specs.Lines.{bytes_of}
-use Rattle.nts_text.specs.NameTable.{StandsFor}
-use Rattle.nts_text.specs.Spelled.{type_names, region_names, IsNumberOf}
-use Rattle.nts_text.specs.declared.lexer.TokenKind.TheVariants.{TypeVariable, TypeParam, RegionVariable, RegionParam, Static}
+use Rattle.nts_text.specs.NameTable.{IsTaken, StandsFor}
+use Rattle.nts_text.specs.Binders.{BoundNames, bound_behind}
+use Rattle.nts_text.specs.Spelled.{type_names, region_names, IsNumberOf, HasNoNumber}
+use Rattle.nts_text.specs.declared.lexer.TokenKind.{TokenKind}
+use Rattle.nts_text.specs.declared.lexer.TokenKind.TheVariants.{Name, TypeVariable, TypeParam, RegionVariable, RegionParam, Static}
 use Rattle.nts_text.specs.declared.names.Declared.TheVariants as declared
 use Rattle.nts_text.specs.declared.names.Scope.{Scope}
 use Rattle.nts_text.specs.declared.predicates.Node.{Node}
+use Rattle.nts_text.specs.declared.predicates.Role.{Role}
+use Rattle.nts_text.specs.declared.predicates.Role.TheVariants as roles
 use Rattle.nts_text.specs.declared.resolver.Resolved.{Resolved}
 use Rattle.nts_text.specs.declared.resolver.Resolved.TheVariants as nodes
 
@@ -28,9 +32,11 @@ argument_sorts names (nodes.Trait n arguments) = trait_sorts names n
 argument_sorts names (nodes.Ctor n arguments) = type_sorts names n
 argument_sorts names _ = []
 
--- the sort of a node; a predicate has none
+-- the sort of a node; a predicate has none, nor has what stands in front of it
 abbrev pub sort_of : Resolved → Option Sort
+sort_of (nodes.Binds s) = None
 sort_of (nodes.Trait n arguments) = None
+sort_of (nodes.BoundRegion n) = Some Region
 sort_of (nodes.RegionVariable n) = Some Region
 sort_of (nodes.RegionParam n) = Some Region
 sort_of nodes.Static = Some Region
@@ -42,27 +48,55 @@ IsDeclared names (nodes.Trait n arguments) = (n < vec_len names.traits) × (argu
 IsDeclared names (nodes.Ctor n arguments) = (n < vec_len names.types) × (arguments ≡ length (type_sorts names n))
 IsDeclared names _ = Unit {0}
 
+-- what a node with this meaning is in its predicate
+abbrev pub role_of : Resolved → Role
+role_of (nodes.Binds s) = roles.Bound
+role_of (nodes.Trait n arguments) = roles.Trait
+role_of _ = roles.Argument
+
 -- The nodes are of the sorts that are wanted, and each is followed by arguments of the sorts that
--- it takes. Where no sort is wanted a predicate begins.
+-- it takes. Where no sort is wanted a predicate begins, or a name that its binder binds stands.
 abbrev pub AreSorted : NameTable → List Sort → List Resolved → Type 0
 AreSorted names wanted [] = wanted ≡ []
 AreSorted names wanted (r ∷ rs) =
     (sort_of r ≡ slice_get wanted 0) × AreSorted names (argument_sorts names r ++ drop 1 wanted) rs
 
--- the node's word means this trait, type, variable, parameter or region
-abbrev pub IsMeaningOf : NameTable → Scope → List ℕ → Node → Resolved → Type 0
-IsMeaningOf names scope line n (nodes.Trait i arguments) =
+-- a binder binds a type by its name, and a region by its name behind a mark
+abbrev pub IsBoundAs : Sort → TokenKind → Type 0
+IsBoundAs Ty k = k ≡ Name
+IsBoundAs Region k = k ≡ RegionParam
+IsBoundAs Const k = ⊥
+
+-- the node's word means this trait, type, variable, parameter or region, or this one of the names that
+-- the predicate's binder binds; or it is a name for a binder to bind, which is free and not yet in its list
+abbrev pub IsMeaningOf : NameTable → Scope → List ℕ → BoundNames → Node → Resolved → Type 0
+IsMeaningOf names scope line b n (nodes.Binds s) =
+    IsBoundAs s n.token.kind × (IsTaken names (bytes_of line n.token) → ⊥) × HasNoNumber b.next (bytes_of line n.token)
+IsMeaningOf names scope line b n (nodes.BoundType i) =
+    (n.token.kind ≡ Name) × (n.arguments ≡ 0) × IsNumberOf b.here i (bytes_of line n.token)
+IsMeaningOf names scope line b n (nodes.BoundRegion i) =
+    (n.token.kind ≡ RegionParam) × IsNumberOf b.here i (bytes_of line n.token)
+IsMeaningOf names scope line b n (nodes.Trait i arguments) =
     StandsFor names (bytes_of line n.token) (declared.Trait i) × (arguments ≡ n.arguments)
-IsMeaningOf names scope line n (nodes.Ctor i arguments) =
+IsMeaningOf names scope line b n (nodes.Ctor i arguments) =
     StandsFor names (bytes_of line n.token) (declared.Type i) × (arguments ≡ n.arguments)
-IsMeaningOf names scope line n (nodes.Int t) = StandsFor names (bytes_of line n.token) (declared.Int t)
-IsMeaningOf names scope line n (nodes.Uint t) = StandsFor names (bytes_of line n.token) (declared.Uint t)
-IsMeaningOf names scope line n (nodes.TypeVariable i) =
+IsMeaningOf names scope line b n (nodes.Int t) = StandsFor names (bytes_of line n.token) (declared.Int t)
+IsMeaningOf names scope line b n (nodes.Uint t) = StandsFor names (bytes_of line n.token) (declared.Uint t)
+IsMeaningOf names scope line b n (nodes.TypeVariable i) =
     (n.token.kind ≡ TypeVariable) × IsNumberOf (type_names scope.variables) i (bytes_of line n.token)
-IsMeaningOf names scope line n (nodes.TypeParam i) =
+IsMeaningOf names scope line b n (nodes.TypeParam i) =
     (n.token.kind ≡ TypeParam) × IsNumberOf (type_names scope.parameters) i (bytes_of line n.token)
-IsMeaningOf names scope line n (nodes.RegionVariable i) =
+IsMeaningOf names scope line b n (nodes.RegionVariable i) =
     (n.token.kind ≡ RegionVariable) × IsNumberOf (region_names scope.variables) i (bytes_of line n.token)
-IsMeaningOf names scope line n (nodes.RegionParam i) =
-    (n.token.kind ≡ RegionParam) × IsNumberOf (region_names scope.parameters) i (bytes_of line n.token)
-IsMeaningOf names scope line n nodes.Static = n.token.kind ≡ Static
+IsMeaningOf names scope line b n (nodes.RegionParam i) =
+    (n.token.kind ≡ RegionParam) × HasNoNumber b.here (bytes_of line n.token)
+    × IsNumberOf (region_names scope.parameters) i (bytes_of line n.token)
+IsMeaningOf names scope line b n nodes.Static = n.token.kind ≡ Static
+
+-- each node has its meaning, where this is bound before the first
+abbrev pub AreMeanings : NameTable → Scope → List ℕ → BoundNames → List Node → List Resolved → Type 0
+AreMeanings names scope line b [] [] = Unit {0}
+AreMeanings names scope line b (n ∷ ns) (r ∷ rs) =
+    (n.role ≡ role_of r) × IsMeaningOf names scope line b n r
+    × AreMeanings names scope line (bound_behind line b n) ns rs
+AreMeanings names scope line b _ _ = ⊥

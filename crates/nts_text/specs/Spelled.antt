@@ -14,6 +14,10 @@ region_names s = map (λ v. v.items) s.regions.keys
 abbrev pub IsNumberOf : List (List ℕ) → ℕ → List ℕ → Type 0
 IsNumberOf names n name = slice_get names n ≡ Some name
 
+-- the name is none of these
+abbrev pub HasNoNumber : List (List ℕ) → List ℕ → Type 0
+HasNoNumber names name = (n : ℕ) → IsNumberOf names n name → ⊥
+
 -- names may be added, behind those that are there
 abbrev pub Lengthens : List (List ℕ) → List (List ℕ) → Type 0
 Lengthens old new = (more : List (List ℕ)) × (new ≡ old ++ more)

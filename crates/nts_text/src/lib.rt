@@ -16,9 +16,9 @@ mod resolver;
 
 pub use commands::{Command, read_command};
 pub use lexer::{Token, TokenKind, skip_blanks, token_at, tokens_of};
-pub use names::{Declared, NameTable, Scope, Signature, Spellings, known_type};
+pub use names::{Bounds, Declared, NameTable, Scope, Signature, Spellings, known_type};
 pub use parser::{Keyword, Line, Mode, Param, keyword_of, line_of, number_of};
-pub use predicates::{Node, predicates_of};
+pub use predicates::{Node, Role, Wanted, predicates_of};
 pub use reader::{ReadError, next_line};
 pub use refusals::{Refusal, TextError};
 pub use resolver::{Resolved, Site, resolve_nodes};

@@ -1,6 +1,6 @@
 //! The names that lines declare, and those that they only use.
 
-ghost use Rattle.std.specs.Prelude.{◌≡◌, ◌≢◌, ◌<◌, ◌++◌, ◌∷◌, [], None, Some, Err, true, ℕ, List, vec_len, map, IfSome, IfOk, IfErr, OnOk, IsNone};
+ghost use Rattle.std.specs.Prelude.{◌≡◌, ◌≢◌, ◌<◌, ◌++◌, ◌∷◌, [], None, Some, Err, true, false, ℕ, List, vec_len, map, IfSome, IfOk, IfErr, OnOk, IsNone};
 ghost use Rattle.std.specs.List.{list_all};
 ghost use Rattle.indexmap.specs.IndexMap.{values};
 ghost use Rattle.indexmap.specs.IndexSet.{index_set_len};
@@ -14,6 +14,7 @@ use crate::refusals::{Refusal, TextError};
 use indexmap::{IndexMap, IndexSet};
 use nts_model::{IntTy, Sort, UintTy};
 use std::alloc::{AllocError, Global};
+use std::mem;
 
 /// What a name stands for. Types and traits have numbers of their own, from 0 on.
 #[derive(Clone, Copy, PartialEq, Eq, Hash)]
@@ -213,5 +214,58 @@ impl Scope {
         ensures parameters { self.new.parameters ≡ self.old.parameters }
     {
         self.variables = Spellings::new(alloc);
+    }
+}
+
+/// The names that binders bind, with their marks. A name's number is its place in its binder's list.
+#[derive(Drop)]
+pub struct Bounds {
+    /// The names that the binder of the predicate at hand binds.
+    pub here: IndexSet<Vec<u8>>,
+    /// Those of the next predicate's binder, as far as it is read.
+    pub next: IndexSet<Vec<u8>>,
+}
+
+impl Bounds {
+    ghost use Rattle.nts_text.specs.Binders.{bound_names, nothing_bound, with_bound, predicate_begun};
+    ghost use Rattle.nts_text.specs.Spelled.{HasNoNumber};
+
+    /// No names.
+    pub fn new(alloc: Global) -> Self
+        ensures { bound_names result ≡ nothing_bound }
+    {
+        Bounds {
+            here: IndexSet::new(alloc),
+            next: IndexSet::new(alloc),
+        }
+    }
+
+    /// Adds a name to those of the next predicate's binder. Answers whether it was none of them.
+    #[tactic(auto, using(crate::proofs::SpellingLemmas::spelling))]
+    pub fn bind(&mut self, alloc: Global, name: &[u8]) -> Result<bool, AllocError>
+        ensures bound { IfOk result (λ new. new ≡ true →
+            bound_names self.new ≡ with_bound (bound_names self.old) name.now) }
+        ensures new { IfOk result (λ new. new ≡ true →
+            HasNoNumber (bound_names self.old).next name.now) }
+        ensures twice { IfOk result (λ new. new ≡ false →
+            (n : ℕ) × IsNumberOf (bound_names self.old).next n name.now) }
+    {
+        let (_, is_new) = self.next.insert_full(Vec::from_slice(alloc, name)?)?;
+        Ok(is_new)
+    }
+
+    /// Begins the next predicate.
+    pub fn begin_predicate(&mut self, alloc: Global)
+        ensures { bound_names self.new ≡ predicate_begun (bound_names self.old) }
+    {
+        self.here = mem::replace(&mut self.next, IndexSet::new(alloc));
+    }
+
+    /// The number of a name that the binder of the predicate at hand binds.
+    pub fn number(&self, name: &[u8]) -> Option<usize>
+        ensures found { IfSome result (λ n. IsNumberOf (bound_names self.now).here n name.now) }
+        ensures none { IsNone result → HasNoNumber (bound_names self.now).here name.now }
+    {
+        self.here.get_index_of(name)
     }
 }

@@ -16,7 +16,7 @@ ghost use Rattle.nts_text.specs.declared.parser.Param.{Param};
 ghost use Rattle.nts_model.specs.declared.labels.Sort.{Sort};
 
 use crate::lexer::{Token, TokenKind, skip_blanks, token_at};
-use crate::predicates::{Node, predicates_of};
+use crate::predicates::{Node, Wanted, predicates_of};
 use crate::refusals::{Refusal, TextError};
 use nts_model::{Sort, Variance};
 use std::alloc::{AllocError, Global};
@@ -352,7 +352,7 @@ fn arrow_of(tokens: &[Token]) -> Option<usize>
         .position(|token| token.kind == TokenKind::Arrow)
 }
 
-/// A clause: a predicate, and the predicates behind `<-` if that is there.
+/// A clause: a predicate that binds nothing, and the predicates behind `<-` if that is there.
 #[tactic(auto, using(crate::proofs::NodeLemmas::inside_nodes, crate::proofs::NodeLemmas::inside_nodes_take, crate::proofs::NodeLemmas::inside_nodes_drop))]
 fn impl_line(alloc: Global, line: &[u8], tokens: &[Token]) -> Result<Option<Line>, AllocError>
     requires { All (IsInside line.now) tokens.now }
@@ -361,7 +361,7 @@ fn impl_line(alloc: Global, line: &[u8], tokens: &[Token]) -> Result<Option<Line
     ensures none { IfOk result (λ o. IsNone o → SaysNothing line.now tokens.now Keyword.Impl) }
 {
     let Some(at) = arrow_of(tokens) else {
-        return match predicates_of(alloc, tokens, false)? {
+        return match predicates_of(alloc, tokens, Wanted::Base)? {
             Some(head) => Ok(Some(Line::Impl {
                 head,
                 body: Vec::new(alloc),
@@ -369,10 +369,10 @@ fn impl_line(alloc: Global, line: &[u8], tokens: &[Token]) -> Result<Option<Line
             None => Ok(None),
         };
     };
-    let Some(head) = predicates_of(alloc, &tokens[..at], false)? else {
+    let Some(head) = predicates_of(alloc, &tokens[..at], Wanted::Base)? else {
         return Ok(None);
     };
-    let Some(body) = predicates_of(alloc, &tokens[at + 1..], true)? else {
+    let Some(body) = predicates_of(alloc, &tokens[at + 1..], Wanted::Many)? else {
         return Ok(None);
     };
     Ok(Some(Line::Impl { head, body }))
@@ -384,9 +384,9 @@ fn goal_line(alloc: Global, line: &[u8], tokens: &[Token]) -> Result<Option<Line
     requires { All (IsInside line.now) tokens.now }
     ensures says { IfOk result (λ o. IfSome o (Says line.now tokens.now Keyword.Goal)) }
     ensures inside { IfOk result (λ o. IfSome o (NamesAreInside line.now)) }
-    ensures syntax { IfOk result (λ o. IsNone o → are_predicates false tokens.now ≡ false) }
+    ensures syntax { IfOk result (λ o. IsNone o → are_predicates Wanted.One tokens.now ≡ false) }
 {
-    match predicates_of(alloc, tokens, false)? {
+    match predicates_of(alloc, tokens, Wanted::One)? {
         Some(nodes) => Ok(Some(Line::Goal(nodes))),
         None => Ok(None),
     }
@@ -406,7 +406,7 @@ pub fn line_of(
     ensures syntax { result ≡ Err (Refused Syntax) → SaysNothing line.now tokens.now keyword }
     ensures range { result ≡ Err (Refused NumberOutOfRange) → (keyword ≡ Keyword.Depth) × SaysTooMuch line.now tokens.now }
     ensures depth { keyword ≡ Keyword.Depth → IsErr result → (t : Token) → tokens.now ≡ t ∷ [] → t.kind ≡ TokenKind.Number → 65535 < decimal_value (bytes_of line.now t) }
-    ensures goal { keyword ≡ Keyword.Goal → result ≡ Err (Refused Syntax) → are_predicates false tokens.now ≡ false }
+    ensures goal { keyword ≡ Keyword.Goal → result ≡ Err (Refused Syntax) → are_predicates Wanted.One tokens.now ≡ false }
 {
     let read = match keyword {
         Keyword::Mode => mode_line(line, tokens),

@@ -1,23 +1,23 @@
 //! Predicates whose names have become numbers.
 
-ghost use Rattle.std.specs.Prelude.{◌≡◌, ◌≢◌, true, None, Some, Err, ◌++◌, [], length, vec_len, reverse, All, IfOk, IfErr, OnOk, MatchResult};
-ghost use Rattle.std.specs.List.{AllZip};
+ghost use Rattle.std.specs.Prelude.{◌≡◌, ◌≢◌, true, None, Some, Err, ◌++◌, [], length, vec_len, reverse, All, IfOk, IfErr, IsErr, OnOk, MatchResult};
 ghost use Rattle.nts_text.specs.Lines.{bytes_of};
 ghost use Rattle.nts_text.specs.NameTable.{IsTaken, StandsFor};
-ghost use Rattle.nts_text.specs.Faults.{HasFreeName};
+ghost use Rattle.nts_text.specs.Binders.{BoundNames, bound_names, bound_behind, nothing_bound};
+ghost use Rattle.nts_text.specs.Faults.{IsUnknown, HasFreeName, IsBoundTwice, HasBoundTwice};
 ghost use Rattle.nts_text.specs.Spelled.{KeepsNames};
 ghost use Rattle.nts_text.specs.Names.{is_numbered};
 ghost use Rattle.nts_text.specs.Reasons.{is_name_reason};
 ghost use Rattle.nts_text.specs.Tokens.{IsInside};
-ghost use Rattle.nts_text.specs.Resolution.{argument_sorts, sort_of, IsDeclared, IsMeaningOf, AreSorted};
+ghost use Rattle.nts_text.specs.Resolution.{argument_sorts, sort_of, role_of, IsDeclared, IsMeaningOf, AreMeanings, AreSorted};
 ghost use Rattle.nts_text.specs.declared.names.Scope.{Scope};
 ghost use Rattle.nts_text.specs.declared.refusals.TextError.TheVariants.{Refused};
-ghost use Rattle.nts_text.specs.declared.refusals.Refusal.TheVariants.{NameDeclaredTwice, ParameterInAClause, UnknownName};
+ghost use Rattle.nts_text.specs.declared.refusals.Refusal.TheVariants.{NameDeclaredTwice, ParameterInAClause, UnknownName, WrongArguments};
 
 use crate::lexer::TokenKind;
-use crate::names::{Declared, NameTable, Scope, Signature};
+use crate::names::{Bounds, Declared, NameTable, Scope, Signature};
 use crate::parser::text;
-use crate::predicates::Node;
+use crate::predicates::{Node, Role};
 use crate::refusals::{Refusal, TextError};
 use nts_model::{IntTy, Sort, UintTy};
 use std::alloc::{AllocError, Global};
@@ -29,10 +29,15 @@ pub enum Site {
     Goal,
 }
 
-/// A node whose name has become a number: a trait's, a type's, or that of a variable or of a
-/// parameter among those of its sort.
+/// A node whose name has become a number: a trait's, a type's, that of a variable or of a parameter
+/// among those of its sort, or its place in the list of its predicate's binder.
 #[derive(Clone, Copy, PartialEq, Eq, Hash)]
 pub enum Resolved {
+    /// A name for the binder of the next predicate to bind. It has the next place of the list.
+    Binds(Sort),
+    /// A name that the binder binds.
+    BoundType(usize),
+    BoundRegion(usize),
     Trait { number: usize, arguments: usize },
     Ctor { number: usize, arguments: usize },
     Int(IntTy),
@@ -67,8 +72,10 @@ fn declared(names: &NameTable, line: &[u8], node: Node) -> Result<Declared, Text
 fn predicate(names: &NameTable, line: &[u8], node: Node) -> Result<Resolved, TextError>
     requires { IsInside line.now node.token }
     ensures sort { IfOk result (λ r. sort_of r ≡ None) }
+    ensures role { IfOk result (λ r. role_of r ≡ Role.Trait) }
     ensures declared { IfOk result (IsDeclared names.now) }
-    ensures means { (scope : Scope) → IfOk result (IsMeaningOf names.now scope line.now node) }
+    ensures means { (scope : Scope) (b : BoundNames) →
+        IfOk result (IsMeaningOf names.now scope line.now b node) }
     ensures reasons { IfErr result (λ e. is_name_reason e ≡ true) }
     ensures reason { result ≢ Err (Refused ParameterInAClause) }
     ensures unknown { result ≡ Err (Refused UnknownName) → IsTaken names.now (bytes_of line.now node.token) → ⊥ }
@@ -86,12 +93,14 @@ fn predicate(names: &NameTable, line: &[u8], node: Node) -> Result<Resolved, Tex
     })
 }
 
-/// A name that stands in a type's place.
+/// A known or declared name that stands in a type's place.
 fn named_type(names: &NameTable, line: &[u8], node: Node) -> Result<Resolved, TextError>
     requires { IsInside line.now node.token }
     ensures sort { IfOk result (λ r. sort_of r ≡ Some Sort.Ty) }
+    ensures role { IfOk result (λ r. role_of r ≡ Role.Argument) }
     ensures declared { IfOk result (IsDeclared names.now) }
-    ensures means { (scope : Scope) → IfOk result (IsMeaningOf names.now scope line.now node) }
+    ensures means { (scope : Scope) (b : BoundNames) →
+        IfOk result (IsMeaningOf names.now scope line.now b node) }
     ensures reasons { IfErr result (λ e. is_name_reason e ≡ true) }
     ensures reason { result ≢ Err (Refused ParameterInAClause) }
     ensures unknown { result ≡ Err (Refused UnknownName) → IsTaken names.now (bytes_of line.now node.token) → ⊥ }
@@ -135,21 +144,115 @@ struct Reading<'a> {
 }
 
 impl Reading<'_> {
-    /// A node that stands in a type's place.
-    fn type_node(&self, scope: &mut Scope, node: Node) -> Result<Resolved, TextError>
-        requires { IsInside self.now.line.now node.token }
-        ensures sort { IfOk result (λ r. sort_of r ≡ Some Sort.Ty) }
+    /// A name for the next binder to bind.
+    fn bound(&self, bounds: &mut Bounds, node: Node) -> Result<Resolved, TextError>
+        requires inside { IsInside self.now.line.now node.token }
+        requires role { node.role ≡ Role.Bound }
+        ensures sort { IfOk result (λ r. sort_of r ≡ None) }
+        ensures role { IfOk result (λ r. role_of r ≡ Role.Bound) }
         ensures declared { IfOk result (IsDeclared self.now.names.now) }
-        ensures means { IfOk result (IsMeaningOf self.now.names.now scope.new self.now.line.now node) }
+        ensures means { (scope : Scope) → IfOk result (IsMeaningOf self.now.names.now scope
+            self.now.line.now (bound_names bounds.old) node) }
+        ensures bounds { OnOk result (bound_names bounds.new ≡
+            bound_behind self.now.line.now (bound_names bounds.old) node) }
+        ensures reasons { IfErr result (λ e. is_name_reason e ≡ true) }
+        ensures parameter { result ≢ Err (Refused ParameterInAClause) }
+        ensures unknown { result ≢ Err (Refused UnknownName) }
+        ensures twice { result ≡ Err (Refused NameDeclaredTwice) →
+            IsBoundTwice self.now.names.now self.now.line.now (bound_names bounds.old) node }
+    {
+        let sort = match node.token.kind {
+            TokenKind::Name => Sort::Ty,
+            TokenKind::RegionParam => Sort::Region,
+            TokenKind::Static => return refused(Refusal::NameDeclaredTwice),
+            _ => return refused(Refusal::WrongArguments),
+        };
+        let name = text(self.line, node.token);
+        if self.names.lookup(name).is_some() {
+            return refused(Refusal::NameDeclaredTwice);
+        }
+        let is_new = bounds.bind(self.alloc, name)?;
+        if !is_new {
+            return refused(Refusal::NameDeclaredTwice);
+        }
+        Ok(Resolved::Binds(sort))
+    }
+
+    /// A node that stands in a trait's place. The names that were to be bound are now bound.
+    fn trait_node(&self, bounds: &mut Bounds, node: Node) -> Result<Resolved, TextError>
+        requires inside { IsInside self.now.line.now node.token }
+        requires role { node.role ≡ Role.Trait }
+        ensures sort { IfOk result (λ r. sort_of r ≡ None) }
+        ensures role { IfOk result (λ r. role_of r ≡ Role.Trait) }
+        ensures declared { IfOk result (IsDeclared self.now.names.now) }
+        ensures means { (scope : Scope) (b : BoundNames) →
+            IfOk result (IsMeaningOf self.now.names.now scope self.now.line.now b node) }
+        ensures bounds { bound_names bounds.new ≡ bound_behind self.now.line.now (bound_names
+            bounds.old) node }
+        ensures reasons { IfErr result (λ e. is_name_reason e ≡ true) }
+        ensures parameter { result ≢ Err (Refused ParameterInAClause) }
+        ensures unknown { result ≡ Err (Refused UnknownName) →
+            IsUnknown self.now.names.now self.now.line.now (bound_names bounds.old) node }
+        ensures twice { result ≢ Err (Refused NameDeclaredTwice) }
+    {
+        bounds.begin_predicate(self.alloc);
+        match bounds.number(text(self.line, node.token)) {
+            Some(_) => refused(Refusal::WrongArguments),
+            None => predicate(self.names, self.line, node),
+        }
+    }
+
+    /// A name that stands in a type's place: one that is bound, or a known or declared one.
+    fn type_name(&self, bounds: &Bounds, node: Node) -> Result<Resolved, TextError>
+        requires inside { IsInside self.now.line.now node.token }
+        requires role { node.role ≡ Role.Argument }
+        requires name { node.token.kind ≡ TokenKind.Name }
+        ensures sort { IfOk result (λ r. sort_of r ≡ Some Sort.Ty) }
+        ensures role { IfOk result (λ r. role_of r ≡ Role.Argument) }
+        ensures declared { IfOk result (IsDeclared self.now.names.now) }
+        ensures means { (scope : Scope) → IfOk result (IsMeaningOf self.now.names.now scope
+            self.now.line.now (bound_names bounds.now) node) }
+        ensures reasons { IfErr result (λ e. is_name_reason e ≡ true) }
+        ensures parameter { result ≢ Err (Refused ParameterInAClause) }
+        ensures unknown { result ≡ Err (Refused UnknownName) →
+            IsUnknown self.now.names.now self.now.line.now (bound_names bounds.now) node }
+        ensures twice { result ≢ Err (Refused NameDeclaredTwice) }
+    {
+        match bounds.number(text(self.line, node.token)) {
+            Some(number) => {
+                if node.arguments != 0 {
+                    return refused(Refusal::WrongArguments);
+                }
+                Ok(Resolved::BoundType(number))
+            }
+            None => named_type(self.names, self.line, node),
+        }
+    }
+
+    /// A node that stands in a type's place.
+    fn type_node(
+        &self,
+        bounds: &Bounds,
+        scope: &mut Scope,
+        node: Node,
+    ) -> Result<Resolved, TextError>
+        requires inside { IsInside self.now.line.now node.token }
+        requires role { node.role ≡ Role.Argument }
+        ensures sort { IfOk result (λ r. sort_of r ≡ Some Sort.Ty) }
+        ensures role { IfOk result (λ r. role_of r ≡ Role.Argument) }
+        ensures declared { IfOk result (IsDeclared self.now.names.now) }
+        ensures means { IfOk result (IsMeaningOf self.now.names.now scope.new self.now.line.now
+            (bound_names bounds.now) node) }
         ensures kept { KeepsNames scope.old scope.new }
         ensures reasons { IfErr result (λ e. is_name_reason e ≡ true) }
         ensures parameter { result ≡ Err (Refused ParameterInAClause) → self.now.site ≡ Site.Clause }
-        ensures unknown { result ≡ Err (Refused UnknownName) → IsTaken self.now.names.now (bytes_of self.now.line.now node.token) → ⊥ }
-        ensures declares { result ≢ Err (Refused NameDeclaredTwice) }
+        ensures unknown { result ≡ Err (Refused UnknownName) →
+            IsUnknown self.now.names.now self.now.line.now (bound_names bounds.now) node }
+        ensures twice { result ≢ Err (Refused NameDeclaredTwice) }
     {
         let name = text(self.line, node.token);
         match node.token.kind {
-            TokenKind::Name => named_type(self.names, self.line, node),
+            TokenKind::Name => self.type_name(bounds, node),
             TokenKind::TypeVariable => {
                 Ok(Resolved::TypeVariable(scope.variables.type_number(self.alloc, name)?))
             }
@@ -161,17 +264,72 @@ impl Reading<'_> {
         }
     }
 
-    /// A node that stands in a region's place.
-    fn region_node(&self, scope: &mut Scope, node: Node) -> Result<Resolved, TextError>
-        requires { IsInside self.now.line.now node.token }
+    /// A region that is written as a parameter is: one that is bound, or a parameter.
+    fn region_name(
+        &self,
+        bounds: &Bounds,
+        scope: &mut Scope,
+        node: Node,
+    ) -> Result<Resolved, TextError>
+        requires inside { IsInside self.now.line.now node.token }
+        requires name { node.token.kind ≡ TokenKind.RegionParam }
         ensures sort { IfOk result (λ r. sort_of r ≡ Some Sort.Region) }
+        ensures role { IfOk result (λ r. role_of r ≡ Role.Argument) }
         ensures declared { IfOk result (IsDeclared self.now.names.now) }
-        ensures means { IfOk result (IsMeaningOf self.now.names.now scope.new self.now.line.now node) }
+        ensures means { IfOk result (IsMeaningOf self.now.names.now scope.new self.now.line.now
+            (bound_names bounds.now) node) }
         ensures kept { KeepsNames scope.old scope.new }
         ensures reasons { IfErr result (λ e. is_name_reason e ≡ true) }
         ensures parameter { result ≡ Err (Refused ParameterInAClause) → self.now.site ≡ Site.Clause }
-        ensures unknown { result ≡ Err (Refused UnknownName) → IsTaken self.now.names.now (bytes_of self.now.line.now node.token) → ⊥ }
-        ensures declares { result ≢ Err (Refused NameDeclaredTwice) }
+        ensures unknown { result ≢ Err (Refused UnknownName) }
+        ensures twice { result ≢ Err (Refused NameDeclaredTwice) }
+    {
+        let name = text(self.line, node.token);
+        if let Some(number) = bounds.number(name) {
+            return Ok(Resolved::BoundRegion(number));
+        }
+        allows_parameter(self.site)?;
+        Ok(Resolved::RegionParam(scope.parameters.region_number(self.alloc, name)?))
+    }
+
+    /// Why a name that stands in a region's place is refused.
+    fn no_region(&self, bounds: &Bounds, node: Node) -> Result<Resolved, TextError>
+        requires inside { IsInside self.now.line.now node.token }
+        requires role { node.role ≡ Role.Argument }
+        ensures refused { IfErr result (λ e. e ≢ Refused UnknownName → e ≡ Refused WrongArguments) }
+        ensures unknown { result ≡ Err (Refused UnknownName) →
+            IsUnknown self.now.names.now self.now.line.now (bound_names bounds.now) node }
+        ensures none { IsErr result }
+    {
+        match bounds.number(text(self.line, node.token)) {
+            Some(_) => refused(Refusal::WrongArguments),
+            None => {
+                let _ = declared(self.names, self.line, node)?;
+                refused(Refusal::WrongArguments)
+            }
+        }
+    }
+
+    /// A node that stands in a region's place.
+    fn region_node(
+        &self,
+        bounds: &Bounds,
+        scope: &mut Scope,
+        node: Node,
+    ) -> Result<Resolved, TextError>
+        requires inside { IsInside self.now.line.now node.token }
+        requires role { node.role ≡ Role.Argument }
+        ensures sort { IfOk result (λ r. sort_of r ≡ Some Sort.Region) }
+        ensures role { IfOk result (λ r. role_of r ≡ Role.Argument) }
+        ensures declared { IfOk result (IsDeclared self.now.names.now) }
+        ensures means { IfOk result (IsMeaningOf self.now.names.now scope.new self.now.line.now
+            (bound_names bounds.now) node) }
+        ensures kept { KeepsNames scope.old scope.new }
+        ensures reasons { IfErr result (λ e. is_name_reason e ≡ true) }
+        ensures parameter { result ≡ Err (Refused ParameterInAClause) → self.now.site ≡ Site.Clause }
+        ensures unknown { result ≡ Err (Refused UnknownName) →
+            IsUnknown self.now.names.now self.now.line.now (bound_names bounds.now) node }
+        ensures twice { result ≢ Err (Refused NameDeclaredTwice) }
     {
         let name = text(self.line, node.token);
         match node.token.kind {
@@ -179,41 +337,43 @@ impl Reading<'_> {
             TokenKind::RegionVariable => {
                 Ok(Resolved::RegionVariable(scope.variables.region_number(self.alloc, name)?))
             }
-            TokenKind::RegionParam => {
-                allows_parameter(self.site)?;
-                Ok(Resolved::RegionParam(scope.parameters.region_number(self.alloc, name)?))
-            }
-            TokenKind::Name => {
-                let _ = declared(self.names, self.line, node)?;
-                refused(Refusal::WrongArguments)
-            }
+            TokenKind::RegionParam => self.region_name(bounds, scope, node),
+            TokenKind::Name => self.no_region(bounds, node),
             _ => refused(Refusal::WrongArguments),
         }
     }
 
-    /// A node in the place of a predicate, or of an argument of this sort.
+    /// A node of a predicate, in the place of an argument of this sort or in front of all arguments.
     fn node(
         &self,
+        bounds: &mut Bounds,
         scope: &mut Scope,
         wanted: Option<Sort>,
         node: Node,
     ) -> Result<Resolved, TextError>
         requires { IsInside self.now.line.now node.token }
         ensures sort { IfOk result (λ r. sort_of r ≡ wanted) }
+        ensures role { IfOk result (λ r. node.role ≡ role_of r) }
         ensures declared { IfOk result (IsDeclared self.now.names.now) }
-        ensures means { IfOk result (IsMeaningOf self.now.names.now scope.new self.now.line.now node) }
+        ensures means { IfOk result (IsMeaningOf self.now.names.now scope.new self.now.line.now
+            (bound_names bounds.old) node) }
+        ensures bounds { OnOk result (bound_names bounds.new ≡
+            bound_behind self.now.line.now (bound_names bounds.old) node) }
         ensures kept { KeepsNames scope.old scope.new }
         ensures reasons { IfErr result (λ e. is_name_reason e ≡ true) }
         ensures parameter { result ≡ Err (Refused ParameterInAClause) → self.now.site ≡ Site.Clause }
-        ensures unknown { result ≡ Err (Refused UnknownName) → IsTaken self.now.names.now (bytes_of self.now.line.now node.token) → ⊥ }
-        ensures declares { result ≢ Err (Refused NameDeclaredTwice) }
+        ensures unknown { result ≡ Err (Refused UnknownName) →
+            IsUnknown self.now.names.now self.now.line.now (bound_names bounds.old) node }
+        ensures twice { result ≡ Err (Refused NameDeclaredTwice) →
+            IsBoundTwice self.now.names.now self.now.line.now (bound_names bounds.old) node }
     {
-        match wanted {
-            None => predicate(self.names, self.line, node),
-            Some(Sort::Ty) => self.type_node(scope, node),
-            Some(Sort::Region) => self.region_node(scope, node),
-            // No text is a const.
-            Some(Sort::Const) => refused(Refusal::WrongArguments),
+        match (node.role, wanted) {
+            (Role::Bound, None) => self.bound(bounds, node),
+            (Role::Trait, None) => self.trait_node(bounds, node),
+            (Role::Argument, Some(Sort::Ty)) => self.type_node(bounds, scope, node),
+            (Role::Argument, Some(Sort::Region)) => self.region_node(bounds, scope, node),
+            // No text is a const, and no line has nodes in other places.
+            _ => refused(Refusal::WrongArguments),
         }
     }
 }
@@ -255,12 +415,14 @@ pub fn resolve_nodes(
     ensures each { IfOk result (λ rs. length rs.items ≡ length nodes.now) }
     ensures sorted { IfOk result (λ rs. AreSorted names.now [] rs.items) }
     ensures declared { IfOk result (λ rs. All (IsDeclared names.now) rs.items) }
-    ensures means { IfOk result (λ rs. AllZip (IsMeaningOf names.now scope.new line.now) nodes.now rs.items) }
+    ensures means { IfOk result (λ rs. AreMeanings names.now scope.new line.now nothing_bound
+        nodes.now rs.items) }
     ensures kept { KeepsNames scope.old scope.new }
     ensures reasons { IfErr result (λ e. is_name_reason e ≡ true) }
     ensures parameter { result ≡ Err (Refused ParameterInAClause) → site ≡ Site.Clause }
     ensures unknown { result ≡ Err (Refused UnknownName) → HasFreeName names.now line.now nodes.now }
-    ensures declares { result ≢ Err (Refused NameDeclaredTwice) }
+    ensures twice { result ≡ Err (Refused NameDeclaredTwice) →
+        HasBoundTwice names.now line.now nodes.now }
 {
     let reading = Reading {
         alloc,
@@ -268,10 +430,11 @@ pub fn resolve_nodes(
         site,
         names,
     };
+    let mut bounds = Bounds::new(alloc);
     let mut wanted = Vec::new(alloc);
     let mut all = Vec::new(alloc);
     for node in nodes {
-        let resolved = reading.node(scope, wanted.pop(), *node)?;
+        let resolved = reading.node(&mut bounds, scope, wanted.pop(), *node)?;
         want_arguments(&mut wanted, names, resolved)?;
         all.push(resolved)?;
     }

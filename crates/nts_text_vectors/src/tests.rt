@@ -71,7 +71,20 @@ fn refuses_syntax(rt: HostRuntime) -> Result<(), Fail> {
         type X(type,)\ntype ?X\ntrait T\ntrait T(-type)\ntrait T(type) inductive\nmode erased\n\
         depth 65536 x\ndepth -1\ngoal Clone(\ngoal Clone\ngoal Clone(u8))\ngoal Clone(u8 u8)\n\
         goal Clone(?x(u8))\ngoal Clone(u8), Clone(u8)\ngoal Clone(? x)\ngoal u8: 'a\ngoal?x: 'a\n\
-        goal for<a> Clone(a)\nimpl T(u8) <-\nimpl T(u8), T(u8)\nimpl T(u8) <- T(u8) <- T(u8)";
+        impl T(u8) <-\nimpl T(u8), T(u8)\nimpl T(u8) <- T(u8) <- T(u8)";
+    refuse(&rt, rt.alloc(), b"", 1, Refusal::Syntax, lines)
+}
+
+/// A binder that is cut, empty, or in the wrong place, and marks that it may not bind.
+#[test]
+fn refuses_binders(rt: HostRuntime) -> Result<(), Fail> {
+    let lines = b"goal for<\ngoal for<a\ngoal for<a,\ngoal for<a>\ngoal for<a> T\ngoal for<a> T(\n\
+        goal for<> T(u8)\ngoal for<,> T(u8)\ngoal for<a,> T(a)\ngoal for<,a> T(a)\ngoal for<a b> T(a)\n\
+        goal for<a(u8)> T(a)\ngoal for<?a> T(u8)\ngoal for<!a> T(u8)\ngoal for<'?a> T(u8)\ngoal for<1> T(u8)\n\
+        goal for <a> T(a)\ngoal for<a>> T(a)\ngoal for<a), T(u8)\ngoal for<a> for<b> T(a)\ngoal for<for<a> T(a)\n\
+        goal T(for<a> a)\ngoal T(u8) for<a>\ngoal for<a> T(a), T(u8)\ngoal for<a> ?x(a)\nimpl for<a> T(a)\n\
+        impl T(u8) <- for<a>\nimpl T(u8) <- for<a> T(a) T(u8)\nimpl T(u8) <- T(u8), for<a>, T(u8)\n\
+        trait for<a> T(type)\ntype for<a>\ndepth for<a>\nmode for<a>";
     refuse(&rt, rt.alloc(), b"", 1, Refusal::Syntax, lines)
 }
 
@@ -120,6 +133,38 @@ fn refuses_arguments(rt: HostRuntime) -> Result<(), Fail> {
         Refusal::ParameterInAClause,
         b"impl A('b)",
     )
+}
+
+/// The reasons about names of binders, among others from left to right.
+#[test]
+fn refuses_bound_names(rt: HostRuntime) -> Result<(), Fail> {
+    let alloc = rt.alloc();
+    let before = b"trait T(type, type)\ntrait S(region)\ntype V(type)\n";
+    let lines =
+        b"goal for<u8> T(u8, u8)\ngoal for<V> T(u8, u8)\ngoal for<T> S(Zzz)\ngoal for<'static> S('a)\n\
+        goal for<P, P> T(P, P)\ngoal for<'a, 'a> S('a)\ngoal for<P, 'a, P> Zzz(P)\n\
+        impl T(?x, ?x) <- S('?r), for<u8> S(u8)\nimpl T(?x, ?x) <- for<P, 'a, 'a> T(!A, P)";
+    refuse(&rt, alloc, before, 4, Refusal::NameDeclaredTwice, lines)?;
+    let lines =
+        b"goal for<P> S(P)\ngoal for<'a> T('a, u8)\ngoal for<P> T(P(u8), Zzz)\ngoal for<P> P(u8)\n\
+        goal for<P> V(u8)\ngoal for<P> T(u8)\nimpl S('?r) <- for<P> S(P), T(!A, u8)";
+    refuse(&rt, alloc, before, 4, Refusal::WrongArguments, lines)?;
+    let lines =
+        b"goal for<'P> T(P, P)\ngoal for<P> Zzz(P)\nimpl S('?r) <- for<P> T(P, P), T(P, P)\n\
+        impl S('?r) <- T(P, P), for<P> T(P, P)";
+    refuse(&rt, alloc, before, 4, Refusal::UnknownName, lines)?;
+    let lines = b"impl S('?r) <- for<P> S('P)\nimpl S('?r) <- for<'a> S('a), S('a)";
+    refuse(&rt, alloc, before, 4, Refusal::ParameterInAClause, lines)
+}
+
+#[test]
+fn takes_binders(rt: HostRuntime) -> Result<(), Fail> {
+    let text = b"trait T(type, type)\ntrait S(region)\ntype Ref(region, type)\ntype for\n\
+        goal for<P>T(P,?x)\ngoal\tfor< P , 'a , Q >\tT ( Ref('a, P), Q )\ngoal for<'a> S('a)\ngoal for<'b> S('a)\n\
+        goal for<P, 'P> T(P, Ref('P, u8))\ngoal T(for, for)\nimpl T(u8, ?x) <- for<P> T(P, ?x), for<P, 'a> T(P, Ref('a, P))\n\
+        impl S('?r) <- for<'a> S('a), T(u8, u8), for<'a> S('?r)\ntype P\ngoal for<Q> T(P, Q)";
+    assert!(rt; refusal_of(rt.alloc(), text)?.is_none());
+    Ok(())
 }
 
 #[test]
@@ -175,6 +220,57 @@ fn numbers_names(rt: HostRuntime) -> Result<(), Fail> {
     assert!(rt; nodes.get(..4) == Some(first.as_slice()));
     assert!(rt; nodes.get(4..7) == Some(second.as_slice()));
     assert!(rt; nodes.get(7..) == Some(third.as_slice()));
+    Ok(())
+}
+
+/// What a binder binds has its place in the list as its number, whatever its sort.
+#[test]
+fn numbers_bound_names(rt: HostRuntime) -> Result<(), Fail> {
+    let before = b"trait T(type, type)\ntype Ref(region, type)";
+    let line = b"goal for<'a, P, 'b> T(Ref('b, P), Ref('c, P))";
+    let nodes = goal_nodes(rt.alloc(), before, line)?;
+    let head = Resolved::Trait {
+        number: 0,
+        arguments: 2,
+    };
+    let binder = [
+        Resolved::Binds(Sort::Region),
+        Resolved::Binds(Sort::Ty),
+        Resolved::Binds(Sort::Region),
+        head,
+    ];
+    let first = [ctor(0, 2), Resolved::BoundRegion(2), Resolved::BoundType(1)];
+    let second = [ctor(0, 2), Resolved::RegionParam(0), Resolved::BoundType(1)];
+    assert!(rt; nodes.get(..4) == Some(binder.as_slice()));
+    assert!(rt; nodes.get(4..7) == Some(first.as_slice()));
+    assert!(rt; nodes.get(7..) == Some(second.as_slice()));
+    Ok(())
+}
+
+/// Each predicate of a clause has names of its own.
+#[test]
+fn binds_in_each_predicate(rt: HostRuntime) -> Result<(), Fail> {
+    let alloc = rt.alloc();
+    let mut names = NameTable::new(alloc);
+    let mut scope = Scope::new(alloc);
+    read_command(alloc, b"trait S(type)", &mut names, &mut scope)?;
+    let line = b"impl S(u8) <- for<Q, P> S(P), S(u16), for<P> S(P)";
+    let Some(Command::Impl { head, body }) = read_command(alloc, line, &mut names, &mut scope)?
+    else {
+        return Err(Fail::from("no clause"));
+    };
+    let trait_s = Resolved::Trait {
+        number: 0,
+        arguments: 1,
+    };
+    let binds = Resolved::Binds(Sort::Ty);
+    let first = [binds, binds, trait_s, Resolved::BoundType(1)];
+    let second = [trait_s, Resolved::Uint(UintTy::U16)];
+    let third = [binds, trait_s, Resolved::BoundType(0)];
+    assert!(rt; head.as_slice() == [trait_s, Resolved::Uint(UintTy::U8)].as_slice());
+    assert!(rt; body.get(..4) == Some(first.as_slice()));
+    assert!(rt; body.get(4..6) == Some(second.as_slice()));
+    assert!(rt; body.get(6..) == Some(third.as_slice()));
     Ok(())
 }
 

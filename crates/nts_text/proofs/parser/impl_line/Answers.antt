@@ -1,6 +1,7 @@
 use Rattle.std.proofs.Common.{◌≡◌, ◌+◌, ◌++◌, ◌∷◌, inr, suc, true, false, is_some, map, filter, take, drop, refl, sym, ap, ◌∙◌, arith}
 use Rattle.std.proofs.lemmas.Grind.{common_steps}
 use Rattle.nts_text.specs.Predicates.{is_word, are_predicates, written_nodes}
+use Rattle.nts_text.specs.declared.predicates.Wanted.TheVariants as wanted
 use Rattle.nts_text.proofs.ArrowLemmas.{parts_at, says_no_fact, says_no_rule}
 use Rattle.nts_text.proofs.NodeLemmas.{inside_nodes_take, inside_nodes_drop}
 use Rattle.nts_text.proofs.parser.impl_line.Goals as goal
@@ -26,7 +27,7 @@ returns-in-None-clause-none c = λ _.
 pub returns-in_default-2-clause-none : goal.returns-in_default-2-clause-none
 returns-in_default-2-clause-none c = λ _.
     let e = c.in-Some.ensures in
-    let no : are_predicates false (take c.in-Some.at c.args.tokens.now) ≡ false = grind (arith, c.in_ok-head-2.ensures.written, c.in_default-2.is) in
+    let no : are_predicates wanted.Base (take c.in-Some.at c.args.tokens.now) ≡ false = grind (arith, c.in_ok-head-2.ensures.written, c.in_default-2.is) in
     says_no_rule c.args.line.now c.args.tokens.now c.in-Some.at e.inside e.found e.first (λ is _. let f : true ≡ false = sym is ∙ no in cc)
 
 -- no predicates behind it
@@ -34,8 +35,8 @@ pub returns-in_default-3-clause-none : goal.returns-in_default-3-clause-none
 returns-in_default-3-clause-none c = λ _.
     let e = c.in-Some.ensures in
     let behind : suc c.in-Some.at ≡ c.in-Some.at + 1 = omega arith in
-    let no : are_predicates true (drop (c.in-Some.at + 1) c.args.tokens.now) ≡ false = grind (arith, common_steps, c.in_ok-body.ensures.written, c.in_default-3.is) in
-    says_no_rule c.args.line.now c.args.tokens.now c.in-Some.at e.inside e.found e.first (λ _ are. let f : true ≡ false = sym are ∙ ap (λ n. are_predicates true (drop n c.args.tokens.now)) behind ∙ no in cc)
+    let no : are_predicates wanted.Many (drop (c.in-Some.at + 1) c.args.tokens.now) ≡ false = grind (arith, common_steps, c.in_ok-body.ensures.written, c.in_default-3.is) in
+    says_no_rule c.args.line.now c.args.tokens.now c.in-Some.at e.inside e.found e.first (λ _ are. let f : true ≡ false = sym are ∙ ap (λ n. are_predicates wanted.Many (drop n c.args.tokens.now)) behind ∙ no in cc)
 
 -- a predicate, an arrow and predicates
 pub returns-clause-says : goal.returns-clause-says
@@ -45,8 +46,8 @@ returns-clause-says c =
     let e = c.in-Some.ensures in
     let parts = parts_at ts at e.inside e.found in
     let next : suc at ≡ at + 1 = omega arith in
-    let is : are_predicates false (take at ts) ≡ true = grind (arith, c.in_ok-head-2.ensures.written, c.in-Some-3.is) in
+    let is : are_predicates wanted.Base (take at ts) ≡ true = grind (arith, c.in_ok-head-2.ensures.written, c.in-Some-3.is) in
     let head_is : c.in-Some-3.head.items ≡ written_nodes (take at ts) = grind (arith, c.in_ok-head-2.ensures.nodes, c.in-Some-3.is) in
-    let are : are_predicates true (drop (at + 1) ts) ≡ true = grind (arith, common_steps, c.in_ok-body.ensures.written, c.in-Some-4.is) in
+    let are : are_predicates wanted.Many (drop (at + 1) ts) ≡ true = grind (arith, common_steps, c.in_ok-body.ensures.written, c.in-Some-4.is) in
     let body_is : c.in-Some-4.body.items ≡ written_nodes (drop (at + 1) ts) = grind (arith, common_steps, c.in_ok-body.ensures.nodes, c.in-Some-4.is) in
     inr (take at ts, drop (at + 1) ts, parts.0, (parts.1 ∙ ap (λ n. take at ts ++ parts.0 ∷ drop n ts) next), parts.2, is, head_is, are, body_is)

@@ -1,6 +1,6 @@
 use Rattle.std.proofs.Common.{◌≡◌, length, reverse, take, All}
-use Rattle.std.specs.List.{AllZip}
-use Rattle.nts_text.specs.Resolution.{IsDeclared, IsMeaningOf}
+use Rattle.nts_text.specs.Binders.{nothing_bound, bound_after, bound_names}
+use Rattle.nts_text.specs.Resolution.{IsDeclared, AreMeanings}
 use Rattle.nts_text.specs.Spelled.{KeepsNames}
 use Rattle.nts_text.proofs.SortLemmas.{AreSortedBefore}
 use Rattle.nts_text.proofs.resolver.resolve_nodes.Given as goal
@@ -10,6 +10,7 @@ invariant-loop-node l = record {
   each : length l.all.items ≡ l.node-index;
   sorted : AreSortedBefore l.names l.all.items (reverse l.wanted.items);
   declared : All (IsDeclared l.names) l.all.items;
-  means : AllZip (IsMeaningOf l.names l.scope l.line) (take l.node-index l.nodes) l.all.items;
+  bound : bound_names l.bounds ≡ bound_after l.line (take l.node-index l.nodes);
+  means : AreMeanings l.names l.scope l.line nothing_bound (take l.node-index l.nodes) l.all.items;
   kept : KeepsNames l.fn.scope l.scope;
 }

@@ -1,5 +1,6 @@
 use Rattle.std.proofs.lemmas.List.{take_all}
 use Rattle.std.proofs.lemmas.List.Elements.{All-nil}
+use Rattle.nts_model.specs.declared.labels.Sort.TheVariants as sort
 use Rattle.nts_text.specs.declared.resolver.Resolved.TheVariants as nodes
 use Rattle.nts_program.specs.Meaning.{HasPlace}
 use Rattle.nts_program.proofs.Places.{places_refl, places_trans, placed_more}
@@ -15,7 +16,7 @@ loop-node-preserved c =
     record {
       own = λ h. e.own (i.own h);
       kept = places_trans i.kept e.kept;
-      placed = placed_more c.loop-node.self c.see_one.new.self c.args.nodes.now c.loop-node.node-index (nodes.Trait 0 0) c.loop-node-test.true e.kept i.placed e.placed;
+      placed = placed_more c.loop-node.self c.see_one.new.self c.args.nodes.now c.loop-node.node-index (nodes.Binds sort.Ty) c.loop-node-test.true e.kept i.placed e.placed;
     }
 
 pub returns-clause-placed : goal.returns-clause-placed

@@ -2,7 +2,7 @@ use Rattle.nts_text.proofs.SpellingLemmas.{keeps_types, KeepsNumbers-refl}
 use Rattle.nts_text.proofs.resolver.Reading.type_node.Goals as goal
 
 pub returns-in-Name-clause-means : goal.returns-in-Name-clause-means
-returns-in-Name-clause-means c = c.named_type.ensures.means c.args.scope.now
+returns-in-Name-clause-means c = c.type_name.ensures.means c.args.scope.now
 
 pub returns-in_ok-type_number-in-TypeVariable-clause-kept :
     goal.returns-in_ok-type_number-in-TypeVariable-clause-kept
