@@ -3,7 +3,7 @@ pub use nts_certainty::{
     Certainty, GoalSource, HasChanged, MaybeCause, MaybeInfo, OpaqueTypesJank, PathKind,
     RerunCondition,
 };
-pub use nts_folding::{TypeFoldable, TypeFolder};
+pub use nts_folding::{TermFolder, TypeFoldable, TypeFolder};
 pub use nts_model::{
     AliasRelationDirection, BoundVarIndexKind, DebruijnIndex, FloatTy, IntTy, Relation, Sort,
     UintTy, VariableKind, Variance,

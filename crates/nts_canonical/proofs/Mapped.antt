@@ -11,8 +11,8 @@ use Rattle.nts_model.specs.Numbered.{seen}
 use Rattle.nts_model.specs.Responses.{is_fixed, positioned}
 use Rattle.nts_model.proofs.Resolved.{deeply_resolved-node, deeply_resolved-empty}
 use Rattle.nts_model.proofs.Alike.{deeply_resolved-more}
-use Rattle.nts_folding.specs.Folding.{MayAnswer, asked_as, HandsOver, AtBinder, Walk, done, next, answer, down}
-use Rattle.nts_canonical.specs.Mapping.{AnswersImage, StaysHere, StaysMade, IsAny, itself, same_state}
+use Rattle.nts_folding.specs.Folding.{StaysHere, StaysMade, MayAnswer, asked_as, HandsOver, AtBinder, Walk, done, next, answer, down}
+use Rattle.nts_canonical.specs.Mapping.{AnswersImage, IsAny, itself, same_state}
 
 -- no folder is asked for what it is
 abbrev pub IsUnasked : NodeKind → Type 0

@@ -6,13 +6,6 @@ use Rattle.nts_model.specs.Trees.{Tree}
 abbrev pub AnswersImage : {S : Type 0} → (S → Tree → Type 0) → (S → Tree → Tree) → (S → Tree → S) → S → Tree → Option Tree → S → Type 0
 AnswersImage P f g s x o t = P s x → (o ≡ Some (f s x)) × (t ≡ g s x)
 
--- binders do not matter, and what was made again stays
-abbrev pub StaysHere : {S : Type 0} → S → S → Type 0
-StaysHere s t = t ≡ s
-
-abbrev pub StaysMade : {S : Type 0} → S → Tree → Tree → S → Type 0
-StaysMade s x y t = (y ≡ x) × (t ≡ s)
-
 -- each tree; and the state stays
 abbrev pub IsAny : {S : Type 0} → S → Tree → Type 0
 IsAny s x = Unit {0}

@@ -1,5 +1,5 @@
 //! Values of any form that can be folded: what a table knows of them, their leaves, and positions in place of these.
-ghost use Rattle.std.specs.Prelude.{◌≡◌, List, [], IfOk, IfSome, IsOkUnless, option_map, refl};
+ghost use Rattle.std.specs.Prelude.{◌≡◌, List, [], IfOk, IsOkUnless, refl};
 ghost use Rattle.std.proofs.Common.{◌∙◌};
 ghost use Rattle.nts_model.specs.declared.labels.Leaf.{Leaf};
 ghost use Rattle.nts_model.specs.Contents.{Content};
@@ -7,24 +7,22 @@ ghost use Rattle.nts_model.specs.Resolving.{Knows, deeply_resolved};
 ghost use Rattle.nts_model.specs.Numbered.{seen};
 ghost use Rattle.nts_model.specs.Responses.{is_fixed, positioned};
 ghost use Rattle.nts_store.specs.declared.fault.Fault.TheVariants.{Memory};
-ghost use Rattle.nts_store.specs.Growth.{tree_at};
-ghost use Rattle.nts_terms.specs.Handles.{Holds};
 ghost use Rattle.nts_terms.specs.Rest.{Grows};
 ghost use Rattle.nts_unify.specs.Reading.{content_of};
 ghost use Rattle.nts_unify.specs.Lawful.{content_of-extended};
 ghost use Rattle.nts_table.specs.Tables.{IsTable};
 ghost use Rattle.nts_table.specs.TableLaws.{IsTable-extended};
-ghost use Rattle.nts_canonical.specs.Mapping.{AnswersImage, StaysHere, StaysMade, IsAny, itself, same_state};
+ghost use Rattle.nts_canonical.specs.Mapping.{AnswersImage, IsAny, itself, same_state};
 
 use crate::collecting::{Staying, collect};
 use crate::numbering::numbered;
 use indexmap::IndexSet;
-use nts_folding::{TypeFoldable, TypeFolder};
+use nts_folding::{TermFolder, TypeFoldable};
 use nts_model::Leaf;
 use nts_resolve::eager_resolve_vars;
 use nts_store::Fault;
 use nts_table::InferCtxt;
-use nts_terms::{Const, Cx, Predicate, Region, Stored, Term, Ty};
+use nts_terms::{Cx, Stored};
 
 /// The value with each variable replaced by its value, through values of values, or by the first variable of its class.
 pub fn resolve_value<T: TypeFoldable>(table: &InferCtxt, cx: &mut Cx, value: T) -> Result<T, Fault>
@@ -81,7 +79,7 @@ struct Resolver<'a> {
     table: &'a InferCtxt,
 }
 
-impl TypeFolder for Resolver<'_> {
+impl TermFolder for Resolver<'_> {
     type Error = Fault;
 
     ghost Meaning = { Content };
@@ -91,12 +89,6 @@ impl TypeFolder for Resolver<'_> {
     ghost ready = { λ ts s. IsTable ts s.table.now };
 
     ghost answers = { AnswersImage Knows deeply_resolved same_state };
-
-    ghost enters = { StaysHere };
-
-    ghost leaves = { StaysHere };
-
-    ghost rebuilds = { StaysMade };
 
     ghost fails = { λ s o e. e ≡ Memory };
 
@@ -112,48 +104,13 @@ impl TypeFolder for Resolver<'_> {
 
     ghost meaning_kept = { λ a b s h e. content_of-extended e h.now };
 
-    fn fold_ty(&mut self, cx: &mut Cx, t: Ty) -> Result<Option<Ty>, Fault> {
-        resolve(self.table, cx, t)
+    fn fold_term<T: Stored>(&mut self, cx: &mut Cx, t: T) -> Result<Option<T>, Fault> {
+        if !self.table.knows(cx, t)? {
+            return Ok(None);
+        }
+        let resolved = eager_resolve_vars(self.table, cx, t)?;
+        Ok(Some(resolved))
     }
-
-    fn fold_region(&mut self, cx: &mut Cx, t: Region) -> Result<Option<Region>, Fault> {
-        resolve(self.table, cx, t)
-    }
-
-    fn fold_const(&mut self, cx: &mut Cx, t: Const) -> Result<Option<Const>, Fault> {
-        resolve(self.table, cx, t)
-    }
-
-    fn fold_predicate(&mut self, cx: &mut Cx, t: Predicate) -> Result<Option<Predicate>, Fault> {
-        resolve(self.table, cx, t)
-    }
-
-    fn enter_binder(&mut self) -> Result<(), Fault> {
-        Ok(())
-    }
-
-    fn leave_binder(&mut self) {}
-
-    fn rebuilt(&mut self, _cx: &mut Cx, t: Term) -> Result<Term, Fault> {
-        Ok(t)
-    }
-}
-
-/// The term under the values of the table, if the table knows it.
-fn resolve<T: Stored>(table: &InferCtxt, cx: &mut Cx, t: T) -> Result<Option<T>, Fault>
-    requires table { IsTable cx.old.nodes table.now }
-    requires holds { Holds T.place cx.old.nodes (T.id t) }
-    ensures grows { Grows cx.old cx.new }
-    ensures table { IsTable cx.new.nodes table.now }
-    ensures holds { IfOk result (λ o. IfSome o (λ r. Holds T.place cx.new.nodes (T.id r))) }
-    ensures answers { IfOk result (λ o. AnswersImage Knows deeply_resolved same_state (content_of cx.old.nodes table.now.entries) (tree_at cx.old.nodes (T.id t)) (option_map (λ r. tree_at cx.new.nodes (T.id r)) o) (content_of cx.new.nodes table.now.entries)) }
-    ensures memory { IsOkUnless result Fault.Memory }
-{
-    if !table.knows(cx, t)? {
-        return Ok(None);
-    }
-    let resolved = eager_resolve_vars(table, cx, t)?;
-    Ok(Some(resolved))
 }
 
 /// Sees the leaves of terms, and leaves the terms as they are.
@@ -162,7 +119,7 @@ struct Reader {
     leaves: IndexSet<Leaf>,
 }
 
-impl TypeFolder for Reader {
+impl TermFolder for Reader {
     type Error = Fault;
 
     ghost Meaning = { List Leaf };
@@ -172,12 +129,6 @@ impl TypeFolder for Reader {
     ghost ready = { λ ts s. Unit {0} };
 
     ghost answers = { AnswersImage IsAny itself (seen is_fixed) };
-
-    ghost enters = { StaysHere };
-
-    ghost leaves = { StaysHere };
-
-    ghost rebuilds = { StaysMade };
 
     ghost fails = { λ s o e. e ≡ Memory };
 
@@ -193,42 +144,16 @@ impl TypeFolder for Reader {
 
     ghost meaning_kept = { λ a b s h e. refl };
 
-    fn fold_ty(&mut self, cx: &mut Cx, t: Ty) -> Result<Option<Ty>, Fault> {
-        read(cx, &mut self.leaves, t)
+    fn fold_term<T: Stored>(&mut self, cx: &mut Cx, t: T) -> Result<Option<T>, Fault> {
+        collect(
+            cx.alloc,
+            &cx.nodes,
+            Staying::FixedRegions,
+            &mut self.leaves,
+            t.node(),
+        )?;
+        Ok(Some(t))
     }
-
-    fn fold_region(&mut self, cx: &mut Cx, t: Region) -> Result<Option<Region>, Fault> {
-        read(cx, &mut self.leaves, t)
-    }
-
-    fn fold_const(&mut self, cx: &mut Cx, t: Const) -> Result<Option<Const>, Fault> {
-        read(cx, &mut self.leaves, t)
-    }
-
-    fn fold_predicate(&mut self, cx: &mut Cx, t: Predicate) -> Result<Option<Predicate>, Fault> {
-        read(cx, &mut self.leaves, t)
-    }
-
-    fn enter_binder(&mut self) -> Result<(), Fault> {
-        Ok(())
-    }
-
-    fn leave_binder(&mut self) {}
-
-    fn rebuilt(&mut self, _cx: &mut Cx, t: Term) -> Result<Term, Fault> {
-        Ok(t)
-    }
-}
-
-/// The term itself, whose leaves are seen.
-fn read<T: Stored>(cx: &Cx, leaves: &mut IndexSet<Leaf>, t: T) -> Result<Option<T>, Fault>
-    requires holds { Holds T.place cx.now.nodes (T.id t) }
-    ensures holds { IfOk result (λ o. IfSome o (λ r. Holds T.place cx.now.nodes (T.id r))) }
-    ensures answers { IfOk result (λ o. AnswersImage IsAny itself (seen is_fixed) leaves.old.keys (tree_at cx.now.nodes (T.id t)) (option_map (λ r. tree_at cx.now.nodes (T.id r)) o) leaves.new.keys) }
-    ensures memory { IsOkUnless result Fault.Memory }
-{
-    collect(cx.alloc, &cx.nodes, Staying::FixedRegions, leaves, t.node())?;
-    Ok(Some(t))
 }
 
 /// Puts positions in place of leaves.
@@ -237,7 +162,7 @@ struct Positioner<'a> {
     leaves: &'a IndexSet<Leaf>,
 }
 
-impl TypeFolder for Positioner<'_> {
+impl TermFolder for Positioner<'_> {
     type Error = Fault;
 
     ghost Meaning = { List Leaf };
@@ -247,12 +172,6 @@ impl TypeFolder for Positioner<'_> {
     ghost ready = { λ ts s. Unit {0} };
 
     ghost answers = { AnswersImage IsAny positioned same_state };
-
-    ghost enters = { StaysHere };
-
-    ghost leaves = { StaysHere };
-
-    ghost rebuilds = { StaysMade };
 
     ghost fails = { λ s o e. e ≡ Memory };
 
@@ -268,41 +187,14 @@ impl TypeFolder for Positioner<'_> {
 
     ghost meaning_kept = { λ a b s h e. refl };
 
-    fn fold_ty(&mut self, cx: &mut Cx, t: Ty) -> Result<Option<Ty>, Fault> {
-        place(cx, self.leaves, t)
+    fn fold_term<T: Stored>(&mut self, cx: &mut Cx, t: T) -> Result<Option<T>, Fault> {
+        let placed = numbered(
+            cx.alloc,
+            &mut cx.nodes,
+            Staying::FixedRegions,
+            self.leaves,
+            t,
+        )?;
+        Ok(Some(placed))
     }
-
-    fn fold_region(&mut self, cx: &mut Cx, t: Region) -> Result<Option<Region>, Fault> {
-        place(cx, self.leaves, t)
-    }
-
-    fn fold_const(&mut self, cx: &mut Cx, t: Const) -> Result<Option<Const>, Fault> {
-        place(cx, self.leaves, t)
-    }
-
-    fn fold_predicate(&mut self, cx: &mut Cx, t: Predicate) -> Result<Option<Predicate>, Fault> {
-        place(cx, self.leaves, t)
-    }
-
-    fn enter_binder(&mut self) -> Result<(), Fault> {
-        Ok(())
-    }
-
-    fn leave_binder(&mut self) {}
-
-    fn rebuilt(&mut self, _cx: &mut Cx, t: Term) -> Result<Term, Fault> {
-        Ok(t)
-    }
-}
-
-/// The term with positions in place of its leaves.
-fn place<T: Stored>(cx: &mut Cx, leaves: &IndexSet<Leaf>, t: T) -> Result<Option<T>, Fault>
-    requires holds { Holds T.place cx.old.nodes (T.id t) }
-    ensures grows { Grows cx.old cx.new }
-    ensures holds { IfOk result (λ o. IfSome o (λ r. Holds T.place cx.new.nodes (T.id r))) }
-    ensures answers { IfOk result (λ o. AnswersImage IsAny positioned same_state leaves.now.keys (tree_at cx.old.nodes (T.id t)) (option_map (λ r. tree_at cx.new.nodes (T.id r)) o) leaves.now.keys) }
-    ensures memory { IsOkUnless result Fault.Memory }
-{
-    let placed = numbered(cx.alloc, &mut cx.nodes, Staying::FixedRegions, leaves, t)?;
-    Ok(Some(placed))
 }

@@ -12,10 +12,10 @@ ghost use Rattle.nts_canonical.specs.Forms.{trees_of};
 ghost use Rattle.nts_canonical.specs.Folds.{StandsFor, AreHeld-kept, trees_of-kept};
 
 use crate::types::Canonical;
-use nts_folding::{TypeFoldable, TypeFolder};
+use nts_folding::{TermFolder, TypeFoldable};
 use nts_model::{BoundVarIndexKind, Label};
 use nts_store::Fault;
-use nts_terms::{Const, Cx, GenericArg, Predicate, Region, Stored, Term, Ty};
+use nts_terms::{Cx, GenericArg, Stored};
 
 /// The value with value i in place of the bound variable that names position i. With the originals of a
 /// goal as values, its canonical query is the goal again (`nts_model::originals_give_input`). What has
@@ -45,7 +45,7 @@ struct Filler<'a> {
     values: &'a [GenericArg],
 }
 
-impl TypeFolder for Filler<'_> {
+impl TermFolder for Filler<'_> {
     type Error = Fault;
 
     ghost Meaning = { List Tree };
@@ -55,12 +55,6 @@ impl TypeFolder for Filler<'_> {
     ghost ready = { λ ts s. All (HoldsArg ts) s.values.now };
 
     ghost answers = { λ s x o t. StandsFor s x o × (t ≡ s) };
-
-    ghost enters = { λ s t. t ≡ s };
-
-    ghost leaves = { λ s t. t ≡ s };
-
-    ghost rebuilds = { λ s x y t. (y ≡ x) × (t ≡ s) };
 
     ghost fails = { λ s o e. e ≡ Memory };
 
@@ -76,30 +70,8 @@ impl TypeFolder for Filler<'_> {
 
     ghost meaning_kept = { λ a b s h e. trees_of-kept a b s.values.now h e };
 
-    fn fold_ty(&mut self, cx: &mut Cx, t: Ty) -> Result<Option<Ty>, Fault> {
+    fn fold_term<T: Stored>(&mut self, cx: &mut Cx, t: T) -> Result<Option<T>, Fault> {
         Ok(value_for(cx, self.values, t))
-    }
-
-    fn fold_region(&mut self, cx: &mut Cx, t: Region) -> Result<Option<Region>, Fault> {
-        Ok(value_for(cx, self.values, t))
-    }
-
-    fn fold_const(&mut self, cx: &mut Cx, t: Const) -> Result<Option<Const>, Fault> {
-        Ok(value_for(cx, self.values, t))
-    }
-
-    fn fold_predicate(&mut self, cx: &mut Cx, t: Predicate) -> Result<Option<Predicate>, Fault> {
-        Ok(value_for(cx, self.values, t))
-    }
-
-    fn enter_binder(&mut self) -> Result<(), Fault> {
-        Ok(())
-    }
-
-    fn leave_binder(&mut self) {}
-
-    fn rebuilt(&mut self, _cx: &mut Cx, t: Term) -> Result<Term, Fault> {
-        Ok(t)
     }
 }
 

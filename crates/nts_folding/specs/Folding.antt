@@ -88,6 +88,13 @@ pub data Stops {S E : Type 0} (answers : S → Tree → Option Tree → S → Ty
 abbrev pub CannotMake : {S E : Type 0} → (S → S → Type 0) → (S → Option Tree → E → Type 0) → Label → S → Tree → E → Type 0
 CannotMake {S} {E} leaves fails l s d e = ((t : S) → fails t None e) ⊎ FailsMade leaves fails l s d e
 
+-- the steps of a folder that does not mind binders, and keeps what was made again
+abbrev pub StaysHere : {S : Type 0} → S → S → Type 0
+StaysHere s t = t ≡ s
+
+abbrev pub StaysMade : {S : Type 0} → S → Tree → Tree → S → Type 0
+StaysMade s x y t = (y ≡ x) × (t ≡ s)
+
 -- a trait over arguments, as the statement that it holds; an alias over arguments, as a projection of it without its
 -- result. A statement is no term, so that a walk goes into it at once
 abbrev pub statement_about : ClauseHead → Tree → Tree

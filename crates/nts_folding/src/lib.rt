@@ -4,8 +4,10 @@
 //! be folded so.
 #![tactic(auto)]
 
+mod alike;
 mod fold;
 mod foldable;
 
+pub use alike::TermFolder;
 pub use fold::{TypeFolder, fold_node};
 pub use foldable::TypeFoldable;
