@@ -1,5 +1,5 @@
 -- What a call of the closure is to a walk.
-use Rattle.std.proofs.Common.{◌≡◌, ◌⊎◌, inl, inr, ◌+◌, true, List, length, All, Option, Some, option_map, Ok, Err, IfOk, IfErr, refl, ap, ◌∙◌}
+use Rattle.std.proofs.Common.{◌≡◌, ◌⊎◌, inl, inr, ◌+◌, true, length, All, Option, Some, option_map, Ok, Err, IfOk, IfErr, refl, ap, ◌∙◌}
 use Rattle.nts_model.specs.declared.labels.Sort.{Sort}
 use Rattle.nts_model.specs.Trees.{Tree, IsClosed, IsClosedUnder}
 use Rattle.nts_store.specs.declared.fault.Fault.{Fault}

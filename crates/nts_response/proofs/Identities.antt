@@ -6,7 +6,7 @@ use Rattle.nts_model.specs.declared.labels.Sort.{Sort}
 use Rattle.nts_model.specs.declared.labels.Sort.TheVariants as sort
 use Rattle.nts_model.specs.Trees.{Tree, kind_of, of_sort}
 use Rattle.nts_model.specs.Numbered.{position}
-use Rattle.nts_model.specs.Responses.{IsIdentity, ends, next, passed}
+use Rattle.nts_model.specs.Responses.{IsIdentity, next, passed}
 use Rattle.nts_store.specs.Growth.{tree_at}
 use Rattle.nts_terms.specs.declared.handles.GenericArg.{GenericArg}
 use Rattle.nts_canonical.specs.Forms.{trees_of}

@@ -1,6 +1,6 @@
 -- A state put into a table, after new originals were made for the values that had none.
 use Rattle.std.proofs.Common.{◌≡◌, ℕ, zero, suc, ◌≤◌, List, [], ◌∷◌, ◌++◌, map, length, drop, get_or, Option, None, refl, sym, ap, subst, ◌∙◌, arith}
-use Rattle.std.specs.Prelude.{◌↔◌, All, Bool, true, IsTrue}
+use Rattle.std.specs.Prelude.{◌↔◌, All, Bool, IsTrue}
 use Rattle.std.proofs.lemmas.List.{drop-map, map-append, length-map, length-append, length-drop}
 use Rattle.nts_model.specs.declared.labels.Sort.{Sort}
 use Rattle.nts_model.specs.Trees.{Tree, NodeKind, empty, kind_of, IsClosed}
@@ -25,7 +25,7 @@ use Rattle.nts_canonical.specs.Building.{IsArgOf}
 use Rattle.nts_canonical.specs.Folds.{AreHeld-kept}
 use Rattle.nts_response.specs.declared.types.State.{State}
 use Rattle.nts_response.specs.Applied.{StepKeeps, NamesOriginal}
-use Rattle.nts_response.specs.Applicable.{IsOverSorts, IsKindFor, ShowsConstraints}
+use Rattle.nts_response.specs.Applicable.{IsOverSorts, IsKindFor}
 use Rattle.nts_response.specs.OverSorts.{IsArgIn}
 use Rattle.nts_response.specs.States.{state_at}
 use Rattle.nts_response.specs.Instantiated.{values_alone, answer_of, missing, MakesLike, AddsMissing, AreValuesFor, AreEquated, state_sorts, IsInstantiable, IsInstantiated, RefusesState}

@@ -1,5 +1,5 @@
 -- No bound variable escapes from what is recorded when a response is applied.
-use Rattle.std.proofs.Common.{◌≡◌, ⊎_elim, Bool, List, [], ◌∷◌, subst}
+use Rattle.std.proofs.Common.{⊎_elim, Bool, List, [], ◌∷◌, subst}
 use Rattle.std.specs.Prelude.{Contains}
 use Rattle.std.proofs.lemmas.List.Elements.{Contains-append_cases}
 use Rattle.nts_model.specs.Trees.{IsClosed}

@@ -1,4 +1,4 @@
-use Rattle.std.proofs.Common.{◌≡◌, ℕ, suc, ◌+◌, ◌∷◌, ◌<◌, ◌≤◌, refl, sym, subst, arith}
+use Rattle.std.proofs.Common.{◌+◌, ◌∷◌, refl, subst, arith}
 use Rattle.std.specs.Prelude.{◌↔◌, drop, get_or}
 use Rattle.nts_model.specs.Responses.{IsIdentity, ends}
 use Rattle.nts_store.specs.Growth.{tree_at}

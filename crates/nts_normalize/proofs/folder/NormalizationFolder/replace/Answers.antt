@@ -2,7 +2,7 @@ use Rattle.std.proofs.Common.{inl, inr}
 use Rattle.nts_store.proofs.Growing.{Extends-refl}
 use Rattle.nts_normalize.specs.Normalizing.{collected}
 use Rattle.nts_folding.proofs.Folded.{on_same_err}
-use Rattle.nts_normalize.proofs.Asked.{at_closed, at_open}
+use Rattle.nts_normalize.proofs.Asked.{at_closed}
 use Rattle.nts_normalize.proofs.Stepping.{Goes-collects, collected_held, collects}
 use Rattle.nts_normalize.proofs.folder.NormalizationFolder.replace.Goals as goal
 

@@ -8,8 +8,8 @@ use Rattle.nts_normalize.specs.Calling.{tree_of_goal}
 use Rattle.nts_normalize.specs.Normalizing.{collected, IsLeftOut}
 use Rattle.nts_unify.specs.Lawful.{content_of-extended}
 use Rattle.nts_normalize.specs.Walking.{standing_of-kept}
-use Rattle.nts_folding.proofs.Folded.{on_same_err, on_err}
-use Rattle.nts_normalize.proofs.Asked.{not_opened, not_asked, of_memory}
+use Rattle.nts_folding.proofs.Folded.{on_same_err}
+use Rattle.nts_normalize.proofs.Asked.{not_opened, not_asked}
 use Rattle.nts_normalize.proofs.Stepping.{Goes-trans, Goes-grown, Goes-collects, collected_held, collects, known_on, result_kind}
 use Rattle.nts_normalize.proofs.folder.NormalizationFolder.replace_under.Goals as goal
 
