@@ -307,3 +307,32 @@ fn a_failed_write(rt: HostRuntime) {
     assert_eq!(rt; status, Status::Failed);
     assert!(rt; output.taken.as_slice() == b"no\nn".as_slice());
 }
+
+#[test]
+fn bound_goals(rt: HostRuntime) {
+    check(
+        &rt,
+        rt.alloc(),
+        &[
+            done(
+                b"trait T(type, type)\nimpl T(?X, ?X)\ngoal for<P> T(P, P)\ngoal for<P> T(?x, P)\ngoal for<P, Q> T(P, Q)\n",
+                b"yes\nno\nno\n",
+            ),
+            // A variable of the goal may be what a bound name does not stand in, and each order of the list does.
+            done(
+                b"trait T(type, type)\nimpl T(?X, ?X)\ngoal for<P> T(?x, u8)\ngoal for<Q, P> T(P, P)\ngoal for<P, Q> T(Q, P)\n",
+                b"yes\n  ?x = u8\nyes\nno\n",
+            ),
+            // A condition that binds a name.
+            done(
+                b"trait T(type, type)\ntrait A(type)\ntrait B(type)\nimpl T(?X, ?X)\nimpl A(u8) <- for<P> T(P, P)\nimpl B(u8) <- for<P> T(P, u8)\ngoal A(u8)\ngoal B(u8)\n",
+                b"yes\nno\n",
+            ),
+            // A bound region is told as one that has no name.
+            done(
+                b"trait R(region, region)\nimpl R('?X, '?X)\ngoal for<'a> R('a, 'static)\ngoal for<'a, 'b> R('a, 'b)\n",
+                b"yes\n  '_0 == '_1\n  'static == '_1\nyes\n  '_0 == '_1\n  '_2 == '_1\n",
+            ),
+        ],
+    );
+}

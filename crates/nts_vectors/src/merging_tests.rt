@@ -102,11 +102,21 @@ fn doubts_are_joined(rt: HostRuntime) -> Result<(), Fail> {
     let kinds = one_variable(&cx)?;
     let joined = flounder(&mut cx, &list, 0, kinds)?;
     match joined.value.certainty {
-        Certainty::Maybe(MaybeInfo {
-            cause,
-            opaque_types_jank,
-        }) => {
-            assert!(rt; matches!(cause, MaybeCause::Overflow { suggest_increasing_limit: true, keep_constraints: true }));
+        Certainty::Maybe(
+            MaybeInfo {
+                cause,
+                opaque_types_jank,
+            },
+        ) => {
+            assert!(rt;
+                matches!(
+                    cause,
+                    MaybeCause::Overflow {
+                        suggest_increasing_limit: true,
+                        keep_constraints: true
+                    }
+                )
+            );
             assert!(rt; opaque_types_jank == OpaqueTypesJank::AllGood);
         }
         Certainty::Yes => assert!(rt; false),
