@@ -15,7 +15,8 @@ use nts_model::Sort;
 use std::alloc::{AllocError, Global};
 
 /// What a line asks for. Types and traits are numbered from 0 on, in the order of their
-/// declarations. A predicate stands before its arguments, and each of those before its own.
+/// declarations. A predicate stands before its arguments, and each of those before its own; the names
+/// that its binder binds stand before it.
 #[derive(Drop)]
 pub enum Command {
     Mode(Mode),
