@@ -15,9 +15,8 @@ use nts_resolve::eager_resolve_vars;
 use nts_store::EvalError;
 use nts_table::InferCtxt;
 use nts_terms::{
-    Binder, BoundRegion, BoundTy, ClauseKind, Cx, DefId, GenericArg, GenericArgs, Goal,
-    PlaceholderType, Predicate, PredicateKind, RegionKind, Span, TraitId, TraitRef, Ty, TyKind,
-    TypingMode,
+    Binder, BoundTy, ClauseKind, Cx, DefId, GenericArg, GenericArgs, Goal, PlaceholderType,
+    PredicateKind, Span, TraitId, TraitRef, Ty, TyKind, TypingMode,
 };
 use std::test::Fail;
 
@@ -97,14 +96,8 @@ fn fact(cx: &mut Cx, handler: &mut Clauses, id: TraitId, argument: GenericArg) -
     Ok(())
 }
 
-/// The goal that a trait holds between two arguments for all variables of these sorts, in an empty environment.
-fn goal_for(
-    cx: &mut Cx,
-    id: TraitId,
-    sorts: &[Sort],
-    left: GenericArg,
-    right: GenericArg,
-) -> Result<Goal, Fail>
+/// The goal that a trait holds between two arguments, in an empty environment.
+fn goal_between(cx: &mut Cx, id: TraitId, left: GenericArg, right: GenericArg) -> Result<Goal, Fail>
     ensures holds { IfOk result (λ g. HoldsGoal cx.new.nodes g) }
     ensures grows { Grows cx.old cx.new }
 {
@@ -113,7 +106,7 @@ fn goal_for(
     }
     let args = cx.mk_args(&[left, right])?;
     let param_env = cx.mk_env(&[])?;
-    let vars = cx.mk_bound_vars(sorts)?;
+    let vars = cx.mk_bound_vars(&[])?;
     if !cx.holds(args) || !cx.fits(DefId::Trait(id), args) {
         return Err(Fail::new("the trait takes other arguments"));
     }
@@ -125,74 +118,6 @@ fn goal_for(
     })
 }
 
-/// The goal that a trait holds between two arguments, in an empty environment.
-fn goal_between(cx: &mut Cx, id: TraitId, left: GenericArg, right: GenericArg) -> Result<Goal, Fail>
-    ensures holds { IfOk result (λ g. HoldsGoal cx.new.nodes g) }
-    ensures grows { Grows cx.old cx.new }
-{
-    goal_for(cx, id, &[], left, right)
-}
-
-/// The first position of a canonical value.
-fn position(cx: &mut Cx, sort: Sort) -> Result<GenericArg, Fail>
-    ensures grows { Grows cx.old cx.new }
-{
-    let index = BoundVarIndexKind::Canonical;
-    match sort {
-        Sort::Ty => Ok(cx.mk_ty(TyKind::Bound(index, BoundTy { var: 0 }))?.into()),
-        Sort::Region => Ok(
-            cx.mk_region(RegionKind::ReBound(index, BoundRegion { var: 0 }))?
-                .into(),
-        ),
-        Sort::Const => Err(Fail::new("no const is asked for")),
-    }
-}
-
-/// A variable of the innermost binder.
-fn bound(cx: &mut Cx, sort: Sort, var: usize) -> Result<GenericArg, Fail>
-    ensures grows { Grows cx.old cx.new }
-{
-    let index = BoundVarIndexKind::Bound(0);
-    match sort {
-        Sort::Ty => Ok(cx.mk_ty(TyKind::Bound(index, BoundTy { var }))?.into()),
-        Sort::Region => Ok(
-            cx.mk_region(RegionKind::ReBound(index, BoundRegion { var }))?
-                .into(),
-        ),
-        Sort::Const => Err(Fail::new("no const is asked for")),
-    }
-}
-
-/// Adds the rule that a trait holds between a type, or a region, and itself, where a goal holds.
-#[tactic(auto, using(nts_evaluation::proofs::Asking::asking))]
-fn rule_where(
-    cx: &mut Cx,
-    handler: &mut Clauses,
-    id: TraitId,
-    sort: Sort,
-    body: &[Predicate],
-) -> Result<(), Fail>
-    requires { AreReady cx.old.nodes handler.old }
-    ensures ready { OnOk result (AreReady cx.new.nodes handler.new) }
-    ensures grows { Grows cx.old cx.new }
-{
-    let argument = position(cx, sort)?;
-    let head = cx.mk_args(&[argument, argument])?;
-    let mut goals = Vec::new(cx.alloc);
-    goals.extend_from_slice(body)?;
-    let clause = Clause {
-        fresh: vec![in cx.alloc; sort]?,
-        trait_id: id,
-        head,
-        body: goals,
-    };
-    if !Clauses::clause_fits(cx, &clause)? {
-        return Err(Fail::new("the clause does not fit"));
-    }
-    handler.add_clause(clause)?;
-    Ok(())
-}
-
 /// Adds the rule that a trait holds between a type and itself.
 #[tactic(auto, using(nts_evaluation::proofs::Asking::asking))]
 fn rule_of_one(cx: &mut Cx, handler: &mut Clauses, id: TraitId) -> Result<(), Fail>
@@ -200,7 +125,20 @@ fn rule_of_one(cx: &mut Cx, handler: &mut Clauses, id: TraitId) -> Result<(), Fa
     ensures ready { OnOk result (AreReady cx.new.nodes handler.new) }
     ensures grows { Grows cx.old cx.new }
 {
-    rule_where(cx, handler, id, Sort::Ty, &[])
+    let position = cx.mk_ty(TyKind::Bound(BoundVarIndexKind::Canonical, BoundTy { var: 0 }))?;
+    let argument = position.into();
+    let head = cx.mk_args(&[argument, argument])?;
+    let clause = Clause {
+        fresh: vec![in cx.alloc; Sort::Ty]?,
+        trait_id: id,
+        head,
+        body: Vec::new(cx.alloc),
+    };
+    if !Clauses::clause_fits(cx, &clause)? {
+        return Err(Fail::new("the clause does not fit"));
+    }
+    handler.add_clause(clause)?;
+    Ok(())
 }
 
 #[test]
@@ -344,106 +282,5 @@ fn an_evaluation_is_shown(rt: HostRuntime) -> Result<(), Fail> {
     };
     let text = format!(in rt.alloc(); "{evaluation:?}")?;
     assert!(rt; !text.is_empty());
-    Ok(())
-}
-
-/// `impl T(?X, ?X)`, asked for all types.
-#[test]
-#[tactic(auto, using(nts_evaluation::proofs::Asking::asking))]
-fn a_goal_for_all_types(rt: HostRuntime) -> Result<(), Fail> {
-    let mut cx = Cx::new(rt.alloc());
-    let mut table = InferCtxt::new(rt.alloc(), TypingMode::Coherence);
-    let mut handler = Clauses::new(rt.alloc());
-    let same = cx.declare_trait(&[Sort::Ty, Sort::Ty])?;
-    rule_of_one(&mut cx, &mut handler, same)?;
-    let p = bound(&mut cx, Sort::Ty, 0)?;
-    let goal = goal_for(&mut cx, same, &[Sort::Ty], p, p)?;
-    let one = evaluated(&mut table, &mut cx, &handler, goal)?;
-    assert!(rt; matches!(one, Some((Certainty::Yes, HasChanged::No))));
-    let q = bound(&mut cx, Sort::Ty, 1)?;
-    let goal = goal_for(&mut cx, same, &[Sort::Ty, Sort::Ty], p, q)?;
-    let two = evaluated(&mut table, &mut cx, &handler, goal)?;
-    assert!(rt; two.is_none());
-    let byte = uint(&mut cx, UintTy::U8)?;
-    let goal = goal_for(&mut cx, same, &[Sort::Ty], p, byte.into())?;
-    let one_type = evaluated(&mut table, &mut cx, &handler, goal)?;
-    assert!(rt; one_type.is_none());
-    assert!(rt; table.universe() == 0);
-    Ok(())
-}
-
-/// What holds for all types holds for none that a variable stands for: it can name no placeholder.
-#[test]
-#[tactic(auto, using(nts_evaluation::proofs::Asking::asking))]
-fn a_variable_outside_of_the_binder(rt: HostRuntime) -> Result<(), Fail> {
-    let mut cx = Cx::new(rt.alloc());
-    let mut table = InferCtxt::new(rt.alloc(), TypingMode::Coherence);
-    let mut handler = Clauses::new(rt.alloc());
-    let same = cx.declare_trait(&[Sort::Ty, Sort::Ty])?;
-    rule_of_one(&mut cx, &mut handler, same)?;
-    let x = table.next_ty_infer(&mut cx)?;
-    let p = bound(&mut cx, Sort::Ty, 0)?;
-    let goal = goal_for(&mut cx, same, &[Sort::Ty], x.into(), p)?;
-    let refused = evaluated(&mut table, &mut cx, &handler, goal)?;
-    assert!(rt; refused.is_none());
-    let byte = uint(&mut cx, UintTy::U8)?;
-    let goal = goal_for(&mut cx, same, &[Sort::Ty], x.into(), byte.into())?;
-    let unused = evaluated(&mut table, &mut cx, &handler, goal)?;
-    assert!(rt; matches!(unused, Some((Certainty::Yes, HasChanged::Yes))));
-    Ok(())
-}
-
-/// The constraint between the rule's region and that of the binder comes back in a universe of its own.
-#[test]
-#[tactic(auto, using(nts_evaluation::proofs::Asking::asking))]
-fn a_goal_for_all_regions(rt: HostRuntime) -> Result<(), Fail> {
-    let mut cx = Cx::new(rt.alloc());
-    let mut table = InferCtxt::new(rt.alloc(), TypingMode::PostAnalysis);
-    let mut handler = Clauses::new(rt.alloc());
-    let same = cx.declare_trait(&[Sort::Region, Sort::Region])?;
-    rule_where(&mut cx, &mut handler, same, Sort::Region, &[])?;
-    let a = bound(&mut cx, Sort::Region, 0)?;
-    let goal = goal_for(&mut cx, same, &[Sort::Region], a, a)?;
-    let one = evaluated(&mut table, &mut cx, &handler, goal)?;
-    assert!(rt; matches!(one, Some((Certainty::Yes, _))));
-    assert!(rt; table.universe() == 1);
-    let fixed = cx.mk_region(RegionKind::ReStatic)?;
-    let goal = goal_for(&mut cx, same, &[Sort::Region], a, fixed.into())?;
-    let equal = evaluated(&mut table, &mut cx, &handler, goal)?;
-    assert!(rt; matches!(equal, Some((Certainty::Yes, _))));
-    assert!(rt; table.universe() == 2);
-    Ok(())
-}
-
-/// `impl S(?X, ?X) <- for<P> T(P, P)` and `<- for<P> T(P, ?X)`.
-#[test]
-#[tactic(auto, using(nts_evaluation::proofs::Asking::asking))]
-fn a_condition_for_all_types(rt: HostRuntime) -> Result<(), Fail> {
-    let mut cx = Cx::new(rt.alloc());
-    let mut table = InferCtxt::new(rt.alloc(), TypingMode::Coherence);
-    let mut handler = Clauses::new(rt.alloc());
-    let same = cx.declare_trait(&[Sort::Ty, Sort::Ty])?;
-    let all = cx.declare_trait(&[Sort::Ty, Sort::Ty])?;
-    let none = cx.declare_trait(&[Sort::Ty, Sort::Ty])?;
-    rule_of_one(&mut cx, &mut handler, same)?;
-    let p = bound(&mut cx, Sort::Ty, 0)?;
-    let condition = goal_for(&mut cx, same, &[Sort::Ty], p, p)?;
-    rule_where(&mut cx, &mut handler, all, Sort::Ty, &[condition.predicate])?;
-    let x = position(&mut cx, Sort::Ty)?;
-    let condition = goal_for(&mut cx, same, &[Sort::Ty], p, x)?;
-    rule_where(
-        &mut cx,
-        &mut handler,
-        none,
-        Sort::Ty,
-        &[condition.predicate],
-    )?;
-    let byte = uint(&mut cx, UintTy::U8)?;
-    let goal = goal_between(&mut cx, all, byte.into(), byte.into())?;
-    let held = evaluated(&mut table, &mut cx, &handler, goal)?;
-    assert!(rt; matches!(held, Some((Certainty::Yes, _))));
-    let goal = goal_between(&mut cx, none, byte.into(), byte.into())?;
-    let refused = evaluated(&mut table, &mut cx, &handler, goal)?;
-    assert!(rt; refused.is_none());
     Ok(())
 }
