@@ -56,7 +56,7 @@ use Rattle.nts_delegate.specs.Candidates.{IsEquation, AreEquations, IsRegionCons
 use Rattle.nts_delegate.proofs.Over.{over_knows}
 use Rattle.nts_terms.specs.Handles.{HoldsGoal}
 use Rattle.nts_store.specs.Formed.{AreFormed}
-use Rattle.nts_terms.proofs.Moved.{KeepsRest-refl}
+use Rattle.nts_terms.proofs.Moved.{KeepsRest-refl, KeepsRest-trans}
 use Rattle.nts_evaluation.specs.Meant.{Since, offers_of}
 use Rattle.nts_evaluation.specs.Instances.{HoldsValues, IsTermInstance}
 use Rattle.nts_evaluation.specs.Evaluation.{Goes, Runs, IsAdmitted, IsPosed, AllKnown, AreOfSorts, AreValues}
@@ -372,14 +372,6 @@ gave_fresh {a} {b} {t} {u} fresh vs h e k q s m w r =
         known = rw q (known-fresh b b vs t.entries fresh r);
         labels = λ P p v i. labels-fresh b vs (length t.entries.variables) fresh r P p v i;
       };
-    }
-
-pub KeepsRest-trans : {a b c : Cx} → KeepsRest a b → KeepsRest b c → KeepsRest a c
-KeepsRest-trans g h =
-    record {
-      declarations = h.declarations ∙ g.declarations;
-      limit = h.limit ∙ g.limit;
-      fast_paths = h.fast_paths ∙ g.fast_paths;
     }
 
 pub Runs-trans : {a b c : Cx} {t u v : Table} → Runs a b t u → Runs b c u v → Runs a c t v

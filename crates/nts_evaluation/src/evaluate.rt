@@ -1,6 +1,6 @@
 //! The recursion over nested goals. Its functions stand on the stack once for each goal above, so what
 //! they call and is not of the recursion is kept out of their frames, by `inline(never)`.
-ghost use Rattle.std.specs.Prelude.{true, false, ◌≡◌, ◌≢◌, ◌<◌, ◌≤◌, ◌/◌, ◌+◌, ◌-◌, IfOk, OnOk, OnErr, IfSome, IsNone, ◌↔◌, length, get_or};
+ghost use Rattle.std.specs.Prelude.{true, false, ◌≡◌, ◌≢◌, ◌<◌, ◌≤◌, ◌/◌, ◌+◌, ◌-◌, Some, IfOk, OnOk, OnErr, IfSome, IsNone, ◌↔◌, length, get_or};
 ghost use Rattle.nts_model.specs.Passing.{BringsOnly};
 ghost use Rattle.nts_model.specs.Proving.{IsDerived};
 ghost use Rattle.nts_model.specs.Responses.{answer_sequent};
@@ -43,21 +43,24 @@ pub struct Answer {
 }
 
 /// The depth of a goal below one of the given depth, if it is not nested too deep. Once a goal below
-/// that one overflowed, its later goals get a quarter of its depth.
-pub fn depth_below(depth: usize, has_overflowed: bool) -> Option<usize>
+/// that one overflowed, its later goals get a part of its depth, as the division says, where that is less.
+pub fn depth_below(depth: usize, has_overflowed: bool, division: usize) -> Option<usize>
     ensures too_deep { IsNone result ↔ (depth ≡ 0) }
     ensures less { IfSome result (λ below. below < depth) }
     ensures next { has_overflowed ≡ false → IfSome result (λ below. below ≡ depth - 1) }
-    ensures quarter { has_overflowed ≡ true → IfSome result (λ below. below ≡ depth / 4) }
+    ensures divided { has_overflowed ≡ true → 0 < division → depth / division < depth →
+        result ≡ Some (depth / division) }
 {
     if depth == 0 {
         return None;
     }
-    if has_overflowed {
-        Some(depth / 4)
-    } else {
-        Some(depth - 1)
+    if has_overflowed && division > 0 {
+        let part = depth / division;
+        if part < depth {
+            return Some(part);
+        }
     }
+    Some(depth - 1)
 }
 
 /// What a goal that was asked in a query of its own was answered.
@@ -422,7 +425,7 @@ fn evaluate_nested<H: GoalHandler>(
         result ≡ Err EvalError.NoSolution → RefusesPremise (AsksRefuted (H.handler s.base
         handler.now) table.old.mode depth) cx.old.nodes table.old trial.entry.values.now nested }
 {
-    match depth_below(depth, has_overflowed) {
+    match depth_below(depth, has_overflowed, cx.depth_division()) {
         None => Ok(Answer {
             certainty: Certainty::overflow(true),
             has_overflowed: true,

@@ -12,6 +12,8 @@ use std::test::Fail;
 fn limits(rt: HostRuntime) {
     let mut cx = Cx::new(rt.alloc());
     assert_eq!(rt; cx.recursion_limit(), 128);
+    assert_eq!(rt; cx.step_limit(), 8);
+    assert_eq!(rt; cx.depth_division(), 4);
     assert!(rt; !cx.disable_trait_solver_fast_paths());
     cx.set_recursion_limit(3);
     cx.set_disable_fast_paths(true);

@@ -7,6 +7,8 @@ use Rattle.nts_store.specs.Growth.{Extends}
 pub record KeepsRest (old new : Cx) : Type 0 where
   pub declarations : new.declarations ≡ old.declarations
   pub limit : new.recursion_limit ≡ old.recursion_limit
+  pub steps : new.step_limit ≡ old.step_limit
+  pub division : new.depth_division ≡ old.depth_division
   pub fast_paths : new.disable_fast_paths ≡ old.disable_fast_paths
 
 -- the context has more terms at most

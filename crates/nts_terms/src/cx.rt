@@ -12,6 +12,8 @@ pub struct Cx {
     pub nodes: Nodes,
     pub declarations: Declarations,
     pub recursion_limit: usize,
+    pub step_limit: usize,
+    pub depth_division: usize,
     pub disable_fast_paths: bool,
 }
 
@@ -23,6 +25,8 @@ impl Drop for Cx {
             nodes: _,
             declarations: _,
             recursion_limit: _,
+            step_limit: _,
+            depth_division: _,
             disable_fast_paths: _,
         } = self;
     }
@@ -34,6 +38,8 @@ impl Cx {
         ensures nodes { result.nodes ≡ [] }
         ensures declarations { result.declarations ≡ nothing_declared }
         ensures limit { result.recursion_limit ≡ 128 }
+        ensures steps { result.step_limit ≡ 8 }
+        ensures division { result.depth_division ≡ 4 }
         ensures fast_paths { result.disable_fast_paths ≡ false }
     {
         Cx {
@@ -41,6 +47,8 @@ impl Cx {
             nodes: Nodes::new(alloc),
             declarations: Declarations::new(alloc),
             recursion_limit: 128,
+            step_limit: 8,
+            depth_division: 4,
             disable_fast_paths: false,
         }
     }
@@ -56,6 +64,20 @@ impl Cx {
         ensures { self.new ≡ record self.old { recursion_limit = limit } }
     {
         self.recursion_limit = limit;
+    }
+
+    /// How many times an evaluation goes over a list of goals at most.
+    pub fn step_limit(&self) -> usize
+        ensures { result ≡ self.now.step_limit }
+    {
+        self.step_limit
+    }
+
+    /// By what the depth of a goal's further goals is divided once a goal below it was nested too deep.
+    pub fn depth_division(&self) -> usize
+        ensures { result ≡ self.now.depth_division }
+    {
+        self.depth_division
     }
 
     /// Whether evaluations skip the short cuts.

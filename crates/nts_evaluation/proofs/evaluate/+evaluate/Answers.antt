@@ -29,7 +29,8 @@ use Rattle.nts_evaluation.proofs.Labels.{only_earlier, only_back, only_same, onl
 use Rattle.nts_evaluation.proofs.Refuting.{asks_forced_more, asks_gained_more, asks_refuted_more, some_first, some_more, skipped, gained_last, gained_nothing, open_gains_nothing, gained_back, refuted_none, refuted_by_goal, refuted_by_constraint, refuted_back, only_met}
 use Rattle.nts_store.specs.declared.fault.EvalError.TheVariants as EvalError
 use Rattle.nts_evaluation.proofs.Forcing.{only_later, forced_back, run_first, run_more, run_last}
-use Rattle.nts_evaluation.proofs.Evaluating.{KeepsRest-trans, Goes-trans, Goes-extends, goes-back, Runs-trans, Runs-extends, Runs-refl, runs-back, Since-later, offers-kept, IsPosed-later, AreValues-later, IsCandidate-extended, IsNested-extended, can_fill, candidate_at, nested_at}
+use Rattle.nts_terms.proofs.Moved.{KeepsRest-trans}
+use Rattle.nts_evaluation.proofs.Evaluating.{Goes-trans, Goes-extends, goes-back, Runs-trans, Runs-extends, Runs-refl, runs-back, Since-later, offers-kept, IsPosed-later, AreValues-later, IsCandidate-extended, IsNested-extended, can_fill, candidate_at, nested_at}
 use Rattle.nts_evaluation.proofs.Opened.{on_ok, forced_through, gained_through, refuted_through, entered_through, labels_through, labels_entered, proved_through}
 use Rattle.nts_evaluation.proofs.evaluate.+evaluate.Goals as goal
 

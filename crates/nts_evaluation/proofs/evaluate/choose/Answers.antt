@@ -1,4 +1,5 @@
-use Rattle.nts_evaluation.proofs.Evaluating.{goes-back, IsPosed-later, IsCandidate-extended, candidate_at, KeepsRest-trans}
+use Rattle.nts_terms.proofs.Moved.{KeepsRest-trans}
+use Rattle.nts_evaluation.proofs.Evaluating.{goes-back, IsPosed-later, IsCandidate-extended, candidate_at}
 use Rattle.std.proofs.Common.{◌∙◌}
 use Rattle.std.proofs.lemmas.List.{take_all}
 use Rattle.nts_store.proofs.Growing.{Extends-trans}
