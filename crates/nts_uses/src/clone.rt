@@ -15,7 +15,11 @@ use next_trait_solver::ty::{
 use std::alloc::Global;
 
 /// That a trait holds for one argument, or nothing where it takes other arguments.
-fn holds_for(cx: &mut Cx, id: TraitId, argument: GenericArg) -> Result<Option<Predicate>, EvalError>
+pub(crate) fn holds_for(
+    cx: &mut Cx,
+    id: TraitId,
+    argument: GenericArg,
+) -> Result<Option<Predicate>, EvalError>
     requires { HoldsArg cx.old.nodes argument }
     ensures holds { IfOk result (λ p. IfSome p (HoldsPredicate cx.new.nodes)) }
     ensures grows { Grows cx.old cx.new }
@@ -61,7 +65,11 @@ fn add_rule(
 }
 
 /// The type `Vec(argument)`, or nothing where `Vec` takes other arguments.
-fn vec_of(cx: &mut Cx, vec: CtorId, argument: GenericArg) -> Result<Option<Ty>, EvalError>
+pub(crate) fn vec_of(
+    cx: &mut Cx,
+    vec: CtorId,
+    argument: GenericArg,
+) -> Result<Option<Ty>, EvalError>
     requires { HoldsArg cx.old.nodes argument }
     ensures holds { IfOk result (λ t. IfSome t (HoldsTy cx.new.nodes)) }
     ensures grows { Grows cx.old cx.new }

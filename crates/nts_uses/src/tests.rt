@@ -1,9 +1,15 @@
 //! What the example answers.
-use crate::clone_of_vec;
+use crate::{clone_of_vec, rule_of_vec};
 use next_trait_solver::ty::Certainty;
 
 #[test]
 fn vec_of_u32_is_clone(rt: HostRuntime) {
     let found = clone_of_vec(rt.alloc()).expect(&rt, "memory");
     assert!(rt; matches!(found, Some(Certainty::Yes)));
+}
+
+#[test]
+fn a_rule_leaves_one_goal(rt: HostRuntime) {
+    let found = rule_of_vec(rt.alloc()).expect(&rt, "memory");
+    assert!(rt; found == Some(1));
 }

@@ -1,0 +1,4 @@
+pub mod Frames
+pub mod Begun
+pub mod Ended
+pub mod Handed

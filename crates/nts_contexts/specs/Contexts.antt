@@ -1,0 +1,105 @@
+-- The context of an evaluation, as its callers see it.
+use Rattle.std.specs.Prelude.{◌≡◌, ℕ, List, [], ◌∷◌, ◌++◌, All, Option, Some, None, IfSome, Bool, true, false, Result, OnOk}
+use Rattle.std.specs.Borrow.{MutBor}
+use Rattle.nts_model.specs.Trees.{Tree}
+use Rattle.nts_model.specs.Contents.{Content}
+use Rattle.nts_store.specs.declared.nodes.NodeId.{NodeId}
+use Rattle.nts_store.specs.Growth.{tree_at}
+use Rattle.nts_terms.specs.declared.cx.Cx.{Cx}
+use Rattle.nts_terms.specs.declared.handles.Goal.{Goal}
+use Rattle.nts_certainty.specs.declared.sources.GoalSource.{GoalSource}
+use Rattle.nts_unify.specs.Reading.{content_of}
+use Rattle.nts_table.specs.Tables.{Table, IsTable}
+use Rattle.nts_evaluation.specs.Evaluation.{Runs, IsPosed}
+use Rattle.nts_contexts.specs.declared.state.EvalState.{EvalState}
+use Rattle.nts_contexts.specs.declared.context.EvalCtxt.{EvalCtxt}
+
+-- what a context's table stands for, and a term of its store
+abbrev pub content_in : {H : Type 0} → EvalCtxt H → Content
+content_in c = content_of c.cx.now.nodes c.table.now.entries
+
+abbrev pub tree_in : {H : Type 0} → EvalCtxt H → NodeId → Tree
+tree_in c n = tree_at c.cx.now.nodes n
+
+-- a goal of the context's store and table
+abbrev pub IsGoalOf : {H : Type 0} → EvalCtxt H → Goal → Type 0
+IsGoalOf c g = IsPosed c.cx.now.nodes c.table.now g
+
+-- goals of a store and a table, each with its source
+abbrev pub ArePosed : List Tree → Table → List (GoalSource × Goal) → Type 0
+ArePosed ts t gs = All (λ g. IsPosed ts t g.1) gs
+
+-- the context's table, goals and handler are of its store
+pub record IsReady {H : Type 0} (ready : List Tree → H → Type 0) (c : EvalCtxt H) : Type 0 where
+  pub table : IsTable c.cx.now.nodes c.table.now
+  pub goals : ArePosed c.cx.now.nodes c.table.now c.state.now.nested_goals.items
+  pub handler : ready c.cx.now.nodes c.handler.now
+
+-- what each call leaves of a context: its parts are the same, store and table went on, a fault and the taint stay
+pub record Keeps {H : Type 0} (ready : List Tree → H → Type 0) (old new : EvalCtxt H) : Type 0 where
+  pub table : new.table.ghost_name ≡ old.table.ghost_name
+  pub cx : new.cx.ghost_name ≡ old.cx.ghost_name
+  pub state : new.state.ghost_name ≡ old.state.ghost_name
+  pub handler : new.handler ≡ old.handler
+  pub runs : Runs old.cx.now new.cx.now old.table.now new.table.now
+  pub is_ready : IsReady ready new
+  pub fault : IfSome old.state.now.fault (λ f. new.state.now.fault ≡ Some f)
+  pub taint : old.state.now.is_tainted ≡ true → new.state.now.is_tainted ≡ true
+  pub depth : new.state.now.root_depth ≡ old.state.now.root_depth
+
+-- nothing was evaluated in between: the taint and the count of steps are as before
+pub record EvaluatedNothing (old new : EvalState) : Type 0 where
+  pub taint : new.is_tainted ≡ old.is_tainted
+  pub steps : new.last_steps ≡ old.last_steps
+
+-- a state with the same goals and taint, without a fault
+pub record IsCopy (old new : EvalState) : Type 0 where
+  pub goals : new.nested_goals.items ≡ old.nested_goals.items
+  pub taint : new.is_tainted ≡ old.is_tainted
+  pub fault : new.fault ≡ None
+  pub steps : new.last_steps ≡ old.last_steps
+  pub depth : new.root_depth ≡ old.root_depth
+
+-- the table with one more snapshot
+pub record IsOpened (t u : Table) : Type 0 where
+  pub entries : u.entries ≡ t.entries
+  pub saved : u.saved ≡ t.saved ++ t.entries ∷ []
+  pub mode : u.mode ≡ t.mode
+
+-- a root context as it begins, over this table, store and handler
+pub record IsRoot {H : Type 0} (ready : List Tree → H → Type 0) (t : Table) (s : Cx) (h : H) (n : ℕ) (c : EvalCtxt H) : Type 0 where
+  pub is_ready : IsReady ready c
+  pub table : IsOpened t c.table.now
+  pub cx : c.cx.now ≡ s
+  pub handler : c.handler.now ≡ h
+  pub goals : c.state.now.nested_goals.items ≡ []
+  pub taint : c.state.now.is_tainted ≡ false
+  pub fault : c.state.now.fault ≡ None
+  pub steps : c.state.now.last_steps ≡ 0
+  pub depth : c.state.now.root_depth ≡ n
+
+-- the context of a probe as it begins, in that context
+pub record IsProbe {H : Type 0} (ready : List Tree → H → Type 0) (outer c : EvalCtxt H) : Type 0 where
+  pub is_ready : IsReady ready c
+  pub table : IsOpened outer.table.now c.table.now
+  pub cx : c.cx.now ≡ outer.cx.now
+  pub handler : c.handler ≡ outer.handler
+  pub goals : c.state.now.nested_goals.items ≡ outer.state.now.nested_goals.items
+  pub taint : c.state.now.is_tainted ≡ outer.state.now.is_tainted
+  pub fault : c.state.now.fault ≡ None
+  pub steps : c.state.now.last_steps ≡ outer.state.now.last_steps
+  pub depth : c.state.now.root_depth ≡ outer.state.now.root_depth
+
+-- a closure whose calls are such was called with a context that begins so, answered r, and left a context like that
+pub record IsRun {H R : Type 0} (calls : MutBor (EvalCtxt H) → R → MutBor (EvalCtxt H) → Type 0) (begins : EvalCtxt H → Type 0) (r : R) (leaves : EvalCtxt H → Type 0) : Type 0 where
+  pub before : MutBor (EvalCtxt H)
+  pub after : MutBor (EvalCtxt H)
+  pub begun : begins before.now
+  pub called : calls before r after
+  pub left : leaves after.now
+
+-- what a root context leaves: its store, and its table where it was answered; it has no fault
+pub record IsLeft {H R E : Type 0} (r : Result R E) (t : Table) (s : Cx) (c : EvalCtxt H) : Type 0 where
+  pub cx : s ≡ c.cx.now
+  pub table : OnOk r (t.entries ≡ c.table.now.entries)
+  pub fault : c.state.now.fault ≡ None

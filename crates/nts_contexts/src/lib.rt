@@ -1,0 +1,11 @@
+//! The context in which rules are written: goals are added to it, values are related in it, and what it does can be
+//! tried out.
+#![tactic(auto, using(crate::proofs::Frames::keeps_then))]
+
+mod context;
+mod goals;
+mod relating;
+mod state;
+
+pub use context::EvalCtxt;
+pub use state::EvalState;

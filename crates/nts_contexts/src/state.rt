@@ -1,0 +1,142 @@
+//! What a context keeps beside the table and the store.
+ghost use Rattle.std.specs.Prelude.{◌≡◌, None, Some, Ok, IfOk, IfErr, IfSome, IsSome, OnOk, OnErr, ◌++◌, ◌∷◌, [], map};
+ghost use Rattle.nts_store.specs.Errors.{error_of};
+ghost use Rattle.nts_contexts.specs.Contexts.{IsCopy};
+ghost use Rattle.nts_contexts.specs.Faults.{fault_of, fault_in, fault_after};
+
+use nts_certainty::GoalSource;
+use nts_store::{EvalError, Fault};
+use nts_terms::{Goal, Span};
+use std::alloc::{AllocError, Global};
+
+/// What a context keeps for itself.
+#[derive(Drop)]
+pub struct EvalState {
+    /// The goals that were added and that are not proved yet, each with what it was added for.
+    pub nested_goals: Vec<(GoalSource, Goal)>,
+    /// Whether a goal that was added has no solution.
+    pub is_tainted: bool,
+    /// The first fault that a call met. Later calls answer it again.
+    pub fault: Option<Fault>,
+    /// How many times the last evaluation went over the goals.
+    pub last_steps: usize,
+    /// How deep goals may be nested.
+    pub root_depth: usize,
+    /// The place in the user's text that the rule is used at.
+    pub span: Span,
+}
+
+/// The fault that an error is, if it is one.
+fn fault_of(error: EvalError) -> Option<Fault>
+    ensures { result ≡ fault_of error }
+{
+    match error {
+        EvalError::NoSolution => None,
+        EvalError::Memory => Some(Fault::Memory),
+        EvalError::Full => Some(Fault::Full),
+    }
+}
+
+impl EvalState {
+    /// Answers the fault that was kept, if there is one.
+    pub(crate) fn check(&self) -> Result<(), EvalError>
+        ensures ok { OnOk result (self.now.fault ≡ None) }
+        ensures sound { self.now.fault ≡ None → result ≡ Ok tt }
+        ensures refused { IfErr result (λ e. IsSome (fault_of e)) }
+        ensures faulted { IfSome self.now.fault (λ f. result ≡ Err (error_of f)) }
+    {
+        match self.fault {
+            Some(fault) => Err(fault.into()),
+            None => Ok(()),
+        }
+    }
+
+    /// Keeps the fault that a call answered, if it is the first one, and hands the answer on.
+    pub(crate) fn note<R>(&mut self, answer: Result<R, EvalError>) -> Result<R, EvalError>
+        ensures same { result ≡ answer }
+        ensures fault { self.new ≡ record self.old { fault = fault_after self.old.fault answer } }
+    {
+        if self.fault.is_none() {
+            if let Err(error) = &answer {
+                self.fault = fault_of(*error);
+            }
+        }
+        answer
+    }
+
+    /// The answer, or the fault that was kept in its place.
+    pub(crate) fn end<R: Drop>(&self, answer: Result<R, EvalError>) -> Result<R, EvalError>
+        ensures sound { self.now.fault ≡ None → result ≡ answer }
+        ensures faulted { IfSome self.now.fault (λ f. result ≡ Err (error_of f)) }
+    {
+        match self.fault {
+            Some(fault) => Err(fault.into()),
+            None => answer,
+        }
+    }
+
+    /// A state with the same goals and taint, for a probe.
+    pub(crate) fn copy(&self, alloc: Global) -> Result<EvalState, AllocError>
+        ensures { IfOk result (IsCopy self.now) }
+    {
+        let nested_goals = Vec::from_slice(alloc, &self.nested_goals)?;
+        Ok(EvalState {
+            nested_goals,
+            is_tainted: self.is_tainted,
+            fault: None,
+            last_steps: self.last_steps,
+            root_depth: self.root_depth,
+            span: self.span,
+        })
+    }
+
+    /// Adds a goal from that source.
+    pub(crate) fn push(&mut self, source: GoalSource, goal: Goal) -> Result<(), AllocError>
+        ensures ok { OnOk result (self.new.nested_goals.items ≡ self.old.nested_goals.items ++ (source, goal) ∷ []) }
+        ensures err { OnErr result (self.new.nested_goals.items ≡ self.old.nested_goals.items) }
+        ensures taint { self.new.is_tainted ≡ self.old.is_tainted }
+        ensures fault { self.new.fault ≡ self.old.fault }
+        ensures steps { self.new.last_steps ≡ self.old.last_steps }
+        ensures depth { self.new.root_depth ≡ self.old.root_depth }
+    {
+        self.nested_goals.push((source, goal))?;
+        Ok(())
+    }
+
+    /// Adds goals from that source, all or none of them.
+    pub(crate) fn push_all(
+        &mut self,
+        alloc: Global,
+        source: GoalSource,
+        goals: &[Goal],
+    ) -> Result<(), AllocError>
+        ensures ok { OnOk result (self.new.nested_goals.items ≡ self.old.nested_goals.items ++ map (λ g. (source, g)) goals.now) }
+        ensures err { OnErr result (self.new.nested_goals.items ≡ self.old.nested_goals.items) }
+        ensures empty { goals.now ≡ [] → result ≡ Ok tt }
+        ensures taint { self.new.is_tainted ≡ self.old.is_tainted }
+        ensures fault { self.new.fault ≡ self.old.fault }
+        ensures steps { self.new.last_steps ≡ self.old.last_steps }
+        ensures depth { self.new.root_depth ≡ self.old.root_depth }
+    {
+        if goals.is_empty() {
+            return Ok(());
+        }
+        let mut added = with_source(alloc, source, goals)?;
+        self.nested_goals.append(&mut added)
+    }
+}
+
+/// Goals, each with that source.
+fn with_source(
+    alloc: Global,
+    source: GoalSource,
+    goals: &[Goal],
+) -> Result<Vec<(GoalSource, Goal)>, AllocError>
+    ensures { IfOk result (λ v. v.items ≡ map (λ g. (source, g)) goals.now) }
+{
+    let mut added = Vec::with_capacity(alloc, goals.len())?;
+    for goal in goals {
+        added.push((source, *goal))?;
+    }
+    Ok(added)
+}

@@ -1,0 +1,128 @@
+//! A rule that is written in a context: two types are made one, and a goal is asked for.
+ghost use Rattle.std.specs.Prelude.{◌≡◌, OnOk, OnErr};
+ghost use Rattle.nts_model.specs.Trees.{any_argument};
+ghost use Rattle.nts_delegate.specs.Clauses.{AreReady};
+ghost use Rattle.nts_table.specs.Tables.{IsTable, IsSide};
+ghost use Rattle.nts_terms.specs.Handles.{HoldsGoal};
+ghost use Rattle.nts_evaluation.specs.Evaluation.{IsPosed};
+ghost use Rattle.nts_contexts.specs.Contexts.{IsReady, Keeps, IsGoalOf};
+
+use crate::clone::{holds_for, vec_of};
+use next_trait_solver::clauses::Clauses;
+use next_trait_solver::solve::{EvalCtxt, goal_is_admitted};
+use next_trait_solver::ty::{
+    Cx, EvalError, GenericArg, Goal, GoalSource, InferCtxt, Sort, Span, TyKind, TypingMode, UintTy,
+    Variance,
+};
+use std::alloc::Global;
+
+/// Makes two types one in the table, and answers how many goals a rule about them leaves: the goal is added in a probe, since
+/// a root context is left without goals. Where the types cannot be made one, the table is as before.
+#[tactic(auto, using(nts_contexts::proofs::Handed::handed, nts_contexts::proofs::Frames::keeps_then))]
+pub fn use_rule(
+    table: &mut InferCtxt,
+    cx: &mut Cx,
+    rules: &Clauses,
+    lhs: GenericArg,
+    rhs: GenericArg,
+    goal: Goal,
+) -> Result<usize, EvalError>
+    requires table { IsTable cx.old.nodes table.old }
+    requires ready { AreReady cx.old.nodes rules.now }
+    requires left { IsSide any_argument cx.old.nodes table.old lhs.node }
+    requires right { IsSide any_argument cx.old.nodes table.old rhs.node }
+    requires goal { IsPosed cx.old.nodes table.old goal }
+    ensures err { OnErr result (table.new ≡ table.old) }
+{
+    let depth = cx.recursion_limit();
+    EvalCtxt::enter_root(
+        table,
+        cx,
+        rules,
+        depth,
+        Span(0),
+        |ecx: &mut EvalCtxt<'_, Clauses>| -> Result<usize, EvalError>
+            requires ready { IsReady AreReady ecx.old }
+            requires left { IsSide any_argument ecx.old.cx.now.nodes ecx.old.table.now lhs.node }
+            requires right { IsSide any_argument ecx.old.cx.now.nodes ecx.old.table.now rhs.node }
+            requires goal { IsGoalOf ecx.old goal }
+            ensures keeps { Keeps AreReady ecx.old ecx.new }
+            ensures goals { OnOk result (ecx.new.state.now.nested_goals.items ≡ ecx.old.state.now.nested_goals.items) }
+        {
+            ecx.eq_structurally_relating_aliases(goal.param_env, lhs, rhs)?;
+            ecx.probe(
+                |probe: &mut EvalCtxt<'_, Clauses>| -> Result<usize, EvalError>
+                    requires ready { IsReady AreReady probe.old }
+                    requires goal { IsGoalOf probe.old goal }
+                    ensures keeps { Keeps AreReady probe.old probe.new }
+                {
+                    probe.add_goal(GoalSource::Misc, goal)?;
+                    Ok(probe.state.nested_goals.len())
+                },
+            )
+        },
+    )
+}
+
+/// Uses the rule, where its types are of the table and its goal may be asked.
+#[tactic(auto, using(crate::proofs::Asked::asked))]
+fn try_rule(
+    table: &mut InferCtxt,
+    cx: &mut Cx,
+    rules: &Clauses,
+    lhs: GenericArg,
+    rhs: GenericArg,
+    goal: Goal,
+) -> Result<Option<usize>, EvalError>
+    requires table { IsTable cx.old.nodes table.old }
+    requires ready { AreReady cx.old.nodes rules.now }
+    requires goal { HoldsGoal cx.old.nodes goal }
+{
+    if !goal_is_admitted(table, cx, goal)? {
+        return Ok(None);
+    }
+    if !cx.holds(lhs) || !table.knows(cx, lhs)? {
+        return Ok(None);
+    }
+    if !cx.holds(rhs) || !table.knows(cx, rhs)? {
+        return Ok(None);
+    }
+    Ok(Some(use_rule(table, cx, rules, lhs, rhs, goal)?))
+}
+
+/// How many goals the rule leaves that makes `Vec(T)` and `Vec(u32)` one for an unknown `T`, which is to be `Clone`: one. There is no
+/// answer where a term does not fit.
+#[tactic(auto, using(nts_evaluation::proofs::Asking::asking, nts_terms::proofs::Moved::growth))]
+pub fn rule_of_vec(alloc: Global) -> Result<Option<usize>, EvalError> {
+    let mut cx = Cx::new(alloc);
+    let mut table = InferCtxt::new(alloc, TypingMode::PostAnalysis);
+    let rules = Clauses::new(alloc);
+    let clone = cx.declare_trait(&[Sort::Ty])?;
+    let vec = cx.declare_ctor(&[Sort::Ty], &[Variance::Covariant])?;
+    let element: GenericArg = table.next_ty_infer(&mut cx)?.into();
+    let word = cx.mk_ty(TyKind::Uint(UintTy::U32))?;
+    let Some(rhs) = vec_of(&mut cx, vec, word.into())? else {
+        return Ok(None);
+    };
+    if !cx.holds(element) {
+        return Ok(None);
+    }
+    let Some(lhs) = vec_of(&mut cx, vec, element)? else {
+        return Ok(None);
+    };
+    if !cx.holds(element) {
+        return Ok(None);
+    }
+    let Some(predicate) = holds_for(&mut cx, clone, element)? else {
+        return Ok(None);
+    };
+    let param_env = cx.mk_env(&[])?;
+    let goal = Goal {
+        param_env,
+        predicate,
+    };
+    if !cx.holds(goal.predicate) {
+        return Ok(None);
+    }
+    try_rule(&mut table, &mut cx, &rules, lhs.into(), rhs.into(), goal)
+}
