@@ -336,3 +336,133 @@ fn bound_goals(rt: HostRuntime) {
         ],
     );
 }
+
+/// A condition that is ambiguous is asked again once another one has told its variables.
+#[test]
+fn conditions_in_steps(rt: HostRuntime) {
+    check(
+        &rt,
+        rt.alloc(),
+        &[
+            // The second condition tells the variable of the first.
+            done(
+                b"trait A(type)\ntrait E(type, type)\ntrait G(type)\nimpl A(u32)\nimpl A(u8)\nimpl E(?Z, ?Z)\nimpl G(?X) <- A(?Y), E(?Y, ?X)\ngoal G(u8)\n",
+                b"yes\n",
+            ),
+            // Seven steps that find something out, and one that does not: the limit.
+            done(
+                b"trait N(type, type)\ntrait G(type)\nimpl N(u8, u16)\nimpl N(u16, u32)\nimpl N(u32, u64)\nimpl N(u64, u128)\nimpl N(u128, usize)\nimpl N(usize, i8)\nimpl N(i8, i16)\nimpl N(i16, i32)\nimpl G(u8) <- N(?X6, ?X7), N(?X5, ?X6), N(?X4, ?X5), N(?X3, ?X4), N(?X2, ?X3), N(?X1, ?X2), N(u8, ?X1)\ngoal G(u8)\n",
+                b"yes\n",
+            ),
+            done(
+                b"trait N(type, type)\ntrait G(type)\nimpl N(u8, u16)\nimpl N(u16, u32)\nimpl N(u32, u64)\nimpl N(u64, u128)\nimpl N(u128, usize)\nimpl N(usize, i8)\nimpl N(i8, i16)\nimpl N(i16, i32)\nimpl G(u8) <- N(?X7, ?X8), N(?X6, ?X7), N(?X5, ?X6), N(?X4, ?X5), N(?X3, ?X4), N(?X2, ?X3), N(?X1, ?X2), N(u8, ?X1)\ngoal G(u8)\n",
+                b"maybe overflow\n",
+            ),
+            // In the other order one step finds all out.
+            done(
+                b"trait N(type, type)\ntrait G(type)\nimpl N(u8, u16)\nimpl N(u16, u32)\nimpl N(u32, u64)\nimpl N(u64, u128)\nimpl N(u128, usize)\nimpl N(usize, i8)\nimpl N(i8, i16)\nimpl N(i16, i32)\nimpl G(u8) <- N(u8, ?X1), N(?X1, ?X2), N(?X2, ?X3), N(?X3, ?X4), N(?X4, ?X5), N(?X5, ?X6), N(?X6, ?X7), N(?X7, ?X8)\ngoal G(u8)\n",
+                b"yes\n",
+            ),
+        ],
+    );
+}
+
+#[test]
+fn the_order_of_conditions(rt: HostRuntime) {
+    check(
+        &rt,
+        rt.alloc(),
+        &[
+            done(
+                b"trait A(type)\ntrait E(type, type)\ntrait G(type)\nimpl A(u32)\nimpl A(u8)\nimpl E(?Z, ?Z)\nimpl G(?X) <- A(?Y), E(?Y, ?X)\ngoal G(u8)\ngoal G(u16)\ngoal G(?x)\n",
+                b"yes\nno\nmaybe ambiguity\n",
+            ),
+            done(
+                b"trait A(type)\ntrait E(type, type)\ntrait G(type)\nimpl A(u32)\nimpl A(u8)\nimpl E(?Z, ?Z)\nimpl G(?X) <- E(?Y, ?X), A(?Y)\ngoal G(u8)\ngoal G(u16)\ngoal G(?x)\n",
+                b"yes\nno\nmaybe ambiguity\n",
+            ),
+        ],
+    );
+}
+
+#[test]
+fn impls_that_say_the_same(rt: HostRuntime) {
+    check(
+        &rt,
+        rt.alloc(),
+        &[
+            done(
+                b"trait S(type)\ntrait A(type)\ntrait B(type)\ntype Vec(type)\nimpl A(?X)\nimpl B(?X)\nimpl S(Vec(?X)) <- A(?X)\nimpl S(Vec(?X)) <- B(?X)\ngoal S(?x)\ngoal S(Vec(u8))\ngoal S(Vec(?x))\ngoal S(u8)\n",
+                b"yes\n  ?x = Vec(?0)\nyes\nyes\n  ?x = ?x\nno\n",
+            ),
+            // By different conditions.
+            done(
+                b"trait S(type)\ntrait A(type)\ntrait B(type)\ntype Vec(type)\nimpl A(u8)\nimpl B(u8)\nimpl S(Vec(?X)) <- A(?X)\nimpl S(Vec(?X)) <- B(?X)\ngoal S(?x)\n",
+                b"yes\n  ?x = Vec(u8)\n",
+            ),
+            // They do not say the same of every goal.
+            done(
+                b"trait S(type)\ntrait A(type)\ntrait B(type)\ntype Vec(type)\nimpl A(u8)\nimpl B(?X)\nimpl S(Vec(?X)) <- A(?X)\nimpl S(Vec(?X)) <- B(?X)\ngoal S(?x)\ngoal S(Vec(u8))\ngoal S(Vec(u16))\n",
+                b"maybe ambiguity\nyes\nyes\n",
+            ),
+            // A region constraint, too, is the same.
+            done(
+                b"trait R(region)\nimpl R('?X)\nimpl R('?Y)\ngoal R('a)\n",
+                b"yes\n  'a == '_0\n",
+            ),
+        ],
+    );
+}
+
+#[test]
+fn an_impl_that_always_holds(rt: HostRuntime) {
+    check(
+        &rt,
+        rt.alloc(),
+        &[
+            done(
+                b"trait T(type)\nimpl T(u32)\nimpl T(?X)\ngoal T(?x)\n",
+                b"yes\n  ?x = ?x\n",
+            ),
+            done(
+                b"trait T(type)\nimpl T(?X)\nimpl T(u32)\nimpl T(u8)\ngoal T(?x)\ngoal T(u8)\n",
+                b"yes\n  ?x = ?x\nyes\n",
+            ),
+            // One that holds for one type alone does not win over one in doubt.
+            done(
+                b"trait T(type)\ntrait A(type)\nimpl A(u8)\nimpl A(u16)\nimpl T(u8)\nimpl T(?X) <- A(?X)\ngoal T(?x)\ngoal T(u8)\ngoal T(u32)\n",
+                b"maybe ambiguity\nyes\nno\n",
+            ),
+            // What is said of a region counts.
+            done(
+                b"trait R(region)\nimpl R('static)\nimpl R('?X)\ngoal R('a)\n",
+                b"maybe ambiguity\n",
+            ),
+            // It wins over an overflow, and one that holds for one type alone does not.
+            done(
+                b"trait L(type)\ntrait T(type)\ntrait U(type)\ntype W(type)\nimpl L(W(?X)) <- L(W(W(?X)))\nimpl T(?X) <- L(W(u8))\nimpl T(?X)\nimpl U(?X) <- L(W(u8))\nimpl U(u8)\ngoal T(?x)\ngoal U(?x)\ngoal U(u8)\ngoal U(u16)\n",
+                b"yes\n  ?x = ?x\nmaybe overflow\nyes\nmaybe overflow\n",
+            ),
+        ],
+    );
+}
+
+/// An impl whose condition is refused is dropped, and stands in the way of no other.
+#[test]
+fn an_impl_that_fails_later(rt: HostRuntime) {
+    check(
+        &rt,
+        rt.alloc(),
+        &[
+            done(
+                b"trait A(type)\ntrait B(type)\ntrait C(type)\nimpl B(u8)\nimpl C(?X) <- A(?X)\nimpl C(?X) <- B(?X)\ngoal C(?x)\ngoal C(u8)\ngoal C(u16)\n",
+                b"yes\n  ?x = u8\nyes\nno\n",
+            ),
+            // What it found out before does not stay.
+            done(
+                b"trait A(type)\ntrait B(type)\ntrait C(type)\ntrait E(type, type)\nimpl B(u8)\nimpl E(?Z, ?Z)\nimpl C(?X) <- E(?Y, ?X), A(?Y)\nimpl C(?X) <- E(?X, ?Y), B(?Y)\ngoal C(?x)\n",
+                b"yes\n  ?x = u8\n",
+            ),
+        ],
+    );
+}

@@ -1,49 +1,38 @@
 -- What the table of a query answers, once its goal was evaluated there.
-use Rattle.std.proofs.Common.{◌≡◌, ◌⊎◌, ⊎_elim, inl, inr, ℕ, Bool, true, false, List, [], ◌∷◌, ◌++◌, refl, sym, ap, ◌∙◌, subst, arith}
+use Rattle.std.proofs.Common.{◌≡◌, ⊎_elim, inl, inr, List, [], ◌∷◌, sym, ap, ◌∙◌, subst, arith}
 use Rattle.std.specs.Prelude.{All}
 use Rattle.std.proofs.lemmas.List.Elements.{All-head, All-tail, All-cons}
-use Rattle.nts_model.specs.declared.labels.Label.{Label}
 use Rattle.nts_model.specs.Trees.{Tree, more}
 use Rattle.nts_model.specs.Contents.{Content}
 use Rattle.nts_model.specs.Resolving.{Knows}
 use Rattle.nts_model.specs.Sequents.{Among}
 use Rattle.nts_model.specs.Holding.{Continues}
 use Rattle.nts_model.specs.Rules.{Meaning, Mode}
-use Rattle.nts_model.specs.Handlers.{Candidate, filled}
+use Rattle.nts_model.specs.Handlers.{filled}
 use Rattle.nts_model.specs.Inputs.{CanonicalInput as Form, PositionKind}
-use Rattle.nts_model.specs.Forcing.{Leaves}
 use Rattle.nts_model.specs.Passing.{TreePasses, TablePasses, BringsOnly}
 use Rattle.nts_model.specs.Proving as proving
 use Rattle.nts_model.specs.Responses.{Response as Answer, IsQueryTable, IsOverPositions, answer_sequent}
 use Rattle.nts_model.proofs.Closing.{said_derived}
-use Rattle.nts_model.proofs.Held.{Continues-refl}
 use Rattle.nts_model.proofs.Querying.{all_plain, own_in}
 use Rattle.nts_model.proofs.Slots.{Knows-kept}
-use Rattle.nts_certainty.specs.declared.certainty.Certainty.{Certainty}
-use Rattle.nts_certainty.specs.declared.certainty.Certainty.TheVariants as certainty
 use Rattle.nts_store.specs.Formed.{AreFormed}
 use Rattle.nts_store.specs.Growth.{tree_at, Extends}
 use Rattle.nts_store.proofs.Growing.{IsIn-extended}
 use Rattle.nts_terms.specs.declared.handles.GenericArg.{GenericArg}
 use Rattle.nts_terms.specs.declared.handles.Goal.{Goal}
 use Rattle.nts_unify.specs.Entries.{Entries}
-use Rattle.nts_unify.specs.Changing.{HasClosedSides}
 use Rattle.nts_unify.specs.Reading.{content_of}
-use Rattle.nts_unify.specs.Lawful.{content_of-extended}
 use Rattle.nts_unify.specs.declared.contents.HiddenType.{HiddenType}
-use Rattle.nts_unify.proofs.SavedLemmas.{push_inj}
 use Rattle.nts_table.specs.Tables.{Table, IsTable}
 use Rattle.nts_canonical.specs.declared.types.CanonicalInput.{CanonicalInput}
 use Rattle.nts_canonical.specs.declared.types.QueryInput.{QueryInput}
 use Rattle.nts_canonical.specs.Forms.{form_of, query_tree, trees_of}
 use Rattle.nts_canonical.specs.Kinds.{AreInputKinds}
 use Rattle.nts_canonical.specs.Building.{IsArgOf, values_of, made_entries}
-use Rattle.nts_evaluation.specs.Asking.{Answers, AnswersInPart, IsResponseOf, first_table, first_values, asked_environment, asked_predicate, without_constraints}
-use Rattle.nts_evaluation.specs.Refuting.{Gains}
-use Rattle.nts_evaluation.specs.Evaluation.{Goes, asked_terms}
-use Rattle.nts_evaluation.specs.Answering.{is_kept, told_in}
+use Rattle.nts_evaluation.specs.Asking.{IsResponseOf, first_table, first_values, asked_environment, asked_predicate}
+use Rattle.nts_evaluation.specs.Evaluation.{asked_terms}
 use Rattle.nts_evaluation.proofs.QueryTables.{first_content, first_passes, is_label_in, queries_pass, labels_in, table_in, values_pass, asked_passes, value_formed}
-use Rattle.nts_evaluation.proofs.Refuting.{gained_nothing}
 use Rattle.nts_evaluation.proofs.Running.{term_table}
 
 -- the goal of the query is that of its input, in the first table
@@ -61,37 +50,6 @@ query_predicate a b input q e = first_part _ _ _ _ (rest_part _ _ _ _ e)
 
 pub first_entries : (ts : List Tree) (ks : List PositionKind) (e f : Entries) (hs : List HiddenType) → f ≡ e → e ≡ made_entries ks hs → content_of ts f ≡ first_table ks
 first_entries ts ks e f hs same is = ap (content_of ts) (same ∙ is) ∙ first_content ts ks hs
-
--- how the run of a query ended: as it was left, or as it began
-pub ended_as : (k : Bool) (q p u v : Table) → p.saved ≡ q.saved ++ q.entries ∷ [] → u.saved ≡ p.saved → (k ≡ true → v.entries ≡ u.entries) → (k ≡ false → u.saved ≡ v.saved ++ v.entries ∷ []) → (v.entries ≡ u.entries) ⊎ (v.entries ≡ q.entries)
-ended_as true q p u v opened same kept taken = inl (kept refl)
-ended_as false q p u v opened same kept taken = inr (push_inj v.saved q.saved v.entries q.entries (sym (taken refl) ∙ same ∙ opened)).1
-
--- a yes is kept
-pub yes_is_kept : {c : Certainty} → c ≡ certainty.Yes → is_kept c ≡ true
-yes_is_kept e = rw e refl
-
-module _ (b d : List Tree) (q p u v : Table) (table : IsTable b q) (same : p.entries ≡ q.entries) (goes : Goes b d p u) (ended : (v.entries ≡ u.entries) ⊎ (v.entries ≡ q.entries)) where
-  before : content_of b p.entries ≡ content_of b q.entries
-  before = ap (content_of b) same
-
-  pub ended_continues : Continues (content_of b q.entries) (content_of d v.entries)
-  ended_continues = ⊎_elim
-      (λ (e : v.entries ≡ u.entries). subst (λ z. Continues (content_of b q.entries) (content_of d z)) (sym e) (rw before at goes.continues))
-      (λ (e : v.entries ≡ q.entries). subst (λ z. Continues (content_of b q.entries) z) (sym (ap (content_of d) e ∙ content_of-extended goes.extends table.now)) (Continues-refl (content_of b q.entries) table.now.sound)) ended
-
-  pub ended_passes : (P : Label → Bool) → TablePasses P (content_of b q.entries) → TablePasses P (content_of d u.entries) → TablePasses P (content_of d v.entries)
-  ended_passes P h k = ⊎_elim
-      (λ (e : v.entries ≡ u.entries). subst (λ z. TablePasses P (content_of d z)) (sym e) k)
-      (λ (e : v.entries ≡ q.entries). subst (TablePasses P) (sym (ap (content_of d) e ∙ content_of-extended goes.extends table.now)) h) ended
-
-  pub ended_sides : HasClosedSides (content_of b q.entries) → HasClosedSides (content_of d v.entries)
-  ended_sides h = ⊎_elim
-      (λ (e : v.entries ≡ u.entries). subst (λ z. HasClosedSides (content_of d z)) (sym e) (goes.sides (subst (λ z. HasClosedSides (content_of b z)) (sym same) h)))
-      (λ (e : v.entries ≡ q.entries). subst HasClosedSides (sym (ap (content_of d) e ∙ content_of-extended goes.extends table.now)) h) ended
-
-  pub ended_contents : (content_of d v.entries ≡ content_of d u.entries) ⊎ (content_of d v.entries ≡ content_of b p.entries)
-  ended_contents = ⊎_elim (λ (e : v.entries ≡ u.entries). inl (ap (content_of d) e)) (λ (e : v.entries ≡ q.entries). inr (ap (content_of d) e ∙ content_of-extended goes.extends table.now ∙ sym before)) ended
 
 -- the values of the positions stay terms of the table
 pub args_later : (b d : List Tree) (e f : Entries) (xs : List GenericArg) → Extends b d → Continues (content_of b e) (content_of d f) → All (IsArgOf b e) xs → All (IsArgOf d f) xs
@@ -146,17 +104,3 @@ query_says ks c f r m mode same table says env predicate h =
     let proved : proving.IsProved m mode c (filled (first_values ks) f.environment) (filled (first_values ks) f.predicate) = rw same at h in
     subst (λ z. proving.IsDerived m mode (answer_sequent f z)) (sym says.is)
     (said_derived c table.sound ks (first_values ks) says.roots x says.reads (all_plain ks c (first_values ks) x table says.reads says.no_hidden says.no_goals) (own_in ks c (first_values ks) x table says.reads says.no_hidden says.no_goals) m mode f env predicate proved)
-
--- answers to the input
-pub answers_of : {P : Leaves} (f : Form) (c d : Content) (e g : Tree) (qs : List Tree) (r : Answer) → c ≡ first_table f.kinds → e ≡ asked_environment f → g ≡ asked_predicate f → qs ≡ first_values f.kinds → P c d e g → IsResponseOf d qs r → Answers P f r
-answers_of {P} f c d e g qs r first env predicate values h says = record { found = d; leaves = rw (first, env, predicate) at h; says = rw values at says }
-
-told : (x : Certainty) (c : Content) (qs : List Tree) (r : Answer) → IsResponseOf (told_in x c) qs r → IsResponseOf c qs r ⊎ IsResponseOf (without_constraints c) qs r
-told certainty.Yes c qs r h = inl h
-told (certainty.Maybe i) c qs r h = inr h
-
-pub answers_in_part_of : (offers : Tree → Tree → List Candidate) (n : ℕ) (f : Form) (c d z : Content) (e g : Tree) (qs : List Tree) (x : Certainty) (r : Answer) → c ≡ first_table f.kinds → e ≡ asked_environment f → g ≡ asked_predicate f → qs ≡ first_values f.kinds
-    → Gains offers n c d e g → (z ≡ d) ⊎ (z ≡ c) → IsResponseOf (told_in x z) qs r → AnswersInPart (Gains offers n) f r
-answers_in_part_of offers n f c d z e g qs x r first env predicate values h ended says =
-    let gained : Gains offers n c z e g = ⊎_elim (λ (i : z ≡ d). subst (λ y. Gains offers n c y e g) (sym i) h) (λ (i : z ≡ c). gained_nothing offers n c z e g i) ended in
-    record { found = z; leaves = rw (first, env, predicate) at gained; says = told x z (first_values f.kinds) r (rw values at says) }

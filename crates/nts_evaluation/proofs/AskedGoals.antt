@@ -1,5 +1,5 @@
 -- A goal that was asked in a query: what the response that was applied says of the goal.
-use Rattle.std.proofs.Common.{◌≡◌, ⊎_elim, inl, inr, Bool, List, [], ◌∷◌, map, refl, sym, ap, ◌∙◌, subst, arith, false}
+use Rattle.std.proofs.Common.{◌≡◌, ⊎_elim, inl, inr, ℕ, Bool, List, [], ◌∷◌, map, refl, sym, ap, ◌∙◌, subst, arith, false}
 use Rattle.std.specs.Prelude.{All, ◌↔◌, Result, Ok, Err, IfOk, OnOk}
 use Rattle.std.specs.Global.{Vec}
 use Rattle.std.proofs.lemmas.List.Elements.{All-head, All-tail, All-cons}
@@ -37,17 +37,16 @@ use Rattle.nts_canonical.specs.Building.{IsArgOf, kinds_of}
 use Rattle.nts_response.specs.declared.types.Response.{Response}
 use Rattle.nts_response.specs.Forms.{response_at}
 use Rattle.nts_response.specs.Applicable.{ShowsConstraints, IsApplicable, IsApplied}
-use Rattle.nts_evaluation.specs.Asking.{Refuses, Asks, RefusesAsked, IsInputFor, first_table, asked_environment, asked_predicate}
+use Rattle.nts_evaluation.specs.Asking.{IsInputFor}
+use Rattle.nts_evaluation.specs.Telling.{QueryTells, QueryRefutes, Asked, Refused}
+use Rattle.nts_evaluation.specs.Telling.Asked.{asked_by}
+use Rattle.nts_evaluation.specs.Telling.Refused.{by_query, by_response}
+use Rattle.nts_model.specs.Handlers.{Candidate}
 use Rattle.nts_evaluation.specs.Running.{Stays}
 use Rattle.nts_evaluation.specs.Evaluation.{IsPosed, asked_terms}
 use Rattle.nts_evaluation.specs.Answering.{IsQueryOf, IsAnswerTo, Evaluates}
 use Rattle.nts_evaluation.proofs.Queried.{original_named}
 use Rattle.nts_evaluation.proofs.Running.{term_table, term_later}
-
--- two facts of one answer
-pub ok_each : {A E : Type 0} {P Q R : A → Type 0} (r : Result A E) → ((x : A) → P x → Q x → R x) → IfOk r P → IfOk r Q → IfOk r R
-ok_each (Ok x) f p q = f x p q
-ok_each (Err e) f p q = tt
 
 pub ok_both : {A E : Type 0} {P R : A → Type 0} {Q : Type 0} (r : Result A E) → ((x : A) → P x → Q → R x) → IfOk r P → OnOk r Q → IfOk r R
 ok_both (Ok x) f p q = f x p q
@@ -153,8 +152,8 @@ module _ {a b d : List Tree} {t : Table} {g : Goal} {q : Vec GenericArg × Canon
     evaluates fits x same =
         record { input = asked; of_goal = of_goal; response = response_at d r; fits = rw kinds_are fits.to; applied = here; changes = same }
 
-    pub asks : {A : Form → Answer → Type 0} → A (form_of b q.1) (response_at d r) → Asks A (content_of a t.entries) (content_of e u.entries) (tree_at a g.param_env.node) (tree_at a g.predicate.node)
-    asks {A} h = record { input = asked; of_goal = of_goal; response = response_at d r; answers = subst (λ f. A f (response_at d r)) query.form h; applies = here.applies }
+    pub asks : {offers : Tree → Tree → List Candidate} {n : ℕ} → QueryTells offers n (form_of b q.1) (response_at d r) → Asked offers n (content_of a t.entries) (content_of e u.entries) (tree_at a g.param_env.node) (tree_at a g.predicate.node)
+    asks {offers} {n} h = asked_by n asked (response_at d r) of_goal (omega arith) (subst (λ f. QueryTells offers n f (response_at d r)) query.form h) here.applies
 
     pub asked_stays : (m : Meaning) (mode : Mode) → AreFormed e → IsTable e u → IsAnswerTo d (kinds_of q.1) r → proving.IsDerived m mode (answer_sequent (form_of b q.1) (response_at d r))
         → Stays (content_of e u.entries) (λ z. proving.IsProved m mode z (tree_at a g.param_env.node) (tree_at a g.predicate.node))
@@ -179,12 +178,11 @@ module _ {a b d : List Tree} {t : Table} {g : Goal} {q : Vec GenericArg × Canon
       }
 
   -- what the query refutes, and what can't be applied
-  pub query_refutes : {N : Refuses} {A : Form → Answer → Type 0} → (let f = form_of b q.1 in N (first_table f.kinds) (asked_environment f) (asked_predicate f)) → RefusesAsked N A (content_of a t.entries) (tree_at a g.param_env.node) (tree_at a g.predicate.node)
-  query_refutes {N} {A} h = record { input = asked; of_goal = of_goal; refuses = inl (subst (λ f. N (first_table f.kinds) (asked_environment f) (asked_predicate f)) query.form h) }
+  pub query_refutes : {offers : Tree → Tree → List Candidate} {n : ℕ} → QueryRefutes offers n (form_of b q.1) → Refused offers n (content_of a t.entries) (tree_at a g.param_env.node) (tree_at a g.predicate.node)
+  query_refutes {offers} {n} h = by_query n asked of_goal (omega arith) (subst (λ f. QueryRefutes offers n f) query.form h)
 
-  pub response_refused : {N : Refuses} {A : Form → Answer → Type 0} (r : Canonical Response) → A (form_of b q.1) (response_at d r) → RefusesResponse (content_of d t.entries) (trees_of d q.0.items) (response_at d r) → RefusesAsked N A (content_of a t.entries) (tree_at a g.param_env.node) (tree_at a g.predicate.node)
-  response_refused {N} {A} r h k =
-      record { input = asked; of_goal = of_goal; refuses = inr (response_at d r, subst (λ f. A f (response_at d r)) query.form h, rw (now, leaves_are) at k) }
+  pub response_refused : {offers : Tree → Tree → List Candidate} {n : ℕ} (r : Canonical Response) → QueryTells offers n (form_of b q.1) (response_at d r) → RefusesResponse (content_of d t.entries) (trees_of d q.0.items) (response_at d r) → Refused offers n (content_of a t.entries) (tree_at a g.param_env.node) (tree_at a g.predicate.node)
+  response_refused {offers} {n} r h k = by_response n asked (response_at d r) of_goal (omega arith) (subst (λ f. QueryTells offers n f (response_at d r)) query.form h) (rw (now, leaves_are) at k)
 
 -- what an evaluation leaves, seen from a smaller store
 pub evaluates_at : {a d e : List Tree} {t u : Table} {x y : Tree} {z : HasChanged} → content_of d t.entries ≡ content_of a t.entries → Evaluates d e t u x y z → Evaluates a e t u x y z

@@ -8,6 +8,7 @@ use Rattle.nts_model.specs.declared.labels.Label.{Label}
 use Rattle.nts_model.specs.declared.labels.Label.TheVariants as label
 use Rattle.nts_model.specs.Trees.{Tree}
 use Rattle.nts_model.specs.Contents.{Content}
+use Rattle.nts_model.specs.Resolving.{deeply_resolved}
 use Rattle.nts_model.specs.Sequents.{Among}
 use Rattle.nts_model.specs.Related.{pair}
 use Rattle.nts_model.specs.Handlers.{IsFixed}
@@ -52,15 +53,14 @@ only_earlier {a} {b} {g} {c} {d} e p h =
     let predicate = e.kept g.predicate.node p.predicate.within in
     rw (env, predicate) at h
 
--- a goal of a candidate, resolved
-pub nested_only : {a b : List Tree} {t : Table} {fresh : List Sort} {g h k : Goal} {vs : List NodeId} (c : Content) → IsNested a fresh g h → AreValues a t fresh vs → IsGoalInstance a b c vs h k → AsksOnly a b c g k
-nested_only c n v i =
+-- a goal of a candidate
+pub nested_only : {a b : List Tree} {t : Table} {fresh : List Sort} {g h k : Goal} {vs : List NodeId} → IsNested a fresh g h → AreValues a t fresh vs → IsGoalInstance a b vs h k → AsksOnly a b g k
+nested_only n v i =
     record {
-      labels = λ P q m w t j.
-          let pass = λ (x : Tree) (z : TreePasses P x). passes-deeply_resolved (λ l. P l ≡ true) (query_variables P q) c x w z in
+      labels = λ P q m t j.
           elim j [
-            | inl e ↦ rw (e, i.env) (pass _ (over_passes n.env v P q m))
-            | inr e ↦ elim e [ inl f ↦ rw (f, i.predicate) (pass _ (over_passes n.predicate v P q m)) | inr f ↦ absurd f ]
+            | inl e ↦ rw (e, i.env) (over_passes n.env v P q m)
+            | inr e ↦ elim e [ inl f ↦ rw (f, i.predicate) (over_passes n.predicate v P q m) | inr f ↦ absurd f ]
           ];
     }
 
@@ -75,8 +75,18 @@ content_same e w q = rw q (content_of-extended e w.now)
 pub only_same : {a b : List Tree} {t u : Table} (ts : List Tree) → Extends a b → IsTable a t → u ≡ t → BringsOnly ts (content_of a t.entries) (content_of b u.entries)
 only_same {a} {b} {t} {u} ts e w q = subst (BringsOnly ts (content_of a t.entries)) (sym (content_same e w q)) (only-refl ts (content_of a t.entries))
 
--- a step for a goal of a candidate
-pub only_nested : {a b : List Tree} {t : Table} {g k : Goal} {d : Content} → Extends a b → IsTable a t → AsksOnly a b (content_of a t.entries) g k → BringsOnly (asked_terms b k) (content_of b t.entries) d → BringsOnly (asked_terms a g) (content_of a t.entries) d
-only_nested {a} {b} {t} {g} {k} {d} e w asks h =
-    let here : BringsOnly (asked_terms b k) (content_of a t.entries) d = rw (content_of-extended e w.now) at h in
-    record { labels = λ P q m z. here.labels P q (asks.labels P q m z) z }
+-- a step for a goal that was resolved
+pub only_resolved : {a b : List Tree} {t : Table} {d : Content} (g k : Goal) → Extends a b → IsTable a t → tree_at b k.param_env.node ≡ deeply_resolved (content_of a t.entries) (tree_at a g.param_env.node) → tree_at b k.predicate.node ≡ deeply_resolved (content_of a t.entries) (tree_at a g.predicate.node)
+    → BringsOnly (asked_terms b k) (content_of b t.entries) d → BringsOnly (asked_terms a g) (content_of a t.entries) d
+only_resolved {a} {b} {t} {d} g k e w env predicate h =
+    let c = content_of a t.entries in
+    let here : BringsOnly (asked_terms b k) c d = rw (content_of-extended e w.now) at h in
+    record {
+      labels = λ P q m z. here.labels P q
+          (λ x j.
+          let pass = λ (y : Tree) (i : TreePasses P y). passes-deeply_resolved (λ l. P l ≡ true) (query_variables P q) c y z i in
+          elim j [
+            | inl f ↦ rw (f, env) (pass _ (m _ (inl refl)))
+            | inr f ↦ elim f [ inl i ↦ rw (i, predicate) (pass _ (m _ (inr (inl refl)))) | inr i ↦ absurd i ]
+          ]) z;
+    }

@@ -9,9 +9,14 @@ pub mod Labels
 pub mod Sides
 pub mod Running
 pub mod Trying
-pub mod Forcing
-pub mod Refuting
+pub mod Constraining
 pub mod Told
 pub mod Fitting
 pub mod Opened
+pub mod Probed
+pub mod Ran
+pub mod Outcomes
+pub mod Stepping
 pub mod Entering
+pub mod MergedResponses
+pub mod Adding

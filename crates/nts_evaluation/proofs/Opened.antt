@@ -1,5 +1,5 @@
 -- A goal that was opened: what is said of it where it was opened is said of the goal.
-use Rattle.std.proofs.Common.{◌≡◌, inl, inr, ℕ, suc, ◌+◌, Bool, true, false, List, refl, sym, ap, ◌∙◌, subst, arith}
+use Rattle.std.proofs.Common.{◌≡◌, ◌⊎◌, inl, inr, ℕ, suc, ◌+◌, Bool, true, false, List, [], refl, sym, ap, ◌∙◌, subst, arith}
 use Rattle.std.specs.Prelude.{◌==◌, if◌then◌else◌, Result, Ok, Err, OnOk}
 use Rattle.nts_model.specs.declared.labels.Sort.{Sort}
 use Rattle.nts_model.specs.declared.labels.Sort.TheVariants as sort
@@ -11,7 +11,7 @@ use Rattle.nts_model.specs.Trees.{Tree, empty, more, node, binders, IsClosed, Is
 use Rattle.nts_model.specs.Contents.{Content, in_universe}
 use Rattle.nts_model.specs.Related.{unbound}
 use Rattle.nts_model.specs.Rules.{opened, opened_at, statement_of}
-use Rattle.nts_model.specs.Handlers.{Candidate}
+use Rattle.nts_model.specs.Responses.{Response as Answer}
 use Rattle.nts_model.specs.Passing.{TreePasses, TablePasses, PassesQueries, BringsOnly}
 use Rattle.nts_model.specs.Opening.{binds, placeholder_in, entered, opened_in}
 use Rattle.nts_model.specs.declared.labels.Variance.{Variance}
@@ -33,14 +33,25 @@ use Rattle.nts_terms.specs.declared.handles.ParamEnv.{ParamEnv}
 use Rattle.nts_terms.specs.declared.modes.TypingMode.{TypingMode}
 use Rattle.nts_terms.specs.Modes.{mode_of}
 use Rattle.nts_unify.specs.Reading.{content_of}
-use Rattle.nts_table.specs.Tables.{Table}
+use Rattle.nts_terms.specs.declared.handles.GenericArg.{GenericArg}
+use Rattle.nts_canonical.specs.declared.types.Canonical.{Canonical}
+use Rattle.nts_canonical.specs.Forms.{trees_of}
+use Rattle.nts_response.specs.declared.types.Response.{Response}
+use Rattle.nts_response.specs.Forms.{response_at}
+use Rattle.nts_table.specs.Tables.{Table, IsTable}
+use Rattle.nts_unify.specs.Lawful.{content_of-extended}
 use Rattle.nts_delegate.specs.Candidates.{IsAsked}
+use Rattle.nts_delegate.specs.declared.delegate.CandidateData.{CandidateData}
+use Rattle.nts_delegate.specs.Offered.{candidates_of}
+use Rattle.nts_terms.specs.Handles.{HoldsGoal}
 use Rattle.nts_evaluation.specs.Evaluation.{Goes, IsPosed, asked_terms}
 use Rattle.nts_evaluation.specs.Opening.{IsOpenedTo}
-use Rattle.nts_evaluation.specs.Meant.{IsServed, IsForcedTo, IsGainedTo, IsRefutedBy, IsOpenForcedTo, IsOpenGainedTo, IsOpenRefutedBy}
-use Rattle.nts_evaluation.proofs.Evaluating.{Knows-goes}
+use Rattle.nts_evaluation.specs.Meant.{IsServed, offers_of, IsTold, IsRefuted, CandidatesTell}
+use Rattle.nts_evaluation.proofs.Evaluating.{Knows-goes, offers-kept}
 use Rattle.nts_evaluation.proofs.Running.{term_table}
-use Rattle.nts_evaluation.specs.Refuting.{Forces, Gains, Refutes, ForcesOpened, GainsOpened, RefutesOpened}
+use Rattle.nts_evaluation.specs.Telling.{IsPlain, StandsForAll, Outcomes}
+use Rattle.nts_evaluation.specs.Telling.Tells.{tells_nothing, tells_one}
+use Rattle.nts_evaluation.specs.Telling.Refutes.{all_fail}
 
 -- what holds, holds of what went well
 pub on_ok : {A E P : Type 0} (r : Result A E) → P → OnOk r P
@@ -50,29 +61,6 @@ on_ok (Err e) p = tt
 -- in a tree of queries that is less than n + 1 high
 next : (n : ℕ) → n + 1 ≡ suc n
 next n = omega arith
-
-pub opened_forces : (offers : Tree → Tree → List Candidate) (n : ℕ) (c b d : Content) (e g o : Tree) → b ≡ entered c g → o ≡ opened_in c g → ForcesOpened offers (n + 1) b d e o → Forces offers (n + 1) c d e g
-opened_forces offers n c b d e g o x y h =
-    subst (λ m. Forces offers m c d e g) (sym (next n))
-    (subst (λ z. ForcesOpened offers (suc n) (entered c g) d e z) y (subst (λ z. ForcesOpened offers (suc n) z d e o) x (subst (λ m. ForcesOpened offers m b d e o) (next n) h)))
-
-gains_opened : (offers : Tree → Tree → List Candidate) (n : ℕ) (c d : Content) (e g : Tree) → GainsOpened offers (suc n) (entered c g) d e (opened_in c g) → Gains offers (suc n) c d e g
-gains_opened offers n c d e g (inl h) = inr (inl h)
-gains_opened offers n c d e g (inr h) = inr (inr h)
-
-pub opened_gains : (offers : Tree → Tree → List Candidate) (n : ℕ) (c b d : Content) (e g o : Tree) → b ≡ entered c g → o ≡ opened_in c g → GainsOpened offers (n + 1) b d e o → Gains offers (n + 1) c d e g
-opened_gains offers n c b d e g o x y h =
-    subst (λ m. Gains offers m c d e g) (sym (next n))
-    (gains_opened offers n c d e g (subst (λ z. GainsOpened offers (suc n) (entered c g) d e z) y (subst (λ z. GainsOpened offers (suc n) z d e o) x (subst (λ m. GainsOpened offers m b d e o) (next n) h))))
-
--- .. or the table was entered, and nothing else
-pub entered_gains : (offers : Tree → Tree → List Candidate) (n : ℕ) (c d : Content) (e g : Tree) → d ≡ entered c g → Gains offers (n + 1) c d e g
-entered_gains offers n c d e g h = subst (λ m. Gains offers m c d e g) (sym (next n)) (gains_opened offers n c d e g (inl h))
-
-pub opened_refutes : (offers : Tree → Tree → List Candidate) (n : ℕ) (c b : Content) (e g o : Tree) → b ≡ entered c g → o ≡ opened_in c g → RefutesOpened offers (n + 1) b e o → Refutes offers (n + 1) c e g
-opened_refutes offers n c b e g o x y h =
-    subst (λ m. Refutes offers m c e g) (sym (next n))
-    (subst (λ z. RefutesOpened offers (suc n) (entered c g) e z) y (subst (λ z. RefutesOpened offers (suc n) z e o) x (subst (λ m. RefutesOpened offers m b e o) (next n) h)))
 
 -- the labels of an opened goal are those of the goal, and placeholders of a universe above the root
 placeholder_passes : (P : Label → Bool) → PassesQueries P → (u : ℕ) (s : Sort) (n : ℕ) → P (label.Leaf (placeholder_in (u + 1) s n)) ≡ true
@@ -124,6 +112,14 @@ goal_closed c e g h asked = by_test (binds g) refl
         let same : opened_in c g ≡ g = ap (λ z. if z then unbound (opened (placeholder_in (c.universe + 1)) 0 (statement_of g)) else g) q in
         asked_closed e g (subst (handlers.IsAsked e) same asked)
 
+-- what the candidates tell, in terms of what is offered for the goal
+pub told_offered : {b d : List Tree} (h : Handler) (mode : TypingMode) (k : ℕ) (u : Table) (o : Goal) (qs : List GenericArg) (xs : List CandidateData) (e : List Tree) (r : Canonical Response) → Extends b d → IsTable b u → HoldsGoal b o → trees_of d qs ≡ trees_of b qs → candidates_of d xs ≡ offers_of h (mode_of mode) d o → CandidatesTell h mode k d u qs xs e r
+    → ((rs : List Answer) × Outcomes (h.offers (mode_of mode)) k (content_of b u.entries) (trees_of b qs) (offers_of h (mode_of mode) b o) rs × StandsForAll rs (response_at e r)) ⊎ IsPlain (content_of b u.entries) (trees_of b qs) (response_at e r)
+told_offered {b} {d} h mode k u o qs xs e r up w holds trees offered (inl (rs, x, y)) =
+    inl (rs, rw (content_of-extended up w.now, trees, offered ∙ offers-kept h (mode_of mode) up holds) at x, y)
+told_offered {b} {d} h mode k u o qs xs e r up w holds trees offered (inr x) =
+    inr (subst (λ z. IsPlain z (trees_of b qs) (response_at e r)) (content_of-extended up w.now) (subst (λ z. IsPlain (content_of d u.entries) z (response_at e r)) trees x))
+
 -- a goal of the store a and the table t, that is the goal o of the store b in the table u once it is opened
 module _ {a b : List Tree} {t u : Table} {g o : Goal} (posed : IsPosed a t g) (opens : IsOpenedTo a b t u g o) (up : Extends a b) where
   abbrev before : Content
@@ -135,24 +131,29 @@ module _ {a b : List Tree} {t u : Table} {g o : Goal} (posed : IsPosed a t g) (o
   environment_same : tree_at b o.param_env.node ≡ tree_at a g.param_env.node
   environment_same = ap (λ (z : ParamEnv). tree_at b z.node) opens.environment ∙ up.kept g.param_env.node posed.holds.env.within
 
-  pub forced_through : (h : Handler) (mode : TypingMode) (n : ℕ) (d : List Tree) (v : Table) → IsOpenForcedTo h mode (n + 1) b u d v o → IsForcedTo h mode (n + 1) a t d v g
-  forced_through h mode n d v x =
-      opened_forces (h.offers (mode_of mode)) n before there (content_of d v.entries) (tree_at a g.param_env.node) (tree_at a g.predicate.node) (tree_at b o.predicate.node) opens.table opens.predicate
-      (subst (λ z. ForcesOpened (h.offers (mode_of mode)) (n + 1) there (content_of d v.entries) z (tree_at b o.predicate.node)) environment_same x)
+  opened_outcomes : (h : Handler) (mode : TypingMode) (n : ℕ) (qs : List Tree) (rs : List Answer) → Outcomes (h.offers (mode_of mode)) n there qs (offers_of h (mode_of mode) b o) rs
+      → Outcomes (h.offers (mode_of mode)) n (entered before (tree_at a g.predicate.node)) qs (h.offers (mode_of mode) (tree_at a g.param_env.node) (opened_in before (tree_at a g.predicate.node))) rs
+  opened_outcomes h mode n qs rs x =
+      let offers = h.offers (mode_of mode) in
+      subst (λ z. Outcomes offers n z qs (offers (tree_at a g.param_env.node) (opened_in before (tree_at a g.predicate.node))) rs) opens.table
+      (subst (λ z. Outcomes offers n there qs (offers (tree_at a g.param_env.node) z) rs) opens.predicate
+      (subst (λ z. Outcomes offers n there qs (offers z (tree_at b o.predicate.node)) rs) environment_same x))
 
-  pub gained_through : (h : Handler) (mode : TypingMode) (n : ℕ) (d : List Tree) (v : Table) → IsOpenGainedTo h mode (n + 1) b u d v o → IsGainedTo h mode (n + 1) a t d v g
-  gained_through h mode n d v x =
-      opened_gains (h.offers (mode_of mode)) n before there (content_of d v.entries) (tree_at a g.param_env.node) (tree_at a g.predicate.node) (tree_at b o.predicate.node) opens.table opens.predicate
-      (subst (λ z. GainsOpened (h.offers (mode_of mode)) (n + 1) there (content_of d v.entries) z (tree_at b o.predicate.node)) environment_same x)
+  -- what its candidates are answered the goal is answered
+  pub told_through : (h : Handler) (mode : TypingMode) (n : ℕ) (qs : List GenericArg) (e : List Tree) (r : Canonical Response) → trees_of b qs ≡ trees_of a qs
+      → ((rs : List Answer) × Outcomes (h.offers (mode_of mode)) n there (trees_of b qs) (offers_of h (mode_of mode) b o) rs × StandsForAll rs (response_at e r)) ⊎ IsPlain there (trees_of b qs) (response_at e r) → IsTold h mode (n + 1) a t g qs e r
+  told_through h mode n qs e r same (inl (rs, x, y)) =
+      let offers = h.offers (mode_of mode) in
+      let there_told : Outcomes offers n there (trees_of a qs) (offers_of h (mode_of mode) b o) rs = subst (λ z. Outcomes offers n there z (offers_of h (mode_of mode) b o) rs) same x in
+      tells_one n rs (omega arith) (opened_outcomes h mode n (trees_of a qs) rs there_told) y
+  told_through h mode n qs e r same (inr x) = tells_nothing there (inr opens.table) (subst (λ z. IsPlain there z (response_at e r)) same x)
 
-  pub refuted_through : (h : Handler) (mode : TypingMode) (n : ℕ) → IsOpenRefutedBy h mode (n + 1) b u o → IsRefutedBy h mode (n + 1) a t g
-  refuted_through h mode n x =
-      opened_refutes (h.offers (mode_of mode)) n before there (tree_at a g.param_env.node) (tree_at a g.predicate.node) (tree_at b o.predicate.node) opens.table opens.predicate
-      (subst (λ z. RefutesOpened (h.offers (mode_of mode)) (n + 1) there z (tree_at b o.predicate.node)) environment_same x)
+  pub refuted_through : (h : Handler) (mode : TypingMode) (n : ℕ) (qs : List Tree) → Outcomes (h.offers (mode_of mode)) n there qs (offers_of h (mode_of mode) b o) [] → IsRefuted h mode (n + 1) a t g
+  refuted_through h mode n qs x = all_fail n qs (omega arith) (opened_outcomes h mode n qs [] x)
 
-  -- .. the table was entered, and nothing else
-  pub entered_through : (h : Handler) (mode : TypingMode) (n : ℕ) → IsGainedTo h mode (n + 1) a t b u g
-  entered_through h mode n = entered_gains (h.offers (mode_of mode)) n before there (tree_at a g.param_env.node) (tree_at a g.predicate.node) opens.table
+  -- .. of which nothing is told there
+  pub nothing_through : (h : Handler) (mode : TypingMode) (n : ℕ) (qs : List GenericArg) (e : List Tree) (r : Canonical Response) → trees_of b qs ≡ trees_of a qs → IsPlain there (trees_of b qs) (response_at e r) → IsTold h mode (n + 1) a t g qs e r
+  nothing_through h mode n qs e r same x = tells_nothing there (inr opens.table) (subst (λ z. IsPlain there z (response_at e r)) same x)
 
   -- what answering the opened goal brings
   passes_entered : (P : Label → Bool) → TablePasses P before → TablePasses P there

@@ -51,7 +51,7 @@ use Rattle.nts_terms.specs.declared.handles.Goal.{Goal}
 use Rattle.nts_delegate.specs.Candidates.{AreEquations, AreRegionConstraints, AreNested, IsCandidate, AreCandidates}
 use Rattle.nts_delegate.specs.Offered.{certainty_of, access_of, source_of, equation_as, equation_of, hidden_of, constraint_of, premise_of, candidate_of, candidates_of}
 use Rattle.nts_evaluation.specs.Meant.{IsServed}
-use Rattle.nts_evaluation.specs.Running.{IsTermTable, Stays, EquationHolds, ConstraintHolds, PremiseHolds, EachStays, EquatesEach, Constrains, Proves}
+use Rattle.nts_evaluation.specs.Running.{IsTermTable, Stays, EquationHolds, ConstraintHolds, PremiseHolds, EachStays, EquatesEach, Constrains}
 use Rattle.nts_evaluation.specs.Evaluation.{Goes, AllKnown}
 use Rattle.nts_table.specs.Tables.{IsTermOf}
 use Rattle.nts_evaluation.proofs.Evaluating.{candidate_at, Knows-goes}
@@ -279,10 +279,6 @@ pub Constrains-later : {b e : List Tree} {t u : Table} (a : List Tree) (vs : Lis
 Constrains-later {b} {e} {t} {u} a vs qs g w h =
     rw (map-kept b e vs w g.extends) (EachStays-later (ConstraintHolds (map (tree_at b) vs)) (map (constraint_of a) qs) g h)
 
-pub Proves-later : {b e : List Tree} {t u : Table} (m : Meaning) (mode : Mode) (a : List Tree) (vs : List NodeId) (hs : List CandidateGoal) → Goes b e t u → AllIn b vs → Proves m mode a b t vs hs → Proves m mode a e u vs hs
-Proves-later {b} {e} {t} {u} m mode a vs hs g w h =
-    rw (map-kept b e vs w g.extends) (EachStays-later (PremiseHolds m mode (map (tree_at b) vs)) (map (premise_of a) hs) g h)
-
 -- .. and one part more
 Equates-push : (a b : List Tree) (t : Table) (vs : List NodeId) (qs : List Equation) (q : Equation) → EquatesEach a b t vs qs → Stays (content_of b t.entries) (EquationHolds (map (tree_at b) vs) (equation_of a q)) → EquatesEach a b t vs (qs ++ q ∷ [])
 Equates-push a b t vs [] q h k = (k, tt)
@@ -291,10 +287,6 @@ Equates-push a b t vs (x ∷ qs) q h k = (h.0, Equates-push a b t vs qs q h.1 k)
 Constrains-push : (a b : List Tree) (t : Table) (vs : List NodeId) (qs : List RegionConstraint) (q : RegionConstraint) → Constrains a b t vs qs → Stays (content_of b t.entries) (ConstraintHolds (map (tree_at b) vs) (constraint_of a q)) → Constrains a b t vs (qs ++ q ∷ [])
 Constrains-push a b t vs [] q h k = (k, tt)
 Constrains-push a b t vs (x ∷ qs) q h k = (h.0, Constrains-push a b t vs qs q h.1 k)
-
-Proves-push : (m : Meaning) (mode : Mode) (a b : List Tree) (t : Table) (vs : List NodeId) (hs : List CandidateGoal) (x : CandidateGoal) → Proves m mode a b t vs hs → Stays (content_of b t.entries) (PremiseHolds m mode (map (tree_at b) vs) (premise_of a x)) → Proves m mode a b t vs (hs ++ x ∷ [])
-Proves-push m mode a b t vs [] x h k = (k, tt)
-Proves-push m mode a b t vs (y ∷ hs) x h k = (h.0, Proves-push m mode a b t vs hs x h.1 k)
 
 -- both are sure where their join is
 pub both_sure : (a b : Certainty) → both a b ≡ certainty.Yes → (a ≡ certainty.Yes) × (b ≡ certainty.Yes)
@@ -359,7 +351,7 @@ constraints-kept a b fresh g (x ∷ xs) e h =
     let rest = constraints-kept a b fresh g xs e h.1 in
     λ i. first i ∷ rest i
 
-premises-kept : (a b : List Tree) (fresh : List Sort) (g : Goal) (hs : List CandidateGoal) → Extends a b → AreNested a fresh g hs → map (premise_of b) hs ≡ map (premise_of a) hs
+pub premises-kept : (a b : List Tree) (fresh : List Sort) (g : Goal) (hs : List CandidateGoal) → Extends a b → AreNested a fresh g hs → map (premise_of b) hs ≡ map (premise_of a) hs
 premises-kept a b fresh g [] e h = refl
 premises-kept a b fresh g (x ∷ xs) e h =
     let first = premise-kept {a = a} {b = b} x e h.0.env.within h.0.predicate.within in
@@ -405,9 +397,3 @@ Constrains-step {b} {e} {t} {u} {ws} {rs} q a vs qs i y z l g w h x o k =
     let item = get_or qs i q in
     let one : Stays (content_of e u.entries) (ConstraintHolds (map (tree_at e) vs) (constraint_of a (get_or qs i q))) = rw (map-kept b e vs w g.extends, ← constraint-kept {a = a} {b = b} item x (o q).0 (o q).1, ← y, ← z) k in
     rw (take_more qs i q l) (Constrains-push a e u vs (take i qs) item (Constrains-later a vs (take i qs) g w h) one)
-
-pub Proves-step : {b e : List Tree} {t u : Table} {ws : List NodeId} {rs : List CandidateGoal} (q : CandidateGoal) (m : Meaning) (mode : Mode) (a : List Tree) (vs : List NodeId) (qs : List CandidateGoal) (i : ℕ) → ws ≡ vs → rs ≡ qs → i < length qs → Goes b e t u → AllIn b vs → Proves m mode a b t vs (take i qs) → Extends a b → ((d : CandidateGoal) → IsIn a (get_or qs i d).goal.param_env.node × IsIn a (get_or qs i d).goal.predicate.node) → Stays (content_of e u.entries) (PremiseHolds m mode (map (tree_at b) ws) (premise_of b (get_or rs i q))) → Proves m mode a e u vs (take (i + 1) qs)
-Proves-step {b} {e} {t} {u} {ws} {rs} q m mode a vs qs i y z l g w h x o k =
-    let item = get_or qs i q in
-    let one : Stays (content_of e u.entries) (PremiseHolds m mode (map (tree_at e) vs) (premise_of a (get_or qs i q))) = rw (map-kept b e vs w g.extends, ← premise-kept {a = a} {b = b} item x (o q).0 (o q).1, ← y, ← z) k in
-    rw (take_more qs i q l) (Proves-push m mode a e u vs (take i qs) item (Proves-later m mode a vs (take i qs) g w h) one)

@@ -1,7 +1,6 @@
--- Trying a candidate: what its new variables and its equations do, and which candidates are met.
-use Rattle.std.proofs.Common.{◌≡◌, ◌↔◌, inl, inr, ℕ, zero, suc, ◌+◌, ◌<◌, List, [], ◌∷◌, ◌++◌, map, get_or, take, drop, length, Bool, refl, sym, ap, ◌∙◌, subst, arith, length-append}
-use Rattle.std.specs.Prelude.{IsTrue}
-use Rattle.std.proofs.lemmas.List.{take_more, take-append-drop, map-append}
+-- Trying a candidate: what its new variables and its equations do.
+use Rattle.std.proofs.Common.{◌≡◌, inl, inr, ℕ, zero, suc, ◌+◌, ◌<◌, List, [], ◌∷◌, ◌++◌, map, get_or, take, length, refl, sym, ◌∙◌, subst, arith, length-append}
+use Rattle.std.proofs.lemmas.List.{take_more}
 use Rattle.nts_model.specs.declared.labels.Sort.{Sort}
 use Rattle.nts_model.specs.declared.labels.Sort.TheVariants as sort
 use Rattle.nts_model.specs.declared.labels.Leaf.{Leaf}
@@ -12,8 +11,8 @@ use Rattle.nts_model.specs.Substitutions.{leaf_tree, Occurs}
 use Rattle.nts_model.specs.Equations.{AreRelated, AreUnrelated}
 use Rattle.nts_model.specs.Handlers.{filled, kind_of_sort}
 use Rattle.nts_model.specs.Applying.{IsProperContent, IsNew}
-use Rattle.nts_model.specs.Choosing.{left_of, right_of, Freshens, EquatesAll, FailsToEquate, MeetsEquations, IsMet, NoneIsMet, OnlyIsMet, SeveralAreMet}
-use Rattle.nts_model.proofs.Choosing.{AreOfTable, IsProperContent-with_slot, fresh_known, equations_known, met_when_equated, unmet_when_failed, NoneIsMet-push, OnlyIsMet-first, OnlyIsMet-push, SeveralAreMet-second, SeveralAreMet-more}
+use Rattle.nts_model.specs.Choosing.{left_of, right_of, Freshens, EquatesAll, FailsToEquate, MeetsEquations}
+use Rattle.nts_model.proofs.Choosing.{AreOfTable, IsProperContent-with_slot, fresh_known, equations_known, unmet_when_failed}
 use Rattle.nts_store.specs.declared.nodes.NodeId.{NodeId}
 use Rattle.nts_store.specs.Growth.{tree_at, trees_at, AllIn, Extends}
 use Rattle.nts_store.specs.Kept.{map-kept}
@@ -29,17 +28,14 @@ use Rattle.nts_table.specs.Making.{new_variable}
 use Rattle.nts_delegate.specs.declared.delegate.Equation.{Equation}
 use Rattle.nts_delegate.specs.declared.delegate.EquationKind.{EquationKind}
 use Rattle.nts_delegate.specs.declared.delegate.EquationKind.TheVariants as kind_data
-use Rattle.nts_delegate.specs.declared.delegate.CandidateData.{CandidateData}
-use Rattle.nts_delegate.specs.Candidates.{KnowsGoal, IsOver, IsEquation, AreEquations, AreCandidates}
+use Rattle.nts_delegate.specs.Candidates.{KnowsGoal, IsOver, IsEquation, AreEquations}
 use Rattle.nts_delegate.proofs.Over.{leaf_known, over_knows}
-use Rattle.nts_delegate.specs.Offered.{equation_as, equation_of, candidate_of, candidates_of}
-use Rattle.nts_evaluation.specs.declared.evaluate.Choice.{Choice}
-use Rattle.nts_evaluation.specs.declared.evaluate.Choice.TheVariants as choice
+use Rattle.nts_delegate.specs.Offered.{equation_as, equation_of}
 use Rattle.nts_evaluation.specs.Instances.{instance_at}
 use Rattle.nts_evaluation.specs.Evaluation.{IsPosed}
-use Rattle.nts_evaluation.specs.Choices.{Equated, IsChoiceOf}
-use Rattle.nts_evaluation.proofs.Evaluating.{length-slots, candidate_at}
-use Rattle.nts_evaluation.proofs.Running.{equation-kept, candidate-kept}
+use Rattle.nts_evaluation.specs.Choices.{Equated}
+use Rattle.nts_evaluation.proofs.Evaluating.{length-slots}
+use Rattle.nts_evaluation.proofs.Running.{equation-kept}
 
 -- new variables for a list of sorts
 kinds_are : (s : Sort) → variable_kind s ≡ kind_of_sort s
@@ -157,58 +153,3 @@ none_meets {a} {b} {t} {u} {ws} {rs} {g} q fresh vs qs i y z l x f p all o h r =
     let fails = failed_at a xs qs i q h.made (content_of b u.entries) l h.equates one in
     let known = fresh_known t.entries.universe fresh xs c h.made h.freshens in
     unmet_when_failed fresh (map (equation_of a) qs) xs c h.made (proper_content p.table) h.freshens fails (equations_known c h.made xs (map (equation_of a) qs) known.keeps known.known known.patches terms) terms
-
--- where they were all made equal, one does
-pub some_meets : {a b : List Tree} {t u : Table} {g : Goal} (fresh : List Sort) (vs : List NodeId) (qs : List Equation) → AreFormed a → IsPosed a t g → AreEquations a fresh g qs → IsTable b u → Equated a b t u fresh vs qs → MeetsEquations (content_of a t.entries) fresh (map (equation_of a) qs)
-some_meets {a} {b} {t} {u} {g} fresh vs qs f p all k h =
-    met_when_equated fresh (map (equation_of a) qs) (map (tree_at b) vs) (content_of a t.entries) h.made (content_of b u.entries) h.freshens h.equates k.now.sound k.now.proper.solvable (equations_of_table a fresh g (content_of a t.entries) qs f p.knows all)
-
--- the first i candidates were tried; the one that is met is one of them
-abbrev pub IsChoiceSoFar : List Tree → Content → List CandidateData → ℕ → Choice → Type 0
-IsChoiceSoFar ts c ds i choice.None = NoneIsMet c (candidates_of ts (take i ds))
-IsChoiceSoFar ts c ds i (choice.One k) = (k < length ds) × ((d : CandidateData) → OnlyIsMet c (candidate_of ts (get_or ds k d)) (candidates_of ts (take i ds)))
-IsChoiceSoFar ts c ds i choice.Several = SeveralAreMet c (candidates_of ts (take i ds))
-
-one_more : (ts : List Tree) (ds : List CandidateData) (i : ℕ) (d : CandidateData) → i < length ds → candidates_of ts (take (i + 1) ds) ≡ candidates_of ts (take i ds) ++ candidate_of ts (get_or ds i d) ∷ []
-one_more ts ds i d l = ap (map (candidate_of ts)) (take_more ds i d l) ∙ map-append (candidate_of ts) (take i ds) (get_or ds i d ∷ [])
-
--- one candidate more is tried
-pub unmet_more : (ts : List Tree) (c : Content) (ds : List CandidateData) (i : ℕ) (d : CandidateData) (x : Choice) → i < length ds → (IsMet c (candidate_of ts (get_or ds i d)) → ⊥) → IsChoiceSoFar ts c ds i x → IsChoiceSoFar ts c ds (i + 1) x
-unmet_more ts c ds i d choice.None l n h = rw (one_more ts ds i d l) (NoneIsMet-push c (candidates_of ts (take i ds)) (candidate_of ts (get_or ds i d)) h n)
-unmet_more ts c ds i d (choice.One k) l n h = (h.0, λ o. rw (one_more ts ds i d l) (OnlyIsMet-push c (candidates_of ts (take i ds)) (candidate_of ts (get_or ds k o)) (candidate_of ts (get_or ds i d)) (h.1 o) n))
-unmet_more ts c ds i d choice.Several l n h = rw (one_more ts ds i d l) (SeveralAreMet-more c (candidates_of ts (take i ds)) (candidate_of ts (get_or ds i d) ∷ []) h)
-
-same_or : (ds : List CandidateData) (i : ℕ) (d o : CandidateData) → i < length ds → get_or ds i d ≡ get_or ds i o
-same_or [] i d o l = absurd (omega arith)
-same_or (x ∷ ds) zero d o l = refl
-same_or (x ∷ ds) (suc i) d o l = same_or ds i d o (omega (arith, l))
-
-pub first_met : (ts : List Tree) (c : Content) (ds : List CandidateData) (i : ℕ) (d : CandidateData) → i < length ds → IsMet c (candidate_of ts (get_or ds i d)) → IsChoiceSoFar ts c ds i choice.None → IsChoiceSoFar ts c ds (i + 1) (choice.One i)
-first_met ts c ds i d l m h =
-    (l, λ o. rw (one_more ts ds i o l) (OnlyIsMet-first c (candidates_of ts (take i ds)) (candidate_of ts (get_or ds i o)) h (rw (same_or ds i d o l) at m)))
-
--- a second one is met, or more are
-more_after : (ts : List Tree) (c : Content) (ds : List CandidateData) (i : ℕ) → SeveralAreMet c (candidates_of ts (take i ds)) → SeveralAreMet c (candidates_of ts ds)
-more_after ts c ds i h =
-    let split : candidates_of ts (take i ds) ++ candidates_of ts (drop i ds) ≡ candidates_of ts ds = sym (map-append (candidate_of ts) (take i ds) (drop i ds)) ∙ ap (map (candidate_of ts)) (take-append-drop i ds) in
-    rw (← split) (SeveralAreMet-more c (candidates_of ts (take i ds)) (candidates_of ts (drop i ds)) h)
-
-pub second_met : (ts : List Tree) (c : Content) (ds : List CandidateData) (i : ℕ) (d : CandidateData) (x : Choice) → (x ≡ choice.None → ⊥) → i < length ds → IsMet c (candidate_of ts (get_or ds i d)) → IsChoiceSoFar ts c ds i x → SeveralAreMet c (candidates_of ts ds)
-second_met ts c ds i d choice.None n l m h = absurd (n refl)
-second_met ts c ds i d (choice.One k) n l m h =
-    more_after ts c ds (i + 1) (rw (one_more ts ds i d l) (SeveralAreMet-second c (candidates_of ts (take i ds)) (candidate_of ts (get_or ds k d)) (candidate_of ts (get_or ds i d)) (h.1 d) m))
-second_met ts c ds i d choice.Several n l m h = more_after ts c ds i h
-
--- all were tried
-pub all_tried : (ts : List Tree) (c : Content) (ds : List CandidateData) (i : ℕ) (x : Choice) → take i ds ≡ ds → IsChoiceSoFar ts c ds i x → IsChoiceOf ts c ds x
-all_tried ts c ds i choice.None e h = rw e at h
-all_tried ts c ds i (choice.One k) e h = (h.0, λ o. rw e at (h.1 o))
-all_tried ts c ds i choice.Several e h = rw e at h
-
--- what trying a candidate says, of the table and the store that were handed in
-pub tried_at : {a b : List Tree} {t u : Table} (g : Goal) (ds : List CandidateData) (i : ℕ) (d e o : CandidateData) (x : Bool) → i < length ds → Extends a b → IsTable a t → AreCandidates a g ds → u ≡ t → o ≡ get_or ds i e → (IsTrue x ↔ IsMet (content_of b u.entries) (candidate_of b o)) → IsTrue x ↔ IsMet (content_of a t.entries) (candidate_of a (get_or ds i d))
-tried_at {a} {b} {t} {u} g ds i d e o x l k h m q r z =
-    let kept = candidate-kept {a = a} {b = b} {g = g} {d = get_or ds i d} k (candidate_at a g ds i d m l) in
-    let same = content_of-extended k h.now in
-    let moved : IsTrue x ↔ IsMet (content_of b t.entries) (candidate_of b (get_or ds i d)) = rw (q, r ∙ same_or ds i e d l) at z in
-    rw same at (subst (λ y. IsTrue x ↔ IsMet (content_of b t.entries) y) kept moved)

@@ -30,7 +30,6 @@ use Rattle.nts_response.specs.declared.types.Response.{Response}
 use Rattle.nts_response.specs.Forms.{response_at, HoldsResponse}
 use Rattle.nts_response.specs.Applicable.{IsApplicable, IsApplied}
 use Rattle.nts_evaluation.specs.declared.evaluate.Evaluated.{Evaluated}
-use Rattle.nts_evaluation.specs.declared.evaluate.QueryAnswer.{QueryAnswer}
 use Rattle.nts_evaluation.specs.Asking.{IsInputFor, without_constraints}
 
 -- what was found out on the way to an answer is kept, unless the answer overflowed and keeps no constraints
@@ -110,5 +109,5 @@ EvaluatesUnder a b t u g changed =
 abbrev pub IfSure : Result Evaluated EvalError → Type 0 → Type 0
 IfSure r P = IfOk r (λ e. e.certainty ≡ certainty.Yes → P)
 
-abbrev pub IfCertain : Result QueryAnswer EvalError → (Canonical Response → Type 0) → Type 0
-IfCertain r P = IfOk r (λ a. let c = a.response in c.value.certainty ≡ certainty.Yes → P c)
+abbrev pub IfCertain : Result (Canonical Response) EvalError → (Canonical Response → Type 0) → Type 0
+IfCertain r P = IfOk r (λ c. c.value.certainty ≡ certainty.Yes → P c)

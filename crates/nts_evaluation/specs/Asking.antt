@@ -1,13 +1,12 @@
 -- A goal asked in a query of its own: its canonical input, the table that is made for that, the response, and what applying
 -- the response adds to the table that asked.
-use Rattle.std.specs.Prelude.{◌≡◌, ◌⊎◌, ℕ, List, [], map}
+use Rattle.std.specs.Prelude.{◌≡◌, ℕ, List, [], map}
 use Rattle.nts_model.specs.Trees.{Tree, empty}
 use Rattle.nts_model.specs.Contents.{Content}
 use Rattle.nts_model.specs.Substitutions.{leaf_tree}
 use Rattle.nts_model.specs.Handlers.{filled}
-use Rattle.nts_model.specs.Inputs.{Input, IsInput, CanonicalInput, PositionKind, canonical_of, originals}
-use Rattle.nts_model.specs.Forcing.{Leaves}
-use Rattle.nts_model.specs.Responses.{Findings, AreFindings, Response, response_of, Applies, RefusesResponse}
+use Rattle.nts_model.specs.Inputs.{Input, IsInput, CanonicalInput, PositionKind}
+use Rattle.nts_model.specs.Responses.{Findings, AreFindings, Response, response_of}
 use Rattle.nts_unify.specs.Reading.{content_of}
 use Rattle.nts_canonical.specs.Kinds.{value_leaves}
 use Rattle.nts_canonical.specs.Building.{made_entries}
@@ -45,36 +44,3 @@ pub record IsResponseOf (found : Content) (qs : List Tree) (r : Response) : Type
   pub no_hidden : findings.hidden ≡ []
   pub no_goals : findings.open_goals ≡ []
   pub is : r ≡ response_of found roots 0 findings
-
--- an answer to the input: in its first table the goal leads to a table that has this response. P says what a goal leaves of a
--- table
-pub record Answers (P : Leaves) (f : CanonicalInput) (r : Response) : Type 0 where
-  pub found : Content
-  pub leaves : P (first_table f.kinds) found (asked_environment f) (asked_predicate f)
-  pub says : IsResponseOf found (first_values f.kinds) r
-
--- .. which may say nothing of the region constraints: of a goal that is not proved they are not told
-pub record AnswersInPart (P : Leaves) (f : CanonicalInput) (r : Response) : Type 0 where
-  pub found : Content
-  pub leaves : P (first_table f.kinds) found (asked_environment f) (asked_predicate f)
-  pub says : IsResponseOf found (first_values f.kinds) r ⊎ IsResponseOf (without_constraints found) (first_values f.kinds) r
-
--- what asking a goal leaves of a table: its response, applied to the leaves of the goal. A says which responses its input may
--- have
-pub record Asks (A : CanonicalInput → Response → Type 0) (c d : Content) (e g : Tree) : Type 0 where
-  pub input : Input
-  pub of_goal : IsInputFor e g input
-  pub response : Response
-  pub answers : A (canonical_of input) response
-  pub applies : Applies c d (map leaf_tree (originals input)) response
-
--- goals that a table refutes
-abbrev pub Refuses : Type 1
-Refuses = Content → Tree → Tree → Type 0
-
--- the goal's query refutes it, or no solution of the table grants the response
-pub record RefusesAsked (N : Refuses) (A : CanonicalInput → Response → Type 0) (c : Content) (e g : Tree) : Type 0 where
-  pub input : Input
-  pub of_goal : IsInputFor e g input
-  pub refuses : N (first_table (canonical_of input).kinds) (asked_environment (canonical_of input)) (asked_predicate (canonical_of input))
-      ⊎ ((r : Response) × A (canonical_of input) r × RefusesResponse c (map leaf_tree (originals input)) r)

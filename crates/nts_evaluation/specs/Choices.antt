@@ -1,18 +1,15 @@
--- Which candidate is chosen, and what trying one does.
-use Rattle.std.specs.Prelude.{◌<◌, List, map, length, get_or}
+-- What trying a candidate does.
+use Rattle.std.specs.Prelude.{List, map}
 use Rattle.nts_model.specs.declared.labels.Sort.{Sort}
 use Rattle.nts_model.specs.Trees.{Tree}
 use Rattle.nts_model.specs.Contents.{Content}
-use Rattle.nts_model.specs.Choosing.{Freshens, EquatesAll, NoneIsMet, OnlyIsMet, SeveralAreMet}
+use Rattle.nts_model.specs.Choosing.{Freshens, EquatesAll}
 use Rattle.nts_store.specs.declared.nodes.NodeId.{NodeId}
 use Rattle.nts_store.specs.Growth.{tree_at}
 use Rattle.nts_table.specs.Tables.{Table}
 use Rattle.nts_unify.specs.Reading.{content_of}
 use Rattle.nts_delegate.specs.declared.delegate.Equation.{Equation}
-use Rattle.nts_delegate.specs.declared.delegate.CandidateData.{CandidateData}
-use Rattle.nts_delegate.specs.Offered.{equation_of, candidate_of, candidates_of}
-use Rattle.nts_evaluation.specs.declared.evaluate.Choice.{Choice}
-use Rattle.nts_evaluation.specs.declared.evaluate.Choice.TheVariants as choice
+use Rattle.nts_delegate.specs.Offered.{equation_of}
 
 -- the values are new variables, under which the equations were made equal, one after the other: from the table t of the
 -- store a to the table u of the store b
@@ -20,9 +17,3 @@ pub record Equated (a b : List Tree) (t u : Table) (fresh : List Sort) (vs : Lis
   pub made : Content
   pub freshens : Freshens t.entries.universe fresh (map (tree_at b) vs) (content_of a t.entries) made
   pub equates : EquatesAll (map (tree_at b) vs) (map (equation_of a) qs) made (content_of b u.entries)
-
--- none of the candidates is met, this one alone, or several
-abbrev pub IsChoiceOf : List Tree → Content → List CandidateData → Choice → Type 0
-IsChoiceOf ts c ds choice.None = NoneIsMet c (candidates_of ts ds)
-IsChoiceOf ts c ds (choice.One i) = (i < length ds) × ((d : CandidateData) → OnlyIsMet c (candidate_of ts (get_or ds i d)) (candidates_of ts ds))
-IsChoiceOf ts c ds choice.Several = SeveralAreMet c (candidates_of ts ds)

@@ -14,7 +14,7 @@ use Rattle.nts_model.specs.Resolving.{Knows, deeply_resolved, IsSound}
 use Rattle.nts_model.specs.Holding.{Continues}
 use Rattle.nts_model.specs.Handlers.{AreValuesOf}
 use Rattle.nts_model.specs.Sequents.{Among}
-use Rattle.nts_model.specs.Passing.{TreePasses, TablePasses, PassesQueries}
+use Rattle.nts_model.specs.Passing.{TreePasses, PassesQueries}
 use Rattle.nts_store.specs.declared.nodes.NodeId.{NodeId}
 use Rattle.nts_terms.specs.declared.handles.Goal.{Goal}
 use Rattle.nts_terms.specs.declared.cx.Cx.{Cx}
@@ -71,10 +71,9 @@ pub record AreValues (ts : List Tree) (t : Table) (fresh : List Sort) (vs : List
 abbrev pub asked_terms : List Tree → Goal → List Tree
 asked_terms ts g = tree_at ts g.param_env.node ∷ tree_at ts g.predicate.node ∷ []
 
--- the goal h of the store b has no labels but those of the goal g of the store a, of the table, and what any query's table
--- may hold
-pub record AsksOnly (a b : List Tree) (c : Content) (g h : Goal) : Type 0 where
-  pub labels : (P : Label → Bool) → PassesQueries P → ((t : Tree) → Among (asked_terms a g) t → TreePasses P t) → TablePasses P c → (t : Tree) → Among (asked_terms b h) t → TreePasses P t
+-- the goal h of the store b has no labels but those of the goal g of the store a, and what any query's table may hold
+pub record AsksOnly (a b : List Tree) (g h : Goal) : Type 0 where
+  pub labels : (P : Label → Bool) → PassesQueries P → ((t : Tree) → Among (asked_terms a g) t → TreePasses P t) → (t : Tree) → Among (asked_terms b h) t → TreePasses P t
 
 -- a type variable
 abbrev pub is_type_variable_kind : VariableKind → Bool

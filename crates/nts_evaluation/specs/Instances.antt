@@ -2,8 +2,6 @@
 use Rattle.std.specs.Prelude.{◌≡◌, List, map}
 use Rattle.nts_model.specs.declared.labels.Sort.{Sort}
 use Rattle.nts_model.specs.Trees.{Tree, kind_of, IsFormed}
-use Rattle.nts_model.specs.Contents.{Content}
-use Rattle.nts_model.specs.Resolving.{deeply_resolved}
 use Rattle.nts_model.specs.Handlers.{filled}
 use Rattle.nts_store.specs.declared.nodes.NodeId.{NodeId}
 use Rattle.nts_terms.specs.declared.handles.Goal.{Goal}
@@ -27,9 +25,9 @@ pub record IsTermInstance (a b : List Tree) (vs : List NodeId) (x y : NodeId) : 
 abbrev pub instance_at : List Tree → List NodeId → NodeId → Tree
 instance_at ts vs x = filled (map (tree_at ts) vs) (tree_at ts x)
 
--- the goal g is the candidate's goal h with the values in place of its positions, and what the table knows of variables
-pub record IsGoalInstance (a b : List Tree) (c : Content) (vs : List NodeId) (h g : Goal) : Type 0 where
-  pub env : tree_at b g.param_env.node ≡ deeply_resolved c (instance_at a vs h.param_env.node)
-  pub predicate : tree_at b g.predicate.node ≡ deeply_resolved c (instance_at a vs h.predicate.node)
+-- the goal g is the candidate's goal h with the values in place of its positions
+pub record IsGoalInstance (a b : List Tree) (vs : List NodeId) (h g : Goal) : Type 0 where
+  pub env : tree_at b g.param_env.node ≡ instance_at a vs h.param_env.node
+  pub predicate : tree_at b g.predicate.node ≡ instance_at a vs h.predicate.node
   pub formed_env : IsFormed (instance_at a vs h.param_env.node)
   pub formed_predicate : IsFormed (instance_at a vs h.predicate.node)

@@ -1,19 +1,14 @@
 -- What a certain answer means, for a handler whose terms stood in an earlier store.
-use Rattle.std.specs.Prelude.{◌≡◌, ◌⊎◌, ℕ, List, map, Result, IfOk}
+use Rattle.std.specs.Prelude.{◌≡◌, ◌⊎◌, ℕ, List}
 use Rattle.nts_model.specs.declared.labels.Variance.{Variance}
 use Rattle.nts_model.specs.Trees.{Tree}
 use Rattle.nts_model.specs.Sequents.{Among}
 use Rattle.nts_model.specs.Rules.{Mode, Meaning}
 use Rattle.nts_model.specs.Resolving.{deeply_resolved}
-use Rattle.nts_model.specs.Handlers.{Candidate, certain, Handler, meaning, filled}
+use Rattle.nts_model.specs.Handlers.{Candidate, certain, Handler, meaning}
 use Rattle.nts_model.specs.Proving.{HoldsCandidate, IsProved}
 use Rattle.nts_model.specs.Contents.{Content}
-use Rattle.nts_model.specs.Choosing.{OnlyIsMet}
-use Rattle.nts_model.specs.Forcing.{Leaves}
-use Rattle.nts_certainty.specs.declared.certainty.Certainty.TheVariants as certainty
-use Rattle.nts_store.specs.declared.fault.EvalError.{EvalError}
 use Rattle.nts_terms.specs.declared.handles.Goal.{Goal}
-use Rattle.nts_store.specs.declared.nodes.NodeId.{NodeId}
 use Rattle.nts_store.specs.Formed.{AreFormed}
 use Rattle.nts_store.specs.Growth.{tree_at, Extends}
 use Rattle.nts_table.specs.Tables.{Table}
@@ -21,12 +16,18 @@ use Rattle.nts_unify.specs.Reading.{content_of}
 use Rattle.nts_terms.specs.declared.modes.TypingMode.{TypingMode}
 use Rattle.nts_terms.specs.Modes.{mode_of}
 use Rattle.nts_delegate.specs.declared.delegate.CandidateData.{CandidateData}
-use Rattle.nts_delegate.specs.declared.delegate.CandidateGoal.{CandidateGoal}
-use Rattle.nts_evaluation.specs.declared.evaluate.Answer.{Answer}
-use Rattle.nts_delegate.specs.Offered.{premise_of, candidate_of, candidates_of}
-use Rattle.nts_evaluation.specs.Asking.{Refuses, Answers, AnswersInPart, Asks, RefusesAsked}
-use Rattle.nts_evaluation.specs.Refuting.{Forces, Gains, Refutes, ForcesOpened, GainsOpened, RefutesOpened}
-use Rattle.nts_evaluation.specs.Running.{Stays, PremiseHolds, StaysProved}
+use Rattle.nts_terms.specs.declared.handles.GenericArg.{GenericArg}
+use Rattle.nts_certainty.specs.declared.sources.GoalSource.{GoalSource}
+use Rattle.nts_canonical.specs.declared.types.Canonical.{Canonical}
+use Rattle.nts_canonical.specs.declared.types.CanonicalInput.{CanonicalInput}
+use Rattle.nts_canonical.specs.Forms.{form_of, trees_of}
+use Rattle.nts_response.specs.declared.types.Response.{Response}
+use Rattle.nts_response.specs.Forms.{response_at}
+use Rattle.nts_model.specs.Responses.{Response as Answer}
+use Rattle.nts_delegate.specs.Offered.{candidate_of, candidates_of}
+use Rattle.nts_evaluation.specs.Telling.{IsPlain, StandsForAll, goals_with, IsBegun, Tells, Refutes, Outcomes, Replies, Fails, Reaches, RefusesOne, Asked, Refused, QueryTells, QueryRefutes}
+use Rattle.nts_evaluation.specs.Stepping.{goals_at}
+use Rattle.nts_evaluation.specs.Running.{StaysProved}
 
 -- a store from which the present one has grown, and in which the handler's terms stood; and any declared variances
 pub record Since (ready : List Tree → Type 0) (now : List Tree) : Type 0 where
@@ -43,15 +44,6 @@ meaning_since handler s = meaning (handler s.base) s.variances
 -- what a handler offers for a goal of a store
 abbrev pub offers_of : Handler → Mode → List Tree → Goal → List Candidate
 offers_of h mode ts g = h.offers mode (tree_at ts g.param_env.node) (tree_at ts g.predicate.node)
-
--- a certain answer means P
-abbrev pub IfYes : Result Answer EvalError → Type 0 → Type 0
-IfYes r P = IfOk r (λ a. a.certainty ≡ certainty.Yes → P)
-
--- a goal of a candidate of the store a is proved, its values being of the store a, now and later than the store b
-abbrev pub IsPremiseProved : Meaning → Mode → List Tree → List Tree → Table → List NodeId → CandidateGoal → Type 0
-IsPremiseProved m mode a b t vs h =
-    Stays (content_of b t.entries) (PremiseHolds m mode (map (tree_at a) vs) (premise_of a h))
 
 -- candidates, the terms of which are of the store, are what the handler offers for a goal; a candidate is among them
 abbrev pub AreOffered : Handler → TypingMode → List Tree → Goal → List CandidateData → Type 0
@@ -79,71 +71,66 @@ IsProvedNow handler s mode ts t g =
 abbrev pub IsProvedSince : {ready : List Tree → Type 0} {now : List Tree} → (List Tree → Handler) → Since ready now → TypingMode → List Tree → Table → Goal → Type 0
 IsProvedSince handler s mode ts t g = StaysProved (meaning_since handler s) (mode_of mode) ts t g
 
--- a goal of the store a is forced from the table t to the table u of the store b by its candidates, in a tree of queries less
--- than n high; what an evaluation that is not sure leaves
-abbrev pub IsForcedTo : Handler → TypingMode → ℕ → List Tree → Table → List Tree → Table → Goal → Type 0
-IsForcedTo h mode n a t b u g =
-    Forces (h.offers (mode_of mode)) n (content_of a t.entries) (content_of b u.entries) (tree_at a g.param_env.node) (tree_at a g.predicate.node)
+-- a goal of the table t and the store a was asked in a query less than n high, which left the table u of the store b; and it was
+-- refused
+abbrev pub IsAskedTo : Handler → TypingMode → ℕ → List Tree → Table → List Tree → Table → Goal → Type 0
+IsAskedTo h mode n a t b u g =
+    Asked (h.offers (mode_of mode)) n (content_of a t.entries) (content_of b u.entries) (tree_at a g.param_env.node) (tree_at a g.predicate.node)
 
-abbrev pub IsGainedTo : Handler → TypingMode → ℕ → List Tree → Table → List Tree → Table → Goal → Type 0
-IsGainedTo h mode n a t b u g =
-    Gains (h.offers (mode_of mode)) n (content_of a t.entries) (content_of b u.entries) (tree_at a g.param_env.node) (tree_at a g.predicate.node)
-
--- .. a goal that is open
-abbrev pub IsOpenForcedTo : Handler → TypingMode → ℕ → List Tree → Table → List Tree → Table → Goal → Type 0
-IsOpenForcedTo h mode n a t b u g =
-    ForcesOpened (h.offers (mode_of mode)) n (content_of a t.entries) (content_of b u.entries) (tree_at a g.param_env.node) (tree_at a g.predicate.node)
-
-abbrev pub IsOpenGainedTo : Handler → TypingMode → ℕ → List Tree → Table → List Tree → Table → Goal → Type 0
-IsOpenGainedTo h mode n a t b u g =
-    GainsOpened (h.offers (mode_of mode)) n (content_of a t.entries) (content_of b u.entries) (tree_at a g.param_env.node) (tree_at a g.predicate.node)
-
--- .. by its query, whose response was applied
-abbrev pub AsksForced : Handler → TypingMode → ℕ → Leaves
-AsksForced h mode n = Asks (Answers (Forces (h.offers (mode_of mode)) n))
-
-abbrev pub AsksGained : Handler → TypingMode → ℕ → Leaves
-AsksGained h mode n = Asks (AnswersInPart (Gains (h.offers (mode_of mode)) n))
-
-abbrev pub AsksRefuted : Handler → TypingMode → ℕ → Refuses
-AsksRefuted h mode n = RefusesAsked (Refutes (h.offers (mode_of mode)) n) (AnswersInPart (Gains (h.offers (mode_of mode)) n))
-
-abbrev pub LeavesGoal : Leaves → List Tree → Table → List Tree → Table → Goal → Type 0
-LeavesGoal P a t b u g = P (content_of a t.entries) (content_of b u.entries) (tree_at a g.param_env.node) (tree_at a g.predicate.node)
-
-abbrev pub RefusesGoal : Refuses → List Tree → Table → Goal → Type 0
-RefusesGoal N ts t g = N (content_of ts t.entries) (tree_at ts g.param_env.node) (tree_at ts g.predicate.node)
+abbrev pub IsRefusedIn : Handler → TypingMode → ℕ → List Tree → Table → Goal → Type 0
+IsRefusedIn h mode n a t g =
+    Refused (h.offers (mode_of mode)) n (content_of a t.entries) (tree_at a g.param_env.node) (tree_at a g.predicate.node)
 
 -- .. as the table knows it
-abbrev pub LeavesUnder : Leaves → List Tree → Table → List Tree → Table → Goal → Type 0
-LeavesUnder P a t b u g =
-    P (content_of a t.entries) (content_of b u.entries) (deeply_resolved (content_of a t.entries) (tree_at a g.param_env.node)) (deeply_resolved (content_of a t.entries) (tree_at a g.predicate.node))
+abbrev pub IsAskedUnder : Handler → TypingMode → ℕ → List Tree → Table → List Tree → Table → Goal → Type 0
+IsAskedUnder h mode n a t b u g =
+    Asked (h.offers (mode_of mode)) n (content_of a t.entries) (content_of b u.entries) (deeply_resolved (content_of a t.entries) (tree_at a g.param_env.node)) (deeply_resolved (content_of a t.entries) (tree_at a g.predicate.node))
 
-abbrev pub RefusesUnder : Refuses → List Tree → Table → Goal → Type 0
-RefusesUnder N ts t g =
-    N (content_of ts t.entries) (deeply_resolved (content_of ts t.entries) (tree_at ts g.param_env.node)) (deeply_resolved (content_of ts t.entries) (tree_at ts g.predicate.node))
+abbrev pub IsRefusedUnder : Handler → TypingMode → ℕ → List Tree → Table → Goal → Type 0
+IsRefusedUnder h mode n a t g =
+    Refused (h.offers (mode_of mode)) n (content_of a t.entries) (deeply_resolved (content_of a t.entries) (tree_at a g.param_env.node)) (deeply_resolved (content_of a t.entries) (tree_at a g.predicate.node))
 
--- .. a goal of a candidate, its values being of the store a
-abbrev pub LeavesPremise : Leaves → List Tree → Table → List Tree → Table → List NodeId → CandidateGoal → Type 0
-LeavesPremise P a t b u vs p =
-    P (content_of a t.entries) (content_of b u.entries) (deeply_resolved (content_of a t.entries) (filled (map (tree_at a) vs) (premise_of a p).environment))
-    (deeply_resolved (content_of a t.entries) (filled (map (tree_at a) vs) (premise_of a p).predicate))
+-- a query's response, of the store b, and what the query refutes
+abbrev pub IsQueryTold : Handler → Mode → ℕ → List Tree → CanonicalInput → List Tree → Canonical Response → Type 0
+IsQueryTold h mode n a i b r = QueryTells (h.offers mode) n (form_of a i) (response_at b r)
 
--- .. or is left open, and the table is as it was
-abbrev pub LeavesOrSkips : Type 0 → Table → Table → Type 0
-LeavesOrSkips P t u = P ⊎ (u ≡ t)
+abbrev pub IsQueryRefuted : Handler → Mode → ℕ → List Tree → CanonicalInput → Type 0
+IsQueryRefuted h mode n a i = QueryRefutes (h.offers mode) n (form_of a i)
 
-abbrev pub RefusesPremise : Refuses → List Tree → Table → List NodeId → CandidateGoal → Type 0
-RefusesPremise N ts t vs p =
-    N (content_of ts t.entries) (deeply_resolved (content_of ts t.entries) (filled (map (tree_at ts) vs) (premise_of ts p).environment)) (deeply_resolved (content_of ts t.entries) (filled (map (tree_at ts) vs) (premise_of ts p).predicate))
+-- .. for a goal of the query's table and the terms that stand for the positions
+abbrev pub IsTold : Handler → TypingMode → ℕ → List Tree → Table → Goal → List GenericArg → List Tree → Canonical Response → Type 0
+IsTold h mode n a t g qs b r =
+    Tells (h.offers (mode_of mode)) n (content_of a t.entries) (tree_at a g.param_env.node) (tree_at a g.predicate.node) (trees_of a qs) (response_at b r)
 
--- the candidate alone is met of those that are offered for a goal
-abbrev pub IsOnlyMet : Handler → TypingMode → List Tree → Table → Goal → CandidateData → Type 0
-IsOnlyMet h mode ts t g x = OnlyIsMet (content_of ts t.entries) (candidate_of ts x) (offers_of h (mode_of mode) ts g)
+abbrev pub IsRefuted : Handler → TypingMode → ℕ → List Tree → Table → Goal → Type 0
+IsRefuted h mode n a t g = Refutes (h.offers (mode_of mode)) n (content_of a t.entries) (tree_at a g.param_env.node) (tree_at a g.predicate.node)
 
--- a goal of the store is refuted in the table, in a tree of queries less than n high
-abbrev pub IsRefutedBy : Handler → TypingMode → ℕ → List Tree → Table → Goal → Type 0
-IsRefutedBy h mode n ts t g = Refutes (h.offers (mode_of mode)) n (content_of ts t.entries) (tree_at ts g.param_env.node) (tree_at ts g.predicate.node)
+-- .. by candidates: their outcomes, and the response that stands for them, or one that tells nothing
+abbrev pub HaveOutcomes : Handler → TypingMode → ℕ → List Tree → Table → List GenericArg → List CandidateData → List Answer → Type 0
+HaveOutcomes h mode k a t qs xs rs = Outcomes (h.offers (mode_of mode)) k (content_of a t.entries) (trees_of a qs) (candidates_of a xs) rs
 
-abbrev pub IsOpenRefutedBy : Handler → TypingMode → ℕ → List Tree → Table → Goal → Type 0
-IsOpenRefutedBy h mode n ts t g = RefutesOpened (h.offers (mode_of mode)) n (content_of ts t.entries) (tree_at ts g.param_env.node) (tree_at ts g.predicate.node)
+abbrev pub CandidatesTell : Handler → TypingMode → ℕ → List Tree → Table → List GenericArg → List CandidateData → List Tree → Canonical Response → Type 0
+CandidatesTell h mode k a t qs xs b r =
+    ((rs : List Answer) × HaveOutcomes h mode k a t qs xs rs × StandsForAll rs (response_at b r))
+    ⊎ IsPlain (content_of a t.entries) (trees_of a qs) (response_at b r)
+
+-- .. by one of them
+abbrev pub RepliesWith : Handler → TypingMode → ℕ → List Tree → Table → List GenericArg → CandidateData → List Tree → Canonical Response → Type 0
+RepliesWith h mode k a t qs x b r = Replies (h.offers (mode_of mode)) k (content_of a t.entries) (trees_of a qs) (candidate_of a x) (response_at b r)
+
+abbrev pub FailsIn : Handler → TypingMode → ℕ → List Tree → Table → CandidateData → Type 0
+FailsIn h mode k a t x = Fails (h.offers (mode_of mode)) k (content_of a t.entries) (candidate_of a x)
+
+-- a candidate was run: it is begun, and then some of its goals are asked
+pub record HasRunTo (h : Handler) (mode : TypingMode) (k : ℕ) (a : List Tree) (t : Table) (b : List Tree) (u : Table) (x : CandidateData) : Type 0 where
+  pub values : List Tree
+  pub met : Content
+  pub begun : IsBegun (content_of a t.entries) (candidate_of a x) values met
+  pub reaches : (let y = candidate_of a x in Reaches (h.offers (mode_of mode)) k (goals_with values y.goals) met (content_of b u.entries))
+
+-- goals of the store a were asked
+abbrev pub ReachesBy : Handler → TypingMode → ℕ → List Tree → Table → List Tree → Table → List (GoalSource × Goal) → Type 0
+ReachesBy h mode k a t b u gs = Reaches (h.offers (mode_of mode)) k (goals_at a gs) (content_of a t.entries) (content_of b u.entries)
+
+abbrev pub RefusesOneOf : Handler → TypingMode → ℕ → List Tree → Table → List (GoalSource × Goal) → Type 0
+RefusesOneOf h mode k a t gs = RefusesOne (h.offers (mode_of mode)) k (goals_at a gs) (content_of a t.entries)

@@ -18,8 +18,7 @@ use Rattle.nts_table.specs.Tables.{Table}
 use Rattle.nts_unify.specs.Reading.{content_of}
 use Rattle.nts_delegate.specs.declared.delegate.Equation.{Equation as EquationData}
 use Rattle.nts_delegate.specs.declared.delegate.RegionConstraint.{RegionConstraint}
-use Rattle.nts_delegate.specs.declared.delegate.CandidateGoal.{CandidateGoal}
-use Rattle.nts_delegate.specs.Offered.{equation_of, constraint_of, premise_of}
+use Rattle.nts_delegate.specs.Offered.{equation_of, constraint_of}
 
 -- a table whose values and constraints are of terms
 pub record IsTermTable (c : Content) : Type 0 where
@@ -59,9 +58,6 @@ EquatesEach a b t vs qs = EachStays (content_of b t.entries) (EquationHolds (map
 
 abbrev pub Constrains : List Tree → List Tree → Table → List NodeId → List RegionConstraint → Type 0
 Constrains a b t vs xs = EachStays (content_of b t.entries) (ConstraintHolds (map (tree_at b) vs)) (map (constraint_of a) xs)
-
-abbrev pub Proves : Meaning → Mode → List Tree → List Tree → Table → List NodeId → List CandidateGoal → Type 0
-Proves m mode a b t vs hs = EachStays (content_of b t.entries) (PremiseHolds m mode (map (tree_at b) vs)) (map (premise_of a) hs)
 
 -- a goal is proved, now and later
 abbrev pub StaysProved : Meaning → Mode → List Tree → Table → Goal → Type 0

@@ -9,7 +9,7 @@ ghost use Rattle.nts_unify.specs.Reading.{content_of, left_kind};
 ghost use Rattle.nts_table.specs.Tables.{IsTable};
 ghost use Rattle.nts_table.specs.Resolution.{IsResolved};
 ghost use Rattle.nts_model.specs.Resolving.{deeply_resolved};
-ghost use Rattle.nts_delegate.specs.Candidates.{IsOver, IsEquation, IsNested, IsCandidate, IsRegionConstraint, AreRegionConstraints};
+ghost use Rattle.nts_delegate.specs.Candidates.{IsOver, IsEquation, IsNested, AreNested, IsCandidate, IsRegionConstraint, AreRegionConstraints};
 ghost use Rattle.nts_terms.specs.Handles.{HoldsGoal};
 ghost use Rattle.nts_model.specs.Alike.{AreAlike};
 ghost use Rattle.nts_model.specs.Equations.{AreRelated, AreUnrelated};
@@ -23,10 +23,12 @@ ghost use Rattle.nts_evaluation.specs.Evaluation.{Goes, Runs, IsPosed, AreValues
 ghost use Rattle.nts_table.specs.Tables.{IsTermOf};
 ghost use Rattle.nts_evaluation.specs.Instances.{HoldsValues, IsTermInstance, IsGoalInstance, instance_at};
 ghost use Rattle.nts_evaluation.specs.Choices.{Equated};
-ghost use Rattle.nts_evaluation.specs.Refuting.{FailsToAdd};
+ghost use Rattle.nts_evaluation.specs.Adding.{AreAdded};
+ghost use Rattle.nts_evaluation.specs.Telling.{FailsToAdd};
 ghost use Rattle.nts_terms.specs.Rest.{Grows};
 
-use nts_delegate::{CandidateData, Equation, RegionConstraint};
+use nts_certainty::GoalSource;
+use nts_delegate::{CandidateData, CandidateGoal, Equation, RegionConstraint};
 use nts_model::{Relation, Sort};
 use nts_store::{EvalError, Fault, NodeId, instantiate_canonical};
 use nts_table::{InferCtxt, relate_nodes, resolve_nodes};
@@ -98,29 +100,47 @@ impl Trial<'_> {
         Ok((left, right))
     }
 
-    /// A goal of the candidate, with the values in place of its fresh variables, and resolved.
-    #[inline(never)]
-    pub fn nested_goal(self, table: &InferCtxt, cx: &mut Cx, nested: Goal) -> Result<Goal, Fault>
+    /// A goal of the candidate, with the values in place of its fresh variables.
+    fn added_goal(self, table: &InferCtxt, cx: &mut Cx, nested: Goal) -> Result<Goal, Fault>
         requires posed { IsPosed cx.old.nodes table.now self.goal }
         requires nested { IsNested cx.old.nodes self.fresh.now self.goal nested }
         requires values { AreValues cx.old.nodes table.now self.fresh.now self.values.now }
         ensures grows { Grows cx.old cx.new }
         ensures posed { IfOk result (λ g. IsPosed cx.new.nodes table.now g) }
-        ensures asks { IfOk result (IsGoalInstance cx.old.nodes cx.new.nodes
-            (content_of cx.old.nodes table.now.entries) self.entry.values.now nested) }
-        ensures labels { IfOk result (AsksOnly cx.old.nodes cx.new.nodes (content_of cx.old.nodes
-            table.now.entries) self.entry.goal) }
+        ensures goal { IfOk result (IsGoalInstance cx.old.nodes cx.new.nodes self.entry.values.now nested) }
+        ensures labels { IfOk result (AsksOnly cx.old.nodes cx.new.nodes self.entry.goal) }
         ensures memory { IsOkUnless result Fault.Memory }
     {
         let env = nested.param_env.node;
         let predicate = nested.predicate.node;
         let (env, predicate) = self.instantiate_both(cx, env, predicate)?;
-        let made = Goal {
+        Ok(Goal {
             param_env: ParamEnv { node: env },
             predicate: Predicate { node: predicate },
-        };
-        let asked = resolve_goal(table, cx, made)?;
-        Ok(asked)
+        })
+    }
+
+    /// The goals of the candidate, likewise, each with its source.
+    #[inline(never)]
+    pub fn added_goals(
+        self,
+        table: &InferCtxt,
+        cx: &mut Cx,
+        nested: &[CandidateGoal],
+    ) -> Result<Vec<(GoalSource, Goal)>, Fault>
+        requires posed { IsPosed cx.old.nodes table.now self.goal }
+        requires nested { AreNested cx.old.nodes self.fresh.now self.goal nested.now }
+        requires values { AreValues cx.old.nodes table.now self.fresh.now self.values.now }
+        ensures grows { Grows cx.old cx.new }
+        ensures added { IfOk result (λ gs. AreAdded cx.old.nodes cx.new.nodes table.now self.entry.goal self.entry.values.now nested.now gs.items) }
+        ensures memory { IsOkUnless result Fault.Memory }
+    {
+        let mut added = Vec::with_capacity(cx.alloc, nested.len())?;
+        for asked in nested {
+            let goal = self.added_goal(table, cx, asked.goal)?;
+            added.push((asked.source, goal))?;
+        }
+        Ok(added)
     }
 }
 
@@ -264,33 +284,6 @@ fn relate_terms(table: &mut InferCtxt, cx: &mut Cx, a: NodeId, b: NodeId) -> Res
 {
     let alloc = cx.alloc;
     relate_nodes(alloc, &mut cx.nodes, table, a, b)
-}
-
-/// Whether some world of the table meets a candidate's equations. The table is as before.
-pub fn candidate_holds(
-    table: &mut InferCtxt,
-    cx: &mut Cx,
-    goal: Goal,
-    candidate: &CandidateData,
-) -> Result<bool, EvalError>
-    requires posed { IsPosed cx.old.nodes table.old goal }
-    requires candidate { IsCandidate cx.old.nodes goal candidate.now }
-    ensures same { table.new ≡ table.old }
-    ensures grows { Grows cx.old cx.new }
-    ensures met { IfOk result (λ b. IsTrue b ↔ IsMet (content_of cx.old.nodes table.old.entries)
-        (candidate_of cx.old.nodes candidate.now)) }
-    ensures no { result ≢ Err EvalError.NoSolution }
-    ensures full { result ≢ Err EvalError.Full }
-{
-    terms_are_formed(cx);
-    let snapshot = table.start_snapshot()?;
-    let tried = equate(table, cx, goal, candidate);
-    table.rollback_to(snapshot);
-    match tried {
-        Ok(_) => Ok(true),
-        Err(EvalError::NoSolution) => Ok(false),
-        Err(error) => Err(error),
-    }
 }
 
 /// Records the region constraints of a candidate, with the values in place of its fresh variables.

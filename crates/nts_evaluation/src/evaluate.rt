@@ -1,67 +1,38 @@
 //! The recursion over nested goals. Its functions stand on the stack once for each goal above, so what
 //! they call and is not of the recursion is kept out of their frames, by `inline(never)`.
-ghost use Rattle.std.specs.Prelude.{true, false, ◌≡◌, ◌≢◌, ◌<◌, ◌≤◌, ◌/◌, ◌+◌, ◌-◌, Some, IfOk, OnOk, OnErr, IfSome, IsNone, ◌↔◌, length, get_or};
+ghost use Rattle.std.specs.Prelude.{true, false, ◌≡◌, ◌≢◌, ◌<◌, ◌≤◌, ◌+◌, ◌⊎◌, [], Some, IfOk, OnOk, OnErr, All};
 ghost use Rattle.nts_model.specs.Passing.{BringsOnly};
 ghost use Rattle.nts_model.specs.Proving.{IsDerived};
 ghost use Rattle.nts_model.specs.Responses.{answer_sequent};
 ghost use Rattle.nts_canonical.specs.Forms.{form_of};
-ghost use Rattle.nts_canonical.specs.Building.{kinds_of};
+ghost use Rattle.nts_canonical.specs.Building.{kinds_of, IsArgOf};
 ghost use Rattle.nts_response.specs.Forms.{response_at};
-ghost use Rattle.nts_model.specs.Sequents.{HasClosedStatements};
-ghost use Rattle.nts_store.specs.Growth.{tree_at, Extends};
-ghost use Rattle.nts_delegate.specs.Candidates.{IsAsked, IsCandidate, AreCandidates, IsNested};
-ghost use Rattle.nts_terms.specs.Handles.{HoldsEnv, HoldsGoal};
+ghost use Rattle.nts_delegate.specs.Candidates.{IsAsked, IsCandidate, AreCandidates};
 ghost use Rattle.nts_terms.specs.Modes.{mode_of};
-ghost use Rattle.nts_evaluation.specs.Meant.{Since, meaning_since, IfYes, IsPremiseProved, AreOffered, IsOffered, IsServedSince, IsProvedNow, IsProvedSince, IsForcedTo, IsGainedTo, IsOpenForcedTo, IsOpenGainedTo, IsOpenRefutedBy, AsksForced, AsksGained, AsksRefuted, LeavesGoal, RefusesGoal, LeavesPremise, LeavesOrSkips, RefusesPremise, IsOnlyMet, IsRefutedBy};
-ghost use Rattle.nts_evaluation.specs.Asking.{Answers, AnswersInPart};
-ghost use Rattle.nts_evaluation.specs.Refuting.{Forces, Gains, IsQueryRefuted};
+ghost use Rattle.nts_evaluation.specs.Meant.{Since, meaning_since, AreOffered, IsOffered, IsServedSince, IsProvedNow, IsProvedSince, IsAskedTo, IsRefusedIn, IsAskedUnder, IsRefusedUnder, IsQueryTold, IsQueryRefuted, IsTold, IsRefuted, HaveOutcomes, CandidatesTell, RepliesWith, FailsIn, HasRunTo, ReachesBy, RefusesOneOf};
+ghost use Rattle.nts_evaluation.specs.Found.{Found};
+ghost use Rattle.nts_evaluation.specs.Stepping.{ArePosed, AreLeft, AreSettled, terms_of, bound_of};
 ghost use Rattle.nts_evaluation.specs.Answering.{IsQueryInput, IsAnswerTo, EvaluatesGoal, IfSure, IfCertain};
-ghost use Rattle.nts_evaluation.specs.Evaluation.{Goes, Runs, IsPosed, AreValues, asked_terms};
-ghost use Rattle.nts_evaluation.specs.Choices.{IsChoiceOf};
+ghost use Rattle.nts_evaluation.specs.Evaluation.{Runs, IsPosed, asked_terms};
 ghost use Rattle.nts_unify.specs.Reading.{content_of};
+ghost use Rattle.nts_table.specs.Tables.{IsTable};
 ghost use Rattle.nts_certainty.specs.declared.certainty.Certainty.TheVariants as certainty;
 ghost use Rattle.nts_terms.specs.Rest.{Grows};
 
+use crate::asked::is_candidates_goal;
 use crate::binder::enter_forall;
-use crate::candidate::{Trial, candidate_holds, equate, record_constraints, terms_are_formed};
-use crate::query::{end_query, query_of};
+use crate::candidate::{Trial, equate, record_constraints, resolve_goal, terms_are_formed};
+use crate::merged::{keep_response, merge_responses};
+use crate::query::{keeps_constraints, query_of};
 use crate::response::{apply_answer, make_response};
+use crate::steps::{AvailableDepth, Step};
 use nts_canonical::{CanonicalInput, build_with_canonical};
-use nts_certainty::{Certainty, HasChanged};
-use nts_delegate::{CandidateData, CandidateGoal, GoalHandler};
+use nts_certainty::{Certainty, GoalSource, HasChanged};
+use nts_delegate::{CandidateData, GoalHandler};
 use nts_response::CanonicalResponse;
 use nts_store::EvalError;
 use nts_table::InferCtxt;
-use nts_terms::{ClauseKind, Cx, Goal, ParamEnv, PredicateKind};
-
-/// What a goal inside of an evaluation was answered.
-#[derive(Clone, Copy)]
-pub struct Answer {
-    pub certainty: Certainty,
-    /// A goal below it was nested too deep.
-    pub has_overflowed: bool,
-}
-
-/// The depth of a goal below one of the given depth, if it is not nested too deep. Once a goal below
-/// that one overflowed, its later goals get a part of its depth, as the division says, where that is less.
-pub fn depth_below(depth: usize, has_overflowed: bool, division: usize) -> Option<usize>
-    ensures too_deep { IsNone result ↔ (depth ≡ 0) }
-    ensures less { IfSome result (λ below. below < depth) }
-    ensures next { has_overflowed ≡ false → IfSome result (λ below. below ≡ depth - 1) }
-    ensures divided { has_overflowed ≡ true → 0 < division → depth / division < depth →
-        result ≡ Some (depth / division) }
-{
-    if depth == 0 {
-        return None;
-    }
-    if has_overflowed && division > 0 {
-        let part = depth / division;
-        if part < depth {
-            return Some(part);
-        }
-    }
-    Some(depth - 1)
-}
+use nts_terms::{Cx, GenericArg, Goal};
 
 /// What a goal that was asked in a query of its own was answered.
 #[derive(Clone, Copy)]
@@ -69,19 +40,11 @@ pub struct Evaluated {
     pub certainty: Certainty,
     /// Whether the response says anything of the goal's variables.
     pub has_changed: HasChanged,
-    /// A goal below it was nested too deep.
-    pub has_overflowed: bool,
-}
-
-/// What a query was answered.
-#[derive(Drop)]
-pub struct QueryAnswer {
-    pub response: CanonicalResponse,
-    pub has_overflowed: bool,
 }
 
 /// Evaluates a goal in a query of its own: its leaves give place to positions, the query runs in a table that is made for these,
-/// and its response is applied to the leaves. Nothing else is added to the table.
+/// and its response is applied to the leaves. Nothing else is added to the table. The mark is set where a goal below was nested
+/// too deep.
 #[cycle(evaluate)]
 pub fn evaluate_goal<H: GoalHandler>(
     table: &mut InferCtxt,
@@ -89,29 +52,25 @@ pub fn evaluate_goal<H: GoalHandler>(
     handler: &H,
     goal: Goal,
     depth: usize,
+    has_overflowed: &mut bool,
 ) -> Result<Evaluated, EvalError>
     requires posed { IsPosed cx.old.nodes table.old goal }
     requires ready { H.ready cx.old.nodes handler.now }
     ensures runs { Runs cx.old cx.new table.old table.new }
     ensures err { OnErr result (table.new ≡ table.old) }
-    ensures evaluates { IfOk result (λ e. EvaluatesGoal cx.old.nodes cx.new.nodes table.old table.new
-        goal e.has_changed) }
-    ensures labels { OnOk result (BringsOnly (asked_terms cx.old.nodes goal) (content_of cx.old.nodes
-        table.old.entries) (content_of cx.new.nodes table.new.entries)) }
-    ensures proved { (s : Since (λ ts. H.ready ts handler.now) cx.old.nodes) → IfSure result
-        (IsProvedSince (λ ts. H.handler ts handler.now) s table.old.mode cx.new.nodes table.new goal) }
-    ensures forced { (s : Since (λ ts. H.ready ts handler.now) cx.old.nodes) → IfSure result
-        (LeavesGoal (AsksForced (H.handler s.base handler.now) table.old.mode (depth + 1))
-        cx.old.nodes table.old cx.new.nodes table.new goal) }
-    ensures gained { (s : Since (λ ts. H.ready ts handler.now) cx.old.nodes) → OnOk result
-        (LeavesGoal (AsksGained (H.handler s.base handler.now) table.old.mode (depth + 1))
-        cx.old.nodes table.old cx.new.nodes table.new goal) }
-    ensures refuted { (s : Since (λ ts. H.ready ts handler.now) cx.old.nodes) →
-        result ≡ Err EvalError.NoSolution → RefusesGoal (AsksRefuted (H.handler s.base handler.now)
-        table.old.mode (depth + 1)) cx.old.nodes table.old goal }
+    ensures evaluates { IfOk result (λ e. EvaluatesGoal cx.old.nodes cx.new.nodes table.old table.new goal e.has_changed) }
+    ensures labels { OnOk result (BringsOnly (asked_terms cx.old.nodes goal) (content_of cx.old.nodes table.old.entries) (content_of cx.new.nodes table.new.entries)) }
+    ensures proved { (s : Since (λ ts. H.ready ts handler.now) cx.old.nodes) → IfSure result (IsProvedSince (λ ts. H.handler ts handler.now) s table.old.mode cx.new.nodes table.new goal) }
+    ensures told { (s : Since (λ ts. H.ready ts handler.now) cx.old.nodes) → OnOk result (IsAskedTo (H.handler s.base handler.now) table.old.mode (depth + 1) cx.old.nodes table.old cx.new.nodes table.new goal) }
+    ensures refuted { (s : Since (λ ts. H.ready ts handler.now) cx.old.nodes) → result ≡ Err EvalError.NoSolution → IsRefusedIn (H.handler s.base handler.now) table.old.mode (depth + 1) cx.old.nodes table.old goal }
 {
     let (originals, input) = query_of(table, cx, goal)?;
-    let answer = evaluate_query(cx, handler, &input, depth)?;
+    let mut is_marked = false;
+    let answered = evaluate_query(cx, handler, &input, depth, &mut is_marked);
+    if is_marked {
+        *has_overflowed = true;
+    }
+    let answer = answered?;
     let evaluated = apply_answer(table, cx, goal.param_env, &originals, &answer);
     terms_are_formed(cx);
     evaluated
@@ -125,225 +84,143 @@ fn evaluate_query<H: GoalHandler>(
     handler: &H,
     input: &CanonicalInput,
     depth: usize,
-) -> Result<QueryAnswer, EvalError>
+    mark: &mut bool,
+) -> Result<CanonicalResponse, EvalError>
     requires input { IsQueryInput cx.old.nodes input.now }
     requires ready { H.ready cx.old.nodes handler.now }
     ensures grows { Grows cx.old cx.new }
-    ensures fits { IfOk result (λ a. IsAnswerTo cx.new.nodes (kinds_of input.now) a.response) }
-    ensures proved { (s : Since (λ ts. H.ready ts handler.now) cx.old.nodes) → IfCertain result (λ r.
-        IsDerived (meaning_since (λ ts. H.handler ts handler.now) s) (mode_of input.now.typing_mode)
-        (answer_sequent (form_of cx.old.nodes input.now) (response_at cx.new.nodes r))) }
-    ensures forced { (s : Since (λ ts. H.ready ts handler.now) cx.old.nodes) → IfCertain result (λ r.
-        Answers (Forces ((H.handler s.base handler.now).offers (mode_of input.now.typing_mode))
-        (depth + 1)) (form_of cx.old.nodes input.now) (response_at cx.new.nodes r)) }
-    ensures gained { (s : Since (λ ts. H.ready ts handler.now) cx.old.nodes) → IfOk result (λ a.
-        AnswersInPart (Gains ((H.handler s.base handler.now).offers (mode_of input.now.typing_mode))
-        (depth + 1)) (form_of cx.old.nodes input.now) (response_at cx.new.nodes a.response)) }
-    ensures refuted { (s : Since (λ ts. H.ready ts handler.now) cx.old.nodes) →
-        result ≡ Err EvalError.NoSolution → IsQueryRefuted ((H.handler s.base handler.now).offers
-        (mode_of input.now.typing_mode)) (depth + 1) (form_of cx.old.nodes input.now) }
+    ensures fits { IfOk result (IsAnswerTo cx.new.nodes (kinds_of input.now)) }
+    ensures proved { (s : Since (λ ts. H.ready ts handler.now) cx.old.nodes) → IfCertain result (λ r. IsDerived (meaning_since (λ ts. H.handler ts handler.now) s) (mode_of input.now.typing_mode) (answer_sequent (form_of cx.old.nodes input.now) (response_at cx.new.nodes r))) }
+    ensures told { (s : Since (λ ts. H.ready ts handler.now) cx.old.nodes) → IfOk result (IsQueryTold (H.handler s.base handler.now) (mode_of input.now.typing_mode) (depth + 1) cx.old.nodes input.now cx.new.nodes) }
+    ensures refuted { (s : Since (λ ts. H.ready ts handler.now) cx.old.nodes) → result ≡ Err EvalError.NoSolution → IsQueryRefuted (H.handler s.base handler.now) (mode_of input.now.typing_mode) (depth + 1) cx.old.nodes input.now }
 {
     let (mut table, query, values) = build_with_canonical(cx, input)?;
-    let snapshot = table.start_snapshot()?;
-    let answer = compute_goal(&mut table, cx, handler, query.goal, depth)?;
-    end_query(&mut table, snapshot, answer.certainty);
+    let response = compute_goal(&mut table, cx, handler, query.goal, &values, depth, mark);
     terms_are_formed(cx);
-    let response = make_response(&table, cx, &values, answer.certainty)?;
-    Ok(QueryAnswer {
-        response,
-        has_overflowed: answer.has_overflowed,
-    })
+    response
 }
 
-/// Answers a goal by its kind, with placeholders in place of what it binds. Kinds and terms that are not there yet are ambiguous.
+/// Answers a goal by its kind, with placeholders in place of what it binds, for the terms that stand for the positions of its
+/// query. Kinds and terms that are not there yet are ambiguous.
 #[cycle(evaluate)]
 fn compute_goal<H: GoalHandler>(
     table: &mut InferCtxt,
     cx: &mut Cx,
     handler: &H,
     goal: Goal,
+    values: &[GenericArg],
     depth: usize,
-) -> Result<Answer, EvalError>
+    mark: &mut bool,
+) -> Result<CanonicalResponse, EvalError>
     requires posed { IsPosed cx.old.nodes table.old goal }
     requires ready { H.ready cx.old.nodes handler.now }
+    requires values { All (IsArgOf cx.old.nodes table.old.entries) values.now }
     ensures grows { Grows cx.old cx.new }
-    ensures goes { OnOk result (Goes cx.old.nodes cx.new.nodes table.old table.new) }
-    ensures labels { OnOk result (BringsOnly (asked_terms cx.old.nodes goal) (content_of cx.old.nodes
-        table.old.entries) (content_of cx.new.nodes table.new.entries)) }
-    ensures proved { (s : Since (λ ts. H.ready ts handler.now) cx.old.nodes) → IfYes result
-        (IsProvedNow (λ ts. H.handler ts handler.now) s table.old.mode cx.new.nodes table.new goal) }
-    ensures forced { (s : Since (λ ts. H.ready ts handler.now) cx.old.nodes) → IfYes result
-        (IsForcedTo (H.handler s.base handler.now) table.old.mode (depth + 1) cx.old.nodes table.old
-        cx.new.nodes table.new goal) }
-    ensures gained { (s : Since (λ ts. H.ready ts handler.now) cx.old.nodes) → OnOk result
-        (IsGainedTo (H.handler s.base handler.now) table.old.mode (depth + 1) cx.old.nodes table.old
-        cx.new.nodes table.new goal) }
-    ensures refuted { (s : Since (λ ts. H.ready ts handler.now) cx.old.nodes) →
-        result ≡ Err EvalError.NoSolution → IsRefutedBy (H.handler s.base handler.now) table.old.mode
-        (depth + 1) cx.old.nodes table.old goal }
+    ensures found { IfOk result (Found (λ b u. (s : Since (λ ts. H.ready ts handler.now) cx.old.nodes) → IsProvedNow (λ ts. H.handler ts handler.now) s table.old.mode b u goal) cx.old.nodes cx.new.nodes table.old goal values.now) }
+    ensures told { (s : Since (λ ts. H.ready ts handler.now) cx.old.nodes) → IfOk result (IsTold (H.handler s.base handler.now) table.old.mode (depth + 1) cx.old.nodes table.old goal values.now cx.new.nodes) }
+    ensures refuted { (s : Since (λ ts. H.ready ts handler.now) cx.old.nodes) → result ≡ Err EvalError.NoSolution → IsRefuted (H.handler s.base handler.now) table.old.mode (depth + 1) cx.old.nodes table.old goal }
 {
-    let Some(opened) = enter_forall(table, cx, goal)? else {
-        return Ok(Answer {
-            certainty: Certainty::AMBIGUOUS,
-            has_overflowed: false,
-        });
+    let opened = enter_forall(table, cx, goal)?;
+    terms_are_formed(cx);
+    let Some(opened) = opened else {
+        let response = make_response(table, cx, values, Certainty::AMBIGUOUS)?;
+        return Ok(response);
     };
     if !is_candidates_goal(cx, opened) {
-        return Ok(Answer {
-            certainty: Certainty::AMBIGUOUS,
-            has_overflowed: false,
-        });
+        let response = make_response(table, cx, values, Certainty::AMBIGUOUS)?;
+        return Ok(response);
     }
     let candidates = handler.candidates(cx, table.typing_mode(), opened)?;
-    let answer = evaluate_candidates(table, cx, handler, opened, candidates, depth);
+    let response = evaluate_candidates(
+        table,
+        cx,
+        handler,
+        opened,
+        &candidates,
+        values,
+        depth,
+        mark,
+    );
     terms_are_formed(cx);
-    answer
+    response
 }
 
-/// Whether a goal is answered by the handler's candidates: a closed trait goal that binds nothing, and
-/// that has neither aliases nor positions of a canonical value, and each bound variable of which is of the
-/// list of its binder. In its environment, too, no bound variable names a binder that binds nothing.
-#[inline(never)]
-fn is_candidates_goal(cx: &Cx, goal: Goal) -> bool
-    requires { HoldsGoal cx.now.nodes goal }
-    ensures { result ≡ true → IsAsked cx.now.nodes goal }
-{
-    let env = cx.nodes.flags(goal.param_env.node);
-    let flags = cx.nodes.flags(goal.predicate.node);
-    if env.has_canonical || flags.has_canonical || flags.has_alias || env.has_alias {
-        return false;
-    }
-    if !cx.nodes.is_well_bound(goal.param_env.node) {
-        return false;
-    }
-    if !cx.nodes.is_well_bound(goal.predicate.node) {
-        return false;
-    }
-    let predicate = goal.predicate.kind(cx);
-    if env.escaping.is_some() || predicate.vars.len(cx) != 0 {
-        return false;
-    }
-    if !statements_are_closed(cx, goal.param_env) {
-        return false;
-    }
-    let PredicateKind::Clause(clause) = predicate.value else {
-        return false;
-    };
-    let ClauseKind::Trait(trait_ref) = clause else {
-        return false;
-    };
-    terms_are_formed(cx);
-    let args = cx.nodes.flags(trait_ref.args.node);
-    args.escaping.is_none()
-}
-
-/// Whether no bound variable names a binder of the environment that binds nothing.
-#[inline(never)]
-fn statements_are_closed(cx: &Cx, env: ParamEnv) -> bool
-    requires { HoldsEnv cx.now.nodes env }
-    ensures { result ≡ true → HasClosedStatements (tree_at cx.now.nodes env.node) }
-{
-    for i in 0..env.len(cx) {
-        if !env.get(cx, i).has_closed_statement(cx) {
-            return false;
-        }
-    }
-    true
-}
-
-/// Answers by the one candidate whose equations hold. Where none does, nothing holds; where several do,
-/// it is ambiguous.
+/// Asks each candidate to its end. Those that fail are dropped, and one response stands for those of the others; where none does,
+/// it is ambiguous. The table is as before.
 #[cycle(evaluate)]
 fn evaluate_candidates<H: GoalHandler>(
     table: &mut InferCtxt,
     cx: &mut Cx,
     handler: &H,
     goal: Goal,
-    candidates: Vec<CandidateData>,
+    candidates: &[CandidateData],
+    values: &[GenericArg],
     depth: usize,
-) -> Result<Answer, EvalError>
+    mark: &mut bool,
+) -> Result<CanonicalResponse, EvalError>
     requires posed { IsPosed cx.old.nodes table.old goal }
     requires asked { IsAsked cx.old.nodes goal }
     requires ready { H.ready cx.old.nodes handler.now }
-    requires candidates { AreCandidates cx.old.nodes goal candidates.items }
-    ensures runs { Runs cx.old cx.new table.old table.new }
-    ensures labels { OnOk result (BringsOnly (asked_terms cx.old.nodes goal) (content_of cx.old.nodes
-        table.old.entries) (content_of cx.new.nodes table.new.entries)) }
-    ensures proved { (s : Since (λ ts. H.ready ts handler.now) cx.old.nodes) → AreOffered
-        (H.handler s.base handler.now) table.old.mode cx.old.nodes goal candidates.items → IfYes result
-        (IsServedSince (λ ts. H.handler ts handler.now) s table.old.mode cx.new.nodes table.new goal) }
-    ensures forced { (s : Since (λ ts. H.ready ts handler.now) cx.old.nodes) → AreOffered (H.handler s.base
-        handler.now) table.old.mode cx.old.nodes goal candidates.items → IfYes result (IsOpenForcedTo (H.handler
-        s.base handler.now) table.old.mode (depth + 1) cx.old.nodes table.old cx.new.nodes table.new goal) }
-    ensures gained { (s : Since (λ ts. H.ready ts handler.now) cx.old.nodes) → AreOffered (H.handler s.base
-        handler.now) table.old.mode cx.old.nodes goal candidates.items → OnOk result (IsOpenGainedTo (H.handler
-        s.base handler.now) table.old.mode (depth + 1) cx.old.nodes table.old cx.new.nodes table.new goal) }
-    ensures refuted { (s : Since (λ ts. H.ready ts handler.now) cx.old.nodes) → AreOffered (H.handler s.base
-        handler.now) table.old.mode cx.old.nodes goal candidates.items → result ≡ Err EvalError.NoSolution →
-        IsOpenRefutedBy (H.handler s.base handler.now) table.old.mode (depth + 1) cx.old.nodes table.old goal }
-{
-    match choose(table, cx, goal, &candidates)? {
-        Choice::None => Err(EvalError::NoSolution),
-        Choice::Several => Ok(Answer {
-            certainty: Certainty::AMBIGUOUS,
-            has_overflowed: false,
-        }),
-        Choice::One(i) => {
-            let chosen = take_candidate(candidates, i);
-            run_candidate(table, cx, handler, goal, &chosen, depth)
-        }
-    }
-}
-
-/// One of the candidates. The others are let go, so that they take no memory while it runs.
-#[inline(never)]
-fn take_candidate(mut candidates: Vec<CandidateData>, i: usize) -> CandidateData
-    requires { i < length candidates.items }
-    ensures { result ≡ get_or candidates.items i result }
-{
-    candidates.swap_remove(i)
-}
-
-/// How many candidates have equations that hold.
-#[derive(Clone, Copy)]
-enum Choice {
-    None,
-    One(usize),
-    Several,
-}
-
-/// Tries the equations of each candidate: none is met by a world of the table, this one alone, or
-/// several. The table is as before.
-#[inline(never)]
-fn choose(
-    table: &mut InferCtxt,
-    cx: &mut Cx,
-    goal: Goal,
-    candidates: &[CandidateData],
-) -> Result<Choice, EvalError>
-    requires posed { IsPosed cx.old.nodes table.old goal }
     requires candidates { AreCandidates cx.old.nodes goal candidates.now }
+    requires values { All (IsArgOf cx.old.nodes table.old.entries) values.now }
     ensures same { table.new ≡ table.old }
     ensures grows { Grows cx.old cx.new }
-    ensures choice { IfOk result (IsChoiceOf cx.old.nodes (content_of cx.old.nodes table.old.entries)
-        candidates.now) }
-    ensures no { result ≢ Err EvalError.NoSolution }
-    ensures full { result ≢ Err EvalError.Full }
+    ensures found { IfOk result (Found (λ b u. (s : Since (λ ts. H.ready ts handler.now) cx.old.nodes) → AreOffered (H.handler s.base handler.now) table.old.mode cx.old.nodes goal candidates.now → IsServedSince (λ ts. H.handler ts handler.now) s table.old.mode b u goal) cx.old.nodes cx.new.nodes table.old goal values.now) }
+    ensures told { (s : Since (λ ts. H.ready ts handler.now) cx.old.nodes) → IfOk result (CandidatesTell (H.handler s.base handler.now) table.old.mode depth cx.old.nodes table.old values.now candidates.now cx.new.nodes) }
+    ensures refuted { (s : Since (λ ts. H.ready ts handler.now) cx.old.nodes) → result ≡ Err EvalError.NoSolution → HaveOutcomes (H.handler s.base handler.now) table.old.mode depth cx.old.nodes table.old values.now candidates.now [] }
 {
-    let mut choice = Choice::None;
-    for i in 0..candidates.len() {
-        if candidate_holds(table, cx, goal, &candidates[i])? {
-            if let Choice::None = choice {
-                choice = Choice::One(i);
-            } else {
-                return Ok(Choice::Several);
-            }
-        }
+    let mut responses = Vec::new(cx.alloc);
+    for candidate in candidates {
+        let answer = probe_candidate(table, cx, handler, goal, candidate, values, depth, mark);
+        keep_response(&mut responses, answer)?;
     }
-    Ok(choice)
+    terms_are_formed(cx);
+    merge_responses(table, cx, values, responses)
 }
 
-/// Runs a candidate: its equations, its region constraints, and its goals in order.
+/// Runs a candidate in a probe, and answers what its table found out. The table is as before.
+#[cycle(evaluate)]
+fn probe_candidate<H: GoalHandler>(
+    table: &mut InferCtxt,
+    cx: &mut Cx,
+    handler: &H,
+    goal: Goal,
+    candidate: &CandidateData,
+    values: &[GenericArg],
+    depth: usize,
+    mark: &mut bool,
+) -> Result<CanonicalResponse, EvalError>
+    requires posed { IsPosed cx.old.nodes table.old goal }
+    requires asked { IsAsked cx.old.nodes goal }
+    requires ready { H.ready cx.old.nodes handler.now }
+    requires candidate { IsCandidate cx.old.nodes goal candidate.now }
+    requires values { All (IsArgOf cx.old.nodes table.old.entries) values.now }
+    ensures same { table.new ≡ table.old }
+    ensures grows { Grows cx.old cx.new }
+    ensures found { IfOk result (Found (λ b u. (s : Since (λ ts. H.ready ts handler.now) cx.old.nodes) → IsOffered (H.handler s.base handler.now) table.old.mode cx.old.nodes goal candidate.now → IsServedSince (λ ts. H.handler ts handler.now) s table.old.mode b u goal) cx.old.nodes cx.new.nodes table.old goal values.now) }
+    ensures told { (s : Since (λ ts. H.ready ts handler.now) cx.old.nodes) → IfOk result (RepliesWith (H.handler s.base handler.now) table.old.mode depth cx.old.nodes table.old values.now candidate.now cx.new.nodes) }
+    ensures refuted { (s : Since (λ ts. H.ready ts handler.now) cx.old.nodes) → result ≡ Err EvalError.NoSolution → FailsIn (H.handler s.base handler.now) table.old.mode depth cx.old.nodes table.old candidate.now }
+{
+    let snapshot = table.start_snapshot()?;
+    let certainty = match run_candidate(table, cx, handler, goal, candidate, depth, mark) {
+        Ok(certainty) => certainty,
+        Err(error) => {
+            table.rollback_to(snapshot);
+            return Err(error);
+        }
+    };
+    terms_are_formed(cx);
+    if keeps_constraints(certainty) {
+        let response = make_response(table, cx, values, certainty);
+        table.rollback_to(snapshot);
+        return Ok(response?);
+    }
+    table.rollback_to(snapshot);
+    let response = make_response(table, cx, values, certainty)?;
+    Ok(response)
+}
+
+/// Runs a candidate: its equations, its region constraints, and its goals in steps.
 #[cycle(evaluate)]
 fn run_candidate<H: GoalHandler>(
     table: &mut InferCtxt,
@@ -352,26 +229,17 @@ fn run_candidate<H: GoalHandler>(
     goal: Goal,
     candidate: &CandidateData,
     depth: usize,
-) -> Result<Answer, EvalError>
+    mark: &mut bool,
+) -> Result<Certainty, EvalError>
     requires posed { IsPosed cx.old.nodes table.old goal }
     requires asked { IsAsked cx.old.nodes goal }
     requires ready { H.ready cx.old.nodes handler.now }
     requires candidate { IsCandidate cx.old.nodes goal candidate.now }
     ensures runs { Runs cx.old cx.new table.old table.new }
-    ensures labels { OnOk result (BringsOnly (asked_terms cx.old.nodes goal) (content_of cx.old.nodes
-        table.old.entries) (content_of cx.new.nodes table.new.entries)) }
-    ensures proved { (s : Since (λ ts. H.ready ts handler.now) cx.old.nodes) → IsOffered
-        (H.handler s.base handler.now) table.old.mode cx.old.nodes goal candidate.now → IfYes result
-        (IsServedSince (λ ts. H.handler ts handler.now) s table.old.mode cx.new.nodes table.new goal) }
-    ensures forced { (s : Since (λ ts. H.ready ts handler.now) cx.old.nodes) → IsOnlyMet (H.handler s.base
-        handler.now) table.old.mode cx.old.nodes table.old goal candidate.now → IfYes result (IsOpenForcedTo (H.handler
-        s.base handler.now) table.old.mode (depth + 1) cx.old.nodes table.old cx.new.nodes table.new goal) }
-    ensures gained { (s : Since (λ ts. H.ready ts handler.now) cx.old.nodes) → IsOnlyMet (H.handler s.base
-        handler.now) table.old.mode cx.old.nodes table.old goal candidate.now → OnOk result (IsOpenGainedTo (H.handler
-        s.base handler.now) table.old.mode (depth + 1) cx.old.nodes table.old cx.new.nodes table.new goal) }
-    ensures refuted { (s : Since (λ ts. H.ready ts handler.now) cx.old.nodes) → IsOnlyMet (H.handler s.base
-        handler.now) table.old.mode cx.old.nodes table.old goal candidate.now → result ≡ Err EvalError.NoSolution
-        → IsOpenRefutedBy (H.handler s.base handler.now) table.old.mode (depth + 1) cx.old.nodes table.old goal }
+    ensures labels { OnOk result (BringsOnly (asked_terms cx.old.nodes goal) (content_of cx.old.nodes table.old.entries) (content_of cx.new.nodes table.new.entries)) }
+    ensures proved { (s : Since (λ ts. H.ready ts handler.now) cx.old.nodes) → IsOffered (H.handler s.base handler.now) table.old.mode cx.old.nodes goal candidate.now → result ≡ Ok certainty.Yes → IsServedSince (λ ts. H.handler ts handler.now) s table.old.mode cx.new.nodes table.new goal }
+    ensures told { (s : Since (λ ts. H.ready ts handler.now) cx.old.nodes) → OnOk result (HasRunTo (H.handler s.base handler.now) table.old.mode depth cx.old.nodes table.old cx.new.nodes table.new candidate.now) }
+    ensures refuted { (s : Since (λ ts. H.ready ts handler.now) cx.old.nodes) → result ≡ Err EvalError.NoSolution → FailsIn (H.handler s.base handler.now) table.old.mode depth cx.old.nodes table.old candidate.now }
 {
     let values = equate(table, cx, goal, candidate)?;
     let trial = Trial {
@@ -380,63 +248,117 @@ fn run_candidate<H: GoalHandler>(
         values: &values,
     };
     record_constraints(table, cx, trial, &candidate.region_constraints)?;
-    let mut certainty = candidate.certainty;
-    let mut has_overflowed = false;
-    for nested in &candidate.goals {
-        let answer = evaluate_nested(table, cx, handler, trial, *nested, depth, has_overflowed)?;
-        certainty = certainty.and(answer.certainty);
-        has_overflowed = has_overflowed || answer.has_overflowed;
-    }
+    let mut goals = trial.added_goals(table, cx, &candidate.goals)?;
+    let mut last_steps = 0;
+    let certainty = try_evaluate_goals(
+        table,
+        cx,
+        handler,
+        &mut goals,
+        AvailableDepth::Below(depth),
+        &mut last_steps,
+        mark,
+    )?;
     terms_are_formed(cx);
-    Ok(Answer {
-        certainty,
-        has_overflowed,
-    })
+    Ok(candidate.certainty.and(certainty))
 }
 
-/// Evaluates one of the goals of a candidate.
+/// Evaluates goals in steps, until a step finds nothing out, or as often as the store's limit says: then it is an overflow. The
+/// goals that are not proved are left. It counts the steps.
 #[cycle(evaluate)]
-fn evaluate_nested<H: GoalHandler>(
+pub fn try_evaluate_goals<H: GoalHandler>(
     table: &mut InferCtxt,
     cx: &mut Cx,
     handler: &H,
-    trial: Trial<'_>,
-    nested: CandidateGoal,
-    depth: usize,
-    has_overflowed: bool,
-) -> Result<Answer, EvalError>
-    requires posed { IsPosed cx.old.nodes table.old trial.goal }
+    goals: &mut Vec<(GoalSource, Goal)>,
+    depth: AvailableDepth,
+    last_steps: &mut usize,
+    mark: &mut bool,
+) -> Result<Certainty, EvalError>
+    requires table { IsTable cx.old.nodes table.old }
+    requires posed { ArePosed cx.old.nodes table.old goals.old.items }
     requires ready { H.ready cx.old.nodes handler.now }
-    requires nested { IsNested cx.old.nodes trial.fresh.now trial.goal nested.goal }
-    requires values { AreValues cx.old.nodes table.old trial.fresh.now trial.values.now }
     ensures runs { Runs cx.old cx.new table.old table.new }
-    ensures labels { OnOk result (BringsOnly (asked_terms cx.old.nodes trial.entry.goal)
-        (content_of cx.old.nodes table.old.entries) (content_of cx.new.nodes table.new.entries)) }
-    ensures proved { (s : Since (λ ts. H.ready ts handler.now) cx.old.nodes) →
-        IfYes result (IsPremiseProved (meaning_since (λ ts. H.handler ts handler.now) s)
-        (mode_of table.old.mode) cx.old.nodes cx.new.nodes table.new trial.entry.values.now nested) }
-    ensures forced { (s : Since (λ ts. H.ready ts handler.now) cx.old.nodes) → IfYes result
-        (LeavesPremise (AsksForced (H.handler s.base handler.now) table.old.mode depth) cx.old.nodes
-        table.old cx.new.nodes table.new trial.entry.values.now nested) }
-    ensures gained { (s : Since (λ ts. H.ready ts handler.now) cx.old.nodes) → OnOk result (LeavesOrSkips
-        (LeavesPremise (AsksGained (H.handler s.base handler.now) table.old.mode depth) cx.old.nodes
-        table.old cx.new.nodes table.new trial.entry.values.now nested) table.old table.new) }
-    ensures refuted { (s : Since (λ ts. H.ready ts handler.now) cx.old.nodes) →
-        result ≡ Err EvalError.NoSolution → RefusesPremise (AsksRefuted (H.handler s.base
-        handler.now) table.old.mode depth) cx.old.nodes table.old trial.entry.values.now nested }
+    ensures steps { last_steps.new ≤ cx.old.step_limit }
+    ensures posed { ArePosed cx.new.nodes table.new goals.new.items }
+    ensures left { AreLeft goals.old.items goals.new.items }
+    ensures labels { OnOk result (BringsOnly (terms_of cx.old.nodes goals.old.items) (content_of cx.old.nodes table.old.entries) (content_of cx.new.nodes table.new.entries)) }
+    ensures proved { (s : Since (λ ts. H.ready ts handler.now) cx.old.nodes) → OnOk result (AreSettled (IsProvedSince (λ ts. H.handler ts handler.now) s table.old.mode cx.new.nodes table.new) goals.old.items goals.new.items) }
+    ensures sure { result ≡ Ok certainty.Yes → goals.new.items ≡ [] }
+    ensures told { (s : Since (λ ts. H.ready ts handler.now) cx.old.nodes) → OnOk result (ReachesBy (H.handler s.base handler.now) table.old.mode (bound_of depth) cx.old.nodes table.old cx.new.nodes table.new goals.old.items) }
+    ensures refuted { (s : Since (λ ts. H.ready ts handler.now) cx.old.nodes) → result ≡ Err EvalError.NoSolution → RefusesOneOf (H.handler s.base handler.now) table.old.mode (bound_of depth) cx.old.nodes table.old goals.old.items }
 {
-    match depth_below(depth, has_overflowed, cx.depth_division()) {
-        None => Ok(Answer {
-            certainty: Certainty::overflow(true),
-            has_overflowed: true,
-        }),
-        Some(below) => {
-            let asked = trial.nested_goal(table, cx, nested.goal)?;
-            let evaluated = evaluate_goal(table, cx, handler, asked, below)?;
-            Ok(Answer {
-                certainty: evaluated.certainty,
-                has_overflowed: evaluated.has_overflowed,
+    *last_steps = 0;
+    for step in 0..cx.step_limit() {
+        *last_steps = step + 1;
+        let stepped = evaluate_step(table, cx, handler, goals, depth, mark)?;
+        *goals = stepped.left;
+        if !stepped.has_changed {
+            return Ok(stepped.certainty);
+        }
+    }
+    Ok(Certainty::overflow(false))
+}
+
+/// Asks each of the goals once, in order.
+#[cycle(evaluate)]
+fn evaluate_step<H: GoalHandler>(
+    table: &mut InferCtxt,
+    cx: &mut Cx,
+    handler: &H,
+    goals: &[(GoalSource, Goal)],
+    depth: AvailableDepth,
+    mark: &mut bool,
+) -> Result<Step, EvalError>
+    requires table { IsTable cx.old.nodes table.old }
+    requires posed { ArePosed cx.old.nodes table.old goals.now }
+    requires ready { H.ready cx.old.nodes handler.now }
+    ensures runs { Runs cx.old cx.new table.old table.new }
+    ensures posed { IfOk result (λ s. ArePosed cx.new.nodes table.new s.left.items) }
+    ensures left { IfOk result (λ s. AreLeft goals.now s.left.items) }
+    ensures labels { OnOk result (BringsOnly (terms_of cx.old.nodes goals.now) (content_of cx.old.nodes table.old.entries) (content_of cx.new.nodes table.new.entries)) }
+    ensures proved { (s : Since (λ ts. H.ready ts handler.now) cx.old.nodes) → IfOk result (λ z. AreSettled (IsProvedSince (λ ts. H.handler ts handler.now) s table.old.mode cx.new.nodes table.new) goals.now z.left.items) }
+    ensures sure { IfOk result (λ s. s.certainty ≡ certainty.Yes → s.left.items ≡ []) }
+    ensures told { (s : Since (λ ts. H.ready ts handler.now) cx.old.nodes) → OnOk result (ReachesBy (H.handler s.base handler.now) table.old.mode (bound_of depth) cx.old.nodes table.old cx.new.nodes table.new goals.now) }
+    ensures refuted { (s : Since (λ ts. H.ready ts handler.now) cx.old.nodes) → result ≡ Err EvalError.NoSolution → RefusesOneOf (H.handler s.base handler.now) table.old.mode (bound_of depth) cx.old.nodes table.old goals.now }
+{
+    let mut step = Step::new(cx.alloc);
+    for added in goals {
+        let answer = evaluate_added(table, cx, handler, added.1, depth, mark)?;
+        step.note(*added, answer)?;
+    }
+    Ok(step)
+}
+
+/// Asks a goal as the table knows it, unless it is nested too deep.
+#[cycle(evaluate)]
+fn evaluate_added<H: GoalHandler>(
+    table: &mut InferCtxt,
+    cx: &mut Cx,
+    handler: &H,
+    goal: Goal,
+    depth: AvailableDepth,
+    mark: &mut bool,
+) -> Result<Evaluated, EvalError>
+    requires posed { IsPosed cx.old.nodes table.old goal }
+    requires ready { H.ready cx.old.nodes handler.now }
+    ensures runs { Runs cx.old cx.new table.old table.new }
+    ensures labels { OnOk result (BringsOnly (asked_terms cx.old.nodes goal) (content_of cx.old.nodes table.old.entries) (content_of cx.new.nodes table.new.entries)) }
+    ensures proved { (s : Since (λ ts. H.ready ts handler.now) cx.old.nodes) → IfSure result (IsProvedSince (λ ts. H.handler ts handler.now) s table.old.mode cx.new.nodes table.new goal) }
+    ensures told { (s : Since (λ ts. H.ready ts handler.now) cx.old.nodes) → OnOk result (IsAskedUnder (H.handler s.base handler.now) table.old.mode (bound_of depth) cx.old.nodes table.old cx.new.nodes table.new goal ⊎ (table.new.entries ≡ table.old.entries)) }
+    ensures refuted { (s : Since (λ ts. H.ready ts handler.now) cx.old.nodes) → result ≡ Err EvalError.NoSolution → IsRefusedUnder (H.handler s.base handler.now) table.old.mode (bound_of depth) cx.old.nodes table.old goal }
+{
+    match depth.next(*mark, cx.depth_division()) {
+        None => {
+            *mark = true;
+            Ok(Evaluated {
+                certainty: Certainty::overflow(true),
+                has_changed: HasChanged::No,
             })
+        }
+        Some(below) => {
+            let asked = resolve_goal(table, cx, goal)?;
+            evaluate_goal(table, cx, handler, asked, below, mark)
         }
     }
 }

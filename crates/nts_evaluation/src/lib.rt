@@ -2,11 +2,17 @@
 #![tactic(auto)]
 
 mod admission;
+mod asked;
 mod binder;
 mod candidate;
 mod evaluate;
+mod merged;
 mod query;
 mod response;
 mod solve;
+mod steps;
 
+pub use evaluate::try_evaluate_goals;
+pub use response::make_response;
 pub use solve::{GoalEvaluation, GoalStalledOn, evaluate_root_goal, goal_is_admitted};
+pub use steps::AvailableDepth;

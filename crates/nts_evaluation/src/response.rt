@@ -19,7 +19,7 @@ ghost use Rattle.nts_evaluation.specs.Asking.{IsResponseOf};
 ghost use Rattle.nts_evaluation.specs.Answering.{told_in, AreTold, KnowsSides, TellsNoMore};
 
 use crate::candidate::{resolve_term, terms_are_formed};
-use crate::evaluate::{Evaluated, QueryAnswer};
+use crate::evaluate::Evaluated;
 use nts_certainty::{Certainty, HasChanged};
 use nts_delegate::RegionConstraint;
 use nts_response::{
@@ -40,24 +40,23 @@ pub fn apply_answer(
     cx: &mut Cx,
     param_env: ParamEnv,
     originals: &[GenericArg],
-    answer: &QueryAnswer,
+    answer: &CanonicalResponse,
 ) -> Result<Evaluated, EvalError>
     requires table { IsTable cx.old.nodes table.old }
     requires originals { All (IsArgOf cx.old.nodes table.old.entries) originals.now }
     requires closed { All (λ o. IsClosed (tree_at cx.old.nodes o.node)) originals.now }
-    requires fits { IsApplicable cx.old.nodes (trees_of cx.old.nodes originals.now) answer.now.response }
-    requires no_more { TellsNoMore answer.now.response }
+    requires fits { IsApplicable cx.old.nodes (trees_of cx.old.nodes originals.now) answer.now }
+    requires no_more { TellsNoMore answer.now }
     ensures runs { Runs cx.old cx.new table.old table.new }
     ensures err { OnErr result (table.new ≡ table.old) }
-    ensures applied { OnOk result (IsApplied cx.old.nodes cx.new.nodes table.old.entries table.new.entries (trees_of cx.old.nodes originals.now) (response_at cx.old.nodes answer.now.response) false []) }
+    ensures applied { OnOk result (IsApplied cx.old.nodes cx.new.nodes table.old.entries table.new.entries (trees_of cx.old.nodes originals.now) (response_at cx.old.nodes answer.now) false []) }
     ensures labels { OnOk result (BringsOnly (trees_of cx.old.nodes originals.now) (content_of cx.old.nodes table.old.entries) (content_of cx.new.nodes table.new.entries)) }
-    ensures certainty { IfOk result (λ e. e.certainty ≡ answer.now.response.value.certainty) }
-    ensures changed { IfOk result (λ e. (e.has_changed ≡ changes.No) ↔ IsIdentity 0 (trees_of cx.old.nodes answer.now.response.value.var_values.items)) }
-    ensures no { result ≡ Err EvalError.NoSolution → RefusesResponse (content_of cx.old.nodes table.old.entries) (trees_of cx.old.nodes originals.now) (response_at cx.old.nodes answer.now.response) }
-    ensures full { result ≡ Err EvalError.Full → u32.MAX < table.old.entries.universe + answer.now.response.max_universe }
+    ensures certainty { IfOk result (λ e. e.certainty ≡ answer.now.value.certainty) }
+    ensures changed { IfOk result (λ e. (e.has_changed ≡ changes.No) ↔ IsIdentity 0 (trees_of cx.old.nodes answer.now.value.var_values.items)) }
+    ensures no { result ≡ Err EvalError.NoSolution → RefusesResponse (content_of cx.old.nodes table.old.entries) (trees_of cx.old.nodes originals.now) (response_at cx.old.nodes answer.now) }
+    ensures full { result ≡ Err EvalError.Full → u32.MAX < table.old.entries.universe + answer.now.max_universe }
 {
-    let response = &answer.response;
-    let has_changed = if has_only_region_constraints(cx, response) {
+    let has_changed = if has_only_region_constraints(cx, answer) {
         HasChanged::No
     } else {
         HasChanged::Yes
@@ -67,14 +66,13 @@ pub fn apply_answer(
         cx,
         param_env,
         originals,
-        response,
+        answer,
         VisibleForLeakCheck::No,
         NO_PLACE,
     )?;
     Ok(Evaluated {
         certainty,
         has_changed,
-        has_overflowed: answer.has_overflowed,
     })
 }
 

@@ -8,7 +8,7 @@ ghost use Rattle.nts_terms.specs.Modes.{mode_of};
 ghost use Rattle.nts_evaluation.specs.Running.{HasHeldProofIn};
 ghost use Rattle.nts_terms.specs.Handles.{HoldsGoal};
 ghost use Rattle.nts_evaluation.specs.Evaluation.{Runs, IsAdmitted, IsPosed, IsGoalUnder};
-ghost use Rattle.nts_evaluation.specs.Meant.{Since, IsProvedSince, AsksForced, AsksGained, AsksRefuted, LeavesUnder, RefusesUnder};
+ghost use Rattle.nts_evaluation.specs.Meant.{Since, IsProvedSince, IsAskedUnder, IsRefusedUnder};
 ghost use Rattle.nts_evaluation.specs.Answering.{EvaluatesUnder};
 ghost use Rattle.nts_certainty.specs.declared.certainty.Certainty.TheVariants as certainty;
 ghost use Rattle.nts_terms.specs.Rest.{Grows};
@@ -63,9 +63,9 @@ pub fn goal_is_admitted(table: &InferCtxt, cx: &mut Cx, goal: Goal) -> Result<bo
 
 /// Evaluates a goal in the table, with the store's recursion limit as depth. The goal, resolved, is asked in a query of its own,
 /// and the response is applied to its leaves: nothing else is added to the table. Where the answer is yes, the goal has a
-/// proof, and the response says what the candidates say that alone can be met. Where it is not, the response says of the goal's
-/// variables what each way to meet the goal must make them, and of regions nothing. `NoSolution` says that no
-/// candidate can be met, or that the one that can asks for what is refuted. After an error the table is as it was.
+/// proof. Each candidate is asked to its end: the response says nothing, or it is the one that stands for those of all
+/// candidates that did not fail. `NoSolution` says that each candidate failed: its equations can't be met, an equality
+/// of regions can't be, or a goal that it asks for was refused. After an error the table is as it was.
 /// A fault is want of memory, or `Full` where a universe above the greatest is asked for.
 pub fn evaluate_root_goal<H: GoalHandler>(
     table: &mut InferCtxt,
@@ -87,15 +87,8 @@ pub fn evaluate_root_goal<H: GoalHandler>(
     ensures proved { IfOk result (λ e. e.certainty ≡ certainty.Yes → (v : ℕ → List Variance) →
         HasHeldProofIn (meaning (H.handler cx.old.nodes handler.now) v) (mode_of table.old.mode)
         cx.new.nodes table.new goal) }
-    ensures forced { IfOk result (λ e. e.certainty ≡ certainty.Yes → LeavesUnder (AsksForced (H.handler
-        cx.old.nodes handler.now) table.old.mode (cx.old.recursion_limit + 1)) cx.old.nodes table.old
-        cx.new.nodes table.new goal) }
-    ensures gained { OnOk result (LeavesUnder (AsksGained (H.handler cx.old.nodes handler.now)
-        table.old.mode (cx.old.recursion_limit + 1)) cx.old.nodes table.old cx.new.nodes table.new
-        goal) }
-    ensures refuted { result ≡ Err EvalError.NoSolution → RefusesUnder (AsksRefuted (H.handler
-        cx.old.nodes handler.now) table.old.mode (cx.old.recursion_limit + 1)) cx.old.nodes table.old
-        goal }
+    ensures told { OnOk result (IsAskedUnder (H.handler cx.old.nodes handler.now) table.old.mode (cx.old.recursion_limit + 1) cx.old.nodes table.old cx.new.nodes table.new goal) }
+    ensures refuted { result ≡ Err EvalError.NoSolution → IsRefusedUnder (H.handler cx.old.nodes handler.now) table.old.mode (cx.old.recursion_limit + 1) cx.old.nodes table.old goal }
 {
     let _ = (span, stalled_on);
     terms_are_formed(cx);
@@ -122,19 +115,13 @@ fn evaluate_root<H: GoalHandler>(
     ensures proved { (s : Since (λ ts. H.ready ts handler.now) cx.old.nodes) →
         IfOk result (λ e. e.certainty ≡ certainty.Yes → IsProvedSince
         (λ ts. H.handler ts handler.now) s table.old.mode cx.new.nodes table.new goal) }
-    ensures forced { (s : Since (λ ts. H.ready ts handler.now) cx.old.nodes) → IfOk result (λ e.
-        e.certainty ≡ certainty.Yes → LeavesUnder (AsksForced (H.handler s.base handler.now)
-        table.old.mode (cx.old.recursion_limit + 1)) cx.old.nodes table.old cx.new.nodes table.new goal) }
-    ensures gained { (s : Since (λ ts. H.ready ts handler.now) cx.old.nodes) → OnOk result
-        (LeavesUnder (AsksGained (H.handler s.base handler.now) table.old.mode
-        (cx.old.recursion_limit + 1)) cx.old.nodes table.old cx.new.nodes table.new goal) }
-    ensures refuted { (s : Since (λ ts. H.ready ts handler.now) cx.old.nodes) →
-        result ≡ Err EvalError.NoSolution → RefusesUnder (AsksRefuted (H.handler s.base handler.now)
-        table.old.mode (cx.old.recursion_limit + 1)) cx.old.nodes table.old goal }
+    ensures told { (s : Since (λ ts. H.ready ts handler.now) cx.old.nodes) → OnOk result (IsAskedUnder (H.handler s.base handler.now) table.old.mode (cx.old.recursion_limit + 1) cx.old.nodes table.old cx.new.nodes table.new goal) }
+    ensures refuted { (s : Since (λ ts. H.ready ts handler.now) cx.old.nodes) → result ≡ Err EvalError.NoSolution → IsRefusedUnder (H.handler s.base handler.now) table.old.mode (cx.old.recursion_limit + 1) cx.old.nodes table.old goal }
 {
     let asked = resolve_goal(table, cx, goal)?;
     let depth = cx.recursion_limit();
-    let evaluated = evaluate_goal(table, cx, handler, asked, depth)?;
+    let mut has_overflowed = false;
+    let evaluated = evaluate_goal(table, cx, handler, asked, depth, &mut has_overflowed)?;
     Ok(GoalEvaluation {
         goal: asked,
         certainty: evaluated.certainty,

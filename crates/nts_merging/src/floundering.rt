@@ -48,12 +48,12 @@ pub fn bail_with_ambiguity(
     ensures grows { Grows cx.old cx.new }
     ensures memory { IsOkUnless result Fault.Memory }
 {
-    let certainty = doubt(candidates);
+    let certainty = join_doubts(candidates);
     response_no_constraints_raw(cx, max_universe, var_kinds, certainty)
 }
 
 /// Ambiguity, joined with how sure those of the candidates are that are not certain.
-fn doubt(candidates: &[CanonicalResponse]) -> Certainty
+pub fn join_doubts(candidates: &[CanonicalResponse]) -> Certainty
     ensures { result ≡ doubt_of (map (λ c. c.value.certainty) candidates.now) }
 {
     let mut doubt = Certainty::AMBIGUOUS;

@@ -4,5 +4,5 @@
 mod floundering;
 mod merging;
 
-pub use floundering::{bail_with_ambiguity, flounder};
+pub use floundering::{bail_with_ambiguity, flounder, join_doubts};
 pub use merging::{MergeCandidateInfo, try_merge_candidates};

@@ -2,8 +2,8 @@ use Rattle.std.proofs.Common.{◌≡◌, Err, arith, rules, refl, get_or}
 use Rattle.nts_store.specs.declared.fault.EvalError.TheVariants as EvalError
 use Rattle.std.proofs.lemmas.List.{take_all}
 use Rattle.nts_evaluation.proofs.Running.{Constrains-step}
-use Rattle.nts_evaluation.proofs.Forcing.{adds_more}
-use Rattle.nts_evaluation.proofs.Refuting.{add_fails}
+use Rattle.nts_evaluation.proofs.Constraining.{adds_more}
+use Rattle.nts_evaluation.proofs.Constraining.{add_fails}
 use Rattle.nts_delegate.specs.Candidates.{IsRegionConstraint}
 use Rattle.nts_delegate.specs.declared.delegate.RegionConstraint.{RegionConstraint}
 use Rattle.nts_evaluation.proofs.Evaluating.{Runs-refl, Runs-trans, AreValues-later, IsRegionConstraint-extended, constraint_at, IsPosed-later}

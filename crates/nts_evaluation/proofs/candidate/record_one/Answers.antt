@@ -8,7 +8,7 @@ use Rattle.nts_evaluation.proofs.Evaluating.{Runs-trans, Runs-extends, can_fill,
 use Rattle.nts_model.specs.Handlers.{filled, constraint_by}
 use Rattle.nts_unify.specs.Lawful.{content_of-extended}
 use Rattle.nts_delegate.specs.Offered.{constraint_of}
-use Rattle.nts_evaluation.proofs.Forcing.{added_equal}
+use Rattle.nts_evaluation.proofs.Constraining.{added_equal}
 use Rattle.nts_evaluation.proofs.candidate.record_one.Goals as goal
 use Rattle.nts_evaluation.proofs.Labels.{over_only}
 use Rattle.nts_evaluation.proofs.Sides.{instance_closed}

@@ -4,7 +4,7 @@ use Rattle.nts_unify.specs.declared.contents.Constraint.{Constraint}
 use Rattle.nts_delegate.proofs.Results.{OnOk-map}
 use Rattle.nts_evaluation.proofs.Running.{Stays-map, recorded_stays, unseen, is_region_outlives}
 use Rattle.nts_evaluation.proofs.Evaluating.{recorded_goes}
-use Rattle.nts_evaluation.proofs.Forcing.{added_entry}
+use Rattle.nts_evaluation.proofs.Constraining.{added_entry}
 use Rattle.nts_evaluation.proofs.candidate.record_outlives.Goals as goal
 
 -- a type outlives a region

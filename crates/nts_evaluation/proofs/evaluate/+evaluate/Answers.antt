@@ -1,320 +1,296 @@
-use Rattle.std.proofs.Common.{◌≡◌, inl, Err, arith, rules, ◌+◌, ◌<◌, ◌≤◌, map, length, refl, ap, sym, ◌∙◌, subst}
+use Rattle.std.proofs.Common.{◌≡◌, inl, inr, Err, Ok, arith, rules, ◌+◌, ◌≤◌, map, length, take, get_or, refl, ap, sym, ◌∙◌, subst}
 use Rattle.std.specs.Prelude.{is_some}
 use Rattle.std.proofs.lemmas.List.{take_all}
-use Rattle.nts_store.specs.Growth.{tree_at}
-use Rattle.nts_store.proofs.Growing.{Extends-trans}
-use Rattle.nts_evaluation.specs.Meant.{meaning_since}
-use Rattle.nts_unify.specs.Reading.{content_of}
-use Rattle.nts_delegate.specs.declared.delegate.CandidateGoal.{CandidateGoal}
+use Rattle.nts_model.specs.Sequents.{Among}
 use Rattle.nts_model.specs.Handlers.{meaning}
-use Rattle.nts_model.specs.Proving.{IsProved}
-use Rattle.nts_delegate.specs.Offered.{certainty_of, candidate_of}
-use Rattle.nts_terms.specs.Modes.{mode_of}
-use Rattle.nts_evaluation.proofs.Asking.{IsAsked-extended}
-use Rattle.nts_evaluation.proofs.Running.{term_table, unread, premise_stays, HasRun, has_run, both_sure, constraints-kept, offered_there, Equates-later, Constrains-later, Proves-step}
-use Rattle.nts_delegate.proofs.Results.{IfOk-map, OnOk-map}
-use Rattle.nts_unify.specs.Lawful.{content_of-extended}
-use Rattle.nts_model.proofs.Bringing.{only-trans}
-use Rattle.nts_evaluation.specs.Meant.{AsksForced, AsksGained}
-use Rattle.nts_table.specs.TableLaws.{IsTable-extended}
-use Rattle.nts_evaluation.proofs.AskedGoals.{trees_kept, ok_both, args_there, closed_there, applicable, evaluates, asks, asked_stays, asked_labels, query_refutes, response_refused}
-use Rattle.nts_evaluation.proofs.Fitting.{answer_to}
-use Rattle.nts_canonical.specs.Building.{kinds_of}
-use Rattle.nts_canonical.specs.Forms.{form_of, trees_of}
-use Rattle.nts_response.specs.Forms.{response_at}
-use Rattle.nts_evaluation.specs.Asking.{first_values}
-use Rattle.nts_evaluation.proofs.QueryTables.{is_label_in, first_passes, first_sides, table_in}
-use Rattle.nts_evaluation.proofs.AnsweredQueries.{first_entries, query_environment, query_predicate, ended_as, yes_is_kept, ended_continues, ended_passes, ended_sides, ended_contents, args_later, args_know, query_passes, query_table, query_says, answers_of, answers_in_part_of}
-use Rattle.nts_evaluation.proofs.Labels.{only_earlier, only_back, only_same, only_nested, content_same}
-use Rattle.nts_evaluation.proofs.Refuting.{asks_forced_more, asks_gained_more, asks_refuted_more, some_first, some_more, skipped, gained_last, gained_nothing, open_gains_nothing, gained_back, refuted_none, refuted_by_goal, refuted_by_constraint, refuted_back, only_met}
+use Rattle.nts_model.proofs.Bringing.{only-trans, only-refl}
+use Rattle.nts_certainty.specs.declared.sources.GoalSource.{GoalSource}
+use Rattle.nts_certainty.specs.declared.sources.GoalSource.TheVariants as source
 use Rattle.nts_store.specs.declared.fault.EvalError.TheVariants as EvalError
-use Rattle.nts_evaluation.proofs.Forcing.{only_later, forced_back, run_first, run_more, run_last}
+use Rattle.nts_store.specs.Growth.{tree_at, AllIn}
+use Rattle.nts_store.proofs.Growing.{Extends-trans, Extends-refl}
+use Rattle.nts_terms.specs.declared.handles.Goal.{Goal}
+use Rattle.nts_terms.specs.Modes.{mode_of}
 use Rattle.nts_terms.proofs.Moved.{KeepsRest-trans}
-use Rattle.nts_evaluation.proofs.Evaluating.{Goes-trans, Goes-extends, goes-back, Runs-trans, Runs-extends, Runs-refl, runs-back, Since-later, offers-kept, IsPosed-later, AreValues-later, IsCandidate-extended, IsNested-extended, can_fill, candidate_at, nested_at}
-use Rattle.nts_evaluation.proofs.Opened.{on_ok, forced_through, gained_through, refuted_through, entered_through, labels_through, labels_entered, proved_through}
+use Rattle.nts_unify.specs.Reading.{content_of}
+use Rattle.nts_unify.specs.Lawful.{content_of-extended}
+use Rattle.nts_table.specs.TableLaws.{IsTable-extended}
+use Rattle.nts_delegate.specs.Offered.{certainty_of, candidate_of, premise_of}
+use Rattle.nts_delegate.proofs.Results.{IfOk-map, OnOk-map}
+use Rattle.nts_canonical.specs.Building.{kinds_of}
+use Rattle.nts_canonical.specs.Forms.{trees_of}
+use Rattle.nts_response.specs.Forms.{response_at}
+use Rattle.nts_evaluation.specs.Meant.{meaning_since, IsProvedSince}
+use Rattle.nts_evaluation.specs.Stepping.{AreLeft, AreSettled, bound_of}
+use Rattle.nts_evaluation.specs.Telling.Reaches.{asks_nothing}
+use Rattle.nts_evaluation.proofs.Asking.{IsAsked-extended}
+use Rattle.nts_evaluation.proofs.AskedGoals.{trees_kept, ok_both, args_there, applicable, evaluates, asks, asked_stays, asked_labels, query_refutes, response_refused}
+use Rattle.nts_evaluation.proofs.AnsweredQueries.{first_entries, query_environment, query_predicate, args_later}
+use Rattle.nts_evaluation.proofs.Labels.{only_earlier, only_back, only_same, only_resolved, content_same}
+use Rattle.nts_evaluation.proofs.Evaluating.{Goes-trans, Goes-extends, Runs-trans, Runs-extends, Runs-refl, rolled_back, Since-later, offers-kept, IsPosed-later, AreValues-later, IsCandidate-extended, candidate_at}
+use Rattle.nts_evaluation.proofs.Stepping.{among_get, posed_later, posed_left, only_one, only_left, reach_more, refuse_more, asked_more, refused_more, reach_step, refuse_step, left_trans, settled_step, left_more, settled_proved, sure_more}
+use Rattle.nts_evaluation.proofs.Running.{term_table, unread, HasRun, has_run, both_sure, constraints-kept, offered_there, Equates-later, Constrains-later}
+use Rattle.nts_canonical.specs.declared.types.Canonical.{Canonical}
+use Rattle.nts_response.specs.declared.types.Response.{Response}
+use Rattle.nts_terms.specs.Handles.{HoldsGoal}
+use Rattle.nts_store.specs.Kept.{map-kept, AllIn-kept}
+use Rattle.nts_terms.proofs.Moved.{KeepsRest-refl}
+use Rattle.nts_evaluation.specs.Telling.{IsPlain}
+use Rattle.nts_evaluation.specs.Telling.Tells.{tells_nothing}
+use Rattle.nts_evaluation.specs.Telling.Fails.{is_unmet}
+use Rattle.nts_evaluation.proofs.Evaluating.{goes-back, HoldsGoal-extended}
+use Rattle.nts_evaluation.proofs.Opened.{told_through, told_offered, refuted_through, nothing_through, labels_through, labels_entered, proved_through}
+use Rattle.nts_evaluation.proofs.Probed.{found_in, found_still, found_fits, found_derived, went_in, plain_of, doubtful, not_kept, told_or_plain, run_replies, said_of}
+use Rattle.nts_evaluation.proofs.Outcomes.{found_earlier, founds_more, outcomes_first, outcomes_more, found_merged, told_merged, failed_of}
+use Rattle.nts_evaluation.proofs.Ran.{breaks, added_is, added_only, ran_to, ran_refused, all_proved, all_posed, proved_all, ok_inside}
 use Rattle.nts_evaluation.proofs.evaluate.+evaluate.Goals as goal
 
-pub evaluate_candidates-returns-in_err-choose-clause-runs : goal.evaluate_candidates-returns-in_err-choose-clause-runs
-evaluate_candidates-returns-in_err-choose-clause-runs g t c = runs-back c.requires.posed.table c.choose.ensures.grows.extends c.choose.ensures.grows.rest c.choose.ensures.same
+pub compute_goal-make_response-requires-clause-values : goal.compute_goal-make_response-requires-clause-values
+compute_goal-make_response-requires-clause-values g t c =
+    let o = c.in_ok-opened.ensures in
+    args_later c.args.cx.now.nodes c.enter_forall.new.cx.nodes c.args.table.now.entries c.enter_forall.new.table.entries c.args.values.now o.goes.extends o.goes.continues c.requires.values
 
-pub evaluate_candidates-returns-in-None-clause-runs : goal.evaluate_candidates-returns-in-None-clause-runs
-evaluate_candidates-returns-in-None-clause-runs g t c = runs-back c.requires.posed.table c.in_ok-choose.ensures.grows.extends c.in_ok-choose.ensures.grows.rest c.in_ok-choose.ensures.same
+pub compute_goal-returns-in_default-clause-found : goal.compute_goal-returns-in_default-clause-found
+compute_goal-returns-in_default-clause-found g t c =
+    let o = c.in_ok-opened.ensures in
+    let r = c.in_ok-response.ensures in
+    found_in c.in_ok-response.response _ o.goes c.terms_are_formed.ensures r.grows.extends (only_same _ o.grows.extends c.requires.posed.table (o.left (ap is_some c.in_default.is))) c.requires.values r.certainty r.says r.holds (record { no_hidden = r.nothing.0; no_goals = r.nothing.1 }) (λ y. absurd (doubtful _ y))
 
-pub evaluate_candidates-returns-in-Several-clause-runs : goal.evaluate_candidates-returns-in-Several-clause-runs
-evaluate_candidates-returns-in-Several-clause-runs g t c = runs-back c.requires.posed.table c.in_ok-choose.ensures.grows.extends c.in_ok-choose.ensures.grows.rest c.in_ok-choose.ensures.same
+pub compute_goal-returns-in_default-clause-told : goal.compute_goal-returns-in_default-clause-told
+compute_goal-returns-in_default-clause-told g t c = λ s.
+    let o = c.in_ok-opened.ensures in
+    let trees = trees_kept c.args.cx.now.nodes c.enter_forall.new.cx.nodes c.args.table.now.entries c.args.values.now o.grows.extends c.requires.values in
+    let plain : IsPlain (content_of c.enter_forall.new.cx.nodes c.enter_forall.new.table.entries) (trees_of c.enter_forall.new.cx.nodes c.args.values.now) (response_at c.make_response.new.cx.nodes c.in_ok-response.response) = c.in_ok-response.ensures.says in
+    tells_nothing (content_of c.enter_forall.new.cx.nodes c.enter_forall.new.table.entries) (inl (content_same o.grows.extends c.requires.posed.table (o.left (ap is_some c.in_default.is)))) (rw trees at plain)
 
-pub evaluate_candidates-returns-in-One-clause-runs : goal.evaluate_candidates-returns-in-One-clause-runs
-evaluate_candidates-returns-in-One-clause-runs g t c =
-    Runs-trans (runs-back c.requires.posed.table c.in_ok-choose.ensures.grows.extends c.in_ok-choose.ensures.grows.rest c.in_ok-choose.ensures.same) c.run_candidate.ensures.runs
+pub compute_goal-make_response-requires-then-not-is_candidates_goal-clause-values : goal.compute_goal-make_response-requires-then-not-is_candidates_goal-clause-values
+compute_goal-make_response-requires-then-not-is_candidates_goal-clause-values g t c =
+    let o = c.in_ok-opened.ensures in
+    args_later c.args.cx.now.nodes c.enter_forall.new.cx.nodes c.args.table.now.entries c.enter_forall.new.table.entries c.args.values.now o.goes.extends o.goes.continues c.requires.values
 
-pub evaluate_candidates-run_candidate-requires : goal.evaluate_candidates-run_candidate-requires
-evaluate_candidates-run_candidate-requires g t c = λ κs k.
-    let e = c.in_ok-choose.ensures in (
+pub compute_goal-returns-then-not-is_candidates_goal-clause-found : goal.compute_goal-returns-then-not-is_candidates_goal-clause-found
+compute_goal-returns-then-not-is_candidates_goal-clause-found g t c =
+    let o = c.in_ok-opened.ensures in
+    let r = c.in_ok-response-2.ensures in
+    found_in c.in_ok-response-2.response _ o.goes c.terms_are_formed.ensures r.grows.extends (labels_entered c.requires.posed (rw c.in-Some.is at o.opened) o.grows.extends) c.requires.values r.certainty r.says r.holds (record { no_hidden = r.nothing.0; no_goals = r.nothing.1 }) (λ y. absurd (doubtful _ y))
+
+pub compute_goal-returns-then-not-is_candidates_goal-clause-told : goal.compute_goal-returns-then-not-is_candidates_goal-clause-told
+compute_goal-returns-then-not-is_candidates_goal-clause-told g t c = λ s.
+    let o = c.in_ok-opened.ensures in
+    let trees = trees_kept c.args.cx.now.nodes c.enter_forall.new.cx.nodes c.args.table.now.entries c.args.values.now o.grows.extends c.requires.values in
+    let plain : IsPlain (content_of c.enter_forall.new.cx.nodes c.enter_forall.new.table.entries) (trees_of c.enter_forall.new.cx.nodes c.args.values.now) (response_at c.make_response-then-not-is_candidates_goal.new.cx.nodes c.in_ok-response-2.response) = c.in_ok-response-2.ensures.says in
+    nothing_through c.requires.posed (rw c.in-Some.is at o.opened) o.grows.extends (g.H.GoalHandler.handler s.base c.args.handler.now) c.args.table.now.mode c.args.depth c.args.values.now _ c.in_ok-response-2.response trees plain
+
+pub compute_goal-evaluate_candidates-response-requires : goal.compute_goal-evaluate_candidates-response-requires
+compute_goal-evaluate_candidates-response-requires g t c = λ κs k.
+    let o = c.in_ok-opened.ensures in
+    let e = c.in_ok-candidates.ensures in
+    let all = Goes-trans o.goes (Goes-extends o.goes.table e.grows.extends) in (
       omega (arith, c.decreases),
       (
         k,
         (
-          IsPosed-later (goes-back c.requires.posed.table e.grows.extends e.same) c.requires.posed,
+          IsPosed-later (Goes-extends o.goes.table e.grows.extends) (rw c.in-Some.is at o.posed),
           (
-            IsAsked-extended e.grows.extends c.requires.asked,
+            IsAsked-extended e.grows.extends (c.is_candidates_goal.ensures c.if-not-is_candidates_goal.false),
             (
-              g.met.H.GoalHandler.ready_kept _ _ _ c.requires.ready e.grows.extends,
-              let at : c.in-One.i < length c.args.candidates.items = (rw (c.in-One.is, c.deref.ensures.value) at e.choice).0 in
-                  rw c.take_candidate-chosen.ensures (IsCandidate-extended e.grows.extends c.requires.posed.holds (candidate_at c.args.cx.now.nodes c.args.goal c.args.candidates.items c.in-One.i _ c.requires.candidates at)),
+              g.met.H.GoalHandler.ready_kept _ _ _ c.requires.ready (Extends-trans o.grows.extends e.grows.extends),
+              (
+                rw c.deref.ensures.value e.candidates,
+                args_later c.args.cx.now.nodes c.candidates.new.cx.nodes c.args.table.now.entries c.enter_forall.new.table.entries c.args.values.now all.extends all.continues c.requires.values,
+              ),
             ),
           ),
         ),
       ),
     )
 
-pub evaluate_nested-returns-in_err-asked-in-Some-clause-runs : goal.evaluate_nested-returns-in_err-asked-in-Some-clause-runs
-evaluate_nested-returns-in_err-asked-in-Some-clause-runs g t c = Runs-extends c.requires.posed.table c.nested_goal.ensures.grows.extends c.nested_goal.ensures.grows.rest
+pub compute_goal-returns-clause-found : goal.compute_goal-returns-clause-found
+compute_goal-returns-clause-found g t c =
+    let o = c.in_ok-opened.ensures in
+    let e = c.in_ok-candidates.ensures in
+    let up = Extends-trans o.grows.extends e.grows.extends in
+    let opened = rw c.in-Some.is at o.opened in
+    let posed = rw c.in-Some.is at o.posed in
+    let both = trees_kept c.args.cx.now.nodes c.candidates.new.cx.nodes c.args.table.now.entries c.args.values.now up c.requires.values in
+    let goes = Goes-extends o.goes.table e.grows.extends in
+    IfOk-map c.evaluate_candidates-response.result
+    (λ r f. record {
+      store = f.store;
+      after = f.after;
+      formed = f.formed;
+      goes = Goes-trans o.goes (Goes-trans goes f.goes);
+      labels = labels_through c.requires.posed opened o.grows.extends (only_back {g = c.in-Some.opened} e.grows.extends o.goes.table posed.holds f.labels);
+      extends = f.extends;
+      says = rw both at f.says;
+      holds = f.holds;
+      no_more = f.no_more;
+      sure = λ y s.
+          let h = g.H.GoalHandler.handler s.base c.args.handler.now in
+          let same = g.met.H.GoalHandler.handler_kept s.base c.candidates.new.cx.nodes c.args.handler.now s.is_ready (Extends-trans s.extends up) in
+          let offered = e.offered ∙ ap (λ m. (g.H.GoalHandler.handler c.candidates.new.cx.nodes c.args.handler.now).offers (mode_of m) (tree_at c.candidates.new.cx.nodes c.in-Some.opened.param_env.node) (tree_at c.candidates.new.cx.nodes c.in-Some.opened.predicate.node)) c.typing_mode.ensures ∙ same.offers _ _ _ in
+          let law = g.met.H.GoalHandler.lawful s.base c.args.handler.now s.formed s.is_ready in
+          let there = Goes-trans goes f.goes in
+          let later = (Goes-trans o.goes there).continues in
+          proved_through c.requires.posed opened o.grows.extends h s.variances (mode_of c.args.table.now.mode) posed (c.is_candidates_goal.ensures c.if-not-is_candidates_goal.false) there later f.formed law (rw o.goes.mode at (f.sure y (Since-later up s) offered));
+    })
+    (rw c.deref.ensures.value at c.evaluate_candidates-response.ensures.found)
 
-pub run_candidate-record_constraints-requires-clause-constraints : goal.run_candidate-record_constraints-requires-clause-constraints
-run_candidate-record_constraints-requires-clause-constraints g t c =
-    let k = IsCandidate-extended c.in_ok-values.ensures.runs.goes.extends c.requires.posed.holds c.requires.candidate in
-    rw (c.deref.ensures.value, c.deref-3.ensures.value) k.constraints
-
-pub evaluate_candidates-returns-in-One-clause-proved : goal.evaluate_candidates-returns-in-One-clause-proved
-evaluate_candidates-returns-in-One-clause-proved g t c = λ s offered.
-    let k = c.in_ok-choose.ensures in
-    let at : c.in-One.i < length c.args.candidates.items = (rw (c.in-One.is, c.deref.ensures.value) at k.choice).0 in
-    let there = offered_there c.args.goal _ c.args.candidates.items c.in-One.i c.take_candidate-chosen.ensures at c.requires.candidates k.grows.extends offered in
-    rw (k.same) at (c.run_candidate.ensures.proved (Since-later k.grows.extends s) (rw (k.same, offers-kept (g.H.GoalHandler.handler s.base c.args.handler.now) (mode_of c.args.table.now.mode) k.grows.extends c.requires.posed.holds) there))
-
-pub evaluate_nested-returns-in-None-clause-runs : goal.evaluate_nested-returns-in-None-clause-runs
-evaluate_nested-returns-in-None-clause-runs g t c = Runs-refl c.requires.posed.table
-
-pub run_candidate-returns-in_err-record_constraints-clause-runs : goal.run_candidate-returns-in_err-record_constraints-clause-runs
-run_candidate-returns-in_err-record_constraints-clause-runs g t c = Runs-trans c.in_ok-values.ensures.runs c.record_constraints.ensures.runs
-
-pub run_candidate-record_constraints-requires-clause-posed : goal.run_candidate-record_constraints-requires-clause-posed
-run_candidate-record_constraints-requires-clause-posed g t c = IsPosed-later c.in_ok-values.ensures.runs.goes c.requires.posed
-
-pub run_candidate-returns-in_err-answer-clause-runs : goal.run_candidate-returns-in_err-answer-clause-runs
-run_candidate-returns-in_err-answer-clause-runs g t c = Runs-trans c.loop-nested.invariant.runs c.evaluate_nested.ensures.runs
-
-pub run_candidate-loop-nested-init : goal.run_candidate-loop-nested-init
-run_candidate-loop-nested-init g t c =
-    let v = c.in_ok-values.ensures in
-    let k = c.in_ok-record_constraints.ensures in
-    let constraints = constraints-kept c.args.cx.now.nodes c.equate.new.cx.nodes c.args.candidate.now.fresh.items c.args.goal c.args.candidate.now.region_constraints.items v.runs.goes.extends c.requires.candidate.constraints in
-    record {
-      runs = Runs-trans v.runs k.runs;
-      labels = only-trans v.labels (only_earlier v.runs.goes.extends c.requires.posed.holds k.labels);
-      values = rw (c.deref.ensures.value, c.deref-2.ensures.value) (AreValues-later k.runs.goes v.values);
-      equal = rw c.deref-2.ensures.value (Equates-later c.args.cx.now.nodes c.in_ok-values.values.items c.args.candidate.now.equations.items k.runs.goes v.values.within v.equal);
-      held = rw (c.deref-3.ensures.value, constraints) at k.held;
-      sure = λ y. y;
-      proved = λ s y. tt;
-      forced = λ s y. run_first {u = c.equate.new.table} (AsksForced (g.H.GoalHandler.handler s.base c.args.handler.now) c.args.table.now.mode c.args.depth) c.args.candidate.now c.deref-2.result.now (rw c.deref-2.ensures.value v.equated) (rw (c.deref-3.ensures.value) at k.added) constraints k.runs.goes.extends (rw c.deref-2.ensures.value v.values.within);
-      some = λ s. some_first (AsksGained (g.H.GoalHandler.handler s.base c.args.handler.now) c.args.table.now.mode c.args.depth) (AsksForced (g.H.GoalHandler.handler s.base c.args.handler.now) c.args.table.now.mode c.args.depth) (run_first {u = c.equate.new.table} (AsksForced (g.H.GoalHandler.handler s.base c.args.handler.now) c.args.table.now.mode c.args.depth) c.args.candidate.now c.deref-2.result.now (rw c.deref-2.ensures.value v.equated) (rw (c.deref-3.ensures.value) at k.added) constraints k.runs.goes.extends (rw c.deref-2.ensures.value v.values.within));
-    }
-
-pub run_candidate-evaluate_nested-requires : goal.run_candidate-evaluate_nested-requires
-run_candidate-evaluate_nested-requires g t c = λ κs k.
-    let i = c.loop-nested.invariant in
-    let at : c.loop-nested.nested-index < length c.args.candidate.now.goals.items = omega (arith, c.loop-nested-test.true, ap (length {A = CandidateGoal}) c.deref-nested-items.ensures.value) in (
-      omega (arith, c.decreases),
-      (
-        k,
-        (
-          IsPosed-later i.runs.goes c.requires.posed,
-          (
-            g.met.H.GoalHandler.ready_kept _ _ _ c.requires.ready i.runs.goes.extends,
-            (
-              rw (c.deref.ensures.value, c.deref-nested-items.ensures.value) (IsNested-extended i.runs.goes.extends c.requires.posed.holds (nested_at c.args.cx.now.nodes c.args.candidate.now.fresh.items c.args.goal c.args.candidate.now.goals.items c.loop-nested.nested-index _ c.requires.candidate.goals at)),
-              i.values,
-            ),
-          ),
-        ),
-      ),
-    )
-
-pub run_candidate-loop-nested-preserved : goal.run_candidate-loop-nested-preserved
-run_candidate-loop-nested-preserved g t c =
-    let a = c.args.cx.now.nodes in
-    let vs = c.deref-2.result.now in
-    let i = c.loop-nested.invariant in
-    let e = c.in_ok-answer.ensures in
-    let at : c.loop-nested.nested-index < length c.args.candidate.now.goals.items = omega (arith, c.loop-nested-test.true, ap (length {A = CandidateGoal}) c.deref-nested-items.ensures.value) in
-    let nested = λ (d : CandidateGoal). nested_at c.args.cx.now.nodes c.args.candidate.now.fresh.items c.args.goal c.args.candidate.now.goals.items c.loop-nested.nested-index d c.requires.candidate.goals at in
-    record {
-      runs = Runs-trans i.runs e.runs;
-      labels = only-trans i.labels (only_earlier i.runs.goes.extends c.requires.posed.holds e.labels);
-      values = AreValues-later e.runs.goes i.values;
-      equal = Equates-later a vs c.args.candidate.now.equations.items e.runs.goes i.values.within i.equal;
-      held = Constrains-later a vs c.args.candidate.now.region_constraints.items e.runs.goes i.values.within i.held;
-      sure = λ y. i.sure (both_sure _ _ (sym c.and-certainty.ensures ∙ y)).0;
-      proved = λ s y. (let z = both_sure _ _ (sym c.and-certainty.ensures ∙ y) in
-          Proves-step _ (meaning_since (λ ts. g.H.GoalHandler.handler ts c.args.handler.now) s) (mode_of c.args.table.now.mode) a vs c.args.candidate.now.goals.items c.loop-nested.nested-index refl c.deref-nested-items.ensures.value at e.runs.goes i.values.within (i.proved s z.0) i.runs.goes.extends (λ d. ((nested d).env.within, (nested d).predicate.within)) (rw (i.runs.goes.mode) at (e.proved (Since-later i.runs.goes.extends s) z.1)));
-      forced = λ s y. (let z = both_sure _ _ (sym c.and-certainty.ensures ∙ y) in
-          run_more (AsksForced (g.H.GoalHandler.handler s.base c.args.handler.now) c.args.table.now.mode c.args.depth) c.args.candidate.now vs c.loop-nested.nested-index _ c.deref-nested-items.result.now c.deref-nested-items.ensures.value at i.runs.goes.extends e.runs.goes.extends i.values.within (nested _).env.within (nested _).predicate.within (i.forced s z.0) (rw (i.runs.goes.mode) at (e.forced (Since-later i.runs.goes.extends s) z.1)));
-      some = λ s. some_more (AsksGained (g.H.GoalHandler.handler s.base c.args.handler.now) c.args.table.now.mode c.args.depth) c.args.candidate.now vs c.loop-nested.nested-index _ c.deref-nested-items.result.now c.deref-nested-items.ensures.value at i.runs.goes.extends e.runs.goes.extends i.values.within (nested _).env.within (nested _).predicate.within (i.some s)
-          (rw (i.runs.goes.mode) at (skipped e.runs.goes.extends i.runs.goes.table (e.gained (Since-later i.runs.goes.extends s))));
-    }
-
-pub run_candidate-returns-clause-runs : goal.run_candidate-returns-clause-runs
-run_candidate-returns-clause-runs g t c = c.loop-nested.invariant.runs
-
-pub run_candidate-returns-clause-proved : goal.run_candidate-returns-clause-proved
-run_candidate-returns-clause-proved g t c = λ s offered y.
-    let i = c.loop-nested.invariant in
-    let handler = g.H.GoalHandler.handler s.base c.args.handler.now in
-    let mode = mode_of c.args.table.now.mode in
-    let all = take_all c.loop-nested.nested-index c.args.candidate.now.goals.items (omega (arith, c.loop-nested-test.false, ap (length {A = CandidateGoal}) c.deref-nested-items.ensures.value)) in
-    let here = content_of c.loop-nested.cx.nodes c.loop-nested.table.entries in
-    let seen = candidate_of c.args.cx.now.nodes c.args.candidate.now in
-    let vs = map (tree_at c.loop-nested.cx.nodes) c.deref-2.result.now in
-    let run : HasRun (meaning (g.H.GoalHandler.handler s.base c.args.handler.now) s.variances) (mode_of c.args.table.now.mode) (content_of c.loop-nested.cx.nodes c.loop-nested.table.entries) (candidate_of c.args.cx.now.nodes c.args.candidate.now) (map (tree_at c.loop-nested.cx.nodes) c.deref-2.result.now) = record {
-      sure = ap certainty_of (i.sure y);
-      values = rw c.deref.ensures.value at i.values.values;
-      known = i.values.known;
-      equations = i.equal;
-      constraints = i.held;
-      goals = rw all at (i.proved s y);
-    } in
-    rw (i.runs.goes.extends.kept c.args.goal.param_env.node c.requires.posed.holds.env.within, i.runs.goes.extends.kept c.args.goal.predicate.node c.requires.posed.holds.predicate.within)
-    (has_run handler s.variances mode here seen vs (tree_at c.args.cx.now.nodes c.args.goal.param_env.node) (tree_at c.args.cx.now.nodes c.args.goal.predicate.node) (term_table c.terms_are_formed.ensures i.runs.goes.table) offered run)
-
-pub evaluate_candidates-returns-in-One-clause-forced : goal.evaluate_candidates-returns-in-One-clause-forced
-evaluate_candidates-returns-in-One-clause-forced g t c = λ s offered.
-    let k = c.in_ok-choose.ensures in
+pub compute_goal-returns-clause-told : goal.compute_goal-returns-clause-told
+compute_goal-returns-clause-told g t c = λ s.
+    let o = c.in_ok-opened.ensures in
+    let e = c.in_ok-candidates.ensures in
+    let up = Extends-trans o.grows.extends e.grows.extends in
+    let opened = rw c.in-Some.is at o.opened in
+    let posed = rw c.in-Some.is at o.posed in
+    let trees = trees_kept c.args.cx.now.nodes c.enter_forall.new.cx.nodes c.args.table.now.entries c.args.values.now o.grows.extends c.requires.values in
+    let both = trees_kept c.args.cx.now.nodes c.candidates.new.cx.nodes c.args.table.now.entries c.args.values.now up c.requires.values in
     let h = g.H.GoalHandler.handler s.base c.args.handler.now in
-    let mode = c.args.table.now.mode in
-    let p = c.requires.posed in
-    let choice = rw (c.in-One.is, c.deref.ensures.value) at k.choice in
-    let only = only_later h mode c.args.goal c.args.candidates.items c.in-One.i _ c.take_candidate-chosen.ensures choice.0 c.requires.candidates k.grows.extends p.table p.holds refl offered (choice.1 _) in
-    let run = rw (k.same) at (c.run_candidate.ensures.forced (Since-later k.grows.extends s) (rw (k.same) only)) in
-    IfOk-map c.run_candidate.result (λ x f y. forced_back c.run_candidate.new.cx.nodes c.args.table.now c.run_candidate.new.table h mode _ c.args.goal k.grows.extends p.table p.holds refl (f y)) run
+    let same = g.met.H.GoalHandler.handler_kept s.base c.candidates.new.cx.nodes c.args.handler.now s.is_ready (Extends-trans s.extends up) in
+    let offered = e.offered ∙ ap (λ m. (g.H.GoalHandler.handler c.candidates.new.cx.nodes c.args.handler.now).offers (mode_of m) (tree_at c.candidates.new.cx.nodes c.in-Some.opened.param_env.node) (tree_at c.candidates.new.cx.nodes c.in-Some.opened.predicate.node)) c.typing_mode.ensures ∙ same.offers _ _ _ in
+    let run = rw (c.deref.ensures.value) at (c.evaluate_candidates-response.ensures.told (Since-later up s)) in
+    IfOk-map c.evaluate_candidates-response.result
+    (λ r f. told_through c.requires.posed opened o.grows.extends h c.args.table.now.mode c.args.depth c.args.values.now c.evaluate_candidates-response.new.cx.nodes r trees
+    (rw (o.goes.mode) at (told_offered h c.enter_forall.new.table.mode c.args.depth c.enter_forall.new.table c.in-Some.opened c.args.values.now c.in_ok-candidates.candidates.items c.evaluate_candidates-response.new.cx.nodes r e.grows.extends o.goes.table posed.holds (both ∙ sym trees) offered f))) run
 
-pub run_candidate-returns-clause-forced : goal.run_candidate-returns-clause-forced
-run_candidate-returns-clause-forced g t c = λ s only y.
-    let i = c.loop-nested.invariant in
-    let all = take_all c.loop-nested.nested-index c.args.candidate.now.goals.items (omega (arith, c.loop-nested-test.false, ap (length {A = CandidateGoal}) c.deref-nested-items.ensures.value)) in
-    let offers = (g.H.GoalHandler.handler s.base c.args.handler.now).offers (mode_of c.args.table.now.mode) in
-    run_last offers c.args.depth c.args.candidate.now c.deref-2.result.now c.loop-nested.nested-index _ _ all (i.forced s y) only (ap certainty_of (i.sure y))
-
-pub evaluate_candidates-returns-in-None-clause-refuted : goal.evaluate_candidates-returns-in-None-clause-refuted
-evaluate_candidates-returns-in-None-clause-refuted g t c = λ s offered q.
+pub compute_goal-returns-clause-refuted : goal.compute_goal-returns-clause-refuted
+compute_goal-returns-clause-refuted g t c = λ s n.
+    let o = c.in_ok-opened.ensures in
+    let e = c.in_ok-candidates.ensures in
+    let up = Extends-trans o.grows.extends e.grows.extends in
+    let opened = rw c.in-Some.is at o.opened in
+    let posed = rw c.in-Some.is at o.posed in
     let h = g.H.GoalHandler.handler s.base c.args.handler.now in
-    let choice = rw (c.in-None.is, c.deref.ensures.value, offered) at c.in_ok-choose.ensures.choice in
-    refuted_none (h.offers (mode_of c.args.table.now.mode)) c.args.depth _ _ _ choice
+    let same = g.met.H.GoalHandler.handler_kept s.base c.candidates.new.cx.nodes c.args.handler.now s.is_ready (Extends-trans s.extends up) in
+    let offered = e.offered ∙ ap (λ m. (g.H.GoalHandler.handler c.candidates.new.cx.nodes c.args.handler.now).offers (mode_of m) (tree_at c.candidates.new.cx.nodes c.in-Some.opened.param_env.node) (tree_at c.candidates.new.cx.nodes c.in-Some.opened.predicate.node)) c.typing_mode.ensures ∙ same.offers _ _ _ in
+    let here = content_of-extended e.grows.extends o.goes.table.now in
+    let run = rw (c.deref.ensures.value) at (c.evaluate_candidates-response.ensures.refuted (Since-later up s) n) in
+    refuted_through c.requires.posed opened o.grows.extends h c.args.table.now.mode c.args.depth (trees_of c.candidates.new.cx.nodes c.args.values.now)
+    (rw (here, offered, o.goes.mode, offers-kept h (mode_of c.args.table.now.mode) e.grows.extends posed.holds) at run)
 
-pub evaluate_candidates-returns-in-One-clause-refuted : goal.evaluate_candidates-returns-in-One-clause-refuted
-evaluate_candidates-returns-in-One-clause-refuted g t c = λ s offered q.
-    let k = c.in_ok-choose.ensures in
-    let h = g.H.GoalHandler.handler s.base c.args.handler.now in
-    let mode = c.args.table.now.mode in
-    let p = c.requires.posed in
-    let choice = rw (c.in-One.is, c.deref.ensures.value) at k.choice in
-    let only = only_later h mode c.args.goal c.args.candidates.items c.in-One.i _ c.take_candidate-chosen.ensures choice.0 c.requires.candidates k.grows.extends p.table p.holds refl offered (choice.1 _) in
-    let run = rw (k.same) at (c.run_candidate.ensures.refuted (Since-later k.grows.extends s) (rw (k.same) only) q) in
-    refuted_back c.args.table.now h mode _ c.args.goal k.grows.extends p.table p.holds refl run
+pub evaluate_added-returns-in_err-asked-in-Some-clause-runs : goal.evaluate_added-returns-in_err-asked-in-Some-clause-runs
+evaluate_added-returns-in_err-asked-in-Some-clause-runs g t c = Runs-extends c.requires.posed.table c.resolve_goal.ensures.grows.extends c.resolve_goal.ensures.grows.rest
 
-pub run_candidate-returns-in_err-answer-clause-refuted : goal.run_candidate-returns-in_err-answer-clause-refuted
-run_candidate-returns-in_err-answer-clause-refuted g t c = λ s only q.
-    let i = c.loop-nested.invariant in
-    let at : c.loop-nested.nested-index < length c.args.candidate.now.goals.items = omega (arith, c.loop-nested-test.true, ap (length {A = CandidateGoal}) c.deref-nested-items.ensures.value) in
-    let nested = nested_at c.args.cx.now.nodes c.args.candidate.now.fresh.items c.args.goal c.args.candidate.now.goals.items c.loop-nested.nested-index _ c.requires.candidate.goals at in
-    let offers = (g.H.GoalHandler.handler s.base c.args.handler.now).offers (mode_of c.args.table.now.mode) in
-    let no : c.evaluate_nested.result ≡ Err EvalError.NoSolution = search rules in
-    refuted_by_goal offers c.args.depth c.args.candidate.now c.deref-2.result.now c.loop-nested.nested-index _ c.deref-nested-items.result.now _ _ c.deref-nested-items.ensures.value at i.runs.goes.extends nested.env.within nested.predicate.within (i.some s) only (rw (i.runs.goes.mode) at (c.evaluate_nested.ensures.refuted (Since-later i.runs.goes.extends s) no))
+pub evaluate_added-returns-in-None-clause-runs : goal.evaluate_added-returns-in-None-clause-runs
+evaluate_added-returns-in-None-clause-runs g t c = Runs-refl c.requires.posed.table
 
-pub run_candidate-returns-in_err-record_constraints-clause-refuted : goal.run_candidate-returns-in_err-record_constraints-clause-refuted
-run_candidate-returns-in_err-record_constraints-clause-refuted g t c = λ s only q.
-    let v = c.in_ok-values.ensures in
-    let offers = (g.H.GoalHandler.handler s.base c.args.handler.now).offers (mode_of c.args.table.now.mode) in
-    let constraints = constraints-kept c.args.cx.now.nodes c.equate.new.cx.nodes c.args.candidate.now.fresh.items c.args.goal c.args.candidate.now.region_constraints.items v.runs.goes.extends c.requires.candidate.constraints in
-    let no : c.record_constraints.result ≡ Err EvalError.NoSolution = search rules in
-    refuted_by_constraint {t = c.args.table.now} {u = c.equate.new.table} offers c.args.depth c.args.candidate.now c.deref-2.result.now _ _ (rw c.deref-2.ensures.value v.equated) constraints only (rw c.deref-3.ensures.value at (c.record_constraints.ensures.no no))
-
-pub run_candidate-returns-in_err-values-clause-refuted : goal.run_candidate-returns-in_err-values-clause-refuted
-run_candidate-returns-in_err-values-clause-refuted g t c = λ s only q.
-    let no : c.equate.result ≡ Err EvalError.NoSolution = search rules in
-    absurd (c.equate.ensures.unmet no (only_met _ _ _ only))
-
-pub evaluate_candidates-returns-in-Several-clause-labels : goal.evaluate_candidates-returns-in-Several-clause-labels
-evaluate_candidates-returns-in-Several-clause-labels g t c =
-    let k = c.in_ok-choose.ensures in only_same _ k.grows.extends c.requires.posed.table k.same
-
-pub evaluate_candidates-returns-in-Several-clause-gained : goal.evaluate_candidates-returns-in-Several-clause-gained
-evaluate_candidates-returns-in-Several-clause-gained g t c = λ s offered.
-    let k = c.in_ok-choose.ensures in
-    open_gains_nothing ((g.H.GoalHandler.handler s.base c.args.handler.now).offers (mode_of c.args.table.now.mode)) (c.args.depth + 1) _ _ _ _ (content_same k.grows.extends c.requires.posed.table k.same)
-
-pub evaluate_candidates-returns-in-One-clause-labels : goal.evaluate_candidates-returns-in-One-clause-labels
-evaluate_candidates-returns-in-One-clause-labels g t c =
-    let k = c.in_ok-choose.ensures in
-    OnOk-map c.run_candidate.result (λ h. only_back k.grows.extends c.requires.posed.table c.requires.posed.holds h) (rw (k.same) at c.run_candidate.ensures.labels)
-
-pub evaluate_candidates-returns-in-One-clause-gained : goal.evaluate_candidates-returns-in-One-clause-gained
-evaluate_candidates-returns-in-One-clause-gained g t c = λ s offered.
-    let k = c.in_ok-choose.ensures in
-    let h = g.H.GoalHandler.handler s.base c.args.handler.now in
-    let mode = c.args.table.now.mode in
-    let p = c.requires.posed in
-    let choice = rw (c.in-One.is, c.deref.ensures.value) at k.choice in
-    let only = only_later h mode c.args.goal c.args.candidates.items c.in-One.i _ c.take_candidate-chosen.ensures choice.0 c.requires.candidates k.grows.extends p.table p.holds refl offered (choice.1 _) in
-    let run = rw (k.same) at (c.run_candidate.ensures.gained (Since-later k.grows.extends s) (rw (k.same) only)) in
-    OnOk-map c.run_candidate.result (λ f. gained_back c.run_candidate.new.cx.nodes c.args.table.now c.run_candidate.new.table h mode _ c.args.goal k.grows.extends p.table p.holds refl f) run
-
-pub run_candidate-returns-clause-gained : goal.run_candidate-returns-clause-gained
-run_candidate-returns-clause-gained g t c = λ s only.
-    let i = c.loop-nested.invariant in
-    let all = take_all c.loop-nested.nested-index c.args.candidate.now.goals.items (omega (arith, c.loop-nested-test.false, ap (length {A = CandidateGoal}) c.deref-nested-items.ensures.value)) in
-    let offers = (g.H.GoalHandler.handler s.base c.args.handler.now).offers (mode_of c.args.table.now.mode) in
-    gained_last offers c.args.depth c.args.candidate.now c.deref-2.result.now c.loop-nested.nested-index _ _ all (i.some s) only
-
-pub evaluate_nested-returns-in_err-evaluated-in-Some-clause-runs : goal.evaluate_nested-returns-in_err-evaluated-in-Some-clause-runs
-evaluate_nested-returns-in_err-evaluated-in-Some-clause-runs g t c =
+pub evaluate_added-returns-in_ok-asked-in-Some-clause-runs : goal.evaluate_added-returns-in_ok-asked-in-Some-clause-runs
+evaluate_added-returns-in_ok-asked-in-Some-clause-runs g t c =
     Runs-trans (Runs-extends c.requires.posed.table c.in_ok-asked-in-Some.ensures.grows.extends c.in_ok-asked-in-Some.ensures.grows.rest) c.evaluate_goal.ensures.runs
 
-pub evaluate_nested-returns-in_err-evaluated-in-Some-clause-refuted : goal.evaluate_nested-returns-in_err-evaluated-in-Some-clause-refuted
-evaluate_nested-returns-in_err-evaluated-in-Some-clause-refuted g t c = λ s q.
+pub evaluate_added-returns-in_ok-asked-in-Some-clause-labels : goal.evaluate_added-returns-in_ok-asked-in-Some-clause-labels
+evaluate_added-returns-in_ok-asked-in-Some-clause-labels g t c =
+    let k = c.in_ok-asked-in-Some.ensures in
+    OnOk-map c.evaluate_goal.result (λ h. only_resolved c.args.goal c.in_ok-asked-in-Some.asked k.grows.extends c.requires.posed.table k.env k.predicate h) c.evaluate_goal.ensures.labels
+
+pub evaluate_added-returns-in_ok-asked-in-Some-clause-proved : goal.evaluate_added-returns-in_ok-asked-in-Some-clause-proved
+evaluate_added-returns-in_ok-asked-in-Some-clause-proved g t c = λ s.
+    let k = c.in_ok-asked-in-Some.ensures in
+    let e = c.evaluate_goal.ensures in
+    let p = c.requires.posed in
+    let all = Goes-trans (Goes-extends p.table k.grows.extends) e.runs.goes in
+    let env = e.runs.goes.extends.kept _ k.posed.holds.env.within ∙ k.env in
+    let predicate = e.runs.goes.extends.kept _ k.posed.holds.predicate.within ∙ k.predicate in
+    IfOk-map c.evaluate_goal.result
+    (λ x f y.
+    rw (all.extends.kept c.args.goal.param_env.node p.holds.env.within, all.extends.kept c.args.goal.predicate.node p.holds.predicate.within)
+    (unread _ _ _ _ all env predicate p.knows.env p.knows.predicate (f y))) (e.proved (Since-later k.grows.extends s))
+
+pub evaluate_added-returns-in_ok-asked-in-Some-clause-told : goal.evaluate_added-returns-in_ok-asked-in-Some-clause-told
+evaluate_added-returns-in_ok-asked-in-Some-clause-told g t c = λ s.
     let k = c.in_ok-asked-in-Some.ensures in
     let same = content_of-extended k.grows.extends c.requires.posed.table.now in
     let offers = (g.H.GoalHandler.handler s.base c.args.handler.now).offers (mode_of c.args.table.now.mode) in
-    let less : c.in-Some.below + 1 ≤ c.args.depth = omega (arith, c.in-Some.ensures.less) in
-    let refused : c.evaluate_goal.result ≡ Err EvalError.NoSolution = search rules in
-    asks_refuted_more offers _ _ less _ _ _ (rw (same, k.asks.env, k.asks.predicate) at (c.evaluate_goal.ensures.refuted (Since-later k.grows.extends s) refused))
+    let less : c.in-Some.below + 1 ≤ bound_of c.args.depth = omega (arith, c.in-Some.ensures.within) in
+    OnOk-map c.evaluate_goal.result (λ f. inl (asked_more offers (c.in-Some.below + 1) (bound_of c.args.depth) less (rw (same, k.env, k.predicate) at f))) (c.evaluate_goal.ensures.told (Since-later k.grows.extends s))
 
-pub evaluate_nested-returns-in_ok-evaluated-in-Some-clause-runs : goal.evaluate_nested-returns-in_ok-evaluated-in-Some-clause-runs
-evaluate_nested-returns-in_ok-evaluated-in-Some-clause-runs g t c =
-    Runs-trans (Runs-extends c.requires.posed.table c.in_ok-asked-in-Some.ensures.grows.extends c.in_ok-asked-in-Some.ensures.grows.rest) c.in_ok-evaluated-in-Some.ensures.runs
-
-pub evaluate_nested-returns-in_ok-evaluated-in-Some-clause-labels : goal.evaluate_nested-returns-in_ok-evaluated-in-Some-clause-labels
-evaluate_nested-returns-in_ok-evaluated-in-Some-clause-labels g t c =
-    let k = c.in_ok-asked-in-Some.ensures in
-    only_nested k.grows.extends c.requires.posed.table k.labels c.in_ok-evaluated-in-Some.ensures.labels
-
-pub evaluate_nested-returns-in_ok-evaluated-in-Some-clause-proved : goal.evaluate_nested-returns-in_ok-evaluated-in-Some-clause-proved
-evaluate_nested-returns-in_ok-evaluated-in-Some-clause-proved g t c = λ s y.
-    let k = c.in_ok-asked-in-Some.ensures in
-    let a = c.in_ok-evaluated-in-Some.ensures in
-    let goes = Goes-trans (Goes-extends c.requires.posed.table k.grows.extends) a.runs.goes in
-    let later = a.runs.goes.extends in
-    let env = later.kept _ k.posed.holds.env.within ∙ k.asks.env in
-    let predicate = later.kept _ k.posed.holds.predicate.within ∙ k.asks.predicate in
-    let can_env = can_fill c.requires.posed c.requires.nested.env c.requires.values in
-    let can_predicate = can_fill c.requires.posed c.requires.nested.predicate c.requires.values in
-    premise_stays goes can_env.knows can_predicate.knows k.asks.formed_env k.asks.formed_predicate (unread _ _ _ _ goes env predicate can_env.knows can_predicate.knows (a.proved (Since-later k.grows.extends s) y))
-
-pub evaluate_nested-returns-in_ok-evaluated-in-Some-clause-forced : goal.evaluate_nested-returns-in_ok-evaluated-in-Some-clause-forced
-evaluate_nested-returns-in_ok-evaluated-in-Some-clause-forced g t c = λ s y.
+pub evaluate_added-returns-in_ok-asked-in-Some-clause-refuted : goal.evaluate_added-returns-in_ok-asked-in-Some-clause-refuted
+evaluate_added-returns-in_ok-asked-in-Some-clause-refuted g t c = λ s n.
     let k = c.in_ok-asked-in-Some.ensures in
     let same = content_of-extended k.grows.extends c.requires.posed.table.now in
     let offers = (g.H.GoalHandler.handler s.base c.args.handler.now).offers (mode_of c.args.table.now.mode) in
-    let less : c.in-Some.below + 1 ≤ c.args.depth = omega (arith, c.in-Some.ensures.less) in
-    asks_forced_more offers _ _ less _ _ _ _ (rw (same, k.asks.env, k.asks.predicate) at (c.in_ok-evaluated-in-Some.ensures.forced (Since-later k.grows.extends s) y))
+    let less : c.in-Some.below + 1 ≤ bound_of c.args.depth = omega (arith, c.in-Some.ensures.within) in
+    refused_more offers (c.in-Some.below + 1) (bound_of c.args.depth) less (rw (same, k.env, k.predicate) at (c.evaluate_goal.ensures.refuted (Since-later k.grows.extends s) n))
 
-pub evaluate_nested-returns-in_ok-evaluated-in-Some-clause-gained : goal.evaluate_nested-returns-in_ok-evaluated-in-Some-clause-gained
-evaluate_nested-returns-in_ok-evaluated-in-Some-clause-gained g t c = λ s.
-    let k = c.in_ok-asked-in-Some.ensures in
-    let same = content_of-extended k.grows.extends c.requires.posed.table.now in
-    let offers = (g.H.GoalHandler.handler s.base c.args.handler.now).offers (mode_of c.args.table.now.mode) in
-    let less : c.in-Some.below + 1 ≤ c.args.depth = omega (arith, c.in-Some.ensures.less) in
-    inl (asks_gained_more offers _ _ less _ _ _ _ (rw (same, k.asks.env, k.asks.predicate) at (c.in_ok-evaluated-in-Some.ensures.gained (Since-later k.grows.extends s))))
+pub evaluate_candidates-loop-candidate-init : goal.evaluate_candidates-loop-candidate-init
+evaluate_candidates-loop-candidate-init g t c = record {
+  same = refl;
+  grows = record { extends = Extends-refl _; rest = KeepsRest-refl _ };
+  found = λ k d l. absurd (omega (arith, l, ap (length {A = Canonical Response}) c.new-responses.ensures.items));
+  told = λ s. outcomes_first c.args.cx.now.nodes c.args.cx.now.nodes c.args.table.now (g.H.GoalHandler.handler s.base c.args.handler.now) c.args.table.now.mode c.args.depth c.args.values.now c.args.candidates.now c.new-responses.result.items c.new-responses.ensures.items;
+}
+
+pub evaluate_candidates-probe_candidate-answer-requires : goal.evaluate_candidates-probe_candidate-answer-requires
+evaluate_candidates-probe_candidate-answer-requires g t c = λ κs k.
+    let i = c.loop-candidate.invariant in
+    let goes = goes-back c.requires.posed.table i.grows.extends i.same in (
+      omega (arith, c.decreases),
+      (
+        k,
+        (
+          IsPosed-later goes c.requires.posed,
+          (
+            IsAsked-extended i.grows.extends c.requires.asked,
+            (
+              g.met.H.GoalHandler.ready_kept _ _ _ c.requires.ready i.grows.extends,
+              (
+                rw c.candidate-item.is (IsCandidate-extended i.grows.extends c.requires.posed.holds (candidate_at c.args.cx.now.nodes c.args.goal c.args.candidates.now c.loop-candidate.candidate-index _ c.requires.candidates c.loop-candidate-test.true)),
+                args_later c.args.cx.now.nodes c.loop-candidate.cx.nodes c.args.table.now.entries c.loop-candidate.table.entries c.args.values.now goes.extends goes.continues c.requires.values,
+              ),
+            ),
+          ),
+        ),
+      ),
+    )
+
+pub evaluate_candidates-loop-candidate-preserved : goal.evaluate_candidates-loop-candidate-preserved
+evaluate_candidates-loop-candidate-preserved g t c =
+    let i = c.loop-candidate.invariant in
+    let p = c.probe_candidate-answer.ensures in
+    let m = c.in_ok-keep_response.ensures in
+    let rs = c.loop-candidate.responses.items in
+    let new = c.keep_response.new.responses.items in
+    let at = c.loop-candidate-test.true in
+    let holds = c.requires.posed.holds in
+    let cs = c.args.candidates.now in
+    let x = c.candidate-item.result in
+    let w = c.requires.posed.table in
+    let mode = c.args.table.now.mode in
+    record {
+      same = p.same ∙ i.same;
+      grows = record { extends = Extends-trans i.grows.extends p.grows.extends; rest = KeepsRest-trans i.grows.rest p.grows.rest };
+      found = founds_more rs new c.probe_candidate-answer.result p.grows.extends i.found
+          (IfOk-map c.probe_candidate-answer.result
+          (λ r f. found_earlier r i.grows.extends w holds c.requires.values
+          (λ b u f s offered. f (Since-later i.grows.extends s)
+          (rw (offers-kept (g.H.GoalHandler.handler s.base c.args.handler.now) (mode_of mode) i.grows.extends holds) (offered_there c.args.goal _ cs c.loop-candidate.candidate-index c.candidate-item.is at c.requires.candidates i.grows.extends offered))) f)
+          (rw i.same at p.found)) m.kept;
+      told = λ s. outcomes_more (g.H.GoalHandler.handler s.base c.args.handler.now) mode c.args.depth cs c.loop-candidate.candidate-index x x rs new c.probe_candidate-answer.result at c.candidate-item.is i.grows.extends p.grows.extends w c.requires.values (candidate_at c.args.cx.now.nodes c.args.goal cs c.loop-candidate.candidate-index x c.requires.candidates at) i.found m.kept
+          (rw i.same at (p.told (Since-later i.grows.extends s)))
+          (failed_of c.probe_candidate-answer.result m.dropped (λ n. rw i.same at (p.refuted (Since-later i.grows.extends s) n))) (i.told s);
+    }
+
+pub evaluate_candidates-merge_responses-requires-clause-table : goal.evaluate_candidates-merge_responses-requires-clause-table
+evaluate_candidates-merge_responses-requires-clause-table g t c = (let i = c.loop-candidate.invariant in let goes = goes-back c.requires.posed.table i.grows.extends i.same in goes.table)
+
+pub evaluate_candidates-merge_responses-requires-clause-values : goal.evaluate_candidates-merge_responses-requires-clause-values
+evaluate_candidates-merge_responses-requires-clause-values g t c =
+    let i = c.loop-candidate.invariant in
+    let goes = goes-back c.requires.posed.table i.grows.extends i.same in
+    args_later c.args.cx.now.nodes c.loop-candidate.cx.nodes c.args.table.now.entries c.loop-candidate.table.entries c.args.values.now goes.extends goes.continues c.requires.values
+
+pub evaluate_candidates-returns-clause-found : goal.evaluate_candidates-returns-clause-found
+evaluate_candidates-returns-clause-found g t c =
+    let i = c.loop-candidate.invariant in
+    let k = c.merge_responses.ensures in
+    IfOk-map c.merge_responses.result (λ r f. found_merged c.loop-candidate.responses.items r i.grows.extends k.grows.extends c.terms_are_formed.ensures c.requires.posed.table c.requires.values i.found f) (rw i.same at k.merged)
+
+pub evaluate_candidates-returns-clause-told : goal.evaluate_candidates-returns-clause-told
+evaluate_candidates-returns-clause-told g t c = λ s.
+    let i = c.loop-candidate.invariant in
+    let k = c.merge_responses.ensures in
+    let all = take_all c.loop-candidate.candidate-index c.args.candidates.now c.loop-candidate-test.false in
+    IfOk-map c.merge_responses.result (λ r f. told_merged (g.H.GoalHandler.handler s.base c.args.handler.now) c.args.table.now.mode c.args.depth c.args.candidates.now c.loop-candidate.responses.items r i.grows.extends k.grows.extends c.requires.posed.table c.requires.values i.found (rw all at (i.told s)) f) (rw i.same at k.merged)
 
 pub evaluate_goal-returns-in_err-originals-clause-runs : goal.evaluate_goal-returns-in_err-originals-clause-runs
 evaluate_goal-returns-in_err-originals-clause-runs g t c = Runs-extends c.requires.posed.table c.query_of.ensures.grows.extends c.query_of.ensures.grows.rest
@@ -322,14 +298,14 @@ evaluate_goal-returns-in_err-originals-clause-runs g t c = Runs-extends c.requir
 pub evaluate_goal-returns-in_err-answer-clause-runs : goal.evaluate_goal-returns-in_err-answer-clause-runs
 evaluate_goal-returns-in_err-answer-clause-runs g t c =
     let q = c.in_ok-originals.ensures in
-    let k = c.evaluate_query.ensures in
+    let k = c.evaluate_query-answered.ensures in
     Runs-extends c.requires.posed.table (Extends-trans q.grows.extends k.grows.extends) (KeepsRest-trans q.grows.rest k.grows.rest)
 
 pub evaluate_goal-returns-in_err-answer-clause-refuted : goal.evaluate_goal-returns-in_err-answer-clause-refuted
 evaluate_goal-returns-in_err-answer-clause-refuted g t c = λ s n.
     let q = c.in_ok-originals.ensures in
-    let refused : c.evaluate_query.result ≡ Err EvalError.NoSolution = search rules in
-    query_refutes c.requires.posed q.query q.grows.extends c.evaluate_query.ensures.grows.extends (rw q.query.mode at (c.evaluate_query.ensures.refuted (Since-later q.grows.extends s) refused))
+    let refused : c.evaluate_query-answered.result ≡ Err EvalError.NoSolution = search rules in
+    query_refutes c.requires.posed q.query q.grows.extends c.evaluate_query-answered.ensures.grows.extends (rw q.query.mode at (c.evaluate_query-answered.ensures.refuted (Since-later q.grows.extends s) refused))
 
 pub evaluate_goal-apply_answer-evaluated-requires-clause-table : goal.evaluate_goal-apply_answer-evaluated-requires-clause-table
 evaluate_goal-apply_answer-evaluated-requires-clause-table g t c = IsTable-extended (Extends-trans c.in_ok-originals.ensures.grows.extends c.in_ok-answer.ensures.grows.extends) c.requires.posed.table
@@ -339,18 +315,10 @@ evaluate_goal-apply_answer-evaluated-requires-clause-originals g t c =
     let q = c.in_ok-originals.ensures in
     rw c.deref.ensures.value (args_there c.requires.posed q.query q.grows.extends c.in_ok-answer.ensures.grows.extends)
 
-pub evaluate_goal-apply_answer-evaluated-requires-clause-closed : goal.evaluate_goal-apply_answer-evaluated-requires-clause-closed
-evaluate_goal-apply_answer-evaluated-requires-clause-closed g t c =
-    let q = c.in_ok-originals.ensures in
-    rw c.deref.ensures.value (closed_there c.requires.posed q.query q.grows.extends c.in_ok-answer.ensures.grows.extends)
-
 pub evaluate_goal-apply_answer-evaluated-requires-clause-fits : goal.evaluate_goal-apply_answer-evaluated-requires-clause-fits
 evaluate_goal-apply_answer-evaluated-requires-clause-fits g t c =
     let q = c.in_ok-originals.ensures in
-    rw c.deref.ensures.value (applicable c.requires.posed q.query q.grows.extends c.in_ok-answer.ensures.grows.extends c.in_ok-answer.answer.response c.in_ok-answer.ensures.fits)
-
-pub evaluate_goal-apply_answer-evaluated-requires-clause-no_more : goal.evaluate_goal-apply_answer-evaluated-requires-clause-no_more
-evaluate_goal-apply_answer-evaluated-requires-clause-no_more g t c = c.in_ok-answer.ensures.fits.no_more
+    rw c.deref.ensures.value (applicable c.requires.posed q.query q.grows.extends c.in_ok-answer.ensures.grows.extends c.in_ok-answer.answer c.in_ok-answer.ensures.fits)
 
 pub evaluate_goal-returns-clause-runs : goal.evaluate_goal-returns-clause-runs
 evaluate_goal-returns-clause-runs g t c =
@@ -364,14 +332,13 @@ evaluate_goal-returns-clause-evaluates g t c =
     let k = c.in_ok-answer.ensures in
     let e = c.apply_answer-evaluated.ensures in
     ok_both c.apply_answer-evaluated.result
-    (λ x same applied. evaluates c.requires.posed q.query q.grows.extends k.grows.extends c.apply_answer-evaluated.new.table c.in_ok-answer.answer.response applied k.fits x.has_changed same)
+    (λ x same applied. evaluates c.requires.posed q.query q.grows.extends k.grows.extends c.apply_answer-evaluated.new.table c.in_ok-answer.answer applied k.fits x.has_changed same)
     e.changed (rw c.deref.ensures.value at e.applied)
 
 pub evaluate_goal-returns-clause-labels : goal.evaluate_goal-returns-clause-labels
 evaluate_goal-returns-clause-labels g t c =
     let q = c.in_ok-originals.ensures in
-    let e = c.apply_answer-evaluated.ensures in
-    OnOk-map c.apply_answer-evaluated.result (λ h. asked_labels c.requires.posed q.query q.grows.extends c.in_ok-answer.ensures.grows.extends h) (rw c.deref.ensures.value at e.labels)
+    OnOk-map c.apply_answer-evaluated.result (λ h. asked_labels c.requires.posed q.query q.grows.extends c.in_ok-answer.ensures.grows.extends h) (rw c.deref.ensures.value at c.apply_answer-evaluated.ensures.labels)
 
 pub evaluate_goal-returns-clause-proved : goal.evaluate_goal-returns-clause-proved
 evaluate_goal-returns-clause-proved g t c = λ s.
@@ -383,268 +350,443 @@ evaluate_goal-returns-clause-proved g t c = λ s.
     ok_both c.apply_answer-evaluated.result
     (λ x is applied y.
     rw (all.kept c.args.goal.param_env.node holds.env.within, all.kept c.args.goal.predicate.node holds.predicate.within)
-    (asked_stays c.requires.posed q.query q.grows.extends k.grows.extends c.apply_answer-evaluated.new.table c.in_ok-answer.answer.response applied (meaning_since (λ ts. g.H.GoalHandler.handler ts c.args.handler.now) s) (mode_of c.args.table.now.mode) c.terms_are_formed.ensures e.runs.goes.table k.fits
+    (asked_stays c.requires.posed q.query q.grows.extends k.grows.extends c.apply_answer-evaluated.new.table c.in_ok-answer.answer applied (meaning_since (λ ts. g.H.GoalHandler.handler ts c.args.handler.now) s) (mode_of c.args.table.now.mode) c.terms_are_formed.ensures e.runs.goes.table k.fits
     (rw q.query.mode at (k.proved (Since-later q.grows.extends s) (sym is ∙ y)))))
     e.certainty (rw c.deref.ensures.value at e.applied)
 
-pub evaluate_goal-returns-clause-forced : goal.evaluate_goal-returns-clause-forced
-evaluate_goal-returns-clause-forced g t c = λ s.
+pub evaluate_goal-returns-clause-told : goal.evaluate_goal-returns-clause-told
+evaluate_goal-returns-clause-told g t c = λ s.
     let q = c.in_ok-originals.ensures in
     let k = c.in_ok-answer.ensures in
-    let e = c.apply_answer-evaluated.ensures in
-    ok_both c.apply_answer-evaluated.result
-    (λ x is applied y. asks c.requires.posed q.query q.grows.extends k.grows.extends c.apply_answer-evaluated.new.table c.in_ok-answer.answer.response applied (rw q.query.mode at (k.forced (Since-later q.grows.extends s) (sym is ∙ y))))
-    e.certainty (rw c.deref.ensures.value at e.applied)
-
-pub evaluate_goal-returns-clause-gained : goal.evaluate_goal-returns-clause-gained
-evaluate_goal-returns-clause-gained g t c = λ s.
-    let q = c.in_ok-originals.ensures in
-    let k = c.in_ok-answer.ensures in
-    let e = c.apply_answer-evaluated.ensures in
     OnOk-map c.apply_answer-evaluated.result
-    (λ applied. asks c.requires.posed q.query q.grows.extends k.grows.extends c.apply_answer-evaluated.new.table c.in_ok-answer.answer.response applied (rw q.query.mode at (k.gained (Since-later q.grows.extends s))))
-    (rw c.deref.ensures.value at e.applied)
+    (λ applied. asks c.requires.posed q.query q.grows.extends k.grows.extends c.apply_answer-evaluated.new.table c.in_ok-answer.answer applied (rw q.query.mode at (k.told (Since-later q.grows.extends s))))
+    (rw c.deref.ensures.value at c.apply_answer-evaluated.ensures.applied)
 
 pub evaluate_goal-returns-clause-refuted : goal.evaluate_goal-returns-clause-refuted
 evaluate_goal-returns-clause-refuted g t c = λ s n.
     let q = c.in_ok-originals.ensures in
     let k = c.in_ok-answer.ensures in
-    let e = c.apply_answer-evaluated.ensures in
-    response_refused c.requires.posed q.query q.grows.extends k.grows.extends c.in_ok-answer.answer.response (rw q.query.mode at (k.gained (Since-later q.grows.extends s))) (rw c.deref.ensures.value at (e.no n))
-
-pub evaluate_query-returns-in_err-answer-clause-refuted : goal.evaluate_query-returns-in_err-answer-clause-refuted
-evaluate_query-returns-in_err-answer-clause-refuted g t c = λ s n.
-    let k = c.in_ok-table.ensures in
-    let o = c.in_ok-snapshot.ensures in
-    let b = c.build_with_canonical.new.cx.nodes in
-    let refused : c.compute_goal.result ≡ Err EvalError.NoSolution = search rules in
-    rw (first_entries b (kinds_of c.args.input.now) c.in_ok-table.table.entries c.start_snapshot.new.self.entries _ o.entries k.entries, query_environment c.args.cx.now.nodes b c.args.input.now c.in_ok-table.query k.query, query_predicate c.args.cx.now.nodes b c.args.input.now c.in_ok-table.query k.query, o.mode, k.mode) at
-    (c.compute_goal.ensures.refuted (Since-later k.grows.extends s) refused)
-
-pub evaluate_query-make_response-requires-clause-values : goal.evaluate_query-make_response-requires-clause-values
-evaluate_query-make_response-requires-clause-values g t c =
-    let k = c.in_ok-table.ensures in
-    let o = c.in_ok-snapshot.ensures in
-    let r = c.in_ok-answer.ensures in
-    let ended = ended_as _ c.in_ok-table.table c.start_snapshot.new.self c.compute_goal.new.table c.end_query.new.table o.saved r.goes.saved c.end_query.ensures.kept c.end_query.ensures.taken_back in
-    rw c.deref.ensures.value
-    (args_later c.build_with_canonical.new.cx.nodes c.compute_goal.new.cx.nodes c.in_ok-table.table.entries c.end_query.new.table.entries c.in_ok-table.values.items r.goes.extends
-    (ended_continues c.build_with_canonical.new.cx.nodes c.compute_goal.new.cx.nodes c.in_ok-table.table c.start_snapshot.new.self c.compute_goal.new.table c.end_query.new.table k.table o.entries r.goes ended) k.args)
-
-pub evaluate_query-returns-clause-forced : goal.evaluate_query-returns-clause-forced
-evaluate_query-returns-clause-forced g t c = λ s y.
-    let k = c.in_ok-table.ensures in
-    let o = c.in_ok-snapshot.ensures in
-    let r = c.in_ok-answer.ensures in
-    let w = c.in_ok-response.ensures in
-    let a = c.args.cx.now.nodes in
-    let b = c.build_with_canonical.new.cx.nodes in
-    let d = c.compute_goal.new.cx.nodes in
-    let input = c.args.input.now in
-    let query = c.in_ok-table.query in
-    let q = c.in_ok-table.table in
-    let p = c.start_snapshot.new.self in
-    let u = c.compute_goal.new.table in
-    let v = c.end_query.new.table in
-    let ks = kinds_of input in
-    let first = first_entries b ks q.entries p.entries _ o.entries k.entries in
-    let env = query_environment a b input query k.query in
-    let predicate = query_predicate a b input query k.query in
-    let values = trees_kept b d q.entries c.in_ok-table.values.items r.goes.extends k.args ∙ k.values in
-    let ended = ended_as _ q p u v o.saved r.goes.saved c.end_query.ensures.kept c.end_query.ensures.taken_back in
-    let yes = sym w.certainty ∙ y in
-    let kept = c.end_query.ensures.kept (yes_is_kept yes) in
-    let says = rw (yes, c.deref.ensures.value, kept) at w.says in
-    answers_of (form_of a input) (content_of b p.entries) (content_of d u.entries) (tree_at b query.goal.param_env.node) (tree_at b query.goal.predicate.node) (trees_of d c.in_ok-table.values.items) (response_at c.make_response.new.cx.nodes c.in_ok-response.response) first env predicate values
-    (rw (o.mode, k.mode) at (r.forced (Since-later k.grows.extends s) yes)) says
-
-pub evaluate_query-returns-clause-gained : goal.evaluate_query-returns-clause-gained
-evaluate_query-returns-clause-gained g t c = λ s.
-    let k = c.in_ok-table.ensures in
-    let o = c.in_ok-snapshot.ensures in
-    let r = c.in_ok-answer.ensures in
-    let w = c.in_ok-response.ensures in
-    let a = c.args.cx.now.nodes in
-    let b = c.build_with_canonical.new.cx.nodes in
-    let d = c.compute_goal.new.cx.nodes in
-    let input = c.args.input.now in
-    let query = c.in_ok-table.query in
-    let q = c.in_ok-table.table in
-    let p = c.start_snapshot.new.self in
-    let u = c.compute_goal.new.table in
-    let v = c.end_query.new.table in
-    let ks = kinds_of input in
-    let first = first_entries b ks q.entries p.entries _ o.entries k.entries in
-    let env = query_environment a b input query k.query in
-    let predicate = query_predicate a b input query k.query in
-    let values = trees_kept b d q.entries c.in_ok-table.values.items r.goes.extends k.args ∙ k.values in
-    let ended = ended_as _ q p u v o.saved r.goes.saved c.end_query.ensures.kept c.end_query.ensures.taken_back in
-    answers_in_part_of ((g.H.GoalHandler.handler s.base c.args.handler.now).offers (mode_of input.typing_mode)) (c.args.depth + 1) (form_of a input) (content_of b p.entries) (content_of d u.entries) (content_of d v.entries) (tree_at b query.goal.param_env.node) (tree_at b query.goal.predicate.node) (trees_of d c.in_ok-table.values.items) c.in_ok-answer.answer.certainty (response_at c.make_response.new.cx.nodes c.in_ok-response.response) first env predicate values
-    (rw (o.mode, k.mode) at (r.gained (Since-later k.grows.extends s))) (ended_contents b d q p u v k.table o.entries r.goes ended) (rw c.deref.ensures.value at w.says)
-
-pub evaluate_query-returns-clause-proved : goal.evaluate_query-returns-clause-proved
-evaluate_query-returns-clause-proved g t c = λ s y.
-    let k = c.in_ok-table.ensures in
-    let o = c.in_ok-snapshot.ensures in
-    let r = c.in_ok-answer.ensures in
-    let w = c.in_ok-response.ensures in
-    let a = c.args.cx.now.nodes in
-    let b = c.build_with_canonical.new.cx.nodes in
-    let d = c.compute_goal.new.cx.nodes in
-    let input = c.args.input.now in
-    let query = c.in_ok-table.query in
-    let q = c.in_ok-table.table in
-    let p = c.start_snapshot.new.self in
-    let u = c.compute_goal.new.table in
-    let v = c.end_query.new.table in
-    let ks = kinds_of input in
-    let first = first_entries b ks q.entries p.entries _ o.entries k.entries in
-    let env = query_environment a b input query k.query in
-    let predicate = query_predicate a b input query k.query in
-    let values = trees_kept b d q.entries c.in_ok-table.values.items r.goes.extends k.args ∙ k.values in
-    let ended = ended_as _ q p u v o.saved r.goes.saved c.end_query.ensures.kept c.end_query.ensures.taken_back in
-    let kinds = c.requires.input.input.kinds in
-    let over = c.requires.input in
-    let args = args_later b d q.entries v.entries c.in_ok-table.values.items r.goes.extends (ended_continues b d q p u v k.table o.entries r.goes ended) k.args in
-    let pass = ended_passes b d q p u v k.table o.entries r.goes ended (is_label_in ks) (rw (first_entries b ks q.entries q.entries _ refl k.entries) (first_passes (is_label_in ks) ks)) (query_passes b d p u query.goal ks (form_of a input) refl kinds over.environment over.predicate first env predicate r.labels) in
-    let known = args_know d v.entries c.in_ok-table.values.items (first_values ks) args values in
-    let yes = sym w.certainty ∙ y in
-    let kept = c.end_query.ensures.kept (yes_is_kept yes) in
-    let says = rw (yes, c.deref.ensures.value, values) at w.says in
-    let formed = c.terms_are_formed.ensures in
-    let table = query_table ks formed (c.end_query.ensures.table d r.goes.table) kinds pass known in
-    let m = meaning_since (λ ts. g.H.GoalHandler.handler ts c.args.handler.now) s in
-    let there : IsProved (meaning_since (λ ts. g.H.GoalHandler.handler ts c.args.handler.now) s) (mode_of c.start_snapshot.new.self.mode) (content_of c.compute_goal.new.cx.nodes c.compute_goal.new.table.entries) (tree_at c.compute_goal.new.cx.nodes c.in_ok-table.query.goal.param_env.node) (tree_at c.compute_goal.new.cx.nodes c.in_ok-table.query.goal.predicate.node) = r.proved (Since-later k.grows.extends s) yes in
-    let kept_there = subst (λ z. IsProved m (mode_of p.mode) (content_of d z) (tree_at d query.goal.param_env.node) (tree_at d query.goal.predicate.node)) (sym kept) there in
-    let holds = k.holds in
-    let later = r.goes.extends in
-    query_says ks (content_of d v.entries) (form_of a input) (response_at c.make_response.new.cx.nodes c.in_ok-response.response) (meaning_since (λ ts. g.H.GoalHandler.handler ts c.args.handler.now) s) (mode_of input.typing_mode) refl table says over.environment over.predicate
-    (rw (later.kept query.goal.param_env.node holds.environment.within ∙ env, later.kept query.goal.predicate.node holds.predicate.within ∙ predicate, o.mode, k.mode) at kept_there)
+    response_refused c.requires.posed q.query q.grows.extends k.grows.extends c.in_ok-answer.answer (rw q.query.mode at (k.told (Since-later q.grows.extends s))) (rw c.deref.ensures.value at (c.apply_answer-evaluated.ensures.no n))
 
 pub evaluate_query-returns-clause-fits : goal.evaluate_query-returns-clause-fits
 evaluate_query-returns-clause-fits g t c =
     let k = c.in_ok-table.ensures in
-    let o = c.in_ok-snapshot.ensures in
-    let r = c.in_ok-answer.ensures in
-    let w = c.in_ok-response.ensures in
     let a = c.args.cx.now.nodes in
     let b = c.build_with_canonical.new.cx.nodes in
-    let d = c.compute_goal.new.cx.nodes in
     let input = c.args.input.now in
     let query = c.in_ok-table.query in
     let q = c.in_ok-table.table in
-    let p = c.start_snapshot.new.self in
-    let u = c.compute_goal.new.table in
-    let v = c.end_query.new.table in
     let ks = kinds_of input in
-    let first = first_entries b ks q.entries p.entries _ o.entries k.entries in
+    let first = first_entries b ks q.entries q.entries _ refl k.entries in
     let env = query_environment a b input query k.query in
     let predicate = query_predicate a b input query k.query in
-    let values = trees_kept b d q.entries c.in_ok-table.values.items r.goes.extends k.args ∙ k.values in
-    let ended = ended_as _ q p u v o.saved r.goes.saved c.end_query.ensures.kept c.end_query.ensures.taken_back in
-    let kinds = c.requires.input.input.kinds in
     let over = c.requires.input in
-    let args = args_later b d q.entries v.entries c.in_ok-table.values.items r.goes.extends (ended_continues b d q p u v k.table o.entries r.goes ended) k.args in
-    let pass = ended_passes b d q p u v k.table o.entries r.goes ended (is_label_in ks) (rw (first_entries b ks q.entries q.entries _ refl k.entries) (first_passes (is_label_in ks) ks)) (query_passes b d p u query.goal ks (form_of a input) refl kinds over.environment over.predicate first env predicate r.labels) in
-    let known = args_know d v.entries c.in_ok-table.values.items (first_values ks) args values in
-    let sides = ended_sides b d q p u v k.table o.entries r.goes ended (rw (first_entries b ks q.entries q.entries _ refl k.entries) (first_sides ks)) in
-    answer_to ks c.in_ok-answer.answer.certainty c.in_ok-response.response c.terms_are_formed.ensures (c.end_query.ensures.table d r.goes.table) kinds (table_in ks (content_of d v.entries) pass) known
-    (rw (c.deref.ensures.value, values) at w.says) w.holds sides w.nothing.0 w.nothing.1
+    let holds : HoldsGoal c.build_with_canonical.new.cx.nodes c.in_ok-table.query.goal = record { env = k.holds.environment; predicate = k.holds.predicate } in
+    IfOk-map c.compute_goal-response.result (λ r f. found_fits a b c.compute_goal-response.new.cx.nodes q query.goal ks input c.in_ok-table.values.items r f c.requires.input.input.kinds refl over.environment over.predicate first env predicate holds k.args k.values) (rw c.deref.ensures.value at c.compute_goal-response.ensures.found)
 
-pub compute_goal-returns-in_default-clause-labels : goal.compute_goal-returns-in_default-clause-labels
-compute_goal-returns-in_default-clause-labels g t c =
-    let e = c.in_ok-opened.ensures in only_same _ e.grows.extends c.requires.posed.table (e.left (ap is_some c.in_default.is))
+pub evaluate_query-returns-clause-proved : goal.evaluate_query-returns-clause-proved
+evaluate_query-returns-clause-proved g t c = λ s.
+    let k = c.in_ok-table.ensures in
+    let a = c.args.cx.now.nodes in
+    let b = c.build_with_canonical.new.cx.nodes in
+    let input = c.args.input.now in
+    let query = c.in_ok-table.query in
+    let q = c.in_ok-table.table in
+    let ks = kinds_of input in
+    let first = first_entries b ks q.entries q.entries _ refl k.entries in
+    let env = query_environment a b input query k.query in
+    let predicate = query_predicate a b input query k.query in
+    let over = c.requires.input in
+    let holds : HoldsGoal c.build_with_canonical.new.cx.nodes c.in_ok-table.query.goal = record { env = k.holds.environment; predicate = k.holds.predicate } in
+    let vs = c.in_ok-table.values.items in
+    let m = meaning_since (λ ts. g.H.GoalHandler.handler ts c.args.handler.now) s in
+    IfOk-map c.compute_goal-response.result
+    (λ r f y. found_derived a b c.compute_goal-response.new.cx.nodes q query.goal ks input vs r f c.requires.input.input.kinds refl over.environment over.predicate first env predicate holds k.args k.values m (mode_of input.typing_mode) y (rw k.mode at (f.sure y (Since-later k.grows.extends s))))
+    (rw c.deref.ensures.value at c.compute_goal-response.ensures.found)
 
-pub compute_goal-returns-in_default-clause-gained : goal.compute_goal-returns-in_default-clause-gained
-compute_goal-returns-in_default-clause-gained g t c = λ s.
-    let e = c.in_ok-opened.ensures in
-    gained_nothing ((g.H.GoalHandler.handler s.base c.args.handler.now).offers (mode_of c.args.table.now.mode)) (c.args.depth + 1) _ _ _ _ (content_same e.grows.extends c.requires.posed.table (e.left (ap is_some c.in_default.is)))
+pub evaluate_query-returns-clause-told : goal.evaluate_query-returns-clause-told
+evaluate_query-returns-clause-told g t c = λ s.
+    let k = c.in_ok-table.ensures in
+    let a = c.args.cx.now.nodes in
+    let b = c.build_with_canonical.new.cx.nodes in
+    let input = c.args.input.now in
+    let query = c.in_ok-table.query in
+    let q = c.in_ok-table.table in
+    let ks = kinds_of input in
+    let first = first_entries b ks q.entries q.entries _ refl k.entries in
+    let env = query_environment a b input query k.query in
+    let predicate = query_predicate a b input query k.query in
+    IfOk-map c.compute_goal-response.result (λ r f. rw (first, env, predicate, k.values, k.mode) at f) (rw c.deref.ensures.value at (c.compute_goal-response.ensures.told (Since-later k.grows.extends s)))
 
-pub compute_goal-returns-then-not-is_candidates_goal-clause-labels : goal.compute_goal-returns-then-not-is_candidates_goal-clause-labels
-compute_goal-returns-then-not-is_candidates_goal-clause-labels g t c =
-    let e = c.in_ok-opened.ensures in
-    labels_entered c.requires.posed (rw c.in-Some.is at e.opened) e.grows.extends
+pub evaluate_query-returns-clause-refuted : goal.evaluate_query-returns-clause-refuted
+evaluate_query-returns-clause-refuted g t c = λ s n.
+    let k = c.in_ok-table.ensures in
+    let a = c.args.cx.now.nodes in
+    let b = c.build_with_canonical.new.cx.nodes in
+    let input = c.args.input.now in
+    let query = c.in_ok-table.query in
+    let q = c.in_ok-table.table in
+    let ks = kinds_of input in
+    let first = first_entries b ks q.entries q.entries _ refl k.entries in
+    let env = query_environment a b input query k.query in
+    let predicate = query_predicate a b input query k.query in
+    rw (first, env, predicate, k.mode) at (c.compute_goal-response.ensures.refuted (Since-later k.grows.extends s) n)
 
-pub compute_goal-returns-then-not-is_candidates_goal-clause-gained : goal.compute_goal-returns-then-not-is_candidates_goal-clause-gained
-compute_goal-returns-then-not-is_candidates_goal-clause-gained g t c = λ s.
-    let e = c.in_ok-opened.ensures in
-    entered_through c.requires.posed (rw c.in-Some.is at e.opened) e.grows.extends (g.H.GoalHandler.handler s.base c.args.handler.now) c.args.table.now.mode c.args.depth
+pub evaluate_step-loop-added-init : goal.evaluate_step-loop-added-init
+evaluate_step-loop-added-init g t c = record {
+  runs = Runs-refl c.requires.table;
+  left = λ y i. absurd (subst (λ xs. Among xs y) c.new-step.ensures.left i);
+  labels = only-refl _ _;
+  proved = λ s y i. absurd i;
+  sure = λ y. c.new-step.ensures.left;
+  told = λ s. asks_nothing;
+}
 
-pub compute_goal-evaluate_candidates-answer-requires : goal.compute_goal-evaluate_candidates-answer-requires
-compute_goal-evaluate_candidates-answer-requires g t c = λ κs k.
-    let o = c.in_ok-opened.ensures in
-    let e = c.in_ok-candidates.ensures in
-    (omega (arith, c.decreases), (k, (IsPosed-later (Goes-extends o.goes.table e.grows.extends) (rw c.in-Some.is at o.posed), (IsAsked-extended e.grows.extends (c.is_candidates_goal.ensures c.if-not-is_candidates_goal.false), (g.met.H.GoalHandler.ready_kept _ _ _ c.requires.ready (Extends-trans o.grows.extends e.grows.extends), e.candidates)))))
+pub evaluate_step-evaluate_added-requires : goal.evaluate_step-evaluate_added-requires
+evaluate_step-evaluate_added-requires g t c = λ κs k.
+    let i = c.loop-added.invariant in (
+      omega (arith, c.decreases),
+      (
+        k,
+        (
+          IsPosed-later i.runs.goes (c.requires.posed c.loop-added.added-index _ c.loop-added-test.true),
+          g.met.H.GoalHandler.ready_kept _ _ _ c.requires.ready i.runs.goes.extends,
+        ),
+      ),
+    )
 
-pub compute_goal-returns-clause-goes : goal.compute_goal-returns-clause-goes
-compute_goal-returns-clause-goes g t c =
-    let o = c.in_ok-opened.ensures in
-    let e = c.in_ok-candidates.ensures in
-    on_ok c.evaluate_candidates-answer.result (Goes-trans o.goes (Goes-trans (Goes-extends o.goes.table e.grows.extends) c.evaluate_candidates-answer.ensures.runs.goes))
+pub evaluate_step-returns-in_err-answer-clause-runs : goal.evaluate_step-returns-in_err-answer-clause-runs
+evaluate_step-returns-in_err-answer-clause-runs g t c = Runs-trans c.loop-added.invariant.runs c.evaluate_added.ensures.runs
 
-pub compute_goal-returns-clause-labels : goal.compute_goal-returns-clause-labels
-compute_goal-returns-clause-labels g t c =
-    let o = c.in_ok-opened.ensures in
-    let e = c.in_ok-candidates.ensures in
-    let posed = rw c.in-Some.is at o.posed in
-    OnOk-map c.evaluate_candidates-answer.result (λ h. labels_through c.requires.posed (rw c.in-Some.is at o.opened) o.grows.extends (only_back e.grows.extends o.goes.table posed.holds h)) c.evaluate_candidates-answer.ensures.labels
-
-pub compute_goal-returns-clause-proved : goal.compute_goal-returns-clause-proved
-compute_goal-returns-clause-proved g t c = λ s.
-    let o = c.in_ok-opened.ensures in
-    let e = c.in_ok-candidates.ensures in
+pub evaluate_step-returns-in_err-answer-clause-refuted : goal.evaluate_step-returns-in_err-answer-clause-refuted
+evaluate_step-returns-in_err-answer-clause-refuted g t c = λ s n.
+    let i = c.loop-added.invariant in
     let h = g.H.GoalHandler.handler s.base c.args.handler.now in
-    let up = Extends-trans o.grows.extends e.grows.extends in
-    let same = g.met.H.GoalHandler.handler_kept s.base c.candidates.new.cx.nodes c.args.handler.now s.is_ready (Extends-trans s.extends up) in
-    let goes = Goes-trans (Goes-extends o.goes.table e.grows.extends) c.evaluate_candidates-answer.ensures.runs.goes in
-    let later = (Goes-trans o.goes goes).continues in
-    let law = g.met.H.GoalHandler.lawful s.base c.args.handler.now s.formed s.is_ready in
-    let run = c.evaluate_candidates-answer.ensures.proved (Since-later up s)
-    (e.offered ∙ ap (λ m. (g.H.GoalHandler.handler c.candidates.new.cx.nodes c.args.handler.now).offers (mode_of m) (tree_at c.candidates.new.cx.nodes c.in-Some.opened.param_env.node) (tree_at c.candidates.new.cx.nodes c.in-Some.opened.predicate.node)) c.typing_mode.ensures ∙ same.offers _ _ _) in
-    IfOk-map c.evaluate_candidates-answer.result
-    (λ x f y. proved_through c.requires.posed (rw c.in-Some.is at o.opened) o.grows.extends h s.variances (mode_of c.args.table.now.mode) (rw c.in-Some.is at o.posed) (c.is_candidates_goal.ensures c.if-not-is_candidates_goal.false) goes later c.terms_are_formed.ensures law (rw o.goes.mode at (f y))) run
+    let refused : c.evaluate_added.result ≡ Err EvalError.NoSolution = search rules in
+    refuse_more c.loop-added.table h c.args.table.now.mode (bound_of c.args.depth) c.args.goals.now _ c.requires.posed (among_get c.args.goals.now c.loop-added.added-index _ c.loop-added-test.true) i.runs.goes.extends (i.told s)
+    (rw i.runs.goes.mode at (c.evaluate_added.ensures.refuted (Since-later i.runs.goes.extends s) refused))
 
-pub compute_goal-returns-clause-forced : goal.compute_goal-returns-clause-forced
-compute_goal-returns-clause-forced g t c = λ s.
-    let o = c.in_ok-opened.ensures in
-    let e = c.in_ok-candidates.ensures in
-    let h = g.H.GoalHandler.handler s.base c.args.handler.now in
-    let up = Extends-trans o.grows.extends e.grows.extends in
-    let same = g.met.H.GoalHandler.handler_kept s.base c.candidates.new.cx.nodes c.args.handler.now s.is_ready (Extends-trans s.extends up) in
-    let posed = rw c.in-Some.is at o.posed in
-    let run = c.evaluate_candidates-answer.ensures.forced (Since-later up s)
-    (e.offered ∙ ap (λ m. (g.H.GoalHandler.handler c.candidates.new.cx.nodes c.args.handler.now).offers (mode_of m) (tree_at c.candidates.new.cx.nodes c.in-Some.opened.param_env.node) (tree_at c.candidates.new.cx.nodes c.in-Some.opened.predicate.node)) c.typing_mode.ensures ∙ same.offers _ _ _) in
-    let d = c.evaluate_candidates-answer.new.cx.nodes in
-    let v = c.evaluate_candidates-answer.new.table in
-    IfOk-map c.evaluate_candidates-answer.result
-    (λ x f y. forced_through c.requires.posed (rw c.in-Some.is at o.opened) o.grows.extends h c.args.table.now.mode c.args.depth d v
-    (rw o.goes.mode at (forced_back d c.enter_forall.new.table v h c.enter_forall.new.table.mode _ c.in-Some.opened e.grows.extends o.goes.table posed.holds refl (f y)))) run
+pub evaluate_step-returns-in_err-note-clause-runs : goal.evaluate_step-returns-in_err-note-clause-runs
+evaluate_step-returns-in_err-note-clause-runs g t c = Runs-trans c.loop-added.invariant.runs c.evaluate_added.ensures.runs
 
-pub compute_goal-returns-clause-gained : goal.compute_goal-returns-clause-gained
-compute_goal-returns-clause-gained g t c = λ s.
-    let o = c.in_ok-opened.ensures in
-    let e = c.in_ok-candidates.ensures in
-    let h = g.H.GoalHandler.handler s.base c.args.handler.now in
-    let up = Extends-trans o.grows.extends e.grows.extends in
-    let same = g.met.H.GoalHandler.handler_kept s.base c.candidates.new.cx.nodes c.args.handler.now s.is_ready (Extends-trans s.extends up) in
-    let posed = rw c.in-Some.is at o.posed in
-    let run = c.evaluate_candidates-answer.ensures.gained (Since-later up s)
-    (e.offered ∙ ap (λ m. (g.H.GoalHandler.handler c.candidates.new.cx.nodes c.args.handler.now).offers (mode_of m) (tree_at c.candidates.new.cx.nodes c.in-Some.opened.param_env.node) (tree_at c.candidates.new.cx.nodes c.in-Some.opened.predicate.node)) c.typing_mode.ensures ∙ same.offers _ _ _) in
-    let d = c.evaluate_candidates-answer.new.cx.nodes in
-    let v = c.evaluate_candidates-answer.new.table in
-    OnOk-map c.evaluate_candidates-answer.result
-    (λ f. gained_through c.requires.posed (rw c.in-Some.is at o.opened) o.grows.extends h c.args.table.now.mode c.args.depth d v
-    (rw o.goes.mode at (gained_back d c.enter_forall.new.table v h c.enter_forall.new.table.mode (c.args.depth + 1) c.in-Some.opened e.grows.extends o.goes.table posed.holds refl f))) run
+pub evaluate_step-loop-added-preserved : goal.evaluate_step-loop-added-preserved
+evaluate_step-loop-added-preserved g t c =
+    let i = c.loop-added.invariant in
+    let e = c.in_ok-answer.ensures in
+    let n = c.in_ok-note.ensures in
+    let gs = c.args.goals.now in
+    let d : GoalSource × Goal = (source.Misc, record { param_env = record { node = record { number = 0 } }; predicate = record { node = record { number = 0 } } }) in
+    let at = c.loop-added-test.true in
+    let there = among_get gs c.loop-added.added-index d at in
+    record {
+      runs = Runs-trans i.runs e.runs;
+      left = subst (AreLeft gs) (sym n.left) (left_more gs c.loop-added.step.left.items (get_or gs c.loop-added.added-index d) c.in_ok-answer.answer.certainty there i.left);
+      labels = only-trans i.labels (only_one gs (get_or gs c.loop-added.added-index d) i.runs.goes.extends c.requires.posed there e.labels);
+      proved = λ s.
+          subst (AreSettled (IsProvedSince (λ ts. g.H.GoalHandler.handler ts c.args.handler.now) s c.args.table.now.mode c.evaluate_added.new.cx.nodes c.evaluate_added.new.table) (take (c.loop-added.added-index + 1) gs)) (sym n.left)
+          (settled_proved (λ ts. g.H.GoalHandler.handler ts c.args.handler.now) s c.args.table.now.mode gs c.loop-added.step.left.items c.loop-added.added-index d c.in_ok-answer.answer.certainty at c.requires.posed i.runs.goes.extends e.runs.goes (rw i.runs.goes.mode at (e.proved (Since-later i.runs.goes.extends s))) (i.proved s));
+      sure = λ y. n.left ∙ sure_more c.loop-added.step.certainty c.in_ok-answer.answer.certainty c.loop-added.step.left.items (get_or gs c.loop-added.added-index d) i.sure (sym n.certainty ∙ y);
+      told = λ s. reach_more c.loop-added.table (g.H.GoalHandler.handler s.base c.args.handler.now) c.args.table.now.mode (bound_of c.args.depth) gs (get_or gs c.loop-added.added-index d) c.requires.posed there i.runs.goes.extends (i.told s) c.evaluate_added.new.table i.runs.goes.table e.runs.goes.extends (rw i.runs.goes.mode at (e.told (Since-later i.runs.goes.extends s)));
+    }
 
-pub compute_goal-returns-clause-refuted : goal.compute_goal-returns-clause-refuted
-compute_goal-returns-clause-refuted g t c = λ s q.
-    let o = c.in_ok-opened.ensures in
-    let e = c.in_ok-candidates.ensures in
+pub evaluate_step-returns-clause-posed : goal.evaluate_step-returns-clause-posed
+evaluate_step-returns-clause-posed g t c = (let i = c.loop-added.invariant in posed_left c.args.goals.now c.loop-added.step.left.items i.runs.goes c.requires.posed i.left)
+
+pub probe_candidate-make_response-response-requires-clause-values : goal.probe_candidate-make_response-response-requires-clause-values
+probe_candidate-make_response-response-requires-clause-values g t c =
+    let p = c.requires.posed in
+    let o = c.in_ok-snapshot.ensures in
+    let r = c.in-Ok.ensures in
+    let went = went_in p.table o.entries o.saved o.mode r.runs.goes in
+    args_later c.args.cx.now.nodes c.run_candidate.new.cx.nodes c.args.table.now.entries c.run_candidate.new.table.entries c.args.values.now went.extends went.continues c.requires.values
+
+pub probe_candidate-returns-then-keeps_constraints-clause-found : goal.probe_candidate-returns-then-keeps_constraints-clause-found
+probe_candidate-returns-then-keeps_constraints-clause-found g t c =
+    let p = c.requires.posed in
+    let o = c.in_ok-snapshot.ensures in
+    let r = c.in-Ok.ensures in
+    let went = went_in p.table o.entries o.saved o.mode r.runs.goes in
+    let m = c.in_ok-response.ensures in
+    found_in c.in_ok-response.field-0 c.in-Ok.certainty went c.terms_are_formed.ensures m.grows.extends (rw o.entries at r.labels) c.requires.values m.certainty m.says m.holds (record { no_hidden = m.nothing.0; no_goals = m.nothing.1 })
+    (λ y s offered. rw o.mode at (r.proved s (rw o.mode offered) (ap Ok y)))
+
+pub probe_candidate-returns-then-keeps_constraints-clause-told : goal.probe_candidate-returns-then-keeps_constraints-clause-told
+probe_candidate-returns-then-keeps_constraints-clause-told g t c = λ s.
+    let p = c.requires.posed in
+    let o = c.in_ok-snapshot.ensures in
+    let r = c.in-Ok.ensures in
+    let went = went_in p.table o.entries o.saved o.mode r.runs.goes in
+    let m = c.in_ok-response.ensures in
     let h = g.H.GoalHandler.handler s.base c.args.handler.now in
-    let up = Extends-trans o.grows.extends e.grows.extends in
-    let same = g.met.H.GoalHandler.handler_kept s.base c.candidates.new.cx.nodes c.args.handler.now s.is_ready (Extends-trans s.extends up) in
-    let posed = rw c.in-Some.is at o.posed in
-    let run = c.evaluate_candidates-answer.ensures.refuted (Since-later up s)
-    (e.offered ∙ ap (λ m. (g.H.GoalHandler.handler c.candidates.new.cx.nodes c.args.handler.now).offers (mode_of m) (tree_at c.candidates.new.cx.nodes c.in-Some.opened.param_env.node) (tree_at c.candidates.new.cx.nodes c.in-Some.opened.predicate.node)) c.typing_mode.ensures ∙ same.offers _ _ _) q in
-    refuted_through c.requires.posed (rw c.in-Some.is at o.opened) o.grows.extends h c.args.table.now.mode c.args.depth
-    (rw o.goes.mode at (refuted_back c.enter_forall.new.table h c.enter_forall.new.table.mode _ c.in-Some.opened e.grows.extends o.goes.table posed.holds refl run))
+    let trees = trees_kept c.args.cx.now.nodes c.run_candidate.new.cx.nodes c.args.table.now.entries c.args.values.now went.extends c.requires.values in
+    run_replies c.start_snapshot.new.self c.args.table.now c.run_candidate.new.table h c.args.table.now.mode c.args.depth c.args.candidate.now (trees_of c.args.cx.now.nodes c.args.values.now) _ (r.told s) o.mode o.entries
+    (said_of (told_or_plain c.in-Ok.certainty _ _ _ (rw trees at m.says)))
+
+pub probe_candidate-make_response-requires-clause-values : goal.probe_candidate-make_response-requires-clause-values
+probe_candidate-make_response-requires-clause-values g t c =
+    let p = c.requires.posed in
+    let o = c.in_ok-snapshot.ensures in
+    let r = c.in-Ok.ensures in
+    let back = rolled_back o.saved r.runs.goes c.rollback_to-2.ensures.saved o.mode c.rollback_to-2.ensures.mode in
+    let goes = goes-back p.table r.runs.goes.extends back in
+    args_later c.args.cx.now.nodes c.run_candidate.new.cx.nodes c.args.table.now.entries c.rollback_to-2.new.self.entries c.args.values.now goes.extends goes.continues c.requires.values
+
+pub probe_candidate-returns-clause-found : goal.probe_candidate-returns-clause-found
+probe_candidate-returns-clause-found g t c =
+    let p = c.requires.posed in
+    let o = c.in_ok-snapshot.ensures in
+    let r = c.in-Ok.ensures in
+    let back = rolled_back o.saved r.runs.goes c.rollback_to-2.ensures.saved o.mode c.rollback_to-2.ensures.mode in
+    let m = c.in_ok-response-2.ensures in
+    found_still c.in_ok-response-2.response c.in-Ok.certainty p.table r.runs.goes.extends c.terms_are_formed.ensures m.grows.extends c.requires.values m.certainty (not_kept (sym c.keeps_constraints.ensures ∙ c.if-keeps_constraints.false)) (rw back at m.says) m.holds (record { no_hidden = m.nothing.0; no_goals = m.nothing.1 })
+
+pub probe_candidate-returns-clause-told : goal.probe_candidate-returns-clause-told
+probe_candidate-returns-clause-told g t c = λ s.
+    let p = c.requires.posed in
+    let o = c.in_ok-snapshot.ensures in
+    let r = c.in-Ok.ensures in
+    let went = went_in p.table o.entries o.saved o.mode r.runs.goes in
+    let back = rolled_back o.saved r.runs.goes c.rollback_to-2.ensures.saved o.mode c.rollback_to-2.ensures.mode in
+    let m = c.in_ok-response-2.ensures in
+    let h = g.H.GoalHandler.handler s.base c.args.handler.now in
+    let trees = trees_kept c.args.cx.now.nodes c.run_candidate.new.cx.nodes c.args.table.now.entries c.args.values.now went.extends c.requires.values in
+    let still = content_of-extended r.runs.goes.extends p.table.now in
+    let unsure = not_kept (sym c.keeps_constraints.ensures ∙ c.if-keeps_constraints.false) in
+    run_replies c.start_snapshot.new.self c.args.table.now c.run_candidate.new.table h c.args.table.now.mode c.args.depth c.args.candidate.now (trees_of c.args.cx.now.nodes c.args.values.now) _ (r.told s) o.mode o.entries
+    (inr (inr (rw o.entries (plain_of c.in-Ok.certainty _ _ _ (rw (back, still, trees) at m.says) unsure))))
+
+pub run_candidate-returns-in_err-values-clause-refuted : goal.run_candidate-returns-in_err-values-clause-refuted
+run_candidate-returns-in_err-values-clause-refuted g t c = λ s n.
+    let no : c.equate.result ≡ Err EvalError.NoSolution = search rules in
+    is_unmet (c.equate.ensures.unmet no)
+
+pub run_candidate-record_constraints-requires-clause-posed : goal.run_candidate-record_constraints-requires-clause-posed
+run_candidate-record_constraints-requires-clause-posed g t c = IsPosed-later c.in_ok-values.ensures.runs.goes c.requires.posed
+
+pub run_candidate-record_constraints-requires-clause-constraints : goal.run_candidate-record_constraints-requires-clause-constraints
+run_candidate-record_constraints-requires-clause-constraints g t c =
+    let k = IsCandidate-extended c.in_ok-values.ensures.runs.goes.extends c.requires.posed.holds c.requires.candidate in
+    rw (c.deref.ensures.value, c.deref-3.ensures.value) k.constraints
+
+pub run_candidate-returns-in_err-record_constraints-clause-runs : goal.run_candidate-returns-in_err-record_constraints-clause-runs
+run_candidate-returns-in_err-record_constraints-clause-runs g t c = Runs-trans c.in_ok-values.ensures.runs c.record_constraints.ensures.runs
+
+pub run_candidate-returns-in_err-record_constraints-clause-refuted : goal.run_candidate-returns-in_err-record_constraints-clause-refuted
+run_candidate-returns-in_err-record_constraints-clause-refuted g t c = λ s n.
+    let v = c.in_ok-values.ensures in
+    let constraints = constraints-kept c.args.cx.now.nodes c.equate.new.cx.nodes c.args.candidate.now.fresh.items c.args.goal c.args.candidate.now.region_constraints.items v.runs.goes.extends c.requires.candidate.constraints in
+    let no : c.record_constraints.result ≡ Err EvalError.NoSolution = search rules in
+    breaks {t = c.args.table.now} {u = c.equate.new.table} (g.H.GoalHandler.handler s.base c.args.handler.now) c.args.table.now.mode c.args.depth c.args.candidate.now c.deref-2.result.now (rw c.deref-2.ensures.value v.equated) (rw c.deref-3.ensures.value at (c.record_constraints.ensures.no no)) constraints
+
+pub run_candidate-added_goals-requires-clause-posed : goal.run_candidate-added_goals-requires-clause-posed
+run_candidate-added_goals-requires-clause-posed g t c =
+    let v = c.in_ok-values.ensures in
+    let k = c.in_ok-record_constraints.ensures in
+    let there = Runs-trans v.runs k.runs in
+    IsPosed-later there.goes c.requires.posed
+
+pub run_candidate-added_goals-requires-clause-nested : goal.run_candidate-added_goals-requires-clause-nested
+run_candidate-added_goals-requires-clause-nested g t c =
+    let v = c.in_ok-values.ensures in
+    let k = c.in_ok-record_constraints.ensures in
+    let there = Runs-trans v.runs k.runs in
+    let n = IsCandidate-extended there.goes.extends c.requires.posed.holds c.requires.candidate in
+    rw (c.deref.ensures.value, c.deref-4.ensures.value) n.goals
+
+pub run_candidate-added_goals-requires-clause-values : goal.run_candidate-added_goals-requires-clause-values
+run_candidate-added_goals-requires-clause-values g t c =
+    let v = c.in_ok-values.ensures in
+    let k = c.in_ok-record_constraints.ensures in
+    rw (c.deref.ensures.value, c.deref-2.ensures.value) (AreValues-later k.runs.goes v.values)
+
+pub run_candidate-returns-in_err-goals-clause-runs : goal.run_candidate-returns-in_err-goals-clause-runs
+run_candidate-returns-in_err-goals-clause-runs g t c =
+    let v = c.in_ok-values.ensures in
+    let k = c.in_ok-record_constraints.ensures in
+    let there = Runs-trans v.runs k.runs in
+    let n = c.added_goals.ensures in
+    Runs-trans there (Runs-extends k.runs.goes.table n.grows.extends n.grows.rest)
+
+pub run_candidate-try_evaluate_goals-requires : goal.run_candidate-try_evaluate_goals-requires
+run_candidate-try_evaluate_goals-requires g t c = λ κs k-1.
+    let v = c.in_ok-values.ensures in
+    let k = c.in_ok-record_constraints.ensures in
+    let there = Runs-trans v.runs k.runs in
+    let n = c.in_ok-goals.ensures in (
+      omega (arith, c.decreases),
+      (
+        k-1,
+        (
+          IsTable-extended n.grows.extends k.runs.goes.table,
+          (
+            n.added.posed,
+            g.met.H.GoalHandler.ready_kept _ _ _ c.requires.ready (Extends-trans there.goes.extends n.grows.extends),
+          ),
+        ),
+      ),
+    )
+
+pub run_candidate-returns-in_err-certainty-clause-runs : goal.run_candidate-returns-in_err-certainty-clause-runs
+run_candidate-returns-in_err-certainty-clause-runs g t c =
+    let v = c.in_ok-values.ensures in
+    let k = c.in_ok-record_constraints.ensures in
+    let there = Runs-trans v.runs k.runs in
+    let n = c.in_ok-goals.ensures in
+    let upto = Runs-trans there (Runs-extends k.runs.goes.table n.grows.extends n.grows.rest) in
+    Runs-trans upto c.try_evaluate_goals.ensures.runs
+
+pub run_candidate-returns-in_err-certainty-clause-refuted : goal.run_candidate-returns-in_err-certainty-clause-refuted
+run_candidate-returns-in_err-certainty-clause-refuted g t c = λ s no.
+    let v = c.in_ok-values.ensures in
+    let k = c.in_ok-record_constraints.ensures in
+    let there = Runs-trans v.runs k.runs in
+    let n = c.in_ok-goals.ensures in
+    let upto = Runs-trans there (Runs-extends k.runs.goes.table n.grows.extends n.grows.rest) in
+    let x = c.args.candidate.now in
+    let gs = c.in_ok-goals.goals.items in
+    let vs = c.deref-2.result.now in
+    let within : AllIn c.equate.new.cx.nodes c.deref-2.result.now = rw c.deref-2.ensures.value v.values.within in
+    let constraints = constraints-kept c.args.cx.now.nodes c.equate.new.cx.nodes x.fresh.items c.args.goal x.region_constraints.items v.runs.goes.extends c.requires.candidate.constraints in
+    let h = g.H.GoalHandler.handler s.base c.args.handler.now in
+    let mode = c.args.table.now.mode in
+    let since = Since-later (Extends-trans there.goes.extends n.grows.extends) s in
+    let refused : c.try_evaluate_goals.result ≡ Err EvalError.NoSolution = search rules in
+    ran_refused {t = c.args.table.now} {u = c.equate.new.table} {v = c.record_constraints.new.table} h mode c.args.depth c.args.goal x vs gs (rw c.deref-2.ensures.value v.equated) (rw (c.deref-3.ensures.value) at k.added) constraints c.requires.candidate.goals v.runs.goes.extends k.runs.goes.extends there.goes.extends n.grows.extends k.runs.goes.table within (rw c.deref-4.ensures.value at n.added.goals) (rw upto.goes.mode at (c.try_evaluate_goals.ensures.refuted since refused))
+
+pub run_candidate-returns-clause-runs : goal.run_candidate-returns-clause-runs
+run_candidate-returns-clause-runs g t c =
+    let v = c.in_ok-values.ensures in
+    let k = c.in_ok-record_constraints.ensures in
+    let there = Runs-trans v.runs k.runs in
+    let n = c.in_ok-goals.ensures in
+    let upto = Runs-trans there (Runs-extends k.runs.goes.table n.grows.extends n.grows.rest) in
+    Runs-trans upto c.in_ok-certainty.ensures.runs
+
+pub run_candidate-returns-clause-labels : goal.run_candidate-returns-clause-labels
+run_candidate-returns-clause-labels g t c =
+    let v = c.in_ok-values.ensures in
+    let k = c.in_ok-record_constraints.ensures in
+    let n = c.in_ok-goals.ensures in
+    let e = c.in_ok-certainty.ensures in
+    let brought = added_only c.in_ok-goals.goals.items n.added e.labels (content_of-extended n.grows.extends k.runs.goes.table.now) in
+    only-trans v.labels (only_earlier v.runs.goes.extends c.requires.posed.holds (only-trans k.labels (only_earlier k.runs.goes.extends (HoldsGoal-extended v.runs.goes.extends c.requires.posed.holds) brought)))
+
+pub run_candidate-returns-clause-proved : goal.run_candidate-returns-clause-proved
+run_candidate-returns-clause-proved g t c = λ s offered y.
+    let v = c.in_ok-values.ensures in
+    let k = c.in_ok-record_constraints.ensures in
+    let there = Runs-trans v.runs k.runs in
+    let n = c.in_ok-goals.ensures in
+    let upto = Runs-trans there (Runs-extends k.runs.goes.table n.grows.extends n.grows.rest) in
+    let x = c.args.candidate.now in
+    let gs = c.in_ok-goals.goals.items in
+    let vs = c.deref-2.result.now in
+    let within : AllIn c.equate.new.cx.nodes c.deref-2.result.now = rw c.deref-2.ensures.value v.values.within in
+    let constraints = constraints-kept c.args.cx.now.nodes c.equate.new.cx.nodes x.fresh.items c.args.goal x.region_constraints.items v.runs.goes.extends c.requires.candidate.constraints in
+    let h = g.H.GoalHandler.handler s.base c.args.handler.now in
+    let mode = c.args.table.now.mode in
+    let since = Since-later (Extends-trans there.goes.extends n.grows.extends) s in
+    let e = c.in_ok-certainty.ensures in
+    let sure = both_sure _ _ (sym c.and.ensures ∙ ok_inside y) in
+    let z = c.try_evaluate_goals.new.cx.nodes in
+    let here = content_of z c.try_evaluate_goals.new.table.entries in
+    let seen = candidate_of c.args.cx.now.nodes x in
+    let steps = Runs-trans (Runs-extends k.runs.goes.table n.grows.extends n.grows.rest) e.runs in
+    let all = Runs-trans there steps in
+    let later = AreValues-later (Runs-trans k.runs steps).goes v.values in
+    let same = map-kept c.record_constraints.new.cx.nodes z vs (AllIn-kept c.equate.new.cx.nodes c.record_constraints.new.cx.nodes vs within k.runs.goes.extends) steps.goes.extends in
+    let goals = (rw c.deref-4.ensures.value at n.added.goals) ∙ added_is z c.args.goal x.fresh.items vs x.goals.items there.goes.extends c.requires.candidate.goals (sym same) in
+    let settled = rw upto.goes.mode at (e.proved since) in
+    let none = e.sure (ap Ok sure.1) in
+    let run : HasRun (meaning (g.H.GoalHandler.handler s.base c.args.handler.now) s.variances) (mode_of c.args.table.now.mode) (content_of c.try_evaluate_goals.new.cx.nodes c.try_evaluate_goals.new.table.entries) (candidate_of c.args.cx.now.nodes c.args.candidate.now) (map (tree_at c.try_evaluate_goals.new.cx.nodes) c.deref-2.result.now) = record {
+      sure = ap certainty_of sure.0;
+      values = rw c.deref-2.ensures.value later.values;
+      known = rw c.deref-2.ensures.value later.known;
+      equations = rw c.deref-2.ensures.value (Equates-later c.args.cx.now.nodes c.in_ok-values.values.items x.equations.items (Runs-trans k.runs steps).goes v.values.within v.equal);
+      constraints = Constrains-later c.args.cx.now.nodes vs x.region_constraints.items steps.goes (AllIn-kept c.equate.new.cx.nodes c.record_constraints.new.cx.nodes vs within k.runs.goes.extends) (rw (c.deref-3.ensures.value, constraints) at k.held);
+      goals = all_proved (meaning (g.H.GoalHandler.handler s.base c.args.handler.now) s.variances) (mode_of mode) (map (tree_at z) vs) (map (premise_of c.args.cx.now.nodes) x.goals.items) gs goals (all_posed gs n.added.posed) e.runs.goes c.terms_are_formed.ensures (proved_all _ gs none settled);
+    } in
+    rw (all.goes.extends.kept c.args.goal.param_env.node c.requires.posed.holds.env.within, all.goes.extends.kept c.args.goal.predicate.node c.requires.posed.holds.predicate.within)
+    (has_run h s.variances (mode_of mode) here seen (map (tree_at z) vs) (tree_at c.args.cx.now.nodes c.args.goal.param_env.node) (tree_at c.args.cx.now.nodes c.args.goal.predicate.node) (term_table c.terms_are_formed.ensures e.runs.goes.table) offered run)
+
+pub run_candidate-returns-clause-told : goal.run_candidate-returns-clause-told
+run_candidate-returns-clause-told g t c = λ s.
+    let v = c.in_ok-values.ensures in
+    let k = c.in_ok-record_constraints.ensures in
+    let there = Runs-trans v.runs k.runs in
+    let n = c.in_ok-goals.ensures in
+    let upto = Runs-trans there (Runs-extends k.runs.goes.table n.grows.extends n.grows.rest) in
+    let x = c.args.candidate.now in
+    let gs = c.in_ok-goals.goals.items in
+    let vs = c.deref-2.result.now in
+    let within : AllIn c.equate.new.cx.nodes c.deref-2.result.now = rw c.deref-2.ensures.value v.values.within in
+    let constraints = constraints-kept c.args.cx.now.nodes c.equate.new.cx.nodes x.fresh.items c.args.goal x.region_constraints.items v.runs.goes.extends c.requires.candidate.constraints in
+    let h = g.H.GoalHandler.handler s.base c.args.handler.now in
+    let mode = c.args.table.now.mode in
+    let since = Since-later (Extends-trans there.goes.extends n.grows.extends) s in
+    ran_to {t = c.args.table.now} {u = c.equate.new.table} {v = c.record_constraints.new.table} h mode c.args.depth c.args.goal x vs gs (rw c.deref-2.ensures.value v.equated) (rw (c.deref-3.ensures.value) at k.added) constraints c.requires.candidate.goals v.runs.goes.extends k.runs.goes.extends there.goes.extends n.grows.extends k.runs.goes.table within (rw c.deref-4.ensures.value at n.added.goals) c.try_evaluate_goals.new.cx.nodes c.try_evaluate_goals.new.table (rw upto.goes.mode at (c.in_ok-certainty.ensures.told since))
+
+pub try_evaluate_goals-loop-step-init : goal.try_evaluate_goals-loop-step-init
+try_evaluate_goals-loop-step-init g t c = record {
+  runs = Runs-refl c.requires.table;
+  steps = omega arith;
+  posed = c.requires.posed;
+  left = λ y i. i;
+  labels = only-refl _ _;
+  proved = λ s y i. inl i;
+  told = λ s. asks_nothing;
+}
+
+pub try_evaluate_goals-returns-in_err-stepped-clause-runs : goal.try_evaluate_goals-returns-in_err-stepped-clause-runs
+try_evaluate_goals-returns-in_err-stepped-clause-runs g t c = Runs-trans c.loop-step.invariant.runs c.evaluate_step.ensures.runs
+
+pub try_evaluate_goals-returns-in_err-stepped-clause-posed : goal.try_evaluate_goals-returns-in_err-stepped-clause-posed
+try_evaluate_goals-returns-in_err-stepped-clause-posed g t c = posed_later c.loop-step.goals.items c.evaluate_step.ensures.runs.goes c.loop-step.invariant.posed
+
+pub try_evaluate_goals-returns-in_err-stepped-clause-refuted : goal.try_evaluate_goals-returns-in_err-stepped-clause-refuted
+try_evaluate_goals-returns-in_err-stepped-clause-refuted g t c = λ s n.
+    let i = c.loop-step.invariant in
+    let h = g.H.GoalHandler.handler s.base c.args.handler.now in
+    let refused : c.evaluate_step.result ≡ Err EvalError.NoSolution = search rules in
+    refuse_step c.loop-step.table h c.args.table.now.mode (bound_of c.args.depth) c.args.goals.now.items c.loop-step.goals.items c.requires.posed i.left i.runs.goes.extends (i.told s)
+    (rw (i.runs.goes.mode, c.deref.ensures.value) at (c.evaluate_step.ensures.refuted (Since-later i.runs.goes.extends s) refused))
+
+pub try_evaluate_goals-returns-then-not-stepped-clause-runs : goal.try_evaluate_goals-returns-then-not-stepped-clause-runs
+try_evaluate_goals-returns-then-not-stepped-clause-runs g t c = Runs-trans c.loop-step.invariant.runs c.in_ok-stepped.ensures.runs
+
+pub try_evaluate_goals-returns-then-not-stepped-clause-labels : goal.try_evaluate_goals-returns-then-not-stepped-clause-labels
+try_evaluate_goals-returns-then-not-stepped-clause-labels g t c =
+    let i = c.loop-step.invariant in
+    only-trans i.labels (only_left c.args.goals.now.items c.loop-step.goals.items i.runs.goes.extends c.requires.posed i.left (rw c.deref.ensures.value at c.in_ok-stepped.ensures.labels))
+
+pub try_evaluate_goals-returns-then-not-stepped-clause-proved : goal.try_evaluate_goals-returns-then-not-stepped-clause-proved
+try_evaluate_goals-returns-then-not-stepped-clause-proved g t c = λ s.
+    let i = c.loop-step.invariant in
+    let e = c.in_ok-stepped.ensures in
+    settled_step (λ ts. g.H.GoalHandler.handler ts c.args.handler.now) s c.args.table.now.mode c.args.goals.now.items c.loop-step.goals.items c.in_ok-stepped.stepped.left.items c.requires.posed i.runs.goes.extends e.runs.goes (i.proved s) (rw (i.runs.goes.mode, c.deref.ensures.value) at (e.proved (Since-later i.runs.goes.extends s)))
+
+pub try_evaluate_goals-returns-then-not-stepped-clause-told : goal.try_evaluate_goals-returns-then-not-stepped-clause-told
+try_evaluate_goals-returns-then-not-stepped-clause-told g t c = λ s.
+    let i = c.loop-step.invariant in
+    let e = c.in_ok-stepped.ensures in
+    reach_step c.loop-step.table (g.H.GoalHandler.handler s.base c.args.handler.now) c.args.table.now.mode (bound_of c.args.depth) c.args.goals.now.items c.loop-step.goals.items c.requires.posed i.left i.runs.goes.extends (i.told s) c.evaluate_step.new.cx.nodes c.evaluate_step.new.table (rw (i.runs.goes.mode, c.deref.ensures.value) at (e.told (Since-later i.runs.goes.extends s)))
+
+pub try_evaluate_goals-loop-step-preserved : goal.try_evaluate_goals-loop-step-preserved
+try_evaluate_goals-loop-step-preserved g t c =
+    let i = c.loop-step.invariant in
+    let e = c.in_ok-stepped.ensures in
+    record {
+      runs = Runs-trans i.runs e.runs;
+      steps = omega (arith, c.loop-step-test.true, c.step_limit-step-end.ensures);
+      posed = e.posed;
+      left = left_trans c.args.goals.now.items c.loop-step.goals.items c.in_ok-stepped.stepped.left.items i.left (rw c.deref.ensures.value at e.left);
+      labels = only-trans i.labels (only_left c.args.goals.now.items c.loop-step.goals.items i.runs.goes.extends c.requires.posed i.left (rw c.deref.ensures.value at e.labels));
+      proved = λ s.
+          let i = c.loop-step.invariant in
+          let e = c.in_ok-stepped.ensures in
+          settled_step (λ ts. g.H.GoalHandler.handler ts c.args.handler.now) s c.args.table.now.mode c.args.goals.now.items c.loop-step.goals.items c.in_ok-stepped.stepped.left.items c.requires.posed i.runs.goes.extends e.runs.goes (i.proved s) (rw (i.runs.goes.mode, c.deref.ensures.value) at (e.proved (Since-later i.runs.goes.extends s)));
+      told = λ s.
+          let i = c.loop-step.invariant in
+          let e = c.in_ok-stepped.ensures in
+          reach_step c.loop-step.table (g.H.GoalHandler.handler s.base c.args.handler.now) c.args.table.now.mode (bound_of c.args.depth) c.args.goals.now.items c.loop-step.goals.items c.requires.posed i.left i.runs.goes.extends (i.told s) c.evaluate_step.new.cx.nodes c.evaluate_step.new.table (rw (i.runs.goes.mode, c.deref.ensures.value) at (e.told (Since-later i.runs.goes.extends s)));
+    }

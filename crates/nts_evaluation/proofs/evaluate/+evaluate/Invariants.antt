@@ -1,42 +1,71 @@
-use Rattle.std.proofs.Common.{◌≡◌, ◌+◌, ◌*◌, take}
+use Rattle.std.proofs.Common.{◌≡◌, ◌+◌, ◌*◌, ◌≤◌, take, map, []}
+use Rattle.std.specs.Prelude.{All}
 use Rattle.nts_model.specs.Passing.{BringsOnly}
 use Rattle.nts_unify.specs.Reading.{content_of}
+use Rattle.nts_terms.specs.Rest.{Grows}
+use Rattle.nts_response.specs.Forms.{response_at}
 use Rattle.nts_certainty.specs.declared.certainty.Certainty.TheVariants as certainty
-use Rattle.nts_terms.specs.Modes.{mode_of}
-use Rattle.nts_evaluation.specs.Running.{EquatesEach, Constrains, Proves}
-use Rattle.nts_evaluation.specs.Meant.{Since, meaning_since, AsksForced, AsksGained}
-use Rattle.nts_evaluation.specs.Evaluation.{Runs, AreValues, asked_terms}
-use Rattle.nts_evaluation.proofs.Forcing.{RunSoFar}
-use Rattle.nts_evaluation.proofs.Refuting.{SomeSoFar}
+use Rattle.nts_evaluation.specs.Meant.{Since, AreOffered, IsServedSince, IsProvedSince, HaveOutcomes, ReachesBy}
+use Rattle.nts_evaluation.specs.Found.{Found}
+use Rattle.nts_evaluation.specs.Stepping.{ArePosed, AreLeft, AreSettled, terms_of, bound_of}
+use Rattle.nts_evaluation.specs.Evaluation.{Runs}
 use Rattle.nts_evaluation.proofs.evaluate.+evaluate.Given as goal
 
 abbrev pub decreases-evaluate_goal : goal.decreases-evaluate_goal
-decreases-evaluate_goal g l = 6 * l.depth + 5
+decreases-evaluate_goal g l = 10 * l.depth + 8
 
 abbrev pub decreases-evaluate_query : goal.decreases-evaluate_query
-decreases-evaluate_query g l = 6 * l.depth + 4
+decreases-evaluate_query g l = 10 * l.depth + 7
 
 abbrev pub decreases-compute_goal : goal.decreases-compute_goal
-decreases-compute_goal g l = 6 * l.depth + 3
+decreases-compute_goal g l = 10 * l.depth + 6
 
 abbrev pub decreases-evaluate_candidates : goal.decreases-evaluate_candidates
-decreases-evaluate_candidates g l = 6 * l.depth + 2
+decreases-evaluate_candidates g l = 10 * l.depth + 5
+
+abbrev pub decreases-probe_candidate : goal.decreases-probe_candidate
+decreases-probe_candidate g l = 10 * l.depth + 4
 
 abbrev pub decreases-run_candidate : goal.decreases-run_candidate
-decreases-run_candidate g l = 6 * l.depth + 1
+decreases-run_candidate g l = 10 * l.depth + 3
 
-abbrev pub decreases-evaluate_nested : goal.decreases-evaluate_nested
-decreases-evaluate_nested g l = 6 * l.depth
+abbrev pub decreases-try_evaluate_goals : goal.decreases-try_evaluate_goals
+decreases-try_evaluate_goals g l = 10 * bound_of l.depth + 2
 
-abbrev pub invariant-run_candidate-loop-nested : goal.invariant-run_candidate-loop-nested
-invariant-run_candidate-loop-nested g l = record {
+abbrev pub decreases-evaluate_step : goal.decreases-evaluate_step
+decreases-evaluate_step g l = 10 * bound_of l.depth + 1
+
+abbrev pub decreases-evaluate_added : goal.decreases-evaluate_added
+decreases-evaluate_added g l = 10 * bound_of l.depth
+
+-- the first candidates have these responses, and the table is as before
+abbrev pub invariant-evaluate_candidates-loop-candidate : goal.invariant-evaluate_candidates-loop-candidate
+invariant-evaluate_candidates-loop-candidate g l = record {
+  same : l.table ≡ l.fn.table;
+  grows : Grows l.fn.cx l.cx;
+  found : All (Found (λ b u. (s : Since (λ ts. g.H.GoalHandler.ready ts l.handler) l.fn.cx.nodes) → AreOffered (g.H.GoalHandler.handler s.base l.handler) l.fn.table.mode l.fn.cx.nodes l.goal l.candidates → IsServedSince (λ ts. g.H.GoalHandler.handler ts l.handler) s l.fn.table.mode b u l.goal) l.fn.cx.nodes l.cx.nodes l.fn.table l.goal l.values) l.responses.items;
+  told : (s : Since (λ ts. g.H.GoalHandler.ready ts l.handler) l.fn.cx.nodes) → HaveOutcomes (g.H.GoalHandler.handler s.base l.handler) l.fn.table.mode l.depth l.fn.cx.nodes l.fn.table l.values (take l.candidate-index l.candidates) (map (response_at l.cx.nodes) l.responses.items);
+}
+
+-- the goals that are left, after the first steps
+abbrev pub invariant-try_evaluate_goals-loop-step : goal.invariant-try_evaluate_goals-loop-step
+invariant-try_evaluate_goals-loop-step g l = record {
   runs : Runs l.fn.cx l.cx l.fn.table l.table;
-  labels : BringsOnly (asked_terms l.fn.cx.nodes l.fn.goal) (content_of l.fn.cx.nodes l.fn.table.entries) (content_of l.cx.nodes l.table.entries);
-  values : AreValues l.cx.nodes l.table l.trial.fresh.now l.trial.values.now;
-  equal : EquatesEach l.fn.cx.nodes l.cx.nodes l.table l.trial.values.now l.candidate.equations.items;
-  held : Constrains l.fn.cx.nodes l.cx.nodes l.table l.trial.values.now l.candidate.region_constraints.items;
-  sure : l.certainty ≡ certainty.Yes → l.candidate.certainty ≡ certainty.Yes;
-  proved : (s : Since (λ ts. g.H.GoalHandler.ready ts l.handler) l.fn.cx.nodes) → l.certainty ≡ certainty.Yes → Proves (meaning_since (λ ts. g.H.GoalHandler.handler ts l.handler) s) (mode_of l.fn.table.mode) l.fn.cx.nodes l.cx.nodes l.table l.trial.values.now (take l.nested-index l.candidate.goals.items);
-  forced : (s : Since (λ ts. g.H.GoalHandler.ready ts l.handler) l.fn.cx.nodes) → l.certainty ≡ certainty.Yes → RunSoFar (AsksForced (g.H.GoalHandler.handler s.base l.handler) l.fn.table.mode l.depth) l.fn.cx.nodes l.cx.nodes l.fn.table l.table l.candidate l.trial.values.now l.nested-index;
-  some : (s : Since (λ ts. g.H.GoalHandler.ready ts l.handler) l.fn.cx.nodes) → SomeSoFar (AsksGained (g.H.GoalHandler.handler s.base l.handler) l.fn.table.mode l.depth) l.fn.cx.nodes l.cx.nodes l.fn.table l.table l.candidate l.trial.values.now l.nested-index;
+  steps : l.last_steps ≤ l.fn.cx.step_limit;
+  posed : ArePosed l.cx.nodes l.table l.goals.items;
+  left : AreLeft l.fn.goals.items l.goals.items;
+  labels : BringsOnly (terms_of l.fn.cx.nodes l.fn.goals.items) (content_of l.fn.cx.nodes l.fn.table.entries) (content_of l.cx.nodes l.table.entries);
+  proved : (s : Since (λ ts. g.H.GoalHandler.ready ts l.handler) l.fn.cx.nodes) → AreSettled (IsProvedSince (λ ts. g.H.GoalHandler.handler ts l.handler) s l.fn.table.mode l.cx.nodes l.table) l.fn.goals.items l.goals.items;
+  told : (s : Since (λ ts. g.H.GoalHandler.ready ts l.handler) l.fn.cx.nodes) → ReachesBy (g.H.GoalHandler.handler s.base l.handler) l.fn.table.mode (bound_of l.depth) l.fn.cx.nodes l.fn.table l.cx.nodes l.table l.fn.goals.items;
+}
+
+-- the first goals were asked in this step
+abbrev pub invariant-evaluate_step-loop-added : goal.invariant-evaluate_step-loop-added
+invariant-evaluate_step-loop-added g l = record {
+  runs : Runs l.fn.cx l.cx l.fn.table l.table;
+  left : AreLeft l.goals l.step.left.items;
+  labels : BringsOnly (terms_of l.fn.cx.nodes l.goals) (content_of l.fn.cx.nodes l.fn.table.entries) (content_of l.cx.nodes l.table.entries);
+  proved : (s : Since (λ ts. g.H.GoalHandler.ready ts l.handler) l.fn.cx.nodes) → AreSettled (IsProvedSince (λ ts. g.H.GoalHandler.handler ts l.handler) s l.fn.table.mode l.cx.nodes l.table) (take l.added-index l.goals) l.step.left.items;
+  sure : l.step.certainty ≡ certainty.Yes → l.step.left.items ≡ [];
+  told : (s : Since (λ ts. g.H.GoalHandler.ready ts l.handler) l.fn.cx.nodes) → ReachesBy (g.H.GoalHandler.handler s.base l.handler) l.fn.table.mode (bound_of l.depth) l.fn.cx.nodes l.fn.table l.cx.nodes l.table l.goals;
 }

@@ -32,19 +32,12 @@ returns-clause-proved g c = λ s y.
     rw (all.extends.kept c.args.goal.param_env.node c.requires.posed.holds.env.within, all.extends.kept c.args.goal.predicate.node c.requires.posed.holds.predicate.within)
     (unread _ _ _ _ all env predicate c.requires.posed.knows.env c.requires.posed.knows.predicate (a.proved (Since-later k.grows.extends s) y))
 
-pub returns-clause-forced : goal.returns-clause-forced
-returns-clause-forced g c = λ s y.
+pub returns-clause-told : goal.returns-clause-told
+returns-clause-told g c = λ s.
     let k = c.in_ok-asked.ensures in
     let here = content_of-extended k.grows.extends c.requires.posed.table.now in
     let limit = c.recursion_limit-depth.ensures ∙ k.grows.rest.limit in
-    rw (limit, here, k.env, k.predicate) at (c.in_ok-evaluated.ensures.forced (Since-later k.grows.extends s) y)
-
-pub returns-clause-gained : goal.returns-clause-gained
-returns-clause-gained g c = λ s.
-    let k = c.in_ok-asked.ensures in
-    let here = content_of-extended k.grows.extends c.requires.posed.table.now in
-    let limit = c.recursion_limit-depth.ensures ∙ k.grows.rest.limit in
-    rw (limit, here, k.env, k.predicate) at (c.in_ok-evaluated.ensures.gained (Since-later k.grows.extends s))
+    rw (limit, here, k.env, k.predicate) at (c.in_ok-evaluated.ensures.told (Since-later k.grows.extends s))
 
 pub returns-in_err-evaluated-clause-refuted : goal.returns-in_err-evaluated-clause-refuted
 returns-in_err-evaluated-clause-refuted g c = λ s q.

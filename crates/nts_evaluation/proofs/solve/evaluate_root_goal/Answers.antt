@@ -15,11 +15,8 @@ returns-clause-proved g c =
     let now = Stays-now c.terms_are_formed-2.ensures e.runs.goes.table (proved (record { base = c.args.cx.now.nodes; formed = c.terms_are_formed.ensures; extends = Extends-refl _; is_ready = c.requires.ready; variances = v }) y) in
     IsProved-held _ _ _ _ _ e.runs.goes.table.now.sound now)
 
-pub returns-clause-forced : goal.returns-clause-forced
-returns-clause-forced g c = c.evaluate_root-evaluated.ensures.forced (record { base = c.args.cx.now.nodes; formed = c.terms_are_formed.ensures; extends = Extends-refl _; is_ready = c.requires.ready; variances = λ i. [] })
-
-pub returns-clause-gained : goal.returns-clause-gained
-returns-clause-gained g c = c.evaluate_root-evaluated.ensures.gained (record { base = c.args.cx.now.nodes; formed = c.terms_are_formed.ensures; extends = Extends-refl _; is_ready = c.requires.ready; variances = λ i. [] })
+pub returns-clause-told : goal.returns-clause-told
+returns-clause-told g c = c.evaluate_root-evaluated.ensures.told (record { base = c.args.cx.now.nodes; formed = c.terms_are_formed.ensures; extends = Extends-refl _; is_ready = c.requires.ready; variances = λ i. [] })
 
 pub returns-clause-refuted : goal.returns-clause-refuted
 returns-clause-refuted g c = λ q.

@@ -2,7 +2,7 @@ use Rattle.std.proofs.Common.{◌≤◌, arith}
 use Rattle.nts_model.specs.Trees.{children, row_length}
 use Rattle.nts_store.specs.Growth.{tree_at}
 use Rattle.nts_evaluation.proofs.Asking.{closed_all}
-use Rattle.nts_evaluation.proofs.evaluate.statements_are_closed.Goals as goal
+use Rattle.nts_evaluation.proofs.asked.statements_are_closed.Goals as goal
 
 pub returns : goal.returns
 returns c = λ yes.

@@ -1,32 +1,29 @@
 use Rattle.std.proofs.Common.{◌∙◌}
-use Rattle.nts_unify.specs.Lawful.{content_of-extended}
 use Rattle.nts_table.specs.TableLaws.{IsTable-extended}
 use Rattle.nts_evaluation.proofs.Evaluating.{goal_posed, can_fill, instance_term, held_values}
-use Rattle.nts_evaluation.proofs.candidate.Trial.nested_goal.Goals as goal
+use Rattle.nts_evaluation.proofs.candidate.Trial.added_goal.Goals as goal
 use Rattle.nts_evaluation.proofs.Labels.{nested_only}
 
 pub instantiate_both-requires-clause-values : goal.instantiate_both-requires-clause-values
 instantiate_both-requires-clause-values c = held_values c.requires.values
 
-pub resolve_goal-requires : goal.resolve_goal-requires
-resolve_goal-requires c =
+pub returns-clause-posed : goal.returns-clause-posed
+returns-clause-posed c =
     let e = c.in_ok-env.ensures in
     let n = c.requires.nested in
     let p = c.requires.posed in
     let v = c.requires.values in
     goal_posed (IsTable-extended e.grows.extends p.table) (instance_term p.table (can_fill p n.env v) e.grows.extends e.left) (e.left.kind ∙ n.holds.env.fits) (instance_term p.table (can_fill p n.predicate v) e.grows.extends e.right) (e.right.kind ∙ n.holds.predicate.fits)
 
-pub returns-clause-asks : goal.returns-clause-asks
-returns-clause-asks c =
+pub returns-clause-goal : goal.returns-clause-goal
+returns-clause-goal c =
     let e = c.in_ok-env.ensures in
-    let k = c.in_ok-asked.ensures in
-    let same = content_of-extended e.grows.extends c.requires.posed.table.now in
     record {
-      env = rw (same, e.left.tree) at k.env;
-      predicate = rw (same, e.right.tree) at k.predicate;
+      env = e.left.tree;
+      predicate = e.right.tree;
       formed_env = rw e.left.tree at (e.left.formed _ e.left.within);
       formed_predicate = rw e.right.tree at (e.right.formed _ e.right.within);
     }
 
 pub returns-clause-labels : goal.returns-clause-labels
-returns-clause-labels c = nested_only _ c.requires.nested c.requires.values (returns-clause-asks c)
+returns-clause-labels c = nested_only c.requires.nested c.requires.values (returns-clause-goal c)

@@ -4,7 +4,7 @@ use Rattle.nts_model.specs.Sequents.{HasClosedStatements}
 use Rattle.nts_store.specs.Growth.{tree_at}
 use Rattle.nts_terms.specs.declared.kinds.PredicateKind.TheVariants as predicate
 use Rattle.nts_evaluation.proofs.Asking.{trait_asked}
-use Rattle.nts_evaluation.proofs.evaluate.is_candidates_goal.Goals as goal
+use Rattle.nts_evaluation.proofs.asked.is_candidates_goal.Goals as goal
 
 pub returns : goal.returns
 returns c = λ yes.

@@ -1,6 +1,6 @@
 use Rattle.std.proofs.Common.{◌≡◌, map, drop, ◌≤◌, length}
 use Rattle.nts_merging.specs.Merging.{doubt_of}
-use Rattle.nts_merging.proofs.floundering.doubt.Given as goal
+use Rattle.nts_merging.proofs.floundering.join_doubts.Given as goal
 
 abbrev pub decreases-loop-at : goal.decreases-loop-at
 decreases-loop-at l = l.at
