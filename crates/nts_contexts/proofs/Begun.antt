@@ -1,15 +1,15 @@
 -- Contexts as they begin.
-use Rattle.std.proofs.Common.{◌≡◌, ℕ, List, [], ◌∷◌, ◌++◌, None, false, refl, sym, ap, ◌∙◌, arith}
+use Rattle.std.proofs.Common.{◌≡◌, ℕ, List, [], None, false, arith}
 use Rattle.nts_model.specs.Trees.{Tree}
 use Rattle.nts_terms.specs.declared.cx.Cx.{Cx}
 use Rattle.nts_terms.specs.declared.handles.Goal.{Goal}
 use Rattle.nts_certainty.specs.declared.sources.GoalSource.{GoalSource}
 use Rattle.nts_table.specs.Tables.{Table, IsTable}
 use Rattle.nts_table.specs.TableLaws.{IsTable-opened}
-use Rattle.nts_evaluation.specs.Evaluation.{IsPosed}
 use Rattle.nts_evaluation.proofs.Evaluating.{IsPosed-opened}
 use Rattle.nts_contexts.specs.declared.context.EvalCtxt.{EvalCtxt}
-use Rattle.nts_contexts.specs.Contexts.{ArePosed, IsReady, IsOpened, IsCopy, IsProbe, IsRoot}
+use Rattle.nts_evaluation.specs.Stepping.{ArePosed}
+use Rattle.nts_contexts.specs.Contexts.{IsReady, IsOpened, IsCopy, IsProbe, IsRoot}
 
 -- no goals
 pub none_posed : {ts : List Tree} {t : Table} → ArePosed ts t []

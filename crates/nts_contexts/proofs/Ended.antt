@@ -1,7 +1,6 @@
 -- How contexts end.
-use Rattle.std.proofs.Common.{◌≡◌, List, [], ◌∷◌, ◌++◌, Option, Some, None, refl, sym, ap, ◌∙◌}
+use Rattle.std.proofs.Common.{◌≡◌, [], ◌∷◌, ◌++◌, Option, Some, None, refl, sym, ◌∙◌}
 use Rattle.std.specs.Prelude.{IfSome, Result, Ok, Err, OnOk, OnErr}
-use Rattle.nts_model.specs.Trees.{Tree}
 use Rattle.nts_store.specs.declared.fault.Fault.{Fault}
 use Rattle.nts_store.specs.declared.fault.Fault.TheVariants as fault
 use Rattle.nts_store.specs.declared.fault.EvalError.{EvalError}
@@ -11,7 +10,7 @@ use Rattle.nts_table.specs.Tables.{Table, IsTable}
 use Rattle.nts_terms.specs.declared.cx.Cx.{Cx}
 use Rattle.nts_evaluation.specs.Evaluation.{Goes, Runs}
 use Rattle.nts_evaluation.proofs.Evaluating.{ended, runs-back}
-use Rattle.nts_contexts.specs.Faults.{fault_of, fault_in, fault_after}
+use Rattle.nts_contexts.specs.Faults.{fault_in, fault_after}
 use Rattle.nts_contexts.specs.Contexts.{IsOpened}
 
 -- what is no fault is what was answered, without a fault before

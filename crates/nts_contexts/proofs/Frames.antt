@@ -1,5 +1,5 @@
 -- What contexts keep, composed.
-use Rattle.std.proofs.Common.{◌≡◌, ℕ, ◌<◌, zero, suc, arith, List, [], ◌∷◌, ◌++◌, length, map, Option, Some, None, refl, sym, ap, ◌∙◌, MutBor}
+use Rattle.std.proofs.Common.{◌≡◌, zero, suc, arith, List, [], ◌∷◌, ◌++◌, map, Option, Some, None, refl, ap, ◌∙◌, subst, MutBor}
 use Rattle.std.specs.Prelude.{IfSome, All, Result, Ok, Err, OnOk, OnErr}
 use Rattle.std.proofs.lemmas.List.Elements.{All-append, All-map}
 use Rattle.nts_model.specs.Trees.{Tree}
@@ -10,15 +10,17 @@ use Rattle.nts_terms.specs.declared.cx.Cx.{Cx}
 use Rattle.nts_terms.specs.declared.handles.Goal.{Goal}
 use Rattle.nts_certainty.specs.declared.sources.GoalSource.{GoalSource}
 use Rattle.nts_table.specs.Tables.{Table, IsTable, RelatingKeeps}
-use Rattle.nts_evaluation.specs.Evaluation.{Goes, Runs, IsPosed}
+use Rattle.nts_evaluation.specs.Evaluation.{Runs, IsPosed}
 use Rattle.nts_model.specs.Equations.{AreRelated}
 use Rattle.nts_unify.specs.Reading.{content_of}
 use Rattle.nts_unify.proofs.Keeping.{closed_later}
-use Rattle.nts_evaluation.proofs.Evaluating.{IsPosed-later, Runs-trans, Runs-refl, runs-back, goes}
+use Rattle.nts_evaluation.proofs.Evaluating.{Runs-trans, Runs-refl, runs-back, goes}
+use Rattle.nts_evaluation.proofs.Stepping.{posed_later}
 use Rattle.nts_contexts.specs.declared.state.EvalState.{EvalState}
 use Rattle.nts_contexts.specs.declared.context.EvalCtxt.{EvalCtxt}
 use Rattle.nts_contexts.specs.Faults.{fault_after}
-use Rattle.nts_contexts.specs.Contexts.{ArePosed, IsReady, Keeps}
+use Rattle.nts_evaluation.specs.Stepping.{ArePosed}
+use Rattle.nts_contexts.specs.Contexts.{IsReady, Keeps}
 
 fault-kept : (a b c : Option Fault) → IfSome a (λ f. b ≡ Some f) → IfSome b (λ f. c ≡ Some f) → IfSome a (λ f. c ≡ Some f)
 fault-kept None b c h k = tt
@@ -37,10 +39,6 @@ keeps_then {H} {ready} {a} {b} {c} g h =
       taint = λ t. h.taint (g.taint t);
       depth = h.depth ∙ g.depth;
     }
-
--- goals of an earlier table
-pub posed_later : {a b : List Tree} {t u : Table} (gs : List (GoalSource × Goal)) → Goes a b t u → ArePosed a t gs → ArePosed b u gs
-posed_later gs s h = λ k d l. IsPosed-later s (h k d l)
 
 -- one goal more, and more goals
 one_posed : {ts : List Tree} {t : Table} (g : GoalSource × Goal) → IsPosed ts t g.1 → ArePosed ts t (g ∷ [])
@@ -132,3 +130,7 @@ keeps_ran {H} {ready} {a} {b} m f law h nt nc nh ns k s p none t d =
       taint = λ x. ap (λ (z : EvalState). z.is_tainted) s ∙ t ∙ x;
       depth = ap (λ (z : EvalState). z.root_depth) s ∙ d;
     }
+
+-- a call that was answered met no fault
+pub none_after : {R : Type 0} {f : Option Fault} (o : Option Fault) (x : R) → o ≡ None → f ≡ fault_after o (let r : Result R EvalError = Ok x in r) → f ≡ None
+none_after {R} {f} o x e h = subst (λ z. f ≡ fault_after z (let r : Result R EvalError = Ok x in r)) e h

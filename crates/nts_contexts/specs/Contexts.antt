@@ -1,5 +1,5 @@
 -- The context of an evaluation, as its callers see it.
-use Rattle.std.specs.Prelude.{◌≡◌, ℕ, List, [], ◌∷◌, ◌++◌, All, Option, Some, None, IfSome, Bool, true, false, Result, OnOk}
+use Rattle.std.specs.Prelude.{◌≡◌, ℕ, List, [], ◌∷◌, ◌++◌, Some, None, IfSome, true, false, Result, OnOk}
 use Rattle.std.specs.Borrow.{MutBor}
 use Rattle.nts_model.specs.Trees.{Tree}
 use Rattle.nts_model.specs.Contents.{Content}
@@ -7,10 +7,10 @@ use Rattle.nts_store.specs.declared.nodes.NodeId.{NodeId}
 use Rattle.nts_store.specs.Growth.{tree_at}
 use Rattle.nts_terms.specs.declared.cx.Cx.{Cx}
 use Rattle.nts_terms.specs.declared.handles.Goal.{Goal}
-use Rattle.nts_certainty.specs.declared.sources.GoalSource.{GoalSource}
 use Rattle.nts_unify.specs.Reading.{content_of}
 use Rattle.nts_table.specs.Tables.{Table, IsTable}
 use Rattle.nts_evaluation.specs.Evaluation.{Runs, IsPosed}
+use Rattle.nts_evaluation.specs.Stepping.{ArePosed}
 use Rattle.nts_contexts.specs.declared.state.EvalState.{EvalState}
 use Rattle.nts_contexts.specs.declared.context.EvalCtxt.{EvalCtxt}
 
@@ -24,10 +24,6 @@ tree_in c n = tree_at c.cx.now.nodes n
 -- a goal of the context's store and table
 abbrev pub IsGoalOf : {H : Type 0} → EvalCtxt H → Goal → Type 0
 IsGoalOf c g = IsPosed c.cx.now.nodes c.table.now g
-
--- goals of a store and a table, each with its source
-abbrev pub ArePosed : List Tree → Table → List (GoalSource × Goal) → Type 0
-ArePosed ts t gs = All (λ g. IsPosed ts t g.1) gs
 
 -- the context's table, goals and handler are of its store
 pub record IsReady {H : Type 0} (ready : List Tree → H → Type 0) (c : EvalCtxt H) : Type 0 where

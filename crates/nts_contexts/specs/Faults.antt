@@ -1,5 +1,5 @@
 -- The fault that a context keeps.
-use Rattle.std.specs.Prelude.{◌≡◌, Option, Some, None, Result, Ok, Err}
+use Rattle.std.specs.Prelude.{◌≡◌, Bool, true, Option, Some, None, Result, Ok, Err}
 use Rattle.nts_store.specs.declared.fault.Fault.{Fault}
 use Rattle.nts_store.specs.declared.fault.Fault.TheVariants as fault
 use Rattle.nts_store.specs.declared.fault.EvalError.{EvalError}
@@ -24,3 +24,8 @@ fault_after None r = fault_in r
 -- what was answered is no fault
 abbrev pub AnsweredNoFault : {R : Type 0} → Result R EvalError → Type 0
 AnsweredNoFault r = fault_in r ≡ None
+
+-- a context is tainted once goals that were added to it have no solution
+abbrev pub tainted_after : {R : Type 0} → Bool → Result R EvalError → Bool
+tainted_after b (Err error.NoSolution) = true
+tainted_after b r = b

@@ -3,6 +3,7 @@
 #![tactic(auto, using(crate::proofs::Frames::keeps_then))]
 
 mod context;
+mod evaluating;
 mod goals;
 mod relating;
 mod state;

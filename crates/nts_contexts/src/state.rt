@@ -2,12 +2,13 @@
 ghost use Rattle.std.specs.Prelude.{◌≡◌, None, Some, Ok, IfOk, IfErr, IfSome, IsSome, OnOk, OnErr, ◌++◌, ◌∷◌, [], map};
 ghost use Rattle.nts_store.specs.Errors.{error_of};
 ghost use Rattle.nts_contexts.specs.Contexts.{IsCopy};
-ghost use Rattle.nts_contexts.specs.Faults.{fault_of, fault_in, fault_after};
+ghost use Rattle.nts_contexts.specs.Faults.{fault_of, fault_in, fault_after, tainted_after};
 
 use nts_certainty::GoalSource;
 use nts_store::{EvalError, Fault};
 use nts_terms::{Goal, Span};
 use std::alloc::{AllocError, Global};
+use std::mem;
 
 /// What a context keeps for itself.
 #[derive(Drop)]
@@ -73,6 +74,33 @@ impl EvalState {
             Some(fault) => Err(fault.into()),
             None => answer,
         }
+    }
+
+    /// Takes the goals out, so that they can be evaluated.
+    pub(crate) fn take_goals(&mut self, alloc: Global) -> Vec<(GoalSource, Goal)>
+        ensures goals { result.items ≡ self.old.nested_goals.items }
+        ensures left { self.new ≡ record self.old { nested_goals = self.new.nested_goals } }
+    {
+        mem::replace(&mut self.nested_goals, Vec::new(alloc))
+    }
+
+    /// Puts back the goals that are left after so many steps, and hands on what the steps answered: a fault is kept if it is
+    /// the first one, and that there is no solution taints the context.
+    pub(crate) fn end_steps<R>(
+        &mut self,
+        goals: Vec<(GoalSource, Goal)>,
+        last_steps: usize,
+        answer: Result<R, EvalError>,
+    ) -> Result<R, EvalError>
+        ensures same { result ≡ answer }
+        ensures state { self.new ≡ record self.old { nested_goals = goals; last_steps = last_steps; is_tainted = tainted_after self.old.is_tainted answer; fault = fault_after self.old.fault answer } }
+    {
+        self.nested_goals = goals;
+        self.last_steps = last_steps;
+        if let Err(EvalError::NoSolution) = &answer {
+            self.is_tainted = true;
+        }
+        self.note(answer)
     }
 
     /// A state with the same goals and taint, for a probe.

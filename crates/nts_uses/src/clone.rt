@@ -37,7 +37,7 @@ pub(crate) fn holds_for(
 /// Adds a rule: over variables of these sorts the trait holds for the argument where the conditions hold. It answers
 /// whether the rule fits.
 #[tactic(auto, using(nts_evaluation::proofs::Asking::asking))]
-fn add_rule(
+pub(crate) fn add_rule(
     cx: &mut Cx,
     rules: &mut Clauses,
     fresh: Vec<Sort>,

@@ -1,23 +1,24 @@
 //! A rule that is written in a context: two types are made one, and a goal is asked for.
-ghost use Rattle.std.specs.Prelude.{◌≡◌, OnOk, OnErr};
+ghost use Rattle.std.specs.Prelude.{◌≡◌, true, IfOk, OnOk, OnErr};
 ghost use Rattle.nts_model.specs.Trees.{any_argument};
 ghost use Rattle.nts_delegate.specs.Clauses.{AreReady};
-ghost use Rattle.nts_table.specs.Tables.{IsTable, IsSide};
+ghost use Rattle.nts_table.specs.Tables.{IsTable, IsPlainSide};
 ghost use Rattle.nts_terms.specs.Handles.{HoldsGoal};
+ghost use Rattle.nts_terms.specs.Rest.{Grows};
 ghost use Rattle.nts_evaluation.specs.Evaluation.{IsPosed};
 ghost use Rattle.nts_contexts.specs.Contexts.{IsReady, Keeps, IsGoalOf};
 
-use crate::clone::{holds_for, vec_of};
+use crate::clone::{add_rule, holds_for, vec_of};
 use next_trait_solver::clauses::Clauses;
 use next_trait_solver::solve::{EvalCtxt, goal_is_admitted};
 use next_trait_solver::ty::{
-    Cx, EvalError, GenericArg, Goal, GoalSource, InferCtxt, Sort, Span, TyKind, TypingMode, UintTy,
-    Variance,
+    Certainty, Cx, EvalError, GenericArg, Goal, GoalSource, InferCtxt, Sort, Span, TyKind,
+    TypingMode, UintTy, Variance,
 };
 use std::alloc::Global;
 
-/// Makes two types one in the table, and answers how many goals a rule about them leaves: the goal is added in a probe, since
-/// a root context is left without goals. Where the types cannot be made one, the table is as before.
+/// Makes two types one in the table, and answers how sure a rule about them is: its goal is added and evaluated in a probe, since
+/// a root context is left without goals. Where the types cannot be made one, or the goal has no solution, the table is as before.
 #[tactic(auto, using(nts_contexts::proofs::Handed::handed, nts_contexts::proofs::Frames::keeps_then))]
 pub fn use_rule(
     table: &mut InferCtxt,
@@ -26,11 +27,11 @@ pub fn use_rule(
     lhs: GenericArg,
     rhs: GenericArg,
     goal: Goal,
-) -> Result<usize, EvalError>
+) -> Result<Certainty, EvalError>
     requires table { IsTable cx.old.nodes table.old }
     requires ready { AreReady cx.old.nodes rules.now }
-    requires left { IsSide any_argument cx.old.nodes table.old lhs.node }
-    requires right { IsSide any_argument cx.old.nodes table.old rhs.node }
+    requires left { IsPlainSide any_argument cx.old.nodes table.old lhs.node }
+    requires right { IsPlainSide any_argument cx.old.nodes table.old rhs.node }
     requires goal { IsPosed cx.old.nodes table.old goal }
     ensures err { OnErr result (table.new ≡ table.old) }
 {
@@ -41,30 +42,47 @@ pub fn use_rule(
         rules,
         depth,
         Span(0),
-        |ecx: &mut EvalCtxt<'_, Clauses>| -> Result<usize, EvalError>
+        |ecx: &mut EvalCtxt<'_, Clauses>| -> Result<Certainty, EvalError>
             requires ready { IsReady AreReady ecx.old }
-            requires left { IsSide any_argument ecx.old.cx.now.nodes ecx.old.table.now lhs.node }
-            requires right { IsSide any_argument ecx.old.cx.now.nodes ecx.old.table.now rhs.node }
+            requires left { IsPlainSide any_argument ecx.old.cx.now.nodes ecx.old.table.now lhs.node }
+            requires right { IsPlainSide any_argument ecx.old.cx.now.nodes ecx.old.table.now rhs.node }
             requires goal { IsGoalOf ecx.old goal }
             ensures keeps { Keeps AreReady ecx.old ecx.new }
             ensures goals { OnOk result (ecx.new.state.now.nested_goals.items ≡ ecx.old.state.now.nested_goals.items) }
         {
-            ecx.eq_structurally_relating_aliases(goal.param_env, lhs, rhs)?;
+            ecx.eq(goal.param_env, lhs, rhs)?;
             ecx.probe(
-                |probe: &mut EvalCtxt<'_, Clauses>| -> Result<usize, EvalError>
+                |probe: &mut EvalCtxt<'_, Clauses>| -> Result<Certainty, EvalError>
                     requires ready { IsReady AreReady probe.old }
                     requires goal { IsGoalOf probe.old goal }
                     ensures keeps { Keeps AreReady probe.old probe.new }
                 {
                     probe.add_goal(GoalSource::Misc, goal)?;
-                    Ok(probe.state.nested_goals.len())
+                    let certainty = probe.try_evaluate_added_goals()?;
+                    let response = probe.evaluate_added_goals_and_make_canonical_response(
+                        certainty,
+                    )?;
+                    Ok(response.value.certainty)
                 },
             )
         },
     )
 }
 
-/// Uses the rule, where its types are of the table and its goal may be asked.
+/// Whether an argument is of the table, and no alias stands in it.
+fn is_plain(table: &InferCtxt, cx: &mut Cx, argument: GenericArg) -> Result<bool, EvalError>
+    requires table { IsTable cx.old.nodes table.now }
+    ensures plain { IfOk result (λ b. b ≡ true → IsPlainSide any_argument cx.new.nodes table.now argument.node) }
+    ensures grows { Grows cx.old cx.new }
+{
+    if !cx.holds(argument) || !table.knows(cx, argument)? {
+        return Ok(false);
+    }
+    let has_alias = table.has_alias(cx, argument)?;
+    Ok(!has_alias)
+}
+
+/// Uses the rule, where its types are of the table and no alias stands in them, and its goal may be asked.
 #[tactic(auto, using(crate::proofs::Asked::asked))]
 fn try_rule(
     table: &mut InferCtxt,
@@ -73,7 +91,7 @@ fn try_rule(
     lhs: GenericArg,
     rhs: GenericArg,
     goal: Goal,
-) -> Result<Option<usize>, EvalError>
+) -> Result<Option<Certainty>, EvalError>
     requires table { IsTable cx.old.nodes table.old }
     requires ready { AreReady cx.old.nodes rules.now }
     requires goal { HoldsGoal cx.old.nodes goal }
@@ -81,22 +99,19 @@ fn try_rule(
     if !goal_is_admitted(table, cx, goal)? {
         return Ok(None);
     }
-    if !cx.holds(lhs) || !table.knows(cx, lhs)? {
-        return Ok(None);
-    }
-    if !cx.holds(rhs) || !table.knows(cx, rhs)? {
+    if !is_plain(table, cx, lhs)? || !is_plain(table, cx, rhs)? {
         return Ok(None);
     }
     Ok(Some(use_rule(table, cx, rules, lhs, rhs, goal)?))
 }
 
-/// How many goals the rule leaves that makes `Vec(T)` and `Vec(u32)` one for an unknown `T`, which is to be `Clone`: one. There is no
-/// answer where a term does not fit.
+/// How sure the rule is that makes `Vec(T)` and `Vec(u32)` one for an unknown `T`, which is to be `Clone`, where `u32` is: `Yes`. There
+/// is no answer where a term does not fit.
 #[tactic(auto, using(nts_evaluation::proofs::Asking::asking, nts_terms::proofs::Moved::growth))]
-pub fn rule_of_vec(alloc: Global) -> Result<Option<usize>, EvalError> {
+pub fn rule_of_vec(alloc: Global) -> Result<Option<Certainty>, EvalError> {
     let mut cx = Cx::new(alloc);
     let mut table = InferCtxt::new(alloc, TypingMode::PostAnalysis);
-    let rules = Clauses::new(alloc);
+    let mut rules = Clauses::new(alloc);
     let clone = cx.declare_trait(&[Sort::Ty])?;
     let vec = cx.declare_ctor(&[Sort::Ty], &[Variance::Covariant])?;
     let element: GenericArg = table.next_ty_infer(&mut cx)?.into();
@@ -121,6 +136,20 @@ pub fn rule_of_vec(alloc: Global) -> Result<Option<usize>, EvalError> {
         param_env,
         predicate,
     };
+    if !cx.holds(word) {
+        return Ok(None);
+    }
+    let none = Vec::new(alloc);
+    if !add_rule(
+        &mut cx,
+        &mut rules,
+        none,
+        clone,
+        word.into(),
+        Vec::new(alloc),
+    )? {
+        return Ok(None);
+    }
     if !cx.holds(goal.predicate) {
         return Ok(None);
     }

@@ -1,4 +1,4 @@
-use Rattle.std.proofs.Common.{rules, arith, sym, ap, ◌∙◌, ◌∷◌, [], length, length-append, MutBor}
+use Rattle.std.proofs.Common.{arith, sym, ap, ◌∷◌, [], length, length-append, MutBor}
 use Rattle.nts_terms.specs.declared.cx.Cx.{Cx}
 use Rattle.nts_evaluation.proofs.Evaluating.{rolled_back}
 use Rattle.nts_contexts.specs.declared.state.EvalState.{EvalState}

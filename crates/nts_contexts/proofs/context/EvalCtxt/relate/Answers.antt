@@ -1,5 +1,4 @@
 use Rattle.std.proofs.Common.{refl}
-use Rattle.nts_contexts.specs.Contexts.{Keeps}
 use Rattle.nts_contexts.proofs.Frames.{keeps_refl, keeps_then, keeps_ran, related_runs}
 use Rattle.nts_contexts.proofs.context.EvalCtxt.relate.Goals as goal
 

@@ -6,7 +6,7 @@ use Rattle.nts_uses.proofs.rule.fn.use_rule.enter_root.Goals as goal
 
 pub probe-requires : goal.probe-requires
 probe-requires c =
-    let e = c.in_ok-eq_structurally_relating_aliases.ensures in
+    let e = c.in_ok-eq.ensures in
     record {
       ready = e.keeps.is_ready;
       callable = λ before p. (p.is_ready, goal_in_probe p (goal_later e.keeps c.requires.goal));
@@ -15,7 +15,7 @@ probe-requires c =
 
 pub returns : goal.returns
 returns c =
-    let e = c.in_ok-eq_structurally_relating_aliases.ensures in
+    let e = c.in_ok-eq.ensures in
     record {
       keeps = keeps_then e.keeps c.probe.ensures.keeps;
       goals = on_ok c.probe.result (c.probe.ensures.goals ∙ e.goals);

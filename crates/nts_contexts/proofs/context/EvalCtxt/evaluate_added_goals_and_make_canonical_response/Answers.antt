@@ -1,0 +1,45 @@
+use Rattle.std.proofs.Common.{refl}
+use Rattle.nts_unify.specs.Lawful.{content_of-extended}
+use Rattle.nts_evaluation.proofs.Evaluating.{Goes-extends, Runs-extends}
+use Rattle.nts_evaluation.proofs.Stepping.{settled_later}
+use Rattle.nts_contexts.proofs.Frames.{keeps_refl, keeps_then, keeps_ran, none_after}
+use Rattle.nts_contexts.proofs.context.EvalCtxt.evaluate_added_goals_and_make_canonical_response.Goals as goal
+
+pub returns-in_err-check-clause-keeps : goal.returns-in_err-check-clause-keeps
+returns-in_err-check-clause-keeps g c = keeps_refl c.requires.ready
+
+pub returns-then-self-clause-keeps : goal.returns-then-self-clause-keeps
+returns-then-self-clause-keeps g c = keeps_refl c.requires.ready
+
+pub returns-in-Ok-clause-keeps : goal.returns-in-Ok-clause-keeps
+returns-in-Ok-clause-keeps g c =
+    let e = c.in_ok-goals_certainty.ensures in
+    let m = c.in-Ok.ensures in
+    let h = e.keeps.is_ready in
+    let none = none_after c.args.self.now.state.now.fault c.in_ok-goals_certainty.goals_certainty c.in_ok-check.ensures.ok e.fault in
+    keeps_then e.keeps
+    (keeps_ran c.try_evaluate_added_goals.new.self.state.now _ g.met.H.GoalHandler.ready_kept h refl refl refl refl (Runs-extends h.table m.grows.extends m.grows.rest) refl h.goals none refl refl)
+
+pub returns-in-Err-clause-keeps : goal.returns-in-Err-clause-keeps
+returns-in-Err-clause-keeps g c =
+    let e = c.in_ok-goals_certainty.ensures in
+    let m = c.in-Err.ensures in
+    let h = e.keeps.is_ready in
+    let none = none_after c.args.self.now.state.now.fault c.in_ok-goals_certainty.goals_certainty c.in_ok-check.ensures.ok e.fault in
+    keeps_then e.keeps
+    (keeps_ran c.try_evaluate_added_goals.new.self.state.now _ g.met.H.GoalHandler.ready_kept h refl refl refl refl (Runs-extends h.table m.grows.extends m.grows.rest) c.note.ensures.fault h.goals none refl refl)
+
+pub returns-in-Ok-clause-proved : goal.returns-in-Ok-clause-proved
+returns-in-Ok-clause-proved g c = λ s.
+    let e = c.in_ok-goals_certainty.ensures in
+    let m = c.in-Ok.ensures in
+    let k = e.keeps.runs in
+    settled_later {u = c.try_evaluate_added_goals.new.self.table.now} {v = c.try_evaluate_added_goals.new.self.table.now} (λ ts. g.H.GoalHandler.handler ts c.args.self.now.handler.now) s c.args.self.now.table.now.mode c.args.self.now.state.now.nested_goals.items c.try_evaluate_added_goals.new.self.state.now.nested_goals.items
+    c.requires.ready.goals k.goes.extends (Goes-extends e.keeps.is_ready.table m.grows.extends) (e.proved s)
+
+pub returns-in-Ok-clause-says : goal.returns-in-Ok-clause-says
+returns-in-Ok-clause-says g c =
+    let e = c.in_ok-goals_certainty.ensures in
+    let m = c.in-Ok.ensures in
+    let h = e.keeps.is_ready in
+    rw (← m.certainty, ← content_of-extended m.grows.extends h.table.now) at m.says

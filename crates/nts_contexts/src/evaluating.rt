@@ -1,0 +1,81 @@
+//! Goals of a context are evaluated.
+ghost use Rattle.std.specs.Prelude.{◌≡◌, ◌≤◌, ◌+◌, true, [], None, Ok, Err, IfOk, IfSome, OnOk};
+ghost use Rattle.nts_certainty.specs.declared.certainty.Certainty.TheVariants as certainty;
+ghost use Rattle.nts_store.specs.Errors.{error_of};
+ghost use Rattle.nts_response.specs.Forms.{response_at, HoldsResponse};
+ghost use Rattle.nts_evaluation.specs.Asking.{IsResponseOf};
+ghost use Rattle.nts_evaluation.specs.Answering.{told_in};
+ghost use Rattle.nts_evaluation.specs.Meant.{Since, IsProvedSince, ReachesBy, RefusesOneOf};
+ghost use Rattle.nts_evaluation.specs.Stepping.{AreLeft, AreSettled};
+ghost use Rattle.nts_contexts.specs.Faults.{fault_after, tainted_after};
+ghost use Rattle.nts_contexts.specs.Contexts.{IsReady, Keeps, content_in};
+
+use crate::context::EvalCtxt;
+use nts_certainty::Certainty;
+use nts_delegate::GoalHandler;
+use nts_evaluation::{AvailableDepth, make_response, try_evaluate_goals};
+use nts_response::CanonicalResponse;
+use nts_store::EvalError;
+
+impl<H: GoalHandler> EvalCtxt<'_, H> {
+    /// Evaluates the goals that were added, in steps, until a step finds nothing out, or as often as the store's limit says: then
+    /// it is an overflow. The goals that are not proved are left. After `NoSolution` the context is tainted.
+    pub fn try_evaluate_added_goals(&mut self) -> Result<Certainty, EvalError>
+        requires ready { IsReady H.ready self.old }
+        ensures keeps { Keeps H.ready self.old self.new }
+        ensures steps { self.old.state.now.fault ≡ None → self.new.state.now.last_steps ≤ self.old.cx.now.step_limit }
+        ensures left { AreLeft self.old.state.now.nested_goals.items self.new.state.now.nested_goals.items }
+        ensures proved { (s : Since (λ ts. H.ready ts self.old.handler.now) self.old.cx.now.nodes) → OnOk result (AreSettled (IsProvedSince (λ ts. H.handler ts self.old.handler.now) s self.old.table.now.mode self.new.cx.now.nodes self.new.table.now) self.old.state.now.nested_goals.items self.new.state.now.nested_goals.items) }
+        ensures sure { result ≡ Ok certainty.Yes → self.new.state.now.nested_goals.items ≡ [] }
+        ensures told { (s : Since (λ ts. H.ready ts self.old.handler.now) self.old.cx.now.nodes) → OnOk result (ReachesBy (H.handler s.base self.old.handler.now) self.old.table.now.mode (self.old.state.now.root_depth + 1) self.old.cx.now.nodes self.old.table.now self.new.cx.now.nodes self.new.table.now self.old.state.now.nested_goals.items) }
+        ensures refuted { (s : Since (λ ts. H.ready ts self.old.handler.now) self.old.cx.now.nodes) → result ≡ Err EvalError.NoSolution → RefusesOneOf (H.handler s.base self.old.handler.now) self.old.table.now.mode (self.old.state.now.root_depth + 1) self.old.cx.now.nodes self.old.table.now self.old.state.now.nested_goals.items }
+        ensures taint { self.new.state.now.is_tainted ≡ tainted_after self.old.state.now.is_tainted result }
+        ensures fault { self.new.state.now.fault ≡ fault_after self.old.state.now.fault result }
+        ensures faulted { IfSome self.old.state.now.fault (λ f. result ≡ Err (error_of f)) }
+    {
+        self.state.check()?;
+        let alloc = self.cx.alloc;
+        let depth = AvailableDepth::Root(self.state.root_depth);
+        let mut goals = self.state.take_goals(alloc);
+        let mut last_steps = 0;
+        let mut has_overflowed = false;
+        let evaluated = try_evaluate_goals(
+            self.table,
+            self.cx,
+            self.handler,
+            &mut goals,
+            depth,
+            &mut last_steps,
+            &mut has_overflowed,
+        );
+        self.state.end_steps(goals, last_steps, evaluated)
+    }
+
+    /// Evaluates the goals that were added, and answers what a context without values found out: its region constraints where all
+    /// is certain, and how sure it is. A context that is tainted has no solution.
+    pub fn evaluate_added_goals_and_make_canonical_response(
+        &mut self,
+        shallow_certainty: Certainty,
+    ) -> Result<CanonicalResponse, EvalError>
+        requires ready { IsReady H.ready self.old }
+        ensures keeps { Keeps H.ready self.old self.new }
+        ensures left { AreLeft self.old.state.now.nested_goals.items self.new.state.now.nested_goals.items }
+        ensures proved { (s : Since (λ ts. H.ready ts self.old.handler.now) self.old.cx.now.nodes) → OnOk result (AreSettled (IsProvedSince (λ ts. H.handler ts self.old.handler.now) s self.old.table.now.mode self.new.cx.now.nodes self.new.table.now) self.old.state.now.nested_goals.items self.new.state.now.nested_goals.items) }
+        ensures certain { IfOk result (λ r. r.value.certainty ≡ certainty.Yes → (shallow_certainty ≡ certainty.Yes) × (self.new.state.now.nested_goals.items ≡ [])) }
+        ensures says { IfOk result (λ r. IsResponseOf (told_in r.value.certainty (content_in self.new)) [] (response_at self.new.cx.now.nodes r)) }
+        ensures holds { IfOk result (λ r. HoldsResponse self.new.cx.now.nodes r.value) }
+        ensures tainted { self.old.state.now.fault ≡ None → self.old.state.now.is_tainted ≡ true → result ≡ Err EvalError.NoSolution }
+        ensures faulted { IfSome self.old.state.now.fault (λ f. result ≡ Err (error_of f)) }
+    {
+        self.state.check()?;
+        if self.state.is_tainted {
+            return Err(EvalError::NoSolution);
+        }
+        let goals_certainty = self.try_evaluate_added_goals()?;
+        let certainty = shallow_certainty.and(goals_certainty);
+        match make_response(self.table, self.cx, &[], certainty) {
+            Ok(response) => Ok(response),
+            Err(fault) => self.state.note(Err(EvalError::from(fault))),
+        }
+    }
+}
