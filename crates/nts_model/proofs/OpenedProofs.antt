@@ -76,22 +76,22 @@ binds_some s ss t u e = cc e
 module _ (h : Handler) (V : ℕ → List Variance) (mode : Mode) (c : Content) (s : IsSound c) (t : HoldsTerms c) (k : AreConstraintsOf c) where
   module _ (e sort sorts u : Tree) (f : Sort → ℕ → Leaf) (asked : IsAsked e (unbound (opened f 0 u))) (ke : IsTermOf c e) (kg : IsTermOf c (bound (more sort sorts) u)) (ko : IsTermOf c (unbound (opened f 0 u)))
       (closed : IsClosed (bound (more sort sorts) u)) (fresh : AreFresh (pair (deeply_resolved c e) (deeply_resolved c (bound (more sort sorts) u))) f) (d : Candidate) (x : HoldsCandidate (meaning h V) mode c d) where
-    abbrev goal : Tree
+    abbrev pub goal : Tree
     goal = bound (more sort sorts) u
 
-    abbrev read : Tree → Tree
+    abbrev pub read : Tree → Tree
     read = instance_of (reading_of c s t)
 
-    goal_reads : deeply_resolved c goal ≡ bound (more (read sort) (read sorts)) (read u)
+    pub goal_reads : deeply_resolved c goal ≡ bound (more (read sort) (read sorts)) (read u)
     goal_reads = sym (instance_of-reading c s t goal kg.knows kg.formed)
 
-    statement_reads : read asked.statement ≡ opened f 0 (read u)
+    pub statement_reads : read asked.statement ≡ opened f 0 (read u)
     statement_reads =
         let r = reading_of c s t in
         ap read (sym (one_statement (opened f 0 u) asked.statement asked.binds_nothing))
         ∙ replaced_opened r.value r.closed f (λ o n. reading-leaf c s t (f o n) ∙ reads_leaf c (f o n) (fresh.placeholders o n)) 0 u
 
-    binder_terms : IsOfTerms (sequent_at c e goal)
+    pub binder_terms : IsOfTerms (sequent_at c e goal)
     binder_terms =
         let envs = closed_here h V mode c s t k e (unbound (opened f 0 u)) asked ke ko d x in
         let known = Knows-deeply_resolved c goal s kg.knows in

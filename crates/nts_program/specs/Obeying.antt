@@ -31,6 +31,7 @@ pub record IsNewProgram (p : Program) : Type 0 where
   pub declarations : p.cx.declarations ≡ nothing_declared
   pub depth : p.cx.recursion_limit ≡ 128
   pub steps : p.cx.step_limit ≡ 8
+  pub rounds : p.cx.round_limit ≡ 8
   pub division : p.cx.depth_division ≡ 4
   pub fast_paths : p.cx.disable_fast_paths ≡ false
   pub clauses : (i : ℕ) → clauses_of p.clauses i ≡ []

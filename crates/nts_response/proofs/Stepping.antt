@@ -111,11 +111,11 @@ arg_later {a} {b} {t} {u} {x} k h =
 
 -- the nodes grew, and terms of them were made equal
 pub nodes_grown : (a : Cx) (ns : List Tree) (t : Table) → IsTable a.nodes t → Extends a.nodes ns → StepKeeps a (record a { nodes = ns }) t t
-nodes_grown a ns t h e = step_grows a (record a { nodes = ns }) t t h (record { extends = e; rest = record { declarations = refl; limit = refl; steps = refl; division = refl; fast_paths = refl } }) refl
+nodes_grown a ns t h e = step_grows a (record a { nodes = ns }) t t h (record { extends = e; rest = record { declarations = refl; limit = refl; steps = refl; rounds = refl; division = refl; fast_paths = refl } }) refl
 
 pub nodes_related : (a : Cx) (ns ms : List Tree) (t u : Table) → IsTable a.nodes t → Extends a.nodes ns → Extends ns ms → IsTable ms u → ChangesVariables t u → IsLater (content_of ns t.entries) (content_of ms u.entries) → StepKeeps a (record a { nodes = ms }) t u
 nodes_related a ns ms t u h e f i c l = record {
-  grows = record { extends = Extends-trans e f; rest = record { declarations = refl; limit = refl; steps = refl; division = refl; fast_paths = refl } };
+  grows = record { extends = Extends-trans e f; rest = record { declarations = refl; limit = refl; steps = refl; rounds = refl; division = refl; fast_paths = refl } };
   table = i;
   kinds = subst (λ z. KeepsKinds z (content_of ms u.entries)) (content_of-extended e h.now) (record { grows = l.grows; kinds = l.kinds });
   saved = c.saved;
@@ -127,7 +127,7 @@ nodes_related a ns ms t u h e f i c l = record {
 -- the store grew, and then the table alone changed
 pub nodes_recorded : (a : Cx) (ns : List Tree) (t u : Table) → IsTable a.nodes t → Extends a.nodes ns → IsTable ns u → ChangesVariables t u → KeepsKinds (content_of ns t.entries) (content_of ns u.entries) → StepKeeps a (record a { nodes = ns }) t u
 nodes_recorded a ns t u h e i c k = record {
-  grows = record { extends = e; rest = record { declarations = refl; limit = refl; steps = refl; division = refl; fast_paths = refl } };
+  grows = record { extends = e; rest = record { declarations = refl; limit = refl; steps = refl; rounds = refl; division = refl; fast_paths = refl } };
   table = i;
   kinds = subst (λ z. KeepsKinds z (content_of ns u.entries)) (content_of-extended e h.now) k;
   saved = c.saved;

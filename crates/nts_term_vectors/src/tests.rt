@@ -13,6 +13,7 @@ fn limits(rt: HostRuntime) {
     let mut cx = Cx::new(rt.alloc());
     assert_eq!(rt; cx.recursion_limit(), 128);
     assert_eq!(rt; cx.step_limit(), 8);
+    assert_eq!(rt; cx.round_limit(), 8);
     assert_eq!(rt; cx.depth_division(), 4);
     assert!(rt; !cx.disable_trait_solver_fast_paths());
     cx.set_recursion_limit(3);

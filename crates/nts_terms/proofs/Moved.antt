@@ -21,11 +21,11 @@ use Rattle.nts_terms.specs.Rest.{KeepsRest}
 use Rattle.nts_store.proofs.Growing.{Extends-refl, Extends-trans, IsIn-extended}
 
 pub KeepsRest-refl : (c : Cx) → KeepsRest c c
-KeepsRest-refl c = record { declarations = refl; limit = refl; steps = refl; division = refl; fast_paths = refl }
+KeepsRest-refl c = record { declarations = refl; limit = refl; steps = refl; rounds = refl; division = refl; fast_paths = refl }
 
 pub KeepsRest-trans : {a b c : Cx} → KeepsRest a b → KeepsRest b c → KeepsRest a c
 KeepsRest-trans h k =
-    record { declarations = k.declarations ∙ h.declarations; limit = k.limit ∙ h.limit; steps = k.steps ∙ h.steps; division = k.division ∙ h.division; fast_paths = k.fast_paths ∙ h.fast_paths }
+    record { declarations = k.declarations ∙ h.declarations; limit = k.limit ∙ h.limit; steps = k.steps ∙ h.steps; rounds = k.rounds ∙ h.rounds; division = k.division ∙ h.division; fast_paths = k.fast_paths ∙ h.fast_paths }
 
 pub Holds-extended : {a b : List Tree} (p : Place) (n : NodeId) → Extends a b → Holds p a n → Holds p b n
 Holds-extended p n e h =

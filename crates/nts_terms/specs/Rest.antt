@@ -8,6 +8,7 @@ pub record KeepsRest (old new : Cx) : Type 0 where
   pub declarations : new.declarations ≡ old.declarations
   pub limit : new.recursion_limit ≡ old.recursion_limit
   pub steps : new.step_limit ≡ old.step_limit
+  pub rounds : new.round_limit ≡ old.round_limit
   pub division : new.depth_division ≡ old.depth_division
   pub fast_paths : new.disable_fast_paths ≡ old.disable_fast_paths
 

@@ -13,6 +13,7 @@ pub struct Cx {
     pub declarations: Declarations,
     pub recursion_limit: usize,
     pub step_limit: usize,
+    pub round_limit: usize,
     pub depth_division: usize,
     pub disable_fast_paths: bool,
 }
@@ -26,6 +27,7 @@ impl Drop for Cx {
             declarations: _,
             recursion_limit: _,
             step_limit: _,
+            round_limit: _,
             depth_division: _,
             disable_fast_paths: _,
         } = self;
@@ -39,6 +41,7 @@ impl Cx {
         ensures declarations { result.declarations ≡ nothing_declared }
         ensures limit { result.recursion_limit ≡ 128 }
         ensures steps { result.step_limit ≡ 8 }
+        ensures rounds { result.round_limit ≡ 8 }
         ensures division { result.depth_division ≡ 4 }
         ensures fast_paths { result.disable_fast_paths ≡ false }
     {
@@ -48,6 +51,7 @@ impl Cx {
             declarations: Declarations::new(alloc),
             recursion_limit: 128,
             step_limit: 8,
+            round_limit: 8,
             depth_division: 4,
             disable_fast_paths: false,
         }
@@ -71,6 +75,13 @@ impl Cx {
         ensures { result ≡ self.now.step_limit }
     {
         self.step_limit
+    }
+
+    /// How many rounds the head of a cycle is evaluated in at most.
+    pub fn round_limit(&self) -> usize
+        ensures { result ≡ self.now.round_limit }
+    {
+        self.round_limit
     }
 
     /// By what the depth of a goal's further goals is divided once a goal below it was nested too deep.
