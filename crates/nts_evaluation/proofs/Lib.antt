@@ -20,3 +20,4 @@ pub mod Stepping
 pub mod Entering
 pub mod MergedResponses
 pub mod Adding
+pub mod Filtered

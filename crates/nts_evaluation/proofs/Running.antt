@@ -380,10 +380,10 @@ among_at ts [] k x l = absurd (omega arith)
 among_at ts (d ∷ ds) zero x l = inl refl
 among_at ts (d ∷ ds) (suc k) x l = inr (among_at ts ds k x (omega arith))
 
-pub offered_there : {a b : List Tree} {y : CandidateData} {cs : List Candidate} (g : Goal) (x : CandidateData) (ds : List CandidateData) (k : ℕ) → y ≡ get_or ds k x → k < length ds → AreCandidates a g ds → Extends a b → candidates_of a ds ≡ cs → Among cs (candidate_of b y)
-offered_there {a} {b} {y} {cs} g x ds k q l h e same =
+pub offered_there : {a b : List Tree} {y : CandidateData} (cs : List Candidate) (g : Goal) (x : CandidateData) (ds : List CandidateData) (k : ℕ) → y ≡ get_or ds k x → k < length ds → AreCandidates a g ds → Extends a b → ((z : Candidate) → Among (candidates_of a ds) z → Among cs z) → Among cs (candidate_of b y)
+offered_there {a} {b} {y} cs g x ds k q l h e offered =
     let kept = candidate-kept {a = a} {b = b} {g = g} {d = get_or ds k x} e (candidate_at a g ds k x h l) in
-    subst (λ z. Among z (candidate_of b y)) same (rw (q, kept) (among_at a ds k x l))
+    offered (candidate_of b y) (rw (q, kept) (among_at a ds k x l))
 
 -- one part more of a list that is gone through
 pub Equates-step : {b e : List Tree} {t u : Table} {ws : List NodeId} {rs : List Equation} (q : Equation) (a : List Tree) (vs : List NodeId) (qs : List Equation) (i : ℕ) → ws ≡ vs → rs ≡ qs → i < length qs → Goes b e t u → AllIn b vs → EquatesEach a b t vs (take i qs) → Extends a b → ((d : Equation) → IsIn a (get_or qs i d).lhs.node × IsIn a (get_or qs i d).rhs.node) → Stays (content_of e u.entries) (EquationHolds (map (tree_at b) ws) (equation_of b (get_or rs i q))) → EquatesEach a e u vs (take (i + 1) qs)

@@ -87,7 +87,7 @@ leaves_known : (ts : List Tree) (fresh : List Sort) (g : Goal) (c : Content) (x 
 leaves_known ts fresh g c x l k o i = (let h = leaf_known c l (tree_at ts x) i (over_knows o c k) in ((h.0, h.1, refl), tt, tt))
 
 -- the equations of a candidate are formed, and over what the table knows
-equations_of_table : (ts : List Tree) (fresh : List Sort) (g : Goal) (c : Content) (qs : List Equation) → AreFormed ts → KnowsGoal ts c g → AreEquations ts fresh g qs → AreOfTable c (map (equation_of ts) qs)
+pub equations_of_table : (ts : List Tree) (fresh : List Sort) (g : Goal) (c : Content) (qs : List Equation) → AreFormed ts → KnowsGoal ts c g → AreEquations ts fresh g qs → AreOfTable c (map (equation_of ts) qs)
 equations_of_table ts fresh g c [] f k h = record { left_formed = λ q i. absurd i; right_formed = λ q i. absurd i; left_well_bound = λ q i. absurd i; right_well_bound = λ q i. absurd i; left_leaves = λ q i. absurd i; right_leaves = λ q i. absurd i }
 equations_of_table ts fresh g c (x ∷ qs) f k h =
     let rest = equations_of_table ts fresh g c qs f k h.1 in

@@ -45,9 +45,9 @@ meaning_since handler s = meaning (handler s.base) s.variances
 abbrev pub offers_of : Handler → Mode → List Tree → Goal → List Candidate
 offers_of h mode ts g = h.offers mode (tree_at ts g.param_env.node) (tree_at ts g.predicate.node)
 
--- candidates, the terms of which are of the store, are what the handler offers for a goal; a candidate is among them
+-- candidates, the terms of which are of the store, are among what the handler offers for a goal; so is one
 abbrev pub AreOffered : Handler → TypingMode → List Tree → Goal → List CandidateData → Type 0
-AreOffered h mode ts g cs = candidates_of ts cs ≡ offers_of h (mode_of mode) ts g
+AreOffered h mode ts g cs = (x : Candidate) → Among (candidates_of ts cs) x → Among (offers_of h (mode_of mode) ts g) x
 
 abbrev pub IsOffered : Handler → TypingMode → List Tree → Goal → CandidateData → Type 0
 IsOffered h mode ts g c = Among (offers_of h (mode_of mode) ts g) (candidate_of ts c)

@@ -22,6 +22,7 @@ ghost use Rattle.nts_terms.specs.Rest.{Grows};
 use crate::asked::is_candidates_goal;
 use crate::binder::enter_forall;
 use crate::candidate::{Trial, equate, record_constraints, resolve_goal, terms_are_formed};
+use crate::filter::keep_met;
 use crate::merged::{keep_response, merge_responses};
 use crate::query::{keeps_constraints, query_of};
 use crate::response::{apply_answer, make_response};
@@ -131,16 +132,8 @@ fn compute_goal<H: GoalHandler>(
         return Ok(response);
     }
     let candidates = handler.candidates(cx, table.typing_mode(), opened)?;
-    let response = evaluate_candidates(
-        table,
-        cx,
-        handler,
-        opened,
-        &candidates,
-        values,
-        depth,
-        mark,
-    );
+    let kept = keep_met(table, cx, opened, candidates)?;
+    let response = evaluate_candidates(table, cx, handler, opened, &kept, values, depth, mark);
     terms_are_formed(cx);
     response
 }

@@ -6,6 +6,7 @@ mod asked;
 mod binder;
 mod candidate;
 mod evaluate;
+mod filter;
 mod merged;
 mod query;
 mod response;

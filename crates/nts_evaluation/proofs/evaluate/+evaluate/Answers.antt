@@ -39,6 +39,7 @@ use Rattle.nts_evaluation.specs.Telling.{IsPlain}
 use Rattle.nts_evaluation.specs.Telling.Tells.{tells_nothing}
 use Rattle.nts_evaluation.specs.Telling.Fails.{is_unmet}
 use Rattle.nts_evaluation.proofs.Evaluating.{goes-back, HoldsGoal-extended}
+use Rattle.nts_evaluation.proofs.Filtered.{kept_candidates, kept_offered, kept_outcomes, kept_tell}
 use Rattle.nts_evaluation.proofs.Opened.{told_through, told_offered, refuted_through, nothing_through, labels_through, labels_entered, proved_through}
 use Rattle.nts_evaluation.proofs.Probed.{found_in, found_still, found_fits, found_derived, went_in, plain_of, doubtful, not_kept, told_or_plain, run_replies, said_of}
 use Rattle.nts_evaluation.proofs.Outcomes.{found_earlier, founds_more, outcomes_first, outcomes_more, found_merged, told_merged, failed_of}
@@ -81,23 +82,32 @@ compute_goal-returns-then-not-is_candidates_goal-clause-told g t c = λ s.
     let plain : IsPlain (content_of c.enter_forall.new.cx.nodes c.enter_forall.new.table.entries) (trees_of c.enter_forall.new.cx.nodes c.args.values.now) (response_at c.make_response-then-not-is_candidates_goal.new.cx.nodes c.in_ok-response-2.response) = c.in_ok-response-2.ensures.says in
     nothing_through c.requires.posed (rw c.in-Some.is at o.opened) o.grows.extends (g.H.GoalHandler.handler s.base c.args.handler.now) c.args.table.now.mode c.args.depth c.args.values.now _ c.in_ok-response-2.response trees plain
 
+pub compute_goal-keep_met-requires-clause-posed : goal.compute_goal-keep_met-requires-clause-posed
+compute_goal-keep_met-requires-clause-posed g t c =
+    let o = c.in_ok-opened.ensures in
+    IsPosed-later (Goes-extends o.goes.table c.in_ok-candidates.ensures.grows.extends) (rw c.in-Some.is at o.posed)
+
 pub compute_goal-evaluate_candidates-response-requires : goal.compute_goal-evaluate_candidates-response-requires
 compute_goal-evaluate_candidates-response-requires g t c = λ κs k.
     let o = c.in_ok-opened.ensures in
     let e = c.in_ok-candidates.ensures in
-    let all = Goes-trans o.goes (Goes-extends o.goes.table e.grows.extends) in (
+    let m = c.in_ok-kept.ensures in
+    let posed = rw c.in-Some.is at o.posed in
+    let more = Extends-trans e.grows.extends m.grows.extends in
+    let goes = goes-back o.goes.table more m.same in
+    let all = Goes-trans o.goes goes in (
       omega (arith, c.decreases),
       (
         k,
         (
-          IsPosed-later (Goes-extends o.goes.table e.grows.extends) (rw c.in-Some.is at o.posed),
+          IsPosed-later goes posed,
           (
-            IsAsked-extended e.grows.extends (c.is_candidates_goal.ensures c.if-not-is_candidates_goal.false),
+            IsAsked-extended more (c.is_candidates_goal.ensures c.if-not-is_candidates_goal.false),
             (
-              g.met.H.GoalHandler.ready_kept _ _ _ c.requires.ready (Extends-trans o.grows.extends e.grows.extends),
+              g.met.H.GoalHandler.ready_kept _ _ _ c.requires.ready (Extends-trans o.grows.extends more),
               (
-                rw c.deref.ensures.value e.candidates,
-                args_later c.args.cx.now.nodes c.candidates.new.cx.nodes c.args.table.now.entries c.enter_forall.new.table.entries c.args.values.now all.extends all.continues c.requires.values,
+                rw c.deref.ensures.value (kept_candidates m.kept m.grows.extends (HoldsGoal-extended e.grows.extends posed.holds) e.candidates),
+                args_later c.args.cx.now.nodes c.keep_met.new.cx.nodes c.args.table.now.entries c.keep_met.new.table.entries c.args.values.now all.extends all.continues c.requires.values,
               ),
             ),
           ),
@@ -109,18 +119,21 @@ pub compute_goal-returns-clause-found : goal.compute_goal-returns-clause-found
 compute_goal-returns-clause-found g t c =
     let o = c.in_ok-opened.ensures in
     let e = c.in_ok-candidates.ensures in
+    let m = c.in_ok-kept.ensures in
+    let more = Extends-trans e.grows.extends m.grows.extends in
     let up = Extends-trans o.grows.extends e.grows.extends in
+    let all = Extends-trans o.grows.extends more in
     let opened = rw c.in-Some.is at o.opened in
     let posed = rw c.in-Some.is at o.posed in
-    let both = trees_kept c.args.cx.now.nodes c.candidates.new.cx.nodes c.args.table.now.entries c.args.values.now up c.requires.values in
-    let goes = Goes-extends o.goes.table e.grows.extends in
+    let both = trees_kept c.args.cx.now.nodes c.keep_met.new.cx.nodes c.args.table.now.entries c.args.values.now all c.requires.values in
+    let goes = Goes-extends o.goes.table more in
     IfOk-map c.evaluate_candidates-response.result
     (λ r f. record {
       store = f.store;
       after = f.after;
       formed = f.formed;
       goes = Goes-trans o.goes (Goes-trans goes f.goes);
-      labels = labels_through c.requires.posed opened o.grows.extends (only_back {g = c.in-Some.opened} e.grows.extends o.goes.table posed.holds f.labels);
+      labels = labels_through c.requires.posed opened o.grows.extends (only_back {g = c.in-Some.opened} more o.goes.table posed.holds f.labels);
       extends = f.extends;
       says = rw both at f.says;
       holds = f.holds;
@@ -132,39 +145,48 @@ compute_goal-returns-clause-found g t c =
           let law = g.met.H.GoalHandler.lawful s.base c.args.handler.now s.formed s.is_ready in
           let there = Goes-trans goes f.goes in
           let later = (Goes-trans o.goes there).continues in
-          proved_through c.requires.posed opened o.grows.extends h s.variances (mode_of c.args.table.now.mode) posed (c.is_candidates_goal.ensures c.if-not-is_candidates_goal.false) there later f.formed law (rw o.goes.mode at (f.sure y (Since-later up s) offered));
+          let among = kept_offered c.in-Some.opened h c.enter_forall.new.table.mode m.kept m.grows.extends (HoldsGoal-extended e.grows.extends posed.holds) e.candidates offered in
+          proved_through c.requires.posed opened o.grows.extends h s.variances (mode_of c.args.table.now.mode) posed (c.is_candidates_goal.ensures c.if-not-is_candidates_goal.false) there later f.formed law (rw o.goes.mode at (f.sure y (Since-later all s) among));
     })
-    (rw c.deref.ensures.value at c.evaluate_candidates-response.ensures.found)
+    (rw (c.deref.ensures.value, m.same) at c.evaluate_candidates-response.ensures.found)
 
 pub compute_goal-returns-clause-told : goal.compute_goal-returns-clause-told
 compute_goal-returns-clause-told g t c = λ s.
     let o = c.in_ok-opened.ensures in
     let e = c.in_ok-candidates.ensures in
+    let m = c.in_ok-kept.ensures in
     let up = Extends-trans o.grows.extends e.grows.extends in
     let opened = rw c.in-Some.is at o.opened in
     let posed = rw c.in-Some.is at o.posed in
+    let goes = Goes-trans o.goes (Goes-extends o.goes.table e.grows.extends) in
+    let args = args_later c.args.cx.now.nodes c.candidates.new.cx.nodes c.args.table.now.entries c.enter_forall.new.table.entries c.args.values.now goes.extends goes.continues c.requires.values in
     let trees = trees_kept c.args.cx.now.nodes c.enter_forall.new.cx.nodes c.args.table.now.entries c.args.values.now o.grows.extends c.requires.values in
     let both = trees_kept c.args.cx.now.nodes c.candidates.new.cx.nodes c.args.table.now.entries c.args.values.now up c.requires.values in
     let h = g.H.GoalHandler.handler s.base c.args.handler.now in
     let same = g.met.H.GoalHandler.handler_kept s.base c.candidates.new.cx.nodes c.args.handler.now s.is_ready (Extends-trans s.extends up) in
     let offered = e.offered ∙ ap (λ m. (g.H.GoalHandler.handler c.candidates.new.cx.nodes c.args.handler.now).offers (mode_of m) (tree_at c.candidates.new.cx.nodes c.in-Some.opened.param_env.node) (tree_at c.candidates.new.cx.nodes c.in-Some.opened.predicate.node)) c.typing_mode.ensures ∙ same.offers _ _ _ in
-    let run = rw (c.deref.ensures.value) at (c.evaluate_candidates-response.ensures.told (Since-later up s)) in
+    let run = rw (c.deref.ensures.value, m.same) at (c.evaluate_candidates-response.ensures.told (Since-later (Extends-trans up m.grows.extends) s)) in
     IfOk-map c.evaluate_candidates-response.result
     (λ r f. told_through c.requires.posed opened o.grows.extends h c.args.table.now.mode c.args.depth c.args.values.now c.evaluate_candidates-response.new.cx.nodes r trees
-    (rw (o.goes.mode) at (told_offered h c.enter_forall.new.table.mode c.args.depth c.enter_forall.new.table c.in-Some.opened c.args.values.now c.in_ok-candidates.candidates.items c.evaluate_candidates-response.new.cx.nodes r e.grows.extends o.goes.table posed.holds (both ∙ sym trees) offered f))) run
+    (rw (o.goes.mode) at (told_offered h c.enter_forall.new.table.mode c.args.depth c.enter_forall.new.table c.in-Some.opened c.args.values.now c.in_ok-candidates.candidates.items c.evaluate_candidates-response.new.cx.nodes r e.grows.extends o.goes.table posed.holds (both ∙ sym trees) offered
+    (kept_tell c.evaluate_candidates-response.new.cx.nodes c.in-Some.opened h c.enter_forall.new.table.mode c.args.depth c.args.values.now r m.kept m.grows.extends (IsTable-extended e.grows.extends o.goes.table) args e.candidates f)))) run
 
 pub compute_goal-returns-clause-refuted : goal.compute_goal-returns-clause-refuted
 compute_goal-returns-clause-refuted g t c = λ s n.
     let o = c.in_ok-opened.ensures in
     let e = c.in_ok-candidates.ensures in
+    let m = c.in_ok-kept.ensures in
     let up = Extends-trans o.grows.extends e.grows.extends in
     let opened = rw c.in-Some.is at o.opened in
     let posed = rw c.in-Some.is at o.posed in
+    let goes = Goes-trans o.goes (Goes-extends o.goes.table e.grows.extends) in
+    let args = args_later c.args.cx.now.nodes c.candidates.new.cx.nodes c.args.table.now.entries c.enter_forall.new.table.entries c.args.values.now goes.extends goes.continues c.requires.values in
     let h = g.H.GoalHandler.handler s.base c.args.handler.now in
     let same = g.met.H.GoalHandler.handler_kept s.base c.candidates.new.cx.nodes c.args.handler.now s.is_ready (Extends-trans s.extends up) in
     let offered = e.offered ∙ ap (λ m. (g.H.GoalHandler.handler c.candidates.new.cx.nodes c.args.handler.now).offers (mode_of m) (tree_at c.candidates.new.cx.nodes c.in-Some.opened.param_env.node) (tree_at c.candidates.new.cx.nodes c.in-Some.opened.predicate.node)) c.typing_mode.ensures ∙ same.offers _ _ _ in
     let here = content_of-extended e.grows.extends o.goes.table.now in
-    let run = rw (c.deref.ensures.value) at (c.evaluate_candidates-response.ensures.refuted (Since-later up s) n) in
+    let kept = rw (c.deref.ensures.value, m.same) at (c.evaluate_candidates-response.ensures.refuted (Since-later (Extends-trans up m.grows.extends) s) n) in
+    let run = kept_outcomes c.in-Some.opened h c.enter_forall.new.table.mode c.args.depth c.args.values.now m.kept m.grows.extends (IsTable-extended e.grows.extends o.goes.table) args e.candidates kept in
     refuted_through c.requires.posed opened o.grows.extends h c.args.table.now.mode c.args.depth (trees_of c.candidates.new.cx.nodes c.args.values.now)
     (rw (here, offered, o.goes.mode, offers-kept h (mode_of c.args.table.now.mode) e.grows.extends posed.holds) at run)
 
@@ -263,7 +285,7 @@ evaluate_candidates-loop-candidate-preserved g t c =
           (IfOk-map c.probe_candidate-answer.result
           (λ r f. found_earlier r i.grows.extends w holds c.requires.values
           (λ b u f s offered. f (Since-later i.grows.extends s)
-          (rw (offers-kept (g.H.GoalHandler.handler s.base c.args.handler.now) (mode_of mode) i.grows.extends holds) (offered_there c.args.goal _ cs c.loop-candidate.candidate-index c.candidate-item.is at c.requires.candidates i.grows.extends offered))) f)
+          (rw (offers-kept (g.H.GoalHandler.handler s.base c.args.handler.now) (mode_of mode) i.grows.extends holds) (offered_there _ c.args.goal _ cs c.loop-candidate.candidate-index c.candidate-item.is at c.requires.candidates i.grows.extends offered))) f)
           (rw i.same at p.found)) m.kept;
       told = λ s. outcomes_more (g.H.GoalHandler.handler s.base c.args.handler.now) mode c.args.depth cs c.loop-candidate.candidate-index x x rs new c.probe_candidate-answer.result at c.candidate-item.is i.grows.extends p.grows.extends w c.requires.values (candidate_at c.args.cx.now.nodes c.args.goal cs c.loop-candidate.candidate-index x c.requires.candidates at) i.found m.kept
           (rw i.same at (p.told (Since-later i.grows.extends s)))
