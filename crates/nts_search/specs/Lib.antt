@@ -1,0 +1,5 @@
+pub mod Ending
+pub mod Indexed
+pub mod Initial
+pub mod Kinds
+pub mod Searching
