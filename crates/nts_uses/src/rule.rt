@@ -70,7 +70,11 @@ pub fn use_rule(
 }
 
 /// Whether an argument is of the table, and no alias stands in it.
-fn is_plain(table: &InferCtxt, cx: &mut Cx, argument: GenericArg) -> Result<bool, EvalError>
+pub(crate) fn is_plain(
+    table: &InferCtxt,
+    cx: &mut Cx,
+    argument: GenericArg,
+) -> Result<bool, EvalError>
     requires table { IsTable cx.old.nodes table.now }
     ensures plain { IfOk result (λ b. b ≡ true → IsPlainSide any_argument cx.new.nodes table.now argument.node) }
     ensures grows { Grows cx.old cx.new }

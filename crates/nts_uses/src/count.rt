@@ -1,0 +1,195 @@
+//! A rule that relates two types and adds several goals.
+ghost use Rattle.std.specs.Prelude.{◌≡◌, OnOk, OnErr};
+ghost use Rattle.nts_model.specs.Trees.{any_argument};
+ghost use Rattle.nts_delegate.specs.Clauses.{AreReady};
+ghost use Rattle.nts_table.specs.Tables.{IsTable, IsPlainSide};
+ghost use Rattle.nts_terms.specs.Handles.{HoldsGoal};
+ghost use Rattle.nts_evaluation.specs.Evaluation.{IsPosed};
+ghost use Rattle.nts_contexts.specs.Contexts.{IsReady, Keeps, IsGoalOf};
+
+use crate::clone::{add_rule, holds_for, vec_of};
+use crate::rule::is_plain;
+use next_trait_solver::clauses::Clauses;
+use next_trait_solver::solve::{EvalCtxt, goal_is_admitted};
+use next_trait_solver::ty::{
+    Cx, EvalError, GenericArg, Goal, GoalSource, InferCtxt, Sort, Span, TyKind, TypingMode, UintTy,
+    Variance,
+};
+use std::alloc::Global;
+
+/// How many goals are left where two types are made one, and how many of two goals that are asked then. Both are found out in
+/// probes. Where the types cannot be made one, or a goal has no solution, the table is as before.
+#[tactic(auto, using(nts_contexts::proofs::Handed::handed, nts_contexts::proofs::Frames::keeps_then))]
+pub fn count_goals(
+    table: &mut InferCtxt,
+    cx: &mut Cx,
+    rules: &Clauses,
+    lhs: GenericArg,
+    rhs: GenericArg,
+    first: Goal,
+    second: Goal,
+) -> Result<(usize, usize), EvalError>
+    requires table { IsTable cx.old.nodes table.old }
+    requires ready { AreReady cx.old.nodes rules.now }
+    requires left { IsPlainSide any_argument cx.old.nodes table.old lhs.node }
+    requires right { IsPlainSide any_argument cx.old.nodes table.old rhs.node }
+    requires first { IsPosed cx.old.nodes table.old first }
+    requires second { IsPosed cx.old.nodes table.old second }
+    ensures err { OnErr result (table.new ≡ table.old) }
+{
+    let depth = cx.recursion_limit();
+    EvalCtxt::enter_root(
+        table,
+        cx,
+        rules,
+        depth,
+        Span(0),
+        |ecx: &mut EvalCtxt<'_, Clauses>| -> Result<(usize, usize), EvalError>
+            requires ready { IsReady AreReady ecx.old }
+            requires left { IsPlainSide any_argument ecx.old.cx.now.nodes ecx.old.table.now lhs.node }
+            requires right { IsPlainSide any_argument ecx.old.cx.now.nodes ecx.old.table.now rhs.node }
+            requires first { IsGoalOf ecx.old first }
+            requires second { IsGoalOf ecx.old second }
+            ensures keeps { Keeps AreReady ecx.old ecx.new }
+            ensures goals { OnOk result (ecx.new.state.now.nested_goals.items ≡ ecx.old.state.now.nested_goals.items) }
+        {
+            let equated = ecx.probe(
+                |probe: &mut EvalCtxt<'_, Clauses>| -> Result<usize, EvalError>
+                    requires ready { IsReady AreReady probe.old }
+                    requires left { IsPlainSide any_argument probe.old.cx.now.nodes probe.old.table.now lhs.node }
+                    requires right { IsPlainSide any_argument probe.old.cx.now.nodes probe.old.table.now rhs.node }
+                    ensures keeps { Keeps AreReady probe.old probe.new }
+                {
+                    let goals = probe.eq_and_get_goals(first.param_env, lhs, rhs)?;
+                    Ok(goals.len())
+                },
+            )?;
+            let asked = ecx.probe(
+                |probe: &mut EvalCtxt<'_, Clauses>| -> Result<usize, EvalError>
+                    requires ready { IsReady AreReady probe.old }
+                    requires left { IsPlainSide any_argument probe.old.cx.now.nodes probe.old.table.now lhs.node }
+                    requires right { IsPlainSide any_argument probe.old.cx.now.nodes probe.old.table.now rhs.node }
+                    requires first { IsGoalOf probe.old first }
+                    requires second { IsGoalOf probe.old second }
+                    ensures keeps { Keeps AreReady probe.old probe.new }
+                {
+                    probe.relate(first.param_env, lhs, Variance::Invariant, rhs)?;
+                    probe.add_goals(GoalSource::Misc, &[first, second])?;
+                    probe.try_evaluate_added_goals()?;
+                    Ok(probe.state.nested_goals.len())
+                },
+            )?;
+            Ok((equated, asked))
+        },
+    )
+}
+
+/// Counts the goals, where the types are of the table and no alias stands in them, and the goals may be asked.
+#[tactic(auto, using(crate::proofs::Asked::asked))]
+fn try_count(
+    table: &mut InferCtxt,
+    cx: &mut Cx,
+    rules: &Clauses,
+    lhs: GenericArg,
+    rhs: GenericArg,
+    first: Goal,
+    second: Goal,
+) -> Result<Option<(usize, usize)>, EvalError>
+    requires table { IsTable cx.old.nodes table.old }
+    requires ready { AreReady cx.old.nodes rules.now }
+    requires first { HoldsGoal cx.old.nodes first }
+    requires second { HoldsGoal cx.old.nodes second }
+{
+    if !goal_is_admitted(table, cx, first)? || !goal_is_admitted(table, cx, second)? {
+        return Ok(None);
+    }
+    if !is_plain(table, cx, lhs)? || !is_plain(table, cx, rhs)? {
+        return Ok(None);
+    }
+    Ok(Some(count_goals(table, cx, rules, lhs, rhs, first, second)?))
+}
+
+/// How many goals are left where `Vec(T)` and `Vec(u32)` are made one for an unknown `T`, which is to be `Clone` as is another
+/// unknown type, where `u32` and `u8` are: none, and then the second one. There is no answer where a term does not fit.
+#[tactic(auto, using(nts_evaluation::proofs::Asking::asking, nts_terms::proofs::Moved::growth))]
+pub fn goals_of_vec(alloc: Global) -> Result<Option<(usize, usize)>, EvalError> {
+    let mut cx = Cx::new(alloc);
+    let mut table = InferCtxt::new(alloc, TypingMode::PostAnalysis);
+    let mut rules = Clauses::new(alloc);
+    let clone = cx.declare_trait(&[Sort::Ty])?;
+    let vec = cx.declare_ctor(&[Sort::Ty], &[Variance::Covariant])?;
+    let element: GenericArg = table.next_ty_infer(&mut cx)?.into();
+    let other: GenericArg = table.next_ty_infer(&mut cx)?.into();
+    let word = cx.mk_ty(TyKind::Uint(UintTy::U32))?;
+    let byte = cx.mk_ty(TyKind::Uint(UintTy::U8))?;
+    let Some(rhs) = vec_of(&mut cx, vec, word.into())? else {
+        return Ok(None);
+    };
+    if !cx.holds(element) {
+        return Ok(None);
+    }
+    let Some(lhs) = vec_of(&mut cx, vec, element)? else {
+        return Ok(None);
+    };
+    if !cx.holds(element) {
+        return Ok(None);
+    }
+    let Some(first) = holds_for(&mut cx, clone, element)? else {
+        return Ok(None);
+    };
+    if !cx.holds(other) {
+        return Ok(None);
+    }
+    let Some(second) = holds_for(&mut cx, clone, other)? else {
+        return Ok(None);
+    };
+    let param_env = cx.mk_env(&[])?;
+    if !cx.holds(word) {
+        return Ok(None);
+    }
+    let none = Vec::new(alloc);
+    if !add_rule(
+        &mut cx,
+        &mut rules,
+        none,
+        clone,
+        word.into(),
+        Vec::new(alloc),
+    )? {
+        return Ok(None);
+    }
+    if !cx.holds(byte) {
+        return Ok(None);
+    }
+    let none = Vec::new(alloc);
+    if !add_rule(
+        &mut cx,
+        &mut rules,
+        none,
+        clone,
+        byte.into(),
+        Vec::new(alloc),
+    )? {
+        return Ok(None);
+    }
+    if !cx.holds(param_env) || !cx.holds(first) || !cx.holds(second) {
+        return Ok(None);
+    }
+    let first = Goal {
+        param_env,
+        predicate: first,
+    };
+    let second = Goal {
+        param_env,
+        predicate: second,
+    };
+    try_count(
+        &mut table,
+        &mut cx,
+        &rules,
+        lhs.into(),
+        rhs.into(),
+        first,
+        second,
+    )
+}
