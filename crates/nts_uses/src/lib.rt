@@ -4,10 +4,12 @@
 
 mod clone;
 mod count;
+mod errors;
 mod rule;
 #[cfg(test)]
 mod tests;
 
 pub use clone::clone_of_vec;
 pub use count::{count_goals, goals_of_vec};
+pub use errors::{Known, err_in_probes, errors_of_probes};
 pub use rule::{rule_of_vec, use_rule};

@@ -1,6 +1,8 @@
 //! What the example answers.
-use crate::{clone_of_vec, goals_of_vec, rule_of_vec};
-use next_trait_solver::ty::Certainty;
+use crate::{Known, clone_of_vec, errors_of_probes, goals_of_vec, rule_of_vec};
+use next_trait_solver::ty::{Certainty, EvalError};
+use std::alloc::Global;
+use std::process::Abort;
 
 #[test]
 fn vec_of_u32_is_clone(rt: HostRuntime) {
@@ -18,4 +20,90 @@ fn a_rule_of_vec_holds(rt: HostRuntime) {
 fn one_of_two_goals_is_left(rt: HostRuntime) {
     let found = goals_of_vec(rt.alloc()).expect(&rt, "memory");
     assert!(rt; matches!(found, Some((0, 1))));
+}
+
+/// What an error of a probe in a probe and one of the context come to, and what is known of a variable then.
+fn check(
+    rt: &impl Abort,
+    alloc: Global,
+    inner: Option<EvalError>,
+    outer: Option<EvalError>,
+    answer: Result<(), EvalError>,
+    known: Known,
+) {
+    let found = errors_of_probes(alloc, inner, outer).expect(rt, "memory");
+    assert!(rt; found == Some((answer, known)));
+}
+
+#[test]
+fn a_probe_that_has_no_solution(rt: HostRuntime) {
+    let alloc = rt.alloc();
+    let no = Some(EvalError::NoSolution);
+    check(&rt, alloc, None, None, Ok(()), Known::Made);
+    check(&rt, alloc, no, None, Ok(()), Known::Made);
+}
+
+#[test]
+fn a_context_that_ends_by_an_error(rt: HostRuntime) {
+    let alloc = rt.alloc();
+    let no = Some(EvalError::NoSolution);
+    check(
+        &rt,
+        alloc,
+        None,
+        no,
+        Err(EvalError::NoSolution),
+        Known::Nothing,
+    );
+    check(
+        &rt,
+        alloc,
+        no,
+        no,
+        Err(EvalError::NoSolution),
+        Known::Nothing,
+    );
+    check(
+        &rt,
+        alloc,
+        no,
+        Some(EvalError::Full),
+        Err(EvalError::Full),
+        Known::Nothing,
+    );
+}
+
+/// A fault of a probe in a probe is answered to the later calls, and stays the first one.
+#[test]
+fn a_fault_in_a_probe(rt: HostRuntime) {
+    let alloc = rt.alloc();
+    let no = Some(EvalError::NoSolution);
+    let full = Some(EvalError::Full);
+    let memory = Some(EvalError::Memory);
+    check(&rt, alloc, full, None, Err(EvalError::Full), Known::Nothing);
+    check(
+        &rt,
+        alloc,
+        memory,
+        None,
+        Err(EvalError::Memory),
+        Known::Nothing,
+    );
+    check(&rt, alloc, full, no, Err(EvalError::Full), Known::Nothing);
+    check(
+        &rt,
+        alloc,
+        full,
+        memory,
+        Err(EvalError::Full),
+        Known::Nothing,
+    );
+    check(
+        &rt,
+        alloc,
+        memory,
+        full,
+        Err(EvalError::Memory),
+        Known::Nothing,
+    );
 }
