@@ -21,6 +21,3 @@ pub mod Entering
 pub mod MergedResponses
 pub mod Adding
 pub mod Filtered
-pub mod Searching
-pub mod Unchanged
-pub mod BackEdges

@@ -6,7 +6,6 @@ pub mod Instances
 pub mod Meant
 pub mod Opening
 pub mod Running
-pub mod Searching
 pub mod Telling
 pub mod Found
 pub mod Stepping

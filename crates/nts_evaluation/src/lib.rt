@@ -5,7 +5,6 @@ mod admission;
 mod asked;
 mod binder;
 mod candidate;
-mod cycles;
 mod evaluate;
 mod filter;
 mod merged;
