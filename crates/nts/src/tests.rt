@@ -466,3 +466,119 @@ fn an_impl_that_fails_later(rt: HostRuntime) {
         ],
     );
 }
+
+/// One of three conditions is refused, overflows or stays ambiguous, in the first, the middle and the last position; or each
+/// of them is one of these, in each order.
+#[test]
+fn a_condition_in_each_position(rt: HostRuntime) {
+    check(
+        &rt,
+        rt.alloc(),
+        &[
+            // Refused.
+            done(
+                b"trait Y(type)\ntrait N(type)\ntrait G(type)\nimpl Y(u8)\nimpl G(i8) <- N(u8), Y(u8), Y(u8)\nimpl G(i16) <- Y(u8), N(u8), Y(u8)\nimpl G(i32) <- Y(u8), Y(u8), N(u8)\ngoal G(i8)\ngoal G(i16)\ngoal G(i32)\n",
+                b"no\nno\nno\n",
+            ),
+            // Nested too deep.
+            done(
+                b"trait Y(type)\ntrait L(type)\ntrait G(type)\ntype W(type)\nimpl Y(u8)\nimpl L(W(?X)) <- L(W(W(?X)))\nimpl G(i8) <- L(W(u8)), Y(u8), Y(u8)\nimpl G(i16) <- Y(u8), L(W(u8)), Y(u8)\nimpl G(i32) <- Y(u8), Y(u8), L(W(u8))\ndepth 16\ngoal G(i8)\ngoal G(i16)\ngoal G(i32)\n",
+                b"maybe overflow\nmaybe overflow\nmaybe overflow\n",
+            ),
+            // Ambiguous.
+            done(
+                b"trait Y(type)\ntrait M(type)\ntrait G(type)\nimpl Y(u8)\nimpl M(u8)\nimpl M(u16)\nimpl G(i8) <- M(?A), Y(u8), Y(u8)\nimpl G(i16) <- Y(u8), M(?A), Y(u8)\nimpl G(i32) <- Y(u8), Y(u8), M(?A)\ngoal G(i8)\ngoal G(i16)\ngoal G(i32)\n",
+                b"maybe ambiguity\nmaybe ambiguity\nmaybe ambiguity\n",
+            ),
+            // All three: the one that is refused counts, wherever it stands.
+            done(
+                b"trait N(type)\ntrait L(type)\ntrait M(type)\ntrait G(type)\ntype W(type)\nimpl L(W(?X)) <- L(W(W(?X)))\nimpl M(u8)\nimpl M(u16)\nimpl G(i8) <- N(u8), L(W(u8)), M(?A)\nimpl G(i16) <- N(u8), M(?A), L(W(u8))\nimpl G(i32) <- L(W(u8)), N(u8), M(?A)\nimpl G(i64) <- M(?A), N(u8), L(W(u8))\nimpl G(i128) <- L(W(u8)), M(?A), N(u8)\nimpl G(isize) <- M(?A), L(W(u8)), N(u8)\ndepth 16\ngoal G(i8)\ngoal G(i16)\ngoal G(i32)\ngoal G(i64)\ngoal G(i128)\ngoal G(isize)\n",
+                b"no\nno\nno\nno\nno\nno\n",
+            ),
+            // An overflow and a doubt are an overflow, in each order.
+            done(
+                b"trait Y(type)\ntrait L(type)\ntrait M(type)\ntrait G(type)\ntype W(type)\nimpl Y(u8)\nimpl L(W(?X)) <- L(W(W(?X)))\nimpl M(u8)\nimpl M(u16)\nimpl G(i8) <- Y(u8), L(W(u8)), M(?A)\nimpl G(i16) <- Y(u8), M(?A), L(W(u8))\nimpl G(i32) <- L(W(u8)), Y(u8), M(?A)\nimpl G(i64) <- M(?A), Y(u8), L(W(u8))\nimpl G(i128) <- L(W(u8)), M(?A), Y(u8)\nimpl G(isize) <- M(?A), L(W(u8)), Y(u8)\ndepth 16\ngoal G(i8)\ngoal G(i16)\ngoal G(i32)\ngoal G(i64)\ngoal G(i128)\ngoal G(isize)\n",
+                b"maybe overflow\nmaybe overflow\nmaybe overflow\nmaybe overflow\nmaybe overflow\nmaybe overflow\n",
+            ),
+        ],
+    );
+}
+
+/// The text of a trait with so many impls, each for another type, and one more; and goals that the last, the first and none of
+/// them fits.
+fn wide_text(alloc: Global, count: u32) -> Result<Vec<u8>, Fail> {
+    let mut text = Vec::from_slice(alloc, b"trait T(type)\n")?;
+    for i in 0..count {
+        let line = format!(in alloc; "type C{i}\nimpl T(C{i})\n")?;
+        text.extend_from_slice(line.as_bytes())?;
+    }
+    text.extend_from_slice(b"type Last\nimpl T(Last)\ngoal T(Last)\ngoal T(C0)\ngoal T(u8)\n")?;
+    Ok(text)
+}
+
+#[test]
+fn one_of_a_thousand_impls(rt: HostRuntime) -> Result<(), Fail> {
+    let alloc = rt.alloc();
+    let text = wide_text(alloc, 999)?;
+    let mut output = Vec::new(alloc);
+    let status = run(alloc, text.as_slice(), &mut output);
+    assert_eq!(rt; status, Status::Done);
+    assert!(rt; output.as_slice() == b"yes\nyes\nno\n".as_slice());
+    Ok(())
+}
+
+/// The text of an impl with so many conditions and one more, and of a goal that needs it.
+fn long_text(alloc: Global, count: u32, last: &[u8]) -> Result<Vec<u8>, Fail> {
+    let mut text = Vec::from_slice(
+        alloc,
+        b"trait Y(type)\ntrait N(type)\ntrait G(type)\nimpl Y(u8)\nimpl Y(u16)\nimpl G(u8) <- ",
+    )?;
+    for _ in 0..count {
+        text.extend_from_slice(b"Y(u8), ")?;
+    }
+    text.extend_from_slice(last)?;
+    text.extend_from_slice(b"\ngoal G(u8)\n")?;
+    Ok(text)
+}
+
+#[test]
+fn a_thousand_conditions(rt: HostRuntime) -> Result<(), Fail> {
+    let alloc = rt.alloc();
+    let cases: [(&[u8], &[u8]); 3] = [
+        (b"Y(u16)", b"yes\n"),
+        (b"N(u8)", b"no\n"),
+        (b"Y(?A)", b"maybe ambiguity\n"),
+    ];
+    for (last, answer) in cases {
+        let text = long_text(alloc, 999, last)?;
+        let mut output = Vec::new(alloc);
+        let status = run(alloc, text.as_slice(), &mut output);
+        assert_eq!(rt; status, Status::Done);
+        assert!(rt; output.as_slice() == answer);
+    }
+    Ok(())
+}
+
+/// The text of so many impls, each of which rests on the one before, and of a goal that the last one fits.
+fn chain_text(alloc: Global, count: u32) -> Result<Vec<u8>, Fail> {
+    let mut text = Vec::from_slice(alloc, b"trait T(type)\ntype C0\nimpl T(C0)\n")?;
+    for i in 0..count {
+        let line = format!(in alloc; "type C{}\nimpl T(C{}) <- T(C{i})\n", i + 1, i + 1)?;
+        text.extend_from_slice(line.as_bytes())?;
+    }
+    let goal = format!(in alloc; "depth 65535\ngoal T(C{count})\n")?;
+    text.extend_from_slice(goal.as_bytes())?;
+    Ok(text)
+}
+
+/// Each goal of a chain has as many candidates as the chain is long, of which one fits.
+#[test]
+fn a_chain_of_impls(rt: HostRuntime) -> Result<(), Fail> {
+    let alloc = rt.alloc();
+    let text = chain_text(alloc, 100)?;
+    let mut output = Vec::new(alloc);
+    let status = run(alloc, text.as_slice(), &mut output);
+    assert_eq!(rt; status, Status::Done);
+    assert!(rt; output.as_slice() == b"yes\n".as_slice());
+    Ok(())
+}

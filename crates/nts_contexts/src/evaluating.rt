@@ -15,6 +15,7 @@ use nts_certainty::Certainty;
 use nts_delegate::GoalHandler;
 use nts_evaluation::{AvailableDepth, make_response, try_evaluate_goals};
 use nts_response::CanonicalResponse;
+use nts_search::{CurrentGoalKind, SearchGraph};
 use nts_store::EvalError;
 
 impl<H: GoalHandler> EvalCtxt<'_, H> {
@@ -25,10 +26,10 @@ impl<H: GoalHandler> EvalCtxt<'_, H> {
         ensures keeps { Keeps H.ready self.old self.new }
         ensures steps { self.old.state.now.fault ≡ None → self.new.state.now.last_steps ≤ self.old.cx.now.step_limit }
         ensures left { AreLeft self.old.state.now.nested_goals.items self.new.state.now.nested_goals.items }
-        ensures proved { (s : Since (λ ts. H.ready ts self.old.handler.now) self.old.cx.now.nodes) → OnOk result (AreSettled (IsProvedSince (λ ts. H.handler ts self.old.handler.now) s self.old.table.now.mode self.new.cx.now.nodes self.new.table.now) self.old.state.now.nested_goals.items self.new.state.now.nested_goals.items) }
+        ensures proved { (s : Since (λ ts. H.ready ts self.old.handler.now) self.old.cx.now.nodes) → OnOk result (AreSettled (λ z. IsProvedSince (λ ts. H.handler ts self.old.handler.now) s self.old.table.now.mode self.new.cx.now.nodes self.new.table.now z.1) self.old.state.now.nested_goals.items self.new.state.now.nested_goals.items) }
         ensures sure { result ≡ Ok certainty.Yes → self.new.state.now.nested_goals.items ≡ [] }
-        ensures told { (s : Since (λ ts. H.ready ts self.old.handler.now) self.old.cx.now.nodes) → OnOk result (ReachesBy (H.handler s.base self.old.handler.now) self.old.table.now.mode (self.old.state.now.root_depth + 1) self.old.cx.now.nodes self.old.table.now self.new.cx.now.nodes self.new.table.now self.old.state.now.nested_goals.items) }
-        ensures refuted { (s : Since (λ ts. H.ready ts self.old.handler.now) self.old.cx.now.nodes) → result ≡ Err EvalError.NoSolution → RefusesOneOf (H.handler s.base self.old.handler.now) self.old.table.now.mode (self.old.state.now.root_depth + 1) self.old.cx.now.nodes self.old.table.now self.old.state.now.nested_goals.items }
+        ensures told { (s : Since (λ ts. H.ready ts self.old.handler.now) self.old.cx.now.nodes) → OnOk result (ReachesBy (H.handler s.base self.old.handler.now) self.old.table.now.mode self.old.cx.now.nodes self.old.table.now self.new.cx.now.nodes self.new.table.now self.old.state.now.nested_goals.items) }
+        ensures refuted { (s : Since (λ ts. H.ready ts self.old.handler.now) self.old.cx.now.nodes) → result ≡ Err EvalError.NoSolution → RefusesOneOf (H.handler s.base self.old.handler.now) self.old.table.now.mode self.old.cx.now.nodes self.old.table.now self.old.state.now.nested_goals.items }
         ensures taint { self.new.state.now.is_tainted ≡ tainted_after self.old.state.now.is_tainted result }
         ensures fault { self.new.state.now.fault ≡ fault_after self.old.state.now.fault result }
         ensures faulted { IfSome self.old.state.now.fault (λ f. result ≡ Err (error_of f)) }
@@ -38,15 +39,16 @@ impl<H: GoalHandler> EvalCtxt<'_, H> {
         let depth = AvailableDepth::Root(self.state.root_depth);
         let mut goals = self.state.take_goals(alloc);
         let mut last_steps = 0;
-        let mut has_overflowed = false;
+        let mut graph = SearchGraph::new(alloc, self.state.root_depth);
         let evaluated = try_evaluate_goals(
             self.table,
             self.cx,
             self.handler,
+            &mut graph,
             &mut goals,
+            CurrentGoalKind::Misc,
             depth,
             &mut last_steps,
-            &mut has_overflowed,
         );
         self.state.end_steps(goals, last_steps, evaluated)
     }
@@ -60,7 +62,7 @@ impl<H: GoalHandler> EvalCtxt<'_, H> {
         requires ready { IsReady H.ready self.old }
         ensures keeps { Keeps H.ready self.old self.new }
         ensures left { AreLeft self.old.state.now.nested_goals.items self.new.state.now.nested_goals.items }
-        ensures proved { (s : Since (λ ts. H.ready ts self.old.handler.now) self.old.cx.now.nodes) → OnOk result (AreSettled (IsProvedSince (λ ts. H.handler ts self.old.handler.now) s self.old.table.now.mode self.new.cx.now.nodes self.new.table.now) self.old.state.now.nested_goals.items self.new.state.now.nested_goals.items) }
+        ensures proved { (s : Since (λ ts. H.ready ts self.old.handler.now) self.old.cx.now.nodes) → OnOk result (AreSettled (λ z. IsProvedSince (λ ts. H.handler ts self.old.handler.now) s self.old.table.now.mode self.new.cx.now.nodes self.new.table.now z.1) self.old.state.now.nested_goals.items self.new.state.now.nested_goals.items) }
         ensures certain { IfOk result (λ r. r.value.certainty ≡ certainty.Yes → (shallow_certainty ≡ certainty.Yes) × (self.new.state.now.nested_goals.items ≡ [])) }
         ensures says { IfOk result (λ r. IsResponseOf (told_in r.value.certainty (content_in self.new)) [] (response_at self.new.cx.now.nodes r)) }
         ensures holds { IfOk result (λ r. HoldsResponse self.new.cx.now.nodes r.value) }

@@ -2,6 +2,12 @@
 use Rattle.std.proofs.Common.{◌≡◌, ⊎_elim, inl, inr, List, [], ◌∷◌, sym, ap, ◌∙◌, subst, arith}
 use Rattle.std.specs.Prelude.{All}
 use Rattle.std.proofs.lemmas.List.Elements.{All-head, All-tail, All-cons}
+use Rattle.nts_model.specs.Proofs.{Assumed}
+use Rattle.nts_model.specs.Stacks.{IsProvedFrom, IsDerivedFrom}
+use Rattle.nts_model.specs.Proving.{sequent_at}
+use Rattle.nts_model.specs.Responses.{response_of}
+use Rattle.nts_model.proofs.Closing.{said_instance}
+use Rattle.nts_model.proofs.Assuming.{derived_instance}
 use Rattle.nts_model.specs.Trees.{Tree, more}
 use Rattle.nts_model.specs.Contents.{Content}
 use Rattle.nts_model.specs.Resolving.{Knows}
@@ -11,9 +17,7 @@ use Rattle.nts_model.specs.Rules.{Meaning, Mode}
 use Rattle.nts_model.specs.Handlers.{filled}
 use Rattle.nts_model.specs.Inputs.{CanonicalInput as Form, PositionKind}
 use Rattle.nts_model.specs.Passing.{TreePasses, TablePasses, BringsOnly}
-use Rattle.nts_model.specs.Proving as proving
 use Rattle.nts_model.specs.Responses.{Response as Answer, IsQueryTable, IsOverPositions, answer_sequent}
-use Rattle.nts_model.proofs.Closing.{said_derived}
 use Rattle.nts_model.proofs.Querying.{all_plain, own_in}
 use Rattle.nts_model.proofs.Slots.{Knows-kept}
 use Rattle.nts_store.specs.Formed.{AreFormed}
@@ -97,10 +101,11 @@ query_table {d} {v} ks f w kinds pass known =
     }
 
 -- what it says is derived
-pub query_says : (ks : List PositionKind) (c : Content) (f : Form) (r : Answer) (m : Meaning) (mode : Mode) → f.kinds ≡ ks → IsQueryTable ks c (first_values ks) → IsResponseOf c (first_values ks) r → IsOverPositions f.environment → IsOverPositions f.predicate
-    → proving.IsProved m mode c (asked_environment f) (asked_predicate f) → proving.IsDerived m mode (answer_sequent f r)
-query_says ks c f r m mode same table says env predicate h =
+pub query_says : (ks : List PositionKind) (c : Content) (f : Form) (r : Answer) (m : Meaning) (mode : Mode) (A : List Assumed) → f.kinds ≡ ks → IsQueryTable ks c (first_values ks) → IsResponseOf c (first_values ks) r → IsOverPositions f.environment → IsOverPositions f.predicate
+    → IsProvedFrom m mode A c (asked_environment f) (asked_predicate f) → IsDerivedFrom m mode A (answer_sequent f r)
+query_says ks c f r m mode A same table says env predicate h =
     let x = says.findings in
-    let proved : proving.IsProved m mode c (filled (first_values ks) f.environment) (filled (first_values ks) f.predicate) = rw same at h in
-    subst (λ z. proving.IsDerived m mode (answer_sequent f z)) (sym says.is)
-    (said_derived c table.sound ks (first_values ks) says.roots x says.reads (all_plain ks c (first_values ks) x table says.reads says.no_hidden says.no_goals) (own_in ks c (first_values ks) x table says.reads says.no_hidden says.no_goals) m mode f env predicate proved)
+    let proved : IsProvedFrom m mode A c (filled (first_values ks) f.environment) (filled (first_values ks) f.predicate) = rw same at h in
+    subst (λ z. IsDerivedFrom m mode A (answer_sequent f z)) (sym says.is)
+    (derived_instance m mode A _ (sequent_at c (filled (first_values ks) f.environment) (filled (first_values ks) f.predicate)) (answer_sequent f (response_of c says.roots 0 x)) proved
+    (said_instance c table.sound ks (first_values ks) says.roots x says.reads (all_plain ks c (first_values ks) x table says.reads says.no_hidden says.no_goals) (own_in ks c (first_values ks) x table says.reads says.no_hidden says.no_goals) f env predicate))

@@ -1,5 +1,5 @@
 -- A goal that was asked in a query: what the response that was applied says of the goal.
-use Rattle.std.proofs.Common.{◌≡◌, ⊎_elim, inl, inr, ℕ, Bool, List, [], ◌∷◌, map, refl, sym, ap, ◌∙◌, subst, arith, false}
+use Rattle.std.proofs.Common.{◌≡◌, ⊎_elim, inl, inr, Bool, List, [], ◌∷◌, map, refl, sym, ap, ◌∙◌, subst, arith, false}
 use Rattle.std.specs.Prelude.{All, ◌↔◌, Result, Ok, Err, IfOk, OnOk}
 use Rattle.std.specs.Global.{Vec}
 use Rattle.std.proofs.lemmas.List.Elements.{All-head, All-tail, All-cons}
@@ -10,14 +10,15 @@ use Rattle.nts_model.specs.Contents.{Content}
 use Rattle.nts_model.specs.Substitutions.{leaf_tree, Occurs}
 use Rattle.nts_model.specs.Sequents.{Among}
 use Rattle.nts_model.specs.Rules.{Meaning, Mode}
+use Rattle.nts_model.specs.Handlers.{Handler}
+use Rattle.nts_model.specs.Proofs.{Assumed}
+use Rattle.nts_model.specs.Stacks.{IsProvedFrom, IsDerivedFrom}
+use Rattle.nts_model.proofs.AskedFrom.{asked_proved_from, proved_from_continues}
 use Rattle.nts_model.specs.Inputs.{Input, IsInput, CanonicalInput as Form, OccursIn, originals, canonical_of}
 use Rattle.nts_model.specs.Passing.{TreePasses, BringsOnly}
-use Rattle.nts_model.specs.Proving as proving
 use Rattle.nts_model.specs.Responses.{Response as Answer, RefusesResponse, answer_sequent, IsIdentity}
-use Rattle.nts_model.proofs.Asked.{asked_proved}
 use Rattle.nts_model.proofs.Bringing.{passes-leaf}
 use Rattle.nts_model.proofs.CanonicalForms.{originals_are_leaves}
-use Rattle.nts_model.proofs.ProvedLater.{IsProved-continues}
 use Rattle.nts_certainty.specs.declared.sources.HasChanged.{HasChanged}
 use Rattle.nts_certainty.specs.declared.sources.HasChanged.TheVariants as changes
 use Rattle.nts_store.specs.Formed.{AreFormed}
@@ -41,7 +42,6 @@ use Rattle.nts_evaluation.specs.Asking.{IsInputFor}
 use Rattle.nts_evaluation.specs.Telling.{QueryTells, QueryRefutes, Asked, Refused}
 use Rattle.nts_evaluation.specs.Telling.Asked.{asked_by}
 use Rattle.nts_evaluation.specs.Telling.Refused.{by_query, by_response}
-use Rattle.nts_model.specs.Handlers.{Candidate}
 use Rattle.nts_evaluation.specs.Running.{Stays}
 use Rattle.nts_evaluation.specs.Evaluation.{IsPosed, asked_terms}
 use Rattle.nts_evaluation.specs.Answering.{IsQueryOf, IsAnswerTo, Evaluates}
@@ -51,6 +51,10 @@ use Rattle.nts_evaluation.proofs.Running.{term_table, term_later}
 pub ok_both : {A E : Type 0} {P R : A → Type 0} {Q : Type 0} (r : Result A E) → ((x : A) → P x → Q → R x) → IfOk r P → OnOk r Q → IfOk r R
 ok_both (Ok x) f p q = f x p q
 ok_both (Err e) f p q = tt
+
+pub ok_two : {A E : Type 0} {P Q R : A → Type 0} (r : Result A E) → ((x : A) → P x → Q x → R x) → IfOk r P → IfOk r Q → IfOk r R
+ok_two (Ok x) f p q = f x p q
+ok_two (Err e) f p q = tt
 
 -- arguments in a store that has grown
 pub args_kept : (a b : List Tree) (e : Entries) (xs : List GenericArg) → content_of b e ≡ content_of a e → Extends a b → All (IsArgOf a e) xs → All (IsArgOf b e) xs
@@ -152,21 +156,21 @@ module _ {a b d : List Tree} {t : Table} {g : Goal} {q : Vec GenericArg × Canon
     evaluates fits x same =
         record { input = asked; of_goal = of_goal; response = response_at d r; fits = rw kinds_are fits.to; applied = here; changes = same }
 
-    pub asks : {offers : Tree → Tree → List Candidate} {n : ℕ} → QueryTells offers n (form_of b q.1) (response_at d r) → Asked offers n (content_of a t.entries) (content_of e u.entries) (tree_at a g.param_env.node) (tree_at a g.predicate.node)
-    asks {offers} {n} h = asked_by n asked (response_at d r) of_goal (omega arith) (subst (λ f. QueryTells offers n f (response_at d r)) query.form h) here.applies
+    pub asks : {h : Handler} {mode : Mode} → QueryTells h mode (form_of b q.1) (response_at d r) → Asked h mode (content_of a t.entries) (content_of e u.entries) (tree_at a g.param_env.node) (tree_at a g.predicate.node)
+    asks {h} {mode} x = asked_by asked (response_at d r) of_goal (subst (λ f. QueryTells h mode f (response_at d r)) query.form x) here.applies
 
-    pub asked_stays : (m : Meaning) (mode : Mode) → AreFormed e → IsTable e u → IsAnswerTo d (kinds_of q.1) r → proving.IsDerived m mode (answer_sequent (form_of b q.1) (response_at d r))
-        → Stays (content_of e u.entries) (λ z. proving.IsProved m mode z (tree_at a g.param_env.node) (tree_at a g.predicate.node))
-    asked_stays m mode f w fits h =
+    pub asked_stays : (m : Meaning) (mode : Mode) (A : List Assumed) → AreFormed e → IsTable e u → IsAnswerTo d (kinds_of q.1) r → IsDerivedFrom m mode A (answer_sequent (form_of b q.1) (response_at d r))
+        → Stays (content_of e u.entries) (λ z. IsProvedFrom m mode A z (tree_at a g.param_env.node) (tree_at a g.predicate.node))
+    asked_stays m mode A f w fits h =
         let terms = term_table f w in
         let c = content_of a t.entries in
         let v = content_of e u.entries in
         let p = query.proper.formed in
-        let derived = subst (λ z. proving.IsDerived m mode (answer_sequent z (response_at d r))) query.form h in
-        let proved = asked_proved m mode asked (response_at d r) c v query.proper terms.sound terms.values (original_named asked c query.proper refl posed.knows.env posed.knows.predicate) (rw kinds_are fits.to) here.applies derived in
+        let derived = subst (λ z. IsDerivedFrom m mode A (answer_sequent z (response_at d r))) query.form h in
+        let proved = asked_proved_from m mode A asked (response_at d r) c v query.proper terms.sound terms.values (original_named asked c query.proper refl posed.knows.env posed.knows.predicate) (rw kinds_are fits.to) here.applies derived in
         let k = here.applies.continues in
         record {
-          later = λ z s n. IsProved-continues m mode v z (tree_at a g.param_env.node) (tree_at a g.predicate.node) terms.sound s.sound terms.values s.values n terms.constraints
+          later = λ z s n. proved_from_continues m mode A v z (tree_at a g.param_env.node) (tree_at a g.predicate.node) terms.sound s.sound terms.values s.values n terms.constraints
               (term_later c v (tree_at a g.param_env.node) k posed.knows.env p.0) (term_later c v (tree_at a g.predicate.node) k posed.knows.predicate p.1.0) proved;
         }
 
@@ -178,11 +182,11 @@ module _ {a b d : List Tree} {t : Table} {g : Goal} {q : Vec GenericArg × Canon
       }
 
   -- what the query refutes, and what can't be applied
-  pub query_refutes : {offers : Tree → Tree → List Candidate} {n : ℕ} → QueryRefutes offers n (form_of b q.1) → Refused offers n (content_of a t.entries) (tree_at a g.param_env.node) (tree_at a g.predicate.node)
-  query_refutes {offers} {n} h = by_query n asked of_goal (omega arith) (subst (λ f. QueryRefutes offers n f) query.form h)
+  pub query_refutes : {h : Handler} {mode : Mode} → QueryRefutes h mode (form_of b q.1) → Refused h mode (content_of a t.entries) (tree_at a g.param_env.node) (tree_at a g.predicate.node)
+  query_refutes {h} {mode} x = by_query asked of_goal (subst (λ f. QueryRefutes h mode f) query.form x)
 
-  pub response_refused : {offers : Tree → Tree → List Candidate} {n : ℕ} (r : Canonical Response) → QueryTells offers n (form_of b q.1) (response_at d r) → RefusesResponse (content_of d t.entries) (trees_of d q.0.items) (response_at d r) → Refused offers n (content_of a t.entries) (tree_at a g.param_env.node) (tree_at a g.predicate.node)
-  response_refused {offers} {n} r h k = by_response n asked (response_at d r) of_goal (omega arith) (subst (λ f. QueryTells offers n f (response_at d r)) query.form h) (rw (now, leaves_are) at k)
+  pub response_refused : {h : Handler} {mode : Mode} (r : Canonical Response) → QueryTells h mode (form_of b q.1) (response_at d r) → RefusesResponse (content_of d t.entries) (trees_of d q.0.items) (response_at d r) → Refused h mode (content_of a t.entries) (tree_at a g.param_env.node) (tree_at a g.predicate.node)
+  response_refused {h} {mode} r x k = by_response asked (response_at d r) of_goal (subst (λ f. QueryTells h mode f (response_at d r)) query.form x) (rw (now, leaves_are) at k)
 
 -- what an evaluation leaves, seen from a smaller store
 pub evaluates_at : {a d e : List Tree} {t u : Table} {x y : Tree} {z : HasChanged} → content_of d t.entries ≡ content_of a t.entries → Evaluates d e t u x y z → Evaluates a e t u x y z

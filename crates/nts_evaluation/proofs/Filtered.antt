@@ -125,27 +125,26 @@ kept_offered {a} {b} {c} g {xs} {ys} h mode k e p all same z i =
     subst (λ zs. Among zs z) (same ∙ sym (offers-kept h (mode_of mode) e p)) (kept_among z k there)
 
 -- the outcomes of one more, where there are outcomes of more than those before it
-last_outcome : {offers : Tree → Tree → List Candidate} {k : ℕ} {c : Content} {qs : List Tree} {rs : List Answer} (xs ys zs : List Candidate) (x : Candidate) → zs ≡ ys ++ x ∷ [] → ((ws : List Candidate) (ps : List Answer) → ws ≡ ys → Outcomes offers k c qs ws ps → Outcomes offers k c qs xs ps) → Outcomes offers k c qs zs rs → Outcomes offers k c qs (xs ++ x ∷ []) rs
+last_outcome : {h : Handler} {mode : Mode} {c : Content} {qs : List Tree} {rs : List Answer} (xs ys zs : List Candidate) (x : Candidate) → zs ≡ ys ++ x ∷ [] → ((ws : List Candidate) (ps : List Answer) → ws ≡ ys → Outcomes h mode c qs ws ps → Outcomes h mode c qs xs ps) → Outcomes h mode c qs zs rs → Outcomes h mode c qs (xs ++ x ∷ []) rs
 last_outcome xs ys zs x e more no_outcome = absurd (let l = ap length e in omega (arith, l, length-append ys (x ∷ [])))
-last_outcome {offers} {k} {c} {qs} xs ys zs x e more (then_fails {xs = ws} {rs = ps} {x = w} o f) =
-    let same = push_inj ws ys w x e in then_fails (more ws ps same.0 o) (subst (Fails offers k c) same.1 f)
-last_outcome {offers} {k} {c} {qs} xs ys zs x e more (then_replies {xs = ws} {rs = ps} {x = w} {r = r} o f) =
-    let same = push_inj ws ys w x e in then_replies (more ws ps same.0 o) (subst (λ z. Replies offers k c qs z r) same.1 f)
+last_outcome {h} {mode} {c} {qs} xs ys zs x e more (then_fails {xs = ws} {rs = ps} {x = w} o f) =
+    let same = push_inj ws ys w x e in then_fails (more ws ps same.0 o) (subst (Fails h mode c) same.1 f)
+last_outcome {h} {mode} {c} {qs} xs ys zs x e more (then_replies {xs = ws} {rs = ps} {x = w} {r = r} o f) =
+    let same = push_inj ws ys w x e in then_replies (more ws ps same.0 o) (subst (λ z. Replies h mode c qs z r) same.1 f)
 
 -- what is dropped fails, so the outcomes of those that are kept are outcomes of all
-all_outcomes : {offers : Tree → Tree → List Candidate} {k : ℕ} {ts : List Tree} {c : Content} {qs : List Tree} {xs ys : List CandidateData} → KeepsMet ts c xs ys → (zs : List Candidate) (rs : List Answer) → zs ≡ candidates_of ts ys → Outcomes offers k c qs zs rs → Outcomes offers k c qs (candidates_of ts xs) rs
-all_outcomes {offers} {k} {ts} {c} {qs} none zs rs e o = subst (λ z. Outcomes offers k c qs z rs) e o
-all_outcomes {offers} {k} {ts} {c} {qs} (dropped {xs} {ys} x m n) zs rs e o = rw (map_push (candidate_of ts) xs x) (then_fails (all_outcomes m zs rs e o) (is_unmet n))
-all_outcomes {offers} {k} {ts} {c} {qs} (kept {xs} {ys} x m y) zs rs e o =
+all_outcomes : {h : Handler} {mode : Mode} {ts : List Tree} {c : Content} {qs : List Tree} {xs ys : List CandidateData} → KeepsMet ts c xs ys → (zs : List Candidate) (rs : List Answer) → zs ≡ candidates_of ts ys → Outcomes h mode c qs zs rs → Outcomes h mode c qs (candidates_of ts xs) rs
+all_outcomes {h} {mode} {ts} {c} {qs} none zs rs e o = subst (λ z. Outcomes h mode c qs z rs) e o
+all_outcomes {h} {mode} {ts} {c} {qs} (dropped {xs} {ys} x m n) zs rs e o = rw (map_push (candidate_of ts) xs x) (then_fails (all_outcomes m zs rs e o) (is_unmet n))
+all_outcomes {h} {mode} {ts} {c} {qs} (kept {xs} {ys} x m y) zs rs e o =
     rw (map_push (candidate_of ts) xs x) (last_outcome (candidates_of ts xs) (candidates_of ts ys) zs (candidate_of ts x) (e ∙ map_push (candidate_of ts) ys x) (λ ws ps q p. all_outcomes m ws ps q p) o)
 
-pub kept_outcomes : {a b : List Tree} {t : Table} (g : Goal) {xs ys : List CandidateData} {rs : List Answer} (h : Handler) (mode : TypingMode) (k : ℕ) (qs : List GenericArg) → KeepsMet a (content_of a t.entries) xs ys → Extends a b → IsTable a t → All (IsArgOf a t.entries) qs → AreCandidates a g xs → HaveOutcomes h mode k b t qs ys rs → HaveOutcomes h mode k a t qs xs rs
-kept_outcomes {a} {b} {t} g {xs} {ys} {rs} h mode k qs m e w args all o =
-    let offers = h.offers (mode_of mode) in
-    let there : Outcomes offers k (content_of a t.entries) (trees_of a qs) (candidates_of a ys) rs = rw (content_of-extended e w.now, trees_kept a b t.entries qs e args, candidates-kept {a = a} {b = b} g ys e (are_candidates g m all)) at o in
+pub kept_outcomes : {a b : List Tree} {t : Table} (g : Goal) {xs ys : List CandidateData} {rs : List Answer} (h : Handler) (mode : TypingMode) (qs : List GenericArg) → KeepsMet a (content_of a t.entries) xs ys → Extends a b → IsTable a t → All (IsArgOf a t.entries) qs → AreCandidates a g xs → HaveOutcomes h mode b t qs ys rs → HaveOutcomes h mode a t qs xs rs
+kept_outcomes {a} {b} {t} g {xs} {ys} {rs} h mode qs m e w args all o =
+    let there : Outcomes h (mode_of mode) (content_of a t.entries) (trees_of a qs) (candidates_of a ys) rs = rw (content_of-extended e w.now, trees_kept a b t.entries qs e args, candidates-kept {a = a} {b = b} g ys e (are_candidates g m all)) at o in
     all_outcomes m (candidates_of a ys) rs refl there
 
-pub kept_tell : {a b : List Tree} {t : Table} (e : List Tree) (g : Goal) {xs ys : List CandidateData} (h : Handler) (mode : TypingMode) (k : ℕ) (qs : List GenericArg) (r : Canonical Response) → KeepsMet a (content_of a t.entries) xs ys → Extends a b → IsTable a t → All (IsArgOf a t.entries) qs → AreCandidates a g xs → CandidatesTell h mode k b t qs ys e r → CandidatesTell h mode k a t qs xs e r
-kept_tell e g h mode k qs r m up w args all (inl (rs, o, s)) = inl (rs, kept_outcomes g h mode k qs m up w args all o, s)
-kept_tell {a} {b} {t} e g h mode k qs r m up w args all (inr p) =
+pub kept_tell : {a b : List Tree} {t : Table} (e : List Tree) (g : Goal) {xs ys : List CandidateData} (h : Handler) (mode : TypingMode) (qs : List GenericArg) (r : Canonical Response) → KeepsMet a (content_of a t.entries) xs ys → Extends a b → IsTable a t → All (IsArgOf a t.entries) qs → AreCandidates a g xs → CandidatesTell h mode b t qs ys e r → CandidatesTell h mode a t qs xs e r
+kept_tell e g h mode qs r m up w args all (inl (rs, o, s)) = inl (rs, kept_outcomes g h mode qs m up w args all o, s)
+kept_tell {a} {b} {t} e g h mode qs r m up w args all (inr p) =
     inr (subst (λ z. IsPlain z (trees_of a qs) (response_at e r)) (content_of-extended up w.now) (subst (λ z. IsPlain (content_of b t.entries) z (response_at e r)) (trees_kept a b t.entries qs up args) p))

@@ -21,3 +21,6 @@ pub mod Entering
 pub mod MergedResponses
 pub mod Adding
 pub mod Filtered
+pub mod Searching
+pub mod Unchanged
+pub mod BackEdges

@@ -1,6 +1,8 @@
 -- A goal that was opened: what is said of it where it was opened is said of the goal.
 use Rattle.std.proofs.Common.{◌≡◌, ◌⊎◌, inl, inr, ℕ, suc, ◌+◌, Bool, true, false, List, [], refl, sym, ap, ◌∙◌, subst, arith}
 use Rattle.std.specs.Prelude.{◌==◌, if◌then◌else◌, Result, Ok, Err, OnOk}
+use Rattle.nts_model.specs.Proofs.{Assumed}
+use Rattle.nts_model.specs.Stacks.{IsProvedFrom}
 use Rattle.nts_model.specs.declared.labels.Sort.{Sort}
 use Rattle.nts_model.specs.declared.labels.Sort.TheVariants as sort
 use Rattle.nts_model.specs.declared.labels.BoundVarIndexKind.TheVariants as index
@@ -113,11 +115,11 @@ goal_closed c e g h asked = by_test (binds g) refl
         asked_closed e g (subst (handlers.IsAsked e) same asked)
 
 -- what the candidates tell, in terms of what is offered for the goal
-pub told_offered : {b d : List Tree} (h : Handler) (mode : TypingMode) (k : ℕ) (u : Table) (o : Goal) (qs : List GenericArg) (xs : List CandidateData) (e : List Tree) (r : Canonical Response) → Extends b d → IsTable b u → HoldsGoal b o → trees_of d qs ≡ trees_of b qs → candidates_of d xs ≡ offers_of h (mode_of mode) d o → CandidatesTell h mode k d u qs xs e r
-    → ((rs : List Answer) × Outcomes (h.offers (mode_of mode)) k (content_of b u.entries) (trees_of b qs) (offers_of h (mode_of mode) b o) rs × StandsForAll rs (response_at e r)) ⊎ IsPlain (content_of b u.entries) (trees_of b qs) (response_at e r)
-told_offered {b} {d} h mode k u o qs xs e r up w holds trees offered (inl (rs, x, y)) =
+pub told_offered : {b d : List Tree} (h : Handler) (mode : TypingMode) (u : Table) (o : Goal) (qs : List GenericArg) (xs : List CandidateData) (e : List Tree) (r : Canonical Response) → Extends b d → IsTable b u → HoldsGoal b o → trees_of d qs ≡ trees_of b qs → candidates_of d xs ≡ offers_of h (mode_of mode) d o → CandidatesTell h mode d u qs xs e r
+    → ((rs : List Answer) × Outcomes h (mode_of mode) (content_of b u.entries) (trees_of b qs) (offers_of h (mode_of mode) b o) rs × StandsForAll rs (response_at e r)) ⊎ IsPlain (content_of b u.entries) (trees_of b qs) (response_at e r)
+told_offered {b} {d} h mode u o qs xs e r up w holds trees offered (inl (rs, x, y)) =
     inl (rs, rw (content_of-extended up w.now, trees, offered ∙ offers-kept h (mode_of mode) up holds) at x, y)
-told_offered {b} {d} h mode k u o qs xs e r up w holds trees offered (inr x) =
+told_offered {b} {d} h mode u o qs xs e r up w holds trees offered (inr x) =
     inr (subst (λ z. IsPlain z (trees_of b qs) (response_at e r)) (content_of-extended up w.now) (subst (λ z. IsPlain (content_of d u.entries) z (response_at e r)) trees x))
 
 -- a goal of the store a and the table t, that is the goal o of the store b in the table u once it is opened
@@ -131,29 +133,28 @@ module _ {a b : List Tree} {t u : Table} {g o : Goal} (posed : IsPosed a t g) (o
   environment_same : tree_at b o.param_env.node ≡ tree_at a g.param_env.node
   environment_same = ap (λ (z : ParamEnv). tree_at b z.node) opens.environment ∙ up.kept g.param_env.node posed.holds.env.within
 
-  opened_outcomes : (h : Handler) (mode : TypingMode) (n : ℕ) (qs : List Tree) (rs : List Answer) → Outcomes (h.offers (mode_of mode)) n there qs (offers_of h (mode_of mode) b o) rs
-      → Outcomes (h.offers (mode_of mode)) n (entered before (tree_at a g.predicate.node)) qs (h.offers (mode_of mode) (tree_at a g.param_env.node) (opened_in before (tree_at a g.predicate.node))) rs
-  opened_outcomes h mode n qs rs x =
+  opened_outcomes : (h : Handler) (mode : TypingMode) (qs : List Tree) (rs : List Answer) → Outcomes h (mode_of mode) there qs (offers_of h (mode_of mode) b o) rs
+      → Outcomes h (mode_of mode) (entered before (tree_at a g.predicate.node)) qs (h.offers (mode_of mode) (tree_at a g.param_env.node) (opened_in before (tree_at a g.predicate.node))) rs
+  opened_outcomes h mode qs rs x =
       let offers = h.offers (mode_of mode) in
-      subst (λ z. Outcomes offers n z qs (offers (tree_at a g.param_env.node) (opened_in before (tree_at a g.predicate.node))) rs) opens.table
-      (subst (λ z. Outcomes offers n there qs (offers (tree_at a g.param_env.node) z) rs) opens.predicate
-      (subst (λ z. Outcomes offers n there qs (offers z (tree_at b o.predicate.node)) rs) environment_same x))
+      subst (λ z. Outcomes h (mode_of mode) z qs (offers (tree_at a g.param_env.node) (opened_in before (tree_at a g.predicate.node))) rs) opens.table
+      (subst (λ z. Outcomes h (mode_of mode) there qs (offers (tree_at a g.param_env.node) z) rs) opens.predicate
+      (subst (λ z. Outcomes h (mode_of mode) there qs (offers z (tree_at b o.predicate.node)) rs) environment_same x))
 
   -- what its candidates are answered the goal is answered
-  pub told_through : (h : Handler) (mode : TypingMode) (n : ℕ) (qs : List GenericArg) (e : List Tree) (r : Canonical Response) → trees_of b qs ≡ trees_of a qs
-      → ((rs : List Answer) × Outcomes (h.offers (mode_of mode)) n there (trees_of b qs) (offers_of h (mode_of mode) b o) rs × StandsForAll rs (response_at e r)) ⊎ IsPlain there (trees_of b qs) (response_at e r) → IsTold h mode (n + 1) a t g qs e r
-  told_through h mode n qs e r same (inl (rs, x, y)) =
-      let offers = h.offers (mode_of mode) in
-      let there_told : Outcomes offers n there (trees_of a qs) (offers_of h (mode_of mode) b o) rs = subst (λ z. Outcomes offers n there z (offers_of h (mode_of mode) b o) rs) same x in
-      tells_one n rs (omega arith) (opened_outcomes h mode n (trees_of a qs) rs there_told) y
-  told_through h mode n qs e r same (inr x) = tells_nothing there (inr opens.table) (subst (λ z. IsPlain there z (response_at e r)) same x)
+  pub told_through : (h : Handler) (mode : TypingMode) (qs : List GenericArg) (e : List Tree) (r : Canonical Response) → trees_of b qs ≡ trees_of a qs
+      → ((rs : List Answer) × Outcomes h (mode_of mode) there (trees_of b qs) (offers_of h (mode_of mode) b o) rs × StandsForAll rs (response_at e r)) ⊎ IsPlain there (trees_of b qs) (response_at e r) → IsTold h mode a t g qs e r
+  told_through h mode qs e r same (inl (rs, x, y)) =
+      let there_told : Outcomes h (mode_of mode) there (trees_of a qs) (offers_of h (mode_of mode) b o) rs = subst (λ z. Outcomes h (mode_of mode) there z (offers_of h (mode_of mode) b o) rs) same x in
+      tells_one rs (opened_outcomes h mode (trees_of a qs) rs there_told) y
+  told_through h mode qs e r same (inr x) = tells_nothing there (inr opens.table) (subst (λ z. IsPlain there z (response_at e r)) same x)
 
-  pub refuted_through : (h : Handler) (mode : TypingMode) (n : ℕ) (qs : List Tree) → Outcomes (h.offers (mode_of mode)) n there qs (offers_of h (mode_of mode) b o) [] → IsRefuted h mode (n + 1) a t g
-  refuted_through h mode n qs x = all_fail n qs (omega arith) (opened_outcomes h mode n qs [] x)
+  pub refuted_through : (h : Handler) (mode : TypingMode) (qs : List Tree) → Outcomes h (mode_of mode) there qs (offers_of h (mode_of mode) b o) [] → IsRefuted h mode a t g
+  refuted_through h mode qs x = all_fail qs (opened_outcomes h mode qs [] x)
 
   -- .. of which nothing is told there
-  pub nothing_through : (h : Handler) (mode : TypingMode) (n : ℕ) (qs : List GenericArg) (e : List Tree) (r : Canonical Response) → trees_of b qs ≡ trees_of a qs → IsPlain there (trees_of b qs) (response_at e r) → IsTold h mode (n + 1) a t g qs e r
-  nothing_through h mode n qs e r same x = tells_nothing there (inr opens.table) (subst (λ z. IsPlain there z (response_at e r)) same x)
+  pub nothing_through : (h : Handler) (mode : TypingMode) (qs : List GenericArg) (e : List Tree) (r : Canonical Response) → trees_of b qs ≡ trees_of a qs → IsPlain there (trees_of b qs) (response_at e r) → IsTold h mode a t g qs e r
+  nothing_through h mode qs e r same x = tells_nothing there (inr opens.table) (subst (λ z. IsPlain there z (response_at e r)) same x)
 
   -- what answering the opened goal brings
   passes_entered : (P : Label → Bool) → TablePasses P before → TablePasses P there
@@ -175,9 +176,9 @@ module _ {a b : List Tree} {t u : Table} {g o : Goal} (posed : IsPosed a t g) (o
   labels_entered = record { labels = λ P q m k. passes_entered P k }
 
   -- a certain candidate for the opened goal proves the goal
-  pub proved_through : (h : Handler) (V : ℕ → List Variance) (mode : Mode) {d : List Tree} {v : Table} → IsPosed b u o → IsAsked b o → Goes b d u v → Continues before (content_of d v.entries) → AreFormed d → IsLawful h
-      → IsServed h (meaning h V) mode (content_of d v.entries) (tree_at d o.param_env.node) (tree_at d o.predicate.node) → IsProved (meaning h V) mode (content_of d v.entries) (tree_at d g.param_env.node) (tree_at d g.predicate.node)
-  proved_through h V mode {d} {v} there_posed asked goes later formed law served =
+  pub proved_through : (h : Handler) (V : ℕ → List Variance) (mode : Mode) (A : List Assumed) {d : List Tree} {v : Table} → IsPosed b u o → IsAsked b o → Goes b d u v → Continues before (content_of d v.entries) → AreFormed d → IsLawful h
+      → IsServed h (meaning h V) mode A (content_of d v.entries) (tree_at d o.param_env.node) (tree_at d o.predicate.node) → IsProvedFrom (meaning h V) mode A (content_of d v.entries) (tree_at d g.param_env.node) (tree_at d g.predicate.node)
+  proved_through h V mode A {d} {v} there_posed asked goes later formed law served =
       let c = content_of d v.entries in
       let terms = term_table formed goes.table in
       let proper = goes.table.now.proper in
@@ -197,8 +198,8 @@ module _ {a b : List Tree} {t u : Table} {g o : Goal} (posed : IsPosed a t g) (o
       let kp : Knows c p = Knows-kept before c p grown posed.knows.predicate in
       let ko : Knows c (opened_in before p) = subst (Knows c) opens.predicate (Knows-goes (tree_at b o.predicate.node) goes there_posed.knows.predicate) in
       let ask : handlers.IsAsked e (opened_in before p) = subst (λ z. handlers.IsAsked e z) opens.predicate (subst (λ z. handlers.IsAsked z (tree_at b o.predicate.node)) environment_same asked.asked) in
-      let x : IsServed h (meaning h V) mode c e (opened_in before p) = subst (λ z. IsServed h (meaning h V) mode c e z) opred (subst (λ z. IsServed h (meaning h V) mode c z (tree_at d o.predicate.node)) oenv served) in
+      let x : IsServed h (meaning h V) mode A c e (opened_in before p) = subst (λ z. IsServed h (meaning h V) mode A c e z) opred (subst (λ z. IsServed h (meaning h V) mode A c z (tree_at d o.predicate.node)) oenv served) in
       let current = posed.table.now.proper.current in
-      let proved = by_entered_candidate h V mode c terms.sound terms.values terms.constraints before e p current later solvable.levelled proper.regions (record { knows = posed.knows.env; formed = fe }) (record { knows = posed.knows.predicate; formed = fp }) (goal_closed before e p opens.closed ask) ask
+      let proved = by_entered_candidate h V mode A c terms.sound terms.values terms.constraints before e p current later solvable.levelled proper.regions (record { knows = posed.knows.env; formed = fe }) (record { knows = posed.knows.predicate; formed = fp }) (goal_closed before e p opens.closed ask) ask
       (record { knows = ke; formed = fe }) (record { knows = kp; formed = fp }) (record { knows = ko; formed = fo }) x.candidate law x.offered x.sure x.holds in
-      subst (λ z. IsProved (meaning h V) mode c z (tree_at d g.predicate.node)) (sym env) (subst (λ z. IsProved (meaning h V) mode c e z) (sym pred) proved)
+      subst (λ z. IsProvedFrom (meaning h V) mode A c z (tree_at d g.predicate.node)) (sym env) (subst (λ z. IsProvedFrom (meaning h V) mode A c e z) (sym pred) proved)

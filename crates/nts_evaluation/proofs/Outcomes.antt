@@ -73,33 +73,32 @@ failed_of (Ok x) h f = tt
 failed_of (Err z) h f = f h
 
 -- no candidate was asked yet
-pub outcomes_first : (a b : List Tree) (t : Table) (h : Handler) (mode : TypingMode) (k : ℕ) (qs : List GenericArg) (xs : List CandidateData) (rs : List (Canonical Response)) → rs ≡ [] → HaveOutcomes h mode k a t qs (take 0 xs) (map (response_at b) rs)
-outcomes_first a b t h mode k qs xs rs q = subst (λ z. HaveOutcomes h mode k a t qs [] (map (response_at b) z)) (sym q) no_outcome
+pub outcomes_first : (a b : List Tree) (t : Table) (h : Handler) (mode : TypingMode) (qs : List GenericArg) (xs : List CandidateData) (rs : List (Canonical Response)) → rs ≡ [] → HaveOutcomes h mode a t qs (take 0 xs) (map (response_at b) rs)
+outcomes_first a b t h mode qs xs rs q = subst (λ z. HaveOutcomes h mode a t qs [] (map (response_at b) z)) (sym q) no_outcome
 
 -- a candidate in a store that has grown
 candidates_next : (ts : List Tree) (xs : List CandidateData) (i : ℕ) (d : CandidateData) → i < length xs → candidates_of ts (take (i + 1) xs) ≡ candidates_of ts (take i xs) ++ candidate_of ts (get_or xs i d) ∷ []
 candidates_next ts xs i d l = ap (map (candidate_of ts)) (take_more xs i d l) ∙ map-append (candidate_of ts) (take i xs) (get_or xs i d ∷ [])
 
-pub outcomes_more : {P : List Tree → Table → Type 0} {a b e : List Tree} {t : Table} {g : Goal} {qs : List GenericArg} (h : Handler) (mode : TypingMode) (k : ℕ) (xs : List CandidateData) (i : ℕ) (d x : CandidateData) (rs new : List (Canonical Response)) (y : Result (Canonical Response) EvalError)
+pub outcomes_more : {P : List Tree → Table → Type 0} {a b e : List Tree} {t : Table} {g : Goal} {qs : List GenericArg} (h : Handler) (mode : TypingMode) (xs : List CandidateData) (i : ℕ) (d x : CandidateData) (rs new : List (Canonical Response)) (y : Result (Canonical Response) EvalError)
     → i < length xs → x ≡ get_or xs i d → Extends a b → Extends b e → IsTable a t → All (IsArgOf a t.entries) qs → IsCandidate a g (get_or xs i d) → All (Found P a b t g qs) rs → new ≡ kept_after rs y
-    → IfOk y (RepliesWith h mode k b t qs x e) → OnErr y (FailsIn h mode k b t x) → HaveOutcomes h mode k a t qs (take i xs) (map (response_at b) rs) → HaveOutcomes h mode k a t qs (take (i + 1) xs) (map (response_at e) new)
-outcomes_more {P} {a} {b} {e} {t} {g} {qs} h mode k xs i d x rs new y l is ab be w args candidate found q told failed before =
-    let offers = h.offers (mode_of mode) in
+    → IfOk y (RepliesWith h mode b t qs x e) → OnErr y (FailsIn h mode b t x) → HaveOutcomes h mode a t qs (take i xs) (map (response_at b) rs) → HaveOutcomes h mode a t qs (take (i + 1) xs) (map (response_at e) new)
+outcomes_more {P} {a} {b} {e} {t} {g} {qs} h mode xs i d x rs new y l is ab be w args candidate found q told failed before =
     let c = content_of a t.entries in
     let now = content_of-extended ab w.now in
     let trees = trees_kept a b t.entries qs ab args in
     let kept = candidate-kept {a = a} {b = b} {g = g} {d = get_or xs i d} ab candidate in
     let there : candidate_of b x ≡ candidate_of a (get_or xs i d) = ap (candidate_of b) is ∙ kept in
-    let earlier : Outcomes offers k c (trees_of a qs) (candidates_of a (take i xs)) (map (response_at e) rs) = rw (responses_same rs be found) before in
+    let earlier : Outcomes h (mode_of mode) c (trees_of a qs) (candidates_of a (take i xs)) (map (response_at e) rs) = rw (responses_same rs be found) before in
     by_answer y q told failed earlier now trees there
   where
-    by_answer : (y : Result (Canonical Response) EvalError) → new ≡ kept_after rs y → IfOk y (RepliesWith h mode k b t qs x e) → OnErr y (FailsIn h mode k b t x) → Outcomes (h.offers (mode_of mode)) k (content_of a t.entries) (trees_of a qs) (candidates_of a (take i xs)) (map (response_at e) rs)
-        → content_of b t.entries ≡ content_of a t.entries → trees_of b qs ≡ trees_of a qs → candidate_of b x ≡ candidate_of a (get_or xs i d) → HaveOutcomes h mode k a t qs (take (i + 1) xs) (map (response_at e) new)
+    by_answer : (y : Result (Canonical Response) EvalError) → new ≡ kept_after rs y → IfOk y (RepliesWith h mode b t qs x e) → OnErr y (FailsIn h mode b t x) → Outcomes h (mode_of mode) (content_of a t.entries) (trees_of a qs) (candidates_of a (take i xs)) (map (response_at e) rs)
+        → content_of b t.entries ≡ content_of a t.entries → trees_of b qs ≡ trees_of a qs → candidate_of b x ≡ candidate_of a (get_or xs i d) → HaveOutcomes h mode a t qs (take (i + 1) xs) (map (response_at e) new)
     by_answer (Ok r) q told failed earlier now trees there =
-        let one : Replies (h.offers (mode_of mode)) k (content_of a t.entries) (trees_of a qs) (candidate_of a (get_or xs i d)) (response_at e r) = rw (now, trees, there) at told in
+        let one : Replies h (mode_of mode) (content_of a t.entries) (trees_of a qs) (candidate_of a (get_or xs i d)) (response_at e r) = rw (now, trees, there) at told in
         rw (candidates_next a xs i d l, q, map-append (response_at e) rs (r ∷ [])) (then_replies earlier one)
     by_answer (Err z) q told failed earlier now trees there =
-        let one : Fails (h.offers (mode_of mode)) k (content_of a t.entries) (candidate_of a (get_or xs i d)) = rw (now, there) at failed in
+        let one : Fails h (mode_of mode) (content_of a t.entries) (candidate_of a (get_or xs i d)) = rw (now, there) at failed in
         rw (candidates_next a xs i d l, q) (then_fails earlier one)
 
 -- the response that stands for all
@@ -111,11 +110,11 @@ found_merged {P} {a} {b} {e} {t} {g} {qs} rs r ab be formed w args found (inr (n
     let unsure = λ (y : r.value.certainty ≡ certainty.Yes). doubt_unsure (map (λ c. c.value.certainty) rs) (sym doubt ∙ y) in
     found_still r r.value.certainty w ab formed be args refl unsure (rw (told_unsure r.value.certainty (content_of b t.entries) unsure) plain) holds no_more
 
-pub told_merged : {P : List Tree → Table → Type 0} {a b e : List Tree} {t : Table} {g : Goal} {qs : List GenericArg} (h : Handler) (mode : TypingMode) (k : ℕ) (xs : List CandidateData) (rs : List (Canonical Response)) (r : Canonical Response) → Extends a b → Extends b e → IsTable a t → All (IsArgOf a t.entries) qs → All (Found P a b t g qs) rs
-    → HaveOutcomes h mode k a t qs xs (map (response_at b) rs) → IsMerged b e t qs rs r → CandidatesTell h mode k a t qs xs e r
-told_merged {P} {a} {b} {e} {t} {g} {qs} h mode k xs rs r ab be w args found outcomes (inl (m, merges)) =
+pub told_merged : {P : List Tree → Table → Type 0} {a b e : List Tree} {t : Table} {g : Goal} {qs : List GenericArg} (h : Handler) (mode : TypingMode) (xs : List CandidateData) (rs : List (Canonical Response)) (r : Canonical Response) → Extends a b → Extends b e → IsTable a t → All (IsArgOf a t.entries) qs → All (Found P a b t g qs) rs
+    → HaveOutcomes h mode a t qs xs (map (response_at b) rs) → IsMerged b e t qs rs r → CandidatesTell h mode a t qs xs e r
+told_merged {P} {a} {b} {e} {t} {g} {qs} h mode xs rs r ab be w args found outcomes (inl (m, merges)) =
     let (i, l, is) = merged_among b rs r m merges in
     let one : Found P a b t g qs r = subst (Found P a b t g qs) is (found i r l) in
     inl (map (response_at b) rs, outcomes, subst (StandsForAll (map (response_at b) rs)) (sym (response_same b e r be one.holds)) (merged_stands b rs r m merges))
-told_merged {P} {a} {b} {e} {t} {g} {qs} h mode k xs rs r ab be w args found outcomes (inr (none, doubt, plain, holds, no_more)) =
+told_merged {P} {a} {b} {e} {t} {g} {qs} h mode xs rs r ab be w args found outcomes (inr (none, doubt, plain, holds, no_more)) =
     inr (subst (λ z. IsPlain z (trees_of a qs) (response_at e r)) (content_of-extended ab w.now) (subst (λ z. IsPlain (content_of b t.entries) z (response_at e r)) (trees_kept a b t.entries qs ab args) plain))

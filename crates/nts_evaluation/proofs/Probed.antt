@@ -1,11 +1,12 @@
 -- What was found in a table that is gone, seen from the table that asked.
-use Rattle.std.proofs.Common.{◌≡◌, ◌⊎◌, inl, inr, ℕ, true, false, List, [], ◌∷◌, ◌++◌, map, refl, sym, ap, ◌∙◌, subst}
+use Rattle.std.proofs.Common.{◌≡◌, ◌⊎◌, inl, inr, true, false, List, [], ◌∷◌, ◌++◌, map, refl, sym, ap, ◌∙◌, subst}
 use Rattle.std.specs.Prelude.{All}
+use Rattle.nts_model.specs.Proofs.{Assumed}
+use Rattle.nts_model.specs.Stacks.{IsProvedFrom, IsDerivedFrom}
 use Rattle.nts_model.specs.Trees.{Tree}
 use Rattle.nts_model.specs.Contents.{Content}
 use Rattle.nts_model.specs.Passing.{TablePasses, BringsOnly}
 use Rattle.nts_model.specs.Rules.{Meaning, Mode}
-use Rattle.nts_model.specs.Proving as proving
 use Rattle.nts_model.specs.Inputs.{PositionKind}
 use Rattle.nts_model.specs.Responses.{Response as Answer, answer_sequent, IsOverPositions}
 use Rattle.nts_certainty.specs.declared.certainty.Certainty.{Certainty}
@@ -135,10 +136,10 @@ said_of (inl x) = inl x
 said_of (inr x) = inr (inl x)
 
 -- a candidate that was run in a snapshot of the table t has this response
-pub run_replies : {a b : List Tree} (s t u : Table) (h : Handler) (mode : TypingMode) (k : ℕ) (x : CandidateData) (qs : List Tree) (r : Answer) → HasRunTo h s.mode k a s b u x → s.mode ≡ mode → s.entries ≡ t.entries
-    → IsResponseOf (content_of b u.entries) qs r ⊎ IsPlain (content_of b u.entries) qs r ⊎ IsPlain (content_of a s.entries) qs r → Replies (h.offers (mode_of mode)) k (content_of a t.entries) qs (candidate_of a x) r
-run_replies {a} {b} s t u h mode k x qs r run moded same says =
-    subst (λ z. Replies (h.offers (mode_of mode)) k (content_of a z) qs (candidate_of a x) r) same (subst (λ z. Replies (h.offers (mode_of z)) k (content_of a s.entries) qs (candidate_of a x) r) moded (replies run.values run.met (content_of b u.entries) run.begun run.reaches says))
+pub run_replies : {a b : List Tree} (s t u : Table) (h : Handler) (mode : TypingMode) (x : CandidateData) (qs : List Tree) (r : Answer) → HasRunTo h s.mode a s b u x → s.mode ≡ mode → s.entries ≡ t.entries
+    → IsResponseOf (content_of b u.entries) qs r ⊎ IsPlain (content_of b u.entries) qs r ⊎ IsPlain (content_of a s.entries) qs r → Replies h (mode_of mode) (content_of a t.entries) qs (candidate_of a x) r
+run_replies {a} {b} s t u h mode x qs r run moded same says =
+    subst (λ z. Replies h (mode_of mode) (content_of a z) qs (candidate_of a x) r) same (subst (λ z. Replies h (mode_of z) (content_of a s.entries) qs (candidate_of a x) r) moded (replies run.values run.met (content_of b u.entries) run.begun run.reaches says))
 
 -- what was found in the table of a query, which was made for an input of these kinds
 module _ {P : List Tree → Table → Type 0} (a b e : List Tree) (q : Table) (g : Goal) (ks : List PositionKind) (input : CanonicalInput) (vs : List GenericArg) (r : Canonical Response) (found : Found P b e q g vs r)
@@ -165,11 +166,11 @@ module _ {P : List Tree → Table → Type 0} (a b e : List Tree) (q : Table) (g
       answer_to ks r.value.certainty r found.formed found.goes.table kinds (table_in ks (content_of d u.entries) pass) (args_know d u.entries vs (first_values ks) later_args later_values)
       (rw values at found.says) found.holds (found.goes.sides (rw first (first_sides ks))) found.no_more.no_hidden found.no_more.no_goals
 
-  pub found_derived : (m : Meaning) (mode : Mode) → r.value.certainty ≡ certainty.Yes → proving.IsProved m mode (content_of d u.entries) (tree_at d g.param_env.node) (tree_at d g.predicate.node) → proving.IsDerived m mode (answer_sequent (form_of a input) (response_at e r))
-  found_derived m mode sure proved =
+  pub found_derived : (m : Meaning) (mode : Mode) (A : List Assumed) → r.value.certainty ≡ certainty.Yes → IsProvedFrom m mode A (content_of d u.entries) (tree_at d g.param_env.node) (tree_at d g.predicate.node) → IsDerivedFrom m mode A (answer_sequent (form_of a input) (response_at e r))
+  found_derived m mode A sure proved =
       let later = found.goes.extends in
       let env = later.kept g.param_env.node holds.env.within ∙ environment in
       let pred = later.kept g.predicate.node holds.predicate.within ∙ predicate in
-      query_says ks (content_of d u.entries) (form_of a input) (response_at e r) m mode same
+      query_says ks (content_of d u.entries) (form_of a input) (response_at e r) m mode A same
       (query_table ks found.formed found.goes.table kinds pass (args_know d u.entries vs (first_values ks) later_args later_values))
       (rw (sure, values) at found.says) over_environment over_predicate (rw (env, pred) at proved)

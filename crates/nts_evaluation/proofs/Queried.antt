@@ -96,6 +96,7 @@ query_made {a} {b} {t} {g} {m} {r} f p e q k w =
       originals = k.originals;
       mode = ap mode_of k.mode ∙ q;
       asks = record {
+        asks = record { asked = i; proper = proper; form = k.form };
         input = w.input;
         environment = subst (λ z. IsOverPositions z.environment) (sym k.form) (canonical_environment_over i proper);
         predicate = subst (λ z. IsOverPositions z.predicate) (sym k.form) (canonical_predicate_over i proper);

@@ -1,14 +1,17 @@
 -- A candidate that is run: what its parts left, put together.
 use Rattle.std.proofs.Common.{◌≡◌, ⊎_elim, inl, inr, ℕ, List, [], ◌∷◌, map, refl, ap, ◌∙◌, subst}
 use Rattle.std.specs.Prelude.{Result, Ok}
+use Rattle.nts_delegate.specs.Offered.{source_of}
+use Rattle.nts_model.specs.Sequents.{Source}
 use Rattle.nts_model.specs.declared.labels.Sort.{Sort}
 use Rattle.nts_model.specs.Trees.{Tree, IsFormed}
 use Rattle.nts_model.specs.Contents.{Content}
 use Rattle.nts_model.specs.Resolving.{Knows}
 use Rattle.nts_model.specs.Sequents.{Among, Premise}
 use Rattle.nts_model.specs.Passing.{BringsOnly}
-use Rattle.nts_model.specs.Rules.{Mode, Meaning}
-use Rattle.nts_model.specs.Proving.{IsProved}
+use Rattle.nts_model.specs.Rules.{Mode, Meaning, GoalKind, step_kind}
+use Rattle.nts_model.specs.Proofs.{Assumed, passed}
+use Rattle.nts_model.specs.Stacks.{IsProvedFrom}
 use Rattle.nts_model.specs.Handlers.{Handler, filled, premise_by}
 use Rattle.nts_model.specs.Forcing.{AddsAll}
 use Rattle.nts_certainty.specs.declared.sources.GoalSource.{GoalSource}
@@ -43,9 +46,9 @@ begins : {a b : List Tree} {t u : Table} (e : List Tree) (v : Table) (x : Candid
     → map (constraint_of b) x.region_constraints.items ≡ map (constraint_of a) x.region_constraints.items → IsBegun (content_of a t.entries) (candidate_of a x) (map (tree_at b) vs) (content_of e v.entries)
 begins {a} {b} {t} {u} e v x vs q k same = record { made = q.made; equal = content_of b u.entries; freshens = q.freshens; equates = q.equates; adds = rw same at k }
 
-pub breaks : {a b : List Tree} {t u : Table} (h : Handler) (mode : TypingMode) (k : ℕ) (x : CandidateData) (vs : List NodeId) → Equated a b t u x.fresh.items vs x.equations.items → FailsToAdd (map (tree_at b) vs) (map (constraint_of b) x.region_constraints.items) (content_of b u.entries)
-    → map (constraint_of b) x.region_constraints.items ≡ map (constraint_of a) x.region_constraints.items → FailsIn h mode k a t x
-breaks {a} {b} {t} {u} h mode k x vs q f same = breaks_off (record { values = map (tree_at b) vs; made = q.made; equal = content_of b u.entries; freshens = q.freshens; equates = q.equates; fails = rw same at f })
+pub breaks : {a b : List Tree} {t u : Table} (h : Handler) (mode : TypingMode) (x : CandidateData) (vs : List NodeId) → Equated a b t u x.fresh.items vs x.equations.items → FailsToAdd (map (tree_at b) vs) (map (constraint_of b) x.region_constraints.items) (content_of b u.entries)
+    → map (constraint_of b) x.region_constraints.items ≡ map (constraint_of a) x.region_constraints.items → FailsIn h mode a t x
+breaks {a} {b} {t} {u} h mode x vs q f same = breaks_off (record { values = map (tree_at b) vs; made = q.made; equal = content_of b u.entries; freshens = q.freshens; equates = q.equates; fails = rw same at f })
 
 -- its goals, in another store
 pub added_is : {a e : List Tree} (z : List Tree) (g : Goal) (fresh : List Sort) (vs : List NodeId) (hs : List CandidateGoal) → Extends a e → AreNested a fresh g hs → map (tree_at e) vs ≡ map (tree_at z) vs
@@ -58,14 +61,14 @@ added_only {e} {f} {v} {g} {vs} {hs} {d} gs h k same = record { labels = λ P q 
 
 -- a candidate of the store a for the table t: it was equated in b and u, its constraints were recorded in e and v, and its goals
 -- are of the store f
-module _ {a b e f : List Tree} {t u v : Table} (h : Handler) (mode : TypingMode) (k : ℕ) (g : Goal) (x : CandidateData) (vs : List NodeId) (gs : List (GoalSource × Goal))
+module _ {a b e f : List Tree} {t u v : Table} (h : Handler) (mode : TypingMode) (g : Goal) (x : CandidateData) (vs : List NodeId) (gs : List (GoalSource × Goal))
     (equated : Equated a b t u x.fresh.items vs x.equations.items) (adds : AddsAll (map (tree_at b) vs) (map (constraint_of b) x.region_constraints.items) (content_of b u.entries) (content_of e v.entries))
     (constraints : map (constraint_of b) x.region_constraints.items ≡ map (constraint_of a) x.region_constraints.items) (nested : AreNested a x.fresh.items g x.goals.items)
     (ab : Extends a b) (be : Extends b e) (ae : Extends a e) (ef : Extends e f) (table : IsTable e v) (within : AllIn b vs) (added : goals_at f gs ≡ goals_with (map (tree_at e) vs) (map (premise_of e) x.goals.items)) where
   its_goals : goals_at f gs ≡ goals_with (map (tree_at b) vs) (map (premise_of a) x.goals.items)
   its_goals = added ∙ added_is b g x.fresh.items vs x.goals.items ae nested (map-kept b e vs within be)
 
-  pub ran_to : (z : List Tree) (w : Table) → ReachesBy h mode k f v z w gs → HasRunTo h mode k a t z w x
+  pub ran_to : (z : List Tree) (w : Table) → ReachesBy h mode f v z w gs → HasRunTo h mode a t z w x
   ran_to z w r =
       record {
         values = map (tree_at b) vs;
@@ -74,14 +77,14 @@ module _ {a b e f : List Tree} {t u v : Table} (h : Handler) (mode : TypingMode)
         reaches = rw (its_goals, content_of-extended ef table.now) at r;
       }
 
-  pub ran_refused : RefusesOneOf h mode k f v gs → FailsIn h mode k a t x
+  pub ran_refused : RefusesOneOf h mode f v gs → FailsIn h mode a t x
   ran_refused r = is_refused (map (tree_at b) vs) (content_of e v.entries) (begins e v x vs equated adds constraints) (rw (its_goals, content_of-extended ef table.now) at r)
 
 -- what is proved of the goals
 pub all_posed : {f : List Tree} {v : Table} (gs : List (GoalSource × Goal)) → ArePosed f v gs → (g : GoalSource × Goal) → Among gs g → IsPosed f v g.1
 all_posed {f} {v} gs h g i = all_among (λ x. IsPosed f v x.1) gs g h i
 
-pub proved_all : (P : Goal → Type 0) (gs : List (GoalSource × Goal)) {left : List (GoalSource × Goal)} → left ≡ [] → AreSettled P gs left → (g : GoalSource × Goal) → Among gs g → P g.1
+pub proved_all : (P : GoalSource × Goal → Type 0) (gs : List (GoalSource × Goal)) {left : List (GoalSource × Goal)} → left ≡ [] → AreSettled P gs left → (g : GoalSource × Goal) → Among gs g → P g
 proved_all P gs none h g i = ⊎_elim (λ j. absurd (subst (λ xs. Among xs g) none j)) (λ p. p) (h g i)
 
 pub ok_inside : {T E : Type 0} {x y : T} → (let r : Result T E = Ok x in r) ≡ Ok y → x ≡ y
@@ -96,11 +99,14 @@ tails x y xs ys e = cc
 abbrev environment_of : Premise → Tree
 environment_of p = p.environment
 
+abbrev source_in : Premise → Source
+source_in p = p.source
+
 abbrev predicate_of : Premise → Tree
 predicate_of p = p.predicate
 
-one_proved : {f z : List Tree} {v w : Table} (m : Meaning) (mode : Mode) (vs : List Tree) (q : Premise) (g : GoalSource × Goal) → premise_at f g ≡ premise_by (filled vs) q → IsPosed f v g.1 → Goes f z v w → AreFormed z → StaysProved m mode z w g.1 → Stays (content_of z w.entries) (PremiseHolds m mode vs q)
-one_proved {f} {z} {v} {w} m mode vs q g e posed goes formed proved =
+one_proved : {f z : List Tree} {v w : Table} (m : Meaning) (mode : Mode) (k : GoalKind) (A : List Assumed) (vs : List Tree) (q : Premise) (g : GoalSource × Goal) → premise_at f g ≡ premise_by (filled vs) q → IsPosed f v g.1 → Goes f z v w → AreFormed z → StaysProved m mode (passed (step_kind k (source_of g.0)) A) z w g.1 → Stays (content_of z w.entries) (PremiseHolds m mode k A vs q)
+one_proved {f} {z} {v} {w} m mode k A vs q g e posed goes formed proved =
     let env : tree_at f g.1.param_env.node ≡ filled vs q.environment = ap environment_of e in
     let predicate : tree_at f g.1.predicate.node ≡ filled vs q.predicate = ap predicate_of e in
     let in_env : IsIn f g.1.param_env.node = posed.holds.env.within in
@@ -109,18 +115,19 @@ one_proved {f} {z} {v} {w} m mode vs q g e posed goes formed proved =
     let predicate_same = goes.extends.kept g.1.predicate.node in_predicate in
     let env_formed : IsFormed (filled vs q.environment) = subst IsFormed (env_same ∙ env) (formed g.1.param_env.node (IsIn-extended goes.extends g.1.param_env.node in_env)) in
     let predicate_formed : IsFormed (filled vs q.predicate) = subst IsFormed (predicate_same ∙ predicate) (formed g.1.predicate.node (IsIn-extended goes.extends g.1.predicate.node in_predicate)) in
-    premise_stays goes (subst (Knows (content_of f v.entries)) env posed.knows.env) (subst (Knows (content_of f v.entries)) predicate posed.knows.predicate) env_formed predicate_formed
-    (subst (λ x. Stays (content_of z w.entries) (λ d. IsProved m mode d x (filled vs q.predicate))) (env_same ∙ env)
-    (subst (λ y. Stays (content_of z w.entries) (λ d. IsProved m mode d (tree_at z g.1.param_env.node) y)) (predicate_same ∙ predicate) proved))
+    premise_stays k A goes (subst (Knows (content_of f v.entries)) env posed.knows.env) (subst (Knows (content_of f v.entries)) predicate posed.knows.predicate) env_formed predicate_formed
+    (subst (λ x. Stays (content_of z w.entries) (λ d. IsProvedFrom m mode (passed (step_kind k q.source) A) d x (filled vs q.predicate))) (env_same ∙ env)
+    (subst (λ y. Stays (content_of z w.entries) (λ d. IsProvedFrom m mode (passed (step_kind k q.source) A) d (tree_at z g.1.param_env.node) y)) (predicate_same ∙ predicate)
+    (subst (λ o. StaysProved m mode (passed (step_kind k o) A) z w g.1) (ap source_in e) proved)))
 
 no_nil : {X : Type 0} (x : X) (xs : List X) → [] ≡ x ∷ xs → ⊥
 no_nil x xs e = cc
 
-pub all_proved : {f z : List Tree} {v w : Table} (m : Meaning) (mode : Mode) (vs : List Tree) (ps : List Premise) (gs : List (GoalSource × Goal)) → goals_at f gs ≡ goals_with vs ps → ((g : GoalSource × Goal) → Among gs g → IsPosed f v g.1) → Goes f z v w → AreFormed z
-    → ((g : GoalSource × Goal) → Among gs g → StaysProved m mode z w g.1) → EachStays (content_of z w.entries) (PremiseHolds m mode vs) ps
-all_proved m mode vs [] gs e p goes formed h = tt
-all_proved m mode vs (q ∷ ps) [] e p goes formed h = absurd (no_nil (premise_by (filled vs) q) (goals_with vs ps) e)
-all_proved {f} {z} {v} {w} m mode vs (q ∷ ps) (g ∷ gs) e p goes formed h = (
-  one_proved m mode vs q g (heads (premise_at f g) (premise_by (filled vs) q) (goals_at f gs) (goals_with vs ps) e) (p g (inl refl)) goes formed (h g (inl refl)),
-  all_proved m mode vs ps gs (tails (premise_at f g) (premise_by (filled vs) q) (goals_at f gs) (goals_with vs ps) e) (λ y i. p y (inr i)) goes formed (λ y i. h y (inr i)),
+pub all_proved : {f z : List Tree} {v w : Table} (m : Meaning) (mode : Mode) (k : GoalKind) (A : List Assumed) (vs : List Tree) (ps : List Premise) (gs : List (GoalSource × Goal)) → goals_at f gs ≡ goals_with vs ps → ((g : GoalSource × Goal) → Among gs g → IsPosed f v g.1) → Goes f z v w → AreFormed z
+    → ((g : GoalSource × Goal) → Among gs g → StaysProved m mode (passed (step_kind k (source_of g.0)) A) z w g.1) → EachStays (content_of z w.entries) (PremiseHolds m mode k A vs) ps
+all_proved m mode k A vs [] gs e p goes formed h = tt
+all_proved m mode k A vs (q ∷ ps) [] e p goes formed h = absurd (no_nil (premise_by (filled vs) q) (goals_with vs ps) e)
+all_proved {f} {z} {v} {w} m mode k A vs (q ∷ ps) (g ∷ gs) e p goes formed h = (
+  one_proved m mode k A vs q g (heads (premise_at f g) (premise_by (filled vs) q) (goals_at f gs) (goals_with vs ps) e) (p g (inl refl)) goes formed (h g (inl refl)),
+  all_proved m mode k A vs ps gs (tails (premise_at f g) (premise_by (filled vs) q) (goals_at f gs) (goals_with vs ps) e) (λ y i. p y (inr i)) goes formed (λ y i. h y (inr i)),
 )

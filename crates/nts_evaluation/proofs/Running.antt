@@ -16,10 +16,12 @@ use Rattle.nts_model.specs.Resolving.{deeply_resolved, Knows}
 use Rattle.nts_model.specs.Holding.{AreOne, IsTrivial, HasSides, HoldsConstraint, Continues}
 use Rattle.nts_model.specs.Alike.{Alike, one_tree, two_regions, one_label, two_rows, HoldsEqual, AreAlike}
 use Rattle.nts_model.specs.Sequents.{Among, Premise}
-use Rattle.nts_model.specs.Rules.{Mode, Meaning}
+use Rattle.nts_model.specs.Rules.{Mode, Meaning, GoalKind, goal_kind, step_kind}
+use Rattle.nts_model.specs.Proofs.{Assumed, passed}
+use Rattle.nts_model.specs.Stacks.{IsProvedFrom}
 use Rattle.nts_model.specs.Handlers.{Handler, meaning, Candidate, certain, filled, AreValuesOf}
 use Rattle.nts_model.specs.Proving as proving
-use Rattle.nts_model.specs.Proving.{HoldsTerms, AreConstraintsOf, recorded_as, sequent_at, AreEquated, HoldsEquationAt, IsHeldAt, IsProvedAt}
+use Rattle.nts_model.specs.Proving.{HoldsTerms, AreConstraintsOf, recorded_as, sequent_at, AreEquated, HoldsEquationAt, IsHeldAt}
 use Rattle.nts_model.proofs.Held.{Continues-refl, Continues-trans, HoldsConstraint-continues, HoldsConstraint-with_constraint}
 use Rattle.nts_model.proofs.Alike.{AreAlike-continues}
 use Rattle.nts_model.proofs.Resolved.{deeply_resolved-deeply_resolved}
@@ -244,17 +246,17 @@ one_known c (x ∷ xs) v h (inl e) = rw e h.0
 one_known c (x ∷ xs) v h (inr i) = one_known c xs v h.1 i
 
 -- the parts of a candidate that was run hold
-pub record HasRun (m : Meaning) (mode : Mode) (c : Content) (x : Candidate) (vs : List Tree) : Type 0 where
+pub record HasRun (m : Meaning) (mode : Mode) (z : GoalKind) (A : List Assumed) (c : Content) (x : Candidate) (vs : List Tree) : Type 0 where
   pub sure : x.certainty ≡ certain
   pub values : AreValuesOf x.fresh vs
   pub known : AllKnown c vs
   pub equations : EachStays c (EquationHolds vs) x.equations
   pub constraints : EachStays c (ConstraintHolds vs) x.constraints
-  pub goals : EachStays c (PremiseHolds m mode vs) x.goals
+  pub goals : EachStays c (PremiseHolds m mode z A vs) x.goals
 
 -- so a candidate that is offered holds
-pub has_run : (h : Handler) (v : ℕ → List Variance) (mode : Mode) (c : Content) (x : Candidate) (vs : List Tree) (e g : Tree) → IsTermTable c → Among (h.offers mode e g) x → HasRun (meaning h v) mode c x vs → IsServed h (meaning h v) mode c e g
-has_run h v mode c x vs e g t offered run =
+pub has_run : (h : Handler) (v : ℕ → List Variance) (mode : Mode) (A : List Assumed) (c : Content) (x : Candidate) (vs : List Tree) (e g : Tree) → IsTermTable c → Among (h.offers mode e g) x → HasRun (meaning h v) mode (goal_kind (meaning h v) g) A c x vs → IsServed h (meaning h v) mode A c e g
+has_run h v mode A c x vs e g t offered run =
     let same = Continues-refl c t.sound in
     record {
       candidate = x;
@@ -266,7 +268,7 @@ has_run h v mode c x vs e g t offered run =
         known = λ v i. one_known c vs v run.known i;
         equations = λ q i. (let s = each_stays c (EquationHolds vs) x.equations q run.equations i in s.later c t same);
         constraints = λ q i. (let s = each_stays c (ConstraintHolds vs) x.constraints q run.constraints i in s.later c t same);
-        goals = λ q i. (let s = each_stays c (PremiseHolds (meaning h v) mode vs) x.goals q run.goals i in s.later c t same);
+        goals = λ q i. (let s = each_stays c (PremiseHolds (meaning h v) mode (goal_kind (meaning h v) g) A vs) x.goals q run.goals i in s.later c t same);
       };
     }
 
@@ -314,8 +316,8 @@ premise-kept h e l r =
     λ i. record { source = source_of h.source; environment = env i; predicate = predicate i }
 
 -- what is proved of read trees is proved of the trees
-pub unread : {a b : List Tree} {t u : Table} {m : Meaning} {mode : Mode} (x y p q : Tree) → Goes a b t u → p ≡ deeply_resolved (content_of a t.entries) x → q ≡ deeply_resolved (content_of a t.entries) y → Knows (content_of a t.entries) x → Knows (content_of a t.entries) y → Stays (content_of b u.entries) (λ d. proving.IsProved m mode d p q) → Stays (content_of b u.entries) (λ d. proving.IsProved m mode d x y)
-unread {a} {b} {t} {u} {m} {mode} x y p q g e f i j h =
+pub unread : {a b : List Tree} {t u : Table} {m : Meaning} {mode : Mode} {A : List Assumed} (x y p q : Tree) → Goes a b t u → p ≡ deeply_resolved (content_of a t.entries) x → q ≡ deeply_resolved (content_of a t.entries) y → Knows (content_of a t.entries) x → Knows (content_of a t.entries) y → Stays (content_of b u.entries) (λ d. IsProvedFrom m mode A d p q) → Stays (content_of b u.entries) (λ d. IsProvedFrom m mode A d x y)
+unread {a} {b} {t} {u} {m} {mode} {A} x y p q g e f i j h =
     record {
       later = λ d s k.
           (let c = content_of a t.entries in
@@ -326,8 +328,8 @@ unread {a} {b} {t} {u} {m} {mode} x y p q g e f i j h =
     }
 
 -- a goal of a candidate that is proved
-pub premise_stays : {a b : List Tree} {t u : Table} {m : Meaning} {mode : Mode} {vs : List Tree} {q : Premise} → Goes a b t u → Knows (content_of a t.entries) (filled vs q.environment) → Knows (content_of a t.entries) (filled vs q.predicate) → IsFormed (filled vs q.environment) → IsFormed (filled vs q.predicate) → Stays (content_of b u.entries) (λ d. proving.IsProved m mode d (filled vs q.environment) (filled vs q.predicate)) → Stays (content_of b u.entries) (PremiseHolds m mode vs q)
-premise_stays {a} {b} {t} {u} {m} {mode} {vs} {q} g i j f k h =
+pub premise_stays : {a b : List Tree} {t u : Table} {m : Meaning} {mode : Mode} (z : GoalKind) (A : List Assumed) {vs : List Tree} {q : Premise} → Goes a b t u → Knows (content_of a t.entries) (filled vs q.environment) → Knows (content_of a t.entries) (filled vs q.predicate) → IsFormed (filled vs q.environment) → IsFormed (filled vs q.predicate) → Stays (content_of b u.entries) (λ d. IsProvedFrom m mode (passed (step_kind z q.source) A) d (filled vs q.environment) (filled vs q.predicate)) → Stays (content_of b u.entries) (PremiseHolds m mode z A vs q)
+premise_stays {a} {b} {t} {u} {m} {mode} z A {vs} {q} g i j f k h =
     record {
       later = λ d s n. record {
         environment = term_later (content_of b u.entries) d (filled vs q.environment) n (Knows-goes (filled vs q.environment) g i) f;

@@ -2,6 +2,22 @@
 use Rattle.std.proofs.Common.{◌≡◌, ◌⊎◌, inl, inr, ⊎_elim, ℕ, zero, suc, ◌+◌, ◌<◌, ◌≤◌, List, [], ◌∷◌, ◌++◌, map, length, take, get_or, refl, sym, ap, ◌∙◌, subst, arith}
 use Rattle.std.specs.Prelude.{All}
 use Rattle.std.proofs.lemmas.List.Elements.{All-head, All-tail}
+use Rattle.nts_model.specs.Sequents.{inductive}
+use Rattle.nts_model.specs.Rules.{Mode, GoalKind, step_kind}
+use Rattle.nts_model.specs.Proofs.{Assumed}
+use Rattle.nts_model.proofs.Assuming.{Covers, covers_passed}
+use Rattle.nts_certainty.specs.declared.sources.PathKind.{PathKind}
+use Rattle.nts_certainty.specs.declared.sources.PathKind.TheVariants as path
+use Rattle.nts_certainty.specs.declared.sources.GoalSource.TheVariants as source
+use Rattle.nts_search.specs.declared.kinds.CurrentGoalKind.{CurrentGoalKind}
+use Rattle.nts_search.specs.declared.kinds.CurrentGoalKind.TheVariants as kinds
+use Rattle.nts_search.specs.Kinds.{goal_kind_of}
+use Rattle.nts_delegate.specs.Offered.{path_kind_of, source_of}
+use Rattle.nts_evaluation.specs.Telling.{IsInductive}
+use Rattle.nts_evaluation.specs.Telling.RefusesOne.{cuts_one}
+use Rattle.nts_evaluation.specs.Searching.{IsCut}
+use Rattle.nts_evaluation.specs.Meant.{IsNestedSince}
+use Rattle.nts_evaluation.proofs.Searching.{stays_more}
 use Rattle.nts_model.specs.Trees.{Tree}
 use Rattle.nts_model.specs.Contents.{Content}
 use Rattle.nts_model.specs.Sequents.{Among, Premise}
@@ -107,41 +123,58 @@ only_left {a} {b} {t} gs left e h k o =
     let p = all_among (λ g. IsPosed a t g.1) gs r.0 h i in
     term_among a gs r.0 x i (terms_same r.0.1 x e p.holds r.2)) o
 
+-- a step that is inductive, though its goal normalizes no alias
+inductive_source : (z : CurrentGoalKind) (o : GoalSource) → z ≢ kinds.NormalizesTo → step_kind (goal_kind_of z) (source_of o) ≡ inductive → IsInductive (source_of o)
+inductive_source kinds.NormalizesTo o n e = absurd (n refl)
+inductive_source kinds.Misc source.Misc n e = cc e
+inductive_source kinds.Misc source.TypeRelating n e = tt
+inductive_source kinds.Misc source.ImplWhereBound n e = cc e
+inductive_source kinds.Misc source.AliasBoundConstCondition n e = cc e
+inductive_source kinds.Misc source.AliasWellFormed n e = cc e
+inductive_source kinds.Misc (source.NormalizeGoal path.Inductive) n e = tt
+inductive_source kinds.Misc (source.NormalizeGoal path.Coinductive) n e = cc e
+inductive_source kinds.Misc (source.NormalizeGoal path.Unknown) n e = cc e
+inductive_source kinds.Misc (source.NormalizeGoal path.ForcedAmbiguity) n e = cc e
+inductive_source kinds.CoinductiveTrait source.Misc n e = cc e
+inductive_source kinds.CoinductiveTrait source.TypeRelating n e = tt
+inductive_source kinds.CoinductiveTrait source.ImplWhereBound n e = cc e
+inductive_source kinds.CoinductiveTrait source.AliasBoundConstCondition n e = cc e
+inductive_source kinds.CoinductiveTrait source.AliasWellFormed n e = cc e
+inductive_source kinds.CoinductiveTrait (source.NormalizeGoal path.Inductive) n e = tt
+inductive_source kinds.CoinductiveTrait (source.NormalizeGoal path.Coinductive) n e = cc e
+inductive_source kinds.CoinductiveTrait (source.NormalizeGoal path.Unknown) n e = cc e
+inductive_source kinds.CoinductiveTrait (source.NormalizeGoal path.ForcedAmbiguity) n e = cc e
+
 -- one goal more was asked, or passed over
-module _ {a b : List Tree} {t : Table} (u : Table) (h : Handler) (mode : TypingMode) (k : ℕ) (gs : List (GoalSource × Goal)) (g : GoalSource × Goal) (posed : ArePosed a t gs) (i : Among gs g) (e : Extends a b) (before : ReachesBy h mode k a t b u gs) where
+module _ {a b : List Tree} {t : Table} (u : Table) (h : Handler) (mode : TypingMode) (gs : List (GoalSource × Goal)) (g : GoalSource × Goal) (posed : ArePosed a t gs) (i : Among gs g) (e : Extends a b) (before : ReachesBy h mode a t b u gs) where
   abbrev here : Content
   here = content_of b u.entries
 
   same_premise : premise_at b g ≡ premise_at a g
   same_premise = (let p = all_among (λ g. IsPosed a t g.1) gs g posed i in premise_same g e p.holds)
 
-  pub reach_more : {d : List Tree} (v : Table) → IsTable b u → Extends b d → IsAskedUnder h mode k b u d v g.1 ⊎ (v.entries ≡ u.entries) → ReachesBy h mode k a t d v gs
+  pub reach_more : {d : List Tree} (v : Table) → IsTable b u → Extends b d → IsAskedUnder h mode b u d v g.1 ⊎ (v.entries ≡ u.entries) → ReachesBy h mode a t d v gs
   reach_more {d} v w f (inl x) =
       let p = premise_at a g in
-      then_asks here p before (among_image (premise_at a) gs g i) (subst (λ (q : Premise). Asked (h.offers (mode_of mode)) k here (content_of d v.entries) (deeply_resolved here q.environment) (deeply_resolved here q.predicate)) same_premise x)
-  reach_more {d} v w f (inr x) = subst (Reaches (h.offers (mode_of mode)) k (goals_at a gs) (content_of a t.entries)) (sym (ap (content_of d) x ∙ content_of-extended f w.now)) before
+      then_asks here p before (among_image (premise_at a) gs g i) (subst (λ (q : Premise). Asked h (mode_of mode) here (content_of d v.entries) (deeply_resolved here q.environment) (deeply_resolved here q.predicate)) same_premise x)
+  reach_more {d} v w f (inr x) = subst (Reaches h (mode_of mode) (goals_at a gs) (content_of a t.entries)) (sym (ap (content_of d) x ∙ content_of-extended f w.now)) before
 
-  pub refuse_more : IsRefusedUnder h mode k b u g.1 → RefusesOneOf h mode k a t gs
-  refuse_more x =
-      refuses_one here (premise_at a g) before (among_image (premise_at a) gs g i) (subst (λ (q : Premise). Refused (h.offers (mode_of mode)) k here (deeply_resolved here q.environment) (deeply_resolved here q.predicate)) same_premise x)
-
--- what was asked within a height was asked within a greater one
-pub asked_more : (offers : Tree → Tree → List Candidate) (n m : ℕ) {c d : Content} {e g : Tree} → n ≤ m → Asked offers n c d e g → Asked offers m c d e g
-asked_more offers n m l (asked_by k i r f b t a) = asked_by k i r f (omega (arith, l, b)) t a
-
-pub refused_more : (offers : Tree → Tree → List Candidate) (n m : ℕ) {c : Content} {e g : Tree} → n ≤ m → Refused offers n c e g → Refused offers m c e g
-refused_more offers n m l (by_query k i f b t) = by_query k i f (omega (arith, l, b)) t
-refused_more offers n m l (by_response k i r f b t a) = by_response k i r f (omega (arith, l, b)) t a
+  pub refuse_more : {z : CurrentGoalKind} {w : PathKind} → path_kind_of w ≡ step_kind (goal_kind_of z) (source_of g.0) → z ≢ kinds.NormalizesTo → IsRefusedUnder h mode b u g.1 ⊎ IsCut mode w → RefusesOneOf h mode a t gs
+  refuse_more {z} {w} same n (inr x) =
+      cuts_one here (premise_at a g) before (among_image (premise_at a) gs g i) (inductive_source z g.0 n (sym same ∙ ap path_kind_of x.0)) x.1
+  refuse_more same n (inl x) =
+      refuses_one here (premise_at a g) before (among_image (premise_at a) gs g i) (subst (λ (q : Premise). Refused h (mode_of mode) here (deeply_resolved here q.environment) (deeply_resolved here q.predicate)) same_premise x)
 
 -- a step over the goals that are left, after the steps before
-reaches_into : {offers : Tree → Tree → List Candidate} {k : ℕ} (gs hs : List Premise) {c d e : Content} → ((p : Premise) → Among gs p → Among hs p) → Reaches offers k hs c d → Reaches offers k gs d e → Reaches offers k hs c e
+reaches_into : {h : Handler} {mode : Mode} (gs hs : List Premise) {c d e : Content} → ((p : Premise) → Among gs p → Among hs p) → Reaches h mode hs c d → Reaches h mode gs d e → Reaches h mode hs c e
 reaches_into gs hs f h asks_nothing = h
 reaches_into gs hs f h (then_asks x p r i q) = then_asks x p (reaches_into gs hs f h r) (f p i) q
 
-refuses_into : {offers : Tree → Tree → List Candidate} {k : ℕ} (gs hs : List Premise) {c d : Content} → ((p : Premise) → Among gs p → Among hs p) → Reaches offers k hs c d → RefusesOne offers k gs d → RefusesOne offers k hs c
+refuses_into : {h : Handler} {mode : Mode} (gs hs : List Premise) {c d : Content} → ((p : Premise) → Among gs p → Among hs p) → Reaches h mode hs c d → RefusesOne h mode gs d → RefusesOne h mode hs c
 refuses_into gs hs f h (refuses_one x p r i q) = refuses_one x p (reaches_into gs hs f h r) (f p i) q
+refuses_into gs hs f h (cuts_one x p r i q z) = cuts_one x p (reaches_into gs hs f h r) (f p i) q z
 
-module _ {a b : List Tree} {t : Table} (u : Table) (h : Handler) (mode : TypingMode) (k : ℕ) (gs left : List (GoalSource × Goal)) (posed : ArePosed a t gs) (some : AreLeft gs left) (e : Extends a b) (before : ReachesBy h mode k a t b u gs) where
+module _ {a b : List Tree} {t : Table} (u : Table) (h : Handler) (mode : TypingMode) (gs left : List (GoalSource × Goal)) (posed : ArePosed a t gs) (some : AreLeft gs left) (e : Extends a b) (before : ReachesBy h mode a t b u gs) where
   goals_left : (p : Premise) → Among (goals_at b left) p → Among (goals_at a gs) p
   goals_left p j =
       let r = among_mapped (premise_at b) left p j in
@@ -149,16 +182,16 @@ module _ {a b : List Tree} {t : Table} (u : Table) (h : Handler) (mode : TypingM
       let q = all_among (λ g. IsPosed a t g.1) gs r.0 posed i in
       subst (Among (goals_at a gs)) (sym (r.2 ∙ premise_same r.0 e q.holds)) (among_image (premise_at a) gs r.0 i)
 
-  pub reach_step : (d : List Tree) (v : Table) → ReachesBy h mode k b u d v left → ReachesBy h mode k a t d v gs
+  pub reach_step : (d : List Tree) (v : Table) → ReachesBy h mode b u d v left → ReachesBy h mode a t d v gs
   reach_step d v x = reaches_into (goals_at b left) (goals_at a gs) goals_left before x
 
-  pub refuse_step : RefusesOneOf h mode k b u left → RefusesOneOf h mode k a t gs
+  pub refuse_step : RefusesOneOf h mode b u left → RefusesOneOf h mode a t gs
   refuse_step x = refuses_into (goals_at b left) (goals_at a gs) goals_left before x
 
 pub left_trans : (gs left more : List (GoalSource × Goal)) → AreLeft gs left → AreLeft left more → AreLeft gs more
 left_trans gs left more h k = λ g i. h g (k g i)
 
-settled_trans : (P Q : Goal → Type 0) (gs left more : List (GoalSource × Goal)) → ((g : GoalSource × Goal) → Among gs g → P g.1 → Q g.1) → AreSettled P gs left → AreSettled Q left more → AreSettled Q gs more
+settled_trans : (P Q : GoalSource × Goal → Type 0) (gs left more : List (GoalSource × Goal)) → ((g : GoalSource × Goal) → Among gs g → P g → Q g) → AreSettled P gs left → AreSettled Q left more → AreSettled Q gs more
 settled_trans P Q gs left more f h k = λ g i. ⊎_elim (λ j. k g j) (λ p. inr (f g i p)) (h g i)
 
 -- the answer to one goal more is noted
@@ -181,38 +214,39 @@ among_taken (y ∷ xs) zero x h = absurd h
 among_taken (y ∷ xs) (suc i) x (inl e) = inl e
 among_taken (y ∷ xs) (suc i) x (inr h) = inr (among_taken xs i x h)
 
-settled_more : (P Q : Goal → Type 0) (gs left : List (GoalSource × Goal)) (i : ℕ) (d : GoalSource × Goal) (x : Certainty) → i < length gs → ((g : GoalSource × Goal) → Among gs g → P g.1 → Q g.1) → (x ≡ certainty.Yes → Q (get_or gs i d).1) → AreSettled P (take i gs) left → AreSettled Q (take (i + 1) gs) (left_after left (get_or gs i d) x)
+settled_more : (P Q : GoalSource × Goal → Type 0) (gs left : List (GoalSource × Goal)) (i : ℕ) (d : GoalSource × Goal) (x : Certainty) → i < length gs → ((g : GoalSource × Goal) → Among gs g → P g → Q g) → (x ≡ certainty.Yes → Q (get_or gs i d)) → AreSettled P (take i gs) left → AreSettled Q (take (i + 1) gs) (left_after left (get_or gs i d) x)
 settled_more P Q gs left i d x l f new h =
     let y = get_or gs i d in
     let next : i + 1 ≡ suc i = omega arith in
     λ g j.
     ⊎_elim
     (λ k. ⊎_elim (λ m. inl (left_grows left y x g m)) (λ p. inr (f g (among_taken gs i g k) p)) (h g k))
-    (λ e. ⊎_elim (λ m. inl (subst (Among (left_after left y x)) (sym e) m)) (λ s. inr (subst (λ z. Q z.1) (sym e) (new s))) (left_noted left y x))
+    (λ e. ⊎_elim (λ m. inl (subst (Among (left_after left y x)) (sym e) m)) (λ s. inr (subst Q (sym e) (new s))) (left_noted left y x))
     (take_next gs i d g l (subst (λ n. Among (take n gs) g) next j))
 
--- what is proved of a goal stays proved
-proved_later : {ready : List Tree → Type 0} {a b e : List Tree} {u v : Table} (handler : List Tree → Handler) (s : Since ready a) (mode : TypingMode) (g : Goal) → HoldsGoal b g → Goes b e u v → IsProvedSince handler s mode b u g → IsProvedSince handler s mode e v g
-proved_later handler s mode g h k p = rw (k.extends.kept g.param_env.node h.env.within, k.extends.kept g.predicate.node h.predicate.within) (Stays-later k p)
+-- what is proved of a goal stays proved, from more
+proved_later : {ready : List Tree → Type 0} {a b e : List Tree} {u v : Table} {A B : List Assumed} (handler : List Tree → Handler) (s : Since ready a) (mode : TypingMode) (z : GoalKind) (g : GoalSource × Goal) → HoldsGoal b g.1 → Goes b e u v → Covers A B → IsNestedSince handler s mode z A b u g → IsNestedSince handler s mode z B e v g
+proved_later {A = A} {B = B} handler s mode z g h k f p =
+    rw (k.extends.kept g.1.param_env.node h.env.within, k.extends.kept g.1.predicate.node h.predicate.within) (stays_more (covers_passed (step_kind z (source_of g.0)) A B f) (Stays-later k p))
 
 holds_later : {a b : List Tree} {t : Table} (gs : List (GoalSource × Goal)) (g : GoalSource × Goal) → ArePosed a t gs → Extends a b → Among gs g → HoldsGoal b g.1
 holds_later {a} {b} {t} gs g h e i = (let p = all_among (λ x. IsPosed a t x.1) gs g h i in HoldsGoal-extended e p.holds)
 
-pub settled_proved : {ready : List Tree → Type 0} {a b e : List Tree} {t u v : Table} (handler : List Tree → Handler) (s : Since ready a) (mode : TypingMode) (gs left : List (GoalSource × Goal)) (i : ℕ) (d : GoalSource × Goal) (x : Certainty) → i < length gs → ArePosed a t gs → Extends a b → Goes b e u v
-    → (x ≡ certainty.Yes → IsProvedSince handler s mode e v (get_or gs i d).1) → AreSettled (IsProvedSince handler s mode b u) (take i gs) left → AreSettled (IsProvedSince handler s mode e v) (take (i + 1) gs) (left_after left (get_or gs i d) x)
-settled_proved {ready} {a} {b} {e} {t} {u} {v} handler s mode gs left i d x l h k goes new old =
-    settled_more (IsProvedSince handler s mode b u) (IsProvedSince handler s mode e v) gs left i d x l (λ g j p. proved_later handler s mode g.1 (holds_later gs g h k j) goes p) new old
+pub settled_proved : {ready : List Tree → Type 0} {a b e : List Tree} {t u v : Table} {A B : List Assumed} (handler : List Tree → Handler) (s : Since ready a) (mode : TypingMode) (z : GoalKind) (gs left : List (GoalSource × Goal)) (i : ℕ) (d : GoalSource × Goal) (x : Certainty) → i < length gs → ArePosed a t gs → Extends a b → Goes b e u v → Covers A B
+    → (x ≡ certainty.Yes → IsNestedSince handler s mode z B e v (get_or gs i d)) → AreSettled (IsNestedSince handler s mode z A b u) (take i gs) left → AreSettled (IsNestedSince handler s mode z B e v) (take (i + 1) gs) (left_after left (get_or gs i d) x)
+settled_proved {ready} {a} {b} {e} {t} {u} {v} {A} {B} handler s mode z gs left i d x l h k goes f new old =
+    settled_more (IsNestedSince handler s mode z A b u) (IsNestedSince handler s mode z B e v) gs left i d x l (λ g j p. proved_later handler s mode z g (holds_later gs g h k j) goes f p) new old
 
-pub settled_step : {ready : List Tree → Type 0} {a b e : List Tree} {t u v : Table} (handler : List Tree → Handler) (s : Since ready a) (mode : TypingMode) (gs left more : List (GoalSource × Goal)) → ArePosed a t gs → Extends a b → Goes b e u v
-    → AreSettled (IsProvedSince handler s mode b u) gs left → AreSettled (IsProvedSince handler s mode e v) left more → AreSettled (IsProvedSince handler s mode e v) gs more
-settled_step {ready} {a} {b} {e} {t} {u} {v} handler s mode gs left more h k goes old new =
-    settled_trans (IsProvedSince handler s mode b u) (IsProvedSince handler s mode e v) gs left more (λ g i p. proved_later handler s mode g.1 (holds_later gs g h k i) goes p) old new
+pub settled_step : {ready : List Tree → Type 0} {a b e : List Tree} {t u v : Table} {A B : List Assumed} (handler : List Tree → Handler) (s : Since ready a) (mode : TypingMode) (z : GoalKind) (gs left more : List (GoalSource × Goal)) → ArePosed a t gs → Extends a b → Goes b e u v → Covers A B
+    → AreSettled (IsNestedSince handler s mode z A b u) gs left → AreSettled (IsNestedSince handler s mode z B e v) left more → AreSettled (IsNestedSince handler s mode z B e v) gs more
+settled_step {ready} {a} {b} {e} {t} {u} {v} {A} {B} handler s mode z gs left more h k goes f old new =
+    settled_trans (IsNestedSince handler s mode z A b u) (IsNestedSince handler s mode z B e v) gs left more (λ g i p. proved_later handler s mode z g (holds_later gs g h k i) goes f p) old new
 
 pub sure_more : (old x : Certainty) (left : List (GoalSource × Goal)) (y : GoalSource × Goal) → (old ≡ certainty.Yes → left ≡ []) → both old x ≡ certainty.Yes → left_after left y x ≡ []
 sure_more old x left y h e = (let z = both_sure old x e in subst (λ c. left_after left y c ≡ []) (sym z.1) (h z.0))
 
 -- .. while the table goes on
-pub settled_later : {ready : List Tree → Type 0} {a b e : List Tree} {t u v : Table} (handler : List Tree → Handler) (s : Since ready a) (mode : TypingMode) (gs left : List (GoalSource × Goal)) → ArePosed a t gs → Extends a b → Goes b e u v
-    → AreSettled (IsProvedSince handler s mode b u) gs left → AreSettled (IsProvedSince handler s mode e v) gs left
-settled_later {ready} {a} {b} {e} {t} {u} {v} handler s mode gs left h k goes old =
-    settled_step {ready = ready} {a = a} {b = b} {e = e} {t = t} {u = u} {v = v} handler s mode gs left left h k goes old (λ g i. inl i)
+pub settled_later : {ready : List Tree → Type 0} {a b e : List Tree} {t u v : Table} {A B : List Assumed} (handler : List Tree → Handler) (s : Since ready a) (mode : TypingMode) (z : GoalKind) (gs left : List (GoalSource × Goal)) → ArePosed a t gs → Extends a b → Goes b e u v → Covers A B
+    → AreSettled (IsNestedSince handler s mode z A b u) gs left → AreSettled (IsNestedSince handler s mode z B e v) gs left
+settled_later {ready} {a} {b} {e} {t} {u} {v} {A} {B} handler s mode z gs left h k goes f old =
+    settled_step {ready = ready} {a = a} {b = b} {e = e} {t = t} {u = u} {v = v} {A = A} {B = B} handler s mode z gs left left h k goes f old (λ g i. inl i)

@@ -7,7 +7,7 @@ use Rattle.nts_model.specs.Resolving.{Knows, deeply_resolved}
 use Rattle.nts_model.specs.Substitutions.{leaf_tree}
 use Rattle.nts_model.specs.Sequents.{IsTrivial}
 use Rattle.nts_model.specs.Proving.{read_constraint}
-use Rattle.nts_model.specs.Inputs.{Input, IsInput, PositionKind, canonical_of, originals}
+use Rattle.nts_model.specs.Inputs.{Input, IsInput, PositionKind, CanonicalInput as Form, canonical_of, originals}
 use Rattle.nts_model.specs.Responses.{Response as Answer, recorded_by, said, IsOverPositions, IsResponseTo, IsIdentity}
 use Rattle.nts_certainty.specs.declared.certainty.Certainty.{Certainty}
 use Rattle.nts_certainty.specs.declared.certainty.Certainty.TheVariants as certainty
@@ -56,8 +56,15 @@ pub record KnowsSides (c : Content) (xs : List Recorded) : Type 0 where
   pub left : (x : Recorded) → Contains xs x → Knows c x.left
   pub right : (x : Recorded) → Contains xs x → Knows c x.right
 
+-- the canonical form is that of an input
+pub record IsFormOf (f : Form) : Type 0 where
+  pub asked : Input
+  pub proper : IsInput asked
+  pub form : f ≡ canonical_of asked
+
 -- a canonical input whose goal a query can be asked for, without hidden types
 pub record IsQueryInput (ts : List Tree) (c : CanonicalInput) : Type 0 where
+  pub asks : IsFormOf (form_of ts c)
   pub input : IsInputOf ts c
   pub environment : IsOverPositions (let f = form_of ts c in f.environment)
   pub predicate : IsOverPositions (let f = form_of ts c in f.predicate)

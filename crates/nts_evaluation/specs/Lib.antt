@@ -6,6 +6,7 @@ pub mod Instances
 pub mod Meant
 pub mod Opening
 pub mod Running
+pub mod Searching
 pub mod Telling
 pub mod Found
 pub mod Stepping

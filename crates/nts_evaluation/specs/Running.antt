@@ -8,9 +8,10 @@ use Rattle.nts_model.specs.Resolving.{IsSound}
 use Rattle.nts_model.specs.Holding.{HoldsConstraint, Continues}
 use Rattle.nts_model.specs.Related.{Constraint}
 use Rattle.nts_model.specs.Sequents.{Premise}
-use Rattle.nts_model.specs.Rules.{Mode, Equation, Meaning}
-use Rattle.nts_model.specs.Proving as proving
-use Rattle.nts_model.specs.Proving.{HoldsTerms, AreConstraintsOf, HoldsEquationAt, IsHeldAt, IsProvedAt, HasHeldProof}
+use Rattle.nts_model.specs.Rules.{Mode, Equation, Meaning, GoalKind, step_kind}
+use Rattle.nts_model.specs.Proofs.{Assumed, passed}
+use Rattle.nts_model.specs.Stacks.{IsProvedFrom, IsProvedFromAt, HasHeldRankedProof}
+use Rattle.nts_model.specs.Proving.{HoldsTerms, AreConstraintsOf, HoldsEquationAt, IsHeldAt, HasHeldProof}
 use Rattle.nts_store.specs.declared.nodes.NodeId.{NodeId}
 use Rattle.nts_terms.specs.declared.handles.Goal.{Goal}
 use Rattle.nts_store.specs.Growth.{tree_at}
@@ -44,8 +45,8 @@ constraint_between r a b = record { relation = r; left = a; right = b }
 abbrev pub HoldsOutlives : Relation → Tree → Tree → Content → Type 0
 HoldsOutlives r a b d = HoldsConstraint d (record { relation = r; left = a; right = b; is_visible = false })
 
-abbrev pub PremiseHolds : Meaning → Mode → List Tree → Premise → Content → Type 0
-PremiseHolds m mode vs p d = IsProvedAt m mode d vs p
+abbrev pub PremiseHolds : Meaning → Mode → GoalKind → List Assumed → List Tree → Premise → Content → Type 0
+PremiseHolds m mode z A vs p d = IsProvedFromAt m mode (passed (step_kind z p.source) A) d vs p
 
 -- .. each of a list, now and later
 abbrev pub EachStays : {A : Type 0} → Content → (A → Content → Type 0) → List A → Type 0
@@ -59,12 +60,17 @@ EquatesEach a b t vs qs = EachStays (content_of b t.entries) (EquationHolds (map
 abbrev pub Constrains : List Tree → List Tree → Table → List NodeId → List RegionConstraint → Type 0
 Constrains a b t vs xs = EachStays (content_of b t.entries) (ConstraintHolds (map (tree_at b) vs)) (map (constraint_of a) xs)
 
--- a goal is proved, now and later
-abbrev pub StaysProved : Meaning → Mode → List Tree → Table → Goal → Type 0
-StaysProved m mode ts t g =
-    Stays (content_of ts t.entries) (λ d. proving.IsProved m mode d (tree_at ts g.param_env.node) (tree_at ts g.predicate.node))
+-- a goal is proved from assumptions, now and later
+abbrev pub StaysProved : Meaning → Mode → List Assumed → List Tree → Table → Goal → Type 0
+StaysProved m mode A ts t g =
+    Stays (content_of ts t.entries) (λ d. IsProvedFrom m mode A d (tree_at ts g.param_env.node) (tree_at ts g.predicate.node))
 
--- a goal has a held proof under a table
+-- a goal has a ranked proof under a table, the hypotheses of which the table holds
 abbrev pub HasHeldProofIn : Meaning → Mode → List Tree → Table → Goal → Type 0
 HasHeldProofIn m mode ts t g =
+    HasHeldRankedProof m mode (content_of ts t.entries) (tree_at ts g.param_env.node) (tree_at ts g.predicate.node)
+
+-- .. in which each step leads to a lower rank
+abbrev pub HasFallingProofIn : Meaning → Mode → List Tree → Table → Goal → Type 0
+HasFallingProofIn m mode ts t g =
     HasHeldProof m mode (content_of ts t.entries) (tree_at ts g.param_env.node) (tree_at ts g.predicate.node)

@@ -29,15 +29,15 @@ abbrev pub AreLeft : List (GoalSource × Goal) → List (GoalSource × Goal) →
 AreLeft gs left = (g : GoalSource × Goal) → Among left g → Among gs g
 
 -- and of each goal that is not left, P holds
-abbrev pub AreSettled : (Goal → Type 0) → List (GoalSource × Goal) → List (GoalSource × Goal) → Type 0
-AreSettled P gs left = (g : GoalSource × Goal) → Among gs g → Among left g ⊎ P g.1
+abbrev pub AreSettled : (GoalSource × Goal → Type 0) → List (GoalSource × Goal) → List (GoalSource × Goal) → Type 0
+AreSettled P gs left = (g : GoalSource × Goal) → Among gs g → Among left g ⊎ P g
 
 -- a goal is left if its answer is not certain
 abbrev pub left_after : List (GoalSource × Goal) → GoalSource × Goal → Certainty → List (GoalSource × Goal)
 left_after gs g certainty.Yes = gs
 left_after gs g (certainty.Maybe i) = gs ++ g ∷ []
 
--- how high the trees of queries of a goal are that is asked there
+-- how many inputs may stand on the stack below the root of what is asked there
 abbrev pub bound_of : AvailableDepth → ℕ
 bound_of (available.Root n) = n + 1
 bound_of (available.Below n) = n

@@ -1,11 +1,18 @@
 //! Which goals the handler's candidates answer.
-ghost use Rattle.std.specs.Prelude.{◌≡◌, true};
+ghost use Rattle.std.specs.Prelude.{ℕ, ◌≡◌, true, List};
+ghost use Rattle.nts_model.specs.declared.labels.Variance.{Variance};
+ghost use Rattle.nts_model.specs.Trees.{Tree};
+ghost use Rattle.nts_model.specs.Rules.{goal_kind};
+ghost use Rattle.nts_model.specs.Handlers.{meaning};
+ghost use Rattle.nts_search.specs.Kinds.{goal_kind_of};
 ghost use Rattle.nts_model.specs.Sequents.{HasClosedStatements};
 ghost use Rattle.nts_store.specs.Growth.{tree_at};
 ghost use Rattle.nts_delegate.specs.Candidates.{IsAsked};
 ghost use Rattle.nts_terms.specs.Handles.{HoldsEnv, HoldsGoal};
 
 use crate::candidate::terms_are_formed;
+use nts_delegate::GoalHandler;
+use nts_search::CurrentGoalKind;
 use nts_terms::{ClauseKind, Cx, Goal, ParamEnv, PredicateKind};
 
 /// Whether a goal is answered by the handler's candidates: a closed trait goal that binds nothing, and
@@ -57,4 +64,22 @@ fn statements_are_closed(cx: &Cx, env: ParamEnv) -> bool
         }
     }
     true
+}
+
+/// What kind of goal it is, for the steps from it.
+#[inline(never)]
+pub fn goal_kind<H: GoalHandler>(cx: &Cx, handler: &H, goal: Goal) -> CurrentGoalKind
+    requires { HoldsGoal cx.now.nodes goal }
+    ensures kind { (ts : List Tree) (v : ℕ → List Variance) → goal_kind_of result ≡ goal_kind (meaning (H.handler ts handler.now) v) (tree_at cx.now.nodes goal.predicate.node) }
+{
+    match goal.predicate.kind(cx).value {
+        PredicateKind::Clause(ClauseKind::Trait(trait_ref)) => {
+            if handler.trait_is_coinductive(trait_ref.def_id) {
+                return CurrentGoalKind::CoinductiveTrait;
+            }
+            CurrentGoalKind::Misc
+        }
+        PredicateKind::NormalizesTo { .. } => CurrentGoalKind::NormalizesTo,
+        _ => CurrentGoalKind::Misc,
+    }
 }

@@ -1,15 +1,21 @@
 //! The recursion over nested goals. Its functions stand on the stack once for each goal above, so what
 //! they call and is not of the recursion is kept out of their frames, by `inline(never)`.
-ghost use Rattle.std.specs.Prelude.{true, false, ◌≡◌, ◌≢◌, ◌<◌, ◌≤◌, ◌+◌, ◌⊎◌, [], Some, IfOk, OnOk, OnErr, All};
+ghost use Rattle.std.specs.Prelude.{true, false, ◌≡◌, ◌≢◌, ◌<◌, ◌≤◌, ◌+◌, ◌⊎◌, [], ◌∷◌, Some, IfOk, IfSome, OnOk, OnErr, All};
 ghost use Rattle.nts_model.specs.Passing.{BringsOnly};
-ghost use Rattle.nts_model.specs.Proving.{IsDerived};
+ghost use Rattle.nts_model.specs.Proofs.{passed};
+ghost use Rattle.nts_model.specs.Stacks.{IsDerivedFrom, assumptions};
 ghost use Rattle.nts_model.specs.Responses.{answer_sequent};
 ghost use Rattle.nts_canonical.specs.Forms.{form_of};
 ghost use Rattle.nts_canonical.specs.Building.{kinds_of, IsArgOf};
 ghost use Rattle.nts_response.specs.Forms.{response_at};
 ghost use Rattle.nts_delegate.specs.Candidates.{IsAsked, IsCandidate, AreCandidates};
+ghost use Rattle.nts_delegate.specs.Offered.{path_kind_of};
 ghost use Rattle.nts_terms.specs.Modes.{mode_of};
-ghost use Rattle.nts_evaluation.specs.Meant.{Since, meaning_since, AreOffered, IsOffered, IsServedSince, IsProvedNow, IsProvedSince, IsAskedTo, IsRefusedIn, IsAskedUnder, IsRefusedUnder, IsQueryTold, IsQueryRefuted, IsTold, IsRefuted, HaveOutcomes, CandidatesTell, RepliesWith, FailsIn, HasRunTo, ReachesBy, RefusesOneOf};
+ghost use Rattle.nts_search.specs.declared.kinds.CurrentGoalKind.TheVariants as kinds;
+ghost use Rattle.nts_search.specs.Kinds.{goal_kind_of};
+ghost use Rattle.nts_search.specs.Searching.{entry_at, entries_at};
+ghost use Rattle.nts_evaluation.specs.Meant.{Since, meaning_since, AreOffered, IsOffered, IsServedSince, IsProvedNow, IsProvedFromSince, IsNestedSince, IsAskedTo, IsRefusedIn, IsAskedUnder, IsRefusedUnder, IsQueryTold, IsQueryRefuted, IsTold, IsRefuted, HaveOutcomes, CandidatesTell, RepliesWith, FailsIn, HasRunTo, ReachesBy, RefusesOneOf};
+ghost use Rattle.nts_evaluation.specs.Searching.{IsSearch, Searches, IsHeadAnswer, IsAnswerTold, HeadsTell, IsCut, assumed_in};
 ghost use Rattle.nts_evaluation.specs.Found.{Found};
 ghost use Rattle.nts_evaluation.specs.Stepping.{ArePosed, AreLeft, AreSettled, terms_of, bound_of};
 ghost use Rattle.nts_evaluation.specs.Answering.{IsQueryInput, IsAnswerTo, EvaluatesGoal, IfSure, IfCertain};
@@ -19,18 +25,20 @@ ghost use Rattle.nts_table.specs.Tables.{IsTable};
 ghost use Rattle.nts_certainty.specs.declared.certainty.Certainty.TheVariants as certainty;
 ghost use Rattle.nts_terms.specs.Rest.{Grows};
 
-use crate::asked::is_candidates_goal;
+use crate::asked::{goal_kind, is_candidates_goal};
 use crate::binder::enter_forall;
 use crate::candidate::{Trial, equate, record_constraints, resolve_goal, terms_are_formed};
+use crate::cycles::{answer_cycle, answer_of, unchanged_answer};
 use crate::filter::keep_met;
 use crate::merged::{keep_response, merge_responses};
 use crate::query::{keeps_constraints, query_of};
 use crate::response::{apply_answer, make_response};
 use crate::steps::{AvailableDepth, Step};
 use nts_canonical::{CanonicalInput, build_with_canonical};
-use nts_certainty::{Certainty, GoalSource, HasChanged};
+use nts_certainty::{Certainty, GoalSource, HasChanged, PathKind};
 use nts_delegate::{CandidateData, GoalHandler};
 use nts_response::CanonicalResponse;
+use nts_search::{CurrentGoalKind, SearchGraph, StackEntry, round_is_last, step_kind_for_source};
 use nts_store::EvalError;
 use nts_table::InferCtxt;
 use nts_terms::{Cx, GenericArg, Goal};
@@ -43,62 +51,138 @@ pub struct Evaluated {
     pub has_changed: HasChanged,
 }
 
-/// Evaluates a goal in a query of its own: its leaves give place to positions, the query runs in a table that is made for these,
-/// and its response is applied to the leaves. Nothing else is added to the table. The mark is set where a goal below was nested
-/// too deep.
+/// Evaluates a goal in a query of its own: its leaves give place to positions, the search answers the query, and the response is
+/// applied to the leaves. Nothing else is added to the table.
 #[cycle(evaluate)]
 pub fn evaluate_goal<H: GoalHandler>(
     table: &mut InferCtxt,
     cx: &mut Cx,
     handler: &H,
+    graph: &mut SearchGraph,
     goal: Goal,
+    step: PathKind,
     depth: usize,
-    has_overflowed: &mut bool,
 ) -> Result<Evaluated, EvalError>
     requires posed { IsPosed cx.old.nodes table.old goal }
     requires ready { H.ready cx.old.nodes handler.now }
+    requires search { IsSearch cx.old graph.old (depth + 1) }
     ensures runs { Runs cx.old cx.new table.old table.new }
+    ensures searches { Searches cx.old cx.new graph.old graph.new }
     ensures err { OnErr result (table.new ≡ table.old) }
     ensures evaluates { IfOk result (λ e. EvaluatesGoal cx.old.nodes cx.new.nodes table.old table.new goal e.has_changed) }
     ensures labels { OnOk result (BringsOnly (asked_terms cx.old.nodes goal) (content_of cx.old.nodes table.old.entries) (content_of cx.new.nodes table.new.entries)) }
-    ensures proved { (s : Since (λ ts. H.ready ts handler.now) cx.old.nodes) → IfSure result (IsProvedSince (λ ts. H.handler ts handler.now) s table.old.mode cx.new.nodes table.new goal) }
-    ensures told { (s : Since (λ ts. H.ready ts handler.now) cx.old.nodes) → OnOk result (IsAskedTo (H.handler s.base handler.now) table.old.mode (depth + 1) cx.old.nodes table.old cx.new.nodes table.new goal) }
-    ensures refuted { (s : Since (λ ts. H.ready ts handler.now) cx.old.nodes) → result ≡ Err EvalError.NoSolution → IsRefusedIn (H.handler s.base handler.now) table.old.mode (depth + 1) cx.old.nodes table.old goal }
+    ensures proved { (s : Since (λ ts. H.ready ts handler.now) cx.old.nodes) → IfSure result (IsProvedFromSince (λ ts. H.handler ts handler.now) s table.old.mode (passed (path_kind_of step) (assumed_in cx.new.nodes graph.new)) cx.new.nodes table.new goal) }
+    ensures told { (s : Since (λ ts. H.ready ts handler.now) cx.old.nodes) → HeadsTell (H.handler s.base handler.now) cx.old.nodes graph.old → OnOk result (IsAskedTo (H.handler s.base handler.now) table.old.mode cx.old.nodes table.old cx.new.nodes table.new goal) }
+    ensures refuted { (s : Since (λ ts. H.ready ts handler.now) cx.old.nodes) → HeadsTell (H.handler s.base handler.now) cx.old.nodes graph.old → result ≡ Err EvalError.NoSolution → IsRefusedIn (H.handler s.base handler.now) table.old.mode cx.old.nodes table.old goal ⊎ IsCut table.old.mode step }
 {
     let (originals, input) = query_of(table, cx, goal)?;
-    let mut is_marked = false;
-    let answered = evaluate_query(cx, handler, &input, depth, &mut is_marked);
-    if is_marked {
-        *has_overflowed = true;
-    }
-    let answer = answered?;
+    let answer = search(cx, handler, graph, input, step, depth)?;
     let evaluated = apply_answer(table, cx, goal.param_env, &originals, &answer);
     terms_are_formed(cx);
     evaluated
 }
 
-/// Answers a query: evaluates the goal of a canonical input in a table that is made for it, and answers what that table
-/// found out. An answer names no table.
+/// Answers a query. Where its input is being evaluated above, this is a cycle. Else its goal is evaluated in rounds.
 #[cycle(evaluate)]
-fn evaluate_query<H: GoalHandler>(
+fn search<H: GoalHandler>(
     cx: &mut Cx,
     handler: &H,
-    input: &CanonicalInput,
+    graph: &mut SearchGraph,
+    input: CanonicalInput,
+    step: PathKind,
     depth: usize,
-    mark: &mut bool,
 ) -> Result<CanonicalResponse, EvalError>
-    requires input { IsQueryInput cx.old.nodes input.now }
+    requires input { IsQueryInput cx.old.nodes input }
     requires ready { H.ready cx.old.nodes handler.now }
+    requires search { IsSearch cx.old graph.old (depth + 1) }
     ensures grows { Grows cx.old cx.new }
-    ensures fits { IfOk result (IsAnswerTo cx.new.nodes (kinds_of input.now)) }
-    ensures proved { (s : Since (λ ts. H.ready ts handler.now) cx.old.nodes) → IfCertain result (λ r. IsDerived (meaning_since (λ ts. H.handler ts handler.now) s) (mode_of input.now.typing_mode) (answer_sequent (form_of cx.old.nodes input.now) (response_at cx.new.nodes r))) }
-    ensures told { (s : Since (λ ts. H.ready ts handler.now) cx.old.nodes) → IfOk result (IsQueryTold (H.handler s.base handler.now) (mode_of input.now.typing_mode) (depth + 1) cx.old.nodes input.now cx.new.nodes) }
-    ensures refuted { (s : Since (λ ts. H.ready ts handler.now) cx.old.nodes) → result ≡ Err EvalError.NoSolution → IsQueryRefuted (H.handler s.base handler.now) (mode_of input.now.typing_mode) (depth + 1) cx.old.nodes input.now }
+    ensures searches { Searches cx.old cx.new graph.old graph.new }
+    ensures fits { IfOk result (IsAnswerTo cx.new.nodes (kinds_of input)) }
+    ensures proved { (s : Since (λ ts. H.ready ts handler.now) cx.old.nodes) → IfCertain result (λ r. IsDerivedFrom (meaning_since (λ ts. H.handler ts handler.now) s) (mode_of input.typing_mode) (passed (path_kind_of step) (assumed_in cx.new.nodes graph.new)) (answer_sequent (form_of cx.old.nodes input) (response_at cx.new.nodes r))) }
+    ensures told { (s : Since (λ ts. H.ready ts handler.now) cx.old.nodes) → HeadsTell (H.handler s.base handler.now) cx.old.nodes graph.old → IfOk result (IsQueryTold (H.handler s.base handler.now) (mode_of input.typing_mode) cx.old.nodes input cx.new.nodes) }
+    ensures refuted { (s : Since (λ ts. H.ready ts handler.now) cx.old.nodes) → HeadsTell (H.handler s.base handler.now) cx.old.nodes graph.old → result ≡ Err EvalError.NoSolution → IsQueryRefuted (H.handler s.base handler.now) (mode_of input.typing_mode) cx.old.nodes input ⊎ IsCut input.typing_mode step }
 {
-    let (mut table, query, values) = build_with_canonical(cx, input)?;
-    let response = compute_goal(&mut table, cx, handler, query.goal, &values, depth, mark);
+    if let Some(head) = graph.find(cx, &input) {
+        return answer_cycle(cx, graph, head, &input, step);
+    }
+    let above = graph.has_overflowed;
+    graph.has_overflowed = false;
+    let answer = evaluate_rounds(cx, handler, graph, input, step, depth);
+    graph.has_overflowed = graph.has_overflowed || above;
+    answer
+}
+
+/// Evaluates a query in rounds, until one is the last, or as often as the store's limit says: then it is an overflow. What a
+/// round answers is what a cycle back to the query is answered in the next one.
+#[cycle(evaluate)]
+fn evaluate_rounds<H: GoalHandler>(
+    cx: &mut Cx,
+    handler: &H,
+    graph: &mut SearchGraph,
+    input: CanonicalInput,
+    step: PathKind,
+    depth: usize,
+) -> Result<CanonicalResponse, EvalError>
+    requires input { IsQueryInput cx.old.nodes input }
+    requires ready { H.ready cx.old.nodes handler.now }
+    requires search { IsSearch cx.old graph.old (depth + 1) }
+    ensures grows { Grows cx.old cx.new }
+    ensures searches { Searches cx.old cx.new graph.old graph.new }
+    ensures fits { IfOk result (IsAnswerTo cx.new.nodes (kinds_of input)) }
+    ensures proved { (s : Since (λ ts. H.ready ts handler.now) cx.old.nodes) → IfCertain result (λ r. IsDerivedFrom (meaning_since (λ ts. H.handler ts handler.now) s) (mode_of input.typing_mode) (passed (path_kind_of step) (assumed_in cx.new.nodes graph.new)) (answer_sequent (form_of cx.old.nodes input) (response_at cx.new.nodes r))) }
+    ensures told { (s : Since (λ ts. H.ready ts handler.now) cx.old.nodes) → HeadsTell (H.handler s.base handler.now) cx.old.nodes graph.old → IfOk result (IsQueryTold (H.handler s.base handler.now) (mode_of input.typing_mode) cx.old.nodes input cx.new.nodes) }
+    ensures refuted { (s : Since (λ ts. H.ready ts handler.now) cx.old.nodes) → HeadsTell (H.handler s.base handler.now) cx.old.nodes graph.old → result ≡ Err EvalError.NoSolution → IsQueryRefuted (H.handler s.base handler.now) (mode_of input.typing_mode) cx.old.nodes input }
+{
+    let mut provisional = Some(unchanged_answer(cx, &input, Certainty::Yes)?);
+    let mut input = input;
+    for round in 0..cx.round_limit() {
+        graph.note_round(round + 1);
+        let (answer, entry) = evaluate_round(cx, handler, graph, input, step, provisional, depth)?;
+        if round_is_last(cx, &entry, &answer) {
+            return answer_of(answer);
+        }
+        let StackEntry { input: own, .. } = entry;
+        input = own;
+        provisional = answer;
+    }
+    let answer = unchanged_answer(cx, &input, Certainty::overflow(false))?;
+    Ok(answer)
+}
+
+/// One round: evaluates the goal of a canonical input in a table that is made for it, and answers what that table found out, or
+/// that there is no solution. Meanwhile the input stands on the stack.
+#[cycle(evaluate)]
+fn evaluate_round<H: GoalHandler>(
+    cx: &mut Cx,
+    handler: &H,
+    graph: &mut SearchGraph,
+    input: CanonicalInput,
+    step: PathKind,
+    provisional: Option<CanonicalResponse>,
+    depth: usize,
+) -> Result<(Option<CanonicalResponse>, StackEntry), EvalError>
+    requires input { IsQueryInput cx.old.nodes input }
+    requires provisional { IsHeadAnswer cx.old.nodes (kinds_of input) provisional }
+    requires ready { H.ready cx.old.nodes handler.now }
+    requires search { IsSearch cx.old graph.old (depth + 1) }
+    ensures grows { Grows cx.old cx.new }
+    ensures searches { Searches cx.old cx.new graph.old graph.new }
+    ensures entry { IfOk result (λ z. (z.1.input ≡ input) × (z.1.step_kind ≡ step) × (z.1.provisional ≡ provisional)) }
+    ensures fits { IfOk result (λ z. IsHeadAnswer cx.new.nodes (kinds_of input) z.0) }
+    ensures proved { (s : Since (λ ts. H.ready ts handler.now) cx.old.nodes) → IfOk result (λ z. IfSome z.0 (λ r. r.value.certainty ≡ certainty.Yes → IsDerivedFrom (meaning_since (λ ts. H.handler ts handler.now) s) (mode_of input.typing_mode) (assumptions (entry_at cx.new.nodes z.1 ∷ entries_at cx.new.nodes graph.new)) (answer_sequent (form_of cx.old.nodes input) (response_at cx.new.nodes r)))) }
+    ensures told { (s : Since (λ ts. H.ready ts handler.now) cx.old.nodes) → HeadsTell (H.handler s.base handler.now) cx.old.nodes graph.old → IsAnswerTold (H.handler s.base handler.now) (mode_of input.typing_mode) cx.old.nodes (form_of cx.old.nodes input) provisional → IfOk result (λ z. IsAnswerTold (H.handler s.base handler.now) (mode_of input.typing_mode) cx.new.nodes (form_of cx.old.nodes input) z.0) }
+    ensures no { result ≢ Err EvalError.NoSolution }
+{
+    let (mut table, query, values) = build_with_canonical(cx, &input)?;
+    graph.push(input, step, provisional)?;
+    let response = compute_goal(&mut table, cx, handler, graph, query.goal, &values, depth);
     terms_are_formed(cx);
-    response
+    let entry = graph.pop();
+    match response {
+        Ok(answer) => Ok((Some(answer), entry)),
+        Err(EvalError::NoSolution) => Ok((None, entry)),
+        Err(error) => Err(error),
+    }
 }
 
 /// Answers a goal by its kind, with placeholders in place of what it binds, for the terms that stand for the positions of its
@@ -108,18 +192,20 @@ fn compute_goal<H: GoalHandler>(
     table: &mut InferCtxt,
     cx: &mut Cx,
     handler: &H,
+    graph: &mut SearchGraph,
     goal: Goal,
     values: &[GenericArg],
     depth: usize,
-    mark: &mut bool,
 ) -> Result<CanonicalResponse, EvalError>
     requires posed { IsPosed cx.old.nodes table.old goal }
     requires ready { H.ready cx.old.nodes handler.now }
     requires values { All (IsArgOf cx.old.nodes table.old.entries) values.now }
+    requires search { IsSearch cx.old graph.old (depth) }
     ensures grows { Grows cx.old cx.new }
-    ensures found { IfOk result (Found (λ b u. (s : Since (λ ts. H.ready ts handler.now) cx.old.nodes) → IsProvedNow (λ ts. H.handler ts handler.now) s table.old.mode b u goal) cx.old.nodes cx.new.nodes table.old goal values.now) }
-    ensures told { (s : Since (λ ts. H.ready ts handler.now) cx.old.nodes) → IfOk result (IsTold (H.handler s.base handler.now) table.old.mode (depth + 1) cx.old.nodes table.old goal values.now cx.new.nodes) }
-    ensures refuted { (s : Since (λ ts. H.ready ts handler.now) cx.old.nodes) → result ≡ Err EvalError.NoSolution → IsRefuted (H.handler s.base handler.now) table.old.mode (depth + 1) cx.old.nodes table.old goal }
+    ensures searches { Searches cx.old cx.new graph.old graph.new }
+    ensures found { IfOk result (Found (λ b u. (s : Since (λ ts. H.ready ts handler.now) cx.old.nodes) → IsProvedNow (λ ts. H.handler ts handler.now) s table.old.mode (assumed_in cx.new.nodes graph.new) b u goal) cx.old.nodes cx.new.nodes table.old goal values.now) }
+    ensures told { (s : Since (λ ts. H.ready ts handler.now) cx.old.nodes) → HeadsTell (H.handler s.base handler.now) cx.old.nodes graph.old → IfOk result (IsTold (H.handler s.base handler.now) table.old.mode cx.old.nodes table.old goal values.now cx.new.nodes) }
+    ensures refuted { (s : Since (λ ts. H.ready ts handler.now) cx.old.nodes) → HeadsTell (H.handler s.base handler.now) cx.old.nodes graph.old → result ≡ Err EvalError.NoSolution → IsRefuted (H.handler s.base handler.now) table.old.mode cx.old.nodes table.old goal }
 {
     let opened = enter_forall(table, cx, goal)?;
     terms_are_formed(cx);
@@ -133,7 +219,16 @@ fn compute_goal<H: GoalHandler>(
     }
     let candidates = handler.candidates(cx, table.typing_mode(), opened)?;
     let kept = keep_met(table, cx, opened, candidates)?;
-    let response = evaluate_candidates(table, cx, handler, opened, &kept, values, depth, mark);
+    let response = evaluate_candidates(
+        table,
+        cx,
+        handler,
+        graph,
+        opened,
+        &kept,
+        values,
+        depth,
+    );
     terms_are_formed(cx);
     response
 }
@@ -145,26 +240,28 @@ fn evaluate_candidates<H: GoalHandler>(
     table: &mut InferCtxt,
     cx: &mut Cx,
     handler: &H,
+    graph: &mut SearchGraph,
     goal: Goal,
     candidates: &[CandidateData],
     values: &[GenericArg],
     depth: usize,
-    mark: &mut bool,
 ) -> Result<CanonicalResponse, EvalError>
     requires posed { IsPosed cx.old.nodes table.old goal }
     requires asked { IsAsked cx.old.nodes goal }
     requires ready { H.ready cx.old.nodes handler.now }
     requires candidates { AreCandidates cx.old.nodes goal candidates.now }
     requires values { All (IsArgOf cx.old.nodes table.old.entries) values.now }
+    requires search { IsSearch cx.old graph.old (depth) }
     ensures same { table.new ≡ table.old }
     ensures grows { Grows cx.old cx.new }
-    ensures found { IfOk result (Found (λ b u. (s : Since (λ ts. H.ready ts handler.now) cx.old.nodes) → AreOffered (H.handler s.base handler.now) table.old.mode cx.old.nodes goal candidates.now → IsServedSince (λ ts. H.handler ts handler.now) s table.old.mode b u goal) cx.old.nodes cx.new.nodes table.old goal values.now) }
-    ensures told { (s : Since (λ ts. H.ready ts handler.now) cx.old.nodes) → IfOk result (CandidatesTell (H.handler s.base handler.now) table.old.mode depth cx.old.nodes table.old values.now candidates.now cx.new.nodes) }
-    ensures refuted { (s : Since (λ ts. H.ready ts handler.now) cx.old.nodes) → result ≡ Err EvalError.NoSolution → HaveOutcomes (H.handler s.base handler.now) table.old.mode depth cx.old.nodes table.old values.now candidates.now [] }
+    ensures searches { Searches cx.old cx.new graph.old graph.new }
+    ensures found { IfOk result (Found (λ b u. (s : Since (λ ts. H.ready ts handler.now) cx.old.nodes) → AreOffered (H.handler s.base handler.now) table.old.mode cx.old.nodes goal candidates.now → IsServedSince (λ ts. H.handler ts handler.now) s table.old.mode (assumed_in cx.new.nodes graph.new) b u goal) cx.old.nodes cx.new.nodes table.old goal values.now) }
+    ensures told { (s : Since (λ ts. H.ready ts handler.now) cx.old.nodes) → HeadsTell (H.handler s.base handler.now) cx.old.nodes graph.old → IfOk result (CandidatesTell (H.handler s.base handler.now) table.old.mode cx.old.nodes table.old values.now candidates.now cx.new.nodes) }
+    ensures refuted { (s : Since (λ ts. H.ready ts handler.now) cx.old.nodes) → HeadsTell (H.handler s.base handler.now) cx.old.nodes graph.old → result ≡ Err EvalError.NoSolution → HaveOutcomes (H.handler s.base handler.now) table.old.mode cx.old.nodes table.old values.now candidates.now [] }
 {
     let mut responses = Vec::new(cx.alloc);
     for candidate in candidates {
-        let answer = probe_candidate(table, cx, handler, goal, candidate, values, depth, mark);
+        let answer = probe_candidate(table, cx, handler, graph, goal, candidate, values, depth);
         keep_response(&mut responses, answer)?;
     }
     terms_are_formed(cx);
@@ -177,25 +274,27 @@ fn probe_candidate<H: GoalHandler>(
     table: &mut InferCtxt,
     cx: &mut Cx,
     handler: &H,
+    graph: &mut SearchGraph,
     goal: Goal,
     candidate: &CandidateData,
     values: &[GenericArg],
     depth: usize,
-    mark: &mut bool,
 ) -> Result<CanonicalResponse, EvalError>
     requires posed { IsPosed cx.old.nodes table.old goal }
     requires asked { IsAsked cx.old.nodes goal }
     requires ready { H.ready cx.old.nodes handler.now }
     requires candidate { IsCandidate cx.old.nodes goal candidate.now }
     requires values { All (IsArgOf cx.old.nodes table.old.entries) values.now }
+    requires search { IsSearch cx.old graph.old (depth) }
     ensures same { table.new ≡ table.old }
     ensures grows { Grows cx.old cx.new }
-    ensures found { IfOk result (Found (λ b u. (s : Since (λ ts. H.ready ts handler.now) cx.old.nodes) → IsOffered (H.handler s.base handler.now) table.old.mode cx.old.nodes goal candidate.now → IsServedSince (λ ts. H.handler ts handler.now) s table.old.mode b u goal) cx.old.nodes cx.new.nodes table.old goal values.now) }
-    ensures told { (s : Since (λ ts. H.ready ts handler.now) cx.old.nodes) → IfOk result (RepliesWith (H.handler s.base handler.now) table.old.mode depth cx.old.nodes table.old values.now candidate.now cx.new.nodes) }
-    ensures refuted { (s : Since (λ ts. H.ready ts handler.now) cx.old.nodes) → result ≡ Err EvalError.NoSolution → FailsIn (H.handler s.base handler.now) table.old.mode depth cx.old.nodes table.old candidate.now }
+    ensures searches { Searches cx.old cx.new graph.old graph.new }
+    ensures found { IfOk result (Found (λ b u. (s : Since (λ ts. H.ready ts handler.now) cx.old.nodes) → IsOffered (H.handler s.base handler.now) table.old.mode cx.old.nodes goal candidate.now → IsServedSince (λ ts. H.handler ts handler.now) s table.old.mode (assumed_in cx.new.nodes graph.new) b u goal) cx.old.nodes cx.new.nodes table.old goal values.now) }
+    ensures told { (s : Since (λ ts. H.ready ts handler.now) cx.old.nodes) → HeadsTell (H.handler s.base handler.now) cx.old.nodes graph.old → IfOk result (RepliesWith (H.handler s.base handler.now) table.old.mode cx.old.nodes table.old values.now candidate.now cx.new.nodes) }
+    ensures refuted { (s : Since (λ ts. H.ready ts handler.now) cx.old.nodes) → HeadsTell (H.handler s.base handler.now) cx.old.nodes graph.old → result ≡ Err EvalError.NoSolution → FailsIn (H.handler s.base handler.now) table.old.mode cx.old.nodes table.old candidate.now }
 {
     let snapshot = table.start_snapshot()?;
-    let certainty = match run_candidate(table, cx, handler, goal, candidate, depth, mark) {
+    let certainty = match run_candidate(table, cx, handler, graph, goal, candidate, depth) {
         Ok(certainty) => certainty,
         Err(error) => {
             table.rollback_to(snapshot);
@@ -219,21 +318,24 @@ fn run_candidate<H: GoalHandler>(
     table: &mut InferCtxt,
     cx: &mut Cx,
     handler: &H,
+    graph: &mut SearchGraph,
     goal: Goal,
     candidate: &CandidateData,
     depth: usize,
-    mark: &mut bool,
 ) -> Result<Certainty, EvalError>
     requires posed { IsPosed cx.old.nodes table.old goal }
     requires asked { IsAsked cx.old.nodes goal }
     requires ready { H.ready cx.old.nodes handler.now }
     requires candidate { IsCandidate cx.old.nodes goal candidate.now }
+    requires search { IsSearch cx.old graph.old (depth) }
     ensures runs { Runs cx.old cx.new table.old table.new }
+    ensures searches { Searches cx.old cx.new graph.old graph.new }
     ensures labels { OnOk result (BringsOnly (asked_terms cx.old.nodes goal) (content_of cx.old.nodes table.old.entries) (content_of cx.new.nodes table.new.entries)) }
-    ensures proved { (s : Since (λ ts. H.ready ts handler.now) cx.old.nodes) → IsOffered (H.handler s.base handler.now) table.old.mode cx.old.nodes goal candidate.now → result ≡ Ok certainty.Yes → IsServedSince (λ ts. H.handler ts handler.now) s table.old.mode cx.new.nodes table.new goal }
-    ensures told { (s : Since (λ ts. H.ready ts handler.now) cx.old.nodes) → OnOk result (HasRunTo (H.handler s.base handler.now) table.old.mode depth cx.old.nodes table.old cx.new.nodes table.new candidate.now) }
-    ensures refuted { (s : Since (λ ts. H.ready ts handler.now) cx.old.nodes) → result ≡ Err EvalError.NoSolution → FailsIn (H.handler s.base handler.now) table.old.mode depth cx.old.nodes table.old candidate.now }
+    ensures proved { (s : Since (λ ts. H.ready ts handler.now) cx.old.nodes) → IsOffered (H.handler s.base handler.now) table.old.mode cx.old.nodes goal candidate.now → result ≡ Ok certainty.Yes → IsServedSince (λ ts. H.handler ts handler.now) s table.old.mode (assumed_in cx.new.nodes graph.new) cx.new.nodes table.new goal }
+    ensures told { (s : Since (λ ts. H.ready ts handler.now) cx.old.nodes) → HeadsTell (H.handler s.base handler.now) cx.old.nodes graph.old → OnOk result (HasRunTo (H.handler s.base handler.now) table.old.mode cx.old.nodes table.old cx.new.nodes table.new candidate.now) }
+    ensures refuted { (s : Since (λ ts. H.ready ts handler.now) cx.old.nodes) → HeadsTell (H.handler s.base handler.now) cx.old.nodes graph.old → result ≡ Err EvalError.NoSolution → FailsIn (H.handler s.base handler.now) table.old.mode cx.old.nodes table.old candidate.now }
 {
+    let kind = goal_kind(cx, handler, goal);
     let values = equate(table, cx, goal, candidate)?;
     let trial = Trial {
         goal,
@@ -247,44 +349,48 @@ fn run_candidate<H: GoalHandler>(
         table,
         cx,
         handler,
+        graph,
         &mut goals,
+        kind,
         AvailableDepth::Below(depth),
         &mut last_steps,
-        mark,
     )?;
     terms_are_formed(cx);
     Ok(candidate.certainty.and(certainty))
 }
 
-/// Evaluates goals in steps, until a step finds nothing out, or as often as the store's limit says: then it is an overflow. The
-/// goals that are not proved are left. It counts the steps.
+/// Evaluates the goals of a goal of that kind in steps, until a step finds nothing out, or as often as the store's limit says:
+/// then it is an overflow. The goals that are not proved are left. It counts the steps.
 #[cycle(evaluate)]
 pub fn try_evaluate_goals<H: GoalHandler>(
     table: &mut InferCtxt,
     cx: &mut Cx,
     handler: &H,
+    graph: &mut SearchGraph,
     goals: &mut Vec<(GoalSource, Goal)>,
+    kind: CurrentGoalKind,
     depth: AvailableDepth,
     last_steps: &mut usize,
-    mark: &mut bool,
 ) -> Result<Certainty, EvalError>
     requires table { IsTable cx.old.nodes table.old }
     requires posed { ArePosed cx.old.nodes table.old goals.old.items }
     requires ready { H.ready cx.old.nodes handler.now }
+    requires search { IsSearch cx.old graph.old (bound_of depth) }
     ensures runs { Runs cx.old cx.new table.old table.new }
+    ensures searches { Searches cx.old cx.new graph.old graph.new }
     ensures steps { last_steps.new ≤ cx.old.step_limit }
     ensures posed { ArePosed cx.new.nodes table.new goals.new.items }
     ensures left { AreLeft goals.old.items goals.new.items }
     ensures labels { OnOk result (BringsOnly (terms_of cx.old.nodes goals.old.items) (content_of cx.old.nodes table.old.entries) (content_of cx.new.nodes table.new.entries)) }
-    ensures proved { (s : Since (λ ts. H.ready ts handler.now) cx.old.nodes) → OnOk result (AreSettled (IsProvedSince (λ ts. H.handler ts handler.now) s table.old.mode cx.new.nodes table.new) goals.old.items goals.new.items) }
+    ensures proved { (s : Since (λ ts. H.ready ts handler.now) cx.old.nodes) → OnOk result (AreSettled (IsNestedSince (λ ts. H.handler ts handler.now) s table.old.mode (goal_kind_of kind) (assumed_in cx.new.nodes graph.new) cx.new.nodes table.new) goals.old.items goals.new.items) }
     ensures sure { result ≡ Ok certainty.Yes → goals.new.items ≡ [] }
-    ensures told { (s : Since (λ ts. H.ready ts handler.now) cx.old.nodes) → OnOk result (ReachesBy (H.handler s.base handler.now) table.old.mode (bound_of depth) cx.old.nodes table.old cx.new.nodes table.new goals.old.items) }
-    ensures refuted { (s : Since (λ ts. H.ready ts handler.now) cx.old.nodes) → result ≡ Err EvalError.NoSolution → RefusesOneOf (H.handler s.base handler.now) table.old.mode (bound_of depth) cx.old.nodes table.old goals.old.items }
+    ensures told { (s : Since (λ ts. H.ready ts handler.now) cx.old.nodes) → HeadsTell (H.handler s.base handler.now) cx.old.nodes graph.old → OnOk result (ReachesBy (H.handler s.base handler.now) table.old.mode cx.old.nodes table.old cx.new.nodes table.new goals.old.items) }
+    ensures refuted { (s : Since (λ ts. H.ready ts handler.now) cx.old.nodes) → HeadsTell (H.handler s.base handler.now) cx.old.nodes graph.old → kind ≢ kinds.NormalizesTo → result ≡ Err EvalError.NoSolution → RefusesOneOf (H.handler s.base handler.now) table.old.mode cx.old.nodes table.old goals.old.items }
 {
     *last_steps = 0;
     for step in 0..cx.step_limit() {
         *last_steps = step + 1;
-        let stepped = evaluate_step(table, cx, handler, goals, depth, mark)?;
+        let stepped = evaluate_step(table, cx, handler, graph, goals, kind, depth)?;
         *goals = stepped.left;
         if !stepped.has_changed {
             return Ok(stepped.certainty);
@@ -299,25 +405,29 @@ fn evaluate_step<H: GoalHandler>(
     table: &mut InferCtxt,
     cx: &mut Cx,
     handler: &H,
+    graph: &mut SearchGraph,
     goals: &[(GoalSource, Goal)],
+    kind: CurrentGoalKind,
     depth: AvailableDepth,
-    mark: &mut bool,
 ) -> Result<Step, EvalError>
     requires table { IsTable cx.old.nodes table.old }
     requires posed { ArePosed cx.old.nodes table.old goals.now }
     requires ready { H.ready cx.old.nodes handler.now }
+    requires search { IsSearch cx.old graph.old (bound_of depth) }
     ensures runs { Runs cx.old cx.new table.old table.new }
+    ensures searches { Searches cx.old cx.new graph.old graph.new }
     ensures posed { IfOk result (λ s. ArePosed cx.new.nodes table.new s.left.items) }
     ensures left { IfOk result (λ s. AreLeft goals.now s.left.items) }
     ensures labels { OnOk result (BringsOnly (terms_of cx.old.nodes goals.now) (content_of cx.old.nodes table.old.entries) (content_of cx.new.nodes table.new.entries)) }
-    ensures proved { (s : Since (λ ts. H.ready ts handler.now) cx.old.nodes) → IfOk result (λ z. AreSettled (IsProvedSince (λ ts. H.handler ts handler.now) s table.old.mode cx.new.nodes table.new) goals.now z.left.items) }
+    ensures proved { (s : Since (λ ts. H.ready ts handler.now) cx.old.nodes) → IfOk result (λ z. AreSettled (IsNestedSince (λ ts. H.handler ts handler.now) s table.old.mode (goal_kind_of kind) (assumed_in cx.new.nodes graph.new) cx.new.nodes table.new) goals.now z.left.items) }
     ensures sure { IfOk result (λ s. s.certainty ≡ certainty.Yes → s.left.items ≡ []) }
-    ensures told { (s : Since (λ ts. H.ready ts handler.now) cx.old.nodes) → OnOk result (ReachesBy (H.handler s.base handler.now) table.old.mode (bound_of depth) cx.old.nodes table.old cx.new.nodes table.new goals.now) }
-    ensures refuted { (s : Since (λ ts. H.ready ts handler.now) cx.old.nodes) → result ≡ Err EvalError.NoSolution → RefusesOneOf (H.handler s.base handler.now) table.old.mode (bound_of depth) cx.old.nodes table.old goals.now }
+    ensures told { (s : Since (λ ts. H.ready ts handler.now) cx.old.nodes) → HeadsTell (H.handler s.base handler.now) cx.old.nodes graph.old → OnOk result (ReachesBy (H.handler s.base handler.now) table.old.mode cx.old.nodes table.old cx.new.nodes table.new goals.now) }
+    ensures refuted { (s : Since (λ ts. H.ready ts handler.now) cx.old.nodes) → HeadsTell (H.handler s.base handler.now) cx.old.nodes graph.old → kind ≢ kinds.NormalizesTo → result ≡ Err EvalError.NoSolution → RefusesOneOf (H.handler s.base handler.now) table.old.mode cx.old.nodes table.old goals.now }
 {
     let mut step = Step::new(cx.alloc);
     for added in goals {
-        let answer = evaluate_added(table, cx, handler, added.1, depth, mark)?;
+        let kind = step_kind_for_source(kind, added.0);
+        let answer = evaluate_added(table, cx, handler, graph, added.1, kind, depth)?;
         step.note(*added, answer)?;
     }
     Ok(step)
@@ -329,21 +439,24 @@ fn evaluate_added<H: GoalHandler>(
     table: &mut InferCtxt,
     cx: &mut Cx,
     handler: &H,
+    graph: &mut SearchGraph,
     goal: Goal,
+    step: PathKind,
     depth: AvailableDepth,
-    mark: &mut bool,
 ) -> Result<Evaluated, EvalError>
     requires posed { IsPosed cx.old.nodes table.old goal }
     requires ready { H.ready cx.old.nodes handler.now }
+    requires search { IsSearch cx.old graph.old (bound_of depth) }
     ensures runs { Runs cx.old cx.new table.old table.new }
+    ensures searches { Searches cx.old cx.new graph.old graph.new }
     ensures labels { OnOk result (BringsOnly (asked_terms cx.old.nodes goal) (content_of cx.old.nodes table.old.entries) (content_of cx.new.nodes table.new.entries)) }
-    ensures proved { (s : Since (λ ts. H.ready ts handler.now) cx.old.nodes) → IfSure result (IsProvedSince (λ ts. H.handler ts handler.now) s table.old.mode cx.new.nodes table.new goal) }
-    ensures told { (s : Since (λ ts. H.ready ts handler.now) cx.old.nodes) → OnOk result (IsAskedUnder (H.handler s.base handler.now) table.old.mode (bound_of depth) cx.old.nodes table.old cx.new.nodes table.new goal ⊎ (table.new.entries ≡ table.old.entries)) }
-    ensures refuted { (s : Since (λ ts. H.ready ts handler.now) cx.old.nodes) → result ≡ Err EvalError.NoSolution → IsRefusedUnder (H.handler s.base handler.now) table.old.mode (bound_of depth) cx.old.nodes table.old goal }
+    ensures proved { (s : Since (λ ts. H.ready ts handler.now) cx.old.nodes) → IfSure result (IsProvedFromSince (λ ts. H.handler ts handler.now) s table.old.mode (passed (path_kind_of step) (assumed_in cx.new.nodes graph.new)) cx.new.nodes table.new goal) }
+    ensures told { (s : Since (λ ts. H.ready ts handler.now) cx.old.nodes) → HeadsTell (H.handler s.base handler.now) cx.old.nodes graph.old → OnOk result (IsAskedUnder (H.handler s.base handler.now) table.old.mode cx.old.nodes table.old cx.new.nodes table.new goal ⊎ (table.new.entries ≡ table.old.entries)) }
+    ensures refuted { (s : Since (λ ts. H.ready ts handler.now) cx.old.nodes) → HeadsTell (H.handler s.base handler.now) cx.old.nodes graph.old → result ≡ Err EvalError.NoSolution → IsRefusedUnder (H.handler s.base handler.now) table.old.mode cx.old.nodes table.old goal ⊎ IsCut table.old.mode step }
 {
-    match depth.next(*mark, cx.depth_division()) {
+    match depth.next(graph.has_overflowed, cx.depth_division()) {
         None => {
-            *mark = true;
+            graph.has_overflowed = true;
             Ok(Evaluated {
                 certainty: Certainty::overflow(true),
                 has_changed: HasChanged::No,
@@ -351,7 +464,7 @@ fn evaluate_added<H: GoalHandler>(
         }
         Some(below) => {
             let asked = resolve_goal(table, cx, goal)?;
-            evaluate_goal(table, cx, handler, asked, below, mark)
+            evaluate_goal(table, cx, handler, graph, asked, step, below)
         }
     }
 }

@@ -5,6 +5,7 @@ mod admission;
 mod asked;
 mod binder;
 mod candidate;
+mod cycles;
 mod evaluate;
 mod filter;
 mod merged;

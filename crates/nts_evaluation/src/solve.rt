@@ -1,11 +1,11 @@
 //! The evaluation of goals.
-ghost use Rattle.std.specs.Prelude.{ℕ, ◌+◌, ◌≡◌, ◌↔◌, List, IsTrue, None, IfOk, OnOk, OnErr, IsOkUnless};
+ghost use Rattle.std.specs.Prelude.{ℕ, ◌+◌, ◌≡◌, ◌↔◌, List, IsTrue, false, None, IfOk, OnOk, OnErr, IsOkUnless};
 ghost use Rattle.nts_model.specs.declared.labels.Variance.{Variance};
 ghost use Rattle.nts_model.specs.Handlers.{meaning};
 ghost use Rattle.nts_store.specs.Growth.{Extends};
 ghost use Rattle.nts_table.specs.Tables.{IsTable};
 ghost use Rattle.nts_terms.specs.Modes.{mode_of};
-ghost use Rattle.nts_evaluation.specs.Running.{HasHeldProofIn};
+ghost use Rattle.nts_evaluation.specs.Running.{HasHeldProofIn, HasFallingProofIn};
 ghost use Rattle.nts_terms.specs.Handles.{HoldsGoal};
 ghost use Rattle.nts_evaluation.specs.Evaluation.{Runs, IsAdmitted, IsPosed, IsGoalUnder};
 ghost use Rattle.nts_evaluation.specs.Meant.{Since, IsProvedSince, IsAskedUnder, IsRefusedUnder};
@@ -16,8 +16,9 @@ ghost use Rattle.nts_terms.specs.Rest.{Grows};
 use crate::admission::{is_asked, is_root_term, is_settled_env};
 use crate::candidate::{resolve_goal, terms_are_formed};
 use crate::evaluate::evaluate_goal;
-use nts_certainty::{Certainty, HasChanged};
+use nts_certainty::{Certainty, HasChanged, PathKind};
 use nts_delegate::GoalHandler;
+use nts_search::SearchGraph;
 use nts_store::{EvalError, Fault};
 use nts_table::InferCtxt;
 use nts_terms::{Cx, GenericArg, Goal, Span};
@@ -63,7 +64,7 @@ pub fn goal_is_admitted(table: &InferCtxt, cx: &mut Cx, goal: Goal) -> Result<bo
 
 /// Evaluates a goal in the table, with the store's recursion limit as depth. The goal, resolved, is asked in a query of its own,
 /// and the response is applied to its leaves: nothing else is added to the table. Where the answer is yes, the goal has a
-/// proof. Each candidate is asked to its end: the response says nothing, or it is the one that stands for those of all
+/// ranked proof, whatever cycles were met: each of its steps leads to a lower rank, or is coinductive. Each candidate is asked to its end: the response says nothing, or it is the one that stands for those of all
 /// candidates that did not fail. `NoSolution` says that each candidate failed: its equations can't be met, an equality
 /// of regions can't be, or a goal that it asks for was refused. After an error the table is as it was.
 /// A fault is want of memory, or `Full` where a universe above the greatest is asked for.
@@ -87,8 +88,11 @@ pub fn evaluate_root_goal<H: GoalHandler>(
     ensures proved { IfOk result (λ e. e.certainty ≡ certainty.Yes → (v : ℕ → List Variance) →
         HasHeldProofIn (meaning (H.handler cx.old.nodes handler.now) v) (mode_of table.old.mode)
         cx.new.nodes table.new goal) }
-    ensures told { OnOk result (IsAskedUnder (H.handler cx.old.nodes handler.now) table.old.mode (cx.old.recursion_limit + 1) cx.old.nodes table.old cx.new.nodes table.new goal) }
-    ensures refuted { result ≡ Err EvalError.NoSolution → IsRefusedUnder (H.handler cx.old.nodes handler.now) table.old.mode (cx.old.recursion_limit + 1) cx.old.nodes table.old goal }
+    ensures falls { ((i : ℕ) → (H.handler cx.old.nodes handler.now).is_coinductive i ≡ false) →
+        IfOk result (λ e. e.certainty ≡ certainty.Yes → (v : ℕ → List Variance) → HasFallingProofIn
+        (meaning (H.handler cx.old.nodes handler.now) v) (mode_of table.old.mode) cx.new.nodes table.new goal) }
+    ensures told { OnOk result (IsAskedUnder (H.handler cx.old.nodes handler.now) table.old.mode cx.old.nodes table.old cx.new.nodes table.new goal) }
+    ensures refuted { result ≡ Err EvalError.NoSolution → IsRefusedUnder (H.handler cx.old.nodes handler.now) table.old.mode cx.old.nodes table.old goal }
 {
     let _ = (span, stalled_on);
     terms_are_formed(cx);
@@ -115,13 +119,21 @@ fn evaluate_root<H: GoalHandler>(
     ensures proved { (s : Since (λ ts. H.ready ts handler.now) cx.old.nodes) →
         IfOk result (λ e. e.certainty ≡ certainty.Yes → IsProvedSince
         (λ ts. H.handler ts handler.now) s table.old.mode cx.new.nodes table.new goal) }
-    ensures told { (s : Since (λ ts. H.ready ts handler.now) cx.old.nodes) → OnOk result (IsAskedUnder (H.handler s.base handler.now) table.old.mode (cx.old.recursion_limit + 1) cx.old.nodes table.old cx.new.nodes table.new goal) }
-    ensures refuted { (s : Since (λ ts. H.ready ts handler.now) cx.old.nodes) → result ≡ Err EvalError.NoSolution → IsRefusedUnder (H.handler s.base handler.now) table.old.mode (cx.old.recursion_limit + 1) cx.old.nodes table.old goal }
+    ensures told { (s : Since (λ ts. H.ready ts handler.now) cx.old.nodes) → OnOk result (IsAskedUnder (H.handler s.base handler.now) table.old.mode cx.old.nodes table.old cx.new.nodes table.new goal) }
+    ensures refuted { (s : Since (λ ts. H.ready ts handler.now) cx.old.nodes) → result ≡ Err EvalError.NoSolution → IsRefusedUnder (H.handler s.base handler.now) table.old.mode cx.old.nodes table.old goal }
 {
     let asked = resolve_goal(table, cx, goal)?;
     let depth = cx.recursion_limit();
-    let mut has_overflowed = false;
-    let evaluated = evaluate_goal(table, cx, handler, asked, depth, &mut has_overflowed)?;
+    let mut graph = SearchGraph::new(cx.alloc, depth);
+    let evaluated = evaluate_goal(
+        table,
+        cx,
+        handler,
+        &mut graph,
+        asked,
+        PathKind::Unknown,
+        depth,
+    )?;
     Ok(GoalEvaluation {
         goal: asked,
         certainty: evaluated.certainty,

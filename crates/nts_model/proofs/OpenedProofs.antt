@@ -5,7 +5,10 @@ use Rattle.nts_model.specs.declared.labels.Sort.{Sort}
 use Rattle.nts_model.specs.declared.labels.Variance.{Variance}
 use Rattle.nts_model.specs.declared.labels.Leaf.{Leaf}
 use Rattle.nts_model.specs.declared.labels.Leaf.TheVariants as leaf
+use Rattle.nts_model.specs.declared.labels.BoundVarIndexKind.{BoundVarIndexKind}
 use Rattle.nts_model.specs.declared.labels.BoundVarIndexKind.TheVariants as index
+use Rattle.nts_model.specs.declared.labels.ClauseHead.TheVariants as clause
+use Rattle.nts_model.specs.declared.labels.PredicateHead.TheVariants as predicate
 use Rattle.nts_model.specs.declared.labels.ListHead.TheVariants as list
 use Rattle.nts_model.specs.declared.labels.Label.{Label}
 use Rattle.nts_model.specs.declared.labels.Label.TheVariants as label
@@ -17,11 +20,12 @@ use Rattle.nts_model.specs.Holding.{Continues}
 use Rattle.nts_model.specs.Opening.{placeholder_in, opened_in}
 use Rattle.nts_model.specs.Substitutions.{leaf_tree, replace, instance_of}
 use Rattle.nts_model.specs.Related.{pair, unbound}
-use Rattle.nts_model.specs.Sequents.{Among, IsOfTerms, Grants, Hides}
-use Rattle.nts_model.specs.Rules.{Mode, goal_kind, opened, opened_at, AreFresh, bound, IsPlainRule, IsRule}
-use Rattle.nts_model.specs.Proofs.{by_rule}
+use Rattle.nts_model.specs.Sequents.{Among, Premise, IsOfTerms, Grants, Hides}
+use Rattle.nts_model.specs.Rules.{Mode, goal_kind, statement_kind, proof_kind, IsHandlers, opened, opened_at, AreFresh, bound, IsPlainRule, IsRule}
+use Rattle.nts_model.specs.Proofs.{Assumed, passed, by_rule}
 use Rattle.nts_model.specs.Handlers.{Handler, meaning, Candidate, certain, IsAsked, IsLawful}
-use Rattle.nts_model.specs.Proving.{HoldsTerms, IsTermOf, AreConstraintsOf, read_constraints, sequent_at, IsProved, HoldsCandidate}
+use Rattle.nts_model.specs.Proving.{HoldsTerms, IsTermOf, AreConstraintsOf, read_constraints, sequent_at, HoldsCandidate}
+use Rattle.nts_model.specs.Stacks.{IsProvedFrom, HoldsCandidateFrom}
 use Rattle.nts_model.proofs.Monotone.{rule_more}
 use Rattle.nts_model.proofs.Fitting.{IsClosed-under}
 use Rattle.nts_model.proofs.Composing.{itself, instance_of-itself}
@@ -32,8 +36,9 @@ use Rattle.nts_model.proofs.Identified.{one_itself}
 use Rattle.nts_model.proofs.Open.{Knows-deeply_resolved}
 use Rattle.nts_model.proofs.Unpositioned.{known_no_positions, known_well_bound, pair_no_positions}
 use Rattle.nts_model.proofs.ClosedStatements.{one_statement}
-use Rattle.nts_model.proofs.Served.{derive_all}
-use Rattle.nts_model.proofs.ByCandidate.{handlers_instance, formed_here, closed_here, candidate_follows, candidate_applies, read_itself, lawful_candidate}
+use Rattle.nts_model.proofs.Owing.{IsServedFrom, at_premise, derive_all_from}
+use Rattle.nts_model.proofs.FromCandidate.{shallow, shallow_holds, kind_resolved, candidate_follows, candidate_applies, lawful_candidate_from}
+use Rattle.nts_model.proofs.ByCandidate.{handlers_instance, formed_here, closed_here, read_itself}
 use Rattle.nts_model.proofs.Naming.{known_named, names_read, fresh_in}
 
 -- the terms that a table knew before a universe was entered name none of that universe's placeholders later
@@ -70,33 +75,66 @@ reads_leaf c (leaf.Region x) e = refl
 reads_leaf c (leaf.TyConstant x) e = refl
 reads_leaf c (leaf.ConstConstant x) e = refl
 
+-- opening leaves what a handler's goal is about
+no_label : (b : Bool) (l : Leaf) (s : Sort) (i : BoundVarIndexKind) (n : ℕ) (t : Tree) → IsHandlers (if b then leaf_tree l else node (label.Bound s i n) t) → ⊥
+no_label true l s i n t h = h
+no_label false l s i n t h = h
+
+kind_opened : (p : ℕ → Bool) (f : Sort → ℕ → Leaf) (t : Tree) → IsHandlers (opened f 0 t) → statement_kind p (opened f 0 t) ≡ statement_kind p t
+kind_opened p f (node (label.Clause (clause.Trait i)) ts) h = refl
+kind_opened p f (node (label.Clause (clause.HostEffect i)) ts) h = refl
+kind_opened p f (node (label.Clause (clause.Projection i)) ts) h = refl
+kind_opened p f (node (label.Predicate (predicate.NormalizesTo i)) ts) h = refl
+kind_opened p f (node (label.Bound s (index.Bound d) n) ts) h = absurd (no_label (d == 0) (f s n) s (index.Bound d) n (opened f 0 ts) h)
+kind_opened p f t h = absurd h
+
 binds_some : (s ss t u : Tree) → bound (more s ss) t ≡ unbound u → ⊥
 binds_some s ss t u e = cc e
 
-module _ (h : Handler) (V : ℕ → List Variance) (mode : Mode) (c : Content) (s : IsSound c) (t : HoldsTerms c) (k : AreConstraintsOf c) where
+module _ (h : Handler) (V : ℕ → List Variance) (mode : Mode) (A : List Assumed) (c : Content) (s : IsSound c) (t : HoldsTerms c) (k : AreConstraintsOf c) where
   module _ (e sort sorts u : Tree) (f : Sort → ℕ → Leaf) (asked : IsAsked e (unbound (opened f 0 u))) (ke : IsTermOf c e) (kg : IsTermOf c (bound (more sort sorts) u)) (ko : IsTermOf c (unbound (opened f 0 u)))
-      (closed : IsClosed (bound (more sort sorts) u)) (fresh : AreFresh (pair (deeply_resolved c e) (deeply_resolved c (bound (more sort sorts) u))) f) (d : Candidate) (x : HoldsCandidate (meaning h V) mode c d) where
-    abbrev pub goal : Tree
+      (closed : IsClosed (bound (more sort sorts) u)) (fresh : AreFresh (pair (deeply_resolved c e) (deeply_resolved c (bound (more sort sorts) u))) f) (d : Candidate) (x : HoldsCandidateFrom (meaning h V) mode A c (unbound (opened f 0 u)) d) where
+    abbrev goal : Tree
     goal = bound (more sort sorts) u
 
-    abbrev pub read : Tree → Tree
+    abbrev there : Tree
+    there = unbound (opened f 0 u)
+
+    abbrev read : Tree → Tree
     read = instance_of (reading_of c s t)
 
-    pub goal_reads : deeply_resolved c goal ≡ bound (more (read sort) (read sorts)) (read u)
+    abbrev parts : Candidate
+    parts = shallow h V mode A c s t k e there asked ke ko d x
+
+    abbrev parts_hold : HoldsCandidate (meaning h V) mode c parts
+    parts_hold = shallow_holds h V mode A c s t k e there asked ke ko d x
+
+    goal_reads : deeply_resolved c goal ≡ bound (more (read sort) (read sorts)) (read u)
     goal_reads = sym (instance_of-reading c s t goal kg.knows kg.formed)
 
-    pub statement_reads : read asked.statement ≡ opened f 0 (read u)
+    statement_reads : read asked.statement ≡ opened f 0 (read u)
     statement_reads =
         let r = reading_of c s t in
         ap read (sym (one_statement (opened f 0 u) asked.statement asked.binds_nothing))
         ∙ replaced_opened r.value r.closed f (λ o n. reading-leaf c s t (f o n) ∙ reads_leaf c (f o n) (fresh.placeholders o n)) 0 u
 
-    pub binder_terms : IsOfTerms (sequent_at c e goal)
+    read_handlers : IsHandlers (read asked.statement)
+    read_handlers = handlers_instance (reading_of c s t) asked.statement asked.handlers
+
+    -- it is of the kind of the goal with placeholders
+    kinds_same : goal_kind (meaning h V) (deeply_resolved c goal) ≡ goal_kind (meaning h V) (deeply_resolved c there)
+    kinds_same =
+        ap (goal_kind (meaning h V)) goal_reads
+        ∙ sym (kind_opened h.is_coinductive f (read u) (subst IsHandlers statement_reads read_handlers))
+        ∙ sym (ap (statement_kind h.is_coinductive) statement_reads)
+        ∙ sym (kind_resolved h V mode A c s t k e there asked ke ko d x)
+
+    binder_terms : IsOfTerms (sequent_at c e goal)
     binder_terms =
-        let envs = closed_here h V mode c s t k e (unbound (opened f 0 u)) asked ke ko d x in
+        let envs = closed_here h V mode c s t k e there asked ke ko parts parts_hold in
         let known = Knows-deeply_resolved c goal s kg.knows in
         record {
-          formed = (formed_here h V mode c s t k e (unbound (opened f 0 u)) asked ke ko d x, (IsFormed-deeply_resolved c goal s t kg.knows kg.formed, tt));
+          formed = (formed_here h V mode c s t k e there asked ke ko parts parts_hold, (IsFormed-deeply_resolved c goal s t kg.knows kg.formed, tt));
           closed = (envs.closed, (IsClosed-deeply_resolved c goal t closed, tt));
           no_positions = pair_no_positions (deeply_resolved c e) (deeply_resolved c goal) envs.no_positions (known_no_positions c (deeply_resolved c goal) known);
           well_bound = (envs.well_bound, (known_well_bound c (deeply_resolved c goal) known, tt));
@@ -105,24 +143,24 @@ module _ (h : Handler) (V : ℕ → List Variance) (mode : Mode) (c : Content) (
         }
 
     -- the goal that binds variables is proved under the table
-    pub by_opened_candidate : IsLawful h → Among (h.offers mode e (unbound (opened f 0 u))) d → d.certainty ≡ certain → IsProved (meaning h V) mode c e goal
+    pub by_opened_candidate : IsLawful h → Among (h.offers mode e there) d → d.certainty ≡ certain → IsProvedFrom (meaning h V) mode A c e goal
     by_opened_candidate law offered sure =
         let keep = law.keep in
-        let keeps = keep.each mode e (unbound (opened f 0 u)) d asked offered in
+        let keeps = keep.each mode e there d asked offered in
         let m = meaning h V in
-        let z = goal_kind m (unbound (read asked.statement)) in
-        let o = candidate_follows h V mode c s t k e (unbound (opened f 0 u)) asked ke ko d x z keeps in
+        let o = candidate_follows h V mode A c s t k e there asked ke ko d x keeps in
         let both = o.holds in
-        let applies = candidate_applies h V mode c s t k e (unbound (opened f 0 u)) asked ke ko d x law.rules keeps offered sure o.premises both.0 both.1 in
+        let applies = candidate_applies h V mode A c s t k e there asked ke ko d x law.rules keeps offered sure o.premises both.0 both.1 in
         let plain : IsPlainRule m mode (λ y. Unit {0}) (Grants (sequent_at c e goal)) (Hides (sequent_at c e goal)) (Among o.premises) (deeply_resolved c e) (read asked.statement) =
-        inl (handlers_instance (reading_of c s t) asked.statement asked.handlers, applies) in
+        inl (read_handlers, applies) in
         let rule : IsRule m mode (λ y. Unit {0}) (Grants (sequent_at c e goal)) (Hides (sequent_at c e goal)) (Among o.premises) (deeply_resolved c e) (deeply_resolved c goal) =
         inr (more (read sort) (read sorts), read u, f, goal_reads, fresh, subst (λ y. IsPlainRule m mode (λ v. Unit {0}) (Grants (sequent_at c e goal)) (Hides (sequent_at c e goal)) (Among o.premises) (deeply_resolved c e) y) statement_reads plain) in
-        let all = derive_all m mode (deeply_resolved c e) (read_constraints c c.constraints) (deeply_resolved c goal) o.premises o.premises o.served in
+        let served : (q : Premise) → Among o.premises q → IsServedFrom m mode (deeply_resolved c e) (read_constraints c c.constraints) (at_premise m mode (deeply_resolved c e) (read_constraints c c.constraints) A (deeply_resolved c goal) q) q =
+        λ q i. subst (λ z. IsServedFrom m mode (deeply_resolved c e) (read_constraints c c.constraints) (passed (proof_kind z q.source) A) q) (sym kinds_same) (o.served q i) in
+        let all = derive_all_from m mode (deeply_resolved c e) (read_constraints c c.constraints) A (deeply_resolved c goal) o.premises o.premises served in
         record {
           sequent = sequent_at c e goal;
-          derivation = by_rule o.premises binder_terms (rule_more (λ q i. inl i) (deeply_resolved c e) (deeply_resolved c goal) rule) all.0;
-          tree = all.1;
+          reached = inl (by_rule o.premises binder_terms (rule_more (λ q i. inl i) (deeply_resolved c e) (deeply_resolved c goal) rule) all);
           instance = itself;
           is_instance = record {
             environment = (let y = binder_terms.formed in one_itself _ _ _ (instance_of-itself (deeply_resolved c e) y.0));
@@ -135,7 +173,7 @@ module _ (h : Handler) (V : ℕ → List Variance) (mode : Mode) (c : Content) (
 
   -- .. and so is a goal that a table knew before it was entered
   pub by_entered_candidate : (b : Content) (e g : Tree) → AreCurrent b → Continues b c → IsLevelled c → AreRegionsLevelled c → IsTermOf b e → IsTermOf b g → IsClosed g → IsAsked e (opened_in b g) → IsTermOf c e → IsTermOf c g → IsTermOf c (opened_in b g)
-      → (d : Candidate) → IsLawful h → Among (h.offers mode e (opened_in b g)) d → d.certainty ≡ certain → HoldsCandidate (meaning h V) mode c d → IsProved (meaning h V) mode c e g
+      → (d : Candidate) → IsLawful h → Among (h.offers mode e (opened_in b g)) d → d.certainty ≡ certain → HoldsCandidateFrom (meaning h V) mode A c (opened_in b g) d → IsProvedFrom (meaning h V) mode A c e g
   by_entered_candidate b e (node (label.List list.Binder) (more (node (label.List list.Sorts) (more o os)) (more u empty))) now later l r te tg closed asked ke kg ko d law offered sure x =
       by_opened_candidate e o os u (placeholder_in (b.universe + 1)) asked ke kg ko closed (fresh_later b c e (bound (more o os) u) te.knows tg.knows now later l r) d x law offered sure
-  by_entered_candidate b e g now later l r te tg closed asked ke kg ko d law offered sure x = lawful_candidate h V mode c s t k e g asked ke kg d law offered sure x
+  by_entered_candidate b e g now later l r te tg closed asked ke kg ko d law offered sure x = lawful_candidate_from h V mode A c s t k e g asked ke kg d law offered sure x

@@ -5,67 +5,91 @@ use Rattle.nts_unify.specs.Reading.{content_of}
 use Rattle.nts_terms.specs.Rest.{Grows}
 use Rattle.nts_response.specs.Forms.{response_at}
 use Rattle.nts_certainty.specs.declared.certainty.Certainty.TheVariants as certainty
-use Rattle.nts_evaluation.specs.Meant.{Since, AreOffered, IsServedSince, IsProvedSince, HaveOutcomes, ReachesBy}
+use Rattle.nts_evaluation.specs.Meant.{Since, AreOffered, IsServedSince, IsNestedSince, HaveOutcomes, ReachesBy}
+use Rattle.nts_evaluation.specs.Searching.{Searches, IsHeadAnswer, IsAnswerTold, HeadsTell, assumed_in}
+use Rattle.nts_search.specs.Kinds.{goal_kind_of}
+use Rattle.nts_canonical.specs.Building.{kinds_of}
+use Rattle.nts_canonical.specs.Forms.{form_of}
+use Rattle.nts_terms.specs.Modes.{mode_of}
 use Rattle.nts_evaluation.specs.Found.{Found}
 use Rattle.nts_evaluation.specs.Stepping.{ArePosed, AreLeft, AreSettled, terms_of, bound_of}
 use Rattle.nts_evaluation.specs.Evaluation.{Runs}
 use Rattle.nts_evaluation.proofs.evaluate.+evaluate.Given as goal
 
 abbrev pub decreases-evaluate_goal : goal.decreases-evaluate_goal
-decreases-evaluate_goal g l = 10 * l.depth + 8
+decreases-evaluate_goal g l = 20 * l.depth + 18
 
-abbrev pub decreases-evaluate_query : goal.decreases-evaluate_query
-decreases-evaluate_query g l = 10 * l.depth + 7
+abbrev pub decreases-search : goal.decreases-search
+decreases-search g l = 20 * l.depth + 17
+
+abbrev pub decreases-evaluate_rounds : goal.decreases-evaluate_rounds
+decreases-evaluate_rounds g l = 20 * l.depth + 16
+
+abbrev pub decreases-evaluate_round : goal.decreases-evaluate_round
+decreases-evaluate_round g l = 20 * l.depth + 15
 
 abbrev pub decreases-compute_goal : goal.decreases-compute_goal
-decreases-compute_goal g l = 10 * l.depth + 6
+decreases-compute_goal g l = 20 * l.depth + 14
 
 abbrev pub decreases-evaluate_candidates : goal.decreases-evaluate_candidates
-decreases-evaluate_candidates g l = 10 * l.depth + 5
+decreases-evaluate_candidates g l = 20 * l.depth + 13
 
 abbrev pub decreases-probe_candidate : goal.decreases-probe_candidate
-decreases-probe_candidate g l = 10 * l.depth + 4
+decreases-probe_candidate g l = 20 * l.depth + 12
 
 abbrev pub decreases-run_candidate : goal.decreases-run_candidate
-decreases-run_candidate g l = 10 * l.depth + 3
+decreases-run_candidate g l = 20 * l.depth + 11
 
 abbrev pub decreases-try_evaluate_goals : goal.decreases-try_evaluate_goals
-decreases-try_evaluate_goals g l = 10 * bound_of l.depth + 2
+decreases-try_evaluate_goals g l = 20 * bound_of l.depth + 2
 
 abbrev pub decreases-evaluate_step : goal.decreases-evaluate_step
-decreases-evaluate_step g l = 10 * bound_of l.depth + 1
+decreases-evaluate_step g l = 20 * bound_of l.depth + 1
 
 abbrev pub decreases-evaluate_added : goal.decreases-evaluate_added
-decreases-evaluate_added g l = 10 * bound_of l.depth
+decreases-evaluate_added g l = 20 * bound_of l.depth
+
+-- the query's input is kept, and its provisional answer can be applied
+abbrev pub invariant-evaluate_rounds-loop-round : goal.invariant-evaluate_rounds-loop-round
+invariant-evaluate_rounds-loop-round g l = record {
+  grows : Grows l.fn.cx l.cx;
+  searches : Searches l.fn.cx l.cx l.fn.graph l.graph;
+  input : l.input ≡ l.fn.input;
+  fits : IsHeadAnswer l.cx.nodes (kinds_of l.fn.input) l.provisional;
+  told : (s : Since (λ ts. g.H.GoalHandler.ready ts l.handler) l.fn.cx.nodes) → HeadsTell (g.H.GoalHandler.handler s.base l.handler) l.fn.cx.nodes l.fn.graph → IsAnswerTold (g.H.GoalHandler.handler s.base l.handler) (mode_of l.fn.input.typing_mode) l.cx.nodes (form_of l.fn.cx.nodes l.fn.input) l.provisional;
+}
 
 -- the first candidates have these responses, and the table is as before
 abbrev pub invariant-evaluate_candidates-loop-candidate : goal.invariant-evaluate_candidates-loop-candidate
 invariant-evaluate_candidates-loop-candidate g l = record {
   same : l.table ≡ l.fn.table;
   grows : Grows l.fn.cx l.cx;
-  found : All (Found (λ b u. (s : Since (λ ts. g.H.GoalHandler.ready ts l.handler) l.fn.cx.nodes) → AreOffered (g.H.GoalHandler.handler s.base l.handler) l.fn.table.mode l.fn.cx.nodes l.goal l.candidates → IsServedSince (λ ts. g.H.GoalHandler.handler ts l.handler) s l.fn.table.mode b u l.goal) l.fn.cx.nodes l.cx.nodes l.fn.table l.goal l.values) l.responses.items;
-  told : (s : Since (λ ts. g.H.GoalHandler.ready ts l.handler) l.fn.cx.nodes) → HaveOutcomes (g.H.GoalHandler.handler s.base l.handler) l.fn.table.mode l.depth l.fn.cx.nodes l.fn.table l.values (take l.candidate-index l.candidates) (map (response_at l.cx.nodes) l.responses.items);
+  searches : Searches l.fn.cx l.cx l.fn.graph l.graph;
+  found : All (Found (λ b u. (s : Since (λ ts. g.H.GoalHandler.ready ts l.handler) l.fn.cx.nodes) → AreOffered (g.H.GoalHandler.handler s.base l.handler) l.fn.table.mode l.fn.cx.nodes l.goal l.candidates → IsServedSince (λ ts. g.H.GoalHandler.handler ts l.handler) s l.fn.table.mode (assumed_in l.cx.nodes l.graph) b u l.goal) l.fn.cx.nodes l.cx.nodes l.fn.table l.goal l.values) l.responses.items;
+  told : (s : Since (λ ts. g.H.GoalHandler.ready ts l.handler) l.fn.cx.nodes) → HeadsTell (g.H.GoalHandler.handler s.base l.handler) l.fn.cx.nodes l.fn.graph → HaveOutcomes (g.H.GoalHandler.handler s.base l.handler) l.fn.table.mode l.fn.cx.nodes l.fn.table l.values (take l.candidate-index l.candidates) (map (response_at l.cx.nodes) l.responses.items);
 }
 
 -- the goals that are left, after the first steps
 abbrev pub invariant-try_evaluate_goals-loop-step : goal.invariant-try_evaluate_goals-loop-step
 invariant-try_evaluate_goals-loop-step g l = record {
   runs : Runs l.fn.cx l.cx l.fn.table l.table;
+  searches : Searches l.fn.cx l.cx l.fn.graph l.graph;
   steps : l.last_steps ≤ l.fn.cx.step_limit;
   posed : ArePosed l.cx.nodes l.table l.goals.items;
   left : AreLeft l.fn.goals.items l.goals.items;
   labels : BringsOnly (terms_of l.fn.cx.nodes l.fn.goals.items) (content_of l.fn.cx.nodes l.fn.table.entries) (content_of l.cx.nodes l.table.entries);
-  proved : (s : Since (λ ts. g.H.GoalHandler.ready ts l.handler) l.fn.cx.nodes) → AreSettled (IsProvedSince (λ ts. g.H.GoalHandler.handler ts l.handler) s l.fn.table.mode l.cx.nodes l.table) l.fn.goals.items l.goals.items;
-  told : (s : Since (λ ts. g.H.GoalHandler.ready ts l.handler) l.fn.cx.nodes) → ReachesBy (g.H.GoalHandler.handler s.base l.handler) l.fn.table.mode (bound_of l.depth) l.fn.cx.nodes l.fn.table l.cx.nodes l.table l.fn.goals.items;
+  proved : (s : Since (λ ts. g.H.GoalHandler.ready ts l.handler) l.fn.cx.nodes) → AreSettled (IsNestedSince (λ ts. g.H.GoalHandler.handler ts l.handler) s l.fn.table.mode (goal_kind_of l.kind) (assumed_in l.cx.nodes l.graph) l.cx.nodes l.table) l.fn.goals.items l.goals.items;
+  told : (s : Since (λ ts. g.H.GoalHandler.ready ts l.handler) l.fn.cx.nodes) → HeadsTell (g.H.GoalHandler.handler s.base l.handler) l.fn.cx.nodes l.fn.graph → ReachesBy (g.H.GoalHandler.handler s.base l.handler) l.fn.table.mode l.fn.cx.nodes l.fn.table l.cx.nodes l.table l.fn.goals.items;
 }
 
 -- the first goals were asked in this step
 abbrev pub invariant-evaluate_step-loop-added : goal.invariant-evaluate_step-loop-added
 invariant-evaluate_step-loop-added g l = record {
   runs : Runs l.fn.cx l.cx l.fn.table l.table;
+  searches : Searches l.fn.cx l.cx l.fn.graph l.graph;
   left : AreLeft l.goals l.step.left.items;
   labels : BringsOnly (terms_of l.fn.cx.nodes l.goals) (content_of l.fn.cx.nodes l.fn.table.entries) (content_of l.cx.nodes l.table.entries);
-  proved : (s : Since (λ ts. g.H.GoalHandler.ready ts l.handler) l.fn.cx.nodes) → AreSettled (IsProvedSince (λ ts. g.H.GoalHandler.handler ts l.handler) s l.fn.table.mode l.cx.nodes l.table) (take l.added-index l.goals) l.step.left.items;
+  proved : (s : Since (λ ts. g.H.GoalHandler.ready ts l.handler) l.fn.cx.nodes) → AreSettled (IsNestedSince (λ ts. g.H.GoalHandler.handler ts l.handler) s l.fn.table.mode (goal_kind_of l.fn.kind) (assumed_in l.cx.nodes l.graph) l.cx.nodes l.table) (take l.added-index l.goals) l.step.left.items;
   sure : l.step.certainty ≡ certainty.Yes → l.step.left.items ≡ [];
-  told : (s : Since (λ ts. g.H.GoalHandler.ready ts l.handler) l.fn.cx.nodes) → ReachesBy (g.H.GoalHandler.handler s.base l.handler) l.fn.table.mode (bound_of l.depth) l.fn.cx.nodes l.fn.table l.cx.nodes l.table l.goals;
+  told : (s : Since (λ ts. g.H.GoalHandler.ready ts l.handler) l.fn.cx.nodes) → HeadsTell (g.H.GoalHandler.handler s.base l.handler) l.fn.cx.nodes l.fn.graph → ReachesBy (g.H.GoalHandler.handler s.base l.handler) l.fn.table.mode l.fn.cx.nodes l.fn.table l.cx.nodes l.table l.goals;
 }
