@@ -1,6 +1,6 @@
 -- A goal that was asked in a query: what the response that was applied says of the goal.
 use Rattle.std.proofs.Common.{◌≡◌, ⊎_elim, inl, inr, Bool, List, [], ◌∷◌, map, refl, sym, ap, ◌∙◌, subst, arith, false}
-use Rattle.std.specs.Prelude.{All, ◌↔◌, Result, Ok, Err, IfOk, OnOk}
+use Rattle.std.specs.Prelude.{All, ◌⊎◌, ◌↔◌, Result, Ok, Err, IfOk, OnOk}
 use Rattle.std.specs.Global.{Vec}
 use Rattle.std.proofs.lemmas.List.Elements.{All-head, All-tail, All-cons}
 use Rattle.nts_model.specs.declared.labels.Leaf.{Leaf}
@@ -39,7 +39,11 @@ use Rattle.nts_response.specs.declared.types.Response.{Response}
 use Rattle.nts_response.specs.Forms.{response_at}
 use Rattle.nts_response.specs.Applicable.{ShowsConstraints, IsApplicable, IsApplied}
 use Rattle.nts_evaluation.specs.Asking.{IsInputFor}
-use Rattle.nts_evaluation.specs.Telling.{QueryTells, QueryRefutes, Asked, Refused}
+use Rattle.nts_evaluation.specs.Telling.{QueryTells, QueryRefutes, Asked, Refused, IsCutIn}
+use Rattle.nts_evaluation.specs.Meant.{IsQueryRefuted, IsRefusedIn}
+use Rattle.nts_evaluation.specs.Searching.{IsCut}
+use Rattle.nts_certainty.specs.declared.sources.PathKind.{PathKind}
+use Rattle.nts_terms.specs.Modes.{mode_of}
 use Rattle.nts_evaluation.specs.Telling.Asked.{asked_by}
 use Rattle.nts_evaluation.specs.Telling.Refused.{by_query, by_response}
 use Rattle.nts_evaluation.specs.Running.{Stays}
@@ -184,6 +188,11 @@ module _ {a b d : List Tree} {t : Table} {g : Goal} {q : Vec GenericArg × Canon
   -- what the query refutes, and what can't be applied
   pub query_refutes : {h : Handler} {mode : Mode} → QueryRefutes h mode (form_of b q.1) → Refused h mode (content_of a t.entries) (tree_at a g.param_env.node) (tree_at a g.predicate.node)
   query_refutes {h} {mode} x = by_query asked of_goal (subst (λ f. QueryRefutes h mode f) query.form x)
+
+  -- .. or it is cut as a cycle
+  pub query_cut : {h : Handler} {step : PathKind} → IsQueryRefuted h (mode_of q.1.typing_mode) b q.1 ⊎ IsCut q.1.typing_mode step → IsRefusedIn h t.mode a t g ⊎ IsCut t.mode step
+  query_cut {h} (inl x) = inl (query_refutes (subst (λ z. QueryRefutes h z (form_of b q.1)) query.mode x))
+  query_cut (inr x) = inr (x.0, subst IsCutIn query.mode x.1)
 
   pub response_refused : {h : Handler} {mode : Mode} (r : Canonical Response) → QueryTells h mode (form_of b q.1) (response_at d r) → RefusesResponse (content_of d t.entries) (trees_of d q.0.items) (response_at d r) → Refused h mode (content_of a t.entries) (tree_at a g.param_env.node) (tree_at a g.predicate.node)
   response_refused {h} {mode} r x k = by_response asked (response_at d r) of_goal (subst (λ f. QueryTells h mode f (response_at d r)) query.form x) (rw (now, leaves_are) at k)

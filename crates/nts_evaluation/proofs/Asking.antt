@@ -1,5 +1,10 @@
 -- Which goals are asked of a handler.
-use Rattle.std.proofs.Common.{◌≡◌, inl, inr, ℕ, suc, ◌<◌, ◌≤◌, ◌||◌, false, List, is_some, refl, sym, ap, ◌∙◌, subst, arith}
+use Rattle.std.proofs.Common.{◌≡◌, inl, inr, ℕ, suc, ◌<◌, ◌≤◌, ◌||◌, Bool, true, false, List, is_some, refl, sym, ap, ◌∙◌, subst, arith}
+use Rattle.std.specs.Prelude.{◌≢◌, if◌then◌else◌}
+use Rattle.nts_model.specs.Rules.{Meaning, GoalKind, coinductive_trait, other_goal, normalization, statement_kind, statement_of, goal_kind}
+use Rattle.nts_search.specs.declared.kinds.CurrentGoalKind.{CurrentGoalKind}
+use Rattle.nts_search.specs.declared.kinds.CurrentGoalKind.TheVariants as kinds
+use Rattle.nts_search.specs.Kinds.{goal_kind_of}
 use Rattle.nts_model.specs.declared.labels.ClauseHead.TheVariants as clause_head
 use Rattle.nts_model.specs.declared.labels.ListHead.TheVariants as list
 use Rattle.nts_model.specs.declared.labels.Label.TheVariants as label
@@ -25,7 +30,7 @@ use Rattle.nts_table.specs.Tables.{IsTable}
 use Rattle.nts_unify.specs.Lawful.{content_of-extended}
 use Rattle.nts_table.specs.TableLaws.{IsTable-extended}
 use Rattle.nts_delegate.specs.ClausesKept.{AreReady-kept}
-use Rattle.nts_evaluation.specs.Evaluation.{IsAdmitted}
+use Rattle.nts_evaluation.specs.Evaluation.{IsAdmitted, IsAskedGoal}
 use Rattle.nts_delegate.specs.Candidates.{IsAsked}
 use Rattle.nts_terms.specs.Handles.{HoldsGoal}
 use Rattle.nts_evaluation.proofs.Evaluating.{HoldsGoal-extended}
@@ -74,8 +79,8 @@ pub record AreTests (ts : List Tree) (g : Goal) (b : Binder PredicateKind) (r : 
   pub goal_well_bound : IsWellBound (tree_at ts g.predicate.node)
   pub statements : HasClosedStatements (tree_at ts g.param_env.node)
 
-pub trait_asked : (ts : List Tree) (g : Goal) (b : Binder PredicateKind) (r : TraitRef) (env goal args : TypeFlags) → AreTests ts g b r env goal args → IsAsked ts g
-trait_asked ts g b r env goal args t =
+trait_is_asked : (ts : List Tree) (g : Goal) (b : Binder PredicateKind) (r : TraitRef) (env goal args : TypeFlags) → AreTests ts g b r env goal args → IsAsked ts g
+trait_is_asked ts g b r env goal args t =
     let statement = node (label.Clause (clause_head.Trait r.def_id.number)) (more (tree_at ts r.args.node) empty) in
     let binder : tree_at ts b.vars.node ≡ no_sorts = vars_tree (tree_at ts b.vars.node) t.fits.0.fits ∙ ap (node (label.List list.Sorts)) (row_of_none (children (tree_at ts b.vars.node)) t.row t.none) in
     let says : tree_of_statement ts b.value ≡ node (label.Clause (clause_head.Trait r.def_id.number)) (more (tree_at ts r.args.node) empty) = ap (tree_of_statement ts) t.is_trait in
@@ -100,6 +105,17 @@ trait_asked ts g b r env goal args t =
       };
     }
 
+trait_kind : (x : Bool) → (if x then coinductive_trait else other_goal) ≡ normalization → ⊥
+trait_kind true e = cc e
+trait_kind false e = cc e
+
+pub trait_asked : (ts : List Tree) (g : Goal) (b : Binder PredicateKind) (r : TraitRef) (env goal args : TypeFlags) → AreTests ts g b r env goal args → IsAskedGoal ts g
+trait_asked ts g b r env goal args t =
+    record {
+      asked = trait_is_asked ts g b r env goal args t;
+      plain = λ z. subst (λ v. statement_kind z (statement_of v) ≢ normalization) (sym (t.says ∙ ap (λ v. node (label.List list.Binder) (more (tree_at ts b.vars.node) (more (tree_of_statement ts v) empty))) t.is_trait)) (trait_kind (z r.def_id.number));
+    }
+
 -- a goal that is asked, in a store that has grown
 pub IsAsked-extended : {a b : List Tree} {g : Goal} → Extends a b → IsAsked a g → IsAsked b g
 IsAsked-extended {a} {b} {g} e h =
@@ -108,6 +124,18 @@ IsAsked-extended {a} {b} {g} e h =
       holds = HoldsGoal-extended e h.holds;
       asked = rw (e.kept g.param_env.node k.env.within, e.kept g.predicate.node k.predicate.within) h.asked;
     }
+
+pub IsAskedGoal-extended : {a b : List Tree} {g : Goal} → Extends a b → IsAskedGoal a g → IsAskedGoal b g
+IsAskedGoal-extended {a} {b} {g} e h =
+    let k = h.asked.holds in
+    record {
+      asked = IsAsked-extended e h.asked;
+      plain = λ z. subst (λ v. statement_kind z (statement_of v) ≢ normalization) (sym (e.kept g.predicate.node k.predicate.within)) (h.plain z);
+    }
+
+-- what kind of goal it is
+pub kind_asked : {a : List Tree} {g : Goal} (k : CurrentGoalKind) (m : Meaning) → goal_kind_of k ≡ goal_kind m (tree_at a g.predicate.node) → IsAskedGoal a g → k ≢ kinds.NormalizesTo
+kind_asked k m same h = λ e. h.plain m.is_coinductive (sym same ∙ ap goal_kind_of e)
 
 -- a goal that is admitted, in a store that has grown
 pub IsAdmitted-extended : {a b : List Tree} {t : Table} {g : Goal} → Extends a b → IsTable a t → IsAdmitted a t g → IsAdmitted b t g

@@ -201,7 +201,7 @@ pub by_answer : {P : Canonical Response → Type 0} (x : Option (Canonical Respo
 by_answer {P} (Some r) z some none h = subst (λ w. IfOk w P) (sym (some r refl)) (h r refl)
 by_answer {P} None z some none h = subst (λ w. IfOk w P) (sym (none refl)) tt
 
-some_is_ok : (x : Option (Canonical Response)) (z : Result (Canonical Response) EvalError) → ((r : Canonical Response) → x ≡ Some r → z ≡ Ok r) → z ≡ Err error.NoSolution → x ≡ None
+pub some_is_ok : (x : Option (Canonical Response)) (z : Result (Canonical Response) EvalError) → ((r : Canonical Response) → x ≡ Some r → z ≡ Ok r) → z ≡ Err error.NoSolution → x ≡ None
 some_is_ok (Some r) z some e = (let w : Err error.NoSolution ≡ Ok r = sym e ∙ some r refl in cc w)
 some_is_ok None z some e = refl
 

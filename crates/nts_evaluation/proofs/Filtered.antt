@@ -6,6 +6,7 @@ use Rattle.nts_model.specs.declared.labels.Sort.{Sort}
 use Rattle.nts_model.specs.Trees.{Tree}
 use Rattle.nts_model.specs.Contents.{Content}
 use Rattle.nts_model.specs.Sequents.{Among}
+use Rattle.nts_model.specs.Rules.{Mode}
 use Rattle.nts_model.specs.Handlers.{Candidate, Handler}
 use Rattle.nts_model.specs.Choosing.{IsMet, MeetsEquations}
 use Rattle.nts_model.specs.Responses.{Response as Answer}

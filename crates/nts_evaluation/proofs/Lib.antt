@@ -24,3 +24,4 @@ pub mod Filtered
 pub mod Searching
 pub mod Unchanged
 pub mod BackEdges
+pub mod Rounds

@@ -34,7 +34,7 @@ use Rattle.nts_evaluation.proofs.AskedGoals.{trees_kept}
 use Rattle.nts_evaluation.proofs.Evaluating.{Goes-trans, Goes-extends}
 use Rattle.nts_evaluation.proofs.Labels.{only_back}
 use Rattle.nts_evaluation.proofs.Running.{candidate-kept}
-use Rattle.nts_evaluation.proofs.Probed.{response_same, found_later, found_still}
+use Rattle.nts_evaluation.proofs.Probed.{response_same, found_later, found_with, found_still}
 use Rattle.nts_evaluation.proofs.MergedResponses.{doubt_unsure, told_unsure, merged_stands, merged_among}
 
 -- what was found for a goal in a store that has grown, seen from the smaller store
@@ -66,6 +66,10 @@ responses_same {P} {a} {b} {e} {t} {g} {qs} (r ∷ rs) k h =
 pub founds_more : {P : List Tree → Table → Type 0} {a b e : List Tree} {t : Table} {g : Goal} {qs : List GenericArg} (rs new : List (Canonical Response)) (x : Result (Canonical Response) EvalError) → Extends b e → All (Found P a b t g qs) rs → IfOk x (Found P a e t g qs) → new ≡ kept_after rs x → All (Found P a e t g qs) new
 founds_more {P} {a} {b} {e} {t} {g} {qs} rs new (Ok r) k h f q = subst (All (Found P a e t g qs)) (sym q) (All-push (Found P a e t g qs) rs r (λ i d l. found_later (get_or rs i d) k (h i d l)) f)
 founds_more {P} {a} {b} {e} {t} {g} {qs} rs new (Err z) k h f q = subst (All (Found P a e t g qs)) (sym q) (λ i d l. found_later (get_or rs i d) k (h i d l))
+
+-- .. from which more follows
+pub founds_with : {P Q : List Tree → Table → Type 0} {a b : List Tree} {t : Table} {g : Goal} {qs : List GenericArg} (rs : List (Canonical Response)) → ((c : List Tree) (u : Table) → P c u → Q c u) → All (Found P a b t g qs) rs → All (Found Q a b t g qs) rs
+founds_with {P} {Q} {a} {b} {t} {g} {qs} rs p h = λ i d l. found_with (get_or rs i d) p (h i d l)
 
 -- what is dropped has failed
 pub failed_of : {T : Type 0} {F : Type 0} (r : Result T EvalError) → OnErr r (r ≡ Err error.NoSolution) → (r ≡ Err error.NoSolution → F) → OnErr r F

@@ -82,6 +82,21 @@ found_later {P} {a} {b} {e} {t} {g} {qs} r k f =
       sure = f.sure;
     }
 
+pub found_with : {P Q : List Tree → Table → Type 0} {a b : List Tree} {t : Table} {g : Goal} {qs : List GenericArg} (r : Canonical Response) → ((c : List Tree) (u : Table) → P c u → Q c u) → Found P a b t g qs r → Found Q a b t g qs r
+found_with r p f =
+    record {
+      store = f.store;
+      after = f.after;
+      formed = f.formed;
+      goes = f.goes;
+      labels = f.labels;
+      extends = f.extends;
+      says = f.says;
+      holds = f.holds;
+      no_more = f.no_more;
+      sure = λ y. p f.store f.after (f.sure y);
+    }
+
 -- the response of a table that went on
 pub found_in : {P : List Tree → Table → Type 0} {a b e : List Tree} {t u : Table} {g : Goal} {qs : List GenericArg} (r : Canonical Response) (x : Certainty) → Goes a b t u → AreFormed b → Extends b e → BringsOnly (asked_terms a g) (content_of a t.entries) (content_of b u.entries) → All (IsArgOf a t.entries) qs
     → r.value.certainty ≡ x → IsResponseOf (told_in x (content_of b u.entries)) (trees_of b qs) (response_at e r) → HoldsResponse e r.value → TellsNoMore r → (x ≡ certainty.Yes → P b u) → Found P a e t g qs r

@@ -1,10 +1,10 @@
 -- Goals that are evaluated in steps: what was asked so far, what is left, and what is proved.
 use Rattle.std.proofs.Common.{◌≡◌, ◌⊎◌, inl, inr, ⊎_elim, ℕ, zero, suc, ◌+◌, ◌<◌, ◌≤◌, List, [], ◌∷◌, ◌++◌, map, length, take, get_or, refl, sym, ap, ◌∙◌, subst, arith}
-use Rattle.std.specs.Prelude.{All}
+use Rattle.std.specs.Prelude.{All, ◌≢◌}
 use Rattle.std.proofs.lemmas.List.Elements.{All-head, All-tail}
 use Rattle.nts_model.specs.Sequents.{inductive}
 use Rattle.nts_model.specs.Rules.{Mode, GoalKind, step_kind}
-use Rattle.nts_model.specs.Proofs.{Assumed}
+use Rattle.nts_model.specs.Proofs.{Assumed, passed}
 use Rattle.nts_model.proofs.Assuming.{Covers, covers_passed}
 use Rattle.nts_certainty.specs.declared.sources.PathKind.{PathKind}
 use Rattle.nts_certainty.specs.declared.sources.PathKind.TheVariants as path
@@ -17,7 +17,7 @@ use Rattle.nts_evaluation.specs.Telling.{IsInductive}
 use Rattle.nts_evaluation.specs.Telling.RefusesOne.{cuts_one}
 use Rattle.nts_evaluation.specs.Searching.{IsCut}
 use Rattle.nts_evaluation.specs.Meant.{IsNestedSince}
-use Rattle.nts_evaluation.proofs.Searching.{stays_more}
+use Rattle.nts_evaluation.proofs.Searching.{stays_more, none_passed}
 use Rattle.nts_model.specs.Trees.{Tree}
 use Rattle.nts_model.specs.Contents.{Content}
 use Rattle.nts_model.specs.Sequents.{Among, Premise}
@@ -46,7 +46,7 @@ use Rattle.nts_evaluation.specs.Telling.Asked.{asked_by}
 use Rattle.nts_evaluation.specs.Telling.Refused.{by_query, by_response}
 use Rattle.nts_evaluation.specs.Telling.Reaches.{asks_nothing, then_asks}
 use Rattle.nts_evaluation.specs.Telling.RefusesOne.{refuses_one}
-use Rattle.nts_evaluation.specs.Meant.{Since, IsProvedSince, IsAskedUnder, IsRefusedUnder, ReachesBy, RefusesOneOf}
+use Rattle.nts_evaluation.specs.Meant.{Since, IsProvedSince, IsProvedFromSince, IsAskedUnder, IsRefusedUnder, ReachesBy, RefusesOneOf}
 use Rattle.nts_evaluation.proofs.Evaluating.{IsPosed-later, HoldsGoal-extended}
 use Rattle.nts_evaluation.proofs.Running.{both_sure, Stays-later}
 
@@ -225,28 +225,36 @@ settled_more P Q gs left i d x l f new h =
     (take_next gs i d g l (subst (λ n. Among (take n gs) g) next j))
 
 -- what is proved of a goal stays proved, from more
-proved_later : {ready : List Tree → Type 0} {a b e : List Tree} {u v : Table} {A B : List Assumed} (handler : List Tree → Handler) (s : Since ready a) (mode : TypingMode) (z : GoalKind) (g : GoalSource × Goal) → HoldsGoal b g.1 → Goes b e u v → Covers A B → IsNestedSince handler s mode z A b u g → IsNestedSince handler s mode z B e v g
-proved_later {A = A} {B = B} handler s mode z g h k f p =
+proved_later : {ready : List Tree → Type 0} {a b e : List Tree} {u v : Table} (A B : List Assumed) (handler : List Tree → Handler) (s : Since ready a) (mode : TypingMode) (z : GoalKind) (g : GoalSource × Goal) → HoldsGoal b g.1 → Goes b e u v → Covers A B → IsNestedSince handler s mode z A b u g → IsNestedSince handler s mode z B e v g
+proved_later A B handler s mode z g h k f p =
     rw (k.extends.kept g.1.param_env.node h.env.within, k.extends.kept g.1.predicate.node h.predicate.within) (stays_more (covers_passed (step_kind z (source_of g.0)) A B f) (Stays-later k p))
 
 holds_later : {a b : List Tree} {t : Table} (gs : List (GoalSource × Goal)) (g : GoalSource × Goal) → ArePosed a t gs → Extends a b → Among gs g → HoldsGoal b g.1
 holds_later {a} {b} {t} gs g h e i = (let p = all_among (λ x. IsPosed a t x.1) gs g h i in HoldsGoal-extended e p.holds)
 
-pub settled_proved : {ready : List Tree → Type 0} {a b e : List Tree} {t u v : Table} {A B : List Assumed} (handler : List Tree → Handler) (s : Since ready a) (mode : TypingMode) (z : GoalKind) (gs left : List (GoalSource × Goal)) (i : ℕ) (d : GoalSource × Goal) (x : Certainty) → i < length gs → ArePosed a t gs → Extends a b → Goes b e u v → Covers A B
+pub settled_proved : {ready : List Tree → Type 0} {a b e : List Tree} {t u v : Table} (A B : List Assumed) (handler : List Tree → Handler) (s : Since ready a) (mode : TypingMode) (z : GoalKind) (gs left : List (GoalSource × Goal)) (i : ℕ) (d : GoalSource × Goal) (x : Certainty) → i < length gs → ArePosed a t gs → Extends a b → Goes b e u v → Covers A B
     → (x ≡ certainty.Yes → IsNestedSince handler s mode z B e v (get_or gs i d)) → AreSettled (IsNestedSince handler s mode z A b u) (take i gs) left → AreSettled (IsNestedSince handler s mode z B e v) (take (i + 1) gs) (left_after left (get_or gs i d) x)
-settled_proved {ready} {a} {b} {e} {t} {u} {v} {A} {B} handler s mode z gs left i d x l h k goes f new old =
-    settled_more (IsNestedSince handler s mode z A b u) (IsNestedSince handler s mode z B e v) gs left i d x l (λ g j p. proved_later handler s mode z g (holds_later gs g h k j) goes f p) new old
+settled_proved {ready} {a} {b} {e} {t} {u} {v} A B handler s mode z gs left i d x l h k goes f new old =
+    settled_more (IsNestedSince handler s mode z A b u) (IsNestedSince handler s mode z B e v) gs left i d x l (λ g j p. proved_later A B handler s mode z g (holds_later gs g h k j) goes f p) new old
 
-pub settled_step : {ready : List Tree → Type 0} {a b e : List Tree} {t u v : Table} {A B : List Assumed} (handler : List Tree → Handler) (s : Since ready a) (mode : TypingMode) (z : GoalKind) (gs left more : List (GoalSource × Goal)) → ArePosed a t gs → Extends a b → Goes b e u v → Covers A B
+pub settled_step : {ready : List Tree → Type 0} {a b e : List Tree} {t u v : Table} (A B : List Assumed) (handler : List Tree → Handler) (s : Since ready a) (mode : TypingMode) (z : GoalKind) (gs left more : List (GoalSource × Goal)) → ArePosed a t gs → Extends a b → Goes b e u v → Covers A B
     → AreSettled (IsNestedSince handler s mode z A b u) gs left → AreSettled (IsNestedSince handler s mode z B e v) left more → AreSettled (IsNestedSince handler s mode z B e v) gs more
-settled_step {ready} {a} {b} {e} {t} {u} {v} {A} {B} handler s mode z gs left more h k goes f old new =
-    settled_trans (IsNestedSince handler s mode z A b u) (IsNestedSince handler s mode z B e v) gs left more (λ g i p. proved_later handler s mode z g (holds_later gs g h k i) goes f p) old new
+settled_step {ready} {a} {b} {e} {t} {u} {v} A B handler s mode z gs left more h k goes f old new =
+    settled_trans (IsNestedSince handler s mode z A b u) (IsNestedSince handler s mode z B e v) gs left more (λ g i p. proved_later A B handler s mode z g (holds_later gs g h k i) goes f p) old new
 
 pub sure_more : (old x : Certainty) (left : List (GoalSource × Goal)) (y : GoalSource × Goal) → (old ≡ certainty.Yes → left ≡ []) → both old x ≡ certainty.Yes → left_after left y x ≡ []
 sure_more old x left y h e = (let z = both_sure old x e in subst (λ c. left_after left y c ≡ []) (sym z.1) (h z.0))
 
--- .. while the table goes on
-pub settled_later : {ready : List Tree → Type 0} {a b e : List Tree} {t u v : Table} {A B : List Assumed} (handler : List Tree → Handler) (s : Since ready a) (mode : TypingMode) (z : GoalKind) (gs left : List (GoalSource × Goal)) → ArePosed a t gs → Extends a b → Goes b e u v → Covers A B
-    → AreSettled (IsNestedSince handler s mode z A b u) gs left → AreSettled (IsNestedSince handler s mode z B e v) gs left
-settled_later {ready} {a} {b} {e} {t} {u} {v} {A} {B} handler s mode z gs left h k goes f old =
-    settled_step {ready = ready} {a = a} {b = b} {e = e} {t = t} {u = u} {v = v} {A = A} {B = B} handler s mode z gs left left h k goes f old (λ g i. inl i)
+-- .. where nothing is assumed
+pub settled_rooted : {ready : List Tree → Type 0} {a : List Tree} (b : List Tree) (u : Table) (A : List Assumed) (handler : List Tree → Handler) (s : Since ready a) (mode : TypingMode) (z : GoalKind) (gs left : List (GoalSource × Goal)) → A ≡ [] → AreSettled (IsNestedSince handler s mode z A b u) gs left → AreSettled (λ g. IsProvedSince handler s mode b u g.1) gs left
+settled_rooted {ready} {a} b u A handler s mode z gs left none h = λ g i. ⊎_elim
+    (λ j. inl j)
+    (λ p. inr (subst (λ B. IsProvedFromSince handler s mode B b u g.1) (ap (passed (step_kind z (source_of g.0))) none ∙ none_passed (step_kind z (source_of g.0))) p))
+    (h g i)
+
+pub settled_after : {ready : List Tree → Type 0} {a b e : List Tree} {t u v : Table} (handler : List Tree → Handler) (s : Since ready a) (mode : TypingMode) (gs left : List (GoalSource × Goal)) → ArePosed a t gs → Extends a b → Goes b e u v
+    → AreSettled (λ g. IsProvedSince handler s mode b u g.1) gs left → AreSettled (λ g. IsProvedSince handler s mode e v g.1) gs left
+settled_after {ready} {a} {b} {e} {t} {u} {v} handler s mode gs left h k goes old = λ g i. ⊎_elim
+    (λ j. inl j)
+    (λ p. inr (let held = holds_later gs g h k i in rw (goes.extends.kept g.1.param_env.node held.env.within, goes.extends.kept g.1.predicate.node held.predicate.within) (Stays-later goes p)))
+    (old g i)

@@ -1,5 +1,5 @@
 -- What the steps of an evaluation keep.
-use Rattle.std.specs.Prelude.{◌≡◌, Bool, true, false, List, [], ◌∷◌, map, Some}
+use Rattle.std.specs.Prelude.{◌≡◌, ◌≢◌, ℕ, Bool, true, false, List, [], ◌∷◌, map, Some}
 use Rattle.nts_model.specs.declared.labels.VariableKind.{VariableKind}
 use Rattle.nts_model.specs.declared.labels.VariableKind.TheVariants as variable
 use Rattle.nts_model.specs.declared.labels.Leaf.TheVariants as leaf
@@ -14,6 +14,7 @@ use Rattle.nts_model.specs.Resolving.{Knows, deeply_resolved, IsSound}
 use Rattle.nts_model.specs.Holding.{Continues}
 use Rattle.nts_model.specs.Handlers.{AreValuesOf}
 use Rattle.nts_model.specs.Sequents.{Among}
+use Rattle.nts_model.specs.Rules.{normalization, statement_kind, statement_of}
 use Rattle.nts_model.specs.Passing.{TreePasses, PassesQueries}
 use Rattle.nts_store.specs.declared.nodes.NodeId.{NodeId}
 use Rattle.nts_terms.specs.declared.handles.Goal.{Goal}
@@ -24,7 +25,7 @@ use Rattle.nts_table.specs.Tables.{Table}
 use Rattle.nts_unify.specs.Reading.{content_of}
 use Rattle.nts_unify.specs.Changing.{HasClosedSides}
 use Rattle.nts_table.specs.Tables.{IsTable}
-use Rattle.nts_delegate.specs.Candidates.{KnowsGoal}
+use Rattle.nts_delegate.specs.Candidates.{IsAsked, KnowsGoal}
 use Rattle.nts_terms.specs.Handles.{HoldsGoal}
 
 -- the store and the table later on: terms keep their trees, the table is a later one and has all that it had, the snapshots
@@ -74,6 +75,11 @@ asked_terms ts g = tree_at ts g.param_env.node ∷ tree_at ts g.predicate.node �
 -- the goal h of the store b has no labels but those of the goal g of the store a, and what any query's table may hold
 pub record AsksOnly (a b : List Tree) (g h : Goal) : Type 0 where
   pub labels : (P : Label → Bool) → PassesQueries P → ((t : Tree) → Among (asked_terms a g) t → TreePasses P t) → (t : Tree) → Among (asked_terms b h) t → TreePasses P t
+
+-- a goal that is asked of a handler, and that normalizes no alias
+pub record IsAskedGoal (ts : List Tree) (g : Goal) : Type 0 where
+  pub asked : IsAsked ts g
+  pub plain : (is_coinductive : ℕ → Bool) → statement_kind is_coinductive (statement_of (tree_at ts g.predicate.node)) ≢ normalization
 
 -- a type variable
 abbrev pub is_type_variable_kind : VariableKind → Bool

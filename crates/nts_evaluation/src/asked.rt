@@ -7,7 +7,7 @@ ghost use Rattle.nts_model.specs.Handlers.{meaning};
 ghost use Rattle.nts_search.specs.Kinds.{goal_kind_of};
 ghost use Rattle.nts_model.specs.Sequents.{HasClosedStatements};
 ghost use Rattle.nts_store.specs.Growth.{tree_at};
-ghost use Rattle.nts_delegate.specs.Candidates.{IsAsked};
+ghost use Rattle.nts_evaluation.specs.Evaluation.{IsAskedGoal};
 ghost use Rattle.nts_terms.specs.Handles.{HoldsEnv, HoldsGoal};
 
 use crate::candidate::terms_are_formed;
@@ -21,7 +21,7 @@ use nts_terms::{ClauseKind, Cx, Goal, ParamEnv, PredicateKind};
 #[inline(never)]
 pub fn is_candidates_goal(cx: &Cx, goal: Goal) -> bool
     requires { HoldsGoal cx.now.nodes goal }
-    ensures { result ≡ true → IsAsked cx.now.nodes goal }
+    ensures { result ≡ true → IsAskedGoal cx.now.nodes goal }
 {
     let env = cx.nodes.flags(goal.param_env.node);
     let flags = cx.nodes.flags(goal.predicate.node);

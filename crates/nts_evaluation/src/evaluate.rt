@@ -8,7 +8,7 @@ ghost use Rattle.nts_model.specs.Responses.{answer_sequent};
 ghost use Rattle.nts_canonical.specs.Forms.{form_of};
 ghost use Rattle.nts_canonical.specs.Building.{kinds_of, IsArgOf};
 ghost use Rattle.nts_response.specs.Forms.{response_at};
-ghost use Rattle.nts_delegate.specs.Candidates.{IsAsked, IsCandidate, AreCandidates};
+ghost use Rattle.nts_delegate.specs.Candidates.{IsCandidate, AreCandidates};
 ghost use Rattle.nts_delegate.specs.Offered.{path_kind_of};
 ghost use Rattle.nts_terms.specs.Modes.{mode_of};
 ghost use Rattle.nts_search.specs.declared.kinds.CurrentGoalKind.TheVariants as kinds;
@@ -19,7 +19,7 @@ ghost use Rattle.nts_evaluation.specs.Searching.{IsSearch, Searches, IsHeadAnswe
 ghost use Rattle.nts_evaluation.specs.Found.{Found};
 ghost use Rattle.nts_evaluation.specs.Stepping.{ArePosed, AreLeft, AreSettled, terms_of, bound_of};
 ghost use Rattle.nts_evaluation.specs.Answering.{IsQueryInput, IsAnswerTo, EvaluatesGoal, IfSure, IfCertain};
-ghost use Rattle.nts_evaluation.specs.Evaluation.{Runs, IsPosed, asked_terms};
+ghost use Rattle.nts_evaluation.specs.Evaluation.{Runs, IsPosed, IsAskedGoal, asked_terms};
 ghost use Rattle.nts_unify.specs.Reading.{content_of};
 ghost use Rattle.nts_table.specs.Tables.{IsTable};
 ghost use Rattle.nts_certainty.specs.declared.certainty.Certainty.TheVariants as certainty;
@@ -247,7 +247,7 @@ fn evaluate_candidates<H: GoalHandler>(
     depth: usize,
 ) -> Result<CanonicalResponse, EvalError>
     requires posed { IsPosed cx.old.nodes table.old goal }
-    requires asked { IsAsked cx.old.nodes goal }
+    requires asked { IsAskedGoal cx.old.nodes goal }
     requires ready { H.ready cx.old.nodes handler.now }
     requires candidates { AreCandidates cx.old.nodes goal candidates.now }
     requires values { All (IsArgOf cx.old.nodes table.old.entries) values.now }
@@ -281,7 +281,7 @@ fn probe_candidate<H: GoalHandler>(
     depth: usize,
 ) -> Result<CanonicalResponse, EvalError>
     requires posed { IsPosed cx.old.nodes table.old goal }
-    requires asked { IsAsked cx.old.nodes goal }
+    requires asked { IsAskedGoal cx.old.nodes goal }
     requires ready { H.ready cx.old.nodes handler.now }
     requires candidate { IsCandidate cx.old.nodes goal candidate.now }
     requires values { All (IsArgOf cx.old.nodes table.old.entries) values.now }
@@ -324,7 +324,7 @@ fn run_candidate<H: GoalHandler>(
     depth: usize,
 ) -> Result<Certainty, EvalError>
     requires posed { IsPosed cx.old.nodes table.old goal }
-    requires asked { IsAsked cx.old.nodes goal }
+    requires asked { IsAskedGoal cx.old.nodes goal }
     requires ready { H.ready cx.old.nodes handler.now }
     requires candidate { IsCandidate cx.old.nodes goal candidate.now }
     requires search { IsSearch cx.old graph.old (depth) }

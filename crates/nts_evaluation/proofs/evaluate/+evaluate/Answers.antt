@@ -20,15 +20,15 @@ use Rattle.nts_delegate.proofs.Results.{IfOk-map, OnOk-map}
 use Rattle.nts_canonical.specs.Building.{kinds_of}
 use Rattle.nts_canonical.specs.Forms.{trees_of}
 use Rattle.nts_response.specs.Forms.{response_at}
-use Rattle.nts_evaluation.specs.Meant.{meaning_since, IsProvedSince}
+use Rattle.nts_evaluation.specs.Meant.{Since, meaning_since, IsProvedNow, IsNestedSince}
 use Rattle.nts_evaluation.specs.Stepping.{AreLeft, AreSettled, bound_of}
 use Rattle.nts_evaluation.specs.Telling.Reaches.{asks_nothing}
-use Rattle.nts_evaluation.proofs.Asking.{IsAsked-extended}
-use Rattle.nts_evaluation.proofs.AskedGoals.{trees_kept, ok_both, args_there, applicable, evaluates, asks, asked_stays, asked_labels, query_refutes, response_refused}
+use Rattle.nts_evaluation.proofs.Asking.{IsAskedGoal-extended, kind_asked}
+use Rattle.nts_evaluation.proofs.AskedGoals.{trees_kept, ok_both, args_there, applicable, evaluates, asks, asked_stays, asked_labels, query_cut, response_refused, ok_two}
 use Rattle.nts_evaluation.proofs.AnsweredQueries.{first_entries, query_environment, query_predicate, args_later}
 use Rattle.nts_evaluation.proofs.Labels.{only_earlier, only_back, only_same, only_resolved, content_same}
 use Rattle.nts_evaluation.proofs.Evaluating.{Goes-trans, Goes-extends, Runs-trans, Runs-extends, Runs-refl, rolled_back, Since-later, offers-kept, IsPosed-later, AreValues-later, IsCandidate-extended, candidate_at}
-use Rattle.nts_evaluation.proofs.Stepping.{among_get, posed_later, posed_left, only_one, only_left, reach_more, refuse_more, asked_more, refused_more, reach_step, refuse_step, left_trans, settled_step, left_more, settled_proved, sure_more}
+use Rattle.nts_evaluation.proofs.Stepping.{among_get, posed_later, posed_left, only_one, only_left, reach_more, refuse_more, reach_step, refuse_step, left_trans, settled_step, left_more, settled_proved, sure_more}
 use Rattle.nts_evaluation.proofs.Running.{term_table, unread, HasRun, has_run, both_sure, constraints-kept, offered_there, Equates-later, Constrains-later}
 use Rattle.nts_canonical.specs.declared.types.Canonical.{Canonical}
 use Rattle.nts_response.specs.declared.types.Response.{Response}
@@ -42,50 +42,28 @@ use Rattle.nts_evaluation.proofs.Evaluating.{goes-back, HoldsGoal-extended}
 use Rattle.nts_evaluation.proofs.Filtered.{kept_candidates, kept_offered, kept_outcomes, kept_tell}
 use Rattle.nts_evaluation.proofs.Opened.{told_through, told_offered, refuted_through, nothing_through, labels_through, labels_entered, proved_through}
 use Rattle.nts_evaluation.proofs.Probed.{found_in, found_still, found_fits, found_derived, went_in, plain_of, doubtful, not_kept, told_or_plain, run_replies, said_of}
-use Rattle.nts_evaluation.proofs.Outcomes.{found_earlier, founds_more, outcomes_first, outcomes_more, found_merged, told_merged, failed_of}
+use Rattle.nts_evaluation.proofs.Outcomes.{found_earlier, founds_more, founds_with, outcomes_first, outcomes_more, found_merged, told_merged, failed_of}
 use Rattle.nts_evaluation.proofs.Ran.{breaks, added_is, added_only, ran_to, ran_refused, all_proved, all_posed, proved_all, ok_inside}
+use Rattle.nts_model.specs.Rules.{goal_kind}
+use Rattle.nts_model.specs.Proofs.{passed}
+use Rattle.nts_model.proofs.Assuming.{covers_passed}
+use Rattle.nts_delegate.specs.Offered.{path_kind_of}
+use Rattle.nts_search.specs.Kinds.{goal_kind_of}
+use Rattle.nts_search.specs.Searching.{entry_at, entries_at}
+use Rattle.nts_search.proofs.Stacked.{entries_pushed, entries_popped}
+use Rattle.nts_canonical.specs.Forms.{form_of}
+use Rattle.nts_evaluation.specs.Searching.{HeadsTell, IsAnswerTold, IsHeadAnswer, assumed_in}
+use Rattle.nts_evaluation.specs.Telling.Tells.{says_nothing}
+use Rattle.nts_evaluation.proofs.Searching.{Searches-refl, Searches-trans, search_later, search_grown, search_grows, search_covers, covers_grown, stays_more, served_more, tell_grown, heads_tell_later, search_counted, search_marked, head_answer_later, answer_told_later, form_later, input_later, later_long}
+use Rattle.nts_search.specs.declared.stack.StackEntry.{StackEntry}
+use Rattle.std.proofs.Common.{length-append, [], ◌∷◌, true, false}
+use Rattle.nts_canonical.specs.declared.types.CanonicalInput.{CanonicalInput}
+use Rattle.nts_evaluation.specs.Answering.{IsAnswerTo}
+use Rattle.nts_model.specs.Stacks.{IsDerivedFrom, IsProvedFrom, assumptions}
+use Rattle.nts_evaluation.specs.Found.{Found}
+use Rattle.nts_model.specs.Responses.{answer_sequent}
+use Rattle.nts_evaluation.proofs.Rounds.{search_noted, own_asked, own_form, entry_held, round_proved, round_told, grown, ran, search_then, entry_of, holds_answer, search_pushed, tell_pushed, search_same, search_popped, round_closes, last_fits, last_told, last_refuted, last_each, cycle_told, cycle_refuted, cycle_derived}
 use Rattle.nts_evaluation.proofs.evaluate.+evaluate.Goals as goal
-
-pub compute_goal-make_response-requires-clause-values : goal.compute_goal-make_response-requires-clause-values
-compute_goal-make_response-requires-clause-values g t c =
-    let o = c.in_ok-opened.ensures in
-    args_later c.args.cx.now.nodes c.enter_forall.new.cx.nodes c.args.table.now.entries c.enter_forall.new.table.entries c.args.values.now o.goes.extends o.goes.continues c.requires.values
-
-pub compute_goal-returns-in_default-clause-found : goal.compute_goal-returns-in_default-clause-found
-compute_goal-returns-in_default-clause-found g t c =
-    let o = c.in_ok-opened.ensures in
-    let r = c.in_ok-response.ensures in
-    found_in c.in_ok-response.response _ o.goes c.terms_are_formed.ensures r.grows.extends (only_same _ o.grows.extends c.requires.posed.table (o.left (ap is_some c.in_default.is))) c.requires.values r.certainty r.says r.holds (record { no_hidden = r.nothing.0; no_goals = r.nothing.1 }) (λ y. absurd (doubtful _ y))
-
-pub compute_goal-returns-in_default-clause-told : goal.compute_goal-returns-in_default-clause-told
-compute_goal-returns-in_default-clause-told g t c = λ s.
-    let o = c.in_ok-opened.ensures in
-    let trees = trees_kept c.args.cx.now.nodes c.enter_forall.new.cx.nodes c.args.table.now.entries c.args.values.now o.grows.extends c.requires.values in
-    let plain : IsPlain (content_of c.enter_forall.new.cx.nodes c.enter_forall.new.table.entries) (trees_of c.enter_forall.new.cx.nodes c.args.values.now) (response_at c.make_response.new.cx.nodes c.in_ok-response.response) = c.in_ok-response.ensures.says in
-    tells_nothing (content_of c.enter_forall.new.cx.nodes c.enter_forall.new.table.entries) (inl (content_same o.grows.extends c.requires.posed.table (o.left (ap is_some c.in_default.is)))) (rw trees at plain)
-
-pub compute_goal-make_response-requires-then-not-is_candidates_goal-clause-values : goal.compute_goal-make_response-requires-then-not-is_candidates_goal-clause-values
-compute_goal-make_response-requires-then-not-is_candidates_goal-clause-values g t c =
-    let o = c.in_ok-opened.ensures in
-    args_later c.args.cx.now.nodes c.enter_forall.new.cx.nodes c.args.table.now.entries c.enter_forall.new.table.entries c.args.values.now o.goes.extends o.goes.continues c.requires.values
-
-pub compute_goal-returns-then-not-is_candidates_goal-clause-found : goal.compute_goal-returns-then-not-is_candidates_goal-clause-found
-compute_goal-returns-then-not-is_candidates_goal-clause-found g t c =
-    let o = c.in_ok-opened.ensures in
-    let r = c.in_ok-response-2.ensures in
-    found_in c.in_ok-response-2.response _ o.goes c.terms_are_formed.ensures r.grows.extends (labels_entered c.requires.posed (rw c.in-Some.is at o.opened) o.grows.extends) c.requires.values r.certainty r.says r.holds (record { no_hidden = r.nothing.0; no_goals = r.nothing.1 }) (λ y. absurd (doubtful _ y))
-
-pub compute_goal-returns-then-not-is_candidates_goal-clause-told : goal.compute_goal-returns-then-not-is_candidates_goal-clause-told
-compute_goal-returns-then-not-is_candidates_goal-clause-told g t c = λ s.
-    let o = c.in_ok-opened.ensures in
-    let trees = trees_kept c.args.cx.now.nodes c.enter_forall.new.cx.nodes c.args.table.now.entries c.args.values.now o.grows.extends c.requires.values in
-    let plain : IsPlain (content_of c.enter_forall.new.cx.nodes c.enter_forall.new.table.entries) (trees_of c.enter_forall.new.cx.nodes c.args.values.now) (response_at c.make_response-then-not-is_candidates_goal.new.cx.nodes c.in_ok-response-2.response) = c.in_ok-response-2.ensures.says in
-    nothing_through c.requires.posed (rw c.in-Some.is at o.opened) o.grows.extends (g.H.GoalHandler.handler s.base c.args.handler.now) c.args.table.now.mode c.args.depth c.args.values.now _ c.in_ok-response-2.response trees plain
-
-pub compute_goal-keep_met-requires-clause-posed : goal.compute_goal-keep_met-requires-clause-posed
-compute_goal-keep_met-requires-clause-posed g t c =
-    let o = c.in_ok-opened.ensures in
-    IsPosed-later (Goes-extends o.goes.table c.in_ok-candidates.ensures.grows.extends) (rw c.in-Some.is at o.posed)
 
 pub compute_goal-evaluate_candidates-response-requires : goal.compute_goal-evaluate_candidates-response-requires
 compute_goal-evaluate_candidates-response-requires g t c = λ κs k.
@@ -102,18 +80,36 @@ compute_goal-evaluate_candidates-response-requires g t c = λ κs k.
         (
           IsPosed-later goes posed,
           (
-            IsAsked-extended more (c.is_candidates_goal.ensures c.if-not-is_candidates_goal.false),
+            IsAskedGoal-extended more (c.is_candidates_goal.ensures c.if-not-is_candidates_goal.false),
             (
               g.met.H.GoalHandler.ready_kept _ _ _ c.requires.ready (Extends-trans o.grows.extends more),
               (
                 rw c.deref.ensures.value (kept_candidates m.kept m.grows.extends (HoldsGoal-extended e.grows.extends posed.holds) e.candidates),
-                args_later c.args.cx.now.nodes c.keep_met.new.cx.nodes c.args.table.now.entries c.keep_met.new.table.entries c.args.values.now all.extends all.continues c.requires.values,
+                (
+                  args_later c.args.cx.now.nodes c.keep_met.new.cx.nodes c.args.table.now.entries c.keep_met.new.table.entries c.args.values.now all.extends all.continues c.requires.values,
+                  search_grows c.args.depth c.args.depth (omega arith) c.requires.search (grown o.grows (grown e.grows m.grows)),
+                ),
               ),
             ),
           ),
         ),
       ),
     )
+
+pub compute_goal-keep_met-requires-clause-posed : goal.compute_goal-keep_met-requires-clause-posed
+compute_goal-keep_met-requires-clause-posed g t c =
+    let o = c.in_ok-opened.ensures in
+    IsPosed-later (Goes-extends o.goes.table c.in_ok-candidates.ensures.grows.extends) (rw c.in-Some.is at o.posed)
+
+pub compute_goal-make_response-requires-clause-values : goal.compute_goal-make_response-requires-clause-values
+compute_goal-make_response-requires-clause-values g t c =
+    let o = c.in_ok-opened.ensures in
+    args_later c.args.cx.now.nodes c.enter_forall.new.cx.nodes c.args.table.now.entries c.enter_forall.new.table.entries c.args.values.now o.goes.extends o.goes.continues c.requires.values
+
+pub compute_goal-make_response-requires-then-not-is_candidates_goal-clause-values : goal.compute_goal-make_response-requires-then-not-is_candidates_goal-clause-values
+compute_goal-make_response-requires-then-not-is_candidates_goal-clause-values g t c =
+    let o = c.in_ok-opened.ensures in
+    args_later c.args.cx.now.nodes c.enter_forall.new.cx.nodes c.args.table.now.entries c.enter_forall.new.table.entries c.args.values.now o.goes.extends o.goes.continues c.requires.values
 
 pub compute_goal-returns-clause-found : goal.compute_goal-returns-clause-found
 compute_goal-returns-clause-found g t c =
@@ -146,12 +142,35 @@ compute_goal-returns-clause-found g t c =
           let there = Goes-trans goes f.goes in
           let later = (Goes-trans o.goes there).continues in
           let among = kept_offered c.in-Some.opened h c.enter_forall.new.table.mode m.kept m.grows.extends (HoldsGoal-extended e.grows.extends posed.holds) e.candidates offered in
-          proved_through c.requires.posed opened o.grows.extends h s.variances (mode_of c.args.table.now.mode) posed (c.is_candidates_goal.ensures c.if-not-is_candidates_goal.false) there later f.formed law (rw o.goes.mode at (f.sure y (Since-later all s) among));
+          proved_through c.requires.posed opened o.grows.extends h s.variances (mode_of c.args.table.now.mode) (assumed_in c.evaluate_candidates-response.new.cx.nodes c.evaluate_candidates-response.new.graph) posed (let z = c.is_candidates_goal.ensures c.if-not-is_candidates_goal.false in z.asked) there later f.formed law (rw o.goes.mode at (f.sure y (Since-later all s) among));
     })
     (rw (c.deref.ensures.value, m.same) at c.evaluate_candidates-response.ensures.found)
 
+pub compute_goal-returns-clause-refuted : goal.compute_goal-returns-clause-refuted
+compute_goal-returns-clause-refuted g t c = λ s tells n.
+    let o = c.in_ok-opened.ensures in
+    let e = c.in_ok-candidates.ensures in
+    let m = c.in_ok-kept.ensures in
+    let up = Extends-trans o.grows.extends e.grows.extends in
+    let opened = rw c.in-Some.is at o.opened in
+    let posed = rw c.in-Some.is at o.posed in
+    let goes = Goes-trans o.goes (Goes-extends o.goes.table e.grows.extends) in
+    let args = args_later c.args.cx.now.nodes c.candidates.new.cx.nodes c.args.table.now.entries c.enter_forall.new.table.entries c.args.values.now goes.extends goes.continues c.requires.values in
+    let h = g.H.GoalHandler.handler s.base c.args.handler.now in
+    let same = g.met.H.GoalHandler.handler_kept s.base c.candidates.new.cx.nodes c.args.handler.now s.is_ready (Extends-trans s.extends up) in
+    let offered = e.offered ∙ ap (λ m. (g.H.GoalHandler.handler c.candidates.new.cx.nodes c.args.handler.now).offers (mode_of m) (tree_at c.candidates.new.cx.nodes c.in-Some.opened.param_env.node) (tree_at c.candidates.new.cx.nodes c.in-Some.opened.predicate.node)) c.typing_mode.ensures ∙ same.offers _ _ _ in
+    let here = content_of-extended e.grows.extends o.goes.table.now in
+    let kept = rw (c.deref.ensures.value, m.same) at (c.evaluate_candidates-response.ensures.refuted (Since-later (Extends-trans up m.grows.extends) s) (tell_grown h c.args.depth c.requires.search (grown o.grows (grown e.grows m.grows)) tells) n) in
+    let run = kept_outcomes c.in-Some.opened h c.enter_forall.new.table.mode c.args.values.now m.kept m.grows.extends (IsTable-extended e.grows.extends o.goes.table) args e.candidates kept in
+    refuted_through c.requires.posed opened o.grows.extends h c.args.table.now.mode (trees_of c.candidates.new.cx.nodes c.args.values.now)
+    (rw (here, offered, o.goes.mode, offers-kept h (mode_of c.args.table.now.mode) e.grows.extends posed.holds) at run)
+
+pub compute_goal-returns-clause-searches : goal.compute_goal-returns-clause-searches
+compute_goal-returns-clause-searches g t c =
+    let o = c.in_ok-opened.ensures in let e = c.in_ok-candidates.ensures in let m = c.in_ok-kept.ensures in search_then c.args.depth c.requires.search (grown o.grows (grown e.grows m.grows)) c.evaluate_candidates-response.ensures.searches
+
 pub compute_goal-returns-clause-told : goal.compute_goal-returns-clause-told
-compute_goal-returns-clause-told g t c = λ s.
+compute_goal-returns-clause-told g t c = λ s tells.
     let o = c.in_ok-opened.ensures in
     let e = c.in_ok-candidates.ensures in
     let m = c.in_ok-kept.ensures in
@@ -165,40 +184,97 @@ compute_goal-returns-clause-told g t c = λ s.
     let h = g.H.GoalHandler.handler s.base c.args.handler.now in
     let same = g.met.H.GoalHandler.handler_kept s.base c.candidates.new.cx.nodes c.args.handler.now s.is_ready (Extends-trans s.extends up) in
     let offered = e.offered ∙ ap (λ m. (g.H.GoalHandler.handler c.candidates.new.cx.nodes c.args.handler.now).offers (mode_of m) (tree_at c.candidates.new.cx.nodes c.in-Some.opened.param_env.node) (tree_at c.candidates.new.cx.nodes c.in-Some.opened.predicate.node)) c.typing_mode.ensures ∙ same.offers _ _ _ in
-    let run = rw (c.deref.ensures.value, m.same) at (c.evaluate_candidates-response.ensures.told (Since-later (Extends-trans up m.grows.extends) s)) in
+    let run = rw (c.deref.ensures.value, m.same) at (c.evaluate_candidates-response.ensures.told (Since-later (Extends-trans up m.grows.extends) s) (tell_grown h c.args.depth c.requires.search (grown o.grows (grown e.grows m.grows)) tells)) in
     IfOk-map c.evaluate_candidates-response.result
-    (λ r f. told_through c.requires.posed opened o.grows.extends h c.args.table.now.mode c.args.depth c.args.values.now c.evaluate_candidates-response.new.cx.nodes r trees
-    (rw (o.goes.mode) at (told_offered h c.enter_forall.new.table.mode c.args.depth c.enter_forall.new.table c.in-Some.opened c.args.values.now c.in_ok-candidates.candidates.items c.evaluate_candidates-response.new.cx.nodes r e.grows.extends o.goes.table posed.holds (both ∙ sym trees) offered
-    (kept_tell c.evaluate_candidates-response.new.cx.nodes c.in-Some.opened h c.enter_forall.new.table.mode c.args.depth c.args.values.now r m.kept m.grows.extends (IsTable-extended e.grows.extends o.goes.table) args e.candidates f)))) run
+    (λ r f. told_through c.requires.posed opened o.grows.extends h c.args.table.now.mode c.args.values.now c.evaluate_candidates-response.new.cx.nodes r trees
+    (rw (o.goes.mode) at (told_offered h c.enter_forall.new.table.mode c.enter_forall.new.table c.in-Some.opened c.args.values.now c.in_ok-candidates.candidates.items c.evaluate_candidates-response.new.cx.nodes r e.grows.extends o.goes.table posed.holds (both ∙ sym trees) offered
+    (kept_tell c.evaluate_candidates-response.new.cx.nodes c.in-Some.opened h c.enter_forall.new.table.mode c.args.values.now r m.kept m.grows.extends (IsTable-extended e.grows.extends o.goes.table) args e.candidates f)))) run
 
-pub compute_goal-returns-clause-refuted : goal.compute_goal-returns-clause-refuted
-compute_goal-returns-clause-refuted g t c = λ s n.
+pub compute_goal-returns-in_default-clause-found : goal.compute_goal-returns-in_default-clause-found
+compute_goal-returns-in_default-clause-found g t c =
     let o = c.in_ok-opened.ensures in
-    let e = c.in_ok-candidates.ensures in
-    let m = c.in_ok-kept.ensures in
-    let up = Extends-trans o.grows.extends e.grows.extends in
-    let opened = rw c.in-Some.is at o.opened in
-    let posed = rw c.in-Some.is at o.posed in
-    let goes = Goes-trans o.goes (Goes-extends o.goes.table e.grows.extends) in
-    let args = args_later c.args.cx.now.nodes c.candidates.new.cx.nodes c.args.table.now.entries c.enter_forall.new.table.entries c.args.values.now goes.extends goes.continues c.requires.values in
-    let h = g.H.GoalHandler.handler s.base c.args.handler.now in
-    let same = g.met.H.GoalHandler.handler_kept s.base c.candidates.new.cx.nodes c.args.handler.now s.is_ready (Extends-trans s.extends up) in
-    let offered = e.offered ∙ ap (λ m. (g.H.GoalHandler.handler c.candidates.new.cx.nodes c.args.handler.now).offers (mode_of m) (tree_at c.candidates.new.cx.nodes c.in-Some.opened.param_env.node) (tree_at c.candidates.new.cx.nodes c.in-Some.opened.predicate.node)) c.typing_mode.ensures ∙ same.offers _ _ _ in
-    let here = content_of-extended e.grows.extends o.goes.table.now in
-    let kept = rw (c.deref.ensures.value, m.same) at (c.evaluate_candidates-response.ensures.refuted (Since-later (Extends-trans up m.grows.extends) s) n) in
-    let run = kept_outcomes c.in-Some.opened h c.enter_forall.new.table.mode c.args.depth c.args.values.now m.kept m.grows.extends (IsTable-extended e.grows.extends o.goes.table) args e.candidates kept in
-    refuted_through c.requires.posed opened o.grows.extends h c.args.table.now.mode c.args.depth (trees_of c.candidates.new.cx.nodes c.args.values.now)
-    (rw (here, offered, o.goes.mode, offers-kept h (mode_of c.args.table.now.mode) e.grows.extends posed.holds) at run)
+    let r = c.in_ok-response.ensures in
+    found_in c.in_ok-response.response _ o.goes c.terms_are_formed.ensures r.grows.extends (only_same _ o.grows.extends c.requires.posed.table (o.left (ap is_some c.in_default.is))) c.requires.values r.certainty r.says r.holds (record { no_hidden = r.nothing.0; no_goals = r.nothing.1 }) (λ y. absurd (doubtful _ y))
 
-pub evaluate_added-returns-in_err-asked-in-Some-clause-runs : goal.evaluate_added-returns-in_err-asked-in-Some-clause-runs
-evaluate_added-returns-in_err-asked-in-Some-clause-runs g t c = Runs-extends c.requires.posed.table c.resolve_goal.ensures.grows.extends c.resolve_goal.ensures.grows.rest
+pub compute_goal-returns-in_default-clause-searches : goal.compute_goal-returns-in_default-clause-searches
+compute_goal-returns-in_default-clause-searches g t c =
+    Searches-refl c.args.depth c.requires.search (grown c.in_ok-opened.ensures.grows c.in_ok-response.ensures.grows)
+
+pub compute_goal-returns-in_default-clause-told : goal.compute_goal-returns-in_default-clause-told
+compute_goal-returns-in_default-clause-told g t c = λ s tells.
+    let o = c.in_ok-opened.ensures in
+    let trees = trees_kept c.args.cx.now.nodes c.enter_forall.new.cx.nodes c.args.table.now.entries c.args.values.now o.grows.extends c.requires.values in
+    let plain : IsPlain (content_of c.enter_forall.new.cx.nodes c.enter_forall.new.table.entries) (trees_of c.enter_forall.new.cx.nodes c.args.values.now) (response_at c.make_response.new.cx.nodes c.in_ok-response.response) = c.in_ok-response.ensures.says in
+    tells_nothing (content_of c.enter_forall.new.cx.nodes c.enter_forall.new.table.entries) (inl (content_same o.grows.extends c.requires.posed.table (o.left (ap is_some c.in_default.is)))) (rw trees at plain)
+
+pub compute_goal-returns-in_err-candidates-clause-searches : goal.compute_goal-returns-in_err-candidates-clause-searches
+compute_goal-returns-in_err-candidates-clause-searches g t c =
+    Searches-refl c.args.depth c.requires.search (grown c.in_ok-opened.ensures.grows c.candidates.ensures.grows)
+
+pub compute_goal-returns-in_err-kept-clause-searches : goal.compute_goal-returns-in_err-kept-clause-searches
+compute_goal-returns-in_err-kept-clause-searches g t c =
+    Searches-refl c.args.depth c.requires.search (grown c.in_ok-opened.ensures.grows (grown c.in_ok-candidates.ensures.grows c.keep_met.ensures.grows))
+
+pub compute_goal-returns-in_err-opened-clause-searches : goal.compute_goal-returns-in_err-opened-clause-searches
+compute_goal-returns-in_err-opened-clause-searches g t c =
+    Searches-refl c.args.depth c.requires.search c.enter_forall.ensures.grows
+
+pub compute_goal-returns-in_err-response-2-clause-searches : goal.compute_goal-returns-in_err-response-2-clause-searches
+compute_goal-returns-in_err-response-2-clause-searches g t c =
+    Searches-refl c.args.depth c.requires.search (grown c.in_ok-opened.ensures.grows c.make_response-then-not-is_candidates_goal.ensures.grows)
+
+pub compute_goal-returns-in_err-response-clause-searches : goal.compute_goal-returns-in_err-response-clause-searches
+compute_goal-returns-in_err-response-clause-searches g t c =
+    Searches-refl c.args.depth c.requires.search (grown c.in_ok-opened.ensures.grows c.make_response.ensures.grows)
+
+pub compute_goal-returns-then-not-is_candidates_goal-clause-found : goal.compute_goal-returns-then-not-is_candidates_goal-clause-found
+compute_goal-returns-then-not-is_candidates_goal-clause-found g t c =
+    let o = c.in_ok-opened.ensures in
+    let r = c.in_ok-response-2.ensures in
+    found_in c.in_ok-response-2.response _ o.goes c.terms_are_formed.ensures r.grows.extends (labels_entered c.requires.posed (rw c.in-Some.is at o.opened) o.grows.extends) c.requires.values r.certainty r.says r.holds (record { no_hidden = r.nothing.0; no_goals = r.nothing.1 }) (λ y. absurd (doubtful _ y))
+
+pub compute_goal-returns-then-not-is_candidates_goal-clause-searches : goal.compute_goal-returns-then-not-is_candidates_goal-clause-searches
+compute_goal-returns-then-not-is_candidates_goal-clause-searches g t c =
+    Searches-refl c.args.depth c.requires.search (grown c.in_ok-opened.ensures.grows c.in_ok-response-2.ensures.grows)
+
+pub compute_goal-returns-then-not-is_candidates_goal-clause-told : goal.compute_goal-returns-then-not-is_candidates_goal-clause-told
+compute_goal-returns-then-not-is_candidates_goal-clause-told g t c = λ s tells.
+    let o = c.in_ok-opened.ensures in
+    let trees = trees_kept c.args.cx.now.nodes c.enter_forall.new.cx.nodes c.args.table.now.entries c.args.values.now o.grows.extends c.requires.values in
+    let plain : IsPlain (content_of c.enter_forall.new.cx.nodes c.enter_forall.new.table.entries) (trees_of c.enter_forall.new.cx.nodes c.args.values.now) (response_at c.make_response-then-not-is_candidates_goal.new.cx.nodes c.in_ok-response-2.response) = c.in_ok-response-2.ensures.says in
+    nothing_through c.requires.posed (rw c.in-Some.is at o.opened) o.grows.extends (g.H.GoalHandler.handler s.base c.args.handler.now) c.args.table.now.mode c.args.values.now _ c.in_ok-response-2.response trees plain
+
+pub evaluate_added-evaluate_goal-requires : goal.evaluate_added-evaluate_goal-requires
+evaluate_added-evaluate_goal-requires g t c =
+    λ κs k-1.
+    let k = c.in_ok-asked-in-Some.ensures in
+    let less : c.in-Some.below + 1 ≤ bound_of c.args.depth = omega (arith, c.in-Some.ensures.within) in (
+      omega (arith, c.decreases),
+      (
+        k-1,
+        (
+          k.posed,
+          (
+            g.met.H.GoalHandler.ready_kept _ _ _ c.requires.ready k.grows.extends,
+            search_grows (bound_of c.args.depth) (c.in-Some.below + 1) less c.requires.search k.grows,
+          ),
+        ),
+      ),
+    )
 
 pub evaluate_added-returns-in-None-clause-runs : goal.evaluate_added-returns-in-None-clause-runs
 evaluate_added-returns-in-None-clause-runs g t c = Runs-refl c.requires.posed.table
 
-pub evaluate_added-returns-in_ok-asked-in-Some-clause-runs : goal.evaluate_added-returns-in_ok-asked-in-Some-clause-runs
-evaluate_added-returns-in_ok-asked-in-Some-clause-runs g t c =
-    Runs-trans (Runs-extends c.requires.posed.table c.in_ok-asked-in-Some.ensures.grows.extends c.in_ok-asked-in-Some.ensures.grows.rest) c.evaluate_goal.ensures.runs
+pub evaluate_added-returns-in-None-clause-searches : goal.evaluate_added-returns-in-None-clause-searches
+evaluate_added-returns-in-None-clause-searches g t c =
+    search_marked (bound_of c.args.depth) true c.requires.search
+
+pub evaluate_added-returns-in_err-asked-in-Some-clause-runs : goal.evaluate_added-returns-in_err-asked-in-Some-clause-runs
+evaluate_added-returns-in_err-asked-in-Some-clause-runs g t c = Runs-extends c.requires.posed.table c.resolve_goal.ensures.grows.extends c.resolve_goal.ensures.grows.rest
+
+pub evaluate_added-returns-in_err-asked-in-Some-clause-searches : goal.evaluate_added-returns-in_err-asked-in-Some-clause-searches
+evaluate_added-returns-in_err-asked-in-Some-clause-searches g t c =
+    Searches-refl (bound_of c.args.depth) c.requires.search c.resolve_goal.ensures.grows
 
 pub evaluate_added-returns-in_ok-asked-in-Some-clause-labels : goal.evaluate_added-returns-in_ok-asked-in-Some-clause-labels
 evaluate_added-returns-in_ok-asked-in-Some-clause-labels g t c =
@@ -218,52 +294,34 @@ evaluate_added-returns-in_ok-asked-in-Some-clause-proved g t c = λ s.
     rw (all.extends.kept c.args.goal.param_env.node p.holds.env.within, all.extends.kept c.args.goal.predicate.node p.holds.predicate.within)
     (unread _ _ _ _ all env predicate p.knows.env p.knows.predicate (f y))) (e.proved (Since-later k.grows.extends s))
 
-pub evaluate_added-returns-in_ok-asked-in-Some-clause-told : goal.evaluate_added-returns-in_ok-asked-in-Some-clause-told
-evaluate_added-returns-in_ok-asked-in-Some-clause-told g t c = λ s.
-    let k = c.in_ok-asked-in-Some.ensures in
-    let same = content_of-extended k.grows.extends c.requires.posed.table.now in
-    let offers = (g.H.GoalHandler.handler s.base c.args.handler.now).offers (mode_of c.args.table.now.mode) in
-    let less : c.in-Some.below + 1 ≤ bound_of c.args.depth = omega (arith, c.in-Some.ensures.within) in
-    OnOk-map c.evaluate_goal.result (λ f. inl (asked_more offers (c.in-Some.below + 1) (bound_of c.args.depth) less (rw (same, k.env, k.predicate) at f))) (c.evaluate_goal.ensures.told (Since-later k.grows.extends s))
-
 pub evaluate_added-returns-in_ok-asked-in-Some-clause-refuted : goal.evaluate_added-returns-in_ok-asked-in-Some-clause-refuted
-evaluate_added-returns-in_ok-asked-in-Some-clause-refuted g t c = λ s n.
+evaluate_added-returns-in_ok-asked-in-Some-clause-refuted g t c = λ s tells n.
     let k = c.in_ok-asked-in-Some.ensures in
     let same = content_of-extended k.grows.extends c.requires.posed.table.now in
-    let offers = (g.H.GoalHandler.handler s.base c.args.handler.now).offers (mode_of c.args.table.now.mode) in
-    let less : c.in-Some.below + 1 ≤ bound_of c.args.depth = omega (arith, c.in-Some.ensures.within) in
-    refused_more offers (c.in-Some.below + 1) (bound_of c.args.depth) less (rw (same, k.env, k.predicate) at (c.evaluate_goal.ensures.refuted (Since-later k.grows.extends s) n))
+    rw (same, k.env, k.predicate) at (c.evaluate_goal.ensures.refuted (Since-later k.grows.extends s) (tell_grown (g.H.GoalHandler.handler s.base c.args.handler.now) (bound_of c.args.depth) c.requires.search k.grows tells) n)
+
+pub evaluate_added-returns-in_ok-asked-in-Some-clause-runs : goal.evaluate_added-returns-in_ok-asked-in-Some-clause-runs
+evaluate_added-returns-in_ok-asked-in-Some-clause-runs g t c =
+    Runs-trans (Runs-extends c.requires.posed.table c.in_ok-asked-in-Some.ensures.grows.extends c.in_ok-asked-in-Some.ensures.grows.rest) c.evaluate_goal.ensures.runs
+
+pub evaluate_added-returns-in_ok-asked-in-Some-clause-searches : goal.evaluate_added-returns-in_ok-asked-in-Some-clause-searches
+evaluate_added-returns-in_ok-asked-in-Some-clause-searches g t c =
+    search_then (bound_of c.args.depth) c.requires.search c.in_ok-asked-in-Some.ensures.grows c.evaluate_goal.ensures.searches
+
+pub evaluate_added-returns-in_ok-asked-in-Some-clause-told : goal.evaluate_added-returns-in_ok-asked-in-Some-clause-told
+evaluate_added-returns-in_ok-asked-in-Some-clause-told g t c = λ s tells.
+    let k = c.in_ok-asked-in-Some.ensures in
+    let same = content_of-extended k.grows.extends c.requires.posed.table.now in
+    OnOk-map c.evaluate_goal.result (λ f. inl (rw (same, k.env, k.predicate) at f)) (c.evaluate_goal.ensures.told (Since-later k.grows.extends s) (tell_grown (g.H.GoalHandler.handler s.base c.args.handler.now) (bound_of c.args.depth) c.requires.search k.grows tells))
 
 pub evaluate_candidates-loop-candidate-init : goal.evaluate_candidates-loop-candidate-init
 evaluate_candidates-loop-candidate-init g t c = record {
   same = refl;
   grows = record { extends = Extends-refl _; rest = KeepsRest-refl _ };
+  searches = Searches-refl c.args.depth c.requires.search (record { extends = Extends-refl _; rest = KeepsRest-refl _ });
   found = λ k d l. absurd (omega (arith, l, ap (length {A = Canonical Response}) c.new-responses.ensures.items));
-  told = λ s. outcomes_first c.args.cx.now.nodes c.args.cx.now.nodes c.args.table.now (g.H.GoalHandler.handler s.base c.args.handler.now) c.args.table.now.mode c.args.depth c.args.values.now c.args.candidates.now c.new-responses.result.items c.new-responses.ensures.items;
+  told = λ s tells. outcomes_first c.args.cx.now.nodes c.args.cx.now.nodes c.args.table.now (g.H.GoalHandler.handler s.base c.args.handler.now) c.args.table.now.mode c.args.values.now c.args.candidates.now c.new-responses.result.items c.new-responses.ensures.items;
 }
-
-pub evaluate_candidates-probe_candidate-answer-requires : goal.evaluate_candidates-probe_candidate-answer-requires
-evaluate_candidates-probe_candidate-answer-requires g t c = λ κs k.
-    let i = c.loop-candidate.invariant in
-    let goes = goes-back c.requires.posed.table i.grows.extends i.same in (
-      omega (arith, c.decreases),
-      (
-        k,
-        (
-          IsPosed-later goes c.requires.posed,
-          (
-            IsAsked-extended i.grows.extends c.requires.asked,
-            (
-              g.met.H.GoalHandler.ready_kept _ _ _ c.requires.ready i.grows.extends,
-              (
-                rw c.candidate-item.is (IsCandidate-extended i.grows.extends c.requires.posed.holds (candidate_at c.args.cx.now.nodes c.args.goal c.args.candidates.now c.loop-candidate.candidate-index _ c.requires.candidates c.loop-candidate-test.true)),
-                args_later c.args.cx.now.nodes c.loop-candidate.cx.nodes c.args.table.now.entries c.loop-candidate.table.entries c.args.values.now goes.extends goes.continues c.requires.values,
-              ),
-            ),
-          ),
-        ),
-      ),
-    )
 
 pub evaluate_candidates-loop-candidate-preserved : goal.evaluate_candidates-loop-candidate-preserved
 evaluate_candidates-loop-candidate-preserved g t c =
@@ -278,18 +336,22 @@ evaluate_candidates-loop-candidate-preserved g t c =
     let x = c.candidate-item.result in
     let w = c.requires.posed.table in
     let mode = c.args.table.now.mode in
+    let now = search_later c.args.depth c.args.depth (omega arith) c.requires.search i.searches in
+    let covers = search_covers c.args.depth now p.grows.extends p.searches in
+    let later = λ (s : Since (λ ts. g.H.GoalHandler.ready ts c.args.handler.now) c.args.cx.now.nodes) (tells : HeadsTell (g.H.GoalHandler.handler s.base c.args.handler.now) c.args.cx.now.nodes c.args.graph.now). heads_tell_later (g.H.GoalHandler.handler s.base c.args.handler.now) c.args.depth c.requires.search i.grows.extends i.searches tells in
     record {
       same = p.same ∙ i.same;
       grows = record { extends = Extends-trans i.grows.extends p.grows.extends; rest = KeepsRest-trans i.grows.rest p.grows.rest };
-      found = founds_more rs new c.probe_candidate-answer.result p.grows.extends i.found
+      searches = Searches-trans i.searches p.searches;
+      found = founds_more rs new c.probe_candidate-answer.result p.grows.extends (founds_with rs (λ b u f s offered. served_more covers (f s offered)) i.found)
           (IfOk-map c.probe_candidate-answer.result
           (λ r f. found_earlier r i.grows.extends w holds c.requires.values
           (λ b u f s offered. f (Since-later i.grows.extends s)
           (rw (offers-kept (g.H.GoalHandler.handler s.base c.args.handler.now) (mode_of mode) i.grows.extends holds) (offered_there _ c.args.goal _ cs c.loop-candidate.candidate-index c.candidate-item.is at c.requires.candidates i.grows.extends offered))) f)
           (rw i.same at p.found)) m.kept;
-      told = λ s. outcomes_more (g.H.GoalHandler.handler s.base c.args.handler.now) mode c.args.depth cs c.loop-candidate.candidate-index x x rs new c.probe_candidate-answer.result at c.candidate-item.is i.grows.extends p.grows.extends w c.requires.values (candidate_at c.args.cx.now.nodes c.args.goal cs c.loop-candidate.candidate-index x c.requires.candidates at) i.found m.kept
-          (rw i.same at (p.told (Since-later i.grows.extends s)))
-          (failed_of c.probe_candidate-answer.result m.dropped (λ n. rw i.same at (p.refuted (Since-later i.grows.extends s) n))) (i.told s);
+      told = λ s tells. outcomes_more (g.H.GoalHandler.handler s.base c.args.handler.now) mode cs c.loop-candidate.candidate-index x x rs new c.probe_candidate-answer.result at c.candidate-item.is i.grows.extends p.grows.extends w c.requires.values (candidate_at c.args.cx.now.nodes c.args.goal cs c.loop-candidate.candidate-index x c.requires.candidates at) i.found m.kept
+          (rw i.same at (p.told (Since-later i.grows.extends s) (later s tells)))
+          (failed_of c.probe_candidate-answer.result m.dropped (λ n. rw i.same at (p.refuted (Since-later i.grows.extends s) (later s tells) n))) (i.told s tells);
     }
 
 pub evaluate_candidates-merge_responses-requires-clause-table : goal.evaluate_candidates-merge_responses-requires-clause-table
@@ -301,52 +363,67 @@ evaluate_candidates-merge_responses-requires-clause-values g t c =
     let goes = goes-back c.requires.posed.table i.grows.extends i.same in
     args_later c.args.cx.now.nodes c.loop-candidate.cx.nodes c.args.table.now.entries c.loop-candidate.table.entries c.args.values.now goes.extends goes.continues c.requires.values
 
+pub evaluate_candidates-probe_candidate-answer-requires : goal.evaluate_candidates-probe_candidate-answer-requires
+evaluate_candidates-probe_candidate-answer-requires g t c = λ κs k.
+    let i = c.loop-candidate.invariant in
+    let goes = goes-back c.requires.posed.table i.grows.extends i.same in (
+      omega (arith, c.decreases),
+      (
+        k,
+        (
+          IsPosed-later goes c.requires.posed,
+          (
+            IsAskedGoal-extended i.grows.extends c.requires.asked,
+            (
+              g.met.H.GoalHandler.ready_kept _ _ _ c.requires.ready i.grows.extends,
+              (
+                rw c.candidate-item.is (IsCandidate-extended i.grows.extends c.requires.posed.holds (candidate_at c.args.cx.now.nodes c.args.goal c.args.candidates.now c.loop-candidate.candidate-index _ c.requires.candidates c.loop-candidate-test.true)),
+                (
+                  args_later c.args.cx.now.nodes c.loop-candidate.cx.nodes c.args.table.now.entries c.loop-candidate.table.entries c.args.values.now goes.extends goes.continues c.requires.values,
+                  search_later c.args.depth c.args.depth (omega arith) c.requires.search i.searches,
+                ),
+              ),
+            ),
+          ),
+        ),
+      ),
+    )
+
 pub evaluate_candidates-returns-clause-found : goal.evaluate_candidates-returns-clause-found
 evaluate_candidates-returns-clause-found g t c =
     let i = c.loop-candidate.invariant in
     let k = c.merge_responses.ensures in
-    IfOk-map c.merge_responses.result (λ r f. found_merged c.loop-candidate.responses.items r i.grows.extends k.grows.extends c.terms_are_formed.ensures c.requires.posed.table c.requires.values i.found f) (rw i.same at k.merged)
+    let now = search_later c.args.depth c.args.depth (omega arith) c.requires.search i.searches in
+    let covers = covers_grown c.args.depth now k.grows in
+    IfOk-map c.merge_responses.result (λ r f. found_merged c.loop-candidate.responses.items r i.grows.extends k.grows.extends c.terms_are_formed.ensures c.requires.posed.table c.requires.values (founds_with c.loop-candidate.responses.items (λ b u w s offered. served_more covers (w s offered)) i.found) f) (rw i.same at k.merged)
+
+pub evaluate_candidates-returns-clause-searches : goal.evaluate_candidates-returns-clause-searches
+evaluate_candidates-returns-clause-searches g t c =
+    let i = c.loop-candidate.invariant in search_grown c.args.depth c.requires.search i.searches c.merge_responses.ensures.grows
 
 pub evaluate_candidates-returns-clause-told : goal.evaluate_candidates-returns-clause-told
-evaluate_candidates-returns-clause-told g t c = λ s.
+evaluate_candidates-returns-clause-told g t c = λ s tells.
     let i = c.loop-candidate.invariant in
     let k = c.merge_responses.ensures in
     let all = take_all c.loop-candidate.candidate-index c.args.candidates.now c.loop-candidate-test.false in
-    IfOk-map c.merge_responses.result (λ r f. told_merged (g.H.GoalHandler.handler s.base c.args.handler.now) c.args.table.now.mode c.args.depth c.args.candidates.now c.loop-candidate.responses.items r i.grows.extends k.grows.extends c.requires.posed.table c.requires.values i.found (rw all at (i.told s)) f) (rw i.same at k.merged)
+    IfOk-map c.merge_responses.result (λ r f. told_merged (g.H.GoalHandler.handler s.base c.args.handler.now) c.args.table.now.mode c.args.candidates.now c.loop-candidate.responses.items r i.grows.extends k.grows.extends c.requires.posed.table c.requires.values i.found (rw all at (i.told s tells)) f) (rw i.same at k.merged)
 
-pub evaluate_goal-returns-in_err-originals-clause-runs : goal.evaluate_goal-returns-in_err-originals-clause-runs
-evaluate_goal-returns-in_err-originals-clause-runs g t c = Runs-extends c.requires.posed.table c.query_of.ensures.grows.extends c.query_of.ensures.grows.rest
-
-pub evaluate_goal-returns-in_err-answer-clause-runs : goal.evaluate_goal-returns-in_err-answer-clause-runs
-evaluate_goal-returns-in_err-answer-clause-runs g t c =
-    let q = c.in_ok-originals.ensures in
-    let k = c.evaluate_query-answered.ensures in
-    Runs-extends c.requires.posed.table (Extends-trans q.grows.extends k.grows.extends) (KeepsRest-trans q.grows.rest k.grows.rest)
-
-pub evaluate_goal-returns-in_err-answer-clause-refuted : goal.evaluate_goal-returns-in_err-answer-clause-refuted
-evaluate_goal-returns-in_err-answer-clause-refuted g t c = λ s n.
-    let q = c.in_ok-originals.ensures in
-    let refused : c.evaluate_query-answered.result ≡ Err EvalError.NoSolution = search rules in
-    query_refutes c.requires.posed q.query q.grows.extends c.evaluate_query-answered.ensures.grows.extends (rw q.query.mode at (c.evaluate_query-answered.ensures.refuted (Since-later q.grows.extends s) refused))
-
-pub evaluate_goal-apply_answer-evaluated-requires-clause-table : goal.evaluate_goal-apply_answer-evaluated-requires-clause-table
-evaluate_goal-apply_answer-evaluated-requires-clause-table g t c = IsTable-extended (Extends-trans c.in_ok-originals.ensures.grows.extends c.in_ok-answer.ensures.grows.extends) c.requires.posed.table
-
-pub evaluate_goal-apply_answer-evaluated-requires-clause-originals : goal.evaluate_goal-apply_answer-evaluated-requires-clause-originals
-evaluate_goal-apply_answer-evaluated-requires-clause-originals g t c =
-    let q = c.in_ok-originals.ensures in
-    rw c.deref.ensures.value (args_there c.requires.posed q.query q.grows.extends c.in_ok-answer.ensures.grows.extends)
+pub evaluate_candidates-returns-in_err-keep_response-clause-searches : goal.evaluate_candidates-returns-in_err-keep_response-clause-searches
+evaluate_candidates-returns-in_err-keep_response-clause-searches g t c =
+    Searches-trans c.loop-candidate.invariant.searches c.probe_candidate-answer.ensures.searches
 
 pub evaluate_goal-apply_answer-evaluated-requires-clause-fits : goal.evaluate_goal-apply_answer-evaluated-requires-clause-fits
 evaluate_goal-apply_answer-evaluated-requires-clause-fits g t c =
     let q = c.in_ok-originals.ensures in
     rw c.deref.ensures.value (applicable c.requires.posed q.query q.grows.extends c.in_ok-answer.ensures.grows.extends c.in_ok-answer.answer c.in_ok-answer.ensures.fits)
 
-pub evaluate_goal-returns-clause-runs : goal.evaluate_goal-returns-clause-runs
-evaluate_goal-returns-clause-runs g t c =
+pub evaluate_goal-apply_answer-evaluated-requires-clause-originals : goal.evaluate_goal-apply_answer-evaluated-requires-clause-originals
+evaluate_goal-apply_answer-evaluated-requires-clause-originals g t c =
     let q = c.in_ok-originals.ensures in
-    let k = c.in_ok-answer.ensures in
-    Runs-trans (Runs-extends c.requires.posed.table (Extends-trans q.grows.extends k.grows.extends) (KeepsRest-trans q.grows.rest k.grows.rest)) c.apply_answer-evaluated.ensures.runs
+    rw c.deref.ensures.value (args_there c.requires.posed q.query q.grows.extends c.in_ok-answer.ensures.grows.extends)
+
+pub evaluate_goal-apply_answer-evaluated-requires-clause-table : goal.evaluate_goal-apply_answer-evaluated-requires-clause-table
+evaluate_goal-apply_answer-evaluated-requires-clause-table g t c = IsTable-extended (Extends-trans c.in_ok-originals.ensures.grows.extends c.in_ok-answer.ensures.grows.extends) c.requires.posed.table
 
 pub evaluate_goal-returns-clause-evaluates : goal.evaluate_goal-returns-clause-evaluates
 evaluate_goal-returns-clause-evaluates g t c =
@@ -369,100 +446,444 @@ evaluate_goal-returns-clause-proved g t c = λ s.
     let e = c.apply_answer-evaluated.ensures in
     let all = Extends-trans (Extends-trans q.grows.extends k.grows.extends) e.runs.goes.extends in
     let holds = c.requires.posed.holds in
+    let upto = search_then (c.args.depth + 1) c.requires.search q.grows k.searches in
+    let covers = covers_grown (c.args.depth + 1) (search_later (c.args.depth + 1) (c.args.depth + 1) (omega arith) c.requires.search upto) (ran e.runs) in
+    let A = passed (path_kind_of c.args.step) (assumed_in c.search.new.cx.nodes c.search.new.graph) in
     ok_both c.apply_answer-evaluated.result
     (λ x is applied y.
     rw (all.kept c.args.goal.param_env.node holds.env.within, all.kept c.args.goal.predicate.node holds.predicate.within)
-    (asked_stays c.requires.posed q.query q.grows.extends k.grows.extends c.apply_answer-evaluated.new.table c.in_ok-answer.answer applied (meaning_since (λ ts. g.H.GoalHandler.handler ts c.args.handler.now) s) (mode_of c.args.table.now.mode) c.terms_are_formed.ensures e.runs.goes.table k.fits
-    (rw q.query.mode at (k.proved (Since-later q.grows.extends s) (sym is ∙ y)))))
+    (stays_more (covers_passed (path_kind_of c.args.step) (assumed_in c.search.new.cx.nodes c.search.new.graph) (assumed_in c.apply_answer-evaluated.new.cx.nodes c.search.new.graph) covers) (asked_stays c.requires.posed q.query q.grows.extends k.grows.extends c.apply_answer-evaluated.new.table c.in_ok-answer.answer applied (meaning_since (λ ts. g.H.GoalHandler.handler ts c.args.handler.now) s) (mode_of c.args.table.now.mode) A c.terms_are_formed.ensures e.runs.goes.table k.fits
+    (rw q.query.mode at (k.proved (Since-later q.grows.extends s) (sym is ∙ y))))))
     e.certainty (rw c.deref.ensures.value at e.applied)
 
+pub evaluate_goal-returns-clause-refuted : goal.evaluate_goal-returns-clause-refuted
+evaluate_goal-returns-clause-refuted g t c = λ s tells n.
+    let q = c.in_ok-originals.ensures in
+    let k = c.in_ok-answer.ensures in
+    inl (response_refused c.requires.posed q.query q.grows.extends k.grows.extends c.in_ok-answer.answer (rw q.query.mode at (k.told (Since-later q.grows.extends s) (tell_grown (g.H.GoalHandler.handler s.base c.args.handler.now) (c.args.depth + 1) c.requires.search q.grows tells))) (rw c.deref.ensures.value at (c.apply_answer-evaluated.ensures.no n)))
+
+pub evaluate_goal-returns-clause-runs : goal.evaluate_goal-returns-clause-runs
+evaluate_goal-returns-clause-runs g t c =
+    let q = c.in_ok-originals.ensures in
+    let k = c.in_ok-answer.ensures in
+    Runs-trans (Runs-extends c.requires.posed.table (Extends-trans q.grows.extends k.grows.extends) (KeepsRest-trans q.grows.rest k.grows.rest)) c.apply_answer-evaluated.ensures.runs
+
+pub evaluate_goal-returns-clause-searches : goal.evaluate_goal-returns-clause-searches
+evaluate_goal-returns-clause-searches g t c =
+    let q = c.in_ok-originals.ensures in search_grown (c.args.depth + 1) c.requires.search (search_then (c.args.depth + 1) c.requires.search q.grows c.in_ok-answer.ensures.searches) (ran c.apply_answer-evaluated.ensures.runs)
+
 pub evaluate_goal-returns-clause-told : goal.evaluate_goal-returns-clause-told
-evaluate_goal-returns-clause-told g t c = λ s.
+evaluate_goal-returns-clause-told g t c = λ s tells.
     let q = c.in_ok-originals.ensures in
     let k = c.in_ok-answer.ensures in
     OnOk-map c.apply_answer-evaluated.result
-    (λ applied. asks c.requires.posed q.query q.grows.extends k.grows.extends c.apply_answer-evaluated.new.table c.in_ok-answer.answer applied (rw q.query.mode at (k.told (Since-later q.grows.extends s))))
+    (λ applied. asks c.requires.posed q.query q.grows.extends k.grows.extends c.apply_answer-evaluated.new.table c.in_ok-answer.answer applied (rw q.query.mode at (k.told (Since-later q.grows.extends s) (tell_grown (g.H.GoalHandler.handler s.base c.args.handler.now) (c.args.depth + 1) c.requires.search q.grows tells))))
     (rw c.deref.ensures.value at c.apply_answer-evaluated.ensures.applied)
 
-pub evaluate_goal-returns-clause-refuted : goal.evaluate_goal-returns-clause-refuted
-evaluate_goal-returns-clause-refuted g t c = λ s n.
+pub evaluate_goal-returns-in_err-answer-clause-refuted : goal.evaluate_goal-returns-in_err-answer-clause-refuted
+evaluate_goal-returns-in_err-answer-clause-refuted g t c =
+    λ s tells n.
     let q = c.in_ok-originals.ensures in
-    let k = c.in_ok-answer.ensures in
-    response_refused c.requires.posed q.query q.grows.extends k.grows.extends c.in_ok-answer.answer (rw q.query.mode at (k.told (Since-later q.grows.extends s))) (rw c.deref.ensures.value at (c.apply_answer-evaluated.ensures.no n))
+    let h = g.H.GoalHandler.handler s.base c.args.handler.now in
+    let refused : c.search.result ≡ Err EvalError.NoSolution = search rules in
+    query_cut c.requires.posed q.query q.grows.extends c.search.ensures.grows.extends (c.search.ensures.refuted (Since-later q.grows.extends s) (tell_grown h (c.args.depth + 1) c.requires.search q.grows tells) refused)
 
-pub evaluate_query-returns-clause-fits : goal.evaluate_query-returns-clause-fits
-evaluate_query-returns-clause-fits g t c =
+pub evaluate_goal-returns-in_err-answer-clause-runs : goal.evaluate_goal-returns-in_err-answer-clause-runs
+evaluate_goal-returns-in_err-answer-clause-runs g t c =
+    let q = c.in_ok-originals.ensures in
+    let k = c.search.ensures in
+    Runs-extends c.requires.posed.table (Extends-trans q.grows.extends k.grows.extends) (KeepsRest-trans q.grows.rest k.grows.rest)
+
+pub evaluate_goal-returns-in_err-answer-clause-searches : goal.evaluate_goal-returns-in_err-answer-clause-searches
+evaluate_goal-returns-in_err-answer-clause-searches g t c =
+    let q = c.in_ok-originals.ensures in search_then (c.args.depth + 1) c.requires.search q.grows c.search.ensures.searches
+
+pub evaluate_goal-returns-in_err-originals-clause-runs : goal.evaluate_goal-returns-in_err-originals-clause-runs
+evaluate_goal-returns-in_err-originals-clause-runs g t c = Runs-extends c.requires.posed.table c.query_of.ensures.grows.extends c.query_of.ensures.grows.rest
+
+pub evaluate_goal-returns-in_err-originals-clause-searches : goal.evaluate_goal-returns-in_err-originals-clause-searches
+evaluate_goal-returns-in_err-originals-clause-searches g t c =
+    Searches-refl (c.args.depth + 1) c.requires.search c.query_of.ensures.grows
+
+pub evaluate_goal-search-requires : goal.evaluate_goal-search-requires
+evaluate_goal-search-requires g t c =
+    λ κs k.
+    let q = c.in_ok-originals.ensures in (
+      omega (arith, c.decreases),
+      (
+        k,
+        (
+          q.query.asks,
+          (
+            g.met.H.GoalHandler.ready_kept _ _ _ c.requires.ready q.grows.extends,
+            search_grows (c.args.depth + 1) (c.args.depth + 1) (omega arith) c.requires.search q.grows,
+          ),
+        ),
+      ),
+    )
+
+pub evaluate_round-compute_goal-response-requires : goal.evaluate_round-compute_goal-response-requires
+evaluate_round-compute_goal-response-requires g t c =
+    λ κs k-1.
+    let k = c.in_ok-table.ensures in (
+      omega (arith, c.decreases),
+      (
+        k-1,
+        (
+          record { table = k.table; holds = record { env = k.holds.environment; predicate = k.holds.predicate }; knows = record { env = k.knows.0; predicate = k.knows.1.0 } },
+          (
+            g.met.H.GoalHandler.ready_kept _ _ _ c.requires.ready k.grows.extends,
+            (
+              rw c.deref.ensures.value k.args,
+              search_pushed c.args.depth c.args.input c.args.step c.args.provisional c.requires.search k.grows c.requires.input c.requires.provisional c.in_ok-push.ensures.pushed c.in_ok-push.ensures.kept c.push.ensures.rest,
+            ),
+          ),
+        ),
+      ),
+    )
+
+pub evaluate_round-pop-entry-requires : goal.evaluate_round-pop-entry-requires
+evaluate_round-pop-entry-requires g t c =
+    let m = c.compute_goal-response.ensures in
+    let long = later_long c.push.new.self.stack.items c.compute_goal-response.new.graph.stack.items m.searches.later in
+    let new = ap (length {A = StackEntry}) c.in_ok-push.ensures.pushed.1 in
+    let more = length-append c.args.graph.now.stack.items (entry_of c.args.input c.args.step c.args.provisional c.in_ok-push.ensures.pushed.0 ∷ []) in
+    omega (arith, long, new, more)
+
+pub evaluate_round-returns-clause-searches : goal.evaluate_round-returns-clause-searches
+evaluate_round-returns-clause-searches g t c =
+    let k = c.in_ok-table.ensures in
+    let up = c.push.ensures.rest in
+    let own = entry_of c.args.input c.args.step c.args.provisional c.in_ok-push.ensures.pushed.0 in
+    let x = c.pop-entry.result in
+    let m = c.compute_goal-response.ensures in
+    let off = search_popped {a = c.args.cx.now} {b = c.build_with_canonical.new.cx} {c = c.compute_goal-response.new.cx} {g = c.args.graph.now} {h = c.push.new.self} {i = c.compute_goal-response.new.graph} {j = c.pop-entry.new.self} own x c.in_ok-push.ensures.pushed.1 up m.searches c.pop-entry.ensures.popped c.pop-entry.ensures.kept c.pop-entry.ensures.rest in
+    off.searches
+
+pub evaluate_round-returns-in-Err-NoSolution-clause-entry : goal.evaluate_round-returns-in-Err-NoSolution-clause-entry
+evaluate_round-returns-in-Err-NoSolution-clause-entry g t c =
+    let k = c.in_ok-table.ensures in
+    let up = c.push.ensures.rest in
+    let own = entry_of c.args.input c.args.step c.args.provisional c.in_ok-push.ensures.pushed.0 in
+    let x = c.pop-entry.result in
+    let m = c.compute_goal-response.ensures in
+    let off = search_popped {a = c.args.cx.now} {b = c.build_with_canonical.new.cx} {c = c.compute_goal-response.new.cx} {g = c.args.graph.now} {h = c.push.new.self} {i = c.compute_goal-response.new.graph} {j = c.pop-entry.new.self} own x c.in_ok-push.ensures.pushed.1 up m.searches c.pop-entry.ensures.popped c.pop-entry.ensures.kept c.pop-entry.ensures.rest in
+    let later = off.entry in
+    (later.input, later.kind, later.provisional)
+
+pub evaluate_round-returns-in-Err-NoSolution-clause-searches : goal.evaluate_round-returns-in-Err-NoSolution-clause-searches
+evaluate_round-returns-in-Err-NoSolution-clause-searches g t c =
+    let k = c.in_ok-table.ensures in
+    let up = c.push.ensures.rest in
+    let own = entry_of c.args.input c.args.step c.args.provisional c.in_ok-push.ensures.pushed.0 in
+    let x = c.pop-entry.result in
+    let m = c.compute_goal-response.ensures in
+    let off = search_popped {a = c.args.cx.now} {b = c.build_with_canonical.new.cx} {c = c.compute_goal-response.new.cx} {g = c.args.graph.now} {h = c.push.new.self} {i = c.compute_goal-response.new.graph} {j = c.pop-entry.new.self} own x c.in_ok-push.ensures.pushed.1 up m.searches c.pop-entry.ensures.popped c.pop-entry.ensures.kept c.pop-entry.ensures.rest in
+    off.searches
+
+pub evaluate_round-returns-in-Err-NoSolution-clause-told : goal.evaluate_round-returns-in-Err-NoSolution-clause-told
+evaluate_round-returns-in-Err-NoSolution-clause-told g t c =
+    λ s tells told.
     let k = c.in_ok-table.ensures in
     let a = c.args.cx.now.nodes in
     let b = c.build_with_canonical.new.cx.nodes in
-    let input = c.args.input.now in
+    let input = c.args.input in
     let query = c.in_ok-table.query in
     let q = c.in_ok-table.table in
     let ks = kinds_of input in
     let first = first_entries b ks q.entries q.entries _ refl k.entries in
     let env = query_environment a b input query k.query in
     let predicate = query_predicate a b input query k.query in
-    let over = c.requires.input in
-    let holds : HoldsGoal c.build_with_canonical.new.cx.nodes c.in_ok-table.query.goal = record { env = k.holds.environment; predicate = k.holds.predicate } in
-    IfOk-map c.compute_goal-response.result (λ r f. found_fits a b c.compute_goal-response.new.cx.nodes q query.goal ks input c.in_ok-table.values.items r f c.requires.input.input.kinds refl over.environment over.predicate first env predicate holds k.args k.values) (rw c.deref.ensures.value at c.compute_goal-response.ensures.found)
+    let refused : c.compute_goal-response.result ≡ Err EvalError.NoSolution = search rules in
+    rw (first, env, predicate, k.mode) at (c.compute_goal-response.ensures.refuted (Since-later k.grows.extends s) (tell_pushed c.push.new.self (g.H.GoalHandler.handler s.base c.args.handler.now) (c.args.depth + 1) c.args.input c.args.step c.args.provisional c.requires.search k.grows c.requires.input c.requires.provisional c.in_ok-push.ensures.pushed tells told) refused)
 
-pub evaluate_query-returns-clause-proved : goal.evaluate_query-returns-clause-proved
-evaluate_query-returns-clause-proved g t c = λ s.
+pub evaluate_round-returns-in-Ok-clause-entry : goal.evaluate_round-returns-in-Ok-clause-entry
+evaluate_round-returns-in-Ok-clause-entry g t c =
+    let k = c.in_ok-table.ensures in
+    let up = c.push.ensures.rest in
+    let own = entry_of c.args.input c.args.step c.args.provisional c.in_ok-push.ensures.pushed.0 in
+    let x = c.pop-entry.result in
+    let m = c.compute_goal-response.ensures in
+    let off = search_popped {a = c.args.cx.now} {b = c.build_with_canonical.new.cx} {c = c.compute_goal-response.new.cx} {g = c.args.graph.now} {h = c.push.new.self} {i = c.compute_goal-response.new.graph} {j = c.pop-entry.new.self} own x c.in_ok-push.ensures.pushed.1 up m.searches c.pop-entry.ensures.popped c.pop-entry.ensures.kept c.pop-entry.ensures.rest in
+    let later = off.entry in
+    (later.input, later.kind, later.provisional)
+
+pub evaluate_round-returns-in-Ok-clause-fits : goal.evaluate_round-returns-in-Ok-clause-fits
+evaluate_round-returns-in-Ok-clause-fits g t c =
     let k = c.in_ok-table.ensures in
     let a = c.args.cx.now.nodes in
     let b = c.build_with_canonical.new.cx.nodes in
-    let input = c.args.input.now in
+    let input = c.args.input in
     let query = c.in_ok-table.query in
     let q = c.in_ok-table.table in
     let ks = kinds_of input in
     let first = first_entries b ks q.entries q.entries _ refl k.entries in
     let env = query_environment a b input query k.query in
     let predicate = query_predicate a b input query k.query in
-    let over = c.requires.input in
     let holds : HoldsGoal c.build_with_canonical.new.cx.nodes c.in_ok-table.query.goal = record { env = k.holds.environment; predicate = k.holds.predicate } in
+    let over = c.requires.input in
+    let found = rw (c.deref.ensures.value, c.in-Ok.is) at c.compute_goal-response.ensures.found in
+    found_fits a b c.compute_goal-response.new.cx.nodes q query.goal ks input c.in_ok-table.values.items c.in-Ok.answer found c.requires.input.input.kinds refl over.environment over.predicate first env predicate holds k.args k.values
+
+pub evaluate_round-returns-in-Ok-clause-grows : goal.evaluate_round-returns-in-Ok-clause-grows
+evaluate_round-returns-in-Ok-clause-grows g t c =
+    grown c.in_ok-table.ensures.grows c.compute_goal-response.ensures.grows
+
+pub evaluate_round-returns-in-Ok-clause-proved : goal.evaluate_round-returns-in-Ok-clause-proved
+evaluate_round-returns-in-Ok-clause-proved g t c =
+    λ s y.
+    let k = c.in_ok-table.ensures in
+    let up = c.push.ensures.rest in
+    let own = entry_of c.args.input c.args.step c.args.provisional c.in_ok-push.ensures.pushed.0 in
+    let x = c.pop-entry.result in
+    let m = c.compute_goal-response.ensures in
+    let off = search_popped {a = c.args.cx.now} {b = c.build_with_canonical.new.cx} {c = c.compute_goal-response.new.cx} {g = c.args.graph.now} {h = c.push.new.self} {i = c.compute_goal-response.new.graph} {j = c.pop-entry.new.self} own x c.in_ok-push.ensures.pushed.1 up m.searches c.pop-entry.ensures.popped c.pop-entry.ensures.kept c.pop-entry.ensures.rest in
+    let a = c.args.cx.now.nodes in
+    let b = c.build_with_canonical.new.cx.nodes in
+    let input = c.args.input in
+    let query = c.in_ok-table.query in
+    let q = c.in_ok-table.table in
+    let ks = kinds_of input in
+    let first = first_entries b ks q.entries q.entries _ refl k.entries in
+    let env = query_environment a b input query k.query in
+    let predicate = query_predicate a b input query k.query in
+    let holds : HoldsGoal c.build_with_canonical.new.cx.nodes c.in_ok-table.query.goal = record { env = k.holds.environment; predicate = k.holds.predicate } in
+    let over = c.requires.input in
+    let z = c.compute_goal-response.new.cx.nodes in
+    let h = meaning_since (λ ts. g.H.GoalHandler.handler ts c.args.handler.now) s in
+    let A = assumed_in z c.compute_goal-response.new.graph in
     let vs = c.in_ok-table.values.items in
+    let found : Found (λ d u. (w : Since (λ ts. g.H.GoalHandler.ready ts c.args.handler.now) c.build_with_canonical.new.cx.nodes) → IsProvedNow (λ ts. g.H.GoalHandler.handler ts c.args.handler.now) w c.in_ok-table.table.mode (assumed_in c.compute_goal-response.new.cx.nodes c.compute_goal-response.new.graph) d u c.in_ok-table.query.goal) c.build_with_canonical.new.cx.nodes c.compute_goal-response.new.cx.nodes c.in_ok-table.table c.in_ok-table.query.goal c.in_ok-table.values.items c.in-Ok.answer = rw (c.deref.ensures.value, c.in-Ok.is) at m.found in
+    let proved : IsProvedFrom h (mode_of c.in_ok-table.table.mode) A (content_of found.store found.after.entries) (tree_at found.store query.goal.param_env.node) (tree_at found.store query.goal.predicate.node) = found.sure y (Since-later k.grows.extends s) in
+    let there : IsProvedFrom h (mode_of input.typing_mode) A (content_of found.store found.after.entries) (tree_at found.store query.goal.param_env.node) (tree_at found.store query.goal.predicate.node) = subst (λ w. IsProvedFrom h w A (content_of found.store found.after.entries) (tree_at found.store query.goal.param_env.node) (tree_at found.store query.goal.predicate.node)) k.mode proved in
+    let popped = entries_popped z c.compute_goal-response.new.graph c.pop-entry.new.self x c.pop-entry.ensures.popped in
+    subst (λ es. IsDerivedFrom h (mode_of input.typing_mode) (assumptions es) (answer_sequent (form_of a input) (response_at z c.in-Ok.answer))) popped
+    (found_derived a b z q query.goal ks input vs c.in-Ok.answer found c.requires.input.input.kinds refl over.environment over.predicate first env predicate holds k.args k.values h (mode_of input.typing_mode) A y there)
+
+pub evaluate_round-returns-in-Ok-clause-searches : goal.evaluate_round-returns-in-Ok-clause-searches
+evaluate_round-returns-in-Ok-clause-searches g t c =
+    let k = c.in_ok-table.ensures in
+    let up = c.push.ensures.rest in
+    let own = entry_of c.args.input c.args.step c.args.provisional c.in_ok-push.ensures.pushed.0 in
+    let x = c.pop-entry.result in
+    let m = c.compute_goal-response.ensures in
+    let off = search_popped {a = c.args.cx.now} {b = c.build_with_canonical.new.cx} {c = c.compute_goal-response.new.cx} {g = c.args.graph.now} {h = c.push.new.self} {i = c.compute_goal-response.new.graph} {j = c.pop-entry.new.self} own x c.in_ok-push.ensures.pushed.1 up m.searches c.pop-entry.ensures.popped c.pop-entry.ensures.kept c.pop-entry.ensures.rest in
+    off.searches
+
+pub evaluate_round-returns-in-Ok-clause-told : goal.evaluate_round-returns-in-Ok-clause-told
+evaluate_round-returns-in-Ok-clause-told g t c =
+    λ s tells told.
+    let k = c.in_ok-table.ensures in
+    let a = c.args.cx.now.nodes in
+    let b = c.build_with_canonical.new.cx.nodes in
+    let input = c.args.input in
+    let query = c.in_ok-table.query in
+    let q = c.in_ok-table.table in
+    let ks = kinds_of input in
+    let first = first_entries b ks q.entries q.entries _ refl k.entries in
+    let env = query_environment a b input query k.query in
+    let predicate = query_predicate a b input query k.query in
+    let answered = rw (c.deref.ensures.value, c.in-Ok.is) at (c.compute_goal-response.ensures.told (Since-later k.grows.extends s) (tell_pushed c.push.new.self (g.H.GoalHandler.handler s.base c.args.handler.now) (c.args.depth + 1) c.args.input c.args.step c.args.provisional c.requires.search k.grows c.requires.input c.requires.provisional c.in_ok-push.ensures.pushed tells told)) in
+    rw (first, env, predicate, k.values, k.mode) at answered
+
+pub evaluate_round-returns-in_err-push-clause-searches : goal.evaluate_round-returns-in_err-push-clause-searches
+evaluate_round-returns-in_err-push-clause-searches g t c =
+    search_same (c.args.depth + 1) c.requires.search c.in_ok-table.ensures.grows c.in_err-push.ensures.err c.in_err-push.ensures.err_kept c.push.ensures.rest
+
+pub evaluate_round-returns-in_err-table-clause-searches : goal.evaluate_round-returns-in_err-table-clause-searches
+evaluate_round-returns-in_err-table-clause-searches g t c =
+    Searches-refl (c.args.depth + 1) c.requires.search c.build_with_canonical.ensures.grows
+
+pub evaluate_rounds-evaluate_round-requires : goal.evaluate_rounds-evaluate_round-requires
+evaluate_rounds-evaluate_round-requires g t c =
+    λ κs k.
+    let i = c.loop-round.invariant in
+    let limit : c.loop-round.round + 1 ≤ c.loop-round.cx.round_limit = rw i.grows.rest.rounds (omega (arith, c.loop-round-test.true, c.round_limit-round-end.ensures)) in
+    let noted = search_noted {a = c.args.cx.now} {b = c.loop-round.cx} {g = c.args.graph.now} {h = c.loop-round.graph} {i = c.note_round.new.self} (c.args.depth + 1) (c.loop-round.round + 1) c.requires.search i.searches limit c.note_round.ensures in (
+      omega (arith, c.decreases),
+      (
+        k,
+        (
+          own_asked c.args.cx.now.nodes c.loop-round.cx.nodes c.args.input c.loop-round.input i.grows.extends i.input c.requires.input,
+          (
+            rw i.input i.fits,
+            (
+              g.met.H.GoalHandler.ready_kept _ _ _ c.requires.ready i.grows.extends,
+              search_later (c.args.depth + 1) (c.args.depth + 1) (omega arith) c.requires.search noted,
+            ),
+          ),
+        ),
+      ),
+    )
+
+pub evaluate_rounds-loop-round-init : goal.evaluate_rounds-loop-round-init
+evaluate_rounds-loop-round-init g t c =
+    let u = c.in_ok-unchanged_answer.ensures in
+    record {
+      grows = u.grows;
+      searches = Searches-refl (c.args.depth + 1) c.requires.search u.grows;
+      input = refl;
+      fits = u.fits;
+      told = λ s tells. says_nothing u.nothing;
+    }
+
+pub evaluate_rounds-loop-round-preserved : goal.evaluate_rounds-loop-round-preserved
+evaluate_rounds-loop-round-preserved g t c =
+    let i = c.loop-round.invariant in
+    let limit : c.loop-round.round + 1 ≤ c.loop-round.cx.round_limit = rw i.grows.rest.rounds (omega (arith, c.loop-round-test.true, c.round_limit-round-end.ensures)) in
+    let noted = search_noted {a = c.args.cx.now} {b = c.loop-round.cx} {g = c.args.graph.now} {h = c.loop-round.graph} {i = c.note_round.new.self} (c.args.depth + 1) (c.loop-round.round + 1) c.requires.search i.searches limit c.note_round.ensures in
+    let e = c.in_ok-answer.ensures in
+    let z = c.evaluate_round.new.cx.nodes in
+    let x = c.in_ok-answer.entry in
+    let fits : IsHeadAnswer c.evaluate_round.new.cx.nodes (kinds_of c.args.input) c.in_ok-answer.answer = subst (λ w. IsHeadAnswer c.evaluate_round.new.cx.nodes (kinds_of w) c.in_ok-answer.answer) i.input e.fits in
+    let form = own_form c.args.cx.now.nodes c.loop-round.cx.nodes c.args.input c.loop-round.input i.grows.extends i.input c.requires.input in
+    record {
+      grows = grown i.grows e.grows;
+      searches = Searches-trans noted e.searches;
+      input = e.entry.0 ∙ i.input;
+      fits = fits;
+      told = λ s tells.
+          let h = g.H.GoalHandler.handler s.base c.args.handler.now in
+          let mode = mode_of c.args.input.typing_mode in
+          let later = heads_tell_later h (c.args.depth + 1) c.requires.search i.grows.extends noted tells in
+          let before = round_told h c.loop-round.cx.nodes c.args.input c.loop-round.input (form_of c.args.cx.now.nodes c.args.input) (form_of c.loop-round.cx.nodes c.loop-round.input) c.loop-round.provisional (sym i.input) (sym form) (i.told s tells) in
+          let told = round_told h z c.loop-round.input c.args.input (form_of c.loop-round.cx.nodes c.loop-round.input) (form_of c.args.cx.now.nodes c.args.input) c.in_ok-answer.answer i.input form (e.told (Since-later i.grows.extends s) later before) in
+          told;
+    }
+
+pub evaluate_rounds-returns-clause-fits : goal.evaluate_rounds-returns-clause-fits
+evaluate_rounds-returns-clause-fits g t c =
+    let i = c.loop-round.invariant in subst (λ (w : CanonicalInput). IsAnswerTo c.unchanged_answer-2.new.cx.nodes (kinds_of w) c.in_ok-answer-2.answer) i.input c.in_ok-answer-2.ensures.fits
+
+pub evaluate_rounds-returns-clause-searches : goal.evaluate_rounds-returns-clause-searches
+evaluate_rounds-returns-clause-searches g t c =
+    let i = c.loop-round.invariant in search_grown (c.args.depth + 1) c.requires.search i.searches c.unchanged_answer-2.ensures.grows
+
+pub evaluate_rounds-returns-clause-told : goal.evaluate_rounds-returns-clause-told
+evaluate_rounds-returns-clause-told g t c =
+    λ s tells. says_nothing c.in_ok-answer-2.ensures.nothing
+
+pub evaluate_rounds-returns-in_err-answer-2-clause-searches : goal.evaluate_rounds-returns-in_err-answer-2-clause-searches
+evaluate_rounds-returns-in_err-answer-2-clause-searches g t c =
+    search_grown (c.args.depth + 1) c.requires.search c.loop-round.invariant.searches c.unchanged_answer-2.ensures.grows
+
+pub evaluate_rounds-returns-in_err-answer-clause-grows : goal.evaluate_rounds-returns-in_err-answer-clause-grows
+evaluate_rounds-returns-in_err-answer-clause-grows g t c =
+    grown c.loop-round.invariant.grows c.evaluate_round.ensures.grows
+
+pub evaluate_rounds-returns-in_err-answer-clause-searches : goal.evaluate_rounds-returns-in_err-answer-clause-searches
+evaluate_rounds-returns-in_err-answer-clause-searches g t c =
+    let i = c.loop-round.invariant in
+    let limit : c.loop-round.round + 1 ≤ c.loop-round.cx.round_limit = rw i.grows.rest.rounds (omega (arith, c.loop-round-test.true, c.round_limit-round-end.ensures)) in
+    let noted = search_noted {a = c.args.cx.now} {b = c.loop-round.cx} {g = c.args.graph.now} {h = c.loop-round.graph} {i = c.note_round.new.self} (c.args.depth + 1) (c.loop-round.round + 1) c.requires.search i.searches limit c.note_round.ensures in
+    Searches-trans noted c.evaluate_round.ensures.searches
+
+pub evaluate_rounds-returns-in_err-unchanged_answer-clause-searches : goal.evaluate_rounds-returns-in_err-unchanged_answer-clause-searches
+evaluate_rounds-returns-in_err-unchanged_answer-clause-searches g t c =
+    Searches-refl (c.args.depth + 1) c.requires.search c.unchanged_answer.ensures.grows
+
+pub evaluate_rounds-returns-then-round_is_last-clause-fits : goal.evaluate_rounds-returns-then-round_is_last-clause-fits
+evaluate_rounds-returns-then-round_is_last-clause-fits g t c =
+    let i = c.loop-round.invariant in
+    let limit : c.loop-round.round + 1 ≤ c.loop-round.cx.round_limit = rw i.grows.rest.rounds (omega (arith, c.loop-round-test.true, c.round_limit-round-end.ensures)) in
+    let noted = search_noted {a = c.args.cx.now} {b = c.loop-round.cx} {g = c.args.graph.now} {h = c.loop-round.graph} {i = c.note_round.new.self} (c.args.depth + 1) (c.loop-round.round + 1) c.requires.search i.searches limit c.note_round.ensures in
+    let e = c.in_ok-answer.ensures in
+    let z = c.evaluate_round.new.cx.nodes in
+    let x = c.in_ok-answer.entry in
+    let fits : IsHeadAnswer c.evaluate_round.new.cx.nodes (kinds_of c.args.input) c.in_ok-answer.answer = subst (λ w. IsHeadAnswer c.evaluate_round.new.cx.nodes (kinds_of w) c.in_ok-answer.answer) i.input e.fits in
+    let form = own_form c.args.cx.now.nodes c.loop-round.cx.nodes c.args.input c.loop-round.input i.grows.extends i.input c.requires.input in
+    last_fits c.in_ok-answer.answer c.answer_of.result c.answer_of.ensures.some c.answer_of.ensures.none z (kinds_of c.args.input) fits
+
+pub evaluate_rounds-returns-then-round_is_last-clause-grows : goal.evaluate_rounds-returns-then-round_is_last-clause-grows
+evaluate_rounds-returns-then-round_is_last-clause-grows g t c =
+    grown c.loop-round.invariant.grows c.in_ok-answer.ensures.grows
+
+pub evaluate_rounds-returns-then-round_is_last-clause-proved : goal.evaluate_rounds-returns-then-round_is_last-clause-proved
+evaluate_rounds-returns-then-round_is_last-clause-proved g t c =
+    λ s.
+    let i = c.loop-round.invariant in
+    let limit : c.loop-round.round + 1 ≤ c.loop-round.cx.round_limit = rw i.grows.rest.rounds (omega (arith, c.loop-round-test.true, c.round_limit-round-end.ensures)) in
+    let noted = search_noted {a = c.args.cx.now} {b = c.loop-round.cx} {g = c.args.graph.now} {h = c.loop-round.graph} {i = c.note_round.new.self} (c.args.depth + 1) (c.loop-round.round + 1) c.requires.search i.searches limit c.note_round.ensures in
+    let e = c.in_ok-answer.ensures in
+    let z = c.evaluate_round.new.cx.nodes in
+    let x = c.in_ok-answer.entry in
+    let fits : IsHeadAnswer c.evaluate_round.new.cx.nodes (kinds_of c.args.input) c.in_ok-answer.answer = subst (λ w. IsHeadAnswer c.evaluate_round.new.cx.nodes (kinds_of w) c.in_ok-answer.answer) i.input e.fits in
+    let form = own_form c.args.cx.now.nodes c.loop-round.cx.nodes c.args.input c.loop-round.input i.grows.extends i.input c.requires.input in
     let m = meaning_since (λ ts. g.H.GoalHandler.handler ts c.args.handler.now) s in
-    IfOk-map c.compute_goal-response.result
-    (λ r f y. found_derived a b c.compute_goal-response.new.cx.nodes q query.goal ks input vs r f c.requires.input.input.kinds refl over.environment over.predicate first env predicate holds k.args k.values m (mode_of input.typing_mode) y (rw k.mode at (f.sure y (Since-later k.grows.extends s))))
-    (rw c.deref.ensures.value at c.compute_goal-response.ensures.found)
+    last_each c.in_ok-answer.answer c.answer_of.result c.answer_of.ensures.some c.answer_of.ensures.none
+    (λ r is sure.
+    let last = rw is at (c.round_is_last.ensures.0 c.if-round_is_last.true) in
+    let derived = round_proved m z (assumptions (entry_at z x ∷ entries_at z c.evaluate_round.new.graph)) c.loop-round.input c.args.input (form_of c.loop-round.cx.nodes c.loop-round.input) (form_of c.args.cx.now.nodes c.args.input) c.in_ok-answer.answer r i.input form is (e.proved (Since-later i.grows.extends s)) sure in
+    round_closes m (mode_of c.args.input.typing_mode) z c.evaluate_round.new.graph x c.args.input c.args.step (form_of c.args.cx.now.nodes c.args.input) r (e.entry.0 ∙ i.input) e.entry.1
+    (form_later c.args.cx.now.nodes z c.args.input (Extends-trans i.grows.extends e.grows.extends) c.requires.input) last sure derived)
 
-pub evaluate_query-returns-clause-told : goal.evaluate_query-returns-clause-told
-evaluate_query-returns-clause-told g t c = λ s.
-    let k = c.in_ok-table.ensures in
-    let a = c.args.cx.now.nodes in
-    let b = c.build_with_canonical.new.cx.nodes in
-    let input = c.args.input.now in
-    let query = c.in_ok-table.query in
-    let q = c.in_ok-table.table in
-    let ks = kinds_of input in
-    let first = first_entries b ks q.entries q.entries _ refl k.entries in
-    let env = query_environment a b input query k.query in
-    let predicate = query_predicate a b input query k.query in
-    IfOk-map c.compute_goal-response.result (λ r f. rw (first, env, predicate, k.values, k.mode) at f) (rw c.deref.ensures.value at (c.compute_goal-response.ensures.told (Since-later k.grows.extends s)))
+pub evaluate_rounds-returns-then-round_is_last-clause-refuted : goal.evaluate_rounds-returns-then-round_is_last-clause-refuted
+evaluate_rounds-returns-then-round_is_last-clause-refuted g t c =
+    λ s tells no.
+    let i = c.loop-round.invariant in
+    let limit : c.loop-round.round + 1 ≤ c.loop-round.cx.round_limit = rw i.grows.rest.rounds (omega (arith, c.loop-round-test.true, c.round_limit-round-end.ensures)) in
+    let noted = search_noted {a = c.args.cx.now} {b = c.loop-round.cx} {g = c.args.graph.now} {h = c.loop-round.graph} {i = c.note_round.new.self} (c.args.depth + 1) (c.loop-round.round + 1) c.requires.search i.searches limit c.note_round.ensures in
+    let e = c.in_ok-answer.ensures in
+    let z = c.evaluate_round.new.cx.nodes in
+    let x = c.in_ok-answer.entry in
+    let fits : IsHeadAnswer c.evaluate_round.new.cx.nodes (kinds_of c.args.input) c.in_ok-answer.answer = subst (λ w. IsHeadAnswer c.evaluate_round.new.cx.nodes (kinds_of w) c.in_ok-answer.answer) i.input e.fits in
+    let form = own_form c.args.cx.now.nodes c.loop-round.cx.nodes c.args.input c.loop-round.input i.grows.extends i.input c.requires.input in
+    let h = g.H.GoalHandler.handler s.base c.args.handler.now in
+    let mode = mode_of c.args.input.typing_mode in
+    let later = heads_tell_later h (c.args.depth + 1) c.requires.search i.grows.extends noted tells in
+    let before = round_told h c.loop-round.cx.nodes c.args.input c.loop-round.input (form_of c.args.cx.now.nodes c.args.input) (form_of c.loop-round.cx.nodes c.loop-round.input) c.loop-round.provisional (sym i.input) (sym form) (i.told s tells) in
+    let told = round_told h z c.loop-round.input c.args.input (form_of c.loop-round.cx.nodes c.loop-round.input) (form_of c.args.cx.now.nodes c.args.input) c.in_ok-answer.answer i.input form (e.told (Since-later i.grows.extends s) later before) in
+    last_refuted c.in_ok-answer.answer c.answer_of.result c.answer_of.ensures.some c.answer_of.ensures.none h mode z (form_of c.args.cx.now.nodes c.args.input) told no
 
-pub evaluate_query-returns-clause-refuted : goal.evaluate_query-returns-clause-refuted
-evaluate_query-returns-clause-refuted g t c = λ s n.
-    let k = c.in_ok-table.ensures in
-    let a = c.args.cx.now.nodes in
-    let b = c.build_with_canonical.new.cx.nodes in
-    let input = c.args.input.now in
-    let query = c.in_ok-table.query in
-    let q = c.in_ok-table.table in
-    let ks = kinds_of input in
-    let first = first_entries b ks q.entries q.entries _ refl k.entries in
-    let env = query_environment a b input query k.query in
-    let predicate = query_predicate a b input query k.query in
-    rw (first, env, predicate, k.mode) at (c.compute_goal-response.ensures.refuted (Since-later k.grows.extends s) n)
+pub evaluate_rounds-returns-then-round_is_last-clause-searches : goal.evaluate_rounds-returns-then-round_is_last-clause-searches
+evaluate_rounds-returns-then-round_is_last-clause-searches g t c =
+    let i = c.loop-round.invariant in
+    let limit : c.loop-round.round + 1 ≤ c.loop-round.cx.round_limit = rw i.grows.rest.rounds (omega (arith, c.loop-round-test.true, c.round_limit-round-end.ensures)) in
+    let noted = search_noted {a = c.args.cx.now} {b = c.loop-round.cx} {g = c.args.graph.now} {h = c.loop-round.graph} {i = c.note_round.new.self} (c.args.depth + 1) (c.loop-round.round + 1) c.requires.search i.searches limit c.note_round.ensures in
+    let e = c.in_ok-answer.ensures in
+    let z = c.evaluate_round.new.cx.nodes in
+    let x = c.in_ok-answer.entry in
+    let fits : IsHeadAnswer c.evaluate_round.new.cx.nodes (kinds_of c.args.input) c.in_ok-answer.answer = subst (λ w. IsHeadAnswer c.evaluate_round.new.cx.nodes (kinds_of w) c.in_ok-answer.answer) i.input e.fits in
+    let form = own_form c.args.cx.now.nodes c.loop-round.cx.nodes c.args.input c.loop-round.input i.grows.extends i.input c.requires.input in
+    Searches-trans noted e.searches
 
-pub evaluate_step-loop-added-init : goal.evaluate_step-loop-added-init
-evaluate_step-loop-added-init g t c = record {
-  runs = Runs-refl c.requires.table;
-  left = λ y i. absurd (subst (λ xs. Among xs y) c.new-step.ensures.left i);
-  labels = only-refl _ _;
-  proved = λ s y i. absurd i;
-  sure = λ y. c.new-step.ensures.left;
-  told = λ s. asks_nothing;
-}
+pub evaluate_rounds-returns-then-round_is_last-clause-told : goal.evaluate_rounds-returns-then-round_is_last-clause-told
+evaluate_rounds-returns-then-round_is_last-clause-told g t c =
+    λ s tells.
+    let i = c.loop-round.invariant in
+    let limit : c.loop-round.round + 1 ≤ c.loop-round.cx.round_limit = rw i.grows.rest.rounds (omega (arith, c.loop-round-test.true, c.round_limit-round-end.ensures)) in
+    let noted = search_noted {a = c.args.cx.now} {b = c.loop-round.cx} {g = c.args.graph.now} {h = c.loop-round.graph} {i = c.note_round.new.self} (c.args.depth + 1) (c.loop-round.round + 1) c.requires.search i.searches limit c.note_round.ensures in
+    let e = c.in_ok-answer.ensures in
+    let z = c.evaluate_round.new.cx.nodes in
+    let x = c.in_ok-answer.entry in
+    let fits : IsHeadAnswer c.evaluate_round.new.cx.nodes (kinds_of c.args.input) c.in_ok-answer.answer = subst (λ w. IsHeadAnswer c.evaluate_round.new.cx.nodes (kinds_of w) c.in_ok-answer.answer) i.input e.fits in
+    let form = own_form c.args.cx.now.nodes c.loop-round.cx.nodes c.args.input c.loop-round.input i.grows.extends i.input c.requires.input in
+    let h = g.H.GoalHandler.handler s.base c.args.handler.now in
+    let mode = mode_of c.args.input.typing_mode in
+    let later = heads_tell_later h (c.args.depth + 1) c.requires.search i.grows.extends noted tells in
+    let before = round_told h c.loop-round.cx.nodes c.args.input c.loop-round.input (form_of c.args.cx.now.nodes c.args.input) (form_of c.loop-round.cx.nodes c.loop-round.input) c.loop-round.provisional (sym i.input) (sym form) (i.told s tells) in
+    let told = round_told h z c.loop-round.input c.args.input (form_of c.loop-round.cx.nodes c.loop-round.input) (form_of c.args.cx.now.nodes c.args.input) c.in_ok-answer.answer i.input form (e.told (Since-later i.grows.extends s) later before) in
+    last_told c.in_ok-answer.answer c.answer_of.result c.answer_of.ensures.some c.answer_of.ensures.none h mode z (form_of c.args.cx.now.nodes c.args.input) told
+
+pub evaluate_rounds-round_is_last-requires-clause-answer : goal.evaluate_rounds-round_is_last-requires-clause-answer
+evaluate_rounds-round_is_last-requires-clause-answer g t c =
+    let i = c.loop-round.invariant in
+    let limit : c.loop-round.round + 1 ≤ c.loop-round.cx.round_limit = rw i.grows.rest.rounds (omega (arith, c.loop-round-test.true, c.round_limit-round-end.ensures)) in
+    let noted = search_noted {a = c.args.cx.now} {b = c.loop-round.cx} {g = c.args.graph.now} {h = c.loop-round.graph} {i = c.note_round.new.self} (c.args.depth + 1) (c.loop-round.round + 1) c.requires.search i.searches limit c.note_round.ensures in
+    let e = c.in_ok-answer.ensures in
+    let z = c.evaluate_round.new.cx.nodes in
+    let x = c.in_ok-answer.entry in
+    let fits : IsHeadAnswer c.evaluate_round.new.cx.nodes (kinds_of c.args.input) c.in_ok-answer.answer = subst (λ w. IsHeadAnswer c.evaluate_round.new.cx.nodes (kinds_of w) c.in_ok-answer.answer) i.input e.fits in
+    let form = own_form c.args.cx.now.nodes c.loop-round.cx.nodes c.args.input c.loop-round.input i.grows.extends i.input c.requires.input in
+    holds_answer z (kinds_of c.args.input) c.in_ok-answer.answer fits
+
+pub evaluate_rounds-round_is_last-requires-clause-entry : goal.evaluate_rounds-round_is_last-requires-clause-entry
+evaluate_rounds-round_is_last-requires-clause-entry g t c =
+    let i = c.loop-round.invariant in
+    let limit : c.loop-round.round + 1 ≤ c.loop-round.cx.round_limit = rw i.grows.rest.rounds (omega (arith, c.loop-round-test.true, c.round_limit-round-end.ensures)) in
+    let noted = search_noted {a = c.args.cx.now} {b = c.loop-round.cx} {g = c.args.graph.now} {h = c.loop-round.graph} {i = c.note_round.new.self} (c.args.depth + 1) (c.loop-round.round + 1) c.requires.search i.searches limit c.note_round.ensures in
+    let e = c.in_ok-answer.ensures in
+    (entry_held c.args.cx.now.nodes c.loop-round.cx.nodes c.evaluate_round.new.cx.nodes c.args.input c.loop-round.input c.loop-round.provisional c.in_ok-answer.entry (Extends-trans i.grows.extends e.grows.extends) e.grows.extends i.input c.requires.input i.fits e.entry.0 e.entry.2)
 
 pub evaluate_step-evaluate_added-requires : goal.evaluate_step-evaluate_added-requires
 evaluate_step-evaluate_added-requires g t c = λ κs k.
@@ -472,24 +893,24 @@ evaluate_step-evaluate_added-requires g t c = λ κs k.
         k,
         (
           IsPosed-later i.runs.goes (c.requires.posed c.loop-added.added-index _ c.loop-added-test.true),
-          g.met.H.GoalHandler.ready_kept _ _ _ c.requires.ready i.runs.goes.extends,
+          (
+            g.met.H.GoalHandler.ready_kept _ _ _ c.requires.ready i.runs.goes.extends,
+            search_later (bound_of c.args.depth) (bound_of c.args.depth) (omega arith) c.requires.search i.searches,
+          ),
         ),
       ),
     )
 
-pub evaluate_step-returns-in_err-answer-clause-runs : goal.evaluate_step-returns-in_err-answer-clause-runs
-evaluate_step-returns-in_err-answer-clause-runs g t c = Runs-trans c.loop-added.invariant.runs c.evaluate_added.ensures.runs
-
-pub evaluate_step-returns-in_err-answer-clause-refuted : goal.evaluate_step-returns-in_err-answer-clause-refuted
-evaluate_step-returns-in_err-answer-clause-refuted g t c = λ s n.
-    let i = c.loop-added.invariant in
-    let h = g.H.GoalHandler.handler s.base c.args.handler.now in
-    let refused : c.evaluate_added.result ≡ Err EvalError.NoSolution = search rules in
-    refuse_more c.loop-added.table h c.args.table.now.mode (bound_of c.args.depth) c.args.goals.now _ c.requires.posed (among_get c.args.goals.now c.loop-added.added-index _ c.loop-added-test.true) i.runs.goes.extends (i.told s)
-    (rw i.runs.goes.mode at (c.evaluate_added.ensures.refuted (Since-later i.runs.goes.extends s) refused))
-
-pub evaluate_step-returns-in_err-note-clause-runs : goal.evaluate_step-returns-in_err-note-clause-runs
-evaluate_step-returns-in_err-note-clause-runs g t c = Runs-trans c.loop-added.invariant.runs c.evaluate_added.ensures.runs
+pub evaluate_step-loop-added-init : goal.evaluate_step-loop-added-init
+evaluate_step-loop-added-init g t c = record {
+  runs = Runs-refl c.requires.table;
+  searches = Searches-refl (bound_of c.args.depth) c.requires.search (record { extends = Extends-refl _; rest = KeepsRest-refl _ });
+  left = λ y i. absurd (subst (λ xs. Among xs y) c.new-step.ensures.left i);
+  labels = only-refl _ _;
+  proved = λ s y i. absurd i;
+  sure = λ y. c.new-step.ensures.left;
+  told = λ s tells. asks_nothing;
+}
 
 pub evaluate_step-loop-added-preserved : goal.evaluate_step-loop-added-preserved
 evaluate_step-loop-added-preserved g t c =
@@ -500,49 +921,49 @@ evaluate_step-loop-added-preserved g t c =
     let d : GoalSource × Goal = (source.Misc, record { param_env = record { node = record { number = 0 } }; predicate = record { node = record { number = 0 } } }) in
     let at = c.loop-added-test.true in
     let there = among_get gs c.loop-added.added-index d at in
+    let now = search_later (bound_of c.args.depth) (bound_of c.args.depth) (omega arith) c.requires.search i.searches in
+    let covers = search_covers (bound_of c.args.depth) now e.runs.goes.extends e.searches in
     record {
       runs = Runs-trans i.runs e.runs;
+      searches = Searches-trans i.searches e.searches;
       left = subst (AreLeft gs) (sym n.left) (left_more gs c.loop-added.step.left.items (get_or gs c.loop-added.added-index d) c.in_ok-answer.answer.certainty there i.left);
       labels = only-trans i.labels (only_one gs (get_or gs c.loop-added.added-index d) i.runs.goes.extends c.requires.posed there e.labels);
       proved = λ s.
-          subst (AreSettled (IsProvedSince (λ ts. g.H.GoalHandler.handler ts c.args.handler.now) s c.args.table.now.mode c.evaluate_added.new.cx.nodes c.evaluate_added.new.table) (take (c.loop-added.added-index + 1) gs)) (sym n.left)
-          (settled_proved (λ ts. g.H.GoalHandler.handler ts c.args.handler.now) s c.args.table.now.mode gs c.loop-added.step.left.items c.loop-added.added-index d c.in_ok-answer.answer.certainty at c.requires.posed i.runs.goes.extends e.runs.goes (rw i.runs.goes.mode at (e.proved (Since-later i.runs.goes.extends s))) (i.proved s));
+          subst (AreSettled (IsNestedSince (λ ts. g.H.GoalHandler.handler ts c.args.handler.now) s c.args.table.now.mode (goal_kind_of c.args.kind) (assumed_in c.evaluate_added.new.cx.nodes c.evaluate_added.new.graph) c.evaluate_added.new.cx.nodes c.evaluate_added.new.table) (take (c.loop-added.added-index + 1) gs)) (sym n.left)
+          (settled_proved (assumed_in c.loop-added.cx.nodes c.loop-added.graph) (assumed_in c.evaluate_added.new.cx.nodes c.evaluate_added.new.graph) (λ ts. g.H.GoalHandler.handler ts c.args.handler.now) s c.args.table.now.mode (goal_kind_of c.args.kind) gs c.loop-added.step.left.items c.loop-added.added-index d c.in_ok-answer.answer.certainty at c.requires.posed i.runs.goes.extends e.runs.goes covers (rw (i.runs.goes.mode, c.step_kind_for_source-kind.ensures) at (e.proved (Since-later i.runs.goes.extends s))) (i.proved s));
       sure = λ y. n.left ∙ sure_more c.loop-added.step.certainty c.in_ok-answer.answer.certainty c.loop-added.step.left.items (get_or gs c.loop-added.added-index d) i.sure (sym n.certainty ∙ y);
-      told = λ s. reach_more c.loop-added.table (g.H.GoalHandler.handler s.base c.args.handler.now) c.args.table.now.mode (bound_of c.args.depth) gs (get_or gs c.loop-added.added-index d) c.requires.posed there i.runs.goes.extends (i.told s) c.evaluate_added.new.table i.runs.goes.table e.runs.goes.extends (rw i.runs.goes.mode at (e.told (Since-later i.runs.goes.extends s)));
+      told = λ s tells. reach_more c.loop-added.table (g.H.GoalHandler.handler s.base c.args.handler.now) c.args.table.now.mode gs (get_or gs c.loop-added.added-index d) c.requires.posed there i.runs.goes.extends (i.told s tells) c.evaluate_added.new.table i.runs.goes.table e.runs.goes.extends (rw i.runs.goes.mode at (e.told (Since-later i.runs.goes.extends s) (heads_tell_later (g.H.GoalHandler.handler s.base c.args.handler.now) (bound_of c.args.depth) c.requires.search i.runs.goes.extends i.searches tells)));
     }
 
 pub evaluate_step-returns-clause-posed : goal.evaluate_step-returns-clause-posed
 evaluate_step-returns-clause-posed g t c = (let i = c.loop-added.invariant in posed_left c.args.goals.now c.loop-added.step.left.items i.runs.goes c.requires.posed i.left)
 
-pub probe_candidate-make_response-response-requires-clause-values : goal.probe_candidate-make_response-response-requires-clause-values
-probe_candidate-make_response-response-requires-clause-values g t c =
-    let p = c.requires.posed in
-    let o = c.in_ok-snapshot.ensures in
-    let r = c.in-Ok.ensures in
-    let went = went_in p.table o.entries o.saved o.mode r.runs.goes in
-    args_later c.args.cx.now.nodes c.run_candidate.new.cx.nodes c.args.table.now.entries c.run_candidate.new.table.entries c.args.values.now went.extends went.continues c.requires.values
+pub evaluate_step-returns-clause-proved : goal.evaluate_step-returns-clause-proved
+evaluate_step-returns-clause-proved g t c =
+    λ s. rw (take_all c.loop-added.added-index c.args.goals.now c.loop-added-test.false) at (c.loop-added.invariant.proved s)
 
-pub probe_candidate-returns-then-keeps_constraints-clause-found : goal.probe_candidate-returns-then-keeps_constraints-clause-found
-probe_candidate-returns-then-keeps_constraints-clause-found g t c =
-    let p = c.requires.posed in
-    let o = c.in_ok-snapshot.ensures in
-    let r = c.in-Ok.ensures in
-    let went = went_in p.table o.entries o.saved o.mode r.runs.goes in
-    let m = c.in_ok-response.ensures in
-    found_in c.in_ok-response.field-0 c.in-Ok.certainty went c.terms_are_formed.ensures m.grows.extends (rw o.entries at r.labels) c.requires.values m.certainty m.says m.holds (record { no_hidden = m.nothing.0; no_goals = m.nothing.1 })
-    (λ y s offered. rw o.mode at (r.proved s (rw o.mode offered) (ap Ok y)))
-
-pub probe_candidate-returns-then-keeps_constraints-clause-told : goal.probe_candidate-returns-then-keeps_constraints-clause-told
-probe_candidate-returns-then-keeps_constraints-clause-told g t c = λ s.
-    let p = c.requires.posed in
-    let o = c.in_ok-snapshot.ensures in
-    let r = c.in-Ok.ensures in
-    let went = went_in p.table o.entries o.saved o.mode r.runs.goes in
-    let m = c.in_ok-response.ensures in
+pub evaluate_step-returns-in_err-answer-clause-refuted : goal.evaluate_step-returns-in_err-answer-clause-refuted
+evaluate_step-returns-in_err-answer-clause-refuted g t c = λ s tells kind n.
+    let i = c.loop-added.invariant in
     let h = g.H.GoalHandler.handler s.base c.args.handler.now in
-    let trees = trees_kept c.args.cx.now.nodes c.run_candidate.new.cx.nodes c.args.table.now.entries c.args.values.now went.extends c.requires.values in
-    run_replies c.start_snapshot.new.self c.args.table.now c.run_candidate.new.table h c.args.table.now.mode c.args.depth c.args.candidate.now (trees_of c.args.cx.now.nodes c.args.values.now) _ (r.told s) o.mode o.entries
-    (said_of (told_or_plain c.in-Ok.certainty _ _ _ (rw trees at m.says)))
+    let refused : c.evaluate_added.result ≡ Err EvalError.NoSolution = search rules in
+    let later = heads_tell_later h (bound_of c.args.depth) c.requires.search i.runs.goes.extends i.searches tells in
+    refuse_more c.loop-added.table h c.args.table.now.mode c.args.goals.now _ c.requires.posed (among_get c.args.goals.now c.loop-added.added-index _ c.loop-added-test.true) i.runs.goes.extends (i.told s tells) c.step_kind_for_source-kind.ensures kind
+    (rw i.runs.goes.mode at (c.evaluate_added.ensures.refuted (Since-later i.runs.goes.extends s) later refused))
+
+pub evaluate_step-returns-in_err-answer-clause-runs : goal.evaluate_step-returns-in_err-answer-clause-runs
+evaluate_step-returns-in_err-answer-clause-runs g t c = Runs-trans c.loop-added.invariant.runs c.evaluate_added.ensures.runs
+
+pub evaluate_step-returns-in_err-answer-clause-searches : goal.evaluate_step-returns-in_err-answer-clause-searches
+evaluate_step-returns-in_err-answer-clause-searches g t c =
+    Searches-trans c.loop-added.invariant.searches c.evaluate_added.ensures.searches
+
+pub evaluate_step-returns-in_err-note-clause-runs : goal.evaluate_step-returns-in_err-note-clause-runs
+evaluate_step-returns-in_err-note-clause-runs g t c = Runs-trans c.loop-added.invariant.runs c.evaluate_added.ensures.runs
+
+pub evaluate_step-returns-in_err-note-clause-searches : goal.evaluate_step-returns-in_err-note-clause-searches
+evaluate_step-returns-in_err-note-clause-searches g t c =
+    Searches-trans c.loop-added.invariant.searches c.evaluate_added.ensures.searches
 
 pub probe_candidate-make_response-requires-clause-values : goal.probe_candidate-make_response-requires-clause-values
 probe_candidate-make_response-requires-clause-values g t c =
@@ -553,6 +974,14 @@ probe_candidate-make_response-requires-clause-values g t c =
     let goes = goes-back p.table r.runs.goes.extends back in
     args_later c.args.cx.now.nodes c.run_candidate.new.cx.nodes c.args.table.now.entries c.rollback_to-2.new.self.entries c.args.values.now goes.extends goes.continues c.requires.values
 
+pub probe_candidate-make_response-response-requires-clause-values : goal.probe_candidate-make_response-response-requires-clause-values
+probe_candidate-make_response-response-requires-clause-values g t c =
+    let p = c.requires.posed in
+    let o = c.in_ok-snapshot.ensures in
+    let r = c.in-Ok.ensures in
+    let went = went_in p.table o.entries o.saved o.mode r.runs.goes in
+    args_later c.args.cx.now.nodes c.run_candidate.new.cx.nodes c.args.table.now.entries c.run_candidate.new.table.entries c.args.values.now went.extends went.continues c.requires.values
+
 pub probe_candidate-returns-clause-found : goal.probe_candidate-returns-clause-found
 probe_candidate-returns-clause-found g t c =
     let p = c.requires.posed in
@@ -562,8 +991,12 @@ probe_candidate-returns-clause-found g t c =
     let m = c.in_ok-response-2.ensures in
     found_still c.in_ok-response-2.response c.in-Ok.certainty p.table r.runs.goes.extends c.terms_are_formed.ensures m.grows.extends c.requires.values m.certainty (not_kept (sym c.keeps_constraints.ensures ∙ c.if-keeps_constraints.false)) (rw back at m.says) m.holds (record { no_hidden = m.nothing.0; no_goals = m.nothing.1 })
 
+pub probe_candidate-returns-clause-searches : goal.probe_candidate-returns-clause-searches
+probe_candidate-returns-clause-searches g t c =
+    search_grown c.args.depth c.requires.search c.in-Ok.ensures.searches c.make_response.ensures.grows
+
 pub probe_candidate-returns-clause-told : goal.probe_candidate-returns-clause-told
-probe_candidate-returns-clause-told g t c = λ s.
+probe_candidate-returns-clause-told g t c = λ s tells.
     let p = c.requires.posed in
     let o = c.in_ok-snapshot.ensures in
     let r = c.in-Ok.ensures in
@@ -574,38 +1007,48 @@ probe_candidate-returns-clause-told g t c = λ s.
     let trees = trees_kept c.args.cx.now.nodes c.run_candidate.new.cx.nodes c.args.table.now.entries c.args.values.now went.extends c.requires.values in
     let still = content_of-extended r.runs.goes.extends p.table.now in
     let unsure = not_kept (sym c.keeps_constraints.ensures ∙ c.if-keeps_constraints.false) in
-    run_replies c.start_snapshot.new.self c.args.table.now c.run_candidate.new.table h c.args.table.now.mode c.args.depth c.args.candidate.now (trees_of c.args.cx.now.nodes c.args.values.now) _ (r.told s) o.mode o.entries
+    run_replies c.start_snapshot.new.self c.args.table.now c.run_candidate.new.table h c.args.table.now.mode c.args.candidate.now (trees_of c.args.cx.now.nodes c.args.values.now) _ (r.told s tells) o.mode o.entries
     (inr (inr (rw o.entries (plain_of c.in-Ok.certainty _ _ _ (rw (back, still, trees) at m.says) unsure))))
 
-pub run_candidate-returns-in_err-values-clause-refuted : goal.run_candidate-returns-in_err-values-clause-refuted
-run_candidate-returns-in_err-values-clause-refuted g t c = λ s n.
-    let no : c.equate.result ≡ Err EvalError.NoSolution = search rules in
-    is_unmet (c.equate.ensures.unmet no)
+pub probe_candidate-returns-in_err-response-2-clause-searches : goal.probe_candidate-returns-in_err-response-2-clause-searches
+probe_candidate-returns-in_err-response-2-clause-searches g t c =
+    search_grown c.args.depth c.requires.search c.in-Ok.ensures.searches c.make_response.ensures.grows
 
-pub run_candidate-record_constraints-requires-clause-posed : goal.run_candidate-record_constraints-requires-clause-posed
-run_candidate-record_constraints-requires-clause-posed g t c = IsPosed-later c.in_ok-values.ensures.runs.goes c.requires.posed
+pub probe_candidate-returns-in_err-response-clause-searches : goal.probe_candidate-returns-in_err-response-clause-searches
+probe_candidate-returns-in_err-response-clause-searches g t c =
+    search_grown c.args.depth c.requires.search c.in-Ok.ensures.searches c.make_response-response.ensures.grows
 
-pub run_candidate-record_constraints-requires-clause-constraints : goal.run_candidate-record_constraints-requires-clause-constraints
-run_candidate-record_constraints-requires-clause-constraints g t c =
-    let k = IsCandidate-extended c.in_ok-values.ensures.runs.goes.extends c.requires.posed.holds c.requires.candidate in
-    rw (c.deref.ensures.value, c.deref-3.ensures.value) k.constraints
+pub probe_candidate-returns-in_err-snapshot-clause-searches : goal.probe_candidate-returns-in_err-snapshot-clause-searches
+probe_candidate-returns-in_err-snapshot-clause-searches g t c =
+    Searches-refl c.args.depth c.requires.search (record { extends = Extends-refl _; rest = KeepsRest-refl _ })
 
-pub run_candidate-returns-in_err-record_constraints-clause-runs : goal.run_candidate-returns-in_err-record_constraints-clause-runs
-run_candidate-returns-in_err-record_constraints-clause-runs g t c = Runs-trans c.in_ok-values.ensures.runs c.record_constraints.ensures.runs
+pub probe_candidate-returns-then-keeps_constraints-clause-found : goal.probe_candidate-returns-then-keeps_constraints-clause-found
+probe_candidate-returns-then-keeps_constraints-clause-found g t c =
+    let p = c.requires.posed in
+    let o = c.in_ok-snapshot.ensures in
+    let r = c.in-Ok.ensures in
+    let went = went_in p.table o.entries o.saved o.mode r.runs.goes in
+    let m = c.in_ok-response.ensures in
+    let now = search_later c.args.depth c.args.depth (omega arith) c.requires.search r.searches in
+    let covers = covers_grown c.args.depth now m.grows in
+    found_in c.in_ok-response.field-0 c.in-Ok.certainty went c.terms_are_formed.ensures m.grows.extends (rw o.entries at r.labels) c.requires.values m.certainty m.says m.holds (record { no_hidden = m.nothing.0; no_goals = m.nothing.1 })
+    (λ y s offered. served_more covers (rw o.mode at (r.proved s (rw o.mode offered) (ap Ok y))))
 
-pub run_candidate-returns-in_err-record_constraints-clause-refuted : goal.run_candidate-returns-in_err-record_constraints-clause-refuted
-run_candidate-returns-in_err-record_constraints-clause-refuted g t c = λ s n.
-    let v = c.in_ok-values.ensures in
-    let constraints = constraints-kept c.args.cx.now.nodes c.equate.new.cx.nodes c.args.candidate.now.fresh.items c.args.goal c.args.candidate.now.region_constraints.items v.runs.goes.extends c.requires.candidate.constraints in
-    let no : c.record_constraints.result ≡ Err EvalError.NoSolution = search rules in
-    breaks {t = c.args.table.now} {u = c.equate.new.table} (g.H.GoalHandler.handler s.base c.args.handler.now) c.args.table.now.mode c.args.depth c.args.candidate.now c.deref-2.result.now (rw c.deref-2.ensures.value v.equated) (rw c.deref-3.ensures.value at (c.record_constraints.ensures.no no)) constraints
+pub probe_candidate-returns-then-keeps_constraints-clause-searches : goal.probe_candidate-returns-then-keeps_constraints-clause-searches
+probe_candidate-returns-then-keeps_constraints-clause-searches g t c =
+    search_grown c.args.depth c.requires.search c.in-Ok.ensures.searches c.make_response-response.ensures.grows
 
-pub run_candidate-added_goals-requires-clause-posed : goal.run_candidate-added_goals-requires-clause-posed
-run_candidate-added_goals-requires-clause-posed g t c =
-    let v = c.in_ok-values.ensures in
-    let k = c.in_ok-record_constraints.ensures in
-    let there = Runs-trans v.runs k.runs in
-    IsPosed-later there.goes c.requires.posed
+pub probe_candidate-returns-then-keeps_constraints-clause-told : goal.probe_candidate-returns-then-keeps_constraints-clause-told
+probe_candidate-returns-then-keeps_constraints-clause-told g t c = λ s tells.
+    let p = c.requires.posed in
+    let o = c.in_ok-snapshot.ensures in
+    let r = c.in-Ok.ensures in
+    let went = went_in p.table o.entries o.saved o.mode r.runs.goes in
+    let m = c.in_ok-response.ensures in
+    let h = g.H.GoalHandler.handler s.base c.args.handler.now in
+    let trees = trees_kept c.args.cx.now.nodes c.run_candidate.new.cx.nodes c.args.table.now.entries c.args.values.now went.extends c.requires.values in
+    run_replies c.start_snapshot.new.self c.args.table.now c.run_candidate.new.table h c.args.table.now.mode c.args.candidate.now (trees_of c.args.cx.now.nodes c.args.values.now) _ (r.told s tells) o.mode o.entries
+    (said_of (told_or_plain c.in-Ok.certainty _ _ _ (rw trees at m.says)))
 
 pub run_candidate-added_goals-requires-clause-nested : goal.run_candidate-added_goals-requires-clause-nested
 run_candidate-added_goals-requires-clause-nested g t c =
@@ -615,74 +1058,26 @@ run_candidate-added_goals-requires-clause-nested g t c =
     let n = IsCandidate-extended there.goes.extends c.requires.posed.holds c.requires.candidate in
     rw (c.deref.ensures.value, c.deref-4.ensures.value) n.goals
 
+pub run_candidate-added_goals-requires-clause-posed : goal.run_candidate-added_goals-requires-clause-posed
+run_candidate-added_goals-requires-clause-posed g t c =
+    let v = c.in_ok-values.ensures in
+    let k = c.in_ok-record_constraints.ensures in
+    let there = Runs-trans v.runs k.runs in
+    IsPosed-later there.goes c.requires.posed
+
 pub run_candidate-added_goals-requires-clause-values : goal.run_candidate-added_goals-requires-clause-values
 run_candidate-added_goals-requires-clause-values g t c =
     let v = c.in_ok-values.ensures in
     let k = c.in_ok-record_constraints.ensures in
     rw (c.deref.ensures.value, c.deref-2.ensures.value) (AreValues-later k.runs.goes v.values)
 
-pub run_candidate-returns-in_err-goals-clause-runs : goal.run_candidate-returns-in_err-goals-clause-runs
-run_candidate-returns-in_err-goals-clause-runs g t c =
-    let v = c.in_ok-values.ensures in
-    let k = c.in_ok-record_constraints.ensures in
-    let there = Runs-trans v.runs k.runs in
-    let n = c.added_goals.ensures in
-    Runs-trans there (Runs-extends k.runs.goes.table n.grows.extends n.grows.rest)
+pub run_candidate-record_constraints-requires-clause-constraints : goal.run_candidate-record_constraints-requires-clause-constraints
+run_candidate-record_constraints-requires-clause-constraints g t c =
+    let k = IsCandidate-extended c.in_ok-values.ensures.runs.goes.extends c.requires.posed.holds c.requires.candidate in
+    rw (c.deref.ensures.value, c.deref-3.ensures.value) k.constraints
 
-pub run_candidate-try_evaluate_goals-requires : goal.run_candidate-try_evaluate_goals-requires
-run_candidate-try_evaluate_goals-requires g t c = λ κs k-1.
-    let v = c.in_ok-values.ensures in
-    let k = c.in_ok-record_constraints.ensures in
-    let there = Runs-trans v.runs k.runs in
-    let n = c.in_ok-goals.ensures in (
-      omega (arith, c.decreases),
-      (
-        k-1,
-        (
-          IsTable-extended n.grows.extends k.runs.goes.table,
-          (
-            n.added.posed,
-            g.met.H.GoalHandler.ready_kept _ _ _ c.requires.ready (Extends-trans there.goes.extends n.grows.extends),
-          ),
-        ),
-      ),
-    )
-
-pub run_candidate-returns-in_err-certainty-clause-runs : goal.run_candidate-returns-in_err-certainty-clause-runs
-run_candidate-returns-in_err-certainty-clause-runs g t c =
-    let v = c.in_ok-values.ensures in
-    let k = c.in_ok-record_constraints.ensures in
-    let there = Runs-trans v.runs k.runs in
-    let n = c.in_ok-goals.ensures in
-    let upto = Runs-trans there (Runs-extends k.runs.goes.table n.grows.extends n.grows.rest) in
-    Runs-trans upto c.try_evaluate_goals.ensures.runs
-
-pub run_candidate-returns-in_err-certainty-clause-refuted : goal.run_candidate-returns-in_err-certainty-clause-refuted
-run_candidate-returns-in_err-certainty-clause-refuted g t c = λ s no.
-    let v = c.in_ok-values.ensures in
-    let k = c.in_ok-record_constraints.ensures in
-    let there = Runs-trans v.runs k.runs in
-    let n = c.in_ok-goals.ensures in
-    let upto = Runs-trans there (Runs-extends k.runs.goes.table n.grows.extends n.grows.rest) in
-    let x = c.args.candidate.now in
-    let gs = c.in_ok-goals.goals.items in
-    let vs = c.deref-2.result.now in
-    let within : AllIn c.equate.new.cx.nodes c.deref-2.result.now = rw c.deref-2.ensures.value v.values.within in
-    let constraints = constraints-kept c.args.cx.now.nodes c.equate.new.cx.nodes x.fresh.items c.args.goal x.region_constraints.items v.runs.goes.extends c.requires.candidate.constraints in
-    let h = g.H.GoalHandler.handler s.base c.args.handler.now in
-    let mode = c.args.table.now.mode in
-    let since = Since-later (Extends-trans there.goes.extends n.grows.extends) s in
-    let refused : c.try_evaluate_goals.result ≡ Err EvalError.NoSolution = search rules in
-    ran_refused {t = c.args.table.now} {u = c.equate.new.table} {v = c.record_constraints.new.table} h mode c.args.depth c.args.goal x vs gs (rw c.deref-2.ensures.value v.equated) (rw (c.deref-3.ensures.value) at k.added) constraints c.requires.candidate.goals v.runs.goes.extends k.runs.goes.extends there.goes.extends n.grows.extends k.runs.goes.table within (rw c.deref-4.ensures.value at n.added.goals) (rw upto.goes.mode at (c.try_evaluate_goals.ensures.refuted since refused))
-
-pub run_candidate-returns-clause-runs : goal.run_candidate-returns-clause-runs
-run_candidate-returns-clause-runs g t c =
-    let v = c.in_ok-values.ensures in
-    let k = c.in_ok-record_constraints.ensures in
-    let there = Runs-trans v.runs k.runs in
-    let n = c.in_ok-goals.ensures in
-    let upto = Runs-trans there (Runs-extends k.runs.goes.table n.grows.extends n.grows.rest) in
-    Runs-trans upto c.in_ok-certainty.ensures.runs
+pub run_candidate-record_constraints-requires-clause-posed : goal.run_candidate-record_constraints-requires-clause-posed
+run_candidate-record_constraints-requires-clause-posed g t c = IsPosed-later c.in_ok-values.ensures.runs.goes c.requires.posed
 
 pub run_candidate-returns-clause-labels : goal.run_candidate-returns-clause-labels
 run_candidate-returns-clause-labels g t c =
@@ -718,21 +1113,36 @@ run_candidate-returns-clause-proved g t c = λ s offered y.
     let later = AreValues-later (Runs-trans k.runs steps).goes v.values in
     let same = map-kept c.record_constraints.new.cx.nodes z vs (AllIn-kept c.equate.new.cx.nodes c.record_constraints.new.cx.nodes vs within k.runs.goes.extends) steps.goes.extends in
     let goals = (rw c.deref-4.ensures.value at n.added.goals) ∙ added_is z c.args.goal x.fresh.items vs x.goals.items there.goes.extends c.requires.candidate.goals (sym same) in
-    let settled = rw upto.goes.mode at (e.proved since) in
+    let kind = goal_kind (meaning (g.H.GoalHandler.handler s.base c.args.handler.now) s.variances) (tree_at c.args.cx.now.nodes c.args.goal.predicate.node) in
+    let A = assumed_in c.try_evaluate_goals.new.cx.nodes c.try_evaluate_goals.new.graph in
+    let settled = rw (upto.goes.mode, c.goal_kind-kind.ensures.kind s.base s.variances) at (e.proved since) in
     let none = e.sure (ap Ok sure.1) in
-    let run : HasRun (meaning (g.H.GoalHandler.handler s.base c.args.handler.now) s.variances) (mode_of c.args.table.now.mode) (content_of c.try_evaluate_goals.new.cx.nodes c.try_evaluate_goals.new.table.entries) (candidate_of c.args.cx.now.nodes c.args.candidate.now) (map (tree_at c.try_evaluate_goals.new.cx.nodes) c.deref-2.result.now) = record {
+    let run : HasRun (meaning (g.H.GoalHandler.handler s.base c.args.handler.now) s.variances) (mode_of c.args.table.now.mode) (goal_kind (meaning (g.H.GoalHandler.handler s.base c.args.handler.now) s.variances) (tree_at c.args.cx.now.nodes c.args.goal.predicate.node)) (assumed_in c.try_evaluate_goals.new.cx.nodes c.try_evaluate_goals.new.graph) (content_of c.try_evaluate_goals.new.cx.nodes c.try_evaluate_goals.new.table.entries) (candidate_of c.args.cx.now.nodes c.args.candidate.now) (map (tree_at c.try_evaluate_goals.new.cx.nodes) c.deref-2.result.now) = record {
       sure = ap certainty_of sure.0;
       values = rw c.deref-2.ensures.value later.values;
       known = rw c.deref-2.ensures.value later.known;
       equations = rw c.deref-2.ensures.value (Equates-later c.args.cx.now.nodes c.in_ok-values.values.items x.equations.items (Runs-trans k.runs steps).goes v.values.within v.equal);
       constraints = Constrains-later c.args.cx.now.nodes vs x.region_constraints.items steps.goes (AllIn-kept c.equate.new.cx.nodes c.record_constraints.new.cx.nodes vs within k.runs.goes.extends) (rw (c.deref-3.ensures.value, constraints) at k.held);
-      goals = all_proved (meaning (g.H.GoalHandler.handler s.base c.args.handler.now) s.variances) (mode_of mode) (map (tree_at z) vs) (map (premise_of c.args.cx.now.nodes) x.goals.items) gs goals (all_posed gs n.added.posed) e.runs.goes c.terms_are_formed.ensures (proved_all _ gs none settled);
+      goals = all_proved (meaning (g.H.GoalHandler.handler s.base c.args.handler.now) s.variances) (mode_of mode) kind A (map (tree_at z) vs) (map (premise_of c.args.cx.now.nodes) x.goals.items) gs goals (all_posed gs n.added.posed) e.runs.goes c.terms_are_formed.ensures (proved_all _ gs none settled);
     } in
     rw (all.goes.extends.kept c.args.goal.param_env.node c.requires.posed.holds.env.within, all.goes.extends.kept c.args.goal.predicate.node c.requires.posed.holds.predicate.within)
-    (has_run h s.variances (mode_of mode) here seen (map (tree_at z) vs) (tree_at c.args.cx.now.nodes c.args.goal.param_env.node) (tree_at c.args.cx.now.nodes c.args.goal.predicate.node) (term_table c.terms_are_formed.ensures e.runs.goes.table) offered run)
+    (has_run h s.variances (mode_of mode) A here seen (map (tree_at z) vs) (tree_at c.args.cx.now.nodes c.args.goal.param_env.node) (tree_at c.args.cx.now.nodes c.args.goal.predicate.node) (term_table c.terms_are_formed.ensures e.runs.goes.table) offered run)
+
+pub run_candidate-returns-clause-runs : goal.run_candidate-returns-clause-runs
+run_candidate-returns-clause-runs g t c =
+    let v = c.in_ok-values.ensures in
+    let k = c.in_ok-record_constraints.ensures in
+    let there = Runs-trans v.runs k.runs in
+    let n = c.in_ok-goals.ensures in
+    let upto = Runs-trans there (Runs-extends k.runs.goes.table n.grows.extends n.grows.rest) in
+    Runs-trans upto c.in_ok-certainty.ensures.runs
+
+pub run_candidate-returns-clause-searches : goal.run_candidate-returns-clause-searches
+run_candidate-returns-clause-searches g t c =
+    search_then c.args.depth c.requires.search (grown (ran c.in_ok-values.ensures.runs) (grown (ran c.in_ok-record_constraints.ensures.runs) c.in_ok-goals.ensures.grows)) c.in_ok-certainty.ensures.searches
 
 pub run_candidate-returns-clause-told : goal.run_candidate-returns-clause-told
-run_candidate-returns-clause-told g t c = λ s.
+run_candidate-returns-clause-told g t c = λ s tells.
     let v = c.in_ok-values.ensures in
     let k = c.in_ok-record_constraints.ensures in
     let there = Runs-trans v.runs k.runs in
@@ -746,35 +1156,194 @@ run_candidate-returns-clause-told g t c = λ s.
     let h = g.H.GoalHandler.handler s.base c.args.handler.now in
     let mode = c.args.table.now.mode in
     let since = Since-later (Extends-trans there.goes.extends n.grows.extends) s in
-    ran_to {t = c.args.table.now} {u = c.equate.new.table} {v = c.record_constraints.new.table} h mode c.args.depth c.args.goal x vs gs (rw c.deref-2.ensures.value v.equated) (rw (c.deref-3.ensures.value) at k.added) constraints c.requires.candidate.goals v.runs.goes.extends k.runs.goes.extends there.goes.extends n.grows.extends k.runs.goes.table within (rw c.deref-4.ensures.value at n.added.goals) c.try_evaluate_goals.new.cx.nodes c.try_evaluate_goals.new.table (rw upto.goes.mode at (c.in_ok-certainty.ensures.told since))
+    ran_to {t = c.args.table.now} {u = c.equate.new.table} {v = c.record_constraints.new.table} h mode c.args.goal x vs gs (rw c.deref-2.ensures.value v.equated) (rw (c.deref-3.ensures.value) at k.added) constraints c.requires.candidate.goals v.runs.goes.extends k.runs.goes.extends there.goes.extends n.grows.extends k.runs.goes.table within (rw c.deref-4.ensures.value at n.added.goals) c.try_evaluate_goals.new.cx.nodes c.try_evaluate_goals.new.table (rw upto.goes.mode at (c.in_ok-certainty.ensures.told since (tell_grown h c.args.depth c.requires.search (grown (ran c.in_ok-values.ensures.runs) (grown (ran c.in_ok-record_constraints.ensures.runs) c.in_ok-goals.ensures.grows)) tells)))
+
+pub run_candidate-returns-in_err-certainty-clause-refuted : goal.run_candidate-returns-in_err-certainty-clause-refuted
+run_candidate-returns-in_err-certainty-clause-refuted g t c = λ s tells no.
+    let v = c.in_ok-values.ensures in
+    let k = c.in_ok-record_constraints.ensures in
+    let there = Runs-trans v.runs k.runs in
+    let n = c.in_ok-goals.ensures in
+    let upto = Runs-trans there (Runs-extends k.runs.goes.table n.grows.extends n.grows.rest) in
+    let x = c.args.candidate.now in
+    let gs = c.in_ok-goals.goals.items in
+    let vs = c.deref-2.result.now in
+    let within : AllIn c.equate.new.cx.nodes c.deref-2.result.now = rw c.deref-2.ensures.value v.values.within in
+    let constraints = constraints-kept c.args.cx.now.nodes c.equate.new.cx.nodes x.fresh.items c.args.goal x.region_constraints.items v.runs.goes.extends c.requires.candidate.constraints in
+    let h = g.H.GoalHandler.handler s.base c.args.handler.now in
+    let mode = c.args.table.now.mode in
+    let since = Since-later (Extends-trans there.goes.extends n.grows.extends) s in
+    let refused : c.try_evaluate_goals.result ≡ Err EvalError.NoSolution = search rules in
+    ran_refused {t = c.args.table.now} {u = c.equate.new.table} {v = c.record_constraints.new.table} h mode c.args.goal x vs gs (rw c.deref-2.ensures.value v.equated) (rw (c.deref-3.ensures.value) at k.added) constraints c.requires.candidate.goals v.runs.goes.extends k.runs.goes.extends there.goes.extends n.grows.extends k.runs.goes.table within (rw c.deref-4.ensures.value at n.added.goals) (rw upto.goes.mode at (c.try_evaluate_goals.ensures.refuted since (tell_grown h c.args.depth c.requires.search (grown (ran c.in_ok-values.ensures.runs) (grown (ran c.in_ok-record_constraints.ensures.runs) c.in_ok-goals.ensures.grows)) tells) (kind_asked c.goal_kind-kind.result (meaning h s.variances) (c.goal_kind-kind.ensures.kind s.base s.variances) c.requires.asked) refused))
+
+pub run_candidate-returns-in_err-certainty-clause-runs : goal.run_candidate-returns-in_err-certainty-clause-runs
+run_candidate-returns-in_err-certainty-clause-runs g t c =
+    let v = c.in_ok-values.ensures in
+    let k = c.in_ok-record_constraints.ensures in
+    let there = Runs-trans v.runs k.runs in
+    let n = c.in_ok-goals.ensures in
+    let upto = Runs-trans there (Runs-extends k.runs.goes.table n.grows.extends n.grows.rest) in
+    Runs-trans upto c.try_evaluate_goals.ensures.runs
+
+pub run_candidate-returns-in_err-certainty-clause-searches : goal.run_candidate-returns-in_err-certainty-clause-searches
+run_candidate-returns-in_err-certainty-clause-searches g t c =
+    search_then c.args.depth c.requires.search (grown (ran c.in_ok-values.ensures.runs) (grown (ran c.in_ok-record_constraints.ensures.runs) c.in_ok-goals.ensures.grows)) c.try_evaluate_goals.ensures.searches
+
+pub run_candidate-returns-in_err-goals-clause-runs : goal.run_candidate-returns-in_err-goals-clause-runs
+run_candidate-returns-in_err-goals-clause-runs g t c =
+    let v = c.in_ok-values.ensures in
+    let k = c.in_ok-record_constraints.ensures in
+    let there = Runs-trans v.runs k.runs in
+    let n = c.added_goals.ensures in
+    Runs-trans there (Runs-extends k.runs.goes.table n.grows.extends n.grows.rest)
+
+pub run_candidate-returns-in_err-goals-clause-searches : goal.run_candidate-returns-in_err-goals-clause-searches
+run_candidate-returns-in_err-goals-clause-searches g t c =
+    Searches-refl c.args.depth c.requires.search (grown (ran c.in_ok-values.ensures.runs) (grown (ran c.in_ok-record_constraints.ensures.runs) c.added_goals.ensures.grows))
+
+pub run_candidate-returns-in_err-record_constraints-clause-refuted : goal.run_candidate-returns-in_err-record_constraints-clause-refuted
+run_candidate-returns-in_err-record_constraints-clause-refuted g t c = λ s tells n.
+    let v = c.in_ok-values.ensures in
+    let constraints = constraints-kept c.args.cx.now.nodes c.equate.new.cx.nodes c.args.candidate.now.fresh.items c.args.goal c.args.candidate.now.region_constraints.items v.runs.goes.extends c.requires.candidate.constraints in
+    let no : c.record_constraints.result ≡ Err EvalError.NoSolution = search rules in
+    breaks {t = c.args.table.now} {u = c.equate.new.table} (g.H.GoalHandler.handler s.base c.args.handler.now) c.args.table.now.mode c.args.candidate.now c.deref-2.result.now (rw c.deref-2.ensures.value v.equated) (rw c.deref-3.ensures.value at (c.record_constraints.ensures.no no)) constraints
+
+pub run_candidate-returns-in_err-record_constraints-clause-runs : goal.run_candidate-returns-in_err-record_constraints-clause-runs
+run_candidate-returns-in_err-record_constraints-clause-runs g t c = Runs-trans c.in_ok-values.ensures.runs c.record_constraints.ensures.runs
+
+pub run_candidate-returns-in_err-record_constraints-clause-searches : goal.run_candidate-returns-in_err-record_constraints-clause-searches
+run_candidate-returns-in_err-record_constraints-clause-searches g t c =
+    Searches-refl c.args.depth c.requires.search (grown (ran c.in_ok-values.ensures.runs) (ran c.record_constraints.ensures.runs))
+
+pub run_candidate-returns-in_err-values-clause-refuted : goal.run_candidate-returns-in_err-values-clause-refuted
+run_candidate-returns-in_err-values-clause-refuted g t c = λ s tells n.
+    let no : c.equate.result ≡ Err EvalError.NoSolution = search rules in
+    is_unmet (c.equate.ensures.unmet no)
+
+pub run_candidate-returns-in_err-values-clause-searches : goal.run_candidate-returns-in_err-values-clause-searches
+run_candidate-returns-in_err-values-clause-searches g t c =
+    Searches-refl c.args.depth c.requires.search (ran c.equate.ensures.runs)
+
+pub run_candidate-try_evaluate_goals-requires : goal.run_candidate-try_evaluate_goals-requires
+run_candidate-try_evaluate_goals-requires g t c = λ κs k-1.
+    let v = c.in_ok-values.ensures in
+    let k = c.in_ok-record_constraints.ensures in
+    let there = Runs-trans v.runs k.runs in
+    let n = c.in_ok-goals.ensures in (
+      omega (arith, c.decreases),
+      (
+        k-1,
+        (
+          IsTable-extended n.grows.extends k.runs.goes.table,
+          (
+            n.added.posed,
+            (
+              g.met.H.GoalHandler.ready_kept _ _ _ c.requires.ready (Extends-trans there.goes.extends n.grows.extends),
+              search_grows c.args.depth c.args.depth (omega arith) c.requires.search (grown (ran c.in_ok-values.ensures.runs) (grown (ran c.in_ok-record_constraints.ensures.runs) c.in_ok-goals.ensures.grows)),
+            ),
+          ),
+        ),
+      ),
+    )
+
+pub search-evaluate_rounds-answer-requires : goal.search-evaluate_rounds-answer-requires
+search-evaluate_rounds-answer-requires g t c =
+    λ κs k. (
+      omega (arith, c.decreases),
+      (
+        k,
+        (
+          c.requires.input,
+          (
+            c.requires.ready,
+            search_later (c.args.depth + 1) (c.args.depth + 1) (omega arith) c.requires.search (search_marked (c.args.depth + 1) false c.requires.search),
+          ),
+        ),
+      ),
+    )
+
+pub search-returns-in-Some-clause-proved : goal.search-returns-in-Some-clause-proved
+search-returns-in-Some-clause-proved g t c =
+    λ s. ok_two c.answer_cycle.result (λ r fits usable sure. cycle_derived (meaning_since (λ ts. g.H.GoalHandler.handler ts c.args.handler.now) s) (mode_of c.args.input.typing_mode) (passed (path_kind_of c.args.step) (assumed_in c.answer_cycle.new.cx.nodes c.answer_cycle.new.graph)) c.args.cx.now.nodes c.answer_cycle.new.cx.nodes c.args.input r c.requires.input fits (usable sure)) c.answer_cycle.ensures.fits c.answer_cycle.ensures.usable
+
+pub search-returns-in-Some-clause-refuted : goal.search-returns-in-Some-clause-refuted
+search-returns-in-Some-clause-refuted g t c =
+    λ s tells no. cycle_refuted (g.H.GoalHandler.handler s.base c.args.handler.now) c.in-Some.head (c.args.depth + 1) c.args.input c.requires.search c.answer_cycle.ensures.grows c.in-Some.ensures.found tells (c.answer_cycle.ensures.none no)
+
+pub search-returns-in-Some-clause-told : goal.search-returns-in-Some-clause-told
+search-returns-in-Some-clause-told g t c =
+    λ s tells. IfOk-map c.answer_cycle.result (λ r x. cycle_told (g.H.GoalHandler.handler s.base c.args.handler.now) c.in-Some.head (c.args.depth + 1) c.args.input c.requires.search c.answer_cycle.ensures.grows c.in-Some.ensures.found tells r x) c.answer_cycle.ensures.some
+
+pub try_evaluate_goals-evaluate_step-requires : goal.try_evaluate_goals-evaluate_step-requires
+try_evaluate_goals-evaluate_step-requires g t c =
+    λ κs k.
+    let i = c.loop-step.invariant in (
+      omega (arith, c.decreases),
+      (
+        k,
+        (
+          i.runs.goes.table,
+          (
+            rw c.deref.ensures.value i.posed,
+            (
+              g.met.H.GoalHandler.ready_kept _ _ _ c.requires.ready i.runs.goes.extends,
+              search_later (bound_of c.args.depth) (bound_of c.args.depth) (omega arith) c.requires.search i.searches,
+            ),
+          ),
+        ),
+      ),
+    )
 
 pub try_evaluate_goals-loop-step-init : goal.try_evaluate_goals-loop-step-init
 try_evaluate_goals-loop-step-init g t c = record {
   runs = Runs-refl c.requires.table;
+  searches = Searches-refl (bound_of c.args.depth) c.requires.search (record { extends = Extends-refl _; rest = KeepsRest-refl _ });
   steps = omega arith;
   posed = c.requires.posed;
   left = λ y i. i;
   labels = only-refl _ _;
   proved = λ s y i. inl i;
-  told = λ s. asks_nothing;
+  told = λ s tells. asks_nothing;
 }
 
-pub try_evaluate_goals-returns-in_err-stepped-clause-runs : goal.try_evaluate_goals-returns-in_err-stepped-clause-runs
-try_evaluate_goals-returns-in_err-stepped-clause-runs g t c = Runs-trans c.loop-step.invariant.runs c.evaluate_step.ensures.runs
+pub try_evaluate_goals-loop-step-preserved : goal.try_evaluate_goals-loop-step-preserved
+try_evaluate_goals-loop-step-preserved g t c =
+    let i = c.loop-step.invariant in
+    let e = c.in_ok-stepped.ensures in
+    record {
+      runs = Runs-trans i.runs e.runs;
+      searches = Searches-trans i.searches e.searches;
+      steps = omega (arith, c.loop-step-test.true, c.step_limit-step-end.ensures);
+      posed = e.posed;
+      left = left_trans c.args.goals.now.items c.loop-step.goals.items c.in_ok-stepped.stepped.left.items i.left (rw c.deref.ensures.value at e.left);
+      labels = only-trans i.labels (only_left c.args.goals.now.items c.loop-step.goals.items i.runs.goes.extends c.requires.posed i.left (rw c.deref.ensures.value at e.labels));
+      proved = λ s.
+          let i = c.loop-step.invariant in
+          let e = c.in_ok-stepped.ensures in
+          settled_step (assumed_in c.loop-step.cx.nodes c.loop-step.graph) (assumed_in c.evaluate_step.new.cx.nodes c.evaluate_step.new.graph) (λ ts. g.H.GoalHandler.handler ts c.args.handler.now) s c.args.table.now.mode (goal_kind_of c.args.kind) c.args.goals.now.items c.loop-step.goals.items c.in_ok-stepped.stepped.left.items c.requires.posed i.runs.goes.extends e.runs.goes (search_covers (bound_of c.args.depth) (search_later (bound_of c.args.depth) (bound_of c.args.depth) (omega arith) c.requires.search i.searches) e.runs.goes.extends e.searches) (i.proved s) (rw (i.runs.goes.mode, c.deref.ensures.value) at (e.proved (Since-later i.runs.goes.extends s)));
+      told = λ s tells.
+          let i = c.loop-step.invariant in
+          let e = c.in_ok-stepped.ensures in
+          reach_step c.loop-step.table (g.H.GoalHandler.handler s.base c.args.handler.now) c.args.table.now.mode c.args.goals.now.items c.loop-step.goals.items c.requires.posed i.left i.runs.goes.extends (i.told s tells) c.evaluate_step.new.cx.nodes c.evaluate_step.new.table (rw (i.runs.goes.mode, c.deref.ensures.value) at (e.told (Since-later i.runs.goes.extends s) (heads_tell_later (g.H.GoalHandler.handler s.base c.args.handler.now) (bound_of c.args.depth) c.requires.search i.runs.goes.extends i.searches tells)));
+    }
 
 pub try_evaluate_goals-returns-in_err-stepped-clause-posed : goal.try_evaluate_goals-returns-in_err-stepped-clause-posed
 try_evaluate_goals-returns-in_err-stepped-clause-posed g t c = posed_later c.loop-step.goals.items c.evaluate_step.ensures.runs.goes c.loop-step.invariant.posed
 
 pub try_evaluate_goals-returns-in_err-stepped-clause-refuted : goal.try_evaluate_goals-returns-in_err-stepped-clause-refuted
-try_evaluate_goals-returns-in_err-stepped-clause-refuted g t c = λ s n.
+try_evaluate_goals-returns-in_err-stepped-clause-refuted g t c = λ s tells kind n.
     let i = c.loop-step.invariant in
     let h = g.H.GoalHandler.handler s.base c.args.handler.now in
     let refused : c.evaluate_step.result ≡ Err EvalError.NoSolution = search rules in
-    refuse_step c.loop-step.table h c.args.table.now.mode (bound_of c.args.depth) c.args.goals.now.items c.loop-step.goals.items c.requires.posed i.left i.runs.goes.extends (i.told s)
-    (rw (i.runs.goes.mode, c.deref.ensures.value) at (c.evaluate_step.ensures.refuted (Since-later i.runs.goes.extends s) refused))
+    refuse_step c.loop-step.table h c.args.table.now.mode c.args.goals.now.items c.loop-step.goals.items c.requires.posed i.left i.runs.goes.extends (i.told s tells)
+    (rw (i.runs.goes.mode, c.deref.ensures.value) at (c.evaluate_step.ensures.refuted (Since-later i.runs.goes.extends s) (heads_tell_later (g.H.GoalHandler.handler s.base c.args.handler.now) (bound_of c.args.depth) c.requires.search i.runs.goes.extends i.searches tells) kind refused))
 
-pub try_evaluate_goals-returns-then-not-stepped-clause-runs : goal.try_evaluate_goals-returns-then-not-stepped-clause-runs
-try_evaluate_goals-returns-then-not-stepped-clause-runs g t c = Runs-trans c.loop-step.invariant.runs c.in_ok-stepped.ensures.runs
+pub try_evaluate_goals-returns-in_err-stepped-clause-runs : goal.try_evaluate_goals-returns-in_err-stepped-clause-runs
+try_evaluate_goals-returns-in_err-stepped-clause-runs g t c = Runs-trans c.loop-step.invariant.runs c.evaluate_step.ensures.runs
+
+pub try_evaluate_goals-returns-in_err-stepped-clause-searches : goal.try_evaluate_goals-returns-in_err-stepped-clause-searches
+try_evaluate_goals-returns-in_err-stepped-clause-searches g t c =
+    Searches-trans c.loop-step.invariant.searches c.evaluate_step.ensures.searches
 
 pub try_evaluate_goals-returns-then-not-stepped-clause-labels : goal.try_evaluate_goals-returns-then-not-stepped-clause-labels
 try_evaluate_goals-returns-then-not-stepped-clause-labels g t c =
@@ -785,30 +1354,17 @@ pub try_evaluate_goals-returns-then-not-stepped-clause-proved : goal.try_evaluat
 try_evaluate_goals-returns-then-not-stepped-clause-proved g t c = λ s.
     let i = c.loop-step.invariant in
     let e = c.in_ok-stepped.ensures in
-    settled_step (λ ts. g.H.GoalHandler.handler ts c.args.handler.now) s c.args.table.now.mode c.args.goals.now.items c.loop-step.goals.items c.in_ok-stepped.stepped.left.items c.requires.posed i.runs.goes.extends e.runs.goes (i.proved s) (rw (i.runs.goes.mode, c.deref.ensures.value) at (e.proved (Since-later i.runs.goes.extends s)))
+    settled_step (assumed_in c.loop-step.cx.nodes c.loop-step.graph) (assumed_in c.evaluate_step.new.cx.nodes c.evaluate_step.new.graph) (λ ts. g.H.GoalHandler.handler ts c.args.handler.now) s c.args.table.now.mode (goal_kind_of c.args.kind) c.args.goals.now.items c.loop-step.goals.items c.in_ok-stepped.stepped.left.items c.requires.posed i.runs.goes.extends e.runs.goes (search_covers (bound_of c.args.depth) (search_later (bound_of c.args.depth) (bound_of c.args.depth) (omega arith) c.requires.search i.searches) e.runs.goes.extends e.searches) (i.proved s) (rw (i.runs.goes.mode, c.deref.ensures.value) at (e.proved (Since-later i.runs.goes.extends s)))
+
+pub try_evaluate_goals-returns-then-not-stepped-clause-runs : goal.try_evaluate_goals-returns-then-not-stepped-clause-runs
+try_evaluate_goals-returns-then-not-stepped-clause-runs g t c = Runs-trans c.loop-step.invariant.runs c.in_ok-stepped.ensures.runs
+
+pub try_evaluate_goals-returns-then-not-stepped-clause-searches : goal.try_evaluate_goals-returns-then-not-stepped-clause-searches
+try_evaluate_goals-returns-then-not-stepped-clause-searches g t c =
+    Searches-trans c.loop-step.invariant.searches c.in_ok-stepped.ensures.searches
 
 pub try_evaluate_goals-returns-then-not-stepped-clause-told : goal.try_evaluate_goals-returns-then-not-stepped-clause-told
-try_evaluate_goals-returns-then-not-stepped-clause-told g t c = λ s.
+try_evaluate_goals-returns-then-not-stepped-clause-told g t c = λ s tells.
     let i = c.loop-step.invariant in
     let e = c.in_ok-stepped.ensures in
-    reach_step c.loop-step.table (g.H.GoalHandler.handler s.base c.args.handler.now) c.args.table.now.mode (bound_of c.args.depth) c.args.goals.now.items c.loop-step.goals.items c.requires.posed i.left i.runs.goes.extends (i.told s) c.evaluate_step.new.cx.nodes c.evaluate_step.new.table (rw (i.runs.goes.mode, c.deref.ensures.value) at (e.told (Since-later i.runs.goes.extends s)))
-
-pub try_evaluate_goals-loop-step-preserved : goal.try_evaluate_goals-loop-step-preserved
-try_evaluate_goals-loop-step-preserved g t c =
-    let i = c.loop-step.invariant in
-    let e = c.in_ok-stepped.ensures in
-    record {
-      runs = Runs-trans i.runs e.runs;
-      steps = omega (arith, c.loop-step-test.true, c.step_limit-step-end.ensures);
-      posed = e.posed;
-      left = left_trans c.args.goals.now.items c.loop-step.goals.items c.in_ok-stepped.stepped.left.items i.left (rw c.deref.ensures.value at e.left);
-      labels = only-trans i.labels (only_left c.args.goals.now.items c.loop-step.goals.items i.runs.goes.extends c.requires.posed i.left (rw c.deref.ensures.value at e.labels));
-      proved = λ s.
-          let i = c.loop-step.invariant in
-          let e = c.in_ok-stepped.ensures in
-          settled_step (λ ts. g.H.GoalHandler.handler ts c.args.handler.now) s c.args.table.now.mode c.args.goals.now.items c.loop-step.goals.items c.in_ok-stepped.stepped.left.items c.requires.posed i.runs.goes.extends e.runs.goes (i.proved s) (rw (i.runs.goes.mode, c.deref.ensures.value) at (e.proved (Since-later i.runs.goes.extends s)));
-      told = λ s.
-          let i = c.loop-step.invariant in
-          let e = c.in_ok-stepped.ensures in
-          reach_step c.loop-step.table (g.H.GoalHandler.handler s.base c.args.handler.now) c.args.table.now.mode (bound_of c.args.depth) c.args.goals.now.items c.loop-step.goals.items c.requires.posed i.left i.runs.goes.extends (i.told s) c.evaluate_step.new.cx.nodes c.evaluate_step.new.table (rw (i.runs.goes.mode, c.deref.ensures.value) at (e.told (Since-later i.runs.goes.extends s)));
-    }
+    reach_step c.loop-step.table (g.H.GoalHandler.handler s.base c.args.handler.now) c.args.table.now.mode c.args.goals.now.items c.loop-step.goals.items c.requires.posed i.left i.runs.goes.extends (i.told s tells) c.evaluate_step.new.cx.nodes c.evaluate_step.new.table (rw (i.runs.goes.mode, c.deref.ensures.value) at (e.told (Since-later i.runs.goes.extends s) (heads_tell_later (g.H.GoalHandler.handler s.base c.args.handler.now) (bound_of c.args.depth) c.requires.search i.runs.goes.extends i.searches tells)))

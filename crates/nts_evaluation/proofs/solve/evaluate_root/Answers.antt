@@ -4,7 +4,15 @@ use Rattle.nts_unify.specs.Lawful.{content_of-extended}
 use Rattle.nts_evaluation.proofs.Running.{unread}
 use Rattle.nts_evaluation.proofs.Evaluating.{Goes-trans, Goes-extends, Runs-trans, Runs-extends, Since-later}
 use Rattle.nts_evaluation.proofs.AskedGoals.{evaluates_at}
+use Rattle.std.proofs.Common.{subst, ◌⊎◌, inl, inr}
+use Rattle.nts_certainty.specs.declared.sources.PathKind.TheVariants as path
+use Rattle.nts_delegate.specs.Offered.{path_kind_of}
+use Rattle.nts_evaluation.specs.Meant.{IsProvedFromSince}
+use Rattle.nts_evaluation.proofs.Rounds.{search_begun, tell_begun, nothing_left, not_cut}
 use Rattle.nts_evaluation.proofs.solve.evaluate_root.Goals as goal
+
+pub evaluate_goal-requires-clause-search : goal.evaluate_goal-requires-clause-search
+evaluate_goal-requires-clause-search g c = search_begun c.recursion_limit-depth.result c.new-graph.ensures.stack c.new-graph.ensures.empty c.new-graph.ensures.root_depth c.new-graph.ensures.rounds
 
 pub returns-in_err-asked-clause-runs : goal.returns-in_err-asked-clause-runs
 returns-in_err-asked-clause-runs g c = Runs-extends c.requires.posed.table c.resolve_goal.ensures.grows.extends c.resolve_goal.ensures.grows.rest
@@ -29,20 +37,20 @@ returns-clause-proved g c = λ s y.
     let all = Goes-trans (Goes-extends c.requires.posed.table k.grows.extends) a.runs.goes in
     let env = a.runs.goes.extends.kept _ k.posed.holds.env.within ∙ k.env in
     let predicate = a.runs.goes.extends.kept _ k.posed.holds.predicate.within ∙ k.predicate in
+    let none = nothing_left c.evaluate_goal.new.cx.nodes (path_kind_of path.Unknown) c.new-graph.ensures.empty a.searches in
+    let proved = subst (λ A. IsProvedFromSince (λ ts. g.H.GoalHandler.handler ts c.args.handler.now) s c.args.table.now.mode A c.evaluate_goal.new.cx.nodes c.evaluate_goal.new.table c.in_ok-asked.asked) none (a.proved (Since-later k.grows.extends s) y) in
     rw (all.extends.kept c.args.goal.param_env.node c.requires.posed.holds.env.within, all.extends.kept c.args.goal.predicate.node c.requires.posed.holds.predicate.within)
-    (unread _ _ _ _ all env predicate c.requires.posed.knows.env c.requires.posed.knows.predicate (a.proved (Since-later k.grows.extends s) y))
+    (unread _ _ _ _ all env predicate c.requires.posed.knows.env c.requires.posed.knows.predicate proved)
 
 pub returns-clause-told : goal.returns-clause-told
 returns-clause-told g c = λ s.
     let k = c.in_ok-asked.ensures in
     let here = content_of-extended k.grows.extends c.requires.posed.table.now in
-    let limit = c.recursion_limit-depth.ensures ∙ k.grows.rest.limit in
-    rw (limit, here, k.env, k.predicate) at (c.in_ok-evaluated.ensures.told (Since-later k.grows.extends s))
+    rw (here, k.env, k.predicate) at (c.in_ok-evaluated.ensures.told (Since-later k.grows.extends s) (tell_begun c.new-graph.result (g.H.GoalHandler.handler s.base c.args.handler.now) c.resolve_goal.new.cx.nodes c.new-graph.ensures.empty))
 
 pub returns-in_err-evaluated-clause-refuted : goal.returns-in_err-evaluated-clause-refuted
 returns-in_err-evaluated-clause-refuted g c = λ s q.
     let k = c.in_ok-asked.ensures in
     let here = content_of-extended k.grows.extends c.requires.posed.table.now in
-    let limit = c.recursion_limit-depth.ensures ∙ k.grows.rest.limit in
     let refused : c.evaluate_goal.result ≡ Err EvalError.NoSolution = search rules in
-    rw (limit, here, k.env, k.predicate) at (c.evaluate_goal.ensures.refuted (Since-later k.grows.extends s) refused)
+    not_cut c.args.table.now.mode (rw (here, k.env, k.predicate) at (c.evaluate_goal.ensures.refuted (Since-later k.grows.extends s) (tell_begun c.new-graph.result (g.H.GoalHandler.handler s.base c.args.handler.now) c.resolve_goal.new.cx.nodes c.new-graph.ensures.empty) refused))

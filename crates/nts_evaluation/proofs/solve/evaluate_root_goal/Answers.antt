@@ -1,7 +1,7 @@
 use Rattle.std.proofs.Common.{[]}
 use Rattle.nts_store.proofs.Growing.{Extends-refl}
 use Rattle.nts_evaluation.proofs.Running.{Stays-now}
-use Rattle.nts_model.proofs.ProvedLater.{IsProved-held}
+use Rattle.nts_model.proofs.Rooted.{proved_held, proof_falls}
 use Rattle.nts_evaluation.proofs.Evaluating.{IsPosed-admitted, each_of}
 use Rattle.nts_evaluation.proofs.solve.evaluate_root_goal.Goals as goal
 
@@ -13,7 +13,23 @@ returns-clause-proved g c =
     let e = c.evaluate_root-evaluated.ensures in
     each_of c.evaluate_root-evaluated.result e.proved (λ a proved y v.
     let now = Stays-now c.terms_are_formed-2.ensures e.runs.goes.table (proved (record { base = c.args.cx.now.nodes; formed = c.terms_are_formed.ensures; extends = Extends-refl _; is_ready = c.requires.ready; variances = v }) y) in
-    IsProved-held _ _ _ _ _ e.runs.goes.table.now.sound now)
+    proved_held _ _ _ _ _ e.runs.goes.table.now.sound now)
+
+pub returns-clause-falls : goal.returns-clause-falls
+returns-clause-falls g c = λ none.
+    let e = c.evaluate_root-evaluated.ensures in
+    each_of c.evaluate_root-evaluated.result e.proved (λ a proved y v.
+    let now = Stays-now c.terms_are_formed-2.ensures e.runs.goes.table (proved (record { base = c.args.cx.now.nodes; formed = c.terms_are_formed.ensures; extends = Extends-refl _; is_ready = c.requires.ready; variances = v }) y) in
+    let held = proved_held _ _ _ _ _ e.runs.goes.table.now.sound now in
+    record {
+      sequent = held.sequent;
+      environment = held.environment;
+      predicate = held.predicate;
+      constraints = held.constraints;
+      no_hidden = held.no_hidden;
+      no_open_goals = held.no_open_goals;
+      proof = proof_falls _ _ _ none held.proof;
+    })
 
 pub returns-clause-told : goal.returns-clause-told
 returns-clause-told g c = c.evaluate_root-evaluated.ensures.told (record { base = c.args.cx.now.nodes; formed = c.terms_are_formed.ensures; extends = Extends-refl _; is_ready = c.requires.ready; variances = λ i. [] })

@@ -1,7 +1,7 @@
 use Rattle.std.proofs.Common.{refl}
 use Rattle.nts_unify.specs.Lawful.{content_of-extended}
 use Rattle.nts_evaluation.proofs.Evaluating.{Goes-extends, Runs-extends}
-use Rattle.nts_evaluation.proofs.Stepping.{settled_later}
+use Rattle.nts_evaluation.proofs.Stepping.{settled_after}
 use Rattle.nts_contexts.proofs.Frames.{keeps_refl, keeps_then, keeps_ran, none_after}
 use Rattle.nts_contexts.proofs.context.EvalCtxt.evaluate_added_goals_and_make_canonical_response.Goals as goal
 
@@ -34,7 +34,7 @@ returns-in-Ok-clause-proved g c = λ s.
     let e = c.in_ok-goals_certainty.ensures in
     let m = c.in-Ok.ensures in
     let k = e.keeps.runs in
-    settled_later {u = c.try_evaluate_added_goals.new.self.table.now} {v = c.try_evaluate_added_goals.new.self.table.now} (λ ts. g.H.GoalHandler.handler ts c.args.self.now.handler.now) s c.args.self.now.table.now.mode c.args.self.now.state.now.nested_goals.items c.try_evaluate_added_goals.new.self.state.now.nested_goals.items
+    settled_after {u = c.try_evaluate_added_goals.new.self.table.now} {v = c.try_evaluate_added_goals.new.self.table.now} (λ ts. g.H.GoalHandler.handler ts c.args.self.now.handler.now) s c.args.self.now.table.now.mode c.args.self.now.state.now.nested_goals.items c.try_evaluate_added_goals.new.self.state.now.nested_goals.items
     c.requires.ready.goals k.goes.extends (Goes-extends e.keeps.is_ready.table m.grows.extends) (e.proved s)
 
 pub returns-in-Ok-clause-says : goal.returns-in-Ok-clause-says

@@ -1,13 +1,25 @@
 use Rattle.std.proofs.Common.{ap, sym}
 use Rattle.nts_contexts.specs.declared.state.EvalState.{EvalState}
 use Rattle.nts_contexts.proofs.Frames.{keeps_refl}
+use Rattle.nts_model.specs.Rules.{other_goal}
+use Rattle.nts_delegate.proofs.Results.{OnOk-map}
+use Rattle.nts_evaluation.specs.Searching.{assumed_in}
+use Rattle.nts_evaluation.proofs.Searching.{nothing_assumed}
+use Rattle.nts_evaluation.proofs.Stepping.{settled_rooted}
+use Rattle.nts_evaluation.proofs.Rounds.{search_begun, tell_begun}
 use Rattle.nts_contexts.proofs.context.EvalCtxt.try_evaluate_added_goals.Goals as goal
+
+pub try_evaluate_goals-evaluated-requires-clause-search : goal.try_evaluate_goals-evaluated-requires-clause-search
+try_evaluate_goals-evaluated-requires-clause-search g c = search_begun c.args.self.now.state.now.root_depth c.new-graph.ensures.stack c.new-graph.ensures.empty c.new-graph.ensures.root_depth c.new-graph.ensures.rounds
 
 pub returns-in_err-check-clause-keeps : goal.returns-in_err-check-clause-keeps
 returns-in_err-check-clause-keeps g c = keeps_refl c.requires.ready
 
 pub returns-clause-proved : goal.returns-clause-proved
 returns-clause-proved g c = λ s.
+    let run = c.try_evaluate_goals-evaluated.ensures in
+    let none = nothing_assumed c.try_evaluate_goals-evaluated.new.cx.nodes c.new-graph.ensures.empty run.searches in
+    let rooted = OnOk-map c.try_evaluate_goals-evaluated.result (λ h. settled_rooted c.try_evaluate_goals-evaluated.new.cx.nodes c.try_evaluate_goals-evaluated.new.table (assumed_in c.try_evaluate_goals-evaluated.new.cx.nodes c.try_evaluate_goals-evaluated.new.graph) (λ ts. g.H.GoalHandler.handler ts c.args.self.now.handler.now) s c.args.self.now.table.now.mode other_goal c.take_goals-goals.result.items c.try_evaluate_goals-evaluated.new.goals.items none h) (run.proved s) in
     let left = sym (ap (λ (z : EvalState). z.nested_goals.items) c.end_steps.ensures.state) in
     let same = sym c.end_steps.ensures.same in
-    rw (c.take_goals-goals.ensures.goals, same, left) at (c.try_evaluate_goals-evaluated.ensures.proved s)
+    rw (c.take_goals-goals.ensures.goals, same, left) at rooted
