@@ -100,6 +100,76 @@ fn cycles_and_depths(rt: HostRuntime) {
 }
 
 #[test]
+fn coinductive_cycles(rt: HostRuntime) {
+    check(
+        &rt,
+        rt.alloc(),
+        &[
+            done(
+                b"trait Auto(type) coinductive\ntype List\nimpl Auto(List) <- Auto(List)\nmode coherence\ngoal Auto(List)\nmode analysis\ngoal Auto(List)\nmode postanalysis\ngoal Auto(List)\n",
+                b"yes\nyes\nyes\n",
+            ),
+            done(
+                b"trait Auto(type) coinductive\ntype A\ntype B\nimpl Auto(A) <- Auto(B)\nimpl Auto(B) <- Auto(A)\ngoal Auto(A)\ngoal Auto(B)\n",
+                b"yes\nyes\n",
+            ),
+            done(
+                b"trait Auto(type)\ntype A\ntype B\nimpl Auto(A) <- Auto(B)\nimpl Auto(B) <- Auto(A)\ngoal Auto(A)\ngoal Auto(B)\n",
+                b"maybe overflow\nmaybe overflow\n",
+            ),
+            // The first round answers yes at the cycle, and the second one sees that a condition is missing.
+            done(
+                b"trait Auto(type) coinductive\ntrait Clone(type)\ntype A\ntype B\nimpl Auto(A) <- Auto(B)\nimpl Auto(B) <- Auto(A), Clone(B)\ngoal Auto(A)\n",
+                b"no\n",
+            ),
+            // A head within a head within a head.
+            done(
+                b"trait Auto(type) coinductive\ntype A\ntype B\ntype C\nimpl Auto(A) <- Auto(B)\nimpl Auto(B) <- Auto(C), Auto(B)\nimpl Auto(C) <- Auto(C), Auto(B), Auto(A)\ngoal Auto(A)\n",
+                b"yes\n",
+            ),
+            done(
+                b"trait Auto(type) coinductive\ntrait Clone(type)\ntype A\ntype B\ntype C\nimpl Auto(A) <- Auto(B)\nimpl Auto(B) <- Auto(C), Auto(B)\nimpl Auto(C) <- Auto(C), Auto(B), Auto(A), Clone(C)\ngoal Auto(A)\n",
+                b"no\n",
+            ),
+            // A cycle through a trait that is not coinductive has one step that is, and that is enough.
+            done(
+                b"trait Auto(type) coinductive\ntrait Is(type)\ntype A\nimpl Auto(A) <- Is(A)\nimpl Is(A) <- Auto(A)\ngoal Auto(A)\ngoal Is(A)\n",
+                b"yes\nyes\n",
+            ),
+        ],
+    );
+}
+
+#[test]
+fn rounds(rt: HostRuntime) {
+    check(
+        &rt,
+        rt.alloc(),
+        &[
+            // The first round gives a value, and the second one refuses it.
+            done(
+                b"trait Auto(type) coinductive\ntrait Is(type)\ntype W(type, type)\nimpl Auto(W(?X, u32)) <- Auto(W(?X, ?Y)), Is(?Y)\nimpl Is(u8)\ngoal Auto(W(u32, ?y))\n",
+                b"no\n",
+            ),
+            // Each round adds one type more, until there were eight.
+            done(
+                b"trait Auto(type) coinductive\ntype V(type)\nimpl Auto(V(?X)) <- Auto(?X)\ngoal Auto(?x)\n",
+                b"maybe overflow\n",
+            ),
+            done(
+                b"trait Clone(type)\ntype Vec(type)\nimpl Clone(Vec(?T)) <- Clone(?T)\ngoal Clone(?x)\n",
+                b"maybe overflow\n",
+            ),
+            // The goal grows at each turn, so that it never comes back.
+            done(
+                b"trait Auto(type) coinductive\ntype W(type)\nimpl Auto(W(?X)) <- Auto(W(W(?X)))\ndepth 4\ngoal Auto(W(u32))\ndepth 0\ngoal Auto(W(u32))\ndepth 1\ngoal Auto(W(u32))\n",
+                b"maybe overflow\nmaybe overflow\nmaybe overflow\n",
+            ),
+        ],
+    );
+}
+
+#[test]
 fn regions(rt: HostRuntime) {
     check(
         &rt,

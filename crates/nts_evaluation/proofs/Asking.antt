@@ -1,7 +1,7 @@
 -- Which goals are asked of a handler.
 use Rattle.std.proofs.Common.{◌≡◌, inl, inr, ℕ, suc, ◌<◌, ◌≤◌, ◌||◌, Bool, true, false, List, is_some, refl, sym, ap, ◌∙◌, subst, arith}
 use Rattle.std.specs.Prelude.{◌≢◌, if◌then◌else◌}
-use Rattle.nts_model.specs.Rules.{Meaning, GoalKind, coinductive_trait, other_goal, normalization, statement_kind, statement_of, goal_kind}
+use Rattle.nts_model.specs.Rules.{Meaning, coinductive_trait, other_goal, normalization, statement_kind, statement_of, goal_kind}
 use Rattle.nts_search.specs.declared.kinds.CurrentGoalKind.{CurrentGoalKind}
 use Rattle.nts_search.specs.declared.kinds.CurrentGoalKind.TheVariants as kinds
 use Rattle.nts_search.specs.Kinds.{goal_kind_of}

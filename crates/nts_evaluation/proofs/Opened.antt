@@ -23,7 +23,6 @@ use Rattle.nts_model.specs.Sequents.{Among}
 use Rattle.nts_model.specs.Rules.{Mode}
 use Rattle.nts_model.specs.Handlers as handlers
 use Rattle.nts_model.specs.Handlers.{Handler, meaning, IsLawful}
-use Rattle.nts_model.specs.Proving.{IsProved}
 use Rattle.nts_model.proofs.Slots.{KeepsKinds, Knows-kept}
 use Rattle.nts_model.proofs.Fitting.{IsClosed-under}
 use Rattle.nts_model.proofs.OpenedProofs.{by_entered_candidate}

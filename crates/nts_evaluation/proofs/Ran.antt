@@ -1,5 +1,5 @@
 -- A candidate that is run: what its parts left, put together.
-use Rattle.std.proofs.Common.{◌≡◌, ⊎_elim, inl, inr, ℕ, List, [], ◌∷◌, map, refl, ap, ◌∙◌, subst}
+use Rattle.std.proofs.Common.{◌≡◌, ⊎_elim, inl, inr, List, [], ◌∷◌, map, refl, ap, ◌∙◌, subst}
 use Rattle.std.specs.Prelude.{Result, Ok}
 use Rattle.nts_delegate.specs.Offered.{source_of}
 use Rattle.nts_model.specs.Sequents.{Source}

@@ -1,5 +1,5 @@
 -- A round of a query: its input is put on the stack, and taken off again; what the rounds come to, and what a cycle tells.
-use Rattle.std.proofs.Common.{◌≡◌, inl, inr, ℕ, zero, suc, ◌+◌, ◌<◌, List, [], ◌∷◌, ◌++◌, length, get_or, Option, Some, None, refl, sym, ap, ◌∙◌, subst, arith, length-append}
+use Rattle.std.proofs.Common.{◌≡◌, inl, inr, ℕ, ◌+◌, ◌<◌, List, [], ◌∷◌, ◌++◌, length, get_or, Option, Some, None, sym, ap, ◌∙◌, subst, arith, length-append}
 use Rattle.std.specs.Prelude.{All, max, ◌≤◌, Result, Ok, Err, IfOk, IfSome, ◌⊎◌, false}
 use Rattle.std.proofs.lemmas.List.Elements.{All-push, All-pop}
 use Rattle.nts_model.specs.Trees.{Tree}
@@ -41,7 +41,7 @@ use Rattle.nts_search.proofs.RoundEnds.{round_may_end}
 use Rattle.nts_evaluation.specs.Answering.{IsQueryInput, IsAnswerTo}
 use Rattle.nts_evaluation.specs.Telling.{QueryTells, QueryRefutes, SaysNothing}
 use Rattle.nts_evaluation.specs.Telling.Tells.{says_nothing}
-use Rattle.nts_evaluation.specs.Searching.{IsHeadAnswer, IsHead, IsSearch, IsLater, AreLater, Searches, assumed_in, IsAnswerTold, HeadsTell, IsCut, IsCopied, IsReadAt, HasNoneAt}
+use Rattle.nts_evaluation.specs.Searching.{IsHeadAnswer, IsHead, IsSearch, IsLater, AreLater, Searches, assumed_in, IsAnswerTold, HeadsTell, IsCut, IsReadAt, HasNoneAt}
 use Rattle.nts_evaluation.proofs.Probed.{response_same}
 use Rattle.nts_evaluation.proofs.Searching.{form_later, input_later, head_answer_later, later_itself, later_pushed, Searches-refl, Searches-trans, search_grows, search_later, search_counted, nothing_assumed, none_passed, answer_told_later, tell_grown}
 use Rattle.nts_evaluation.proofs.BackEdges.{by_answer, some_is_ok, copied_response, usable_derived}

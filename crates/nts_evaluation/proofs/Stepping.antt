@@ -1,5 +1,5 @@
 -- Goals that are evaluated in steps: what was asked so far, what is left, and what is proved.
-use Rattle.std.proofs.Common.{◌≡◌, ◌⊎◌, inl, inr, ⊎_elim, ℕ, zero, suc, ◌+◌, ◌<◌, ◌≤◌, List, [], ◌∷◌, ◌++◌, map, length, take, get_or, refl, sym, ap, ◌∙◌, subst, arith}
+use Rattle.std.proofs.Common.{◌≡◌, ◌⊎◌, inl, inr, ⊎_elim, ℕ, zero, suc, ◌+◌, ◌<◌, List, [], ◌∷◌, ◌++◌, map, length, take, get_or, refl, sym, ap, ◌∙◌, subst, arith}
 use Rattle.std.specs.Prelude.{All, ◌≢◌}
 use Rattle.std.proofs.lemmas.List.Elements.{All-head, All-tail}
 use Rattle.nts_model.specs.Sequents.{inductive}
@@ -23,7 +23,7 @@ use Rattle.nts_model.specs.Contents.{Content}
 use Rattle.nts_model.specs.Sequents.{Among, Premise}
 use Rattle.nts_model.specs.Passing.{BringsOnly}
 use Rattle.nts_model.specs.Resolving.{deeply_resolved}
-use Rattle.nts_model.specs.Handlers.{Candidate, Handler}
+use Rattle.nts_model.specs.Handlers.{Handler}
 use Rattle.nts_model.proofs.Answered.{among_left, among_right}
 use Rattle.nts_model.proofs.ByCandidate.{among_mapped}
 use Rattle.nts_certainty.specs.declared.certainty.Certainty.{Certainty}
@@ -42,8 +42,6 @@ use Rattle.nts_response.specs.Forms.{premise_at}
 use Rattle.nts_evaluation.specs.Evaluation.{Goes, IsPosed, asked_terms}
 use Rattle.nts_evaluation.specs.Stepping.{ArePosed, goals_at, terms_of, AreLeft, AreSettled, left_after}
 use Rattle.nts_evaluation.specs.Telling.{Reaches, RefusesOne, Asked, Refused}
-use Rattle.nts_evaluation.specs.Telling.Asked.{asked_by}
-use Rattle.nts_evaluation.specs.Telling.Refused.{by_query, by_response}
 use Rattle.nts_evaluation.specs.Telling.Reaches.{asks_nothing, then_asks}
 use Rattle.nts_evaluation.specs.Telling.RefusesOne.{refuses_one}
 use Rattle.nts_evaluation.specs.Meant.{Since, IsProvedSince, IsProvedFromSince, IsAskedUnder, IsRefusedUnder, ReachesBy, RefusesOneOf}

@@ -64,37 +64,14 @@ use Rattle.nts_evaluation.specs.Found.{Found}
 use Rattle.nts_model.specs.Responses.{answer_sequent}
 use Rattle.nts_evaluation.proofs.Rounds.{search_noted, own_asked, own_form, entry_held, round_proved, round_told, grown, ran, search_then, entry_of, holds_answer, search_pushed, tell_pushed, search_same, search_popped, round_closes, last_fits, last_told, last_refuted, last_each, cycle_told, cycle_refuted, cycle_derived}
 use Rattle.nts_evaluation.proofs.evaluate.+evaluate.Goals as goal
+use Rattle.nts_evaluation.proofs.evaluate.+evaluate.Answers.Queries as queries
+use Rattle.nts_evaluation.proofs.evaluate.+evaluate.Answers.Candidates as candidates
+
+mod Queries
+mod Candidates
 
 pub compute_goal-evaluate_candidates-response-requires : goal.compute_goal-evaluate_candidates-response-requires
-compute_goal-evaluate_candidates-response-requires g t c = λ κs k.
-    let o = c.in_ok-opened.ensures in
-    let e = c.in_ok-candidates.ensures in
-    let m = c.in_ok-kept.ensures in
-    let posed = rw c.in-Some.is at o.posed in
-    let more = Extends-trans e.grows.extends m.grows.extends in
-    let goes = goes-back o.goes.table more m.same in
-    let all = Goes-trans o.goes goes in (
-      omega (arith, c.decreases),
-      (
-        k,
-        (
-          IsPosed-later goes posed,
-          (
-            IsAskedGoal-extended more (c.is_candidates_goal.ensures c.if-not-is_candidates_goal.false),
-            (
-              g.met.H.GoalHandler.ready_kept _ _ _ c.requires.ready (Extends-trans o.grows.extends more),
-              (
-                rw c.deref.ensures.value (kept_candidates m.kept m.grows.extends (HoldsGoal-extended e.grows.extends posed.holds) e.candidates),
-                (
-                  args_later c.args.cx.now.nodes c.keep_met.new.cx.nodes c.args.table.now.entries c.keep_met.new.table.entries c.args.values.now all.extends all.continues c.requires.values,
-                  search_grows c.args.depth c.args.depth (omega arith) c.requires.search (grown o.grows (grown e.grows m.grows)),
-                ),
-              ),
-            ),
-          ),
-        ),
-      ),
-    )
+compute_goal-evaluate_candidates-response-requires = candidates.compute_goal-evaluate_candidates-response-requires
 
 pub compute_goal-keep_met-requires-clause-posed : goal.compute_goal-keep_met-requires-clause-posed
 compute_goal-keep_met-requires-clause-posed g t c =
@@ -112,83 +89,17 @@ compute_goal-make_response-requires-then-not-is_candidates_goal-clause-values g 
     args_later c.args.cx.now.nodes c.enter_forall.new.cx.nodes c.args.table.now.entries c.enter_forall.new.table.entries c.args.values.now o.goes.extends o.goes.continues c.requires.values
 
 pub compute_goal-returns-clause-found : goal.compute_goal-returns-clause-found
-compute_goal-returns-clause-found g t c =
-    let o = c.in_ok-opened.ensures in
-    let e = c.in_ok-candidates.ensures in
-    let m = c.in_ok-kept.ensures in
-    let more = Extends-trans e.grows.extends m.grows.extends in
-    let up = Extends-trans o.grows.extends e.grows.extends in
-    let all = Extends-trans o.grows.extends more in
-    let opened = rw c.in-Some.is at o.opened in
-    let posed = rw c.in-Some.is at o.posed in
-    let both = trees_kept c.args.cx.now.nodes c.keep_met.new.cx.nodes c.args.table.now.entries c.args.values.now all c.requires.values in
-    let goes = Goes-extends o.goes.table more in
-    IfOk-map c.evaluate_candidates-response.result
-    (λ r f. record {
-      store = f.store;
-      after = f.after;
-      formed = f.formed;
-      goes = Goes-trans o.goes (Goes-trans goes f.goes);
-      labels = labels_through c.requires.posed opened o.grows.extends (only_back {g = c.in-Some.opened} more o.goes.table posed.holds f.labels);
-      extends = f.extends;
-      says = rw both at f.says;
-      holds = f.holds;
-      no_more = f.no_more;
-      sure = λ y s.
-          let h = g.H.GoalHandler.handler s.base c.args.handler.now in
-          let same = g.met.H.GoalHandler.handler_kept s.base c.candidates.new.cx.nodes c.args.handler.now s.is_ready (Extends-trans s.extends up) in
-          let offered = e.offered ∙ ap (λ m. (g.H.GoalHandler.handler c.candidates.new.cx.nodes c.args.handler.now).offers (mode_of m) (tree_at c.candidates.new.cx.nodes c.in-Some.opened.param_env.node) (tree_at c.candidates.new.cx.nodes c.in-Some.opened.predicate.node)) c.typing_mode.ensures ∙ same.offers _ _ _ in
-          let law = g.met.H.GoalHandler.lawful s.base c.args.handler.now s.formed s.is_ready in
-          let there = Goes-trans goes f.goes in
-          let later = (Goes-trans o.goes there).continues in
-          let among = kept_offered c.in-Some.opened h c.enter_forall.new.table.mode m.kept m.grows.extends (HoldsGoal-extended e.grows.extends posed.holds) e.candidates offered in
-          proved_through c.requires.posed opened o.grows.extends h s.variances (mode_of c.args.table.now.mode) (assumed_in c.evaluate_candidates-response.new.cx.nodes c.evaluate_candidates-response.new.graph) posed (let z = c.is_candidates_goal.ensures c.if-not-is_candidates_goal.false in z.asked) there later f.formed law (rw o.goes.mode at (f.sure y (Since-later all s) among));
-    })
-    (rw (c.deref.ensures.value, m.same) at c.evaluate_candidates-response.ensures.found)
+compute_goal-returns-clause-found = candidates.compute_goal-returns-clause-found
 
 pub compute_goal-returns-clause-refuted : goal.compute_goal-returns-clause-refuted
-compute_goal-returns-clause-refuted g t c = λ s tells n.
-    let o = c.in_ok-opened.ensures in
-    let e = c.in_ok-candidates.ensures in
-    let m = c.in_ok-kept.ensures in
-    let up = Extends-trans o.grows.extends e.grows.extends in
-    let opened = rw c.in-Some.is at o.opened in
-    let posed = rw c.in-Some.is at o.posed in
-    let goes = Goes-trans o.goes (Goes-extends o.goes.table e.grows.extends) in
-    let args = args_later c.args.cx.now.nodes c.candidates.new.cx.nodes c.args.table.now.entries c.enter_forall.new.table.entries c.args.values.now goes.extends goes.continues c.requires.values in
-    let h = g.H.GoalHandler.handler s.base c.args.handler.now in
-    let same = g.met.H.GoalHandler.handler_kept s.base c.candidates.new.cx.nodes c.args.handler.now s.is_ready (Extends-trans s.extends up) in
-    let offered = e.offered ∙ ap (λ m. (g.H.GoalHandler.handler c.candidates.new.cx.nodes c.args.handler.now).offers (mode_of m) (tree_at c.candidates.new.cx.nodes c.in-Some.opened.param_env.node) (tree_at c.candidates.new.cx.nodes c.in-Some.opened.predicate.node)) c.typing_mode.ensures ∙ same.offers _ _ _ in
-    let here = content_of-extended e.grows.extends o.goes.table.now in
-    let kept = rw (c.deref.ensures.value, m.same) at (c.evaluate_candidates-response.ensures.refuted (Since-later (Extends-trans up m.grows.extends) s) (tell_grown h c.args.depth c.requires.search (grown o.grows (grown e.grows m.grows)) tells) n) in
-    let run = kept_outcomes c.in-Some.opened h c.enter_forall.new.table.mode c.args.values.now m.kept m.grows.extends (IsTable-extended e.grows.extends o.goes.table) args e.candidates kept in
-    refuted_through c.requires.posed opened o.grows.extends h c.args.table.now.mode (trees_of c.candidates.new.cx.nodes c.args.values.now)
-    (rw (here, offered, o.goes.mode, offers-kept h (mode_of c.args.table.now.mode) e.grows.extends posed.holds) at run)
+compute_goal-returns-clause-refuted = candidates.compute_goal-returns-clause-refuted
 
 pub compute_goal-returns-clause-searches : goal.compute_goal-returns-clause-searches
 compute_goal-returns-clause-searches g t c =
     let o = c.in_ok-opened.ensures in let e = c.in_ok-candidates.ensures in let m = c.in_ok-kept.ensures in search_then c.args.depth c.requires.search (grown o.grows (grown e.grows m.grows)) c.evaluate_candidates-response.ensures.searches
 
 pub compute_goal-returns-clause-told : goal.compute_goal-returns-clause-told
-compute_goal-returns-clause-told g t c = λ s tells.
-    let o = c.in_ok-opened.ensures in
-    let e = c.in_ok-candidates.ensures in
-    let m = c.in_ok-kept.ensures in
-    let up = Extends-trans o.grows.extends e.grows.extends in
-    let opened = rw c.in-Some.is at o.opened in
-    let posed = rw c.in-Some.is at o.posed in
-    let goes = Goes-trans o.goes (Goes-extends o.goes.table e.grows.extends) in
-    let args = args_later c.args.cx.now.nodes c.candidates.new.cx.nodes c.args.table.now.entries c.enter_forall.new.table.entries c.args.values.now goes.extends goes.continues c.requires.values in
-    let trees = trees_kept c.args.cx.now.nodes c.enter_forall.new.cx.nodes c.args.table.now.entries c.args.values.now o.grows.extends c.requires.values in
-    let both = trees_kept c.args.cx.now.nodes c.candidates.new.cx.nodes c.args.table.now.entries c.args.values.now up c.requires.values in
-    let h = g.H.GoalHandler.handler s.base c.args.handler.now in
-    let same = g.met.H.GoalHandler.handler_kept s.base c.candidates.new.cx.nodes c.args.handler.now s.is_ready (Extends-trans s.extends up) in
-    let offered = e.offered ∙ ap (λ m. (g.H.GoalHandler.handler c.candidates.new.cx.nodes c.args.handler.now).offers (mode_of m) (tree_at c.candidates.new.cx.nodes c.in-Some.opened.param_env.node) (tree_at c.candidates.new.cx.nodes c.in-Some.opened.predicate.node)) c.typing_mode.ensures ∙ same.offers _ _ _ in
-    let run = rw (c.deref.ensures.value, m.same) at (c.evaluate_candidates-response.ensures.told (Since-later (Extends-trans up m.grows.extends) s) (tell_grown h c.args.depth c.requires.search (grown o.grows (grown e.grows m.grows)) tells)) in
-    IfOk-map c.evaluate_candidates-response.result
-    (λ r f. told_through c.requires.posed opened o.grows.extends h c.args.table.now.mode c.args.values.now c.evaluate_candidates-response.new.cx.nodes r trees
-    (rw (o.goes.mode) at (told_offered h c.enter_forall.new.table.mode c.enter_forall.new.table c.in-Some.opened c.args.values.now c.in_ok-candidates.candidates.items c.evaluate_candidates-response.new.cx.nodes r e.grows.extends o.goes.table posed.holds (both ∙ sym trees) offered
-    (kept_tell c.evaluate_candidates-response.new.cx.nodes c.in-Some.opened h c.enter_forall.new.table.mode c.args.values.now r m.kept m.grows.extends (IsTable-extended e.grows.extends o.goes.table) args e.candidates f)))) run
+compute_goal-returns-clause-told = candidates.compute_goal-returns-clause-told
 
 pub compute_goal-returns-in_default-clause-found : goal.compute_goal-returns-in_default-clause-found
 compute_goal-returns-in_default-clause-found g t c =
@@ -315,44 +226,10 @@ evaluate_added-returns-in_ok-asked-in-Some-clause-told g t c = λ s tells.
     OnOk-map c.evaluate_goal.result (λ f. inl (rw (same, k.env, k.predicate) at f)) (c.evaluate_goal.ensures.told (Since-later k.grows.extends s) (tell_grown (g.H.GoalHandler.handler s.base c.args.handler.now) (bound_of c.args.depth) c.requires.search k.grows tells))
 
 pub evaluate_candidates-loop-candidate-init : goal.evaluate_candidates-loop-candidate-init
-evaluate_candidates-loop-candidate-init g t c = record {
-  same = refl;
-  grows = record { extends = Extends-refl _; rest = KeepsRest-refl _ };
-  searches = Searches-refl c.args.depth c.requires.search (record { extends = Extends-refl _; rest = KeepsRest-refl _ });
-  found = λ k d l. absurd (omega (arith, l, ap (length {A = Canonical Response}) c.new-responses.ensures.items));
-  told = λ s tells. outcomes_first c.args.cx.now.nodes c.args.cx.now.nodes c.args.table.now (g.H.GoalHandler.handler s.base c.args.handler.now) c.args.table.now.mode c.args.values.now c.args.candidates.now c.new-responses.result.items c.new-responses.ensures.items;
-}
+evaluate_candidates-loop-candidate-init = candidates.evaluate_candidates-loop-candidate-init
 
 pub evaluate_candidates-loop-candidate-preserved : goal.evaluate_candidates-loop-candidate-preserved
-evaluate_candidates-loop-candidate-preserved g t c =
-    let i = c.loop-candidate.invariant in
-    let p = c.probe_candidate-answer.ensures in
-    let m = c.in_ok-keep_response.ensures in
-    let rs = c.loop-candidate.responses.items in
-    let new = c.keep_response.new.responses.items in
-    let at = c.loop-candidate-test.true in
-    let holds = c.requires.posed.holds in
-    let cs = c.args.candidates.now in
-    let x = c.candidate-item.result in
-    let w = c.requires.posed.table in
-    let mode = c.args.table.now.mode in
-    let now = search_later c.args.depth c.args.depth (omega arith) c.requires.search i.searches in
-    let covers = search_covers c.args.depth now p.grows.extends p.searches in
-    let later = λ (s : Since (λ ts. g.H.GoalHandler.ready ts c.args.handler.now) c.args.cx.now.nodes) (tells : HeadsTell (g.H.GoalHandler.handler s.base c.args.handler.now) c.args.cx.now.nodes c.args.graph.now). heads_tell_later (g.H.GoalHandler.handler s.base c.args.handler.now) c.args.depth c.requires.search i.grows.extends i.searches tells in
-    record {
-      same = p.same ∙ i.same;
-      grows = record { extends = Extends-trans i.grows.extends p.grows.extends; rest = KeepsRest-trans i.grows.rest p.grows.rest };
-      searches = Searches-trans i.searches p.searches;
-      found = founds_more rs new c.probe_candidate-answer.result p.grows.extends (founds_with rs (λ b u f s offered. served_more covers (f s offered)) i.found)
-          (IfOk-map c.probe_candidate-answer.result
-          (λ r f. found_earlier r i.grows.extends w holds c.requires.values
-          (λ b u f s offered. f (Since-later i.grows.extends s)
-          (rw (offers-kept (g.H.GoalHandler.handler s.base c.args.handler.now) (mode_of mode) i.grows.extends holds) (offered_there _ c.args.goal _ cs c.loop-candidate.candidate-index c.candidate-item.is at c.requires.candidates i.grows.extends offered))) f)
-          (rw i.same at p.found)) m.kept;
-      told = λ s tells. outcomes_more (g.H.GoalHandler.handler s.base c.args.handler.now) mode cs c.loop-candidate.candidate-index x x rs new c.probe_candidate-answer.result at c.candidate-item.is i.grows.extends p.grows.extends w c.requires.values (candidate_at c.args.cx.now.nodes c.args.goal cs c.loop-candidate.candidate-index x c.requires.candidates at) i.found m.kept
-          (rw i.same at (p.told (Since-later i.grows.extends s) (later s tells)))
-          (failed_of c.probe_candidate-answer.result m.dropped (λ n. rw i.same at (p.refuted (Since-later i.grows.extends s) (later s tells) n))) (i.told s tells);
-    }
+evaluate_candidates-loop-candidate-preserved = candidates.evaluate_candidates-loop-candidate-preserved
 
 pub evaluate_candidates-merge_responses-requires-clause-table : goal.evaluate_candidates-merge_responses-requires-clause-table
 evaluate_candidates-merge_responses-requires-clause-table g t c = (let i = c.loop-candidate.invariant in let goes = goes-back c.requires.posed.table i.grows.extends i.same in goes.table)
@@ -364,30 +241,7 @@ evaluate_candidates-merge_responses-requires-clause-values g t c =
     args_later c.args.cx.now.nodes c.loop-candidate.cx.nodes c.args.table.now.entries c.loop-candidate.table.entries c.args.values.now goes.extends goes.continues c.requires.values
 
 pub evaluate_candidates-probe_candidate-answer-requires : goal.evaluate_candidates-probe_candidate-answer-requires
-evaluate_candidates-probe_candidate-answer-requires g t c = λ κs k.
-    let i = c.loop-candidate.invariant in
-    let goes = goes-back c.requires.posed.table i.grows.extends i.same in (
-      omega (arith, c.decreases),
-      (
-        k,
-        (
-          IsPosed-later goes c.requires.posed,
-          (
-            IsAskedGoal-extended i.grows.extends c.requires.asked,
-            (
-              g.met.H.GoalHandler.ready_kept _ _ _ c.requires.ready i.grows.extends,
-              (
-                rw c.candidate-item.is (IsCandidate-extended i.grows.extends c.requires.posed.holds (candidate_at c.args.cx.now.nodes c.args.goal c.args.candidates.now c.loop-candidate.candidate-index _ c.requires.candidates c.loop-candidate-test.true)),
-                (
-                  args_later c.args.cx.now.nodes c.loop-candidate.cx.nodes c.args.table.now.entries c.loop-candidate.table.entries c.args.values.now goes.extends goes.continues c.requires.values,
-                  search_later c.args.depth c.args.depth (omega arith) c.requires.search i.searches,
-                ),
-              ),
-            ),
-          ),
-        ),
-      ),
-    )
+evaluate_candidates-probe_candidate-answer-requires = candidates.evaluate_candidates-probe_candidate-answer-requires
 
 pub evaluate_candidates-returns-clause-found : goal.evaluate_candidates-returns-clause-found
 evaluate_candidates-returns-clause-found g t c =
@@ -426,13 +280,7 @@ pub evaluate_goal-apply_answer-evaluated-requires-clause-table : goal.evaluate_g
 evaluate_goal-apply_answer-evaluated-requires-clause-table g t c = IsTable-extended (Extends-trans c.in_ok-originals.ensures.grows.extends c.in_ok-answer.ensures.grows.extends) c.requires.posed.table
 
 pub evaluate_goal-returns-clause-evaluates : goal.evaluate_goal-returns-clause-evaluates
-evaluate_goal-returns-clause-evaluates g t c =
-    let q = c.in_ok-originals.ensures in
-    let k = c.in_ok-answer.ensures in
-    let e = c.apply_answer-evaluated.ensures in
-    ok_both c.apply_answer-evaluated.result
-    (λ x same applied. evaluates c.requires.posed q.query q.grows.extends k.grows.extends c.apply_answer-evaluated.new.table c.in_ok-answer.answer applied k.fits x.has_changed same)
-    e.changed (rw c.deref.ensures.value at e.applied)
+evaluate_goal-returns-clause-evaluates = queries.evaluate_goal-returns-clause-evaluates
 
 pub evaluate_goal-returns-clause-labels : goal.evaluate_goal-returns-clause-labels
 evaluate_goal-returns-clause-labels g t c =
@@ -440,21 +288,7 @@ evaluate_goal-returns-clause-labels g t c =
     OnOk-map c.apply_answer-evaluated.result (λ h. asked_labels c.requires.posed q.query q.grows.extends c.in_ok-answer.ensures.grows.extends h) (rw c.deref.ensures.value at c.apply_answer-evaluated.ensures.labels)
 
 pub evaluate_goal-returns-clause-proved : goal.evaluate_goal-returns-clause-proved
-evaluate_goal-returns-clause-proved g t c = λ s.
-    let q = c.in_ok-originals.ensures in
-    let k = c.in_ok-answer.ensures in
-    let e = c.apply_answer-evaluated.ensures in
-    let all = Extends-trans (Extends-trans q.grows.extends k.grows.extends) e.runs.goes.extends in
-    let holds = c.requires.posed.holds in
-    let upto = search_then (c.args.depth + 1) c.requires.search q.grows k.searches in
-    let covers = covers_grown (c.args.depth + 1) (search_later (c.args.depth + 1) (c.args.depth + 1) (omega arith) c.requires.search upto) (ran e.runs) in
-    let A = passed (path_kind_of c.args.step) (assumed_in c.search.new.cx.nodes c.search.new.graph) in
-    ok_both c.apply_answer-evaluated.result
-    (λ x is applied y.
-    rw (all.kept c.args.goal.param_env.node holds.env.within, all.kept c.args.goal.predicate.node holds.predicate.within)
-    (stays_more (covers_passed (path_kind_of c.args.step) (assumed_in c.search.new.cx.nodes c.search.new.graph) (assumed_in c.apply_answer-evaluated.new.cx.nodes c.search.new.graph) covers) (asked_stays c.requires.posed q.query q.grows.extends k.grows.extends c.apply_answer-evaluated.new.table c.in_ok-answer.answer applied (meaning_since (λ ts. g.H.GoalHandler.handler ts c.args.handler.now) s) (mode_of c.args.table.now.mode) A c.terms_are_formed.ensures e.runs.goes.table k.fits
-    (rw q.query.mode at (k.proved (Since-later q.grows.extends s) (sym is ∙ y))))))
-    e.certainty (rw c.deref.ensures.value at e.applied)
+evaluate_goal-returns-clause-proved = queries.evaluate_goal-returns-clause-proved
 
 pub evaluate_goal-returns-clause-refuted : goal.evaluate_goal-returns-clause-refuted
 evaluate_goal-returns-clause-refuted g t c = λ s tells n.
@@ -506,41 +340,10 @@ evaluate_goal-returns-in_err-originals-clause-searches g t c =
     Searches-refl (c.args.depth + 1) c.requires.search c.query_of.ensures.grows
 
 pub evaluate_goal-search-requires : goal.evaluate_goal-search-requires
-evaluate_goal-search-requires g t c =
-    λ κs k.
-    let q = c.in_ok-originals.ensures in (
-      omega (arith, c.decreases),
-      (
-        k,
-        (
-          q.query.asks,
-          (
-            g.met.H.GoalHandler.ready_kept _ _ _ c.requires.ready q.grows.extends,
-            search_grows (c.args.depth + 1) (c.args.depth + 1) (omega arith) c.requires.search q.grows,
-          ),
-        ),
-      ),
-    )
+evaluate_goal-search-requires = queries.evaluate_goal-search-requires
 
 pub evaluate_round-compute_goal-response-requires : goal.evaluate_round-compute_goal-response-requires
-evaluate_round-compute_goal-response-requires g t c =
-    λ κs k-1.
-    let k = c.in_ok-table.ensures in (
-      omega (arith, c.decreases),
-      (
-        k-1,
-        (
-          record { table = k.table; holds = record { env = k.holds.environment; predicate = k.holds.predicate }; knows = record { env = k.knows.0; predicate = k.knows.1.0 } },
-          (
-            g.met.H.GoalHandler.ready_kept _ _ _ c.requires.ready k.grows.extends,
-            (
-              rw c.deref.ensures.value k.args,
-              search_pushed c.args.depth c.args.input c.args.step c.args.provisional c.requires.search k.grows c.requires.input c.requires.provisional c.in_ok-push.ensures.pushed c.in_ok-push.ensures.kept c.push.ensures.rest,
-            ),
-          ),
-        ),
-      ),
-    )
+evaluate_round-compute_goal-response-requires = queries.evaluate_round-compute_goal-response-requires
 
 pub evaluate_round-pop-entry-requires : goal.evaluate_round-pop-entry-requires
 evaluate_round-pop-entry-requires g t c =
@@ -551,140 +354,35 @@ evaluate_round-pop-entry-requires g t c =
     omega (arith, long, new, more)
 
 pub evaluate_round-returns-clause-searches : goal.evaluate_round-returns-clause-searches
-evaluate_round-returns-clause-searches g t c =
-    let k = c.in_ok-table.ensures in
-    let up = c.push.ensures.rest in
-    let own = entry_of c.args.input c.args.step c.args.provisional c.in_ok-push.ensures.pushed.0 in
-    let x = c.pop-entry.result in
-    let m = c.compute_goal-response.ensures in
-    let off = search_popped {a = c.args.cx.now} {b = c.build_with_canonical.new.cx} {c = c.compute_goal-response.new.cx} {g = c.args.graph.now} {h = c.push.new.self} {i = c.compute_goal-response.new.graph} {j = c.pop-entry.new.self} own x c.in_ok-push.ensures.pushed.1 up m.searches c.pop-entry.ensures.popped c.pop-entry.ensures.kept c.pop-entry.ensures.rest in
-    off.searches
+evaluate_round-returns-clause-searches = queries.evaluate_round-returns-clause-searches
 
 pub evaluate_round-returns-in-Err-NoSolution-clause-entry : goal.evaluate_round-returns-in-Err-NoSolution-clause-entry
-evaluate_round-returns-in-Err-NoSolution-clause-entry g t c =
-    let k = c.in_ok-table.ensures in
-    let up = c.push.ensures.rest in
-    let own = entry_of c.args.input c.args.step c.args.provisional c.in_ok-push.ensures.pushed.0 in
-    let x = c.pop-entry.result in
-    let m = c.compute_goal-response.ensures in
-    let off = search_popped {a = c.args.cx.now} {b = c.build_with_canonical.new.cx} {c = c.compute_goal-response.new.cx} {g = c.args.graph.now} {h = c.push.new.self} {i = c.compute_goal-response.new.graph} {j = c.pop-entry.new.self} own x c.in_ok-push.ensures.pushed.1 up m.searches c.pop-entry.ensures.popped c.pop-entry.ensures.kept c.pop-entry.ensures.rest in
-    let later = off.entry in
-    (later.input, later.kind, later.provisional)
+evaluate_round-returns-in-Err-NoSolution-clause-entry = queries.evaluate_round-returns-in-Err-NoSolution-clause-entry
 
 pub evaluate_round-returns-in-Err-NoSolution-clause-searches : goal.evaluate_round-returns-in-Err-NoSolution-clause-searches
-evaluate_round-returns-in-Err-NoSolution-clause-searches g t c =
-    let k = c.in_ok-table.ensures in
-    let up = c.push.ensures.rest in
-    let own = entry_of c.args.input c.args.step c.args.provisional c.in_ok-push.ensures.pushed.0 in
-    let x = c.pop-entry.result in
-    let m = c.compute_goal-response.ensures in
-    let off = search_popped {a = c.args.cx.now} {b = c.build_with_canonical.new.cx} {c = c.compute_goal-response.new.cx} {g = c.args.graph.now} {h = c.push.new.self} {i = c.compute_goal-response.new.graph} {j = c.pop-entry.new.self} own x c.in_ok-push.ensures.pushed.1 up m.searches c.pop-entry.ensures.popped c.pop-entry.ensures.kept c.pop-entry.ensures.rest in
-    off.searches
+evaluate_round-returns-in-Err-NoSolution-clause-searches = queries.evaluate_round-returns-in-Err-NoSolution-clause-searches
 
 pub evaluate_round-returns-in-Err-NoSolution-clause-told : goal.evaluate_round-returns-in-Err-NoSolution-clause-told
-evaluate_round-returns-in-Err-NoSolution-clause-told g t c =
-    λ s tells told.
-    let k = c.in_ok-table.ensures in
-    let a = c.args.cx.now.nodes in
-    let b = c.build_with_canonical.new.cx.nodes in
-    let input = c.args.input in
-    let query = c.in_ok-table.query in
-    let q = c.in_ok-table.table in
-    let ks = kinds_of input in
-    let first = first_entries b ks q.entries q.entries _ refl k.entries in
-    let env = query_environment a b input query k.query in
-    let predicate = query_predicate a b input query k.query in
-    let refused : c.compute_goal-response.result ≡ Err EvalError.NoSolution = search rules in
-    rw (first, env, predicate, k.mode) at (c.compute_goal-response.ensures.refuted (Since-later k.grows.extends s) (tell_pushed c.push.new.self (g.H.GoalHandler.handler s.base c.args.handler.now) (c.args.depth + 1) c.args.input c.args.step c.args.provisional c.requires.search k.grows c.requires.input c.requires.provisional c.in_ok-push.ensures.pushed tells told) refused)
+evaluate_round-returns-in-Err-NoSolution-clause-told = queries.evaluate_round-returns-in-Err-NoSolution-clause-told
 
 pub evaluate_round-returns-in-Ok-clause-entry : goal.evaluate_round-returns-in-Ok-clause-entry
-evaluate_round-returns-in-Ok-clause-entry g t c =
-    let k = c.in_ok-table.ensures in
-    let up = c.push.ensures.rest in
-    let own = entry_of c.args.input c.args.step c.args.provisional c.in_ok-push.ensures.pushed.0 in
-    let x = c.pop-entry.result in
-    let m = c.compute_goal-response.ensures in
-    let off = search_popped {a = c.args.cx.now} {b = c.build_with_canonical.new.cx} {c = c.compute_goal-response.new.cx} {g = c.args.graph.now} {h = c.push.new.self} {i = c.compute_goal-response.new.graph} {j = c.pop-entry.new.self} own x c.in_ok-push.ensures.pushed.1 up m.searches c.pop-entry.ensures.popped c.pop-entry.ensures.kept c.pop-entry.ensures.rest in
-    let later = off.entry in
-    (later.input, later.kind, later.provisional)
+evaluate_round-returns-in-Ok-clause-entry = queries.evaluate_round-returns-in-Ok-clause-entry
 
 pub evaluate_round-returns-in-Ok-clause-fits : goal.evaluate_round-returns-in-Ok-clause-fits
-evaluate_round-returns-in-Ok-clause-fits g t c =
-    let k = c.in_ok-table.ensures in
-    let a = c.args.cx.now.nodes in
-    let b = c.build_with_canonical.new.cx.nodes in
-    let input = c.args.input in
-    let query = c.in_ok-table.query in
-    let q = c.in_ok-table.table in
-    let ks = kinds_of input in
-    let first = first_entries b ks q.entries q.entries _ refl k.entries in
-    let env = query_environment a b input query k.query in
-    let predicate = query_predicate a b input query k.query in
-    let holds : HoldsGoal c.build_with_canonical.new.cx.nodes c.in_ok-table.query.goal = record { env = k.holds.environment; predicate = k.holds.predicate } in
-    let over = c.requires.input in
-    let found = rw (c.deref.ensures.value, c.in-Ok.is) at c.compute_goal-response.ensures.found in
-    found_fits a b c.compute_goal-response.new.cx.nodes q query.goal ks input c.in_ok-table.values.items c.in-Ok.answer found c.requires.input.input.kinds refl over.environment over.predicate first env predicate holds k.args k.values
+evaluate_round-returns-in-Ok-clause-fits = queries.evaluate_round-returns-in-Ok-clause-fits
 
 pub evaluate_round-returns-in-Ok-clause-grows : goal.evaluate_round-returns-in-Ok-clause-grows
 evaluate_round-returns-in-Ok-clause-grows g t c =
     grown c.in_ok-table.ensures.grows c.compute_goal-response.ensures.grows
 
 pub evaluate_round-returns-in-Ok-clause-proved : goal.evaluate_round-returns-in-Ok-clause-proved
-evaluate_round-returns-in-Ok-clause-proved g t c =
-    λ s y.
-    let k = c.in_ok-table.ensures in
-    let up = c.push.ensures.rest in
-    let own = entry_of c.args.input c.args.step c.args.provisional c.in_ok-push.ensures.pushed.0 in
-    let x = c.pop-entry.result in
-    let m = c.compute_goal-response.ensures in
-    let off = search_popped {a = c.args.cx.now} {b = c.build_with_canonical.new.cx} {c = c.compute_goal-response.new.cx} {g = c.args.graph.now} {h = c.push.new.self} {i = c.compute_goal-response.new.graph} {j = c.pop-entry.new.self} own x c.in_ok-push.ensures.pushed.1 up m.searches c.pop-entry.ensures.popped c.pop-entry.ensures.kept c.pop-entry.ensures.rest in
-    let a = c.args.cx.now.nodes in
-    let b = c.build_with_canonical.new.cx.nodes in
-    let input = c.args.input in
-    let query = c.in_ok-table.query in
-    let q = c.in_ok-table.table in
-    let ks = kinds_of input in
-    let first = first_entries b ks q.entries q.entries _ refl k.entries in
-    let env = query_environment a b input query k.query in
-    let predicate = query_predicate a b input query k.query in
-    let holds : HoldsGoal c.build_with_canonical.new.cx.nodes c.in_ok-table.query.goal = record { env = k.holds.environment; predicate = k.holds.predicate } in
-    let over = c.requires.input in
-    let z = c.compute_goal-response.new.cx.nodes in
-    let h = meaning_since (λ ts. g.H.GoalHandler.handler ts c.args.handler.now) s in
-    let A = assumed_in z c.compute_goal-response.new.graph in
-    let vs = c.in_ok-table.values.items in
-    let found : Found (λ d u. (w : Since (λ ts. g.H.GoalHandler.ready ts c.args.handler.now) c.build_with_canonical.new.cx.nodes) → IsProvedNow (λ ts. g.H.GoalHandler.handler ts c.args.handler.now) w c.in_ok-table.table.mode (assumed_in c.compute_goal-response.new.cx.nodes c.compute_goal-response.new.graph) d u c.in_ok-table.query.goal) c.build_with_canonical.new.cx.nodes c.compute_goal-response.new.cx.nodes c.in_ok-table.table c.in_ok-table.query.goal c.in_ok-table.values.items c.in-Ok.answer = rw (c.deref.ensures.value, c.in-Ok.is) at m.found in
-    let proved : IsProvedFrom h (mode_of c.in_ok-table.table.mode) A (content_of found.store found.after.entries) (tree_at found.store query.goal.param_env.node) (tree_at found.store query.goal.predicate.node) = found.sure y (Since-later k.grows.extends s) in
-    let there : IsProvedFrom h (mode_of input.typing_mode) A (content_of found.store found.after.entries) (tree_at found.store query.goal.param_env.node) (tree_at found.store query.goal.predicate.node) = subst (λ w. IsProvedFrom h w A (content_of found.store found.after.entries) (tree_at found.store query.goal.param_env.node) (tree_at found.store query.goal.predicate.node)) k.mode proved in
-    let popped = entries_popped z c.compute_goal-response.new.graph c.pop-entry.new.self x c.pop-entry.ensures.popped in
-    subst (λ es. IsDerivedFrom h (mode_of input.typing_mode) (assumptions es) (answer_sequent (form_of a input) (response_at z c.in-Ok.answer))) popped
-    (found_derived a b z q query.goal ks input vs c.in-Ok.answer found c.requires.input.input.kinds refl over.environment over.predicate first env predicate holds k.args k.values h (mode_of input.typing_mode) A y there)
+evaluate_round-returns-in-Ok-clause-proved = queries.evaluate_round-returns-in-Ok-clause-proved
 
 pub evaluate_round-returns-in-Ok-clause-searches : goal.evaluate_round-returns-in-Ok-clause-searches
-evaluate_round-returns-in-Ok-clause-searches g t c =
-    let k = c.in_ok-table.ensures in
-    let up = c.push.ensures.rest in
-    let own = entry_of c.args.input c.args.step c.args.provisional c.in_ok-push.ensures.pushed.0 in
-    let x = c.pop-entry.result in
-    let m = c.compute_goal-response.ensures in
-    let off = search_popped {a = c.args.cx.now} {b = c.build_with_canonical.new.cx} {c = c.compute_goal-response.new.cx} {g = c.args.graph.now} {h = c.push.new.self} {i = c.compute_goal-response.new.graph} {j = c.pop-entry.new.self} own x c.in_ok-push.ensures.pushed.1 up m.searches c.pop-entry.ensures.popped c.pop-entry.ensures.kept c.pop-entry.ensures.rest in
-    off.searches
+evaluate_round-returns-in-Ok-clause-searches = queries.evaluate_round-returns-in-Ok-clause-searches
 
 pub evaluate_round-returns-in-Ok-clause-told : goal.evaluate_round-returns-in-Ok-clause-told
-evaluate_round-returns-in-Ok-clause-told g t c =
-    λ s tells told.
-    let k = c.in_ok-table.ensures in
-    let a = c.args.cx.now.nodes in
-    let b = c.build_with_canonical.new.cx.nodes in
-    let input = c.args.input in
-    let query = c.in_ok-table.query in
-    let q = c.in_ok-table.table in
-    let ks = kinds_of input in
-    let first = first_entries b ks q.entries q.entries _ refl k.entries in
-    let env = query_environment a b input query k.query in
-    let predicate = query_predicate a b input query k.query in
-    let answered = rw (c.deref.ensures.value, c.in-Ok.is) at (c.compute_goal-response.ensures.told (Since-later k.grows.extends s) (tell_pushed c.push.new.self (g.H.GoalHandler.handler s.base c.args.handler.now) (c.args.depth + 1) c.args.input c.args.step c.args.provisional c.requires.search k.grows c.requires.input c.requires.provisional c.in_ok-push.ensures.pushed tells told)) in
-    rw (first, env, predicate, k.values, k.mode) at answered
+evaluate_round-returns-in-Ok-clause-told = queries.evaluate_round-returns-in-Ok-clause-told
 
 pub evaluate_round-returns-in_err-push-clause-searches : goal.evaluate_round-returns-in_err-push-clause-searches
 evaluate_round-returns-in_err-push-clause-searches g t c =
@@ -695,61 +393,13 @@ evaluate_round-returns-in_err-table-clause-searches g t c =
     Searches-refl (c.args.depth + 1) c.requires.search c.build_with_canonical.ensures.grows
 
 pub evaluate_rounds-evaluate_round-requires : goal.evaluate_rounds-evaluate_round-requires
-evaluate_rounds-evaluate_round-requires g t c =
-    λ κs k.
-    let i = c.loop-round.invariant in
-    let limit : c.loop-round.round + 1 ≤ c.loop-round.cx.round_limit = rw i.grows.rest.rounds (omega (arith, c.loop-round-test.true, c.round_limit-round-end.ensures)) in
-    let noted = search_noted {a = c.args.cx.now} {b = c.loop-round.cx} {g = c.args.graph.now} {h = c.loop-round.graph} {i = c.note_round.new.self} (c.args.depth + 1) (c.loop-round.round + 1) c.requires.search i.searches limit c.note_round.ensures in (
-      omega (arith, c.decreases),
-      (
-        k,
-        (
-          own_asked c.args.cx.now.nodes c.loop-round.cx.nodes c.args.input c.loop-round.input i.grows.extends i.input c.requires.input,
-          (
-            rw i.input i.fits,
-            (
-              g.met.H.GoalHandler.ready_kept _ _ _ c.requires.ready i.grows.extends,
-              search_later (c.args.depth + 1) (c.args.depth + 1) (omega arith) c.requires.search noted,
-            ),
-          ),
-        ),
-      ),
-    )
+evaluate_rounds-evaluate_round-requires = queries.evaluate_rounds-evaluate_round-requires
 
 pub evaluate_rounds-loop-round-init : goal.evaluate_rounds-loop-round-init
-evaluate_rounds-loop-round-init g t c =
-    let u = c.in_ok-unchanged_answer.ensures in
-    record {
-      grows = u.grows;
-      searches = Searches-refl (c.args.depth + 1) c.requires.search u.grows;
-      input = refl;
-      fits = u.fits;
-      told = λ s tells. says_nothing u.nothing;
-    }
+evaluate_rounds-loop-round-init = queries.evaluate_rounds-loop-round-init
 
 pub evaluate_rounds-loop-round-preserved : goal.evaluate_rounds-loop-round-preserved
-evaluate_rounds-loop-round-preserved g t c =
-    let i = c.loop-round.invariant in
-    let limit : c.loop-round.round + 1 ≤ c.loop-round.cx.round_limit = rw i.grows.rest.rounds (omega (arith, c.loop-round-test.true, c.round_limit-round-end.ensures)) in
-    let noted = search_noted {a = c.args.cx.now} {b = c.loop-round.cx} {g = c.args.graph.now} {h = c.loop-round.graph} {i = c.note_round.new.self} (c.args.depth + 1) (c.loop-round.round + 1) c.requires.search i.searches limit c.note_round.ensures in
-    let e = c.in_ok-answer.ensures in
-    let z = c.evaluate_round.new.cx.nodes in
-    let x = c.in_ok-answer.entry in
-    let fits : IsHeadAnswer c.evaluate_round.new.cx.nodes (kinds_of c.args.input) c.in_ok-answer.answer = subst (λ w. IsHeadAnswer c.evaluate_round.new.cx.nodes (kinds_of w) c.in_ok-answer.answer) i.input e.fits in
-    let form = own_form c.args.cx.now.nodes c.loop-round.cx.nodes c.args.input c.loop-round.input i.grows.extends i.input c.requires.input in
-    record {
-      grows = grown i.grows e.grows;
-      searches = Searches-trans noted e.searches;
-      input = e.entry.0 ∙ i.input;
-      fits = fits;
-      told = λ s tells.
-          let h = g.H.GoalHandler.handler s.base c.args.handler.now in
-          let mode = mode_of c.args.input.typing_mode in
-          let later = heads_tell_later h (c.args.depth + 1) c.requires.search i.grows.extends noted tells in
-          let before = round_told h c.loop-round.cx.nodes c.args.input c.loop-round.input (form_of c.args.cx.now.nodes c.args.input) (form_of c.loop-round.cx.nodes c.loop-round.input) c.loop-round.provisional (sym i.input) (sym form) (i.told s tells) in
-          let told = round_told h z c.loop-round.input c.args.input (form_of c.loop-round.cx.nodes c.loop-round.input) (form_of c.args.cx.now.nodes c.args.input) c.in_ok-answer.answer i.input form (e.told (Since-later i.grows.extends s) later before) in
-          told;
-    }
+evaluate_rounds-loop-round-preserved = queries.evaluate_rounds-loop-round-preserved
 
 pub evaluate_rounds-returns-clause-fits : goal.evaluate_rounds-returns-clause-fits
 evaluate_rounds-returns-clause-fits g t c =
@@ -783,99 +433,26 @@ evaluate_rounds-returns-in_err-unchanged_answer-clause-searches g t c =
     Searches-refl (c.args.depth + 1) c.requires.search c.unchanged_answer.ensures.grows
 
 pub evaluate_rounds-returns-then-round_is_last-clause-fits : goal.evaluate_rounds-returns-then-round_is_last-clause-fits
-evaluate_rounds-returns-then-round_is_last-clause-fits g t c =
-    let i = c.loop-round.invariant in
-    let limit : c.loop-round.round + 1 ≤ c.loop-round.cx.round_limit = rw i.grows.rest.rounds (omega (arith, c.loop-round-test.true, c.round_limit-round-end.ensures)) in
-    let noted = search_noted {a = c.args.cx.now} {b = c.loop-round.cx} {g = c.args.graph.now} {h = c.loop-round.graph} {i = c.note_round.new.self} (c.args.depth + 1) (c.loop-round.round + 1) c.requires.search i.searches limit c.note_round.ensures in
-    let e = c.in_ok-answer.ensures in
-    let z = c.evaluate_round.new.cx.nodes in
-    let x = c.in_ok-answer.entry in
-    let fits : IsHeadAnswer c.evaluate_round.new.cx.nodes (kinds_of c.args.input) c.in_ok-answer.answer = subst (λ w. IsHeadAnswer c.evaluate_round.new.cx.nodes (kinds_of w) c.in_ok-answer.answer) i.input e.fits in
-    let form = own_form c.args.cx.now.nodes c.loop-round.cx.nodes c.args.input c.loop-round.input i.grows.extends i.input c.requires.input in
-    last_fits c.in_ok-answer.answer c.answer_of.result c.answer_of.ensures.some c.answer_of.ensures.none z (kinds_of c.args.input) fits
+evaluate_rounds-returns-then-round_is_last-clause-fits = queries.evaluate_rounds-returns-then-round_is_last-clause-fits
 
 pub evaluate_rounds-returns-then-round_is_last-clause-grows : goal.evaluate_rounds-returns-then-round_is_last-clause-grows
 evaluate_rounds-returns-then-round_is_last-clause-grows g t c =
     grown c.loop-round.invariant.grows c.in_ok-answer.ensures.grows
 
 pub evaluate_rounds-returns-then-round_is_last-clause-proved : goal.evaluate_rounds-returns-then-round_is_last-clause-proved
-evaluate_rounds-returns-then-round_is_last-clause-proved g t c =
-    λ s.
-    let i = c.loop-round.invariant in
-    let limit : c.loop-round.round + 1 ≤ c.loop-round.cx.round_limit = rw i.grows.rest.rounds (omega (arith, c.loop-round-test.true, c.round_limit-round-end.ensures)) in
-    let noted = search_noted {a = c.args.cx.now} {b = c.loop-round.cx} {g = c.args.graph.now} {h = c.loop-round.graph} {i = c.note_round.new.self} (c.args.depth + 1) (c.loop-round.round + 1) c.requires.search i.searches limit c.note_round.ensures in
-    let e = c.in_ok-answer.ensures in
-    let z = c.evaluate_round.new.cx.nodes in
-    let x = c.in_ok-answer.entry in
-    let fits : IsHeadAnswer c.evaluate_round.new.cx.nodes (kinds_of c.args.input) c.in_ok-answer.answer = subst (λ w. IsHeadAnswer c.evaluate_round.new.cx.nodes (kinds_of w) c.in_ok-answer.answer) i.input e.fits in
-    let form = own_form c.args.cx.now.nodes c.loop-round.cx.nodes c.args.input c.loop-round.input i.grows.extends i.input c.requires.input in
-    let m = meaning_since (λ ts. g.H.GoalHandler.handler ts c.args.handler.now) s in
-    last_each c.in_ok-answer.answer c.answer_of.result c.answer_of.ensures.some c.answer_of.ensures.none
-    (λ r is sure.
-    let last = rw is at (c.round_is_last.ensures.0 c.if-round_is_last.true) in
-    let derived = round_proved m z (assumptions (entry_at z x ∷ entries_at z c.evaluate_round.new.graph)) c.loop-round.input c.args.input (form_of c.loop-round.cx.nodes c.loop-round.input) (form_of c.args.cx.now.nodes c.args.input) c.in_ok-answer.answer r i.input form is (e.proved (Since-later i.grows.extends s)) sure in
-    round_closes m (mode_of c.args.input.typing_mode) z c.evaluate_round.new.graph x c.args.input c.args.step (form_of c.args.cx.now.nodes c.args.input) r (e.entry.0 ∙ i.input) e.entry.1
-    (form_later c.args.cx.now.nodes z c.args.input (Extends-trans i.grows.extends e.grows.extends) c.requires.input) last sure derived)
+evaluate_rounds-returns-then-round_is_last-clause-proved = queries.evaluate_rounds-returns-then-round_is_last-clause-proved
 
 pub evaluate_rounds-returns-then-round_is_last-clause-refuted : goal.evaluate_rounds-returns-then-round_is_last-clause-refuted
-evaluate_rounds-returns-then-round_is_last-clause-refuted g t c =
-    λ s tells no.
-    let i = c.loop-round.invariant in
-    let limit : c.loop-round.round + 1 ≤ c.loop-round.cx.round_limit = rw i.grows.rest.rounds (omega (arith, c.loop-round-test.true, c.round_limit-round-end.ensures)) in
-    let noted = search_noted {a = c.args.cx.now} {b = c.loop-round.cx} {g = c.args.graph.now} {h = c.loop-round.graph} {i = c.note_round.new.self} (c.args.depth + 1) (c.loop-round.round + 1) c.requires.search i.searches limit c.note_round.ensures in
-    let e = c.in_ok-answer.ensures in
-    let z = c.evaluate_round.new.cx.nodes in
-    let x = c.in_ok-answer.entry in
-    let fits : IsHeadAnswer c.evaluate_round.new.cx.nodes (kinds_of c.args.input) c.in_ok-answer.answer = subst (λ w. IsHeadAnswer c.evaluate_round.new.cx.nodes (kinds_of w) c.in_ok-answer.answer) i.input e.fits in
-    let form = own_form c.args.cx.now.nodes c.loop-round.cx.nodes c.args.input c.loop-round.input i.grows.extends i.input c.requires.input in
-    let h = g.H.GoalHandler.handler s.base c.args.handler.now in
-    let mode = mode_of c.args.input.typing_mode in
-    let later = heads_tell_later h (c.args.depth + 1) c.requires.search i.grows.extends noted tells in
-    let before = round_told h c.loop-round.cx.nodes c.args.input c.loop-round.input (form_of c.args.cx.now.nodes c.args.input) (form_of c.loop-round.cx.nodes c.loop-round.input) c.loop-round.provisional (sym i.input) (sym form) (i.told s tells) in
-    let told = round_told h z c.loop-round.input c.args.input (form_of c.loop-round.cx.nodes c.loop-round.input) (form_of c.args.cx.now.nodes c.args.input) c.in_ok-answer.answer i.input form (e.told (Since-later i.grows.extends s) later before) in
-    last_refuted c.in_ok-answer.answer c.answer_of.result c.answer_of.ensures.some c.answer_of.ensures.none h mode z (form_of c.args.cx.now.nodes c.args.input) told no
+evaluate_rounds-returns-then-round_is_last-clause-refuted = queries.evaluate_rounds-returns-then-round_is_last-clause-refuted
 
 pub evaluate_rounds-returns-then-round_is_last-clause-searches : goal.evaluate_rounds-returns-then-round_is_last-clause-searches
-evaluate_rounds-returns-then-round_is_last-clause-searches g t c =
-    let i = c.loop-round.invariant in
-    let limit : c.loop-round.round + 1 ≤ c.loop-round.cx.round_limit = rw i.grows.rest.rounds (omega (arith, c.loop-round-test.true, c.round_limit-round-end.ensures)) in
-    let noted = search_noted {a = c.args.cx.now} {b = c.loop-round.cx} {g = c.args.graph.now} {h = c.loop-round.graph} {i = c.note_round.new.self} (c.args.depth + 1) (c.loop-round.round + 1) c.requires.search i.searches limit c.note_round.ensures in
-    let e = c.in_ok-answer.ensures in
-    let z = c.evaluate_round.new.cx.nodes in
-    let x = c.in_ok-answer.entry in
-    let fits : IsHeadAnswer c.evaluate_round.new.cx.nodes (kinds_of c.args.input) c.in_ok-answer.answer = subst (λ w. IsHeadAnswer c.evaluate_round.new.cx.nodes (kinds_of w) c.in_ok-answer.answer) i.input e.fits in
-    let form = own_form c.args.cx.now.nodes c.loop-round.cx.nodes c.args.input c.loop-round.input i.grows.extends i.input c.requires.input in
-    Searches-trans noted e.searches
+evaluate_rounds-returns-then-round_is_last-clause-searches = queries.evaluate_rounds-returns-then-round_is_last-clause-searches
 
 pub evaluate_rounds-returns-then-round_is_last-clause-told : goal.evaluate_rounds-returns-then-round_is_last-clause-told
-evaluate_rounds-returns-then-round_is_last-clause-told g t c =
-    λ s tells.
-    let i = c.loop-round.invariant in
-    let limit : c.loop-round.round + 1 ≤ c.loop-round.cx.round_limit = rw i.grows.rest.rounds (omega (arith, c.loop-round-test.true, c.round_limit-round-end.ensures)) in
-    let noted = search_noted {a = c.args.cx.now} {b = c.loop-round.cx} {g = c.args.graph.now} {h = c.loop-round.graph} {i = c.note_round.new.self} (c.args.depth + 1) (c.loop-round.round + 1) c.requires.search i.searches limit c.note_round.ensures in
-    let e = c.in_ok-answer.ensures in
-    let z = c.evaluate_round.new.cx.nodes in
-    let x = c.in_ok-answer.entry in
-    let fits : IsHeadAnswer c.evaluate_round.new.cx.nodes (kinds_of c.args.input) c.in_ok-answer.answer = subst (λ w. IsHeadAnswer c.evaluate_round.new.cx.nodes (kinds_of w) c.in_ok-answer.answer) i.input e.fits in
-    let form = own_form c.args.cx.now.nodes c.loop-round.cx.nodes c.args.input c.loop-round.input i.grows.extends i.input c.requires.input in
-    let h = g.H.GoalHandler.handler s.base c.args.handler.now in
-    let mode = mode_of c.args.input.typing_mode in
-    let later = heads_tell_later h (c.args.depth + 1) c.requires.search i.grows.extends noted tells in
-    let before = round_told h c.loop-round.cx.nodes c.args.input c.loop-round.input (form_of c.args.cx.now.nodes c.args.input) (form_of c.loop-round.cx.nodes c.loop-round.input) c.loop-round.provisional (sym i.input) (sym form) (i.told s tells) in
-    let told = round_told h z c.loop-round.input c.args.input (form_of c.loop-round.cx.nodes c.loop-round.input) (form_of c.args.cx.now.nodes c.args.input) c.in_ok-answer.answer i.input form (e.told (Since-later i.grows.extends s) later before) in
-    last_told c.in_ok-answer.answer c.answer_of.result c.answer_of.ensures.some c.answer_of.ensures.none h mode z (form_of c.args.cx.now.nodes c.args.input) told
+evaluate_rounds-returns-then-round_is_last-clause-told = queries.evaluate_rounds-returns-then-round_is_last-clause-told
 
 pub evaluate_rounds-round_is_last-requires-clause-answer : goal.evaluate_rounds-round_is_last-requires-clause-answer
-evaluate_rounds-round_is_last-requires-clause-answer g t c =
-    let i = c.loop-round.invariant in
-    let limit : c.loop-round.round + 1 ≤ c.loop-round.cx.round_limit = rw i.grows.rest.rounds (omega (arith, c.loop-round-test.true, c.round_limit-round-end.ensures)) in
-    let noted = search_noted {a = c.args.cx.now} {b = c.loop-round.cx} {g = c.args.graph.now} {h = c.loop-round.graph} {i = c.note_round.new.self} (c.args.depth + 1) (c.loop-round.round + 1) c.requires.search i.searches limit c.note_round.ensures in
-    let e = c.in_ok-answer.ensures in
-    let z = c.evaluate_round.new.cx.nodes in
-    let x = c.in_ok-answer.entry in
-    let fits : IsHeadAnswer c.evaluate_round.new.cx.nodes (kinds_of c.args.input) c.in_ok-answer.answer = subst (λ w. IsHeadAnswer c.evaluate_round.new.cx.nodes (kinds_of w) c.in_ok-answer.answer) i.input e.fits in
-    let form = own_form c.args.cx.now.nodes c.loop-round.cx.nodes c.args.input c.loop-round.input i.grows.extends i.input c.requires.input in
-    holds_answer z (kinds_of c.args.input) c.in_ok-answer.answer fits
+evaluate_rounds-round_is_last-requires-clause-answer = queries.evaluate_rounds-round_is_last-requires-clause-answer
 
 pub evaluate_rounds-round_is_last-requires-clause-entry : goal.evaluate_rounds-round_is_last-requires-clause-entry
 evaluate_rounds-round_is_last-requires-clause-entry g t c =
@@ -966,13 +543,7 @@ evaluate_step-returns-in_err-note-clause-searches g t c =
     Searches-trans c.loop-added.invariant.searches c.evaluate_added.ensures.searches
 
 pub probe_candidate-make_response-requires-clause-values : goal.probe_candidate-make_response-requires-clause-values
-probe_candidate-make_response-requires-clause-values g t c =
-    let p = c.requires.posed in
-    let o = c.in_ok-snapshot.ensures in
-    let r = c.in-Ok.ensures in
-    let back = rolled_back o.saved r.runs.goes c.rollback_to-2.ensures.saved o.mode c.rollback_to-2.ensures.mode in
-    let goes = goes-back p.table r.runs.goes.extends back in
-    args_later c.args.cx.now.nodes c.run_candidate.new.cx.nodes c.args.table.now.entries c.rollback_to-2.new.self.entries c.args.values.now goes.extends goes.continues c.requires.values
+probe_candidate-make_response-requires-clause-values = candidates.probe_candidate-make_response-requires-clause-values
 
 pub probe_candidate-make_response-response-requires-clause-values : goal.probe_candidate-make_response-response-requires-clause-values
 probe_candidate-make_response-response-requires-clause-values g t c =
@@ -983,32 +554,14 @@ probe_candidate-make_response-response-requires-clause-values g t c =
     args_later c.args.cx.now.nodes c.run_candidate.new.cx.nodes c.args.table.now.entries c.run_candidate.new.table.entries c.args.values.now went.extends went.continues c.requires.values
 
 pub probe_candidate-returns-clause-found : goal.probe_candidate-returns-clause-found
-probe_candidate-returns-clause-found g t c =
-    let p = c.requires.posed in
-    let o = c.in_ok-snapshot.ensures in
-    let r = c.in-Ok.ensures in
-    let back = rolled_back o.saved r.runs.goes c.rollback_to-2.ensures.saved o.mode c.rollback_to-2.ensures.mode in
-    let m = c.in_ok-response-2.ensures in
-    found_still c.in_ok-response-2.response c.in-Ok.certainty p.table r.runs.goes.extends c.terms_are_formed.ensures m.grows.extends c.requires.values m.certainty (not_kept (sym c.keeps_constraints.ensures ∙ c.if-keeps_constraints.false)) (rw back at m.says) m.holds (record { no_hidden = m.nothing.0; no_goals = m.nothing.1 })
+probe_candidate-returns-clause-found = candidates.probe_candidate-returns-clause-found
 
 pub probe_candidate-returns-clause-searches : goal.probe_candidate-returns-clause-searches
 probe_candidate-returns-clause-searches g t c =
     search_grown c.args.depth c.requires.search c.in-Ok.ensures.searches c.make_response.ensures.grows
 
 pub probe_candidate-returns-clause-told : goal.probe_candidate-returns-clause-told
-probe_candidate-returns-clause-told g t c = λ s tells.
-    let p = c.requires.posed in
-    let o = c.in_ok-snapshot.ensures in
-    let r = c.in-Ok.ensures in
-    let went = went_in p.table o.entries o.saved o.mode r.runs.goes in
-    let back = rolled_back o.saved r.runs.goes c.rollback_to-2.ensures.saved o.mode c.rollback_to-2.ensures.mode in
-    let m = c.in_ok-response-2.ensures in
-    let h = g.H.GoalHandler.handler s.base c.args.handler.now in
-    let trees = trees_kept c.args.cx.now.nodes c.run_candidate.new.cx.nodes c.args.table.now.entries c.args.values.now went.extends c.requires.values in
-    let still = content_of-extended r.runs.goes.extends p.table.now in
-    let unsure = not_kept (sym c.keeps_constraints.ensures ∙ c.if-keeps_constraints.false) in
-    run_replies c.start_snapshot.new.self c.args.table.now c.run_candidate.new.table h c.args.table.now.mode c.args.candidate.now (trees_of c.args.cx.now.nodes c.args.values.now) _ (r.told s tells) o.mode o.entries
-    (inr (inr (rw o.entries (plain_of c.in-Ok.certainty _ _ _ (rw (back, still, trees) at m.says) unsure))))
+probe_candidate-returns-clause-told = candidates.probe_candidate-returns-clause-told
 
 pub probe_candidate-returns-in_err-response-2-clause-searches : goal.probe_candidate-returns-in_err-response-2-clause-searches
 probe_candidate-returns-in_err-response-2-clause-searches g t c =
@@ -1023,32 +576,14 @@ probe_candidate-returns-in_err-snapshot-clause-searches g t c =
     Searches-refl c.args.depth c.requires.search (record { extends = Extends-refl _; rest = KeepsRest-refl _ })
 
 pub probe_candidate-returns-then-keeps_constraints-clause-found : goal.probe_candidate-returns-then-keeps_constraints-clause-found
-probe_candidate-returns-then-keeps_constraints-clause-found g t c =
-    let p = c.requires.posed in
-    let o = c.in_ok-snapshot.ensures in
-    let r = c.in-Ok.ensures in
-    let went = went_in p.table o.entries o.saved o.mode r.runs.goes in
-    let m = c.in_ok-response.ensures in
-    let now = search_later c.args.depth c.args.depth (omega arith) c.requires.search r.searches in
-    let covers = covers_grown c.args.depth now m.grows in
-    found_in c.in_ok-response.field-0 c.in-Ok.certainty went c.terms_are_formed.ensures m.grows.extends (rw o.entries at r.labels) c.requires.values m.certainty m.says m.holds (record { no_hidden = m.nothing.0; no_goals = m.nothing.1 })
-    (λ y s offered. served_more covers (rw o.mode at (r.proved s (rw o.mode offered) (ap Ok y))))
+probe_candidate-returns-then-keeps_constraints-clause-found = candidates.probe_candidate-returns-then-keeps_constraints-clause-found
 
 pub probe_candidate-returns-then-keeps_constraints-clause-searches : goal.probe_candidate-returns-then-keeps_constraints-clause-searches
 probe_candidate-returns-then-keeps_constraints-clause-searches g t c =
     search_grown c.args.depth c.requires.search c.in-Ok.ensures.searches c.make_response-response.ensures.grows
 
 pub probe_candidate-returns-then-keeps_constraints-clause-told : goal.probe_candidate-returns-then-keeps_constraints-clause-told
-probe_candidate-returns-then-keeps_constraints-clause-told g t c = λ s tells.
-    let p = c.requires.posed in
-    let o = c.in_ok-snapshot.ensures in
-    let r = c.in-Ok.ensures in
-    let went = went_in p.table o.entries o.saved o.mode r.runs.goes in
-    let m = c.in_ok-response.ensures in
-    let h = g.H.GoalHandler.handler s.base c.args.handler.now in
-    let trees = trees_kept c.args.cx.now.nodes c.run_candidate.new.cx.nodes c.args.table.now.entries c.args.values.now went.extends c.requires.values in
-    run_replies c.start_snapshot.new.self c.args.table.now c.run_candidate.new.table h c.args.table.now.mode c.args.candidate.now (trees_of c.args.cx.now.nodes c.args.values.now) _ (r.told s tells) o.mode o.entries
-    (said_of (told_or_plain c.in-Ok.certainty _ _ _ (rw trees at m.says)))
+probe_candidate-returns-then-keeps_constraints-clause-told = candidates.probe_candidate-returns-then-keeps_constraints-clause-told
 
 pub run_candidate-added_goals-requires-clause-nested : goal.run_candidate-added_goals-requires-clause-nested
 run_candidate-added_goals-requires-clause-nested g t c =
@@ -1080,110 +615,26 @@ pub run_candidate-record_constraints-requires-clause-posed : goal.run_candidate-
 run_candidate-record_constraints-requires-clause-posed g t c = IsPosed-later c.in_ok-values.ensures.runs.goes c.requires.posed
 
 pub run_candidate-returns-clause-labels : goal.run_candidate-returns-clause-labels
-run_candidate-returns-clause-labels g t c =
-    let v = c.in_ok-values.ensures in
-    let k = c.in_ok-record_constraints.ensures in
-    let n = c.in_ok-goals.ensures in
-    let e = c.in_ok-certainty.ensures in
-    let brought = added_only c.in_ok-goals.goals.items n.added e.labels (content_of-extended n.grows.extends k.runs.goes.table.now) in
-    only-trans v.labels (only_earlier v.runs.goes.extends c.requires.posed.holds (only-trans k.labels (only_earlier k.runs.goes.extends (HoldsGoal-extended v.runs.goes.extends c.requires.posed.holds) brought)))
+run_candidate-returns-clause-labels = candidates.run_candidate-returns-clause-labels
 
 pub run_candidate-returns-clause-proved : goal.run_candidate-returns-clause-proved
-run_candidate-returns-clause-proved g t c = λ s offered y.
-    let v = c.in_ok-values.ensures in
-    let k = c.in_ok-record_constraints.ensures in
-    let there = Runs-trans v.runs k.runs in
-    let n = c.in_ok-goals.ensures in
-    let upto = Runs-trans there (Runs-extends k.runs.goes.table n.grows.extends n.grows.rest) in
-    let x = c.args.candidate.now in
-    let gs = c.in_ok-goals.goals.items in
-    let vs = c.deref-2.result.now in
-    let within : AllIn c.equate.new.cx.nodes c.deref-2.result.now = rw c.deref-2.ensures.value v.values.within in
-    let constraints = constraints-kept c.args.cx.now.nodes c.equate.new.cx.nodes x.fresh.items c.args.goal x.region_constraints.items v.runs.goes.extends c.requires.candidate.constraints in
-    let h = g.H.GoalHandler.handler s.base c.args.handler.now in
-    let mode = c.args.table.now.mode in
-    let since = Since-later (Extends-trans there.goes.extends n.grows.extends) s in
-    let e = c.in_ok-certainty.ensures in
-    let sure = both_sure _ _ (sym c.and.ensures ∙ ok_inside y) in
-    let z = c.try_evaluate_goals.new.cx.nodes in
-    let here = content_of z c.try_evaluate_goals.new.table.entries in
-    let seen = candidate_of c.args.cx.now.nodes x in
-    let steps = Runs-trans (Runs-extends k.runs.goes.table n.grows.extends n.grows.rest) e.runs in
-    let all = Runs-trans there steps in
-    let later = AreValues-later (Runs-trans k.runs steps).goes v.values in
-    let same = map-kept c.record_constraints.new.cx.nodes z vs (AllIn-kept c.equate.new.cx.nodes c.record_constraints.new.cx.nodes vs within k.runs.goes.extends) steps.goes.extends in
-    let goals = (rw c.deref-4.ensures.value at n.added.goals) ∙ added_is z c.args.goal x.fresh.items vs x.goals.items there.goes.extends c.requires.candidate.goals (sym same) in
-    let kind = goal_kind (meaning (g.H.GoalHandler.handler s.base c.args.handler.now) s.variances) (tree_at c.args.cx.now.nodes c.args.goal.predicate.node) in
-    let A = assumed_in c.try_evaluate_goals.new.cx.nodes c.try_evaluate_goals.new.graph in
-    let settled = rw (upto.goes.mode, c.goal_kind-kind.ensures.kind s.base s.variances) at (e.proved since) in
-    let none = e.sure (ap Ok sure.1) in
-    let run : HasRun (meaning (g.H.GoalHandler.handler s.base c.args.handler.now) s.variances) (mode_of c.args.table.now.mode) (goal_kind (meaning (g.H.GoalHandler.handler s.base c.args.handler.now) s.variances) (tree_at c.args.cx.now.nodes c.args.goal.predicate.node)) (assumed_in c.try_evaluate_goals.new.cx.nodes c.try_evaluate_goals.new.graph) (content_of c.try_evaluate_goals.new.cx.nodes c.try_evaluate_goals.new.table.entries) (candidate_of c.args.cx.now.nodes c.args.candidate.now) (map (tree_at c.try_evaluate_goals.new.cx.nodes) c.deref-2.result.now) = record {
-      sure = ap certainty_of sure.0;
-      values = rw c.deref-2.ensures.value later.values;
-      known = rw c.deref-2.ensures.value later.known;
-      equations = rw c.deref-2.ensures.value (Equates-later c.args.cx.now.nodes c.in_ok-values.values.items x.equations.items (Runs-trans k.runs steps).goes v.values.within v.equal);
-      constraints = Constrains-later c.args.cx.now.nodes vs x.region_constraints.items steps.goes (AllIn-kept c.equate.new.cx.nodes c.record_constraints.new.cx.nodes vs within k.runs.goes.extends) (rw (c.deref-3.ensures.value, constraints) at k.held);
-      goals = all_proved (meaning (g.H.GoalHandler.handler s.base c.args.handler.now) s.variances) (mode_of mode) kind A (map (tree_at z) vs) (map (premise_of c.args.cx.now.nodes) x.goals.items) gs goals (all_posed gs n.added.posed) e.runs.goes c.terms_are_formed.ensures (proved_all _ gs none settled);
-    } in
-    rw (all.goes.extends.kept c.args.goal.param_env.node c.requires.posed.holds.env.within, all.goes.extends.kept c.args.goal.predicate.node c.requires.posed.holds.predicate.within)
-    (has_run h s.variances (mode_of mode) A here seen (map (tree_at z) vs) (tree_at c.args.cx.now.nodes c.args.goal.param_env.node) (tree_at c.args.cx.now.nodes c.args.goal.predicate.node) (term_table c.terms_are_formed.ensures e.runs.goes.table) offered run)
+run_candidate-returns-clause-proved = candidates.run_candidate-returns-clause-proved
 
 pub run_candidate-returns-clause-runs : goal.run_candidate-returns-clause-runs
-run_candidate-returns-clause-runs g t c =
-    let v = c.in_ok-values.ensures in
-    let k = c.in_ok-record_constraints.ensures in
-    let there = Runs-trans v.runs k.runs in
-    let n = c.in_ok-goals.ensures in
-    let upto = Runs-trans there (Runs-extends k.runs.goes.table n.grows.extends n.grows.rest) in
-    Runs-trans upto c.in_ok-certainty.ensures.runs
+run_candidate-returns-clause-runs = candidates.run_candidate-returns-clause-runs
 
 pub run_candidate-returns-clause-searches : goal.run_candidate-returns-clause-searches
 run_candidate-returns-clause-searches g t c =
     search_then c.args.depth c.requires.search (grown (ran c.in_ok-values.ensures.runs) (grown (ran c.in_ok-record_constraints.ensures.runs) c.in_ok-goals.ensures.grows)) c.in_ok-certainty.ensures.searches
 
 pub run_candidate-returns-clause-told : goal.run_candidate-returns-clause-told
-run_candidate-returns-clause-told g t c = λ s tells.
-    let v = c.in_ok-values.ensures in
-    let k = c.in_ok-record_constraints.ensures in
-    let there = Runs-trans v.runs k.runs in
-    let n = c.in_ok-goals.ensures in
-    let upto = Runs-trans there (Runs-extends k.runs.goes.table n.grows.extends n.grows.rest) in
-    let x = c.args.candidate.now in
-    let gs = c.in_ok-goals.goals.items in
-    let vs = c.deref-2.result.now in
-    let within : AllIn c.equate.new.cx.nodes c.deref-2.result.now = rw c.deref-2.ensures.value v.values.within in
-    let constraints = constraints-kept c.args.cx.now.nodes c.equate.new.cx.nodes x.fresh.items c.args.goal x.region_constraints.items v.runs.goes.extends c.requires.candidate.constraints in
-    let h = g.H.GoalHandler.handler s.base c.args.handler.now in
-    let mode = c.args.table.now.mode in
-    let since = Since-later (Extends-trans there.goes.extends n.grows.extends) s in
-    ran_to {t = c.args.table.now} {u = c.equate.new.table} {v = c.record_constraints.new.table} h mode c.args.goal x vs gs (rw c.deref-2.ensures.value v.equated) (rw (c.deref-3.ensures.value) at k.added) constraints c.requires.candidate.goals v.runs.goes.extends k.runs.goes.extends there.goes.extends n.grows.extends k.runs.goes.table within (rw c.deref-4.ensures.value at n.added.goals) c.try_evaluate_goals.new.cx.nodes c.try_evaluate_goals.new.table (rw upto.goes.mode at (c.in_ok-certainty.ensures.told since (tell_grown h c.args.depth c.requires.search (grown (ran c.in_ok-values.ensures.runs) (grown (ran c.in_ok-record_constraints.ensures.runs) c.in_ok-goals.ensures.grows)) tells)))
+run_candidate-returns-clause-told = candidates.run_candidate-returns-clause-told
 
 pub run_candidate-returns-in_err-certainty-clause-refuted : goal.run_candidate-returns-in_err-certainty-clause-refuted
-run_candidate-returns-in_err-certainty-clause-refuted g t c = λ s tells no.
-    let v = c.in_ok-values.ensures in
-    let k = c.in_ok-record_constraints.ensures in
-    let there = Runs-trans v.runs k.runs in
-    let n = c.in_ok-goals.ensures in
-    let upto = Runs-trans there (Runs-extends k.runs.goes.table n.grows.extends n.grows.rest) in
-    let x = c.args.candidate.now in
-    let gs = c.in_ok-goals.goals.items in
-    let vs = c.deref-2.result.now in
-    let within : AllIn c.equate.new.cx.nodes c.deref-2.result.now = rw c.deref-2.ensures.value v.values.within in
-    let constraints = constraints-kept c.args.cx.now.nodes c.equate.new.cx.nodes x.fresh.items c.args.goal x.region_constraints.items v.runs.goes.extends c.requires.candidate.constraints in
-    let h = g.H.GoalHandler.handler s.base c.args.handler.now in
-    let mode = c.args.table.now.mode in
-    let since = Since-later (Extends-trans there.goes.extends n.grows.extends) s in
-    let refused : c.try_evaluate_goals.result ≡ Err EvalError.NoSolution = search rules in
-    ran_refused {t = c.args.table.now} {u = c.equate.new.table} {v = c.record_constraints.new.table} h mode c.args.goal x vs gs (rw c.deref-2.ensures.value v.equated) (rw (c.deref-3.ensures.value) at k.added) constraints c.requires.candidate.goals v.runs.goes.extends k.runs.goes.extends there.goes.extends n.grows.extends k.runs.goes.table within (rw c.deref-4.ensures.value at n.added.goals) (rw upto.goes.mode at (c.try_evaluate_goals.ensures.refuted since (tell_grown h c.args.depth c.requires.search (grown (ran c.in_ok-values.ensures.runs) (grown (ran c.in_ok-record_constraints.ensures.runs) c.in_ok-goals.ensures.grows)) tells) (kind_asked c.goal_kind-kind.result (meaning h s.variances) (c.goal_kind-kind.ensures.kind s.base s.variances) c.requires.asked) refused))
+run_candidate-returns-in_err-certainty-clause-refuted = candidates.run_candidate-returns-in_err-certainty-clause-refuted
 
 pub run_candidate-returns-in_err-certainty-clause-runs : goal.run_candidate-returns-in_err-certainty-clause-runs
-run_candidate-returns-in_err-certainty-clause-runs g t c =
-    let v = c.in_ok-values.ensures in
-    let k = c.in_ok-record_constraints.ensures in
-    let there = Runs-trans v.runs k.runs in
-    let n = c.in_ok-goals.ensures in
-    let upto = Runs-trans there (Runs-extends k.runs.goes.table n.grows.extends n.grows.rest) in
-    Runs-trans upto c.try_evaluate_goals.ensures.runs
+run_candidate-returns-in_err-certainty-clause-runs = candidates.run_candidate-returns-in_err-certainty-clause-runs
 
 pub run_candidate-returns-in_err-certainty-clause-searches : goal.run_candidate-returns-in_err-certainty-clause-searches
 run_candidate-returns-in_err-certainty-clause-searches g t c =
@@ -1225,42 +676,10 @@ run_candidate-returns-in_err-values-clause-searches g t c =
     Searches-refl c.args.depth c.requires.search (ran c.equate.ensures.runs)
 
 pub run_candidate-try_evaluate_goals-requires : goal.run_candidate-try_evaluate_goals-requires
-run_candidate-try_evaluate_goals-requires g t c = λ κs k-1.
-    let v = c.in_ok-values.ensures in
-    let k = c.in_ok-record_constraints.ensures in
-    let there = Runs-trans v.runs k.runs in
-    let n = c.in_ok-goals.ensures in (
-      omega (arith, c.decreases),
-      (
-        k-1,
-        (
-          IsTable-extended n.grows.extends k.runs.goes.table,
-          (
-            n.added.posed,
-            (
-              g.met.H.GoalHandler.ready_kept _ _ _ c.requires.ready (Extends-trans there.goes.extends n.grows.extends),
-              search_grows c.args.depth c.args.depth (omega arith) c.requires.search (grown (ran c.in_ok-values.ensures.runs) (grown (ran c.in_ok-record_constraints.ensures.runs) c.in_ok-goals.ensures.grows)),
-            ),
-          ),
-        ),
-      ),
-    )
+run_candidate-try_evaluate_goals-requires = candidates.run_candidate-try_evaluate_goals-requires
 
 pub search-evaluate_rounds-answer-requires : goal.search-evaluate_rounds-answer-requires
-search-evaluate_rounds-answer-requires g t c =
-    λ κs k. (
-      omega (arith, c.decreases),
-      (
-        k,
-        (
-          c.requires.input,
-          (
-            c.requires.ready,
-            search_later (c.args.depth + 1) (c.args.depth + 1) (omega arith) c.requires.search (search_marked (c.args.depth + 1) false c.requires.search),
-          ),
-        ),
-      ),
-    )
+search-evaluate_rounds-answer-requires = queries.search-evaluate_rounds-answer-requires
 
 pub search-returns-in-Some-clause-proved : goal.search-returns-in-Some-clause-proved
 search-returns-in-Some-clause-proved g t c =

@@ -4,7 +4,7 @@ use Rattle.nts_unify.specs.Lawful.{content_of-extended}
 use Rattle.nts_evaluation.proofs.Running.{unread}
 use Rattle.nts_evaluation.proofs.Evaluating.{Goes-trans, Goes-extends, Runs-trans, Runs-extends, Since-later}
 use Rattle.nts_evaluation.proofs.AskedGoals.{evaluates_at}
-use Rattle.std.proofs.Common.{subst, ◌⊎◌, inl, inr}
+use Rattle.std.proofs.Common.{subst}
 use Rattle.nts_certainty.specs.declared.sources.PathKind.TheVariants as path
 use Rattle.nts_delegate.specs.Offered.{path_kind_of}
 use Rattle.nts_evaluation.specs.Meant.{IsProvedFromSince}

@@ -1,0 +1,390 @@
+-- Longer answers for the functions that answer a goal by its candidates.
+use Rattle.std.proofs.Common.{◌≡◌, inr, Err, Ok, arith, rules, map, length, refl, ap, sym, ◌∙◌}
+use Rattle.nts_model.specs.Handlers.{meaning}
+use Rattle.nts_model.proofs.Bringing.{only-trans}
+use Rattle.nts_store.specs.declared.fault.EvalError.TheVariants as EvalError
+use Rattle.nts_store.specs.Growth.{tree_at, AllIn}
+use Rattle.nts_store.proofs.Growing.{Extends-trans, Extends-refl}
+use Rattle.nts_terms.specs.Modes.{mode_of}
+use Rattle.nts_terms.proofs.Moved.{KeepsRest-trans}
+use Rattle.nts_unify.specs.Reading.{content_of}
+use Rattle.nts_unify.specs.Lawful.{content_of-extended}
+use Rattle.nts_table.specs.TableLaws.{IsTable-extended}
+use Rattle.nts_delegate.specs.Offered.{certainty_of, candidate_of, premise_of}
+use Rattle.nts_delegate.proofs.Results.{IfOk-map}
+use Rattle.nts_canonical.specs.Forms.{trees_of}
+use Rattle.nts_evaluation.specs.Meant.{Since}
+use Rattle.nts_evaluation.proofs.Asking.{IsAskedGoal-extended, kind_asked}
+use Rattle.nts_evaluation.proofs.AskedGoals.{trees_kept}
+use Rattle.nts_evaluation.proofs.AnsweredQueries.{args_later}
+use Rattle.nts_evaluation.proofs.Labels.{only_earlier, only_back}
+use Rattle.nts_evaluation.proofs.Evaluating.{Goes-trans, Goes-extends, Runs-trans, Runs-extends, rolled_back, Since-later, offers-kept, IsPosed-later, AreValues-later, IsCandidate-extended, candidate_at}
+use Rattle.nts_evaluation.proofs.Running.{term_table, HasRun, has_run, both_sure, constraints-kept, offered_there, Equates-later, Constrains-later}
+use Rattle.nts_canonical.specs.declared.types.Canonical.{Canonical}
+use Rattle.nts_response.specs.declared.types.Response.{Response}
+use Rattle.nts_store.specs.Kept.{map-kept, AllIn-kept}
+use Rattle.nts_terms.proofs.Moved.{KeepsRest-refl}
+use Rattle.nts_evaluation.proofs.Evaluating.{goes-back, HoldsGoal-extended}
+use Rattle.nts_evaluation.proofs.Filtered.{kept_candidates, kept_offered, kept_outcomes, kept_tell}
+use Rattle.nts_evaluation.proofs.Opened.{told_through, told_offered, refuted_through, labels_through, proved_through}
+use Rattle.nts_evaluation.proofs.Probed.{found_in, found_still, went_in, plain_of, not_kept, told_or_plain, run_replies, said_of}
+use Rattle.nts_evaluation.proofs.Outcomes.{found_earlier, founds_more, founds_with, outcomes_first, outcomes_more, failed_of}
+use Rattle.nts_evaluation.proofs.Ran.{added_is, added_only, ran_to, ran_refused, all_proved, all_posed, proved_all, ok_inside}
+use Rattle.nts_model.specs.Rules.{goal_kind}
+use Rattle.nts_evaluation.specs.Searching.{HeadsTell, assumed_in}
+use Rattle.nts_evaluation.proofs.Searching.{Searches-refl, Searches-trans, search_later, search_grows, search_covers, covers_grown, served_more, tell_grown, heads_tell_later}
+use Rattle.nts_evaluation.proofs.Rounds.{grown, ran}
+use Rattle.nts_evaluation.proofs.evaluate.+evaluate.Goals as goal
+
+pub compute_goal-evaluate_candidates-response-requires : goal.compute_goal-evaluate_candidates-response-requires
+compute_goal-evaluate_candidates-response-requires g t c = λ κs k.
+    let o = c.in_ok-opened.ensures in
+    let e = c.in_ok-candidates.ensures in
+    let m = c.in_ok-kept.ensures in
+    let posed = rw c.in-Some.is at o.posed in
+    let more = Extends-trans e.grows.extends m.grows.extends in
+    let goes = goes-back o.goes.table more m.same in
+    let all = Goes-trans o.goes goes in (
+      omega (arith, c.decreases),
+      (
+        k,
+        (
+          IsPosed-later goes posed,
+          (
+            IsAskedGoal-extended more (c.is_candidates_goal.ensures c.if-not-is_candidates_goal.false),
+            (
+              g.met.H.GoalHandler.ready_kept _ _ _ c.requires.ready (Extends-trans o.grows.extends more),
+              (
+                rw c.deref.ensures.value (kept_candidates m.kept m.grows.extends (HoldsGoal-extended e.grows.extends posed.holds) e.candidates),
+                (
+                  args_later c.args.cx.now.nodes c.keep_met.new.cx.nodes c.args.table.now.entries c.keep_met.new.table.entries c.args.values.now all.extends all.continues c.requires.values,
+                  search_grows c.args.depth c.args.depth (omega arith) c.requires.search (grown o.grows (grown e.grows m.grows)),
+                ),
+              ),
+            ),
+          ),
+        ),
+      ),
+    )
+
+pub compute_goal-returns-clause-found : goal.compute_goal-returns-clause-found
+compute_goal-returns-clause-found g t c =
+    let o = c.in_ok-opened.ensures in
+    let e = c.in_ok-candidates.ensures in
+    let m = c.in_ok-kept.ensures in
+    let more = Extends-trans e.grows.extends m.grows.extends in
+    let up = Extends-trans o.grows.extends e.grows.extends in
+    let all = Extends-trans o.grows.extends more in
+    let opened = rw c.in-Some.is at o.opened in
+    let posed = rw c.in-Some.is at o.posed in
+    let both = trees_kept c.args.cx.now.nodes c.keep_met.new.cx.nodes c.args.table.now.entries c.args.values.now all c.requires.values in
+    let goes = Goes-extends o.goes.table more in
+    IfOk-map c.evaluate_candidates-response.result
+    (λ r f. record {
+      store = f.store;
+      after = f.after;
+      formed = f.formed;
+      goes = Goes-trans o.goes (Goes-trans goes f.goes);
+      labels = labels_through c.requires.posed opened o.grows.extends (only_back {g = c.in-Some.opened} more o.goes.table posed.holds f.labels);
+      extends = f.extends;
+      says = rw both at f.says;
+      holds = f.holds;
+      no_more = f.no_more;
+      sure = λ y s.
+          let h = g.H.GoalHandler.handler s.base c.args.handler.now in
+          let same = g.met.H.GoalHandler.handler_kept s.base c.candidates.new.cx.nodes c.args.handler.now s.is_ready (Extends-trans s.extends up) in
+          let offered = e.offered ∙ ap (λ m. (g.H.GoalHandler.handler c.candidates.new.cx.nodes c.args.handler.now).offers (mode_of m) (tree_at c.candidates.new.cx.nodes c.in-Some.opened.param_env.node) (tree_at c.candidates.new.cx.nodes c.in-Some.opened.predicate.node)) c.typing_mode.ensures ∙ same.offers _ _ _ in
+          let law = g.met.H.GoalHandler.lawful s.base c.args.handler.now s.formed s.is_ready in
+          let there = Goes-trans goes f.goes in
+          let later = (Goes-trans o.goes there).continues in
+          let among = kept_offered c.in-Some.opened h c.enter_forall.new.table.mode m.kept m.grows.extends (HoldsGoal-extended e.grows.extends posed.holds) e.candidates offered in
+          proved_through c.requires.posed opened o.grows.extends h s.variances (mode_of c.args.table.now.mode) (assumed_in c.evaluate_candidates-response.new.cx.nodes c.evaluate_candidates-response.new.graph) posed (let z = c.is_candidates_goal.ensures c.if-not-is_candidates_goal.false in z.asked) there later f.formed law (rw o.goes.mode at (f.sure y (Since-later all s) among));
+    })
+    (rw (c.deref.ensures.value, m.same) at c.evaluate_candidates-response.ensures.found)
+
+pub compute_goal-returns-clause-refuted : goal.compute_goal-returns-clause-refuted
+compute_goal-returns-clause-refuted g t c = λ s tells n.
+    let o = c.in_ok-opened.ensures in
+    let e = c.in_ok-candidates.ensures in
+    let m = c.in_ok-kept.ensures in
+    let up = Extends-trans o.grows.extends e.grows.extends in
+    let opened = rw c.in-Some.is at o.opened in
+    let posed = rw c.in-Some.is at o.posed in
+    let goes = Goes-trans o.goes (Goes-extends o.goes.table e.grows.extends) in
+    let args = args_later c.args.cx.now.nodes c.candidates.new.cx.nodes c.args.table.now.entries c.enter_forall.new.table.entries c.args.values.now goes.extends goes.continues c.requires.values in
+    let h = g.H.GoalHandler.handler s.base c.args.handler.now in
+    let same = g.met.H.GoalHandler.handler_kept s.base c.candidates.new.cx.nodes c.args.handler.now s.is_ready (Extends-trans s.extends up) in
+    let offered = e.offered ∙ ap (λ m. (g.H.GoalHandler.handler c.candidates.new.cx.nodes c.args.handler.now).offers (mode_of m) (tree_at c.candidates.new.cx.nodes c.in-Some.opened.param_env.node) (tree_at c.candidates.new.cx.nodes c.in-Some.opened.predicate.node)) c.typing_mode.ensures ∙ same.offers _ _ _ in
+    let here = content_of-extended e.grows.extends o.goes.table.now in
+    let kept = rw (c.deref.ensures.value, m.same) at (c.evaluate_candidates-response.ensures.refuted (Since-later (Extends-trans up m.grows.extends) s) (tell_grown h c.args.depth c.requires.search (grown o.grows (grown e.grows m.grows)) tells) n) in
+    let run = kept_outcomes c.in-Some.opened h c.enter_forall.new.table.mode c.args.values.now m.kept m.grows.extends (IsTable-extended e.grows.extends o.goes.table) args e.candidates kept in
+    refuted_through c.requires.posed opened o.grows.extends h c.args.table.now.mode (trees_of c.candidates.new.cx.nodes c.args.values.now)
+    (rw (here, offered, o.goes.mode, offers-kept h (mode_of c.args.table.now.mode) e.grows.extends posed.holds) at run)
+
+pub compute_goal-returns-clause-told : goal.compute_goal-returns-clause-told
+compute_goal-returns-clause-told g t c = λ s tells.
+    let o = c.in_ok-opened.ensures in
+    let e = c.in_ok-candidates.ensures in
+    let m = c.in_ok-kept.ensures in
+    let up = Extends-trans o.grows.extends e.grows.extends in
+    let opened = rw c.in-Some.is at o.opened in
+    let posed = rw c.in-Some.is at o.posed in
+    let goes = Goes-trans o.goes (Goes-extends o.goes.table e.grows.extends) in
+    let args = args_later c.args.cx.now.nodes c.candidates.new.cx.nodes c.args.table.now.entries c.enter_forall.new.table.entries c.args.values.now goes.extends goes.continues c.requires.values in
+    let trees = trees_kept c.args.cx.now.nodes c.enter_forall.new.cx.nodes c.args.table.now.entries c.args.values.now o.grows.extends c.requires.values in
+    let both = trees_kept c.args.cx.now.nodes c.candidates.new.cx.nodes c.args.table.now.entries c.args.values.now up c.requires.values in
+    let h = g.H.GoalHandler.handler s.base c.args.handler.now in
+    let same = g.met.H.GoalHandler.handler_kept s.base c.candidates.new.cx.nodes c.args.handler.now s.is_ready (Extends-trans s.extends up) in
+    let offered = e.offered ∙ ap (λ m. (g.H.GoalHandler.handler c.candidates.new.cx.nodes c.args.handler.now).offers (mode_of m) (tree_at c.candidates.new.cx.nodes c.in-Some.opened.param_env.node) (tree_at c.candidates.new.cx.nodes c.in-Some.opened.predicate.node)) c.typing_mode.ensures ∙ same.offers _ _ _ in
+    let run = rw (c.deref.ensures.value, m.same) at (c.evaluate_candidates-response.ensures.told (Since-later (Extends-trans up m.grows.extends) s) (tell_grown h c.args.depth c.requires.search (grown o.grows (grown e.grows m.grows)) tells)) in
+    IfOk-map c.evaluate_candidates-response.result
+    (λ r f. told_through c.requires.posed opened o.grows.extends h c.args.table.now.mode c.args.values.now c.evaluate_candidates-response.new.cx.nodes r trees
+    (rw (o.goes.mode) at (told_offered h c.enter_forall.new.table.mode c.enter_forall.new.table c.in-Some.opened c.args.values.now c.in_ok-candidates.candidates.items c.evaluate_candidates-response.new.cx.nodes r e.grows.extends o.goes.table posed.holds (both ∙ sym trees) offered
+    (kept_tell c.evaluate_candidates-response.new.cx.nodes c.in-Some.opened h c.enter_forall.new.table.mode c.args.values.now r m.kept m.grows.extends (IsTable-extended e.grows.extends o.goes.table) args e.candidates f)))) run
+
+pub evaluate_candidates-loop-candidate-init : goal.evaluate_candidates-loop-candidate-init
+evaluate_candidates-loop-candidate-init g t c = record {
+  same = refl;
+  grows = record { extends = Extends-refl _; rest = KeepsRest-refl _ };
+  searches = Searches-refl c.args.depth c.requires.search (record { extends = Extends-refl _; rest = KeepsRest-refl _ });
+  found = λ k d l. absurd (omega (arith, l, ap (length {A = Canonical Response}) c.new-responses.ensures.items));
+  told = λ s tells. outcomes_first c.args.cx.now.nodes c.args.cx.now.nodes c.args.table.now (g.H.GoalHandler.handler s.base c.args.handler.now) c.args.table.now.mode c.args.values.now c.args.candidates.now c.new-responses.result.items c.new-responses.ensures.items;
+}
+
+pub evaluate_candidates-loop-candidate-preserved : goal.evaluate_candidates-loop-candidate-preserved
+evaluate_candidates-loop-candidate-preserved g t c =
+    let i = c.loop-candidate.invariant in
+    let p = c.probe_candidate-answer.ensures in
+    let m = c.in_ok-keep_response.ensures in
+    let rs = c.loop-candidate.responses.items in
+    let new = c.keep_response.new.responses.items in
+    let at = c.loop-candidate-test.true in
+    let holds = c.requires.posed.holds in
+    let cs = c.args.candidates.now in
+    let x = c.candidate-item.result in
+    let w = c.requires.posed.table in
+    let mode = c.args.table.now.mode in
+    let now = search_later c.args.depth c.args.depth (omega arith) c.requires.search i.searches in
+    let covers = search_covers c.args.depth now p.grows.extends p.searches in
+    let later = λ (s : Since (λ ts. g.H.GoalHandler.ready ts c.args.handler.now) c.args.cx.now.nodes) (tells : HeadsTell (g.H.GoalHandler.handler s.base c.args.handler.now) c.args.cx.now.nodes c.args.graph.now). heads_tell_later (g.H.GoalHandler.handler s.base c.args.handler.now) c.args.depth c.requires.search i.grows.extends i.searches tells in
+    record {
+      same = p.same ∙ i.same;
+      grows = record { extends = Extends-trans i.grows.extends p.grows.extends; rest = KeepsRest-trans i.grows.rest p.grows.rest };
+      searches = Searches-trans i.searches p.searches;
+      found = founds_more rs new c.probe_candidate-answer.result p.grows.extends (founds_with rs (λ b u f s offered. served_more covers (f s offered)) i.found)
+          (IfOk-map c.probe_candidate-answer.result
+          (λ r f. found_earlier r i.grows.extends w holds c.requires.values
+          (λ b u f s offered. f (Since-later i.grows.extends s)
+          (rw (offers-kept (g.H.GoalHandler.handler s.base c.args.handler.now) (mode_of mode) i.grows.extends holds) (offered_there _ c.args.goal _ cs c.loop-candidate.candidate-index c.candidate-item.is at c.requires.candidates i.grows.extends offered))) f)
+          (rw i.same at p.found)) m.kept;
+      told = λ s tells. outcomes_more (g.H.GoalHandler.handler s.base c.args.handler.now) mode cs c.loop-candidate.candidate-index x x rs new c.probe_candidate-answer.result at c.candidate-item.is i.grows.extends p.grows.extends w c.requires.values (candidate_at c.args.cx.now.nodes c.args.goal cs c.loop-candidate.candidate-index x c.requires.candidates at) i.found m.kept
+          (rw i.same at (p.told (Since-later i.grows.extends s) (later s tells)))
+          (failed_of c.probe_candidate-answer.result m.dropped (λ n. rw i.same at (p.refuted (Since-later i.grows.extends s) (later s tells) n))) (i.told s tells);
+    }
+
+pub evaluate_candidates-probe_candidate-answer-requires : goal.evaluate_candidates-probe_candidate-answer-requires
+evaluate_candidates-probe_candidate-answer-requires g t c = λ κs k.
+    let i = c.loop-candidate.invariant in
+    let goes = goes-back c.requires.posed.table i.grows.extends i.same in (
+      omega (arith, c.decreases),
+      (
+        k,
+        (
+          IsPosed-later goes c.requires.posed,
+          (
+            IsAskedGoal-extended i.grows.extends c.requires.asked,
+            (
+              g.met.H.GoalHandler.ready_kept _ _ _ c.requires.ready i.grows.extends,
+              (
+                rw c.candidate-item.is (IsCandidate-extended i.grows.extends c.requires.posed.holds (candidate_at c.args.cx.now.nodes c.args.goal c.args.candidates.now c.loop-candidate.candidate-index _ c.requires.candidates c.loop-candidate-test.true)),
+                (
+                  args_later c.args.cx.now.nodes c.loop-candidate.cx.nodes c.args.table.now.entries c.loop-candidate.table.entries c.args.values.now goes.extends goes.continues c.requires.values,
+                  search_later c.args.depth c.args.depth (omega arith) c.requires.search i.searches,
+                ),
+              ),
+            ),
+          ),
+        ),
+      ),
+    )
+
+pub probe_candidate-make_response-requires-clause-values : goal.probe_candidate-make_response-requires-clause-values
+probe_candidate-make_response-requires-clause-values g t c =
+    let p = c.requires.posed in
+    let o = c.in_ok-snapshot.ensures in
+    let r = c.in-Ok.ensures in
+    let back = rolled_back o.saved r.runs.goes c.rollback_to-2.ensures.saved o.mode c.rollback_to-2.ensures.mode in
+    let goes = goes-back p.table r.runs.goes.extends back in
+    args_later c.args.cx.now.nodes c.run_candidate.new.cx.nodes c.args.table.now.entries c.rollback_to-2.new.self.entries c.args.values.now goes.extends goes.continues c.requires.values
+
+pub probe_candidate-returns-clause-found : goal.probe_candidate-returns-clause-found
+probe_candidate-returns-clause-found g t c =
+    let p = c.requires.posed in
+    let o = c.in_ok-snapshot.ensures in
+    let r = c.in-Ok.ensures in
+    let back = rolled_back o.saved r.runs.goes c.rollback_to-2.ensures.saved o.mode c.rollback_to-2.ensures.mode in
+    let m = c.in_ok-response-2.ensures in
+    found_still c.in_ok-response-2.response c.in-Ok.certainty p.table r.runs.goes.extends c.terms_are_formed.ensures m.grows.extends c.requires.values m.certainty (not_kept (sym c.keeps_constraints.ensures ∙ c.if-keeps_constraints.false)) (rw back at m.says) m.holds (record { no_hidden = m.nothing.0; no_goals = m.nothing.1 })
+
+pub probe_candidate-returns-clause-told : goal.probe_candidate-returns-clause-told
+probe_candidate-returns-clause-told g t c = λ s tells.
+    let p = c.requires.posed in
+    let o = c.in_ok-snapshot.ensures in
+    let r = c.in-Ok.ensures in
+    let went = went_in p.table o.entries o.saved o.mode r.runs.goes in
+    let back = rolled_back o.saved r.runs.goes c.rollback_to-2.ensures.saved o.mode c.rollback_to-2.ensures.mode in
+    let m = c.in_ok-response-2.ensures in
+    let h = g.H.GoalHandler.handler s.base c.args.handler.now in
+    let trees = trees_kept c.args.cx.now.nodes c.run_candidate.new.cx.nodes c.args.table.now.entries c.args.values.now went.extends c.requires.values in
+    let still = content_of-extended r.runs.goes.extends p.table.now in
+    let unsure = not_kept (sym c.keeps_constraints.ensures ∙ c.if-keeps_constraints.false) in
+    run_replies c.start_snapshot.new.self c.args.table.now c.run_candidate.new.table h c.args.table.now.mode c.args.candidate.now (trees_of c.args.cx.now.nodes c.args.values.now) _ (r.told s tells) o.mode o.entries
+    (inr (inr (rw o.entries (plain_of c.in-Ok.certainty _ _ _ (rw (back, still, trees) at m.says) unsure))))
+
+pub probe_candidate-returns-then-keeps_constraints-clause-found : goal.probe_candidate-returns-then-keeps_constraints-clause-found
+probe_candidate-returns-then-keeps_constraints-clause-found g t c =
+    let p = c.requires.posed in
+    let o = c.in_ok-snapshot.ensures in
+    let r = c.in-Ok.ensures in
+    let went = went_in p.table o.entries o.saved o.mode r.runs.goes in
+    let m = c.in_ok-response.ensures in
+    let now = search_later c.args.depth c.args.depth (omega arith) c.requires.search r.searches in
+    let covers = covers_grown c.args.depth now m.grows in
+    found_in c.in_ok-response.field-0 c.in-Ok.certainty went c.terms_are_formed.ensures m.grows.extends (rw o.entries at r.labels) c.requires.values m.certainty m.says m.holds (record { no_hidden = m.nothing.0; no_goals = m.nothing.1 })
+    (λ y s offered. served_more covers (rw o.mode at (r.proved s (rw o.mode offered) (ap Ok y))))
+
+pub probe_candidate-returns-then-keeps_constraints-clause-told : goal.probe_candidate-returns-then-keeps_constraints-clause-told
+probe_candidate-returns-then-keeps_constraints-clause-told g t c = λ s tells.
+    let p = c.requires.posed in
+    let o = c.in_ok-snapshot.ensures in
+    let r = c.in-Ok.ensures in
+    let went = went_in p.table o.entries o.saved o.mode r.runs.goes in
+    let m = c.in_ok-response.ensures in
+    let h = g.H.GoalHandler.handler s.base c.args.handler.now in
+    let trees = trees_kept c.args.cx.now.nodes c.run_candidate.new.cx.nodes c.args.table.now.entries c.args.values.now went.extends c.requires.values in
+    run_replies c.start_snapshot.new.self c.args.table.now c.run_candidate.new.table h c.args.table.now.mode c.args.candidate.now (trees_of c.args.cx.now.nodes c.args.values.now) _ (r.told s tells) o.mode o.entries
+    (said_of (told_or_plain c.in-Ok.certainty _ _ _ (rw trees at m.says)))
+
+pub run_candidate-returns-clause-labels : goal.run_candidate-returns-clause-labels
+run_candidate-returns-clause-labels g t c =
+    let v = c.in_ok-values.ensures in
+    let k = c.in_ok-record_constraints.ensures in
+    let n = c.in_ok-goals.ensures in
+    let e = c.in_ok-certainty.ensures in
+    let brought = added_only c.in_ok-goals.goals.items n.added e.labels (content_of-extended n.grows.extends k.runs.goes.table.now) in
+    only-trans v.labels (only_earlier v.runs.goes.extends c.requires.posed.holds (only-trans k.labels (only_earlier k.runs.goes.extends (HoldsGoal-extended v.runs.goes.extends c.requires.posed.holds) brought)))
+
+pub run_candidate-returns-clause-proved : goal.run_candidate-returns-clause-proved
+run_candidate-returns-clause-proved g t c = λ s offered y.
+    let v = c.in_ok-values.ensures in
+    let k = c.in_ok-record_constraints.ensures in
+    let there = Runs-trans v.runs k.runs in
+    let n = c.in_ok-goals.ensures in
+    let upto = Runs-trans there (Runs-extends k.runs.goes.table n.grows.extends n.grows.rest) in
+    let x = c.args.candidate.now in
+    let gs = c.in_ok-goals.goals.items in
+    let vs = c.deref-2.result.now in
+    let within : AllIn c.equate.new.cx.nodes c.deref-2.result.now = rw c.deref-2.ensures.value v.values.within in
+    let constraints = constraints-kept c.args.cx.now.nodes c.equate.new.cx.nodes x.fresh.items c.args.goal x.region_constraints.items v.runs.goes.extends c.requires.candidate.constraints in
+    let h = g.H.GoalHandler.handler s.base c.args.handler.now in
+    let mode = c.args.table.now.mode in
+    let since = Since-later (Extends-trans there.goes.extends n.grows.extends) s in
+    let e = c.in_ok-certainty.ensures in
+    let sure = both_sure _ _ (sym c.and.ensures ∙ ok_inside y) in
+    let z = c.try_evaluate_goals.new.cx.nodes in
+    let here = content_of z c.try_evaluate_goals.new.table.entries in
+    let seen = candidate_of c.args.cx.now.nodes x in
+    let steps = Runs-trans (Runs-extends k.runs.goes.table n.grows.extends n.grows.rest) e.runs in
+    let all = Runs-trans there steps in
+    let later = AreValues-later (Runs-trans k.runs steps).goes v.values in
+    let same = map-kept c.record_constraints.new.cx.nodes z vs (AllIn-kept c.equate.new.cx.nodes c.record_constraints.new.cx.nodes vs within k.runs.goes.extends) steps.goes.extends in
+    let goals = (rw c.deref-4.ensures.value at n.added.goals) ∙ added_is z c.args.goal x.fresh.items vs x.goals.items there.goes.extends c.requires.candidate.goals (sym same) in
+    let kind = goal_kind (meaning (g.H.GoalHandler.handler s.base c.args.handler.now) s.variances) (tree_at c.args.cx.now.nodes c.args.goal.predicate.node) in
+    let A = assumed_in c.try_evaluate_goals.new.cx.nodes c.try_evaluate_goals.new.graph in
+    let settled = rw (upto.goes.mode, c.goal_kind-kind.ensures.kind s.base s.variances) at (e.proved since) in
+    let none = e.sure (ap Ok sure.1) in
+    let run : HasRun (meaning (g.H.GoalHandler.handler s.base c.args.handler.now) s.variances) (mode_of c.args.table.now.mode) (goal_kind (meaning (g.H.GoalHandler.handler s.base c.args.handler.now) s.variances) (tree_at c.args.cx.now.nodes c.args.goal.predicate.node)) (assumed_in c.try_evaluate_goals.new.cx.nodes c.try_evaluate_goals.new.graph) (content_of c.try_evaluate_goals.new.cx.nodes c.try_evaluate_goals.new.table.entries) (candidate_of c.args.cx.now.nodes c.args.candidate.now) (map (tree_at c.try_evaluate_goals.new.cx.nodes) c.deref-2.result.now) = record {
+      sure = ap certainty_of sure.0;
+      values = rw c.deref-2.ensures.value later.values;
+      known = rw c.deref-2.ensures.value later.known;
+      equations = rw c.deref-2.ensures.value (Equates-later c.args.cx.now.nodes c.in_ok-values.values.items x.equations.items (Runs-trans k.runs steps).goes v.values.within v.equal);
+      constraints = Constrains-later c.args.cx.now.nodes vs x.region_constraints.items steps.goes (AllIn-kept c.equate.new.cx.nodes c.record_constraints.new.cx.nodes vs within k.runs.goes.extends) (rw (c.deref-3.ensures.value, constraints) at k.held);
+      goals = all_proved (meaning (g.H.GoalHandler.handler s.base c.args.handler.now) s.variances) (mode_of mode) kind A (map (tree_at z) vs) (map (premise_of c.args.cx.now.nodes) x.goals.items) gs goals (all_posed gs n.added.posed) e.runs.goes c.terms_are_formed.ensures (proved_all _ gs none settled);
+    } in
+    rw (all.goes.extends.kept c.args.goal.param_env.node c.requires.posed.holds.env.within, all.goes.extends.kept c.args.goal.predicate.node c.requires.posed.holds.predicate.within)
+    (has_run h s.variances (mode_of mode) A here seen (map (tree_at z) vs) (tree_at c.args.cx.now.nodes c.args.goal.param_env.node) (tree_at c.args.cx.now.nodes c.args.goal.predicate.node) (term_table c.terms_are_formed.ensures e.runs.goes.table) offered run)
+
+pub run_candidate-returns-clause-runs : goal.run_candidate-returns-clause-runs
+run_candidate-returns-clause-runs g t c =
+    let v = c.in_ok-values.ensures in
+    let k = c.in_ok-record_constraints.ensures in
+    let there = Runs-trans v.runs k.runs in
+    let n = c.in_ok-goals.ensures in
+    let upto = Runs-trans there (Runs-extends k.runs.goes.table n.grows.extends n.grows.rest) in
+    Runs-trans upto c.in_ok-certainty.ensures.runs
+
+pub run_candidate-returns-clause-told : goal.run_candidate-returns-clause-told
+run_candidate-returns-clause-told g t c = λ s tells.
+    let v = c.in_ok-values.ensures in
+    let k = c.in_ok-record_constraints.ensures in
+    let there = Runs-trans v.runs k.runs in
+    let n = c.in_ok-goals.ensures in
+    let upto = Runs-trans there (Runs-extends k.runs.goes.table n.grows.extends n.grows.rest) in
+    let x = c.args.candidate.now in
+    let gs = c.in_ok-goals.goals.items in
+    let vs = c.deref-2.result.now in
+    let within : AllIn c.equate.new.cx.nodes c.deref-2.result.now = rw c.deref-2.ensures.value v.values.within in
+    let constraints = constraints-kept c.args.cx.now.nodes c.equate.new.cx.nodes x.fresh.items c.args.goal x.region_constraints.items v.runs.goes.extends c.requires.candidate.constraints in
+    let h = g.H.GoalHandler.handler s.base c.args.handler.now in
+    let mode = c.args.table.now.mode in
+    let since = Since-later (Extends-trans there.goes.extends n.grows.extends) s in
+    ran_to {t = c.args.table.now} {u = c.equate.new.table} {v = c.record_constraints.new.table} h mode c.args.goal x vs gs (rw c.deref-2.ensures.value v.equated) (rw (c.deref-3.ensures.value) at k.added) constraints c.requires.candidate.goals v.runs.goes.extends k.runs.goes.extends there.goes.extends n.grows.extends k.runs.goes.table within (rw c.deref-4.ensures.value at n.added.goals) c.try_evaluate_goals.new.cx.nodes c.try_evaluate_goals.new.table (rw upto.goes.mode at (c.in_ok-certainty.ensures.told since (tell_grown h c.args.depth c.requires.search (grown (ran c.in_ok-values.ensures.runs) (grown (ran c.in_ok-record_constraints.ensures.runs) c.in_ok-goals.ensures.grows)) tells)))
+
+pub run_candidate-returns-in_err-certainty-clause-refuted : goal.run_candidate-returns-in_err-certainty-clause-refuted
+run_candidate-returns-in_err-certainty-clause-refuted g t c = λ s tells no.
+    let v = c.in_ok-values.ensures in
+    let k = c.in_ok-record_constraints.ensures in
+    let there = Runs-trans v.runs k.runs in
+    let n = c.in_ok-goals.ensures in
+    let upto = Runs-trans there (Runs-extends k.runs.goes.table n.grows.extends n.grows.rest) in
+    let x = c.args.candidate.now in
+    let gs = c.in_ok-goals.goals.items in
+    let vs = c.deref-2.result.now in
+    let within : AllIn c.equate.new.cx.nodes c.deref-2.result.now = rw c.deref-2.ensures.value v.values.within in
+    let constraints = constraints-kept c.args.cx.now.nodes c.equate.new.cx.nodes x.fresh.items c.args.goal x.region_constraints.items v.runs.goes.extends c.requires.candidate.constraints in
+    let h = g.H.GoalHandler.handler s.base c.args.handler.now in
+    let mode = c.args.table.now.mode in
+    let since = Since-later (Extends-trans there.goes.extends n.grows.extends) s in
+    let refused : c.try_evaluate_goals.result ≡ Err EvalError.NoSolution = search rules in
+    ran_refused {t = c.args.table.now} {u = c.equate.new.table} {v = c.record_constraints.new.table} h mode c.args.goal x vs gs (rw c.deref-2.ensures.value v.equated) (rw (c.deref-3.ensures.value) at k.added) constraints c.requires.candidate.goals v.runs.goes.extends k.runs.goes.extends there.goes.extends n.grows.extends k.runs.goes.table within (rw c.deref-4.ensures.value at n.added.goals) (rw upto.goes.mode at (c.try_evaluate_goals.ensures.refuted since (tell_grown h c.args.depth c.requires.search (grown (ran c.in_ok-values.ensures.runs) (grown (ran c.in_ok-record_constraints.ensures.runs) c.in_ok-goals.ensures.grows)) tells) (kind_asked c.goal_kind-kind.result (meaning h s.variances) (c.goal_kind-kind.ensures.kind s.base s.variances) c.requires.asked) refused))
+
+pub run_candidate-returns-in_err-certainty-clause-runs : goal.run_candidate-returns-in_err-certainty-clause-runs
+run_candidate-returns-in_err-certainty-clause-runs g t c =
+    let v = c.in_ok-values.ensures in
+    let k = c.in_ok-record_constraints.ensures in
+    let there = Runs-trans v.runs k.runs in
+    let n = c.in_ok-goals.ensures in
+    let upto = Runs-trans there (Runs-extends k.runs.goes.table n.grows.extends n.grows.rest) in
+    Runs-trans upto c.try_evaluate_goals.ensures.runs
+
+pub run_candidate-try_evaluate_goals-requires : goal.run_candidate-try_evaluate_goals-requires
+run_candidate-try_evaluate_goals-requires g t c = λ κs k-1.
+    let v = c.in_ok-values.ensures in
+    let k = c.in_ok-record_constraints.ensures in
+    let there = Runs-trans v.runs k.runs in
+    let n = c.in_ok-goals.ensures in (
+      omega (arith, c.decreases),
+      (
+        k-1,
+        (
+          IsTable-extended n.grows.extends k.runs.goes.table,
+          (
+            n.added.posed,
+            (
+              g.met.H.GoalHandler.ready_kept _ _ _ c.requires.ready (Extends-trans there.goes.extends n.grows.extends),
+              search_grows c.args.depth c.args.depth (omega arith) c.requires.search (grown (ran c.in_ok-values.ensures.runs) (grown (ran c.in_ok-record_constraints.ensures.runs) c.in_ok-goals.ensures.grows)),
+            ),
+          ),
+        ),
+      ),
+    )
