@@ -36,10 +36,10 @@ impl<H: GoalHandler> EvalCtxt<'_, H> {
     {
         self.state.check()?;
         let alloc = self.cx.alloc;
-        let depth = AvailableDepth::Root(self.state.root_depth);
+        let root_depth = self.state.root_depth;
         let mut goals = self.state.take_goals(alloc);
         let mut last_steps = 0;
-        let mut graph = SearchGraph::new(alloc, self.state.root_depth);
+        let mut graph = SearchGraph::new(alloc, root_depth);
         let evaluated = try_evaluate_goals(
             self.table,
             self.cx,
@@ -47,7 +47,7 @@ impl<H: GoalHandler> EvalCtxt<'_, H> {
             &mut graph,
             &mut goals,
             CurrentGoalKind::Misc,
-            depth,
+            AvailableDepth::Root(root_depth),
             &mut last_steps,
         );
         self.state.end_steps(goals, last_steps, evaluated)
