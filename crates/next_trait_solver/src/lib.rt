@@ -11,5 +11,6 @@ pub mod delegate;
 pub mod normalize;
 pub mod placeholder;
 pub mod resolve;
+pub mod search_graph;
 pub mod solve;
 pub mod ty;

@@ -1,5 +1,5 @@
 -- A round of a query: its input is put on the stack, and taken off again; what the rounds come to, and what a cycle tells.
-use Rattle.std.proofs.Common.{◌≡◌, inl, inr, ℕ, ◌+◌, ◌<◌, List, [], ◌∷◌, ◌++◌, length, get_or, Option, Some, None, sym, ap, ◌∙◌, subst, arith, length-append}
+use Rattle.std.proofs.Common.{◌≡◌, inl, inr, ℕ, ◌+◌, ◌<◌, List, [], ◌∷◌, ◌++◌, length, get_or, Option, Some, None, sym, ap, ◌∙◌, subst, arith, length-append, refl}
 use Rattle.std.specs.Prelude.{All, max, ◌≤◌, Result, Ok, Err, IfOk, IfSome, ◌⊎◌, false}
 use Rattle.std.proofs.lemmas.List.Elements.{All-push, All-pop}
 use Rattle.nts_model.specs.Trees.{Tree}
@@ -69,6 +69,14 @@ search_begun {a} {g} n stack none depth most =
 
 pub tell_begun : (g : SearchGraph) (hd : Handler) (ts : List Tree) → g.stack.items ≡ [] → HeadsTell hd ts g
 tell_begun g hd ts none = λ i d l. (let long : length g.stack.items ≡ 0 = ap length none in absurd (omega (arith, l, long)))
+
+-- .. as it does wherever its room is that of its whole depth
+pub empty_stack : {a : Cx} (g : SearchGraph) → IsSearch a g (g.root_depth + 1) → g.stack.items ≡ []
+empty_stack g s = no_entries g.stack.items (let r = s.room in omega (arith, r))
+  where
+    no_entries : (xs : List StackEntry) → length xs ≡ 0 → xs ≡ []
+    no_entries [] e = refl
+    no_entries (x ∷ xs) e = cc e
 
 -- at its end nothing is assumed
 pub nothing_left : {a b : Cx} {g h : SearchGraph} (ts : List Tree) (k : Kind) → g.stack.items ≡ [] → Searches a b g h → passed k (assumed_in ts h) ≡ []

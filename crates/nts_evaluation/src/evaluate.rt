@@ -84,7 +84,7 @@ pub fn evaluate_goal<H: GoalHandler>(
 
 /// Answers a query. Where its input is being evaluated above, this is a cycle. Else its goal is evaluated in rounds.
 #[cycle(evaluate)]
-fn search<H: GoalHandler>(
+pub fn search<H: GoalHandler>(
     cx: &mut Cx,
     handler: &H,
     graph: &mut SearchGraph,
@@ -219,16 +219,7 @@ fn compute_goal<H: GoalHandler>(
     }
     let candidates = handler.candidates(cx, table.typing_mode(), opened)?;
     let kept = keep_met(table, cx, opened, candidates)?;
-    let response = evaluate_candidates(
-        table,
-        cx,
-        handler,
-        graph,
-        opened,
-        &kept,
-        values,
-        depth,
-    );
+    let response = evaluate_candidates(table, cx, handler, graph, opened, &kept, values, depth);
     terms_are_formed(cx);
     response
 }

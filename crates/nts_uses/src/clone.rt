@@ -83,7 +83,7 @@ pub(crate) fn vec_of(
 
 /// Adds the rule that `Vec(T)` is `Clone` for each `T` that is. The rule's variable is the position 0.
 #[tactic(auto, using(nts_evaluation::proofs::Asking::asking, nts_terms::proofs::Moved::growth))]
-fn add_rule_of_vec(
+pub(crate) fn add_rule_of_vec(
     cx: &mut Cx,
     rules: &mut Clauses,
     clone: TraitId,

@@ -4,6 +4,7 @@
 
 mod clone;
 mod count;
+mod cycle;
 mod errors;
 mod rule;
 #[cfg(test)]
@@ -11,5 +12,6 @@ mod tests;
 
 pub use clone::clone_of_vec;
 pub use count::{count_goals, goals_of_vec};
+pub use cycle::{Counted, growing_answer};
 pub use errors::{Known, err_in_probes, errors_of_probes};
 pub use rule::{rule_of_vec, use_rule};

@@ -1,5 +1,7 @@
 //! What the example answers.
-use crate::{Known, clone_of_vec, errors_of_probes, goals_of_vec, rule_of_vec};
+use crate::{
+    Counted, Known, clone_of_vec, errors_of_probes, goals_of_vec, growing_answer, rule_of_vec,
+};
 use next_trait_solver::ty::{Certainty, EvalError};
 use std::alloc::Global;
 use std::process::Abort;
@@ -8,6 +10,22 @@ use std::process::Abort;
 fn vec_of_u32_is_clone(rt: HostRuntime) {
     let found = clone_of_vec(rt.alloc()).expect(&rt, "memory");
     assert!(rt; matches!(found, Some(Certainty::Yes)));
+}
+
+/// Each of eight rounds answers one `Vec` more, and then it is given up.
+#[test]
+fn an_answer_grows_for_eight_rounds(rt: HostRuntime) {
+    let found = growing_answer(rt.alloc()).expect(&rt, "memory");
+    assert!(rt;
+        matches!(
+            found,
+            Some(Counted {
+                certainty: Some(Certainty::Maybe(_)),
+                most_inputs: 1,
+                most_rounds: 8
+            })
+        )
+    );
 }
 
 #[test]

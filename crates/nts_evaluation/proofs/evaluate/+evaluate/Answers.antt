@@ -66,7 +66,6 @@ use Rattle.nts_evaluation.proofs.Rounds.{search_noted, own_asked, own_form, entr
 use Rattle.nts_evaluation.proofs.evaluate.+evaluate.Goals as goal
 use Rattle.nts_evaluation.proofs.evaluate.+evaluate.Answers.Queries as queries
 use Rattle.nts_evaluation.proofs.evaluate.+evaluate.Answers.Candidates as candidates
-
 mod Queries
 mod Candidates
 

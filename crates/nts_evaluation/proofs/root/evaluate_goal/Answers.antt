@@ -1,0 +1,32 @@
+use Rattle.std.proofs.Common.{◌≡◌, [], Err, rules, subst}
+use Rattle.nts_model.specs.Handlers.{meaning}
+use Rattle.nts_model.specs.Responses.{answer_sequent}
+use Rattle.nts_model.specs.Stacks.{IsDerivedFrom}
+use Rattle.nts_model.proofs.Rooted.{derived_proof}
+use Rattle.nts_store.specs.declared.fault.EvalError.TheVariants as EvalError
+use Rattle.nts_store.proofs.Growing.{Extends-refl}
+use Rattle.nts_terms.specs.Modes.{mode_of}
+use Rattle.nts_canonical.specs.Forms.{form_of}
+use Rattle.nts_response.specs.Forms.{response_at}
+use Rattle.nts_delegate.specs.Offered.{path_kind_of}
+use Rattle.nts_evaluation.proofs.Rounds.{empty_stack, tell_begun, nothing_left}
+use Rattle.nts_evaluation.proofs.root.evaluate_goal.Goals as goal
+
+pub returns-in-Ok-clause-proved : goal.returns-in-Ok-clause-proved
+returns-in-Ok-clause-proved g c = λ sure v.
+    let e = c.in-Ok.ensures in
+    let none = empty_stack c.args.graph.now c.requires.search in
+    let left = nothing_left c.search.new.cx.nodes (path_kind_of c.args.step_kind) none c.search.ensures.searches in
+    let derived = e.proved (record { base = c.args.cx.now.nodes; formed = c.terms_are_formed.ensures; extends = Extends-refl _; is_ready = c.requires.ready; variances = v }) sure in
+    derived_proof _ _ _ (subst (λ A. IsDerivedFrom (meaning (g.H.GoalHandler.handler c.args.cx.now.nodes c.args.handler.now) v) (mode_of c.args.input.typing_mode) A (answer_sequent (form_of c.args.cx.now.nodes c.args.input) (response_at c.search.new.cx.nodes c.in-Ok.answer))) left derived)
+
+pub returns-in-Ok-clause-told : goal.returns-in-Ok-clause-told
+returns-in-Ok-clause-told g c =
+    let none = empty_stack c.args.graph.now c.requires.search in
+    c.in-Ok.ensures.told (record { base = c.args.cx.now.nodes; formed = c.terms_are_formed.ensures; extends = Extends-refl _; is_ready = c.requires.ready; variances = λ i. [] }) (tell_begun c.args.graph.now (g.H.GoalHandler.handler c.args.cx.now.nodes c.args.handler.now) c.args.cx.now.nodes none)
+
+pub returns-in-Err-NoSolution-clause-refuted : goal.returns-in-Err-NoSolution-clause-refuted
+returns-in-Err-NoSolution-clause-refuted g c = λ q.
+    let none = empty_stack c.args.graph.now c.requires.search in
+    let refused : c.search.result ≡ Err EvalError.NoSolution = search rules in
+    c.search.ensures.refuted (record { base = c.args.cx.now.nodes; formed = c.terms_are_formed.ensures; extends = Extends-refl _; is_ready = c.requires.ready; variances = λ i. [] }) (tell_begun c.args.graph.now (g.H.GoalHandler.handler c.args.cx.now.nodes c.args.handler.now) c.args.cx.now.nodes none) refused
