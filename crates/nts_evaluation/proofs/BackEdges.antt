@@ -45,7 +45,9 @@ use Rattle.nts_evaluation.specs.Telling.{SaysNothing}
 use Rattle.nts_evaluation.specs.Searching.{IsSearch, AreLater, Searches, IsCut, IsReadAt, HasNoneAt, assumed_in}
 use Rattle.nts_evaluation.proofs.Searching.{later_itself}
 use Rattle.nts_evaluation.proofs.Unchanged.{unchanged_fits, nothing_said}
-use Rattle.nts_evaluation.specs.Answering.{IsQueryInput, IsAnswerTo}
+use Rattle.std.specs.Global.{Box}
+use Rattle.nts_evaluation.specs.Rounds.{IsBoxed}
+use Rattle.nts_evaluation.specs.Answering.{IsQueryInput, IsAnswerTo, IfAnswered}
 use Rattle.nts_evaluation.proofs.Unchanged.{get_mapped}
 use Rattle.nts_evaluation.specs.Searching.{IsHead, IsHeadAnswer, IsCopied, IsCopiedAnswer}
 
@@ -197,12 +199,16 @@ is_none : (x : Option (Canonical Response)) → x ≡ None → IsNone x
 is_none x e = subst IsNone (sym e) refl
 
 -- an answer, or that there is none
-pub by_answer : {P : Canonical Response → Type 0} (x : Option (Canonical Response)) (z : Result (Canonical Response) EvalError) → ((r : Canonical Response) → x ≡ Some r → z ≡ Ok r) → (x ≡ None → z ≡ Err error.NoSolution) → ((r : Canonical Response) → x ≡ Some r → P r) → IfOk z P
-by_answer {P} (Some r) z some none h = subst (λ w. IfOk w P) (sym (some r refl)) (h r refl)
-by_answer {P} None z some none h = subst (λ w. IfOk w P) (sym (none refl)) tt
+pub by_answer : {P : Canonical Response → Type 0} (x : Option (Canonical Response)) (z : Result (Box (Canonical Response)) EvalError) → ((r : Canonical Response) → x ≡ Some r → IsBoxed r z) → (x ≡ None → z ≡ Err error.NoSolution) → ((r : Canonical Response) → x ≡ Some r → P r) → IfAnswered z P
+by_answer {P} (Some r) z some none h = in_a_box z (some r refl)
+  where
+    in_a_box : (z : Result (Box (Canonical Response)) EvalError) → IsBoxed r z → IfAnswered z P
+    in_a_box (Ok b) e = subst P (sym e) (h r refl)
+    in_a_box (Err e) n = tt
+by_answer {P} None z some none h = subst (λ w. IfAnswered w P) (sym (none refl)) tt
 
-pub some_is_ok : (x : Option (Canonical Response)) (z : Result (Canonical Response) EvalError) → ((r : Canonical Response) → x ≡ Some r → z ≡ Ok r) → z ≡ Err error.NoSolution → x ≡ None
-some_is_ok (Some r) z some e = (let w : Err error.NoSolution ≡ Ok r = sym e ∙ some r refl in cc w)
+pub some_is_ok : (x : Option (Canonical Response)) (z : Result (Box (Canonical Response)) EvalError) → ((r : Canonical Response) → x ≡ Some r → IsBoxed r z) → z ≡ Err error.NoSolution → x ≡ None
+some_is_ok (Some r) z some e = (let n : IsBoxed r (Err error.NoSolution) = subst (IsBoxed r) e (some r refl) in absurd (n refl))
 some_is_ok None z some e = refl
 
 copied_here : (p : Option (Canonical Response)) (r : Canonical Response) → IsCopiedAnswer p (Some r) → (q : Canonical Response) × (p ≡ Some q) × IsCopied q r
@@ -221,26 +227,26 @@ copied_none p x h e = copied_from p (subst (IsCopiedAnswer p) e h)
 
 -- what is read of the entry x with the index n, whose input is the one asked
 module _ {a : Cx} {g : SearchGraph} (m n : ℕ) (search : IsSearch a g m) (below : n < length g.stack.items) (input : CanonicalInput) (same : (d : StackEntry) → AreOneInput a.nodes (get_or g.stack.items n d).input input)
-    (x : Option (Canonical Response)) (z : Result (Canonical Response) EvalError) (some : (r : Canonical Response) → x ≡ Some r → z ≡ Ok r) (none : x ≡ None → z ≡ Err error.NoSolution) (e : StackEntry) (is : e ≡ get_or g.stack.items n e) (copy : IsCopiedAnswer e.provisional x) where
+    (x : Option (Canonical Response)) (z : Result (Box (Canonical Response)) EvalError) (some : (r : Canonical Response) → x ≡ Some r → IsBoxed r z) (none : x ≡ None → z ≡ Err error.NoSolution) (e : StackEntry) (is : e ≡ get_or g.stack.items n e) (copy : IsCopiedAnswer e.provisional x) where
   head_there : IsHead a.nodes (get_or g.stack.items n e)
   head_there = search.heads n e below
 
   provisional_there : (r : Canonical Response) → x ≡ Some r → (q : Canonical Response) × ((get_or g.stack.items n e).provisional ≡ Some q) × IsCopied q r
   provisional_there r h = (let c = copied_some e.provisional x r copy h in (c.0, ap (λ y. y.provisional) (sym is) ∙ c.1, c.2))
 
-  pub read_fits : IfOk z (IsAnswerTo a.nodes (kinds_of input))
+  pub read_fits : IfAnswered z (IsAnswerTo a.nodes (kinds_of input))
   read_fits =
       by_answer x z some none (λ r h.
       let c = provisional_there r h in
       let one = same e in
       copied_head a.nodes (get_or g.stack.items n e) c.0 r (kinds_of input) head_there (ap (λ (f : Form). f.kinds) one.form) c.1 c.2)
 
-  pub read_answers : IfOk z (λ r. IsReadAt g.stack.items n r ⊎ SaysNothing (response_at a.nodes r))
+  pub read_answers : IfAnswered z (λ r. IsReadAt g.stack.items n r ⊎ SaysNothing (response_at a.nodes r))
   read_answers =
       by_answer x z some none (λ r h. inl (λ d. let c = provisional_there r h in let y = get_or_any g.stack.items n d e below in (c.0, ap (λ w. w.provisional) y ∙ c.1, c.2)))
 
   pub read_used : (h : SearchGraph) (k : PathKindData) (step : PathKindData) → entries_at a.nodes h ≡ marked (entries_at a.nodes g) (length g.stack.items - suc n) → k ≡ path.Coinductive → path_kind_of k ≡ path_kind (entries_at a.nodes g) (length g.stack.items - suc n) (path_kind_of step)
-      → IfOk z (λ r. r.value.certainty ≡ certainty.Yes → IsUsable (passed (path_kind_of step) (assumed_in a.nodes h)) (answer_sequent (form_of a.nodes input) (response_at a.nodes r)))
+      → IfAnswered z (λ r. r.value.certainty ≡ certainty.Yes → IsUsable (passed (path_kind_of step) (assumed_in a.nodes h)) (answer_sequent (form_of a.nodes input) (response_at a.nodes r)))
   read_used h k step read holds path =
       by_answer x z some none (λ r w sure.
       let c = provisional_there r w in
@@ -252,18 +258,18 @@ module _ {a : Cx} {g : SearchGraph} (m n : ℕ) (search : IsSearch a g m) (below
   read_refuted q = λ d. (let y = get_or_any g.stack.items n d e below in ap (λ w. w.provisional) y ∙ ap (λ w. w.provisional) (sym is) ∙ copied_none e.provisional x copy (some_is_ok x z some q))
 
 -- a first answer
-module _ (ts us : List Tree) (input : CanonicalInput) (asked : IsQueryInput ts input) (k : PathKindData) (x : Option (Canonical Response)) (z : Result (Canonical Response) EvalError) (some : (r : Canonical Response) → x ≡ Some r → z ≡ Ok r) (none : x ≡ None → z ≡ Err error.NoSolution)
+module _ (ts us : List Tree) (input : CanonicalInput) (asked : IsQueryInput ts input) (k : PathKindData) (x : Option (Canonical Response)) (z : Result (Box (Canonical Response)) EvalError) (some : (r : Canonical Response) → x ≡ Some r → IsBoxed r z) (none : x ≡ None → z ≡ Err error.NoSolution)
     (says : IfSome x (λ r. response_at us r ≡ record (unconstrained (kinds_of input)) { max_universe = input.canonical.max_universe })) (holds : IfSome x (λ r. HoldsResponse us r.value)) where
   said : (r : Canonical Response) → x ≡ Some r → response_at us r ≡ record (unconstrained (kinds_of input)) { max_universe = input.canonical.max_universe }
   said r e = subst (λ y. IfSome y (λ v. response_at us v ≡ record (unconstrained (kinds_of input)) { max_universe = input.canonical.max_universe })) e says
 
-  pub first_fits : IfOk z (IsAnswerTo us (kinds_of input))
+  pub first_fits : IfAnswered z (IsAnswerTo us (kinds_of input))
   first_fits = by_answer x z some none (λ r e. unchanged_fits ts us input r asked (subst (λ y. IfSome y (λ v. HoldsResponse us v.value)) e holds) (said r e))
 
-  pub first_answers : (xs : List StackEntry) (n : ℕ) → IfOk z (λ r. IsReadAt xs n r ⊎ SaysNothing (response_at us r))
+  pub first_answers : (xs : List StackEntry) (n : ℕ) → IfAnswered z (λ r. IsReadAt xs n r ⊎ SaysNothing (response_at us r))
   first_answers xs n = by_answer x z some none (λ r e. inr (nothing_said _ _ _ (said r e)))
 
-  pub first_unsure : (P : Canonical Response → Type 0) → IfSome x (λ r. (r.value.certainty ≡ certainty.Yes) ↔ (k ≡ path.Coinductive)) → (k ≡ path.Coinductive → ⊥) → IfOk z (λ r. r.value.certainty ≡ certainty.Yes → P r)
+  pub first_unsure : (P : Canonical Response → Type 0) → IfSome x (λ r. (r.value.certainty ≡ certainty.Yes) ↔ (k ≡ path.Coinductive)) → (k ≡ path.Coinductive → ⊥) → IfAnswered z (λ r. r.value.certainty ≡ certainty.Yes → P r)
   first_unsure P exact no_cycle = by_answer x z some none (λ r e sure. absurd (no_cycle ((subst (λ y. IfSome y (λ v. (v.value.certainty ≡ certainty.Yes) ↔ (k ≡ path.Coinductive))) e exact).0 sure)))
 
   pub first_refuted : (xs : List StackEntry) (n at : ℕ) (es : List Entry) (step : PathKindData) → IsNone x ↔ ((k ≡ path.Inductive) × (mode_of input.typing_mode ≢ coherence)) → path_kind_of k ≡ path_kind es at (path_kind_of step) → z ≡ Err error.NoSolution → HasNoneAt xs n ⊎ IsCut input.typing_mode step

@@ -26,6 +26,8 @@ use Rattle.nts_canonical.specs.Forms.{trees_of}
 use Rattle.nts_canonical.specs.Building.{IsArgOf}
 use Rattle.nts_response.specs.declared.types.Response.{Response}
 use Rattle.nts_response.specs.Forms.{response_at}
+use Rattle.std.specs.Global.{Box}
+use Rattle.nts_evaluation.specs.Answering.{IfAnswered}
 use Rattle.nts_evaluation.specs.Found.{Found, IsMerged, kept_after}
 use Rattle.nts_evaluation.specs.Telling.{IsPlain, Outcomes, Replies, Fails, StandsForAll}
 use Rattle.nts_evaluation.specs.Telling.Outcomes.{no_outcome, then_fails, then_replies}
@@ -63,8 +65,8 @@ responses_same {P} {a} {b} {e} {t} {g} {qs} (r ∷ rs) k h =
     λ i. first i ∷ rest i
 
 -- one more is found
-pub founds_more : {P : List Tree → Table → Type 0} {a b e : List Tree} {t : Table} {g : Goal} {qs : List GenericArg} (rs new : List (Canonical Response)) (x : Result (Canonical Response) EvalError) → Extends b e → All (Found P a b t g qs) rs → IfOk x (Found P a e t g qs) → new ≡ kept_after rs x → All (Found P a e t g qs) new
-founds_more {P} {a} {b} {e} {t} {g} {qs} rs new (Ok r) k h f q = subst (All (Found P a e t g qs)) (sym q) (All-push (Found P a e t g qs) rs r (λ i d l. found_later (get_or rs i d) k (h i d l)) f)
+pub founds_more : {P : List Tree → Table → Type 0} {a b e : List Tree} {t : Table} {g : Goal} {qs : List GenericArg} (rs new : List (Canonical Response)) (x : Result (Box (Canonical Response)) EvalError) → Extends b e → All (Found P a b t g qs) rs → IfAnswered x (Found P a e t g qs) → new ≡ kept_after rs x → All (Found P a e t g qs) new
+founds_more {P} {a} {b} {e} {t} {g} {qs} rs new (Ok r) k h f q = subst (All (Found P a e t g qs)) (sym q) (All-push (Found P a e t g qs) rs r.value (λ i d l. found_later (get_or rs i d) k (h i d l)) f)
 founds_more {P} {a} {b} {e} {t} {g} {qs} rs new (Err z) k h f q = subst (All (Found P a e t g qs)) (sym q) (λ i d l. found_later (get_or rs i d) k (h i d l))
 
 -- .. from which more follows
@@ -84,9 +86,9 @@ outcomes_first a b t h mode qs xs rs q = subst (λ z. HaveOutcomes h mode a t qs
 candidates_next : (ts : List Tree) (xs : List CandidateData) (i : ℕ) (d : CandidateData) → i < length xs → candidates_of ts (take (i + 1) xs) ≡ candidates_of ts (take i xs) ++ candidate_of ts (get_or xs i d) ∷ []
 candidates_next ts xs i d l = ap (map (candidate_of ts)) (take_more xs i d l) ∙ map-append (candidate_of ts) (take i xs) (get_or xs i d ∷ [])
 
-pub outcomes_more : {P : List Tree → Table → Type 0} {a b e : List Tree} {t : Table} {g : Goal} {qs : List GenericArg} (h : Handler) (mode : TypingMode) (xs : List CandidateData) (i : ℕ) (d x : CandidateData) (rs new : List (Canonical Response)) (y : Result (Canonical Response) EvalError)
+pub outcomes_more : {P : List Tree → Table → Type 0} {a b e : List Tree} {t : Table} {g : Goal} {qs : List GenericArg} (h : Handler) (mode : TypingMode) (xs : List CandidateData) (i : ℕ) (d x : CandidateData) (rs new : List (Canonical Response)) (y : Result (Box (Canonical Response)) EvalError)
     → i < length xs → x ≡ get_or xs i d → Extends a b → Extends b e → IsTable a t → All (IsArgOf a t.entries) qs → IsCandidate a g (get_or xs i d) → All (Found P a b t g qs) rs → new ≡ kept_after rs y
-    → IfOk y (RepliesWith h mode b t qs x e) → OnErr y (FailsIn h mode b t x) → HaveOutcomes h mode a t qs (take i xs) (map (response_at b) rs) → HaveOutcomes h mode a t qs (take (i + 1) xs) (map (response_at e) new)
+    → IfAnswered y (RepliesWith h mode b t qs x e) → OnErr y (FailsIn h mode b t x) → HaveOutcomes h mode a t qs (take i xs) (map (response_at b) rs) → HaveOutcomes h mode a t qs (take (i + 1) xs) (map (response_at e) new)
 outcomes_more {P} {a} {b} {e} {t} {g} {qs} h mode xs i d x rs new y l is ab be w args candidate found q told failed before =
     let c = content_of a t.entries in
     let now = content_of-extended ab w.now in
@@ -96,11 +98,11 @@ outcomes_more {P} {a} {b} {e} {t} {g} {qs} h mode xs i d x rs new y l is ab be w
     let earlier : Outcomes h (mode_of mode) c (trees_of a qs) (candidates_of a (take i xs)) (map (response_at e) rs) = rw (responses_same rs be found) before in
     by_answer y q told failed earlier now trees there
   where
-    by_answer : (y : Result (Canonical Response) EvalError) → new ≡ kept_after rs y → IfOk y (RepliesWith h mode b t qs x e) → OnErr y (FailsIn h mode b t x) → Outcomes h (mode_of mode) (content_of a t.entries) (trees_of a qs) (candidates_of a (take i xs)) (map (response_at e) rs)
+    by_answer : (y : Result (Box (Canonical Response)) EvalError) → new ≡ kept_after rs y → IfAnswered y (RepliesWith h mode b t qs x e) → OnErr y (FailsIn h mode b t x) → Outcomes h (mode_of mode) (content_of a t.entries) (trees_of a qs) (candidates_of a (take i xs)) (map (response_at e) rs)
         → content_of b t.entries ≡ content_of a t.entries → trees_of b qs ≡ trees_of a qs → candidate_of b x ≡ candidate_of a (get_or xs i d) → HaveOutcomes h mode a t qs (take (i + 1) xs) (map (response_at e) new)
     by_answer (Ok r) q told failed earlier now trees there =
-        let one : Replies h (mode_of mode) (content_of a t.entries) (trees_of a qs) (candidate_of a (get_or xs i d)) (response_at e r) = rw (now, trees, there) at told in
-        rw (candidates_next a xs i d l, q, map-append (response_at e) rs (r ∷ [])) (then_replies earlier one)
+        let one : Replies h (mode_of mode) (content_of a t.entries) (trees_of a qs) (candidate_of a (get_or xs i d)) (response_at e r.value) = rw (now, trees, there) at told in
+        rw (candidates_next a xs i d l, q, map-append (response_at e) rs (r.value ∷ [])) (then_replies earlier one)
     by_answer (Err z) q told failed earlier now trees there =
         let one : Fails h (mode_of mode) (content_of a t.entries) (candidate_of a (get_or xs i d)) = rw (now, there) at failed in
         rw (candidates_next a xs i d l, q) (then_fails earlier one)

@@ -38,7 +38,11 @@ use Rattle.nts_search.specs.declared.stack.SearchGraph.{SearchGraph}
 use Rattle.nts_search.specs.Searching.{entry_at, entries_at, HoldsAnswer, HoldsEntry, IsStack, IsInputAt, KeepsRest}
 use Rattle.nts_search.specs.Ending.{AreOneAnswer, IsVague}
 use Rattle.nts_search.proofs.RoundEnds.{round_may_end}
-use Rattle.nts_evaluation.specs.Answering.{IsQueryInput, IsAnswerTo}
+use Rattle.std.specs.Global.{Box}
+use Rattle.nts_evaluation.specs.declared.round.Asked.{Asked}
+use Rattle.nts_evaluation.specs.declared.round.Ended.{Ended}
+use Rattle.nts_evaluation.specs.Rounds.{IsFirst, IsTakenOff, EndsWith, IsBoxed}
+use Rattle.nts_evaluation.specs.Answering.{IsQueryInput, IsAnswerTo, IfAnswered}
 use Rattle.nts_evaluation.specs.Telling.{QueryTells, QueryRefutes, SaysNothing}
 use Rattle.nts_evaluation.specs.Telling.Tells.{says_nothing}
 use Rattle.nts_evaluation.specs.Searching.{IsHeadAnswer, IsHead, IsSearch, IsLater, AreLater, Searches, assumed_in, IsAnswerTold, HeadsTell, IsCut, IsReadAt, HasNoneAt}
@@ -206,18 +210,37 @@ pub round_told : (h : Handler) (ts : List Tree) (own input : CanonicalInput) (f 
 round_told h ts own input f g o is same t = subst (λ (i : CanonicalInput). IsAnswerTold h (mode_of i.typing_mode) ts g o) is (subst (λ z. IsAnswerTold h (mode_of own.typing_mode) ts z o) same t)
 
 -- an answer of the last round: it can be applied, it is derived, and it is told or refuted
-module _ (x : Option (Canonical Response)) (z : Result (Canonical Response) EvalError) (some : (r : Canonical Response) → x ≡ Some r → z ≡ Ok r) (none : x ≡ None → z ≡ Err error.NoSolution) where
-  pub last_fits : (ts : List Tree) (ks : List PositionKind) → IsHeadAnswer ts ks x → IfOk z (IsAnswerTo ts ks)
+module _ (x : Option (Canonical Response)) (z : Result (Box (Canonical Response)) EvalError) (some : (r : Canonical Response) → x ≡ Some r → IsBoxed r z) (none : x ≡ None → z ≡ Err error.NoSolution) where
+  pub last_fits : (ts : List Tree) (ks : List PositionKind) → IsHeadAnswer ts ks x → IfAnswered z (IsAnswerTo ts ks)
   last_fits ts ks h = by_answer x z some none (λ r e. subst (IsHeadAnswer ts ks) e h)
 
-  pub last_told : (hd : Handler) (mode : Mode) (ts : List Tree) (f : Form) → IsAnswerTold hd mode ts f x → IfOk z (λ r. QueryTells hd mode f (response_at ts r))
+  pub last_told : (hd : Handler) (mode : Mode) (ts : List Tree) (f : Form) → IsAnswerTold hd mode ts f x → IfAnswered z (λ r. QueryTells hd mode f (response_at ts r))
   last_told hd mode ts f h = by_answer x z some none (λ r e. subst (IsAnswerTold hd mode ts f) e h)
 
   pub last_refuted : (hd : Handler) (mode : Mode) (ts : List Tree) (f : Form) → IsAnswerTold hd mode ts f x → z ≡ Err error.NoSolution → QueryRefutes hd mode f
   last_refuted hd mode ts f h e = subst (IsAnswerTold hd mode ts f) (some_is_ok x z some e) h
 
-  pub last_each : {P : Canonical Response → Type 0} → ((r : Canonical Response) → x ≡ Some r → P r) → IfOk z P
+  pub last_each : {P : Canonical Response → Type 0} → ((r : Canonical Response) → x ≡ Some r → P r) → IfAnswered z P
   last_each h = by_answer x z some none h
+
+-- before the first round
+pub first_fits : (ts : List Tree) (i : CanonicalInput) (x : Asked) → IsFirst ts i x → IsHeadAnswer ts (kinds_of i) x.provisional
+first_fits ts i x h = subst (IsHeadAnswer ts (kinds_of i)) (sym h.is) h.fits
+
+pub first_told : (hd : Handler) (mode : Mode) (ts : List Tree) (f : Form) (i : CanonicalInput) (x : Asked) → IsFirst ts i x → IsAnswerTold hd mode ts f x.provisional
+first_told hd mode ts f i x h = subst (IsAnswerTold hd mode ts f) (sym h.is) (says_nothing h.nothing)
+
+-- what a round ends with, by what its table answered
+pub round_ends : (Q : Option (Canonical Response) → Type 0) (x : Result (Box (Canonical Response)) EvalError) (o : Option (Canonical Response)) → EndsWith x o → ((b : Box (Canonical Response)) → x ≡ Ok b → Q (Some b.value)) → (x ≡ Err error.NoSolution → Q None) → Q o
+round_ends Q (Ok b) o e some none = subst Q (sym e) (some b refl)
+round_ends Q (Err error.NoSolution) o e some none = subst Q (sym e) (none refl)
+round_ends Q (Err error.Memory) o e some none = absurd e
+round_ends Q (Err error.Full) o e some none = absurd e
+
+-- the entry that was taken off is the one that was put on
+pub ended_entry : (own x : StackEntry) (r : Result (Box Ended) EvalError) → IsLater own x → IfOk r (λ z. z.value.entry ≡ x) → IfOk r (λ z. (z.value.entry.input ≡ own.input) × (z.value.entry.step_kind ≡ own.step_kind) × (z.value.entry.provisional ≡ own.provisional))
+ended_entry own x (Ok z) l e = (ap (λ (y : StackEntry). y.input) e ∙ l.input, ap (λ (y : StackEntry). y.step_kind) e ∙ l.kind, ap (λ (y : StackEntry). y.provisional) e ∙ l.provisional)
+ended_entry own x (Err z) l e = tt
 
 -- what a cycle to the entry with this number is answered
 some_entry : {X : Type 0} (xs : List X) (n : ℕ) → n < length xs → X

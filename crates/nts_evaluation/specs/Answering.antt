@@ -1,5 +1,5 @@
 -- What a query's table answers, and what evaluating a goal leaves of the table that asked.
-use Rattle.std.specs.Global.{Vec}
+use Rattle.std.specs.Global.{Vec, Box}
 use Rattle.std.specs.Prelude.{◌≡◌, ◌⊎◌, ◌↔◌, Bool, true, false, List, [], map, All, Contains, Result, IfOk}
 use Rattle.nts_model.specs.Trees.{Tree, IsClosed}
 use Rattle.nts_model.specs.Contents.{Content, Recorded}
@@ -116,5 +116,9 @@ EvaluatesUnder a b t u g changed =
 abbrev pub IfSure : Result Evaluated EvalError → Type 0 → Type 0
 IfSure r P = IfOk r (λ e. e.certainty ≡ certainty.Yes → P)
 
-abbrev pub IfCertain : Result (Canonical Response) EvalError → (Canonical Response → Type 0) → Type 0
-IfCertain r P = IfOk r (λ c. c.value.certainty ≡ certainty.Yes → P c)
+abbrev pub IfCertain : Result (Box (Canonical Response)) EvalError → (Canonical Response → Type 0) → Type 0
+IfCertain r P = IfOk r (λ b. b.value.value.certainty ≡ certainty.Yes → P b.value)
+
+-- a response is so
+abbrev pub IfAnswered : {E : Type 0} → Result (Box (Canonical Response)) E → (Canonical Response → Type 0) → Type 0
+IfAnswered r P = IfOk r (λ b. P b.value)

@@ -1,4 +1,5 @@
 -- What was found in a table that is gone.
+use Rattle.std.specs.Global.{Box}
 use Rattle.std.specs.Prelude.{◌≡◌, ◌⊎◌, List, [], ◌∷◌, ◌++◌, map, Some, None, Result, Ok, Err}
 use Rattle.nts_model.specs.Trees.{Tree}
 use Rattle.nts_model.specs.Passing.{BringsOnly}
@@ -43,6 +44,6 @@ IsMerged a b t qs rs r =
     ⊎ (Merges a rs None × (r.value.certainty ≡ doubt_of (map (λ c. c.value.certainty) rs)) × IsPlain (content_of a t.entries) (trees_of a qs) (response_at b r) × HoldsResponse b r.value × TellsNoMore r)
 
 -- a response is kept, and that a candidate has no solution is not
-abbrev pub kept_after : List (Canonical Response) → Result (Canonical Response) EvalError → List (Canonical Response)
-kept_after rs (Ok r) = rs ++ r ∷ []
+abbrev pub kept_after : List (Canonical Response) → Result (Box (Canonical Response)) EvalError → List (Canonical Response)
+kept_after rs (Ok b) = rs ++ b.value ∷ []
 kept_after rs (Err e) = rs

@@ -5,6 +5,7 @@ pub mod Evaluation
 pub mod Instances
 pub mod Meant
 pub mod Opening
+pub mod Rounds
 pub mod Running
 pub mod Searching
 pub mod Telling

@@ -11,7 +11,8 @@ ghost use Rattle.nts_canonical.specs.Forms.{form_of};
 ghost use Rattle.nts_model.specs.Driving.{unconstrained};
 ghost use Rattle.nts_response.specs.Forms.{response_at, HoldsResponse};
 ghost use Rattle.nts_search.specs.declared.stack.StackEntry.{StackEntry};
-ghost use Rattle.nts_evaluation.specs.Answering.{IsQueryInput, IsAnswerTo, IfCertain};
+ghost use Rattle.nts_evaluation.specs.Answering.{IsQueryInput, IsAnswerTo, IfCertain, IfAnswered};
+ghost use Rattle.nts_evaluation.specs.Rounds.{IsBoxed};
 ghost use Rattle.nts_evaluation.specs.Searching.{IsSearch, Searches, IsCut, IsCopiedAnswer, IsReadAt, HasNoneAt, assumed_in};
 ghost use Rattle.nts_evaluation.specs.Telling.{SaysNothing};
 
@@ -21,6 +22,7 @@ use nts_response::{CanonicalResponse, clone_response, response_no_constraints_ra
 use nts_search::{SearchGraph, initial_provisional_result};
 use nts_store::{EvalError, Fault};
 use nts_terms::Cx;
+use std::alloc::Global;
 
 /// The answer to a query that finds nothing out of its variables.
 #[inline(never)]
@@ -28,15 +30,17 @@ pub fn unchanged_answer(
     cx: &mut Cx,
     input: &CanonicalInput,
     certainty: Certainty,
-) -> Result<CanonicalResponse, Fault>
+) -> Result<Box<CanonicalResponse>, Fault>
     requires { IsQueryInput cx.old.nodes input.now }
-    ensures fits { IfOk result (IsAnswerTo cx.new.nodes (kinds_of input.now)) }
-    ensures nothing { IfOk result (λ r. SaysNothing (response_at cx.new.nodes r)) }
-    ensures certainty { IfOk result (λ r. r.value.certainty ≡ certainty) }
+    ensures fits { IfAnswered result (IsAnswerTo cx.new.nodes (kinds_of input.now)) }
+    ensures nothing { IfAnswered result (λ r. SaysNothing (response_at cx.new.nodes r)) }
+    ensures certainty { IfAnswered result (λ r. r.value.certainty ≡ certainty) }
     ensures grows { Grows cx.old cx.new }
     ensures memory { IsOkUnless result Fault.Memory }
 {
-    identity_answer(cx, input, certainty)
+    let answer = identity_answer(cx, input, certainty)?;
+    let answer = Box::new(cx.alloc, answer)?;
+    Ok(answer)
 }
 
 /// The positions of an input, in order, as values.
@@ -55,14 +59,20 @@ fn identity_answer(
     response_no_constraints_raw(cx, input.canonical.max_universe, kinds, certainty)
 }
 
-/// An answer, or the error that says that there is none.
+/// An answer behind a box, or the error that says that there is none.
 #[inline(never)]
-pub fn answer_of(answer: Option<CanonicalResponse>) -> Result<CanonicalResponse, EvalError>
-    ensures some { (r : _) → answer ≡ Some r → result ≡ Ok r }
+pub fn answer_of(
+    alloc: Global,
+    answer: Option<CanonicalResponse>,
+) -> Result<Box<CanonicalResponse>, EvalError>
+    ensures some { (r : _) → answer ≡ Some r → IsBoxed r result }
     ensures none { answer ≡ None → result ≡ Err EvalError.NoSolution }
 {
     match answer {
-        Some(answer) => Ok(answer),
+        Some(answer) => {
+            let answer = Box::new(alloc, answer)?;
+            Ok(answer)
+        }
         None => Err(EvalError::NoSolution),
     }
 }
@@ -77,26 +87,26 @@ pub fn answer_cycle(
     head: usize,
     input: &CanonicalInput,
     step: PathKind,
-) -> Result<CanonicalResponse, EvalError>
+) -> Result<Box<CanonicalResponse>, EvalError>
     requires input { IsQueryInput cx.old.nodes input.now }
     requires head { head < length graph.old.stack.items }
     requires same { (d : StackEntry) → AreOneInput cx.old.nodes (get_or graph.old.stack.items head d).input input.now }
     requires search { (n : ℕ) × IsSearch cx.old graph.old n }
     ensures grows { Grows cx.old cx.new }
     ensures searches { Searches cx.old cx.new graph.old graph.new }
-    ensures fits { IfOk result (IsAnswerTo cx.new.nodes (kinds_of input.now)) }
+    ensures fits { IfAnswered result (IsAnswerTo cx.new.nodes (kinds_of input.now)) }
     ensures usable { IfCertain result (λ r. IsUsable (passed (path_kind_of step) (assumed_in cx.new.nodes graph.new)) (answer_sequent (form_of cx.old.nodes input.now) (response_at cx.new.nodes r))) }
-    ensures some { IfOk result (λ r. IsReadAt graph.old.stack.items head r ⊎ SaysNothing (response_at cx.new.nodes r)) }
+    ensures some { IfAnswered result (λ r. IsReadAt graph.old.stack.items head r ⊎ SaysNothing (response_at cx.new.nodes r)) }
     ensures none { result ≡ Err EvalError.NoSolution → HasNoneAt graph.old.stack.items head ⊎ IsCut input.now.typing_mode step }
 {
     let kind = graph.path_kind(head, step);
     if kind == PathKind::Coinductive {
         let answer = copy_answer(&graph.stack[head].provisional)?;
         graph.read(head);
-        return answer_of(answer);
+        return answer_of(cx.alloc, answer);
     }
     let answer = initial_provisional_result(cx, kind, input)?;
-    answer_of(answer)
+    answer_of(cx.alloc, answer)
 }
 
 /// The same answer once more.

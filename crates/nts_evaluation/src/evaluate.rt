@@ -1,5 +1,5 @@
 //! The recursion over nested goals. Its functions stand on the stack once for each goal above, so what
-//! they call and is not of the recursion is kept out of their frames, by `inline(never)`.
+//! they call and is not of the recursion is kept out of their frames, by `inline(never)`, and what is large stands behind boxes.
 ghost use Rattle.std.specs.Prelude.{true, false, ◌≡◌, ◌≢◌, ◌<◌, ◌≤◌, ◌+◌, ◌⊎◌, [], ◌∷◌, Some, IfOk, IfSome, OnOk, OnErr, All};
 ghost use Rattle.nts_model.specs.Passing.{BringsOnly};
 ghost use Rattle.nts_model.specs.Proofs.{passed};
@@ -18,7 +18,7 @@ ghost use Rattle.nts_evaluation.specs.Meant.{Since, meaning_since, AreOffered, I
 ghost use Rattle.nts_evaluation.specs.Searching.{IsSearch, Searches, IsHeadAnswer, IsAnswerTold, HeadsTell, IsCut, assumed_in};
 ghost use Rattle.nts_evaluation.specs.Found.{Found};
 ghost use Rattle.nts_evaluation.specs.Stepping.{ArePosed, AreLeft, AreSettled, terms_of, bound_of};
-ghost use Rattle.nts_evaluation.specs.Answering.{IsQueryInput, IsAnswerTo, EvaluatesGoal, IfSure, IfCertain};
+ghost use Rattle.nts_evaluation.specs.Answering.{IsQueryInput, IsAnswerTo, EvaluatesGoal, IfSure, IfCertain, IfAnswered};
 ghost use Rattle.nts_evaluation.specs.Evaluation.{Runs, IsPosed, IsAskedGoal, asked_terms};
 ghost use Rattle.nts_unify.specs.Reading.{content_of};
 ghost use Rattle.nts_table.specs.Tables.{IsTable};
@@ -28,17 +28,18 @@ ghost use Rattle.nts_terms.specs.Rest.{Grows};
 use crate::asked::{goal_kind, is_candidates_goal};
 use crate::binder::enter_forall;
 use crate::candidate::{Trial, equate, record_constraints, resolve_goal, terms_are_formed};
-use crate::cycles::{answer_cycle, answer_of, unchanged_answer};
+use crate::cycles::{answer_cycle, unchanged_answer};
 use crate::filter::keep_met;
 use crate::merged::{keep_response, merge_responses};
-use crate::query::{keeps_constraints, query_of};
-use crate::response::{apply_answer, make_response};
+use crate::query::{boxed_query, keeps_constraints, query_table};
+use crate::response::{apply_answer, boxed_response};
+use crate::round::{Asked, Ended, end_round, first_round, last_answer, next_round, push_query};
 use crate::steps::{AvailableDepth, Step};
-use nts_canonical::{CanonicalInput, build_with_canonical};
+use nts_canonical::CanonicalInput;
 use nts_certainty::{Certainty, GoalSource, HasChanged, PathKind};
 use nts_delegate::{CandidateData, GoalHandler};
 use nts_response::CanonicalResponse;
-use nts_search::{CurrentGoalKind, SearchGraph, StackEntry, round_is_last, step_kind_for_source};
+use nts_search::{CurrentGoalKind, SearchGraph, round_is_last, step_kind_for_source};
 use nts_store::EvalError;
 use nts_table::InferCtxt;
 use nts_terms::{Cx, GenericArg, Goal};
@@ -75,7 +76,7 @@ pub fn evaluate_goal<H: GoalHandler>(
     ensures told { (s : Since (λ ts. H.ready ts handler.now) cx.old.nodes) → HeadsTell (H.handler s.base handler.now) cx.old.nodes graph.old → OnOk result (IsAskedTo (H.handler s.base handler.now) table.old.mode cx.old.nodes table.old cx.new.nodes table.new goal) }
     ensures refuted { (s : Since (λ ts. H.ready ts handler.now) cx.old.nodes) → HeadsTell (H.handler s.base handler.now) cx.old.nodes graph.old → result ≡ Err EvalError.NoSolution → IsRefusedIn (H.handler s.base handler.now) table.old.mode cx.old.nodes table.old goal ⊎ IsCut table.old.mode step }
 {
-    let (originals, input) = query_of(table, cx, goal)?;
+    let (originals, input) = boxed_query(table, cx, goal)?;
     let answer = search(cx, handler, graph, input, step, depth)?;
     let evaluated = apply_answer(table, cx, goal.param_env, &originals, &answer);
     terms_are_formed(cx);
@@ -88,19 +89,19 @@ pub fn search<H: GoalHandler>(
     cx: &mut Cx,
     handler: &H,
     graph: &mut SearchGraph,
-    input: CanonicalInput,
+    input: Box<CanonicalInput>,
     step: PathKind,
     depth: usize,
-) -> Result<CanonicalResponse, EvalError>
-    requires input { IsQueryInput cx.old.nodes input }
+) -> Result<Box<CanonicalResponse>, EvalError>
+    requires input { IsQueryInput cx.old.nodes input.value }
     requires ready { H.ready cx.old.nodes handler.now }
     requires search { IsSearch cx.old graph.old (depth + 1) }
     ensures grows { Grows cx.old cx.new }
     ensures searches { Searches cx.old cx.new graph.old graph.new }
-    ensures fits { IfOk result (IsAnswerTo cx.new.nodes (kinds_of input)) }
-    ensures proved { (s : Since (λ ts. H.ready ts handler.now) cx.old.nodes) → IfCertain result (λ r. IsDerivedFrom (meaning_since (λ ts. H.handler ts handler.now) s) (mode_of input.typing_mode) (passed (path_kind_of step) (assumed_in cx.new.nodes graph.new)) (answer_sequent (form_of cx.old.nodes input) (response_at cx.new.nodes r))) }
-    ensures told { (s : Since (λ ts. H.ready ts handler.now) cx.old.nodes) → HeadsTell (H.handler s.base handler.now) cx.old.nodes graph.old → IfOk result (IsQueryTold (H.handler s.base handler.now) (mode_of input.typing_mode) cx.old.nodes input cx.new.nodes) }
-    ensures refuted { (s : Since (λ ts. H.ready ts handler.now) cx.old.nodes) → HeadsTell (H.handler s.base handler.now) cx.old.nodes graph.old → result ≡ Err EvalError.NoSolution → IsQueryRefuted (H.handler s.base handler.now) (mode_of input.typing_mode) cx.old.nodes input ⊎ IsCut input.typing_mode step }
+    ensures fits { IfAnswered result (IsAnswerTo cx.new.nodes (kinds_of input.value)) }
+    ensures proved { (s : Since (λ ts. H.ready ts handler.now) cx.old.nodes) → IfCertain result (λ r. IsDerivedFrom (meaning_since (λ ts. H.handler ts handler.now) s) (mode_of input.value.typing_mode) (passed (path_kind_of step) (assumed_in cx.new.nodes graph.new)) (answer_sequent (form_of cx.old.nodes input.value) (response_at cx.new.nodes r))) }
+    ensures told { (s : Since (λ ts. H.ready ts handler.now) cx.old.nodes) → HeadsTell (H.handler s.base handler.now) cx.old.nodes graph.old → IfAnswered result (IsQueryTold (H.handler s.base handler.now) (mode_of input.value.typing_mode) cx.old.nodes input.value cx.new.nodes) }
+    ensures refuted { (s : Since (λ ts. H.ready ts handler.now) cx.old.nodes) → HeadsTell (H.handler s.base handler.now) cx.old.nodes graph.old → result ≡ Err EvalError.NoSolution → IsQueryRefuted (H.handler s.base handler.now) (mode_of input.value.typing_mode) cx.old.nodes input.value ⊎ IsCut input.value.typing_mode step }
 {
     if let Some(head) = graph.find(cx, &input) {
         return answer_cycle(cx, graph, head, &input, step);
@@ -119,33 +120,30 @@ fn evaluate_rounds<H: GoalHandler>(
     cx: &mut Cx,
     handler: &H,
     graph: &mut SearchGraph,
-    input: CanonicalInput,
+    input: Box<CanonicalInput>,
     step: PathKind,
     depth: usize,
-) -> Result<CanonicalResponse, EvalError>
-    requires input { IsQueryInput cx.old.nodes input }
+) -> Result<Box<CanonicalResponse>, EvalError>
+    requires input { IsQueryInput cx.old.nodes input.value }
     requires ready { H.ready cx.old.nodes handler.now }
     requires search { IsSearch cx.old graph.old (depth + 1) }
     ensures grows { Grows cx.old cx.new }
     ensures searches { Searches cx.old cx.new graph.old graph.new }
-    ensures fits { IfOk result (IsAnswerTo cx.new.nodes (kinds_of input)) }
-    ensures proved { (s : Since (λ ts. H.ready ts handler.now) cx.old.nodes) → IfCertain result (λ r. IsDerivedFrom (meaning_since (λ ts. H.handler ts handler.now) s) (mode_of input.typing_mode) (passed (path_kind_of step) (assumed_in cx.new.nodes graph.new)) (answer_sequent (form_of cx.old.nodes input) (response_at cx.new.nodes r))) }
-    ensures told { (s : Since (λ ts. H.ready ts handler.now) cx.old.nodes) → HeadsTell (H.handler s.base handler.now) cx.old.nodes graph.old → IfOk result (IsQueryTold (H.handler s.base handler.now) (mode_of input.typing_mode) cx.old.nodes input cx.new.nodes) }
-    ensures refuted { (s : Since (λ ts. H.ready ts handler.now) cx.old.nodes) → HeadsTell (H.handler s.base handler.now) cx.old.nodes graph.old → result ≡ Err EvalError.NoSolution → IsQueryRefuted (H.handler s.base handler.now) (mode_of input.typing_mode) cx.old.nodes input }
+    ensures fits { IfAnswered result (IsAnswerTo cx.new.nodes (kinds_of input.value)) }
+    ensures proved { (s : Since (λ ts. H.ready ts handler.now) cx.old.nodes) → IfCertain result (λ r. IsDerivedFrom (meaning_since (λ ts. H.handler ts handler.now) s) (mode_of input.value.typing_mode) (passed (path_kind_of step) (assumed_in cx.new.nodes graph.new)) (answer_sequent (form_of cx.old.nodes input.value) (response_at cx.new.nodes r))) }
+    ensures told { (s : Since (λ ts. H.ready ts handler.now) cx.old.nodes) → HeadsTell (H.handler s.base handler.now) cx.old.nodes graph.old → IfAnswered result (IsQueryTold (H.handler s.base handler.now) (mode_of input.value.typing_mode) cx.old.nodes input.value cx.new.nodes) }
+    ensures refuted { (s : Since (λ ts. H.ready ts handler.now) cx.old.nodes) → HeadsTell (H.handler s.base handler.now) cx.old.nodes graph.old → result ≡ Err EvalError.NoSolution → IsQueryRefuted (H.handler s.base handler.now) (mode_of input.value.typing_mode) cx.old.nodes input.value }
 {
-    let mut provisional = Some(unchanged_answer(cx, &input, Certainty::Yes)?);
-    let mut input = input;
+    let mut asked = first_round(cx, input)?;
     for round in 0..cx.round_limit() {
         graph.note_round(round + 1);
-        let (answer, entry) = evaluate_round(cx, handler, graph, input, step, provisional, depth)?;
-        if round_is_last(cx, &entry, &answer) {
-            return answer_of(answer);
+        let ended = evaluate_round(cx, handler, graph, asked, step, depth)?;
+        if round_is_last(cx, &ended.entry, &ended.answer) {
+            return last_answer(cx.alloc, ended);
         }
-        let StackEntry { input: own, .. } = entry;
-        input = own;
-        provisional = answer;
+        asked = next_round(cx.alloc, ended)?;
     }
-    let answer = unchanged_answer(cx, &input, Certainty::overflow(false))?;
+    let answer = unchanged_answer(cx, &asked.input, Certainty::overflow(false))?;
     Ok(answer)
 }
 
@@ -156,33 +154,27 @@ fn evaluate_round<H: GoalHandler>(
     cx: &mut Cx,
     handler: &H,
     graph: &mut SearchGraph,
-    input: CanonicalInput,
+    asked: Box<Asked>,
     step: PathKind,
-    provisional: Option<CanonicalResponse>,
     depth: usize,
-) -> Result<(Option<CanonicalResponse>, StackEntry), EvalError>
-    requires input { IsQueryInput cx.old.nodes input }
-    requires provisional { IsHeadAnswer cx.old.nodes (kinds_of input) provisional }
+) -> Result<Box<Ended>, EvalError>
+    requires input { IsQueryInput cx.old.nodes asked.value.input }
+    requires provisional { IsHeadAnswer cx.old.nodes (kinds_of asked.value.input) asked.value.provisional }
     requires ready { H.ready cx.old.nodes handler.now }
     requires search { IsSearch cx.old graph.old (depth + 1) }
     ensures grows { Grows cx.old cx.new }
     ensures searches { Searches cx.old cx.new graph.old graph.new }
-    ensures entry { IfOk result (λ z. (z.1.input ≡ input) × (z.1.step_kind ≡ step) × (z.1.provisional ≡ provisional)) }
-    ensures fits { IfOk result (λ z. IsHeadAnswer cx.new.nodes (kinds_of input) z.0) }
-    ensures proved { (s : Since (λ ts. H.ready ts handler.now) cx.old.nodes) → IfOk result (λ z. IfSome z.0 (λ r. r.value.certainty ≡ certainty.Yes → IsDerivedFrom (meaning_since (λ ts. H.handler ts handler.now) s) (mode_of input.typing_mode) (assumptions (entry_at cx.new.nodes z.1 ∷ entries_at cx.new.nodes graph.new)) (answer_sequent (form_of cx.old.nodes input) (response_at cx.new.nodes r)))) }
-    ensures told { (s : Since (λ ts. H.ready ts handler.now) cx.old.nodes) → HeadsTell (H.handler s.base handler.now) cx.old.nodes graph.old → IsAnswerTold (H.handler s.base handler.now) (mode_of input.typing_mode) cx.old.nodes (form_of cx.old.nodes input) provisional → IfOk result (λ z. IsAnswerTold (H.handler s.base handler.now) (mode_of input.typing_mode) cx.new.nodes (form_of cx.old.nodes input) z.0) }
+    ensures entry { IfOk result (λ z. (z.value.entry.input ≡ asked.value.input) × (z.value.entry.step_kind ≡ step) × (z.value.entry.provisional ≡ asked.value.provisional)) }
+    ensures fits { IfOk result (λ z. IsHeadAnswer cx.new.nodes (kinds_of asked.value.input) z.value.answer) }
+    ensures proved { (s : Since (λ ts. H.ready ts handler.now) cx.old.nodes) → IfOk result (λ z. IfSome z.value.answer (λ r. r.value.certainty ≡ certainty.Yes → IsDerivedFrom (meaning_since (λ ts. H.handler ts handler.now) s) (mode_of asked.value.input.typing_mode) (assumptions (entry_at cx.new.nodes z.value.entry ∷ entries_at cx.new.nodes graph.new)) (answer_sequent (form_of cx.old.nodes asked.value.input) (response_at cx.new.nodes r)))) }
+    ensures told { (s : Since (λ ts. H.ready ts handler.now) cx.old.nodes) → HeadsTell (H.handler s.base handler.now) cx.old.nodes graph.old → IsAnswerTold (H.handler s.base handler.now) (mode_of asked.value.input.typing_mode) cx.old.nodes (form_of cx.old.nodes asked.value.input) asked.value.provisional → IfOk result (λ z. IsAnswerTold (H.handler s.base handler.now) (mode_of asked.value.input.typing_mode) cx.new.nodes (form_of cx.old.nodes asked.value.input) z.value.answer) }
     ensures no { result ≢ Err EvalError.NoSolution }
 {
-    let (mut table, query, values) = build_with_canonical(cx, &input)?;
-    graph.push(input, step, provisional)?;
-    let response = compute_goal(&mut table, cx, handler, graph, query.goal, &values, depth);
+    let (mut table, goal, values) = query_table(cx, &asked.input)?;
+    push_query(graph, asked, step)?;
+    let response = compute_goal(&mut table, cx, handler, graph, goal, &values, depth);
     terms_are_formed(cx);
-    let entry = graph.pop();
-    match response {
-        Ok(answer) => Ok((Some(answer), entry)),
-        Err(EvalError::NoSolution) => Ok((None, entry)),
-        Err(error) => Err(error),
-    }
+    end_round(cx.alloc, graph, response)
 }
 
 /// Answers a goal by its kind, with placeholders in place of what it binds, for the terms that stand for the positions of its
@@ -196,25 +188,25 @@ fn compute_goal<H: GoalHandler>(
     goal: Goal,
     values: &[GenericArg],
     depth: usize,
-) -> Result<CanonicalResponse, EvalError>
+) -> Result<Box<CanonicalResponse>, EvalError>
     requires posed { IsPosed cx.old.nodes table.old goal }
     requires ready { H.ready cx.old.nodes handler.now }
     requires values { All (IsArgOf cx.old.nodes table.old.entries) values.now }
     requires search { IsSearch cx.old graph.old (depth) }
     ensures grows { Grows cx.old cx.new }
     ensures searches { Searches cx.old cx.new graph.old graph.new }
-    ensures found { IfOk result (Found (λ b u. (s : Since (λ ts. H.ready ts handler.now) cx.old.nodes) → IsProvedNow (λ ts. H.handler ts handler.now) s table.old.mode (assumed_in cx.new.nodes graph.new) b u goal) cx.old.nodes cx.new.nodes table.old goal values.now) }
-    ensures told { (s : Since (λ ts. H.ready ts handler.now) cx.old.nodes) → HeadsTell (H.handler s.base handler.now) cx.old.nodes graph.old → IfOk result (IsTold (H.handler s.base handler.now) table.old.mode cx.old.nodes table.old goal values.now cx.new.nodes) }
+    ensures found { IfAnswered result (Found (λ b u. (s : Since (λ ts. H.ready ts handler.now) cx.old.nodes) → IsProvedNow (λ ts. H.handler ts handler.now) s table.old.mode (assumed_in cx.new.nodes graph.new) b u goal) cx.old.nodes cx.new.nodes table.old goal values.now) }
+    ensures told { (s : Since (λ ts. H.ready ts handler.now) cx.old.nodes) → HeadsTell (H.handler s.base handler.now) cx.old.nodes graph.old → IfAnswered result (IsTold (H.handler s.base handler.now) table.old.mode cx.old.nodes table.old goal values.now cx.new.nodes) }
     ensures refuted { (s : Since (λ ts. H.ready ts handler.now) cx.old.nodes) → HeadsTell (H.handler s.base handler.now) cx.old.nodes graph.old → result ≡ Err EvalError.NoSolution → IsRefuted (H.handler s.base handler.now) table.old.mode cx.old.nodes table.old goal }
 {
     let opened = enter_forall(table, cx, goal)?;
     terms_are_formed(cx);
     let Some(opened) = opened else {
-        let response = make_response(table, cx, values, Certainty::AMBIGUOUS)?;
+        let response = boxed_response(table, cx, values, Certainty::AMBIGUOUS)?;
         return Ok(response);
     };
     if !is_candidates_goal(cx, opened) {
-        let response = make_response(table, cx, values, Certainty::AMBIGUOUS)?;
+        let response = boxed_response(table, cx, values, Certainty::AMBIGUOUS)?;
         return Ok(response);
     }
     let candidates = handler.candidates(cx, table.typing_mode(), opened)?;
@@ -236,7 +228,7 @@ fn evaluate_candidates<H: GoalHandler>(
     candidates: &[CandidateData],
     values: &[GenericArg],
     depth: usize,
-) -> Result<CanonicalResponse, EvalError>
+) -> Result<Box<CanonicalResponse>, EvalError>
     requires posed { IsPosed cx.old.nodes table.old goal }
     requires asked { IsAskedGoal cx.old.nodes goal }
     requires ready { H.ready cx.old.nodes handler.now }
@@ -246,8 +238,8 @@ fn evaluate_candidates<H: GoalHandler>(
     ensures same { table.new ≡ table.old }
     ensures grows { Grows cx.old cx.new }
     ensures searches { Searches cx.old cx.new graph.old graph.new }
-    ensures found { IfOk result (Found (λ b u. (s : Since (λ ts. H.ready ts handler.now) cx.old.nodes) → AreOffered (H.handler s.base handler.now) table.old.mode cx.old.nodes goal candidates.now → IsServedSince (λ ts. H.handler ts handler.now) s table.old.mode (assumed_in cx.new.nodes graph.new) b u goal) cx.old.nodes cx.new.nodes table.old goal values.now) }
-    ensures told { (s : Since (λ ts. H.ready ts handler.now) cx.old.nodes) → HeadsTell (H.handler s.base handler.now) cx.old.nodes graph.old → IfOk result (CandidatesTell (H.handler s.base handler.now) table.old.mode cx.old.nodes table.old values.now candidates.now cx.new.nodes) }
+    ensures found { IfAnswered result (Found (λ b u. (s : Since (λ ts. H.ready ts handler.now) cx.old.nodes) → AreOffered (H.handler s.base handler.now) table.old.mode cx.old.nodes goal candidates.now → IsServedSince (λ ts. H.handler ts handler.now) s table.old.mode (assumed_in cx.new.nodes graph.new) b u goal) cx.old.nodes cx.new.nodes table.old goal values.now) }
+    ensures told { (s : Since (λ ts. H.ready ts handler.now) cx.old.nodes) → HeadsTell (H.handler s.base handler.now) cx.old.nodes graph.old → IfAnswered result (CandidatesTell (H.handler s.base handler.now) table.old.mode cx.old.nodes table.old values.now candidates.now cx.new.nodes) }
     ensures refuted { (s : Since (λ ts. H.ready ts handler.now) cx.old.nodes) → HeadsTell (H.handler s.base handler.now) cx.old.nodes graph.old → result ≡ Err EvalError.NoSolution → HaveOutcomes (H.handler s.base handler.now) table.old.mode cx.old.nodes table.old values.now candidates.now [] }
 {
     let mut responses = Vec::new(cx.alloc);
@@ -270,7 +262,7 @@ fn probe_candidate<H: GoalHandler>(
     candidate: &CandidateData,
     values: &[GenericArg],
     depth: usize,
-) -> Result<CanonicalResponse, EvalError>
+) -> Result<Box<CanonicalResponse>, EvalError>
     requires posed { IsPosed cx.old.nodes table.old goal }
     requires asked { IsAskedGoal cx.old.nodes goal }
     requires ready { H.ready cx.old.nodes handler.now }
@@ -280,8 +272,8 @@ fn probe_candidate<H: GoalHandler>(
     ensures same { table.new ≡ table.old }
     ensures grows { Grows cx.old cx.new }
     ensures searches { Searches cx.old cx.new graph.old graph.new }
-    ensures found { IfOk result (Found (λ b u. (s : Since (λ ts. H.ready ts handler.now) cx.old.nodes) → IsOffered (H.handler s.base handler.now) table.old.mode cx.old.nodes goal candidate.now → IsServedSince (λ ts. H.handler ts handler.now) s table.old.mode (assumed_in cx.new.nodes graph.new) b u goal) cx.old.nodes cx.new.nodes table.old goal values.now) }
-    ensures told { (s : Since (λ ts. H.ready ts handler.now) cx.old.nodes) → HeadsTell (H.handler s.base handler.now) cx.old.nodes graph.old → IfOk result (RepliesWith (H.handler s.base handler.now) table.old.mode cx.old.nodes table.old values.now candidate.now cx.new.nodes) }
+    ensures found { IfAnswered result (Found (λ b u. (s : Since (λ ts. H.ready ts handler.now) cx.old.nodes) → IsOffered (H.handler s.base handler.now) table.old.mode cx.old.nodes goal candidate.now → IsServedSince (λ ts. H.handler ts handler.now) s table.old.mode (assumed_in cx.new.nodes graph.new) b u goal) cx.old.nodes cx.new.nodes table.old goal values.now) }
+    ensures told { (s : Since (λ ts. H.ready ts handler.now) cx.old.nodes) → HeadsTell (H.handler s.base handler.now) cx.old.nodes graph.old → IfAnswered result (RepliesWith (H.handler s.base handler.now) table.old.mode cx.old.nodes table.old values.now candidate.now cx.new.nodes) }
     ensures refuted { (s : Since (λ ts. H.ready ts handler.now) cx.old.nodes) → HeadsTell (H.handler s.base handler.now) cx.old.nodes graph.old → result ≡ Err EvalError.NoSolution → FailsIn (H.handler s.base handler.now) table.old.mode cx.old.nodes table.old candidate.now }
 {
     let snapshot = table.start_snapshot()?;
@@ -294,12 +286,12 @@ fn probe_candidate<H: GoalHandler>(
     };
     terms_are_formed(cx);
     if keeps_constraints(certainty) {
-        let response = make_response(table, cx, values, certainty);
+        let response = boxed_response(table, cx, values, certainty);
         table.rollback_to(snapshot);
         return Ok(response?);
     }
     table.rollback_to(snapshot);
-    let response = make_response(table, cx, values, certainty)?;
+    let response = boxed_response(table, cx, values, certainty)?;
     Ok(response)
 }
 

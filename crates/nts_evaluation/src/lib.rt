@@ -12,6 +12,7 @@ mod merged;
 mod query;
 mod response;
 mod root;
+mod round;
 mod solve;
 mod steps;
 

@@ -9,8 +9,9 @@ ghost use Rattle.nts_terms.specs.Rest.{Grows};
 ghost use Rattle.nts_merging.specs.declared.merging.MergeCandidateInfo.{MergeCandidateInfo};
 ghost use Rattle.nts_merging.specs.Merging.{Merges};
 ghost use Rattle.nts_evaluation.specs.Found.{IsMerged, kept_after};
+ghost use Rattle.nts_evaluation.specs.Answering.{IfAnswered};
 
-use crate::response::make_response;
+use crate::response::boxed_response;
 use nts_merging::{MergeCandidateInfo, join_doubts, try_merge_candidates};
 use nts_response::CanonicalResponse;
 use nts_store::EvalError;
@@ -21,7 +22,7 @@ use nts_terms::{Cx, GenericArg};
 #[inline(never)]
 pub fn keep_response(
     responses: &mut Vec<CanonicalResponse>,
-    answer: Result<CanonicalResponse, EvalError>,
+    answer: Result<Box<CanonicalResponse>, EvalError>,
 ) -> Result<(), EvalError>
     ensures kept { OnOk result (responses.new.items ≡ kept_after responses.old.items answer) }
     ensures dropped { OnOk result (OnErr answer (answer ≡ Err EvalError.NoSolution)) }
@@ -29,7 +30,7 @@ pub fn keep_response(
 {
     match answer {
         Ok(response) => {
-            responses.push(response)?;
+            responses.push(Box::into_inner(response))?;
             Ok(())
         }
         Err(EvalError::NoSolution) => Ok(()),
@@ -58,11 +59,11 @@ pub fn merge_responses(
     cx: &mut Cx,
     values: &[GenericArg],
     responses: Vec<CanonicalResponse>,
-) -> Result<CanonicalResponse, EvalError>
+) -> Result<Box<CanonicalResponse>, EvalError>
     requires table { IsTable cx.old.nodes table.now }
     requires values { All (IsArgOf cx.old.nodes table.now.entries) values.now }
     requires holds { All (λ r. HoldsResponse cx.old.nodes r.value) responses.items }
-    ensures merged { IfOk result (IsMerged cx.old.nodes cx.new.nodes table.now values.now responses.items) }
+    ensures merged { IfAnswered result (IsMerged cx.old.nodes cx.new.nodes table.now values.now responses.items) }
     ensures no { (result ≡ Err EvalError.NoSolution) ↔ (responses.items ≡ []) }
     ensures grows { Grows cx.old cx.new }
 {
@@ -71,8 +72,9 @@ pub fn merge_responses(
     }
     if let Some(i) = merged_place(cx, &responses) {
         let mut responses = responses;
-        return Ok(responses.swap_remove(i));
+        let response = Box::new(cx.alloc, responses.swap_remove(i))?;
+        return Ok(response);
     }
-    let response = make_response(table, cx, values, join_doubts(&responses))?;
+    let response = boxed_response(table, cx, values, join_doubts(&responses))?;
     Ok(response)
 }

@@ -16,7 +16,7 @@ ghost use Rattle.nts_canonical.specs.Forms.{trees_of};
 ghost use Rattle.nts_canonical.specs.Building.{IsArgOf};
 ghost use Rattle.nts_response.specs.Forms.{response_at, recorded_at, HoldsResponse, HoldsConstraint};
 ghost use Rattle.nts_evaluation.specs.Asking.{IsResponseOf};
-ghost use Rattle.nts_evaluation.specs.Answering.{told_in, AreTold, KnowsSides, TellsNoMore};
+ghost use Rattle.nts_evaluation.specs.Answering.{told_in, AreTold, KnowsSides, TellsNoMore, IfAnswered};
 
 use crate::candidate::{resolve_term, terms_are_formed};
 use crate::evaluate::Evaluated;
@@ -109,6 +109,28 @@ pub fn make_response(
         external_constraints,
     };
     canonicalize_response(table, cx, 0, value)
+}
+
+/// The same, behind a box.
+#[inline(never)]
+pub fn boxed_response(
+    table: &InferCtxt,
+    cx: &mut Cx,
+    values: &[GenericArg],
+    certainty: Certainty,
+) -> Result<Box<CanonicalResponse>, Fault>
+    requires table { IsTable cx.old.nodes table.now }
+    requires values { All (IsArgOf cx.old.nodes table.now.entries) values.now }
+    ensures says { IfAnswered result (λ r. IsResponseOf (told_in certainty (content_of cx.old.nodes table.now.entries)) (trees_of cx.old.nodes values.now) (response_at cx.new.nodes r)) }
+    ensures certainty { IfAnswered result (λ r. r.value.certainty ≡ certainty) }
+    ensures holds { IfAnswered result (λ r. HoldsResponse cx.new.nodes r.value) }
+    ensures nothing { IfAnswered result (λ r. (r.value.external_constraints.opaque_types.items ≡ []) × (r.value.external_constraints.normalization_nested_goals.items ≡ [])) }
+    ensures grows { Grows cx.old cx.new }
+    ensures memory { IsOkUnless result Fault.Memory }
+{
+    let response = make_response(table, cx, values, certainty)?;
+    let response = Box::new(cx.alloc, response)?;
+    Ok(response)
 }
 
 /// Values with their variables replaced by what the table knows of them.

@@ -46,8 +46,9 @@ pub fn evaluate_goal<H: GoalHandler>(
 {
     terms_are_formed(cx);
     let depth = graph.root_depth;
+    let input = Box::new(cx.alloc, input)?;
     match search(cx, handler, graph, input, step_kind, depth) {
-        Ok(answer) => Ok(Some(answer)),
+        Ok(answer) => Ok(Some(Box::into_inner(answer))),
         Err(EvalError::NoSolution) => Ok(None),
         Err(EvalError::Memory) => Err(Fault::Memory),
         Err(EvalError::Full) => Err(Fault::Full),

@@ -10,6 +10,7 @@ use nts_terms::Cx;
 
 /// Whether a round ends its head: its provisional answer was not read, or the answer is the provisional one again, or is
 /// a doubt that says nothing.
+#[inline(never)]
 pub fn round_is_last(cx: &Cx, entry: &StackEntry, answer: &Option<CanonicalResponse>) -> bool
     requires entry { HoldsEntry cx.now.nodes entry.now }
     requires answer { HoldsAnswer cx.now.nodes answer.now }

@@ -83,6 +83,7 @@ impl SearchGraph {
     }
 
     /// Where an input is being evaluated.
+    #[inline(never)]
     pub fn find(&self, cx: &Cx, input: &CanonicalInput) -> Option<usize>
         requires holds { IsStack cx.now.nodes self.now }
         requires input { HoldsQuery cx.now.nodes input.now.canonical.value }

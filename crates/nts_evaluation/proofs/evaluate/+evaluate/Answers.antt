@@ -77,13 +77,13 @@ compute_goal-keep_met-requires-clause-posed g t c =
     let o = c.in_ok-opened.ensures in
     IsPosed-later (Goes-extends o.goes.table c.in_ok-candidates.ensures.grows.extends) (rw c.in-Some.is at o.posed)
 
-pub compute_goal-make_response-requires-clause-values : goal.compute_goal-make_response-requires-clause-values
-compute_goal-make_response-requires-clause-values g t c =
+pub compute_goal-boxed_response-requires-clause-values : goal.compute_goal-boxed_response-requires-clause-values
+compute_goal-boxed_response-requires-clause-values g t c =
     let o = c.in_ok-opened.ensures in
     args_later c.args.cx.now.nodes c.enter_forall.new.cx.nodes c.args.table.now.entries c.enter_forall.new.table.entries c.args.values.now o.goes.extends o.goes.continues c.requires.values
 
-pub compute_goal-make_response-requires-then-not-is_candidates_goal-clause-values : goal.compute_goal-make_response-requires-then-not-is_candidates_goal-clause-values
-compute_goal-make_response-requires-then-not-is_candidates_goal-clause-values g t c =
+pub compute_goal-boxed_response-requires-then-not-is_candidates_goal-clause-values : goal.compute_goal-boxed_response-requires-then-not-is_candidates_goal-clause-values
+compute_goal-boxed_response-requires-then-not-is_candidates_goal-clause-values g t c =
     let o = c.in_ok-opened.ensures in
     args_later c.args.cx.now.nodes c.enter_forall.new.cx.nodes c.args.table.now.entries c.enter_forall.new.table.entries c.args.values.now o.goes.extends o.goes.continues c.requires.values
 
@@ -104,7 +104,7 @@ pub compute_goal-returns-in_default-clause-found : goal.compute_goal-returns-in_
 compute_goal-returns-in_default-clause-found g t c =
     let o = c.in_ok-opened.ensures in
     let r = c.in_ok-response.ensures in
-    found_in c.in_ok-response.response _ o.goes c.terms_are_formed.ensures r.grows.extends (only_same _ o.grows.extends c.requires.posed.table (o.left (ap is_some c.in_default.is))) c.requires.values r.certainty r.says r.holds (record { no_hidden = r.nothing.0; no_goals = r.nothing.1 }) (λ y. absurd (doubtful _ y))
+    found_in c.in_ok-response.response.value _ o.goes c.terms_are_formed.ensures r.grows.extends (only_same _ o.grows.extends c.requires.posed.table (o.left (ap is_some c.in_default.is))) c.requires.values r.certainty r.says r.holds (record { no_hidden = r.nothing.0; no_goals = r.nothing.1 }) (λ y. absurd (doubtful _ y))
 
 pub compute_goal-returns-in_default-clause-searches : goal.compute_goal-returns-in_default-clause-searches
 compute_goal-returns-in_default-clause-searches g t c =
@@ -114,7 +114,7 @@ pub compute_goal-returns-in_default-clause-told : goal.compute_goal-returns-in_d
 compute_goal-returns-in_default-clause-told g t c = λ s tells.
     let o = c.in_ok-opened.ensures in
     let trees = trees_kept c.args.cx.now.nodes c.enter_forall.new.cx.nodes c.args.table.now.entries c.args.values.now o.grows.extends c.requires.values in
-    let plain : IsPlain (content_of c.enter_forall.new.cx.nodes c.enter_forall.new.table.entries) (trees_of c.enter_forall.new.cx.nodes c.args.values.now) (response_at c.make_response.new.cx.nodes c.in_ok-response.response) = c.in_ok-response.ensures.says in
+    let plain : IsPlain (content_of c.enter_forall.new.cx.nodes c.enter_forall.new.table.entries) (trees_of c.enter_forall.new.cx.nodes c.args.values.now) (response_at c.boxed_response.new.cx.nodes c.in_ok-response.response.value) = c.in_ok-response.ensures.says in
     tells_nothing (content_of c.enter_forall.new.cx.nodes c.enter_forall.new.table.entries) (inl (content_same o.grows.extends c.requires.posed.table (o.left (ap is_some c.in_default.is)))) (rw trees at plain)
 
 pub compute_goal-returns-in_err-candidates-clause-searches : goal.compute_goal-returns-in_err-candidates-clause-searches
@@ -131,17 +131,17 @@ compute_goal-returns-in_err-opened-clause-searches g t c =
 
 pub compute_goal-returns-in_err-response-2-clause-searches : goal.compute_goal-returns-in_err-response-2-clause-searches
 compute_goal-returns-in_err-response-2-clause-searches g t c =
-    Searches-refl c.args.depth c.requires.search (grown c.in_ok-opened.ensures.grows c.make_response-then-not-is_candidates_goal.ensures.grows)
+    Searches-refl c.args.depth c.requires.search (grown c.in_ok-opened.ensures.grows c.boxed_response-then-not-is_candidates_goal.ensures.grows)
 
 pub compute_goal-returns-in_err-response-clause-searches : goal.compute_goal-returns-in_err-response-clause-searches
 compute_goal-returns-in_err-response-clause-searches g t c =
-    Searches-refl c.args.depth c.requires.search (grown c.in_ok-opened.ensures.grows c.make_response.ensures.grows)
+    Searches-refl c.args.depth c.requires.search (grown c.in_ok-opened.ensures.grows c.boxed_response.ensures.grows)
 
 pub compute_goal-returns-then-not-is_candidates_goal-clause-found : goal.compute_goal-returns-then-not-is_candidates_goal-clause-found
 compute_goal-returns-then-not-is_candidates_goal-clause-found g t c =
     let o = c.in_ok-opened.ensures in
     let r = c.in_ok-response-2.ensures in
-    found_in c.in_ok-response-2.response _ o.goes c.terms_are_formed.ensures r.grows.extends (labels_entered c.requires.posed (rw c.in-Some.is at o.opened) o.grows.extends) c.requires.values r.certainty r.says r.holds (record { no_hidden = r.nothing.0; no_goals = r.nothing.1 }) (λ y. absurd (doubtful _ y))
+    found_in c.in_ok-response-2.response.value _ o.goes c.terms_are_formed.ensures r.grows.extends (labels_entered c.requires.posed (rw c.in-Some.is at o.opened) o.grows.extends) c.requires.values r.certainty r.says r.holds (record { no_hidden = r.nothing.0; no_goals = r.nothing.1 }) (λ y. absurd (doubtful _ y))
 
 pub compute_goal-returns-then-not-is_candidates_goal-clause-searches : goal.compute_goal-returns-then-not-is_candidates_goal-clause-searches
 compute_goal-returns-then-not-is_candidates_goal-clause-searches g t c =
@@ -151,8 +151,8 @@ pub compute_goal-returns-then-not-is_candidates_goal-clause-told : goal.compute_
 compute_goal-returns-then-not-is_candidates_goal-clause-told g t c = λ s tells.
     let o = c.in_ok-opened.ensures in
     let trees = trees_kept c.args.cx.now.nodes c.enter_forall.new.cx.nodes c.args.table.now.entries c.args.values.now o.grows.extends c.requires.values in
-    let plain : IsPlain (content_of c.enter_forall.new.cx.nodes c.enter_forall.new.table.entries) (trees_of c.enter_forall.new.cx.nodes c.args.values.now) (response_at c.make_response-then-not-is_candidates_goal.new.cx.nodes c.in_ok-response-2.response) = c.in_ok-response-2.ensures.says in
-    nothing_through c.requires.posed (rw c.in-Some.is at o.opened) o.grows.extends (g.H.GoalHandler.handler s.base c.args.handler.now) c.args.table.now.mode c.args.values.now _ c.in_ok-response-2.response trees plain
+    let plain : IsPlain (content_of c.enter_forall.new.cx.nodes c.enter_forall.new.table.entries) (trees_of c.enter_forall.new.cx.nodes c.args.values.now) (response_at c.boxed_response-then-not-is_candidates_goal.new.cx.nodes c.in_ok-response-2.response.value) = c.in_ok-response-2.ensures.says in
+    nothing_through c.requires.posed (rw c.in-Some.is at o.opened) o.grows.extends (g.H.GoalHandler.handler s.base c.args.handler.now) c.args.table.now.mode c.args.values.now _ c.in_ok-response-2.response.value trees plain
 
 pub evaluate_added-evaluate_goal-requires : goal.evaluate_added-evaluate_goal-requires
 evaluate_added-evaluate_goal-requires g t c =
@@ -248,7 +248,7 @@ evaluate_candidates-returns-clause-found g t c =
     let k = c.merge_responses.ensures in
     let now = search_later c.args.depth c.args.depth (omega arith) c.requires.search i.searches in
     let covers = covers_grown c.args.depth now k.grows in
-    IfOk-map c.merge_responses.result (λ r f. found_merged c.loop-candidate.responses.items r i.grows.extends k.grows.extends c.terms_are_formed.ensures c.requires.posed.table c.requires.values (founds_with c.loop-candidate.responses.items (λ b u w s offered. served_more covers (w s offered)) i.found) f) (rw i.same at k.merged)
+    IfOk-map c.merge_responses.result (λ r f. found_merged c.loop-candidate.responses.items r.value i.grows.extends k.grows.extends c.terms_are_formed.ensures c.requires.posed.table c.requires.values (founds_with c.loop-candidate.responses.items (λ b u w s offered. served_more covers (w s offered)) i.found) f) (rw i.same at k.merged)
 
 pub evaluate_candidates-returns-clause-searches : goal.evaluate_candidates-returns-clause-searches
 evaluate_candidates-returns-clause-searches g t c =
@@ -259,7 +259,7 @@ evaluate_candidates-returns-clause-told g t c = λ s tells.
     let i = c.loop-candidate.invariant in
     let k = c.merge_responses.ensures in
     let all = take_all c.loop-candidate.candidate-index c.args.candidates.now c.loop-candidate-test.false in
-    IfOk-map c.merge_responses.result (λ r f. told_merged (g.H.GoalHandler.handler s.base c.args.handler.now) c.args.table.now.mode c.args.candidates.now c.loop-candidate.responses.items r i.grows.extends k.grows.extends c.requires.posed.table c.requires.values i.found (rw all at (i.told s tells)) f) (rw i.same at k.merged)
+    IfOk-map c.merge_responses.result (λ r f. told_merged (g.H.GoalHandler.handler s.base c.args.handler.now) c.args.table.now.mode c.args.candidates.now c.loop-candidate.responses.items r.value i.grows.extends k.grows.extends c.requires.posed.table c.requires.values i.found (rw all at (i.told s tells)) f) (rw i.same at k.merged)
 
 pub evaluate_candidates-returns-in_err-keep_response-clause-searches : goal.evaluate_candidates-returns-in_err-keep_response-clause-searches
 evaluate_candidates-returns-in_err-keep_response-clause-searches g t c =
@@ -268,7 +268,7 @@ evaluate_candidates-returns-in_err-keep_response-clause-searches g t c =
 pub evaluate_goal-apply_answer-evaluated-requires-clause-fits : goal.evaluate_goal-apply_answer-evaluated-requires-clause-fits
 evaluate_goal-apply_answer-evaluated-requires-clause-fits g t c =
     let q = c.in_ok-originals.ensures in
-    rw c.deref.ensures.value (applicable c.requires.posed q.query q.grows.extends c.in_ok-answer.ensures.grows.extends c.in_ok-answer.answer c.in_ok-answer.ensures.fits)
+    rw (c.deref.ensures.value, c.deref-2.ensures) (applicable c.requires.posed q.query q.grows.extends c.in_ok-answer.ensures.grows.extends c.in_ok-answer.answer.value c.in_ok-answer.ensures.fits)
 
 pub evaluate_goal-apply_answer-evaluated-requires-clause-originals : goal.evaluate_goal-apply_answer-evaluated-requires-clause-originals
 evaluate_goal-apply_answer-evaluated-requires-clause-originals g t c =
@@ -293,7 +293,7 @@ pub evaluate_goal-returns-clause-refuted : goal.evaluate_goal-returns-clause-ref
 evaluate_goal-returns-clause-refuted g t c = λ s tells n.
     let q = c.in_ok-originals.ensures in
     let k = c.in_ok-answer.ensures in
-    inl (response_refused c.requires.posed q.query q.grows.extends k.grows.extends c.in_ok-answer.answer (rw q.query.mode at (k.told (Since-later q.grows.extends s) (tell_grown (g.H.GoalHandler.handler s.base c.args.handler.now) (c.args.depth + 1) c.requires.search q.grows tells))) (rw c.deref.ensures.value at (c.apply_answer-evaluated.ensures.no n)))
+    inl (response_refused c.requires.posed q.query q.grows.extends k.grows.extends c.in_ok-answer.answer.value (rw q.query.mode at (k.told (Since-later q.grows.extends s) (tell_grown (g.H.GoalHandler.handler s.base c.args.handler.now) (c.args.depth + 1) c.requires.search q.grows tells))) (rw (c.deref.ensures.value, c.deref-2.ensures) at (c.apply_answer-evaluated.ensures.no n)))
 
 pub evaluate_goal-returns-clause-runs : goal.evaluate_goal-returns-clause-runs
 evaluate_goal-returns-clause-runs g t c =
@@ -310,8 +310,8 @@ evaluate_goal-returns-clause-told g t c = λ s tells.
     let q = c.in_ok-originals.ensures in
     let k = c.in_ok-answer.ensures in
     OnOk-map c.apply_answer-evaluated.result
-    (λ applied. asks c.requires.posed q.query q.grows.extends k.grows.extends c.apply_answer-evaluated.new.table c.in_ok-answer.answer applied (rw q.query.mode at (k.told (Since-later q.grows.extends s) (tell_grown (g.H.GoalHandler.handler s.base c.args.handler.now) (c.args.depth + 1) c.requires.search q.grows tells))))
-    (rw c.deref.ensures.value at c.apply_answer-evaluated.ensures.applied)
+    (λ applied. asks c.requires.posed q.query q.grows.extends k.grows.extends c.apply_answer-evaluated.new.table c.in_ok-answer.answer.value applied (rw q.query.mode at (k.told (Since-later q.grows.extends s) (tell_grown (g.H.GoalHandler.handler s.base c.args.handler.now) (c.args.depth + 1) c.requires.search q.grows tells))))
+    (rw (c.deref.ensures.value, c.deref-2.ensures) at c.apply_answer-evaluated.ensures.applied)
 
 pub evaluate_goal-returns-in_err-answer-clause-refuted : goal.evaluate_goal-returns-in_err-answer-clause-refuted
 evaluate_goal-returns-in_err-answer-clause-refuted g t c =
@@ -332,11 +332,11 @@ evaluate_goal-returns-in_err-answer-clause-searches g t c =
     let q = c.in_ok-originals.ensures in search_then (c.args.depth + 1) c.requires.search q.grows c.search.ensures.searches
 
 pub evaluate_goal-returns-in_err-originals-clause-runs : goal.evaluate_goal-returns-in_err-originals-clause-runs
-evaluate_goal-returns-in_err-originals-clause-runs g t c = Runs-extends c.requires.posed.table c.query_of.ensures.grows.extends c.query_of.ensures.grows.rest
+evaluate_goal-returns-in_err-originals-clause-runs g t c = Runs-extends c.requires.posed.table c.boxed_query.ensures.grows.extends c.boxed_query.ensures.grows.rest
 
 pub evaluate_goal-returns-in_err-originals-clause-searches : goal.evaluate_goal-returns-in_err-originals-clause-searches
 evaluate_goal-returns-in_err-originals-clause-searches g t c =
-    Searches-refl (c.args.depth + 1) c.requires.search c.query_of.ensures.grows
+    Searches-refl (c.args.depth + 1) c.requires.search c.boxed_query.ensures.grows
 
 pub evaluate_goal-search-requires : goal.evaluate_goal-search-requires
 evaluate_goal-search-requires = queries.evaluate_goal-search-requires
@@ -344,52 +344,40 @@ evaluate_goal-search-requires = queries.evaluate_goal-search-requires
 pub evaluate_round-compute_goal-response-requires : goal.evaluate_round-compute_goal-response-requires
 evaluate_round-compute_goal-response-requires = queries.evaluate_round-compute_goal-response-requires
 
-pub evaluate_round-pop-entry-requires : goal.evaluate_round-pop-entry-requires
-evaluate_round-pop-entry-requires g t c =
+pub evaluate_round-end_round-requires : goal.evaluate_round-end_round-requires
+evaluate_round-end_round-requires g t c =
     let m = c.compute_goal-response.ensures in
-    let long = later_long c.push.new.self.stack.items c.compute_goal-response.new.graph.stack.items m.searches.later in
-    let new = ap (length {A = StackEntry}) c.in_ok-push.ensures.pushed.1 in
-    let more = length-append c.args.graph.now.stack.items (entry_of c.args.input c.args.step c.args.provisional c.in_ok-push.ensures.pushed.0 ∷ []) in
+    let long = later_long c.push_query.new.graph.stack.items c.compute_goal-response.new.graph.stack.items m.searches.later in
+    let new = ap (length {A = StackEntry}) c.in_ok-push_query.ensures.pushed.1 in
+    let more = length-append c.args.graph.now.stack.items (entry_of c.args.asked.value.input c.args.step c.args.asked.value.provisional c.in_ok-push_query.ensures.pushed.0 ∷ []) in
     omega (arith, long, new, more)
 
-pub evaluate_round-returns-clause-searches : goal.evaluate_round-returns-clause-searches
-evaluate_round-returns-clause-searches = queries.evaluate_round-returns-clause-searches
+pub evaluate_round-returns-clause-entry : goal.evaluate_round-returns-clause-entry
+evaluate_round-returns-clause-entry = queries.evaluate_round-returns-clause-entry
 
-pub evaluate_round-returns-in-Err-NoSolution-clause-entry : goal.evaluate_round-returns-in-Err-NoSolution-clause-entry
-evaluate_round-returns-in-Err-NoSolution-clause-entry = queries.evaluate_round-returns-in-Err-NoSolution-clause-entry
+pub evaluate_round-returns-clause-fits : goal.evaluate_round-returns-clause-fits
+evaluate_round-returns-clause-fits = queries.evaluate_round-returns-clause-fits
 
-pub evaluate_round-returns-in-Err-NoSolution-clause-searches : goal.evaluate_round-returns-in-Err-NoSolution-clause-searches
-evaluate_round-returns-in-Err-NoSolution-clause-searches = queries.evaluate_round-returns-in-Err-NoSolution-clause-searches
-
-pub evaluate_round-returns-in-Err-NoSolution-clause-told : goal.evaluate_round-returns-in-Err-NoSolution-clause-told
-evaluate_round-returns-in-Err-NoSolution-clause-told = queries.evaluate_round-returns-in-Err-NoSolution-clause-told
-
-pub evaluate_round-returns-in-Ok-clause-entry : goal.evaluate_round-returns-in-Ok-clause-entry
-evaluate_round-returns-in-Ok-clause-entry = queries.evaluate_round-returns-in-Ok-clause-entry
-
-pub evaluate_round-returns-in-Ok-clause-fits : goal.evaluate_round-returns-in-Ok-clause-fits
-evaluate_round-returns-in-Ok-clause-fits = queries.evaluate_round-returns-in-Ok-clause-fits
-
-pub evaluate_round-returns-in-Ok-clause-grows : goal.evaluate_round-returns-in-Ok-clause-grows
-evaluate_round-returns-in-Ok-clause-grows g t c =
+pub evaluate_round-returns-clause-grows : goal.evaluate_round-returns-clause-grows
+evaluate_round-returns-clause-grows g t c =
     grown c.in_ok-table.ensures.grows c.compute_goal-response.ensures.grows
 
-pub evaluate_round-returns-in-Ok-clause-proved : goal.evaluate_round-returns-in-Ok-clause-proved
-evaluate_round-returns-in-Ok-clause-proved = queries.evaluate_round-returns-in-Ok-clause-proved
+pub evaluate_round-returns-clause-proved : goal.evaluate_round-returns-clause-proved
+evaluate_round-returns-clause-proved = queries.evaluate_round-returns-clause-proved
 
-pub evaluate_round-returns-in-Ok-clause-searches : goal.evaluate_round-returns-in-Ok-clause-searches
-evaluate_round-returns-in-Ok-clause-searches = queries.evaluate_round-returns-in-Ok-clause-searches
+pub evaluate_round-returns-clause-told : goal.evaluate_round-returns-clause-told
+evaluate_round-returns-clause-told = queries.evaluate_round-returns-clause-told
 
-pub evaluate_round-returns-in-Ok-clause-told : goal.evaluate_round-returns-in-Ok-clause-told
-evaluate_round-returns-in-Ok-clause-told = queries.evaluate_round-returns-in-Ok-clause-told
-
-pub evaluate_round-returns-in_err-push-clause-searches : goal.evaluate_round-returns-in_err-push-clause-searches
-evaluate_round-returns-in_err-push-clause-searches g t c =
-    search_same (c.args.depth + 1) c.requires.search c.in_ok-table.ensures.grows c.in_err-push.ensures.err c.in_err-push.ensures.err_kept c.push.ensures.rest
+pub evaluate_round-returns-in_err-push_query-clause-searches : goal.evaluate_round-returns-in_err-push_query-clause-searches
+evaluate_round-returns-in_err-push_query-clause-searches g t c =
+    search_same (c.args.depth + 1) c.requires.search c.in_ok-table.ensures.grows c.in_err-push_query.ensures.err c.in_err-push_query.ensures.err_kept c.push_query.ensures.rest
 
 pub evaluate_round-returns-in_err-table-clause-searches : goal.evaluate_round-returns-in_err-table-clause-searches
 evaluate_round-returns-in_err-table-clause-searches g t c =
-    Searches-refl (c.args.depth + 1) c.requires.search c.build_with_canonical.ensures.grows
+    Searches-refl (c.args.depth + 1) c.requires.search c.query_table.ensures.grows
+
+pub evaluate_round-returns-clause-searches : goal.evaluate_round-returns-clause-searches
+evaluate_round-returns-clause-searches = queries.evaluate_round-returns-clause-searches
 
 pub evaluate_rounds-evaluate_round-requires : goal.evaluate_rounds-evaluate_round-requires
 evaluate_rounds-evaluate_round-requires = queries.evaluate_rounds-evaluate_round-requires
@@ -402,41 +390,44 @@ evaluate_rounds-loop-round-preserved = queries.evaluate_rounds-loop-round-preser
 
 pub evaluate_rounds-returns-clause-fits : goal.evaluate_rounds-returns-clause-fits
 evaluate_rounds-returns-clause-fits g t c =
-    let i = c.loop-round.invariant in subst (λ (w : CanonicalInput). IsAnswerTo c.unchanged_answer-2.new.cx.nodes (kinds_of w) c.in_ok-answer-2.answer) i.input c.in_ok-answer-2.ensures.fits
+    let i = c.loop-round.invariant in subst (λ (w : CanonicalInput). IsAnswerTo c.unchanged_answer.new.cx.nodes (kinds_of w) c.in_ok-answer.answer.value) i.input (rw c.deref-2.ensures at c.in_ok-answer.ensures.fits)
 
 pub evaluate_rounds-returns-clause-searches : goal.evaluate_rounds-returns-clause-searches
 evaluate_rounds-returns-clause-searches g t c =
-    let i = c.loop-round.invariant in search_grown (c.args.depth + 1) c.requires.search i.searches c.unchanged_answer-2.ensures.grows
+    let i = c.loop-round.invariant in search_grown (c.args.depth + 1) c.requires.search i.searches c.unchanged_answer.ensures.grows
 
 pub evaluate_rounds-returns-clause-told : goal.evaluate_rounds-returns-clause-told
 evaluate_rounds-returns-clause-told g t c =
-    λ s tells. says_nothing c.in_ok-answer-2.ensures.nothing
-
-pub evaluate_rounds-returns-in_err-answer-2-clause-searches : goal.evaluate_rounds-returns-in_err-answer-2-clause-searches
-evaluate_rounds-returns-in_err-answer-2-clause-searches g t c =
-    search_grown (c.args.depth + 1) c.requires.search c.loop-round.invariant.searches c.unchanged_answer-2.ensures.grows
-
-pub evaluate_rounds-returns-in_err-answer-clause-grows : goal.evaluate_rounds-returns-in_err-answer-clause-grows
-evaluate_rounds-returns-in_err-answer-clause-grows g t c =
-    grown c.loop-round.invariant.grows c.evaluate_round.ensures.grows
+    λ s tells. says_nothing c.in_ok-answer.ensures.nothing
 
 pub evaluate_rounds-returns-in_err-answer-clause-searches : goal.evaluate_rounds-returns-in_err-answer-clause-searches
 evaluate_rounds-returns-in_err-answer-clause-searches g t c =
+    search_grown (c.args.depth + 1) c.requires.search c.loop-round.invariant.searches c.unchanged_answer.ensures.grows
+
+pub evaluate_rounds-returns-in_err-ended-clause-grows : goal.evaluate_rounds-returns-in_err-ended-clause-grows
+evaluate_rounds-returns-in_err-ended-clause-grows g t c =
+    grown c.loop-round.invariant.grows c.evaluate_round.ensures.grows
+
+pub evaluate_rounds-returns-in_err-asked-2-clause-searches : goal.evaluate_rounds-returns-in_err-asked-2-clause-searches
+evaluate_rounds-returns-in_err-asked-2-clause-searches g t c =
+    let i = c.loop-round.invariant in
+    let limit : c.loop-round.round + 1 ≤ c.loop-round.cx.round_limit = rw i.grows.rest.rounds (omega (arith, c.loop-round-test.true, c.round_limit-round-end.ensures)) in
+    let noted = search_noted {a = c.args.cx.now} {b = c.loop-round.cx} {g = c.args.graph.now} {h = c.loop-round.graph} {i = c.note_round.new.self} (c.args.depth + 1) (c.loop-round.round + 1) c.requires.search i.searches limit c.note_round.ensures in
+    Searches-trans noted c.in_ok-ended.ensures.searches
+
+pub evaluate_rounds-returns-in_err-ended-clause-searches : goal.evaluate_rounds-returns-in_err-ended-clause-searches
+evaluate_rounds-returns-in_err-ended-clause-searches g t c =
     let i = c.loop-round.invariant in
     let limit : c.loop-round.round + 1 ≤ c.loop-round.cx.round_limit = rw i.grows.rest.rounds (omega (arith, c.loop-round-test.true, c.round_limit-round-end.ensures)) in
     let noted = search_noted {a = c.args.cx.now} {b = c.loop-round.cx} {g = c.args.graph.now} {h = c.loop-round.graph} {i = c.note_round.new.self} (c.args.depth + 1) (c.loop-round.round + 1) c.requires.search i.searches limit c.note_round.ensures in
     Searches-trans noted c.evaluate_round.ensures.searches
-
-pub evaluate_rounds-returns-in_err-unchanged_answer-clause-searches : goal.evaluate_rounds-returns-in_err-unchanged_answer-clause-searches
-evaluate_rounds-returns-in_err-unchanged_answer-clause-searches g t c =
-    Searches-refl (c.args.depth + 1) c.requires.search c.unchanged_answer.ensures.grows
 
 pub evaluate_rounds-returns-then-round_is_last-clause-fits : goal.evaluate_rounds-returns-then-round_is_last-clause-fits
 evaluate_rounds-returns-then-round_is_last-clause-fits = queries.evaluate_rounds-returns-then-round_is_last-clause-fits
 
 pub evaluate_rounds-returns-then-round_is_last-clause-grows : goal.evaluate_rounds-returns-then-round_is_last-clause-grows
 evaluate_rounds-returns-then-round_is_last-clause-grows g t c =
-    grown c.loop-round.invariant.grows c.in_ok-answer.ensures.grows
+    grown c.loop-round.invariant.grows c.in_ok-ended.ensures.grows
 
 pub evaluate_rounds-returns-then-round_is_last-clause-proved : goal.evaluate_rounds-returns-then-round_is_last-clause-proved
 evaluate_rounds-returns-then-round_is_last-clause-proved = queries.evaluate_rounds-returns-then-round_is_last-clause-proved
@@ -458,8 +449,12 @@ evaluate_rounds-round_is_last-requires-clause-entry g t c =
     let i = c.loop-round.invariant in
     let limit : c.loop-round.round + 1 ≤ c.loop-round.cx.round_limit = rw i.grows.rest.rounds (omega (arith, c.loop-round-test.true, c.round_limit-round-end.ensures)) in
     let noted = search_noted {a = c.args.cx.now} {b = c.loop-round.cx} {g = c.args.graph.now} {h = c.loop-round.graph} {i = c.note_round.new.self} (c.args.depth + 1) (c.loop-round.round + 1) c.requires.search i.searches limit c.note_round.ensures in
-    let e = c.in_ok-answer.ensures in
-    (entry_held c.args.cx.now.nodes c.loop-round.cx.nodes c.evaluate_round.new.cx.nodes c.args.input c.loop-round.input c.loop-round.provisional c.in_ok-answer.entry (Extends-trans i.grows.extends e.grows.extends) e.grows.extends i.input c.requires.input i.fits e.entry.0 e.entry.2)
+    let e = c.in_ok-ended.ensures in
+    rw c.deref.ensures (entry_held c.args.cx.now.nodes c.loop-round.cx.nodes c.evaluate_round.new.cx.nodes c.args.input.value c.loop-round.asked.value.input c.loop-round.asked.value.provisional c.in_ok-ended.ended.value.entry (Extends-trans i.grows.extends e.grows.extends) e.grows.extends i.input c.requires.input i.fits e.entry.0 e.entry.2)
+
+pub evaluate_rounds-returns-in_err-asked-clause-searches : goal.evaluate_rounds-returns-in_err-asked-clause-searches
+evaluate_rounds-returns-in_err-asked-clause-searches g t c =
+    Searches-refl (c.args.depth + 1) c.requires.search c.first_round.ensures.grows
 
 pub evaluate_step-evaluate_added-requires : goal.evaluate_step-evaluate_added-requires
 evaluate_step-evaluate_added-requires g t c = λ κs k.
@@ -541,11 +536,11 @@ pub evaluate_step-returns-in_err-note-clause-searches : goal.evaluate_step-retur
 evaluate_step-returns-in_err-note-clause-searches g t c =
     Searches-trans c.loop-added.invariant.searches c.evaluate_added.ensures.searches
 
-pub probe_candidate-make_response-requires-clause-values : goal.probe_candidate-make_response-requires-clause-values
-probe_candidate-make_response-requires-clause-values = candidates.probe_candidate-make_response-requires-clause-values
+pub probe_candidate-boxed_response-requires-clause-values : goal.probe_candidate-boxed_response-requires-clause-values
+probe_candidate-boxed_response-requires-clause-values = candidates.probe_candidate-boxed_response-requires-clause-values
 
-pub probe_candidate-make_response-response-requires-clause-values : goal.probe_candidate-make_response-response-requires-clause-values
-probe_candidate-make_response-response-requires-clause-values g t c =
+pub probe_candidate-boxed_response-response-requires-clause-values : goal.probe_candidate-boxed_response-response-requires-clause-values
+probe_candidate-boxed_response-response-requires-clause-values g t c =
     let p = c.requires.posed in
     let o = c.in_ok-snapshot.ensures in
     let r = c.in-Ok.ensures in
@@ -557,18 +552,18 @@ probe_candidate-returns-clause-found = candidates.probe_candidate-returns-clause
 
 pub probe_candidate-returns-clause-searches : goal.probe_candidate-returns-clause-searches
 probe_candidate-returns-clause-searches g t c =
-    search_grown c.args.depth c.requires.search c.in-Ok.ensures.searches c.make_response.ensures.grows
+    search_grown c.args.depth c.requires.search c.in-Ok.ensures.searches c.boxed_response.ensures.grows
 
 pub probe_candidate-returns-clause-told : goal.probe_candidate-returns-clause-told
 probe_candidate-returns-clause-told = candidates.probe_candidate-returns-clause-told
 
 pub probe_candidate-returns-in_err-response-2-clause-searches : goal.probe_candidate-returns-in_err-response-2-clause-searches
 probe_candidate-returns-in_err-response-2-clause-searches g t c =
-    search_grown c.args.depth c.requires.search c.in-Ok.ensures.searches c.make_response.ensures.grows
+    search_grown c.args.depth c.requires.search c.in-Ok.ensures.searches c.boxed_response.ensures.grows
 
 pub probe_candidate-returns-in_err-response-clause-searches : goal.probe_candidate-returns-in_err-response-clause-searches
 probe_candidate-returns-in_err-response-clause-searches g t c =
-    search_grown c.args.depth c.requires.search c.in-Ok.ensures.searches c.make_response-response.ensures.grows
+    search_grown c.args.depth c.requires.search c.in-Ok.ensures.searches c.boxed_response-response.ensures.grows
 
 pub probe_candidate-returns-in_err-snapshot-clause-searches : goal.probe_candidate-returns-in_err-snapshot-clause-searches
 probe_candidate-returns-in_err-snapshot-clause-searches g t c =
@@ -579,7 +574,7 @@ probe_candidate-returns-then-keeps_constraints-clause-found = candidates.probe_c
 
 pub probe_candidate-returns-then-keeps_constraints-clause-searches : goal.probe_candidate-returns-then-keeps_constraints-clause-searches
 probe_candidate-returns-then-keeps_constraints-clause-searches g t c =
-    search_grown c.args.depth c.requires.search c.in-Ok.ensures.searches c.make_response-response.ensures.grows
+    search_grown c.args.depth c.requires.search c.in-Ok.ensures.searches c.boxed_response-response.ensures.grows
 
 pub probe_candidate-returns-then-keeps_constraints-clause-told : goal.probe_candidate-returns-then-keeps_constraints-clause-told
 probe_candidate-returns-then-keeps_constraints-clause-told = candidates.probe_candidate-returns-then-keeps_constraints-clause-told
@@ -682,15 +677,15 @@ search-evaluate_rounds-answer-requires = queries.search-evaluate_rounds-answer-r
 
 pub search-returns-in-Some-clause-proved : goal.search-returns-in-Some-clause-proved
 search-returns-in-Some-clause-proved g t c =
-    λ s. ok_two c.answer_cycle.result (λ r fits usable sure. cycle_derived (meaning_since (λ ts. g.H.GoalHandler.handler ts c.args.handler.now) s) (mode_of c.args.input.typing_mode) (passed (path_kind_of c.args.step) (assumed_in c.answer_cycle.new.cx.nodes c.answer_cycle.new.graph)) c.args.cx.now.nodes c.answer_cycle.new.cx.nodes c.args.input r c.requires.input fits (usable sure)) c.answer_cycle.ensures.fits c.answer_cycle.ensures.usable
+    λ s. ok_two c.answer_cycle.result (λ r fits usable sure. cycle_derived (meaning_since (λ ts. g.H.GoalHandler.handler ts c.args.handler.now) s) (mode_of c.args.input.value.typing_mode) (passed (path_kind_of c.args.step) (assumed_in c.answer_cycle.new.cx.nodes c.answer_cycle.new.graph)) c.args.cx.now.nodes c.answer_cycle.new.cx.nodes c.args.input.value r.value c.requires.input fits (usable sure)) (rw c.deref-in-Some.ensures at c.answer_cycle.ensures.fits) (rw c.deref-in-Some.ensures at c.answer_cycle.ensures.usable)
 
 pub search-returns-in-Some-clause-refuted : goal.search-returns-in-Some-clause-refuted
 search-returns-in-Some-clause-refuted g t c =
-    λ s tells no. cycle_refuted (g.H.GoalHandler.handler s.base c.args.handler.now) c.in-Some.head (c.args.depth + 1) c.args.input c.requires.search c.answer_cycle.ensures.grows c.in-Some.ensures.found tells (c.answer_cycle.ensures.none no)
+    λ s tells no. cycle_refuted (g.H.GoalHandler.handler s.base c.args.handler.now) c.in-Some.head (c.args.depth + 1) c.args.input.value c.requires.search c.answer_cycle.ensures.grows (rw c.deref.ensures at c.in-Some.ensures.found) tells (rw c.deref-in-Some.ensures at (c.answer_cycle.ensures.none no))
 
 pub search-returns-in-Some-clause-told : goal.search-returns-in-Some-clause-told
 search-returns-in-Some-clause-told g t c =
-    λ s tells. IfOk-map c.answer_cycle.result (λ r x. cycle_told (g.H.GoalHandler.handler s.base c.args.handler.now) c.in-Some.head (c.args.depth + 1) c.args.input c.requires.search c.answer_cycle.ensures.grows c.in-Some.ensures.found tells r x) c.answer_cycle.ensures.some
+    λ s tells. IfOk-map c.answer_cycle.result (λ r x. cycle_told (g.H.GoalHandler.handler s.base c.args.handler.now) c.in-Some.head (c.args.depth + 1) c.args.input.value c.requires.search c.answer_cycle.ensures.grows (rw c.deref.ensures at c.in-Some.ensures.found) tells r.value x) c.answer_cycle.ensures.some
 
 pub try_evaluate_goals-evaluate_step-requires : goal.try_evaluate_goals-evaluate_step-requires
 try_evaluate_goals-evaluate_step-requires g t c =

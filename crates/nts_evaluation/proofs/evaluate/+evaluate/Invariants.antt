@@ -54,9 +54,9 @@ abbrev pub invariant-evaluate_rounds-loop-round : goal.invariant-evaluate_rounds
 invariant-evaluate_rounds-loop-round g l = record {
   grows : Grows l.fn.cx l.cx;
   searches : Searches l.fn.cx l.cx l.fn.graph l.graph;
-  input : l.input ≡ l.fn.input;
-  fits : IsHeadAnswer l.cx.nodes (kinds_of l.fn.input) l.provisional;
-  told : (s : Since (λ ts. g.H.GoalHandler.ready ts l.handler) l.fn.cx.nodes) → HeadsTell (g.H.GoalHandler.handler s.base l.handler) l.fn.cx.nodes l.fn.graph → IsAnswerTold (g.H.GoalHandler.handler s.base l.handler) (mode_of l.fn.input.typing_mode) l.cx.nodes (form_of l.fn.cx.nodes l.fn.input) l.provisional;
+  input : l.asked.value.input ≡ l.fn.input.value;
+  fits : IsHeadAnswer l.cx.nodes (kinds_of l.fn.input.value) l.asked.value.provisional;
+  told : (s : Since (λ ts. g.H.GoalHandler.ready ts l.handler) l.fn.cx.nodes) → HeadsTell (g.H.GoalHandler.handler s.base l.handler) l.fn.cx.nodes l.fn.graph → IsAnswerTold (g.H.GoalHandler.handler s.base l.handler) (mode_of l.fn.input.value.typing_mode) l.cx.nodes (form_of l.fn.cx.nodes l.fn.input.value) l.asked.value.provisional;
 }
 
 -- the first candidates have these responses, and the table is as before

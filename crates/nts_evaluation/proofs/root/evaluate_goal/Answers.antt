@@ -13,20 +13,23 @@ use Rattle.nts_evaluation.proofs.Rounds.{empty_stack, tell_begun, nothing_left}
 use Rattle.nts_evaluation.proofs.root.evaluate_goal.Goals as goal
 
 pub returns-in-Ok-clause-proved : goal.returns-in-Ok-clause-proved
-returns-in-Ok-clause-proved g c = λ sure v.
+returns-in-Ok-clause-proved g c = rw c.into_inner.ensures (λ sure v.
     let e = c.in-Ok.ensures in
     let none = empty_stack c.args.graph.now c.requires.search in
     let left = nothing_left c.search.new.cx.nodes (path_kind_of c.args.step_kind) none c.search.ensures.searches in
-    let derived = e.proved (record { base = c.args.cx.now.nodes; formed = c.terms_are_formed.ensures; extends = Extends-refl _; is_ready = c.requires.ready; variances = v }) sure in
-    derived_proof _ _ _ (subst (λ A. IsDerivedFrom (meaning (g.H.GoalHandler.handler c.args.cx.now.nodes c.args.handler.now) v) (mode_of c.args.input.typing_mode) A (answer_sequent (form_of c.args.cx.now.nodes c.args.input) (response_at c.search.new.cx.nodes c.in-Ok.answer))) left derived)
+    let derived = rw c.in_ok-input.ensures.ok at (e.proved (record { base = c.args.cx.now.nodes; formed = c.terms_are_formed.ensures; extends = Extends-refl _; is_ready = c.requires.ready; variances = v }) sure) in
+    derived_proof _ _ _ (subst (λ A. IsDerivedFrom (meaning (g.H.GoalHandler.handler c.args.cx.now.nodes c.args.handler.now) v) (mode_of c.args.input.typing_mode) A (answer_sequent (form_of c.args.cx.now.nodes c.args.input) (response_at c.search.new.cx.nodes c.in-Ok.answer.value))) left derived))
 
 pub returns-in-Ok-clause-told : goal.returns-in-Ok-clause-told
 returns-in-Ok-clause-told g c =
     let none = empty_stack c.args.graph.now c.requires.search in
-    c.in-Ok.ensures.told (record { base = c.args.cx.now.nodes; formed = c.terms_are_formed.ensures; extends = Extends-refl _; is_ready = c.requires.ready; variances = λ i. [] }) (tell_begun c.args.graph.now (g.H.GoalHandler.handler c.args.cx.now.nodes c.args.handler.now) c.args.cx.now.nodes none)
+    rw c.into_inner.ensures (rw c.in_ok-input.ensures.ok at (c.in-Ok.ensures.told (record { base = c.args.cx.now.nodes; formed = c.terms_are_formed.ensures; extends = Extends-refl _; is_ready = c.requires.ready; variances = λ i. [] }) (tell_begun c.args.graph.now (g.H.GoalHandler.handler c.args.cx.now.nodes c.args.handler.now) c.args.cx.now.nodes none)))
 
 pub returns-in-Err-NoSolution-clause-refuted : goal.returns-in-Err-NoSolution-clause-refuted
 returns-in-Err-NoSolution-clause-refuted g c = λ q.
     let none = empty_stack c.args.graph.now c.requires.search in
     let refused : c.search.result ≡ Err EvalError.NoSolution = search rules in
-    c.search.ensures.refuted (record { base = c.args.cx.now.nodes; formed = c.terms_are_formed.ensures; extends = Extends-refl _; is_ready = c.requires.ready; variances = λ i. [] }) (tell_begun c.args.graph.now (g.H.GoalHandler.handler c.args.cx.now.nodes c.args.handler.now) c.args.cx.now.nodes none) refused
+    rw c.in_ok-input.ensures.ok at (c.search.ensures.refuted (record { base = c.args.cx.now.nodes; formed = c.terms_are_formed.ensures; extends = Extends-refl _; is_ready = c.requires.ready; variances = λ i. [] }) (tell_begun c.args.graph.now (g.H.GoalHandler.handler c.args.cx.now.nodes c.args.handler.now) c.args.cx.now.nodes none) refused)
+
+pub returns-in-Ok-clause-fits : goal.returns-in-Ok-clause-fits
+returns-in-Ok-clause-fits g c = rw c.into_inner.ensures (rw c.in_ok-input.ensures.ok at c.in-Ok.ensures.fits)

@@ -138,9 +138,9 @@ compute_goal-returns-clause-told g t c = λ s tells.
     let offered = e.offered ∙ ap (λ m. (g.H.GoalHandler.handler c.candidates.new.cx.nodes c.args.handler.now).offers (mode_of m) (tree_at c.candidates.new.cx.nodes c.in-Some.opened.param_env.node) (tree_at c.candidates.new.cx.nodes c.in-Some.opened.predicate.node)) c.typing_mode.ensures ∙ same.offers _ _ _ in
     let run = rw (c.deref.ensures.value, m.same) at (c.evaluate_candidates-response.ensures.told (Since-later (Extends-trans up m.grows.extends) s) (tell_grown h c.args.depth c.requires.search (grown o.grows (grown e.grows m.grows)) tells)) in
     IfOk-map c.evaluate_candidates-response.result
-    (λ r f. told_through c.requires.posed opened o.grows.extends h c.args.table.now.mode c.args.values.now c.evaluate_candidates-response.new.cx.nodes r trees
-    (rw (o.goes.mode) at (told_offered h c.enter_forall.new.table.mode c.enter_forall.new.table c.in-Some.opened c.args.values.now c.in_ok-candidates.candidates.items c.evaluate_candidates-response.new.cx.nodes r e.grows.extends o.goes.table posed.holds (both ∙ sym trees) offered
-    (kept_tell c.evaluate_candidates-response.new.cx.nodes c.in-Some.opened h c.enter_forall.new.table.mode c.args.values.now r m.kept m.grows.extends (IsTable-extended e.grows.extends o.goes.table) args e.candidates f)))) run
+    (λ r f. told_through c.requires.posed opened o.grows.extends h c.args.table.now.mode c.args.values.now c.evaluate_candidates-response.new.cx.nodes r.value trees
+    (rw (o.goes.mode) at (told_offered h c.enter_forall.new.table.mode c.enter_forall.new.table c.in-Some.opened c.args.values.now c.in_ok-candidates.candidates.items c.evaluate_candidates-response.new.cx.nodes r.value e.grows.extends o.goes.table posed.holds (both ∙ sym trees) offered
+    (kept_tell c.evaluate_candidates-response.new.cx.nodes c.in-Some.opened h c.enter_forall.new.table.mode c.args.values.now r.value m.kept m.grows.extends (IsTable-extended e.grows.extends o.goes.table) args e.candidates f)))) run
 
 pub evaluate_candidates-loop-candidate-init : goal.evaluate_candidates-loop-candidate-init
 evaluate_candidates-loop-candidate-init g t c = record {
@@ -173,7 +173,7 @@ evaluate_candidates-loop-candidate-preserved g t c =
       searches = Searches-trans i.searches p.searches;
       found = founds_more rs new c.probe_candidate-answer.result p.grows.extends (founds_with rs (λ b u f s offered. served_more covers (f s offered)) i.found)
           (IfOk-map c.probe_candidate-answer.result
-          (λ r f. found_earlier r i.grows.extends w holds c.requires.values
+          (λ r f. found_earlier r.value i.grows.extends w holds c.requires.values
           (λ b u f s offered. f (Since-later i.grows.extends s)
           (rw (offers-kept (g.H.GoalHandler.handler s.base c.args.handler.now) (mode_of mode) i.grows.extends holds) (offered_there _ c.args.goal _ cs c.loop-candidate.candidate-index c.candidate-item.is at c.requires.candidates i.grows.extends offered))) f)
           (rw i.same at p.found)) m.kept;
@@ -208,8 +208,8 @@ evaluate_candidates-probe_candidate-answer-requires g t c = λ κs k.
       ),
     )
 
-pub probe_candidate-make_response-requires-clause-values : goal.probe_candidate-make_response-requires-clause-values
-probe_candidate-make_response-requires-clause-values g t c =
+pub probe_candidate-boxed_response-requires-clause-values : goal.probe_candidate-boxed_response-requires-clause-values
+probe_candidate-boxed_response-requires-clause-values g t c =
     let p = c.requires.posed in
     let o = c.in_ok-snapshot.ensures in
     let r = c.in-Ok.ensures in
@@ -224,7 +224,7 @@ probe_candidate-returns-clause-found g t c =
     let r = c.in-Ok.ensures in
     let back = rolled_back o.saved r.runs.goes c.rollback_to-2.ensures.saved o.mode c.rollback_to-2.ensures.mode in
     let m = c.in_ok-response-2.ensures in
-    found_still c.in_ok-response-2.response c.in-Ok.certainty p.table r.runs.goes.extends c.terms_are_formed.ensures m.grows.extends c.requires.values m.certainty (not_kept (sym c.keeps_constraints.ensures ∙ c.if-keeps_constraints.false)) (rw back at m.says) m.holds (record { no_hidden = m.nothing.0; no_goals = m.nothing.1 })
+    found_still c.in_ok-response-2.response.value c.in-Ok.certainty p.table r.runs.goes.extends c.terms_are_formed.ensures m.grows.extends c.requires.values m.certainty (not_kept (sym c.keeps_constraints.ensures ∙ c.if-keeps_constraints.false)) (rw back at m.says) m.holds (record { no_hidden = m.nothing.0; no_goals = m.nothing.1 })
 
 pub probe_candidate-returns-clause-told : goal.probe_candidate-returns-clause-told
 probe_candidate-returns-clause-told g t c = λ s tells.
@@ -250,7 +250,7 @@ probe_candidate-returns-then-keeps_constraints-clause-found g t c =
     let m = c.in_ok-response.ensures in
     let now = search_later c.args.depth c.args.depth (omega arith) c.requires.search r.searches in
     let covers = covers_grown c.args.depth now m.grows in
-    found_in c.in_ok-response.field-0 c.in-Ok.certainty went c.terms_are_formed.ensures m.grows.extends (rw o.entries at r.labels) c.requires.values m.certainty m.says m.holds (record { no_hidden = m.nothing.0; no_goals = m.nothing.1 })
+    found_in c.in_ok-response.field-0.value c.in-Ok.certainty went c.terms_are_formed.ensures m.grows.extends (rw o.entries at r.labels) c.requires.values m.certainty m.says m.holds (record { no_hidden = m.nothing.0; no_goals = m.nothing.1 })
     (λ y s offered. served_more covers (rw o.mode at (r.proved s (rw o.mode offered) (ap Ok y))))
 
 pub probe_candidate-returns-then-keeps_constraints-clause-told : goal.probe_candidate-returns-then-keeps_constraints-clause-told
