@@ -3,10 +3,10 @@ ghost use Rattle.std.specs.Prelude.{◌≡◌, ◌≤◌, ◌+◌, true, [], Non
 ghost use Rattle.nts_certainty.specs.declared.certainty.Certainty.TheVariants as certainty;
 ghost use Rattle.nts_store.specs.Errors.{error_of};
 ghost use Rattle.nts_response.specs.Forms.{response_at, HoldsResponse};
-ghost use Rattle.nts_queries.specs.Asking.{IsResponseOf};
-ghost use Rattle.nts_queries.specs.Answering.{told_in};
-ghost use Rattle.nts_queries.specs.Meant.{Since, IsProvedSince, ReachesBy, RefusesOneOf};
-ghost use Rattle.nts_queries.specs.Stepping.{AreLeft, AreSettled};
+ghost use Rattle.nts_evaluation.specs.Asking.{IsResponseOf};
+ghost use Rattle.nts_evaluation.specs.Answering.{told_in};
+ghost use Rattle.nts_evaluation.specs.Meant.{Since, IsProvedSince, ReachesBy, RefusesOneOf};
+ghost use Rattle.nts_evaluation.specs.Stepping.{AreLeft, AreSettled};
 ghost use Rattle.nts_contexts.specs.Faults.{fault_after, tainted_after};
 ghost use Rattle.nts_contexts.specs.Contexts.{IsReady, Keeps, content_in};
 

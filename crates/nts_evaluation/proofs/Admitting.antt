@@ -12,7 +12,7 @@ use Rattle.nts_store.specs.Labels.{AllLabels}
 use Rattle.nts_store.proofs.Escaping.{escapes, closed_by_facts}
 use Rattle.nts_table.specs.Tables.{Table}
 use Rattle.nts_unify.specs.Reading.{content_of}
-use Rattle.nts_queries.specs.Evaluation.{IsRootTerm}
+use Rattle.nts_evaluation.specs.Evaluation.{IsRootTerm}
 use Rattle.nts_delegate.proofs.Testing.{both_false, or_false}
 
 -- no label passes a test

@@ -45,14 +45,14 @@ use Rattle.nts_delegate.specs.Candidates.{IsAsked}
 use Rattle.nts_delegate.specs.declared.delegate.CandidateData.{CandidateData}
 use Rattle.nts_delegate.specs.Offered.{candidates_of}
 use Rattle.nts_terms.specs.Handles.{HoldsGoal}
-use Rattle.nts_queries.specs.Evaluation.{Goes, IsPosed, asked_terms}
-use Rattle.nts_queries.specs.Opening.{IsOpenedTo}
-use Rattle.nts_queries.specs.Meant.{IsServed, offers_of, IsTold, IsRefuted, CandidatesTell}
-use Rattle.nts_queries.proofs.Evaluating.{Knows-goes, offers-kept}
-use Rattle.nts_queries.proofs.Running.{term_table}
-use Rattle.nts_queries.specs.Telling.{IsPlain, StandsForAll, Outcomes}
-use Rattle.nts_queries.specs.Telling.Tells.{tells_nothing, tells_one}
-use Rattle.nts_queries.specs.Telling.Refutes.{all_fail}
+use Rattle.nts_evaluation.specs.Evaluation.{Goes, IsPosed, asked_terms}
+use Rattle.nts_evaluation.specs.Opening.{IsOpenedTo}
+use Rattle.nts_evaluation.specs.Meant.{IsServed, offers_of, IsTold, IsRefuted, CandidatesTell}
+use Rattle.nts_evaluation.proofs.Evaluating.{Knows-goes, offers-kept}
+use Rattle.nts_evaluation.proofs.Running.{term_table}
+use Rattle.nts_evaluation.specs.Telling.{IsPlain, StandsForAll, Outcomes}
+use Rattle.nts_evaluation.specs.Telling.Tells.{tells_nothing, tells_one}
+use Rattle.nts_evaluation.specs.Telling.Refutes.{all_fail}
 
 -- what holds, holds of what went well
 pub on_ok : {A E P : Type 0} (r : Result A E) → P → OnOk r P

@@ -27,17 +27,17 @@ use Rattle.nts_canonical.specs.Building.{IsArgOf}
 use Rattle.nts_response.specs.declared.types.Response.{Response}
 use Rattle.nts_response.specs.Forms.{response_at}
 use Rattle.std.specs.Global.{Box}
-use Rattle.nts_queries.specs.Answering.{IfAnswered}
-use Rattle.nts_queries.specs.Found.{Found, IsMerged, kept_after}
-use Rattle.nts_queries.specs.Telling.{IsPlain, Outcomes, Replies, Fails, StandsForAll}
-use Rattle.nts_queries.specs.Telling.Outcomes.{no_outcome, then_fails, then_replies}
-use Rattle.nts_queries.specs.Meant.{HaveOutcomes, CandidatesTell, RepliesWith, FailsIn}
-use Rattle.nts_queries.proofs.AskedGoals.{trees_kept}
-use Rattle.nts_queries.proofs.Evaluating.{Goes-trans, Goes-extends}
-use Rattle.nts_queries.proofs.Labels.{only_back}
-use Rattle.nts_queries.proofs.Running.{candidate-kept}
-use Rattle.nts_queries.proofs.Probed.{response_same, found_later, found_with, found_still}
-use Rattle.nts_queries.proofs.MergedResponses.{doubt_unsure, told_unsure, merged_stands, merged_among}
+use Rattle.nts_evaluation.specs.Answering.{IfAnswered}
+use Rattle.nts_evaluation.specs.Found.{Found, IsMerged, kept_after}
+use Rattle.nts_evaluation.specs.Telling.{IsPlain, Outcomes, Replies, Fails, StandsForAll}
+use Rattle.nts_evaluation.specs.Telling.Outcomes.{no_outcome, then_fails, then_replies}
+use Rattle.nts_evaluation.specs.Meant.{HaveOutcomes, CandidatesTell, RepliesWith, FailsIn}
+use Rattle.nts_evaluation.proofs.AskedGoals.{trees_kept}
+use Rattle.nts_evaluation.proofs.Evaluating.{Goes-trans, Goes-extends}
+use Rattle.nts_evaluation.proofs.Labels.{only_back}
+use Rattle.nts_evaluation.proofs.Running.{candidate-kept}
+use Rattle.nts_evaluation.proofs.Probed.{response_same, found_later, found_with, found_still}
+use Rattle.nts_evaluation.proofs.MergedResponses.{doubt_unsure, told_unsure, merged_stands, merged_among}
 
 -- what was found for a goal in a store that has grown, seen from the smaller store
 pub found_earlier : {P Q : List Tree → Table → Type 0} {a b e : List Tree} {t : Table} {g : Goal} {qs : List GenericArg} (r : Canonical Response) → Extends a b → IsTable a t → HoldsGoal a g → All (IsArgOf a t.entries) qs → ((c : List Tree) (u : Table) → P c u → Q c u) → Found P b e t g qs r → Found Q a e t g qs r

@@ -30,15 +30,15 @@ use Rattle.nts_delegate.specs.declared.delegate.CandidateData.{CandidateData}
 use Rattle.nts_delegate.specs.Candidates.{AreNested}
 use Rattle.nts_delegate.specs.Offered.{constraint_of, premise_of, candidate_of}
 use Rattle.nts_response.specs.Forms.{premise_at}
-use Rattle.nts_queries.specs.Choices.{Equated}
-use Rattle.nts_queries.specs.Telling.{FailsToAdd, IsBegun, goals_with}
-use Rattle.nts_queries.specs.Telling.Fails.{breaks_off, is_refused}
-use Rattle.nts_queries.specs.Stepping.{ArePosed, AreSettled, goals_at, terms_of}
-use Rattle.nts_queries.specs.Adding.{AreAdded}
-use Rattle.nts_queries.specs.Meant.{HasRunTo, FailsIn, ReachesBy, RefusesOneOf}
-use Rattle.nts_queries.specs.Running.{Stays, PremiseHolds, EachStays, StaysProved}
-use Rattle.nts_queries.specs.Evaluation.{Goes, IsPosed, asked_terms}
-use Rattle.nts_queries.proofs.Running.{premise_stays, premises-kept}
+use Rattle.nts_evaluation.specs.Choices.{Equated}
+use Rattle.nts_evaluation.specs.Telling.{FailsToAdd, IsBegun, goals_with}
+use Rattle.nts_evaluation.specs.Telling.Fails.{breaks_off, is_refused}
+use Rattle.nts_evaluation.specs.Stepping.{ArePosed, AreSettled, goals_at, terms_of}
+use Rattle.nts_evaluation.specs.Adding.{AreAdded}
+use Rattle.nts_evaluation.specs.Meant.{HasRunTo, FailsIn, ReachesBy, RefusesOneOf}
+use Rattle.nts_evaluation.specs.Running.{Stays, PremiseHolds, EachStays, StaysProved}
+use Rattle.nts_evaluation.specs.Evaluation.{Goes, IsPosed, asked_terms}
+use Rattle.nts_evaluation.proofs.Running.{premise_stays, premises-kept}
 use Rattle.nts_evaluation.proofs.Stepping.{all_among}
 
 -- its equations and its constraints

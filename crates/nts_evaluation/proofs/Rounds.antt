@@ -24,7 +24,7 @@ use Rattle.nts_certainty.specs.declared.sources.PathKind.TheVariants as path
 use Rattle.nts_terms.proofs.Moved.{KeepsRest-trans}
 use Rattle.nts_store.proofs.Growing.{Extends-trans}
 use Rattle.nts_table.specs.Tables.{Table}
-use Rattle.nts_queries.specs.Evaluation.{Runs}
+use Rattle.nts_evaluation.specs.Evaluation.{Runs}
 use Rattle.nts_canonical.specs.declared.types.Canonical.{Canonical}
 use Rattle.nts_canonical.specs.declared.types.CanonicalInput.{CanonicalInput}
 use Rattle.nts_canonical.specs.Alike.{AreOneInput}
@@ -39,16 +39,16 @@ use Rattle.nts_search.specs.Searching.{entry_at, entries_at, HoldsAnswer, HoldsE
 use Rattle.nts_search.specs.Ending.{AreOneAnswer, IsVague}
 use Rattle.nts_search.proofs.RoundEnds.{round_may_end}
 use Rattle.std.specs.Global.{Box}
-use Rattle.nts_queries.specs.declared.round.Asked.{Asked}
-use Rattle.nts_queries.specs.declared.round.Ended.{Ended}
-use Rattle.nts_queries.specs.Rounds.{IsFirst, IsTakenOff, EndsWith, IsBoxed}
-use Rattle.nts_queries.specs.Answering.{IsQueryInput, IsAnswerTo, IfAnswered}
-use Rattle.nts_queries.specs.Telling.{QueryTells, QueryRefutes, SaysNothing}
-use Rattle.nts_queries.specs.Telling.Tells.{says_nothing}
-use Rattle.nts_queries.specs.Searching.{IsHeadAnswer, IsHead, IsSearch, IsLater, AreLater, Searches, assumed_in, IsAnswerTold, HeadsTell, IsCut, IsReadAt, HasNoneAt}
-use Rattle.nts_queries.proofs.Probed.{response_same}
-use Rattle.nts_queries.proofs.Searching.{form_later, input_later, head_answer_later, later_itself, later_pushed, Searches-refl, Searches-trans, search_grows, search_later, search_counted, nothing_assumed, none_passed, answer_told_later, tell_grown}
-use Rattle.nts_queries.proofs.BackEdges.{by_answer, some_is_ok, copied_response, usable_derived}
+use Rattle.nts_evaluation.specs.declared.round.Asked.{Asked}
+use Rattle.nts_evaluation.specs.declared.round.Ended.{Ended}
+use Rattle.nts_evaluation.specs.Rounds.{IsFirst, IsTakenOff, EndsWith, IsBoxed}
+use Rattle.nts_evaluation.specs.Answering.{IsQueryInput, IsAnswerTo, IfAnswered}
+use Rattle.nts_evaluation.specs.Telling.{QueryTells, QueryRefutes, SaysNothing}
+use Rattle.nts_evaluation.specs.Telling.Tells.{says_nothing}
+use Rattle.nts_evaluation.specs.Searching.{IsHeadAnswer, IsHead, IsSearch, IsLater, AreLater, Searches, assumed_in, IsAnswerTold, HeadsTell, IsCut, IsReadAt, HasNoneAt}
+use Rattle.nts_evaluation.proofs.Probed.{response_same}
+use Rattle.nts_evaluation.proofs.Searching.{form_later, input_later, head_answer_later, later_itself, later_pushed, Searches-refl, Searches-trans, search_grows, search_later, search_counted, nothing_assumed, none_passed, answer_told_later, tell_grown}
+use Rattle.nts_evaluation.proofs.BackEdges.{by_answer, some_is_ok, copied_response, usable_derived}
 
 -- the store grows, and the search goes on
 pub grown : {a b c : Cx} → Grows a b → Grows b c → Grows a c

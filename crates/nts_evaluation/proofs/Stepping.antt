@@ -13,11 +13,11 @@ use Rattle.nts_search.specs.declared.kinds.CurrentGoalKind.{CurrentGoalKind}
 use Rattle.nts_search.specs.declared.kinds.CurrentGoalKind.TheVariants as kinds
 use Rattle.nts_search.specs.Kinds.{goal_kind_of}
 use Rattle.nts_delegate.specs.Offered.{path_kind_of, source_of}
-use Rattle.nts_queries.specs.Telling.{IsInductive}
-use Rattle.nts_queries.specs.Telling.RefusesOne.{cuts_one}
-use Rattle.nts_queries.specs.Searching.{IsCut}
-use Rattle.nts_queries.specs.Meant.{IsNestedSince}
-use Rattle.nts_queries.proofs.Searching.{stays_more, none_passed}
+use Rattle.nts_evaluation.specs.Telling.{IsInductive}
+use Rattle.nts_evaluation.specs.Telling.RefusesOne.{cuts_one}
+use Rattle.nts_evaluation.specs.Searching.{IsCut}
+use Rattle.nts_evaluation.specs.Meant.{IsNestedSince}
+use Rattle.nts_evaluation.proofs.Searching.{stays_more, none_passed}
 use Rattle.nts_model.specs.Trees.{Tree}
 use Rattle.nts_model.specs.Contents.{Content}
 use Rattle.nts_model.specs.Sequents.{Among, Premise}
@@ -39,14 +39,14 @@ use Rattle.nts_unify.specs.Reading.{content_of}
 use Rattle.nts_unify.specs.Lawful.{content_of-extended}
 use Rattle.nts_table.specs.Tables.{Table, IsTable}
 use Rattle.nts_response.specs.Forms.{premise_at}
-use Rattle.nts_queries.specs.Evaluation.{Goes, IsPosed, asked_terms}
-use Rattle.nts_queries.specs.Stepping.{ArePosed, goals_at, terms_of, AreLeft, AreSettled, left_after}
-use Rattle.nts_queries.specs.Telling.{Reaches, RefusesOne, Asked, Refused}
-use Rattle.nts_queries.specs.Telling.Reaches.{asks_nothing, then_asks}
-use Rattle.nts_queries.specs.Telling.RefusesOne.{refuses_one}
-use Rattle.nts_queries.specs.Meant.{Since, IsProvedSince, IsProvedFromSince, IsAskedUnder, IsRefusedUnder, ReachesBy, RefusesOneOf}
-use Rattle.nts_queries.proofs.Evaluating.{IsPosed-later, HoldsGoal-extended}
-use Rattle.nts_queries.proofs.Running.{both_sure, Stays-later}
+use Rattle.nts_evaluation.specs.Evaluation.{Goes, IsPosed, asked_terms}
+use Rattle.nts_evaluation.specs.Stepping.{ArePosed, goals_at, terms_of, AreLeft, AreSettled, left_after}
+use Rattle.nts_evaluation.specs.Telling.{Reaches, RefusesOne, Asked, Refused}
+use Rattle.nts_evaluation.specs.Telling.Reaches.{asks_nothing, then_asks}
+use Rattle.nts_evaluation.specs.Telling.RefusesOne.{refuses_one}
+use Rattle.nts_evaluation.specs.Meant.{Since, IsProvedSince, IsProvedFromSince, IsAskedUnder, IsRefusedUnder, ReachesBy, RefusesOneOf}
+use Rattle.nts_evaluation.proofs.Evaluating.{IsPosed-later, HoldsGoal-extended}
+use Rattle.nts_evaluation.proofs.Running.{both_sure, Stays-later}
 
 -- elements of lists
 pub among_get : {X : Type 0} (xs : List X) (i : ℕ) (d : X) → i < length xs → Among xs (get_or xs i d)

@@ -5,12 +5,12 @@ ghost use Rattle.nts_model.specs.Resolving.{deeply_resolved};
 ghost use Rattle.nts_store.specs.Growth.{tree_at, IsIn, Extends};
 ghost use Rattle.nts_unify.specs.Reading.{content_of};
 ghost use Rattle.nts_table.specs.Tables.{IsTable};
-ghost use Rattle.nts_queries.specs.Evaluation.{IsRootTerm, is_type_variable, is_internal};
+ghost use Rattle.nts_evaluation.specs.Evaluation.{IsRootTerm, is_type_variable, is_internal};
 ghost use Rattle.nts_table.specs.Tables.{IsTermOf};
 ghost use Rattle.nts_terms.specs.Rest.{Grows};
 
+use crate::candidate::resolve_term;
 use nts_model::{Label, Leaf, PredicateHead, VariableKind};
-use nts_queries::resolve_term;
 use nts_store::{Fault, LabelTest, NodeId, all_labels};
 use nts_table::InferCtxt;
 use nts_terms::Cx;

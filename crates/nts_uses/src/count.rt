@@ -4,7 +4,7 @@ ghost use Rattle.nts_model.specs.Trees.{any_argument};
 ghost use Rattle.nts_delegate.specs.Clauses.{AreReady};
 ghost use Rattle.nts_table.specs.Tables.{IsTable, IsPlainSide};
 ghost use Rattle.nts_terms.specs.Handles.{HoldsGoal};
-ghost use Rattle.nts_queries.specs.Evaluation.{IsPosed};
+ghost use Rattle.nts_evaluation.specs.Evaluation.{IsPosed};
 ghost use Rattle.nts_contexts.specs.Contexts.{IsReady, Keeps, IsGoalOf};
 
 use crate::clone::{add_rule, holds_for, vec_of};

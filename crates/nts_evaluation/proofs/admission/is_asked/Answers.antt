@@ -3,7 +3,7 @@ use Rattle.std.specs.Prelude.{IsTrue}
 use Rattle.nts_model.specs.Trees.{any_label}
 use Rattle.nts_store.specs.Growth.{tree_at}
 use Rattle.nts_store.specs.Labels.{AllLabels}
-use Rattle.nts_queries.specs.Evaluation.{is_internal}
+use Rattle.nts_evaluation.specs.Evaluation.{is_internal}
 use Rattle.nts_evaluation.proofs.Admitting.{no_label}
 use Rattle.nts_delegate.proofs.Testing.{if_then}
 use Rattle.nts_evaluation.proofs.admission.is_asked.Goals as goal
