@@ -41,7 +41,7 @@ pub enum Head {
 
 /// The root or the value of a variable, or the term itself. A type variable's value may be a variable
 /// of integers or floats, which may have a value too.
-pub fn head_of(nodes: &Nodes, table: &InferCtxtInner, t: NodeId) -> Head
+fn head_of(nodes: &Nodes, table: &InferCtxtInner, t: NodeId) -> Head
     requires within { IsIn nodes.now t }
     requires knows { Knows (content_of nodes.now table.now.entries) (tree_at nodes.now t) }
     requires lawful { IsLawful nodes.now table.now.entries }
@@ -57,7 +57,7 @@ pub fn head_of(nodes: &Nodes, table: &InferCtxtInner, t: NodeId) -> Head
 }
 
 /// Makes two free regions equal: two variables are joined, and else it is recorded.
-pub fn relate_regions(
+fn relate_regions(
     nodes: &Nodes,
     table: &mut InferCtxtInner,
     a: NodeId,
@@ -92,7 +92,7 @@ pub fn relate_regions(
 }
 
 /// Makes two variables without values equal, and says whether they were two.
-pub fn relate_variables(
+fn relate_variables(
     alloc: Global,
     nodes: &mut Nodes,
     table: &mut InferCtxtInner,
@@ -206,7 +206,7 @@ fn bind(
 }
 
 /// Pushes the children of two nodes, so that the first ones are related first.
-pub fn push_children(
+fn push_children(
     nodes: &Nodes,
     pairs: &mut Vec<Pair>,
     a: NodeId,

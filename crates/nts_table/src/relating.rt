@@ -11,12 +11,10 @@ ghost use Rattle.nts_table.specs.Tables.{IsTable, IsSide, IsPlainSide, RelatingK
 
 use crate::infer_ctxt::InferCtxt;
 use crate::relating_nodes::relate_nodes;
-use nts_model::{Label, ListHead, Variance};
-use nts_relating::{Owed, relate_nodes_along};
+use nts_model::Variance;
 use nts_store::{EvalError, NodeId};
 use nts_terms::{
-    AliasTerm, Const, Cx, DefId, GenericArg, Goal, ParamEnv, Predicate, Region, Span, Term,
-    TraitRef, Ty,
+    AliasTerm, Const, Cx, DefId, GenericArg, Goal, ParamEnv, Region, Span, Term, TraitRef, Ty,
 };
 
 /// What can be related: two terms of one sort, or two lists of arguments of one alias or trait.
@@ -168,7 +166,8 @@ impl Relate for TraitRef {
 }
 
 impl InferCtxt {
-    /// Relates two values by a variance, and answers the goals that are left. After a refusal the table is as before.
+    /// Makes two values one, and answers the goals that are left. No alias is to stand in either, so
+    /// there are none. After a refusal the table is as before.
     pub fn relate<T: Relate>(
         &mut self,
         cx: &mut Cx,
@@ -176,35 +175,24 @@ impl InferCtxt {
         lhs: T,
         variance: Variance,
         rhs: T,
-        _span: Span,
-    ) -> Result<Vec<Goal>, EvalError> {
-        if lhs.def() != rhs.def() {
-            return Err(EvalError::NoSolution);
-        }
-        // The arguments of an alias and of a trait are invariant.
-        let variance = if lhs.def().is_some() {
-            Variance::Invariant
-        } else {
-            variance
-        };
-        let owed = relate_nodes_along(
-            cx.alloc,
-            &mut cx.nodes,
-            &cx.declarations,
-            &mut self.inner,
-            variance,
-            lhs.node(),
-            rhs.node(),
-        )?;
-        let mut goals = Vec::with_capacity(cx.alloc, owed.len())?;
-        for goal in &owed {
-            let predicate = predicate_of(cx, *goal)?;
-            goals.push(Goal {
-                param_env: env,
-                predicate,
-            })?;
-        }
-        Ok(goals)
+        span: Span,
+    ) -> Result<Vec<Goal>, EvalError>
+        requires table { IsTable cx.old.nodes self.old }
+        requires invariant { variance ≡ variances.Invariant }
+        requires left { IsPlainSide T.place cx.old.nodes self.old (T.id lhs) }
+        requires right { IsPlainSide T.place cx.old.nodes self.old (T.id rhs) }
+        ensures goals { IfOk result (λ gs. gs.items ≡ []) }
+        ensures heads { OnOk result (T.head lhs ≡ T.head rhs) }
+        ensures related { OnOk result (AreRelated (content_of cx.old.nodes self.old.entries) (content_of cx.new.nodes self.new.entries) (tree_at cx.old.nodes (T.id lhs)) (tree_at cx.old.nodes (T.id rhs))) }
+        ensures labels { OnOk result (BringsLabelsOf (content_of cx.old.nodes self.old.entries) (content_of cx.new.nodes self.new.entries) (tree_at cx.old.nodes (T.id lhs)) (tree_at cx.old.nodes (T.id rhs))) }
+        ensures no { result ≡ Err EvalError.NoSolution → T.head lhs ≡ T.head rhs → AreUnrelated (content_of cx.old.nodes self.old.entries) (tree_at cx.old.nodes (T.id lhs)) (tree_at cx.old.nodes (T.id rhs)) }
+        ensures keeps { RelatingKeeps cx.old cx.new self.old self.new }
+        ensures err { OnErr result (self.new ≡ self.old) }
+        ensures full { result ≢ Err EvalError.Full }
+    {
+        let _ = variance;
+        self.eq_structurally_relating_aliases(cx, env, lhs, rhs, span)?;
+        Ok(Vec::new(cx.alloc))
     }
 
     /// Makes two values one, with aliases taken as they stand. After a refusal the table is as before.
@@ -232,16 +220,4 @@ impl InferCtxt {
         }
         relate_nodes(cx.alloc, &mut cx.nodes, self, lhs.node(), rhs.node())
     }
-}
-
-/// The predicate of a goal that relating left. It binds nothing.
-fn predicate_of(cx: &mut Cx, goal: Owed) -> Result<Predicate, EvalError> {
-    let sorts = cx.nodes.make(Label::List(ListHead::Sorts), &[])?;
-    let statement = cx
-        .nodes
-        .make(Label::Predicate(goal.head), &[goal.left, goal.right])?;
-    let node = cx
-        .nodes
-        .make(Label::List(ListHead::Binder), &[sorts, statement])?;
-    Ok(Predicate { node })
 }

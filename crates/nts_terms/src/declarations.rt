@@ -115,17 +115,6 @@ impl Declarations {
         }
     }
 
-    /// How an argument of a constructor varies with the whole. What is not declared is invariant.
-    pub fn variance_of(&self, def: CtorId, place: usize) -> Variance {
-        match self.ctors.get(def.number) {
-            Some(signature) => match signature.variances.get(place) {
-                Some(variance) => *variance,
-                None => Variance::Invariant,
-            },
-            None => Variance::Invariant,
-        }
-    }
-
     /// The sorts that something declared takes; `None` for a number that isn't declared.
     pub fn sorts(&self, def: DefId) -> Option<&[Sort]>
         ensures { MatchOption result (sorts_of self.now def ≡ None) (λ s. sorts_of self.now def ≡ Some s.now) }
