@@ -44,7 +44,7 @@ inst-values w val (n ∷ ns) t h =
     inst-replaced_value w n (under val ns (val n)) (under val ns t) (h n (inl refl) ∙ sym (inst-values w val ns (val n) older))
     ∙ inst-values w val ns t older
 
-slice_get_some : {A : Type 0} (xs : List A) (n : ℕ) → n < length xs → slice_get xs n ≡ None → ⊥
+pub slice_get_some : {A : Type 0} (xs : List A) (n : ℕ) → n < length xs → slice_get xs n ≡ None → ⊥
 slice_get_some [] n h e = omega arith
 slice_get_some (x ∷ xs) zero h e = cc
 slice_get_some (x ∷ xs) (suc n) h e = slice_get_some xs n (omega arith) e

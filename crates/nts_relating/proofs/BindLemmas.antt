@@ -19,6 +19,7 @@ use Rattle.nts_model.proofs.Classes.{resolved-known_variable}
 use Rattle.nts_model.proofs.Instances.{inst-agrees}
 use Rattle.nts_model.proofs.Solving.{Solves-known, Solves-from_known, IsNameable-set}
 use Rattle.nts_model.proofs.Held.{Continues-known, Continues-trans}
+use Rattle.nts_model.proofs.Tying.{TiesNew-same, TiesNew-trans}
 use Rattle.nts_model.proofs.Bringing.{brings-known}
 use Rattle.nts_model.proofs.Alike.{AreAlike-continues, AreAlike-for}
 use Rattle.nts_unify.proofs.Leading.{universe_of-entry}
@@ -43,6 +44,7 @@ use Rattle.nts_unify.specs.Lawful.{IsLawful-extended, content_of-extended}
 use Rattle.nts_unify.proofs.Changes.{slot_at, length-slots, content_of-bound, LeadsDown, leads_down, IsLawful-bound}
 use Rattle.nts_unify.proofs.Keeping.{IsLater-trans, Knows-later, unset-set, unset_of-infer}
 use Rattle.nts_unify.proofs.JoinLemmas.{free_slot}
+use Rattle.nts_unify.proofs.Tied.{ties_of_keeps}
 use Rattle.nts_unify.proofs.Leading.{state_of-entry, kind_at-entry}
 use Rattle.nts_model.proofs.SubUnified.{JoinsSubRoots-known}
 
@@ -118,6 +120,7 @@ bind_value ts us e f g x t v w z before_lawful can_bind at knows_term h within f
         fewer = fewer;
         continues = all;
         alike = λ j has. AreAlike-for after (tree_at us v) (tree_at ts t) (variable_tree j x) (tree_at ts t) (one j has) refl alike;
+        ties = TiesNew-trans c d after known_continues (ties_of_keeps c d h.sound gen.keeps) (TiesNew-same d after longer);
         brings = record { labels = λ P f p i j. let made = gen.labels P f p i in (brings-known d x (slot_of us new) (tree_at us v) there_now refl).labels P f made.0 made.1 tt };
         sound = λ y a.
             let b = Solves-from_known d x (slot_of us new) (tree_at us v) can refl y a in

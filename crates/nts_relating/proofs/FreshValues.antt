@@ -19,7 +19,7 @@ use Rattle.nts_model.specs.Worlds.{World, inst, IsValue, Solves, KnowsAll, with_
 use Rattle.nts_model.specs.Holding.{AreOne, Continues}
 use Rattle.nts_model.proofs.Scoping.{leaf_patch, term_patched, infer_patched}
 use Rattle.nts_model.proofs.Variables.{infer_number_some, infer_label, infer_of_none}
-use Rattle.nts_model.proofs.Slots.{field_below, field-with_slot_new, field-with_slot_old, KeepsKinds-with_slot}
+use Rattle.nts_model.proofs.Slots.{field_below, field-with_slot_new, field-with_slot_old}
 use Rattle.nts_model.proofs.Instances.{inst-agrees, Agrees-with_tree, tree-with_tree}
 use Rattle.nts_model.proofs.Fitting.{IsValue-inst}
 use Rattle.nts_model.proofs.Solving.{Solves-from_with_slot, Solves-with_slot, IsNameable-with_slot, IsNameable-agrees}
@@ -29,14 +29,13 @@ use Rattle.nts_model.proofs.Bringing.{brings-with_slot}
 use Rattle.nts_model.proofs.Open.{Knows-resolved}
 use Rattle.nts_model.proofs.Resolved.{resolved-variable_unset, resolved-variable_link, IsVariable}
 use Rattle.nts_model.proofs.Sound.{resolved-with_slot, state_of-with_slot_old, state_of-with_slot_new, IsSound-with_slot}
-use Rattle.nts_unify.specs.Changing.{unset_count, unset_of, one_unset, IsLater, nothing_more}
+use Rattle.nts_unify.specs.Changing.{unset_count, unset_of, one_unset, IsLater}
 use Rattle.nts_unify.specs.Joining.{IsOneClass, IsJoined}
 use Rattle.nts_relating.specs.Relating.{IsLike, IsUnset, RegionsRelate, Generalized}
 use Rattle.nts_unify.proofs.Keeping.{IsLater-trans, Keeps-trans, unset-push, unset_of-infer, IsLater-with_slot}
 use Rattle.nts_relating.proofs.Ranks.{zero_le, infer_ranked, region_unfit}
 use Rattle.nts_relating.proofs.GenLemmas.{RegionNode, lacks_other, resolved-region_node}
 use Rattle.nts_relating.proofs.Ranks.{zero_le, infer_ranked, region_unfit}
-use Rattle.nts_model.proofs.SubUnified.{JoinsSubRoots-added}
 
 abbrev second_or : Option (VariableKind × ℕ) → ℕ
 second_or None = 0
@@ -66,6 +65,7 @@ Lacks-new c (node l t) h = LacksAt-new c (variable_of l) l t refl h.0.0 (Lacks-n
 -- a new variable of the table
 pub record IsAdded (c d : Content) (v : Slot) : Type 0 where
   pub later : IsLater c d
+  pub only : length d.slots ≡ length c.slots + 1
   pub has : kind_at d (length c.slots) ≡ Some v.kind
   pub states : (n : ℕ) → n < length c.slots → state_of d n ≡ state_of c n
   pub state : state_of d (length c.slots) ≡ Some unset
@@ -84,6 +84,7 @@ pub slot_added : (c : Content) (v : Slot) → IsSound c → KnowsAll c c.constra
 slot_added c v s sides free alone =
     record {
       later = IsLater-with_slot c v free alone;
+      only = omega (arith, length-append c.slots (v ∷ []));
       has = field-with_slot_new (λ x. x.kind) c v;
       states = λ n h. state_of-with_slot_old c v s free n (λ e. omega (arith, e, h));
       state = state_of-with_slot_new c v s free;
@@ -129,6 +130,10 @@ gen_fresh c d e x u b y low high v t s knows h free of_u within i rank like apar
         states = λ n l q. old n l;
         trees = λ z q. let same = a.trees z in let none = Lacks-new c (resolved c z) (Knows-resolved c z s q) in j.trees z (rw (same, hy) none) ∙ same;
         unset_kept = omega (arith, j.fewer, a.count, one);
+        news = λ n k l q r.
+            let less = field_below (λ z. z.kind) e n k q in
+            let same : n ≡ length c.slots = omega (arith, less, l, j.slots, a.only) in
+            (y, rw same linked);
       };
       knows = ((has, tt, refl), tt, tt);
       rank = rank;
@@ -208,6 +213,10 @@ gen_fresh_region c d e x u b v t l s region within r sorted is_region known of_u
         states = λ n q z. a.states n q;
         trees = λ z q. a.trees z;
         unset_kept = omega (arith, a.count, none);
+        news = λ n k l q r.
+            let less = field_below (λ z. z.kind) d n k q in
+            let same : n ≡ length c.slots = omega (arith, less, l, a.only) in
+            absurd (r (some_inj _ _ (sym q ∙ ap (kind_at d) same ∙ a.has ∙ ap Some region)));
       }) k;
       knows = ((has, tt, refl), tt, tt);
       rank = zero_le _ _ refl;

@@ -12,6 +12,7 @@ use Rattle.nts_model.specs.Equations.{Equates, AllAlike, AreRelated}
 use Rattle.nts_model.proofs.Variables.{infer_of_none}
 use Rattle.nts_model.proofs.Instances.{inst-node}
 use Rattle.nts_model.proofs.Held.{AreOne-continues, Continues-refl, Continues-trans}
+use Rattle.nts_model.proofs.Tying.{TiesNew-same}
 use Rattle.nts_model.proofs.Alike.{AreAlike-for, AreAlike-node, AreAlike-continues}
 use Rattle.nts_model.proofs.Resolved.{resolved-node}
 use Rattle.indexmap.specs.IndexSet.{insert_key}
@@ -234,6 +235,7 @@ passed_met ts e ps ms p a b v ha hb found o =
             alike = λ f h next q. AllAlike-push f (pairs_at ts ps) (pair_at ts p) q (one (of_table f) (h, next) (below_table f (judged_size (of_table f) (tree_at ts a)) (pairs_at ts ps) q));
           });
           brings = rw (pairs_at-push ts ps p) (PairsBring-last c c (pairs_at ts ps) (pair_at ts p) (brings-of (tree_at ts p.left) (tree_at ts p.right) (brings-refl c)));
+          ties = TiesNew-same c c refl;
           fewer = λ (q : false ≡ true). cc;
           smaller = λ q. (omega (arith, total-last ts c ps p), refl);
         };

@@ -17,6 +17,8 @@ use Rattle.nts_model.proofs.Variables.{infer_of_none}
 use Rattle.nts_model.proofs.Bringing.{brings-of, brings-refl, passes-children, passes-row_at}
 use Rattle.nts_model.proofs.Instances.{inst-node, inst-agrees, Agrees-refl, Agrees-trans}
 use Rattle.nts_model.proofs.Held.{AreOne-continues, Continues-refl, Continues-trans}
+use Rattle.nts_model.specs.Tying.{TiesNew}
+use Rattle.nts_model.proofs.Tying.{TiesNew-same, TiesNew-trans}
 use Rattle.nts_model.proofs.Alike.{AreAlike-one, AreAlike-itself, AreAlike-for, AreAlike-turned, AreAlike-more, AreAlike-children, AreAlike-continues}
 use Rattle.nts_model.proofs.Resolved.{resolved-more, resolved-empty, Knows-row_at, node_step, IsVariable, resolved-variable_link}
 use Rattle.nts_store.specs.declared.nodes.NodeId.{NodeId}
@@ -35,6 +37,7 @@ use Rattle.nts_relating.specs.Met.{judged_size, JudgesOne, OneBelow}
 use Rattle.nts_relating.specs.Relating.{IsOpen, IsClosedHead, IsSet, RegionsRelate, pair_at, pairs_at, ArePairsIn, AreKnown, PairsPass, PairsBring, total, Pushed, IsValid, IsPairStep, IsPairRun, Running, AreMadeOne, VariablesRelate}
 use Rattle.nts_unify.proofs.Keeping.{IsLater-refl, IsLater-trans, Knows-later, Keeps-refl}
 use Rattle.nts_unify.proofs.JoinLemmas.{free_slot, at_max}
+use Rattle.nts_unify.proofs.Tied.{ties_of_keeps}
 use Rattle.nts_relating.proofs.RegionLemmas.{from_sides, to_sides}
 use Rattle.nts_relating.proofs.GenLemmas.{IsFair, unchanged}
 use Rattle.nts_relating.proofs.Naming.{lawful_sides, alone_label}
@@ -221,12 +224,12 @@ brings_last ts us e f ps p v x h =
     rw (pairs_at-push ts ps p, pairs_at-extended ps x last.front.within) (PairsBring-last (content_of ts e) (content_of us f) (pairs_at ts ps) (pair_at ts p) h)
 
 -- a variable got a value
-pub step_set : (ts us : List Tree) (e f : Entries) (ps : List Pair) (p : Pair) → IsValid ts e (ps ++ p ∷ []) → Extends ts us → IsLawful us f → IsLater (content_of ts e) (content_of us f) → unset_count (content_of us f).slots < unset_count (content_of ts e).slots → AreRelated (content_of ts e) (content_of us f) (tree_at ts p.left) (tree_at ts p.right) → BringsLabelsOf (content_of ts e) (content_of us f) (tree_at ts p.left) (tree_at ts p.right) → Stepped ts us e f ps ps p true
-step_set ts us e f ps p v x h l less r brings =
+pub step_set : (ts us : List Tree) (e f : Entries) (ps : List Pair) (p : Pair) → IsValid ts e (ps ++ p ∷ []) → Extends ts us → IsLawful us f → IsLater (content_of ts e) (content_of us f) → unset_count (content_of us f).slots < unset_count (content_of ts e).slots → AreRelated (content_of ts e) (content_of us f) (tree_at ts p.left) (tree_at ts p.right) → BringsLabelsOf (content_of ts e) (content_of us f) (tree_at ts p.left) (tree_at ts p.right) → TiesNew (content_of ts e) (content_of us f) → Stepped ts us e f ps ps p true
+step_set ts us e f ps p v x h l less r brings ties =
     let last = last_pair ts e ps p v in
     record {
       valid = valid_later ps last.front x l h;
-      step = record { later = l; reduces = reduces_last ts us e f ps p v x h l r; brings = brings_last ts us e f ps p v x brings; fewer = λ q. less; smaller = λ (q : true ≡ false). cc };
+      step = record { later = l; reduces = reduces_last ts us e f ps p v x h l r; brings = brings_last ts us e f ps p v x brings; ties = ties; fewer = λ q. less; smaller = λ (q : true ≡ false). cc };
     }
 
 -- the variable on one side
@@ -274,6 +277,7 @@ step_kept ts e f ps p v h k r brings =
         later = k.later;
         reduces = reduces_last ts ts e f ps p v (Extends-refl ts) h k.later r;
         brings = brings_last ts ts e f ps p v (Extends-refl ts) brings;
+        ties = ties_of_keeps (content_of ts e) (content_of ts f) h.sound k;
         fewer = λ (q : false ≡ true). cc;
         smaller = λ q. (omega (arith, total-kept (pairs_at ts ps) k last.front.known, total-last ts (content_of ts e) ps p), k.unset_kept);
       };
@@ -344,6 +348,7 @@ joined_one ts us e f x y j k h hx hy no_region kinds same_store joins =
             let eb : b ≡ j = some_inj b j (sym q ∙ second ∙ ap Some (sym kinds)) in
             rw (ea, eb) (AreAlike-one d (variable_tree j x) (variable_tree j y) (ap (rooted d) both));
         brings = joins.brings;
+        ties = TiesNew-same c d joins.joined.slots;
         sound = λ w z. (let q = one.narrows.sound w z in (q.0, from_sides w.tree x y q.1));
         complete = λ w z q. record {
           world = w;
@@ -363,6 +368,7 @@ set_one {c} {d} {x} {y} k has s =
       continues = s.continues;
       alike = λ a b p q. (let e : b ≡ k = some_inj b k (sym q ∙ has) in rw e (s.alike a p));
       brings = record { labels = λ P v h. s.brings.labels P v h (v k y, tt) tt };
+      ties = s.ties;
       sound = λ w z. s.sound w z;
       complete = λ w z q. s.complete w z q;
     }
@@ -375,6 +381,7 @@ AreMadeOne-turned {c} {d} {x} {y} m =
       continues = m.continues;
       alike = λ a b p q. AreAlike-turned d (variable_tree b x) (variable_tree a y) (m.alike b a q p);
       brings = m.brings;
+      ties = m.ties;
       sound = λ w z. (let q = m.sound w z in (q.0, sym q.1));
       complete = λ w z q. m.complete w z (sym q);
     }
@@ -402,7 +409,7 @@ pub step_variables : (ts us : List Tree) (e f : Entries) (ps : List Pair) (p : P
 step_variables ts us e f ps p x y true v ext o q r =
     let m = r.made refl in
     let last = last_pair ts e ps p v in
-    step_set ts us e f ps p v ext m.0 m.1.later m.1.fewer (variables_related ts us e f (tree_at ts p.left) (tree_at ts p.right) x y last.left_known last.right_known o q m.1) (brings-of (tree_at ts p.left) (tree_at ts p.right) m.1.brings)
+    step_set ts us e f ps p v ext m.0 m.1.later m.1.fewer (variables_related ts us e f (tree_at ts p.left) (tree_at ts p.right) x y last.left_known last.right_known o q m.1) (brings-of (tree_at ts p.left) (tree_at ts p.right) m.1.brings) m.1.ties
 step_variables ts us e f ps p x y false v ext o q r =
     let same = r.same refl in
     let store : us ≡ ts = same.0 in
@@ -537,6 +544,7 @@ step_pushed ts e ps qs p a b l m v ha hb ia ib same not_free k =
               let right = passes-children (λ z. P z ≡ true) (tree_at ts b) (hb.labels P h parts.2) in
               (h, k.labels P left right parts.0);
         });
+        ties = TiesNew-same c c refl;
         fewer = λ (q : false ≡ true). cc;
         smaller = λ q. (omega (arith, k.weight c, total-last ts c ps p, ap size ha.same, ap size hb.same, ap size sa, ap size sb), refl);
       };
@@ -552,34 +560,38 @@ err_of e f q = let k : e ≡ f = cc in ap Err k
 
 -- the loops
 pub running_start : (c : Content) (ps : List (Tree × Tree)) → IsSound c → Running c c ps ps
-running_start c ps s = record { later = IsLater-refl c; reduces = Reduces-refl c ps s; brings = PairsBring-refl c ps; not_more = omega arith }
+running_start c ps s = record { later = IsLater-refl c; reduces = Reduces-refl c ps s; brings = PairsBring-refl c ps; ties = TiesNew-same c c refl; not_more = omega arith }
 
 pub running_step : {c d e : Content} {ps qs rs : List (Tree × Tree)} {b : Bool} → IsSound c → IsSound d → Running c d ps qs → IsPairStep d e qs rs b → b ≡ false → Running c e ps rs
-running_step s z r k f =
-    record { later = IsLater-trans r.later k.later; reduces = Reduces-trans s z r.reduces k.reduces; brings = PairsBring-trans r.brings k.brings; not_more = omega (arith, r.not_more, (k.smaller f).1) }
+running_step {c} {d} {e} s z r k f =
+    record { later = IsLater-trans r.later k.later; reduces = Reduces-trans s z r.reduces k.reduces; brings = PairsBring-trans r.brings k.brings; ties = TiesNew-trans c d e k.reduces.continues r.ties k.ties; not_more = omega (arith, r.not_more, (k.smaller f).1) }
 
 pub running_bound : {c d e : Content} {ps qs rs : List (Tree × Tree)} {b : Bool} → IsSound c → IsSound d → Running c d ps qs → IsPairStep d e qs rs b → b ≡ true → IsPairRun c e ps rs true
-running_bound s z r k f =
+running_bound {c} {d} {e} s z r k f =
     record {
       later = IsLater-trans r.later k.later;
       reduces = Reduces-trans s z r.reduces k.reduces;
       brings = PairsBring-trans r.brings k.brings;
+      ties = TiesNew-trans c d e k.reduces.continues r.ties k.ties;
       fewer = λ q. omega (arith, r.not_more, k.fewer f);
       ends = λ (q : true ≡ false). cc;
     }
 
 pub running_end : {c d : Content} {ps qs : List (Tree × Tree)} → Running c d ps qs → qs ≡ [] → IsPairRun c d ps qs false
-running_end r e = record { later = r.later; reduces = r.reduces; brings = r.brings; fewer = λ (q : false ≡ true). cc; ends = λ q. e }
+running_end r e = record { later = r.later; reduces = r.reduces; brings = r.brings; ties = r.ties; fewer = λ (q : false ≡ true). cc; ends = λ q. e }
 
 pub all_step : {c d e : Content} {ps qs rs : List (Tree × Tree)} {b : Bool} → IsSound c → IsSound d → Running c d ps qs → IsPairRun d e qs rs b → b ≡ true → Running c e ps rs
-all_step s z r k f =
-    record { later = IsLater-trans r.later k.later; reduces = Reduces-trans s z r.reduces k.reduces; brings = PairsBring-trans r.brings k.brings; not_more = omega (arith, r.not_more, k.fewer f) }
+all_step {c} {d} {e} s z r k f =
+    record { later = IsLater-trans r.later k.later; reduces = Reduces-trans s z r.reduces k.reduces; brings = PairsBring-trans r.brings k.brings; ties = TiesNew-trans c d e k.reduces.continues r.ties k.ties; not_more = omega (arith, r.not_more, k.fewer f) }
 
 pub all_done : {c d e : Content} {ps qs rs : List (Tree × Tree)} {b : Bool} → IsSound c → IsSound d → Running c d ps qs → IsPairRun d e qs rs b → b ≡ false → Reduces c e ps []
 all_done s z r k f = let end = k.ends f in rw end at (Reduces-trans s z r.reduces k.reduces)
 
 pub all_bring : {c d e : Content} {ps qs rs : List (Tree × Tree)} {b : Bool} → Running c d ps qs → IsPairRun d e qs rs b → b ≡ false → PairsBring c e ps []
 all_bring r k f = let end = k.ends f in rw end at (PairsBring-trans r.brings k.brings)
+
+pub all_tie : {c d e : Content} {ps qs rs : List (Tree × Tree)} {b : Bool} → Running c d ps qs → IsPairRun d e qs rs b → TiesNew c e
+all_tie {c} {d} {e} r k = TiesNew-trans c d e k.reduces.continues r.ties k.ties
 
 -- one pair, of which nothing is left
 pub pair_related : {c d : Content} {a b : Tree} → IsSound d → Reduces c d ((a, b) ∷ []) [] → AreRelated c d a b
@@ -599,3 +611,7 @@ if_related ts us e m f a b (Err x) same h k = tt
 pub if_brings : {A E : Type 0} (ts us : List Tree) (e m f : Entries) (a b : Tree) (r : Result A E) → OnOk r (f ≡ m) → OnOk r (PairsBring (content_of ts e) (content_of us m) ((a, b) ∷ []) []) → OnOk r (BringsLabelsOf (content_of ts e) (content_of us f) a b)
 if_brings ts us e m f a b (Ok v) same k = rw same (record { labels = λ P v h i j. (k.labels P v h (i, j, tt)).0 })
 if_brings ts us e m f a b (Err x) same k = tt
+
+pub if_ties : {A E : Type 0} (ts us : List Tree) (e m f : Entries) (r : Result A E) → OnOk r (f ≡ m) → OnOk r (TiesNew (content_of ts e) (content_of us m)) → OnOk r (TiesNew (content_of ts e) (content_of us f))
+if_ties ts us e m f (Ok v) same k = rw same k
+if_ties ts us e m f (Err x) same k = tt

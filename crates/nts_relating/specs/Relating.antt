@@ -13,6 +13,7 @@ use Rattle.nts_model.specs.Fitting.{Fits}
 use Rattle.nts_model.specs.Passing.{PassesVariables, TreePasses, TablePasses, BringsLabelsOf, BringsNoLabels}
 use Rattle.nts_model.specs.Worlds.{World, inst, Solves}
 use Rattle.nts_model.specs.Holding.{Continues}
+use Rattle.nts_model.specs.Tying.{TiesNew}
 use Rattle.nts_model.specs.Regions.{IsRegion}
 use Rattle.nts_model.specs.Alike.{AreAlike}
 use Rattle.nts_model.specs.Equations.{ExtensionIf, Extension, Equates, AllAlike, Narrows, Reduces}
@@ -127,6 +128,7 @@ pub record IsSet (c d : Content) (x : ℕ) (t : Tree) : Type 0 where
   pub continues : Continues c d
   pub alike : (k : VariableKind) → kind_at c x ≡ Some k → AreAlike d (variable_tree k x) t
   pub brings : BringsLabelsOf c d t empty
+  pub ties : TiesNew c d
   pub sound : (w : World) → Solves d w → Solves c w × (w.tree x ≡ inst w t)
   pub complete : (w : World) → Solves c w → w.tree x ≡ inst w t → Extension c d w
 
@@ -183,6 +185,7 @@ pub record AreMadeOne (c d : Content) (x y : ℕ) : Type 0 where
   pub continues : Continues c d
   pub alike : (j k : VariableKind) → kind_at c x ≡ Some j → kind_at c y ≡ Some k → AreAlike d (variable_tree j x) (variable_tree k y)
   pub brings : BringsNoLabels c d
+  pub ties : TiesNew c d
   pub sound : (w : World) → Solves d w → Solves c w × (w.tree x ≡ w.tree y)
   pub complete : (w : World) → Solves c w → w.tree x ≡ w.tree y → Extension c d w
 
@@ -206,6 +209,7 @@ pub record IsPairStep (c d : Content) (ps qs : List (Tree × Tree)) (bound : Boo
   pub later : IsLater c d
   pub reduces : Reduces c d ps qs
   pub brings : PairsBring c d ps qs
+  pub ties : TiesNew c d
   pub fewer : bound ≡ true → unset_count d.slots < unset_count c.slots
   pub smaller : bound ≡ false → (total d qs < total c ps) × (unset_count d.slots ≡ unset_count c.slots)
 
@@ -214,6 +218,7 @@ pub record IsPairRun (c d : Content) (ps qs : List (Tree × Tree)) (bound : Bool
   pub later : IsLater c d
   pub reduces : Reduces c d ps qs
   pub brings : PairsBring c d ps qs
+  pub ties : TiesNew c d
   pub fewer : bound ≡ true → unset_count d.slots < unset_count c.slots
   pub ends : bound ≡ false → qs ≡ []
 
@@ -222,4 +227,5 @@ pub record Running (c d : Content) (ps qs : List (Tree × Tree)) : Type 0 where
   pub later : IsLater c d
   pub reduces : Reduces c d ps qs
   pub brings : PairsBring c d ps qs
+  pub ties : TiesNew c d
   pub not_more : unset_count d.slots ≤ unset_count c.slots

@@ -4,6 +4,7 @@ ghost use Rattle.nts_model.specs.Trees.{Tree, IsRow, row_length, children};
 ghost use Rattle.nts_model.specs.Resolving.{Knows};
 ghost use Rattle.nts_model.specs.Equations.{Reduces, Refuses, AreRelated, AreUnrelated};
 ghost use Rattle.nts_model.specs.Passing.{BringsLabelsOf};
+ghost use Rattle.nts_model.specs.Tying.{TiesNew};
 ghost use Rattle.nts_store.specs.Growth.{tree_at, IsIn, Extends};
 ghost use Rattle.nts_unify.specs.Entries.{Entries};
 ghost use Rattle.nts_unify.specs.Reading.{content_of, IsLawful, LinksDescend};
@@ -370,6 +371,7 @@ fn run_all(
     ensures later { OnOk result (IsLater (content_of nodes.old table.old.entries) (content_of nodes.new table.new.entries)) }
     ensures reduces { OnOk result (Reduces (content_of nodes.old table.old.entries) (content_of nodes.new table.new.entries) (pairs_at nodes.old pairs.old.items) []) }
     ensures brings { OnOk result (PairsBring (content_of nodes.old table.old.entries) (content_of nodes.new table.new.entries) (pairs_at nodes.old pairs.old.items) []) }
+    ensures ties { OnOk result (TiesNew (content_of nodes.old table.old.entries) (content_of nodes.new table.new.entries)) }
     ensures no { result ≡ Err NoSolution → Refuses (content_of nodes.old table.old.entries) (pairs_at nodes.old pairs.old.items) }
     ensures full { result ≢ Err EvalError.Full }
 {
@@ -386,8 +388,8 @@ fn run_all(
 }
 
 /// Makes two terms equal: afterwards the table has the solutions that it had before and that make
-/// them equal, and no labels but its own, those of the terms and variables; after an error it is as
-/// before.
+/// them equal, no labels but its own, those of the terms and variables, and no new variables but
+/// those of regions and those that are one with older ones; after an error it is as before.
 pub fn relate_nodes(
     alloc: Global,
     nodes: &mut Nodes,
@@ -406,6 +408,7 @@ pub fn relate_nodes(
     ensures later { IsLater (content_of nodes.old table.old.entries) (content_of nodes.new table.new.entries) }
     ensures related { OnOk result (AreRelated (content_of nodes.old table.old.entries) (content_of nodes.new table.new.entries) (tree_at nodes.old a) (tree_at nodes.old b)) }
     ensures labels { OnOk result (BringsLabelsOf (content_of nodes.old table.old.entries) (content_of nodes.new table.new.entries) (tree_at nodes.old a) (tree_at nodes.old b)) }
+    ensures ties { OnOk result (TiesNew (content_of nodes.old table.old.entries) (content_of nodes.new table.new.entries)) }
     ensures err { OnErr result (table.new ≡ table.old) }
     ensures no { result ≡ Err NoSolution → AreUnrelated (content_of nodes.old table.old.entries) (tree_at nodes.old a) (tree_at nodes.old b) }
     ensures full { result ≢ Err EvalError.Full }

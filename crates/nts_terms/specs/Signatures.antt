@@ -1,7 +1,8 @@
 -- What is declared: the sorts that constructors, traits, aliases and consts take.
-use Rattle.std.specs.Prelude.{◌≡◌, List, [], ◌∷◌, ◌++◌, Option, Some, None, slice_get, ◌<◌, length}
+use Rattle.std.specs.Prelude.{◌≡◌, ℕ, zero, suc, List, [], ◌∷◌, ◌++◌, Option, Some, None, slice_get, ◌<◌, length}
 use Rattle.nts_model.specs.declared.labels.Sort.{Sort}
 use Rattle.nts_model.specs.declared.labels.Variance.{Variance}
+use Rattle.nts_model.specs.declared.labels.Variance.TheVariants as variance
 use Rattle.nts_model.specs.Trees.{Tree, empty, more, children, kind_of, of_sort}
 use Rattle.nts_terms.specs.declared.handles.DefId.{DefId}
 use Rattle.nts_terms.specs.declared.handles.DefId.TheVariants as def
@@ -120,3 +121,16 @@ StatementIsDeclared d ts (predicate.Clause c) = ClauseIsDeclared d ts c
 StatementIsDeclared d ts (predicate.DynCompatible t) = IsTrait d t
 StatementIsDeclared d ts (predicate.NormalizesTo a t) = AreDeclared d (def.Alias a.def_id) (tree_at ts a.args.node)
 StatementIsDeclared d ts k = Unit {0}
+
+-- the declared variances of a constructor: none where it isn't declared
+abbrev pub ctor_variances : Option CtorSorts → List Variance
+ctor_variances None = []
+ctor_variances (Some c) = c.variances
+
+abbrev pub variances_in : Declared → ℕ → List Variance
+variances_in d i = ctor_variances (slice_get d.ctors i)
+
+-- the variance at a place; what has none is invariant
+abbrev pub variance_or_invariant : Option Variance → Variance
+variance_or_invariant None = variance.Invariant
+variance_or_invariant (Some v) = v

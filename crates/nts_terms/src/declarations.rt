@@ -1,5 +1,5 @@
 //! What is declared, by number.
-ghost use Rattle.std.specs.Prelude.{◌≡◌, ◌++◌, ◌∷◌, [], length, IfOk, OnOk, OnErr, IsOkUnless, MatchOption, Some, None};
+ghost use Rattle.std.specs.Prelude.{◌≡◌, ◌++◌, ◌∷◌, [], length, slice_get, IfOk, OnOk, OnErr, IsOkUnless, MatchOption, Some, None};
 
 use crate::cx::Cx;
 use crate::handles::{AliasDefId, AliasId, ConstId, CtorId, DefId, TraitId, Ty};
@@ -90,7 +90,7 @@ impl Model for Declarations {
 }
 
 impl Declarations {
-    ghost use Rattle.nts_terms.specs.Signatures.{nothing_declared, sorts_of, type_of};
+    ghost use Rattle.nts_terms.specs.Signatures.{nothing_declared, sorts_of, type_of, variances_in, variance_or_invariant};
 
     /// Nothing declared. It takes no memory.
     pub(crate) fn new(alloc: Global) -> Self
@@ -112,6 +112,19 @@ impl Declarations {
         match self.consts.get(def.number) {
             Some(signature) => Some(signature.ty),
             None => None,
+        }
+    }
+
+    /// How the argument of a constructor at a place varies with the whole. What is not declared is invariant.
+    pub fn variance_of(&self, def: CtorId, place: usize) -> Variance
+        ensures { result ≡ variance_or_invariant (slice_get (variances_in self.now def.number) place) }
+    {
+        match self.ctors.get(def.number) {
+            Some(signature) => match signature.variances.get(place) {
+                Some(variance) => *variance,
+                None => Variance::Invariant,
+            },
+            None => Variance::Invariant,
         }
     }
 

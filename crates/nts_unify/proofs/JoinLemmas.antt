@@ -28,7 +28,7 @@ use Rattle.nts_unify.specs.Proper.{IsProper, IsProper-link, IsProper-region_link
 use Rattle.nts_unify.proofs.Leading.{universe_of-entry}
 use Rattle.nts_unify.proofs.Merging.{Marked, Marked-refl, marked, ComesDown, comes_down, LeadsTo, leads_to, leads_to_region, one_class}
 use Rattle.nts_unify.proofs.Changes.{proper_lowered, proper_sub_linked, slot_at, content_of-with_variable, content_of-bound, AreHeld-at, LeadsDown, leads_down, IsLawful-set, IsLawful-bound}
-use Rattle.nts_unify.proofs.Keeping.{IsLater-trans, Keeps-trans, Keeps-same, unset-set, unset_of-infer}
+use Rattle.nts_unify.proofs.Keeping.{Keeps-trans, Keeps-same, news_none, unset-set, unset_of-infer}
 use Rattle.nts_unify.proofs.SubJoins.{sub_kept, sub_bound, links_sub_roots, joined_subs}
 use Rattle.nts_model.specs.SubUnifying.{JoinsSubRoots}
 use Rattle.nts_model.specs.Passing.{BringsNoLabels}
@@ -162,7 +162,7 @@ linkable ts e low high k v at fl fh l =
 
 -- one variable leads to another, whatever became of sub-unification
 record IsLinked (c d : Content) (low high : ℕ) : Type 0 where
-  more : length c.slots ≤ length d.slots
+  slots : length d.slots ≡ length c.slots
   grows : c.universe ≤ d.universe
   kinds : (n : ℕ) (k : VariableKind) → kind_at c n ≡ Some k → kind_at d n ≡ Some k
   fewer : unset_count d.slots + 1 ≡ unset_count c.slots
@@ -235,7 +235,7 @@ module _ (ts : List Tree) (e : Entries) (low high : ℕ) (k : VariableKind) (v :
       record {
         lawful = IsLawful-bound ts e high v linked h at refl tt goes_down sound (IsProper-link before high w low can refl names h.sound h.proper);
         joined = rw is (record {
-          more = omega (arith, length-slice_set before.slots high w);
+          slots = length-slice_set before.slots high w;
           grows = omega arith;
           kinds = λ n j q. kind_at-set before high w can.binds n ∙ q;
           fewer = fewer other;
@@ -261,6 +261,7 @@ module _ (ts : List Tree) (e : Entries) (low high : ℕ) (k : VariableKind) (v :
           states = λ n l q. state_of-set_other before high w can.binds n (λ same. q (ap (kind_at before) same ∙ fh.kind ∙ ap Some region));
           trees = λ t q. resolved-region_link before high w low h.sound can is_region t;
           unset_kept = omega (arith, count, none (state_with ts v.state), none (link low));
+          news = news_none before (changed before high w) (length-slice_set before.slots high w);
         });
         others = λ n d. ap (λ (z : Content). state_of z n) is ∙ state_of-set_other before high w can.binds n d;
         leads = rw is (leads_to_region before high w low can refl is_region h.sound);
@@ -302,7 +303,8 @@ joins ts e m d f x y u low high root linked can h is_low is_high subs at_low at_
     joined_subs (content_of ts e) (content_of ts m) (content_of ts f) x y low high can.of_kind (links_sub_roots ts e m x y subs) links is_low is_high fh0.state can.no_region to_low rest has in
     let same_constraints : AddsVisible (content_of ts e).constraints (content_of ts (bound d high (record linked { state = Link low }))).constraints = rw (is_lowered, subs_constraints subs) nothing_more in
     let joined : IsJoined (content_of ts e) (content_of ts f) low high = rw is_bound (record {
-      later = record { more = omega (arith, j.joined.more, both.same.more); grows = omega (arith, j.joined.grows, both.same.grows); kinds = λ n i q. j.joined.kinds n i (both.same.kinds n ∙ q); subs = rw is_bound at classes; visible = same_constraints };
+      later = record { more = omega (arith, j.joined.slots, both.same.more); grows = omega (arith, j.joined.grows, both.same.grows); kinds = λ n i q. j.joined.kinds n i (both.same.kinds n ∙ q); subs = rw is_bound at classes; visible = same_constraints };
+      slots = j.joined.slots ∙ both.same.more;
       fewer = j.joined.fewer ∙ both.unset_kept;
       linked = j.joined.linked;
       others = λ n q. j.joined.others n q ∙ both.same.states n;

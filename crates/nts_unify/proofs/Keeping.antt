@@ -1,14 +1,16 @@
 -- What changes of a table keep.
-use Rattle.std.proofs.Common.{◌≡◌, ⊎_elim, subst, ◌≢◌, ℕ, zero, suc, ◌+◌, ◌<◌, List, [], ◌∷◌, ◌++◌, length, Some, refl, sym, ap, ◌∙◌, arith, true, None, length-append}
+use Rattle.std.proofs.Common.{◌≡◌, ⊎_elim, subst, ◌≢◌, ℕ, zero, suc, ◌+◌, ◌<◌, ◌≤◌, List, [], ◌∷◌, ◌++◌, length, Some, refl, sym, ap, ◌∙◌, arith, None, length-append}
 use Rattle.std.specs.Prelude.{slice_get, slice_set, Contains}
 use Rattle.std.proofs.lemmas.List.Elements.{Contains-append_cases}
 use Rattle.nts_model.specs.declared.labels.VariableKind.{VariableKind}
 use Rattle.nts_model.specs.declared.labels.VariableKind.TheVariants as kind
 use Rattle.nts_model.specs.Trees.{Tree, IsClosed}
-use Rattle.nts_model.specs.Contents.{Content, Slot, SlotState, Recorded, kind_at, with_constraint, sub_link_of, unset, with_slot}
+use Rattle.nts_model.specs.Contents.{Content, Slot, SlotState, Recorded, kind_at, with_constraint, sub_link_of, unset, link, state_of, with_slot}
 use Rattle.nts_model.specs.Resolving.{Knows}
 use Rattle.nts_model.proofs.ProvedLater.{contains_none, first_or_later}
-use Rattle.nts_model.proofs.Slots.{Knows-kept, KeepsKinds-with_slot}
+use Rattle.std.proofs.lemmas.Bool.{cases_lt}
+use Rattle.nts_model.proofs.Slots.{Knows-kept, KeepsKinds-with_slot, field_below}
+use Rattle.nts_model.proofs.Tying.{has_kind, kind_before}
 use Rattle.nts_model.proofs.Sound.{SameStates, resolved-same, SameStates-with_constraint}
 use Rattle.nts_unify.specs.Changing.{one_unset, unset_of, unset_count, IsSeen, HasClosedSides, IsLater, Keeps, AddsVisible, nothing_more, one_more}
 use Rattle.nts_unify.specs.Entries.{Inner, KeepsHidden}
@@ -25,6 +27,10 @@ AddsVisible-trans a (one_more x b v) = one_more x (AddsVisible-trans a b) v
 pub IsLater-trans : {c d e : Content} → IsLater c d → IsLater d e → IsLater c e
 IsLater-trans {c} {d} {e} a b =
     record { more = omega (arith, a.more, b.more); grows = omega (arith, a.grows, b.grows); kinds = λ n k h. b.kinds n k (a.kinds n k h); subs = JoinsSubRoots-trans c d e b.kinds a.subs b.subs; visible = AddsVisible-trans a.visible b.visible }
+
+-- where no variable is new
+pub news_none : (c d : Content) → length d.slots ≡ length c.slots → (n : ℕ) (k : VariableKind) → length c.slots ≤ n → kind_at d n ≡ Some k → k ≢ kind.Region → (m : ℕ) × (state_of d n ≡ Some (link m))
+news_none c d e n k l h r = let below = field_below (λ x. x.kind) d n k h in absurd (omega (arith, below, l, e))
 
 -- what holds of the constraints that were, and of those that are seen, holds of all
 pub sides-added : {xs ys : List Recorded} (P : Recorded → Type 0) → ((x : Recorded) → IsSeen x → P x) → AddsVisible xs ys → ((x : Recorded) → Contains xs x → P x) → (x : Recorded) → Contains ys x → P x
@@ -64,15 +70,7 @@ IsLater-with_slot c v free alone =
     record { more = omega (arith, length-append c.slots (v ∷ [])); grows = kept.grows; kinds = kept.kinds; subs = JoinsSubRoots-added c v free alone; visible = nothing_more }
 
 pub Keeps-refl : (c : Content) → Keeps c c
-Keeps-refl c = record { later = IsLater-refl c; states = λ n h k. refl; trees = λ t h. refl; unset_kept = refl }
-
-has_kind : (c : Content) (n : ℕ) → n < length c.slots → (k : VariableKind) × (kind_at c n ≡ Some k)
-has_kind c n h = by_list c.slots n h
-  where
-    by_list : (vs : List Slot) (m : ℕ) → m < length vs → (k : VariableKind) × (kind_at (record c { slots = vs }) m ≡ Some k)
-    by_list [] m l = absurd (omega arith)
-    by_list (v ∷ vs) zero l = (v.kind, refl)
-    by_list (v ∷ vs) (suc m) l = by_list vs m (omega arith)
+Keeps-refl c = record { later = IsLater-refl c; states = λ n h k. refl; trees = λ t h. refl; unset_kept = refl; news = news_none c c refl }
 
 -- the kind of an old variable is no other one afterwards
 pub no_region-later : {c d : Content} (n : ℕ) → IsLater c d → n < length c.slots → kind_at c n ≢ Some kind.Region → kind_at d n ≢ Some kind.Region
@@ -83,12 +81,19 @@ no_region-later {c} {d} n l h k q =
     k (has.1 ∙ z)
 
 pub Keeps-trans : {c d e : Content} → Keeps c d → Keeps d e → Keeps c e
-Keeps-trans a b =
+Keeps-trans {c} {d} {e} a b =
     record {
       later = IsLater-trans a.later b.later;
       states = λ n h k. b.states n (omega (arith, h, a.later.more)) (no_region-later n a.later h k) ∙ a.states n h k;
       trees = λ t h. b.trees t (Knows-later t a.later h) ∙ a.trees t h;
       unset_kept = b.unset_kept ∙ a.unset_kept;
+      news = λ n k l h r. ⊎_elim
+          (λ (old : n < length d.slots).
+          let has : kind_at d n ≡ Some k = kind_before d e n k b.later.kinds old h in
+          let t = a.news n k l has r in
+          let region : kind_at d n ≢ Some kind.Region = λ q. r (let z : Some k ≡ Some kind.Region = sym has ∙ q in cc) in
+          (t.0, b.states n old region ∙ t.1))
+          (λ (new : length d.slots ≤ n). b.news n k new h r) (cases_lt n (length d.slots));
     }
 
 -- counting
@@ -123,6 +128,7 @@ Keeps-same {c} {d} s l v u =
       states = λ n h k. s.states n;
       trees = λ t h. resolved-same c d t s;
       unset_kept = u;
+      news = news_none c d s.more;
     }
 
 pub Keeps-with_constraint : (c : Content) (x : Recorded) → IsSeen x → Keeps c (with_constraint c x)

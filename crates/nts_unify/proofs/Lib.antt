@@ -8,3 +8,4 @@ pub mod Merging
 pub mod SavedLemmas
 pub mod Tests
 pub mod SubJoins
+pub mod Tied

@@ -6,7 +6,7 @@ use Rattle.nts_model.specs.declared.labels.Leaf.TheVariants as leaf
 use Rattle.nts_model.specs.declared.labels.Label.{Label}
 use Rattle.nts_model.specs.declared.labels.Label.TheVariants as label
 use Rattle.nts_model.specs.Trees.{Tree, IsClosed}
-use Rattle.nts_model.specs.Contents.{Content, Slot, SlotState, unset, state_of, kind_at, Recorded}
+use Rattle.nts_model.specs.Contents.{Content, Slot, SlotState, unset, link, state_of, kind_at, Recorded}
 use Rattle.nts_model.specs.Resolving.{Knows, resolved, variable_of}
 use Rattle.nts_model.specs.SubUnifying.{JoinsSubRoots}
 
@@ -70,9 +70,10 @@ pub record IsLater (c d : Content) : Type 0 where
   pub subs : JoinsSubRoots c d
   pub visible : AddsVisible c.constraints d.constraints
 
--- what the table knew of trees, it knows no more and no less of
+-- what the table knew of trees, it knows no more and no less of; a new variable that is no region leads to another one
 pub record Keeps (c d : Content) : Type 0 where
   pub later : IsLater c d
   pub states : (n : ℕ) → n < length c.slots → kind_at c n ≢ Some kind.Region → state_of d n ≡ state_of c n
   pub trees : (t : Tree) → Knows c t → resolved d t ≡ resolved c t
   pub unset_kept : unset_count d.slots ≡ unset_count c.slots
+  pub news : (n : ℕ) (k : VariableKind) → length c.slots ≤ n → kind_at d n ≡ Some k → k ≢ kind.Region → (m : ℕ) × (state_of d n ≡ Some (link m))

@@ -1,5 +1,5 @@
 -- What a table needs before two variables are joined, and what it is afterwards.
-use Rattle.std.specs.Prelude.{◌≡◌, ◌≢◌, ℕ, ◌+◌, min, max, List, Some}
+use Rattle.std.specs.Prelude.{◌≡◌, ◌≢◌, ℕ, ◌+◌, min, max, List, length, Some}
 use Rattle.nts_model.specs.declared.labels.VariableKind.{VariableKind}
 use Rattle.nts_model.specs.declared.labels.VariableKind.TheVariants as kind
 use Rattle.nts_model.specs.Trees.{Tree}
@@ -44,6 +44,7 @@ pub record IsOneClass (c d : Content) (low high : ℕ) : Type 0 where
 -- the higher number leads to the lower one
 pub record IsJoined (c d : Content) (low high : ℕ) : Type 0 where
   pub later : IsLater c d
+  pub slots : length d.slots ≡ length c.slots
   pub fewer : unset_count d.slots + 1 ≡ unset_count c.slots
   pub linked : state_of d high ≡ Some (link low)
   pub others : (n : ℕ) → (n ≡ high → ⊥) → state_of d n ≡ state_of c n

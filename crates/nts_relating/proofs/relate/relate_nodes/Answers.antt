@@ -4,7 +4,7 @@ use Rattle.nts_unify.specs.Lawful.{IsLawful-extended, content_of-extended}
 use Rattle.nts_unify.specs.Reading.{content_of, IsLawful}
 use Rattle.nts_unify.specs.Changing.{IsLater}
 use Rattle.nts_unify.proofs.Keeping.{IsLater-refl}
-use Rattle.nts_relating.proofs.PairLemmas.{if_related, if_brings}
+use Rattle.nts_relating.proofs.PairLemmas.{if_related, if_brings, if_ties}
 use Rattle.nts_relating.proofs.relate.relate_nodes.Goals as goal
 
 pub returns-clause-lawful : goal.returns-clause-lawful
@@ -34,6 +34,12 @@ returns-clause-labels c =
     let run = c.run_all-related.ensures in
     let end = c.commit_if_ok.ensures in
     rw end.same (if_brings c.args.nodes.now c.run_all-related.new.nodes c.args.table.now.entries c.run_all-related.new.table.entries c.commit_if_ok.new.self.entries _ _ c.run_all-related.result (rw end.same at end.ok) (rw (items, c.in_ok-snapshot.ensures.entries) at run.brings))
+
+pub returns-clause-ties : goal.returns-clause-ties
+returns-clause-ties c =
+    let run = c.run_all-related.ensures in
+    let end = c.commit_if_ok.ensures in
+    rw end.same (if_ties c.args.nodes.now c.run_all-related.new.nodes c.args.table.now.entries c.run_all-related.new.table.entries c.commit_if_ok.new.self.entries c.run_all-related.result (rw end.same at end.ok) (rw c.in_ok-snapshot.ensures.entries at run.ties))
 
 pub returns-in_err-push-clause-later : goal.returns-in_err-push-clause-later
 returns-in_err-push-clause-later c = IsLater-refl (content_of c.args.nodes.now c.args.table.now.entries)

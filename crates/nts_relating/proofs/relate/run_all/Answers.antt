@@ -1,7 +1,6 @@
-use Rattle.std.proofs.Common.{refl, ◌∙◌}
 use Rattle.nts_store.proofs.Growing.{Extends-refl, Extends-trans}
 use Rattle.nts_unify.specs.Reading.{content_of}
-use Rattle.nts_relating.proofs.PairLemmas.{running_start, all_step, all_done, all_bring, err_of}
+use Rattle.nts_relating.proofs.PairLemmas.{running_start, all_step, all_done, all_bring, all_tie, err_of}
 use Rattle.nts_relating.proofs.RefusalLemmas.{Refuses-before}
 use Rattle.nts_relating.proofs.relate.run_all.Goals as goal
 use Rattle.nts_unify.proofs.Keeping.{KeepsHidden-refl, KeepsHidden-trans, IsLater-trans}
@@ -27,6 +26,9 @@ returns-then-not-bound-clause-reduces c =
 
 pub returns-then-not-bound-clause-brings : goal.returns-then-not-bound-clause-brings
 returns-then-not-bound-clause-brings c = all_bring c.loop-error.invariant.running c.in-Ok.ensures.run c.if-not-bound.true
+
+pub returns-then-not-bound-clause-ties : goal.returns-then-not-bound-clause-ties
+returns-then-not-bound-clause-ties c = all_tie c.loop-error.invariant.running c.in-Ok.ensures.run
 
 pub returns-in-Err-clause-no : goal.returns-in-Err-clause-no
 returns-in-Err-clause-no c = λ q. Refuses-before c.loop-error.invariant.running.reduces (c.in-Err.ensures.no (err_of _ _ q))
