@@ -1,5 +1,10 @@
+pub mod Found
+pub mod Indexing
+pub mod Merging
 pub mod Offering
 pub mod Over
+pub mod Ready
+pub mod Relevance
 pub mod Results
 pub mod Testing
 pub mod Traits

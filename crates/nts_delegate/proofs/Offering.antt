@@ -1,5 +1,5 @@
 -- What a clause offers is a candidate.
-use Rattle.std.proofs.Common.{◌≡◌, inl, inr, ℕ, zero, suc, ◌+◌, ◌<◌, ◌==◌, ◌||◌, Bool, true, false, cond, if◌then◌else◌, List, [], ◌∷◌, ◌++◌, length, get_or, take, map, Option, Some, None, eqb-true, refl, ap, sym, ◌∙◌, subst, arith}
+use Rattle.std.proofs.Common.{◌≡◌, inl, inr, ℕ, zero, suc, ◌+◌, ◌<◌, ◌==◌, ◌||◌, Bool, true, false, cond, List, [], ◌∷◌, ◌++◌, length, get_or, take, map, Option, Some, None, eqb-true, refl, ap, sym, ◌∙◌, subst, arith}
 use Rattle.std.specs.List.{filter}
 use Rattle.std.proofs.lemmas.List.{take_more}
 use Rattle.nts_model.specs.declared.labels.Sort.{Sort}
@@ -19,14 +19,12 @@ use Rattle.nts_store.specs.Growth.{tree_at}
 use Rattle.nts_model.specs.Handlers.{position_of, NamesAt, NamesFresh}
 use Rattle.nts_store.proofs.Growing.{row_take-all}
 use Rattle.nts_delegate.specs.Candidates.{IsAsked, AreEquations, AreNested, IsCandidate, AreCandidates}
-use Rattle.nts_delegate.specs.Clauses.{is_foreign, AreBodies, HoldsClause, AreClauses, clauses_of, AreReady}
-use Rattle.nts_delegate.specs.Adding.{AddsClause}
+use Rattle.nts_delegate.specs.Clauses.{is_foreign, AreBodies, HoldsClause, AreClauses}
 use Rattle.nts_delegate.specs.OwnTerms.{leaves_fixed}
 use Rattle.nts_delegate.specs.Offers.{trait_read, trait_of_body, trait_of, IsPair, ArePairs, asked_by, IsOffer, takes, AreEach}
 use Rattle.nts_delegate.specs.declared.delegate.Equation.{Equation}
 use Rattle.nts_delegate.specs.declared.delegate.CandidateData.{CandidateData}
 use Rattle.nts_delegate.specs.declared.clauses.Clause.{Clause}
-use Rattle.nts_delegate.specs.declared.clauses.Clauses.{Clauses}
 
 both_false : (p q : Bool) → (p || q) ≡ false → (p ≡ false) × (q ≡ false)
 both_false true q h = cc
@@ -239,11 +237,11 @@ each_push ts g args [] (y ∷ ds) c d e o = absurd e
 each_push ts g args (x ∷ cs) [] c d e o = absurd e
 each_push ts g args (x ∷ cs) (y ∷ ds) c d e o = (e.0, each_push ts g args cs ds c d e.1 o)
 
-candidates_push : (ts : List Tree) (g : Goal) (ds : List CandidateData) (d : CandidateData) → AreCandidates ts g ds → IsCandidate ts g d → AreCandidates ts g (ds ++ d ∷ [])
+pub candidates_push : (ts : List Tree) (g : Goal) (ds : List CandidateData) (d : CandidateData) → AreCandidates ts g ds → IsCandidate ts g d → AreCandidates ts g (ds ++ d ∷ [])
 candidates_push ts g [] d h k = (k, tt)
 candidates_push ts g (x ∷ ds) d h k = (h.0, candidates_push ts g ds d h.1 k)
 
-filter_kept : {X : Type 0} (p : X → Bool) (xs : List X) (x : X) → p x ≡ true → filter p (xs ++ x ∷ []) ≡ filter p xs ++ x ∷ []
+pub filter_kept : {X : Type 0} (p : X → Bool) (xs : List X) (x : X) → p x ≡ true → filter p (xs ++ x ∷ []) ≡ filter p xs ++ x ∷ []
 filter_kept p [] x h = rw h refl
 filter_kept p (y ∷ xs) x h = rw (filter_kept p xs x h) (by_case (p y))
   where
@@ -251,7 +249,7 @@ filter_kept p (y ∷ xs) x h = rw (filter_kept p xs x h) (by_case (p y))
     by_case true = refl
     by_case false = refl
 
-filter_left : {X : Type 0} (p : X → Bool) (xs : List X) (x : X) → p x ≡ false → filter p (xs ++ x ∷ []) ≡ filter p xs
+pub filter_left : {X : Type 0} (p : X → Bool) (xs : List X) (x : X) → p x ≡ false → filter p (xs ++ x ∷ []) ≡ filter p xs
 filter_left p [] x h = rw h refl
 filter_left p (y ∷ xs) x h = rw (filter_left p xs x h) refl
 
@@ -277,13 +275,6 @@ clause_at ts [] i c h l e = absurd (omega arith)
 clause_at ts (x ∷ cs) zero c h l e = rw e h.0
 clause_at ts (x ∷ cs) (suc i) c h l e = clause_at ts cs i c h.1 (omega arith) e
 
-clauses_push : (ts : List Tree) (cs : List Clause) (c : Clause) → AreClauses ts cs → HoldsClause ts c → AreClauses ts (cs ++ c ∷ [])
+pub clauses_push : (ts : List Tree) (cs : List Clause) (c : Clause) → AreClauses ts cs → HoldsClause ts c → AreClauses ts (cs ++ c ∷ [])
 clauses_push ts [] c h k = (k, tt)
 clauses_push ts (x ∷ cs) c h k = (h.0, clauses_push ts cs c h.1 k)
-
-pub ready_added : (ts : List Tree) (a b : Clauses) (c : Clause) → AreReady ts a → HoldsClause ts c → AddsClause a b c → AreReady ts b
-ready_added ts a b c r k h i = rw (h.clauses i) (by_case (i == c.trait_id.number))
-  where
-    by_case : (w : Bool) → AreClauses ts (if w then clauses_of a i ++ c ∷ [] else clauses_of a i)
-    by_case true = clauses_push ts (clauses_of a i) c (r i) k
-    by_case false = r i

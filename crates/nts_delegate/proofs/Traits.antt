@@ -43,7 +43,7 @@ set_there (t ∷ ts) zero (suc i) u h = refl
 set_there (t ∷ ts) (suc e) zero u h = refl
 set_there (t ∷ ts) (suc e) (suc i) u h = set_there ts e i u (λ p. h (ap suc p))
 
-get_here : (ts : List TraitClauses) (e : ℕ) (d : TraitClauses) → e < length ts → slice_get ts e ≡ Some (get_or ts e d)
+pub get_here : (ts : List TraitClauses) (e : ℕ) (d : TraitClauses) → e < length ts → slice_get ts e ≡ Some (get_or ts e d)
 get_here [] e d h = absurd (omega arith)
 get_here (t ∷ ts) zero d h = refl
 get_here (t ∷ ts) (suc e) d h = get_here ts e d (omega arith)

@@ -71,10 +71,14 @@ offer_by e us c =
 abbrev pub takes_all : Tree → ClauseTree → Bool
 takes_all us c = row_length us == row_length c.head
 
--- one offer of each clause of the goal's trait that takes as many arguments, in order; other goals have none
+-- one offer of each clause that takes as many arguments, in order
+abbrev pub offers_of_clauses : Tree → Tree → List ClauseTree → List Candidate
+offers_of_clauses e us cs = map (offer_by e us) (filter (takes_all us) cs)
+
+-- .. of the clauses of the goal's trait; other goals have none
 abbrev pub offers_by : ClausesOfTraits → Tree → Option (ℕ × Tree) → List Candidate
 offers_by clauses e None = []
-offers_by clauses e (Some r) = map (offer_by e (children r.1)) (filter (takes_all (children r.1)) (clauses r.0))
+offers_by clauses e (Some r) = offers_of_clauses e (children r.1) (clauses r.0)
 
 -- a handler made of clauses: the same in every mode
 abbrev pub handler_by : ClausesOfTraits → (ℕ → Bool) → Handler

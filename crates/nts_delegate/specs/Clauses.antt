@@ -1,5 +1,5 @@
 -- Clauses that a handler may be made of.
-use Rattle.std.specs.Prelude.{◌≡◌, ℕ, Bool, true, false, List, [], ◌∷◌, Option, Some, None, slice_get}
+use Rattle.std.specs.Prelude.{◌≡◌, ℕ, Bool, true, false, List, [], ◌∷◌, map, Option, Some, None, slice_get}
 use Rattle.nts_model.specs.declared.labels.Sort.{Sort}
 use Rattle.nts_model.specs.declared.labels.FreeRegion.{FreeRegion}
 use Rattle.nts_model.specs.declared.labels.FreeRegion.TheVariants as region
@@ -9,7 +9,8 @@ use Rattle.nts_model.specs.declared.labels.PredicateHead.{PredicateHead}
 use Rattle.nts_model.specs.declared.labels.PredicateHead.TheVariants as predicate
 use Rattle.nts_model.specs.declared.labels.Label.{Label}
 use Rattle.nts_model.specs.declared.labels.Label.TheVariants as label
-use Rattle.nts_model.specs.Trees.{Tree, any_label, IsClosed}
+use Rattle.nts_model.specs.declared.labels.TyHead.{TyHead}
+use Rattle.nts_model.specs.Trees.{Tree, children, any_label, IsClosed}
 use Rattle.nts_model.specs.Scoping.{IsWellBound}
 use Rattle.nts_store.specs.declared.nodes.NodeId.{NodeId}
 use Rattle.nts_terms.specs.declared.handles.Predicate.{Predicate}
@@ -17,6 +18,8 @@ use Rattle.nts_store.specs.Growth.{tree_at, IsIn}
 use Rattle.nts_model.specs.Handlers.{position_of}
 use Rattle.nts_terms.specs.Handles.{HoldsArgs, HoldsPredicate}
 use Rattle.nts_model.specs.Handlers.{NamesAt, NamesFresh}
+use Rattle.nts_delegate.specs.Places.{IsIndexOf}
+use Rattle.nts_delegate.specs.Relevant.{first_built_by}
 use Rattle.nts_delegate.specs.declared.clauses.Clause.{Clause}
 use Rattle.nts_delegate.specs.declared.clauses.TraitClauses.{TraitClauses}
 use Rattle.nts_delegate.specs.declared.clauses.Clauses.{Clauses}
@@ -84,6 +87,16 @@ coinductive_in (Some t) = t.is_coinductive
 abbrev pub coinductive_of : Clauses → ℕ → Bool
 coinductive_of h i = coinductive_in (slice_get h.traits.items i)
 
--- the clauses are of the store
-abbrev pub AreReady : List Tree → Clauses → Type 0
-AreReady ts h = (i : ℕ) → AreClauses ts (clauses_of h i)
+-- what the first argument of a clause's head is built by
+abbrev pub head_of : List Tree → Clause → Option TyHead
+head_of ts c = first_built_by (children (tree_at ts c.head.node))
+
+-- the index of a trait's clauses leads to each by that
+abbrev pub IsIndexed : List Tree → Option TraitClauses → Type 0
+IsIndexed ts None = Unit {0}
+IsIndexed ts (Some t) = IsIndexOf t.heads (map (head_of ts) t.clauses.items)
+
+-- the clauses are of the store, and their index leads to them
+pub record AreReady (ts : List Tree) (h : Clauses) : Type 0 where
+  pub clauses : (i : ℕ) → AreClauses ts (clauses_of h i)
+  pub indexed : (i : ℕ) → IsIndexed ts (slice_get h.traits.items i)

@@ -1,14 +1,17 @@
 -- A store that grows keeps clauses.
-use Rattle.std.specs.Prelude.{List, [], ◌∷◌}
-use Rattle.std.proofs.Common.{arith}
-use Rattle.nts_model.specs.Trees.{Tree}
+use Rattle.std.specs.Prelude.{◌≡◌, List, [], ◌∷◌, map, Option, None, Some, slice_get}
+use Rattle.std.proofs.Common.{arith, refl, ap, sym, subst}
+use Rattle.nts_model.specs.Trees.{Tree, children}
 use Rattle.nts_model.specs.declared.labels.Sort.{Sort}
 use Rattle.nts_store.specs.declared.nodes.NodeId.{NodeId}
 use Rattle.nts_terms.specs.declared.handles.Predicate.{Predicate}
 use Rattle.nts_store.specs.Growth.{Extends}
 use Rattle.nts_terms.specs.Handles.{Holds}
 use Rattle.nts_model.specs.Trees.{Place}
-use Rattle.nts_delegate.specs.Clauses.{IsClauseTerm, AreBodies, HoldsClause, AreClauses, clauses_of, AreReady}
+use Rattle.nts_delegate.specs.Clauses.{IsClauseTerm, AreBodies, HoldsClause, AreClauses, clauses_in, clauses_of, head_of, IsIndexed, AreReady}
+use Rattle.nts_delegate.specs.Places.{IsIndexOf}
+use Rattle.nts_delegate.specs.Relevant.{first_built_by}
+use Rattle.nts_delegate.specs.declared.clauses.TraitClauses.{TraitClauses}
 use Rattle.nts_delegate.specs.declared.clauses.Clause.{Clause}
 use Rattle.nts_delegate.specs.declared.clauses.Clauses.{Clauses}
 
@@ -44,5 +47,20 @@ AreClauses-kept : (a b : List Tree) (cs : List Clause) → AreClauses a cs → E
 AreClauses-kept a b [] h e = tt
 AreClauses-kept a b (c ∷ cs) h e = (IsClause-kept h.0 e, AreClauses-kept a b cs h.1 e)
 
+heads_kept : (a b : List Tree) (cs : List Clause) → AreClauses a cs → Extends a b → map (head_of b) cs ≡ map (head_of a) cs
+heads_kept a b [] h e = refl
+heads_kept a b (c ∷ cs) h e =
+    let head : head_of b c ≡ head_of a c = ap (λ t. first_built_by (children t)) (e.kept c.head.node h.0.head.within) in
+    let rest = heads_kept a b cs h.1 e in
+    cc (head, rest)
+
+indexed_kept : (a b : List Tree) (o : Option TraitClauses) → AreClauses a (clauses_in o) → IsIndexed a o → Extends a b → IsIndexed b o
+indexed_kept a b None r h e = tt
+indexed_kept a b (Some t) r h e = subst (IsIndexOf t.heads) (sym (heads_kept a b t.clauses.items r e)) h
+
 pub AreReady-kept : (a b : List Tree) (h : Clauses) → AreReady a h → Extends a b → AreReady b h
-AreReady-kept a b h r e = λ i. AreClauses-kept a b (clauses_of h i) (r i) e
+AreReady-kept a b h r e =
+    record {
+      clauses = λ i. AreClauses-kept a b (clauses_of h i) (r.clauses i) e;
+      indexed = λ i. indexed_kept a b (slice_get h.traits.items i) (r.clauses i) (r.indexed i) e;
+    }

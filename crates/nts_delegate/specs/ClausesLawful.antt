@@ -62,7 +62,7 @@ own_clauses ts (c ∷ cs) f h = (own_clause ts c f h.0, own_clauses ts cs f h.1)
 -- and candidates keep the environment and have nothing foreign
 pub IsLawful-handler_of : (ts : List Tree) (h : Clauses) → AreFormed ts → AreReady ts h → IsLawful (handler_of ts h)
 IsLawful-handler_of ts h f r =
-    IsLawful-clauses (clauses_in_store ts h) (coinductive_of h) (λ i. own_clauses ts (clauses_of h i) f (r i))
+    IsLawful-clauses (clauses_in_store ts h) (coinductive_of h) (λ i. own_clauses ts (clauses_of h i) f (r.clauses i))
 
 -- the data of the offers, as trees, are the handler's offers
 pair_read : (ts : List Tree) (a b : Tree) (q : EquationData) → IsPair ts a b q → equation_of ts q ≡ equation_as q.kind a b
@@ -80,7 +80,7 @@ goals_read : (ts : List Tree) (g : Goal) (ps : List Predicate) → map (premise_
 goals_read ts g [] = refl
 goals_read ts g (p ∷ ps) = cc (goals_read ts g ps)
 
-offer_read : (ts : List Tree) (g : Goal) (args : Tree) (c : Clause) (d : CandidateData) → IsOffer ts g args c d → candidate_of ts d ≡ offer_by (tree_at ts g.param_env.node) (children args) (clause_tree ts c)
+pub offer_read : (ts : List Tree) (g : Goal) (args : Tree) (c : Clause) (d : CandidateData) → IsOffer ts g args c d → candidate_of ts d ≡ offer_by (tree_at ts g.param_env.node) (children args) (clause_tree ts c)
 offer_read ts g args c d o =
     let equations = pairs_read ts (children args) (children (tree_at ts c.head.node)) d.equations.items o.equations in
     let goals = ap (map (premise_of ts)) o.goals ∙ goals_read ts g c.body.items in
@@ -103,7 +103,7 @@ taken_read ts args [] = refl
 taken_read ts args (c ∷ cs) =
     taken_case ts c (filter (takes_all (children args)) (map (clause_tree ts) cs)) (filter (takes ts args) cs) (taken_read ts args cs) (takes ts args c)
 
-offers_read : (ts : List Tree) (g : Goal) (h : Clauses) (ds : List CandidateData) (r : Option (ℕ × Tree)) → AreOffersOf ts g r h ds → candidates_of ts ds ≡ offers_by (clauses_in_store ts h) (tree_at ts g.param_env.node) r
+pub offers_read : (ts : List Tree) (g : Goal) (h : Clauses) (ds : List CandidateData) (r : Option (ℕ × Tree)) → AreOffersOf ts g r h ds → candidates_of ts ds ≡ offers_by (clauses_in_store ts h) (tree_at ts g.param_env.node) r
 offers_read ts g h ds None o = ap (candidates_of ts) o
 offers_read ts g h ds (Some r) o =
     each_read ts g r.1 (filter (takes ts r.1) (clauses_of h r.0)) ds o ∙ sym (ap (map (offer_by (tree_at ts g.param_env.node) (children r.1))) (taken_read ts r.1 (clauses_of h r.0)))
@@ -128,7 +128,7 @@ clauses_same a b (c ∷ cs) h e = cc (clause_same a b c h.0 e, clauses_same a b 
 
 pub handler_of-kept : (a b : List Tree) (h : Clauses) → AreReady a h → Extends a b → handler_of b h ≡ handler_of a h
 handler_of-kept a b h r e =
-    let same : clauses_in_store b h ≡ clauses_in_store a h = λ j i. clauses_same a b (clauses_of h i) (r i) e j in
+    let same : clauses_in_store b h ≡ clauses_in_store a h = λ j i. clauses_same a b (clauses_of h i) (r.clauses i) e j in
     ap (λ clauses. handler_by clauses (coinductive_of h)) same
 
 abbrev applies_in : Mode → Application → Handler → Type 0

@@ -9,4 +9,6 @@ pub mod Offered
 pub mod Offers
 pub mod OwnClauses
 pub mod OwnTerms
+pub mod Places
+pub mod Relevant
 pub mod SameHandlers

@@ -1,15 +1,23 @@
 //! A handler made of a list of clauses.
-ghost use Rattle.std.specs.Prelude.{◌≡◌, ◌<◌, ◌↔◌, ℕ, [], false, List, length, map, IfOk, OnOk, OnErr, IsTrue, IsOkUnless};
+ghost use Rattle.std.specs.Prelude.{◌≡◌, ◌<◌, ◌↔◌, ◌++◌, ◌∷◌, ℕ, [], false, List, Option, Some, length, map, IfOk, OnOk, OnErr, IsTrue, IsOkUnless};
 ghost use Rattle.nts_model.specs.Trees.{Tree, row_length, children, IsRow};
 ghost use Rattle.nts_store.specs.Growth.{tree_at, Extends};
 ghost use Rattle.nts_terms.specs.Handles.{HoldsArgs};
 ghost use Rattle.nts_terms.specs.Kinds.{tree_of_statement, StatementFits, tree_of_clause, ClauseFits};
-ghost use Rattle.nts_delegate.specs.Offers.{IsOffer, ArePairs, asked_by, read_trait, trait_read, HoldsTrait};
+ghost use Rattle.nts_delegate.specs.Offers.{IsOffer, ArePairs, asked_by, read_trait, trait_of, trait_read, HoldsTrait};
 ghost use Rattle.nts_terms.specs.Rest.{Grows};
+ghost use Rattle.nts_model.specs.declared.labels.TyHead.{TyHead};
+ghost use Rattle.nts_delegate.specs.Candidates.{IsAsked, AreCandidates};
+ghost use Rattle.nts_delegate.specs.ClauseHandlers.{clause_tree, offers_of_clauses};
+ghost use Rattle.nts_delegate.specs.Clauses.{head_of, AreClauses, IsIndexed};
+ghost use Rattle.nts_delegate.specs.Places.{IsIndexOf};
+ghost use Rattle.nts_delegate.specs.Offered.{candidates_of};
+ghost use Rattle.nts_delegate.specs.Relevant.{built_by_label, first_built_by, LeavesOut};
 
 use crate::delegate::{CandidateData, CandidateGoal, Equation, EquationKind, GoalHandler};
+use crate::head_index::HeadIndex;
 use nts_certainty::{Certainty, GoalSource, RerunCondition};
-use nts_model::Sort;
+use nts_model::{Label, Sort, TyHead};
 use nts_store::Fault;
 use nts_terms::{
     ClauseKind, Cx, GenericArgs, Goal, Predicate, PredicateKind, TraitId, TraitRef, TypingMode,
@@ -27,10 +35,42 @@ pub struct Clause {
     pub body: Vec<Predicate>,
 }
 
+/// The clauses of a trait, which are found by what the first argument of the head is built by.
 #[derive(Drop)]
 struct TraitClauses {
     clauses: Vec<Clause>,
+    heads: HeadIndex,
     is_coinductive: bool,
+}
+
+impl TraitClauses {
+    /// None yet. It takes no memory.
+    fn new(alloc: Global) -> TraitClauses
+        ensures clauses { result.clauses.items ≡ [] }
+        ensures index { IsIndexOf result.heads [] }
+        ensures coinductive { result.is_coinductive ≡ false }
+    {
+        TraitClauses {
+            clauses: Vec::new(alloc),
+            heads: HeadIndex::new(alloc),
+            is_coinductive: false,
+        }
+    }
+
+    /// One more clause, the first argument of which is built so.
+    fn add(&mut self, alloc: Global, head: Option<TyHead>, clause: Clause) -> Result<(), AllocError>
+        ensures clauses { OnOk result (self.new.clauses.items ≡ self.old.clauses.items ++ clause ∷ []) }
+        ensures index { OnOk result ((hs : List (Option TyHead)) → IsIndexOf self.old.heads hs → length self.old.clauses.items ≡ length hs → IsIndexOf self.new.heads (hs ++ head ∷ [])) }
+        ensures err_clauses { OnErr result (self.new.clauses.items ≡ self.old.clauses.items) }
+        ensures err_index { OnErr result ((hs : List (Option TyHead)) → IsIndexOf self.old.heads hs → IsIndexOf self.new.heads hs) }
+        ensures coinductive { self.new.is_coinductive ≡ self.old.is_coinductive }
+    {
+        let place = self.clauses.len();
+        self.clauses.reserve(1)?;
+        self.heads.note(alloc, head, place)?;
+        self.clauses.push(clause)?;
+        Ok(())
+    }
 }
 
 /// A handler made of clauses, in the order in which they were added.
@@ -56,16 +96,16 @@ impl Clauses {
         }
     }
 
-    /// One more clause, after all others of its trait.
-    pub fn add_clause(&mut self, clause: Clause) -> Result<(), Fault>
+    /// One more clause, after all others of its trait, with terms of the store.
+    pub fn add_clause(&mut self, cx: &Cx, clause: Clause) -> Result<(), Fault>
         ensures added { OnOk result (AddsClause self.old self.new clause) }
         ensures err { OnErr result (KeepsClauses self.old self.new) }
-        ensures ready { (ts : List Tree) → AreReady ts self.old → HoldsClause ts clause →
-            AreReady ts self.new }
+        ensures ready { AreReady cx.now.nodes self.old → HoldsClause cx.now.nodes clause → AreReady cx.now.nodes self.new }
         ensures memory { IsOkUnless result Fault.Memory }
     {
+        let head = head_of_clause(cx, &clause);
         let entry = self.entry(clause.trait_id)?;
-        self.traits[entry].clauses.push(clause)?;
+        self.traits[entry].add(self.alloc, head, clause)?;
         Ok(())
     }
 
@@ -86,13 +126,11 @@ impl Clauses {
         ensures is { IfOk result (λ i. i ≡ id.number) }
         ensures within { IfOk result (λ i. i < length self.new.traits.items) }
         ensures same { KeepsClauses self.old self.new }
+        ensures ready { (ts : List Tree) → AreReady ts self.old → AreReady ts self.new }
         ensures memory { IsOkUnless result Fault.Memory }
     {
         while self.traits.len() <= id.number {
-            self.traits.push(TraitClauses {
-                clauses: Vec::new(self.alloc),
-                is_coinductive: false,
-            })?;
+            self.traits.push(TraitClauses::new(self.alloc))?;
         }
         Ok(id.number)
     }
@@ -115,6 +153,7 @@ impl GoalHandler for Clauses {
     ghost use Rattle.nts_delegate.specs.ClauseHandlers.{handler_of};
     ghost use Rattle.nts_delegate.specs.ClausesLawful.{IsLawful-handler_of, MeansSame-kept};
     ghost use Rattle.nts_delegate.specs.Offered.{candidates_of};
+    ghost use Rattle.nts_delegate.specs.Relevant.{LeavesOut};
     ghost use Rattle.nts_terms.specs.Modes.{mode_of};
     ghost use Rattle.nts_delegate.specs.Offers.{AreOffers};
     ghost use Rattle.nts_store.specs.Growth.{tree_at};
@@ -144,6 +183,26 @@ impl GoalHandler for Clauses {
         self.offers(cx, goal)
     }
 
+    fn relevant_candidates(
+        &self,
+        cx: &mut Cx,
+        mode: &TypingMode,
+        goal: Goal,
+    ) -> Result<Vec<CandidateData>, Fault>
+        requires ready { AreReady cx.old.nodes self.now }
+        requires goal { IsAsked cx.old.nodes goal }
+        ensures candidates { IfOk result (λ cs. AreCandidates cx.new.nodes goal cs.items) }
+        ensures offered { IfOk result (λ cs. LeavesOut ((handler_of cx.new.nodes self.now).offers
+            (mode_of mode.now) (tree_at cx.new.nodes goal.param_env.node)
+            (tree_at cx.new.nodes goal.predicate.node)) (candidates_of cx.new.nodes cs.items)) }
+        ensures same { cx.new ≡ cx.old }
+        ensures grows { Grows cx.old cx.new }
+        ensures memory { IsOkUnless result Fault.Memory }
+    {
+        let _ = mode;
+        self.relevant_offers(cx, goal)
+    }
+
     fn trait_is_coinductive(&self, id: TraitId) -> bool
         ensures set { result ≡ coinductive_of self.now id.number }
         ensures meaning { (ts : List Tree) → result ≡ (handler_of ts self.now).is_coinductive
@@ -164,8 +223,11 @@ impl GoalHandler for Clauses {
 
 impl Clauses {
     ghost use Rattle.nts_delegate.specs.Candidates.{IsAsked, AreCandidates};
+    ghost use Rattle.nts_delegate.specs.ClauseHandlers.{clauses_in_store, offers_by};
     ghost use Rattle.nts_delegate.specs.Clauses.{AreReady};
-    ghost use Rattle.nts_delegate.specs.Offers.{AreOffers};
+    ghost use Rattle.nts_delegate.specs.Offered.{candidates_of};
+    ghost use Rattle.nts_delegate.specs.Offers.{trait_of, AreOffers};
+    ghost use Rattle.nts_delegate.specs.Relevant.{LeavesOut};
 
     /// What each clause of the goal's trait offers, if it takes as many arguments.
     #[inline(never)]
@@ -187,6 +249,95 @@ impl Clauses {
         }
         Ok(found)
     }
+
+    /// What those clauses offer for which the first argument of the goal may be the one of the head.
+    #[inline(never)]
+    fn relevant_offers(&self, cx: &Cx, goal: Goal) -> Result<Vec<CandidateData>, Fault>
+        requires ready { AreReady cx.now.nodes self.now }
+        requires goal { IsAsked cx.now.nodes goal }
+        ensures offered { IfOk result (λ cs. LeavesOut (offers_by (clauses_in_store cx.now.nodes self.now)
+            (tree_at cx.now.nodes goal.param_env.node) (trait_of (tree_at cx.now.nodes
+            goal.predicate.node))) (candidates_of cx.now.nodes cs.items)) }
+        ensures candidates { IfOk result (λ cs. AreCandidates cx.now.nodes goal cs.items) }
+        ensures memory { IsOkUnless result Fault.Memory }
+    {
+        let Some(trait_ref) = trait_of_statement(goal.predicate.kind(cx).value) else {
+            return Ok(Vec::new(self.alloc));
+        };
+        let Some(head) = first_head(cx, trait_ref.args) else {
+            return self.offers(cx, goal);
+        };
+        let Some(of_trait) = self.traits.get(trait_ref.def_id.number) else {
+            return Ok(Vec::new(self.alloc));
+        };
+        offers_at(self.alloc, cx, of_trait, head, goal, trait_ref)
+    }
+}
+
+/// What the clauses at the places that an index leads to offer, if they take as many arguments.
+fn offers_at(
+    alloc: Global,
+    cx: &Cx,
+    of_trait: &TraitClauses,
+    head: TyHead,
+    goal: Goal,
+    trait_ref: TraitRef,
+) -> Result<Vec<CandidateData>, Fault>
+    requires clauses { AreClauses cx.now.nodes of_trait.now.clauses.items }
+    requires indexed { IsIndexed cx.now.nodes (Some of_trait.now) }
+    requires goal { IsAsked cx.now.nodes goal }
+    requires args { HoldsArgs cx.now.nodes trait_ref.args }
+    requires asked { trait_of (tree_at cx.now.nodes goal.predicate.node) ≡ read_trait cx.now.nodes (Some trait_ref) }
+    requires first { first_built_by (children (tree_at cx.now.nodes trait_ref.args.node)) ≡ Some head }
+    ensures offered { IfOk result (λ cs. LeavesOut (offers_of_clauses (tree_at cx.now.nodes
+        goal.param_env.node) (children (tree_at cx.now.nodes trait_ref.args.node))
+        (map (clause_tree cx.now.nodes) of_trait.now.clauses.items))
+        (candidates_of cx.now.nodes cs.items)) }
+    ensures candidates { IfOk result (λ cs. AreCandidates cx.now.nodes goal cs.items) }
+    ensures memory { IsOkUnless result Fault.Memory }
+{
+    let mut found = Vec::new(alloc);
+    let places = of_trait.heads.places_of(alloc, head)?;
+    for place in &places {
+        let clause = &of_trait.clauses[*place];
+        if trait_ref.args.len(cx) == clause.head.len(cx) {
+            found.push(offer_of(alloc, cx, clause, goal, trait_ref.args)?)?;
+        }
+    }
+    Ok(found)
+}
+
+/// What the first of these arguments is built by.
+fn first_head(cx: &Cx, args: GenericArgs) -> Option<TyHead>
+    requires { HoldsArgs cx.now.nodes args }
+    ensures { result ≡ first_built_by (children (tree_at cx.now.nodes args.node)) }
+{
+    if args.len(cx) == 0 {
+        return None;
+    }
+    let first = args.get(cx, 0);
+    built_by(cx.nodes.label(first.node))
+}
+
+/// What a type with this label is built by. A leaf or an alias may stand for any type.
+fn built_by(label: Label) -> Option<TyHead>
+    ensures { result ≡ built_by_label label }
+{
+    match label {
+        Label::Ty(TyHead::Alias(_)) => None,
+        Label::Ty(head) => Some(head),
+        _ => None,
+    }
+}
+
+/// What the first argument of a clause's head is built by, if it is of the store.
+fn head_of_clause(cx: &Cx, clause: &Clause) -> Option<TyHead>
+    ensures { HoldsArgs cx.now.nodes clause.now.head → result ≡ head_of cx.now.nodes clause.now }
+{
+    if !cx.holds(clause.head) {
+        return None;
+    }
+    first_head(cx, clause.head)
 }
 
 /// The trait and the arguments that a trait's goal is about.

@@ -64,6 +64,7 @@ pub trait GoalHandler {
     ghost use Rattle.nts_store.specs.Formed.{AreFormed};
     ghost use Rattle.nts_delegate.specs.Candidates.{IsAsked, AreCandidates};
     ghost use Rattle.nts_delegate.specs.Offered.{candidates_of};
+    ghost use Rattle.nts_delegate.specs.Relevant.{LeavesOut};
     ghost use Rattle.nts_terms.specs.Modes.{mode_of};
     ghost use Rattle.nts_delegate.specs.SameHandlers.{MeansSame};
 
@@ -88,6 +89,26 @@ pub trait GoalHandler {
             (tree_at cx.new.nodes goal.param_env.node) (tree_at cx.new.nodes goal.predicate.node)) }
         ensures grows { Grows cx.old cx.new }
         ensures memory { IsOkUnless result Fault.Memory };
+
+    /// The ways that can be met at all, which the engine asks for: `candidates` in the same order, but a handler may leave out
+    /// those with an equation between two types that are built differently. So it may have an index of its rules.
+    fn relevant_candidates(
+        &self,
+        cx: &mut Cx,
+        mode: &TypingMode,
+        goal: Goal,
+    ) -> Result<Vec<CandidateData>, Fault>
+        requires ready { ready cx.old.nodes self.now }
+        requires goal { IsAsked cx.old.nodes goal }
+        ensures candidates { IfOk result (λ cs. AreCandidates cx.new.nodes goal cs.items) }
+        ensures offered { IfOk result (λ cs. LeavesOut ((handler cx.new.nodes self.now).offers
+            (mode_of mode.now) (tree_at cx.new.nodes goal.param_env.node)
+            (tree_at cx.new.nodes goal.predicate.node)) (candidates_of cx.new.nodes cs.items)) }
+        ensures grows { Grows cx.old cx.new }
+        ensures memory { IsOkUnless result Fault.Memory }
+    {
+        self.candidates(cx, mode, goal)
+    }
 
     /// Whether a cycle through conditions of this trait's impls holds.
     fn trait_is_coinductive(&self, id: TraitId) -> bool

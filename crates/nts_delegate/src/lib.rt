@@ -4,6 +4,7 @@
 mod clause_fits;
 mod clauses;
 mod delegate;
+mod head_index;
 
 pub use clause_fits::{is_foreign_leaf_of, names_fresh};
 pub use clauses::{Clause, Clauses};

@@ -30,7 +30,7 @@ use Rattle.nts_response.specs.Applicable.{IsApplicable}
 use Rattle.nts_response.specs.Forms.{response_at, HoldsResponse}
 use Rattle.nts_search.specs.declared.stack.StackEntry.{StackEntry}
 use Rattle.nts_search.specs.Searching.{entry_at, answer_at, certainty_in}
-use Rattle.std.specs.Prelude.{Result, Ok, Err, IfOk, IfSome, IsNone, ◌⊎◌, ◌↔◌, ◌≢◌, true}
+use Rattle.std.specs.Prelude.{Result, Ok, Err, IfSome, IsNone, ◌⊎◌, ◌↔◌, ◌≢◌, true}
 use Rattle.std.proofs.lemmas.List.Elements.{All-cons, All-head, All-tail}
 use Rattle.nts_store.specs.declared.fault.EvalError.{EvalError}
 use Rattle.nts_store.specs.declared.fault.EvalError.TheVariants as error

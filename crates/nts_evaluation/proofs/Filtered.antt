@@ -38,9 +38,9 @@ use Rattle.nts_evaluation.specs.Choices.KeepsMet.{none, kept, dropped}
 use Rattle.nts_evaluation.specs.Telling.{IsPlain, Outcomes, Replies, Fails}
 use Rattle.nts_evaluation.specs.Telling.Outcomes.{no_outcome, then_fails, then_replies}
 use Rattle.nts_evaluation.specs.Telling.Fails.{is_unmet}
-use Rattle.nts_evaluation.specs.Meant.{offers_of, AreOffered, HaveOutcomes, CandidatesTell}
+use Rattle.nts_evaluation.specs.Meant.{HaveOutcomes, CandidatesTell}
 use Rattle.nts_evaluation.proofs.AskedGoals.{trees_kept}
-use Rattle.nts_evaluation.proofs.Evaluating.{AreCandidates-extended, offers-kept}
+use Rattle.nts_evaluation.proofs.Evaluating.{AreCandidates-extended}
 use Rattle.nts_evaluation.proofs.Running.{candidate-kept, candidates-kept}
 use Rattle.nts_evaluation.proofs.Trying.{equations_of_table}
 
@@ -90,7 +90,7 @@ kept_more {a} {b} {t} {u} {g} {xs} {ys} {zs} x false e w h q m s k =
     subst (KeepsMet a (content_of a t.entries) (xs ++ x ∷ [])) (sym s) (dropped x k (λ z. (let y = now.1 z in cc)))
 
 -- those that are kept are candidates
-are_candidates : {ts : List Tree} {c : Content} {xs ys : List CandidateData} (g : Goal) → KeepsMet ts c xs ys → AreCandidates ts g xs → AreCandidates ts g ys
+pub are_candidates : {ts : List Tree} {c : Content} {xs ys : List CandidateData} (g : Goal) → KeepsMet ts c xs ys → AreCandidates ts g xs → AreCandidates ts g ys
 are_candidates g none h = tt
 are_candidates {ts} g (kept {xs} {ys} x k m) h = candidates_push ts g ys x (are_candidates g k (candidates_front ts g xs x h)) (candidates_last ts g xs x h)
 are_candidates {ts} g (dropped {xs} {ys} x k n) h = are_candidates g k (candidates_front ts g xs x h)
@@ -114,19 +114,14 @@ among_cases f [] x z (inr i) = absurd i
 among_cases f (y ∷ xs) x z (inl e) = inl (inl e)
 among_cases f (y ∷ xs) x z (inr i) = elim (among_cases f xs x z i) [ inl j ↦ inl (inr j) | inr e ↦ inr e ]
 
-kept_among : {ts : List Tree} {c : Content} {xs ys : List CandidateData} (z : Candidate) → KeepsMet ts c xs ys → Among (candidates_of ts ys) z → Among (candidates_of ts xs) z
+pub kept_among : {ts : List Tree} {c : Content} {xs ys : List CandidateData} (z : Candidate) → KeepsMet ts c xs ys → Among (candidates_of ts ys) z → Among (candidates_of ts xs) z
 kept_among z none i = absurd i
 kept_among {ts} z (kept {xs} {ys} x k m) i =
     elim (among_cases (candidate_of ts) ys x z i) [ inl j ↦ among_front (candidate_of ts) xs x z (kept_among z k j) | inr e ↦ among_last (candidate_of ts) xs x z e ]
 kept_among {ts} z (dropped {xs} {ys} x k n) i = among_front (candidate_of ts) xs x z (kept_among z k i)
 
-pub kept_offered : {a b : List Tree} {c : Content} (g : Goal) {xs ys : List CandidateData} (h : Handler) (mode : TypingMode) → KeepsMet a c xs ys → Extends a b → HoldsGoal a g → AreCandidates a g xs → candidates_of a xs ≡ offers_of h (mode_of mode) a g → AreOffered h mode b g ys
-kept_offered {a} {b} {c} g {xs} {ys} h mode k e p all same z i =
-    let there = subst (λ zs. Among zs z) (candidates-kept {a = a} {b = b} g ys e (are_candidates g k all)) i in
-    subst (λ zs. Among zs z) (same ∙ sym (offers-kept h (mode_of mode) e p)) (kept_among z k there)
-
 -- the outcomes of one more, where there are outcomes of more than those before it
-last_outcome : {h : Handler} {mode : Mode} {c : Content} {qs : List Tree} {rs : List Answer} (xs ys zs : List Candidate) (x : Candidate) → zs ≡ ys ++ x ∷ [] → ((ws : List Candidate) (ps : List Answer) → ws ≡ ys → Outcomes h mode c qs ws ps → Outcomes h mode c qs xs ps) → Outcomes h mode c qs zs rs → Outcomes h mode c qs (xs ++ x ∷ []) rs
+pub last_outcome : {h : Handler} {mode : Mode} {c : Content} {qs : List Tree} {rs : List Answer} (xs ys zs : List Candidate) (x : Candidate) → zs ≡ ys ++ x ∷ [] → ((ws : List Candidate) (ps : List Answer) → ws ≡ ys → Outcomes h mode c qs ws ps → Outcomes h mode c qs xs ps) → Outcomes h mode c qs zs rs → Outcomes h mode c qs (xs ++ x ∷ []) rs
 last_outcome xs ys zs x e more no_outcome = absurd (let l = ap length e in omega (arith, l, length-append ys (x ∷ [])))
 last_outcome {h} {mode} {c} {qs} xs ys zs x e more (then_fails {xs = ws} {rs = ps} {x = w} o f) =
     let same = push_inj ws ys w x e in then_fails (more ws ps same.0 o) (subst (Fails h mode c) same.1 f)

@@ -21,6 +21,7 @@ pub mod Entering
 pub mod MergedResponses
 pub mod Adding
 pub mod Filtered
+pub mod LeftOut
 pub mod Searching
 pub mod Unchanged
 pub mod BackEdges

@@ -44,6 +44,8 @@ use Rattle.nts_unify.specs.Lawful.{content_of-extended}
 use Rattle.nts_delegate.specs.Candidates.{IsAsked}
 use Rattle.nts_delegate.specs.declared.delegate.CandidateData.{CandidateData}
 use Rattle.nts_delegate.specs.Offered.{candidates_of}
+use Rattle.nts_delegate.specs.Relevant.{LeavesOut}
+use Rattle.nts_evaluation.proofs.LeftOut.{all_outcomes}
 use Rattle.nts_terms.specs.Handles.{HoldsGoal}
 use Rattle.nts_evaluation.specs.Evaluation.{Goes, IsPosed, asked_terms}
 use Rattle.nts_evaluation.specs.Opening.{IsOpenedTo}
@@ -114,11 +116,11 @@ goal_closed c e g h asked = by_test (binds g) refl
         asked_closed e g (subst (handlers.IsAsked e) same asked)
 
 -- what the candidates tell, in terms of what is offered for the goal
-pub told_offered : {b d : List Tree} (h : Handler) (mode : TypingMode) (u : Table) (o : Goal) (qs : List GenericArg) (xs : List CandidateData) (e : List Tree) (r : Canonical Response) → Extends b d → IsTable b u → HoldsGoal b o → trees_of d qs ≡ trees_of b qs → candidates_of d xs ≡ offers_of h (mode_of mode) d o → CandidatesTell h mode d u qs xs e r
+pub told_offered : {b d : List Tree} (h : Handler) (mode : TypingMode) (u : Table) (o : Goal) (qs : List GenericArg) (xs : List CandidateData) (e : List Tree) (r : Canonical Response) → Extends b d → IsTable b u → HoldsGoal b o → trees_of d qs ≡ trees_of b qs → LeavesOut (offers_of h (mode_of mode) d o) (candidates_of d xs) → CandidatesTell h mode d u qs xs e r
     → ((rs : List Answer) × Outcomes h (mode_of mode) (content_of b u.entries) (trees_of b qs) (offers_of h (mode_of mode) b o) rs × StandsForAll rs (response_at e r)) ⊎ IsPlain (content_of b u.entries) (trees_of b qs) (response_at e r)
-told_offered {b} {d} h mode u o qs xs e r up w holds trees offered (inl (rs, x, y)) =
-    inl (rs, rw (content_of-extended up w.now, trees, offered ∙ offers-kept h (mode_of mode) up holds) at x, y)
-told_offered {b} {d} h mode u o qs xs e r up w holds trees offered (inr x) =
+told_offered {b} {d} h mode u o qs xs e r up w holds trees those (inl (rs, x, y)) =
+    inl (rs, rw (content_of-extended up w.now, trees, offers-kept h (mode_of mode) up holds) at (all_outcomes those (candidates_of d xs) rs refl x), y)
+told_offered {b} {d} h mode u o qs xs e r up w holds trees those (inr x) =
     inr (subst (λ z. IsPlain z (trees_of b qs) (response_at e r)) (content_of-extended up w.now) (subst (λ z. IsPlain (content_of d u.entries) z (response_at e r)) trees x))
 
 -- a goal of the store a and the table t, that is the goal o of the store b in the table u once it is opened

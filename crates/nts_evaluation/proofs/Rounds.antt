@@ -41,7 +41,7 @@ use Rattle.nts_search.proofs.RoundEnds.{round_may_end}
 use Rattle.std.specs.Global.{Box}
 use Rattle.nts_evaluation.specs.declared.round.Asked.{Asked}
 use Rattle.nts_evaluation.specs.declared.round.Ended.{Ended}
-use Rattle.nts_evaluation.specs.Rounds.{IsFirst, IsTakenOff, EndsWith, IsBoxed}
+use Rattle.nts_evaluation.specs.Rounds.{IsFirst, EndsWith, IsBoxed}
 use Rattle.nts_evaluation.specs.Answering.{IsQueryInput, IsAnswerTo, IfAnswered}
 use Rattle.nts_evaluation.specs.Telling.{QueryTells, QueryRefutes, SaysNothing}
 use Rattle.nts_evaluation.specs.Telling.Tells.{says_nothing}

@@ -209,7 +209,7 @@ fn compute_goal<H: GoalHandler>(
         let response = boxed_response(table, cx, values, Certainty::AMBIGUOUS)?;
         return Ok(response);
     }
-    let candidates = handler.candidates(cx, table.typing_mode(), opened)?;
+    let candidates = handler.relevant_candidates(cx, table.typing_mode(), opened)?;
     let kept = keep_met(table, cx, opened, candidates)?;
     let response = evaluate_candidates(table, cx, handler, graph, opened, &kept, values, depth);
     terms_are_formed(cx);

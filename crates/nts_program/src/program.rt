@@ -159,7 +159,7 @@ impl Program {
         if !Clauses::clause_fits(&self.cx, &clause)? {
             return Err(MISFIT);
         }
-        self.clauses.add_clause(clause)?;
+        self.clauses.add_clause(&self.cx, clause)?;
         Ok(())
     }
 

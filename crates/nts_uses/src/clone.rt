@@ -60,7 +60,7 @@ pub(crate) fn add_rule(
     if !Clauses::clause_fits(cx, &clause)? {
         return Ok(false);
     }
-    rules.add_clause(clause)?;
+    rules.add_clause(cx, clause)?;
     Ok(true)
 }
 

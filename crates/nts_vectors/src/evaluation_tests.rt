@@ -92,7 +92,7 @@ fn fact(cx: &mut Cx, handler: &mut Clauses, id: TraitId, argument: GenericArg) -
     if !Clauses::clause_fits(cx, &clause)? {
         return Err(Fail::new("the clause does not fit"));
     }
-    handler.add_clause(clause)?;
+    handler.add_clause(cx, clause)?;
     Ok(())
 }
 
@@ -137,7 +137,7 @@ fn rule_of_one(cx: &mut Cx, handler: &mut Clauses, id: TraitId) -> Result<(), Fa
     if !Clauses::clause_fits(cx, &clause)? {
         return Err(Fail::new("the clause does not fit"));
     }
-    handler.add_clause(clause)?;
+    handler.add_clause(cx, clause)?;
     Ok(())
 }
 

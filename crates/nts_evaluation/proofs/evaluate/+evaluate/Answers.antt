@@ -39,7 +39,7 @@ use Rattle.nts_evaluation.specs.Telling.{IsPlain}
 use Rattle.nts_evaluation.specs.Telling.Tells.{tells_nothing}
 use Rattle.nts_evaluation.specs.Telling.Fails.{is_unmet}
 use Rattle.nts_evaluation.proofs.Evaluating.{goes-back, HoldsGoal-extended}
-use Rattle.nts_evaluation.proofs.Filtered.{kept_candidates, kept_offered, kept_outcomes, kept_tell}
+use Rattle.nts_evaluation.proofs.Filtered.{kept_candidates, kept_outcomes, kept_tell}
 use Rattle.nts_evaluation.proofs.Opened.{told_through, told_offered, refuted_through, nothing_through, labels_through, labels_entered, proved_through}
 use Rattle.nts_evaluation.proofs.Probed.{found_in, found_still, found_fits, found_derived, went_in, plain_of, doubtful, not_kept, told_or_plain, run_replies, said_of}
 use Rattle.nts_evaluation.proofs.Outcomes.{found_earlier, founds_more, founds_with, outcomes_first, outcomes_more, found_merged, told_merged, failed_of}
@@ -119,7 +119,7 @@ compute_goal-returns-in_default-clause-told g t c = λ s tells.
 
 pub compute_goal-returns-in_err-candidates-clause-searches : goal.compute_goal-returns-in_err-candidates-clause-searches
 compute_goal-returns-in_err-candidates-clause-searches g t c =
-    Searches-refl c.args.depth c.requires.search (grown c.in_ok-opened.ensures.grows c.candidates.ensures.grows)
+    Searches-refl c.args.depth c.requires.search (grown c.in_ok-opened.ensures.grows c.relevant_candidates.ensures.grows)
 
 pub compute_goal-returns-in_err-kept-clause-searches : goal.compute_goal-returns-in_err-kept-clause-searches
 compute_goal-returns-in_err-kept-clause-searches g t c =

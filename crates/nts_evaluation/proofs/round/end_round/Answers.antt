@@ -1,4 +1,4 @@
-use Rattle.std.proofs.Common.{rules, sym, ap}
+use Rattle.std.proofs.Common.{rules, ap}
 use Rattle.nts_evaluation.specs.declared.round.Ended.{Ended}
 use Rattle.nts_evaluation.proofs.round.end_round.Goals as goal
 

@@ -1,4 +1,4 @@
-use Rattle.std.proofs.Common.{◌≡◌, Some, sym, ap, ◌∙◌, rules}
+use Rattle.std.proofs.Common.{ap, ◌∙◌, rules}
 use Rattle.nts_evaluation.specs.declared.round.Asked.{Asked}
 use Rattle.nts_evaluation.proofs.round.first_round.Goals as goal
 

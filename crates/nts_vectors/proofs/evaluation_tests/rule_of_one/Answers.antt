@@ -5,4 +5,4 @@ use Rattle.nts_vectors.proofs.evaluation_tests.rule_of_one.Goals as goal
 
 pub returns-clause-ready : goal.returns-clause-ready
 returns-clause-ready c =
-    c.in_ok-add_clause.ensures.ready _ (AreReady-kept _ _ c.args.handler.now c.requires (Extends-trans c.in_ok-position.ensures.grows.extends c.in_ok-head.ensures.grows.extends)) (c.in_ok-clause_fits.ensures.fits.0 c.if-not-branch.false)
+    c.in_ok-add_clause.ensures.ready (AreReady-kept _ _ c.args.handler.now c.requires (Extends-trans c.in_ok-position.ensures.grows.extends c.in_ok-head.ensures.grows.extends)) (c.in_ok-clause_fits.ensures.fits.0 c.if-not-branch.false)

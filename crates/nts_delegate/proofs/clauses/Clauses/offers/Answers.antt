@@ -9,12 +9,12 @@ use Rattle.nts_delegate.proofs.clauses.Clauses.offers.Goals as goal
 
 pub len-requires-in-loop-clause : goal.len-requires-in-loop-clause
 len-requires-in-loop-clause c =
-    let all : AreClauses c.args.cx.now.nodes c.of_trait-clause-items.result.now = rw c.of_trait-clause-items.ensures (c.requires.ready c.in-Some.trait_ref.def_id.number) in
+    let all : AreClauses c.args.cx.now.nodes c.of_trait-clause-items.result.now = rw c.of_trait-clause-items.ensures (c.requires.ready.clauses c.in-Some.trait_ref.def_id.number) in
     (clause_at c.args.cx.now.nodes c.of_trait-clause-items.result.now c.loop-clause.clause-index c.clause-item.result all (omega (arith, c.loop-clause-test.true)) c.clause-item.is).head_holds
 
 pub offer_of-requires-clause-head : goal.offer_of-requires-clause-head
 offer_of-requires-clause-head c =
-    let all : AreClauses c.args.cx.now.nodes c.of_trait-clause-items.result.now = rw c.of_trait-clause-items.ensures (c.requires.ready c.in-Some.trait_ref.def_id.number) in
+    let all : AreClauses c.args.cx.now.nodes c.of_trait-clause-items.result.now = rw c.of_trait-clause-items.ensures (c.requires.ready.clauses c.in-Some.trait_ref.def_id.number) in
     (clause_at c.args.cx.now.nodes c.of_trait-clause-items.result.now c.loop-clause.clause-index c.clause-item.result all (omega (arith, c.loop-clause-test.true)) c.clause-item.is).head_holds
 
 pub loop-clause-preserved : goal.loop-clause-preserved
@@ -24,7 +24,7 @@ loop-clause-preserved c =
     let clauses = c.of_trait-clause-items.result.now in
     let clause = c.clause-item.result in
     let inside : c.loop-clause.clause-index < length c.of_trait-clause-items.result.now = omega (arith, c.loop-clause-test.true) in
-    let all : AreClauses c.args.cx.now.nodes c.of_trait-clause-items.result.now = rw c.of_trait-clause-items.ensures (c.requires.ready c.in-Some.trait_ref.def_id.number) in
+    let all : AreClauses c.args.cx.now.nodes c.of_trait-clause-items.result.now = rw c.of_trait-clause-items.ensures (c.requires.ready.clauses c.in-Some.trait_ref.def_id.number) in
     let is_clause = clause_at ts clauses c.loop-clause.clause-index clause all inside c.clause-item.is in
     let one_more = taken clauses c.loop-clause.clause-index clause inside c.clause-item.is in
     let part = is_part (tree_at ts c.args.goal.predicate.node) _ (ap trait_of c.kind.ensures.tree ∙ c.in-Some.ensures.is ts) in

@@ -1,5 +1,5 @@
 -- Longer answers for the functions that answer a goal by its candidates.
-use Rattle.std.proofs.Common.{◌≡◌, inr, Err, Ok, arith, rules, map, length, refl, ap, sym, ◌∙◌}
+use Rattle.std.proofs.Common.{◌≡◌, inr, Err, Ok, arith, rules, map, length, refl, ap, sym, ◌∙◌, subst}
 use Rattle.nts_model.specs.Handlers.{meaning}
 use Rattle.nts_model.proofs.Bringing.{only-trans}
 use Rattle.nts_store.specs.declared.fault.EvalError.TheVariants as EvalError
@@ -10,7 +10,8 @@ use Rattle.nts_terms.proofs.Moved.{KeepsRest-trans}
 use Rattle.nts_unify.specs.Reading.{content_of}
 use Rattle.nts_unify.specs.Lawful.{content_of-extended}
 use Rattle.nts_table.specs.TableLaws.{IsTable-extended}
-use Rattle.nts_delegate.specs.Offered.{certainty_of, candidate_of, premise_of}
+use Rattle.nts_delegate.specs.Offered.{certainty_of, candidate_of, candidates_of, premise_of}
+use Rattle.nts_delegate.specs.Relevant.{LeavesOut}
 use Rattle.nts_delegate.proofs.Results.{IfOk-map}
 use Rattle.nts_canonical.specs.Forms.{trees_of}
 use Rattle.nts_evaluation.specs.Meant.{Since}
@@ -25,7 +26,8 @@ use Rattle.nts_response.specs.declared.types.Response.{Response}
 use Rattle.nts_store.specs.Kept.{map-kept, AllIn-kept}
 use Rattle.nts_terms.proofs.Moved.{KeepsRest-refl}
 use Rattle.nts_evaluation.proofs.Evaluating.{goes-back, HoldsGoal-extended}
-use Rattle.nts_evaluation.proofs.Filtered.{kept_candidates, kept_offered, kept_outcomes, kept_tell}
+use Rattle.nts_evaluation.proofs.Filtered.{kept_candidates, kept_outcomes, kept_tell}
+use Rattle.nts_evaluation.proofs.LeftOut.{all_outcomes, kept_offered}
 use Rattle.nts_evaluation.proofs.Opened.{told_through, told_offered, refuted_through, labels_through, proved_through}
 use Rattle.nts_evaluation.proofs.Probed.{found_in, found_still, went_in, plain_of, not_kept, told_or_plain, run_replies, said_of}
 use Rattle.nts_evaluation.proofs.Outcomes.{found_earlier, founds_more, founds_with, outcomes_first, outcomes_more, failed_of}
@@ -92,8 +94,8 @@ compute_goal-returns-clause-found g t c =
       no_more = f.no_more;
       sure = λ y s.
           let h = g.H.GoalHandler.handler s.base c.args.handler.now in
-          let same = g.met.H.GoalHandler.handler_kept s.base c.candidates.new.cx.nodes c.args.handler.now s.is_ready (Extends-trans s.extends up) in
-          let offered = e.offered ∙ ap (λ m. (g.H.GoalHandler.handler c.candidates.new.cx.nodes c.args.handler.now).offers (mode_of m) (tree_at c.candidates.new.cx.nodes c.in-Some.opened.param_env.node) (tree_at c.candidates.new.cx.nodes c.in-Some.opened.predicate.node)) c.typing_mode.ensures ∙ same.offers _ _ _ in
+          let same = g.met.H.GoalHandler.handler_kept s.base c.relevant_candidates.new.cx.nodes c.args.handler.now s.is_ready (Extends-trans s.extends up) in
+          let offered = subst (λ os. LeavesOut os (candidates_of c.relevant_candidates.new.cx.nodes c.in_ok-candidates.candidates.items)) (ap (λ m. (g.H.GoalHandler.handler c.relevant_candidates.new.cx.nodes c.args.handler.now).offers (mode_of m) (tree_at c.relevant_candidates.new.cx.nodes c.in-Some.opened.param_env.node) (tree_at c.relevant_candidates.new.cx.nodes c.in-Some.opened.predicate.node)) c.typing_mode.ensures ∙ same.offers _ _ _) e.offered in
           let law = g.met.H.GoalHandler.lawful s.base c.args.handler.now s.formed s.is_ready in
           let there = Goes-trans goes f.goes in
           let later = (Goes-trans o.goes there).continues in
@@ -111,15 +113,15 @@ compute_goal-returns-clause-refuted g t c = λ s tells n.
     let opened = rw c.in-Some.is at o.opened in
     let posed = rw c.in-Some.is at o.posed in
     let goes = Goes-trans o.goes (Goes-extends o.goes.table e.grows.extends) in
-    let args = args_later c.args.cx.now.nodes c.candidates.new.cx.nodes c.args.table.now.entries c.enter_forall.new.table.entries c.args.values.now goes.extends goes.continues c.requires.values in
+    let args = args_later c.args.cx.now.nodes c.relevant_candidates.new.cx.nodes c.args.table.now.entries c.enter_forall.new.table.entries c.args.values.now goes.extends goes.continues c.requires.values in
     let h = g.H.GoalHandler.handler s.base c.args.handler.now in
-    let same = g.met.H.GoalHandler.handler_kept s.base c.candidates.new.cx.nodes c.args.handler.now s.is_ready (Extends-trans s.extends up) in
-    let offered = e.offered ∙ ap (λ m. (g.H.GoalHandler.handler c.candidates.new.cx.nodes c.args.handler.now).offers (mode_of m) (tree_at c.candidates.new.cx.nodes c.in-Some.opened.param_env.node) (tree_at c.candidates.new.cx.nodes c.in-Some.opened.predicate.node)) c.typing_mode.ensures ∙ same.offers _ _ _ in
+    let same = g.met.H.GoalHandler.handler_kept s.base c.relevant_candidates.new.cx.nodes c.args.handler.now s.is_ready (Extends-trans s.extends up) in
+    let offered = subst (λ os. LeavesOut os (candidates_of c.relevant_candidates.new.cx.nodes c.in_ok-candidates.candidates.items)) (ap (λ m. (g.H.GoalHandler.handler c.relevant_candidates.new.cx.nodes c.args.handler.now).offers (mode_of m) (tree_at c.relevant_candidates.new.cx.nodes c.in-Some.opened.param_env.node) (tree_at c.relevant_candidates.new.cx.nodes c.in-Some.opened.predicate.node)) c.typing_mode.ensures ∙ same.offers _ _ _) e.offered in
     let here = content_of-extended e.grows.extends o.goes.table.now in
     let kept = rw (c.deref.ensures.value, m.same) at (c.evaluate_candidates-response.ensures.refuted (Since-later (Extends-trans up m.grows.extends) s) (tell_grown h c.args.depth c.requires.search (grown o.grows (grown e.grows m.grows)) tells) n) in
     let run = kept_outcomes c.in-Some.opened h c.enter_forall.new.table.mode c.args.values.now m.kept m.grows.extends (IsTable-extended e.grows.extends o.goes.table) args e.candidates kept in
-    refuted_through c.requires.posed opened o.grows.extends h c.args.table.now.mode (trees_of c.candidates.new.cx.nodes c.args.values.now)
-    (rw (here, offered, o.goes.mode, offers-kept h (mode_of c.args.table.now.mode) e.grows.extends posed.holds) at run)
+    refuted_through c.requires.posed opened o.grows.extends h c.args.table.now.mode (trees_of c.relevant_candidates.new.cx.nodes c.args.values.now)
+    (rw (here, o.goes.mode, offers-kept h (mode_of c.args.table.now.mode) e.grows.extends posed.holds) at (all_outcomes offered _ _ refl run))
 
 pub compute_goal-returns-clause-told : goal.compute_goal-returns-clause-told
 compute_goal-returns-clause-told g t c = λ s tells.
@@ -130,12 +132,12 @@ compute_goal-returns-clause-told g t c = λ s tells.
     let opened = rw c.in-Some.is at o.opened in
     let posed = rw c.in-Some.is at o.posed in
     let goes = Goes-trans o.goes (Goes-extends o.goes.table e.grows.extends) in
-    let args = args_later c.args.cx.now.nodes c.candidates.new.cx.nodes c.args.table.now.entries c.enter_forall.new.table.entries c.args.values.now goes.extends goes.continues c.requires.values in
+    let args = args_later c.args.cx.now.nodes c.relevant_candidates.new.cx.nodes c.args.table.now.entries c.enter_forall.new.table.entries c.args.values.now goes.extends goes.continues c.requires.values in
     let trees = trees_kept c.args.cx.now.nodes c.enter_forall.new.cx.nodes c.args.table.now.entries c.args.values.now o.grows.extends c.requires.values in
-    let both = trees_kept c.args.cx.now.nodes c.candidates.new.cx.nodes c.args.table.now.entries c.args.values.now up c.requires.values in
+    let both = trees_kept c.args.cx.now.nodes c.relevant_candidates.new.cx.nodes c.args.table.now.entries c.args.values.now up c.requires.values in
     let h = g.H.GoalHandler.handler s.base c.args.handler.now in
-    let same = g.met.H.GoalHandler.handler_kept s.base c.candidates.new.cx.nodes c.args.handler.now s.is_ready (Extends-trans s.extends up) in
-    let offered = e.offered ∙ ap (λ m. (g.H.GoalHandler.handler c.candidates.new.cx.nodes c.args.handler.now).offers (mode_of m) (tree_at c.candidates.new.cx.nodes c.in-Some.opened.param_env.node) (tree_at c.candidates.new.cx.nodes c.in-Some.opened.predicate.node)) c.typing_mode.ensures ∙ same.offers _ _ _ in
+    let same = g.met.H.GoalHandler.handler_kept s.base c.relevant_candidates.new.cx.nodes c.args.handler.now s.is_ready (Extends-trans s.extends up) in
+    let offered = subst (λ os. LeavesOut os (candidates_of c.relevant_candidates.new.cx.nodes c.in_ok-candidates.candidates.items)) (ap (λ m. (g.H.GoalHandler.handler c.relevant_candidates.new.cx.nodes c.args.handler.now).offers (mode_of m) (tree_at c.relevant_candidates.new.cx.nodes c.in-Some.opened.param_env.node) (tree_at c.relevant_candidates.new.cx.nodes c.in-Some.opened.predicate.node)) c.typing_mode.ensures ∙ same.offers _ _ _) e.offered in
     let run = rw (c.deref.ensures.value, m.same) at (c.evaluate_candidates-response.ensures.told (Since-later (Extends-trans up m.grows.extends) s) (tell_grown h c.args.depth c.requires.search (grown o.grows (grown e.grows m.grows)) tells)) in
     IfOk-map c.evaluate_candidates-response.result
     (λ r f. told_through c.requires.posed opened o.grows.extends h c.args.table.now.mode c.args.values.now c.evaluate_candidates-response.new.cx.nodes r.value trees

@@ -1,6 +1,5 @@
 -- Longer answers for the functions that answer queries, in rounds.
-use Rattle.std.proofs.Common.{◌≡◌, Err, arith, rules, ◌+◌, ◌≤◌, refl, sym, ◌∙◌, subst}
-use Rattle.nts_store.specs.declared.fault.EvalError.TheVariants as EvalError
+use Rattle.std.proofs.Common.{◌≡◌, arith, ◌+◌, ◌≤◌, refl, sym, ◌∙◌, subst}
 use Rattle.nts_store.specs.Growth.{tree_at}
 use Rattle.nts_store.proofs.Growing.{Extends-trans}
 use Rattle.nts_terms.specs.Modes.{mode_of}
@@ -9,9 +8,7 @@ use Rattle.nts_canonical.specs.Building.{kinds_of}
 use Rattle.nts_response.specs.Forms.{response_at}
 use Rattle.nts_evaluation.specs.Meant.{Since, meaning_since, IsProvedNow}
 use Rattle.nts_evaluation.proofs.AskedGoals.{ok_both, evaluates, asked_stays}
-use Rattle.nts_evaluation.proofs.AnsweredQueries.{first_entries, query_environment, query_predicate}
 use Rattle.nts_evaluation.proofs.Evaluating.{Since-later}
-use Rattle.nts_terms.specs.Handles.{HoldsGoal}
 use Rattle.nts_evaluation.proofs.Probed.{found_fits, found_derived}
 use Rattle.nts_model.specs.Proofs.{passed}
 use Rattle.nts_model.proofs.Assuming.{covers_passed}
@@ -20,7 +17,6 @@ use Rattle.nts_search.specs.Searching.{entry_at, entries_at}
 use Rattle.nts_search.proofs.Stacked.{entries_popped}
 use Rattle.nts_canonical.specs.Forms.{form_of}
 use Rattle.nts_evaluation.specs.Searching.{IsHeadAnswer, assumed_in}
-use Rattle.nts_evaluation.specs.Telling.Tells.{says_nothing}
 use Rattle.nts_evaluation.proofs.Searching.{Searches-refl, Searches-trans, search_later, search_grows, covers_grown, stays_more, heads_tell_later, search_marked, form_later}
 use Rattle.std.proofs.Common.{◌∷◌, false}
 use Rattle.nts_model.specs.Stacks.{IsDerivedFrom, IsProvedFrom, assumptions}
