@@ -6,7 +6,7 @@ use Rattle.nts_model.specs.declared.labels.VariableKind.{VariableKind}
 use Rattle.nts_model.specs.declared.labels.VariableKind.TheVariants as kind
 use Rattle.nts_model.specs.declared.labels.Leaf.TheVariants as leaf
 use Rattle.nts_model.specs.declared.labels.Label.TheVariants as label
-use Rattle.nts_model.specs.Resolving.{variable_tree, rooted, Knows, variable_rank, rank_of_kind}
+use Rattle.nts_model.specs.Resolving.{variable_tree, resolved, rooted, Knows, variable_rank, rank_of_kind}
 use Rattle.nts_model.specs.Levels.{NamesAll, level_in, term_level, region_level}
 use Rattle.nts_model.specs.Fitting.{Fits}
 use Rattle.nts_model.specs.Worlds.{inst, IsValue}
@@ -18,7 +18,7 @@ use Rattle.nts_model.proofs.Variables.{infer_number_some}
 use Rattle.nts_model.proofs.Classes.{resolved-known_variable}
 use Rattle.nts_model.proofs.Instances.{inst-agrees}
 use Rattle.nts_model.proofs.Solving.{Solves-known, Solves-from_known, IsNameable-set}
-use Rattle.nts_model.proofs.Held.{Continues-known, Continues-trans}
+use Rattle.nts_model.proofs.Held.{AreOne-continues, Continues-known, Continues-trans}
 use Rattle.nts_model.proofs.Tying.{TiesNew-same, TiesNew-trans}
 use Rattle.nts_model.proofs.Bringing.{brings-known}
 use Rattle.nts_model.proofs.Alike.{AreAlike-continues, AreAlike-for}
@@ -103,6 +103,8 @@ bind_value ts us e f g x t v w z before_lawful can_bind at knows_term h within f
     let knows_old : Knows d (tree_at ts t) = Knows-later (tree_at ts t) gen.keeps.later knows_term in
     let alike : AreAlike after (tree_at us v) (tree_at ts t) =
     AreAlike-continues d after (tree_at us v) (tree_at ts t) h.sound sound_after known_continues (lawful_sides us f h) gen.knows knows_old gen.alike in
+    let exact : NamesAll region_level w.universe (resolved c (tree_at ts t)) → AreOne after (tree_at us v) (tree_at ts t) =
+    λ n. AreOne-continues d after (tree_at us v) (tree_at ts t) known_continues gen.knows knows_old (gen.exact n) in
     let one : (j : VariableKind) → kind_at c x ≡ Some j → AreOne after (variable_tree j x) (tree_at us v) =
     λ j has. (let not_region : j ≢ kind.Region = λ r. apart (has ∙ ap Some r) in
     ap (rooted after) (resolved-known_variable d x (slot_of us new) (tree_at us v) h.sound can (label.Leaf (leaf.Variable j x)) empty (infer_number_some j x not_region)
@@ -120,6 +122,9 @@ bind_value ts us e f g x t v w z before_lawful can_bind at knows_term h within f
         fewer = fewer;
         continues = all;
         alike = λ j has. AreAlike-for after (tree_at us v) (tree_at ts t) (variable_tree j x) (tree_at ts t) (one j has) refl alike;
+        exact = λ n j at_universe has names.
+            let own : w.universe ≡ n = some_inj _ _ (sym (universe_of-entry ts e x w at) ∙ at_universe) in
+            one j has ∙ exact (rw own names);
         ties = TiesNew-trans c d after known_continues (ties_of_keeps c d h.sound gen.keeps) (TiesNew-same d after longer);
         brings = record { labels = λ P f p i j. let made = gen.labels P f p i in (brings-known d x (slot_of us new) (tree_at us v) there_now refl).labels P f made.0 made.1 tt };
         sound = λ y a.

@@ -13,7 +13,7 @@ use Rattle.nts_model.specs.Contents.{Content, Slot, unset, link, state_of, unive
 use Rattle.nts_model.specs.Resolving.{variable_of, variable_tree, infer_of, IsInfer, Knows, KnowsVariable, IsSound, Lacks, LacksAt, resolved, rooted, variable_rank}
 use Rattle.nts_model.specs.Placeholders.{CanName}
 use Rattle.nts_model.specs.Passing.{BringsNoLabels}
-use Rattle.nts_model.specs.Levels.{NamesAll, term_level}
+use Rattle.nts_model.specs.Levels.{NamesAll, term_level, region_level}
 use Rattle.nts_model.specs.Regions.{RegionName, IsRegion, name_of_label}
 use Rattle.nts_model.specs.Worlds.{World, inst, IsValue, Solves, KnowsAll, with_tree, IsNameable}
 use Rattle.nts_model.specs.Holding.{AreOne, Continues}
@@ -146,7 +146,9 @@ gen_fresh c d e x u b y low high v t s knows h free of_u within i rank like apar
       named_regions = (tt, tt);
       closed = (tt, tt);
       patched = infer_patched t (variable_tree v.kind (length c.slots)) i (leaf_patch (leaf.Variable v.kind (length c.slots)));
+      clean = rw value (tt, tt);
       alike = AreAlike-one e (variable_tree v.kind fresh) t (new_one ∙ sym old_one);
+      exact = λ n. new_one ∙ sym old_one;
       labels = λ P f p q. (brings.labels P f (a.brings.labels P f p), (f v.kind fresh, tt));
       sound = λ w z.
           let q = one_class.narrows.sound w z in
@@ -199,9 +201,9 @@ IsRegion-value (node l (more a b)) h = let e = h.1 in cc
 IsRegion-value (node l (node m a)) h = let e = h.1 in cc
 IsRegion-value (node l empty) h = record { fits = h; closed = (region_below l h.0 h.1, tt); formed = (region_shape l h.0 h.1, tt) }
 
--- a fresh region variable, made equal to the region
-pub gen_fresh_region : (c d e : Content) (x u b : ℕ) (v : Slot) (t : Tree) (l : Label) → IsSound c → v.kind ≡ kind.Region → x < length c.slots → RegionNode t l → kind_of t ≡ Some (of_sort sort.Region) → IsRegion t → Knows c t → v.universe ≡ u → IsAdded c d v → RegionsRelate d e (variable_tree kind.Region (length c.slots)) t → universe_of e x ≡ universe_of d x → CanName u (universe_of e (length c.slots)) → Generalized c e x u b t (variable_tree kind.Region (length c.slots))
-gen_fresh_region c d e x u b v t l s region within r sorted is_region known of_u a related own named =
+-- a fresh region variable, made equal to the region, and one with it where the universe names it
+pub gen_fresh_region : (c d e : Content) (x u b : ℕ) (v : Slot) (t : Tree) (l : Label) → IsSound c → v.kind ≡ kind.Region → x < length c.slots → RegionNode t l → kind_of t ≡ Some (of_sort sort.Region) → IsRegion t → Knows c t → v.universe ≡ u → IsAdded c d v → RegionsRelate d e (variable_tree kind.Region (length c.slots)) t → universe_of e x ≡ universe_of d x → CanName u (universe_of e (length c.slots)) → (NamesAll region_level u t → AreOne e (variable_tree kind.Region (length c.slots)) t) → Generalized c e x u b t (variable_tree kind.Region (length c.slots))
+gen_fresh_region c d e x u b v t l s region within r sorted is_region known of_u a related own named one =
     let k = related.keeps in
     let fresh = length c.slots in
     let none : unset_of v.kind v.state ≡ 0 = rw region refl in
@@ -229,7 +231,9 @@ gen_fresh_region c d e x u b v t l s region within r sorted is_region known of_u
       named_regions = (tt, tt);
       closed = (tt, tt);
       patched = term_patched sort.Region t (variable_tree kind.Region (length c.slots)) sorted (leaf_patch (leaf.Variable kind.Region (length c.slots)));
+      clean = rw (resolved-region_node e (variable_tree kind.Region fresh) (label.Leaf (leaf.Variable kind.Region fresh)) node_of) (tt, tt);
       alike = related.alike;
+      exact = λ n. one (rw (resolved-region_node c t l r) at n);
       labels = λ P f p q. (related.brings.labels P f (a.brings.labels P f p) (f kind.Region fresh, tt) q, (f kind.Region fresh, tt));
       sound = λ w z. (let q = related.narrows.sound w z in (a.back w q.0, q.1));
       complete = λ w z names.

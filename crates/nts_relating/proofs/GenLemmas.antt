@@ -16,7 +16,7 @@ use Rattle.nts_model.specs.declared.labels.ListHead.TheVariants as list
 use Rattle.nts_model.specs.declared.labels.TyHead.TheVariants as ty
 use Rattle.nts_model.specs.Trees.{Tree, empty, more, node, NodeKind, of_sort, kind_of, kind_of_label, any_label, is_infer, children, row_length, row_at, row_take, row_push, IsRow, Place, Shape, in_order, each, FitsPlace, HavePlaces, AllFit, Meets, shape, binders, IsBoundBelow, IsClosedUnder, is_region_infer, is_placeholder}
 use Rattle.nts_model.specs.Contents.{Content, universe_of, kind_at}
-use Rattle.nts_model.specs.Resolving.{variable_of, variable_tree, infer_of, IsInfer, Knows, IsSound, Lacks, resolved, deeply_resolved, rooted, root_of, left_to_resolve, rank_of, variable_rank}
+use Rattle.nts_model.specs.Resolving.{variable_of, variable_tree, infer_of, IsInfer, Knows, IsSound, Lacks, resolved, deeply_resolved, rooted, rooted_variable, root_of, left_to_resolve, rank_of, variable_rank}
 use Rattle.nts_model.specs.Fitting.{Fits}
 use Rattle.nts_model.specs.Placeholders.{CanName}
 use Rattle.nts_model.specs.Passing.{TreePasses, TablePasses}
@@ -37,7 +37,7 @@ use Rattle.nts_model.proofs.Alike.{Alike-row_push, AreAlike-one, AreAlike-itself
 use Rattle.nts_model.specs.Patching.{IsPatched, in_end, in_node}
 use Rattle.nts_model.proofs.Unpositioned.{known_well_bound}
 use Rattle.nts_model.proofs.Scoping.{patched_itself, leaf_patch, term_patched, infer_patched, push_patched, lists_patched}
-use Rattle.nts_model.proofs.Resolved.{resolved-empty, resolved-node, resolved-row_push, IsRow-resolved, resolved-variable_unset, deeply_resolved-empty, Knows-row_at}
+use Rattle.nts_model.proofs.Resolved.{resolved-empty, resolved-node, resolved-row_push, IsRow-resolved, resolved-variable_unset, deeply_resolved-empty, deeply_resolved-node, Knows-row_at}
 use Rattle.nts_store.specs.declared.nodes.NodeId.{NodeId}
 use Rattle.nts_store.specs.Growth.{tree_at, trees_at, AllIn, Extends}
 use Rattle.nts_store.proofs.Growing.{IsRow-trees_at, trees_at-push, trees_at-extended, row_take-more, row_take-all}
@@ -246,7 +246,9 @@ gen_settled c x u b t s k e f g h =
       named_regions = names.1;
       closed = h;
       patched = patched_itself t;
+      clean = rw (resolved-no_infer c t e) names.1;
       alike = AreAlike-itself c t;
+      exact = λ n. refl;
       labels = λ P v p q. (p, q);
       sound = λ w z. (z, refl);
       complete = λ w z q. unchanged c w z;
@@ -255,6 +257,7 @@ gen_settled c x u b t s k e f g h =
 -- a free region that stays
 pub gen_region : (c : Content) (x u b : ℕ) (t : Tree) (l : Label) → IsSound c → Knows c t → RegionNode t l → variable_of l ≡ None → is_free_region l ≡ true → CanName u (region_level l) → Generalized c c x u b t t
 gen_region c x u b t l s k r v f n =
+    let names : NamesAll region_level u t = subst (λ (y : Tree). NamesAll region_level u y) (sym r.is) (n, tt) in
     record {
       keeps = Keeps-refl c;
       knows = k;
@@ -265,10 +268,12 @@ gen_region c x u b t l s k r v f n =
       continues = Continues-refl c s;
       own = refl;
       named = subst (λ (y : Tree). NamesAll (level_in c) u y) (sym r.is) (rw v (free_term_level l f), tt);
-      named_regions = subst (λ (y : Tree). NamesAll region_level u y) (sym r.is) (n, tt);
+      named_regions = names;
       closed = subst (λ (y : Tree). IsClosedUnder b y) (sym r.is) (free_below l f, tt);
       patched = patched_itself t;
+      clean = rw (resolved-region_node c t l r) names;
       alike = AreAlike-itself c t;
+      exact = λ n. refl;
       labels = λ P v p q. (p, q);
       sound = λ w z. (z, refl);
       complete = λ w z q. unchanged c w z;
@@ -314,7 +319,9 @@ gen_region_root c x u b n r t s v has named =
       named_regions = (tt, tt);
       closed = (tt, tt);
       patched = term_patched sort.Region t (variable_tree kind.Region r) (ap kind_of v.is) (leaf_patch (leaf.Variable kind.Region r));
+      clean = rw (resolved-region_node c (variable_tree kind.Region r) (label.Leaf (leaf.Variable kind.Region r)) root) (tt, tt);
       alike = AreAlike-one c (variable_tree kind.Region r) t one;
+      exact = λ n. one;
       labels = λ P f p q. (p, (f kind.Region r, tt));
       sound = λ w z. (z, rw (v.is) (sym (v.tree w z)));
       complete = λ w z q. unchanged c w z;
@@ -326,20 +333,23 @@ lacks_other k y x n d = let f : (y == x) ≡ false = grind arith in rw (infer_nu
 -- a variable without value that stays
 pub gen_named : (c : Content) (x u b y : ℕ) (k : VariableKind) (t : Tree) → IsSound c → IsUnset c y k → IsInfer t → variable_rank (variable_tree k y) ≤ variable_rank t → IsLike (variable_tree k y) t → (y ≡ x → ⊥) → CanName u (universe_of c y) → resolved c t ≡ resolved c (variable_tree k y) → ((w : World) → Solves c w → inst w t ≡ w.tree y) → Generalized c c x u b t (variable_tree k y)
 gen_named c x u b y k t s h i rank like d named same worlds =
+    let stays : resolved c (variable_tree k y) ≡ variable_tree k y = resolved-variable_unset c (label.Leaf (leaf.Variable k y)) empty y s (infer_number_some k y h.no_region) h.state in
     record {
       keeps = Keeps-refl c;
       knows = ((h.has, tt, refl), tt, tt);
       rank = rank;
       fits = λ j n z f. infer_ranked t i z;
       like = like;
-      lacks = rw (resolved-variable_unset c (label.Leaf (leaf.Variable k y)) empty y s (infer_number_some k y h.no_region) h.state) (lacks_other k y x h.no_region d);
+      lacks = rw stays (lacks_other k y x h.no_region d);
       continues = Continues-refl c s;
       own = refl;
       named = (named, tt);
       named_regions = (tt, tt);
       closed = (tt, tt);
       patched = infer_patched t (variable_tree k y) i (leaf_patch (leaf.Variable k y));
+      clean = rw stays (tt, tt);
       alike = AreAlike-one c (variable_tree k y) t (ap (rooted c) (sym same));
+      exact = λ n. ap (rooted c) (sym same);
       labels = λ P f p q. (p, (f k y, tt));
       sound = λ w z. (z, sym (worlds w z));
       complete = λ w z q. unchanged c w z;
@@ -382,7 +392,9 @@ gen_start c x u b row s =
       named_regions = tt;
       closed = tt;
       patched = in_end;
+      clean = rw (resolved-empty c) tt;
       alike = AreAlike-itself c empty;
+      exact = λ n. refl;
       labels = λ P v p q. (p, tt);
       sound = λ w z. (z, refl);
       complete = λ w z q. unchanged c w z;
@@ -455,6 +467,8 @@ gen_push us vs c d e x u b i row a rs qs r sc fd se known g ext all lt ea h eq =
     let old : resolved e (trees_at us rs) ≡ resolved d (trees_at us rs) = h.keeps.trees (trees_at us rs) g.knows in
     let lacks : Lacks x (resolved e (trees_at us rs)) = rw old g.lacks in
     let first : Knows d (row_take i row) = Knows-later (row_take i row) g.keeps.later (Knows-row_take c i row known) in
+    let clean : NamesAll region_level u (resolved e (trees_at us rs)) = rw old g.clean in
+    let known_child : Knows c a = rw ea (Knows-row_at c row i known) in
     let later_alike = AreAlike-continues d e (trees_at us rs) (row_take i row) fd.sound se h.continues fd.sides g.knows first g.alike in
     rw (is, row') (record {
       keeps = Keeps-trans g.keeps h.keeps;
@@ -469,7 +483,14 @@ gen_push us vs c d e x u b i row a rs qs r sc fd se known g ext all lt ea h eq =
       named_regions = NamesAll-push region_level u (trees_at us rs) (tree_at vs r) ir g.named_regions h.named_regions;
       closed = IsClosedUnder-push b (trees_at us rs) (tree_at vs r) ir g.closed h.closed;
       patched = push_patched (row_take i row) (trees_at us rs) a (tree_at vs r) it g.patched h.patched;
+      clean = rw (resolved-row_push e (trees_at us rs) (tree_at vs r) ir) (NamesAll-push region_level u (resolved e (trees_at us rs)) (resolved e (tree_at vs r)) (IsRow-resolved e (trees_at us rs) ir) clean h.clean);
       alike = AreAlike-push e (trees_at us rs) (row_take i row) (tree_at vs r) a ir it (IsLike-length (trees_at us rs) (row_take i row) ir g.like) later_alike h.alike;
+      exact = λ n.
+          let all : NamesAll region_level u (row_push (resolved c (row_take i row)) (resolved c a)) = rw (resolved-row_push c (row_take i row) a it) at n in
+          let parts = NamesAll-pushed region_level u (resolved c (row_take i row)) (resolved c a) (IsRow-resolved c (row_take i row) it) all in
+          let before : AreOne e (trees_at us rs) (row_take i row) = AreOne-continues d e (trees_at us rs) (row_take i row) h.continues g.knows first (g.exact parts.0) in
+          let last : AreOne e (tree_at vs r) a = h.exact (rw (g.keeps.trees a known_child) parts.1) in
+          deeply_resolved-push e (trees_at us rs) (tree_at vs r) ir ∙ (λ j. row_push (before j) (last j)) ∙ sym (deeply_resolved-push e (row_take i row) a it);
       labels = λ P v p q.
           let parts = passes-pushed (λ z. P z ≡ true) (row_take i row) a it q in
           let first = g.labels P v p parts.0 in
@@ -483,7 +504,6 @@ gen_push us vs c d e x u b i row a rs qs r sc fd se known g ext all lt ea h eq =
           let all : NamesAll term_level u (row_push (inst w (row_take i row)) (inst w a)) = rw (inst-push w (row_take i row) a it) at names in
           let parts = NamesAll-pushed term_level u (inst w (row_take i row)) (inst w a) (IsRow-inst w (row_take i row) it) all in
           let first = g.complete w z parts.0 in
-          let known_child : Knows c a = rw ea (Knows-row_at c row i known) in
           let child : NamesAll term_level u (inst first.world a) = rw (inst-agrees c w first.world a first.agrees known_child) parts.1 in
           let second = h.complete first.world first.solves child in
           record {
@@ -517,7 +537,12 @@ gen_node c d x u b i t row l known is alone not_free names below r n g =
       named_regions = (no_region_level l not_free, g.named_regions);
       closed = (below, g.closed);
       patched = subst (λ (y : Tree). IsPatched y (node l row)) (sym is) (in_node row_patched);
+      clean = rw (resolved-node d l row none) (no_region_level l not_free, g.clean);
       alike = subst (λ (y : Tree). AreAlike d (node l row) y) (sym is) (AreAlike-node d l row (children t) none alike);
+      exact = λ n.
+          let at_node : NamesAll region_level u (node l (resolved c (children t))) = subst (λ (y : Tree). NamesAll region_level u y) (ap (resolved c) is ∙ resolved-node c l (children t) none) n in
+          let one : AreOne d row (children t) = rw whole at (g.exact (rw whole at_node.1)) in
+          deeply_resolved-node d l row none ∙ ap (node (rooted_variable d (variable_of l) l)) one ∙ sym (deeply_resolved-node d l (children t) none) ∙ ap (deeply_resolved d) (sym is);
       labels = λ P v p q.
           let parts : TreePasses P (node l (children t)) = subst (λ (y : Tree). TreePasses P y) is q in
           let made = g.labels P v p (rw whole parts.1) in
@@ -566,7 +591,9 @@ gen_known c d x u b t v r k i sv st kt kv same worlds g lower labels =
       named_regions = g.named_regions;
       closed = IsClosedUnder-more 0 b r (omega arith) g.closed;
       patched = infer_patched t r i (g.closed, known_well_bound d r g.knows);
+      clean = g.clean;
       alike = AreAlike-for d r v r t refl one g.alike;
+      exact = λ n. g.exact (subst (λ (y : Tree). NamesAll region_level u y) same n) ∙ sym one;
       labels = λ P f p q. g.labels P f p (labels P p);
       sound = λ w z. (let q = g.sound w z in (q.0, q.1 ∙ sym (worlds w q.0)));
       complete = λ w z names. named_for (λ f n. rw (worlds w z) at n) (g.complete w z (rw (worlds w z) at names));

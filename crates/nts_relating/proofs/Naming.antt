@@ -16,8 +16,9 @@ use Rattle.nts_model.proofs.Fitting.{region_label}
 use Rattle.nts_model.proofs.Roots.{root_of-root}
 use Rattle.nts_model.proofs.Classes.{root_of-with_slot}
 use Rattle.nts_model.specs.Placeholders.{CanName}
-use Rattle.nts_model.specs.Levels.{region_level}
+use Rattle.nts_model.specs.Levels.{NamesAll, region_level}
 use Rattle.nts_model.specs.Worlds.{KnowsAll}
+use Rattle.nts_model.specs.Holding.{AreOne}
 use Rattle.nts_model.proofs.Alike.{AreAlike-turned}
 use Rattle.nts_model.proofs.Bringing.{brings-turned}
 use Rattle.nts_model.proofs.Slots.{slice_get-push_old, slice_get-push_new, slice_get_below, field_below}
@@ -41,7 +42,7 @@ use Rattle.nts_unify.proofs.Changes.{length-slots}
 use Rattle.nts_unify.proofs.Leading.{universe_of-entry}
 use Rattle.nts_unify.proofs.Keeping.{Knows-later}
 use Rattle.nts_unify.proofs.JoinLemmas.{free_slot}
-use Rattle.nts_relating.proofs.RegionLemmas.{IsRegionVariable, region_variable_at, regions_joined, regions_recorded}
+use Rattle.nts_relating.proofs.RegionLemmas.{IsRegionVariable, region_variable_at, regions_one_class, regions_joined, regions_recorded}
 use Rattle.nts_relating.proofs.HeadLemmas.{region_root}
 use Rattle.nts_relating.proofs.GenLemmas.{region_node, gen_named, gen_region, gen_region_root, gen_settled}
 use Rattle.nts_relating.proofs.FreshValues.{gen_fresh, gen_fresh_region, IsAdded, slot_added}
@@ -198,9 +199,9 @@ pub is_fresh : (ts us : List Tree) (e m : Entries) (u : ℕ) (v : Variable) (t :
 is_fresh ts us e m u v t l a b c d f g k h i j =
     record { lawful = a; extends = b; region = c; is = d; meets = f; new = g; alone = k; of_kind = h; of_universe = i; added = j }
 
--- where the two are made equal
-fresh_region_value : (ts us : List Tree) (e m f : Entries) (x u b : ℕ) (t : NodeId) (r : Tree) (l : Label) (v : Variable) → IsFresh ts us e m u v t l → x < length e.variables → RegionsRelate (content_of us m) (content_of us f) (variable_tree kind.Region (length e.variables)) (tree_at us t) → universe_of (content_of us f) x ≡ universe_of (content_of us m) x → universe_of (content_of us f) (length e.variables) ≡ universe_of (content_of us m) (length e.variables) → r ≡ variable_tree kind.Region (length e.variables) → Generalized (content_of ts e) (content_of us f) x u b (tree_at ts t) r
-fresh_region_value ts us e m f x u b t r l v h within related own level q =
+-- where the two are made equal, and one where the universe names the region
+fresh_region_value : (ts us : List Tree) (e m f : Entries) (x u b : ℕ) (t : NodeId) (r : Tree) (l : Label) (v : Variable) → IsFresh ts us e m u v t l → x < length e.variables → RegionsRelate (content_of us m) (content_of us f) (variable_tree kind.Region (length e.variables)) (tree_at us t) → universe_of (content_of us f) x ≡ universe_of (content_of us m) x → universe_of (content_of us f) (length e.variables) ≡ universe_of (content_of us m) (length e.variables) → r ≡ variable_tree kind.Region (length e.variables) → (NamesAll region_level u (tree_at us t) → AreOne (content_of us f) (variable_tree kind.Region (length e.variables)) (tree_at us t)) → Generalized (content_of ts e) (content_of us f) x u b (tree_at ts t) r
+fresh_region_value ts us e m f x u b t r l v h within related own level q one =
     let same = content_of-extended h.extends h.lawful in
     let later = IsLawful-extended h.extends h.lawful in
     let c = content_of us e in
@@ -210,11 +211,12 @@ fresh_region_value ts us e m f x u b t r l v h within related own level q =
     let a = added_in us e m v later h.new h.alone h.added in
     let known : Knows c (tree_at ts t) = rw same h.region.knows in
     let related_here : RegionsRelate (content_of us m) (content_of us f) (variable_tree kind.Region (length c.slots)) (tree_at ts t) = rw (kept, len) at related in
+    let one_here : NamesAll region_level u (tree_at ts t) → AreOne (content_of us f) (variable_tree kind.Region (length c.slots)) (tree_at ts t) = rw (kept, len) at one in
     let below : x < length c.slots = omega (arith, within, len) in
     let u_is : v.universe ≡ u = h.of_universe in
     let universe : universe_of (content_of us f) (length c.slots) ≡ Some u = rw len at level ∙ a.universe ∙ ap Some u_is in
     rw (value, ← same)
-    (gen_fresh_region c (content_of us m) (content_of us f) x u b (slot_of us v) (tree_at ts t) l later.sound h.of_kind below (region_node (tree_at ts t) l h.is h.meets h.region.sort) h.region.sort h.region.free known u_is a related_here own (rw universe (omega arith)))
+    (gen_fresh_region c (content_of us m) (content_of us f) x u b (slot_of us v) (tree_at ts t) l later.sound h.of_kind below (region_node (tree_at ts t) l h.is h.meets h.region.sort) h.region.sort h.region.free known u_is a related_here own (rw universe (omega arith)) one_here)
 
 RegionsRelate-turned : {c d : Content} {a b : Tree} → RegionsRelate c d a b → RegionsRelate c d b a
 RegionsRelate-turned {c} {d} {a} {b} h =
@@ -249,9 +251,9 @@ region_constraint ts us e m t r v h ext region new alone vk em within is =
       regions = rw (is, kept) ((of_variable (length e.variables), refl), region.free);
     }
 
--- .. by a constraint
-pub fresh_recorded : (ts us : List Tree) (e m f : Entries) (x u b : ℕ) (t r : NodeId) (l : Label) (v : Variable) → IsFresh ts us e m u v t l → x < length e.variables → IsLawful us m → IsIn us r → tree_at us r ≡ variable_tree kind.Region (length e.variables) → f ≡ constrained m (record { relation = relation.Equal; left = r; right = t; is_visible = true }) → Generalized (content_of ts e) (content_of us f) x u b (tree_at ts t) (tree_at us r)
-fresh_recorded ts us e m f x u b t r l v h within lawful inside is q =
+-- .. by a constraint, where it does not name it
+pub fresh_recorded : (ts us : List Tree) (e m f : Entries) (x u b : ℕ) (t r : NodeId) (l : Label) (v : Variable) → IsFresh ts us e m u v t l → x < length e.variables → IsLawful us m → IsIn us r → tree_at us r ≡ variable_tree kind.Region (length e.variables) → f ≡ constrained m (record { relation = relation.Equal; left = r; right = t; is_visible = true }) → (CanName u (region_level l) → ⊥) → Generalized (content_of ts e) (content_of us f) x u b (tree_at ts t) (tree_at us r)
+fresh_recorded ts us e m f x u b t r l v h within lawful inside is q beyond =
     let is_constraint = region_constraint ts us e m t r v h.lawful h.extends h.region h.new h.alone h.of_kind h.added inside is in
     let left : IsRegionOf us m r = record { within = inside; knows = is_constraint.left_known; sort = is_constraint.left_sort; free = rw is (of_variable (length e.variables), refl) } in
     let kept = h.extends.kept t h.region.within in
@@ -259,6 +261,7 @@ fresh_recorded ts us e m f x u b t r l v h within lawful inside is q =
     let related = regions_recorded us m f (record { relation = relation.Equal; left = r; right = t; is_visible = true }) lawful left right refl refl q in
     let same : (n : ℕ) → universe_of (content_of us f) n ≡ universe_of (content_of us m) n = λ n. rw q refl in
     fresh_region_value ts us e m f x u b t (tree_at us r) l v h within (rw is at related) (same x) (same (length e.variables)) is
+    (λ n. (let there : NamesAll region_level u (node l (children (tree_at ts t))) = subst (λ (y : Tree). NamesAll region_level u y) (kept ∙ h.is) n in absurd (beyond there.0)))
 
 -- .. by joining the variables
 pub fresh_joined : (ts us : List Tree) (e m f : Entries) (x u b n root : ℕ) (t r : NodeId) (l : Label) (v : Variable) → IsFresh ts us e m u v t l → x < length e.variables → kind_at (content_of ts e) x ≢ Some kind.Region → region_variable l ≡ Some n → IsRoot e n root → IsLawful us m → tree_at us r ≡ variable_tree kind.Region (length e.variables) → RegionsJoin us m f root (length e.variables) → Generalized (content_of ts e) (content_of us f) x u b (tree_at ts t) (tree_at us r)
@@ -279,12 +282,13 @@ fresh_joined ts us e m f x u b n root t r l v h within other i leads lawful is j
     let state : state_of d fresh ≡ Some unset = rw (← len) at a.state in
     let second : IsRegionVariable d (variable_tree kind.Region fresh) fresh fresh = record { is = refl; knows = ((has, tt, refl), tt, tt); root = root_of-root d fresh (rw state tt); tree = λ w z. refl } in
     let related = RegionsRelate-turned (regions_joined us m f (tree_at us t) (variable_tree kind.Region fresh) n fresh root fresh lawful first second j) in
+    let one = regions_one_class us m f (tree_at us t) (variable_tree kind.Region fresh) n fresh root fresh lawful first second j in
     let f0 = free_slot us e root kind.Region (region_root us e (tree_at ts t) l n root later knows h.is i leads) in
     let below : root < length c.slots = field_below (λ z. z.kind) c root kind.Region f0.kind in
     let low : min root fresh ≡ root = omega (arith, below, len) in
     let apart : x ≡ min root fresh → ⊥ = λ q. other (ap (λ (z : Content). kind_at z x) (sym same) ∙ ap (kind_at c) (q ∙ low) ∙ f0.kind) in
     let new_apart : fresh ≡ min root fresh → ⊥ = λ q. omega (arith, q, low, below, len) in
-    fresh_region_value ts us e m f x u b t (tree_at us r) l v h within related (j.one.universes x apart) (j.one.universes fresh new_apart) is
+    fresh_region_value ts us e m f x u b t (tree_at us r) l v h within related (j.one.universes x apart) (j.one.universes fresh new_apart) is (λ z. sym one)
 
 -- a term that stays: it has neither variables nor placeholders, and is closed
 pub settled_value : (c : Content) (x u b : ℕ) (t : Tree) (flags : TypeFlags) → IsSound c → Knows c t → flags ≡ flags_of t → IsSettled flags b → Generalized c c x u b t t

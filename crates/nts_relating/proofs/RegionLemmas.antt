@@ -131,9 +131,9 @@ to_sides f x y e = ⊎_elim
     (λ (l : x < y). let p : min x y ≡ x = omega arith in let q : max x y ≡ y = omega arith in rw (p, q) e)
     (λ (l : y ≤ x). let p : min x y ≡ y = omega arith in let q : max x y ≡ x = omega arith in rw (p, q) (sym e)) (cases_lt x y)
 
--- of two classes, which become one
-pub regions_joined : (ts : List Tree) (e f : Entries) (a b : Tree) (x y r s : ℕ) → IsLawful ts e → IsRegionVariable (content_of ts e) a x r → IsRegionVariable (content_of ts e) b y s → RegionsJoin ts e f r s → RegionsRelate (content_of ts e) (content_of ts f) a b
-regions_joined ts e f a b x y r s h va vb j =
+-- of two classes, which become one: so do the regions
+pub regions_one_class : (ts : List Tree) (e f : Entries) (a b : Tree) (x y r s : ℕ) → IsLawful ts e → IsRegionVariable (content_of ts e) a x r → IsRegionVariable (content_of ts e) b y s → RegionsJoin ts e f r s → AreOne (content_of ts f) a b
+regions_one_class ts e f a b x y r s h va vb j =
     let c = content_of ts e in
     let d = content_of ts f in
     let one = j.one in
@@ -143,7 +143,19 @@ regions_joined ts e f a b x y r s h va vb j =
     let kb : Knows c (variable_tree kind.Region y) = subst (λ (t : Tree). Knows c t) vb.is vb.knows in
     let first : AreOne d (variable_tree kind.Region x) (variable_tree kind.Region r) = region_root_one c d x r h.sound va.root one ka in
     let second : AreOne d (variable_tree kind.Region y) (variable_tree kind.Region s) = region_root_one c d y s h.sound vb.root one kb in
-    let all : AreOne d a b = rw (va.is, vb.is) (first ∙ both ∙ sym second) in
+    rw (va.is, vb.is) (first ∙ both ∙ sym second)
+  where
+    region_root_one : (c d : Content) (n m : ℕ) → IsSound c → root_of c n ≡ m → IsOneClass c d (min r s) (max r s) → Knows c (variable_tree kind.Region n) → AreOne d (variable_tree kind.Region n) (variable_tree kind.Region m)
+    region_root_one c d n m z q one k =
+        let there : kind_at c m ≡ Some kind.Region = rw (← q) (kind_at-root_of c n z ∙ k.0.0) in
+        AreOne-continues c d (variable_tree kind.Region n) (variable_tree kind.Region m) one.continues k ((there, tt, refl), tt, tt)
+        (regions-one c n m (sym (root_of-root_of c n z.descends) ∙ ap (root_of c) q))
+
+pub regions_joined : (ts : List Tree) (e f : Entries) (a b : Tree) (x y r s : ℕ) → IsLawful ts e → IsRegionVariable (content_of ts e) a x r → IsRegionVariable (content_of ts e) b y s → RegionsJoin ts e f r s → RegionsRelate (content_of ts e) (content_of ts f) a b
+regions_joined ts e f a b x y r s h va vb j =
+    let c = content_of ts e in
+    let d = content_of ts f in
+    let one = j.one in
     record {
       keeps = j.keeps;
       continues = one.continues;
@@ -152,15 +164,9 @@ regions_joined ts e f a b x y r s h va vb j =
         complete = λ w z q. one.narrows.complete w z (to_sides w.tree r s (sym (inst-is w c a x r va z) ∙ q ∙ inst-is w c b y s vb z));
         names = λ f w z k q. one.narrows.names f w z k (to_sides w.tree r s (sym (inst-is w c a x r va z) ∙ q ∙ inst-is w c b y s vb z));
       };
-      alike = AreAlike-one d a b all;
+      alike = AreAlike-one d a b (regions_one_class ts e f a b x y r s h va vb j);
       brings = brings-of a b j.brings;
     }
-  where
-    region_root_one : (c d : Content) (n m : ℕ) → IsSound c → root_of c n ≡ m → IsOneClass c d (min r s) (max r s) → Knows c (variable_tree kind.Region n) → AreOne d (variable_tree kind.Region n) (variable_tree kind.Region m)
-    region_root_one c d n m z q one k =
-        let there : kind_at c m ≡ Some kind.Region = rw (← q) (kind_at-root_of c n z ∙ k.0.0) in
-        AreOne-continues c d (variable_tree kind.Region n) (variable_tree kind.Region m) one.continues k ((there, tt, refl), tt, tt)
-        (regions-one c n m (sym (root_of-root_of c n z.descends) ∙ ap (root_of c) q))
 
 -- of which it is recorded
 pub regions_recorded : (ts : List Tree) (e f : Entries) (x : Constraint) → IsLawful ts e → IsRegionOf ts e x.left → IsRegionOf ts e x.right → x.relation ≡ relation.Equal → x.is_visible ≡ true → f ≡ constrained e x → RegionsRelate (content_of ts e) (content_of ts f) (tree_at ts x.left) (tree_at ts x.right)

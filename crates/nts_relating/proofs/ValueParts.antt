@@ -11,7 +11,7 @@ use Rattle.nts_model.proofs.Instances.{inst-node, inst-agrees, Agrees-trans}
 use Rattle.nts_model.proofs.Fitting.{IsClosed-inst}
 use Rattle.nts_model.proofs.Levelled.{NamesAll-falls}
 use Rattle.nts_model.proofs.Refuting.{closed-node}
-use Rattle.nts_model.proofs.Held.{Continues-refl, Continues-trans}
+use Rattle.nts_model.proofs.Held.{AreOne-continues, Continues-refl, Continues-trans}
 use Rattle.nts_model.proofs.Alike.{AreAlike-continues}
 use Rattle.nts_model.proofs.Resolved.{Knows-row_at, flag_le}
 use Rattle.nts_model.proofs.Bringing.{passes-before, passes-row_at, passes-children}
@@ -146,8 +146,8 @@ grows_by {c} {d} s p g =
       complete = λ w z names. named_for (λ f n. p.names f w z n) (g.complete w z (p.names term_level w z names));
     }
 
-pub stands_now : {c d : Content} {x u b : ℕ} {t r : Tree} → IsSound c → IsSound d → Generalized c d x u b t r → Generalized d d x u b t r
-stands_now {c} {d} {x} {u} {b} {t} {r} before s g =
+pub stands_now : {c d : Content} {x u b : ℕ} {t r : Tree} → IsSound c → IsSound d → Knows c t → Generalized c d x u b t r → Generalized d d x u b t r
+stands_now {c} {d} {x} {u} {b} {t} {r} before s k g =
     record {
       keeps = Keeps-refl d;
       knows = g.knows;
@@ -161,7 +161,9 @@ stands_now {c} {d} {x} {u} {b} {t} {r} before s g =
       named_regions = g.named_regions;
       closed = g.closed;
       patched = g.patched;
+      clean = g.clean;
       alike = g.alike;
+      exact = λ n. g.exact (rw (g.keeps.trees t k) at n);
       labels = λ P v p q. (p, (g.labels P v (passes-before (λ z. P z ≡ true) c d (λ n t e. values_kept before g.keeps n t e) g.continues p) q).1);
       sound = λ w z. (z, (g.sound w z).1);
       complete = λ w z q. unchanged d w z;
@@ -183,14 +185,16 @@ stands_later {c} {d} {x} {u} {b} {whole} {t} {r} fair s k h g =
       named_regions = g.named_regions;
       closed = g.closed;
       patched = g.patched;
+      clean = rw old g.clean;
       alike = AreAlike-continues c d r t fair.sound s h.continues fair.sides g.knows k g.alike;
+      exact = λ n. AreOne-continues c d r t h.continues g.knows k (g.exact (rw (h.keeps.trees t k) at n));
       labels = λ P v p q. (p, (g.labels P v (h.labels_before P p) q).1);
       sound = λ w z. (z, (g.sound w (h.sound w z)).1);
       complete = λ w z q. unchanged d w z;
     }
 
-pub stands_whole : {c d : Content} {x u b : ℕ} {t r : Tree} → WalkGrows c d x u t → Generalized d d x u b t r → Generalized c d x u b t r
-stands_whole h g =
+pub stands_whole : {c d : Content} {x u b : ℕ} {t r : Tree} → Knows c t → WalkGrows c d x u t → Generalized d d x u b t r → Generalized c d x u b t r
+stands_whole {t = t} k h g =
     record {
       keeps = h.keeps;
       knows = g.knows;
@@ -204,7 +208,9 @@ stands_whole h g =
       named_regions = g.named_regions;
       closed = g.closed;
       patched = g.patched;
+      clean = g.clean;
       alike = g.alike;
+      exact = λ n. g.exact (rw (h.keeps.trees t k) n);
       labels = λ P v p q. let later = h.labels P v p q in (later, (g.labels P v later q).1);
       sound = λ w z. (h.sound w z, (g.sound w z).1);
       complete = λ w z names. h.complete w z names;

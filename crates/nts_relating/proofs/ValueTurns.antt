@@ -70,7 +70,7 @@ turn_done ts us e f x u root p xs y m n r w is ext law made_in g more =
       within = IsIn-extended ext p.term part.within;
       made_in = made_in;
       knows = rw at (Knows-later (tree_at ts p.term) grows.keeps.later part.part.knows);
-      stands = rw at (stands_now w.lawful.sound law.sound g);
+      stands = rw at (stands_now w.lawful.sound law.sound part.part.knows g);
     } in
     let fair : IsFair c = record { sound = w.lawful.sound; sides = lawful_sides ts e w.lawful } in
     record {
@@ -223,11 +223,11 @@ walk_start ts e x u root ys m law known named no_region within knows room none i
     })
 
 -- the whole loop
-pub walk_end : (ts us : List Tree) (e f : Entries) (x u : ℕ) (root : Part) (xs : List Task) (m : Part → Option NodeId) (r : NodeId) → Extends ts us → IsIn ts root.term → WalkGrows (content_of ts e) (content_of us f) x u (tree_at ts root.term) → IsWalk us f x u root xs m → m root ≡ Some r
+pub walk_end : (ts us : List Tree) (e f : Entries) (x u : ℕ) (root : Part) (xs : List Task) (m : Part → Option NodeId) (r : NodeId) → Extends ts us → IsIn ts root.term → Knows (content_of ts e) (tree_at ts root.term) → WalkGrows (content_of ts e) (content_of us f) x u (tree_at ts root.term) → IsWalk us f x u root xs m → m root ≡ Some r
     → Generalized (content_of ts e) (content_of us f) x u root.binders (tree_at ts root.term) (tree_at us r)
-walk_end ts us e f x u root xs m r ext within g w found =
+walk_end ts us e f x u root xs m r ext within knows g w found =
     let old = w.made root r found in
-    stands_whole g (rw (ext.kept root.term within) at old.stands)
+    stands_whole knows g (rw (ext.kept root.term within) at old.stands)
 
 pub walk_grows : (ts us vs : List Tree) (e f g : Entries) (x u : ℕ) (root : Part) → IsSound (content_of ts e) → Knows (content_of ts e) (tree_at ts root.term) → Extends ts us → IsIn ts root.term → WalkGrows (content_of ts e) (content_of us f) x u (tree_at ts root.term) → WalkGrows (content_of us f) (content_of vs g) x u (tree_at us root.term)
     → WalkGrows (content_of ts e) (content_of vs g) x u (tree_at ts root.term)

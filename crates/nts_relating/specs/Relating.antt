@@ -7,7 +7,7 @@ use Rattle.nts_model.specs.declared.labels.Label.{Label}
 use Rattle.nts_model.specs.Trees.{Tree, empty, more, node, size, kind_of, kind_of_label, of_sort, row_length, IsClosedUnder}
 use Rattle.nts_model.specs.Patching.{IsPatched}
 use Rattle.nts_model.specs.Contents.{Content, unset, state_of, universe_of, kind_at}
-use Rattle.nts_model.specs.Resolving.{Knows, IsInfer, Lacks, resolved, variable_tree, variable_flag, variable_rank}
+use Rattle.nts_model.specs.Resolving.{Knows, IsInfer, Lacks, resolved, deeply_resolved, variable_tree, variable_flag, variable_rank}
 use Rattle.nts_model.specs.Levels.{NamesAll, level_in, term_level, region_level}
 use Rattle.nts_model.specs.Fitting.{Fits}
 use Rattle.nts_model.specs.Passing.{PassesVariables, TreePasses, TablePasses, BringsLabelsOf, BringsNoLabels}
@@ -48,7 +48,8 @@ pub record IsSettled (flags : TypeFlags) (binders : ℕ) : Type 0 where
   pub no_placeholder : flags.has_placeholder ≡ false
   pub escaping : StaysBelow flags.escaping binders
 
--- the tree r stands for t in the value of the variable x, which the universe u bounds, under b binders
+-- the tree r stands for t in the value of the variable x, which the universe u bounds, under b binders. No region beyond u is in r
+-- under the table's values; where none was in t, the two are one, and else they are one up to regions
 pub record Generalized (c d : Content) (x u b : ℕ) (t r : Tree) : Type 0 where
   pub keeps : Keeps c d
   pub knows : Knows d r
@@ -62,7 +63,9 @@ pub record Generalized (c d : Content) (x u b : ℕ) (t r : Tree) : Type 0 where
   pub named_regions : NamesAll region_level u r
   pub closed : IsClosedUnder b r
   pub patched : IsPatched t r
+  pub clean : NamesAll region_level u (resolved d r)
   pub alike : AreAlike d r t
+  pub exact : NamesAll region_level u (resolved c t) → deeply_resolved d r ≡ deeply_resolved d t
   pub labels : (P : Label → Bool) → PassesVariables P → TablePasses P c → TreePasses P t → TablePasses P d × TreePasses P r
   pub sound : (w : World) → Solves d w → Solves c w × (inst w r ≡ inst w t)
   pub complete : (w : World) → Solves c w → NamesAll term_level u (inst w t) → ExtensionIf c d w (λ f. NamesAll f u (inst w t))
@@ -121,12 +124,13 @@ pub record RegionsRelate (c d : Content) (a b : Tree) : Type 0 where
   pub alike : AreAlike d a b
   pub brings : BringsLabelsOf c d a b
 
--- a variable got a value, or was joined with another
+-- a variable got a value for the tree t: the two are one where the variable's universe names each region in t, and else one up to regions
 pub record IsSet (c d : Content) (x : ℕ) (t : Tree) : Type 0 where
   pub later : IsLater c d
   pub fewer : unset_count d.slots < unset_count c.slots
   pub continues : Continues c d
   pub alike : (k : VariableKind) → kind_at c x ≡ Some k → AreAlike d (variable_tree k x) t
+  pub exact : (u : ℕ) (k : VariableKind) → universe_of c x ≡ Some u → kind_at c x ≡ Some k → NamesAll region_level u (resolved c t) → deeply_resolved d (variable_tree k x) ≡ deeply_resolved d t
   pub brings : BringsLabelsOf c d t empty
   pub ties : TiesNew c d
   pub sound : (w : World) → Solves d w → Solves c w × (w.tree x ≡ inst w t)

@@ -14,7 +14,7 @@ ghost use Rattle.nts_relating.specs.Relating.{IsHead, IsClosedHead, IsRegionOf, 
 ghost use Rattle.nts_store.specs.declared.fault.EvalError.TheVariants.{NoSolution};
 ghost use Rattle.nts_unify.specs.Entries.{KeepsHidden};
 
-use crate::generalize::{Target, name_variable};
+use crate::value_leaves::{Target, name_variable};
 use crate::value_walk::generalize;
 use indexmap::IndexSet;
 use nts_model::{Label, Leaf, Relation};
@@ -166,8 +166,17 @@ fn bind_variable(
     }
 }
 
-/// Gives a variable without value a value that stands for the term.
-fn bind(
+/// Gives a variable that has no value, and is no region, a value that stands for the term: for calls
+/// that relate terms and come to a variable on one side. The term is no inference variable, but may be
+/// a region's: in place of a variable the caller passes what it stands for.
+///
+/// Afterwards the table has the solutions that it had and in which the variable and the term are
+/// equal. Under the table they are one where the variable's universe names each region of the term,
+/// and else one up to regions that the table holds equal. It is `NoSolution` where no solution makes
+/// them equal: the kinds differ, the variable occurs in the term, or the term has a placeholder that
+/// the universe cannot name; and it is `Memory` where a growth was refused. After an error the table
+/// may have grown: the caller goes back to a snapshot.
+pub fn bind(
     alloc: Global,
     nodes: &mut Nodes,
     table: &mut InferCtxtInner,

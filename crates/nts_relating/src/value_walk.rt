@@ -11,7 +11,7 @@ ghost use Rattle.nts_relating.specs.Relating.{Generalized, Blocks};
 ghost use Rattle.nts_relating.specs.Parts.{IsLook, IsEntered, IsWalk, IsTurn, Has, made_at, inner};
 ghost use Rattle.nts_unify.specs.Entries.{KeepsHidden};
 
-use crate::generalize::{Target, is_allowed, is_settled, name_region, name_variable};
+use crate::value_leaves::{Target, is_allowed, is_settled, name_region, name_variable};
 use indexmap::IndexSet;
 use nts_store::{EvalError, NodeId, Nodes, binders_of};
 use nts_unify::{InferCtxtInner, infer_number, names_free_region};
@@ -240,8 +240,20 @@ fn step(
     }
 }
 
-/// A value for the target's variable that stands for the term: in it are leaves that the target's
-/// universe names alone, and not the variable.
+/// A value for the target's variable that stands for the term, where the variable is to be bound to
+/// it, as `bind` does, or to a term that is made of it. In the value are leaves that the target's
+/// universe names alone, and not the variable: a variable or a placeholder region that the universe
+/// cannot name has a fresh variable in its place, which is joined with it or recorded as equal to it.
+///
+/// Afterwards the table has the solutions that it had in which the universe names the term, and no
+/// others but such as it had. Where the universe names each region of the term under the table, the
+/// value is one with the term, and else one up to regions that the table holds equal.
+///
+/// It is `NoSolution` where the variable occurs in the term, or a placeholder that is no region and
+/// that the universe cannot name, or a bound variable that passes the binders: so in each solution in
+/// which the universe names the term and the binders close it, the variable is smaller than the term,
+/// or no larger where the term is a variable. It is `Memory` where a growth was refused. After an
+/// error the table may have grown: the caller goes back to a snapshot.
 pub fn generalize(
     alloc: Global,
     nodes: &mut Nodes,

@@ -1,4 +1,3 @@
-use Rattle.std.proofs.Common.{◌≡◌}
 use Rattle.nts_store.specs.Growth.{Extends}
 use Rattle.nts_unify.specs.Reading.{content_of}
 use Rattle.nts_relating.specs.Relating.{pairs_at, total, IsValid, IsMemo, Running}

@@ -47,4 +47,4 @@ returns-clause-within c =
 pub returns-clause-generalized : goal.returns-clause-generalized
 returns-clause-generalized c =
     let i = c.loop-task.invariant in
-    walk_end c.args.nodes.now c.loop-task.nodes c.args.table.now.entries c.loop-task.table.entries c.args.target.variable c.args.target.universe (record { term = c.args.t; binders = c.args.target.binders }) c.loop-task.walk.tasks.items (made_at c.loop-task.walk.made) c.made_for.result i.extends c.requires.within i.grows i.walk c.made_for.ensures
+    walk_end c.args.nodes.now c.loop-task.nodes c.args.table.now.entries c.loop-task.table.entries c.args.target.variable c.args.target.universe (record { term = c.args.t; binders = c.args.target.binders }) c.loop-task.walk.tasks.items (made_at c.loop-task.walk.made) c.made_for.result i.extends c.requires.within c.requires.knows i.grows i.walk c.made_for.ensures

@@ -2,7 +2,7 @@ use Rattle.std.proofs.Common.{refl, sym}
 use Rattle.nts_unify.specs.Lawful.{IsLawful-extended, IsLawful-constrained}
 use Rattle.nts_relating.proofs.HeadLemmas.{region_root}
 use Rattle.nts_relating.proofs.Naming.{is_fresh, root_value, region_value, can_join_fresh_region, fresh_joined, fresh_recorded, region_constraint}
-use Rattle.nts_relating.proofs.generalize.name_region.Goals as goal
+use Rattle.nts_relating.proofs.value_leaves.name_region.Goals as goal
 
 pub returns-then-not-contains-clause-lawful : goal.returns-then-not-contains-clause-lawful
 returns-then-not-contains-clause-lawful c = IsLawful-extended c.in_ok-make.ensures.extends c.requires.lawful
@@ -22,7 +22,7 @@ returns-in-Some-clause-generalized c =
 
 pub returns-then-not-is_beyond-clause-generalized : goal.returns-then-not-is_beyond-clause-generalized
 returns-then-not-is_beyond-clause-generalized c =
-    region_value c.args.nodes.now c.args.table.now.entries c.args.target.variable c.args.target.universe c.args.target.binders c.args.t c.label-label.result c.requires.lawful c.requires.region c.label-label.ensures.is c.label-label.ensures.formed (sym c.in_default.ensures) (c.is_beyond.ensures c.if-not-is_beyond.true)
+    region_value c.args.nodes.now c.args.table.now.entries c.args.target.variable c.args.target.universe c.args.target.binders c.args.t c.label-label.result c.requires.lawful c.requires.region c.label-label.ensures.is c.label-label.ensures.formed (sym c.in_default.ensures) (c.is_beyond.ensures.named c.if-not-is_beyond.true)
 
 pub returns-clause-lawful : goal.returns-clause-lawful
 returns-clause-lawful c =
@@ -32,4 +32,4 @@ returns-clause-lawful c =
 pub returns-clause-generalized : goal.returns-clause-generalized
 returns-clause-generalized c =
     let fresh = is_fresh c.args.nodes.now c.add_variable-2.new.nodes c.args.table.now.entries c.add_variable-2.new.table.entries c.args.target.universe _ c.args.t c.label-label.result c.requires.lawful c.in_ok-fresh-2.ensures.extends c.requires.region c.label-label.ensures.is c.label-label.ensures.formed (record { state = refl; universe = c.requires.named; sub_link = λ m q. cc }) refl refl refl c.in_ok-fresh-2.ensures.entries in
-    fresh_recorded c.args.nodes.now c.add_variable-2.new.nodes c.args.table.now.entries c.add_variable-2.new.table.entries c.constrain.new.self.entries c.args.target.variable c.args.target.universe c.args.target.binders c.args.t c.in_ok-fresh-2.fresh c.label-label.result _ fresh c.requires.known (c.in_ok-fresh-2.ensures.lawful c.requires.lawful) c.in_ok-fresh-2.ensures.within c.in_ok-fresh-2.ensures.tree c.in_ok-constrain.ensures.entries
+    fresh_recorded c.args.nodes.now c.add_variable-2.new.nodes c.args.table.now.entries c.add_variable-2.new.table.entries c.constrain.new.self.entries c.args.target.variable c.args.target.universe c.args.target.binders c.args.t c.in_ok-fresh-2.fresh c.label-label.result _ fresh c.requires.known (c.in_ok-fresh-2.ensures.lawful c.requires.lawful) c.in_ok-fresh-2.ensures.within c.in_ok-fresh-2.ensures.tree c.in_ok-constrain.ensures.entries (c.is_beyond.ensures.beyond c.if-not-is_beyond.false)

@@ -4,7 +4,7 @@ use Rattle.nts_unify.specs.declared.contents.State.TheVariants.{Unset}
 use Rattle.nts_unify.specs.Reading.{IsLawful}
 use Rattle.nts_unify.specs.Lawful.{IsNew, IsLawful-extended, IsLawful-added}
 use Rattle.nts_relating.proofs.Naming.{named_value, can_join_fresh, fresh_value}
-use Rattle.nts_relating.proofs.generalize.name_variable.Goals as goal
+use Rattle.nts_relating.proofs.value_leaves.name_variable.Goals as goal
 
 pub returns-then-not-contains-clause-lawful : goal.returns-then-not-contains-clause-lawful
 returns-then-not-contains-clause-lawful c = IsLawful-extended c.in_ok-make.ensures.extends c.requires.lawful

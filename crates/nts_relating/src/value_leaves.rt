@@ -18,7 +18,7 @@ use nts_terms::UniverseIndex;
 use nts_unify::{Constraint, InferCtxtInner, add_variable, join, join_regions, region_number};
 
 /// What a value is made for: a variable, the universe that bounds its leaves, and how many binders
-/// stand around the part that is walked.
+/// stand around the part that is walked. A value that is closed is made under none.
 #[derive(Clone, Copy)]
 pub struct Target {
     pub variable: usize,
@@ -142,7 +142,8 @@ pub fn name_region(
 
 /// Whether a label is a placeholder region that the universe cannot name.
 fn is_beyond(label: Label, universe: UniverseIndex) -> bool
-    ensures { result ≡ false → CanName universe (region_level label) }
+    ensures named { result ≡ false → CanName universe (region_level label) }
+    ensures beyond { result ≡ true → CanName universe (region_level label) → ⊥ }
 {
     match label {
         Label::Leaf(Leaf::Region(FreeRegion::Placeholder(u, _))) => universe < u,
