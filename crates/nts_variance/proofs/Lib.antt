@@ -1,0 +1,16 @@
+mod Growing
+mod Clean
+mod Likeness
+mod Nodes
+mod Pairs
+mod Runs
+mod Turns
+mod Leaves
+mod PartLemmas
+mod VaryTurns
+mod Refusing
+mod Owing
+mod Pushing
+mod Pieces
+mod Looks
+mod Bound

@@ -1,0 +1,6 @@
+pub mod Pairs
+pub mod Steps
+pub mod Walking
+pub mod Parts
+pub mod Terms
+pub mod Varying
