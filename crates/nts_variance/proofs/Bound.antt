@@ -154,7 +154,7 @@ placed_back w b l c (Some v) e f under h =
     let alone : c ≡ empty = no_children c g.0 in
     rw (is, alone) (tt, tt)
 
-closed_back : (w : World) (b : ℕ) (t : Tree) → IsFormed t → IsClosedUnder b (inst w t) → IsClosedUnder b t
+pub closed_back : (w : World) (b : ℕ) (t : Tree) → IsFormed t → IsClosedUnder b (inst w t) → IsClosedUnder b t
 closed_back w b empty f h = tt
 closed_back w b (more x y) f h = (closed_back w b x f.0 h.0, closed_back w b y f.1 h.1)
 closed_back w b (node l c) f h = placed_back w b l c (variable_of l) refl f (closed_back w (b + binders l) c f.1) h

@@ -275,7 +275,7 @@ value_of_kind kind.Float e t sorted closed formed = ⊎_elim (λ p. cc) (λ p. c
 value_of_kind kind.Region e t sorted closed formed = ⊎_elim (λ p. cc) (λ p. cc) e
 
 -- what is said of a pair of regions: it is recorded between closed terms, holds once it is recorded, and is met where the pair settles
-owed_seen : (v : Variance) (a b : Tree) → IsClosed a → IsClosed b → IsSeen (owed v a b)
+pub owed_seen : (v : Variance) (a b : Tree) → IsClosed a → IsClosed b → IsSeen (owed v a b)
 owed_seen variance.Invariant a b p q = record { visible = refl; left = p; right = q }
 owed_seen variance.Covariant a b p q = record { visible = refl; left = p; right = q }
 owed_seen variance.Contravariant a b p q = record { visible = refl; left = q; right = p }
@@ -292,7 +292,7 @@ owed_held f v a b sound found =
     by_variance variance.Covariant found left right = record { constraint = owed variance.Covariant a b; found = found; same_relation = refl; same_sides = (left, right) }
     by_variance variance.Contravariant found left right = record { constraint = owed variance.Contravariant a b; found = found; same_relation = refl; same_sides = (right, left) }
 
-owed_related : (declared : ℕ → List Variance) (f : Content) (ks : List Tree) (v : Variance) (a b : Tree) → IsSound f → IsRegion a → IsRegion b → Contains f.constraints (owed v a b) → RelatedTrees declared f ks v (deeply_resolved f a) (deeply_resolved f b)
+pub owed_related : (declared : ℕ → List Variance) (f : Content) (ks : List Tree) (v : Variance) (a b : Tree) → IsSound f → IsRegion a → IsRegion b → Contains f.constraints (owed v a b) → RelatedTrees declared f ks v (deeply_resolved f a) (deeply_resolved f b)
 owed_related declared f ks v a b sound i j found = regions (IsRegion-deeply_resolved f a i) (IsRegion-deeply_resolved f b j) (owed_held f v a b sound found)
 
 owed_settled : (J : Judging) → IsLawfulJudging J → (w : World) → IsJudgedBy J w → (v : Variance) (a b : Tree) → IsRegion (inst w a) → IsRegion (inst w b) → Settles J v (inst w a) (inst w b) → IsMet w (owed v a b)

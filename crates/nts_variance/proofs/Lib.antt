@@ -14,3 +14,10 @@ mod Pushing
 mod Pieces
 mod Looks
 mod Bound
+mod Takes
+mod Refusals
+mod Sides
+mod Pairing
+mod Underway
+mod Calls
+mod MetGoals

@@ -140,7 +140,7 @@ fresh_at declared z u x ts us e f s r gs hs k o below sort lawful later ext part
     }
 
 -- a fresh region
-recorded_by : (us : List Tree) (z : Bool) (v : Variance) (r t : NodeId) → recorded_of us (constraint_of (pair_in z v r t)) ≡ owed_by z v (tree_at us r) (tree_at us t)
+pub recorded_by : (us : List Tree) (z : Bool) (v : Variance) (r t : NodeId) → recorded_of us (constraint_of (pair_in z v r t)) ≡ owed_by z v (tree_at us r) (tree_at us t)
 recorded_by us false variance.Invariant r t = refl
 recorded_by us false variance.Covariant r t = refl
 recorded_by us false variance.Contravariant r t = refl
@@ -300,7 +300,7 @@ pub made_again : (t : Tree) (l : Label) → t ≡ node l (children t) → IsForm
 made_again t l is formed p e = subst IsMadeAgain (sym is) (again_at l (children t) (subst IsFormed is formed) p (subst (λ x. closed_alias l (escaping x) ≡ false) is e))
 
 -- what has variables, and is none, has parts
-bare : (l : Label) (s : Sort) → kind_of_label l ≡ of_sort s → has_parts l ≡ false → shape l ≡ in_order []
+pub bare : (l : Label) (s : Sort) → kind_of_label l ≡ of_sort s → has_parts l ≡ false → shape l ≡ in_order []
 bare (label.Leaf x) s k e = refl
 bare (label.Bound a i n) s k e = refl
 bare (label.Ty (ty.Ctor i)) s k e = cc

@@ -35,7 +35,7 @@ use Rattle.nts_relating.proofs.Looking.{row_from-end, row_from-step}
 use Rattle.nts_variance.specs.Steps.{Step, enter, entering, part_place}
 use Rattle.nts_variance.specs.Parts.{has_parts, form_of, parts_of, function_variance, variance_in, variances_from, IsNodeWithParts}
 
-rest_from : (i : ℕ) (ws : List Variance) → rest_variances (variances_from i ws) ≡ variances_from (i + 1) ws
+pub rest_from : (i : ℕ) (ws : List Variance) → rest_variances (variances_from i ws) ≡ variances_from (i + 1) ws
 rest_from zero ws = refl
 rest_from (suc i) ws = let e : suc i + 1 ≡ suc (i + 1) = omega arith in rw e (rest_from i (rest_variances ws))
 

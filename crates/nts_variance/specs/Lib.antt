@@ -4,3 +4,4 @@ pub mod Walking
 pub mod Parts
 pub mod Terms
 pub mod Varying
+pub mod Taking

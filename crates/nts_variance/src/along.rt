@@ -23,7 +23,7 @@ use nts_unify::InferCtxtInner;
 use std::alloc::Global;
 
 /// Two terms that are to be related by a variance: the goal of a pair.
-#[derive(Clone, Copy)]
+#[derive(Clone, Copy, PartialEq, Eq, Hash)]
 pub struct Relating {
     pub variance: Variance,
     pub left: NodeId,

@@ -1,11 +1,13 @@
-//! Relating by a variance: a variable is made one with a term that stands for another. What rests on aliases, or on type
-//! variables that may vary, is left as goals.
+//! Relating by a variance: two terms are related pair by pair, and a variable is made one with a term that stands for another. What
+//! rests on aliases, or on type variables that may vary, is left as goals.
 #![tactic(auto)]
 
 mod along;
 mod parts;
+mod splitting;
 mod variance;
 mod vary_walk;
 
 pub use along::{Relating, Side, bind_along};
+pub use splitting::{Left, relate_along};
 pub use vary_walk::{Target, Varied, vary};

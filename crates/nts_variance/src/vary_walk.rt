@@ -90,7 +90,7 @@ pub struct Varied {
 }
 
 /// Whether the node is an alias that no escaping bound variable keeps as it is.
-fn is_closed_alias(label: Label, flags: TypeFlags) -> bool
+pub fn is_closed_alias(label: Label, flags: TypeFlags) -> bool
     ensures { result ≡ closed_alias label flags.escaping }
 {
     let is_alias = matches!(
@@ -176,7 +176,7 @@ fn make_region(
 }
 
 /// Records what a pair of free regions says.
-fn record_regions(table: &mut InferCtxtInner, pair: Relating) -> Result<(), EvalError>
+pub fn record_regions(table: &mut InferCtxtInner, pair: Relating) -> Result<(), EvalError>
     ensures entries { OnOk result (table.new.entries ≡ constrained table.old.entries (constraint_of pair)) }
     ensures changes { KeepsHidden table.old table.new }
     ensures err { OnErr result (table.new ≡ table.old) }
@@ -253,7 +253,7 @@ fn look_at_variable(
 }
 
 /// The number of a type variable.
-fn type_number(label: Label) -> Option<usize>
+pub fn type_number(label: Label) -> Option<usize>
     ensures { result ≡ number_of_type label }
 {
     match label {

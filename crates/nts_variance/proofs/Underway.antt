@@ -1,0 +1,171 @@
+-- A call of relating under way: pairs that are taken, and those that were met before and are passed over.
+use Rattle.std.proofs.Common.{ℕ, false, List, [], ◌∷◌, ◌++◌}
+use Rattle.nts_model.specs.declared.labels.Variance.{Variance}
+use Rattle.nts_model.specs.Contents.{Content}
+use Rattle.nts_model.specs.Trees.{Tree}
+use Rattle.nts_model.specs.Resolving.{IsSound}
+use Rattle.nts_model.specs.Worlds.{World}
+use Rattle.nts_model.specs.Holding.{Continues}
+use Rattle.nts_model.specs.Sequents.{Among}
+use Rattle.nts_model.specs.Relations.{Relating, AllSettleIn, AllKnown}
+use Rattle.nts_model.specs.AnsweredGoals.{AllRelatedUnder}
+use Rattle.nts_model.specs.Leaving.{Judge, judging_of}
+use Rattle.nts_model.proofs.Generalizing.{settle_joined, settle_parted}
+use Rattle.nts_model.proofs.Held.{Continues-refl, Continues-trans}
+use Rattle.nts_model.proofs.Leaving.{leaves_goal}
+use Rattle.nts_model.proofs.Meeting.{All, AllBelow, AreSmaller, AreMet, met_taken, met_again, met_passed}
+use Rattle.nts_variance.specs.Pairs.{Leaves, Refuses}
+use Rattle.nts_variance.specs.Taking.{Takes, Sense, HoldsIn, AllHoldIn, size_in, HoldBelow, Counts, IsUnderway}
+use Rattle.nts_variance.proofs.Growing.{grown_refl, grown_trans}
+use Rattle.nts_variance.proofs.Nodes.{answered_sides}
+use Rattle.nts_variance.proofs.Pairs.{leaves_by, Leaves-none, Leaves-then, Leaves-beside, Refuses-then, Refuses-beside}
+use Rattle.nts_variance.proofs.Turns.{answered_front}
+
+pub joined_known : (f : Content) (xs ys : List Relating) → AllKnown f xs → AllKnown f ys → AllKnown f (xs ++ ys)
+joined_known f [] ys a b = b
+joined_known f (x ∷ xs) ys a b = (a.0, a.1, joined_known f xs ys a.2 b)
+
+module _ (declared : ℕ → List Variance) where
+  abbrev Size : Sense → Relating → ℕ
+  Size = size_in declared
+
+  abbrev Holds : Sense → Relating → Type 0
+  Holds = HoldsIn declared
+
+  to_all : (w : Sense) (qs : List Relating) → AllHoldIn declared w qs → All Size Holds w qs
+  to_all w [] h = tt
+  to_all w (q ∷ qs) h = (h.0, to_all w qs h.1)
+
+  all_related : (w : Sense) (qs : List Relating) → All Size Holds w qs → AllRelatedUnder declared w.table w.answers qs
+  all_related w [] h = tt
+  all_related w (q ∷ qs) h = (h.0, all_related w qs h.1)
+
+  hold_related : (w : Sense) (qs : List Relating) → AllHoldIn declared w qs → AllRelatedUnder declared w.table w.answers qs
+  hold_related w qs h = all_related w qs (to_all w qs h)
+
+  to_below : (w : Sense) (n : ℕ) (qs : List Relating) → HoldBelow declared w n qs → AllBelow Size Holds w n qs
+  to_below w n [] h = tt
+  to_below w n (q ∷ qs) h = (h.0, to_below w n qs h.1)
+
+  from_below : (w : Sense) (n : ℕ) (qs : List Relating) → AllBelow Size Holds w n qs → HoldBelow declared w n qs
+  from_below w n [] h = tt
+  from_below w n (q ∷ qs) h = (h.0, from_below w n qs h.1)
+
+  related_front : (f : Content) (ks : List Tree) (xs ys : List Relating) → AllRelatedUnder declared f ks (xs ++ ys) → AllRelatedUnder declared f ks xs × AllRelatedUnder declared f ks ys
+  related_front f ks [] ys h = (tt, h)
+  related_front f ks (x ∷ xs) ys h = (let r = related_front f ks xs ys h.1 in ((h.0, r.0), r.1))
+
+  related_joined : (f : Content) (ks : List Tree) (xs ys : List Relating) → AllRelatedUnder declared f ks xs → AllRelatedUnder declared f ks ys → AllRelatedUnder declared f ks (xs ++ ys)
+  related_joined f ks [] ys a b = b
+  related_joined f ks (x ∷ xs) ys a b = (a.0, related_joined f ks xs ys a.1 b)
+
+  hold_joined : (w : Sense) (xs ys : List Relating) → AllHoldIn declared w (xs ++ ys) → AllHoldIn declared w xs × AllHoldIn declared w ys
+  hold_joined w [] ys h = (tt, h)
+  hold_joined w (x ∷ xs) ys h = (let r = hold_joined w xs ys h.1 in ((h.0, r.0), r.1))
+
+  are_met : (c d : Content) (p : Relating) (left es gs met : List Relating) → IsUnderway declared c d p left es gs met → AreMet Size Holds (Counts declared d es gs) met left
+  are_met c d p left es gs met u = record { each = λ w v q i h. u.meets w v q i (from_below w (Size w q) left h) }
+
+  -- what is left in another order
+  Leaves-to : (c d : Content) (ps qs os gs : List Relating) → ((j : Judge declared) (w : World) → AllSettleIn (judging_of declared j) w qs → AllSettleIn (judging_of declared j) w os) → Leaves declared c d ps qs gs → Leaves declared c d ps os gs
+  Leaves-to c d ps qs os gs to a =
+      record {
+        more = a.more;
+        back = a.back;
+        complete = λ j w s judges settled h. (let x = a.complete j w s judges settled h in let e = x.0 in (e, to j e.world x.1, x.2));
+      }
+
+  sorted_settle : (ns os left es : List Relating) (j : Judge declared) (w : World) → AllSettleIn (judging_of declared j) w ((ns ++ os) ++ (left ++ es)) → AllSettleIn (judging_of declared j) w ((ns ++ left) ++ (es ++ os))
+  sorted_settle ns os left es j w h =
+      let J = judging_of declared j in
+      let law = j.lawful in
+      let x = settle_parted J law w (ns ++ os) (left ++ es) h in
+      let y = settle_parted J law w ns os x.0 in
+      let z = settle_parted J law w left es x.1 in
+      settle_joined J law w (ns ++ left) (es ++ os) (settle_joined J law w ns left y.0 z.0) (settle_joined J law w es os z.1 y.1)
+
+  -- at first and in the end
+  pub underway_start : (c : Content) (p : Relating) → IsSound c → IsUnderway declared c c p (p ∷ []) [] [] []
+  underway_start c p sound =
+      record {
+        later = grown_refl c;
+        continues = Continues-refl c sound;
+        leaves = Leaves-none declared c (p ∷ []);
+        sound = λ w v h. h.0;
+        meets = λ w v q i h. absurd i;
+      }
+
+  pub underway_end : (c d : Content) (p : Relating) (es gs met : List Relating) → IsUnderway declared c d p [] es gs met → Takes declared c d (p ∷ []) es gs
+  underway_end c d p es gs met u =
+      record {
+        later = u.later;
+        continues = u.continues;
+        leaves = u.leaves;
+        relates = record { related = λ f s on ks g h. (u.sound (record { table = f; answers = ks }) (record { sound = s; continues = on; answered = g; equal = h }) tt, tt) };
+      }
+
+  -- a pair that is taken: what it leaves is smaller, and it is met from now on
+  pub underway_taken : (c d e : Content) (p q : Relating) (left es gs met ns os hs : List Relating) → IsSound c → IsSound d → AllKnown d left → AllKnown d es → AllKnown d gs → Takes declared d e (q ∷ []) (ns ++ os) hs
+      → ((w : Sense) → IsSound w.table → Continues e w.table → AreSmaller Size Holds w (Size w q) ns)
+      → IsUnderway declared c d p (q ∷ left) es gs met → IsUnderway declared c e p (ns ++ left) (es ++ os) (gs ++ hs) (q ∷ met)
+  underway_taken c d e p q left es gs met ns os hs sound_c sound kl ke kg t smaller u =
+      record {
+        later = grown_trans u.later t.later;
+        continues = Continues-trans c d e sound_c u.continues t.continues;
+        leaves = Leaves-to c e (p ∷ []) ((ns ++ os) ++ (left ++ es)) ((ns ++ left) ++ (es ++ os)) (gs ++ hs) (sorted_settle ns os left es)
+            (Leaves-then declared c d e (p ∷ []) (q ∷ (left ++ es)) ((ns ++ os) ++ (left ++ es)) gs hs kg u.leaves (Leaves-beside declared d e (q ∷ []) (ns ++ os) (left ++ es) hs (joined_known d left es kl ke) t.leaves));
+        sound = λ w v h. (let parts = hold_joined w ns left h in u.sound w (older w v) (holds w v (to_all w ns parts.0), parts.1));
+        meets = λ w v x i h.
+            (let all = met_taken Size Holds (Counts declared d es gs) (Counts declared e (es ++ os) (gs ++ hs)) met ns left q older (λ w v. smaller w v.sound v.continues) holds (are_met c d p (q ∷ left) es gs met u) in
+            all.each w v x i (to_below w (Size w x) (ns ++ left) h));
+      }
+    where
+      older : (w : Sense) → Counts declared e (es ++ os) (gs ++ hs) w → Counts declared d es gs w
+      older w v =
+          record {
+            sound = v.sound;
+            continues = Continues-trans d e w.table sound t.continues v.continues;
+            answered = (answered_front w.table w.answers gs hs v.answered).0;
+            equal = (related_front w.table w.answers es os v.equal).0;
+          }
+
+      holds : (w : Sense) → Counts declared e (es ++ os) (gs ++ hs) w → All Size Holds w ns → Holds w q
+      holds w v h =
+          let answered = (answered_front w.table w.answers gs hs v.answered).1 in
+          let rest = (related_front w.table w.answers es os v.equal).1 in
+          let x = t.relates.related w.table v.sound v.continues w.answers answered (related_joined w.table w.answers ns os (all_related w ns h) rest) in
+          x.0
+
+  -- pairs that were met may be forgotten
+  pub underway_fewer : (c d : Content) (p : Relating) (left es gs met rest : List Relating) → ((q : Relating) → Among rest q → Among met q) → IsUnderway declared c d p left es gs met → IsUnderway declared c d p left es gs rest
+  underway_fewer c d p left es gs met rest fewer u =
+      record { later = u.later; continues = u.continues; leaves = u.leaves; sound = u.sound; meets = λ w v q i h. u.meets w v q (fewer q i) h }
+
+  -- a pair that was met before is passed over
+  pub underway_passed : (c d : Content) (p q : Relating) (left es gs met : List Relating) → Among met q → IsUnderway declared c d p (q ∷ left) es gs met → IsUnderway declared c d p left es gs met
+  underway_passed c d p q left es gs met i u =
+      let are = are_met c d p (q ∷ left) es gs met u in
+      record {
+        later = u.later;
+        continues = u.continues;
+        leaves = Leaves-to c d (p ∷ []) (q ∷ (left ++ es)) (left ++ es) gs (λ j w h. h.1) u.leaves;
+        sound = λ w v h. u.sound w v (met_again Size Holds (Counts declared d es gs) met left q i are w v (to_all w left h), h);
+        meets = λ w v x k h. (let passed = met_passed Size Holds (Counts declared d es gs) met left q i are in passed.each w v x k (to_below w (Size w x) left h));
+      }
+
+  -- no solution relates one that is left
+  pub underway_refuses : (c d : Content) (p q : Relating) (left es gs met : List Relating) → IsUnderway declared c d p (q ∷ left) es gs met → Refuses declared d (q ∷ []) → Refuses declared c (p ∷ [])
+  underway_refuses c d p q left es gs met u r = Refuses-then declared c d (p ∷ []) (q ∷ (left ++ es)) gs u.leaves (Refuses-beside declared d (q ∷ []) (left ++ es) r)
+
+  -- a pair that is left, and one that becomes a goal
+  pub takes_left : (c : Content) (q : Relating) → IsSound c → Takes declared c c (q ∷ []) (q ∷ []) []
+  takes_left c q sound = record { later = grown_refl c; continues = Continues-refl c sound; leaves = Leaves-none declared c (q ∷ []); relates = record { related = λ f s on ks g h. h } }
+
+  pub takes_owed : (c : Content) (q : Relating) → IsSound c → Takes declared c c (q ∷ []) [] (q ∷ [])
+  takes_owed c q sound =
+      record {
+        later = grown_refl c;
+        continues = Continues-refl c sound;
+        leaves = leaves_by declared c c (q ∷ []) [] (q ∷ []) (λ j. leaves_goal (judging_of declared j) j.lawful c q);
+        relates = record { related = λ f s on ks g h. (answered_sides declared false f ks q.variance q.left q.right g.0, tt) };
+      }

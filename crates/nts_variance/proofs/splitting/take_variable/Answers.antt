@@ -1,0 +1,46 @@
+use Rattle.nts_store.specs.Growth.{tree_at}
+use Rattle.nts_terms.specs.Signatures.{variances_in}
+use Rattle.nts_model.specs.Resolving.{variable_tree}
+use Rattle.nts_unify.specs.Reading.{content_of}
+use Rattle.nts_relating.proofs.PairLemmas.{err_of}
+use Rattle.nts_variance.specs.Walking.{sides}
+use Rattle.std.proofs.Common.{[], ◌∷◌}
+use Rattle.nts_variance.proofs.Bound.{bindable_kind}
+use Rattle.nts_variance.proofs.Pushing.{pair_at-in}
+use Rattle.nts_variance.proofs.Sides.{root_of_side, open_one}
+use Rattle.nts_variance.proofs.Takes.{Refuses-from, sides_from, takes_bound}
+use Rattle.nts_variance.proofs.splitting.take_variable.Goals as goal
+
+pub bind_along-requires-clause-open : goal.bind_along-requires-clause-open
+bind_along-requires-clause-open c =
+    let ts = c.args.nodes.now in
+    (root_of_side ts c.args.table.now.entries (tree_at ts c.args.own) c.label.result c.args.side.variable c.in-Err.root c.requires.lawful c.requires.own.knows c.label.ensures.is c.label.ensures.formed c.requires.variable c.in-Err.ensures.root).bindable
+
+pub returns-in-Err-bind_along-clause-no : goal.returns-in-Err-bind_along-clause-no
+returns-in-Err-bind_along-clause-no c = λ q.
+    let ts = c.args.nodes.now in
+    let e = c.args.table.now.entries in
+    let z = c.args.side.is_turned in
+    let o = root_of_side ts e (tree_at ts c.args.own) c.label.result c.args.side.variable c.in-Err.root c.requires.lawful c.requires.own.knows c.label.ensures.is c.label.ensures.formed c.requires.variable c.in-Err.ensures.root in
+    let k = o.bindable.of_kind in
+    let own = variable_tree k c.in-Err.root in
+    let term = tree_at ts c.args.term in
+    let declared = variances_in c.args.declarations.now in
+    rw (pair_at-in ts z c.args.variance c.args.own c.args.term)
+    (Refuses-from declared (content_of ts e) (sides z c.args.variance own term ∷ []) (sides z c.args.variance (tree_at ts c.args.own) term ∷ []) (sides_from declared z (content_of ts e) c.args.variance (tree_at ts c.args.own) own term o.worlds)
+    (c.in-Err-bind_along.ensures.no k (bindable_kind ts e c.in-Err.root o.bindable) (err_of _ _ q)))
+
+pub returns-in-Ok-bind_along-clause-taken : goal.returns-in-Ok-bind_along-clause-taken
+returns-in-Ok-bind_along-clause-taken c =
+    let ts = c.args.nodes.now in
+    let e = c.args.table.now.entries in
+    let z = c.args.side.is_turned in
+    let o = root_of_side ts e (tree_at ts c.args.own) c.label.result c.args.side.variable c.in-Err.root c.requires.lawful c.requires.own.knows c.label.ensures.is c.label.ensures.formed c.requires.variable c.in-Err.ensures.root in
+    let k = o.bindable.of_kind in
+    let has = bindable_kind ts e c.in-Err.root o.bindable in
+    let b = c.in-Ok-bind_along.ensures.bound k has in (
+      b.lawful,
+      b.known,
+      rw (pair_at-in ts z c.args.variance c.args.own c.args.term)
+          (takes_bound (variances_in c.args.declarations.now) z ts c.bind_along.new.nodes e c.bind_along.new.table.entries c.args.variance k c.in-Err.root (tree_at ts c.args.own) c.args.term c.in-Ok-bind_along.goals.items b c.requires.lawful.sound c.requires.own.knows has (open_one ts e (tree_at ts c.args.own) c.in-Err.root o) o.worlds),
+    )

@@ -1,0 +1,543 @@
+//! Two terms related by a variance, pair by pair: what rests on aliases, or on type variables that may vary, is left.
+ghost use Rattle.std.specs.Prelude.{◌≡◌, ◌≢◌, ◌⊎◌, ◌<◌, ◌++◌, ℕ, List, ◌∷◌, [], true, false, OnOk, OnErr, IfOk, Some, Err};
+ghost use Rattle.nts_model.specs.declared.labels.Variance.TheVariants as variances;
+ghost use Rattle.nts_model.specs.declared.labels.Variance.{Variance};
+ghost use Rattle.nts_model.specs.Trees.{Tree, any_label, children, is_alias, is_infer, node, IsClosed};
+ghost use Rattle.nts_model.specs.Resolving.{IsInfer};
+ghost use Rattle.nts_model.specs.Related.{IsAlias};
+ghost use Rattle.nts_store.specs.Growth.{tree_at, IsIn, Extends};
+ghost use Rattle.nts_terms.specs.Signatures.{variances_in};
+ghost use Rattle.nts_unify.specs.Entries.{Entries, KeepsHidden};
+ghost use Rattle.nts_unify.specs.Reading.{content_of, IsLawful};
+ghost use Rattle.nts_relating.specs.Relating.{IsRegionOf};
+ghost use Rattle.nts_variance.specs.Parts.{has_parts as label_has_parts, form_of};
+ghost use Rattle.nts_variance.specs.Steps.{stacked};
+ghost use Rattle.nts_variance.specs.Terms.{pair_at};
+ghost use Rattle.nts_variance.specs.Varying.{pair_in, IsMadeAgain};
+ghost use Rattle.nts_variance.specs.Pairs.{Refuses};
+ghost use Rattle.nts_variance.specs.Taking.{left_sizes, number_at, IsSide, IsPair, IsTaken, AreOfOneForm, ArePairsLeft, ArePartsPaired, IsLeft, IsCall};
+
+use crate::along::{Relating, Side, bind_along};
+use crate::parts::{has_parts, holder, variance_of_part};
+use crate::variance::{opposite, times};
+use crate::vary_walk::{is_closed_alias, record_regions, type_number};
+use indexmap::IndexSet;
+use nts_model::{Label, TyHead, Variance};
+use nts_relating::relate_nodes;
+use nts_store::{EvalError, NodeId, Nodes};
+use nts_terms::Declarations;
+use nts_unify::{InferCtxtInner, infer_number, is_same, names_free_region, region_number};
+use std::alloc::Global;
+
+/// What relating two terms by a variance leaves: pairs that are to be made equal, and goals. A pair is left where it is invariant and
+/// a side has aliases, or both have inference variables, whose values might; and where a variable of a const or a number stands
+/// beside a variable, or has a value. By whatever variance it has, its sides are to be one.
+#[derive(Drop)]
+pub struct Left {
+    pub equal: Vec<Relating>,
+    pub goals: Vec<Relating>,
+}
+
+/// How a pair is taken.
+#[derive(Drop)]
+pub enum Taken {
+    /// Nothing is left of it.
+    Done,
+    /// It is left for later.
+    Equal,
+    /// It is left as a goal.
+    Owed,
+    /// A variable was made one with what stands for the other side, and these goals are left.
+    Bound(Vec<Relating>),
+    /// The pairs of the parts are left.
+    Parts,
+}
+
+/// The pair as a goal. One side is closed, and a goal's sides both are.
+fn owe(nodes: &Nodes, pair: Relating) -> Result<Taken, EvalError>
+    requires left { IsIn nodes.now pair.left }
+    requires right { IsIn nodes.now pair.right }
+    requires closed { IsClosed (tree_at nodes.now pair.left) ⊎ IsClosed (tree_at nodes.now pair.right) }
+    ensures owed { IfOk result (λ r. r ≡ Taken.Owed) }
+    ensures full { result ≢ Err EvalError.Full }
+    ensures no { result ≡ Err EvalError.NoSolution → (IsClosed (tree_at nodes.now pair.left) → IsClosed (tree_at nodes.now pair.right) → ⊥) }
+{
+    if nodes.flags(pair.left).escaping.is_some() {
+        return Err(EvalError::NoSolution);
+    }
+    if nodes.flags(pair.right).escaping.is_some() {
+        return Err(EvalError::NoSolution);
+    }
+    Ok(Taken::Owed)
+}
+
+/// Whether a goal is to say what a pair with this side owes: for an alias without escaping bound variables, or a type variable
+/// with a value.
+fn is_owed(nodes: &Nodes, table: &InferCtxtInner, t: NodeId) -> bool
+    requires lawful { IsLawful nodes.now table.now.entries }
+    requires side { IsSide nodes.now (content_of nodes.now table.now.entries) t }
+    ensures yes { result ≡ true → IsClosed (tree_at nodes.now t) }
+    ensures no { result ≡ false → IsAlias (tree_at nodes.now t) → ⊥ }
+{
+    // The nodes of a store are formed.
+    let _ = nodes.len();
+    let label = nodes.label(t);
+    if let Some(n) = type_number(label) {
+        return table.probe_variable(n).is_ok();
+    }
+    is_closed_alias(label, nodes.flags(t))
+}
+
+/// Whether an invariant pair may be made equal at once: no side has an alias, and one has no inference variable, whose value might.
+fn is_plain(nodes: &Nodes, pair: Relating) -> bool
+    requires left { IsIn nodes.now pair.left }
+    requires right { IsIn nodes.now pair.right }
+    ensures left { result ≡ true → any_label is_alias (tree_at nodes.now pair.left) ≡ false }
+    ensures right { result ≡ true → any_label is_alias (tree_at nodes.now pair.right) ≡ false }
+    ensures values { result ≡ true → (any_label is_infer (tree_at nodes.now pair.left) ≡ false) ⊎ (any_label is_infer (tree_at nodes.now pair.right) ≡ false) }
+{
+    let left = nodes.flags(pair.left);
+    let right = nodes.flags(pair.right);
+    if left.has_alias {
+        return false;
+    }
+    if right.has_alias {
+        return false;
+    }
+    if left.has_infer {
+        return !right.has_infer;
+    }
+    true
+}
+
+/// Makes the sides of an invariant pair equal, or leaves it.
+fn equate(
+    alloc: Global,
+    nodes: &mut Nodes,
+    table: &mut InferCtxtInner,
+    pair: Relating,
+) -> Result<Taken, EvalError>
+    requires lawful { IsLawful nodes.old table.old.entries }
+    requires pair { IsPair nodes.old (content_of nodes.old table.old.entries) pair }
+    requires invariant { pair.variance ≡ variances.Invariant }
+    ensures extends { Extends nodes.old nodes.new }
+    ensures changes { KeepsHidden table.old table.new }
+    ensures taken { (declared : ℕ → List Variance) → IfOk result (IsTaken declared nodes.old nodes.new table.old.entries table.new.entries pair) }
+    ensures full { result ≢ Err EvalError.Full }
+    ensures no { (declared : ℕ → List Variance) → result ≡ Err EvalError.NoSolution → Refuses declared (content_of nodes.old table.old.entries) (pair_at nodes.old pair ∷ []) }
+{
+    // The nodes of a store are formed.
+    let _ = nodes.len();
+    if !is_plain(nodes, pair) {
+        return Ok(Taken::Equal);
+    }
+    match relate_nodes(alloc, nodes, table, pair.left, pair.right) {
+        Err(error) => Err(error),
+        Ok(()) => Ok(Taken::Done),
+    }
+}
+
+/// Takes a pair of two inference variables. Two type variables stay two, unless they are one class.
+fn take_variables(nodes: &Nodes, table: &InferCtxtInner, pair: Relating) -> Taken
+    requires lawful { IsLawful nodes.now table.now.entries }
+    requires pair { IsPair nodes.now (content_of nodes.now table.now.entries) pair }
+    requires variable { IsInfer (tree_at nodes.now pair.left) }
+    ensures { (declared : ℕ → List Variance) → IsTaken declared nodes.now nodes.now table.now.entries table.now.entries pair result }
+{
+    // The nodes of a store are formed.
+    let _ = nodes.len();
+    let Some(x) = type_number(nodes.label(pair.left)) else {
+        return Taken::Equal;
+    };
+    let Some(y) = type_number(nodes.label(pair.right)) else {
+        return Taken::Equal;
+    };
+    if table.root(x) == table.root(y) {
+        return Taken::Done;
+    }
+    Taken::Owed
+}
+
+/// Takes a pair of an inference variable and another term, which is no alias without escaping bound variables: a variable without a
+/// value is made one with what stands for the term.
+fn take_variable(
+    alloc: Global,
+    nodes: &mut Nodes,
+    declarations: &Declarations,
+    table: &mut InferCtxtInner,
+    side: Side,
+    variance: Variance,
+    own: NodeId,
+    term: NodeId,
+) -> Result<Taken, EvalError>
+    requires lawful { IsLawful nodes.old table.old.entries }
+    requires own { IsSide nodes.old (content_of nodes.old table.old.entries) own }
+    requires term { IsSide nodes.old (content_of nodes.old table.old.entries) term }
+    requires variable { number_at (tree_at nodes.old own) ≡ Some side.variable }
+    requires node { IsInfer (tree_at nodes.old term) → ⊥ }
+    requires rigid { IsAlias (tree_at nodes.old term) → ⊥ }
+    ensures extends { Extends nodes.old nodes.new }
+    ensures changes { KeepsHidden table.old table.new }
+    ensures taken { IfOk result (IsTaken (variances_in declarations.now) nodes.old nodes.new table.old.entries table.new.entries (pair_in side.is_turned variance own term)) }
+    ensures full { result ≢ Err EvalError.Full }
+    ensures no { result ≡ Err EvalError.NoSolution → Refuses (variances_in declarations.now) (content_of nodes.old table.old.entries) (pair_at nodes.old (pair_in side.is_turned variance own term) ∷ []) }
+{
+    // The nodes of a store are formed.
+    let _ = nodes.len();
+    let _ = nodes.label(own);
+    match table.probe_variable(side.variable) {
+        Ok(_) => Ok(Taken::Equal),
+        Err(root) => {
+            let side = Side {
+                variable: root,
+                is_turned: side.is_turned,
+            };
+            match bind_along(alloc, nodes, declarations, table, side, variance, term) {
+                Err(error) => Err(error),
+                Ok(goals) => Ok(Taken::Bound(goals)),
+            }
+        }
+    }
+}
+
+/// Takes a pair of two free regions: what it says is recorded, unless they are variables of one class.
+fn take_regions(
+    nodes: &Nodes,
+    table: &mut InferCtxtInner,
+    pair: Relating,
+) -> Result<Taken, EvalError>
+    requires lawful { IsLawful nodes.now table.old.entries }
+    requires left { IsRegionOf nodes.now table.old.entries pair.left }
+    requires right { IsRegionOf nodes.now table.old.entries pair.right }
+    ensures changes { KeepsHidden table.old table.new }
+    ensures taken { (declared : ℕ → List Variance) → IfOk result (IsTaken declared nodes.now nodes.now table.old.entries table.new.entries pair) }
+    ensures full { result ≢ Err EvalError.Full }
+    ensures no { result ≢ Err EvalError.NoSolution }
+{
+    if let Some(x) = region_number(nodes.label(pair.left)) {
+        if let Some(y) = region_number(nodes.label(pair.right)) {
+            if table.root(x) == table.root(y) {
+                return Ok(Taken::Done);
+            }
+        }
+    }
+    record_regions(table, pair)?;
+    Ok(Taken::Done)
+}
+
+/// Whether two nodes of one label, which have parts, are of one form: function pointers that bind the same sorts.
+fn binds_same(nodes: &Nodes, label: Label, pair: Relating) -> bool
+    requires left { IsIn nodes.now pair.left }
+    requires right { IsIn nodes.now pair.right }
+    requires left_is { tree_at nodes.now pair.left ≡ node label (children (tree_at nodes.now pair.left)) }
+    requires right_is { tree_at nodes.now pair.right ≡ node label (children (tree_at nodes.now pair.right)) }
+    requires parts { label_has_parts label ≡ true }
+    ensures yes { result ≡ true → form_of (tree_at nodes.now pair.left) ≡ form_of (tree_at nodes.now pair.right) }
+    ensures no { result ≡ false → form_of (tree_at nodes.now pair.left) ≡ form_of (tree_at nodes.now pair.right) → ⊥ }
+{
+    // The nodes of a store are formed.
+    let _ = nodes.len();
+    if let Label::Ty(TyHead::FnPtr) = label {
+        return nodes.same(nodes.child(pair.left, 0), nodes.child(pair.right, 0));
+    }
+    true
+}
+
+/// Takes a pair of two nodes that have parts: those of one form, with as many parts, are related where their parts are.
+fn take_parts(
+    nodes: &Nodes,
+    table: &InferCtxtInner,
+    label: Label,
+    pair: Relating,
+) -> Result<Taken, EvalError>
+    requires pair { IsPair nodes.now (content_of nodes.now table.now.entries) pair }
+    requires left { IsMadeAgain (tree_at nodes.now pair.left) }
+    requires right { IsMadeAgain (tree_at nodes.now pair.right) }
+    requires left_is { tree_at nodes.now pair.left ≡ node label (children (tree_at nodes.now pair.left)) }
+    requires right_is { tree_at nodes.now pair.right ≡ node label (children (tree_at nodes.now pair.right)) }
+    requires parts { label_has_parts label ≡ true }
+    ensures taken { (declared : ℕ → List Variance) → IfOk result (IsTaken declared nodes.now nodes.now table.now.entries table.now.entries pair) }
+    ensures full { result ≢ Err EvalError.Full }
+    ensures no { (declared : ℕ → List Variance) → result ≡ Err EvalError.NoSolution → Refuses declared (content_of nodes.now table.now.entries) (pair_at nodes.now pair ∷ []) }
+{
+    if !binds_same(nodes, label, pair) {
+        return Err(EvalError::NoSolution);
+    }
+    let left = holder(nodes, pair.left);
+    let right = holder(nodes, pair.right);
+    if nodes.child_count(left) != nodes.child_count(right) {
+        return Err(EvalError::NoSolution);
+    }
+    Ok(Taken::Parts)
+}
+
+/// Takes a pair of two nodes that are neither inference variables nor aliases without escaping bound variables.
+fn take_heads(nodes: &Nodes, table: &mut InferCtxtInner, pair: Relating) -> Result<Taken, EvalError>
+    requires lawful { IsLawful nodes.now table.old.entries }
+    requires pair { IsPair nodes.now (content_of nodes.now table.old.entries) pair }
+    requires left_node { IsInfer (tree_at nodes.now pair.left) → ⊥ }
+    requires right_node { IsInfer (tree_at nodes.now pair.right) → ⊥ }
+    requires left_rigid { IsAlias (tree_at nodes.now pair.left) → ⊥ }
+    requires right_rigid { IsAlias (tree_at nodes.now pair.right) → ⊥ }
+    ensures changes { KeepsHidden table.old table.new }
+    ensures taken { (declared : ℕ → List Variance) → IfOk result (IsTaken declared nodes.now nodes.now table.old.entries table.new.entries pair) }
+    ensures full { result ≢ Err EvalError.Full }
+    ensures no { (declared : ℕ → List Variance) → result ≡ Err EvalError.NoSolution → Refuses declared (content_of nodes.now table.old.entries) (pair_at nodes.now pair ∷ []) }
+{
+    // The nodes of a store are formed.
+    let _ = nodes.len();
+    let left = nodes.label(pair.left);
+    let right = nodes.label(pair.right);
+    if names_free_region(left) && names_free_region(right) {
+        return take_regions(nodes, table, pair);
+    }
+    if !is_same(left, right) {
+        return Err(EvalError::NoSolution);
+    }
+    if !has_parts(left) {
+        return Ok(Taken::Done);
+    }
+    take_parts(nodes, table, left, pair)
+}
+
+/// Takes a pair by the first row that fits it.
+fn take(
+    alloc: Global,
+    nodes: &mut Nodes,
+    declarations: &Declarations,
+    table: &mut InferCtxtInner,
+    pair: Relating,
+) -> Result<Taken, EvalError>
+    requires lawful { IsLawful nodes.old table.old.entries }
+    requires pair { IsPair nodes.old (content_of nodes.old table.old.entries) pair }
+    ensures extends { Extends nodes.old nodes.new }
+    ensures changes { KeepsHidden table.old table.new }
+    ensures taken { IfOk result (IsTaken (variances_in declarations.now) nodes.old nodes.new table.old.entries table.new.entries pair) }
+    ensures full { result ≢ Err EvalError.Full }
+    ensures no { result ≡ Err EvalError.NoSolution → Refuses (variances_in declarations.now) (content_of nodes.old table.old.entries) (pair_at nodes.old pair ∷ []) }
+{
+    if nodes.same(pair.left, pair.right) && !nodes.flags(pair.left).has_alias {
+        return Ok(Taken::Done);
+    }
+    if pair.variance == Variance::Invariant {
+        return equate(alloc, nodes, table, pair);
+    }
+    take_varying(alloc, nodes, declarations, table, pair)
+}
+
+/// Takes a pair that is not invariant.
+fn take_varying(
+    alloc: Global,
+    nodes: &mut Nodes,
+    declarations: &Declarations,
+    table: &mut InferCtxtInner,
+    pair: Relating,
+) -> Result<Taken, EvalError>
+    requires lawful { IsLawful nodes.old table.old.entries }
+    requires pair { IsPair nodes.old (content_of nodes.old table.old.entries) pair }
+    ensures extends { Extends nodes.old nodes.new }
+    ensures changes { KeepsHidden table.old table.new }
+    ensures taken { IfOk result (IsTaken (variances_in declarations.now) nodes.old nodes.new table.old.entries table.new.entries pair) }
+    ensures full { result ≢ Err EvalError.Full }
+    ensures no { result ≡ Err EvalError.NoSolution → Refuses (variances_in declarations.now) (content_of nodes.old table.old.entries) (pair_at nodes.old pair ∷ []) }
+{
+    // The nodes of a store are formed.
+    let _ = nodes.len();
+    let Relating {
+        variance,
+        left,
+        right,
+    } = pair;
+    if is_owed(nodes, table, left) {
+        return owe(nodes, pair);
+    }
+    if is_owed(nodes, table, right) {
+        return owe(nodes, pair);
+    }
+    match infer_number(nodes.label(left)) {
+        Some(x) => match infer_number(nodes.label(right)) {
+            Some(_) => Ok(take_variables(nodes, table, pair)),
+            None => {
+                let side = Side {
+                    variable: x,
+                    is_turned: false,
+                };
+                take_variable(
+                    alloc,
+                    nodes,
+                    declarations,
+                    table,
+                    side,
+                    variance,
+                    left,
+                    right,
+                )
+            }
+        },
+        None => match infer_number(nodes.label(right)) {
+            Some(y) => {
+                let side = Side {
+                    variable: y,
+                    is_turned: true,
+                };
+                let turned = opposite(variance);
+                take_variable(alloc, nodes, declarations, table, side, turned, right, left)
+            }
+            None => take_heads(nodes, table, pair),
+        },
+    }
+}
+
+/// Pushes the pairs of the parts of two nodes, so that the first ones are taken first.
+fn push_pairs(
+    nodes: &Nodes,
+    declarations: &Declarations,
+    pairs: &mut Vec<Relating>,
+    pair: Relating,
+) -> Result<(), EvalError>
+    requires left { IsIn nodes.now pair.left }
+    requires right { IsIn nodes.now pair.right }
+    requires form { AreOfOneForm (tree_at nodes.now pair.left) (tree_at nodes.now pair.right) }
+    ensures pushed { OnOk result (ArePartsPaired (variances_in declarations.now) nodes.now pair pairs.old.items pairs.new.items) }
+    ensures full { result ≢ Err EvalError.Full }
+    ensures no { result ≢ Err EvalError.NoSolution }
+{
+    let label = nodes.label(pair.left);
+    let left = holder(nodes, pair.left);
+    let right = holder(nodes, pair.right);
+    let count = nodes.child_count(left);
+    let mut i = count;
+    while i > 0 {
+        i -= 1;
+        let argument = variance_of_part(declarations, label, i, count);
+        pairs.push(Relating {
+            variance: times(pair.variance, argument),
+            left: nodes.child(left, i),
+            right: nodes.child(right, i),
+        })?;
+    }
+    Ok(())
+}
+
+/// A call under way: the pairs that are to be taken, the newest last, those whose parts were pushed, and what is left.
+#[derive(Drop)]
+pub struct Call {
+    pub pairs: Vec<Relating>,
+    pub met: IndexSet<Relating>,
+    pub equal: Vec<Relating>,
+    pub goals: Vec<Relating>,
+}
+
+/// Takes one pair. The parts of two nodes are pushed once in a call: what was met before is related as soon as what is left is.
+fn step(
+    alloc: Global,
+    nodes: &mut Nodes,
+    declarations: &Declarations,
+    table: &mut InferCtxtInner,
+    call: &mut Call,
+    pair: Relating,
+) -> Result<(), EvalError>
+    requires lawful { IsLawful nodes.old table.old.entries }
+    requires pairs { ArePairsLeft nodes.old (content_of nodes.old table.old.entries) (call.old.pairs.items ++ pair ∷ []) }
+    ensures extends { Extends nodes.old nodes.new }
+    ensures changes { KeepsHidden table.old table.new }
+    ensures call { (ts : List Tree) (e : Entries) (p : Relating) → IsCall (variances_in declarations.now) ts nodes.old e table.old.entries p (call.old.pairs.items ++ pair ∷ []) call.old.met.keys call.old.equal.items call.old.goals.items → OnOk result (IsCall (variances_in declarations.now) ts nodes.new e table.new.entries p call.new.pairs.items call.new.met.keys call.new.equal.items call.new.goals.items) }
+    ensures less { OnOk result (left_sizes (stacked (pair_at nodes.new) call.new.pairs.items) < left_sizes (stacked (pair_at nodes.old) (call.old.pairs.items ++ pair ∷ []))) }
+    ensures full { result ≢ Err EvalError.Full }
+    ensures no { result ≡ Err EvalError.NoSolution → Refuses (variances_in declarations.now) (content_of nodes.old table.old.entries) (pair_at nodes.old pair ∷ []) }
+{
+    match take(alloc, nodes, declarations, table, pair) {
+        Err(error) => Err(error),
+        Ok(Taken::Done) => Ok(()),
+        Ok(Taken::Equal) => {
+            call.equal.push(pair)?;
+            Ok(())
+        }
+        Ok(Taken::Owed) => {
+            call.goals.push(pair)?;
+            Ok(())
+        }
+        Ok(Taken::Bound(goals)) => {
+            call.goals.extend_from_slice(&goals)?;
+            Ok(())
+        }
+        Ok(Taken::Parts) => {
+            if !call.met.insert(pair)? {
+                return Ok(());
+            }
+            push_pairs(nodes, declarations, &mut call.pairs, pair)
+        }
+    }
+}
+
+/// Takes pairs until none is left to take. After an error the table may have grown.
+fn run(
+    alloc: Global,
+    nodes: &mut Nodes,
+    declarations: &Declarations,
+    table: &mut InferCtxtInner,
+    root: Relating,
+) -> Result<Left, EvalError>
+    requires lawful { IsLawful nodes.old table.old.entries }
+    requires pair { IsPair nodes.old (content_of nodes.old table.old.entries) root }
+    ensures extends { Extends nodes.old nodes.new }
+    ensures changes { KeepsHidden table.old table.new }
+    ensures lawful { OnOk result (IsLawful nodes.new table.new.entries) }
+    ensures left { IfOk result (λ r. IsLeft (variances_in declarations.now) nodes.old nodes.new table.old.entries table.new.entries root r.equal.items r.goals.items) }
+    ensures full { result ≢ Err EvalError.Full }
+    ensures no { result ≡ Err EvalError.NoSolution → Refuses (variances_in declarations.now) (content_of nodes.old table.old.entries) (pair_at nodes.old root ∷ []) }
+{
+    let mut call = Call {
+        pairs: Vec::new(alloc),
+        met: IndexSet::new(alloc),
+        equal: Vec::new(alloc),
+        goals: Vec::new(alloc),
+    };
+    call.pairs.push(root)?;
+    while let Some(pair) = call.pairs.pop() {
+        match step(alloc, nodes, declarations, table, &mut call, pair) {
+            Err(error) => return Err(error),
+            Ok(()) => {}
+        }
+    }
+    let Call { equal, goals, .. } = call;
+    Ok(Left { equal, goals })
+}
+
+/// Relates two terms by a variance, each a type, a region or a const of the store and the table: their parts are related one by one,
+/// a variable without a value is made one with what stands for the other side, and regions are constrained. What rests on aliases
+/// without escaping bound variables, and on type variables that have a value or stand on both sides, is left as goals; and some
+/// pairs are left that are to be made equal.
+///
+/// Under each later table in which the goals are answered, and what is left is related, the two are related; and each settled
+/// solution in which they settle goes on to one of the table in which all that is left settles. It is `NoSolution` where they settle
+/// in none, and `Memory` where a growth was refused. After an error the table is as before.
+pub fn relate_along(
+    alloc: Global,
+    nodes: &mut Nodes,
+    declarations: &Declarations,
+    table: &mut InferCtxtInner,
+    variance: Variance,
+    left: NodeId,
+    right: NodeId,
+) -> Result<Left, EvalError>
+    requires lawful { IsLawful nodes.old table.old.entries }
+    requires left { IsSide nodes.old (content_of nodes.old table.old.entries) left }
+    requires right { IsSide nodes.old (content_of nodes.old table.old.entries) right }
+    ensures extends { Extends nodes.old nodes.new }
+    ensures changes { KeepsHidden table.old table.new }
+    ensures lawful { IsLawful nodes.new table.new.entries }
+    ensures left { IfOk result (λ r. IsLeft (variances_in declarations.now) nodes.old nodes.new table.old.entries table.new.entries (record { variance = variance; left = left; right = right }) r.equal.items r.goals.items) }
+    ensures err { OnErr result (table.new ≡ table.old) }
+    ensures full { result ≢ Err EvalError.Full }
+    ensures no { result ≡ Err EvalError.NoSolution → Refuses (variances_in declarations.now) (content_of nodes.old table.old.entries) (pair_at nodes.old (record { variance = variance; left = left; right = right }) ∷ []) }
+{
+    let root = Relating {
+        variance,
+        left,
+        right,
+    };
+    let snapshot = table.start_snapshot()?;
+    let related = run(alloc, nodes, declarations, table, root);
+    table.commit_if_ok(snapshot, related)
+}
