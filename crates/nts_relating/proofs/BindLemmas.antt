@@ -13,9 +13,11 @@ use Rattle.nts_model.specs.Worlds.{inst, IsValue}
 use Rattle.nts_unify.specs.Proper.{IsProper-known}
 use Rattle.nts_model.specs.Holding.{AreOne, Continues}
 use Rattle.nts_model.specs.Alike.{AreAlike}
+use Rattle.nts_model.specs.Measuring.{closed_aliases}
 use Rattle.nts_model.proofs.Fitting.{Fits-kind_of}
 use Rattle.nts_model.proofs.Variables.{infer_number_some}
 use Rattle.nts_model.proofs.Classes.{resolved-known_variable}
+use Rattle.nts_model.proofs.Resolved.{resolved-variable_unset}
 use Rattle.nts_model.proofs.Instances.{inst-agrees}
 use Rattle.nts_model.proofs.Solving.{Solves-known, Solves-from_known, IsNameable-set}
 use Rattle.nts_model.proofs.Held.{AreOne-continues, Continues-known, Continues-trans}
@@ -24,6 +26,7 @@ use Rattle.nts_model.proofs.Bringing.{brings-known}
 use Rattle.nts_model.proofs.Alike.{AreAlike-continues, AreAlike-for}
 use Rattle.nts_unify.proofs.Leading.{universe_of-entry}
 use Rattle.nts_relating.proofs.Naming.{lawful_sides, kind_read}
+use Rattle.nts_relating.proofs.AliasCounts.{aliases_one, aliases_known, unset_none}
 use Rattle.nts_relating.proofs.PairLemmas.{set_one}
 use Rattle.nts_relating.proofs.Ranks.{kind_of-like}
 use Rattle.nts_model.specs.Trees.{Tree, empty, of_sort, sort_of_variable, kind_of, IsFormed}
@@ -127,6 +130,10 @@ bind_value ts us e f g x t v w z before_lawful can_bind at knows_term h within f
             one j has ∙ exact (rw own names);
         ties = TiesNew-trans c d after known_continues (ties_of_keeps c d h.sound gen.keeps) (TiesNew-same d after longer);
         brings = record { labels = λ P f p i j. let made = gen.labels P f p i in (brings-known d x (slot_of us new) (tree_at us v) there_now refl).labels P f made.0 made.1 tt };
+        aliases = λ none a k.
+            (let same : closed_aliases (resolved d (tree_at us v)) ≡ closed_aliases (resolved c (tree_at ts t)) =
+            aliases_one d (tree_at us v) (tree_at ts t) gen.alike ∙ ap closed_aliases (gen.keeps.trees (tree_at ts t) knows_term) in
+            aliases_known d x (slot_of us new) (tree_at us v) h.sound can (same ∙ none) a ∙ ap closed_aliases (gen.keeps.trees a k));
         sound = λ y a.
             let b = Solves-from_known d x (slot_of us new) (tree_at us v) can refl y a in
             let p = gen.sound y b.0 in
@@ -200,6 +207,12 @@ taken ts us vs e f g x y k t v w z u lawful ext can at_x at_y same is h within f
     let fit = takes_fits w.kind u.kind (tree_at vs v) takes sort in
     let has : kind_at (content_of us e) y ≡ Some u.kind = kind_at-entry us e y u at_y in
     let knows : Knows (content_of us e) (tree_at us t) = rw tree ((has, tt, refl), tt, tt) in
+    let free = (free_slot us e y can.second.of_kind can.second.free).state in
+    let no_region : u.kind ≢ kind.Region = λ r. can.second.no_region (sym uk ∙ r) in
+    let own : resolved (content_of us e) (variable_tree u.kind y) ≡ variable_tree u.kind y = resolved-variable_unset (content_of us e) (label.Leaf (leaf.Variable u.kind y)) empty y (IsLawful-extended ext lawful).sound (infer_number_some u.kind y no_region) free in
+    let names : NamesAll region_level w.universe (resolved (content_of us e) (variable_tree u.kind y)) = rw own (tt, tt) in
     let value = bind_value us vs e f g x t v w z (IsLawful-extended ext lawful) can.first at_x knows h within formed gen lower fit now q in
     let set : IsSet (content_of us e) (content_of vs g) x (variable_tree u.kind y) = subst (λ (s : Tree). IsSet (content_of us e) (content_of vs g) x s) tree value.set in
-    (value.lawful, subst (λ (c : Content). AreMadeOne c (content_of vs g) x y) (content_of-extended ext lawful) (set_one u.kind has set))
+    let none : closed_aliases (resolved (content_of us e) (variable_tree u.kind y)) ≡ 0 =
+    unset_none (content_of us e) u.kind y (IsLawful-extended ext lawful).sound (infer_number_some u.kind y no_region) free in
+    (value.lawful, subst (λ (c : Content). AreMadeOne c (content_of vs g) x y) (content_of-extended ext lawful) (set_one u.kind w.universe has (universe_of-entry us e x w at_x) names none set))

@@ -1,3 +1,4 @@
+pub mod AliasCounts
 pub mod BindLemmas
 pub mod FreshValues
 pub mod GenLemmas

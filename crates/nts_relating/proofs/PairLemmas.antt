@@ -6,11 +6,13 @@ use Rattle.nts_model.specs.declared.labels.Leaf.TheVariants as leaf
 use Rattle.nts_model.specs.declared.labels.Label.{Label}
 use Rattle.nts_model.specs.declared.labels.Label.TheVariants as label
 use Rattle.nts_model.specs.Trees.{Tree, empty, more, node, size, row_length, row_at, IsRow, children, label_of}
-use Rattle.nts_model.specs.Contents.{Content, kind_at}
+use Rattle.nts_model.specs.Contents.{Content, unset, state_of, kind_at, universe_of}
+use Rattle.nts_model.specs.Levels.{NamesAll, region_level}
 use Rattle.nts_model.specs.Resolving.{Knows, variable_of, variable_tree, resolved, rooted, infer_of, IsInfer, IsSound}
 use Rattle.nts_model.specs.Worlds.{World, inst, renamed, Solves, Agrees}
 use Rattle.nts_model.specs.Holding.{AreOne}
 use Rattle.nts_model.specs.Alike.{AreAlike}
+use Rattle.nts_model.specs.Measuring.{closed_aliases}
 use Rattle.nts_model.specs.Equations.{Equates, AllAlike, Reduces, AreRelated}
 use Rattle.nts_model.specs.Passing.{TreePasses, BringsLabelsOf}
 use Rattle.nts_model.proofs.Variables.{infer_of_none}
@@ -36,8 +38,9 @@ use Rattle.nts_relating.specs.Knowing.{row_from}
 use Rattle.nts_relating.specs.Met.{judged_size, JudgesOne, OneBelow}
 use Rattle.nts_relating.specs.Relating.{IsOpen, IsClosedHead, IsSet, RegionsRelate, pair_at, pairs_at, ArePairsIn, AreKnown, PairsPass, PairsBring, total, Pushed, IsValid, IsPairStep, IsPairRun, Running, AreMadeOne, VariablesRelate}
 use Rattle.nts_unify.proofs.Keeping.{IsLater-refl, IsLater-trans, Knows-later, Keeps-refl}
-use Rattle.nts_unify.proofs.JoinLemmas.{free_slot, at_max}
+use Rattle.nts_unify.proofs.JoinLemmas.{free_slot, at_min, at_max}
 use Rattle.nts_unify.proofs.Tied.{ties_of_keeps}
+use Rattle.nts_relating.proofs.AliasCounts.{aliases_continue, joined_none}
 use Rattle.nts_relating.proofs.RegionLemmas.{from_sides, to_sides}
 use Rattle.nts_relating.proofs.GenLemmas.{IsFair, unchanged}
 use Rattle.nts_relating.proofs.Naming.{lawful_sides, alone_label}
@@ -337,6 +340,10 @@ joined_one ts us e f x y j k h hx hy no_region kinds same_store joins =
     let link : resolved d (variable_tree j (max x y)) ≡ resolved d (variable_tree j (min x y)) = resolved-variable_link d (label.Leaf (leaf.Variable j (max x y))) empty j (max x y) (min x y) joins.lawful.sound is one.linked in
     let both : resolved d (variable_tree j x) ≡ resolved d (variable_tree j y) = from_sides (λ n. resolved d (variable_tree j n)) x y (sym link) in
     let fewer = joins.joined.fewer in
+    let lower : min x y < max x y = joins.lawful.sound.descends (max x y) (min x y) one.linked in
+    let apart : min x y ≡ max x y → ⊥ = λ q. omega (arith, q, lower) in
+    let lower_free : state_of c (min x y) ≡ Some unset = at_min (λ n. state_of c n ≡ Some unset) x y (free_slot ts e x j hx).state (free_slot ts e y k hy).state in
+    let none = joined_none c d (min x y) (max x y) j joins.lawful.sound apart lower_free high no_region one.linked joins.joined.others in
     rw same_store (
       joins.lawful,
       record {
@@ -347,8 +354,13 @@ joined_one ts us e f x y j k h hx hy no_region kinds same_store joins =
             let ea : a ≡ j = some_inj a j (sym p ∙ first) in
             let eb : b ≡ j = some_inj b j (sym q ∙ second ∙ ap Some (sym kinds)) in
             rw (ea, eb) (AreAlike-one d (variable_tree j x) (variable_tree j y) (ap (rooted d) both));
+        one = λ a b p q.
+            let ea : a ≡ j = some_inj a j (sym p ∙ first) in
+            let eb : b ≡ j = some_inj b j (sym q ∙ second ∙ ap Some (sym kinds)) in
+            rw (ea, eb) (ap (rooted d) both);
         brings = joins.brings;
         ties = TiesNew-same c d joins.joined.slots;
+        aliases = λ t q. aliases_continue c d t h.sound joins.lawful.sound one.continues none q;
         sound = λ w z. (let q = one.narrows.sound w z in (q.0, from_sides w.tree x y q.1));
         complete = λ w z q. record {
           world = w;
@@ -360,15 +372,17 @@ joined_one ts us e f x y j k h hx hy no_region kinds same_store joins =
     )
 
 -- .. of which one got the other as its value
-pub set_one : {c d : Content} {x y : ℕ} (k : VariableKind) → kind_at c y ≡ Some k → IsSet c d x (variable_tree k y) → AreMadeOne c d x y
-set_one {c} {d} {x} {y} k has s =
+pub set_one : {c d : Content} {x y : ℕ} (k : VariableKind) (u : ℕ) → kind_at c y ≡ Some k → universe_of c x ≡ Some u → NamesAll region_level u (resolved c (variable_tree k y)) → closed_aliases (resolved c (variable_tree k y)) ≡ 0 → IsSet c d x (variable_tree k y) → AreMadeOne c d x y
+set_one {c} {d} {x} {y} k u has universe names none s =
     record {
       later = s.later;
       fewer = s.fewer;
       continues = s.continues;
       alike = λ a b p q. (let e : b ≡ k = some_inj b k (sym q ∙ has) in rw e (s.alike a p));
+      one = λ a b p q. (let e : b ≡ k = some_inj b k (sym q ∙ has) in rw e (s.exact u a universe p names));
       brings = record { labels = λ P v h. s.brings.labels P v h (v k y, tt) tt };
       ties = s.ties;
+      aliases = s.aliases none;
       sound = λ w z. s.sound w z;
       complete = λ w z q. s.complete w z q;
     }
@@ -380,8 +394,10 @@ AreMadeOne-turned {c} {d} {x} {y} m =
       fewer = m.fewer;
       continues = m.continues;
       alike = λ a b p q. AreAlike-turned d (variable_tree b x) (variable_tree a y) (m.alike b a q p);
+      one = λ a b p q. sym (m.one b a q p);
       brings = m.brings;
       ties = m.ties;
+      aliases = m.aliases;
       sound = λ w z. (let q = m.sound w z in (q.0, sym q.1));
       complete = λ w z q. m.complete w z (sym q);
     }

@@ -12,10 +12,11 @@ use Rattle.nts_model.specs.Levels.{NamesAll, level_in, term_level, region_level}
 use Rattle.nts_model.specs.Fitting.{Fits}
 use Rattle.nts_model.specs.Passing.{PassesVariables, TreePasses, TablePasses, BringsLabelsOf, BringsNoLabels}
 use Rattle.nts_model.specs.Worlds.{World, inst, Solves}
-use Rattle.nts_model.specs.Holding.{Continues}
+use Rattle.nts_model.specs.Holding.{AreOne, Continues}
 use Rattle.nts_model.specs.Tying.{TiesNew}
 use Rattle.nts_model.specs.Regions.{IsRegion}
 use Rattle.nts_model.specs.Alike.{AreAlike}
+use Rattle.nts_model.specs.Measuring.{closed_aliases}
 use Rattle.nts_model.specs.Equations.{ExtensionIf, Extension, Equates, AllAlike, Narrows, Reduces}
 use Rattle.nts_store.specs.declared.nodes.NodeId.{NodeId}
 use Rattle.nts_store.specs.declared.type_flags.TypeFlags.{TypeFlags}
@@ -124,7 +125,8 @@ pub record RegionsRelate (c d : Content) (a b : Tree) : Type 0 where
   pub alike : AreAlike d a b
   pub brings : BringsLabelsOf c d a b
 
--- a variable got a value for the tree t: the two are one where the variable's universe names each region in t, and else one up to regions
+-- a variable got a value for the tree t: the two are one where the variable's universe names each region in t, and else one up to
+-- regions. Where no closed alias is in t, no tree has more of them, or fewer
 pub record IsSet (c d : Content) (x : ℕ) (t : Tree) : Type 0 where
   pub later : IsLater c d
   pub fewer : unset_count d.slots < unset_count c.slots
@@ -133,6 +135,7 @@ pub record IsSet (c d : Content) (x : ℕ) (t : Tree) : Type 0 where
   pub exact : (u : ℕ) (k : VariableKind) → universe_of c x ≡ Some u → kind_at c x ≡ Some k → NamesAll region_level u (resolved c t) → deeply_resolved d (variable_tree k x) ≡ deeply_resolved d t
   pub brings : BringsLabelsOf c d t empty
   pub ties : TiesNew c d
+  pub aliases : closed_aliases (resolved c t) ≡ 0 → (a : Tree) → Knows c a → closed_aliases (resolved d a) ≡ closed_aliases (resolved c a)
   pub sound : (w : World) → Solves d w → Solves c w × (w.tree x ≡ inst w t)
   pub complete : (w : World) → Solves c w → w.tree x ≡ inst w t → Extension c d w
 
@@ -182,14 +185,16 @@ pub record IsMemo (ts : List Tree) (e : Entries) (ps ms : List Pair) : Type 0 wh
   pub within : ArePairsIn ts ms
   pub met : AreOneAfter (content_of ts e) (pairs_at ts ps) (pairs_at ts ms)
 
--- two variables are one: they were joined, or one got the other as its value
+-- two variables are one: they were joined, or one got the other as its value. No tree has more closed aliases, or fewer
 pub record AreMadeOne (c d : Content) (x y : ℕ) : Type 0 where
   pub later : IsLater c d
   pub fewer : unset_count d.slots < unset_count c.slots
   pub continues : Continues c d
   pub alike : (j k : VariableKind) → kind_at c x ≡ Some j → kind_at c y ≡ Some k → AreAlike d (variable_tree j x) (variable_tree k y)
+  pub one : (j k : VariableKind) → kind_at c x ≡ Some j → kind_at c y ≡ Some k → AreOne d (variable_tree j x) (variable_tree k y)
   pub brings : BringsNoLabels c d
   pub ties : TiesNew c d
+  pub aliases : (t : Tree) → Knows c t → closed_aliases (resolved d t) ≡ closed_aliases (resolved c t)
   pub sound : (w : World) → Solves d w → Solves c w × (w.tree x ≡ w.tree y)
   pub complete : (w : World) → Solves c w → w.tree x ≡ w.tree y → Extension c d w
 

@@ -33,16 +33,19 @@ pub struct Pair {
 }
 
 /// What a term is under a table: an inference variable that is no region and has no value, or
-/// another node.
+/// another node, which is no such variable.
 #[derive(Clone, Copy)]
 pub enum Head {
     Open(usize),
     Closed(NodeId),
 }
 
-/// The root or the value of a variable, or the term itself. A type variable's value may be a variable
-/// of integers or floats, which may have a value too.
-fn head_of(nodes: &Nodes, table: &InferCtxtInner, t: NodeId) -> Head
+/// What a term is under the table's values: for calls that relate terms pair by pair. For a variable it
+/// is the root or the value, and for each other term the term itself. A type variable's value may be a
+/// variable of integers or floats, which may have a value too.
+///
+/// An open head is a variable that can be bound. The term and its head stand for one tree.
+pub fn head_of(nodes: &Nodes, table: &InferCtxtInner, t: NodeId) -> Head
     requires within { IsIn nodes.now t }
     requires knows { Knows (content_of nodes.now table.now.entries) (tree_at nodes.now t) }
     requires lawful { IsLawful nodes.now table.now.entries }
@@ -92,8 +95,14 @@ fn relate_regions(
     Ok(())
 }
 
-/// Makes two variables without values equal, and says whether they were two.
-fn relate_variables(
+/// Makes two variables without values equal, and says whether they were two: for calls that relate terms
+/// and come to variables on both sides.
+///
+/// Variables of one kind are joined, and a type variable gets one of integers or floats as its value.
+/// Afterwards one variable fewer has no value, and the table has the solutions that it had and in which
+/// the two are one. It is `NoSolution` where neither can stand for the other, and `Memory` where a growth
+/// was refused. After an error the table may have grown: the caller goes back to a snapshot.
+pub fn relate_variables(
     alloc: Global,
     nodes: &mut Nodes,
     table: &mut InferCtxtInner,

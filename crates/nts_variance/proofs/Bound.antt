@@ -15,6 +15,7 @@ use Rattle.nts_model.specs.Worlds.{World, renamed, placed, inst}
 use Rattle.nts_model.specs.Holding.{Continues}
 use Rattle.nts_model.specs.Related.{IsAlias}
 use Rattle.nts_model.specs.AnsweredGoals.{AllAnswered}
+use Rattle.nts_model.specs.Measuring.{closed_aliases}
 use Rattle.nts_model.specs.Leaving.{judging_of}
 use Rattle.nts_model.proofs.Held.{Continues-trans}
 use Rattle.nts_model.proofs.Slots.{Knows-kept, field_below}
@@ -39,7 +40,7 @@ use Rattle.nts_variance.specs.Walking.{StandsBy, OwedBy, RelatedSides, sides, Is
 use Rattle.nts_variance.specs.Terms.{pairs_at}
 use Rattle.nts_variance.specs.Varying.{IsVaried, IsKept}
 use Rattle.nts_variance.specs.Pairs.{Refuses, IsBound}
-use Rattle.nts_variance.proofs.Growing.{grown_later, grown_trans}
+use Rattle.nts_variance.proofs.Growing.{Knows-grown, grown_later, grown_trans}
 use Rattle.nts_variance.proofs.Runs.{unentered}
 use Rattle.nts_variance.proofs.Pairs.{ended_at, sides_settle, walk_leaves, walk_refuses}
 use Rattle.nts_variance.proofs.VaryTurns.{fits_later, known_pairs, pairs_kept, goals_later}
@@ -127,6 +128,9 @@ bound_along declared z u x ts us ws e f g v k t r gs h ext before lawful univers
       same = bound_exact declared z u x ts us ws e f g v k t r gs h universe has set;
       related = λ d s on ks answered. bound_related declared z u x ts us ws e f g v k t r gs h lawful.sound universe has set d s on ks (rw goals at answered);
       leaves = rw goals left;
+      are_goals = rw goals h.are_goals;
+      fewer = λ q. (let few = h.few q in let less = set.fewer in omega (arith, few, less));
+      aliases = λ q a k. set.aliases (h.none q) a (Knows-grown a walks.later k) ∙ ap closed_aliases (h.trees a k);
     }
 
 -- no solution relates the two

@@ -5,7 +5,7 @@ use Rattle.nts_model.specs.declared.labels.Variance.{Variance}
 use Rattle.nts_model.specs.declared.labels.AliasHead.TheVariants as alias_of
 use Rattle.nts_model.specs.Contents.{Content}
 use Rattle.nts_model.specs.Trees.{Tree, empty, more, node, size, kind_of, IsFormed}
-use Rattle.nts_model.specs.Resolving.{IsSound, Knows, deeply_resolved, IsInfer}
+use Rattle.nts_model.specs.Resolving.{IsSound, Knows, deeply_resolved}
 use Rattle.nts_model.specs.Sequents.{Among}
 use Rattle.nts_model.specs.Related.{rest_variances}
 use Rattle.nts_model.specs.Relations.{AllKnown}
@@ -23,15 +23,16 @@ use Rattle.nts_variance.specs.declared.along.Relating.{Relating}
 use Rattle.nts_variance.specs.Steps.{stacked}
 use Rattle.nts_variance.specs.Walking.{IsGrown}
 use Rattle.nts_variance.specs.Parts.{form_of, parts_of}
-use Rattle.nts_variance.specs.Terms.{pair_at, pairs_at, ArePairs}
+use Rattle.nts_variance.specs.Terms.{pair_at, pairs_at, AreGoals, ArePairs}
 use Rattle.nts_variance.specs.Pairs.{Refuses}
-use Rattle.nts_variance.specs.Taking.{AllWait, Takes, IsLeft, IsSide, IsPair, ArePairsLeft, AreOfOneForm, ArePartsPaired, left_sizes, Sense, HoldsIn, size_in, IsUnderway, IsCall}
+use Rattle.nts_variance.specs.Taking.{IsExact, Waits, AllWait, Takes, IsLeft, IsSide, IsPair, ArePairsLeft, AreOfOneForm, ArePartsPaired, left_sizes, Sense, HoldsIn, size_in, IsUnderway, IsCall}
+use Rattle.nts_variance.proofs.Debts.{goals_to, AreGoals-append}
 use Rattle.nts_variance.proofs.Growing.{Knows-grown}
 use Rattle.nts_variance.proofs.Nodes.{parts_known}
 use Rattle.nts_variance.proofs.Refusals.{parts_formed}
 use Rattle.nts_variance.proofs.Runs.{stacked-push}
 use Rattle.nts_variance.proofs.Takes.{pair_of, takes_over}
-use Rattle.nts_variance.proofs.Underway.{underway_start, underway_end, underway_taken, underway_fewer, underway_passed, underway_refuses}
+use Rattle.nts_variance.proofs.Underway.{underway_start, underway_end, underway_taken, underway_fewer, underway_passed, underway_refuses, underway_back, underway_again}
 use Rattle.nts_variance.proofs.VaryTurns.{known_pairs, goals_later, pairs_kept}
 
 -- lists of pairs
@@ -44,7 +45,7 @@ side_later {ts} t e l h =
     let at = e.kept t h.within in
     record { within = IsIn-extended e t h.within; knows = rw at (Knows-grown (tree_at ts t) l h.knows); sort = h.sort; kind = ap kind_of at ∙ h.kind }
 
-pairs_later : {ts us : List Tree} {c d : Content} (xs : List Relating) → Extends ts us → IsGrown c d → ArePairsLeft ts c xs → ArePairsLeft us d xs
+pub pairs_later : {ts us : List Tree} {c d : Content} (xs : List Relating) → Extends ts us → IsGrown c d → ArePairsLeft ts c xs → ArePairsLeft us d xs
 pairs_later [] e l h = tt
 pairs_later (x ∷ xs) e l h = (record { left = side_later x.left e l h.0.left; right = side_later x.right e l h.0.right }, pairs_later xs e l h.1)
 
@@ -60,7 +61,7 @@ known_push : (c : Content) (xs : List Pair) (y : Pair) → AllKnown c xs → Kno
 known_push c [] y h a b = (a, b, tt)
 known_push c (x ∷ xs) y h a b = (h.0, h.1, known_push c xs y h.2 a b)
 
-known_stack : (ts : List Tree) (c : Content) (xs : List Relating) → ArePairsLeft ts c xs → AllKnown c (stacked (pair_at ts) xs)
+pub known_stack : (ts : List Tree) (c : Content) (xs : List Relating) → ArePairsLeft ts c xs → AllKnown c (stacked (pair_at ts) xs)
 known_stack ts c [] h = tt
 known_stack ts c (x ∷ xs) h = known_push c (stacked (pair_at ts) xs) (pair_at ts x) (known_stack ts c xs h.1) h.0.left.knows h.0.right.knows
 
@@ -71,12 +72,25 @@ pairs_joined : (ts : List Tree) (c : Content) (xs ys : List Relating) → ArePai
 pairs_joined ts c [] ys a b = b
 pairs_joined ts c (x ∷ xs) ys a b = (a.0, pairs_joined ts c xs ys a.1 b)
 
+-- pairs with sorted sides are pairs of the table
+pub bare_pairs : (ts : List Tree) (c : Content) (xs : List Relating) → ArePairsLeft ts c xs → ArePairs ts c xs
+bare_pairs ts c [] h = tt
+bare_pairs ts c (x ∷ xs) h = ((h.0.left.within, h.0.right.within, h.0.left.knows, h.0.right.knows), bare_pairs ts c xs h.1)
+
+left_joined : (ts : List Tree) (c : Content) (xs ys : List Relating) → ArePairsLeft ts c xs → ArePairsLeft ts c ys → ArePairsLeft ts c (xs ++ ys)
+left_joined ts c [] ys a b = b
+left_joined ts c (x ∷ xs) ys a b = (a.0, left_joined ts c xs ys a.1 b)
+
 waits_later : {ts us : List Tree} (c : Content) (xs : List Relating) → Extends ts us → ArePairs ts c xs → AllWait ts xs → AllWait us xs
 waits_later c [] e h k = tt
 waits_later c (x ∷ xs) e h k = (
-  ⊎_elim (λ p. inl p) (λ p. inr (⊎_elim (λ i. inl (subst IsInfer (sym (e.kept x.left h.0.0)) i)) (λ i. inr (subst IsInfer (sym (e.kept x.right h.0.1)) i)) p)) k.0,
+  ⊎_elim (λ p. inl p) (λ p. inr (⊎_elim (λ i. inl (subst IsExact (sym (e.kept x.left h.0.0)) i)) (λ i. inr (subst IsExact (sym (e.kept x.right h.0.1)) i)) p)) k.0,
   waits_later c xs e h.1 k.1,
 )
+
+pub waits_front : (ts : List Tree) (xs : List Relating) (y : Relating) → AllWait ts (xs ++ y ∷ []) → AllWait ts xs × Waits ts y
+waits_front ts [] y h = (tt, h.0)
+waits_front ts (x ∷ xs) y h = (let r = waits_front ts xs y h.1 in ((h.0, r.0), r.1))
 
 waits_joined : (ts : List Tree) (xs ys : List Relating) → AllWait ts xs → AllWait ts ys → AllWait ts (xs ++ ys)
 waits_joined ts [] ys a b = b
@@ -141,26 +155,27 @@ module _ (declared : ℕ → List Variance) where
       subst (λ z. Takes declared c c (pair_of v a z ∷ []) ps []) (sym y) (subst (λ z. Takes declared c c (pair_of v z (over F us) ∷ []) ps []) (sym x) on)
 
   -- a pair was taken, which leaves no pairs to take
-  pub call_taken : (ts us ws : List Tree) (e f g : Entries) (p q : Relating) (ps ms es gs os hs es' gs' : List Relating) → IsCall declared ts us e f p (ps ++ q ∷ []) ms es gs → Extends us ws → IsLawful ws g → ArePairs ws (content_of ws g) os → AllWait ws os → ArePairs ws (content_of ws g) hs
+  pub call_taken : (ts us ws : List Tree) (e f g : Entries) (p q : Relating) (ps ms es gs os hs es' gs' : List Relating) → IsCall declared ts us e f p (ps ++ q ∷ []) ms es gs → Extends us ws → IsLawful ws g → ArePairsLeft ws (content_of ws g) os → AllWait ws os → ArePairs ws (content_of ws g) hs → AreGoals (pairs_at ws hs)
       → Takes declared (content_of us f) (content_of ws g) (pair_at us q ∷ []) (pairs_at ws os) (pairs_at ws hs) → es' ≡ es ++ os → gs' ≡ gs ++ hs → IsCall declared ts ws e g p ps ms es' gs'
-  call_taken ts us ws e f g p q ps ms es gs os hs es' gs' u ext lawful ko wait kh t qe qg =
+  call_taken ts us ws e f g p q ps ms es gs os hs es' gs' u ext lawful ko wait kh ah t qe qg =
       let c = content_of ts e in
       let d = content_of us f in
       let k = content_of ws g in
       let front = pairs_front us d ps q u.pairs in
       let here = stacked-push (pair_at us) ps q in
       let before : IsUnderway declared c d (pair_at ts p) (pair_at us q ∷ stacked (pair_at us) ps) (pairs_at us es) (pairs_at us gs) (pairs_at us ms) = rw here at u.going in
-      let taken = underway_taken declared c d k (pair_at ts p) (pair_at us q) (stacked (pair_at us) ps) (pairs_at us es) (pairs_at us gs) (pairs_at us ms) [] (pairs_at ws os) (pairs_at ws hs) u.start u.lawful.sound (known_stack us d ps front.0) (known_pairs us d es u.equal) (known_pairs us d gs u.goals) t (λ w s on. tt) before in
+      let taken = underway_taken declared c d k (pair_at ts p) (pair_at us q) (stacked (pair_at us) ps) (pairs_at us es) (pairs_at us gs) (pairs_at us ms) [] (pairs_at ws os) (pairs_at ws hs) u.start u.lawful.sound (known_stack us d ps front.0) (known_pairs us d es (bare_pairs us d es u.equal)) (known_pairs us d gs u.goals) t (λ w s on. tt) before in
       let fewer = underway_fewer declared c k (pair_at ts p) (stacked (pair_at us) ps) (pairs_at us es ++ pairs_at ws os) (pairs_at us gs ++ pairs_at ws hs) (pair_at us q ∷ pairs_at us ms) (pairs_at us ms) (λ x i. inr i) taken in
       record {
         start = u.start;
         lawful = lawful;
         pairs = pairs_later ps ext t.later front.0;
         met = goals_later ms ext t.later u.met;
-        waits = rw qe (waits_joined ws es os (waits_later d es ext u.equal u.waits) wait);
-        equal = rw qe (pairs_joined ws k es os (goals_later es ext t.later u.equal) ko);
+        waits = rw qe (waits_joined ws es os (waits_later d es ext (bare_pairs us d es u.equal) u.waits) wait);
+        equal = rw qe (left_joined ws k es os (pairs_later es ext t.later u.equal) ko);
         goals = rw qg (pairs_joined ws k gs hs (goals_later gs ext t.later u.goals) kh);
-        going = rw (stacked_kept d ps ext front.0, joined_at d es os es' ext u.equal qe, joined_at d gs hs gs' ext u.goals qg, pairs_kept d ms ext u.met) fewer;
+        are_goals = goals_to (joined_at d gs hs gs' ext u.goals qg) (AreGoals-append (pairs_at us gs) (pairs_at ws hs) u.are_goals ah);
+        going = rw (stacked_kept d ps ext front.0, joined_at d es os es' ext (bare_pairs us d es u.equal) qe, joined_at d gs hs gs' ext u.goals qg, pairs_kept d ms ext u.met) fewer;
       }
 
   -- two nodes whose parts are left
@@ -185,7 +200,7 @@ module _ (declared : ℕ → List Variance) where
       let t = parts_taken d q.variance a b u.lawful.sound pair.left.knows pair.right.knows one in
       let t' : Takes declared d d (pair_at us q ∷ []) (parts ++ []) [] = rw (append-nil parts) t in
       let left = one.left in
-      let taken = underway_taken declared c d d (pair_at ts p) (pair_at us q) (stacked (pair_at us) ps) (pairs_at us es) (pairs_at us gs) (pairs_at us ms) parts [] [] u.start u.lawful.sound (known_stack us d ps front.0) (known_pairs us d es u.equal) (known_pairs us d gs u.goals) t'
+      let taken = underway_taken declared c d d (pair_at ts p) (pair_at us q) (stacked (pair_at us) ps) (pairs_at us es) (pairs_at us gs) (pairs_at us ms) parts [] [] u.start u.lawful.sound (known_stack us d ps front.0) (known_pairs us d es (bare_pairs us d es u.equal)) (known_pairs us d gs u.goals) t'
       (λ w s on. parts_smaller w q.variance (variances_over declared (form_of a) (parts_of a)) a (parts_of a) (parts_of b) (form_of a) left.with_parts.is left.fits) before in
       let plain : IsUnderway declared c d (pair_at ts p) (parts ++ stacked (pair_at us) ps) (pairs_at us es) (pairs_at us gs) (pair_at us q ∷ pairs_at us ms) = rw (append-nil (pairs_at us es), append-nil (pairs_at us gs)) at taken in
       let fewer = underway_fewer declared c d (pair_at ts p) (parts ++ stacked (pair_at us) ps) (pairs_at us es) (pairs_at us gs) (pair_at us q ∷ pairs_at us ms) (pairs_at us (ms ++ q ∷ [])) (met_last us ms q) plain in
@@ -197,6 +212,7 @@ module _ (declared : ℕ → List Variance) where
         equal = u.equal;
         waits = u.waits;
         goals = u.goals;
+        are_goals = u.are_goals;
         going = rw (pushed.pairs, new) fewer;
       }
 
@@ -215,6 +231,7 @@ module _ (declared : ℕ → List Variance) where
         equal = u.equal;
         waits = u.waits;
         goals = u.goals;
+        are_goals = u.are_goals;
         going = underway_passed declared c d (pair_at ts p) (pair_at us q) (stacked (pair_at us) ps) (pairs_at us es) (pairs_at us gs) (pairs_at us ms) found before;
       })
 
@@ -230,12 +247,60 @@ module _ (declared : ℕ → List Variance) where
   -- at first and in the end
   pub call_start : (ts : List Tree) (e : Entries) (p : Relating) (ps : List Relating) → IsLawful ts e → IsPair ts (content_of ts e) p → ps ≡ p ∷ [] → IsCall declared ts ts e e p ps [] [] []
   call_start ts e p ps lawful pair is =
-      rw is (record { start = lawful.sound; lawful = lawful; pairs = (pair, tt); met = tt; equal = tt; waits = tt; goals = tt; going = underway_start declared (content_of ts e) (pair_at ts p) lawful.sound })
+      rw is (record { start = lawful.sound; lawful = lawful; pairs = (pair, tt); met = tt; equal = tt; waits = tt; goals = tt; are_goals = tt; going = underway_start declared (content_of ts e) (pair_at ts p) lawful.sound })
 
   pub call_end : (ts us : List Tree) (e f : Entries) (p : Relating) (ps ms es gs : List Relating) → IsCall declared ts us e f p ps ms es gs → ps ≡ [] → IsLeft declared ts us e f p es gs
   call_end ts us e f p ps ms es gs u none =
       let last : IsUnderway declared (content_of ts e) (content_of us f) (pair_at ts p) [] (pairs_at us es) (pairs_at us gs) (pairs_at us ms) = rw none at u.going in
-      record { pairs = u.equal; waits = u.waits; goals = u.goals; takes = underway_end declared (content_of ts e) (content_of us f) (pair_at ts p) (pairs_at us es) (pairs_at us gs) (pairs_at us ms) last }
+      record { pairs = u.equal; waits = u.waits; goals = u.goals; are_goals = u.are_goals; takes = underway_end declared (content_of ts e) (content_of us f) (pair_at ts p) (pairs_at us es) (pairs_at us gs) (pairs_at us ms) last }
+
+  -- what a call left is for later, and is taken after all
+  pub call_again : (ts us : List Tree) (e f : Entries) (p : Relating) (es gs : List Relating) → IsSound (content_of ts e) → IsLawful us f → IsLeft declared ts us e f p es gs → IsCall declared ts us e f p [] [] es gs
+  call_again ts us e f p es gs start lawful l =
+      record {
+        start = start;
+        lawful = lawful;
+        pairs = tt;
+        met = tt;
+        equal = l.pairs;
+        waits = l.waits;
+        goals = l.goals;
+        are_goals = l.are_goals;
+        going = underway_again declared (content_of ts e) (content_of us f) (pair_at ts p) (pairs_at us es) (pairs_at us gs) l.takes;
+      }
+
+  pub call_back : (ts us : List Tree) (e f : Entries) (p q : Relating) (ps es gs : List Relating) → IsCall declared ts us e f p ps [] (es ++ q ∷ []) gs → IsCall declared ts us e f p (ps ++ q ∷ []) [] es gs
+  call_back ts us e f p q ps es gs u =
+      let c = content_of ts e in
+      let d = content_of us f in
+      let front = pairs_front us d es q u.equal in
+      let before : IsUnderway declared c d (pair_at ts p) (stacked (pair_at us) ps) (pairs_at us es ++ pair_at us q ∷ []) (pairs_at us gs) [] = rw (map-append (pair_at us) es (q ∷ [])) at u.going in
+      record {
+        start = u.start;
+        lawful = u.lawful;
+        pairs = left_joined us d ps (q ∷ []) u.pairs (front.1, tt);
+        met = tt;
+        equal = front.0;
+        waits = (waits_front us es q u.waits).0;
+        goals = u.goals;
+        are_goals = u.are_goals;
+        going = rw (stacked-push (pair_at us) ps q) (underway_back declared c d (pair_at ts p) (pair_at us q) (stacked (pair_at us) ps) (pairs_at us es) (pairs_at us gs) before);
+      }
+
+  -- what was met may be forgotten
+  pub call_forgets : (ts us : List Tree) (e f : Entries) (p : Relating) (ps ms es gs : List Relating) → IsCall declared ts us e f p ps ms es gs → IsCall declared ts us e f p ps [] es gs
+  call_forgets ts us e f p ps ms es gs u =
+      record {
+        start = u.start;
+        lawful = u.lawful;
+        pairs = u.pairs;
+        met = tt;
+        equal = u.equal;
+        waits = u.waits;
+        goals = u.goals;
+        are_goals = u.are_goals;
+        going = underway_fewer declared (content_of ts e) (content_of us f) (pair_at ts p) (stacked (pair_at us) ps) (pairs_at us es) (pairs_at us gs) (pairs_at us ms) [] (λ x i. absurd i) u.going;
+      }
 
   -- for the measure
   pub taken_less : (us ws : List Tree) (c : Content) (ps : List Relating) (q : Relating) → Extends us ws → ArePairsLeft us c (ps ++ q ∷ []) → left_sizes (stacked (pair_at ws) ps) < left_sizes (stacked (pair_at us) (ps ++ q ∷ []))

@@ -45,7 +45,7 @@ level_none (label.Clause h) e = refl
 level_none (label.Predicate h) e = refl
 level_none (label.List h) e = refl
 
-resolved_leaf : (c : Content) (l : Label) → infer_of l ≡ None → resolved c (node l empty) ≡ node l empty
+pub resolved_leaf : (c : Content) (l : Label) → infer_of l ≡ None → resolved c (node l empty) ≡ node l empty
 resolved_leaf c l e = resolved-node c l empty e ∙ ap (node l) (resolved-empty c)
 
 clean_label : (c : Content) (u : ℕ) (l : Label) → infer_of l ≡ None → region_level l ≡ None → NamesAll region_level u (resolved c (node l empty))
@@ -108,7 +108,7 @@ float_label (label.Ty (ty.Float i)) e = (refl, refl)
 float_label (label.Leaf (leaf.Variable kind.Float n)) e = (refl, refl)
 float_label l e = cc
 
-no_places : (t : Tree) → HavePlaces [] t → t ≡ empty
+pub no_places : (t : Tree) → HavePlaces [] t → t ≡ empty
 no_places empty h = refl
 no_places (more a b) h = absurd h
 no_places (node l c) h = absurd h
@@ -137,14 +137,14 @@ clean_number c u k n number sound solvable has =
     clean_rooted c u (resolved c (variable_tree k n)) (number_clean u k (deeply_resolved c (variable_tree k n)) number fits formed)
 
 -- a node over clean parts
-arguments_resolved : (c : Content) (ts : Tree) → resolved c (arguments ts) ≡ arguments (resolved c ts)
+pub arguments_resolved : (c : Content) (ts : Tree) → resolved c (arguments ts) ≡ arguments (resolved c ts)
 arguments_resolved c ts =
     let b = resolved-more c (node (label.List list.Args) ts) empty in
     let a = resolved-node c (label.List list.Args) ts refl in
     let d = resolved-empty c in
     cc (a, b, d)
 
-sort_label : (l : Label) → kind_of_label l ≡ one_sort → (s : Sort) × (l ≡ label.List (list.Sort s))
+pub sort_label : (l : Label) → kind_of_label l ≡ one_sort → (s : Sort) × (l ≡ label.List (list.Sort s))
 sort_label (label.List (list.Sort s)) e = (s, refl)
 sort_label l e = cc
 

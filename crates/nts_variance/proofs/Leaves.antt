@@ -35,6 +35,8 @@ use Rattle.nts_model.specs.Relations.{Relating, AllKnown, IsJudgedBy, IsSettledW
 use Rattle.nts_model.specs.Leaving.{Judge, judging_of}
 use Rattle.nts_model.specs.Solvable.{IsSolvable}
 use Rattle.nts_model.specs.Substitutions.{leaf_tree}
+use Rattle.nts_model.specs.Measuring.{closed_aliases}
+use Rattle.nts_model.proofs.Variables.{infer_of_none}
 use Rattle.nts_model.proofs.Slots.{KeepsKinds, KeepsKinds-with_slot, Knows-kept, field_below, field-with_slot_new}
 use Rattle.nts_model.proofs.Instances.{inst-node, inst-agrees, Agrees-refl}
 use Rattle.nts_model.proofs.Resolved.{deeply_resolved-deeply_resolved}
@@ -50,7 +52,9 @@ use Rattle.nts_model.proofs.Generalizing.{owed, judged_agrees, owed_met, FreshIn
 use Rattle.nts_unify.specs.Changing.{IsSeen, is_free_region}
 use Rattle.nts_unify.proofs.Keeping.{Keeps-with_constraint}
 use Rattle.nts_variance.proofs.Clean.{clean_leaf, clean_erased, clean_unset, clean_number}
+use Rattle.nts_variance.proofs.CountedPieces.{counted_itself, number_none, leaf_none}
 use Rattle.nts_variance.proofs.Growing.{grown_refl, grown_trans, grown_later, grown_slot}
+use Rattle.nts_variance.specs.Counting.{IsCountedFor}
 use Rattle.nts_variance.specs.Parts.{has_parts}
 use Rattle.nts_variance.specs.Walking.{IsErased, Judges, IsMadeFor, RelatedTrees, RelatedSides, sides, IsMade}
 use Rattle.nts_variance.proofs.Nodes.{answered_sides, settles_sides}
@@ -258,6 +262,22 @@ module _ (declared : ℕ → List Variance) (z : Bool) (u : ℕ) where
       let x = plain_label l s of_kind plain no_type no_const fixed in
       let e = no_children k (subst (λ p. Meets p k) x.1 formed.0) in
       subst (λ a. IsMade declared z u c c v q (node l a) (node l a) []) (sym e) (made_at c v q l sound solvable (subst (λ a. Knows c (node l a)) e knows) x.0)
+
+-- .. which has no closed alias
+plain_none : (c : Content) (l : Label) → IsSound c → IsSolvable c → Knows c (node l empty) → PlainLabel l → closed_aliases (resolved c (node l empty)) ≡ 0
+plain_none c l sound solvable knows (a_number k n number e) =
+    let known : Knows c (variable_tree k n) = subst (λ m. Knows c (node m empty)) e knows in
+    ap (λ m. closed_aliases (resolved c (node m empty))) e ∙ number_none c k n number sound solvable known.0.0
+plain_none c l sound solvable knows (an_erased r h e) = ap (λ m. closed_aliases (resolved c (node m empty))) e ∙ leaf_none c (label.Leaf (leaf.Region r)) refl refl
+plain_none c l sound solvable knows (a_rigid rigid nameless no_alias) = leaf_none c l (infer_of_none l rigid) no_alias
+
+pub counted_plain : (c : Content) (v : Variance) (q : Bool) (l : Label) (k : Tree) (s : Sort) → IsSound c → IsSolvable c → Knows c (node l k) → IsFormed (node l k) → kind_of (node l k) ≡ Some (of_sort s) → has_parts l ≡ false → ((n : ℕ) → l ≡ label.Leaf (leaf.Variable kind.Ty n) → ⊥)
+    → ((n : ℕ) → l ≡ label.Leaf (leaf.Variable kind.Const n) → ⊥) → (is_free_region l ≡ false) ⊎ ((r : FreeRegion) × (l ≡ label.Leaf (leaf.Region r)) × IsErased r) → IsCountedFor c c v q (node l k) (node l k)
+counted_plain c v q l k s sound solvable knows formed sorted plain no_type no_const fixed =
+    let of_kind : kind_of_label l ≡ of_sort s = cc in
+    let x = plain_label l s of_kind plain no_type no_const fixed in
+    let e = no_children k (subst (λ p. Meets p k) x.1 formed.0) in
+    counted_itself c v q (node l k) (ap (λ a. closed_aliases (resolved c (node l a))) e ∙ plain_none c l sound solvable (subst (λ a. Knows c (node l a)) e knows) x.0)
 
 -- the value of a variable for a type or a const stands beside the same
 value_beside : (k : VariableKind) → (k ≡ kind.Ty) ⊎ (k ≡ kind.Const) → (s t : Tree) → kind_of s ≡ kind_of t → (IsClosed t → IsClosed s) → IsFormed s → IsValue k t → IsValue k s

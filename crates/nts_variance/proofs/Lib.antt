@@ -7,6 +7,9 @@ mod Runs
 mod Turns
 mod Leaves
 mod PartLemmas
+mod Debts
+mod Counting
+mod CountedPieces
 mod VaryTurns
 mod Refusing
 mod Owing
@@ -21,3 +24,11 @@ mod Pairing
 mod Underway
 mod Calls
 mod MetGoals
+mod Standing
+mod Lessening
+mod Paying
+mod Equalled
+mod Joining
+mod Onward
+mod Exact
+mod GoalLemmas

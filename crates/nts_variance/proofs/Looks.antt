@@ -51,12 +51,16 @@ use Rattle.nts_relating.proofs.Naming.{lawful_sides}
 use Rattle.nts_variance.specs.declared.along.Relating.{Relating}
 use Rattle.nts_variance.specs.declared.vary_walk.Spot.{Spot}
 use Rattle.nts_variance.specs.Walking.{IsErased, IsMade}
+use Rattle.nts_variance.specs.Counting.{IsCountedFor}
 use Rattle.nts_variance.specs.Parts.{has_parts, form_of, parts_of, none_escapes, closed_alias, const_variable, number_of_type, varies, varies_region}
-use Rattle.nts_variance.specs.Terms.{pairs_at, ArePairs, IsPart}
+use Rattle.nts_variance.specs.Terms.{pairs_at, AreGoals, ArePairs, IsPart}
 use Rattle.nts_variance.specs.Varying.{pair_in, owed_pairs, constraint_of, with_owed, fresh, IsMadeAt, IsTypeValue, IsMadeAgain, IsOwn, IsKept}
 use Rattle.nts_variance.proofs.Pushing.{pair_at-in}
 use Rattle.nts_variance.proofs.PartLemmas.{IsOverParts, over_parts}
-use Rattle.nts_variance.proofs.Leaves.{owed_by, owed_goals, made_plain, made_fresh, made_region, made_region_quietly}
+use Rattle.nts_relating.proofs.Ranks.{kind_of-like}
+use Rattle.nts_variance.proofs.Debts.{closed_patched, like_itself, like_closed, goal_sides}
+use Rattle.nts_variance.proofs.CountedPieces.{counted_fresh, counted_region, counted_recorded, counted_piece}
+use Rattle.nts_variance.proofs.Leaves.{owed_by, owed_goals, made_plain, counted_plain, made_fresh, made_region, made_region_quietly}
 use Rattle.nts_variance.proofs.Likeness.{SettlesAlone}
 use Rattle.nts_variance.proofs.Pieces.{made_piece, plain_unset}
 
@@ -73,23 +77,23 @@ node_meets t l e f = (let g : IsFormed (node l (children t)) = subst IsFormed e 
 pub looked_value : (ts : List Tree) (e : Entries) (t : Tree) (l : Label) (n r : ℕ) (v : NodeId) → IsLawful ts e → Knows (content_of ts e) t → t ≡ node l (children t) → infer_of l ≡ Some n → HasClass e n r (Known v) → IsIn ts v × IsValueOf (content_of ts e) t (tree_at ts v)
 looked_value ts e t l n r v lawful knows is i class = (let k = head_known ts e t l n r v lawful knows is i class in (k.within, value_of ts e t v k))
 
-pub looked_type_value : (ts : List Tree) (e : Entries) (t : Tree) (n r : ℕ) (v : NodeId) → IsLawful ts e → Knows (content_of ts e) t → label_of t ≡ Some (label.Leaf (leaf.Variable kind.Ty n)) → HasClass e n r (Known v) → IsIn ts v × IsTypeValue (content_of ts e) t (tree_at ts v)
-looked_type_value ts e t n r v lawful knows is class =
-    let k = looked_value ts e t (label.Leaf (leaf.Variable kind.Ty n)) n r v lawful knows (labelled_node t _ is) refl class in
-    (k.0, record { value = k.1; number = n; is = is })
-
--- the variable for which the whole is made
-pub looked_own : (ts : List Tree) (e : Entries) (t : Tree) (l : Label) (n r x : ℕ) → IsLawful ts e → Knows (content_of ts e) t → t ≡ node l (children t) → IsFormed t → infer_of l ≡ Some n → HasClass e n r Unset → r ≡ x → IsOwn (content_of ts e) x t
-looked_own ts e t l n r x lawful knows is formed i class q =
-    let o = head_open ts e t l n r lawful knows is (node_meets t l is formed) i class in
-    record { infer = o.infer; own = λ w z. o.worlds w z ∙ ap w.tree q }
-
 -- a type variable is closed
 pub variable_closed : (t : Tree) (n : ℕ) → label_of t ≡ Some (label.Leaf (leaf.Variable kind.Ty n)) → IsFormed t → IsClosed t × (kind_of t ≡ Some (of_sort sort.Ty)) × IsInfer t
 variable_closed t n e formed =
     let is = labelled_node t (label.Leaf (leaf.Variable kind.Ty n)) e in
     let whole : t ≡ variable_tree kind.Ty n = is ∙ ap (node (label.Leaf (leaf.Variable kind.Ty n))) (no_children (children t) (node_meets t _ is formed)) in
     (subst IsClosed (sym whole) (tt, tt), ap kind_of whole, subst IsInfer (sym whole) (n, refl))
+
+pub looked_type_value : (ts : List Tree) (e : Entries) (t : Tree) (n r : ℕ) (v : NodeId) → IsLawful ts e → Knows (content_of ts e) t → IsFormed t → label_of t ≡ Some (label.Leaf (leaf.Variable kind.Ty n)) → HasClass e n r (Known v) → IsIn ts v × IsTypeValue (content_of ts e) t (tree_at ts v)
+looked_type_value ts e t n r v lawful knows formed is class =
+    let k = looked_value ts e t (label.Leaf (leaf.Variable kind.Ty n)) n r v lawful knows (labelled_node t _ is) refl class in
+    (k.0, record { value = k.1; number = n; is = is; closed = (variable_closed t n is formed).0 })
+
+-- the variable for which the whole is made
+pub looked_own : (ts : List Tree) (e : Entries) (t : Tree) (l : Label) (n r x : ℕ) → IsLawful ts e → Knows (content_of ts e) t → t ≡ node l (children t) → IsFormed t → infer_of l ≡ Some n → HasClass e n r Unset → r ≡ x → IsOwn (content_of ts e) x t
+looked_own ts e t l n r x lawful knows is formed i class q =
+    let o = head_open ts e t l n r lawful knows is (node_meets t l is formed) i class in
+    record { infer = o.infer; own = λ w z. o.worlds w z ∙ ap w.tree q }
 
 -- a variable without a value has no aliases
 pub looked_unset : (ts : List Tree) (e : Entries) (t : Tree) (l : Label) (n r : ℕ) → IsLawful ts e → Knows (content_of ts e) t → t ≡ node l (children t) → IsFormed t → infer_of l ≡ Some n → HasClass e n r Unset → any_label is_alias (resolved (content_of ts e) t) ≡ false
@@ -115,11 +119,26 @@ kept_slot c s x below =
     let apart : x ≡ length c.slots → ⊥ = λ e. omega (arith, below, e) in
     record { state = field-with_slot_old (λ y. y.state) c s x apart; universe = field-with_slot_old (λ y. y.universe) c s x apart }
 
+-- what a fresh variable for a type variable or a closed alias owes is a goal
+fresh_owes : (q z : Bool) (v : Variance) (k : VariableKind) (n : ℕ) (t : Tree) → IsClosed t → kind_of t ≡ Some (of_sort (sort_of_variable k)) → IsInfer t ⊎ IsAlias t → (IsInfer t → (v ≢ variance.Invariant) × (k ≡ kind.Ty)) → AreGoals (owed_goals q z v (variable_tree k n) t)
+fresh_owes true z v k n t closed sorted either varies = tt
+fresh_owes false z v k n t closed sorted either varies = (
+  goal_sides z v (variable_tree k n) t (record {
+    left = (tt, tt);
+    right = closed;
+    kinds = sym sorted;
+    rests = ⊎_elim
+        (λ i. (let p = varies i in let own : Some (of_sort (sort_of_variable k)) ≡ Some (of_sort sort.Ty) = ap (λ j. Some (of_sort (sort_of_variable j))) p.1 in inr (p.0, own, sorted ∙ own)))
+        (λ a. inl (inr a)) either;
+  }),
+  tt,
+)
+
 -- a fresh variable for a type variable or a closed alias
 pub fresh_at : (declared : ℕ → List Variance) (z : Bool) (u x : ℕ) (ts us : List Tree) (e f : Entries) (s : Spot) (r : NodeId) (gs hs : List Relating) (k : VariableKind) (o : Option ℕ) → x < length e.variables → (k ≡ kind.Ty) ⊎ (k ≡ kind.Const) → IsLawful ts e → IsLawful us f → Extends ts us → IsPart ts (content_of ts e) s
-    → IsFormed (tree_at ts s.term) → IsClosed (tree_at ts s.term) → kind_of (tree_at ts s.term) ≡ Some (of_sort (sort_of_variable k)) → IsInfer (tree_at ts s.term) ⊎ IsAlias (tree_at ts s.term)
+    → IsFormed (tree_at ts s.term) → IsClosed (tree_at ts s.term) → kind_of (tree_at ts s.term) ≡ Some (of_sort (sort_of_variable k)) → IsInfer (tree_at ts s.term) ⊎ IsAlias (tree_at ts s.term) → (IsInfer (tree_at ts s.term) → (s.variance ≢ variance.Invariant) × (k ≡ kind.Ty))
     → IsIn us r → tree_at us r ≡ variable_tree k (length e.variables) → f ≡ added e (fresh k u o) → hs ≡ gs ++ owed_pairs z s r → IsMadeAt declared z u x ts us e f s r gs hs
-fresh_at declared z u x ts us e f s r gs hs k o below sort lawful later ext part formed closed sorted varies within is q goals =
+fresh_at declared z u x ts us e f s r gs hs k o below sort lawful later ext part formed closed sorted either varies within is q goals =
     let c = content_of ts e in
     let slot = slot_of us (fresh k u o) in
     let t = tree_at ts s.term in
@@ -127,7 +146,7 @@ fresh_at declared z u x ts us e f s r gs hs k o below sort lawful later ext part
     let kept : tree_at us s.term ≡ t = ext.kept s.term part.within in
     let tree : tree_at us r ≡ variable_tree k (length c.slots) = is ∙ ap (variable_tree k) (sym (length-slots ts e.variables)) in
     let new : pairs_at us (owed_pairs z s r) ≡ owed_goals s.is_quiet z s.variance (variable_tree k (length c.slots)) t = owed_at us z s.is_quiet s.variance r s.term ∙ (λ i. owed_goals s.is_quiet z s.variance (tree i) (kept i)) in
-    let whole = made_fresh declared z c slot refl lawful.sound (lawful_sides ts e lawful) u refl s.variance s.is_quiet t sort part.knows formed closed sorted varies in
+    let whole = made_fresh declared z c slot refl lawful.sound (lawful_sides ts e lawful) u refl s.variance s.is_quiet t sort part.knows formed closed sorted either in
     let made : IsMade declared z u c (content_of us f) s.variance s.is_quiet t (tree_at us r) (pairs_at us (owed_pairs z s r)) = rw (content, tree, new) whole in
     record {
       within = within;
@@ -137,6 +156,9 @@ fresh_at declared z u x ts us e f s r gs hs k o below sort lawful later ext part
       known = pairs_known us (content_of us f) z s.is_quiet s.variance r s.term within (IsIn-extended ext s.term part.within) made.goals;
       made = made;
       kept = rw content (kept_slot c slot x (omega (arith, below, length-slots ts e.variables)));
+      like = rw tree (like_closed t (variable_tree k (length c.slots)) (tt, tt) (sym sorted));
+      are_goals = rw new (fresh_owes s.is_quiet z s.variance k (length c.slots) t closed sorted either varies);
+      counted = rw (content, tree) (counted_fresh c slot s.variance s.is_quiet t refl lawful.sound sort either (λ i. (varies i).0));
     }
 
 -- a fresh region
@@ -171,6 +193,31 @@ region_made declared z u ts us e false v r t lawful ext within knows free is =
     content_of-constrained us m (constraint_of (pair_in z v r t)) ∙ (λ i. with_constraint (before i) (x i)) in
     rw (content, tree) (made_region declared z c slot refl lawful.sound (lawful_sides ts e lawful) u refl v (tree_at ts t) refl knows free)
 
+region_counted : (z : Bool) (u : ℕ) (ts us : List Tree) (e : Entries) (q : Bool) (v : Variance) (r t : NodeId) → IsLawful ts e → Extends ts us → IsRegion (tree_at ts t) → tree_at us r ≡ variable_tree kind.Region (length e.variables)
+    → IsCountedFor (content_of ts e) (content_of us (after q z v r t (added e (fresh kind.Region u None)))) v q (tree_at ts t) (tree_at us r)
+region_counted z u ts us e q v r t lawful ext free is = by_case q
+  where
+    c : Content
+    c = content_of ts e
+
+    m : Entries
+    m = added e (fresh kind.Region u None)
+
+    content : content_of us m ≡ with_slot c (slot_of us (fresh kind.Region u None))
+    content = content_fresh ts us e _ (fresh kind.Region u None) lawful ext refl
+
+    tree : tree_at us r ≡ variable_tree kind.Region (length c.slots)
+    tree = is ∙ ap (variable_tree kind.Region) (sym (length-slots ts e.variables))
+
+    fresh_one : (p : Bool) → IsCountedFor c (content_of us m) v p (tree_at ts t) (tree_at us r)
+    fresh_one p = rw (content, tree) (counted_region c (slot_of us (fresh kind.Region u None)) v p (tree_at ts t) refl lawful.sound refl free)
+
+    by_case : (p : Bool) → IsCountedFor c (content_of us (after p z v r t m)) v p (tree_at ts t) (tree_at us r)
+    by_case true = fresh_one true
+    by_case false =
+        rw (content_of-constrained us m (constraint_of (pair_in z v r t)))
+        (counted_recorded c (content_of us m) (recorded_of us (constraint_of (pair_in z v r t))) v false (tree_at ts t) (tree_at us r) (fresh_one false))
+
 region_kept : (u x : ℕ) (ts us : List Tree) (e : Entries) (q z : Bool) (v : Variance) (r t : NodeId) → x < length e.variables → IsLawful ts e → Extends ts us → IsKept (content_of ts e) (content_of us (after q z v r t (added e (fresh kind.Region u None)))) x
 region_kept u x ts us e true z v r t below lawful ext =
     let w = fresh kind.Region u None in
@@ -192,6 +239,9 @@ region_at declared z u x ts us e f s r gs below lawful later ext free within is 
       known = tt;
       made = rw q (region_made declared z u ts us e s.is_quiet s.variance r s.term lawful ext free.within free.knows free.free is);
       kept = rw q (region_kept u x ts us e s.is_quiet z s.variance r s.term below lawful ext);
+      like = rw is (like_closed (tree_at ts s.term) (variable_tree kind.Region (length e.variables)) (tt, tt) (sym free.sort));
+      are_goals = tt;
+      counted = rw q (region_counted z u ts us e s.is_quiet s.variance r s.term lawful ext free.free is);
     }
 
 -- a part that stands for itself
@@ -201,6 +251,7 @@ itself_at declared z u x ts e s gs l lawful part formed is plain no_type no_cons
     let c = content_of ts e in
     let t = tree_at ts s.term in
     let whole = made_plain declared z u c s.variance s.is_quiet l (children t) part.sort lawful.sound lawful.proper.solvable (subst (Knows c) is part.knows) (subst IsFormed is formed) (ap kind_of (sym is) ∙ part.kind) plain no_type no_const (fixed_region l fixed) in
+    let count = counted_plain c s.variance s.is_quiet l (children t) part.sort lawful.sound lawful.proper.solvable (subst (Knows c) is part.knows) (subst IsFormed is formed) (ap kind_of (sym is) ∙ part.kind) plain no_type no_const (fixed_region l fixed) in
     record {
       within = part.within;
       lawful = lawful;
@@ -209,6 +260,9 @@ itself_at declared z u x ts e s gs l lawful part formed is plain no_type no_cons
       known = tt;
       made = subst (λ y. IsMade declared z u c c s.variance s.is_quiet y y []) (sym is) whole;
       kept = record { state = refl; universe = refl };
+      like = like_itself t;
+      are_goals = tt;
+      counted = subst (λ y. IsCountedFor c c s.variance s.is_quiet y y) (sym is) count;
     }
   where
     fixed_free : (r : FreeRegion) → varies_region r ≡ false → (is_free_region (label.Leaf (leaf.Region r)) ≡ false) ⊎ ((q : FreeRegion) × (label.Leaf (leaf.Region r) ≡ label.Leaf (leaf.Region q)) × IsErased q)
@@ -240,6 +294,9 @@ value_at declared z u x b ts us e f s r gs below no_region lawful later part for
       known = tt;
       made = made_piece declared z u (content_of ts e) (content_of us f) x b s.variance s.is_quiet (tree_at ts s.term) (tree_at us r) part.sort lawful.sound later.sound later.proper.solvable part.knows formed part.kind plain values alone gen gen.clean;
       kept = (let keeps = gen.keeps in record { state = keeps.states x (omega (arith, below, length-slots ts e.variables)) no_region; universe = gen.own });
+      like = record { closed = closed_patched (tree_at ts s.term) (tree_at us r) gen.patched; kind = kind_of-like (tree_at us r) (tree_at ts s.term) gen.like };
+      are_goals = tt;
+      counted = counted_piece (content_of ts e) (content_of us f) x u b s.variance s.is_quiet (tree_at ts s.term) (tree_at us r) later.sound part.knows values gen;
     }
 
 -- closed and open trees by the level that escapes
@@ -258,7 +315,7 @@ pub open_tree : (t : Tree) → none_escapes (escaping t) ≡ false → IsClosed 
 open_tree t e closed = not_below (escaping t) e ((closed_under 0 t).1 closed)
 
 -- a closed alias
-alias_tree : (l : Label) (c : Tree) → IsFormed (node l c) → is_alias l ≡ true → IsClosed (node l c) → IsAlias (node l c)
+pub alias_tree : (l : Label) (c : Tree) → IsFormed (node l c) → is_alias l ≡ true → IsClosed (node l c) → IsAlias (node l c)
 alias_tree (label.Ty (ty.Alias i)) c f e closed = (let k = over_parts (label.Ty (ty.Alias i)) c f refl in record { head = alias_of.Ty i; parts = parts_of (node (label.Ty (ty.Alias i)) c); is = k.with_parts.is; closed = closed })
 alias_tree (label.Const (konst.Unevaluated i)) c f e closed = (let k = over_parts (label.Const (konst.Unevaluated i)) c f refl in record { head = alias_of.Const i; parts = parts_of (node (label.Const (konst.Unevaluated i)) c); is = k.with_parts.is; closed = closed })
 alias_tree l c f e closed = cc

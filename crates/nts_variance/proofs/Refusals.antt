@@ -1,5 +1,5 @@
 -- Rows of taking pairs: what no settled solution relates.
-use Rattle.std.proofs.Common.{◌≡◌, ◌⊎◌, ⊎_elim, ℕ, Bool, true, false, List, [], ◌∷◌, Some, refl, sym, ap, ◌∙◌, subst, arith}
+use Rattle.std.proofs.Common.{◌≡◌, ◌⊎◌, inl, inr, ⊎_elim, ℕ, Bool, true, false, List, [], ◌∷◌, Some, refl, sym, ap, ◌∙◌, subst, arith}
 use Rattle.nts_model.specs.declared.labels.Sort.{Sort}
 use Rattle.nts_model.specs.declared.labels.Sort.TheVariants as sort
 use Rattle.nts_model.specs.declared.labels.Variance.{Variance}
@@ -29,8 +29,13 @@ use Rattle.nts_relating.proofs.Naming.{alone_label}
 use Rattle.nts_relating.proofs.PairLemmas.{not_infer}
 use Rattle.nts_relating.proofs.RegionLemmas.{free_region}
 use Rattle.nts_variance.specs.Pairs.{Refuses}
+use Rattle.nts_store.specs.declared.nodes.NodeId.{NodeId}
+use Rattle.nts_store.specs.Growth.{tree_at}
+use Rattle.nts_variance.specs.declared.along.Relating.{Relating as Goal}
+use Rattle.nts_variance.specs.Terms.{pair_at}
+use Rattle.nts_variance.specs.Taking.{AreNoSides, IsSide}
 use Rattle.nts_variance.specs.Parts.{form_of, parts_of}
-use Rattle.nts_variance.specs.Varying.{IsMadeAgain}
+use Rattle.nts_variance.specs.Varying.{pair_in, IsMadeAgain}
 use Rattle.nts_variance.proofs.Bound.{closed_back}
 use Rattle.nts_variance.proofs.Looks.{node_meets}
 use Rattle.nts_variance.proofs.Nodes.{parts_known}
@@ -98,6 +103,12 @@ region_apart J law c w v a b s z ka kb formed sorted region none h = by_sort s s
     by_sort sort.Ty e = (let x : kind_of (inst w b) ≡ Some (of_sort sort.Ty) = Fits-inst c w kind.Ty b z.fitting kb e in let y : Some (of_sort sort.Ty) ≡ Some (of_sort sort.Region) = sym x ∙ same in cc)
     by_sort sort.Const e = (let x : kind_of (inst w b) ≡ Some (of_sort sort.Const) = Fits-inst c w kind.Const b z.fitting kb e in let y : Some (of_sort sort.Const) ≡ Some (of_sort sort.Region) = sym x ∙ same in cc)
 
+-- an instance of a closed type, region or const is of its kind
+kind_kept : (c : Content) (w : World) (t : Tree) (s : Sort) → Solves c w → Knows c t → IsFormed t → kind_of t ≡ Some (of_sort s) → IsClosed t → kind_of (inst w t) ≡ kind_of t
+kind_kept c w t sort.Ty z k f e o = (let x : kind_of (inst w t) ≡ Some (of_sort sort.Ty) = Fits-inst c w kind.Ty t z.fitting k e in x ∙ sym e)
+kind_kept c w t sort.Const z k f e o = (let x : kind_of (inst w t) ≡ Some (of_sort sort.Const) = Fits-inst c w kind.Const t z.fitting k e in x ∙ sym e)
+kind_kept c w t sort.Region z k f e o = region_kind (inst w t) (Fits-inst c w kind.Region t z.fitting k (closed_region c t k f e o)) ∙ sym e
+
 no_free_label : (t : Tree) (l : Label) → t ≡ node l (children t) → is_free_region l ≡ false → IsRegion t → ⊥
 no_free_label t l is e r =
     let i : IsRegion (node l (children t)) = subst IsRegion is r in
@@ -114,16 +125,24 @@ parts_formed (an_alias (alias_of.Ty i)) ts k = k.1.0.1
 parts_formed (an_alias (alias_of.Const i)) ts k = k.1.0.1
 
 module _ (declared : ℕ → List Variance) where
-  -- a goal needs closed sides
-  pub refuses_open : (c : Content) (v : Variance) (a b : Tree) → Knows c a → Knows c b → IsFormed a → IsFormed b → IsClosed a ⊎ IsClosed b → (IsClosed a → IsClosed b → ⊥) → Refuses declared c (pair_of v a b ∷ [])
-  refuses_open c v a b ka kb fa fb one both =
+  -- a goal needs closed sides of one kind
+  pub refuses_owed : (c : Content) (v : Variance) (a b : Tree) (i k : Sort) → Knows c a → Knows c b → IsFormed a → IsFormed b → kind_of a ≡ Some (of_sort i) → kind_of b ≡ Some (of_sort k) → IsClosed a ⊎ IsClosed b → AreNoSides a b → Refuses declared c (pair_of v a b ∷ [])
+  refuses_owed c v a b i k ka kb fa fb sa sb one none =
       record {
         none = λ j w s judges settled h.
-            (let across = settles_closed (judging_of declared j) j.lawful v (inst w a) (inst w b) h.0 0 in
+            (let J = judging_of declared j in
+            let across = settles_closed J j.lawful v (inst w a) (inst w b) h.0 0 in
+            let both : IsClosed a → IsClosed b → ⊥ = λ p q.
+            none p q (sym (kind_kept c w a i s ka fa sa p) ∙ settles_kind J j.lawful v (inst w a) (inst w b) h.0 ∙ kind_kept c w b k s kb fb sb q) in
             ⊎_elim
             (λ p. both p (closed_back w 0 b fb (across.0 (IsClosed-inst c w 0 a s.fitting ka p))))
             (λ p. both (closed_back w 0 a fa (across.1 (IsClosed-inst c w 0 b s.fitting kb p))) p) one);
       }
+
+  -- .. of which the closed one stands on one side of a pair
+  pub refuses_side : (ts : List Tree) (c : Content) (z : Bool) (v : Variance) (own t : NodeId) (p : Goal) → p ≡ pair_in z v own t → IsSide ts c own → IsSide ts c t → IsFormed (tree_at ts own) → IsFormed (tree_at ts t) → IsClosed (tree_at ts own) → AreNoSides (tree_at ts p.left) (tree_at ts p.right) → Refuses declared c (pair_at ts p ∷ [])
+  refuses_side ts c false v own t p is so st fo ft closed none = (rw is (refuses_owed c v (tree_at ts own) (tree_at ts t) so.sort st.sort so.knows st.knows fo ft so.kind st.kind (inl closed) (rw is at none)))
+  refuses_side ts c true v own t p is so st fo ft closed none = (rw is (refuses_owed c (opposite v) (tree_at ts t) (tree_at ts own) st.sort so.sort st.knows so.knows ft fo st.kind so.kind (inr closed) (rw is at none)))
 
   -- a free region and another tree
   refuses_region : (c : Content) (v : Variance) (a b : Tree) (s : Sort) → Knows c a → Knows c b → IsFormed b → kind_of b ≡ Some (of_sort s) → IsRegion a → (IsRegion b → ⊥) → Refuses declared c (pair_of v a b ∷ [])

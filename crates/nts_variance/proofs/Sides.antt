@@ -8,7 +8,7 @@ use Rattle.nts_model.specs.declared.labels.VariableKind.TheVariants as kind
 use Rattle.nts_model.specs.declared.labels.Leaf.TheVariants as leaf
 use Rattle.nts_model.specs.declared.labels.Label.{Label}
 use Rattle.nts_model.specs.declared.labels.Label.TheVariants as label
-use Rattle.nts_model.specs.Trees.{Tree, empty, node, label_of, children, is_alias, kind_of, kind_of_label, of_sort, shape, Meets, IsFormed}
+use Rattle.nts_model.specs.Trees.{Tree, empty, node, label_of, children, is_alias, kind_of, kind_of_label, of_sort, shape, Meets, IsClosed, IsFormed}
 use Rattle.nts_model.specs.Contents.{Content}
 use Rattle.nts_model.specs.Resolving.{infer_of, variable_of, variable_tree, resolved, rooted, Knows, IsInfer}
 use Rattle.nts_model.specs.Holding.{AreOne}
@@ -22,6 +22,7 @@ use Rattle.nts_unify.specs.Reading.{content_of, IsLawful}
 use Rattle.nts_unify.specs.Roots.{IsRoot, HasClass}
 use Rattle.nts_unify.proofs.Leading.{Reaches-leads}
 use Rattle.nts_relating.specs.Relating.{IsOpen}
+use Rattle.std.specs.Option.{is_some}
 use Rattle.nts_relating.proofs.HeadLemmas.{variable_node, head_open}
 use Rattle.nts_relating.proofs.RegionLemmas.{IsRegionVariable, regions-one}
 use Rattle.nts_variance.specs.Parts.{has_parts, none_escapes, closed_alias, number_of_type}
@@ -72,6 +73,11 @@ type_variable (label.Const h) n e = cc
 type_variable (label.Clause h) n e = cc
 type_variable (label.Predicate h) n e = cc
 type_variable (label.List h) n e = cc
+
+-- a type variable is closed
+pub type_closed : (t : Tree) (l : Label) (o : Option ℕ) → t ≡ node l (children t) → Meets (shape l) (children t) → number_of_type l ≡ o → is_some o ≡ true → IsClosed t
+type_closed t l None is m named some = cc
+type_closed t l (Some n) is m named some = subst IsClosed (sym (variable_node t l kind.Ty n is m (type_variable l n named))) (tt, tt)
 
 rooted_at : (ts : List Tree) (e : Entries) (t : Tree) (l : Label) (n r : ℕ) → IsLawful ts e → Knows (content_of ts e) t → t ≡ node l (children t) → Meets (shape l) (children t) → number_of_type l ≡ Some n → IsRoot e n r → resolved (content_of ts e) t ≡ resolved (content_of ts e) (variable_tree kind.Ty r)
 rooted_at ts e t l n r lawful knows is m named root =

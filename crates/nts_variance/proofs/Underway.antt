@@ -169,3 +169,33 @@ module _ (declared : ℕ → List Variance) where
         leaves = leaves_by declared c c (q ∷ []) [] (q ∷ []) (λ j. leaves_goal (judging_of declared j) j.lawful c q);
         relates = record { related = λ f s on ks g h. (answered_sides declared false f ks q.variance q.left q.right g.0, tt) };
       }
+
+  -- what was left for later is taken after all, where no pair was met
+  sorted_back : (q : Relating) (left es : List Relating) (j : Judge declared) (w : World) → AllSettleIn (judging_of declared j) w (left ++ (es ++ q ∷ [])) → AllSettleIn (judging_of declared j) w ((q ∷ left) ++ es)
+  sorted_back q left es j w h =
+      let J = judging_of declared j in
+      let law = j.lawful in
+      let x = settle_parted J law w left (es ++ q ∷ []) h in
+      let y = settle_parted J law w es (q ∷ []) x.1 in
+      (y.1.0, settle_joined J law w left es x.0 y.0)
+
+  pub underway_back : (c d : Content) (p q : Relating) (left es gs : List Relating) → IsUnderway declared c d p left (es ++ q ∷ []) gs [] → IsUnderway declared c d p (q ∷ left) es gs []
+  underway_back c d p q left es gs u =
+      record {
+        later = u.later;
+        continues = u.continues;
+        leaves = Leaves-to c d (p ∷ []) (left ++ (es ++ q ∷ [])) ((q ∷ left) ++ es) gs (sorted_back q left es) u.leaves;
+        sound = λ w v h. u.sound w (record { sound = v.sound; continues = v.continues; answered = v.answered; equal = related_joined w.table w.answers es (q ∷ []) v.equal (h.0, tt) }) h.1;
+        meets = λ w v x i h. absurd i;
+      }
+
+  -- all that a call left is for later
+  pub underway_again : (c d : Content) (p : Relating) (es gs : List Relating) → Takes declared c d (p ∷ []) es gs → IsUnderway declared c d p [] es gs []
+  underway_again c d p es gs t =
+      record {
+        later = t.later;
+        continues = t.continues;
+        leaves = t.leaves;
+        sound = λ w v h. (t.relates.related w.table v.sound v.continues w.answers v.answered v.equal).0;
+        meets = λ w v x i h. absurd i;
+      }

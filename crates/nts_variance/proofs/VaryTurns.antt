@@ -3,6 +3,7 @@ use Rattle.std.proofs.Common.{◌≡◌, ◌≢◌, inl, inr, ⊎_elim, ℕ, zer
 use Rattle.std.specs.Prelude.{◌^◌}
 use Rattle.std.proofs.lemmas.List.{append-nil, map-append}
 use Rattle.nts_model.specs.declared.labels.Variance.{Variance}
+use Rattle.nts_model.specs.declared.labels.Variance.TheVariants as variance
 use Rattle.nts_model.specs.declared.labels.VariableKind.TheVariants as kind
 use Rattle.nts_model.specs.Trees.{Tree, empty, more, node, size, NodeKind, kind_of, IsRow, row_length, FitsPlace, AllFit, IsFormed}
 use Rattle.nts_model.specs.Contents.{Content, kind_at}
@@ -12,6 +13,7 @@ use Rattle.nts_model.specs.Worlds.{inst}
 use Rattle.nts_model.specs.Related.{rest_variances}
 use Rattle.nts_model.specs.Forms.{Form, over, variances_over}
 use Rattle.nts_model.specs.Judging.{Settles}
+use Rattle.nts_model.specs.Measuring.{closed_aliases}
 use Rattle.nts_model.specs.Relations.{AllKnown}
 use Rattle.nts_model.specs.Relations.{Relating as Pair}
 use Rattle.nts_model.specs.Leaving.{judging_of}
@@ -24,6 +26,7 @@ use Rattle.nts_store.specs.Growth.{tree_at, trees_at, IsIn, AllIn, Extends}
 use Rattle.nts_store.proofs.Growing.{IsIn-extended, Extends-refl, Extends-trans, row_length-trees_at, IsRow-trees_at}
 use Rattle.nts_unify.specs.Entries.{Entries}
 use Rattle.nts_unify.specs.Reading.{content_of, IsLawful}
+use Rattle.nts_unify.specs.Changing.{unset_count}
 use Rattle.nts_unify.specs.Lawful.{IsLawful-extended, content_of-extended}
 use Rattle.nts_unify.proofs.Changes.{length-slots}
 use Rattle.nts_relating.specs.Parts.{IsValueOf}
@@ -33,11 +36,15 @@ use Rattle.nts_variance.specs.declared.vary_walk.Task.TheVariants as task
 use Rattle.nts_variance.specs.declared.vary_walk.Spot.{Spot}
 use Rattle.nts_variance.specs.Steps.{Step, enter, build, owe, steps_of, stacked, popped, unpopped, entering, part_place, PartsFit, kinds_left, EndsAlone, builds, Runs, MadeForRow}
 use Rattle.nts_variance.specs.Walking.{IsGrown, IsMadeFor, MadeIn, NothingOwed, IsChoice, SettlesOwed, sides, weights, KnowsStep, KnowsSteps, KnowsTrees, Walks}
+use Rattle.nts_variance.specs.Counting.{IsCounted}
 use Rattle.nts_variance.specs.Parts.{form_of, parts_of}
-use Rattle.nts_variance.specs.Terms.{pair_at, pairs_at, ArePairs, step_at, IsPart, IsNode, IsTask, AreTasks, AreMade}
+use Rattle.nts_variance.specs.Debts.{OweGoals}
+use Rattle.nts_variance.specs.Terms.{pair_at, pairs_at, AreGoals, ArePairs, step_at, IsPart, IsNode, IsTask, AreTasks, AreMade}
 use Rattle.nts_variance.specs.Varying.{AreInside, BuildsKnown, IsWalk, IsTurn, IsMadeAt, IsTypeValue, IsMadeAgain, ArePartsPushed, IsOwn, WalkRefuses, IsVaried, IsKept}
 use Rattle.nts_variance.proofs.Growing.{grown_refl, grown_trans, Knows-grown, region_never}
 use Rattle.nts_variance.proofs.Clean.{clean_over}
+use Rattle.nts_variance.proofs.Debts.{type_kind, owe_at, owe_value, owe_through, owe_node, owe_built, goals_to, AreGoals-append, goal_sides}
+use Rattle.nts_variance.proofs.Counting.{counted_at, counted_to, counted_start, counted_made, counted_through, counted_node, counted_built, counted_owed}
 use Rattle.nts_variance.proofs.Runs.{stacked-push, pushed, unpopped_pushed, popped_row, made_row, unentered}
 use Rattle.nts_variance.proofs.Turns.{judges_agree, walks_none, walks_then, walk_made}
 use Rattle.nts_variance.proofs.Nodes.{made_over, made_value, kinds_on, left_on, weights_node, weights_value, weights_value_on, weights_built, weights_owed, weights_made, weights_later, builds_entering, ends_node, ends_made, ends_built, ends_value, ends_value_on, size_run, walk_node, walk_built, walk_value, walk_value_on, walk_owed}
@@ -305,6 +312,11 @@ module _ (declared : ℕ → List Variance) (z : Bool) (u x : ℕ) where
             known (knows_made ts c u ms w.made) (known_pairs ts c gs w.goals) own);
         less = omega (arith, ap (weights d) steps, weights_later c d (stacked (step_at ts) xs) own.trees known, ap (weights c) here, weights_made c s.variance s.is_quiet t (stacked (step_at ts) xs));
         kept = m.kept;
+        trees = own.trees;
+        owes = λ h k.
+            (let before = rw here at h in
+            (owe_at steps trees (before (tree_at us r) m.like), goals_to goals (AreGoals-append (pairs_at ts gs) (pairs_at us m.new) k m.are_goals)));
+        counted = counted_at here steps refl trees (counted_made c d s.variance s.is_quiet t (tree_at us r) (stacked (step_at ts) xs) (stacked (tree_at ts) ms) own.trees known (knows_made ts c u ms w.made) m.counted);
       })
 
   -- the walk with other tasks, where store and table are as they were
@@ -320,8 +332,8 @@ module _ (declared : ℕ → List Variance) (z : Bool) (u x : ℕ) where
       record { within = within; knows = k.knows; closed = k.closed; room = omega (arith, room); sort = p.sort; kind = k.value_sort ∙ sym k.own_sort ∙ p.kind }
 
   turn_value_here : (ts : List Tree) (e : Entries) (xs ys : List Task) (s : Spot) (v : NodeId) (ms : List NodeId) (gs : List Relating) → IsWalk ts e u x (xs ++ task.Enter s ∷ []) ms gs → s.is_quiet ≡ false → IsIn ts v → v.number < 2 ^ 64
-      → IsTypeValue (content_of ts e) (tree_at ts s.term) (tree_at ts v) → ys ≡ (xs ++ task.Owe s ∷ []) ++ task.Enter (record { term = v; binders = 0; variance = s.variance; is_quiet = true }) ∷ [] → IsTurn declared z u x ts ts e e (xs ++ task.Enter s ∷ []) ys ms ms gs gs
-  turn_value_here ts e xs ys s v ms gs w loud within room value is =
+      → IsTypeValue (content_of ts e) (tree_at ts s.term) (tree_at ts v) → s.variance ≢ variance.Invariant → ys ≡ (xs ++ task.Owe s ∷ []) ++ task.Enter (record { term = v; binders = 0; variance = s.variance; is_quiet = true }) ∷ [] → IsTurn declared z u x ts ts e e (xs ++ task.Enter s ∷ []) ys ms ms gs gs
+  turn_value_here ts e xs ys s v ms gs w loud within room value varies is =
       let c = content_of ts e in
       let t = tree_at ts s.term in
       let k = value.value in
@@ -344,6 +356,11 @@ module _ (declared : ℕ → List Variance) (z : Bool) (u x : ℕ) where
         walks = walks_at here there refl refl refl refl (walk_value declared z u c s.variance t (tree_at ts v) rest (stacked (tree_at ts) ms) (pairs_at ts gs) w.lawful.sound k.infer k.closed same k.worlds);
         less = omega (arith, ap (weights c) here, ap (weights c) there, weights_value c s.variance t (tree_at ts v) rest k.lower k.same);
         kept = kept_refl c x;
+        trees = λ a h. refl;
+        owes = λ h g.
+            (let before = rw here at h in
+            (owe_at there refl (owe_value s.variance t (tree_at ts v) rest (stacked (tree_at ts) ms) value.closed k.closed same (type_kind t value.number value.is) varies before), g));
+        counted = λ n h. (let counted : IsCounted c n (enter s.variance false t ∷ rest) (stacked (tree_at ts) ms) = rw here at h in let i = counted.invariant in absurd (varies i.0));
       }
 
   -- .. or gives way to its value alone
@@ -370,6 +387,9 @@ module _ (declared : ℕ → List Variance) (z : Bool) (u x : ℕ) where
         walks = walks_at here there refl refl refl refl (walk_value_on declared z u c s.variance q t (tree_at ts v) rest (stacked (tree_at ts) ms) (pairs_at ts gs) w.lawful.sound front.1.knows k.knows k.infer k.closed same k.same k.worlds);
         less = omega (arith, ap (weights c) here, ap (weights c) there, weights_value_on c s.variance q t (tree_at ts v) rest k.lower k.same);
         kept = kept_refl c x;
+        trees = λ a h. refl;
+        owes = λ h g. (let before = rw here at h in (owe_at there refl (owe_through s.variance q t (tree_at ts v) rest (stacked (tree_at ts) ms) k.closed same before), g));
+        counted = counted_at here there refl refl (counted_through c s.variance q t (tree_at ts v) rest (stacked (tree_at ts) ms) k.infer k.same);
       }
 
   -- a node gives way to its parts
@@ -400,13 +420,16 @@ module _ (declared : ℕ → List Variance) (z : Bool) (u x : ℕ) where
         walks = walks_at here there refl refl refl refl (walk_node declared z u c s.variance s.is_quiet F ps rest (stacked (tree_at ts) ms) (pairs_at ts gs) w.lawful.sound known whole node_is.row again.fits);
         less = omega (arith, ap (weights c) here, ap (weights c) there, weights_node c s.variance ws s.is_quiet F ps (row_length ps) rest node_is.row);
         kept = kept_refl c x;
+        trees = λ a k. refl;
+        owes = λ h g. (let before = rw here at h in (owe_at there refl (owe_node s.variance ws s.is_quiet F ps rest (stacked (tree_at ts) ms) node_is.row before), g));
+        counted = counted_at here there refl refl (counted_node c s.variance ws s.is_quiet F ps rest (stacked (tree_at ts) ms) w.lawful.sound whole node_is.row again.fits);
       }
 
   -- .. where a look left the store, the table and the goals as they were
   pub turn_value : (ts us : List Tree) (e f : Entries) (xs ys : List Task) (s : Spot) (v : NodeId) (ms : List NodeId) (gs hs : List Relating) → IsWalk ts e u x (xs ++ task.Enter s ∷ []) ms gs → us ≡ ts → f ≡ e → hs ≡ gs → s.is_quiet ≡ false → IsIn ts v → v.number < 2 ^ 64
-      → IsTypeValue (content_of ts e) (tree_at ts s.term) (tree_at ts v) → ys ≡ (xs ++ task.Owe s ∷ []) ++ task.Enter (record { term = v; binders = 0; variance = s.variance; is_quiet = true }) ∷ [] → IsTurn declared z u x ts us e f (xs ++ task.Enter s ∷ []) ys ms ms gs hs
-  turn_value ts us e f xs ys s v ms gs hs w store table goals loud within room value is =
-      rw (store, table, goals) (turn_value_here ts e xs ys s v ms gs w loud within room value is)
+      → IsTypeValue (content_of ts e) (tree_at ts s.term) (tree_at ts v) → s.variance ≢ variance.Invariant → ys ≡ (xs ++ task.Owe s ∷ []) ++ task.Enter (record { term = v; binders = 0; variance = s.variance; is_quiet = true }) ∷ [] → IsTurn declared z u x ts us e f (xs ++ task.Enter s ∷ []) ys ms ms gs hs
+  turn_value ts us e f xs ys s v ms gs hs w store table goals loud within room value varies is =
+      rw (store, table, goals) (turn_value_here ts e xs ys s v ms gs w loud within room value varies is)
 
   pub turn_value_on : (ts us : List Tree) (e f : Entries) (xs ys : List Task) (s : Spot) (v : NodeId) (q : Bool) (ms : List NodeId) (gs hs : List Relating) → IsWalk ts e u x (xs ++ task.Enter s ∷ []) ms gs → us ≡ ts → f ≡ e → hs ≡ gs → s.is_quiet ≡ q → IsIn ts v → v.number < 2 ^ 64
       → IsValueOf (content_of ts e) (tree_at ts s.term) (tree_at ts v) → ys ≡ xs ++ task.Enter (record { term = v; binders = 0; variance = s.variance; is_quiet = q }) ∷ [] → IsTurn declared z u x ts us e f (xs ++ task.Enter s ∷ []) ys ms ms gs hs
@@ -494,6 +517,9 @@ module _ (declared : ℕ → List Variance) (z : Bool) (u x : ℕ) where
         walks = rw content (walks_at here steps on trees refl (pairs_kept c gs ext w.goals) (walk_built declared z u c F rs n rest before (pairs_at ts gs) w.lawful.sound row same front.1.sorts));
         less = rw content (omega (arith, ap (weights c) steps, ap (weights c) here, weights_built c F n rest));
         kept = rw content (kept_refl c x);
+        trees = rw content (λ a k. refl);
+        owes = λ h g. (let old = rw (here, on) at h in (owe_at steps trees (owe_built F rs n rest (stacked (tree_at ts) ks) row same old), goals_to (pairs_kept c gs ext w.goals) g));
+        counted = rw content (counted_at here steps on trees (counted_built c F rs n rest before w.lawful.sound row same front.1.sorts));
       })
 
   -- what is owed is left as a goal
@@ -537,6 +563,11 @@ module _ (declared : ℕ → List Variance) (z : Bool) (u x : ℕ) where
         walks = walks_at here refl on on refl goals (walk_owed declared z u c s.variance t (tree_at ts m) rest before (pairs_at ts gs) w.lawful.sound);
         less = omega (arith, ap (weights c) here, weights_owed c s.variance t rest);
         kept = kept_refl c x;
+        trees = λ a k. refl;
+        owes = λ h g.
+            (let old = rw (here, on) at h in
+            (owe_at {xs = rest} {ys = rest} refl on old.1, goals_to goals (AreGoals-append (pairs_at ts gs) (sides z s.variance (tree_at ts m) t ∷ []) g (goal_sides z s.variance (tree_at ts m) t old.0, tt))));
+        counted = counted_at here refl on on (counted_owed c s.variance t rest (tree_at ts m ∷ before));
       }
 
   -- the variable for which the whole is made stands inside of a node of the whole
@@ -588,6 +619,9 @@ module _ (declared : ℕ → List Variance) (z : Bool) (u x : ℕ) where
     pub known : x < length e.variables
     pub extends : Extends ts us
     pub kept : IsKept (content_of ts e) (content_of us f) x
+    pub trees : (a : Tree) → Knows (content_of ts e) a → resolved (content_of us f) a ≡ resolved (content_of ts e) a
+    pub owes : OweGoals (stacked (step_at us) ys) (stacked (tree_at us) ns) × AreGoals (pairs_at us hs)
+    pub counted : (n : ℕ) → IsCounted (content_of ts e) n (enter v false (tree_at ts t) ∷ []) [] → IsCounted (content_of us f) n (stacked (step_at us) ys) (stacked (tree_at us) ns)
     pub walk : IsWalk us f u x ys ns hs
     pub walks : Walks declared z u (content_of ts e) (content_of us f) (enter v false (tree_at ts t) ∷ []) (stacked (step_at us) ys) [] (stacked (tree_at us) ns) [] (pairs_at us hs)
 
@@ -599,6 +633,9 @@ module _ (declared : ℕ → List Variance) (z : Bool) (u x : ℕ) where
         known = known;
         extends = Extends-refl ts;
         kept = kept_refl (content_of ts e) x;
+        trees = λ a k. refl;
+        owes = rw is (λ s m. tt, tt);
+        counted = rw is (λ n h. h);
         walk = walk_start ts e v t ys lawful part none named known no_region is;
         walks = rw is (walks_none declared z u (content_of ts e) (enter v false (tree_at ts t) ∷ []) [] [] lawful.sound);
       }
@@ -611,6 +648,9 @@ module _ (declared : ℕ → List Variance) (z : Bool) (u x : ℕ) where
         known = run.known;
         extends = Extends-trans run.extends ext;
         kept = kept_trans run.kept turn.kept;
+        trees = λ a k. (let walks = run.walks in turn.trees a (Knows-grown a walks.later k) ∙ run.trees a k);
+        owes = (let old = run.owes in turn.owes old.0 old.1);
+        counted = λ n h. turn.counted n (run.counted n h);
         walk = turn.walk;
         walks = walks_then declared z u (content_of ts e) (content_of us f) (content_of ws g) (enter v false (tree_at ts t) ∷ []) (stacked (step_at us) xs) (stacked (step_at ws) ys) [] (stacked (tree_at us) ms) (stacked (tree_at ws) ns) [] (pairs_at us gs) (pairs_at ws hs)
             run.lawful.sound run.walk.lawful.sound run.walks turn.walks;
@@ -626,12 +666,20 @@ module _ (declared : ℕ → List Variance) (z : Bool) (u x : ℕ) where
   run_end ts e us f v t ys ns r hs run none one =
       let walk = run.walk in
       let made = rw one at walk.made in
+      let c = content_of ts e in
+      let n = unset_count c.slots + closed_aliases (resolved c (tree_at ts t)) in
+      let ended : v ≡ variance.Invariant → IsCounted (content_of us f) n [] (tree_at us r ∷ []) =
+      λ q. counted_to (ap (stacked (step_at us)) none) (ap (stacked (tree_at us)) one) (run.counted n (counted_start c v (tree_at ts t) q)) in
       record {
         within = made.0.0;
         lawful = walk.lawful;
         known = walk.goals;
         clean = made.0.2;
         kept = run.kept;
+        trees = run.trees;
+        are_goals = (let old = run.owes in old.1);
+        none = λ q. (let k = ended q in let h = k.none in h.0);
+        few = λ q. (let k = ended q in let h = k.few in omega (arith, h));
         walks = walks_at refl (sym (ap (stacked (step_at us)) none)) refl (sym (ap (stacked (tree_at us)) one)) refl refl run.walks;
       }
 

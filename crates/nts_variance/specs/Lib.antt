@@ -3,5 +3,9 @@ pub mod Steps
 pub mod Walking
 pub mod Parts
 pub mod Terms
+pub mod Debts
+pub mod Counting
 pub mod Varying
 pub mod Taking
+pub mod Equating
+pub mod Goals

@@ -1,11 +1,16 @@
 -- Pairs that are taken one by one: what each leaves in the table, and what a call of relating leaves in the end.
 use Rattle.std.specs.Prelude.{◌≡◌, ℕ, ◌+◌, ◌<◌, List, [], ◌∷◌, ◌++◌, Option, Some, None, ◌⊎◌}
 use Rattle.nts_model.specs.declared.labels.Sort.{Sort}
+use Rattle.nts_model.specs.declared.labels.Sort.TheVariants as sort
 use Rattle.nts_model.specs.declared.labels.Variance.{Variance}
 use Rattle.nts_model.specs.declared.labels.Variance.TheVariants as variance
-use Rattle.nts_model.specs.Trees.{Tree, node, size, kind_of, of_sort, row_length}
+use Rattle.nts_model.specs.Trees.{Tree, node, size, kind_of, of_sort, row_length, IsClosed}
 use Rattle.nts_model.specs.Contents.{Content}
-use Rattle.nts_model.specs.Resolving.{Knows, IsSound, infer_of, deeply_resolved, IsInfer}
+use Rattle.nts_model.specs.declared.labels.VariableKind.{VariableKind}
+use Rattle.nts_model.specs.declared.labels.VariableKind.TheVariants as kind
+use Rattle.nts_model.specs.Resolving.{Knows, IsSound, infer_of, resolved, deeply_resolved, variable_tree}
+use Rattle.nts_model.specs.Related.{IsAlias}
+use Rattle.nts_model.specs.Measuring.{closed_aliases}
 use Rattle.nts_model.specs.Holding.{Continues}
 use Rattle.nts_model.specs.Relations.{Relating as Pair}
 use Rattle.nts_model.specs.AnsweredGoals.{AllAnswered, RelatedUnder, AllRelatedUnder, RelatesBy}
@@ -15,13 +20,14 @@ use Rattle.nts_store.specs.declared.nodes.NodeId.{NodeId}
 use Rattle.nts_store.specs.Growth.{tree_at, IsIn}
 use Rattle.nts_unify.specs.Entries.{Entries}
 use Rattle.nts_unify.specs.Reading.{content_of, IsLawful}
+use Rattle.nts_unify.specs.Changing.{unset_count, Keeps}
 use Rattle.nts_variance.specs.declared.along.Relating.{Relating}
 use Rattle.nts_variance.specs.declared.splitting.Taken.{Taken}
 use Rattle.nts_variance.specs.declared.splitting.Taken.TheVariants as taken
 use Rattle.nts_variance.specs.Steps.{stacked}
 use Rattle.nts_variance.specs.Walking.{IsGrown}
 use Rattle.nts_variance.specs.Parts.{form_of, parts_of}
-use Rattle.nts_variance.specs.Terms.{pair_at, pairs_at, ArePairs}
+use Rattle.nts_variance.specs.Terms.{pair_at, pairs_at, IsGoal, AreGoals, ArePairs}
 use Rattle.nts_variance.specs.Varying.{IsMadeAgain}
 use Rattle.nts_variance.specs.Pairs.{Leaves}
 
@@ -34,20 +40,26 @@ pub record Takes (declared : ℕ → List Variance) (c d : Content) (ps qs gs : 
   pub leaves : Leaves declared c d ps qs gs
   pub relates : RelatesBy declared d ps qs gs
 
--- a pair that is left for later: it is invariant, or a side is an inference variable that is no region
+-- a variable of a const or a number
+abbrev pub IsExactKind : VariableKind → Type 0
+IsExactKind kind.Const = Unit {0}
+IsExactKind kind.Int = Unit {0}
+IsExactKind kind.Float = Unit {0}
+IsExactKind k = ⊥
+
+pub record IsExact (t : Tree) : Type 0 where
+  pub of_kind : VariableKind
+  pub exact : IsExactKind of_kind
+  pub number : ℕ
+  pub is : t ≡ variable_tree of_kind number
+
+-- a pair that is left for later: it is invariant, or a side is a variable of a const or a number
 abbrev pub Waits : List Tree → Relating → Type 0
-Waits ts p = (p.variance ≡ variance.Invariant) ⊎ (IsInfer (tree_at ts p.left) ⊎ IsInfer (tree_at ts p.right))
+Waits ts p = (p.variance ≡ variance.Invariant) ⊎ (IsExact (tree_at ts p.left) ⊎ IsExact (tree_at ts p.right))
 
 abbrev pub AllWait : List Tree → List Relating → Type 0
 AllWait ts [] = Unit {0}
 AllWait ts (p ∷ ps) = Waits ts p × AllWait ts ps
-
--- what a call of relating leaves of a pair, by terms of the store
-pub record IsLeft (declared : ℕ → List Variance) (ts us : List Tree) (e f : Entries) (p : Relating) (qs gs : List Relating) : Type 0 where
-  pub pairs : ArePairs us (content_of us f) qs
-  pub waits : AllWait us qs
-  pub goals : ArePairs us (content_of us f) gs
-  pub takes : Takes declared (content_of ts e) (content_of us f) (pair_at ts p ∷ []) (pairs_at us qs) (pairs_at us gs)
 
 -- a side of a pair: a type, a region or a const of the store and the table
 pub record IsSide (ts : List Tree) (c : Content) (t : NodeId) : Type 0 where
@@ -64,6 +76,14 @@ abbrev pub ArePairsLeft : List Tree → Content → List Relating → Type 0
 ArePairsLeft ts c [] = Unit {0}
 ArePairsLeft ts c (p ∷ ps) = IsPair ts c p × ArePairsLeft ts c ps
 
+-- what a call of relating leaves of a pair, by terms of the store
+pub record IsLeft (declared : ℕ → List Variance) (ts us : List Tree) (e f : Entries) (p : Relating) (qs gs : List Relating) : Type 0 where
+  pub pairs : ArePairsLeft us (content_of us f) qs
+  pub waits : AllWait us qs
+  pub goals : ArePairs us (content_of us f) gs
+  pub are_goals : AreGoals (pairs_at us gs)
+  pub takes : Takes declared (content_of ts e) (content_of us f) (pair_at ts p ∷ []) (pairs_at us qs) (pairs_at us gs)
+
 -- the number of an inference variable that is no region
 abbrev pub number_at : Tree → Option ℕ
 number_at (node l c) = infer_of l
@@ -76,13 +96,30 @@ pub record AreOfOneForm (a b : Tree) : Type 0 where
   pub form : form_of a ≡ form_of b
   pub long : row_length (parts_of a) ≡ row_length (parts_of b)
 
+-- a side of which a goal says all that a pair owes: a closed alias, or a closed type
+abbrev pub RestsOn : Tree → Type 0
+RestsOn t = IsClosed t × (IsAlias t ⊎ (kind_of t ≡ Some (of_sort sort.Ty)))
+
+-- no settled solution relates the two: bound variables escape from one, or they are not of one kind
+abbrev pub AreNoSides : Tree → Tree → Type 0
+AreNoSides a b = IsClosed a → IsClosed b → kind_of a ≡ kind_of b → ⊥
+
 -- how a pair is taken
 abbrev pub IsTaken : (ℕ → List Variance) → List Tree → List Tree → Entries → Entries → Relating → Taken → Type 0
 IsTaken declared ts us e f p taken.Done = IsLawful us f × Takes declared (content_of ts e) (content_of us f) (pair_at ts p ∷ []) [] []
 IsTaken declared ts us e f p taken.Equal = (us ≡ ts) × (f ≡ e) × Waits ts p
-IsTaken declared ts us e f p taken.Owed = (us ≡ ts) × (f ≡ e)
-IsTaken declared ts us e f p (taken.Bound gs) = IsLawful us f × ArePairs us (content_of us f) gs.items × Takes declared (content_of ts e) (content_of us f) (pair_at ts p ∷ []) [] (pairs_at us gs.items)
+IsTaken declared ts us e f p taken.Owed = (us ≡ ts) × (f ≡ e) × IsGoal (pair_at ts p)
+IsTaken declared ts us e f p (taken.Bound gs) = IsLawful us f × ArePairs us (content_of us f) gs.items × Takes declared (content_of ts e) (content_of us f) (pair_at ts p ∷ []) [] (pairs_at us gs.items) × AreGoals (pairs_at us gs.items)
 IsTaken declared ts us e f p taken.Parts = (us ≡ ts) × (f ≡ e) × AreOfOneForm (tree_at ts p.left) (tree_at ts p.right)
+
+-- what a way of taking a pair, of which no side is a variable with a value, leaves for the measure: where a variable got a value,
+-- fewer variables and aliases; and else what trees are under the table stays
+abbrev pub IsPaid : Content → Content → Pair → Taken → Type 0
+IsPaid c d p taken.Done = Keeps c d
+IsPaid c d p taken.Equal = ⊥
+IsPaid c d p taken.Owed = Unit {0}
+IsPaid c d p (taken.Bound gs) = p.variance ≡ variance.Invariant → (unset_count d.slots < unset_count c.slots + closed_aliases (resolved c p.left) + closed_aliases (resolved c p.right)) × ((t : Tree) → Knows c t → closed_aliases (resolved d t) ≡ closed_aliases (resolved c t))
+IsPaid c d p taken.Parts = (IsAlias p.left → ⊥) × (IsAlias p.right → ⊥)
 
 -- the pairs of the parts of two nodes are to be taken in order
 pub record ArePartsPaired (declared : ℕ → List Variance) (ts : List Tree) (p : Relating) (xs ys : List Relating) : Type 0 where
@@ -137,7 +174,8 @@ module _ (declared : ℕ → List Variance) where
     pub lawful : IsLawful us f
     pub pairs : ArePairsLeft us (content_of us f) ps
     pub met : ArePairs us (content_of us f) ms
-    pub equal : ArePairs us (content_of us f) es
+    pub equal : ArePairsLeft us (content_of us f) es
     pub waits : AllWait us es
     pub goals : ArePairs us (content_of us f) gs
+    pub are_goals : AreGoals (pairs_at us gs)
     pub going : IsUnderway (content_of ts e) (content_of us f) (pair_at ts p) (stacked (pair_at us) ps) (pairs_at us es) (pairs_at us gs) (pairs_at us ms)

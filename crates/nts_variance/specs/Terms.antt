@@ -1,10 +1,13 @@
 -- What is left to do, by terms of a store.
-use Rattle.std.specs.Prelude.{◌≡◌, ℕ, ◌+◌, ◌^◌, ◌<◌, List, [], ◌∷◌, map, Some}
+use Rattle.std.specs.Prelude.{◌≡◌, ◌≢◌, ◌⊎◌, ℕ, ◌+◌, ◌^◌, ◌<◌, List, [], ◌∷◌, map, Some}
 use Rattle.nts_model.specs.declared.labels.Sort.{Sort}
-use Rattle.nts_model.specs.Trees.{Tree, kind_of, of_sort, row_length, IsClosedUnder}
+use Rattle.nts_model.specs.declared.labels.Sort.TheVariants as sort
+use Rattle.nts_model.specs.declared.labels.Variance.TheVariants as variance
+use Rattle.nts_model.specs.Trees.{Tree, kind_of, of_sort, row_length, IsClosedUnder, IsClosed}
 use Rattle.nts_model.specs.Contents.{Content}
 use Rattle.nts_model.specs.Resolving.{Knows, resolved}
 use Rattle.nts_model.specs.Levels.{NamesAll, region_level}
+use Rattle.nts_model.specs.Related.{IsAlias}
 use Rattle.nts_model.specs.Relations.{Relating as Pair}
 use Rattle.nts_store.specs.declared.nodes.NodeId.{NodeId}
 use Rattle.nts_store.specs.Growth.{tree_at, IsIn}
@@ -55,6 +58,18 @@ IsTask ts c (task.Owe s) = IsPart ts c s
 abbrev pub AreTasks : List Tree → Content → List Task → Type 0
 AreTasks ts c [] = Unit {0}
 AreTasks ts c (x ∷ xs) = IsTask ts c x × AreTasks ts c xs
+
+-- a pair that may be left as a goal: no bound variable escapes from a side, they are of one sort, and one is an alias, or the pair
+-- varies and both are types
+pub record IsGoal (p : Pair) : Type 0 where
+  pub left : IsClosed p.left
+  pub right : IsClosed p.right
+  pub kinds : kind_of p.left ≡ kind_of p.right
+  pub rests : (IsAlias p.left ⊎ IsAlias p.right) ⊎ ((p.variance ≢ variance.Invariant) × (kind_of p.left ≡ Some (of_sort sort.Ty)) × (kind_of p.right ≡ Some (of_sort sort.Ty)))
+
+abbrev pub AreGoals : List Pair → Type 0
+AreGoals [] = Unit {0}
+AreGoals (p ∷ ps) = IsGoal p × AreGoals ps
 
 -- what was made is of the table, and has no region that the universe u cannot name
 abbrev pub AreMade : List Tree → Content → ℕ → List NodeId → Type 0

@@ -1,5 +1,5 @@
 -- The walk that makes a term that stands for another, by terms of a store.
-use Rattle.std.specs.Prelude.{◌≡◌, ◌≢◌, ◌⊎◌, ℕ, ◌≤◌, ◌<◌, Bool, true, false, List, [], ◌∷◌, ◌++◌, map, length, cond, Option, Some}
+use Rattle.std.specs.Prelude.{◌≡◌, ◌≢◌, ◌⊎◌, ℕ, ◌+◌, ◌≤◌, ◌<◌, Bool, true, false, List, [], ◌∷◌, ◌++◌, map, length, cond, Option, Some}
 use Rattle.nts_model.specs.declared.labels.Sort.TheVariants as sort
 use Rattle.nts_model.specs.declared.labels.Variance.{Variance}
 use Rattle.nts_model.specs.declared.labels.Variance.TheVariants as variance
@@ -9,7 +9,7 @@ use Rattle.nts_model.specs.declared.labels.VariableKind.{VariableKind}
 use Rattle.nts_model.specs.declared.labels.VariableKind.TheVariants as kind
 use Rattle.nts_model.specs.declared.labels.Leaf.TheVariants as leaf
 use Rattle.nts_model.specs.declared.labels.Label.TheVariants as label
-use Rattle.nts_model.specs.Trees.{Tree, empty, of_sort, kind_of, label_of, row_length, any_label, is_alias, IsFormed}
+use Rattle.nts_model.specs.Trees.{Tree, empty, of_sort, kind_of, label_of, row_length, any_label, is_alias, IsClosed, IsFormed}
 use Rattle.nts_model.specs.Contents.{Content, state_of, universe_of, kind_at}
 use Rattle.nts_model.specs.Resolving.{IsInfer, Knows, resolved}
 use Rattle.nts_model.specs.Levels.{NamesAll, term_level, region_level}
@@ -19,6 +19,7 @@ use Rattle.nts_model.specs.Relations.{AllSettleIn, IsSettledWorld}
 use Rattle.nts_model.specs.Relations.{Relating as Pair}
 use Rattle.nts_model.specs.Judging.{opposite}
 use Rattle.nts_model.specs.Leaving.{Judge, judging_of}
+use Rattle.nts_model.specs.Measuring.{closed_aliases}
 use Rattle.nts_store.specs.declared.nodes.NodeId.{NodeId}
 use Rattle.nts_store.specs.Growth.{tree_at, IsIn}
 use Rattle.nts_unify.specs.declared.contents.Constraint.{Constraint}
@@ -26,6 +27,7 @@ use Rattle.nts_unify.specs.declared.contents.Variable.{Variable}
 use Rattle.nts_unify.specs.declared.contents.State.TheVariants as State
 use Rattle.nts_unify.specs.Entries.{Entries, constrained}
 use Rattle.nts_unify.specs.Reading.{content_of, IsLawful}
+use Rattle.nts_unify.specs.Changing.{unset_count}
 use Rattle.nts_relating.specs.Parts.{IsValueOf}
 use Rattle.nts_relating.specs.Relating.{Blocks}
 use Rattle.nts_variance.specs.declared.along.Relating.{Relating}
@@ -35,8 +37,10 @@ use Rattle.nts_variance.specs.declared.vary_walk.Look.{Look}
 use Rattle.nts_variance.specs.declared.vary_walk.Look.TheVariants as look
 use Rattle.nts_variance.specs.Steps.{Step, enter, build, owe, steps_of, stacked, popped, unpopped, entering, EndsAlone, builds, Runs}
 use Rattle.nts_variance.specs.Walking.{Judges, IsGrown, IsMadeFor, IsChoice, SettlesOwed, Walks, IsMade, weights}
+use Rattle.nts_variance.specs.Counting.{IsCounted, IsCountedFor}
 use Rattle.nts_variance.specs.Parts.{form_of, parts_of, IsNodeWithParts}
-use Rattle.nts_variance.specs.Terms.{pairs_at, ArePairs, step_at, AreTasks, AreMade}
+use Rattle.nts_variance.specs.Debts.{IsClosedLike, OweGoals}
+use Rattle.nts_variance.specs.Terms.{pairs_at, AreGoals, ArePairs, step_at, AreTasks, AreMade}
 
 -- a variable that is to be entered stands inside of a node that is to be built
 abbrev pub AreInside : List Step → Type 0
@@ -70,12 +74,15 @@ pub record IsKept (c d : Content) (x : ℕ) : Type 0 where
   pub state : state_of d x ≡ state_of c x
   pub universe : universe_of d x ≡ universe_of c x
 
--- a task was done, or what it stands on is left in its place
+-- a task was done, or what it stands on is left in its place: trees are what they were, and no more variables without value are to come
 pub record IsTurn (declared : ℕ → List Variance) (z : Bool) (u x : ℕ) (ts us : List Tree) (e f : Entries) (xs ys : List Task) (ms ns : List NodeId) (gs hs : List Relating) : Type 0 where
   pub walk : IsWalk us f u x ys ns hs
   pub walks : Walks declared z u (content_of ts e) (content_of us f) (stacked (step_at ts) xs) (stacked (step_at us) ys) (stacked (tree_at ts) ms) (stacked (tree_at us) ns) (pairs_at ts gs) (pairs_at us hs)
   pub less : weights (content_of us f) (stacked (step_at us) ys) < weights (content_of ts e) (stacked (step_at ts) xs)
   pub kept : IsKept (content_of ts e) (content_of us f) x
+  pub trees : (a : Tree) → Knows (content_of ts e) a → resolved (content_of us f) a ≡ resolved (content_of ts e) a
+  pub owes : OweGoals (stacked (step_at ts) xs) (stacked (tree_at ts) ms) → AreGoals (pairs_at ts gs) → OweGoals (stacked (step_at us) ys) (stacked (tree_at us) ns) × AreGoals (pairs_at us hs)
+  pub counted : (n : ℕ) → IsCounted (content_of ts e) n (stacked (step_at ts) xs) (stacked (tree_at ts) ms) → IsCounted (content_of us f) n (stacked (step_at us) ys) (stacked (tree_at us) ns)
 
 -- the pair of what was made and a part, in their order, and what it owes
 abbrev pub pair_in : Bool → Variance → NodeId → NodeId → Relating
@@ -112,12 +119,16 @@ pub record IsMadeAt (declared : ℕ → List Variance) (z : Bool) (u x : ℕ) (t
   pub known : ArePairs us (content_of us f) new
   pub made : IsMade declared z u (content_of ts e) (content_of us f) s.variance s.is_quiet (tree_at ts s.term) (tree_at us r) (pairs_at us new)
   pub kept : IsKept (content_of ts e) (content_of us f) x
+  pub like : IsClosedLike (tree_at ts s.term) (tree_at us r)
+  pub are_goals : AreGoals (pairs_at us new)
+  pub counted : IsCountedFor (content_of ts e) (content_of us f) s.variance s.is_quiet (tree_at ts s.term) (tree_at us r)
 
 -- a type variable's value
 pub record IsTypeValue (c : Content) (t v : Tree) : Type 0 where
   pub value : IsValueOf c t v
   pub number : ℕ
   pub is : label_of t ≡ Some (label.Leaf (leaf.Variable kind.Ty number))
+  pub closed : IsClosed t
 
 -- a node that is made again over other parts
 pub record IsMadeAgain (t : Tree) : Type 0 where
@@ -125,10 +136,10 @@ pub record IsMadeAgain (t : Tree) : Type 0 where
   pub with_parts : IsNodeWithParts t
   pub fits : FitsForm (form_of t) (parts_of t)
 
--- what a look at a part finds
+-- what a look at a part finds: a value is copied where it may vary
 abbrev pub IsLook : (ℕ → List Variance) → Bool → ℕ → ℕ → List Tree → List Tree → Entries → Entries → Spot → List Relating → List Relating → Look → Type 0
 IsLook declared z u x ts us e f s gs hs (look.Made r) = IsMadeAt declared z u x ts us e f s r gs hs
-IsLook declared z u x ts us e f s gs hs (look.Value v) = (us ≡ ts) × (f ≡ e) × (hs ≡ gs) × IsIn ts v × IsTypeValue (content_of ts e) (tree_at ts s.term) (tree_at ts v)
+IsLook declared z u x ts us e f s gs hs (look.Value v) = (us ≡ ts) × (f ≡ e) × (hs ≡ gs) × IsIn ts v × IsTypeValue (content_of ts e) (tree_at ts s.term) (tree_at ts v) × (s.variance ≢ variance.Invariant)
 IsLook declared z u x ts us e f s gs hs (look.Through v) = (us ≡ ts) × (f ≡ e) × (hs ≡ gs) × IsIn ts v × IsValueOf (content_of ts e) (tree_at ts s.term) (tree_at ts v)
 IsLook declared z u x ts us e f s gs hs look.Node = (us ≡ ts) × (f ≡ e) × (hs ≡ gs) × IsMadeAgain (tree_at ts s.term)
 
@@ -152,7 +163,8 @@ pub record WalkRefuses (declared : ℕ → List Variance) (u x : ℕ) (c : Conte
   pub none : (j : Judge declared) (w : World) → Solves c w → Judges declared j w → IsSettledWorld (judging_of declared j) c w → AllSettleIn (judging_of declared j) w gs
       → NamesAll term_level u (w.tree x) → Runs (IsChoice (judging_of declared j) u (w.tree x)) (SettlesOwed (judging_of declared j)) (steps_of (inst w) xs) (map (inst w) ss) (w.tree x) → ⊥
 
--- a term was made for the whole, and the goals that this owes; the variable x, for which it was made, is as it was
+-- a term was made for the whole, and the goals that this owes; the variable x, for which it was made, is as it was. Invariantly the
+-- term has no closed alias, and the table has at most as many more variables without value as the whole has of them
 pub record IsVaried (declared : ℕ → List Variance) (z : Bool) (u x : ℕ) (ts us : List Tree) (e f : Entries) (v : Variance) (t r : NodeId) (gs : List Relating) : Type 0 where
   pub within : IsIn us r
   pub lawful : IsLawful us f
@@ -160,3 +172,7 @@ pub record IsVaried (declared : ℕ → List Variance) (z : Bool) (u x : ℕ) (t
   pub clean : NamesAll region_level u (resolved (content_of us f) (tree_at us r))
   pub walks : Walks declared z u (content_of ts e) (content_of us f) (enter v false (tree_at ts t) ∷ []) [] [] (tree_at us r ∷ []) [] (pairs_at us gs)
   pub kept : IsKept (content_of ts e) (content_of us f) x
+  pub trees : (a : Tree) → Knows (content_of ts e) a → resolved (content_of us f) a ≡ resolved (content_of ts e) a
+  pub are_goals : AreGoals (pairs_at us gs)
+  pub none : v ≡ variance.Invariant → closed_aliases (resolved (content_of us f) (tree_at us r)) ≡ 0
+  pub few : v ≡ variance.Invariant → unset_count (content_of us f).slots ≤ unset_count (content_of ts e).slots + closed_aliases (resolved (content_of ts e) (tree_at ts t))

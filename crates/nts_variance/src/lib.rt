@@ -3,11 +3,15 @@
 #![tactic(auto)]
 
 mod along;
+mod equating;
+mod goals;
 mod parts;
 mod splitting;
 mod variance;
 mod vary_walk;
 
 pub use along::{Relating, Side, bind_along};
+pub use equating::relate_terms;
+pub use goals::predicate_of;
 pub use splitting::{Left, relate_along};
 pub use vary_walk::{Target, Varied, vary};

@@ -2,20 +2,22 @@
 ghost use Rattle.std.specs.Prelude.{◌≡◌, ◌≢◌, ◌⊎◌, ◌<◌, ◌++◌, ℕ, List, ◌∷◌, [], true, false, OnOk, OnErr, IfOk, Some, Err};
 ghost use Rattle.nts_model.specs.declared.labels.Variance.TheVariants as variances;
 ghost use Rattle.nts_model.specs.declared.labels.Variance.{Variance};
-ghost use Rattle.nts_model.specs.Trees.{Tree, any_label, children, is_alias, is_infer, node, IsClosed};
+ghost use Rattle.nts_model.specs.Trees.{Tree, any_label, children, is_alias, is_infer, kind_of, node, of_sort, IsClosed};
+ghost use Rattle.nts_model.specs.declared.labels.Sort.{Sort};
 ghost use Rattle.nts_model.specs.Resolving.{IsInfer};
 ghost use Rattle.nts_model.specs.Related.{IsAlias};
 ghost use Rattle.nts_store.specs.Growth.{tree_at, IsIn, Extends};
 ghost use Rattle.nts_terms.specs.Signatures.{variances_in};
 ghost use Rattle.nts_unify.specs.Entries.{Entries, KeepsHidden};
 ghost use Rattle.nts_unify.specs.Reading.{content_of, IsLawful};
+ghost use Rattle.nts_unify.specs.Changing.{Keeps};
 ghost use Rattle.nts_relating.specs.Relating.{IsRegionOf};
 ghost use Rattle.nts_variance.specs.Parts.{has_parts as label_has_parts, form_of};
 ghost use Rattle.nts_variance.specs.Steps.{stacked};
 ghost use Rattle.nts_variance.specs.Terms.{pair_at};
 ghost use Rattle.nts_variance.specs.Varying.{pair_in, IsMadeAgain};
 ghost use Rattle.nts_variance.specs.Pairs.{Refuses};
-ghost use Rattle.nts_variance.specs.Taking.{left_sizes, number_at, IsSide, IsPair, IsTaken, AreOfOneForm, ArePairsLeft, ArePartsPaired, IsLeft, IsCall};
+ghost use Rattle.nts_variance.specs.Taking.{left_sizes, number_at, IsSide, IsPair, IsTaken, IsPaid, RestsOn, AreNoSides, AreOfOneForm, ArePairsLeft, ArePartsPaired, IsLeft, IsCall};
 
 use crate::along::{Relating, Side, bind_along};
 use crate::parts::{has_parts, holder, variance_of_part};
@@ -24,14 +26,14 @@ use crate::vary_walk::{is_closed_alias, record_regions, type_number};
 use indexmap::IndexSet;
 use nts_model::{Label, TyHead, Variance};
 use nts_relating::relate_nodes;
-use nts_store::{EvalError, NodeId, Nodes};
+use nts_store::{EvalError, NodeId, Nodes, sort_of};
 use nts_terms::Declarations;
 use nts_unify::{InferCtxtInner, infer_number, is_same, names_free_region, region_number};
 use std::alloc::Global;
 
 /// What relating two terms by a variance leaves: pairs that are to be made equal, and goals. A pair is left where it is invariant and
 /// a side has aliases, or both have inference variables, whose values might; and where a variable of a const or a number stands
-/// beside a variable, or has a value. By whatever variance it has, its sides are to be one.
+/// on a side. By whatever variance it has, its sides are to be one.
 #[derive(Drop)]
 pub struct Left {
     pub equal: Vec<Relating>,
@@ -53,19 +55,25 @@ pub enum Taken {
     Parts,
 }
 
-/// The pair as a goal. One side is closed, and a goal's sides both are.
-fn owe(nodes: &Nodes, pair: Relating) -> Result<Taken, EvalError>
+/// The pair as a goal, of which one side is closed: a goal's sides both are, and they are of one sort.
+pub fn owe(nodes: &Nodes, pair: Relating) -> Result<Taken, EvalError>
     requires left { IsIn nodes.now pair.left }
     requires right { IsIn nodes.now pair.right }
-    requires closed { IsClosed (tree_at nodes.now pair.left) ⊎ IsClosed (tree_at nodes.now pair.right) }
+    requires left_sort { (s : Sort) × (kind_of (tree_at nodes.now pair.left) ≡ Some (of_sort s)) }
+    requires right_sort { (s : Sort) × (kind_of (tree_at nodes.now pair.right) ≡ Some (of_sort s)) }
     ensures owed { IfOk result (λ r. r ≡ Taken.Owed) }
+    ensures closed { OnOk result (IsClosed (tree_at nodes.now pair.left) × IsClosed (tree_at nodes.now pair.right)) }
+    ensures kinds { OnOk result (kind_of (tree_at nodes.now pair.left) ≡ kind_of (tree_at nodes.now pair.right)) }
     ensures full { result ≢ Err EvalError.Full }
-    ensures no { result ≡ Err EvalError.NoSolution → (IsClosed (tree_at nodes.now pair.left) → IsClosed (tree_at nodes.now pair.right) → ⊥) }
+    ensures no { result ≡ Err EvalError.NoSolution → AreNoSides (tree_at nodes.now pair.left) (tree_at nodes.now pair.right) }
 {
     if nodes.flags(pair.left).escaping.is_some() {
         return Err(EvalError::NoSolution);
     }
     if nodes.flags(pair.right).escaping.is_some() {
+        return Err(EvalError::NoSolution);
+    }
+    if sort_of(nodes.label(pair.left)) != sort_of(nodes.label(pair.right)) {
         return Err(EvalError::NoSolution);
     }
     Ok(Taken::Owed)
@@ -76,7 +84,7 @@ fn owe(nodes: &Nodes, pair: Relating) -> Result<Taken, EvalError>
 fn is_owed(nodes: &Nodes, table: &InferCtxtInner, t: NodeId) -> bool
     requires lawful { IsLawful nodes.now table.now.entries }
     requires side { IsSide nodes.now (content_of nodes.now table.now.entries) t }
-    ensures yes { result ≡ true → IsClosed (tree_at nodes.now t) }
+    ensures yes { result ≡ true → RestsOn (tree_at nodes.now t) }
     ensures no { result ≡ false → IsAlias (tree_at nodes.now t) → ⊥ }
 {
     // The nodes of a store are formed.
@@ -141,7 +149,9 @@ fn equate(
 fn take_variables(nodes: &Nodes, table: &InferCtxtInner, pair: Relating) -> Taken
     requires lawful { IsLawful nodes.now table.now.entries }
     requires pair { IsPair nodes.now (content_of nodes.now table.now.entries) pair }
-    requires variable { IsInfer (tree_at nodes.now pair.left) }
+    requires left { IsInfer (tree_at nodes.now pair.left) }
+    requires right { IsInfer (tree_at nodes.now pair.right) }
+    requires varies { pair.variance ≢ variances.Invariant }
     ensures { (declared : ℕ → List Variance) → IsTaken declared nodes.now nodes.now table.now.entries table.now.entries pair result }
 {
     // The nodes of a store are formed.
@@ -159,12 +169,13 @@ fn take_variables(nodes: &Nodes, table: &InferCtxtInner, pair: Relating) -> Take
 }
 
 /// Takes a pair of an inference variable and another term, which is no alias without escaping bound variables: a variable without a
-/// value is made one with what stands for the term.
+/// value is made one with what stands for the term, a type variable with a value has a goal, and one of a const or a number is left.
 fn take_variable(
     alloc: Global,
     nodes: &mut Nodes,
     declarations: &Declarations,
     table: &mut InferCtxtInner,
+    pair: Relating,
     side: Side,
     variance: Variance,
     own: NodeId,
@@ -176,17 +187,21 @@ fn take_variable(
     requires variable { number_at (tree_at nodes.old own) ≡ Some side.variable }
     requires node { IsInfer (tree_at nodes.old term) → ⊥ }
     requires rigid { IsAlias (tree_at nodes.old term) → ⊥ }
+    requires pair { pair ≡ pair_in side.is_turned variance own term }
+    requires varies { pair.variance ≢ variances.Invariant }
     ensures extends { Extends nodes.old nodes.new }
     ensures changes { KeepsHidden table.old table.new }
-    ensures taken { IfOk result (IsTaken (variances_in declarations.now) nodes.old nodes.new table.old.entries table.new.entries (pair_in side.is_turned variance own term)) }
+    ensures taken { IfOk result (IsTaken (variances_in declarations.now) nodes.old nodes.new table.old.entries table.new.entries pair) }
     ensures full { result ≢ Err EvalError.Full }
-    ensures no { result ≡ Err EvalError.NoSolution → Refuses (variances_in declarations.now) (content_of nodes.old table.old.entries) (pair_at nodes.old (pair_in side.is_turned variance own term) ∷ []) }
+    ensures no { result ≡ Err EvalError.NoSolution → Refuses (variances_in declarations.now) (content_of nodes.old table.old.entries) (pair_at nodes.old pair ∷ []) }
 {
     // The nodes of a store are formed.
     let _ = nodes.len();
-    let _ = nodes.label(own);
+    if type_number(nodes.label(own)).is_none() {
+        return Ok(Taken::Equal);
+    }
     match table.probe_variable(side.variable) {
-        Ok(_) => Ok(Taken::Equal),
+        Ok(_) => owe(nodes, pair),
         Err(root) => {
             let side = Side {
                 variable: root,
@@ -211,6 +226,8 @@ fn take_regions(
     requires right { IsRegionOf nodes.now table.old.entries pair.right }
     ensures changes { KeepsHidden table.old table.new }
     ensures taken { (declared : ℕ → List Variance) → IfOk result (IsTaken declared nodes.now nodes.now table.old.entries table.new.entries pair) }
+    ensures kept { OnOk result (Keeps (content_of nodes.now table.old.entries) (content_of nodes.now table.new.entries)) }
+    ensures done { IfOk result (λ r. r ≡ Taken.Done) }
     ensures full { result ≢ Err EvalError.Full }
     ensures no { result ≢ Err EvalError.NoSolution }
 {
@@ -257,6 +274,7 @@ fn take_parts(
     requires right_is { tree_at nodes.now pair.right ≡ node label (children (tree_at nodes.now pair.right)) }
     requires parts { label_has_parts label ≡ true }
     ensures taken { (declared : ℕ → List Variance) → IfOk result (IsTaken declared nodes.now nodes.now table.now.entries table.now.entries pair) }
+    ensures parts { IfOk result (λ r. r ≡ Taken.Parts) }
     ensures full { result ≢ Err EvalError.Full }
     ensures no { (declared : ℕ → List Variance) → result ≡ Err EvalError.NoSolution → Refuses declared (content_of nodes.now table.now.entries) (pair_at nodes.now pair ∷ []) }
 {
@@ -272,7 +290,11 @@ fn take_parts(
 }
 
 /// Takes a pair of two nodes that are neither inference variables nor aliases without escaping bound variables.
-fn take_heads(nodes: &Nodes, table: &mut InferCtxtInner, pair: Relating) -> Result<Taken, EvalError>
+pub fn take_heads(
+    nodes: &Nodes,
+    table: &mut InferCtxtInner,
+    pair: Relating,
+) -> Result<Taken, EvalError>
     requires lawful { IsLawful nodes.now table.old.entries }
     requires pair { IsPair nodes.now (content_of nodes.now table.old.entries) pair }
     requires left_node { IsInfer (tree_at nodes.now pair.left) → ⊥ }
@@ -281,6 +303,7 @@ fn take_heads(nodes: &Nodes, table: &mut InferCtxtInner, pair: Relating) -> Resu
     requires right_rigid { IsAlias (tree_at nodes.now pair.right) → ⊥ }
     ensures changes { KeepsHidden table.old table.new }
     ensures taken { (declared : ℕ → List Variance) → IfOk result (IsTaken declared nodes.now nodes.now table.old.entries table.new.entries pair) }
+    ensures paid { IfOk result (IsPaid (content_of nodes.now table.old.entries) (content_of nodes.now table.new.entries) (pair_at nodes.now pair)) }
     ensures full { result ≢ Err EvalError.Full }
     ensures no { (declared : ℕ → List Variance) → result ≡ Err EvalError.NoSolution → Refuses declared (content_of nodes.now table.old.entries) (pair_at nodes.now pair ∷ []) }
 {
@@ -335,6 +358,7 @@ fn take_varying(
 ) -> Result<Taken, EvalError>
     requires lawful { IsLawful nodes.old table.old.entries }
     requires pair { IsPair nodes.old (content_of nodes.old table.old.entries) pair }
+    requires varies { pair.variance ≢ variances.Invariant }
     ensures extends { Extends nodes.old nodes.new }
     ensures changes { KeepsHidden table.old table.new }
     ensures taken { IfOk result (IsTaken (variances_in declarations.now) nodes.old nodes.new table.old.entries table.new.entries pair) }
@@ -367,6 +391,7 @@ fn take_varying(
                     nodes,
                     declarations,
                     table,
+                    pair,
                     side,
                     variance,
                     left,
@@ -381,7 +406,17 @@ fn take_varying(
                     is_turned: true,
                 };
                 let turned = opposite(variance);
-                take_variable(alloc, nodes, declarations, table, side, turned, right, left)
+                take_variable(
+                    alloc,
+                    nodes,
+                    declarations,
+                    table,
+                    pair,
+                    side,
+                    turned,
+                    right,
+                    left,
+                )
             }
             None => take_heads(nodes, table, pair),
         },
@@ -389,7 +424,7 @@ fn take_varying(
 }
 
 /// Pushes the pairs of the parts of two nodes, so that the first ones are taken first.
-fn push_pairs(
+pub fn push_pairs(
     nodes: &Nodes,
     declarations: &Declarations,
     pairs: &mut Vec<Relating>,

@@ -226,6 +226,7 @@ fn look_at_variable(
     requires named { target.universe ≤ table.old.entries.universe }
     requires no_region { kind_at (content_of nodes.old table.old.entries) target.variable ≢ Some kinds.Region }
     requires is { label_of (tree_at nodes.old spot.term) ≡ Some (labels.Leaf (leaves.Variable kinds.Ty n)) }
+    requires varies { spot.variance ≢ variances.Invariant }
     ensures extends { Extends nodes.old nodes.new }
     ensures changes { KeepsHidden table.old table.new }
     ensures look { (declared : ℕ → List Variance) → IfOk result (IsLook declared target.is_turned target.universe target.variable nodes.old nodes.new table.old.entries table.new.entries spot goals.old.items goals.new.items) }

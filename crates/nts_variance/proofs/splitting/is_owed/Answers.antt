@@ -1,4 +1,4 @@
-use Rattle.std.proofs.Common.{◌≡◌, true, false, sym, ap, ◌∙◌}
+use Rattle.std.proofs.Common.{◌≡◌, inl, true, false, sym, ap, ◌∙◌}
 use Rattle.nts_store.specs.Growth.{tree_at}
 use Rattle.nts_store.specs.TypeFlags.{escaping}
 use Rattle.nts_variance.specs.Parts.{closed_alias}
@@ -11,7 +11,8 @@ returns-clause-yes c = λ q.
     let t = tree_at c.args.nodes.now c.args.t in
     let l = c.label-label.result in
     let loose : closed_alias l (escaping t) ≡ true = ap (λ f. closed_alias l f.escaping) (sym c.flags.ensures) ∙ sym c.is_closed_alias.ensures ∙ q in
-    (closed_alias_tree t l c.label-label.ensures.is (c.len.ensures.formed c.args.t c.requires.side.within) loose).closed
+    let a = closed_alias_tree t l c.label-label.ensures.is (c.len.ensures.formed c.args.t c.requires.side.within) loose in
+    (a.closed, inl a.loose)
 
 pub returns-clause-no : goal.returns-clause-no
 returns-clause-no c = λ q.

@@ -18,7 +18,7 @@ pub returns-in-Ok-Done-clause-call : goal.returns-in-Ok-Done-clause-call
 returns-in-Ok-Done-clause-call c = λ ts e p u.
     let t = rw c.in-Ok-Done.field-0-is at c.in-Ok-Done.ensures.taken in
     let call = c.args.call.now in
-    call_taken (variances_in c.args.declarations.now) ts c.args.nodes.now c.take.new.nodes e c.args.table.now.entries c.take.new.table.entries p c.args.pair call.pairs.items call.met.keys call.equal.items call.goals.items [] [] call.equal.items call.goals.items u c.in-Ok-Done.ensures.extends t.0 tt tt tt t.1 (sym (append-nil call.equal.items)) (sym (append-nil call.goals.items))
+    call_taken (variances_in c.args.declarations.now) ts c.args.nodes.now c.take.new.nodes e c.args.table.now.entries c.take.new.table.entries p c.args.pair call.pairs.items call.met.keys call.equal.items call.goals.items [] [] call.equal.items call.goals.items u c.in-Ok-Done.ensures.extends t.0 tt tt tt tt t.1 (sym (append-nil call.equal.items)) (sym (append-nil call.goals.items))
 
 pub returns-in-Ok-Done-clause-less : goal.returns-in-Ok-Done-clause-less
 returns-in-Ok-Done-clause-less c = taken_less (variances_in c.args.declarations.now) c.args.nodes.now c.take.new.nodes (content_of c.args.nodes.now c.args.table.now.entries) c.args.call.now.pairs.items c.args.pair c.in-Ok-Done.ensures.extends c.requires.pairs
@@ -30,8 +30,7 @@ returns-in_ok-push-in-Ok-Equal-clause-call c = λ ts e p u.
     let f = c.args.table.now.entries in
     let q = c.args.pair in
     let call = c.args.call.now in
-    let known = pair_known us (content_of us f) q (pairs_front us (content_of us f) call.pairs.items q c.requires.pairs).1 in
-    rw (t.0, t.1) (call_taken (variances_in c.args.declarations.now) ts us us e f f p q call.pairs.items call.met.keys call.equal.items call.goals.items (q ∷ []) [] c.push.new.self.items call.goals.items u (Extends-refl us) c.requires.lawful known (t.2, tt) tt (takes_left (variances_in c.args.declarations.now) (content_of us f) (pair_at us q) c.requires.lawful.sound) c.in_ok-push-in-Ok-Equal.ensures.items (sym (append-nil call.goals.items)))
+    rw (t.0, t.1) (call_taken (variances_in c.args.declarations.now) ts us us e f f p q call.pairs.items call.met.keys call.equal.items call.goals.items (q ∷ []) [] c.push.new.self.items call.goals.items u (Extends-refl us) c.requires.lawful ((pairs_front us (content_of us f) call.pairs.items q c.requires.pairs).1, tt) (t.2, tt) tt tt (takes_left (variances_in c.args.declarations.now) (content_of us f) (pair_at us q) c.requires.lawful.sound) c.in_ok-push-in-Ok-Equal.ensures.items (sym (append-nil call.goals.items)))
 
 pub returns-in_ok-push-in-Ok-Equal-clause-less : goal.returns-in_ok-push-in-Ok-Equal-clause-less
 returns-in_ok-push-in-Ok-Equal-clause-less c = taken_less (variances_in c.args.declarations.now) c.args.nodes.now c.take.new.nodes (content_of c.args.nodes.now c.args.table.now.entries) c.args.call.now.pairs.items c.args.pair c.in-Ok-Equal.ensures.extends c.requires.pairs
@@ -44,7 +43,7 @@ returns-in_ok-push-in-Ok-Owed-clause-call c = λ ts e p u.
     let q = c.args.pair in
     let call = c.args.call.now in
     let known = pair_known us (content_of us f) q (pairs_front us (content_of us f) call.pairs.items q c.requires.pairs).1 in
-    rw (t.0, t.1) (call_taken (variances_in c.args.declarations.now) ts us us e f f p q call.pairs.items call.met.keys call.equal.items call.goals.items [] (q ∷ []) call.equal.items c.push-in-Ok-Owed.new.self.items u (Extends-refl us) c.requires.lawful tt tt known (takes_owed (variances_in c.args.declarations.now) (content_of us f) (pair_at us q) c.requires.lawful.sound) (sym (append-nil call.equal.items)) c.in_ok-push-in-Ok-Owed.ensures.items)
+    rw (t.0, t.1) (call_taken (variances_in c.args.declarations.now) ts us us e f f p q call.pairs.items call.met.keys call.equal.items call.goals.items [] (q ∷ []) call.equal.items c.push-in-Ok-Owed.new.self.items u (Extends-refl us) c.requires.lawful tt tt known (t.2, tt) (takes_owed (variances_in c.args.declarations.now) (content_of us f) (pair_at us q) c.requires.lawful.sound) (sym (append-nil call.equal.items)) c.in_ok-push-in-Ok-Owed.ensures.items)
 
 pub returns-in_ok-push-in-Ok-Owed-clause-less : goal.returns-in_ok-push-in-Ok-Owed-clause-less
 returns-in_ok-push-in-Ok-Owed-clause-less c = taken_less (variances_in c.args.declarations.now) c.args.nodes.now c.take.new.nodes (content_of c.args.nodes.now c.args.table.now.entries) c.args.call.now.pairs.items c.args.pair c.in-Ok-Owed.ensures.extends c.requires.pairs
@@ -54,7 +53,7 @@ returns-in_ok-extend_from_slice-in-Ok-Bound-clause-call c = λ ts e p u.
     let t = rw c.in-Ok-Bound.field-0-is at c.in-Ok-Bound.ensures.taken in
     let call = c.args.call.now in
     let items : c.extend_from_slice.new.self.items ≡ call.goals.items ++ c.in-Ok-Bound.goals.items = c.in_ok-extend_from_slice-in-Ok-Bound.ensures.items ∙ ap (λ x. call.goals.items ++ x) c.deref.ensures.value in
-    call_taken (variances_in c.args.declarations.now) ts c.args.nodes.now c.take.new.nodes e c.args.table.now.entries c.take.new.table.entries p c.args.pair call.pairs.items call.met.keys call.equal.items call.goals.items [] c.in-Ok-Bound.goals.items call.equal.items c.extend_from_slice.new.self.items u c.in-Ok-Bound.ensures.extends t.0 tt tt t.1 t.2 (sym (append-nil call.equal.items)) items
+    call_taken (variances_in c.args.declarations.now) ts c.args.nodes.now c.take.new.nodes e c.args.table.now.entries c.take.new.table.entries p c.args.pair call.pairs.items call.met.keys call.equal.items call.goals.items [] c.in-Ok-Bound.goals.items call.equal.items c.extend_from_slice.new.self.items u c.in-Ok-Bound.ensures.extends t.0 tt tt t.1 t.3 t.2 (sym (append-nil call.equal.items)) items
 
 pub returns-in_ok-extend_from_slice-in-Ok-Bound-clause-less : goal.returns-in_ok-extend_from_slice-in-Ok-Bound-clause-less
 returns-in_ok-extend_from_slice-in-Ok-Bound-clause-less c = taken_less (variances_in c.args.declarations.now) c.args.nodes.now c.take.new.nodes (content_of c.args.nodes.now c.args.table.now.entries) c.args.call.now.pairs.items c.args.pair c.in-Ok-Bound.ensures.extends c.requires.pairs

@@ -3,10 +3,13 @@ use Rattle.nts_model.specs.Resolving.{deeply_resolved}
 use Rattle.nts_store.specs.Growth.{tree_at}
 use Rattle.nts_unify.specs.Changing.{is_free_region}
 use Rattle.nts_unify.specs.Reading.{content_of}
+use Rattle.nts_unify.proofs.Keeping.{Keeps-refl}
 use Rattle.nts_relating.proofs.RefusalLemmas.{true_false}
 use Rattle.nts_relating.proofs.RegionLemmas.{region_of_term}
 use Rattle.nts_variance.specs.Parts.{has_parts}
+use Rattle.nts_variance.specs.Terms.{pair_at}
 use Rattle.nts_variance.proofs.Looks.{made_again}
+use Rattle.nts_variance.proofs.Paying.{done_paid, parts_paid}
 use Rattle.nts_variance.proofs.Refusals.{refuses_apart}
 use Rattle.nts_variance.proofs.Sides.{not_loose, one_leaf}
 use Rattle.nts_variance.proofs.Takes.{takes_one}
@@ -57,3 +60,12 @@ take_parts-requires-clause-right c =
     let formed = c.len.ensures.formed c.args.pair.right c.requires.pair.right.within in
     let same : has_parts m ≡ true = ap has_parts (sym (c.is_same.ensures.yes c.if-not-is_same.false)) ∙ sym c.has_parts.ensures ∙ c.if-not-has_parts.false in
     made_again b m c.label-right.ensures.is formed same (not_loose b m c.label-right.ensures.is formed c.requires.right_rigid)
+
+pub returns-then-names_free_region-2-clause-paid : goal.returns-then-names_free_region-2-clause-paid
+returns-then-names_free_region-2-clause-paid c = done_paid c.take_regions.result _ _ (pair_at c.args.nodes.now c.args.pair) c.take_regions.ensures.kept c.take_regions.ensures.done
+
+pub returns-then-not-has_parts-clause-paid : goal.returns-then-not-has_parts-clause-paid
+returns-then-not-has_parts-clause-paid c = Keeps-refl (content_of c.args.nodes.now c.args.table.now.entries)
+
+pub returns-clause-paid : goal.returns-clause-paid
+returns-clause-paid c = parts_paid c.take_parts.result (content_of c.args.nodes.now c.args.table.now.entries) (content_of c.args.nodes.now c.args.table.now.entries) (pair_at c.args.nodes.now c.args.pair) c.take_parts.ensures.parts c.requires.left_rigid c.requires.right_rigid

@@ -4,10 +4,12 @@ use Rattle.nts_model.specs.Resolving.{variable_tree}
 use Rattle.nts_unify.specs.Reading.{content_of}
 use Rattle.nts_relating.proofs.PairLemmas.{err_of}
 use Rattle.nts_variance.specs.Walking.{sides}
-use Rattle.std.proofs.Common.{[], ◌∷◌}
+use Rattle.std.proofs.Common.{rules, ◌≡◌, true, [], ◌∷◌, sym}
+use Rattle.std.specs.Option.{is_some}
 use Rattle.nts_variance.proofs.Bound.{bindable_kind}
 use Rattle.nts_variance.proofs.Pushing.{pair_at-in}
-use Rattle.nts_variance.proofs.Sides.{root_of_side, open_one}
+use Rattle.nts_variance.proofs.Sides.{root_of_side, open_one, type_closed}
+use Rattle.nts_variance.proofs.Refusals.{refuses_side}
 use Rattle.nts_variance.proofs.Takes.{Refuses-from, sides_from, takes_bound}
 use Rattle.nts_variance.proofs.splitting.take_variable.Goals as goal
 
@@ -26,7 +28,7 @@ returns-in-Err-bind_along-clause-no c = λ q.
     let own = variable_tree k c.in-Err.root in
     let term = tree_at ts c.args.term in
     let declared = variances_in c.args.declarations.now in
-    rw (pair_at-in ts z c.args.variance c.args.own c.args.term)
+    rw (c.requires.pair, pair_at-in ts z c.args.variance c.args.own c.args.term)
     (Refuses-from declared (content_of ts e) (sides z c.args.variance own term ∷ []) (sides z c.args.variance (tree_at ts c.args.own) term ∷ []) (sides_from declared z (content_of ts e) c.args.variance (tree_at ts c.args.own) own term o.worlds)
     (c.in-Err-bind_along.ensures.no k (bindable_kind ts e c.in-Err.root o.bindable) (err_of _ _ q)))
 
@@ -41,6 +43,16 @@ returns-in-Ok-bind_along-clause-taken c =
     let b = c.in-Ok-bind_along.ensures.bound k has in (
       b.lawful,
       b.known,
-      rw (pair_at-in ts z c.args.variance c.args.own c.args.term)
+      rw (c.requires.pair, pair_at-in ts z c.args.variance c.args.own c.args.term)
           (takes_bound (variances_in c.args.declarations.now) z ts c.bind_along.new.nodes e c.bind_along.new.table.entries c.args.variance k c.in-Err.root (tree_at ts c.args.own) c.args.term c.in-Ok-bind_along.goals.items b c.requires.lawful.sound c.requires.own.knows has (open_one ts e (tree_at ts c.args.own) c.in-Err.root o) o.worlds),
+      b.are_goals,
     )
+
+pub returns-in-Ok-clause-no : goal.returns-in-Ok-clause-no
+returns-in-Ok-clause-no c = λ q.
+    let ts = c.args.nodes.now in
+    let own = c.requires.own in
+    let term = c.requires.term in
+    let found : is_some c.type_number.result ≡ true = search rules in
+    let closed = type_closed (tree_at ts c.args.own) c.label.result c.type_number.result c.label.ensures.is c.label.ensures.formed (sym c.type_number.ensures) found in
+    refuses_side (variances_in c.args.declarations.now) ts (content_of ts c.args.table.now.entries) c.args.side.is_turned c.args.variance c.args.own c.args.term c.args.pair c.requires.pair own term (c.len.ensures.formed c.args.own own.within) (c.len.ensures.formed c.args.term term.within) closed (c.owe.ensures.no q)

@@ -33,7 +33,7 @@ returns-in_ok-push-in-Ok-Value-3-clause-turn c =
     let look = rw c.in-Ok-Value.field-0-is at (c.in-Ok-Value.ensures.look (variances_in c.args.declarations.now)) in
     let room : c.in-Ok-Value.term.number < 18446744073709551616 = search rules in
     let items = rw c.in_ok-push-in-Ok-Value-2.ensures.items at c.in_ok-push-in-Ok-Value-3.ensures.items in
-    turn_value (variances_in c.args.declarations.now) c.args.target.is_turned c.args.target.universe c.args.target.variable c.args.nodes.now c.look_at.new.nodes c.args.table.now.entries c.look_at.new.table.entries c.args.walk.now.tasks.items c.push-in-Ok-Value-2.new.self.items c.args.spot c.in-Ok-Value.term c.args.walk.now.made.items c.args.walk.now.goals.items c.look_at.new.goals.items c.requires.walk look.0 look.1 look.2 c.if-spot.false look.3 room look.4 items
+    turn_value (variances_in c.args.declarations.now) c.args.target.is_turned c.args.target.universe c.args.target.variable c.args.nodes.now c.look_at.new.nodes c.args.table.now.entries c.look_at.new.table.entries c.args.walk.now.tasks.items c.push-in-Ok-Value-2.new.self.items c.args.spot c.in-Ok-Value.term c.args.walk.now.made.items c.args.walk.now.goals.items c.look_at.new.goals.items c.requires.walk look.0 look.1 look.2 c.if-spot.false look.3 room look.4 look.5 items
 
 pub returns-in_ok-push-in-Ok-Through-clause-turn : goal.returns-in_ok-push-in-Ok-Through-clause-turn
 returns-in_ok-push-in-Ok-Through-clause-turn c =

@@ -4,6 +4,7 @@ use Rattle.nts_store.specs.Growth.{tree_at}
 use Rattle.nts_store.specs.TypeFlags.{escaping}
 use Rattle.nts_variance.specs.Parts.{closed_alias, const_variable}
 use Rattle.nts_relating.proofs.RegionLemmas.{region_of_term}
+use Rattle.nts_variance.proofs.CountedPieces.{infer_alias}
 use Rattle.nts_variance.proofs.Looks.{fresh_at, region_at, itself_at, varies_free, closed_alias_tree, alias_sort, made_again, no_const, no_type, from_not_false}
 use Rattle.nts_variance.proofs.vary_walk.look_at.Goals.{else-not-flags-via-then-not-flags+else-is_const_variable, then-eq, else-eq, else-not-flags-via-else-not-flags, in-Const, in_default}
 use Rattle.nts_variance.proofs.vary_walk.look_at.Goals as goal
@@ -20,7 +21,7 @@ returns-then-is_closed_alias-clause-look c = λ declared.
     let loose : closed_alias c.label-label.result (escaping t) ≡ true = ap (λ f. closed_alias c.label-label.result f.escaping) (sym c.flags-flags.ensures) ∙ sym c.if-is_closed_alias.ensures in
     let a = closed_alias_tree t c.label-label.result is formed loose in
     let k = alias_sort c.label-label.result c.match-label.kind a.label (elim c.match-label.branch [ in-Const w ↦ inl (w.in-Const.field-0, w.in-Const.is, w.kind-is) | in_default w ↦ inr (w.in_default.not-Const, w.kind-is) ]) in
-    fresh_at declared c.args.target.is_turned c.args.target.universe c.args.target.variable c.args.nodes.now c.make_fresh.new.nodes c.args.table.now.entries c.make_fresh.new.table.entries c.args.spot c.in_ok-made.made c.args.goals.now.items c.make_fresh.new.goals.items c.match-label.kind None c.requires.known k.1 c.requires.lawful (s.lawful c.requires.lawful) s.extends c.requires.part formed a.closed (ap kind_of is ∙ ap Some (sym k.0)) (inr a.loose) s.within s.tree s.entries s.goals
+    fresh_at declared c.args.target.is_turned c.args.target.universe c.args.target.variable c.args.nodes.now c.make_fresh.new.nodes c.args.table.now.entries c.make_fresh.new.table.entries c.args.spot c.in_ok-made.made c.args.goals.now.items c.make_fresh.new.goals.items c.match-label.kind None c.requires.known k.1 c.requires.lawful (s.lawful c.requires.lawful) s.extends c.requires.part formed a.closed (ap kind_of is ∙ ap Some (sym k.0)) (inr a.loose) (λ i. absurd (infer_alias t i a.loose)) s.within s.tree s.entries s.goals
 
 pub returns-then-has_parts-clause-look : goal.returns-then-has_parts-clause-look
 returns-then-has_parts-clause-look c = λ declared.

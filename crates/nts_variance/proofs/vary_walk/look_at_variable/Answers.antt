@@ -11,11 +11,11 @@ returns-then-root-target-clause-no c = λ q.
 
 pub returns-in-Ok-clause-look : goal.returns-in-Ok-clause-look
 returns-in-Ok-clause-look c = λ declared.
-    let k = looked_type_value c.args.nodes.now c.args.table.now.entries (tree_at c.args.nodes.now c.args.spot.term) c.args.n _ c.in-Ok.value c.requires.lawful c.requires.part.knows c.requires.is c.in-Ok.ensures.value.1 in
-    (refl, refl, refl, k.0, k.1)
+    let k = looked_type_value c.args.nodes.now c.args.table.now.entries (tree_at c.args.nodes.now c.args.spot.term) c.args.n _ c.in-Ok.value c.requires.lawful c.requires.part.knows c.requires.formed c.requires.is c.in-Ok.ensures.value.1 in
+    (refl, refl, refl, k.0, k.1, c.requires.varies)
 
 pub returns-in_ok-made-in-Err-clause-look : goal.returns-in_ok-made-in-Err-clause-look
 returns-in_ok-made-in-Err-clause-look c = λ declared.
     let s = c.in_ok-made-in-Err.ensures in
     let v = variable_closed (tree_at c.args.nodes.now c.args.spot.term) c.args.n c.requires.is c.requires.formed in
-    fresh_at declared c.args.target.is_turned c.args.target.universe c.args.target.variable c.args.nodes.now c.make_fresh.new.nodes c.args.table.now.entries c.make_fresh.new.table.entries c.args.spot c.in_ok-made-in-Err.made c.args.goals.now.items c.make_fresh.new.goals.items kind.Ty _ c.requires.known (inl refl) c.requires.lawful (s.lawful c.requires.lawful) s.extends c.requires.part c.requires.formed v.0 v.1 (inl v.2) s.within s.tree s.entries s.goals
+    fresh_at declared c.args.target.is_turned c.args.target.universe c.args.target.variable c.args.nodes.now c.make_fresh.new.nodes c.args.table.now.entries c.make_fresh.new.table.entries c.args.spot c.in_ok-made-in-Err.made c.args.goals.now.items c.make_fresh.new.goals.items kind.Ty _ c.requires.known (inl refl) c.requires.lawful (s.lawful c.requires.lawful) s.extends c.requires.part c.requires.formed v.0 v.1 (inl v.2) (λ i. (c.requires.varies, refl)) s.within s.tree s.entries s.goals
