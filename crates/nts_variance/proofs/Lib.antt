@@ -1,4 +1,4 @@
-pub mod Growing
+mod Growing
 mod Clean
 mod Likeness
 mod Nodes
@@ -10,7 +10,7 @@ mod PartLemmas
 mod Debts
 mod Counting
 mod CountedPieces
-pub mod VaryTurns
+mod VaryTurns
 mod Refusing
 mod Owing
 mod Pushing
@@ -31,5 +31,4 @@ mod Equalled
 mod Joining
 mod Onward
 mod Exact
-pub mod GoalLemmas
-mod Arguments
+mod GoalLemmas

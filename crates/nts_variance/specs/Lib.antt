@@ -9,4 +9,3 @@ pub mod Varying
 pub mod Taking
 pub mod Equating
 pub mod Goals
-pub mod Rows

@@ -383,7 +383,7 @@ fn run_all(
 }
 
 /// Relates a pair until goals alone are left. After an error the table may have grown.
-pub fn relate_pair(
+fn relate_pair(
     alloc: Global,
     nodes: &mut Nodes,
     declarations: &Declarations,
