@@ -2,27 +2,77 @@
 
 use nts_model::{Sort, UintTy, Variance};
 use nts_text::*;
-use std::alloc::Global;
+use std::alloc::{AllocError, Global};
 use std::process::Abort;
 use std::test::Fail;
 
+/// What the lines before declared, and what the last line named.
+#[derive(Drop)]
+struct Lines {
+    names: NameTable,
+    scope: Scope,
+}
+
+impl Lines {
+    fn new(alloc: Global) -> Self {
+        let names = NameTable::new(alloc);
+        let scope = Scope::new(alloc);
+        Self { names, scope }
+    }
+
+    fn read(&mut self, alloc: Global, line: &[u8]) -> Result<Option<Command>, TextError> {
+        read_command(alloc, line, &mut self.names, &mut self.scope)
+    }
+
+    /// Reads lines until one is refused, and says which one and why, or `None` if all are taken.
+    fn read_all(&mut self, alloc: Global, text: &[u8]) -> Result<Option<(usize, Refusal)>, Fail> {
+        let mut reader = text;
+        let mut line = Vec::new(alloc);
+        for number in 1..1000usize {
+            if !next_line(&mut reader, &mut line)? {
+                break;
+            }
+            let read = self.read(alloc, &line);
+            if let Some(refusal) = refusal(read)? {
+                return Ok(Some((number, refusal)));
+            }
+        }
+        Ok(None)
+    }
+
+    /// Reads a line behind others, none of which is refused.
+    fn read_behind(
+        &mut self,
+        alloc: Global,
+        before: &[u8],
+        line: &[u8],
+    ) -> Result<Option<Command>, Fail> {
+        if self.read_all(alloc, before)?.is_some() {
+            return Err(Fail::from("a line before is refused"));
+        }
+        Ok(self.read(alloc, line)?)
+    }
+}
+
+/// Why a line is refused, or `None` if it is taken.
+fn refusal(read: Result<Option<Command>, TextError>) -> Result<Option<Refusal>, Fail> {
+    match read {
+        Ok(_) => Ok(None),
+        Err(TextError::Refused(refusal)) => Ok(Some(refusal)),
+        Err(TextError::Memory) => Err(Fail::from("out of memory")),
+    }
+}
+
+/// What a line asks for, behind other lines. A function that owns names lets control leave at one place
+/// alone: each more makes its proof ten seconds longer.
+fn command_behind(alloc: Global, before: &[u8], line: &[u8]) -> Result<Option<Command>, Fail> {
+    let mut lines = Lines::new(alloc);
+    lines.read_behind(alloc, before, line)
+}
+
 /// The first line that is refused, and why, or `None` if all are taken.
 fn refusal_of(alloc: Global, text: &[u8]) -> Result<Option<(usize, Refusal)>, Fail> {
-    let mut reader = text;
-    let mut line = Vec::new(alloc);
-    let mut names = NameTable::new(alloc);
-    let mut scope = Scope::new(alloc);
-    for number in 1..1000usize {
-        if !next_line(&mut reader, &mut line)? {
-            break;
-        }
-        match read_command(alloc, &line, &mut names, &mut scope) {
-            Ok(_) => {}
-            Err(TextError::Refused(refusal)) => return Ok(Some((number, refusal))),
-            Err(TextError::Memory) => return Err(Fail::from("out of memory")),
-        }
-    }
-    Ok(None)
+    Lines::new(alloc).read_all(alloc, text)
 }
 
 /// Sees that each of these lines is refused for that reason, as the line of that number, behind the text before it.
@@ -178,22 +228,17 @@ fn takes(rt: HostRuntime) -> Result<(), Fail> {
     Ok(())
 }
 
-/// The nodes of the predicate of a line that asks a goal, behind the lines of these declarations.
-fn goal_nodes(alloc: Global, before: &[u8], line: &[u8]) -> Result<Vec<Resolved>, Fail> {
-    let mut names = NameTable::new(alloc);
-    let mut scope = Scope::new(alloc);
-    let mut reader = before;
-    let mut declaration = Vec::new(alloc);
-    for _ in 0..1000usize {
-        if !next_line(&mut reader, &mut declaration)? {
-            break;
-        }
-        read_command(alloc, &declaration, &mut names, &mut scope)?;
-    }
-    match read_command(alloc, line, &mut names, &mut scope)? {
+/// The nodes of the predicate of a command that asks a goal.
+fn nodes_of(command: Option<Command>) -> Result<Vec<Resolved>, Fail> {
+    match command {
         Some(Command::Goal(nodes)) => Ok(nodes),
         _ => Err(Fail::from("no goal")),
     }
+}
+
+/// The nodes of the predicate of a line that asks a goal, behind the lines of these declarations.
+fn goal_nodes(alloc: Global, before: &[u8], line: &[u8]) -> Result<Vec<Resolved>, Fail> {
+    nodes_of(command_behind(alloc, before, line)?)
 }
 
 /// A type constructor, by its number and how many arguments it takes.
@@ -247,18 +292,28 @@ fn numbers_bound_names(rt: HostRuntime) -> Result<(), Fail> {
     Ok(())
 }
 
+/// The nodes of the head and of the body of a command that states a clause.
+fn clause_of(command: Option<Command>) -> Result<(Vec<Resolved>, Vec<Resolved>), Fail> {
+    match command {
+        Some(Command::Impl { head, body }) => Ok((head, body)),
+        _ => Err(Fail::from("no clause")),
+    }
+}
+
+/// The nodes of a line that states a clause, behind the lines of these declarations.
+fn clause_nodes(
+    alloc: Global,
+    before: &[u8],
+    line: &[u8],
+) -> Result<(Vec<Resolved>, Vec<Resolved>), Fail> {
+    clause_of(command_behind(alloc, before, line)?)
+}
+
 /// Each predicate of a clause has names of its own.
 #[test]
 fn binds_in_each_predicate(rt: HostRuntime) -> Result<(), Fail> {
-    let alloc = rt.alloc();
-    let mut names = NameTable::new(alloc);
-    let mut scope = Scope::new(alloc);
-    read_command(alloc, b"trait S(type)", &mut names, &mut scope)?;
     let line = b"impl S(u8) <- for<Q, P> S(P), S(u16), for<P> S(P)";
-    let Some(Command::Impl { head, body }) = read_command(alloc, line, &mut names, &mut scope)?
-    else {
-        return Err(Fail::from("no clause"));
-    };
+    let (head, body) = clause_nodes(rt.alloc(), b"trait S(type)", line)?;
     let trait_s = Resolved::Trait {
         number: 0,
         arguments: 1,
@@ -274,24 +329,23 @@ fn binds_in_each_predicate(rt: HostRuntime) -> Result<(), Fail> {
     Ok(())
 }
 
-#[test]
-fn nests_deeply(rt: HostRuntime) -> Result<(), Fail> {
-    let alloc = rt.alloc();
-    let mut names = NameTable::new(alloc);
-    let mut scope = Scope::new(alloc);
-    read_command(alloc, b"trait T(type)", &mut names, &mut scope)?;
-    read_command(alloc, b"type V(type)", &mut names, &mut scope)?;
+/// A line that asks for a type below this many constructors.
+fn deep_line(alloc: Global, depth: usize) -> Result<Vec<u8>, AllocError> {
     let mut line = Vec::from_slice(alloc, b"goal T(")?;
-    for _ in 0..100_000 {
+    for _ in 0..depth {
         line.extend_from_slice(b"V(")?;
     }
-    line.extend_from_slice(b"u8")?;
-    for _ in 0..100_001 {
+    line.extend_from_slice(b"u8)")?;
+    for _ in 0..depth {
         line.push(b')')?;
     }
-    let Some(Command::Goal(nodes)) = read_command(alloc, &line, &mut names, &mut scope)? else {
-        return Err(Fail::from("no goal"));
-    };
+    Ok(line)
+}
+
+#[test]
+fn nests_deeply(rt: HostRuntime) -> Result<(), Fail> {
+    let line = deep_line(rt.alloc(), 100_000)?;
+    let nodes = goal_nodes(rt.alloc(), b"trait T(type)\ntype V(type)", &line)?;
     assert_eq!(rt; nodes.len(), 100_002);
     assert!(rt; nodes.last() == Some(&Resolved::Uint(UintTy::U8)));
     Ok(())
@@ -326,19 +380,17 @@ fn shows_refusals(rt: HostRuntime) -> Result<(), Fail> {
     Ok(())
 }
 
-/// What a line that declares a type makes of it.
-fn type_of(alloc: Global, line: &[u8], names: &mut NameTable) -> Result<(usize, Vec<Param>), Fail> {
-    let mut scope = Scope::new(alloc);
-    match read_command(alloc, line, names, &mut scope)? {
+/// The number and the parameters of a command that declares a type.
+fn declared_type(command: Option<Command>) -> Result<(usize, Vec<Param>), Fail> {
+    match command {
         Some(Command::Type { number, params }) => Ok((number, params)),
         _ => Err(Fail::from("no type")),
     }
 }
 
-/// What a line that declares a trait makes of it: its number, and whether it is coinductive.
-fn trait_of(alloc: Global, line: &[u8], names: &mut NameTable) -> Result<(usize, bool), Fail> {
-    let mut scope = Scope::new(alloc);
-    match read_command(alloc, line, names, &mut scope)? {
+/// The number of a command that declares a trait, and whether it is coinductive.
+fn declared_trait(command: Option<Command>) -> Result<(usize, bool), Fail> {
+    match command {
         Some(
             Command::Trait {
                 number,
@@ -352,8 +404,8 @@ fn trait_of(alloc: Global, line: &[u8], names: &mut NameTable) -> Result<(usize,
 #[test]
 fn numbers_types(rt: HostRuntime) -> Result<(), Fail> {
     let alloc = rt.alloc();
-    let mut names = NameTable::new(alloc);
-    let (first, params) = type_of(alloc, b"type Fn(-type, =region)", &mut names)?;
+    let line = b"type Fn(-type, =region)";
+    let (first, params) = declared_type(command_behind(alloc, b"", line)?)?;
     let want = [
         Param {
             sort: Sort::Ty,
@@ -366,18 +418,29 @@ fn numbers_types(rt: HostRuntime) -> Result<(), Fail> {
     ];
     assert_eq!(rt; first, 0);
     assert!(rt; params.as_slice() == want.as_slice());
-    let (second, params) = type_of(alloc, b"type Leaf", &mut names)?;
+    let (second, params) = declared_type(command_behind(alloc, line, b"type Leaf")?)?;
     assert_eq!(rt; second, 1);
     assert!(rt; params.is_empty());
     Ok(())
 }
 
 #[test]
-fn lists_types(rt: HostRuntime) -> Result<(), Fail> {
+fn numbers_traits(rt: HostRuntime) -> Result<(), Fail> {
     let alloc = rt.alloc();
-    let mut names = NameTable::new(alloc);
-    type_of(alloc, b"type Fn(-type, =region, type)", &mut names)?;
-    let Some(function) = names.types.first() else {
+    let line = b"trait S(type, region)";
+    let (first, coinductive) = declared_trait(command_behind(alloc, b"", line)?)?;
+    assert_eq!(rt; first, 0);
+    assert!(rt; !coinductive);
+    let next = b"trait T(region) coinductive";
+    let (second, coinductive) = declared_trait(command_behind(alloc, line, next)?)?;
+    assert_eq!(rt; second, 1);
+    assert!(rt; coinductive);
+    Ok(())
+}
+
+fn see_types(rt: &impl Abort, alloc: Global, lines: &mut Lines) -> Result<(), Fail> {
+    lines.read(alloc, b"type Fn(-type, =region, type)")?;
+    let Some(function) = lines.names.types.first() else {
         return Err(Fail::from("no type is listed"));
     };
     assert!(rt; function.name.as_slice() == b"Fn".as_slice());
@@ -386,29 +449,25 @@ fn lists_types(rt: HostRuntime) -> Result<(), Fail> {
 }
 
 #[test]
-fn numbers_traits(rt: HostRuntime) -> Result<(), Fail> {
-    let alloc = rt.alloc();
-    let mut names = NameTable::new(alloc);
-    let (first, coinductive) = trait_of(alloc, b"trait S(type, region)", &mut names)?;
-    assert_eq!(rt; first, 0);
-    assert!(rt; !coinductive);
-    let (second, coinductive) = trait_of(alloc, b"trait T(region) coinductive", &mut names)?;
-    assert_eq!(rt; second, 1);
-    assert!(rt; coinductive);
-    Ok(())
+fn lists_types(rt: HostRuntime) -> Result<(), Fail> {
+    let mut lines = Lines::new(rt.alloc());
+    see_types(&rt, rt.alloc(), &mut lines)
 }
 
-#[test]
-fn lists_traits(rt: HostRuntime) -> Result<(), Fail> {
-    let alloc = rt.alloc();
-    let mut names = NameTable::new(alloc);
-    trait_of(alloc, b"trait S(type, region)", &mut names)?;
-    trait_of(alloc, b"trait T(region) coinductive", &mut names)?;
-    let [first, second] = names.traits.as_slice() else {
+fn see_traits(rt: &impl Abort, alloc: Global, lines: &mut Lines) -> Result<(), Fail> {
+    lines.read(alloc, b"trait S(type, region)")?;
+    lines.read(alloc, b"trait T(region) coinductive")?;
+    let [first, second] = lines.names.traits.as_slice() else {
         return Err(Fail::from("not two traits are listed"));
     };
     assert!(rt; first.name.as_slice() == b"S".as_slice());
     assert!(rt; first.sorts.as_slice() == [Sort::Ty, Sort::Region].as_slice());
     assert!(rt; second.name.as_slice() == b"T".as_slice());
     Ok(())
+}
+
+#[test]
+fn lists_traits(rt: HostRuntime) -> Result<(), Fail> {
+    let mut lines = Lines::new(rt.alloc());
+    see_traits(&rt, rt.alloc(), &mut lines)
 }
