@@ -17,14 +17,16 @@ ghost use Rattle.nts_terms.specs.Rest.{Grows};
 use crate::build::{MISFIT, Terms, bound_traits, predicate_of};
 use crate::status::Stop;
 use crate::variables::LineVariables;
-use next_trait_solver::clauses::Clauses;
-use next_trait_solver::resolve::eager_resolve_vars;
-use next_trait_solver::solve::{evaluate_root_goal, goal_is_admitted};
-use next_trait_solver::ty::{
-    Certainty, Constraint, Cx, EvalError, GenericArg, Goal, InferCtxt, MaybeCause, NodeId, Sort,
-    Span, TypingMode,
-};
+use nts_certainty::{Certainty, MaybeCause};
+use nts_delegate::Clauses;
+use nts_evaluation::{evaluate_root_goal, goal_is_admitted};
+use nts_model::Sort;
+use nts_resolve::eager_resolve_vars;
+use nts_store::{EvalError, NodeId};
+use nts_table::InferCtxt;
+use nts_terms::{Cx, GenericArg, Goal, Span, TypingMode};
 use nts_text::{Mode, Resolved};
+use nts_unify::Constraint;
 use std::alloc::{AllocError, Global};
 
 /// What a goal that holds says of its variables.

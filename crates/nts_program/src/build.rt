@@ -10,9 +10,10 @@ ghost use Rattle.nts_terms.specs.Rest.{Grows};
 
 use crate::status::Stop;
 use crate::variables::LineVariables;
-use next_trait_solver::ty::{
-    Binder, BoundRegion, BoundTy, BoundVarIndexKind, ClauseKind, CtorId, Cx, DefId, GenericArg,
-    GenericArgs, Predicate, PredicateKind, RegionKind, Sort, TraitId, TraitRef, TyKind,
+use nts_model::{BoundVarIndexKind, Sort};
+use nts_terms::{
+    Binder, BoundRegion, BoundTy, ClauseKind, CtorId, Cx, DefId, GenericArg, GenericArgs,
+    Predicate, PredicateKind, RegionKind, TraitId, TraitRef, TyKind,
 };
 use nts_text::{Refusal, Resolved};
 use std::alloc::{AllocError, Global};

@@ -14,12 +14,11 @@ ghost use Rattle.nts_program.specs.Answers.{relation_word, first_of, name_by, no
 
 use crate::answer::{Answer, Found};
 use indexmap::{IndexMap, IndexSet};
-use next_trait_solver::ty::{
-    Constraint, GenericArg, IntTy, NodeId, Relation, UintTy, VariableKind,
-};
-use nts_model::{Constant, FreeRegion, Label, Leaf, TyHead};
-use nts_store::Nodes;
+use nts_model::{Constant, FreeRegion, IntTy, Label, Leaf, Relation, TyHead, UintTy, VariableKind};
+use nts_store::{NodeId, Nodes};
+use nts_terms::GenericArg;
 use nts_text::{NameTable, Scope};
+use nts_unify::Constraint;
 use std::alloc::{AllocError, Global};
 
 /// What is still to be printed of a term. A term may be nested very deep, so this stands on the heap.

@@ -15,8 +15,9 @@ use crate::build::{MISFIT, Terms, bound_traits, positions, predicate_of};
 use crate::printer::text_of;
 use crate::status::Stop;
 use crate::variables::LineVariables;
-use next_trait_solver::clauses::{Clause, Clauses};
-use next_trait_solver::ty::{Cx, Predicate, Sort, Variance};
+use nts_delegate::{Clause, Clauses};
+use nts_model::{Sort, Variance};
+use nts_terms::{Cx, Predicate};
 use nts_text::{Command, Mode, NameTable, Param, Resolved, Scope, read_command};
 use std::alloc::{AllocError, Global};
 

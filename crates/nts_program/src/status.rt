@@ -3,7 +3,7 @@ ghost use Rattle.std.specs.Prelude.{◌≡◌, ◌<◌, false};
 ghost use Rattle.nts_program.specs.declared.status.Stop.TheVariants.{Memory};
 ghost use Rattle.nts_program.specs.Statuses.{code_of, is_refusal, stop_of_text, stop_of_read, status_of};
 
-use next_trait_solver::ty::Fault;
+use nts_store::Fault;
 use nts_text::{ReadError, Refusal, TextError};
 use std::alloc::{AllocError, AllocFailed};
 use std::io::{self, ErrorKind};

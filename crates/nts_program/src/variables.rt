@@ -2,7 +2,7 @@
 ghost use Rattle.std.specs.Prelude.{◌≡◌, ◌<◌, ◌+◌, length, All, OnOk};
 ghost use Rattle.nts_program.specs.Meaning.{HasOwnPlaces, HasPlace, KeepsPlaces};
 
-use next_trait_solver::ty::Sort;
+use nts_model::Sort;
 use nts_text::Resolved;
 use std::alloc::{AllocError, Global};
 

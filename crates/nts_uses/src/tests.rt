@@ -1,7 +1,9 @@
 //! What the example answers.
-use crate::{
-    Counted, Known, clone_of_vec, errors_of_probes, goals_of_vec, growing_answer, rule_of_vec,
-};
+use crate::clone::clone_of_vec;
+use crate::count::goals_of_vec;
+use crate::cycle::{Counted, growing_answer};
+use crate::errors::{Known, errors_of_probes};
+use crate::rule::rule_of_vec;
 use next_trait_solver::ty::{Certainty, EvalError};
 use std::alloc::Global;
 use std::process::Abort;
