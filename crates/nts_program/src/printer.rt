@@ -10,7 +10,8 @@ ghost use Rattle.nts_program.specs.Pieces.{lexicon_of, names_in, seen_by, Writes
 ghost use Rattle.nts_program.specs.declared.printer.Piece.TheVariants as piece_kinds;
 ghost use Rattle.std.specs.Map.{lookup};
 ghost use Rattle.nts_store.specs.declared.nodes.NodeId.{NodeId};
-ghost use Rattle.nts_program.specs.Answers.{relation_word, first_of, name_by, node_of, is_variable, AreNames, bound_types, bound_regions, IsValueLine, IsFactLine, AreLines, IsAnswerText};
+ghost use Rattle.nts_program.specs.Answers.{relation_word, first_of, name_by, node_of, is_variable, AreNames, bound_types, bound_regions, IsValueLine, IsFactLine, AreLines, IsAnswerText, nothing_seen};
+ghost use Rattle.nts_program.specs.declared.answer.Answer.TheVariants as answers;
 
 use crate::answer::{Answer, Found};
 use indexmap::{IndexMap, IndexSet};
@@ -61,6 +62,7 @@ pub fn text_of(
         Answer::Ambiguity => return Vec::from_slice(alloc, b"maybe ambiguity\n"),
         Answer::Overflow => return Vec::from_slice(alloc, b"maybe overflow\n"),
     };
+    let text = Vec::from_slice(alloc, b"yes\n")?;
     let mut printer = Printer {
         alloc,
         nodes,
@@ -69,15 +71,26 @@ pub fn text_of(
         known: IndexMap::new(alloc),
         types: IndexSet::new(alloc),
         regions: IndexSet::new(alloc),
-        text: Vec::from_slice(alloc, b"yes\n")?,
+        text,
     };
-    printer.learn(found)?;
-    printer.values(found)?;
-    printer.facts(&found.facts)?;
+    printer.found(found)?;
     Ok(printer.text)
 }
 
 impl Printer<'_> {
+    /// The lines of a goal that holds, behind the `yes`.
+    fn found(&mut self, found: &Found) -> Result<(), AllocError>
+        requires known { self.old.known.entries ≡ [] }
+        requires seen { seen_by self.old ≡ nothing_seen }
+        requires yes { self.old.text.items ≡ codes "yes\n" }
+        ensures { OnOk result (IsAnswerText self.old.nodes.now self.old.names.now self.old.scope.now
+            (answers.Yes found.now) self.new.text.items) }
+    {
+        self.learn(found)?;
+        self.values(found)?;
+        self.facts(&found.facts)
+    }
+
     fn write(&mut self, text: &[u8]) -> Result<(), AllocError>
         ensures writes { OnOk result (Writes self.old self.new text.now) }
         ensures seen { OnOk result (seen_by self.new ≡ seen_by self.old) }
