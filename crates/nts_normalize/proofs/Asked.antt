@@ -1,5 +1,5 @@
 -- What a call of the closure is to a walk.
-use Rattle.std.proofs.Common.{◌≡◌, ◌⊎◌, inl, inr, ◌+◌, true, length, All, Option, Some, option_map, Ok, Err, IfOk, IfErr, refl, ap, ◌∙◌}
+use Rattle.std.proofs.Common.{◌≡◌, ◌⊎◌, inl, inr, ◌+◌, true, length, All, Option, Some, option_map, Result, Ok, Err, IfOk, IfErr, refl, ap, ◌∙◌}
 use Rattle.nts_model.specs.declared.labels.Sort.{Sort}
 use Rattle.nts_model.specs.Trees.{Tree, IsClosed, IsClosedUnder}
 use Rattle.nts_store.specs.declared.fault.Fault.{Fault}
@@ -20,7 +20,7 @@ use Rattle.nts_placeholder.specs.Escaping.{escapes}
 use Rattle.nts_placeholder.specs.Universes.{RunsOut}
 use Rattle.nts_normalize.specs.declared.folder.NormalizationFolder.{NormalizationFolder}
 use Rattle.nts_normalize.specs.Calling.{Normalizes, Answer, IsCalled, tree_of_goal}
-use Rattle.nts_normalize.specs.Normalizing.{Standing, Asks, Opens, FailsToAsk, FailsUnder, Fails, is_alias_tree, last_universe, in_universe}
+use Rattle.nts_normalize.specs.Normalizing.{Standing, Asks, Opens, IsAnsweredUnder, IsReplacedUnder, FailsToAsk, FailsUnder, Fails, is_alias_tree, last_universe, in_universe}
 use Rattle.nts_normalize.specs.Walking.{standing_of, goals_same}
 
 pub asks_answer : {F : Type 0} (g : Normalizes F) (s : NormalizationFolder F) (t u : Table) (f : F) (a b : Cx) (x : AliasTerm) (r : Answer)
@@ -86,3 +86,21 @@ not_opened g s x e escaping listed (inr h) = inr (record { escaping = escaping; 
 pub not_asked : {F : Type 0} (g : Normalizes F) (s t : Standing F) (x y : Tree) (maps : Sort → Placeholder → Option BoundVar) (e : EvalError) → (IsClosed x → ⊥) → IsClosedUnder (length s.universes) x → Opens g s x y maps t → (e ≡ Memory) ⊎ FailsToAsk g t y e → (e ≡ Memory) ⊎ FailsUnder g s x e
 not_asked g s t x y maps e escaping listed opens (inl h) = inl h
 not_asked g s t x y maps e escaping listed opens (inr h) = inr (record { escaping = escaping; listed = listed; ends = inr (t, y, maps, opens, h) })
+
+-- what is answered of an opened alias, put together with the opening
+pub replaced_opened : {F T E : Type 0} (g : Normalizes F) (s t : Standing F) (x x' y : Tree) (maps : Sort → Placeholder → Option BoundVar) (r : Result T E) (z : T → Tree) (u : Standing F)
+    → (IsClosed x → ⊥) → IsClosedUnder (length s.universes) x → Opens g s x y maps t → x' ≡ x
+    → IfOk r (λ a. IsAnsweredUnder g t x' y maps (z a) u) → IfOk r (λ a. IsReplacedUnder g s x (z a) u)
+replaced_opened g s t x x' y maps (Ok a) z u escaping listed opens same h =
+    record { escaping = escaping; listed = listed; between = t; alias = y; maps = maps; opens = opens; answered = rw same at h }
+replaced_opened g s t x x' y maps (Err e) z u escaping listed opens same h = tt
+
+pub errors_asked : {F T : Type 0} (g : Normalizes F) (s t : Standing F) (x y : Tree) (maps : Sort → Placeholder → Option BoundVar) (r : Result T EvalError)
+    → (IsClosed x → ⊥) → IsClosedUnder (length s.universes) x → Opens g s x y maps t
+    → IfErr r (λ e. (e ≡ Memory) ⊎ FailsToAsk g t y e) → IfErr r (λ e. (e ≡ Memory) ⊎ FailsUnder g s x e)
+errors_asked g s t x y maps (Ok a) escaping listed opens h = tt
+errors_asked g s t x y maps (Err e) escaping listed opens h = not_asked g s t x y maps e escaping listed opens h
+
+pub kinds_opened : {T E K : Type 0} (r : Result T E) (k : T → K) (a b : K) → a ≡ b → IfOk r (λ x. k x ≡ a) → IfOk r (λ x. k x ≡ b)
+kinds_opened (Ok x) k a b same h = h ∙ same
+kinds_opened (Err e) k a b same h = tt

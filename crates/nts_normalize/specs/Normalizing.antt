@@ -95,7 +95,18 @@ module _ {F : Type 0} (g : Normalizes F) where
     pub asks : Asks s x y goal asked
     pub collects : Collects goal asked t
 
-  -- one from which some escape is opened with placeholders, and the answer is closed again. It stays where the answer is left out
+  -- an opened alias is asked about, and the answer is closed again; what was opened stays where the answer is left out
+  pub record IsAnsweredUnder (s : Standing F) (x alias : Tree) (maps : Sort → Placeholder → Option BoundVar) (y : Tree) (t : Standing F) : Type 0 where
+    pub term : Tree
+    pub goal : Option Tree
+    pub asked : Standing F
+    pub asks : Asks s alias term goal asked
+    pub ends :
+        IsLeftOut s.content.universe asked.content term goal × (y ≡ x) × (t ≡ asked)
+        ⊎ ((IsLeftOut s.content.universe asked.content term goal → ⊥)
+        × (y ≡ closed_by maps asked.universes 0 (deeply_resolved asked.content term)) × Collects goal asked t)
+
+  -- one from which some escape is opened with placeholders, and answered
   pub record IsReplacedUnder (s : Standing F) (x y : Tree) (t : Standing F) : Type 0 where
     pub escaping : IsClosed x → ⊥
     pub listed : IsClosedUnder (length s.universes) x
@@ -103,14 +114,7 @@ module _ {F : Type 0} (g : Normalizes F) where
     pub alias : Tree
     pub maps : Sort → Placeholder → Option BoundVar
     pub opens : Opens s x alias maps between
-    pub term : Tree
-    pub goal : Option Tree
-    pub asked : Standing F
-    pub asks : Asks between alias term goal asked
-    pub ends :
-        IsLeftOut between.content.universe asked.content term goal × (y ≡ x) × (t ≡ asked)
-        ⊎ ((IsLeftOut between.content.universe asked.content term goal → ⊥)
-        × (y ≡ closed_by maps asked.universes 0 (deeply_resolved asked.content term)) × Collects goal asked t)
+    pub answered : IsAnsweredUnder between x alias maps y t
 
   -- one that names a binder beyond those listed stays
   pub record IsBeyond (s : Standing F) (x y : Tree) (t : Standing F) : Type 0 where

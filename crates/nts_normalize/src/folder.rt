@@ -14,7 +14,7 @@ ghost use Rattle.nts_placeholder.specs.Closing.{mapped, closed_by};
 ghost use Rattle.nts_placeholder.specs.Escaping.{escapes};
 ghost use Rattle.nts_placeholder.specs.Universes.{RunsOut};
 ghost use Rattle.nts_normalize.specs.Calling.{IsNormalizer, IsAliasTerm, IsAnswerIn, tree_of_goal};
-ghost use Rattle.nts_normalize.specs.Normalizing.{Standing, Skips, Enters, Leaves, Rebuilds, Asks, Opens, IsLeftOut, IsReplacedUnder, Fails, FailsToAsk, FailsUnder, IsNormalized, StopsNormalizing, is_alias_tree, collected};
+ghost use Rattle.nts_normalize.specs.Normalizing.{Standing, Skips, Enters, Leaves, Rebuilds, Asks, Opens, IsLeftOut, IsAnsweredUnder, IsReplacedUnder, Fails, FailsToAsk, FailsUnder, IsNormalized, StopsNormalizing, is_alias_tree, collected};
 ghost use Rattle.nts_normalize.specs.Walking.{IsReady, Keeps, Goes, standing_of, standing_with, IsReady-kept, standing_of-kept, Keeps-refl, Keeps-trans};
 
 use crate::aliases::{alias_of, names_variables};
@@ -154,12 +154,36 @@ where
             cx.old.nodes self.old) (tree_at cx.old.nodes t.node) e) }
     {
         let (alias, maps) = self.open(cx, t)?;
+        self.replace_opened(cx, t, alias, &maps)
+    }
+
+    /// What stands for an alias that is opened: the answer to it closed, or the alias where that is left out.
+    fn replace_opened(
+        &mut self,
+        cx: &mut Cx,
+        t: Term,
+        alias: AliasTerm,
+        maps: &PlaceholderMaps,
+    ) -> Result<Term, EvalError>
+        requires ready { IsReady F.FnMut cx.old.nodes self.old }
+        requires holds { HoldsTerm cx.old.nodes t }
+        requires args { IsAliasTerm cx.old.nodes alias }
+        requires sort { kind_of (tree_of_alias cx.old.nodes alias) ≡ kind_of (tree_at cx.old.nodes t.node) }
+        ensures goes { Goes F.FnMut cx.old cx.new self.old self.new }
+        ensures within { IfOk result (λ r. IsIn cx.new.nodes r.node) }
+        ensures kind { IfOk result (λ r. kind_of (tree_at cx.new.nodes r.node) ≡ kind_of (tree_at cx.old.nodes t.node)) }
+        ensures ends { IfOk result (λ r. IsAnsweredUnder F.FnMut (standing_of cx.old.nodes self.old)
+            (tree_at cx.old.nodes t.node) (tree_of_alias cx.old.nodes alias) (mapped maps.now) (tree_at
+            cx.new.nodes r.node) (standing_of cx.new.nodes self.new)) }
+        ensures err { IfErr result (λ e. (e ≡ EvalError.Memory) ⊎ FailsToAsk F.FnMut (standing_of
+            cx.old.nodes self.old) (tree_of_alias cx.old.nodes alias) e) }
+    {
         let universe = self.table.universe();
         let (term, goal) = self.ask(cx, alias)?;
         if self.is_left_out(cx, universe, term, goal)? {
             return Ok(t);
         }
-        let closed = self.close(cx, &maps, term)?;
+        let closed = self.close(cx, maps, term)?;
         self.collect(goal)?;
         Ok(closed)
     }

@@ -1,103 +1,25 @@
-use Rattle.std.proofs.Common.{◌∙◌, [], inl, inr, option_map, IsTrue, ap, sym, rules}
-use Rattle.std.proofs.lemmas.List.{append-nil}
-use Rattle.nts_store.specs.Growth.{tree_at}
-use Rattle.nts_unify.specs.Reading.{content_of}
+use Rattle.std.proofs.Common.{ap}
 use Rattle.nts_model.specs.Trees.{kind_of}
-use Rattle.nts_store.proofs.Growing.{Extends-trans}
-use Rattle.nts_normalize.specs.Calling.{tree_of_goal}
-use Rattle.nts_normalize.specs.Normalizing.{collected, IsLeftOut}
-use Rattle.nts_unify.specs.Lawful.{content_of-extended}
-use Rattle.nts_normalize.specs.Walking.{standing_of-kept}
 use Rattle.nts_folding.proofs.Folded.{on_same_err}
-use Rattle.nts_normalize.proofs.Asked.{not_opened, not_asked}
-use Rattle.nts_normalize.proofs.Stepping.{Goes-trans, Goes-grown, Goes-collects, collected_held, collects, known_on, result_kind}
+use Rattle.nts_normalize.proofs.Asked.{not_opened, errors_asked, replaced_opened, kinds_opened}
+use Rattle.nts_normalize.proofs.Stepping.{Goes-trans}
 use Rattle.nts_normalize.proofs.folder.NormalizationFolder.replace_under.Goals as goal
 
-pub returns-in_err-term-clause-goes : goal.returns-in_err-term-clause-goes
-returns-in_err-term-clause-goes g c = Goes-trans c.open.ensures.goes c.ask.ensures.goes
-
-pub returns-in_err-is_left_out-clause-goes : goal.returns-in_err-is_left_out-clause-goes
-returns-in_err-is_left_out-clause-goes g c = Goes-grown (Goes-trans c.open.ensures.goes c.ask.ensures.goes) c.is_left_out.ensures.grows
-
-pub returns-then-branch-clause-goes : goal.returns-then-branch-clause-goes
-returns-then-branch-clause-goes g c = Goes-grown (Goes-trans c.open.ensures.goes c.ask.ensures.goes) c.is_left_out.ensures.grows
-
-pub returns-then-branch-clause-replaced : goal.returns-then-branch-clause-replaced
-returns-then-branch-clause-replaced g c =
-    let all = Goes-grown (Goes-trans c.open.ensures.goes c.ask.ensures.goes) c.is_left_out.ensures.grows in
-    let yes : IsTrue c.in_ok-is_left_out.field-0 = c.if-branch.true in
-    let left = c.in_ok-is_left_out.ensures.left_out.0 yes in
-    record {
-      escaping = c.requires.open;
-      listed = c.requires.listed;
-      between = _;
-      alias = _;
-      maps = _;
-      opens = c.in_ok-alias.ensures.opens;
-      term = _;
-      goal = _;
-      asked = _;
-      asks = c.in_ok-term.ensures.asks;
-      ends = inl (rw c.universe-universe.ensures at left, all.grows.extends.kept c.args.t.node c.requires.holds.within, standing_of-kept g.F.FnMut _ _ c.ask.new.self c.ask.ensures.goes.ready c.is_left_out.ensures.grows.extends);
-    }
-
-pub close-requires-clause-ready : goal.close-requires-clause-ready
-close-requires-clause-ready g c = (Goes-grown c.ask.ensures.goes c.is_left_out.ensures.grows).ready
-
-pub close-requires-clause-known : goal.close-requires-clause-known
-close-requires-clause-known g c =
-    let answer = c.in_ok-term.ensures.answer in
-    known_on _ _ c.is_left_out.ensures.grows.extends c.ask.ensures.goes.ready.table answer.holds.within answer.known
-
-pub returns-in_err-closed-clause-goes : goal.returns-in_err-closed-clause-goes
-returns-in_err-closed-clause-goes g c = Goes-grown (Goes-grown (Goes-trans c.open.ensures.goes c.ask.ensures.goes) c.is_left_out.ensures.grows) c.close.ensures.grows
-
-pub returns-in_err-collect-clause-goes : goal.returns-in_err-collect-clause-goes
-returns-in_err-collect-clause-goes g c =
-    let all = Goes-grown (Goes-grown (Goes-trans c.open.ensures.goes c.ask.ensures.goes) c.is_left_out.ensures.grows) c.close.ensures.grows in
-    Goes-collects [] all c.collect.ensures.table (c.in_err-collect.ensures.goals_err ∙ sym (append-nil _)) (search rules)
-
 pub returns-clause-goes : goal.returns-clause-goes
-returns-clause-goes g c =
-    let all = Goes-grown (Goes-grown (Goes-trans c.open.ensures.goes c.ask.ensures.goes) c.is_left_out.ensures.grows) c.close.ensures.grows in
-    let on = Extends-trans c.is_left_out.ensures.grows.extends c.close.ensures.grows.extends in
-    Goes-collects (collected c.in_ok-term.goal) all c.collect.ensures.table c.in_ok-collect.ensures.goals (collected_held on c.in_ok-term.goal c.in_ok-term.ensures.answer.goal)
+returns-clause-goes g c = Goes-trans c.open.ensures.goes c.replace_opened.ensures.goes
 
 pub returns-clause-kind : goal.returns-clause-kind
 returns-clause-kind g c =
-    let answer = c.in_ok-term.ensures.answer in
-    let term = result_kind c.open.new.cx.nodes _ c.in_ok-alias.alias c.in_ok-term.term answer.holds in
-    let still = ap kind_of (c.is_left_out.ensures.grows.extends.kept c.in_ok-term.term.node answer.holds.within) in
-    c.in_ok-closed.ensures.kind ∙ still ∙ term ∙ c.in_ok-alias.ensures.sort
+    kinds_opened c.replace_opened.result _ _ _ (ap kind_of (c.open.ensures.goes.grows.extends.kept c.args.t.node c.requires.holds.within)) c.replace_opened.ensures.kind
 
 pub returns-clause-replaced : goal.returns-clause-replaced
 returns-clause-replaced g c =
-    let answer = c.in_ok-term.ensures.answer in
-    let left = c.in_ok-is_left_out.ensures.left_out in
-    let on = Extends-trans c.is_left_out.ensures.grows.extends c.close.ensures.grows.extends in
-    let no : IsLeftOut c.universe-universe.result (content_of c.ask.new.cx.nodes c.ask.new.self.table.entries) (tree_at c.ask.new.cx.nodes c.in_ok-term.term.node) (option_map (tree_of_goal c.ask.new.cx.nodes) c.in_ok-term.goal) → ⊥ =
-    λ h. let y = left.1 h in let f = c.if-branch.false in cc in
-    let known = c.is_left_out.ensures.grows.extends.kept c.in_ok-term.term.node answer.holds.within in
-    let same = content_of-extended c.is_left_out.ensures.grows.extends c.ask.ensures.goes.ready.table.now in
-    let tree = rw same at (rw known at c.in_ok-closed.ensures.tree) in
-    record {
-      escaping = c.requires.open;
-      listed = c.requires.listed;
-      between = _;
-      alias = _;
-      maps = _;
-      opens = c.in_ok-alias.ensures.opens;
-      term = _;
-      goal = _;
-      asked = _;
-      asks = c.in_ok-term.ensures.asks;
-      ends = inr (rw c.universe-universe.ensures at no, tree, collects c.ask.new.self c.collect.new.self c.in_ok-term.goal c.ask.ensures.goes.ready on answer.goal c.collect.ensures.table c.collect.ensures.universes c.collect.ensures.normalize c.in_ok-collect.ensures.goals);
-    }
+    replaced_opened g.F.FnMut _ _ _ _ _ _ c.replace_opened.result _ _ c.requires.open c.requires.listed c.in_ok-alias.ensures.opens
+    (c.open.ensures.goes.grows.extends.kept c.args.t.node c.requires.holds.within) c.replace_opened.ensures.ends
+
+pub returns-clause-err : goal.returns-clause-err
+returns-clause-err g c = errors_asked g.F.FnMut _ _ _ _ _ c.replace_opened.result c.requires.open c.requires.listed c.in_ok-alias.ensures.opens c.replace_opened.ensures.err
 
 pub returns-in_err-alias-clause-err : goal.returns-in_err-alias-clause-err
 returns-in_err-alias-clause-err g c =
     on_same_err _ _ _ c.from_residual.ensures.1 (not_opened g.F.FnMut _ _ _ c.requires.open c.requires.listed c.in_err-alias.ensures.err)
-
-pub returns-in_err-term-clause-err : goal.returns-in_err-term-clause-err
-returns-in_err-term-clause-err g c =
-    on_same_err _ _ _ c.from_residual-in_err-term.ensures.1 (not_asked g.F.FnMut _ _ _ _ _ _ c.requires.open c.requires.listed c.in_ok-alias.ensures.opens c.in_err-term.ensures.err)
