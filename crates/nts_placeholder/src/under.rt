@@ -1,5 +1,7 @@
 //! One walk that replaces parts of a term by how many binders stand around them.
-ghost use Rattle.std.specs.Prelude.{◌≡◌, ◌++◌, ◌^◌, ◌<◌, ◌≤◌, ℕ, length, IfOk, OnOk};
+ghost use Rattle.std.specs.Prelude.{◌≡◌, ◌++◌, ◌^◌, ◌<◌, ◌≤◌, [], ℕ, None, length, IfOk, OnOk};
+ghost use Rattle.std.specs.HashMap.{get};
+ghost use Rattle.nts_placeholder.specs.declared.under.Place.{Place};
 ghost use Rattle.nts_model.specs.Trees.{Tree, empty, more, kind_of};
 ghost use Rattle.nts_store.specs.Growth.{tree_at, IsIn, Extends};
 ghost use Rattle.nts_store.specs.Replacement.{IsFormedNode};
@@ -71,9 +73,31 @@ pub fn replace_under<R: ReplacerUnder>(
 {
     let mut tasks = Vec::new(alloc);
     let mut found = Vec::new(alloc);
-    // Equal terms have one number. So a term is entered once under as many binders, however often the
-    // tree has it.
     let mut known = HashMap::new(alloc);
+    walk(nodes, replacer, t, &mut tasks, &mut found, &mut known)
+}
+
+/// Replaces the parts of a term, with nothing to do, found or known yet.
+///
+/// Equal terms have one number. So a term is entered once under as many binders, however often the
+/// tree has it.
+fn walk<R: ReplacerUnder>(
+    nodes: &mut Nodes,
+    replacer: &R,
+    t: NodeId,
+    tasks: &mut Vec<Task>,
+    found: &mut Vec<NodeId>,
+    known: &mut HashMap<Place, NodeId>,
+) -> Result<NodeId, AllocError>
+    requires within { IsIn nodes.old t }
+    requires covers { R.covers (R.meaning replacer.now) 0 (tree_at nodes.old t) }
+    requires idle { tasks.old.items ≡ [] }
+    requires empty { found.old.items ≡ [] }
+    requires unknown { (k : Place) → get ⟦<Place as PartialEq>⟧.eq known.old k ≡ None }
+    ensures extends { Extends nodes.old nodes.new }
+    ensures within { IfOk result (IsIn nodes.new) }
+    ensures tree { IfOk result (λ r. tree_at nodes.new r ≡ R.image (R.meaning replacer.now) 0 (tree_at nodes.old t)) }
+{
     tasks.push(Task::Enter(Place { node: t, depth: 0 }))?;
     while let Some(task) = tasks.pop() {
         match task {
@@ -81,7 +105,7 @@ pub fn replace_under<R: ReplacerUnder>(
                 Some(result) => found.push(*result)?,
                 None => match replacer.step(nodes, place)? {
                     Some(result) => found.push(result)?,
-                    None => push_node(nodes, place, &mut tasks)?,
+                    None => push_node(nodes, place, tasks)?,
                 },
             },
             Task::Build(place, label, count) => {

@@ -6,8 +6,8 @@ use Rattle.nts_store.proofs.Replacing.{MayBuild, slice_to_end}
 use Rattle.nts_placeholder.specs.contracts.under.PlacePartialEq.TheImpl as place_eq
 use Rattle.nts_placeholder.specs.Under.{GoesInside, IsStepUnder}
 use Rattle.nts_placeholder.proofs.Walking.{AreLaws, IsKnown, MayEnter, may_enter, may_build, may_keep, known_later, known_more, ends_done, ends_down, ends_known, ends_build, less_after, less_known, less_down, AreTasks-extended}
-use Rattle.nts_placeholder.proofs.under.replace_under.Given.{Over}
-use Rattle.nts_placeholder.proofs.under.replace_under.Goals as goal
+use Rattle.nts_placeholder.proofs.under.walk.Given.{Over}
+use Rattle.nts_placeholder.proofs.under.walk.Goals as goal
 
 laws : (g : Over) (m : g.R.ReplacerUnder.Meaning) → AreLaws (g.R.ReplacerUnder.covers m) (g.R.ReplacerUnder.image m)
 laws g m =
@@ -73,7 +73,7 @@ loop-task-preserved-in-Continue-branch-5 g c =
 
 -- a node whose children are to be entered
 
-entered_next : (g : Over) (c : goal.After-tasks-in-None-2-1 g) → MayEnter (g.R.ReplacerUnder.covers (g.R.ReplacerUnder.meaning c.args.replacer.now)) c.loop-task.nodes c.pop.new.self.items c.in-Enter.place
+entered_next : (g : Over) (c : goal.After-push_node-arg-1 g) → MayEnter (g.R.ReplacerUnder.covers (g.R.ReplacerUnder.meaning c.args.replacer.now)) c.loop-task.nodes c.pop.new.self.items c.in-Enter.place
 entered_next g c =
     let m = g.R.ReplacerUnder.meaning c.args.replacer.now in
     may_enter (g.R.ReplacerUnder.covers m) (g.R.ReplacerUnder.image m) _ _ _ _ _ _ c.loop-task.invariant.ends (rw c.in-Enter.is at c.in-Some.ensures.items)
