@@ -1,11 +1,13 @@
 -- What lines do not say, and why they are refused.
 use Rattle.std.proofs.Common.{◌≡◌, ◌≢◌, ℕ, ◌-◌, true, false, List, [], ◌∷◌, ◌++◌, ◌⊎◌, inl, inr, length, map, take, drop, refl, sym, ap, subst, ◌∙◌, arith}
-use Rattle.std.specs.Prelude.{codes, Result, Ok, Err, IsErrAnd, IfErr}
+use Rattle.std.specs.Prelude.{codes, Bool, Result, Ok, Err, IsErrAnd, IfOk, IfErr, OnOk}
+use Rattle.nts_text.specs.NameTable.{IsTaken}
+use Rattle.nts_text.specs.declared.commands.Command.{Command}
 use Rattle.std.proofs.lemmas.List.{map-append, take_all, length-drop}
 use Rattle.nts_model.specs.declared.labels.Sort.{Sort}
 use Rattle.nts_text.specs.Declarations.{sign_of, signs_of_params, unmarked, AreParams, EndsInCoinductive}
 use Rattle.nts_text.specs.Faults.{HasFreeName, HasBoundTwice, HasBadNames, IsFaultOf}
-use Rattle.nts_text.specs.Lines.{BeginsWithKeyword, Says, SaysNothing, SaysTooMuch}
+use Rattle.nts_text.specs.Lines.{bytes_of, BeginsWithKeyword, Says, SaysNothing, SaysTooMuch}
 use Rattle.nts_text.specs.Reasons.{is_form_reason, is_name_reason}
 use Rattle.nts_text.specs.Tokens.{AreTokensFrom, HasStrayByte}
 use Rattle.nts_text.specs.declared.lexer.Token.{Token}
@@ -120,6 +122,25 @@ bad_goal names line ns (Refused reasons.ParameterInAClause) reason parameter unk
 bad_goal names line ns (Refused reasons.UnknownCommand) reason parameter unknown twice = cc
 bad_goal names line ns (Refused reasons.Syntax) reason parameter unknown twice = cc
 bad_goal names line ns (Refused reasons.NumberOutOfRange) reason parameter unknown twice = cc
+
+-- why a declaration is refused
+pub bad_type : (names : NameTable) (line : List ℕ) (name : Token) (params : Vec Param) (e : TextError)
+    → (e ≢ Memory → (e ≡ Refused reasons.NameDeclaredTwice) × IsTaken names (bytes_of line name)) → HasBadNames names line e (lines.Type name params)
+bad_type names line name params Memory taken = tt
+bad_type names line name params (Refused reasons.NameDeclaredTwice) taken = (taken (λ m. cc)).1
+bad_type names line name params (Refused r) taken = absurd (let e : Refused r ≡ Refused reasons.NameDeclaredTwice = (taken (λ m. cc)).0 in cc)
+
+pub bad_trait : (names : NameTable) (line : List ℕ) (name : Token) (sorts : Vec Sort) (coinductive : Bool) (e : TextError)
+    → (e ≢ Memory → (e ≡ Refused reasons.NameDeclaredTwice) × IsTaken names (bytes_of line name)) → HasBadNames names line e (lines.Trait name sorts coinductive)
+bad_trait names line name sorts coinductive Memory taken = tt
+bad_trait names line name sorts coinductive (Refused reasons.NameDeclaredTwice) taken = (taken (λ m. cc)).1
+bad_trait names line name sorts coinductive (Refused r) taken = absurd (let e : Refused r ≡ Refused reasons.NameDeclaredTwice = (taken (λ m. cc)).0 in cc)
+
+-- what is said of a line that is refused
+pub no_meaning : (P Q : Command → Type 0) (D K : Type 0) (F : TextError → Type 0) (r : Result Command TextError) (e : TextError) → IsErrAnd r (λ x. x ≡ e) → F e
+    → record { sorted : IfOk r P; means : IfOk r Q; declares : OnOk r D; kept : OnOk r K; fault : IfErr r F }
+no_meaning P Q D K F (Ok x) e h bad = absurd h
+no_meaning P Q D K F (Err x) e h bad = record { sorted = tt; means = tt; declares = tt; kept = tt; fault = subst F (sym h) bad }
 
 -- a byte of no token
 pub fault_of_byte : (names : NameTable) (line : List ℕ) (k : Keyword) (end : ℕ) (e : TextError) → BeginsWithKeyword line k end

@@ -10,3 +10,4 @@ pub mod ParamLemmas
 pub mod ComeLemmas
 pub mod FaultLemmas
 pub mod ArrowLemmas
+pub mod ReadingLemmas

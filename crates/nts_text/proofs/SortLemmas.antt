@@ -3,13 +3,9 @@ use Rattle.std.proofs.Common.{◌≡◌, ℕ, ◌==◌, true, length, List, [], 
 use Rattle.std.proofs.lemmas.Bool.{eqb-true}
 use Rattle.std.proofs.lemmas.List.{nil_from_length, reverse-append, reverse-reverse}
 use Rattle.nts_model.specs.declared.labels.Sort.{Sort}
-use Rattle.nts_text.specs.Resolution.{argument_sorts, sort_of, AreSorted}
+use Rattle.nts_text.specs.Resolution.{argument_sorts, sort_of, AreSorted, AreSortedBefore}
 use Rattle.nts_text.specs.declared.names.NameTable.{NameTable}
 use Rattle.nts_text.specs.declared.resolver.Resolved.{Resolved}
-
--- nodes of the wanted sorts make these nodes whole
-abbrev pub AreSortedBefore : NameTable → List Resolved → List Sort → Type 0
-AreSortedBefore names done wanted = (rest : List Resolved) → AreSorted names wanted rest → AreSorted names [] (done ++ rest)
 
 pub sorted_push : (names : NameTable) (done : List Resolved) (wanted : List Sort) (r : Resolved)
     → AreSortedBefore names done wanted → sort_of r ≡ slice_get wanted 0

@@ -116,6 +116,17 @@ KeepsNames-trans {a} {b} {c} h k = record {
 pub keeps_types : (old new : Spellings) → Lengthens (type_names old) (type_names new) → new.regions ≡ old.regions → KeepsNumbers old new
 keeps_types old new h e = record { types = h; regions = subst (λ rs. Lengthens (region_names old) (map (λ v. v.items) rs.keys)) (sym e) (Lengthens-refl (region_names old)) }
 
+-- .. or of a region
+pub keeps_regions : (old new : Spellings) → Lengthens (region_names old) (region_names new) → new.types ≡ old.types → KeepsNumbers old new
+keeps_regions old new h e = record { types = subst (λ ts. Lengthens (type_names old) (map (λ v. v.items) ts.keys)) (sym e) (Lengthens-refl (type_names old)); regions = h }
+
+-- .. among the variables, or among the parameters
+pub keeps_variables : (scope : Scope) (new : Spellings) → KeepsNumbers scope.variables new → KeepsNames scope (record { variables = new; parameters = scope.parameters })
+keeps_variables scope new h = record { variables = h; parameters = KeepsNumbers-refl scope.parameters }
+
+pub keeps_parameters : (scope : Scope) (new : Spellings) → KeepsNumbers scope.parameters new → KeepsNames scope (record { variables = scope.variables; parameters = new })
+keeps_parameters scope new h = record { variables = KeepsNumbers-refl scope.variables; parameters = h }
+
 -- a meaning stays where names are added
 pub meaning-later : (names : NameTable) (old new : Scope) (line : List ℕ) (b : BoundNames) (n : Node) (r : Resolved) → KeepsNames old new → IsMeaningOf names old line b n r → IsMeaningOf names new line b n r
 meaning-later names old new line b n (nodes.Binds s) k h = h

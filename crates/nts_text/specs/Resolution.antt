@@ -61,6 +61,10 @@ AreSorted names wanted [] = wanted ≡ []
 AreSorted names wanted (r ∷ rs) =
     (sort_of r ≡ slice_get wanted 0) × AreSorted names (argument_sorts names r ++ drop 1 wanted) rs
 
+-- nodes of the wanted sorts make these nodes whole
+abbrev pub AreSortedBefore : NameTable → List Resolved → List Sort → Type 0
+AreSortedBefore names done wanted = (rest : List Resolved) → AreSorted names wanted rest → AreSorted names [] (done ++ rest)
+
 -- a binder binds a type by its name, and a region by its name behind a mark
 abbrev pub IsBoundAs : Sort → TokenKind → Type 0
 IsBoundAs Ty k = k ≡ Name

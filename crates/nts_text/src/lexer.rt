@@ -11,7 +11,7 @@ use crate::refusals::{Refusal, TextError};
 use std::alloc::Global;
 
 /// What a token is. A name with its marks is one token.
-#[derive(Clone, Copy, Debug, PartialEq, Eq, Hash)]
+#[derive(Clone, Copy, PartialEq, Eq)]
 pub enum TokenKind {
     /// `x`
     Name,
@@ -41,7 +41,7 @@ pub enum TokenKind {
 }
 
 /// A token of a line: its bytes are those from `start` to `end`.
-#[derive(Clone, Copy, Debug, PartialEq, Eq, Hash)]
+#[derive(Clone, Copy, PartialEq, Eq)]
 pub struct Token {
     pub kind: TokenKind,
     pub start: usize,

@@ -17,7 +17,7 @@ use std::alloc::{AllocError, Global};
 use std::mem;
 
 /// What a name stands for. Types and traits have numbers of their own, from 0 on.
-#[derive(Clone, Copy, PartialEq, Eq, Hash)]
+#[derive(Clone, Copy, PartialEq, Eq)]
 pub enum Declared {
     Int(IntTy),
     Uint(UintTy),

@@ -22,7 +22,7 @@ use nts_model::{Sort, Variance};
 use std::alloc::{AllocError, Global};
 
 /// The first word of a line.
-#[derive(Clone, Copy, Debug, PartialEq, Eq, Hash)]
+#[derive(Clone, Copy, PartialEq, Eq)]
 pub enum Keyword {
     Mode,
     Depth,
@@ -33,7 +33,7 @@ pub enum Keyword {
 }
 
 /// The modes that a line can ask for.
-#[derive(Clone, Copy, Debug, PartialEq, Eq, Hash)]
+#[derive(Clone, Copy, PartialEq, Eq)]
 pub enum Mode {
     Coherence,
     Analysis,
@@ -41,7 +41,7 @@ pub enum Mode {
 }
 
 /// A parameter of a declared type.
-#[derive(Clone, Copy, PartialEq, Eq, Hash)]
+#[derive(Clone, Copy, PartialEq, Eq)]
 pub struct Param {
     pub sort: Sort,
     pub variance: Variance,

@@ -7,7 +7,7 @@ use crate::lexer::{Token, TokenKind};
 use std::alloc::{AllocError, Global};
 
 /// What a node is in its predicate.
-#[derive(Clone, Copy, Debug, PartialEq, Eq, Hash)]
+#[derive(Clone, Copy, PartialEq, Eq)]
 pub enum Role {
     /// A name that the binder in front of the predicate binds.
     Bound,
@@ -21,7 +21,7 @@ pub enum Role {
 ///
 /// Predicates, types and arguments are lists of nodes in the order of the text: each node stands
 /// before its arguments, and the names that a binder binds before the trait.
-#[derive(Clone, Copy, Debug, PartialEq, Eq, Hash)]
+#[derive(Clone, Copy, PartialEq, Eq)]
 pub struct Node {
     pub token: Token,
     pub arguments: usize,
@@ -29,7 +29,7 @@ pub struct Node {
 }
 
 /// Which predicates are to come.
-#[derive(Clone, Copy, Debug, PartialEq, Eq, Hash)]
+#[derive(Clone, Copy, PartialEq, Eq)]
 pub enum Wanted {
     /// One without a binder.
     Base,

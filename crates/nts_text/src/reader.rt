@@ -8,7 +8,7 @@ use std::io::{BufRead, ErrorKind};
 use thiserror::Error;
 
 /// Why a line was not read.
-#[derive(Clone, Copy, Debug, PartialEq, Eq, Hash, Error)]
+#[derive(Clone, Copy, Debug, PartialEq, Eq, Error)]
 pub enum ReadError {
     #[error("out of memory")]
     Memory,

@@ -10,7 +10,7 @@ use thiserror::Error;
 
 /// Why a line is refused. A line has one reason: of those that stand in it, the first of these
 /// rows, and of the reasons about names, which share the last row, the leftmost.
-#[derive(Clone, Copy, Debug, PartialEq, Eq, Hash)]
+#[derive(Clone, Copy, Debug, PartialEq, Eq)]
 pub enum Refusal {
     UnknownCommand,
     Syntax,
@@ -39,7 +39,7 @@ impl fmt::Display for Refusal {
 }
 
 /// Why a line is not taken: memory ran out, or the line itself is at fault.
-#[derive(Clone, Copy, Debug, PartialEq, Eq, Hash, Error)]
+#[derive(Clone, Copy, Debug, PartialEq, Eq, Error)]
 pub enum TextError {
     #[error("out of memory")]
     Memory,

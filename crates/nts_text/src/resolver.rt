@@ -1,6 +1,6 @@
 //! Predicates whose names have become numbers.
 
-ghost use Rattle.std.specs.Prelude.{◌≡◌, ◌≢◌, true, None, Some, Err, ◌++◌, [], length, vec_len, reverse, All, IfOk, IfErr, IsErr, OnOk, MatchResult};
+ghost use Rattle.std.specs.Prelude.{◌≡◌, ◌≢◌, true, None, Some, Err, ◌++◌, ◌∷◌, [], length, vec_len, reverse, All, IfOk, IfErr, IsErr, OnOk, MatchResult};
 ghost use Rattle.nts_text.specs.Lines.{bytes_of};
 ghost use Rattle.nts_text.specs.NameTable.{IsTaken, StandsFor};
 ghost use Rattle.nts_text.specs.Binders.{BoundNames, bound_names, bound_behind, nothing_bound};
@@ -23,7 +23,7 @@ use nts_model::{IntTy, Sort, UintTy};
 use std::alloc::{AllocError, Global};
 
 /// Where predicates stand. Only those of a goal may name parameters.
-#[derive(Clone, Copy, Debug, PartialEq, Eq, Hash)]
+#[derive(Clone, Copy, PartialEq, Eq)]
 pub enum Site {
     Clause,
     Goal,
@@ -31,7 +31,7 @@ pub enum Site {
 
 /// A node whose name has become a number: a trait's, a type's, that of a variable or of a parameter
 /// among those of its sort, or its place in the list of its predicate's binder.
-#[derive(Clone, Copy, PartialEq, Eq, Hash)]
+#[derive(Clone, Copy, PartialEq, Eq)]
 pub enum Resolved {
     /// A name for the binder of the next predicate to bind. It has the next place of the list.
     Binds(Sort),
@@ -400,6 +400,61 @@ fn want_arguments(
     Ok(())
 }
 
+/// Keeps a node, and wants its arguments.
+fn keep(
+    wanted: &mut Vec<Sort>,
+    all: &mut Vec<Resolved>,
+    names: &NameTable,
+    node: Resolved,
+) -> Result<(), AllocError>
+    requires { IsDeclared names.now node }
+    ensures wants { OnOk result (wanted.new.items ≡ wanted.old.items ++ reverse (argument_sorts names.now node)) }
+    ensures keeps { OnOk result (all.new.items ≡ all.old.items ++ node ∷ []) }
+{
+    want_arguments(wanted, names, node)?;
+    all.push(node)?;
+    Ok(())
+}
+
+impl Reading<'_> {
+    /// Adds what these nodes mean to an empty list.
+    fn all_nodes(
+        &self,
+        nodes: &[Node],
+        scope: &mut Scope,
+        bounds: &mut Bounds,
+        wanted: &mut Vec<Sort>,
+        all: &mut Vec<Resolved>,
+    ) -> Result<(), TextError>
+        requires inside { All (λ n. IsInside self.now.line.now n.token) nodes.now }
+        requires nothing { bound_names bounds.old ≡ nothing_bound }
+        requires unwanted { wanted.old.items ≡ [] }
+        requires empty { all.old.items ≡ [] }
+        ensures each { OnOk result (length all.new.items ≡ length nodes.now) }
+        ensures sorted { OnOk result (AreSorted self.now.names.now [] all.new.items) }
+        ensures declared { OnOk result (All (IsDeclared self.now.names.now) all.new.items) }
+        ensures means { OnOk result (AreMeanings self.now.names.now scope.new self.now.line.now
+            nothing_bound nodes.now all.new.items) }
+        ensures kept { KeepsNames scope.old scope.new }
+        ensures reasons { IfErr result (λ e. is_name_reason e ≡ true) }
+        ensures parameter { result ≡ Err (Refused ParameterInAClause) → self.now.site ≡ Site.Clause }
+        ensures unknown { result ≡ Err (Refused UnknownName) →
+            HasFreeName self.now.names.now self.now.line.now nodes.now }
+        ensures twice { result ≡ Err (Refused NameDeclaredTwice) →
+            HasBoundTwice self.now.names.now self.now.line.now nodes.now }
+    {
+        for node in nodes {
+            let resolved = self.node(bounds, scope, wanted.pop(), *node)?;
+            keep(wanted, all, self.names, resolved)?;
+        }
+        if wanted.is_empty() {
+            Ok(())
+        } else {
+            refused(Refusal::WrongArguments)
+        }
+    }
+}
+
 /// Replaces the names of predicates by numbers. The first node from the left that is at fault
 /// decides why they are refused. Nodes that end before each has its arguments are refused too;
 /// no line has such nodes.
@@ -433,14 +488,6 @@ pub fn resolve_nodes(
     let mut bounds = Bounds::new(alloc);
     let mut wanted = Vec::new(alloc);
     let mut all = Vec::new(alloc);
-    for node in nodes {
-        let resolved = reading.node(&mut bounds, scope, wanted.pop(), *node)?;
-        want_arguments(&mut wanted, names, resolved)?;
-        all.push(resolved)?;
-    }
-    if wanted.is_empty() {
-        Ok(all)
-    } else {
-        refused(Refusal::WrongArguments)
-    }
+    let done = reading.all_nodes(nodes, scope, &mut bounds, &mut wanted, &mut all);
+    done.and(Ok(all))
 }
