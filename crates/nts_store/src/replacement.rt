@@ -1,5 +1,6 @@
 //! One walk that replaces parts of a term, for all kinds of replacement.
-ghost use Rattle.std.specs.Prelude.{◌≡◌, ◌++◌, ◌∷◌, [], List, IfOk, OnOk};
+ghost use Rattle.std.specs.Prelude.{◌≡◌, ◌++◌, ◌∷◌, [], ℕ, List, None, nat_eq, IfOk, OnOk};
+ghost use Rattle.std.specs.HashMap.{get};
 ghost use Rattle.nts_model.specs.Trees.{Tree, empty, more, kind_of};
 ghost use Rattle.nts_store.specs.Growth.{tree_at, IsIn, Extends};
 ghost use Rattle.nts_store.specs.Replacement.{IsStep, jobs, TasksIn, building, IsFormedNode};
@@ -80,9 +81,32 @@ pub fn replace<R: Replacer>(
 {
     let mut tasks = Vec::new(alloc);
     let mut found = Vec::new(alloc);
-    // Equal terms have one number. So the children of a node are replaced once, however often a tree
-    // has it.
     let mut known = HashMap::new(alloc);
+    walk(nodes, replacer, t, &mut tasks, &mut found, &mut known)
+}
+
+/// Replaces the parts of a term, with nothing to do, found or known yet.
+///
+/// Equal terms have one number. So the children of a node are replaced once, however often a tree
+/// has it.
+fn walk<R: Replacer>(
+    nodes: &mut Nodes,
+    replacer: &R,
+    t: NodeId,
+    tasks: &mut Vec<Task>,
+    found: &mut Vec<NodeId>,
+    known: &mut HashMap<usize, NodeId>,
+) -> Result<NodeId, AllocError>
+    requires within { IsIn nodes.old t }
+    requires ready { R.ready nodes.old replacer.now }
+    requires covers { R.covers (R.meaning nodes.old replacer.now) (tree_at nodes.old t) }
+    requires idle { tasks.old.items ≡ [] }
+    requires empty { found.old.items ≡ [] }
+    requires unknown { (k : ℕ) → get nat_eq known.old k ≡ None }
+    ensures extends { Extends nodes.old nodes.new }
+    ensures within { IfOk result (IsIn nodes.new) }
+    ensures tree { IfOk result (λ r. tree_at nodes.new r ≡ R.image (R.meaning nodes.old replacer.now) (tree_at nodes.old t)) }
+{
     tasks.push(Task::Enter(t))?;
     while let Some(task) = tasks.pop() {
         match task {
@@ -91,7 +115,7 @@ pub fn replace<R: Replacer>(
                     Step::Done(result) => found.push(result)?,
                     Step::Down(node) => match known.get(&node.number) {
                         Some(result) => found.push(*result)?,
-                        None => push_node(nodes, node, &mut tasks)?,
+                        None => push_node(nodes, node, tasks)?,
                     },
                 }
             }

@@ -3,7 +3,7 @@ use Rattle.std.specs.HashMap.{get}
 use Rattle.nts_store.specs.Growth.{tree_at, Extends}
 use Rattle.nts_store.specs.Replacement.{jobs}
 use Rattle.nts_store.proofs.Replacing.{EndsWith, Known, weights}
-use Rattle.nts_store.proofs.replacement.replace.Given as goal
+use Rattle.nts_store.proofs.replacement.walk.Given as goal
 
 abbrev pub invariant-loop-task : goal.invariant-loop-task
 invariant-loop-task g l =

@@ -5,8 +5,8 @@ use Rattle.nts_store.specs.Growth.{tree_at}
 use Rattle.nts_store.specs.Replacement.{IsStep, TasksIn}
 use Rattle.nts_store.proofs.Growing.{Extends-trans}
 use Rattle.nts_store.proofs.Replacing.{AreLaws, IsKnown, MayEnter, MayBuild, may_enter, may_build, may_keep, known_later, known_more, again, ends_done, ends_down, ends_known, ends_build, less_after, less_down, slice_to_end, TasksIn-front, TasksIn-extended}
-use Rattle.nts_store.proofs.replacement.replace.Given.{Over}
-use Rattle.nts_store.proofs.replacement.replace.Goals as goal
+use Rattle.nts_store.proofs.replacement.walk.Given.{Over}
+use Rattle.nts_store.proofs.replacement.walk.Goals as goal
 
 laws : (g : Over) (m : g.R.Replacer.Meaning) → AreLaws (g.R.Replacer.covers m) (g.R.Replacer.image m)
 laws g m =
