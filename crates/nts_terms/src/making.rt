@@ -1,8 +1,8 @@
 //! Making terms.
 ghost use Rattle.std.specs.Prelude.{◌≡◌, List, IfOk, OnErr, IsOkUnless};
 ghost use Rattle.nts_model.specs.declared.labels.Label.TheVariants as label;
-ghost use Rattle.nts_model.specs.Trees.{node, empty, Place, is, statement};
-ghost use Rattle.nts_store.specs.Growth.{tree_at, Extends};
+ghost use Rattle.nts_model.specs.Trees.{node, empty, shape, Meets, Place, is, a_type, a_const, statement};
+ghost use Rattle.nts_store.specs.Growth.{tree_at, trees_at, IsIn, AllIn, Extends};
 ghost use Rattle.nts_terms.specs.Handles.{Holds, HoldsTy, HoldsRegion, HoldsConst, HoldsPredicate};
 ghost use Rattle.nts_terms.specs.Kinds.{tree_of_infer, tree_of_ty, TyFits, tree_of_region, tree_of_const, ConstFits, tree_of_clause, ClauseFits, tree_of_statement, StatementFits, tree_of_predicate, PredicateFits};
 ghost use Rattle.nts_terms.specs.Signatures.{TyIsDeclared, ConstIsDeclared, StatementIsDeclared};
@@ -18,6 +18,19 @@ use nts_model::{
 use nts_store::{Fault, NodeId};
 
 impl Cx {
+    /// The term with that label and these children.
+    fn make(&mut self, label: Label, children: &[NodeId]) -> Result<NodeId, Fault>
+        requires within { AllIn self.old.nodes children.now }
+        requires formed { Meets (shape label) (trees_at self.old.nodes children.now) }
+        ensures within { IfOk result (IsIn self.new.nodes) }
+        ensures tree { IfOk result (λ n. tree_at self.new.nodes n ≡ node label (trees_at self.old.nodes children.now)) }
+        ensures grows { Grows self.old self.new }
+        ensures err { OnErr result (self.new.nodes ≡ self.old.nodes) }
+        ensures memory { IsOkUnless result Fault.Memory }
+    {
+        Ok(self.nodes.make(label, children)?)
+    }
+
     /// The type of that kind.
     pub fn mk_ty(&mut self, kind: TyKind) -> Result<Ty, Fault>
         requires parts { TyFits self.old.nodes kind }
@@ -28,43 +41,54 @@ impl Cx {
         ensures err { OnErr result (self.new.nodes ≡ self.old.nodes) }
         ensures memory { IsOkUnless result Fault.Memory }
     {
-        let node = match kind {
+        Ok(Ty {
+            node: self.make_ty(kind)?,
+        })
+    }
+
+    fn make_ty(&mut self, kind: TyKind) -> Result<NodeId, Fault>
+        requires { TyFits self.old.nodes kind }
+        ensures tree { IfOk result (λ n. tree_at self.new.nodes n ≡ tree_of_ty self.old.nodes kind) }
+        ensures holds { IfOk result (λ n. Holds a_type self.new.nodes n) }
+        ensures grows { Grows self.old self.new }
+        ensures err { OnErr result (self.new.nodes ≡ self.old.nodes) }
+        ensures memory { IsOkUnless result Fault.Memory }
+    {
+        match kind {
             TyKind::Ctor(ctor, args) => {
                 let head = TyHead::Ctor(ctor.number);
-                self.nodes.make(Label::Ty(head), &[args.node])?
+                self.make(Label::Ty(head), &[args.node])
             }
             TyKind::FnPtr(sig) => {
                 let children = [sig.vars.node, sig.value.inputs_and_output.node];
-                self.nodes.make(Label::Ty(TyHead::FnPtr), &children)?
+                self.make(Label::Ty(TyHead::FnPtr), &children)
             }
-            TyKind::Alias(alias) => self.nodes.make(alias.def_id.label(), &[alias.args.node])?,
-            TyKind::Int(int) => self.nodes.make(Label::Ty(TyHead::Int(int)), &[])?,
-            TyKind::Uint(uint) => self.nodes.make(Label::Ty(TyHead::Uint(uint)), &[])?,
-            TyKind::Float(float) => self.nodes.make(Label::Ty(TyHead::Float(float)), &[])?,
-            TyKind::Error => self.nodes.make(Label::Ty(TyHead::Error), &[])?,
+            TyKind::Alias(alias) => self.make(alias.def_id.label(), &[alias.args.node]),
+            TyKind::Int(int) => self.make(Label::Ty(TyHead::Int(int)), &[]),
+            TyKind::Uint(uint) => self.make(Label::Ty(TyHead::Uint(uint)), &[]),
+            TyKind::Float(float) => self.make(Label::Ty(TyHead::Float(float)), &[]),
+            TyKind::Error => self.make(Label::Ty(TyHead::Error), &[]),
             TyKind::Infer(infer) => {
                 let leaf = match infer {
                     InferTy::TyVar(n) => Leaf::Variable(VariableKind::Ty, n),
                     InferTy::IntVar(n) => Leaf::Variable(VariableKind::Int, n),
                     InferTy::FloatVar(n) => Leaf::Variable(VariableKind::Float, n),
                 };
-                self.nodes.make(Label::Leaf(leaf), &[])?
+                self.make(Label::Leaf(leaf), &[])
             }
             TyKind::Param(n) => {
                 let leaf = Leaf::TyConstant(Constant::Param(n));
-                self.nodes.make(Label::Leaf(leaf), &[])?
+                self.make(Label::Leaf(leaf), &[])
             }
             TyKind::Placeholder(p) => {
                 let constant = Constant::Placeholder(p.universe, p.bound.var);
-                self.nodes
-                    .make(Label::Leaf(Leaf::TyConstant(constant)), &[])?
+                self.make(Label::Leaf(Leaf::TyConstant(constant)), &[])
             }
             TyKind::Bound(index, bound) => {
                 let label = Label::Bound(Sort::Ty, index, bound.var);
-                self.nodes.make(label, &[])?
+                self.make(label, &[])
             }
-        };
-        Ok(Ty { node })
+        }
     }
 
     /// The region of that kind.
@@ -101,34 +125,39 @@ impl Cx {
         ensures err { OnErr result (self.new.nodes ≡ self.old.nodes) }
         ensures memory { IsOkUnless result Fault.Memory }
     {
-        let node = match kind {
+        Ok(Const {
+            node: self.make_const(kind)?,
+        })
+    }
+
+    fn make_const(&mut self, kind: ConstKind) -> Result<NodeId, Fault>
+        requires { ConstFits self.old.nodes kind }
+        ensures tree { IfOk result (λ n. tree_at self.new.nodes n ≡ tree_of_const self.old.nodes kind) }
+        ensures holds { IfOk result (λ n. Holds a_const self.new.nodes n) }
+        ensures grows { Grows self.old self.new }
+        ensures err { OnErr result (self.new.nodes ≡ self.old.nodes) }
+        ensures memory { IsOkUnless result Fault.Memory }
+    {
+        match kind {
             ConstKind::Param(n) => {
-                self.nodes
-                    .make(Label::Leaf(Leaf::ConstConstant(Constant::Param(n))), &[])?
+                self.make(Label::Leaf(Leaf::ConstConstant(Constant::Param(n))), &[])
             }
             ConstKind::Infer(n) => {
-                self.nodes
-                    .make(Label::Leaf(Leaf::Variable(VariableKind::Const, n)), &[])?
+                self.make(Label::Leaf(Leaf::Variable(VariableKind::Const, n)), &[])
             }
             ConstKind::Bound(index, bound) => {
-                self.nodes
-                    .make(Label::Bound(Sort::Const, index, bound.var), &[])?
+                self.make(Label::Bound(Sort::Const, index, bound.var), &[])
             }
             ConstKind::Placeholder(p) => {
                 let constant = Constant::Placeholder(p.universe, p.bound.var);
-                self.nodes
-                    .make(Label::Leaf(Leaf::ConstConstant(constant)), &[])?
+                self.make(Label::Leaf(Leaf::ConstConstant(constant)), &[])
             }
-            ConstKind::Unevaluated(alias) => {
-                self.nodes.make(alias.def_id.label(), &[alias.args.node])?
-            }
+            ConstKind::Unevaluated(alias) => { self.make(alias.def_id.label(), &[alias.args.node]) }
             ConstKind::Value { ty, bits } => {
-                self.nodes
-                    .make(Label::Const(ConstHead::Value(bits)), &[ty.node])?
+                self.make(Label::Const(ConstHead::Value(bits)), &[ty.node])
             }
-            ConstKind::Error => self.nodes.make(Label::Const(ConstHead::Error), &[])?,
-        };
-        Ok(Const { node })
+            ConstKind::Error => self.make(Label::Const(ConstHead::Error), &[]),
+        }
     }
 
     /// The predicate that states this of the variables of its binder.
@@ -158,13 +187,10 @@ impl Cx {
             PredicateKind::Clause(clause) => return self.make_clause(clause),
             PredicateKind::DynCompatible(id) => {
                 let label = Label::Predicate(PredicateHead::DynCompatible(id.number));
-                return Ok(self.nodes.make(label, &[])?);
+                return self.make(label, &[]);
             }
             PredicateKind::Ambiguous => {
-                return Ok(
-                    self.nodes
-                        .make(Label::Predicate(PredicateHead::Ambiguous), &[])?,
-                );
+                return self.make(Label::Predicate(PredicateHead::Ambiguous), &[]);
             }
             PredicateKind::Subtype {
                 a_is_expected,
@@ -184,7 +210,7 @@ impl Cx {
                 (PredicateHead::AliasRelate(direction), a.node, b.node)
             }
         };
-        Ok(self.nodes.make(Label::Predicate(head), &[a, b])?)
+        self.make(Label::Predicate(head), &[a, b])
     }
 
     fn make_clause(&mut self, kind: ClauseKind) -> Result<NodeId, Fault>
@@ -194,46 +220,43 @@ impl Cx {
         ensures grows { Grows self.old self.new }
         ensures memory { IsOkUnless result Fault.Memory }
     {
-        let node = match kind {
+        match kind {
             ClauseKind::Trait(r) => {
                 let head = ClauseHead::Trait(r.def_id.number);
-                self.nodes.make(Label::Clause(head), &[r.args.node])?
+                self.make(Label::Clause(head), &[r.args.node])
             }
             ClauseKind::HostEffect(r) => {
                 let head = ClauseHead::HostEffect(r.def_id.number);
-                self.nodes.make(Label::Clause(head), &[r.args.node])?
+                self.make(Label::Clause(head), &[r.args.node])
             }
             ClauseKind::Projection { alias, term } => {
                 let head = ClauseHead::Projection(alias.def_id.head());
-                self.nodes
-                    .make(Label::Clause(head), &[alias.args.node, term.node])?
+                self.make(Label::Clause(head), &[alias.args.node, term.node])
             }
             ClauseKind::TypeOutlives(ty, region) => {
                 let head = ClauseHead::TypeOutlives;
-                self.nodes
-                    .make(Label::Clause(head), &[ty.node, region.node])?
+                self.make(Label::Clause(head), &[ty.node, region.node])
             }
             ClauseKind::RegionOutlives(a, b) => {
                 let head = ClauseHead::RegionOutlives;
-                self.nodes.make(Label::Clause(head), &[a.node, b.node])?
+                self.make(Label::Clause(head), &[a.node, b.node])
             }
             ClauseKind::ConstArgHasType(ct, ty) => {
                 let head = ClauseHead::ConstArgHasType;
-                self.nodes.make(Label::Clause(head), &[ct.node, ty.node])?
+                self.make(Label::Clause(head), &[ct.node, ty.node])
             }
             ClauseKind::WellFormed(term) => {
                 let head = ClauseHead::WellFormed;
-                self.nodes.make(Label::Clause(head), &[term.node])?
+                self.make(Label::Clause(head), &[term.node])
             }
             ClauseKind::ConstEvaluatable(ct) => {
                 let head = ClauseHead::ConstEvaluatable;
-                self.nodes.make(Label::Clause(head), &[ct.node])?
+                self.make(Label::Clause(head), &[ct.node])
             }
             ClauseKind::UnstableFeature(n) => {
                 let head = ClauseHead::UnstableFeature(n);
-                self.nodes.make(Label::Clause(head), &[])?
+                self.make(Label::Clause(head), &[])
             }
-        };
-        Ok(node)
+        }
     }
 }
