@@ -1,5 +1,5 @@
 -- What a walk by a folder still has to do, and what it has found so far.
-use Rattle.std.proofs.Common.{◌≡◌, ◌⊎◌, inl, inr, Bool, true, not, Result, Ok, Err, IfErr, ℕ, ◌+◌, ◌-◌, ◌<◌, List, [], ◌∷◌, ◌++◌, length, map, take, drop, get_or, Option, Some, None, refl, sym, ap, subst, ◌∙◌, arith, append_assoc, length-append}
+use Rattle.std.proofs.Common.{◌≡◌, ◌⊎◌, inl, inr, Bool, true, not, Result, Ok, Err, IfOk, IfErr, ℕ, ◌+◌, ◌-◌, ◌<◌, List, [], ◌∷◌, ◌++◌, length, map, take, drop, get_or, Option, Some, None, refl, sym, ap, subst, ◌∙◌, arith, append_assoc, length-append}
 use Rattle.std.specs.Option.{is_some}
 use Rattle.std.specs.Result.{IsErrAnd}
 use Rattle.std.proofs.lemmas.List.{append-nil, length-map, take-map, drop-map}
@@ -18,8 +18,11 @@ use Rattle.nts_terms.specs.Handles.{Holds}
 use Rattle.nts_store.specs.Kept.{map-kept}
 use Rattle.nts_store.specs.Replacement.{Job, enter, build, job, jobs, TaskIn, TasksIn, entered, building, IsFormedNode}
 use Rattle.nts_folding.specs.Folding.{MayAnswer, asked_as, GoesInto, ComesBack, Walk, done, next, answer, down, Starts, CannotMake, Stops, anywhere, early, late, at_term, at_binder, inside, at_made, statement_about, tree_of_binder, tree_of_list}
-use Rattle.nts_store.proofs.Growing.{AllIn-extended, AllIn-push}
+use Rattle.nts_store.proofs.Growing.{Extends-trans, AllIn-extended, AllIn-push}
 use Rattle.nts_store.proofs.Replacing.{AreLaws, jobs-push, TasksIn-front, TasksIn-extended, jobs-extended, map-push, row, row-trees, IsRow-Meets, AllIn-take, AllIn-drop, MayBuild, weight, weights, weights-append, weights-building, weights_split, weights_extended}
+use Rattle.nts_terms.proofs.Moved.{KeepsRest-trans}
+use Rattle.nts_terms.specs.Rest.{Grows}
+use Rattle.nts_terms.specs.declared.cx.Cx.{Cx}
 
 -- the measure: how much of the trees is still to be walked
 abbrev pub Anything : Tree → Type 0
@@ -66,6 +69,28 @@ none_of (Some x) b h e = cc (h, e)
 pub on_err : {T E : Type 0} (P Q : E → Type 0) (r : Result T E) → IsErrAnd r Q → ((e : E) → Q e → P e) → IfErr r P
 on_err P Q (Ok x) h f = tt
 on_err P Q (Err x) h f = f x h
+
+-- what grew, and grew again, grew
+pub grown : {a b c : Cx} → Grows a b → Grows b c → Grows a c
+grown h k = record { extends = Extends-trans h.extends k.extends; rest = KeepsRest-trans h.rest k.rest }
+
+-- a walk that ends at an error: there is no term, and all the rest holds
+pub ends_early : {T E : Type 0} (G K M : Type 0) (P Q : T → Type 0) (F X : E → Type 0) (r : Result T E) → IsErrAnd r X → G → K → M → IfErr r F
+    → record { grows : G; ready : K; keeps : M; within : IfOk r P; walk : IfOk r Q; err : IfErr r F }
+ends_early G K M P Q F X (Ok x) h grows ready keeps err = absurd h
+ends_early G K M P Q F X (Err e) h grows ready keeps err = record { grows = grows; ready = ready; keeps = keeps; within = tt; walk = tt; err = err }
+
+-- .. and a value of which a part cannot be folded
+pub folds_in_vain : {T E : Type 0} (G K M : Type 0) (P Q : T → Type 0) (F X : E → Type 0) (r : Result T E) → IsErrAnd r X → G → K → M → IfErr r F
+    → record { grows : G; ready : K; keeps : M; holds : IfOk r P; walk : IfOk r Q; err : IfErr r F }
+folds_in_vain G K M P Q F X (Ok x) h grows ready keeps err = absurd h
+folds_in_vain G K M P Q F X (Err e) h grows ready keeps err = record { grows = grows; ready = ready; keeps = keeps; holds = tt; walk = tt; err = err }
+
+-- .. and a hook that fails
+pub asks_in_vain : {T E : Type 0} (G K M : Type 0) (P Q A : T → Type 0) (F : E → Type 0) (r : Result T E) (e : E) → IsErrAnd r (λ x. x ≡ e) → G → K → M → F e
+    → record { grows : G; ready : K; keeps : M; within : IfOk r P; kind : IfOk r Q; asks : IfOk r A; err : IfErr r F }
+asks_in_vain G K M P Q A F (Ok x) e h grows ready keeps fails = absurd h
+asks_in_vain G K M P Q A F (Err x) e h grows ready keeps fails = record { grows = grows; ready = ready; keeps = keeps; within = tt; kind = tt; asks = tt; err = subst F (sym h) fails }
 
 module _ {S : Type 0} (A : S → Tree → Option Tree → S → Type 0) (E L : S → S → Type 0) (R : S → Tree → Tree → S → Type 0) where
   -- a job leads from a state and the trees found before it to others

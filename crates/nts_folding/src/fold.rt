@@ -4,7 +4,7 @@ ghost use Rattle.std.specs.Allocator.{alloc_error};
 ghost use Rattle.nts_model.specs.Trees.{Tree, node, children, kind_of, kind_of_label, shape, Meets, binders};
 ghost use Rattle.nts_store.specs.Growth.{tree_at, trees_at, IsIn, AllIn, Extends};
 ghost use Rattle.nts_terms.specs.Handles.{HoldsTy, HoldsRegion, HoldsConst, HoldsTerm, HoldsPredicate};
-ghost use Rattle.nts_folding.specs.Folding.{MayAnswer, AtBinder, Starts, ComesBack, Walk, Stops, CannotMake};
+ghost use Rattle.nts_folding.specs.Folding.{MayAnswer, AtBinder, Starts, HandsOver, ComesBack, Walk, Stops, CannotMake};
 ghost use Rattle.nts_terms.specs.Rest.{Grows};
 
 use nts_model::{Label, ListHead, Sort};
@@ -140,23 +140,44 @@ pub fn fold_node<F: TypeFolder>(cx: &mut Cx, folder: &mut F, t: NodeId) -> Resul
     ensures walk { IfOk result (λ r. Walk F.answers F.enters F.leaves F.rebuilds (F.meaning cx.old.nodes folder.old) (tree_at cx.old.nodes t) (tree_at cx.new.nodes r) (F.meaning cx.new.nodes folder.new)) }
     ensures err { IfErr result (Stops F.answers F.enters F.leaves F.rebuilds F.fails (F.meaning cx.old.nodes folder.old) (tree_at cx.old.nodes t)) }
 {
-    let alloc = cx.alloc;
-    let mut tasks = Vec::new(alloc);
-    let mut found = Vec::new(alloc);
-    push(&mut tasks, Task::Enter(t))?;
+    let mut tasks = Vec::new(cx.alloc);
+    let mut found = Vec::new(cx.alloc);
+    walk(cx, folder, t, &mut tasks, &mut found)
+}
+
+/// Folds a term, with nothing to do and nothing found yet.
+fn walk<F: TypeFolder>(
+    cx: &mut Cx,
+    folder: &mut F,
+    t: NodeId,
+    tasks: &mut Vec<Task>,
+    found: &mut Vec<NodeId>,
+) -> Result<NodeId, F::Error>
+    requires within { IsIn cx.old.nodes t }
+    requires ready { F.ready cx.old.nodes folder.old }
+    requires idle { tasks.old.items ≡ [] }
+    requires empty { found.old.items ≡ [] }
+    ensures grows { Grows cx.old cx.new }
+    ensures ready { F.ready cx.new.nodes folder.new }
+    ensures keeps { F.keeps folder.old folder.new }
+    ensures within { IfOk result (IsIn cx.new.nodes) }
+    ensures walk { IfOk result (λ r. Walk F.answers F.enters F.leaves F.rebuilds (F.meaning cx.old.nodes folder.old) (tree_at cx.old.nodes t) (tree_at cx.new.nodes r) (F.meaning cx.new.nodes folder.new)) }
+    ensures err { IfErr result (Stops F.answers F.enters F.leaves F.rebuilds F.fails (F.meaning cx.old.nodes folder.old) (tree_at cx.old.nodes t)) }
+{
+    push(tasks, Task::Enter(t))?;
     while let Some(task) = tasks.pop() {
         match task {
             Task::Enter(term) => {
                 match start(cx, folder, term)? {
-                    Some(answer) => push(&mut found, answer)?,
-                    None => push_node(&cx.nodes, term, &mut tasks)?,
+                    Some(answer) => push(found, answer)?,
+                    None => push_node(&cx.nodes, term, tasks)?,
                 }
             }
             Task::Build(_, label, count) => {
                 let first = found.len().saturating_sub(count);
                 let made = finish(cx, folder, label, &found[first..])?;
                 found.truncate(first);
-                push(&mut found, made)?;
+                push(found, made)?;
             }
         }
     }
@@ -266,10 +287,29 @@ fn finish<F: TypeFolder>(
 {
     leave(folder, label);
     let node = cx.nodes.make(label, children)?;
+    hand_over(cx, folder, label, node)
+}
+
+/// What stands for a node that was made again.
+fn hand_over<F: TypeFolder>(
+    cx: &mut Cx,
+    folder: &mut F,
+    label: Label,
+    made: NodeId,
+) -> Result<NodeId, F::Error>
+    requires within { IsIn cx.old.nodes made }
+    requires label { tree_at cx.old.nodes made ≡ node label (children (tree_at cx.old.nodes made)) }
+    requires ready { F.ready cx.old.nodes folder.old }
+    ensures grows { Grows cx.old cx.new }
+    ensures ready { F.ready cx.new.nodes folder.new }
+    ensures keeps { F.keeps folder.old folder.new }
+    ensures within { IfOk result (IsIn cx.new.nodes) }
+    ensures kind { IfOk result (λ r. kind_of (tree_at cx.new.nodes r) ≡ Some (kind_of_label label)) }
+    ensures hands { IfOk result (λ r. HandsOver F.rebuilds (kind_of_label label) (F.meaning cx.old.nodes folder.old) (tree_at cx.old.nodes made) (tree_at cx.new.nodes r) (F.meaning cx.new.nodes folder.new)) }
+    ensures err { IfErr result (F.fails (F.meaning cx.old.nodes folder.old) (Some (tree_at cx.old.nodes made))) }
+{
     match sort_of(label) {
-        Some(Sort::Ty) => Ok(folder.rebuilt(cx, Term { node })?.node),
-        Some(Sort::Const) => Ok(folder.rebuilt(cx, Term { node })?.node),
-        Some(Sort::Region) => Ok(node),
-        None => Ok(node),
+        Some(Sort::Ty | Sort::Const) => Ok(folder.rebuilt(cx, Term { node: made })?.node),
+        _ => Ok(made),
     }
 }

@@ -1,8 +1,9 @@
 use Rattle.std.proofs.Common.{◌≡◌, ◌∷◌, length, ap, arith}
 use Rattle.std.specs.Vec.Iter.{into_iter_items}
+use Rattle.nts_store.proofs.Growing.{Extends-trans}
 use Rattle.nts_terms.proofs.Moved.{KeepsRest-refl, KeepsRest-trans}
 use Rattle.nts_folding.specs.Folding.{anywhere}
-use Rattle.nts_folding.proofs.Folded.{on_err, on_same_err}
+use Rattle.nts_folding.proofs.Folded.{folds_in_vain, on_err, on_same_err}
 use Rattle.nts_folding.proofs.FoldedList.{list_start, left_holds, list_more, list_stops}
 use Rattle.nts_folding.proofs.foldable.VecTypeFoldable.fold_with.Goals as goal
 
@@ -42,13 +43,15 @@ loop-x-preserved g c =
       count = omega (arith, c.loop-x.invariant.count, gone, short);
     }
 
-pub returns-in_err-value-clause-err : goal.returns-in_err-value-clause-err
-returns-in_err-value-clause-err g c =
+pub returns-in_err-value : goal.returns-in_err-value
+returns-in_err-value g c =
     let f = g.F.TypeFolder in
     let t = g.T.TypeFoldable in
     let steps : into_iter_items c.loop-x.x-iterator ≡ c.in-Some.x ∷ into_iter_items c.next.new.self = c.in-Some.ensures.steps.0 in
-    on_same_err _ _ _ c.from_residual.ensures.1 (list_stops f.answers f.enters f.leaves f.rebuilds t.holds t.tree f.fails g.met.T.TypeFoldable.holds_kept g.met.T.TypeFoldable.tree_kept _ _ _ _ _ _ _ _ _ c.in-Some.x _ c.loop-x.invariant.list c.requires.holds steps c.in_err-value.ensures.err)
+    folds_in_vain _ _ _ _ _ _ _ c.from_residual.result c.from_residual.ensures.1 (record { extends = Extends-trans c.loop-x.invariant.list.extends c.fold_with.ensures.grows.extends; rest = KeepsRest-trans c.loop-x.invariant.rest c.fold_with.ensures.grows.rest }) c.fold_with.ensures.ready (g.met.F.TypeFolder.keeps_trans _ _ _ c.loop-x.invariant.keeps c.fold_with.ensures.keeps)
+    (on_same_err _ _ _ c.from_residual.ensures.1 (list_stops f.answers f.enters f.leaves f.rebuilds t.holds t.tree f.fails g.met.T.TypeFoldable.holds_kept g.met.T.TypeFoldable.tree_kept _ _ _ _ _ _ _ _ _ c.in-Some.x _ c.loop-x.invariant.list c.requires.holds steps c.in_err-value.ensures.err))
 
-pub returns-in_err-push-clause-err : goal.returns-in_err-push-clause-err
-returns-in_err-push-clause-err g c =
-    on_err _ _ _ c.from_residual-in_err-push.ensures.1 (λ e h. anywhere (λ t. g.met.F.TypeFolder.memory_fails t e h))
+pub returns-in_err-push : goal.returns-in_err-push
+returns-in_err-push g c =
+    folds_in_vain _ _ _ _ _ _ _ c.from_residual-in_err-push.result c.from_residual-in_err-push.ensures.1 (record { extends = Extends-trans c.loop-x.invariant.list.extends c.fold_with.ensures.grows.extends; rest = KeepsRest-trans c.loop-x.invariant.rest c.fold_with.ensures.grows.rest }) c.fold_with.ensures.ready (g.met.F.TypeFolder.keeps_trans _ _ _ c.loop-x.invariant.keeps c.fold_with.ensures.keeps)
+    (on_err _ _ _ c.from_residual-in_err-push.ensures.1 (λ e h. anywhere (λ t. g.met.F.TypeFolder.memory_fails t e h)))

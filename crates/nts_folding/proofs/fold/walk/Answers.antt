@@ -6,9 +6,9 @@ use Rattle.nts_store.specs.Replacement.{TasksIn}
 use Rattle.nts_store.proofs.Growing.{Extends-trans}
 use Rattle.nts_terms.proofs.Moved.{KeepsRest-trans}
 use Rattle.nts_store.proofs.Replacing.{MayBuild, slice_to_end, TasksIn-front, TasksIn-extended}
-use Rattle.nts_folding.proofs.Folded.{on_err, on_same_err, stops_within, stops_building, IsWalked, may_enter, may_build, ends_answer, ends_down, ends_build, ends_all, less_after, less_down}
-use Rattle.nts_folding.proofs.fold.fold_node.Given.{Over}
-use Rattle.nts_folding.proofs.fold.fold_node.Goals as goal
+use Rattle.nts_folding.proofs.Folded.{ends_early, on_err, on_same_err, stops_within, stops_building, IsWalked, may_enter, may_build, ends_answer, ends_down, ends_build, ends_all, less_after, less_down}
+use Rattle.nts_folding.proofs.fold.walk.Given.{Over}
+use Rattle.nts_folding.proofs.fold.walk.Goals as goal
 
 pub start-requires-clause-within : goal.start-requires-clause-within
 start-requires-clause-within g c =
@@ -19,32 +19,34 @@ pub returns-in_err-push-clause-err : goal.returns-in_err-push-clause-err
 returns-in_err-push-clause-err g c =
     on_err _ _ _ c.from_residual.ensures.1 (λ e h. anywhere (λ t. g.met.F.TypeFolder.memory_fails t e h))
 
-pub returns-in_err-answer-in-Enter-clause-err : goal.returns-in_err-answer-in-Enter-clause-err
-returns-in_err-answer-in-Enter-clause-err g c =
+pub returns-in_err-answer-in-Enter : goal.returns-in_err-answer-in-Enter
+returns-in_err-answer-in-Enter g c =
     let f = g.F.TypeFolder in
-    on_same_err _ _ _ c.from_residual-in_err-answer-in-Enter.ensures.1 (stops_within f.answers f.enters f.leaves f.rebuilds f.fails _ _ _ _ _ (task.Enter c.in-Enter.term) _ _ _ c.loop-task.invariant.ends (rw c.in-Enter.is at c.in-Some.ensures.items) c.in_err-answer-in-Enter.ensures.err)
+    ends_early _ _ _ _ _ _ _ c.from_residual-in_err-answer-in-Enter.result c.from_residual-in_err-answer-in-Enter.ensures.1 (record { extends = Extends-trans c.loop-task.invariant.extends c.start.ensures.grows.extends; rest = KeepsRest-trans c.loop-task.invariant.rest c.start.ensures.grows.rest }) (c.start.ensures.ready) (g.met.F.TypeFolder.keeps_trans _ _ _ c.loop-task.invariant.keeps c.start.ensures.keeps)
+    (on_same_err _ _ _ c.from_residual-in_err-answer-in-Enter.ensures.1 (stops_within f.answers f.enters f.leaves f.rebuilds f.fails _ _ _ _ _ (task.Enter c.in-Enter.term) _ _ _ c.loop-task.invariant.ends (rw c.in-Enter.is at c.in-Some.ensures.items) c.in_err-answer-in-Enter.ensures.err))
 
-pub returns-in_err-push-in-Some-2-clause-err : goal.returns-in_err-push-in-Some-2-clause-err
-returns-in_err-push-in-Some-2-clause-err g c =
-    on_err _ _ _ c.from_residual-in_err-push-in-Some-2.ensures.1 (λ e h. anywhere (λ t. g.met.F.TypeFolder.memory_fails t e h))
+pub returns-in_err-push-in-Some-2 : goal.returns-in_err-push-in-Some-2
+returns-in_err-push-in-Some-2 g c =
+    ends_early _ _ _ _ _ _ _ c.from_residual-in_err-push-in-Some-2.result c.from_residual-in_err-push-in-Some-2.ensures.1 (record { extends = Extends-trans c.loop-task.invariant.extends c.start.ensures.grows.extends; rest = KeepsRest-trans c.loop-task.invariant.rest c.start.ensures.grows.rest }) (c.start.ensures.ready) (g.met.F.TypeFolder.keeps_trans _ _ _ c.loop-task.invariant.keeps c.start.ensures.keeps)
+    (on_err _ _ _ c.from_residual-in_err-push-in-Some-2.ensures.1 (λ e h. anywhere (λ t. g.met.F.TypeFolder.memory_fails t e h)))
 
-pub returns-in_err-push_node-in-None-clause-err : goal.returns-in_err-push_node-in-None-clause-err
-returns-in_err-push_node-in-None-clause-err g c =
-    on_err _ _ _ c.from_residual-in_err-push_node-in-None.ensures.1 (λ e h. anywhere (λ t. g.met.F.TypeFolder.memory_fails t e h))
+pub returns-in_err-push_node-in-None : goal.returns-in_err-push_node-in-None
+returns-in_err-push_node-in-None g c =
+    ends_early _ _ _ _ _ _ _ c.from_residual-in_err-push_node-in-None.result c.from_residual-in_err-push_node-in-None.ensures.1 (record { extends = Extends-trans c.loop-task.invariant.extends c.start.ensures.grows.extends; rest = KeepsRest-trans c.loop-task.invariant.rest c.start.ensures.grows.rest }) (c.start.ensures.ready) (g.met.F.TypeFolder.keeps_trans _ _ _ c.loop-task.invariant.keeps c.start.ensures.keeps)
+    (on_err _ _ _ c.from_residual-in_err-push_node-in-None.ensures.1 (λ e h. anywhere (λ t. g.met.F.TypeFolder.memory_fails t e h)))
 
-pub returns-in_err-made-in-Build-clause-err : goal.returns-in_err-made-in-Build-clause-err
-returns-in_err-made-in-Build-clause-err g c =
+pub returns-in_err-made-in-Build : goal.returns-in_err-made-in-Build
+returns-in_err-made-in-Build g c =
     let f = g.F.TypeFolder in
     let first : c.saturating_sub-first.result ≡ length c.loop-task.found.items - c.in-Build.count = omega arith in
     let last = slice_to_end c.deref.result.now c.loop-task.found.items c.saturating_sub-first.result c.deref.ensures.value in
-    on_same_err _ _ _ c.from_residual-in_err-made-in-Build.ensures.1 (stops_building f.answers f.enters f.leaves f.rebuilds f.fails _ _ _ _ _ _ _ _ _ _ _ _ _ c.loop-task.invariant.ends (rw c.in-Build.is at c.in-Some.ensures.items) first last c.in_err-made-in-Build.ensures.err)
+    ends_early _ _ _ _ _ _ _ c.from_residual-in_err-made-in-Build.result c.from_residual-in_err-made-in-Build.ensures.1 (record { extends = Extends-trans c.loop-task.invariant.extends c.finish.ensures.grows.extends; rest = KeepsRest-trans c.loop-task.invariant.rest c.finish.ensures.grows.rest }) (c.finish.ensures.ready) (g.met.F.TypeFolder.keeps_trans _ _ _ c.loop-task.invariant.keeps c.finish.ensures.keeps)
+    (on_same_err _ _ _ c.from_residual-in_err-made-in-Build.ensures.1 (stops_building f.answers f.enters f.leaves f.rebuilds f.fails _ _ _ _ _ _ _ _ _ _ _ _ _ c.loop-task.invariant.ends (rw c.in-Build.is at c.in-Some.ensures.items) first last c.in_err-made-in-Build.ensures.err))
 
-pub returns-in_err-push-in-Build-clause-keeps : goal.returns-in_err-push-in-Build-clause-keeps
-returns-in_err-push-in-Build-clause-keeps g c = g.met.F.TypeFolder.keeps_trans _ _ _ c.loop-task.invariant.keeps c.in_ok-made-in-Build.ensures.keeps
-
-pub returns-in_err-push-in-Build-clause-err : goal.returns-in_err-push-in-Build-clause-err
-returns-in_err-push-in-Build-clause-err g c =
-    on_err _ _ _ c.from_residual-in_err-push-in-Build.ensures.1 (λ e h. anywhere (λ t. g.met.F.TypeFolder.memory_fails t e h))
+pub returns-in_err-push-in-Build : goal.returns-in_err-push-in-Build
+returns-in_err-push-in-Build g c =
+    ends_early _ _ _ _ _ _ _ c.from_residual-in_err-push-in-Build.result c.from_residual-in_err-push-in-Build.ensures.1 (record { extends = Extends-trans c.loop-task.invariant.extends c.finish.ensures.grows.extends; rest = KeepsRest-trans c.loop-task.invariant.rest c.finish.ensures.grows.rest }) (c.finish.ensures.ready) (g.met.F.TypeFolder.keeps_trans _ _ _ c.loop-task.invariant.keeps c.finish.ensures.keeps)
+    (on_err _ _ _ c.from_residual-in_err-push-in-Build.ensures.1 (λ e h. anywhere (λ t. g.met.F.TypeFolder.memory_fails t e h)))
 
 -- a term that is answered
 
@@ -130,7 +132,7 @@ loop-task-preserved g c =
       ends = ends_build f.answers f.enters f.leaves f.rebuilds f.fails _ _ _ _ _ _ _ _ _ _ _ _ _ _ _ _ c.loop-task.invariant.ends (rw c.in-Build.is at c.in-Some.ensures.items) made.grows.extends first last made.within made.comes_back new;
     }
 
-walked : (g : Over) (c : goal.After-found-2-1 g) → IsWalked g.F.TypeFolder.answers g.F.TypeFolder.enters g.F.TypeFolder.leaves g.F.TypeFolder.rebuilds g.F.TypeFolder.fails (g.F.TypeFolder.meaning c.args.cx.now.nodes c.args.folder.now) (tree_at c.args.cx.now.nodes c.args.t) c.loop-task.cx.nodes c.loop-task.found.items (g.F.TypeFolder.meaning c.loop-task.cx.nodes c.loop-task.folder)
+walked : (g : Over) (c : goal.In_default g) → IsWalked g.F.TypeFolder.answers g.F.TypeFolder.enters g.F.TypeFolder.leaves g.F.TypeFolder.rebuilds g.F.TypeFolder.fails (g.F.TypeFolder.meaning c.args.cx.now.nodes c.args.folder.now) (tree_at c.args.cx.now.nodes c.args.t) c.loop-task.cx.nodes c.loop-task.found.items (g.F.TypeFolder.meaning c.loop-task.cx.nodes c.loop-task.folder)
 walked g c =
     let f = g.F.TypeFolder in
     let none : c.loop-task.tasks.items ≡ [] = search rules in
@@ -139,7 +141,7 @@ walked g c =
 pub index-requires : goal.index-requires
 index-requires g c = omega (arith, (walked g c).some)
 
-walked_so : (g : Over) (c : goal.After-drop-tasks-2 g) → IsWalked g.F.TypeFolder.answers g.F.TypeFolder.enters g.F.TypeFolder.leaves g.F.TypeFolder.rebuilds g.F.TypeFolder.fails (g.F.TypeFolder.meaning c.args.cx.now.nodes c.args.folder.now) (tree_at c.args.cx.now.nodes c.args.t) c.loop-task.cx.nodes c.loop-task.found.items (g.F.TypeFolder.meaning c.loop-task.cx.nodes c.loop-task.folder)
+walked_so : (g : Over) (c : goal.After-result-1 g) → IsWalked g.F.TypeFolder.answers g.F.TypeFolder.enters g.F.TypeFolder.leaves g.F.TypeFolder.rebuilds g.F.TypeFolder.fails (g.F.TypeFolder.meaning c.args.cx.now.nodes c.args.folder.now) (tree_at c.args.cx.now.nodes c.args.t) c.loop-task.cx.nodes c.loop-task.found.items (g.F.TypeFolder.meaning c.loop-task.cx.nodes c.loop-task.folder)
 walked_so g c =
     let f = g.F.TypeFolder in
     let none : c.loop-task.tasks.items ≡ [] = search rules in

@@ -2,7 +2,7 @@ use Rattle.nts_store.specs.Growth.{tree_at, Extends}
 use Rattle.nts_terms.specs.Rest.{KeepsRest}
 use Rattle.nts_store.specs.Replacement.{jobs}
 use Rattle.nts_folding.proofs.Folded.{EndsBy, work}
-use Rattle.nts_folding.proofs.fold.fold_node.Given as goal
+use Rattle.nts_folding.proofs.fold.walk.Given as goal
 
 abbrev pub invariant-loop-task : goal.invariant-loop-task
 invariant-loop-task g l =
