@@ -1,5 +1,5 @@
 //! The canonical input of a goal.
-ghost use Rattle.std.specs.Prelude.{◌≡◌, [], map, false, IfOk, IsOkUnless, All};
+ghost use Rattle.std.specs.Prelude.{◌≡◌, [], map, false, IfOk, OnOk, IsOkUnless, All};
 ghost use Rattle.nts_model.specs.Substitutions.{leaf_tree, replace};
 ghost use Rattle.nts_model.specs.Numbered.{seen, numbered_leaf, no_leaf};
 ghost use Rattle.nts_model.specs.Inputs.{is_static, canonical_of, originals, whole};
@@ -47,9 +47,33 @@ pub fn canonicalize_goal(
     ensures memory { IsOkUnless result Fault.Memory }
 {
     let leaves = leaves_of(cx, goal, opaque_types)?;
+    canonicalize_over(table, cx, &leaves, goal, opaque_types, mode)
+}
+
+/// The originals and the canonical input, where these are the leaves.
+fn canonicalize_over(
+    table: &InferCtxt,
+    cx: &mut Cx,
+    leaves: &IndexSet<Leaf>,
+    goal: Goal,
+    opaque_types: &[(AliasTerm, Ty)],
+    mode: TypingMode,
+) -> Result<(Vec<GenericArg>, CanonicalInput), Fault>
+    requires table { IsTable cx.old.nodes table.now }
+    requires leaves { leaves.now.keys ≡ seen no_leaf (seen no_leaf (seen is_static [] (tree_at cx.old.nodes goal.param_env.node)) (tree_at cx.old.nodes goal.predicate.node)) (hidden_pairs cx.old.nodes opaque_types.now) }
+    requires goal { HoldsGoal cx.old.nodes goal }
+    requires hidden { AreHidden cx.old.nodes opaque_types.now }
+    requires knows { Knows (content_of cx.old.nodes table.now.entries)
+        (whole (input_of cx.old.nodes table.now.entries goal opaque_types.now)) }
+    ensures canonical { IfOk result (IsCanonicalOf cx.new.nodes
+        (input_of cx.old.nodes table.now.entries goal opaque_types.now) mode) }
+    ensures askable { IfOk result (IsAskable cx.new.nodes) }
+    ensures grows { Grows cx.old cx.new }
+    ensures memory { IsOkUnless result Fault.Memory }
+{
     let var_kinds = kinds_of(cx.alloc, table, leaves.as_slice())?;
     let originals = arguments(cx.alloc, &mut cx.nodes, leaves.as_slice())?;
-    let value = numbered_query(cx.alloc, &mut cx.nodes, &leaves, goal, opaque_types)?;
+    let value = numbered_query(cx.alloc, &mut cx.nodes, leaves, goal, opaque_types)?;
     let canonical = Canonical {
         value,
         max_universe: 0,
@@ -76,13 +100,29 @@ fn leaves_of(
     ensures { IfOk result (λ s. s.keys ≡ seen no_leaf (seen no_leaf (seen is_static [] (tree_at cx.now.nodes goal.param_env.node)) (tree_at cx.now.nodes goal.predicate.node)) (hidden_pairs cx.now.nodes opaque_types.now)) }
 {
     let mut leaves = IndexSet::new(cx.alloc);
+    collect_all(cx, &mut leaves, goal, opaque_types)?;
+    Ok(leaves)
+}
+
+/// Adds the leaves of a goal and of the hidden types that were not seen before.
+fn collect_all(
+    cx: &Cx,
+    leaves: &mut IndexSet<Leaf>,
+    goal: Goal,
+    opaque_types: &[(AliasTerm, Ty)],
+) -> Result<(), AllocError>
+    requires environment { HoldsEnv cx.now.nodes goal.param_env }
+    requires predicate { HoldsPredicate cx.now.nodes goal.predicate }
+    requires hidden { AreHidden cx.now.nodes opaque_types.now }
+    ensures { OnOk result (leaves.new.keys ≡ seen no_leaf (seen no_leaf (seen is_static leaves.old.keys (tree_at cx.now.nodes goal.param_env.node)) (tree_at cx.now.nodes goal.predicate.node)) (hidden_pairs cx.now.nodes opaque_types.now)) }
+{
     let env = goal.param_env.node;
-    collect(cx.alloc, &cx.nodes, Staying::Static, &mut leaves, env)?;
+    collect(cx.alloc, &cx.nodes, Staying::Static, leaves, env)?;
     collect(
         cx.alloc,
         &cx.nodes,
         Staying::Nothing,
-        &mut leaves,
+        leaves,
         goal.predicate.node,
     )?;
     for i in 0..opaque_types.len() {
@@ -91,12 +131,12 @@ fn leaves_of(
             cx.alloc,
             &cx.nodes,
             Staying::Nothing,
-            &mut leaves,
+            leaves,
             alias.args.node,
         )?;
-        collect(cx.alloc, &cx.nodes, Staying::Nothing, &mut leaves, ty.node)?;
+        collect(cx.alloc, &cx.nodes, Staying::Nothing, leaves, ty.node)?;
     }
-    Ok(leaves)
+    Ok(())
 }
 
 /// The leaves as arguments.

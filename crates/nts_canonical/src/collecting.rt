@@ -59,12 +59,27 @@ pub fn collect(
 {
     let mut finished = IndexSet::new(alloc);
     let mut tasks = Vec::new(alloc);
+    walk(nodes, staying, leaves, &mut finished, &mut tasks, t)
+}
+
+/// Reads a term, with nothing to do and nothing finished yet.
+fn walk(
+    nodes: &Nodes,
+    staying: Staying,
+    leaves: &mut IndexSet<Leaf>,
+    finished: &mut IndexSet<usize>,
+    tasks: &mut Vec<Task>,
+    t: NodeId,
+) -> Result<(), AllocError>
+    requires within { IsIn nodes.now t }
+    requires idle { tasks.old.items ≡ [] }
+    requires unread { finished.old.keys ≡ [] }
+    ensures { OnOk result (leaves.new.keys ≡ seen (stays_where staying) leaves.old.keys (tree_at nodes.now t)) }
+{
     tasks.push(Task::Enter(t))?;
     while let Some(task) = tasks.pop() {
         match task {
-            Task::Enter(term) => {
-                enter(nodes, &finished, staying, leaves, &mut tasks, term)?;
-            }
+            Task::Enter(term) => enter(nodes, finished, staying, leaves, tasks, term)?,
             Task::Finish(term) => {
                 finished.insert(term.number)?;
             }

@@ -1,6 +1,6 @@
 use Rattle.std.proofs.Common.{arith}
 use Rattle.nts_canonical.proofs.PairLists.{are_hidden-at}
-use Rattle.nts_canonical.proofs.canonicalize.leaves_of.Goals as goal
+use Rattle.nts_canonical.proofs.canonicalize.collect_all.Goals as goal
 
 pub collect-requires-in-loop-i : goal.collect-requires-in-loop-i
 collect-requires-in-loop-i c =

@@ -1,7 +1,7 @@
 use Rattle.nts_canonical.specs.Collecting.{stays_where, WalkGoesOn}
 use Rattle.std.proofs.Common.{◌∙◌}
 use Rattle.nts_canonical.proofs.Gathering.{finish_turn}
-use Rattle.nts_canonical.proofs.collecting.collect.Goals as goal
+use Rattle.nts_canonical.proofs.collecting.walk.Goals as goal
 
 turn : (c : goal.In_ok-insert-in-Finish) → WalkGoesOn (stays_where c.args.staying) c.args.nodes.now c.loop-task.tasks.items c.loop-task.leaves.keys c.loop-task.finished.keys c.pop.new.self.items c.loop-task.leaves.keys c.insert.new.self.keys
 turn c =

@@ -1,7 +1,7 @@
 use Rattle.std.proofs.Common.{◌≡◌, drop}
 use Rattle.nts_model.specs.Numbered.{seen, no_leaf}
 use Rattle.nts_canonical.specs.Forms.{hidden_pairs}
-use Rattle.nts_canonical.proofs.canonicalize.leaves_of.Given as goal
+use Rattle.nts_canonical.proofs.canonicalize.collect_all.Given as goal
 
 abbrev pub invariant-loop-i : goal.invariant-loop-i
 invariant-loop-i l =
