@@ -1,82 +1,99 @@
 //! Aliases of types and consts that are to be evaluated.
 ghost use Rattle.std.specs.Prelude.{◌≡◌, IfOk, OnErr};
 
+use crate::seeing::{fitting, held};
 use nts_model::UintTy;
 use nts_terms::{
     AliasDefId, AliasKind, AliasTerm, Binder, ClauseKind, ConstKind, Cx, DefId, GenericArg,
     PredicateKind, Term, TermKind, TyKind,
 };
-use std::test::Fail;
+use std::process::Abort;
 
 #[test]
-fn what_a_const_normalizes_to(rt: HostRuntime) -> Result<(), Fail> {
+fn what_a_const_normalizes_to(rt: HostRuntime) {
     let mut cx = Cx::new(rt.alloc());
-    let byte = cx.mk_ty(TyKind::Uint(UintTy::U8))?;
-    assert!(rt; cx.is_const_type(&[], byte)?);
-    let length = cx.declare_const(&[], byte)?;
-    let args = cx.mk_args(&[])?;
-    let three = cx.mk_const(ConstKind::Value { ty: byte, bits: 3 })?;
-    let vars = cx.mk_bound_vars(&[])?;
+    see_what_a_const_normalizes_to(&rt, &mut cx);
+}
+
+fn see_what_a_const_normalizes_to(rt: &impl Abort, cx: &mut Cx) {
+    let byte = cx.mk_ty(TyKind::Uint(UintTy::U8)).expect(rt, "memory");
+    assert!(rt; cx.is_const_type(&[], byte).expect(rt, "memory"));
+    let length = cx.declare_const(&[], byte).expect(rt, "memory");
+    let args = cx.mk_args(&[]).expect(rt, "memory");
+    let three = cx
+        .mk_const(ConstKind::Value { ty: byte, bits: 3 })
+        .expect(rt, "memory");
+    let vars = cx.mk_bound_vars(&[]).expect(rt, "memory");
     let alias = AliasTerm {
         def_id: AliasDefId::Const(length),
         args,
     };
     let term = three.into();
-    assert!(rt; cx.holds(args));
-    assert!(rt; cx.holds(three));
-    assert!(rt; cx.fits(DefId::Alias(alias.def_id), args));
+    held(rt, cx, args);
+    held(rt, cx, three);
+    fitting(rt, cx, DefId::Alias(alias.def_id), args);
     let value = PredicateKind::NormalizesTo { alias, term };
-    let goal = cx.mk_predicate(Binder { vars, value })?;
-    match goal.kind(&cx).value {
+    let goal = cx.mk_predicate(Binder { vars, value }).expect(rt, "memory");
+    match goal.kind(cx).value {
         PredicateKind::NormalizesTo { alias: it, term } => {
             assert!(rt; it.def_id == AliasDefId::Const(length));
-            assert!(rt; cx.holds(term));
-            assert!(rt; matches!(term.kind(&cx), TermKind::Const(_)));
+            held(rt, cx, term);
+            assert!(rt; matches!(term.kind(cx), TermKind::Const(_)));
             assert!(rt; term == Term::from(three));
         }
         _ => assert!(rt; false),
     }
-    Ok(())
 }
 
 #[test]
-fn a_projection_of_a_const(rt: HostRuntime) -> Result<(), Fail> {
+fn a_projection_of_a_const(rt: HostRuntime) {
     let mut cx = Cx::new(rt.alloc());
-    let byte = cx.mk_ty(TyKind::Uint(UintTy::U8))?;
-    assert!(rt; cx.is_const_type(&[], byte)?);
-    let length = cx.declare_const(&[], byte)?;
-    let args = cx.mk_args(&[])?;
-    let three = cx.mk_const(ConstKind::Value { ty: byte, bits: 3 })?;
-    let vars = cx.mk_bound_vars(&[])?;
+    see_a_projection(&rt, &mut cx);
+}
+
+fn see_a_projection(rt: &impl Abort, cx: &mut Cx) {
+    let byte = cx.mk_ty(TyKind::Uint(UintTy::U8)).expect(rt, "memory");
+    assert!(rt; cx.is_const_type(&[], byte).expect(rt, "memory"));
+    let length = cx.declare_const(&[], byte).expect(rt, "memory");
+    let args = cx.mk_args(&[]).expect(rt, "memory");
+    let three = cx
+        .mk_const(ConstKind::Value { ty: byte, bits: 3 })
+        .expect(rt, "memory");
+    let vars = cx.mk_bound_vars(&[]).expect(rt, "memory");
     let alias = AliasTerm {
         def_id: AliasDefId::Const(length),
         args,
     };
     let term = three.into();
-    assert!(rt; cx.holds(args));
-    assert!(rt; cx.holds(three));
-    assert!(rt; cx.fits(DefId::Alias(alias.def_id), args));
+    held(rt, cx, args);
+    held(rt, cx, three);
+    fitting(rt, cx, DefId::Alias(alias.def_id), args);
     let value = PredicateKind::Clause(ClauseKind::Projection { alias, term });
-    let fact = cx.mk_predicate(Binder { vars, value })?;
-    match fact.kind(&cx).value {
+    let fact = cx.mk_predicate(Binder { vars, value }).expect(rt, "memory");
+    match fact.kind(cx).value {
         PredicateKind::Clause(ClauseKind::Projection { alias: it, term }) => {
             assert!(rt; it.def_id == AliasDefId::Const(length));
             assert!(rt; term == Term::from(three));
         }
         _ => assert!(rt; false),
     }
-    Ok(())
 }
 
 #[test]
-fn aliases_of_one_number(rt: HostRuntime) -> Result<(), Fail> {
+fn aliases_of_one_number(rt: HostRuntime) {
     let mut cx = Cx::new(rt.alloc());
-    let byte = cx.mk_ty(TyKind::Uint(UintTy::U8))?;
-    assert!(rt; cx.is_const_type(&[], byte)?);
-    let length = cx.declare_const(&[], byte)?;
-    let item = cx.declare_alias(&[], AliasKind::Projection)?;
+    see_aliases(&rt, &mut cx);
+}
+
+fn see_aliases(rt: &impl Abort, cx: &mut Cx) {
+    let byte = cx.mk_ty(TyKind::Uint(UintTy::U8)).expect(rt, "memory");
+    assert!(rt; cx.is_const_type(&[], byte).expect(rt, "memory"));
+    let length = cx.declare_const(&[], byte).expect(rt, "memory");
+    let item = cx
+        .declare_alias(&[], AliasKind::Projection)
+        .expect(rt, "memory");
     assert_eq!(rt; length.number, item.number);
-    let args = cx.mk_args(&[])?;
+    let args = cx.mk_args(&[]).expect(rt, "memory");
     let of_types = AliasTerm {
         def_id: AliasDefId::Ty(item),
         args,
@@ -86,31 +103,35 @@ fn aliases_of_one_number(rt: HostRuntime) -> Result<(), Fail> {
         args,
     };
     assert!(rt; of_types.def_id != of_consts.def_id);
-    assert!(rt; cx.fits(DefId::Alias(of_types.def_id), args));
-    assert!(rt; cx.fits(DefId::Alias(of_consts.def_id), args));
-    let ty = cx.mk_ty(TyKind::Alias(of_types))?;
-    assert!(rt; cx.holds(args));
-    assert!(rt; cx.fits(DefId::Alias(of_consts.def_id), args));
-    let ct = cx.mk_const(ConstKind::Unevaluated(of_consts))?;
-    assert!(rt; cx.holds(ty));
+    fitting(rt, cx, DefId::Alias(of_types.def_id), args);
+    fitting(rt, cx, DefId::Alias(of_consts.def_id), args);
+    let ty = cx.mk_ty(TyKind::Alias(of_types)).expect(rt, "memory");
+    fitting(rt, cx, DefId::Alias(of_consts.def_id), args);
+    let ct = cx
+        .mk_const(ConstKind::Unevaluated(of_consts))
+        .expect(rt, "memory");
+    held(rt, cx, ty);
     assert!(rt; GenericArg::from(ty) != GenericArg::from(ct));
-    assert!(rt; matches!(ty.kind(&cx), TyKind::Alias(it) if it.def_id == of_types.def_id));
-    assert!(rt;
-        matches!(ct.kind(&cx), ConstKind::Unevaluated(it) if it.def_id == of_consts.def_id)
-    );
-    Ok(())
+    assert!(rt; matches!(ty.kind(cx), TyKind::Alias(it) if it.def_id == of_types.def_id));
+    assert!(rt; matches!(ct.kind(cx), ConstKind::Unevaluated(it) if it.def_id == of_consts.def_id));
 }
 
 #[test]
-fn goals_of_one_number(rt: HostRuntime) -> Result<(), Fail> {
+fn goals_of_one_number(rt: HostRuntime) {
     let mut cx = Cx::new(rt.alloc());
-    let byte = cx.mk_ty(TyKind::Uint(UintTy::U8))?;
-    assert!(rt; cx.is_const_type(&[], byte)?);
-    let length = cx.declare_const(&[], byte)?;
-    let item = cx.declare_alias(&[], AliasKind::Projection)?;
+    see_goals(&rt, &mut cx);
+}
+
+fn see_goals(rt: &impl Abort, cx: &mut Cx) {
+    let byte = cx.mk_ty(TyKind::Uint(UintTy::U8)).expect(rt, "memory");
+    assert!(rt; cx.is_const_type(&[], byte).expect(rt, "memory"));
+    let length = cx.declare_const(&[], byte).expect(rt, "memory");
+    let item = cx
+        .declare_alias(&[], AliasKind::Projection)
+        .expect(rt, "memory");
     assert_eq!(rt; length.number, item.number);
-    let args = cx.mk_args(&[])?;
-    let vars = cx.mk_bound_vars(&[])?;
+    let args = cx.mk_args(&[]).expect(rt, "memory");
+    let vars = cx.mk_bound_vars(&[]).expect(rt, "memory");
     let of_types = AliasTerm {
         def_id: AliasDefId::Ty(item),
         args,
@@ -119,23 +140,21 @@ fn goals_of_one_number(rt: HostRuntime) -> Result<(), Fail> {
         def_id: AliasDefId::Const(length),
         args,
     };
-    assert!(rt; cx.holds(args));
-    assert!(rt; cx.holds(byte));
-    assert!(rt; cx.fits(DefId::Alias(of_types.def_id), args));
+    held(rt, cx, args);
+    held(rt, cx, byte);
+    fitting(rt, cx, DefId::Alias(of_types.def_id), args);
     let value = PredicateKind::NormalizesTo {
         alias: of_types,
         term: byte.into(),
     };
-    let first = cx.mk_predicate(Binder { vars, value })?;
-    let failed = cx.mk_const(ConstKind::Error)?;
-    assert!(rt; cx.holds(vars));
-    assert!(rt; cx.holds(args));
-    assert!(rt; cx.fits(DefId::Alias(of_consts.def_id), args));
+    let first = cx.mk_predicate(Binder { vars, value }).expect(rt, "memory");
+    let failed = cx.mk_const(ConstKind::Error).expect(rt, "memory");
+    held(rt, cx, vars);
+    fitting(rt, cx, DefId::Alias(of_consts.def_id), args);
     let value = PredicateKind::NormalizesTo {
         alias: of_consts,
         term: failed.into(),
     };
-    let second = cx.mk_predicate(Binder { vars, value })?;
+    let second = cx.mk_predicate(Binder { vars, value }).expect(rt, "memory");
     assert!(rt; first != second);
-    Ok(())
 }

@@ -3,6 +3,7 @@ ghost use Rattle.std.specs.Prelude.{◌≡◌, IfOk};
 ghost use Rattle.nts_store.specs.Growth.{tree_at};
 ghost use Rattle.nts_terms.specs.Handles.{HoldsPredicate};
 
+use crate::seeing::held;
 use crate::walk_tests::wrapped;
 use nts_folding::{TypeFoldable, TypeFolder, fold_node};
 use nts_model::{BoundVarIndexKind, Sort, Variance};
@@ -11,8 +12,8 @@ use nts_terms::{
     AliasDefId, AliasKind, AliasTerm, Binder, BoundTy, Const, Cx, FnSig, InferTy, Predicate,
     PredicateKind, Region, Term, TraitRef, Ty, TyKind,
 };
-use std::alloc::AllocError;
-use std::test::Fail;
+use std::alloc::{AllocError, Global};
+use std::process::Abort;
 
 /// Puts positions in place of type variables, in the order in which it meets them.
 #[derive(Drop)]
@@ -343,116 +344,174 @@ fn counted(cx: &mut Cx, folder: &mut Counting, predicate: Predicate) -> Result<P
 }
 
 #[test]
-fn numbers_variables_at_first_sight(rt: HostRuntime) -> Result<(), Fail> {
+fn numbers_variables_at_first_sight(rt: HostRuntime) {
     let mut cx = Cx::new(rt.alloc());
-    let three = cx.declare_ctor(&[Sort::Ty; 3], &[Variance::Covariant; 3])?;
-    let a = cx.mk_ty(TyKind::Infer(InferTy::TyVar(7)))?;
-    let b = cx.mk_ty(TyKind::Infer(InferTy::TyVar(2)))?;
-    let args = cx.mk_args(&[a.into(), b.into(), a.into()])?;
-    let first = cx.mk_ty(TyKind::Bound(BoundVarIndexKind::Canonical, BoundTy { var: 0 }))?;
-    let second = cx.mk_ty(TyKind::Bound(BoundVarIndexKind::Canonical, BoundTy { var: 1 }))?;
-    let expected = cx.mk_args(&[first.into(), second.into(), first.into()])?;
     let mut folder = Numbering {
         seen: Vec::new(rt.alloc()),
     };
-    assert!(rt; cx.holds(args));
-    assert!(rt; cx.holds(b));
-    let (folded, last) = (args, Some(b)).fold_with(&mut cx, &mut folder)?;
+    see_numbers(&rt, &mut cx, &mut folder);
+}
+
+fn see_numbers(rt: &impl Abort, cx: &mut Cx, folder: &mut Numbering) {
+    let three = cx
+        .declare_ctor(&[Sort::Ty; 3], &[Variance::Covariant; 3])
+        .expect(rt, "memory");
+    let a = cx
+        .mk_ty(TyKind::Infer(InferTy::TyVar(7)))
+        .expect(rt, "memory");
+    let b = cx
+        .mk_ty(TyKind::Infer(InferTy::TyVar(2)))
+        .expect(rt, "memory");
+    let args = cx
+        .mk_args(&[a.into(), b.into(), a.into()])
+        .expect(rt, "memory");
+    let first = cx
+        .mk_ty(TyKind::Bound(BoundVarIndexKind::Canonical, BoundTy { var: 0 }))
+        .expect(rt, "memory");
+    let second = cx
+        .mk_ty(TyKind::Bound(BoundVarIndexKind::Canonical, BoundTy { var: 1 }))
+        .expect(rt, "memory");
+    let expected = cx
+        .mk_args(&[first.into(), second.into(), first.into()])
+        .expect(rt, "memory");
+    held(rt, cx, args);
+    held(rt, cx, b);
+    let (folded, last) = (args, Some(b)).fold_with(cx, folder).expect(rt, "memory");
     assert!(rt; folded == expected);
     assert!(rt; last == Some(second));
     assert_eq!(rt; folder.seen.len(), 2);
     assert_eq!(rt; three.number, 0);
-    Ok(())
 }
 
 #[test]
-fn ends_at_the_first_refusal(rt: HostRuntime) -> Result<(), Fail> {
+fn ends_at_the_first_refusal(rt: HostRuntime) {
     let mut cx = Cx::new(rt.alloc());
-    let a = cx.mk_ty(TyKind::Infer(InferTy::TyVar(7)))?;
-    let b = cx.mk_ty(TyKind::Infer(InferTy::TyVar(2)))?;
-    let byte = cx.mk_ty(TyKind::Param(0))?;
-    let args = cx.mk_args(&[byte.into(), a.into(), b.into()])?;
-    assert!(rt; cx.holds(args));
     let mut folder = Refusing { types: 0 };
-    match args.fold_with(&mut cx, &mut folder) {
+    see_the_refusal(&rt, &mut cx, &mut folder);
+}
+
+fn see_the_refusal(rt: &impl Abort, cx: &mut Cx, folder: &mut Refusing) {
+    let a = cx
+        .mk_ty(TyKind::Infer(InferTy::TyVar(7)))
+        .expect(rt, "memory");
+    let b = cx
+        .mk_ty(TyKind::Infer(InferTy::TyVar(2)))
+        .expect(rt, "memory");
+    let byte = cx.mk_ty(TyKind::Param(0)).expect(rt, "memory");
+    let args = cx
+        .mk_args(&[byte.into(), a.into(), b.into()])
+        .expect(rt, "memory");
+    held(rt, cx, args);
+    match args.fold_with(cx, folder) {
         Ok(_) => assert!(rt; false),
         Err(refusal) => assert!(rt; refusal == Refusal::Variable(7)),
     }
     assert_eq!(rt; folder.types, 2);
-    Ok(())
 }
 
 #[test]
-fn goes_through_binders(rt: HostRuntime) -> Result<(), Fail> {
+fn goes_through_binders(rt: HostRuntime) {
     let mut cx = Cx::new(rt.alloc());
-    let vars = cx.mk_bound_vars(&[Sort::Ty])?;
-    let bound = cx.mk_ty(TyKind::Bound(BoundVarIndexKind::Bound(0), BoundTy { var: 0 }))?;
-    let inputs_and_output = cx.mk_args(&[bound.into()])?;
-    assert!(rt; cx.holds(vars));
-    let value = FnSig { inputs_and_output };
-    let pointer = cx.mk_ty(TyKind::FnPtr(Binder { vars, value }))?;
-    assert!(rt; cx.holds(vars));
-    let value = PredicateKind::Coerce {
-        a: pointer,
-        b: pointer,
-    };
-    let predicate = cx.mk_predicate(Binder { vars, value })?;
     let mut folder = Counting {
         entered: 0,
         inside: 0,
         rebuilt: 0,
     };
-    let folded = counted(&mut cx, &mut folder, predicate)?;
+    see_binders(&rt, &mut cx, &mut folder);
+}
+
+fn see_binders(rt: &impl Abort, cx: &mut Cx, folder: &mut Counting) {
+    let vars = cx.mk_bound_vars(&[Sort::Ty]).expect(rt, "memory");
+    let bound = cx
+        .mk_ty(TyKind::Bound(BoundVarIndexKind::Bound(0), BoundTy { var: 0 }))
+        .expect(rt, "memory");
+    let inputs_and_output = cx.mk_args(&[bound.into()]).expect(rt, "memory");
+    held(rt, cx, vars);
+    let value = FnSig { inputs_and_output };
+    let pointer = cx
+        .mk_ty(TyKind::FnPtr(Binder { vars, value }))
+        .expect(rt, "memory");
+    held(rt, cx, vars);
+    let value = PredicateKind::Coerce {
+        a: pointer,
+        b: pointer,
+    };
+    let predicate = cx.mk_predicate(Binder { vars, value }).expect(rt, "memory");
+    let folded = counted(cx, folder, predicate).expect(rt, "memory");
     assert!(rt; folded == predicate);
     assert_eq!(rt; folder.entered, 3);
     assert_eq!(rt; folder.inside, 0);
     assert_eq!(rt; folder.rebuilt, 4);
-    Ok(())
 }
 
 #[test]
-fn folds_a_deep_type(rt: HostRuntime) -> Result<(), Fail> {
+fn folds_a_deep_type(rt: HostRuntime) {
     let mut cx = Cx::new(rt.alloc());
-    let variable = cx.mk_ty(TyKind::Infer(InferTy::TyVar(3)))?;
+    let mut folder = Numbering {
+        seen: Vec::new(rt.alloc()),
+    };
+    see_a_deep_type(&rt, &mut cx, &mut folder);
+}
+
+fn see_a_deep_type(rt: &impl Abort, cx: &mut Cx, folder: &mut Numbering) {
+    let variable = cx
+        .mk_ty(TyKind::Infer(InferTy::TyVar(3)))
+        .expect(rt, "memory");
     let mut deep = variable.node;
     for _ in 0..100_000u32 {
-        deep = wrapped(&mut cx.nodes, deep)?;
+        deep = wrapped(&mut cx.nodes, deep).expect(rt, "memory");
     }
-    let mut folder = Numbering {
-        seen: Vec::new(rt.alloc()),
-    };
-    let folded = fold_node(&mut cx, &mut folder, deep)?;
+    let folded = fold_node(cx, folder, deep).expect(rt, "memory");
     assert!(rt; folded != deep);
     assert_eq!(rt; folder.seen.len(), 1);
-    Ok(())
 }
 
 #[test]
-fn folds_each_of_a_list(rt: HostRuntime) -> Result<(), Fail> {
+fn folds_each_of_a_list(rt: HostRuntime) {
     let mut cx = Cx::new(rt.alloc());
-    let a = cx.mk_ty(TyKind::Infer(InferTy::TyVar(7)))?;
-    let b = cx.mk_ty(TyKind::Infer(InferTy::TyVar(2)))?;
-    assert!(rt; cx.holds(a));
-    let list = vec![in rt.alloc(); b, a, b]?;
     let mut folder = Numbering {
         seen: Vec::new(rt.alloc()),
     };
-    let folded = list.fold_with(&mut cx, &mut folder)?;
-    assert_eq!(rt; folded.len(), 3);
+    see_a_list(&rt, rt.alloc(), &mut cx, &mut folder);
+}
+
+fn see_a_list(rt: &impl Abort, alloc: Global, cx: &mut Cx, folder: &mut Numbering) {
+    let a = cx
+        .mk_ty(TyKind::Infer(InferTy::TyVar(7)))
+        .expect(rt, "memory");
+    let b = cx
+        .mk_ty(TyKind::Infer(InferTy::TyVar(2)))
+        .expect(rt, "memory");
+    held(rt, cx, a);
+    let list = vec![in alloc; b, a, b].expect(rt, "memory");
+    let count = list.fold_with(cx, folder).expect(rt, "memory").len();
+    assert_eq!(rt; count, 3);
     assert_eq!(rt; folder.seen.len(), 2);
-    Ok(())
 }
 
 #[test]
-fn folds_the_arguments_of_an_alias_and_a_trait(rt: HostRuntime) -> Result<(), Fail> {
+fn folds_the_arguments_of_an_alias_and_a_trait(rt: HostRuntime) {
     let mut cx = Cx::new(rt.alloc());
-    let item = cx.declare_alias(&[Sort::Ty], AliasKind::Projection)?;
-    let clone = cx.declare_trait(&[Sort::Ty])?;
-    let variable = cx.mk_ty(TyKind::Infer(InferTy::TyVar(7)))?;
-    let args = cx.mk_args(&[variable.into()])?;
-    let first = cx.mk_ty(TyKind::Bound(BoundVarIndexKind::Canonical, BoundTy { var: 0 }))?;
-    let expected = cx.mk_args(&[first.into()])?;
-    assert!(rt; cx.holds(args));
+    let mut folder = Numbering {
+        seen: Vec::new(rt.alloc()),
+    };
+    see_arguments(&rt, &mut cx, &mut folder);
+}
+
+fn see_arguments(rt: &impl Abort, cx: &mut Cx, folder: &mut Numbering) {
+    let item = cx
+        .declare_alias(&[Sort::Ty], AliasKind::Projection)
+        .expect(rt, "memory");
+    let clone = cx.declare_trait(&[Sort::Ty]).expect(rt, "memory");
+    let variable = cx
+        .mk_ty(TyKind::Infer(InferTy::TyVar(7)))
+        .expect(rt, "memory");
+    let args = cx.mk_args(&[variable.into()]).expect(rt, "memory");
+    let first = cx
+        .mk_ty(TyKind::Bound(BoundVarIndexKind::Canonical, BoundTy { var: 0 }))
+        .expect(rt, "memory");
+    let expected = cx.mk_args(&[first.into()]).expect(rt, "memory");
+    held(rt, cx, args);
     let alias = AliasTerm {
         def_id: AliasDefId::Ty(item),
         args,
@@ -461,40 +520,45 @@ fn folds_the_arguments_of_an_alias_and_a_trait(rt: HostRuntime) -> Result<(), Fa
         def_id: clone,
         args,
     };
-    let mut folder = Numbering {
-        seen: Vec::new(rt.alloc()),
-    };
-    let (of_alias, of_trait) = (alias, trait_ref).fold_with(&mut cx, &mut folder)?;
+    let (of_alias, of_trait) = (alias, trait_ref)
+        .fold_with(cx, folder)
+        .expect(rt, "memory");
     assert!(rt; of_alias.args == expected);
     assert!(rt; of_alias.def_id == AliasDefId::Ty(item));
     assert!(rt; of_trait.args == expected);
     assert!(rt; of_trait.def_id == clone);
     assert_eq!(rt; folder.seen.len(), 1);
-    Ok(())
 }
 
 #[test]
-fn folds_a_value_under_a_binder(rt: HostRuntime) -> Result<(), Fail> {
+fn folds_a_value_under_a_binder(rt: HostRuntime) {
     let mut cx = Cx::new(rt.alloc());
-    let vars = cx.mk_bound_vars(&[Sort::Ty, Sort::Region])?;
-    let variable = cx.mk_ty(TyKind::Infer(InferTy::TyVar(7)))?;
-    let args = cx.mk_args(&[variable.into()])?;
-    let inside = cx.mk_ty(TyKind::Param(1))?;
-    let outside = cx.mk_ty(TyKind::Param(0))?;
-    let expected = cx.mk_args(&[inside.into()])?;
-    assert!(rt; cx.holds(vars));
-    assert!(rt; cx.holds(args));
-    assert!(rt; cx.holds(variable));
     let mut folder = Levelling {
         entered: 0,
         inside: 0,
     };
+    see_under_a_binder(&rt, &mut cx, &mut folder);
+}
+
+fn see_under_a_binder(rt: &impl Abort, cx: &mut Cx, folder: &mut Levelling) {
+    let vars = cx
+        .mk_bound_vars(&[Sort::Ty, Sort::Region])
+        .expect(rt, "memory");
+    let variable = cx
+        .mk_ty(TyKind::Infer(InferTy::TyVar(7)))
+        .expect(rt, "memory");
+    let args = cx.mk_args(&[variable.into()]).expect(rt, "memory");
+    let inside = cx.mk_ty(TyKind::Param(1)).expect(rt, "memory");
+    let outside = cx.mk_ty(TyKind::Param(0)).expect(rt, "memory");
+    let expected = cx.mk_args(&[inside.into()]).expect(rt, "memory");
+    held(rt, cx, vars);
+    held(rt, cx, args);
+    held(rt, cx, variable);
     let value = (Binder { vars, value: args }, variable);
-    let (bound, last) = value.fold_with(&mut cx, &mut folder)?;
+    let (bound, last) = value.fold_with(cx, folder).expect(rt, "memory");
     assert!(rt; bound.vars == vars);
     assert!(rt; bound.value == expected);
     assert!(rt; last == outside);
     assert_eq!(rt; folder.entered, 1);
     assert_eq!(rt; folder.inside, 0);
-    Ok(())
 }

@@ -1,7 +1,8 @@
 use nts_model::{Label, TyHead, UintTy};
 use nts_store::{LabelTest, all_labels};
 use nts_terms::{Cx, TyKind};
-use std::test::Fail;
+use std::alloc::Global;
+use std::process::Abort;
 
 struct NoErrors;
 
@@ -18,13 +19,18 @@ impl LabelTest for NoErrors {
 }
 
 #[test]
-fn looks_below_the_root(rt: HostRuntime) -> Result<(), Fail> {
+fn looks_below_the_root(rt: HostRuntime) {
     let mut cx = Cx::new(rt.alloc());
-    let byte = cx.mk_ty(TyKind::Uint(UintTy::U8))?;
-    let wrong = cx.mk_ty(TyKind::Error)?;
-    let good = cx.mk_args(&[byte.into(), byte.into()])?;
-    let bad = cx.mk_args(&[byte.into(), wrong.into()])?;
-    assert!(rt; all_labels(rt.alloc(), &cx.nodes, good.node, &NoErrors)?);
-    assert!(rt; !all_labels(rt.alloc(), &cx.nodes, bad.node, &NoErrors)?);
-    Ok(())
+    see_below_the_root(&rt, rt.alloc(), &mut cx);
+}
+
+fn see_below_the_root(rt: &impl Abort, alloc: Global, cx: &mut Cx) {
+    let byte = cx.mk_ty(TyKind::Uint(UintTy::U8)).expect(rt, "memory");
+    let wrong = cx.mk_ty(TyKind::Error).expect(rt, "memory");
+    let good = cx.mk_args(&[byte.into(), byte.into()]).expect(rt, "memory");
+    let bad = cx
+        .mk_args(&[byte.into(), wrong.into()])
+        .expect(rt, "memory");
+    assert!(rt; all_labels(alloc, &cx.nodes, good.node, &NoErrors).expect(rt, "memory"));
+    assert!(rt; !all_labels(alloc, &cx.nodes, bad.node, &NoErrors).expect(rt, "memory"));
 }

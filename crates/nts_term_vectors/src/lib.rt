@@ -8,6 +8,8 @@ mod fold_tests;
 #[cfg(test)]
 mod labels_tests;
 #[cfg(test)]
+mod seeing;
+#[cfg(test)]
 mod tests;
 #[cfg(test)]
 mod walk_tests;

@@ -1,3 +1,4 @@
+use crate::seeing::{fitting, held};
 use nts_certainty::{Certainty, MaybeCause, MaybeInfo, OpaqueTypesJank};
 use nts_model::{BoundVarIndexKind, Label, ListHead, Sort, TyHead, UintTy, Variance};
 use nts_store::{EvalError, Fault, Nodes, binders_of};
@@ -6,11 +7,15 @@ use nts_terms::{
     DefId, FnSig, GenericArg, GenericArgKind, InferTy, PlaceholderRegion, PredicateKind,
     RegionKind, Stored, Term, TermKind, TraitId, TraitRef, Ty, TyKind,
 };
-use std::test::Fail;
+use std::process::Abort;
 
 #[test]
 fn limits(rt: HostRuntime) {
     let mut cx = Cx::new(rt.alloc());
+    see_limits(&rt, &mut cx);
+}
+
+fn see_limits(rt: &impl Abort, cx: &mut Cx) {
     assert_eq!(rt; cx.recursion_limit(), 128);
     assert_eq!(rt; cx.step_limit(), 8);
     assert_eq!(rt; cx.round_limit(), 8);
@@ -23,23 +28,29 @@ fn limits(rt: HostRuntime) {
 }
 
 #[test]
-fn constructors(rt: HostRuntime) -> Result<(), Fail> {
+fn constructors(rt: HostRuntime) {
     let mut cx = Cx::new(rt.alloc());
-    let vec = cx.declare_ctor(&[Sort::Ty], &[Variance::Covariant])?;
-    let byte = cx.mk_ty(TyKind::Uint(UintTy::U8))?;
-    let args = cx.mk_args(&[byte.into()])?;
-    let none = cx.mk_args(&[])?;
-    assert!(rt; cx.holds(args));
+    see_constructors(&rt, &mut cx);
+}
+
+fn see_constructors(rt: &impl Abort, cx: &mut Cx) {
+    let vec = cx
+        .declare_ctor(&[Sort::Ty], &[Variance::Covariant])
+        .expect(rt, "memory");
+    let byte = cx.mk_ty(TyKind::Uint(UintTy::U8)).expect(rt, "memory");
+    let args = cx.mk_args(&[byte.into()]).expect(rt, "memory");
+    let none = cx.mk_args(&[]).expect(rt, "memory");
+    held(rt, cx, args);
     assert!(rt; !cx.fits(DefId::Ctor(vec), none));
-    assert!(rt; cx.fits(DefId::Ctor(vec), args));
-    let bytes = cx.mk_ty(TyKind::Ctor(vec, args))?;
-    match bytes.kind(&cx) {
+    fitting(rt, cx, DefId::Ctor(vec), args);
+    let bytes = cx.mk_ty(TyKind::Ctor(vec, args)).expect(rt, "memory");
+    match bytes.kind(cx) {
         TyKind::Ctor(ctor, its_args) => {
             assert!(rt; ctor == vec);
-            assert_eq!(rt; its_args.len(&cx), 1);
-            match its_args.get(&cx, 0).kind(&cx) {
+            assert_eq!(rt; its_args.len(cx), 1);
+            match its_args.get(cx, 0).kind(cx) {
                 GenericArgKind::Type(ty) => {
-                    assert!(rt; cx.holds(byte));
+                    held(rt, cx, byte);
                     assert!(rt; cx.same(ty, byte));
                 }
                 _ => assert!(rt; false),
@@ -47,152 +58,195 @@ fn constructors(rt: HostRuntime) -> Result<(), Fail> {
         }
         _ => assert!(rt; false),
     }
-    Ok(())
 }
 
 #[test]
-fn binders(rt: HostRuntime) -> Result<(), Fail> {
+fn binders(rt: HostRuntime) {
     let mut cx = Cx::new(rt.alloc());
-    let vars = cx.mk_bound_vars(&[Sort::Region])?;
-    assert_eq!(rt; vars.len(&cx), 1);
-    assert!(rt; matches!(vars.get(&cx, 0), Sort::Region));
+    see_binders(&rt, &mut cx);
+}
+
+fn see_binders(rt: &impl Abort, cx: &mut Cx) {
+    let vars = cx.mk_bound_vars(&[Sort::Region]).expect(rt, "memory");
+    assert_eq!(rt; vars.len(cx), 1);
+    assert!(rt; matches!(vars.get(cx, 0), Sort::Region));
     let bound = BoundRegion { var: 0 };
-    let region = cx.mk_region(RegionKind::ReBound(BoundVarIndexKind::Bound(0), bound))?;
+    let region = cx
+        .mk_region(RegionKind::ReBound(BoundVarIndexKind::Bound(0), bound))
+        .expect(rt, "memory");
     assert!(rt; cx.has_escaping_bound_vars(region));
     assert!(rt; !cx.has_canonical_bound(region));
     assert!(rt;
         matches!(
-            region.kind(&cx),
+            region.kind(cx),
             RegionKind::ReBound(_, BoundRegion { var: 0 })
         )
     );
-    let args = cx.mk_args(&[region.into()])?;
-    assert!(rt; cx.holds(vars));
+    let args = cx.mk_args(&[region.into()]).expect(rt, "memory");
+    held(rt, cx, vars);
     let sig = FnSig {
         inputs_and_output: args,
     };
-    let pointer = cx.mk_ty(TyKind::FnPtr(Binder { vars, value: sig }))?;
+    let pointer = cx
+        .mk_ty(TyKind::FnPtr(Binder { vars, value: sig }))
+        .expect(rt, "memory");
     assert!(rt; !cx.has_escaping_bound_vars(pointer));
-    assert!(rt; matches!(pointer.kind(&cx), TyKind::FnPtr(_)));
-    Ok(())
+    assert!(rt; matches!(pointer.kind(cx), TyKind::FnPtr(_)));
 }
 
 #[test]
-fn consts(rt: HostRuntime) -> Result<(), Fail> {
+fn consts(rt: HostRuntime) {
     let mut cx = Cx::new(rt.alloc());
-    let size = cx.mk_ty(TyKind::Uint(UintTy::Usize))?;
-    let three = cx.mk_const(ConstKind::Value { ty: size, bits: 3 })?;
-    match three.kind(&cx) {
+    see_consts(&rt, &mut cx);
+}
+
+fn see_consts(rt: &impl Abort, cx: &mut Cx) {
+    let size = cx.mk_ty(TyKind::Uint(UintTy::Usize)).expect(rt, "memory");
+    let three = cx
+        .mk_const(ConstKind::Value { ty: size, bits: 3 })
+        .expect(rt, "memory");
+    match three.kind(cx) {
         ConstKind::Value { ty, bits } => {
-            assert!(rt; cx.holds(size));
+            held(rt, cx, size);
             assert!(rt; cx.same(ty, size));
             assert!(rt; bits == 3);
         }
         _ => assert!(rt; false),
     }
     let term = Term::from(three);
-    assert!(rt; cx.holds(term));
-    assert!(rt; matches!(term.kind(&cx), TermKind::Const(_)));
-    let unknown = cx.mk_const(ConstKind::Infer(0))?;
+    held(rt, cx, term);
+    assert!(rt; matches!(term.kind(cx), TermKind::Const(_)));
+    let unknown = cx.mk_const(ConstKind::Infer(0)).expect(rt, "memory");
     assert!(rt; cx.has_non_region_infer(unknown));
-    Ok(())
 }
 
 #[test]
-fn predicates(rt: HostRuntime) -> Result<(), Fail> {
+fn predicates(rt: HostRuntime) {
     let mut cx = Cx::new(rt.alloc());
-    let clone = cx.declare_trait(&[Sort::Ty])?;
-    let vars = cx.mk_bound_vars(&[])?;
+    see_predicates(&rt, &mut cx);
+}
+
+fn see_predicates(rt: &impl Abort, cx: &mut Cx) {
+    let clone = cx.declare_trait(&[Sort::Ty]).expect(rt, "memory");
+    let vars = cx.mk_bound_vars(&[]).expect(rt, "memory");
     let first = TyKind::Bound(BoundVarIndexKind::Canonical, BoundTy { var: 0 });
-    let ty = cx.mk_ty(first)?;
-    let args = cx.mk_args(&[ty.into()])?;
-    assert!(rt; cx.holds(vars));
-    assert!(rt; cx.fits(DefId::Trait(clone), args));
+    let ty = cx.mk_ty(first).expect(rt, "memory");
+    let args = cx.mk_args(&[ty.into()]).expect(rt, "memory");
+    held(rt, cx, vars);
+    fitting(rt, cx, DefId::Trait(clone), args);
     let value = PredicateKind::Clause(ClauseKind::Trait(TraitRef {
         def_id: clone,
         args,
     }));
-    let predicate = cx.mk_predicate(Binder { vars, value })?;
+    let predicate = cx.mk_predicate(Binder { vars, value }).expect(rt, "memory");
     assert!(rt; cx.has_canonical_bound(predicate));
-    match predicate.kind(&cx).value {
+    match predicate.kind(cx).value {
         PredicateKind::Clause(ClauseKind::Trait(it)) => assert!(rt; it.def_id == clone),
         _ => assert!(rt; false),
     }
-    let env = cx.mk_env(&[predicate])?;
-    assert_eq!(rt; env.len(&cx), 1);
-    assert!(rt; cx.holds(predicate));
-    assert!(rt; cx.same(env.get(&cx, 0), predicate));
-    Ok(())
+    let env = cx.mk_env(&[predicate]).expect(rt, "memory");
+    assert_eq!(rt; env.len(cx), 1);
+    held(rt, cx, predicate);
+    assert!(rt; cx.same(env.get(cx, 0), predicate));
 }
 
 #[test]
-fn aliases(rt: HostRuntime) -> Result<(), Fail> {
+fn aliases(rt: HostRuntime) {
     let mut cx = Cx::new(rt.alloc());
-    let item = cx.declare_alias(&[Sort::Region], AliasKind::Projection)?;
+    see_aliases(&rt, &mut cx);
+}
+
+fn see_aliases(rt: &impl Abort, cx: &mut Cx) {
+    let item = cx
+        .declare_alias(&[Sort::Region], AliasKind::Projection)
+        .expect(rt, "memory");
     let bound = BoundRegion { var: 1 };
     let placeholder = PlaceholderRegion { universe: 2, bound };
-    let region = cx.mk_region(RegionKind::RePlaceholder(placeholder))?;
-    let args = cx.mk_args(&[region.into()])?;
-    assert!(rt; cx.fits(DefId::Alias(AliasDefId::Ty(item)), args));
+    let region = cx
+        .mk_region(RegionKind::RePlaceholder(placeholder))
+        .expect(rt, "memory");
+    let args = cx.mk_args(&[region.into()]).expect(rt, "memory");
+    fitting(rt, cx, DefId::Alias(AliasDefId::Ty(item)), args);
     let alias = AliasTerm {
         def_id: AliasDefId::Ty(item),
         args,
     };
-    let ty = cx.mk_ty(TyKind::Alias(alias))?;
-    assert!(rt; matches!(ty.kind(&cx), TyKind::Alias(_)));
-    assert!(rt; cx.holds(args));
-    assert!(rt; cx.fits(DefId::Alias(AliasDefId::Ty(item)), args));
-    Ok(())
+    let ty = cx.mk_ty(TyKind::Alias(alias)).expect(rt, "memory");
+    assert!(rt; matches!(ty.kind(cx), TyKind::Alias(_)));
+    fitting(rt, cx, DefId::Alias(AliasDefId::Ty(item)), args);
 }
 
 #[test]
-fn declared_consts(rt: HostRuntime) -> Result<(), Fail> {
+fn declared_consts(rt: HostRuntime) {
     let mut cx = Cx::new(rt.alloc());
-    let list = cx.declare_ctor(&[Sort::Ty], &[Variance::Covariant])?;
+    see_declared_consts(&rt, &mut cx);
+}
+
+fn see_declared_consts(rt: &impl Abort, cx: &mut Cx) {
+    let list = cx
+        .declare_ctor(&[Sort::Ty], &[Variance::Covariant])
+        .expect(rt, "memory");
     let position = |var| TyKind::Bound(BoundVarIndexKind::Canonical, BoundTy { var });
-    let first = cx.mk_ty(position(0))?;
-    let args = cx.mk_args(&[first.into()])?;
-    assert!(rt; cx.holds(args));
-    assert!(rt; cx.fits(DefId::Ctor(list), args));
-    let ty = cx.mk_ty(TyKind::Ctor(list, args))?;
-    assert!(rt; cx.holds(ty));
-    assert!(rt; !cx.is_const_type(&[Sort::Const], ty)?);
-    assert!(rt; !cx.is_const_type(&[], ty)?);
-    assert!(rt; cx.is_const_type(&[Sort::Ty], ty)?);
-    let length = cx.declare_const(&[Sort::Ty], ty)?;
+    let first = cx.mk_ty(position(0)).expect(rt, "memory");
+    let args = cx.mk_args(&[first.into()]).expect(rt, "memory");
+    fitting(rt, cx, DefId::Ctor(list), args);
+    let ty = cx.mk_ty(TyKind::Ctor(list, args)).expect(rt, "memory");
+    held(rt, cx, ty);
+    assert!(rt; !cx.is_const_type(&[Sort::Const], ty).expect(rt, "memory"));
+    assert!(rt; !cx.is_const_type(&[], ty).expect(rt, "memory"));
+    assert!(rt; cx.is_const_type(&[Sort::Ty], ty).expect(rt, "memory"));
+    let length = cx.declare_const(&[Sort::Ty], ty).expect(rt, "memory");
     assert!(rt; cx.declarations.const_type(length) == Some(ty));
-    let none = cx.mk_args(&[])?;
+    let none = cx.mk_args(&[]).expect(rt, "memory");
     assert!(rt; !cx.fits(DefId::Alias(AliasDefId::Const(length)), none));
-    assert!(rt; cx.holds(args));
-    assert!(rt; cx.fits(DefId::Alias(AliasDefId::Const(length)), args));
+    fitting(rt, cx, DefId::Alias(AliasDefId::Const(length)), args);
     let def_id = AliasDefId::Const(length);
-    let ct = cx.mk_const(ConstKind::Unevaluated(AliasTerm { def_id, args }))?;
-    match ct.kind(&cx) {
+    let ct = cx
+        .mk_const(ConstKind::Unevaluated(AliasTerm { def_id, args }))
+        .expect(rt, "memory");
+    match ct.kind(cx) {
         ConstKind::Unevaluated(it) => assert!(rt; it.def_id == def_id),
         _ => assert!(rt; false),
     }
-    Ok(())
 }
 
 #[test]
-fn types_that_no_const_has(rt: HostRuntime) -> Result<(), Fail> {
+fn types_that_no_const_has(rt: HostRuntime) {
     let mut cx = Cx::new(rt.alloc());
-    let parameter = cx.mk_ty(TyKind::Param(0))?;
-    assert!(rt; !cx.is_const_type(&[Sort::Ty], parameter)?);
-    let variable = cx.mk_ty(TyKind::Infer(InferTy::TyVar(0)))?;
-    assert!(rt; !cx.is_const_type(&[Sort::Ty], variable)?);
-    let bound = cx.mk_ty(TyKind::Bound(BoundVarIndexKind::Bound(0), BoundTy { var: 0 }))?;
-    assert!(rt; !cx.is_const_type(&[Sort::Ty], bound)?);
-    let byte = cx.mk_ty(TyKind::Uint(UintTy::U8))?;
-    assert!(rt; cx.is_const_type(&[], byte)?);
-    Ok(())
+    see_types_of_consts(&rt, &mut cx);
+}
+
+fn see_types_of_consts(rt: &impl Abort, cx: &mut Cx) {
+    let parameter = cx.mk_ty(TyKind::Param(0)).expect(rt, "memory");
+    assert!(rt;
+        !cx.is_const_type(&[Sort::Ty], parameter)
+            .expect(rt, "memory")
+    );
+    let variable = cx
+        .mk_ty(TyKind::Infer(InferTy::TyVar(0)))
+        .expect(rt, "memory");
+    assert!(rt; !cx.is_const_type(&[Sort::Ty], variable).expect(rt, "memory"));
+    let bound = cx
+        .mk_ty(TyKind::Bound(BoundVarIndexKind::Bound(0), BoundTy { var: 0 }))
+        .expect(rt, "memory");
+    assert!(rt; !cx.is_const_type(&[Sort::Ty], bound).expect(rt, "memory"));
+    let byte = cx.mk_ty(TyKind::Uint(UintTy::U8)).expect(rt, "memory");
+    assert!(rt; cx.is_const_type(&[], byte).expect(rt, "memory"));
 }
 
 #[test]
-fn nodes(rt: HostRuntime) -> Result<(), Fail> {
+fn nodes(rt: HostRuntime) {
     let mut nodes = Nodes::new(rt.alloc());
-    let error = nodes.make(Label::Ty(TyHead::Error), &[])?;
-    let args = nodes.make(Label::List(ListHead::Args), &[error, error])?;
+    see_nodes(&rt, &mut nodes);
+}
+
+fn see_nodes(rt: &impl Abort, nodes: &mut Nodes) {
+    let error = nodes
+        .make(Label::Ty(TyHead::Error), &[])
+        .expect(rt, "memory");
+    let args = nodes
+        .make(Label::List(ListHead::Args), &[error, error])
+        .expect(rt, "memory");
     assert_eq!(rt; nodes.len(), 2);
     assert_eq!(rt; nodes.child_count(args), 2);
     assert!(rt; nodes.same(nodes.child(args, 1), error));
@@ -205,21 +259,25 @@ fn nodes(rt: HostRuntime) -> Result<(), Fail> {
     assert!(rt; Ty::may_have(nodes.label(error)));
     let term = Term::from(ty);
     assert!(rt; GenericArg::from(term).node == error);
-    Ok(())
 }
 
 #[test]
-fn declarations(rt: HostRuntime) -> Result<(), Fail> {
+fn declarations(rt: HostRuntime) {
     let mut cx = Cx::new(rt.alloc());
-    cx.declare_trait(&[])?;
-    let second = cx.declare_trait(&[Sort::Ty, Sort::Const])?;
+    see_declarations(&rt, &mut cx);
+}
+
+fn see_declarations(rt: &impl Abort, cx: &mut Cx) {
+    cx.declare_trait(&[]).expect(rt, "memory");
+    let second = cx
+        .declare_trait(&[Sort::Ty, Sort::Const])
+        .expect(rt, "memory");
     match cx.declarations.sorts(DefId::Trait(second)) {
         Some(sorts) => assert_eq!(rt; sorts.len(), 2),
         None => assert!(rt; false),
     }
     let undeclared = TraitId { number: 2 };
     assert!(rt; cx.declarations.sorts(DefId::Trait(undeclared)).is_none());
-    Ok(())
 }
 
 #[test]

@@ -9,8 +9,8 @@ ghost use Rattle.nts_store.specs.Growth.{tree_at, IsIn, Extends};
 
 use nts_model::{BoundVarIndexKind, IntTy, Label, ListHead, Sort, TyHead};
 use nts_store::{NodeId, Nodes, instantiate_canonical};
-use std::alloc::AllocError;
-use std::test::Fail;
+use std::alloc::{AllocError, Global};
+use std::process::Abort;
 
 pub(crate) fn wrapped(nodes: &mut Nodes, inner: NodeId) -> Result<NodeId, AllocError>
     requires within { IsIn nodes.old inner }
@@ -24,19 +24,26 @@ pub(crate) fn wrapped(nodes: &mut Nodes, inner: NodeId) -> Result<NodeId, AllocE
 }
 
 #[test]
-fn reaches_the_bottom_of_a_deep_type(rt: HostRuntime) -> Result<(), Fail> {
+fn reaches_the_bottom_of_a_deep_type(rt: HostRuntime) {
     let mut nodes = Nodes::new(rt.alloc());
-    let value = nodes.make(Label::Ty(TyHead::Int(IntTy::I32)), &[])?;
-    let mut deep = nodes.make(Label::Bound(Sort::Ty, BoundVarIndexKind::Canonical, 0), &[])?;
+    see_the_bottom(&rt, rt.alloc(), &mut nodes);
+}
+
+fn see_the_bottom(rt: &impl Abort, alloc: Global, nodes: &mut Nodes) {
+    let value = nodes
+        .make(Label::Ty(TyHead::Int(IntTy::I32)), &[])
+        .expect(rt, "memory");
+    let mut deep = nodes
+        .make(Label::Bound(Sort::Ty, BoundVarIndexKind::Canonical, 0), &[])
+        .expect(rt, "memory");
     let mut expected = value;
     for _ in 0..100_000u32 {
-        deep = wrapped(&mut nodes, deep)?;
-        expected = wrapped(&mut nodes, expected)?;
+        deep = wrapped(nodes, deep).expect(rt, "memory");
+        expected = wrapped(nodes, expected).expect(rt, "memory");
     }
-    let filled = instantiate_canonical(rt.alloc(), &mut nodes, &[value], deep)?;
+    let filled = instantiate_canonical(alloc, nodes, &[value], deep).expect(rt, "memory");
     assert_eq!(rt; filled.number, expected.number);
     assert!(rt; filled.number != deep.number);
-    Ok(())
 }
 
 fn doubled(nodes: &mut Nodes, inner: NodeId) -> Result<NodeId, AllocError>
@@ -52,16 +59,23 @@ fn doubled(nodes: &mut Nodes, inner: NodeId) -> Result<NodeId, AllocError>
 
 /// The tree has the variable 2^64 times, and the store has it once.
 #[test]
-fn replaces_what_is_shared_once(rt: HostRuntime) -> Result<(), Fail> {
+fn replaces_what_is_shared_once(rt: HostRuntime) {
     let mut nodes = Nodes::new(rt.alloc());
-    let value = nodes.make(Label::Ty(TyHead::Int(IntTy::I32)), &[])?;
-    let mut deep = nodes.make(Label::Bound(Sort::Ty, BoundVarIndexKind::Canonical, 0), &[])?;
+    see_what_is_shared(&rt, rt.alloc(), &mut nodes);
+}
+
+fn see_what_is_shared(rt: &impl Abort, alloc: Global, nodes: &mut Nodes) {
+    let value = nodes
+        .make(Label::Ty(TyHead::Int(IntTy::I32)), &[])
+        .expect(rt, "memory");
+    let mut deep = nodes
+        .make(Label::Bound(Sort::Ty, BoundVarIndexKind::Canonical, 0), &[])
+        .expect(rt, "memory");
     let mut expected = value;
     for _ in 0..64u32 {
-        deep = doubled(&mut nodes, deep)?;
-        expected = doubled(&mut nodes, expected)?;
+        deep = doubled(nodes, deep).expect(rt, "memory");
+        expected = doubled(nodes, expected).expect(rt, "memory");
     }
-    let filled = instantiate_canonical(rt.alloc(), &mut nodes, &[value], deep)?;
+    let filled = instantiate_canonical(alloc, nodes, &[value], deep).expect(rt, "memory");
     assert_eq!(rt; filled.number, expected.number);
-    Ok(())
 }

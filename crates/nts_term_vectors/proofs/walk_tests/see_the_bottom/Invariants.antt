@@ -1,5 +1,5 @@
 use Rattle.nts_term_vectors.proofs.Nested.{Nested}
-use Rattle.nts_term_vectors.proofs.walk_tests.replaces_what_is_shared_once.Given as goal
+use Rattle.nts_term_vectors.proofs.walk_tests.see_the_bottom.Given as goal
 
 abbrev pub invariant-loop : goal.invariant-loop
 invariant-loop g l = Nested l.nodes l.value l.deep l.expected
