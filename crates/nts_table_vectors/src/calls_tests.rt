@@ -1,5 +1,5 @@
 //! Calls of the table that the other tests do not make.
-use crate::fixture::Fixture;
+use crate::fixture::{Fixture, variable_of};
 use nts_model::{Relation, UintTy, Variance};
 use nts_store::EvalError;
 use nts_table::{InferCtxt, relate_nodes};
@@ -7,7 +7,8 @@ use nts_terms::{
     AliasDefId, AliasKind, AliasTerm, Cx, Region, RegionKind, Span, TraitRef, TyKind, TypingMode,
     VisibleForLeakCheck,
 };
-use nts_unify::State;
+use nts_unify::{Constraint, State};
+use std::process::Abort;
 
 #[test]
 fn related(rt: HostRuntime) {
@@ -16,11 +17,10 @@ fn related(rt: HostRuntime) {
     let env = cx.mk_env(&[]).expect(&rt, "memory");
     let byte = cx.mk_ty(TyKind::Uint(UintTy::U8)).expect(&rt, "memory");
     let ty = table.next_ty_infer(&mut cx).expect(&rt, "memory");
-    let goals = table
-        .relate(&mut cx, env, ty, Variance::Invariant, byte, Span(0))
-        .expect(&rt, "memory");
-    assert_eq!(rt; goals.len(), 0);
-    assert!(rt; matches!(table.variable(0).state, State::Known(_)));
+    let goals = table.relate(&mut cx, env, ty, Variance::Invariant, byte, Span(0));
+    let left = goals.expect(&rt, "memory").len();
+    let state = variable_of(&rt, &table, 0).state;
+    assert!(rt; left == 0 && matches!(state, State::Known(_)));
 }
 
 #[test]
@@ -28,9 +28,9 @@ fn read_back(rt: HostRuntime) {
     let mut fixture = Fixture::new(&rt, rt.alloc());
     let ty = fixture.ty_var(&rt);
     let byte = fixture.ty(&rt, TyKind::Uint(UintTy::U8));
-    assert!(rt; !fixture.changed(&rt, ty));
+    fixture.changed(&rt, ty, false);
     fixture.relates(&rt, ty, byte);
-    assert!(rt; fixture.changed(&rt, ty));
+    fixture.changed(&rt, ty, true);
     fixture.stands_for(&rt, ty, byte);
 }
 
@@ -90,33 +90,37 @@ fn each_constraint_once(rt: HostRuntime) {
     fixture.outlives(&rt, b, a, VisibleForLeakCheck::Yes);
     fixture.outlives(&rt, fixed, b, VisibleForLeakCheck::Yes);
     fixture.equates_regions(&rt, a, b);
-    let told = fixture.told(&rt);
-    assert_eq!(rt; told.len(), 1);
-    let first = told[0];
-    assert!(rt; first.relation == Relation::RegionOutlives);
-    assert!(rt; first.left == fixed.node);
-    assert!(rt; first.right == a.node);
-    assert!(rt; !first.is_visible);
+    let only = Constraint {
+        relation: Relation::RegionOutlives,
+        left: fixed.node,
+        right: a.node,
+        is_visible: false,
+    };
+    fixture.tells(&rt, &[only]);
 }
 
 #[test]
 fn snapshots(rt: HostRuntime) {
     let mut table = InferCtxt::new(rt.alloc(), TypingMode::PostAnalysis);
+    see_snapshots(&rt, &mut table);
+}
+
+fn see_snapshots(rt: &impl Abort, table: &mut InferCtxt) {
     assert!(rt; matches!(table.typing_mode(), TypingMode::PostAnalysis));
-    let outer = table.start_snapshot().expect(&rt, "memory");
-    table.create_next_universe().expect(&rt, "memory");
-    let inner = table.start_snapshot().expect(&rt, "memory");
-    table.create_next_universe().expect(&rt, "memory");
+    let outer = table.start_snapshot().expect(rt, "memory");
+    table.create_next_universe().expect(rt, "memory");
+    let inner = table.start_snapshot().expect(rt, "memory");
+    table.create_next_universe().expect(rt, "memory");
     table.commit(inner);
-    assert_eq!(rt; table.universe(), 2);
-    let tried = table.start_snapshot().expect(&rt, "memory");
-    table.create_next_universe().expect(&rt, "memory");
+    assert!(rt; table.universe() == 2);
+    let tried = table.start_snapshot().expect(rt, "memory");
+    table.create_next_universe().expect(rt, "memory");
     assert!(rt; table.commit_if_ok(tried, Err::<(), usize>(7)) == Err(7));
-    assert_eq!(rt; table.universe(), 2);
-    let tried = table.start_snapshot().expect(&rt, "memory");
-    table.create_next_universe().expect(&rt, "memory");
+    assert!(rt; table.universe() == 2);
+    let tried = table.start_snapshot().expect(rt, "memory");
+    table.create_next_universe().expect(rt, "memory");
     assert!(rt; table.commit_if_ok(tried, Ok::<usize, ()>(7)) == Ok(7));
-    assert_eq!(rt; table.universe(), 3);
+    assert!(rt; table.universe() == 3);
     table.rollback_to(outer);
-    assert_eq!(rt; table.universe(), 0);
+    assert!(rt; table.universe() == 0);
 }

@@ -1,10 +1,9 @@
 //! Terms that are nested very deep, and terms that share very much.
 ghost use Rattle.nts_table.specs.Tables.{IsTable};
 
-use crate::fixture::Fixture;
+use crate::fixture::{Fixture, empty_knows};
 use nts_model::UintTy;
-use nts_table::InferCtxt;
-use nts_terms::{GenericArg, TyKind, TypingMode};
+use nts_terms::{GenericArg, TyKind};
 use nts_unify::State;
 use std::process::Abort;
 
@@ -38,10 +37,8 @@ fn variables_of_a_ladder(rt: HostRuntime) {
     let mut fixture = Fixture::new(&rt, rt.alloc());
     let hole = fixture.ty_var(&rt);
     let tall = ladder(&rt, &mut fixture, hole, 60);
-    assert!(rt; fixture.cx.holds(tall));
-    assert!(rt; fixture.table.knows(&fixture.cx, tall).expect(&rt, "memory"));
-    let empty = InferCtxt::new(rt.alloc(), TypingMode::PostAnalysis);
-    assert!(rt; !empty.knows(&fixture.cx, tall).expect(&rt, "memory"));
+    fixture.seen(&rt, tall);
+    assert!(rt; !empty_knows(&rt, &fixture.cx, tall));
 }
 
 /// Two ladders over two variables: each pair of their nodes is related once.

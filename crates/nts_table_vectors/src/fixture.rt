@@ -2,8 +2,8 @@
 ghost use Rattle.std.specs.Prelude.{◌≡◌, false, All};
 ghost use Rattle.nts_model.specs.Trees.{any_label, is_alias};
 ghost use Rattle.nts_model.specs.Resolving.{Knows, resolved};
-ghost use Rattle.nts_store.specs.Growth.{tree_at, Extends};
-ghost use Rattle.nts_terms.specs.Handles.{HoldsArg, HoldsArgs};
+ghost use Rattle.nts_store.specs.Growth.{tree_at, Extends, IsIn};
+ghost use Rattle.nts_terms.specs.Handles.{Holds, HoldsArg, HoldsArgs};
 ghost use Rattle.nts_terms.specs.Kinds.{TyFits, ConstFits};
 ghost use Rattle.nts_terms.specs.Signatures.{TyIsDeclared, ConstIsDeclared};
 ghost use Rattle.nts_unify.specs.Reading.{content_of};
@@ -15,7 +15,7 @@ use nts_store::EvalError;
 use nts_table::{InferCtxt, is_unbound};
 use nts_terms::{
     AliasDefId, AliasId, AliasKind, AliasTerm, Binder, ConstKind, CtorId, Cx, DefId, FnSig,
-    GenericArg, GenericArgs, ParamEnv, Region, RegionKind, Span, Ty, TyKind, TypingMode,
+    GenericArg, GenericArgs, ParamEnv, Region, RegionKind, Span, Stored, Ty, TyKind, TypingMode,
     VisibleForLeakCheck,
 };
 use nts_unify::{Constraint, State, Variable};
@@ -33,6 +33,28 @@ pub struct Fixture {
     pub two: CtorId,
     pub borrow: CtorId,
     pub item: AliasId,
+}
+
+/// Whether a table without variables knows a term.
+pub fn empty_knows<T: Stored>(rt: &impl Abort, cx: &Cx, x: T) -> bool
+    requires { IsIn cx.now.nodes (T.id x) }
+{
+    let table = InferCtxt::new(cx.alloc, TypingMode::PostAnalysis);
+    table.knows(cx, x).expect(rt, "memory")
+}
+
+/// A variable of a table.
+pub fn variable_of(rt: &impl Abort, table: &InferCtxt, n: usize) -> Variable {
+    assert!(rt; n < table.variable_count());
+    table.variable(n)
+}
+
+/// Sees that the hidden types, without their aliases, are the expected ones.
+fn same_types(rt: &impl Abort, found: &[(AliasTerm, Ty)], expected: &[Ty]) {
+    assert!(rt; found.len() == expected.len());
+    for n in 0..found.len() {
+        assert!(rt; Some(&found[n].1) == expected.get(n));
+    }
 }
 
 /// What can be read of a table.
@@ -80,14 +102,6 @@ impl Fixture {
     {
         let ty = self.table.next_ty_infer(&mut self.cx).expect(rt, "memory");
         ty.into()
-    }
-
-    /// A new region variable.
-    pub fn region_var(&mut self, rt: &impl Abort) -> GenericArg
-        requires { IsTable self.old.cx.nodes self.old.table }
-        ensures { IsTable self.new.cx.nodes self.new.table }
-    {
-        self.region_infer(rt).into()
     }
 
     /// A new region variable, as a region.
@@ -255,21 +269,21 @@ impl Fixture {
         self.cx.mk_ty(TyKind::Uint(kind)).expect(rt, "memory")
     }
 
-    /// Registers a hidden type of an alias over nothing, and gives the older one.
-    pub fn hide(&mut self, rt: &impl Abort, alias: AliasId, ty: Ty) -> Option<Ty>
+    /// Registers a hidden type of an alias over nothing, and sees what the older one was.
+    pub fn hide(&mut self, rt: &impl Abort, alias: AliasId, ty: Ty, older: Option<Ty>)
         requires { IsTable self.old.cx.nodes self.old.table }
         ensures { IsTable self.new.cx.nodes self.new.table }
     {
         let args = self.args(rt, &[]);
-        assert!(rt; self.table.knows(&self.cx, args).expect(rt, "memory"));
-        assert!(rt; self.cx.holds(ty));
-        assert!(rt; self.table.knows(&self.cx, ty).expect(rt, "memory"));
+        self.seen(rt, args);
+        self.seen(rt, ty);
         let def_id = AliasDefId::Ty(alias);
         let key = AliasTerm { def_id, args };
         let (cx, table) = (&mut self.cx, &mut self.table);
-        table
+        let found = table
             .register_hidden_type_in_storage(cx, key, ty, Span(0))
-            .expect(rt, "memory")
+            .expect(rt, "memory");
+        assert!(rt; found == older);
     }
 
     /// Adds a duplicate of a hidden type of an alias over nothing.
@@ -279,9 +293,8 @@ impl Fixture {
         ensures changes { ChangesEntries self.old.table self.new.table }
     {
         let args = self.args(rt, &[]);
-        assert!(rt; self.table.knows(&self.cx, args).expect(rt, "memory"));
-        assert!(rt; self.cx.holds(ty));
-        assert!(rt; self.table.knows(&self.cx, ty).expect(rt, "memory"));
+        self.seen(rt, args);
+        self.seen(rt, ty);
         let def_id = AliasDefId::Ty(alias);
         let key = AliasTerm { def_id, args };
         self.table
@@ -289,17 +302,24 @@ impl Fixture {
             .expect(rt, "memory");
     }
 
-    pub fn duplicates(&self, rt: &impl Abort) -> Vec<(AliasTerm, Ty)> {
-        self.table
-            .clone_duplicate_opaque_types()
-            .expect(rt, "memory")
+    /// Sees that these are the hidden types that are registered.
+    pub fn hidden(&self, rt: &impl Abort, expected: &[Ty]) {
+        assert!(rt; self.table.num_opaque_types() == expected.len());
+        for n in 0..self.table.num_opaque_types() {
+            assert!(rt; Some(&self.table.hidden_type(n).ty) == expected.get(n));
+        }
     }
 
-    /// The hidden types from that place on.
-    pub fn hidden_since(&self, rt: &impl Abort, entries: usize) -> Vec<(AliasTerm, Ty)> {
-        self.table
-            .clone_opaque_types_added_since(entries)
-            .expect(rt, "memory")
+    /// Sees that these are the duplicates.
+    pub fn duplicates(&self, rt: &impl Abort, expected: &[Ty]) {
+        let found = self.table.clone_duplicate_opaque_types();
+        same_types(rt, &found.expect(rt, "memory"), expected);
+    }
+
+    /// Sees that these are the hidden types from that place on.
+    pub fn hidden_since(&self, rt: &impl Abort, entries: usize, expected: &[Ty]) {
+        let found = self.table.clone_opaque_types_added_since(entries);
+        same_types(rt, &found.expect(rt, "memory"), expected);
     }
 
     /// Records that one region outlives another.
@@ -307,10 +327,8 @@ impl Fixture {
         requires { IsTable self.old.cx.nodes self.old.table }
         ensures { IsTable self.new.cx.nodes self.new.table }
     {
-        assert!(rt; self.cx.holds(a));
-        assert!(rt; self.cx.holds(b));
-        assert!(rt; self.table.knows(&self.cx, a).expect(rt, "memory"));
-        assert!(rt; self.table.knows(&self.cx, b).expect(rt, "memory"));
+        self.seen(rt, a);
+        self.seen(rt, b);
         self.table
             .sub_regions(&self.cx, b, a, visible, Span(0))
             .expect(rt, "memory");
@@ -321,10 +339,8 @@ impl Fixture {
         requires { IsTable self.old.cx.nodes self.old.table }
         ensures { IsTable self.new.cx.nodes self.new.table }
     {
-        assert!(rt; self.cx.holds(a));
-        assert!(rt; self.cx.holds(b));
-        assert!(rt; self.table.knows(&self.cx, a).expect(rt, "memory"));
-        assert!(rt; self.table.knows(&self.cx, b).expect(rt, "memory"));
+        self.seen(rt, a);
+        self.seen(rt, b);
         assert!(rt; is_unbound(&self.cx, a));
         assert!(rt; is_unbound(&self.cx, b));
         self.table
@@ -332,13 +348,14 @@ impl Fixture {
             .expect(rt, "memory");
     }
 
-    /// The region constraints, each once.
-    pub fn told(&mut self, rt: &impl Abort) -> Vec<Constraint>
+    /// Sees that these are the region constraints, each once.
+    pub fn tells(&mut self, rt: &impl Abort, expected: &[Constraint])
         requires { IsTable self.old.cx.nodes self.old.table }
     {
-        self.table
-            .make_deduplicated_region_constraints(&mut self.cx)
-            .expect(rt, "memory")
+        let told = self
+            .table
+            .make_deduplicated_region_constraints(&mut self.cx);
+        assert!(rt; told.expect(rt, "memory").as_slice() == expected);
     }
 
     /// The constructor with a region and a type.
@@ -391,9 +408,9 @@ impl Fixture {
     }
 
     /// Tests that a term is of the store and of the table.
-    fn seen(&self, rt: &impl Abort, x: GenericArg)
-        ensures holds { HoldsArg self.now.cx.nodes x }
-        ensures known { Knows (content_of self.now.cx.nodes self.now.table.entries) (tree_at self.now.cx.nodes x.node) }
+    pub fn seen<T: Stored>(&self, rt: &impl Abort, x: T)
+        ensures holds { Holds T.place self.now.cx.nodes (T.id x) }
+        ensures known { Knows (content_of self.now.cx.nodes self.now.table.entries) (tree_at self.now.cx.nodes (T.id x)) }
     {
         assert!(rt; self.cx.holds(x));
         assert!(rt; self.table.knows(&self.cx, x).expect(rt, "memory"));
@@ -413,10 +430,10 @@ impl Fixture {
         self.table.has_alias(&mut self.cx, x).expect(rt, "memory")
     }
 
-    /// Whether a variable has got a value or another root.
-    pub fn changed(&self, rt: &impl Abort, x: GenericArg) -> bool {
+    /// Sees whether a variable has got a value or another root.
+    pub fn changed(&self, rt: &impl Abort, x: GenericArg, expected: bool) {
         assert!(rt; self.cx.holds(x));
-        self.table.is_changed_arg(&self.cx, x)
+        assert!(rt; self.table.is_changed_arg(&self.cx, x) == expected);
     }
 
     /// Makes two arguments one, with aliases as they stand.
@@ -453,7 +470,7 @@ impl Fixture {
             return false;
         }
         let goals = found.expect(rt, "memory");
-        assert_eq!(rt; goals.len(), 0);
+        assert!(rt; goals.len() == 0);
         true
     }
 
@@ -500,12 +517,6 @@ impl Fixture {
         }
     }
 
-    /// A variable of the table.
-    pub fn variable(&self, rt: &impl Abort, n: usize) -> Variable {
-        assert!(rt; n < self.table.variable_count());
-        self.table.variable(n)
-    }
-
     /// A constraint of the table.
     pub fn constraint(&self, rt: &impl Abort, n: usize) -> Constraint {
         assert!(rt; n < self.table.constraint_count());
@@ -514,25 +525,26 @@ impl Fixture {
 
     /// Sees that a variable has that state and universe.
     pub fn has(&self, rt: &impl Abort, n: usize, universe: u32, state: State) {
-        let variable = self.variable(rt, n);
+        let variable = variable_of(rt, &self.table, n);
         assert!(rt; variable.state == state);
-        assert_eq!(rt; variable.universe, universe);
+        assert!(rt; variable.universe == universe);
     }
 
-    /// Whether two variables are of one sub-unification class.
-    pub fn shares(&self, rt: &impl Abort, x: usize, y: usize) -> bool
+    /// Sees whether two variables are of one sub-unification class.
+    pub fn shares(&self, rt: &impl Abort, x: usize, y: usize, expected: bool)
         requires { IsTable self.now.cx.nodes self.now.table }
     {
         assert!(rt; x < self.table.variable_count());
         assert!(rt; y < self.table.variable_count());
         let x_root = self.table.sub_unification_table_root_var(x);
-        x_root == self.table.sub_unification_table_root_var(y)
+        let y_root = self.table.sub_unification_table_root_var(y);
+        assert!(rt; (x_root == y_root) == expected);
     }
 
     /// Sees how many variables and constraints the table has.
     pub fn counts(&self, rt: &impl Abort, variables: usize, constraints: usize) {
-        assert_eq!(rt; self.table.variable_count(), variables);
-        assert_eq!(rt; self.table.constraint_count(), constraints);
+        assert!(rt; self.table.variable_count() == variables);
+        assert!(rt; self.table.constraint_count() == constraints);
     }
 
     /// Sees that a term is another one, with values and roots in place of variables.
@@ -541,10 +553,7 @@ impl Fixture {
         ensures { IsTable self.new.cx.nodes self.new.table }
     {
         self.seen(rt, x);
-        let found = self
-            .table
-            .resolve_vars_if_possible(&mut self.cx, x)
-            .expect(rt, "memory");
-        assert!(rt; found == y);
+        let found = self.table.resolve_vars_if_possible(&mut self.cx, x);
+        assert!(rt; found.expect(rt, "memory") == y);
     }
 }

@@ -1,9 +1,13 @@
 //! Variables of integers, floats and consts, and hidden types.
+ghost use Rattle.std.specs.Prelude.{◌≡◌, []};
+ghost use Rattle.nts_table.specs.Tables.{IsTable};
+
 use crate::fixture::Fixture;
 use nts_model::{FloatTy, IntTy, UintTy};
 use nts_table::InferCtxt;
-use nts_terms::{AliasDefId, ConstKind, Cx, TyKind, TypingMode};
+use nts_terms::{AliasDefId, AliasId, ConstKind, Cx, Ty, TyKind, TypingMode};
 use nts_unify::State;
+use std::process::Abort;
 
 #[test]
 fn integers(rt: HostRuntime) {
@@ -73,29 +77,35 @@ fn integers_of_two_types(rt: HostRuntime) {
 fn shallow(rt: HostRuntime) {
     let mut cx = Cx::new(rt.alloc());
     let mut table = InferCtxt::new(rt.alloc(), TypingMode::PostAnalysis);
-    let hole = table.next_ty_infer(&mut cx).expect(&rt, "memory");
-    let same = table.shallow_resolve(&mut cx, hole).expect(&rt, "memory");
+    see_shallow(&rt, &mut cx, &mut table);
+}
+
+/// Variables of four kinds, each of which stands for itself.
+fn see_shallow(rt: &impl Abort, cx: &mut Cx, table: &mut InferCtxt)
+    requires table { IsTable cx.old.nodes table.old }
+    requires empty { table.old.entries ≡ record { variables = []; order = []; universe = 0; constraints = []; hidden = record { lookup = []; duplicates = [] } } }
+{
+    let hole = table.next_ty_infer(cx).expect(rt, "memory");
+    let same = table.shallow_resolve(cx, hole).expect(rt, "memory");
     assert!(rt; cx.same(same, hole));
-    let number = table.next_int_infer(&mut cx).expect(&rt, "memory");
+    let number = table.next_int_infer(cx).expect(rt, "memory");
     let root = table
-        .opportunistic_resolve_int_var(&mut cx, 1)
-        .expect(&rt, "memory");
+        .opportunistic_resolve_int_var(cx, 1)
+        .expect(rt, "memory");
     assert!(rt; cx.same(root, number));
-    let real = table.next_float_infer(&mut cx).expect(&rt, "memory");
+    let real = table.next_float_infer(cx).expect(rt, "memory");
     let root = table
-        .opportunistic_resolve_float_var(&mut cx, 2)
-        .expect(&rt, "memory");
+        .opportunistic_resolve_float_var(cx, 2)
+        .expect(rt, "memory");
     assert!(rt; cx.same(root, real));
-    let size = table.next_const_infer(&mut cx).expect(&rt, "memory");
-    assert_eq!(rt; table.root_const_var(3), 3);
+    let size = table.next_const_infer(cx).expect(rt, "memory");
+    assert!(rt; table.root_const_var(3) == 3);
     assert!(rt; table.universe_of_ct(3) == Some(0));
     let root = table
-        .opportunistic_resolve_ct_var(&mut cx, 3)
-        .expect(&rt, "memory");
+        .opportunistic_resolve_ct_var(cx, 3)
+        .expect(rt, "memory");
     assert!(rt; cx.same(root, size));
-    let root = table
-        .shallow_resolve_const(&mut cx, size)
-        .expect(&rt, "memory");
+    let root = table.shallow_resolve_const(cx, size).expect(rt, "memory");
     assert!(rt; cx.same(root, size));
 }
 
@@ -116,12 +126,11 @@ fn hidden_types(rt: HostRuntime) {
     let alias = fixture.opaque(&rt);
     let byte = fixture.uint(&rt, UintTy::U8);
     let word = fixture.uint(&rt, UintTy::U32);
-    assert_eq!(rt; fixture.table.num_opaque_types(), 0);
-    assert!(rt; fixture.hide(&rt, alias, byte).is_none());
-    assert_eq!(rt; fixture.table.num_opaque_types(), 1);
-    assert!(rt; fixture.hide(&rt, alias, word) == Some(byte));
-    assert_eq!(rt; fixture.table.num_opaque_types(), 1);
-    assert!(rt; fixture.table.hidden_type(0).ty == word);
+    fixture.hidden(&rt, &[]);
+    fixture.hide(&rt, alias, byte, None);
+    fixture.hidden(&rt, &[byte]);
+    fixture.hide(&rt, alias, word, Some(byte));
+    fixture.hidden(&rt, &[word]);
 }
 
 #[test]
@@ -130,18 +139,13 @@ fn duplicates_of_hidden_types(rt: HostRuntime) {
     let alias = fixture.opaque(&rt);
     let byte = fixture.uint(&rt, UintTy::U8);
     let word = fixture.uint(&rt, UintTy::U32);
-    fixture.hide(&rt, alias, byte);
+    fixture.hide(&rt, alias, byte, None);
     fixture.hide_beside(&rt, alias, word);
     let snapshot = fixture.table.start_snapshot().expect(&rt, "memory");
     fixture.hide_beside(&rt, alias, byte);
-    let duplicates = fixture.duplicates(&rt);
-    assert_eq!(rt; duplicates.len(), 2);
-    assert!(rt; duplicates[0].1 == word);
-    assert!(rt; duplicates[1].1 == byte);
+    fixture.duplicates(&rt, &[word, byte]);
     fixture.table.rollback_to(snapshot);
-    let duplicates = fixture.duplicates(&rt);
-    assert_eq!(rt; duplicates.len(), 1);
-    assert!(rt; duplicates[0].1 == word);
+    fixture.duplicates(&rt, &[word]);
 }
 
 #[test]
@@ -150,18 +154,17 @@ fn lists_of_hidden_types(rt: HostRuntime) {
     let alias = fixture.opaque(&rt);
     let byte = fixture.uint(&rt, UintTy::U8);
     let word = fixture.uint(&rt, UintTy::U32);
-    fixture.hide(&rt, alias, byte);
+    fixture.hide(&rt, alias, byte, None);
     fixture.hide_beside(&rt, alias, word);
-    let lookup = fixture
-        .table
-        .clone_opaque_types_lookup_table()
-        .expect(&rt, "memory");
-    assert_eq!(rt; lookup.len(), 1);
-    assert!(rt; lookup[0].0.def_id == AliasDefId::Ty(alias));
-    assert!(rt; lookup[0].1 == byte);
-    let all = fixture.hidden_since(&rt, 0);
-    assert_eq!(rt; all.len(), 1);
-    assert!(rt; all[0].1 == byte);
-    assert!(rt; fixture.hidden_since(&rt, 1).is_empty());
-    assert!(rt; fixture.hidden_since(&rt, 7).is_empty());
+    see_lookup(&rt, &fixture.table, alias, byte);
+    fixture.hidden_since(&rt, 0, &[byte]);
+    fixture.hidden_since(&rt, 1, &[]);
+    fixture.hidden_since(&rt, 7, &[]);
+}
+
+/// The one hidden type of a table, with its alias.
+fn see_lookup(rt: &impl Abort, table: &InferCtxt, alias: AliasId, ty: Ty) {
+    let lookup = table.clone_opaque_types_lookup_table().expect(rt, "memory");
+    assert!(rt; lookup.len() == 1);
+    assert!(rt; lookup[0].0.def_id == AliasDefId::Ty(alias) && lookup[0].1 == ty);
 }

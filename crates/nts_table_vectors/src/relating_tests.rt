@@ -5,7 +5,17 @@ use nts_terms::{
     BoundRegion, Const, ConstKind, GenericArg, PlaceholderRegion, Region, RegionKind, Span, Term,
     TyKind,
 };
-use nts_unify::State;
+use nts_unify::{Constraint, State};
+
+/// That two regions are equal, as the leak check sees it.
+fn equal(left: GenericArg, right: GenericArg) -> Constraint {
+    Constraint {
+        relation: Relation::Equal,
+        left: left.node,
+        right: right.node,
+        is_visible: true,
+    }
+}
 
 #[test]
 fn one_node(rt: HostRuntime) {
@@ -99,19 +109,15 @@ fn free_regions(rt: HostRuntime) {
     fixture.counts(&rt, 0, 0);
     fixture.relates(&rt, fixed, named);
     fixture.counts(&rt, 0, 1);
-    let first = fixture.constraint(&rt, 0);
-    assert!(rt; first.relation == Relation::Equal);
-    assert!(rt; first.left == fixed.node);
-    assert!(rt; first.right == named.node);
-    assert!(rt; first.is_visible);
+    assert!(rt; fixture.constraint(&rt, 0) == equal(fixed, named));
 }
 
 #[test]
 fn region_variables(rt: HostRuntime) {
     let mut fixture = Fixture::new(&rt, rt.alloc());
-    let low = fixture.region_var(&rt);
+    let low = fixture.region_infer(&rt).into();
     fixture.universe(&rt);
-    let high = fixture.region_var(&rt);
+    let high = fixture.region_infer(&rt).into();
     fixture.relates(&rt, high, low);
     fixture.has(&rt, 0, 0, State::Unset);
     fixture.has(&rt, 1, 1, State::Link(0));
@@ -122,9 +128,7 @@ fn region_variables(rt: HostRuntime) {
     fixture.relates(&rt, high, fixed);
     fixture.has(&rt, 0, 0, State::Unset);
     fixture.counts(&rt, 2, 1);
-    let first = fixture.constraint(&rt, 0);
-    assert!(rt; first.left == high.node);
-    assert!(rt; first.right == fixed.node);
+    assert!(rt; fixture.constraint(&rt, 0) == equal(high, fixed));
 }
 
 #[test]
@@ -151,14 +155,14 @@ fn sub_roots(rt: HostRuntime) {
     let value = fixture.wrap(&rt, high);
     fixture.relates(&rt, low, value);
     fixture.counts(&rt, 4, 0);
-    assert!(rt; fixture.shares(&rt, 1, 3));
-    assert!(rt; !fixture.shares(&rt, 0, 1));
-    assert!(rt; !fixture.shares(&rt, 1, 2));
+    fixture.shares(&rt, 1, 3, true);
+    fixture.shares(&rt, 0, 1, false);
+    fixture.shares(&rt, 1, 2, false);
     fixture.relates(&rt, other, high);
-    assert!(rt; fixture.shares(&rt, 1, 2));
-    assert!(rt; fixture.shares(&rt, 2, 3));
-    assert!(rt; !fixture.shares(&rt, 0, 2));
-    assert_eq!(rt; fixture.table.universe(), 1);
+    fixture.shares(&rt, 1, 2, true);
+    fixture.shares(&rt, 2, 3, true);
+    fixture.shares(&rt, 0, 2, false);
+    assert!(rt; fixture.table.universe() == 1);
 }
 
 #[test]
@@ -174,11 +178,9 @@ fn generalized_region(rt: HostRuntime) {
     fixture.relates(&rt, value, low);
     fixture.counts(&rt, 2, 1);
     fixture.has(&rt, 1, 0, State::Unset);
-    let first = fixture.constraint(&rt, 0);
-    assert!(rt; first.relation == Relation::Equal);
-    assert!(rt; first.right == region.node);
-    assert!(rt; first.is_visible);
-    let fresh = GenericArg { node: first.left };
+    let node = fixture.constraint(&rt, 0).left;
+    let fresh = GenericArg { node };
+    assert!(rt; fixture.constraint(&rt, 0) == equal(fresh, region));
     let named = fixture.reference(&rt, fresh, byte);
     fixture.has(&rt, 0, 0, State::Known(named.node));
 }
@@ -207,13 +209,7 @@ fn regions_alone(rt: HostRuntime) {
     let mut fixture = Fixture::new(&rt, rt.alloc());
     let node = fixture.region(&rt, RegionKind::ReStatic).node;
     let region = Region { node };
-    assert!(rt; fixture.cx.holds(region));
-    assert!(rt;
-        fixture
-            .table
-            .knows(&fixture.cx, region)
-            .expect(&rt, "memory")
-    );
+    fixture.seen(&rt, region);
     let (cx, table) = (&mut fixture.cx, &mut fixture.table);
     table
         .eq_structurally_relating_aliases(cx, fixture.env, region, region, Span(0))
@@ -225,8 +221,7 @@ fn consts_alone(rt: HostRuntime) {
     let mut fixture = Fixture::new(&rt, rt.alloc());
     let node = fixture.konst(&rt, ConstKind::Param(0)).node;
     let size = Const { node };
-    assert!(rt; fixture.cx.holds(size));
-    assert!(rt; fixture.table.knows(&fixture.cx, size).expect(&rt, "memory"));
+    fixture.seen(&rt, size);
     let (cx, table) = (&mut fixture.cx, &mut fixture.table);
     table
         .eq_structurally_relating_aliases(cx, fixture.env, size, size, Span(0))
@@ -238,8 +233,7 @@ fn terms_alone(rt: HostRuntime) {
     let mut fixture = Fixture::new(&rt, rt.alloc());
     let node = fixture.konst(&rt, ConstKind::Param(0)).node;
     let term = Term { node };
-    assert!(rt; fixture.cx.holds(term));
-    assert!(rt; fixture.table.knows(&fixture.cx, term).expect(&rt, "memory"));
+    fixture.seen(&rt, term);
     let (cx, table) = (&mut fixture.cx, &mut fixture.table);
     table
         .eq_structurally_relating_aliases(cx, fixture.env, term, term, Span(0))
