@@ -5,7 +5,9 @@ use nts_canonical::CanonicalVarKind;
 use nts_delegate::RegionConstraint;
 use nts_model::{Relation, Sort, UintTy, VariableKind};
 use nts_store::EvalError;
-use nts_terms::{AliasKind, BoundTy, PlaceholderType, Region, Ty, VisibleForLeakCheck};
+use nts_table::InferCtxt;
+use nts_terms::{AliasKind, BoundTy, GenericArg, PlaceholderType, Region, Ty, VisibleForLeakCheck};
+use std::process::Abort;
 
 /// The kind of a type variable of the root, with that sub root.
 fn ty_kind(sub_root: usize) -> CanonicalVarKind {
@@ -20,12 +22,10 @@ fn a_position_twice_makes_two_variables_one(rt: HostRuntime) {
     let z = fixture.var(&rt, VariableKind::Ty);
     let position = fixture.ty_at(&rt, 0);
     let response = fixture.response(&rt, 0, &[ty_kind(0)], &[position, position]);
-    let goals = fixture
-        .apply(&rt, &[x, y], &response)
-        .expect(&rt, "applied");
-    assert!(rt; goals.is_empty());
-    assert!(rt; fixture.resolved(&rt, x) == fixture.resolved(&rt, y));
-    assert!(rt; fixture.resolved(&rt, z) == z);
+    fixture.applies(&rt, &[x, y], &response);
+    let value = fixture.resolved(&rt, y);
+    fixture.resolves(&rt, x, value);
+    fixture.resolves(&rt, z, z);
 }
 
 #[test]
@@ -35,10 +35,9 @@ fn kinds_without_values_and_odd_sub_roots(rt: HostRuntime) {
     let byte = fixture.uint(&rt, UintTy::U8);
     let kinds = [ty_kind(0), ty_kind(7), CanonicalVarKind::Int, ty_kind(1)];
     let response = fixture.response(&rt, 0, &kinds, &[byte]);
-    let goals = fixture.apply(&rt, &[x], &response).expect(&rt, "applied");
-    assert!(rt; goals.is_empty());
-    assert!(rt; fixture.resolved(&rt, x) == byte);
-    assert_eq!(rt; fixture.table.variable_count(), 5);
+    fixture.applies(&rt, &[x], &response);
+    fixture.resolves(&rt, x, byte);
+    fixture.counts(&rt, 5);
 }
 
 #[test]
@@ -51,14 +50,11 @@ fn variables_of_one_sub_root_are_of_one_class(rt: HostRuntime) {
     let third = fixture.ty_at(&rt, 2);
     let kinds = [ty_kind(0), ty_kind(0), ty_kind(2)];
     let response = fixture.response(&rt, 0, &kinds, &[first, second, third]);
-    let goals = fixture
-        .apply(&rt, &[x, y, z], &response)
-        .expect(&rt, "applied");
-    assert!(rt; goals.is_empty());
-    assert_eq!(rt; fixture.sub_root(&rt, 0), fixture.sub_root(&rt, 1));
-    assert!(rt; fixture.sub_root(&rt, 0) != fixture.sub_root(&rt, 2));
-    assert!(rt; fixture.resolved(&rt, x) == x);
-    assert!(rt; fixture.resolved(&rt, y) == y);
+    fixture.applies(&rt, &[x, y, z], &response);
+    let root = fixture.sub_root(&rt, 0);
+    assert!(rt; root == fixture.sub_root(&rt, 1) && root != fixture.sub_root(&rt, 2));
+    fixture.resolves(&rt, x, x);
+    fixture.resolves(&rt, y, y);
 }
 
 #[test]
@@ -67,9 +63,8 @@ fn an_original_of_the_kind_is_guessed(rt: HostRuntime) {
     let x = fixture.var(&rt, VariableKind::Int);
     let position = fixture.ty_at(&rt, 0);
     let response = fixture.response(&rt, 0, &[CanonicalVarKind::Int], &[position]);
-    let goals = fixture.apply(&rt, &[x], &response).expect(&rt, "applied");
-    assert!(rt; goals.is_empty());
-    assert_eq!(rt; fixture.table.variable_count(), 1);
+    fixture.applies(&rt, &[x], &response);
+    fixture.counts(&rt, 1);
 }
 
 #[test]
@@ -83,10 +78,9 @@ fn a_placeholder_that_the_original_cannot_name(rt: HostRuntime) {
     let position = fixture.ty_at(&rt, 0);
     let kinds = [CanonicalVarKind::PlaceholderTy(placeholder)];
     let response = fixture.response(&rt, 1, &kinds, &[position]);
-    let refused = fixture.apply(&rt, &[x], &response);
-    assert!(rt; matches!(refused, Err(EvalError::NoSolution)));
-    assert_eq!(rt; fixture.table.universe(), 0);
-    assert!(rt; fixture.resolved(&rt, x) == x);
+    fixture.refuses(&rt, &[x], &response, EvalError::NoSolution);
+    fixture.in_universe(&rt, 0);
+    fixture.resolves(&rt, x, x);
 }
 
 #[test]
@@ -94,13 +88,11 @@ fn more_universes_than_there_are(rt: HostRuntime) {
     let mut fixture = Fixture::new(&rt, rt.alloc());
     fixture.table.create_universes(1).expect(&rt, "memory");
     let response = fixture.response(&rt, 4_294_967_295, &[], &[]);
-    let refused = fixture.apply(&rt, &[], &response);
-    assert!(rt; matches!(refused, Err(EvalError::Full)));
-    assert_eq!(rt; fixture.table.universe(), 1);
+    fixture.refuses(&rt, &[], &response, EvalError::Full);
+    fixture.in_universe(&rt, 1);
     let response = fixture.response(&rt, 4_294_967_294, &[], &[]);
-    let goals = fixture.apply(&rt, &[], &response).expect(&rt, "applied");
-    assert!(rt; goals.is_empty());
-    assert_eq!(rt; fixture.table.universe(), 4_294_967_295);
+    fixture.applies(&rt, &[], &response);
+    fixture.in_universe(&rt, 4_294_967_295);
 }
 
 #[test]
@@ -110,10 +102,9 @@ fn a_last_value_that_does_not_match(rt: HostRuntime) {
     let byte = fixture.uint(&rt, UintTy::U8);
     let word = fixture.uint(&rt, UintTy::U32);
     let response = fixture.response(&rt, 0, &[ty_kind(0)], &[byte, byte]);
-    let refused = fixture.apply(&rt, &[x, word], &response);
-    assert!(rt; matches!(refused, Err(EvalError::NoSolution)));
-    assert!(rt; fixture.resolved(&rt, x) == x);
-    assert_eq!(rt; fixture.table.variable_count(), 1);
+    fixture.refuses(&rt, &[x, word], &response, EvalError::NoSolution);
+    fixture.resolves(&rt, x, x);
+    fixture.counts(&rt, 1);
 }
 
 #[test]
@@ -122,9 +113,8 @@ fn a_position_of_another_sort(rt: HostRuntime) {
     let x = fixture.var(&rt, VariableKind::Ty);
     let position = fixture.const_at(&rt, 0);
     let response = fixture.response(&rt, 0, &[CanonicalVarKind::Const(0)], &[position]);
-    let refused = fixture.apply(&rt, &[x], &response);
-    assert!(rt; matches!(refused, Err(EvalError::NoSolution)));
-    assert!(rt; fixture.resolved(&rt, x) == x);
+    fixture.refuses(&rt, &[x], &response, EvalError::NoSolution);
+    fixture.resolves(&rt, x, x);
 }
 
 #[test]
@@ -145,15 +135,17 @@ fn the_leak_check_sees_what_the_query_showed(rt: HostRuntime) {
     constraints
         .push((outlives, VisibleForLeakCheck::No))
         .expect(&rt, "memory");
-    let goals = fixture
-        .apply(&rt, &[a, b], &response)
-        .expect(&rt, "applied");
-    assert!(rt; goals.is_empty());
-    assert_eq!(rt; fixture.table.variable_count(), 2);
-    assert_eq!(rt; fixture.table.constraint_count(), 1);
-    let recorded = fixture.table.constraint(0);
-    assert!(rt; recorded.left == a.node);
-    assert!(rt; recorded.right == b.node);
+    fixture.applies(&rt, &[a, b], &response);
+    fixture.counts(&rt, 2);
+    see_recorded(&rt, &fixture.table, a, b);
+}
+
+/// The one constraint of a table, which the leak check does not see.
+fn see_recorded(rt: &impl Abort, table: &InferCtxt, left: GenericArg, right: GenericArg) {
+    assert!(rt; table.constraint_count() == 1);
+    let recorded = table.constraint(0);
+    assert!(rt; recorded.left == left.node);
+    assert!(rt; recorded.right == right.node);
     assert!(rt; !recorded.is_visible);
 }
 
@@ -174,14 +166,14 @@ fn a_hidden_type_that_gives_place_becomes_a_duplicate(rt: HostRuntime) {
     hidden
         .push((key, Ty { node: byte.node }))
         .expect(&rt, "memory");
-    let goals = fixture.apply(&rt, &[], &response).expect(&rt, "applied");
-    assert!(rt; goals.is_empty());
-    assert_eq!(rt; fixture.table.num_opaque_types(), 1);
-    assert!(rt; fixture.table.hidden_type(0).ty.node == byte.node);
-    let duplicates = fixture
-        .table
-        .clone_duplicate_opaque_types()
-        .expect(&rt, "memory");
-    assert_eq!(rt; duplicates.len(), 1);
-    assert!(rt; duplicates[0].1.node == a.node);
+    fixture.applies(&rt, &[], &response);
+    see_hidden(&rt, &fixture.table, byte, a);
+}
+
+/// The one hidden type of a table, and its one duplicate.
+fn see_hidden(rt: &impl Abort, table: &InferCtxt, hidden: GenericArg, duplicate: GenericArg) {
+    assert!(rt; table.num_opaque_types() == 1);
+    assert!(rt; table.hidden_type(0).ty.node == hidden.node);
+    let duplicates = table.clone_duplicate_opaque_types().expect(rt, "memory");
+    assert!(rt; duplicates.len() == 1 && duplicates[0].1.node == duplicate.node);
 }

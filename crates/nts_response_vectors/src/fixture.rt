@@ -114,8 +114,37 @@ impl Fixture {
         }
     }
 
+    /// Sees that a response that fits these originals is applied, and leaves no goals.
+    pub fn applies(
+        &mut self,
+        rt: &impl Abort,
+        originals: &[GenericArg],
+        response: &CanonicalResponse,
+    )
+        requires { IsTable self.old.cx.nodes self.old.table }
+        ensures { IsTable self.new.cx.nodes self.new.table }
+    {
+        let goals = self.apply(rt, originals, response).expect(rt, "applied");
+        assert!(rt; goals.is_empty());
+    }
+
+    /// Sees that a response that fits these originals is refused so.
+    pub fn refuses(
+        &mut self,
+        rt: &impl Abort,
+        originals: &[GenericArg],
+        response: &CanonicalResponse,
+        error: EvalError,
+    )
+        requires { IsTable self.old.cx.nodes self.old.table }
+        ensures { IsTable self.new.cx.nodes self.new.table }
+    {
+        let goals = self.apply(rt, originals, response);
+        assert!(rt; goals.err() == Some(error));
+    }
+
     /// Applies a response that fits these originals.
-    pub fn apply(
+    fn apply(
         &mut self,
         rt: &impl Abort,
         originals: &[GenericArg],
@@ -216,6 +245,24 @@ impl Fixture {
     {
         assert!(rt; n < self.table.variable_count());
         self.table.sub_unification_table_root_var(n)
+    }
+
+    /// Sees how many variables the table has.
+    pub fn counts(&self, rt: &impl Abort, variables: usize) {
+        assert!(rt; self.table.variable_count() == variables);
+    }
+
+    /// Sees that this is the current universe.
+    pub fn in_universe(&self, rt: &impl Abort, universe: UniverseIndex) {
+        assert!(rt; self.table.universe() == universe);
+    }
+
+    /// Sees that an argument is another one, with values in place of its variables.
+    pub fn resolves(&mut self, rt: &impl Abort, x: GenericArg, y: GenericArg)
+        requires { IsTable self.old.cx.nodes self.old.table }
+        ensures { IsTable self.new.cx.nodes self.new.table }
+    {
+        assert!(rt; self.resolved(rt, x) == y);
     }
 
     /// An argument with values in place of its variables.

@@ -1,8 +1,11 @@
 //! Whether responses are one, case by case.
+ghost use Rattle.nts_response.specs.Forms.{HoldsResponse};
+
 use nts_canonical::CanonicalVarKind;
 use nts_certainty::Certainty;
-use nts_response::{clone_response, response_no_constraints_raw, same_response};
+use nts_response::{CanonicalResponse, clone_response, response_no_constraints_raw, same_response};
 use nts_terms::Cx;
+use std::process::Abort;
 
 #[test]
 fn a_response_is_itself_and_its_clone_and_no_other_one(rt: HostRuntime) {
@@ -12,15 +15,24 @@ fn a_response_is_itself_and_its_clone_and_no_other_one(rt: HostRuntime) {
     kinds.push(kind).expect(&rt, "memory");
     let response = response_no_constraints_raw(&mut cx, 1, kinds, Certainty::Yes);
     let response = response.expect(&rt, "memory");
-    assert!(rt; same_response(&cx, &response, &response));
     let mut copy = clone_response(&response).expect(&rt, "memory");
-    assert!(rt; same_response(&cx, &response, &copy));
+    see_copies(&rt, &cx, &response, &mut copy);
+}
+
+/// A response and its clone, which is changed.
+fn see_copies(rt: &impl Abort, cx: &Cx, response: &CanonicalResponse, copy: &mut CanonicalResponse)
+    requires response { HoldsResponse cx.now.nodes response.now.value }
+    requires copy { HoldsResponse cx.now.nodes copy.old.value }
+{
+    assert!(rt; same_response(cx, response, response));
+    assert!(rt; same_response(cx, response, copy));
     copy.max_universe = 2;
-    assert!(rt; !same_response(&cx, &response, &copy));
+    assert!(rt; !same_response(cx, response, copy));
     copy.max_universe = 1;
     copy.value.certainty = Certainty::AMBIGUOUS;
-    assert!(rt; !same_response(&cx, &copy, &response));
+    assert!(rt; !same_response(cx, copy, response));
     copy.value.certainty = Certainty::Yes;
+    assert!(rt; copy.var_kinds.len() == 1);
     copy.var_kinds[0] = CanonicalVarKind::Ty { ui: 1, sub_root: 0 };
-    assert!(rt; !same_response(&cx, &response, &copy));
+    assert!(rt; !same_response(cx, response, copy));
 }

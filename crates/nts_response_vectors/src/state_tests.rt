@@ -3,7 +3,10 @@
 use crate::fixture::Fixture;
 use nts_canonical::CanonicalVarKind;
 use nts_model::{UintTy, VariableKind};
+use nts_response::CanonicalState;
 use nts_store::EvalError;
+use nts_terms::GenericArg;
+use std::process::Abort;
 
 /// The kind of a type variable of the root.
 fn ty_kind() -> CanonicalVarKind {
@@ -20,10 +23,17 @@ fn a_value_without_an_original_gets_one(rt: HostRuntime) {
     let payload = fixture
         .instantiate(&rt, &mut originals, &[ty_kind()], &[word, position], 1)
         .expect(&rt, "instantiated");
-    assert_eq!(rt; originals.len(), 2);
-    assert!(rt; originals[0] == word);
-    assert!(rt; originals[1] != word);
-    assert!(rt; fixture.resolved(&rt, originals[1]) == fixture.resolved(&rt, payload));
+    let made = second(&rt, &originals, word);
+    let value = fixture.resolved(&rt, payload);
+    fixture.resolves(&rt, made, value);
+}
+
+/// The second of two originals, which is not the first one.
+fn second(rt: &impl Abort, originals: &[GenericArg], first: GenericArg) -> GenericArg {
+    assert!(rt; originals.len() == 2);
+    assert!(rt; originals[0] == first);
+    assert!(rt; originals[1] != first);
+    originals[1]
 }
 
 #[test]
@@ -35,11 +45,10 @@ fn a_refused_state_leaves_all_as_before(rt: HostRuntime) {
     let mut originals = Vec::new(rt.alloc());
     originals.push(byte).expect(&rt, "memory");
     let refused = fixture.instantiate(&rt, &mut originals, &[ty_kind()], &[word, position], 1);
-    assert!(rt; matches!(refused, Err(EvalError::NoSolution)));
-    assert_eq!(rt; originals.len(), 1);
-    assert!(rt; originals[0] == byte);
-    assert_eq!(rt; fixture.table.variable_count(), 0);
-    assert_eq!(rt; fixture.table.universe(), 0);
+    let before = originals.as_slice() == [byte].as_slice();
+    fixture.counts(&rt, 0);
+    fixture.in_universe(&rt, 0);
+    assert!(rt; before && matches!(refused, Err(EvalError::NoSolution)));
 }
 
 #[test]
@@ -48,11 +57,13 @@ fn equal_leaves_of_a_state_are_one_position(rt: HostRuntime) {
     let x = fixture.var(&rt, VariableKind::Ty);
     let first = fixture.ty_at(&rt, 0);
     let second = fixture.ty_at(&rt, 1);
-    let same = fixture.state(&rt, x, x);
-    assert!(rt; same.value.payload == first);
-    assert_eq!(rt; same.var_kinds.len(), 1);
+    has(&rt, &fixture.state(&rt, x, x), first, 1);
     let y = fixture.var(&rt, VariableKind::Ty);
-    let other = fixture.state(&rt, x, y);
-    assert!(rt; other.value.payload == second);
-    assert_eq!(rt; other.var_kinds.len(), 2);
+    has(&rt, &fixture.state(&rt, x, y), second, 2);
+}
+
+/// Sees the payload of a state, and how many kinds it has.
+fn has(rt: &impl Abort, state: &CanonicalState<GenericArg>, payload: GenericArg, kinds: usize) {
+    assert!(rt; state.value.payload == payload);
+    assert!(rt; state.var_kinds.len() == kinds);
 }

@@ -1,6 +1,7 @@
 //! Responses as canonical values, case by case.
 ghost use Rattle.std.specs.Prelude.{◌≡◌};
 ghost use Rattle.nts_table.specs.Tables.{IsTable};
+ghost use Rattle.nts_response.specs.Forms.{HoldsResponse};
 
 use crate::fixture::Fixture;
 use nts_canonical::CanonicalVarKind;
@@ -81,7 +82,7 @@ fn region(rt: &impl Abort, cx: &mut Cx, table: &InferCtxt, kind: RegionKind) -> 
 /// The response has these two values, which are types.
 fn has_positions(rt: &impl Abort, cx: &mut Cx, response: &CanonicalResponse, positions: &[usize]) {
     let values = &response.value.var_values;
-    assert_eq!(rt; values.len(), positions.len());
+    assert!(rt; values.len() == positions.len());
     for i in 0..positions.len() {
         let var = positions[i];
         let kind = TyKind::Bound(BoundVarIndexKind::Canonical, BoundTy { var });
@@ -108,11 +109,16 @@ fn universes_are_counted_from_the_greatest_of_the_input(rt: HostRuntime) {
     };
     let found = response(&rt, &table, &mut cx, far, near, trivial);
     has_positions(&rt, &mut cx, &found, &[0, 1]);
-    assert_eq!(rt; found.max_universe, 1);
-    assert_eq!(rt; found.var_kinds.len(), 2);
-    let far_kind = *found.var_kinds.get(0).expect(&rt, "a kind");
+    see_far_and_near(&rt, &found);
+}
+
+/// The far variable is of the universe after the greatest of the input, and the near one of the root.
+fn see_far_and_near(rt: &impl Abort, found: &CanonicalResponse) {
+    assert!(rt; found.max_universe == 1);
+    assert!(rt; found.var_kinds.len() == 2);
+    let far_kind = *found.var_kinds.get(0).expect(rt, "a kind");
     assert!(rt; matches!(far_kind, CanonicalVarKind::Ty { ui: 1, sub_root: 0 }));
-    let near_kind = *found.var_kinds.get(1).expect(&rt, "a kind");
+    let near_kind = *found.var_kinds.get(1).expect(rt, "a kind");
     assert!(rt; matches!(near_kind, CanonicalVarKind::Ty { ui: 0, sub_root: 1 }));
     assert!(rt; matches!(found.value.certainty, Certainty::Yes));
 }
@@ -137,22 +143,32 @@ fn equal_leaves_have_one_position_and_static_has_none(rt: HostRuntime) {
     };
     let found = response(&rt, &table, &mut cx, x, x, outlives);
     has_positions(&rt, &mut cx, &found, &[0, 0]);
-    assert_eq!(rt; found.max_universe, 1);
-    assert_eq!(rt; found.var_kinds.len(), 2);
-    let kind = *found.var_kinds.get(1).expect(&rt, "a kind");
+    see_placeholder(&rt, &found);
+    see_outlives(&rt, &mut cx, &found, fixed);
+}
+
+/// The second position is the placeholder, of the universe after the greatest of the input.
+fn see_placeholder(rt: &impl Abort, found: &CanonicalResponse) {
+    assert!(rt; found.max_universe == 1);
+    assert!(rt; found.var_kinds.len() == 2);
+    let kind = *found.var_kinds.get(1).expect(rt, "a kind");
     match kind {
         CanonicalVarKind::PlaceholderRegion(p) => {
-            assert_eq!(rt; p.universe, 1);
-            assert_eq!(rt; p.bound.var, 7);
+            assert!(rt; p.universe == 1);
+            assert!(rt; p.bound.var == 7);
         }
         _ => assert!(rt; false),
     }
+}
+
+/// The second position outlives this region, which the leak check does not see.
+fn see_outlives(rt: &impl Abort, cx: &mut Cx, found: &CanonicalResponse, fixed: Region) {
     let constraints = &found.value.external_constraints.region_constraints;
-    assert_eq!(rt; constraints.len(), 1);
+    assert!(rt; constraints.len() == 1);
     assert!(rt; !found.value.external_constraints.is_empty());
-    let (constraint, visible) = *constraints.get(0).expect(&rt, "a constraint");
+    let (constraint, visible) = *constraints.get(0).expect(rt, "a constraint");
     let position = RegionKind::ReBound(BoundVarIndexKind::Canonical, BoundRegion { var: 1 });
-    let position: GenericArg = cx.mk_region(position).expect(&rt, "memory").into();
+    let position: GenericArg = cx.mk_region(position).expect(rt, "memory").into();
     assert!(rt; constraint.left == position);
     assert!(rt; constraint.right == fixed);
     assert!(rt; matches!(constraint.relation, Relation::RegionOutlives));
@@ -172,30 +188,41 @@ fn what_found_nothing_out_has_its_positions_as_values(rt: HostRuntime) {
         .expect(&rt, "memory");
     let certainty = Certainty::overflow(true);
     let found = response_no_constraints_raw(&mut cx, 2, kinds, certainty).expect(&rt, "memory");
-    assert!(rt; has_no_inference_or_external_constraints(&cx, &found));
+    see_nothing_found(&rt, &mut cx, &found);
+}
+
+fn see_nothing_found(rt: &impl Abort, cx: &mut Cx, found: &CanonicalResponse)
+    requires { HoldsResponse cx.old.nodes found.now.value }
+{
+    assert!(rt; has_no_inference_or_external_constraints(cx, found));
     assert!(rt; found.value.external_constraints.is_empty());
-    assert_eq!(rt; found.max_universe, 2);
-    assert_eq!(rt; found.var_kinds.len(), 3);
+    assert!(rt; found.max_universe == 2);
+    assert!(rt; found.var_kinds.len() == 3);
     assert!(rt; matches!(found.value.certainty, Certainty::Maybe(_)));
     let values = &found.value.var_values;
-    assert_eq!(rt; values.len(), 3);
+    assert!(rt; values.len() == 3);
     let second = TyKind::Bound(BoundVarIndexKind::Canonical, BoundTy { var: 1 });
-    let second: GenericArg = cx.mk_ty(second).expect(&rt, "memory").into();
-    assert!(rt; *values.get(1).expect(&rt, "a value") == second);
+    let second: GenericArg = cx.mk_ty(second).expect(rt, "memory").into();
+    assert!(rt; *values.get(1).expect(rt, "a value") == second);
     let third = RegionKind::ReBound(BoundVarIndexKind::Canonical, BoundRegion { var: 2 });
-    let third: GenericArg = cx.mk_region(third).expect(&rt, "memory").into();
-    assert!(rt; *values.get(2).expect(&rt, "a value") == third);
+    let third: GenericArg = cx.mk_region(third).expect(rt, "memory").into();
+    assert!(rt; *values.get(2).expect(rt, "a value") == third);
 }
 
 #[test]
 fn values_in_another_order_are_no_identity(rt: HostRuntime) {
     let mut fixture = Fixture::new(&rt, rt.alloc());
     let (first, second) = (fixture.ty_at(&rt, 0), fixture.ty_at(&rt, 1));
-    assert!(rt; fixture.cx.holds(first));
-    assert!(rt; fixture.cx.holds(second));
-    assert!(rt; is_identity(&fixture.cx, &[first, second]));
-    assert!(rt; !is_identity(&fixture.cx, &[second, first]));
-    assert!(rt; !is_identity(&fixture.cx, &[first, first]));
+    see_orders(&rt, &fixture.cx, first, second);
+}
+
+/// Two positions in their order, in the other one, and one of them twice.
+fn see_orders(rt: &impl Abort, cx: &Cx, first: GenericArg, second: GenericArg) {
+    assert!(rt; cx.holds(first));
+    assert!(rt; cx.holds(second));
+    assert!(rt; is_identity(cx, &[first, second]));
+    assert!(rt; !is_identity(cx, &[second, first]));
+    assert!(rt; !is_identity(cx, &[first, first]));
 }
 
 #[test]
@@ -214,12 +241,16 @@ fn a_clone_has_what_its_source_has(rt: HostRuntime) {
         .normalization_nested_goals;
     goals.push((GoalSource::Misc, goal)).expect(&rt, "memory");
     let copy = clone_response(&response).expect(&rt, "memory");
-    assert_eq!(rt; copy.max_universe, 5);
-    assert_eq!(rt; copy.var_kinds.len(), 1);
-    assert_eq!(rt; copy.value.var_values.len(), 2);
+    see_clone(&rt, &copy);
+}
+
+fn see_clone(rt: &impl Abort, copy: &CanonicalResponse) {
+    assert!(rt; copy.max_universe == 5);
+    assert!(rt; copy.var_kinds.len() == 1);
+    assert!(rt; copy.value.var_values.len() == 2);
     assert!(rt; matches!(copy.value.certainty, Certainty::Yes));
     let found = &copy.value.external_constraints;
     assert!(rt; found.region_constraints.is_empty());
     assert!(rt; found.opaque_types.is_empty());
-    assert_eq!(rt; found.normalization_nested_goals.len(), 1);
+    assert!(rt; found.normalization_nested_goals.len() == 1);
 }
