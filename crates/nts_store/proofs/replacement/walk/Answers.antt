@@ -1,5 +1,6 @@
 use Rattle.std.specs.HashMap.{get}
-use Rattle.std.proofs.Common.{nat_eq, Some, sym, ap, ◌∙◌, ◌≡◌, ◌++◌, ◌∷◌, [], ◌-◌, length, take, drop, arith}
+use Rattle.std.specs.Result.{IsErrAnd}
+use Rattle.std.proofs.Common.{nat_eq, Result, Ok, Err, IfOk, Some, sym, ap, ◌∙◌, ◌≡◌, ◌++◌, ◌∷◌, [], ◌-◌, length, take, drop, arith}
 use Rattle.nts_store.specs.declared.replacement.Step.TheVariants as step
 use Rattle.nts_store.specs.Growth.{tree_at}
 use Rattle.nts_store.specs.Replacement.{IsStep, TasksIn}
@@ -17,6 +18,32 @@ laws g m =
       covers = r.covers_more m;
       kind = r.kind_kept m;
     }
+
+-- memory ran out: there is no term, and the store has more at most
+ends_early : {T E : Type 0} (G : Type 0) (P Q : T → Type 0) (X : E → Type 0) (r : Result T E) → IsErrAnd r X → G → record { extends : G; within : IfOk r P; tree : IfOk r Q }
+ends_early G P Q X (Ok x) h extends = absurd h
+ends_early G P Q X (Err e) h extends = record { extends = extends; within = tt; tree = tt }
+
+pub returns-in_err-result-in-Enter : goal.returns-in_err-result-in-Enter
+returns-in_err-result-in-Enter g c = ends_early _ _ _ _ c.from_residual-in_err-result-in-Enter.result c.from_residual-in_err-result-in-Enter.ensures.1 (Extends-trans c.loop-task.invariant.extends c.step.ensures.extends)
+
+pub returns-in_err-push-in-Done : goal.returns-in_err-push-in-Done
+returns-in_err-push-in-Done g c = ends_early _ _ _ _ c.from_residual-in_err-push-in-Done.result c.from_residual-in_err-push-in-Done.ensures.1 (Extends-trans c.loop-task.invariant.extends c.step.ensures.extends)
+
+pub returns-in_err-push-in-Some-get : goal.returns-in_err-push-in-Some-get
+returns-in_err-push-in-Some-get g c = ends_early _ _ _ _ c.from_residual-in_err-push-in-Some-get.result c.from_residual-in_err-push-in-Some-get.ensures.1 (Extends-trans c.loop-task.invariant.extends c.step.ensures.extends)
+
+pub returns-in_err-push_node-in-None : goal.returns-in_err-push_node-in-None
+returns-in_err-push_node-in-None g c = ends_early _ _ _ _ c.from_residual-in_err-push_node-in-None.result c.from_residual-in_err-push_node-in-None.ensures.1 (Extends-trans c.loop-task.invariant.extends c.step.ensures.extends)
+
+pub returns-in_err-made-in-Build : goal.returns-in_err-made-in-Build
+returns-in_err-made-in-Build g c = ends_early _ _ _ _ c.from_residual-in_err-made-in-Build.result c.from_residual-in_err-made-in-Build.ensures.1 (Extends-trans c.loop-task.invariant.extends c.make.ensures.extends)
+
+pub returns-in_err-insert-in-Build : goal.returns-in_err-insert-in-Build
+returns-in_err-insert-in-Build g c = ends_early _ _ _ _ c.from_residual-in_err-insert-in-Build.result c.from_residual-in_err-insert-in-Build.ensures.1 (Extends-trans c.loop-task.invariant.extends c.make.ensures.extends)
+
+pub returns-in_err-push-in-Build : goal.returns-in_err-push-in-Build
+returns-in_err-push-in-Build g c = ends_early _ _ _ _ c.from_residual-in_err-push-in-Build.result c.from_residual-in_err-push-in-Build.ensures.1 (Extends-trans c.loop-task.invariant.extends c.make.ensures.extends)
 
 -- a term that is to be entered
 

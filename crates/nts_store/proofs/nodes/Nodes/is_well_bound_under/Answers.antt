@@ -1,8 +1,6 @@
-use Rattle.std.proofs.Common.{◌≡◌, ◌<◌, ◌-◌, length, get_or, refl, arith}
+use Rattle.std.proofs.Common.{◌<◌, ◌-◌, length, arith}
 use Rattle.std.specs.Prelude.{IsTrue}
-use Rattle.nts_model.specs.Trees.{children, row_at, binders}
-use Rattle.nts_model.specs.Scoping.{AllListed}
-use Rattle.nts_store.specs.Growth.{tree_at, trees_at}
+use Rattle.nts_model.specs.Trees.{binders}
 use Rattle.nts_store.proofs.Growing.{AllIn-get_or, get_or_from_fits}
 use Rattle.nts_store.proofs.WellBound.{child_well_bound, child_listed, first_child}
 use Rattle.nts_store.proofs.nodes.Nodes.is_well_bound_under.Goals as goal
