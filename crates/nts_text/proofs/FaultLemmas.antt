@@ -142,6 +142,19 @@ pub no_meaning : (P Q : Command → Type 0) (D K : Type 0) (F : TextError → Ty
 no_meaning P Q D K F (Ok x) e h bad = absurd h
 no_meaning P Q D K F (Err x) e h bad = record { sorted = tt; means = tt; declares = tt; kept = tt; fault = subst F (sym h) bad }
 
+-- what is said of a declaration where memory ran out
+pub declares_no_type : (A : TextError → Type 0) (B F O L X : Type 0) (D N : ℕ → Type 0) (r : Result ℕ TextError) → IsErrAnd r (λ e. e ≡ Memory) → O → X
+    → record { taken : IfErr r (λ e. e ≢ Memory → A e); kept : r ≡ Err (Refused reasons.NameDeclaredTwice) → B; free : OnOk r F; declared : IfOk r D; others : O; number : IfOk r N; listed : OnOk r L; traits : X }
+declares_no_type A B F O L X D N (Ok n) h others rest = absurd h
+declares_no_type A B F O L X D N (Err e) h others rest =
+    record { taken = λ other. absurd (other h); kept = λ is. cc; free = tt; declared = tt; others = others; number = tt; listed = tt; traits = rest }
+
+pub declares_no_trait : (A : TextError → Type 0) (B F O L X : Type 0) (D N : ℕ → Type 0) (r : Result ℕ TextError) → IsErrAnd r (λ e. e ≡ Memory) → O → X
+    → record { taken : IfErr r (λ e. e ≢ Memory → A e); kept : r ≡ Err (Refused reasons.NameDeclaredTwice) → B; free : OnOk r F; declared : IfOk r D; others : O; number : IfOk r N; listed : OnOk r L; types : X }
+declares_no_trait A B F O L X D N (Ok n) h others rest = absurd h
+declares_no_trait A B F O L X D N (Err e) h others rest =
+    record { taken = λ other. absurd (other h); kept = λ is. cc; free = tt; declared = tt; others = others; number = tt; listed = tt; types = rest }
+
 -- a byte of no token
 pub fault_of_byte : (names : NameTable) (line : List ℕ) (k : Keyword) (end : ℕ) (e : TextError) → BeginsWithKeyword line k end
     → (e ≢ Memory → (e ≡ Refused reasons.Syntax) × HasStrayByte line end) → IsFaultOf names line e

@@ -1,8 +1,9 @@
-use Rattle.std.proofs.Common.{arith, is_ok, ap}
+use Rattle.std.proofs.Common.{arith, is_ok, refl, ap}
 use Rattle.std.proofs.ResultArms.{chosen}
 use Rattle.std.proofs.lemmas.Grind.{common_steps}
 use Rattle.nts_text.proofs.NumberLemmas.{numbered_insert}
 use Rattle.nts_text.proofs.NameLemmas.{others_kept}
+use Rattle.nts_text.proofs.FaultLemmas.{declares_no_type}
 use Rattle.nts_text.proofs.names.NameTable.declare_type.Goals as goal
 
 -- the type has the next number
@@ -17,3 +18,13 @@ invariant_of-self-2 c =
 pub returns-clause-others : goal.returns-clause-others
 returns-clause-others c = λ other differs.
     others_kept other c.args.name.now c.in_ok-key.key _ c.args.self.now.numbers.entries c.insert.new.self.entries c.in_ok-key.ensures.items differs c.in_ok-insert.ensures.entries
+
+-- memory ran out before the name was put into the table
+pub returns-in_err-key : goal.returns-in_err-key
+returns-in_err-key c = declares_no_type _ _ _ _ _ _ _ _ c.from_residual.result c.from_residual.ensures.1 (λ other differs. refl) refl
+
+pub returns-in_err-name : goal.returns-in_err-name
+returns-in_err-name c = declares_no_type _ _ _ _ _ _ _ _ c.from_residual-in_err-name.result c.from_residual-in_err-name.ensures.1 (λ other differs. refl) refl
+
+pub returns-in_err-push : goal.returns-in_err-push
+returns-in_err-push c = declares_no_type _ _ _ _ _ _ _ _ c.from_residual-in_err-push.result c.from_residual-in_err-push.ensures.1 (λ other differs. refl) refl
