@@ -1,6 +1,8 @@
 -- What is chosen for positions, one by one.
 use Rattle.std.proofs.Common.{◌≡◌, ℕ, zero, suc, ◌+◌, ◌≤◌, ◌<◌, ◌⊎◌, ⊎_elim, List, [], ◌∷◌, ◌++◌, map, length, take, get_or, Option, Some, None, inl, inr, refl, sym, ap, subst, ◌∙◌, arith}
-use Rattle.std.specs.Prelude.{slice_get, All}
+use Rattle.std.specs.Prelude.{slice_get, All, Result, Ok, Err, IfOk, IsErrAnd, IsOkUnless}
+use Rattle.nts_store.specs.declared.fault.Fault.{Fault}
+use Rattle.nts_store.specs.declared.fault.Fault.TheVariants.{Memory}
 use Rattle.std.proofs.lemmas.List.{take_more, length-map, length-take-le, get_or-map}
 use Rattle.std.proofs.lemmas.List.Elements.{All-push}
 use Rattle.std.proofs.lemmas.Bool.{cases_lt}
@@ -308,3 +310,9 @@ original_within ts xs integer_variable n h e = cc
 original_within ts xs float_variable n h e = cc
 original_within ts xs (const_variable u) n h e = cc
 original_within ts xs (region_variable u) n h e = cc
+
+-- memory ran out: nothing is chosen
+pub chooses_none : {T : Type 0} (P Q R S : T → Type 0) (K : Type 0) (r : Result T Fault) → IsErrAnd r (λ e. e ≡ Memory) → K
+    → record { chosen : IfOk r P; args : IfOk r Q; placed : IfOk r R; sorts : IfOk r S; keeps : K; memory : IsOkUnless r Memory }
+chooses_none P Q R S K (Ok x) h keeps = absurd h
+chooses_none P Q R S K (Err e) h keeps = record { chosen = tt; args = tt; placed = tt; sorts = tt; keeps = keeps; memory = h }

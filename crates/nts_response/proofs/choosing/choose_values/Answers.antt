@@ -1,11 +1,12 @@
-use Rattle.std.proofs.Common.{◌<◌, length, arith, sym, ap, subst, ◌∙◌, Some}
-use Rattle.std.specs.Prelude.{get_or}
+use Rattle.std.proofs.Common.{◌≡◌, ◌<◌, length, arith, sym, ap, subst, ◌∙◌, Some}
+use Rattle.std.specs.Prelude.{get_or, IsErrAnd}
+use Rattle.std.proofs.lemmas.List.{take_all}
 use Rattle.std.proofs.lemmas.Option.{slice_get-get_or}
 use Rattle.nts_canonical.specs.declared.types.CanonicalVarKind.TheVariants as var
 use Rattle.nts_canonical.specs.Forms.{kind_of_var, trees_of}
 use Rattle.nts_response.specs.Applied.{NamesOriginal}
-use Rattle.nts_response.proofs.Stepping.{step_then}
-use Rattle.nts_response.proofs.MadeValues.{IsChoice, original_arg, originals_kept, guess_choice, made_choice, one_chosen, none_chosen}
+use Rattle.nts_response.proofs.Stepping.{step_none, step_then}
+use Rattle.nts_response.proofs.MadeValues.{IsChoice, original_arg, originals_kept, guess_choice, made_choice, one_chosen, none_chosen, chooses_none}
 use Rattle.nts_response.proofs.choosing.choose_values.Goals.{in-Some, in-None+in_ok-value-in-None}
 use Rattle.nts_response.proofs.choosing.choose_values.Goals as goal
 
@@ -52,3 +53,21 @@ pub loop-i-preserved : goal.loop-i-preserved
 loop-i-preserved c =
     let x = choice c in
     one_chosen c.args.cx.now c.loop-i.cx c.match-index.cx c.args.table.now c.loop-i.table c.match-index.table c.args.universe _ _ c.args.kinds.now c.loop-i.chosen.items c.push.new.self.items c.loop-i.i (var.Ty 0 0) c.match-index.value c.loop-i-test.true c.loop-i.invariant x.keeps x.arg x.sort x.chosen x.placed c.in_ok-push.ensures.items
+
+-- all are chosen
+pub returns : goal.returns
+returns c =
+    let all = rw (take_all c.loop-i.i c.args.kinds.now c.loop-i-test.false) at c.loop-i.invariant in
+    record { chosen = all.chosen; args = all.args; placed = all.placed; sorts = all.sorts; keeps = all.keeps; memory = tt }
+
+-- memory ran out
+pub returns-in_err-guessed : goal.returns-in_err-guessed
+returns-in_err-guessed c = chooses_none _ _ _ _ _ c.from_residual.result c.from_residual.ensures.1 (step_none c.args.cx.now c.args.table.now c.requires.table)
+
+pub returns-in_err-chosen : goal.returns-in_err-chosen
+returns-in_err-chosen c = chooses_none _ _ _ _ _ c.from_residual-in_err-chosen.result c.from_residual-in_err-chosen.ensures.1 (step_none c.args.cx.now c.args.table.now c.requires.table)
+
+pub returns-in_err-value-in-None : goal.returns-in_err-value-in-None
+returns-in_err-value-in-None c =
+    let r = c.from_residual-in_err-value-in-None in
+    chooses_none _ _ _ _ _ r.result (subst (λ e. IsErrAnd r.result (λ x. x ≡ e)) c.in_err-value-in-None.ensures.memory r.ensures.1) (step_then c.loop-i.invariant.keeps c.choose_value.ensures.keeps)
