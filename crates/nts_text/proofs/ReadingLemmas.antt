@@ -113,3 +113,52 @@ no_region reading b node wanted U scope (Err (Refused UnknownName)) none wrong u
 }
 no_region reading b node wanted U scope (Err e) none wrong unknown kept =
     wrong_node reading b node wanted U scope (Err e) (ap Err (wrong (λ is. cc))) kept
+
+-- The clauses of `predicate` and `named_type`, where a name is unknown, or stands for something else
+pub unknown_name : (S R D : Resolved → Type 0) (M : Scope → BoundNames → Resolved → Type 0) (U : Type 0) (r : Result Resolved TextError) (e : TextError) → IsErrAnd r (λ x. x ≡ e) → (e ≡ Refused UnknownName) × U
+    → record {
+      sort : IfOk r S;
+      role : IfOk r R;
+      declared : IfOk r D;
+      means : (scope : Scope) (b : BoundNames) → IfOk r (M scope b);
+      reasons : IfErr r (λ e. is_name_reason e ≡ true);
+      reason : r ≢ Err (Refused ParameterInAClause);
+      unknown : r ≡ Err (Refused UnknownName) → U;
+      declares : r ≢ Err (Refused NameDeclaredTwice);
+    }
+unknown_name S R D M U (Ok x) e h k = absurd h
+unknown_name S R D M U (Err x) e h k = record {
+  sort = tt;
+  role = tt;
+  declared = tt;
+  means = λ scope b. tt;
+  reasons = rw (h, k.0) refl;
+  reason = λ is. cc;
+  unknown = λ is. k.1;
+  declares = λ is. cc;
+}
+
+pub wrong_name : (S R D : Resolved → Type 0) (M : Scope → BoundNames → Resolved → Type 0) (U : Type 0) (r : Result Resolved TextError) → r ≡ Err (Refused WrongArguments)
+    → record {
+      sort : IfOk r S;
+      role : IfOk r R;
+      declared : IfOk r D;
+      means : (scope : Scope) (b : BoundNames) → IfOk r (M scope b);
+      reasons : IfErr r (λ e. is_name_reason e ≡ true);
+      reason : r ≢ Err (Refused ParameterInAClause);
+      unknown : r ≡ Err (Refused UnknownName) → U;
+      declares : r ≢ Err (Refused NameDeclaredTwice);
+    }
+wrong_name S R D M U (Ok x) h = cc
+wrong_name S R D M U (Err e) h =
+    let same : e ≡ Refused WrongArguments = cc in
+    record {
+      sort = tt;
+      role = tt;
+      declared = tt;
+      means = λ scope b. tt;
+      reasons = rw same refl;
+      reason = λ is. cc;
+      unknown = λ is. cc;
+      declares = λ is. cc;
+    }
