@@ -1,5 +1,5 @@
 -- What is declared: the sorts that constructors, traits, aliases and consts take.
-use Rattle.std.specs.Prelude.{◌≡◌, ℕ, List, [], ◌∷◌, ◌++◌, Option, Some, None, slice_get, ◌<◌, length}
+use Rattle.std.specs.Prelude.{◌≡◌, ℕ, zero, suc, List, [], ◌∷◌, ◌++◌, Option, Some, None, slice_get, ◌<◌, length}
 use Rattle.nts_model.specs.declared.labels.Sort.{Sort}
 use Rattle.nts_model.specs.declared.labels.Variance.{Variance}
 use Rattle.nts_model.specs.declared.labels.Variance.TheVariants as variance
