@@ -8,8 +8,8 @@ use Rattle.nts_terms.specs.declared.handles.Goal.{Goal}
 use Rattle.nts_terms.proofs.Moved.{Holds-extended}
 use Rattle.nts_unify.specs.Lawful.{content_of-extended}
 use Rattle.nts_table.specs.Tables.{Table, IsTable, IsSide, IsPlainSide}
-use Rattle.nts_evaluation.specs.Evaluation.{Goes, IsPosed}
-use Rattle.nts_evaluation.proofs.Evaluating.{IsPosed-opened, IsPosed-later, Knows-goes}
+use Rattle.nts_queries.specs.Evaluation.{Goes, IsPosed}
+use Rattle.nts_queries.proofs.Evaluating.{IsPosed-opened, IsPosed-later, Knows-goes}
 use Rattle.nts_contexts.specs.declared.context.EvalCtxt.{EvalCtxt}
 use Rattle.nts_contexts.specs.Contexts.{IsGoalOf, Keeps, IsOpened, IsRoot, IsProbe}
 

@@ -3,17 +3,18 @@ ghost use Rattle.std.specs.Prelude.{◌≡◌, ◌≤◌, ◌+◌, true, [], Non
 ghost use Rattle.nts_certainty.specs.declared.certainty.Certainty.TheVariants as certainty;
 ghost use Rattle.nts_store.specs.Errors.{error_of};
 ghost use Rattle.nts_response.specs.Forms.{response_at, HoldsResponse};
-ghost use Rattle.nts_evaluation.specs.Asking.{IsResponseOf};
-ghost use Rattle.nts_evaluation.specs.Answering.{told_in};
-ghost use Rattle.nts_evaluation.specs.Meant.{Since, IsProvedSince, ReachesBy, RefusesOneOf};
-ghost use Rattle.nts_evaluation.specs.Stepping.{AreLeft, AreSettled};
+ghost use Rattle.nts_queries.specs.Asking.{IsResponseOf};
+ghost use Rattle.nts_queries.specs.Answering.{told_in};
+ghost use Rattle.nts_queries.specs.Meant.{Since, IsProvedSince, ReachesBy, RefusesOneOf};
+ghost use Rattle.nts_queries.specs.Stepping.{AreLeft, AreSettled};
 ghost use Rattle.nts_contexts.specs.Faults.{fault_after, tainted_after};
 ghost use Rattle.nts_contexts.specs.Contexts.{IsReady, Keeps, content_in};
 
 use crate::context::EvalCtxt;
 use nts_certainty::Certainty;
 use nts_delegate::GoalHandler;
-use nts_evaluation::{AvailableDepth, make_response, try_evaluate_goals};
+use nts_evaluation::try_evaluate_goals;
+use nts_queries::{AvailableDepth, make_response};
 use nts_response::CanonicalResponse;
 use nts_search::{CurrentGoalKind, SearchGraph};
 use nts_store::EvalError;

@@ -14,43 +14,31 @@ ghost use Rattle.nts_terms.specs.Modes.{mode_of};
 ghost use Rattle.nts_search.specs.declared.kinds.CurrentGoalKind.TheVariants as kinds;
 ghost use Rattle.nts_search.specs.Kinds.{goal_kind_of};
 ghost use Rattle.nts_search.specs.Searching.{entry_at, entries_at};
-ghost use Rattle.nts_evaluation.specs.Meant.{Since, meaning_since, AreOffered, IsOffered, IsServedSince, IsProvedNow, IsProvedFromSince, IsNestedSince, IsAskedTo, IsRefusedIn, IsAskedUnder, IsRefusedUnder, IsQueryTold, IsQueryRefuted, IsTold, IsRefuted, HaveOutcomes, CandidatesTell, RepliesWith, FailsIn, HasRunTo, ReachesBy, RefusesOneOf};
-ghost use Rattle.nts_evaluation.specs.Searching.{IsSearch, Searches, IsHeadAnswer, IsAnswerTold, HeadsTell, IsCut, assumed_in};
-ghost use Rattle.nts_evaluation.specs.Found.{Found};
-ghost use Rattle.nts_evaluation.specs.Stepping.{ArePosed, AreLeft, AreSettled, terms_of, bound_of};
-ghost use Rattle.nts_evaluation.specs.Answering.{IsQueryInput, IsAnswerTo, EvaluatesGoal, IfSure, IfCertain, IfAnswered};
-ghost use Rattle.nts_evaluation.specs.Evaluation.{Runs, IsPosed, IsAskedGoal, asked_terms};
+ghost use Rattle.nts_queries.specs.Meant.{Since, meaning_since, AreOffered, IsOffered, IsServedSince, IsProvedNow, IsProvedFromSince, IsNestedSince, IsAskedTo, IsRefusedIn, IsAskedUnder, IsRefusedUnder, IsQueryTold, IsQueryRefuted, IsTold, IsRefuted, HaveOutcomes, CandidatesTell, RepliesWith, FailsIn, HasRunTo, ReachesBy, RefusesOneOf};
+ghost use Rattle.nts_queries.specs.Searching.{IsSearch, Searches, IsHeadAnswer, IsAnswerTold, HeadsTell, IsCut, assumed_in};
+ghost use Rattle.nts_queries.specs.Found.{Found};
+ghost use Rattle.nts_queries.specs.Stepping.{ArePosed, AreLeft, AreSettled, terms_of, bound_of};
+ghost use Rattle.nts_queries.specs.Answering.{IsQueryInput, IsAnswerTo, EvaluatesGoal, IfSure, IfCertain, IfAnswered};
+ghost use Rattle.nts_queries.specs.Evaluation.{Runs, IsPosed, IsAskedGoal, asked_terms};
 ghost use Rattle.nts_unify.specs.Reading.{content_of};
 ghost use Rattle.nts_table.specs.Tables.{IsTable};
 ghost use Rattle.nts_certainty.specs.declared.certainty.Certainty.TheVariants as certainty;
 ghost use Rattle.nts_terms.specs.Rest.{Grows};
 
-use crate::asked::{goal_kind, is_candidates_goal};
-use crate::binder::enter_forall;
-use crate::candidate::{Trial, equate, record_constraints, resolve_goal, terms_are_formed};
-use crate::cycles::{answer_cycle, unchanged_answer};
-use crate::filter::keep_met;
-use crate::merged::{keep_response, merge_responses};
-use crate::query::{boxed_query, keeps_constraints, query_table};
-use crate::response::{apply_answer, boxed_response};
-use crate::round::{Asked, Ended, end_round, first_round, last_answer, next_round, push_query};
-use crate::steps::{AvailableDepth, Step};
 use nts_canonical::CanonicalInput;
 use nts_certainty::{Certainty, GoalSource, HasChanged, PathKind};
 use nts_delegate::{CandidateData, GoalHandler};
+use nts_queries::{
+    Asked, AvailableDepth, Ended, Evaluated, Step, Trial, answer_cycle, apply_answer, boxed_query,
+    boxed_response, end_round, enter_forall, equate, first_round, goal_kind, is_candidates_goal,
+    keep_met, keep_response, keeps_constraints, last_answer, merge_responses, next_round,
+    push_query, query_table, record_constraints, resolve_goal, terms_are_formed, unchanged_answer,
+};
 use nts_response::CanonicalResponse;
 use nts_search::{CurrentGoalKind, SearchGraph, round_is_last, step_kind_for_source};
 use nts_store::EvalError;
 use nts_table::InferCtxt;
 use nts_terms::{Cx, GenericArg, Goal};
-
-/// What a goal that was asked in a query of its own was answered.
-#[derive(Clone, Copy)]
-pub struct Evaluated {
-    pub certainty: Certainty,
-    /// Whether the response says anything of the goal's variables.
-    pub has_changed: HasChanged,
-}
 
 /// Evaluates a goal in a query of its own: its leaves give place to positions, the search answers the query, and the response is
 /// applied to the leaves. Nothing else is added to the table.

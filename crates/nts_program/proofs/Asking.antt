@@ -18,11 +18,11 @@ use Rattle.nts_unify.specs.declared.contents.Constraint.{Constraint}
 use Rattle.nts_table.specs.TableLaws.{IsTable-extended, IsTable-same}
 use Rattle.nts_delegate.specs.ClausesKept.{AreReady-kept}
 use Rattle.nts_terms.specs.declared.cx.Cx.{Cx}
-use Rattle.nts_evaluation.specs.Evaluation.{Goes, Runs, AreValues, AllKnown, AreOfSorts}
+use Rattle.nts_queries.specs.Evaluation.{Goes, Runs, AreValues, AllKnown, AreOfSorts}
 use Rattle.nts_table.specs.Tables.{IsTermOf}
 use Rattle.nts_program.specs.Found.{IsKnownValue}
-use Rattle.nts_evaluation.proofs.Asking.{IsAdmitted-extended}
-use Rattle.nts_evaluation.proofs.Evaluating.{Knows-goes, Goes-extends, IsTermOf-later}
+use Rattle.nts_queries.proofs.Asking.{IsAdmitted-extended}
+use Rattle.nts_queries.proofs.Evaluating.{Knows-goes, Goes-extends, IsTermOf-later}
 use Rattle.nts_unify.proofs.Keeping.{Knows-later}
 
 -- the values later on

@@ -6,7 +6,7 @@ ghost use Rattle.nts_unify.specs.Reading.{content_of};
 ghost use Rattle.nts_table.specs.Tables.{IsTable};
 ghost use Rattle.nts_terms.specs.Handles.{HoldsGoal};
 ghost use Rattle.nts_delegate.specs.Clauses.{AreReady};
-ghost use Rattle.nts_evaluation.specs.Evaluation.{IsAdmitted, AreOfSorts};
+ghost use Rattle.nts_queries.specs.Evaluation.{IsAdmitted, AreOfSorts};
 ghost use Rattle.nts_certainty.specs.declared.certainty.Certainty.TheVariants as certainty;
 ghost use Rattle.nts_program.specs.Proving.{IsTypingMode, IsProvedGoal, IsJustifiedAnswer};
 ghost use Rattle.nts_program.specs.Found.{AreResolved, IsFoundIn, IsOf, IsKnownValue};

@@ -3,7 +3,7 @@ ghost use Rattle.std.specs.Prelude.{◌≡◌, Err, IfSome, OnOk, OnErr};
 ghost use Rattle.nts_model.specs.Trees.{any_argument};
 ghost use Rattle.nts_delegate.specs.Clauses.{AreReady};
 ghost use Rattle.nts_table.specs.Tables.{IsTable, IsPlainSide};
-ghost use Rattle.nts_evaluation.specs.Evaluation.{Runs};
+ghost use Rattle.nts_queries.specs.Evaluation.{Runs};
 ghost use Rattle.nts_contexts.specs.Contexts.{IsReady, Keeps};
 
 use crate::rule::is_plain;

@@ -14,28 +14,28 @@ use Rattle.nts_delegate.specs.Offered.{certainty_of, candidate_of, candidates_of
 use Rattle.nts_delegate.specs.Relevant.{LeavesOut}
 use Rattle.nts_delegate.proofs.Results.{IfOk-map}
 use Rattle.nts_canonical.specs.Forms.{trees_of}
-use Rattle.nts_evaluation.specs.Meant.{Since}
-use Rattle.nts_evaluation.proofs.Asking.{IsAskedGoal-extended, kind_asked}
-use Rattle.nts_evaluation.proofs.AskedGoals.{trees_kept}
-use Rattle.nts_evaluation.proofs.AnsweredQueries.{args_later}
-use Rattle.nts_evaluation.proofs.Labels.{only_earlier, only_back}
-use Rattle.nts_evaluation.proofs.Evaluating.{Goes-trans, Goes-extends, Runs-trans, Runs-extends, rolled_back, Since-later, offers-kept, IsPosed-later, AreValues-later, IsCandidate-extended, candidate_at}
-use Rattle.nts_evaluation.proofs.Running.{term_table, HasRun, has_run, both_sure, constraints-kept, offered_there, Equates-later, Constrains-later}
+use Rattle.nts_queries.specs.Meant.{Since}
+use Rattle.nts_queries.proofs.Asking.{IsAskedGoal-extended, kind_asked}
+use Rattle.nts_queries.proofs.AskedGoals.{trees_kept}
+use Rattle.nts_queries.proofs.AnsweredQueries.{args_later}
+use Rattle.nts_queries.proofs.Labels.{only_earlier, only_back}
+use Rattle.nts_queries.proofs.Evaluating.{Goes-trans, Goes-extends, Runs-trans, Runs-extends, rolled_back, Since-later, offers-kept, IsPosed-later, AreValues-later, IsCandidate-extended, candidate_at}
+use Rattle.nts_queries.proofs.Running.{term_table, HasRun, has_run, both_sure, constraints-kept, offered_there, Equates-later, Constrains-later}
 use Rattle.nts_canonical.specs.declared.types.Canonical.{Canonical}
 use Rattle.nts_response.specs.declared.types.Response.{Response}
 use Rattle.nts_store.specs.Kept.{map-kept, AllIn-kept}
 use Rattle.nts_terms.proofs.Moved.{KeepsRest-refl}
-use Rattle.nts_evaluation.proofs.Evaluating.{goes-back, HoldsGoal-extended}
-use Rattle.nts_evaluation.proofs.Filtered.{kept_candidates, kept_outcomes, kept_tell}
-use Rattle.nts_evaluation.proofs.LeftOut.{all_outcomes, kept_offered}
-use Rattle.nts_evaluation.proofs.Opened.{told_through, told_offered, refuted_through, labels_through, proved_through}
-use Rattle.nts_evaluation.proofs.Probed.{found_in, found_still, went_in, plain_of, not_kept, told_or_plain, run_replies, said_of}
-use Rattle.nts_evaluation.proofs.Outcomes.{found_earlier, founds_more, founds_with, outcomes_first, outcomes_more, failed_of}
-use Rattle.nts_evaluation.proofs.Ran.{added_is, added_only, ran_to, ran_refused, all_proved, all_posed, proved_all, ok_inside}
+use Rattle.nts_queries.proofs.Evaluating.{goes-back, HoldsGoal-extended}
+use Rattle.nts_queries.proofs.Filtered.{kept_candidates, kept_outcomes, kept_tell}
+use Rattle.nts_queries.proofs.LeftOut.{all_outcomes, kept_offered}
+use Rattle.nts_queries.proofs.Opened.{told_through, told_offered, refuted_through, labels_through, proved_through}
+use Rattle.nts_queries.proofs.Probed.{found_in, found_still, went_in, plain_of, not_kept, told_or_plain, run_replies, said_of}
+use Rattle.nts_queries.proofs.Outcomes.{found_earlier, founds_more, founds_with, outcomes_first, outcomes_more, failed_of}
+use Rattle.nts_queries.proofs.Ran.{added_is, added_only, ran_to, ran_refused, all_proved, all_posed, proved_all, ok_inside}
 use Rattle.nts_model.specs.Rules.{goal_kind}
-use Rattle.nts_evaluation.specs.Searching.{HeadsTell, assumed_in}
-use Rattle.nts_evaluation.proofs.Searching.{Searches-refl, Searches-trans, search_later, search_grows, search_covers, covers_grown, served_more, tell_grown, heads_tell_later}
-use Rattle.nts_evaluation.proofs.Rounds.{grown, ran}
+use Rattle.nts_queries.specs.Searching.{HeadsTell, assumed_in}
+use Rattle.nts_queries.proofs.Searching.{Searches-refl, Searches-trans, search_later, search_grows, search_covers, covers_grown, served_more, tell_grown, heads_tell_later}
+use Rattle.nts_queries.proofs.Rounds.{grown, ran}
 use Rattle.nts_evaluation.proofs.evaluate.+evaluate.Goals as goal
 
 pub compute_goal-evaluate_candidates-response-requires : goal.compute_goal-evaluate_candidates-response-requires

@@ -6,32 +6,32 @@ use Rattle.nts_terms.specs.Modes.{mode_of}
 use Rattle.nts_unify.specs.Reading.{content_of}
 use Rattle.nts_canonical.specs.Building.{kinds_of}
 use Rattle.nts_response.specs.Forms.{response_at}
-use Rattle.nts_evaluation.specs.Meant.{Since, meaning_since, IsProvedNow}
-use Rattle.nts_evaluation.proofs.AskedGoals.{ok_both, evaluates, asked_stays}
-use Rattle.nts_evaluation.proofs.Evaluating.{Since-later}
-use Rattle.nts_evaluation.proofs.Probed.{found_fits, found_derived}
+use Rattle.nts_queries.specs.Meant.{Since, meaning_since, IsProvedNow}
+use Rattle.nts_queries.proofs.AskedGoals.{ok_both, evaluates, asked_stays}
+use Rattle.nts_queries.proofs.Evaluating.{Since-later}
+use Rattle.nts_queries.proofs.Probed.{found_fits, found_derived}
 use Rattle.nts_model.specs.Proofs.{passed}
 use Rattle.nts_model.proofs.Assuming.{covers_passed}
 use Rattle.nts_delegate.specs.Offered.{path_kind_of}
 use Rattle.nts_search.specs.Searching.{entry_at, entries_at}
 use Rattle.nts_search.proofs.Stacked.{entries_popped}
 use Rattle.nts_canonical.specs.Forms.{form_of}
-use Rattle.nts_evaluation.specs.Searching.{IsHeadAnswer, assumed_in}
-use Rattle.nts_evaluation.proofs.Searching.{Searches-refl, Searches-trans, search_later, search_grows, covers_grown, stays_more, heads_tell_later, search_marked, form_later}
+use Rattle.nts_queries.specs.Searching.{IsHeadAnswer, assumed_in}
+use Rattle.nts_queries.proofs.Searching.{Searches-refl, Searches-trans, search_later, search_grows, covers_grown, stays_more, heads_tell_later, search_marked, form_later}
 use Rattle.std.proofs.Common.{◌∷◌, false}
 use Rattle.nts_model.specs.Stacks.{IsDerivedFrom, IsProvedFrom, assumptions}
-use Rattle.nts_evaluation.specs.Found.{Found}
+use Rattle.nts_queries.specs.Found.{Found}
 use Rattle.nts_model.specs.Responses.{answer_sequent}
 use Rattle.std.proofs.Common.{ap}
 use Rattle.std.specs.Prelude.{IfSome}
 use Rattle.nts_delegate.proofs.Results.{IfOk-map}
 use Rattle.nts_certainty.specs.declared.certainty.Certainty.TheVariants as certainty
 use Rattle.nts_search.specs.declared.stack.StackEntry.{StackEntry}
-use Rattle.nts_evaluation.specs.declared.round.Asked.{Asked}
-use Rattle.nts_evaluation.specs.Searching.{IsAnswerTold}
-use Rattle.nts_evaluation.proofs.AskedGoals.{ok_two}
-use Rattle.nts_evaluation.proofs.Rounds.{first_fits, first_told, round_ends, ended_entry}
-use Rattle.nts_evaluation.proofs.Rounds.{search_noted, own_asked, own_form, round_proved, round_told, grown, ran, search_then, entry_of, holds_answer, search_pushed, tell_pushed, search_popped, round_closes, last_fits, last_told, last_refuted, last_each}
+use Rattle.nts_queries.specs.declared.round.Asked.{Asked}
+use Rattle.nts_queries.specs.Searching.{IsAnswerTold}
+use Rattle.nts_queries.proofs.AskedGoals.{ok_two}
+use Rattle.nts_queries.proofs.Rounds.{first_fits, first_told, round_ends, ended_entry}
+use Rattle.nts_queries.proofs.Rounds.{search_noted, own_asked, own_form, round_proved, round_told, grown, ran, search_then, entry_of, holds_answer, search_pushed, tell_pushed, search_popped, round_closes, last_fits, last_told, last_refuted, last_each}
 use Rattle.nts_evaluation.proofs.evaluate.+evaluate.Goals as goal
 
 pub evaluate_goal-returns-clause-evaluates : goal.evaluate_goal-returns-clause-evaluates

@@ -1,0 +1,15 @@
+use Rattle.nts_queries.proofs.Evaluating.{IsOver-extended, HoldsValues-extended, IsInstance-later, IsInstance-earlier}
+use Rattle.nts_queries.proofs.candidate.Trial.instantiate_both.Goals as goal
+
+pub instantiate-requires-2-clause-over : goal.instantiate-requires-2-clause-over
+instantiate-requires-2-clause-over c = IsOver-extended c.in_ok-left.ensures.grows.extends c.requires.holds c.requires.right
+
+pub instantiate-requires-2-clause-values : goal.instantiate-requires-2-clause-values
+instantiate-requires-2-clause-values c = HoldsValues-extended c.in_ok-left.ensures.grows.extends c.requires.values
+
+pub returns-clause-left : goal.returns-clause-left
+returns-clause-left c = IsInstance-later c.in_ok-right.ensures.grows.extends c.in_ok-right.ensures.instance.formed c.in_ok-left.ensures.instance
+
+pub returns-clause-right : goal.returns-clause-right
+returns-clause-right c =
+    IsInstance-earlier c.requires.values.within c.requires.right.within c.in_ok-left.ensures.grows.extends c.in_ok-right.ensures.instance
