@@ -10,3 +10,4 @@ pub mod Telling
 pub mod Filling
 pub mod GoingBack
 pub mod TermTables
+pub mod VariedGoals

@@ -68,7 +68,7 @@ known_stack ts c (x ∷ xs) h = known_push c (stacked (pair_at ts) xs) (pair_at 
 pub pair_known : (ts : List Tree) (c : Content) (q : Relating) → IsPair ts c q → ArePairs ts c (q ∷ [])
 pair_known ts c q h = ((h.left.within, h.right.within, h.left.knows, h.right.knows), tt)
 
-pairs_joined : (ts : List Tree) (c : Content) (xs ys : List Relating) → ArePairs ts c xs → ArePairs ts c ys → ArePairs ts c (xs ++ ys)
+pub pairs_joined : (ts : List Tree) (c : Content) (xs ys : List Relating) → ArePairs ts c xs → ArePairs ts c ys → ArePairs ts c (xs ++ ys)
 pairs_joined ts c [] ys a b = b
 pairs_joined ts c (x ∷ xs) ys a b = (a.0, pairs_joined ts c xs ys a.1 b)
 
@@ -96,7 +96,7 @@ waits_joined : (ts : List Tree) (xs ys : List Relating) → AllWait ts xs → Al
 waits_joined ts [] ys a b = b
 waits_joined ts (x ∷ xs) ys a b = (a.0, waits_joined ts xs ys a.1 b)
 
-joined_at : {ts us : List Tree} (c : Content) (xs ys zs : List Relating) → Extends ts us → ArePairs ts c xs → zs ≡ xs ++ ys → pairs_at us zs ≡ pairs_at ts xs ++ pairs_at us ys
+pub joined_at : {ts us : List Tree} (c : Content) (xs ys zs : List Relating) → Extends ts us → ArePairs ts c xs → zs ≡ xs ++ ys → pairs_at us zs ≡ pairs_at ts xs ++ pairs_at us ys
 joined_at {ts} {us} c xs ys zs e h q = ap (pairs_at us) q ∙ map-append (pair_at us) xs ys ∙ ap (λ x. x ++ pairs_at us ys) (pairs_kept c xs e h)
 
 -- the parts of a node are smaller than it

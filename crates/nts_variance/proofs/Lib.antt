@@ -1,4 +1,4 @@
-mod Growing
+pub mod Growing
 mod Clean
 mod Likeness
 mod Nodes
@@ -10,7 +10,7 @@ mod PartLemmas
 mod Debts
 mod Counting
 mod CountedPieces
-mod VaryTurns
+pub mod VaryTurns
 mod Refusing
 mod Owing
 mod Pushing
@@ -31,4 +31,5 @@ mod Equalled
 mod Joining
 mod Onward
 mod Exact
-mod GoalLemmas
+pub mod GoalLemmas
+mod Arguments

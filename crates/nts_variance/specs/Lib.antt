@@ -9,3 +9,4 @@ pub mod Varying
 pub mod Taking
 pub mod Equating
 pub mod Goals
+pub mod Rows

@@ -383,7 +383,7 @@ fn run_all(
 }
 
 /// Relates a pair until goals alone are left. After an error the table may have grown.
-fn relate_pair(
+pub fn relate_pair(
     alloc: Global,
     nodes: &mut Nodes,
     declarations: &Declarations,
