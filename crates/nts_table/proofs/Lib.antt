@@ -10,4 +10,3 @@ pub mod Telling
 pub mod Filling
 pub mod GoingBack
 pub mod TermTables
-pub mod VariedGoals

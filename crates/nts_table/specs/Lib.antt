@@ -8,4 +8,4 @@ pub mod Frames
 pub mod Fresh
 pub mod TableLaws
 pub mod Tables
-pub mod Varied
+pub mod RelatedPlaces

@@ -17,7 +17,8 @@ use std::marker::Model;
 /// are open.
 pub struct InferCtxt {
     mode: TypingMode,
-    pub(crate) inner: InferCtxtInner,
+    /// The entries, and what undoes them: for calls that work on nodes.
+    pub inner: InferCtxtInner,
 }
 
 // Written out, as that of `Cx` is, and for the same reason.

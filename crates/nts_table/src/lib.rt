@@ -17,11 +17,9 @@ mod resolver;
 mod resolving;
 mod shallow;
 mod variables;
-mod varied_nodes;
 
 pub use equating::is_unbound;
 pub use infer_ctxt::InferCtxt;
 pub use nts_unify::{Constraint, HiddenType, Snapshot, State, Variable};
 pub use relating_nodes::relate_nodes;
 pub use resolver::resolve_nodes;
-pub use varied_nodes::relate_by;

@@ -21,6 +21,7 @@ use nts_terms::{
 pub trait Relate: Copy {
     ghost use Rattle.std.specs.Prelude.{Option};
     ghost use Rattle.nts_terms.specs.declared.handles.DefId.{DefId};
+    ghost use Rattle.nts_table.specs.RelatedPlaces.{AreSides};
 
     ghost place: { Place };
 
@@ -35,10 +36,14 @@ pub trait Relate: Copy {
     /// What the arguments are of, which must be one on both sides.
     fn def(self) -> Option<DefId>
         ensures { result ≡ head self };
+
+    /// Terms of a sort are related, or lists of arguments.
+    ghost sides: { AreSides place };
 }
 
 impl Relate for Ty {
     ghost use Rattle.std.specs.Prelude.{None};
+    ghost use Rattle.nts_table.specs.RelatedPlaces.{types};
 
     ghost place = { a_type };
 
@@ -53,10 +58,13 @@ impl Relate for Ty {
     fn def(self) -> Option<DefId> {
         None
     }
+
+    ghost sides = { types };
 }
 
 impl Relate for Region {
     ghost use Rattle.std.specs.Prelude.{None};
+    ghost use Rattle.nts_table.specs.RelatedPlaces.{regions};
 
     ghost place = { a_region };
 
@@ -71,10 +79,13 @@ impl Relate for Region {
     fn def(self) -> Option<DefId> {
         None
     }
+
+    ghost sides = { regions };
 }
 
 impl Relate for Const {
     ghost use Rattle.std.specs.Prelude.{None};
+    ghost use Rattle.nts_table.specs.RelatedPlaces.{consts};
 
     ghost place = { a_const };
 
@@ -89,10 +100,13 @@ impl Relate for Const {
     fn def(self) -> Option<DefId> {
         None
     }
+
+    ghost sides = { consts };
 }
 
 impl Relate for Term {
     ghost use Rattle.std.specs.Prelude.{None};
+    ghost use Rattle.nts_table.specs.RelatedPlaces.{terms};
 
     ghost place = { any_term };
 
@@ -107,10 +121,13 @@ impl Relate for Term {
     fn def(self) -> Option<DefId> {
         None
     }
+
+    ghost sides = { terms };
 }
 
 impl Relate for GenericArg {
     ghost use Rattle.std.specs.Prelude.{None};
+    ghost use Rattle.nts_table.specs.RelatedPlaces.{all_arguments};
 
     ghost place = { any_argument };
 
@@ -125,11 +142,14 @@ impl Relate for GenericArg {
     fn def(self) -> Option<DefId> {
         None
     }
+
+    ghost sides = { all_arguments };
 }
 
 impl Relate for AliasTerm {
     ghost use Rattle.std.specs.Prelude.{Some};
     ghost use Rattle.nts_terms.specs.declared.handles.DefId.TheVariants as defs;
+    ghost use Rattle.nts_table.specs.RelatedPlaces.{lists};
 
     ghost place = { is arguments };
 
@@ -144,11 +164,14 @@ impl Relate for AliasTerm {
     fn def(self) -> Option<DefId> {
         Some(DefId::Alias(self.def_id))
     }
+
+    ghost sides = { lists };
 }
 
 impl Relate for TraitRef {
     ghost use Rattle.std.specs.Prelude.{Some};
     ghost use Rattle.nts_terms.specs.declared.handles.DefId.TheVariants as defs;
+    ghost use Rattle.nts_table.specs.RelatedPlaces.{lists};
 
     ghost place = { is arguments };
 
@@ -163,6 +186,8 @@ impl Relate for TraitRef {
     fn def(self) -> Option<DefId> {
         Some(DefId::Trait(self.def_id))
     }
+
+    ghost sides = { lists };
 }
 
 impl InferCtxt {

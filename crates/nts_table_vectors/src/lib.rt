@@ -15,3 +15,5 @@ mod refusing_tests;
 mod relating_tests;
 #[cfg(test)]
 mod tests;
+#[cfg(test)]
+mod variance_tests;

@@ -383,7 +383,7 @@ module _ (declared : ℕ → List Variance) (z : Bool) (c : Content) (s : Slot) 
       let d = with_slot c s in
       let r = variable_tree s.kind (length c.slots) in
       record {
-        later = grown_slot c s;
+        later = grown_slot c s free;
         continues = Continues-with_slot c s free sound;
         trees = λ a k. resolved-with_slot c s sound free a;
         clean = fresh_clean s.universe;
@@ -410,7 +410,7 @@ module _ (declared : ℕ → List Variance) (z : Bool) (c : Content) (s : Slot) 
   fresh_quietly v t sort knows fits sorted varies =
       let d = with_slot c s in
       record {
-        later = grown_slot c s;
+        later = grown_slot c s free;
         continues = Continues-with_slot c s free sound;
         trees = λ a k. resolved-with_slot c s sound free a;
         clean = fresh_clean s.universe;
@@ -436,7 +436,7 @@ module _ (declared : ℕ → List Variance) (z : Bool) (c : Content) (s : Slot) 
       let seen = side_seen z v r t (tt, tt) (region_closed 0 t region) in
       let seen_later = Keeps-with_constraint d x seen in
       record {
-        later = grown_trans (grown_slot c s) (grown_later seen_later.later);
+        later = grown_trans (grown_slot c s free) (grown_later seen_later.later);
         continues = Continues-trans c d (with_constraint d x) sound (Continues-with_slot c s free sound) (Continues-with_constraint d x sound');
         trees = λ a k. resolved-same d (with_constraint d x) a (SameStates-with_constraint d x) ∙ resolved-with_slot c s sound free a;
         clean = subst (NamesAll region_level s.universe) (sym (resolved-same d (with_constraint d x) r (SameStates-with_constraint d x))) (fresh_clean s.universe);
@@ -471,7 +471,7 @@ module _ (declared : ℕ → List Variance) (z : Bool) (c : Content) (s : Slot) 
   region_quietly v t e knows region =
       let d = with_slot c s in
       record {
-        later = grown_slot c s;
+        later = grown_slot c s free;
         continues = Continues-with_slot c s free sound;
         trees = λ a k. resolved-with_slot c s sound free a;
         clean = fresh_clean s.universe;

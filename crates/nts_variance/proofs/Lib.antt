@@ -17,7 +17,7 @@ mod Pushing
 mod Pieces
 mod Looks
 mod Bound
-mod Takes
+pub mod Takes
 mod Refusals
 mod Sides
 mod Pairing
@@ -33,3 +33,4 @@ mod Onward
 mod Exact
 pub mod GoalLemmas
 mod Arguments
+pub mod SubRoots

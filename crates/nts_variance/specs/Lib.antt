@@ -10,3 +10,4 @@ pub mod Taking
 pub mod Equating
 pub mod Goals
 pub mod Rows
+pub mod SubRoots

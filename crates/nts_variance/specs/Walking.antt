@@ -22,14 +22,17 @@ use Rattle.nts_model.specs.Relations.{Relating, AllSettleIn, AllKnown, IsJudgedB
 use Rattle.nts_model.specs.AnsweredGoals.{AllAnswered}
 use Rattle.nts_model.specs.Leaving.{Judge, judging_of}
 use Rattle.nts_unify.specs.Changing.{AddsVisible}
+use Rattle.nts_variance.specs.SubRoots.{GrowsSubRoots}
 use Rattle.nts_variance.specs.Steps.{Step, enter, build, owe, steps_of, Runs}
 
--- the table has its variables and its universes, and may have more; what was recorded since is visible for the leak check, and
--- between closed terms
+-- the table has its variables and its universes, and may have more; its classes of sub-unification are those that it had, but for
+-- variables that became one, and new ones, each of which was made in a class; what was recorded since is visible for the leak check,
+-- and between closed terms
 pub record IsGrown (c d : Content) : Type 0 where
   pub more : length c.slots ≤ length d.slots
   pub grows : c.universe ≤ d.universe
   pub kinds : (n : ℕ) (k : VariableKind) → kind_at c n ≡ Some k → kind_at d n ≡ Some k
+  pub subs : GrowsSubRoots c d
   pub visible : AddsVisible c.constraints d.constraints
 
 -- the erased and the error region

@@ -1,5 +1,7 @@
 //! Nodes of a store related by a variance under a table, and the goals that this leaves.
-ghost use Rattle.std.specs.Prelude.{◌≡◌, ◌≢◌, OnOk, OnErr, IfOk, Err};
+ghost use Rattle.std.specs.Prelude.{◌≡◌, ◌≢◌, OnOk, OnErr, IfOk, Err, Some, true};
+ghost use Rattle.nts_model.specs.declared.labels.Sort.TheVariants as sorts;
+ghost use Rattle.nts_model.specs.Trees.{kind_of, of_sort};
 ghost use Rattle.nts_store.specs.Growth.{tree_at, IsIn, Extends};
 ghost use Rattle.nts_terms.specs.Signatures.{variances_in};
 ghost use Rattle.nts_unify.specs.Entries.{KeepsHidden};
@@ -7,12 +9,12 @@ ghost use Rattle.nts_unify.specs.Reading.{content_of, IsLawful};
 ghost use Rattle.nts_variance.specs.Terms.{pairs_at, AreGoals};
 ghost use Rattle.nts_table.specs.Tables.{IsTable};
 ghost use Rattle.nts_table.specs.Frames.{ChangesVariables};
-ghost use Rattle.nts_table.specs.Varied.{is_list, variance_at, CanRelate, SidesRelate, RefusesSides, AreWithin, AreMadeFor, IsRelatedBy};
+ghost use Rattle.nts_solver_relating.specs.Sides.{is_list, variance_at, CanRelate, SidesRelate, RefusesSides, AreWithin, AreMadeFor, IsRelatedBy};
 
-use crate::infer_ctxt::InferCtxt;
 use nts_model::{Label, ListHead, Sort, Variance};
 use nts_store::{EvalError, NodeId, Nodes, sort_of};
-use nts_terms::Declarations;
+use nts_table::{InferCtxt, resolve_nodes};
+use nts_terms::{Declarations, Goal, ParamEnv, Predicate};
 use nts_unify::InferCtxtInner;
 use nts_variance::{Relating, predicate_of, relate_rows, relate_terms};
 use std::alloc::Global;
@@ -62,49 +64,54 @@ fn relate_sides(
     relate_terms(alloc, nodes, declarations, table, variance, left, right)
 }
 
-/// The predicates of goals, in their order.
-fn predicates_of(
+/// The goals of pairs in an environment, in their order.
+fn goals_of(
     alloc: Global,
     nodes: &mut Nodes,
-    goals: &[Relating],
-) -> Result<Vec<NodeId>, EvalError>
-    requires within { AreWithin nodes.old goals.now }
-    requires goals { AreGoals (pairs_at nodes.old goals.now) }
+    env: ParamEnv,
+    pairs: &[Relating],
+) -> Result<Vec<Goal>, EvalError>
+    requires within { AreWithin nodes.old pairs.now }
+    requires goals { AreGoals (pairs_at nodes.old pairs.now) }
     ensures extends { Extends nodes.old nodes.new }
-    ensures made { IfOk result (λ ns. AreMadeFor nodes.old nodes.new goals.now ns.items) }
+    ensures made { IfOk result (λ gs. AreMadeFor nodes.old nodes.new env pairs.now gs.items) }
     ensures full { result ≢ Err EvalError.Full }
     ensures no { result ≢ Err EvalError.NoSolution }
 {
     let mut made = Vec::new(alloc);
-    for goal in goals {
-        let predicate = predicate_of(nodes, *goal)?;
-        made.push(predicate)?;
+    for pair in pairs {
+        let node = predicate_of(nodes, *pair)?;
+        made.push(Goal {
+            param_env: env,
+            predicate: Predicate { node },
+        })?;
     }
     Ok(made)
 }
 
-/// Relates two terms, or the arguments of two lists, and makes the predicates of the goals. After an error the table may have grown.
+/// Relates two terms, or the arguments of two lists, and makes the goals that are left. After an error the table may have grown.
 fn relate_for_goals(
     alloc: Global,
     nodes: &mut Nodes,
     declarations: &Declarations,
     table: &mut InferCtxtInner,
+    env: ParamEnv,
     variance: Variance,
     left: NodeId,
     right: NodeId,
-) -> Result<Vec<NodeId>, EvalError>
+) -> Result<Vec<Goal>, EvalError>
     requires lawful { IsLawful nodes.old table.old.entries }
     requires sides { CanRelate nodes.old (content_of nodes.old table.old.entries) left right }
     ensures extends { Extends nodes.old nodes.new }
     ensures changes { KeepsHidden table.old table.new }
     ensures lawful { IsLawful nodes.new table.new.entries }
-    ensures related { IfOk result (λ ns. IsRelatedBy (variances_in declarations.now) nodes.old nodes.new table.old.entries table.new.entries variance (tree_at nodes.old left) (tree_at nodes.old right) ns.items) }
+    ensures related { IfOk result (λ gs. IsRelatedBy (variances_in declarations.now) nodes.old nodes.new table.old.entries table.new.entries env variance (tree_at nodes.old left) (tree_at nodes.old right) gs.items) }
     ensures full { result ≢ Err EvalError.Full }
     ensures no { result ≡ Err EvalError.NoSolution → RefusesSides (variances_in declarations.now) (content_of nodes.old table.old.entries) variance (tree_at nodes.old left) (tree_at nodes.old right) }
 {
     match relate_sides(alloc, nodes, declarations, table, variance, left, right) {
         Err(error) => Err(error),
-        Ok(goals) => predicates_of(alloc, nodes, &goals),
+        Ok(pairs) => goals_of(alloc, nodes, env, &pairs),
     }
 }
 
@@ -114,27 +121,82 @@ fn relate_or_leave(
     nodes: &mut Nodes,
     declarations: &Declarations,
     table: &mut InferCtxtInner,
+    env: ParamEnv,
     variance: Variance,
     left: NodeId,
     right: NodeId,
-) -> Result<Vec<NodeId>, EvalError>
+) -> Result<Vec<Goal>, EvalError>
     requires lawful { IsLawful nodes.old table.old.entries }
     requires sides { CanRelate nodes.old (content_of nodes.old table.old.entries) left right }
     ensures extends { Extends nodes.old nodes.new }
     ensures changes { KeepsHidden table.old table.new }
     ensures lawful { IsLawful nodes.new table.new.entries }
-    ensures related { IfOk result (λ ns. IsRelatedBy (variances_in declarations.now) nodes.old nodes.new table.old.entries table.new.entries variance (tree_at nodes.old left) (tree_at nodes.old right) ns.items) }
+    ensures related { IfOk result (λ gs. IsRelatedBy (variances_in declarations.now) nodes.old nodes.new table.old.entries table.new.entries env variance (tree_at nodes.old left) (tree_at nodes.old right) gs.items) }
     ensures err { OnErr result (table.new ≡ table.old) }
     ensures full { result ≢ Err EvalError.Full }
     ensures no { result ≡ Err EvalError.NoSolution → RefusesSides (variances_in declarations.now) (content_of nodes.old table.old.entries) variance (tree_at nodes.old left) (tree_at nodes.old right) }
 {
     let snapshot = table.start_snapshot()?;
-    let related = relate_for_goals(alloc, nodes, declarations, table, variance, left, right);
+    let related = relate_for_goals(
+        alloc,
+        nodes,
+        declarations,
+        table,
+        env,
+        variance,
+        left,
+        right,
+    );
     table.commit_if_ok(snapshot, related)
 }
 
-/// Relates two terms by a variance, or the arguments of two lists, and answers the predicates of the goals that are left: what rests
-/// on aliases without escaping bound variables, and on type variables that may vary. Consts and arguments of lists do not vary.
+/// Whether the node is a type that is related by a variance which lets it vary.
+fn is_varying_type(nodes: &Nodes, t: NodeId, variance: Variance) -> bool
+    requires within { IsIn nodes.now t }
+    ensures { result ≡ true → kind_of (tree_at nodes.now t) ≡ Some (of_sort sorts.Ty) }
+{
+    variance != Variance::Invariant && matches!(sort_of(nodes.label(t)), Some(Sort::Ty))
+}
+
+/// Relates two types with the values in place of the variables that have one, so that a goal is left only for a variable that gets
+/// its value here. After an error the table is as before.
+fn relate_resolved(
+    alloc: Global,
+    nodes: &mut Nodes,
+    declarations: &Declarations,
+    table: &mut InferCtxt,
+    env: ParamEnv,
+    variance: Variance,
+    left: NodeId,
+    right: NodeId,
+) -> Result<Vec<Goal>, EvalError>
+    requires table { IsTable nodes.old table.old }
+    requires sides { CanRelate nodes.old (content_of nodes.old table.old.entries) left right }
+    requires kind { kind_of (tree_at nodes.old left) ≡ Some (of_sort sorts.Ty) }
+    ensures extends { Extends nodes.old nodes.new }
+    ensures table { IsTable nodes.new table.new }
+    ensures changes { ChangesVariables table.old table.new }
+    ensures related { IfOk result (λ gs. IsRelatedBy (variances_in declarations.now) nodes.old nodes.new table.old.entries table.new.entries env variance (tree_at nodes.old left) (tree_at nodes.old right) gs.items) }
+    ensures err { OnErr result (table.new ≡ table.old) }
+    ensures full { result ≢ Err EvalError.Full }
+    ensures no { result ≡ Err EvalError.NoSolution → RefusesSides (variances_in declarations.now) (content_of nodes.old table.old.entries) variance (tree_at nodes.old left) (tree_at nodes.old right) }
+{
+    let left = resolve_nodes(alloc, nodes, table, left, false)?;
+    let right = resolve_nodes(alloc, nodes, table, right, false)?;
+    relate_or_leave(
+        alloc,
+        nodes,
+        declarations,
+        &mut table.inner,
+        env,
+        variance,
+        left,
+        right,
+    )
+}
+
+/// Relates two terms by a variance, or the arguments of two lists, and answers the goals that are left, in this environment: what
+/// rests on aliases without escaping bound variables, and on type variables that may vary. Consts and arguments of lists do not vary.
 ///
 /// Under each later table in which these goals are answered the two are related; and each settled solution in which they settle goes
 /// on to one of the table in which the goals settle. It is `NoSolution` where they settle in none, and `Memory` where a growth was
@@ -144,25 +206,39 @@ pub fn relate_by(
     nodes: &mut Nodes,
     declarations: &Declarations,
     table: &mut InferCtxt,
+    env: ParamEnv,
     variance: Variance,
     left: NodeId,
     right: NodeId,
-) -> Result<Vec<NodeId>, EvalError>
+) -> Result<Vec<Goal>, EvalError>
     requires table { IsTable nodes.old table.old }
     requires sides { CanRelate nodes.old (content_of nodes.old table.old.entries) left right }
     ensures extends { Extends nodes.old nodes.new }
     ensures table { IsTable nodes.new table.new }
     ensures changes { ChangesVariables table.old table.new }
-    ensures related { IfOk result (λ ns. IsRelatedBy (variances_in declarations.now) nodes.old nodes.new table.old.entries table.new.entries variance (tree_at nodes.old left) (tree_at nodes.old right) ns.items) }
+    ensures related { IfOk result (λ gs. IsRelatedBy (variances_in declarations.now) nodes.old nodes.new table.old.entries table.new.entries env variance (tree_at nodes.old left) (tree_at nodes.old right) gs.items) }
     ensures err { OnErr result (table.new ≡ table.old) }
     ensures full { result ≢ Err EvalError.Full }
     ensures no { result ≡ Err EvalError.NoSolution → RefusesSides (variances_in declarations.now) (content_of nodes.old table.old.entries) variance (tree_at nodes.old left) (tree_at nodes.old right) }
 {
+    if is_varying_type(nodes, left, variance) {
+        return relate_resolved(
+            alloc,
+            nodes,
+            declarations,
+            table,
+            env,
+            variance,
+            left,
+            right,
+        );
+    }
     relate_or_leave(
         alloc,
         nodes,
         declarations,
         &mut table.inner,
+        env,
         variance,
         left,
         right,

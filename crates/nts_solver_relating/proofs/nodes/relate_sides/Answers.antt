@@ -1,10 +1,9 @@
-use Rattle.std.proofs.Common.{◌≡◌, true, false, sym, ◌∙◌}
+use Rattle.std.proofs.Common.{sym, ◌∙◌}
 use Rattle.nts_store.specs.Growth.{tree_at}
 use Rattle.nts_terms.specs.Signatures.{variances_in}
 use Rattle.nts_unify.specs.Reading.{content_of}
-use Rattle.nts_table.specs.Varied.{is_list}
-use Rattle.nts_table.proofs.VariedGoals.{if_ok, lists_of, terms_of, rows_sides, terms_sides, rows_refused, terms_refused}
-use Rattle.nts_table.proofs.varied_nodes.relate_sides.Goals as goal
+use Rattle.nts_solver_relating.proofs.GoalsLeft.{if_ok, lists_of, terms_of, rows_sides, terms_sides, rows_refused, terms_refused}
+use Rattle.nts_solver_relating.proofs.nodes.relate_sides.Goals as goal
 
 pub relate_rows-requires-clause-left : goal.relate_rows-requires-clause-left
 relate_rows-requires-clause-left c =

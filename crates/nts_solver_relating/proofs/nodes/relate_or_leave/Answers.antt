@@ -2,8 +2,8 @@ use Rattle.std.proofs.Common.{◌∙◌}
 use Rattle.nts_unify.proofs.SavedLemmas.{after_attempt}
 use Rattle.nts_unify.specs.Lawful.{IsLawful-extended}
 use Rattle.nts_unify.specs.Reading.{IsLawful}
-use Rattle.nts_table.proofs.VariedGoals.{on_ok}
-use Rattle.nts_table.proofs.varied_nodes.relate_or_leave.Goals as goal
+use Rattle.nts_solver_relating.proofs.GoalsLeft.{on_ok}
+use Rattle.nts_solver_relating.proofs.nodes.relate_or_leave.Goals as goal
 
 pub returns-clause-lawful : goal.returns-clause-lawful
 returns-clause-lawful c =

@@ -1,7 +1,7 @@
 use Rattle.std.proofs.Common.{ap, ◌∙◌}
 use Rattle.nts_table.specs.Tables.{Table}
 use Rattle.nts_table.specs.TableLaws.{IsTable-run}
-use Rattle.nts_table.proofs.varied_nodes.relate_by.Goals as goal
+use Rattle.nts_solver_relating.proofs.nodes.relate_by.Goals as goal
 
 pub returns-clause-table : goal.returns-clause-table
 returns-clause-table c =

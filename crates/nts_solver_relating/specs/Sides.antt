@@ -1,5 +1,5 @@
 -- Terms, or lists of arguments, that are related by a variance under a table, and the predicates of the goals that this leaves.
-use Rattle.std.specs.Prelude.{◌≡◌, ◌⊎◌, ℕ, Bool, true, false, cond, List, [], ◌∷◌, Option, Some, None}
+use Rattle.std.specs.Prelude.{◌≡◌, ◌⊎◌, ℕ, Bool, true, false, cond, List, [], ◌∷◌, Option, Some}
 use Rattle.nts_model.specs.declared.labels.Sort.{Sort}
 use Rattle.nts_model.specs.declared.labels.Sort.TheVariants as sort
 use Rattle.nts_model.specs.declared.labels.Variance.{Variance}
@@ -13,6 +13,13 @@ use Rattle.nts_model.specs.Relations.{Relating as Pair}
 use Rattle.nts_store.specs.declared.nodes.NodeId.{NodeId}
 use Rattle.nts_store.specs.Growth.{tree_at, IsIn}
 use Rattle.nts_store.specs.Sorts.{sort_of_kind}
+use Rattle.nts_terms.specs.declared.handles.Goal.{Goal}
+use Rattle.nts_terms.specs.declared.handles.ParamEnv.{ParamEnv}
+use Rattle.nts_terms.specs.Handles.{HoldsPredicate}
+use Rattle.nts_terms.specs.declared.cx.Cx.{Cx}
+use Rattle.nts_terms.specs.Rest.{Grows}
+use Rattle.nts_table.specs.Tables.{Table, IsTable}
+use Rattle.nts_table.specs.Frames.{ChangesVariables}
 use Rattle.nts_unify.specs.Entries.{Entries}
 use Rattle.nts_unify.specs.Reading.{content_of}
 use Rattle.nts_variance.specs.declared.along.Relating.{Relating}
@@ -63,20 +70,38 @@ abbrev pub AreWithin : List Tree → List Relating → Type 0
 AreWithin ts [] = Unit {0}
 AreWithin ts (g ∷ gs) = (IsIn ts g.left × IsIn ts g.right) × AreWithin ts gs
 
--- the predicates of goals, in a store that has grown
-abbrev pub AreMadeFor : List Tree → List Tree → List Relating → List NodeId → Type 0
-AreMadeFor ts us [] [] = Unit {0}
-AreMadeFor ts us (g ∷ gs) (n ∷ ns) = (IsIn us n × (tree_at us n ≡ goal_of (pair_at ts g))) × AreMadeFor ts us gs ns
-AreMadeFor ts us gs ns = ⊥
+-- the goal of a pair in an environment, in a store that has grown
+pub record IsMadeGoal (ts us : List Tree) (env : ParamEnv) (p : Relating) (g : Goal) : Type 0 where
+  pub param_env : g.param_env ≡ env
+  pub within : IsIn us g.predicate.node
+  pub tree : tree_at us g.predicate.node ≡ goal_of (pair_at ts p)
 
--- .. and of the table
-abbrev pub ArePredicates : List Tree → Content → List Relating → List NodeId → Type 0
-ArePredicates ts c [] [] = Unit {0}
-ArePredicates ts c (g ∷ gs) (n ∷ ns) = (IsIn ts n × Knows c (tree_at ts n) × (tree_at ts n ≡ goal_of (pair_at ts g))) × ArePredicates ts c gs ns
-ArePredicates ts c gs ns = ⊥
+abbrev pub AreMadeFor : List Tree → List Tree → ParamEnv → List Relating → List Goal → Type 0
+AreMadeFor ts us env [] [] = Unit {0}
+AreMadeFor ts us env (p ∷ ps) (g ∷ gs) = IsMadeGoal ts us env p g × AreMadeFor ts us env ps gs
+AreMadeFor ts us env ps gs = ⊥
 
--- relating them left goals alone, whose predicates these are
-pub record IsRelatedBy (declared : ℕ → List Variance) (ts us : List Tree) (e f : Entries) (v : Variance) (a b : Tree) (ns : List NodeId) : Type 0 where
-  pub goals : List Relating
-  pub related : SidesRelate declared ts us e f v a b goals
-  pub predicates : ArePredicates us (content_of us f) goals ns
+-- .. a goal of the store and the table
+pub record IsGoalOfPair (ts : List Tree) (c : Content) (env : ParamEnv) (p : Relating) (g : Goal) : Type 0 where
+  pub param_env : g.param_env ≡ env
+  pub holds : HoldsPredicate ts g.predicate
+  pub knows : Knows c (tree_at ts g.predicate.node)
+  pub tree : tree_at ts g.predicate.node ≡ goal_of (pair_at ts p)
+
+abbrev pub AreGoalsOfPairs : List Tree → Content → ParamEnv → List Relating → List Goal → Type 0
+AreGoalsOfPairs ts c env [] [] = Unit {0}
+AreGoalsOfPairs ts c env (p ∷ ps) (g ∷ gs) = IsGoalOfPair ts c env p g × AreGoalsOfPairs ts c env ps gs
+AreGoalsOfPairs ts c env ps gs = ⊥
+
+-- relating them left goals alone, which these are
+pub record IsRelatedBy (declared : ℕ → List Variance) (ts us : List Tree) (e f : Entries) (env : ParamEnv) (v : Variance) (a b : Tree) (gs : List Goal) : Type 0 where
+  pub pairs : List Relating
+  pub related : SidesRelate declared ts us e f v a b pairs
+  pub goals : AreGoalsOfPairs us (content_of us f) env pairs gs
+
+-- what relating keeps, whatever it answers: the store grew at most, and the table is one of it; its snapshots, mode, current universe
+-- and hidden types are as before
+pub record SolverRelatingKeeps (old new : Cx) (t u : Table) : Type 0 where
+  pub grows : Grows old new
+  pub table : IsTable new.nodes u
+  pub changes : ChangesVariables t u

@@ -1,0 +1,9 @@
+//! Relating by a variance as callers see it: two values of the table are related until goals alone are left, and these come as goals
+//! that can be asked.
+#![tactic(auto)]
+
+mod nodes;
+mod values;
+
+pub use nodes::relate_by;
+pub use values::relate;

@@ -1,0 +1,20 @@
+-- Classes of sub-unification in a table that has grown.
+use Rattle.std.specs.Prelude.{◌≡◌, ℕ, ◌≤◌, ◌<◌, length, Option, Some}
+use Rattle.nts_model.specs.Contents.{Content, link, state_of}
+use Rattle.nts_model.specs.SubUnifying.{SharesSubRoot, BecameOne}
+
+-- two variables that were of one class, or of classes that are joined since: by variables that became one, or by a new variable and the
+-- one whose class it was made in, which `made_in` tells of each new variable
+pub data AreJoinedSince (made_in : ℕ → Option ℕ) (c d : Content) : ℕ → ℕ → Type 0 where
+  was : {n m : ℕ} → SharesSubRoot c n m → AreJoinedSince made_in c d n m
+  became : {n m : ℕ} → BecameOne c d n m → AreJoinedSince made_in c d n m
+  made : {n m : ℕ} → length c.slots ≤ n → n < length d.slots → made_in n ≡ Some m → AreJoinedSince made_in c d n m
+  reversed : {n m : ℕ} → AreJoinedSince made_in c d n m → AreJoinedSince made_in c d m n
+  onward : {n m k : ℕ} → AreJoinedSince made_in c d n m → AreJoinedSince made_in c d m k → AreJoinedSince made_in c d n k
+
+-- afterwards two variables are of one class exactly if they were before, or were joined since; links stay
+pub record GrowsSubRoots (c d : Content) : Type 0 where
+  pub made_in : ℕ → Option ℕ
+  pub links : (n m : ℕ) → state_of c n ≡ Some (link m) → state_of d n ≡ Some (link m)
+  pub only : (n m : ℕ) → SharesSubRoot d n m → AreJoinedSince made_in c d n m
+  pub all : (n m : ℕ) → AreJoinedSince made_in c d n m → SharesSubRoot d n m
