@@ -1,6 +1,6 @@
 -- How many closed aliases trees have: as many as those that are one with them but for regions, and as many as before where a
 -- variable gets a value without any.
-use Rattle.std.proofs.Common.{◌≡◌, ◌≢◌, ⊎_elim, ℕ, zero, suc, ◌+◌, ◌<◌, Bool, true, List, [], ◌∷◌, Option, Some, None, refl, sym, ap, ◌∙◌, arith}
+use Rattle.std.proofs.Common.{◌≡◌, ◌≢◌, ◌⊎◌, inl, inr, ⊎_elim, ℕ, zero, suc, ◌+◌, ◌<◌, Bool, true, List, [], ◌∷◌, Option, Some, None, refl, sym, ap, ◌∙◌, arith}
 use Rattle.std.specs.Prelude.{reverse, ◌&&◌}
 use Rattle.nts_model.specs.declared.labels.VariableKind.{VariableKind}
 use Rattle.nts_model.specs.declared.labels.VariableKind.TheVariants as kind
@@ -191,19 +191,12 @@ aliases_continue c d t s z h v k =
     let free : AllUnset c deep = AllUnset-lacks c deep s (Knows-deeply_resolved c t s k) (λ n q. Lacks-rooted c n (resolved c t) (Lacks-resolved c t n s q)) in
     sym (aliases_rooted d (resolved d t)) ∙ ap closed_aliases (sym (h.values t k)) ∙ aliases_rooted d (resolved d deep) ∙ aliases_later c d deep z v free ∙ aliases_rooted c (resolved c t)
 
--- two variables that are joined: the higher one stands for the lower one
-pub joined_none : (c d : Content) (low high : ℕ) (k : VariableKind) → IsSound d → (low ≡ high → ⊥) → state_of c low ≡ Some unset → kind_at d high ≡ Some k → k ≢ kind.Region → state_of d high ≡ Some (link low) → ((n : ℕ) → (n ≡ high → ⊥) → state_of d n ≡ state_of c n) → VariablesHaveNone c d
-joined_none c d low high k s apart free has no_region linked others l x n is state =
-    ⊎_elim (λ (same : n ≡ high). is_high (is ∙ ap Some same)) (λ (d' : n ≡ high → ⊥). is_other d') (same_or_other n high)
+-- two variables that are joined: the higher one stands for the lower one, and each other one without a value for itself
+pub joined_variable : (c d : Content) (low high : ℕ) (k : VariableKind) → IsSound d → (low ≡ high → ⊥) → state_of c low ≡ Some unset → kind_at d high ≡ Some k → k ≢ kind.Region → state_of d high ≡ Some (link low) → ((n : ℕ) → (n ≡ high → ⊥) → state_of d n ≡ state_of c n)
+    → (l : Label) (x : Tree) (n : ℕ) → infer_of l ≡ Some n → state_of c n ≡ Some unset → (resolved d (node l x) ≡ node l x) ⊎ (resolved d (node l x) ≡ variable_tree k low)
+joined_variable c d low high k s apart free has no_region linked others l x n is state =
+    ⊎_elim (λ (same : n ≡ high). inr (is_high (is ∙ ap Some same))) (λ (q : n ≡ high → ⊥). inl (resolved-variable_unset d l x n s is (others n q ∙ state))) (same_or_other n high)
   where
-    variable_stays : (m : Label) (y : Tree) (i : ℕ) → infer_of m ≡ Some i → state_of d i ≡ Some unset → closed_aliases (resolved d (node m y)) ≡ 0
-    variable_stays m y i e q =
-        let none : closed_aliases (node m y) ≡ 0 = rw e refl in
-        ap closed_aliases (resolved-variable_unset d m y i s e q) ∙ none
-
-    is_other : (n ≡ high → ⊥) → closed_aliases (resolved d (node l x)) ≡ 0
-    is_other q = variable_stays l x n is (others n q ∙ state)
-
     low_number : (j : VariableKind) → j ≢ kind.Region → infer_of (label.Leaf (leaf.Variable j low)) ≡ Some low
     low_number kind.Ty r = refl
     low_number kind.Int r = refl
@@ -211,12 +204,17 @@ joined_none c d low high k s apart free has no_region linked others l x n is sta
     low_number kind.Const r = refl
     low_number kind.Region r = absurd (r refl)
 
-    is_high : infer_of l ≡ Some high → closed_aliases (resolved d (node l x)) ≡ 0
+    is_high : infer_of l ≡ Some high → resolved d (node l x) ≡ variable_tree k low
     is_high e =
         let value : value_at d high ≡ variable_tree k low = rw (has, linked) refl in
         let bound : IsOneOf high (reverse d.order) = s.linked high low linked (λ q. no_region (let z : Some k ≡ Some kind.Region = sym has ∙ q in cc)) in
         let same : resolved d (node l x) ≡ resolved d (variable_tree k low) = under-bound (value_at d) (reverse d.order) l x high e bound s.acyclic ∙ ap (resolved d) value in
-        ap closed_aliases same ∙ variable_stays (label.Leaf (leaf.Variable k low)) empty low (low_number k no_region) (others low apart ∙ free)
+        same ∙ resolved-variable_unset d (label.Leaf (leaf.Variable k low)) empty low s (low_number k no_region) (others low apart ∙ free)
+
+pub joined_none : (c d : Content) (low high : ℕ) (k : VariableKind) → IsSound d → (low ≡ high → ⊥) → state_of c low ≡ Some unset → kind_at d high ≡ Some k → k ≢ kind.Region → state_of d high ≡ Some (link low) → ((n : ℕ) → (n ≡ high → ⊥) → state_of d n ≡ state_of c n) → VariablesHaveNone c d
+joined_none c d low high k s apart free has no_region linked others l x n is state =
+    let none : closed_aliases (node l x) ≡ 0 = rw is refl in
+    ⊎_elim (λ q. ap closed_aliases q ∙ none) (λ q. ap closed_aliases q ∙ variable_none k low) (joined_variable c d low high k s apart free has no_region linked others l x n is state)
 
 -- a variable without a value
 pub unset_none : (c : Content) (k : VariableKind) (n : ℕ) → IsSound c → infer_of (label.Leaf (leaf.Variable k n)) ≡ Some n → state_of c n ≡ Some unset → closed_aliases (resolved c (variable_tree k n)) ≡ 0

@@ -1,6 +1,6 @@
 -- A variable gets a value.
 use Rattle.nts_unify.proofs.Changes.{some_inj}
-use Rattle.std.proofs.Common.{◌≡◌, ◌≢◌, ℕ, ◌<◌, List, length, Some, refl, sym, ap, subst, ◌∙◌, arith}
+use Rattle.std.proofs.Common.{◌≡◌, ◌≢◌, ℕ, ◌<◌, List, length, Some, false, refl, sym, ap, subst, ◌∙◌, arith}
 use Rattle.std.specs.Prelude.{slice_get, slice_set}
 use Rattle.nts_model.specs.declared.labels.VariableKind.{VariableKind}
 use Rattle.nts_model.specs.declared.labels.VariableKind.TheVariants as kind
@@ -27,9 +27,10 @@ use Rattle.nts_model.proofs.Alike.{AreAlike-continues, AreAlike-for}
 use Rattle.nts_unify.proofs.Leading.{universe_of-entry}
 use Rattle.nts_relating.proofs.Naming.{lawful_sides, kind_read}
 use Rattle.nts_relating.proofs.AliasCounts.{aliases_one, aliases_known, unset_none}
+use Rattle.nts_relating.proofs.Plain.{plain_one, plain_known, unset_plain}
 use Rattle.nts_relating.proofs.PairLemmas.{set_one}
 use Rattle.nts_relating.proofs.Ranks.{kind_of-like}
-use Rattle.nts_model.specs.Trees.{Tree, empty, of_sort, sort_of_variable, kind_of, IsFormed}
+use Rattle.nts_model.specs.Trees.{Tree, empty, of_sort, sort_of_variable, kind_of, any_label, is_alias, IsFormed}
 use Rattle.nts_model.specs.Contents.{Content, unset, known, state_of, kind_at, bound_to}
 use Rattle.nts_model.proofs.Slots.{length-slice_set, slice_get_below}
 use Rattle.nts_model.proofs.Binding.{IsKnowable, kind_at-set, IsSound-known, resolved-known_value}
@@ -134,6 +135,11 @@ bind_value ts us e f g x t v w z before_lawful can_bind at knows_term h within f
             (let same : closed_aliases (resolved d (tree_at us v)) ≡ closed_aliases (resolved c (tree_at ts t)) =
             aliases_one d (tree_at us v) (tree_at ts t) gen.alike ∙ ap closed_aliases (gen.keeps.trees (tree_at ts t) knows_term) in
             aliases_known d x (slot_of us new) (tree_at us v) h.sound can (same ∙ none) a ∙ ap closed_aliases (gen.keeps.trees a k));
+        plain = λ none. record {
+          plain = λ a k i.
+              (let value : any_label is_alias (resolved d (tree_at us v)) ≡ false = plain_one d (tree_at us v) (tree_at ts t) gen.alike ∙ ap (any_label is_alias) (gen.keeps.trees (tree_at ts t) knows_term) ∙ none in
+              plain_known d x (slot_of us new) (tree_at us v) h.sound can value a (ap (any_label is_alias) (gen.keeps.trees a k) ∙ i));
+        };
         sound = λ y a.
             let b = Solves-from_known d x (slot_of us new) (tree_at us v) can refl y a in
             let p = gen.sound y b.0 in
@@ -215,4 +221,5 @@ taken ts us vs e f g x y k t v w z u lawful ext can at_x at_y same is h within f
     let set : IsSet (content_of us e) (content_of vs g) x (variable_tree u.kind y) = subst (λ (s : Tree). IsSet (content_of us e) (content_of vs g) x s) tree value.set in
     let none : closed_aliases (resolved (content_of us e) (variable_tree u.kind y)) ≡ 0 =
     unset_none (content_of us e) u.kind y (IsLawful-extended ext lawful).sound (infer_number_some u.kind y no_region) free in
-    (value.lawful, subst (λ (c : Content). AreMadeOne c (content_of vs g) x y) (content_of-extended ext lawful) (set_one u.kind w.universe has (universe_of-entry us e x w at_x) names none set))
+    let plain = unset_plain (content_of us e) u.kind y (IsLawful-extended ext lawful).sound (infer_number_some u.kind y no_region) free in
+    (value.lawful, subst (λ (c : Content). AreMadeOne c (content_of vs g) x y) (content_of-extended ext lawful) (set_one u.kind w.universe has (universe_of-entry us e x w at_x) names none plain set))

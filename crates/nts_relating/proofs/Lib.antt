@@ -14,3 +14,4 @@ pub mod RegionLemmas
 pub mod ValueParts
 pub mod ValueTasks
 pub mod ValueTurns
+pub mod Plain

@@ -31,6 +31,7 @@ use Rattle.nts_unify.proofs.Keeping.{Knows-later, IsLater-refl}
 use Rattle.nts_relating.proofs.GenLemmas.{IsFair, unchanged}
 use Rattle.nts_relating.proofs.Naming.{lawful_sides, alone_label}
 use Rattle.nts_model.proofs.Bringing.{brings-of, brings-refl}
+use Rattle.nts_relating.proofs.Plain.{plain_refl}
 use Rattle.nts_relating.proofs.PairLemmas.{Stepped, PairsBring-last, last_pair, pairs_at-push, pairs_at-extended, ArePairsIn-push, ArePairsIn-extended, Equates-push, Equates-front, AllAlike-push, total-last, not_infer, variables_related, variable_same}
 
 -- nodes that are no variables
@@ -234,7 +235,7 @@ passed_met ts e ps ms p a b v ha hb found o =
             complete = λ w z q. (unchanged c w z, (Equates-front w (pairs_at ts ps) (pair_at ts p) q).0);
             alike = λ f h next q. AllAlike-push f (pairs_at ts ps) (pair_at ts p) q (one (of_table f) (h, next) (below_table f (judged_size (of_table f) (tree_at ts a)) (pairs_at ts ps) q));
           });
-          brings = rw (pairs_at-push ts ps p) (PairsBring-last c c (pairs_at ts ps) (pair_at ts p) (brings-of (tree_at ts p.left) (tree_at ts p.right) (brings-refl c)));
+          brings = rw (pairs_at-push ts ps p) (PairsBring-last c c (pairs_at ts ps) (pair_at ts p) (brings-of (tree_at ts p.left) (tree_at ts p.right) (brings-refl c)) last.front.known (λ i j. plain_refl c));
           ties = TiesNew-same c c refl;
           fewer = λ (q : false ≡ true). cc;
           smaller = λ q. (omega (arith, total-last ts c ps p), refl);

@@ -5,7 +5,7 @@ use Rattle.nts_model.specs.declared.labels.VariableKind.TheVariants as kind
 use Rattle.nts_model.specs.declared.labels.Leaf.TheVariants as leaf
 use Rattle.nts_model.specs.declared.labels.Label.{Label}
 use Rattle.nts_model.specs.declared.labels.Label.TheVariants as label
-use Rattle.nts_model.specs.Trees.{Tree, empty, more, node, size, row_length, row_at, IsRow, children, label_of}
+use Rattle.nts_model.specs.Trees.{Tree, empty, more, node, size, row_length, row_at, IsRow, children, label_of, any_label, is_alias}
 use Rattle.nts_model.specs.Contents.{Content, unset, state_of, kind_at, universe_of}
 use Rattle.nts_model.specs.Levels.{NamesAll, region_level}
 use Rattle.nts_model.specs.Resolving.{Knows, variable_of, variable_tree, resolved, rooted, infer_of, IsInfer, IsSound}
@@ -36,11 +36,12 @@ use Rattle.nts_unify.specs.Joining.{Joins}
 use Rattle.nts_unify.specs.Unchanged.{HasUnset}
 use Rattle.nts_relating.specs.Knowing.{row_from}
 use Rattle.nts_relating.specs.Met.{judged_size, JudgesOne, OneBelow}
-use Rattle.nts_relating.specs.Relating.{IsOpen, IsClosedHead, IsSet, RegionsRelate, pair_at, pairs_at, ArePairsIn, AreKnown, PairsPass, PairsBring, total, Pushed, IsValid, IsPairStep, IsPairRun, Running, AreMadeOne, VariablesRelate}
+use Rattle.nts_relating.specs.Relating.{IsOpen, IsClosedHead, IsSet, RegionsRelate, pair_at, pairs_at, ArePairsIn, AreKnown, PairsPass, PairsBring, total, Pushed, IsValid, IsPairStep, IsPairRun, Running, AreMadeOne, VariablesRelate, IsPlainIn, KeepsPlain}
 use Rattle.nts_unify.proofs.Keeping.{IsLater-refl, IsLater-trans, Knows-later, Keeps-refl}
 use Rattle.nts_unify.proofs.JoinLemmas.{free_slot, at_min, at_max}
 use Rattle.nts_unify.proofs.Tied.{ties_of_keeps}
 use Rattle.nts_relating.proofs.AliasCounts.{aliases_continue, joined_none}
+use Rattle.nts_relating.proofs.Plain.{neither, joined_plain, plain_kept, plain_refl, plain_then, plain_front, plain_push, plain_row_at, pairs_plain}
 use Rattle.nts_relating.proofs.RegionLemmas.{from_sides, to_sides}
 use Rattle.nts_relating.proofs.GenLemmas.{IsFair, unchanged}
 use Rattle.nts_relating.proofs.Naming.{lawful_sides, alone_label}
@@ -80,15 +81,19 @@ PairsPass-front P [] p h = (tt, h.0, h.1)
 PairsPass-front P (q ∷ ps) p h = let i = PairsPass-front P ps p h.2 in ((h.0, h.1, i.0), i.1, i.2)
 
 PairsBring-refl : (c : Content) (ps : List (Tree × Tree)) → PairsBring c c ps ps
-PairsBring-refl c ps = record { labels = λ P v h k. (h, k) }
+PairsBring-refl c ps = record { labels = λ P v h k. (h, k); plain = λ h. (plain_refl c, h) }
 
-PairsBring-trans : {c d e : Content} {ps qs rs : List (Tree × Tree)} → PairsBring c d ps qs → PairsBring d e qs rs → PairsBring c e ps rs
-PairsBring-trans a b = record { labels = λ P v h k. let q = a.labels P v h k in b.labels P v q.0 q.1 }
+PairsBring-trans : {c d e : Content} {ps qs rs : List (Tree × Tree)} → IsLater c d → PairsBring c d ps qs → PairsBring d e qs rs → PairsBring c e ps rs
+PairsBring-trans l a b =
+    record { labels = λ P v h k. (let q = a.labels P v h k in b.labels P v q.0 q.1); plain = λ h. (let q = a.plain h in let r = b.plain q.1 in (plain_then l q.0 r.0, r.1)) }
 
 -- the last pair is done
-pub PairsBring-last : (c d : Content) (ps : List (Tree × Tree)) (p : Tree × Tree) → BringsLabelsOf c d p.0 p.1 → PairsBring c d (ps ++ p ∷ []) ps
-PairsBring-last c d ps p h =
-    record { labels = λ P v k l. let parts = PairsPass-front P ps p l in (h.labels P v k parts.1 parts.2, parts.0) }
+pub PairsBring-last : (c d : Content) (ps : List (Tree × Tree)) (p : Tree × Tree) → BringsLabelsOf c d p.0 p.1 → AreKnown c ps → (IsPlainIn c p.0 → IsPlainIn c p.1 → KeepsPlain c d) → PairsBring c d (ps ++ p ∷ []) ps
+PairsBring-last c d ps p h known plain =
+    record {
+      labels = λ P v k l. (let parts = PairsPass-front P ps p l in (h.labels P v k parts.1 parts.2, parts.0));
+      plain = λ q. (let parts = plain_front c ps p q in let kept = plain parts.1 parts.2 in (kept, pairs_plain ps kept known parts.0));
+    }
 
 total-push : (c : Content) (ps : List (Tree × Tree)) (p : Tree × Tree) → total c (ps ++ p ∷ []) ≡ total c ps + size (resolved c p.0) + size (resolved c p.1) + 1
 total-push c [] p = omega arith
@@ -221,18 +226,20 @@ reduces_last ts us e f ps p v x h l r =
     rw (pairs_at-push ts ps p, pairs_at-extended ps x last.front.within)
     (Reduces-last (content_of ts e) (content_of us f) (pairs_at ts ps) (pair_at ts p) (record { sound = h.sound; sides = lawful_sides us f h }) l last.front.known last.left_known last.right_known r)
 
-brings_last : (ts us : List Tree) (e f : Entries) (ps : List Pair) (p : Pair) → IsValid ts e (ps ++ p ∷ []) → Extends ts us → BringsLabelsOf (content_of ts e) (content_of us f) (tree_at ts p.left) (tree_at ts p.right) → PairsBring (content_of ts e) (content_of us f) (pairs_at ts (ps ++ p ∷ [])) (pairs_at us ps)
-brings_last ts us e f ps p v x h =
+brings_last : (ts us : List Tree) (e f : Entries) (ps : List Pair) (p : Pair) → IsValid ts e (ps ++ p ∷ []) → Extends ts us → BringsLabelsOf (content_of ts e) (content_of us f) (tree_at ts p.left) (tree_at ts p.right) → (IsPlainIn (content_of ts e) (tree_at ts p.left) → IsPlainIn (content_of ts e) (tree_at ts p.right) → KeepsPlain (content_of ts e) (content_of us f))
+    → PairsBring (content_of ts e) (content_of us f) (pairs_at ts (ps ++ p ∷ [])) (pairs_at us ps)
+brings_last ts us e f ps p v x h plain =
     let last = last_pair ts e ps p v in
-    rw (pairs_at-push ts ps p, pairs_at-extended ps x last.front.within) (PairsBring-last (content_of ts e) (content_of us f) (pairs_at ts ps) (pair_at ts p) h)
+    rw (pairs_at-push ts ps p, pairs_at-extended ps x last.front.within) (PairsBring-last (content_of ts e) (content_of us f) (pairs_at ts ps) (pair_at ts p) h last.front.known plain)
 
 -- a variable got a value
-pub step_set : (ts us : List Tree) (e f : Entries) (ps : List Pair) (p : Pair) → IsValid ts e (ps ++ p ∷ []) → Extends ts us → IsLawful us f → IsLater (content_of ts e) (content_of us f) → unset_count (content_of us f).slots < unset_count (content_of ts e).slots → AreRelated (content_of ts e) (content_of us f) (tree_at ts p.left) (tree_at ts p.right) → BringsLabelsOf (content_of ts e) (content_of us f) (tree_at ts p.left) (tree_at ts p.right) → TiesNew (content_of ts e) (content_of us f) → Stepped ts us e f ps ps p true
-step_set ts us e f ps p v x h l less r brings ties =
+pub step_set : (ts us : List Tree) (e f : Entries) (ps : List Pair) (p : Pair) → IsValid ts e (ps ++ p ∷ []) → Extends ts us → IsLawful us f → IsLater (content_of ts e) (content_of us f) → unset_count (content_of us f).slots < unset_count (content_of ts e).slots → AreRelated (content_of ts e) (content_of us f) (tree_at ts p.left) (tree_at ts p.right) → BringsLabelsOf (content_of ts e) (content_of us f) (tree_at ts p.left) (tree_at ts p.right) → (IsPlainIn (content_of ts e) (tree_at ts p.left) → IsPlainIn (content_of ts e) (tree_at ts p.right) → KeepsPlain (content_of ts e) (content_of us f)) → TiesNew (content_of ts e) (content_of us f)
+    → Stepped ts us e f ps ps p true
+step_set ts us e f ps p v x h l less r brings plain ties =
     let last = last_pair ts e ps p v in
     record {
       valid = valid_later ps last.front x l h;
-      step = record { later = l; reduces = reduces_last ts us e f ps p v x h l r; brings = brings_last ts us e f ps p v x brings; ties = ties; fewer = λ q. less; smaller = λ (q : true ≡ false). cc };
+      step = record { later = l; reduces = reduces_last ts us e f ps p v x h l r; brings = brings_last ts us e f ps p v x brings plain; ties = ties; fewer = λ q. less; smaller = λ (q : true ≡ false). cc };
     }
 
 -- the variable on one side
@@ -257,6 +264,9 @@ set_left ts us e f p x b h k kl kr o r s =
 pub set_brings : {c d : Content} {x : ℕ} {a b t : Tree} → IsClosedHead c t b → IsSet c d x b → BringsLabelsOf c d a t
 set_brings r s = record { labels = λ P v h i j. s.brings.labels P v h (r.labels P h j) tt }
 
+pub set_plain : {c d : Content} {x : ℕ} {b t : Tree} → IsClosedHead c t b → IsSet c d x b → IsPlainIn c t → KeepsPlain c d
+set_plain r s h = s.plain (ap (any_label is_alias) (sym r.same) ∙ h)
+
 pub AreRelated-turned : {c d : Content} {a b : Tree} → AreRelated c d a b → AreRelated c d b a
 AreRelated-turned {c} {d} {a} {b} r =
     record {
@@ -279,7 +289,7 @@ step_kept ts e f ps p v h k r brings =
       step = record {
         later = k.later;
         reduces = reduces_last ts ts e f ps p v (Extends-refl ts) h k.later r;
-        brings = brings_last ts ts e f ps p v (Extends-refl ts) brings;
+        brings = brings_last ts ts e f ps p v (Extends-refl ts) brings (λ a b. plain_kept k);
         ties = ties_of_keeps (content_of ts e) (content_of ts f) h.sound k;
         fewer = λ (q : false ≡ true). cc;
         smaller = λ q. (omega (arith, total-kept (pairs_at ts ps) k last.front.known, total-last ts (content_of ts e) ps p), k.unset_kept);
@@ -361,6 +371,7 @@ joined_one ts us e f x y j k h hx hy no_region kinds same_store joins =
         brings = joins.brings;
         ties = TiesNew-same c d joins.joined.slots;
         aliases = λ t q. aliases_continue c d t h.sound joins.lawful.sound one.continues none q;
+        plain = joined_plain c d (min x y) (max x y) j h.sound joins.lawful.sound one.continues apart lower_free high no_region one.linked joins.joined.others;
         sound = λ w z. (let q = one.narrows.sound w z in (q.0, from_sides w.tree x y q.1));
         complete = λ w z q. record {
           world = w;
@@ -372,8 +383,8 @@ joined_one ts us e f x y j k h hx hy no_region kinds same_store joins =
     )
 
 -- .. of which one got the other as its value
-pub set_one : {c d : Content} {x y : ℕ} (k : VariableKind) (u : ℕ) → kind_at c y ≡ Some k → universe_of c x ≡ Some u → NamesAll region_level u (resolved c (variable_tree k y)) → closed_aliases (resolved c (variable_tree k y)) ≡ 0 → IsSet c d x (variable_tree k y) → AreMadeOne c d x y
-set_one {c} {d} {x} {y} k u has universe names none s =
+pub set_one : {c d : Content} {x y : ℕ} (k : VariableKind) (u : ℕ) → kind_at c y ≡ Some k → universe_of c x ≡ Some u → NamesAll region_level u (resolved c (variable_tree k y)) → closed_aliases (resolved c (variable_tree k y)) ≡ 0 → IsPlainIn c (variable_tree k y) → IsSet c d x (variable_tree k y) → AreMadeOne c d x y
+set_one {c} {d} {x} {y} k u has universe names none plain s =
     record {
       later = s.later;
       fewer = s.fewer;
@@ -383,6 +394,7 @@ set_one {c} {d} {x} {y} k u has universe names none s =
       brings = record { labels = λ P v h. s.brings.labels P v h (v k y, tt) tt };
       ties = s.ties;
       aliases = s.aliases none;
+      plain = s.plain plain;
       sound = λ w z. s.sound w z;
       complete = λ w z q. s.complete w z q;
     }
@@ -398,6 +410,7 @@ AreMadeOne-turned {c} {d} {x} {y} m =
       brings = m.brings;
       ties = m.ties;
       aliases = m.aliases;
+      plain = m.plain;
       sound = λ w z. (let q = m.sound w z in (q.0, sym q.1));
       complete = λ w z q. m.complete w z (sym q);
     }
@@ -425,7 +438,7 @@ pub step_variables : (ts us : List Tree) (e f : Entries) (ps : List Pair) (p : P
 step_variables ts us e f ps p x y true v ext o q r =
     let m = r.made refl in
     let last = last_pair ts e ps p v in
-    step_set ts us e f ps p v ext m.0 m.1.later m.1.fewer (variables_related ts us e f (tree_at ts p.left) (tree_at ts p.right) x y last.left_known last.right_known o q m.1) (brings-of (tree_at ts p.left) (tree_at ts p.right) m.1.brings) m.1.ties
+    step_set ts us e f ps p v ext m.0 m.1.later m.1.fewer (variables_related ts us e f (tree_at ts p.left) (tree_at ts p.right) x y last.left_known last.right_known o q m.1) (brings-of (tree_at ts p.left) (tree_at ts p.right) m.1.brings) (λ a b. m.1.plain) m.1.ties
 step_variables ts us e f ps p x y false v ext o q r =
     let same = r.same refl in
     let store : us ≡ ts = same.0 in
@@ -445,6 +458,7 @@ pushed_none ts ps a b i ra rb ia ib =
       alike = λ c h. (h, rw (ea, eb) (AreAlike-itself c empty));
       weight = λ c. omega (arith, ap row_length ea, ap (λ t. size (resolved c t)) ea, ap (λ t. size (resolved c t)) eb, ap size (resolved-empty c));
       labels = λ P i j h. h;
+      plain = λ c k l h. h;
       below = λ j n h. (h, λ l. rw (ea, eb) (one-itself j empty));
     }
 
@@ -483,6 +497,10 @@ pushed_more ts ps qs rs a b i j x y h next la lb ix iy ex ey e =
           let kx : TreePasses P (tree_at ts x) = rw ex (passes-row_at (λ z. P z ≡ true) a i ka) in
           let ky : TreePasses P (tree_at ts y) = rw ey (passes-row_at (λ z. P z ≡ true) b i kb) in
           rw (e, pairs_at-push ts qs p) (PairsPass-push P (pairs_at ts qs) (pair_at ts p) (h.labels P ka kb w) kx ky);
+      plain = λ c ka kb w.
+          let kx : IsPlainIn c (tree_at ts x) = rw ex (plain_row_at c a i la ka) in
+          let ky : IsPlainIn c (tree_at ts y) = rw ey (plain_row_at c b i lb kb) in
+          rw (e, pairs_at-push ts qs p) (plain_push c (pairs_at ts qs) (pair_at ts p) (h.plain c ka kb w) kx ky);
       below = λ k n z.
           let q : OneBelow k n (pairs_at ts qs ++ pair_at ts p ∷ []) = rw (e, pairs_at-push ts qs p) at z in
           let parts = below_front k n (pairs_at ts qs) (pair_at ts p) q in
@@ -559,6 +577,11 @@ step_pushed ts e ps qs p a b l m v ha hb ia ib same not_free k =
               let left = passes-children (λ z. P z ≡ true) (tree_at ts a) (ha.labels P h parts.1) in
               let right = passes-children (λ z. P z ≡ true) (tree_at ts b) (hb.labels P h parts.2) in
               (h, k.labels P left right parts.0);
+          plain = λ q.
+              let parts = plain_front c (pairs_at ts ps) (pair_at ts p) q in
+              let left = (neither (is_alias l) _ (ap (any_label is_alias) (sym (ha.same ∙ sa)) ∙ parts.1)).1 in
+              let right = (neither (is_alias m) _ (ap (any_label is_alias) (sym (hb.same ∙ sb)) ∙ parts.2)).1 in
+              (plain_refl c, k.plain c left right parts.0);
         });
         ties = TiesNew-same c c refl;
         fewer = λ (q : false ≡ true). cc;
@@ -580,14 +603,14 @@ running_start c ps s = record { later = IsLater-refl c; reduces = Reduces-refl c
 
 pub running_step : {c d e : Content} {ps qs rs : List (Tree × Tree)} {b : Bool} → IsSound c → IsSound d → Running c d ps qs → IsPairStep d e qs rs b → b ≡ false → Running c e ps rs
 running_step {c} {d} {e} s z r k f =
-    record { later = IsLater-trans r.later k.later; reduces = Reduces-trans s z r.reduces k.reduces; brings = PairsBring-trans r.brings k.brings; ties = TiesNew-trans c d e k.reduces.continues r.ties k.ties; not_more = omega (arith, r.not_more, (k.smaller f).1) }
+    record { later = IsLater-trans r.later k.later; reduces = Reduces-trans s z r.reduces k.reduces; brings = PairsBring-trans r.later r.brings k.brings; ties = TiesNew-trans c d e k.reduces.continues r.ties k.ties; not_more = omega (arith, r.not_more, (k.smaller f).1) }
 
 pub running_bound : {c d e : Content} {ps qs rs : List (Tree × Tree)} {b : Bool} → IsSound c → IsSound d → Running c d ps qs → IsPairStep d e qs rs b → b ≡ true → IsPairRun c e ps rs true
 running_bound {c} {d} {e} s z r k f =
     record {
       later = IsLater-trans r.later k.later;
       reduces = Reduces-trans s z r.reduces k.reduces;
-      brings = PairsBring-trans r.brings k.brings;
+      brings = PairsBring-trans r.later r.brings k.brings;
       ties = TiesNew-trans c d e k.reduces.continues r.ties k.ties;
       fewer = λ q. omega (arith, r.not_more, k.fewer f);
       ends = λ (q : true ≡ false). cc;
@@ -598,13 +621,13 @@ running_end r e = record { later = r.later; reduces = r.reduces; brings = r.brin
 
 pub all_step : {c d e : Content} {ps qs rs : List (Tree × Tree)} {b : Bool} → IsSound c → IsSound d → Running c d ps qs → IsPairRun d e qs rs b → b ≡ true → Running c e ps rs
 all_step {c} {d} {e} s z r k f =
-    record { later = IsLater-trans r.later k.later; reduces = Reduces-trans s z r.reduces k.reduces; brings = PairsBring-trans r.brings k.brings; ties = TiesNew-trans c d e k.reduces.continues r.ties k.ties; not_more = omega (arith, r.not_more, k.fewer f) }
+    record { later = IsLater-trans r.later k.later; reduces = Reduces-trans s z r.reduces k.reduces; brings = PairsBring-trans r.later r.brings k.brings; ties = TiesNew-trans c d e k.reduces.continues r.ties k.ties; not_more = omega (arith, r.not_more, k.fewer f) }
 
 pub all_done : {c d e : Content} {ps qs rs : List (Tree × Tree)} {b : Bool} → IsSound c → IsSound d → Running c d ps qs → IsPairRun d e qs rs b → b ≡ false → Reduces c e ps []
 all_done s z r k f = let end = k.ends f in rw end at (Reduces-trans s z r.reduces k.reduces)
 
 pub all_bring : {c d e : Content} {ps qs rs : List (Tree × Tree)} {b : Bool} → Running c d ps qs → IsPairRun d e qs rs b → b ≡ false → PairsBring c e ps []
-all_bring r k f = let end = k.ends f in rw end at (PairsBring-trans r.brings k.brings)
+all_bring r k f = let end = k.ends f in rw end at (PairsBring-trans r.later r.brings k.brings)
 
 pub all_tie : {c d e : Content} {ps qs rs : List (Tree × Tree)} {b : Bool} → Running c d ps qs → IsPairRun d e qs rs b → TiesNew c e
 all_tie {c} {d} {e} r k = TiesNew-trans c d e k.reduces.continues r.ties k.ties
@@ -627,6 +650,10 @@ if_related ts us e m f a b (Err x) same h k = tt
 pub if_brings : {A E : Type 0} (ts us : List Tree) (e m f : Entries) (a b : Tree) (r : Result A E) → OnOk r (f ≡ m) → OnOk r (PairsBring (content_of ts e) (content_of us m) ((a, b) ∷ []) []) → OnOk r (BringsLabelsOf (content_of ts e) (content_of us f) a b)
 if_brings ts us e m f a b (Ok v) same k = rw same (record { labels = λ P v h i j. (k.labels P v h (i, j, tt)).0 })
 if_brings ts us e m f a b (Err x) same k = tt
+
+pub if_plain : {A E : Type 0} (ts us : List Tree) (e m f : Entries) (a b : Tree) (r : Result A E) → OnOk r (f ≡ m) → OnOk r (PairsBring (content_of ts e) (content_of us m) ((a, b) ∷ []) []) → OnOk r (IsPlainIn (content_of ts e) a → IsPlainIn (content_of ts e) b → KeepsPlain (content_of ts e) (content_of us f))
+if_plain ts us e m f a b (Ok v) same k = rw same (λ i j. (k.plain ((i, j), tt)).0)
+if_plain ts us e m f a b (Err x) same k = tt
 
 pub if_ties : {A E : Type 0} (ts us : List Tree) (e m f : Entries) (r : Result A E) → OnOk r (f ≡ m) → OnOk r (TiesNew (content_of ts e) (content_of us m)) → OnOk r (TiesNew (content_of ts e) (content_of us f))
 if_ties ts us e m f (Ok v) same k = rw same k

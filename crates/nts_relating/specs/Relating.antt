@@ -4,7 +4,7 @@ use Rattle.nts_model.specs.declared.labels.VariableKind.{VariableKind}
 use Rattle.nts_model.specs.declared.labels.VariableKind.TheVariants as kind
 use Rattle.nts_model.specs.declared.labels.Sort.TheVariants as sort
 use Rattle.nts_model.specs.declared.labels.Label.{Label}
-use Rattle.nts_model.specs.Trees.{Tree, empty, more, node, size, kind_of, kind_of_label, of_sort, row_length, IsClosedUnder}
+use Rattle.nts_model.specs.Trees.{Tree, empty, more, node, size, kind_of, kind_of_label, of_sort, row_length, any_label, is_alias, IsClosedUnder}
 use Rattle.nts_model.specs.Patching.{IsPatched}
 use Rattle.nts_model.specs.Contents.{Content, unset, state_of, universe_of, kind_at}
 use Rattle.nts_model.specs.Resolving.{Knows, IsInfer, Lacks, resolved, deeply_resolved, variable_tree, variable_flag, variable_rank}
@@ -125,6 +125,18 @@ pub record RegionsRelate (c d : Content) (a b : Tree) : Type 0 where
   pub alike : AreAlike d a b
   pub brings : BringsLabelsOf c d a b
 
+-- no alias stands in the tree, with values in place of variables
+abbrev pub IsPlainIn : Content → Tree → Type 0
+IsPlainIn c t = any_label is_alias (resolved c t) ≡ false
+
+-- trees in which none stands have none afterwards
+pub record KeepsPlain (c d : Content) : Type 0 where
+  pub plain : (t : Tree) → Knows c t → IsPlainIn c t → IsPlainIn d t
+
+abbrev pub PairsArePlain : Content → List (Tree × Tree) → Type 0
+PairsArePlain c [] = Unit {0}
+PairsArePlain c (p ∷ ps) = (IsPlainIn c p.0 × IsPlainIn c p.1) × PairsArePlain c ps
+
 -- a variable got a value for the tree t: the two are one where the variable's universe names each region in t, and else one up to
 -- regions. Where no closed alias is in t, no tree has more of them, or fewer
 pub record IsSet (c d : Content) (x : ℕ) (t : Tree) : Type 0 where
@@ -136,6 +148,7 @@ pub record IsSet (c d : Content) (x : ℕ) (t : Tree) : Type 0 where
   pub brings : BringsLabelsOf c d t empty
   pub ties : TiesNew c d
   pub aliases : closed_aliases (resolved c t) ≡ 0 → (a : Tree) → Knows c a → closed_aliases (resolved d a) ≡ closed_aliases (resolved c a)
+  pub plain : IsPlainIn c t → KeepsPlain c d
   pub sound : (w : World) → Solves d w → Solves c w × (w.tree x ≡ inst w t)
   pub complete : (w : World) → Solves c w → w.tree x ≡ inst w t → Extension c d w
 
@@ -173,6 +186,7 @@ pub record Pushed (ts : List Tree) (ps qs : List Pair) (a b : Tree) (i : ℕ) : 
   pub alike : (c : Content) → AllAlike c (pairs_at ts qs) → AllAlike c (pairs_at ts ps) × AreAlike c (row_from i a) (row_from i b)
   pub weight : (c : Content) → total c (pairs_at ts qs) + row_length (row_from i a) ≡ total c (pairs_at ts ps) + size (resolved c (row_from i a)) + size (resolved c (row_from i b))
   pub labels : (P : Label → Bool) → TreePasses P a → TreePasses P b → PairsPass P (pairs_at ts ps) → PairsPass P (pairs_at ts qs)
+  pub plain : (c : Content) → IsPlainIn c a → IsPlainIn c b → PairsArePlain c (pairs_at ts ps) → PairsArePlain c (pairs_at ts qs)
   pub below : (j : Judge) (n : ℕ) → OneBelow j n (pairs_at ts qs) → OneBelow j n (pairs_at ts ps) × (judged_size j (row_from i a) ≤ n → JudgesOne j (row_from i a) (row_from i b))
 
 pub record IsValid (ts : List Tree) (e : Entries) (ps : List Pair) : Type 0 where
@@ -195,6 +209,7 @@ pub record AreMadeOne (c d : Content) (x y : ℕ) : Type 0 where
   pub brings : BringsNoLabels c d
   pub ties : TiesNew c d
   pub aliases : (t : Tree) → Knows c t → closed_aliases (resolved d t) ≡ closed_aliases (resolved c t)
+  pub plain : KeepsPlain c d
   pub sound : (w : World) → Solves d w → Solves c w × (w.tree x ≡ w.tree y)
   pub complete : (w : World) → Solves c w → w.tree x ≡ w.tree y → Extension c d w
 
@@ -209,9 +224,11 @@ pub record CanTake (e : Entries) (x y : ℕ) : Type 0 where
   pub second : IsBindable e y
   pub takes : TakesVariable first.of_kind second.of_kind
 
--- the second table and the pairs left have no labels but those of variables, of the first table and of the pairs before
+-- the second table and the pairs left have no labels but those of variables, of the first table and of the pairs before; and where no
+-- alias stands in the pairs, none stands in those left, or in a tree that had none
 pub record PairsBring (c d : Content) (ps qs : List (Tree × Tree)) : Type 0 where
   pub labels : (P : Label → Bool) → PassesVariables P → TablePasses P c → PairsPass P ps → TablePasses P d × PairsPass P qs
+  pub plain : PairsArePlain c ps → KeepsPlain c d × PairsArePlain d qs
 
 -- what is left after a pair
 pub record IsPairStep (c d : Content) (ps qs : List (Tree × Tree)) (bound : Bool) : Type 0 where

@@ -10,7 +10,7 @@ ghost use Rattle.nts_unify.specs.Entries.{Entries};
 ghost use Rattle.nts_unify.specs.Reading.{content_of, IsLawful, LinksDescend};
 ghost use Rattle.nts_unify.specs.Changing.{region_variable, is_free_region, IsLater};
 ghost use Rattle.nts_unify.specs.Joining.{IsBindable};
-ghost use Rattle.nts_relating.specs.Relating.{IsHead, IsClosedHead, IsRegionOf, RegionsRelate, IsSet, Forbids, KeepsApart, AreMadeOne, VariablesRelate, CanTake, IsValid, IsPairStep, IsPairRun, PairsBring, IsMemo, Pushed, pairs_at};
+ghost use Rattle.nts_relating.specs.Relating.{IsHead, IsClosedHead, IsRegionOf, RegionsRelate, IsSet, Forbids, KeepsApart, AreMadeOne, VariablesRelate, CanTake, IsValid, IsPairStep, IsPairRun, PairsBring, IsMemo, IsPlainIn, KeepsPlain, Pushed, pairs_at};
 ghost use Rattle.nts_store.specs.declared.fault.EvalError.TheVariants.{NoSolution};
 ghost use Rattle.nts_unify.specs.Entries.{KeepsHidden};
 
@@ -407,7 +407,8 @@ fn run_all(
 
 /// Makes two terms equal: afterwards the table has the solutions that it had before and that make
 /// them equal, no labels but its own, those of the terms and variables, and no new variables but
-/// those of regions and those that are one with older ones; after an error it is as before.
+/// those of regions and those that are one with older ones; after an error it is as before. Where no
+/// alias stands in the two, none stands afterwards in a term that had none.
 pub fn relate_nodes(
     alloc: Global,
     nodes: &mut Nodes,
@@ -426,6 +427,7 @@ pub fn relate_nodes(
     ensures later { IsLater (content_of nodes.old table.old.entries) (content_of nodes.new table.new.entries) }
     ensures related { OnOk result (AreRelated (content_of nodes.old table.old.entries) (content_of nodes.new table.new.entries) (tree_at nodes.old a) (tree_at nodes.old b)) }
     ensures labels { OnOk result (BringsLabelsOf (content_of nodes.old table.old.entries) (content_of nodes.new table.new.entries) (tree_at nodes.old a) (tree_at nodes.old b)) }
+    ensures plain { OnOk result (IsPlainIn (content_of nodes.old table.old.entries) (tree_at nodes.old a) → IsPlainIn (content_of nodes.old table.old.entries) (tree_at nodes.old b) → KeepsPlain (content_of nodes.old table.old.entries) (content_of nodes.new table.new.entries)) }
     ensures ties { OnOk result (TiesNew (content_of nodes.old table.old.entries) (content_of nodes.new table.new.entries)) }
     ensures err { OnErr result (table.new ≡ table.old) }
     ensures no { result ≡ Err NoSolution → AreUnrelated (content_of nodes.old table.old.entries) (tree_at nodes.old a) (tree_at nodes.old b) }

@@ -4,7 +4,7 @@ use Rattle.nts_unify.specs.Lawful.{IsLawful-extended, content_of-extended}
 use Rattle.nts_unify.specs.Reading.{content_of, IsLawful}
 use Rattle.nts_unify.specs.Changing.{IsLater}
 use Rattle.nts_unify.proofs.Keeping.{IsLater-refl}
-use Rattle.nts_relating.proofs.PairLemmas.{if_related, if_brings, if_ties}
+use Rattle.nts_relating.proofs.PairLemmas.{if_related, if_brings, if_plain, if_ties}
 use Rattle.nts_relating.proofs.relate.relate_nodes.Goals as goal
 
 pub returns-clause-lawful : goal.returns-clause-lawful
@@ -34,6 +34,13 @@ returns-clause-labels c =
     let run = c.run_all-related.ensures in
     let end = c.commit_if_ok.ensures in
     rw end.same (if_brings c.args.nodes.now c.run_all-related.new.nodes c.args.table.now.entries c.run_all-related.new.table.entries c.commit_if_ok.new.self.entries _ _ c.run_all-related.result (rw end.same at end.ok) (rw (items, c.in_ok-snapshot.ensures.entries) at run.brings))
+
+pub returns-clause-plain : goal.returns-clause-plain
+returns-clause-plain c =
+    let items : c.push.new.self.items ≡ record { left = c.args.a; right = c.args.b } ∷ [] = c.in_ok-push.ensures.items ∙ ap (λ xs. xs ++ record { left = c.args.a; right = c.args.b } ∷ []) c.new-pairs.ensures.items in
+    let run = c.run_all-related.ensures in
+    let end = c.commit_if_ok.ensures in
+    rw end.same (if_plain c.args.nodes.now c.run_all-related.new.nodes c.args.table.now.entries c.run_all-related.new.table.entries c.commit_if_ok.new.self.entries _ _ c.run_all-related.result (rw end.same at end.ok) (rw (items, c.in_ok-snapshot.ensures.entries) at run.brings))
 
 pub returns-clause-ties : goal.returns-clause-ties
 returns-clause-ties c =

@@ -4,7 +4,7 @@ use Rattle.nts_store.specs.Growth.{tree_at}
 use Rattle.nts_unify.specs.Reading.{content_of}
 use Rattle.nts_model.proofs.Bringing.{brings-turned}
 use Rattle.nts_relating.proofs.MetPairs.{memo_done, memo_variables}
-use Rattle.nts_relating.proofs.PairLemmas.{Stepped, last_pair, set_left, set_right, set_brings, step_set, step_variables, if_ok, err_of}
+use Rattle.nts_relating.proofs.PairLemmas.{Stepped, last_pair, set_left, set_right, set_brings, set_plain, step_set, step_variables, if_ok, err_of}
 use Rattle.nts_relating.proofs.RefusalLemmas.{refuse_pair}
 use Rattle.nts_relating.proofs.relate.step.Goals as goal
 use Rattle.nts_relating.proofs.relate.step.Goals.{In-Ok, In-Ok-bind}
@@ -41,7 +41,7 @@ left_related c =
 
 left_set : (c : In-Ok) → Stepped c.args.nodes.now c.bind.new.nodes c.args.table.now.entries c.bind.new.table.entries c.args.pairs.now.items c.args.pairs.now.items c.args.pair true
 left_set c =
-    step_set c.args.nodes.now c.bind.new.nodes c.args.table.now.entries c.bind.new.table.entries c.args.pairs.now.items c.args.pair c.requires.valid c.in-Ok.ensures.extends c.in-Ok.ensures.lawful c.in-Ok.ensures.set.later c.in-Ok.ensures.set.fewer (left_related c) (set_brings c.in-Closed-right.ensures.1 c.in-Ok.ensures.set) c.in-Ok.ensures.set.ties
+    step_set c.args.nodes.now c.bind.new.nodes c.args.table.now.entries c.bind.new.table.entries c.args.pairs.now.items c.args.pair c.requires.valid c.in-Ok.ensures.extends c.in-Ok.ensures.lawful c.in-Ok.ensures.set.later c.in-Ok.ensures.set.fewer (left_related c) (set_brings c.in-Closed-right.ensures.1 c.in-Ok.ensures.set) (λ a b. set_plain c.in-Closed-right.ensures.1 c.in-Ok.ensures.set b) c.in-Ok.ensures.set.ties
 
 pub returns-in-Ok-clause-valid : goal.returns-in-Ok-clause-valid
 returns-in-Ok-clause-valid c = (left_set c).valid
@@ -61,7 +61,7 @@ right_related c =
 
 right_set : (c : In-Ok-bind) → Stepped c.args.nodes.now c.bind-in-Open-right-2.new.nodes c.args.table.now.entries c.bind-in-Open-right-2.new.table.entries c.args.pairs.now.items c.args.pairs.now.items c.args.pair true
 right_set c =
-    step_set c.args.nodes.now c.bind-in-Open-right-2.new.nodes c.args.table.now.entries c.bind-in-Open-right-2.new.table.entries c.args.pairs.now.items c.args.pair c.requires.valid c.in-Ok-bind.ensures.extends c.in-Ok-bind.ensures.lawful c.in-Ok-bind.ensures.set.later c.in-Ok-bind.ensures.set.fewer (right_related c) (brings-turned (set_brings c.in-Closed.ensures.1 c.in-Ok-bind.ensures.set)) c.in-Ok-bind.ensures.set.ties
+    step_set c.args.nodes.now c.bind-in-Open-right-2.new.nodes c.args.table.now.entries c.bind-in-Open-right-2.new.table.entries c.args.pairs.now.items c.args.pair c.requires.valid c.in-Ok-bind.ensures.extends c.in-Ok-bind.ensures.lawful c.in-Ok-bind.ensures.set.later c.in-Ok-bind.ensures.set.fewer (right_related c) (brings-turned (set_brings c.in-Closed.ensures.1 c.in-Ok-bind.ensures.set)) (λ a b. set_plain c.in-Closed.ensures.1 c.in-Ok-bind.ensures.set a) c.in-Ok-bind.ensures.set.ties
 
 pub returns-in-Ok-bind-clause-valid : goal.returns-in-Ok-bind-clause-valid
 returns-in-Ok-bind-clause-valid c = (right_set c).valid
