@@ -41,15 +41,16 @@ level_same (Some x) (Some y) =
 pub same_facts : (a b : TypeFlags) → IsTrue (facts_eq.ghosts.eq a b) ↔ (a ≡ b)
 same_facts a b =
     let l0 = level_same a.escaping b.escaping in
-    let l1 = both_true _ _ _ _ (same_bool a.has_leaf b.has_leaf) l0 in
-    let l2 = both_true _ _ _ _ (same_bool a.has_canonical b.has_canonical) l1 in
-    let l3 = both_true _ _ _ _ (same_bool a.has_alias b.has_alias) l2 in
-    let l4 = both_true _ _ _ _ (same_bool a.has_placeholder b.has_placeholder) l3 in
-    let l5 = both_true _ _ _ _ (same_bool a.has_region_infer b.has_region_infer) l4 in
-    let l6 = both_true _ _ _ _ (same_bool a.has_infer b.has_infer) l5 in (
-      (λ h. let w = l6.0 h in
-          λ j. record { has_infer = w.0 j; has_region_infer = w.1.0 j; has_placeholder = w.1.1.0 j; has_alias = w.1.1.1.0 j; has_canonical = w.1.1.1.1.0 j; has_leaf = w.1.1.1.1.1.0 j; escaping = w.1.1.1.1.1.1 j }),
-      λ e. l6.1 (ap (λ f. f.has_infer) e, (ap (λ f. f.has_region_infer) e, (ap (λ f. f.has_placeholder) e, (ap (λ f. f.has_alias) e, (ap (λ f. f.has_canonical) e, (ap (λ f. f.has_leaf) e, ap (λ f. f.escaping) e)))))),
+    let l1 = both_true _ _ _ _ (same_bool a.has_free_region b.has_free_region) l0 in
+    let l2 = both_true _ _ _ _ (same_bool a.has_leaf b.has_leaf) l1 in
+    let l3 = both_true _ _ _ _ (same_bool a.has_canonical b.has_canonical) l2 in
+    let l4 = both_true _ _ _ _ (same_bool a.has_alias b.has_alias) l3 in
+    let l5 = both_true _ _ _ _ (same_bool a.has_placeholder b.has_placeholder) l4 in
+    let l6 = both_true _ _ _ _ (same_bool a.has_region_infer b.has_region_infer) l5 in
+    let l7 = both_true _ _ _ _ (same_bool a.has_infer b.has_infer) l6 in (
+      (λ h. let w = l7.0 h in
+          λ j. record { has_infer = w.0 j; has_region_infer = w.1.0 j; has_placeholder = w.1.1.0 j; has_alias = w.1.1.1.0 j; has_canonical = w.1.1.1.1.0 j; has_leaf = w.1.1.1.1.1.0 j; has_free_region = w.1.1.1.1.1.1.0 j; escaping = w.1.1.1.1.1.1.1 j }),
+      λ e. l7.1 (ap (λ f. f.has_infer) e, (ap (λ f. f.has_region_infer) e, (ap (λ f. f.has_placeholder) e, (ap (λ f. f.has_alias) e, (ap (λ f. f.has_canonical) e, (ap (λ f. f.has_leaf) e, (ap (λ f. f.has_free_region) e, ap (λ f. f.escaping) e))))))),
     )
 
 pub same_id : (a b : NodeId) → IsTrue (id_eq.ghosts.eq a b) ↔ (a ≡ b)

@@ -20,4 +20,4 @@ pub use labels_walk::{LabelTest, all_labels};
 pub use nodes::{NodeId, Nodes};
 pub use replacement::{Replacer, Step, Task, push_node, replace};
 pub use sorts::sort_of;
-pub use type_flags::{TypeFlags, binders_of};
+pub use type_flags::{TypeFlags, binders_of, may_vary};

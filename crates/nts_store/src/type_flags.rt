@@ -1,7 +1,7 @@
 //! What a node keeps of its tree, so that walks can stop early.
 ghost use Rattle.std.specs.Prelude.{◌≡◌};
 ghost use Rattle.nts_model.specs.Trees.{is_infer, is_region_infer, is_placeholder, is_alias, is_canonical, binders};
-ghost use Rattle.nts_store.specs.TypeFlags.{higher, past_binders, level_of, joined, labelled, no_flags, is_leaf};
+ghost use Rattle.nts_store.specs.TypeFlags.{higher, past_binders, level_of, joined, labelled, no_flags, is_leaf, varies};
 
 use nts_model::{
     BoundVarIndexKind, ConstHead, Constant, FreeRegion, Label, Leaf, ListHead, TyHead, VariableKind,
@@ -22,6 +22,8 @@ pub struct TypeFlags {
     pub has_canonical: bool,
     /// It has a leaf: a variable, a free region, or a parameter or placeholder of a type or a const.
     pub has_leaf: bool,
+    /// It has a free region that may vary: a region variable, or any other but the erased and the error region.
+    pub has_free_region: bool,
     /// The greatest level at which a bound variable escapes, if one does.
     pub escaping: Option<usize>,
 }
@@ -38,6 +40,7 @@ impl TypeFlags {
             has_alias: false,
             has_canonical: false,
             has_leaf: false,
+            has_free_region: false,
             escaping: None,
         }
     }
@@ -53,6 +56,7 @@ impl TypeFlags {
             has_alias: self.has_alias || other.has_alias,
             has_canonical: self.has_canonical || other.has_canonical,
             has_leaf: self.has_leaf || other.has_leaf,
+            has_free_region: self.has_free_region || other.has_free_region,
             escaping: higher_level(self.escaping, other.escaping),
         }
     }
@@ -68,6 +72,7 @@ impl TypeFlags {
             has_alias: is_alias_label(label) || self.has_alias,
             has_canonical: is_canonical_label(label) || self.has_canonical,
             has_leaf: is_leaf_label(label) || self.has_leaf,
+            has_free_region: may_vary(label) || self.has_free_region,
             escaping: higher_level(
                 bound_level(label),
                 past_binders_of(binders_of(label), self.escaping),
@@ -162,4 +167,17 @@ fn is_leaf_label(label: Label) -> bool
     ensures { result ≡ is_leaf label }
 {
     matches!(label, Label::Leaf(_))
+}
+
+/// Whether the label is a free region's that may vary: the erased and the error region stay themselves.
+pub fn may_vary(label: Label) -> bool
+    ensures { result ≡ varies label }
+{
+    match label {
+        Label::Leaf(Leaf::Region(FreeRegion::Erased)) => false,
+        Label::Leaf(Leaf::Region(FreeRegion::Error)) => false,
+        Label::Leaf(Leaf::Region(_)) => true,
+        Label::Leaf(Leaf::Variable(VariableKind::Region, _)) => true,
+        _ => false,
+    }
 }

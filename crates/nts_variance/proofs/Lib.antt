@@ -1,6 +1,7 @@
 pub mod Growing
 mod Clean
 mod Likeness
+mod Fixed
 mod Nodes
 mod Pairs
 mod Runs

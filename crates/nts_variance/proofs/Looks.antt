@@ -31,7 +31,8 @@ use Rattle.nts_model.proofs.Slots.{field_below, field-with_slot_old}
 use Rattle.nts_model.proofs.Substituting.{no_children}
 use Rattle.nts_store.specs.declared.nodes.NodeId.{NodeId}
 use Rattle.nts_store.specs.Growth.{tree_at, IsIn, Extends}
-use Rattle.nts_store.specs.TypeFlags.{escaping}
+use Rattle.nts_store.specs.declared.type_flags.TypeFlags.{TypeFlags}
+use Rattle.nts_store.specs.TypeFlags.{escaping, varies, varies_region, flags_of}
 use Rattle.nts_store.proofs.Growing.{IsIn-extended}
 use Rattle.nts_store.proofs.Escaping.{IsBelow, closed_under}
 use Rattle.nts_unify.specs.declared.contents.State.TheVariants.{Unset, Known}
@@ -52,7 +53,7 @@ use Rattle.nts_variance.specs.declared.along.Relating.{Relating}
 use Rattle.nts_variance.specs.declared.vary_walk.Spot.{Spot}
 use Rattle.nts_variance.specs.Walking.{IsErased, IsMade}
 use Rattle.nts_variance.specs.Counting.{IsCountedFor}
-use Rattle.nts_variance.specs.Parts.{has_parts, form_of, parts_of, none_escapes, closed_alias, const_variable, number_of_type, varies, varies_region}
+use Rattle.nts_variance.specs.Parts.{has_parts, form_of, parts_of, none_escapes, closed_alias, const_variable, number_of_type, StandsAlone}
 use Rattle.nts_variance.specs.Terms.{pairs_at, AreGoals, ArePairs, IsPart}
 use Rattle.nts_variance.specs.Varying.{pair_in, owed_pairs, constraint_of, with_owed, fresh, IsMadeAt, IsTypeValue, IsMadeAgain, IsOwn, IsKept}
 use Rattle.nts_variance.proofs.Pushing.{pair_at-in}
@@ -61,7 +62,6 @@ use Rattle.nts_relating.proofs.Ranks.{kind_of-like}
 use Rattle.nts_variance.proofs.Debts.{closed_patched, like_itself, like_closed, goal_sides}
 use Rattle.nts_variance.proofs.CountedPieces.{counted_fresh, counted_region, counted_recorded, counted_piece}
 use Rattle.nts_variance.proofs.Leaves.{owed_by, owed_goals, made_plain, counted_plain, made_fresh, made_region, made_region_quietly}
-use Rattle.nts_variance.proofs.Likeness.{SettlesAlone}
 use Rattle.nts_variance.proofs.Pieces.{made_piece, plain_unset}
 
 -- a node by its label
@@ -281,9 +281,19 @@ varies_free (label.Leaf (leaf.Region r)) e = refl
 varies_free (label.Leaf (leaf.Variable kind.Region n)) e = refl
 varies_free l e = cc
 
--- a value for an invariant part, or a const
+-- a part that stands as it is
+const_kind : (l : Label) → const_variable l ≡ true → kind_of_label l ≡ of_sort sort.Const
+const_kind (label.Leaf (leaf.Variable kind.Const n)) e = refl
+const_kind l e = cc
+
+pub alone_part : (t : Tree) (l : Label) (f : TypeFlags) (v : Variance) → t ≡ node l (children t) → f ≡ flags_of t → ((v ≡ variance.Invariant) ⊎ (const_variable l ≡ true)) ⊎ ((f.has_infer ≡ false) × (f.has_free_region ≡ false)) → StandsAlone v t
+alone_part t l f v is flags h = ⊎_elim
+    (λ either. inl (⊎_elim (λ e. inl e) (λ e. inr (ap kind_of is ∙ ap Some (const_kind l e))) either))
+    (λ p. inr (record { no_infer = ap (λ x. x.has_infer) (sym flags) ∙ p.0; no_region = ap (λ x. x.has_free_region) (sym flags) ∙ p.1 })) h
+
+-- a value for a part that stands as it is
 pub value_at : (declared : ℕ → List Variance) (z : Bool) (u x b : ℕ) (ts us : List Tree) (e f : Entries) (s : Spot) (r : NodeId) (gs : List Relating) → x < length e.variables → kind_at (content_of ts e) x ≢ Some kind.Region → IsLawful ts e → IsLawful us f → IsPart ts (content_of ts e) s → IsFormed (tree_at ts s.term)
-    → SettlesAlone s.variance (kind_of (tree_at ts s.term)) → any_label is_alias (tree_at ts s.term) ≡ false → (s.is_quiet ≡ false → any_label is_alias (resolved (content_of ts e) (tree_at ts s.term)) ≡ false)
+    → StandsAlone s.variance (tree_at ts s.term) → any_label is_alias (tree_at ts s.term) ≡ false → (s.is_quiet ≡ false → any_label is_alias (resolved (content_of ts e) (tree_at ts s.term)) ≡ false)
     → IsIn us r → Generalized (content_of ts e) (content_of us f) x u b (tree_at ts s.term) (tree_at us r) → IsMadeAt declared z u x ts us e f s r gs gs
 value_at declared z u x b ts us e f s r gs below no_region lawful later part formed alone plain values within gen =
     record {

@@ -1,4 +1,4 @@
--- Parts that are made values of their own: related invariantly, or consts.
+-- Parts that are made values of their own: related invariantly, consts, or without anything that may vary.
 use Rattle.std.proofs.Common.{◌≡◌, ⊎_elim, ℕ, ◌≤◌, Bool, false, List, [], ◌∷◌, ◌++◌, map, Some, refl, sym, ap, ◌∙◌, arith, subst}
 use Rattle.nts_model.specs.declared.labels.Sort.{Sort}
 use Rattle.nts_model.specs.declared.labels.Sort.TheVariants as sort
@@ -37,7 +37,8 @@ use Rattle.nts_variance.specs.declared.vary_walk.Task.{Task}
 use Rattle.nts_variance.specs.declared.vary_walk.Task.TheVariants as task
 use Rattle.nts_variance.specs.declared.vary_walk.Spot.{Spot}
 use Rattle.nts_variance.specs.Steps.{enter, steps_of, stacked, builds, Runs, ended}
-use Rattle.nts_variance.specs.Walking.{IsMadeFor, MadeIn, NothingOwed, IsChoice, SettlesOwed, IsMade}
+use Rattle.nts_variance.specs.Walking.{Judges, IsMadeFor, MadeIn, NothingOwed, IsChoice, SettlesOwed, IsMade}
+use Rattle.nts_variance.specs.Parts.{StandsAlone}
 use Rattle.nts_variance.specs.Terms.{pairs_at, step_at}
 use Rattle.nts_variance.specs.Varying.{IsWalk, LookRefuses, WalkRefuses, IsVaried}
 use Rattle.nts_variance.proofs.Growing.{grown_later}
@@ -46,24 +47,27 @@ use Rattle.nts_variance.proofs.Runs.{stacked-push, unentered}
 use Rattle.nts_variance.proofs.Pairs.{ended_at}
 use Rattle.nts_variance.proofs.Nodes.{size_run}
 use Rattle.nts_variance.proofs.Leaves.{kept_kinds, inst_settled}
-use Rattle.nts_variance.proofs.Likeness.{SettlesAlone, sides_related}
+use Rattle.nts_variance.proofs.Likeness.{sides_related}
+use Rattle.nts_variance.proofs.Fixed.{fixed_one, fixed_related}
 use Rattle.nts_variance.proofs.VaryTurns.{builds_steps, task_last, own_refuses}
 
 module _ (declared : ℕ → List Variance) (z : Bool) (u : ℕ) where
-  -- what settles with the instance of an invariant part, or of a const, is that instance
-  one_instance : (j : Judge declared) (c : Content) (w : World) (v : Variance) (t s : Tree) → Solves c w → IsSettledWorld (judging_of declared j) c w → Knows c t → any_label is_alias t ≡ false → SettlesAlone v (kind_of t)
+  -- what settles with the instance of a part that stands as it is, is that instance
+  one_instance : (j : Judge declared) (c : Content) (w : World) (v : Variance) (t s : Tree) → Solves c w → Judges declared j w → IsSettledWorld (judging_of declared j) c w → Knows c t → any_label is_alias t ≡ false → StandsAlone v t
       → IsSettled (judging_of declared j) s → Settles (judging_of declared j) v s (inst w t) → s ≡ inst w t
-  one_instance j c w v t s solves settled knows plain alone own x =
+  one_instance j c w v t s solves judges settled knows plain alone own x =
       let J = judging_of declared j in
       let here = inst_settled J c w t settled knows plain in
       ⊎_elim
+      (λ either. ⊎_elim
       (λ (e : v ≡ variance.Invariant). settled_one J j.lawful s (inst w t) own here (subst (λ p. Settles J p s (inst w t)) e x))
       (λ (e : kind_of t ≡ Some (of_sort sort.Const)).
       let right : kind_of (inst w t) ≡ Some (of_sort sort.Const) = Fits-inst c w kind.Const t solves.fitting knows e in
-      along_const J j.lawful (settles_kind J j.lawful v s (inst w t) x ∙ right) (settled_along J j.lawful v s (inst w t) own here x)) alone
+      along_const J j.lawful (settles_kind J j.lawful v s (inst w t) x ∙ right) (settled_along J j.lawful v s (inst w t) own here x)) either)
+      (λ fixed. fixed_one declared j w judges v s t fixed own here x) alone
 
   -- a value made for a part: nothing is owed, since each that settles with the part's instance is that instance
-  pub made_piece : (c d : Content) (x b : ℕ) (v : Variance) (q : Bool) (t r : Tree) (s : Sort) → IsSound c → IsSound d → IsSolvable d → Knows c t → IsFormed t → kind_of t ≡ Some (of_sort s) → any_label is_alias t ≡ false → (q ≡ false → any_label is_alias (resolved c t) ≡ false) → SettlesAlone v (kind_of t)
+  pub made_piece : (c d : Content) (x b : ℕ) (v : Variance) (q : Bool) (t r : Tree) (s : Sort) → IsSound c → IsSound d → IsSolvable d → Knows c t → IsFormed t → kind_of t ≡ Some (of_sort s) → any_label is_alias t ≡ false → (q ≡ false → any_label is_alias (resolved c t) ≡ false) → StandsAlone v t
       → Generalized c d x u b t r → NamesAll region_level u (resolved d r) → IsMade declared z u c d v q t r []
   made_piece c d x b v q t r sort_of sound sound_later solvable knows formed sorted plain plain_values alone gen clean =
       let keeps = gen.keeps in
@@ -81,12 +85,14 @@ module _ (declared : ℕ → List Variance) (z : Bool) (u : ℕ) where
         stands = λ f s k ks a loud.
             (let now : Knows d t = Knows-kept c d t (kept_kinds c d gen.continues) knows in
             let values : any_label is_alias (resolved d t) ≡ false = ap (any_label is_alias) (keeps.trees t knows) ∙ plain_values loud in
-            sides_related declared d f ks sound_later s k solvable z v r t gen.knows now gen.alike values formed sort_of sorted alone);
+            ⊎_elim
+            (λ either. sides_related declared d f ks sound_later s k solvable z v r t gen.knows now gen.alike values formed sort_of sorted either)
+            (λ fixed. fixed_related declared f ks c d x u b z v t r fixed gen k now) alone);
         goals = tt;
         back = λ w h. (gen.sound w h).0;
         complete = λ j w h judged settled s own names form y.
             (let J = judging_of declared j in
-            let same : s ≡ inst w t = one_instance j c w v t s h settled knows plain alone own y in
+            let same : s ≡ inst w t = one_instance j c w v t s h judged settled knows plain alone own y in
             let e = gen.complete w h (subst (NamesAll term_level u) same names) in
             let old = e.agrees in
             let before : IsSettledWorld J c e.world = record { each = λ n l. subst (IsSettled J) (sym (old.trees n l)) (settled.each n l) } in
@@ -111,8 +117,8 @@ pub plain_unset : (c : Content) (t : Tree) (k : VariableKind) (n : ℕ) → IsSo
 plain_unset c t k n sound same free = ap (any_label is_alias) (same ∙ resolved_unset c k n sound free)
 
 module _ (declared : ℕ → List Variance) (z : Bool) (u x : ℕ) where
-  -- no choice goes on by an invariant part, or a const, of which no instance is in the variable's own tree
-  alone_refuses : (ts : List Tree) (e : Entries) (xs : List Task) (s : Spot) (ms : List NodeId) (gs : List Relating) → IsWalk ts e u x (xs ++ task.Enter s ∷ []) ms gs → SettlesAlone s.variance (kind_of (tree_at ts s.term)) → any_label is_alias (tree_at ts s.term) ≡ false
+  -- no choice goes on by a part that stands as it is, of which no instance is in the variable's own tree
+  alone_refuses : (ts : List Tree) (e : Entries) (xs : List Task) (s : Spot) (ms : List NodeId) (gs : List Relating) → IsWalk ts e u x (xs ++ task.Enter s ∷ []) ms gs → StandsAlone s.variance (tree_at ts s.term) → any_label is_alias (tree_at ts s.term) ≡ false
       → Blocks (content_of ts e) x u s.binders (tree_at ts s.term) → WalkRefuses declared u x (content_of ts e) (stacked (step_at ts) (xs ++ task.Enter s ∷ [])) (stacked (tree_at ts) ms) (pairs_at ts gs)
   alone_refuses ts e xs s ms gs walk alone plain blocks =
       let c = content_of ts e in
@@ -132,7 +138,7 @@ module _ (declared : ℕ → List Variance) (z : Bool) (u x : ℕ) where
             let there : Runs P Q (enter s.variance s.is_quiet (g t) ∷ steps_of g rest) (map g (stacked (tree_at ts) ms)) whole = subst (λ ys. Runs P Q (steps_of g ys) (map g (stacked (tree_at ts) ms)) whole) here runs in
             let a = unentered P Q s.variance s.is_quiet (g t) (steps_of g rest) (map g (stacked (tree_at ts) ms)) whole there in
             let choice = a.fits in
-            let same : a.made ≡ g t = one_instance declared z u j c w s.variance t a.made solves settled part.knows plain alone choice.settled choice.settles in
+            let same : a.made ≡ g t = one_instance declared z u j c w s.variance t a.made solves judges settled part.knows plain alone choice.settled choice.settles in
             let named : NamesAll term_level u (g t) = subst (NamesAll term_level u) same (choice.named term_level names) in
             let below : IsClosedUnder s.binders (g t) = IsClosed-inst c w s.binders t solves.fitting part.knows part.closed in
             let blocked = blocks.none w solves named below in

@@ -1,19 +1,19 @@
 -- The parts of a node that are related one by one, and how they vary with it.
-use Rattle.std.specs.Prelude.{◌≡◌, ℕ, zero, suc, ◌+◌, ◌==◌, if◌then◌else◌, ◌&&◌, Option, Some, None, Bool, true, false, List, slice_get}
+use Rattle.std.specs.Prelude.{◌≡◌, ◌⊎◌, ℕ, zero, suc, ◌+◌, ◌==◌, if◌then◌else◌, ◌&&◌, Option, Some, None, Bool, true, false, List, slice_get}
+use Rattle.nts_model.specs.declared.labels.Sort.TheVariants as sort
 use Rattle.nts_model.specs.declared.labels.Variance.{Variance}
 use Rattle.nts_model.specs.declared.labels.Variance.TheVariants as variance
 use Rattle.nts_model.specs.declared.labels.AliasHead.TheVariants as alias_of
 use Rattle.nts_model.specs.declared.labels.TyHead.TheVariants as ty
 use Rattle.nts_model.specs.declared.labels.ConstHead.TheVariants as konst
 use Rattle.nts_model.specs.declared.labels.VariableKind.TheVariants as kind
-use Rattle.nts_model.specs.declared.labels.FreeRegion.{FreeRegion}
-use Rattle.nts_model.specs.declared.labels.FreeRegion.TheVariants as region
 use Rattle.nts_model.specs.declared.labels.Leaf.TheVariants as leaf
 use Rattle.nts_model.specs.declared.labels.Label.{Label}
 use Rattle.nts_model.specs.declared.labels.Label.TheVariants as label
-use Rattle.nts_model.specs.Trees.{Tree, empty, node, children, is_alias, row_at, IsRow}
+use Rattle.nts_model.specs.Trees.{Tree, empty, node, children, of_sort, kind_of, any_label, is_infer, is_alias, row_at, IsRow}
 use Rattle.nts_model.specs.Related.{rest_variances}
 use Rattle.nts_model.specs.Forms.{Form, a_constructor, a_function, a_value, an_alias, over}
+use Rattle.nts_store.specs.TypeFlags.{varies}
 use Rattle.nts_terms.specs.Signatures.{variance_or_invariant}
 
 -- constructors, function pointers, aliases and const values have parts
@@ -72,16 +72,14 @@ abbrev pub const_variable : Label → Bool
 const_variable (label.Leaf (leaf.Variable kind.Const n)) = true
 const_variable l = false
 
--- a free region that is neither erased nor an error
-abbrev pub varies_region : FreeRegion → Bool
-varies_region region.Erased = false
-varies_region region.Error = false
-varies_region r = true
+-- nothing in the tree may vary: no variable, and no free region but erased and error ones
+pub record IsFixed (t : Tree) : Type 0 where
+  pub no_infer : any_label is_infer t ≡ false
+  pub no_region : any_label varies t ≡ false
 
-abbrev pub varies : Label → Bool
-varies (label.Leaf (leaf.Region r)) = varies_region r
-varies (label.Leaf (leaf.Variable kind.Region n)) = true
-varies l = false
+-- a part without aliases stands as it is: related invariantly, or a const, or one in which nothing may vary
+abbrev pub StandsAlone : Variance → Tree → Type 0
+StandsAlone v t = ((v ≡ variance.Invariant) ⊎ (kind_of t ≡ Some (of_sort sort.Const))) ⊎ IsFixed t
 
 -- a node over its parts
 pub record IsNodeWithParts (t : Tree) : Type 0 where

@@ -1,6 +1,5 @@
 -- The walk that makes a term that stands for another, by terms of a store.
 use Rattle.std.specs.Prelude.{◌≡◌, ◌≢◌, ◌⊎◌, ℕ, ◌+◌, ◌≤◌, ◌<◌, Bool, true, false, List, [], ◌∷◌, ◌++◌, map, length, cond, Option, Some}
-use Rattle.nts_model.specs.declared.labels.Sort.TheVariants as sort
 use Rattle.nts_model.specs.declared.labels.Variance.{Variance}
 use Rattle.nts_model.specs.declared.labels.Variance.TheVariants as variance
 use Rattle.nts_model.specs.declared.labels.Relation.{Relation}
@@ -9,7 +8,7 @@ use Rattle.nts_model.specs.declared.labels.VariableKind.{VariableKind}
 use Rattle.nts_model.specs.declared.labels.VariableKind.TheVariants as kind
 use Rattle.nts_model.specs.declared.labels.Leaf.TheVariants as leaf
 use Rattle.nts_model.specs.declared.labels.Label.TheVariants as label
-use Rattle.nts_model.specs.Trees.{Tree, empty, of_sort, kind_of, label_of, row_length, any_label, is_alias, IsClosed, IsFormed}
+use Rattle.nts_model.specs.Trees.{Tree, empty, kind_of, label_of, row_length, any_label, is_alias, IsClosed, IsFormed}
 use Rattle.nts_model.specs.Contents.{Content, state_of, universe_of, kind_at}
 use Rattle.nts_model.specs.Resolving.{IsInfer, Knows, resolved}
 use Rattle.nts_model.specs.Levels.{NamesAll, term_level, region_level}
@@ -38,7 +37,7 @@ use Rattle.nts_variance.specs.declared.vary_walk.Look.TheVariants as look
 use Rattle.nts_variance.specs.Steps.{Step, enter, build, owe, steps_of, stacked, popped, unpopped, entering, EndsAlone, builds, Runs}
 use Rattle.nts_variance.specs.Walking.{Judges, IsGrown, IsMadeFor, IsChoice, SettlesOwed, Walks, IsMade, weights}
 use Rattle.nts_variance.specs.Counting.{IsCounted, IsCountedFor}
-use Rattle.nts_variance.specs.Parts.{form_of, parts_of, IsNodeWithParts}
+use Rattle.nts_variance.specs.Parts.{form_of, parts_of, IsNodeWithParts, StandsAlone}
 use Rattle.nts_variance.specs.Debts.{IsClosedLike, OweGoals}
 use Rattle.nts_variance.specs.Terms.{pairs_at, AreGoals, ArePairs, step_at, AreTasks, AreMade}
 
@@ -153,10 +152,10 @@ pub record IsOwn (c : Content) (x : ℕ) (t : Tree) : Type 0 where
   pub infer : IsInfer t
   pub own : (w : World) → Solves c w → inst w t ≡ w.tree x
 
--- a look refuses: at the variable itself, and at a part without aliases, related invariantly or a const, of which no instance is in
--- the variable's own tree
+-- a look refuses: at the variable itself, and at a part without aliases that stands as it is, of which no instance is in the
+-- variable's own tree
 abbrev pub LookRefuses : Content → ℕ → ℕ → Spot → Tree → Type 0
-LookRefuses c x u s t = IsOwn c x t ⊎ (((s.variance ≡ variance.Invariant) ⊎ (kind_of t ≡ Some (of_sort sort.Const))) × (any_label is_alias t ≡ false) × Blocks c x u s.binders t)
+LookRefuses c x u s t = IsOwn c x t ⊎ (StandsAlone s.variance t × (any_label is_alias t ≡ false) × Blocks c x u s.binders t)
 
 -- no choice of the variable's own tree goes on by these steps
 pub record WalkRefuses (declared : ℕ → List Variance) (u x : ℕ) (c : Content) (xs : List Step) (ss : List Tree) (gs : List Pair) : Type 0 where

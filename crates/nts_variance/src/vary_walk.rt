@@ -1,11 +1,10 @@
 //! A term that stands for another by a variance: aliases, and what may vary, give place to fresh variables, which owe goals.
-ghost use Rattle.std.specs.Prelude.{◌≡◌, ◌≢◌, ◌⊎◌, ℕ, ◌+◌, ◌++◌, ◌∷◌, [], ◌^◌, ◌<◌, ◌≤◌, length, List, OnOk, OnErr, IfOk, IfSome, Some, None, Err, false};
+ghost use Rattle.std.specs.Prelude.{◌≡◌, ◌≢◌, ◌⊎◌, ℕ, ◌+◌, ◌++◌, ◌∷◌, [], ◌^◌, ◌<◌, ◌≤◌, length, List, OnOk, OnErr, IfOk, IfSome, Some, None, Err, true, false};
 ghost use Rattle.nts_model.specs.declared.labels.Leaf.TheVariants as leaves;
 ghost use Rattle.nts_model.specs.declared.labels.Label.TheVariants as labels;
 ghost use Rattle.nts_model.specs.declared.labels.VariableKind.TheVariants as kinds;
-ghost use Rattle.nts_model.specs.Trees.{any_label, children, is_alias, kind_of, label_of, node, of_sort, row_length, shape, AllFit, IsClosedUnder, IsFormed, Meets};
+ghost use Rattle.nts_model.specs.Trees.{any_label, children, is_alias, label_of, node, row_length, shape, AllFit, IsClosedUnder, IsFormed, Meets};
 ghost use Rattle.nts_model.specs.Resolving.{IsInfer, resolved, variable_tree};
-ghost use Rattle.nts_model.specs.declared.labels.Sort.TheVariants as sorts;
 ghost use Rattle.nts_model.specs.declared.labels.Variance.TheVariants as variances;
 ghost use Rattle.nts_store.specs.TypeFlags.{flags_of};
 ghost use Rattle.nts_model.specs.Contents.{kind_at};
@@ -17,18 +16,18 @@ ghost use Rattle.nts_unify.specs.Reading.{content_of, IsLawful};
 ghost use Rattle.nts_relating.specs.Relating.{IsRegionOf};
 ghost use Rattle.nts_variance.specs.declared.vary_walk.Task.TheVariants as tasks;
 ghost use Rattle.nts_variance.specs.Steps.{enter, stacked, part_place};
-ghost use Rattle.nts_variance.specs.Parts.{closed_alias, const_variable, number_of_type, varies, form_of, parts_of};
+ghost use Rattle.nts_variance.specs.Parts.{closed_alias, const_variable, number_of_type, form_of, parts_of, StandsAlone};
 ghost use Rattle.nts_variance.specs.Terms.{step_at, pairs_at, IsPart};
 ghost use Rattle.nts_variance.specs.Varying.{pair_in, owed_pairs, constraint_of, with_owed, fresh, IsLook, LookRefuses, IsMadeAgain, ArePartsPushed, IsWalk, IsTurn, IsVaried, WalkRefuses};
 
 use crate::along::Relating;
 use crate::parts::{has_parts, holder, variance_of_part};
 use crate::variance::{opposite, times};
-use nts_model::{ConstHead, FreeRegion, Label, Leaf, Relation, TyHead, VariableKind, Variance};
+use nts_model::{ConstHead, Label, Leaf, Relation, TyHead, VariableKind, Variance};
 use nts_relating::{Target as ValueTarget, generalize};
-use nts_store::{EvalError, NodeId, Nodes, TypeFlags, binders_of};
+use nts_store::{EvalError, NodeId, Nodes, TypeFlags, binders_of, may_vary};
 use nts_terms::{Declarations, UniverseIndex};
-use nts_unify::{Constraint, InferCtxtInner, add_variable, infer_number, names_free_region};
+use nts_unify::{Constraint, InferCtxtInner, add_variable, infer_number};
 use std::alloc::Global;
 
 /// What a term is made for: the variable that is to stand for it, the universe that bounds what is fresh, and whether what is
@@ -197,19 +196,6 @@ pub fn record_regions(table: &mut InferCtxtInner, pair: Relating) -> Result<(), 
     Ok(())
 }
 
-/// Whether a free region may vary: the erased and the error region stay themselves.
-fn may_vary(label: Label) -> bool
-    ensures { result ≡ varies label }
-{
-    if let Label::Leaf(Leaf::Region(FreeRegion::Erased)) = label {
-        return false;
-    }
-    if let Label::Leaf(Leaf::Region(FreeRegion::Error)) = label {
-        return false;
-    }
-    names_free_region(label)
-}
-
 /// What a type variable that may vary is: a fresh variable stands for it where it has no value.
 fn look_at_variable(
     nodes: &mut Nodes,
@@ -270,6 +256,18 @@ fn is_const_variable(label: Label) -> bool
     matches!(label, Label::Leaf(Leaf::Variable(VariableKind::Const, _)))
 }
 
+/// Whether a part without aliases stands as it is: it is related invariantly, a const variable, or nothing in it may vary.
+fn stands_alone(variance: Variance, label: Label, flags: TypeFlags) -> bool
+    ensures alone { result ≡ true → ((variance ≡ variances.Invariant) ⊎ (const_variable label ≡ true)) ⊎ ((flags.has_infer ≡ false) × (flags.has_free_region ≡ false)) }
+    ensures varies { result ≡ false → variance ≢ variances.Invariant }
+    ensures no_const { result ≡ false → const_variable label ≡ false }
+{
+    if variance == Variance::Invariant || is_const_variable(label) {
+        return true;
+    }
+    !flags.has_infer && !flags.has_free_region
+}
+
 /// The value that stands for a part as it is.
 fn look_at_value(
     alloc: Global,
@@ -284,7 +282,7 @@ fn look_at_value(
     requires known { target.variable < length table.old.entries.variables }
     requires named { target.universe ≤ table.old.entries.universe }
     requires no_region { kind_at (content_of nodes.old table.old.entries) target.variable ≢ Some kinds.Region }
-    requires alone { (spot.variance ≡ variances.Invariant) ⊎ (kind_of (tree_at nodes.old spot.term) ≡ Some (of_sort sorts.Const)) }
+    requires alone { StandsAlone spot.variance (tree_at nodes.old spot.term) }
     requires plain { any_label is_alias (tree_at nodes.old spot.term) ≡ false }
     requires resolved { spot.is_quiet ≡ false → any_label is_alias (resolved (content_of nodes.old table.old.entries) (tree_at nodes.old spot.term)) ≡ false }
     ensures extends { Extends nodes.old nodes.new }
@@ -304,7 +302,8 @@ fn look_at_value(
     }
 }
 
-/// What a part without aliases is that stands as it is: related invariantly, or a const. A variable's value may have aliases.
+/// What a part without aliases is that stands as it is: related invariantly, a const, or one in which nothing may vary. A variable's
+/// value may have aliases.
 fn look_at_piece(
     alloc: Global,
     nodes: &mut Nodes,
@@ -320,7 +319,7 @@ fn look_at_piece(
     requires known { target.variable < length table.old.entries.variables }
     requires named { target.universe ≤ table.old.entries.universe }
     requires no_region { kind_at (content_of nodes.old table.old.entries) target.variable ≢ Some kinds.Region }
-    requires alone { (spot.variance ≡ variances.Invariant) ⊎ (kind_of (tree_at nodes.old spot.term) ≡ Some (of_sort sorts.Const)) }
+    requires alone { StandsAlone spot.variance (tree_at nodes.old spot.term) }
     requires plain { any_label is_alias (tree_at nodes.old spot.term) ≡ false }
     requires label { tree_at nodes.old spot.term ≡ node label (children (tree_at nodes.old spot.term)) }
     requires flags { flags ≡ flags_of (tree_at nodes.old spot.term) }
@@ -366,7 +365,7 @@ fn look_at(
     let _ = nodes.len();
     let label = nodes.label(spot.term);
     let flags = nodes.flags(spot.term);
-    if !flags.has_alias && (spot.variance == Variance::Invariant || is_const_variable(label)) {
+    if !flags.has_alias && stands_alone(spot.variance, label, flags) {
         return look_at_piece(alloc, nodes, table, target, spot, label, flags);
     }
     if is_closed_alias(label, flags) {

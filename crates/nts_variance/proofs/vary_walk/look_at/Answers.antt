@@ -5,12 +5,16 @@ use Rattle.nts_store.specs.TypeFlags.{escaping}
 use Rattle.nts_variance.specs.Parts.{closed_alias, const_variable}
 use Rattle.nts_relating.proofs.RegionLemmas.{region_of_term}
 use Rattle.nts_variance.proofs.CountedPieces.{infer_alias}
-use Rattle.nts_variance.proofs.Looks.{fresh_at, region_at, itself_at, varies_free, closed_alias_tree, alias_sort, made_again, no_const, no_type, from_not_false}
-use Rattle.nts_variance.proofs.vary_walk.look_at.Goals.{else-not-flags-via-then-not-flags+else-is_const_variable, then-eq, else-eq, else-not-flags-via-else-not-flags, in-Const, in_default}
+use Rattle.nts_variance.proofs.Looks.{fresh_at, region_at, itself_at, varies_free, closed_alias_tree, alias_sort, made_again, alone_part, no_const, no_type, from_not_false}
+use Rattle.nts_variance.proofs.vary_walk.look_at.Goals.{else-not-flags-via-then-not-flags+else-stands_alone, else-not-flags-via-else-not-flags, in-Const, in_default}
 use Rattle.nts_variance.proofs.vary_walk.look_at.Goals as goal
 
-pub returns-then-is_const_variable-clause-look : goal.returns-then-is_const_variable-clause-look
-returns-then-is_const_variable-clause-look c = λ declared. c.look_at_piece.ensures.look declared c.args.goals.now.items
+pub look_at_piece-requires-clause-alone : goal.look_at_piece-requires-clause-alone
+look_at_piece-requires-clause-alone c =
+    alone_part (tree_at c.args.nodes.now c.args.spot.term) c.label-label.result c.flags-flags.result c.args.spot.variance c.label-label.ensures.is c.flags-flags.ensures (c.if-stands_alone.ensures.alone refl)
+
+pub returns-then-stands_alone-clause-look : goal.returns-then-stands_alone-clause-look
+returns-then-stands_alone-clause-look c = λ declared. c.look_at_piece.ensures.look declared c.args.goals.now.items
 
 pub returns-then-is_closed_alias-clause-look : goal.returns-then-is_closed_alias-clause-look
 returns-then-is_closed_alias-clause-look c = λ declared.
@@ -46,7 +50,7 @@ returns-clause-look c = λ declared.
     let formed = c.len.ensures.formed c.args.spot.term c.requires.part.within in
     let is = c.label-label.ensures.is in
     let side : (const_variable c.label-label.result ≡ false) ⊎ (any_label is_alias t ≡ true) = elim c.else-not-flags.branch [
-      | else-not-flags-via-then-not-flags+else-is_const_variable w ↦ inl (let low = w.if-is_const_variable.false in elim w.if-eq.branch [ then-eq x ↦ (let high = x.value-is in let yes = x.if-eq.true in cc) | else-eq x ↦ sym x.is_const_variable.ensures ∙ sym x.value-is ∙ low ])
+      | else-not-flags-via-then-not-flags+else-stands_alone w ↦ inl (w.if-stands_alone.ensures.no_const refl)
       | else-not-flags-via-else-not-flags w ↦ inr (ap (λ f. f.has_alias) (sym c.flags-flags.ensures) ∙ from_not_false c.flags-flags.result.has_alias w.if-not-flags.false)
     ] in
     itself_at declared c.args.target.is_turned c.args.target.universe c.args.target.variable c.args.nodes.now c.args.table.now.entries c.args.spot c.args.goals.now.items c.label-label.result c.requires.lawful c.requires.part formed is (sym c.if-has_parts.ensures) (λ n. no_type c.label-label.result n c.in_default-type_number.ensures) (λ n. no_const t c.label-label.result n is formed side) (sym c.if-may_vary.ensures)
