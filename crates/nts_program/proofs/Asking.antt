@@ -1,29 +1,24 @@
 -- What a goal and its variables keep while a store and a table grow.
-use Rattle.std.proofs.Common.{◌≡◌, ℕ, zero, suc, List, [], ◌∷◌, Some, All, map}
-use Rattle.std.specs.Prelude.{slice_get}
+use Rattle.std.proofs.Common.{◌≡◌, List, [], ◌∷◌, Some, All, map}
 use Rattle.std.proofs.lemmas.List.Elements.{All-nil, All-cons}
 use Rattle.nts_model.specs.declared.labels.Sort.{Sort}
 use Rattle.nts_model.specs.declared.labels.Sort.TheVariants as sort
 use Rattle.nts_model.specs.Trees.{Tree, of_sort, any_argument, FitsPlace}
-use Rattle.nts_model.specs.Contents.{Content}
 use Rattle.nts_store.specs.declared.nodes.NodeId.{NodeId}
 use Rattle.nts_terms.specs.declared.handles.GenericArg.{GenericArg}
-use Rattle.nts_store.specs.Growth.{tree_at, AllIn, Extends}
+use Rattle.nts_store.specs.Growth.{tree_at, AllIn}
 use Rattle.nts_store.proofs.Growing.{IsIn-extended, Extends-trans, Extends-refl}
 use Rattle.nts_terms.proofs.Moved.{KeepsRest-trans, KeepsRest-refl, Holds-extended}
 use Rattle.nts_table.specs.Tables.{Table}
-use Rattle.nts_unify.specs.Reading.{content_of, IsConstraint, AreConstraints}
-use Rattle.nts_table.specs.Tables.{IsTable}
-use Rattle.nts_unify.specs.declared.contents.Constraint.{Constraint}
-use Rattle.nts_table.specs.TableLaws.{IsTable-extended, IsTable-same}
+use Rattle.nts_unify.specs.Reading.{content_of}
+use Rattle.nts_table.specs.TableLaws.{IsTable-extended}
 use Rattle.nts_delegate.specs.ClausesKept.{AreReady-kept}
 use Rattle.nts_terms.specs.declared.cx.Cx.{Cx}
 use Rattle.nts_queries.specs.Evaluation.{Goes, Runs, AreValues, AllKnown, AreOfSorts}
-use Rattle.nts_table.specs.Tables.{IsTermOf}
-use Rattle.nts_program.specs.Found.{IsKnownValue}
+use Rattle.nts_wording.specs.Found.{IsKnownValue}
+use Rattle.nts_wording.proofs.Telling.{values-extended}
 use Rattle.nts_queries.proofs.Asking.{IsAdmitted-extended}
-use Rattle.nts_queries.proofs.Evaluating.{Knows-goes, Goes-extends, IsTermOf-later}
-use Rattle.nts_unify.proofs.Keeping.{Knows-later}
+use Rattle.nts_queries.proofs.Evaluating.{Knows-goes}
 
 -- the values later on
 pub IsKnownValue-later : {a b : List Tree} {t u : Table} {x : GenericArg} → Goes a b t u → IsKnownValue a t x → IsKnownValue b u x
@@ -33,9 +28,6 @@ IsKnownValue-later {a} {b} {t} {u} {x} g h =
 
 pub values-later : {a b : List Tree} {t u : Table} (vs : List GenericArg) → Goes a b t u → All (λ v. IsKnownValue a t v) vs → All (λ v. IsKnownValue b u v) vs
 values-later vs g h = λ k d l. IsKnownValue-later g (h k d l)
-
-pub values-extended : {a b : List Tree} {t : Table} (vs : List GenericArg) → IsTable a t → Extends a b → All (λ v. IsKnownValue a t v) vs → All (λ v. IsKnownValue b t v) vs
-values-extended vs h e k = values-later vs (Goes-extends h e) k
 
 fits_sort : (s : Sort) → FitsPlace any_argument (Some (of_sort s))
 fits_sort sort.Ty = tt
@@ -53,24 +45,10 @@ values-fresh {ts} {t} fresh ns vs e h =
     let k : AreValues ts t fresh (map (λ v. v.node) vs) = rw e h in
     values-each ts t fresh vs k.within k.sorts k.known
 
-sides_at : (ts : List Tree) (c : Content) (xs : List Constraint) (i : ℕ) (x : Constraint) → AreConstraints ts c xs → slice_get xs i ≡ Some x → IsConstraint ts c x
-sides_at ts c [] i x h e = cc
-sides_at ts c (y ∷ ys) zero x h e = let same : x ≡ y = cc in rw same h.0
-sides_at ts c (y ∷ ys) (suc i) x h e = sides_at ts c ys i x h.1 e
-
--- one of the constraints of a table
-pub constraint_at : {ts : List Tree} {t : Table} (i : ℕ) (x : Constraint) → IsTable ts t → slice_get t.entries.constraints i ≡ Some x → IsConstraint ts (content_of ts t.entries) x
-constraint_at {ts} {t} i x h e = sides_at ts (content_of ts t.entries) t.entries.constraints i x h.now.constraints e
-
-pub constraint-known : {a b : List Tree} {t : Table} (x : Constraint) → IsTable a t → Extends a b → IsConstraint a (content_of a t.entries) x → IsTermOf b t x.right
-constraint-known x h e k = IsTermOf-later (Goes-extends h e) (record { within = k.right_in; knows = k.right_known })
-
 -- .. after an evaluation
 pub values-run : {a b : Cx} {t u : Table} (vs : List GenericArg) → Runs a b t u → All (λ v. IsKnownValue a.nodes t v) vs → All (λ v. IsKnownValue b.nodes u v) vs
 values-run vs r h = values-later vs r.goes h
 
-pub ruleset growing = (Extends-trans, Extends-refl, KeepsRest-trans, KeepsRest-refl, Holds-extended)
-
 pub ruleset keeping = (Extends-trans, Extends-refl, AreReady-kept)
 
-pub ruleset asking = (Extends-trans, Extends-refl, KeepsRest-trans, KeepsRest-refl, Holds-extended, AreReady-kept, IsTable-extended, IsAdmitted-extended, values-extended, values-later, values-run, constraint_at)
+pub ruleset asking = (Extends-trans, Extends-refl, KeepsRest-trans, KeepsRest-refl, Holds-extended, AreReady-kept, IsTable-extended, IsAdmitted-extended, values-extended, values-later, values-run)

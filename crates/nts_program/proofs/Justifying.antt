@@ -10,13 +10,13 @@ use Rattle.nts_table.specs.Tables.{Table}
 use Rattle.nts_unify.specs.Reading.{content_of}
 use Rattle.nts_delegate.specs.declared.clauses.Clauses.{Clauses}
 use Rattle.nts_text.specs.declared.resolver.Resolved.{Resolved}
-use Rattle.nts_program.specs.declared.variables.LineVariables.{LineVariables}
-use Rattle.nts_program.specs.Meaning.{HasOwnPlaces, HasPlace, AreVariablesFrom, IsGoalOf}
-use Rattle.nts_program.specs.Found.{IsFoundIn, IsOf}
+use Rattle.nts_wording.specs.declared.variables.LineVariables.{LineVariables}
+use Rattle.nts_wording.specs.Meaning.{HasOwnPlaces, HasPlace, AreVariablesFrom, IsGoalOf}
+use Rattle.nts_wording.specs.Found.{IsFoundIn, IsOf}
 use Rattle.nts_text.specs.declared.parser.Mode.{Mode}
 use Rattle.nts_program.specs.Proving.{IsTypingMode, IsProvedGoal, IsJustifiedAnswer}
-use Rattle.nts_program.specs.declared.answer.Answer.{Answer}
-use Rattle.nts_program.specs.declared.answer.Answer.TheVariants as answers
+use Rattle.nts_wording.specs.declared.answer.Answer.{Answer}
+use Rattle.nts_wording.specs.declared.answer.Answer.TheVariants as answers
 
 earlier : (a b us : List Tree) (h : Clauses) (t : Table) (g : Goal) → Extends a b → IsProvedGoal b us h t g → IsProvedGoal a us h t g
 earlier a b us h t g e k = record { store = k.store; extends = Extends-trans e k.extends; proved = k.proved }

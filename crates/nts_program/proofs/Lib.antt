@@ -1,13 +1,5 @@
-pub mod Growths
 pub mod Asking
-pub mod Printed
-pub mod Writing
-pub mod Lines
-pub mod Telling
 pub mod Justifying
 pub mod Obeyed
 pub mod Runs
-pub mod Meant
-pub mod Places
-pub mod Rules
 pub mod Steps

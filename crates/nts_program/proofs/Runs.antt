@@ -13,14 +13,14 @@ use Rattle.nts_text.specs.Lines.{IsPassedOver}
 use Rattle.nts_text.specs.declared.refusals.Refusal.{Refusal}
 use Rattle.nts_text.proofs.InputLemmas.{lines_of-first}
 use Rattle.nts_program.specs.declared.program.Program.{Program}
-use Rattle.nts_program.specs.declared.status.Status.TheVariants.{Done, Refused}
-use Rattle.nts_program.specs.declared.status.Stop.{Stop}
-use Rattle.nts_program.specs.declared.status.Stop.TheVariants as stop
-use Rattle.nts_program.specs.Growing.{refusal_line, IsTold}
-use Rattle.nts_program.specs.Statuses.{status_of}
+use Rattle.nts_wording.specs.declared.status.Status.TheVariants.{Done, Refused}
+use Rattle.nts_wording.specs.declared.status.Stop.{Stop}
+use Rattle.nts_wording.specs.declared.status.Stop.TheVariants as stop
+use Rattle.nts_wording.specs.Growing.{refusal_line, IsTold}
+use Rattle.nts_wording.specs.Statuses.{status_of}
 use Rattle.nts_program.specs.Obeying.{IsNewProgram, IsObeyed}
 use Rattle.nts_program.specs.Running.{answer_text, IsAnsweredLine, AreObeyed, AnswersAll, StopsAtRefusal}
-use Rattle.nts_program.proofs.Growths.{Appends-trans, Appends-none}
+use Rattle.nts_wording.proofs.Growths.{Appends-trans, Appends-none}
 
 obeyed_more : (lines : List (List ℕ)) (line : List ℕ) (p q r : Program) (s : List ℕ) (o : Option (Vec ℕ))
     → AreObeyed lines p q s → IsObeyed line q r o → AreObeyed (lines ++ line ∷ []) p r (s ++ answer_text o)

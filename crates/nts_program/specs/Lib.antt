@@ -1,10 +1,3 @@
-pub mod Statuses
-pub mod Growing
-pub mod Printing
-pub mod Pieces
-pub mod Answers
-pub mod Found
 pub mod Obeying
 pub mod Proving
 pub mod Running
-pub mod Meaning

@@ -19,9 +19,9 @@ use Rattle.nts_text.specs.declared.parser.Mode.TheVariants as modes
 use Rattle.nts_text.specs.declared.parser.Param.{Param}
 use Rattle.nts_text.specs.declared.resolver.Resolved.{Resolved}
 use Rattle.nts_program.specs.declared.program.Program.{Program}
-use Rattle.nts_program.specs.declared.answer.Answer.{Answer}
-use Rattle.nts_program.specs.Answers.{IsAnswerText}
-use Rattle.nts_program.specs.Meaning.{IsRuleOf}
+use Rattle.nts_wording.specs.declared.answer.Answer.{Answer}
+use Rattle.nts_wording.specs.Answers.{IsAnswerText}
+use Rattle.nts_wording.specs.Meaning.{IsRuleOf}
 use Rattle.nts_program.specs.Proving.{IsJustifiedAnswer}
 
 -- a program that was told nothing: there are no terms, declarations, rules, names or parameters, and

@@ -6,7 +6,7 @@ use Rattle.nts_text.specs.Input.{lines_of}
 use Rattle.nts_text.specs.Lines.{IsPassedOver}
 use Rattle.nts_text.specs.declared.refusals.Refusal.{Refusal}
 use Rattle.nts_program.specs.declared.program.Program.{Program}
-use Rattle.nts_program.specs.Growing.{refusal_line}
+use Rattle.nts_wording.specs.Growing.{refusal_line}
 use Rattle.nts_program.specs.Obeying.{IsNewProgram, IsObeyed}
 
 -- the text of an answer, which only a goal has

@@ -2,52 +2,27 @@
 ghost use Rattle.std.specs.Prelude.{◌≡◌, All, List, length, map, None, Some, IfOk, OnOk};
 ghost use Rattle.nts_model.specs.Trees.{Tree};
 ghost use Rattle.nts_store.specs.Growth.{Extends};
-ghost use Rattle.nts_unify.specs.Reading.{content_of};
 ghost use Rattle.nts_table.specs.Tables.{IsTable};
 ghost use Rattle.nts_terms.specs.Handles.{HoldsGoal};
 ghost use Rattle.nts_delegate.specs.Clauses.{AreReady};
 ghost use Rattle.nts_queries.specs.Evaluation.{IsAdmitted, AreOfSorts};
 ghost use Rattle.nts_certainty.specs.declared.certainty.Certainty.TheVariants as certainty;
 ghost use Rattle.nts_program.specs.Proving.{IsTypingMode, IsProvedGoal, IsJustifiedAnswer};
-ghost use Rattle.nts_program.specs.Found.{AreResolved, IsFoundIn, IsOf, IsKnownValue};
-ghost use Rattle.nts_program.specs.Meaning.{AreVariablesFrom, IsGoalFor};
+ghost use Rattle.nts_wording.specs.Found.{IsKnownValue};
+ghost use Rattle.nts_wording.specs.Meaning.{AreVariablesFrom};
 ghost use Rattle.nts_store.specs.Growth.{tree_at};
 ghost use Rattle.nts_terms.specs.Rest.{Grows};
 
-use crate::build::{MISFIT, Terms, bound_traits, predicate_of};
-use crate::status::Stop;
-use crate::variables::LineVariables;
 use nts_certainty::{Certainty, MaybeCause};
 use nts_delegate::Clauses;
 use nts_evaluation::{evaluate_root_goal, goal_is_admitted};
 use nts_model::Sort;
-use nts_resolve::eager_resolve_vars;
 use nts_store::{EvalError, NodeId};
 use nts_table::InferCtxt;
 use nts_terms::{Cx, GenericArg, Goal, Span, TypingMode};
 use nts_text::{Mode, Resolved};
-use nts_unify::Constraint;
+use nts_wording::{Answer, LineVariables, MISFIT, Stop, Terms, answer_of, goal_of};
 use std::alloc::{AllocError, Global};
-
-/// What a goal that holds says of its variables.
-#[derive(Drop)]
-pub struct Found {
-    /// The variables of the goal.
-    pub variables: LineVariables,
-    /// Their values, each at its variable's place.
-    pub values: Vec<GenericArg>,
-    /// What holds of regions, in the order in which it was found.
-    pub facts: Vec<Constraint>,
-}
-
-/// The answer to a goal.
-#[derive(Drop)]
-pub enum Answer {
-    Yes(Found),
-    No,
-    Ambiguity,
-    Overflow,
-}
 
 /// What a goal may know of hidden types in this mode: there are none.
 fn typing_mode(alloc: Global, mode: Mode) -> TypingMode
@@ -88,30 +63,6 @@ pub fn ask(cx: &mut Cx, clauses: &Clauses, mode: Mode, nodes: &[Resolved]) -> Re
     }
 }
 
-/// What the table knows of the variables of a goal that holds.
-#[tactic(auto, using(crate::proofs::Asking::asking))]
-fn answer_of(
-    table: &InferCtxt,
-    cx: &mut Cx,
-    variables: LineVariables,
-    values: &[GenericArg],
-) -> Result<Answer, Stop>
-    requires table { IsTable cx.old.nodes table.now }
-    requires values { All (λ v. IsKnownValue cx.old.nodes table.now v) values.now }
-    ensures variables { IfOk result (IsOf variables) }
-    ensures found { IfOk result (IsFoundIn cx.old.nodes cx.new.nodes
-        (content_of cx.old.nodes table.now.entries) values.now) }
-    ensures grows { Grows cx.old cx.new }
-{
-    let values = resolved_values(table, cx, values)?;
-    let facts = table.make_deduplicated_region_constraints(cx)?;
-    Ok(Answer::Yes(Found {
-        variables,
-        values,
-        facts,
-    }))
-}
-
 /// New variables of these sorts.
 fn fresh_values(table: &mut InferCtxt, cx: &mut Cx, sorts: &[Sort]) -> Result<Vec<GenericArg>, Stop>
     requires table { IsTable cx.old.nodes table.old }
@@ -137,26 +88,6 @@ fn arguments_of(alloc: Global, nodes: &[NodeId]) -> Result<Vec<GenericArg>, Allo
         .iter()
         .map(|node| GenericArg { node: *node })
         .collect(alloc)
-}
-
-/// The goal that these nodes say, in an empty environment.
-#[tactic(auto, using(crate::proofs::Asking::asking))]
-fn goal_of(cx: &mut Cx, nodes: &[Resolved], terms: Terms<'_>) -> Result<Goal, Stop>
-    ensures asks { IfOk result (IsGoalFor cx.new.nodes terms.entry.variables.now
-        terms.entry.values.now nodes.now) }
-    ensures holds { IfOk result (λ g. HoldsGoal cx.new.nodes g) }
-    ensures grows { Grows cx.old cx.new }
-{
-    let found = bound_traits(cx, nodes, terms)?;
-    let [bound] = found.as_slice() else {
-        return Err(MISFIT);
-    };
-    let param_env = cx.mk_env(&[])?;
-    let predicate = predicate_of(cx, bound)?;
-    Ok(Goal {
-        param_env,
-        predicate,
-    })
 }
 
 /// How sure it is that a goal holds, or `None` if it has no solution. The table then still knows
@@ -192,24 +123,4 @@ fn evaluated(
         Err(EvalError::NoSolution) => Ok(None),
         Err(EvalError::Memory | EvalError::Full) => Err(Stop::Memory),
     }
-}
-
-/// The values with each variable replaced by what the table knows of it.
-#[tactic(auto, using(crate::proofs::Asking::asking))]
-fn resolved_values(
-    table: &InferCtxt,
-    cx: &mut Cx,
-    values: &[GenericArg],
-) -> Result<Vec<GenericArg>, Stop>
-    requires table { IsTable cx.old.nodes table.now }
-    requires values { All (λ v. IsKnownValue cx.old.nodes table.now v) values.now }
-    ensures resolved { IfOk result (λ vs. AreResolved cx.old.nodes cx.new.nodes
-        (content_of cx.old.nodes table.now.entries) values.now vs.items) }
-    ensures grows { Grows cx.old cx.new }
-{
-    let mut found = Vec::new(cx.alloc);
-    for value in values {
-        found.push(eager_resolve_vars(table, cx, *value)?)?;
-    }
-    Ok(found)
 }

@@ -1,24 +1,20 @@
 //! The state of a run, and what each command does to it.
 ghost use Rattle.std.specs.Prelude.{◌≡◌, true, false, length, map, IsNone, IfOk, OnOk, OnErr};
-ghost use Rattle.nts_store.specs.Growth.{Extends};
 ghost use Rattle.nts_delegate.specs.Adding.{AddsClause, MakesCoinductive};
 ghost use Rattle.nts_delegate.specs.Clauses.{AreReady};
 ghost use Rattle.nts_delegate.specs.declared.clauses.Clause.{Clause};
 ghost use Rattle.nts_text.specs.Lines.{IsPassedOver};
 ghost use Rattle.nts_text.specs.Resolution.{trait_sorts};
-ghost use Rattle.nts_program.specs.Meaning.{AreConditions, IsRuleOf, IsRuleFor};
+ghost use Rattle.nts_wording.specs.Meaning.{IsRuleOf};
 ghost use Rattle.nts_program.specs.Obeying.{IsNewProgram, DeclaresType, DeclaresTrait, Follows, KeepsRules, IsTold, IsObeyed, IsInStep};
 ghost use Rattle.nts_terms.specs.Rest.{Grows};
 
 use crate::answer::ask;
-use crate::build::{MISFIT, Terms, bound_traits, positions, predicate_of};
-use crate::printer::text_of;
-use crate::status::Stop;
-use crate::variables::LineVariables;
-use nts_delegate::{Clause, Clauses};
+use nts_delegate::Clauses;
 use nts_model::{Sort, Variance};
-use nts_terms::{Cx, Predicate};
+use nts_terms::Cx;
 use nts_text::{Command, Mode, NameTable, Param, Resolved, Scope, read_command};
+use nts_wording::{MISFIT, Stop, clause_of, text_of};
 use std::alloc::{AllocError, Global};
 
 /// What the lines of a run have said so far.
@@ -196,49 +192,4 @@ fn variances_of(alloc: Global, params: &[Param]) -> Result<Vec<Variance>, AllocE
     ensures { IfOk result (λ v. v.items ≡ map (λ p. p.variance) params.now) }
 {
     params.iter().map(|param| param.variance).collect(alloc)
-}
-
-/// The rule that a line says: its head holds where its body does.
-#[tactic(auto, using(crate::proofs::Asking::growing))]
-fn clause_of(cx: &mut Cx, head: &[Resolved], body: &[Resolved]) -> Result<Clause, Stop>
-    ensures rule { IfOk result (IsRuleFor cx.new.nodes head.now body.now) }
-    ensures grows { Grows cx.old cx.new }
-{
-    let mut variables = LineVariables::new(cx.alloc);
-    variables.see(head)?;
-    variables.see(body)?;
-    let values = positions(cx, &variables.sorts)?;
-    let terms = Terms {
-        variables: &variables,
-        values: &values,
-    };
-    let heads = bound_traits(cx, head, terms)?;
-    let [head] = heads.as_slice() else {
-        return Err(MISFIT);
-    };
-    if !head.binds.is_empty() {
-        return Err(MISFIT);
-    }
-    let body = conditions(cx, body, terms)?;
-    Ok(Clause {
-        fresh: variables.sorts,
-        trait_id: head.trait_ref.def_id,
-        head: head.trait_ref.args,
-        body,
-    })
-}
-
-/// The predicates that these nodes say.
-#[tactic(auto, using(crate::proofs::Asking::growing))]
-fn conditions(cx: &mut Cx, body: &[Resolved], terms: Terms<'_>) -> Result<Vec<Predicate>, Stop>
-    ensures conditions { IfOk result (λ ps. AreConditions cx.new.nodes terms.entry.variables.now
-        terms.entry.values.now body.now ps.items) }
-    ensures grows { Grows cx.old cx.new }
-{
-    let traits = bound_traits(cx, body, terms)?;
-    let mut predicates = Vec::new(cx.alloc);
-    for bound in &traits {
-        predicates.push(predicate_of(cx, bound)?)?;
-    }
-    Ok(predicates)
 }

@@ -1,9 +1,9 @@
 use Rattle.std.proofs.Common.{Some, ap, sym, subst, ◌∙◌}
 use Rattle.nts_store.proofs.Growing.{Extends-trans}
 use Rattle.nts_table.specs.TableLaws.{IsTable-extended}
-use Rattle.nts_program.specs.Meaning.{AreVariablesFrom, IsGoalOf}
+use Rattle.nts_wording.specs.Meaning.{AreVariablesFrom, IsGoalOf}
 use Rattle.nts_program.proofs.Justifying.{justified}
-use Rattle.nts_program.proofs.Asking.{values-extended}
+use Rattle.nts_wording.proofs.Telling.{values-extended}
 use Rattle.nts_program.proofs.answer.ask.Goals as goal
 
 pub evaluated-requires-clause-table : goal.evaluated-requires-clause-table

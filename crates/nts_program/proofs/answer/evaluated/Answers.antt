@@ -1,5 +1,6 @@
 use Rattle.nts_table.specs.TableLaws.{IsTable-extended}
-use Rattle.nts_program.proofs.Asking.{values-run, values-extended}
+use Rattle.nts_program.proofs.Asking.{values-run}
+use Rattle.nts_wording.proofs.Telling.{values-extended}
 use Rattle.nts_program.proofs.answer.evaluated.Goals as goal
 
 pub evaluate_root_goal-requires-clause-table : goal.evaluate_root_goal-requires-clause-table

@@ -4,7 +4,7 @@ use Rattle.nts_terms.specs.declared.handles.GenericArg.{GenericArg}
 use Rattle.nts_queries.proofs.Evaluating.{gave_fresh}
 use Rattle.nts_store.specs.Growth.{tree_at}
 use Rattle.nts_program.proofs.Asking.{values-fresh}
-use Rattle.nts_program.proofs.Places.{trees_unwrapped, variables_from}
+use Rattle.nts_wording.proofs.Places.{trees_unwrapped, variables_from}
 use Rattle.nts_program.proofs.answer.fresh_values.Goals as goal
 
 unwrapped : (ns : List NodeId) → map (λ (v : GenericArg). v.node) (map (λ n. record { node = n }) ns) ≡ ns

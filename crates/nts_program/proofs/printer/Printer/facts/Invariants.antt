@@ -1,8 +1,0 @@
-use Rattle.std.proofs.Common.{take}
-use Rattle.nts_program.specs.Answers.{IsFactLine, AreLines}
-use Rattle.nts_program.specs.Pieces.{lexicon_of, WritesText}
-use Rattle.nts_program.proofs.printer.Printer.facts.Given as goal
-
-abbrev pub invariant-loop-fact : goal.invariant-loop-fact
-invariant-loop-fact l =
-    WritesText l.fn.self l.self (λ old text new. AreLines (IsFactLine (lexicon_of l.fn.self)) old (take l.fact-index l.facts) text new)

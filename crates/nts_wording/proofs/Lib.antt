@@ -1,0 +1,9 @@
+pub mod Stores
+pub mod Growths
+pub mod Printed
+pub mod Writing
+pub mod Lines
+pub mod Telling
+pub mod Meant
+pub mod Places
+pub mod Rules

@@ -1,0 +1,151 @@
+-- What the nodes of a line mean, while terms are made of them.
+use Rattle.std.proofs.Common.{◌≡◌, ℕ, zero, suc, ◌<◌, ◌≤◌, get_or, List, [], ◌∷◌, ◌++◌, All, map, reverse, length, take, drop, refl, sym, ap, ◌∙◌, arith}
+use Rattle.std.specs.Global.{Vec}
+use Rattle.std.proofs.lemmas.List.{reverse-append}
+use Rattle.std.proofs.lemmas.List.Elements.{All-head, All-tail}
+use Rattle.nts_model.specs.declared.labels.Label.TheVariants as label
+use Rattle.nts_model.specs.declared.labels.ListHead.TheVariants as list
+use Rattle.nts_model.specs.declared.labels.ClauseHead.TheVariants as clause
+use Rattle.nts_model.specs.Trees.{Tree, empty, more, node}
+use Rattle.nts_terms.specs.declared.handles.GenericArg.{GenericArg}
+use Rattle.nts_terms.specs.declared.handles.GenericArgs.{GenericArgs}
+use Rattle.nts_store.specs.Growth.{tree_at, trees_at, Extends}
+use Rattle.nts_terms.specs.declared.handles.Goal.{Goal}
+use Rattle.nts_terms.specs.declared.kinds.ClauseKind.TheVariants as clause_kind
+use Rattle.nts_terms.specs.Handles.{HoldsArg, HoldsArgs, HoldsEnv}
+use Rattle.nts_terms.specs.Kinds.{tree_of_args, tree_of_clause}
+use Rattle.nts_store.proofs.Growing.{Extends-trans}
+use Rattle.nts_text.specs.declared.resolver.Resolved.{Resolved}
+use Rattle.nts_text.specs.declared.resolver.Resolved.TheVariants as nodes
+use Rattle.nts_wording.specs.declared.build.BoundTrait.{BoundTrait}
+use Rattle.nts_wording.specs.declared.variables.LineVariables.{LineVariables}
+use Rattle.nts_wording.specs.Meaning.{argument_row, argument_list, term_of, meaning_of, values_in, made_trees, binding_nothing, predicate_tree, statement_of, statements, TakesArguments, MakesArgument, AreSaid, States, IsGoalFor, empty_environment}
+
+-- the front of a list, and what stands behind it
+take_front : {A : Type 0} (n : ℕ) (xs ys : List A) → length xs ≡ n → take n (xs ++ ys) ≡ xs
+take_front zero [] ys h = refl
+take_front zero (x ∷ xs) ys h = absurd (omega (arith, h))
+take_front (suc n) [] ys h = absurd (omega (arith, h))
+take_front (suc n) (x ∷ xs) ys h = ap (λ w. x ∷ w) (take_front n xs ys (omega (arith, h)))
+
+drop_front : {A : Type 0} (n : ℕ) (xs ys : List A) → length xs ≡ n → drop n (xs ++ ys) ≡ ys
+drop_front zero [] ys h = refl
+drop_front zero (x ∷ xs) ys h = absurd (omega (arith, h))
+drop_front (suc n) [] ys h = absurd (omega (arith, h))
+drop_front (suc n) (x ∷ xs) ys h = drop_front n xs ys (omega (arith, h))
+
+map_front : {A B : Type 0} (f : A → B) (xs ys : List A) → map f (xs ++ ys) ≡ map f xs ++ map f ys
+map_front f [] ys = refl
+map_front f (x ∷ xs) ys = ap (λ w. f x ∷ w) (map_front f xs ys)
+
+length_map : {A B : Type 0} (f : A → B) (xs : List A) → length (map f xs) ≡ length xs
+length_map f [] = refl
+length_map f (x ∷ xs) = ap suc (length_map f xs)
+
+-- terms of a store have the same trees later
+row_later : (ts us : List Tree) (xs : List GenericArg) → Extends ts us → All (λ a. HoldsArg ts a) xs → trees_at ts (map (λ a. a.node) xs) ≡ argument_row (map (λ a. tree_at us a.node) xs)
+row_later ts us [] e h = refl
+row_later ts us (x ∷ xs) e h =
+    let here : tree_at us x.node ≡ tree_at ts x.node = e.kept x.node (All-head (λ a. HoldsArg ts a) x xs h).within in
+    cc (here, row_later ts us xs e (All-tail (λ a. HoldsArg ts a) x xs h))
+
+-- what is taken from the end is the list that is made of it
+pub takes : (ts mid : List Tree) (old new : Vec GenericArg) (args : List GenericArg) (count : ℕ) (l : GenericArgs)
+    → reverse old.items ≡ args ++ reverse new.items → length args ≡ count → All (λ a. HoldsArg ts a) args → Extends ts mid → HoldsArgs mid l → tree_at mid l.node ≡ tree_of_args ts args
+    → TakesArguments mid old new count l
+takes ts mid old new args count l parts counted held e within tree us later =
+    let f : GenericArg → Tree = λ a. tree_at us a.node in
+    let split : made_trees us old ≡ map f args ++ made_trees us new = ap (map f) parts ∙ map_front f args (reverse new.items) in
+    let long : length (map f args) ≡ count = length_map f args ∙ counted in (
+      later.kept l.node within.within ∙ tree ∙ ap (λ r. node (label.List list.Args) r) (row_later ts us args (Extends-trans e later) held)
+          ∙ ap argument_list (sym (take_front count (map f args) (made_trees us new) long) ∙ ap (take count) (sym split)),
+      sym (ap (drop count) split ∙ drop_front count (map f args) (made_trees us new) long),
+    )
+
+-- what was made of the last nodes, here and in each later store
+abbrev pub IsMade : List Tree → LineVariables → List GenericArg → List Resolved → Vec GenericArg → List BoundTrait → Type 0
+IsMade ts variables values rs made found =
+    (us : List Tree) → Extends ts us
+    → (made_trees us made ≡ (meaning_of (values_in us variables values) rs).arguments) × (statements us (reverse found) ≡ (meaning_of (values_in us variables values) rs).predicates)
+
+module _ (ts mid : List Tree) (variables : LineVariables) (values : List GenericArg) (rs : List Resolved) (old new : Vec GenericArg) (found : List BoundTrait) where
+  one_more : (us : List Tree) (last : Vec GenericArg) (a : GenericArg) (args : List Tree) (f : List Tree → Tree) (k : ℕ) → last.items ≡ new.items ++ a ∷ []
+      → made_trees us old ≡ args → tree_at us a.node ≡ f (take k (made_trees us old)) → made_trees us new ≡ drop k (made_trees us old)
+      → made_trees us last ≡ f (take k args) ∷ drop k args
+  one_more us last a args f k pushed was here left =
+      ap (λ xs. map (λ b. tree_at us b.node) (reverse xs)) pushed ∙ ap (map (λ b. tree_at us b.node)) (reverse-append new.items (a ∷ []))
+      ∙ ap (λ t. t ∷ made_trees us new) (here ∙ ap (λ xs. f (take k xs)) was) ∙ ap (λ ts. f (take k args) ∷ ts) (left ∙ ap (drop k) was)
+
+  -- one more argument
+  pub made_argument : (r : Resolved) (last : Vec GenericArg) (a : GenericArg) → IsMade ts variables values rs old found → Extends ts mid
+      → MakesArgument mid variables values r old new a → last.items ≡ new.items ++ a ∷ [] → IsMade mid variables values (r ∷ rs) last found
+  made_argument (nodes.Binds s) last a h e makes pushed = absurd makes
+  made_argument (nodes.BoundType i) last a h e makes pushed = λ us later.
+      let was = h us (Extends-trans e later) in
+      (one_more us last a _ (term_of (values_in us variables values) (nodes.BoundType i)) 0 pushed was.0 (makes us later).0 (makes us later).1, was.1)
+  made_argument (nodes.BoundRegion i) last a h e makes pushed = λ us later.
+      let was = h us (Extends-trans e later) in
+      (one_more us last a _ (term_of (values_in us variables values) (nodes.BoundRegion i)) 0 pushed was.0 (makes us later).0 (makes us later).1, was.1)
+  made_argument (nodes.Trait i n) last a h e makes pushed = absurd makes
+  made_argument (nodes.Ctor i n) last a h e makes pushed = λ us later.
+      let was = h us (Extends-trans e later) in
+      (one_more us last a _ (term_of (values_in us variables values) (nodes.Ctor i n)) n pushed was.0 (makes us later).0 (makes us later).1, was.1)
+  made_argument (nodes.Int i) last a h e makes pushed = λ us later.
+      let was = h us (Extends-trans e later) in
+      (one_more us last a _ (term_of (values_in us variables values) (nodes.Int i)) 0 pushed was.0 (makes us later).0 (makes us later).1, was.1)
+  made_argument (nodes.Uint i) last a h e makes pushed = λ us later.
+      let was = h us (Extends-trans e later) in
+      (one_more us last a _ (term_of (values_in us variables values) (nodes.Uint i)) 0 pushed was.0 (makes us later).0 (makes us later).1, was.1)
+  made_argument (nodes.TypeVariable i) last a h e makes pushed = λ us later.
+      let was = h us (Extends-trans e later) in
+      (one_more us last a _ (term_of (values_in us variables values) (nodes.TypeVariable i)) 0 pushed was.0 (makes us later).0 (makes us later).1, was.1)
+  made_argument (nodes.TypeParam i) last a h e makes pushed = λ us later.
+      let was = h us (Extends-trans e later) in
+      (one_more us last a _ (term_of (values_in us variables values) (nodes.TypeParam i)) 0 pushed was.0 (makes us later).0 (makes us later).1, was.1)
+  made_argument (nodes.RegionVariable i) last a h e makes pushed = λ us later.
+      let was = h us (Extends-trans e later) in
+      (one_more us last a _ (term_of (values_in us variables values) (nodes.RegionVariable i)) 0 pushed was.0 (makes us later).0 (makes us later).1, was.1)
+  made_argument (nodes.RegionParam i) last a h e makes pushed = λ us later.
+      let was = h us (Extends-trans e later) in
+      (one_more us last a _ (term_of (values_in us variables values) (nodes.RegionParam i)) 0 pushed was.0 (makes us later).0 (makes us later).1, was.1)
+  made_argument nodes.Static last a h e makes pushed = λ us later.
+      let was = h us (Extends-trans e later) in
+      (one_more us last a _ (term_of (values_in us variables values) nodes.Static) 0 pushed was.0 (makes us later).0 (makes us later).1, was.1)
+
+  -- one more predicate
+  pub made_trait : (i n : ℕ) (args : GenericArgs) (b : BoundTrait) (last : List BoundTrait) → IsMade ts variables values rs old found → Extends ts mid → TakesArguments mid old new n args
+      → b.binds.items ≡ [] → b.trait_ref ≡ record { def_id = record { number = i }; args = args } → last ≡ found ++ b ∷ [] → IsMade mid variables values (nodes.Trait i n ∷ rs) new last
+  made_trait i n args b last h e takes unbound is pushed = λ us later.
+      let was = h us (Extends-trans e later) in
+      let taken = takes us later in
+      let first : statement_of us b ≡ binding_nothing (node (label.Clause (clause.Trait i)) (more (tree_at us args.node) empty)) =
+      ap (λ xs. record { binds = reverse xs; statement = tree_of_clause us (clause_kind.Trait b.trait_ref) }) unbound ∙ ap (λ r. binding_nothing (tree_of_clause us (clause_kind.Trait r))) is in (
+        taken.1 ∙ ap (drop n) was.0,
+        ap (λ xs. statements us (reverse xs)) pushed ∙ ap (statements us) (reverse-append found (b ∷ []))
+            ∙ ap (λ s. s ∷ statements us (reverse found)) first
+            ∙ ap (λ t. binding_nothing (node (label.Clause (clause.Trait i)) (more t empty)) ∷ statements us (reverse found)) (taken.0 ∙ ap (λ xs. argument_list (take n xs)) was.0)
+            ∙ ap (λ ps. binding_nothing (node (label.Clause (clause.Trait i)) (more (argument_list (take n (meaning_of (values_in us variables values) rs).arguments)) empty)) ∷ ps) was.1,
+      )
+
+-- nothing is made of no nodes
+pub made_none : (ts : List Tree) (variables : LineVariables) (values : List GenericArg) (made : Vec GenericArg) (found : List BoundTrait) → made.items ≡ [] → found ≡ [] → IsMade ts variables values [] made found
+made_none ts variables values made found e f = λ us later. (ap (λ xs. map (λ a. tree_at us a.node) (reverse xs)) e, ap (λ xs. statements us (reverse xs)) f)
+
+pub ruleset meant = (made_none, made_trait)
+
+pub one_item : {A : Type 0} (xs : List A) (d : A) → 1 ≤ length xs → length xs < 2 → xs ≡ get_or xs 0 d ∷ []
+one_item [] d l h = absurd (omega (arith, l))
+one_item (x ∷ []) d l h = refl
+one_item (x ∷ y ∷ ys) d l h = absurd (omega (arith, h))
+
+-- the goal of the one trait that nodes say
+pub goal_for : (a mid ts : List Tree) (variables : LineVariables) (values : List GenericArg) (rs : List Resolved) (traits : List BoundTrait) (r : BoundTrait) (g : Goal)
+    → AreSaid a variables values rs traits → traits ≡ r ∷ [] → Extends a mid → Extends mid ts → States ts r g.predicate → HoldsEnv mid g.param_env → tree_at mid g.param_env.node ≡ empty_environment
+    → IsGoalFor ts variables values rs g
+goal_for a mid ts variables values rs traits r g said one e f states holds environment = λ us later.
+    let after = Extends-trans f later in
+    let here = said us (Extends-trans e after) in
+    record {
+      said = ap (map predicate_tree) (sym here) ∙ ap (λ xs. map predicate_tree (statements us xs)) one ∙ ap (λ t. t ∷ []) (sym (states us later));
+      nothing_assumed = after.kept g.param_env.node holds.within ∙ environment;
+    }

@@ -1,0 +1,11 @@
+use Rattle.std.proofs.Common.{refl, arith}
+use Rattle.std.proofs.lemmas.Grind.{common_steps}
+use Rattle.nts_model.specs.declared.labels.Sort.TheVariants as sort
+use Rattle.nts_wording.proofs.Places.{own_sort, own_region}
+use Rattle.nts_wording.proofs.variables.LineVariables.add_region.Goals as goal
+
+pub returns-in_err-push-2-clause-own : goal.returns-in_err-push-2-clause-own
+returns-in_err-push-2-clause-own c = own_sort _ _ sort.Region c.in_ok-push.ensures.items refl c.in_err-push-2.ensures.items
+
+pub returns-clause-own : goal.returns-clause-own
+returns-clause-own c = own_region _ _ c.len-place.result (grind (arith, common_steps, c.len-place.ensures)) c.in_ok-push.ensures.items refl c.in_ok-push-2.ensures.items

@@ -1,0 +1,251 @@
+//! Terms of the predicates that a line says.
+ghost use Rattle.std.specs.Prelude.{◌≡◌, All, IsTrue, IfOk, IfSome, OnOk, Some, List, reverse, slice_get};
+ghost use Rattle.nts_model.specs.Trees.{Tree};
+ghost use Rattle.nts_store.specs.Growth.{Extends, tree_at};
+ghost use Rattle.nts_terms.specs.Kinds.{tree_of_ty};
+ghost use Rattle.nts_terms.specs.declared.kinds.TyKind.TheVariants as ty;
+ghost use Rattle.nts_wording.specs.Meaning.{tree_at_place, BindsFirst, TakesArguments, MakesArgument, AreSaid, States, ArePositions};
+ghost use Rattle.nts_terms.specs.Handles.{HoldsArg, HoldsArgs, HoldsPredicate};
+ghost use Rattle.nts_terms.specs.Rest.{Grows};
+
+use crate::status::Stop;
+use crate::variables::LineVariables;
+use nts_model::{BoundVarIndexKind, Sort};
+use nts_terms::{
+    Binder, BoundRegion, BoundTy, ClauseKind, CtorId, Cx, DefId, GenericArg, GenericArgs,
+    Predicate, PredicateKind, RegionKind, TraitId, TraitRef, TyKind,
+};
+use nts_text::{Refusal, Resolved};
+use std::alloc::{AllocError, Global};
+
+/// The terms that the variables of a line stand for, each at the variable's place.
+#[derive(Clone, Copy)]
+pub struct Terms<'a> {
+    /// The variables of the line.
+    pub variables: &'a LineVariables,
+    /// What they stand for.
+    pub values: &'a [GenericArg],
+}
+
+impl Terms<'_> {
+    fn of_type(self, number: usize) -> Option<GenericArg>
+        ensures value { IfSome result (λ a. (ts : List Tree) →
+            tree_at ts a.node ≡ tree_at_place ts self.entry.values.now
+            (slice_get self.entry.variables.now.types.items number)) }
+    {
+        self.at(*self.variables.types.get(number)?)
+    }
+
+    fn of_region(self, number: usize) -> Option<GenericArg>
+        ensures value { IfSome result (λ a. (ts : List Tree) →
+            tree_at ts a.node ≡ tree_at_place ts self.entry.values.now
+            (slice_get self.entry.variables.now.regions.items number)) }
+    {
+        self.at(*self.variables.regions.get(number)?)
+    }
+
+    fn at(self, place: usize) -> Option<GenericArg>
+        ensures value { IfSome result (λ a. slice_get self.entry.values.now place ≡ Some a) }
+    {
+        Some(*self.values.get(place)?)
+    }
+}
+
+/// A trait with its arguments, under a binder.
+#[derive(Drop)]
+pub struct BoundTrait {
+    /// The sorts of the variables that the binder binds, the last one first.
+    pub binds: Vec<Sort>,
+    pub trait_ref: TraitRef,
+}
+
+/// What is answered where terms don't fit, though the names of the line do.
+pub const MISFIT: Stop = Stop::Refused(Refusal::WrongArguments);
+
+/// The number of a parameter, if there are so many.
+fn parameter(number: usize) -> Result<u32, Stop>
+    ensures { IfOk result (λ n. n ≡ number) }
+{
+    u32::try_from(number).map_err(|_| Stop::Memory)
+}
+
+/// The traits that these nodes name, with their arguments and binders, in order.
+#[tactic(auto, using(crate::proofs::Stores::growing))]
+pub fn bound_traits(
+    cx: &mut Cx,
+    nodes: &[Resolved],
+    terms: Terms<'_>,
+) -> Result<Vec<BoundTrait>, Stop>
+    ensures said { IfOk result (λ rs. AreSaid cx.new.nodes terms.entry.variables.now
+        terms.entry.values.now nodes.now rs.items) }
+    ensures grows { Grows cx.old cx.new }
+{
+    let alloc = cx.alloc;
+    let mut made = Vec::new(alloc);
+    let mut found = Vec::new(alloc);
+    // From the last node to the first, so that arguments are made before what takes them.
+    let mut at = nodes.len();
+    while at > 0 {
+        at -= 1;
+        match nodes[at] {
+            Resolved::Trait { number, arguments } => {
+                let args = take_args(cx, &mut made, arguments)?;
+                let trait_ref = TraitRef {
+                    def_id: TraitId { number },
+                    args,
+                };
+                found.push(BoundTrait {
+                    binds: Vec::new(alloc),
+                    trait_ref,
+                })?;
+            }
+            Resolved::Binds(sort) => bind_first(&mut found, sort)?,
+            node => {
+                let argument = argument(cx, &mut made, terms, node)?;
+                made.push(argument)?;
+            }
+        }
+    }
+    found.reverse();
+    Ok(found)
+}
+
+/// Binds a variable more by the binder of the last trait, before the others that it binds.
+fn bind_first(found: &mut Vec<BoundTrait>, sort: Sort) -> Result<(), Stop>
+    ensures { OnOk result (BindsFirst sort found.old.items found.new.items) }
+{
+    let Some(mut last) = found.pop() else {
+        return Err(MISFIT);
+    };
+    last.binds.push(sort)?;
+    found.push(last)?;
+    Ok(())
+}
+
+/// The argument of a node, whose own arguments were made last.
+#[tactic(auto, using(crate::proofs::Stores::growing))]
+fn argument(
+    cx: &mut Cx,
+    made: &mut Vec<GenericArg>,
+    terms: Terms<'_>,
+    node: Resolved,
+) -> Result<GenericArg, Stop>
+    ensures makes { IfOk result (MakesArgument cx.new.nodes terms.entry.variables.now
+        terms.entry.values.now node made.old made.new) }
+    ensures grows { Grows cx.old cx.new }
+{
+    match node {
+        Resolved::Binds(_) | Resolved::Trait { .. } => Err(MISFIT),
+        Resolved::BoundType(var) => {
+            let kind = TyKind::Bound(BoundVarIndexKind::Bound(0), BoundTy { var });
+            Ok(cx.mk_ty(kind)?.into())
+        }
+        Resolved::BoundRegion(var) => {
+            let kind = RegionKind::ReBound(BoundVarIndexKind::Bound(0), BoundRegion { var });
+            Ok(cx.mk_region(kind)?.into())
+        }
+        Resolved::Ctor { number, arguments } => {
+            let args = take_args(cx, made, arguments)?;
+            constructed(cx, CtorId { number }, args)
+        }
+        Resolved::TypeVariable(number) => terms.of_type(number).ok_or(MISFIT),
+        Resolved::RegionVariable(number) => terms.of_region(number).ok_or(MISFIT),
+        Resolved::Int(int) => Ok(cx.mk_ty(TyKind::Int(int))?.into()),
+        Resolved::Uint(uint) => Ok(cx.mk_ty(TyKind::Uint(uint))?.into()),
+        Resolved::TypeParam(number) => { Ok(cx.mk_ty(TyKind::Param(parameter(number)?))?.into()) }
+        Resolved::RegionParam(number) => {
+            Ok(
+                cx.mk_region(RegionKind::ReEarlyParam(parameter(number)?))?
+                    .into(),
+            )
+        }
+        Resolved::Static => Ok(cx.mk_region(RegionKind::ReStatic)?.into()),
+    }
+}
+
+/// Whether all of these are arguments of this store.
+fn are_held(cx: &Cx, args: &[GenericArg]) -> bool
+    ensures { IsTrue result → All (λ a. HoldsArg cx.now.nodes a) args.now }
+{
+    args.iter().all(|arg| cx.holds(*arg))
+}
+
+/// The list of so many of the arguments that were made last, the last one first.
+#[tactic(auto, using(crate::proofs::Stores::growing))]
+fn take_args(cx: &mut Cx, made: &mut Vec<GenericArg>, count: usize) -> Result<GenericArgs, Stop>
+    ensures takes { IfOk result (TakesArguments cx.new.nodes made.old made.new count) }
+    ensures holds { IfOk result (λ a. HoldsArgs cx.new.nodes a) }
+    ensures grows { Grows cx.old cx.new }
+{
+    let mut args = Vec::new(cx.alloc);
+    'taking: while args.len() < count {
+        args.push(made.pop().ok_or(MISFIT)?)?;
+    }
+    if !are_held(cx, &args) {
+        return Err(MISFIT);
+    }
+    Ok(cx.mk_args(&args)?)
+}
+
+/// A declared type with its arguments.
+#[tactic(auto, using(crate::proofs::Stores::growing))]
+fn constructed(cx: &mut Cx, ctor: CtorId, args: GenericArgs) -> Result<GenericArg, Stop>
+    requires { HoldsArgs cx.old.nodes args }
+    ensures tree { IfOk result (λ a. tree_at cx.new.nodes a.node ≡ tree_of_ty cx.old.nodes
+        (ty.Ctor ctor args)) }
+    ensures holds { IfOk result (HoldsArg cx.new.nodes) }
+    ensures grows { Grows cx.old cx.new }
+{
+    if !cx.fits(DefId::Ctor(ctor), args) {
+        return Err(MISFIT);
+    }
+    Ok(cx.mk_ty(TyKind::Ctor(ctor, args))?.into())
+}
+
+/// The sorts of a binder, the first one first.
+fn in_order(alloc: Global, binds: &[Sort]) -> Result<Vec<Sort>, AllocError>
+    ensures { IfOk result (λ v. v.items ≡ reverse binds.now) }
+{
+    binds.iter().rev().copied().collect(alloc)
+}
+
+/// The predicate that a trait holds for its arguments, under its binder.
+#[tactic(auto, using(crate::proofs::Stores::growing))]
+pub fn predicate_of(cx: &mut Cx, bound: &BoundTrait) -> Result<Predicate, Stop>
+    ensures states { IfOk result (States cx.new.nodes bound.now) }
+    ensures holds { IfOk result (λ p. HoldsPredicate cx.new.nodes p) }
+    ensures grows { Grows cx.old cx.new }
+{
+    let sorts = in_order(cx.alloc, &bound.binds)?;
+    let vars = cx.mk_bound_vars(&sorts)?;
+    let trait_ref = bound.trait_ref;
+    if !cx.holds(trait_ref.args) || !cx.fits(DefId::Trait(trait_ref.def_id), trait_ref.args) {
+        return Err(MISFIT);
+    }
+    let value = PredicateKind::Clause(ClauseKind::Trait(trait_ref));
+    Ok(cx.mk_predicate(Binder { vars, value })?)
+}
+
+/// The variables of a clause: the places of a canonical value, of these sorts.
+#[tactic(auto, using(crate::proofs::Stores::growing))]
+pub fn positions(cx: &mut Cx, sorts: &[Sort]) -> Result<Vec<GenericArg>, Stop>
+    ensures positions { IfOk result (λ vs. (ts : List Tree) → Extends cx.new.nodes ts →
+        ArePositions ts sorts.now vs.items) }
+    ensures grows { Grows cx.old cx.new }
+{
+    let mut values = Vec::new(cx.alloc);
+    for (var, sort) in sorts.iter().enumerate() {
+        let value = match sort {
+            Sort::Ty => cx
+                .mk_ty(TyKind::Bound(BoundVarIndexKind::Canonical, BoundTy { var }))?
+                .into(),
+            Sort::Region => {
+                let kind = RegionKind::ReBound(BoundVarIndexKind::Canonical, BoundRegion { var });
+                cx.mk_region(kind)?.into()
+            }
+            Sort::Const => return Err(MISFIT),
+        };
+        values.push(value)?;
+    }
+    Ok(values)
+}
