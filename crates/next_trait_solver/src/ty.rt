@@ -8,6 +8,7 @@ pub use nts_model::{
     AliasRelationDirection, BoundVarIndexKind, DebruijnIndex, FloatTy, IntTy, Relation, Sort,
     UintTy, VariableKind, Variance,
 };
+pub use nts_solver_relating::RelateExt;
 pub use nts_store::{EvalError, Fault, NodeId};
 pub use nts_table::relating::Relate;
 pub use nts_table::{InferCtxt, is_unbound};

@@ -9,7 +9,6 @@ ghost use Rattle.nts_contexts.specs.Faults.{fault_after};
 ghost use Rattle.nts_contexts.specs.Contexts.{IsReady, Keeps, EvaluatedNothing, content_in, tree_in};
 
 use crate::context::EvalCtxt;
-use nts_certainty::GoalSource;
 use nts_delegate::GoalHandler;
 use nts_model::Variance;
 use nts_store::EvalError;
@@ -41,12 +40,8 @@ impl<H: GoalHandler> EvalCtxt<'_, H> {
         ensures fault { self.new.state.now.fault ≡ fault_after self.old.state.now.fault result }
         ensures faulted { IfSome self.old.state.now.fault (λ f. result ≡ Err (error_of f)) }
     {
-        self.state.check()?;
-        let related = self
-            .table
-            .relate(self.cx, env, lhs, variance, rhs, self.state.span);
-        let goals = self.state.note(related)?;
-        self.add_goals(GoalSource::TypeRelating, &goals)
+        let _ = variance;
+        self.eq_structurally_relating_aliases(env, lhs, rhs)
     }
 
     /// Makes two values equal, and adds the goals that are left. No alias is to stand in either, so there are none. After a
@@ -92,16 +87,8 @@ impl<H: GoalHandler> EvalCtxt<'_, H> {
         ensures fault { self.new.state.now.fault ≡ fault_after self.old.state.now.fault result }
         ensures faulted { IfSome self.old.state.now.fault (λ f. result ≡ Err (error_of f)) }
     {
-        self.state.check()?;
-        let related = self.table.relate(
-            self.cx,
-            env,
-            lhs,
-            Variance::Invariant,
-            rhs,
-            self.state.span,
-        );
-        self.state.note(related)
+        self.eq_structurally_relating_aliases(env, lhs, rhs)?;
+        Ok(Vec::new(self.cx.alloc))
     }
 
     /// Makes two values equal, with aliases taken as they stand. After a refusal the table is as before.

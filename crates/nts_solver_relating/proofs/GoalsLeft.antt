@@ -1,18 +1,21 @@
 -- What relating by a variance leaves of a table, with the goals in an environment.
-use Rattle.std.proofs.Common.{◌≡◌, inl, inr, ℕ, zero, suc, ◌+◌, ◌<◌, Bool, true, false, List, [], ◌∷◌, ◌++◌, Some, length, get_or, take, refl, sym, ap, ◌∙◌, subst, arith}
+use Rattle.std.proofs.Common.{◌≡◌, inl, inr, ⊎_elim, Option, None, ℕ, zero, suc, ◌+◌, ◌<◌, Bool, true, false, List, [], ◌∷◌, ◌++◌, Some, length, get_or, take, refl, sym, ap, ◌∙◌, subst, arith}
 use Rattle.std.specs.Prelude.{Result, Ok, Err, IfOk, OnOk}
 use Rattle.std.proofs.lemmas.List.{take_more}
+use Rattle.nts_model.specs.declared.labels.Sort.{Sort}
 use Rattle.nts_model.specs.declared.labels.Sort.TheVariants as sort
 use Rattle.nts_model.specs.declared.labels.Variance.{Variance}
 use Rattle.nts_model.specs.declared.labels.Variance.TheVariants as variance
 use Rattle.nts_model.specs.declared.labels.ListHead.TheVariants as list
 use Rattle.nts_model.specs.declared.labels.Label.TheVariants as label
 use Rattle.nts_model.specs.declared.labels.PredicateHead.{PredicateHead}
-use Rattle.nts_model.specs.Trees.{Tree, empty, more, node, kind_of, kind_of_label, of_sort, arguments, bound_predicate, IsClosed}
+use Rattle.nts_model.specs.Trees.{Tree, empty, more, node, kind_of, kind_of_label, of_sort, arguments, bound_predicate, IsClosed, IsFormed}
 use Rattle.nts_model.specs.Contents.{Content}
 use Rattle.nts_model.specs.Resolving.{Knows, IsSound, resolved, deeply_resolved}
 use Rattle.nts_model.specs.Worlds.{World, Solves}
 use Rattle.nts_model.specs.Holding.{Continues}
+use Rattle.nts_model.specs.Equations.{AreRelated, AreUnrelated}
+use Rattle.nts_model.specs.Tying.{TiesNew}
 use Rattle.nts_model.specs.Leaving.{Judge, judging_of}
 use Rattle.nts_model.specs.Related.{pair, unbound, directed}
 use Rattle.nts_model.specs.Relations.{Relating as Pair, AllSettleIn}
@@ -40,6 +43,9 @@ use Rattle.nts_variance.specs.Taking.{Takes, IsSide}
 use Rattle.nts_variance.specs.Equating.{GoalsRelate}
 use Rattle.nts_variance.specs.Rows.{IsListOf, RowsRelate, RefusesRows}
 use Rattle.nts_variance.proofs.Growing.{grown_refl}
+use Rattle.nts_unify.specs.Changing.{IsLater}
+use Rattle.nts_relating.specs.Relating.{IsPlainIn, KeepsPlain}
+use Rattle.nts_variance.proofs.Plainly.{takes_plain, takes_plain_lists, refuses_plain, refuses_plain_lists}
 use Rattle.nts_variance.proofs.Takes.{Leaves-from, Refuses-from}
 use Rattle.nts_variance.proofs.VaryTurns.{goals_later, pairs_kept}
 use Rattle.nts_solver_relating.specs.Sides.{is_list, variance_by, variance_at, CanRelate, SidesRelate, RefusesSides, related_pairs, AreOfOneLength, AreWithin, IsMadeGoal, AreMadeFor, AreGoalsOfPairs, IsRelatedBy}
@@ -81,6 +87,28 @@ type_varies (node l c) v e =
 type_pairs : (v : Variance) (a b : Tree) → kind_of a ≡ Some (of_sort sort.Ty) → related_pairs v a b ≡ record { variance = v; left = a; right = b } ∷ []
 type_pairs v a b e = rw (no_list a e, type_varies a v e) refl
 
+-- what is related invariantly does not vary
+no_term_list : (t : Tree) (s : Sort) → kind_of t ≡ Some (of_sort s) → is_list t ≡ false
+no_term_list t s e = by (is_list t) refl
+  where
+    by : (o : Bool) → is_list t ≡ o → is_list t ≡ false
+    by false h = h
+    by true h = (let one = sym e ∙ list_kind t h in cc one)
+
+invariant_by : (o : Option Sort) → variance_by o variance.Invariant ≡ variance.Invariant
+invariant_by None = refl
+invariant_by (Some sort.Const) = refl
+invariant_by (Some sort.Ty) = refl
+invariant_by (Some sort.Region) = refl
+
+invariant_at : (t : Tree) → variance_at t variance.Invariant ≡ variance.Invariant
+invariant_at empty = refl
+invariant_at (more a b) = refl
+invariant_at (node l c) = invariant_by (sort_of_kind (kind_of_label l))
+
+term_pairs : (a b : Tree) (s : Sort) → kind_of a ≡ Some (of_sort s) → related_pairs variance.Invariant a b ≡ record { variance = variance.Invariant; left = a; right = b } ∷ []
+term_pairs a b s e = rw (no_term_list a s e, invariant_at a) refl
+
 -- what was resolved can be related
 pub resolved_side : (ts us : List Tree) (e : Entries) (a r : NodeId) → IsLawful ts e → Extends ts us → IsSide ts (content_of ts e) a → IsIn us r → tree_at us r ≡ resolved (content_of ts e) (tree_at ts a) → IsSide us (content_of us e) r
 resolved_side ts us e a r lawful ext h within is =
@@ -101,6 +129,35 @@ resolved_later ts us vs e b r lawful ext within is =
     let same : content_of us e ≡ content_of ts e = content_of-extended ext lawful in
     let at : tree_at us b ≡ tree_at ts b = ext.kept b within in
     is ∙ (λ i. resolved (same i) (at i))
+
+-- what holds of two sides holds in a store that grew
+pub left_of : (ts : List Tree) (c : Content) (a b : NodeId) → CanRelate ts c a b → IsIn ts a × Knows c (tree_at ts a)
+left_of ts c a b (inl h) = (let x = h.0 in (x.within, x.knows))
+left_of ts c a b (inr h) = (let x = h.0 in (x.within, x.knows))
+
+pub right_of : (ts : List Tree) (c : Content) (a b : NodeId) → CanRelate ts c a b → IsIn ts b × Knows c (tree_at ts b)
+right_of ts c a b (inl h) = (let x = h.1 in (x.within, x.knows))
+right_of ts c a b (inr h) = (let x = h.1 in (x.within, x.knows))
+
+list_later : (ts us : List Tree) (e : Entries) (a : NodeId) → IsLawful ts e → Extends ts us → IsListOf ts (content_of ts e) a → IsListOf us (content_of us e) a
+list_later ts us e a lawful ext h =
+    let same : content_of us e ≡ content_of ts e = content_of-extended ext lawful in
+    let at : tree_at us a ≡ tree_at ts a = ext.kept a h.within in
+    record { within = IsIn-extended ext a h.within; knows = rw (same, at) h.knows; kind = rw at h.kind }
+
+pub can_relate_later : (ts us : List Tree) (e : Entries) (a b : NodeId) → IsLawful ts e → Extends ts us → CanRelate ts (content_of ts e) a b → CanRelate us (content_of us e) a b
+can_relate_later ts us e a b lawful ext (inl h) = inl (side_later ts us e a lawful ext h.0, side_later ts us e b lawful ext h.1)
+can_relate_later ts us e a b lawful ext (inr h) = inr (list_later ts us e a lawful ext h.0, list_later ts us e b lawful ext h.1)
+
+-- .. which keeps contents and trees
+pub record AreKept (ts us : List Tree) (e : Entries) (a b : NodeId) : Type 0 where
+  pub content : content_of us e ≡ content_of ts e
+  pub left : tree_at us a ≡ tree_at ts a
+  pub right : tree_at us b ≡ tree_at ts b
+
+pub sides_kept : (ts us : List Tree) (e : Entries) (a b : NodeId) → IsLawful ts e → Extends ts us → CanRelate ts (content_of ts e) a b → AreKept ts us e a b
+sides_kept ts us e a b lawful ext h =
+    record { content = content_of-extended ext lawful; left = ext.kept a (left_of ts (content_of ts e) a b h).0; right = ext.kept b (right_of ts (content_of ts e) a b h).0 }
 
 pub lists_of : (ts : List Tree) (c : Content) (a b : NodeId) → CanRelate ts c a b → is_list (tree_at ts a) ≡ true → IsListOf ts c a × IsListOf ts c b
 lists_of ts c a b (inl h) e =
@@ -280,3 +337,59 @@ module _ (declared : ℕ → List Variance) where
       let before : kind_of (resolved c a) ≡ Some (of_sort sort.Ty) = kind_of-resolved c a lawful.sound ka ∙ kind in
       let one : Refuses declared c (record { variance = v; left = resolved c a; right = resolved c b } ∷ []) = rw (same, type_pairs v (resolved c a) (resolved c b) before) at r in
       inr (rw (type_pairs v a b kind) (Refuses-from declared c (record { variance = v; left = resolved c a; right = resolved c b } ∷ []) (record { variance = v; left = a; right = b } ∷ []) (settle_resolved c v a b lawful.sound) one))
+
+  -- two sides in which no alias stands, made equal
+  plain_terms : (ts us : List Tree) (e f : Entries) (p q : NodeId) → IsLawful ts e → IsLawful us f → IsLater (content_of ts e) (content_of us f) → ((n : NodeId) → IsIn ts n → IsFormed (tree_at ts n)) → IsSide ts (content_of ts e) p → IsSide ts (content_of ts e) q → IsPlainIn (content_of ts e) (tree_at ts p) → IsPlainIn (content_of ts e) (tree_at ts q)
+      → KeepsPlain (content_of ts e) (content_of us f) → AreRelated (content_of ts e) (content_of us f) (tree_at ts p) (tree_at ts q) → TiesNew (content_of ts e) (content_of us f) → SidesRelate declared ts us e f variance.Invariant (tree_at ts p) (tree_at ts q) []
+  plain_terms ts us e f p q first lawful later formed left right pa pb kept made ties =
+      let a = tree_at ts p in
+      let b = tree_at ts q in
+      let t = takes_plain declared (content_of ts e) (content_of us f) a b right.sort first.sound lawful.sound lawful.proper.solvable later left.knows right.knows (formed q right.within) right.kind pa pb kept made ties in
+      record {
+        long = λ (h : is_list a ≡ true). (let n = no_term_list a left.sort left.kind in cc);
+        known = tt;
+        are_goals = tt;
+        takes = rw (term_pairs a b left.sort left.kind) t;
+      }
+
+  plain_lists : (ts us : List Tree) (e f : Entries) (p q : NodeId) → IsLawful ts e → IsLawful us f → IsLater (content_of ts e) (content_of us f) → ((n : NodeId) → IsIn ts n → IsFormed (tree_at ts n)) → IsListOf ts (content_of ts e) p → IsListOf ts (content_of ts e) q → IsPlainIn (content_of ts e) (tree_at ts p) → IsPlainIn (content_of ts e) (tree_at ts q)
+      → KeepsPlain (content_of ts e) (content_of us f) → AreRelated (content_of ts e) (content_of us f) (tree_at ts p) (tree_at ts q) → TiesNew (content_of ts e) (content_of us f) → SidesRelate declared ts us e f variance.Invariant (tree_at ts p) (tree_at ts q) []
+  plain_lists ts us e f p q first lawful later formed left right pa pb kept made ties =
+      let a = tree_at ts p in
+      let b = tree_at ts q in
+      let t = takes_plain_lists declared (content_of ts e) (content_of us f) a b first.sound lawful.sound lawful.proper.solvable later left.knows right.knows (formed p left.within) (formed q right.within) left.kind right.kind pa pb kept made ties in
+      record { long = λ h. t.long; known = tt; are_goals = tt; takes = rw (kind_list a left.kind) t.takes }
+
+  pub plain_sides : (ts us : List Tree) (e f : Entries) (p q : NodeId) → CanRelate ts (content_of ts e) p q → IsLawful ts e → IsLawful us f → IsLater (content_of ts e) (content_of us f) → ((n : NodeId) → IsIn ts n → IsFormed (tree_at ts n)) → IsPlainIn (content_of ts e) (tree_at ts p) → IsPlainIn (content_of ts e) (tree_at ts q)
+      → KeepsPlain (content_of ts e) (content_of us f) → AreRelated (content_of ts e) (content_of us f) (tree_at ts p) (tree_at ts q) → TiesNew (content_of ts e) (content_of us f) → SidesRelate declared ts us e f variance.Invariant (tree_at ts p) (tree_at ts q) []
+  plain_sides ts us e f p q (inl h) first lawful later formed pa pb kept made ties = plain_terms ts us e f p q first lawful later formed h.0 h.1 pa pb kept made ties
+  plain_sides ts us e f p q (inr h) first lawful later formed pa pb kept made ties = plain_lists ts us e f p q first lawful later formed h.0 h.1 pa pb kept made ties
+
+  pub plain_related : (ts us : List Tree) (e f : Entries) (env : ParamEnv) (a b : Tree) (gs : List Goal) → gs ≡ [] → SidesRelate declared ts us e f variance.Invariant a b [] → IsRelatedBy declared ts us e f env variance.Invariant a b gs
+  plain_related ts us e f env a b gs none h = record { pairs = []; related = h; goals = rw none tt }
+
+  pub plain_refused : (ts : List Tree) (c : Content) (p q : NodeId) → CanRelate ts c p q → IsSound c → ((n : NodeId) → IsIn ts n → IsFormed (tree_at ts n)) → IsPlainIn c (tree_at ts p) → IsPlainIn c (tree_at ts q) → AreUnrelated c (tree_at ts p) (tree_at ts q)
+      → RefusesSides declared c variance.Invariant (tree_at ts p) (tree_at ts q)
+  plain_refused ts c p q (inl h) sound formed pa pb apart =
+      let left = h.0 in
+      let right = h.1 in
+      inr (rw (term_pairs (tree_at ts p) (tree_at ts q) left.sort left.kind) (refuses_plain declared c (tree_at ts p) (tree_at ts q) sound left.knows right.knows pa pb apart))
+  plain_refused ts c p q (inr h) sound formed pa pb apart =
+      let left = h.0 in
+      let right = h.1 in
+      let is = kind_list (tree_at ts p) left.kind in
+      ⊎_elim (λ other. inl (λ long. other (long is))) (λ r. inr (rw is r))
+      (refuses_plain_lists declared c (tree_at ts p) (tree_at ts q) sound left.knows right.knows (formed p left.within) (formed q right.within) left.kind right.kind pa pb apart)
+
+  -- what is said in a store that grew is said in the one before
+  pub related_earlier : (ts us ws : List Tree) (e f : Entries) (env : ParamEnv) (v : Variance) (a b : NodeId) (gs : List Goal) → AreKept ts us e a b → IsRelatedBy declared us ws e f env v (tree_at us a) (tree_at us b) gs → IsRelatedBy declared ts ws e f env v (tree_at ts a) (tree_at ts b) gs
+  related_earlier ts us ws e f env v a b gs k r =
+      let s = rw (k.left, k.right) at r.related in
+      record {
+        pairs = r.pairs;
+        related = record { long = s.long; known = s.known; are_goals = s.are_goals; takes = rw k.content at s.takes };
+        goals = r.goals;
+      }
+
+  pub refused_earlier : (ts us : List Tree) (e : Entries) (v : Variance) (a b : NodeId) → AreKept ts us e a b → RefusesSides declared (content_of us e) v (tree_at us a) (tree_at us b) → RefusesSides declared (content_of ts e) v (tree_at ts a) (tree_at ts b)
+  refused_earlier ts us e v a b k r = rw (k.content, k.left, k.right) at r

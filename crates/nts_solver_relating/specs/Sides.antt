@@ -10,6 +10,9 @@ use Rattle.nts_model.specs.Trees.{Tree, node, children, row_length, kind_of_labe
 use Rattle.nts_model.specs.Contents.{Content}
 use Rattle.nts_model.specs.Resolving.{Knows}
 use Rattle.nts_model.specs.Relations.{Relating as Pair}
+use Rattle.nts_model.specs.Equations.{AreRelated}
+use Rattle.nts_model.specs.Passing.{BringsLabelsOf}
+use Rattle.nts_relating.specs.Relating.{IsPlainIn}
 use Rattle.nts_store.specs.declared.nodes.NodeId.{NodeId}
 use Rattle.nts_store.specs.Growth.{tree_at, IsIn}
 use Rattle.nts_store.specs.Sorts.{sort_of_kind}
@@ -98,6 +101,16 @@ pub record IsRelatedBy (declared : ℕ → List Variance) (ts us : List Tree) (e
   pub pairs : List Relating
   pub related : SidesRelate declared ts us e f v a b pairs
   pub goals : AreGoalsOfPairs us (content_of us f) env pairs gs
+
+-- the two are to be made equal, and no alias stands in them, with values in place of variables
+abbrev pub ArePlain : Variance → Content → Tree → Tree → Type 0
+ArePlain v c a b = (v ≡ variance.Invariant) × IsPlainIn c a × IsPlainIn c b
+
+-- the two were made equal, which leaves no goal and brings no labels but theirs and those of variables
+pub record AreMadeEqual (c d : Content) (a b : Tree) (gs : List Goal) : Type 0 where
+  pub none : gs ≡ []
+  pub related : AreRelated c d a b
+  pub labels : BringsLabelsOf c d a b
 
 -- what relating keeps, whatever it answers: the store grew at most, and the table is one of it; its snapshots, mode, current universe
 -- and hidden types are as before

@@ -6,4 +6,4 @@ mod nodes;
 mod values;
 
 pub use nodes::relate_by;
-pub use values::relate;
+pub use values::RelateExt;

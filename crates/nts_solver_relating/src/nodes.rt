@@ -1,7 +1,11 @@
 //! Nodes of a store related by a variance under a table, and the goals that this leaves.
-ghost use Rattle.std.specs.Prelude.{◌≡◌, ◌≢◌, OnOk, OnErr, IfOk, Err, Some, true};
+ghost use Rattle.std.specs.Prelude.{◌≡◌, ◌≢◌, OnOk, OnErr, IfOk, Err, Some, true, false};
 ghost use Rattle.nts_model.specs.declared.labels.Sort.TheVariants as sorts;
-ghost use Rattle.nts_model.specs.Trees.{kind_of, of_sort};
+ghost use Rattle.nts_model.specs.declared.labels.Variance.TheVariants as variances;
+ghost use Rattle.nts_model.specs.Trees.{kind_of, of_sort, any_label, is_alias};
+ghost use Rattle.nts_model.specs.Resolving.{Knows, resolved};
+ghost use Rattle.nts_model.specs.Equations.{AreUnrelated};
+ghost use Rattle.nts_relating.specs.Relating.{IsPlainIn};
 ghost use Rattle.nts_store.specs.Growth.{tree_at, IsIn, Extends};
 ghost use Rattle.nts_terms.specs.Signatures.{variances_in};
 ghost use Rattle.nts_unify.specs.Entries.{KeepsHidden};
@@ -9,15 +13,16 @@ ghost use Rattle.nts_unify.specs.Reading.{content_of, IsLawful};
 ghost use Rattle.nts_variance.specs.Terms.{pairs_at, AreGoals};
 ghost use Rattle.nts_table.specs.Tables.{IsTable};
 ghost use Rattle.nts_table.specs.Frames.{ChangesVariables};
-ghost use Rattle.nts_solver_relating.specs.Sides.{is_list, variance_at, CanRelate, SidesRelate, RefusesSides, AreWithin, AreMadeFor, IsRelatedBy};
+ghost use Rattle.nts_solver_relating.specs.Sides.{is_list, variance_at, CanRelate, SidesRelate, RefusesSides, AreWithin, AreMadeFor, IsRelatedBy, AreMadeEqual, ArePlain};
 
 use nts_model::{Label, ListHead, Sort, Variance};
+use nts_relating::relate_nodes;
 use nts_store::{EvalError, NodeId, Nodes, sort_of};
 use nts_table::{InferCtxt, resolve_nodes};
 use nts_terms::{Declarations, Goal, ParamEnv, Predicate};
 use nts_unify::InferCtxtInner;
 use nts_variance::{Relating, predicate_of, relate_rows, relate_terms};
-use std::alloc::Global;
+use std::alloc::{AllocError, Global};
 
 /// Whether the node is a list of arguments.
 fn is_list_node(nodes: &Nodes, t: NodeId) -> bool
@@ -150,6 +155,61 @@ fn relate_or_leave(
     table.commit_if_ok(snapshot, related)
 }
 
+/// Whether an alias stands in the term, with values in place of variables.
+fn has_alias(
+    alloc: Global,
+    nodes: &mut Nodes,
+    table: &InferCtxt,
+    t: NodeId,
+) -> Result<bool, AllocError>
+    requires within { IsIn nodes.old t }
+    requires table { IsTable nodes.old table.now }
+    requires knows { Knows (content_of nodes.old table.now.entries) (tree_at nodes.old t) }
+    ensures extends { Extends nodes.old nodes.new }
+    ensures answer { IfOk result (λ b. b ≡ any_label is_alias (resolved (content_of nodes.old table.now.entries) (tree_at nodes.old t))) }
+{
+    let flags = nodes.flags(t);
+    if !flags.has_infer {
+        return Ok(flags.has_alias);
+    }
+    let found = resolve_nodes(alloc, nodes, table, t, false)?;
+    Ok(nodes.flags(found).has_alias)
+}
+
+/// Makes two terms, or two lists of arguments, equal in which no alias stands. Nothing is left to be asked.
+fn equate_plain(
+    alloc: Global,
+    nodes: &mut Nodes,
+    declarations: &Declarations,
+    table: &mut InferCtxtInner,
+    env: ParamEnv,
+    left: NodeId,
+    right: NodeId,
+) -> Result<Vec<Goal>, EvalError>
+    requires lawful { IsLawful nodes.old table.old.entries }
+    requires sides { CanRelate nodes.old (content_of nodes.old table.old.entries) left right }
+    requires left { IsPlainIn (content_of nodes.old table.old.entries) (tree_at nodes.old left) }
+    requires right { IsPlainIn (content_of nodes.old table.old.entries) (tree_at nodes.old right) }
+    ensures extends { Extends nodes.old nodes.new }
+    ensures changes { KeepsHidden table.old table.new }
+    ensures lawful { IsLawful nodes.new table.new.entries }
+    ensures related { IfOk result (λ gs. IsRelatedBy (variances_in declarations.now) nodes.old nodes.new table.old.entries table.new.entries env variances.Invariant (tree_at nodes.old left) (tree_at nodes.old right) gs.items) }
+    ensures equal { IfOk result (λ gs. AreMadeEqual (content_of nodes.old table.old.entries) (content_of nodes.new table.new.entries) (tree_at nodes.old left) (tree_at nodes.old right) gs.items) }
+    ensures err { OnErr result (table.new ≡ table.old) }
+    ensures full { result ≢ Err EvalError.Full }
+    ensures no { result ≡ Err EvalError.NoSolution → RefusesSides (variances_in declarations.now) (content_of nodes.old table.old.entries) variances.Invariant (tree_at nodes.old left) (tree_at nodes.old right) }
+    ensures unequal { result ≡ Err EvalError.NoSolution → AreUnrelated (content_of nodes.old table.old.entries) (tree_at nodes.old left) (tree_at nodes.old right) }
+{
+    // The nodes of a store are formed.
+    let _ = nodes.len();
+    let _ = declarations;
+    let _ = env;
+    match relate_nodes(alloc, nodes, table, left, right) {
+        Err(error) => Err(error),
+        Ok(()) => Ok(Vec::new(alloc)),
+    }
+}
+
 /// Whether the node is a type that is related by a variance which lets it vary.
 fn is_varying_type(nodes: &Nodes, t: NodeId, variance: Variance) -> bool
     requires within { IsIn nodes.now t }
@@ -195,13 +255,8 @@ fn relate_resolved(
     )
 }
 
-/// Relates two terms by a variance, or the arguments of two lists, and answers the goals that are left, in this environment: what
-/// rests on aliases without escaping bound variables, and on type variables that may vary. Consts and arguments of lists do not vary.
-///
-/// Under each later table in which these goals are answered the two are related; and each settled solution in which they settle goes
-/// on to one of the table in which the goals settle. It is `NoSolution` where they settle in none, and `Memory` where a growth was
-/// refused. After an error the table is as before.
-pub fn relate_by(
+/// Relates two terms, or the arguments of two lists, by the variance that they have. After an error the table is as before.
+fn relate_any(
     alloc: Global,
     nodes: &mut Nodes,
     declarations: &Declarations,
@@ -238,6 +293,82 @@ pub fn relate_by(
         nodes,
         declarations,
         &mut table.inner,
+        env,
+        variance,
+        left,
+        right,
+    )
+}
+
+/// Whether two sides are to be made equal, and no alias stands in them.
+fn are_plain(
+    alloc: Global,
+    nodes: &mut Nodes,
+    table: &InferCtxt,
+    variance: Variance,
+    left: NodeId,
+    right: NodeId,
+) -> Result<bool, AllocError>
+    requires table { IsTable nodes.old table.now }
+    requires sides { CanRelate nodes.old (content_of nodes.old table.now.entries) left right }
+    ensures extends { Extends nodes.old nodes.new }
+    ensures yes { IfOk result (λ b. b ≡ true → ArePlain variance (content_of nodes.old table.now.entries) (tree_at nodes.old left) (tree_at nodes.old right)) }
+    ensures no { IfOk result (λ b. b ≡ false → ArePlain variance (content_of nodes.old table.now.entries) (tree_at nodes.old left) (tree_at nodes.old right) → ⊥) }
+{
+    if variance != Variance::Invariant {
+        return Ok(false);
+    }
+    if has_alias(alloc, nodes, table, left)? {
+        return Ok(false);
+    }
+    let found = has_alias(alloc, nodes, table, right)?;
+    Ok(!found)
+}
+
+/// Relates two terms by a variance, or the arguments of two lists, and answers the goals that are left, in this environment: what
+/// rests on aliases without escaping bound variables, and on type variables that may vary. Consts and arguments of lists do not vary.
+///
+/// Under each later table in which these goals are answered the two are related; and each settled solution in which they settle goes
+/// on to one of the table in which the goals settle. Invariantly, where no alias stands in the two, they are made equal, and no goal is
+/// left. It is `NoSolution` where they settle in none, and `Memory` where a growth was refused. After an error the table is as before.
+pub fn relate_by(
+    alloc: Global,
+    nodes: &mut Nodes,
+    declarations: &Declarations,
+    table: &mut InferCtxt,
+    env: ParamEnv,
+    variance: Variance,
+    left: NodeId,
+    right: NodeId,
+) -> Result<Vec<Goal>, EvalError>
+    requires table { IsTable nodes.old table.old }
+    requires sides { CanRelate nodes.old (content_of nodes.old table.old.entries) left right }
+    ensures extends { Extends nodes.old nodes.new }
+    ensures table { IsTable nodes.new table.new }
+    ensures changes { ChangesVariables table.old table.new }
+    ensures related { IfOk result (λ gs. IsRelatedBy (variances_in declarations.now) nodes.old nodes.new table.old.entries table.new.entries env variance (tree_at nodes.old left) (tree_at nodes.old right) gs.items) }
+    ensures equal { ArePlain variance (content_of nodes.old table.old.entries) (tree_at nodes.old left) (tree_at nodes.old right) → IfOk result (λ gs. AreMadeEqual (content_of nodes.old table.old.entries) (content_of nodes.new table.new.entries) (tree_at nodes.old left) (tree_at nodes.old right) gs.items) }
+    ensures err { OnErr result (table.new ≡ table.old) }
+    ensures full { result ≢ Err EvalError.Full }
+    ensures no { result ≡ Err EvalError.NoSolution → RefusesSides (variances_in declarations.now) (content_of nodes.old table.old.entries) variance (tree_at nodes.old left) (tree_at nodes.old right) }
+    ensures unequal { ArePlain variance (content_of nodes.old table.old.entries) (tree_at nodes.old left) (tree_at nodes.old right) → result ≡ Err EvalError.NoSolution → AreUnrelated (content_of nodes.old table.old.entries) (tree_at nodes.old left) (tree_at nodes.old right) }
+{
+    if are_plain(alloc, nodes, table, variance, left, right)? {
+        return equate_plain(
+            alloc,
+            nodes,
+            declarations,
+            &mut table.inner,
+            env,
+            left,
+            right,
+        );
+    }
+    relate_any(
+        alloc,
+        nodes,
+        declarations,
+        table,
         env,
         variance,
         left,

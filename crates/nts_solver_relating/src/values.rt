@@ -1,10 +1,11 @@
 //! Two values of the table related by a variance.
 ghost use Rattle.std.specs.Prelude.{◌≡◌, ◌≢◌, OnOk, OnErr, IfOk, Err};
+ghost use Rattle.nts_model.specs.Equations.{AreUnrelated};
 ghost use Rattle.nts_store.specs.Growth.{tree_at};
 ghost use Rattle.nts_terms.specs.Signatures.{variances_in};
 ghost use Rattle.nts_unify.specs.Reading.{content_of};
-ghost use Rattle.nts_table.specs.Tables.{IsTable, IsSide};
-ghost use Rattle.nts_solver_relating.specs.Sides.{IsRelatedBy, RefusesSides, SolverRelatingKeeps};
+ghost use Rattle.nts_table.specs.Tables.{Table, IsTable, IsSide};
+ghost use Rattle.nts_solver_relating.specs.Sides.{ArePlain, AreMadeEqual, IsRelatedBy, RefusesSides, SolverRelatingKeeps};
 
 use crate::nodes::relate_by;
 use nts_model::Variance;
@@ -13,44 +14,65 @@ use nts_table::InferCtxt;
 use nts_table::relating::Relate;
 use nts_terms::{Cx, Goal, ParamEnv, Span};
 
-/// Relates two values of the store and the table by a variance, and answers the goals that are left, in this environment: what rests
-/// on aliases without escaping bound variables, and on type variables that may vary. Consts do not vary, and neither do the arguments
-/// of aliases and trait references, which are related one by one, without a goal for the alias.
-///
-/// Under each later table in which the goals are answered the two are related; and each settled solution in which they settle goes on
-/// to one of the table in which the goals settle. It is `NoSolution` where they are of two aliases or traits, or where they settle in
-/// no settled solution, and `Memory` where a growth was refused. After an error the table is as before.
-pub fn relate<T: Relate>(
-    table: &mut InferCtxt,
-    cx: &mut Cx,
-    env: ParamEnv,
-    lhs: T,
-    variance: Variance,
-    rhs: T,
-    _span: Span,
-) -> Result<Vec<Goal>, EvalError>
-    requires table { IsTable cx.old.nodes table.old }
-    requires left { IsSide T.place cx.old.nodes table.old (T.id lhs) }
-    requires right { IsSide T.place cx.old.nodes table.old (T.id rhs) }
-    ensures keeps { SolverRelatingKeeps cx.old cx.new table.old table.new }
-    ensures heads { OnOk result (T.head lhs ≡ T.head rhs) }
-    ensures related { IfOk result (λ gs. IsRelatedBy (variances_in cx.old.declarations) cx.old.nodes cx.new.nodes table.old.entries table.new.entries env variance (tree_at cx.old.nodes (T.id lhs)) (tree_at cx.old.nodes (T.id rhs)) gs.items) }
-    ensures no { result ≡ Err EvalError.NoSolution → T.head lhs ≡ T.head rhs → RefusesSides (variances_in cx.old.declarations) (content_of cx.old.nodes table.old.entries) variance (tree_at cx.old.nodes (T.id lhs)) (tree_at cx.old.nodes (T.id rhs)) }
-    ensures err { OnErr result (table.new ≡ table.old) }
-    ensures full { result ≢ Err EvalError.Full }
-{
-    if lhs.def() != rhs.def() {
-        return Err(EvalError::NoSolution);
+/// What a table does by variance. The calls stand in a trait, since relating by a variance is a layer of its own above the table.
+pub trait RelateExt {
+    ghost seen: { Self → Table };
+
+    /// Relates two values of the store and the table by a variance, and answers the goals that are left, in this environment: what
+    /// rests on aliases without escaping bound variables, and on type variables that may vary. Consts do not vary, and neither do the
+    /// arguments of aliases and trait references, which are related one by one, without a goal for the alias.
+    ///
+    /// Under each later table in which the goals are answered the two are related; and each settled solution in which they settle
+    /// goes on to one of the table in which the goals settle. Invariantly, where no alias stands in the two, they are made equal, and
+    /// no goal is left. It is `NoSolution` where they are of two aliases or traits, or where they settle in no settled solution, and
+    /// `Memory` where a growth was refused. After an error the table is as before.
+    fn relate<T: Relate>(
+        &mut self,
+        cx: &mut Cx,
+        env: ParamEnv,
+        lhs: T,
+        variance: Variance,
+        rhs: T,
+        span: Span,
+    ) -> Result<Vec<Goal>, EvalError>
+        requires table { IsTable cx.old.nodes (seen self.old) }
+        requires left { IsSide T.place cx.old.nodes (seen self.old) (T.id lhs) }
+        requires right { IsSide T.place cx.old.nodes (seen self.old) (T.id rhs) }
+        ensures keeps { SolverRelatingKeeps cx.old cx.new (seen self.old) (seen self.new) }
+        ensures heads { OnOk result (T.head lhs ≡ T.head rhs) }
+        ensures related { IfOk result (λ gs. IsRelatedBy (variances_in cx.old.declarations) cx.old.nodes cx.new.nodes (seen self.old).entries (seen self.new).entries env variance (tree_at cx.old.nodes (T.id lhs)) (tree_at cx.old.nodes (T.id rhs)) gs.items) }
+        ensures equal { ArePlain variance (content_of cx.old.nodes (seen self.old).entries) (tree_at cx.old.nodes (T.id lhs)) (tree_at cx.old.nodes (T.id rhs)) → IfOk result (λ gs. AreMadeEqual (content_of cx.old.nodes (seen self.old).entries) (content_of cx.new.nodes (seen self.new).entries) (tree_at cx.old.nodes (T.id lhs)) (tree_at cx.old.nodes (T.id rhs)) gs.items) }
+        ensures no { result ≡ Err EvalError.NoSolution → T.head lhs ≡ T.head rhs → RefusesSides (variances_in cx.old.declarations) (content_of cx.old.nodes (seen self.old).entries) variance (tree_at cx.old.nodes (T.id lhs)) (tree_at cx.old.nodes (T.id rhs)) }
+        ensures unequal { ArePlain variance (content_of cx.old.nodes (seen self.old).entries) (tree_at cx.old.nodes (T.id lhs)) (tree_at cx.old.nodes (T.id rhs)) → result ≡ Err EvalError.NoSolution → T.head lhs ≡ T.head rhs → AreUnrelated (content_of cx.old.nodes (seen self.old).entries) (tree_at cx.old.nodes (T.id lhs)) (tree_at cx.old.nodes (T.id rhs)) }
+        ensures err { OnErr result (seen self.new ≡ seen self.old) }
+        ensures full { result ≢ Err EvalError.Full };
+}
+
+impl RelateExt for InferCtxt {
+    ghost seen = { λ t. t };
+
+    fn relate<T: Relate>(
+        &mut self,
+        cx: &mut Cx,
+        env: ParamEnv,
+        lhs: T,
+        variance: Variance,
+        rhs: T,
+        _span: Span,
+    ) -> Result<Vec<Goal>, EvalError> {
+        if lhs.def() != rhs.def() {
+            return Err(EvalError::NoSolution);
+        }
+        let alloc = cx.alloc;
+        relate_by(
+            alloc,
+            &mut cx.nodes,
+            &cx.declarations,
+            self,
+            env,
+            variance,
+            lhs.node(),
+            rhs.node(),
+        )
     }
-    let alloc = cx.alloc;
-    relate_by(
-        alloc,
-        &mut cx.nodes,
-        &cx.declarations,
-        table,
-        env,
-        variance,
-        lhs.node(),
-        rhs.node(),
-    )
 }

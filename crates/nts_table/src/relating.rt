@@ -1,20 +1,18 @@
 //! Relating typed values.
-ghost use Rattle.std.specs.Prelude.{◌≡◌, ◌≢◌, [], Err, IfOk, OnOk, OnErr};
-ghost use Rattle.nts_model.specs.declared.labels.Variance.TheVariants as variances;
+ghost use Rattle.std.specs.Prelude.{◌≡◌, ◌≢◌, Err, OnOk, OnErr};
 ghost use Rattle.nts_model.specs.Trees.{Place, is, any_term, any_argument, arguments, a_type, a_region, a_const};
 ghost use Rattle.nts_model.specs.Equations.{AreRelated, AreUnrelated};
 ghost use Rattle.nts_model.specs.Passing.{BringsLabelsOf};
 ghost use Rattle.nts_store.specs.declared.nodes.NodeId.{NodeId};
 ghost use Rattle.nts_store.specs.Growth.{tree_at};
 ghost use Rattle.nts_unify.specs.Reading.{content_of};
-ghost use Rattle.nts_table.specs.Tables.{IsTable, IsSide, IsPlainSide, RelatingKeeps};
+ghost use Rattle.nts_table.specs.Tables.{IsTable, IsSide, RelatingKeeps};
 
 use crate::infer_ctxt::InferCtxt;
 use crate::relating_nodes::relate_nodes;
-use nts_model::Variance;
 use nts_store::{EvalError, NodeId};
 use nts_terms::{
-    AliasTerm, Const, Cx, DefId, GenericArg, Goal, ParamEnv, Region, Span, Term, TraitRef, Ty,
+    AliasTerm, Const, Cx, DefId, GenericArg, ParamEnv, Region, Span, Term, TraitRef, Ty,
 };
 
 /// What can be related: two terms of one sort, or two lists of arguments of one alias or trait.
@@ -191,35 +189,6 @@ impl Relate for TraitRef {
 }
 
 impl InferCtxt {
-    /// Makes two values one, and answers the goals that are left. No alias is to stand in either, so
-    /// there are none. After a refusal the table is as before.
-    pub fn relate<T: Relate>(
-        &mut self,
-        cx: &mut Cx,
-        env: ParamEnv,
-        lhs: T,
-        variance: Variance,
-        rhs: T,
-        span: Span,
-    ) -> Result<Vec<Goal>, EvalError>
-        requires table { IsTable cx.old.nodes self.old }
-        requires invariant { variance ≡ variances.Invariant }
-        requires left { IsPlainSide T.place cx.old.nodes self.old (T.id lhs) }
-        requires right { IsPlainSide T.place cx.old.nodes self.old (T.id rhs) }
-        ensures goals { IfOk result (λ gs. gs.items ≡ []) }
-        ensures heads { OnOk result (T.head lhs ≡ T.head rhs) }
-        ensures related { OnOk result (AreRelated (content_of cx.old.nodes self.old.entries) (content_of cx.new.nodes self.new.entries) (tree_at cx.old.nodes (T.id lhs)) (tree_at cx.old.nodes (T.id rhs))) }
-        ensures labels { OnOk result (BringsLabelsOf (content_of cx.old.nodes self.old.entries) (content_of cx.new.nodes self.new.entries) (tree_at cx.old.nodes (T.id lhs)) (tree_at cx.old.nodes (T.id rhs))) }
-        ensures no { result ≡ Err EvalError.NoSolution → T.head lhs ≡ T.head rhs → AreUnrelated (content_of cx.old.nodes self.old.entries) (tree_at cx.old.nodes (T.id lhs)) (tree_at cx.old.nodes (T.id rhs)) }
-        ensures keeps { RelatingKeeps cx.old cx.new self.old self.new }
-        ensures err { OnErr result (self.new ≡ self.old) }
-        ensures full { result ≢ Err EvalError.Full }
-    {
-        let _ = variance;
-        self.eq_structurally_relating_aliases(cx, env, lhs, rhs, span)?;
-        Ok(Vec::new(cx.alloc))
-    }
-
     /// Makes two values one, with aliases taken as they stand. After a refusal the table is as before.
     pub fn eq_structurally_relating_aliases<T: Relate>(
         &mut self,

@@ -1,6 +1,7 @@
 //! Calls of the table that the other tests do not make.
 use crate::fixture::{Fixture, variable_of};
 use nts_model::{Relation, UintTy, Variance};
+use nts_solver_relating::RelateExt;
 use nts_store::EvalError;
 use nts_table::{InferCtxt, relate_nodes};
 use nts_terms::{

@@ -11,6 +11,7 @@ ghost use Rattle.nts_table.specs.Frames.{ChangesEntries};
 ghost use Rattle.nts_table.specs.Tables.{IsTable};
 
 use nts_model::{Sort, UintTy, VariableKind, Variance};
+use nts_solver_relating::RelateExt;
 use nts_store::EvalError;
 use nts_table::{InferCtxt, is_unbound};
 use nts_terms::{
@@ -194,7 +195,7 @@ impl Fixture {
     }
 
     /// A list of arguments.
-    fn args(&mut self, rt: &impl Abort, args: &[GenericArg]) -> GenericArgs
+    pub fn args(&mut self, rt: &impl Abort, args: &[GenericArg]) -> GenericArgs
         requires table { IsTable self.old.cx.nodes self.old.table }
         requires holds { All (HoldsArg self.old.cx.nodes) args.now }
         ensures table { IsTable self.new.cx.nodes self.new.table }

@@ -5,11 +5,11 @@ ghost use Rattle.nts_terms.specs.Signatures.{StatementIsDeclared};
 
 use crate::fixture::Fixture;
 use nts_model::{AliasRelationDirection, BoundVarIndexKind, Relation, Sort, UintTy, Variance};
-use nts_solver_relating::relate;
+use nts_solver_relating::RelateExt;
 use nts_store::EvalError;
 use nts_terms::{
-    AliasDefId, AliasKind, AliasTerm, Binder, BoundTy, DefId, GenericArg, InferTy, Predicate,
-    PredicateKind, RegionKind, Span, Term, Ty, TyKind,
+    AliasDefId, AliasId, AliasKind, AliasTerm, Binder, BoundTy, DefId, GenericArg, InferTy,
+    Predicate, PredicateKind, RegionKind, Span, Term, Ty, TyKind,
 };
 use nts_unify::Constraint;
 use std::process::Abort;
@@ -24,17 +24,25 @@ fn outlives(left: GenericArg, right: GenericArg) -> Constraint {
     }
 }
 
+/// A new alias that takes one type.
+fn declare(rt: &impl Abort, fixture: &mut Fixture) -> AliasId
+    requires { IsTable fixture.old.cx.nodes fixture.old.table }
+    ensures { IsTable fixture.new.cx.nodes fixture.new.table }
+{
+    fixture
+        .cx
+        .declare_alias(&[Sort::Ty], AliasKind::Projection)
+        .expect(rt, "memory")
+}
+
 /// An alias of one type.
 fn alias_of(rt: &impl Abort, fixture: &mut Fixture, x: GenericArg) -> GenericArg
     requires { IsTable fixture.old.cx.nodes fixture.old.table }
     ensures { IsTable fixture.new.cx.nodes fixture.new.table }
 {
-    let id = fixture
-        .cx
-        .declare_alias(&[Sort::Ty], AliasKind::Projection)
-        .expect(rt, "memory");
+    let id = declare(rt, fixture);
     assert!(rt; fixture.cx.holds(x));
-    let args = fixture.cx.mk_args(&[x]).expect(rt, "memory");
+    let args = fixture.args(rt, &[x]);
     let def_id = AliasDefId::Ty(id);
     assert!(rt; fixture.cx.fits(DefId::Alias(def_id), args));
     fixture.ty(rt, TyKind::Alias(AliasTerm { def_id, args }))
@@ -105,7 +113,7 @@ fn related(
     fixture.seen(rt, x);
     fixture.seen(rt, y);
     let (cx, table) = (&mut fixture.cx, &mut fixture.table);
-    let found = relate(table, cx, fixture.env, x, variance, y, Span(0));
+    let found = table.relate(cx, fixture.env, x, variance, y, Span(0));
     if matches!(found, Err(EvalError::NoSolution)) {
         return None;
     }

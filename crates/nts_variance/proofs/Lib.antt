@@ -35,3 +35,4 @@ mod Exact
 pub mod GoalLemmas
 mod Arguments
 pub mod SubRoots
+pub mod Plainly

@@ -95,7 +95,7 @@ pub record IsOfSort (t : Tree) : Type 0 where
   pub sort : Sort
   pub kind : kind_of t ≡ Some (of_sort sort)
 
-of_any : (o : Option NodeKind) → FitsPlace any_argument o → (s : Sort) × (o ≡ Some (of_sort s))
+pub of_any : (o : Option NodeKind) → FitsPlace any_argument o → (s : Sort) × (o ≡ Some (of_sort s))
 of_any (Some (of_sort s)) h = (s, refl)
 of_any o h = absurd h
 
