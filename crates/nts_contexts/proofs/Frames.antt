@@ -52,7 +52,7 @@ pub posed_more : {ts : List Tree} {t : Table} (gs : List (GoalSource × Goal)) (
 posed_more {ts} {t} gs s hs h p = All-append (λ x. IsPosed ts t x.1) gs (map (λ g. (s, g)) hs) h (All-map (λ x. IsPosed ts t x.1) (λ g. (s, g)) hs p)
 
 -- a fault stays, where there is none
-none_kept : (P : Fault → Type 0) (o : Option Fault) → o ≡ None → IfSome o P
+pub none_kept : (P : Fault → Type 0) (o : Option Fault) → o ≡ None → IfSome o P
 none_kept P o e = rw e tt
 
 same_fault : (o : Option Fault) → IfSome o (λ f. o ≡ Some f)

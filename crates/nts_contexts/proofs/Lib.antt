@@ -2,3 +2,4 @@ pub mod Frames
 pub mod Begun
 pub mod Ended
 pub mod Handed
+pub mod Relates

@@ -1,0 +1,42 @@
+-- Values that were related in a context.
+use Rattle.std.specs.Prelude.{◌≡◌, ◌++◌, List, map}
+use Rattle.nts_model.specs.declared.labels.Variance.{Variance}
+use Rattle.nts_model.specs.Equations.{AreRelated}
+use Rattle.nts_model.specs.Passing.{BringsLabelsOf}
+use Rattle.nts_model.specs.Resolving.{Knows}
+use Rattle.nts_store.specs.declared.nodes.NodeId.{NodeId}
+use Rattle.nts_store.specs.Growth.{tree_at}
+use Rattle.nts_terms.specs.declared.cx.Cx.{Cx}
+use Rattle.nts_terms.specs.declared.handles.Goal.{Goal}
+use Rattle.nts_terms.specs.declared.handles.ParamEnv.{ParamEnv}
+use Rattle.nts_terms.specs.Handles.{HoldsEnv}
+use Rattle.nts_terms.specs.Signatures.{variances_in}
+use Rattle.nts_certainty.specs.declared.sources.GoalSource.TheVariants as source
+use Rattle.nts_unify.specs.Reading.{content_of}
+use Rattle.nts_table.specs.Tables.{Table}
+use Rattle.nts_solver_relating.specs.Sides.{IsRelatedBy}
+use Rattle.nts_contexts.specs.declared.state.EvalState.{EvalState}
+
+-- an environment of the store and the table
+pub record IsEnvOf (a : Cx) (t : Table) (env : ParamEnv) : Type 0 where
+  pub holds : HoldsEnv a.nodes env
+  pub knows : Knows (content_of a.nodes t.entries) (tree_at a.nodes env.node)
+
+-- two values were related, and the goals that this leaves stand behind those that were there
+pub record AddsRelated (a b : Cx) (t u : Table) (m n : EvalState) (env : ParamEnv) (v : Variance) (x y : NodeId) : Type 0 where
+  pub goals : List Goal
+  pub related : IsRelatedBy (variances_in a.declarations) a.nodes b.nodes t.entries u.entries env v (tree_at a.nodes x) (tree_at a.nodes y) goals
+  pub added : n.nested_goals.items ≡ m.nested_goals.items ++ map (λ g. (source.TypeRelating, g)) goals
+
+-- .. or were made equal, which leaves none
+pub record AreEquatedIn (a b : Cx) (t u : Table) (m n : EvalState) (x y : NodeId) : Type 0 where
+  pub goals : n.nested_goals.items ≡ m.nested_goals.items
+  pub related : AreRelated (content_of a.nodes t.entries) (content_of b.nodes u.entries) (tree_at a.nodes x) (tree_at a.nodes y)
+  pub labels : BringsLabelsOf (content_of a.nodes t.entries) (content_of b.nodes u.entries) (tree_at a.nodes x) (tree_at a.nodes y)
+
+-- what else the state keeps is the same
+pub record KeepsState (m n : EvalState) : Type 0 where
+  pub taint : n.is_tainted ≡ m.is_tainted
+  pub fault : n.fault ≡ m.fault
+  pub steps : n.last_steps ≡ m.last_steps
+  pub depth : n.root_depth ≡ m.root_depth
