@@ -52,7 +52,7 @@ pub posed_more : {ts : List Tree} {t : Table} (gs : List (GoalSource × Goal)) (
 posed_more {ts} {t} gs s hs h p = All-append (λ x. IsPosed ts t x.1) gs (map (λ g. (s, g)) hs) h (All-map (λ x. IsPosed ts t x.1) (λ g. (s, g)) hs p)
 
 -- a fault stays, where there is none
-pub none_kept : (P : Fault → Type 0) (o : Option Fault) → o ≡ None → IfSome o P
+none_kept : (P : Fault → Type 0) (o : Option Fault) → o ≡ None → IfSome o P
 none_kept P o e = rw e tt
 
 same_fault : (o : Option Fault) → IfSome o (λ f. o ≡ Some f)
@@ -107,13 +107,13 @@ pub posed_after : {ts : List Tree} {t : Table} {R E : Type 0} (r : Result R E) (
 posed_after (Ok x) gs hs more e q h p = rw e p
 posed_after (Err x) gs hs more e q h p = rw q h
 
--- a context without a fault after a call on its store and table, which left the state m, and in which the answer was noted
-pub keeps_ran : {H : Type 0} {ready : List Tree → H → Type 0} {a b : EvalCtxt H} (m : EvalState) (f : Option Fault)
+-- a context without a fault after a call on its store and table, which left the state m with goals of both, and in which the answer was noted
+pub keeps_grown : {H : Type 0} {ready : List Tree → H → Type 0} {a b : EvalCtxt H} (m : EvalState) (f : Option Fault)
     → ((x y : List Tree) (h : H) → ready x h → Extends x y → ready y h) → IsReady ready a
     → b.table.ghost_name ≡ a.table.ghost_name → b.cx.ghost_name ≡ a.cx.ghost_name → b.handler ≡ a.handler → b.state.ghost_name ≡ a.state.ghost_name
-    → Runs a.cx.now b.cx.now a.table.now b.table.now → b.state.now ≡ record m { fault = f } → ArePosed a.cx.now.nodes a.table.now m.nested_goals.items
+    → Runs a.cx.now b.cx.now a.table.now b.table.now → b.state.now ≡ record m { fault = f } → ArePosed b.cx.now.nodes b.table.now m.nested_goals.items
     → a.state.now.fault ≡ None → m.is_tainted ≡ a.state.now.is_tainted → m.root_depth ≡ a.state.now.root_depth → Keeps ready a b
-keeps_ran {H} {ready} {a} {b} m f law h nt nc nh ns k s p none t d =
+keeps_grown {H} {ready} {a} {b} m f law h nt nc nh ns k s p none t d =
     let g = k.goes in
     record {
       table = nt;
@@ -123,13 +123,21 @@ keeps_ran {H} {ready} {a} {b} m f law h nt nc nh ns k s p none t d =
       runs = k;
       is_ready = record {
         table = g.table;
-        goals = rw s (posed_later m.nested_goals.items g p);
+        goals = rw s p;
         handler = rw nh (law a.cx.now.nodes b.cx.now.nodes a.handler.now h.handler g.extends);
       };
       fault = none_kept _ a.state.now.fault none;
       taint = λ x. ap (λ (z : EvalState). z.is_tainted) s ∙ t ∙ x;
       depth = ap (λ (z : EvalState). z.root_depth) s ∙ d;
     }
+
+-- .. whose goals were of the store and the table before
+pub keeps_ran : {H : Type 0} {ready : List Tree → H → Type 0} {a b : EvalCtxt H} (m : EvalState) (f : Option Fault)
+    → ((x y : List Tree) (h : H) → ready x h → Extends x y → ready y h) → IsReady ready a
+    → b.table.ghost_name ≡ a.table.ghost_name → b.cx.ghost_name ≡ a.cx.ghost_name → b.handler ≡ a.handler → b.state.ghost_name ≡ a.state.ghost_name
+    → Runs a.cx.now b.cx.now a.table.now b.table.now → b.state.now ≡ record m { fault = f } → ArePosed a.cx.now.nodes a.table.now m.nested_goals.items
+    → a.state.now.fault ≡ None → m.is_tainted ≡ a.state.now.is_tainted → m.root_depth ≡ a.state.now.root_depth → Keeps ready a b
+keeps_ran m f law h nt nc nh ns k s p none t d = keeps_grown m f law h nt nc nh ns k s (posed_later m.nested_goals.items k.goes p) none t d
 
 -- a call that was answered met no fault
 pub none_after : {R : Type 0} {f : Option Fault} (o : Option Fault) (x : R) → o ≡ None → f ≡ fault_after o (let r : Result R EvalError = Ok x in r) → f ≡ None

@@ -35,7 +35,7 @@ use Rattle.nts_contexts.specs.declared.state.EvalState.{EvalState}
 use Rattle.nts_contexts.specs.declared.context.EvalCtxt.{EvalCtxt}
 use Rattle.nts_contexts.specs.Contexts.{IsReady, Keeps}
 use Rattle.nts_contexts.specs.Related.{IsEnvOf, AddsRelated, AreEquatedIn}
-use Rattle.nts_contexts.proofs.Frames.{posed_more, none_kept}
+use Rattle.nts_contexts.proofs.Frames.{posed_more}
 
 -- what was recorded since is between closed terms
 closed_grown : {c d : Content} → IsGrown c d → HasClosedSides c → HasClosedSides d
@@ -125,27 +125,3 @@ related_posed {a} {b} {t} {u} {m} {n} {env} {v} {x} {y} k e h r =
 pub posed_where : {a b : Cx} {t u : Table} (m n : EvalState) (env : ParamEnv) (v : Variance) (x y : NodeId) (p : Result (Unit {0}) EvalError) → Runs a b t u → IsEnvOf a t env → ArePosed a.nodes t m.nested_goals.items → OnOk p (AddsRelated a b t u m n env v x y) → OnErr p (n.nested_goals.items ≡ m.nested_goals.items) → ArePosed b.nodes u n.nested_goals.items
 posed_where m n env v x y (Ok z) k e h r q = related_posed k e h r
 posed_where m n env v x y (Err z) k e h r q = rw q (posed_later m.nested_goals.items k.goes h)
-
--- a context without a fault after a call on its store and table, which left the state m with goals of both, and in which the answer was noted
-pub keeps_grown : {H : Type 0} {ready : List Tree → H → Type 0} {a b : EvalCtxt H} (m : EvalState) (f : Option Fault)
-    → ((x y : List Tree) (h : H) → ready x h → Extends x y → ready y h) → IsReady ready a
-    → b.table.ghost_name ≡ a.table.ghost_name → b.cx.ghost_name ≡ a.cx.ghost_name → b.handler ≡ a.handler → b.state.ghost_name ≡ a.state.ghost_name
-    → Runs a.cx.now b.cx.now a.table.now b.table.now → b.state.now ≡ record m { fault = f } → ArePosed b.cx.now.nodes b.table.now m.nested_goals.items
-    → a.state.now.fault ≡ None → m.is_tainted ≡ a.state.now.is_tainted → m.root_depth ≡ a.state.now.root_depth → Keeps ready a b
-keeps_grown {H} {ready} {a} {b} m f law h nt nc nh ns k s p none t d =
-    let g = k.goes in
-    record {
-      table = nt;
-      cx = nc;
-      state = ns;
-      handler = nh;
-      runs = k;
-      is_ready = record {
-        table = g.table;
-        goals = rw s p;
-        handler = rw nh (law a.cx.now.nodes b.cx.now.nodes a.handler.now h.handler g.extends);
-      };
-      fault = none_kept _ a.state.now.fault none;
-      taint = λ x. ap (λ (z : EvalState). z.is_tainted) s ∙ t ∙ x;
-      depth = ap (λ (z : EvalState). z.root_depth) s ∙ d;
-    }

@@ -1,6 +1,7 @@
 //! Values that are related in a context.
 ghost use Rattle.std.specs.Prelude.{◌≡◌, ◌++◌, [], map, Ok, Err, IfOk, IfErr, IfSome, OnOk, OnErr};
 ghost use Rattle.nts_certainty.specs.declared.sources.GoalSource.TheVariants as sources;
+ghost use Rattle.nts_model.specs.declared.labels.Variance.TheVariants as variances;
 ghost use Rattle.nts_model.specs.Equations.{AreRelated, AreUnrelated};
 ghost use Rattle.nts_model.specs.Passing.{BringsLabelsOf};
 ghost use Rattle.nts_store.specs.Errors.{error_of};
@@ -112,6 +113,25 @@ impl<H: GoalHandler> EvalCtxt<'_, H> {
         self.state.check()?;
         let related = relate_and_push(self.table, self.cx, self.state, env, lhs, variance, rhs);
         self.state.note(related)
+    }
+
+    /// Relates two values so that the first is the lesser one: as `relate` does by the covariant variance.
+    pub fn sub<T: Relate>(&mut self, env: ParamEnv, sub: T, sup: T) -> Result<(), EvalError>
+        requires ready { IsReady H.ready self.old }
+        requires env { IsEnvOf self.old.cx.now self.old.table.now env }
+        requires left { IsSide T.place self.old.cx.now.nodes self.old.table.now (T.id sub) }
+        requires right { IsSide T.place self.old.cx.now.nodes self.old.table.now (T.id sup) }
+        ensures keeps { Keeps H.ready self.old self.new }
+        ensures heads { OnOk result (T.head sub ≡ T.head sup) }
+        ensures related { OnOk result (AddsRelated self.old.cx.now self.new.cx.now self.old.table.now self.new.table.now self.old.state.now self.new.state.now env variances.Covariant (T.id sub) (T.id sup)) }
+        ensures no { result ≡ Err EvalError.NoSolution → T.head sub ≡ T.head sup → RefusesSides (variances_in self.old.cx.now.declarations) (content_in self.old) variances.Covariant (tree_in self.old (T.id sub)) (tree_in self.old (T.id sup)) }
+        ensures goals { OnErr result (self.new.state.now.nested_goals.items ≡ self.old.state.now.nested_goals.items) }
+        ensures err { OnErr result (self.new.table.now ≡ self.old.table.now) }
+        ensures nothing { EvaluatedNothing self.old.state.now self.new.state.now }
+        ensures fault { self.new.state.now.fault ≡ fault_after self.old.state.now.fault result }
+        ensures faulted { IfSome self.old.state.now.fault (λ f. result ≡ Err (error_of f)) }
+    {
+        self.relate(env, sub, Variance::Covariant, sup)
     }
 
     /// Makes two values equal, and adds the goals that are left. No alias is to stand in either, so there are none. After a

@@ -17,8 +17,8 @@ use next_trait_solver::ty::{
 };
 use std::alloc::Global;
 
-/// How many goals are left where two types are made one, and how many of two goals that are asked then. Both are found out in
-/// probes. Where the types cannot be made one, or a goal has no solution, the table is as before.
+/// How many goals are left where two types are made one, and how many of two goals that are asked where the first type is made the
+/// lesser one. Both are found out in probes. Where the types cannot be related, or a goal has no solution, the table is as before.
 #[tactic(auto, using(nts_contexts::proofs::Handed::handed, nts_contexts::proofs::Frames::keeps_then))]
 pub fn count_goals(
     table: &mut InferCtxt,
@@ -73,7 +73,7 @@ pub fn count_goals(
                     requires second { IsGoalOf probe.old second }
                     ensures keeps { Keeps AreReady probe.old probe.new }
                 {
-                    probe.relate(first.param_env, lhs, Variance::Invariant, rhs)?;
+                    probe.sub(first.param_env, lhs, rhs)?;
                     probe.add_goals(GoalSource::Misc, &[first, second])?;
                     probe.try_evaluate_added_goals()?;
                     Ok(probe.state.nested_goals.len())

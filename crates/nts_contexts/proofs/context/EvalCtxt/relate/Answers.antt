@@ -1,6 +1,6 @@
 use Rattle.std.proofs.Common.{refl}
-use Rattle.nts_contexts.proofs.Frames.{keeps_refl}
-use Rattle.nts_contexts.proofs.Relates.{keeps_grown, posed_where}
+use Rattle.nts_contexts.proofs.Frames.{keeps_refl, keeps_grown}
+use Rattle.nts_contexts.proofs.Relates.{posed_where}
 use Rattle.nts_contexts.proofs.context.EvalCtxt.relate.Goals as goal
 
 pub returns-in_err-check-clause-keeps : goal.returns-in_err-check-clause-keeps

@@ -7,15 +7,15 @@ use Rattle.nts_uses.proofs.count.fn.count_goals.fn.enter_root.probe+2.Goals as g
 
 pub add_goals-requires : goal.add_goals-requires
 add_goals-requires c =
-    let e = c.in_ok-relate.ensures in
+    let e = c.in_ok-sub.ensures in
     record {
       ready = e.keeps.is_ready;
-      goals = All-cons (IsGoalOf c.relate.new.self) c.captures.first (c.captures.second ∷ []) (goal_later e.keeps c.requires.first)
-          (All-cons (IsGoalOf c.relate.new.self) c.captures.second [] (goal_later e.keeps c.requires.second) (All-nil (IsGoalOf c.relate.new.self)));
+      goals = All-cons (IsGoalOf c.sub.new.self) c.captures.first (c.captures.second ∷ []) (goal_later e.keeps c.requires.first)
+          (All-cons (IsGoalOf c.sub.new.self) c.captures.second [] (goal_later e.keeps c.requires.second) (All-nil (IsGoalOf c.sub.new.self)));
     }
 
 pub returns-in_err-try_evaluate_added_goals : goal.returns-in_err-try_evaluate_added_goals
-returns-in_err-try_evaluate_added_goals c = record { keeps = keeps_then (keeps_then c.relate.ensures.keeps c.add_goals.ensures.keeps) c.try_evaluate_added_goals.ensures.keeps }
+returns-in_err-try_evaluate_added_goals c = record { keeps = keeps_then (keeps_then c.sub.ensures.keeps c.add_goals.ensures.keeps) c.try_evaluate_added_goals.ensures.keeps }
 
 pub returns : goal.returns
-returns c = record { keeps = keeps_then (keeps_then c.relate.ensures.keeps c.add_goals.ensures.keeps) c.try_evaluate_added_goals.ensures.keeps }
+returns c = record { keeps = keeps_then (keeps_then c.sub.ensures.keeps c.add_goals.ensures.keeps) c.try_evaluate_added_goals.ensures.keeps }
