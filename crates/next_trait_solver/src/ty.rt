@@ -17,6 +17,6 @@ pub use nts_terms::{
     ClauseKind, Const, ConstId, ConstKind, CtorId, Cx, DefId, FnSig, GenericArg, GenericArgKind,
     GenericArgs, Goal, InferTy, ParamEnv, PlaceholderConst, PlaceholderRegion, PlaceholderType,
     Predicate, PredicateKind, Region, RegionKind, Span, Stored, Term, TermKind, TraitId, TraitRef,
-    Ty, TyKind, TypingMode, UniverseIndex, VisibleForLeakCheck,
+    Ty, TyKind, TypingMode, UniverseIndex, VisibleForLeakCheck, are_variances,
 };
 pub use nts_unify::{Constraint, HiddenType, Snapshot, State, Variable};

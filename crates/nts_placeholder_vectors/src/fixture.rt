@@ -31,7 +31,7 @@ impl Fixture {
             .expect(rt, "memory");
         let sorts = [Sort::Region, Sort::Ty, Sort::Const];
         let mixed = cx
-            .declare_ctor(&sorts, &[kept, kept, kept])
+            .declare_ctor(&sorts, &[kept, kept, Variance::Invariant])
             .expect(rt, "memory");
         Fixture {
             alloc,

@@ -12,7 +12,7 @@ ghost use Rattle.nts_terms.specs.Rest.{Grows};
 use crate::answer::ask;
 use nts_delegate::Clauses;
 use nts_model::{Sort, Variance};
-use nts_terms::Cx;
+use nts_terms::{Cx, are_variances};
 use nts_text::{Command, Mode, NameTable, Param, Resolved, Scope, read_command};
 use nts_wording::{MISFIT, Stop, clause_of, text_of};
 use std::alloc::{AllocError, Global};
@@ -112,6 +112,10 @@ impl Program {
     {
         let sorts = sorts_of(self.alloc, params)?;
         let variances = variances_of(self.alloc, params)?;
+        // A line names no const parameter.
+        if !are_variances(&sorts, &variances) {
+            return Err(MISFIT);
+        }
         self.cx.declare_ctor(&sorts, &variances)?;
         Ok(())
     }

@@ -5,7 +5,7 @@ use nts_store::{EvalError, Fault, Nodes, binders_of};
 use nts_terms::{
     AliasDefId, AliasKind, AliasTerm, Binder, BoundRegion, BoundTy, ClauseKind, ConstKind, Cx,
     DefId, FnSig, GenericArg, GenericArgKind, InferTy, PlaceholderRegion, PredicateKind,
-    RegionKind, Stored, Term, TermKind, TraitId, TraitRef, Ty, TyKind,
+    RegionKind, Stored, Term, TermKind, TraitId, TraitRef, Ty, TyKind, are_variances,
 };
 use std::process::Abort;
 
@@ -208,6 +208,22 @@ fn see_declared_consts(rt: &impl Abort, cx: &mut Cx) {
         ConstKind::Unevaluated(it) => assert!(rt; it.def_id == def_id),
         _ => assert!(rt; false),
     }
+}
+
+#[test]
+fn consts_do_not_vary(rt: HostRuntime) {
+    let (kept, equal, turned) = (
+        Variance::Covariant,
+        Variance::Invariant,
+        Variance::Contravariant,
+    );
+    assert!(rt; are_variances(&[], &[]));
+    assert!(rt; are_variances(&[Sort::Ty, Sort::Region], &[kept, turned]));
+    assert!(rt; are_variances(&[Sort::Ty, Sort::Const], &[kept, equal]));
+    assert!(rt; !are_variances(&[Sort::Ty, Sort::Const], &[equal, kept]));
+    assert!(rt; !are_variances(&[Sort::Const], &[turned]));
+    assert!(rt; !are_variances(&[Sort::Ty], &[kept, kept]));
+    assert!(rt; !are_variances(&[Sort::Ty, Sort::Region], &[kept]));
 }
 
 #[test]

@@ -5,3 +5,4 @@ pub mod Sorted
 pub mod StillDeclared
 pub mod SameModes
 pub mod Binders
+pub mod Varying

@@ -1,6 +1,8 @@
 -- What is declared: the sorts that constructors, traits, aliases and consts take.
-use Rattle.std.specs.Prelude.{◌≡◌, ℕ, zero, suc, List, [], ◌∷◌, ◌++◌, Option, Some, None, slice_get, ◌<◌, length}
+use Rattle.std.specs.List.{AllZip}
+use Rattle.std.specs.Prelude.{◌≡◌, ℕ, List, [], ◌∷◌, ◌++◌, Option, Some, None, slice_get, ◌<◌, length}
 use Rattle.nts_model.specs.declared.labels.Sort.{Sort}
+use Rattle.nts_model.specs.declared.labels.Sort.TheVariants as sort
 use Rattle.nts_model.specs.declared.labels.Variance.{Variance}
 use Rattle.nts_model.specs.declared.labels.Variance.TheVariants as variance
 use Rattle.nts_model.specs.Trees.{Tree, empty, more, children, kind_of, of_sort}
@@ -33,6 +35,14 @@ pub record AliasSorts : Type 0 where
 pub record ConstSorts : Type 0 where
   pub sorts : List Sort
   pub ty : Ty
+
+-- a const stays the same wherever the whole does
+abbrev pub IsVarianceOf : Sort → Variance → Type 0
+IsVarianceOf sort.Const v = v ≡ variance.Invariant
+IsVarianceOf s v = Unit {0}
+
+abbrev pub AreVariancesOf : List Sort → List Variance → Type 0
+AreVariancesOf ss vs = AllZip IsVarianceOf ss vs
 
 -- each list by number
 pub record Declared : Type 0 where

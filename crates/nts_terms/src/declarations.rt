@@ -1,5 +1,6 @@
 //! What is declared, by number.
-ghost use Rattle.std.specs.Prelude.{◌≡◌, ◌++◌, ◌∷◌, [], length, slice_get, IfOk, OnOk, OnErr, IsOkUnless, MatchOption, Some, None};
+ghost use Rattle.std.specs.Prelude.{IsTrue, ◌↔◌, ◌≡◌, ◌++◌, ◌∷◌, [], length, slice_get, IfOk, OnOk, OnErr, IsOkUnless, MatchOption, Some, None};
+ghost use Rattle.nts_terms.specs.Signatures.{AreVariancesOf, IsVarianceOf};
 
 use crate::cx::Cx;
 use crate::handles::{AliasDefId, AliasId, ConstId, CtorId, DefId, TraitId, Ty};
@@ -153,15 +154,38 @@ impl Declarations {
     }
 }
 
+fn may_vary(sort: Sort, variance: Variance) -> bool
+    ensures { IsTrue result ↔ IsVarianceOf sort variance }
+{
+    sort != Sort::Const || variance == Variance::Invariant
+}
+
+/// Whether a constructor with arguments of these sorts may be declared with these variances: there is one for each, and a
+/// const's is invariant.
+pub fn are_variances(sorts: &[Sort], variances: &[Variance]) -> bool
+    ensures { IsTrue result ↔ AreVariancesOf sorts.now variances.now }
+{
+    if sorts.len() != variances.len() {
+        return false;
+    }
+    for (i, sort) in sorts.iter().enumerate() {
+        if !may_vary(*sort, variances[i]) {
+            return false;
+        }
+    }
+    true
+}
+
 impl Cx {
     ghost use Rattle.nts_store.specs.Growth.{tree_at};
     ghost use Rattle.nts_terms.specs.Handles.{HoldsTy};
     ghost use Rattle.nts_terms.specs.ConstTypes.{IsConstType};
     ghost use Rattle.nts_terms.specs.Signatures.{with_ctor, with_trait, with_alias, with_const};
 
-    /// A new constructor, which takes arguments of these sorts.
+    /// A new constructor, which takes arguments of these sorts that vary with the whole like this. A const doesn't vary.
+    /// `are_variances` is the test.
     pub fn declare_ctor(&mut self, sorts: &[Sort], variances: &[Variance]) -> Result<CtorId, Fault>
-        requires { length sorts.now ≡ length variances.now }
+        requires variances { AreVariancesOf sorts.now variances.now }
         ensures number { IfOk result (λ c. c.number ≡ length self.old.declarations.ctors) }
         ensures declared { OnOk result (self.new ≡ record self.old { declarations = with_ctor self.old.declarations sorts.now variances.now }) }
         ensures err { OnErr result (self.new ≡ self.old) }

@@ -17,7 +17,7 @@ mod modes;
 mod views;
 
 pub use cx::Cx;
-pub use declarations::{AliasKind, Declarations};
+pub use declarations::{AliasKind, Declarations, are_variances};
 pub use handles::{
     AliasDefId, AliasId, AliasTerm, Binder, BoundConst, BoundRegion, BoundTy, BoundVars, Const,
     ConstId, CtorId, DefId, FnSig, GenericArg, GenericArgs, Goal, ParamEnv, PlaceholderConst,
