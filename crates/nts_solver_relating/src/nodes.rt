@@ -210,16 +210,16 @@ fn equate_plain(
     }
 }
 
-/// Whether the node is a type that is related by a variance which lets it vary.
-fn is_varying_type(nodes: &Nodes, t: NodeId, variance: Variance) -> bool
+/// Whether the node is a type.
+fn is_type(nodes: &Nodes, t: NodeId) -> bool
     requires within { IsIn nodes.now t }
     ensures { result ≡ true → kind_of (tree_at nodes.now t) ≡ Some (of_sort sorts.Ty) }
 {
-    variance != Variance::Invariant && matches!(sort_of(nodes.label(t)), Some(Sort::Ty))
+    matches!(sort_of(nodes.label(t)), Some(Sort::Ty))
 }
 
 /// Relates two types with the values in place of the variables that have one, so that a goal is left only for a variable that gets
-/// its value here. After an error the table is as before.
+/// its value here, and so that what has no variables without values may be made at once. After an error the table is as before.
 fn relate_resolved(
     alloc: Global,
     nodes: &mut Nodes,
@@ -276,7 +276,7 @@ fn relate_any(
     ensures full { result ≢ Err EvalError.Full }
     ensures no { result ≡ Err EvalError.NoSolution → RefusesSides (variances_in declarations.now) (content_of nodes.old table.old.entries) variance (tree_at nodes.old left) (tree_at nodes.old right) }
 {
-    if is_varying_type(nodes, left, variance) {
+    if is_type(nodes, left) {
         return relate_resolved(
             alloc,
             nodes,

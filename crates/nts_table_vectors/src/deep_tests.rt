@@ -9,7 +9,7 @@ use std::process::Abort;
 
 /// A pair of pairs of pairs, with that many levels: its tree is of a size past all counting, and the
 /// store has a few nodes.
-fn ladder(rt: &impl Abort, fixture: &mut Fixture, bottom: GenericArg, levels: u32) -> GenericArg
+pub fn ladder(rt: &impl Abort, fixture: &mut Fixture, bottom: GenericArg, levels: u32) -> GenericArg
     requires { IsTable fixture.old.cx.nodes fixture.old.table }
     ensures { IsTable fixture.new.cx.nodes fixture.new.table }
 {

@@ -3,6 +3,7 @@ ghost use Rattle.nts_table.specs.Tables.{IsTable};
 ghost use Rattle.nts_terms.specs.Kinds.{StatementFits};
 ghost use Rattle.nts_terms.specs.Signatures.{StatementIsDeclared};
 
+use crate::deep_tests::ladder;
 use crate::fixture::Fixture;
 use nts_model::{AliasRelationDirection, BoundVarIndexKind, Relation, Sort, UintTy, Variance};
 use nts_solver_relating::RelateExt;
@@ -62,15 +63,20 @@ fn predicate(rt: &impl Abort, fixture: &mut Fixture, value: PredicateKind) -> Pr
         .expect(rt, "memory")
 }
 
-/// That the first type is a subtype of the second one.
-fn subtype(rt: &impl Abort, fixture: &mut Fixture, a: GenericArg, b: GenericArg) -> Predicate
+/// That the first type is a subtype of the second one, of which one was expected.
+fn subtype_of(
+    rt: &impl Abort,
+    fixture: &mut Fixture,
+    a: GenericArg,
+    b: GenericArg,
+    a_is_expected: bool,
+) -> Predicate
     requires { IsTable fixture.old.cx.nodes fixture.old.table }
     ensures { IsTable fixture.new.cx.nodes fixture.new.table }
 {
     let (a, b) = (Ty { node: a.node }, Ty { node: b.node });
     assert!(rt; fixture.cx.holds(a));
     assert!(rt; fixture.cx.holds(b));
-    let a_is_expected = true;
     predicate(
         rt,
         fixture,
@@ -80,6 +86,14 @@ fn subtype(rt: &impl Abort, fixture: &mut Fixture, a: GenericArg, b: GenericArg)
             b,
         },
     )
+}
+
+/// That the first type, which stood left, is a subtype of the second one.
+fn subtype(rt: &impl Abort, fixture: &mut Fixture, a: GenericArg, b: GenericArg) -> Predicate
+    requires { IsTable fixture.old.cx.nodes fixture.old.table }
+    ensures { IsTable fixture.new.cx.nodes fixture.new.table }
+{
+    subtype_of(rt, fixture, a, b, true)
 }
 
 /// That two terms are related, of which one is an alias.
@@ -332,6 +346,78 @@ fn variable_met_again(rt: HostRuntime) {
     let goal = subtype(&rt, &mut fixture, hole, reference);
     leaves(&rt, &mut fixture, twice, Variance::Covariant, both, &[goal]);
     fixture.counts(&rt, 2, 1);
+}
+
+#[test]
+fn goal_once_for_a_pair_met_again(rt: HostRuntime) {
+    let mut fixture = Fixture::new(&rt, rt.alloc());
+    let first = fixture.ty_var(&rt);
+    let second = fixture.ty_var(&rt);
+    let below = subtype(&rt, &mut fixture, first, second);
+    let left = ladder(&rt, &mut fixture, first, 60);
+    let right = ladder(&rt, &mut fixture, second, 60);
+    leaves(
+        &rt,
+        &mut fixture,
+        left,
+        Variance::Covariant,
+        right,
+        &[below],
+    );
+    fixture.counts(&rt, 2, 0);
+    let above = subtype_of(&rt, &mut fixture, second, first, false);
+    leaves(
+        &rt,
+        &mut fixture,
+        left,
+        Variance::Contravariant,
+        right,
+        &[above],
+    );
+    let word = fixture.ty(&rt, TyKind::Uint(UintTy::U32));
+    let alias = alias_of(&rt, &mut fixture, word);
+    let one = alias_relate(
+        &rt,
+        &mut fixture,
+        alias,
+        word,
+        AliasRelationDirection::Equate,
+    );
+    let aliases = ladder(&rt, &mut fixture, alias, 60);
+    let words = ladder(&rt, &mut fixture, word, 60);
+    leaves(
+        &rt,
+        &mut fixture,
+        aliases,
+        Variance::Invariant,
+        words,
+        &[one],
+    );
+    leaves(&rt, &mut fixture, left, Variance::Invariant, right, &[]);
+    fixture.stands_for(&rt, second, first);
+}
+
+/// What is invariant and shares much is made at once beside an alias, over a variable without a value and over one with a value.
+#[test]
+fn ladder_beside_an_alias(rt: HostRuntime) {
+    let mut fixture = Fixture::new(&rt, rt.alloc());
+    let hole = fixture.ty_var(&rt);
+    let inner = fixture.ty_var(&rt);
+    let word = fixture.ty(&rt, TyKind::Uint(UintTy::U32));
+    let alias = alias_of(&rt, &mut fixture, word);
+    let tall = ladder(&rt, &mut fixture, inner, 60);
+    let both = fixture.pair(&rt, alias, tall);
+    let fresh = fixture.ty(&rt, TyKind::Infer(InferTy::TyVar(2)));
+    let equate = AliasRelationDirection::Equate;
+    let goal = alias_relate(&rt, &mut fixture, fresh, alias, equate);
+    leaves(&rt, &mut fixture, hole, Variance::Invariant, both, &[goal]);
+    let value = fixture.pair(&rt, fresh, tall);
+    fixture.stands_for(&rt, hole, value);
+    fixture.relates(&rt, inner, word);
+    let other = fixture.ty_var(&rt);
+    let fresh = fixture.ty(&rt, TyKind::Infer(InferTy::TyVar(4)));
+    let goal = alias_relate(&rt, &mut fixture, fresh, alias, equate);
+    leaves(&rt, &mut fixture, other, Variance::Invariant, both, &[goal]);
 }
 
 #[test]

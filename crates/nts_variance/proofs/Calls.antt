@@ -16,7 +16,7 @@ use Rattle.nts_model.proofs.Forms.{deeply_resolved-over, variances_over_length}
 use Rattle.nts_model.proofs.Meeting.{AreSmaller}
 use Rattle.nts_store.specs.declared.nodes.NodeId.{NodeId}
 use Rattle.nts_store.specs.Growth.{tree_at, Extends}
-use Rattle.nts_store.proofs.Growing.{IsIn-extended}
+use Rattle.nts_store.proofs.Growing.{IsIn-extended, Extends-refl}
 use Rattle.nts_unify.specs.Entries.{Entries}
 use Rattle.nts_unify.specs.Reading.{content_of, IsLawful}
 use Rattle.nts_variance.specs.declared.along.Relating.{Relating}
@@ -154,6 +154,14 @@ module _ (declared : ℕ → List Variance) where
       let ps = pairs_over v (variances_over declared F ts) ts us in
       subst (λ z. Takes declared c c (pair_of v a z ∷ []) ps []) (sym y) (subst (λ z. Takes declared c c (pair_of v z (over F us) ∷ []) ps []) (sym x) on)
 
+  -- what was met, with one pair more
+  met_last : (us : List Tree) (ms : List Relating) (q : Relating) (x : Pair) → Among (pairs_at us (ms ++ q ∷ [])) x → Among (pair_at us q ∷ pairs_at us ms) x
+  met_last us [] q x i = i
+  met_last us (m ∷ ms) q x i = ⊎_elim (λ h. inr (inl h)) (λ h. ⊎_elim (λ k. inl k) (λ k. inr (inr k)) (met_last us ms q x h)) i
+
+  met_push : (us : List Tree) (c : Content) (ms : List Relating) (q : Relating) → ArePairs us c ms → IsPair us c q → ArePairs us c (ms ++ q ∷ [])
+  met_push us c ms q h k = pairs_joined us c ms (q ∷ []) h (pair_known us c q k)
+
   -- a pair was taken, which leaves no pairs to take
   pub call_taken : (ts us ws : List Tree) (e f g : Entries) (p q : Relating) (ps ms es gs os hs es' gs' : List Relating) → IsCall declared ts us e f p (ps ++ q ∷ []) ms es gs → Extends us ws → IsLawful ws g → ArePairsLeft ws (content_of ws g) os → AllWait ws os → ArePairs ws (content_of ws g) hs → AreGoals (pairs_at ws hs)
       → Takes declared (content_of us f) (content_of ws g) (pair_at us q ∷ []) (pairs_at ws os) (pairs_at ws hs) → es' ≡ es ++ os → gs' ≡ gs ++ hs → IsCall declared ts ws e g p ps ms es' gs'
@@ -178,14 +186,31 @@ module _ (declared : ℕ → List Variance) where
         going = rw (stacked_kept d ps ext front.0, joined_at d es os es' ext (bare_pairs us d es u.equal) qe, joined_at d gs hs gs' ext u.goals qg, pairs_kept d ms ext u.met) fewer;
       }
 
+  -- .. and it is one that was met
+  pub call_left : (ts us : List Tree) (e f : Entries) (p q : Relating) (ps ms ns es gs os hs es' gs' : List Relating) → IsCall declared ts us e f p (ps ++ q ∷ []) ms es gs → ArePairsLeft us (content_of us f) os → AllWait us os → ArePairs us (content_of us f) hs → AreGoals (pairs_at us hs)
+      → Takes declared (content_of us f) (content_of us f) (pair_at us q ∷ []) (pairs_at us os) (pairs_at us hs) → es' ≡ es ++ os → gs' ≡ gs ++ hs → ns ≡ ms ++ q ∷ [] → IsCall declared ts us e f p ps ns es' gs'
+  call_left ts us e f p q ps ms ns es gs os hs es' gs' u ko wait kh ah t qe qg new =
+      let c = content_of ts e in
+      let d = content_of us f in
+      let front = pairs_front us d ps q u.pairs in
+      let here = stacked-push (pair_at us) ps q in
+      let before : IsUnderway declared c d (pair_at ts p) (pair_at us q ∷ stacked (pair_at us) ps) (pairs_at us es) (pairs_at us gs) (pairs_at us ms) = rw here at u.going in
+      let taken = underway_taken declared c d d (pair_at ts p) (pair_at us q) (stacked (pair_at us) ps) (pairs_at us es) (pairs_at us gs) (pairs_at us ms) [] (pairs_at us os) (pairs_at us hs) u.start u.lawful.sound (known_stack us d ps front.0) (known_pairs us d es (bare_pairs us d es u.equal)) (known_pairs us d gs u.goals) t (λ w s on. tt) before in
+      let fewer = underway_fewer declared c d (pair_at ts p) (stacked (pair_at us) ps) (pairs_at us es ++ pairs_at us os) (pairs_at us gs ++ pairs_at us hs) (pair_at us q ∷ pairs_at us ms) (pairs_at us (ms ++ q ∷ [])) (met_last us ms q) taken in
+      let ext = Extends-refl us in
+      record {
+        start = u.start;
+        lawful = u.lawful;
+        pairs = front.0;
+        met = rw new (met_push us d ms q u.met front.1);
+        waits = rw qe (waits_joined us es os u.waits wait);
+        equal = rw qe (left_joined us d es os u.equal ko);
+        goals = rw qg (pairs_joined us d gs hs u.goals kh);
+        are_goals = goals_to (joined_at d gs hs gs' ext u.goals qg) (AreGoals-append (pairs_at us gs) (pairs_at us hs) u.are_goals ah);
+        going = rw (joined_at d es os es' ext (bare_pairs us d es u.equal) qe, joined_at d gs hs gs' ext u.goals qg, new) fewer;
+      }
+
   -- two nodes whose parts are left
-  met_last : (us : List Tree) (ms : List Relating) (q : Relating) (x : Pair) → Among (pairs_at us (ms ++ q ∷ [])) x → Among (pair_at us q ∷ pairs_at us ms) x
-  met_last us [] q x i = i
-  met_last us (m ∷ ms) q x i = ⊎_elim (λ h. inr (inl h)) (λ h. ⊎_elim (λ k. inl k) (λ k. inr (inr k)) (met_last us ms q x h)) i
-
-  met_push : (us : List Tree) (c : Content) (ms : List Relating) (q : Relating) → ArePairs us c ms → IsPair us c q → ArePairs us c (ms ++ q ∷ [])
-  met_push us c ms q h k = pairs_joined us c ms (q ∷ []) h (pair_known us c q k)
-
   pub call_parts : (ts us : List Tree) (e f : Entries) (p q : Relating) (ps rs ms ns es gs : List Relating) → IsCall declared ts us e f p (ps ++ q ∷ []) ms es gs → AreOfOneForm (tree_at us q.left) (tree_at us q.right) → ArePartsPaired declared us q ps rs → ns ≡ ms ++ q ∷ [] → IsCall declared ts us e f p rs ns es gs
   call_parts ts us e f p q ps rs ms ns es gs u one pushed new =
       let c = content_of ts e in

@@ -1,5 +1,5 @@
 -- One pair that is to be made equal was taken.
-use Rattle.std.proofs.Common.{◌≡◌, ℕ, ◌+◌, ◌<◌, ◌≤◌, Bool, true, false, List, [], ◌∷◌, ◌++◌, refl, sym, ap, ◌∙◌, subst, arith}
+use Rattle.std.proofs.Common.{◌≡◌, ℕ, ◌+◌, ◌<◌, ◌≤◌, Bool, true, false, List, [], ◌∷◌, ◌++◌, sym, ap, ◌∙◌, subst, arith}
 use Rattle.std.proofs.lemmas.List.{append-nil}
 use Rattle.nts_model.specs.declared.labels.Variance.{Variance}
 use Rattle.nts_model.specs.declared.labels.Variance.TheVariants as variance
@@ -7,11 +7,9 @@ use Rattle.nts_model.specs.Trees.{Tree, size, IsFormed}
 use Rattle.nts_model.specs.Contents.{Content}
 use Rattle.nts_model.specs.Resolving.{Knows, resolved}
 use Rattle.nts_model.specs.Sequents.{Among}
-use Rattle.nts_model.specs.Related.{IsAlias, times, first_variance, rest_variances}
-use Rattle.nts_model.specs.Relations.{Relating as Pair, AllKnown}
-use Rattle.nts_model.specs.Forms.{Form, over, variances_over, FitsForm, pairs_over}
+use Rattle.nts_model.specs.Relations.{Relating as Pair}
+use Rattle.nts_model.specs.Forms.{over, variances_over, FitsForm, pairs_over}
 use Rattle.nts_model.specs.Measuring.{closed_aliases}
-use Rattle.nts_model.specs.Trees.{empty, more, node}
 use Rattle.nts_store.specs.Growth.{tree_at, Extends}
 use Rattle.nts_store.proofs.Growing.{Extends-refl}
 use Rattle.nts_unify.specs.Entries.{Entries}
@@ -20,13 +18,12 @@ use Rattle.nts_unify.specs.Changing.{Keeps, unset_count}
 use Rattle.nts_unify.proofs.Keeping.{Keeps-refl}
 use Rattle.nts_variance.specs.declared.along.Relating.{Relating}
 use Rattle.nts_variance.specs.Steps.{stacked}
-use Rattle.nts_variance.specs.Walking.{IsGrown}
 use Rattle.nts_variance.specs.Parts.{form_of, parts_of}
 use Rattle.nts_variance.specs.Terms.{pair_at, pairs_at, ArePairs, IsGoal, AreGoals}
-use Rattle.nts_variance.specs.Taking.{Takes, IsPair, ArePairsLeft, AreOfOneForm, ArePartsPaired, IsCall}
+use Rattle.nts_variance.specs.Taking.{Takes, IsPair, ArePairsLeft, AreOfOneForm, ArePartsPaired}
 use Rattle.nts_variance.specs.declared.equating.Heads.{Heads}
 use Rattle.nts_variance.specs.Equating.{ArePairHeads, AreToBeOne, AreInvariant, aliases_of, sizes_of, unsolved, IsReady, IsOn, IsEqualStep}
-use Rattle.nts_variance.proofs.Calls.{pairs_front, pairs_later, stacked_kept, known_stack, pair_known, call_taken, call_parts, call_passed}
+use Rattle.nts_variance.proofs.Calls.{pairs_front, pairs_later, stacked_kept, known_stack, pair_known, call_taken, call_left, call_parts, call_passed}
 use Rattle.nts_variance.proofs.Exact.{AllInvariant, parts_invariant, stands_to_be_one}
 use Rattle.nts_variance.proofs.Lessening.{over_larger, over_aliases, aliases_joined, sizes_joined, sizes_row, aliases_row, aliases_same, sizes_same, unsolved_same}
 use Rattle.nts_variance.proofs.Pairing.{pairs_push}
@@ -102,14 +99,14 @@ module _ (declared : ℕ → List Variance) where
         call = λ start first p es u. call_taken declared start ts us first e f p q ps ms es gs [] [] es gs u ext lawful tt tt tt tt t (sym (append-nil es)) (sym (append-nil gs));
       })
 
-  pub step_owed : (ts : List Tree) (e : Entries) (ps : List Relating) (q : Relating) (ms gs hs : List Relating) → IsReady ts e (ps ++ q ∷ []) → IsGoal (pair_at ts q) → hs ≡ gs ++ q ∷ [] → IsEqualStep declared ts ts e e ps q ps ms ms gs hs false
-  step_owed ts e ps q ms gs hs r is goals =
+  pub step_owed : (ts : List Tree) (e : Entries) (ps : List Relating) (q : Relating) (ms ns gs hs : List Relating) → IsReady ts e (ps ++ q ∷ []) → IsGoal (pair_at ts q) → hs ≡ gs ++ q ∷ [] → ns ≡ ms ++ q ∷ [] → IsEqualStep declared ts ts e e ps q ps ms ns gs hs false
+  step_owed ts e ps q ms ns gs hs r is goals new =
       let c = content_of ts e in
       let lawful = r.lawful in
       let front = pairs_front ts c ps q r.pairs in
-      step_kept ts ts e e ps q ms ms gs hs r (Extends-refl ts) (Keeps-refl c) (record {
+      step_kept ts ts e e ps q ms ns gs hs r (Extends-refl ts) (Keeps-refl c) (record {
         ready = record { lawful = lawful; pairs = front.0 };
-        call = λ start first p es u. call_taken declared start ts ts first e e p q ps ms es gs [] (q ∷ []) es hs u (Extends-refl ts) lawful tt tt (pair_known ts c q front.1) (is, tt) (takes_owed declared c (pair_at ts q) lawful.sound) (sym (append-nil es)) goals;
+        call = λ start first p es u. call_left declared start ts first e p q ps ms ns es gs [] (q ∷ []) es hs u tt tt (pair_known ts c q front.1) (is, tt) (takes_owed declared c (pair_at ts q) lawful.sound) (sym (append-nil es)) goals new;
       })
 
   pub step_passed : (ts : List Tree) (e : Entries) (ps : List Relating) (q : Relating) (ms ns gs : List Relating) → IsReady ts e (ps ++ q ∷ []) → Among (pairs_at ts ms) (pair_at ts q) → ns ≡ ms → IsEqualStep declared ts ts e e ps q ps ms ns gs gs false

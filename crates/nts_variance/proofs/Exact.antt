@@ -1,5 +1,5 @@
 -- Pairs whose sides are to be one whatever the variance is: variables of consts and of numbers.
-use Rattle.std.proofs.Common.{◌≡◌, ◌≢◌, ◌⊎◌, inl, inr, ⊎_elim, ℕ, Bool, true, false, List, [], ◌∷◌, Option, Some, None, refl, sym, ap, ◌∙◌, subst}
+use Rattle.std.proofs.Common.{◌≡◌, ◌≢◌, ◌⊎◌, inl, inr, ⊎_elim, ℕ, Bool, true, false, List, [], ◌∷◌, Some, None, refl, sym, ap, ◌∙◌, subst}
 use Rattle.std.specs.Prelude.{◌||◌}
 use Rattle.nts_model.specs.declared.labels.Sort.TheVariants as sort
 use Rattle.nts_model.specs.declared.labels.Variance.{Variance}
@@ -9,15 +9,14 @@ use Rattle.nts_model.specs.declared.labels.VariableKind.TheVariants as kind
 use Rattle.nts_model.specs.declared.labels.Leaf.TheVariants as leaf
 use Rattle.nts_model.specs.declared.labels.Label.{Label}
 use Rattle.nts_model.specs.declared.labels.Label.TheVariants as label
-use Rattle.nts_model.specs.Trees.{Tree, empty, more, node, children, kind_of, of_sort, label_of, shape, Meets}
-use Rattle.nts_model.specs.Contents.{Content, kind_at}
-use Rattle.nts_model.specs.Resolving.{infer_of, variable_of, variable_tree, resolved, rooted, deeply_resolved, Knows, IsSound, IsInfer}
+use Rattle.nts_model.specs.Trees.{Tree, empty, more, node, children, of_sort, label_of, shape, Meets}
+use Rattle.nts_model.specs.Contents.{Content}
+use Rattle.nts_model.specs.Resolving.{variable_tree, rooted, deeply_resolved, Knows, IsInfer}
 use Rattle.nts_model.specs.Fitting.{is_integer, is_float, HasLabel, Fits}
 use Rattle.nts_model.specs.Worlds.{World, inst, Solves}
 use Rattle.nts_model.specs.Related.{times, first_variance, rest_variances}
-use Rattle.nts_model.specs.Relations.{Relating as Pair, IsSettledWorld}
+use Rattle.nts_model.specs.Relations.{Relating as Pair}
 use Rattle.nts_model.specs.Judging.{Judging, IsSettled, Settles, IsLawfulJudging, opposite}
-use Rattle.nts_model.specs.Leaving.{Judge, judging_of}
 use Rattle.nts_model.specs.Forms.{Form, a_constructor, a_function, a_value, an_alias, over, variances_over, pairs_over}
 use Rattle.nts_model.proofs.Alongside.{along_const, beside_number}
 use Rattle.nts_model.proofs.Fitting.{Fits-inst}

@@ -1,5 +1,5 @@
 -- A goal's predicate, under a table, and what it says where it is answered.
-use Rattle.std.proofs.Common.{◌≡◌, ◌≢◌, ◌⊎◌, inl, inr, ℕ, ◌+◌, Bool, true, false, List, [], ◌∷◌, Some, None, refl, sym, ap, ◌∙◌, subst}
+use Rattle.std.proofs.Common.{◌≡◌, ◌≢◌, ◌⊎◌, inl, inr, ℕ, ◌+◌, Bool, true, false, List, Some, refl, sym, ap, ◌∙◌, subst}
 use Rattle.std.specs.Prelude.{◌||◌, cond, reverse}
 use Rattle.nts_model.specs.declared.labels.Sort.TheVariants as sort
 use Rattle.nts_model.specs.declared.labels.Variance.{Variance}
@@ -19,11 +19,11 @@ use Rattle.nts_model.specs.Trees.{Tree, empty, more, node, binders, kind_of, of_
 use Rattle.nts_model.specs.Contents.{Content}
 use Rattle.nts_model.specs.Resolving.{Knows, IsSound, value_at, variable_of, rooted, rooted_variable, resolved, deeply_resolved}
 use Rattle.nts_model.specs.Holding.{Continues}
-use Rattle.nts_model.specs.Related.{IsAlias, alias, alias_label, arguments, pair, no_sorts, unbound, directed, direction_of, alias_goal, subtype_goal}
+use Rattle.nts_model.specs.Related.{IsAlias, alias, arguments, pair, no_sorts, unbound, directed, direction_of}
 use Rattle.nts_model.specs.Relations.{Relating as Pair}
 use Rattle.nts_model.specs.Sequents.{Among}
 use Rattle.nts_model.specs.AnsweredGoals.{IsAnswered}
-use Rattle.nts_model.proofs.AliasLabels.{alias_is_alias, not_alias}
+use Rattle.nts_model.proofs.AliasLabels.{alias_is_alias}
 use Rattle.nts_model.proofs.Resolved.{deeply_resolved-node, deeply_resolved-empty}
 use Rattle.nts_model.proofs.Alike.{deeply_resolved-more}
 use Rattle.nts_model.proofs.Fitting.{IsClosed-values}

@@ -1,7 +1,6 @@
 -- Two variables that were made one, for a pair that is to be made equal.
-use Rattle.std.proofs.Common.{◌≡◌, ◌≢◌, ℕ, List, [], ◌∷◌, Some, refl, sym, ap, ◌∙◌, subst}
+use Rattle.std.proofs.Common.{◌≡◌, ℕ, List, [], ◌∷◌, refl, sym, ap, ◌∙◌, subst}
 use Rattle.nts_model.specs.declared.labels.Variance.{Variance}
-use Rattle.nts_model.specs.declared.labels.VariableKind.{VariableKind}
 use Rattle.nts_model.specs.Contents.{Content, kind_at}
 use Rattle.nts_model.specs.Trees.{Tree}
 use Rattle.nts_model.specs.Resolving.{IsSound, Knows, resolved, rooted, deeply_resolved, variable_tree}
@@ -11,9 +10,9 @@ use Rattle.nts_model.specs.Related.{Related, one_tree}
 use Rattle.nts_model.specs.Sequents.{Among}
 use Rattle.nts_model.specs.Proving.{recorded_as}
 use Rattle.nts_model.specs.Judging.{IsSettled, Settles}
-use Rattle.nts_model.specs.Relations.{Relating, IsSettledWorld}
+use Rattle.nts_model.specs.Relations.{IsSettledWorld}
 use Rattle.nts_model.specs.Leaving.{Judge, judging_of}
-use Rattle.nts_model.proofs.Held.{AreOne-continues, Continues-trans}
+use Rattle.nts_model.proofs.Held.{AreOne-continues}
 use Rattle.nts_model.proofs.Slots.{Knows-kept, field_below}
 use Rattle.nts_model.proofs.Tied.{settled_tied}
 use Rattle.nts_unify.specs.Entries.{Entries}

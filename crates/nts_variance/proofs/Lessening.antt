@@ -2,7 +2,6 @@
 use Rattle.std.proofs.Common.{◌≡◌, ℕ, zero, suc, ◌+◌, ◌<◌, ◌≤◌, Bool, true, false, List, [], ◌∷◌, ◌++◌, Option, Some, None, refl, sym, ap, ◌∙◌, subst, arith}
 use Rattle.std.specs.Prelude.{◌&&◌}
 use Rattle.nts_model.specs.declared.labels.Variance.{Variance}
-use Rattle.nts_model.specs.declared.labels.Variance.TheVariants as variance
 use Rattle.nts_model.specs.declared.labels.AliasHead.{AliasHead}
 use Rattle.nts_model.specs.declared.labels.AliasHead.TheVariants as alias_of
 use Rattle.nts_model.specs.declared.labels.BoundVarIndexKind.TheVariants as index
@@ -14,8 +13,8 @@ use Rattle.nts_model.specs.declared.labels.Label.{Label}
 use Rattle.nts_model.specs.declared.labels.Label.TheVariants as label
 use Rattle.nts_model.specs.Trees.{Tree, empty, more, node, size, binders, is_alias, IsBoundBelow, IsClosedUnder, IsClosed, IsFormed}
 use Rattle.nts_model.specs.Contents.{Content}
-use Rattle.nts_model.specs.Resolving.{infer_of, variable_tree, resolved, Knows}
-use Rattle.nts_model.specs.Related.{rest_variances, arguments, alias_label, alias}
+use Rattle.nts_model.specs.Resolving.{infer_of, resolved, Knows}
+use Rattle.nts_model.specs.Related.{rest_variances, arguments}
 use Rattle.nts_model.specs.Relations.{Relating as Pair, AllKnown}
 use Rattle.nts_model.specs.Forms.{Form, a_constructor, a_function, a_value, an_alias, over, FitsForm, pairs_over}
 use Rattle.nts_model.specs.Measuring.{is_less, is_bound_below, unless_variable, closed_under, counted, closed_aliases}
@@ -23,7 +22,7 @@ use Rattle.nts_model.proofs.Kept.{variable_label}
 use Rattle.nts_model.proofs.Resolved.{resolved-empty, resolved-more, resolved-node}
 use Rattle.nts_model.proofs.Substituting.{no_children}
 use Rattle.nts_model.proofs.Variables.{infer_label}
-use Rattle.nts_unify.specs.Changing.{Keeps, unset_count}
+use Rattle.nts_unify.specs.Changing.{Keeps}
 use Rattle.nts_variance.specs.Equating.{aliases_of, sizes_of, unsolved}
 
 -- where no bound variable escapes from the resolved tree, none escapes from the tree

@@ -36,3 +36,4 @@ pub mod GoalLemmas
 mod Arguments
 pub mod SubRoots
 pub mod Plainly
+mod Bareness

@@ -6,8 +6,6 @@ use Rattle.nts_model.specs.declared.labels.Sort.{Sort}
 use Rattle.nts_model.specs.declared.labels.Sort.TheVariants as sort
 use Rattle.nts_model.specs.declared.labels.Variance.{Variance}
 use Rattle.nts_model.specs.declared.labels.Variance.TheVariants as variance
-use Rattle.nts_model.specs.declared.labels.VariableKind.TheVariants as kind
-use Rattle.nts_model.specs.declared.labels.Leaf.TheVariants as leaf
 use Rattle.nts_model.specs.declared.labels.TyHead.TheVariants as ty
 use Rattle.nts_model.specs.declared.labels.ConstHead.TheVariants as konst
 use Rattle.nts_model.specs.declared.labels.ListHead.TheVariants as list
@@ -15,7 +13,7 @@ use Rattle.nts_model.specs.declared.labels.Label.{Label}
 use Rattle.nts_model.specs.declared.labels.Label.TheVariants as label
 use Rattle.nts_model.specs.Trees.{Tree, empty, more, node, size, NodeKind, kind_of, kind_of_label, of_sort, arguments, sort_list, any_label, is_alias, is, a_type, any_argument, FitsPlace, HavePlaces, AllFit, IsRow, shape, IsFormed}
 use Rattle.nts_model.specs.Contents.{Content}
-use Rattle.nts_model.specs.Resolving.{variable_of, rooted_variable, rooted, resolved, deeply_resolved, Knows, IsSound}
+use Rattle.nts_model.specs.Resolving.{resolved, deeply_resolved, Knows, IsSound}
 use Rattle.nts_model.specs.Regions.{RegionName, name_of_label, IsRegion}
 use Rattle.nts_model.specs.Holding.{HoldsConstraint, Continues}
 use Rattle.nts_model.specs.Solvable.{IsSolvable}
@@ -37,6 +35,7 @@ use Rattle.nts_model.proofs.Fitting.{region_label}
 use Rattle.nts_model.proofs.Kept.{kind_of-deeply_resolved}
 use Rattle.nts_model.proofs.ResolvedTerms.{IsFormed-deeply_resolved}
 use Rattle.nts_model.proofs.Forms.{deeply_resolved-over}
+use Rattle.nts_relating.proofs.Plain.{plain_rooted}
 use Rattle.nts_relating.specs.Relating.{IsLike}
 use Rattle.nts_relating.proofs.Ranks.{kind_of-like, like_of-kinds}
 use Rattle.nts_relating.proofs.GenLemmas.{Meets-like}
@@ -276,27 +275,6 @@ alike_known d R a b k l (two_regions i j r) = two_regions i j (r, k, l)
 alike_known d R a b k l (one_label {c = c} {d = x} e h) = one_label e (alike_known d R c x k.1 l.1 h)
 alike_known d R a b k l (two_rows {a = x} {b = y} {c = z} {d = w} h j) = two_rows (alike_known d R x z k.0 l.0 h) (alike_known d R y w k.1 l.1 j)
 
-rooted_aliases : (c : Content) (t : Tree) → any_label is_alias (rooted c t) ≡ any_label is_alias t
-rooted_aliases c empty = refl
-rooted_aliases c (more a b) = (let p = rooted_aliases c a in let q = rooted_aliases c b in cc (p, q))
-rooted_aliases c (node l t) = (let p = same l in let q = rooted_aliases c t in cc (p, q))
-  where
-    same : (l : Label) → is_alias (rooted_variable c (variable_of l) l) ≡ is_alias l
-    same (label.Leaf (leaf.Variable kind.Ty n)) = refl
-    same (label.Leaf (leaf.Variable kind.Int n)) = refl
-    same (label.Leaf (leaf.Variable kind.Float n)) = refl
-    same (label.Leaf (leaf.Variable kind.Const n)) = refl
-    same (label.Leaf (leaf.Variable kind.Region n)) = refl
-    same (label.Leaf (leaf.Region r)) = refl
-    same (label.Leaf (leaf.TyConstant a)) = refl
-    same (label.Leaf (leaf.ConstConstant a)) = refl
-    same (label.Bound s i n) = refl
-    same (label.Ty h) = refl
-    same (label.Const h) = refl
-    same (label.Clause h) = refl
-    same (label.Predicate h) = refl
-    same (label.List h) = refl
-
 -- an argument that is invariant, or a const
 abbrev pub SettlesAlone : Variance → Option NodeKind → Type 0
 SettlesAlone v k = (v ≡ variance.Invariant) ⊎ (k ≡ Some (of_sort sort.Const))
@@ -329,7 +307,7 @@ module _ (declared : ℕ → List Variance) (d f : Content) (ks : List Tree) (so
       same = kind_of-deeply_resolved d t sound l
 
       clear : any_label is_alias (deeply_resolved d t) ≡ false
-      clear = rooted_aliases d (resolved d t) ∙ plain
+      clear = plain_rooted d (resolved d t) ∙ plain
 
       whole : IsFormed (deeply_resolved d t)
       whole = IsFormed-deeply_resolved d t sound (holds_terms d solvable) l formed

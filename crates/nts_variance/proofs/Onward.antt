@@ -1,15 +1,14 @@
 -- Pairs that are to be made equal, taken one after another.
-use Rattle.std.proofs.Common.{◌≡◌, ℕ, ◌+◌, ◌<◌, ◌≤◌, Bool, true, false, List, [], ◌∷◌, ◌++◌, refl, sym, ap, ◌∙◌, subst, arith}
+use Rattle.std.proofs.Common.{◌≡◌, ℕ, Bool, true, false, List, [], ◌∷◌, ◌++◌, sym, arith}
 use Rattle.nts_model.specs.declared.labels.Variance.{Variance}
 use Rattle.nts_model.specs.declared.labels.Variance.TheVariants as variance
 use Rattle.nts_model.specs.Trees.{Tree}
 use Rattle.nts_unify.specs.Entries.{Entries}
 use Rattle.nts_unify.specs.Reading.{content_of}
 use Rattle.nts_variance.specs.declared.along.Relating.{Relating}
-use Rattle.nts_variance.specs.Steps.{stacked}
 use Rattle.nts_variance.specs.Terms.{pair_at}
 use Rattle.nts_variance.specs.Pairs.{Refuses}
-use Rattle.nts_variance.specs.Equating.{AreInvariant, unsolved, IsReady, IsOn, AreRefused, IsEqualStep, AreEquating, IsEqualRun}
+use Rattle.nts_variance.specs.Equating.{AreInvariant, IsReady, IsOn, AreRefused, IsEqualStep, AreEquating, IsEqualRun}
 use Rattle.nts_variance.proofs.Calls.{call_refuses}
 
 pub invariant_front : (ps : List Relating) (q : Relating) → AreInvariant (ps ++ q ∷ []) → AreInvariant ps × (q.variance ≡ variance.Invariant)

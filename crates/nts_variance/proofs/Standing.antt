@@ -1,17 +1,17 @@
 -- A pair and the pair of its heads: what is done for the one serves the other.
-use Rattle.std.proofs.Common.{◌≡◌, ℕ, ◌<◌, List, [], ◌∷◌, ◌++◌, Some, refl, sym, ap, ◌∙◌, subst}
+use Rattle.std.proofs.Common.{◌≡◌, ℕ, ◌<◌, List, [], ◌∷◌, ◌++◌, refl, sym, ap, ◌∙◌, subst}
 use Rattle.nts_model.specs.declared.labels.Variance.{Variance}
 use Rattle.nts_model.specs.Contents.{Content}
 use Rattle.nts_model.specs.Trees.{Tree, size, kind_of}
-use Rattle.nts_model.specs.Resolving.{IsSound, Knows, resolved, rooted, deeply_resolved}
-use Rattle.nts_model.specs.Worlds.{World, inst, Solves}
-use Rattle.nts_model.specs.Holding.{AreOne, Continues, HoldsConstraint}
+use Rattle.nts_model.specs.Resolving.{Knows, rooted, deeply_resolved}
+use Rattle.nts_model.specs.Worlds.{inst}
+use Rattle.nts_model.specs.Holding.{AreOne, HoldsConstraint}
 use Rattle.nts_model.specs.Related.{Related}
 use Rattle.nts_model.specs.Sequents.{Among}
 use Rattle.nts_model.specs.Proving.{recorded_as}
 use Rattle.nts_model.specs.Judging.{Judging, Settles}
-use Rattle.nts_model.specs.Relations.{Relating as Pair, SettlesIn, AllSettleIn}
-use Rattle.nts_model.specs.Leaving.{Judge, judging_of}
+use Rattle.nts_model.specs.Relations.{Relating as Pair}
+use Rattle.nts_model.specs.Leaving.{judging_of}
 use Rattle.nts_model.proofs.Held.{AreOne-continues}
 use Rattle.nts_model.proofs.Kept.{kind_of-resolved}
 use Rattle.nts_store.specs.declared.nodes.NodeId.{NodeId}
@@ -24,8 +24,8 @@ use Rattle.nts_relating.specs.Relating.{IsHead}
 use Rattle.nts_variance.specs.declared.along.Relating.{Relating}
 use Rattle.nts_variance.specs.Steps.{stacked}
 use Rattle.nts_variance.specs.Terms.{pair_at, pairs_at}
-use Rattle.nts_variance.specs.Pairs.{Leaves, Refuses}
-use Rattle.nts_variance.specs.Taking.{IsSide, IsPair, Sense, HoldsIn, AllHoldIn, size_in, HoldBelow, Counts, IsUnderway, IsCall}
+use Rattle.nts_variance.specs.Pairs.{Refuses}
+use Rattle.nts_variance.specs.Taking.{IsSide, IsPair, Sense, HoldsIn, size_in, Counts, IsUnderway, IsCall}
 use Rattle.nts_variance.specs.Equating.{StandsFor, node_in, IsAt, ArePairHeads}
 use Rattle.nts_variance.proofs.Calls.{pairs_front}
 use Rattle.nts_variance.proofs.Pairing.{pairs_push}

@@ -327,17 +327,17 @@ module _ (declared : ℕ → List Variance) (z : Bool) (u x : ℕ) where
 
   -- a variable gives way to its value, and is owed what is made for that
   value_part : (ts : List Tree) (e : Entries) (s : Spot) (v : NodeId) (q : Bool) → IsPart ts (content_of ts e) s → IsIn ts v → v.number < 2 ^ 64 → IsValueOf (content_of ts e) (tree_at ts s.term) (tree_at ts v)
-      → IsPart ts (content_of ts e) (record { term = v; binders = 0; variance = s.variance; is_quiet = q })
+      → IsPart ts (content_of ts e) (record { term = v; binders = 0; variance = s.variance; is_quiet = q; is_searched = false })
   value_part ts e s v q p within room k =
       record { within = within; knows = k.knows; closed = k.closed; room = omega (arith, room); sort = p.sort; kind = k.value_sort ∙ sym k.own_sort ∙ p.kind }
 
   turn_value_here : (ts : List Tree) (e : Entries) (xs ys : List Task) (s : Spot) (v : NodeId) (ms : List NodeId) (gs : List Relating) → IsWalk ts e u x (xs ++ task.Enter s ∷ []) ms gs → s.is_quiet ≡ false → IsIn ts v → v.number < 2 ^ 64
-      → IsTypeValue (content_of ts e) (tree_at ts s.term) (tree_at ts v) → s.variance ≢ variance.Invariant → ys ≡ (xs ++ task.Owe s ∷ []) ++ task.Enter (record { term = v; binders = 0; variance = s.variance; is_quiet = true }) ∷ [] → IsTurn declared z u x ts ts e e (xs ++ task.Enter s ∷ []) ys ms ms gs gs
+      → IsTypeValue (content_of ts e) (tree_at ts s.term) (tree_at ts v) → s.variance ≢ variance.Invariant → ys ≡ (xs ++ task.Owe s ∷ []) ++ task.Enter (record { term = v; binders = 0; variance = s.variance; is_quiet = true; is_searched = false }) ∷ [] → IsTurn declared z u x ts ts e e (xs ++ task.Enter s ∷ []) ys ms ms gs gs
   turn_value_here ts e xs ys s v ms gs w loud within room value varies is =
       let c = content_of ts e in
       let t = tree_at ts s.term in
       let k = value.value in
-      let next : Task = task.Enter (record { term = v; binders = 0; variance = s.variance; is_quiet = true }) in
+      let next : Task = task.Enter (record { term = v; binders = 0; variance = s.variance; is_quiet = true; is_searched = false }) in
       let front = AreTasks-front ts c xs (task.Enter s) w.tasks in
       let rest = stacked (step_at ts) xs in
       let kinds = stacked (λ y. kind_of (tree_at ts y)) ms in
@@ -365,11 +365,11 @@ module _ (declared : ℕ → List Variance) (z : Bool) (u x : ℕ) where
 
   -- .. or gives way to its value alone
   turn_value_on_here : (ts : List Tree) (e : Entries) (xs ys : List Task) (s : Spot) (v : NodeId) (q : Bool) (ms : List NodeId) (gs : List Relating) → IsWalk ts e u x (xs ++ task.Enter s ∷ []) ms gs → s.is_quiet ≡ q → IsIn ts v → v.number < 2 ^ 64
-      → IsValueOf (content_of ts e) (tree_at ts s.term) (tree_at ts v) → ys ≡ xs ++ task.Enter (record { term = v; binders = 0; variance = s.variance; is_quiet = q }) ∷ [] → IsTurn declared z u x ts ts e e (xs ++ task.Enter s ∷ []) ys ms ms gs gs
+      → IsValueOf (content_of ts e) (tree_at ts s.term) (tree_at ts v) → ys ≡ xs ++ task.Enter (record { term = v; binders = 0; variance = s.variance; is_quiet = q; is_searched = false }) ∷ [] → IsTurn declared z u x ts ts e e (xs ++ task.Enter s ∷ []) ys ms ms gs gs
   turn_value_on_here ts e xs ys s v q ms gs w quiet within room k is =
       let c = content_of ts e in
       let t = tree_at ts s.term in
-      let next : Task = task.Enter (record { term = v; binders = 0; variance = s.variance; is_quiet = q }) in
+      let next : Task = task.Enter (record { term = v; binders = 0; variance = s.variance; is_quiet = q; is_searched = false }) in
       let front = AreTasks-front ts c xs (task.Enter s) w.tasks in
       let rest = stacked (step_at ts) xs in
       let kinds = stacked (λ y. kind_of (tree_at ts y)) ms in
@@ -427,17 +427,17 @@ module _ (declared : ℕ → List Variance) (z : Bool) (u x : ℕ) where
 
   -- .. where a look left the store, the table and the goals as they were
   pub turn_value : (ts us : List Tree) (e f : Entries) (xs ys : List Task) (s : Spot) (v : NodeId) (ms : List NodeId) (gs hs : List Relating) → IsWalk ts e u x (xs ++ task.Enter s ∷ []) ms gs → us ≡ ts → f ≡ e → hs ≡ gs → s.is_quiet ≡ false → IsIn ts v → v.number < 2 ^ 64
-      → IsTypeValue (content_of ts e) (tree_at ts s.term) (tree_at ts v) → s.variance ≢ variance.Invariant → ys ≡ (xs ++ task.Owe s ∷ []) ++ task.Enter (record { term = v; binders = 0; variance = s.variance; is_quiet = true }) ∷ [] → IsTurn declared z u x ts us e f (xs ++ task.Enter s ∷ []) ys ms ms gs hs
+      → IsTypeValue (content_of ts e) (tree_at ts s.term) (tree_at ts v) → s.variance ≢ variance.Invariant → ys ≡ (xs ++ task.Owe s ∷ []) ++ task.Enter (record { term = v; binders = 0; variance = s.variance; is_quiet = true; is_searched = false }) ∷ [] → IsTurn declared z u x ts us e f (xs ++ task.Enter s ∷ []) ys ms ms gs hs
   turn_value ts us e f xs ys s v ms gs hs w store table goals loud within room value varies is =
       rw (store, table, goals) (turn_value_here ts e xs ys s v ms gs w loud within room value varies is)
 
   pub turn_value_on : (ts us : List Tree) (e f : Entries) (xs ys : List Task) (s : Spot) (v : NodeId) (q : Bool) (ms : List NodeId) (gs hs : List Relating) → IsWalk ts e u x (xs ++ task.Enter s ∷ []) ms gs → us ≡ ts → f ≡ e → hs ≡ gs → s.is_quiet ≡ q → IsIn ts v → v.number < 2 ^ 64
-      → IsValueOf (content_of ts e) (tree_at ts s.term) (tree_at ts v) → ys ≡ xs ++ task.Enter (record { term = v; binders = 0; variance = s.variance; is_quiet = q }) ∷ [] → IsTurn declared z u x ts us e f (xs ++ task.Enter s ∷ []) ys ms ms gs hs
+      → IsValueOf (content_of ts e) (tree_at ts s.term) (tree_at ts v) → ys ≡ xs ++ task.Enter (record { term = v; binders = 0; variance = s.variance; is_quiet = q; is_searched = false }) ∷ [] → IsTurn declared z u x ts us e f (xs ++ task.Enter s ∷ []) ys ms ms gs hs
   turn_value_on ts us e f xs ys s v q ms gs hs w store table goals quiet within room value is =
       rw (store, table, goals) (turn_value_on_here ts e xs ys s v q ms gs w quiet within room value is)
 
   pub turn_value_quietly : (ts us : List Tree) (e f : Entries) (xs ys : List Task) (s : Spot) (v : NodeId) (ms : List NodeId) (gs hs : List Relating) → IsWalk ts e u x (xs ++ task.Enter s ∷ []) ms gs → us ≡ ts → f ≡ e → hs ≡ gs → s.is_quiet ≡ true → IsIn ts v → v.number < 2 ^ 64
-      → IsTypeValue (content_of ts e) (tree_at ts s.term) (tree_at ts v) → ys ≡ xs ++ task.Enter (record { term = v; binders = 0; variance = s.variance; is_quiet = true }) ∷ [] → IsTurn declared z u x ts us e f (xs ++ task.Enter s ∷ []) ys ms ms gs hs
+      → IsTypeValue (content_of ts e) (tree_at ts s.term) (tree_at ts v) → ys ≡ xs ++ task.Enter (record { term = v; binders = 0; variance = s.variance; is_quiet = true; is_searched = false }) ∷ [] → IsTurn declared z u x ts us e f (xs ++ task.Enter s ∷ []) ys ms ms gs hs
   turn_value_quietly ts us e f xs ys s v ms gs hs w store table goals quiet within room value is =
       turn_value_on ts us e f xs ys s v true ms gs hs w store table goals quiet within room value.value is
 
@@ -597,8 +597,8 @@ module _ (declared : ℕ → List Variance) (z : Bool) (u x : ℕ) where
       }
 
   -- the walk begins with the whole
-  pub walk_start : (ts : List Tree) (e : Entries) (v : Variance) (t : NodeId) (ys : List Task) → IsLawful ts e → IsPart ts (content_of ts e) (record { term = t; binders = 0; variance = v; is_quiet = false }) → (IsInfer (tree_at ts t) → ⊥) → u ≤ e.universe → x < length e.variables → kind_at (content_of ts e) x ≢ Some kind.Region
-      → ys ≡ task.Enter (record { term = t; binders = 0; variance = v; is_quiet = false }) ∷ [] → IsWalk ts e u x ys [] []
+  pub walk_start : (ts : List Tree) (e : Entries) (v : Variance) (t : NodeId) (ys : List Task) → IsLawful ts e → IsPart ts (content_of ts e) (record { term = t; binders = 0; variance = v; is_quiet = false; is_searched = false }) → (IsInfer (tree_at ts t) → ⊥) → u ≤ e.universe → x < length e.variables → kind_at (content_of ts e) x ≢ Some kind.Region
+      → ys ≡ task.Enter (record { term = t; binders = 0; variance = v; is_quiet = false; is_searched = false }) ∷ [] → IsWalk ts e u x ys [] []
   walk_start ts e v t ys lawful part none named known no_region is =
       rw is (record {
         lawful = lawful;
@@ -625,8 +625,8 @@ module _ (declared : ℕ → List Variance) (z : Bool) (u x : ℕ) where
     pub walk : IsWalk us f u x ys ns hs
     pub walks : Walks declared z u (content_of ts e) (content_of us f) (enter v false (tree_at ts t) ∷ []) (stacked (step_at us) ys) [] (stacked (tree_at us) ns) [] (pairs_at us hs)
 
-  pub run_start : (ts : List Tree) (e : Entries) (v : Variance) (t : NodeId) (ys : List Task) → IsLawful ts e → IsPart ts (content_of ts e) (record { term = t; binders = 0; variance = v; is_quiet = false }) → (IsInfer (tree_at ts t) → ⊥) → u ≤ e.universe → x < length e.variables → kind_at (content_of ts e) x ≢ Some kind.Region
-      → ys ≡ task.Enter (record { term = t; binders = 0; variance = v; is_quiet = false }) ∷ [] → WalkRun ts e ts e v t ys [] []
+  pub run_start : (ts : List Tree) (e : Entries) (v : Variance) (t : NodeId) (ys : List Task) → IsLawful ts e → IsPart ts (content_of ts e) (record { term = t; binders = 0; variance = v; is_quiet = false; is_searched = false }) → (IsInfer (tree_at ts t) → ⊥) → u ≤ e.universe → x < length e.variables → kind_at (content_of ts e) x ≢ Some kind.Region
+      → ys ≡ task.Enter (record { term = t; binders = 0; variance = v; is_quiet = false; is_searched = false }) ∷ [] → WalkRun ts e ts e v t ys [] []
   run_start ts e v t ys lawful part none named known no_region is =
       record {
         lawful = lawful;

@@ -11,3 +11,4 @@ pub mod Equating
 pub mod Goals
 pub mod Rows
 pub mod SubRoots
+pub mod Bare

@@ -276,7 +276,8 @@ fn take_equal(
     }
 }
 
-/// A call under way: the pairs that are to be made equal, the newest last, those whose parts were pushed, and the goals that are left.
+/// A call under way: the pairs that are to be made equal, the newest last, those whose parts were pushed or that became goals, and the
+/// goals that are left.
 #[derive(Drop)]
 pub struct Equals {
     pub pairs: Vec<Relating>,
@@ -284,7 +285,8 @@ pub struct Equals {
     pub goals: Vec<Relating>,
 }
 
-/// Takes one pair, and says whether a variable got a value. The parts of two nodes are pushed once in a call.
+/// Takes one pair, and says whether a variable got a value. The parts of two nodes are pushed once in a call, and a pair becomes a
+/// goal once.
 fn step(
     alloc: Global,
     nodes: &mut Nodes,
@@ -308,6 +310,9 @@ fn step(
         Ok(Taken::Done) => Ok(false),
         Ok(Taken::Equal) => Ok(false),
         Ok(Taken::Owed) => {
+            if !call.met.insert(pair)? {
+                return Ok(false);
+            }
             call.goals.push(pair)?;
             Ok(false)
         }

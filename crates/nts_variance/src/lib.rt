@@ -5,6 +5,7 @@
 mod along;
 mod equating;
 mod goals;
+mod hiding;
 mod parts;
 mod rows;
 mod splitting;

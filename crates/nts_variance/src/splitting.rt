@@ -454,7 +454,8 @@ pub fn push_pairs(
     Ok(())
 }
 
-/// A call under way: the pairs that are to be taken, the newest last, those whose parts were pushed, and what is left.
+/// A call under way: the pairs that are to be taken, the newest last, those whose parts were pushed or that are left, and what is
+/// left.
 #[derive(Drop)]
 pub struct Call {
     pub pairs: Vec<Relating>,
@@ -463,7 +464,8 @@ pub struct Call {
     pub goals: Vec<Relating>,
 }
 
-/// Takes one pair. The parts of two nodes are pushed once in a call: what was met before is related as soon as what is left is.
+/// Takes one pair. The parts of two nodes are pushed once in a call, and a pair is left once: what was met before is related as soon
+/// as what is left is.
 fn step(
     alloc: Global,
     nodes: &mut Nodes,
@@ -485,10 +487,16 @@ fn step(
         Err(error) => Err(error),
         Ok(Taken::Done) => Ok(()),
         Ok(Taken::Equal) => {
+            if !call.met.insert(pair)? {
+                return Ok(());
+            }
             call.equal.push(pair)?;
             Ok(())
         }
         Ok(Taken::Owed) => {
+            if !call.met.insert(pair)? {
+                return Ok(());
+            }
             call.goals.push(pair)?;
             Ok(())
         }

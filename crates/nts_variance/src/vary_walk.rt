@@ -21,6 +21,7 @@ ghost use Rattle.nts_variance.specs.Terms.{step_at, pairs_at, IsPart};
 ghost use Rattle.nts_variance.specs.Varying.{pair_in, owed_pairs, constraint_of, with_owed, fresh, IsLook, LookRefuses, IsMadeAgain, ArePartsPushed, IsWalk, IsTurn, IsVaried, WalkRefuses};
 
 use crate::along::Relating;
+use crate::hiding::hides_nothing;
 use crate::parts::{has_parts, holder, variance_of_part};
 use crate::variance::{opposite, times};
 use nts_model::{ConstHead, Label, Leaf, Relation, TyHead, VariableKind, Variance};
@@ -28,7 +29,7 @@ use nts_relating::{Target as ValueTarget, generalize};
 use nts_store::{EvalError, NodeId, Nodes, TypeFlags, binders_of, may_vary};
 use nts_terms::{Declarations, UniverseIndex};
 use nts_unify::{Constraint, InferCtxtInner, add_variable, infer_number};
-use std::alloc::Global;
+use std::alloc::{AllocError, Global};
 
 /// What a term is made for: the variable that is to stand for it, the universe that bounds what is fresh, and whether what is
 /// made stands right in the pair.
@@ -39,14 +40,15 @@ pub struct Target {
     pub is_turned: bool,
 }
 
-/// A part of the term, how many binders stand around it, how it varies with the whole, and whether a goal around it says all that
-/// it owes.
+/// A part of the term, how many binders stand around it, how it varies with the whole, whether a goal around it says all that it
+/// owes, and whether it is of an invariant part behind whose variables something may hide: so far as is known.
 #[derive(Clone, Copy)]
 pub struct Spot {
     pub term: NodeId,
     pub binders: usize,
     pub variance: Variance,
     pub is_quiet: bool,
+    pub is_searched: bool,
 }
 
 /// What is left to do. A term may be nested very deep, so this stands on the heap.
@@ -302,6 +304,25 @@ fn look_at_value(
     }
 }
 
+/// Whether a part without aliases is seen to hide none behind its variables. Where a part may hide some, its parts are not searched
+/// again, each of which would take as long.
+fn is_seen_plain(
+    alloc: Global,
+    nodes: &Nodes,
+    table: &InferCtxtInner,
+    spot: Spot,
+) -> Result<bool, AllocError>
+    requires lawful { IsLawful nodes.now table.now.entries }
+    requires within { IsIn nodes.now spot.term }
+    requires plain { any_label is_alias (tree_at nodes.now spot.term) ≡ false }
+    ensures { IfOk result (λ b. b ≡ true → any_label is_alias (resolved (content_of nodes.now table.now.entries) (tree_at nodes.now spot.term)) ≡ false) }
+{
+    if spot.is_searched {
+        return Ok(false);
+    }
+    hides_nothing(alloc, nodes, table, spot.term)
+}
+
 /// What a part without aliases is that stands as it is: related invariantly, a const, or one in which nothing may vary. A variable's
 /// value may have aliases.
 fn look_at_piece(
@@ -336,6 +357,10 @@ fn look_at_piece(
         if let Ok(value) = table.probe_variable(n) {
             return Ok(Look::Through(value));
         }
+        return look_at_value(alloc, nodes, table, target, spot);
+    }
+    // Made at once, what the part has many times is made once.
+    if is_seen_plain(alloc, nodes, table, spot)? {
         return look_at_value(alloc, nodes, table, target, spot);
     }
     Ok(Look::Node)
@@ -408,6 +433,7 @@ fn push_parts(
     let row = holder(nodes, spot.term);
     tasks.push(Task::Build(spot.term))?;
     let count = nodes.child_count(row);
+    let is_searched = spot.variance == Variance::Invariant && !nodes.flags(spot.term).has_alias;
     let mut i = count;
     while i > 0 {
         i -= 1;
@@ -417,6 +443,7 @@ fn push_parts(
             binders: spot.binders + binders_of(label),
             variance: times(spot.variance, argument),
             is_quiet: spot.is_quiet,
+            is_searched,
         }))?;
     }
     Ok(())
@@ -451,6 +478,7 @@ fn enter(
                 binders: 0,
                 variance: spot.variance,
                 is_quiet: true,
+                is_searched: false,
             });
             if spot.is_quiet {
                 walk.tasks.push(copied)?;
@@ -464,6 +492,7 @@ fn enter(
             walk.tasks.push(Task::Enter(Spot {
                 term,
                 binders: 0,
+                is_searched: false,
                 ..spot
             }))?;
             Ok(())
@@ -571,7 +600,7 @@ pub fn vary(
     term: NodeId,
 ) -> Result<Varied, EvalError>
     requires lawful { IsLawful nodes.old table.old.entries }
-    requires part { IsPart nodes.old (content_of nodes.old table.old.entries) (record { term = term; binders = 0; variance = variance; is_quiet = false }) }
+    requires part { IsPart nodes.old (content_of nodes.old table.old.entries) (record { term = term; binders = 0; variance = variance; is_quiet = false; is_searched = false }) }
     requires node { IsInfer (tree_at nodes.old term) → ⊥ }
     requires known { target.variable < length table.old.entries.variables }
     requires named { target.universe ≤ table.old.entries.universe }
@@ -592,6 +621,7 @@ pub fn vary(
         binders: 0,
         variance,
         is_quiet: false,
+        is_searched: false,
     }))?;
     while let Some(task) = walk.tasks.pop() {
         match step(alloc, nodes, declarations, table, &mut walk, target, task) {

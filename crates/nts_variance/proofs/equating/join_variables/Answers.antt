@@ -1,7 +1,5 @@
-use Rattle.std.proofs.Common.{◌≡◌, ◌+◌, ◌<◌, arith}
+use Rattle.std.proofs.Common.{arith}
 use Rattle.nts_store.specs.Growth.{tree_at}
-use Rattle.nts_model.specs.Measuring.{closed_aliases}
-use Rattle.nts_model.specs.Resolving.{resolved}
 use Rattle.nts_unify.specs.Reading.{content_of}
 use Rattle.nts_unify.proofs.Keeping.{Keeps-refl}
 use Rattle.nts_relating.proofs.PairLemmas.{err_of}

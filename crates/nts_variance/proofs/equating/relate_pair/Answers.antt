@@ -1,11 +1,9 @@
 use Rattle.std.proofs.Common.{rules, ◌≡◌, ◌++◌, ◌∷◌, [], refl}
-use Rattle.nts_store.specs.Growth.{tree_at}
 use Rattle.nts_store.proofs.Growing.{Extends-trans}
 use Rattle.nts_terms.specs.Signatures.{variances_in}
 use Rattle.nts_unify.specs.Reading.{content_of}
 use Rattle.nts_unify.proofs.Keeping.{KeepsHidden-trans}
 use Rattle.nts_relating.proofs.PairLemmas.{err_of}
-use Rattle.nts_variance.specs.Taking.{IsCall}
 use Rattle.nts_variance.proofs.Calls.{call_again, call_back, call_end, call_forgets, call_refuses, pairs_front, waits_front}
 use Rattle.nts_variance.proofs.Exact.{waits_one}
 use Rattle.nts_variance.proofs.equating.relate_pair.Goals as goal

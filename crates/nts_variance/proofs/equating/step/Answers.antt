@@ -1,13 +1,8 @@
 use Rattle.std.proofs.Common.{◌≡◌, ◌++◌, ◌∙◌, ap}
-use Rattle.nts_store.specs.Growth.{tree_at}
 use Rattle.nts_terms.specs.Signatures.{variances_in}
-use Rattle.nts_unify.specs.Entries.{Entries}
-use Rattle.nts_unify.specs.Reading.{content_of}
 use Rattle.nts_unify.proofs.Tests.{is_true, is_false}
-use Rattle.nts_relating.proofs.PairLemmas.{err_of}
 use Rattle.nts_variance.proofs.Equalled.{ready_front, heads_one, heads_standing, heads_ready, step_done, step_owed, step_passed, step_bound, step_parts, step_stands}
 use Rattle.nts_variance.proofs.MetGoals.{met_among, met_keys, new_keys}
-use Rattle.nts_variance.proofs.Standing.{refuses_stands}
 use Rattle.nts_variance.proofs.equating.step.Goals as goal
 
 pub at_heads-heads-requires-clause-pair : goal.at_heads-heads-requires-clause-pair
@@ -37,8 +32,10 @@ returns-in_ok-push-in-Ok-Owed-clause-step c =
     let h = c.at_heads-heads.result in
     let are = c.at_heads-heads.ensures in
     let t = rw c.in-Ok-Owed.field-0-is at c.in-Ok-Owed.ensures.taken in
-    rw (t.0, t.1) (step_stands declared ts ts e e call.pairs.items c.args.pair h.pair call.pairs.items call.met.keys call.met.keys call.goals.items c.push.new.self.items _ (heads_standing declared ts e call.pairs.items c.args.pair h c.requires.ready are)
-    (step_owed declared ts e call.pairs.items h.pair call.met.keys call.goals.items c.push.new.self.items (heads_ready declared ts e call.pairs.items c.args.pair h c.requires.ready are) t.2 c.in_ok-push-in-Ok-Owed.ensures.items))
+    let s = c.in_ok-insert-in-Ok-Owed.ensures in
+    let lacks = is_false _ _ s.added c.if-not-branch.false in
+    rw (t.0, t.1) (step_stands declared ts ts e e call.pairs.items c.args.pair h.pair call.pairs.items call.met.keys c.insert.new.self.keys call.goals.items c.push.new.self.items _ (heads_standing declared ts e call.pairs.items c.args.pair h c.requires.ready are)
+    (step_owed declared ts e call.pairs.items h.pair call.met.keys c.insert.new.self.keys call.goals.items c.push.new.self.items (heads_ready declared ts e call.pairs.items c.args.pair h c.requires.ready are) t.2 c.in_ok-push-in-Ok-Owed.ensures.items (s.keys ∙ new_keys call.met.keys h.pair lacks)))
 
 pub returns-in_ok-extend_from_slice-in-Ok-Bound-clause-step : goal.returns-in_ok-extend_from_slice-in-Ok-Bound-clause-step
 returns-in_ok-extend_from_slice-in-Ok-Bound-clause-step c =
@@ -64,11 +61,25 @@ returns-then-not-branch-clause-step c =
     let call = c.args.call.now in
     let h = c.at_heads-heads.result in
     let are = c.at_heads-heads.ensures in
-    let t = rw c.in-Ok-Parts.field-0-is at c.in-Ok-Parts.ensures.taken in
-    let s = c.in_ok-insert-in-Ok-Parts.ensures in
+    let t = rw c.in-Ok-Owed.field-0-is at c.in-Ok-Owed.ensures.taken in
+    let s = c.in_ok-insert-in-Ok-Owed.ensures in
     let found = is_true _ _ s.added c.if-not-branch.true in
     rw (t.0, t.1) (step_stands declared ts ts e e call.pairs.items c.args.pair h.pair call.pairs.items call.met.keys c.insert.new.self.keys call.goals.items call.goals.items _ (heads_standing declared ts e call.pairs.items c.args.pair h c.requires.ready are)
     (step_passed declared ts e call.pairs.items h.pair call.met.keys c.insert.new.self.keys call.goals.items (heads_ready declared ts e call.pairs.items c.args.pair h c.requires.ready are) (met_among ts call.met.keys h.pair found) (s.keys ∙ met_keys call.met.keys h.pair found)))
+
+pub returns-then-not-branch-2-clause-step : goal.returns-then-not-branch-2-clause-step
+returns-then-not-branch-2-clause-step c =
+    let declared = variances_in c.args.declarations.now in
+    let ts = c.args.nodes.now in
+    let e = c.args.table.now.entries in
+    let call = c.args.call.now in
+    let h = c.at_heads-heads.result in
+    let are = c.at_heads-heads.ensures in
+    let t = rw c.in-Ok-Parts.field-0-is at c.in-Ok-Parts.ensures.taken in
+    let s = c.in_ok-insert-in-Ok-Parts.ensures in
+    let found = is_true _ _ s.added c.if-not-branch-2.true in
+    rw (t.0, t.1) (step_stands declared ts ts e e call.pairs.items c.args.pair h.pair call.pairs.items call.met.keys c.insert-in-Ok-Parts.new.self.keys call.goals.items call.goals.items _ (heads_standing declared ts e call.pairs.items c.args.pair h c.requires.ready are)
+    (step_passed declared ts e call.pairs.items h.pair call.met.keys c.insert-in-Ok-Parts.new.self.keys call.goals.items (heads_ready declared ts e call.pairs.items c.args.pair h c.requires.ready are) (met_among ts call.met.keys h.pair found) (s.keys ∙ met_keys call.met.keys h.pair found)))
 
 pub returns-in_ok-push_pairs-in-Ok-Parts-clause-step : goal.returns-in_ok-push_pairs-in-Ok-Parts-clause-step
 returns-in_ok-push_pairs-in-Ok-Parts-clause-step c =
@@ -80,10 +91,10 @@ returns-in_ok-push_pairs-in-Ok-Parts-clause-step c =
     let are = c.at_heads-heads.ensures in
     let t = rw c.in-Ok-Parts.field-0-is at c.in-Ok-Parts.ensures.taken in
     let s = c.in_ok-insert-in-Ok-Parts.ensures in
-    let lacks = is_false _ _ s.added c.if-not-branch.false in
+    let lacks = is_false _ _ s.added c.if-not-branch-2.false in
     let pushed = rw t.0 at c.in_ok-push_pairs-in-Ok-Parts.ensures.pushed in
-    rw (t.0, t.1) (step_stands declared ts ts e e call.pairs.items c.args.pair h.pair c.push_pairs.new.pairs.items call.met.keys c.insert.new.self.keys call.goals.items call.goals.items _ (heads_standing declared ts e call.pairs.items c.args.pair h c.requires.ready are)
-    (step_parts declared ts e call.pairs.items h.pair c.push_pairs.new.pairs.items call.met.keys c.insert.new.self.keys call.goals.items (heads_one ts e c.args.pair h are c.requires.one) (heads_ready declared ts e call.pairs.items c.args.pair h c.requires.ready are) t.2 pushed (s.keys ∙ new_keys call.met.keys h.pair lacks)))
+    rw (t.0, t.1) (step_stands declared ts ts e e call.pairs.items c.args.pair h.pair c.push_pairs.new.pairs.items call.met.keys c.insert-in-Ok-Parts.new.self.keys call.goals.items call.goals.items _ (heads_standing declared ts e call.pairs.items c.args.pair h c.requires.ready are)
+    (step_parts declared ts e call.pairs.items h.pair c.push_pairs.new.pairs.items call.met.keys c.insert-in-Ok-Parts.new.self.keys call.goals.items (heads_one ts e c.args.pair h are c.requires.one) (heads_ready declared ts e call.pairs.items c.args.pair h c.requires.ready are) t.2 pushed (s.keys ∙ new_keys call.met.keys h.pair lacks)))
 
 pub take_equal-requires-clause-one : goal.take_equal-requires-clause-one
 take_equal-requires-clause-one c = heads_one c.args.nodes.now c.args.table.now.entries c.args.pair c.at_heads-heads.result c.at_heads-heads.ensures c.requires.one

@@ -1,7 +1,4 @@
-use Rattle.std.proofs.Common.{◌≡◌, sym, subst}
-use Rattle.nts_model.specs.Trees.{Tree}
-use Rattle.nts_store.specs.Growth.{tree_at}
-use Rattle.nts_variance.proofs.GoalLemmas.{FitPlaces, ordered_places, places_kept}
+use Rattle.nts_variance.proofs.GoalLemmas.{ordered_places, places_kept}
 use Rattle.nts_variance.proofs.goals.predicate_of.Goals as goal
 
 pub make-requires-2-clause-formed : goal.make-requires-2-clause-formed

@@ -1,12 +1,11 @@
 use Rattle.std.proofs.Common.{◌≡◌, [], ◌∷◌, ◌++◌, sym, ap, ◌∙◌}
 use Rattle.std.proofs.lemmas.List.{append-nil}
-use Rattle.nts_store.proofs.Growing.{Extends-refl}
 use Rattle.nts_terms.specs.Signatures.{variances_in}
 use Rattle.nts_unify.specs.Reading.{content_of}
 use Rattle.nts_unify.proofs.Tests.{is_true, is_false}
 use Rattle.nts_variance.specs.Terms.{pair_at}
 use Rattle.nts_variance.specs.Taking.{ArePartsPaired}
-use Rattle.nts_variance.proofs.Calls.{pairs_front, pair_known, call_taken, call_parts, call_passed, taken_less, parts_less}
+use Rattle.nts_variance.proofs.Calls.{pairs_front, pair_known, call_taken, call_left, call_parts, call_passed, taken_less, parts_less}
 use Rattle.nts_variance.proofs.MetGoals.{met_among, met_keys, new_keys, map_ok}
 use Rattle.nts_variance.proofs.Underway.{takes_left, takes_owed}
 use Rattle.nts_variance.proofs.splitting.step.Goals as goal
@@ -30,7 +29,9 @@ returns-in_ok-push-in-Ok-Equal-clause-call c = λ ts e p u.
     let f = c.args.table.now.entries in
     let q = c.args.pair in
     let call = c.args.call.now in
-    rw (t.0, t.1) (call_taken (variances_in c.args.declarations.now) ts us us e f f p q call.pairs.items call.met.keys call.equal.items call.goals.items (q ∷ []) [] c.push.new.self.items call.goals.items u (Extends-refl us) c.requires.lawful ((pairs_front us (content_of us f) call.pairs.items q c.requires.pairs).1, tt) (t.2, tt) tt tt (takes_left (variances_in c.args.declarations.now) (content_of us f) (pair_at us q) c.requires.lawful.sound) c.in_ok-push-in-Ok-Equal.ensures.items (sym (append-nil call.goals.items)))
+    let s = c.in_ok-insert-in-Ok-Equal.ensures in
+    let lacks = is_false _ _ s.added c.if-not-branch.false in
+    rw (t.0, t.1) (call_left (variances_in c.args.declarations.now) ts us e f p q call.pairs.items call.met.keys c.insert.new.self.keys call.equal.items call.goals.items (q ∷ []) [] c.push.new.self.items call.goals.items u ((pairs_front us (content_of us f) call.pairs.items q c.requires.pairs).1, tt) (t.2, tt) tt tt (takes_left (variances_in c.args.declarations.now) (content_of us f) (pair_at us q) c.requires.lawful.sound) c.in_ok-push-in-Ok-Equal.ensures.items (sym (append-nil call.goals.items)) (s.keys ∙ new_keys call.met.keys q lacks))
 
 pub returns-in_ok-push-in-Ok-Equal-clause-less : goal.returns-in_ok-push-in-Ok-Equal-clause-less
 returns-in_ok-push-in-Ok-Equal-clause-less c = taken_less (variances_in c.args.declarations.now) c.args.nodes.now c.take.new.nodes (content_of c.args.nodes.now c.args.table.now.entries) c.args.call.now.pairs.items c.args.pair c.in-Ok-Equal.ensures.extends c.requires.pairs
@@ -43,7 +44,9 @@ returns-in_ok-push-in-Ok-Owed-clause-call c = λ ts e p u.
     let q = c.args.pair in
     let call = c.args.call.now in
     let known = pair_known us (content_of us f) q (pairs_front us (content_of us f) call.pairs.items q c.requires.pairs).1 in
-    rw (t.0, t.1) (call_taken (variances_in c.args.declarations.now) ts us us e f f p q call.pairs.items call.met.keys call.equal.items call.goals.items [] (q ∷ []) call.equal.items c.push-in-Ok-Owed.new.self.items u (Extends-refl us) c.requires.lawful tt tt known (t.2, tt) (takes_owed (variances_in c.args.declarations.now) (content_of us f) (pair_at us q) c.requires.lawful.sound) (sym (append-nil call.equal.items)) c.in_ok-push-in-Ok-Owed.ensures.items)
+    let s = c.in_ok-insert-in-Ok-Owed.ensures in
+    let lacks = is_false _ _ s.added c.if-not-branch-2.false in
+    rw (t.0, t.1) (call_left (variances_in c.args.declarations.now) ts us e f p q call.pairs.items call.met.keys c.insert-in-Ok-Owed.new.self.keys call.equal.items call.goals.items [] (q ∷ []) call.equal.items c.push-in-Ok-Owed.new.self.items u tt tt known (t.2, tt) (takes_owed (variances_in c.args.declarations.now) (content_of us f) (pair_at us q) c.requires.lawful.sound) (sym (append-nil call.equal.items)) c.in_ok-push-in-Ok-Owed.ensures.items (s.keys ∙ new_keys call.met.keys q lacks))
 
 pub returns-in_ok-push-in-Ok-Owed-clause-less : goal.returns-in_ok-push-in-Ok-Owed-clause-less
 returns-in_ok-push-in-Ok-Owed-clause-less c = taken_less (variances_in c.args.declarations.now) c.args.nodes.now c.take.new.nodes (content_of c.args.nodes.now c.args.table.now.entries) c.args.call.now.pairs.items c.args.pair c.in-Ok-Owed.ensures.extends c.requires.pairs
@@ -60,29 +63,53 @@ returns-in_ok-extend_from_slice-in-Ok-Bound-clause-less c = taken_less (variance
 
 pub returns-then-not-branch-clause-call : goal.returns-then-not-branch-clause-call
 returns-then-not-branch-clause-call c = λ ts e p u.
-    let t = rw c.in-Ok-Parts.field-0-is at c.in-Ok-Parts.ensures.taken in
+    let t = rw c.in-Ok-Equal.field-0-is at c.in-Ok-Equal.ensures.taken in
     let us = c.args.nodes.now in
     let call = c.args.call.now in
-    let s = c.in_ok-insert-in-Ok-Parts.ensures in
+    let s = c.in_ok-insert-in-Ok-Equal.ensures in
     let found = is_true _ _ s.added c.if-not-branch.true in
     rw (t.0, t.1) (call_passed (variances_in c.args.declarations.now) ts us e c.args.table.now.entries p c.args.pair call.pairs.items call.met.keys c.insert.new.self.keys call.equal.items call.goals.items u (met_among us call.met.keys c.args.pair found) (s.keys ∙ met_keys call.met.keys c.args.pair found))
 
 pub returns-then-not-branch-clause-less : goal.returns-then-not-branch-clause-less
-returns-then-not-branch-clause-less c = taken_less (variances_in c.args.declarations.now) c.args.nodes.now c.take.new.nodes (content_of c.args.nodes.now c.args.table.now.entries) c.args.call.now.pairs.items c.args.pair c.in-Ok-Parts.ensures.extends c.requires.pairs
+returns-then-not-branch-clause-less c = taken_less (variances_in c.args.declarations.now) c.args.nodes.now c.take.new.nodes (content_of c.args.nodes.now c.args.table.now.entries) c.args.call.now.pairs.items c.args.pair c.in-Ok-Equal.ensures.extends c.requires.pairs
 
-pub returns-else-not-branch-clause-call : goal.returns-else-not-branch-clause-call
-returns-else-not-branch-clause-call c = λ ts e p u.
+pub returns-then-not-branch-2-clause-call : goal.returns-then-not-branch-2-clause-call
+returns-then-not-branch-2-clause-call c = λ ts e p u.
+    let t = rw c.in-Ok-Owed.field-0-is at c.in-Ok-Owed.ensures.taken in
+    let us = c.args.nodes.now in
+    let call = c.args.call.now in
+    let s = c.in_ok-insert-in-Ok-Owed.ensures in
+    let found = is_true _ _ s.added c.if-not-branch-2.true in
+    rw (t.0, t.1) (call_passed (variances_in c.args.declarations.now) ts us e c.args.table.now.entries p c.args.pair call.pairs.items call.met.keys c.insert-in-Ok-Owed.new.self.keys call.equal.items call.goals.items u (met_among us call.met.keys c.args.pair found) (s.keys ∙ met_keys call.met.keys c.args.pair found))
+
+pub returns-then-not-branch-2-clause-less : goal.returns-then-not-branch-2-clause-less
+returns-then-not-branch-2-clause-less c = taken_less (variances_in c.args.declarations.now) c.args.nodes.now c.take.new.nodes (content_of c.args.nodes.now c.args.table.now.entries) c.args.call.now.pairs.items c.args.pair c.in-Ok-Owed.ensures.extends c.requires.pairs
+
+pub returns-then-not-branch-3-clause-call : goal.returns-then-not-branch-3-clause-call
+returns-then-not-branch-3-clause-call c = λ ts e p u.
     let t = rw c.in-Ok-Parts.field-0-is at c.in-Ok-Parts.ensures.taken in
     let us = c.args.nodes.now in
     let call = c.args.call.now in
     let s = c.in_ok-insert-in-Ok-Parts.ensures in
-    let lacks = is_false _ _ s.added c.if-not-branch.false in
+    let found = is_true _ _ s.added c.if-not-branch-3.true in
+    rw (t.0, t.1) (call_passed (variances_in c.args.declarations.now) ts us e c.args.table.now.entries p c.args.pair call.pairs.items call.met.keys c.insert-in-Ok-Parts.new.self.keys call.equal.items call.goals.items u (met_among us call.met.keys c.args.pair found) (s.keys ∙ met_keys call.met.keys c.args.pair found))
+
+pub returns-then-not-branch-3-clause-less : goal.returns-then-not-branch-3-clause-less
+returns-then-not-branch-3-clause-less c = taken_less (variances_in c.args.declarations.now) c.args.nodes.now c.take.new.nodes (content_of c.args.nodes.now c.args.table.now.entries) c.args.call.now.pairs.items c.args.pair c.in-Ok-Parts.ensures.extends c.requires.pairs
+
+pub returns-else-not-branch-3-clause-call : goal.returns-else-not-branch-3-clause-call
+returns-else-not-branch-3-clause-call c = λ ts e p u.
+    let t = rw c.in-Ok-Parts.field-0-is at c.in-Ok-Parts.ensures.taken in
+    let us = c.args.nodes.now in
+    let call = c.args.call.now in
+    let s = c.in_ok-insert-in-Ok-Parts.ensures in
+    let lacks = is_false _ _ s.added c.if-not-branch-3.false in
     map_ok c.push_pairs.result
-    (λ (pushed : ArePartsPaired (variances_in c.args.declarations.now) c.take.new.nodes c.args.pair c.args.call.now.pairs.items c.push_pairs.new.pairs.items). rw (t.0, t.1) (call_parts (variances_in c.args.declarations.now) ts us e c.args.table.now.entries p c.args.pair call.pairs.items c.push_pairs.new.pairs.items call.met.keys c.insert.new.self.keys call.equal.items call.goals.items u t.2 (rw t.0 at pushed) (s.keys ∙ new_keys call.met.keys c.args.pair lacks)))
+    (λ (pushed : ArePartsPaired (variances_in c.args.declarations.now) c.take.new.nodes c.args.pair c.args.call.now.pairs.items c.push_pairs.new.pairs.items). rw (t.0, t.1) (call_parts (variances_in c.args.declarations.now) ts us e c.args.table.now.entries p c.args.pair call.pairs.items c.push_pairs.new.pairs.items call.met.keys c.insert-in-Ok-Parts.new.self.keys call.equal.items call.goals.items u t.2 (rw t.0 at pushed) (s.keys ∙ new_keys call.met.keys c.args.pair lacks)))
     c.push_pairs.ensures.pushed
 
-pub returns-else-not-branch-clause-less : goal.returns-else-not-branch-clause-less
-returns-else-not-branch-clause-less c =
+pub returns-else-not-branch-3-clause-less : goal.returns-else-not-branch-3-clause-less
+returns-else-not-branch-3-clause-less c =
     let t = rw c.in-Ok-Parts.field-0-is at c.in-Ok-Parts.ensures.taken in
     let us = c.args.nodes.now in
     map_ok c.push_pairs.result

@@ -10,7 +10,7 @@ use Rattle.nts_variance.proofs.vary_walk.vary.Goals as goal
 
 pub loop-task-init : goal.loop-task-init
 loop-task-init c =
-    let items : c.push.new.self.items ≡ task.Enter (record { term = c.args.term; binders = 0; variance = c.args.variance; is_quiet = false }) ∷ [] = search rules in
+    let items : c.push.new.self.items ≡ task.Enter (record { term = c.args.term; binders = 0; variance = c.args.variance; is_quiet = false; is_searched = false }) ∷ [] = search rules in
     let start = run_start (variances_in c.args.declarations.now) c.args.target.is_turned c.args.target.universe c.args.target.variable c.args.nodes.now c.args.table.now.entries c.args.variance c.args.term c.push.new.self.items c.requires.lawful c.requires.part c.requires.node c.requires.named c.requires.known c.requires.no_region items in
     record {
       extends = Extends-refl c.args.nodes.now;
