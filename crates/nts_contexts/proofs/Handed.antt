@@ -5,6 +5,7 @@ use Rattle.nts_store.specs.declared.nodes.NodeId.{NodeId}
 use Rattle.nts_store.specs.Growth.{tree_at}
 use Rattle.nts_terms.specs.declared.cx.Cx.{Cx}
 use Rattle.nts_terms.specs.declared.handles.Goal.{Goal}
+use Rattle.nts_terms.specs.declared.handles.ParamEnv.{ParamEnv}
 use Rattle.nts_terms.proofs.Moved.{Holds-extended}
 use Rattle.nts_unify.specs.Lawful.{content_of-extended}
 use Rattle.nts_table.specs.Tables.{Table, IsTable, IsSide, IsPlainSide}
@@ -12,6 +13,8 @@ use Rattle.nts_queries.specs.Evaluation.{Goes, IsPosed}
 use Rattle.nts_queries.proofs.Evaluating.{IsPosed-opened, IsPosed-later, Knows-goes}
 use Rattle.nts_contexts.specs.declared.context.EvalCtxt.{EvalCtxt}
 use Rattle.nts_contexts.specs.Contexts.{IsGoalOf, Keeps, IsOpened, IsRoot, IsProbe}
+use Rattle.nts_contexts.specs.Related.{IsEnvOf}
+use Rattle.nts_contexts.proofs.Relates.{env_later}
 
 pub goal_in_root : {H : Type 0} {ready : List Tree → H → Type 0} {t : Table} {s : Cx} {h : H} {n : ℕ} {c : EvalCtxt H} {g : Goal} → IsRoot ready t s h n c → IsPosed s.nodes t g → IsGoalOf c g
 goal_in_root r p = (let o = r.table in rw r.cx (IsPosed-opened p o.entries o.saved))
@@ -21,6 +24,18 @@ goal_in_probe r p = (let o = r.table in rw r.cx (IsPosed-opened p o.entries o.sa
 
 pub goal_later : {H : Type 0} {ready : List Tree → H → Type 0} {a b : EvalCtxt H} {g : Goal} → Keeps ready a b → IsGoalOf a g → IsGoalOf b g
 goal_later k p = (let r = k.runs in IsPosed-later r.goes p)
+
+env_opened : {a : Cx} {t u : Table} {env : ParamEnv} → IsOpened t u → IsEnvOf a t env → IsEnvOf a u env
+env_opened o s = (let e = o.entries in record { holds = s.holds; knows = rw e s.knows })
+
+pub env_in_root : {H : Type 0} {ready : List Tree → H → Type 0} {t : Table} {s : Cx} {h : H} {n : ℕ} {c : EvalCtxt H} {env : ParamEnv} → IsRoot ready t s h n c → IsEnvOf s t env → IsEnvOf c.cx.now c.table.now env
+env_in_root r e = rw r.cx (env_opened r.table e)
+
+pub env_in_probe : {H : Type 0} {ready : List Tree → H → Type 0} {a c : EvalCtxt H} {env : ParamEnv} → IsProbe ready a c → IsEnvOf a.cx.now a.table.now env → IsEnvOf c.cx.now c.table.now env
+env_in_probe r e = rw r.cx (env_opened r.table e)
+
+pub env_kept : {H : Type 0} {ready : List Tree → H → Type 0} {a b : EvalCtxt H} {env : ParamEnv} → Keeps ready a b → IsEnvOf a.cx.now a.table.now env → IsEnvOf b.cx.now b.table.now env
+env_kept k e = env_later k.runs e
 
 side_opened : {ts : List Tree} {t u : Table} {p : Place} {x : NodeId} → IsOpened t u → IsSide p ts t x → IsSide p ts u x
 side_opened o s = (let e = o.entries in record { holds = s.holds; known = rw e s.known })
@@ -61,4 +76,4 @@ plain_extended {p = p} {x = x} g w q s =
 pub plain_later : {H : Type 0} {ready : List Tree → H → Type 0} {a b : EvalCtxt H} {p : Place} {x : NodeId} → Keeps ready a b → IsTable a.cx.now.nodes a.table.now → b.table.now ≡ a.table.now → IsPlainSide p a.cx.now.nodes a.table.now x → IsPlainSide p b.cx.now.nodes b.table.now x
 plain_later k w q d = (let r = k.runs in plain_extended r.goes w q d)
 
-pub ruleset handed = (goal_in_root, goal_in_probe, goal_later, side_in_root, plain_in_root, side_in_probe, plain_in_probe, side_later, plain_later)
+pub ruleset handed = (goal_in_root, goal_in_probe, goal_later, env_in_root, env_in_probe, env_kept, side_in_root, plain_in_root, side_in_probe, plain_in_probe, side_later, plain_later)

@@ -111,15 +111,31 @@ goals_posed ts u env (p ∷ ps) (g ∷ gs) w h k q =
     let one : IsPosed ts u g = record { table = w; holds = record { env = rw z.param_env h; predicate = z.holds }; knows = record { env = rw z.param_env k; predicate = z.knows } } in
     All-cons (IsPosed ts u) g gs one (goals_posed ts u env ps gs w h k q.1)
 
-pub related_posed : {a b : Cx} {t u : Table} {m n : EvalState} {env : ParamEnv} {v : Variance} {x y : NodeId} → Runs a b t u → IsEnvOf a t env → ArePosed a.nodes t m.nested_goals.items → AddsRelated a b t u m n env v x y → ArePosed b.nodes u n.nested_goals.items
-related_posed {a} {b} {t} {u} {m} {n} {env} {v} {x} {y} k e h r =
+-- an environment stays one of the store and the table
+pub env_later : {a b : Cx} {t u : Table} {env : ParamEnv} → Runs a b t u → IsEnvOf a t env → IsEnvOf b u env
+env_later {a} {b} {t} {u} {env} k e =
     let g = k.goes in
     let ext = g.extends in
     let held = e.holds in
-    let holds = Holds-extended _ env.node ext held in
-    let knows : Knows (content_of b.nodes u.entries) (tree_at b.nodes env.node) = rw (ext.kept env.node held.within) (Knows-kept (content_of a.nodes t.entries) (content_of b.nodes u.entries) (tree_at a.nodes env.node) (let n = g.continues in record { grows = n.grows; kinds = n.kinds }) e.knows) in
+    record {
+      holds = Holds-extended _ env.node ext held;
+      knows = rw (ext.kept env.node held.within) (Knows-kept (content_of a.nodes t.entries) (content_of b.nodes u.entries) (tree_at a.nodes env.node) (let n = g.continues in record { grows = n.grows; kinds = n.kinds }) e.knows);
+    }
+
+pub related_posed : {a b : Cx} {t u : Table} {m n : EvalState} {env : ParamEnv} {v : Variance} {x y : NodeId} → Runs a b t u → IsEnvOf a t env → ArePosed a.nodes t m.nested_goals.items → AddsRelated a b t u m n env v x y → ArePosed b.nodes u n.nested_goals.items
+related_posed {a} {b} {t} {u} {m} {n} {env} {v} {x} {y} k e h r =
+    let g = k.goes in
+    let later = env_later k e in
     let s = r.related in
-    rw r.added (posed_more m.nested_goals.items source.TypeRelating r.goals (posed_later m.nested_goals.items g h) (goals_posed b.nodes u env s.pairs r.goals g.table holds knows s.goals))
+    rw r.added (posed_more m.nested_goals.items source.TypeRelating r.goals (posed_later m.nested_goals.items g h) (goals_posed b.nodes u env s.pairs r.goals g.table later.holds later.knows s.goals))
+
+-- the goals that are answered
+pub answered_posed : {A : Type 0} {a b : Cx} {t u : Table} {env : ParamEnv} (declared : ℕ → List Variance) (v : Variance) (x y : Tree) (items : A → List Goal) (r : Result A EvalError) → Runs a b t u → IsEnvOf a t env
+    → IfOk r (λ gs. IsRelatedBy declared a.nodes b.nodes t.entries u.entries env v x y (items gs)) → IfOk r (λ gs. All (IsPosed b.nodes u) (items gs))
+answered_posed {A} {a} {b} {t} {u} {env} declared v x y items (Ok z) k e r =
+    let later = env_later k e in
+    goals_posed b.nodes u env r.pairs (items z) k.goes.table later.holds later.knows r.goals
+answered_posed declared v x y items (Err z) k e r = tt
 
 -- .. after an answer, in which the goals are as before where it is an error
 pub posed_where : {a b : Cx} {t u : Table} (m n : EvalState) (env : ParamEnv) (v : Variance) (x y : NodeId) (p : Result (Unit {0}) EvalError) → Runs a b t u → IsEnvOf a t env → ArePosed a.nodes t m.nested_goals.items → OnOk p (AddsRelated a b t u m n env v x y) → OnErr p (n.nested_goals.items ≡ m.nested_goals.items) → ArePosed b.nodes u n.nested_goals.items

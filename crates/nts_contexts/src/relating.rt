@@ -1,5 +1,5 @@
 //! Values that are related in a context.
-ghost use Rattle.std.specs.Prelude.{◌≡◌, ◌++◌, [], map, Ok, Err, IfOk, IfErr, IfSome, OnOk, OnErr};
+ghost use Rattle.std.specs.Prelude.{◌≡◌, ◌++◌, [], map, All, Ok, Err, IfOk, IfErr, IfSome, OnOk, OnErr};
 ghost use Rattle.nts_certainty.specs.declared.sources.GoalSource.TheVariants as sources;
 ghost use Rattle.nts_model.specs.declared.labels.Variance.TheVariants as variances;
 ghost use Rattle.nts_model.specs.Equations.{AreRelated, AreUnrelated};
@@ -8,12 +8,12 @@ ghost use Rattle.nts_store.specs.Errors.{error_of};
 ghost use Rattle.nts_store.specs.Growth.{tree_at};
 ghost use Rattle.nts_terms.specs.Signatures.{variances_in};
 ghost use Rattle.nts_unify.specs.Reading.{content_of};
-ghost use Rattle.nts_table.specs.Tables.{IsTable, IsSide, IsPlainSide};
-ghost use Rattle.nts_solver_relating.specs.Sides.{ArePlain, RefusesSides};
+ghost use Rattle.nts_table.specs.Tables.{IsTable, IsSide};
+ghost use Rattle.nts_solver_relating.specs.Sides.{ArePlain, AreMadeEqual, IsRelatedBy, RefusesSides};
 ghost use Rattle.nts_queries.specs.Evaluation.{Runs};
 ghost use Rattle.nts_contexts.specs.Related.{IsEnvOf, AddsRelated, AreEquatedIn, KeepsState};
 ghost use Rattle.nts_contexts.specs.Faults.{fault_after};
-ghost use Rattle.nts_contexts.specs.Contexts.{IsReady, Keeps, EvaluatedNothing, content_in, tree_in};
+ghost use Rattle.nts_contexts.specs.Contexts.{IsReady, IsGoalOf, Keeps, EvaluatedNothing, content_in, tree_in};
 
 use crate::context::EvalCtxt;
 use crate::state::EvalState;
@@ -134,28 +134,30 @@ impl<H: GoalHandler> EvalCtxt<'_, H> {
         self.relate(env, sub, Variance::Covariant, sup)
     }
 
-    /// Makes two values equal, and adds the goals that are left. No alias is to stand in either, so there are none. After a
-    /// refusal the table is as before.
+    /// Makes two values equal, and adds the goals that are left: as `relate` does by the invariant variance. Where no alias stands in
+    /// the two, none is left.
     pub fn eq<T: Relate>(&mut self, env: ParamEnv, lhs: T, rhs: T) -> Result<(), EvalError>
         requires ready { IsReady H.ready self.old }
-        requires left { IsPlainSide T.place self.old.cx.now.nodes self.old.table.now (T.id lhs) }
-        requires right { IsPlainSide T.place self.old.cx.now.nodes self.old.table.now (T.id rhs) }
+        requires env { IsEnvOf self.old.cx.now self.old.table.now env }
+        requires left { IsSide T.place self.old.cx.now.nodes self.old.table.now (T.id lhs) }
+        requires right { IsSide T.place self.old.cx.now.nodes self.old.table.now (T.id rhs) }
         ensures keeps { Keeps H.ready self.old self.new }
-        ensures goals { self.new.state.now.nested_goals.items ≡ self.old.state.now.nested_goals.items }
         ensures heads { OnOk result (T.head lhs ≡ T.head rhs) }
-        ensures related { OnOk result (AreRelated (content_in self.old) (content_in self.new) (tree_in self.old (T.id lhs)) (tree_in self.old (T.id rhs))) }
-        ensures labels { OnOk result (BringsLabelsOf (content_in self.old) (content_in self.new) (tree_in self.old (T.id lhs)) (tree_in self.old (T.id rhs))) }
-        ensures no { result ≡ Err EvalError.NoSolution → T.head lhs ≡ T.head rhs → AreUnrelated (content_in self.old) (tree_in self.old (T.id lhs)) (tree_in self.old (T.id rhs)) }
+        ensures related { OnOk result (AddsRelated self.old.cx.now self.new.cx.now self.old.table.now self.new.table.now self.old.state.now self.new.state.now env variances.Invariant (T.id lhs) (T.id rhs)) }
+        ensures equal { ArePlain variances.Invariant (content_in self.old) (tree_in self.old (T.id lhs)) (tree_in self.old (T.id rhs)) → OnOk result (AreEquatedIn self.old.cx.now self.new.cx.now self.old.table.now self.new.table.now self.old.state.now self.new.state.now (T.id lhs) (T.id rhs)) }
+        ensures no { result ≡ Err EvalError.NoSolution → T.head lhs ≡ T.head rhs → RefusesSides (variances_in self.old.cx.now.declarations) (content_in self.old) variances.Invariant (tree_in self.old (T.id lhs)) (tree_in self.old (T.id rhs)) }
+        ensures unequal { ArePlain variances.Invariant (content_in self.old) (tree_in self.old (T.id lhs)) (tree_in self.old (T.id rhs)) → result ≡ Err EvalError.NoSolution → T.head lhs ≡ T.head rhs → AreUnrelated (content_in self.old) (tree_in self.old (T.id lhs)) (tree_in self.old (T.id rhs)) }
+        ensures goals { OnErr result (self.new.state.now.nested_goals.items ≡ self.old.state.now.nested_goals.items) }
         ensures err { OnErr result (self.new.table.now ≡ self.old.table.now) }
         ensures nothing { EvaluatedNothing self.old.state.now self.new.state.now }
         ensures fault { self.new.state.now.fault ≡ fault_after self.old.state.now.fault result }
         ensures faulted { IfSome self.old.state.now.fault (λ f. result ≡ Err (error_of f)) }
     {
-        self.eq_structurally_relating_aliases(env, lhs, rhs)
+        self.relate(env, lhs, Variance::Invariant, rhs)
     }
 
-    /// Makes two values equal, and answers the goals that are left, which are not added. No alias is to stand in either, so
-    /// there are none. After a refusal the table is as before.
+    /// Makes two values equal, and answers the goals that are left, which are not added: they can be, or asked elsewhere. Where no
+    /// alias stands in the two, none is left. After an error the table is as before.
     pub fn eq_and_get_goals<T: Relate>(
         &mut self,
         env: ParamEnv,
@@ -163,22 +165,28 @@ impl<H: GoalHandler> EvalCtxt<'_, H> {
         rhs: T,
     ) -> Result<Vec<Goal>, EvalError>
         requires ready { IsReady H.ready self.old }
-        requires left { IsPlainSide T.place self.old.cx.now.nodes self.old.table.now (T.id lhs) }
-        requires right { IsPlainSide T.place self.old.cx.now.nodes self.old.table.now (T.id rhs) }
+        requires env { IsEnvOf self.old.cx.now self.old.table.now env }
+        requires left { IsSide T.place self.old.cx.now.nodes self.old.table.now (T.id lhs) }
+        requires right { IsSide T.place self.old.cx.now.nodes self.old.table.now (T.id rhs) }
         ensures keeps { Keeps H.ready self.old self.new }
-        ensures none { IfOk result (λ gs. gs.items ≡ []) }
+        ensures posed { IfOk result (λ gs. All (IsGoalOf self.new) gs.items) }
         ensures goals { self.new.state.now.nested_goals.items ≡ self.old.state.now.nested_goals.items }
         ensures heads { OnOk result (T.head lhs ≡ T.head rhs) }
-        ensures related { OnOk result (AreRelated (content_in self.old) (content_in self.new) (tree_in self.old (T.id lhs)) (tree_in self.old (T.id rhs))) }
-        ensures labels { OnOk result (BringsLabelsOf (content_in self.old) (content_in self.new) (tree_in self.old (T.id lhs)) (tree_in self.old (T.id rhs))) }
-        ensures no { result ≡ Err EvalError.NoSolution → T.head lhs ≡ T.head rhs → AreUnrelated (content_in self.old) (tree_in self.old (T.id lhs)) (tree_in self.old (T.id rhs)) }
+        ensures related { IfOk result (λ gs. IsRelatedBy (variances_in self.old.cx.now.declarations) self.old.cx.now.nodes self.new.cx.now.nodes self.old.table.now.entries self.new.table.now.entries env variances.Invariant (tree_in self.old (T.id lhs)) (tree_in self.old (T.id rhs)) gs.items) }
+        ensures equal { ArePlain variances.Invariant (content_in self.old) (tree_in self.old (T.id lhs)) (tree_in self.old (T.id rhs)) → IfOk result (λ gs. AreMadeEqual (content_in self.old) (content_in self.new) (tree_in self.old (T.id lhs)) (tree_in self.old (T.id rhs)) gs.items) }
+        ensures no { result ≡ Err EvalError.NoSolution → T.head lhs ≡ T.head rhs → RefusesSides (variances_in self.old.cx.now.declarations) (content_in self.old) variances.Invariant (tree_in self.old (T.id lhs)) (tree_in self.old (T.id rhs)) }
+        ensures unequal { ArePlain variances.Invariant (content_in self.old) (tree_in self.old (T.id lhs)) (tree_in self.old (T.id rhs)) → result ≡ Err EvalError.NoSolution → T.head lhs ≡ T.head rhs → AreUnrelated (content_in self.old) (tree_in self.old (T.id lhs)) (tree_in self.old (T.id rhs)) }
         ensures err { OnErr result (self.new.table.now ≡ self.old.table.now) }
         ensures nothing { EvaluatedNothing self.old.state.now self.new.state.now }
         ensures fault { self.new.state.now.fault ≡ fault_after self.old.state.now.fault result }
         ensures faulted { IfSome self.old.state.now.fault (λ f. result ≡ Err (error_of f)) }
     {
-        self.eq_structurally_relating_aliases(env, lhs, rhs)?;
-        Ok(Vec::new(self.cx.alloc))
+        self.state.check()?;
+        let span = self.state.span;
+        let related = self
+            .table
+            .relate(self.cx, env, lhs, Variance::Invariant, rhs, span);
+        self.state.note(related)
     }
 
     /// Makes two values equal, with aliases taken as they stand. After a refusal the table is as before.

@@ -5,6 +5,7 @@ ghost use Rattle.nts_delegate.specs.Clauses.{AreReady};
 ghost use Rattle.nts_table.specs.Tables.{IsTable, IsPlainSide};
 ghost use Rattle.nts_terms.specs.Handles.{HoldsGoal};
 ghost use Rattle.nts_queries.specs.Evaluation.{IsPosed};
+ghost use Rattle.nts_contexts.specs.Related.{IsEnvOf};
 ghost use Rattle.nts_contexts.specs.Contexts.{IsReady, Keeps, IsGoalOf};
 
 use crate::clone::{add_rule, holds_for, vec_of};
@@ -53,14 +54,16 @@ pub fn count_goals(
             ensures keeps { Keeps AreReady ecx.old ecx.new }
             ensures goals { OnOk result (ecx.new.state.now.nested_goals.items ≡ ecx.old.state.now.nested_goals.items) }
         {
+            let env = first.param_env;
             let equated = ecx.probe(
                 |probe: &mut EvalCtxt<'_, Clauses>| -> Result<usize, EvalError>
                     requires ready { IsReady AreReady probe.old }
                     requires left { IsPlainSide any_argument probe.old.cx.now.nodes probe.old.table.now lhs.node }
                     requires right { IsPlainSide any_argument probe.old.cx.now.nodes probe.old.table.now rhs.node }
+                    requires env { IsEnvOf probe.old.cx.now probe.old.table.now env }
                     ensures keeps { Keeps AreReady probe.old probe.new }
                 {
-                    let goals = probe.eq_and_get_goals(first.param_env, lhs, rhs)?;
+                    let goals = probe.eq_and_get_goals(env, lhs, rhs)?;
                     Ok(goals.len())
                 },
             )?;

@@ -75,14 +75,14 @@ pub fn err_in_probes(
                             requires tried { IsPlainSide any_argument deep.old.cx.now.nodes deep.old.table.now tried.node }
                             ensures keeps { Keeps AreReady deep.old deep.new }
                         {
-                            deep.eq(env, left, tried)?;
+                            deep.eq_structurally_relating_aliases(env, left, tried)?;
                             answer_of(inner)
                         },
                     )
                 },
             );
             answer_of(outer)?;
-            ecx.eq(env, left, right)
+            ecx.eq_structurally_relating_aliases(env, left, right)
         },
     )
 }

@@ -3,8 +3,9 @@ use crate::clone::clone_of_vec;
 use crate::count::goals_of_vec;
 use crate::cycle::{Counted, growing_answer};
 use crate::errors::{Known, errors_of_probes};
+use crate::related::{Left, goals_of_alias, goals_of_variables};
 use crate::rule::rule_of_vec;
-use next_trait_solver::ty::{Certainty, EvalError};
+use next_trait_solver::ty::{Certainty, EvalError, Variance};
 use std::alloc::Global;
 use std::process::Abort;
 
@@ -40,6 +41,46 @@ fn a_rule_of_vec_holds(rt: HostRuntime) {
 fn one_of_two_goals_is_left(rt: HostRuntime) {
     let found = goals_of_vec(rt.alloc()).expect(&rt, "memory");
     assert!(rt; matches!(found, Some((0, 1))));
+}
+
+/// So many goals are left, and nothing is known of them.
+fn is_left(found: Option<Left>, answered: usize, added: usize) -> bool {
+    match found {
+        Some(left) => {
+            left.answered == answered
+                && left.added == added
+                && matches!(left.certainty, Certainty::Maybe(_))
+        }
+        None => false,
+    }
+}
+
+/// A goal of another kind than a trait goal is ambiguous: nothing is settled by it.
+#[test]
+fn an_alias_leaves_a_goal(rt: HostRuntime) {
+    let alloc = rt.alloc();
+    let equal = goals_of_alias(alloc, Variance::Invariant).expect(&rt, "memory");
+    assert!(rt; is_left(equal, 1, 1));
+    let lesser = goals_of_alias(alloc, Variance::Covariant).expect(&rt, "memory");
+    assert!(rt; is_left(lesser, 1, 1));
+}
+
+#[test]
+fn two_variables_leave_a_goal_where_they_may_vary(rt: HostRuntime) {
+    let alloc = rt.alloc();
+    let equal = goals_of_variables(alloc, Variance::Invariant).expect(&rt, "memory");
+    assert!(rt;
+        matches!(
+            equal,
+            Some(Left {
+                answered: 0,
+                added: 0,
+                certainty: Certainty::Yes
+            })
+        )
+    );
+    let lesser = goals_of_variables(alloc, Variance::Covariant).expect(&rt, "memory");
+    assert!(rt; is_left(lesser, 0, 1));
 }
 
 /// What an error of a probe in a probe and one of the context come to, and what is known of a variable then.

@@ -1,4 +1,4 @@
-use Rattle.std.proofs.Common.{◌∙◌}
+use Rattle.std.proofs.Common.{◌∙◌, refl}
 use Rattle.nts_queries.proofs.Opened.{on_ok}
 use Rattle.nts_contexts.proofs.Handed.{goal_in_probe, goal_later}
 use Rattle.nts_contexts.proofs.Frames.{keeps_then}
@@ -16,7 +16,10 @@ probe-requires c =
 pub returns : goal.returns
 returns c =
     let e = c.in_ok-eq.ensures in
+    let left = c.requires.left in
+    let right = c.requires.right in
+    let equated = e.equal (refl, left.plain, right.plain) in
     record {
       keeps = keeps_then e.keeps c.probe.ensures.keeps;
-      goals = on_ok c.probe.result (c.probe.ensures.goals ∙ e.goals);
+      goals = on_ok c.probe.result (c.probe.ensures.goals ∙ equated.goals);
     }
