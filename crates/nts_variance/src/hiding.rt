@@ -1,5 +1,6 @@
 //! Whether an alias may hide behind the variables of a term.
-ghost use Rattle.std.specs.Prelude.{◌≡◌, true, false, IfOk};
+ghost use Rattle.std.specs.Prelude.{◌≡◌, ◌↔◌, IsTrue, true, false, IfOk};
+ghost use Rattle.nts_store.specs.Labels.{AllLabels};
 ghost use Rattle.nts_model.specs.Resolving.{infer_of, resolved};
 ghost use Rattle.nts_model.specs.Trees.{any_label, is_alias};
 ghost use Rattle.nts_store.specs.Growth.{tree_at, IsIn};
@@ -42,7 +43,8 @@ pub fn hides_nothing(
     requires lawful { IsLawful nodes.now table.now.entries }
     requires within { IsIn nodes.now t }
     requires plain { any_label is_alias (tree_at nodes.now t) ≡ false }
-    ensures { IfOk result (λ b. b ≡ true → any_label is_alias (resolved (content_of nodes.now table.now.entries) (tree_at nodes.now t)) ≡ false) }
+    ensures exact { IfOk result (λ b. IsTrue b ↔ AllLabels (λ l. is_bare table.now.entries (infer_of l) ≡ true) (tree_at nodes.now t)) }
+    ensures plain { IfOk result (λ b. b ≡ true → any_label is_alias (resolved (content_of nodes.now table.now.entries) (tree_at nodes.now t)) ≡ false) }
 {
     all_labels(alloc, nodes, t, &Bare { table })
 }
