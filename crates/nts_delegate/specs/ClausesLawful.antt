@@ -7,6 +7,7 @@ use Rattle.nts_model.specs.declared.labels.Label.TheVariants as label
 use Rattle.nts_model.specs.Trees.{Tree, empty, more, node, children, IsRow, AllFit, any_argument, any_label}
 use Rattle.nts_model.specs.Rules.{Mode, Application}
 use Rattle.nts_model.specs.Handlers.{Candidate, Handler, IsLawful}
+use Rattle.nts_model.specs.Coherence.{RulesAreOffered}
 use Rattle.nts_delegate.specs.SameHandlers.{MeansSame}
 use Rattle.nts_store.specs.declared.nodes.NodeId.{NodeId}
 use Rattle.nts_terms.specs.declared.handles.Goal.{Goal}
@@ -24,7 +25,7 @@ use Rattle.nts_delegate.specs.declared.clauses.Clause.{Clause}
 use Rattle.nts_delegate.specs.declared.clauses.Clauses.{Clauses}
 use Rattle.nts_delegate.specs.OwnTerms.{both_false}
 use Rattle.nts_delegate.specs.OwnClauses.{IsOwnTerm, AreOwnTerms, IsOwnClause, AreOwnClauses}
-use Rattle.nts_delegate.specs.HandlerLaws.{IsLawful-clauses}
+use Rattle.nts_delegate.specs.HandlerLaws.{IsLawful-clauses, AreOffered-clauses}
 
 own_term : (ts : List Tree) (fresh : List Sort) (t : NodeId) → AreFormed ts → IsClauseTerm ts fresh t → IsOwnTerm fresh (tree_at ts t)
 own_term ts fresh t f h =
@@ -63,6 +64,10 @@ own_clauses ts (c ∷ cs) f h = (own_clause ts c f h.0, own_clauses ts cs f h.1)
 pub IsLawful-handler_of : (ts : List Tree) (h : Clauses) → AreFormed ts → AreReady ts h → IsLawful (handler_of ts h)
 IsLawful-handler_of ts h f r =
     IsLawful-clauses (clauses_in_store ts h) (coinductive_of h) (λ i. own_clauses ts (clauses_of h i) f (r.clauses i))
+
+-- .. and in coherence every rule for an instance of a goal is offered
+pub AreOffered-handler_of : (ts : List Tree) (h : Clauses) → AreFormed ts → AreReady ts h → RulesAreOffered (handler_of ts h)
+AreOffered-handler_of ts h f r = AreOffered-clauses (clauses_in_store ts h) (coinductive_of h) (λ i. own_clauses ts (clauses_of h i) f (r.clauses i))
 
 -- the data of the offers, as trees, are the handler's offers
 pair_read : (ts : List Tree) (a b : Tree) (q : EquationData) → IsPair ts a b q → equation_of ts q ≡ equation_as q.kind a b

@@ -1,5 +1,5 @@
 -- A handler made of clauses over their own terms keeps the laws.
-use Rattle.std.proofs.Common.{◌≡◌, ◌⊎◌, inl, inr, ℕ, ◌==◌, ◌||◌, Bool, true, false, cond, List, [], ◌∷◌, map, None, refl, sym, ap, ◌∙◌, eqb-true}
+use Rattle.std.proofs.Common.{◌≡◌, if◌then◌else◌, subst, ◌⊎◌, inl, inr, ℕ, ◌==◌, ◌||◌, Bool, true, false, cond, List, [], ◌∷◌, map, None, refl, sym, ap, ◌∙◌, eqb-true}
 use Rattle.std.specs.List.{filter}
 use Rattle.nts_model.specs.declared.labels.Sort.{Sort}
 use Rattle.nts_model.specs.declared.labels.Leaf.{Leaf}
@@ -12,14 +12,18 @@ use Rattle.nts_model.specs.Trees as trees
 use Rattle.nts_model.specs.Substitutions.{leaf_tree, replace, Instance, instance_of, Renaming, rename, IsPlain}
 use Rattle.nts_model.specs.Related.{pair, unbound, arguments}
 use Rattle.nts_model.specs.Sequents.{Among, Premise}
-use Rattle.nts_model.specs.Rules.{Equation, Application, statement_of, IsHandlers}
-use Rattle.nts_model.specs.Handlers.{Candidate, filled, equation_by, premise_by, AreValuesOf, use_of, IsInstanceFor, application_under, renamed, IsAsked, IsOver, IsEquationOver, IsEmitted, IsNested, IsCandidateFor, CandidatesCommute, InstancesAreRules, CandidatesKeep, IsLawful, kind_of_sort}
+use Rattle.nts_model.specs.Rules.{Equation, Application, normalization, goal_kind, coinductive_trait, other_goal, statement_of, IsHandlers}
+use Rattle.nts_model.proofs.Under.{eq-self}
+use Rattle.nts_model.specs.Coherence.{Covers, RulesAreOffered}
+use Rattle.nts_model.specs.Rules.{coherence}
+use Rattle.nts_model.specs.Handlers.{meaning}
+use Rattle.nts_model.specs.Handlers.{Candidate, filled, filled_under, equation_by, premise_by, AreValuesOf, use_of, IsInstanceFor, application_under, renamed, IsAsked, IsOver, IsEquationOver, IsEmitted, IsNested, IsCandidateFor, CandidatesCommute, InstancesAreRules, CandidatesKeep, IsLawful, kind_of_sort}
 use Rattle.nts_model.proofs.Composing.{IsFormed-instance, IsClosed-instance, Fits-instance}
 use Rattle.nts_terms.proofs.Places.{no_places}
 use Rattle.nts_terms.proofs.Standing.{args_tree}
 use Rattle.nts_delegate.specs.Clauses.{is_foreign}
 use Rattle.nts_delegate.specs.Offers.{trait_of}
-use Rattle.nts_delegate.specs.ClauseHandlers.{ClauseTree, ClausesOfTraits, equations_of, asked_in, trait_goal, IsInstanceOfClause, offer_by, takes_all, offers_by, handler_by}
+use Rattle.nts_delegate.specs.ClauseHandlers.{offers_of_clauses, ClauseTree, ClausesOfTraits, equations_of, asked_in, trait_goal, IsInstanceOfClause, offer_by, takes_all, offers_by, handler_by}
 use Rattle.nts_delegate.specs.OwnTerms.{both_false, KeepsFixed, names_nothing, leaves_fixed, IsRow-replace, row_length-replace}
 use Rattle.nts_delegate.specs.OwnClauses.{IsOwnTerm, AreOwnTerms, IsOwnClause, AreOwnClauses, AreOwn, own_among, replaced_equations, filled_equations, moved_equations, replaced_goals, filled_goals, moved_goals}
 
@@ -288,3 +292,75 @@ keep clauses is_coinductive own =
 pub IsLawful-clauses : (clauses : ClausesOfTraits) (is_coinductive : ℕ → Bool) → AreOwn clauses → IsLawful (handler_by clauses is_coinductive)
 IsLawful-clauses clauses is_coinductive own =
     record { commute = commute clauses is_coinductive own; rules = rules clauses is_coinductive own; keep = keep clauses is_coinductive own }
+
+-- every rule for an instance of a goal is one of an offered candidate
+offer_has : (cs : List ClauseTree) (d : ClauseTree) (e us : Tree) → Among cs d → takes_all us d ≡ true → Among (offers_of_clauses e us cs) (offer_by e us d)
+offer_has [] d e us i t = absurd i
+offer_has (c ∷ cs) d e us (inl same) t = rw (ap (takes_all us) (sym same) ∙ t) (inl (ap (offer_by e us) same))
+offer_has (c ∷ cs) d e us (inr i) t = later (takes_all us c) (offer_has cs d e us i t)
+  where
+    later : (w : Bool) → Among (map (offer_by e us) (filter (takes_all us) cs)) (offer_by e us d) → Among (map (offer_by e us) (cond w (c ∷ filter (takes_all us) cs) (filter (takes_all us) cs))) (offer_by e us d)
+    later true j = inr j
+    later false j = j
+
+mapped_among : {X Y : Type 0} (f : X → Y) (xs : List X) (x : X) → Among xs x → Among (map f xs) (f x)
+mapped_among f [] x i = absurd i
+mapped_among f (y ∷ xs) x (inl e) = inl (ap f e)
+mapped_among f (y ∷ xs) x (inr i) = inr (mapped_among f xs x i)
+
+one_trait : (i j : ℕ) (us vs : Tree) → trait_goal i us ≡ trait_goal j vs → i ≡ j
+one_trait i j us vs e = cc e
+
+one_row : (i j : ℕ) (us vs : Tree) → trait_goal i us ≡ trait_goal j vs → us ≡ vs
+one_row i j us vs e = cc e
+
+none_trait : (i : ℕ) (us : Tree) → None ≡ trait_of (trait_goal i us) → ⊥
+none_trait i us e = cc e
+
+covered_trait : (clauses : ClausesOfTraits) → AreOwn clauses → (is_coinductive : ℕ → Bool) (e : Tree) (i : ℕ) (us : Tree) (ι : Instance) (a : Application) → IsRow us → IsAskedOf e us → IsInstanceOfClause clauses a
+    → a.environment ≡ instance_of ι e → a.conclusion ≡ instance_of ι (trait_goal i us) → Covers (handler_by clauses is_coinductive) coherence e (trait_goal i us) ι a
+covered_trait clauses own is_coinductive e i us ι a row n h env con =
+    let k = h.of_clause in
+    let mine = own_among (clauses h.of_trait) k (own h.of_trait) h.among in
+    let both : trait_goal i (instance_of ι us) ≡ trait_goal h.of_trait h.with_arguments = sym con ∙ h.conclusion in
+    let of_trait : h.of_trait ≡ i = sym (one_trait i h.of_trait (instance_of ι us) h.with_arguments both) in
+    let args : h.with_arguments ≡ instance_of ι us = sym (one_row i h.of_trait (instance_of ι us) h.with_arguments both) in
+    let length : row_length us ≡ row_length k.head = sym (row_length-replace ι.value us row) ∙ ap row_length (sym args) ∙ h.as_many in
+    let takes : takes_all us k ≡ true = ap (λ z. z == row_length k.head) length ∙ eq-self (row_length k.head) in
+    let among : Among (clauses i) k = subst (λ z. Among (clauses z) k) of_trait h.among in
+    let equations : a.equations ≡ map (equation_by (filled_under ι.value a.values)) (equations_of us k.head) =
+    h.equations ∙ ap (λ z. equations_of z (filled a.values k.head)) args ∙ sym (filled_equations ι.value ι.stays a.values k.fresh us k.head row n.arguments mine.row mine.head) in
+    let goals : a.goals ≡ map (premise_by (filled_under ι.value a.values)) (map (asked_in e) k.body) =
+    h.goals ∙ ap (λ z. map (asked_in z) (map (filled a.values) k.body)) env ∙ sym (filled_goals ι.value ι.stays a.values k.fresh e k.body n.environment mine.body) in
+    record {
+      candidate = offer_by e us k;
+      offered = offer_has (clauses i) k e us among takes;
+      chosen = a.values;
+      values = h.values;
+      of_rule = λ v j. j;
+      equations = λ q j. subst (λ z. Among z (equation_by (filled_under ι.value a.values) q)) (sym equations) (mapped_among (equation_by (filled_under ι.value a.values)) (equations_of us k.head) q j);
+      constraints = λ x j. absurd j;
+      goals = λ p j. subst (λ z. Among z (premise_by (filled_under ι.value a.values) p)) (sym goals) (mapped_among (premise_by (filled_under ι.value a.values)) (map (asked_in e) k.body) p j);
+    }
+
+covered_shape : (clauses : ClausesOfTraits) → AreOwn clauses → (is_coinductive : ℕ → Bool) (e g : Tree) (ι : Instance) (a : Application) → any_label is_canonical (pair e g) ≡ false → IsTraitGoal g ⊎ IsOtherGoal g → IsInstanceOfClause clauses a
+    → a.environment ≡ instance_of ι e → a.conclusion ≡ instance_of ι g → Covers (handler_by clauses is_coinductive) coherence e g ι a
+covered_shape clauses own is_coinductive e g ι a n (inl t) h env con =
+    let lacks : any_label is_canonical (pair e (trait_goal t.of_trait t.with_arguments)) ≡ false = rw t.is at n in
+    let there : a.conclusion ≡ instance_of ι (trait_goal t.of_trait t.with_arguments) = rw t.is at con in
+    rw t.is (covered_trait clauses own is_coinductive e t.of_trait t.with_arguments ι a t.row (asked_of e t.with_arguments t.of_trait lacks) h env there)
+covered_shape clauses own is_coinductive e g ι a n (inr o) h env con =
+    absurd (none_trait h.of_trait h.with_arguments (sym (o.none_under ι.value) ∙ ap trait_of (sym con ∙ h.conclusion)))
+
+pub AreOffered-clauses : (clauses : ClausesOfTraits) (is_coinductive : ℕ → Bool) → AreOwn clauses → RulesAreOffered (handler_by clauses is_coinductive)
+AreOffered-clauses clauses is_coinductive own =
+    record { covered = λ e g ι a asked applies env con. covered_shape clauses own is_coinductive e g ι a asked.no_positions (goal_of e g asked) applies env con }
+
+-- no clause normalizes an alias
+trait_kind : (f : ℕ → Bool) (b : Bool) → (if b then coinductive_trait else other_goal) ≡ normalization → ⊥
+trait_kind f true e = cc e
+trait_kind f false e = cc e
+
+pub no_normalization : (clauses : ClausesOfTraits) (is_coinductive : ℕ → Bool) (a : Application) → IsInstanceOfClause clauses a → goal_kind (meaning (handler_by clauses is_coinductive) (λ i. [])) a.conclusion ≡ normalization → ⊥
+no_normalization clauses is_coinductive a h e =
+    trait_kind is_coinductive (is_coinductive h.of_trait) (sym (ap (goal_kind (meaning (handler_by clauses is_coinductive) (λ i. []))) h.conclusion) ∙ e)

@@ -151,7 +151,7 @@ impl GoalHandler for Clauses {
     ghost use Rattle.nts_delegate.specs.Clauses.{AreReady, coinductive_of};
     ghost use Rattle.nts_delegate.specs.ClausesKept.{AreReady-kept};
     ghost use Rattle.nts_delegate.specs.ClauseHandlers.{handler_of};
-    ghost use Rattle.nts_delegate.specs.ClausesLawful.{IsLawful-handler_of, MeansSame-kept};
+    ghost use Rattle.nts_delegate.specs.ClausesLawful.{IsLawful-handler_of, AreOffered-handler_of, MeansSame-kept};
     ghost use Rattle.nts_delegate.specs.Offered.{candidates_of};
     ghost use Rattle.nts_delegate.specs.Relevant.{LeavesOut};
     ghost use Rattle.nts_terms.specs.Modes.{mode_of};
@@ -215,6 +215,8 @@ impl GoalHandler for Clauses {
     }
 
     ghost lawful = { λ ts s f r. IsLawful-handler_of ts s f r };
+
+    ghost offered = { λ ts s f r. AreOffered-handler_of ts s f r };
 
     ghost handler_kept = { λ a b s r e. MeansSame-kept a b s r e };
 

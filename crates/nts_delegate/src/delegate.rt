@@ -60,6 +60,7 @@ pub struct CandidateData {
 pub trait GoalHandler {
     ghost use Rattle.std.specs.Prelude.{◌≡◌};
     ghost use Rattle.nts_model.specs.Handlers.{Handler, IsLawful};
+    ghost use Rattle.nts_model.specs.Coherence.{RulesAreOffered};
     ghost use Rattle.nts_store.specs.Growth.{tree_at};
     ghost use Rattle.nts_store.specs.Formed.{AreFormed};
     ghost use Rattle.nts_delegate.specs.Candidates.{IsAsked, AreCandidates};
@@ -117,6 +118,10 @@ pub trait GoalHandler {
     /// The handler keeps the laws: candidates commute with plain renaming, their instances are rules, rules are closed
     /// under instances, and candidates keep the environment and have no foreign leaves, sorts or sources.
     ghost lawful: { (ts : List Tree) (s : Self) → AreFormed ts → ready ts s → IsLawful (handler ts s) };
+
+    /// In coherence each rule for an instance of a goal is one of a candidate that is offered for the goal, and that asks for
+    /// nothing beyond the rule.
+    ghost offered: { (ts : List Tree) (s : Self) → AreFormed ts → ready ts s → RulesAreOffered (handler ts s) };
 
     /// A store that grows keeps what the handler means.
     ghost handler_kept: { (a b : List Tree) (s : Self) → ready a s → Extends a b → MeansSame (handler b s) (handler a s) };

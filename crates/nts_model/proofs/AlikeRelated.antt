@@ -54,6 +54,14 @@ alias_places (alias_of.Const i) c f = (f.0, f.1)
 label_same : (l m : Label) (c d : Tree) → node l c ≡ node m d → l ≡ m
 label_same l m c d e = cc e
 
+-- a closed node with such a label is one
+pub closed_alias : (l : Label) (c : Tree) → IsFormedTerm (node l c) → is_alias l ≡ true → IsClosedUnder 0 (node l c) → IsAlias (node l c)
+closed_alias l c f e k =
+    let (h, same) = alias_of_label l e in
+    let places = alias_places h c (subst (λ x. IsFormedTerm (node x c)) same f) in
+    let args = arguments_in c places.0 places.1 in
+    record { head = h; parts = args.parts; is = cc (same, args.is); closed = k }
+
 pub alias_or_not : (l : Label) (c : Tree) → IsFormedTerm (node l c) → IsAlias (node l c) ⊎ (IsAlias (node l c) → ⊥)
 alias_or_not l c f = by_case (is_alias l) refl
   where

@@ -139,7 +139,7 @@ filled_label c xs (label.Clause y) a h k z w = ((tt, tt, refl), z, tt)
 filled_label c xs (label.Predicate y) a h k z w = ((tt, tt, refl), z, tt)
 filled_label c xs (label.List y) a h k z w = ((tt, tt, refl), z, w)
 
-filled_known : (c : Content) (xs : List Tree) (t : Tree) → IsWellBound t → AreKnownTrees c xs → ArePatches xs → ((l : Leaf) → Occurs l t → Knows c (leaf_tree l)) → Knows c (filled xs t)
+pub filled_known : (c : Content) (xs : List Tree) (t : Tree) → IsWellBound t → AreKnownTrees c xs → ArePatches xs → ((l : Leaf) → Occurs l t → Knows c (leaf_tree l)) → Knows c (filled xs t)
 filled_known c xs empty w h p k = tt
 filled_known c xs (more a b) w h p k = (filled_known c xs a w.0 h p (λ l o. k l (inl o)), filled_known c xs b w.1 h p (λ l o. k l (inr o)))
 filled_known c xs (node l a) w h p k =

@@ -1,5 +1,5 @@
 -- A goal that binds variables is proved by one certain candidate for the goal with fresh placeholders.
-use Rattle.std.proofs.Common.{◌≡◌, inl, inr, ℕ, ◌+◌, arith, Bool, true, false, List, refl, sym, ap, ◌∙◌, subst}
+use Rattle.std.proofs.Common.{◌≡◌, ◌⊎◌, inl, inr, ⊎_elim, ℕ, ◌+◌, arith, Bool, true, false, List, refl, sym, ap, ◌∙◌, subst}
 use Rattle.std.specs.Prelude.{◌==◌, if◌then◌else◌}
 use Rattle.nts_model.specs.declared.labels.Sort.{Sort}
 use Rattle.nts_model.specs.declared.labels.Variance.{Variance}
@@ -69,7 +69,7 @@ module _ (r : Leaf → Tree) (closed : (l : Leaf) → IsClosed (r l)) (f : Sort 
   replaced_opened b (node l t) = replaced_label b l t (replaced_opened (b + binders l) t)
 
 -- a table reads no placeholder
-reads_leaf : (c : Content) (l : Leaf) → is_placeholder (label.Leaf l) ≡ true → read_leaf c l ≡ leaf_tree l
+pub reads_leaf : (c : Content) (l : Leaf) → is_placeholder (label.Leaf l) ≡ true → read_leaf c l ≡ leaf_tree l
 reads_leaf c (leaf.Variable k n) e = cc
 reads_leaf c (leaf.Region x) e = refl
 reads_leaf c (leaf.TyConstant x) e = refl
@@ -80,7 +80,7 @@ no_label : (b : Bool) (l : Leaf) (s : Sort) (i : BoundVarIndexKind) (n : ℕ) (t
 no_label true l s i n t h = h
 no_label false l s i n t h = h
 
-kind_opened : (p : ℕ → Bool) (f : Sort → ℕ → Leaf) (t : Tree) → IsHandlers (opened f 0 t) → statement_kind p (opened f 0 t) ≡ statement_kind p t
+pub kind_opened : (p : ℕ → Bool) (f : Sort → ℕ → Leaf) (t : Tree) → IsHandlers (opened f 0 t) → statement_kind p (opened f 0 t) ≡ statement_kind p t
 kind_opened p f (node (label.Clause (clause.Trait i)) ts) h = refl
 kind_opened p f (node (label.Clause (clause.HostEffect i)) ts) h = refl
 kind_opened p f (node (label.Clause (clause.Projection i)) ts) h = refl
@@ -88,7 +88,7 @@ kind_opened p f (node (label.Predicate (predicate.NormalizesTo i)) ts) h = refl
 kind_opened p f (node (label.Bound s (index.Bound d) n) ts) h = absurd (no_label (d == 0) (f s n) s (index.Bound d) n (opened f 0 ts) h)
 kind_opened p f t h = absurd h
 
-binds_some : (s ss t u : Tree) → bound (more s ss) t ≡ unbound u → ⊥
+pub binds_some : (s ss t u : Tree) → bound (more s ss) t ≡ unbound u → ⊥
 binds_some s ss t u e = cc e
 
 module _ (h : Handler) (V : ℕ → List Variance) (mode : Mode) (A : List Assumed) (c : Content) (s : IsSound c) (t : HoldsTerms c) (k : AreConstraintsOf c) where
@@ -150,17 +150,17 @@ module _ (h : Handler) (V : ℕ → List Variance) (mode : Mode) (A : List Assum
         let m = meaning h V in
         let o = candidate_follows h V mode A c s t k e there asked ke ko d x keeps in
         let both = o.holds in
-        let applies = candidate_applies h V mode A c s t k e there asked ke ko d x law.rules keeps offered sure o.premises both.0 both.1 in
-        let plain : IsPlainRule m mode (λ y. Unit {0}) (Grants (sequent_at c e goal)) (Hides (sequent_at c e goal)) (Among o.premises) (deeply_resolved c e) (read asked.statement) =
+        let applies = candidate_applies h V mode A c s t k e there asked ke ko d x law.rules keeps offered sure (λ q. Among o.premises q ⊎ ⊥) both.0 both.1 in
+        let plain : IsPlainRule m mode (λ y. Unit {0}) (Grants (sequent_at c e goal)) (Hides (sequent_at c e goal)) (λ q. Among o.premises q ⊎ ⊥) (deeply_resolved c e) (read asked.statement) =
         inl (read_handlers, applies) in
-        let rule : IsRule m mode (λ y. Unit {0}) (Grants (sequent_at c e goal)) (Hides (sequent_at c e goal)) (Among o.premises) (deeply_resolved c e) (deeply_resolved c goal) =
-        inr (more (read sort) (read sorts), read u, f, goal_reads, fresh, subst (λ y. IsPlainRule m mode (λ v. Unit {0}) (Grants (sequent_at c e goal)) (Hides (sequent_at c e goal)) (Among o.premises) (deeply_resolved c e) y) statement_reads plain) in
-        let served : (q : Premise) → Among o.premises q → IsServedFrom m mode (deeply_resolved c e) (read_constraints c c.constraints) (at_premise m mode (deeply_resolved c e) (read_constraints c c.constraints) A (deeply_resolved c goal) q) q =
-        λ q i. subst (λ z. IsServedFrom m mode (deeply_resolved c e) (read_constraints c c.constraints) (passed (proof_kind z q.source) A) q) (sym kinds_same) (o.served q i) in
+        let rule : IsRule m mode (λ y. Unit {0}) (Grants (sequent_at c e goal)) (Hides (sequent_at c e goal)) (λ q. Among o.premises q ⊎ ⊥) (deeply_resolved c e) (deeply_resolved c goal) =
+        inr (more (read sort) (read sorts), read u, f, goal_reads, fresh, subst (λ y. IsPlainRule m mode (λ v. Unit {0}) (Grants (sequent_at c e goal)) (Hides (sequent_at c e goal)) (λ q. Among o.premises q ⊎ ⊥) (deeply_resolved c e) y) statement_reads plain) in
+        let served : (q : Premise) → Among o.premises q → IsServedFrom m mode (deeply_resolved c e) (read_constraints c c.constraints) (at_premise m mode (deeply_resolved c e) (read_constraints c c.constraints) A (deeply_resolved c goal) q) (Among o.premises) q =
+        λ q i. subst (λ z. IsServedFrom m mode (deeply_resolved c e) (read_constraints c c.constraints) (passed (proof_kind z q.source) A) (Among o.premises) q) (sym kinds_same) (o.served q i) in
         let all = derive_all_from m mode (deeply_resolved c e) (read_constraints c c.constraints) A (deeply_resolved c goal) o.premises o.premises served in
         record {
           sequent = sequent_at c e goal;
-          reached = inl (by_rule o.premises binder_terms (rule_more (λ q i. inl i) (deeply_resolved c e) (deeply_resolved c goal) rule) all);
+          reached = inl (by_rule o.premises binder_terms (rule_more (λ q i. ⊎_elim (λ j. inl j) (λ j. absurd j) i) (deeply_resolved c e) (deeply_resolved c goal) rule) all);
           instance = itself;
           is_instance = record {
             environment = (let y = binder_terms.formed in one_itself _ _ _ (instance_of-itself (deeply_resolved c e) y.0));

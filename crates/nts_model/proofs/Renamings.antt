@@ -10,13 +10,13 @@ use Rattle.nts_model.proofs.Listed.{tell, same-yes, same-no, map-equal, among-ma
 abbrev pub swapped : Leaf → Leaf → Leaf → Leaf
 swapped x y l = cond (same l x) y (cond (same l y) x l)
 
-swapped-left : (x y : Leaf) → swapped x y x ≡ y
+pub swapped-left : (x y : Leaf) → swapped x y x ≡ y
 swapped-left x y = rw (same-yes x x refl) refl
 
 swapped-right : (x y : Leaf) → swapped x y y ≡ x
 swapped-right x y = elim (tell y x) [ inl p ↦ rw (same-yes y x p) p | inr e ↦ rw (e, same-yes y y refl) refl ]
 
-swapped-other : (x y l : Leaf) → same l x ≡ false → same l y ≡ false → swapped x y l ≡ l
+pub swapped-other : (x y l : Leaf) → same l x ≡ false → same l y ≡ false → swapped x y l ≡ l
 swapped-other x y l e f = rw (e, f) refl
 
 swapped-swapped : (x y l : Leaf) → swapped x y (swapped x y l) ≡ l
@@ -70,7 +70,7 @@ extension xs ys e = record { to = forward xs ys; from = backward xs ys; back = b
 pub renaming-injective : (ρ : Renaming) → IsInjective ρ.to
 renaming-injective ρ = record { tells = λ a b e. sym (ρ.back a) ∙ ap ρ.from e ∙ ρ.back b }
 
-forward-injective : (xs ys : List Leaf) (a b : Leaf) → forward xs ys a ≡ forward xs ys b → a ≡ b
+pub forward-injective : (xs ys : List Leaf) (a b : Leaf) → forward xs ys a ≡ forward xs ys b → a ≡ b
 forward-injective xs ys a b e = sym (backward-forward xs ys a) ∙ ap (backward xs ys) e ∙ backward-forward xs ys b
 
 pub map-forward : (xs ys : List Leaf) → AreDistinct xs → AreDistinct ys → map leaf_sort xs ≡ map leaf_sort ys → map (forward xs ys) xs ≡ ys

@@ -1,5 +1,5 @@
 -- What is proved under a table.
-use Rattle.std.specs.Prelude.{◌≡◌, ℕ, false, List, [], ◌∷◌, Some, Contains}
+use Rattle.std.specs.Prelude.{◌≡◌, ℕ, false, List, [], ◌∷◌, map, Some, Contains}
 use Rattle.nts_model.specs.declared.labels.Relation.{Relation}
 use Rattle.nts_model.specs.declared.labels.Relation.TheVariants as relation
 use Rattle.nts_model.specs.declared.labels.VariableKind.{VariableKind}
@@ -14,7 +14,7 @@ use Rattle.nts_model.specs.Related.{Constraint}
 use Rattle.nts_model.specs.Sequents.{Among, Premise, Sequent, IsInstance}
 use Rattle.nts_model.specs.Rules.{Equation, related, alike, Meaning, Mode}
 use Rattle.nts_model.specs.Proofs.{Derives, IsTree, HasFallingProof}
-use Rattle.nts_model.specs.Handlers.{Candidate, filled, constraint_by, AreValuesOf}
+use Rattle.nts_model.specs.Handlers.{Candidate, filled, constraint_by, premise_by, AreValuesOf}
 
 -- the values are closed terms that fit their variables, and the constraints are between terms of the table
 pub record HoldsTerms (c : Content) : Type 0 where
@@ -60,6 +60,14 @@ sequent_at c e p =
       hidden = [];
       open_goals = [];
     }
+
+-- goals under the table's values and roots
+abbrev pub read_goals : Content → List Premise → List Premise
+read_goals c gs = map (premise_by (deeply_resolved c)) gs
+
+-- .. and a goal that normalizes an alias, where these goals are left open
+abbrev pub sequent_with : Content → Tree → Tree → List Premise → Sequent
+sequent_with c e p gs = record (sequent_at c e p) { open_goals = read_goals c gs }
 
 -- an instance of what is derived without assumptions and, until cycles are accepted, without cycles
 pub record IsDerived (m : Meaning) (mode : Mode) (t : Sequent) : Type 0 where

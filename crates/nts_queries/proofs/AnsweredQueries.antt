@@ -108,4 +108,4 @@ query_says ks c f r m mode A same table says env predicate h =
     let proved : IsProvedFrom m mode A c (filled (first_values ks) f.environment) (filled (first_values ks) f.predicate) = rw same at h in
     subst (λ z. IsDerivedFrom m mode A (answer_sequent f z)) (sym says.is)
     (derived_instance m mode A _ (sequent_at c (filled (first_values ks) f.environment) (filled (first_values ks) f.predicate)) (answer_sequent f (response_of c says.roots 0 x)) proved
-    (said_instance c table.sound ks (first_values ks) says.roots x says.reads (all_plain ks c (first_values ks) x table says.reads says.no_hidden says.no_goals) (own_in ks c (first_values ks) x table says.reads says.no_hidden says.no_goals) f env predicate))
+    (said_instance c table.sound ks (first_values ks) says.roots x says.reads (all_plain ks c (first_values ks) x table says.reads says.no_hidden [] says.no_goals (λ y j. absurd j)) (own_in ks c (first_values ks) x table says.reads says.no_hidden [] says.no_goals (λ y j. absurd j)) f env predicate))

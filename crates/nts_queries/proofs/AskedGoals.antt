@@ -36,7 +36,7 @@ use Rattle.nts_canonical.specs.declared.types.CanonicalInput.{CanonicalInput}
 use Rattle.nts_canonical.specs.Forms.{form_of, input_of, trees_of}
 use Rattle.nts_canonical.specs.Building.{IsArgOf, kinds_of}
 use Rattle.nts_response.specs.declared.types.Response.{Response}
-use Rattle.nts_response.specs.Forms.{response_at}
+use Rattle.nts_response.specs.Forms.{premise_at, response_at}
 use Rattle.nts_response.specs.Applicable.{ShowsConstraints, IsApplicable, IsApplied}
 use Rattle.nts_queries.specs.Asking.{IsInputFor}
 use Rattle.nts_queries.specs.Telling.{QueryTells, QueryRefutes, Asked, Refused, IsCutIn}
@@ -160,8 +160,8 @@ module _ {a b d : List Tree} {t : Table} {g : Goal} {q : Vec GenericArg × Canon
     evaluates fits x same =
         record { input = asked; of_goal = of_goal; response = response_at d r; fits = rw kinds_are fits.to; applied = here; changes = same }
 
-    pub asks : {h : Handler} {mode : Mode} → QueryTells h mode (form_of b q.1) (response_at d r) → Asked h mode (content_of a t.entries) (content_of e u.entries) (tree_at a g.param_env.node) (tree_at a g.predicate.node)
-    asks {h} {mode} x = asked_by asked (response_at d r) of_goal (subst (λ f. QueryTells h mode f (response_at d r)) query.form x) here.applies
+    pub asks : {h : Handler} {mode : Mode} → IsAnswerTo d (kinds_of q.1) r → QueryTells h mode (form_of b q.1) (response_at d r) → Asked h mode (content_of a t.entries) (content_of e u.entries) (tree_at a g.param_env.node) (tree_at a g.predicate.node)
+    asks {h} {mode} fits x = asked_by asked (response_at d r) of_goal (subst (λ f. QueryTells h mode f (response_at d r)) query.form x) (rw kinds_are fits.to) here.applies
 
     pub asked_stays : (m : Meaning) (mode : Mode) (A : List Assumed) → AreFormed e → IsTable e u → IsAnswerTo d (kinds_of q.1) r → IsDerivedFrom m mode A (answer_sequent (form_of b q.1) (response_at d r))
         → Stays (content_of e u.entries) (λ z. IsProvedFrom m mode A z (tree_at a g.param_env.node) (tree_at a g.predicate.node))
@@ -171,7 +171,7 @@ module _ {a b d : List Tree} {t : Table} {g : Goal} {q : Vec GenericArg × Canon
         let v = content_of e u.entries in
         let p = query.proper.formed in
         let derived = subst (λ z. IsDerivedFrom m mode A (answer_sequent z (response_at d r))) query.form h in
-        let proved = asked_proved_from m mode A asked (response_at d r) c v query.proper terms.sound terms.values (original_named asked c query.proper refl posed.knows.env posed.knows.predicate) (rw kinds_are fits.to) here.applies derived in
+        let proved = asked_proved_from m mode A asked (response_at d r) c v query.proper terms.sound terms.values (original_named asked c query.proper refl posed.knows.env posed.knows.predicate) (rw kinds_are fits.to) (ap (map (premise_at d)) (let n = fits.no_more in n.no_goals)) here.applies derived in
         let k = here.applies.continues in
         record {
           later = λ z s n. proved_from_continues m mode A v z (tree_at a g.param_env.node) (tree_at a g.predicate.node) terms.sound s.sound terms.values s.values n terms.constraints
@@ -194,8 +194,8 @@ module _ {a b d : List Tree} {t : Table} {g : Goal} {q : Vec GenericArg × Canon
   query_cut {h} (inl x) = inl (query_refutes (subst (λ z. QueryRefutes h z (form_of b q.1)) query.mode x))
   query_cut (inr x) = inr (x.0, subst IsCutIn query.mode x.1)
 
-  pub response_refused : {h : Handler} {mode : Mode} (r : Canonical Response) → QueryTells h mode (form_of b q.1) (response_at d r) → RefusesResponse (content_of d t.entries) (trees_of d q.0.items) (response_at d r) → Refused h mode (content_of a t.entries) (tree_at a g.param_env.node) (tree_at a g.predicate.node)
-  response_refused {h} {mode} r x k = by_response asked (response_at d r) of_goal (subst (λ f. QueryTells h mode f (response_at d r)) query.form x) (rw (now, leaves_are) at k)
+  pub response_refused : {h : Handler} {mode : Mode} (r : Canonical Response) → IsAnswerTo d (kinds_of q.1) r → QueryTells h mode (form_of b q.1) (response_at d r) → RefusesResponse (content_of d t.entries) (trees_of d q.0.items) (response_at d r) → Refused h mode (content_of a t.entries) (tree_at a g.param_env.node) (tree_at a g.predicate.node)
+  response_refused {h} {mode} r fits x k = by_response asked (response_at d r) of_goal (subst (λ f. QueryTells h mode f (response_at d r)) query.form x) (rw kinds_are fits.to) (rw (now, leaves_are) at k)
 
 -- what an evaluation leaves, seen from a smaller store
 pub evaluates_at : {a d e : List Tree} {t u : Table} {x y : Tree} {z : HasChanged} → content_of d t.entries ≡ content_of a t.entries → Evaluates d e t u x y z → Evaluates a e t u x y z

@@ -143,15 +143,18 @@ module _ {a b : List Tree} {t u : Table} {g o : Goal} (posed : IsPosed a t g) (o
       (subst (λ z. Outcomes h (mode_of mode) there qs (offers z (tree_at b o.predicate.node)) rs) environment_same x))
 
   -- what its candidates are answered the goal is answered
-  pub told_through : (h : Handler) (mode : TypingMode) (qs : List GenericArg) (e : List Tree) (r : Canonical Response) → trees_of b qs ≡ trees_of a qs
-      → ((rs : List Answer) × Outcomes h (mode_of mode) there (trees_of b qs) (offers_of h (mode_of mode) b o) rs × StandsForAll rs (response_at e r)) ⊎ IsPlain there (trees_of b qs) (response_at e r) → IsTold h mode a t g qs e r
-  told_through h mode qs e r same (inl (rs, x, y)) =
-      let there_told : Outcomes h (mode_of mode) there (trees_of a qs) (offers_of h (mode_of mode) b o) rs = subst (λ z. Outcomes h (mode_of mode) there z (offers_of h (mode_of mode) b o) rs) same x in
-      tells_one rs (opened_outcomes h mode (trees_of a qs) rs there_told) y
-  told_through h mode qs e r same (inr x) = tells_nothing there (inr opens.table) (subst (λ z. IsPlain there z (response_at e r)) same x)
+  asked_opened : IsAsked b o → handlers.IsAsked (tree_at a g.param_env.node) (opened_in before (tree_at a g.predicate.node))
+  asked_opened asked = subst (λ z. handlers.IsAsked (tree_at a g.param_env.node) z) opens.predicate (subst (λ z. handlers.IsAsked z (tree_at b o.predicate.node)) environment_same asked.asked)
 
-  pub refuted_through : (h : Handler) (mode : TypingMode) (qs : List Tree) → Outcomes h (mode_of mode) there qs (offers_of h (mode_of mode) b o) [] → IsRefuted h mode a t g
-  refuted_through h mode qs x = all_fail qs (opened_outcomes h mode qs [] x)
+  pub told_through : IsAsked b o → (h : Handler) (mode : TypingMode) (qs : List GenericArg) (e : List Tree) (r : Canonical Response) → trees_of b qs ≡ trees_of a qs
+      → ((rs : List Answer) × Outcomes h (mode_of mode) there (trees_of b qs) (offers_of h (mode_of mode) b o) rs × StandsForAll rs (response_at e r)) ⊎ IsPlain there (trees_of b qs) (response_at e r) → IsTold h mode a t g qs e r
+  told_through ask h mode qs e r same (inl (rs, x, y)) =
+      let there_told : Outcomes h (mode_of mode) there (trees_of a qs) (offers_of h (mode_of mode) b o) rs = subst (λ z. Outcomes h (mode_of mode) there z (offers_of h (mode_of mode) b o) rs) same x in
+      tells_one rs (asked_opened ask) (opened_outcomes h mode (trees_of a qs) rs there_told) y
+  told_through ask h mode qs e r same (inr x) = tells_nothing there (inr opens.table) (subst (λ z. IsPlain there z (response_at e r)) same x)
+
+  pub refuted_through : IsAsked b o → (h : Handler) (mode : TypingMode) (qs : List Tree) → Outcomes h (mode_of mode) there qs (offers_of h (mode_of mode) b o) [] → IsRefuted h mode a t g
+  refuted_through ask h mode qs x = all_fail qs (asked_opened ask) (opened_outcomes h mode qs [] x)
 
   -- .. of which nothing is told there
   pub nothing_through : (h : Handler) (mode : TypingMode) (qs : List GenericArg) (e : List Tree) (r : Canonical Response) → trees_of b qs ≡ trees_of a qs → IsPlain there (trees_of b qs) (response_at e r) → IsTold h mode a t g qs e r

@@ -13,7 +13,7 @@ use Rattle.nts_search.specs.declared.kinds.CurrentGoalKind.{CurrentGoalKind}
 use Rattle.nts_search.specs.declared.kinds.CurrentGoalKind.TheVariants as kinds
 use Rattle.nts_search.specs.Kinds.{goal_kind_of}
 use Rattle.nts_delegate.specs.Offered.{path_kind_of, source_of}
-use Rattle.nts_queries.specs.Telling.{IsInductive}
+use Rattle.nts_queries.specs.Telling.{CanAsk, IsInductive}
 use Rattle.nts_queries.specs.Telling.RefusesOne.{cuts_one}
 use Rattle.nts_queries.specs.Searching.{IsCut}
 use Rattle.nts_queries.specs.Meant.{IsNestedSince}
@@ -151,25 +151,28 @@ module _ {a b : List Tree} {t : Table} (u : Table) (h : Handler) (mode : TypingM
   same_premise : premise_at b g ≡ premise_at a g
   same_premise = (let p = all_among (λ g. IsPosed a t g.1) gs g posed i in premise_same g e p.holds)
 
+  can_ask : IsTable b u → CanAsk here
+  can_ask w = record { sound = w.now.sound; current = w.now.proper.current }
+
   pub reach_more : {d : List Tree} (v : Table) → IsTable b u → Extends b d → IsAskedUnder h mode b u d v g.1 ⊎ (v.entries ≡ u.entries) → ReachesBy h mode a t d v gs
   reach_more {d} v w f (inl x) =
       let p = premise_at a g in
-      then_asks here p before (among_image (premise_at a) gs g i) (subst (λ (q : Premise). Asked h (mode_of mode) here (content_of d v.entries) (deeply_resolved here q.environment) (deeply_resolved here q.predicate)) same_premise x)
+      then_asks here p before (among_image (premise_at a) gs g i) (can_ask w) (subst (λ (q : Premise). Asked h (mode_of mode) here (content_of d v.entries) (deeply_resolved here q.environment) (deeply_resolved here q.predicate)) same_premise x)
   reach_more {d} v w f (inr x) = subst (Reaches h (mode_of mode) (goals_at a gs) (content_of a t.entries)) (sym (ap (content_of d) x ∙ content_of-extended f w.now)) before
 
-  pub refuse_more : {z : CurrentGoalKind} {w : PathKind} → path_kind_of w ≡ step_kind (goal_kind_of z) (source_of g.0) → z ≢ kinds.NormalizesTo → IsRefusedUnder h mode b u g.1 ⊎ IsCut mode w → RefusesOneOf h mode a t gs
-  refuse_more {z} {w} same n (inr x) =
+  pub refuse_more : IsTable b u → {z : CurrentGoalKind} {w : PathKind} → path_kind_of w ≡ step_kind (goal_kind_of z) (source_of g.0) → z ≢ kinds.NormalizesTo → IsRefusedUnder h mode b u g.1 ⊎ IsCut mode w → RefusesOneOf h mode a t gs
+  refuse_more table {z} {w} same n (inr x) =
       cuts_one here (premise_at a g) before (among_image (premise_at a) gs g i) (inductive_source z g.0 n (sym same ∙ ap path_kind_of x.0)) x.1
-  refuse_more same n (inl x) =
-      refuses_one here (premise_at a g) before (among_image (premise_at a) gs g i) (subst (λ (q : Premise). Refused h (mode_of mode) here (deeply_resolved here q.environment) (deeply_resolved here q.predicate)) same_premise x)
+  refuse_more table same n (inl x) =
+      refuses_one here (premise_at a g) before (among_image (premise_at a) gs g i) (can_ask table) (subst (λ (q : Premise). Refused h (mode_of mode) here (deeply_resolved here q.environment) (deeply_resolved here q.predicate)) same_premise x)
 
 -- a step over the goals that are left, after the steps before
 reaches_into : {h : Handler} {mode : Mode} (gs hs : List Premise) {c d e : Content} → ((p : Premise) → Among gs p → Among hs p) → Reaches h mode hs c d → Reaches h mode gs d e → Reaches h mode hs c e
 reaches_into gs hs f h asks_nothing = h
-reaches_into gs hs f h (then_asks x p r i q) = then_asks x p (reaches_into gs hs f h r) (f p i) q
+reaches_into gs hs f h (then_asks x p r i k q) = then_asks x p (reaches_into gs hs f h r) (f p i) k q
 
 refuses_into : {h : Handler} {mode : Mode} (gs hs : List Premise) {c d : Content} → ((p : Premise) → Among gs p → Among hs p) → Reaches h mode hs c d → RefusesOne h mode gs d → RefusesOne h mode hs c
-refuses_into gs hs f h (refuses_one x p r i q) = refuses_one x p (reaches_into gs hs f h r) (f p i) q
+refuses_into gs hs f h (refuses_one x p r i k q) = refuses_one x p (reaches_into gs hs f h r) (f p i) k q
 refuses_into gs hs f h (cuts_one x p r i q z) = cuts_one x p (reaches_into gs hs f h r) (f p i) q z
 
 module _ {a b : List Tree} {t : Table} (u : Table) (h : Handler) (mode : TypingMode) (gs left : List (GoalSource × Goal)) (posed : ArePosed a t gs) (some : AreLeft gs left) (e : Extends a b) (before : ReachesBy h mode a t b u gs) where

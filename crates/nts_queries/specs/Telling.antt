@@ -5,19 +5,20 @@ use Rattle.nts_model.specs.declared.labels.Relation.TheVariants as relation
 use Rattle.nts_model.specs.declared.labels.Sort.{Sort}
 use Rattle.nts_model.specs.Trees.{Tree, empty}
 use Rattle.nts_model.specs.Contents.{Content}
-use Rattle.nts_model.specs.Resolving.{deeply_resolved}
+use Rattle.nts_model.specs.Resolving.{IsSound, deeply_resolved}
+use Rattle.nts_model.specs.Levels.{AreCurrent}
 use Rattle.nts_model.specs.Equations.{AreUnrelated}
 use Rattle.nts_model.specs.Related.{Constraint}
 use Rattle.nts_model.specs.Sequents.{Source, type_relating, normalize_goal, inductive, Premise, Among}
 use Rattle.nts_model.specs.Rules.{Mode, coherence}
 use Rattle.nts_model.specs.Substitutions.{leaf_tree}
 use Rattle.nts_model.specs.Numbered.{position}
-use Rattle.nts_model.specs.Handlers.{Handler, Candidate, filled, constraint_by, premise_by}
+use Rattle.nts_model.specs.Handlers.{Handler, Candidate, IsAsked, filled, constraint_by, premise_by}
 use Rattle.nts_model.specs.Choosing.{Freshens, EquatesAll, IsMet}
 use Rattle.nts_model.specs.Forcing.{Adds, AddsAll}
 use Rattle.nts_model.specs.Opening.{entered, opened_in}
 use Rattle.nts_model.specs.Inputs.{Input, CanonicalInput, canonical_of, originals}
-use Rattle.nts_model.specs.Responses.{Response, Applies, RefusesResponse}
+use Rattle.nts_model.specs.Responses.{Response, IsResponseTo, Applies, RefusesResponse}
 use Rattle.nts_queries.specs.Asking.{first_table, first_values, asked_environment, asked_predicate, IsInputFor, IsResponseOf, without_constraints}
 
 -- the response of a table that keeps its region constraints to itself
@@ -73,17 +74,22 @@ IsInductive s = ⊥
 abbrev pub IsCutIn : Mode → Type 0
 IsCutIn mode = mode ≡ coherence → ⊥
 
+-- a table in which goals are asked: no variable leads back to itself, and none is of a universe above the current one
+pub record CanAsk (c : Content) : Type 0 where
+  pub sound : IsSound c
+  pub current : AreCurrent c
+
 mutual
   -- what a goal is answered in a table, for these terms: nothing is told, or the response that stands for those of the
   -- candidates for the goal, opened if it binds variables
   pub data Tells (h : Handler) (mode : Mode) : Content → Tree → Tree → List Tree → Response → Type 0 where
     tells_nothing : {c : Content} {e g : Tree} {qs : List Tree} {r : Response} (d : Content) → (d ≡ c) ⊎ (d ≡ entered c g) → IsPlain d qs r → Tells h mode c e g qs r
     says_nothing : {c : Content} {e g : Tree} {qs : List Tree} {r : Response} → SaysNothing r → Tells h mode c e g qs r
-    tells_one : {c : Content} {e g : Tree} {qs : List Tree} {r : Response} (rs : List Response) → Outcomes h mode (entered c g) qs (h.offers mode e (opened_in c g)) rs → StandsForAll rs r → Tells h mode c e g qs r
+    tells_one : {c : Content} {e g : Tree} {qs : List Tree} {r : Response} (rs : List Response) → IsAsked e (opened_in c g) → Outcomes h mode (entered c g) qs (h.offers mode e (opened_in c g)) rs → StandsForAll rs r → Tells h mode c e g qs r
 
   -- each candidate fails
   pub data Refutes (h : Handler) (mode : Mode) : Content → Tree → Tree → Type 0 where
-    all_fail : {c : Content} {e g : Tree} (qs : List Tree) → Outcomes h mode (entered c g) qs (h.offers mode e (opened_in c g)) [] → Refutes h mode c e g
+    all_fail : {c : Content} {e g : Tree} (qs : List Tree) → IsAsked e (opened_in c g) → Outcomes h mode (entered c g) qs (h.offers mode e (opened_in c g)) [] → Refutes h mode c e g
 
   -- candidate by candidate, it fails or has a response
   pub data Outcomes (h : Handler) (mode : Mode) : Content → List Tree → List Candidate → List Response → Type 0 where
@@ -106,18 +112,18 @@ mutual
   -- some of the goals were asked, in any order and more than once
   pub data Reaches (h : Handler) (mode : Mode) : List Premise → Content → Content → Type 0 where
     asks_nothing : {gs : List Premise} {c : Content} → Reaches h mode gs c c
-    then_asks : {gs : List Premise} {c e : Content} (d : Content) (p : Premise) → Reaches h mode gs c d → Among gs p → Asked h mode d e (deeply_resolved d p.environment) (deeply_resolved d p.predicate) → Reaches h mode gs c e
+    then_asks : {gs : List Premise} {c e : Content} (d : Content) (p : Premise) → Reaches h mode gs c d → Among gs p → CanAsk d → Asked h mode d e (deeply_resolved d p.environment) (deeply_resolved d p.predicate) → Reaches h mode gs c e
 
   -- .. and then one is refused; or, outside coherence, it is found again below itself by inductive steps alone
   pub data RefusesOne (h : Handler) (mode : Mode) : List Premise → Content → Type 0 where
-    refuses_one : {gs : List Premise} {c : Content} (d : Content) (p : Premise) → Reaches h mode gs c d → Among gs p → Refused h mode d (deeply_resolved d p.environment) (deeply_resolved d p.predicate) → RefusesOne h mode gs c
+    refuses_one : {gs : List Premise} {c : Content} (d : Content) (p : Premise) → Reaches h mode gs c d → Among gs p → CanAsk d → Refused h mode d (deeply_resolved d p.environment) (deeply_resolved d p.predicate) → RefusesOne h mode gs c
     cuts_one : {gs : List Premise} {c : Content} (d : Content) (p : Premise) → Reaches h mode gs c d → Among gs p → IsInductive p.source → IsCutIn mode → RefusesOne h mode gs c
 
   -- a goal was asked in a query, and the response was applied to its leaves
   pub data Asked (h : Handler) (mode : Mode) : Content → Content → Tree → Tree → Type 0 where
     asked_by : {c d : Content} {e g : Tree} (i : Input) (r : Response) → IsInputFor e g i
         → Tells h mode (first_table (canonical_of i).kinds) (asked_environment (canonical_of i)) (asked_predicate (canonical_of i)) (first_values (canonical_of i).kinds) r
-        → Applies c d (map leaf_tree (originals i)) r → Asked h mode c d e g
+        → IsResponseTo (let f = canonical_of i in f.kinds) r → Applies c d (map leaf_tree (originals i)) r → Asked h mode c d e g
 
   -- a goal is refused: its query refutes it, or no solution of the table grants the response
   pub data Refused (h : Handler) (mode : Mode) : Content → Tree → Tree → Type 0 where
@@ -125,7 +131,7 @@ mutual
         → Refutes h mode (first_table (canonical_of i).kinds) (asked_environment (canonical_of i)) (asked_predicate (canonical_of i)) → Refused h mode c e g
     by_response : {c : Content} {e g : Tree} (i : Input) (r : Response) → IsInputFor e g i
         → Tells h mode (first_table (canonical_of i).kinds) (asked_environment (canonical_of i)) (asked_predicate (canonical_of i)) (first_values (canonical_of i).kinds) r
-        → RefusesResponse c (map leaf_tree (originals i)) r → Refused h mode c e g
+        → IsResponseTo (let f = canonical_of i in f.kinds) r → RefusesResponse c (map leaf_tree (originals i)) r → Refused h mode c e g
 
 -- .. of the goal of a canonical input, in the first table of its query
 abbrev pub QueryTells : Handler → Mode → CanonicalInput → Response → Type 0

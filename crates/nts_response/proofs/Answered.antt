@@ -138,7 +138,7 @@ module _ (ts : List Tree) (ks : List PositionKind) (os : List Tree) (q : Content
       let among = contained_among own l at in
       record {
         universe = subst (λ z. universe_of_kind k ≤ z) (sym (ap (λ (z : Form). z.max_universe) is)) (below_greatest (answer_kinds q sub 0 own) k i);
-        original = subst (NamesOriginal os) (sym e) (names_original os q (position_or_len (share sub l) own) l (leaves l (own_in ks q qs x table found no_hidden no_goals l among)) (own_loose x l among));
+        original = subst (NamesOriginal os) (sym e) (names_original os q (position_or_len (share sub l) own) l (leaves l (own_in ks q qs x table found no_hidden [] no_goals (λ y j. absurd j) l among)) (own_loose x l among));
       }
 
   -- each value
@@ -153,7 +153,7 @@ module _ (ts : List Tree) (ks : List PositionKind) (os : List Tree) (q : Content
   value_over : (t : Tree) → Contains (map (positioned own) x.values) t → IsTreeOver sorts t
   value_over t i =
       let (u, at, e) = contained_from (positioned own) x.values t i in
-      let plain = all_plain ks q qs x table found no_hidden no_goals in
+      let plain = all_plain ks q qs x table found no_hidden [] no_goals (λ y j. absurd j) in
       let seen = all_found_seen x in
       subst (IsTreeOver sorts) (sym e) (positioned_is_over own u (tree_so IsPlainTerm x.values u plain.values at) (value_closed u at) (tree_so (AreSeen own) x.values u seen.values at))
 
@@ -181,7 +181,7 @@ module _ (ts : List Tree) (ks : List PositionKind) (os : List Tree) (q : Content
   constraint_over : (y : Recorded) → Contains (map (recorded_by (positioned own)) x.constraints) y → IsOverThere y
   constraint_over y i =
       let (z, at, e) = contained_from (recorded_by (positioned own)) x.constraints y i in
-      let plain = all_plain ks q qs x table found no_hidden no_goals in
+      let plain = all_plain ks q qs x table found no_hidden [] no_goals (λ y j. absurd j) in
       let seen = all_found_seen x in
       let p = sides_so IsPlainTerm x.constraints z plain.constraints at in
       let h = sides_so (AreSeen own) x.constraints z seen.constraints at in

@@ -15,7 +15,7 @@ use Rattle.nts_search.specs.Ending.{AreOneAnswer, IsVague}
 one_says : (ts : List Tree) (i : CanonicalInput) (o : Option (Canonical Response)) (r : Canonical Response) → AreOneAnswer ts o (Some r) → SaysSame (answer_at ts i o) (response_at ts r)
 one_says ts i None r h = absurd h
 one_says ts i (Some q) r h =
-    record { values = ap (λ z. z.findings.values) h.form; constraints = ap (λ z. z.findings.constraints) h.form; kinds = ap (λ z. z.kinds) h.form }
+    record { values = ap (λ z. z.findings.values) h.form; constraints = ap (λ z. z.findings.constraints) h.form; open_goals = ap (λ z. z.findings.open_goals) h.form; kinds = ap (λ z. z.kinds) h.form }
 
 -- where the answer is certain
 pub round_may_end : (ts : List Tree) (x : StackEntry) (r : Canonical Response) → (x.is_read ≡ false) ⊎ (AreOneAnswer ts x.provisional (Some r) ⊎ IsVague ts (Some r))

@@ -293,7 +293,7 @@ pub evaluate_goal-returns-clause-refuted : goal.evaluate_goal-returns-clause-ref
 evaluate_goal-returns-clause-refuted g t c = λ s tells n.
     let q = c.in_ok-originals.ensures in
     let k = c.in_ok-answer.ensures in
-    inl (response_refused c.requires.posed q.query q.grows.extends k.grows.extends c.in_ok-answer.answer.value (rw q.query.mode at (k.told (Since-later q.grows.extends s) (tell_grown (g.H.GoalHandler.handler s.base c.args.handler.now) (c.args.depth + 1) c.requires.search q.grows tells))) (rw (c.deref.ensures.value, c.deref-2.ensures) at (c.apply_answer-evaluated.ensures.no n)))
+    inl (response_refused c.requires.posed q.query q.grows.extends k.grows.extends c.in_ok-answer.answer.value k.fits (rw q.query.mode at (k.told (Since-later q.grows.extends s) (tell_grown (g.H.GoalHandler.handler s.base c.args.handler.now) (c.args.depth + 1) c.requires.search q.grows tells))) (rw (c.deref.ensures.value, c.deref-2.ensures) at (c.apply_answer-evaluated.ensures.no n)))
 
 pub evaluate_goal-returns-clause-runs : goal.evaluate_goal-returns-clause-runs
 evaluate_goal-returns-clause-runs g t c =
@@ -310,7 +310,7 @@ evaluate_goal-returns-clause-told g t c = λ s tells.
     let q = c.in_ok-originals.ensures in
     let k = c.in_ok-answer.ensures in
     OnOk-map c.apply_answer-evaluated.result
-    (λ applied. asks c.requires.posed q.query q.grows.extends k.grows.extends c.apply_answer-evaluated.new.table c.in_ok-answer.answer.value applied (rw q.query.mode at (k.told (Since-later q.grows.extends s) (tell_grown (g.H.GoalHandler.handler s.base c.args.handler.now) (c.args.depth + 1) c.requires.search q.grows tells))))
+    (λ applied. asks c.requires.posed q.query q.grows.extends k.grows.extends c.apply_answer-evaluated.new.table c.in_ok-answer.answer.value applied k.fits (rw q.query.mode at (k.told (Since-later q.grows.extends s) (tell_grown (g.H.GoalHandler.handler s.base c.args.handler.now) (c.args.depth + 1) c.requires.search q.grows tells))))
     (rw (c.deref.ensures.value, c.deref-2.ensures) at c.apply_answer-evaluated.ensures.applied)
 
 pub evaluate_goal-returns-in_err-answer-clause-refuted : goal.evaluate_goal-returns-in_err-answer-clause-refuted
@@ -519,7 +519,7 @@ evaluate_step-returns-in_err-answer-clause-refuted g t c = λ s tells kind n.
     let h = g.H.GoalHandler.handler s.base c.args.handler.now in
     let refused : c.evaluate_added.result ≡ Err EvalError.NoSolution = search rules in
     let later = heads_tell_later h (bound_of c.args.depth) c.requires.search i.runs.goes.extends i.searches tells in
-    refuse_more c.loop-added.table h c.args.table.now.mode c.args.goals.now _ c.requires.posed (among_get c.args.goals.now c.loop-added.added-index _ c.loop-added-test.true) i.runs.goes.extends (i.told s tells) c.step_kind_for_source-kind.ensures kind
+    refuse_more c.loop-added.table h c.args.table.now.mode c.args.goals.now _ c.requires.posed (among_get c.args.goals.now c.loop-added.added-index _ c.loop-added-test.true) i.runs.goes.extends (i.told s tells) i.runs.goes.table c.step_kind_for_source-kind.ensures kind
     (rw i.runs.goes.mode at (c.evaluate_added.ensures.refuted (Since-later i.runs.goes.extends s) later refused))
 
 pub evaluate_step-returns-in_err-answer-clause-runs : goal.evaluate_step-returns-in_err-answer-clause-runs

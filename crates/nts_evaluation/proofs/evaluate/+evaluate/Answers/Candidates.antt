@@ -120,7 +120,7 @@ compute_goal-returns-clause-refuted g t c = λ s tells n.
     let here = content_of-extended e.grows.extends o.goes.table.now in
     let kept = rw (c.deref.ensures.value, m.same) at (c.evaluate_candidates-response.ensures.refuted (Since-later (Extends-trans up m.grows.extends) s) (tell_grown h c.args.depth c.requires.search (grown o.grows (grown e.grows m.grows)) tells) n) in
     let run = kept_outcomes c.in-Some.opened h c.enter_forall.new.table.mode c.args.values.now m.kept m.grows.extends (IsTable-extended e.grows.extends o.goes.table) args e.candidates kept in
-    refuted_through c.requires.posed opened o.grows.extends h c.args.table.now.mode (trees_of c.relevant_candidates.new.cx.nodes c.args.values.now)
+    refuted_through c.requires.posed opened o.grows.extends (let z = c.is_candidates_goal.ensures c.if-not-is_candidates_goal.false in z.asked) h c.args.table.now.mode (trees_of c.relevant_candidates.new.cx.nodes c.args.values.now)
     (rw (here, o.goes.mode, offers-kept h (mode_of c.args.table.now.mode) e.grows.extends posed.holds) at (all_outcomes offered _ _ refl run))
 
 pub compute_goal-returns-clause-told : goal.compute_goal-returns-clause-told
@@ -140,7 +140,7 @@ compute_goal-returns-clause-told g t c = λ s tells.
     let offered = subst (λ os. LeavesOut os (candidates_of c.relevant_candidates.new.cx.nodes c.in_ok-candidates.candidates.items)) (ap (λ m. (g.H.GoalHandler.handler c.relevant_candidates.new.cx.nodes c.args.handler.now).offers (mode_of m) (tree_at c.relevant_candidates.new.cx.nodes c.in-Some.opened.param_env.node) (tree_at c.relevant_candidates.new.cx.nodes c.in-Some.opened.predicate.node)) c.typing_mode.ensures ∙ same.offers _ _ _) e.offered in
     let run = rw (c.deref.ensures.value, m.same) at (c.evaluate_candidates-response.ensures.told (Since-later (Extends-trans up m.grows.extends) s) (tell_grown h c.args.depth c.requires.search (grown o.grows (grown e.grows m.grows)) tells)) in
     IfOk-map c.evaluate_candidates-response.result
-    (λ r f. told_through c.requires.posed opened o.grows.extends h c.args.table.now.mode c.args.values.now c.evaluate_candidates-response.new.cx.nodes r.value trees
+    (λ r f. told_through c.requires.posed opened o.grows.extends (let z = c.is_candidates_goal.ensures c.if-not-is_candidates_goal.false in z.asked) h c.args.table.now.mode c.args.values.now c.evaluate_candidates-response.new.cx.nodes r.value trees
     (rw (o.goes.mode) at (told_offered h c.enter_forall.new.table.mode c.enter_forall.new.table c.in-Some.opened c.args.values.now c.in_ok-candidates.candidates.items c.evaluate_candidates-response.new.cx.nodes r.value e.grows.extends o.goes.table posed.holds (both ∙ sym trees) offered
     (kept_tell c.evaluate_candidates-response.new.cx.nodes c.in-Some.opened h c.enter_forall.new.table.mode c.args.values.now r.value m.kept m.grows.extends (IsTable-extended e.grows.extends o.goes.table) args e.candidates f)))) run
 
