@@ -1,29 +1,14 @@
 //! The recursion over nested goals. Its functions stand on the stack once for each goal above, so what
 //! they call and is not of the recursion is kept out of their frames, by `inline(never)`, and what is large stands behind boxes.
-ghost use Rattle.std.specs.Prelude.{true, false, ◌≡◌, ◌≢◌, ◌<◌, ◌≤◌, ◌+◌, ◌⊎◌, [], ◌∷◌, Some, IfOk, IfSome, OnOk, OnErr, All};
-ghost use Rattle.nts_model.specs.Passing.{BringsOnly};
-ghost use Rattle.nts_model.specs.Proofs.{passed};
-ghost use Rattle.nts_model.specs.Stacks.{IsDerivedFrom, assumptions};
-ghost use Rattle.nts_model.specs.Responses.{answer_sequent};
-ghost use Rattle.nts_canonical.specs.Forms.{form_of};
+ghost use Rattle.std.specs.Prelude.{◌+◌, All};
 ghost use Rattle.nts_canonical.specs.Building.{kinds_of, IsArgOf};
-ghost use Rattle.nts_response.specs.Forms.{response_at};
 ghost use Rattle.nts_delegate.specs.Candidates.{IsCandidate, AreCandidates};
-ghost use Rattle.nts_delegate.specs.Offered.{path_kind_of};
-ghost use Rattle.nts_terms.specs.Modes.{mode_of};
-ghost use Rattle.nts_search.specs.declared.kinds.CurrentGoalKind.TheVariants as kinds;
-ghost use Rattle.nts_search.specs.Kinds.{goal_kind_of};
-ghost use Rattle.nts_search.specs.Searching.{entry_at, entries_at};
-ghost use Rattle.nts_queries.specs.Meant.{Since, meaning_since, AreOffered, IsOffered, IsServedSince, IsProvedNow, IsProvedFromSince, IsNestedSince, IsAskedTo, IsRefusedIn, IsAskedUnder, IsRefusedUnder, IsQueryTold, IsQueryRefuted, IsTold, IsRefuted, HaveOutcomes, CandidatesTell, RepliesWith, FailsIn, HasRunTo, ReachesBy, RefusesOneOf};
-ghost use Rattle.nts_queries.specs.Searching.{IsSearch, Searches, IsHeadAnswer, IsAnswerTold, HeadsTell, IsCut, assumed_in};
-ghost use Rattle.nts_queries.specs.Found.{Found};
-ghost use Rattle.nts_queries.specs.Stepping.{ArePosed, AreLeft, AreSettled, terms_of, bound_of};
-ghost use Rattle.nts_queries.specs.Answering.{IsQueryInput, IsAnswerTo, EvaluatesGoal, IfSure, IfCertain, IfAnswered};
-ghost use Rattle.nts_queries.specs.Evaluation.{Runs, IsPosed, IsAskedGoal, asked_terms};
-ghost use Rattle.nts_unify.specs.Reading.{content_of};
+ghost use Rattle.nts_queries.specs.Searching.{IsSearch, IsHeadAnswer};
+ghost use Rattle.nts_queries.specs.Stepping.{ArePosed, bound_of};
+ghost use Rattle.nts_queries.specs.Answering.{IsQueryInput};
+ghost use Rattle.nts_queries.specs.Evaluation.{IsPosed, IsAskedGoal};
 ghost use Rattle.nts_table.specs.Tables.{IsTable};
-ghost use Rattle.nts_certainty.specs.declared.certainty.Certainty.TheVariants as certainty;
-ghost use Rattle.nts_terms.specs.Rest.{Grows};
+ghost use Rattle.nts_evaluation.specs.Promises.{rules_of, AnswersQuery, AsksGoal, AsksAdded, EndsRound, AnswersGoal, TriesEach, TriesOne, RunsOne, StepsGoals, StepsOnce};
 
 use nts_canonical::CanonicalInput;
 use nts_certainty::{Certainty, GoalSource, HasChanged, PathKind};
@@ -55,14 +40,8 @@ pub fn evaluate_goal<H: GoalHandler>(
     requires posed { IsPosed cx.old.nodes table.old goal }
     requires ready { H.ready cx.old.nodes handler.now }
     requires search { IsSearch cx.old graph.old (depth + 1) }
-    ensures runs { Runs cx.old cx.new table.old table.new }
-    ensures searches { Searches cx.old cx.new graph.old graph.new }
-    ensures err { OnErr result (table.new ≡ table.old) }
-    ensures evaluates { IfOk result (λ e. EvaluatesGoal cx.old.nodes cx.new.nodes table.old table.new goal e.has_changed) }
-    ensures labels { OnOk result (BringsOnly (asked_terms cx.old.nodes goal) (content_of cx.old.nodes table.old.entries) (content_of cx.new.nodes table.new.entries)) }
-    ensures proved { (s : Since (λ ts. H.ready ts handler.now) cx.old.nodes) → IfSure result (IsProvedFromSince (λ ts. H.handler ts handler.now) s table.old.mode (passed (path_kind_of step) (assumed_in cx.new.nodes graph.new)) cx.new.nodes table.new goal) }
-    ensures told { (s : Since (λ ts. H.ready ts handler.now) cx.old.nodes) → HeadsTell (H.handler s.base handler.now) cx.old.nodes graph.old → OnOk result (IsAskedTo (H.handler s.base handler.now) table.old.mode cx.old.nodes table.old cx.new.nodes table.new goal) }
-    ensures refuted { (s : Since (λ ts. H.ready ts handler.now) cx.old.nodes) → HeadsTell (H.handler s.base handler.now) cx.old.nodes graph.old → result ≡ Err EvalError.NoSolution → IsRefusedIn (H.handler s.base handler.now) table.old.mode cx.old.nodes table.old goal ⊎ IsCut table.old.mode step }
+    ensures { AsksGoal (rules_of H.ready H.handler handler.now) cx.old cx.new graph.old graph.new
+        table.old table.new goal step result }
 {
     let (originals, input) = boxed_query(table, cx, goal)?;
     let answer = search(cx, handler, graph, input, step, depth)?;
@@ -84,12 +63,8 @@ pub fn search<H: GoalHandler>(
     requires input { IsQueryInput cx.old.nodes input.value }
     requires ready { H.ready cx.old.nodes handler.now }
     requires search { IsSearch cx.old graph.old (depth + 1) }
-    ensures grows { Grows cx.old cx.new }
-    ensures searches { Searches cx.old cx.new graph.old graph.new }
-    ensures fits { IfAnswered result (IsAnswerTo cx.new.nodes (kinds_of input.value)) }
-    ensures proved { (s : Since (λ ts. H.ready ts handler.now) cx.old.nodes) → IfCertain result (λ r. IsDerivedFrom (meaning_since (λ ts. H.handler ts handler.now) s) (mode_of input.value.typing_mode) (passed (path_kind_of step) (assumed_in cx.new.nodes graph.new)) (answer_sequent (form_of cx.old.nodes input.value) (response_at cx.new.nodes r))) }
-    ensures told { (s : Since (λ ts. H.ready ts handler.now) cx.old.nodes) → HeadsTell (H.handler s.base handler.now) cx.old.nodes graph.old → IfAnswered result (IsQueryTold (H.handler s.base handler.now) (mode_of input.value.typing_mode) cx.old.nodes input.value cx.new.nodes) }
-    ensures refuted { (s : Since (λ ts. H.ready ts handler.now) cx.old.nodes) → HeadsTell (H.handler s.base handler.now) cx.old.nodes graph.old → result ≡ Err EvalError.NoSolution → IsQueryRefuted (H.handler s.base handler.now) (mode_of input.value.typing_mode) cx.old.nodes input.value ⊎ IsCut input.value.typing_mode step }
+    ensures { AnswersQuery (rules_of H.ready H.handler handler.now) cx.old cx.new graph.old graph.new
+        input.value step result }
 {
     if let Some(head) = graph.find(cx, &input) {
         return answer_cycle(cx, graph, head, &input, step);
@@ -115,12 +90,8 @@ fn evaluate_rounds<H: GoalHandler>(
     requires input { IsQueryInput cx.old.nodes input.value }
     requires ready { H.ready cx.old.nodes handler.now }
     requires search { IsSearch cx.old graph.old (depth + 1) }
-    ensures grows { Grows cx.old cx.new }
-    ensures searches { Searches cx.old cx.new graph.old graph.new }
-    ensures fits { IfAnswered result (IsAnswerTo cx.new.nodes (kinds_of input.value)) }
-    ensures proved { (s : Since (λ ts. H.ready ts handler.now) cx.old.nodes) → IfCertain result (λ r. IsDerivedFrom (meaning_since (λ ts. H.handler ts handler.now) s) (mode_of input.value.typing_mode) (passed (path_kind_of step) (assumed_in cx.new.nodes graph.new)) (answer_sequent (form_of cx.old.nodes input.value) (response_at cx.new.nodes r))) }
-    ensures told { (s : Since (λ ts. H.ready ts handler.now) cx.old.nodes) → HeadsTell (H.handler s.base handler.now) cx.old.nodes graph.old → IfAnswered result (IsQueryTold (H.handler s.base handler.now) (mode_of input.value.typing_mode) cx.old.nodes input.value cx.new.nodes) }
-    ensures refuted { (s : Since (λ ts. H.ready ts handler.now) cx.old.nodes) → HeadsTell (H.handler s.base handler.now) cx.old.nodes graph.old → result ≡ Err EvalError.NoSolution → IsQueryRefuted (H.handler s.base handler.now) (mode_of input.value.typing_mode) cx.old.nodes input.value }
+    ensures { AnswersQuery (rules_of H.ready H.handler handler.now) cx.old cx.new graph.old graph.new
+        input.value step result }
 {
     let mut asked = first_round(cx, input)?;
     for round in 0..cx.round_limit() {
@@ -150,13 +121,8 @@ fn evaluate_round<H: GoalHandler>(
     requires provisional { IsHeadAnswer cx.old.nodes (kinds_of asked.value.input) asked.value.provisional }
     requires ready { H.ready cx.old.nodes handler.now }
     requires search { IsSearch cx.old graph.old (depth + 1) }
-    ensures grows { Grows cx.old cx.new }
-    ensures searches { Searches cx.old cx.new graph.old graph.new }
-    ensures entry { IfOk result (λ z. (z.value.entry.input ≡ asked.value.input) × (z.value.entry.step_kind ≡ step) × (z.value.entry.provisional ≡ asked.value.provisional)) }
-    ensures fits { IfOk result (λ z. IsHeadAnswer cx.new.nodes (kinds_of asked.value.input) z.value.answer) }
-    ensures proved { (s : Since (λ ts. H.ready ts handler.now) cx.old.nodes) → IfOk result (λ z. IfSome z.value.answer (λ r. r.value.certainty ≡ certainty.Yes → IsDerivedFrom (meaning_since (λ ts. H.handler ts handler.now) s) (mode_of asked.value.input.typing_mode) (assumptions (entry_at cx.new.nodes z.value.entry ∷ entries_at cx.new.nodes graph.new)) (answer_sequent (form_of cx.old.nodes asked.value.input) (response_at cx.new.nodes r)))) }
-    ensures told { (s : Since (λ ts. H.ready ts handler.now) cx.old.nodes) → HeadsTell (H.handler s.base handler.now) cx.old.nodes graph.old → IsAnswerTold (H.handler s.base handler.now) (mode_of asked.value.input.typing_mode) cx.old.nodes (form_of cx.old.nodes asked.value.input) asked.value.provisional → IfOk result (λ z. IsAnswerTold (H.handler s.base handler.now) (mode_of asked.value.input.typing_mode) cx.new.nodes (form_of cx.old.nodes asked.value.input) z.value.answer) }
-    ensures no { result ≢ Err EvalError.NoSolution }
+    ensures { EndsRound (rules_of H.ready H.handler handler.now) cx.old cx.new graph.old graph.new
+        asked.value step result }
 {
     let (mut table, goal, values) = query_table(cx, &asked.input)?;
     push_query(graph, asked, step)?;
@@ -181,11 +147,8 @@ fn compute_goal<H: GoalHandler>(
     requires ready { H.ready cx.old.nodes handler.now }
     requires values { All (IsArgOf cx.old.nodes table.old.entries) values.now }
     requires search { IsSearch cx.old graph.old (depth) }
-    ensures grows { Grows cx.old cx.new }
-    ensures searches { Searches cx.old cx.new graph.old graph.new }
-    ensures found { IfAnswered result (Found (λ b u. (s : Since (λ ts. H.ready ts handler.now) cx.old.nodes) → IsProvedNow (λ ts. H.handler ts handler.now) s table.old.mode (assumed_in cx.new.nodes graph.new) b u goal) cx.old.nodes cx.new.nodes table.old goal values.now) }
-    ensures told { (s : Since (λ ts. H.ready ts handler.now) cx.old.nodes) → HeadsTell (H.handler s.base handler.now) cx.old.nodes graph.old → IfAnswered result (IsTold (H.handler s.base handler.now) table.old.mode cx.old.nodes table.old goal values.now cx.new.nodes) }
-    ensures refuted { (s : Since (λ ts. H.ready ts handler.now) cx.old.nodes) → HeadsTell (H.handler s.base handler.now) cx.old.nodes graph.old → result ≡ Err EvalError.NoSolution → IsRefuted (H.handler s.base handler.now) table.old.mode cx.old.nodes table.old goal }
+    ensures { AnswersGoal (rules_of H.ready H.handler handler.now) cx.old cx.new graph.old graph.new
+        table.old goal values.now result }
 {
     let opened = enter_forall(table, cx, goal)?;
     terms_are_formed(cx);
@@ -223,12 +186,8 @@ fn evaluate_candidates<H: GoalHandler>(
     requires candidates { AreCandidates cx.old.nodes goal candidates.now }
     requires values { All (IsArgOf cx.old.nodes table.old.entries) values.now }
     requires search { IsSearch cx.old graph.old (depth) }
-    ensures same { table.new ≡ table.old }
-    ensures grows { Grows cx.old cx.new }
-    ensures searches { Searches cx.old cx.new graph.old graph.new }
-    ensures found { IfAnswered result (Found (λ b u. (s : Since (λ ts. H.ready ts handler.now) cx.old.nodes) → AreOffered (H.handler s.base handler.now) table.old.mode cx.old.nodes goal candidates.now → IsServedSince (λ ts. H.handler ts handler.now) s table.old.mode (assumed_in cx.new.nodes graph.new) b u goal) cx.old.nodes cx.new.nodes table.old goal values.now) }
-    ensures told { (s : Since (λ ts. H.ready ts handler.now) cx.old.nodes) → HeadsTell (H.handler s.base handler.now) cx.old.nodes graph.old → IfAnswered result (CandidatesTell (H.handler s.base handler.now) table.old.mode cx.old.nodes table.old values.now candidates.now cx.new.nodes) }
-    ensures refuted { (s : Since (λ ts. H.ready ts handler.now) cx.old.nodes) → HeadsTell (H.handler s.base handler.now) cx.old.nodes graph.old → result ≡ Err EvalError.NoSolution → HaveOutcomes (H.handler s.base handler.now) table.old.mode cx.old.nodes table.old values.now candidates.now [] }
+    ensures { TriesEach (rules_of H.ready H.handler handler.now) cx.old cx.new graph.old graph.new
+        table.old table.new goal values.now candidates.now result }
 {
     let mut responses = Vec::new(cx.alloc);
     for candidate in candidates {
@@ -257,12 +216,8 @@ fn probe_candidate<H: GoalHandler>(
     requires candidate { IsCandidate cx.old.nodes goal candidate.now }
     requires values { All (IsArgOf cx.old.nodes table.old.entries) values.now }
     requires search { IsSearch cx.old graph.old (depth) }
-    ensures same { table.new ≡ table.old }
-    ensures grows { Grows cx.old cx.new }
-    ensures searches { Searches cx.old cx.new graph.old graph.new }
-    ensures found { IfAnswered result (Found (λ b u. (s : Since (λ ts. H.ready ts handler.now) cx.old.nodes) → IsOffered (H.handler s.base handler.now) table.old.mode cx.old.nodes goal candidate.now → IsServedSince (λ ts. H.handler ts handler.now) s table.old.mode (assumed_in cx.new.nodes graph.new) b u goal) cx.old.nodes cx.new.nodes table.old goal values.now) }
-    ensures told { (s : Since (λ ts. H.ready ts handler.now) cx.old.nodes) → HeadsTell (H.handler s.base handler.now) cx.old.nodes graph.old → IfAnswered result (RepliesWith (H.handler s.base handler.now) table.old.mode cx.old.nodes table.old values.now candidate.now cx.new.nodes) }
-    ensures refuted { (s : Since (λ ts. H.ready ts handler.now) cx.old.nodes) → HeadsTell (H.handler s.base handler.now) cx.old.nodes graph.old → result ≡ Err EvalError.NoSolution → FailsIn (H.handler s.base handler.now) table.old.mode cx.old.nodes table.old candidate.now }
+    ensures { TriesOne (rules_of H.ready H.handler handler.now) cx.old cx.new graph.old graph.new
+        table.old table.new goal values.now candidate.now result }
 {
     let snapshot = table.start_snapshot()?;
     let certainty = match run_candidate(table, cx, handler, graph, goal, candidate, depth) {
@@ -299,12 +254,8 @@ fn run_candidate<H: GoalHandler>(
     requires ready { H.ready cx.old.nodes handler.now }
     requires candidate { IsCandidate cx.old.nodes goal candidate.now }
     requires search { IsSearch cx.old graph.old (depth) }
-    ensures runs { Runs cx.old cx.new table.old table.new }
-    ensures searches { Searches cx.old cx.new graph.old graph.new }
-    ensures labels { OnOk result (BringsOnly (asked_terms cx.old.nodes goal) (content_of cx.old.nodes table.old.entries) (content_of cx.new.nodes table.new.entries)) }
-    ensures proved { (s : Since (λ ts. H.ready ts handler.now) cx.old.nodes) → IsOffered (H.handler s.base handler.now) table.old.mode cx.old.nodes goal candidate.now → result ≡ Ok certainty.Yes → IsServedSince (λ ts. H.handler ts handler.now) s table.old.mode (assumed_in cx.new.nodes graph.new) cx.new.nodes table.new goal }
-    ensures told { (s : Since (λ ts. H.ready ts handler.now) cx.old.nodes) → HeadsTell (H.handler s.base handler.now) cx.old.nodes graph.old → OnOk result (HasRunTo (H.handler s.base handler.now) table.old.mode cx.old.nodes table.old cx.new.nodes table.new candidate.now) }
-    ensures refuted { (s : Since (λ ts. H.ready ts handler.now) cx.old.nodes) → HeadsTell (H.handler s.base handler.now) cx.old.nodes graph.old → result ≡ Err EvalError.NoSolution → FailsIn (H.handler s.base handler.now) table.old.mode cx.old.nodes table.old candidate.now }
+    ensures { RunsOne (rules_of H.ready H.handler handler.now) cx.old cx.new graph.old graph.new
+        table.old table.new goal candidate.now result }
 {
     let kind = goal_kind(cx, handler, goal);
     let values = equate(table, cx, goal, candidate)?;
@@ -347,16 +298,8 @@ pub fn try_evaluate_goals<H: GoalHandler>(
     requires posed { ArePosed cx.old.nodes table.old goals.old.items }
     requires ready { H.ready cx.old.nodes handler.now }
     requires search { IsSearch cx.old graph.old (bound_of depth) }
-    ensures runs { Runs cx.old cx.new table.old table.new }
-    ensures searches { Searches cx.old cx.new graph.old graph.new }
-    ensures steps { last_steps.new ≤ cx.old.step_limit }
-    ensures posed { ArePosed cx.new.nodes table.new goals.new.items }
-    ensures left { AreLeft goals.old.items goals.new.items }
-    ensures labels { OnOk result (BringsOnly (terms_of cx.old.nodes goals.old.items) (content_of cx.old.nodes table.old.entries) (content_of cx.new.nodes table.new.entries)) }
-    ensures proved { (s : Since (λ ts. H.ready ts handler.now) cx.old.nodes) → OnOk result (AreSettled (IsNestedSince (λ ts. H.handler ts handler.now) s table.old.mode (goal_kind_of kind) (assumed_in cx.new.nodes graph.new) cx.new.nodes table.new) goals.old.items goals.new.items) }
-    ensures sure { result ≡ Ok certainty.Yes → goals.new.items ≡ [] }
-    ensures told { (s : Since (λ ts. H.ready ts handler.now) cx.old.nodes) → HeadsTell (H.handler s.base handler.now) cx.old.nodes graph.old → OnOk result (ReachesBy (H.handler s.base handler.now) table.old.mode cx.old.nodes table.old cx.new.nodes table.new goals.old.items) }
-    ensures refuted { (s : Since (λ ts. H.ready ts handler.now) cx.old.nodes) → HeadsTell (H.handler s.base handler.now) cx.old.nodes graph.old → kind ≢ kinds.NormalizesTo → result ≡ Err EvalError.NoSolution → RefusesOneOf (H.handler s.base handler.now) table.old.mode cx.old.nodes table.old goals.old.items }
+    ensures { StepsGoals (rules_of H.ready H.handler handler.now) cx.old cx.new graph.old graph.new
+        table.old table.new goals.old.items goals.new.items kind last_steps.new result }
 {
     *last_steps = 0;
     for step in 0..cx.step_limit() {
@@ -385,15 +328,8 @@ fn evaluate_step<H: GoalHandler>(
     requires posed { ArePosed cx.old.nodes table.old goals.now }
     requires ready { H.ready cx.old.nodes handler.now }
     requires search { IsSearch cx.old graph.old (bound_of depth) }
-    ensures runs { Runs cx.old cx.new table.old table.new }
-    ensures searches { Searches cx.old cx.new graph.old graph.new }
-    ensures posed { IfOk result (λ s. ArePosed cx.new.nodes table.new s.left.items) }
-    ensures left { IfOk result (λ s. AreLeft goals.now s.left.items) }
-    ensures labels { OnOk result (BringsOnly (terms_of cx.old.nodes goals.now) (content_of cx.old.nodes table.old.entries) (content_of cx.new.nodes table.new.entries)) }
-    ensures proved { (s : Since (λ ts. H.ready ts handler.now) cx.old.nodes) → IfOk result (λ z. AreSettled (IsNestedSince (λ ts. H.handler ts handler.now) s table.old.mode (goal_kind_of kind) (assumed_in cx.new.nodes graph.new) cx.new.nodes table.new) goals.now z.left.items) }
-    ensures sure { IfOk result (λ s. s.certainty ≡ certainty.Yes → s.left.items ≡ []) }
-    ensures told { (s : Since (λ ts. H.ready ts handler.now) cx.old.nodes) → HeadsTell (H.handler s.base handler.now) cx.old.nodes graph.old → OnOk result (ReachesBy (H.handler s.base handler.now) table.old.mode cx.old.nodes table.old cx.new.nodes table.new goals.now) }
-    ensures refuted { (s : Since (λ ts. H.ready ts handler.now) cx.old.nodes) → HeadsTell (H.handler s.base handler.now) cx.old.nodes graph.old → kind ≢ kinds.NormalizesTo → result ≡ Err EvalError.NoSolution → RefusesOneOf (H.handler s.base handler.now) table.old.mode cx.old.nodes table.old goals.now }
+    ensures { StepsOnce (rules_of H.ready H.handler handler.now) cx.old cx.new graph.old graph.new
+        table.old table.new goals.now kind result }
 {
     let mut step = Step::new(cx.alloc);
     for added in goals {
@@ -418,12 +354,8 @@ fn evaluate_added<H: GoalHandler>(
     requires posed { IsPosed cx.old.nodes table.old goal }
     requires ready { H.ready cx.old.nodes handler.now }
     requires search { IsSearch cx.old graph.old (bound_of depth) }
-    ensures runs { Runs cx.old cx.new table.old table.new }
-    ensures searches { Searches cx.old cx.new graph.old graph.new }
-    ensures labels { OnOk result (BringsOnly (asked_terms cx.old.nodes goal) (content_of cx.old.nodes table.old.entries) (content_of cx.new.nodes table.new.entries)) }
-    ensures proved { (s : Since (λ ts. H.ready ts handler.now) cx.old.nodes) → IfSure result (IsProvedFromSince (λ ts. H.handler ts handler.now) s table.old.mode (passed (path_kind_of step) (assumed_in cx.new.nodes graph.new)) cx.new.nodes table.new goal) }
-    ensures told { (s : Since (λ ts. H.ready ts handler.now) cx.old.nodes) → HeadsTell (H.handler s.base handler.now) cx.old.nodes graph.old → OnOk result (IsAskedUnder (H.handler s.base handler.now) table.old.mode cx.old.nodes table.old cx.new.nodes table.new goal ⊎ (table.new.entries ≡ table.old.entries)) }
-    ensures refuted { (s : Since (λ ts. H.ready ts handler.now) cx.old.nodes) → HeadsTell (H.handler s.base handler.now) cx.old.nodes graph.old → result ≡ Err EvalError.NoSolution → IsRefusedUnder (H.handler s.base handler.now) table.old.mode cx.old.nodes table.old goal ⊎ IsCut table.old.mode step }
+    ensures { AsksAdded (rules_of H.ready H.handler handler.now) cx.old cx.new graph.old graph.new
+        table.old table.new goal step result }
 {
     match depth.next(graph.has_overflowed, cx.depth_division()) {
         None => {

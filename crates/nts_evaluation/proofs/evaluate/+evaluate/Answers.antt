@@ -1,24 +1,22 @@
-use Rattle.std.proofs.Common.{◌≡◌, inl, inr, Err, Ok, arith, rules, ◌+◌, ◌≤◌, map, length, take, get_or, refl, ap, sym, ◌∙◌, subst}
-use Rattle.std.specs.Prelude.{is_some}
+use Rattle.std.proofs.Common.{◌≡◌, inl, inr, Err, Ok, arith, rules, ◌+◌, ◌≤◌, map, length, take, get_or, refl, ap, sym, ◌∙◌, subst, length-append, [], ◌∷◌, true, false}
+use Rattle.std.specs.Prelude.{is_some, IfSome}
 use Rattle.std.proofs.lemmas.List.{take_all}
 use Rattle.nts_model.specs.Sequents.{Among}
 use Rattle.nts_model.specs.Handlers.{meaning}
 use Rattle.nts_model.proofs.Bringing.{only-trans, only-refl}
 use Rattle.nts_certainty.specs.declared.sources.GoalSource.{GoalSource}
-use Rattle.nts_certainty.specs.declared.sources.GoalSource.TheVariants as source
-use Rattle.nts_store.specs.declared.fault.EvalError.TheVariants as EvalError
 use Rattle.nts_store.specs.Growth.{tree_at, AllIn}
 use Rattle.nts_store.proofs.Growing.{Extends-trans, Extends-refl}
 use Rattle.nts_terms.specs.declared.handles.Goal.{Goal}
 use Rattle.nts_terms.specs.Modes.{mode_of}
-use Rattle.nts_terms.proofs.Moved.{KeepsRest-trans}
+use Rattle.nts_terms.proofs.Moved.{KeepsRest-trans, KeepsRest-refl}
 use Rattle.nts_unify.specs.Reading.{content_of}
 use Rattle.nts_unify.specs.Lawful.{content_of-extended}
 use Rattle.nts_table.specs.TableLaws.{IsTable-extended}
-use Rattle.nts_delegate.specs.Offered.{certainty_of, candidate_of, premise_of}
+use Rattle.nts_delegate.specs.Offered.{certainty_of, candidate_of, premise_of, path_kind_of, candidates_of}
 use Rattle.nts_delegate.proofs.Results.{IfOk-map, OnOk-map}
 use Rattle.nts_canonical.specs.Building.{kinds_of}
-use Rattle.nts_canonical.specs.Forms.{trees_of}
+use Rattle.nts_canonical.specs.Forms.{trees_of, form_of}
 use Rattle.nts_response.specs.Forms.{response_at}
 use Rattle.nts_queries.specs.Meant.{Since, meaning_since, IsProvedNow, IsNestedSince}
 use Rattle.nts_queries.specs.Stepping.{AreLeft, AreSettled, bound_of}
@@ -27,18 +25,16 @@ use Rattle.nts_queries.proofs.Asking.{IsAskedGoal-extended, kind_asked}
 use Rattle.nts_queries.proofs.AskedGoals.{trees_kept, ok_both, args_there, applicable, evaluates, asks, asked_stays, asked_labels, query_cut, response_refused, ok_two}
 use Rattle.nts_queries.proofs.AnsweredQueries.{first_entries, query_environment, query_predicate, args_later}
 use Rattle.nts_queries.proofs.Labels.{only_earlier, only_back, only_same, only_resolved, content_same}
-use Rattle.nts_queries.proofs.Evaluating.{Goes-trans, Goes-extends, Runs-trans, Runs-extends, Runs-refl, rolled_back, Since-later, offers-kept, IsPosed-later, AreValues-later, IsCandidate-extended, candidate_at}
+use Rattle.nts_queries.proofs.Evaluating.{Goes-trans, Goes-extends, Runs-trans, Runs-extends, Runs-refl, rolled_back, Since-later, offers-kept, IsPosed-later, AreValues-later, IsCandidate-extended, candidate_at, goes-back, HoldsGoal-extended}
 use Rattle.nts_queries.proofs.Stepping.{among_get, posed_later, posed_left, only_one, only_left, reach_more, refuse_more, reach_step, refuse_step, left_trans, settled_step, left_more, settled_proved, sure_more}
 use Rattle.nts_queries.proofs.Running.{term_table, unread, HasRun, has_run, both_sure, constraints-kept, offered_there, Equates-later, Constrains-later}
 use Rattle.nts_canonical.specs.declared.types.Canonical.{Canonical}
 use Rattle.nts_response.specs.declared.types.Response.{Response}
 use Rattle.nts_terms.specs.Handles.{HoldsGoal}
 use Rattle.nts_store.specs.Kept.{map-kept, AllIn-kept}
-use Rattle.nts_terms.proofs.Moved.{KeepsRest-refl}
 use Rattle.nts_queries.specs.Telling.{IsPlain}
-use Rattle.nts_queries.specs.Telling.Tells.{tells_nothing}
+use Rattle.nts_queries.specs.Telling.Tells.{tells_nothing, says_nothing}
 use Rattle.nts_queries.specs.Telling.Fails.{is_unmet}
-use Rattle.nts_queries.proofs.Evaluating.{goes-back, HoldsGoal-extended}
 use Rattle.nts_queries.proofs.Filtered.{kept_candidates, kept_outcomes, kept_tell}
 use Rattle.nts_queries.proofs.Opened.{told_through, told_offered, refuted_through, nothing_through, labels_through, labels_entered, proved_through}
 use Rattle.nts_queries.proofs.Probed.{found_in, found_still, found_fits, found_derived, went_in, plain_of, doubtful, not_kept, told_or_plain, run_replies, said_of}
@@ -47,22 +43,27 @@ use Rattle.nts_queries.proofs.Ran.{breaks, added_is, added_only, ran_to, ran_ref
 use Rattle.nts_model.specs.Rules.{goal_kind}
 use Rattle.nts_model.specs.Proofs.{passed}
 use Rattle.nts_model.proofs.Assuming.{covers_passed}
-use Rattle.nts_delegate.specs.Offered.{path_kind_of}
 use Rattle.nts_search.specs.Kinds.{goal_kind_of}
 use Rattle.nts_search.specs.Searching.{entry_at, entries_at}
 use Rattle.nts_search.proofs.Stacked.{entries_pushed, entries_popped}
-use Rattle.nts_canonical.specs.Forms.{form_of}
 use Rattle.nts_queries.specs.Searching.{HeadsTell, IsAnswerTold, IsHeadAnswer, assumed_in}
-use Rattle.nts_queries.specs.Telling.Tells.{says_nothing}
 use Rattle.nts_queries.proofs.Searching.{Searches-refl, Searches-trans, search_later, search_grown, search_grows, search_covers, covers_grown, stays_more, served_more, tell_grown, heads_tell_later, search_counted, search_marked, head_answer_later, answer_told_later, form_later, input_later, later_long}
 use Rattle.nts_search.specs.declared.stack.StackEntry.{StackEntry}
-use Rattle.std.proofs.Common.{length-append, [], ◌∷◌, true, false}
 use Rattle.nts_canonical.specs.declared.types.CanonicalInput.{CanonicalInput}
 use Rattle.nts_queries.specs.Answering.{IsAnswerTo}
 use Rattle.nts_model.specs.Stacks.{IsDerivedFrom, IsProvedFrom, assumptions}
 use Rattle.nts_queries.specs.Found.{Found}
 use Rattle.nts_model.specs.Responses.{answer_sequent}
-use Rattle.nts_queries.proofs.Rounds.{search_noted, own_asked, own_form, entry_held, round_proved, round_told, grown, ran, search_then, entry_of, holds_answer, search_pushed, tell_pushed, search_same, search_popped, round_closes, last_fits, last_told, last_refuted, last_each, cycle_told, cycle_refuted, cycle_derived}
+use Rattle.nts_queries.proofs.Rounds.{search_noted, own_asked, own_form, entry_held, round_proved, round_told, grown, ran, search_then, entry_of, holds_answer, search_pushed, tell_pushed, search_same, search_popped, round_closes, last_fits, last_told, last_refuted, last_each, cycle_told, cycle_refuted, cycle_derived, first_fits, first_told, round_ends, ended_entry}
+use Rattle.nts_delegate.specs.Relevant.{LeavesOut}
+use Rattle.nts_queries.proofs.LeftOut.{all_outcomes, kept_offered}
+use Rattle.nts_queries.specs.declared.round.Asked.{Asked}
+use Rattle.nts_certainty.specs.declared.sources.GoalSource.TheVariants as source
+use Rattle.nts_store.specs.declared.fault.EvalError.TheVariants as EvalError
+use Rattle.nts_certainty.specs.declared.certainty.Certainty.TheVariants as certainty
+use Rattle.std.specs.Result.{is_err}
+use Rattle.std.proofs.lemmas.Result.{IfOk-from_err}
+use Rattle.nts_evaluation.proofs.Failing.{query_failed, goal_failed, try_failed}
 use Rattle.nts_evaluation.proofs.evaluate.+evaluate.Goals as goal
 use Rattle.nts_evaluation.proofs.evaluate.+evaluate.Answers.Queries as queries
 use Rattle.nts_evaluation.proofs.evaluate.+evaluate.Answers.Candidates as candidates
@@ -87,72 +88,56 @@ compute_goal-boxed_response-requires-then-not-is_candidates_goal-clause-values g
     let o = c.in_ok-opened.ensures in
     args_later c.args.cx.now.nodes c.enter_forall.new.cx.nodes c.args.table.now.entries c.enter_forall.new.table.entries c.args.values.now o.goes.extends o.goes.continues c.requires.values
 
-pub compute_goal-returns-clause-found : goal.compute_goal-returns-clause-found
-compute_goal-returns-clause-found = candidates.compute_goal-returns-clause-found
+pub compute_goal-returns : goal.compute_goal-returns
+compute_goal-returns = candidates.compute_goal-returns
 
-pub compute_goal-returns-clause-refuted : goal.compute_goal-returns-clause-refuted
-compute_goal-returns-clause-refuted = candidates.compute_goal-returns-clause-refuted
-
-pub compute_goal-returns-clause-searches : goal.compute_goal-returns-clause-searches
-compute_goal-returns-clause-searches g t c =
-    let o = c.in_ok-opened.ensures in let e = c.in_ok-candidates.ensures in let m = c.in_ok-kept.ensures in search_then c.args.depth c.requires.search (grown o.grows (grown e.grows m.grows)) c.evaluate_candidates-response.ensures.searches
-
-pub compute_goal-returns-clause-told : goal.compute_goal-returns-clause-told
-compute_goal-returns-clause-told = candidates.compute_goal-returns-clause-told
-
-pub compute_goal-returns-in_default-clause-found : goal.compute_goal-returns-in_default-clause-found
-compute_goal-returns-in_default-clause-found g t c =
+pub compute_goal-returns-in_default : goal.compute_goal-returns-in_default
+compute_goal-returns-in_default g t c =
     let o = c.in_ok-opened.ensures in
     let r = c.in_ok-response.ensures in
-    found_in c.in_ok-response.response.value _ o.goes c.terms_are_formed.ensures r.grows.extends (only_same _ o.grows.extends c.requires.posed.table (o.left (ap is_some c.in_default.is))) c.requires.values r.certainty r.says r.holds (record { no_hidden = r.nothing.0; no_goals = r.nothing.1 }) (λ y. absurd (doubtful _ y))
-
-pub compute_goal-returns-in_default-clause-searches : goal.compute_goal-returns-in_default-clause-searches
-compute_goal-returns-in_default-clause-searches g t c =
-    Searches-refl c.args.depth c.requires.search (grown c.in_ok-opened.ensures.grows c.in_ok-response.ensures.grows)
-
-pub compute_goal-returns-in_default-clause-told : goal.compute_goal-returns-in_default-clause-told
-compute_goal-returns-in_default-clause-told g t c = λ s tells.
-    let o = c.in_ok-opened.ensures in
     let trees = trees_kept c.args.cx.now.nodes c.enter_forall.new.cx.nodes c.args.table.now.entries c.args.values.now o.grows.extends c.requires.values in
     let plain : IsPlain (content_of c.enter_forall.new.cx.nodes c.enter_forall.new.table.entries) (trees_of c.enter_forall.new.cx.nodes c.args.values.now) (response_at c.boxed_response.new.cx.nodes c.in_ok-response.response.value) = c.in_ok-response.ensures.says in
-    tells_nothing (content_of c.enter_forall.new.cx.nodes c.enter_forall.new.table.entries) (inl (content_same o.grows.extends c.requires.posed.table (o.left (ap is_some c.in_default.is)))) (rw trees at plain)
+    record {
+      grows = search rules;
+      searches = Searches-refl c.args.depth c.requires.search (grown c.in_ok-opened.ensures.grows c.in_ok-response.ensures.grows);
+      found = found_in c.in_ok-response.response.value _ o.goes c.terms_are_formed.ensures r.grows.extends (only_same _ o.grows.extends c.requires.posed.table (o.left (ap is_some c.in_default.is))) c.requires.values r.certainty r.says r.holds (record { no_hidden = r.nothing.0; no_goals = r.nothing.1 }) (λ y. absurd (doubtful _ y));
+      told = λ s tells. tells_nothing (content_of c.enter_forall.new.cx.nodes c.enter_forall.new.table.entries) (inl (content_same o.grows.extends c.requires.posed.table (o.left (ap is_some c.in_default.is)))) (rw trees at plain);
+      refuted = search rules;
+    }
 
-pub compute_goal-returns-in_err-candidates-clause-searches : goal.compute_goal-returns-in_err-candidates-clause-searches
-compute_goal-returns-in_err-candidates-clause-searches g t c =
-    Searches-refl c.args.depth c.requires.search (grown c.in_ok-opened.ensures.grows c.relevant_candidates.ensures.grows)
+pub compute_goal-returns-in_err-candidates : goal.compute_goal-returns-in_err-candidates
+compute_goal-returns-in_err-candidates g t c =
+    goal_failed c.from_residual-in_err-candidates.result (search rules) (search rules) (search rules) (Searches-refl c.args.depth c.requires.search (grown c.in_ok-opened.ensures.grows c.relevant_candidates.ensures.grows))
 
-pub compute_goal-returns-in_err-kept-clause-searches : goal.compute_goal-returns-in_err-kept-clause-searches
-compute_goal-returns-in_err-kept-clause-searches g t c =
-    Searches-refl c.args.depth c.requires.search (grown c.in_ok-opened.ensures.grows (grown c.in_ok-candidates.ensures.grows c.keep_met.ensures.grows))
+pub compute_goal-returns-in_err-kept : goal.compute_goal-returns-in_err-kept
+compute_goal-returns-in_err-kept g t c =
+    goal_failed c.from_residual-in_err-kept.result (search rules) (search rules) (search rules) (Searches-refl c.args.depth c.requires.search (grown c.in_ok-opened.ensures.grows (grown c.in_ok-candidates.ensures.grows c.keep_met.ensures.grows)))
 
-pub compute_goal-returns-in_err-opened-clause-searches : goal.compute_goal-returns-in_err-opened-clause-searches
-compute_goal-returns-in_err-opened-clause-searches g t c =
-    Searches-refl c.args.depth c.requires.search c.enter_forall.ensures.grows
+pub compute_goal-returns-in_err-opened : goal.compute_goal-returns-in_err-opened
+compute_goal-returns-in_err-opened g t c =
+    goal_failed c.from_residual.result (search rules) (search rules) (search rules) (Searches-refl c.args.depth c.requires.search c.enter_forall.ensures.grows)
 
-pub compute_goal-returns-in_err-response-2-clause-searches : goal.compute_goal-returns-in_err-response-2-clause-searches
-compute_goal-returns-in_err-response-2-clause-searches g t c =
-    Searches-refl c.args.depth c.requires.search (grown c.in_ok-opened.ensures.grows c.boxed_response-then-not-is_candidates_goal.ensures.grows)
+pub compute_goal-returns-in_err-response-2 : goal.compute_goal-returns-in_err-response-2
+compute_goal-returns-in_err-response-2 g t c =
+    goal_failed c.from_residual-in_err-response-2.result (search rules) (search rules) (search rules) (Searches-refl c.args.depth c.requires.search (grown c.in_ok-opened.ensures.grows c.boxed_response-then-not-is_candidates_goal.ensures.grows))
 
-pub compute_goal-returns-in_err-response-clause-searches : goal.compute_goal-returns-in_err-response-clause-searches
-compute_goal-returns-in_err-response-clause-searches g t c =
-    Searches-refl c.args.depth c.requires.search (grown c.in_ok-opened.ensures.grows c.boxed_response.ensures.grows)
+pub compute_goal-returns-in_err-response : goal.compute_goal-returns-in_err-response
+compute_goal-returns-in_err-response g t c =
+    goal_failed c.from_residual-in_err-response.result (search rules) (search rules) (search rules) (Searches-refl c.args.depth c.requires.search (grown c.in_ok-opened.ensures.grows c.boxed_response.ensures.grows))
 
-pub compute_goal-returns-then-not-is_candidates_goal-clause-found : goal.compute_goal-returns-then-not-is_candidates_goal-clause-found
-compute_goal-returns-then-not-is_candidates_goal-clause-found g t c =
+pub compute_goal-returns-then-not-is_candidates_goal : goal.compute_goal-returns-then-not-is_candidates_goal
+compute_goal-returns-then-not-is_candidates_goal g t c =
     let o = c.in_ok-opened.ensures in
     let r = c.in_ok-response-2.ensures in
-    found_in c.in_ok-response-2.response.value _ o.goes c.terms_are_formed.ensures r.grows.extends (labels_entered c.requires.posed (rw c.in-Some.is at o.opened) o.grows.extends) c.requires.values r.certainty r.says r.holds (record { no_hidden = r.nothing.0; no_goals = r.nothing.1 }) (λ y. absurd (doubtful _ y))
-
-pub compute_goal-returns-then-not-is_candidates_goal-clause-searches : goal.compute_goal-returns-then-not-is_candidates_goal-clause-searches
-compute_goal-returns-then-not-is_candidates_goal-clause-searches g t c =
-    Searches-refl c.args.depth c.requires.search (grown c.in_ok-opened.ensures.grows c.in_ok-response-2.ensures.grows)
-
-pub compute_goal-returns-then-not-is_candidates_goal-clause-told : goal.compute_goal-returns-then-not-is_candidates_goal-clause-told
-compute_goal-returns-then-not-is_candidates_goal-clause-told g t c = λ s tells.
-    let o = c.in_ok-opened.ensures in
     let trees = trees_kept c.args.cx.now.nodes c.enter_forall.new.cx.nodes c.args.table.now.entries c.args.values.now o.grows.extends c.requires.values in
     let plain : IsPlain (content_of c.enter_forall.new.cx.nodes c.enter_forall.new.table.entries) (trees_of c.enter_forall.new.cx.nodes c.args.values.now) (response_at c.boxed_response-then-not-is_candidates_goal.new.cx.nodes c.in_ok-response-2.response.value) = c.in_ok-response-2.ensures.says in
-    nothing_through c.requires.posed (rw c.in-Some.is at o.opened) o.grows.extends (g.H.GoalHandler.handler s.base c.args.handler.now) c.args.table.now.mode c.args.values.now _ c.in_ok-response-2.response.value trees plain
+    record {
+      grows = search rules;
+      searches = Searches-refl c.args.depth c.requires.search (grown c.in_ok-opened.ensures.grows c.in_ok-response-2.ensures.grows);
+      found = found_in c.in_ok-response-2.response.value _ o.goes c.terms_are_formed.ensures r.grows.extends (labels_entered c.requires.posed (rw c.in-Some.is at o.opened) o.grows.extends) c.requires.values r.certainty r.says r.holds (record { no_hidden = r.nothing.0; no_goals = r.nothing.1 }) (λ y. absurd (doubtful _ y));
+      told = λ s tells. nothing_through c.requires.posed (rw c.in-Some.is at o.opened) o.grows.extends (g.H.GoalHandler.handler s.base c.args.handler.now) c.args.table.now.mode c.args.values.now _ c.in_ok-response-2.response.value trees plain;
+      refuted = search rules;
+    }
 
 pub evaluate_added-evaluate_goal-requires : goal.evaluate_added-evaluate_goal-requires
 evaluate_added-evaluate_goal-requires g t c =
@@ -172,57 +157,49 @@ evaluate_added-evaluate_goal-requires g t c =
       ),
     )
 
-pub evaluate_added-returns-in-None-clause-runs : goal.evaluate_added-returns-in-None-clause-runs
-evaluate_added-returns-in-None-clause-runs g t c = Runs-refl c.requires.posed.table
+pub evaluate_added-returns-in-None : goal.evaluate_added-returns-in-None
+evaluate_added-returns-in-None g t c =
+    record {
+      runs = Runs-refl c.requires.posed.table;
+      searches = search_marked (bound_of c.args.depth) true c.requires.search;
+      labels = search rules;
+      proved = search rules;
+      told = search rules;
+      refuted = search rules;
+    }
 
-pub evaluate_added-returns-in-None-clause-searches : goal.evaluate_added-returns-in-None-clause-searches
-evaluate_added-returns-in-None-clause-searches g t c =
-    search_marked (bound_of c.args.depth) true c.requires.search
+pub evaluate_added-returns-in_err-asked-in-Some : goal.evaluate_added-returns-in_err-asked-in-Some
+evaluate_added-returns-in_err-asked-in-Some g t c =
+    record {
+      runs = Runs-extends c.requires.posed.table c.resolve_goal.ensures.grows.extends c.resolve_goal.ensures.grows.rest;
+      searches = Searches-refl (bound_of c.args.depth) c.requires.search c.resolve_goal.ensures.grows;
+      labels = search rules;
+      proved = search rules;
+      told = search rules;
+      refuted = search rules;
+    }
 
-pub evaluate_added-returns-in_err-asked-in-Some-clause-runs : goal.evaluate_added-returns-in_err-asked-in-Some-clause-runs
-evaluate_added-returns-in_err-asked-in-Some-clause-runs g t c = Runs-extends c.requires.posed.table c.resolve_goal.ensures.grows.extends c.resolve_goal.ensures.grows.rest
-
-pub evaluate_added-returns-in_err-asked-in-Some-clause-searches : goal.evaluate_added-returns-in_err-asked-in-Some-clause-searches
-evaluate_added-returns-in_err-asked-in-Some-clause-searches g t c =
-    Searches-refl (bound_of c.args.depth) c.requires.search c.resolve_goal.ensures.grows
-
-pub evaluate_added-returns-in_ok-asked-in-Some-clause-labels : goal.evaluate_added-returns-in_ok-asked-in-Some-clause-labels
-evaluate_added-returns-in_ok-asked-in-Some-clause-labels g t c =
-    let k = c.in_ok-asked-in-Some.ensures in
-    OnOk-map c.evaluate_goal.result (λ h. only_resolved c.args.goal c.in_ok-asked-in-Some.asked k.grows.extends c.requires.posed.table k.env k.predicate h) c.evaluate_goal.ensures.labels
-
-pub evaluate_added-returns-in_ok-asked-in-Some-clause-proved : goal.evaluate_added-returns-in_ok-asked-in-Some-clause-proved
-evaluate_added-returns-in_ok-asked-in-Some-clause-proved g t c = λ s.
+pub evaluate_added-returns-in_ok-asked-in-Some : goal.evaluate_added-returns-in_ok-asked-in-Some
+evaluate_added-returns-in_ok-asked-in-Some g t c =
     let k = c.in_ok-asked-in-Some.ensures in
     let e = c.evaluate_goal.ensures in
     let p = c.requires.posed in
     let all = Goes-trans (Goes-extends p.table k.grows.extends) e.runs.goes in
     let env = e.runs.goes.extends.kept _ k.posed.holds.env.within ∙ k.env in
     let predicate = e.runs.goes.extends.kept _ k.posed.holds.predicate.within ∙ k.predicate in
-    IfOk-map c.evaluate_goal.result
-    (λ x f y.
-    rw (all.extends.kept c.args.goal.param_env.node p.holds.env.within, all.extends.kept c.args.goal.predicate.node p.holds.predicate.within)
-    (unread _ _ _ _ all env predicate p.knows.env p.knows.predicate (f y))) (e.proved (Since-later k.grows.extends s))
-
-pub evaluate_added-returns-in_ok-asked-in-Some-clause-refuted : goal.evaluate_added-returns-in_ok-asked-in-Some-clause-refuted
-evaluate_added-returns-in_ok-asked-in-Some-clause-refuted g t c = λ s tells n.
-    let k = c.in_ok-asked-in-Some.ensures in
     let same = content_of-extended k.grows.extends c.requires.posed.table.now in
-    rw (same, k.env, k.predicate) at (c.evaluate_goal.ensures.refuted (Since-later k.grows.extends s) (tell_grown (g.H.GoalHandler.handler s.base c.args.handler.now) (bound_of c.args.depth) c.requires.search k.grows tells) n)
-
-pub evaluate_added-returns-in_ok-asked-in-Some-clause-runs : goal.evaluate_added-returns-in_ok-asked-in-Some-clause-runs
-evaluate_added-returns-in_ok-asked-in-Some-clause-runs g t c =
-    Runs-trans (Runs-extends c.requires.posed.table c.in_ok-asked-in-Some.ensures.grows.extends c.in_ok-asked-in-Some.ensures.grows.rest) c.evaluate_goal.ensures.runs
-
-pub evaluate_added-returns-in_ok-asked-in-Some-clause-searches : goal.evaluate_added-returns-in_ok-asked-in-Some-clause-searches
-evaluate_added-returns-in_ok-asked-in-Some-clause-searches g t c =
-    search_then (bound_of c.args.depth) c.requires.search c.in_ok-asked-in-Some.ensures.grows c.evaluate_goal.ensures.searches
-
-pub evaluate_added-returns-in_ok-asked-in-Some-clause-told : goal.evaluate_added-returns-in_ok-asked-in-Some-clause-told
-evaluate_added-returns-in_ok-asked-in-Some-clause-told g t c = λ s tells.
-    let k = c.in_ok-asked-in-Some.ensures in
-    let same = content_of-extended k.grows.extends c.requires.posed.table.now in
-    OnOk-map c.evaluate_goal.result (λ f. inl (rw (same, k.env, k.predicate) at f)) (c.evaluate_goal.ensures.told (Since-later k.grows.extends s) (tell_grown (g.H.GoalHandler.handler s.base c.args.handler.now) (bound_of c.args.depth) c.requires.search k.grows tells))
+    record {
+      runs = Runs-trans (Runs-extends c.requires.posed.table c.in_ok-asked-in-Some.ensures.grows.extends c.in_ok-asked-in-Some.ensures.grows.rest) c.evaluate_goal.ensures.runs;
+      searches = search_then (bound_of c.args.depth) c.requires.search c.in_ok-asked-in-Some.ensures.grows c.evaluate_goal.ensures.searches;
+      labels = OnOk-map c.evaluate_goal.result (λ h. only_resolved c.args.goal c.in_ok-asked-in-Some.asked k.grows.extends c.requires.posed.table k.env k.predicate h) c.evaluate_goal.ensures.labels;
+      proved = λ s.
+          IfOk-map c.evaluate_goal.result
+          (λ x f y.
+          rw (all.extends.kept c.args.goal.param_env.node p.holds.env.within, all.extends.kept c.args.goal.predicate.node p.holds.predicate.within)
+          (unread _ _ _ _ all env predicate p.knows.env p.knows.predicate (f y))) (e.proved (Since-later k.grows.extends s));
+      told = λ s tells. OnOk-map c.evaluate_goal.result (λ f. inl (rw (same, k.env, k.predicate) at f)) (c.evaluate_goal.ensures.told (Since-later k.grows.extends s) (tell_grown (g.H.GoalHandler.handler s.base c.args.handler.now) (bound_of c.args.depth) c.requires.search k.grows tells));
+      refuted = λ s tells n. rw (same, k.env, k.predicate) at (c.evaluate_goal.ensures.refuted (Since-later k.grows.extends s) (tell_grown (g.H.GoalHandler.handler s.base c.args.handler.now) (bound_of c.args.depth) c.requires.search k.grows tells) n);
+    }
 
 pub evaluate_candidates-loop-candidate-init : goal.evaluate_candidates-loop-candidate-init
 evaluate_candidates-loop-candidate-init = candidates.evaluate_candidates-loop-candidate-init
@@ -242,28 +219,25 @@ evaluate_candidates-merge_responses-requires-clause-values g t c =
 pub evaluate_candidates-probe_candidate-answer-requires : goal.evaluate_candidates-probe_candidate-answer-requires
 evaluate_candidates-probe_candidate-answer-requires = candidates.evaluate_candidates-probe_candidate-answer-requires
 
-pub evaluate_candidates-returns-clause-found : goal.evaluate_candidates-returns-clause-found
-evaluate_candidates-returns-clause-found g t c =
+pub evaluate_candidates-returns : goal.evaluate_candidates-returns
+evaluate_candidates-returns g t c =
     let i = c.loop-candidate.invariant in
     let k = c.merge_responses.ensures in
     let now = search_later c.args.depth c.args.depth (omega arith) c.requires.search i.searches in
     let covers = covers_grown c.args.depth now k.grows in
-    IfOk-map c.merge_responses.result (λ r f. found_merged c.loop-candidate.responses.items r.value i.grows.extends k.grows.extends c.terms_are_formed.ensures c.requires.posed.table c.requires.values (founds_with c.loop-candidate.responses.items (λ b u w s offered. served_more covers (w s offered)) i.found) f) (rw i.same at k.merged)
-
-pub evaluate_candidates-returns-clause-searches : goal.evaluate_candidates-returns-clause-searches
-evaluate_candidates-returns-clause-searches g t c =
-    let i = c.loop-candidate.invariant in search_grown c.args.depth c.requires.search i.searches c.merge_responses.ensures.grows
-
-pub evaluate_candidates-returns-clause-told : goal.evaluate_candidates-returns-clause-told
-evaluate_candidates-returns-clause-told g t c = λ s tells.
-    let i = c.loop-candidate.invariant in
-    let k = c.merge_responses.ensures in
     let all = take_all c.loop-candidate.candidate-index c.args.candidates.now c.loop-candidate-test.false in
-    IfOk-map c.merge_responses.result (λ r f. told_merged (g.H.GoalHandler.handler s.base c.args.handler.now) c.args.table.now.mode c.args.candidates.now c.loop-candidate.responses.items r.value i.grows.extends k.grows.extends c.requires.posed.table c.requires.values i.found (rw all at (i.told s tells)) f) (rw i.same at k.merged)
+    record {
+      same = search rules;
+      grows = search rules;
+      searches = let i = c.loop-candidate.invariant in search_grown c.args.depth c.requires.search i.searches c.merge_responses.ensures.grows;
+      found = IfOk-map c.merge_responses.result (λ r f. found_merged c.loop-candidate.responses.items r.value i.grows.extends k.grows.extends c.terms_are_formed.ensures c.requires.posed.table c.requires.values (founds_with c.loop-candidate.responses.items (λ b u w s offered. served_more covers (w s offered)) i.found) f) (rw i.same at k.merged);
+      told = λ s tells. IfOk-map c.merge_responses.result (λ r f. told_merged (g.H.GoalHandler.handler s.base c.args.handler.now) c.args.table.now.mode c.args.candidates.now c.loop-candidate.responses.items r.value i.grows.extends k.grows.extends c.requires.posed.table c.requires.values i.found (rw all at (i.told s tells)) f) (rw i.same at k.merged);
+      refuted = search rules;
+    }
 
-pub evaluate_candidates-returns-in_err-keep_response-clause-searches : goal.evaluate_candidates-returns-in_err-keep_response-clause-searches
-evaluate_candidates-returns-in_err-keep_response-clause-searches g t c =
-    Searches-trans c.loop-candidate.invariant.searches c.probe_candidate-answer.ensures.searches
+pub evaluate_candidates-returns-in_err-keep_response : goal.evaluate_candidates-returns-in_err-keep_response
+evaluate_candidates-returns-in_err-keep_response g t c =
+    try_failed c.from_residual.result (search rules) (search rules) (search rules) (search rules) (Searches-trans c.loop-candidate.invariant.searches c.probe_candidate-answer.ensures.searches)
 
 pub evaluate_goal-apply_answer-evaluated-requires-clause-fits : goal.evaluate_goal-apply_answer-evaluated-requires-clause-fits
 evaluate_goal-apply_answer-evaluated-requires-clause-fits g t c =
@@ -278,65 +252,41 @@ evaluate_goal-apply_answer-evaluated-requires-clause-originals g t c =
 pub evaluate_goal-apply_answer-evaluated-requires-clause-table : goal.evaluate_goal-apply_answer-evaluated-requires-clause-table
 evaluate_goal-apply_answer-evaluated-requires-clause-table g t c = IsTable-extended (Extends-trans c.in_ok-originals.ensures.grows.extends c.in_ok-answer.ensures.grows.extends) c.requires.posed.table
 
-pub evaluate_goal-returns-clause-evaluates : goal.evaluate_goal-returns-clause-evaluates
-evaluate_goal-returns-clause-evaluates = queries.evaluate_goal-returns-clause-evaluates
+pub evaluate_goal-returns : goal.evaluate_goal-returns
+evaluate_goal-returns = queries.evaluate_goal-returns
 
-pub evaluate_goal-returns-clause-labels : goal.evaluate_goal-returns-clause-labels
-evaluate_goal-returns-clause-labels g t c =
-    let q = c.in_ok-originals.ensures in
-    OnOk-map c.apply_answer-evaluated.result (λ h. asked_labels c.requires.posed q.query q.grows.extends c.in_ok-answer.ensures.grows.extends h) (rw c.deref.ensures.value at c.apply_answer-evaluated.ensures.labels)
-
-pub evaluate_goal-returns-clause-proved : goal.evaluate_goal-returns-clause-proved
-evaluate_goal-returns-clause-proved = queries.evaluate_goal-returns-clause-proved
-
-pub evaluate_goal-returns-clause-refuted : goal.evaluate_goal-returns-clause-refuted
-evaluate_goal-returns-clause-refuted g t c = λ s tells n.
-    let q = c.in_ok-originals.ensures in
-    let k = c.in_ok-answer.ensures in
-    inl (response_refused c.requires.posed q.query q.grows.extends k.grows.extends c.in_ok-answer.answer.value k.fits (rw q.query.mode at (k.told (Since-later q.grows.extends s) (tell_grown (g.H.GoalHandler.handler s.base c.args.handler.now) (c.args.depth + 1) c.requires.search q.grows tells))) (rw (c.deref.ensures.value, c.deref-2.ensures) at (c.apply_answer-evaluated.ensures.no n)))
-
-pub evaluate_goal-returns-clause-runs : goal.evaluate_goal-returns-clause-runs
-evaluate_goal-returns-clause-runs g t c =
-    let q = c.in_ok-originals.ensures in
-    let k = c.in_ok-answer.ensures in
-    Runs-trans (Runs-extends c.requires.posed.table (Extends-trans q.grows.extends k.grows.extends) (KeepsRest-trans q.grows.rest k.grows.rest)) c.apply_answer-evaluated.ensures.runs
-
-pub evaluate_goal-returns-clause-searches : goal.evaluate_goal-returns-clause-searches
-evaluate_goal-returns-clause-searches g t c =
-    let q = c.in_ok-originals.ensures in search_grown (c.args.depth + 1) c.requires.search (search_then (c.args.depth + 1) c.requires.search q.grows c.in_ok-answer.ensures.searches) (ran c.apply_answer-evaluated.ensures.runs)
-
-pub evaluate_goal-returns-clause-told : goal.evaluate_goal-returns-clause-told
-evaluate_goal-returns-clause-told g t c = λ s tells.
-    let q = c.in_ok-originals.ensures in
-    let k = c.in_ok-answer.ensures in
-    OnOk-map c.apply_answer-evaluated.result
-    (λ applied. asks c.requires.posed q.query q.grows.extends k.grows.extends c.apply_answer-evaluated.new.table c.in_ok-answer.answer.value applied k.fits (rw q.query.mode at (k.told (Since-later q.grows.extends s) (tell_grown (g.H.GoalHandler.handler s.base c.args.handler.now) (c.args.depth + 1) c.requires.search q.grows tells))))
-    (rw (c.deref.ensures.value, c.deref-2.ensures) at c.apply_answer-evaluated.ensures.applied)
-
-pub evaluate_goal-returns-in_err-answer-clause-refuted : goal.evaluate_goal-returns-in_err-answer-clause-refuted
-evaluate_goal-returns-in_err-answer-clause-refuted g t c =
-    λ s tells n.
-    let q = c.in_ok-originals.ensures in
-    let h = g.H.GoalHandler.handler s.base c.args.handler.now in
-    let refused : c.search.result ≡ Err EvalError.NoSolution = search rules in
-    query_cut c.requires.posed q.query q.grows.extends c.search.ensures.grows.extends (c.search.ensures.refuted (Since-later q.grows.extends s) (tell_grown h (c.args.depth + 1) c.requires.search q.grows tells) refused)
-
-pub evaluate_goal-returns-in_err-answer-clause-runs : goal.evaluate_goal-returns-in_err-answer-clause-runs
-evaluate_goal-returns-in_err-answer-clause-runs g t c =
+pub evaluate_goal-returns-in_err-answer : goal.evaluate_goal-returns-in_err-answer
+evaluate_goal-returns-in_err-answer g t c =
     let q = c.in_ok-originals.ensures in
     let k = c.search.ensures in
-    Runs-extends c.requires.posed.table (Extends-trans q.grows.extends k.grows.extends) (KeepsRest-trans q.grows.rest k.grows.rest)
+    let fails : is_err c.from_residual-in_err-answer.result ≡ true = search rules in
+    record {
+      runs = Runs-extends c.requires.posed.table (Extends-trans q.grows.extends k.grows.extends) (KeepsRest-trans q.grows.rest k.grows.rest);
+      searches = let q = c.in_ok-originals.ensures in search_then (c.args.depth + 1) c.requires.search q.grows c.search.ensures.searches;
+      err = search rules;
+      evaluates = IfOk-from_err c.from_residual-in_err-answer.result _ fails;
+      labels = IfOk-from_err c.from_residual-in_err-answer.result _ fails;
+      proved = λ s. IfOk-from_err c.from_residual-in_err-answer.result _ fails;
+      told = λ s tells. IfOk-from_err c.from_residual-in_err-answer.result _ fails;
+      refuted = λ s tells n.
+          let h = g.H.GoalHandler.handler s.base c.args.handler.now in
+          let refused : c.search.result ≡ Err EvalError.NoSolution = search rules in
+          query_cut c.requires.posed q.query q.grows.extends c.search.ensures.grows.extends (c.search.ensures.refuted (Since-later q.grows.extends s) (tell_grown h (c.args.depth + 1) c.requires.search q.grows tells) refused);
+    }
 
-pub evaluate_goal-returns-in_err-answer-clause-searches : goal.evaluate_goal-returns-in_err-answer-clause-searches
-evaluate_goal-returns-in_err-answer-clause-searches g t c =
-    let q = c.in_ok-originals.ensures in search_then (c.args.depth + 1) c.requires.search q.grows c.search.ensures.searches
-
-pub evaluate_goal-returns-in_err-originals-clause-runs : goal.evaluate_goal-returns-in_err-originals-clause-runs
-evaluate_goal-returns-in_err-originals-clause-runs g t c = Runs-extends c.requires.posed.table c.boxed_query.ensures.grows.extends c.boxed_query.ensures.grows.rest
-
-pub evaluate_goal-returns-in_err-originals-clause-searches : goal.evaluate_goal-returns-in_err-originals-clause-searches
-evaluate_goal-returns-in_err-originals-clause-searches g t c =
-    Searches-refl (c.args.depth + 1) c.requires.search c.boxed_query.ensures.grows
+pub evaluate_goal-returns-in_err-originals : goal.evaluate_goal-returns-in_err-originals
+evaluate_goal-returns-in_err-originals g t c =
+    let fails : is_err c.from_residual.result ≡ true = search rules in
+    record {
+      runs = Runs-extends c.requires.posed.table c.boxed_query.ensures.grows.extends c.boxed_query.ensures.grows.rest;
+      searches = Searches-refl (c.args.depth + 1) c.requires.search c.boxed_query.ensures.grows;
+      err = search rules;
+      evaluates = IfOk-from_err c.from_residual.result _ fails;
+      labels = IfOk-from_err c.from_residual.result _ fails;
+      proved = λ s. IfOk-from_err c.from_residual.result _ fails;
+      told = λ s tells. IfOk-from_err c.from_residual.result _ fails;
+      refuted = search rules;
+    }
 
 pub evaluate_goal-search-requires : goal.evaluate_goal-search-requires
 evaluate_goal-search-requires = queries.evaluate_goal-search-requires
@@ -352,32 +302,34 @@ evaluate_round-end_round-requires g t c =
     let more = length-append c.args.graph.now.stack.items (entry_of c.args.asked.value.input c.args.step c.args.asked.value.provisional c.in_ok-push_query.ensures.pushed.0 ∷ []) in
     omega (arith, long, new, more)
 
-pub evaluate_round-returns-clause-entry : goal.evaluate_round-returns-clause-entry
-evaluate_round-returns-clause-entry = queries.evaluate_round-returns-clause-entry
+pub evaluate_round-returns : goal.evaluate_round-returns
+evaluate_round-returns = queries.evaluate_round-returns
 
-pub evaluate_round-returns-clause-fits : goal.evaluate_round-returns-clause-fits
-evaluate_round-returns-clause-fits = queries.evaluate_round-returns-clause-fits
+pub evaluate_round-returns-in_err-push_query : goal.evaluate_round-returns-in_err-push_query
+evaluate_round-returns-in_err-push_query g t c =
+    let fails : is_err c.from_residual-in_err-push_query.result ≡ true = search rules in
+    record {
+      grows = search rules;
+      searches = search_same (c.args.depth + 1) c.requires.search c.in_ok-table.ensures.grows c.in_err-push_query.ensures.err c.in_err-push_query.ensures.err_kept c.push_query.ensures.rest;
+      entry = IfOk-from_err c.from_residual-in_err-push_query.result _ fails;
+      fits = IfOk-from_err c.from_residual-in_err-push_query.result _ fails;
+      proved = λ s. IfOk-from_err c.from_residual-in_err-push_query.result _ fails;
+      told = λ s tells told. IfOk-from_err c.from_residual-in_err-push_query.result _ fails;
+      no = search rules;
+    }
 
-pub evaluate_round-returns-clause-grows : goal.evaluate_round-returns-clause-grows
-evaluate_round-returns-clause-grows g t c =
-    grown c.in_ok-table.ensures.grows c.compute_goal-response.ensures.grows
-
-pub evaluate_round-returns-clause-proved : goal.evaluate_round-returns-clause-proved
-evaluate_round-returns-clause-proved = queries.evaluate_round-returns-clause-proved
-
-pub evaluate_round-returns-clause-told : goal.evaluate_round-returns-clause-told
-evaluate_round-returns-clause-told = queries.evaluate_round-returns-clause-told
-
-pub evaluate_round-returns-in_err-push_query-clause-searches : goal.evaluate_round-returns-in_err-push_query-clause-searches
-evaluate_round-returns-in_err-push_query-clause-searches g t c =
-    search_same (c.args.depth + 1) c.requires.search c.in_ok-table.ensures.grows c.in_err-push_query.ensures.err c.in_err-push_query.ensures.err_kept c.push_query.ensures.rest
-
-pub evaluate_round-returns-in_err-table-clause-searches : goal.evaluate_round-returns-in_err-table-clause-searches
-evaluate_round-returns-in_err-table-clause-searches g t c =
-    Searches-refl (c.args.depth + 1) c.requires.search c.query_table.ensures.grows
-
-pub evaluate_round-returns-clause-searches : goal.evaluate_round-returns-clause-searches
-evaluate_round-returns-clause-searches = queries.evaluate_round-returns-clause-searches
+pub evaluate_round-returns-in_err-table : goal.evaluate_round-returns-in_err-table
+evaluate_round-returns-in_err-table g t c =
+    let fails : is_err c.from_residual.result ≡ true = search rules in
+    record {
+      grows = search rules;
+      searches = Searches-refl (c.args.depth + 1) c.requires.search c.query_table.ensures.grows;
+      entry = IfOk-from_err c.from_residual.result _ fails;
+      fits = IfOk-from_err c.from_residual.result _ fails;
+      proved = λ s. IfOk-from_err c.from_residual.result _ fails;
+      told = λ s tells told. IfOk-from_err c.from_residual.result _ fails;
+      no = search rules;
+    }
 
 pub evaluate_rounds-evaluate_round-requires : goal.evaluate_rounds-evaluate_round-requires
 evaluate_rounds-evaluate_round-requires = queries.evaluate_rounds-evaluate_round-requires
@@ -388,58 +340,37 @@ evaluate_rounds-loop-round-init = queries.evaluate_rounds-loop-round-init
 pub evaluate_rounds-loop-round-preserved : goal.evaluate_rounds-loop-round-preserved
 evaluate_rounds-loop-round-preserved = queries.evaluate_rounds-loop-round-preserved
 
-pub evaluate_rounds-returns-clause-fits : goal.evaluate_rounds-returns-clause-fits
-evaluate_rounds-returns-clause-fits g t c =
-    let i = c.loop-round.invariant in subst (λ (w : CanonicalInput). IsAnswerTo c.unchanged_answer.new.cx.nodes (kinds_of w) c.in_ok-answer.answer.value) i.input (rw c.deref-2.ensures at c.in_ok-answer.ensures.fits)
+pub evaluate_rounds-returns : goal.evaluate_rounds-returns
+evaluate_rounds-returns g t c =
+    record {
+      grows = search rules;
+      searches = let i = c.loop-round.invariant in search_grown (c.args.depth + 1) c.requires.search i.searches c.unchanged_answer.ensures.grows;
+      fits = let i = c.loop-round.invariant in subst (λ (w : CanonicalInput). IsAnswerTo c.unchanged_answer.new.cx.nodes (kinds_of w) c.in_ok-answer.answer.value) i.input (rw c.deref-2.ensures at c.in_ok-answer.ensures.fits);
+      proved = search rules;
+      told = λ s tells. says_nothing c.in_ok-answer.ensures.nothing;
+      refuted = search rules;
+    }
 
-pub evaluate_rounds-returns-clause-searches : goal.evaluate_rounds-returns-clause-searches
-evaluate_rounds-returns-clause-searches g t c =
-    let i = c.loop-round.invariant in search_grown (c.args.depth + 1) c.requires.search i.searches c.unchanged_answer.ensures.grows
+pub evaluate_rounds-returns-in_err-answer : goal.evaluate_rounds-returns-in_err-answer
+evaluate_rounds-returns-in_err-answer g t c =
+    query_failed c.from_residual-in_err-answer.result (search rules) (search rules) (search rules) (search_grown (c.args.depth + 1) c.requires.search c.loop-round.invariant.searches c.unchanged_answer.ensures.grows)
 
-pub evaluate_rounds-returns-clause-told : goal.evaluate_rounds-returns-clause-told
-evaluate_rounds-returns-clause-told g t c =
-    λ s tells. says_nothing c.in_ok-answer.ensures.nothing
-
-pub evaluate_rounds-returns-in_err-answer-clause-searches : goal.evaluate_rounds-returns-in_err-answer-clause-searches
-evaluate_rounds-returns-in_err-answer-clause-searches g t c =
-    search_grown (c.args.depth + 1) c.requires.search c.loop-round.invariant.searches c.unchanged_answer.ensures.grows
-
-pub evaluate_rounds-returns-in_err-ended-clause-grows : goal.evaluate_rounds-returns-in_err-ended-clause-grows
-evaluate_rounds-returns-in_err-ended-clause-grows g t c =
-    grown c.loop-round.invariant.grows c.evaluate_round.ensures.grows
-
-pub evaluate_rounds-returns-in_err-asked-2-clause-searches : goal.evaluate_rounds-returns-in_err-asked-2-clause-searches
-evaluate_rounds-returns-in_err-asked-2-clause-searches g t c =
+pub evaluate_rounds-returns-in_err-ended : goal.evaluate_rounds-returns-in_err-ended
+evaluate_rounds-returns-in_err-ended g t c =
     let i = c.loop-round.invariant in
     let limit : c.loop-round.round + 1 ≤ c.loop-round.cx.round_limit = rw i.grows.rest.rounds (omega (arith, c.loop-round-test.true, c.round_limit-round-end.ensures)) in
     let noted = search_noted {a = c.args.cx.now} {b = c.loop-round.cx} {g = c.args.graph.now} {h = c.loop-round.graph} {i = c.note_round.new.self} (c.args.depth + 1) (c.loop-round.round + 1) c.requires.search i.searches limit c.note_round.ensures in
-    Searches-trans noted c.in_ok-ended.ensures.searches
+    query_failed c.from_residual-in_err-ended.result (search rules) (search rules) (grown c.loop-round.invariant.grows c.evaluate_round.ensures.grows) (Searches-trans noted c.evaluate_round.ensures.searches)
 
-pub evaluate_rounds-returns-in_err-ended-clause-searches : goal.evaluate_rounds-returns-in_err-ended-clause-searches
-evaluate_rounds-returns-in_err-ended-clause-searches g t c =
+pub evaluate_rounds-returns-in_err-asked-2 : goal.evaluate_rounds-returns-in_err-asked-2
+evaluate_rounds-returns-in_err-asked-2 g t c =
     let i = c.loop-round.invariant in
     let limit : c.loop-round.round + 1 ≤ c.loop-round.cx.round_limit = rw i.grows.rest.rounds (omega (arith, c.loop-round-test.true, c.round_limit-round-end.ensures)) in
     let noted = search_noted {a = c.args.cx.now} {b = c.loop-round.cx} {g = c.args.graph.now} {h = c.loop-round.graph} {i = c.note_round.new.self} (c.args.depth + 1) (c.loop-round.round + 1) c.requires.search i.searches limit c.note_round.ensures in
-    Searches-trans noted c.evaluate_round.ensures.searches
+    query_failed c.from_residual-in_err-asked-2.result (search rules) (search rules) (search rules) (Searches-trans noted c.in_ok-ended.ensures.searches)
 
-pub evaluate_rounds-returns-then-round_is_last-clause-fits : goal.evaluate_rounds-returns-then-round_is_last-clause-fits
-evaluate_rounds-returns-then-round_is_last-clause-fits = queries.evaluate_rounds-returns-then-round_is_last-clause-fits
-
-pub evaluate_rounds-returns-then-round_is_last-clause-grows : goal.evaluate_rounds-returns-then-round_is_last-clause-grows
-evaluate_rounds-returns-then-round_is_last-clause-grows g t c =
-    grown c.loop-round.invariant.grows c.in_ok-ended.ensures.grows
-
-pub evaluate_rounds-returns-then-round_is_last-clause-proved : goal.evaluate_rounds-returns-then-round_is_last-clause-proved
-evaluate_rounds-returns-then-round_is_last-clause-proved = queries.evaluate_rounds-returns-then-round_is_last-clause-proved
-
-pub evaluate_rounds-returns-then-round_is_last-clause-refuted : goal.evaluate_rounds-returns-then-round_is_last-clause-refuted
-evaluate_rounds-returns-then-round_is_last-clause-refuted = queries.evaluate_rounds-returns-then-round_is_last-clause-refuted
-
-pub evaluate_rounds-returns-then-round_is_last-clause-searches : goal.evaluate_rounds-returns-then-round_is_last-clause-searches
-evaluate_rounds-returns-then-round_is_last-clause-searches = queries.evaluate_rounds-returns-then-round_is_last-clause-searches
-
-pub evaluate_rounds-returns-then-round_is_last-clause-told : goal.evaluate_rounds-returns-then-round_is_last-clause-told
-evaluate_rounds-returns-then-round_is_last-clause-told = queries.evaluate_rounds-returns-then-round_is_last-clause-told
+pub evaluate_rounds-returns-then-round_is_last : goal.evaluate_rounds-returns-then-round_is_last
+evaluate_rounds-returns-then-round_is_last = queries.evaluate_rounds-returns-then-round_is_last
 
 pub evaluate_rounds-round_is_last-requires-clause-answer : goal.evaluate_rounds-round_is_last-requires-clause-answer
 evaluate_rounds-round_is_last-requires-clause-answer = queries.evaluate_rounds-round_is_last-requires-clause-answer
@@ -452,9 +383,9 @@ evaluate_rounds-round_is_last-requires-clause-entry g t c =
     let e = c.in_ok-ended.ensures in
     rw c.deref.ensures (entry_held c.args.cx.now.nodes c.loop-round.cx.nodes c.evaluate_round.new.cx.nodes c.args.input.value c.loop-round.asked.value.input c.loop-round.asked.value.provisional c.in_ok-ended.ended.value.entry (Extends-trans i.grows.extends e.grows.extends) e.grows.extends i.input c.requires.input i.fits e.entry.0 e.entry.2)
 
-pub evaluate_rounds-returns-in_err-asked-clause-searches : goal.evaluate_rounds-returns-in_err-asked-clause-searches
-evaluate_rounds-returns-in_err-asked-clause-searches g t c =
-    Searches-refl (c.args.depth + 1) c.requires.search c.first_round.ensures.grows
+pub evaluate_rounds-returns-in_err-asked : goal.evaluate_rounds-returns-in_err-asked
+evaluate_rounds-returns-in_err-asked g t c =
+    query_failed c.from_residual.result (search rules) (search rules) (search rules) (Searches-refl (c.args.depth + 1) c.requires.search c.first_round.ensures.grows)
 
 pub evaluate_step-evaluate_added-requires : goal.evaluate_step-evaluate_added-requires
 evaluate_step-evaluate_added-requires g t c = λ κs k.
@@ -506,35 +437,55 @@ evaluate_step-loop-added-preserved g t c =
       told = λ s tells. reach_more c.loop-added.table (g.H.GoalHandler.handler s.base c.args.handler.now) c.args.table.now.mode gs (get_or gs c.loop-added.added-index d) c.requires.posed there i.runs.goes.extends (i.told s tells) c.evaluate_added.new.table i.runs.goes.table e.runs.goes.extends (rw i.runs.goes.mode at (e.told (Since-later i.runs.goes.extends s) (heads_tell_later (g.H.GoalHandler.handler s.base c.args.handler.now) (bound_of c.args.depth) c.requires.search i.runs.goes.extends i.searches tells)));
     }
 
-pub evaluate_step-returns-clause-posed : goal.evaluate_step-returns-clause-posed
-evaluate_step-returns-clause-posed g t c = (let i = c.loop-added.invariant in posed_left c.args.goals.now c.loop-added.step.left.items i.runs.goes c.requires.posed i.left)
+pub evaluate_step-returns : goal.evaluate_step-returns
+evaluate_step-returns g t c =
+    record {
+      runs = search rules;
+      searches = search rules;
+      posed = (let i = c.loop-added.invariant in posed_left c.args.goals.now c.loop-added.step.left.items i.runs.goes c.requires.posed i.left);
+      left = search rules;
+      labels = search rules;
+      proved = λ s. rw (take_all c.loop-added.added-index c.args.goals.now c.loop-added-test.false) at (c.loop-added.invariant.proved s);
+      sure = search rules;
+      told = search rules;
+      refuted = search rules;
+    }
 
-pub evaluate_step-returns-clause-proved : goal.evaluate_step-returns-clause-proved
-evaluate_step-returns-clause-proved g t c =
-    λ s. rw (take_all c.loop-added.added-index c.args.goals.now c.loop-added-test.false) at (c.loop-added.invariant.proved s)
-
-pub evaluate_step-returns-in_err-answer-clause-refuted : goal.evaluate_step-returns-in_err-answer-clause-refuted
-evaluate_step-returns-in_err-answer-clause-refuted g t c = λ s tells kind n.
+pub evaluate_step-returns-in_err-answer : goal.evaluate_step-returns-in_err-answer
+evaluate_step-returns-in_err-answer g t c =
     let i = c.loop-added.invariant in
-    let h = g.H.GoalHandler.handler s.base c.args.handler.now in
-    let refused : c.evaluate_added.result ≡ Err EvalError.NoSolution = search rules in
-    let later = heads_tell_later h (bound_of c.args.depth) c.requires.search i.runs.goes.extends i.searches tells in
-    refuse_more c.loop-added.table h c.args.table.now.mode c.args.goals.now _ c.requires.posed (among_get c.args.goals.now c.loop-added.added-index _ c.loop-added-test.true) i.runs.goes.extends (i.told s tells) i.runs.goes.table c.step_kind_for_source-kind.ensures kind
-    (rw i.runs.goes.mode at (c.evaluate_added.ensures.refuted (Since-later i.runs.goes.extends s) later refused))
+    let fails : is_err c.from_residual.result ≡ true = search rules in
+    record {
+      runs = Runs-trans c.loop-added.invariant.runs c.evaluate_added.ensures.runs;
+      searches = Searches-trans c.loop-added.invariant.searches c.evaluate_added.ensures.searches;
+      posed = IfOk-from_err c.from_residual.result _ fails;
+      left = IfOk-from_err c.from_residual.result _ fails;
+      labels = IfOk-from_err c.from_residual.result _ fails;
+      proved = λ s. IfOk-from_err c.from_residual.result _ fails;
+      sure = IfOk-from_err c.from_residual.result _ fails;
+      told = λ s tells. IfOk-from_err c.from_residual.result _ fails;
+      refuted = λ s tells kind n.
+          let h = g.H.GoalHandler.handler s.base c.args.handler.now in
+          let refused : c.evaluate_added.result ≡ Err EvalError.NoSolution = search rules in
+          let later = heads_tell_later h (bound_of c.args.depth) c.requires.search i.runs.goes.extends i.searches tells in
+          refuse_more c.loop-added.table h c.args.table.now.mode c.args.goals.now _ c.requires.posed (among_get c.args.goals.now c.loop-added.added-index _ c.loop-added-test.true) i.runs.goes.extends (i.told s tells) i.runs.goes.table c.step_kind_for_source-kind.ensures kind
+          (rw i.runs.goes.mode at (c.evaluate_added.ensures.refuted (Since-later i.runs.goes.extends s) later refused));
+    }
 
-pub evaluate_step-returns-in_err-answer-clause-runs : goal.evaluate_step-returns-in_err-answer-clause-runs
-evaluate_step-returns-in_err-answer-clause-runs g t c = Runs-trans c.loop-added.invariant.runs c.evaluate_added.ensures.runs
-
-pub evaluate_step-returns-in_err-answer-clause-searches : goal.evaluate_step-returns-in_err-answer-clause-searches
-evaluate_step-returns-in_err-answer-clause-searches g t c =
-    Searches-trans c.loop-added.invariant.searches c.evaluate_added.ensures.searches
-
-pub evaluate_step-returns-in_err-note-clause-runs : goal.evaluate_step-returns-in_err-note-clause-runs
-evaluate_step-returns-in_err-note-clause-runs g t c = Runs-trans c.loop-added.invariant.runs c.evaluate_added.ensures.runs
-
-pub evaluate_step-returns-in_err-note-clause-searches : goal.evaluate_step-returns-in_err-note-clause-searches
-evaluate_step-returns-in_err-note-clause-searches g t c =
-    Searches-trans c.loop-added.invariant.searches c.evaluate_added.ensures.searches
+pub evaluate_step-returns-in_err-note : goal.evaluate_step-returns-in_err-note
+evaluate_step-returns-in_err-note g t c =
+    let fails : is_err c.from_residual-in_err-note.result ≡ true = search rules in
+    record {
+      runs = Runs-trans c.loop-added.invariant.runs c.evaluate_added.ensures.runs;
+      searches = Searches-trans c.loop-added.invariant.searches c.evaluate_added.ensures.searches;
+      posed = IfOk-from_err c.from_residual-in_err-note.result _ fails;
+      left = IfOk-from_err c.from_residual-in_err-note.result _ fails;
+      labels = IfOk-from_err c.from_residual-in_err-note.result _ fails;
+      proved = λ s. IfOk-from_err c.from_residual-in_err-note.result _ fails;
+      sure = IfOk-from_err c.from_residual-in_err-note.result _ fails;
+      told = λ s tells. IfOk-from_err c.from_residual-in_err-note.result _ fails;
+      refuted = search rules;
+    }
 
 pub probe_candidate-boxed_response-requires-clause-values : goal.probe_candidate-boxed_response-requires-clause-values
 probe_candidate-boxed_response-requires-clause-values = candidates.probe_candidate-boxed_response-requires-clause-values
@@ -547,37 +498,23 @@ probe_candidate-boxed_response-response-requires-clause-values g t c =
     let went = went_in p.table o.entries o.saved o.mode r.runs.goes in
     args_later c.args.cx.now.nodes c.run_candidate.new.cx.nodes c.args.table.now.entries c.run_candidate.new.table.entries c.args.values.now went.extends went.continues c.requires.values
 
-pub probe_candidate-returns-clause-found : goal.probe_candidate-returns-clause-found
-probe_candidate-returns-clause-found = candidates.probe_candidate-returns-clause-found
+pub probe_candidate-returns : goal.probe_candidate-returns
+probe_candidate-returns = candidates.probe_candidate-returns
 
-pub probe_candidate-returns-clause-searches : goal.probe_candidate-returns-clause-searches
-probe_candidate-returns-clause-searches g t c =
-    search_grown c.args.depth c.requires.search c.in-Ok.ensures.searches c.boxed_response.ensures.grows
+pub probe_candidate-returns-in_err-response-2 : goal.probe_candidate-returns-in_err-response-2
+probe_candidate-returns-in_err-response-2 g t c =
+    try_failed c.from_residual-in_err-response-2.result (search rules) (search rules) (rolled_back c.in_ok-snapshot.ensures.saved c.in-Ok.ensures.runs.goes c.rollback_to-2.ensures.saved c.in_ok-snapshot.ensures.mode c.rollback_to-2.ensures.mode) (search rules) (search_grown c.args.depth c.requires.search c.in-Ok.ensures.searches c.boxed_response.ensures.grows)
 
-pub probe_candidate-returns-clause-told : goal.probe_candidate-returns-clause-told
-probe_candidate-returns-clause-told = candidates.probe_candidate-returns-clause-told
+pub probe_candidate-returns-in_err-response : goal.probe_candidate-returns-in_err-response
+probe_candidate-returns-in_err-response g t c =
+    try_failed c.from_residual-in_err-response.result (search rules) (search rules) (rolled_back c.in_ok-snapshot.ensures.saved c.in-Ok.ensures.runs.goes c.rollback_to-then-keeps_constraints.ensures.saved c.in_ok-snapshot.ensures.mode c.rollback_to-then-keeps_constraints.ensures.mode) (search rules) (search_grown c.args.depth c.requires.search c.in-Ok.ensures.searches c.boxed_response-response.ensures.grows)
 
-pub probe_candidate-returns-in_err-response-2-clause-searches : goal.probe_candidate-returns-in_err-response-2-clause-searches
-probe_candidate-returns-in_err-response-2-clause-searches g t c =
-    search_grown c.args.depth c.requires.search c.in-Ok.ensures.searches c.boxed_response.ensures.grows
+pub probe_candidate-returns-in_err-snapshot : goal.probe_candidate-returns-in_err-snapshot
+probe_candidate-returns-in_err-snapshot g t c =
+    try_failed c.from_residual.result (search rules) (search rules) (search rules) (search rules) (Searches-refl c.args.depth c.requires.search (record { extends = Extends-refl _; rest = KeepsRest-refl _ }))
 
-pub probe_candidate-returns-in_err-response-clause-searches : goal.probe_candidate-returns-in_err-response-clause-searches
-probe_candidate-returns-in_err-response-clause-searches g t c =
-    search_grown c.args.depth c.requires.search c.in-Ok.ensures.searches c.boxed_response-response.ensures.grows
-
-pub probe_candidate-returns-in_err-snapshot-clause-searches : goal.probe_candidate-returns-in_err-snapshot-clause-searches
-probe_candidate-returns-in_err-snapshot-clause-searches g t c =
-    Searches-refl c.args.depth c.requires.search (record { extends = Extends-refl _; rest = KeepsRest-refl _ })
-
-pub probe_candidate-returns-then-keeps_constraints-clause-found : goal.probe_candidate-returns-then-keeps_constraints-clause-found
-probe_candidate-returns-then-keeps_constraints-clause-found = candidates.probe_candidate-returns-then-keeps_constraints-clause-found
-
-pub probe_candidate-returns-then-keeps_constraints-clause-searches : goal.probe_candidate-returns-then-keeps_constraints-clause-searches
-probe_candidate-returns-then-keeps_constraints-clause-searches g t c =
-    search_grown c.args.depth c.requires.search c.in-Ok.ensures.searches c.boxed_response-response.ensures.grows
-
-pub probe_candidate-returns-then-keeps_constraints-clause-told : goal.probe_candidate-returns-then-keeps_constraints-clause-told
-probe_candidate-returns-then-keeps_constraints-clause-told = candidates.probe_candidate-returns-then-keeps_constraints-clause-told
+pub probe_candidate-returns-then-keeps_constraints : goal.probe_candidate-returns-then-keeps_constraints
+probe_candidate-returns-then-keeps_constraints = candidates.probe_candidate-returns-then-keeps_constraints
 
 pub run_candidate-added_goals-requires-clause-nested : goal.run_candidate-added_goals-requires-clause-nested
 run_candidate-added_goals-requires-clause-nested g t c =
@@ -608,66 +545,57 @@ run_candidate-record_constraints-requires-clause-constraints g t c =
 pub run_candidate-record_constraints-requires-clause-posed : goal.run_candidate-record_constraints-requires-clause-posed
 run_candidate-record_constraints-requires-clause-posed g t c = IsPosed-later c.in_ok-values.ensures.runs.goes c.requires.posed
 
-pub run_candidate-returns-clause-labels : goal.run_candidate-returns-clause-labels
-run_candidate-returns-clause-labels = candidates.run_candidate-returns-clause-labels
+pub run_candidate-returns : goal.run_candidate-returns
+run_candidate-returns = candidates.run_candidate-returns
 
-pub run_candidate-returns-clause-proved : goal.run_candidate-returns-clause-proved
-run_candidate-returns-clause-proved = candidates.run_candidate-returns-clause-proved
+pub run_candidate-returns-in_err-certainty : goal.run_candidate-returns-in_err-certainty
+run_candidate-returns-in_err-certainty = candidates.run_candidate-returns-in_err-certainty
 
-pub run_candidate-returns-clause-runs : goal.run_candidate-returns-clause-runs
-run_candidate-returns-clause-runs = candidates.run_candidate-returns-clause-runs
-
-pub run_candidate-returns-clause-searches : goal.run_candidate-returns-clause-searches
-run_candidate-returns-clause-searches g t c =
-    search_then c.args.depth c.requires.search (grown (ran c.in_ok-values.ensures.runs) (grown (ran c.in_ok-record_constraints.ensures.runs) c.in_ok-goals.ensures.grows)) c.in_ok-certainty.ensures.searches
-
-pub run_candidate-returns-clause-told : goal.run_candidate-returns-clause-told
-run_candidate-returns-clause-told = candidates.run_candidate-returns-clause-told
-
-pub run_candidate-returns-in_err-certainty-clause-refuted : goal.run_candidate-returns-in_err-certainty-clause-refuted
-run_candidate-returns-in_err-certainty-clause-refuted = candidates.run_candidate-returns-in_err-certainty-clause-refuted
-
-pub run_candidate-returns-in_err-certainty-clause-runs : goal.run_candidate-returns-in_err-certainty-clause-runs
-run_candidate-returns-in_err-certainty-clause-runs = candidates.run_candidate-returns-in_err-certainty-clause-runs
-
-pub run_candidate-returns-in_err-certainty-clause-searches : goal.run_candidate-returns-in_err-certainty-clause-searches
-run_candidate-returns-in_err-certainty-clause-searches g t c =
-    search_then c.args.depth c.requires.search (grown (ran c.in_ok-values.ensures.runs) (grown (ran c.in_ok-record_constraints.ensures.runs) c.in_ok-goals.ensures.grows)) c.try_evaluate_goals.ensures.searches
-
-pub run_candidate-returns-in_err-goals-clause-runs : goal.run_candidate-returns-in_err-goals-clause-runs
-run_candidate-returns-in_err-goals-clause-runs g t c =
+pub run_candidate-returns-in_err-goals : goal.run_candidate-returns-in_err-goals
+run_candidate-returns-in_err-goals g t c =
     let v = c.in_ok-values.ensures in
     let k = c.in_ok-record_constraints.ensures in
     let there = Runs-trans v.runs k.runs in
     let n = c.added_goals.ensures in
-    Runs-trans there (Runs-extends k.runs.goes.table n.grows.extends n.grows.rest)
+    let fails : is_err c.from_residual-in_err-goals.result ≡ true = search rules in
+    record {
+      runs = Runs-trans there (Runs-extends k.runs.goes.table n.grows.extends n.grows.rest);
+      searches = Searches-refl c.args.depth c.requires.search (grown (ran c.in_ok-values.ensures.runs) (grown (ran c.in_ok-record_constraints.ensures.runs) c.added_goals.ensures.grows));
+      labels = IfOk-from_err c.from_residual-in_err-goals.result _ fails;
+      proved = search rules;
+      told = λ s tells. IfOk-from_err c.from_residual-in_err-goals.result _ fails;
+      refuted = search rules;
+    }
 
-pub run_candidate-returns-in_err-goals-clause-searches : goal.run_candidate-returns-in_err-goals-clause-searches
-run_candidate-returns-in_err-goals-clause-searches g t c =
-    Searches-refl c.args.depth c.requires.search (grown (ran c.in_ok-values.ensures.runs) (grown (ran c.in_ok-record_constraints.ensures.runs) c.added_goals.ensures.grows))
-
-pub run_candidate-returns-in_err-record_constraints-clause-refuted : goal.run_candidate-returns-in_err-record_constraints-clause-refuted
-run_candidate-returns-in_err-record_constraints-clause-refuted g t c = λ s tells n.
+pub run_candidate-returns-in_err-record_constraints : goal.run_candidate-returns-in_err-record_constraints
+run_candidate-returns-in_err-record_constraints g t c =
     let v = c.in_ok-values.ensures in
     let constraints = constraints-kept c.args.cx.now.nodes c.equate.new.cx.nodes c.args.candidate.now.fresh.items c.args.goal c.args.candidate.now.region_constraints.items v.runs.goes.extends c.requires.candidate.constraints in
-    let no : c.record_constraints.result ≡ Err EvalError.NoSolution = search rules in
-    breaks {t = c.args.table.now} {u = c.equate.new.table} (g.H.GoalHandler.handler s.base c.args.handler.now) c.args.table.now.mode c.args.candidate.now c.deref-2.result.now (rw c.deref-2.ensures.value v.equated) (rw c.deref-3.ensures.value at (c.record_constraints.ensures.no no)) constraints
+    let fails : is_err c.from_residual-in_err-record_constraints.result ≡ true = search rules in
+    record {
+      runs = Runs-trans c.in_ok-values.ensures.runs c.record_constraints.ensures.runs;
+      searches = Searches-refl c.args.depth c.requires.search (grown (ran c.in_ok-values.ensures.runs) (ran c.record_constraints.ensures.runs));
+      labels = IfOk-from_err c.from_residual-in_err-record_constraints.result _ fails;
+      proved = search rules;
+      told = λ s tells. IfOk-from_err c.from_residual-in_err-record_constraints.result _ fails;
+      refuted = λ s tells n.
+          let no : c.record_constraints.result ≡ Err EvalError.NoSolution = search rules in
+          breaks {t = c.args.table.now} {u = c.equate.new.table} (g.H.GoalHandler.handler s.base c.args.handler.now) c.args.table.now.mode c.args.candidate.now c.deref-2.result.now (rw c.deref-2.ensures.value v.equated) (rw c.deref-3.ensures.value at (c.record_constraints.ensures.no no)) constraints;
+    }
 
-pub run_candidate-returns-in_err-record_constraints-clause-runs : goal.run_candidate-returns-in_err-record_constraints-clause-runs
-run_candidate-returns-in_err-record_constraints-clause-runs g t c = Runs-trans c.in_ok-values.ensures.runs c.record_constraints.ensures.runs
-
-pub run_candidate-returns-in_err-record_constraints-clause-searches : goal.run_candidate-returns-in_err-record_constraints-clause-searches
-run_candidate-returns-in_err-record_constraints-clause-searches g t c =
-    Searches-refl c.args.depth c.requires.search (grown (ran c.in_ok-values.ensures.runs) (ran c.record_constraints.ensures.runs))
-
-pub run_candidate-returns-in_err-values-clause-refuted : goal.run_candidate-returns-in_err-values-clause-refuted
-run_candidate-returns-in_err-values-clause-refuted g t c = λ s tells n.
-    let no : c.equate.result ≡ Err EvalError.NoSolution = search rules in
-    is_unmet (c.equate.ensures.unmet no)
-
-pub run_candidate-returns-in_err-values-clause-searches : goal.run_candidate-returns-in_err-values-clause-searches
-run_candidate-returns-in_err-values-clause-searches g t c =
-    Searches-refl c.args.depth c.requires.search (ran c.equate.ensures.runs)
+pub run_candidate-returns-in_err-values : goal.run_candidate-returns-in_err-values
+run_candidate-returns-in_err-values g t c =
+    let fails : is_err c.from_residual.result ≡ true = search rules in
+    record {
+      runs = search rules;
+      searches = Searches-refl c.args.depth c.requires.search (ran c.equate.ensures.runs);
+      labels = IfOk-from_err c.from_residual.result _ fails;
+      proved = search rules;
+      told = λ s tells. IfOk-from_err c.from_residual.result _ fails;
+      refuted = λ s tells n.
+          let no : c.equate.result ≡ Err EvalError.NoSolution = search rules in
+          is_unmet (c.equate.ensures.unmet no);
+    }
 
 pub run_candidate-try_evaluate_goals-requires : goal.run_candidate-try_evaluate_goals-requires
 run_candidate-try_evaluate_goals-requires = candidates.run_candidate-try_evaluate_goals-requires
@@ -675,17 +603,16 @@ run_candidate-try_evaluate_goals-requires = candidates.run_candidate-try_evaluat
 pub search-evaluate_rounds-answer-requires : goal.search-evaluate_rounds-answer-requires
 search-evaluate_rounds-answer-requires = queries.search-evaluate_rounds-answer-requires
 
-pub search-returns-in-Some-clause-proved : goal.search-returns-in-Some-clause-proved
-search-returns-in-Some-clause-proved g t c =
-    λ s. ok_two c.answer_cycle.result (λ r fits usable sure. cycle_derived (meaning_since (λ ts. g.H.GoalHandler.handler ts c.args.handler.now) s) (mode_of c.args.input.value.typing_mode) (passed (path_kind_of c.args.step) (assumed_in c.answer_cycle.new.cx.nodes c.answer_cycle.new.graph)) c.args.cx.now.nodes c.answer_cycle.new.cx.nodes c.args.input.value r.value c.requires.input fits (usable sure)) (rw c.deref-in-Some.ensures at c.answer_cycle.ensures.fits) (rw c.deref-in-Some.ensures at c.answer_cycle.ensures.usable)
-
-pub search-returns-in-Some-clause-refuted : goal.search-returns-in-Some-clause-refuted
-search-returns-in-Some-clause-refuted g t c =
-    λ s tells no. cycle_refuted (g.H.GoalHandler.handler s.base c.args.handler.now) c.in-Some.head (c.args.depth + 1) c.args.input.value c.requires.search c.answer_cycle.ensures.grows (rw c.deref.ensures at c.in-Some.ensures.found) tells (rw c.deref-in-Some.ensures at (c.answer_cycle.ensures.none no))
-
-pub search-returns-in-Some-clause-told : goal.search-returns-in-Some-clause-told
-search-returns-in-Some-clause-told g t c =
-    λ s tells. IfOk-map c.answer_cycle.result (λ r x. cycle_told (g.H.GoalHandler.handler s.base c.args.handler.now) c.in-Some.head (c.args.depth + 1) c.args.input.value c.requires.search c.answer_cycle.ensures.grows (rw c.deref.ensures at c.in-Some.ensures.found) tells r.value x) c.answer_cycle.ensures.some
+pub search-returns-in-Some : goal.search-returns-in-Some
+search-returns-in-Some g t c =
+    record {
+      grows = search rules;
+      searches = search rules;
+      fits = search rules;
+      proved = λ s. ok_two c.answer_cycle.result (λ r fits usable sure. cycle_derived (meaning_since (λ ts. g.H.GoalHandler.handler ts c.args.handler.now) s) (mode_of c.args.input.value.typing_mode) (passed (path_kind_of c.args.step) (assumed_in c.answer_cycle.new.cx.nodes c.answer_cycle.new.graph)) c.args.cx.now.nodes c.answer_cycle.new.cx.nodes c.args.input.value r.value c.requires.input fits (usable sure)) (rw c.deref-in-Some.ensures at c.answer_cycle.ensures.fits) (rw c.deref-in-Some.ensures at c.answer_cycle.ensures.usable);
+      told = λ s tells. IfOk-map c.answer_cycle.result (λ r x. cycle_told (g.H.GoalHandler.handler s.base c.args.handler.now) c.in-Some.head (c.args.depth + 1) c.args.input.value c.requires.search c.answer_cycle.ensures.grows (rw c.deref.ensures at c.in-Some.ensures.found) tells r.value x) c.answer_cycle.ensures.some;
+      refuted = λ s tells no. cycle_refuted (g.H.GoalHandler.handler s.base c.args.handler.now) c.in-Some.head (c.args.depth + 1) c.args.input.value c.requires.search c.answer_cycle.ensures.grows (rw c.deref.ensures at c.in-Some.ensures.found) tells (rw c.deref-in-Some.ensures at (c.answer_cycle.ensures.none no));
+    }
 
 pub try_evaluate_goals-evaluate_step-requires : goal.try_evaluate_goals-evaluate_step-requires
 try_evaluate_goals-evaluate_step-requires g t c =
@@ -740,44 +667,56 @@ try_evaluate_goals-loop-step-preserved g t c =
           reach_step c.loop-step.table (g.H.GoalHandler.handler s.base c.args.handler.now) c.args.table.now.mode c.args.goals.now.items c.loop-step.goals.items c.requires.posed i.left i.runs.goes.extends (i.told s tells) c.evaluate_step.new.cx.nodes c.evaluate_step.new.table (rw (i.runs.goes.mode, c.deref.ensures.value) at (e.told (Since-later i.runs.goes.extends s) (heads_tell_later (g.H.GoalHandler.handler s.base c.args.handler.now) (bound_of c.args.depth) c.requires.search i.runs.goes.extends i.searches tells)));
     }
 
-pub try_evaluate_goals-returns-in_err-stepped-clause-posed : goal.try_evaluate_goals-returns-in_err-stepped-clause-posed
-try_evaluate_goals-returns-in_err-stepped-clause-posed g t c = posed_later c.loop-step.goals.items c.evaluate_step.ensures.runs.goes c.loop-step.invariant.posed
-
-pub try_evaluate_goals-returns-in_err-stepped-clause-refuted : goal.try_evaluate_goals-returns-in_err-stepped-clause-refuted
-try_evaluate_goals-returns-in_err-stepped-clause-refuted g t c = λ s tells kind n.
+pub try_evaluate_goals-returns : goal.try_evaluate_goals-returns
+try_evaluate_goals-returns g t c =
     let i = c.loop-step.invariant in
-    let h = g.H.GoalHandler.handler s.base c.args.handler.now in
-    let refused : c.evaluate_step.result ≡ Err EvalError.NoSolution = search rules in
-    refuse_step c.loop-step.table h c.args.table.now.mode c.args.goals.now.items c.loop-step.goals.items c.requires.posed i.left i.runs.goes.extends (i.told s tells)
-    (rw (i.runs.goes.mode, c.deref.ensures.value) at (c.evaluate_step.ensures.refuted (Since-later i.runs.goes.extends s) (heads_tell_later (g.H.GoalHandler.handler s.base c.args.handler.now) (bound_of c.args.depth) c.requires.search i.runs.goes.extends i.searches tells) kind refused))
+    record {
+      runs = i.runs;
+      searches = i.searches;
+      steps = i.steps;
+      posed = i.posed;
+      left = i.left;
+      labels = i.labels;
+      proved = i.proved;
+      sure = search rules;
+      told = i.told;
+      refuted = search rules;
+    }
 
-pub try_evaluate_goals-returns-in_err-stepped-clause-runs : goal.try_evaluate_goals-returns-in_err-stepped-clause-runs
-try_evaluate_goals-returns-in_err-stepped-clause-runs g t c = Runs-trans c.loop-step.invariant.runs c.evaluate_step.ensures.runs
-
-pub try_evaluate_goals-returns-in_err-stepped-clause-searches : goal.try_evaluate_goals-returns-in_err-stepped-clause-searches
-try_evaluate_goals-returns-in_err-stepped-clause-searches g t c =
-    Searches-trans c.loop-step.invariant.searches c.evaluate_step.ensures.searches
-
-pub try_evaluate_goals-returns-then-not-stepped-clause-labels : goal.try_evaluate_goals-returns-then-not-stepped-clause-labels
-try_evaluate_goals-returns-then-not-stepped-clause-labels g t c =
+pub try_evaluate_goals-returns-in_err-stepped : goal.try_evaluate_goals-returns-in_err-stepped
+try_evaluate_goals-returns-in_err-stepped g t c =
     let i = c.loop-step.invariant in
-    only-trans i.labels (only_left c.args.goals.now.items c.loop-step.goals.items i.runs.goes.extends c.requires.posed i.left (rw c.deref.ensures.value at c.in_ok-stepped.ensures.labels))
+    let fails : is_err c.from_residual.result ≡ true = search rules in
+    record {
+      runs = Runs-trans c.loop-step.invariant.runs c.evaluate_step.ensures.runs;
+      searches = Searches-trans c.loop-step.invariant.searches c.evaluate_step.ensures.searches;
+      steps = search rules;
+      posed = posed_later c.loop-step.goals.items c.evaluate_step.ensures.runs.goes c.loop-step.invariant.posed;
+      left = c.loop-step.invariant.left;
+      labels = IfOk-from_err c.from_residual.result _ fails;
+      proved = λ s. IfOk-from_err c.from_residual.result _ fails;
+      sure = search rules;
+      told = λ s tells. IfOk-from_err c.from_residual.result _ fails;
+      refuted = λ s tells kind n.
+          let h = g.H.GoalHandler.handler s.base c.args.handler.now in
+          let refused : c.evaluate_step.result ≡ Err EvalError.NoSolution = search rules in
+          refuse_step c.loop-step.table h c.args.table.now.mode c.args.goals.now.items c.loop-step.goals.items c.requires.posed i.left i.runs.goes.extends (i.told s tells)
+          (rw (i.runs.goes.mode, c.deref.ensures.value) at (c.evaluate_step.ensures.refuted (Since-later i.runs.goes.extends s) (heads_tell_later (g.H.GoalHandler.handler s.base c.args.handler.now) (bound_of c.args.depth) c.requires.search i.runs.goes.extends i.searches tells) kind refused));
+    }
 
-pub try_evaluate_goals-returns-then-not-stepped-clause-proved : goal.try_evaluate_goals-returns-then-not-stepped-clause-proved
-try_evaluate_goals-returns-then-not-stepped-clause-proved g t c = λ s.
+pub try_evaluate_goals-returns-then-not-stepped : goal.try_evaluate_goals-returns-then-not-stepped
+try_evaluate_goals-returns-then-not-stepped g t c =
     let i = c.loop-step.invariant in
     let e = c.in_ok-stepped.ensures in
-    settled_step (assumed_in c.loop-step.cx.nodes c.loop-step.graph) (assumed_in c.evaluate_step.new.cx.nodes c.evaluate_step.new.graph) (λ ts. g.H.GoalHandler.handler ts c.args.handler.now) s c.args.table.now.mode (goal_kind_of c.args.kind) c.args.goals.now.items c.loop-step.goals.items c.in_ok-stepped.stepped.left.items c.requires.posed i.runs.goes.extends e.runs.goes (search_covers (bound_of c.args.depth) (search_later (bound_of c.args.depth) (bound_of c.args.depth) (omega arith) c.requires.search i.searches) e.runs.goes.extends e.searches) (i.proved s) (rw (i.runs.goes.mode, c.deref.ensures.value) at (e.proved (Since-later i.runs.goes.extends s)))
-
-pub try_evaluate_goals-returns-then-not-stepped-clause-runs : goal.try_evaluate_goals-returns-then-not-stepped-clause-runs
-try_evaluate_goals-returns-then-not-stepped-clause-runs g t c = Runs-trans c.loop-step.invariant.runs c.in_ok-stepped.ensures.runs
-
-pub try_evaluate_goals-returns-then-not-stepped-clause-searches : goal.try_evaluate_goals-returns-then-not-stepped-clause-searches
-try_evaluate_goals-returns-then-not-stepped-clause-searches g t c =
-    Searches-trans c.loop-step.invariant.searches c.in_ok-stepped.ensures.searches
-
-pub try_evaluate_goals-returns-then-not-stepped-clause-told : goal.try_evaluate_goals-returns-then-not-stepped-clause-told
-try_evaluate_goals-returns-then-not-stepped-clause-told g t c = λ s tells.
-    let i = c.loop-step.invariant in
-    let e = c.in_ok-stepped.ensures in
-    reach_step c.loop-step.table (g.H.GoalHandler.handler s.base c.args.handler.now) c.args.table.now.mode c.args.goals.now.items c.loop-step.goals.items c.requires.posed i.left i.runs.goes.extends (i.told s tells) c.evaluate_step.new.cx.nodes c.evaluate_step.new.table (rw (i.runs.goes.mode, c.deref.ensures.value) at (e.told (Since-later i.runs.goes.extends s) (heads_tell_later (g.H.GoalHandler.handler s.base c.args.handler.now) (bound_of c.args.depth) c.requires.search i.runs.goes.extends i.searches tells)))
+    record {
+      runs = Runs-trans c.loop-step.invariant.runs c.in_ok-stepped.ensures.runs;
+      searches = Searches-trans c.loop-step.invariant.searches c.in_ok-stepped.ensures.searches;
+      steps = search rules;
+      posed = search rules;
+      left = search rules;
+      labels = only-trans i.labels (only_left c.args.goals.now.items c.loop-step.goals.items i.runs.goes.extends c.requires.posed i.left (rw c.deref.ensures.value at c.in_ok-stepped.ensures.labels));
+      proved = λ s. settled_step (assumed_in c.loop-step.cx.nodes c.loop-step.graph) (assumed_in c.evaluate_step.new.cx.nodes c.evaluate_step.new.graph) (λ ts. g.H.GoalHandler.handler ts c.args.handler.now) s c.args.table.now.mode (goal_kind_of c.args.kind) c.args.goals.now.items c.loop-step.goals.items c.in_ok-stepped.stepped.left.items c.requires.posed i.runs.goes.extends e.runs.goes (search_covers (bound_of c.args.depth) (search_later (bound_of c.args.depth) (bound_of c.args.depth) (omega arith) c.requires.search i.searches) e.runs.goes.extends e.searches) (i.proved s) (rw (i.runs.goes.mode, c.deref.ensures.value) at (e.proved (Since-later i.runs.goes.extends s)));
+      sure = search rules;
+      told = λ s tells. reach_step c.loop-step.table (g.H.GoalHandler.handler s.base c.args.handler.now) c.args.table.now.mode c.args.goals.now.items c.loop-step.goals.items c.requires.posed i.left i.runs.goes.extends (i.told s tells) c.evaluate_step.new.cx.nodes c.evaluate_step.new.table (rw (i.runs.goes.mode, c.deref.ensures.value) at (e.told (Since-later i.runs.goes.extends s) (heads_tell_later (g.H.GoalHandler.handler s.base c.args.handler.now) (bound_of c.args.depth) c.requires.search i.runs.goes.extends i.searches tells)));
+      refuted = search rules;
+    }

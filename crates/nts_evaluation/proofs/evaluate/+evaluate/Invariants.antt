@@ -5,8 +5,8 @@ use Rattle.nts_unify.specs.Reading.{content_of}
 use Rattle.nts_terms.specs.Rest.{Grows}
 use Rattle.nts_response.specs.Forms.{response_at}
 use Rattle.nts_certainty.specs.declared.certainty.Certainty.TheVariants as certainty
-use Rattle.nts_queries.specs.Meant.{Since, AreOffered, IsServedSince, IsNestedSince, HaveOutcomes, ReachesBy}
-use Rattle.nts_queries.specs.Searching.{Searches, IsHeadAnswer, IsAnswerTold, HeadsTell, assumed_in}
+use Rattle.nts_queries.specs.Meant.{AreOffered, IsServedSince, IsNestedSince, HaveOutcomes, ReachesBy}
+use Rattle.nts_queries.specs.Searching.{Searches, IsHeadAnswer, IsAnswerTold, assumed_in}
 use Rattle.nts_search.specs.Kinds.{goal_kind_of}
 use Rattle.nts_canonical.specs.Building.{kinds_of}
 use Rattle.nts_canonical.specs.Forms.{form_of}
@@ -14,6 +14,7 @@ use Rattle.nts_terms.specs.Modes.{mode_of}
 use Rattle.nts_queries.specs.Found.{Found}
 use Rattle.nts_queries.specs.Stepping.{ArePosed, AreLeft, AreSettled, terms_of, bound_of}
 use Rattle.nts_queries.specs.Evaluation.{Runs}
+use Rattle.nts_evaluation.specs.Promises.{rules_of, Always, WhereTold}
 use Rattle.nts_evaluation.proofs.evaluate.+evaluate.Given as goal
 
 abbrev pub decreases-evaluate_goal : goal.decreases-evaluate_goal
@@ -56,7 +57,7 @@ invariant-evaluate_rounds-loop-round g l = record {
   searches : Searches l.fn.cx l.cx l.fn.graph l.graph;
   input : l.asked.value.input ≡ l.fn.input.value;
   fits : IsHeadAnswer l.cx.nodes (kinds_of l.fn.input.value) l.asked.value.provisional;
-  told : (s : Since (λ ts. g.H.GoalHandler.ready ts l.handler) l.fn.cx.nodes) → HeadsTell (g.H.GoalHandler.handler s.base l.handler) l.fn.cx.nodes l.fn.graph → IsAnswerTold (g.H.GoalHandler.handler s.base l.handler) (mode_of l.fn.input.value.typing_mode) l.cx.nodes (form_of l.fn.cx.nodes l.fn.input.value) l.asked.value.provisional;
+  told : WhereTold (rules_of g.H.GoalHandler.ready g.H.GoalHandler.handler l.handler) l.fn.cx l.fn.graph (λ m. IsAnswerTold m (mode_of l.fn.input.value.typing_mode) l.cx.nodes (form_of l.fn.cx.nodes l.fn.input.value) l.asked.value.provisional);
 }
 
 -- the first candidates have these responses, and the table is as before
@@ -65,8 +66,8 @@ invariant-evaluate_candidates-loop-candidate g l = record {
   same : l.table ≡ l.fn.table;
   grows : Grows l.fn.cx l.cx;
   searches : Searches l.fn.cx l.cx l.fn.graph l.graph;
-  found : All (Found (λ b u. (s : Since (λ ts. g.H.GoalHandler.ready ts l.handler) l.fn.cx.nodes) → AreOffered (g.H.GoalHandler.handler s.base l.handler) l.fn.table.mode l.fn.cx.nodes l.goal l.candidates → IsServedSince (λ ts. g.H.GoalHandler.handler ts l.handler) s l.fn.table.mode (assumed_in l.cx.nodes l.graph) b u l.goal) l.fn.cx.nodes l.cx.nodes l.fn.table l.goal l.values) l.responses.items;
-  told : (s : Since (λ ts. g.H.GoalHandler.ready ts l.handler) l.fn.cx.nodes) → HeadsTell (g.H.GoalHandler.handler s.base l.handler) l.fn.cx.nodes l.fn.graph → HaveOutcomes (g.H.GoalHandler.handler s.base l.handler) l.fn.table.mode l.fn.cx.nodes l.fn.table l.values (take l.candidate-index l.candidates) (map (response_at l.cx.nodes) l.responses.items);
+  found : All (Found (λ b u. Always (rules_of g.H.GoalHandler.ready g.H.GoalHandler.handler l.handler) l.fn.cx (λ s. AreOffered (g.H.GoalHandler.handler s.base l.handler) l.fn.table.mode l.fn.cx.nodes l.goal l.candidates → IsServedSince (λ ts. g.H.GoalHandler.handler ts l.handler) s l.fn.table.mode (assumed_in l.cx.nodes l.graph) b u l.goal)) l.fn.cx.nodes l.cx.nodes l.fn.table l.goal l.values) l.responses.items;
+  told : WhereTold (rules_of g.H.GoalHandler.ready g.H.GoalHandler.handler l.handler) l.fn.cx l.fn.graph (λ m. HaveOutcomes m l.fn.table.mode l.fn.cx.nodes l.fn.table l.values (take l.candidate-index l.candidates) (map (response_at l.cx.nodes) l.responses.items));
 }
 
 -- the goals that are left, after the first steps
@@ -78,8 +79,8 @@ invariant-try_evaluate_goals-loop-step g l = record {
   posed : ArePosed l.cx.nodes l.table l.goals.items;
   left : AreLeft l.fn.goals.items l.goals.items;
   labels : BringsOnly (terms_of l.fn.cx.nodes l.fn.goals.items) (content_of l.fn.cx.nodes l.fn.table.entries) (content_of l.cx.nodes l.table.entries);
-  proved : (s : Since (λ ts. g.H.GoalHandler.ready ts l.handler) l.fn.cx.nodes) → AreSettled (IsNestedSince (λ ts. g.H.GoalHandler.handler ts l.handler) s l.fn.table.mode (goal_kind_of l.kind) (assumed_in l.cx.nodes l.graph) l.cx.nodes l.table) l.fn.goals.items l.goals.items;
-  told : (s : Since (λ ts. g.H.GoalHandler.ready ts l.handler) l.fn.cx.nodes) → HeadsTell (g.H.GoalHandler.handler s.base l.handler) l.fn.cx.nodes l.fn.graph → ReachesBy (g.H.GoalHandler.handler s.base l.handler) l.fn.table.mode l.fn.cx.nodes l.fn.table l.cx.nodes l.table l.fn.goals.items;
+  proved : Always (rules_of g.H.GoalHandler.ready g.H.GoalHandler.handler l.handler) l.fn.cx (λ s. AreSettled (IsNestedSince (λ ts. g.H.GoalHandler.handler ts l.handler) s l.fn.table.mode (goal_kind_of l.kind) (assumed_in l.cx.nodes l.graph) l.cx.nodes l.table) l.fn.goals.items l.goals.items);
+  told : WhereTold (rules_of g.H.GoalHandler.ready g.H.GoalHandler.handler l.handler) l.fn.cx l.fn.graph (λ m. ReachesBy m l.fn.table.mode l.fn.cx.nodes l.fn.table l.cx.nodes l.table l.fn.goals.items);
 }
 
 -- the first goals were asked in this step
@@ -89,7 +90,7 @@ invariant-evaluate_step-loop-added g l = record {
   searches : Searches l.fn.cx l.cx l.fn.graph l.graph;
   left : AreLeft l.goals l.step.left.items;
   labels : BringsOnly (terms_of l.fn.cx.nodes l.goals) (content_of l.fn.cx.nodes l.fn.table.entries) (content_of l.cx.nodes l.table.entries);
-  proved : (s : Since (λ ts. g.H.GoalHandler.ready ts l.handler) l.fn.cx.nodes) → AreSettled (IsNestedSince (λ ts. g.H.GoalHandler.handler ts l.handler) s l.fn.table.mode (goal_kind_of l.fn.kind) (assumed_in l.cx.nodes l.graph) l.cx.nodes l.table) (take l.added-index l.goals) l.step.left.items;
+  proved : Always (rules_of g.H.GoalHandler.ready g.H.GoalHandler.handler l.handler) l.fn.cx (λ s. AreSettled (IsNestedSince (λ ts. g.H.GoalHandler.handler ts l.handler) s l.fn.table.mode (goal_kind_of l.fn.kind) (assumed_in l.cx.nodes l.graph) l.cx.nodes l.table) (take l.added-index l.goals) l.step.left.items);
   sure : l.step.certainty ≡ certainty.Yes → l.step.left.items ≡ [];
-  told : (s : Since (λ ts. g.H.GoalHandler.ready ts l.handler) l.fn.cx.nodes) → HeadsTell (g.H.GoalHandler.handler s.base l.handler) l.fn.cx.nodes l.fn.graph → ReachesBy (g.H.GoalHandler.handler s.base l.handler) l.fn.table.mode l.fn.cx.nodes l.fn.table l.cx.nodes l.table l.goals;
+  told : WhereTold (rules_of g.H.GoalHandler.ready g.H.GoalHandler.handler l.handler) l.fn.cx l.fn.graph (λ m. ReachesBy m l.fn.table.mode l.fn.cx.nodes l.fn.table l.cx.nodes l.table l.goals);
 }

@@ -1,41 +1,67 @@
 -- Longer answers for the functions that answer a goal by its candidates.
-use Rattle.std.proofs.Common.{◌≡◌, inr, Err, Ok, arith, rules, map, length, refl, ap, sym, ◌∙◌, subst}
+use Rattle.std.proofs.Common.{◌≡◌, inl, inr, Err, Ok, arith, rules, ◌+◌, ◌≤◌, map, length, take, get_or, refl, ap, sym, ◌∙◌, subst, length-append, [], ◌∷◌, true, false}
+use Rattle.std.specs.Prelude.{is_some, IfSome}
+use Rattle.std.proofs.lemmas.List.{take_all}
+use Rattle.nts_model.specs.Sequents.{Among}
 use Rattle.nts_model.specs.Handlers.{meaning}
-use Rattle.nts_model.proofs.Bringing.{only-trans}
-use Rattle.nts_store.specs.declared.fault.EvalError.TheVariants as EvalError
+use Rattle.nts_model.proofs.Bringing.{only-trans, only-refl}
+use Rattle.nts_certainty.specs.declared.sources.GoalSource.{GoalSource}
 use Rattle.nts_store.specs.Growth.{tree_at, AllIn}
 use Rattle.nts_store.proofs.Growing.{Extends-trans, Extends-refl}
+use Rattle.nts_terms.specs.declared.handles.Goal.{Goal}
 use Rattle.nts_terms.specs.Modes.{mode_of}
-use Rattle.nts_terms.proofs.Moved.{KeepsRest-trans}
+use Rattle.nts_terms.proofs.Moved.{KeepsRest-trans, KeepsRest-refl}
 use Rattle.nts_unify.specs.Reading.{content_of}
 use Rattle.nts_unify.specs.Lawful.{content_of-extended}
 use Rattle.nts_table.specs.TableLaws.{IsTable-extended}
-use Rattle.nts_delegate.specs.Offered.{certainty_of, candidate_of, candidates_of, premise_of}
-use Rattle.nts_delegate.specs.Relevant.{LeavesOut}
-use Rattle.nts_delegate.proofs.Results.{IfOk-map}
-use Rattle.nts_canonical.specs.Forms.{trees_of}
-use Rattle.nts_queries.specs.Meant.{Since}
+use Rattle.nts_delegate.specs.Offered.{certainty_of, candidate_of, premise_of, path_kind_of, candidates_of}
+use Rattle.nts_delegate.proofs.Results.{IfOk-map, OnOk-map}
+use Rattle.nts_canonical.specs.Building.{kinds_of}
+use Rattle.nts_canonical.specs.Forms.{trees_of, form_of}
+use Rattle.nts_response.specs.Forms.{response_at}
+use Rattle.nts_queries.specs.Meant.{Since, meaning_since, IsProvedNow, IsNestedSince}
+use Rattle.nts_queries.specs.Stepping.{AreLeft, AreSettled, bound_of}
+use Rattle.nts_queries.specs.Telling.Reaches.{asks_nothing}
 use Rattle.nts_queries.proofs.Asking.{IsAskedGoal-extended, kind_asked}
-use Rattle.nts_queries.proofs.AskedGoals.{trees_kept}
-use Rattle.nts_queries.proofs.AnsweredQueries.{args_later}
-use Rattle.nts_queries.proofs.Labels.{only_earlier, only_back}
-use Rattle.nts_queries.proofs.Evaluating.{Goes-trans, Goes-extends, Runs-trans, Runs-extends, rolled_back, Since-later, offers-kept, IsPosed-later, AreValues-later, IsCandidate-extended, candidate_at}
-use Rattle.nts_queries.proofs.Running.{term_table, HasRun, has_run, both_sure, constraints-kept, offered_there, Equates-later, Constrains-later}
+use Rattle.nts_queries.proofs.AskedGoals.{trees_kept, ok_both, args_there, applicable, evaluates, asks, asked_stays, asked_labels, query_cut, response_refused, ok_two}
+use Rattle.nts_queries.proofs.AnsweredQueries.{first_entries, query_environment, query_predicate, args_later}
+use Rattle.nts_queries.proofs.Labels.{only_earlier, only_back, only_same, only_resolved, content_same}
+use Rattle.nts_queries.proofs.Evaluating.{Goes-trans, Goes-extends, Runs-trans, Runs-extends, Runs-refl, rolled_back, Since-later, offers-kept, IsPosed-later, AreValues-later, IsCandidate-extended, candidate_at, goes-back, HoldsGoal-extended}
+use Rattle.nts_queries.proofs.Stepping.{among_get, posed_later, posed_left, only_one, only_left, reach_more, refuse_more, reach_step, refuse_step, left_trans, settled_step, left_more, settled_proved, sure_more}
+use Rattle.nts_queries.proofs.Running.{term_table, unread, HasRun, has_run, both_sure, constraints-kept, offered_there, Equates-later, Constrains-later}
 use Rattle.nts_canonical.specs.declared.types.Canonical.{Canonical}
 use Rattle.nts_response.specs.declared.types.Response.{Response}
+use Rattle.nts_terms.specs.Handles.{HoldsGoal}
 use Rattle.nts_store.specs.Kept.{map-kept, AllIn-kept}
-use Rattle.nts_terms.proofs.Moved.{KeepsRest-refl}
-use Rattle.nts_queries.proofs.Evaluating.{goes-back, HoldsGoal-extended}
+use Rattle.nts_queries.specs.Telling.{IsPlain}
+use Rattle.nts_queries.specs.Telling.Tells.{tells_nothing, says_nothing}
+use Rattle.nts_queries.specs.Telling.Fails.{is_unmet}
 use Rattle.nts_queries.proofs.Filtered.{kept_candidates, kept_outcomes, kept_tell}
-use Rattle.nts_queries.proofs.LeftOut.{all_outcomes, kept_offered}
-use Rattle.nts_queries.proofs.Opened.{told_through, told_offered, refuted_through, labels_through, proved_through}
-use Rattle.nts_queries.proofs.Probed.{found_in, found_still, went_in, plain_of, not_kept, told_or_plain, run_replies, said_of}
-use Rattle.nts_queries.proofs.Outcomes.{found_earlier, founds_more, founds_with, outcomes_first, outcomes_more, failed_of}
-use Rattle.nts_queries.proofs.Ran.{added_is, added_only, ran_to, ran_refused, all_proved, all_posed, proved_all, ok_inside}
+use Rattle.nts_queries.proofs.Opened.{told_through, told_offered, refuted_through, nothing_through, labels_through, labels_entered, proved_through}
+use Rattle.nts_queries.proofs.Probed.{found_in, found_still, found_fits, found_derived, went_in, plain_of, doubtful, not_kept, told_or_plain, run_replies, said_of}
+use Rattle.nts_queries.proofs.Outcomes.{found_earlier, founds_more, founds_with, outcomes_first, outcomes_more, found_merged, told_merged, failed_of}
+use Rattle.nts_queries.proofs.Ran.{breaks, added_is, added_only, ran_to, ran_refused, all_proved, all_posed, proved_all, ok_inside}
 use Rattle.nts_model.specs.Rules.{goal_kind}
-use Rattle.nts_queries.specs.Searching.{HeadsTell, assumed_in}
-use Rattle.nts_queries.proofs.Searching.{Searches-refl, Searches-trans, search_later, search_grows, search_covers, covers_grown, served_more, tell_grown, heads_tell_later}
-use Rattle.nts_queries.proofs.Rounds.{grown, ran}
+use Rattle.nts_model.specs.Proofs.{passed}
+use Rattle.nts_model.proofs.Assuming.{covers_passed}
+use Rattle.nts_search.specs.Kinds.{goal_kind_of}
+use Rattle.nts_search.specs.Searching.{entry_at, entries_at}
+use Rattle.nts_search.proofs.Stacked.{entries_pushed, entries_popped}
+use Rattle.nts_queries.specs.Searching.{HeadsTell, IsAnswerTold, IsHeadAnswer, assumed_in}
+use Rattle.nts_queries.proofs.Searching.{Searches-refl, Searches-trans, search_later, search_grown, search_grows, search_covers, covers_grown, stays_more, served_more, tell_grown, heads_tell_later, search_counted, search_marked, head_answer_later, answer_told_later, form_later, input_later, later_long}
+use Rattle.nts_search.specs.declared.stack.StackEntry.{StackEntry}
+use Rattle.nts_canonical.specs.declared.types.CanonicalInput.{CanonicalInput}
+use Rattle.nts_queries.specs.Answering.{IsAnswerTo}
+use Rattle.nts_model.specs.Stacks.{IsDerivedFrom, IsProvedFrom, assumptions}
+use Rattle.nts_queries.specs.Found.{Found}
+use Rattle.nts_model.specs.Responses.{answer_sequent}
+use Rattle.nts_queries.proofs.Rounds.{search_noted, own_asked, own_form, entry_held, round_proved, round_told, grown, ran, search_then, entry_of, holds_answer, search_pushed, tell_pushed, search_same, search_popped, round_closes, last_fits, last_told, last_refuted, last_each, cycle_told, cycle_refuted, cycle_derived, first_fits, first_told, round_ends, ended_entry}
+use Rattle.nts_delegate.specs.Relevant.{LeavesOut}
+use Rattle.nts_queries.proofs.LeftOut.{all_outcomes, kept_offered}
+use Rattle.nts_queries.specs.declared.round.Asked.{Asked}
+use Rattle.nts_certainty.specs.declared.sources.GoalSource.TheVariants as source
+use Rattle.nts_store.specs.declared.fault.EvalError.TheVariants as EvalError
+use Rattle.nts_certainty.specs.declared.certainty.Certainty.TheVariants as certainty
 use Rattle.nts_evaluation.proofs.evaluate.+evaluate.Goals as goal
 
 pub compute_goal-evaluate_candidates-response-requires : goal.compute_goal-evaluate_candidates-response-requires
@@ -69,8 +95,8 @@ compute_goal-evaluate_candidates-response-requires g t c = λ κs k.
       ),
     )
 
-pub compute_goal-returns-clause-found : goal.compute_goal-returns-clause-found
-compute_goal-returns-clause-found g t c =
+pub compute_goal-returns : goal.compute_goal-returns
+compute_goal-returns g t c =
     let o = c.in_ok-opened.ensures in
     let e = c.in_ok-candidates.ensures in
     let m = c.in_ok-kept.ensures in
@@ -79,70 +105,59 @@ compute_goal-returns-clause-found g t c =
     let all = Extends-trans o.grows.extends more in
     let opened = rw c.in-Some.is at o.opened in
     let posed = rw c.in-Some.is at o.posed in
-    let both = trees_kept c.args.cx.now.nodes c.keep_met.new.cx.nodes c.args.table.now.entries c.args.values.now all c.requires.values in
-    let goes = Goes-extends o.goes.table more in
-    IfOk-map c.evaluate_candidates-response.result
-    (λ r f. record {
-      store = f.store;
-      after = f.after;
-      formed = f.formed;
-      goes = Goes-trans o.goes (Goes-trans goes f.goes);
-      labels = labels_through c.requires.posed opened o.grows.extends (only_back {g = c.in-Some.opened} more o.goes.table posed.holds f.labels);
-      extends = f.extends;
-      says = rw both at f.says;
-      holds = f.holds;
-      no_more = f.no_more;
-      sure = λ y s.
+    let here = content_of-extended e.grows.extends o.goes.table.now in
+    let trees = trees_kept c.args.cx.now.nodes c.enter_forall.new.cx.nodes c.args.table.now.entries c.args.values.now o.grows.extends c.requires.values in
+    record {
+      grows = search rules;
+      searches = let o = c.in_ok-opened.ensures in let e = c.in_ok-candidates.ensures in let m = c.in_ok-kept.ensures in search_then c.args.depth c.requires.search (grown o.grows (grown e.grows m.grows)) c.evaluate_candidates-response.ensures.searches;
+      found =
+          let both = trees_kept c.args.cx.now.nodes c.keep_met.new.cx.nodes c.args.table.now.entries c.args.values.now all c.requires.values in
+          let goes = Goes-extends o.goes.table more in
+          IfOk-map c.evaluate_candidates-response.result
+          (λ r f. record {
+            store = f.store;
+            after = f.after;
+            formed = f.formed;
+            goes = Goes-trans o.goes (Goes-trans goes f.goes);
+            labels = labels_through c.requires.posed opened o.grows.extends (only_back {g = c.in-Some.opened} more o.goes.table posed.holds f.labels);
+            extends = f.extends;
+            says = rw both at f.says;
+            holds = f.holds;
+            no_more = f.no_more;
+            sure = λ y s.
+                let h = g.H.GoalHandler.handler s.base c.args.handler.now in
+                let same = g.met.H.GoalHandler.handler_kept s.base c.relevant_candidates.new.cx.nodes c.args.handler.now s.is_ready (Extends-trans s.extends up) in
+                let offered = subst (λ os. LeavesOut os (candidates_of c.relevant_candidates.new.cx.nodes c.in_ok-candidates.candidates.items)) (ap (λ m. (g.H.GoalHandler.handler c.relevant_candidates.new.cx.nodes c.args.handler.now).offers (mode_of m) (tree_at c.relevant_candidates.new.cx.nodes c.in-Some.opened.param_env.node) (tree_at c.relevant_candidates.new.cx.nodes c.in-Some.opened.predicate.node)) c.typing_mode.ensures ∙ same.offers _ _ _) e.offered in
+                let law = g.met.H.GoalHandler.lawful s.base c.args.handler.now s.formed s.is_ready in
+                let there = Goes-trans goes f.goes in
+                let later = (Goes-trans o.goes there).continues in
+                let among = kept_offered c.in-Some.opened h c.enter_forall.new.table.mode m.kept m.grows.extends (HoldsGoal-extended e.grows.extends posed.holds) e.candidates offered in
+                proved_through c.requires.posed opened o.grows.extends h s.variances (mode_of c.args.table.now.mode) (assumed_in c.evaluate_candidates-response.new.cx.nodes c.evaluate_candidates-response.new.graph) posed (let z = c.is_candidates_goal.ensures c.if-not-is_candidates_goal.false in z.asked) there later f.formed law (rw o.goes.mode at (f.sure y (Since-later all s) among));
+          })
+          (rw (c.deref.ensures.value, m.same) at c.evaluate_candidates-response.ensures.found);
+      told = λ s tells.
+          let goes = Goes-trans o.goes (Goes-extends o.goes.table e.grows.extends) in
+          let args = args_later c.args.cx.now.nodes c.relevant_candidates.new.cx.nodes c.args.table.now.entries c.enter_forall.new.table.entries c.args.values.now goes.extends goes.continues c.requires.values in
+          let both = trees_kept c.args.cx.now.nodes c.relevant_candidates.new.cx.nodes c.args.table.now.entries c.args.values.now up c.requires.values in
           let h = g.H.GoalHandler.handler s.base c.args.handler.now in
           let same = g.met.H.GoalHandler.handler_kept s.base c.relevant_candidates.new.cx.nodes c.args.handler.now s.is_ready (Extends-trans s.extends up) in
           let offered = subst (λ os. LeavesOut os (candidates_of c.relevant_candidates.new.cx.nodes c.in_ok-candidates.candidates.items)) (ap (λ m. (g.H.GoalHandler.handler c.relevant_candidates.new.cx.nodes c.args.handler.now).offers (mode_of m) (tree_at c.relevant_candidates.new.cx.nodes c.in-Some.opened.param_env.node) (tree_at c.relevant_candidates.new.cx.nodes c.in-Some.opened.predicate.node)) c.typing_mode.ensures ∙ same.offers _ _ _) e.offered in
-          let law = g.met.H.GoalHandler.lawful s.base c.args.handler.now s.formed s.is_ready in
-          let there = Goes-trans goes f.goes in
-          let later = (Goes-trans o.goes there).continues in
-          let among = kept_offered c.in-Some.opened h c.enter_forall.new.table.mode m.kept m.grows.extends (HoldsGoal-extended e.grows.extends posed.holds) e.candidates offered in
-          proved_through c.requires.posed opened o.grows.extends h s.variances (mode_of c.args.table.now.mode) (assumed_in c.evaluate_candidates-response.new.cx.nodes c.evaluate_candidates-response.new.graph) posed (let z = c.is_candidates_goal.ensures c.if-not-is_candidates_goal.false in z.asked) there later f.formed law (rw o.goes.mode at (f.sure y (Since-later all s) among));
-    })
-    (rw (c.deref.ensures.value, m.same) at c.evaluate_candidates-response.ensures.found)
-
-pub compute_goal-returns-clause-refuted : goal.compute_goal-returns-clause-refuted
-compute_goal-returns-clause-refuted g t c = λ s tells n.
-    let o = c.in_ok-opened.ensures in
-    let e = c.in_ok-candidates.ensures in
-    let m = c.in_ok-kept.ensures in
-    let up = Extends-trans o.grows.extends e.grows.extends in
-    let opened = rw c.in-Some.is at o.opened in
-    let posed = rw c.in-Some.is at o.posed in
-    let goes = Goes-trans o.goes (Goes-extends o.goes.table e.grows.extends) in
-    let args = args_later c.args.cx.now.nodes c.relevant_candidates.new.cx.nodes c.args.table.now.entries c.enter_forall.new.table.entries c.args.values.now goes.extends goes.continues c.requires.values in
-    let h = g.H.GoalHandler.handler s.base c.args.handler.now in
-    let same = g.met.H.GoalHandler.handler_kept s.base c.relevant_candidates.new.cx.nodes c.args.handler.now s.is_ready (Extends-trans s.extends up) in
-    let offered = subst (λ os. LeavesOut os (candidates_of c.relevant_candidates.new.cx.nodes c.in_ok-candidates.candidates.items)) (ap (λ m. (g.H.GoalHandler.handler c.relevant_candidates.new.cx.nodes c.args.handler.now).offers (mode_of m) (tree_at c.relevant_candidates.new.cx.nodes c.in-Some.opened.param_env.node) (tree_at c.relevant_candidates.new.cx.nodes c.in-Some.opened.predicate.node)) c.typing_mode.ensures ∙ same.offers _ _ _) e.offered in
-    let here = content_of-extended e.grows.extends o.goes.table.now in
-    let kept = rw (c.deref.ensures.value, m.same) at (c.evaluate_candidates-response.ensures.refuted (Since-later (Extends-trans up m.grows.extends) s) (tell_grown h c.args.depth c.requires.search (grown o.grows (grown e.grows m.grows)) tells) n) in
-    let run = kept_outcomes c.in-Some.opened h c.enter_forall.new.table.mode c.args.values.now m.kept m.grows.extends (IsTable-extended e.grows.extends o.goes.table) args e.candidates kept in
-    refuted_through c.requires.posed opened o.grows.extends (let z = c.is_candidates_goal.ensures c.if-not-is_candidates_goal.false in z.asked) h c.args.table.now.mode (trees_of c.relevant_candidates.new.cx.nodes c.args.values.now)
-    (rw (here, o.goes.mode, offers-kept h (mode_of c.args.table.now.mode) e.grows.extends posed.holds) at (all_outcomes offered _ _ refl run))
-
-pub compute_goal-returns-clause-told : goal.compute_goal-returns-clause-told
-compute_goal-returns-clause-told g t c = λ s tells.
-    let o = c.in_ok-opened.ensures in
-    let e = c.in_ok-candidates.ensures in
-    let m = c.in_ok-kept.ensures in
-    let up = Extends-trans o.grows.extends e.grows.extends in
-    let opened = rw c.in-Some.is at o.opened in
-    let posed = rw c.in-Some.is at o.posed in
-    let goes = Goes-trans o.goes (Goes-extends o.goes.table e.grows.extends) in
-    let args = args_later c.args.cx.now.nodes c.relevant_candidates.new.cx.nodes c.args.table.now.entries c.enter_forall.new.table.entries c.args.values.now goes.extends goes.continues c.requires.values in
-    let trees = trees_kept c.args.cx.now.nodes c.enter_forall.new.cx.nodes c.args.table.now.entries c.args.values.now o.grows.extends c.requires.values in
-    let both = trees_kept c.args.cx.now.nodes c.relevant_candidates.new.cx.nodes c.args.table.now.entries c.args.values.now up c.requires.values in
-    let h = g.H.GoalHandler.handler s.base c.args.handler.now in
-    let same = g.met.H.GoalHandler.handler_kept s.base c.relevant_candidates.new.cx.nodes c.args.handler.now s.is_ready (Extends-trans s.extends up) in
-    let offered = subst (λ os. LeavesOut os (candidates_of c.relevant_candidates.new.cx.nodes c.in_ok-candidates.candidates.items)) (ap (λ m. (g.H.GoalHandler.handler c.relevant_candidates.new.cx.nodes c.args.handler.now).offers (mode_of m) (tree_at c.relevant_candidates.new.cx.nodes c.in-Some.opened.param_env.node) (tree_at c.relevant_candidates.new.cx.nodes c.in-Some.opened.predicate.node)) c.typing_mode.ensures ∙ same.offers _ _ _) e.offered in
-    let run = rw (c.deref.ensures.value, m.same) at (c.evaluate_candidates-response.ensures.told (Since-later (Extends-trans up m.grows.extends) s) (tell_grown h c.args.depth c.requires.search (grown o.grows (grown e.grows m.grows)) tells)) in
-    IfOk-map c.evaluate_candidates-response.result
-    (λ r f. told_through c.requires.posed opened o.grows.extends (let z = c.is_candidates_goal.ensures c.if-not-is_candidates_goal.false in z.asked) h c.args.table.now.mode c.args.values.now c.evaluate_candidates-response.new.cx.nodes r.value trees
-    (rw (o.goes.mode) at (told_offered h c.enter_forall.new.table.mode c.enter_forall.new.table c.in-Some.opened c.args.values.now c.in_ok-candidates.candidates.items c.evaluate_candidates-response.new.cx.nodes r.value e.grows.extends o.goes.table posed.holds (both ∙ sym trees) offered
-    (kept_tell c.evaluate_candidates-response.new.cx.nodes c.in-Some.opened h c.enter_forall.new.table.mode c.args.values.now r.value m.kept m.grows.extends (IsTable-extended e.grows.extends o.goes.table) args e.candidates f)))) run
+          let run = rw (c.deref.ensures.value, m.same) at (c.evaluate_candidates-response.ensures.told (Since-later (Extends-trans up m.grows.extends) s) (tell_grown h c.args.depth c.requires.search (grown o.grows (grown e.grows m.grows)) tells)) in
+          IfOk-map c.evaluate_candidates-response.result
+          (λ r f. told_through c.requires.posed opened o.grows.extends (let z = c.is_candidates_goal.ensures c.if-not-is_candidates_goal.false in z.asked) h c.args.table.now.mode c.args.values.now c.evaluate_candidates-response.new.cx.nodes r.value trees
+          (rw (o.goes.mode) at (told_offered h c.enter_forall.new.table.mode c.enter_forall.new.table c.in-Some.opened c.args.values.now c.in_ok-candidates.candidates.items c.evaluate_candidates-response.new.cx.nodes r.value e.grows.extends o.goes.table posed.holds (both ∙ sym trees) offered
+          (kept_tell c.evaluate_candidates-response.new.cx.nodes c.in-Some.opened h c.enter_forall.new.table.mode c.args.values.now r.value m.kept m.grows.extends (IsTable-extended e.grows.extends o.goes.table) args e.candidates f)))) run;
+      refuted = λ s tells n.
+          let goes = Goes-trans o.goes (Goes-extends o.goes.table e.grows.extends) in
+          let args = args_later c.args.cx.now.nodes c.relevant_candidates.new.cx.nodes c.args.table.now.entries c.enter_forall.new.table.entries c.args.values.now goes.extends goes.continues c.requires.values in
+          let h = g.H.GoalHandler.handler s.base c.args.handler.now in
+          let same = g.met.H.GoalHandler.handler_kept s.base c.relevant_candidates.new.cx.nodes c.args.handler.now s.is_ready (Extends-trans s.extends up) in
+          let offered = subst (λ os. LeavesOut os (candidates_of c.relevant_candidates.new.cx.nodes c.in_ok-candidates.candidates.items)) (ap (λ m. (g.H.GoalHandler.handler c.relevant_candidates.new.cx.nodes c.args.handler.now).offers (mode_of m) (tree_at c.relevant_candidates.new.cx.nodes c.in-Some.opened.param_env.node) (tree_at c.relevant_candidates.new.cx.nodes c.in-Some.opened.predicate.node)) c.typing_mode.ensures ∙ same.offers _ _ _) e.offered in
+          let kept = rw (c.deref.ensures.value, m.same) at (c.evaluate_candidates-response.ensures.refuted (Since-later (Extends-trans up m.grows.extends) s) (tell_grown h c.args.depth c.requires.search (grown o.grows (grown e.grows m.grows)) tells) n) in
+          let run = kept_outcomes c.in-Some.opened h c.enter_forall.new.table.mode c.args.values.now m.kept m.grows.extends (IsTable-extended e.grows.extends o.goes.table) args e.candidates kept in
+          refuted_through c.requires.posed opened o.grows.extends (let z = c.is_candidates_goal.ensures c.if-not-is_candidates_goal.false in z.asked) h c.args.table.now.mode (trees_of c.relevant_candidates.new.cx.nodes c.args.values.now)
+          (rw (here, o.goes.mode, offers-kept h (mode_of c.args.table.now.mode) e.grows.extends posed.holds) at (all_outcomes offered _ _ refl run));
+    }
 
 pub evaluate_candidates-loop-candidate-init : goal.evaluate_candidates-loop-candidate-init
 evaluate_candidates-loop-candidate-init g t c = record {
@@ -219,32 +234,31 @@ probe_candidate-boxed_response-requires-clause-values g t c =
     let goes = goes-back p.table r.runs.goes.extends back in
     args_later c.args.cx.now.nodes c.run_candidate.new.cx.nodes c.args.table.now.entries c.rollback_to-2.new.self.entries c.args.values.now goes.extends goes.continues c.requires.values
 
-pub probe_candidate-returns-clause-found : goal.probe_candidate-returns-clause-found
-probe_candidate-returns-clause-found g t c =
+pub probe_candidate-returns : goal.probe_candidate-returns
+probe_candidate-returns g t c =
     let p = c.requires.posed in
     let o = c.in_ok-snapshot.ensures in
     let r = c.in-Ok.ensures in
     let back = rolled_back o.saved r.runs.goes c.rollback_to-2.ensures.saved o.mode c.rollback_to-2.ensures.mode in
     let m = c.in_ok-response-2.ensures in
-    found_still c.in_ok-response-2.response.value c.in-Ok.certainty p.table r.runs.goes.extends c.terms_are_formed.ensures m.grows.extends c.requires.values m.certainty (not_kept (sym c.keeps_constraints.ensures ∙ c.if-keeps_constraints.false)) (rw back at m.says) m.holds (record { no_hidden = m.nothing.0; no_goals = m.nothing.1 })
-
-pub probe_candidate-returns-clause-told : goal.probe_candidate-returns-clause-told
-probe_candidate-returns-clause-told g t c = λ s tells.
-    let p = c.requires.posed in
-    let o = c.in_ok-snapshot.ensures in
-    let r = c.in-Ok.ensures in
     let went = went_in p.table o.entries o.saved o.mode r.runs.goes in
-    let back = rolled_back o.saved r.runs.goes c.rollback_to-2.ensures.saved o.mode c.rollback_to-2.ensures.mode in
-    let m = c.in_ok-response-2.ensures in
-    let h = g.H.GoalHandler.handler s.base c.args.handler.now in
     let trees = trees_kept c.args.cx.now.nodes c.run_candidate.new.cx.nodes c.args.table.now.entries c.args.values.now went.extends c.requires.values in
     let still = content_of-extended r.runs.goes.extends p.table.now in
     let unsure = not_kept (sym c.keeps_constraints.ensures ∙ c.if-keeps_constraints.false) in
-    run_replies c.start_snapshot.new.self c.args.table.now c.run_candidate.new.table h c.args.table.now.mode c.args.candidate.now (trees_of c.args.cx.now.nodes c.args.values.now) _ (r.told s tells) o.mode o.entries
-    (inr (inr (rw o.entries (plain_of c.in-Ok.certainty _ _ _ (rw (back, still, trees) at m.says) unsure))))
+    record {
+      same = search rules;
+      grows = search rules;
+      searches = search_grown c.args.depth c.requires.search c.in-Ok.ensures.searches c.boxed_response.ensures.grows;
+      found = found_still c.in_ok-response-2.response.value c.in-Ok.certainty p.table r.runs.goes.extends c.terms_are_formed.ensures m.grows.extends c.requires.values m.certainty (not_kept (sym c.keeps_constraints.ensures ∙ c.if-keeps_constraints.false)) (rw back at m.says) m.holds (record { no_hidden = m.nothing.0; no_goals = m.nothing.1 });
+      told = λ s tells.
+          let h = g.H.GoalHandler.handler s.base c.args.handler.now in
+          run_replies c.start_snapshot.new.self c.args.table.now c.run_candidate.new.table h c.args.table.now.mode c.args.candidate.now (trees_of c.args.cx.now.nodes c.args.values.now) _ (r.told s tells) o.mode o.entries
+          (inr (inr (rw o.entries (plain_of c.in-Ok.certainty _ _ _ (rw (back, still, trees) at m.says) unsure))));
+      refuted = search rules;
+    }
 
-pub probe_candidate-returns-then-keeps_constraints-clause-found : goal.probe_candidate-returns-then-keeps_constraints-clause-found
-probe_candidate-returns-then-keeps_constraints-clause-found g t c =
+pub probe_candidate-returns-then-keeps_constraints : goal.probe_candidate-returns-then-keeps_constraints
+probe_candidate-returns-then-keeps_constraints g t c =
     let p = c.requires.posed in
     let o = c.in_ok-snapshot.ensures in
     let r = c.in-Ok.ensures in
@@ -252,47 +266,36 @@ probe_candidate-returns-then-keeps_constraints-clause-found g t c =
     let m = c.in_ok-response.ensures in
     let now = search_later c.args.depth c.args.depth (omega arith) c.requires.search r.searches in
     let covers = covers_grown c.args.depth now m.grows in
-    found_in c.in_ok-response.field-0.value c.in-Ok.certainty went c.terms_are_formed.ensures m.grows.extends (rw o.entries at r.labels) c.requires.values m.certainty m.says m.holds (record { no_hidden = m.nothing.0; no_goals = m.nothing.1 })
-    (λ y s offered. served_more covers (rw o.mode at (r.proved s (rw o.mode offered) (ap Ok y))))
-
-pub probe_candidate-returns-then-keeps_constraints-clause-told : goal.probe_candidate-returns-then-keeps_constraints-clause-told
-probe_candidate-returns-then-keeps_constraints-clause-told g t c = λ s tells.
-    let p = c.requires.posed in
-    let o = c.in_ok-snapshot.ensures in
-    let r = c.in-Ok.ensures in
-    let went = went_in p.table o.entries o.saved o.mode r.runs.goes in
-    let m = c.in_ok-response.ensures in
-    let h = g.H.GoalHandler.handler s.base c.args.handler.now in
     let trees = trees_kept c.args.cx.now.nodes c.run_candidate.new.cx.nodes c.args.table.now.entries c.args.values.now went.extends c.requires.values in
-    run_replies c.start_snapshot.new.self c.args.table.now c.run_candidate.new.table h c.args.table.now.mode c.args.candidate.now (trees_of c.args.cx.now.nodes c.args.values.now) _ (r.told s tells) o.mode o.entries
-    (said_of (told_or_plain c.in-Ok.certainty _ _ _ (rw trees at m.says)))
+    record {
+      same = rolled_back c.in_ok-snapshot.ensures.saved c.in-Ok.ensures.runs.goes c.rollback_to-then-keeps_constraints.ensures.saved c.in_ok-snapshot.ensures.mode c.rollback_to-then-keeps_constraints.ensures.mode;
+      grows = search rules;
+      searches = search_grown c.args.depth c.requires.search c.in-Ok.ensures.searches c.boxed_response-response.ensures.grows;
+      found =
+          found_in c.in_ok-response.field-0.value c.in-Ok.certainty went c.terms_are_formed.ensures m.grows.extends (rw o.entries at r.labels) c.requires.values m.certainty m.says m.holds (record { no_hidden = m.nothing.0; no_goals = m.nothing.1 })
+          (λ y s offered. served_more covers (rw o.mode at (r.proved s (rw o.mode offered) (ap Ok y))));
+      told = λ s tells.
+          let h = g.H.GoalHandler.handler s.base c.args.handler.now in
+          run_replies c.start_snapshot.new.self c.args.table.now c.run_candidate.new.table h c.args.table.now.mode c.args.candidate.now (trees_of c.args.cx.now.nodes c.args.values.now) _ (r.told s tells) o.mode o.entries
+          (said_of (told_or_plain c.in-Ok.certainty _ _ _ (rw trees at m.says)));
+      refuted = search rules;
+    }
 
-pub run_candidate-returns-clause-labels : goal.run_candidate-returns-clause-labels
-run_candidate-returns-clause-labels g t c =
+pub run_candidate-returns : goal.run_candidate-returns
+run_candidate-returns g t c =
     let v = c.in_ok-values.ensures in
     let k = c.in_ok-record_constraints.ensures in
     let n = c.in_ok-goals.ensures in
     let e = c.in_ok-certainty.ensures in
     let brought = added_only c.in_ok-goals.goals.items n.added e.labels (content_of-extended n.grows.extends k.runs.goes.table.now) in
-    only-trans v.labels (only_earlier v.runs.goes.extends c.requires.posed.holds (only-trans k.labels (only_earlier k.runs.goes.extends (HoldsGoal-extended v.runs.goes.extends c.requires.posed.holds) brought)))
-
-pub run_candidate-returns-clause-proved : goal.run_candidate-returns-clause-proved
-run_candidate-returns-clause-proved g t c = λ s offered y.
-    let v = c.in_ok-values.ensures in
-    let k = c.in_ok-record_constraints.ensures in
     let there = Runs-trans v.runs k.runs in
-    let n = c.in_ok-goals.ensures in
     let upto = Runs-trans there (Runs-extends k.runs.goes.table n.grows.extends n.grows.rest) in
     let x = c.args.candidate.now in
     let gs = c.in_ok-goals.goals.items in
     let vs = c.deref-2.result.now in
     let within : AllIn c.equate.new.cx.nodes c.deref-2.result.now = rw c.deref-2.ensures.value v.values.within in
     let constraints = constraints-kept c.args.cx.now.nodes c.equate.new.cx.nodes x.fresh.items c.args.goal x.region_constraints.items v.runs.goes.extends c.requires.candidate.constraints in
-    let h = g.H.GoalHandler.handler s.base c.args.handler.now in
     let mode = c.args.table.now.mode in
-    let since = Since-later (Extends-trans there.goes.extends n.grows.extends) s in
-    let e = c.in_ok-certainty.ensures in
-    let sure = both_sure _ _ (sym c.and.ensures ∙ ok_inside y) in
     let z = c.try_evaluate_goals.new.cx.nodes in
     let here = content_of z c.try_evaluate_goals.new.table.entries in
     let seen = candidate_of c.args.cx.now.nodes x in
@@ -301,49 +304,37 @@ run_candidate-returns-clause-proved g t c = λ s offered y.
     let later = AreValues-later (Runs-trans k.runs steps).goes v.values in
     let same = map-kept c.record_constraints.new.cx.nodes z vs (AllIn-kept c.equate.new.cx.nodes c.record_constraints.new.cx.nodes vs within k.runs.goes.extends) steps.goes.extends in
     let goals = (rw c.deref-4.ensures.value at n.added.goals) ∙ added_is z c.args.goal x.fresh.items vs x.goals.items there.goes.extends c.requires.candidate.goals (sym same) in
-    let kind = goal_kind (meaning (g.H.GoalHandler.handler s.base c.args.handler.now) s.variances) (tree_at c.args.cx.now.nodes c.args.goal.predicate.node) in
     let A = assumed_in c.try_evaluate_goals.new.cx.nodes c.try_evaluate_goals.new.graph in
-    let settled = rw (upto.goes.mode, c.goal_kind-kind.ensures.kind s.base s.variances) at (e.proved since) in
-    let none = e.sure (ap Ok sure.1) in
-    let run : HasRun (meaning (g.H.GoalHandler.handler s.base c.args.handler.now) s.variances) (mode_of c.args.table.now.mode) (goal_kind (meaning (g.H.GoalHandler.handler s.base c.args.handler.now) s.variances) (tree_at c.args.cx.now.nodes c.args.goal.predicate.node)) (assumed_in c.try_evaluate_goals.new.cx.nodes c.try_evaluate_goals.new.graph) (content_of c.try_evaluate_goals.new.cx.nodes c.try_evaluate_goals.new.table.entries) (candidate_of c.args.cx.now.nodes c.args.candidate.now) (map (tree_at c.try_evaluate_goals.new.cx.nodes) c.deref-2.result.now) = record {
-      sure = ap certainty_of sure.0;
-      values = rw c.deref-2.ensures.value later.values;
-      known = rw c.deref-2.ensures.value later.known;
-      equations = rw c.deref-2.ensures.value (Equates-later c.args.cx.now.nodes c.in_ok-values.values.items x.equations.items (Runs-trans k.runs steps).goes v.values.within v.equal);
-      constraints = Constrains-later c.args.cx.now.nodes vs x.region_constraints.items steps.goes (AllIn-kept c.equate.new.cx.nodes c.record_constraints.new.cx.nodes vs within k.runs.goes.extends) (rw (c.deref-3.ensures.value, constraints) at k.held);
-      goals = all_proved (meaning (g.H.GoalHandler.handler s.base c.args.handler.now) s.variances) (mode_of mode) kind A (map (tree_at z) vs) (map (premise_of c.args.cx.now.nodes) x.goals.items) gs goals (all_posed gs n.added.posed) e.runs.goes c.terms_are_formed.ensures (proved_all _ gs none settled);
-    } in
-    rw (all.goes.extends.kept c.args.goal.param_env.node c.requires.posed.holds.env.within, all.goes.extends.kept c.args.goal.predicate.node c.requires.posed.holds.predicate.within)
-    (has_run h s.variances (mode_of mode) A here seen (map (tree_at z) vs) (tree_at c.args.cx.now.nodes c.args.goal.param_env.node) (tree_at c.args.cx.now.nodes c.args.goal.predicate.node) (term_table c.terms_are_formed.ensures e.runs.goes.table) offered run)
+    record {
+      runs = Runs-trans upto c.in_ok-certainty.ensures.runs;
+      searches = search_then c.args.depth c.requires.search (grown (ran c.in_ok-values.ensures.runs) (grown (ran c.in_ok-record_constraints.ensures.runs) c.in_ok-goals.ensures.grows)) c.in_ok-certainty.ensures.searches;
+      labels = only-trans v.labels (only_earlier v.runs.goes.extends c.requires.posed.holds (only-trans k.labels (only_earlier k.runs.goes.extends (HoldsGoal-extended v.runs.goes.extends c.requires.posed.holds) brought)));
+      proved = λ s offered y.
+          let h = g.H.GoalHandler.handler s.base c.args.handler.now in
+          let since = Since-later (Extends-trans there.goes.extends n.grows.extends) s in
+          let sure = both_sure _ _ (sym c.and.ensures ∙ ok_inside y) in
+          let kind = goal_kind (meaning (g.H.GoalHandler.handler s.base c.args.handler.now) s.variances) (tree_at c.args.cx.now.nodes c.args.goal.predicate.node) in
+          let settled = rw (upto.goes.mode, c.goal_kind-kind.ensures.kind s.base s.variances) at (e.proved since) in
+          let none = e.sure (ap Ok sure.1) in
+          let run : HasRun (meaning (g.H.GoalHandler.handler s.base c.args.handler.now) s.variances) (mode_of c.args.table.now.mode) (goal_kind (meaning (g.H.GoalHandler.handler s.base c.args.handler.now) s.variances) (tree_at c.args.cx.now.nodes c.args.goal.predicate.node)) (assumed_in c.try_evaluate_goals.new.cx.nodes c.try_evaluate_goals.new.graph) (content_of c.try_evaluate_goals.new.cx.nodes c.try_evaluate_goals.new.table.entries) (candidate_of c.args.cx.now.nodes c.args.candidate.now) (map (tree_at c.try_evaluate_goals.new.cx.nodes) c.deref-2.result.now) = record {
+            sure = ap certainty_of sure.0;
+            values = rw c.deref-2.ensures.value later.values;
+            known = rw c.deref-2.ensures.value later.known;
+            equations = rw c.deref-2.ensures.value (Equates-later c.args.cx.now.nodes c.in_ok-values.values.items x.equations.items (Runs-trans k.runs steps).goes v.values.within v.equal);
+            constraints = Constrains-later c.args.cx.now.nodes vs x.region_constraints.items steps.goes (AllIn-kept c.equate.new.cx.nodes c.record_constraints.new.cx.nodes vs within k.runs.goes.extends) (rw (c.deref-3.ensures.value, constraints) at k.held);
+            goals = all_proved (meaning (g.H.GoalHandler.handler s.base c.args.handler.now) s.variances) (mode_of mode) kind A (map (tree_at z) vs) (map (premise_of c.args.cx.now.nodes) x.goals.items) gs goals (all_posed gs n.added.posed) e.runs.goes c.terms_are_formed.ensures (proved_all _ gs none settled);
+          } in
+          rw (all.goes.extends.kept c.args.goal.param_env.node c.requires.posed.holds.env.within, all.goes.extends.kept c.args.goal.predicate.node c.requires.posed.holds.predicate.within)
+          (has_run h s.variances (mode_of mode) A here seen (map (tree_at z) vs) (tree_at c.args.cx.now.nodes c.args.goal.param_env.node) (tree_at c.args.cx.now.nodes c.args.goal.predicate.node) (term_table c.terms_are_formed.ensures e.runs.goes.table) offered run);
+      told = λ s tells.
+          let h = g.H.GoalHandler.handler s.base c.args.handler.now in
+          let since = Since-later (Extends-trans there.goes.extends n.grows.extends) s in
+          ran_to {t = c.args.table.now} {u = c.equate.new.table} {v = c.record_constraints.new.table} h mode c.args.goal x vs gs (rw c.deref-2.ensures.value v.equated) (rw (c.deref-3.ensures.value) at k.added) constraints c.requires.candidate.goals v.runs.goes.extends k.runs.goes.extends there.goes.extends n.grows.extends k.runs.goes.table within (rw c.deref-4.ensures.value at n.added.goals) c.try_evaluate_goals.new.cx.nodes c.try_evaluate_goals.new.table (rw upto.goes.mode at (c.in_ok-certainty.ensures.told since (tell_grown h c.args.depth c.requires.search (grown (ran c.in_ok-values.ensures.runs) (grown (ran c.in_ok-record_constraints.ensures.runs) c.in_ok-goals.ensures.grows)) tells)));
+      refuted = search rules;
+    }
 
-pub run_candidate-returns-clause-runs : goal.run_candidate-returns-clause-runs
-run_candidate-returns-clause-runs g t c =
-    let v = c.in_ok-values.ensures in
-    let k = c.in_ok-record_constraints.ensures in
-    let there = Runs-trans v.runs k.runs in
-    let n = c.in_ok-goals.ensures in
-    let upto = Runs-trans there (Runs-extends k.runs.goes.table n.grows.extends n.grows.rest) in
-    Runs-trans upto c.in_ok-certainty.ensures.runs
-
-pub run_candidate-returns-clause-told : goal.run_candidate-returns-clause-told
-run_candidate-returns-clause-told g t c = λ s tells.
-    let v = c.in_ok-values.ensures in
-    let k = c.in_ok-record_constraints.ensures in
-    let there = Runs-trans v.runs k.runs in
-    let n = c.in_ok-goals.ensures in
-    let upto = Runs-trans there (Runs-extends k.runs.goes.table n.grows.extends n.grows.rest) in
-    let x = c.args.candidate.now in
-    let gs = c.in_ok-goals.goals.items in
-    let vs = c.deref-2.result.now in
-    let within : AllIn c.equate.new.cx.nodes c.deref-2.result.now = rw c.deref-2.ensures.value v.values.within in
-    let constraints = constraints-kept c.args.cx.now.nodes c.equate.new.cx.nodes x.fresh.items c.args.goal x.region_constraints.items v.runs.goes.extends c.requires.candidate.constraints in
-    let h = g.H.GoalHandler.handler s.base c.args.handler.now in
-    let mode = c.args.table.now.mode in
-    let since = Since-later (Extends-trans there.goes.extends n.grows.extends) s in
-    ran_to {t = c.args.table.now} {u = c.equate.new.table} {v = c.record_constraints.new.table} h mode c.args.goal x vs gs (rw c.deref-2.ensures.value v.equated) (rw (c.deref-3.ensures.value) at k.added) constraints c.requires.candidate.goals v.runs.goes.extends k.runs.goes.extends there.goes.extends n.grows.extends k.runs.goes.table within (rw c.deref-4.ensures.value at n.added.goals) c.try_evaluate_goals.new.cx.nodes c.try_evaluate_goals.new.table (rw upto.goes.mode at (c.in_ok-certainty.ensures.told since (tell_grown h c.args.depth c.requires.search (grown (ran c.in_ok-values.ensures.runs) (grown (ran c.in_ok-record_constraints.ensures.runs) c.in_ok-goals.ensures.grows)) tells)))
-
-pub run_candidate-returns-in_err-certainty-clause-refuted : goal.run_candidate-returns-in_err-certainty-clause-refuted
-run_candidate-returns-in_err-certainty-clause-refuted g t c = λ s tells no.
+pub run_candidate-returns-in_err-certainty : goal.run_candidate-returns-in_err-certainty
+run_candidate-returns-in_err-certainty g t c =
     let v = c.in_ok-values.ensures in
     let k = c.in_ok-record_constraints.ensures in
     let there = Runs-trans v.runs k.runs in
@@ -354,20 +345,19 @@ run_candidate-returns-in_err-certainty-clause-refuted g t c = λ s tells no.
     let vs = c.deref-2.result.now in
     let within : AllIn c.equate.new.cx.nodes c.deref-2.result.now = rw c.deref-2.ensures.value v.values.within in
     let constraints = constraints-kept c.args.cx.now.nodes c.equate.new.cx.nodes x.fresh.items c.args.goal x.region_constraints.items v.runs.goes.extends c.requires.candidate.constraints in
-    let h = g.H.GoalHandler.handler s.base c.args.handler.now in
     let mode = c.args.table.now.mode in
-    let since = Since-later (Extends-trans there.goes.extends n.grows.extends) s in
-    let refused : c.try_evaluate_goals.result ≡ Err EvalError.NoSolution = search rules in
-    ran_refused {t = c.args.table.now} {u = c.equate.new.table} {v = c.record_constraints.new.table} h mode c.args.goal x vs gs (rw c.deref-2.ensures.value v.equated) (rw (c.deref-3.ensures.value) at k.added) constraints c.requires.candidate.goals v.runs.goes.extends k.runs.goes.extends there.goes.extends n.grows.extends k.runs.goes.table within (rw c.deref-4.ensures.value at n.added.goals) (rw upto.goes.mode at (c.try_evaluate_goals.ensures.refuted since (tell_grown h c.args.depth c.requires.search (grown (ran c.in_ok-values.ensures.runs) (grown (ran c.in_ok-record_constraints.ensures.runs) c.in_ok-goals.ensures.grows)) tells) (kind_asked c.goal_kind-kind.result (meaning h s.variances) (c.goal_kind-kind.ensures.kind s.base s.variances) c.requires.asked) refused))
-
-pub run_candidate-returns-in_err-certainty-clause-runs : goal.run_candidate-returns-in_err-certainty-clause-runs
-run_candidate-returns-in_err-certainty-clause-runs g t c =
-    let v = c.in_ok-values.ensures in
-    let k = c.in_ok-record_constraints.ensures in
-    let there = Runs-trans v.runs k.runs in
-    let n = c.in_ok-goals.ensures in
-    let upto = Runs-trans there (Runs-extends k.runs.goes.table n.grows.extends n.grows.rest) in
-    Runs-trans upto c.try_evaluate_goals.ensures.runs
+    record {
+      runs = Runs-trans upto c.try_evaluate_goals.ensures.runs;
+      searches = search_then c.args.depth c.requires.search (grown (ran c.in_ok-values.ensures.runs) (grown (ran c.in_ok-record_constraints.ensures.runs) c.in_ok-goals.ensures.grows)) c.try_evaluate_goals.ensures.searches;
+      labels = search rules;
+      proved = search rules;
+      told = search rules;
+      refuted = λ s tells no.
+          let h = g.H.GoalHandler.handler s.base c.args.handler.now in
+          let since = Since-later (Extends-trans there.goes.extends n.grows.extends) s in
+          let refused : c.try_evaluate_goals.result ≡ Err EvalError.NoSolution = search rules in
+          ran_refused {t = c.args.table.now} {u = c.equate.new.table} {v = c.record_constraints.new.table} h mode c.args.goal x vs gs (rw c.deref-2.ensures.value v.equated) (rw (c.deref-3.ensures.value) at k.added) constraints c.requires.candidate.goals v.runs.goes.extends k.runs.goes.extends there.goes.extends n.grows.extends k.runs.goes.table within (rw c.deref-4.ensures.value at n.added.goals) (rw upto.goes.mode at (c.try_evaluate_goals.ensures.refuted since (tell_grown h c.args.depth c.requires.search (grown (ran c.in_ok-values.ensures.runs) (grown (ran c.in_ok-record_constraints.ensures.runs) c.in_ok-goals.ensures.grows)) tells) (kind_asked c.goal_kind-kind.result (meaning h s.variances) (c.goal_kind-kind.ensures.kind s.base s.variances) c.requires.asked) refused));
+    }
 
 pub run_candidate-try_evaluate_goals-requires : goal.run_candidate-try_evaluate_goals-requires
 run_candidate-try_evaluate_goals-requires g t c = λ κs k-1.

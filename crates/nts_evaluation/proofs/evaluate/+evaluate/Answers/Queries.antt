@@ -1,64 +1,101 @@
 -- Longer answers for the functions that answer queries, in rounds.
-use Rattle.std.proofs.Common.{◌≡◌, arith, ◌+◌, ◌≤◌, refl, sym, ◌∙◌, subst}
-use Rattle.nts_store.specs.Growth.{tree_at}
-use Rattle.nts_store.proofs.Growing.{Extends-trans}
+use Rattle.std.proofs.Common.{◌≡◌, inl, inr, Err, Ok, arith, rules, ◌+◌, ◌≤◌, map, length, take, get_or, refl, ap, sym, ◌∙◌, subst, length-append, [], ◌∷◌, true, false}
+use Rattle.std.specs.Prelude.{is_some, IfSome}
+use Rattle.std.proofs.lemmas.List.{take_all}
+use Rattle.nts_model.specs.Sequents.{Among}
+use Rattle.nts_model.specs.Handlers.{meaning}
+use Rattle.nts_model.proofs.Bringing.{only-trans, only-refl}
+use Rattle.nts_certainty.specs.declared.sources.GoalSource.{GoalSource}
+use Rattle.nts_store.specs.Growth.{tree_at, AllIn}
+use Rattle.nts_store.proofs.Growing.{Extends-trans, Extends-refl}
+use Rattle.nts_terms.specs.declared.handles.Goal.{Goal}
 use Rattle.nts_terms.specs.Modes.{mode_of}
+use Rattle.nts_terms.proofs.Moved.{KeepsRest-trans, KeepsRest-refl}
 use Rattle.nts_unify.specs.Reading.{content_of}
+use Rattle.nts_unify.specs.Lawful.{content_of-extended}
+use Rattle.nts_table.specs.TableLaws.{IsTable-extended}
+use Rattle.nts_delegate.specs.Offered.{certainty_of, candidate_of, premise_of, path_kind_of, candidates_of}
+use Rattle.nts_delegate.proofs.Results.{IfOk-map, OnOk-map}
 use Rattle.nts_canonical.specs.Building.{kinds_of}
+use Rattle.nts_canonical.specs.Forms.{trees_of, form_of}
 use Rattle.nts_response.specs.Forms.{response_at}
-use Rattle.nts_queries.specs.Meant.{Since, meaning_since, IsProvedNow}
-use Rattle.nts_queries.proofs.AskedGoals.{ok_both, evaluates, asked_stays}
-use Rattle.nts_queries.proofs.Evaluating.{Since-later}
-use Rattle.nts_queries.proofs.Probed.{found_fits, found_derived}
+use Rattle.nts_queries.specs.Meant.{Since, meaning_since, IsProvedNow, IsNestedSince}
+use Rattle.nts_queries.specs.Stepping.{AreLeft, AreSettled, bound_of}
+use Rattle.nts_queries.specs.Telling.Reaches.{asks_nothing}
+use Rattle.nts_queries.proofs.Asking.{IsAskedGoal-extended, kind_asked}
+use Rattle.nts_queries.proofs.AskedGoals.{trees_kept, ok_both, args_there, applicable, evaluates, asks, asked_stays, asked_labels, query_cut, response_refused, ok_two}
+use Rattle.nts_queries.proofs.AnsweredQueries.{first_entries, query_environment, query_predicate, args_later}
+use Rattle.nts_queries.proofs.Labels.{only_earlier, only_back, only_same, only_resolved, content_same}
+use Rattle.nts_queries.proofs.Evaluating.{Goes-trans, Goes-extends, Runs-trans, Runs-extends, Runs-refl, rolled_back, Since-later, offers-kept, IsPosed-later, AreValues-later, IsCandidate-extended, candidate_at, goes-back, HoldsGoal-extended}
+use Rattle.nts_queries.proofs.Stepping.{among_get, posed_later, posed_left, only_one, only_left, reach_more, refuse_more, reach_step, refuse_step, left_trans, settled_step, left_more, settled_proved, sure_more}
+use Rattle.nts_queries.proofs.Running.{term_table, unread, HasRun, has_run, both_sure, constraints-kept, offered_there, Equates-later, Constrains-later}
+use Rattle.nts_canonical.specs.declared.types.Canonical.{Canonical}
+use Rattle.nts_response.specs.declared.types.Response.{Response}
+use Rattle.nts_terms.specs.Handles.{HoldsGoal}
+use Rattle.nts_store.specs.Kept.{map-kept, AllIn-kept}
+use Rattle.nts_queries.specs.Telling.{IsPlain}
+use Rattle.nts_queries.specs.Telling.Tells.{tells_nothing, says_nothing}
+use Rattle.nts_queries.specs.Telling.Fails.{is_unmet}
+use Rattle.nts_queries.proofs.Filtered.{kept_candidates, kept_outcomes, kept_tell}
+use Rattle.nts_queries.proofs.Opened.{told_through, told_offered, refuted_through, nothing_through, labels_through, labels_entered, proved_through}
+use Rattle.nts_queries.proofs.Probed.{found_in, found_still, found_fits, found_derived, went_in, plain_of, doubtful, not_kept, told_or_plain, run_replies, said_of}
+use Rattle.nts_queries.proofs.Outcomes.{found_earlier, founds_more, founds_with, outcomes_first, outcomes_more, found_merged, told_merged, failed_of}
+use Rattle.nts_queries.proofs.Ran.{breaks, added_is, added_only, ran_to, ran_refused, all_proved, all_posed, proved_all, ok_inside}
+use Rattle.nts_model.specs.Rules.{goal_kind}
 use Rattle.nts_model.specs.Proofs.{passed}
 use Rattle.nts_model.proofs.Assuming.{covers_passed}
-use Rattle.nts_delegate.specs.Offered.{path_kind_of}
+use Rattle.nts_search.specs.Kinds.{goal_kind_of}
 use Rattle.nts_search.specs.Searching.{entry_at, entries_at}
-use Rattle.nts_search.proofs.Stacked.{entries_popped}
-use Rattle.nts_canonical.specs.Forms.{form_of}
-use Rattle.nts_queries.specs.Searching.{IsHeadAnswer, assumed_in}
-use Rattle.nts_queries.proofs.Searching.{Searches-refl, Searches-trans, search_later, search_grows, covers_grown, stays_more, heads_tell_later, search_marked, form_later}
-use Rattle.std.proofs.Common.{◌∷◌, false}
+use Rattle.nts_search.proofs.Stacked.{entries_pushed, entries_popped}
+use Rattle.nts_queries.specs.Searching.{HeadsTell, IsAnswerTold, IsHeadAnswer, assumed_in}
+use Rattle.nts_queries.proofs.Searching.{Searches-refl, Searches-trans, search_later, search_grown, search_grows, search_covers, covers_grown, stays_more, served_more, tell_grown, heads_tell_later, search_counted, search_marked, head_answer_later, answer_told_later, form_later, input_later, later_long}
+use Rattle.nts_search.specs.declared.stack.StackEntry.{StackEntry}
+use Rattle.nts_canonical.specs.declared.types.CanonicalInput.{CanonicalInput}
+use Rattle.nts_queries.specs.Answering.{IsAnswerTo}
 use Rattle.nts_model.specs.Stacks.{IsDerivedFrom, IsProvedFrom, assumptions}
 use Rattle.nts_queries.specs.Found.{Found}
 use Rattle.nts_model.specs.Responses.{answer_sequent}
-use Rattle.std.proofs.Common.{ap}
-use Rattle.std.specs.Prelude.{IfSome}
-use Rattle.nts_delegate.proofs.Results.{IfOk-map}
-use Rattle.nts_certainty.specs.declared.certainty.Certainty.TheVariants as certainty
-use Rattle.nts_search.specs.declared.stack.StackEntry.{StackEntry}
+use Rattle.nts_queries.proofs.Rounds.{search_noted, own_asked, own_form, entry_held, round_proved, round_told, grown, ran, search_then, entry_of, holds_answer, search_pushed, tell_pushed, search_same, search_popped, round_closes, last_fits, last_told, last_refuted, last_each, cycle_told, cycle_refuted, cycle_derived, first_fits, first_told, round_ends, ended_entry}
+use Rattle.nts_delegate.specs.Relevant.{LeavesOut}
+use Rattle.nts_queries.proofs.LeftOut.{all_outcomes, kept_offered}
 use Rattle.nts_queries.specs.declared.round.Asked.{Asked}
-use Rattle.nts_queries.specs.Searching.{IsAnswerTold}
-use Rattle.nts_queries.proofs.AskedGoals.{ok_two}
-use Rattle.nts_queries.proofs.Rounds.{first_fits, first_told, round_ends, ended_entry}
-use Rattle.nts_queries.proofs.Rounds.{search_noted, own_asked, own_form, round_proved, round_told, grown, ran, search_then, entry_of, holds_answer, search_pushed, tell_pushed, search_popped, round_closes, last_fits, last_told, last_refuted, last_each}
+use Rattle.nts_certainty.specs.declared.sources.GoalSource.TheVariants as source
+use Rattle.nts_store.specs.declared.fault.EvalError.TheVariants as EvalError
+use Rattle.nts_certainty.specs.declared.certainty.Certainty.TheVariants as certainty
 use Rattle.nts_evaluation.proofs.evaluate.+evaluate.Goals as goal
 
-pub evaluate_goal-returns-clause-evaluates : goal.evaluate_goal-returns-clause-evaluates
-evaluate_goal-returns-clause-evaluates g t c =
-    let q = c.in_ok-originals.ensures in
-    let k = c.in_ok-answer.ensures in
-    let e = c.apply_answer-evaluated.ensures in
-    ok_both c.apply_answer-evaluated.result
-    (λ x same applied. evaluates c.requires.posed q.query q.grows.extends k.grows.extends c.apply_answer-evaluated.new.table c.in_ok-answer.answer.value applied k.fits x.has_changed same)
-    (rw c.deref-2.ensures at e.changed) (rw (c.deref.ensures.value, c.deref-2.ensures) at e.applied)
-
-pub evaluate_goal-returns-clause-proved : goal.evaluate_goal-returns-clause-proved
-evaluate_goal-returns-clause-proved g t c = λ s.
+pub evaluate_goal-returns : goal.evaluate_goal-returns
+evaluate_goal-returns g t c =
     let q = c.in_ok-originals.ensures in
     let k = c.in_ok-answer.ensures in
     let e = c.apply_answer-evaluated.ensures in
     let all = Extends-trans (Extends-trans q.grows.extends k.grows.extends) e.runs.goes.extends in
     let holds = c.requires.posed.holds in
     let upto = search_then (c.args.depth + 1) c.requires.search q.grows k.searches in
-    let covers = covers_grown (c.args.depth + 1) (search_later (c.args.depth + 1) (c.args.depth + 1) (omega arith) c.requires.search upto) (ran e.runs) in
     let A = passed (path_kind_of c.args.step) (assumed_in c.search.new.cx.nodes c.search.new.graph) in
-    ok_both c.apply_answer-evaluated.result
-    (λ x is applied y.
-    rw (all.kept c.args.goal.param_env.node holds.env.within, all.kept c.args.goal.predicate.node holds.predicate.within)
-    (stays_more (covers_passed (path_kind_of c.args.step) (assumed_in c.search.new.cx.nodes c.search.new.graph) (assumed_in c.apply_answer-evaluated.new.cx.nodes c.search.new.graph) covers) (asked_stays c.requires.posed q.query q.grows.extends k.grows.extends c.apply_answer-evaluated.new.table c.in_ok-answer.answer.value applied (meaning_since (λ ts. g.H.GoalHandler.handler ts c.args.handler.now) s) (mode_of c.args.table.now.mode) A c.terms_are_formed.ensures e.runs.goes.table k.fits
-    (rw q.query.mode at (k.proved (Since-later q.grows.extends s) (sym is ∙ y))))))
-    (rw c.deref-2.ensures at e.certainty) (rw (c.deref.ensures.value, c.deref-2.ensures) at e.applied)
+    record {
+      runs = Runs-trans (Runs-extends c.requires.posed.table (Extends-trans q.grows.extends k.grows.extends) (KeepsRest-trans q.grows.rest k.grows.rest)) c.apply_answer-evaluated.ensures.runs;
+      searches = let q = c.in_ok-originals.ensures in search_grown (c.args.depth + 1) c.requires.search (search_then (c.args.depth + 1) c.requires.search q.grows c.in_ok-answer.ensures.searches) (ran c.apply_answer-evaluated.ensures.runs);
+      err = search rules;
+      evaluates =
+          ok_both c.apply_answer-evaluated.result
+          (λ x same applied. evaluates c.requires.posed q.query q.grows.extends k.grows.extends c.apply_answer-evaluated.new.table c.in_ok-answer.answer.value applied k.fits x.has_changed same)
+          (rw c.deref-2.ensures at e.changed) (rw (c.deref.ensures.value, c.deref-2.ensures) at e.applied);
+      labels = OnOk-map c.apply_answer-evaluated.result (λ h. asked_labels c.requires.posed q.query q.grows.extends c.in_ok-answer.ensures.grows.extends h) (rw c.deref.ensures.value at c.apply_answer-evaluated.ensures.labels);
+      proved = λ s.
+          let covers = covers_grown (c.args.depth + 1) (search_later (c.args.depth + 1) (c.args.depth + 1) (omega arith) c.requires.search upto) (ran e.runs) in
+          ok_both c.apply_answer-evaluated.result
+          (λ x is applied y.
+          rw (all.kept c.args.goal.param_env.node holds.env.within, all.kept c.args.goal.predicate.node holds.predicate.within)
+          (stays_more (covers_passed (path_kind_of c.args.step) (assumed_in c.search.new.cx.nodes c.search.new.graph) (assumed_in c.apply_answer-evaluated.new.cx.nodes c.search.new.graph) covers) (asked_stays c.requires.posed q.query q.grows.extends k.grows.extends c.apply_answer-evaluated.new.table c.in_ok-answer.answer.value applied (meaning_since (λ ts. g.H.GoalHandler.handler ts c.args.handler.now) s) (mode_of c.args.table.now.mode) A c.terms_are_formed.ensures e.runs.goes.table k.fits
+          (rw q.query.mode at (k.proved (Since-later q.grows.extends s) (sym is ∙ y))))))
+          (rw c.deref-2.ensures at e.certainty) (rw (c.deref.ensures.value, c.deref-2.ensures) at e.applied);
+      told = λ s tells.
+          OnOk-map c.apply_answer-evaluated.result
+          (λ applied. asks c.requires.posed q.query q.grows.extends k.grows.extends c.apply_answer-evaluated.new.table c.in_ok-answer.answer.value applied k.fits (rw q.query.mode at (k.told (Since-later q.grows.extends s) (tell_grown (g.H.GoalHandler.handler s.base c.args.handler.now) (c.args.depth + 1) c.requires.search q.grows tells))))
+          (rw (c.deref.ensures.value, c.deref-2.ensures) at c.apply_answer-evaluated.ensures.applied);
+      refuted = λ s tells n. inl (response_refused c.requires.posed q.query q.grows.extends k.grows.extends c.in_ok-answer.answer.value k.fits (rw q.query.mode at (k.told (Since-later q.grows.extends s) (tell_grown (g.H.GoalHandler.handler s.base c.args.handler.now) (c.args.depth + 1) c.requires.search q.grows tells))) (rw (c.deref.ensures.value, c.deref-2.ensures) at (c.apply_answer-evaluated.ensures.no n)));
+    }
 
 pub evaluate_goal-search-requires : goal.evaluate_goal-search-requires
 evaluate_goal-search-requires g t c =
@@ -98,27 +135,12 @@ evaluate_round-compute_goal-response-requires g t c =
       ),
     )
 
-pub evaluate_round-returns-clause-searches : goal.evaluate_round-returns-clause-searches
-evaluate_round-returns-clause-searches g t c =
+pub evaluate_round-returns : goal.evaluate_round-returns
+evaluate_round-returns g t c =
     let k = c.in_ok-table.ensures in
     let own = entry_of c.args.asked.value.input c.args.step c.args.asked.value.provisional c.in_ok-push_query.ensures.pushed.0 in
     let off = c.end_round.ensures.off in
     let taken = off.1 in
-    let popped = search_popped {a = c.args.cx.now} {b = c.query_table.new.cx} {c = c.compute_goal-response.new.cx} {g = c.args.graph.now} {h = c.push_query.new.graph} {i = c.compute_goal-response.new.graph} {j = c.end_round.new.graph} own off.0 c.in_ok-push_query.ensures.pushed.1 c.push_query.ensures.rest c.compute_goal-response.ensures.searches taken.popped taken.kept taken.rest in
-    popped.searches
-
-pub evaluate_round-returns-clause-entry : goal.evaluate_round-returns-clause-entry
-evaluate_round-returns-clause-entry g t c =
-    let k = c.in_ok-table.ensures in
-    let own = entry_of c.args.asked.value.input c.args.step c.args.asked.value.provisional c.in_ok-push_query.ensures.pushed.0 in
-    let off = c.end_round.ensures.off in
-    let taken = off.1 in
-    let popped = search_popped {a = c.args.cx.now} {b = c.query_table.new.cx} {c = c.compute_goal-response.new.cx} {g = c.args.graph.now} {h = c.push_query.new.graph} {i = c.compute_goal-response.new.graph} {j = c.end_round.new.graph} own off.0 c.in_ok-push_query.ensures.pushed.1 c.push_query.ensures.rest c.compute_goal-response.ensures.searches taken.popped taken.kept taken.rest in
-    ended_entry own off.0 c.end_round.result popped.entry off.2
-
-pub evaluate_round-returns-clause-fits : goal.evaluate_round-returns-clause-fits
-evaluate_round-returns-clause-fits g t c =
-    let k = c.in_ok-table.ensures in
     let x = rw c.deref.ensures at k.begins in
     let a = c.args.cx.now.nodes in
     let b = c.query_table.new.cx.nodes in
@@ -126,56 +148,50 @@ evaluate_round-returns-clause-fits g t c =
     let input = c.args.asked.value.input in
     let ks = kinds_of input in
     let over = c.requires.input in
-    IfOk-map c.end_round.result
-    (λ w ends. round_ends (IsHeadAnswer z ks) c.compute_goal-response.result w.value.answer ends
-    (λ r is.
-    let found = rw (c.deref_mut.ensures.value, c.deref-2.ensures.value, is) at c.compute_goal-response.ensures.found in
-    found_fits a b z c.in_ok-table.table.value c.in_ok-table.goal ks input c.in_ok-table.values.items r.value found over.input.kinds refl over.environment over.predicate x.first x.environment x.predicate x.posed.holds x.args x.values)
-    (λ no. tt)) c.end_round.ensures.answer
-
-pub evaluate_round-returns-clause-proved : goal.evaluate_round-returns-clause-proved
-evaluate_round-returns-clause-proved g t c =
-    λ s.
-    let k = c.in_ok-table.ensures in
-    let x = rw c.deref.ensures at k.begins in
-    let a = c.args.cx.now.nodes in
-    let b = c.query_table.new.cx.nodes in
-    let z = c.compute_goal-response.new.cx.nodes in
-    let input = c.args.asked.value.input in
     let table = c.in_ok-table.table.value in
     let asked = c.in_ok-table.goal in
-    let ks = kinds_of input in
-    let over = c.requires.input in
-    let h = meaning_since (λ ts. g.H.GoalHandler.handler ts c.args.handler.now) s in
     let A = assumed_in z c.compute_goal-response.new.graph in
-    let off = c.end_round.ensures.off in
-    let popped = entries_popped z c.compute_goal-response.new.graph c.end_round.new.graph off.0 off.1.popped in
-    ok_two c.end_round.result
-    (λ w same ends.
-    round_ends (λ o. IfSome o (λ r. r.value.certainty ≡ certainty.Yes → IsDerivedFrom h (mode_of input.typing_mode) (assumptions (entry_at z w.value.entry ∷ entries_at z c.end_round.new.graph)) (answer_sequent (form_of a input) (response_at z r)))) c.compute_goal-response.result w.value.answer ends
-    (λ r is y.
-    let found : Found (λ d u. (v : Since (λ ts. g.H.GoalHandler.ready ts c.args.handler.now) c.query_table.new.cx.nodes) → IsProvedNow (λ ts. g.H.GoalHandler.handler ts c.args.handler.now) v c.in_ok-table.table.value.mode (assumed_in c.compute_goal-response.new.cx.nodes c.compute_goal-response.new.graph) d u c.in_ok-table.goal) c.query_table.new.cx.nodes c.compute_goal-response.new.cx.nodes c.in_ok-table.table.value c.in_ok-table.goal c.in_ok-table.values.items r.value = rw (c.deref_mut.ensures.value, c.deref-2.ensures.value, is) at c.compute_goal-response.ensures.found in
-    let proved : IsProvedFrom h (mode_of c.in_ok-table.table.value.mode) A (content_of found.store found.after.entries) (tree_at found.store asked.param_env.node) (tree_at found.store asked.predicate.node) = found.sure y (Since-later k.grows.extends s) in
-    let there : IsProvedFrom h (mode_of input.typing_mode) A (content_of found.store found.after.entries) (tree_at found.store asked.param_env.node) (tree_at found.store asked.predicate.node) = subst (λ v. IsProvedFrom h v A (content_of found.store found.after.entries) (tree_at found.store asked.param_env.node) (tree_at found.store asked.predicate.node)) x.mode proved in
-    subst (λ (e : StackEntry). IsDerivedFrom h (mode_of input.typing_mode) (assumptions (entry_at z e ∷ entries_at z c.end_round.new.graph)) (answer_sequent (form_of a input) (response_at z r.value))) (sym same)
-    (subst (λ es. IsDerivedFrom h (mode_of input.typing_mode) (assumptions es) (answer_sequent (form_of a input) (response_at z r.value))) popped
-    (found_derived a b z table asked ks input c.in_ok-table.values.items r.value found over.input.kinds refl over.environment over.predicate x.first x.environment x.predicate x.posed.holds x.args x.values h (mode_of input.typing_mode) A y there)))
-    (λ no. tt)) off.2 c.end_round.ensures.answer
-
-pub evaluate_round-returns-clause-told : goal.evaluate_round-returns-clause-told
-evaluate_round-returns-clause-told g t c =
-    λ s tells told.
-    let k = c.in_ok-table.ensures in
-    let x = rw c.deref.ensures at k.begins in
-    let h = g.H.GoalHandler.handler s.base c.args.handler.now in
     let f = form_of c.args.cx.now.nodes c.args.asked.value.input in
     let mode = mode_of c.args.asked.value.input.typing_mode in
-    let before = (tell_pushed c.push_query.new.graph (g.H.GoalHandler.handler s.base c.args.handler.now) (c.args.depth + 1) c.args.asked.value.input c.args.step c.args.asked.value.provisional c.requires.search k.grows c.requires.input c.requires.provisional c.in_ok-push_query.ensures.pushed tells told) in
-    IfOk-map c.end_round.result
-    (λ w ends. round_ends (IsAnswerTold h mode c.compute_goal-response.new.cx.nodes f) c.compute_goal-response.result w.value.answer ends
-    (λ r is. rw (x.first, x.environment, x.predicate, x.values, x.mode) at (rw (c.deref_mut.ensures.value, c.deref-2.ensures.value, is) at (c.compute_goal-response.ensures.told (Since-later k.grows.extends s) before)))
-    (λ no. rw (x.first, x.environment, x.predicate, x.mode) at (rw c.deref_mut.ensures.value at (c.compute_goal-response.ensures.refuted (Since-later k.grows.extends s) before no))))
-    c.end_round.ensures.answer
+    record {
+      grows = grown c.in_ok-table.ensures.grows c.compute_goal-response.ensures.grows;
+      searches =
+          let popped = search_popped {a = c.args.cx.now} {b = c.query_table.new.cx} {c = c.compute_goal-response.new.cx} {g = c.args.graph.now} {h = c.push_query.new.graph} {i = c.compute_goal-response.new.graph} {j = c.end_round.new.graph} own off.0 c.in_ok-push_query.ensures.pushed.1 c.push_query.ensures.rest c.compute_goal-response.ensures.searches taken.popped taken.kept taken.rest in
+          popped.searches;
+      entry =
+          let popped = search_popped {a = c.args.cx.now} {b = c.query_table.new.cx} {c = c.compute_goal-response.new.cx} {g = c.args.graph.now} {h = c.push_query.new.graph} {i = c.compute_goal-response.new.graph} {j = c.end_round.new.graph} own off.0 c.in_ok-push_query.ensures.pushed.1 c.push_query.ensures.rest c.compute_goal-response.ensures.searches taken.popped taken.kept taken.rest in
+          ended_entry own off.0 c.end_round.result popped.entry off.2;
+      fits =
+          IfOk-map c.end_round.result
+          (λ w ends. round_ends (IsHeadAnswer z ks) c.compute_goal-response.result w.value.answer ends
+          (λ r is.
+          let found = rw (c.deref_mut.ensures.value, c.deref-2.ensures.value, is) at c.compute_goal-response.ensures.found in
+          found_fits a b z c.in_ok-table.table.value c.in_ok-table.goal ks input c.in_ok-table.values.items r.value found over.input.kinds refl over.environment over.predicate x.first x.environment x.predicate x.posed.holds x.args x.values)
+          (λ no. tt)) c.end_round.ensures.answer;
+      proved = λ s.
+          let h = meaning_since (λ ts. g.H.GoalHandler.handler ts c.args.handler.now) s in
+          let popped = entries_popped z c.compute_goal-response.new.graph c.end_round.new.graph off.0 off.1.popped in
+          ok_two c.end_round.result
+          (λ w same ends.
+          round_ends (λ o. IfSome o (λ r. r.value.certainty ≡ certainty.Yes → IsDerivedFrom h (mode_of input.typing_mode) (assumptions (entry_at z w.value.entry ∷ entries_at z c.end_round.new.graph)) (answer_sequent (form_of a input) (response_at z r)))) c.compute_goal-response.result w.value.answer ends
+          (λ r is y.
+          let found : Found (λ d u. (v : Since (λ ts. g.H.GoalHandler.ready ts c.args.handler.now) c.query_table.new.cx.nodes) → IsProvedNow (λ ts. g.H.GoalHandler.handler ts c.args.handler.now) v c.in_ok-table.table.value.mode (assumed_in c.compute_goal-response.new.cx.nodes c.compute_goal-response.new.graph) d u c.in_ok-table.goal) c.query_table.new.cx.nodes c.compute_goal-response.new.cx.nodes c.in_ok-table.table.value c.in_ok-table.goal c.in_ok-table.values.items r.value = rw (c.deref_mut.ensures.value, c.deref-2.ensures.value, is) at c.compute_goal-response.ensures.found in
+          let proved : IsProvedFrom h (mode_of c.in_ok-table.table.value.mode) A (content_of found.store found.after.entries) (tree_at found.store asked.param_env.node) (tree_at found.store asked.predicate.node) = found.sure y (Since-later k.grows.extends s) in
+          let there : IsProvedFrom h (mode_of input.typing_mode) A (content_of found.store found.after.entries) (tree_at found.store asked.param_env.node) (tree_at found.store asked.predicate.node) = subst (λ v. IsProvedFrom h v A (content_of found.store found.after.entries) (tree_at found.store asked.param_env.node) (tree_at found.store asked.predicate.node)) x.mode proved in
+          subst (λ (e : StackEntry). IsDerivedFrom h (mode_of input.typing_mode) (assumptions (entry_at z e ∷ entries_at z c.end_round.new.graph)) (answer_sequent (form_of a input) (response_at z r.value))) (sym same)
+          (subst (λ es. IsDerivedFrom h (mode_of input.typing_mode) (assumptions es) (answer_sequent (form_of a input) (response_at z r.value))) popped
+          (found_derived a b z table asked ks input c.in_ok-table.values.items r.value found over.input.kinds refl over.environment over.predicate x.first x.environment x.predicate x.posed.holds x.args x.values h (mode_of input.typing_mode) A y there)))
+          (λ no. tt)) off.2 c.end_round.ensures.answer;
+      told = λ s tells told.
+          let h = g.H.GoalHandler.handler s.base c.args.handler.now in
+          let before = (tell_pushed c.push_query.new.graph (g.H.GoalHandler.handler s.base c.args.handler.now) (c.args.depth + 1) c.args.asked.value.input c.args.step c.args.asked.value.provisional c.requires.search k.grows c.requires.input c.requires.provisional c.in_ok-push_query.ensures.pushed tells told) in
+          IfOk-map c.end_round.result
+          (λ w ends. round_ends (IsAnswerTold h mode c.compute_goal-response.new.cx.nodes f) c.compute_goal-response.result w.value.answer ends
+          (λ r is. rw (x.first, x.environment, x.predicate, x.values, x.mode) at (rw (c.deref_mut.ensures.value, c.deref-2.ensures.value, is) at (c.compute_goal-response.ensures.told (Since-later k.grows.extends s) before)))
+          (λ no. rw (x.first, x.environment, x.predicate, x.mode) at (rw c.deref_mut.ensures.value at (c.compute_goal-response.ensures.refuted (Since-later k.grows.extends s) before no))))
+          c.end_round.ensures.answer;
+      no = search rules;
+    }
 
 pub evaluate_rounds-evaluate_round-requires : goal.evaluate_rounds-evaluate_round-requires
 evaluate_rounds-evaluate_round-requires g t c =
@@ -236,8 +252,8 @@ evaluate_rounds-loop-round-preserved g t c =
           subst (λ (y : Asked). IsAnswerTold h mode z (form_of c.args.cx.now.nodes c.args.input.value) y.provisional) (sym next) told;
     }
 
-pub evaluate_rounds-returns-then-round_is_last-clause-fits : goal.evaluate_rounds-returns-then-round_is_last-clause-fits
-evaluate_rounds-returns-then-round_is_last-clause-fits g t c =
+pub evaluate_rounds-returns-then-round_is_last : goal.evaluate_rounds-returns-then-round_is_last
+evaluate_rounds-returns-then-round_is_last g t c =
     let i = c.loop-round.invariant in
     let limit : c.loop-round.round + 1 ≤ c.loop-round.cx.round_limit = rw i.grows.rest.rounds (omega (arith, c.loop-round-test.true, c.round_limit-round-end.ensures)) in
     let noted = search_noted {a = c.args.cx.now} {b = c.loop-round.cx} {g = c.args.graph.now} {h = c.loop-round.graph} {i = c.note_round.new.self} (c.args.depth + 1) (c.loop-round.round + 1) c.requires.search i.searches limit c.note_round.ensures in
@@ -246,74 +262,32 @@ evaluate_rounds-returns-then-round_is_last-clause-fits g t c =
     let x = c.in_ok-ended.ended.value.entry in
     let fits : IsHeadAnswer c.evaluate_round.new.cx.nodes (kinds_of c.args.input.value) c.in_ok-ended.ended.value.answer = subst (λ w. IsHeadAnswer c.evaluate_round.new.cx.nodes (kinds_of w) c.in_ok-ended.ended.value.answer) i.input e.fits in
     let form = own_form c.args.cx.now.nodes c.loop-round.cx.nodes c.args.input.value c.loop-round.asked.value.input i.grows.extends i.input c.requires.input in
-    last_fits c.in_ok-ended.ended.value.answer c.last_answer.result c.last_answer.ensures.some c.last_answer.ensures.none z (kinds_of c.args.input.value) fits
-
-pub evaluate_rounds-returns-then-round_is_last-clause-proved : goal.evaluate_rounds-returns-then-round_is_last-clause-proved
-evaluate_rounds-returns-then-round_is_last-clause-proved g t c =
-    λ s.
-    let i = c.loop-round.invariant in
-    let limit : c.loop-round.round + 1 ≤ c.loop-round.cx.round_limit = rw i.grows.rest.rounds (omega (arith, c.loop-round-test.true, c.round_limit-round-end.ensures)) in
-    let noted = search_noted {a = c.args.cx.now} {b = c.loop-round.cx} {g = c.args.graph.now} {h = c.loop-round.graph} {i = c.note_round.new.self} (c.args.depth + 1) (c.loop-round.round + 1) c.requires.search i.searches limit c.note_round.ensures in
-    let e = c.in_ok-ended.ensures in
-    let z = c.evaluate_round.new.cx.nodes in
-    let x = c.in_ok-ended.ended.value.entry in
-    let fits : IsHeadAnswer c.evaluate_round.new.cx.nodes (kinds_of c.args.input.value) c.in_ok-ended.ended.value.answer = subst (λ w. IsHeadAnswer c.evaluate_round.new.cx.nodes (kinds_of w) c.in_ok-ended.ended.value.answer) i.input e.fits in
-    let form = own_form c.args.cx.now.nodes c.loop-round.cx.nodes c.args.input.value c.loop-round.asked.value.input i.grows.extends i.input c.requires.input in
-    let m = meaning_since (λ ts. g.H.GoalHandler.handler ts c.args.handler.now) s in
-    last_each c.in_ok-ended.ended.value.answer c.last_answer.result c.last_answer.ensures.some c.last_answer.ensures.none
-    (λ r is sure.
-    let last = rw (c.deref.ensures, c.deref-in-loop-round.ensures, is) at (c.round_is_last.ensures.0 c.if-round_is_last.true) in
-    let derived = round_proved m z (assumptions (entry_at z x ∷ entries_at z c.evaluate_round.new.graph)) c.loop-round.asked.value.input c.args.input.value (form_of c.loop-round.cx.nodes c.loop-round.asked.value.input) (form_of c.args.cx.now.nodes c.args.input.value) c.in_ok-ended.ended.value.answer r i.input form is (e.proved (Since-later i.grows.extends s)) sure in
-    round_closes m (mode_of c.args.input.value.typing_mode) z c.evaluate_round.new.graph x c.args.input.value c.args.step (form_of c.args.cx.now.nodes c.args.input.value) r (e.entry.0 ∙ i.input) e.entry.1
-    (form_later c.args.cx.now.nodes z c.args.input.value (Extends-trans i.grows.extends e.grows.extends) c.requires.input) last sure derived)
-
-pub evaluate_rounds-returns-then-round_is_last-clause-refuted : goal.evaluate_rounds-returns-then-round_is_last-clause-refuted
-evaluate_rounds-returns-then-round_is_last-clause-refuted g t c =
-    λ s tells no.
-    let i = c.loop-round.invariant in
-    let limit : c.loop-round.round + 1 ≤ c.loop-round.cx.round_limit = rw i.grows.rest.rounds (omega (arith, c.loop-round-test.true, c.round_limit-round-end.ensures)) in
-    let noted = search_noted {a = c.args.cx.now} {b = c.loop-round.cx} {g = c.args.graph.now} {h = c.loop-round.graph} {i = c.note_round.new.self} (c.args.depth + 1) (c.loop-round.round + 1) c.requires.search i.searches limit c.note_round.ensures in
-    let e = c.in_ok-ended.ensures in
-    let z = c.evaluate_round.new.cx.nodes in
-    let x = c.in_ok-ended.ended.value.entry in
-    let fits : IsHeadAnswer c.evaluate_round.new.cx.nodes (kinds_of c.args.input.value) c.in_ok-ended.ended.value.answer = subst (λ w. IsHeadAnswer c.evaluate_round.new.cx.nodes (kinds_of w) c.in_ok-ended.ended.value.answer) i.input e.fits in
-    let form = own_form c.args.cx.now.nodes c.loop-round.cx.nodes c.args.input.value c.loop-round.asked.value.input i.grows.extends i.input c.requires.input in
-    let h = g.H.GoalHandler.handler s.base c.args.handler.now in
     let mode = mode_of c.args.input.value.typing_mode in
-    let later = heads_tell_later h (c.args.depth + 1) c.requires.search i.grows.extends noted tells in
-    let before = round_told h c.loop-round.cx.nodes c.args.input.value c.loop-round.asked.value.input (form_of c.args.cx.now.nodes c.args.input.value) (form_of c.loop-round.cx.nodes c.loop-round.asked.value.input) c.loop-round.asked.value.provisional (sym i.input) (sym form) (i.told s tells) in
-    let told = round_told h z c.loop-round.asked.value.input c.args.input.value (form_of c.loop-round.cx.nodes c.loop-round.asked.value.input) (form_of c.args.cx.now.nodes c.args.input.value) c.in_ok-ended.ended.value.answer i.input form (e.told (Since-later i.grows.extends s) later before) in
-    last_refuted c.in_ok-ended.ended.value.answer c.last_answer.result c.last_answer.ensures.some c.last_answer.ensures.none h mode z (form_of c.args.cx.now.nodes c.args.input.value) told no
-
-pub evaluate_rounds-returns-then-round_is_last-clause-searches : goal.evaluate_rounds-returns-then-round_is_last-clause-searches
-evaluate_rounds-returns-then-round_is_last-clause-searches g t c =
-    let i = c.loop-round.invariant in
-    let limit : c.loop-round.round + 1 ≤ c.loop-round.cx.round_limit = rw i.grows.rest.rounds (omega (arith, c.loop-round-test.true, c.round_limit-round-end.ensures)) in
-    let noted = search_noted {a = c.args.cx.now} {b = c.loop-round.cx} {g = c.args.graph.now} {h = c.loop-round.graph} {i = c.note_round.new.self} (c.args.depth + 1) (c.loop-round.round + 1) c.requires.search i.searches limit c.note_round.ensures in
-    let e = c.in_ok-ended.ensures in
-    let z = c.evaluate_round.new.cx.nodes in
-    let x = c.in_ok-ended.ended.value.entry in
-    let fits : IsHeadAnswer c.evaluate_round.new.cx.nodes (kinds_of c.args.input.value) c.in_ok-ended.ended.value.answer = subst (λ w. IsHeadAnswer c.evaluate_round.new.cx.nodes (kinds_of w) c.in_ok-ended.ended.value.answer) i.input e.fits in
-    let form = own_form c.args.cx.now.nodes c.loop-round.cx.nodes c.args.input.value c.loop-round.asked.value.input i.grows.extends i.input c.requires.input in
-    Searches-trans noted e.searches
-
-pub evaluate_rounds-returns-then-round_is_last-clause-told : goal.evaluate_rounds-returns-then-round_is_last-clause-told
-evaluate_rounds-returns-then-round_is_last-clause-told g t c =
-    λ s tells.
-    let i = c.loop-round.invariant in
-    let limit : c.loop-round.round + 1 ≤ c.loop-round.cx.round_limit = rw i.grows.rest.rounds (omega (arith, c.loop-round-test.true, c.round_limit-round-end.ensures)) in
-    let noted = search_noted {a = c.args.cx.now} {b = c.loop-round.cx} {g = c.args.graph.now} {h = c.loop-round.graph} {i = c.note_round.new.self} (c.args.depth + 1) (c.loop-round.round + 1) c.requires.search i.searches limit c.note_round.ensures in
-    let e = c.in_ok-ended.ensures in
-    let z = c.evaluate_round.new.cx.nodes in
-    let x = c.in_ok-ended.ended.value.entry in
-    let fits : IsHeadAnswer c.evaluate_round.new.cx.nodes (kinds_of c.args.input.value) c.in_ok-ended.ended.value.answer = subst (λ w. IsHeadAnswer c.evaluate_round.new.cx.nodes (kinds_of w) c.in_ok-ended.ended.value.answer) i.input e.fits in
-    let form = own_form c.args.cx.now.nodes c.loop-round.cx.nodes c.args.input.value c.loop-round.asked.value.input i.grows.extends i.input c.requires.input in
-    let h = g.H.GoalHandler.handler s.base c.args.handler.now in
-    let mode = mode_of c.args.input.value.typing_mode in
-    let later = heads_tell_later h (c.args.depth + 1) c.requires.search i.grows.extends noted tells in
-    let before = round_told h c.loop-round.cx.nodes c.args.input.value c.loop-round.asked.value.input (form_of c.args.cx.now.nodes c.args.input.value) (form_of c.loop-round.cx.nodes c.loop-round.asked.value.input) c.loop-round.asked.value.provisional (sym i.input) (sym form) (i.told s tells) in
-    let told = round_told h z c.loop-round.asked.value.input c.args.input.value (form_of c.loop-round.cx.nodes c.loop-round.asked.value.input) (form_of c.args.cx.now.nodes c.args.input.value) c.in_ok-ended.ended.value.answer i.input form (e.told (Since-later i.grows.extends s) later before) in
-    last_told c.in_ok-ended.ended.value.answer c.last_answer.result c.last_answer.ensures.some c.last_answer.ensures.none h mode z (form_of c.args.cx.now.nodes c.args.input.value) told
+    record {
+      grows = grown c.loop-round.invariant.grows c.in_ok-ended.ensures.grows;
+      searches = Searches-trans noted e.searches;
+      fits = last_fits c.in_ok-ended.ended.value.answer c.last_answer.result c.last_answer.ensures.some c.last_answer.ensures.none z (kinds_of c.args.input.value) fits;
+      proved = λ s.
+          let m = meaning_since (λ ts. g.H.GoalHandler.handler ts c.args.handler.now) s in
+          last_each c.in_ok-ended.ended.value.answer c.last_answer.result c.last_answer.ensures.some c.last_answer.ensures.none
+          (λ r is sure.
+          let last = rw (c.deref.ensures, c.deref-in-loop-round.ensures, is) at (c.round_is_last.ensures.0 c.if-round_is_last.true) in
+          let derived = round_proved m z (assumptions (entry_at z x ∷ entries_at z c.evaluate_round.new.graph)) c.loop-round.asked.value.input c.args.input.value (form_of c.loop-round.cx.nodes c.loop-round.asked.value.input) (form_of c.args.cx.now.nodes c.args.input.value) c.in_ok-ended.ended.value.answer r i.input form is (e.proved (Since-later i.grows.extends s)) sure in
+          round_closes m (mode_of c.args.input.value.typing_mode) z c.evaluate_round.new.graph x c.args.input.value c.args.step (form_of c.args.cx.now.nodes c.args.input.value) r (e.entry.0 ∙ i.input) e.entry.1
+          (form_later c.args.cx.now.nodes z c.args.input.value (Extends-trans i.grows.extends e.grows.extends) c.requires.input) last sure derived);
+      told = λ s tells.
+          let h = g.H.GoalHandler.handler s.base c.args.handler.now in
+          let later = heads_tell_later h (c.args.depth + 1) c.requires.search i.grows.extends noted tells in
+          let before = round_told h c.loop-round.cx.nodes c.args.input.value c.loop-round.asked.value.input (form_of c.args.cx.now.nodes c.args.input.value) (form_of c.loop-round.cx.nodes c.loop-round.asked.value.input) c.loop-round.asked.value.provisional (sym i.input) (sym form) (i.told s tells) in
+          let told = round_told h z c.loop-round.asked.value.input c.args.input.value (form_of c.loop-round.cx.nodes c.loop-round.asked.value.input) (form_of c.args.cx.now.nodes c.args.input.value) c.in_ok-ended.ended.value.answer i.input form (e.told (Since-later i.grows.extends s) later before) in
+          last_told c.in_ok-ended.ended.value.answer c.last_answer.result c.last_answer.ensures.some c.last_answer.ensures.none h mode z (form_of c.args.cx.now.nodes c.args.input.value) told;
+      refuted = λ s tells no.
+          let h = g.H.GoalHandler.handler s.base c.args.handler.now in
+          let later = heads_tell_later h (c.args.depth + 1) c.requires.search i.grows.extends noted tells in
+          let before = round_told h c.loop-round.cx.nodes c.args.input.value c.loop-round.asked.value.input (form_of c.args.cx.now.nodes c.args.input.value) (form_of c.loop-round.cx.nodes c.loop-round.asked.value.input) c.loop-round.asked.value.provisional (sym i.input) (sym form) (i.told s tells) in
+          let told = round_told h z c.loop-round.asked.value.input c.args.input.value (form_of c.loop-round.cx.nodes c.loop-round.asked.value.input) (form_of c.args.cx.now.nodes c.args.input.value) c.in_ok-ended.ended.value.answer i.input form (e.told (Since-later i.grows.extends s) later before) in
+          inl (last_refuted c.in_ok-ended.ended.value.answer c.last_answer.result c.last_answer.ensures.some c.last_answer.ensures.none h mode z (form_of c.args.cx.now.nodes c.args.input.value) told no);
+    }
 
 pub evaluate_rounds-round_is_last-requires-clause-answer : goal.evaluate_rounds-round_is_last-requires-clause-answer
 evaluate_rounds-round_is_last-requires-clause-answer g t c =
