@@ -13,6 +13,7 @@ ghost use Rattle.nts_unify.specs.Reading.{content_of, IsLawful};
 ghost use Rattle.nts_variance.specs.Terms.{pairs_at, AreGoals};
 ghost use Rattle.nts_table.specs.Tables.{IsTable};
 ghost use Rattle.nts_table.specs.Frames.{ChangesVariables};
+ghost use Rattle.nts_solver_relating.specs.Promises.{RelatesSides};
 ghost use Rattle.nts_solver_relating.specs.Sides.{is_list, variance_at, CanRelate, SidesRelate, RefusesSides, AreWithin, AreMadeFor, IsRelatedBy, AreMadeEqual, ArePlain};
 
 use nts_model::{Label, ListHead, Sort, Variance};
@@ -233,13 +234,8 @@ fn relate_resolved(
     requires table { IsTable nodes.old table.old }
     requires sides { CanRelate nodes.old (content_of nodes.old table.old.entries) left right }
     requires kind { kind_of (tree_at nodes.old left) ≡ Some (of_sort sorts.Ty) }
-    ensures extends { Extends nodes.old nodes.new }
-    ensures table { IsTable nodes.new table.new }
-    ensures changes { ChangesVariables table.old table.new }
-    ensures related { IfOk result (λ gs. IsRelatedBy (variances_in declarations.now) nodes.old nodes.new table.old.entries table.new.entries env variance (tree_at nodes.old left) (tree_at nodes.old right) gs.items) }
-    ensures err { OnErr result (table.new ≡ table.old) }
-    ensures full { result ≢ Err EvalError.Full }
-    ensures no { result ≡ Err EvalError.NoSolution → RefusesSides (variances_in declarations.now) (content_of nodes.old table.old.entries) variance (tree_at nodes.old left) (tree_at nodes.old right) }
+    ensures { RelatesSides (variances_in declarations.now) nodes.old nodes.new table.old table.new
+        env variance left right result }
 {
     let left = resolve_nodes(alloc, nodes, table, left, false)?;
     let right = resolve_nodes(alloc, nodes, table, right, false)?;
@@ -268,13 +264,8 @@ fn relate_any(
 ) -> Result<Vec<Goal>, EvalError>
     requires table { IsTable nodes.old table.old }
     requires sides { CanRelate nodes.old (content_of nodes.old table.old.entries) left right }
-    ensures extends { Extends nodes.old nodes.new }
-    ensures table { IsTable nodes.new table.new }
-    ensures changes { ChangesVariables table.old table.new }
-    ensures related { IfOk result (λ gs. IsRelatedBy (variances_in declarations.now) nodes.old nodes.new table.old.entries table.new.entries env variance (tree_at nodes.old left) (tree_at nodes.old right) gs.items) }
-    ensures err { OnErr result (table.new ≡ table.old) }
-    ensures full { result ≢ Err EvalError.Full }
-    ensures no { result ≡ Err EvalError.NoSolution → RefusesSides (variances_in declarations.now) (content_of nodes.old table.old.entries) variance (tree_at nodes.old left) (tree_at nodes.old right) }
+    ensures { RelatesSides (variances_in declarations.now) nodes.old nodes.new table.old table.new
+        env variance left right result }
 {
     if is_type(nodes, left) {
         return relate_resolved(
