@@ -9,11 +9,11 @@ use Rattle.nts_model.specs.declared.labels.Leaf.{Leaf}
 use Rattle.nts_model.specs.declared.labels.Leaf.TheVariants as leaf
 use Rattle.nts_model.specs.declared.labels.Label.{Label}
 use Rattle.nts_model.specs.declared.labels.Label.TheVariants as label
-use Rattle.nts_model.specs.Trees.{Tree, empty, more, node}
-use Rattle.nts_model.specs.Resolving.{Knows}
-use Rattle.nts_model.specs.Substitutions.{leaf_tree}
-use Rattle.nts_model.specs.Inputs.{PositionKind, type_variable, integer_variable, float_variable, const_variable, region_variable, placeholder}
-use Rattle.nts_model.proofs.Under.{same_or_other}
+use Rattle.nts_model.specs.Terms.Trees.{Tree, empty, more, node}
+use Rattle.nts_model.specs.Tables.Resolving.{Knows}
+use Rattle.nts_model.specs.Terms.Substitutions.{leaf_tree}
+use Rattle.nts_model.specs.Canonical.Inputs.{PositionKind, type_variable, integer_variable, float_variable, const_variable, region_variable, placeholder}
+use Rattle.nts_model.proofs.Tables.Under.{same_or_other}
 use Rattle.nts_terms.specs.declared.handles.GenericArg.{GenericArg}
 use Rattle.nts_store.specs.Growth.{tree_at}
 use Rattle.nts_unify.specs.declared.contents.Variable.{Variable}
@@ -23,7 +23,7 @@ use Rattle.nts_unify.specs.Reading.{content_of, LinksDescend}
 use Rattle.nts_unify.proofs.Leading.{kind_within}
 use Rattle.nts_canonical.specs.Forms.{trees_of}
 use Rattle.nts_canonical.specs.Kinds.{IsInputKind, variables_before, if_there, link_to, value_leaves, made_variable, made_variables}
-use Rattle.nts_model.specs.Responses.{universe_of_kind}
+use Rattle.nts_model.specs.Answers.Responses.{universe_of_kind}
 use Rattle.nts_canonical.specs.Building.{type_variable_of, AddsValue, IsArgOf}
 use Rattle.nts_canonical.proofs.SubRooted.{sub_root_is}
 use Rattle.nts_canonical.proofs.Making.{value-at, length-values, append-none}

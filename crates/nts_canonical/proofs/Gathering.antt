@@ -6,12 +6,12 @@ use Rattle.indexmap.specs.IndexSet.{insert_key}
 use Rattle.nts_model.specs.declared.labels.Leaf.{Leaf}
 use Rattle.nts_model.specs.declared.labels.Label.{Label}
 use Rattle.nts_model.specs.declared.labels.Label.TheVariants as label
-use Rattle.nts_model.specs.Trees.{Tree, empty, more, node, size, children, any_label, IsRow, row_length, row_at}
-use Rattle.nts_model.specs.Sequents.{Among}
-use Rattle.nts_model.specs.Numbered.{same, added, seen_node, seen}
+use Rattle.nts_model.specs.Terms.Trees.{Tree, empty, more, node, size, children, any_label, IsRow, row_length, row_at}
+use Rattle.nts_model.specs.Derivations.Sequents.{Among}
+use Rattle.nts_model.specs.Canonical.Numbered.{same, added, seen_node, seen}
 use Rattle.nts_model.specs.contracts.labels.LeafPartialEq.TheImpl as leaf_eq
-use Rattle.nts_model.proofs.Listed.{either, tell, differ, same-yes, added-has, added-keeps}
-use Rattle.nts_model.proofs.Numbering.{Extends, extends-self, extends-trans, extends-seen}
+use Rattle.nts_model.proofs.Terms.Listed.{either, tell, differ, same-yes, added-has, added-keeps}
+use Rattle.nts_model.proofs.Canonical.Numbering.{Extends, extends-self, extends-trans, extends-seen}
 use Rattle.nts_store.specs.declared.nodes.NodeId.{NodeId}
 use Rattle.nts_store.specs.Growth.{tree_at, IsIn}
 use Rattle.nts_store.specs.TypeFlags.{is_leaf}

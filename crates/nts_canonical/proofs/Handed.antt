@@ -12,19 +12,19 @@ use Rattle.nts_model.specs.declared.labels.Leaf.{Leaf}
 use Rattle.nts_model.specs.declared.labels.Leaf.TheVariants as leaf
 use Rattle.nts_model.specs.declared.labels.Label.{Label}
 use Rattle.nts_model.specs.declared.labels.Label.TheVariants as label
-use Rattle.nts_model.specs.Trees.{Tree, empty, more, node, kind_of, any_label, is_infer, is_region_infer, is_placeholder, is_canonical, sort_of_leaf}
-use Rattle.nts_model.specs.Handlers.{position_of}
-use Rattle.nts_model.specs.Substitutions.{leaf_tree, put, replace}
-use Rattle.nts_model.specs.Numbered.{number, numbered, numbered_leaf, no_leaf, AreDistinct}
-use Rattle.nts_model.specs.Inputs.{Input, CanonicalInput as Form, type_variable, sub_root_of, are_one, share, position_kind, is_static, after_environment, after_predicate, originals, canonical_of, whole, whole_of}
-use Rattle.nts_model.specs.Scoping.{IsWellBound}
-use Rattle.nts_model.proofs.Scoping.{well_bound_patched, numbered_patched}
-use Rattle.nts_model.proofs.Listed.{either}
-use Rattle.nts_model.proofs.Under.{eq-self}
+use Rattle.nts_model.specs.Terms.Trees.{Tree, empty, more, node, kind_of, any_label, is_infer, is_region_infer, is_placeholder, is_canonical, sort_of_leaf}
+use Rattle.nts_model.specs.Derivations.Handlers.{position_of}
+use Rattle.nts_model.specs.Terms.Substitutions.{leaf_tree, put, replace}
+use Rattle.nts_model.specs.Canonical.Numbered.{number, numbered, numbered_leaf, no_leaf, AreDistinct}
+use Rattle.nts_model.specs.Canonical.Inputs.{Input, CanonicalInput as Form, type_variable, sub_root_of, are_one, share, position_kind, is_static, after_environment, after_predicate, originals, canonical_of, whole, whole_of}
+use Rattle.nts_model.specs.Terms.Scoping.{IsWellBound}
+use Rattle.nts_model.proofs.Terms.Scoping.{well_bound_patched, numbered_patched}
+use Rattle.nts_model.proofs.Terms.Listed.{either}
+use Rattle.nts_model.proofs.Tables.Under.{eq-self}
 use Rattle.nts_store.specs.Filled.{HasValue, HasValues}
 use Rattle.nts_unify.proofs.Changes.{slice_get-map}
 use Rattle.nts_canonical.specs.Kinds.{IsInputKind, AreInputKinds, count_of, kind_of_position, value_leaf, value_leaves}
-use Rattle.nts_model.specs.Responses.{universe_of_kind}
+use Rattle.nts_model.specs.Answers.Responses.{universe_of_kind}
 use Rattle.nts_canonical.specs.declared.types.CanonicalInput.{CanonicalInput}
 use Rattle.nts_canonical.specs.Forms.{form_of, HoldsQuery}
 use Rattle.nts_canonical.specs.Building.{HasNoName, IsInputOf}

@@ -11,11 +11,11 @@ use Rattle.nts_model.specs.declared.labels.FreeRegion.TheVariants as region
 use Rattle.nts_model.specs.declared.labels.Constant.TheVariants as constant
 use Rattle.nts_model.specs.declared.labels.Leaf.{Leaf}
 use Rattle.nts_model.specs.declared.labels.Leaf.TheVariants as leaf
-use Rattle.nts_model.specs.Sequents.{Among}
-use Rattle.nts_model.specs.Numbered.{number, AreDistinct}
-use Rattle.nts_model.specs.Inputs.{PositionKind, type_variable, integer_variable, float_variable, const_variable, region_variable, placeholder, share, position_kind, is_static, CanonicalInput as Form, HaveKinds}
-use Rattle.nts_model.proofs.Listed.{either}
-use Rattle.nts_model.proofs.Under.{same_or_other, eq-self}
+use Rattle.nts_model.specs.Derivations.Sequents.{Among}
+use Rattle.nts_model.specs.Canonical.Numbered.{number, AreDistinct}
+use Rattle.nts_model.specs.Canonical.Inputs.{PositionKind, type_variable, integer_variable, float_variable, const_variable, region_variable, placeholder, share, position_kind, is_static, CanonicalInput as Form, HaveKinds}
+use Rattle.nts_model.proofs.Terms.Listed.{either}
+use Rattle.nts_model.proofs.Tables.Under.{same_or_other, eq-self}
 use Rattle.nts_unify.specs.declared.contents.Variable.{Variable}
 use Rattle.nts_unify.specs.Entries.{Entries}
 use Rattle.nts_table.specs.Making.{unset_variable}
@@ -24,7 +24,7 @@ use Rattle.nts_unify.specs.Roots.{here, on, IsSubRoot}
 use Rattle.nts_unify.proofs.Changes.{slice_get-map}
 use Rattle.nts_canonical.specs.SubRoots.{sub_root_in}
 use Rattle.nts_canonical.specs.Kinds.{IsInputKind, AreInputKinds, kind_of_position, count_of, variables_before, link_to, value_leaf, value_leaves, made_variables}
-use Rattle.nts_model.specs.Responses.{universe_of_kind}
+use Rattle.nts_model.specs.Answers.Responses.{universe_of_kind}
 use Rattle.nts_canonical.proofs.SubRooted.{sub_root_is}
 use Rattle.nts_canonical.proofs.VarLists.{number-at}
 use Rattle.nts_canonical.proofs.Making.{some, value-at, length-values, made-at, link-self, link-earlier, before-later, before-type}

@@ -3,8 +3,8 @@ use Rattle.std.proofs.Common.{◌≡◌, ◌||◌, Bool, true, false, refl, sym,
 use Rattle.nts_model.specs.declared.labels.Leaf.{Leaf}
 use Rattle.nts_model.specs.declared.labels.Label.{Label}
 use Rattle.nts_model.specs.declared.labels.Label.TheVariants as label
-use Rattle.nts_model.specs.Trees.{Tree, empty, more, node, any_label}
-use Rattle.nts_model.specs.Substitutions.{put, replace}
+use Rattle.nts_model.specs.Terms.Trees.{Tree, empty, more, node, any_label}
+use Rattle.nts_model.specs.Terms.Substitutions.{put, replace}
 use Rattle.nts_store.specs.declared.type_flags.TypeFlags.{TypeFlags}
 use Rattle.nts_store.specs.TypeFlags.{flags_of, is_leaf}
 

@@ -2,10 +2,10 @@
 use Rattle.std.proofs.Common.{◌≡◌, ℕ, zero, suc, ◌+◌, ◌<◌, ◌≤◌, List, [], ◌∷◌, ◌++◌, length, take, Some, None, refl, sym, ap, ◌∙◌, arith}
 use Rattle.std.specs.Prelude.{slice_get}
 use Rattle.std.proofs.lemmas.List.{append_assoc}
-use Rattle.nts_model.specs.Inputs.{PositionKind, type_variable, integer_variable, float_variable, const_variable, region_variable, placeholder}
+use Rattle.nts_model.specs.Canonical.Inputs.{PositionKind, type_variable, integer_variable, float_variable, const_variable, region_variable, placeholder}
 use Rattle.nts_unify.specs.declared.contents.Variable.{Variable}
 use Rattle.nts_canonical.specs.Kinds.{kind_of_position, count_of, variables_before, if_there, link_to, value_leaf, value_leaves, made_variable, made_variables}
-use Rattle.nts_model.specs.Responses.{universe_of_kind}
+use Rattle.nts_model.specs.Answers.Responses.{universe_of_kind}
 
 pub some : {A : Type 0} {x y : A} → Some x ≡ Some y → x ≡ y
 some e = cc

@@ -3,8 +3,8 @@ use Rattle.std.proofs.Common.{◌≡◌, ℕ, ◌≤◌, Bool, false, not, List,
 use Rattle.std.specs.Prelude.{unwrap_or}
 use Rattle.std.specs.List.{position, position_or_len}
 use Rattle.std.proofs.lemmas.List.Sums.{prefix_len-le-length}
-use Rattle.nts_model.specs.Trees.{Tree, Place, kind_of}
-use Rattle.nts_model.proofs.Listed.{either}
+use Rattle.nts_model.specs.Terms.Trees.{Tree, Place, kind_of}
+use Rattle.nts_model.proofs.Terms.Listed.{either}
 use Rattle.nts_store.specs.declared.nodes.NodeId.{NodeId}
 use Rattle.nts_store.specs.Growth.{tree_at, IsIn}
 use Rattle.nts_terms.specs.Handles.{Holds}

@@ -1,6 +1,6 @@
 -- Two lists that are told apart item by item.
 use Rattle.std.proofs.Common.{◌≡◌, ℕ, zero, suc, ◌+◌, ◌<◌, ◌≤◌, List, [], ◌∷◌, map, length, drop, get_or, refl, sym, ap, ◌∙◌, arith}
-use Rattle.nts_model.specs.Trees.{Tree, empty, more, node}
+use Rattle.nts_model.specs.Terms.Trees.{Tree, empty, more, node}
 use Rattle.nts_terms.specs.declared.handles.AliasTerm.{AliasTerm}
 use Rattle.nts_terms.specs.declared.handles.Ty.{Ty}
 use Rattle.nts_canonical.specs.declared.types.CanonicalVarKind.{CanonicalVarKind}

@@ -8,10 +8,10 @@ use Rattle.nts_model.specs.declared.labels.Sort.TheVariants as sort
 use Rattle.nts_model.specs.declared.labels.FreeRegion.TheVariants as region
 use Rattle.nts_model.specs.declared.labels.Leaf.{Leaf}
 use Rattle.nts_model.specs.declared.labels.Leaf.TheVariants as leaf
-use Rattle.nts_model.specs.Trees.{Tree, empty}
-use Rattle.nts_model.specs.Resolving.{Knows}
-use Rattle.nts_model.specs.Substitutions.{leaf_tree}
-use Rattle.nts_model.specs.Inputs.{PositionKind, type_variable, integer_variable, float_variable, const_variable, region_variable, placeholder}
+use Rattle.nts_model.specs.Terms.Trees.{Tree, empty}
+use Rattle.nts_model.specs.Tables.Resolving.{Knows}
+use Rattle.nts_model.specs.Terms.Substitutions.{leaf_tree}
+use Rattle.nts_model.specs.Canonical.Inputs.{PositionKind, type_variable, integer_variable, float_variable, const_variable, region_variable, placeholder}
 use Rattle.nts_terms.specs.declared.handles.GenericArg.{GenericArg}
 use Rattle.nts_store.specs.Growth.{tree_at, Extends}
 use Rattle.nts_terms.specs.Handles.{HoldsArg}
@@ -20,7 +20,7 @@ use Rattle.nts_unify.specs.Reading.{content_of, LinksDescend}
 use Rattle.nts_unify.proofs.Leading.{kind_at-entry}
 use Rattle.nts_canonical.specs.Forms.{trees_of, kind_of_var}
 use Rattle.nts_canonical.specs.Kinds.{IsInputKind, AreInputKinds, variables_before, value_leaf, value_leaves, made_variable, made_variables}
-use Rattle.nts_model.specs.Responses.{universe_of_kind}
+use Rattle.nts_model.specs.Answers.Responses.{universe_of_kind}
 use Rattle.nts_canonical.specs.Building.{AddsValue, IsPositionValue, IsArgOf}
 use Rattle.nts_canonical.specs.Replaced.{AreLeafArgs}
 use Rattle.nts_canonical.proofs.PairLists.{AreLeafArgs-kept, AreLeafArgs-push, AreLeafArgs-hold, trees_of-leaves}

@@ -3,11 +3,11 @@ use Rattle.std.proofs.Common.{◌≡◌, ℕ, zero, suc, ◌+◌, ◌<◌, Bool,
 use Rattle.std.specs.List.{position_or_len}
 use Rattle.std.proofs.lemmas.List.{take_more}
 use Rattle.nts_model.specs.declared.labels.Leaf.{Leaf}
-use Rattle.nts_model.specs.Substitutions.{leaf_sort}
-use Rattle.nts_model.specs.Sequents.{Among}
-use Rattle.nts_model.specs.Numbered.{number, AreDistinct}
-use Rattle.nts_model.specs.Inputs.{sub_root_of, are_one, share, kind_at, position_kind}
-use Rattle.nts_model.proofs.Listed.{either, tell, same-yes}
+use Rattle.nts_model.specs.Terms.Substitutions.{leaf_sort}
+use Rattle.nts_model.specs.Derivations.Sequents.{Among}
+use Rattle.nts_model.specs.Canonical.Numbered.{number, AreDistinct}
+use Rattle.nts_model.specs.Canonical.Inputs.{sub_root_of, are_one, share, kind_at, position_kind}
+use Rattle.nts_model.proofs.Terms.Listed.{either, tell, same-yes}
 use Rattle.nts_unify.specs.Entries.{Entries}
 use Rattle.nts_canonical.specs.declared.types.CanonicalVarKind.{CanonicalVarKind}
 use Rattle.nts_canonical.specs.Forms.{kind_of_var}

@@ -1,6 +1,6 @@
 -- When canonical inputs are one.
 use Rattle.std.specs.Prelude.{◌≡◌, List}
-use Rattle.nts_model.specs.Trees.{Tree}
+use Rattle.nts_model.specs.Terms.Trees.{Tree}
 use Rattle.nts_terms.specs.declared.handles.AliasTerm.{AliasTerm}
 use Rattle.nts_terms.specs.declared.handles.Ty.{Ty}
 use Rattle.nts_store.specs.Growth.{tree_at}

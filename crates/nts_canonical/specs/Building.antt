@@ -4,12 +4,12 @@ use Rattle.std.specs.Prelude.{◌≡◌, All, ℕ, false, List, [], ◌∷◌, �
 use Rattle.nts_model.specs.declared.labels.Leaf.TheVariants as leaf
 use Rattle.nts_model.specs.declared.labels.VariableKind.TheVariants as kind
 use Rattle.nts_model.specs.declared.labels.Label.TheVariants as label
-use Rattle.nts_model.specs.Trees.{Tree, node, any_label, is_infer, is_region_infer, is_placeholder}
-use Rattle.nts_model.specs.Scoping.{IsWellBound}
-use Rattle.nts_model.specs.Contents.{Content}
-use Rattle.nts_model.specs.Resolving.{Knows}
-use Rattle.nts_model.specs.Substitutions.{leaf_tree}
-use Rattle.nts_model.specs.Inputs.{Input, canonical_of, originals, PositionKind, type_variable, integer_variable, float_variable, const_variable, region_variable, placeholder}
+use Rattle.nts_model.specs.Terms.Trees.{Tree, node, any_label, is_infer, is_region_infer, is_placeholder}
+use Rattle.nts_model.specs.Terms.Scoping.{IsWellBound}
+use Rattle.nts_model.specs.Tables.Contents.{Content}
+use Rattle.nts_model.specs.Tables.Resolving.{Knows}
+use Rattle.nts_model.specs.Terms.Substitutions.{leaf_tree}
+use Rattle.nts_model.specs.Canonical.Inputs.{Input, canonical_of, originals, PositionKind, type_variable, integer_variable, float_variable, const_variable, region_variable, placeholder}
 use Rattle.nts_store.specs.Filled.{HasValues}
 use Rattle.nts_terms.specs.declared.handles.AliasTerm.{AliasTerm}
 use Rattle.nts_terms.specs.declared.handles.Ty.{Ty}

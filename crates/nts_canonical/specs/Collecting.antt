@@ -3,11 +3,11 @@ use Rattle.std.specs.Prelude.{◌≡◌, ℕ, ◌+◌, ◌*◌, ◌<◌, Bool, f
 use Rattle.nts_model.specs.declared.labels.Leaf.{Leaf}
 use Rattle.nts_model.specs.declared.labels.Label.{Label}
 use Rattle.nts_model.specs.declared.labels.Label.TheVariants as label
-use Rattle.nts_model.specs.Trees.{Tree, empty, more, node, size}
-use Rattle.nts_model.specs.Sequents.{Among}
-use Rattle.nts_model.specs.Numbered.{added, seen, no_leaf}
-use Rattle.nts_model.specs.Inputs.{is_static}
-use Rattle.nts_model.specs.Responses.{is_fixed}
+use Rattle.nts_model.specs.Terms.Trees.{Tree, empty, more, node, size}
+use Rattle.nts_model.specs.Derivations.Sequents.{Among}
+use Rattle.nts_model.specs.Canonical.Numbered.{added, seen, no_leaf}
+use Rattle.nts_model.specs.Canonical.Inputs.{is_static}
+use Rattle.nts_model.specs.Answers.Responses.{is_fixed}
 use Rattle.nts_store.specs.Growth.{tree_at, IsIn}
 use Rattle.nts_canonical.specs.declared.collecting.Staying.{Staying}
 use Rattle.nts_canonical.specs.declared.collecting.Staying.TheVariants as staying

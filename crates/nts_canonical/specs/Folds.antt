@@ -1,9 +1,9 @@
 -- What a folder that puts values in place of positions makes of a tree.
 use Rattle.std.specs.Prelude.{◌≡◌, suc, List, [], ◌∷◌, Option, Some, None, All, map, refl}
 use Rattle.std.proofs.Common.{arith}
-use Rattle.nts_model.specs.Trees.{Tree, node, any_argument, arguments, environment, bound_predicate, is, a_type}
-use Rattle.nts_model.specs.Related.{pair}
-use Rattle.nts_model.specs.Handlers.{position_of, filled}
+use Rattle.nts_model.specs.Terms.Trees.{Tree, node, any_argument, arguments, environment, bound_predicate, is, a_type}
+use Rattle.nts_model.specs.Derivations.Related.{pair}
+use Rattle.nts_model.specs.Derivations.Handlers.{position_of, filled}
 use Rattle.nts_terms.specs.declared.handles.GenericArg.{GenericArg}
 use Rattle.nts_terms.specs.declared.handles.AliasTerm.{AliasTerm}
 use Rattle.nts_terms.specs.declared.handles.Ty.{Ty}

@@ -1,8 +1,8 @@
 -- What canonical inputs stand for, and which input a goal in a table is.
 use Rattle.std.specs.Prelude.{List, [], ◌∷◌, map}
 use Rattle.nts_model.specs.declared.labels.Sort.TheVariants as sort
-use Rattle.nts_model.specs.Trees.{Tree, empty, more}
-use Rattle.nts_model.specs.Inputs.{Input, CanonicalInput as Form, PositionKind, type_variable, integer_variable, float_variable, const_variable, region_variable, placeholder}
+use Rattle.nts_model.specs.Terms.Trees.{Tree, empty, more}
+use Rattle.nts_model.specs.Canonical.Inputs.{Input, CanonicalInput as Form, PositionKind, type_variable, integer_variable, float_variable, const_variable, region_variable, placeholder}
 use Rattle.nts_terms.specs.declared.handles.AliasTerm.{AliasTerm}
 use Rattle.nts_terms.specs.declared.handles.Ty.{Ty}
 use Rattle.nts_terms.specs.declared.handles.Goal.{Goal}

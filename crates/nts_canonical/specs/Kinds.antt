@@ -7,8 +7,8 @@ use Rattle.nts_model.specs.declared.labels.FreeRegion.TheVariants as region
 use Rattle.nts_model.specs.declared.labels.Constant.TheVariants as constant
 use Rattle.nts_model.specs.declared.labels.Leaf.{Leaf}
 use Rattle.nts_model.specs.declared.labels.Leaf.TheVariants as leaf
-use Rattle.nts_model.specs.Responses.{universe_of_kind}
-use Rattle.nts_model.specs.Inputs.{PositionKind, type_variable, integer_variable, float_variable, const_variable, region_variable, placeholder}
+use Rattle.nts_model.specs.Answers.Responses.{universe_of_kind}
+use Rattle.nts_model.specs.Canonical.Inputs.{PositionKind, type_variable, integer_variable, float_variable, const_variable, region_variable, placeholder}
 use Rattle.nts_unify.specs.declared.contents.Variable.{Variable}
 use Rattle.nts_table.specs.Making.{unset_variable}
 

@@ -1,6 +1,6 @@
 -- Folders that answer each term by an image of it.
 use Rattle.std.specs.Prelude.{◌≡◌, Option, Some}
-use Rattle.nts_model.specs.Trees.{Tree}
+use Rattle.nts_model.specs.Terms.Trees.{Tree}
 
 -- for a tree that is P in this state the answer is its image f, and the state goes on by g
 abbrev pub AnswersImage : {S : Type 0} → (S → Tree → Type 0) → (S → Tree → Tree) → (S → Tree → S) → S → Tree → Option Tree → S → Type 0

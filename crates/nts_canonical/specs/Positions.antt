@@ -3,9 +3,9 @@ use Rattle.std.specs.Prelude.{◌≡◌, Bool, true, false, cond, List, Some, re
 use Rattle.nts_model.specs.declared.labels.Leaf.{Leaf}
 use Rattle.nts_model.specs.declared.labels.Label.{Label}
 use Rattle.nts_model.specs.declared.labels.Label.TheVariants as label
-use Rattle.nts_model.specs.Trees.{Tree, empty, more, node, kind_of, kind_of_label, of_sort, sort_of_leaf}
-use Rattle.nts_model.specs.Substitutions.{leaf_tree, put, replace}
-use Rattle.nts_model.specs.Numbered.{number, position, numbered_leaf}
+use Rattle.nts_model.specs.Terms.Trees.{Tree, empty, more, node, kind_of, kind_of_label, of_sort, sort_of_leaf}
+use Rattle.nts_model.specs.Terms.Substitutions.{leaf_tree, put, replace}
+use Rattle.nts_model.specs.Canonical.Numbered.{number, position, numbered_leaf}
 
 -- a position is of the sort of its leaf
 kind_of-position : (b : Bool) (l : Leaf) (s : List Leaf) → kind_of (cond b (leaf_tree l) (position (sort_of_leaf l) (number s l))) ≡ Some (of_sort (sort_of_leaf l))

@@ -1,8 +1,8 @@
 -- Hidden types and arguments that are made for others.
 use Rattle.std.specs.Prelude.{◌≡◌, List, [], ◌∷◌}
 use Rattle.nts_model.specs.declared.labels.Leaf.{Leaf}
-use Rattle.nts_model.specs.Trees.{Tree}
-use Rattle.nts_model.specs.Substitutions.{leaf_tree}
+use Rattle.nts_model.specs.Terms.Trees.{Tree}
+use Rattle.nts_model.specs.Terms.Substitutions.{leaf_tree}
 use Rattle.nts_terms.specs.declared.handles.AliasTerm.{AliasTerm}
 use Rattle.nts_terms.specs.declared.handles.Ty.{Ty}
 use Rattle.nts_terms.specs.declared.handles.GenericArg.{GenericArg}

@@ -1,10 +1,10 @@
 //! A table for a canonical input.
 ghost use Rattle.std.specs.Prelude.{◌≡◌, ◌≤◌, ℕ, List, [], map, All, IfOk, OnOk, OnErr, IsOkUnless};
 ghost use Rattle.std.specs.Prelude.{slice_get};
-ghost use Rattle.nts_model.specs.Substitutions.{leaf_tree};
-ghost use Rattle.nts_model.specs.Handlers.{filled};
-ghost use Rattle.nts_model.specs.Resolving.{Knows};
-ghost use Rattle.nts_model.specs.Inputs.{HaveKinds};
+ghost use Rattle.nts_model.specs.Terms.Substitutions.{leaf_tree};
+ghost use Rattle.nts_model.specs.Derivations.Handlers.{filled};
+ghost use Rattle.nts_model.specs.Tables.Resolving.{Knows};
+ghost use Rattle.nts_model.specs.Canonical.Inputs.{HaveKinds};
 ghost use Rattle.nts_terms.specs.Modes.{mode_of};
 ghost use Rattle.nts_canonical.specs.SubRoots.{sub_root_in};
 ghost use Rattle.nts_store.specs.Growth.{tree_at, IsIn, Extends};
@@ -14,7 +14,7 @@ ghost use Rattle.nts_unify.specs.declared.contents.HiddenType.{HiddenType};
 ghost use Rattle.nts_table.specs.Tables.{IsTable};
 ghost use Rattle.nts_canonical.specs.Forms.{kind_of_var, form_of, query_tree, trees_of, HoldsQuery};
 ghost use Rattle.nts_canonical.specs.Kinds.{AreInputKinds, value_leaves, made_variables};
-ghost use Rattle.nts_model.specs.Responses.{universe_of_kind};
+ghost use Rattle.nts_model.specs.Answers.Responses.{universe_of_kind};
 ghost use Rattle.nts_canonical.specs.Replaced.{AreLeafArgs};
 ghost use Rattle.nts_canonical.specs.Building.{kinds_of, values_of, made_entries, type_variable_of, IsInputOf, IsPositionValue, IsArgOf, stored_hidden, RegistersAll};
 ghost use Rattle.nts_terms.specs.Rest.{Grows};

@@ -1,9 +1,9 @@
 //! The canonical input of a goal.
 ghost use Rattle.std.specs.Prelude.{◌≡◌, [], map, false, IfOk, OnOk, IsOkUnless, All};
-ghost use Rattle.nts_model.specs.Substitutions.{leaf_tree, replace};
-ghost use Rattle.nts_model.specs.Numbered.{seen, numbered_leaf, no_leaf};
-ghost use Rattle.nts_model.specs.Inputs.{is_static, canonical_of, originals, whole};
-ghost use Rattle.nts_model.specs.Resolving.{Knows};
+ghost use Rattle.nts_model.specs.Terms.Substitutions.{leaf_tree, replace};
+ghost use Rattle.nts_model.specs.Canonical.Numbered.{seen, numbered_leaf, no_leaf};
+ghost use Rattle.nts_model.specs.Canonical.Inputs.{is_static, canonical_of, originals, whole};
+ghost use Rattle.nts_model.specs.Tables.Resolving.{Knows};
 ghost use Rattle.nts_store.specs.Filled.{HasValues};
 ghost use Rattle.nts_store.specs.Growth.{tree_at, Extends};
 ghost use Rattle.nts_terms.specs.Handles.{HoldsArg, HoldsEnv, HoldsPredicate, HoldsGoal};

@@ -1,7 +1,7 @@
 //! The leaves of terms in the order of first sight.
 ghost use Rattle.std.specs.Prelude.{◌≡◌, ◌++◌, ◌∷◌, [], OnOk};
-ghost use Rattle.nts_model.specs.Numbered.{seen};
-ghost use Rattle.nts_model.specs.Trees.{children, IsRow};
+ghost use Rattle.nts_model.specs.Canonical.Numbered.{seen};
+ghost use Rattle.nts_model.specs.Terms.Trees.{children, IsRow};
 ghost use Rattle.nts_store.specs.Growth.{tree_at, IsIn};
 ghost use Rattle.nts_canonical.specs.declared.collecting.Task.TheVariants.{Enter, Finish};
 ghost use Rattle.nts_canonical.specs.Collecting.{stays_where, after_leaf, TasksIn, jobs, entered, IsReading, WalkGoesOn};

@@ -2,10 +2,10 @@
 ghost use Rattle.std.specs.Prelude.{◌≡◌, List, [], IfOk, IsOkUnless, refl};
 ghost use Rattle.std.proofs.Common.{◌∙◌};
 ghost use Rattle.nts_model.specs.declared.labels.Leaf.{Leaf};
-ghost use Rattle.nts_model.specs.Contents.{Content};
-ghost use Rattle.nts_model.specs.Resolving.{Knows, deeply_resolved};
-ghost use Rattle.nts_model.specs.Numbered.{seen};
-ghost use Rattle.nts_model.specs.Responses.{is_fixed, positioned};
+ghost use Rattle.nts_model.specs.Tables.Contents.{Content};
+ghost use Rattle.nts_model.specs.Tables.Resolving.{Knows, deeply_resolved};
+ghost use Rattle.nts_model.specs.Canonical.Numbered.{seen};
+ghost use Rattle.nts_model.specs.Answers.Responses.{is_fixed, positioned};
 ghost use Rattle.nts_store.specs.declared.fault.Fault.TheVariants.{Memory};
 ghost use Rattle.nts_terms.specs.Rest.{Grows};
 ghost use Rattle.nts_unify.specs.Reading.{content_of};

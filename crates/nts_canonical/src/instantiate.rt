@@ -1,8 +1,8 @@
 //! Values in place of the positions of a canonical value.
 ghost use Rattle.std.specs.Prelude.{◌≡◌, List, All, IfOk, IfSome, IsOkUnless, option_map, refl};
 ghost use Rattle.std.proofs.Common.{◌∙◌};
-ghost use Rattle.nts_model.specs.Trees.{Tree};
-ghost use Rattle.nts_model.specs.Handlers.{filled};
+ghost use Rattle.nts_model.specs.Terms.Trees.{Tree};
+ghost use Rattle.nts_model.specs.Derivations.Handlers.{filled};
 ghost use Rattle.nts_store.specs.declared.fault.Fault.TheVariants.{Memory};
 ghost use Rattle.nts_store.specs.Growth.{tree_at};
 ghost use Rattle.nts_store.specs.Filled.{HasValues};

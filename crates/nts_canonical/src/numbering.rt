@@ -1,9 +1,9 @@
 //! Positions in place of leaves.
 ghost use Rattle.std.specs.Prelude.{◌≡◌, List, IfOk, refl};
 ghost use Rattle.nts_model.specs.declared.labels.Leaf.{Leaf};
-ghost use Rattle.nts_model.specs.Trees.{Tree, sort_of_leaf};
-ghost use Rattle.nts_model.specs.Substitutions.{replace};
-ghost use Rattle.nts_model.specs.Numbered.{number, numbered_leaf};
+ghost use Rattle.nts_model.specs.Terms.Trees.{Tree, sort_of_leaf};
+ghost use Rattle.nts_model.specs.Terms.Substitutions.{replace};
+ghost use Rattle.nts_model.specs.Canonical.Numbered.{number, numbered_leaf};
 ghost use Rattle.nts_store.specs.Growth.{tree_at, Extends};
 ghost use Rattle.nts_terms.specs.Handles.{Holds};
 ghost use Rattle.nts_canonical.specs.declared.collecting.Staying.{Staying};

@@ -2,9 +2,9 @@
 ghost use Rattle.std.specs.Prelude.{◌≡◌, ℕ, List, map, IfOk};
 ghost use Rattle.std.specs.List.{position_or_len};
 ghost use Rattle.nts_model.specs.declared.labels.Leaf.{Leaf};
-ghost use Rattle.nts_model.specs.Substitutions.{leaf_sort};
-ghost use Rattle.nts_model.specs.Numbered.{AreDistinct};
-ghost use Rattle.nts_model.specs.Inputs.{sub_root_of, are_one, kind_at, position_kind};
+ghost use Rattle.nts_model.specs.Terms.Substitutions.{leaf_sort};
+ghost use Rattle.nts_model.specs.Canonical.Numbered.{AreDistinct};
+ghost use Rattle.nts_model.specs.Canonical.Inputs.{sub_root_of, are_one, kind_at, position_kind};
 ghost use Rattle.nts_unify.specs.Reading.{LinksDescend};
 ghost use Rattle.nts_canonical.specs.SubRoots.{sub_root_in};
 ghost use Rattle.nts_canonical.specs.Owned.{IsOwned, AreOwned};

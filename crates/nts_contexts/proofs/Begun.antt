@@ -1,6 +1,6 @@
 -- Contexts as they begin.
 use Rattle.std.proofs.Common.{◌≡◌, ℕ, List, [], None, false, arith}
-use Rattle.nts_model.specs.Trees.{Tree}
+use Rattle.nts_model.specs.Terms.Trees.{Tree}
 use Rattle.nts_terms.specs.declared.cx.Cx.{Cx}
 use Rattle.nts_terms.specs.declared.handles.Goal.{Goal}
 use Rattle.nts_certainty.specs.declared.sources.GoalSource.{GoalSource}

@@ -2,7 +2,7 @@
 use Rattle.std.proofs.Common.{◌≡◌, zero, suc, arith, List, [], ◌∷◌, ◌++◌, map, Option, Some, None, refl, ap, ◌∙◌, subst, MutBor}
 use Rattle.std.specs.Prelude.{IfSome, All, Result, Ok, Err, OnOk, OnErr}
 use Rattle.std.proofs.lemmas.List.Elements.{All-append, All-map}
-use Rattle.nts_model.specs.Trees.{Tree}
+use Rattle.nts_model.specs.Terms.Trees.{Tree}
 use Rattle.nts_store.specs.declared.fault.Fault.{Fault}
 use Rattle.nts_store.specs.declared.fault.EvalError.{EvalError}
 use Rattle.nts_store.specs.Growth.{Extends}
@@ -11,7 +11,7 @@ use Rattle.nts_terms.specs.declared.handles.Goal.{Goal}
 use Rattle.nts_certainty.specs.declared.sources.GoalSource.{GoalSource}
 use Rattle.nts_table.specs.Tables.{Table, IsTable, RelatingKeeps}
 use Rattle.nts_queries.specs.Evaluation.{Runs, IsPosed}
-use Rattle.nts_model.specs.Equations.{AreRelated}
+use Rattle.nts_model.specs.Tables.Equations.{AreRelated}
 use Rattle.nts_unify.specs.Reading.{content_of}
 use Rattle.nts_unify.proofs.Keeping.{closed_later}
 use Rattle.nts_queries.proofs.Evaluating.{Runs-trans, Runs-refl, runs-back, goes}

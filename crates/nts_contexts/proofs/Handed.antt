@@ -1,6 +1,6 @@
 -- What a closure is handed, in the context that it is called with, and later.
 use Rattle.std.proofs.Common.{◌≡◌, ℕ, List}
-use Rattle.nts_model.specs.Trees.{Tree, Place}
+use Rattle.nts_model.specs.Terms.Trees.{Tree, Place}
 use Rattle.nts_store.specs.declared.nodes.NodeId.{NodeId}
 use Rattle.nts_store.specs.Growth.{tree_at}
 use Rattle.nts_terms.specs.declared.cx.Cx.{Cx}

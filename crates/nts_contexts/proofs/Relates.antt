@@ -4,10 +4,10 @@ use Rattle.std.specs.Prelude.{All, IfOk, IfErr, Result, Ok, Err, OnOk, OnErr}
 use Rattle.std.proofs.lemmas.List.{append-nil}
 use Rattle.std.proofs.lemmas.List.Elements.{All-nil, All-cons}
 use Rattle.nts_model.specs.declared.labels.Variance.{Variance}
-use Rattle.nts_model.specs.Trees.{Tree, IsClosed}
-use Rattle.nts_model.specs.Contents.{Content}
-use Rattle.nts_model.specs.Resolving.{Knows}
-use Rattle.nts_model.proofs.Slots.{Knows-kept}
+use Rattle.nts_model.specs.Terms.Trees.{Tree, IsClosed}
+use Rattle.nts_model.specs.Tables.Contents.{Content}
+use Rattle.nts_model.specs.Tables.Resolving.{Knows}
+use Rattle.nts_model.proofs.Tables.Slots.{Knows-kept}
 use Rattle.nts_store.specs.declared.fault.Fault.{Fault}
 use Rattle.nts_store.specs.declared.fault.EvalError.{EvalError}
 use Rattle.nts_store.specs.declared.nodes.NodeId.{NodeId}

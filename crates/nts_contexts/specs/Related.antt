@@ -1,9 +1,9 @@
 -- Values that were related in a context.
 use Rattle.std.specs.Prelude.{◌≡◌, ◌++◌, List, map}
 use Rattle.nts_model.specs.declared.labels.Variance.{Variance}
-use Rattle.nts_model.specs.Equations.{AreRelated}
-use Rattle.nts_model.specs.Passing.{BringsLabelsOf}
-use Rattle.nts_model.specs.Resolving.{Knows}
+use Rattle.nts_model.specs.Tables.Equations.{AreRelated}
+use Rattle.nts_model.specs.Tables.Passing.{BringsLabelsOf}
+use Rattle.nts_model.specs.Tables.Resolving.{Knows}
 use Rattle.nts_store.specs.declared.nodes.NodeId.{NodeId}
 use Rattle.nts_store.specs.Growth.{tree_at}
 use Rattle.nts_terms.specs.declared.cx.Cx.{Cx}

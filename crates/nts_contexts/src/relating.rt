@@ -2,8 +2,8 @@
 ghost use Rattle.std.specs.Prelude.{◌≡◌, ◌++◌, [], map, All, Ok, Err, IfOk, IfErr, IfSome, OnOk, OnErr};
 ghost use Rattle.nts_certainty.specs.declared.sources.GoalSource.TheVariants as sources;
 ghost use Rattle.nts_model.specs.declared.labels.Variance.TheVariants as variances;
-ghost use Rattle.nts_model.specs.Equations.{AreRelated, AreUnrelated};
-ghost use Rattle.nts_model.specs.Passing.{BringsLabelsOf};
+ghost use Rattle.nts_model.specs.Tables.Equations.{AreRelated, AreUnrelated};
+ghost use Rattle.nts_model.specs.Tables.Passing.{BringsLabelsOf};
 ghost use Rattle.nts_store.specs.Errors.{error_of};
 ghost use Rattle.nts_store.specs.Growth.{tree_at};
 ghost use Rattle.nts_terms.specs.Signatures.{variances_in};

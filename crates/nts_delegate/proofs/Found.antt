@@ -4,10 +4,10 @@ use Rattle.std.specs.Prelude.{IsTrue}
 use Rattle.std.proofs.lemmas.List.{map_push, drop_more}
 use Rattle.std.proofs.Math.Seq.{get_or-append_seam}
 use Rattle.nts_model.specs.declared.labels.TyHead.{TyHead}
-use Rattle.nts_model.specs.Trees.{Tree, empty, more, node, children}
-use Rattle.nts_model.specs.Sequents.{Among}
-use Rattle.nts_model.specs.Rules.{related}
-use Rattle.nts_model.specs.Handlers.{Candidate}
+use Rattle.nts_model.specs.Terms.Trees.{Tree, empty, more, node, children}
+use Rattle.nts_model.specs.Derivations.Sequents.{Among}
+use Rattle.nts_model.specs.Derivations.Rules.{related}
+use Rattle.nts_model.specs.Derivations.Handlers.{Candidate}
 use Rattle.nts_store.specs.Growth.{tree_at}
 use Rattle.nts_terms.specs.declared.handles.Goal.{Goal}
 use Rattle.nts_delegate.specs.declared.delegate.CandidateData.{CandidateData}

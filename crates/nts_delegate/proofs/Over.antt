@@ -5,13 +5,13 @@ use Rattle.nts_model.specs.declared.labels.FreeRegion.TheVariants as region
 use Rattle.nts_model.specs.declared.labels.Leaf.{Leaf}
 use Rattle.nts_model.specs.declared.labels.Leaf.TheVariants as leaf
 use Rattle.nts_model.specs.declared.labels.Label.TheVariants as label
-use Rattle.nts_model.specs.Trees.{Tree, empty, more, node}
-use Rattle.nts_model.specs.Contents.{Content}
-use Rattle.nts_model.specs.Resolving.{KnowsLeaf, KnowsLeaves}
-use Rattle.nts_model.specs.Substitutions.{Occurs}
-use Rattle.nts_model.specs.Related.{pair}
-use Rattle.nts_model.specs.Handlers.{IsFixed}
-use Rattle.nts_model.proofs.Unpositioned.{known_leaves}
+use Rattle.nts_model.specs.Terms.Trees.{Tree, empty, more, node}
+use Rattle.nts_model.specs.Tables.Contents.{Content}
+use Rattle.nts_model.specs.Tables.Resolving.{KnowsLeaf, KnowsLeaves}
+use Rattle.nts_model.specs.Terms.Substitutions.{Occurs}
+use Rattle.nts_model.specs.Derivations.Related.{pair}
+use Rattle.nts_model.specs.Derivations.Handlers.{IsFixed}
+use Rattle.nts_model.proofs.Terms.Unpositioned.{known_leaves}
 use Rattle.nts_store.specs.declared.nodes.NodeId.{NodeId}
 use Rattle.nts_store.specs.Growth.{tree_at}
 use Rattle.nts_terms.specs.declared.handles.Goal.{Goal}

@@ -3,7 +3,7 @@ use Rattle.std.proofs.Common.{◌≡◌, ℕ, zero, suc, ◌<◌, ◌≤◌, Lis
 use Rattle.std.specs.Prelude.{slice_get}
 use Rattle.std.proofs.lemmas.List.{map_push}
 use Rattle.nts_model.specs.declared.labels.TyHead.{TyHead}
-use Rattle.nts_model.specs.Trees.{Tree}
+use Rattle.nts_model.specs.Terms.Trees.{Tree}
 use Rattle.nts_delegate.specs.declared.clauses.Clause.{Clause}
 use Rattle.nts_delegate.specs.declared.clauses.TraitClauses.{TraitClauses}
 use Rattle.nts_delegate.specs.declared.clauses.Clauses.{Clauses}

@@ -1,6 +1,6 @@
 -- Candidates of which none is left out.
 use Rattle.std.proofs.Common.{◌≡◌, List, [], ◌∷◌, ◌++◌, append_assoc, append-nil, sym, subst}
-use Rattle.nts_model.specs.Handlers.{Candidate}
+use Rattle.nts_model.specs.Derivations.Handlers.{Candidate}
 use Rattle.nts_delegate.specs.Relevant.{LeavesOut}
 use Rattle.nts_delegate.specs.Relevant.LeavesOut.{none, offered}
 

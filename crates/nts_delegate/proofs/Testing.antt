@@ -3,8 +3,8 @@ use Rattle.std.proofs.Common.{◌≡◌, ◌↔◌, ℕ, zero, suc, ◌+◌, ◌
 use Rattle.std.specs.Prelude.{IsTrue, IfOk, Result, Ok, Err}
 use Rattle.std.proofs.lemmas.List.{take_more}
 use Rattle.nts_model.specs.declared.labels.Sort.{Sort}
-use Rattle.nts_model.specs.Trees.{Tree, empty, more, node, any_label, of_sort}
-use Rattle.nts_model.specs.Scoping.{IsWellBound}
+use Rattle.nts_model.specs.Terms.Trees.{Tree, empty, more, node, any_label, of_sort}
+use Rattle.nts_model.specs.Terms.Scoping.{IsWellBound}
 use Rattle.nts_store.specs.declared.type_flags.TypeFlags.{TypeFlags}
 use Rattle.nts_store.specs.declared.nodes.NodeId.{NodeId}
 use Rattle.nts_terms.specs.declared.handles.Predicate.{Predicate}
@@ -13,7 +13,7 @@ use Rattle.nts_store.specs.Growth.{tree_at, IsIn}
 use Rattle.nts_terms.specs.Handles.{HoldsPredicate}
 use Rattle.nts_store.specs.Labels.{AllLabels}
 use Rattle.nts_store.proofs.Escaping.{closed_by_facts, escapes}
-use Rattle.nts_model.specs.Handlers.{NamesFresh}
+use Rattle.nts_model.specs.Derivations.Handlers.{NamesFresh}
 use Rattle.nts_delegate.specs.Clauses.{MayHave, is_foreign, IsClauseTerm, AreBodies}
 
 pub both_false : (p q : Bool) → (p || q) ≡ false → (p ≡ false) × (q ≡ false)

@@ -2,19 +2,19 @@
 use Rattle.std.specs.Prelude.{◌≡◌, ◌⊎◌, List, [], ◌∷◌, Some}
 use Rattle.nts_model.specs.declared.labels.Sort.{Sort}
 use Rattle.nts_model.specs.declared.labels.Leaf.{Leaf}
-use Rattle.nts_model.specs.Trees.{Tree, kind_of, of_sort, any_argument, FitsPlace, IsClosed}
-use Rattle.nts_model.specs.Scoping.{IsWellBound}
-use Rattle.nts_model.specs.Contents.{Content}
-use Rattle.nts_model.specs.Resolving.{Knows}
-use Rattle.nts_model.specs.Substitutions.{Occurs}
-use Rattle.nts_model.specs.Related.{pair}
+use Rattle.nts_model.specs.Terms.Trees.{Tree, kind_of, of_sort, any_argument, FitsPlace, IsClosed}
+use Rattle.nts_model.specs.Terms.Scoping.{IsWellBound}
+use Rattle.nts_model.specs.Tables.Contents.{Content}
+use Rattle.nts_model.specs.Tables.Resolving.{Knows}
+use Rattle.nts_model.specs.Terms.Substitutions.{Occurs}
+use Rattle.nts_model.specs.Derivations.Related.{pair}
 use Rattle.nts_store.specs.declared.nodes.NodeId.{NodeId}
 use Rattle.nts_terms.specs.declared.handles.Goal.{Goal}
 use Rattle.nts_certainty.specs.declared.sources.RerunCondition.TheVariants as rerun
 use Rattle.nts_store.specs.Growth.{tree_at, IsIn}
 use Rattle.nts_terms.specs.Handles.{HoldsGoal}
-use Rattle.nts_model.specs.Handlers.{NamesFresh, IsFixed}
-use Rattle.nts_model.specs.Handlers as handlers
+use Rattle.nts_model.specs.Derivations.Handlers.{NamesFresh, IsFixed}
+use Rattle.nts_model.specs.Derivations.Handlers as handlers
 use Rattle.nts_unify.specs.Reading.{left_kind}
 use Rattle.nts_model.specs.declared.labels.Sort.TheVariants as sort
 use Rattle.nts_delegate.specs.declared.delegate.Equation.{Equation}

@@ -10,14 +10,14 @@ use Rattle.nts_model.specs.declared.labels.PredicateHead.TheVariants as predicat
 use Rattle.nts_model.specs.declared.labels.Label.{Label}
 use Rattle.nts_model.specs.declared.labels.Label.TheVariants as label
 use Rattle.nts_model.specs.declared.labels.TyHead.{TyHead}
-use Rattle.nts_model.specs.Trees.{Tree, children, any_label, IsClosed}
-use Rattle.nts_model.specs.Scoping.{IsWellBound}
+use Rattle.nts_model.specs.Terms.Trees.{Tree, children, any_label, IsClosed}
+use Rattle.nts_model.specs.Terms.Scoping.{IsWellBound}
 use Rattle.nts_store.specs.declared.nodes.NodeId.{NodeId}
 use Rattle.nts_terms.specs.declared.handles.Predicate.{Predicate}
 use Rattle.nts_store.specs.Growth.{tree_at, IsIn}
-use Rattle.nts_model.specs.Handlers.{position_of}
+use Rattle.nts_model.specs.Derivations.Handlers.{position_of}
 use Rattle.nts_terms.specs.Handles.{HoldsArgs, HoldsPredicate}
-use Rattle.nts_model.specs.Handlers.{NamesAt, NamesFresh}
+use Rattle.nts_model.specs.Derivations.Handlers.{NamesAt, NamesFresh}
 use Rattle.nts_delegate.specs.Places.{IsIndexOf}
 use Rattle.nts_delegate.specs.Relevant.{first_built_by}
 use Rattle.nts_delegate.specs.declared.clauses.Clause.{Clause}

@@ -1,13 +1,13 @@
 -- A store that grows keeps clauses.
 use Rattle.std.specs.Prelude.{◌≡◌, List, [], ◌∷◌, map, Option, None, Some, slice_get}
 use Rattle.std.proofs.Common.{arith, refl, ap, sym, subst}
-use Rattle.nts_model.specs.Trees.{Tree, children}
+use Rattle.nts_model.specs.Terms.Trees.{Tree, children}
 use Rattle.nts_model.specs.declared.labels.Sort.{Sort}
 use Rattle.nts_store.specs.declared.nodes.NodeId.{NodeId}
 use Rattle.nts_terms.specs.declared.handles.Predicate.{Predicate}
 use Rattle.nts_store.specs.Growth.{Extends}
 use Rattle.nts_terms.specs.Handles.{Holds}
-use Rattle.nts_model.specs.Trees.{Place}
+use Rattle.nts_model.specs.Terms.Trees.{Place}
 use Rattle.nts_delegate.specs.Clauses.{IsClauseTerm, AreBodies, HoldsClause, AreClauses, clauses_in, clauses_of, head_of, IsIndexed, AreReady}
 use Rattle.nts_delegate.specs.Places.{IsIndexOf}
 use Rattle.nts_delegate.specs.Relevant.{first_built_by}

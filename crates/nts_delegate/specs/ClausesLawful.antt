@@ -4,10 +4,10 @@ use Rattle.std.specs.List.{filter}
 use Rattle.nts_model.specs.declared.labels.Sort.{Sort}
 use Rattle.nts_model.specs.declared.labels.ListHead.TheVariants as list
 use Rattle.nts_model.specs.declared.labels.Label.TheVariants as label
-use Rattle.nts_model.specs.Trees.{Tree, empty, more, node, children, IsRow, AllFit, any_argument, any_label}
-use Rattle.nts_model.specs.Rules.{Mode, Application}
-use Rattle.nts_model.specs.Handlers.{Candidate, Handler, IsLawful}
-use Rattle.nts_model.specs.Coherence.{RulesAreOffered}
+use Rattle.nts_model.specs.Terms.Trees.{Tree, empty, more, node, children, IsRow, AllFit, any_argument, any_label}
+use Rattle.nts_model.specs.Derivations.Rules.{Mode, Application}
+use Rattle.nts_model.specs.Derivations.Handlers.{Candidate, Handler, IsLawful}
+use Rattle.nts_model.specs.Refutation.Coherence.{RulesAreOffered}
 use Rattle.nts_delegate.specs.SameHandlers.{MeansSame}
 use Rattle.nts_store.specs.declared.nodes.NodeId.{NodeId}
 use Rattle.nts_terms.specs.declared.handles.Goal.{Goal}

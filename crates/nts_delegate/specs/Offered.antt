@@ -1,10 +1,10 @@
 -- A candidate's data as trees.
 use Rattle.std.specs.Prelude.{Bool, true, false, List, map}
-use Rattle.nts_model.specs.Trees.{Tree}
-use Rattle.nts_model.specs.Related.{Constraint}
-use Rattle.nts_model.specs.Sequents.{PathKind, coinductive, unknown, inductive, forced_ambiguity, Source, misc, type_relating, impl_where_bound, alias_bound_const, alias_well_formed, normalize_goal, Premise, Hidden}
-use Rattle.nts_model.specs.Rules.{Equation, related, alike}
-use Rattle.nts_model.specs.Handlers.{Cause, ambiguity, overflow, Certainty, certain, perhaps, Access, never, always, any_infer, in_storage, in_storage_or_infer, Candidate}
+use Rattle.nts_model.specs.Terms.Trees.{Tree}
+use Rattle.nts_model.specs.Derivations.Related.{Constraint}
+use Rattle.nts_model.specs.Derivations.Sequents.{PathKind, coinductive, unknown, inductive, forced_ambiguity, Source, misc, type_relating, impl_where_bound, alias_bound_const, alias_well_formed, normalize_goal, Premise, Hidden}
+use Rattle.nts_model.specs.Derivations.Rules.{Equation, related, alike}
+use Rattle.nts_model.specs.Derivations.Handlers.{Cause, ambiguity, overflow, Certainty, certain, perhaps, Access, never, always, any_infer, in_storage, in_storage_or_infer, Candidate}
 use Rattle.nts_certainty.specs.declared.certainty.Certainty.{Certainty as CertaintyData}
 use Rattle.nts_certainty.specs.declared.certainty.Certainty.TheVariants as certainty_data
 use Rattle.nts_certainty.specs.declared.certainty.MaybeCause.{MaybeCause}

@@ -8,10 +8,10 @@ use Rattle.nts_model.specs.declared.labels.Leaf.TheVariants as leaf
 use Rattle.nts_model.specs.declared.labels.BoundVarIndexKind.TheVariants as index
 use Rattle.nts_model.specs.declared.labels.Label.{Label}
 use Rattle.nts_model.specs.declared.labels.Label.TheVariants as label
-use Rattle.nts_model.specs.Trees.{Tree, empty, more, node, any_label, is_canonical, row_length, IsRow, IsFormed}
-use Rattle.nts_model.specs.Substitutions.{leaf_tree, put, replace, Occurs, StaysItself}
-use Rattle.nts_model.specs.Handlers.{position_of, value_or, filled, filled_under, NamesFresh, IsFixed}
-use Rattle.nts_model.proofs.Substituting.{leaf_alone}
+use Rattle.nts_model.specs.Terms.Trees.{Tree, empty, more, node, any_label, is_canonical, row_length, IsRow, IsFormed}
+use Rattle.nts_model.specs.Terms.Substitutions.{leaf_tree, put, replace, Occurs, StaysItself}
+use Rattle.nts_model.specs.Derivations.Handlers.{position_of, value_or, filled, filled_under, NamesFresh, IsFixed}
+use Rattle.nts_model.proofs.Terms.Substituting.{leaf_alone}
 use Rattle.nts_delegate.specs.Clauses.{is_foreign_region, is_foreign_leaf, is_foreign}
 
 pub both_false : (p q : Bool) → (p || q) ≡ false → (p ≡ false) × (q ≡ false)

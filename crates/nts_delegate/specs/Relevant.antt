@@ -4,10 +4,10 @@ use Rattle.nts_model.specs.declared.labels.TyHead.{TyHead}
 use Rattle.nts_model.specs.declared.labels.TyHead.TheVariants as ty
 use Rattle.nts_model.specs.declared.labels.Label.{Label}
 use Rattle.nts_model.specs.declared.labels.Label.TheVariants as label
-use Rattle.nts_model.specs.Trees.{Tree, more, node}
-use Rattle.nts_model.specs.Sequents.{Among}
-use Rattle.nts_model.specs.Rules.{related}
-use Rattle.nts_model.specs.Handlers.{Candidate}
+use Rattle.nts_model.specs.Terms.Trees.{Tree, more, node}
+use Rattle.nts_model.specs.Derivations.Sequents.{Among}
+use Rattle.nts_model.specs.Derivations.Rules.{related}
+use Rattle.nts_model.specs.Derivations.Handlers.{Candidate}
 
 -- what a type is built by: values leave that as it is. A leaf, a position or an alias may stand for any type
 abbrev pub built_by_label : Label → Option TyHead

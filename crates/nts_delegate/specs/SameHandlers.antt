@@ -1,8 +1,8 @@
 -- Handlers that mean the same.
 use Rattle.std.specs.Prelude.{◌≡◌, ◌↔◌, ℕ}
-use Rattle.nts_model.specs.Trees.{Tree}
-use Rattle.nts_model.specs.Rules.{Mode, Application}
-use Rattle.nts_model.specs.Handlers.{Handler}
+use Rattle.nts_model.specs.Terms.Trees.{Tree}
+use Rattle.nts_model.specs.Derivations.Rules.{Mode, Application}
+use Rattle.nts_model.specs.Derivations.Handlers.{Handler}
 
 -- they have the same rules, offers and coinductive traits
 pub record MeansSame (h k : Handler) : Type 0 where

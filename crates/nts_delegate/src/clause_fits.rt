@@ -1,10 +1,10 @@
 //! Whether a clause may be added to a handler.
 ghost use Rattle.std.specs.Prelude.{◌≡◌, ◌↔◌, IfOk, IsTrue, IsOkUnless, slice_get};
-ghost use Rattle.nts_model.specs.Trees.{of_sort};
+ghost use Rattle.nts_model.specs.Terms.Trees.{of_sort};
 ghost use Rattle.nts_store.specs.Growth.{IsIn};
-ghost use Rattle.nts_model.specs.Handlers.{position_of};
+ghost use Rattle.nts_model.specs.Derivations.Handlers.{position_of};
 ghost use Rattle.nts_terms.specs.Handles.{HoldsArgs, HoldsPredicate};
-ghost use Rattle.nts_model.specs.Handlers.{IsOfSort, NamesAt};
+ghost use Rattle.nts_model.specs.Derivations.Handlers.{IsOfSort, NamesAt};
 ghost use Rattle.nts_delegate.specs.Clauses.{MayHave, is_foreign, is_foreign_leaf, IsClauseTerm, HoldsClause};
 
 use crate::clauses::{Clause, Clauses};

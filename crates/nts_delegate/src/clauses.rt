@@ -1,6 +1,6 @@
 //! A handler made of a list of clauses.
 ghost use Rattle.std.specs.Prelude.{◌≡◌, ◌<◌, ◌↔◌, ◌++◌, ◌∷◌, ℕ, [], false, List, Option, Some, length, map, IfOk, OnOk, OnErr, IsTrue, IsOkUnless};
-ghost use Rattle.nts_model.specs.Trees.{Tree, row_length, children, IsRow};
+ghost use Rattle.nts_model.specs.Terms.Trees.{Tree, row_length, children, IsRow};
 ghost use Rattle.nts_store.specs.Growth.{tree_at, Extends};
 ghost use Rattle.nts_terms.specs.Handles.{HoldsArgs};
 ghost use Rattle.nts_terms.specs.Kinds.{tree_of_statement, StatementFits, tree_of_clause, ClauseFits};

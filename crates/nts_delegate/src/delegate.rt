@@ -1,6 +1,6 @@
 //! What offers the rules of traits.
 ghost use Rattle.std.specs.Prelude.{List, IfOk, IsOkUnless};
-ghost use Rattle.nts_model.specs.Trees.{Tree};
+ghost use Rattle.nts_model.specs.Terms.Trees.{Tree};
 ghost use Rattle.nts_store.specs.Growth.{Extends};
 ghost use Rattle.nts_terms.specs.Rest.{Grows};
 
@@ -59,8 +59,8 @@ pub struct CandidateData {
 /// What offers the rules of traits as data.
 pub trait GoalHandler {
     ghost use Rattle.std.specs.Prelude.{◌≡◌};
-    ghost use Rattle.nts_model.specs.Handlers.{Handler, IsLawful};
-    ghost use Rattle.nts_model.specs.Coherence.{RulesAreOffered};
+    ghost use Rattle.nts_model.specs.Derivations.Handlers.{Handler, IsLawful};
+    ghost use Rattle.nts_model.specs.Refutation.Coherence.{RulesAreOffered};
     ghost use Rattle.nts_store.specs.Growth.{tree_at};
     ghost use Rattle.nts_store.specs.Formed.{AreFormed};
     ghost use Rattle.nts_delegate.specs.Candidates.{IsAsked, AreCandidates};

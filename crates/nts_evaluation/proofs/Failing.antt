@@ -18,7 +18,7 @@ use Rattle.nts_response.specs.declared.types.Response.{Response}
 use Rattle.nts_delegate.specs.declared.delegate.CandidateData.{CandidateData}
 use Rattle.nts_search.specs.declared.stack.SearchGraph.{SearchGraph}
 use Rattle.nts_queries.specs.Searching.{Searches}
-use Rattle.nts_model.specs.Handlers.{Handler}
+use Rattle.nts_model.specs.Derivations.Handlers.{Handler}
 use Rattle.nts_evaluation.specs.Promises.{Rules, AnswersQuery, AnswersGoal, AnswersBy}
 
 pub query_failed : {R : Rules} {a b : Cx} {g h : SearchGraph} {input : CanonicalInput} {step : PathKind} (r : Result (Box (Canonical Response)) EvalError) → is_err r ≡ true → r ≢ Err error.NoSolution → Grows a b → Searches a b g h → AnswersQuery R a b g h input step r

@@ -1,11 +1,11 @@
 -- What the calls of an evaluation promise: one record for each family of calls.
 use Rattle.std.specs.Global.{Box}
 use Rattle.std.specs.Prelude.{◌≡◌, ◌⊎◌, ℕ, ◌≤◌, List, Result, Err, ◌≢◌, [], ◌∷◌, Ok, IfOk, IfSome, OnOk, OnErr}
-use Rattle.nts_model.specs.Trees.{Tree}
-use Rattle.nts_model.specs.Handlers.{Handler}
-use Rattle.nts_model.specs.Proofs.{Assumed, passed}
-use Rattle.nts_model.specs.Stacks.{IsDerivedFrom, assumptions}
-use Rattle.nts_model.specs.Responses.{answer_sequent}
+use Rattle.nts_model.specs.Terms.Trees.{Tree}
+use Rattle.nts_model.specs.Derivations.Handlers.{Handler}
+use Rattle.nts_model.specs.Derivations.Proofs.{Assumed, passed}
+use Rattle.nts_model.specs.Searching.Stacks.{IsDerivedFrom, assumptions}
+use Rattle.nts_model.specs.Answers.Responses.{answer_sequent}
 use Rattle.nts_certainty.specs.declared.sources.PathKind.{PathKind}
 use Rattle.nts_store.specs.declared.fault.EvalError.{EvalError}
 use Rattle.nts_terms.specs.declared.cx.Cx.{Cx}
@@ -22,7 +22,7 @@ use Rattle.nts_search.specs.declared.stack.SearchGraph.{SearchGraph}
 use Rattle.nts_queries.specs.Meant.{Since, meaning_since, IsQueryTold, IsQueryRefuted, AreOffered, IsOffered, IsServedSince, IsProvedNow, IsProvedFromSince, IsNestedSince, IsAskedTo, IsRefusedIn, IsAskedUnder, IsRefusedUnder, IsTold, IsRefuted, HaveOutcomes, CandidatesTell, RepliesWith, FailsIn, HasRunTo, ReachesBy, RefusesOneOf}
 use Rattle.nts_queries.specs.Searching.{Searches, HeadsTell, IsCut, assumed_in, IsHeadAnswer, IsAnswerTold}
 use Rattle.nts_queries.specs.Answering.{IsAnswerTo, IfAnswered, IfCertain, EvaluatesGoal, IfSure}
-use Rattle.nts_model.specs.Passing.{BringsOnly}
+use Rattle.nts_model.specs.Tables.Passing.{BringsOnly}
 use Rattle.nts_certainty.specs.declared.sources.GoalSource.{GoalSource}
 use Rattle.nts_certainty.specs.declared.certainty.Certainty.{Certainty}
 use Rattle.nts_terms.specs.declared.handles.Goal.{Goal}

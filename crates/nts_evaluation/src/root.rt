@@ -1,9 +1,9 @@
 //! A canonical goal, asked at the root of a search.
 ghost use Rattle.std.specs.Prelude.{ℕ, ◌≡◌, ◌+◌, ◌⊎◌, List, IfOk, IfSome, IsNone};
 ghost use Rattle.nts_model.specs.declared.labels.Variance.{Variance};
-ghost use Rattle.nts_model.specs.Proofs.{HasProof};
-ghost use Rattle.nts_model.specs.Handlers.{meaning};
-ghost use Rattle.nts_model.specs.Responses.{answer_sequent};
+ghost use Rattle.nts_model.specs.Derivations.Proofs.{HasProof};
+ghost use Rattle.nts_model.specs.Derivations.Handlers.{meaning};
+ghost use Rattle.nts_model.specs.Answers.Responses.{answer_sequent};
 ghost use Rattle.nts_certainty.specs.declared.certainty.Certainty.TheVariants as certainty;
 ghost use Rattle.nts_terms.specs.Modes.{mode_of};
 ghost use Rattle.nts_terms.specs.Rest.{Grows};

@@ -1,7 +1,7 @@
 //! The evaluation of goals.
 ghost use Rattle.std.specs.Prelude.{ℕ, ◌+◌, ◌≡◌, ◌↔◌, List, IsTrue, false, None, IfOk, OnOk, OnErr, IsOkUnless};
 ghost use Rattle.nts_model.specs.declared.labels.Variance.{Variance};
-ghost use Rattle.nts_model.specs.Handlers.{meaning};
+ghost use Rattle.nts_model.specs.Derivations.Handlers.{meaning};
 ghost use Rattle.nts_store.specs.Growth.{Extends};
 ghost use Rattle.nts_table.specs.Tables.{IsTable};
 ghost use Rattle.nts_terms.specs.Modes.{mode_of};

@@ -8,8 +8,8 @@ use Rattle.nts_model.specs.declared.labels.ClauseHead.{ClauseHead}
 use Rattle.nts_model.specs.declared.labels.Label.{Label}
 use Rattle.nts_model.specs.declared.labels.Label.TheVariants as label
 use Rattle.nts_model.specs.declared.labels.ListHead.TheVariants as list
-use Rattle.nts_model.specs.Trees.{Tree, empty, more, node, children, NodeKind, kind_of, kind_of_label, row_length, row_push, IsRow, Place, Shape, in_order, each, shape, HavePlaces, AllFit, Meets}
-use Rattle.nts_model.specs.Related.{pair}
+use Rattle.nts_model.specs.Terms.Trees.{Tree, empty, more, node, children, NodeKind, kind_of, kind_of_label, row_length, row_push, IsRow, Place, Shape, in_order, each, shape, HavePlaces, AllFit, Meets}
+use Rattle.nts_model.specs.Derivations.Related.{pair}
 use Rattle.nts_store.specs.declared.nodes.NodeId.{NodeId}
 use Rattle.nts_store.specs.declared.replacement.Task.{Task}
 use Rattle.nts_store.specs.declared.replacement.Task.TheVariants as task

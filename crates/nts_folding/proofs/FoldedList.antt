@@ -2,7 +2,7 @@
 use Rattle.std.proofs.Common.{◌≡◌, suc, List, [], ◌∷◌, ◌++◌, map, Option, All, refl, sym, ap, ◌∙◌, arith, append_assoc}
 use Rattle.std.proofs.lemmas.List.{map-append}
 use Rattle.std.proofs.lemmas.List.Elements.{All-nil, All-push}
-use Rattle.nts_model.specs.Trees.{Tree, more, row_push}
+use Rattle.nts_model.specs.Terms.Trees.{Tree, more, row_push}
 use Rattle.nts_store.specs.Growth.{Extends}
 use Rattle.nts_folding.specs.FoldLaws.{list_holds, list_same}
 use Rattle.nts_folding.specs.Folding.{Walk, done, Stops, tree_of_list}

@@ -3,8 +3,8 @@ use Rattle.std.specs.Prelude.{◌≡◌, suc, List, [], ◌∷◌, map, All, ref
 use Rattle.std.proofs.Common.{arith}
 use Rattle.std.specs.Prelude.{Option, Some, None, IfSome, option_map}
 use Rattle.nts_model.specs.declared.labels.ClauseHead.{ClauseHead}
-use Rattle.nts_model.specs.Trees.{Tree, Place}
-use Rattle.nts_model.specs.Related.{pair}
+use Rattle.nts_model.specs.Terms.Trees.{Tree, Place}
+use Rattle.nts_model.specs.Derivations.Related.{pair}
 use Rattle.nts_terms.specs.Handles.{Holds}
 use Rattle.nts_folding.specs.Folding.{statement_about, tree_of_binder, tree_of_option, tree_of_list}
 use Rattle.nts_store.specs.declared.nodes.NodeId.{NodeId}

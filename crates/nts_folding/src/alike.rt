@@ -1,7 +1,7 @@
 //! Folders that take each sort alike, and do not mind binders.
 ghost use Rattle.std.specs.Prelude.{◌≡◌, List, Option, IfOk, IfErr, IfSome, Some, None, option_map};
 ghost use Rattle.std.specs.Allocator.{alloc_error};
-ghost use Rattle.nts_model.specs.Trees.{Tree};
+ghost use Rattle.nts_model.specs.Terms.Trees.{Tree};
 ghost use Rattle.nts_store.specs.Growth.{tree_at, Extends};
 ghost use Rattle.nts_terms.specs.Handles.{Holds};
 ghost use Rattle.nts_terms.specs.Rest.{Grows};

@@ -1,7 +1,7 @@
 //! One walk over terms, for all folders.
 ghost use Rattle.std.specs.Prelude.{◌≡◌, ◌++◌, ◌∷◌, [], List, Option, IfOk, IfErr, IfSome, OnOk, None, Some, option_map};
 ghost use Rattle.std.specs.Allocator.{alloc_error};
-ghost use Rattle.nts_model.specs.Trees.{Tree, node, children, kind_of, kind_of_label, shape, Meets, binders};
+ghost use Rattle.nts_model.specs.Terms.Trees.{Tree, node, children, kind_of, kind_of_label, shape, Meets, binders};
 ghost use Rattle.nts_store.specs.Growth.{tree_at, trees_at, IsIn, AllIn, Extends};
 ghost use Rattle.nts_terms.specs.Handles.{HoldsTy, HoldsRegion, HoldsConst, HoldsTerm, HoldsPredicate};
 ghost use Rattle.nts_folding.specs.Folding.{MayAnswer, AtBinder, Starts, HandsOver, ComesBack, Walk, Stops, CannotMake};

@@ -2,7 +2,7 @@
 ghost use Rattle.std.specs.Prelude.{◌≡◌, ◌↔◌, [], map, IfOk, IsOkUnless, Err};
 ghost use Rattle.nts_canonical.specs.Forms.{kind_of_var};
 ghost use Rattle.nts_response.specs.Forms.{HoldsResponse, response_at};
-ghost use Rattle.nts_model.specs.Driving.{unconstrained};
+ghost use Rattle.nts_model.specs.Searching.Driving.{unconstrained};
 ghost use Rattle.nts_terms.specs.Rest.{Grows};
 ghost use Rattle.nts_merging.specs.Merging.{doubt_of};
 

@@ -1,5 +1,5 @@
 //! What is true of canonical inputs.
-ghost use Rattle.nts_model.specs.Inputs.{FormsTellInputs, OriginalsGiveInput, OriginalsAreLeaves, MakingGivesForm};
+ghost use Rattle.nts_model.specs.Canonical.Inputs.{FormsTellInputs, OriginalsGiveInput, OriginalsAreLeaves, MakingGivesForm};
 
 /// Two inputs have equal canonical forms exactly where they are alike: where a renaming of leaves that
 /// keeps sorts maps the one to the other, and keeps the partition of type variables by sub root.

@@ -1,7 +1,7 @@
 -- What a call of the closure is to a walk.
 use Rattle.std.proofs.Common.{◌≡◌, ◌⊎◌, inl, inr, ◌+◌, true, length, All, Option, Some, option_map, Result, Ok, Err, IfOk, IfErr, refl, ap, ◌∙◌}
 use Rattle.nts_model.specs.declared.labels.Sort.{Sort}
-use Rattle.nts_model.specs.Trees.{Tree, IsClosed, IsClosedUnder}
+use Rattle.nts_model.specs.Terms.Trees.{Tree, IsClosed, IsClosedUnder}
 use Rattle.nts_store.specs.declared.fault.Fault.{Fault}
 use Rattle.nts_store.specs.declared.fault.Fault.TheVariants as fault
 use Rattle.nts_store.specs.declared.fault.EvalError.{EvalError}

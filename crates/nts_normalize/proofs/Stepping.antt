@@ -2,9 +2,9 @@
 use Rattle.std.proofs.Common.{◌≡◌, ◌∙◌, ℕ, zero, suc, ◌+◌, ◌<◌, List, [], ◌∷◌, ◌++◌, length, get_or, arith, map, All, Result, Ok, Err, IfOk, IfSome, Option, option_map, None, Some, refl, sym, ap}
 use Rattle.std.proofs.lemmas.List.{append-nil, append_assoc, map-append}
 use Rattle.std.proofs.lemmas.List.Elements.{All-append}
-use Rattle.nts_model.specs.Trees.{Tree, kind_of, kind_of_label, of_sort, sort_of_alias}
-use Rattle.nts_model.specs.Related.{alias_label}
-use Rattle.nts_model.specs.Resolving.{Knows}
+use Rattle.nts_model.specs.Terms.Trees.{Tree, kind_of, kind_of_label, of_sort, sort_of_alias}
+use Rattle.nts_model.specs.Derivations.Related.{alias_label}
+use Rattle.nts_model.specs.Tables.Resolving.{Knows}
 use Rattle.nts_store.specs.declared.nodes.NodeId.{NodeId}
 use Rattle.nts_store.specs.Growth.{tree_at, IsIn, Extends}
 use Rattle.nts_store.proofs.Growing.{Extends-trans}

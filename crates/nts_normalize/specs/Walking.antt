@@ -2,7 +2,7 @@
 use Rattle.std.specs.Prelude.{◌≡◌, suc, List, [], ◌∷◌, ◌++◌, All, map, refl}
 use Rattle.std.proofs.Common.{arith, sym, ap, ◌∙◌}
 use Rattle.std.proofs.lemmas.List.{append-nil, append_assoc}
-use Rattle.nts_model.specs.Trees.{Tree, is, environment, bound_predicate}
+use Rattle.nts_model.specs.Terms.Trees.{Tree, is, environment, bound_predicate}
 use Rattle.nts_store.specs.Growth.{Extends}
 use Rattle.nts_terms.specs.declared.cx.Cx.{Cx}
 use Rattle.nts_terms.specs.declared.handles.Goal.{Goal}

@@ -1,7 +1,7 @@
 //! The folder, which asks its closure for each alias.
 ghost use Rattle.std.specs.Prelude.{◌≡◌, ◌⊎◌, ◌↔◌, ◌++◌, Some, true, false, List, All, length, IfOk, IfErr, OnErr, OnOk, IfSome, IsTrue, IsOkUnless, option_map};
-ghost use Rattle.nts_model.specs.Trees.{kind_of, any_label, is_alias, IsClosed, IsClosedUnder};
-ghost use Rattle.nts_model.specs.Resolving.{Knows, deeply_resolved};
+ghost use Rattle.nts_model.specs.Terms.Trees.{kind_of, any_label, is_alias, IsClosed, IsClosedUnder};
+ghost use Rattle.nts_model.specs.Tables.Resolving.{Knows, deeply_resolved};
 ghost use Rattle.nts_store.specs.Growth.{tree_at, IsIn};
 ghost use Rattle.nts_terms.specs.Handles.{HoldsTerm, HoldsGoal, HoldsResult};
 ghost use Rattle.nts_terms.specs.Kinds.{tree_of_alias};

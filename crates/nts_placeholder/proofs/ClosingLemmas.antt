@@ -6,7 +6,7 @@ use Rattle.nts_model.specs.declared.labels.Constant.TheVariants as constant
 use Rattle.nts_model.specs.declared.labels.Leaf.TheVariants as leaf
 use Rattle.nts_model.specs.declared.labels.Label.{Label}
 use Rattle.nts_model.specs.declared.labels.Label.TheVariants as label
-use Rattle.nts_model.specs.Trees.{Tree, empty, more, node, binders, children, shape, in_order, HavePlaces, Meets, any_label, is_placeholder}
+use Rattle.nts_model.specs.Terms.Trees.{Tree, empty, more, node, binders, children, shape, in_order, HavePlaces, Meets, any_label, is_placeholder}
 use Rattle.nts_placeholder.specs.declared.maps.Placeholder.{Placeholder}
 use Rattle.nts_placeholder.specs.declared.maps.BoundVar.{BoundVar}
 use Rattle.nts_placeholder.specs.Closing.{placeholder_of, one_on, is_universe, entry_of, closed_placeholder, closed_label, closed_by}

@@ -10,7 +10,7 @@ use Rattle.nts_model.specs.declared.labels.Sort.{Sort}
 use Rattle.nts_model.specs.declared.labels.BoundVarIndexKind.TheVariants as index
 use Rattle.nts_model.specs.declared.labels.Label.{Label}
 use Rattle.nts_model.specs.declared.labels.Label.TheVariants as label
-use Rattle.nts_model.specs.Trees.{Tree, empty, more, node, binders, row_length, row_at, row_take, IsRow, IsBoundBelow, IsClosedUnder}
+use Rattle.nts_model.specs.Terms.Trees.{Tree, empty, more, node, binders, row_length, row_at, row_take, IsRow, IsBoundBelow, IsClosedUnder}
 use Rattle.nts_store.specs.Levels.{above}
 use Rattle.nts_store.proofs.Equal.{one_answer}
 use Rattle.nts_store.proofs.Growing.{row_take-all}

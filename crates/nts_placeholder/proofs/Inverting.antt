@@ -8,8 +8,8 @@ use Rattle.nts_model.specs.declared.labels.Sort.TheVariants as sort
 use Rattle.nts_model.specs.declared.labels.BoundVarIndexKind.TheVariants as index
 use Rattle.nts_model.specs.declared.labels.Label.{Label}
 use Rattle.nts_model.specs.declared.labels.Label.TheVariants as label
-use Rattle.nts_model.specs.Trees.{Tree, empty, more, node, binders, any_label, is_infer, is_region_infer, IsClosedUnder}
-use Rattle.nts_model.proofs.Kept.{deeply_resolved-no_variables}
+use Rattle.nts_model.specs.Terms.Trees.{Tree, empty, more, node, binders, any_label, is_infer, is_region_infer, IsClosedUnder}
+use Rattle.nts_model.proofs.Tables.Kept.{deeply_resolved-no_variables}
 use Rattle.nts_placeholder.specs.declared.maps.Placeholder.{Placeholder}
 use Rattle.nts_placeholder.specs.declared.maps.BoundVar.{BoundVar}
 use Rattle.nts_placeholder.specs.Closing.{placeholder_of, one_on, is_universe, entry_of, closed_at, closed_placeholder, closed_label, closed_by}

@@ -1,9 +1,9 @@
 -- What is opened is known to the table afterwards.
 use Rattle.std.proofs.Common.{◌≡◌, ℕ, zero, suc, ◌+◌, ◌≤◌, Bool, List, [], ◌∷◌, Option, Some, None, sym, ap, subst, ◌∙◌, arith}
 use Rattle.nts_model.specs.declared.labels.Sort.{Sort}
-use Rattle.nts_model.specs.Trees.{Tree}
-use Rattle.nts_model.specs.Contents.{Content, kind_at}
-use Rattle.nts_model.specs.Resolving.{Knows}
+use Rattle.nts_model.specs.Terms.Trees.{Tree}
+use Rattle.nts_model.specs.Tables.Contents.{Content, kind_at}
+use Rattle.nts_model.specs.Tables.Resolving.{Knows}
 use Rattle.nts_store.specs.Growth.{Extends}
 use Rattle.nts_unify.specs.Entries.{Entries}
 use Rattle.nts_unify.specs.Reading.{content_of, IsLawful}

@@ -6,8 +6,8 @@ use Rattle.nts_model.specs.declared.labels.TyHead.TheVariants as ty
 use Rattle.nts_model.specs.declared.labels.ListHead.TheVariants as list
 use Rattle.nts_model.specs.declared.labels.Label.{Label}
 use Rattle.nts_model.specs.declared.labels.Label.TheVariants as label
-use Rattle.nts_model.specs.Trees.{Tree, empty, more, node, size, kind_of, children, row_length, row_at, binders, IsRow, Shape, in_order, each, shape, HavePlaces, AllFit, Meets}
-use Rattle.nts_model.specs.Trees.{Place as TreePlace}
+use Rattle.nts_model.specs.Terms.Trees.{Tree, empty, more, node, size, kind_of, children, row_length, row_at, binders, IsRow, Shape, in_order, each, shape, HavePlaces, AllFit, Meets}
+use Rattle.nts_model.specs.Terms.Trees.{Place as TreePlace}
 use Rattle.nts_store.specs.declared.nodes.NodeId.{NodeId}
 use Rattle.nts_store.specs.Growth.{tree_at, trees_at, IsIn, AllIn, Extends}
 use Rattle.nts_store.specs.Kept.{map-kept}

@@ -12,7 +12,7 @@ use Rattle.nts_model.specs.declared.labels.Leaf.TheVariants as leaf
 use Rattle.nts_model.specs.declared.labels.BoundVarIndexKind.TheVariants as index
 use Rattle.nts_model.specs.declared.labels.Label.{Label}
 use Rattle.nts_model.specs.declared.labels.Label.TheVariants as label
-use Rattle.nts_model.specs.Trees.{Tree, empty, more, node, binders}
+use Rattle.nts_model.specs.Terms.Trees.{Tree, empty, more, node, binders}
 use Rattle.nts_placeholder.specs.declared.maps.Placeholder.{Placeholder}
 use Rattle.nts_placeholder.specs.declared.maps.BoundVar.{BoundVar}
 use Rattle.nts_placeholder.specs.declared.maps.PlaceholderMaps.{PlaceholderMaps}

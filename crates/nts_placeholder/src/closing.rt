@@ -1,6 +1,6 @@
 //! Placeholders closed to bound variables.
 ghost use Rattle.std.specs.Prelude.{◌≡◌, ◌<◌, ◌^◌, ℕ, Option, Some, IfOk, IsOkUnless};
-ghost use Rattle.nts_model.specs.Resolving.{Knows, deeply_resolved};
+ghost use Rattle.nts_model.specs.Tables.Resolving.{Knows, deeply_resolved};
 ghost use Rattle.nts_store.specs.Growth.{tree_at, IsIn, Extends};
 ghost use Rattle.nts_terms.specs.Handles.{Holds};
 ghost use Rattle.nts_terms.specs.Rest.{Grows};

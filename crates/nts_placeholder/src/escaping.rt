@@ -1,7 +1,7 @@
 //! The bound variables of a value whose binders stand outside of it.
 ghost use Rattle.std.specs.Prelude.{◌≡◌, ◌↔◌, ◌≤◌, ◌||◌, IfOk, IsTrue, OnOk, length};
 ghost use Rattle.nts_model.specs.declared.labels.Sort.{Sort};
-ghost use Rattle.nts_model.specs.Trees.{IsClosedUnder};
+ghost use Rattle.nts_model.specs.Terms.Trees.{IsClosedUnder};
 ghost use Rattle.nts_store.specs.Growth.{tree_at, IsIn};
 ghost use Rattle.nts_store.specs.Levels.{above};
 ghost use Rattle.nts_placeholder.specs.declared.maps.BoundVar.{BoundVar};

@@ -3,7 +3,7 @@ ghost use Rattle.std.specs.Prelude.{◌≡◌, ◌↔◌, IsTrue, ◌+◌, ◌<�
 ghost use Rattle.nts_model.specs.declared.labels.Sort.{Sort};
 ghost use Rattle.nts_model.specs.declared.labels.BoundVarIndexKind.TheVariants as index;
 ghost use Rattle.nts_model.specs.declared.labels.Label.TheVariants as label;
-ghost use Rattle.nts_model.specs.Trees.{Tree, node, empty, IsClosedUnder};
+ghost use Rattle.nts_model.specs.Terms.Trees.{Tree, node, empty, IsClosedUnder};
 ghost use Rattle.nts_store.specs.Growth.{tree_at, IsIn, Extends};
 ghost use Rattle.nts_terms.specs.Handles.{Holds};
 ghost use Rattle.nts_terms.specs.Rest.{Grows};

@@ -2,7 +2,7 @@
 ghost use Rattle.std.specs.Prelude.{◌≡◌, ◌++◌, ◌^◌, ◌<◌, ◌≤◌, [], ℕ, None, length, IfOk, OnOk};
 ghost use Rattle.std.specs.HashMap.{get};
 ghost use Rattle.nts_placeholder.specs.declared.under.Place.{Place};
-ghost use Rattle.nts_model.specs.Trees.{Tree, empty, more, kind_of};
+ghost use Rattle.nts_model.specs.Terms.Trees.{Tree, empty, more, kind_of};
 ghost use Rattle.nts_store.specs.Growth.{tree_at, IsIn, Extends};
 ghost use Rattle.nts_store.specs.Replacement.{IsFormedNode};
 ghost use Rattle.nts_placeholder.specs.Under.{IsStepUnder, jobs, AreTasks, building};

@@ -1,7 +1,7 @@
 -- Why a goal is answered `yes`.
 use Rattle.std.proofs.Common.{List, All, Result, Ok, Err, subst, sym}
 use Rattle.std.specs.Prelude.{IfOk}
-use Rattle.nts_model.specs.Trees.{Tree}
+use Rattle.nts_model.specs.Terms.Trees.{Tree}
 use Rattle.nts_terms.specs.declared.handles.GenericArg.{GenericArg}
 use Rattle.nts_terms.specs.declared.handles.Goal.{Goal}
 use Rattle.nts_store.specs.Growth.{Extends}

@@ -1,9 +1,9 @@
 -- Why a goal is answered as it is.
 use Rattle.std.specs.Prelude.{◌≡◌, ℕ, List, [], All}
 use Rattle.nts_model.specs.declared.labels.Variance.{Variance}
-use Rattle.nts_model.specs.Handlers.{meaning}
-use Rattle.nts_model.specs.Stacks.{HasHeldRankedProof}
-use Rattle.nts_model.specs.Trees.{Tree}
+use Rattle.nts_model.specs.Derivations.Handlers.{meaning}
+use Rattle.nts_model.specs.Searching.Stacks.{HasHeldRankedProof}
+use Rattle.nts_model.specs.Terms.Trees.{Tree}
 use Rattle.nts_terms.specs.declared.handles.GenericArg.{GenericArg}
 use Rattle.nts_terms.specs.declared.handles.Goal.{Goal}
 use Rattle.nts_terms.specs.declared.modes.TypingMode.{TypingMode}

@@ -1,6 +1,6 @@
 //! Asking a goal.
 ghost use Rattle.std.specs.Prelude.{◌≡◌, All, List, length, map, None, Some, IfOk, OnOk};
-ghost use Rattle.nts_model.specs.Trees.{Tree};
+ghost use Rattle.nts_model.specs.Terms.Trees.{Tree};
 ghost use Rattle.nts_store.specs.Growth.{Extends};
 ghost use Rattle.nts_table.specs.Tables.{IsTable};
 ghost use Rattle.nts_terms.specs.Handles.{HoldsGoal};

@@ -2,10 +2,10 @@
 use Rattle.std.proofs.Common.{◌≡◌, inl, inr, ℕ, zero, suc, ◌+◌, ◌<◌, List, [], ◌∷◌, ◌++◌, map, length, get_or, take, refl, sym, ap, ◌∙◌, arith}
 use Rattle.std.proofs.lemmas.List.{map-append, take_more}
 use Rattle.std.proofs.lemmas.List.Elements.{All-push}
-use Rattle.nts_model.specs.Trees.{Tree}
-use Rattle.nts_model.specs.Sequents.{Among}
-use Rattle.nts_model.specs.Passing.{TreePasses}
-use Rattle.nts_model.specs.Handlers.{filled, premise_by}
+use Rattle.nts_model.specs.Terms.Trees.{Tree}
+use Rattle.nts_model.specs.Derivations.Sequents.{Among}
+use Rattle.nts_model.specs.Tables.Passing.{TreePasses}
+use Rattle.nts_model.specs.Derivations.Handlers.{filled, premise_by}
 use Rattle.nts_model.specs.declared.labels.Sort.{Sort}
 use Rattle.nts_certainty.specs.declared.sources.GoalSource.{GoalSource}
 use Rattle.nts_store.specs.declared.nodes.NodeId.{NodeId}

@@ -2,8 +2,8 @@
 use Rattle.std.proofs.Common.{◌≡◌, ◌↔◌, Bool, true, false, List, is_some, refl, ap}
 use Rattle.std.specs.Prelude.{IsTrue}
 use Rattle.nts_model.specs.declared.labels.Label.{Label}
-use Rattle.nts_model.specs.Trees.{Tree, empty, more, node, any_label}
-use Rattle.nts_model.specs.Resolving.{Knows}
+use Rattle.nts_model.specs.Terms.Trees.{Tree, empty, more, node, any_label}
+use Rattle.nts_model.specs.Tables.Resolving.{Knows}
 use Rattle.nts_store.specs.declared.type_flags.TypeFlags.{TypeFlags}
 use Rattle.nts_store.specs.declared.nodes.NodeId.{NodeId}
 use Rattle.nts_store.specs.TypeFlags.{flags_of, escaping}

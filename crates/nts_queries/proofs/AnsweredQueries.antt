@@ -2,24 +2,24 @@
 use Rattle.std.proofs.Common.{◌≡◌, ⊎_elim, inl, inr, List, [], ◌∷◌, sym, ap, ◌∙◌, subst, arith}
 use Rattle.std.specs.Prelude.{All}
 use Rattle.std.proofs.lemmas.List.Elements.{All-head, All-tail, All-cons}
-use Rattle.nts_model.specs.Proofs.{Assumed}
-use Rattle.nts_model.specs.Stacks.{IsProvedFrom, IsDerivedFrom}
-use Rattle.nts_model.specs.Proving.{sequent_at}
-use Rattle.nts_model.specs.Responses.{response_of}
-use Rattle.nts_model.proofs.Closing.{said_instance}
-use Rattle.nts_model.proofs.Assuming.{derived_instance}
-use Rattle.nts_model.specs.Trees.{Tree, more}
-use Rattle.nts_model.specs.Contents.{Content}
-use Rattle.nts_model.specs.Resolving.{Knows}
-use Rattle.nts_model.specs.Sequents.{Among}
-use Rattle.nts_model.specs.Holding.{Continues}
-use Rattle.nts_model.specs.Rules.{Meaning, Mode}
-use Rattle.nts_model.specs.Handlers.{filled}
-use Rattle.nts_model.specs.Inputs.{CanonicalInput as Form, PositionKind}
-use Rattle.nts_model.specs.Passing.{TreePasses, TablePasses, BringsOnly}
-use Rattle.nts_model.specs.Responses.{Response as Answer, IsQueryTable, IsOverPositions, answer_sequent}
-use Rattle.nts_model.proofs.Querying.{all_plain, own_in}
-use Rattle.nts_model.proofs.Slots.{Knows-kept}
+use Rattle.nts_model.specs.Derivations.Proofs.{Assumed}
+use Rattle.nts_model.specs.Searching.Stacks.{IsProvedFrom, IsDerivedFrom}
+use Rattle.nts_model.specs.Derivations.Proving.{sequent_at}
+use Rattle.nts_model.specs.Answers.Responses.{response_of}
+use Rattle.nts_model.proofs.Responses.Closing.{said_instance}
+use Rattle.nts_model.proofs.Derivations.Assuming.{derived_instance}
+use Rattle.nts_model.specs.Terms.Trees.{Tree, more}
+use Rattle.nts_model.specs.Tables.Contents.{Content}
+use Rattle.nts_model.specs.Tables.Resolving.{Knows}
+use Rattle.nts_model.specs.Derivations.Sequents.{Among}
+use Rattle.nts_model.specs.Tables.Holding.{Continues}
+use Rattle.nts_model.specs.Derivations.Rules.{Meaning, Mode}
+use Rattle.nts_model.specs.Derivations.Handlers.{filled}
+use Rattle.nts_model.specs.Canonical.Inputs.{CanonicalInput as Form, PositionKind}
+use Rattle.nts_model.specs.Tables.Passing.{TreePasses, TablePasses, BringsOnly}
+use Rattle.nts_model.specs.Answers.Responses.{Response as Answer, IsQueryTable, IsOverPositions, answer_sequent}
+use Rattle.nts_model.proofs.Responses.Querying.{all_plain, own_in}
+use Rattle.nts_model.proofs.Tables.Slots.{Knows-kept}
 use Rattle.nts_store.specs.Formed.{AreFormed}
 use Rattle.nts_store.specs.Growth.{tree_at, Extends}
 use Rattle.nts_store.proofs.Growing.{IsIn-extended}

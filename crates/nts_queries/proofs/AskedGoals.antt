@@ -5,20 +5,20 @@ use Rattle.std.specs.Global.{Vec}
 use Rattle.std.proofs.lemmas.List.Elements.{All-head, All-tail, All-cons}
 use Rattle.nts_model.specs.declared.labels.Leaf.{Leaf}
 use Rattle.nts_model.specs.declared.labels.Label.{Label}
-use Rattle.nts_model.specs.Trees.{Tree, empty, IsClosed}
-use Rattle.nts_model.specs.Contents.{Content}
-use Rattle.nts_model.specs.Substitutions.{leaf_tree, Occurs}
-use Rattle.nts_model.specs.Sequents.{Among}
-use Rattle.nts_model.specs.Rules.{Meaning, Mode}
-use Rattle.nts_model.specs.Handlers.{Handler}
-use Rattle.nts_model.specs.Proofs.{Assumed}
-use Rattle.nts_model.specs.Stacks.{IsProvedFrom, IsDerivedFrom}
-use Rattle.nts_model.proofs.AskedFrom.{asked_proved_from, proved_from_continues}
-use Rattle.nts_model.specs.Inputs.{Input, IsInput, CanonicalInput as Form, OccursIn, originals, canonical_of}
-use Rattle.nts_model.specs.Passing.{TreePasses, BringsOnly}
-use Rattle.nts_model.specs.Responses.{Response as Answer, RefusesResponse, answer_sequent, IsIdentity}
-use Rattle.nts_model.proofs.Bringing.{passes-leaf}
-use Rattle.nts_model.proofs.CanonicalForms.{originals_are_leaves}
+use Rattle.nts_model.specs.Terms.Trees.{Tree, empty, IsClosed}
+use Rattle.nts_model.specs.Tables.Contents.{Content}
+use Rattle.nts_model.specs.Terms.Substitutions.{leaf_tree, Occurs}
+use Rattle.nts_model.specs.Derivations.Sequents.{Among}
+use Rattle.nts_model.specs.Derivations.Rules.{Meaning, Mode}
+use Rattle.nts_model.specs.Derivations.Handlers.{Handler}
+use Rattle.nts_model.specs.Derivations.Proofs.{Assumed}
+use Rattle.nts_model.specs.Searching.Stacks.{IsProvedFrom, IsDerivedFrom}
+use Rattle.nts_model.proofs.Responses.AskedFrom.{asked_proved_from, proved_from_continues}
+use Rattle.nts_model.specs.Canonical.Inputs.{Input, IsInput, CanonicalInput as Form, OccursIn, originals, canonical_of}
+use Rattle.nts_model.specs.Tables.Passing.{TreePasses, BringsOnly}
+use Rattle.nts_model.specs.Answers.Responses.{Response as Answer, RefusesResponse, answer_sequent, IsIdentity}
+use Rattle.nts_model.proofs.Responses.Bringing.{passes-leaf}
+use Rattle.nts_model.proofs.Canonical.CanonicalForms.{originals_are_leaves}
 use Rattle.nts_certainty.specs.declared.sources.HasChanged.{HasChanged}
 use Rattle.nts_certainty.specs.declared.sources.HasChanged.TheVariants as changes
 use Rattle.nts_store.specs.Formed.{AreFormed}

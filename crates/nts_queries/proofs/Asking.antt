@@ -1,17 +1,17 @@
 -- Which goals are asked of a handler.
 use Rattle.std.proofs.Common.{◌≡◌, inl, inr, ℕ, suc, ◌<◌, ◌≤◌, ◌||◌, Bool, true, false, List, is_some, refl, sym, ap, ◌∙◌, subst, arith}
 use Rattle.std.specs.Prelude.{◌≢◌, if◌then◌else◌}
-use Rattle.nts_model.specs.Rules.{Meaning, coinductive_trait, other_goal, normalization, statement_kind, statement_of, goal_kind}
+use Rattle.nts_model.specs.Derivations.Rules.{Meaning, coinductive_trait, other_goal, normalization, statement_kind, statement_of, goal_kind}
 use Rattle.nts_search.specs.declared.kinds.CurrentGoalKind.{CurrentGoalKind}
 use Rattle.nts_search.specs.declared.kinds.CurrentGoalKind.TheVariants as kinds
 use Rattle.nts_search.specs.Kinds.{goal_kind_of}
 use Rattle.nts_model.specs.declared.labels.ClauseHead.TheVariants as clause_head
 use Rattle.nts_model.specs.declared.labels.ListHead.TheVariants as list
 use Rattle.nts_model.specs.declared.labels.Label.TheVariants as label
-use Rattle.nts_model.specs.Trees.{Tree, empty, more, node, children, row_length, row_at, IsInRow, IsRow, any_label, is_canonical, IsClosed}
-use Rattle.nts_model.specs.Scoping.{IsWellBound}
-use Rattle.nts_model.specs.Related.{no_sorts, unbound}
-use Rattle.nts_model.specs.Sequents.{HasClosedStatement, HasClosedStatements}
+use Rattle.nts_model.specs.Terms.Trees.{Tree, empty, more, node, children, row_length, row_at, IsInRow, IsRow, any_label, is_canonical, IsClosed}
+use Rattle.nts_model.specs.Terms.Scoping.{IsWellBound}
+use Rattle.nts_model.specs.Derivations.Related.{no_sorts, unbound}
+use Rattle.nts_model.specs.Derivations.Sequents.{HasClosedStatement, HasClosedStatements}
 use Rattle.nts_store.specs.declared.type_flags.TypeFlags.{TypeFlags}
 use Rattle.nts_terms.specs.declared.handles.Binder.{Binder}
 use Rattle.nts_terms.specs.declared.handles.Goal.{Goal}

@@ -1,22 +1,22 @@
 -- What a cycle is answered.
 use Rattle.std.proofs.Common.{◌≡◌, inl, inr, ℕ, zero, suc, ◌-◌, ◌<◌, List, [], ◌∷◌, map, length, get_or, Option, Some, None, refl, sym, ap, ◌∙◌, subst, arith}
 use Rattle.std.specs.Prelude.{slice_get, All, reverse}
-use Rattle.nts_model.specs.Trees.{Tree}
-use Rattle.nts_model.specs.Rules.{Meaning, Mode}
-use Rattle.nts_model.specs.Proofs.{Assumed, passed}
-use Rattle.nts_model.specs.Handlers.{certain}
-use Rattle.nts_model.specs.Sequents.{PathKind, coinductive, unknown, inductive, forced_ambiguity}
-use Rattle.nts_model.specs.Inputs.{PositionKind, CanonicalInput as Form}
-use Rattle.nts_model.specs.Responses.{Response as Answer, answer_sequent, IsResponseTo, IsOverPositions}
-use Rattle.nts_model.specs.Stacks.{Entry, IsDerivedFrom, IsUsable, assumptions, path_kind, stronger}
-use Rattle.nts_model.specs.Driving.{as_read, marked}
-use Rattle.nts_model.proofs.Composing.{itself}
-use Rattle.nts_model.proofs.Driving.{get-marked}
-use Rattle.nts_model.proofs.Ordered.{get_reversed}
+use Rattle.nts_model.specs.Terms.Trees.{Tree}
+use Rattle.nts_model.specs.Derivations.Rules.{Meaning, Mode}
+use Rattle.nts_model.specs.Derivations.Proofs.{Assumed, passed}
+use Rattle.nts_model.specs.Derivations.Handlers.{certain}
+use Rattle.nts_model.specs.Derivations.Sequents.{PathKind, coinductive, unknown, inductive, forced_ambiguity}
+use Rattle.nts_model.specs.Canonical.Inputs.{PositionKind, CanonicalInput as Form}
+use Rattle.nts_model.specs.Answers.Responses.{Response as Answer, answer_sequent, IsResponseTo, IsOverPositions}
+use Rattle.nts_model.specs.Searching.Stacks.{Entry, IsDerivedFrom, IsUsable, assumptions, path_kind, stronger}
+use Rattle.nts_model.specs.Searching.Driving.{as_read, marked}
+use Rattle.nts_model.proofs.Terms.Composing.{itself}
+use Rattle.nts_model.proofs.Searching.Driving.{get-marked}
+use Rattle.nts_model.proofs.Searching.Ordered.{get_reversed}
 use Rattle.indexmap.proofs.ReorderLemmas.{map-reverse}
 use Rattle.std.proofs.lemmas.Option.{slice_get-get_or}
 use Rattle.std.proofs.lemmas.List.{length-map}
-use Rattle.nts_model.proofs.Stacks.{answer_itself, back_usable}
+use Rattle.nts_model.proofs.Searching.Stacks.{answer_itself, back_usable}
 use Rattle.nts_certainty.specs.declared.sources.PathKind.{PathKind as PathKindData}
 use Rattle.nts_certainty.specs.declared.sources.PathKind.TheVariants as path
 use Rattle.nts_certainty.specs.declared.certainty.Certainty.TheVariants as certainty
@@ -34,8 +34,8 @@ use Rattle.std.specs.Prelude.{Result, Ok, Err, IfSome, IsNone, ◌⊎◌, ◌↔
 use Rattle.std.proofs.lemmas.List.Elements.{All-cons, All-head, All-tail}
 use Rattle.nts_store.specs.declared.fault.EvalError.{EvalError}
 use Rattle.nts_store.specs.declared.fault.EvalError.TheVariants as error
-use Rattle.nts_model.specs.Rules.{coherence}
-use Rattle.nts_model.specs.Driving.{unconstrained}
+use Rattle.nts_model.specs.Derivations.Rules.{coherence}
+use Rattle.nts_model.specs.Searching.Driving.{unconstrained}
 use Rattle.nts_terms.specs.declared.cx.Cx.{Cx}
 use Rattle.nts_terms.specs.Modes.{mode_of}
 use Rattle.nts_canonical.specs.Alike.{AreOneInput}

@@ -3,12 +3,12 @@ use Rattle.std.proofs.Common.{◌≡◌, ◌⊎◌, inl, inr, ℕ, zero, suc, �
 use Rattle.std.proofs.lemmas.List.{take_more}
 use Rattle.nts_model.specs.declared.labels.Relation.{Relation}
 use Rattle.nts_model.specs.declared.labels.Relation.TheVariants as relation
-use Rattle.nts_model.specs.Trees.{Tree}
-use Rattle.nts_model.specs.Contents.{Content, with_constraint}
-use Rattle.nts_model.specs.Equations.{AreRelated, AreUnrelated}
-use Rattle.nts_model.specs.Related.{Constraint}
-use Rattle.nts_model.specs.Handlers.{filled, constraint_by}
-use Rattle.nts_model.specs.Forcing.{seen_as, Adds, AddsBy, AddsAll}
+use Rattle.nts_model.specs.Terms.Trees.{Tree}
+use Rattle.nts_model.specs.Tables.Contents.{Content, with_constraint}
+use Rattle.nts_model.specs.Tables.Equations.{AreRelated, AreUnrelated}
+use Rattle.nts_model.specs.Derivations.Related.{Constraint}
+use Rattle.nts_model.specs.Derivations.Handlers.{filled, constraint_by}
+use Rattle.nts_model.specs.Refutation.Forcing.{seen_as, Adds, AddsBy, AddsAll}
 use Rattle.nts_store.specs.declared.nodes.NodeId.{NodeId}
 use Rattle.nts_store.specs.Growth.{tree_at, IsIn, AllIn, Extends}
 use Rattle.nts_store.specs.Kept.{map-kept}

@@ -9,15 +9,15 @@ use Rattle.nts_model.specs.declared.labels.ClauseHead.TheVariants as clause
 use Rattle.nts_model.specs.declared.labels.ListHead.TheVariants as list
 use Rattle.nts_model.specs.declared.labels.Label.{Label}
 use Rattle.nts_model.specs.declared.labels.Label.TheVariants as label
-use Rattle.nts_model.specs.Trees.{Tree, empty, more, node, children, IsRow, row_length, binders, IsBoundBelow, IsClosed, IsClosedUnder, IsFormed}
-use Rattle.nts_model.specs.Contents.{Content, in_universe}
-use Rattle.nts_model.specs.Resolving.{Knows}
-use Rattle.nts_model.specs.Related.{unbound}
-use Rattle.nts_model.specs.Substitutions.{leaf_tree}
-use Rattle.nts_model.specs.Rules.{opened, opened_at, statement_of}
-use Rattle.nts_model.specs.Opening.{binds, placeholder_in, entered, opened_in}
-use Rattle.nts_model.proofs.Held.{Continues-in_universe}
-use Rattle.nts_model.proofs.Scoping.{closed_listed}
+use Rattle.nts_model.specs.Terms.Trees.{Tree, empty, more, node, children, IsRow, row_length, binders, IsBoundBelow, IsClosed, IsClosedUnder, IsFormed}
+use Rattle.nts_model.specs.Tables.Contents.{Content, in_universe}
+use Rattle.nts_model.specs.Tables.Resolving.{Knows}
+use Rattle.nts_model.specs.Derivations.Related.{unbound}
+use Rattle.nts_model.specs.Terms.Substitutions.{leaf_tree}
+use Rattle.nts_model.specs.Derivations.Rules.{opened, opened_at, statement_of}
+use Rattle.nts_model.specs.Refutation.Opening.{binds, placeholder_in, entered, opened_in}
+use Rattle.nts_model.proofs.Tables.Held.{Continues-in_universe}
+use Rattle.nts_model.proofs.Terms.Scoping.{closed_listed}
 use Rattle.nts_store.specs.Growth.{tree_at, Extends}
 use Rattle.nts_terms.specs.declared.handles.Binder.{Binder}
 use Rattle.nts_terms.specs.declared.handles.TraitRef.{TraitRef}
@@ -35,7 +35,7 @@ use Rattle.nts_table.specs.Frames.{ChangesEntries}
 use Rattle.nts_placeholder.specs.Opening.{placeholder_label, opened_label, opened_by, universe_at}
 use Rattle.nts_placeholder.specs.declared.maps.BoundVar.{BoundVar}
 use Rattle.nts_placeholder.specs.Knowing.{NamesListed, IsKnownAfter}
-use Rattle.nts_model.proofs.Slots.{Knows-kept}
+use Rattle.nts_model.proofs.Tables.Slots.{Knows-kept}
 use Rattle.nts_placeholder.specs.Universes.{filled, open_before, AreFilled}
 use Rattle.nts_terms.specs.declared.handles.Goal.{Goal}
 use Rattle.nts_terms.specs.declared.handles.Predicate.{Predicate}

@@ -2,35 +2,35 @@
 use Rattle.std.proofs.Math.Seq.{take-append_seam}
 use Rattle.std.proofs.Common.{◌≡◌, ◌-◌, inl, inr, ℕ, zero, suc, ◌<◌, List, [], ◌∷◌, ◌++◌, length, map, get_or, Option, Some, None, refl, sym, ap, ◌∙◌, arith, length-append}
 use Rattle.std.specs.Prelude.{Bool, slice_get, Result, Ok, Err, IfOk, OnOk, OnErr}
-use Rattle.nts_model.specs.Equations.{AreRelated}
+use Rattle.nts_model.specs.Tables.Equations.{AreRelated}
 use Rattle.nts_model.specs.declared.labels.Sort.{Sort}
 use Rattle.nts_model.specs.declared.labels.Relation.TheVariants as relation
 use Rattle.nts_model.specs.declared.labels.Label.{Label}
-use Rattle.nts_model.specs.Trees.{Tree, empty, more, node, kind_of, kind_of_label, of_sort, NodeKind, environment, bound_predicate, IsClosed}
-use Rattle.nts_model.specs.Contents.{Content, with_slot, kind_at}
-use Rattle.nts_model.specs.Resolving.{Knows, variable_tree, deeply_resolved}
+use Rattle.nts_model.specs.Terms.Trees.{Tree, empty, more, node, kind_of, kind_of_label, of_sort, NodeKind, environment, bound_predicate, IsClosed}
+use Rattle.nts_model.specs.Tables.Contents.{Content, with_slot, kind_at}
+use Rattle.nts_model.specs.Tables.Resolving.{Knows, variable_tree, deeply_resolved}
 use Rattle.nts_store.specs.declared.nodes.NodeId.{NodeId}
 use Rattle.nts_terms.specs.declared.handles.Goal.{Goal}
 use Rattle.nts_store.specs.Growth.{tree_at, trees_at, IsIn, AllIn, Extends}
 use Rattle.nts_terms.specs.Handles.{Holds}
 use Rattle.nts_store.specs.Kept.{AllIn-kept, map-kept}
 use Rattle.nts_store.specs.Filled.{HasValue, HasValues}
-use Rattle.nts_model.specs.Rules.{Mode}
-use Rattle.nts_model.specs.Sequents.{Among}
-use Rattle.nts_model.specs.Passing.{TreePasses, PassesQueries}
-use Rattle.nts_model.specs.Handlers.{Handler, position_of, filled, IsValueOf, AreValuesOf, IsOfSort, NamesAt, NamesFresh}
-use Rattle.nts_model.specs.Regions.{of_variable}
+use Rattle.nts_model.specs.Derivations.Rules.{Mode}
+use Rattle.nts_model.specs.Derivations.Sequents.{Among}
+use Rattle.nts_model.specs.Tables.Passing.{TreePasses, PassesQueries}
+use Rattle.nts_model.specs.Derivations.Handlers.{Handler, position_of, filled, IsValueOf, AreValuesOf, IsOfSort, NamesAt, NamesFresh}
+use Rattle.nts_model.specs.Terms.Regions.{of_variable}
 use Rattle.nts_store.proofs.Growing.{Extends-trans, Extends-refl, IsIn-extended}
 use Rattle.nts_unify.specs.Entries.{front, Entries, added, constrained}
 use Rattle.nts_table.specs.Tables.{Table}
 use Rattle.nts_unify.specs.declared.contents.Constraint.{Constraint}
-use Rattle.nts_model.proofs.Kept.{kind_of-deeply_resolved}
-use Rattle.nts_model.proofs.Open.{Knows-deeply_resolved}
-use Rattle.nts_model.specs.Resolving.{IsSound}
-use Rattle.nts_model.specs.Holding.{Continues}
-use Rattle.nts_model.proofs.Held.{Continues-refl, Continues-trans, Continues-with_slot, Continues-with_constraint}
-use Rattle.nts_model.proofs.Sound.{IsSound-with_slot}
-use Rattle.nts_model.proofs.Slots.{KeepsKinds, KeepsKinds-with_slot, field-with_slot_new, KeepsKinds-refl, KeepsKinds-trans, Knows-kept}
+use Rattle.nts_model.proofs.Tables.Kept.{kind_of-deeply_resolved}
+use Rattle.nts_model.proofs.Tables.Open.{Knows-deeply_resolved}
+use Rattle.nts_model.specs.Tables.Resolving.{IsSound}
+use Rattle.nts_model.specs.Tables.Holding.{Continues}
+use Rattle.nts_model.proofs.Tables.Held.{Continues-refl, Continues-trans, Continues-with_slot, Continues-with_constraint}
+use Rattle.nts_model.proofs.Tables.Sound.{IsSound-with_slot}
+use Rattle.nts_model.proofs.Tables.Slots.{KeepsKinds, KeepsKinds-with_slot, field-with_slot_new, KeepsKinds-refl, KeepsKinds-trans, Knows-kept}
 use Rattle.nts_unify.proofs.SavedLemmas.{push_inj}
 use Rattle.nts_table.proofs.GoingBack.{back_to}
 use Rattle.nts_table.proofs.Filling.{knows-filled}

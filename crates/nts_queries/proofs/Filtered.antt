@@ -3,14 +3,14 @@ use Rattle.std.proofs.Common.{◌≡◌, ◌⊎◌, ◌↔◌, inl, inr, List, [
 use Rattle.std.specs.Prelude.{All, IsTrue, if◌then◌else◌}
 use Rattle.std.proofs.lemmas.List.{map_push}
 use Rattle.nts_model.specs.declared.labels.Sort.{Sort}
-use Rattle.nts_model.specs.Trees.{Tree}
-use Rattle.nts_model.specs.Contents.{Content}
-use Rattle.nts_model.specs.Sequents.{Among}
-use Rattle.nts_model.specs.Rules.{Mode}
-use Rattle.nts_model.specs.Handlers.{Candidate, Handler}
-use Rattle.nts_model.specs.Choosing.{IsMet, MeetsEquations}
-use Rattle.nts_model.specs.Responses.{Response as Answer}
-use Rattle.nts_model.proofs.Choosing.{met_when_equated}
+use Rattle.nts_model.specs.Terms.Trees.{Tree}
+use Rattle.nts_model.specs.Tables.Contents.{Content}
+use Rattle.nts_model.specs.Derivations.Sequents.{Among}
+use Rattle.nts_model.specs.Derivations.Rules.{Mode}
+use Rattle.nts_model.specs.Derivations.Handlers.{Candidate, Handler}
+use Rattle.nts_model.specs.Refutation.Choosing.{IsMet, MeetsEquations}
+use Rattle.nts_model.specs.Answers.Responses.{Response as Answer}
+use Rattle.nts_model.proofs.Refutation.Choosing.{met_when_equated}
 use Rattle.nts_store.specs.declared.nodes.NodeId.{NodeId}
 use Rattle.nts_store.specs.Formed.{AreFormed}
 use Rattle.nts_store.specs.Growth.{tree_at, Extends}

@@ -6,15 +6,15 @@ use Rattle.nts_model.specs.declared.labels.Leaf.{Leaf}
 use Rattle.nts_model.specs.declared.labels.Leaf.TheVariants as leaf
 use Rattle.nts_model.specs.declared.labels.Label.{Label}
 use Rattle.nts_model.specs.declared.labels.Label.TheVariants as label
-use Rattle.nts_model.specs.Trees.{Tree}
-use Rattle.nts_model.specs.Contents.{Content}
-use Rattle.nts_model.specs.Resolving.{deeply_resolved}
-use Rattle.nts_model.specs.Sequents.{Among}
-use Rattle.nts_model.specs.Related.{pair}
-use Rattle.nts_model.specs.Handlers.{IsFixed}
-use Rattle.nts_model.specs.Passing.{TreePasses, PassesQueries, BringsLabelsOf, BringsOnly}
-use Rattle.nts_model.proofs.Passing.{passes-deeply_resolved}
-use Rattle.nts_model.proofs.Bringing.{query_variables, only-of, only-refl, passes-filled, passes-leaf}
+use Rattle.nts_model.specs.Terms.Trees.{Tree}
+use Rattle.nts_model.specs.Tables.Contents.{Content}
+use Rattle.nts_model.specs.Tables.Resolving.{deeply_resolved}
+use Rattle.nts_model.specs.Derivations.Sequents.{Among}
+use Rattle.nts_model.specs.Derivations.Related.{pair}
+use Rattle.nts_model.specs.Derivations.Handlers.{IsFixed}
+use Rattle.nts_model.specs.Tables.Passing.{TreePasses, PassesQueries, BringsLabelsOf, BringsOnly}
+use Rattle.nts_model.proofs.Tables.Passing.{passes-deeply_resolved}
+use Rattle.nts_model.proofs.Responses.Bringing.{query_variables, only-of, only-refl, passes-filled, passes-leaf}
 use Rattle.nts_store.specs.declared.nodes.NodeId.{NodeId}
 use Rattle.nts_store.specs.Growth.{tree_at, Extends}
 use Rattle.nts_terms.specs.declared.handles.Goal.{Goal}

@@ -3,13 +3,13 @@ use Rattle.std.proofs.Common.{◌≡◌, ◌⊎◌, inl, inr, List, [], ◌∷�
 use Rattle.nts_model.specs.declared.labels.TyHead.{TyHead}
 use Rattle.nts_model.specs.declared.labels.Leaf.{Leaf}
 use Rattle.nts_model.specs.declared.labels.Label.TheVariants as label
-use Rattle.nts_model.specs.Trees.{Tree, empty, more, node}
-use Rattle.nts_model.specs.Contents.{Content}
-use Rattle.nts_model.specs.Sequents.{Among}
-use Rattle.nts_model.specs.Rules.{Mode, related}
-use Rattle.nts_model.specs.Handlers.{Candidate, Handler, filled_under}
-use Rattle.nts_model.specs.Choosing.{IsMet}
-use Rattle.nts_model.specs.Responses.{Response as Answer}
+use Rattle.nts_model.specs.Terms.Trees.{Tree, empty, more, node}
+use Rattle.nts_model.specs.Tables.Contents.{Content}
+use Rattle.nts_model.specs.Derivations.Sequents.{Among}
+use Rattle.nts_model.specs.Derivations.Rules.{Mode, related}
+use Rattle.nts_model.specs.Derivations.Handlers.{Candidate, Handler, filled_under}
+use Rattle.nts_model.specs.Refutation.Choosing.{IsMet}
+use Rattle.nts_model.specs.Answers.Responses.{Response as Answer}
 use Rattle.nts_delegate.specs.Relevant.{built_by, IsIrrelevant, LeavesOut}
 use Rattle.nts_delegate.specs.Relevant.LeavesOut.{none, offered, left_out}
 use Rattle.nts_queries.specs.Telling.{Outcomes}

@@ -1,31 +1,31 @@
 -- A goal that was opened: what is said of it where it was opened is said of the goal.
 use Rattle.std.proofs.Common.{◌≡◌, ◌⊎◌, inl, inr, ℕ, suc, ◌+◌, Bool, true, false, List, [], refl, sym, ap, ◌∙◌, subst, arith}
 use Rattle.std.specs.Prelude.{◌==◌, if◌then◌else◌, Result, Ok, Err, OnOk}
-use Rattle.nts_model.specs.Proofs.{Assumed}
-use Rattle.nts_model.specs.Stacks.{IsProvedFrom}
+use Rattle.nts_model.specs.Derivations.Proofs.{Assumed}
+use Rattle.nts_model.specs.Searching.Stacks.{IsProvedFrom}
 use Rattle.nts_model.specs.declared.labels.Sort.{Sort}
 use Rattle.nts_model.specs.declared.labels.Sort.TheVariants as sort
 use Rattle.nts_model.specs.declared.labels.BoundVarIndexKind.TheVariants as index
 use Rattle.nts_model.specs.declared.labels.ListHead.TheVariants as list
 use Rattle.nts_model.specs.declared.labels.Label.{Label}
 use Rattle.nts_model.specs.declared.labels.Label.TheVariants as label
-use Rattle.nts_model.specs.Trees.{Tree, empty, more, node, binders, IsClosed, IsFormed}
-use Rattle.nts_model.specs.Contents.{Content, in_universe}
-use Rattle.nts_model.specs.Related.{unbound}
-use Rattle.nts_model.specs.Rules.{opened, opened_at, statement_of}
-use Rattle.nts_model.specs.Responses.{Response as Answer}
-use Rattle.nts_model.specs.Passing.{TreePasses, TablePasses, PassesQueries, BringsOnly}
-use Rattle.nts_model.specs.Opening.{binds, placeholder_in, entered, opened_in}
+use Rattle.nts_model.specs.Terms.Trees.{Tree, empty, more, node, binders, IsClosed, IsFormed}
+use Rattle.nts_model.specs.Tables.Contents.{Content, in_universe}
+use Rattle.nts_model.specs.Derivations.Related.{unbound}
+use Rattle.nts_model.specs.Derivations.Rules.{opened, opened_at, statement_of}
+use Rattle.nts_model.specs.Answers.Responses.{Response as Answer}
+use Rattle.nts_model.specs.Tables.Passing.{TreePasses, TablePasses, PassesQueries, BringsOnly}
+use Rattle.nts_model.specs.Refutation.Opening.{binds, placeholder_in, entered, opened_in}
 use Rattle.nts_model.specs.declared.labels.Variance.{Variance}
-use Rattle.nts_model.specs.Holding.{Continues}
-use Rattle.nts_model.specs.Resolving.{Knows}
-use Rattle.nts_model.specs.Sequents.{Among}
-use Rattle.nts_model.specs.Rules.{Mode}
-use Rattle.nts_model.specs.Handlers as handlers
-use Rattle.nts_model.specs.Handlers.{Handler, meaning, IsLawful}
-use Rattle.nts_model.proofs.Slots.{KeepsKinds, Knows-kept}
-use Rattle.nts_model.proofs.Fitting.{IsClosed-under}
-use Rattle.nts_model.proofs.OpenedProofs.{by_entered_candidate}
+use Rattle.nts_model.specs.Tables.Holding.{Continues}
+use Rattle.nts_model.specs.Tables.Resolving.{Knows}
+use Rattle.nts_model.specs.Derivations.Sequents.{Among}
+use Rattle.nts_model.specs.Derivations.Rules.{Mode}
+use Rattle.nts_model.specs.Derivations.Handlers as handlers
+use Rattle.nts_model.specs.Derivations.Handlers.{Handler, meaning, IsLawful}
+use Rattle.nts_model.proofs.Tables.Slots.{KeepsKinds, Knows-kept}
+use Rattle.nts_model.proofs.Tables.Fitting.{IsClosed-under}
+use Rattle.nts_model.proofs.Refutation.OpenedProofs.{by_entered_candidate}
 use Rattle.nts_store.specs.Growth.{tree_at, Extends}
 use Rattle.nts_store.specs.Formed.{AreFormed}
 use Rattle.nts_store.proofs.Growing.{Extends-trans, IsIn-extended}

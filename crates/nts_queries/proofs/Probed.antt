@@ -1,14 +1,14 @@
 -- What was found in a table that is gone, seen from the table that asked.
 use Rattle.std.proofs.Common.{◌≡◌, ◌⊎◌, inl, inr, true, false, List, [], ◌∷◌, ◌++◌, map, refl, sym, ap, ◌∙◌, subst}
 use Rattle.std.specs.Prelude.{All}
-use Rattle.nts_model.specs.Proofs.{Assumed}
-use Rattle.nts_model.specs.Stacks.{IsProvedFrom, IsDerivedFrom}
-use Rattle.nts_model.specs.Trees.{Tree}
-use Rattle.nts_model.specs.Contents.{Content}
-use Rattle.nts_model.specs.Passing.{TablePasses, BringsOnly}
-use Rattle.nts_model.specs.Rules.{Meaning, Mode}
-use Rattle.nts_model.specs.Inputs.{PositionKind}
-use Rattle.nts_model.specs.Responses.{Response as Answer, answer_sequent, IsOverPositions}
+use Rattle.nts_model.specs.Derivations.Proofs.{Assumed}
+use Rattle.nts_model.specs.Searching.Stacks.{IsProvedFrom, IsDerivedFrom}
+use Rattle.nts_model.specs.Terms.Trees.{Tree}
+use Rattle.nts_model.specs.Tables.Contents.{Content}
+use Rattle.nts_model.specs.Tables.Passing.{TablePasses, BringsOnly}
+use Rattle.nts_model.specs.Derivations.Rules.{Meaning, Mode}
+use Rattle.nts_model.specs.Canonical.Inputs.{PositionKind}
+use Rattle.nts_model.specs.Answers.Responses.{Response as Answer, answer_sequent, IsOverPositions}
 use Rattle.nts_certainty.specs.declared.certainty.Certainty.{Certainty}
 use Rattle.nts_certainty.specs.declared.certainty.MaybeInfo.{MaybeInfo}
 use Rattle.nts_certainty.specs.declared.certainty.Certainty.TheVariants as certainty
@@ -32,9 +32,9 @@ use Rattle.nts_response.specs.Forms.{response_at, recorded_at, premise_at, Holds
 use Rattle.nts_response.specs.Replacing.{value_at}
 use Rattle.nts_response.proofs.ApplySteps.{response_kept}
 use Rattle.nts_response.proofs.Each.{same_views, values_kept, constraints_kept, hidden_kept, goals_kept}
-use Rattle.nts_model.proofs.Bringing.{only-refl}
+use Rattle.nts_model.proofs.Responses.Bringing.{only-refl}
 use Rattle.nts_queries.specs.Asking.{IsResponseOf, first_table, first_values, asked_environment, asked_predicate}
-use Rattle.nts_model.specs.Handlers.{Handler}
+use Rattle.nts_model.specs.Derivations.Handlers.{Handler}
 use Rattle.nts_terms.specs.declared.modes.TypingMode.{TypingMode}
 use Rattle.nts_terms.specs.Modes.{mode_of}
 use Rattle.nts_delegate.specs.declared.delegate.CandidateData.{CandidateData}

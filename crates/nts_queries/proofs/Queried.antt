@@ -6,18 +6,18 @@ use Rattle.std.proofs.lemmas.List.Elements.{All-head, All-tail, All-cons}
 use Rattle.nts_model.specs.declared.labels.Leaf.{Leaf}
 use Rattle.nts_model.specs.declared.labels.Leaf.TheVariants as leaf
 use Rattle.nts_model.specs.declared.labels.Label.TheVariants as label
-use Rattle.nts_model.specs.Trees.{Tree, empty, more, node, any_label, is_canonical, IsClosed}
-use Rattle.nts_model.specs.Contents.{Content}
-use Rattle.nts_model.specs.Placeholders.{leaf_level, CanName}
-use Rattle.nts_model.specs.Levels.{NamesAll, term_level}
-use Rattle.nts_model.specs.Resolving.{Knows, KnowsLabel}
-use Rattle.nts_model.specs.Substitutions.{leaf_tree, Occurs}
-use Rattle.nts_model.specs.Sequents.{Among}
-use Rattle.nts_model.specs.Inputs.{Input, IsInput, OccursIn, originals}
-use Rattle.nts_model.proofs.CanonicalForms.{originals_are_leaves}
-use Rattle.nts_model.proofs.Answering.{canonical_environment_over, canonical_predicate_over}
-use Rattle.nts_model.proofs.Unpositioned.{known_no_positions, false_or}
-use Rattle.nts_model.specs.Responses.{IsOverPositions}
+use Rattle.nts_model.specs.Terms.Trees.{Tree, empty, more, node, any_label, is_canonical, IsClosed}
+use Rattle.nts_model.specs.Tables.Contents.{Content}
+use Rattle.nts_model.specs.Terms.Placeholders.{leaf_level, CanName}
+use Rattle.nts_model.specs.Tables.Levels.{NamesAll, term_level}
+use Rattle.nts_model.specs.Tables.Resolving.{Knows, KnowsLabel}
+use Rattle.nts_model.specs.Terms.Substitutions.{leaf_tree, Occurs}
+use Rattle.nts_model.specs.Derivations.Sequents.{Among}
+use Rattle.nts_model.specs.Canonical.Inputs.{Input, IsInput, OccursIn, originals}
+use Rattle.nts_model.proofs.Canonical.CanonicalForms.{originals_are_leaves}
+use Rattle.nts_model.proofs.Responses.Answering.{canonical_environment_over, canonical_predicate_over}
+use Rattle.nts_model.proofs.Terms.Unpositioned.{known_no_positions, false_or}
+use Rattle.nts_model.specs.Answers.Responses.{IsOverPositions}
 use Rattle.nts_store.specs.Formed.{AreFormed}
 use Rattle.nts_store.specs.Growth.{tree_at, Extends}
 use Rattle.nts_terms.specs.declared.handles.AliasTerm.{AliasTerm}

@@ -2,15 +2,15 @@
 use Rattle.std.proofs.Common.{◌≡◌, inl, inr, ℕ, ◌+◌, ◌<◌, List, [], ◌∷◌, ◌++◌, length, get_or, Option, Some, None, sym, ap, ◌∙◌, subst, arith, length-append, refl}
 use Rattle.std.specs.Prelude.{All, max, ◌≤◌, Result, Ok, Err, IfOk, IfSome, ◌⊎◌, false}
 use Rattle.std.proofs.lemmas.List.Elements.{All-push, All-pop}
-use Rattle.nts_model.specs.Trees.{Tree}
-use Rattle.nts_model.specs.Handlers.{Handler}
-use Rattle.nts_model.specs.Rules.{Meaning, Mode}
-use Rattle.nts_model.specs.Sequents.{PathKind as Kind}
-use Rattle.nts_model.specs.Proofs.{Assumed, passed}
-use Rattle.nts_model.specs.Stacks.{IsDerivedFrom, IsUsable, assumptions}
-use Rattle.nts_model.specs.Inputs.{PositionKind, CanonicalInput as Form}
-use Rattle.nts_model.specs.Responses.{answer_sequent}
-use Rattle.nts_model.proofs.Stacks.{head_closed}
+use Rattle.nts_model.specs.Terms.Trees.{Tree}
+use Rattle.nts_model.specs.Derivations.Handlers.{Handler}
+use Rattle.nts_model.specs.Derivations.Rules.{Meaning, Mode}
+use Rattle.nts_model.specs.Derivations.Sequents.{PathKind as Kind}
+use Rattle.nts_model.specs.Derivations.Proofs.{Assumed, passed}
+use Rattle.nts_model.specs.Searching.Stacks.{IsDerivedFrom, IsUsable, assumptions}
+use Rattle.nts_model.specs.Canonical.Inputs.{PositionKind, CanonicalInput as Form}
+use Rattle.nts_model.specs.Answers.Responses.{answer_sequent}
+use Rattle.nts_model.proofs.Searching.Stacks.{head_closed}
 use Rattle.nts_certainty.specs.declared.sources.PathKind.{PathKind}
 use Rattle.nts_certainty.specs.declared.certainty.Certainty.TheVariants as certainty
 use Rattle.nts_store.specs.declared.fault.EvalError.{EvalError}

@@ -10,24 +10,24 @@ use Rattle.nts_model.specs.declared.labels.ListHead.{ListHead}
 use Rattle.nts_model.specs.declared.labels.ListHead.TheVariants as list
 use Rattle.nts_model.specs.declared.labels.Label.{Label}
 use Rattle.nts_model.specs.declared.labels.Label.TheVariants as label
-use Rattle.nts_model.specs.Trees.{Tree, empty, node, kind_of, kind_of_label, of_sort, any_argument, FitsPlace, shape, Meets, IsFormed}
-use Rattle.nts_model.specs.Contents.{Content, Recorded}
-use Rattle.nts_model.specs.Resolving.{deeply_resolved, Knows}
-use Rattle.nts_model.specs.Holding.{AreOne, IsTrivial, HasSides, HoldsConstraint, Continues}
-use Rattle.nts_model.specs.Alike.{Alike, one_tree, two_regions, one_label, two_rows, HoldsEqual, AreAlike}
-use Rattle.nts_model.specs.Sequents.{Among, Premise}
-use Rattle.nts_model.specs.Rules.{Mode, Meaning, GoalKind, goal_kind, step_kind}
-use Rattle.nts_model.specs.Proofs.{Assumed, passed}
-use Rattle.nts_model.specs.Stacks.{IsProvedFrom}
-use Rattle.nts_model.specs.Handlers.{Handler, meaning, Candidate, certain, filled, AreValuesOf}
-use Rattle.nts_model.specs.Proving as proving
-use Rattle.nts_model.specs.Proving.{HoldsTerms, AreConstraintsOf, recorded_as, sequent_at, AreEquated, HoldsEquationAt, IsHeldAt}
-use Rattle.nts_model.proofs.Held.{Continues-refl, Continues-trans, HoldsConstraint-continues, HoldsConstraint-with_constraint}
-use Rattle.nts_model.proofs.Alike.{AreAlike-continues}
-use Rattle.nts_model.proofs.Resolved.{deeply_resolved-deeply_resolved}
-use Rattle.nts_model.proofs.Slots.{Knows-kept}
-use Rattle.nts_model.proofs.Kept.{kind_of-deeply_resolved}
-use Rattle.nts_model.proofs.ResolvedTerms.{IsFormed-deeply_resolved}
+use Rattle.nts_model.specs.Terms.Trees.{Tree, empty, node, kind_of, kind_of_label, of_sort, any_argument, FitsPlace, shape, Meets, IsFormed}
+use Rattle.nts_model.specs.Tables.Contents.{Content, Recorded}
+use Rattle.nts_model.specs.Tables.Resolving.{deeply_resolved, Knows}
+use Rattle.nts_model.specs.Tables.Holding.{AreOne, IsTrivial, HasSides, HoldsConstraint, Continues}
+use Rattle.nts_model.specs.Tables.Alike.{Alike, one_tree, two_regions, one_label, two_rows, HoldsEqual, AreAlike}
+use Rattle.nts_model.specs.Derivations.Sequents.{Among, Premise}
+use Rattle.nts_model.specs.Derivations.Rules.{Mode, Meaning, GoalKind, goal_kind, step_kind}
+use Rattle.nts_model.specs.Derivations.Proofs.{Assumed, passed}
+use Rattle.nts_model.specs.Searching.Stacks.{IsProvedFrom}
+use Rattle.nts_model.specs.Derivations.Handlers.{Handler, meaning, Candidate, certain, filled, AreValuesOf}
+use Rattle.nts_model.specs.Derivations.Proving as proving
+use Rattle.nts_model.specs.Derivations.Proving.{HoldsTerms, AreConstraintsOf, recorded_as, sequent_at, AreEquated, HoldsEquationAt, IsHeldAt}
+use Rattle.nts_model.proofs.Tables.Held.{Continues-refl, Continues-trans, HoldsConstraint-continues, HoldsConstraint-with_constraint}
+use Rattle.nts_model.proofs.Tables.Alike.{AreAlike-continues}
+use Rattle.nts_model.proofs.Tables.Resolved.{deeply_resolved-deeply_resolved}
+use Rattle.nts_model.proofs.Tables.Slots.{Knows-kept}
+use Rattle.nts_model.proofs.Tables.Kept.{kind_of-deeply_resolved}
+use Rattle.nts_model.proofs.Tables.ResolvedTerms.{IsFormed-deeply_resolved}
 use Rattle.nts_certainty.specs.declared.certainty.Certainty.{Certainty}
 use Rattle.nts_certainty.specs.declared.certainty.Certainty.TheVariants as certainty
 use Rattle.nts_store.specs.declared.nodes.NodeId.{NodeId}

@@ -4,18 +4,18 @@ use Rattle.std.specs.Prelude.{All, reverse, Bool, max}
 use Rattle.std.proofs.lemmas.List.{reverse-append}
 use Rattle.std.proofs.lemmas.List.Elements.{All-cons, All-head, All-tail}
 use Rattle.nts_model.specs.declared.labels.Sort.{Sort}
-use Rattle.nts_model.specs.Trees.{Tree, Place, more, empty}
-use Rattle.nts_model.specs.Contents.{Content}
-use Rattle.nts_model.specs.Sequents.{PathKind, coinductive, unknown, inductive, forced_ambiguity}
-use Rattle.nts_model.specs.Rules.{Meaning, Mode, goal_kind, step_kind}
-use Rattle.nts_model.specs.Proving.{sequent_at}
-use Rattle.nts_model.specs.Proofs.{Assumed, passed}
-use Rattle.nts_model.specs.Handlers.{Handler}
-use Rattle.nts_model.specs.Stacks.{IsProvedFrom, IsReadSince, AreReadSince, assumptions}
-use Rattle.nts_model.proofs.Stacks.{read_since_covers}
-use Rattle.nts_model.specs.Inputs.{PositionKind, CanonicalInput as Form}
-use Rattle.nts_model.specs.Responses.{IsResponseTo, IsOverPositions}
-use Rattle.nts_model.proofs.Assuming.{Covers, covers_passed, derived_more}
+use Rattle.nts_model.specs.Terms.Trees.{Tree, Place, more, empty}
+use Rattle.nts_model.specs.Tables.Contents.{Content}
+use Rattle.nts_model.specs.Derivations.Sequents.{PathKind, coinductive, unknown, inductive, forced_ambiguity}
+use Rattle.nts_model.specs.Derivations.Rules.{Meaning, Mode, goal_kind, step_kind}
+use Rattle.nts_model.specs.Derivations.Proving.{sequent_at}
+use Rattle.nts_model.specs.Derivations.Proofs.{Assumed, passed}
+use Rattle.nts_model.specs.Derivations.Handlers.{Handler}
+use Rattle.nts_model.specs.Searching.Stacks.{IsProvedFrom, IsReadSince, AreReadSince, assumptions}
+use Rattle.nts_model.proofs.Searching.Stacks.{read_since_covers}
+use Rattle.nts_model.specs.Canonical.Inputs.{PositionKind, CanonicalInput as Form}
+use Rattle.nts_model.specs.Answers.Responses.{IsResponseTo, IsOverPositions}
+use Rattle.nts_model.proofs.Derivations.Assuming.{Covers, covers_passed, derived_more}
 use Rattle.nts_store.specs.Growth.{IsIn, Extends}
 use Rattle.nts_store.proofs.Growing.{IsIn-extended}
 use Rattle.nts_store.specs.declared.nodes.NodeId.{NodeId}
@@ -25,7 +25,7 @@ use Rattle.nts_terms.specs.Handles.{Holds}
 use Rattle.nts_canonical.specs.declared.types.Canonical.{Canonical}
 use Rattle.nts_canonical.specs.declared.types.CanonicalInput.{CanonicalInput}
 use Rattle.nts_canonical.specs.Forms.{form_of, query_tree}
-use Rattle.nts_model.specs.Scoping.{IsWellBound}
+use Rattle.nts_model.specs.Terms.Scoping.{IsWellBound}
 use Rattle.nts_store.specs.Filled.{HasValues}
 use Rattle.nts_canonical.specs.Building.{kinds_of, values_of, HasNoName}
 use Rattle.nts_canonical.specs.Folds.{HoldsQuery-kept}

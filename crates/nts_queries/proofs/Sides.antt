@@ -1,10 +1,10 @@
 -- Terms of a candidate with closed values in place of its fresh variables, and what a query's table has recorded.
 use Rattle.std.proofs.Common.{⊎_elim, List, [], ◌∷◌, map, sym, subst}
 use Rattle.nts_model.specs.declared.labels.Sort.{Sort}
-use Rattle.nts_model.specs.Trees.{Tree, IsClosed}
-use Rattle.nts_model.specs.Sequents.{Among}
-use Rattle.nts_model.specs.Handlers.{AreValuesOf}
-use Rattle.nts_model.proofs.ChosenClosed.{closed-filled, closed_get}
+use Rattle.nts_model.specs.Terms.Trees.{Tree, IsClosed}
+use Rattle.nts_model.specs.Derivations.Sequents.{Among}
+use Rattle.nts_model.specs.Derivations.Handlers.{AreValuesOf}
+use Rattle.nts_model.proofs.Responses.ChosenClosed.{closed-filled, closed_get}
 use Rattle.nts_store.specs.declared.nodes.NodeId.{NodeId}
 use Rattle.nts_store.specs.Growth.{tree_at}
 use Rattle.nts_terms.specs.declared.handles.Goal.{Goal}

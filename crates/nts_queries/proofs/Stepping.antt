@@ -2,10 +2,10 @@
 use Rattle.std.proofs.Common.{◌≡◌, ◌⊎◌, inl, inr, ⊎_elim, ℕ, zero, suc, ◌+◌, ◌<◌, List, [], ◌∷◌, ◌++◌, map, length, take, get_or, refl, sym, ap, ◌∙◌, subst, arith}
 use Rattle.std.specs.Prelude.{All, ◌≢◌}
 use Rattle.std.proofs.lemmas.List.Elements.{All-head, All-tail}
-use Rattle.nts_model.specs.Sequents.{inductive}
-use Rattle.nts_model.specs.Rules.{Mode, GoalKind, step_kind}
-use Rattle.nts_model.specs.Proofs.{Assumed, passed}
-use Rattle.nts_model.proofs.Assuming.{Covers, covers_passed}
+use Rattle.nts_model.specs.Derivations.Sequents.{inductive}
+use Rattle.nts_model.specs.Derivations.Rules.{Mode, GoalKind, step_kind}
+use Rattle.nts_model.specs.Derivations.Proofs.{Assumed, passed}
+use Rattle.nts_model.proofs.Derivations.Assuming.{Covers, covers_passed}
 use Rattle.nts_certainty.specs.declared.sources.PathKind.{PathKind}
 use Rattle.nts_certainty.specs.declared.sources.PathKind.TheVariants as path
 use Rattle.nts_certainty.specs.declared.sources.GoalSource.TheVariants as source
@@ -18,14 +18,14 @@ use Rattle.nts_queries.specs.Telling.RefusesOne.{cuts_one}
 use Rattle.nts_queries.specs.Searching.{IsCut}
 use Rattle.nts_queries.specs.Meant.{IsNestedSince}
 use Rattle.nts_queries.proofs.Searching.{stays_more, none_passed}
-use Rattle.nts_model.specs.Trees.{Tree}
-use Rattle.nts_model.specs.Contents.{Content}
-use Rattle.nts_model.specs.Sequents.{Among, Premise}
-use Rattle.nts_model.specs.Passing.{BringsOnly}
-use Rattle.nts_model.specs.Resolving.{deeply_resolved}
-use Rattle.nts_model.specs.Handlers.{Handler}
-use Rattle.nts_model.proofs.Answered.{among_left, among_right}
-use Rattle.nts_model.proofs.ByCandidate.{among_mapped}
+use Rattle.nts_model.specs.Terms.Trees.{Tree}
+use Rattle.nts_model.specs.Tables.Contents.{Content}
+use Rattle.nts_model.specs.Derivations.Sequents.{Among, Premise}
+use Rattle.nts_model.specs.Tables.Passing.{BringsOnly}
+use Rattle.nts_model.specs.Tables.Resolving.{deeply_resolved}
+use Rattle.nts_model.specs.Derivations.Handlers.{Handler}
+use Rattle.nts_model.proofs.Refutation.Answered.{among_left, among_right}
+use Rattle.nts_model.proofs.Derivations.ByCandidate.{among_mapped}
 use Rattle.nts_certainty.specs.declared.certainty.Certainty.{Certainty}
 use Rattle.nts_certainty.specs.declared.certainty.Certainty.TheVariants as certainty
 use Rattle.nts_certainty.specs.declared.sources.GoalSource.{GoalSource}

@@ -10,18 +10,18 @@ use Rattle.nts_model.specs.declared.labels.VariableKind.TheVariants as kind
 use Rattle.nts_model.specs.declared.labels.Relation.{Relation}
 use Rattle.nts_model.specs.declared.labels.Relation.TheVariants as relation
 use Rattle.nts_model.specs.declared.labels.Sort.TheVariants as sort
-use Rattle.nts_model.specs.Trees.{Tree, empty, NodeKind, any_argument, FitsPlace, kind_of, of_sort}
-use Rattle.nts_model.specs.Contents.{Content, Recorded}
-use Rattle.nts_model.specs.Resolving.{Knows, IsSound, deeply_resolved}
-use Rattle.nts_model.specs.Related.{Constraint as Relates}
-use Rattle.nts_model.specs.Sequents.{HasOneSide, IsTrivial}
-use Rattle.nts_model.specs.Proving.{read_constraint}
-use Rattle.nts_model.specs.Inputs.{share}
-use Rattle.nts_model.specs.Responses.{Findings, Response as Form, recorded_by, said, value_row, constraint_row, hidden_row, goal_row, findings_by, own_leaves, positioned, answer_kind, answer_kinds, greatest, response_of}
-use Rattle.nts_model.proofs.Sound.{SameStates}
-use Rattle.nts_model.proofs.Classes.{deeply_resolved-same}
-use Rattle.nts_model.proofs.Kept.{kind_of-deeply_resolved}
-use Rattle.nts_model.proofs.Open.{Knows-deeply_resolved}
+use Rattle.nts_model.specs.Terms.Trees.{Tree, empty, NodeKind, any_argument, FitsPlace, kind_of, of_sort}
+use Rattle.nts_model.specs.Tables.Contents.{Content, Recorded}
+use Rattle.nts_model.specs.Tables.Resolving.{Knows, IsSound, deeply_resolved}
+use Rattle.nts_model.specs.Derivations.Related.{Constraint as Relates}
+use Rattle.nts_model.specs.Derivations.Sequents.{HasOneSide, IsTrivial}
+use Rattle.nts_model.specs.Derivations.Proving.{read_constraint}
+use Rattle.nts_model.specs.Canonical.Inputs.{share}
+use Rattle.nts_model.specs.Answers.Responses.{Findings, Response as Form, recorded_by, said, value_row, constraint_row, hidden_row, goal_row, findings_by, own_leaves, positioned, answer_kind, answer_kinds, greatest, response_of}
+use Rattle.nts_model.proofs.Tables.Sound.{SameStates}
+use Rattle.nts_model.proofs.Tables.Classes.{deeply_resolved-same}
+use Rattle.nts_model.proofs.Tables.Kept.{kind_of-deeply_resolved}
+use Rattle.nts_model.proofs.Tables.Open.{Knows-deeply_resolved}
 use Rattle.nts_store.specs.declared.nodes.NodeId.{NodeId}
 use Rattle.nts_store.specs.Growth.{tree_at, Extends}
 use Rattle.nts_store.proofs.Growing.{IsIn-extended, Extends-trans}

@@ -4,15 +4,15 @@ use Rattle.std.proofs.lemmas.List.{take_more}
 use Rattle.nts_model.specs.declared.labels.Sort.{Sort}
 use Rattle.nts_model.specs.declared.labels.Sort.TheVariants as sort
 use Rattle.nts_model.specs.declared.labels.Leaf.{Leaf}
-use Rattle.nts_model.specs.Trees.{Tree}
-use Rattle.nts_model.specs.Contents.{Content}
-use Rattle.nts_model.specs.Resolving.{variable_tree, Knows}
-use Rattle.nts_model.specs.Substitutions.{leaf_tree, Occurs}
-use Rattle.nts_model.specs.Equations.{AreRelated, AreUnrelated}
-use Rattle.nts_model.specs.Handlers.{filled, kind_of_sort}
-use Rattle.nts_model.specs.Applying.{IsProperContent, IsNew}
-use Rattle.nts_model.specs.Choosing.{left_of, right_of, Freshens, EquatesAll, FailsToEquate, MeetsEquations}
-use Rattle.nts_model.proofs.Choosing.{AreOfTable, IsProperContent-with_slot, fresh_known, equations_known, unmet_when_failed}
+use Rattle.nts_model.specs.Terms.Trees.{Tree}
+use Rattle.nts_model.specs.Tables.Contents.{Content}
+use Rattle.nts_model.specs.Tables.Resolving.{variable_tree, Knows}
+use Rattle.nts_model.specs.Terms.Substitutions.{leaf_tree, Occurs}
+use Rattle.nts_model.specs.Tables.Equations.{AreRelated, AreUnrelated}
+use Rattle.nts_model.specs.Derivations.Handlers.{filled, kind_of_sort}
+use Rattle.nts_model.specs.Answers.Applying.{IsProperContent, IsNew}
+use Rattle.nts_model.specs.Refutation.Choosing.{left_of, right_of, Freshens, EquatesAll, FailsToEquate, MeetsEquations}
+use Rattle.nts_model.proofs.Refutation.Choosing.{AreOfTable, IsProperContent-with_slot, fresh_known, equations_known, unmet_when_failed}
 use Rattle.nts_store.specs.declared.nodes.NodeId.{NodeId}
 use Rattle.nts_store.specs.Growth.{tree_at, trees_at, AllIn, Extends}
 use Rattle.nts_store.specs.Kept.{map-kept}

@@ -3,8 +3,8 @@ use Rattle.std.proofs.Common.{◌≡◌, inl, inr, ⊎_elim, ℕ, zero, suc, ◌
 use Rattle.std.specs.Prelude.{slice_get, Contains, All}
 use Rattle.std.proofs.lemmas.List.{length-map}
 use Rattle.std.proofs.lemmas.List.Elements.{Contains-get_or}
-use Rattle.nts_model.proofs.Listed.{map-map}
-use Rattle.nts_model.specs.Regions.{IsRegion}
+use Rattle.nts_model.proofs.Terms.Listed.{map-map}
+use Rattle.nts_model.specs.Terms.Regions.{IsRegion}
 use Rattle.nts_delegate.specs.Offered.{hidden_of}
 use Rattle.nts_response.specs.Replacing.{value_at}
 use Rattle.nts_model.specs.declared.labels.Sort.{Sort}
@@ -15,16 +15,16 @@ use Rattle.nts_model.specs.declared.labels.VariableKind.TheVariants as kind
 use Rattle.nts_model.specs.declared.labels.Label.{Label}
 use Rattle.nts_model.specs.declared.labels.BoundVarIndexKind.TheVariants as index
 use Rattle.nts_model.specs.declared.labels.Label.TheVariants as label
-use Rattle.nts_model.specs.Trees.{Tree, empty, node, kind_of, of_sort}
-use Rattle.nts_model.specs.Substitutions.{leaf_tree, Occurs}
-use Rattle.nts_model.specs.Sequents.{Among}
-use Rattle.nts_model.specs.Numbered.{position}
-use Rattle.nts_model.specs.Inputs.{Input, IsInput, PositionKind, type_variable, integer_variable, float_variable, const_variable, region_variable, placeholder, position_kind, canonical_of, originals}
-use Rattle.nts_model.specs.Driving.{sort_at, positions_from, unconstrained}
-use Rattle.nts_model.specs.Responses.{Response as Form, IsLeafFor, IsLeafIn, IsResponseTo, own_leaf, leaves_of_kinds}
-use Rattle.nts_model.proofs.Initial.{initial_fits, initial_bounded}
-use Rattle.nts_model.proofs.PositionSorts.{below_greatest, contained_map, contained_among}
-use Rattle.nts_model.proofs.Querying.{leaf_in_for}
+use Rattle.nts_model.specs.Terms.Trees.{Tree, empty, node, kind_of, of_sort}
+use Rattle.nts_model.specs.Terms.Substitutions.{leaf_tree, Occurs}
+use Rattle.nts_model.specs.Derivations.Sequents.{Among}
+use Rattle.nts_model.specs.Canonical.Numbered.{position}
+use Rattle.nts_model.specs.Canonical.Inputs.{Input, IsInput, PositionKind, type_variable, integer_variable, float_variable, const_variable, region_variable, placeholder, position_kind, canonical_of, originals}
+use Rattle.nts_model.specs.Searching.Driving.{sort_at, positions_from, unconstrained}
+use Rattle.nts_model.specs.Answers.Responses.{Response as Form, IsLeafFor, IsLeafIn, IsResponseTo, own_leaf, leaves_of_kinds}
+use Rattle.nts_model.proofs.Responses.Initial.{initial_fits, initial_bounded}
+use Rattle.nts_model.proofs.Responses.PositionSorts.{below_greatest, contained_map, contained_among}
+use Rattle.nts_model.proofs.Responses.Querying.{leaf_in_for}
 use Rattle.nts_store.specs.declared.nodes.NodeId.{NodeId}
 use Rattle.nts_store.specs.Growth.{tree_at}
 use Rattle.nts_canonical.specs.declared.types.Canonical.{Canonical}
@@ -33,7 +33,7 @@ use Rattle.nts_response.specs.declared.types.Response.{Response}
 use Rattle.nts_response.specs.Applied.{NamesOriginal}
 use Rattle.nts_response.specs.Applicable.{IsOverSorts, IsConstraintOver, IsHiddenOver, IsGoalOver, IsKindFor, IsApplicable, sorts_of}
 use Rattle.nts_response.specs.Forms.{response_at, recorded_at, premise_at, HoldsResponse}
-use Rattle.nts_model.specs.Inputs.{CanonicalInput as Shape}
+use Rattle.nts_model.specs.Canonical.Inputs.{CanonicalInput as Shape}
 use Rattle.nts_canonical.specs.declared.types.CanonicalInput.{CanonicalInput}
 use Rattle.nts_canonical.specs.Building.{kinds_of}
 use Rattle.nts_queries.specs.Answering.{IsQueryInput, IsAnswerTo, TellsNoMore}

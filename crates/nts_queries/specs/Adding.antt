@@ -1,9 +1,9 @@
 -- The goals of a candidate that is tried.
 use Rattle.std.specs.Prelude.{◌≡◌, Bool, List, map}
 use Rattle.nts_model.specs.declared.labels.Label.{Label}
-use Rattle.nts_model.specs.Trees.{Tree}
-use Rattle.nts_model.specs.Sequents.{Among}
-use Rattle.nts_model.specs.Passing.{TreePasses, PassesQueries}
+use Rattle.nts_model.specs.Terms.Trees.{Tree}
+use Rattle.nts_model.specs.Derivations.Sequents.{Among}
+use Rattle.nts_model.specs.Tables.Passing.{TreePasses, PassesQueries}
 use Rattle.nts_certainty.specs.declared.sources.GoalSource.{GoalSource}
 use Rattle.nts_store.specs.declared.nodes.NodeId.{NodeId}
 use Rattle.nts_store.specs.Growth.{tree_at}

@@ -1,14 +1,14 @@
 -- What a query's table answers, and what evaluating a goal leaves of the table that asked.
 use Rattle.std.specs.Global.{Vec, Box}
 use Rattle.std.specs.Prelude.{◌≡◌, ◌⊎◌, ◌↔◌, Bool, true, false, List, [], map, All, Contains, Result, IfOk}
-use Rattle.nts_model.specs.Trees.{Tree, IsClosed}
-use Rattle.nts_model.specs.Contents.{Content, Recorded}
-use Rattle.nts_model.specs.Resolving.{Knows, deeply_resolved}
-use Rattle.nts_model.specs.Substitutions.{leaf_tree}
-use Rattle.nts_model.specs.Sequents.{IsTrivial}
-use Rattle.nts_model.specs.Proving.{read_constraint}
-use Rattle.nts_model.specs.Inputs.{Input, IsInput, PositionKind, CanonicalInput as Form, canonical_of, originals}
-use Rattle.nts_model.specs.Responses.{Response as Answer, recorded_by, said, IsOverPositions, IsResponseTo, IsIdentity}
+use Rattle.nts_model.specs.Terms.Trees.{Tree, IsClosed}
+use Rattle.nts_model.specs.Tables.Contents.{Content, Recorded}
+use Rattle.nts_model.specs.Tables.Resolving.{Knows, deeply_resolved}
+use Rattle.nts_model.specs.Terms.Substitutions.{leaf_tree}
+use Rattle.nts_model.specs.Derivations.Sequents.{IsTrivial}
+use Rattle.nts_model.specs.Derivations.Proving.{read_constraint}
+use Rattle.nts_model.specs.Canonical.Inputs.{Input, IsInput, PositionKind, CanonicalInput as Form, canonical_of, originals}
+use Rattle.nts_model.specs.Answers.Responses.{Response as Answer, recorded_by, said, IsOverPositions, IsResponseTo, IsIdentity}
 use Rattle.nts_certainty.specs.declared.certainty.Certainty.{Certainty}
 use Rattle.nts_certainty.specs.declared.certainty.Certainty.TheVariants as certainty
 use Rattle.nts_certainty.specs.declared.certainty.MaybeCause.{MaybeCause}

@@ -1,12 +1,12 @@
 -- A goal asked in a query of its own: its canonical input, the table that is made for that, the response, and what applying
 -- the response adds to the table that asked.
 use Rattle.std.specs.Prelude.{◌≡◌, ℕ, List, [], map}
-use Rattle.nts_model.specs.Trees.{Tree, empty}
-use Rattle.nts_model.specs.Contents.{Content}
-use Rattle.nts_model.specs.Substitutions.{leaf_tree}
-use Rattle.nts_model.specs.Handlers.{filled}
-use Rattle.nts_model.specs.Inputs.{Input, IsInput, CanonicalInput, PositionKind}
-use Rattle.nts_model.specs.Responses.{Findings, AreFindings, Response, response_of}
+use Rattle.nts_model.specs.Terms.Trees.{Tree, empty}
+use Rattle.nts_model.specs.Tables.Contents.{Content}
+use Rattle.nts_model.specs.Terms.Substitutions.{leaf_tree}
+use Rattle.nts_model.specs.Derivations.Handlers.{filled}
+use Rattle.nts_model.specs.Canonical.Inputs.{Input, IsInput, CanonicalInput, PositionKind}
+use Rattle.nts_model.specs.Answers.Responses.{Findings, AreFindings, Response, response_of}
 use Rattle.nts_unify.specs.Reading.{content_of}
 use Rattle.nts_canonical.specs.Kinds.{value_leaves}
 use Rattle.nts_canonical.specs.Building.{made_entries}

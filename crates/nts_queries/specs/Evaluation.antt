@@ -8,14 +8,14 @@ use Rattle.nts_model.specs.declared.labels.PredicateHead.TheVariants as predicat
 use Rattle.nts_model.specs.declared.labels.Label.{Label}
 use Rattle.nts_model.specs.declared.labels.Label.TheVariants as label
 use Rattle.nts_model.specs.declared.labels.Sort.{Sort}
-use Rattle.nts_model.specs.Trees.{Tree, kind_of, of_sort, IsClosed, any_label}
-use Rattle.nts_model.specs.Contents.{Content}
-use Rattle.nts_model.specs.Resolving.{Knows, deeply_resolved, IsSound}
-use Rattle.nts_model.specs.Holding.{Continues}
-use Rattle.nts_model.specs.Handlers.{AreValuesOf}
-use Rattle.nts_model.specs.Sequents.{Among}
-use Rattle.nts_model.specs.Rules.{normalization, statement_kind, statement_of}
-use Rattle.nts_model.specs.Passing.{TreePasses, PassesQueries}
+use Rattle.nts_model.specs.Terms.Trees.{Tree, kind_of, of_sort, IsClosed, any_label}
+use Rattle.nts_model.specs.Tables.Contents.{Content}
+use Rattle.nts_model.specs.Tables.Resolving.{Knows, deeply_resolved, IsSound}
+use Rattle.nts_model.specs.Tables.Holding.{Continues}
+use Rattle.nts_model.specs.Derivations.Handlers.{AreValuesOf}
+use Rattle.nts_model.specs.Derivations.Sequents.{Among}
+use Rattle.nts_model.specs.Derivations.Rules.{normalization, statement_kind, statement_of}
+use Rattle.nts_model.specs.Tables.Passing.{TreePasses, PassesQueries}
 use Rattle.nts_store.specs.declared.nodes.NodeId.{NodeId}
 use Rattle.nts_terms.specs.declared.handles.Goal.{Goal}
 use Rattle.nts_terms.specs.declared.cx.Cx.{Cx}

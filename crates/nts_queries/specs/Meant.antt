@@ -1,14 +1,14 @@
 -- What a certain answer means, for a handler whose terms stood in an earlier store.
 use Rattle.std.specs.Prelude.{◌≡◌, ◌⊎◌, ℕ, List, []}
 use Rattle.nts_model.specs.declared.labels.Variance.{Variance}
-use Rattle.nts_model.specs.Trees.{Tree}
-use Rattle.nts_model.specs.Sequents.{Among}
-use Rattle.nts_model.specs.Rules.{Mode, Meaning, GoalKind, step_kind}
-use Rattle.nts_model.specs.Proofs.{Assumed, passed}
-use Rattle.nts_model.specs.Stacks.{IsProvedFrom, HoldsCandidateFrom}
-use Rattle.nts_model.specs.Resolving.{deeply_resolved}
-use Rattle.nts_model.specs.Handlers.{Candidate, certain, Handler, meaning}
-use Rattle.nts_model.specs.Contents.{Content}
+use Rattle.nts_model.specs.Terms.Trees.{Tree}
+use Rattle.nts_model.specs.Derivations.Sequents.{Among}
+use Rattle.nts_model.specs.Derivations.Rules.{Mode, Meaning, GoalKind, step_kind}
+use Rattle.nts_model.specs.Derivations.Proofs.{Assumed, passed}
+use Rattle.nts_model.specs.Searching.Stacks.{IsProvedFrom, HoldsCandidateFrom}
+use Rattle.nts_model.specs.Tables.Resolving.{deeply_resolved}
+use Rattle.nts_model.specs.Derivations.Handlers.{Candidate, certain, Handler, meaning}
+use Rattle.nts_model.specs.Tables.Contents.{Content}
 use Rattle.nts_terms.specs.declared.handles.Goal.{Goal}
 use Rattle.nts_store.specs.Formed.{AreFormed}
 use Rattle.nts_store.specs.Growth.{tree_at, Extends}
@@ -24,7 +24,7 @@ use Rattle.nts_canonical.specs.declared.types.CanonicalInput.{CanonicalInput}
 use Rattle.nts_canonical.specs.Forms.{form_of, trees_of}
 use Rattle.nts_response.specs.declared.types.Response.{Response}
 use Rattle.nts_response.specs.Forms.{response_at}
-use Rattle.nts_model.specs.Responses.{Response as Answer}
+use Rattle.nts_model.specs.Answers.Responses.{Response as Answer}
 use Rattle.nts_delegate.specs.Offered.{source_of, candidate_of, candidates_of}
 use Rattle.nts_queries.specs.Telling.{IsPlain, StandsForAll, goals_with, IsBegun, Tells, Refutes, Outcomes, Replies, Fails, Reaches, RefusesOne, Asked, Refused, QueryTells, QueryRefutes}
 use Rattle.nts_queries.specs.Stepping.{goals_at}

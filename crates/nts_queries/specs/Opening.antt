@@ -1,7 +1,7 @@
 -- A goal of the store and the table that was opened.
 use Rattle.std.specs.Prelude.{◌≡◌, true, List}
-use Rattle.nts_model.specs.Trees.{Tree, IsClosed}
-use Rattle.nts_model.specs.Opening.{binds, entered, opened_in}
+use Rattle.nts_model.specs.Terms.Trees.{Tree, IsClosed}
+use Rattle.nts_model.specs.Refutation.Opening.{binds, entered, opened_in}
 use Rattle.nts_store.specs.Growth.{tree_at}
 use Rattle.nts_unify.specs.Reading.{content_of}
 use Rattle.nts_table.specs.Tables.{Table}

@@ -2,16 +2,16 @@
 use Rattle.std.specs.Prelude.{List, [], ◌∷◌, map}
 use Rattle.std.specs.Prelude.{false}
 use Rattle.nts_model.specs.declared.labels.Relation.{Relation}
-use Rattle.nts_model.specs.Trees.{Tree}
-use Rattle.nts_model.specs.Contents.{Content}
-use Rattle.nts_model.specs.Resolving.{IsSound}
-use Rattle.nts_model.specs.Holding.{HoldsConstraint, Continues}
-use Rattle.nts_model.specs.Related.{Constraint}
-use Rattle.nts_model.specs.Sequents.{Premise}
-use Rattle.nts_model.specs.Rules.{Mode, Equation, Meaning, GoalKind, step_kind}
-use Rattle.nts_model.specs.Proofs.{Assumed, passed}
-use Rattle.nts_model.specs.Stacks.{IsProvedFrom, IsProvedFromAt, HasHeldRankedProof}
-use Rattle.nts_model.specs.Proving.{HoldsTerms, AreConstraintsOf, HoldsEquationAt, IsHeldAt, HasHeldProof}
+use Rattle.nts_model.specs.Terms.Trees.{Tree}
+use Rattle.nts_model.specs.Tables.Contents.{Content}
+use Rattle.nts_model.specs.Tables.Resolving.{IsSound}
+use Rattle.nts_model.specs.Tables.Holding.{HoldsConstraint, Continues}
+use Rattle.nts_model.specs.Derivations.Related.{Constraint}
+use Rattle.nts_model.specs.Derivations.Sequents.{Premise}
+use Rattle.nts_model.specs.Derivations.Rules.{Mode, Equation, Meaning, GoalKind, step_kind}
+use Rattle.nts_model.specs.Derivations.Proofs.{Assumed, passed}
+use Rattle.nts_model.specs.Searching.Stacks.{IsProvedFrom, IsProvedFromAt, HasHeldRankedProof}
+use Rattle.nts_model.specs.Derivations.Proving.{HoldsTerms, AreConstraintsOf, HoldsEquationAt, IsHeldAt, HasHeldProof}
 use Rattle.nts_store.specs.declared.nodes.NodeId.{NodeId}
 use Rattle.nts_terms.specs.declared.handles.Goal.{Goal}
 use Rattle.nts_store.specs.Growth.{tree_at}

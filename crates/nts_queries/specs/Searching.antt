@@ -1,11 +1,11 @@
 -- How the stack of a search stands while goals are evaluated.
 use Rattle.std.specs.Prelude.{◌≡◌, ℕ, ◌+◌, ◌≤◌, List, [], ◌∷◌, length, get_or, Option, Some, None, All, IsTrue}
-use Rattle.nts_model.specs.Trees.{Tree}
-use Rattle.nts_model.specs.Handlers.{Handler}
-use Rattle.nts_model.specs.Rules.{Mode}
-use Rattle.nts_model.specs.Proofs.{Assumed}
-use Rattle.nts_model.specs.Stacks.{assumptions}
-use Rattle.nts_model.specs.Inputs.{CanonicalInput as Form, PositionKind}
+use Rattle.nts_model.specs.Terms.Trees.{Tree}
+use Rattle.nts_model.specs.Derivations.Handlers.{Handler}
+use Rattle.nts_model.specs.Derivations.Rules.{Mode}
+use Rattle.nts_model.specs.Derivations.Proofs.{Assumed}
+use Rattle.nts_model.specs.Searching.Stacks.{assumptions}
+use Rattle.nts_model.specs.Canonical.Inputs.{CanonicalInput as Form, PositionKind}
 use Rattle.nts_certainty.specs.declared.sources.PathKind.{PathKind}
 use Rattle.nts_certainty.specs.declared.sources.PathKind.TheVariants as path
 use Rattle.nts_terms.specs.declared.cx.Cx.{Cx}

@@ -3,22 +3,22 @@
 use Rattle.std.specs.Prelude.{◌≡◌, ◌⊎◌, ℕ, ◌+◌, ◌≤◌, List, [], ◌∷◌, ◌++◌, map, length, get_or}
 use Rattle.nts_model.specs.declared.labels.Relation.TheVariants as relation
 use Rattle.nts_model.specs.declared.labels.Sort.{Sort}
-use Rattle.nts_model.specs.Trees.{Tree, empty}
-use Rattle.nts_model.specs.Contents.{Content}
-use Rattle.nts_model.specs.Resolving.{IsSound, deeply_resolved}
-use Rattle.nts_model.specs.Levels.{AreCurrent}
-use Rattle.nts_model.specs.Equations.{AreUnrelated}
-use Rattle.nts_model.specs.Related.{Constraint}
-use Rattle.nts_model.specs.Sequents.{Source, type_relating, normalize_goal, inductive, Premise, Among}
-use Rattle.nts_model.specs.Rules.{Mode, coherence}
-use Rattle.nts_model.specs.Substitutions.{leaf_tree}
-use Rattle.nts_model.specs.Numbered.{position}
-use Rattle.nts_model.specs.Handlers.{Handler, Candidate, IsAsked, filled, constraint_by, premise_by}
-use Rattle.nts_model.specs.Choosing.{Freshens, EquatesAll, IsMet}
-use Rattle.nts_model.specs.Forcing.{Adds, AddsAll}
-use Rattle.nts_model.specs.Opening.{entered, opened_in}
-use Rattle.nts_model.specs.Inputs.{Input, CanonicalInput, canonical_of, originals}
-use Rattle.nts_model.specs.Responses.{Response, IsResponseTo, Applies, RefusesResponse}
+use Rattle.nts_model.specs.Terms.Trees.{Tree, empty}
+use Rattle.nts_model.specs.Tables.Contents.{Content}
+use Rattle.nts_model.specs.Tables.Resolving.{IsSound, deeply_resolved}
+use Rattle.nts_model.specs.Tables.Levels.{AreCurrent}
+use Rattle.nts_model.specs.Tables.Equations.{AreUnrelated}
+use Rattle.nts_model.specs.Derivations.Related.{Constraint}
+use Rattle.nts_model.specs.Derivations.Sequents.{Source, type_relating, normalize_goal, inductive, Premise, Among}
+use Rattle.nts_model.specs.Derivations.Rules.{Mode, coherence}
+use Rattle.nts_model.specs.Terms.Substitutions.{leaf_tree}
+use Rattle.nts_model.specs.Canonical.Numbered.{position}
+use Rattle.nts_model.specs.Derivations.Handlers.{Handler, Candidate, IsAsked, filled, constraint_by, premise_by}
+use Rattle.nts_model.specs.Refutation.Choosing.{Freshens, EquatesAll, IsMet}
+use Rattle.nts_model.specs.Refutation.Forcing.{Adds, AddsAll}
+use Rattle.nts_model.specs.Refutation.Opening.{entered, opened_in}
+use Rattle.nts_model.specs.Canonical.Inputs.{Input, CanonicalInput, canonical_of, originals}
+use Rattle.nts_model.specs.Answers.Responses.{Response, IsResponseTo, Applies, RefusesResponse}
 use Rattle.nts_queries.specs.Asking.{first_table, first_values, asked_environment, asked_predicate, IsInputFor, IsResponseOf, without_constraints}
 
 -- the response of a table that keeps its region constraints to itself

@@ -1,7 +1,7 @@
 //! Whether a goal may be asked at the root.
 ghost use Rattle.std.specs.Prelude.{◌≡◌, ◌↔◌, IsTrue, false, IfOk, IsOkUnless};
-ghost use Rattle.nts_model.specs.Trees.{any_label};
-ghost use Rattle.nts_model.specs.Resolving.{deeply_resolved};
+ghost use Rattle.nts_model.specs.Terms.Trees.{any_label};
+ghost use Rattle.nts_model.specs.Tables.Resolving.{deeply_resolved};
 ghost use Rattle.nts_store.specs.Growth.{tree_at, IsIn, Extends};
 ghost use Rattle.nts_unify.specs.Reading.{content_of};
 ghost use Rattle.nts_table.specs.Tables.{IsTable};

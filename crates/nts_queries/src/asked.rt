@@ -1,11 +1,11 @@
 //! Which goals the handler's candidates answer.
 ghost use Rattle.std.specs.Prelude.{ℕ, ◌≡◌, true, List};
 ghost use Rattle.nts_model.specs.declared.labels.Variance.{Variance};
-ghost use Rattle.nts_model.specs.Trees.{Tree};
-ghost use Rattle.nts_model.specs.Rules.{goal_kind};
-ghost use Rattle.nts_model.specs.Handlers.{meaning};
+ghost use Rattle.nts_model.specs.Terms.Trees.{Tree};
+ghost use Rattle.nts_model.specs.Derivations.Rules.{goal_kind};
+ghost use Rattle.nts_model.specs.Derivations.Handlers.{meaning};
 ghost use Rattle.nts_search.specs.Kinds.{goal_kind_of};
-ghost use Rattle.nts_model.specs.Sequents.{HasClosedStatements};
+ghost use Rattle.nts_model.specs.Derivations.Sequents.{HasClosedStatements};
 ghost use Rattle.nts_store.specs.Growth.{tree_at};
 ghost use Rattle.nts_queries.specs.Evaluation.{IsAskedGoal};
 ghost use Rattle.nts_terms.specs.Handles.{HoldsEnv, HoldsGoal};

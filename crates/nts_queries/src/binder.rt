@@ -2,11 +2,11 @@
 ghost use Rattle.std.specs.Prelude.{◌≡◌, ◌+◌, IfOk, OnOk, IfSome, IsNone, Err};
 ghost use Rattle.nts_model.specs.declared.labels.ClauseHead.TheVariants as clause;
 ghost use Rattle.nts_model.specs.declared.labels.Label.TheVariants as label;
-ghost use Rattle.nts_model.specs.Trees.{node, more, empty, IsClosedUnder};
-ghost use Rattle.nts_model.specs.Resolving.{Knows};
-ghost use Rattle.nts_model.specs.Related.{unbound};
-ghost use Rattle.nts_model.specs.Rules.{opened};
-ghost use Rattle.nts_model.specs.Opening.{placeholder_in};
+ghost use Rattle.nts_model.specs.Terms.Trees.{node, more, empty, IsClosedUnder};
+ghost use Rattle.nts_model.specs.Tables.Resolving.{Knows};
+ghost use Rattle.nts_model.specs.Derivations.Related.{unbound};
+ghost use Rattle.nts_model.specs.Derivations.Rules.{opened};
+ghost use Rattle.nts_model.specs.Refutation.Opening.{placeholder_in};
 ghost use Rattle.nts_store.specs.Growth.{tree_at};
 ghost use Rattle.nts_terms.specs.Handles.{HoldsArgs, HoldsPredicate};
 ghost use Rattle.nts_terms.specs.Rest.{Grows};

@@ -1,14 +1,14 @@
 //! What a cycle is answered, and what a query is answered before its first round and after too many.
 ghost use Rattle.std.specs.Prelude.{ℕ, ◌≡◌, ◌<◌, ◌+◌, ◌⊎◌, length, get_or, Option, Some, None, IfOk, IsOkUnless};
-ghost use Rattle.nts_model.specs.Proofs.{passed};
-ghost use Rattle.nts_model.specs.Stacks.{IsUsable};
-ghost use Rattle.nts_model.specs.Responses.{answer_sequent};
+ghost use Rattle.nts_model.specs.Derivations.Proofs.{passed};
+ghost use Rattle.nts_model.specs.Searching.Stacks.{IsUsable};
+ghost use Rattle.nts_model.specs.Answers.Responses.{answer_sequent};
 ghost use Rattle.nts_terms.specs.Rest.{Grows};
 ghost use Rattle.nts_delegate.specs.Offered.{path_kind_of};
 ghost use Rattle.nts_canonical.specs.Alike.{AreOneInput};
 ghost use Rattle.nts_canonical.specs.Building.{kinds_of};
 ghost use Rattle.nts_canonical.specs.Forms.{form_of};
-ghost use Rattle.nts_model.specs.Driving.{unconstrained};
+ghost use Rattle.nts_model.specs.Searching.Driving.{unconstrained};
 ghost use Rattle.nts_response.specs.Forms.{response_at, HoldsResponse};
 ghost use Rattle.nts_search.specs.declared.stack.StackEntry.{StackEntry};
 ghost use Rattle.nts_queries.specs.Answering.{IsQueryInput, IsAnswerTo, IfCertain, IfAnswered};

@@ -1,6 +1,6 @@
 //! Which candidates are asked at all.
 ghost use Rattle.std.specs.Prelude.{◌≡◌, ◌↔◌, ◌++◌, ◌∷◌, [], if◌then◌else◌, IsTrue, IfOk, OnOk, IsOkUnless};
-ghost use Rattle.nts_model.specs.Choosing.{IsMet};
+ghost use Rattle.nts_model.specs.Refutation.Choosing.{IsMet};
 ghost use Rattle.nts_unify.specs.Reading.{content_of};
 ghost use Rattle.nts_delegate.specs.Candidates.{IsCandidate, AreCandidates};
 ghost use Rattle.nts_delegate.specs.Offered.{candidate_of};

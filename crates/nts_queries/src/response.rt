@@ -1,12 +1,12 @@
 //! What a query's table answers, and what a response changes.
 ghost use Rattle.std.specs.Prelude.{◌≡◌, ◌↔◌, ◌<◌, ◌+◌, false, List, [], map, All, IfOk, OnOk, OnErr, IsOkUnless};
-ghost use Rattle.nts_model.specs.Trees.{Tree, IsClosed};
-ghost use Rattle.nts_model.specs.Passing.{BringsOnly};
-ghost use Rattle.nts_model.specs.Responses.{RefusesResponse, IsIdentity};
+ghost use Rattle.nts_model.specs.Terms.Trees.{Tree, IsClosed};
+ghost use Rattle.nts_model.specs.Tables.Passing.{BringsOnly};
+ghost use Rattle.nts_model.specs.Answers.Responses.{RefusesResponse, IsIdentity};
 ghost use Rattle.nts_certainty.specs.declared.sources.HasChanged.TheVariants as changes;
 ghost use Rattle.nts_queries.specs.Evaluation.{Runs};
 ghost use Rattle.nts_response.specs.Applicable.{IsApplicable, IsApplied};
-ghost use Rattle.nts_model.specs.Resolving.{deeply_resolved};
+ghost use Rattle.nts_model.specs.Tables.Resolving.{deeply_resolved};
 ghost use Rattle.nts_store.specs.Growth.{tree_at};
 ghost use Rattle.nts_terms.specs.Handles.{HoldsArg};
 ghost use Rattle.nts_terms.specs.Rest.{Grows};

@@ -1,7 +1,7 @@
 //! What a round of a query begins and ends with. It stands behind boxes, since a round stands on the machine's stack while the
 //! goals below it are evaluated.
 ghost use Rattle.std.specs.Prelude.{◌≡◌, ◌≢◌, ◌<◌, ◌≤◌, ◌++◌, ◌∷◌, [], ℕ, false, List, Option, Some, None, length, IfOk, OnOk, OnErr, IsOkUnless};
-ghost use Rattle.nts_model.specs.Trees.{Tree};
+ghost use Rattle.nts_model.specs.Terms.Trees.{Tree};
 ghost use Rattle.nts_terms.specs.Rest.{Grows};
 ghost use Rattle.nts_canonical.specs.Forms.{HoldsQuery};
 ghost use Rattle.nts_search.specs.declared.stack.StackEntry.{StackEntry};

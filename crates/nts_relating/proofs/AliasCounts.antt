@@ -8,20 +8,20 @@ use Rattle.nts_model.specs.declared.labels.Leaf.TheVariants as leaf
 use Rattle.nts_model.specs.declared.labels.BoundVarIndexKind.TheVariants as index
 use Rattle.nts_model.specs.declared.labels.Label.{Label}
 use Rattle.nts_model.specs.declared.labels.Label.TheVariants as label
-use Rattle.nts_model.specs.Trees.{Tree, empty, more, node, binders, is_alias, IsBoundBelow, IsClosedUnder}
-use Rattle.nts_model.specs.Contents.{Content, Slot, SlotState, unset, link, known, state_of, kind_at, bound_to}
-use Rattle.nts_model.specs.Resolving.{variable_of, infer_of, variable_tree, under, kind_or_type, value_of_state, value_at, resolved, rooted, rooted_variable, deeply_resolved, Knows, IsSound, IsOneOf, AllUnset}
-use Rattle.nts_model.specs.Regions.{IsRegion, RegionName, name_of_label}
-use Rattle.nts_model.specs.Holding.{Continues}
-use Rattle.nts_model.specs.Alike.{Alike, one_tree, two_regions, one_label, two_rows, AreAlike}
-use Rattle.nts_model.specs.Measuring.{is_less, is_bound_below, unless_variable, closed_under, closed_aliases}
-use Rattle.nts_model.proofs.Measuring.{closed_replaced, aliases_replaced}
-use Rattle.nts_model.proofs.Under.{under-bound, same_or_other}
-use Rattle.nts_model.proofs.Roots.{infer_of-rooted, Lacks-rooted}
-use Rattle.nts_model.proofs.Resolved.{resolved-empty, resolved-more, resolved-node, resolved-variable_unset, Lacks-resolved}
-use Rattle.nts_model.proofs.Open.{AllUnset-lacks, Knows-deeply_resolved}
-use Rattle.nts_model.proofs.Fitting.{region_label}
-use Rattle.nts_model.proofs.Binding.{IsKnowable, resolved-known}
+use Rattle.nts_model.specs.Terms.Trees.{Tree, empty, more, node, binders, is_alias, IsBoundBelow, IsClosedUnder}
+use Rattle.nts_model.specs.Tables.Contents.{Content, Slot, SlotState, unset, link, known, state_of, kind_at, bound_to}
+use Rattle.nts_model.specs.Tables.Resolving.{variable_of, infer_of, variable_tree, under, kind_or_type, value_of_state, value_at, resolved, rooted, rooted_variable, deeply_resolved, Knows, IsSound, IsOneOf, AllUnset}
+use Rattle.nts_model.specs.Terms.Regions.{IsRegion, RegionName, name_of_label}
+use Rattle.nts_model.specs.Tables.Holding.{Continues}
+use Rattle.nts_model.specs.Tables.Alike.{Alike, one_tree, two_regions, one_label, two_rows, AreAlike}
+use Rattle.nts_model.specs.Tables.Measuring.{is_less, is_bound_below, unless_variable, closed_under, closed_aliases}
+use Rattle.nts_model.proofs.Tables.Measuring.{closed_replaced, aliases_replaced}
+use Rattle.nts_model.proofs.Tables.Under.{under-bound, same_or_other}
+use Rattle.nts_model.proofs.Tables.Roots.{infer_of-rooted, Lacks-rooted}
+use Rattle.nts_model.proofs.Tables.Resolved.{resolved-empty, resolved-more, resolved-node, resolved-variable_unset, Lacks-resolved}
+use Rattle.nts_model.proofs.Tables.Open.{AllUnset-lacks, Knows-deeply_resolved}
+use Rattle.nts_model.proofs.Tables.Fitting.{region_label}
+use Rattle.nts_model.proofs.Tables.Binding.{IsKnowable, resolved-known}
 
 -- where no bound variable escapes
 less_true : (d c : ℕ) → d < c → is_less d c ≡ true

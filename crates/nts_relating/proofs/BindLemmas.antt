@@ -6,34 +6,34 @@ use Rattle.nts_model.specs.declared.labels.VariableKind.{VariableKind}
 use Rattle.nts_model.specs.declared.labels.VariableKind.TheVariants as kind
 use Rattle.nts_model.specs.declared.labels.Leaf.TheVariants as leaf
 use Rattle.nts_model.specs.declared.labels.Label.TheVariants as label
-use Rattle.nts_model.specs.Resolving.{variable_tree, resolved, rooted, Knows, variable_rank, rank_of_kind}
-use Rattle.nts_model.specs.Levels.{NamesAll, level_in, term_level, region_level}
-use Rattle.nts_model.specs.Fitting.{Fits}
-use Rattle.nts_model.specs.Worlds.{inst, IsValue}
+use Rattle.nts_model.specs.Tables.Resolving.{variable_tree, resolved, rooted, Knows, variable_rank, rank_of_kind}
+use Rattle.nts_model.specs.Tables.Levels.{NamesAll, level_in, term_level, region_level}
+use Rattle.nts_model.specs.Terms.Fitting.{Fits}
+use Rattle.nts_model.specs.Tables.Worlds.{inst, IsValue}
 use Rattle.nts_unify.specs.Proper.{IsProper-known}
-use Rattle.nts_model.specs.Holding.{AreOne, Continues}
-use Rattle.nts_model.specs.Alike.{AreAlike}
-use Rattle.nts_model.specs.Measuring.{closed_aliases}
-use Rattle.nts_model.proofs.Fitting.{Fits-kind_of}
-use Rattle.nts_model.proofs.Variables.{infer_number_some}
-use Rattle.nts_model.proofs.Classes.{resolved-known_variable}
-use Rattle.nts_model.proofs.Resolved.{resolved-variable_unset}
-use Rattle.nts_model.proofs.Instances.{inst-agrees}
-use Rattle.nts_model.proofs.Solving.{Solves-known, Solves-from_known, IsNameable-set}
-use Rattle.nts_model.proofs.Held.{AreOne-continues, Continues-known, Continues-trans}
-use Rattle.nts_model.proofs.Tying.{TiesNew-same, TiesNew-trans}
-use Rattle.nts_model.proofs.Bringing.{brings-known}
-use Rattle.nts_model.proofs.Alike.{AreAlike-continues, AreAlike-for}
+use Rattle.nts_model.specs.Tables.Holding.{AreOne, Continues}
+use Rattle.nts_model.specs.Tables.Alike.{AreAlike}
+use Rattle.nts_model.specs.Tables.Measuring.{closed_aliases}
+use Rattle.nts_model.proofs.Tables.Fitting.{Fits-kind_of}
+use Rattle.nts_model.proofs.Terms.Variables.{infer_number_some}
+use Rattle.nts_model.proofs.Tables.Classes.{resolved-known_variable}
+use Rattle.nts_model.proofs.Tables.Resolved.{resolved-variable_unset}
+use Rattle.nts_model.proofs.Tables.Instances.{inst-agrees}
+use Rattle.nts_model.proofs.Tables.Solving.{Solves-known, Solves-from_known, IsNameable-set}
+use Rattle.nts_model.proofs.Tables.Held.{AreOne-continues, Continues-known, Continues-trans}
+use Rattle.nts_model.proofs.Tables.Tying.{TiesNew-same, TiesNew-trans}
+use Rattle.nts_model.proofs.Responses.Bringing.{brings-known}
+use Rattle.nts_model.proofs.Tables.Alike.{AreAlike-continues, AreAlike-for}
 use Rattle.nts_unify.proofs.Leading.{universe_of-entry}
 use Rattle.nts_relating.proofs.Naming.{lawful_sides, kind_read}
 use Rattle.nts_relating.proofs.AliasCounts.{aliases_one, aliases_known, unset_none}
 use Rattle.nts_relating.proofs.Plain.{plain_one, plain_known, unset_plain}
 use Rattle.nts_relating.proofs.PairLemmas.{set_one}
 use Rattle.nts_relating.proofs.Ranks.{kind_of-like}
-use Rattle.nts_model.specs.Trees.{Tree, empty, of_sort, sort_of_variable, kind_of, any_label, is_alias, IsFormed}
-use Rattle.nts_model.specs.Contents.{Content, unset, known, state_of, kind_at, bound_to}
-use Rattle.nts_model.proofs.Slots.{length-slice_set, slice_get_below}
-use Rattle.nts_model.proofs.Binding.{IsKnowable, kind_at-set, IsSound-known, resolved-known_value}
+use Rattle.nts_model.specs.Terms.Trees.{Tree, empty, of_sort, sort_of_variable, kind_of, any_label, is_alias, IsFormed}
+use Rattle.nts_model.specs.Tables.Contents.{Content, unset, known, state_of, kind_at, bound_to}
+use Rattle.nts_model.proofs.Tables.Slots.{length-slice_set, slice_get_below}
+use Rattle.nts_model.proofs.Tables.Binding.{IsKnowable, kind_at-set, IsSound-known, resolved-known_value}
 use Rattle.nts_store.specs.declared.nodes.NodeId.{NodeId}
 use Rattle.nts_store.specs.Growth.{tree_at, IsIn, Extends}
 use Rattle.nts_unify.specs.declared.contents.State.TheVariants.{Link, Known}
@@ -50,7 +50,7 @@ use Rattle.nts_unify.proofs.Keeping.{IsLater-trans, Knows-later, unset-set, unse
 use Rattle.nts_unify.proofs.JoinLemmas.{free_slot}
 use Rattle.nts_unify.proofs.Tied.{ties_of_keeps}
 use Rattle.nts_unify.proofs.Leading.{state_of-entry, kind_at-entry}
-use Rattle.nts_model.proofs.SubUnified.{JoinsSubRoots-known}
+use Rattle.nts_model.proofs.Tables.SubUnified.{JoinsSubRoots-known}
 
 pub bindable_no_region : (ts : List Tree) (e : Entries) (x : ℕ) → IsBindable e x → kind_at (content_of ts e) x ≢ Some kind.Region
 bindable_no_region ts e x h r = h.no_region (some_inj _ _ (sym (free_slot ts e x h.of_kind h.free).kind ∙ r))

@@ -8,27 +8,27 @@ use Rattle.nts_model.specs.declared.labels.VariableKind.TheVariants as kind
 use Rattle.nts_model.specs.declared.labels.Leaf.TheVariants as leaf
 use Rattle.nts_model.specs.declared.labels.Label.{Label}
 use Rattle.nts_model.specs.declared.labels.Label.TheVariants as label
-use Rattle.nts_model.specs.Trees.{Tree, empty, more, node, of_sort, kind_of, kind_of_label, IsBoundBelow, Meets, shape}
-use Rattle.nts_model.specs.Contents.{Content, Slot, unset, link, state_of, universe_of, kind_at, with_slot}
-use Rattle.nts_model.specs.Resolving.{variable_of, variable_tree, infer_of, IsInfer, Knows, KnowsVariable, IsSound, Lacks, LacksAt, resolved, rooted, variable_rank}
-use Rattle.nts_model.specs.Placeholders.{CanName}
-use Rattle.nts_model.specs.Passing.{BringsNoLabels}
-use Rattle.nts_model.specs.Levels.{NamesAll, term_level, region_level}
-use Rattle.nts_model.specs.Regions.{RegionName, IsRegion, name_of_label}
-use Rattle.nts_model.specs.Worlds.{World, inst, IsValue, Solves, KnowsAll, with_tree, IsNameable}
-use Rattle.nts_model.specs.Holding.{AreOne, Continues}
-use Rattle.nts_model.proofs.Scoping.{leaf_patch, term_patched, infer_patched}
-use Rattle.nts_model.proofs.Variables.{infer_number_some, infer_label, infer_of_none}
-use Rattle.nts_model.proofs.Slots.{field_below, field-with_slot_new, field-with_slot_old}
-use Rattle.nts_model.proofs.Instances.{inst-agrees, Agrees-with_tree, tree-with_tree}
-use Rattle.nts_model.proofs.Fitting.{IsValue-inst}
-use Rattle.nts_model.proofs.Solving.{Solves-from_with_slot, Solves-with_slot, IsNameable-with_slot, IsNameable-agrees}
-use Rattle.nts_model.proofs.Held.{AreOne-continues, Continues-trans, Continues-with_slot}
-use Rattle.nts_model.proofs.Alike.{AreAlike-one}
-use Rattle.nts_model.proofs.Bringing.{brings-with_slot}
-use Rattle.nts_model.proofs.Open.{Knows-resolved}
-use Rattle.nts_model.proofs.Resolved.{resolved-variable_unset, resolved-variable_link, IsVariable}
-use Rattle.nts_model.proofs.Sound.{resolved-with_slot, state_of-with_slot_old, state_of-with_slot_new, IsSound-with_slot}
+use Rattle.nts_model.specs.Terms.Trees.{Tree, empty, more, node, of_sort, kind_of, kind_of_label, IsBoundBelow, Meets, shape}
+use Rattle.nts_model.specs.Tables.Contents.{Content, Slot, unset, link, state_of, universe_of, kind_at, with_slot}
+use Rattle.nts_model.specs.Tables.Resolving.{variable_of, variable_tree, infer_of, IsInfer, Knows, KnowsVariable, IsSound, Lacks, LacksAt, resolved, rooted, variable_rank}
+use Rattle.nts_model.specs.Terms.Placeholders.{CanName}
+use Rattle.nts_model.specs.Tables.Passing.{BringsNoLabels}
+use Rattle.nts_model.specs.Tables.Levels.{NamesAll, term_level, region_level}
+use Rattle.nts_model.specs.Terms.Regions.{RegionName, IsRegion, name_of_label}
+use Rattle.nts_model.specs.Tables.Worlds.{World, inst, IsValue, Solves, KnowsAll, with_tree, IsNameable}
+use Rattle.nts_model.specs.Tables.Holding.{AreOne, Continues}
+use Rattle.nts_model.proofs.Terms.Scoping.{leaf_patch, term_patched, infer_patched}
+use Rattle.nts_model.proofs.Terms.Variables.{infer_number_some, infer_label, infer_of_none}
+use Rattle.nts_model.proofs.Tables.Slots.{field_below, field-with_slot_new, field-with_slot_old}
+use Rattle.nts_model.proofs.Tables.Instances.{inst-agrees, Agrees-with_tree, tree-with_tree}
+use Rattle.nts_model.proofs.Tables.Fitting.{IsValue-inst}
+use Rattle.nts_model.proofs.Tables.Solving.{Solves-from_with_slot, Solves-with_slot, IsNameable-with_slot, IsNameable-agrees}
+use Rattle.nts_model.proofs.Tables.Held.{AreOne-continues, Continues-trans, Continues-with_slot}
+use Rattle.nts_model.proofs.Tables.Alike.{AreAlike-one}
+use Rattle.nts_model.proofs.Responses.Bringing.{brings-with_slot}
+use Rattle.nts_model.proofs.Tables.Open.{Knows-resolved}
+use Rattle.nts_model.proofs.Tables.Resolved.{resolved-variable_unset, resolved-variable_link, IsVariable}
+use Rattle.nts_model.proofs.Tables.Sound.{resolved-with_slot, state_of-with_slot_old, state_of-with_slot_new, IsSound-with_slot}
 use Rattle.nts_unify.specs.Changing.{unset_count, unset_of, one_unset, IsLater}
 use Rattle.nts_unify.specs.Joining.{IsOneClass, IsJoined}
 use Rattle.nts_relating.specs.Relating.{IsLike, IsUnset, RegionsRelate, Generalized}

@@ -1,5 +1,5 @@
 -- The value that a variable gets for a tree.
-use Rattle.nts_model.proofs.Substituting.{no_children}
+use Rattle.nts_model.proofs.Terms.Substituting.{no_children}
 use Rattle.std.proofs.lemmas.Bool.{or_parts}
 use Rattle.nts_unify.proofs.Changes.{some_inj}
 use Rattle.std.proofs.Common.{◌≡◌, ◌≢◌, ℕ, zero, suc, ◌+◌, ◌<◌, ◌≤◌, Bool, true, false, List, [], ◌∷◌, ◌++◌, length, Option, Some, None, refl, sym, ap, subst, ◌∙◌, arith}
@@ -14,30 +14,30 @@ use Rattle.nts_model.specs.declared.labels.FreeRegion.TheVariants as region
 use Rattle.nts_model.specs.declared.labels.Constant.TheVariants as constant
 use Rattle.nts_model.specs.declared.labels.ListHead.TheVariants as list
 use Rattle.nts_model.specs.declared.labels.TyHead.TheVariants as ty
-use Rattle.nts_model.specs.Trees.{Tree, empty, more, node, NodeKind, of_sort, kind_of, kind_of_label, any_label, is_infer, children, row_length, row_at, row_take, row_push, IsRow, Place, Shape, in_order, each, FitsPlace, HavePlaces, AllFit, Meets, shape, binders, IsBoundBelow, IsClosedUnder, is_region_infer, is_placeholder}
-use Rattle.nts_model.specs.Contents.{Content, universe_of, kind_at}
-use Rattle.nts_model.specs.Resolving.{variable_of, variable_tree, infer_of, IsInfer, Knows, IsSound, Lacks, resolved, deeply_resolved, rooted, rooted_variable, root_of, left_to_resolve, rank_of, variable_rank}
-use Rattle.nts_model.specs.Fitting.{Fits}
-use Rattle.nts_model.specs.Placeholders.{CanName}
-use Rattle.nts_model.specs.Passing.{TreePasses, TablePasses}
-use Rattle.nts_model.specs.Levels.{NamesAll, term_level, region_level, level_in}
-use Rattle.nts_model.specs.Worlds.{World, inst, renamed, Solves, KnowsAll}
-use Rattle.nts_model.specs.Equations.{ExtensionIf}
-use Rattle.nts_model.specs.Holding.{AreOne}
-use Rattle.nts_model.specs.Alike.{HoldsEqual, AreAlike}
-use Rattle.nts_model.proofs.Variables.{infer_number_some, infer_of_none}
-use Rattle.nts_model.proofs.Bringing.{passes-pushed, passes-row_push}
-use Rattle.nts_model.proofs.Under.{under-lacks}
-use Rattle.nts_model.proofs.Roots.{root_of-root_of}
-use Rattle.nts_model.proofs.Instances.{inst-node, inst-agrees, Agrees-refl, Agrees-trans}
-use Rattle.nts_model.proofs.Fitting.{IsClosedUnder-more}
-use Rattle.nts_model.proofs.Levelled.{NamesAll-falls}
-use Rattle.nts_model.proofs.Held.{AreOne-continues, Continues-refl, Continues-trans}
-use Rattle.nts_model.proofs.Alike.{Alike-row_push, AreAlike-one, AreAlike-itself, AreAlike-for, AreAlike-node, AreAlike-continues, deeply_resolved-more, row_length-deeply_resolved, IsRow-deeply_resolved}
-use Rattle.nts_model.specs.Patching.{IsPatched, in_end, in_node}
-use Rattle.nts_model.proofs.Unpositioned.{known_well_bound}
-use Rattle.nts_model.proofs.Scoping.{patched_itself, leaf_patch, term_patched, infer_patched, push_patched, lists_patched}
-use Rattle.nts_model.proofs.Resolved.{resolved-empty, resolved-node, resolved-row_push, IsRow-resolved, resolved-variable_unset, deeply_resolved-empty, deeply_resolved-node, Knows-row_at}
+use Rattle.nts_model.specs.Terms.Trees.{Tree, empty, more, node, NodeKind, of_sort, kind_of, kind_of_label, any_label, is_infer, children, row_length, row_at, row_take, row_push, IsRow, Place, Shape, in_order, each, FitsPlace, HavePlaces, AllFit, Meets, shape, binders, IsBoundBelow, IsClosedUnder, is_region_infer, is_placeholder}
+use Rattle.nts_model.specs.Tables.Contents.{Content, universe_of, kind_at}
+use Rattle.nts_model.specs.Tables.Resolving.{variable_of, variable_tree, infer_of, IsInfer, Knows, IsSound, Lacks, resolved, deeply_resolved, rooted, rooted_variable, root_of, left_to_resolve, rank_of, variable_rank}
+use Rattle.nts_model.specs.Terms.Fitting.{Fits}
+use Rattle.nts_model.specs.Terms.Placeholders.{CanName}
+use Rattle.nts_model.specs.Tables.Passing.{TreePasses, TablePasses}
+use Rattle.nts_model.specs.Tables.Levels.{NamesAll, term_level, region_level, level_in}
+use Rattle.nts_model.specs.Tables.Worlds.{World, inst, renamed, Solves, KnowsAll}
+use Rattle.nts_model.specs.Tables.Equations.{ExtensionIf}
+use Rattle.nts_model.specs.Tables.Holding.{AreOne}
+use Rattle.nts_model.specs.Tables.Alike.{HoldsEqual, AreAlike}
+use Rattle.nts_model.proofs.Terms.Variables.{infer_number_some, infer_of_none}
+use Rattle.nts_model.proofs.Responses.Bringing.{passes-pushed, passes-row_push}
+use Rattle.nts_model.proofs.Tables.Under.{under-lacks}
+use Rattle.nts_model.proofs.Tables.Roots.{root_of-root_of}
+use Rattle.nts_model.proofs.Tables.Instances.{inst-node, inst-agrees, Agrees-refl, Agrees-trans}
+use Rattle.nts_model.proofs.Tables.Fitting.{IsClosedUnder-more}
+use Rattle.nts_model.proofs.Tables.Levelled.{NamesAll-falls}
+use Rattle.nts_model.proofs.Tables.Held.{AreOne-continues, Continues-refl, Continues-trans}
+use Rattle.nts_model.proofs.Tables.Alike.{Alike-row_push, AreAlike-one, AreAlike-itself, AreAlike-for, AreAlike-node, AreAlike-continues, deeply_resolved-more, row_length-deeply_resolved, IsRow-deeply_resolved}
+use Rattle.nts_model.specs.Terms.Patching.{IsPatched, in_end, in_node}
+use Rattle.nts_model.proofs.Terms.Unpositioned.{known_well_bound}
+use Rattle.nts_model.proofs.Terms.Scoping.{patched_itself, leaf_patch, term_patched, infer_patched, push_patched, lists_patched}
+use Rattle.nts_model.proofs.Tables.Resolved.{resolved-empty, resolved-node, resolved-row_push, IsRow-resolved, resolved-variable_unset, deeply_resolved-empty, deeply_resolved-node, Knows-row_at}
 use Rattle.nts_store.specs.declared.nodes.NodeId.{NodeId}
 use Rattle.nts_store.specs.Growth.{tree_at, trees_at, AllIn, Extends}
 use Rattle.nts_store.proofs.Growing.{IsRow-trees_at, trees_at-push, trees_at-extended, row_take-more, row_take-all}

@@ -1,21 +1,21 @@
 -- What a term is under a table: the roots of variables, and their values.
-use Rattle.nts_model.proofs.Substituting.{no_children}
+use Rattle.nts_model.proofs.Terms.Substituting.{no_children}
 use Rattle.std.proofs.Common.{◌≡◌, ℕ, ◌≤◌, Bool, List, [], Option, Some, None, refl, sym, ap, subst, ◌∙◌, arith}
 use Rattle.nts_model.specs.declared.labels.VariableKind.{VariableKind}
 use Rattle.nts_model.specs.declared.labels.VariableKind.TheVariants as kind
 use Rattle.nts_model.specs.declared.labels.Leaf.TheVariants as leaf
 use Rattle.nts_model.specs.declared.labels.Label.{Label}
 use Rattle.nts_model.specs.declared.labels.Label.TheVariants as label
-use Rattle.nts_model.specs.Trees.{Tree, node, NodeKind, of_sort, sort_of_variable, kind_of, kind_of_label, children, label_of, shape, Meets, in_order, IsClosed}
-use Rattle.nts_model.specs.Contents.{Content, known, state_of, kind_at}
-use Rattle.nts_model.specs.Resolving.{variable_of, variable_tree, infer_of, IsInfer, Knows, KnowsVariable, resolved, rank_of, rank_of_kind, variable_rank}
-use Rattle.nts_model.proofs.Variables.{infer_label}
-use Rattle.nts_model.proofs.Roots.{kind_at-reaches}
-use Rattle.nts_model.proofs.Resolved.{KnownStep, known_step, resolved-variable_reaches}
-use Rattle.nts_model.specs.Worlds.{World, inst, Solves}
-use Rattle.nts_model.specs.Passing.{TreePasses, TablePasses}
-use Rattle.nts_model.proofs.Kept.{variable_label}
-use Rattle.nts_model.proofs.Instances.{inst-variable, tree-reaches, tree-known}
+use Rattle.nts_model.specs.Terms.Trees.{Tree, node, NodeKind, of_sort, sort_of_variable, kind_of, kind_of_label, children, label_of, shape, Meets, in_order, IsClosed}
+use Rattle.nts_model.specs.Tables.Contents.{Content, known, state_of, kind_at}
+use Rattle.nts_model.specs.Tables.Resolving.{variable_of, variable_tree, infer_of, IsInfer, Knows, KnowsVariable, resolved, rank_of, rank_of_kind, variable_rank}
+use Rattle.nts_model.proofs.Terms.Variables.{infer_label}
+use Rattle.nts_model.proofs.Tables.Roots.{kind_at-reaches}
+use Rattle.nts_model.proofs.Tables.Resolved.{KnownStep, known_step, resolved-variable_reaches}
+use Rattle.nts_model.specs.Tables.Worlds.{World, inst, Solves}
+use Rattle.nts_model.specs.Tables.Passing.{TreePasses, TablePasses}
+use Rattle.nts_model.proofs.Tables.Kept.{variable_label}
+use Rattle.nts_model.proofs.Tables.Instances.{inst-variable, tree-reaches, tree-known}
 use Rattle.nts_store.specs.declared.nodes.NodeId.{NodeId}
 use Rattle.nts_store.specs.Growth.{tree_at, IsIn}
 use Rattle.nts_unify.specs.declared.contents.State.{State}

@@ -1,7 +1,7 @@
 -- What worlds and tables say of trees and of pairs.
 use Rattle.std.proofs.Common.{◌≡◌, ℕ, ◌+◌, ◌<◌, List, [], ◌∷◌, ◌++◌, refl, ap}
-use Rattle.nts_model.specs.Trees.{Tree, more, size}
-use Rattle.nts_model.proofs.Alike.{AreAlike-itself, AreAlike-more, deeply_resolved-more}
+use Rattle.nts_model.specs.Terms.Trees.{Tree, more, size}
+use Rattle.nts_model.proofs.Tables.Alike.{AreAlike-itself, AreAlike-more, deeply_resolved-more}
 use Rattle.nts_relating.specs.Met.{Judge, of_world, of_table, judged_size, JudgesOne, OneBelow}
 
 -- rows

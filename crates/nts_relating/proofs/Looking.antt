@@ -7,11 +7,11 @@ use Rattle.nts_model.specs.declared.labels.VariableKind.TheVariants as kind
 use Rattle.nts_model.specs.declared.labels.Leaf.TheVariants as leaf
 use Rattle.nts_model.specs.declared.labels.Label.{Label}
 use Rattle.nts_model.specs.declared.labels.Label.TheVariants as label
-use Rattle.nts_model.specs.Trees.{Tree, empty, more, node, row_length, row_at, IsRow, any_label, is_infer, is_region_infer, is_placeholder, is_placeholder_constant, is_canonical}
-use Rattle.nts_model.specs.Contents.{Content}
-use Rattle.nts_model.specs.Resolving.{variable_of, KnowsLeaves, Knows, KnowsVariable}
-use Rattle.nts_model.specs.Scoping.{IsWellBound}
-use Rattle.nts_model.proofs.Unpositioned.{leaves_known}
+use Rattle.nts_model.specs.Terms.Trees.{Tree, empty, more, node, row_length, row_at, IsRow, any_label, is_infer, is_region_infer, is_placeholder, is_placeholder_constant, is_canonical}
+use Rattle.nts_model.specs.Tables.Contents.{Content}
+use Rattle.nts_model.specs.Tables.Resolving.{variable_of, KnowsLeaves, Knows, KnowsVariable}
+use Rattle.nts_model.specs.Terms.Scoping.{IsWellBound}
+use Rattle.nts_model.proofs.Terms.Unpositioned.{leaves_known}
 use Rattle.nts_store.specs.Labels.{AllLabels}
 use Rattle.nts_unify.specs.Entries.{Entries}
 use Rattle.nts_unify.specs.Reading.{content_of}
@@ -20,7 +20,7 @@ use Rattle.nts_unify.proofs.Leading.{kind_within, kind_at-entry, entry_at}
 use Rattle.nts_model.specs.declared.labels.FreeRegion.TheVariants as region
 use Rattle.nts_model.specs.declared.labels.Constant.{Constant}
 use Rattle.nts_model.specs.declared.labels.Constant.TheVariants as constant
-use Rattle.nts_model.specs.Placeholders.{CanName, constant_level, leaf_level}
+use Rattle.nts_model.specs.Terms.Placeholders.{CanName, constant_level, leaf_level}
 
 pub row_from-end : (r : Tree) → IsRow r → row_from (row_length r) r ≡ empty
 row_from-end empty h = refl

@@ -3,18 +3,18 @@ use Rattle.std.proofs.Common.{◌≡◌, ℕ, ◌+◌, ◌<◌, ◌≤◌, Bool,
 use Rattle.std.specs.Prelude.{IsTrue, ◌↔◌, ◌&&◌}
 use Rattle.std.specs.List.{list_any}
 use Rattle.nts_model.specs.declared.labels.Label.{Label}
-use Rattle.nts_model.specs.Trees.{Tree, node, size, children}
-use Rattle.nts_model.specs.Contents.{Content}
-use Rattle.nts_model.specs.Resolving.{Knows, variable_of, IsSound, rooted}
-use Rattle.nts_model.specs.Worlds.{World, inst, renamed}
-use Rattle.nts_model.specs.Holding.{AreOne}
-use Rattle.nts_model.specs.Equations.{Equates, AllAlike, AreRelated}
-use Rattle.nts_model.proofs.Variables.{infer_of_none}
-use Rattle.nts_model.proofs.Instances.{inst-node}
-use Rattle.nts_model.proofs.Held.{AreOne-continues, Continues-refl, Continues-trans}
-use Rattle.nts_model.proofs.Tying.{TiesNew-same}
-use Rattle.nts_model.proofs.Alike.{AreAlike-for, AreAlike-node, AreAlike-continues}
-use Rattle.nts_model.proofs.Resolved.{resolved-node}
+use Rattle.nts_model.specs.Terms.Trees.{Tree, node, size, children}
+use Rattle.nts_model.specs.Tables.Contents.{Content}
+use Rattle.nts_model.specs.Tables.Resolving.{Knows, variable_of, IsSound, rooted}
+use Rattle.nts_model.specs.Tables.Worlds.{World, inst, renamed}
+use Rattle.nts_model.specs.Tables.Holding.{AreOne}
+use Rattle.nts_model.specs.Tables.Equations.{Equates, AllAlike, AreRelated}
+use Rattle.nts_model.proofs.Terms.Variables.{infer_of_none}
+use Rattle.nts_model.proofs.Tables.Instances.{inst-node}
+use Rattle.nts_model.proofs.Tables.Held.{AreOne-continues, Continues-refl, Continues-trans}
+use Rattle.nts_model.proofs.Tables.Tying.{TiesNew-same}
+use Rattle.nts_model.proofs.Tables.Alike.{AreAlike-for, AreAlike-node, AreAlike-continues}
+use Rattle.nts_model.proofs.Tables.Resolved.{resolved-node}
 use Rattle.indexmap.specs.IndexSet.{insert_key}
 use Rattle.nts_store.specs.declared.nodes.NodeId.{NodeId}
 use Rattle.nts_store.specs.contracts.nodes.NodeIdPartialEq.TheImpl as id_eq
@@ -30,7 +30,7 @@ use Rattle.nts_relating.specs.Relating.{IsOpen, IsClosedHead, VariablesRelate, p
 use Rattle.nts_unify.proofs.Keeping.{Knows-later, IsLater-refl}
 use Rattle.nts_relating.proofs.GenLemmas.{IsFair, unchanged}
 use Rattle.nts_relating.proofs.Naming.{lawful_sides, alone_label}
-use Rattle.nts_model.proofs.Bringing.{brings-of, brings-refl}
+use Rattle.nts_model.proofs.Responses.Bringing.{brings-of, brings-refl}
 use Rattle.nts_relating.proofs.Plain.{plain_refl}
 use Rattle.nts_relating.proofs.PairLemmas.{Stepped, PairsBring-last, last_pair, pairs_at-push, pairs_at-extended, ArePairsIn-push, ArePairsIn-extended, Equates-push, Equates-front, AllAlike-push, total-last, not_infer, variables_related, variable_same}
 

@@ -8,20 +8,20 @@ use Rattle.nts_model.specs.declared.labels.VariableKind.TheVariants as kind
 use Rattle.nts_model.specs.declared.labels.Leaf.TheVariants as leaf
 use Rattle.nts_model.specs.declared.labels.Label.{Label}
 use Rattle.nts_model.specs.declared.labels.Label.TheVariants as label
-use Rattle.nts_model.specs.Trees.{Tree, node, children, shape, Meets, any_label, is_infer, is_region_infer, is_placeholder}
-use Rattle.nts_model.specs.Contents.{Content, unset, state_of, kind_at, universe_of, with_slot}
-use Rattle.nts_model.specs.Resolving.{variable_of, infer_of, variable_tree, IsSound, resolved, root_of, Knows, variable_rank}
-use Rattle.nts_model.specs.Regions.{RegionName, of_variable, IsRegion, name_of_label}
-use Rattle.nts_model.proofs.Fitting.{region_label}
-use Rattle.nts_model.proofs.Roots.{root_of-root}
-use Rattle.nts_model.proofs.Classes.{root_of-with_slot}
-use Rattle.nts_model.specs.Placeholders.{CanName}
-use Rattle.nts_model.specs.Levels.{NamesAll, region_level}
-use Rattle.nts_model.specs.Worlds.{KnowsAll}
-use Rattle.nts_model.specs.Holding.{AreOne}
-use Rattle.nts_model.proofs.Alike.{AreAlike-turned}
-use Rattle.nts_model.proofs.Bringing.{brings-turned}
-use Rattle.nts_model.proofs.Slots.{slice_get-push_old, slice_get-push_new, slice_get_below, field_below}
+use Rattle.nts_model.specs.Terms.Trees.{Tree, node, children, shape, Meets, any_label, is_infer, is_region_infer, is_placeholder}
+use Rattle.nts_model.specs.Tables.Contents.{Content, unset, state_of, kind_at, universe_of, with_slot}
+use Rattle.nts_model.specs.Tables.Resolving.{variable_of, infer_of, variable_tree, IsSound, resolved, root_of, Knows, variable_rank}
+use Rattle.nts_model.specs.Terms.Regions.{RegionName, of_variable, IsRegion, name_of_label}
+use Rattle.nts_model.proofs.Tables.Fitting.{region_label}
+use Rattle.nts_model.proofs.Tables.Roots.{root_of-root}
+use Rattle.nts_model.proofs.Tables.Classes.{root_of-with_slot}
+use Rattle.nts_model.specs.Terms.Placeholders.{CanName}
+use Rattle.nts_model.specs.Tables.Levels.{NamesAll, region_level}
+use Rattle.nts_model.specs.Tables.Worlds.{KnowsAll}
+use Rattle.nts_model.specs.Tables.Holding.{AreOne}
+use Rattle.nts_model.proofs.Tables.Alike.{AreAlike-turned}
+use Rattle.nts_model.proofs.Responses.Bringing.{brings-turned}
+use Rattle.nts_model.proofs.Tables.Slots.{slice_get-push_old, slice_get-push_new, slice_get_below, field_below}
 use Rattle.nts_store.specs.declared.nodes.NodeId.{NodeId}
 use Rattle.nts_store.specs.declared.type_flags.TypeFlags.{TypeFlags}
 use Rattle.nts_store.specs.TypeFlags.{flags_of, escaping}

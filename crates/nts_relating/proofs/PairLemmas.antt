@@ -5,24 +5,24 @@ use Rattle.nts_model.specs.declared.labels.VariableKind.TheVariants as kind
 use Rattle.nts_model.specs.declared.labels.Leaf.TheVariants as leaf
 use Rattle.nts_model.specs.declared.labels.Label.{Label}
 use Rattle.nts_model.specs.declared.labels.Label.TheVariants as label
-use Rattle.nts_model.specs.Trees.{Tree, empty, more, node, size, row_length, row_at, IsRow, children, label_of, any_label, is_alias}
-use Rattle.nts_model.specs.Contents.{Content, unset, state_of, kind_at, universe_of}
-use Rattle.nts_model.specs.Levels.{NamesAll, region_level}
-use Rattle.nts_model.specs.Resolving.{Knows, variable_of, variable_tree, resolved, rooted, infer_of, IsInfer, IsSound}
-use Rattle.nts_model.specs.Worlds.{World, inst, renamed, Solves, Agrees}
-use Rattle.nts_model.specs.Holding.{AreOne}
-use Rattle.nts_model.specs.Alike.{AreAlike}
-use Rattle.nts_model.specs.Measuring.{closed_aliases}
-use Rattle.nts_model.specs.Equations.{Equates, AllAlike, Reduces, AreRelated}
-use Rattle.nts_model.specs.Passing.{TreePasses, BringsLabelsOf}
-use Rattle.nts_model.proofs.Variables.{infer_of_none}
-use Rattle.nts_model.proofs.Bringing.{brings-of, brings-refl, passes-children, passes-row_at}
-use Rattle.nts_model.proofs.Instances.{inst-node, inst-agrees, Agrees-refl, Agrees-trans}
-use Rattle.nts_model.proofs.Held.{AreOne-continues, Continues-refl, Continues-trans}
-use Rattle.nts_model.specs.Tying.{TiesNew}
-use Rattle.nts_model.proofs.Tying.{TiesNew-same, TiesNew-trans}
-use Rattle.nts_model.proofs.Alike.{AreAlike-one, AreAlike-itself, AreAlike-for, AreAlike-turned, AreAlike-more, AreAlike-children, AreAlike-continues}
-use Rattle.nts_model.proofs.Resolved.{resolved-more, resolved-empty, Knows-row_at, node_step, IsVariable, resolved-variable_link}
+use Rattle.nts_model.specs.Terms.Trees.{Tree, empty, more, node, size, row_length, row_at, IsRow, children, label_of, any_label, is_alias}
+use Rattle.nts_model.specs.Tables.Contents.{Content, unset, state_of, kind_at, universe_of}
+use Rattle.nts_model.specs.Tables.Levels.{NamesAll, region_level}
+use Rattle.nts_model.specs.Tables.Resolving.{Knows, variable_of, variable_tree, resolved, rooted, infer_of, IsInfer, IsSound}
+use Rattle.nts_model.specs.Tables.Worlds.{World, inst, renamed, Solves, Agrees}
+use Rattle.nts_model.specs.Tables.Holding.{AreOne}
+use Rattle.nts_model.specs.Tables.Alike.{AreAlike}
+use Rattle.nts_model.specs.Tables.Measuring.{closed_aliases}
+use Rattle.nts_model.specs.Tables.Equations.{Equates, AllAlike, Reduces, AreRelated}
+use Rattle.nts_model.specs.Tables.Passing.{TreePasses, BringsLabelsOf}
+use Rattle.nts_model.proofs.Terms.Variables.{infer_of_none}
+use Rattle.nts_model.proofs.Responses.Bringing.{brings-of, brings-refl, passes-children, passes-row_at}
+use Rattle.nts_model.proofs.Tables.Instances.{inst-node, inst-agrees, Agrees-refl, Agrees-trans}
+use Rattle.nts_model.proofs.Tables.Held.{AreOne-continues, Continues-refl, Continues-trans}
+use Rattle.nts_model.specs.Tables.Tying.{TiesNew}
+use Rattle.nts_model.proofs.Tables.Tying.{TiesNew-same, TiesNew-trans}
+use Rattle.nts_model.proofs.Tables.Alike.{AreAlike-one, AreAlike-itself, AreAlike-for, AreAlike-turned, AreAlike-more, AreAlike-children, AreAlike-continues}
+use Rattle.nts_model.proofs.Tables.Resolved.{resolved-more, resolved-empty, Knows-row_at, node_step, IsVariable, resolved-variable_link}
 use Rattle.nts_store.specs.declared.nodes.NodeId.{NodeId}
 use Rattle.nts_store.specs.Growth.{tree_at, IsIn, Extends}
 use Rattle.nts_store.proofs.Growing.{IsIn-extended, Extends-refl}

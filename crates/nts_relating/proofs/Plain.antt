@@ -6,17 +6,17 @@ use Rattle.nts_model.specs.declared.labels.VariableKind.TheVariants as kind
 use Rattle.nts_model.specs.declared.labels.Leaf.TheVariants as leaf
 use Rattle.nts_model.specs.declared.labels.Label.{Label}
 use Rattle.nts_model.specs.declared.labels.Label.TheVariants as label
-use Rattle.nts_model.specs.Trees.{Tree, empty, more, node, any_label, is_alias, row_length, row_at}
-use Rattle.nts_model.specs.Contents.{Content, Slot, unset, link, state_of, kind_at, bound_to}
-use Rattle.nts_model.specs.Resolving.{infer_of, variable_of, variable_tree, resolved, rooted, rooted_variable, deeply_resolved, replaced, replaced_at, Knows, IsSound, AllUnset}
-use Rattle.nts_model.specs.Regions.{IsRegion, RegionName, name_of_label}
-use Rattle.nts_model.specs.Holding.{Continues}
-use Rattle.nts_model.specs.Alike.{Alike, one_tree, two_regions, one_label, two_rows, AreAlike}
-use Rattle.nts_model.proofs.Roots.{Lacks-rooted}
-use Rattle.nts_model.proofs.Resolved.{resolved-empty, resolved-more, resolved-node, resolved-variable_unset, Lacks-resolved}
-use Rattle.nts_model.proofs.Open.{AllUnset-lacks, Knows-deeply_resolved}
-use Rattle.nts_model.proofs.Fitting.{region_label}
-use Rattle.nts_model.proofs.Binding.{IsKnowable, resolved-known}
+use Rattle.nts_model.specs.Terms.Trees.{Tree, empty, more, node, any_label, is_alias, row_length, row_at}
+use Rattle.nts_model.specs.Tables.Contents.{Content, Slot, unset, link, state_of, kind_at, bound_to}
+use Rattle.nts_model.specs.Tables.Resolving.{infer_of, variable_of, variable_tree, resolved, rooted, rooted_variable, deeply_resolved, replaced, replaced_at, Knows, IsSound, AllUnset}
+use Rattle.nts_model.specs.Terms.Regions.{IsRegion, RegionName, name_of_label}
+use Rattle.nts_model.specs.Tables.Holding.{Continues}
+use Rattle.nts_model.specs.Tables.Alike.{Alike, one_tree, two_regions, one_label, two_rows, AreAlike}
+use Rattle.nts_model.proofs.Tables.Roots.{Lacks-rooted}
+use Rattle.nts_model.proofs.Tables.Resolved.{resolved-empty, resolved-more, resolved-node, resolved-variable_unset, Lacks-resolved}
+use Rattle.nts_model.proofs.Tables.Open.{AllUnset-lacks, Knows-deeply_resolved}
+use Rattle.nts_model.proofs.Tables.Fitting.{region_label}
+use Rattle.nts_model.proofs.Tables.Binding.{IsKnowable, resolved-known}
 use Rattle.nts_unify.specs.Changing.{IsLater, Keeps}
 use Rattle.nts_unify.proofs.Keeping.{Knows-later}
 use Rattle.nts_relating.specs.Relating.{IsPlainIn, KeepsPlain, PairsArePlain, AreKnown}

@@ -5,12 +5,12 @@ use Rattle.nts_model.specs.declared.labels.Sort.TheVariants as sort
 use Rattle.nts_model.specs.declared.labels.VariableKind.{VariableKind}
 use Rattle.nts_model.specs.declared.labels.VariableKind.TheVariants as kind
 use Rattle.nts_model.specs.declared.labels.Label.{Label}
-use Rattle.nts_model.specs.Trees.{Tree, empty, more, node, NodeKind, of_sort, sort_of_variable, kind_of, row_push, IsRow}
-use Rattle.nts_model.specs.Fitting.{Fits}
-use Rattle.nts_model.specs.Resolving.{IsInfer, variable_rank, rank_of_kind}
+use Rattle.nts_model.specs.Terms.Trees.{Tree, empty, more, node, NodeKind, of_sort, sort_of_variable, kind_of, row_push, IsRow}
+use Rattle.nts_model.specs.Terms.Fitting.{Fits}
+use Rattle.nts_model.specs.Tables.Resolving.{IsInfer, variable_rank, rank_of_kind}
 use Rattle.nts_relating.specs.Relating.{IsLike}
-use Rattle.nts_model.proofs.Fitting.{Fits-kind_of}
-use Rattle.nts_model.proofs.Resolved.{rank_none}
+use Rattle.nts_model.proofs.Tables.Fitting.{Fits-kind_of}
+use Rattle.nts_model.proofs.Tables.Resolved.{rank_none}
 
 pub zero_le : (a b : ℕ) → a ≡ 0 → a ≤ b
 zero_le a b e = omega (arith, e)

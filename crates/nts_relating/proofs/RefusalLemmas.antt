@@ -6,22 +6,22 @@ use Rattle.nts_model.specs.declared.labels.FreeRegion.{FreeRegion}
 use Rattle.nts_model.specs.declared.labels.Leaf.TheVariants as leaf
 use Rattle.nts_model.specs.declared.labels.Label.{Label}
 use Rattle.nts_model.specs.declared.labels.Label.TheVariants as label
-use Rattle.nts_model.specs.Trees.{Tree, empty, more, node, size, children, label_of, IsRow, row_length, row_at, row_take, IsClosedUnder, of_sort, kind_of, kind_of_label, sort_of_variable}
-use Rattle.nts_model.specs.Contents.{Content, kind_at, universe_of}
-use Rattle.nts_model.specs.Resolving.{variable_of, infer_of, IsInfer, Knows, KnowsVariable, variable_flag}
-use Rattle.nts_model.specs.Levels.{NamesAll, term_level}
-use Rattle.nts_model.specs.Regions.{IsRegion}
-use Rattle.nts_model.specs.Worlds.{World, inst, renamed, Solves}
-use Rattle.nts_model.specs.Equations.{Reduces, Refuses}
-use Rattle.nts_model.proofs.Instances.{inst-node, inst-variable}
-use Rattle.nts_model.proofs.Fitting.{Fits-kind_of, kind_of_label-renamed}
-use Rattle.nts_model.proofs.Refuting.{tree-named, one_node, IsFreeRegion, lengths_refute, sorts_refute, kind_refutes, integer_float_refute}
+use Rattle.nts_model.specs.Terms.Trees.{Tree, empty, more, node, size, children, label_of, IsRow, row_length, row_at, row_take, IsClosedUnder, of_sort, kind_of, kind_of_label, sort_of_variable}
+use Rattle.nts_model.specs.Tables.Contents.{Content, kind_at, universe_of}
+use Rattle.nts_model.specs.Tables.Resolving.{variable_of, infer_of, IsInfer, Knows, KnowsVariable, variable_flag}
+use Rattle.nts_model.specs.Tables.Levels.{NamesAll, term_level}
+use Rattle.nts_model.specs.Terms.Regions.{IsRegion}
+use Rattle.nts_model.specs.Tables.Worlds.{World, inst, renamed, Solves}
+use Rattle.nts_model.specs.Tables.Equations.{Reduces, Refuses}
+use Rattle.nts_model.proofs.Tables.Instances.{inst-node, inst-variable}
+use Rattle.nts_model.proofs.Tables.Fitting.{Fits-kind_of, kind_of_label-renamed}
+use Rattle.nts_model.proofs.Tables.Refuting.{tree-named, one_node, IsFreeRegion, lengths_refute, sorts_refute, kind_refutes, integer_float_refute}
 use Rattle.nts_store.specs.declared.nodes.NodeId.{NodeId}
 use Rattle.nts_store.specs.Growth.{tree_at}
 use Rattle.nts_relating.specs.declared.relate.Pair.{Pair}
 use Rattle.nts_unify.specs.Entries.{Entries}
 use Rattle.nts_unify.specs.Reading.{content_of}
-use Rattle.nts_model.specs.Fitting.{Fits}
+use Rattle.nts_model.specs.Terms.Fitting.{Fits}
 use Rattle.nts_unify.specs.Joining.{TakesVariable}
 use Rattle.nts_relating.proofs.Ranks.{region_unfit}
 use Rattle.nts_unify.specs.Changing.{is_free_region}

@@ -1,5 +1,5 @@
 -- Two free regions made equal.
-use Rattle.nts_model.proofs.Substituting.{no_children}
+use Rattle.nts_model.proofs.Terms.Substituting.{no_children}
 use Rattle.std.proofs.Common.{◌≡◌, ⊎_elim, ℕ, ◌<◌, ◌≤◌, min, max, true, List, Some, refl, sym, ap, subst, ◌∙◌, arith}
 use Rattle.std.proofs.lemmas.Bool.{cases_lt}
 use Rattle.nts_model.specs.declared.labels.Sort.TheVariants as sort
@@ -8,21 +8,21 @@ use Rattle.nts_model.specs.declared.labels.VariableKind.TheVariants as kind
 use Rattle.nts_model.specs.declared.labels.Leaf.TheVariants as leaf
 use Rattle.nts_model.specs.declared.labels.Label.{Label}
 use Rattle.nts_model.specs.declared.labels.Label.TheVariants as label
-use Rattle.nts_model.specs.Trees.{Tree, empty, node, children, shape, Meets, kind_of, kind_of_label, of_sort}
-use Rattle.nts_model.specs.Contents.{Content, kind_at, with_constraint}
-use Rattle.nts_model.specs.Resolving.{variable_tree, Knows, IsSound, deeply_resolved, root_of}
-use Rattle.nts_model.specs.Worlds.{World, inst, Solves}
-use Rattle.nts_model.specs.Regions.{of_variable, of_free, IsRegion}
-use Rattle.nts_model.specs.Holding.{AreOne}
-use Rattle.nts_model.proofs.AliasLabels.{region_closed}
-use Rattle.nts_model.proofs.Roots.{root_of-link, root_of-root_of, kind_at-root_of}
-use Rattle.nts_model.proofs.Sound.{IsSound-with_constraint}
-use Rattle.nts_model.proofs.Bringing.{brings-refl, brings-of, brings-with_constraint}
-use Rattle.nts_model.proofs.Resolved.{resolved-empty, deeply_resolved-node}
-use Rattle.nts_model.proofs.Instances.{tree-reaches}
-use Rattle.nts_model.proofs.Solving.{Solves-with_constraint, Solves-from_with_constraint}
-use Rattle.nts_model.proofs.Held.{AreOne-continues, Continues-refl, Continues-with_constraint, HoldsConstraint-with_constraint}
-use Rattle.nts_model.proofs.Alike.{AreAlike-one, AreAlike-regions, HoldsEqual-recorded}
+use Rattle.nts_model.specs.Terms.Trees.{Tree, empty, node, children, shape, Meets, kind_of, kind_of_label, of_sort}
+use Rattle.nts_model.specs.Tables.Contents.{Content, kind_at, with_constraint}
+use Rattle.nts_model.specs.Tables.Resolving.{variable_tree, Knows, IsSound, deeply_resolved, root_of}
+use Rattle.nts_model.specs.Tables.Worlds.{World, inst, Solves}
+use Rattle.nts_model.specs.Terms.Regions.{of_variable, of_free, IsRegion}
+use Rattle.nts_model.specs.Tables.Holding.{AreOne}
+use Rattle.nts_model.proofs.Variances.AliasLabels.{region_closed}
+use Rattle.nts_model.proofs.Tables.Roots.{root_of-link, root_of-root_of, kind_at-root_of}
+use Rattle.nts_model.proofs.Tables.Sound.{IsSound-with_constraint}
+use Rattle.nts_model.proofs.Responses.Bringing.{brings-refl, brings-of, brings-with_constraint}
+use Rattle.nts_model.proofs.Tables.Resolved.{resolved-empty, deeply_resolved-node}
+use Rattle.nts_model.proofs.Tables.Instances.{tree-reaches}
+use Rattle.nts_model.proofs.Tables.Solving.{Solves-with_constraint, Solves-from_with_constraint}
+use Rattle.nts_model.proofs.Tables.Held.{AreOne-continues, Continues-refl, Continues-with_constraint, HoldsConstraint-with_constraint}
+use Rattle.nts_model.proofs.Tables.Alike.{AreAlike-one, AreAlike-regions, HoldsEqual-recorded}
 use Rattle.nts_store.specs.declared.nodes.NodeId.{NodeId}
 use Rattle.nts_store.specs.Growth.{tree_at, IsIn}
 use Rattle.nts_unify.specs.Lawful.{content_of-constrained}

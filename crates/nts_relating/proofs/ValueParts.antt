@@ -1,21 +1,21 @@
 -- Parts of a term that a value is made for, in a table that grows.
 use Rattle.std.proofs.Common.{◌≡◌, ℕ, zero, suc, ◌+◌, ◌<◌, length, true, Option, Some, refl, sym, ap, ◌∙◌, subst, arith}
 use Rattle.nts_model.specs.declared.labels.Label.{Label}
-use Rattle.nts_model.specs.Trees.{Tree, empty, more, node, size, children, row_length, row_at, binders, IsClosedUnder}
-use Rattle.nts_model.specs.Contents.{Content, known, state_of}
+use Rattle.nts_model.specs.Terms.Trees.{Tree, empty, more, node, size, children, row_length, row_at, binders, IsClosedUnder}
+use Rattle.nts_model.specs.Tables.Contents.{Content, known, state_of}
 use Rattle.nts_model.specs.declared.labels.VariableKind.TheVariants as kind
-use Rattle.nts_model.specs.Resolving.{Knows, IsSound, resolved}
-use Rattle.nts_model.specs.Levels.{NamesAll, term_level}
-use Rattle.nts_model.specs.Worlds.{World, inst, renamed}
-use Rattle.nts_model.proofs.Instances.{inst-node, inst-agrees, Agrees-trans}
-use Rattle.nts_model.proofs.Fitting.{IsClosed-inst}
-use Rattle.nts_model.proofs.Levelled.{NamesAll-falls}
-use Rattle.nts_model.proofs.Refuting.{closed-node}
-use Rattle.nts_model.proofs.Held.{AreOne-continues, Continues-refl, Continues-trans}
-use Rattle.nts_model.proofs.Alike.{AreAlike-continues}
-use Rattle.nts_model.proofs.Resolved.{Knows-row_at, flag_le}
-use Rattle.nts_model.proofs.Bringing.{passes-before, passes-row_at, passes-children}
-use Rattle.nts_model.proofs.Slots.{field_below}
+use Rattle.nts_model.specs.Tables.Resolving.{Knows, IsSound, resolved}
+use Rattle.nts_model.specs.Tables.Levels.{NamesAll, term_level}
+use Rattle.nts_model.specs.Tables.Worlds.{World, inst, renamed}
+use Rattle.nts_model.proofs.Tables.Instances.{inst-node, inst-agrees, Agrees-trans}
+use Rattle.nts_model.proofs.Tables.Fitting.{IsClosed-inst}
+use Rattle.nts_model.proofs.Tables.Levelled.{NamesAll-falls}
+use Rattle.nts_model.proofs.Tables.Refuting.{closed-node}
+use Rattle.nts_model.proofs.Tables.Held.{AreOne-continues, Continues-refl, Continues-trans}
+use Rattle.nts_model.proofs.Tables.Alike.{AreAlike-continues}
+use Rattle.nts_model.proofs.Tables.Resolved.{Knows-row_at, flag_le}
+use Rattle.nts_model.proofs.Responses.Bringing.{passes-before, passes-row_at, passes-children}
+use Rattle.nts_model.proofs.Tables.Slots.{field_below}
 use Rattle.nts_unify.specs.Changing.{Keeps}
 use Rattle.nts_relating.specs.Parts.{IsValueOf, IsMadeAgain, WalkGrows, IsPartOf, inner}
 use Rattle.nts_relating.specs.Relating.{Generalized, Blocks}

@@ -2,11 +2,11 @@
 use Rattle.std.proofs.Common.{◌≡◌, ◌⊎◌, inl, inr, ⊎_elim, ℕ, ◌+◌, ◌<◌, ◌≤◌, Bool, true, false, cond, List, [], ◌∷◌, ◌++◌, Option, Some, None, refl, sym, ap, ◌∙◌, arith, rules, append_assoc}
 use Rattle.std.specs.Prelude.{IsTrue, ◌↔◌, is_some}
 use Rattle.std.proofs.lemmas.List.{append-nil}
-use Rattle.nts_model.specs.Trees.{Tree, more, size, children, row_length, row_at}
-use Rattle.nts_model.specs.Contents.{Content}
-use Rattle.nts_model.specs.Resolving.{resolved, left_to_resolve}
-use Rattle.nts_model.proofs.Resolved.{resolved-more, rank_le}
-use Rattle.nts_model.proofs.Under.{same_or_other}
+use Rattle.nts_model.specs.Terms.Trees.{Tree, more, size, children, row_length, row_at}
+use Rattle.nts_model.specs.Tables.Contents.{Content}
+use Rattle.nts_model.specs.Tables.Resolving.{resolved, left_to_resolve}
+use Rattle.nts_model.proofs.Tables.Resolved.{resolved-more, rank_le}
+use Rattle.nts_model.proofs.Tables.Under.{same_or_other}
 use Rattle.nts_store.specs.declared.nodes.NodeId.{NodeId}
 use Rattle.nts_store.specs.contracts.nodes.NodeIdPartialEq.TheImpl as id_eq
 use Rattle.nts_store.specs.Growth.{tree_at, IsIn, Extends}

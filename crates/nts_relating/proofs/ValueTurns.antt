@@ -4,11 +4,11 @@ use Rattle.std.specs.Prelude.{Result, Ok, Err, OnOk}
 use Rattle.std.proofs.lemmas.List.{append-nil}
 use Rattle.nts_model.specs.declared.labels.VariableKind.TheVariants as kind
 use Rattle.nts_model.specs.declared.labels.Label.{Label}
-use Rattle.nts_model.specs.Trees.{Tree, node, size, children, row_length, row_at, row_take, IsRow, label_of, binders}
-use Rattle.nts_model.specs.Contents.{Content, kind_at}
-use Rattle.nts_model.specs.Resolving.{Knows, IsSound, left_to_resolve}
-use Rattle.nts_model.proofs.Variables.{infer_of_none}
-use Rattle.nts_model.proofs.Resolved.{node_step}
+use Rattle.nts_model.specs.Terms.Trees.{Tree, node, size, children, row_length, row_at, row_take, IsRow, label_of, binders}
+use Rattle.nts_model.specs.Tables.Contents.{Content, kind_at}
+use Rattle.nts_model.specs.Tables.Resolving.{Knows, IsSound, left_to_resolve}
+use Rattle.nts_model.proofs.Terms.Variables.{infer_of_none}
+use Rattle.nts_model.proofs.Tables.Resolved.{node_step}
 use Rattle.nts_store.specs.declared.nodes.NodeId.{NodeId}
 use Rattle.nts_store.specs.Growth.{tree_at, trees_at, IsIn, AreApart, Extends}
 use Rattle.nts_store.proofs.Growing.{IsIn-extended, Extends-refl}

@@ -1,11 +1,11 @@
 -- Pairs of trees that a call of relating met before.
 use Rattle.std.specs.Prelude.{◌≡◌, ℕ, ◌<◌, List, [], ◌∷◌}
-use Rattle.nts_model.specs.Trees.{Tree, size}
-use Rattle.nts_model.specs.Contents.{Content}
-use Rattle.nts_model.specs.Resolving.{IsSound, deeply_resolved}
-use Rattle.nts_model.specs.Worlds.{World, inst, Solves}
-use Rattle.nts_model.specs.Holding.{Continues}
-use Rattle.nts_model.specs.Alike.{AreAlike}
+use Rattle.nts_model.specs.Terms.Trees.{Tree, size}
+use Rattle.nts_model.specs.Tables.Contents.{Content}
+use Rattle.nts_model.specs.Tables.Resolving.{IsSound, deeply_resolved}
+use Rattle.nts_model.specs.Tables.Worlds.{World, inst, Solves}
+use Rattle.nts_model.specs.Tables.Holding.{Continues}
+use Rattle.nts_model.specs.Tables.Alike.{AreAlike}
 
 -- what says whether two trees are one: a world, or a table
 pub data Judge : Type 0 where

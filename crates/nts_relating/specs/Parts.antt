@@ -3,15 +3,15 @@ use Rattle.std.specs.Prelude.{◌≡◌, ◌≢◌, ◌⊎◌, ℕ, ◌+◌, ◌
 use Rattle.std.specs.HashMap.{HashMap, get}
 use Rattle.nts_model.specs.declared.labels.VariableKind.TheVariants as kind
 use Rattle.nts_model.specs.declared.labels.Label.{Label}
-use Rattle.nts_model.specs.Trees.{Tree, empty, more, node, NodeKind, kind_of, children, size, row_length, row_at, binders, IsBoundBelow, IsClosedUnder, IsClosed}
-use Rattle.nts_model.specs.Contents.{Content, universe_of, kind_at}
-use Rattle.nts_model.specs.Resolving.{Knows, IsInfer, resolved, variable_of, variable_flag, variable_rank, left_to_resolve}
-use Rattle.nts_model.specs.Placeholders.{CanName}
-use Rattle.nts_model.specs.Passing.{PassesVariables, TreePasses, TablePasses}
-use Rattle.nts_model.specs.Levels.{NamesAll, term_level}
-use Rattle.nts_model.specs.Worlds.{World, inst, Solves}
-use Rattle.nts_model.specs.Holding.{Continues}
-use Rattle.nts_model.specs.Equations.{ExtensionIf}
+use Rattle.nts_model.specs.Terms.Trees.{Tree, empty, more, node, NodeKind, kind_of, children, size, row_length, row_at, binders, IsBoundBelow, IsClosedUnder, IsClosed}
+use Rattle.nts_model.specs.Tables.Contents.{Content, universe_of, kind_at}
+use Rattle.nts_model.specs.Tables.Resolving.{Knows, IsInfer, resolved, variable_of, variable_flag, variable_rank, left_to_resolve}
+use Rattle.nts_model.specs.Terms.Placeholders.{CanName}
+use Rattle.nts_model.specs.Tables.Passing.{PassesVariables, TreePasses, TablePasses}
+use Rattle.nts_model.specs.Tables.Levels.{NamesAll, term_level}
+use Rattle.nts_model.specs.Tables.Worlds.{World, inst, Solves}
+use Rattle.nts_model.specs.Tables.Holding.{Continues}
+use Rattle.nts_model.specs.Tables.Equations.{ExtensionIf}
 use Rattle.nts_store.specs.declared.nodes.NodeId.{NodeId}
 use Rattle.nts_store.specs.Growth.{tree_at, IsIn}
 use Rattle.nts_relating.specs.declared.value_walk.Part.{Part}

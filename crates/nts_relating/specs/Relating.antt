@@ -4,20 +4,20 @@ use Rattle.nts_model.specs.declared.labels.VariableKind.{VariableKind}
 use Rattle.nts_model.specs.declared.labels.VariableKind.TheVariants as kind
 use Rattle.nts_model.specs.declared.labels.Sort.TheVariants as sort
 use Rattle.nts_model.specs.declared.labels.Label.{Label}
-use Rattle.nts_model.specs.Trees.{Tree, empty, more, node, size, kind_of, kind_of_label, of_sort, row_length, any_label, is_alias, IsClosedUnder}
-use Rattle.nts_model.specs.Patching.{IsPatched}
-use Rattle.nts_model.specs.Contents.{Content, unset, state_of, universe_of, kind_at}
-use Rattle.nts_model.specs.Resolving.{Knows, IsInfer, Lacks, resolved, deeply_resolved, variable_tree, variable_flag, variable_rank}
-use Rattle.nts_model.specs.Levels.{NamesAll, level_in, term_level, region_level}
-use Rattle.nts_model.specs.Fitting.{Fits}
-use Rattle.nts_model.specs.Passing.{PassesVariables, TreePasses, TablePasses, BringsLabelsOf, BringsNoLabels}
-use Rattle.nts_model.specs.Worlds.{World, inst, Solves}
-use Rattle.nts_model.specs.Holding.{AreOne, Continues}
-use Rattle.nts_model.specs.Tying.{TiesNew}
-use Rattle.nts_model.specs.Regions.{IsRegion}
-use Rattle.nts_model.specs.Alike.{AreAlike}
-use Rattle.nts_model.specs.Measuring.{closed_aliases}
-use Rattle.nts_model.specs.Equations.{ExtensionIf, Extension, Equates, AllAlike, Narrows, Reduces}
+use Rattle.nts_model.specs.Terms.Trees.{Tree, empty, more, node, size, kind_of, kind_of_label, of_sort, row_length, any_label, is_alias, IsClosedUnder}
+use Rattle.nts_model.specs.Terms.Patching.{IsPatched}
+use Rattle.nts_model.specs.Tables.Contents.{Content, unset, state_of, universe_of, kind_at}
+use Rattle.nts_model.specs.Tables.Resolving.{Knows, IsInfer, Lacks, resolved, deeply_resolved, variable_tree, variable_flag, variable_rank}
+use Rattle.nts_model.specs.Tables.Levels.{NamesAll, level_in, term_level, region_level}
+use Rattle.nts_model.specs.Terms.Fitting.{Fits}
+use Rattle.nts_model.specs.Tables.Passing.{PassesVariables, TreePasses, TablePasses, BringsLabelsOf, BringsNoLabels}
+use Rattle.nts_model.specs.Tables.Worlds.{World, inst, Solves}
+use Rattle.nts_model.specs.Tables.Holding.{AreOne, Continues}
+use Rattle.nts_model.specs.Tables.Tying.{TiesNew}
+use Rattle.nts_model.specs.Terms.Regions.{IsRegion}
+use Rattle.nts_model.specs.Tables.Alike.{AreAlike}
+use Rattle.nts_model.specs.Tables.Measuring.{closed_aliases}
+use Rattle.nts_model.specs.Tables.Equations.{ExtensionIf, Extension, Equates, AllAlike, Narrows, Reduces}
 use Rattle.nts_store.specs.declared.nodes.NodeId.{NodeId}
 use Rattle.nts_store.specs.declared.type_flags.TypeFlags.{TypeFlags}
 use Rattle.nts_store.specs.Growth.{tree_at, IsIn}

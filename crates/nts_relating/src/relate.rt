@@ -1,10 +1,10 @@
 //! Two terms made equal under a table.
 ghost use Rattle.std.specs.Prelude.{◌≡◌, ◌≢◌, ◌⊎◌, ℕ, ◌+◌, ◌++◌, ◌∷◌, [], ◌<◌, IsTrue, length, List, OnOk, OnErr, IfOk, Some, None, Ok, Err, true, false};
-ghost use Rattle.nts_model.specs.Trees.{Tree, IsRow, row_length, children};
-ghost use Rattle.nts_model.specs.Resolving.{Knows};
-ghost use Rattle.nts_model.specs.Equations.{Reduces, Refuses, AreRelated, AreUnrelated};
-ghost use Rattle.nts_model.specs.Passing.{BringsLabelsOf};
-ghost use Rattle.nts_model.specs.Tying.{TiesNew};
+ghost use Rattle.nts_model.specs.Terms.Trees.{Tree, IsRow, row_length, children};
+ghost use Rattle.nts_model.specs.Tables.Resolving.{Knows};
+ghost use Rattle.nts_model.specs.Tables.Equations.{Reduces, Refuses, AreRelated, AreUnrelated};
+ghost use Rattle.nts_model.specs.Tables.Passing.{BringsLabelsOf};
+ghost use Rattle.nts_model.specs.Tables.Tying.{TiesNew};
 ghost use Rattle.nts_store.specs.Growth.{tree_at, IsIn, Extends};
 ghost use Rattle.nts_unify.specs.Entries.{Entries};
 ghost use Rattle.nts_unify.specs.Reading.{content_of, IsLawful, LinksDescend};

@@ -1,11 +1,11 @@
 //! The leaves of the value that a variable gets for a term.
 ghost use Rattle.std.specs.Prelude.{◌≡◌, ◌≢◌, ◌<◌, ◌≤◌, length, OnOk, IfOk, Some, None, Err, true, false};
 ghost use Rattle.nts_model.specs.declared.labels.VariableKind.TheVariants as kind;
-ghost use Rattle.nts_model.specs.Contents.{kind_at};
-ghost use Rattle.nts_model.specs.Resolving.{Knows};
-ghost use Rattle.nts_model.specs.Trees.{IsBoundBelow};
-ghost use Rattle.nts_model.specs.Placeholders.{CanName};
-ghost use Rattle.nts_model.specs.Levels.{term_level, region_level};
+ghost use Rattle.nts_model.specs.Tables.Contents.{kind_at};
+ghost use Rattle.nts_model.specs.Tables.Resolving.{Knows};
+ghost use Rattle.nts_model.specs.Terms.Trees.{IsBoundBelow};
+ghost use Rattle.nts_model.specs.Terms.Placeholders.{CanName};
+ghost use Rattle.nts_model.specs.Tables.Levels.{term_level, region_level};
 ghost use Rattle.nts_store.specs.Growth.{tree_at, IsIn, Extends};
 ghost use Rattle.nts_unify.specs.Reading.{content_of, IsLawful};
 ghost use Rattle.nts_relating.specs.Relating.{Generalized, IsOpen, IsRegionOf, IsSettled};

@@ -1,9 +1,9 @@
 //! The walk that makes the value of a variable.
 ghost use Rattle.std.specs.Prelude.{◌≡◌, ◌≢◌, ◌+◌, ◌++◌, ◌∷◌, [], ◌^◌, ◌<◌, ◌≤◌, length, OnOk, IfOk, Some, Err};
 ghost use Rattle.nts_model.specs.declared.labels.VariableKind.TheVariants as kind;
-ghost use Rattle.nts_model.specs.Contents.{kind_at};
-ghost use Rattle.nts_model.specs.Trees.{children};
-ghost use Rattle.nts_model.specs.Resolving.{Knows};
+ghost use Rattle.nts_model.specs.Tables.Contents.{kind_at};
+ghost use Rattle.nts_model.specs.Terms.Trees.{children};
+ghost use Rattle.nts_model.specs.Tables.Resolving.{Knows};
 ghost use Rattle.nts_store.specs.Growth.{tree_at, IsIn, Extends};
 ghost use Rattle.nts_relating.specs.declared.value_walk.Task.TheVariants as task;
 ghost use Rattle.nts_unify.specs.Reading.{content_of, IsLawful};

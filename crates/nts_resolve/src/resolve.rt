@@ -1,6 +1,6 @@
 //! The values of variables.
 ghost use Rattle.std.specs.Prelude.{◌≡◌, IfOk, IsOkUnless};
-ghost use Rattle.nts_model.specs.Resolving.{Knows, deeply_resolved};
+ghost use Rattle.nts_model.specs.Tables.Resolving.{Knows, deeply_resolved};
 ghost use Rattle.nts_store.specs.Growth.{tree_at, Extends};
 ghost use Rattle.nts_terms.specs.Handles.{Holds};
 ghost use Rattle.nts_unify.specs.Reading.{content_of};

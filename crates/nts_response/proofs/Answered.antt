@@ -15,23 +15,23 @@ use Rattle.nts_model.specs.declared.labels.Leaf.{Leaf}
 use Rattle.nts_model.specs.declared.labels.Leaf.TheVariants as leaf
 use Rattle.nts_model.specs.declared.labels.Label.{Label}
 use Rattle.nts_model.specs.declared.labels.Label.TheVariants as label
-use Rattle.nts_model.specs.Trees.{Tree, empty, node, kind_of, of_sort, sort_of_leaf, FitsPlace, IsClosed}
-use Rattle.nts_model.specs.Contents.{Content, Recorded}
-use Rattle.nts_model.specs.Regions.{IsRegion}
-use Rattle.nts_model.specs.Resolving.{deeply_resolved}
-use Rattle.nts_model.specs.Substitutions.{leaf_tree}
-use Rattle.nts_model.specs.Sequents.{Among}
-use Rattle.nts_model.specs.Handlers.{hidden_by, premise_by}
-use Rattle.nts_model.specs.Inputs.{Input, PositionKind, placeholder, share, originals, canonical_of}
-use Rattle.nts_model.specs.Driving.{sort_at}
-use Rattle.nts_model.specs.Responses.{Findings, AreFindings, recorded_by, is_fixed, own_leaves, positioned, answer_kind, answer_kinds, universe_of_kind, response_of, Response as Form, IsLeafFor, IsLeafIn, IsQueryTable}
-use Rattle.nts_model.proofs.Kept.{kind_of-deeply_resolved}
-use Rattle.nts_model.proofs.Listed.{map-map}
-use Rattle.nts_model.proofs.ResolvedTerms.{IsClosed-deeply_resolved}
-use Rattle.nts_model.proofs.Answering.{AllTrees, AllSides, AreSeen, IsPlainTerm, all_found_seen, own_loose}
-use Rattle.nts_model.proofs.PositionSorts.{IsTreeOver, positioned_is_over, positioned_kind, answer_sorts, below_greatest, contained_map, contained_from, contained_among}
-use Rattle.nts_model.proofs.ProvedLater.{contains_none, first_or_later}
-use Rattle.nts_model.proofs.Querying.{all_plain, own_in, leaf_in_for}
+use Rattle.nts_model.specs.Terms.Trees.{Tree, empty, node, kind_of, of_sort, sort_of_leaf, FitsPlace, IsClosed}
+use Rattle.nts_model.specs.Tables.Contents.{Content, Recorded}
+use Rattle.nts_model.specs.Terms.Regions.{IsRegion}
+use Rattle.nts_model.specs.Tables.Resolving.{deeply_resolved}
+use Rattle.nts_model.specs.Terms.Substitutions.{leaf_tree}
+use Rattle.nts_model.specs.Derivations.Sequents.{Among}
+use Rattle.nts_model.specs.Derivations.Handlers.{hidden_by, premise_by}
+use Rattle.nts_model.specs.Canonical.Inputs.{Input, PositionKind, placeholder, share, originals, canonical_of}
+use Rattle.nts_model.specs.Searching.Driving.{sort_at}
+use Rattle.nts_model.specs.Answers.Responses.{Findings, AreFindings, recorded_by, is_fixed, own_leaves, positioned, answer_kind, answer_kinds, universe_of_kind, response_of, Response as Form, IsLeafFor, IsLeafIn, IsQueryTable}
+use Rattle.nts_model.proofs.Tables.Kept.{kind_of-deeply_resolved}
+use Rattle.nts_model.proofs.Terms.Listed.{map-map}
+use Rattle.nts_model.proofs.Tables.ResolvedTerms.{IsClosed-deeply_resolved}
+use Rattle.nts_model.proofs.Responses.Answering.{AllTrees, AllSides, AreSeen, IsPlainTerm, all_found_seen, own_loose}
+use Rattle.nts_model.proofs.Responses.PositionSorts.{IsTreeOver, positioned_is_over, positioned_kind, answer_sorts, below_greatest, contained_map, contained_from, contained_among}
+use Rattle.nts_model.proofs.Derivations.ProvedLater.{contains_none, first_or_later}
+use Rattle.nts_model.proofs.Responses.Querying.{all_plain, own_in, leaf_in_for}
 use Rattle.nts_store.specs.declared.nodes.NodeId.{NodeId}
 use Rattle.nts_store.specs.Growth.{tree_at}
 use Rattle.nts_unify.specs.declared.contents.Constraint.{Constraint}

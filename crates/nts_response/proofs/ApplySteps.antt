@@ -1,18 +1,18 @@
 -- A response applied to a table: what was chosen, and what follows once it was put into the table.
 use Rattle.std.proofs.Common.{◌≡◌, ⊎_elim, ℕ, suc, ◌+◌, List, [], ◌∷◌, map, get_or, sym, subst, arith}
 use Rattle.std.specs.Prelude.{All, Bool}
-use Rattle.nts_model.specs.Trees.{Tree, IsClosed}
-use Rattle.nts_model.specs.Contents.{in_universe}
-use Rattle.nts_model.specs.Resolving.{Knows}
-use Rattle.nts_model.specs.Applying.{IsProperContent, ChoosesAll, AreKnownTrees}
-use Rattle.nts_model.specs.Responses.{Findings, RefusesResponse}
-use Rattle.nts_model.specs.Handlers.{filled}
-use Rattle.nts_model.specs.Passing.{BringsOnly}
-use Rattle.nts_model.proofs.Bringing.{brings-trans, only-trans, only-none}
-use Rattle.nts_model.proofs.ChosenLabels.{brings-in_universe, chosen_brings, chosen_passes}
-use Rattle.nts_model.proofs.Answering.{AllTrees}
-use Rattle.nts_model.proofs.Applied.{FailsToEqual, applied, refused}
-use Rattle.nts_model.proofs.Slots.{Knows-kept}
+use Rattle.nts_model.specs.Terms.Trees.{Tree, IsClosed}
+use Rattle.nts_model.specs.Tables.Contents.{in_universe}
+use Rattle.nts_model.specs.Tables.Resolving.{Knows}
+use Rattle.nts_model.specs.Answers.Applying.{IsProperContent, ChoosesAll, AreKnownTrees}
+use Rattle.nts_model.specs.Answers.Responses.{Findings, RefusesResponse}
+use Rattle.nts_model.specs.Derivations.Handlers.{filled}
+use Rattle.nts_model.specs.Tables.Passing.{BringsOnly}
+use Rattle.nts_model.proofs.Responses.Bringing.{brings-trans, only-trans, only-none}
+use Rattle.nts_model.proofs.Responses.ChosenLabels.{brings-in_universe, chosen_brings, chosen_passes}
+use Rattle.nts_model.proofs.Responses.Answering.{AllTrees}
+use Rattle.nts_model.proofs.Responses.Applied.{FailsToEqual, applied, refused}
+use Rattle.nts_model.proofs.Tables.Slots.{Knows-kept}
 use Rattle.nts_store.specs.Growth.{tree_at, AllIn, Extends}
 use Rattle.nts_store.specs.Formed.{AreFormed}
 use Rattle.nts_folding.specs.FoldLaws.{list_holds}
@@ -22,7 +22,7 @@ use Rattle.nts_terms.specs.declared.handles.Goal.{Goal}
 use Rattle.nts_terms.specs.Handles.{HoldsArg}
 use Rattle.nts_certainty.specs.declared.sources.GoalSource.{GoalSource}
 use Rattle.nts_unify.specs.Entries.{Entries, moved}
-use Rattle.nts_model.proofs.ChosenClosed.{chosen_records}
+use Rattle.nts_model.proofs.Responses.ChosenClosed.{chosen_records}
 use Rattle.nts_unify.specs.Changing.{AddsVisible}
 use Rattle.nts_unify.specs.Reading.{content_of}
 use Rattle.nts_unify.specs.Lawful.{IsLawful-moved}

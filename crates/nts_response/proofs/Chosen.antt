@@ -9,16 +9,16 @@ use Rattle.nts_model.specs.declared.labels.Relation.TheVariants as relation
 use Rattle.nts_model.specs.declared.labels.BoundVarIndexKind.TheVariants as index
 use Rattle.nts_model.specs.declared.labels.FreeRegion.TheVariants as region
 use Rattle.nts_model.specs.declared.labels.Label.TheVariants as label
-use Rattle.nts_model.specs.Trees.{Tree, empty, node, kind_of, of_sort, NodeKind, FitsPlace, IsFormed, IsClosed}
-use Rattle.nts_model.specs.Contents.{Content}
-use Rattle.nts_model.specs.Regions.{IsRegion, RegionName, of_variable, of_free, region_tree}
-use Rattle.nts_model.specs.Resolving.{Knows}
-use Rattle.nts_model.specs.Handlers.{filled, NamesFresh, IsOfSort}
-use Rattle.nts_model.specs.Inputs.{PositionKind, type_variable, integer_variable, float_variable, const_variable, region_variable, placeholder}
-use Rattle.nts_model.specs.Driving.{sort_at}
-use Rattle.nts_model.specs.Applying.{ChoosesVariable, Chooses, ChoosesAll}
-use Rattle.nts_model.proofs.Answering.{AllTrees}
-use Rattle.nts_model.proofs.Identified.{named_tree}
+use Rattle.nts_model.specs.Terms.Trees.{Tree, empty, node, kind_of, of_sort, NodeKind, FitsPlace, IsFormed, IsClosed}
+use Rattle.nts_model.specs.Tables.Contents.{Content}
+use Rattle.nts_model.specs.Terms.Regions.{IsRegion, RegionName, of_variable, of_free, region_tree}
+use Rattle.nts_model.specs.Tables.Resolving.{Knows}
+use Rattle.nts_model.specs.Derivations.Handlers.{filled, NamesFresh, IsOfSort}
+use Rattle.nts_model.specs.Canonical.Inputs.{PositionKind, type_variable, integer_variable, float_variable, const_variable, region_variable, placeholder}
+use Rattle.nts_model.specs.Searching.Driving.{sort_at}
+use Rattle.nts_model.specs.Answers.Applying.{ChoosesVariable, Chooses, ChoosesAll}
+use Rattle.nts_model.proofs.Responses.Answering.{AllTrees}
+use Rattle.nts_model.proofs.Terms.Identified.{named_tree}
 use Rattle.nts_canonical.specs.declared.types.CanonicalVarKind.{CanonicalVarKind}
 use Rattle.nts_canonical.specs.Forms.{kind_of_var}
 use Rattle.nts_store.specs.Filled.{HasValues, kind_of-filled}

@@ -2,13 +2,13 @@
 use Rattle.std.proofs.Common.{◌≡◌, ℕ, zero, suc, ◌+◌, ◌<◌, ◌≤◌, List, [], ◌∷◌, ◌++◌, map, length, take, get_or, inl, inr, refl, sym, ap, subst, ◌∙◌, arith}
 use Rattle.std.specs.Prelude.{All}
 use Rattle.std.proofs.lemmas.List.{take_all, take_more, length-map, get_or-map}
-use Rattle.nts_model.specs.Trees.{Tree, empty}
-use Rattle.nts_model.specs.Contents.{Content}
-use Rattle.nts_model.specs.Handlers.{filled}
-use Rattle.nts_model.specs.Equations.{AreRelated, AreUnrelated}
-use Rattle.nts_model.specs.Applying.{IsProperContent, MakesEqual}
-use Rattle.nts_model.proofs.Applied.{FailsToEqual}
-use Rattle.nts_model.proofs.Slots.{Knows-kept}
+use Rattle.nts_model.specs.Terms.Trees.{Tree, empty}
+use Rattle.nts_model.specs.Tables.Contents.{Content}
+use Rattle.nts_model.specs.Derivations.Handlers.{filled}
+use Rattle.nts_model.specs.Tables.Equations.{AreRelated, AreUnrelated}
+use Rattle.nts_model.specs.Answers.Applying.{IsProperContent, MakesEqual}
+use Rattle.nts_model.proofs.Responses.Applied.{FailsToEqual}
+use Rattle.nts_model.proofs.Tables.Slots.{Knows-kept}
 use Rattle.nts_store.specs.declared.nodes.NodeId.{NodeId}
 use Rattle.nts_store.specs.Growth.{tree_at, AllIn}
 use Rattle.nts_store.specs.Kept.{map-kept}

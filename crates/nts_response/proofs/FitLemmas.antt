@@ -7,10 +7,10 @@ use Rattle.nts_model.specs.declared.labels.Leaf.{Leaf}
 use Rattle.nts_model.specs.declared.labels.Leaf.TheVariants as leaf
 use Rattle.nts_model.specs.declared.labels.Label.{Label}
 use Rattle.nts_model.specs.declared.labels.Label.TheVariants as label
-use Rattle.nts_model.specs.Trees.{Tree, empty, more, node}
-use Rattle.nts_model.specs.Substitutions.{Occurs}
-use Rattle.nts_model.specs.Handlers.{NamesFresh, IsFixed}
-use Rattle.nts_model.specs.Scoping.{IsWellBound}
+use Rattle.nts_model.specs.Terms.Trees.{Tree, empty, more, node}
+use Rattle.nts_model.specs.Terms.Substitutions.{Occurs}
+use Rattle.nts_model.specs.Derivations.Handlers.{NamesFresh, IsFixed}
+use Rattle.nts_model.specs.Terms.Scoping.{IsWellBound}
 use Rattle.nts_store.specs.declared.type_flags.TypeFlags.{TypeFlags}
 use Rattle.nts_store.specs.declared.nodes.NodeId.{NodeId}
 use Rattle.nts_store.specs.TypeFlags.{flags_of, escaping}

@@ -1,10 +1,10 @@
 -- From the parts of what was found out to all of it.
 use Rattle.std.proofs.Common.{◌≡◌, ℕ, List, map, ap, ◌∙◌}
-use Rattle.nts_model.specs.Trees.{Tree}
+use Rattle.nts_model.specs.Terms.Trees.{Tree}
 use Rattle.nts_model.specs.declared.labels.Leaf.{Leaf}
-use Rattle.nts_model.specs.Contents.{Content}
-use Rattle.nts_model.specs.Handlers.{hidden_by, premise_by}
-use Rattle.nts_model.specs.Responses.{Findings, Response as Form, recorded_by, findings_by, positioned, own_leaves, answer_kinds, greatest, response_of}
+use Rattle.nts_model.specs.Tables.Contents.{Content}
+use Rattle.nts_model.specs.Derivations.Handlers.{hidden_by, premise_by}
+use Rattle.nts_model.specs.Answers.Responses.{Findings, Response as Form, recorded_by, findings_by, positioned, own_leaves, answer_kinds, greatest, response_of}
 use Rattle.nts_store.specs.Growth.{Extends}
 use Rattle.nts_terms.specs.Handles.{HoldsArg}
 use Rattle.nts_delegate.specs.Offered.{hidden_of}

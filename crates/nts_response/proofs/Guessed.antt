@@ -9,19 +9,19 @@ use Rattle.nts_model.specs.declared.labels.Leaf.TheVariants as leaf
 use Rattle.nts_model.specs.declared.labels.Label.{Label}
 use Rattle.nts_model.specs.declared.labels.Label.TheVariants as label
 use Rattle.nts_model.specs.declared.labels.BoundVarIndexKind.TheVariants as index
-use Rattle.nts_model.specs.Trees.{Tree, empty, more, node, children, shape, Meets, IsFormed, kind_of, kind_of_label, of_sort, NodeKind}
-use Rattle.nts_model.specs.Contents.{Content, universe_of}
-use Rattle.nts_model.specs.Resolving.{Knows, variable_of, number_of, variable_tree}
-use Rattle.nts_model.specs.Placeholders.{CanName, leaf_level}
-use Rattle.nts_model.specs.Levels.{NamesAll, term_level, level_at, level_in, AreCurrent}
-use Rattle.nts_model.specs.Regions.{IsRegion}
-use Rattle.nts_model.specs.Inputs.{type_variable, integer_variable, float_variable, const_variable, region_variable, placeholder, PositionKind}
-use Rattle.nts_model.specs.Applying.{IsOriginalAt}
-use Rattle.nts_model.proofs.Substituting.{no_children}
-use Rattle.nts_model.proofs.AliasLabels.{region_closed}
-use Rattle.nts_model.proofs.Solving.{NamesAll-more}
-use Rattle.nts_model.proofs.Slots.{slice_get-slice_set_same, slice_get-slice_set_other, slice_get_below, length-slice_set}
-use Rattle.nts_model.proofs.Under.{same_or_other}
+use Rattle.nts_model.specs.Terms.Trees.{Tree, empty, more, node, children, shape, Meets, IsFormed, kind_of, kind_of_label, of_sort, NodeKind}
+use Rattle.nts_model.specs.Tables.Contents.{Content, universe_of}
+use Rattle.nts_model.specs.Tables.Resolving.{Knows, variable_of, number_of, variable_tree}
+use Rattle.nts_model.specs.Terms.Placeholders.{CanName, leaf_level}
+use Rattle.nts_model.specs.Tables.Levels.{NamesAll, term_level, level_at, level_in, AreCurrent}
+use Rattle.nts_model.specs.Terms.Regions.{IsRegion}
+use Rattle.nts_model.specs.Canonical.Inputs.{type_variable, integer_variable, float_variable, const_variable, region_variable, placeholder, PositionKind}
+use Rattle.nts_model.specs.Answers.Applying.{IsOriginalAt}
+use Rattle.nts_model.proofs.Terms.Substituting.{no_children}
+use Rattle.nts_model.proofs.Variances.AliasLabels.{region_closed}
+use Rattle.nts_model.proofs.Tables.Solving.{NamesAll-more}
+use Rattle.nts_model.proofs.Tables.Slots.{slice_get-slice_set_same, slice_get-slice_set_other, slice_get_below, length-slice_set}
+use Rattle.nts_model.proofs.Tables.Under.{same_or_other}
 use Rattle.nts_store.specs.Sorts.{sort_of_kind}
 use Rattle.nts_store.specs.Growth.{tree_at}
 use Rattle.nts_terms.specs.declared.handles.GenericArg.{GenericArg}

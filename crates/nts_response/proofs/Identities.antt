@@ -4,9 +4,9 @@ use Rattle.std.specs.Prelude.{◌↔◌, drop}
 use Rattle.std.proofs.lemmas.List.{drop_more, drop_all}
 use Rattle.nts_model.specs.declared.labels.Sort.{Sort}
 use Rattle.nts_model.specs.declared.labels.Sort.TheVariants as sort
-use Rattle.nts_model.specs.Trees.{Tree, kind_of, of_sort}
-use Rattle.nts_model.specs.Numbered.{position}
-use Rattle.nts_model.specs.Responses.{IsIdentity, next, passed}
+use Rattle.nts_model.specs.Terms.Trees.{Tree, kind_of, of_sort}
+use Rattle.nts_model.specs.Canonical.Numbered.{position}
+use Rattle.nts_model.specs.Answers.Responses.{IsIdentity, next, passed}
 use Rattle.nts_store.specs.Growth.{tree_at}
 use Rattle.nts_terms.specs.declared.handles.GenericArg.{GenericArg}
 use Rattle.nts_canonical.specs.Forms.{trees_of}

@@ -3,13 +3,13 @@ use Rattle.std.proofs.Common.{◌≡◌, ℕ, zero, suc, ◌≤◌, List, [], �
 use Rattle.std.specs.Prelude.{◌↔◌, All, Bool, IsTrue}
 use Rattle.std.proofs.lemmas.List.{drop-map, map-append, length-map, length-append, length-drop}
 use Rattle.nts_model.specs.declared.labels.Sort.{Sort}
-use Rattle.nts_model.specs.Trees.{Tree, NodeKind, empty, kind_of, IsClosed}
-use Rattle.nts_model.specs.Contents.{Content}
-use Rattle.nts_model.specs.Inputs.{PositionKind, type_variable, integer_variable, float_variable, const_variable, region_variable, placeholder}
-use Rattle.nts_model.specs.Handlers.{filled, NamesFresh}
-use Rattle.nts_model.specs.Substitutions.{Occurs}
-use Rattle.nts_model.specs.Responses.{RefusesResponse}
-use Rattle.nts_model.specs.Scoping.{IsWellBound}
+use Rattle.nts_model.specs.Terms.Trees.{Tree, NodeKind, empty, kind_of, IsClosed}
+use Rattle.nts_model.specs.Tables.Contents.{Content}
+use Rattle.nts_model.specs.Canonical.Inputs.{PositionKind, type_variable, integer_variable, float_variable, const_variable, region_variable, placeholder}
+use Rattle.nts_model.specs.Derivations.Handlers.{filled, NamesFresh}
+use Rattle.nts_model.specs.Terms.Substitutions.{Occurs}
+use Rattle.nts_model.specs.Answers.Responses.{RefusesResponse}
+use Rattle.nts_model.specs.Terms.Scoping.{IsWellBound}
 use Rattle.nts_store.specs.declared.nodes.NodeId.{NodeId}
 use Rattle.nts_store.specs.Growth.{IsIn, Extends}
 use Rattle.nts_store.proofs.Growing.{Extends-trans}

@@ -4,9 +4,9 @@ use Rattle.std.specs.List.{position_or_len}
 use Rattle.std.proofs.Math.Nat.{le-max_left, le-max_right, max-le}
 use Rattle.std.proofs.lemmas.List.{take_all}
 use Rattle.nts_model.specs.declared.labels.Leaf.{Leaf}
-use Rattle.nts_model.specs.Contents.{Content}
-use Rattle.nts_model.specs.Inputs.{sub_root_of, are_one, share, PositionKind}
-use Rattle.nts_model.specs.Responses.{answer_kind, answer_kinds, universe_of_kind, greatest}
+use Rattle.nts_model.specs.Tables.Contents.{Content}
+use Rattle.nts_model.specs.Canonical.Inputs.{sub_root_of, are_one, share, PositionKind}
+use Rattle.nts_model.specs.Answers.Responses.{answer_kind, answer_kinds, universe_of_kind, greatest}
 use Rattle.nts_canonical.specs.declared.types.CanonicalVarKind.{CanonicalVarKind}
 use Rattle.nts_canonical.specs.Forms.{kind_of_var}
 use Rattle.nts_canonical.proofs.VarLists.{place-map, map-push, map-take-more}

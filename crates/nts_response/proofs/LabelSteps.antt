@@ -4,14 +4,14 @@ use Rattle.std.specs.Prelude.{All}
 use Rattle.std.proofs.lemmas.List.Elements.{Contains-get_or}
 use Rattle.nts_model.specs.declared.labels.Sort.{Sort}
 use Rattle.nts_model.specs.declared.labels.Label.{Label}
-use Rattle.nts_model.specs.Trees.{Tree}
-use Rattle.nts_model.specs.Contents.{Content, Recorded}
-use Rattle.nts_model.specs.Sequents.{Among}
-use Rattle.nts_model.specs.Handlers.{filled}
-use Rattle.nts_model.specs.Passing.{TreePasses, PassesQueries, BringsLabelsOf, BringsOnly}
-use Rattle.nts_model.proofs.Bringing.{only-of, only-trans}
-use Rattle.nts_model.proofs.ChosenLabels.{filled_passes}
-use Rattle.nts_model.proofs.PositionSorts.{contained_map, contained_among}
+use Rattle.nts_model.specs.Terms.Trees.{Tree}
+use Rattle.nts_model.specs.Tables.Contents.{Content, Recorded}
+use Rattle.nts_model.specs.Derivations.Sequents.{Among}
+use Rattle.nts_model.specs.Derivations.Handlers.{filled}
+use Rattle.nts_model.specs.Tables.Passing.{TreePasses, PassesQueries, BringsLabelsOf, BringsOnly}
+use Rattle.nts_model.proofs.Responses.Bringing.{only-of, only-trans}
+use Rattle.nts_model.proofs.Responses.ChosenLabels.{filled_passes}
+use Rattle.nts_model.proofs.Responses.PositionSorts.{contained_map, contained_among}
 use Rattle.nts_store.specs.declared.nodes.NodeId.{NodeId}
 use Rattle.nts_store.specs.Growth.{tree_at, AllIn}
 use Rattle.nts_terms.specs.declared.cx.Cx.{Cx}

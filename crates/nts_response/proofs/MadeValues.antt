@@ -9,16 +9,16 @@ use Rattle.std.proofs.lemmas.Bool.{cases_lt}
 use Rattle.nts_model.specs.declared.labels.Sort.TheVariants as sort
 use Rattle.nts_model.specs.declared.labels.VariableKind.{VariableKind}
 use Rattle.nts_model.specs.declared.labels.VariableKind.TheVariants as kind
-use Rattle.nts_model.specs.Trees.{Tree, empty, kind_of, of_sort}
-use Rattle.nts_model.specs.Contents.{Content, with_slot}
-use Rattle.nts_model.specs.Resolving.{Knows, variable_tree}
-use Rattle.nts_model.specs.Substitutions.{leaf_tree}
-use Rattle.nts_model.specs.Inputs.{PositionKind, type_variable, integer_variable, float_variable, const_variable, region_variable, placeholder}
-use Rattle.nts_model.specs.Responses.{universe_of_kind}
-use Rattle.nts_model.specs.Applying.{IsNew, Chooses, ChoosesAll}
-use Rattle.nts_model.proofs.Slots.{Knows-kept, KeepsKinds, KeepsKinds-refl, KeepsKinds-with_slot}
-use Rattle.nts_model.proofs.Applying.{new_knows}
-use Rattle.nts_model.proofs.Fitting.{Fits-kind_of}
+use Rattle.nts_model.specs.Terms.Trees.{Tree, empty, kind_of, of_sort}
+use Rattle.nts_model.specs.Tables.Contents.{Content, with_slot}
+use Rattle.nts_model.specs.Tables.Resolving.{Knows, variable_tree}
+use Rattle.nts_model.specs.Terms.Substitutions.{leaf_tree}
+use Rattle.nts_model.specs.Canonical.Inputs.{PositionKind, type_variable, integer_variable, float_variable, const_variable, region_variable, placeholder}
+use Rattle.nts_model.specs.Answers.Responses.{universe_of_kind}
+use Rattle.nts_model.specs.Answers.Applying.{IsNew, Chooses, ChoosesAll}
+use Rattle.nts_model.proofs.Tables.Slots.{Knows-kept, KeepsKinds, KeepsKinds-refl, KeepsKinds-with_slot}
+use Rattle.nts_model.proofs.Responses.Applying.{new_knows}
+use Rattle.nts_model.proofs.Tables.Fitting.{Fits-kind_of}
 use Rattle.nts_store.specs.Growth.{tree_at, Extends}
 use Rattle.nts_terms.specs.declared.cx.Cx.{Cx}
 use Rattle.nts_terms.specs.declared.handles.GenericArg.{GenericArg}

@@ -6,12 +6,12 @@ use Rattle.std.proofs.lemmas.List.Elements.{All-push}
 use Rattle.nts_model.specs.declared.labels.Sort.{Sort}
 use Rattle.nts_model.specs.declared.labels.Sort.TheVariants as sort
 use Rattle.nts_model.specs.declared.labels.VariableKind.TheVariants as kind
-use Rattle.nts_model.specs.Trees.{Tree, NodeKind, kind_of, of_sort, IsClosed}
-use Rattle.nts_model.specs.Contents.{Content}
-use Rattle.nts_model.specs.Resolving.{variable_tree}
-use Rattle.nts_model.specs.Handlers.{kind_of_sort}
-use Rattle.nts_model.specs.Applying.{IsNew}
-use Rattle.nts_model.proofs.Applying.{new_knows}
+use Rattle.nts_model.specs.Terms.Trees.{Tree, NodeKind, kind_of, of_sort, IsClosed}
+use Rattle.nts_model.specs.Tables.Contents.{Content}
+use Rattle.nts_model.specs.Tables.Resolving.{variable_tree}
+use Rattle.nts_model.specs.Derivations.Handlers.{kind_of_sort}
+use Rattle.nts_model.specs.Answers.Applying.{IsNew}
+use Rattle.nts_model.proofs.Responses.Applying.{new_knows}
 use Rattle.nts_store.specs.Growth.{tree_at}
 use Rattle.nts_terms.specs.declared.cx.Cx.{Cx}
 use Rattle.nts_terms.specs.declared.handles.GenericArg.{GenericArg}

@@ -3,7 +3,7 @@ use Rattle.std.proofs.Common.{List, map}
 use Rattle.nts_store.specs.declared.nodes.NodeId.{NodeId}
 use Rattle.nts_store.specs.Growth.{tree_at, AllIn, Extends}
 use Rattle.nts_store.specs.Kept.{map-kept}
-use Rattle.nts_model.specs.Trees.{Tree}
+use Rattle.nts_model.specs.Terms.Trees.{Tree}
 use Rattle.nts_terms.specs.declared.handles.Goal.{Goal}
 use Rattle.nts_certainty.specs.declared.sources.GoalSource.{GoalSource}
 use Rattle.nts_response.specs.Opened.{IsOpenable}

@@ -2,17 +2,17 @@
 use Rattle.std.proofs.Common.{◌≡◌, ◌⊎◌, inl, inr, ⊎_elim, ℕ, ◌<◌, List, [], ◌∷◌, ◌++◌, length, Option, Some, None, refl, sym, ap, subst, ◌∙◌, arith}
 use Rattle.std.specs.Prelude.{slice_get}
 use Rattle.std.proofs.lemmas.List.{length-map}
-use Rattle.nts_model.specs.Trees.{Tree}
-use Rattle.nts_model.specs.Contents.{Content, Slot, unset, link, state_of, sub_link_of, with_slot, in_universe}
-use Rattle.nts_model.specs.Inputs.{PositionKind, type_variable}
-use Rattle.nts_model.specs.SubUnifying.{SharesSubRoot, itself, linked, turned, through, BecameOne, AreJoined, JoinsSubRoots}
-use Rattle.nts_model.specs.SubUnifying as sub
-use Rattle.nts_model.proofs.SubUnified.{shares-mapped}
-use Rattle.nts_model.proofs.Under.{same_or_other}
-use Rattle.nts_model.proofs.Slots.{slice_get-push_old, slice_get-push_new, slice_get_below, field_below, field-with_slot_new, field-with_slot_old}
+use Rattle.nts_model.specs.Terms.Trees.{Tree}
+use Rattle.nts_model.specs.Tables.Contents.{Content, Slot, unset, link, state_of, sub_link_of, with_slot, in_universe}
+use Rattle.nts_model.specs.Canonical.Inputs.{PositionKind, type_variable}
+use Rattle.nts_model.specs.Tables.SubUnifying.{SharesSubRoot, itself, linked, turned, through, BecameOne, AreJoined, JoinsSubRoots}
+use Rattle.nts_model.specs.Tables.SubUnifying as sub
+use Rattle.nts_model.proofs.Tables.SubUnified.{shares-mapped}
+use Rattle.nts_model.proofs.Tables.Under.{same_or_other}
+use Rattle.nts_model.proofs.Tables.Slots.{slice_get-push_old, slice_get-push_new, slice_get_below, field_below, field-with_slot_new, field-with_slot_old}
 use Rattle.nts_model.specs.declared.labels.VariableKind.TheVariants as kind
-use Rattle.nts_model.specs.Inputs.{integer_variable, float_variable, const_variable, region_variable, placeholder}
-use Rattle.nts_model.specs.Substitutions.{leaf_tree}
+use Rattle.nts_model.specs.Canonical.Inputs.{integer_variable, float_variable, const_variable, region_variable, placeholder}
+use Rattle.nts_model.specs.Terms.Substitutions.{leaf_tree}
 use Rattle.nts_store.specs.Growth.{Extends}
 use Rattle.nts_unify.specs.declared.contents.Variable.{Variable}
 use Rattle.nts_unify.specs.declared.contents.State.TheVariants.{Unset}

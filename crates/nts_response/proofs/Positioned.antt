@@ -3,9 +3,9 @@ use Rattle.std.proofs.Common.{◌≡◌, ℕ, suc, ◌+◌, ◌<◌, ◌≤◌, 
 use Rattle.std.specs.Prelude.{All}
 use Rattle.std.proofs.lemmas.List.{take_all, take_more, length-map, length-take-le}
 use Rattle.std.proofs.lemmas.List.Elements.{All-push}
-use Rattle.nts_model.specs.Trees.{Tree}
-use Rattle.nts_model.specs.Numbered.{position}
-use Rattle.nts_model.specs.Inputs.{PositionKind}
+use Rattle.nts_model.specs.Terms.Trees.{Tree}
+use Rattle.nts_model.specs.Canonical.Numbered.{position}
+use Rattle.nts_model.specs.Canonical.Inputs.{PositionKind}
 use Rattle.nts_store.specs.Growth.{tree_at, IsIn, Extends}
 use Rattle.nts_folding.specs.FoldLaws.{list_holds}
 use Rattle.nts_terms.specs.declared.handles.GenericArg.{GenericArg}
@@ -14,7 +14,7 @@ use Rattle.nts_canonical.specs.declared.types.CanonicalVarKind.{CanonicalVarKind
 use Rattle.nts_canonical.specs.Forms.{kind_of_var, trees_of}
 use Rattle.nts_canonical.proofs.VarLists.{map-push}
 use Rattle.nts_canonical.proofs.PairLists.{holds_kept}
-use Rattle.nts_model.specs.Driving.{sort_at, positions_from}
+use Rattle.nts_model.specs.Searching.Driving.{sort_at, positions_from}
 use Rattle.nts_response.specs.Replacing.{value_at}
 use Rattle.nts_response.proofs.Each.{same_views, values_kept}
 

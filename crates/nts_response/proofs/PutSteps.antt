@@ -1,12 +1,12 @@
 -- What a response found out is put into a table, step by step.
 use Rattle.std.proofs.Common.{◌≡◌, List, [], ◌∷◌, map, refl, sym, subst, ◌∙◌}
 use Rattle.std.specs.Prelude.{All}
-use Rattle.nts_model.specs.Trees.{Tree}
-use Rattle.nts_model.specs.Resolving.{Knows}
-use Rattle.nts_model.specs.Handlers.{filled, hidden_by}
-use Rattle.nts_model.specs.Contents.{Content}
-use Rattle.nts_model.specs.Sequents.{Premise}
-use Rattle.nts_model.proofs.Slots.{KeepsKinds, Knows-kept}
+use Rattle.nts_model.specs.Terms.Trees.{Tree}
+use Rattle.nts_model.specs.Tables.Resolving.{Knows}
+use Rattle.nts_model.specs.Derivations.Handlers.{filled, hidden_by}
+use Rattle.nts_model.specs.Tables.Contents.{Content}
+use Rattle.nts_model.specs.Derivations.Sequents.{Premise}
+use Rattle.nts_model.proofs.Tables.Slots.{KeepsKinds, Knows-kept}
 use Rattle.nts_store.specs.declared.nodes.NodeId.{NodeId}
 use Rattle.nts_store.specs.Growth.{tree_at, AllIn, Extends}
 use Rattle.nts_store.specs.Kept.{map-kept}

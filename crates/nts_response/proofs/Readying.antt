@@ -2,18 +2,18 @@
 use Rattle.std.proofs.Common.{◌≡◌, ℕ, suc, List, [], ◌∷◌, map, get_or, arith}
 use Rattle.std.specs.Prelude.{All}
 use Rattle.nts_model.specs.declared.labels.Sort.{Sort}
-use Rattle.nts_model.specs.Trees.{Tree, empty, more, node, IsClosed}
-use Rattle.nts_model.specs.Scoping.{IsWellBound}
-use Rattle.nts_model.specs.Related.{alias_label}
+use Rattle.nts_model.specs.Terms.Trees.{Tree, empty, more, node, IsClosed}
+use Rattle.nts_model.specs.Terms.Scoping.{IsWellBound}
+use Rattle.nts_model.specs.Derivations.Related.{alias_label}
 use Rattle.nts_terms.specs.declared.handles.AliasDefId.{AliasDefId}
-use Rattle.nts_model.specs.Contents.{Content}
-use Rattle.nts_model.specs.Resolving.{Knows, KnowsLeaves}
-use Rattle.nts_model.specs.Handlers.{filled, premise_by, NamesFresh}
-use Rattle.nts_model.specs.Driving.{sort_at}
-use Rattle.nts_model.specs.Responses.{IsOverPositions}
-use Rattle.nts_model.proofs.Answering.{AllTrees, AllSides}
-use Rattle.nts_model.proofs.ChosenClosed.{closed-filled}
-use Rattle.nts_model.proofs.Applied.{AreKnownFilled, AreKnownSides}
+use Rattle.nts_model.specs.Tables.Contents.{Content}
+use Rattle.nts_model.specs.Tables.Resolving.{Knows, KnowsLeaves}
+use Rattle.nts_model.specs.Derivations.Handlers.{filled, premise_by, NamesFresh}
+use Rattle.nts_model.specs.Searching.Driving.{sort_at}
+use Rattle.nts_model.specs.Answers.Responses.{IsOverPositions}
+use Rattle.nts_model.proofs.Responses.Answering.{AllTrees, AllSides}
+use Rattle.nts_model.proofs.Responses.ChosenClosed.{closed-filled}
+use Rattle.nts_model.proofs.Responses.Applied.{AreKnownFilled, AreKnownSides}
 use Rattle.nts_store.specs.declared.nodes.NodeId.{NodeId}
 use Rattle.nts_store.specs.Growth.{tree_at, IsIn, Extends}
 use Rattle.nts_store.specs.Formed.{AreFormed}

@@ -2,29 +2,29 @@
 use Rattle.std.proofs.Common.{◌≡◌, inl, inr, ⊎_elim, ℕ, ◌<◌, ◌≤◌, Bool, false, min, max, List, Option, Some, None, refl, sym, ap, subst, ◌∙◌, arith}
 use Rattle.std.specs.Prelude.{slice_get, Result, Ok, Err, OnOk, OnErr}
 use Rattle.std.proofs.lemmas.Bool.{cases_lt}
-use Rattle.nts_model.specs.SubUnifying.{JoinsSubRoots}
-use Rattle.nts_model.proofs.SubUnified.{JoinsSubRoots-refl, JoinsSubRoots-same}
+use Rattle.nts_model.specs.Tables.SubUnifying.{JoinsSubRoots}
+use Rattle.nts_model.proofs.Tables.SubUnified.{JoinsSubRoots-refl, JoinsSubRoots-same}
 use Rattle.nts_model.specs.declared.labels.Relation.{Relation}
 use Rattle.nts_model.specs.declared.labels.Relation.TheVariants as relation
 use Rattle.nts_model.specs.declared.labels.VariableKind.TheVariants as kind
 use Rattle.nts_model.specs.declared.labels.Leaf.TheVariants as leaf
 use Rattle.nts_model.specs.declared.labels.Label.TheVariants as label
-use Rattle.nts_model.specs.Trees.{Tree, empty, more, node, IsClosed}
-use Rattle.nts_model.specs.Contents.{Content, Recorded, with_constraint}
-use Rattle.nts_model.specs.Resolving.{variable_tree, Knows, IsSound, deeply_resolved}
-use Rattle.nts_model.specs.Worlds.{World, inst, IsTrueOf}
-use Rattle.nts_model.specs.Regions.{IsRegion}
-use Rattle.nts_model.specs.Holding.{IsTrivial, HasSides, IsRecorded}
-use Rattle.nts_model.specs.Alike.{Alike, one_tree, two_regions, one_label, two_rows, HoldsEqual}
-use Rattle.nts_model.specs.Applying.{IsProperContent, IsRecordedIn}
-use Rattle.nts_model.proofs.AlikeRelated.{empty_like}
-use Rattle.nts_model.proofs.AliasLabels.{region_closed}
-use Rattle.nts_model.proofs.Alike.{IsRegion-deeply_resolved, HoldsEqual-one}
-use Rattle.nts_model.proofs.Resolved.{deeply_resolved-deeply_resolved}
-use Rattle.nts_model.proofs.Fitting.{region_label}
-use Rattle.nts_model.proofs.Held.{Continues-refl, Continues-with_constraint, HoldsConstraint-with_constraint}
-use Rattle.nts_model.proofs.Solving.{Solves-with_constraint, Solves-from_with_constraint}
-use Rattle.nts_model.proofs.Instances.{tree-reaches}
+use Rattle.nts_model.specs.Terms.Trees.{Tree, empty, more, node, IsClosed}
+use Rattle.nts_model.specs.Tables.Contents.{Content, Recorded, with_constraint}
+use Rattle.nts_model.specs.Tables.Resolving.{variable_tree, Knows, IsSound, deeply_resolved}
+use Rattle.nts_model.specs.Tables.Worlds.{World, inst, IsTrueOf}
+use Rattle.nts_model.specs.Terms.Regions.{IsRegion}
+use Rattle.nts_model.specs.Tables.Holding.{IsTrivial, HasSides, IsRecorded}
+use Rattle.nts_model.specs.Tables.Alike.{Alike, one_tree, two_regions, one_label, two_rows, HoldsEqual}
+use Rattle.nts_model.specs.Answers.Applying.{IsProperContent, IsRecordedIn}
+use Rattle.nts_model.proofs.Derivations.AlikeRelated.{empty_like}
+use Rattle.nts_model.proofs.Variances.AliasLabels.{region_closed}
+use Rattle.nts_model.proofs.Tables.Alike.{IsRegion-deeply_resolved, HoldsEqual-one}
+use Rattle.nts_model.proofs.Tables.Resolved.{deeply_resolved-deeply_resolved}
+use Rattle.nts_model.proofs.Tables.Fitting.{region_label}
+use Rattle.nts_model.proofs.Tables.Held.{Continues-refl, Continues-with_constraint, HoldsConstraint-with_constraint}
+use Rattle.nts_model.proofs.Tables.Solving.{Solves-with_constraint, Solves-from_with_constraint}
+use Rattle.nts_model.proofs.Tables.Instances.{tree-reaches}
 use Rattle.nts_store.specs.declared.nodes.NodeId.{NodeId}
 use Rattle.nts_store.specs.Growth.{tree_at}
 use Rattle.nts_unify.specs.declared.contents.Constraint.{Constraint}
@@ -41,7 +41,7 @@ use Rattle.nts_unify.proofs.JoinLemmas.{regions_join}
 use Rattle.nts_unify.proofs.Leading.{IsRoot-content, Reaches-leads}
 use Rattle.nts_relating.specs.Relating.{RegionsRelate}
 use Rattle.nts_relating.proofs.RegionLemmas.{IsRegionVariable, regions_same, regions_joined}
-use Rattle.nts_model.proofs.Slots.{KeepsKinds, KeepsKinds-refl}
+use Rattle.nts_model.proofs.Tables.Slots.{KeepsKinds, KeepsKinds-refl}
 use Rattle.nts_store.specs.declared.fault.Fault.{Fault}
 use Rattle.nts_table.specs.Tables.{Table}
 use Rattle.nts_table.proofs.RegionLinks.{known_region, open_region}

@@ -1,11 +1,11 @@
 -- The leaves of rows, one row after another.
 use Rattle.std.proofs.Common.{◌≡◌, List, [], ◌∷◌, refl, sym, ap, ◌∙◌}
 use Rattle.nts_model.specs.declared.labels.Leaf.{Leaf}
-use Rattle.nts_model.specs.Trees.{Tree, empty}
-use Rattle.nts_model.specs.Contents.{Recorded}
-use Rattle.nts_model.specs.Sequents.{Hidden}
-use Rattle.nts_model.specs.Numbered.{seen}
-use Rattle.nts_model.specs.Responses.{Findings, is_fixed, own_leaves, value_row, constraint_row, hidden_row, goal_row}
+use Rattle.nts_model.specs.Terms.Trees.{Tree, empty}
+use Rattle.nts_model.specs.Tables.Contents.{Recorded}
+use Rattle.nts_model.specs.Derivations.Sequents.{Hidden}
+use Rattle.nts_model.specs.Canonical.Numbered.{seen}
+use Rattle.nts_model.specs.Answers.Responses.{Findings, is_fixed, own_leaves, value_row, constraint_row, hidden_row, goal_row}
 
 after_values : (s : List Leaf) (ts : List Tree) (r : Tree) → seen is_fixed s (value_row ts r) ≡ seen is_fixed (seen is_fixed s (value_row ts empty)) r
 after_values s [] r = refl

@@ -2,10 +2,10 @@
 use Rattle.std.proofs.Common.{⊎_elim, Bool, List, [], ◌∷◌, subst}
 use Rattle.std.specs.Prelude.{Contains}
 use Rattle.std.proofs.lemmas.List.Elements.{Contains-append_cases}
-use Rattle.nts_model.specs.Trees.{IsClosed}
-use Rattle.nts_model.specs.Contents.{Content, Recorded}
-use Rattle.nts_model.specs.Responses.{Response as Form}
-use Rattle.nts_model.proofs.ProvedLater.{contains_none, first_or_later}
+use Rattle.nts_model.specs.Terms.Trees.{IsClosed}
+use Rattle.nts_model.specs.Tables.Contents.{Content, Recorded}
+use Rattle.nts_model.specs.Answers.Responses.{Response as Form}
+use Rattle.nts_model.proofs.Derivations.ProvedLater.{contains_none, first_or_later}
 use Rattle.nts_unify.specs.Changing.{HasClosedSides}
 use Rattle.nts_unify.proofs.Keeping.{sides-added}
 use Rattle.nts_response.specs.Applicable.{ShowsConstraints}

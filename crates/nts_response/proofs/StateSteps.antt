@@ -1,13 +1,13 @@
 -- A state made from values and a payload, step by step.
 use Rattle.std.proofs.Common.{◌≡◌, ℕ, List, [], ◌∷◌, map, refl, ap, ◌∙◌}
 use Rattle.nts_model.specs.declared.labels.Leaf.{Leaf}
-use Rattle.nts_model.specs.Trees.{Tree, empty, more}
-use Rattle.nts_model.specs.Contents.{Content}
-use Rattle.nts_model.specs.Resolving.{deeply_resolved}
-use Rattle.nts_model.specs.Numbered.{seen}
-use Rattle.nts_model.specs.Responses.{is_fixed, positioned, answer_kinds, greatest}
-use Rattle.nts_model.proofs.Resolved.{deeply_resolved-empty}
-use Rattle.nts_model.proofs.Alike.{deeply_resolved-more}
+use Rattle.nts_model.specs.Terms.Trees.{Tree, empty, more}
+use Rattle.nts_model.specs.Tables.Contents.{Content}
+use Rattle.nts_model.specs.Tables.Resolving.{deeply_resolved}
+use Rattle.nts_model.specs.Canonical.Numbered.{seen}
+use Rattle.nts_model.specs.Answers.Responses.{is_fixed, positioned, answer_kinds, greatest}
+use Rattle.nts_model.proofs.Tables.Resolved.{deeply_resolved-empty}
+use Rattle.nts_model.proofs.Tables.Alike.{deeply_resolved-more}
 use Rattle.nts_folding.specs.Folding.{tree_of_list}
 use Rattle.nts_response.specs.States.{StateForm, state_leaves, resolved_state_of}
 use Rattle.nts_response.specs.StateTrees.{state_row}

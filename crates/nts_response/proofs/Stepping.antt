@@ -1,9 +1,9 @@
 -- The steps of applying, one after another.
 use Rattle.std.proofs.Common.{◌≡◌, List, refl, sym, subst, ◌∙◌}
-use Rattle.nts_model.specs.Trees.{Tree}
-use Rattle.nts_model.specs.SubUnifying.{JoinsSubRoots}
-use Rattle.nts_model.proofs.SubUnified.{JoinsSubRoots-trans}
-use Rattle.nts_model.proofs.Slots.{KeepsKinds, KeepsKinds-refl, KeepsKinds-trans, Knows-kept}
+use Rattle.nts_model.specs.Terms.Trees.{Tree}
+use Rattle.nts_model.specs.Tables.SubUnifying.{JoinsSubRoots}
+use Rattle.nts_model.proofs.Tables.SubUnified.{JoinsSubRoots-trans}
+use Rattle.nts_model.proofs.Tables.Slots.{KeepsKinds, KeepsKinds-refl, KeepsKinds-trans, Knows-kept}
 use Rattle.nts_store.specs.Growth.{tree_at, Extends}
 use Rattle.nts_store.proofs.Growing.{Extends-refl, Extends-trans}
 use Rattle.nts_terms.specs.declared.cx.Cx.{Cx}

@@ -4,19 +4,19 @@ use Rattle.nts_model.specs.declared.labels.Sort.{Sort}
 use Rattle.nts_model.specs.declared.labels.Relation.{Relation}
 use Rattle.nts_model.specs.declared.labels.Relation.TheVariants as relation
 use Rattle.nts_model.specs.declared.labels.Leaf.{Leaf}
-use Rattle.nts_model.specs.Trees.{Tree, Place, a_type, a_region, IsClosed}
-use Rattle.nts_model.specs.Scoping.{IsWellBound}
-use Rattle.nts_model.specs.Contents.{Content, Recorded}
-use Rattle.nts_model.specs.Substitutions.{Occurs}
-use Rattle.nts_model.specs.Resolving.{Knows}
-use Rattle.nts_model.specs.Handlers.{NamesFresh, IsFixed, filled, hidden_by, premise_by}
-use Rattle.nts_model.specs.Sequents.{Premise}
-use Rattle.nts_model.specs.Passing.{BringsOnly}
-use Rattle.nts_model.specs.Inputs.{PositionKind}
-use Rattle.nts_model.specs.Driving.{sort_at}
-use Rattle.nts_model.specs.Applying.{MakesEqual, Records}
-use Rattle.nts_model.specs.SubUnifying.{JoinsSubRoots}
-use Rattle.nts_model.specs.Responses.{Findings, universe_of_kind, Applies, Response as Form}
+use Rattle.nts_model.specs.Terms.Trees.{Tree, Place, a_type, a_region, IsClosed}
+use Rattle.nts_model.specs.Terms.Scoping.{IsWellBound}
+use Rattle.nts_model.specs.Tables.Contents.{Content, Recorded}
+use Rattle.nts_model.specs.Terms.Substitutions.{Occurs}
+use Rattle.nts_model.specs.Tables.Resolving.{Knows}
+use Rattle.nts_model.specs.Derivations.Handlers.{NamesFresh, IsFixed, filled, hidden_by, premise_by}
+use Rattle.nts_model.specs.Derivations.Sequents.{Premise}
+use Rattle.nts_model.specs.Tables.Passing.{BringsOnly}
+use Rattle.nts_model.specs.Canonical.Inputs.{PositionKind}
+use Rattle.nts_model.specs.Searching.Driving.{sort_at}
+use Rattle.nts_model.specs.Answers.Applying.{MakesEqual, Records}
+use Rattle.nts_model.specs.Tables.SubUnifying.{JoinsSubRoots}
+use Rattle.nts_model.specs.Answers.Responses.{Findings, universe_of_kind, Applies, Response as Form}
 use Rattle.nts_store.specs.declared.nodes.NodeId.{NodeId}
 use Rattle.nts_store.specs.Filled.{HasValues}
 use Rattle.nts_store.specs.Growth.{tree_at}

@@ -7,18 +7,18 @@ use Rattle.nts_model.specs.declared.labels.Sort.TheVariants as sort
 use Rattle.nts_model.specs.declared.labels.Leaf.TheVariants as leaf
 use Rattle.nts_model.specs.declared.labels.Label.{Label}
 use Rattle.nts_model.specs.declared.labels.Label.TheVariants as label
-use Rattle.nts_model.specs.Trees.{Tree, empty, kind_of, of_sort, IsClosed}
-use Rattle.nts_model.specs.Numbered.{position}
-use Rattle.nts_model.specs.Contents.{Content, in_universe}
-use Rattle.nts_model.specs.Resolving.{Knows}
-use Rattle.nts_model.specs.Levels.{NamesAll, level_in}
-use Rattle.nts_model.specs.Worlds.{IsValue}
-use Rattle.nts_model.specs.Inputs.{PositionKind, type_variable, integer_variable, float_variable, const_variable, region_variable, placeholder}
-use Rattle.nts_model.specs.Driving.{sort_at}
-use Rattle.nts_model.specs.Handlers.{filled}
-use Rattle.nts_model.specs.Responses.{bound_of, universe_of_kind, placeholder_at}
-use Rattle.nts_model.specs.Applying.{IsGuess, IsNew}
-use Rattle.nts_model.proofs.Slots.{KeepsKinds}
+use Rattle.nts_model.specs.Terms.Trees.{Tree, empty, kind_of, of_sort, IsClosed}
+use Rattle.nts_model.specs.Canonical.Numbered.{position}
+use Rattle.nts_model.specs.Tables.Contents.{Content, in_universe}
+use Rattle.nts_model.specs.Tables.Resolving.{Knows}
+use Rattle.nts_model.specs.Tables.Levels.{NamesAll, level_in}
+use Rattle.nts_model.specs.Tables.Worlds.{IsValue}
+use Rattle.nts_model.specs.Canonical.Inputs.{PositionKind, type_variable, integer_variable, float_variable, const_variable, region_variable, placeholder}
+use Rattle.nts_model.specs.Searching.Driving.{sort_at}
+use Rattle.nts_model.specs.Derivations.Handlers.{filled}
+use Rattle.nts_model.specs.Answers.Responses.{bound_of, universe_of_kind, placeholder_at}
+use Rattle.nts_model.specs.Answers.Applying.{IsGuess, IsNew}
+use Rattle.nts_model.proofs.Tables.Slots.{KeepsKinds}
 use Rattle.nts_store.specs.declared.nodes.NodeId.{NodeId}
 use Rattle.nts_store.specs.Growth.{tree_at, IsIn}
 use Rattle.nts_store.specs.Filled.{HasValues}

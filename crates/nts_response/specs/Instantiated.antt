@@ -1,13 +1,13 @@
 -- Canonical states that can be instantiated for originals, and what instantiating one leaves.
 use Rattle.std.specs.Prelude.{◌≡◌, ℕ, ◌≤◌, List, [], ◌∷◌, ◌++◌, map, length, drop, true, All, Some}
 use Rattle.nts_model.specs.declared.labels.Sort.{Sort}
-use Rattle.nts_model.specs.Trees.{Tree, kind_of, of_sort, IsClosed}
-use Rattle.nts_model.specs.Contents.{Content}
-use Rattle.nts_model.specs.Handlers.{filled, kind_of_sort}
-use Rattle.nts_model.specs.Driving.{sort_at}
-use Rattle.nts_model.specs.Inputs.{PositionKind}
-use Rattle.nts_model.specs.Applying.{IsNew}
-use Rattle.nts_model.specs.Responses.{Response as Form, Applies, RefusesResponse}
+use Rattle.nts_model.specs.Terms.Trees.{Tree, kind_of, of_sort, IsClosed}
+use Rattle.nts_model.specs.Tables.Contents.{Content}
+use Rattle.nts_model.specs.Derivations.Handlers.{filled, kind_of_sort}
+use Rattle.nts_model.specs.Searching.Driving.{sort_at}
+use Rattle.nts_model.specs.Canonical.Inputs.{PositionKind}
+use Rattle.nts_model.specs.Answers.Applying.{IsNew}
+use Rattle.nts_model.specs.Answers.Responses.{Response as Form, Applies, RefusesResponse}
 use Rattle.nts_store.specs.Growth.{tree_at}
 use Rattle.nts_terms.specs.declared.cx.Cx.{Cx}
 use Rattle.nts_terms.specs.declared.handles.GenericArg.{GenericArg}

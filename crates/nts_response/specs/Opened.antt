@@ -1,6 +1,6 @@
 -- Open goals of a response, handed to who applies it.
 use Rattle.std.specs.Prelude.{List}
-use Rattle.nts_model.specs.Trees.{Tree}
+use Rattle.nts_model.specs.Terms.Trees.{Tree}
 use Rattle.nts_store.specs.Growth.{tree_at}
 use Rattle.nts_store.specs.Filled.{HasValues}
 use Rattle.nts_terms.specs.declared.handles.Goal.{Goal}

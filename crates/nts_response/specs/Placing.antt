@@ -1,9 +1,9 @@
 -- Which variables are of one class of sub-unification where values stand for positions.
 use Rattle.std.specs.Prelude.{◌≡◌, ◌⊎◌, ℕ, ◌<◌, List, slice_get, Some}
-use Rattle.nts_model.specs.Trees.{Tree}
-use Rattle.nts_model.specs.Contents.{Content, link, state_of}
-use Rattle.nts_model.specs.Inputs.{PositionKind, type_variable}
-use Rattle.nts_model.specs.SubUnifying.{SharesSubRoot, BecameOne}
+use Rattle.nts_model.specs.Terms.Trees.{Tree}
+use Rattle.nts_model.specs.Tables.Contents.{Content, link, state_of}
+use Rattle.nts_model.specs.Canonical.Inputs.{PositionKind, type_variable}
+use Rattle.nts_model.specs.Tables.SubUnifying.{SharesSubRoot, BecameOne}
 use Rattle.nts_canonical.specs.Building.{type_variable_of}
 
 -- positions of these kinds, with these values: n is the type variable at one, and m that at the earlier one that it names

@@ -1,6 +1,6 @@
 -- Lists of a store whose trees are replaced.
 use Rattle.std.specs.Prelude.{◌≡◌, List, map, All}
-use Rattle.nts_model.specs.Trees.{Tree}
+use Rattle.nts_model.specs.Terms.Trees.{Tree}
 use Rattle.nts_store.specs.Growth.{tree_at}
 use Rattle.nts_terms.specs.declared.handles.GenericArg.{GenericArg}
 

@@ -1,6 +1,6 @@
 -- When responses are one.
 use Rattle.std.specs.Prelude.{◌≡◌, ℕ, ◌<◌, List, length, get_or}
-use Rattle.nts_model.specs.Trees.{Tree}
+use Rattle.nts_model.specs.Terms.Trees.{Tree}
 use Rattle.nts_store.specs.Growth.{tree_at}
 use Rattle.nts_delegate.specs.Offered.{hidden_of}
 use Rattle.nts_canonical.specs.declared.types.Canonical.{Canonical}

@@ -1,7 +1,7 @@
 -- States as folders see them.
 use Rattle.std.specs.Prelude.{◌≡◌, List, All}
-use Rattle.nts_model.specs.Trees.{Tree}
-use Rattle.nts_model.specs.Related.{pair}
+use Rattle.nts_model.specs.Terms.Trees.{Tree}
+use Rattle.nts_model.specs.Derivations.Related.{pair}
 use Rattle.nts_store.specs.Growth.{Extends}
 use Rattle.nts_terms.specs.declared.handles.GenericArg.{GenericArg}
 use Rattle.nts_terms.specs.Handles.{HoldsArg}

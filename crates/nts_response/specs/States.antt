@@ -1,12 +1,12 @@
 -- States: values and a payload, as canonical values.
 use Rattle.std.specs.Prelude.{ℕ, List, [], map}
 use Rattle.nts_model.specs.declared.labels.Leaf.{Leaf}
-use Rattle.nts_model.specs.Trees.{Tree}
-use Rattle.nts_model.specs.Contents.{Content}
-use Rattle.nts_model.specs.Resolving.{deeply_resolved}
-use Rattle.nts_model.specs.Numbered.{seen}
-use Rattle.nts_model.specs.Inputs.{PositionKind}
-use Rattle.nts_model.specs.Responses.{is_fixed, positioned, answer_kinds, greatest}
+use Rattle.nts_model.specs.Terms.Trees.{Tree}
+use Rattle.nts_model.specs.Tables.Contents.{Content}
+use Rattle.nts_model.specs.Tables.Resolving.{deeply_resolved}
+use Rattle.nts_model.specs.Canonical.Numbered.{seen}
+use Rattle.nts_model.specs.Canonical.Inputs.{PositionKind}
+use Rattle.nts_model.specs.Answers.Responses.{is_fixed, positioned, answer_kinds, greatest}
 use Rattle.nts_canonical.specs.declared.types.Canonical.{Canonical}
 use Rattle.nts_canonical.specs.Forms.{kind_of_var, trees_of}
 use Rattle.nts_response.specs.declared.types.State.{State}

@@ -2,9 +2,9 @@
 ghost use Rattle.std.specs.Prelude.{◌≡◌, List, map, IfOk};
 ghost use Rattle.nts_model.specs.declared.labels.Sort.{Sort};
 ghost use Rattle.nts_model.specs.declared.labels.Sort.TheVariants as sort;
-ghost use Rattle.nts_model.specs.Trees.{Tree};
-ghost use Rattle.nts_model.specs.Responses.{answer_kind, answer_kinds, constant_kind, region_kind, universe_of_kind, greatest};
-ghost use Rattle.nts_model.specs.Inputs.{placeholder};
+ghost use Rattle.nts_model.specs.Terms.Trees.{Tree};
+ghost use Rattle.nts_model.specs.Answers.Responses.{answer_kind, answer_kinds, constant_kind, region_kind, universe_of_kind, greatest};
+ghost use Rattle.nts_model.specs.Canonical.Inputs.{placeholder};
 ghost use Rattle.nts_unify.specs.Reading.{content_of, LinksDescend};
 ghost use Rattle.nts_canonical.specs.SubRoots.{sub_root_in};
 ghost use Rattle.nts_canonical.specs.Owned.{IsOwned, AreOwned};

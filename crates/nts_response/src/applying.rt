@@ -1,9 +1,9 @@
 //! A response applied to a table.
 ghost use Rattle.std.specs.Prelude.{◌≡◌, ◌≢◌, ◌↔◌, ◌+◌, ◌≤◌, ◌<◌, Err, map, All, length, IfOk, OnOk, OnErr};
-ghost use Rattle.nts_model.specs.Responses.{RefusesResponse};
-ghost use Rattle.nts_model.specs.Passing.{BringsOnly};
-ghost use Rattle.nts_model.specs.Trees.{IsClosed};
-ghost use Rattle.nts_model.proofs.Applied.{FailsToEqual};
+ghost use Rattle.nts_model.specs.Answers.Responses.{RefusesResponse};
+ghost use Rattle.nts_model.specs.Tables.Passing.{BringsOnly};
+ghost use Rattle.nts_model.specs.Terms.Trees.{IsClosed};
+ghost use Rattle.nts_model.proofs.Responses.Applied.{FailsToEqual};
 ghost use Rattle.nts_store.specs.Growth.{tree_at, AllIn};
 ghost use Rattle.nts_store.specs.declared.fault.EvalError.TheVariants.{NoSolution};
 ghost use Rattle.nts_terms.specs.Rest.{Grows};

@@ -1,6 +1,6 @@
 //! Responses as canonical values.
 ghost use Rattle.std.specs.Prelude.{◌≡◌, IfOk, IsOkUnless};
-ghost use Rattle.nts_model.specs.Responses.{response_of, findings_by, positioned};
+ghost use Rattle.nts_model.specs.Answers.Responses.{response_of, findings_by, positioned};
 ghost use Rattle.nts_store.specs.Growth.{Extends};
 ghost use Rattle.nts_terms.specs.Rest.{Grows};
 ghost use Rattle.nts_unify.specs.Reading.{content_of};

@@ -1,7 +1,7 @@
 //! What is chosen for the positions of a response where it is applied.
 ghost use Rattle.std.specs.Prelude.{◌≡◌, All, length, map, IfOk, IsOkUnless};
-ghost use Rattle.nts_model.specs.Levels.{AreCurrent};
-ghost use Rattle.nts_model.specs.Applying.{ChoosesAll};
+ghost use Rattle.nts_model.specs.Tables.Levels.{AreCurrent};
+ghost use Rattle.nts_model.specs.Answers.Applying.{ChoosesAll};
 ghost use Rattle.nts_store.specs.Growth.{tree_at};
 ghost use Rattle.nts_terms.specs.Handles.{HoldsArg};
 ghost use Rattle.nts_unify.specs.Reading.{content_of};

@@ -1,10 +1,10 @@
 //! Originals made equal to the values of a response.
 ghost use Rattle.std.specs.Prelude.{◌≡◌, ◌≢◌, ◌++◌, Err, map, All, length, OnOk};
-ghost use Rattle.nts_model.specs.Handlers.{filled};
-ghost use Rattle.nts_model.specs.Equations.{AreRelated, AreUnrelated};
-ghost use Rattle.nts_model.specs.Applying.{MakesEqual};
-ghost use Rattle.nts_model.specs.Passing.{BringsLabelsOf, BringsOnly};
-ghost use Rattle.nts_model.proofs.Applied.{FailsToEqual};
+ghost use Rattle.nts_model.specs.Derivations.Handlers.{filled};
+ghost use Rattle.nts_model.specs.Tables.Equations.{AreRelated, AreUnrelated};
+ghost use Rattle.nts_model.specs.Answers.Applying.{MakesEqual};
+ghost use Rattle.nts_model.specs.Tables.Passing.{BringsLabelsOf, BringsOnly};
+ghost use Rattle.nts_model.proofs.Responses.Applied.{FailsToEqual};
 ghost use Rattle.nts_store.specs.Growth.{tree_at, AllIn};
 ghost use Rattle.nts_store.specs.declared.fault.EvalError.TheVariants.{NoSolution};
 ghost use Rattle.nts_unify.specs.Reading.{content_of};

@@ -1,9 +1,9 @@
 //! Whether a response can be applied to originals.
 ghost use Rattle.std.specs.Prelude.{◌≡◌, ◌↔◌, ◌≤◌, ◌++◌, List, map, drop, length, All, IsTrue, IfOk, IsOkUnless};
 ghost use Rattle.nts_model.specs.declared.labels.Sort.{Sort};
-ghost use Rattle.nts_model.specs.Inputs.{placeholder};
-ghost use Rattle.nts_model.specs.Trees.{Tree};
-ghost use Rattle.nts_model.specs.Driving.{sort_at};
+ghost use Rattle.nts_model.specs.Canonical.Inputs.{placeholder};
+ghost use Rattle.nts_model.specs.Terms.Trees.{Tree};
+ghost use Rattle.nts_model.specs.Searching.Driving.{sort_at};
 ghost use Rattle.nts_store.specs.Growth.{IsIn};
 ghost use Rattle.nts_terms.specs.Handles.{Holds, HoldsArg};
 ghost use Rattle.nts_canonical.specs.Forms.{kind_of_var, trees_of};

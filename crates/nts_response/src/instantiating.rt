@@ -1,8 +1,8 @@
 //! Canonical states put into a table.
 ghost use Rattle.std.specs.Prelude.{◌≡◌, ◌≢◌, ◌↔◌, ◌+◌, ◌≤◌, ◌<◌, Err, map, drop, All, length, IfOk, OnOk, OnErr, IsOkUnless};
-ghost use Rattle.nts_model.specs.Responses.{RefusesResponse};
-ghost use Rattle.nts_model.specs.Trees.{IsClosed};
-ghost use Rattle.nts_model.specs.Handlers.{NamesFresh};
+ghost use Rattle.nts_model.specs.Answers.Responses.{RefusesResponse};
+ghost use Rattle.nts_model.specs.Terms.Trees.{IsClosed};
+ghost use Rattle.nts_model.specs.Derivations.Handlers.{NamesFresh};
 ghost use Rattle.nts_store.specs.Growth.{tree_at};
 ghost use Rattle.nts_store.specs.declared.fault.EvalError.TheVariants.{NoSolution};
 ghost use Rattle.nts_terms.specs.Handles.{HoldsArg};

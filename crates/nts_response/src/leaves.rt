@@ -1,8 +1,8 @@
 //! The leaves of a response in the order of first sight.
 ghost use Rattle.std.specs.Prelude.{◌≡◌, map, All, IfOk, OnOk};
-ghost use Rattle.nts_model.specs.Trees.{empty};
-ghost use Rattle.nts_model.specs.Numbered.{seen};
-ghost use Rattle.nts_model.specs.Responses.{is_fixed, own_leaves, value_row, constraint_row, hidden_row, goal_row};
+ghost use Rattle.nts_model.specs.Terms.Trees.{empty};
+ghost use Rattle.nts_model.specs.Canonical.Numbered.{seen};
+ghost use Rattle.nts_model.specs.Answers.Responses.{is_fixed, own_leaves, value_row, constraint_row, hidden_row, goal_row};
 ghost use Rattle.nts_store.specs.Growth.{tree_at, IsIn};
 ghost use Rattle.nts_terms.specs.Handles.{HoldsArg};
 ghost use Rattle.nts_delegate.specs.Offered.{hidden_of};

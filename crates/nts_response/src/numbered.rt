@@ -1,7 +1,7 @@
 //! What a query found out, with positions in place of leaves.
 ghost use Rattle.std.specs.Prelude.{◌≡◌, map, All, IfOk};
-ghost use Rattle.nts_model.specs.Responses.{positioned, recorded_by};
-ghost use Rattle.nts_model.specs.Handlers.{hidden_by, premise_by};
+ghost use Rattle.nts_model.specs.Answers.Responses.{positioned, recorded_by};
+ghost use Rattle.nts_model.specs.Derivations.Handlers.{hidden_by, premise_by};
 ghost use Rattle.nts_store.specs.Growth.{tree_at, Extends};
 ghost use Rattle.nts_terms.specs.Handles.{Holds, HoldsArg};
 ghost use Rattle.nts_delegate.specs.Offered.{hidden_of};

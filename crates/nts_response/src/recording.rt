@@ -1,12 +1,12 @@
 //! Region constraints of a response, recorded in a table.
 ghost use Rattle.std.specs.Prelude.{◌≡◌, ◌&&◌, map, All, OnOk, OnErr, IsOkUnless};
-ghost use Rattle.nts_model.specs.Trees.{IsClosed};
-ghost use Rattle.nts_model.specs.Regions.{IsRegion};
-ghost use Rattle.nts_model.specs.Handlers.{filled};
-ghost use Rattle.nts_model.specs.Responses.{recorded_by};
-ghost use Rattle.nts_model.specs.Applying.{IsRecordedIn, Records};
-ghost use Rattle.nts_model.specs.SubUnifying.{JoinsSubRoots};
-ghost use Rattle.nts_model.specs.Passing.{BringsLabelsOf, BringsOnly};
+ghost use Rattle.nts_model.specs.Terms.Trees.{IsClosed};
+ghost use Rattle.nts_model.specs.Terms.Regions.{IsRegion};
+ghost use Rattle.nts_model.specs.Derivations.Handlers.{filled};
+ghost use Rattle.nts_model.specs.Answers.Responses.{recorded_by};
+ghost use Rattle.nts_model.specs.Answers.Applying.{IsRecordedIn, Records};
+ghost use Rattle.nts_model.specs.Tables.SubUnifying.{JoinsSubRoots};
+ghost use Rattle.nts_model.specs.Tables.Passing.{BringsLabelsOf, BringsOnly};
 ghost use Rattle.nts_store.specs.Growth.{tree_at, AllIn};
 ghost use Rattle.nts_unify.specs.Reading.{content_of};
 ghost use Rattle.nts_unify.specs.Recording.{is_visible};

@@ -1,6 +1,6 @@
 //! Whether responses are one.
 ghost use Rattle.std.specs.Prelude.{◌≡◌, ◌↔◌, List, All, IsTrue};
-ghost use Rattle.nts_model.specs.Trees.{Tree};
+ghost use Rattle.nts_model.specs.Terms.Trees.{Tree};
 ghost use Rattle.nts_store.specs.Growth.{tree_at};
 ghost use Rattle.nts_terms.specs.Handles.{HoldsArg};
 ghost use Rattle.nts_delegate.specs.Offered.{hidden_of};

@@ -1,6 +1,6 @@
 //! States: values and a payload of an evaluation, as canonical values.
 ghost use Rattle.std.specs.Prelude.{◌≡◌, All, IfOk, IsOkUnless};
-ghost use Rattle.nts_model.specs.Resolving.{Knows};
+ghost use Rattle.nts_model.specs.Tables.Resolving.{Knows};
 ghost use Rattle.nts_terms.specs.Handles.{HoldsArg};
 ghost use Rattle.nts_terms.specs.Rest.{Grows};
 ghost use Rattle.nts_unify.specs.Reading.{content_of};

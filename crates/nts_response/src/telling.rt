@@ -1,8 +1,8 @@
 //! Whether a response says anything of what was asked.
 ghost use Rattle.std.specs.Prelude.{◌≡◌, ◌↔◌, Some, All, IsTrue};
 ghost use Rattle.nts_model.specs.declared.labels.Sort.TheVariants as sorts;
-ghost use Rattle.nts_model.specs.Trees.{kind_of, of_sort};
-ghost use Rattle.nts_model.specs.Responses.{IsIdentity};
+ghost use Rattle.nts_model.specs.Terms.Trees.{kind_of, of_sort};
+ghost use Rattle.nts_model.specs.Answers.Responses.{IsIdentity};
 ghost use Rattle.nts_store.specs.Growth.{tree_at, IsIn};
 ghost use Rattle.nts_terms.specs.Handles.{HoldsArg};
 ghost use Rattle.nts_canonical.specs.Forms.{trees_of};

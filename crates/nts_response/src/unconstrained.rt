@@ -1,6 +1,6 @@
 //! Responses that found nothing out.
 ghost use Rattle.std.specs.Prelude.{◌≡◌, ◌↔◌, [], map, All, IsTrue, IfOk, IsOkUnless};
-ghost use Rattle.nts_model.specs.Driving.{sort_at, positions_from, unconstrained};
+ghost use Rattle.nts_model.specs.Searching.Driving.{sort_at, positions_from, unconstrained};
 ghost use Rattle.nts_store.specs.Growth.{tree_at, Extends};
 ghost use Rattle.nts_terms.specs.Handles.{HoldsArg};
 ghost use Rattle.nts_terms.specs.Rest.{Grows};

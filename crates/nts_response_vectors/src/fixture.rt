@@ -1,6 +1,6 @@
 //! A store, a table, and responses that are written down by hand.
 ghost use Rattle.std.specs.Prelude.{◌≡◌, All, OnErr};
-ghost use Rattle.nts_model.specs.Trees.{IsClosed};
+ghost use Rattle.nts_model.specs.Terms.Trees.{IsClosed};
 ghost use Rattle.nts_store.specs.Growth.{tree_at};
 ghost use Rattle.nts_table.specs.Tables.{IsTable};
 ghost use Rattle.nts_canonical.specs.Building.{IsArgOf};

@@ -1,8 +1,8 @@
 -- A round that is its head's last one may end it.
 use Rattle.std.proofs.Common.{◌≡◌, ◌⊎◌, inl, inr, false, List, Option, Some, None, ap}
-use Rattle.nts_model.specs.Trees.{Tree}
-use Rattle.nts_model.specs.Stacks.{SaysSame}
-use Rattle.nts_model.specs.Driving.{MayEnd}
+use Rattle.nts_model.specs.Terms.Trees.{Tree}
+use Rattle.nts_model.specs.Searching.Stacks.{SaysSame}
+use Rattle.nts_model.specs.Searching.Driving.{MayEnd}
 use Rattle.nts_certainty.specs.declared.certainty.Certainty.TheVariants as certainty
 use Rattle.nts_canonical.specs.declared.types.Canonical.{Canonical}
 use Rattle.nts_canonical.specs.declared.types.CanonicalInput.{CanonicalInput}

@@ -2,9 +2,9 @@
 use Rattle.std.proofs.Common.{◌≡◌, ℕ, zero, suc, ◌+◌, ◌-◌, ◌<◌, ◌≤◌, cond, List, [], ◌∷◌, ◌++◌, length, length-append, get_or, Some, max, map, ap, sym, ◌∙◌, subst, arith, refl}
 use Rattle.std.specs.Prelude.{reverse, slice_get}
 use Rattle.std.proofs.lemmas.List.{reverse-append, length-reverse}
-use Rattle.nts_model.specs.Trees.{Tree}
-use Rattle.nts_model.specs.Stacks.{Entry}
-use Rattle.nts_model.proofs.Ordered.{get_reversed}
+use Rattle.nts_model.specs.Terms.Trees.{Tree}
+use Rattle.nts_model.specs.Searching.Stacks.{Entry}
+use Rattle.nts_model.proofs.Searching.Ordered.{get_reversed}
 use Rattle.nts_canonical.specs.declared.types.CanonicalInput.{CanonicalInput}
 use Rattle.nts_canonical.specs.Forms.{form_of}
 use Rattle.nts_search.specs.declared.terms.GoalTerms.{GoalTerms}

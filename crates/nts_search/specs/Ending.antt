@@ -1,6 +1,6 @@
 -- When a round of a head is its last one.
 use Rattle.std.specs.Prelude.{◌≢◌, List, Option, Some, None}
-use Rattle.nts_model.specs.Trees.{Tree}
+use Rattle.nts_model.specs.Terms.Trees.{Tree}
 use Rattle.nts_certainty.specs.declared.certainty.Certainty.TheVariants as certainty
 use Rattle.nts_canonical.specs.declared.types.Canonical.{Canonical}
 use Rattle.nts_canonical.specs.Forms.{trees_of}

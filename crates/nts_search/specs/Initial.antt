@@ -1,6 +1,6 @@
 -- How sure the first answer of a cycle is.
 use Rattle.std.specs.Prelude.{false, Option, Some, None}
-use Rattle.nts_model.specs.Rules.{Mode, coherence}
+use Rattle.nts_model.specs.Derivations.Rules.{Mode, coherence}
 use Rattle.nts_certainty.specs.declared.certainty.Certainty.{Certainty}
 use Rattle.nts_certainty.specs.declared.certainty.Certainty.TheVariants as certainty
 use Rattle.nts_certainty.specs.declared.sources.PathKind.{PathKind}

@@ -1,5 +1,5 @@
 -- What stands above a step.
-use Rattle.nts_model.specs.Rules.{GoalKind, coinductive_trait, normalization, other_goal}
+use Rattle.nts_model.specs.Derivations.Rules.{GoalKind, coinductive_trait, normalization, other_goal}
 use Rattle.nts_search.specs.declared.kinds.CurrentGoalKind.{CurrentGoalKind}
 use Rattle.nts_search.specs.declared.kinds.CurrentGoalKind.TheVariants as kind
 

@@ -1,10 +1,10 @@
 -- The stack of a search: the entries that it stands for, and what stays true of it.
 use Rattle.std.specs.Prelude.{◌≡◌, ℕ, zero, suc, ◌<◌, ◌≤◌, true, List, [], ◌∷◌, map, reverse, length, get_or, All, Option, Some, None}
-use Rattle.nts_model.specs.Trees.{Tree}
-use Rattle.nts_model.specs.Handlers.{Certainty}
-use Rattle.nts_model.specs.Responses.{Response as Form}
-use Rattle.nts_model.specs.Stacks.{Entry}
-use Rattle.nts_model.specs.Driving.{unconstrained}
+use Rattle.nts_model.specs.Terms.Trees.{Tree}
+use Rattle.nts_model.specs.Derivations.Handlers.{Certainty}
+use Rattle.nts_model.specs.Answers.Responses.{Response as Form}
+use Rattle.nts_model.specs.Searching.Stacks.{Entry}
+use Rattle.nts_model.specs.Searching.Driving.{unconstrained}
 use Rattle.nts_certainty.specs.Certainties.{ambiguous}
 use Rattle.nts_delegate.specs.Offered.{certainty_of, path_kind_of}
 use Rattle.nts_canonical.specs.declared.types.Canonical.{Canonical}

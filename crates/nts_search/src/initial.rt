@@ -1,7 +1,7 @@
 //! What an input is answered before its first round ends.
 ghost use Rattle.std.specs.Prelude.{◌≡◌, ◌≢◌, ◌↔◌, false, map, IfOk, IfSome, IsNone, IsOkUnless};
-ghost use Rattle.nts_model.specs.Rules.{coherence};
-ghost use Rattle.nts_model.specs.Driving.{unconstrained};
+ghost use Rattle.nts_model.specs.Derivations.Rules.{coherence};
+ghost use Rattle.nts_model.specs.Searching.Driving.{unconstrained};
 ghost use Rattle.nts_certainty.specs.Certainties.{overflowing};
 ghost use Rattle.nts_terms.specs.Modes.{mode_of};
 ghost use Rattle.nts_terms.specs.Rest.{Grows};

@@ -1,7 +1,7 @@
 //! Kinds of steps, and of paths of steps.
 ghost use Rattle.std.specs.Prelude.{◌≡◌};
-ghost use Rattle.nts_model.specs.Rules.{step_kind};
-ghost use Rattle.nts_model.specs.Stacks.{stronger};
+ghost use Rattle.nts_model.specs.Derivations.Rules.{step_kind};
+ghost use Rattle.nts_model.specs.Searching.Stacks.{stronger};
 ghost use Rattle.nts_delegate.specs.Offered.{path_kind_of, source_of};
 ghost use Rattle.nts_search.specs.Kinds.{goal_kind_of};
 

@@ -1,8 +1,8 @@
 //! The stack of inputs that are being evaluated.
 ghost use Rattle.std.specs.Prelude.{◌≡◌, ◌-◌, ◌<◌, ◌≤◌, ◌++◌, ◌∷◌, [], ℕ, suc, max, false, List, Option, length, MatchOption, OnOk, OnErr, IsSome, if◌then◌else◌};
-ghost use Rattle.nts_model.specs.Trees.{Tree};
-ghost use Rattle.nts_model.specs.Stacks.{path_kind};
-ghost use Rattle.nts_model.specs.Driving.{marked};
+ghost use Rattle.nts_model.specs.Terms.Trees.{Tree};
+ghost use Rattle.nts_model.specs.Searching.Stacks.{path_kind};
+ghost use Rattle.nts_model.specs.Searching.Driving.{marked};
 ghost use Rattle.nts_delegate.specs.Offered.{path_kind_of};
 ghost use Rattle.nts_canonical.specs.Forms.{HoldsQuery};
 ghost use Rattle.nts_search.specs.declared.terms.GoalTerms.{GoalTerms};

@@ -9,22 +9,22 @@ use Rattle.nts_model.specs.declared.labels.Variance.TheVariants as variance
 use Rattle.nts_model.specs.declared.labels.ListHead.TheVariants as list
 use Rattle.nts_model.specs.declared.labels.Label.TheVariants as label
 use Rattle.nts_model.specs.declared.labels.PredicateHead.{PredicateHead}
-use Rattle.nts_model.specs.Trees.{Tree, empty, more, node, kind_of, kind_of_label, of_sort, arguments, bound_predicate, IsClosed, IsFormed}
-use Rattle.nts_model.specs.Contents.{Content}
-use Rattle.nts_model.specs.Resolving.{Knows, IsSound, resolved, deeply_resolved}
-use Rattle.nts_model.specs.Worlds.{World, Solves}
-use Rattle.nts_model.specs.Holding.{Continues}
-use Rattle.nts_model.specs.Equations.{AreRelated, AreUnrelated}
-use Rattle.nts_model.specs.Tying.{TiesNew}
-use Rattle.nts_model.specs.Leaving.{Judge, judging_of}
-use Rattle.nts_model.specs.Related.{pair, unbound, directed}
-use Rattle.nts_model.specs.Relations.{Relating as Pair, AllSettleIn}
-use Rattle.nts_model.proofs.Scoping.{closed_listed}
-use Rattle.nts_model.proofs.Held.{AreOne-continues, Continues-trans}
-use Rattle.nts_model.proofs.Kept.{kind_of-resolved}
-use Rattle.nts_model.proofs.Open.{Knows-resolved}
-use Rattle.nts_model.proofs.Resolved.{deeply_resolved-resolved}
-use Rattle.nts_model.proofs.Worlds.{inst-resolved}
+use Rattle.nts_model.specs.Terms.Trees.{Tree, empty, more, node, kind_of, kind_of_label, of_sort, arguments, bound_predicate, IsClosed, IsFormed}
+use Rattle.nts_model.specs.Tables.Contents.{Content}
+use Rattle.nts_model.specs.Tables.Resolving.{Knows, IsSound, resolved, deeply_resolved}
+use Rattle.nts_model.specs.Tables.Worlds.{World, Solves}
+use Rattle.nts_model.specs.Tables.Holding.{Continues}
+use Rattle.nts_model.specs.Tables.Equations.{AreRelated, AreUnrelated}
+use Rattle.nts_model.specs.Tables.Tying.{TiesNew}
+use Rattle.nts_model.specs.Variances.Leaving.{Judge, judging_of}
+use Rattle.nts_model.specs.Derivations.Related.{pair, unbound, directed}
+use Rattle.nts_model.specs.Variances.Relations.{Relating as Pair, AllSettleIn}
+use Rattle.nts_model.proofs.Terms.Scoping.{closed_listed}
+use Rattle.nts_model.proofs.Tables.Held.{AreOne-continues, Continues-trans}
+use Rattle.nts_model.proofs.Tables.Kept.{kind_of-resolved}
+use Rattle.nts_model.proofs.Tables.Open.{Knows-resolved}
+use Rattle.nts_model.proofs.Tables.Resolved.{deeply_resolved-resolved}
+use Rattle.nts_model.proofs.Tables.Worlds.{inst-resolved}
 use Rattle.nts_store.specs.declared.nodes.NodeId.{NodeId}
 use Rattle.nts_store.specs.Growth.{tree_at, IsIn, Extends}
 use Rattle.nts_store.specs.Sorts.{sort_of_kind}

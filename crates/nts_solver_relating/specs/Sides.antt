@@ -6,12 +6,12 @@ use Rattle.nts_model.specs.declared.labels.Variance.{Variance}
 use Rattle.nts_model.specs.declared.labels.Variance.TheVariants as variance
 use Rattle.nts_model.specs.declared.labels.ListHead.TheVariants as list
 use Rattle.nts_model.specs.declared.labels.Label.TheVariants as label
-use Rattle.nts_model.specs.Trees.{Tree, node, children, row_length, kind_of_label}
-use Rattle.nts_model.specs.Contents.{Content}
-use Rattle.nts_model.specs.Resolving.{Knows}
-use Rattle.nts_model.specs.Relations.{Relating as Pair}
-use Rattle.nts_model.specs.Equations.{AreRelated}
-use Rattle.nts_model.specs.Passing.{BringsLabelsOf}
+use Rattle.nts_model.specs.Terms.Trees.{Tree, node, children, row_length, kind_of_label}
+use Rattle.nts_model.specs.Tables.Contents.{Content}
+use Rattle.nts_model.specs.Tables.Resolving.{Knows}
+use Rattle.nts_model.specs.Variances.Relations.{Relating as Pair}
+use Rattle.nts_model.specs.Tables.Equations.{AreRelated}
+use Rattle.nts_model.specs.Tables.Passing.{BringsLabelsOf}
 use Rattle.nts_relating.specs.Relating.{IsPlainIn}
 use Rattle.nts_store.specs.declared.nodes.NodeId.{NodeId}
 use Rattle.nts_store.specs.Growth.{tree_at, IsIn}

@@ -2,9 +2,9 @@
 ghost use Rattle.std.specs.Prelude.{◌≡◌, ◌≢◌, OnOk, OnErr, IfOk, Err, Some, true, false};
 ghost use Rattle.nts_model.specs.declared.labels.Sort.TheVariants as sorts;
 ghost use Rattle.nts_model.specs.declared.labels.Variance.TheVariants as variances;
-ghost use Rattle.nts_model.specs.Trees.{kind_of, of_sort, any_label, is_alias};
-ghost use Rattle.nts_model.specs.Resolving.{Knows, resolved};
-ghost use Rattle.nts_model.specs.Equations.{AreUnrelated};
+ghost use Rattle.nts_model.specs.Terms.Trees.{kind_of, of_sort, any_label, is_alias};
+ghost use Rattle.nts_model.specs.Tables.Resolving.{Knows, resolved};
+ghost use Rattle.nts_model.specs.Tables.Equations.{AreUnrelated};
 ghost use Rattle.nts_relating.specs.Relating.{IsPlainIn};
 ghost use Rattle.nts_store.specs.Growth.{tree_at, IsIn, Extends};
 ghost use Rattle.nts_terms.specs.Signatures.{variances_in};

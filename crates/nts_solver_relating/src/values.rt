@@ -1,6 +1,6 @@
 //! Two values of the table related by a variance.
 ghost use Rattle.std.specs.Prelude.{◌≡◌, ◌≢◌, OnOk, OnErr, IfOk, Err};
-ghost use Rattle.nts_model.specs.Equations.{AreUnrelated};
+ghost use Rattle.nts_model.specs.Tables.Equations.{AreUnrelated};
 ghost use Rattle.nts_store.specs.Growth.{tree_at};
 ghost use Rattle.nts_terms.specs.Signatures.{variances_in};
 ghost use Rattle.nts_unify.specs.Reading.{content_of};

@@ -5,7 +5,7 @@ use Rattle.std.proofs.lemmas.Bool.{ltb-true, ltb-false}
 use Rattle.nts_model.specs.declared.labels.Label.{Label}
 use Rattle.nts_model.specs.declared.labels.Label.TheVariants as label
 use Rattle.nts_model.specs.declared.labels.BoundVarIndexKind.TheVariants as index
-use Rattle.nts_model.specs.Trees.{Tree, empty, more, node, binders, IsBoundBelow, IsClosedUnder, IsClosed}
+use Rattle.nts_model.specs.Terms.Trees.{Tree, empty, more, node, binders, IsBoundBelow, IsClosedUnder, IsClosed}
 use Rattle.nts_store.specs.declared.type_flags.TypeFlags.{TypeFlags}
 use Rattle.nts_store.specs.TypeFlags.{higher, past_binders, level_of, escaping, flags_of}
 

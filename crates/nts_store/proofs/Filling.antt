@@ -3,10 +3,10 @@ use Rattle.std.proofs.Common.{◌≡◌, ◌||◌, not, Bool, true, false, List,
 use Rattle.nts_model.specs.declared.labels.Label.{Label}
 use Rattle.nts_model.specs.declared.labels.Label.TheVariants as label
 use Rattle.nts_model.specs.declared.labels.BoundVarIndexKind.TheVariants as index
-use Rattle.nts_model.specs.Trees.{Tree, empty, more, node, any_label, is_canonical}
+use Rattle.nts_model.specs.Terms.Trees.{Tree, empty, more, node, any_label, is_canonical}
 use Rattle.nts_store.specs.declared.type_flags.TypeFlags.{TypeFlags}
 use Rattle.nts_store.specs.TypeFlags.{flags_of}
-use Rattle.nts_model.specs.Handlers.{position_of, filled}
+use Rattle.nts_model.specs.Derivations.Handlers.{position_of, filled}
 
 both_false : (p q : Bool) → (p || q) ≡ false → (p ≡ false) × (q ≡ false)
 both_false true q h = cc

@@ -1,6 +1,6 @@
 -- The trees of a store are terms.
 use Rattle.std.proofs.Common.{ℕ, zero, suc, ◌<◌, List, [], ◌∷◌, ◌++◌, length, get_or, arith}
-use Rattle.nts_model.specs.Trees.{Tree, empty, IsFormed}
+use Rattle.nts_model.specs.Terms.Trees.{Tree, empty, IsFormed}
 use Rattle.nts_store.specs.declared.nodes.NodeId.{NodeId}
 use Rattle.nts_store.specs.declared.nodes.Node.{Node}
 use Rattle.nts_store.specs.Growth.{trees_at, AllIn}

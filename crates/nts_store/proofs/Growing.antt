@@ -1,7 +1,7 @@
 -- Lemmas on growing lists of trees, and on the trees of lists of terms.
 use Rattle.std.proofs.Common.{◌≡◌, ℕ, zero, suc, ◌+◌, ◌<◌, List, [], ◌∷◌, ◌++◌, length, get_or, refl, ap, ◌∙◌, arith, length-append, add-one}
 use Rattle.std.proofs.lemmas.Grind.{common_steps}
-use Rattle.nts_model.specs.Trees.{Tree, empty, more, node, row_length, row_at, row_take, row_push, IsRow}
+use Rattle.nts_model.specs.Terms.Trees.{Tree, empty, more, node, row_length, row_at, row_take, row_push, IsRow}
 use Rattle.nts_store.specs.declared.nodes.NodeId.{NodeId}
 use Rattle.nts_store.specs.Growth.{tree_at, trees_at, IsIn, AllIn, AllBelow, Extends}
 

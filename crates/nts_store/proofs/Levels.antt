@@ -10,9 +10,9 @@ use Rattle.nts_model.specs.declared.labels.TyHead.TheVariants as ty
 use Rattle.nts_model.specs.declared.labels.ListHead.TheVariants as list
 use Rattle.nts_model.specs.declared.labels.Label.{Label}
 use Rattle.nts_model.specs.declared.labels.Label.TheVariants as label
-use Rattle.nts_model.specs.Trees.{Tree, empty, more, node, binders, row_length, row_at, row_take, IsRow, IsClosedUnder}
-use Rattle.nts_model.specs.Scoping.{IsListed, AllListed}
-use Rattle.nts_model.proofs.Scoping.{closed_listed}
+use Rattle.nts_model.specs.Terms.Trees.{Tree, empty, more, node, binders, row_length, row_at, row_take, IsRow, IsClosedUnder}
+use Rattle.nts_model.specs.Terms.Scoping.{IsListed, AllListed}
+use Rattle.nts_model.proofs.Terms.Scoping.{closed_listed}
 use Rattle.nts_store.specs.Levels.{above, AllListedAt, IsNextLevel}
 use Rattle.nts_store.proofs.Growing.{row_take-all}
 use Rattle.nts_store.proofs.Pending.{cmp-equal, above-insert, above-last, above-all}

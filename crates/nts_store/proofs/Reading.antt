@@ -1,6 +1,6 @@
 -- The lemmas that readers of a node want.
 use Rattle.std.proofs.Common.{◌≡◌, ℕ, zero, suc, ◌+◌, ◌<◌, ◌≤◌, List, [], ◌∷◌, length, get_or, drop, refl, ap, ◌∙◌, arith}
-use Rattle.nts_model.specs.Trees.{Tree, more}
+use Rattle.nts_model.specs.Terms.Trees.{Tree, more}
 use Rattle.nts_store.specs.declared.type_flags.TypeFlags.{TypeFlags}
 use Rattle.nts_store.specs.declared.nodes.NodeId.{NodeId}
 use Rattle.nts_store.specs.TypeFlags.{flags_of, no_flags, joined}

@@ -5,8 +5,8 @@ use Rattle.nts_model.specs.declared.labels.ListHead.TheVariants as list
 use Rattle.nts_model.specs.declared.labels.Label.{Label}
 use Rattle.nts_model.specs.declared.labels.Label.TheVariants as label
 use Rattle.std.specs.Prelude.{Some}
-use Rattle.nts_model.specs.Trees.{Tree, empty, more, node, children, row_at, binders, kind_of, sort_list, shape, Meets}
-use Rattle.nts_model.specs.Scoping.{listed_in, sorts_of, AllListed, ListsBound, IsWellBound}
+use Rattle.nts_model.specs.Terms.Trees.{Tree, empty, more, node, children, row_at, binders, kind_of, sort_list, shape, Meets}
+use Rattle.nts_model.specs.Terms.Scoping.{listed_in, sorts_of, AllListed, ListsBound, IsWellBound}
 use Rattle.nts_store.specs.declared.nodes.NodeId.{NodeId}
 use Rattle.nts_store.specs.Growth.{tree_at, trees_at}
 use Rattle.nts_store.proofs.Growing.{row_at-trees_at}

@@ -1,6 +1,6 @@
 -- The trees of a store are terms.
 use Rattle.std.specs.Prelude.{List}
-use Rattle.nts_model.specs.Trees.{Tree, IsFormed}
+use Rattle.nts_model.specs.Terms.Trees.{Tree, IsFormed}
 use Rattle.nts_store.specs.declared.nodes.NodeId.{NodeId}
 use Rattle.nts_store.specs.Growth.{tree_at, IsIn}
 

@@ -1,6 +1,6 @@
 -- A list of trees in which terms are places: what callers of a store read.
 use Rattle.std.specs.Prelude.{◌≡◌, ℕ, ◌≤◌, ◌<◌, List, [], ◌∷◌, length, get_or}
-use Rattle.nts_model.specs.Trees.{Tree, empty, more}
+use Rattle.nts_model.specs.Terms.Trees.{Tree, empty, more}
 use Rattle.nts_store.specs.declared.nodes.NodeId.{NodeId}
 
 -- the tree of a term

@@ -1,7 +1,7 @@
 -- A walk over what a binder binds, level by level: the terms that are left to visit.
 use Rattle.std.specs.Prelude.{◌↔◌, ℕ, ◌+◌, ◌-◌, ◌≤◌, max, List, [], ◌∷◌, get_or}
-use Rattle.nts_model.specs.Trees.{Tree, empty}
-use Rattle.nts_model.specs.Scoping.{AllListed}
+use Rattle.nts_model.specs.Terms.Trees.{Tree, empty}
+use Rattle.nts_model.specs.Terms.Scoping.{AllListed}
 
 -- the first number above all of these
 abbrev pub above : List ℕ → ℕ

@@ -1,7 +1,7 @@
 -- What a replacer says of a tree, and what a walk still has to do.
 use Rattle.std.specs.Prelude.{◌≡◌, ℕ, List, [], ◌∷◌, ◌++◌}
 use Rattle.nts_model.specs.declared.labels.Label.{Label}
-use Rattle.nts_model.specs.Trees.{Tree, empty, more, node, row_length, shape, Meets}
+use Rattle.nts_model.specs.Terms.Trees.{Tree, empty, more, node, row_length, shape, Meets}
 use Rattle.nts_store.specs.declared.replacement.Step.{Step}
 use Rattle.nts_store.specs.declared.replacement.Step.TheVariants as step
 use Rattle.nts_store.specs.declared.replacement.Task.{Task}

@@ -1,7 +1,7 @@
 -- The sorts of labels, and places among children.
 use Rattle.std.specs.Prelude.{Option, Some, None}
 use Rattle.nts_model.specs.declared.labels.Sort.{Sort}
-use Rattle.nts_model.specs.Trees.{Tree, empty, more, node, shape, Meets, NodeKind, of_sort}
+use Rattle.nts_model.specs.Terms.Trees.{Tree, empty, more, node, shape, Meets, NodeKind, of_sort}
 
 -- the sort of a term, if it is a type, a region or a const
 abbrev pub sort_of_kind : NodeKind → Option Sort

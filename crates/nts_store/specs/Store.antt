@@ -1,7 +1,7 @@
 -- What the nodes of a store stand for.
 use Rattle.std.specs.Prelude.{◌≡◌, ◌↔◌, IsTrue, List, [], ◌∷◌, ◌++◌}
-use Rattle.nts_model.specs.Trees.{Tree, node, shape, Meets}
-use Rattle.nts_model.specs.Scoping.{IsWellBound}
+use Rattle.nts_model.specs.Terms.Trees.{Tree, node, shape, Meets}
+use Rattle.nts_model.specs.Terms.Scoping.{IsWellBound}
 use Rattle.nts_store.specs.declared.nodes.Node.{Node}
 use Rattle.nts_store.specs.TypeFlags.{flags_of}
 use Rattle.nts_store.specs.Growth.{trees_at, AllIn, AreApart}

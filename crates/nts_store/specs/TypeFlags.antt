@@ -7,7 +7,7 @@ use Rattle.nts_model.specs.declared.labels.Leaf.TheVariants as leaf
 use Rattle.nts_model.specs.declared.labels.Label.{Label}
 use Rattle.nts_model.specs.declared.labels.Label.TheVariants as label
 use Rattle.nts_model.specs.declared.labels.BoundVarIndexKind.TheVariants as index
-use Rattle.nts_model.specs.Trees.{Tree, empty, more, node, any_label, is_infer, is_region_infer, is_placeholder, is_alias, is_canonical, binders}
+use Rattle.nts_model.specs.Terms.Trees.{Tree, empty, more, node, any_label, is_infer, is_region_infer, is_placeholder, is_alias, is_canonical, binders}
 use Rattle.nts_store.specs.declared.type_flags.TypeFlags.{TypeFlags}
 
 abbrev pub higher : Option ℕ → Option ℕ → Option ℕ

@@ -1,10 +1,10 @@
 //! Values in place of the bound variables of a canonical value.
 ghost use Rattle.std.specs.Prelude.{◌≡◌, List, map, IfOk, refl};
-ghost use Rattle.nts_model.specs.Trees.{Tree};
+ghost use Rattle.nts_model.specs.Terms.Trees.{Tree};
 ghost use Rattle.nts_store.specs.Growth.{tree_at, IsIn, AllIn, Extends};
 ghost use Rattle.nts_store.specs.Kept.{AllIn-kept, map-kept};
 ghost use Rattle.nts_store.specs.Filled.{HasValues, kind_of-filled};
-ghost use Rattle.nts_model.specs.Handlers.{filled};
+ghost use Rattle.nts_model.specs.Derivations.Handlers.{filled};
 
 use crate::nodes::{NodeId, Nodes};
 use crate::replacement::{Replacer, Step, replace};

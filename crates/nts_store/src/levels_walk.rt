@@ -1,7 +1,7 @@
 //! Whether what a binder binds is of its list.
 ghost use Rattle.std.specs.Prelude.{◌≡◌, ◌↔◌, ◌≤◌, true, IfOk, IsTrue, IfSome, IfNone, length};
-ghost use Rattle.nts_model.specs.Trees.{children, IsClosedUnder};
-ghost use Rattle.nts_model.specs.Scoping.{HasSortAt, IsListed, AllListed};
+ghost use Rattle.nts_model.specs.Terms.Trees.{children, IsClosedUnder};
+ghost use Rattle.nts_model.specs.Terms.Scoping.{HasSortAt, IsListed, AllListed};
 ghost use Rattle.nts_store.specs.Growth.{tree_at, IsIn};
 ghost use Rattle.nts_store.specs.Levels.{above, AllListedAt, IsNextLevel};
 

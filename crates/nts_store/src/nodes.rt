@@ -1,7 +1,7 @@
 //! The store of nodes.
 ghost use Rattle.std.specs.Prelude.{◌≡◌, ◌↔◌, ◌<◌, ◌+◌, ◌++◌, ◌∷◌, [], length, drop, IsTrue, OnOk, OnErr, IfOk, Some, Option};
-ghost use Rattle.nts_model.specs.Trees.{Tree, node, empty, more, label_of, children, row_length, row_at, IsRow, shape, Meets};
-ghost use Rattle.nts_model.specs.Scoping.{IsWellBound};
+ghost use Rattle.nts_model.specs.Terms.Trees.{Tree, node, empty, more, label_of, children, row_length, row_at, IsRow, shape, Meets};
+ghost use Rattle.nts_model.specs.Terms.Scoping.{IsWellBound};
 ghost use Rattle.nts_store.specs.Growth.{tree_at, trees_at, IsIn, AllIn, AllBelow, Extends, AreApart};
 ghost use Rattle.nts_store.specs.Formed.{AreFormed};
 ghost use Rattle.nts_store.specs.TypeFlags.{flags_of};
@@ -38,12 +38,12 @@ pub struct Nodes {
 
 impl Model for Nodes {
     ghost use Rattle.std.specs.Prelude.{List};
-    ghost use Rattle.nts_model.specs.Trees.{Tree};
+    ghost use Rattle.nts_model.specs.Terms.Trees.{Tree};
 
     ghost Value = { List Tree };
 
     ghost use Rattle.std.specs.Coded.{coded_list};
-    ghost use Rattle.nts_model.specs.Coding.{coded_tree};
+    ghost use Rattle.nts_model.specs.Terms.Coding.{coded_tree};
 
     ghost coded = { coded_list coded_tree };
 

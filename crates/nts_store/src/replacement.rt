@@ -1,7 +1,7 @@
 //! One walk that replaces parts of a term, for all kinds of replacement.
 ghost use Rattle.std.specs.Prelude.{◌≡◌, ◌++◌, ◌∷◌, [], ℕ, List, None, nat_eq, IfOk, OnOk};
 ghost use Rattle.std.specs.HashMap.{get};
-ghost use Rattle.nts_model.specs.Trees.{Tree, empty, more, kind_of};
+ghost use Rattle.nts_model.specs.Terms.Trees.{Tree, empty, more, kind_of};
 ghost use Rattle.nts_store.specs.Growth.{tree_at, IsIn, Extends};
 ghost use Rattle.nts_store.specs.Replacement.{IsStep, jobs, TasksIn, building, IsFormedNode};
 

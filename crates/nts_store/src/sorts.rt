@@ -1,6 +1,6 @@
 //! Which handles a node may have.
 ghost use Rattle.std.specs.Prelude.{◌≡◌};
-ghost use Rattle.nts_model.specs.Trees.{kind_of_label, sort_of_leaf};
+ghost use Rattle.nts_model.specs.Terms.Trees.{kind_of_label, sort_of_leaf};
 ghost use Rattle.nts_store.specs.Sorts.{sort_of_kind};
 
 use nts_model::{Label, Leaf, Sort, VariableKind};

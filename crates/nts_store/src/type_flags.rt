@@ -1,6 +1,6 @@
 //! What a node keeps of its tree, so that walks can stop early.
 ghost use Rattle.std.specs.Prelude.{◌≡◌};
-ghost use Rattle.nts_model.specs.Trees.{is_infer, is_region_infer, is_placeholder, is_alias, is_canonical, binders};
+ghost use Rattle.nts_model.specs.Terms.Trees.{is_infer, is_region_infer, is_placeholder, is_alias, is_canonical, binders};
 ghost use Rattle.nts_store.specs.TypeFlags.{higher, past_binders, level_of, joined, labelled, no_flags, is_leaf, varies};
 
 use nts_model::{

@@ -3,13 +3,13 @@ use Rattle.std.proofs.Common.{◌≡◌, ℕ, false, List, get_or, Option, Some,
 use Rattle.nts_model.specs.declared.labels.BoundVarIndexKind.TheVariants as index
 use Rattle.nts_model.specs.declared.labels.Label.{Label}
 use Rattle.nts_model.specs.declared.labels.Label.TheVariants as label
-use Rattle.nts_model.specs.Trees.{Tree, empty, more, node, is_canonical, binders, IsClosed}
-use Rattle.nts_model.specs.Scoping.{IsWellBound}
-use Rattle.nts_model.proofs.Unpositioned.{known_well_bound}
-use Rattle.nts_model.proofs.Scoping.{lists_patched, filled_patched}
-use Rattle.nts_model.specs.Contents.{Content}
-use Rattle.nts_model.specs.Handlers.{position_of, value_or, filled}
-use Rattle.nts_model.specs.Resolving.{KnowsLeaves, Knows}
+use Rattle.nts_model.specs.Terms.Trees.{Tree, empty, more, node, is_canonical, binders, IsClosed}
+use Rattle.nts_model.specs.Terms.Scoping.{IsWellBound}
+use Rattle.nts_model.proofs.Terms.Unpositioned.{known_well_bound}
+use Rattle.nts_model.proofs.Terms.Scoping.{lists_patched, filled_patched}
+use Rattle.nts_model.specs.Tables.Contents.{Content}
+use Rattle.nts_model.specs.Derivations.Handlers.{position_of, value_or, filled}
+use Rattle.nts_model.specs.Tables.Resolving.{KnowsLeaves, Knows}
 
 known-value : (c : Content) (vs : List Tree) (o : Option ℕ) (t : Tree) → ((j : ℕ) → Knows c (get_or vs j empty)) → (o ≡ None → Knows c t) → Knows c (value_or o vs t)
 known-value c vs None t h k = k refl

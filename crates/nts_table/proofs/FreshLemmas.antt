@@ -3,8 +3,8 @@ use Rattle.std.proofs.Common.{◌≡◌, ℕ, suc, ◌+◌, ◌<◌, List, [], �
 use Rattle.std.proofs.lemmas.List.{take_more}
 use Rattle.nts_model.specs.declared.labels.Sort.{Sort}
 use Rattle.nts_model.specs.declared.labels.Sort.TheVariants as sort
-use Rattle.nts_model.specs.Trees.{Tree, more, row_push, AllFit, any_argument}
-use Rattle.nts_model.specs.Resolving.{variable_tree}
+use Rattle.nts_model.specs.Terms.Trees.{Tree, more, row_push, AllFit, any_argument}
+use Rattle.nts_model.specs.Tables.Resolving.{variable_tree}
 use Rattle.nts_store.specs.declared.nodes.NodeId.{NodeId}
 use Rattle.nts_store.specs.Growth.{tree_at, trees_at, IsIn, AllIn, Extends}
 use Rattle.nts_store.proofs.Growing.{trees_at-push, trees_at-extended, AllIn-extended, AllIn-push}
@@ -12,8 +12,8 @@ use Rattle.nts_unify.specs.Entries.{Entries, added}
 use Rattle.nts_unify.specs.Reading.{content_of, IsLawful}
 use Rattle.nts_unify.specs.Lawful.{content_of-extended}
 use Rattle.nts_unify.proofs.Labelled.{new_brings}
-use Rattle.nts_model.specs.Passing.{BringsNoLabels}
-use Rattle.nts_model.proofs.Bringing.{brings-refl, brings-trans}
+use Rattle.nts_model.specs.Tables.Passing.{BringsNoLabels}
+use Rattle.nts_model.proofs.Responses.Bringing.{brings-refl, brings-trans}
 use Rattle.nts_table.specs.Making.{new_variable}
 use Rattle.nts_table.specs.Fresh.{variable_kind, with_fresh, fresh_row}
 

@@ -1,7 +1,7 @@
 -- A table whose snapshots are opened and closed goes with its store.
 use Rattle.std.specs.Prelude.{Result, Ok, Err, OnOk, OnErr}
 use Rattle.std.proofs.Common.{◌≡◌, ℕ, zero, suc, ◌-◌, length, take, List, [], ◌∷◌, ◌++◌}
-use Rattle.nts_model.specs.Trees.{Tree}
+use Rattle.nts_model.specs.Terms.Trees.{Tree}
 use Rattle.nts_unify.specs.Entries.{Entries, Inner, front}
 use Rattle.nts_table.specs.Tables.{Table}
 use Rattle.nts_unify.specs.Reading.{IsLawful, AllLawful}

@@ -1,6 +1,6 @@
 -- Joining sub-unification classes keeps a table with its store.
 use Rattle.std.proofs.Common.{◌≡◌, ◌⊎◌, inl, inr, ℕ, List, Some, refl, arith, min, max}
-use Rattle.nts_model.specs.Trees.{Tree}
+use Rattle.nts_model.specs.Terms.Trees.{Tree}
 use Rattle.nts_unify.specs.Entries.{Entries}
 use Rattle.nts_table.specs.Tables.{Table}
 use Rattle.nts_unify.specs.Reading.{IsLawful}

@@ -6,13 +6,13 @@ use Rattle.std.proofs.lemmas.List.{map-append}
 use Rattle.nts_model.specs.declared.labels.Relation.{Relation}
 use Rattle.nts_model.specs.declared.labels.Relation.TheVariants as relation
 use Rattle.nts_model.specs.contracts.labels.RelationPartialEq.TheImpl as relation_eq
-use Rattle.nts_model.specs.Trees.{Tree, kind_of}
-use Rattle.nts_model.specs.Contents.{Content, Recorded}
-use Rattle.nts_model.specs.Resolving.{deeply_resolved}
-use Rattle.nts_model.specs.RegionClasses.{AreRegions}
-use Rattle.nts_model.proofs.Alike.{IsRegion-deeply_resolved}
-use Rattle.nts_model.proofs.Open.{Knows-deeply_resolved}
-use Rattle.nts_model.proofs.Kept.{kind_of-deeply_resolved}
+use Rattle.nts_model.specs.Terms.Trees.{Tree, kind_of}
+use Rattle.nts_model.specs.Tables.Contents.{Content, Recorded}
+use Rattle.nts_model.specs.Tables.Resolving.{deeply_resolved}
+use Rattle.nts_model.specs.Tables.RegionClasses.{AreRegions}
+use Rattle.nts_model.proofs.Tables.Alike.{IsRegion-deeply_resolved}
+use Rattle.nts_model.proofs.Tables.Open.{Knows-deeply_resolved}
+use Rattle.nts_model.proofs.Tables.Kept.{kind_of-deeply_resolved}
 use Rattle.nts_store.specs.declared.nodes.NodeId.{NodeId}
 use Rattle.nts_store.specs.contracts.nodes.NodeIdPartialEq.TheImpl as id_eq
 use Rattle.nts_store.specs.Growth.{tree_at, IsIn, AreApart, Extends}

@@ -2,11 +2,11 @@
 use Rattle.std.proofs.Common.{◌≡◌, ℕ, zero, suc, List, [], ◌∷◌, map, Option, Some, None, refl, subst}
 use Rattle.std.specs.Prelude.{slice_get}
 use Rattle.nts_model.specs.declared.labels.VariableKind.{VariableKind}
-use Rattle.nts_model.specs.Trees.{Tree, IsFormed}
-use Rattle.nts_model.specs.Contents.{Content, Slot, SlotState, known, map_slot}
-use Rattle.nts_model.specs.Worlds.{KnowsAll}
-use Rattle.nts_model.specs.Applying.{IsProperContent}
-use Rattle.nts_model.specs.Proving.{HoldsTerms}
+use Rattle.nts_model.specs.Terms.Trees.{Tree, IsFormed}
+use Rattle.nts_model.specs.Tables.Contents.{Content, Slot, SlotState, known, map_slot}
+use Rattle.nts_model.specs.Tables.Worlds.{KnowsAll}
+use Rattle.nts_model.specs.Answers.Applying.{IsProperContent}
+use Rattle.nts_model.specs.Derivations.Proving.{HoldsTerms}
 use Rattle.nts_store.specs.Formed.{AreFormed}
 use Rattle.nts_store.specs.Growth.{tree_at}
 use Rattle.nts_unify.specs.declared.contents.Constraint.{Constraint}

@@ -1,8 +1,8 @@
 -- The region constraints of a table that say something, each once.
 use Rattle.std.specs.Prelude.{◌≡◌, ◌⊎◌, List, [], ◌∷◌, ◌++◌, map}
-use Rattle.nts_model.specs.Trees.{Tree}
-use Rattle.nts_model.specs.Contents.{Content, Recorded}
-use Rattle.nts_model.specs.Resolving.{deeply_resolved}
+use Rattle.nts_model.specs.Terms.Trees.{Tree}
+use Rattle.nts_model.specs.Tables.Contents.{Content, Recorded}
+use Rattle.nts_model.specs.Tables.Resolving.{deeply_resolved}
 use Rattle.nts_store.specs.Growth.{IsIn}
 use Rattle.nts_unify.specs.declared.contents.Constraint.{Constraint}
 use Rattle.nts_table.specs.declared.deduplicated.Said.{Said}

@@ -2,7 +2,7 @@
 use Rattle.std.proofs.Common.{◌≡◌, ◌⊎◌, inl, inr, Option, Some, None, refl}
 use Rattle.nts_model.specs.declared.labels.Sort.{Sort}
 use Rattle.nts_model.specs.declared.labels.Sort.TheVariants as sort
-use Rattle.nts_model.specs.Trees.{NodeKind, Place, FitsPlace, of_sort, arguments, is, any_term, any_argument, a_type, a_region, a_const}
+use Rattle.nts_model.specs.Terms.Trees.{NodeKind, Place, FitsPlace, of_sort, arguments, is, any_term, any_argument, a_type, a_region, a_const}
 
 -- what stands there is a type, a region or a const
 pub record AreTerms (p : Place) : Type 0 where

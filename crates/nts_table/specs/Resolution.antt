@@ -1,11 +1,11 @@
 -- What a walk makes of a term under a table: its tree under the values, and with or without the roots
 -- of region variables.
 use Rattle.std.proofs.Common.{◌≡◌, Bool, true, false, List, refl}
-use Rattle.nts_model.specs.Trees.{Tree, empty, more, any_label, is_infer, is_region_infer, kind_of}
-use Rattle.nts_model.specs.Contents.{Content}
-use Rattle.nts_model.specs.Resolving.{resolved, deeply_resolved, Knows, IsSound}
-use Rattle.nts_model.proofs.Resolved.{resolved-empty, resolved-more, deeply_resolved-empty}
-use Rattle.nts_model.proofs.Kept.{kind_of-resolved, kind_of-deeply_resolved}
+use Rattle.nts_model.specs.Terms.Trees.{Tree, empty, more, any_label, is_infer, is_region_infer, kind_of}
+use Rattle.nts_model.specs.Tables.Contents.{Content}
+use Rattle.nts_model.specs.Tables.Resolving.{resolved, deeply_resolved, Knows, IsSound}
+use Rattle.nts_model.proofs.Tables.Resolved.{resolved-empty, resolved-more, deeply_resolved-empty}
+use Rattle.nts_model.proofs.Tables.Kept.{kind_of-resolved, kind_of-deeply_resolved}
 use Rattle.nts_store.specs.Growth.{Extends}
 use Rattle.nts_table.specs.Tables.{Table}
 use Rattle.nts_unify.specs.Reading.{content_of}

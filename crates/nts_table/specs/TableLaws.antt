@@ -1,6 +1,6 @@
 -- What keeps a table with its store.
 use Rattle.std.proofs.Common.{◌≡◌, ℕ, ◌≤◌, List, [], ◌∷◌, ◌++◌, refl}
-use Rattle.nts_model.specs.Trees.{Tree}
+use Rattle.nts_model.specs.Terms.Trees.{Tree}
 use Rattle.nts_store.specs.Growth.{Extends}
 use Rattle.nts_unify.specs.declared.contents.Constraint.{Constraint}
 use Rattle.nts_unify.specs.declared.contents.HiddenType.{HiddenType}

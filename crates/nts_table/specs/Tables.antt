@@ -1,7 +1,7 @@
 -- The tables that a store and its callers keep.
 use Rattle.std.specs.Prelude.{◌≡◌, List, false}
-use Rattle.nts_model.specs.Trees.{Tree, Place, any_label, is_alias}
-use Rattle.nts_model.specs.Resolving.{Knows, resolved}
+use Rattle.nts_model.specs.Terms.Trees.{Tree, Place, any_label, is_alias}
+use Rattle.nts_model.specs.Tables.Resolving.{Knows, resolved}
 use Rattle.nts_store.specs.declared.nodes.NodeId.{NodeId}
 use Rattle.nts_store.specs.Growth.{tree_at, IsIn}
 use Rattle.nts_terms.specs.declared.cx.Cx.{Cx}

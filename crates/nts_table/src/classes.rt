@@ -1,6 +1,6 @@
 //! What is known of the classes of variables.
 ghost use Rattle.std.specs.Prelude.{◌≡◌, ◌<◌, length, List, OnOk, OnErr, IsOkUnless};
-ghost use Rattle.nts_model.specs.Trees.{Tree};
+ghost use Rattle.nts_model.specs.Terms.Trees.{Tree};
 ghost use Rattle.nts_unify.specs.Reading.{LinksDescend};
 ghost use Rattle.nts_table.specs.Tables.{IsTable};
 ghost use Rattle.nts_unify.specs.Roots.{IsRoot, IsSubRoot, SubRootsJoin};

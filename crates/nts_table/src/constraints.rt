@@ -1,8 +1,8 @@
 //! Region constraints.
 ghost use Rattle.std.specs.Prelude.{◌≡◌, true, OnOk, OnErr, IsOkUnless};
 ghost use Rattle.nts_model.specs.declared.labels.Relation.TheVariants as relation;
-ghost use Rattle.nts_model.specs.Resolving.{Knows};
-ghost use Rattle.nts_model.specs.Passing.{BringsLabelsOf};
+ghost use Rattle.nts_model.specs.Tables.Resolving.{Knows};
+ghost use Rattle.nts_model.specs.Tables.Passing.{BringsLabelsOf};
 ghost use Rattle.nts_store.specs.Growth.{tree_at};
 ghost use Rattle.nts_terms.specs.Handles.{HoldsTy, HoldsRegion};
 ghost use Rattle.nts_unify.specs.Reading.{content_of, IsConstraint};

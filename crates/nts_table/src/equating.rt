@@ -1,11 +1,11 @@
 //! Regions made equal.
 ghost use Rattle.std.specs.Prelude.{◌≡◌, ◌⊎◌, ◌<◌, length, List, Some, OnOk, OnErr, IsOkUnless, true, false};
 ghost use Rattle.nts_model.specs.declared.labels.VariableKind.TheVariants as kinds;
-ghost use Rattle.nts_model.specs.Contents.{kind_at};
-ghost use Rattle.nts_model.specs.Resolving.{Knows};
-ghost use Rattle.nts_model.specs.Passing.{BringsLabelsOf};
-ghost use Rattle.nts_model.specs.Regions.{IsRegion};
-ghost use Rattle.nts_model.specs.Trees.{Tree};
+ghost use Rattle.nts_model.specs.Tables.Contents.{kind_at};
+ghost use Rattle.nts_model.specs.Tables.Resolving.{Knows};
+ghost use Rattle.nts_model.specs.Tables.Passing.{BringsLabelsOf};
+ghost use Rattle.nts_model.specs.Terms.Regions.{IsRegion};
+ghost use Rattle.nts_model.specs.Terms.Trees.{Tree};
 ghost use Rattle.nts_store.specs.Growth.{tree_at, IsIn};
 ghost use Rattle.nts_terms.specs.Handles.{HoldsRegion};
 ghost use Rattle.nts_unify.specs.Reading.{content_of, LinksDescend};

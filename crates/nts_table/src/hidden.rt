@@ -1,7 +1,7 @@
 //! Hidden types of aliases.
 ghost use Rattle.std.specs.Prelude.{◌≡◌, true, false, IfOk, OnOk, OnErr, IsOkUnless, map, drop};
 ghost use Rattle.nts_model.specs.declared.labels.Sort.TheVariants as sort;
-ghost use Rattle.nts_model.specs.Resolving.{Knows};
+ghost use Rattle.nts_model.specs.Tables.Resolving.{Knows};
 ghost use Rattle.nts_store.specs.Growth.{tree_at, Extends};
 ghost use Rattle.nts_terms.specs.Handles.{HoldsTy, HoldsArgs, IsAliasOf};
 ghost use Rattle.nts_unify.specs.Entries.{duplicated};

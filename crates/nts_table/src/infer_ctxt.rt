@@ -1,7 +1,7 @@
 //! The table of inference variables and its snapshots.
 ghost use Rattle.std.specs.Prelude.{◌≡◌, ◌<◌, ◌+◌, ◌++◌, ◌∷◌, [], ℕ, List, length, slice_get, OnOk, OnErr, IfOk, IsOkUnless, Some};
 ghost use Rattle.std.specs.Result.{IfErr};
-ghost use Rattle.nts_model.specs.Trees.{Tree};
+ghost use Rattle.nts_model.specs.Terms.Trees.{Tree};
 ghost use Rattle.nts_table.specs.Tables.{Table, IsTable};
 ghost use Rattle.nts_unify.specs.Entries.{Entries, constrained, front};
 ghost use Rattle.nts_unify.specs.Reading.{LinksDescend};

@@ -1,8 +1,8 @@
 //! Relating typed values.
 ghost use Rattle.std.specs.Prelude.{◌≡◌, ◌≢◌, Err, OnOk, OnErr};
-ghost use Rattle.nts_model.specs.Trees.{Place, is, any_term, any_argument, arguments, a_type, a_region, a_const};
-ghost use Rattle.nts_model.specs.Equations.{AreRelated, AreUnrelated};
-ghost use Rattle.nts_model.specs.Passing.{BringsLabelsOf};
+ghost use Rattle.nts_model.specs.Terms.Trees.{Place, is, any_term, any_argument, arguments, a_type, a_region, a_const};
+ghost use Rattle.nts_model.specs.Tables.Equations.{AreRelated, AreUnrelated};
+ghost use Rattle.nts_model.specs.Tables.Passing.{BringsLabelsOf};
 ghost use Rattle.nts_store.specs.declared.nodes.NodeId.{NodeId};
 ghost use Rattle.nts_store.specs.Growth.{tree_at};
 ghost use Rattle.nts_unify.specs.Reading.{content_of};

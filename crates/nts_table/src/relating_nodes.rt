@@ -1,7 +1,7 @@
 //! Nodes of a store made equal under a table.
 ghost use Rattle.std.specs.Prelude.{◌≡◌, ◌≢◌, OnOk, OnErr, Err};
-ghost use Rattle.nts_model.specs.Equations.{AreRelated, AreUnrelated};
-ghost use Rattle.nts_model.specs.Passing.{BringsLabelsOf};
+ghost use Rattle.nts_model.specs.Tables.Equations.{AreRelated, AreUnrelated};
+ghost use Rattle.nts_model.specs.Tables.Passing.{BringsLabelsOf};
 ghost use Rattle.nts_store.specs.Growth.{tree_at, Extends};
 ghost use Rattle.nts_unify.specs.Reading.{content_of};
 ghost use Rattle.nts_table.specs.Tables.{IsTable, IsTermOf};

@@ -1,8 +1,8 @@
 //! Terms under the values of a table.
 ghost use Rattle.std.specs.Prelude.{◌≡◌, ◌≢◌, true, Some, IfOk};
 ghost use Rattle.nts_model.specs.declared.labels.VariableKind.TheVariants as variable;
-ghost use Rattle.nts_model.specs.Contents.{kind_at};
-ghost use Rattle.nts_model.specs.Resolving.{variable_tree, Knows};
+ghost use Rattle.nts_model.specs.Tables.Contents.{kind_at};
+ghost use Rattle.nts_model.specs.Tables.Resolving.{variable_tree, Knows};
 ghost use Rattle.nts_store.specs.Growth.{tree_at, IsIn, Extends};
 ghost use Rattle.nts_store.specs.Replacement.{IsStep};
 ghost use Rattle.nts_unify.specs.Reading.{content_of};

@@ -1,7 +1,7 @@
 //! Terms with their variables replaced by what is known of them.
 ghost use Rattle.std.specs.Prelude.{◌≡◌, IfOk, IsOkUnless};
-ghost use Rattle.nts_model.specs.Trees.{any_label, is_alias};
-ghost use Rattle.nts_model.specs.Resolving.{Knows, resolved};
+ghost use Rattle.nts_model.specs.Terms.Trees.{any_label, is_alias};
+ghost use Rattle.nts_model.specs.Tables.Resolving.{Knows, resolved};
 ghost use Rattle.nts_store.specs.Growth.{tree_at, IsIn, Extends};
 ghost use Rattle.nts_terms.specs.Handles.{Holds};
 ghost use Rattle.nts_unify.specs.Reading.{content_of};

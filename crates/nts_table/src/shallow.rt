@@ -1,9 +1,9 @@
 //! The value or the root of a variable, as a term.
 ghost use Rattle.std.specs.Prelude.{◌≡◌, Some, IfOk, OnErr, IsOkUnless};
 ghost use Rattle.nts_model.specs.declared.labels.VariableKind.TheVariants as kinds;
-ghost use Rattle.nts_model.specs.Trees.{kind_of, of_sort, sort_of_variable};
-ghost use Rattle.nts_model.specs.Contents.{kind_at};
-ghost use Rattle.nts_model.specs.Resolving.{Knows};
+ghost use Rattle.nts_model.specs.Terms.Trees.{kind_of, of_sort, sort_of_variable};
+ghost use Rattle.nts_model.specs.Tables.Contents.{kind_at};
+ghost use Rattle.nts_model.specs.Tables.Resolving.{Knows};
 ghost use Rattle.nts_store.specs.Growth.{tree_at, IsIn, Extends};
 ghost use Rattle.nts_terms.specs.Handles.{HoldsTy, HoldsConst, HoldsRegion};
 ghost use Rattle.nts_unify.specs.Reading.{content_of};

@@ -1,7 +1,7 @@
 -- What relating asks of a term stays so where the store grows.
 use Rattle.std.proofs.Common.{◌≡◌, List, false, ◌∙◌}
-use Rattle.nts_model.specs.Trees.{Tree, any_label, is_alias}
-use Rattle.nts_model.specs.Resolving.{Knows, resolved}
+use Rattle.nts_model.specs.Terms.Trees.{Tree, any_label, is_alias}
+use Rattle.nts_model.specs.Tables.Resolving.{Knows, resolved}
 use Rattle.nts_store.specs.declared.nodes.NodeId.{NodeId}
 use Rattle.nts_store.specs.Growth.{tree_at, IsIn, Extends}
 use Rattle.nts_terms.proofs.Moved.{Holds-extended}

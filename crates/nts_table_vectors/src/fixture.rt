@@ -1,7 +1,7 @@
 //! A store and a table for tests, with each condition of a call tested by a public function.
 ghost use Rattle.std.specs.Prelude.{◌≡◌, false, All};
-ghost use Rattle.nts_model.specs.Trees.{any_label, is_alias};
-ghost use Rattle.nts_model.specs.Resolving.{Knows, resolved};
+ghost use Rattle.nts_model.specs.Terms.Trees.{any_label, is_alias};
+ghost use Rattle.nts_model.specs.Tables.Resolving.{Knows, resolved};
 ghost use Rattle.nts_store.specs.Growth.{tree_at, Extends, IsIn};
 ghost use Rattle.nts_terms.specs.Handles.{Holds, HoldsArg, HoldsArgs};
 ghost use Rattle.nts_terms.specs.Kinds.{TyFits, ConstFits};

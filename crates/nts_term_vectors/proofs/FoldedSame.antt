@@ -1,7 +1,7 @@
 -- A folder that answers for nothing and changes nothing leaves each tree as it is.
 use Rattle.std.proofs.Common.{◌≡◌, Some, None, refl, ap, ◌∙◌}
 use Rattle.nts_model.specs.declared.labels.Sort.TheVariants as sort
-use Rattle.nts_model.specs.Trees.{Tree, empty, more, node, kind_of_label, NodeKind, of_sort, arguments, environment, bound_predicate, statement, sort_list, one_sort}
+use Rattle.nts_model.specs.Terms.Trees.{Tree, empty, more, node, kind_of_label, NodeKind, of_sort, arguments, environment, bound_predicate, statement, sort_list, one_sort}
 use Rattle.nts_folding.specs.Folding.{MayAnswer, asked_as, HandsOver, Walk, done, next, answer, down}
 
 never_asked : {S : Type 0} (k : NodeKind) (s t : S) (x u : Tree) → MayAnswer (λ r z o v. o ≡ None) k s x (Some u) t → ⊥

@@ -1,7 +1,7 @@
 -- A deep type with a bound variable at its bottom, for the tests.
 use Rattle.std.proofs.Common.{◌≡◌, List, [], ◌∷◌, Some}
 use Rattle.nts_model.specs.declared.labels.Sort.TheVariants as sort
-use Rattle.nts_model.specs.Trees.{Tree, of_sort, kind_of}
+use Rattle.nts_model.specs.Terms.Trees.{Tree, of_sort, kind_of}
 use Rattle.nts_store.specs.declared.nodes.NodeId.{NodeId}
 use Rattle.nts_store.specs.Growth.{tree_at, IsIn}
 use Rattle.nts_store.specs.Filled.{HasValues}

@@ -4,7 +4,7 @@ ghost use Rattle.nts_model.specs.declared.labels.Sort.TheVariants as sort;
 ghost use Rattle.nts_model.specs.declared.labels.TyHead.TheVariants as ty;
 ghost use Rattle.nts_model.specs.declared.labels.ListHead.TheVariants as list;
 ghost use Rattle.nts_model.specs.declared.labels.Label.TheVariants as label;
-ghost use Rattle.nts_model.specs.Trees.{empty, more, node, of_sort, kind_of};
+ghost use Rattle.nts_model.specs.Terms.Trees.{empty, more, node, of_sort, kind_of};
 ghost use Rattle.nts_store.specs.Growth.{tree_at, IsIn, Extends};
 
 use nts_model::{BoundVarIndexKind, IntTy, Label, ListHead, Sort, TyHead};

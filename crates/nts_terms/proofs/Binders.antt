@@ -2,9 +2,9 @@
 use Rattle.std.proofs.Common.{◌≡◌, Some, refl, sym, ap, ◌∙◌, subst, arith}
 use Rattle.nts_model.specs.declared.labels.ListHead.TheVariants as list
 use Rattle.nts_model.specs.declared.labels.Label.TheVariants as label
-use Rattle.nts_model.specs.Trees.{Tree, empty, more, node, children, row_length, IsRow, kind_of, sort_list, IsClosed}
-use Rattle.nts_model.specs.Related.{no_sorts, unbound}
-use Rattle.nts_model.specs.Sequents.{HasClosedStatement}
+use Rattle.nts_model.specs.Terms.Trees.{Tree, empty, more, node, children, row_length, IsRow, kind_of, sort_list, IsClosed}
+use Rattle.nts_model.specs.Derivations.Related.{no_sorts, unbound}
+use Rattle.nts_model.specs.Derivations.Sequents.{HasClosedStatement}
 use Rattle.nts_terms.proofs.Standing.{vars_tree}
 
 -- a predicate by its sorts and what it states

@@ -1,6 +1,6 @@
 -- What holds of a store holds of one that it grew into.
 use Rattle.std.proofs.Common.{◌≡◌, List, Option, Some, None, refl, ◌∙◌}
-use Rattle.nts_model.specs.Trees.{Tree, Place, is, any_term, any_argument, a_type, a_region, a_const, a_result, FitsPlace, kind_of, NodeKind, of_sort, arguments, environment, bound_predicate, statement, sort_list, one_sort}
+use Rattle.nts_model.specs.Terms.Trees.{Tree, Place, is, any_term, any_argument, a_type, a_region, a_const, a_result, FitsPlace, kind_of, NodeKind, of_sort, arguments, environment, bound_predicate, statement, sort_list, one_sort}
 use Rattle.nts_store.specs.declared.nodes.NodeId.{NodeId}
 use Rattle.nts_terms.specs.declared.handles.Binder.{Binder}
 use Rattle.nts_terms.specs.declared.kinds.TyKind.{TyKind}

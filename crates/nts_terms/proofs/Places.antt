@@ -1,6 +1,6 @@
 -- What the shape of a label says of the children.
 use Rattle.std.proofs.Common.{◌≡◌, ◌↔◌, [], ◌∷◌, Some, refl, ap, arith}
-use Rattle.nts_model.specs.Trees.{Tree, empty, more, node, row_length, row_at, HavePlaces, Place, NodeKind, of_sort, arguments, environment, bound_predicate, statement, sort_list, one_sort}
+use Rattle.nts_model.specs.Terms.Trees.{Tree, empty, more, node, row_length, row_at, HavePlaces, Place, NodeKind, of_sort, arguments, environment, bound_predicate, statement, sort_list, one_sort}
 use Rattle.nts_model.specs.declared.labels.Sort.{Sort}
 use Rattle.nts_store.specs.Sorts.{sort_of_kind}
 use Rattle.nts_terms.specs.Kinds.{IsOne, AreTwo}

@@ -2,7 +2,7 @@
 use Rattle.std.proofs.Common.{rules, ◌≡◌, ◌↔◌, Bool, true, false, ℕ, List, [], ◌∷◌, ap, refl, subst}
 use Rattle.std.specs.Prelude.{IsTrue}
 use lib.Pointwise.{pointwise}
-use Rattle.nts_model.specs.Rules.{Mode, coherence, post_analysis, erased, analysis, borrowck, post_borrowck}
+use Rattle.nts_model.specs.Derivations.Rules.{Mode, coherence, post_analysis, erased, analysis, borrowck, post_borrowck}
 use Rattle.nts_terms.specs.declared.handles.AliasId.{AliasId}
 use Rattle.nts_terms.specs.contracts.handles.AliasIdPartialEq.TheImpl as id_eq
 use Rattle.nts_terms.specs.declared.modes.TypingMode.{TypingMode}

@@ -1,7 +1,7 @@
 -- Lists of terms of declared sorts.
 use Rattle.std.proofs.Common.{◌≡◌, ℕ, zero, suc, ◌<◌, List, [], ◌∷◌, length, get_or, Some, refl, arith}
 use Rattle.nts_model.specs.declared.labels.Sort.{Sort}
-use Rattle.nts_model.specs.Trees.{Tree, empty, more, node, IsRow, row_length, row_at, kind_of, of_sort}
+use Rattle.nts_model.specs.Terms.Trees.{Tree, empty, more, node, IsRow, row_length, row_at, kind_of, of_sort}
 use Rattle.nts_terms.specs.Signatures.{HaveSorts}
 
 pub HaveSorts-length : (ss : List Sort) (c : Tree) → HaveSorts ss c → row_length c ≡ length ss

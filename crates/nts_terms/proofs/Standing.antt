@@ -3,7 +3,7 @@ use Rattle.std.proofs.Common.{◌≡◌, ℕ, zero, suc, ◌+◌, ◌<◌, List,
 use Rattle.nts_model.specs.declared.labels.Label.{Label}
 use Rattle.nts_model.specs.declared.labels.Label.TheVariants as label
 use Rattle.nts_model.specs.declared.labels.ListHead.TheVariants as list_head
-use Rattle.nts_model.specs.Trees.{Tree, empty, more, node, children, row_length, row_at, AllFit, Place, is, any_argument, FitsPlace, kind_of, kind_of_label, arguments, environment, bound_predicate, sort_list, one_sort, shape, each, NodeKind, row_push}
+use Rattle.nts_model.specs.Terms.Trees.{Tree, empty, more, node, children, row_length, row_at, AllFit, Place, is, any_argument, FitsPlace, kind_of, kind_of_label, arguments, environment, bound_predicate, sort_list, one_sort, shape, each, NodeKind, row_push}
 use Rattle.nts_store.specs.declared.nodes.NodeId.{NodeId}
 use Rattle.nts_terms.specs.declared.handles.GenericArg.{GenericArg}
 use Rattle.nts_terms.specs.declared.handles.Predicate.{Predicate}

@@ -6,8 +6,8 @@ use Rattle.nts_model.specs.declared.labels.Label.TheVariants as label
 use Rattle.nts_model.specs.declared.labels.Leaf.{Leaf}
 use Rattle.nts_model.specs.declared.labels.Leaf.TheVariants as leaf
 use Rattle.nts_model.specs.declared.labels.BoundVarIndexKind.TheVariants as index
-use Rattle.nts_model.specs.Substitutions.{StaysItself}
-use Rattle.nts_model.specs.Trees.{Tree, IsClosed}
+use Rattle.nts_model.specs.Terms.Substitutions.{StaysItself}
+use Rattle.nts_model.specs.Terms.Trees.{Tree, IsClosed}
 use Rattle.nts_store.specs.Labels.{AllLabels}
 
 -- no inference variable, parameter or placeholder: a region that is always itself

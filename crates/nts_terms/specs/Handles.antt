@@ -3,7 +3,7 @@ use Rattle.std.specs.Prelude.{◌≡◌, List}
 use Rattle.nts_model.specs.declared.labels.Sort.{Sort}
 use Rattle.nts_model.specs.declared.labels.AliasHead.{AliasHead}
 use Rattle.nts_model.specs.declared.labels.AliasHead.TheVariants as alias_of
-use Rattle.nts_model.specs.Trees.{Tree, kind_of, arguments, environment, bound_predicate, sort_list, Place, is, any_term, any_argument, FitsPlace, a_type, a_region, a_const, a_result, sort_of_alias}
+use Rattle.nts_model.specs.Terms.Trees.{Tree, kind_of, arguments, environment, bound_predicate, sort_list, Place, is, any_term, any_argument, FitsPlace, a_type, a_region, a_const, a_result, sort_of_alias}
 use Rattle.nts_store.specs.declared.nodes.NodeId.{NodeId}
 use Rattle.nts_terms.specs.declared.handles.Ty.{Ty}
 use Rattle.nts_terms.specs.declared.handles.Region.{Region}

@@ -12,8 +12,8 @@ use Rattle.nts_model.specs.declared.labels.ConstHead.TheVariants as const_head
 use Rattle.nts_model.specs.declared.labels.ClauseHead.TheVariants as clause_head
 use Rattle.nts_model.specs.declared.labels.PredicateHead.TheVariants as predicate_head
 use Rattle.nts_model.specs.declared.labels.ListHead.TheVariants as list_head
-use Rattle.nts_model.specs.Trees.{Tree, empty, more, node}
-use Rattle.nts_model.specs.Related.{alias_label}
+use Rattle.nts_model.specs.Terms.Trees.{Tree, empty, more, node}
+use Rattle.nts_model.specs.Derivations.Related.{alias_label}
 use Rattle.nts_store.specs.declared.nodes.NodeId.{NodeId}
 use Rattle.nts_terms.specs.declared.handles.GenericArg.{GenericArg}
 use Rattle.nts_terms.specs.declared.handles.Predicate.{Predicate}

@@ -1,6 +1,6 @@
 -- What a typing mode is in the model.
 use Rattle.std.specs.Prelude.{ℕ, List, map}
-use Rattle.nts_model.specs.Rules.{Mode, coherence, analysis, borrowck, post_borrowck, post_analysis, erased}
+use Rattle.nts_model.specs.Derivations.Rules.{Mode, coherence, analysis, borrowck, post_borrowck, post_analysis, erased}
 use Rattle.nts_terms.specs.declared.handles.AliasId.{AliasId}
 use Rattle.nts_terms.specs.declared.modes.TypingMode.{TypingMode}
 use Rattle.nts_terms.specs.declared.modes.TypingMode.TheVariants as mode

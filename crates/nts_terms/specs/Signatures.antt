@@ -5,7 +5,7 @@ use Rattle.nts_model.specs.declared.labels.Sort.{Sort}
 use Rattle.nts_model.specs.declared.labels.Sort.TheVariants as sort
 use Rattle.nts_model.specs.declared.labels.Variance.{Variance}
 use Rattle.nts_model.specs.declared.labels.Variance.TheVariants as variance
-use Rattle.nts_model.specs.Trees.{Tree, empty, more, children, kind_of, of_sort}
+use Rattle.nts_model.specs.Terms.Trees.{Tree, empty, more, children, kind_of, of_sort}
 use Rattle.nts_terms.specs.declared.handles.DefId.{DefId}
 use Rattle.nts_terms.specs.declared.handles.DefId.TheVariants as def
 use Rattle.nts_terms.specs.declared.handles.AliasDefId.TheVariants as alias_def

@@ -1,6 +1,6 @@
 //! Whether arguments are of the sorts that were declared.
 ghost use Rattle.std.specs.Prelude.{◌≡◌, ◌↔◌, Some, IsTrue};
-ghost use Rattle.nts_model.specs.Trees.{children, kind_of, of_sort};
+ghost use Rattle.nts_model.specs.Terms.Trees.{children, kind_of, of_sort};
 ghost use Rattle.nts_store.specs.Growth.{tree_at};
 ghost use Rattle.nts_terms.specs.Handles.{HoldsArg, HoldsArgs};
 ghost use Rattle.nts_terms.specs.Signatures.{HaveSorts, AreDeclared};

@@ -1,6 +1,6 @@
 //! Handles of the terms of a store, and plain data over them.
 ghost use Rattle.std.specs.Prelude.{◌≡◌};
-ghost use Rattle.nts_model.specs.Related.{alias_label};
+ghost use Rattle.nts_model.specs.Derivations.Related.{alias_label};
 ghost use Rattle.nts_terms.specs.Handles.{alias_head};
 
 use crate::modes::UniverseIndex;

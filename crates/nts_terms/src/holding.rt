@@ -1,6 +1,6 @@
 //! What all handles share, and the tests of terms.
 ghost use Rattle.std.specs.Prelude.{◌≡◌, ◌↔◌, ◌≢◌, true, false, Some, IsTrue};
-ghost use Rattle.nts_model.specs.Trees.{Place, is, any_term, any_argument, arguments, environment, bound_predicate, sort_list, FitsPlace, a_type, a_region, a_const, kind_of_label, any_label, is_infer, is_canonical, IsClosed};
+ghost use Rattle.nts_model.specs.Terms.Trees.{Place, is, any_term, any_argument, arguments, environment, bound_predicate, sort_list, FitsPlace, a_type, a_region, a_const, kind_of_label, any_label, is_infer, is_canonical, IsClosed};
 ghost use Rattle.nts_store.specs.declared.nodes.NodeId.{NodeId};
 ghost use Rattle.nts_store.specs.Growth.{tree_at, IsIn};
 ghost use Rattle.nts_terms.specs.Handles.{Holds};

@@ -2,7 +2,7 @@
 ghost use Rattle.std.specs.Prelude.{◌≡◌, ◌<◌, List, All, map, IfOk, OnErr, IsOkUnless};
 ghost use Rattle.nts_model.specs.declared.labels.Label.TheVariants as label;
 ghost use Rattle.nts_model.specs.declared.labels.ListHead.TheVariants as list_head;
-ghost use Rattle.nts_model.specs.Trees.{Tree, node, empty, children, row_length, row_at, IsRow, Place, is, one_sort};
+ghost use Rattle.nts_model.specs.Terms.Trees.{Tree, node, empty, children, row_length, row_at, IsRow, Place, is, one_sort};
 ghost use Rattle.nts_store.specs.Growth.{tree_at, trees_at, IsIn, Extends};
 ghost use Rattle.nts_terms.specs.Handles.{Holds, HoldsArg, HoldsArgs, HoldsPredicate, HoldsEnv, HoldsVars};
 ghost use Rattle.nts_terms.specs.Kinds.{tree_of_args, tree_of_env, tree_of_vars, tree_of_sort};

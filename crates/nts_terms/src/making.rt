@@ -1,7 +1,7 @@
 //! Making terms.
 ghost use Rattle.std.specs.Prelude.{◌≡◌, List, IfOk, OnErr, IsOkUnless};
 ghost use Rattle.nts_model.specs.declared.labels.Label.TheVariants as label;
-ghost use Rattle.nts_model.specs.Trees.{node, empty, shape, Meets, Place, is, a_type, a_const, statement};
+ghost use Rattle.nts_model.specs.Terms.Trees.{node, empty, shape, Meets, Place, is, a_type, a_const, statement};
 ghost use Rattle.nts_store.specs.Growth.{tree_at, trees_at, IsIn, AllIn, Extends};
 ghost use Rattle.nts_terms.specs.Handles.{Holds, HoldsTy, HoldsRegion, HoldsConst, HoldsPredicate};
 ghost use Rattle.nts_terms.specs.Kinds.{tree_of_infer, tree_of_ty, TyFits, tree_of_region, tree_of_const, ConstFits, tree_of_clause, ClauseFits, tree_of_statement, StatementFits, tree_of_predicate, PredicateFits};

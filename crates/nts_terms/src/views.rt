@@ -1,7 +1,7 @@
 //! Reading the kinds of terms off their nodes.
 ghost use Rattle.std.specs.Prelude.{◌≡◌, ◌↔◌, IsTrue, List, [], ◌∷◌};
-ghost use Rattle.nts_model.specs.Trees.{Tree, node, more, empty, children, sort_of_leaf, shape, Meets, Place, is, arguments, bound_predicate, sort_list, statement, a_result, HavePlaces};
-ghost use Rattle.nts_model.specs.Sequents.{HasClosedStatement};
+ghost use Rattle.nts_model.specs.Terms.Trees.{Tree, node, more, empty, children, sort_of_leaf, shape, Meets, Place, is, arguments, bound_predicate, sort_list, statement, a_result, HavePlaces};
+ghost use Rattle.nts_model.specs.Derivations.Sequents.{HasClosedStatement};
 ghost use Rattle.nts_model.specs.declared.labels.Sort.TheVariants as sort;
 ghost use Rattle.nts_model.specs.declared.labels.ListHead.TheVariants as list;
 ghost use Rattle.nts_model.specs.declared.labels.Label.TheVariants as label;

@@ -1,16 +1,16 @@
 -- Entries before and after a change, and what keeps them lawful.
 use Rattle.std.proofs.Common.{◌≡◌, ⊎_elim, ℕ, zero, suc, ◌<◌, ◌≤◌, List, [], ◌∷◌, ◌++◌, length, map, Some, refl, sym, ap, ◌∙◌, arith}
 use Rattle.std.specs.Prelude.{slice_get, slice_set}
-use Rattle.nts_model.specs.Trees.{Tree}
+use Rattle.nts_model.specs.Terms.Trees.{Tree}
 use Rattle.nts_model.specs.declared.labels.VariableKind.TheVariants as kind
-use Rattle.nts_model.specs.Contents.{map_slot, changed, bound_to, universe_of}
-use Rattle.nts_model.specs.Placeholders.{CanName}
-use Rattle.nts_model.proofs.Solving.{Lowers}
-use Rattle.nts_model.proofs.Sound.{IsSound-changed}
-use Rattle.nts_model.proofs.Binding.{IsLinkable, IsSound-region_link}
-use Rattle.nts_model.specs.Resolving.{IsSound}
-use Rattle.nts_model.proofs.Slots.{KeepsKinds, KeepsKinds-changed, slice_get-slice_set_same, slice_get-slice_set_other, slice_get_below}
-use Rattle.nts_model.proofs.Under.{same_or_other}
+use Rattle.nts_model.specs.Tables.Contents.{map_slot, changed, bound_to, universe_of}
+use Rattle.nts_model.specs.Terms.Placeholders.{CanName}
+use Rattle.nts_model.proofs.Tables.Solving.{Lowers}
+use Rattle.nts_model.proofs.Tables.Sound.{IsSound-changed}
+use Rattle.nts_model.proofs.Tables.Binding.{IsLinkable, IsSound-region_link}
+use Rattle.nts_model.specs.Tables.Resolving.{IsSound}
+use Rattle.nts_model.proofs.Tables.Slots.{KeepsKinds, KeepsKinds-changed, slice_get-slice_set_same, slice_get-slice_set_other, slice_get_below}
+use Rattle.nts_model.proofs.Tables.Under.{same_or_other}
 use Rattle.nts_unify.specs.declared.contents.State.TheVariants.{Unset, Link}
 use Rattle.nts_unify.specs.declared.contents.Variable.{Variable}
 use Rattle.nts_unify.specs.Entries.{Entries, with_variable, bound}

@@ -5,13 +5,13 @@ use Rattle.std.specs.Prelude.{slice_get, slice_set}
 use Rattle.std.proofs.lemmas.Bool.{cases_lt}
 use Rattle.nts_model.specs.declared.labels.VariableKind.{VariableKind}
 use Rattle.nts_model.specs.declared.labels.VariableKind.TheVariants as kind
-use Rattle.nts_model.specs.Trees.{Tree}
-use Rattle.nts_model.specs.Contents.{Content, SlotState, unset, link, known, state_of, universe_of, kind_at, changed, sub_link_of}
-use Rattle.nts_model.specs.Resolving.{resolved, variable_tree, Lacks}
-use Rattle.nts_model.proofs.Under.{replaced-lacks}
-use Rattle.nts_model.proofs.Slots.{some_slot, length-slice_set, slice_get-slice_set_other, field-changed_kept}
-use Rattle.nts_model.proofs.Sound.{SameStates, SameStates-changed, IsSound-same, resolved-same}
-use Rattle.nts_model.proofs.Binding.{IsLinkable, state_of-set_same, state_of-set_other, kind_at-set, resolved-link, IsSound-link, resolved-region_link, IsSound-region_link}
+use Rattle.nts_model.specs.Terms.Trees.{Tree}
+use Rattle.nts_model.specs.Tables.Contents.{Content, SlotState, unset, link, known, state_of, universe_of, kind_at, changed, sub_link_of}
+use Rattle.nts_model.specs.Tables.Resolving.{resolved, variable_tree, Lacks}
+use Rattle.nts_model.proofs.Tables.Under.{replaced-lacks}
+use Rattle.nts_model.proofs.Tables.Slots.{some_slot, length-slice_set, slice_get-slice_set_other, field-changed_kept}
+use Rattle.nts_model.proofs.Tables.Sound.{SameStates, SameStates-changed, IsSound-same, resolved-same}
+use Rattle.nts_model.proofs.Tables.Binding.{IsLinkable, state_of-set_same, state_of-set_other, kind_at-set, resolved-link, IsSound-link, resolved-region_link, IsSound-region_link}
 use Rattle.nts_unify.specs.declared.contents.State.{State}
 use Rattle.nts_unify.specs.declared.contents.State.TheVariants.{Unset, Link, Known}
 use Rattle.nts_unify.specs.declared.contents.Variable.{Variable}
@@ -21,8 +21,8 @@ use Rattle.nts_unify.specs.Roots.{SubLinked, SubRootsJoin}
 use Rattle.nts_unify.specs.Changing.{unset_count, unset_of, one_unset, IsLater, Keeps, AddsVisible, nothing_more}
 use Rattle.nts_unify.specs.Unchanged.{HasUnset}
 use Rattle.nts_unify.specs.Joining.{CanJoin, CanJoinRegions, IsOneClass, IsJoined, Joins, RegionsJoin}
-use Rattle.nts_model.proofs.Solving.{Lowers}
-use Rattle.nts_model.specs.Placeholders.{CanName}
+use Rattle.nts_model.proofs.Tables.Solving.{Lowers}
+use Rattle.nts_model.specs.Terms.Placeholders.{CanName}
 use Rattle.nts_store.specs.Growth.{tree_at}
 use Rattle.nts_unify.specs.Proper.{IsProper, IsProper-link, IsProper-region_link}
 use Rattle.nts_unify.proofs.Leading.{universe_of-entry}
@@ -30,10 +30,10 @@ use Rattle.nts_unify.proofs.Merging.{Marked, Marked-refl, marked, ComesDown, com
 use Rattle.nts_unify.proofs.Changes.{proper_lowered, proper_sub_linked, slot_at, content_of-with_variable, content_of-bound, AreHeld-at, LeadsDown, leads_down, IsLawful-set, IsLawful-bound}
 use Rattle.nts_unify.proofs.Keeping.{Keeps-trans, Keeps-same, news_none, unset-set, unset_of-infer}
 use Rattle.nts_unify.proofs.SubJoins.{sub_kept, sub_bound, links_sub_roots, joined_subs}
-use Rattle.nts_model.specs.SubUnifying.{JoinsSubRoots}
-use Rattle.nts_model.specs.Passing.{BringsNoLabels}
-use Rattle.nts_model.proofs.Bringing.{brings-linked}
-use Rattle.nts_model.proofs.SubUnified.{JoinsSubRoots-same}
+use Rattle.nts_model.specs.Tables.SubUnifying.{JoinsSubRoots}
+use Rattle.nts_model.specs.Tables.Passing.{BringsNoLabels}
+use Rattle.nts_model.proofs.Responses.Bringing.{brings-linked}
+use Rattle.nts_model.proofs.Tables.SubUnified.{JoinsSubRoots-same}
 
 -- a change of universes and sub-unification alone
 pub record Relabelled (ts : List Tree) (e f : Entries) : Type 0 where

@@ -4,18 +4,18 @@ use Rattle.std.specs.Prelude.{slice_get, slice_set, Contains}
 use Rattle.std.proofs.lemmas.List.Elements.{Contains-append_cases}
 use Rattle.nts_model.specs.declared.labels.VariableKind.{VariableKind}
 use Rattle.nts_model.specs.declared.labels.VariableKind.TheVariants as kind
-use Rattle.nts_model.specs.Trees.{Tree, IsClosed}
-use Rattle.nts_model.specs.Contents.{Content, Slot, SlotState, Recorded, kind_at, with_constraint, sub_link_of, unset, link, state_of, with_slot}
-use Rattle.nts_model.specs.Resolving.{Knows}
-use Rattle.nts_model.proofs.ProvedLater.{contains_none, first_or_later}
+use Rattle.nts_model.specs.Terms.Trees.{Tree, IsClosed}
+use Rattle.nts_model.specs.Tables.Contents.{Content, Slot, SlotState, Recorded, kind_at, with_constraint, sub_link_of, unset, link, state_of, with_slot}
+use Rattle.nts_model.specs.Tables.Resolving.{Knows}
+use Rattle.nts_model.proofs.Derivations.ProvedLater.{contains_none, first_or_later}
 use Rattle.std.proofs.lemmas.Bool.{cases_lt}
-use Rattle.nts_model.proofs.Slots.{Knows-kept, KeepsKinds-with_slot, field_below}
-use Rattle.nts_model.proofs.Tying.{has_kind, kind_before}
-use Rattle.nts_model.proofs.Sound.{SameStates, resolved-same, SameStates-with_constraint}
+use Rattle.nts_model.proofs.Tables.Slots.{Knows-kept, KeepsKinds-with_slot, field_below}
+use Rattle.nts_model.proofs.Tables.Tying.{has_kind, kind_before}
+use Rattle.nts_model.proofs.Tables.Sound.{SameStates, resolved-same, SameStates-with_constraint}
 use Rattle.nts_unify.specs.Changing.{one_unset, unset_of, unset_count, IsSeen, HasClosedSides, IsLater, Keeps, AddsVisible, nothing_more, one_more}
 use Rattle.nts_unify.specs.Entries.{Inner, KeepsHidden}
-use Rattle.nts_model.proofs.SubUnified.{JoinsSubRoots-refl, JoinsSubRoots-trans, JoinsSubRoots-same, JoinsSubRoots-added}
-use Rattle.nts_model.specs.SubUnifying.{JoinsSubRoots}
+use Rattle.nts_model.proofs.Tables.SubUnified.{JoinsSubRoots-refl, JoinsSubRoots-trans, JoinsSubRoots-same, JoinsSubRoots-added}
+use Rattle.nts_model.specs.Tables.SubUnifying.{JoinsSubRoots}
 
 pub IsLater-refl : (c : Content) → IsLater c c
 IsLater-refl c = record { more = omega arith; grows = omega arith; kinds = λ n k h. h; subs = JoinsSubRoots-refl c; visible = nothing_more }

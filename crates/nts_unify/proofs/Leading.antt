@@ -2,12 +2,12 @@
 use Rattle.std.proofs.Common.{◌≡◌, ℕ, zero, suc, ◌<◌, List, [], ◌∷◌, length, Some, refl, ap, ◌∙◌, arith}
 use Rattle.std.specs.Prelude.{slice_get}
 use Rattle.nts_model.specs.declared.labels.VariableKind.{VariableKind}
-use Rattle.nts_model.specs.Trees.{Tree}
-use Rattle.nts_model.specs.Contents.{map_slot, state_of, kind_at, universe_of}
-use Rattle.nts_model.specs.Resolving as resolving
-use Rattle.nts_model.specs.Resolving.{Reaches, root_of}
-use Rattle.nts_model.proofs.Roots.{root_of-reaches, Descends}
-use Rattle.nts_model.proofs.Slots.{field_below}
+use Rattle.nts_model.specs.Terms.Trees.{Tree}
+use Rattle.nts_model.specs.Tables.Contents.{map_slot, state_of, kind_at, universe_of}
+use Rattle.nts_model.specs.Tables.Resolving as resolving
+use Rattle.nts_model.specs.Tables.Resolving.{Reaches, root_of}
+use Rattle.nts_model.proofs.Tables.Roots.{root_of-reaches, Descends}
+use Rattle.nts_model.proofs.Tables.Slots.{field_below}
 use Rattle.nts_unify.specs.declared.contents.State.{State}
 use Rattle.nts_unify.specs.declared.contents.State.TheVariants.{Unset, Link, Known}
 use Rattle.nts_unify.specs.declared.contents.Variable.{Variable}

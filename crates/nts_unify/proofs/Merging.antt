@@ -3,16 +3,16 @@ use Rattle.nts_unify.proofs.Changes.{some_inj}
 use Rattle.std.proofs.Common.{◌≡◌, ◌≢◌, ◌⊎◌, inl, inr, ⊎_elim, ℕ, ◌<◌, ◌≤◌, min, Some, refl, sym, ap, ◌∙◌, arith}
 use Rattle.std.proofs.lemmas.Bool.{cases_lt}
 use Rattle.nts_model.specs.declared.labels.VariableKind.TheVariants as kind
-use Rattle.nts_model.specs.Contents.{Content, Slot, link, state_of, universe_of, changed, bound_to}
-use Rattle.nts_model.specs.Resolving.{IsSound}
-use Rattle.nts_model.specs.Levels.{NamesAll, term_level}
-use Rattle.nts_model.specs.Worlds.{World, Solves}
-use Rattle.nts_model.specs.Holding.{Continues}
-use Rattle.nts_model.proofs.Slots.{some_slot}
-use Rattle.nts_model.proofs.Under.{same_or_other}
-use Rattle.nts_model.proofs.Binding.{IsLinkable, state_of-set_same}
-use Rattle.nts_model.proofs.Solving.{Lowers, NamesAll-either, universe_of-set, universe_of-lowered_same, universe_of-lowered_other, Solves-lowered, Solves-from_lowered, Solves-link, Solves-from_link, Solves-region_link, Solves-from_region_link}
-use Rattle.nts_model.proofs.Held.{Continues-refl, Continues-trans, Continues-lowered, Continues-link, Continues-region_link}
+use Rattle.nts_model.specs.Tables.Contents.{Content, Slot, link, state_of, universe_of, changed, bound_to}
+use Rattle.nts_model.specs.Tables.Resolving.{IsSound}
+use Rattle.nts_model.specs.Tables.Levels.{NamesAll, term_level}
+use Rattle.nts_model.specs.Tables.Worlds.{World, Solves}
+use Rattle.nts_model.specs.Tables.Holding.{Continues}
+use Rattle.nts_model.proofs.Tables.Slots.{some_slot}
+use Rattle.nts_model.proofs.Tables.Under.{same_or_other}
+use Rattle.nts_model.proofs.Tables.Binding.{IsLinkable, state_of-set_same}
+use Rattle.nts_model.proofs.Tables.Solving.{Lowers, NamesAll-either, universe_of-set, universe_of-lowered_same, universe_of-lowered_other, Solves-lowered, Solves-from_lowered, Solves-link, Solves-from_link, Solves-region_link, Solves-from_region_link}
+use Rattle.nts_model.proofs.Tables.Held.{Continues-refl, Continues-trans, Continues-lowered, Continues-link, Continues-region_link}
 use Rattle.nts_unify.specs.Joining.{IsOneClass}
 
 -- nothing that worlds see changed

@@ -4,12 +4,12 @@ use Rattle.std.specs.Prelude.{slice_get}
 use Rattle.std.proofs.lemmas.Bool.{cases_lt}
 use Rattle.nts_model.specs.declared.labels.VariableKind.{VariableKind}
 use Rattle.nts_model.specs.declared.labels.VariableKind.TheVariants as kind
-use Rattle.nts_model.specs.Trees.{Tree}
-use Rattle.nts_model.specs.Contents.{Content, unset, link, map_slot, state_of, kind_at, sub_link_of}
-use Rattle.nts_model.specs.SubUnifying.{SharesSubRoot, itself, linked, turned, through, BecameOne, AreJoined, before, since, back, along, JoinsSubRoots}
-use Rattle.nts_model.proofs.Slots.{field-changed_same, field-changed_other, field-changed_kept, slice_get_below}
-use Rattle.nts_model.proofs.SubUnified.{shares-mapped, joins_sub_roots}
-use Rattle.nts_model.proofs.Under.{same_or_other}
+use Rattle.nts_model.specs.Terms.Trees.{Tree}
+use Rattle.nts_model.specs.Tables.Contents.{Content, unset, link, map_slot, state_of, kind_at, sub_link_of}
+use Rattle.nts_model.specs.Tables.SubUnifying.{SharesSubRoot, itself, linked, turned, through, BecameOne, AreJoined, before, since, back, along, JoinsSubRoots}
+use Rattle.nts_model.proofs.Tables.Slots.{field-changed_same, field-changed_other, field-changed_kept, slice_get_below}
+use Rattle.nts_model.proofs.Tables.SubUnified.{shares-mapped, joins_sub_roots}
+use Rattle.nts_model.proofs.Tables.Under.{same_or_other}
 use Rattle.nts_unify.specs.declared.contents.Variable.{Variable}
 use Rattle.nts_unify.specs.Entries.{Entries, with_variable, bound}
 use Rattle.nts_unify.specs.Reading.{slot_of, content_of}

@@ -1,7 +1,7 @@
 -- Two regions made equal.
 use Rattle.std.specs.Prelude.{◌≡◌, ◌⊎◌, ℕ, min, max, List, Option, Some, None, Bool, slice_get}
 use Rattle.nts_model.specs.declared.labels.Relation.TheVariants as relation
-use Rattle.nts_model.specs.Trees.{Tree, empty, more, node}
+use Rattle.nts_model.specs.Terms.Trees.{Tree, empty, more, node}
 use Rattle.nts_store.specs.declared.nodes.NodeId.{NodeId}
 use Rattle.nts_store.specs.Growth.{tree_at}
 use Rattle.nts_unify.specs.declared.contents.State.TheVariants.{Link}

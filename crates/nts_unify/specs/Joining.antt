@@ -2,12 +2,12 @@
 use Rattle.std.specs.Prelude.{◌≡◌, ◌≢◌, ℕ, ◌+◌, min, max, List, length, Some}
 use Rattle.nts_model.specs.declared.labels.VariableKind.{VariableKind}
 use Rattle.nts_model.specs.declared.labels.VariableKind.TheVariants as kind
-use Rattle.nts_model.specs.Trees.{Tree}
-use Rattle.nts_model.specs.Contents.{Content, link, state_of, universe_of}
-use Rattle.nts_model.specs.Resolving.{Lacks, resolved}
-use Rattle.nts_model.specs.Holding.{Continues}
-use Rattle.nts_model.specs.Equations.{Narrows}
-use Rattle.nts_model.specs.Passing.{BringsNoLabels}
+use Rattle.nts_model.specs.Terms.Trees.{Tree}
+use Rattle.nts_model.specs.Tables.Contents.{Content, link, state_of, universe_of}
+use Rattle.nts_model.specs.Tables.Resolving.{Lacks, resolved}
+use Rattle.nts_model.specs.Tables.Holding.{Continues}
+use Rattle.nts_model.specs.Tables.Equations.{Narrows}
+use Rattle.nts_model.specs.Tables.Passing.{BringsNoLabels}
 use Rattle.nts_unify.specs.Entries.{Entries}
 use Rattle.nts_unify.specs.Reading.{content_of, IsLawful, LinksDescend}
 use Rattle.nts_unify.specs.Changing.{IsLater, Keeps, unset_count}

@@ -2,11 +2,11 @@
 use Rattle.std.proofs.Common.{◌≡◌, ◌⊎◌, inl, inr, ⊎_elim, ℕ, ◌<◌, zero, suc, List, [], ◌∷◌, ◌++◌, length, map, Some, refl, sym, ap, ◌∙◌, arith, ◌≤◌}
 use Rattle.std.specs.Prelude.{slice_get, slice_set}
 use Rattle.std.proofs.lemmas.List.{map-append}
-use Rattle.nts_model.specs.Trees.{Tree}
-use Rattle.nts_model.specs.Contents.{Content, unset, known, with_slot, with_constraint, in_universe}
-use Rattle.nts_model.proofs.Slots.{KeepsKinds, KeepsKinds-with_slot, Knows-kept, slice_get-push_old, slice_get-push_new}
-use Rattle.nts_model.proofs.Under.{same_or_other}
-use Rattle.nts_model.proofs.Sound.{IsSound-with_slot, IsSound-with_constraint, IsSound-in_universe}
+use Rattle.nts_model.specs.Terms.Trees.{Tree}
+use Rattle.nts_model.specs.Tables.Contents.{Content, unset, known, with_slot, with_constraint, in_universe}
+use Rattle.nts_model.proofs.Tables.Slots.{KeepsKinds, KeepsKinds-with_slot, Knows-kept, slice_get-push_old, slice_get-push_new}
+use Rattle.nts_model.proofs.Tables.Under.{same_or_other}
+use Rattle.nts_model.proofs.Tables.Sound.{IsSound-with_slot, IsSound-with_constraint, IsSound-in_universe}
 use Rattle.nts_store.specs.Growth.{tree_at, Extends}
 use Rattle.nts_store.proofs.Growing.{IsIn-extended}
 use Rattle.nts_unify.specs.declared.contents.State.{State}

@@ -2,19 +2,19 @@
 use Rattle.std.proofs.Common.{◌≡◌, ℕ, ◌<◌, [], length, refl, sym, ap, ◌∙◌, arith, ◌≤◌}
 use Rattle.nts_model.specs.declared.labels.Relation.{Relation}
 use Rattle.nts_model.specs.declared.labels.Relation.TheVariants as relation
-use Rattle.nts_model.specs.Trees.{Tree}
-use Rattle.nts_model.specs.Contents.{Content, Slot, Recorded, unset, universe_of, with_slot, changed, bound_to, with_constraint, in_universe}
-use Rattle.nts_model.specs.Resolving.{Knows, IsSound}
-use Rattle.nts_model.specs.Placeholders.{CanName}
-use Rattle.nts_model.specs.Levels.{NamesAll, level_in, region_level, AreRegionsLevelled, AreCurrent}
-use Rattle.nts_model.specs.Worlds.{IsValue}
-use Rattle.nts_model.specs.RegionClasses.{AreRegions}
-use Rattle.nts_model.specs.Solvable.{IsSolvable}
-use Rattle.nts_model.proofs.Slots.{field_below, field-changed_kept}
-use Rattle.nts_model.proofs.Binding.{IsKnowable, IsLinkable}
-use Rattle.nts_model.proofs.Solving.{Lowers, state_of-lowered}
-use Rattle.nts_model.proofs.Levelled.{AreRegionsLevelled-with_slot, AreRegionsLevelled-with_constraint, AreRegionsLevelled-in_universe, AreRegionsLevelled-lowered, AreRegionsLevelled-known, AreRegionsLevelled-link, AreRegionsLevelled-region_link, AreCurrent-with_slot, AreCurrent-changed, AreCurrent-in_universe}
-use Rattle.nts_model.proofs.Solvable.{IsSolvable-empty, IsSolvable-with_slot, IsSolvable-with_constraint, IsSolvable-in_universe, IsSolvable-lowered, IsSolvable-sub_linked, IsSolvable-known, IsSolvable-link, IsSolvable-region_link}
+use Rattle.nts_model.specs.Terms.Trees.{Tree}
+use Rattle.nts_model.specs.Tables.Contents.{Content, Slot, Recorded, unset, universe_of, with_slot, changed, bound_to, with_constraint, in_universe}
+use Rattle.nts_model.specs.Tables.Resolving.{Knows, IsSound}
+use Rattle.nts_model.specs.Terms.Placeholders.{CanName}
+use Rattle.nts_model.specs.Tables.Levels.{NamesAll, level_in, region_level, AreRegionsLevelled, AreCurrent}
+use Rattle.nts_model.specs.Tables.Worlds.{IsValue}
+use Rattle.nts_model.specs.Tables.RegionClasses.{AreRegions}
+use Rattle.nts_model.specs.Tables.Solvable.{IsSolvable}
+use Rattle.nts_model.proofs.Tables.Slots.{field_below, field-changed_kept}
+use Rattle.nts_model.proofs.Tables.Binding.{IsKnowable, IsLinkable}
+use Rattle.nts_model.proofs.Tables.Solving.{Lowers, state_of-lowered}
+use Rattle.nts_model.proofs.Tables.Levelled.{AreRegionsLevelled-with_slot, AreRegionsLevelled-with_constraint, AreRegionsLevelled-in_universe, AreRegionsLevelled-lowered, AreRegionsLevelled-known, AreRegionsLevelled-link, AreRegionsLevelled-region_link, AreCurrent-with_slot, AreCurrent-changed, AreCurrent-in_universe}
+use Rattle.nts_model.proofs.Tables.Solvable.{IsSolvable-empty, IsSolvable-with_slot, IsSolvable-with_constraint, IsSolvable-in_universe, IsSolvable-lowered, IsSolvable-sub_linked, IsSolvable-known, IsSolvable-link, IsSolvable-region_link}
 
 -- the table has a solution, its regions too are named by the universes of what holds them, and no variable is of a
 -- universe above the current one

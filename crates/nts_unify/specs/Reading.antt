@@ -3,10 +3,10 @@ use Rattle.std.specs.Prelude.{◌≡◌, ℕ, ◌<◌, List, [], ◌∷◌, map,
 use Rattle.nts_model.specs.declared.labels.Sort.TheVariants as sort
 use Rattle.nts_model.specs.declared.labels.Relation.{Relation}
 use Rattle.nts_model.specs.declared.labels.Relation.TheVariants as relation
-use Rattle.nts_model.specs.Trees.{Tree, NodeKind, of_sort, kind_of}
-use Rattle.nts_model.specs.Contents.{Content, Slot, SlotState, unset, link, known, Recorded}
-use Rattle.nts_model.specs.Resolving.{Knows, IsSound}
-use Rattle.nts_model.specs.RegionClasses.{AreRegions}
+use Rattle.nts_model.specs.Terms.Trees.{Tree, NodeKind, of_sort, kind_of}
+use Rattle.nts_model.specs.Tables.Contents.{Content, Slot, SlotState, unset, link, known, Recorded}
+use Rattle.nts_model.specs.Tables.Resolving.{Knows, IsSound}
+use Rattle.nts_model.specs.Tables.RegionClasses.{AreRegions}
 use Rattle.nts_unify.specs.declared.contents.HiddenType.{HiddenType}
 use Rattle.nts_terms.specs.Handles.{HoldsTy, HoldsArgs, IsAliasOf}
 use Rattle.nts_store.specs.Growth.{tree_at, IsIn}

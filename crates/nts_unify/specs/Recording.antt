@@ -1,6 +1,6 @@
 -- Constraints that are recorded.
 use Rattle.std.proofs.Common.{◌≡◌, ◌⊎◌, Bool, true, false, List}
-use Rattle.nts_model.specs.Trees.{Tree}
+use Rattle.nts_model.specs.Terms.Trees.{Tree}
 use Rattle.nts_terms.specs.declared.modes.VisibleForLeakCheck.{VisibleForLeakCheck}
 use Rattle.nts_terms.specs.declared.modes.VisibleForLeakCheck.TheVariants.{Yes, No}
 use Rattle.nts_store.specs.Growth.{tree_at}

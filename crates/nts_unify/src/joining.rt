@@ -1,6 +1,6 @@
 //! Two variables without values made one.
 ghost use Rattle.std.specs.Prelude.{◌≡◌, ◌≢◌, ◌<◌, length, List, OnOk};
-ghost use Rattle.nts_model.specs.Trees.{Tree};
+ghost use Rattle.nts_model.specs.Terms.Trees.{Tree};
 ghost use Rattle.nts_unify.specs.Reading.{IsLawful};
 ghost use Rattle.nts_unify.specs.Joining.{Joins, RegionsJoin, CanJoin, CanJoinRegions};
 ghost use Rattle.nts_unify.specs.Equating.{RegionsLinked};

@@ -1,8 +1,8 @@
 -- Goals that may be asked, as the store grows.
 use Rattle.std.proofs.Common.{◌≡◌, ◌∙◌, Bool, true, false, List, refl, sym}
 use Rattle.std.specs.Prelude.{not}
-use Rattle.nts_model.specs.Trees.{Tree, Place, any_label, is_alias}
-use Rattle.nts_model.specs.Resolving.{Knows, resolved}
+use Rattle.nts_model.specs.Terms.Trees.{Tree, Place, any_label, is_alias}
+use Rattle.nts_model.specs.Tables.Resolving.{Knows, resolved}
 use Rattle.nts_store.specs.declared.nodes.NodeId.{NodeId}
 use Rattle.nts_store.specs.Growth.{tree_at, Extends}
 use Rattle.nts_terms.proofs.Moved.{Holds-extended}

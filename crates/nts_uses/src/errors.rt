@@ -1,6 +1,6 @@
 //! What errors in a context and its probes leave behind.
 ghost use Rattle.std.specs.Prelude.{◌≡◌, Err, IfSome, OnOk, OnErr};
-ghost use Rattle.nts_model.specs.Trees.{any_argument};
+ghost use Rattle.nts_model.specs.Terms.Trees.{any_argument};
 ghost use Rattle.nts_delegate.specs.Clauses.{AreReady};
 ghost use Rattle.nts_table.specs.Tables.{IsTable, IsPlainSide};
 ghost use Rattle.nts_queries.specs.Evaluation.{Runs};

@@ -1,6 +1,6 @@
 //! Types with an alias in them, or with variables that may vary, related in a context: what rests on these is left as goals.
 ghost use Rattle.std.specs.Prelude.{◌≡◌, OnOk, OnErr};
-ghost use Rattle.nts_model.specs.Trees.{any_argument};
+ghost use Rattle.nts_model.specs.Terms.Trees.{any_argument};
 ghost use Rattle.nts_delegate.specs.Clauses.{AreReady};
 ghost use Rattle.nts_table.specs.Tables.{IsTable, IsSide};
 ghost use Rattle.nts_contexts.specs.Contexts.{IsReady, Keeps};

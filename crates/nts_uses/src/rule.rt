@@ -1,6 +1,6 @@
 //! A rule that is written in a context: two types are made one, and a goal is asked for.
 ghost use Rattle.std.specs.Prelude.{◌≡◌, true, IfOk, OnOk, OnErr};
-ghost use Rattle.nts_model.specs.Trees.{any_argument};
+ghost use Rattle.nts_model.specs.Terms.Trees.{any_argument};
 ghost use Rattle.nts_delegate.specs.Clauses.{AreReady};
 ghost use Rattle.nts_table.specs.Tables.{IsTable, IsPlainSide};
 ghost use Rattle.nts_terms.specs.Handles.{HoldsGoal};

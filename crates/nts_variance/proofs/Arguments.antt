@@ -2,14 +2,14 @@
 use Rattle.std.proofs.Common.{◌≡◌, ℕ, zero, suc, ◌+◌, ◌<◌, ◌≤◌, List, [], ◌∷◌, ◌++◌, Some, refl, ap, ◌∙◌, subst, arith}
 use Rattle.nts_model.specs.declared.labels.Variance.{Variance}
 use Rattle.nts_model.specs.declared.labels.Variance.TheVariants as variance
-use Rattle.nts_model.specs.Trees.{Tree, empty, more, node, children, row_length, row_at, IsRow, AllFit, any_argument, kind_of, arguments}
-use Rattle.nts_model.specs.Contents.{Content}
-use Rattle.nts_model.specs.Resolving.{IsSound, Knows}
-use Rattle.nts_model.specs.Related.{rest_variances}
-use Rattle.nts_model.specs.Forms.{a_constructor, pairs_over}
-use Rattle.nts_model.specs.Relations.{Relating as Pair, AllKnown}
-use Rattle.nts_model.proofs.Held.{Continues-refl, Continues-trans}
-use Rattle.nts_model.proofs.Resolved.{Knows-row_at}
+use Rattle.nts_model.specs.Terms.Trees.{Tree, empty, more, node, children, row_length, row_at, IsRow, AllFit, any_argument, kind_of, arguments}
+use Rattle.nts_model.specs.Tables.Contents.{Content}
+use Rattle.nts_model.specs.Tables.Resolving.{IsSound, Knows}
+use Rattle.nts_model.specs.Derivations.Related.{rest_variances}
+use Rattle.nts_model.specs.Variances.Forms.{a_constructor, pairs_over}
+use Rattle.nts_model.specs.Variances.Relations.{Relating as Pair, AllKnown}
+use Rattle.nts_model.proofs.Tables.Held.{Continues-refl, Continues-trans}
+use Rattle.nts_model.proofs.Tables.Resolved.{Knows-row_at}
 use Rattle.nts_store.specs.declared.nodes.NodeId.{NodeId}
 use Rattle.nts_store.specs.Growth.{tree_at, IsIn, Extends}
 use Rattle.nts_store.specs.Sorts.{ChildrenFit}

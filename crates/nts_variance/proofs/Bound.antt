@@ -1,5 +1,5 @@
 -- A variable that is made one with what stands for a term.
-use Rattle.nts_model.proofs.Substituting.{no_children}
+use Rattle.nts_model.proofs.Terms.Substituting.{no_children}
 use Rattle.std.proofs.Common.{◌≡◌, ◌≢◌, ℕ, ◌+◌, ◌≤◌, ◌<◌, Bool, true, false, List, [], ◌∷◌, length, Option, Some, None, refl, sym, ap, ◌∙◌, subst, arith}
 use Rattle.nts_model.specs.declared.labels.Variance.{Variance}
 use Rattle.nts_model.specs.declared.labels.VariableKind.{VariableKind}
@@ -8,20 +8,20 @@ use Rattle.nts_model.specs.declared.labels.Leaf.TheVariants as leaf
 use Rattle.nts_model.specs.declared.labels.BoundVarIndexKind.TheVariants as index
 use Rattle.nts_model.specs.declared.labels.Label.{Label}
 use Rattle.nts_model.specs.declared.labels.Label.TheVariants as label
-use Rattle.nts_model.specs.Trees.{Tree, empty, more, node, binders, IsBoundBelow, IsClosed, IsClosedUnder, IsFormed}
-use Rattle.nts_model.specs.Contents.{Content, unset, universe_of, kind_at}
-use Rattle.nts_model.specs.Resolving.{variable_of, number_of, variable_tree, IsInfer, Knows, IsSound, deeply_resolved}
-use Rattle.nts_model.specs.Worlds.{World, renamed, placed, inst}
-use Rattle.nts_model.specs.Holding.{Continues}
-use Rattle.nts_model.specs.Related.{IsAlias}
-use Rattle.nts_model.specs.AnsweredGoals.{AllAnswered}
-use Rattle.nts_model.specs.Measuring.{closed_aliases}
-use Rattle.nts_model.specs.Leaving.{judging_of}
-use Rattle.nts_model.proofs.Held.{Continues-trans}
-use Rattle.nts_model.proofs.Slots.{Knows-kept, field_below}
-use Rattle.nts_model.proofs.Kept.{variable_label}
-use Rattle.nts_model.proofs.Fitting.{binders-renamed}
-use Rattle.nts_model.proofs.SettleRows.{settles_closed}
+use Rattle.nts_model.specs.Terms.Trees.{Tree, empty, more, node, binders, IsBoundBelow, IsClosed, IsClosedUnder, IsFormed}
+use Rattle.nts_model.specs.Tables.Contents.{Content, unset, universe_of, kind_at}
+use Rattle.nts_model.specs.Tables.Resolving.{variable_of, number_of, variable_tree, IsInfer, Knows, IsSound, deeply_resolved}
+use Rattle.nts_model.specs.Tables.Worlds.{World, renamed, placed, inst}
+use Rattle.nts_model.specs.Tables.Holding.{Continues}
+use Rattle.nts_model.specs.Derivations.Related.{IsAlias}
+use Rattle.nts_model.specs.Variances.AnsweredGoals.{AllAnswered}
+use Rattle.nts_model.specs.Tables.Measuring.{closed_aliases}
+use Rattle.nts_model.specs.Variances.Leaving.{judging_of}
+use Rattle.nts_model.proofs.Tables.Held.{Continues-trans}
+use Rattle.nts_model.proofs.Tables.Slots.{Knows-kept, field_below}
+use Rattle.nts_model.proofs.Tables.Kept.{variable_label}
+use Rattle.nts_model.proofs.Tables.Fitting.{binders-renamed}
+use Rattle.nts_model.proofs.Variances.SettleRows.{settles_closed}
 use Rattle.nts_store.specs.declared.nodes.NodeId.{NodeId}
 use Rattle.nts_store.specs.Growth.{tree_at, Extends}
 use Rattle.nts_store.specs.TypeFlags.{escaping}

@@ -3,17 +3,17 @@ use Rattle.std.proofs.Common.{◌≡◌, inl, inr, ⊎_elim, ℕ, ◌+◌, ◌<�
 use Rattle.std.proofs.lemmas.List.{append-nil, map-append}
 use Rattle.nts_model.specs.declared.labels.Variance.{Variance}
 use Rattle.nts_model.specs.declared.labels.AliasHead.TheVariants as alias_of
-use Rattle.nts_model.specs.Contents.{Content}
-use Rattle.nts_model.specs.Trees.{Tree, empty, more, node, size, kind_of, IsFormed}
-use Rattle.nts_model.specs.Resolving.{IsSound, Knows, deeply_resolved}
-use Rattle.nts_model.specs.Sequents.{Among}
-use Rattle.nts_model.specs.Related.{rest_variances}
-use Rattle.nts_model.specs.Relations.{AllKnown}
-use Rattle.nts_model.specs.Relations.{Relating as Pair}
-use Rattle.nts_model.specs.Forms.{Form, a_constructor, a_function, a_value, an_alias, over, variances_over, FitsForm, pairs_over}
-use Rattle.nts_model.proofs.Alike.{deeply_resolved-more}
-use Rattle.nts_model.proofs.Forms.{deeply_resolved-over, variances_over_length}
-use Rattle.nts_model.proofs.Meeting.{AreSmaller}
+use Rattle.nts_model.specs.Tables.Contents.{Content}
+use Rattle.nts_model.specs.Terms.Trees.{Tree, empty, more, node, size, kind_of, IsFormed}
+use Rattle.nts_model.specs.Tables.Resolving.{IsSound, Knows, deeply_resolved}
+use Rattle.nts_model.specs.Derivations.Sequents.{Among}
+use Rattle.nts_model.specs.Derivations.Related.{rest_variances}
+use Rattle.nts_model.specs.Variances.Relations.{AllKnown}
+use Rattle.nts_model.specs.Variances.Relations.{Relating as Pair}
+use Rattle.nts_model.specs.Variances.Forms.{Form, a_constructor, a_function, a_value, an_alias, over, variances_over, FitsForm, pairs_over}
+use Rattle.nts_model.proofs.Tables.Alike.{deeply_resolved-more}
+use Rattle.nts_model.proofs.Variances.Forms.{deeply_resolved-over, variances_over_length}
+use Rattle.nts_model.proofs.Variances.Meeting.{AreSmaller}
 use Rattle.nts_store.specs.declared.nodes.NodeId.{NodeId}
 use Rattle.nts_store.specs.Growth.{tree_at, Extends}
 use Rattle.nts_store.proofs.Growing.{IsIn-extended, Extends-refl}

@@ -12,23 +12,23 @@ use Rattle.nts_model.specs.declared.labels.ConstHead.TheVariants as konst
 use Rattle.nts_model.specs.declared.labels.ListHead.TheVariants as list
 use Rattle.nts_model.specs.declared.labels.Label.{Label}
 use Rattle.nts_model.specs.declared.labels.Label.TheVariants as label
-use Rattle.nts_model.specs.Trees.{Tree, empty, more, node, kind_of, kind_of_label, one_sort, in_order, shape, is, HavePlaces, AllFit, Meets, IsFormed}
-use Rattle.nts_model.specs.Contents.{Content, unset, state_of, kind_at}
-use Rattle.nts_model.specs.Placeholders.{CanName}
-use Rattle.nts_model.specs.Resolving.{variable_of, infer_of, variable_tree, rooted_variable, rooted, resolved, deeply_resolved, IsSound}
-use Rattle.nts_model.specs.Levels.{NamesAll, region_level}
-use Rattle.nts_model.specs.Fitting.{Fits, is_integer, is_float}
-use Rattle.nts_model.specs.Regions.{name_of_label}
-use Rattle.nts_model.specs.Related.{arguments}
-use Rattle.nts_model.specs.Forms.{Form, a_constructor, a_function, a_value, an_alias, over}
-use Rattle.nts_model.specs.Proving.{HoldsTerms}
-use Rattle.nts_model.specs.Solvable.{IsSolvable}
-use Rattle.nts_model.specs.Substitutions.{leaf_tree}
-use Rattle.nts_model.proofs.Slots.{field_below}
-use Rattle.nts_model.proofs.Tying.{has_kind}
-use Rattle.nts_model.proofs.Variables.{infer_of_none}
-use Rattle.nts_model.proofs.Resolved.{resolved-empty, resolved-more, resolved-node, resolved-variable_unset}
-use Rattle.nts_model.proofs.ResolvedTerms.{IsFormed-deeply_resolved, Fits-deeply_resolved}
+use Rattle.nts_model.specs.Terms.Trees.{Tree, empty, more, node, kind_of, kind_of_label, one_sort, in_order, shape, is, HavePlaces, AllFit, Meets, IsFormed}
+use Rattle.nts_model.specs.Tables.Contents.{Content, unset, state_of, kind_at}
+use Rattle.nts_model.specs.Terms.Placeholders.{CanName}
+use Rattle.nts_model.specs.Tables.Resolving.{variable_of, infer_of, variable_tree, rooted_variable, rooted, resolved, deeply_resolved, IsSound}
+use Rattle.nts_model.specs.Tables.Levels.{NamesAll, region_level}
+use Rattle.nts_model.specs.Terms.Fitting.{Fits, is_integer, is_float}
+use Rattle.nts_model.specs.Terms.Regions.{name_of_label}
+use Rattle.nts_model.specs.Derivations.Related.{arguments}
+use Rattle.nts_model.specs.Variances.Forms.{Form, a_constructor, a_function, a_value, an_alias, over}
+use Rattle.nts_model.specs.Derivations.Proving.{HoldsTerms}
+use Rattle.nts_model.specs.Tables.Solvable.{IsSolvable}
+use Rattle.nts_model.specs.Terms.Substitutions.{leaf_tree}
+use Rattle.nts_model.proofs.Tables.Slots.{field_below}
+use Rattle.nts_model.proofs.Tables.Tying.{has_kind}
+use Rattle.nts_model.proofs.Terms.Variables.{infer_of_none}
+use Rattle.nts_model.proofs.Tables.Resolved.{resolved-empty, resolved-more, resolved-node, resolved-variable_unset}
+use Rattle.nts_model.proofs.Tables.ResolvedTerms.{IsFormed-deeply_resolved, Fits-deeply_resolved}
 use Rattle.nts_variance.specs.Steps.{HasSorts}
 use Rattle.nts_variance.specs.Walking.{IsErased}
 

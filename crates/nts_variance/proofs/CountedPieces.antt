@@ -12,19 +12,19 @@ use Rattle.nts_model.specs.declared.labels.AliasHead.TheVariants as alias_of
 use Rattle.nts_model.specs.declared.labels.TyHead.TheVariants as ty
 use Rattle.nts_model.specs.declared.labels.Label.{Label}
 use Rattle.nts_model.specs.declared.labels.Label.TheVariants as label
-use Rattle.nts_model.specs.Trees.{Tree, empty, more, node, any_label, is_alias, in_order, shape, Meets, IsFormed}
-use Rattle.nts_model.specs.Contents.{Content, Slot, unset, Recorded, kind_at, with_slot, with_constraint}
-use Rattle.nts_model.specs.Resolving.{infer_of, variable_tree, IsInfer, resolved, deeply_resolved, Knows, IsSound}
-use Rattle.nts_model.specs.Fitting.{Fits, is_integer, is_float}
-use Rattle.nts_model.specs.Regions.{IsRegion}
-use Rattle.nts_model.specs.Related.{alias, IsAlias}
-use Rattle.nts_model.specs.Solvable.{IsSolvable}
-use Rattle.nts_model.specs.Measuring.{unless_variable, closed_under, counted, closed_aliases}
-use Rattle.nts_model.proofs.Measuring.{closed_more}
-use Rattle.nts_model.proofs.Slots.{field-with_slot_new}
-use Rattle.nts_model.proofs.Sound.{resolved-same, SameStates-with_constraint, IsSound-with_slot}
-use Rattle.nts_model.proofs.ResolvedTerms.{IsFormed-deeply_resolved, Fits-deeply_resolved}
-use Rattle.nts_model.proofs.Substituting.{no_children}
+use Rattle.nts_model.specs.Terms.Trees.{Tree, empty, more, node, any_label, is_alias, in_order, shape, Meets, IsFormed}
+use Rattle.nts_model.specs.Tables.Contents.{Content, Slot, unset, Recorded, kind_at, with_slot, with_constraint}
+use Rattle.nts_model.specs.Tables.Resolving.{infer_of, variable_tree, IsInfer, resolved, deeply_resolved, Knows, IsSound}
+use Rattle.nts_model.specs.Terms.Fitting.{Fits, is_integer, is_float}
+use Rattle.nts_model.specs.Terms.Regions.{IsRegion}
+use Rattle.nts_model.specs.Derivations.Related.{alias, IsAlias}
+use Rattle.nts_model.specs.Tables.Solvable.{IsSolvable}
+use Rattle.nts_model.specs.Tables.Measuring.{unless_variable, closed_under, counted, closed_aliases}
+use Rattle.nts_model.proofs.Tables.Measuring.{closed_more}
+use Rattle.nts_model.proofs.Tables.Slots.{field-with_slot_new}
+use Rattle.nts_model.proofs.Tables.Sound.{resolved-same, SameStates-with_constraint, IsSound-with_slot}
+use Rattle.nts_model.proofs.Tables.ResolvedTerms.{IsFormed-deeply_resolved, Fits-deeply_resolved}
+use Rattle.nts_model.proofs.Terms.Substituting.{no_children}
 use Rattle.nts_unify.specs.Changing.{unset_count, unset_of}
 use Rattle.nts_unify.proofs.Keeping.{unset-push}
 use Rattle.nts_relating.specs.Relating.{Generalized}

@@ -11,13 +11,13 @@ use Rattle.nts_model.specs.declared.labels.ConstHead.TheVariants as konst
 use Rattle.nts_model.specs.declared.labels.ListHead.TheVariants as list
 use Rattle.nts_model.specs.declared.labels.Label.{Label}
 use Rattle.nts_model.specs.declared.labels.Label.TheVariants as label
-use Rattle.nts_model.specs.Trees.{Tree, empty, more, node, kind_of, one_sort, is, AllFit, IsRow, row_length, is_alias, binders, shape, in_order, Meets, IsBoundBelow, IsClosedUnder, IsClosed, IsFormed}
-use Rattle.nts_model.specs.Contents.{Content}
-use Rattle.nts_model.specs.Resolving.{infer_of, IsInfer, resolved, Knows, IsSound}
-use Rattle.nts_model.specs.Related.{times, first_variance, rest_variances, arguments, alias, IsAlias}
-use Rattle.nts_model.specs.Forms.{Form, a_constructor, a_function, a_value, an_alias, over, FitsForm}
-use Rattle.nts_model.specs.Measuring.{is_less, is_bound_below, unless_variable, closed_under, counted, closed_aliases}
-use Rattle.nts_model.proofs.Resolved.{resolved-empty, resolved-more, resolved-node}
+use Rattle.nts_model.specs.Terms.Trees.{Tree, empty, more, node, kind_of, one_sort, is, AllFit, IsRow, row_length, is_alias, binders, shape, in_order, Meets, IsBoundBelow, IsClosedUnder, IsClosed, IsFormed}
+use Rattle.nts_model.specs.Tables.Contents.{Content}
+use Rattle.nts_model.specs.Tables.Resolving.{infer_of, IsInfer, resolved, Knows, IsSound}
+use Rattle.nts_model.specs.Derivations.Related.{times, first_variance, rest_variances, arguments, alias, IsAlias}
+use Rattle.nts_model.specs.Variances.Forms.{Form, a_constructor, a_function, a_value, an_alias, over, FitsForm}
+use Rattle.nts_model.specs.Tables.Measuring.{is_less, is_bound_below, unless_variable, closed_under, counted, closed_aliases}
+use Rattle.nts_model.proofs.Tables.Resolved.{resolved-empty, resolved-more, resolved-node}
 use Rattle.nts_unify.specs.Changing.{unset_count}
 use Rattle.nts_relating.proofs.AliasCounts.{closed_true, closed_resolved}
 use Rattle.nts_variance.specs.Steps.{Step, enter, build, owe, popped, unpopped, entering, HasSorts, MadeForRow}

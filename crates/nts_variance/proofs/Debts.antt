@@ -11,20 +11,20 @@ use Rattle.nts_model.specs.declared.labels.ListHead.TheVariants as list
 use Rattle.nts_model.specs.declared.labels.VariableKind.TheVariants as kind
 use Rattle.nts_model.specs.declared.labels.Label.TheVariants as label
 use Rattle.nts_model.specs.declared.labels.Leaf.TheVariants as leaf
-use Rattle.nts_model.specs.Trees.{Tree, empty, more, node, label_of, kind_of, kind_of_label, of_sort, binders, IsRow, row_length, IsClosedUnder, IsClosed}
-use Rattle.nts_model.specs.Related.{rest_variances, arguments, alias, IsAlias}
-use Rattle.nts_model.specs.Solvable.{IsSolvable}
-use Rattle.nts_model.specs.Contents.{Content}
-use Rattle.nts_model.specs.Resolving.{IsSound, Knows, deeply_resolved}
-use Rattle.nts_model.specs.Forms.{Form, a_constructor, a_function, a_value, an_alias, over}
-use Rattle.nts_model.specs.Judging.{opposite}
-use Rattle.nts_model.specs.Relations.{Relating as Pair}
-use Rattle.nts_model.specs.Patching.{IsPatched, patched, in_end, in_row, in_node, in_leaf}
-use Rattle.nts_model.proofs.Alike.{deeply_resolved-more}
-use Rattle.nts_model.proofs.Resolved.{deeply_resolved-empty, deeply_resolved-node}
-use Rattle.nts_model.proofs.ResolvedTerms.{IsClosed-deeply_resolved}
-use Rattle.nts_model.proofs.Kept.{kind_of-deeply_resolved}
-use Rattle.nts_model.proofs.Fitting.{IsClosedUnder-more}
+use Rattle.nts_model.specs.Terms.Trees.{Tree, empty, more, node, label_of, kind_of, kind_of_label, of_sort, binders, IsRow, row_length, IsClosedUnder, IsClosed}
+use Rattle.nts_model.specs.Derivations.Related.{rest_variances, arguments, alias, IsAlias}
+use Rattle.nts_model.specs.Tables.Solvable.{IsSolvable}
+use Rattle.nts_model.specs.Tables.Contents.{Content}
+use Rattle.nts_model.specs.Tables.Resolving.{IsSound, Knows, deeply_resolved}
+use Rattle.nts_model.specs.Variances.Forms.{Form, a_constructor, a_function, a_value, an_alias, over}
+use Rattle.nts_model.specs.Variances.Judging.{opposite}
+use Rattle.nts_model.specs.Variances.Relations.{Relating as Pair}
+use Rattle.nts_model.specs.Terms.Patching.{IsPatched, patched, in_end, in_row, in_node, in_leaf}
+use Rattle.nts_model.proofs.Tables.Alike.{deeply_resolved-more}
+use Rattle.nts_model.proofs.Tables.Resolved.{deeply_resolved-empty, deeply_resolved-node}
+use Rattle.nts_model.proofs.Tables.ResolvedTerms.{IsClosed-deeply_resolved}
+use Rattle.nts_model.proofs.Tables.Kept.{kind_of-deeply_resolved}
+use Rattle.nts_model.proofs.Tables.Fitting.{IsClosedUnder-more}
 use Rattle.nts_variance.specs.Steps.{Step, enter, build, owe, popped, unpopped, entering, MadeForRow}
 use Rattle.nts_variance.specs.Walking.{NothingOwed, sides}
 use Rattle.nts_variance.specs.Terms.{IsGoal, AreGoals}

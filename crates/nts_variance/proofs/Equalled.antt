@@ -3,13 +3,13 @@ use Rattle.std.proofs.Common.{◌≡◌, ℕ, ◌+◌, ◌<◌, ◌≤◌, Bool,
 use Rattle.std.proofs.lemmas.List.{append-nil}
 use Rattle.nts_model.specs.declared.labels.Variance.{Variance}
 use Rattle.nts_model.specs.declared.labels.Variance.TheVariants as variance
-use Rattle.nts_model.specs.Trees.{Tree, size, IsFormed}
-use Rattle.nts_model.specs.Contents.{Content}
-use Rattle.nts_model.specs.Resolving.{Knows, resolved}
-use Rattle.nts_model.specs.Sequents.{Among}
-use Rattle.nts_model.specs.Relations.{Relating as Pair}
-use Rattle.nts_model.specs.Forms.{over, variances_over, FitsForm, pairs_over}
-use Rattle.nts_model.specs.Measuring.{closed_aliases}
+use Rattle.nts_model.specs.Terms.Trees.{Tree, size, IsFormed}
+use Rattle.nts_model.specs.Tables.Contents.{Content}
+use Rattle.nts_model.specs.Tables.Resolving.{Knows, resolved}
+use Rattle.nts_model.specs.Derivations.Sequents.{Among}
+use Rattle.nts_model.specs.Variances.Relations.{Relating as Pair}
+use Rattle.nts_model.specs.Variances.Forms.{over, variances_over, FitsForm, pairs_over}
+use Rattle.nts_model.specs.Tables.Measuring.{closed_aliases}
 use Rattle.nts_store.specs.Growth.{tree_at, Extends}
 use Rattle.nts_store.proofs.Growing.{Extends-refl}
 use Rattle.nts_unify.specs.Entries.{Entries}

@@ -9,22 +9,22 @@ use Rattle.nts_model.specs.declared.labels.VariableKind.TheVariants as kind
 use Rattle.nts_model.specs.declared.labels.Leaf.TheVariants as leaf
 use Rattle.nts_model.specs.declared.labels.Label.{Label}
 use Rattle.nts_model.specs.declared.labels.Label.TheVariants as label
-use Rattle.nts_model.specs.Trees.{Tree, empty, more, node, children, of_sort, label_of, shape, Meets}
-use Rattle.nts_model.specs.Contents.{Content}
-use Rattle.nts_model.specs.Resolving.{variable_tree, rooted, deeply_resolved, Knows, IsInfer}
-use Rattle.nts_model.specs.Fitting.{is_integer, is_float, HasLabel, Fits}
-use Rattle.nts_model.specs.Worlds.{World, inst, Solves}
-use Rattle.nts_model.specs.Related.{times, first_variance, rest_variances}
-use Rattle.nts_model.specs.Relations.{Relating as Pair}
-use Rattle.nts_model.specs.Judging.{Judging, IsSettled, Settles, IsLawfulJudging, opposite}
-use Rattle.nts_model.specs.Forms.{Form, a_constructor, a_function, a_value, an_alias, over, variances_over, pairs_over}
-use Rattle.nts_model.proofs.Alongside.{along_const, beside_number}
-use Rattle.nts_model.proofs.Fitting.{Fits-inst}
-use Rattle.nts_model.proofs.Forms.{deeply_resolved-over}
-use Rattle.nts_model.proofs.Kept.{variable_label}
-use Rattle.nts_model.proofs.ResolvedTerms.{Fits-deeply_resolved}
-use Rattle.nts_model.proofs.SettleRows.{settled_along, settled_one, settles_kind, settles_turned}
-use Rattle.nts_model.proofs.Variables.{infer_label}
+use Rattle.nts_model.specs.Terms.Trees.{Tree, empty, more, node, children, of_sort, label_of, shape, Meets}
+use Rattle.nts_model.specs.Tables.Contents.{Content}
+use Rattle.nts_model.specs.Tables.Resolving.{variable_tree, rooted, deeply_resolved, Knows, IsInfer}
+use Rattle.nts_model.specs.Terms.Fitting.{is_integer, is_float, HasLabel, Fits}
+use Rattle.nts_model.specs.Tables.Worlds.{World, inst, Solves}
+use Rattle.nts_model.specs.Derivations.Related.{times, first_variance, rest_variances}
+use Rattle.nts_model.specs.Variances.Relations.{Relating as Pair}
+use Rattle.nts_model.specs.Variances.Judging.{Judging, IsSettled, Settles, IsLawfulJudging, opposite}
+use Rattle.nts_model.specs.Variances.Forms.{Form, a_constructor, a_function, a_value, an_alias, over, variances_over, pairs_over}
+use Rattle.nts_model.proofs.Variances.Alongside.{along_const, beside_number}
+use Rattle.nts_model.proofs.Tables.Fitting.{Fits-inst}
+use Rattle.nts_model.proofs.Variances.Forms.{deeply_resolved-over}
+use Rattle.nts_model.proofs.Tables.Kept.{variable_label}
+use Rattle.nts_model.proofs.Tables.ResolvedTerms.{Fits-deeply_resolved}
+use Rattle.nts_model.proofs.Variances.SettleRows.{settled_along, settled_one, settles_kind, settles_turned}
+use Rattle.nts_model.proofs.Terms.Variables.{infer_label}
 use Rattle.nts_store.specs.Growth.{tree_at}
 use Rattle.nts_unify.specs.Entries.{Entries}
 use Rattle.nts_unify.specs.Reading.{content_of, IsLawful}

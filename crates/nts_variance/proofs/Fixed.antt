@@ -8,19 +8,19 @@ use Rattle.nts_model.specs.declared.labels.FreeRegion.TheVariants as region
 use Rattle.nts_model.specs.declared.labels.Leaf.TheVariants as leaf
 use Rattle.nts_model.specs.declared.labels.Label.{Label}
 use Rattle.nts_model.specs.declared.labels.Label.TheVariants as label
-use Rattle.nts_model.specs.Trees.{Tree, empty, more, node, any_label, is_infer}
-use Rattle.nts_model.specs.Contents.{Content}
-use Rattle.nts_model.specs.Resolving.{variable_of, number_of, deeply_resolved, Knows}
-use Rattle.nts_model.specs.Regions.{name_of_label, IsRegion}
-use Rattle.nts_model.specs.Placeholders.{CanName}
-use Rattle.nts_model.specs.Levels.{NamesAll, region_level}
-use Rattle.nts_model.specs.Worlds.{World, inst, placed}
-use Rattle.nts_model.specs.Holding.{Continues}
-use Rattle.nts_model.specs.Related.{region_constraint, one_tree}
-use Rattle.nts_model.specs.Judging.{Judging, IsSettled, Settles}
-use Rattle.nts_model.specs.Leaving.{Judge, judging_of}
-use Rattle.nts_model.proofs.Alongside.{RegionsAlone}
-use Rattle.nts_model.proofs.SettleRows.{settled_alone}
+use Rattle.nts_model.specs.Terms.Trees.{Tree, empty, more, node, any_label, is_infer}
+use Rattle.nts_model.specs.Tables.Contents.{Content}
+use Rattle.nts_model.specs.Tables.Resolving.{variable_of, number_of, deeply_resolved, Knows}
+use Rattle.nts_model.specs.Terms.Regions.{name_of_label, IsRegion}
+use Rattle.nts_model.specs.Terms.Placeholders.{CanName}
+use Rattle.nts_model.specs.Tables.Levels.{NamesAll, region_level}
+use Rattle.nts_model.specs.Tables.Worlds.{World, inst, placed}
+use Rattle.nts_model.specs.Tables.Holding.{Continues}
+use Rattle.nts_model.specs.Derivations.Related.{region_constraint, one_tree}
+use Rattle.nts_model.specs.Variances.Judging.{Judging, IsSettled, Settles}
+use Rattle.nts_model.specs.Variances.Leaving.{Judge, judging_of}
+use Rattle.nts_model.proofs.Variances.Alongside.{RegionsAlone}
+use Rattle.nts_model.proofs.Variances.SettleRows.{settled_alone}
 use Rattle.nts_store.specs.TypeFlags.{varies, varies_region}
 use Rattle.nts_relating.specs.Relating.{Generalized}
 use Rattle.nts_relating.proofs.GenLemmas.{resolved-no_infer}

@@ -15,22 +15,22 @@ use Rattle.nts_model.specs.declared.labels.Label.{Label}
 use Rattle.nts_model.specs.declared.labels.Label.TheVariants as label
 use Rattle.nts_model.specs.declared.labels.VariableKind.TheVariants as kind
 use Rattle.nts_model.specs.declared.labels.Leaf.TheVariants as leaf
-use Rattle.nts_model.specs.Trees.{Tree, empty, more, node, binders, kind_of, of_sort, shape, is_alias, any_term, FitsPlace, IsBoundBelow, IsClosed, IsClosedUnder, IsFormed, Meets}
-use Rattle.nts_model.specs.Contents.{Content}
-use Rattle.nts_model.specs.Resolving.{Knows, IsSound, value_at, variable_of, rooted, rooted_variable, resolved, deeply_resolved}
-use Rattle.nts_model.specs.Holding.{Continues}
-use Rattle.nts_model.specs.Related.{IsAlias, alias, arguments, pair, no_sorts, unbound, directed, direction_of}
-use Rattle.nts_model.specs.Relations.{Relating as Pair}
-use Rattle.nts_model.specs.Sequents.{Among}
-use Rattle.nts_model.specs.AnsweredGoals.{IsAnswered}
-use Rattle.nts_model.proofs.AliasLabels.{alias_is_alias}
-use Rattle.nts_model.proofs.Resolved.{deeply_resolved-node, deeply_resolved-empty}
-use Rattle.nts_model.proofs.Alike.{deeply_resolved-more}
-use Rattle.nts_model.proofs.Fitting.{IsClosed-values}
-use Rattle.nts_model.proofs.Open.{values_closed_of}
-use Rattle.nts_model.proofs.Kept.{kind_of-resolved, kind_of-rooted}
-use Rattle.nts_model.proofs.Slots.{Knows-kept}
-use Rattle.nts_model.proofs.SettleRows.{alias_or_none}
+use Rattle.nts_model.specs.Terms.Trees.{Tree, empty, more, node, binders, kind_of, of_sort, shape, is_alias, any_term, FitsPlace, IsBoundBelow, IsClosed, IsClosedUnder, IsFormed, Meets}
+use Rattle.nts_model.specs.Tables.Contents.{Content}
+use Rattle.nts_model.specs.Tables.Resolving.{Knows, IsSound, value_at, variable_of, rooted, rooted_variable, resolved, deeply_resolved}
+use Rattle.nts_model.specs.Tables.Holding.{Continues}
+use Rattle.nts_model.specs.Derivations.Related.{IsAlias, alias, arguments, pair, no_sorts, unbound, directed, direction_of}
+use Rattle.nts_model.specs.Variances.Relations.{Relating as Pair}
+use Rattle.nts_model.specs.Derivations.Sequents.{Among}
+use Rattle.nts_model.specs.Variances.AnsweredGoals.{IsAnswered}
+use Rattle.nts_model.proofs.Variances.AliasLabels.{alias_is_alias}
+use Rattle.nts_model.proofs.Tables.Resolved.{deeply_resolved-node, deeply_resolved-empty}
+use Rattle.nts_model.proofs.Tables.Alike.{deeply_resolved-more}
+use Rattle.nts_model.proofs.Tables.Fitting.{IsClosed-values}
+use Rattle.nts_model.proofs.Tables.Open.{values_closed_of}
+use Rattle.nts_model.proofs.Tables.Kept.{kind_of-resolved, kind_of-rooted}
+use Rattle.nts_model.proofs.Tables.Slots.{Knows-kept}
+use Rattle.nts_model.proofs.Variances.SettleRows.{alias_or_none}
 use Rattle.nts_store.specs.Growth.{tree_at, IsIn, Extends}
 use Rattle.nts_variance.specs.declared.along.Relating.{Relating as Goal}
 use Rattle.nts_variance.specs.Terms.{pair_at, IsGoal}

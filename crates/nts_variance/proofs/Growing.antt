@@ -1,12 +1,12 @@
 -- Tables that grow.
 use Rattle.std.proofs.Common.{◌≡◌, ◌≢◌, ℕ, ◌<◌, List, length, Some, sym, ◌∙◌, arith}
 use Rattle.nts_model.specs.declared.labels.VariableKind.TheVariants as kind
-use Rattle.nts_model.specs.Trees.{Tree}
-use Rattle.nts_model.specs.Contents.{Content, Slot, Recorded, unset, kind_at, with_slot}
-use Rattle.nts_model.specs.Resolving.{Knows}
-use Rattle.nts_model.proofs.Slots.{Knows-kept, KeepsKinds-with_slot}
-use Rattle.nts_model.proofs.Tying.{has_kind}
-use Rattle.nts_model.proofs.SubUnified.{JoinsSubRoots-refl}
+use Rattle.nts_model.specs.Terms.Trees.{Tree}
+use Rattle.nts_model.specs.Tables.Contents.{Content, Slot, Recorded, unset, kind_at, with_slot}
+use Rattle.nts_model.specs.Tables.Resolving.{Knows}
+use Rattle.nts_model.proofs.Tables.Slots.{Knows-kept, KeepsKinds-with_slot}
+use Rattle.nts_model.proofs.Tables.Tying.{has_kind}
+use Rattle.nts_model.proofs.Tables.SubUnified.{JoinsSubRoots-refl}
 use Rattle.std.proofs.Common.{length-append, [], ◌∷◌}
 use Rattle.nts_unify.specs.Changing.{IsLater, AddsVisible, nothing_more, one_more}
 use Rattle.nts_variance.specs.Walking.{IsGrown}

@@ -1,20 +1,20 @@
 -- Two variables that were made one, for a pair that is to be made equal.
 use Rattle.std.proofs.Common.{◌≡◌, ℕ, List, [], ◌∷◌, refl, sym, ap, ◌∙◌, subst}
 use Rattle.nts_model.specs.declared.labels.Variance.{Variance}
-use Rattle.nts_model.specs.Contents.{Content, kind_at}
-use Rattle.nts_model.specs.Trees.{Tree}
-use Rattle.nts_model.specs.Resolving.{IsSound, Knows, resolved, rooted, deeply_resolved, variable_tree}
-use Rattle.nts_model.specs.Worlds.{World, inst, Solves}
-use Rattle.nts_model.specs.Holding.{AreOne, Continues, HoldsConstraint}
-use Rattle.nts_model.specs.Related.{Related, one_tree}
-use Rattle.nts_model.specs.Sequents.{Among}
-use Rattle.nts_model.specs.Proving.{recorded_as}
-use Rattle.nts_model.specs.Judging.{IsSettled, Settles}
-use Rattle.nts_model.specs.Relations.{IsSettledWorld}
-use Rattle.nts_model.specs.Leaving.{Judge, judging_of}
-use Rattle.nts_model.proofs.Held.{AreOne-continues}
-use Rattle.nts_model.proofs.Slots.{Knows-kept, field_below}
-use Rattle.nts_model.proofs.Tied.{settled_tied}
+use Rattle.nts_model.specs.Tables.Contents.{Content, kind_at}
+use Rattle.nts_model.specs.Terms.Trees.{Tree}
+use Rattle.nts_model.specs.Tables.Resolving.{IsSound, Knows, resolved, rooted, deeply_resolved, variable_tree}
+use Rattle.nts_model.specs.Tables.Worlds.{World, inst, Solves}
+use Rattle.nts_model.specs.Tables.Holding.{AreOne, Continues, HoldsConstraint}
+use Rattle.nts_model.specs.Derivations.Related.{Related, one_tree}
+use Rattle.nts_model.specs.Derivations.Sequents.{Among}
+use Rattle.nts_model.specs.Derivations.Proving.{recorded_as}
+use Rattle.nts_model.specs.Variances.Judging.{IsSettled, Settles}
+use Rattle.nts_model.specs.Variances.Relations.{IsSettledWorld}
+use Rattle.nts_model.specs.Variances.Leaving.{Judge, judging_of}
+use Rattle.nts_model.proofs.Tables.Held.{AreOne-continues}
+use Rattle.nts_model.proofs.Tables.Slots.{Knows-kept, field_below}
+use Rattle.nts_model.proofs.Variances.Tied.{settled_tied}
 use Rattle.nts_unify.specs.Entries.{Entries}
 use Rattle.nts_unify.specs.Reading.{content_of, IsLawful}
 use Rattle.nts_unify.proofs.Changes.{some_inj}

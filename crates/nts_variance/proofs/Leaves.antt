@@ -20,35 +20,35 @@ use Rattle.nts_model.specs.declared.labels.ListHead.{ListHead}
 use Rattle.nts_model.specs.declared.labels.ListHead.TheVariants as list
 use Rattle.nts_model.specs.declared.labels.Label.{Label}
 use Rattle.nts_model.specs.declared.labels.Label.TheVariants as label
-use Rattle.nts_model.specs.Trees.{Tree, empty, more, node, kind_of, of_sort, kind_of_label, sort_of_variable, label_of, any_label, is_alias, in_order, shape, HavePlaces, Meets, IsClosed, IsFormed}
-use Rattle.nts_model.specs.Contents.{Content, Slot, unset, Recorded, with_slot, with_constraint}
-use Rattle.nts_model.specs.Resolving.{variable_of, number_of, variable_tree, IsInfer, resolved, deeply_resolved, Knows, KnowsVariable, IsSound}
-use Rattle.nts_model.specs.Levels.{NamesAll, term_level, region_level}
-use Rattle.nts_model.specs.Fitting.{Fits, is_integer, is_float, HasLabel}
-use Rattle.nts_model.specs.Regions.{of_free, name_of_label, IsRegion}
-use Rattle.nts_model.specs.Worlds.{World, renamed, placed, inst, IsValue, IsMet, Solves, KnowsAll}
-use Rattle.nts_model.specs.Holding.{Continues, IsRecorded, HoldsConstraint}
-use Rattle.nts_model.specs.Related.{region_constraint, IsAlias, one_tree, regions}
-use Rattle.nts_model.specs.Judging.{Judging, IsSettled, Settles, IsLawfulJudging, opposite}
-use Rattle.nts_model.specs.Proving.{recorded_as}
-use Rattle.nts_model.specs.Relations.{Relating, AllKnown, IsJudgedBy, IsSettledWorld}
-use Rattle.nts_model.specs.Leaving.{Judge, judging_of}
-use Rattle.nts_model.specs.Solvable.{IsSolvable}
-use Rattle.nts_model.specs.Substitutions.{leaf_tree}
-use Rattle.nts_model.specs.Measuring.{closed_aliases}
-use Rattle.nts_model.proofs.Variables.{infer_of_none}
-use Rattle.nts_model.proofs.Slots.{KeepsKinds, KeepsKinds-with_slot, Knows-kept, field_below, field-with_slot_new}
-use Rattle.nts_model.proofs.Instances.{inst-node, inst-agrees, Agrees-refl}
-use Rattle.nts_model.proofs.Resolved.{deeply_resolved-deeply_resolved}
-use Rattle.nts_model.proofs.Sound.{resolved-same, SameStates-with_constraint, resolved-with_slot, IsSound-with_slot}
-use Rattle.nts_model.proofs.Solving.{Solves-from_with_slot, Solves-with_constraint, Solves-from_with_constraint}
-use Rattle.nts_model.proofs.Held.{Continues-refl, Continues-trans, Continues-with_slot, Continues-with_constraint}
-use Rattle.nts_model.proofs.Fitting.{region_label, IsValue-variable, Fits-inst, IsValue-inst}
-use Rattle.nts_model.proofs.Alike.{IsRegion-deeply_resolved}
-use Rattle.nts_model.proofs.AliasLabels.{not_alias, region_closed, region_kind}
-use Rattle.nts_model.proofs.Alongside.{beside_leaf, beside_number}
-use Rattle.nts_model.proofs.SettleRows.{settled_along, settles_kind, settles_closed, region_beside, regions_settle}
-use Rattle.nts_model.proofs.Generalizing.{owed, judged_agrees, owed_met, FreshIn, fresh_in}
+use Rattle.nts_model.specs.Terms.Trees.{Tree, empty, more, node, kind_of, of_sort, kind_of_label, sort_of_variable, label_of, any_label, is_alias, in_order, shape, HavePlaces, Meets, IsClosed, IsFormed}
+use Rattle.nts_model.specs.Tables.Contents.{Content, Slot, unset, Recorded, with_slot, with_constraint}
+use Rattle.nts_model.specs.Tables.Resolving.{variable_of, number_of, variable_tree, IsInfer, resolved, deeply_resolved, Knows, KnowsVariable, IsSound}
+use Rattle.nts_model.specs.Tables.Levels.{NamesAll, term_level, region_level}
+use Rattle.nts_model.specs.Terms.Fitting.{Fits, is_integer, is_float, HasLabel}
+use Rattle.nts_model.specs.Terms.Regions.{of_free, name_of_label, IsRegion}
+use Rattle.nts_model.specs.Tables.Worlds.{World, renamed, placed, inst, IsValue, IsMet, Solves, KnowsAll}
+use Rattle.nts_model.specs.Tables.Holding.{Continues, IsRecorded, HoldsConstraint}
+use Rattle.nts_model.specs.Derivations.Related.{region_constraint, IsAlias, one_tree, regions}
+use Rattle.nts_model.specs.Variances.Judging.{Judging, IsSettled, Settles, IsLawfulJudging, opposite}
+use Rattle.nts_model.specs.Derivations.Proving.{recorded_as}
+use Rattle.nts_model.specs.Variances.Relations.{Relating, AllKnown, IsJudgedBy, IsSettledWorld}
+use Rattle.nts_model.specs.Variances.Leaving.{Judge, judging_of}
+use Rattle.nts_model.specs.Tables.Solvable.{IsSolvable}
+use Rattle.nts_model.specs.Terms.Substitutions.{leaf_tree}
+use Rattle.nts_model.specs.Tables.Measuring.{closed_aliases}
+use Rattle.nts_model.proofs.Terms.Variables.{infer_of_none}
+use Rattle.nts_model.proofs.Tables.Slots.{KeepsKinds, KeepsKinds-with_slot, Knows-kept, field_below, field-with_slot_new}
+use Rattle.nts_model.proofs.Tables.Instances.{inst-node, inst-agrees, Agrees-refl}
+use Rattle.nts_model.proofs.Tables.Resolved.{deeply_resolved-deeply_resolved}
+use Rattle.nts_model.proofs.Tables.Sound.{resolved-same, SameStates-with_constraint, resolved-with_slot, IsSound-with_slot}
+use Rattle.nts_model.proofs.Tables.Solving.{Solves-from_with_slot, Solves-with_constraint, Solves-from_with_constraint}
+use Rattle.nts_model.proofs.Tables.Held.{Continues-refl, Continues-trans, Continues-with_slot, Continues-with_constraint}
+use Rattle.nts_model.proofs.Tables.Fitting.{region_label, IsValue-variable, Fits-inst, IsValue-inst}
+use Rattle.nts_model.proofs.Tables.Alike.{IsRegion-deeply_resolved}
+use Rattle.nts_model.proofs.Variances.AliasLabels.{not_alias, region_closed, region_kind}
+use Rattle.nts_model.proofs.Variances.Alongside.{beside_leaf, beside_number}
+use Rattle.nts_model.proofs.Variances.SettleRows.{settled_along, settles_kind, settles_closed, region_beside, regions_settle}
+use Rattle.nts_model.proofs.Variances.Generalizing.{owed, judged_agrees, owed_met, FreshIn, fresh_in}
 use Rattle.nts_unify.specs.Changing.{IsSeen, is_free_region}
 use Rattle.nts_unify.proofs.Keeping.{Keeps-with_constraint}
 use Rattle.nts_variance.proofs.Clean.{clean_leaf, clean_erased, clean_unset, clean_number}

@@ -11,17 +11,17 @@ use Rattle.nts_model.specs.declared.labels.ListHead.TheVariants as list
 use Rattle.nts_model.specs.declared.labels.TyHead.TheVariants as ty
 use Rattle.nts_model.specs.declared.labels.Label.{Label}
 use Rattle.nts_model.specs.declared.labels.Label.TheVariants as label
-use Rattle.nts_model.specs.Trees.{Tree, empty, more, node, size, binders, is_alias, IsBoundBelow, IsClosedUnder, IsClosed, IsFormed}
-use Rattle.nts_model.specs.Contents.{Content}
-use Rattle.nts_model.specs.Resolving.{infer_of, resolved, Knows}
-use Rattle.nts_model.specs.Related.{rest_variances, arguments}
-use Rattle.nts_model.specs.Relations.{Relating as Pair, AllKnown}
-use Rattle.nts_model.specs.Forms.{Form, a_constructor, a_function, a_value, an_alias, over, FitsForm, pairs_over}
-use Rattle.nts_model.specs.Measuring.{is_less, is_bound_below, unless_variable, closed_under, counted, closed_aliases}
-use Rattle.nts_model.proofs.Kept.{variable_label}
-use Rattle.nts_model.proofs.Resolved.{resolved-empty, resolved-more, resolved-node}
-use Rattle.nts_model.proofs.Substituting.{no_children}
-use Rattle.nts_model.proofs.Variables.{infer_label}
+use Rattle.nts_model.specs.Terms.Trees.{Tree, empty, more, node, size, binders, is_alias, IsBoundBelow, IsClosedUnder, IsClosed, IsFormed}
+use Rattle.nts_model.specs.Tables.Contents.{Content}
+use Rattle.nts_model.specs.Tables.Resolving.{infer_of, resolved, Knows}
+use Rattle.nts_model.specs.Derivations.Related.{rest_variances, arguments}
+use Rattle.nts_model.specs.Variances.Relations.{Relating as Pair, AllKnown}
+use Rattle.nts_model.specs.Variances.Forms.{Form, a_constructor, a_function, a_value, an_alias, over, FitsForm, pairs_over}
+use Rattle.nts_model.specs.Tables.Measuring.{is_less, is_bound_below, unless_variable, closed_under, counted, closed_aliases}
+use Rattle.nts_model.proofs.Tables.Kept.{variable_label}
+use Rattle.nts_model.proofs.Tables.Resolved.{resolved-empty, resolved-more, resolved-node}
+use Rattle.nts_model.proofs.Terms.Substituting.{no_children}
+use Rattle.nts_model.proofs.Terms.Variables.{infer_label}
 use Rattle.nts_unify.specs.Changing.{Keeps}
 use Rattle.nts_variance.specs.Equating.{aliases_of, sizes_of, unsolved}
 

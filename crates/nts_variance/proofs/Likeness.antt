@@ -11,30 +11,30 @@ use Rattle.nts_model.specs.declared.labels.ConstHead.TheVariants as konst
 use Rattle.nts_model.specs.declared.labels.ListHead.TheVariants as list
 use Rattle.nts_model.specs.declared.labels.Label.{Label}
 use Rattle.nts_model.specs.declared.labels.Label.TheVariants as label
-use Rattle.nts_model.specs.Trees.{Tree, empty, more, node, size, NodeKind, kind_of, kind_of_label, of_sort, arguments, sort_list, any_label, is_alias, is, a_type, any_argument, FitsPlace, HavePlaces, AllFit, IsRow, shape, IsFormed}
-use Rattle.nts_model.specs.Contents.{Content}
-use Rattle.nts_model.specs.Resolving.{resolved, deeply_resolved, Knows, IsSound}
-use Rattle.nts_model.specs.Regions.{RegionName, name_of_label, IsRegion}
-use Rattle.nts_model.specs.Holding.{HoldsConstraint, Continues}
-use Rattle.nts_model.specs.Solvable.{IsSolvable}
-use Rattle.nts_model.specs.Alike.{Alike, one_tree as one, two_regions, one_label, two_rows, HoldsEqual, AreAlike}
-use Rattle.nts_model.specs.Related.{rest_variances, constructor, function, function_variances, value, AreRelated, one_tree, regions, constructors, functions, values, no_more, and_more}
-use Rattle.nts_model.specs.Related.{arguments as arguments_of}
-use Rattle.nts_model.specs.Sequents.{Among}
-use Rattle.nts_model.specs.Proving.{recorded_as}
-use Rattle.nts_model.specs.Judging.{opposite}
-use Rattle.nts_model.specs.Forms.{a_constructor, a_function, a_value}
-use Rattle.nts_model.proofs.Substituting.{no_children}
-use Rattle.nts_model.proofs.AliasLabels.{region_tree_of, region_kind}
-use Rattle.nts_model.proofs.Resolved.{deeply_resolved-empty, deeply_resolved-deeply_resolved}
-use Rattle.nts_model.proofs.Open.{Knows-deeply_resolved}
-use Rattle.nts_model.proofs.Alike.{deeply_resolved-more, IsRow-deeply_resolved, IsRegion-deeply_resolved, HoldsEqual-one, HoldsEqual-continues, AreAlike-turned}
-use Rattle.nts_model.proofs.AlikeRelated.{arguments_in, IsNodeLike, that_node, that_region, that_label, node_like, IsRowLike, that_row, that_first, row_like, empty_like, arguments_like, sort_list_like}
-use Rattle.nts_model.proofs.Unpositioned.{known_no_positions, known_well_bound, IsFormedTerm, formed_term, term_formed}
-use Rattle.nts_model.proofs.Fitting.{region_label}
-use Rattle.nts_model.proofs.Kept.{kind_of-deeply_resolved}
-use Rattle.nts_model.proofs.ResolvedTerms.{IsFormed-deeply_resolved}
-use Rattle.nts_model.proofs.Forms.{deeply_resolved-over}
+use Rattle.nts_model.specs.Terms.Trees.{Tree, empty, more, node, size, NodeKind, kind_of, kind_of_label, of_sort, arguments, sort_list, any_label, is_alias, is, a_type, any_argument, FitsPlace, HavePlaces, AllFit, IsRow, shape, IsFormed}
+use Rattle.nts_model.specs.Tables.Contents.{Content}
+use Rattle.nts_model.specs.Tables.Resolving.{resolved, deeply_resolved, Knows, IsSound}
+use Rattle.nts_model.specs.Terms.Regions.{RegionName, name_of_label, IsRegion}
+use Rattle.nts_model.specs.Tables.Holding.{HoldsConstraint, Continues}
+use Rattle.nts_model.specs.Tables.Solvable.{IsSolvable}
+use Rattle.nts_model.specs.Tables.Alike.{Alike, one_tree as one, two_regions, one_label, two_rows, HoldsEqual, AreAlike}
+use Rattle.nts_model.specs.Derivations.Related.{rest_variances, constructor, function, function_variances, value, AreRelated, one_tree, regions, constructors, functions, values, no_more, and_more}
+use Rattle.nts_model.specs.Derivations.Related.{arguments as arguments_of}
+use Rattle.nts_model.specs.Derivations.Sequents.{Among}
+use Rattle.nts_model.specs.Derivations.Proving.{recorded_as}
+use Rattle.nts_model.specs.Variances.Judging.{opposite}
+use Rattle.nts_model.specs.Variances.Forms.{a_constructor, a_function, a_value}
+use Rattle.nts_model.proofs.Terms.Substituting.{no_children}
+use Rattle.nts_model.proofs.Variances.AliasLabels.{region_tree_of, region_kind}
+use Rattle.nts_model.proofs.Tables.Resolved.{deeply_resolved-empty, deeply_resolved-deeply_resolved}
+use Rattle.nts_model.proofs.Tables.Open.{Knows-deeply_resolved}
+use Rattle.nts_model.proofs.Tables.Alike.{deeply_resolved-more, IsRow-deeply_resolved, IsRegion-deeply_resolved, HoldsEqual-one, HoldsEqual-continues, AreAlike-turned}
+use Rattle.nts_model.proofs.Derivations.AlikeRelated.{arguments_in, IsNodeLike, that_node, that_region, that_label, node_like, IsRowLike, that_row, that_first, row_like, empty_like, arguments_like, sort_list_like}
+use Rattle.nts_model.proofs.Terms.Unpositioned.{known_no_positions, known_well_bound, IsFormedTerm, formed_term, term_formed}
+use Rattle.nts_model.proofs.Tables.Fitting.{region_label}
+use Rattle.nts_model.proofs.Tables.Kept.{kind_of-deeply_resolved}
+use Rattle.nts_model.proofs.Tables.ResolvedTerms.{IsFormed-deeply_resolved}
+use Rattle.nts_model.proofs.Variances.Forms.{deeply_resolved-over}
 use Rattle.nts_relating.proofs.Plain.{plain_rooted}
 use Rattle.nts_relating.specs.Relating.{IsLike}
 use Rattle.nts_relating.proofs.Ranks.{kind_of-like, like_of-kinds}

@@ -19,16 +19,16 @@ use Rattle.nts_model.specs.declared.labels.ConstHead.TheVariants as konst
 use Rattle.nts_model.specs.declared.labels.ListHead.TheVariants as list
 use Rattle.nts_model.specs.declared.labels.Label.{Label}
 use Rattle.nts_model.specs.declared.labels.Label.TheVariants as label
-use Rattle.nts_model.specs.Trees.{Tree, empty, more, node, kind_of, kind_of_label, of_sort, sort_of_variable, label_of, children, any_label, is_alias, is_infer, in_order, shape, Meets, IsClosed, IsFormed}
-use Rattle.nts_model.specs.Contents.{Content, Slot, kind_at, with_slot, with_constraint}
-use Rattle.nts_model.specs.Resolving.{infer_of, variable_tree, IsInfer, Knows, KnowsVariable, resolved}
-use Rattle.nts_model.specs.Regions.{IsRegion}
-use Rattle.nts_model.specs.Related.{IsAlias}
-use Rattle.nts_model.specs.Relations.{AllKnown}
-use Rattle.nts_model.specs.Forms.{FitsForm}
-use Rattle.nts_model.proofs.Variables.{infer_label}
-use Rattle.nts_model.proofs.Slots.{field_below, field-with_slot_old}
-use Rattle.nts_model.proofs.Substituting.{no_children}
+use Rattle.nts_model.specs.Terms.Trees.{Tree, empty, more, node, kind_of, kind_of_label, of_sort, sort_of_variable, label_of, children, any_label, is_alias, is_infer, in_order, shape, Meets, IsClosed, IsFormed}
+use Rattle.nts_model.specs.Tables.Contents.{Content, Slot, kind_at, with_slot, with_constraint}
+use Rattle.nts_model.specs.Tables.Resolving.{infer_of, variable_tree, IsInfer, Knows, KnowsVariable, resolved}
+use Rattle.nts_model.specs.Terms.Regions.{IsRegion}
+use Rattle.nts_model.specs.Derivations.Related.{IsAlias}
+use Rattle.nts_model.specs.Variances.Relations.{AllKnown}
+use Rattle.nts_model.specs.Variances.Forms.{FitsForm}
+use Rattle.nts_model.proofs.Terms.Variables.{infer_label}
+use Rattle.nts_model.proofs.Tables.Slots.{field_below, field-with_slot_old}
+use Rattle.nts_model.proofs.Terms.Substituting.{no_children}
 use Rattle.nts_store.specs.declared.nodes.NodeId.{NodeId}
 use Rattle.nts_store.specs.Growth.{tree_at, IsIn, Extends}
 use Rattle.nts_store.specs.declared.type_flags.TypeFlags.{TypeFlags}

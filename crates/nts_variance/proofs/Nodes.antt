@@ -9,35 +9,35 @@ use Rattle.nts_model.specs.declared.labels.ConstHead.TheVariants as konst
 use Rattle.nts_model.specs.declared.labels.ListHead.TheVariants as list
 use Rattle.nts_model.specs.declared.labels.Label.{Label}
 use Rattle.nts_model.specs.declared.labels.Label.TheVariants as label
-use Rattle.nts_model.specs.Trees.{Tree, empty, more, node, size, NodeKind, kind_of, binders, IsRow, row_length, Place, a_type, FitsPlace, HavePlaces, AllFit, IsClosedUnder, IsClosed, IsFormed}
-use Rattle.nts_model.specs.Scoping.{KeepsListed}
-use Rattle.nts_model.specs.Contents.{Content}
-use Rattle.nts_model.specs.Resolving.{IsInfer, Knows, IsSound, resolved, rooted, deeply_resolved, variable_rank}
-use Rattle.nts_model.specs.Levels.{NamesAll}
-use Rattle.nts_model.specs.Worlds.{World, inst, Solves}
-use Rattle.nts_model.specs.Holding.{HoldsConstraint}
-use Rattle.nts_model.specs.Related.{Constraint, times, first_variance, rest_variances, alias, arguments, alias_label, Related, AreRelated, one_tree, regions, constructors, functions, values, open_aliases, aliases, subtypes, no_more, and_more}
-use Rattle.nts_model.specs.Judging.{Judging, IsSettled, Settles, AllSettle, IsLawfulJudging, opposite}
-use Rattle.nts_model.specs.Relations.{Relating, SettlesIn}
-use Rattle.nts_model.specs.AnsweredGoals.{IsAnswered}
-use Rattle.nts_model.specs.Sequents.{Among}
-use Rattle.nts_model.specs.Proving.{recorded_as}
-use Rattle.nts_model.specs.Leaving.{judging_of}
-use Rattle.nts_model.specs.Forms.{Form, a_constructor, a_function, a_value, an_alias, over, variances_over, FitsForm}
-use Rattle.nts_model.proofs.Slots.{KeepsKinds, Knows-kept}
-use Rattle.nts_model.proofs.Fitting.{IsClosed-under}
-use Rattle.nts_model.proofs.AliasLabels.{region_closed}
-use Rattle.nts_model.proofs.Resolved.{resolved-more, resolved-node, rank_le, deeply_resolved-node, deeply_resolved-empty}
-use Rattle.nts_model.proofs.Alike.{deeply_resolved-more, IsRow-deeply_resolved, row_length-deeply_resolved}
-use Rattle.nts_model.proofs.Instances.{Agrees-refl}
-use Rattle.nts_model.proofs.Held.{Continues-refl}
-use Rattle.nts_model.proofs.Settling.{normalizes_itself}
-use Rattle.nts_model.proofs.Alongside.{along_empty}
-use Rattle.nts_model.proofs.Scoping.{closed_listed}
-use Rattle.nts_model.proofs.AnsweredGoals.{answered_relates}
-use Rattle.nts_model.proofs.Generalizing.{settle_joined}
-use Rattle.nts_model.proofs.SettleRows.{settles_turned, empty_forward, more_beside}
-use Rattle.nts_model.proofs.Forms.{IsRow-inst, row_length-inst, inst-over, FitsForm-inst, deeply_resolved-over, FitsForm-deeply_resolved, variances_over_length, variances_over_inst, variances_over_resolved, Knows-over, KeepsListed-over, related_over, form_beside}
+use Rattle.nts_model.specs.Terms.Trees.{Tree, empty, more, node, size, NodeKind, kind_of, binders, IsRow, row_length, Place, a_type, FitsPlace, HavePlaces, AllFit, IsClosedUnder, IsClosed, IsFormed}
+use Rattle.nts_model.specs.Terms.Scoping.{KeepsListed}
+use Rattle.nts_model.specs.Tables.Contents.{Content}
+use Rattle.nts_model.specs.Tables.Resolving.{IsInfer, Knows, IsSound, resolved, rooted, deeply_resolved, variable_rank}
+use Rattle.nts_model.specs.Tables.Levels.{NamesAll}
+use Rattle.nts_model.specs.Tables.Worlds.{World, inst, Solves}
+use Rattle.nts_model.specs.Tables.Holding.{HoldsConstraint}
+use Rattle.nts_model.specs.Derivations.Related.{Constraint, times, first_variance, rest_variances, alias, arguments, alias_label, Related, AreRelated, one_tree, regions, constructors, functions, values, open_aliases, aliases, subtypes, no_more, and_more}
+use Rattle.nts_model.specs.Variances.Judging.{Judging, IsSettled, Settles, AllSettle, IsLawfulJudging, opposite}
+use Rattle.nts_model.specs.Variances.Relations.{Relating, SettlesIn}
+use Rattle.nts_model.specs.Variances.AnsweredGoals.{IsAnswered}
+use Rattle.nts_model.specs.Derivations.Sequents.{Among}
+use Rattle.nts_model.specs.Derivations.Proving.{recorded_as}
+use Rattle.nts_model.specs.Variances.Leaving.{judging_of}
+use Rattle.nts_model.specs.Variances.Forms.{Form, a_constructor, a_function, a_value, an_alias, over, variances_over, FitsForm}
+use Rattle.nts_model.proofs.Tables.Slots.{KeepsKinds, Knows-kept}
+use Rattle.nts_model.proofs.Tables.Fitting.{IsClosed-under}
+use Rattle.nts_model.proofs.Variances.AliasLabels.{region_closed}
+use Rattle.nts_model.proofs.Tables.Resolved.{resolved-more, resolved-node, rank_le, deeply_resolved-node, deeply_resolved-empty}
+use Rattle.nts_model.proofs.Tables.Alike.{deeply_resolved-more, IsRow-deeply_resolved, row_length-deeply_resolved}
+use Rattle.nts_model.proofs.Tables.Instances.{Agrees-refl}
+use Rattle.nts_model.proofs.Tables.Held.{Continues-refl}
+use Rattle.nts_model.proofs.Variances.Settling.{normalizes_itself}
+use Rattle.nts_model.proofs.Variances.Alongside.{along_empty}
+use Rattle.nts_model.proofs.Terms.Scoping.{closed_listed}
+use Rattle.nts_model.proofs.Variances.AnsweredGoals.{answered_relates}
+use Rattle.nts_model.proofs.Variances.Generalizing.{settle_joined}
+use Rattle.nts_model.proofs.Variances.SettleRows.{settles_turned, empty_forward, more_beside}
+use Rattle.nts_model.proofs.Variances.Forms.{IsRow-inst, row_length-inst, inst-over, FitsForm-inst, deeply_resolved-over, FitsForm-deeply_resolved, variances_over_length, variances_over_inst, variances_over_resolved, Knows-over, KeepsListed-over, related_over, form_beside}
 use Rattle.nts_variance.proofs.Growing.{grown_refl}
 use Rattle.nts_variance.specs.Steps.{Step, enter, build, owe, steps_of, popped, unpopped, entering, part_place, PartsFit, kinds_left, kind_over, EndsAlone, HasSorts, builds, sizes, Runs, ended, entered, built, owed, MadeForRow}
 use Rattle.nts_variance.specs.Walking.{IsMadeFor, MadeIn, NothingOwed, RelatedTrees, RelatedSides, StandsBy, OwedBy, IsChoice, SettlesOwed, sides, weights, KnowsSteps, Walks}

@@ -1,13 +1,13 @@
 -- The pairs of the parts of two nodes, as they are pushed one by one from the last.
 use Rattle.std.proofs.Common.{◌≡◌, ℕ, ◌+◌, ◌<◌, List, [], ◌∷◌, ◌++◌, refl, sym, ap, ◌∙◌, subst}
 use Rattle.nts_model.specs.declared.labels.Variance.{Variance}
-use Rattle.nts_model.specs.Trees.{Tree, empty, more, row_at, row_length, IsRow, IsFormed}
-use Rattle.nts_model.specs.Contents.{Content}
-use Rattle.nts_model.specs.Resolving.{Knows}
-use Rattle.nts_model.specs.Related.{times, first_variance, rest_variances}
-use Rattle.nts_model.specs.Forms.{over, pairs_over}
-use Rattle.nts_model.specs.Relations.{Relating as Pair}
-use Rattle.nts_model.proofs.Resolved.{Knows-row_at}
+use Rattle.nts_model.specs.Terms.Trees.{Tree, empty, more, row_at, row_length, IsRow, IsFormed}
+use Rattle.nts_model.specs.Tables.Contents.{Content}
+use Rattle.nts_model.specs.Tables.Resolving.{Knows}
+use Rattle.nts_model.specs.Derivations.Related.{times, first_variance, rest_variances}
+use Rattle.nts_model.specs.Variances.Forms.{over, pairs_over}
+use Rattle.nts_model.specs.Variances.Relations.{Relating as Pair}
+use Rattle.nts_model.proofs.Tables.Resolved.{Knows-row_at}
 use Rattle.nts_store.specs.declared.nodes.NodeId.{NodeId}
 use Rattle.nts_store.specs.Growth.{tree_at, IsIn}
 use Rattle.nts_relating.specs.Knowing.{row_from}

@@ -5,24 +5,24 @@ use Rattle.nts_model.specs.declared.labels.Variance.{Variance}
 use Rattle.nts_model.specs.declared.labels.Variance.TheVariants as variance
 use Rattle.nts_model.specs.declared.labels.VariableKind.{VariableKind}
 use Rattle.nts_model.specs.declared.labels.Label.{Label}
-use Rattle.nts_model.specs.Trees.{Tree, empty}
-use Rattle.nts_model.specs.Contents.{Content, universe_of, kind_at}
-use Rattle.nts_model.specs.Resolving.{variable_tree, IsSound}
-use Rattle.nts_model.specs.Levels.{NamesAll, IfNamesAll, term_level}
-use Rattle.nts_model.specs.Worlds.{World, inst, IsNameable, Solves}
-use Rattle.nts_model.specs.Equations.{AreRelated, AreUnrelated}
-use Rattle.nts_model.specs.Tying.{TiesNew}
-use Rattle.nts_model.specs.Related.{region_constraint}
-use Rattle.nts_model.specs.RelatingBy.{IsTrueIn}
-use Rattle.nts_model.specs.Judging.{Judging, IsSettled, Settles, IsLawfulJudging, opposite}
-use Rattle.nts_model.specs.Relations.{Relating, SettlesIn, AllSettleIn, AllKnown, IsSettledWorld, SettledExtension, RefusesBy}
-use Rattle.nts_model.specs.Leaving.{Judge, judging_of, LeavesBy}
-use Rattle.nts_model.proofs.Slots.{field_below}
-use Rattle.nts_model.proofs.Instances.{Agrees-refl, Agrees-trans}
-use Rattle.nts_model.proofs.Alongside.{opposite_twice}
-use Rattle.nts_model.proofs.SettleRows.{settles_turned}
-use Rattle.nts_model.proofs.Generalizing.{settle_agrees, settle_joined, settle_parted}
-use Rattle.nts_model.proofs.Tied.{settled_tied}
+use Rattle.nts_model.specs.Terms.Trees.{Tree, empty}
+use Rattle.nts_model.specs.Tables.Contents.{Content, universe_of, kind_at}
+use Rattle.nts_model.specs.Tables.Resolving.{variable_tree, IsSound}
+use Rattle.nts_model.specs.Tables.Levels.{NamesAll, IfNamesAll, term_level}
+use Rattle.nts_model.specs.Tables.Worlds.{World, inst, IsNameable, Solves}
+use Rattle.nts_model.specs.Tables.Equations.{AreRelated, AreUnrelated}
+use Rattle.nts_model.specs.Tables.Tying.{TiesNew}
+use Rattle.nts_model.specs.Derivations.Related.{region_constraint}
+use Rattle.nts_model.specs.Variances.RelatingBy.{IsTrueIn}
+use Rattle.nts_model.specs.Variances.Judging.{Judging, IsSettled, Settles, IsLawfulJudging, opposite}
+use Rattle.nts_model.specs.Variances.Relations.{Relating, SettlesIn, AllSettleIn, AllKnown, IsSettledWorld, SettledExtension, RefusesBy}
+use Rattle.nts_model.specs.Variances.Leaving.{Judge, judging_of, LeavesBy}
+use Rattle.nts_model.proofs.Tables.Slots.{field_below}
+use Rattle.nts_model.proofs.Tables.Instances.{Agrees-refl, Agrees-trans}
+use Rattle.nts_model.proofs.Variances.Alongside.{opposite_twice}
+use Rattle.nts_model.proofs.Variances.SettleRows.{settles_turned}
+use Rattle.nts_model.proofs.Variances.Generalizing.{settle_agrees, settle_joined, settle_parted}
+use Rattle.nts_model.proofs.Variances.Tied.{settled_tied}
 use Rattle.nts_variance.specs.Steps.{Step, enter, Runs, ended, entered, built, owed}
 use Rattle.nts_variance.specs.Walking.{Judges, IsChoice, sides, Walks}
 use Rattle.nts_variance.specs.Pairs.{Leaves, Refuses}

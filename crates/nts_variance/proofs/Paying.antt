@@ -4,12 +4,12 @@ use Rattle.std.specs.Prelude.{OnOk}
 use Rattle.nts_model.specs.declared.labels.Variance.{Variance}
 use Rattle.nts_model.specs.declared.labels.Variance.TheVariants as variance
 use Rattle.nts_model.specs.declared.labels.VariableKind.{VariableKind}
-use Rattle.nts_model.specs.Trees.{Tree}
-use Rattle.nts_model.specs.Resolving.{Knows, resolved}
-use Rattle.nts_model.specs.Measuring.{closed_aliases}
-use Rattle.nts_model.specs.Contents.{Content}
-use Rattle.nts_model.specs.Related.{IsAlias}
-use Rattle.nts_model.specs.Relations.{Relating as Pair}
+use Rattle.nts_model.specs.Terms.Trees.{Tree}
+use Rattle.nts_model.specs.Tables.Resolving.{Knows, resolved}
+use Rattle.nts_model.specs.Tables.Measuring.{closed_aliases}
+use Rattle.nts_model.specs.Tables.Contents.{Content}
+use Rattle.nts_model.specs.Derivations.Related.{IsAlias}
+use Rattle.nts_model.specs.Variances.Relations.{Relating as Pair}
 use Rattle.nts_store.specs.declared.nodes.NodeId.{NodeId}
 use Rattle.nts_store.specs.Growth.{tree_at}
 use Rattle.nts_unify.specs.Entries.{Entries}

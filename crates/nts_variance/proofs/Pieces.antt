@@ -6,24 +6,24 @@ use Rattle.nts_model.specs.declared.labels.Variance.{Variance}
 use Rattle.nts_model.specs.declared.labels.Variance.TheVariants as variance
 use Rattle.nts_model.specs.declared.labels.VariableKind.{VariableKind}
 use Rattle.nts_model.specs.declared.labels.VariableKind.TheVariants as kind
-use Rattle.nts_model.specs.Trees.{Tree, size, kind_of, of_sort, any_label, is_alias, is_infer, IsClosedUnder, IsFormed}
-use Rattle.nts_model.specs.Contents.{Content, unset, state_of}
-use Rattle.nts_model.specs.Resolving.{variable_tree, variable_flag, IsInfer, resolved, Knows, IsSound}
-use Rattle.nts_model.specs.Levels.{NamesAll, term_level, region_level}
-use Rattle.nts_model.specs.Worlds.{World, inst, Solves}
-use Rattle.nts_model.specs.Solvable.{IsSolvable}
-use Rattle.nts_model.specs.Judging.{IsSettled, Settles}
-use Rattle.nts_model.specs.Relations.{IsSettledWorld}
-use Rattle.nts_model.specs.Leaving.{Judge, judging_of}
-use Rattle.nts_model.proofs.Slots.{Knows-kept}
-use Rattle.nts_model.proofs.Scoping.{listed_patched}
-use Rattle.nts_model.proofs.Resolved.{no_rank, rank_none, no_flag, flag_le}
-use Rattle.nts_model.proofs.Instances.{inst-agrees}
-use Rattle.nts_model.proofs.Fitting.{Fits-inst, IsClosed-inst}
-use Rattle.nts_model.proofs.Held.{Continues-refl}
-use Rattle.nts_model.proofs.Alongside.{along_const}
-use Rattle.nts_model.proofs.SettleRows.{settled_one, settled_along, settles_kind}
-use Rattle.nts_model.proofs.Tied.{settled_tied}
+use Rattle.nts_model.specs.Terms.Trees.{Tree, size, kind_of, of_sort, any_label, is_alias, is_infer, IsClosedUnder, IsFormed}
+use Rattle.nts_model.specs.Tables.Contents.{Content, unset, state_of}
+use Rattle.nts_model.specs.Tables.Resolving.{variable_tree, variable_flag, IsInfer, resolved, Knows, IsSound}
+use Rattle.nts_model.specs.Tables.Levels.{NamesAll, term_level, region_level}
+use Rattle.nts_model.specs.Tables.Worlds.{World, inst, Solves}
+use Rattle.nts_model.specs.Tables.Solvable.{IsSolvable}
+use Rattle.nts_model.specs.Variances.Judging.{IsSettled, Settles}
+use Rattle.nts_model.specs.Variances.Relations.{IsSettledWorld}
+use Rattle.nts_model.specs.Variances.Leaving.{Judge, judging_of}
+use Rattle.nts_model.proofs.Tables.Slots.{Knows-kept}
+use Rattle.nts_model.proofs.Terms.Scoping.{listed_patched}
+use Rattle.nts_model.proofs.Tables.Resolved.{no_rank, rank_none, no_flag, flag_le}
+use Rattle.nts_model.proofs.Tables.Instances.{inst-agrees}
+use Rattle.nts_model.proofs.Tables.Fitting.{Fits-inst, IsClosed-inst}
+use Rattle.nts_model.proofs.Tables.Held.{Continues-refl}
+use Rattle.nts_model.proofs.Variances.Alongside.{along_const}
+use Rattle.nts_model.proofs.Variances.SettleRows.{settled_one, settled_along, settles_kind}
+use Rattle.nts_model.proofs.Variances.Tied.{settled_tied}
 use Rattle.nts_store.specs.declared.nodes.NodeId.{NodeId}
 use Rattle.nts_store.specs.Growth.{tree_at}
 use Rattle.nts_unify.specs.Entries.{Entries}

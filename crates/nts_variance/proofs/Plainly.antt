@@ -6,30 +6,30 @@ use Rattle.nts_model.specs.declared.labels.Variance.TheVariants as variance
 use Rattle.nts_model.specs.declared.labels.ListHead.TheVariants as list
 use Rattle.nts_model.specs.declared.labels.Label.{Label}
 use Rattle.nts_model.specs.declared.labels.Label.TheVariants as label
-use Rattle.nts_model.specs.Trees.{Tree, empty, more, node, children, kind_of, of_sort, arguments, any_label, is_alias, row_length, any_argument, AllFit, IsRow, IsFormed}
-use Rattle.nts_model.specs.Contents.{Content}
-use Rattle.nts_model.specs.Resolving.{IsSound, Knows, resolved, deeply_resolved}
-use Rattle.nts_model.specs.Regions.{IsRegion, name_of_label}
-use Rattle.nts_model.specs.Worlds.{World, inst, Solves}
-use Rattle.nts_model.specs.Holding.{Continues}
-use Rattle.nts_model.specs.Solvable.{IsSolvable}
-use Rattle.nts_model.specs.Equations.{AreRelated, AreUnrelated}
-use Rattle.nts_model.specs.Tying.{TiesNew}
-use Rattle.nts_model.specs.Alike.{Alike, one_tree, two_regions, one_label, two_rows, AreAlike}
-use Rattle.nts_model.specs.Judging.{IsSettled, Settles}
-use Rattle.nts_model.specs.Relations.{Relating, AllSettleIn, IsSettledWorld}
-use Rattle.nts_model.specs.AnsweredGoals.{AllRelatedUnder}
-use Rattle.nts_model.specs.Leaving.{Judge, judging_of}
-use Rattle.nts_model.specs.Forms.{pairs_over}
-use Rattle.nts_model.proofs.Alike.{deeply_resolved-more, row_length-deeply_resolved}
-use Rattle.nts_model.proofs.Fitting.{region_label}
-use Rattle.nts_model.proofs.Open.{Knows-resolved}
-use Rattle.nts_model.proofs.Resolved.{resolved-more, resolved-node, deeply_resolved-node}
-use Rattle.nts_model.proofs.SettleRows.{settled_one}
-use Rattle.nts_model.proofs.Slots.{Knows-kept}
-use Rattle.nts_model.proofs.Tied.{settled_tied}
-use Rattle.nts_model.proofs.Under.{same_or_other}
-use Rattle.nts_model.proofs.Worlds.{inst-resolved}
+use Rattle.nts_model.specs.Terms.Trees.{Tree, empty, more, node, children, kind_of, of_sort, arguments, any_label, is_alias, row_length, any_argument, AllFit, IsRow, IsFormed}
+use Rattle.nts_model.specs.Tables.Contents.{Content}
+use Rattle.nts_model.specs.Tables.Resolving.{IsSound, Knows, resolved, deeply_resolved}
+use Rattle.nts_model.specs.Terms.Regions.{IsRegion, name_of_label}
+use Rattle.nts_model.specs.Tables.Worlds.{World, inst, Solves}
+use Rattle.nts_model.specs.Tables.Holding.{Continues}
+use Rattle.nts_model.specs.Tables.Solvable.{IsSolvable}
+use Rattle.nts_model.specs.Tables.Equations.{AreRelated, AreUnrelated}
+use Rattle.nts_model.specs.Tables.Tying.{TiesNew}
+use Rattle.nts_model.specs.Tables.Alike.{Alike, one_tree, two_regions, one_label, two_rows, AreAlike}
+use Rattle.nts_model.specs.Variances.Judging.{IsSettled, Settles}
+use Rattle.nts_model.specs.Variances.Relations.{Relating, AllSettleIn, IsSettledWorld}
+use Rattle.nts_model.specs.Variances.AnsweredGoals.{AllRelatedUnder}
+use Rattle.nts_model.specs.Variances.Leaving.{Judge, judging_of}
+use Rattle.nts_model.specs.Variances.Forms.{pairs_over}
+use Rattle.nts_model.proofs.Tables.Alike.{deeply_resolved-more, row_length-deeply_resolved}
+use Rattle.nts_model.proofs.Tables.Fitting.{region_label}
+use Rattle.nts_model.proofs.Tables.Open.{Knows-resolved}
+use Rattle.nts_model.proofs.Tables.Resolved.{resolved-more, resolved-node, deeply_resolved-node}
+use Rattle.nts_model.proofs.Variances.SettleRows.{settled_one}
+use Rattle.nts_model.proofs.Tables.Slots.{Knows-kept}
+use Rattle.nts_model.proofs.Variances.Tied.{settled_tied}
+use Rattle.nts_model.proofs.Tables.Under.{same_or_other}
+use Rattle.nts_model.proofs.Tables.Worlds.{inst-resolved}
 use Rattle.nts_terms.proofs.Standing.{args_tree}
 use Rattle.nts_unify.specs.Changing.{IsLater}
 use Rattle.nts_relating.specs.Relating.{IsPlainIn, KeepsPlain}

@@ -11,14 +11,14 @@ use Rattle.nts_model.specs.declared.labels.TyHead.TheVariants as ty
 use Rattle.nts_model.specs.declared.labels.ConstHead.TheVariants as konst
 use Rattle.nts_model.specs.declared.labels.Label.{Label}
 use Rattle.nts_model.specs.declared.labels.Label.TheVariants as label
-use Rattle.nts_model.specs.Trees.{Tree, empty, more, node, NodeKind, of_sort, kind_of, row_at, row_length, IsRow, IsClosedUnder, Place, any_argument, a_type, FitsPlace, AllFit, binders}
-use Rattle.nts_model.specs.Related.{times, first_variance, rest_variances, function_variances}
-use Rattle.nts_model.specs.Forms.{Form, a_constructor, a_function, a_value, an_alias, over, variances_over}
-use Rattle.nts_model.specs.Forms.{FitsForm}
-use Rattle.nts_model.specs.Contents.{Content}
-use Rattle.nts_model.specs.Resolving.{Knows}
-use Rattle.nts_model.proofs.Resolved.{Knows-row_at}
-use Rattle.nts_model.specs.Trees.{IsFormed, children}
+use Rattle.nts_model.specs.Terms.Trees.{Tree, empty, more, node, NodeKind, of_sort, kind_of, row_at, row_length, IsRow, IsClosedUnder, Place, any_argument, a_type, FitsPlace, AllFit, binders}
+use Rattle.nts_model.specs.Derivations.Related.{times, first_variance, rest_variances, function_variances}
+use Rattle.nts_model.specs.Variances.Forms.{Form, a_constructor, a_function, a_value, an_alias, over, variances_over}
+use Rattle.nts_model.specs.Variances.Forms.{FitsForm}
+use Rattle.nts_model.specs.Tables.Contents.{Content}
+use Rattle.nts_model.specs.Tables.Resolving.{Knows}
+use Rattle.nts_model.proofs.Tables.Resolved.{Knows-row_at}
+use Rattle.nts_model.specs.Terms.Trees.{IsFormed, children}
 use Rattle.nts_store.specs.declared.nodes.NodeId.{NodeId}
 use Rattle.nts_store.specs.Growth.{tree_at, trees_at, IsIn}
 use Rattle.nts_variance.proofs.PartLemmas.{over_parts}

@@ -3,13 +3,13 @@ use Rattle.std.proofs.Common.{◌≡◌, ℕ, ◌<◌, Bool, false, List, [], �
 use Rattle.nts_model.specs.declared.labels.Variance.{Variance}
 use Rattle.nts_model.specs.declared.labels.VariableKind.{VariableKind}
 use Rattle.nts_model.specs.declared.labels.Label.{Label}
-use Rattle.nts_model.specs.Trees.{Tree}
-use Rattle.nts_model.specs.Contents.{Content, universe_of, kind_at}
-use Rattle.nts_model.specs.Resolving.{variable_tree}
-use Rattle.nts_model.specs.Levels.{NamesAll, IfNamesAll, term_level}
-use Rattle.nts_model.specs.Worlds.{inst, IsNameable}
-use Rattle.nts_model.specs.Leaving.{judging_of}
-use Rattle.nts_model.proofs.Slots.{field_below}
+use Rattle.nts_model.specs.Terms.Trees.{Tree}
+use Rattle.nts_model.specs.Tables.Contents.{Content, universe_of, kind_at}
+use Rattle.nts_model.specs.Tables.Resolving.{variable_tree}
+use Rattle.nts_model.specs.Tables.Levels.{NamesAll, IfNamesAll, term_level}
+use Rattle.nts_model.specs.Tables.Worlds.{inst, IsNameable}
+use Rattle.nts_model.specs.Variances.Leaving.{judging_of}
+use Rattle.nts_model.proofs.Tables.Slots.{field_below}
 use Rattle.nts_variance.specs.Steps.{enter, entered, ended}
 use Rattle.nts_variance.specs.Walking.{IsChoice, sides}
 use Rattle.nts_variance.specs.Varying.{WalkRefuses}

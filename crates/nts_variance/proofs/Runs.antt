@@ -1,9 +1,9 @@
 -- Runs: entering a row of parts, and building a node over what was made for them.
 use Rattle.std.proofs.Common.{◌≡◌, ℕ, zero, suc, ◌+◌, ◌≤◌, Bool, List, [], ◌∷◌, ◌++◌, length, refl, sym, ap, ◌∙◌, arith}
 use Rattle.nts_model.specs.declared.labels.Variance.{Variance}
-use Rattle.nts_model.specs.Trees.{Tree, empty, more, node, IsRow, row_length}
-use Rattle.nts_model.specs.Related.{times, first_variance, rest_variances}
-use Rattle.nts_model.specs.Forms.{Form, over}
+use Rattle.nts_model.specs.Terms.Trees.{Tree, empty, more, node, IsRow, row_length}
+use Rattle.nts_model.specs.Derivations.Related.{times, first_variance, rest_variances}
+use Rattle.nts_model.specs.Variances.Forms.{Form, over}
 use Rattle.nts_variance.specs.Steps.{Step, enter, build, owe, stacked, popped, unpopped, entering, Runs, ended, entered, built, owed, MadeForRow}
 
 -- the newest stands first

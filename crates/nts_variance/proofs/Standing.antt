@@ -1,19 +1,19 @@
 -- A pair and the pair of its heads: what is done for the one serves the other.
 use Rattle.std.proofs.Common.{◌≡◌, ℕ, ◌<◌, List, [], ◌∷◌, ◌++◌, refl, sym, ap, ◌∙◌, subst}
 use Rattle.nts_model.specs.declared.labels.Variance.{Variance}
-use Rattle.nts_model.specs.Contents.{Content}
-use Rattle.nts_model.specs.Trees.{Tree, size, kind_of}
-use Rattle.nts_model.specs.Resolving.{Knows, rooted, deeply_resolved}
-use Rattle.nts_model.specs.Worlds.{inst}
-use Rattle.nts_model.specs.Holding.{AreOne, HoldsConstraint}
-use Rattle.nts_model.specs.Related.{Related}
-use Rattle.nts_model.specs.Sequents.{Among}
-use Rattle.nts_model.specs.Proving.{recorded_as}
-use Rattle.nts_model.specs.Judging.{Judging, Settles}
-use Rattle.nts_model.specs.Relations.{Relating as Pair}
-use Rattle.nts_model.specs.Leaving.{judging_of}
-use Rattle.nts_model.proofs.Held.{AreOne-continues}
-use Rattle.nts_model.proofs.Kept.{kind_of-resolved}
+use Rattle.nts_model.specs.Tables.Contents.{Content}
+use Rattle.nts_model.specs.Terms.Trees.{Tree, size, kind_of}
+use Rattle.nts_model.specs.Tables.Resolving.{Knows, rooted, deeply_resolved}
+use Rattle.nts_model.specs.Tables.Worlds.{inst}
+use Rattle.nts_model.specs.Tables.Holding.{AreOne, HoldsConstraint}
+use Rattle.nts_model.specs.Derivations.Related.{Related}
+use Rattle.nts_model.specs.Derivations.Sequents.{Among}
+use Rattle.nts_model.specs.Derivations.Proving.{recorded_as}
+use Rattle.nts_model.specs.Variances.Judging.{Judging, Settles}
+use Rattle.nts_model.specs.Variances.Relations.{Relating as Pair}
+use Rattle.nts_model.specs.Variances.Leaving.{judging_of}
+use Rattle.nts_model.proofs.Tables.Held.{AreOne-continues}
+use Rattle.nts_model.proofs.Tables.Kept.{kind_of-resolved}
 use Rattle.nts_store.specs.declared.nodes.NodeId.{NodeId}
 use Rattle.nts_store.specs.Growth.{tree_at}
 use Rattle.nts_unify.specs.Entries.{Entries}

@@ -4,11 +4,11 @@ use Rattle.std.specs.Prelude.{slice_get}
 use Rattle.std.proofs.Math.Dec.{ltb}
 use Rattle.std.proofs.lemmas.Bool.{lt-ltb, ltb-true}
 use Rattle.nts_model.specs.declared.labels.VariableKind.{VariableKind}
-use Rattle.nts_model.specs.Contents.{Content, Slot, SlotState, unset, link, known, map_slot, state_of, kind_at, sub_link_of, with_slot}
-use Rattle.nts_model.specs.SubUnifying.{SharesSubRoot, itself, linked, turned, through, BecameOne, AreJoined, before, since, back, along, JoinsSubRoots}
-use Rattle.nts_model.proofs.Slots.{field_below, field-with_slot_new, field-with_slot_old}
-use Rattle.nts_model.proofs.SubUnified.{shares-mapped}
-use Rattle.nts_model.proofs.Under.{same_or_other}
+use Rattle.nts_model.specs.Tables.Contents.{Content, Slot, SlotState, unset, link, known, map_slot, state_of, kind_at, sub_link_of, with_slot}
+use Rattle.nts_model.specs.Tables.SubUnifying.{SharesSubRoot, itself, linked, turned, through, BecameOne, AreJoined, before, since, back, along, JoinsSubRoots}
+use Rattle.nts_model.proofs.Tables.Slots.{field_below, field-with_slot_new, field-with_slot_old}
+use Rattle.nts_model.proofs.Tables.SubUnified.{shares-mapped}
+use Rattle.nts_model.proofs.Tables.Under.{same_or_other}
 use Rattle.nts_variance.specs.SubRoots.{AreJoinedSince, was, became, made, reversed, onward, GrowsSubRoots}
 
 -- what holds of links holds of classes

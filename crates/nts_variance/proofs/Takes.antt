@@ -6,32 +6,32 @@ use Rattle.nts_model.specs.declared.labels.Variance.{Variance}
 use Rattle.nts_model.specs.declared.labels.Variance.TheVariants as variance
 use Rattle.nts_model.specs.declared.labels.VariableKind.{VariableKind}
 use Rattle.nts_model.specs.declared.labels.VariableKind.TheVariants as kind
-use Rattle.nts_model.specs.Trees.{Tree, kind_of, of_sort, any_label, is_alias, is_infer, row_length, IsRow, IsFormed}
-use Rattle.nts_model.specs.Contents.{Content, with_constraint, kind_at}
-use Rattle.nts_model.specs.Resolving.{IsSound, Knows, deeply_resolved, variable_tree}
-use Rattle.nts_model.specs.Regions.{IsRegion}
-use Rattle.nts_model.specs.Worlds.{World, inst, Solves}
-use Rattle.nts_model.specs.Holding.{Continues, HoldsConstraint, AreOne}
-use Rattle.nts_model.specs.Solvable.{IsSolvable}
-use Rattle.nts_model.specs.Equations.{AreRelated, AreUnrelated}
-use Rattle.nts_model.specs.Tying.{TiesNew}
-use Rattle.nts_model.specs.Related.{Related, one_tree}
-use Rattle.nts_model.specs.Sequents.{Among}
-use Rattle.nts_model.specs.Proving.{recorded_as}
-use Rattle.nts_model.specs.Judging.{IsSettled, Settles, opposite}
-use Rattle.nts_model.specs.Relations.{Relating, AllSettleIn, IsSettledWorld}
-use Rattle.nts_model.specs.AnsweredGoals.{AllRelatedUnder}
-use Rattle.nts_model.specs.Leaving.{Judge, judging_of}
-use Rattle.nts_model.specs.Forms.{Form, over, variances_over, FitsForm, pairs_over}
-use Rattle.nts_model.proofs.Alike.{AreAlike-turned}
-use Rattle.nts_model.proofs.AliasLabels.{region_closed}
-use Rattle.nts_model.proofs.Fitting.{Fits-inst}
-use Rattle.nts_model.proofs.Generalizing.{owed}
-use Rattle.nts_model.proofs.Held.{AreOne-continues, Continues-refl, Continues-trans, Continues-with_constraint}
-use Rattle.nts_model.proofs.Leaving.{leaves_over, leaves_regions, relates_over}
-use Rattle.nts_model.proofs.SettleRows.{settled_one}
-use Rattle.nts_model.proofs.Slots.{Knows-kept}
-use Rattle.nts_model.proofs.Tied.{settled_tied}
+use Rattle.nts_model.specs.Terms.Trees.{Tree, kind_of, of_sort, any_label, is_alias, is_infer, row_length, IsRow, IsFormed}
+use Rattle.nts_model.specs.Tables.Contents.{Content, with_constraint, kind_at}
+use Rattle.nts_model.specs.Tables.Resolving.{IsSound, Knows, deeply_resolved, variable_tree}
+use Rattle.nts_model.specs.Terms.Regions.{IsRegion}
+use Rattle.nts_model.specs.Tables.Worlds.{World, inst, Solves}
+use Rattle.nts_model.specs.Tables.Holding.{Continues, HoldsConstraint, AreOne}
+use Rattle.nts_model.specs.Tables.Solvable.{IsSolvable}
+use Rattle.nts_model.specs.Tables.Equations.{AreRelated, AreUnrelated}
+use Rattle.nts_model.specs.Tables.Tying.{TiesNew}
+use Rattle.nts_model.specs.Derivations.Related.{Related, one_tree}
+use Rattle.nts_model.specs.Derivations.Sequents.{Among}
+use Rattle.nts_model.specs.Derivations.Proving.{recorded_as}
+use Rattle.nts_model.specs.Variances.Judging.{IsSettled, Settles, opposite}
+use Rattle.nts_model.specs.Variances.Relations.{Relating, AllSettleIn, IsSettledWorld}
+use Rattle.nts_model.specs.Variances.AnsweredGoals.{AllRelatedUnder}
+use Rattle.nts_model.specs.Variances.Leaving.{Judge, judging_of}
+use Rattle.nts_model.specs.Variances.Forms.{Form, over, variances_over, FitsForm, pairs_over}
+use Rattle.nts_model.proofs.Tables.Alike.{AreAlike-turned}
+use Rattle.nts_model.proofs.Variances.AliasLabels.{region_closed}
+use Rattle.nts_model.proofs.Tables.Fitting.{Fits-inst}
+use Rattle.nts_model.proofs.Variances.Generalizing.{owed}
+use Rattle.nts_model.proofs.Tables.Held.{AreOne-continues, Continues-refl, Continues-trans, Continues-with_constraint}
+use Rattle.nts_model.proofs.Variances.Leaving.{leaves_over, leaves_regions, relates_over}
+use Rattle.nts_model.proofs.Variances.SettleRows.{settled_one}
+use Rattle.nts_model.proofs.Tables.Slots.{Knows-kept}
+use Rattle.nts_model.proofs.Variances.Tied.{settled_tied}
 use Rattle.nts_store.specs.declared.nodes.NodeId.{NodeId}
 use Rattle.nts_store.specs.Growth.{tree_at}
 use Rattle.nts_unify.specs.Entries.{Entries}

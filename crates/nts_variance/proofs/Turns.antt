@@ -3,20 +3,20 @@ use Rattle.std.proofs.Common.{◌≡◌, ℕ, ◌≤◌, Bool, List, [], ◌∷�
 use Rattle.nts_model.specs.declared.labels.Variance.{Variance}
 use Rattle.nts_model.specs.declared.labels.Label.{Label}
 use Rattle.nts_model.specs.declared.labels.Leaf.TheVariants as leaf
-use Rattle.nts_model.specs.Trees.{Tree}
-use Rattle.nts_model.specs.Related.{region_constraint}
-use Rattle.nts_model.specs.Substitutions.{leaf_tree}
-use Rattle.nts_model.specs.Contents.{Content}
-use Rattle.nts_model.specs.Resolving.{IsSound}
-use Rattle.nts_model.specs.Levels.{NamesAll, term_level}
-use Rattle.nts_model.specs.Worlds.{World, inst, Agrees}
-use Rattle.nts_model.specs.Judging.{Judging}
-use Rattle.nts_model.specs.Relations.{Relating, AllKnown, SettledExtension}
-use Rattle.nts_model.specs.AnsweredGoals.{AllAnswered}
-use Rattle.nts_model.specs.Leaving.{Judge, judging_of}
-use Rattle.nts_model.proofs.Instances.{Agrees-refl, Agrees-trans, inst-agrees}
-use Rattle.nts_model.proofs.Held.{Continues-refl, Continues-trans}
-use Rattle.nts_model.proofs.Generalizing.{judged_agrees, settle_agrees, settle_joined}
+use Rattle.nts_model.specs.Terms.Trees.{Tree}
+use Rattle.nts_model.specs.Derivations.Related.{region_constraint}
+use Rattle.nts_model.specs.Terms.Substitutions.{leaf_tree}
+use Rattle.nts_model.specs.Tables.Contents.{Content}
+use Rattle.nts_model.specs.Tables.Resolving.{IsSound}
+use Rattle.nts_model.specs.Tables.Levels.{NamesAll, term_level}
+use Rattle.nts_model.specs.Tables.Worlds.{World, inst, Agrees}
+use Rattle.nts_model.specs.Variances.Judging.{Judging}
+use Rattle.nts_model.specs.Variances.Relations.{Relating, AllKnown, SettledExtension}
+use Rattle.nts_model.specs.Variances.AnsweredGoals.{AllAnswered}
+use Rattle.nts_model.specs.Variances.Leaving.{Judge, judging_of}
+use Rattle.nts_model.proofs.Tables.Instances.{Agrees-refl, Agrees-trans, inst-agrees}
+use Rattle.nts_model.proofs.Tables.Held.{Continues-refl, Continues-trans}
+use Rattle.nts_model.proofs.Variances.Generalizing.{judged_agrees, settle_agrees, settle_joined}
 use Rattle.nts_variance.proofs.Growing.{grown_refl, grown_trans}
 use Rattle.nts_variance.specs.Steps.{Step, enter, build, owe, step_of, steps_of, entered}
 use Rattle.nts_variance.specs.Walking.{Judges, IsChoice, SettlesOwed, KnowsStep, KnowsSteps, KnowsTrees, Walks, IsMade}

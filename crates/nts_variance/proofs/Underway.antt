@@ -1,19 +1,19 @@
 -- A call of relating under way: pairs that are taken, and those that were met before and are passed over.
 use Rattle.std.proofs.Common.{ℕ, false, List, [], ◌∷◌, ◌++◌}
 use Rattle.nts_model.specs.declared.labels.Variance.{Variance}
-use Rattle.nts_model.specs.Contents.{Content}
-use Rattle.nts_model.specs.Trees.{Tree}
-use Rattle.nts_model.specs.Resolving.{IsSound}
-use Rattle.nts_model.specs.Worlds.{World}
-use Rattle.nts_model.specs.Holding.{Continues}
-use Rattle.nts_model.specs.Sequents.{Among}
-use Rattle.nts_model.specs.Relations.{Relating, AllSettleIn, AllKnown}
-use Rattle.nts_model.specs.AnsweredGoals.{AllRelatedUnder}
-use Rattle.nts_model.specs.Leaving.{Judge, judging_of}
-use Rattle.nts_model.proofs.Generalizing.{settle_joined, settle_parted}
-use Rattle.nts_model.proofs.Held.{Continues-refl, Continues-trans}
-use Rattle.nts_model.proofs.Leaving.{leaves_goal}
-use Rattle.nts_model.proofs.Meeting.{All, AllBelow, AreSmaller, AreMet, met_taken, met_again, met_passed}
+use Rattle.nts_model.specs.Tables.Contents.{Content}
+use Rattle.nts_model.specs.Terms.Trees.{Tree}
+use Rattle.nts_model.specs.Tables.Resolving.{IsSound}
+use Rattle.nts_model.specs.Tables.Worlds.{World}
+use Rattle.nts_model.specs.Tables.Holding.{Continues}
+use Rattle.nts_model.specs.Derivations.Sequents.{Among}
+use Rattle.nts_model.specs.Variances.Relations.{Relating, AllSettleIn, AllKnown}
+use Rattle.nts_model.specs.Variances.AnsweredGoals.{AllRelatedUnder}
+use Rattle.nts_model.specs.Variances.Leaving.{Judge, judging_of}
+use Rattle.nts_model.proofs.Variances.Generalizing.{settle_joined, settle_parted}
+use Rattle.nts_model.proofs.Tables.Held.{Continues-refl, Continues-trans}
+use Rattle.nts_model.proofs.Variances.Leaving.{leaves_goal}
+use Rattle.nts_model.proofs.Variances.Meeting.{All, AllBelow, AreSmaller, AreMet, met_taken, met_again, met_passed}
 use Rattle.nts_variance.specs.Pairs.{Leaves, Refuses}
 use Rattle.nts_variance.specs.Taking.{Takes, Sense, HoldsIn, AllHoldIn, size_in, HoldBelow, Counts, IsUnderway}
 use Rattle.nts_variance.proofs.Growing.{grown_refl, grown_trans}

@@ -5,22 +5,22 @@ use Rattle.std.proofs.lemmas.List.{append-nil, map-append}
 use Rattle.nts_model.specs.declared.labels.Variance.{Variance}
 use Rattle.nts_model.specs.declared.labels.Variance.TheVariants as variance
 use Rattle.nts_model.specs.declared.labels.VariableKind.TheVariants as kind
-use Rattle.nts_model.specs.Trees.{Tree, empty, more, node, size, NodeKind, kind_of, IsRow, row_length, FitsPlace, AllFit, IsFormed}
-use Rattle.nts_model.specs.Contents.{Content, kind_at}
-use Rattle.nts_model.specs.Resolving.{IsInfer, Knows, resolved}
-use Rattle.nts_model.specs.Levels.{NamesAll, term_level, region_level}
-use Rattle.nts_model.specs.Worlds.{inst}
-use Rattle.nts_model.specs.Related.{rest_variances}
-use Rattle.nts_model.specs.Forms.{Form, over, variances_over}
-use Rattle.nts_model.specs.Judging.{Settles}
-use Rattle.nts_model.specs.Measuring.{closed_aliases}
-use Rattle.nts_model.specs.Relations.{AllKnown}
-use Rattle.nts_model.specs.Relations.{Relating as Pair}
-use Rattle.nts_model.specs.Leaving.{judging_of}
-use Rattle.nts_model.proofs.Resolved.{resolved-empty, resolved-more}
-use Rattle.nts_model.proofs.Held.{Continues-refl}
-use Rattle.nts_model.proofs.Alongside.{along_size}
-use Rattle.nts_model.proofs.SettleRows.{settled_along}
+use Rattle.nts_model.specs.Terms.Trees.{Tree, empty, more, node, size, NodeKind, kind_of, IsRow, row_length, FitsPlace, AllFit, IsFormed}
+use Rattle.nts_model.specs.Tables.Contents.{Content, kind_at}
+use Rattle.nts_model.specs.Tables.Resolving.{IsInfer, Knows, resolved}
+use Rattle.nts_model.specs.Tables.Levels.{NamesAll, term_level, region_level}
+use Rattle.nts_model.specs.Tables.Worlds.{inst}
+use Rattle.nts_model.specs.Derivations.Related.{rest_variances}
+use Rattle.nts_model.specs.Variances.Forms.{Form, over, variances_over}
+use Rattle.nts_model.specs.Variances.Judging.{Settles}
+use Rattle.nts_model.specs.Tables.Measuring.{closed_aliases}
+use Rattle.nts_model.specs.Variances.Relations.{AllKnown}
+use Rattle.nts_model.specs.Variances.Relations.{Relating as Pair}
+use Rattle.nts_model.specs.Variances.Leaving.{judging_of}
+use Rattle.nts_model.proofs.Tables.Resolved.{resolved-empty, resolved-more}
+use Rattle.nts_model.proofs.Tables.Held.{Continues-refl}
+use Rattle.nts_model.proofs.Variances.Alongside.{along_size}
+use Rattle.nts_model.proofs.Variances.SettleRows.{settled_along}
 use Rattle.nts_store.specs.declared.nodes.NodeId.{NodeId}
 use Rattle.nts_store.specs.Growth.{tree_at, trees_at, IsIn, AllIn, Extends}
 use Rattle.nts_store.proofs.Growing.{IsIn-extended, Extends-refl, Extends-trans, row_length-trees_at, IsRow-trees_at}

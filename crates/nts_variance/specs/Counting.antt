@@ -3,12 +3,12 @@
 use Rattle.std.specs.Prelude.{◌≡◌, ℕ, ◌+◌, ◌≤◌, Bool, true, false, List, [], ◌∷◌}
 use Rattle.nts_model.specs.declared.labels.Variance.{Variance}
 use Rattle.nts_model.specs.declared.labels.Variance.TheVariants as variance
-use Rattle.nts_model.specs.Trees.{Tree, empty}
-use Rattle.nts_model.specs.Contents.{Content}
-use Rattle.nts_model.specs.Resolving.{resolved}
-use Rattle.nts_model.specs.Related.{alias}
-use Rattle.nts_model.specs.Forms.{Form, an_alias, over}
-use Rattle.nts_model.specs.Measuring.{closed_under, closed_aliases}
+use Rattle.nts_model.specs.Terms.Trees.{Tree, empty}
+use Rattle.nts_model.specs.Tables.Contents.{Content}
+use Rattle.nts_model.specs.Tables.Resolving.{resolved}
+use Rattle.nts_model.specs.Derivations.Related.{alias}
+use Rattle.nts_model.specs.Variances.Forms.{Form, an_alias, over}
+use Rattle.nts_model.specs.Tables.Measuring.{closed_under, closed_aliases}
 use Rattle.nts_unify.specs.Changing.{unset_count}
 use Rattle.nts_variance.specs.Steps.{Step, enter, build, owe, popped, unpopped}
 

@@ -4,9 +4,9 @@ use Rattle.nts_model.specs.declared.labels.Variance.{Variance}
 use Rattle.nts_model.specs.declared.labels.Variance.TheVariants as variance
 use Rattle.nts_model.specs.declared.labels.PredicateHead.{PredicateHead}
 use Rattle.nts_model.specs.declared.labels.PredicateHead.TheVariants as predicate
-use Rattle.nts_model.specs.Trees.{Tree, node, is_alias}
-use Rattle.nts_model.specs.Related.{direction_of, directed}
-use Rattle.nts_model.specs.Relations.{Relating as Pair}
+use Rattle.nts_model.specs.Terms.Trees.{Tree, node, is_alias}
+use Rattle.nts_model.specs.Derivations.Related.{direction_of, directed}
+use Rattle.nts_model.specs.Variances.Relations.{Relating as Pair}
 use Rattle.nts_variance.specs.declared.along.Relating.{Relating}
 
 abbrev pub is_alias_node : Tree → Bool

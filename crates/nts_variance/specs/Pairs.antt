@@ -1,17 +1,17 @@
 -- What relating whole pairs leaves in a table, by judgings in which erased and error regions are related with themselves alone.
 use Rattle.std.specs.Prelude.{◌≡◌, ℕ, ◌+◌, ◌≤◌, ◌<◌, Bool, List, [], ◌∷◌, length}
-use Rattle.nts_model.specs.Trees.{Tree}
+use Rattle.nts_model.specs.Terms.Trees.{Tree}
 use Rattle.nts_model.specs.declared.labels.VariableKind.{VariableKind}
 use Rattle.nts_model.specs.declared.labels.Variance.{Variance}
 use Rattle.nts_model.specs.declared.labels.Variance.TheVariants as variance
-use Rattle.nts_model.specs.Contents.{Content}
-use Rattle.nts_model.specs.Worlds.{World, Solves}
-use Rattle.nts_model.specs.Relations.{Relating, AllSettleIn, IsSettledWorld, SettledExtension}
-use Rattle.nts_model.specs.Leaving.{Judge, judging_of}
-use Rattle.nts_model.specs.Resolving.{variable_tree, resolved, deeply_resolved, Knows, IsSound}
-use Rattle.nts_model.specs.Measuring.{closed_aliases}
-use Rattle.nts_model.specs.Holding.{Continues}
-use Rattle.nts_model.specs.AnsweredGoals.{AllAnswered}
+use Rattle.nts_model.specs.Tables.Contents.{Content}
+use Rattle.nts_model.specs.Tables.Worlds.{World, Solves}
+use Rattle.nts_model.specs.Variances.Relations.{Relating, AllSettleIn, IsSettledWorld, SettledExtension}
+use Rattle.nts_model.specs.Variances.Leaving.{Judge, judging_of}
+use Rattle.nts_model.specs.Tables.Resolving.{variable_tree, resolved, deeply_resolved, Knows, IsSound}
+use Rattle.nts_model.specs.Tables.Measuring.{closed_aliases}
+use Rattle.nts_model.specs.Tables.Holding.{Continues}
+use Rattle.nts_model.specs.Variances.AnsweredGoals.{AllAnswered}
 use Rattle.nts_store.specs.declared.nodes.NodeId.{NodeId}
 use Rattle.nts_store.specs.Growth.{tree_at}
 use Rattle.nts_unify.specs.Entries.{Entries}

@@ -1,7 +1,7 @@
 -- Classes of sub-unification in a table that has grown.
 use Rattle.std.specs.Prelude.{◌≡◌, ℕ, ◌≤◌, ◌<◌, length, Option, Some}
-use Rattle.nts_model.specs.Contents.{Content, link, state_of}
-use Rattle.nts_model.specs.SubUnifying.{SharesSubRoot, BecameOne}
+use Rattle.nts_model.specs.Tables.Contents.{Content, link, state_of}
+use Rattle.nts_model.specs.Tables.SubUnifying.{SharesSubRoot, BecameOne}
 
 -- two variables that were of one class, or of classes that are joined since: by variables that became one, or by a new variable and the
 -- one whose class it was made in, which `made_in` tells of each new variable

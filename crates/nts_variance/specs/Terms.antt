@@ -3,12 +3,12 @@ use Rattle.std.specs.Prelude.{◌≡◌, ◌≢◌, ◌⊎◌, ℕ, ◌+◌, ◌
 use Rattle.nts_model.specs.declared.labels.Sort.{Sort}
 use Rattle.nts_model.specs.declared.labels.Sort.TheVariants as sort
 use Rattle.nts_model.specs.declared.labels.Variance.TheVariants as variance
-use Rattle.nts_model.specs.Trees.{Tree, kind_of, of_sort, row_length, IsClosedUnder, IsClosed}
-use Rattle.nts_model.specs.Contents.{Content}
-use Rattle.nts_model.specs.Resolving.{Knows, resolved}
-use Rattle.nts_model.specs.Levels.{NamesAll, region_level}
-use Rattle.nts_model.specs.Related.{IsAlias}
-use Rattle.nts_model.specs.Relations.{Relating as Pair}
+use Rattle.nts_model.specs.Terms.Trees.{Tree, kind_of, of_sort, row_length, IsClosedUnder, IsClosed}
+use Rattle.nts_model.specs.Tables.Contents.{Content}
+use Rattle.nts_model.specs.Tables.Resolving.{Knows, resolved}
+use Rattle.nts_model.specs.Tables.Levels.{NamesAll, region_level}
+use Rattle.nts_model.specs.Derivations.Related.{IsAlias}
+use Rattle.nts_model.specs.Variances.Relations.{Relating as Pair}
 use Rattle.nts_store.specs.declared.nodes.NodeId.{NodeId}
 use Rattle.nts_store.specs.Growth.{tree_at, IsIn}
 use Rattle.nts_variance.specs.declared.along.Relating.{Relating}
@@ -17,7 +17,7 @@ use Rattle.nts_variance.specs.declared.vary_walk.Task.{Task}
 use Rattle.nts_variance.specs.declared.vary_walk.Task.TheVariants as task
 use Rattle.nts_variance.specs.Steps.{Step, enter, build, owe, HasSorts}
 use Rattle.nts_variance.specs.Parts.{form_of, parts_of}
-use Rattle.nts_model.specs.Forms.{over}
+use Rattle.nts_model.specs.Variances.Forms.{over}
 
 abbrev pub pair_at : List Tree → Relating → Pair
 pair_at ts p = record { variance = p.variance; left = tree_at ts p.left; right = tree_at ts p.right }

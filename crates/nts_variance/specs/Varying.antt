@@ -8,17 +8,17 @@ use Rattle.nts_model.specs.declared.labels.VariableKind.{VariableKind}
 use Rattle.nts_model.specs.declared.labels.VariableKind.TheVariants as kind
 use Rattle.nts_model.specs.declared.labels.Leaf.TheVariants as leaf
 use Rattle.nts_model.specs.declared.labels.Label.TheVariants as label
-use Rattle.nts_model.specs.Trees.{Tree, empty, kind_of, label_of, row_length, any_label, is_alias, IsClosed, IsFormed}
-use Rattle.nts_model.specs.Contents.{Content, state_of, universe_of, kind_at}
-use Rattle.nts_model.specs.Resolving.{IsInfer, Knows, resolved}
-use Rattle.nts_model.specs.Levels.{NamesAll, term_level, region_level}
-use Rattle.nts_model.specs.Worlds.{World, inst, Solves}
-use Rattle.nts_model.specs.Forms.{FitsForm, over, variances_over}
-use Rattle.nts_model.specs.Relations.{AllSettleIn, IsSettledWorld}
-use Rattle.nts_model.specs.Relations.{Relating as Pair}
-use Rattle.nts_model.specs.Judging.{opposite}
-use Rattle.nts_model.specs.Leaving.{Judge, judging_of}
-use Rattle.nts_model.specs.Measuring.{closed_aliases}
+use Rattle.nts_model.specs.Terms.Trees.{Tree, empty, kind_of, label_of, row_length, any_label, is_alias, IsClosed, IsFormed}
+use Rattle.nts_model.specs.Tables.Contents.{Content, state_of, universe_of, kind_at}
+use Rattle.nts_model.specs.Tables.Resolving.{IsInfer, Knows, resolved}
+use Rattle.nts_model.specs.Tables.Levels.{NamesAll, term_level, region_level}
+use Rattle.nts_model.specs.Tables.Worlds.{World, inst, Solves}
+use Rattle.nts_model.specs.Variances.Forms.{FitsForm, over, variances_over}
+use Rattle.nts_model.specs.Variances.Relations.{AllSettleIn, IsSettledWorld}
+use Rattle.nts_model.specs.Variances.Relations.{Relating as Pair}
+use Rattle.nts_model.specs.Variances.Judging.{opposite}
+use Rattle.nts_model.specs.Variances.Leaving.{Judge, judging_of}
+use Rattle.nts_model.specs.Tables.Measuring.{closed_aliases}
 use Rattle.nts_store.specs.declared.nodes.NodeId.{NodeId}
 use Rattle.nts_store.specs.Growth.{tree_at, IsIn}
 use Rattle.nts_unify.specs.declared.contents.Constraint.{Constraint}

@@ -6,21 +6,21 @@ use Rattle.nts_model.specs.declared.labels.FreeRegion.{FreeRegion}
 use Rattle.nts_model.specs.declared.labels.FreeRegion.TheVariants as region
 use Rattle.nts_model.specs.declared.labels.Leaf.TheVariants as leaf
 use Rattle.nts_model.specs.declared.labels.Label.{Label}
-use Rattle.nts_model.specs.Trees.{Tree, kind_of, IsFormed}
-use Rattle.nts_model.specs.Scoping.{KeepsListed}
-use Rattle.nts_model.specs.Contents.{Content, kind_at}
-use Rattle.nts_model.specs.Resolving.{Knows, IsSound, IsInfer, resolved, deeply_resolved, left_to_resolve}
-use Rattle.nts_model.specs.Levels.{NamesAll, term_level, region_level}
-use Rattle.nts_model.specs.Worlds.{World, inst, Solves}
-use Rattle.nts_model.specs.Holding.{Continues, HoldsConstraint}
-use Rattle.nts_model.specs.Related.{Related, IsAlias, region_constraint}
-use Rattle.nts_model.specs.Sequents.{Among}
-use Rattle.nts_model.specs.Proving.{recorded_as}
-use Rattle.nts_model.specs.Judging.{Judging, IsSettled, Settles, opposite}
-use Rattle.nts_model.specs.Substitutions.{leaf_tree}
-use Rattle.nts_model.specs.Relations.{Relating, AllSettleIn, AllKnown, IsJudgedBy, IsSettledWorld, SettledExtension, StandsIn}
-use Rattle.nts_model.specs.AnsweredGoals.{AllAnswered}
-use Rattle.nts_model.specs.Leaving.{Judge, judging_of}
+use Rattle.nts_model.specs.Terms.Trees.{Tree, kind_of, IsFormed}
+use Rattle.nts_model.specs.Terms.Scoping.{KeepsListed}
+use Rattle.nts_model.specs.Tables.Contents.{Content, kind_at}
+use Rattle.nts_model.specs.Tables.Resolving.{Knows, IsSound, IsInfer, resolved, deeply_resolved, left_to_resolve}
+use Rattle.nts_model.specs.Tables.Levels.{NamesAll, term_level, region_level}
+use Rattle.nts_model.specs.Tables.Worlds.{World, inst, Solves}
+use Rattle.nts_model.specs.Tables.Holding.{Continues, HoldsConstraint}
+use Rattle.nts_model.specs.Derivations.Related.{Related, IsAlias, region_constraint}
+use Rattle.nts_model.specs.Derivations.Sequents.{Among}
+use Rattle.nts_model.specs.Derivations.Proving.{recorded_as}
+use Rattle.nts_model.specs.Variances.Judging.{Judging, IsSettled, Settles, opposite}
+use Rattle.nts_model.specs.Terms.Substitutions.{leaf_tree}
+use Rattle.nts_model.specs.Variances.Relations.{Relating, AllSettleIn, AllKnown, IsJudgedBy, IsSettledWorld, SettledExtension, StandsIn}
+use Rattle.nts_model.specs.Variances.AnsweredGoals.{AllAnswered}
+use Rattle.nts_model.specs.Variances.Leaving.{Judge, judging_of}
 use Rattle.nts_unify.specs.Changing.{AddsVisible}
 use Rattle.nts_variance.specs.SubRoots.{GrowsSubRoots}
 use Rattle.nts_variance.specs.Steps.{Step, enter, build, owe, steps_of, Runs}

@@ -1,6 +1,6 @@
 //! The parts of a node that are related one by one.
 ghost use Rattle.std.specs.Prelude.{◌≡◌, ◌<◌, ◌≤◌, true};
-ghost use Rattle.nts_model.specs.Trees.{children, IsRow};
+ghost use Rattle.nts_model.specs.Terms.Trees.{children, IsRow};
 ghost use Rattle.nts_store.specs.Growth.{tree_at, IsIn};
 ghost use Rattle.nts_terms.specs.Signatures.{variances_in};
 ghost use Rattle.nts_variance.specs.Parts.{has_parts as label_has_parts, parts_of, variance_in, IsNodeWithParts};

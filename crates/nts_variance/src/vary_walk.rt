@@ -3,12 +3,12 @@ ghost use Rattle.std.specs.Prelude.{◌≡◌, ◌≢◌, ◌⊎◌, ℕ, ◌+�
 ghost use Rattle.nts_model.specs.declared.labels.Leaf.TheVariants as leaves;
 ghost use Rattle.nts_model.specs.declared.labels.Label.TheVariants as labels;
 ghost use Rattle.nts_model.specs.declared.labels.VariableKind.TheVariants as kinds;
-ghost use Rattle.nts_model.specs.Trees.{any_label, children, is_alias, label_of, node, row_length, shape, AllFit, IsClosedUnder, IsFormed, Meets};
-ghost use Rattle.nts_model.specs.Resolving.{IsInfer, resolved, variable_tree};
+ghost use Rattle.nts_model.specs.Terms.Trees.{any_label, children, is_alias, label_of, node, row_length, shape, AllFit, IsClosedUnder, IsFormed, Meets};
+ghost use Rattle.nts_model.specs.Tables.Resolving.{IsInfer, resolved, variable_tree};
 ghost use Rattle.nts_model.specs.declared.labels.Variance.TheVariants as variances;
 ghost use Rattle.nts_store.specs.TypeFlags.{flags_of};
-ghost use Rattle.nts_model.specs.Contents.{kind_at};
-ghost use Rattle.nts_model.specs.Forms.{over};
+ghost use Rattle.nts_model.specs.Tables.Contents.{kind_at};
+ghost use Rattle.nts_model.specs.Variances.Forms.{over};
 ghost use Rattle.nts_store.specs.Growth.{tree_at, trees_at, IsIn, AllIn, Extends};
 ghost use Rattle.nts_terms.specs.Signatures.{variances_in};
 ghost use Rattle.nts_unify.specs.Entries.{KeepsHidden, added, constrained};

@@ -9,7 +9,7 @@ use Rattle.indexmap.specs.IndexMap.{insert_entry}
 use Rattle.std.proofs.Math.Seq.{take-suc}
 use Rattle.std.proofs.lemmas.Bool.{eqb-true}
 use Rattle.std.proofs.lemmas.List.{append-nil}
-use Rattle.nts_model.specs.Trees.{Tree}
+use Rattle.nts_model.specs.Terms.Trees.{Tree}
 use Rattle.nts_store.specs.Growth.{tree_at}
 use Rattle.nts_store.specs.declared.nodes.NodeId.{NodeId}
 use Rattle.nts_terms.specs.declared.handles.GenericArg.{GenericArg}

@@ -6,7 +6,7 @@ use Rattle.std.proofs.lemmas.List.Elements.{All-head, All-tail}
 use Rattle.nts_model.specs.declared.labels.Label.TheVariants as label
 use Rattle.nts_model.specs.declared.labels.ListHead.TheVariants as list
 use Rattle.nts_model.specs.declared.labels.ClauseHead.TheVariants as clause
-use Rattle.nts_model.specs.Trees.{Tree, empty, more, node}
+use Rattle.nts_model.specs.Terms.Trees.{Tree, empty, more, node}
 use Rattle.nts_terms.specs.declared.handles.GenericArg.{GenericArg}
 use Rattle.nts_terms.specs.declared.handles.GenericArgs.{GenericArgs}
 use Rattle.nts_store.specs.Growth.{tree_at, trees_at, Extends}

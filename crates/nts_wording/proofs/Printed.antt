@@ -4,7 +4,7 @@ use Rattle.std.specs.Prelude.{codes}
 use Rattle.std.proofs.lemmas.List.{append-nil, reverse-append, get_or_past}
 use Rattle.nts_model.specs.declared.labels.Label.TheVariants as label
 use Rattle.nts_model.specs.declared.labels.ListHead.TheVariants as heads
-use Rattle.nts_model.specs.Trees.{Tree, empty, more, node, children, row_at, row_length, IsRow, arguments, is, in_order, Meets, kind_of_label}
+use Rattle.nts_model.specs.Terms.Trees.{Tree, empty, more, node, children, row_at, row_length, IsRow, arguments, is, in_order, Meets, kind_of_label}
 use Rattle.nts_store.specs.Growth.{tree_at}
 use Rattle.nts_store.specs.declared.nodes.NodeId.{NodeId}
 use Rattle.nts_wording.specs.declared.printer.Piece.{Piece}

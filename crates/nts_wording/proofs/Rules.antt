@@ -3,7 +3,7 @@ use Rattle.std.proofs.Common.{◌≡◌, ℕ, ◌+◌, ◌<◌, List, [], ◌∷
 use Rattle.std.proofs.lemmas.List.{map-append, take_more}
 use Rattle.nts_model.specs.declared.labels.Label.TheVariants as label
 use Rattle.nts_model.specs.declared.labels.ClauseHead.TheVariants as clause
-use Rattle.nts_model.specs.Trees.{Tree, empty, more, node}
+use Rattle.nts_model.specs.Terms.Trees.{Tree, empty, more, node}
 use Rattle.nts_store.specs.Growth.{tree_at, Extends}
 use Rattle.nts_store.proofs.Growing.{Extends-trans}
 use Rattle.nts_delegate.specs.declared.clauses.Clause.{Clause}

@@ -3,7 +3,7 @@ use Rattle.std.proofs.Common.{◌≡◌, ◌<◌, ◌≤◌, List, ℕ, zero, su
 use Rattle.std.specs.Prelude.{OnOk, length}
 use Rattle.nts_model.specs.declared.labels.Label.TheVariants as label
 use Rattle.nts_model.specs.declared.labels.TyHead.TheVariants as ty
-use Rattle.nts_model.specs.Trees.{Tree, node, children, row_at, in_order, is, arguments, Meets}
+use Rattle.nts_model.specs.Terms.Trees.{Tree, node, children, row_at, in_order, is, arguments, Meets}
 use Rattle.nts_store.specs.Growth.{tree_at}
 use Rattle.nts_wording.specs.declared.printer.Piece.{Piece}
 use Rattle.nts_wording.specs.declared.printer.Piece.TheVariants as pieces

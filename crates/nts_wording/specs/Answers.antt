@@ -8,7 +8,7 @@ use Rattle.nts_model.specs.declared.labels.Leaf.{Leaf}
 use Rattle.nts_model.specs.declared.labels.Leaf.TheVariants as leaf
 use Rattle.nts_model.specs.declared.labels.Relation.{Relation}
 use Rattle.nts_model.specs.declared.labels.Relation.TheVariants as relations
-use Rattle.nts_model.specs.Trees.{Tree, node}
+use Rattle.nts_model.specs.Terms.Trees.{Tree, node}
 use Rattle.nts_store.specs.Growth.{tree_at}
 use Rattle.nts_store.specs.declared.nodes.NodeId.{NodeId}
 use Rattle.nts_terms.specs.declared.handles.GenericArg.{GenericArg}

@@ -3,7 +3,7 @@ use Rattle.std.specs.Prelude.{◌≡◌, ℕ, List, [], ◌∷◌, ◌++◌, map
 use Rattle.std.specs.Global.{Vec}
 use Rattle.nts_store.specs.Growth.{tree_at}
 use Rattle.nts_store.specs.declared.nodes.NodeId.{NodeId}
-use Rattle.nts_model.specs.Trees.{Tree}
+use Rattle.nts_model.specs.Terms.Trees.{Tree}
 use Rattle.nts_wording.specs.declared.printer.Piece.{Piece}
 use Rattle.nts_wording.specs.declared.printer.Piece.TheVariants as pieces
 use Rattle.nts_wording.specs.declared.printer.Printer.{Printer}

@@ -1,6 +1,6 @@
 //! Terms of the predicates that a line says.
 ghost use Rattle.std.specs.Prelude.{◌≡◌, All, IsTrue, IfOk, IfSome, OnOk, Some, List, reverse, slice_get};
-ghost use Rattle.nts_model.specs.Trees.{Tree};
+ghost use Rattle.nts_model.specs.Terms.Trees.{Tree};
 ghost use Rattle.nts_store.specs.Growth.{Extends, tree_at};
 ghost use Rattle.nts_terms.specs.Kinds.{tree_of_ty};
 ghost use Rattle.nts_terms.specs.declared.kinds.TyKind.TheVariants as ty;

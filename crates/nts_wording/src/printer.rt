@@ -1,6 +1,6 @@
 //! The text of answers.
 ghost use Rattle.std.specs.Prelude.{◌≡◌, ◌∷◌, [], ◌++◌, reverse, option_copied, map, slice_get, IfOk, OnOk, codes};
-ghost use Rattle.nts_model.specs.Trees.{node, children, shape, Meets, in_order, is, arguments};
+ghost use Rattle.nts_model.specs.Terms.Trees.{node, children, shape, Meets, in_order, is, arguments};
 ghost use Rattle.nts_model.specs.declared.labels.Label.TheVariants as labels;
 ghost use Rattle.nts_model.specs.declared.labels.TyHead.TheVariants as heads;
 ghost use Rattle.nts_store.specs.Growth.{IsIn, tree_at};

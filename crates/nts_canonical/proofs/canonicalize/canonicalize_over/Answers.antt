@@ -1,7 +1,7 @@
 use Rattle.std.proofs.Common.{refl, ap, ◌∙◌, map}
-use Rattle.nts_model.specs.Substitutions.{leaf_tree}
-use Rattle.nts_model.specs.Inputs.{whole, position_kind}
-use Rattle.nts_model.proofs.Unpositioned.{known_no_positions, known_well_bound}
+use Rattle.nts_model.specs.Terms.Substitutions.{leaf_tree}
+use Rattle.nts_model.specs.Canonical.Inputs.{whole, position_kind}
+use Rattle.nts_model.proofs.Terms.Unpositioned.{known_no_positions, known_well_bound}
 use Rattle.nts_unify.specs.Reading.{content_of}
 use Rattle.nts_canonical.specs.SubRoots.{sub_root_in}
 use Rattle.nts_canonical.specs.Forms.{input_of}

@@ -1,5 +1,5 @@
 use Rattle.std.proofs.Common.{◌≡◌, drop}
-use Rattle.nts_model.specs.Numbered.{seen, no_leaf}
+use Rattle.nts_model.specs.Canonical.Numbered.{seen, no_leaf}
 use Rattle.nts_canonical.specs.Forms.{hidden_pairs}
 use Rattle.nts_canonical.proofs.canonicalize.collect_all.Given as goal
 

@@ -1,6 +1,6 @@
 use Rattle.std.proofs.Common.{arith}
-use Rattle.nts_model.specs.Substitutions.{replace}
-use Rattle.nts_model.specs.Numbered.{numbered_leaf, no_leaf}
+use Rattle.nts_model.specs.Terms.Substitutions.{replace}
+use Rattle.nts_model.specs.Canonical.Numbered.{numbered_leaf, no_leaf}
 use Rattle.nts_store.proofs.Growing.{Extends-trans}
 use Rattle.nts_canonical.proofs.PairLists.{are_hidden-at, is_hidden-kept, IsImage-later, AreImages-kept, image_more}
 use Rattle.nts_canonical.proofs.canonicalize.numbered_hidden.Goals as goal

@@ -1,6 +1,6 @@
 use Rattle.std.proofs.Common.{take}
-use Rattle.nts_model.specs.Substitutions.{replace}
-use Rattle.nts_model.specs.Numbered.{numbered_leaf, no_leaf}
+use Rattle.nts_model.specs.Terms.Substitutions.{replace}
+use Rattle.nts_model.specs.Canonical.Numbered.{numbered_leaf, no_leaf}
 use Rattle.nts_store.specs.Growth.{Extends}
 use Rattle.nts_canonical.specs.Replaced.{AreImages}
 use Rattle.nts_canonical.proofs.canonicalize.numbered_hidden.Given as goal

@@ -1,6 +1,6 @@
 use Rattle.std.proofs.Common.{refl, ap, ◌∙◌}
-use Rattle.nts_model.specs.Substitutions.{replace}
-use Rattle.nts_model.specs.Numbered.{numbered_leaf, no_leaf}
+use Rattle.nts_model.specs.Terms.Substitutions.{replace}
+use Rattle.nts_model.specs.Canonical.Numbered.{numbered_leaf, no_leaf}
 use Rattle.nts_store.proofs.Growing.{Extends-trans}
 use Rattle.nts_canonical.proofs.PairLists.{holds_kept, are_hidden-kept, hidden_row-kept, AreImages-row, AreImages-held}
 use Rattle.nts_canonical.proofs.canonicalize.numbered_query.Goals as goal

@@ -1,5 +1,5 @@
 use Rattle.std.proofs.Common.{◌≡◌, ◌+◌, ◌-◌, arith}
-use Rattle.nts_model.specs.Trees.{children}
+use Rattle.nts_model.specs.Terms.Trees.{children}
 use Rattle.nts_store.specs.Growth.{tree_at}
 use Rattle.nts_canonical.specs.declared.collecting.Task.TheVariants.{Enter}
 use Rattle.nts_canonical.proofs.Gathering.{TasksIn-push, pushed_none, pushed_one}

@@ -1,5 +1,5 @@
 use Rattle.std.proofs.Common.{◌≡◌}
-use Rattle.nts_model.specs.Numbered.{seen}
+use Rattle.nts_model.specs.Canonical.Numbered.{seen}
 use Rattle.nts_store.specs.Growth.{tree_at}
 use Rattle.nts_canonical.specs.Collecting.{stays_where, jobs, seen_after, weights, IsReading}
 use Rattle.nts_canonical.proofs.collecting.walk.Given as goal

@@ -1,6 +1,6 @@
 use Rattle.std.proofs.Common.{◌≡◌, [], rules, ap, ◌∙◌}
-use Rattle.nts_model.specs.Numbered.{seen}
-use Rattle.nts_model.specs.Responses.{is_fixed}
+use Rattle.nts_model.specs.Canonical.Numbered.{seen}
+use Rattle.nts_model.specs.Answers.Responses.{is_fixed}
 use Rattle.nts_store.specs.declared.fault.Fault.TheVariants.{Memory}
 use Rattle.nts_folding.proofs.Folded.{on_same_err, stops_only}
 use Rattle.nts_canonical.specs.Mapping.{IsAny, itself}

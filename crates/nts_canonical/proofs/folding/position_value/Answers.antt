@@ -1,5 +1,5 @@
 use Rattle.std.proofs.Common.{◌≡◌}
-use Rattle.nts_model.specs.Responses.{positioned}
+use Rattle.nts_model.specs.Answers.Responses.{positioned}
 use Rattle.nts_store.specs.declared.fault.Fault.TheVariants.{Memory}
 use Rattle.nts_folding.proofs.Folded.{on_same_err, stops_only}
 use Rattle.nts_canonical.specs.Mapping.{IsAny, same_state}

@@ -1,6 +1,6 @@
 use Rattle.std.proofs.Common.{◌≡◌, subst, sym}
-use Rattle.nts_model.specs.Resolving.{Knows, deeply_resolved}
-use Rattle.nts_model.proofs.Open.{Knows-deeply_resolved}
+use Rattle.nts_model.specs.Tables.Resolving.{Knows, deeply_resolved}
+use Rattle.nts_model.proofs.Tables.Open.{Knows-deeply_resolved}
 use Rattle.nts_unify.specs.Reading.{content_of}
 use Rattle.nts_unify.specs.Lawful.{content_of-extended}
 use Rattle.nts_store.specs.declared.fault.Fault.TheVariants.{Memory}

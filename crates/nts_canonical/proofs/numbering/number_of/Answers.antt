@@ -1,6 +1,6 @@
 use Rattle.std.proofs.Common.{ap, ◌∙◌}
 use Rattle.std.specs.Prelude.{unwrap_or}
-use Rattle.nts_model.specs.Numbered.{same}
+use Rattle.nts_model.specs.Canonical.Numbered.{same}
 use Rattle.nts_canonical.proofs.Placing.{position_or_end}
 use Rattle.nts_canonical.proofs.numbering.number_of.Goals as goal
 

@@ -1,7 +1,7 @@
 use Rattle.std.proofs.Common.{sym, ap, ◌∙◌, subst}
-use Rattle.nts_model.specs.Trees.{kind_of}
-use Rattle.nts_model.specs.Substitutions.{replace}
-use Rattle.nts_model.specs.Numbered.{numbered_leaf}
+use Rattle.nts_model.specs.Terms.Trees.{kind_of}
+use Rattle.nts_model.specs.Terms.Substitutions.{replace}
+use Rattle.nts_model.specs.Canonical.Numbered.{numbered_leaf}
 use Rattle.nts_store.specs.declared.nodes.NodeId.{NodeId}
 use Rattle.nts_store.specs.Growth.{tree_at}
 use Rattle.nts_terms.specs.Handles.{Holds}

@@ -1,6 +1,6 @@
 use Rattle.std.proofs.Common.{sym, ◌∙◌, arith, None}
 use Rattle.std.proofs.lemmas.List.Sums.{position_or_len_is}
-use Rattle.nts_model.specs.Inputs.{are_one}
+use Rattle.nts_model.specs.Canonical.Inputs.{are_one}
 use Rattle.nts_canonical.proofs.var_kinds.first_of.Goals as goal
 
 pub returns-then-are_one : goal.returns-then-are_one

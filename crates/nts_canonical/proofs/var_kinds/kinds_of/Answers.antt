@@ -1,6 +1,6 @@
 use Rattle.std.proofs.Common.{arith, ap, ◌∙◌}
 use Rattle.std.specs.List.{position_or_len}
-use Rattle.nts_model.specs.Inputs.{are_one}
+use Rattle.nts_model.specs.Canonical.Inputs.{are_one}
 use Rattle.nts_canonical.specs.SubRoots.{sub_root_in}
 use Rattle.nts_canonical.proofs.VarLists.{owned-at, one_kind}
 use Rattle.nts_canonical.proofs.var_kinds.kinds_of.Goals as goal

@@ -1,5 +1,5 @@
 use Rattle.std.proofs.Common.{◌≡◌, map, take}
-use Rattle.nts_model.specs.Inputs.{position_kind}
+use Rattle.nts_model.specs.Canonical.Inputs.{position_kind}
 use Rattle.nts_canonical.specs.SubRoots.{sub_root_in}
 use Rattle.nts_canonical.specs.Forms.{kind_of_var}
 use Rattle.nts_canonical.proofs.var_kinds.kinds_of.Given as goal

@@ -1,5 +1,5 @@
 use Rattle.std.proofs.Common.{◌≡◌, map, take}
-use Rattle.nts_model.specs.Inputs.{sub_root_of}
+use Rattle.nts_model.specs.Canonical.Inputs.{sub_root_of}
 use Rattle.nts_canonical.specs.SubRoots.{sub_root_in}
 use Rattle.nts_canonical.proofs.var_kinds.sub_roots.Given as goal
 

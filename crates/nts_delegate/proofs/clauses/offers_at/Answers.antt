@@ -1,5 +1,5 @@
 use Rattle.std.proofs.Common.{◌≡◌, drop, map, ap, sym, ◌∙◌, arith, eq-eqb}
-use Rattle.nts_model.specs.Trees.{children, row_length}
+use Rattle.nts_model.specs.Terms.Trees.{children, row_length}
 use Rattle.nts_store.specs.Growth.{tree_at}
 use Rattle.nts_delegate.specs.Clauses.{head_of}
 use Rattle.nts_delegate.proofs.Found.{found_offer, found_untaken, next_at, clause_there, held_there, goes_on_by, begins_at, all_found}

@@ -1,4 +1,4 @@
-use Rattle.nts_model.specs.Trees.{children, row_take}
+use Rattle.nts_model.specs.Terms.Trees.{children, row_take}
 use Rattle.nts_store.specs.Growth.{tree_at}
 use Rattle.nts_delegate.specs.Offers.{ArePairs}
 use Rattle.nts_delegate.proofs.clauses.pairs_of.Given as goal

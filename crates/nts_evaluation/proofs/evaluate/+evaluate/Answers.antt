@@ -1,9 +1,9 @@
 use Rattle.std.proofs.Common.{◌≡◌, inl, inr, Err, Ok, arith, rules, ◌+◌, ◌≤◌, map, length, take, get_or, refl, ap, sym, ◌∙◌, subst, length-append, [], ◌∷◌, true, false}
 use Rattle.std.specs.Prelude.{is_some, IfSome}
 use Rattle.std.proofs.lemmas.List.{take_all}
-use Rattle.nts_model.specs.Sequents.{Among}
-use Rattle.nts_model.specs.Handlers.{meaning}
-use Rattle.nts_model.proofs.Bringing.{only-trans, only-refl}
+use Rattle.nts_model.specs.Derivations.Sequents.{Among}
+use Rattle.nts_model.specs.Derivations.Handlers.{meaning}
+use Rattle.nts_model.proofs.Responses.Bringing.{only-trans, only-refl}
 use Rattle.nts_certainty.specs.declared.sources.GoalSource.{GoalSource}
 use Rattle.nts_store.specs.Growth.{tree_at, AllIn}
 use Rattle.nts_store.proofs.Growing.{Extends-trans, Extends-refl}
@@ -40,9 +40,9 @@ use Rattle.nts_queries.proofs.Opened.{told_through, told_offered, refuted_throug
 use Rattle.nts_queries.proofs.Probed.{found_in, found_still, found_fits, found_derived, went_in, plain_of, doubtful, not_kept, told_or_plain, run_replies, said_of}
 use Rattle.nts_queries.proofs.Outcomes.{found_earlier, founds_more, founds_with, outcomes_first, outcomes_more, found_merged, told_merged, failed_of}
 use Rattle.nts_queries.proofs.Ran.{breaks, added_is, added_only, ran_to, ran_refused, all_proved, all_posed, proved_all, ok_inside}
-use Rattle.nts_model.specs.Rules.{goal_kind}
-use Rattle.nts_model.specs.Proofs.{passed}
-use Rattle.nts_model.proofs.Assuming.{covers_passed}
+use Rattle.nts_model.specs.Derivations.Rules.{goal_kind}
+use Rattle.nts_model.specs.Derivations.Proofs.{passed}
+use Rattle.nts_model.proofs.Derivations.Assuming.{covers_passed}
 use Rattle.nts_search.specs.Kinds.{goal_kind_of}
 use Rattle.nts_search.specs.Searching.{entry_at, entries_at}
 use Rattle.nts_search.proofs.Stacked.{entries_pushed, entries_popped}
@@ -51,9 +51,9 @@ use Rattle.nts_queries.proofs.Searching.{Searches-refl, Searches-trans, search_l
 use Rattle.nts_search.specs.declared.stack.StackEntry.{StackEntry}
 use Rattle.nts_canonical.specs.declared.types.CanonicalInput.{CanonicalInput}
 use Rattle.nts_queries.specs.Answering.{IsAnswerTo}
-use Rattle.nts_model.specs.Stacks.{IsDerivedFrom, IsProvedFrom, assumptions}
+use Rattle.nts_model.specs.Searching.Stacks.{IsDerivedFrom, IsProvedFrom, assumptions}
 use Rattle.nts_queries.specs.Found.{Found}
-use Rattle.nts_model.specs.Responses.{answer_sequent}
+use Rattle.nts_model.specs.Answers.Responses.{answer_sequent}
 use Rattle.nts_queries.proofs.Rounds.{search_noted, own_asked, own_form, entry_held, round_proved, round_told, grown, ran, search_then, entry_of, holds_answer, search_pushed, tell_pushed, search_same, search_popped, round_closes, last_fits, last_told, last_refuted, last_each, cycle_told, cycle_refuted, cycle_derived, first_fits, first_told, round_ends, ended_entry}
 use Rattle.nts_delegate.specs.Relevant.{LeavesOut}
 use Rattle.nts_queries.proofs.LeftOut.{all_outcomes, kept_offered}

@@ -1,6 +1,6 @@
 use Rattle.std.proofs.Common.{◌≡◌, ◌+◌, ◌*◌, ◌≤◌, take, map, []}
 use Rattle.std.specs.Prelude.{All}
-use Rattle.nts_model.specs.Passing.{BringsOnly}
+use Rattle.nts_model.specs.Tables.Passing.{BringsOnly}
 use Rattle.nts_unify.specs.Reading.{content_of}
 use Rattle.nts_terms.specs.Rest.{Grows}
 use Rattle.nts_response.specs.Forms.{response_at}

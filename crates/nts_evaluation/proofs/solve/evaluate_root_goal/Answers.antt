@@ -1,7 +1,7 @@
 use Rattle.std.proofs.Common.{[]}
 use Rattle.nts_store.proofs.Growing.{Extends-refl}
 use Rattle.nts_queries.proofs.Running.{Stays-now}
-use Rattle.nts_model.proofs.Rooted.{proved_held, proof_falls}
+use Rattle.nts_model.proofs.Derivations.Rooted.{proved_held, proof_falls}
 use Rattle.nts_queries.proofs.Evaluating.{IsPosed-admitted, each_of}
 use Rattle.nts_evaluation.proofs.solve.evaluate_root_goal.Goals as goal
 

@@ -1,6 +1,6 @@
 use Rattle.std.proofs.Common.{◌≡◌, ⊎_elim, refl, sym, subst, ◌∙◌, arith, get_or, false, IsTrue}
 use Rattle.std.proofs.lemmas.List.{get_or_default}
-use Rattle.nts_model.proofs.Under.{same_or_other}
+use Rattle.nts_model.proofs.Tables.Under.{same_or_other}
 use Rattle.nts_response.specs.Forms.{HoldsResponse}
 use Rattle.nts_merging.specs.Merging.{AppliesAlways}
 use Rattle.nts_merging.proofs.merging.first_that_applies_always.Goals as goal

@@ -1,4 +1,4 @@
-use Rattle.nts_model.proofs.CanonicalForms.{forms_tell_inputs}
+use Rattle.nts_model.proofs.Canonical.CanonicalForms.{forms_tell_inputs}
 use Rattle.nts_model.proofs.inputs.forms_tell_inputs.Goals as goal
 
 pub returns : goal.returns

@@ -1,4 +1,4 @@
-use Rattle.nts_model.proofs.CanonicalForms.{making_gives_form}
+use Rattle.nts_model.proofs.Canonical.CanonicalForms.{making_gives_form}
 use Rattle.nts_model.proofs.inputs.making_gives_form.Goals as goal
 
 pub returns : goal.returns

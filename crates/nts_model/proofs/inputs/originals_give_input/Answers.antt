@@ -1,4 +1,4 @@
-use Rattle.nts_model.proofs.CanonicalForms.{originals_give_input, originals_are_leaves}
+use Rattle.nts_model.proofs.Canonical.CanonicalForms.{originals_give_input, originals_are_leaves}
 use Rattle.nts_model.proofs.inputs.originals_give_input.Goals as goal
 
 pub returns : goal.returns

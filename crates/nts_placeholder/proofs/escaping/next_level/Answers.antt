@@ -1,5 +1,5 @@
 use Rattle.std.proofs.Common.{◌≡◌, ◌<◌, nat_lt, ap, ◌∙◌, arith}
-use Rattle.nts_model.specs.Trees.{children, binders, row_length}
+use Rattle.nts_model.specs.Terms.Trees.{children, binders, row_length}
 use Rattle.nts_store.specs.Growth.{tree_at}
 use Rattle.nts_store.proofs.Pending.{above-all, above-falls}
 use Rattle.nts_store.proofs.Levels.{binders_of, binders_same, binders_one, binders_none}

@@ -1,6 +1,6 @@
 use Rattle.std.proofs.Common.{◌≡◌, ◌↔◌, Bool, false}
 use Rattle.std.specs.Prelude.{IsTrue}
-use Rattle.nts_model.specs.Trees.{any_label}
+use Rattle.nts_model.specs.Terms.Trees.{any_label}
 use Rattle.nts_store.specs.Growth.{tree_at}
 use Rattle.nts_store.specs.Labels.{AllLabels}
 use Rattle.nts_queries.specs.Evaluation.{is_internal}

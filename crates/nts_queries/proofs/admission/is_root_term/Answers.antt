@@ -1,6 +1,6 @@
 use Rattle.std.proofs.Common.{◌≡◌, ◌↔◌, Bool, true, false, is_some, rules}
 use Rattle.std.specs.Prelude.{IsTrue}
-use Rattle.nts_model.specs.Resolving.{Knows}
+use Rattle.nts_model.specs.Tables.Resolving.{Knows}
 use Rattle.nts_store.specs.Growth.{tree_at}
 use Rattle.nts_unify.specs.Reading.{content_of}
 use Rattle.nts_queries.specs.Evaluation.{IsRootTerm}

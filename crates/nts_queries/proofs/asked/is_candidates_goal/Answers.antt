@@ -1,6 +1,6 @@
 use Rattle.std.proofs.Common.{rules, ◌≡◌, ◌∙◌, false, not, is_some, ap}
-use Rattle.nts_model.specs.Trees.{children, row_length}
-use Rattle.nts_model.specs.Sequents.{HasClosedStatements}
+use Rattle.nts_model.specs.Terms.Trees.{children, row_length}
+use Rattle.nts_model.specs.Derivations.Sequents.{HasClosedStatements}
 use Rattle.nts_store.specs.Growth.{tree_at}
 use Rattle.nts_terms.specs.declared.kinds.PredicateKind.TheVariants as predicate
 use Rattle.nts_queries.proofs.Asking.{trait_asked}

@@ -1,5 +1,5 @@
 use Rattle.std.proofs.Common.{◌≤◌, arith}
-use Rattle.nts_model.specs.Trees.{children, row_length}
+use Rattle.nts_model.specs.Terms.Trees.{children, row_length}
 use Rattle.nts_store.specs.Growth.{tree_at}
 use Rattle.nts_queries.proofs.Asking.{closed_all}
 use Rattle.nts_queries.proofs.asked.statements_are_closed.Goals as goal

@@ -1,4 +1,4 @@
-use Rattle.nts_model.specs.Trees.{children}
+use Rattle.nts_model.specs.Terms.Trees.{children}
 use Rattle.nts_store.specs.Growth.{tree_at}
 use Rattle.nts_queries.proofs.Asking.{AreClosedBelow}
 use Rattle.nts_queries.proofs.asked.statements_are_closed.Given as goal

@@ -1,6 +1,6 @@
 use Rattle.std.proofs.Common.{rules, ◌≡◌, ◌∙◌, refl, false}
 use Rattle.std.specs.Prelude.{is_some}
-use Rattle.nts_model.specs.Trees.{IsClosed}
+use Rattle.nts_model.specs.Terms.Trees.{IsClosed}
 use Rattle.nts_store.specs.Growth.{tree_at}
 use Rattle.nts_store.proofs.Escaping.{closed_by_facts}
 use Rattle.nts_store.proofs.Growing.{Extends-refl}

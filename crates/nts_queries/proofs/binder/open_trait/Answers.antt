@@ -2,9 +2,9 @@ use Rattle.std.proofs.Common.{rules, ◌≡◌, refl, sym, subst, arith}
 use Rattle.std.proofs.lemmas.Grind.{common_steps}
 use Rattle.nts_model.specs.declared.labels.ClauseHead.TheVariants as clause
 use Rattle.nts_model.specs.declared.labels.Label.TheVariants as label
-use Rattle.nts_model.specs.Trees.{node, more, empty, IsClosed}
-use Rattle.nts_model.specs.Related.{unbound}
-use Rattle.nts_model.specs.Opening.{placeholder_in}
+use Rattle.nts_model.specs.Terms.Trees.{node, more, empty, IsClosed}
+use Rattle.nts_model.specs.Derivations.Related.{unbound}
+use Rattle.nts_model.specs.Refutation.Opening.{placeholder_in}
 use Rattle.nts_store.specs.Growth.{tree_at, Extends}
 use Rattle.nts_store.proofs.Growing.{Extends-trans}
 use Rattle.nts_unify.specs.Reading.{content_of}

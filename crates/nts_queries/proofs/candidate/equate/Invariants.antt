@@ -1,5 +1,5 @@
 use Rattle.std.proofs.Common.{take}
-use Rattle.nts_model.specs.Passing.{BringsOnly}
+use Rattle.nts_model.specs.Tables.Passing.{BringsOnly}
 use Rattle.nts_unify.specs.Reading.{content_of}
 use Rattle.nts_queries.specs.Running.{EquatesEach}
 use Rattle.nts_queries.specs.Evaluation.{Runs, AreValues, asked_terms}

@@ -8,7 +8,7 @@ use Rattle.nts_delegate.specs.Candidates.{IsRegionConstraint}
 use Rattle.nts_delegate.specs.declared.delegate.RegionConstraint.{RegionConstraint}
 use Rattle.nts_queries.proofs.Evaluating.{Runs-refl, Runs-trans, AreValues-later, IsRegionConstraint-extended, constraint_at, IsPosed-later}
 use Rattle.nts_queries.proofs.candidate.record_constraints.Goals as goal
-use Rattle.nts_model.proofs.Bringing.{only-refl, only-trans}
+use Rattle.nts_model.proofs.Responses.Bringing.{only-refl, only-trans}
 use Rattle.nts_queries.proofs.Labels.{only_earlier}
 
 pub record_one-requires-clause-constraint : goal.record_one-requires-clause-constraint

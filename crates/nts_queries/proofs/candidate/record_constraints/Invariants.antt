@@ -1,6 +1,6 @@
 use Rattle.std.proofs.Common.{take, map}
-use Rattle.nts_model.specs.Passing.{BringsOnly}
-use Rattle.nts_model.specs.Forcing.{AddsAll}
+use Rattle.nts_model.specs.Tables.Passing.{BringsOnly}
+use Rattle.nts_model.specs.Refutation.Forcing.{AddsAll}
 use Rattle.nts_store.specs.Growth.{tree_at}
 use Rattle.nts_unify.specs.Reading.{content_of}
 use Rattle.nts_delegate.specs.Offered.{constraint_of}

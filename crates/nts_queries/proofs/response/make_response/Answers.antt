@@ -6,7 +6,7 @@ use Rattle.nts_unify.specs.Lawful.{content_of-extended}
 use Rattle.nts_table.specs.TableLaws.{IsTable-extended}
 use Rattle.nts_canonical.specs.Forms.{trees_of}
 use Rattle.nts_canonical.specs.SubRoots.{sub_root_in}
-use Rattle.nts_model.specs.Responses.{response_of}
+use Rattle.nts_model.specs.Answers.Responses.{response_of}
 use Rattle.nts_response.specs.Forms.{response_at, findings_at}
 use Rattle.nts_response.specs.declared.types.Response.{Response}
 use Rattle.nts_queries.specs.Asking.{IsResponseOf}

@@ -1,5 +1,5 @@
 use Rattle.std.proofs.Common.{take}
-use Rattle.nts_model.specs.Resolving.{deeply_resolved}
+use Rattle.nts_model.specs.Tables.Resolving.{deeply_resolved}
 use Rattle.nts_terms.specs.Handles.{HoldsArg}
 use Rattle.nts_terms.specs.Rest.{Grows}
 use Rattle.nts_unify.specs.Reading.{content_of}

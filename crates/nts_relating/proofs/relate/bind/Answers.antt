@@ -1,6 +1,6 @@
 use Rattle.std.proofs.Common.{◌≢◌, ◌∙◌, ap, subst, sym, arith, Some}
-use Rattle.nts_model.proofs.Resolved.{no_flag, no_rank}
-use Rattle.nts_model.proofs.Slots.{slice_get_below}
+use Rattle.nts_model.proofs.Tables.Resolved.{no_flag, no_rank}
+use Rattle.nts_model.proofs.Tables.Slots.{slice_get_below}
 use Rattle.nts_relating.proofs.GenLemmas.{slots_later}
 use Rattle.nts_model.specs.declared.labels.VariableKind.TheVariants as kind
 use Rattle.nts_unify.specs.Reading.{content_of}
@@ -8,8 +8,8 @@ use Rattle.nts_unify.proofs.Leading.{kind_at-entry, universe_of-entry}
 use Rattle.nts_relating.proofs.PairLemmas.{not_infer, err_of}
 use Rattle.nts_relating.proofs.RefusalLemmas.{forbids_kind, forbids_blocked}
 use Rattle.nts_relating.proofs.Ranks.{rank_positive}
-use Rattle.nts_model.specs.Trees.{Tree}
-use Rattle.nts_model.specs.Fitting.{Fits}
+use Rattle.nts_model.specs.Terms.Trees.{Tree}
+use Rattle.nts_model.specs.Terms.Fitting.{Fits}
 use Rattle.nts_store.specs.Growth.{tree_at}
 use Rattle.nts_relating.proofs.BindLemmas.{HasValue, bind_value, bindable_no_region}
 use Rattle.nts_relating.proofs.relate.bind.Goals as goal

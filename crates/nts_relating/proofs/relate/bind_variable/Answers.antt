@@ -1,5 +1,5 @@
 use Rattle.std.proofs.Common.{refl}
-use Rattle.nts_model.proofs.Slots.{slice_get_below}
+use Rattle.nts_model.proofs.Tables.Slots.{slice_get_below}
 use Rattle.nts_unify.specs.Reading.{content_of, IsLawful}
 use Rattle.nts_relating.specs.Relating.{AreMadeOne}
 use Rattle.nts_unify.specs.Lawful.{IsLawful-extended}

@@ -1,5 +1,5 @@
 use Rattle.std.proofs.Common.{◌≤◌}
-use Rattle.nts_model.specs.Trees.{children, row_length}
+use Rattle.nts_model.specs.Terms.Trees.{children, row_length}
 use Rattle.nts_store.specs.Growth.{tree_at}
 use Rattle.nts_relating.specs.Relating.{Pushed}
 use Rattle.nts_relating.proofs.relate.push_children.Given as goal

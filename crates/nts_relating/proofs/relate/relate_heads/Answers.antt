@@ -1,13 +1,13 @@
 use Rattle.std.proofs.Common.{◌≡◌, true, false, sym, ap, ◌∙◌}
 use Rattle.std.specs.Prelude.{get_or}
-use Rattle.nts_model.specs.Trees.{empty}
-use Rattle.nts_model.specs.Equations.{AreRelated}
+use Rattle.nts_model.specs.Terms.Trees.{empty}
+use Rattle.nts_model.specs.Tables.Equations.{AreRelated}
 use Rattle.nts_store.specs.Growth.{tree_at}
 use Rattle.nts_store.proofs.Growing.{Extends-refl}
 use Rattle.nts_unify.specs.Changing.{is_free_region}
 use Rattle.nts_unify.specs.Reading.{content_of}
 use Rattle.nts_unify.proofs.Keeping.{Keeps-refl, IsLater-refl}
-use Rattle.nts_model.proofs.Bringing.{brings-refl, brings-of}
+use Rattle.nts_model.proofs.Responses.Bringing.{brings-refl, brings-of}
 use Rattle.nts_relating.proofs.RegionLemmas.{region_of_term}
 use Rattle.nts_relating.proofs.PairLemmas.{Stepped, last_pair, step_kept, step_pushed, heads_same, heads_regions, regions_bring}
 use Rattle.nts_relating.proofs.MetPairs.{Passed, memo_done, memo_pushed, passed_met, met_keys, new_keys}

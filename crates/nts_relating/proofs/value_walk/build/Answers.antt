@@ -1,5 +1,5 @@
 use Rattle.std.proofs.Common.{◌≡◌, ◌+◌, ◌<◌, sym, ap, ◌∙◌, arith}
-use Rattle.nts_model.specs.Trees.{empty, children, row_length, row_take}
+use Rattle.nts_model.specs.Terms.Trees.{empty, children, row_length, row_take}
 use Rattle.nts_store.specs.Growth.{tree_at, trees_at}
 use Rattle.nts_store.proofs.Growing.{AllIn-push, Extends-refl, row_take-all}
 use Rattle.nts_relating.specs.declared.value_walk.Task.TheVariants as task

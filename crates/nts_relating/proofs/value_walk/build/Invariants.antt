@@ -1,4 +1,4 @@
-use Rattle.nts_model.specs.Trees.{children, row_take}
+use Rattle.nts_model.specs.Terms.Trees.{children, row_take}
 use Rattle.nts_store.specs.Growth.{tree_at, trees_at, AllIn}
 use Rattle.nts_unify.specs.Reading.{content_of}
 use Rattle.nts_relating.specs.Relating.{Generalized}

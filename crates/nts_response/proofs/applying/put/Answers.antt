@@ -1,10 +1,10 @@
 use Rattle.std.proofs.Common.{◌≡◌, List, map, sym, ap, subst, ◌∙◌}
-use Rattle.nts_model.specs.Trees.{Tree}
-use Rattle.nts_model.specs.Contents.{Content}
-use Rattle.nts_model.specs.Handlers.{filled, hidden_by, premise_by}
-use Rattle.nts_model.specs.Applying.{Records}
-use Rattle.nts_model.specs.Passing.{BringsOnly}
-use Rattle.nts_model.specs.SubUnifying.{JoinsSubRoots}
+use Rattle.nts_model.specs.Terms.Trees.{Tree}
+use Rattle.nts_model.specs.Tables.Contents.{Content}
+use Rattle.nts_model.specs.Derivations.Handlers.{filled, hidden_by, premise_by}
+use Rattle.nts_model.specs.Answers.Applying.{Records}
+use Rattle.nts_model.specs.Tables.Passing.{BringsOnly}
+use Rattle.nts_model.specs.Tables.SubUnifying.{JoinsSubRoots}
 use Rattle.nts_store.specs.Growth.{tree_at, Extends}
 use Rattle.nts_store.specs.Kept.{map-kept}
 use Rattle.nts_store.proofs.Growing.{AllIn-extended, Extends-trans}

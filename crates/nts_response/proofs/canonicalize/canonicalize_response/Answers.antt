@@ -1,5 +1,5 @@
 use Rattle.std.proofs.Common.{◌∙◌, ap, [], rules}
-use Rattle.nts_model.specs.Responses.{is_fixed, row_of, answer_kinds}
+use Rattle.nts_model.specs.Answers.Responses.{is_fixed, row_of, answer_kinds}
 use Rattle.nts_unify.specs.Reading.{content_of}
 use Rattle.nts_canonical.specs.SubRoots.{sub_root_in}
 use Rattle.nts_canonical.proofs.Canonizing.{owned-seen}

@@ -1,4 +1,4 @@
-use Rattle.nts_model.specs.Responses.{positioned}
+use Rattle.nts_model.specs.Answers.Responses.{positioned}
 use Rattle.nts_store.proofs.Growing.{Extends-refl, Extends-trans}
 use Rattle.nts_response.proofs.Found.{all_replaced}
 use Rattle.nts_response.proofs.canonicalize.numbered_response.Goals as goal

@@ -1,7 +1,7 @@
 use Rattle.std.proofs.Common.{◌++◌, take, map}
-use Rattle.nts_model.specs.Applying.{MakesEqual}
-use Rattle.nts_model.specs.Handlers.{filled}
-use Rattle.nts_model.specs.Passing.{BringsOnly}
+use Rattle.nts_model.specs.Answers.Applying.{MakesEqual}
+use Rattle.nts_model.specs.Derivations.Handlers.{filled}
+use Rattle.nts_model.specs.Tables.Passing.{BringsOnly}
 use Rattle.nts_unify.specs.Changing.{IsLater}
 use Rattle.nts_store.specs.Growth.{tree_at}
 use Rattle.nts_unify.specs.Reading.{content_of}

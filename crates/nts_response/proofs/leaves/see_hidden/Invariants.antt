@@ -1,7 +1,7 @@
 use Rattle.std.proofs.Common.{◌≡◌, map, drop}
-use Rattle.nts_model.specs.Trees.{empty}
-use Rattle.nts_model.specs.Numbered.{seen}
-use Rattle.nts_model.specs.Responses.{is_fixed, hidden_row}
+use Rattle.nts_model.specs.Terms.Trees.{empty}
+use Rattle.nts_model.specs.Canonical.Numbered.{seen}
+use Rattle.nts_model.specs.Answers.Responses.{is_fixed, hidden_row}
 use Rattle.nts_delegate.specs.Offered.{hidden_of}
 use Rattle.nts_response.proofs.leaves.see_hidden.Given as goal
 

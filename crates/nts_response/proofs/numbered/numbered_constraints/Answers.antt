@@ -1,6 +1,6 @@
 use Rattle.std.proofs.Common.{arith, subst}
 use Rattle.std.proofs.lemmas.List.{take_all}
-use Rattle.nts_model.specs.Responses.{positioned, recorded_by}
+use Rattle.nts_model.specs.Answers.Responses.{positioned, recorded_by}
 use Rattle.nts_store.proofs.Growing.{Extends-trans}
 use Rattle.nts_response.specs.Forms.{HoldsConstraint, recorded_at}
 use Rattle.nts_response.specs.Replacing.{ReplacesEach}

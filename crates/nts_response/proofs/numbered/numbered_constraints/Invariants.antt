@@ -1,5 +1,5 @@
 use Rattle.std.proofs.Common.{take}
-use Rattle.nts_model.specs.Responses.{positioned, recorded_by}
+use Rattle.nts_model.specs.Answers.Responses.{positioned, recorded_by}
 use Rattle.nts_store.specs.Growth.{Extends}
 use Rattle.nts_response.specs.Forms.{HoldsConstraint, recorded_at}
 use Rattle.nts_response.specs.Replacing.{ReplacesEach}

@@ -1,7 +1,7 @@
 use Rattle.std.proofs.Common.{arith, subst}
 use Rattle.std.proofs.lemmas.List.{take_all}
-use Rattle.nts_model.specs.Responses.{positioned}
-use Rattle.nts_model.specs.Handlers.{premise_by}
+use Rattle.nts_model.specs.Answers.Responses.{positioned}
+use Rattle.nts_model.specs.Derivations.Handlers.{premise_by}
 use Rattle.nts_store.proofs.Growing.{Extends-trans}
 use Rattle.nts_response.specs.Forms.{HoldsOpen, premise_at}
 use Rattle.nts_response.specs.Replacing.{ReplacesEach}

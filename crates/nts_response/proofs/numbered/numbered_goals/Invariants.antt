@@ -1,6 +1,6 @@
 use Rattle.std.proofs.Common.{take}
-use Rattle.nts_model.specs.Responses.{positioned}
-use Rattle.nts_model.specs.Handlers.{premise_by}
+use Rattle.nts_model.specs.Answers.Responses.{positioned}
+use Rattle.nts_model.specs.Derivations.Handlers.{premise_by}
 use Rattle.nts_store.specs.Growth.{Extends}
 use Rattle.nts_response.specs.Forms.{HoldsOpen, premise_at}
 use Rattle.nts_response.specs.Replacing.{ReplacesEach}

@@ -1,6 +1,6 @@
 use Rattle.std.proofs.Common.{take}
-use Rattle.nts_model.specs.Responses.{positioned}
-use Rattle.nts_model.specs.Handlers.{hidden_by}
+use Rattle.nts_model.specs.Answers.Responses.{positioned}
+use Rattle.nts_model.specs.Derivations.Handlers.{hidden_by}
 use Rattle.nts_store.specs.Growth.{Extends}
 use Rattle.nts_delegate.specs.Offered.{hidden_of}
 use Rattle.nts_canonical.specs.Forms.{IsHidden}

@@ -1,6 +1,6 @@
 use Rattle.std.proofs.Common.{arith, subst}
 use Rattle.std.proofs.lemmas.List.{take_all}
-use Rattle.nts_model.specs.Responses.{positioned}
+use Rattle.nts_model.specs.Answers.Responses.{positioned}
 use Rattle.nts_terms.specs.Handles.{HoldsArg}
 use Rattle.nts_store.proofs.Growing.{Extends-trans}
 use Rattle.nts_response.specs.Replacing.{ReplacesEach, value_at}

@@ -1,5 +1,5 @@
 use Rattle.std.proofs.Common.{take}
-use Rattle.nts_model.specs.Responses.{positioned}
+use Rattle.nts_model.specs.Answers.Responses.{positioned}
 use Rattle.nts_store.specs.Growth.{Extends}
 use Rattle.nts_terms.specs.Handles.{HoldsArg}
 use Rattle.nts_response.specs.Replacing.{ReplacesEach, value_at}

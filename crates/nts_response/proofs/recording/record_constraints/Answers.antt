@@ -1,7 +1,7 @@
 use Rattle.std.proofs.Common.{refl}
 use Rattle.nts_model.specs.declared.labels.Relation.TheVariants as relation
-use Rattle.nts_model.proofs.Bringing.{only-refl}
-use Rattle.nts_model.proofs.SubUnified.{JoinsSubRoots-refl}
+use Rattle.nts_model.proofs.Responses.Bringing.{only-refl}
+use Rattle.nts_model.proofs.Tables.SubUnified.{JoinsSubRoots-refl}
 use Rattle.nts_store.specs.Kept.{AllIn-kept}
 use Rattle.nts_terms.specs.declared.modes.VisibleForLeakCheck.{VisibleForLeakCheck}
 use Rattle.nts_terms.specs.declared.modes.VisibleForLeakCheck.TheVariants.{Yes}

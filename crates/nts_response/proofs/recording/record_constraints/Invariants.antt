@@ -1,8 +1,8 @@
 use Rattle.std.proofs.Common.{take, map}
-use Rattle.nts_model.specs.Applying.{Records}
-use Rattle.nts_model.specs.Handlers.{filled}
-use Rattle.nts_model.specs.Passing.{BringsOnly}
-use Rattle.nts_model.specs.SubUnifying.{JoinsSubRoots}
+use Rattle.nts_model.specs.Answers.Applying.{Records}
+use Rattle.nts_model.specs.Derivations.Handlers.{filled}
+use Rattle.nts_model.specs.Tables.Passing.{BringsOnly}
+use Rattle.nts_model.specs.Tables.SubUnifying.{JoinsSubRoots}
 use Rattle.nts_store.specs.Growth.{tree_at}
 use Rattle.nts_unify.specs.Reading.{content_of}
 use Rattle.nts_unify.specs.Recording.{is_visible}

@@ -1,5 +1,5 @@
 use Rattle.std.proofs.Common.{subst}
-use Rattle.nts_model.specs.SubUnifying.{JoinsSubRoots}
+use Rattle.nts_model.specs.Tables.SubUnifying.{JoinsSubRoots}
 use Rattle.nts_store.specs.Growth.{tree_at}
 use Rattle.nts_store.proofs.Growing.{IsIn-extended, AllIn-extended, Extends-trans}
 use Rattle.nts_store.specs.Kept.{map-kept}

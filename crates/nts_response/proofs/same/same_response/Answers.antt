@@ -1,5 +1,5 @@
 use Rattle.std.proofs.Common.{rules, refl, ◌≡◌, map, ap}
-use Rattle.nts_model.specs.Responses.{Response as Form}
+use Rattle.nts_model.specs.Answers.Responses.{Response as Form}
 use Rattle.nts_canonical.specs.Forms.{kind_of_var}
 use Rattle.nts_response.proofs.EntriesTold.{found_one}
 use Rattle.nts_response.proofs.same.same_response.Goals as goal

@@ -1,6 +1,6 @@
 use Rattle.std.proofs.Common.{◌≡◌, [], ◌∙◌, ap, rules}
-use Rattle.nts_model.specs.Resolving.{deeply_resolved}
-use Rattle.nts_model.specs.Responses.{is_fixed, positioned, answer_kinds}
+use Rattle.nts_model.specs.Tables.Resolving.{deeply_resolved}
+use Rattle.nts_model.specs.Answers.Responses.{is_fixed, positioned, answer_kinds}
 use Rattle.nts_unify.specs.Reading.{content_of}
 use Rattle.nts_canonical.specs.Forms.{trees_of}
 use Rattle.nts_canonical.specs.SubRoots.{sub_root_in}

@@ -1,7 +1,7 @@
 use Rattle.std.proofs.Common.{◌≡◌, ⊎_elim, arith, refl, sym, subst}
 use Rattle.std.proofs.lemmas.List.{length-map}
-use Rattle.nts_model.specs.Trees.{empty}
-use Rattle.nts_model.proofs.Under.{same_or_other}
+use Rattle.nts_model.specs.Terms.Trees.{empty}
+use Rattle.nts_model.proofs.Tables.Under.{same_or_other}
 use Rattle.nts_store.specs.Growth.{tree_at}
 use Rattle.nts_terms.specs.declared.handles.GenericArg.{GenericArg}
 use Rattle.nts_canonical.specs.Forms.{trees_of}

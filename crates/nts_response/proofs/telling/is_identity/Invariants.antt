@@ -1,5 +1,5 @@
 use Rattle.std.proofs.Common.{ℕ, ◌<◌, get_or}
-use Rattle.nts_model.specs.Trees.{empty}
+use Rattle.nts_model.specs.Terms.Trees.{empty}
 use Rattle.nts_canonical.specs.Forms.{trees_of}
 use Rattle.nts_response.specs.Applied.{IsPosition}
 use Rattle.nts_response.proofs.telling.is_identity.Given as goal

@@ -1,6 +1,6 @@
 use Rattle.std.proofs.Common.{◌+◌, ◌∷◌, refl, subst, arith}
 use Rattle.std.specs.Prelude.{◌↔◌, drop, get_or}
-use Rattle.nts_model.specs.Responses.{IsIdentity, ends}
+use Rattle.nts_model.specs.Answers.Responses.{IsIdentity, ends}
 use Rattle.nts_store.specs.Growth.{tree_at}
 use Rattle.nts_terms.specs.declared.handles.GenericArg.{GenericArg}
 use Rattle.nts_canonical.specs.Forms.{trees_of}

@@ -1,6 +1,6 @@
 use Rattle.std.proofs.Common.{◌≤◌}
 use Rattle.std.specs.Prelude.{◌↔◌, drop}
-use Rattle.nts_model.specs.Responses.{IsIdentity}
+use Rattle.nts_model.specs.Answers.Responses.{IsIdentity}
 use Rattle.nts_canonical.specs.Forms.{trees_of}
 use Rattle.nts_response.proofs.telling.is_identity_modulo_regions.Given as goal
 

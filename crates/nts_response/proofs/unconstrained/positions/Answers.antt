@@ -1,7 +1,7 @@
 use Rattle.std.proofs.Common.{arith, ap, ◌∙◌}
 use Rattle.nts_model.specs.declared.labels.BoundVarIndexKind.TheVariants as index
 use Rattle.nts_model.specs.declared.labels.Label.TheVariants as label
-use Rattle.nts_model.specs.Trees.{node, empty}
+use Rattle.nts_model.specs.Terms.Trees.{node, empty}
 use Rattle.nts_store.proofs.Growing.{Extends-trans}
 use Rattle.nts_response.proofs.Positioned.{one_position, all_positions}
 use Rattle.nts_response.proofs.unconstrained.positions.Goals as goal

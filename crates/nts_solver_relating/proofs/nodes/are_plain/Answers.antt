@@ -1,8 +1,8 @@
 use Rattle.std.proofs.Common.{◌≡◌, Bool, true, false, sym, ◌∙◌, rules, refl}
 use mathlib.Core.Bool.{not}
 use Rattle.nts_model.specs.declared.labels.Variance.TheVariants as variances
-use Rattle.nts_model.specs.Trees.{any_label, is_alias}
-use Rattle.nts_model.specs.Resolving.{resolved}
+use Rattle.nts_model.specs.Terms.Trees.{any_label, is_alias}
+use Rattle.nts_model.specs.Tables.Resolving.{resolved}
 use Rattle.nts_store.specs.Growth.{tree_at}
 use Rattle.nts_table.specs.TableLaws.{IsTable-extended}
 use Rattle.nts_unify.specs.Reading.{content_of}

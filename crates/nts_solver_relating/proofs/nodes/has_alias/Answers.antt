@@ -1,6 +1,6 @@
 use Rattle.std.proofs.Common.{◌≡◌, false, sym, ap, ◌∙◌, rules}
-use Rattle.nts_model.specs.Trees.{any_label, is_alias, is_infer}
-use Rattle.nts_model.proofs.Kept.{resolved-no_infer}
+use Rattle.nts_model.specs.Terms.Trees.{any_label, is_alias, is_infer}
+use Rattle.nts_model.proofs.Tables.Kept.{resolved-no_infer}
 use Rattle.nts_store.specs.Growth.{tree_at}
 use Rattle.nts_store.specs.declared.type_flags.TypeFlags.{TypeFlags}
 use Rattle.nts_unify.specs.Reading.{content_of}

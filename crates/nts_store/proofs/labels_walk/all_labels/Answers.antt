@@ -1,6 +1,6 @@
 use Rattle.std.proofs.Common.{◌≡◌, ◌<◌, arith}
 use Rattle.std.specs.Prelude.{IsTrue}
-use Rattle.nts_model.specs.Trees.{children, row_length}
+use Rattle.nts_model.specs.Terms.Trees.{children, row_length}
 use Rattle.nts_store.specs.Growth.{tree_at}
 use Rattle.nts_store.proofs.Pending.{left_within, left_fails, left_after, added_none, added_more, above-falls}
 use Rattle.nts_store.proofs.labels_walk.all_labels.Goals as goal

@@ -1,5 +1,5 @@
 use Rattle.std.proofs.Common.{refl, arith}
-use Rattle.nts_model.proofs.Scoping.{closed_listed}
+use Rattle.nts_model.proofs.Terms.Scoping.{closed_listed}
 use Rattle.nts_store.proofs.Levels.{levels_end}
 use Rattle.nts_store.proofs.levels_walk.all_listed.Goals as goal
 

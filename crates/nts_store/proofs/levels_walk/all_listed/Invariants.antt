@@ -1,4 +1,4 @@
-use Rattle.nts_model.specs.Trees.{children}
+use Rattle.nts_model.specs.Terms.Trees.{children}
 use Rattle.nts_store.specs.Growth.{tree_at}
 use Rattle.nts_store.proofs.Levels.{IsAtLevel}
 use Rattle.nts_store.proofs.levels_walk.all_listed.Given as goal

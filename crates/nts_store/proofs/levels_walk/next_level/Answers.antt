@@ -1,6 +1,6 @@
 use Rattle.std.proofs.Common.{◌≡◌, ◌<◌, nat_lt, ap, ◌∙◌, arith}
 use Rattle.std.specs.Prelude.{IsTrue}
-use Rattle.nts_model.specs.Trees.{children, binders, row_length}
+use Rattle.nts_model.specs.Terms.Trees.{children, binders, row_length}
 use Rattle.nts_store.specs.Growth.{tree_at}
 use Rattle.nts_store.proofs.Pending.{above-all, above-falls}
 use Rattle.nts_store.proofs.Levels.{binders_of, binders_same, binders_one, binders_none, left_within, left_below, left_skipped, left_fails, left_after, added_none, added_here, added_deeper}

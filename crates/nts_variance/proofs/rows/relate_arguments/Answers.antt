@@ -1,5 +1,5 @@
 use Rattle.std.proofs.Common.{◌++◌, ◌<◌, inl, inr, refl, sym, ap, ◌∙◌, subst, arith}
-use Rattle.nts_model.specs.Trees.{row_at, row_length, children}
+use Rattle.nts_model.specs.Terms.Trees.{row_at, row_length, children}
 use Rattle.nts_store.specs.Growth.{tree_at}
 use Rattle.nts_store.specs.Sorts.{ChildrenFit}
 use Rattle.nts_store.proofs.Growing.{Extends-refl, Extends-trans}

@@ -1,5 +1,5 @@
 use Rattle.std.proofs.Common.{◌≡◌, true, sym, ap, ◌∙◌}
-use Rattle.nts_model.specs.Resolving.{deeply_resolved}
+use Rattle.nts_model.specs.Tables.Resolving.{deeply_resolved}
 use Rattle.nts_store.specs.Growth.{tree_at}
 use Rattle.nts_unify.specs.Changing.{is_free_region}
 use Rattle.nts_unify.specs.Reading.{content_of}

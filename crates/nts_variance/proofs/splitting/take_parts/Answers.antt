@@ -1,5 +1,5 @@
 use Rattle.std.proofs.Common.{sym, ap, ◌∙◌}
-use Rattle.nts_model.specs.Trees.{row_length}
+use Rattle.nts_model.specs.Terms.Trees.{row_length}
 use Rattle.nts_store.specs.Growth.{tree_at}
 use Rattle.nts_unify.specs.Reading.{content_of}
 use Rattle.nts_variance.proofs.Refusals.{refuses_forms_of, refuses_long}

@@ -1,5 +1,5 @@
 use Rattle.std.proofs.Common.{rules, ℕ, List, false, ◌-◌, ◌≤◌, ◌++◌, ◌∷◌, [], length, ap, ◌∙◌, arith}
-use Rattle.nts_model.specs.Trees.{Tree, row_length}
+use Rattle.nts_model.specs.Terms.Trees.{Tree, row_length}
 use Rattle.nts_store.specs.declared.nodes.NodeId.{NodeId}
 use Rattle.nts_unify.specs.Entries.{Entries}
 use Rattle.nts_variance.specs.declared.along.Relating.{Relating}

@@ -1,6 +1,6 @@
 use Rattle.nts_relating.proofs.PairLemmas.{err_of}
 use Rattle.std.proofs.Common.{rules, ℕ, List, ◌++◌, ◌∷◌, [], ◌<◌, false, refl}
-use Rattle.nts_model.specs.Trees.{Tree}
+use Rattle.nts_model.specs.Terms.Trees.{Tree}
 use Rattle.nts_store.specs.declared.nodes.NodeId.{NodeId}
 use Rattle.nts_terms.specs.Signatures.{variances_in}
 use Rattle.nts_unify.specs.Entries.{Entries}

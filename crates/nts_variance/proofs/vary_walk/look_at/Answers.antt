@@ -1,5 +1,5 @@
 use Rattle.std.proofs.Common.{◌≡◌, ◌⊎◌, inl, inr, true, false, Some, None, refl, sym, ap, ◌∙◌}
-use Rattle.nts_model.specs.Trees.{any_label, is_alias, kind_of}
+use Rattle.nts_model.specs.Terms.Trees.{any_label, is_alias, kind_of}
 use Rattle.nts_store.specs.Growth.{tree_at}
 use Rattle.nts_store.specs.TypeFlags.{escaping}
 use Rattle.nts_variance.specs.Parts.{closed_alias, const_variable}

@@ -1,5 +1,5 @@
 use Rattle.std.proofs.Common.{◌≡◌, true, refl, sym, ap, ◌∙◌}
-use Rattle.nts_model.specs.Trees.{any_label, is_infer}
+use Rattle.nts_model.specs.Terms.Trees.{any_label, is_infer}
 use Rattle.nts_store.specs.Growth.{tree_at}
 use Rattle.nts_unify.specs.Reading.{content_of}
 use Rattle.nts_variance.proofs.Pieces.{plain_alone}

@@ -1,5 +1,5 @@
 use Rattle.std.proofs.Common.{◌≡◌, List, map, take}
-use Rattle.nts_model.specs.Trees.{Tree}
+use Rattle.nts_model.specs.Terms.Trees.{Tree}
 use Rattle.nts_store.specs.Growth.{Extends, tree_at}
 use Rattle.nts_terms.specs.Rest.{KeepsRest}
 use Rattle.nts_wording.specs.Meaning.{predicate_tree, statements}

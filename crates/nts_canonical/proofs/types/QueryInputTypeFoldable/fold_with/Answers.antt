@@ -1,4 +1,4 @@
-use Rattle.nts_model.specs.Trees.{environment, bound_predicate, is}
+use Rattle.nts_model.specs.Terms.Trees.{environment, bound_predicate, is}
 use Rattle.nts_folding.specs.FoldLaws.{Holds-kept, same_pair}
 use Rattle.nts_folding.proofs.Folded.{on_same_err, walk_pair, stops_first, stops_second}
 use Rattle.nts_canonical.specs.Folds.{AreHidden-kept, tree_of_hidden-kept}

@@ -1,7 +1,7 @@
 use Rattle.std.proofs.Common.{ap, sym}
 use Rattle.nts_contexts.specs.declared.state.EvalState.{EvalState}
 use Rattle.nts_contexts.proofs.Frames.{keeps_refl}
-use Rattle.nts_model.specs.Rules.{other_goal}
+use Rattle.nts_model.specs.Derivations.Rules.{other_goal}
 use Rattle.nts_delegate.proofs.Results.{OnOk-map}
 use Rattle.nts_queries.specs.Searching.{assumed_in}
 use Rattle.nts_queries.proofs.Searching.{nothing_assumed}

@@ -1,5 +1,5 @@
 use Rattle.std.proofs.Common.{◌-◌, ◌+◌, length, List}
-use Rattle.nts_model.specs.Trees.{Tree}
+use Rattle.nts_model.specs.Terms.Trees.{Tree}
 use Rattle.nts_delegate.specs.Adding.{KeepsClauses}
 use Rattle.nts_delegate.specs.Clauses.{AreReady}
 use Rattle.nts_delegate.proofs.clauses.Clauses.entry.Given as goal

@@ -1,5 +1,5 @@
 use Rattle.std.proofs.Common.{◌≡◌, ◌<◌, length, ap, sym, ◌∙◌, arith, eq-eqb}
-use Rattle.nts_model.specs.Trees.{children, row_length}
+use Rattle.nts_model.specs.Terms.Trees.{children, row_length}
 use Rattle.nts_store.specs.Growth.{tree_at}
 use Rattle.nts_delegate.specs.Clauses.{AreClauses}
 use Rattle.nts_delegate.specs.Offers.{trait_of}

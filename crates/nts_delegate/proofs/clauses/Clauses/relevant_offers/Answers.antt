@@ -1,5 +1,5 @@
 use Rattle.std.proofs.Common.{◌≡◌, [], None, Some, map, ap, sym, ◌∙◌, subst, arith}
-use Rattle.nts_model.specs.Trees.{children}
+use Rattle.nts_model.specs.Terms.Trees.{children}
 use Rattle.nts_store.specs.Growth.{tree_at}
 use Rattle.nts_delegate.specs.ClauseHandlers.{clause_tree, offers_by, offers_of_clauses, clauses_in_store}
 use Rattle.nts_delegate.specs.Clauses.{AreClauses, clauses_in, IsIndexed}

@@ -1,6 +1,6 @@
 use Rattle.std.proofs.Common.{◌∙◌, ap}
-use Rattle.nts_model.specs.Trees.{kind_of}
-use Rattle.nts_model.proofs.Kept.{kind_of-deeply_resolved}
+use Rattle.nts_model.specs.Terms.Trees.{kind_of}
+use Rattle.nts_model.proofs.Tables.Kept.{kind_of-deeply_resolved}
 use Rattle.nts_placeholder.specs.Closing.{mapped}
 use Rattle.nts_placeholder.specs.ClosingLaws.{closing_of-same_kind}
 use Rattle.nts_normalize.proofs.Stepping.{on_ok}

@@ -2,7 +2,7 @@ use Rattle.std.proofs.Common.{◌∙◌, [], inl, inr, option_map, IsTrue, ap, s
 use Rattle.std.proofs.lemmas.List.{append-nil}
 use Rattle.nts_store.specs.Growth.{tree_at}
 use Rattle.nts_unify.specs.Reading.{content_of}
-use Rattle.nts_model.specs.Trees.{kind_of}
+use Rattle.nts_model.specs.Terms.Trees.{kind_of}
 use Rattle.nts_store.proofs.Growing.{Extends-trans}
 use Rattle.nts_normalize.specs.Calling.{tree_of_goal}
 use Rattle.nts_normalize.specs.Normalizing.{collected, IsLeftOut}

@@ -1,5 +1,5 @@
 use Rattle.std.proofs.Common.{ap}
-use Rattle.nts_model.specs.Trees.{kind_of}
+use Rattle.nts_model.specs.Terms.Trees.{kind_of}
 use Rattle.nts_folding.proofs.Folded.{on_same_err}
 use Rattle.nts_normalize.proofs.Asked.{not_opened, errors_asked, replaced_opened, kinds_opened}
 use Rattle.nts_normalize.proofs.Stepping.{Goes-trans}

@@ -1,8 +1,8 @@
 use Rattle.std.proofs.Common.{◌≡◌, ap, ◌∙◌}
-use Rattle.nts_model.proofs.Open.{Knows-deeply_resolved}
-use Rattle.nts_model.proofs.Kept.{kind_of-deeply_resolved}
-use Rattle.nts_model.specs.Resolving.{deeply_resolved}
-use Rattle.nts_model.specs.Trees.{kind_of}
+use Rattle.nts_model.proofs.Tables.Open.{Knows-deeply_resolved}
+use Rattle.nts_model.proofs.Tables.Kept.{kind_of-deeply_resolved}
+use Rattle.nts_model.specs.Tables.Resolving.{deeply_resolved}
+use Rattle.nts_model.specs.Terms.Trees.{kind_of}
 use Rattle.nts_store.specs.declared.nodes.NodeId.{NodeId}
 use Rattle.nts_store.specs.Growth.{tree_at}
 use Rattle.nts_unify.specs.Lawful.{content_of-extended}

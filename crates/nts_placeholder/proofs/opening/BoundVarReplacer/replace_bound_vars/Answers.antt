@@ -1,5 +1,5 @@
 use Rattle.std.proofs.Common.{◌≡◌, ◌∙◌, ◌+◌, Err, ap, length, arith}
-use Rattle.nts_model.specs.Trees.{kind_of}
+use Rattle.nts_model.specs.Terms.Trees.{kind_of}
 use Rattle.nts_store.specs.Growth.{tree_at}
 use Rattle.nts_unify.specs.Entries.{moved}
 use Rattle.nts_placeholder.specs.Closing.{mapped}

@@ -1,5 +1,5 @@
 use Rattle.std.proofs.Common.{refl, ap, ◌∙◌}
-use Rattle.nts_model.specs.Trees.{kind_of}
+use Rattle.nts_model.specs.Terms.Trees.{kind_of}
 use Rattle.nts_store.specs.Filled.{kind_of-filled}
 use Rattle.nts_store.proofs.Filling.{filled-known}
 use Rattle.nts_queries.proofs.Evaluating.{has-values}

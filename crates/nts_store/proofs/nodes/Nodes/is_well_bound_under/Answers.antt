@@ -1,6 +1,6 @@
 use Rattle.std.proofs.Common.{◌<◌, ◌-◌, length, arith}
 use Rattle.std.specs.Prelude.{IsTrue}
-use Rattle.nts_model.specs.Trees.{binders}
+use Rattle.nts_model.specs.Terms.Trees.{binders}
 use Rattle.nts_store.proofs.Growing.{AllIn-get_or, get_or_from_fits}
 use Rattle.nts_store.proofs.WellBound.{child_well_bound, child_listed, first_child}
 use Rattle.nts_store.proofs.nodes.Nodes.is_well_bound_under.Goals as goal

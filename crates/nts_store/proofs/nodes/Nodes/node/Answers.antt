@@ -1,6 +1,6 @@
 use Rattle.std.proofs.Common.{arith, ap, sym, subst, length, ◌∙◌}
 use Rattle.std.specs.Prelude.{◌↔◌, IsTrue}
-use Rattle.nts_model.specs.Scoping.{IsWellBound}
+use Rattle.nts_model.specs.Terms.Scoping.{IsWellBound}
 use Rattle.std.proofs.lemmas.Option.{slice_get_within, get_or_from_slice_get}
 use Rattle.nts_store.specs.TypeFlags.{flags_of}
 use Rattle.nts_store.proofs.Inserting.{Found, found, length-trees}

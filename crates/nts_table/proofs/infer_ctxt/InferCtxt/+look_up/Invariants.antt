@@ -1,4 +1,4 @@
-use Rattle.nts_model.specs.Resolving.{variable_rank}
+use Rattle.nts_model.specs.Tables.Resolving.{variable_rank}
 use Rattle.nts_store.specs.Growth.{tree_at}
 use Rattle.nts_table.proofs.infer_ctxt.InferCtxt.+look_up.Given as goal
 

@@ -1,7 +1,7 @@
 use Rattle.std.proofs.Common.{rules, ◌≡◌, Bool, true, false, refl, sym, ap, ◌∙◌}
 use Rattle.std.specs.Prelude.{IsTrue}
-use Rattle.nts_model.specs.Trees.{any_label, is_infer, is_region_infer, is_placeholder, is_canonical}
-use Rattle.nts_model.proofs.Unpositioned.{known_no_positions, known_well_bound, leaves_known}
+use Rattle.nts_model.specs.Terms.Trees.{any_label, is_infer, is_region_infer, is_placeholder, is_canonical}
+use Rattle.nts_model.proofs.Terms.Unpositioned.{known_no_positions, known_well_bound, leaves_known}
 use Rattle.nts_store.specs.declared.type_flags.TypeFlags.{TypeFlags}
 use Rattle.nts_store.specs.Growth.{tree_at}
 use Rattle.nts_unify.specs.Reading.{content_of}

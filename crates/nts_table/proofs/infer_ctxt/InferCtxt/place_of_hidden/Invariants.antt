@@ -1,4 +1,4 @@
-use Rattle.nts_model.specs.Resolving.{deeply_resolved}
+use Rattle.nts_model.specs.Tables.Resolving.{deeply_resolved}
 use Rattle.nts_store.specs.Growth.{tree_at, IsIn, Extends}
 use Rattle.nts_unify.specs.Reading.{content_of}
 use Rattle.nts_table.specs.Registering.{NoneBefore}

@@ -1,7 +1,7 @@
 use Rattle.std.proofs.Common.{ap, ◌∙◌}
 use Rattle.nts_unify.specs.Entries.{Inner, registered, with_hidden}
 use Rattle.nts_table.specs.Tables.{Table}
-use Rattle.nts_model.proofs.Slots.{slice_get_below}
+use Rattle.nts_model.proofs.Tables.Slots.{slice_get_below}
 use Rattle.nts_unify.specs.Reading.{content_of, IsHiddenType}
 use Rattle.nts_table.specs.TableLaws.{IsTable-extended, IsTable-same, IsTable-registered, IsTable-with_hidden}
 use Rattle.nts_table.proofs.HiddenLemmas.{hidden_at, IsHiddenType-extended, other_type}

@@ -1,7 +1,7 @@
 use Rattle.std.proofs.Common.{◌≡◌, ◌∙◌, ◌<◌, length, sym, ap, refl, arith, below_more}
 use Rattle.std.specs.Prelude.{IsTrue}
 use Rattle.nts_model.specs.declared.labels.Sort.TheVariants as sort
-use Rattle.nts_model.specs.Trees.{children, row_length, kind_of}
+use Rattle.nts_model.specs.Terms.Trees.{children, row_length, kind_of}
 use Rattle.nts_store.specs.Growth.{tree_at}
 use Rattle.nts_terms.proofs.Sorted.{HaveSorts-length, HaveSorts-at, HaveSorts-all}
 use Rattle.nts_terms.proofs.cx.Cx.have_sorts.Goals as goal

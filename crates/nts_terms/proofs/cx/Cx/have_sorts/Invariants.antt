@@ -1,6 +1,6 @@
 use Rattle.std.proofs.Common.{◌≡◌, ℕ, ◌<◌, get_or, Some}
 use Rattle.nts_model.specs.declared.labels.Sort.TheVariants as sort
-use Rattle.nts_model.specs.Trees.{children, row_at, kind_of, of_sort}
+use Rattle.nts_model.specs.Terms.Trees.{children, row_at, kind_of, of_sort}
 use Rattle.nts_store.specs.Growth.{tree_at}
 use Rattle.nts_terms.proofs.cx.Cx.have_sorts.Given as goal
 

@@ -1,5 +1,5 @@
 use Rattle.std.proofs.Common.{rules, ◌≡◌, Bool, true, false, not, is_some, refl, ap, ◌∙◌}
-use Rattle.nts_model.specs.Trees.{children, row_length, IsClosed}
+use Rattle.nts_model.specs.Terms.Trees.{children, row_length, IsClosed}
 use Rattle.nts_store.specs.Growth.{tree_at}
 use Rattle.nts_store.proofs.Escaping.{closed_by_facts, open_by_facts}
 use Rattle.nts_terms.proofs.Binders.{body_closed, closed_body}

@@ -1,6 +1,6 @@
 use Rattle.std.proofs.Common.{◌≤◌, [], length, reverse}
 use Rattle.nts_wording.specs.Pieces.{lexicon_of, seen_by}
-use Rattle.nts_model.specs.Trees.{children}
+use Rattle.nts_model.specs.Terms.Trees.{children}
 use Rattle.nts_store.specs.Growth.{tree_at}
 use Rattle.nts_wording.proofs.Printed.{no_term, whole_term, unnamed_label}
 use Rattle.nts_wording.proofs.Writing.{Writes-refl, on_ok, outside}

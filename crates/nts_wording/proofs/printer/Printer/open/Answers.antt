@@ -1,6 +1,6 @@
 use Rattle.std.proofs.Common.{◌≡◌, ◌-◌, ◌<◌, suc, ◌∷◌, [], reverse, sym, ap, subst, ◌∙◌, arith}
 use Rattle.std.specs.Prelude.{codes}
-use Rattle.nts_model.specs.Trees.{children, row_length}
+use Rattle.nts_model.specs.Terms.Trees.{children, row_length}
 use Rattle.nts_store.specs.Growth.{tree_at}
 use Rattle.nts_wording.specs.declared.printer.Piece.TheVariants as pieces
 use Rattle.nts_wording.specs.Pieces.{lexicon_of, seen_by}

@@ -1,5 +1,5 @@
 use Rattle.std.proofs.Common.{◌≤◌, ◌∷◌, reverse}
-use Rattle.nts_model.specs.Trees.{children}
+use Rattle.nts_model.specs.Terms.Trees.{children}
 use Rattle.nts_store.specs.Growth.{tree_at}
 use Rattle.nts_wording.specs.declared.printer.Piece.TheVariants as pieces
 use Rattle.nts_wording.specs.Pieces.{lexicon_of}

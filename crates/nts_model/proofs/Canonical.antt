@@ -1,0 +1,7 @@
+-- Numbering of leaves, and equal canonical forms.
+pub mod Positioned
+pub mod Numbering
+pub mod Moving
+pub mod PositionKinds
+pub mod CanonicalForms
+pub mod Pushing

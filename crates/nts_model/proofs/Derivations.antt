@@ -1,0 +1,16 @@
+-- Rules, derivations and ranked proofs.
+pub mod Monotone
+pub mod Weakening
+pub mod Flattening
+pub mod ClosedStatements
+pub mod ProofInstances
+pub mod Falling
+pub mod ProvedLater
+pub mod Served
+pub mod AlikeRelated
+pub mod Relating
+pub mod ByCandidate
+pub mod Assuming
+pub mod Owing
+pub mod FromCandidate
+pub mod Rooted

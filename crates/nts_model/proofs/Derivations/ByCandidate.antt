@@ -1,0 +1,390 @@
+-- A goal is proved by one certain candidate that holds under the table.
+use Rattle.std.proofs.Common.{◌≡◌, ◌⊎◌, inl, inr, ⊎_elim, ℕ, zero, suc, List, [], ◌∷◌, get_or, Option, Some, None, false, refl, sym, ap, ◌∙◌, subst}
+use Rattle.std.specs.Prelude.{map}
+use Rattle.nts_model.specs.declared.labels.Sort.{Sort}
+use Rattle.nts_model.specs.declared.labels.Variance.{Variance}
+use Rattle.nts_model.specs.declared.labels.Relation.{Relation}
+use Rattle.nts_model.specs.declared.labels.Relation.TheVariants as relation
+use Rattle.nts_model.specs.declared.labels.BoundVarIndexKind.TheVariants as index
+use Rattle.nts_model.specs.declared.labels.ClauseHead.TheVariants as clause
+use Rattle.nts_model.specs.declared.labels.PredicateHead.TheVariants as predicate
+use Rattle.nts_model.specs.declared.labels.Label.{Label}
+use Rattle.nts_model.specs.declared.labels.Label.TheVariants as label
+use Rattle.nts_model.specs.Terms.Trees.{Tree, empty, more, node, children, any_label, is_canonical, kind_of, any_argument, FitsPlace, IsClosed, IsFormed}
+use Rattle.nts_model.specs.Tables.Contents.{Content, Recorded}
+use Rattle.nts_model.specs.Tables.Resolving.{deeply_resolved, Knows, IsSound}
+use Rattle.nts_model.specs.Tables.Holding.{HoldsConstraint}
+use Rattle.nts_model.specs.Tables.Alike.{Alike, one_tree, two_regions, one_label, two_rows, HoldsEqual}
+use Rattle.nts_model.specs.Terms.Substitutions.{put, Instance, instance_of}
+use Rattle.nts_model.specs.Derivations.Related.{Constraint, unbound}
+use Rattle.nts_model.specs.Derivations.Sequents.{Among, Premise, Hidden, HasClosedStatement, HasClosedStatements, IsOfTerms, constraint_under, IsTrivial, Grants, Hides}
+use Rattle.nts_model.specs.Derivations.Rules.{Mode, Equation, related, alike, HoldsEquation, GoalKind, goal_kind, IsTerm, Stands, IsHandlers, IsApplied, IsRule}
+use Rattle.nts_model.specs.Derivations.Proofs.{by_rule}
+use Rattle.nts_model.specs.Derivations.Handlers.{Handler, meaning, Candidate, certain, position_of, value_or, filled, filled_under, equation_by, constraint_by, hidden_by, premise_by, kind_of_sort, AreValuesOf, use_of, IsAsked, InstancesAreRules, IsCandidateFor, IsLawful}
+use Rattle.nts_model.specs.Derivations.Proving.{HoldsTerms, IsTermOf, AreConstraintsOf, read_constraint, recorded_as, turned, read_constraints, sequent_at, IsProved, AreEquated, IsHeldAt, IsProvedAt, HoldsCandidate}
+use Rattle.nts_model.specs.Terms.Scoping.{IsWellBound}
+use Rattle.nts_model.proofs.Tables.Fitting.{IsClosed-under}
+use Rattle.nts_model.proofs.Tables.Resolved.{deeply_resolved-node, deeply_resolved-deeply_resolved}
+use Rattle.nts_model.proofs.Tables.Kept.{kind_of-deeply_resolved}
+use Rattle.nts_model.proofs.Derivations.Monotone.{related_more, equation_more, stands_more, rule_more}
+use Rattle.nts_model.proofs.Terms.Composing.{IsFormed-instance, IsClosed-instance, Fits-instance, itself, instance_of-itself}
+use Rattle.nts_model.proofs.Tables.ResolvedTerms.{IsFormed-deeply_resolved, IsClosed-deeply_resolved}
+use Rattle.nts_model.proofs.Tables.TableInstances.{reading_of, instance_of-reading, deeply_resolved-more}
+use Rattle.nts_model.proofs.Derivations.ProvedLater.{read_from, read_recorded, read_turned}
+use Rattle.nts_model.proofs.Terms.Identified.{one_itself, one_trans}
+use Rattle.nts_model.proofs.Tables.Open.{Knows-deeply_resolved}
+use Rattle.nts_model.proofs.Terms.Unpositioned.{or_false, known_no_positions, known_well_bound, pair_no_positions, IsFormedTerm, formed_term}
+use Rattle.nts_model.proofs.Derivations.ClosedStatements.{closed_unbound, closed_statements_instance}
+use Rattle.nts_model.proofs.Derivations.Served.{IsClosedEnvironment, IsServed, derive_all, Owes, Grows, owes_none, owes_then, owes_both, owes_all}
+use Rattle.nts_model.proofs.Derivations.Relating.{Relates, stands_served, alike_related}
+
+-- values under an instance
+get_map : (ι : Instance) (vs : List Tree) (i : ℕ) → get_or (map (instance_of ι) vs) i empty ≡ instance_of ι (get_or vs i empty)
+get_map ι [] i = refl
+get_map ι (v ∷ vs) zero = refl
+get_map ι (v ∷ vs) (suc i) = get_map ι vs i
+
+value_under : (ι : Instance) (vs : List Tree) (o : Option ℕ) (l : Label) (x y : Tree) → x ≡ instance_of ι y → value_or o (map (instance_of ι) vs) (put ι.value l x) ≡ instance_of ι (value_or o vs (node l y))
+value_under ι vs None l x y e = ap (put ι.value l) e
+value_under ι vs (Some i) l x y e = get_map ι vs i
+
+-- an instance of a filled tree is the tree filled under the instance
+pub filled_instance : (ι : Instance) (vs : List Tree) (t : Tree) → filled_under ι.value (map (instance_of ι) vs) t ≡ instance_of ι (filled vs t)
+filled_instance ι vs empty = refl
+filled_instance ι vs (more a b) = cc (filled_instance ι vs a, filled_instance ι vs b)
+filled_instance ι vs (node l c) =
+    value_under ι vs (position_of l) l (filled_under ι.value (map (instance_of ι) vs) c) (filled vs c) (filled_instance ι vs c)
+
+pub AreValuesOf-instance : (ι : Instance) (ss : List Sort) (vs : List Tree) → AreValuesOf ss vs → AreValuesOf ss (map (instance_of ι) vs)
+AreValuesOf-instance ι [] [] h = tt
+AreValuesOf-instance ι [] (v ∷ vs) h = absurd h
+AreValuesOf-instance ι (s ∷ ss) [] h = absurd h
+AreValuesOf-instance ι (s ∷ ss) (v ∷ vs) h =
+    let x = h.0 in
+    (record { fits = Fits-instance ι (kind_of_sort s) v x.fits; formed = IsFormed-instance ι v x.formed; closed = IsClosed-instance ι v x.closed }, AreValuesOf-instance ι ss vs h.1)
+
+values_closed : (ss : List Sort) (vs : List Tree) (v : Tree) → AreValuesOf ss vs → Among vs v → IsFormed v × IsClosed v
+values_closed [] [] v h i = absurd i
+values_closed [] (w ∷ vs) v h i = absurd h
+values_closed (s ∷ ss) [] v h i = absurd h
+values_closed (s ∷ ss) (w ∷ vs) v h i = ⊎_elim (λ e. (let x = h.0 in (subst IsFormed (sym e) x.formed, subst IsClosed (sym e) x.closed))) (λ j. values_closed ss vs v h.1 j) i
+
+-- what stands in a mapped list
+pub among_mapped : {X Y : Type 0} (f : X → Y) (xs : List X) (y : Y) → Among (map f xs) y → (x : X) × Among xs x × (y ≡ f x)
+among_mapped f [] y i = absurd i
+among_mapped f (x ∷ xs) y i = ⊎_elim (λ e. (x, inl refl, e)) (λ j. let (z, a, b) = among_mapped f xs y j in (z, inr a, b)) i
+
+-- without positions there is nothing to fill
+position_none : (l : Label) → is_canonical l ≡ false → position_of l ≡ None
+position_none (label.Bound a index.Canonical n) e = cc
+position_none (label.Bound a (index.Bound i) n) e = refl
+position_none (label.Leaf y) e = refl
+position_none (label.Ty y) e = refl
+position_none (label.Const y) e = refl
+position_none (label.Clause y) e = refl
+position_none (label.Predicate y) e = refl
+position_none (label.List y) e = refl
+
+pub filled-none : (vs : List Tree) (t : Tree) → any_label is_canonical t ≡ false → filled vs t ≡ t
+filled-none vs empty e = refl
+filled-none vs (more a b) e =
+    let (x, y) = or_false (any_label is_canonical a) (any_label is_canonical b) e in
+    cc (filled-none vs a x, filled-none vs b y)
+filled-none vs (node l t) e =
+    let (x, y) = or_false (is_canonical l) (any_label is_canonical t) e in
+    rw (position_none l x, filled-none vs t y) refl
+
+pub handlers_instance : (ι : Instance) (s : Tree) → IsHandlers s → IsHandlers (instance_of ι s)
+handlers_instance ι (node (label.Clause (clause.Trait i)) ts) h = tt
+handlers_instance ι (node (label.Clause (clause.HostEffect i)) ts) h = tt
+handlers_instance ι (node (label.Clause (clause.Projection i)) ts) h = tt
+handlers_instance ι (node (label.Predicate (predicate.NormalizesTo i)) ts) h = tt
+handlers_instance ι s h = absurd h
+
+-- a constraint that the table holds is trivial or among those that are read off the table
+recorded_granted : (c : Content) (o : Relation) (a b : Tree) (r : Recorded) → r.relation ≡ o → deeply_resolved c a ≡ deeply_resolved c r.left → deeply_resolved c b ≡ deeply_resolved c r.right
+    → record { relation = o; left = deeply_resolved c a; right = deeply_resolved c b } ≡ read_constraint c r
+recorded_granted c o a b r x y z = rw (x, y, z) refl
+
+turned_granted : (c : Content) (o : Relation) (a b : Tree) (r : Recorded) → r.relation ≡ o → deeply_resolved c a ≡ deeply_resolved c r.right → deeply_resolved c b ≡ deeply_resolved c r.left
+    → record { relation = o; left = deeply_resolved c a; right = deeply_resolved c b } ≡ turned (read_constraint c r)
+turned_granted c o a b r x y z = rw (x, y, z) refl
+
+abbrev pub read_sides : Content → Relation → Tree → Tree → Constraint
+read_sides c o a b = record { relation = o; left = deeply_resolved c a; right = deeply_resolved c b }
+
+abbrev pub IsGranted : Content → Constraint → Type 0
+IsGranted c x = IsTrivial x ⊎ Among (read_constraints c c.constraints) x
+
+recorded_is_granted : (c : Content) (o : Relation) (a b : Tree) (r : Recorded) → Among (read_constraints c c.constraints) (read_constraint c r) → r.relation ≡ o
+    → deeply_resolved c a ≡ deeply_resolved c r.left → deeply_resolved c b ≡ deeply_resolved c r.right → IsGranted c (read_sides c o a b)
+recorded_is_granted c o a b r found x y z = inr (subst (Among (read_constraints c c.constraints)) (sym (recorded_granted c o a b r x y z)) found)
+
+pub granted : (c : Content) (o : Relation) (a b : Tree) → HoldsConstraint c (recorded_as (record { relation = o; left = a; right = b })) → IsGranted c (read_sides c o a b)
+granted c relation.Equal a b (inl e) = inl e
+granted c relation.RegionOutlives a b (inl e) = inl e
+granted c relation.TypeOutlives a b (inl e) = absurd e
+granted c relation.Equal a b (inr x) = ⊎_elim
+    (λ e. recorded_is_granted c relation.Equal a b x.constraint (read_recorded c c.constraints x.constraint x.found) x.same_relation e.0 e.1)
+    (λ e. inr (subst (Among (read_constraints c c.constraints)) (sym (turned_granted c relation.Equal a b x.constraint x.same_relation e.0 e.1)) (read_turned c c.constraints x.constraint x.found x.same_relation)))
+    x.same_sides
+granted c relation.RegionOutlives a b (inr x) =
+    let e = x.same_sides in
+    recorded_is_granted c relation.RegionOutlives a b x.constraint (read_recorded c c.constraints x.constraint x.found) x.same_relation e.0 e.1
+granted c relation.TypeOutlives a b (inr x) =
+    let e = x.same_sides in
+    recorded_is_granted c relation.TypeOutlives a b x.constraint (read_recorded c c.constraints x.constraint x.found) x.same_relation e.0 e.1
+
+-- .. so resolved trees that are alike under the table are alike by these constraints
+abbrev pub GrantsEqual : Content → Tree → Tree → Type 0
+GrantsEqual c x y = IsGranted c (record { relation = relation.Equal; left = x; right = y })
+
+pub equal_granted : (c : Content) (x y : Tree) → deeply_resolved c x ≡ x → deeply_resolved c y ≡ y → HoldsEqual c x y → GrantsEqual c x y
+equal_granted c x y e f h =
+    let g : IsGranted c (read_sides c relation.Equal x y) = granted c relation.Equal x y h in
+    subst (λ z. GrantsEqual c z y) e (subst (λ z. GrantsEqual c (deeply_resolved c x) z) f g)
+
+pub alike_granted : (c : Content) (x y : Tree) → Alike (HoldsEqual c) x y → deeply_resolved c x ≡ x → deeply_resolved c y ≡ y → Alike (GrantsEqual c) x y
+alike_granted c x y one_tree e f = one_tree
+alike_granted c x y (two_regions i j r) e f = two_regions i j (equal_granted c x y e f r)
+alike_granted c _ _ (one_label {l = l} {c = x} {d = y} n al) e f =
+    one_label n (alike_granted c x y al (ap children (sym (deeply_resolved-node c l x n) ∙ e)) (ap children (sym (deeply_resolved-node c l y n) ∙ f)))
+alike_granted c _ _ (two_rows {a = a} {b = b} {c = x} {d = y} al bl) e f =
+    let left : more (deeply_resolved c a) (deeply_resolved c b) ≡ more a b = sym (deeply_resolved-more c a b) ∙ e in
+    let right : more (deeply_resolved c x) (deeply_resolved c y) ≡ more x y = sym (deeply_resolved-more c x y) ∙ f in
+    two_rows (alike_granted c a x al (cc left) (cc right)) (alike_granted c b y bl (cc left) (cc right))
+
+-- what is read off a table are constraints between terms
+pub read_itself : (c : Content) → IsSound c → HoldsTerms c → AreConstraintsOf c → (x : Constraint) → Among (read_constraints c c.constraints) x → constraint_under itself x ≡ x
+read_itself c s t k x i =
+    let (r, found, from) = read_from c c.constraints x i in
+    let a = k.left r found in
+    let b = k.right r found in
+    let left : instance_of itself (deeply_resolved c r.left) ≡ deeply_resolved c r.left = instance_of-itself (deeply_resolved c r.left) (IsFormed-deeply_resolved c r.left s t a.knows a.formed) in
+    let right : instance_of itself (deeply_resolved c r.right) ≡ deeply_resolved c r.right = instance_of-itself (deeply_resolved c r.right) (IsFormed-deeply_resolved c r.right s t b.knows b.formed) in
+    let read : constraint_under itself (read_constraint c r) ≡ read_constraint c r = rw (left, right) refl in
+    ⊎_elim
+    (λ e. subst (λ y. constraint_under itself y ≡ y) (sym e) read)
+    (λ e. subst (λ y. constraint_under itself y ≡ y) (sym e.1) (ap turned read))
+    from.same
+
+module _ (h : Handler) (V : ℕ → List Variance) (mode : Mode) (c : Content) (s : IsSound c) (t : HoldsTerms c) (k : AreConstraintsOf c) where
+  -- a term under the table has no positions of canonical values
+  resolved_no_positions : (u : Tree) → Knows c u → any_label is_canonical (deeply_resolved c u) ≡ false
+  resolved_no_positions u q = known_no_positions c (deeply_resolved c u) (Knows-deeply_resolved c u s q)
+
+  -- .. and lists what it binds
+  resolved_well_bound : (u : Tree) → Knows c u → IsWellBound (deeply_resolved c u)
+  resolved_well_bound u q = known_well_bound c (deeply_resolved c u) (Knows-deeply_resolved c u s q)
+
+  -- for an environment, and values of the candidate's fresh variables
+  module _ (e g : Tree) (asked : IsAsked e g) (ke : IsTermOf c e) (kg : IsTermOf c g) (d : Candidate) (x : HoldsCandidate (meaning h V) mode c d) where
+    pub formed_here : IsFormed (deeply_resolved c e)
+    formed_here = IsFormed-deeply_resolved c e s t ke.knows ke.formed
+
+    pub closed_here : IsClosedEnvironment (deeply_resolved c e)
+    closed_here =
+        let z = asked.closed in
+        record {
+          closed = IsClosed-deeply_resolved c e t z.0;
+          no_positions = resolved_no_positions e ke.knows;
+          well_bound = resolved_well_bound e ke.knows;
+          statements = subst HasClosedStatements (instance_of-reading c s t e ke.knows ke.formed) (closed_statements_instance (reading_of c s t) e ke.formed asked.statements);
+        }
+
+    abbrev pub Follows : ((Premise → Type 0) → Type 0) → Type 0
+    Follows = Owes (meaning h V) mode (deeply_resolved c e) (read_constraints c c.constraints)
+
+    abbrev pub read_by : Tree → Tree
+    read_by = filled_under (reading_of c s t).value (map (instance_of (reading_of c s t)) x.chosen)
+
+    pub read_filled : (u : Tree) → IsTermOf c (filled x.chosen u) → filled_under (reading_of c s t).value (map (instance_of (reading_of c s t)) x.chosen) u ≡ deeply_resolved c (filled x.chosen u)
+    read_filled u q = filled_instance (reading_of c s t) x.chosen u ∙ instance_of-reading c s t (filled x.chosen u) q.knows q.formed
+
+    -- its equations
+    abbrev pub Equates : GoalKind → Equation → (Premise → Type 0) → Type 0
+    Equates z q P = HoldsEquation (meaning h V) (λ y. Unit {0}) (Grants (sequent_at c e g)) (Stands (λ y. Unit {0}) P z) (deeply_resolved c e) (equation_by read_by q)
+
+    pub equates_grows : (z : GoalKind) (q : Equation) → Grows (meaning h V) mode (deeply_resolved c e) (read_constraints c c.constraints) (Equates z q)
+    equates_grows z q P Q f y = equation_more (meaning h V) (λ y. Unit {0}) (Grants (sequent_at c e g)) (stands_more f z) (deeply_resolved c e) (equation_by read_by q) y
+
+    read_alike : (a b : Tree) → AreEquated c x.chosen a b → Alike (GrantsEqual c) (read_by a) (read_by b)
+    read_alike a b q =
+        let al : Alike (GrantsEqual c) (deeply_resolved c (filled x.chosen a)) (deeply_resolved c (filled x.chosen b)) =
+        alike_granted c (deeply_resolved c (filled x.chosen a)) (deeply_resolved c (filled x.chosen b)) q.alike
+        (deeply_resolved-deeply_resolved c (filled x.chosen a) s) (deeply_resolved-deeply_resolved c (filled x.chosen b) s) in
+        subst (λ y. Alike (GrantsEqual c) y (read_by b)) (sym (read_filled a q.left))
+        (subst (λ y. Alike (GrantsEqual c) (deeply_resolved c (filled x.chosen a)) y) (sym (read_filled b q.right)) al)
+
+    pub read_formed : (u : Tree) → IsTermOf c (filled x.chosen u) → IsFormedTerm (read_by u)
+    read_formed u q =
+        let r = filled x.chosen u in
+        subst IsFormedTerm (sym (read_filled u q)) (formed_term (deeply_resolved c r) (IsFormed-deeply_resolved c r s t q.knows q.formed) (resolved_no_positions r q.knows) (resolved_well_bound r q.knows))
+
+    -- the values that are chosen are terms
+    pub chosen_terms : (v : Tree) → Among (map (instance_of (reading_of c s t)) x.chosen) v → IsTerm v
+    chosen_terms v i =
+        let (p, j, same) = among_mapped (instance_of (reading_of c s t)) x.chosen v i in
+        let (formed, closed) = values_closed d.fresh x.chosen p x.values j in
+        let knows : Knows c p = x.known p j in
+        subst IsTerm (sym (same ∙ instance_of-reading c s t p knows formed))
+        (record {
+          formed = IsFormed-deeply_resolved c p s t knows formed;
+          closed = IsClosed-deeply_resolved c p t closed;
+          no_positions = resolved_no_positions p knows;
+          well_bound = resolved_well_bound p knows;
+        })
+
+    read_argument : (a b : Tree) → AreEquated c x.chosen a b → FitsPlace any_argument (kind_of (read_by a))
+    read_argument a b q =
+        let l = q.left in
+        let same : kind_of (read_by a) ≡ kind_of (filled x.chosen a) = ap kind_of (read_filled a l) ∙ kind_of-deeply_resolved c (filled x.chosen a) s l.knows in
+        subst (FitsPlace any_argument) (sym same) q.argument
+
+    pub equation_follows : (z : GoalKind) (q : Equation) → Among d.equations q → Follows (Equates z q)
+    equation_follows z (related a b) i =
+        let q : AreEquated c x.chosen a b = x.equations (related a b) i in
+        owes_then (meaning h V) mode (deeply_resolved c e) (read_constraints c c.constraints)
+        (Relates (meaning h V) mode (deeply_resolved c e) (read_constraints c c.constraints) formed_here closed_here (read_itself c s t k) (read_by a) (read_by b))
+        (Equates z (related a b)) (λ P y. related_more (λ w v. inl v) y)
+        (alike_related (meaning h V) mode (deeply_resolved c e) (read_constraints c c.constraints) formed_here closed_here (read_itself c s t k) (GrantsEqual c) (λ y w v. v)
+        (read_by a) (read_by b) (read_alike a b q) (read_formed a q.left) (read_formed b q.right) (read_argument a b q))
+    equation_follows z (alike a b) i =
+        let q : AreEquated c x.chosen a b = x.equations (alike a b) i in
+        owes_none (meaning h V) mode (deeply_resolved c e) (read_constraints c c.constraints) (Equates z (alike a b)) (λ P. read_alike a b q)
+
+    -- its goals
+    abbrev StandsAt : GoalKind → Premise → (Premise → Type 0) → Type 0
+    StandsAt z q P = Stands (λ y. Unit {0}) P z (premise_by read_by q)
+
+    goal_served : (q : Premise) → IsProvedAt (meaning h V) mode c x.chosen q → IsServed (meaning h V) mode (deeply_resolved c e) (read_constraints c c.constraints) (premise_by read_by q)
+    goal_served q p =
+        let y = p.proved in
+        let i = y.is_instance in
+        record {
+          sequent = y.sequent;
+          instance = y.instance;
+          derivation = y.derivation;
+          tree = y.tree;
+          environment = one_trans _ _ _ _ i.environment (one_itself _ _ _ (sym (read_filled q.environment p.environment)));
+          predicate = one_trans _ _ _ _ i.predicate (one_itself _ _ _ (sym (read_filled q.predicate p.predicate)));
+          constraints = i.constraints;
+          hidden = λ o j. ⊎_elim (λ v. v) (λ v. absurd v.1) (i.hidden o j);
+          open_goals = i.open_goals;
+        }
+
+    goal_follows : (z : GoalKind) (q : Premise) → IsCandidateFor e g d → Among d.goals q → Follows (StandsAt z q)
+    goal_follows z q keeps i =
+        let p : IsProvedAt (meaning h V) mode c x.chosen q = x.goals q i in
+        let nested = keeps.goals q i in
+        let none = or_false (any_label is_canonical e) (any_label is_canonical (more g empty)) asked.no_positions in
+        let stays : filled x.chosen e ≡ e = filled-none x.chosen e none.0 in
+        stands_served (meaning h V) mode (deeply_resolved c e) (read_constraints c c.constraints) formed_here closed_here (read_itself c s t k) z (premise_by read_by q)
+        (read_filled q.environment p.environment ∙ ap (λ y. deeply_resolved c (filled x.chosen y)) nested.environment ∙ ap (deeply_resolved c) stays)
+        (read_formed q.predicate p.predicate) (goal_served q p)
+
+    stands_grows : (z : GoalKind) (q : Premise) → Grows (meaning h V) mode (deeply_resolved c e) (read_constraints c c.constraints) (StandsAt z q)
+    stands_grows z q P Q f y = stands_more f z (premise_by read_by q) y
+
+    abbrev EquatesAll : GoalKind → (Premise → Type 0) → Type 0
+    EquatesAll z P = (q : Equation) → Among d.equations q → Equates z q P
+
+    abbrev StandAll : GoalKind → (Premise → Type 0) → Type 0
+    StandAll z P = (q : Premise) → Among d.goals q → StandsAt z q P
+
+    pub candidate_follows : (z : GoalKind) → IsCandidateFor e g d → Follows (λ P. EquatesAll z P × StandAll z P)
+    candidate_follows z keeps =
+        owes_both (meaning h V) mode (deeply_resolved c e) (read_constraints c c.constraints) (EquatesAll z) (StandAll z)
+        (λ P Q f y q i. equates_grows z q P Q f (y q i)) (λ P Q f y q i. stands_grows z q P Q f (y q i))
+        (owes_all (meaning h V) mode (deeply_resolved c e) (read_constraints c c.constraints) (Equates z) (equates_grows z) d.equations (equation_follows z))
+        (owes_all (meaning h V) mode (deeply_resolved c e) (read_constraints c c.constraints) (StandsAt z) (stands_grows z) d.goals (λ q i. goal_follows z q keeps i))
+
+    -- its constraints
+    pub constraint_granted : (y : Constraint) → IsHeldAt c x.chosen y → Grants (sequent_at c e g) (constraint_by read_by y)
+    constraint_granted y q =
+        let same : constraint_by read_by y ≡ read_sides c y.relation (filled x.chosen y.left) (filled x.chosen y.right) = rw (read_filled y.left q.left, read_filled y.right q.right) refl in
+        subst (Grants (sequent_at c e g)) (sym same) (granted c y.relation (filled x.chosen y.left) (filled x.chosen y.right) q.held)
+
+    -- what the goal says under the table
+    pub goal_says : deeply_resolved c g ≡ unbound (instance_of (reading_of c s t) asked.statement)
+    goal_says = sym (instance_of-reading c s t g kg.knows kg.formed) ∙ ap (instance_of (reading_of c s t)) asked.binds_nothing
+
+    pub no_hidden : IsCandidateFor e g d → (y : Hidden) → Among (map (hidden_by read_by) d.hidden) y → ⊥
+    no_hidden keeps y i =
+        let (p, j, same) = among_mapped (hidden_by read_by) d.hidden y i in
+        let none : Among [] p = subst (λ l. Among l p) keeps.no_hidden j in
+        none
+
+    pub candidate_applies : InstancesAreRules h → IsCandidateFor e g d → Among (h.offers mode e g) d → d.certainty ≡ certain → (ps : List Premise)
+        → EquatesAll (goal_kind (meaning h V) (unbound (instance_of (reading_of c s t) asked.statement))) (Among ps)
+        → StandAll (goal_kind (meaning h V) (unbound (instance_of (reading_of c s t) asked.statement))) (Among ps)
+        → IsApplied (meaning h V) mode (λ y. Unit {0}) (Grants (sequent_at c e g)) (Hides (sequent_at c e g))
+        (Stands (λ y. Unit {0}) (Among ps) (goal_kind (meaning h V) (unbound (instance_of (reading_of c s t) asked.statement)))) (deeply_resolved c e) (unbound (instance_of (reading_of c s t) asked.statement))
+    candidate_applies law keeps offered sure ps equated stand =
+        let z : GoalKind = goal_kind (meaning h V) (unbound (instance_of (reading_of c s t) asked.statement)) in
+        let fit : AreValuesOf d.fresh (map (instance_of (reading_of c s t)) x.chosen) = AreValuesOf-instance (reading_of c s t) d.fresh x.chosen x.values in
+        record {
+          use_of = use_of d e g (reading_of c s t) (map (instance_of (reading_of c s t)) x.chosen);
+          applies = law.instances mode e g d (reading_of c s t) (use_of d e g (reading_of c s t) (map (instance_of (reading_of c s t)) x.chosen)) asked offered sure (record { values = fit; same = refl });
+          environment = instance_of-reading c s t e ke.knows ke.formed;
+          conclusion = ap (instance_of (reading_of c s t)) asked.binds_nothing;
+          values = λ v i. (tt, chosen_terms v i);
+          equations = λ q i.
+              (let (p, j, same) = among_mapped (equation_by read_by) d.equations q i in
+              subst (HoldsEquation (meaning h V) (λ y. Unit {0}) (Grants (sequent_at c e g)) (Stands (λ y. Unit {0}) (Among ps) z) (deeply_resolved c e)) (sym same) (equated p j));
+          goals = λ q i.
+              (let (p, j, same) = among_mapped (premise_by read_by) d.goals q i in
+              subst (Stands (λ y. Unit {0}) (Among ps) z) (sym same) (stand p j));
+          constraints = λ y i.
+              (let (p, j, same) = among_mapped (constraint_by read_by) d.constraints y i in
+              subst (Grants (sequent_at c e g)) (sym same) (constraint_granted p (x.constraints p j)));
+          hidden = λ y i. absurd (no_hidden keeps y i);
+          item_bounds = λ y q i j. absurd (no_hidden keeps y i);
+        }
+
+    pub goal_terms : IsOfTerms (sequent_at c e g)
+    goal_terms =
+        let z = asked.closed in
+        let w = z.1 in
+        let whole : IsClosed g = rw (asked.binds_nothing) (tt, ((tt, tt), (IsClosed-under 1 asked.statement w.0, tt))) in
+        record {
+          formed = (formed_here, (IsFormed-deeply_resolved c g s t kg.knows kg.formed, tt));
+          closed = (closed_here.closed, (IsClosed-deeply_resolved c g t whole, tt));
+          no_positions = pair_no_positions (deeply_resolved c e) (deeply_resolved c g) closed_here.no_positions (resolved_no_positions g kg.knows);
+          well_bound = (closed_here.well_bound, (resolved_well_bound g kg.knows, tt));
+          statement = subst HasClosedStatement (sym goal_says) (closed_unbound (instance_of (reading_of c s t) asked.statement) (IsClosed-instance (reading_of c s t) asked.statement w.0));
+          statements = closed_here.statements;
+        }
+
+    -- the goal is proved under the table by the candidate
+    pub by_candidate : InstancesAreRules h → IsCandidateFor e g d → Among (h.offers mode e g) d → d.certainty ≡ certain → IsProved (meaning h V) mode c e g
+    by_candidate law keeps offered sure =
+        let o = candidate_follows (goal_kind (meaning h V) (unbound (instance_of (reading_of c s t) asked.statement))) keeps in
+        let both = o.holds in
+        let rule : IsRule (meaning h V) mode (λ y. Unit {0}) (Grants (sequent_at c e g)) (Hides (sequent_at c e g)) (Among o.premises) (deeply_resolved c e) (deeply_resolved c g) =
+        inl (
+          instance_of (reading_of c s t) asked.statement,
+          goal_says,
+          inl (handlers_instance (reading_of c s t) asked.statement asked.handlers, candidate_applies law keeps offered sure o.premises both.0 both.1),
+        ) in
+        let terms : IsOfTerms (sequent_at c e g) = goal_terms in
+        let all = derive_all (meaning h V) mode (deeply_resolved c e) (read_constraints c c.constraints) (deeply_resolved c g) o.premises o.premises o.served in
+        record {
+          sequent = sequent_at c e g;
+          derivation = by_rule o.premises terms (rule_more (λ q i. inl i) (deeply_resolved c e) (deeply_resolved c g) rule) all.0;
+          tree = all.1;
+          instance = itself;
+          is_instance = record {
+            environment = (let f = terms.formed in one_itself _ _ _ (instance_of-itself (deeply_resolved c e) f.0));
+            predicate = (let f = terms.formed in let f' = f.1 in one_itself _ _ _ (instance_of-itself (deeply_resolved c g) f'.0));
+            constraints = λ y i. inr (subst (Among (read_constraints c c.constraints)) (sym (read_itself c s t k y i)) i);
+            hidden = λ y i. absurd i;
+            open_goals = λ y i. absurd i;
+          };
+        }
+
+-- .. that a lawful handler offers
+pub lawful_candidate : (h : Handler) (V : ℕ → List Variance) (mode : Mode) (c : Content) → IsSound c → HoldsTerms c → AreConstraintsOf c → (e g : Tree) → IsAsked e g → IsTermOf c e → IsTermOf c g
+    → (d : Candidate) → IsLawful h → Among (h.offers mode e g) d → d.certainty ≡ certain → HoldsCandidate (meaning h V) mode c d → IsProved (meaning h V) mode c e g
+lawful_candidate h V mode c s t k e g asked ke kg d law offered sure x =
+    by_candidate h V mode c s t k e g asked ke kg d x law.rules (let keep = law.keep in keep.each mode e g d asked offered) offered sure

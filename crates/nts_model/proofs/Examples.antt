@@ -1,0 +1,9 @@
+-- Proofs that are, and that are not.
+pub mod InputExamples
+pub mod ProofExamples
+pub mod TermExamples
+pub mod AnswerExamples
+pub mod StackExamples
+pub mod DecidingExamples
+pub mod ErasingExamples
+pub mod OpenGoalExample

@@ -1,0 +1,2 @@
+-- What answers rest on, with aliases: a trial.
+pub mod TellingAliases

@@ -1,0 +1,3 @@
+-- Responses, and applying them.
+pub mod Responses
+pub mod Applying

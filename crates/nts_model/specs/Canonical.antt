@@ -1,0 +1,3 @@
+-- Inputs and their canonical forms.
+pub mod Numbered
+pub mod Inputs

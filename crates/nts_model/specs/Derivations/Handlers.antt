@@ -1,0 +1,236 @@
+-- What a handler means, the candidates that it offers, and the laws that it keeps.
+use Rattle.std.specs.Prelude.{◌≡◌, ◌⊎◌, ℕ, Bool, false, List, [], ◌∷◌, Option, Some, None, map, get_or, slice_get}
+use Rattle.nts_model.specs.declared.labels.Sort.{Sort}
+use Rattle.nts_model.specs.declared.labels.Sort.TheVariants as sort
+use Rattle.nts_model.specs.declared.labels.Variance.{Variance}
+use Rattle.nts_model.specs.declared.labels.VariableKind.{VariableKind}
+use Rattle.nts_model.specs.declared.labels.VariableKind.TheVariants as kind
+use Rattle.nts_model.specs.declared.labels.Leaf.{Leaf}
+use Rattle.nts_model.specs.declared.labels.Leaf.TheVariants as leaf
+use Rattle.nts_model.specs.declared.labels.BoundVarIndexKind.TheVariants as index
+use Rattle.nts_model.specs.declared.labels.PredicateHead.TheVariants as predicate
+use Rattle.nts_model.specs.declared.labels.Label.{Label}
+use Rattle.nts_model.specs.declared.labels.Label.TheVariants as label
+use Rattle.nts_model.specs.Terms.Trees.{Tree, empty, more, node, kind_of_label, of_sort, NodeKind, any_label, is_canonical, IsClosed, IsFormed}
+use Rattle.nts_model.specs.Terms.Scoping.{IsWellBound}
+use Rattle.nts_model.specs.Terms.Fitting.{Fits}
+use Rattle.nts_model.specs.Terms.Substitutions.{put, Occurs, StaysItself, Instance, instance_of, Renaming, rename, IsPlain}
+use Rattle.nts_model.specs.Derivations.Related.{Constraint, pair, unbound}
+use Rattle.nts_model.specs.Derivations.Sequents.{Among, Source, normalize_goal, Premise, Hidden, HasClosedStatements}
+use Rattle.nts_model.specs.Derivations.Rules.{Mode, Equation, related, alike, Application, Meaning, meaning_of, statement_of, IsHandlers}
+
+-- how sure an answer is
+pub data Cause : Type 0 where
+  ambiguity : Cause
+  overflow : (suggests_limit keeps_constraints : Bool) → Cause
+
+pub data Certainty : Type 0 where
+  certain : Certainty
+  perhaps : Cause → (may_be_error : Bool) → Certainty
+
+-- when a goal is asked again, since its answer rests on hidden types
+pub data Access : Type 0 where
+  never always any_infer : Access
+  in_storage in_storage_or_infer : List ℕ → Access
+
+-- a way in which a goal may hold. Its terms name its fresh variables as canonical bound variables
+pub record Candidate : Type 0 where
+  pub fresh : List Sort
+  pub equations : List Equation
+  pub constraints : List Constraint
+  pub hidden : List Hidden
+  pub goals : List Premise
+  pub certainty : Certainty
+  pub accesses : Access
+
+-- the position that a label names
+abbrev pub position_of : Label → Option ℕ
+position_of (label.Bound s index.Canonical i) = Some i
+position_of l = None
+
+abbrev pub value_or : Option ℕ → List Tree → Tree → Tree
+value_or None vs t = t
+value_or (Some i) vs t = get_or vs i empty
+
+-- the values in place of the positions; .. and trees in place of leaves
+abbrev pub filled : List Tree → Tree → Tree
+filled vs empty = empty
+filled vs (more a b) = more (filled vs a) (filled vs b)
+filled vs (node l c) = value_or (position_of l) vs (node l (filled vs c))
+
+abbrev pub filled_under : (Leaf → Tree) → List Tree → Tree → Tree
+filled_under f vs empty = empty
+filled_under f vs (more a b) = more (filled_under f vs a) (filled_under f vs b)
+filled_under f vs (node l c) = value_or (position_of l) vs (put f l (filled_under f vs c))
+
+-- what changes where the trees do
+abbrev pub equation_by : (Tree → Tree) → Equation → Equation
+equation_by f (related a b) = related (f a) (f b)
+equation_by f (alike a b) = alike (f a) (f b)
+
+abbrev pub constraint_by : (Tree → Tree) → Constraint → Constraint
+constraint_by f x = record { relation = x.relation; left = f x.left; right = f x.right }
+
+abbrev pub hidden_by : (Tree → Tree) → Hidden → Hidden
+hidden_by f h = record { key = f h.key; hidden_type = f h.hidden_type }
+
+abbrev pub premise_by : (Tree → Tree) → Premise → Premise
+premise_by f p = record { source = p.source; environment = f p.environment; predicate = f p.predicate }
+
+-- closed terms that fit variables of these sorts
+abbrev pub kind_of_sort : Sort → VariableKind
+kind_of_sort sort.Ty = kind.Ty
+kind_of_sort sort.Region = kind.Region
+kind_of_sort sort.Const = kind.Const
+
+pub record IsValueOf (s : Sort) (v : Tree) : Type 0 where
+  pub fits : Fits (kind_of_sort s) v
+  pub formed : IsFormed v
+  pub closed : IsClosed v
+
+abbrev pub AreValuesOf : List Sort → List Tree → Type 0
+AreValuesOf [] [] = Unit {0}
+AreValuesOf (s ∷ ss) (v ∷ vs) = IsValueOf s v × AreValuesOf ss vs
+AreValuesOf ss vs = ⊥
+
+-- the use of a candidate for an instance of a goal, where its fresh variables have these values
+abbrev pub use_of : Candidate → Tree → Tree → Instance → List Tree → Application
+use_of c e g ι vs =
+    record {
+      environment = instance_of ι e;
+      conclusion = instance_of ι g;
+      values = vs;
+      equations = map (equation_by (filled_under ι.value vs)) c.equations;
+      goals = map (premise_by (filled_under ι.value vs)) c.goals;
+      constraints = map (constraint_by (filled_under ι.value vs)) c.constraints;
+      hidden = map (hidden_by (filled_under ι.value vs)) c.hidden;
+    }
+
+-- an instance of a candidate for a goal: values for its fresh variables
+pub record IsInstanceFor (c : Candidate) (e g : Tree) (ι : Instance) (a : Application) : Type 0 where
+  pub values : AreValuesOf c.fresh a.values
+  pub same : a ≡ use_of c e g ι a.values
+
+-- an instance of a use of a clause
+abbrev pub application_under : Instance → Application → Application
+application_under ι a =
+    record {
+      environment = instance_of ι a.environment;
+      conclusion = instance_of ι a.conclusion;
+      values = map (instance_of ι) a.values;
+      equations = map (equation_by (instance_of ι)) a.equations;
+      goals = map (premise_by (instance_of ι)) a.goals;
+      constraints = map (constraint_by (instance_of ι)) a.constraints;
+      hidden = map (hidden_by (instance_of ι)) a.hidden;
+    }
+
+-- a candidate whose leaves are renamed
+abbrev pub renamed : Renaming → Candidate → Candidate
+renamed ρ c =
+    record c {
+      equations = map (equation_by (rename ρ)) c.equations;
+      constraints = map (constraint_by (rename ρ)) c.constraints;
+      hidden = map (hidden_by (rename ρ)) c.hidden;
+      goals = map (premise_by (rename ρ)) c.goals;
+    }
+
+-- what a handler means: its rules, what it offers for a goal in an environment, in order, and its coinductive traits
+pub record Handler : Type 1 where
+  pub applies : Mode → Application → Type 0
+  pub offers : Mode → Tree → Tree → List Candidate
+  pub is_coinductive : ℕ → Bool
+
+-- .. where constructors have declared variances
+abbrev pub meaning : Handler → (ℕ → List Variance) → Meaning
+meaning h variances = meaning_of h.applies h.is_coinductive variances
+
+-- the goals that a handler is asked: closed terms without positions, that bind nothing, of the kinds that it answers.
+-- What is said is closed by itself: it names no variable of the binder that binds nothing. So are the statements of the
+-- environment. Each bound variable is of the list of its binder
+pub record IsAsked (e g : Tree) : Type 0 where
+  pub statement : Tree
+  pub binds_nothing : g ≡ unbound statement
+  pub handlers : IsHandlers statement
+  pub formed : IsFormed (pair e g)
+  pub closed : IsClosed (pair e statement)
+  pub no_positions : any_label is_canonical (pair e g) ≡ false
+  pub well_bound : IsWellBound (pair e g)
+  pub statements : HasClosedStatements e
+
+-- candidates are a function of mode and goal, and commute with plain renaming
+pub record CandidatesCommute (h : Handler) : Type 0 where
+  pub renaming : (mode : Mode) (e g : Tree) (ρ : Renaming) → IsPlain ρ → IsAsked e g
+      → h.offers mode (rename ρ e) (rename ρ g) ≡ map (renamed ρ) (h.offers mode e g)
+
+-- instances of a certain candidate are rules, and rules are closed under instances
+pub record InstancesAreRules (h : Handler) : Type 0 where
+  pub instances : (mode : Mode) (e g : Tree) (c : Candidate) (ι : Instance) (a : Application)
+      → IsAsked e g → Among (h.offers mode e g) c → c.certainty ≡ certain → IsInstanceFor c e g ι a → h.applies mode a
+  pub closed : (mode : Mode) (a : Application) (ι : Instance) → h.applies mode a → h.applies mode (application_under ι a)
+
+-- a position that is named is one of the fresh variables, of its sort
+abbrev pub IsOfSort : Option Sort → NodeKind → Type 0
+IsOfSort None k = ⊥
+IsOfSort (Some s) k = k ≡ of_sort s
+
+abbrev pub NamesAt : List Sort → Option ℕ → Label → Type 0
+NamesAt fresh None l = Unit {0}
+NamesAt fresh (Some i) l = IsOfSort (slice_get fresh i) (kind_of_label l)
+
+abbrev pub NamesFresh : List Sort → Tree → Type 0
+NamesFresh fresh empty = Unit {0}
+NamesFresh fresh (more a b) = NamesFresh fresh a × NamesFresh fresh b
+NamesFresh fresh (node l c) = NamesAt fresh (position_of l) l × NamesFresh fresh c
+
+-- a region that stays itself
+abbrev pub IsFixed : Leaf → Type 0
+IsFixed (leaf.Region r) = StaysItself r
+IsFixed l = ⊥
+
+-- a closed term over the fresh variables and the goal: it has no other leaves than the goal, but for regions that
+-- stay themselves, and each bound variable is of the list of its binder
+pub record IsOver (fresh : List Sort) (e g t : Tree) : Type 0 where
+  pub names : NamesFresh fresh t
+  pub leaves : (l : Leaf) → Occurs l t → Occurs l (pair e g) ⊎ IsFixed l
+  pub formed : IsFormed t
+  pub closed : IsClosed t
+  pub well_bound : IsWellBound t
+
+abbrev pub IsEquationOver : List Sort → Tree → Tree → Equation → Type 0
+IsEquationOver fresh e g (related a b) = IsOver fresh e g a × IsOver fresh e g b
+IsEquationOver fresh e g (alike a b) = IsOver fresh e g a × IsOver fresh e g b
+
+-- goals that a handler may ask for
+abbrev pub IsEmitted : Tree → Type 0
+IsEmitted (node (label.Predicate (predicate.NormalizesTo i)) ts) = ⊥
+IsEmitted (node (label.Predicate predicate.ConstEquate) ts) = ⊥
+IsEmitted t = Unit {0}
+
+abbrev pub IsHandlersSource : Source → Type 0
+IsHandlersSource (normalize_goal k) = ⊥
+IsHandlersSource s = Unit {0}
+
+-- a goal of a candidate: in the same environment
+pub record IsNested (fresh : List Sort) (e g : Tree) (q : Premise) : Type 0 where
+  pub environment : q.environment ≡ e
+  pub predicate : IsOver fresh e g q.predicate
+  pub emitted : IsEmitted (statement_of q.predicate)
+  pub source : IsHandlersSource q.source
+
+-- candidates keep the environment, and have no foreign leaves, sorts or sources
+pub record IsCandidateFor (e g : Tree) (c : Candidate) : Type 0 where
+  pub equations : (q : Equation) → Among c.equations q → IsEquationOver c.fresh e g q
+  pub constraints : (x : Constraint) → Among c.constraints x → IsOver c.fresh e g x.left × IsOver c.fresh e g x.right
+  pub goals : (q : Premise) → Among c.goals q → IsNested c.fresh e g q
+  -- until hidden types exist there are none
+  pub no_hidden : c.hidden ≡ []
+  pub no_access : c.accesses ≡ never
+
+pub record CandidatesKeep (h : Handler) : Type 0 where
+  pub each : (mode : Mode) (e g : Tree) (c : Candidate) → IsAsked e g → Among (h.offers mode e g) c → IsCandidateFor e g c
+
+-- a handler that keeps the laws, which its sets being fixed is one of: they are functions
+pub record IsLawful (h : Handler) : Type 0 where
+  pub commute : CandidatesCommute h
+  pub rules : InstancesAreRules h
+  pub keep : CandidatesKeep h

@@ -1,0 +1,3 @@
+-- Conditions of accesses, and the erased mode.
+pub mod Accessing
+pub mod Erasing

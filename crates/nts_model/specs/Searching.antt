@@ -1,0 +1,3 @@
+-- The stack of a search.
+pub mod Stacks
+pub mod Driving

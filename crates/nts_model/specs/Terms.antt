@@ -1,0 +1,9 @@
+-- Trees alone.
+pub mod Trees
+pub mod Scoping
+pub mod Patching
+pub mod Coding
+pub mod Placeholders
+pub mod Regions
+pub mod Fitting
+pub mod Substitutions
