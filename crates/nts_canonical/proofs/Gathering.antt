@@ -269,10 +269,6 @@ continues_finish stays ts xs t s ns ms h e =
     continues stays ts xs xs (task.Finish t) [] s s ns ms h (front stays ts xs (task.Finish t) s ns h).0 (sym (append-nil (jobs ts xs))) refl tt (omega arith)
     (rw e (are_read-inserted stays ts s ns t.number h.are_read split.0.0))
 
--- the first task
-pub reading_first : (stays : Leaf → Bool) (ts : List Tree) (t : NodeId) (s : List Leaf) (ns : List ℕ) → IsIn ts t → ns ≡ [] → IsReading stays ts (task.Enter t ∷ []) s ns
-reading_first stays ts t s ns h e = record { within = (h, tt); due = tt; are_read = rw e tt }
-
 -- what holds where a call succeeded
 pub ok_map : {A E : Type 0} (r : Result A E) (P Q : Type 0) → (P → Q) → OnOk r P → OnOk r Q
 ok_map (Ok x) P Q f h = f h

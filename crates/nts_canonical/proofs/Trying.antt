@@ -10,17 +10,5 @@ use Rattle.nts_canonical.specs.Forms.{trees_of}
 abbrev pub Before : (GenericArg → Type 0) → List GenericArg → ℕ → Type 0
 Before P xs i = (k : ℕ) (d : GenericArg) → k < i → P (get_or xs k d)
 
-within : (xs : List GenericArg) (i : ℕ) (d e : GenericArg) → i < length xs → get_or xs i d ≡ get_or xs i e
-within [] i d e l = absurd (omega arith)
-within (x ∷ xs) zero d e l = refl
-within (x ∷ xs) (suc i) d e l = within xs i d e (omega arith)
-
-pub before_more : (P : GenericArg → Type 0) (xs : List GenericArg) (i : ℕ) (e : GenericArg) → Before P xs i → i < length xs → P (get_or xs i e) → Before P xs (i + 1)
-before_more P xs i e h l x k d j =
-    elim (cases_lt k i) [
-      | inl q ↦ h k d q
-      | inr q ↦ (let same : i ≡ k = omega (arith, q, j) in subst (λ n. P (get_or xs n d)) same (subst P (within xs i e d l) x))
-    ]
-
 pub same_values : (ts : List Tree) (xs ys : List GenericArg) (t : Tree) → xs ≡ ys → HasValues (trees_of ts ys) t → HasValues (trees_of ts xs) t
 same_values ts xs ys t e h = subst (λ z. HasValues (trees_of ts z) t) (sym e) h

@@ -253,9 +253,6 @@ pub filter_left : {X : Type 0} (p : X → Bool) (xs : List X) (x : X) → p x �
 filter_left p [] x h = rw h refl
 filter_left p (y ∷ xs) x h = rw (filter_left p xs x h) refl
 
-pub found_none : (ts : List Tree) (g : Goal) (args : Tree) → AreFound ts g args [] []
-found_none ts g args = record { each = tt; candidates = tt }
-
 pub taken : (cs : List Clause) (i : ℕ) (c : Clause) → i < length cs → c ≡ get_or cs i c → take (i + 1) cs ≡ take i cs ++ c ∷ []
 taken cs i c l e = take_more cs i c l ∙ ap (λ x. take i cs ++ x ∷ []) (sym e)
 

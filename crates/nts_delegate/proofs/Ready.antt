@@ -66,12 +66,6 @@ one_more ts d u c h holds is e f all index =
     let heads : map (head_of ts) cs ++ h ∷ [] ≡ map (head_of ts) u.clauses.items = ap (λ z. map (head_of ts) cs ++ z ∷ []) is ∙ sym (map_push (head_of ts) cs c) ∙ ap (map (head_of ts)) (sym e) in
     (subst (AreClauses ts) (sym e) (clauses_push ts cs c all holds), subst (IsIndexOf u.heads) heads found)
 
--- after an error
-pub no_more : (ts : List Tree) (d u : TraitClauses) → u.clauses.items ≡ d.clauses.items → ((hs : List (Option TyHead)) → IsIndexOf d.heads hs → IsIndexOf u.heads hs)
-    → AreClauses ts d.clauses.items → IsIndexed ts (Some d) → AreClauses ts u.clauses.items × IsIndexed ts (Some u)
-no_more ts d u e f all index =
-    (subst (AreClauses ts) (sym e) all, subst (λ cs. IsIndexOf u.heads (map (head_of ts) cs)) (sym e) (f (map (head_of ts) d.clauses.items) index))
-
 pub ready_same : (ts : List Tree) (a b : Clauses) → b.traits.items ≡ a.traits.items → AreReady ts a → AreReady ts b
 ready_same ts a b e r = ready_of ts b (subst (AllReady ts) (sym e) (all_of ts a r))
 

@@ -1,11 +1,6 @@
 -- Facts of answers.
 use Rattle.std.specs.Prelude.{Result, Ok, Err, IfOk, OnOk}
 
--- a fact of an answer
-pub IfOk-always : {A E P : Type 0} (r : Result A E) → P → IfOk r (λ x. P)
-IfOk-always (Ok x) h = h
-IfOk-always (Err e) h = tt
-
 pub OnOk-map : {A E P Q : Type 0} (r : Result A E) → (P → Q) → OnOk r P → OnOk r Q
 OnOk-map (Ok x) f h = f h
 OnOk-map (Err e) f h = tt

@@ -64,9 +64,6 @@ body_at ts fresh [] i p h l = absurd (omega arith)
 body_at ts fresh (q ∷ ps) zero p h l = (h.0, h.1)
 body_at ts fresh (q ∷ ps) (suc i) p h l = body_at ts fresh ps i p h.2 (omega arith)
 
-pub same_sort : (a b : Sort) → (a ≡ b) ↔ (of_sort b ≡ of_sort a)
-same_sort a b = ((λ e. rw e refl), λ e. cc)
-
 pub if_then : {E : Type 0} (r : Result Bool E) (P Q : Bool → Type 0) → ((b : Bool) → P b → Q b) → IfOk r P → IfOk r Q
 if_then (Ok b) P Q f h = f b h
 if_then (Err e) P Q f h = tt

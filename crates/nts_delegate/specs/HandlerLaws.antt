@@ -356,11 +356,3 @@ pub AreOffered-clauses : (clauses : ClausesOfTraits) (is_coinductive : ℕ → B
 AreOffered-clauses clauses is_coinductive own =
     record { covered = λ e g ι a asked applies env con. covered_shape clauses own is_coinductive e g ι a asked.no_positions (goal_of e g asked) applies env con }
 
--- no clause normalizes an alias
-trait_kind : (f : ℕ → Bool) (b : Bool) → (if b then coinductive_trait else other_goal) ≡ normalization → ⊥
-trait_kind f true e = cc e
-trait_kind f false e = cc e
-
-pub no_normalization : (clauses : ClausesOfTraits) (is_coinductive : ℕ → Bool) (a : Application) → IsInstanceOfClause clauses a → goal_kind (meaning (handler_by clauses is_coinductive) (λ i. [])) a.conclusion ≡ normalization → ⊥
-no_normalization clauses is_coinductive a h e =
-    trait_kind is_coinductive (is_coinductive h.of_trait) (sym (ap (goal_kind (meaning (handler_by clauses is_coinductive) (λ i. []))) h.conclusion) ∙ e)

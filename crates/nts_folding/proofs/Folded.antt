@@ -444,16 +444,6 @@ module _ {S : Type 0} (A : S → Tree → Option Tree → S → Type 0) (E L : S
       pub ends : (t : S) (qs : List Tree) → Runs (jobs ts xs) s (map (tree_at ts) found) t qs → (y : Tree) × Walk A E L R first x y t × (qs ≡ y ∷ [])
       pub stops : (e : X) → HaltsIn (jobs ts xs) s (map (tree_at ts) found) e → Stops A E L R N first x e
 
-    pub ends_start : (ts : List Tree) (xs : List Task) (cs : List NodeId) (t : NodeId) (s : S) → IsIn ts t → xs ≡ task.Enter t ∷ [] → cs ≡ [] → EndsBy s (tree_at ts t) ts xs cs s
-    ends_start ts xs cs t s h e q =
-        record {
-          tasks_in = rw e (h, tt);
-          found_in = rw q tt;
-          are_ready = rw e (tt, λ m ms r. tt);
-          ends = λ u qs r. let here : Runs (enter (tree_at ts t) ∷ []) s [] u qs = rw (e, q) at r in does_one (enter (tree_at ts t)) s u [] qs here;
-          stops = λ u r. let here : HaltsIn (enter (tree_at ts t) ∷ []) s [] u = rw (e, q) at r in one_halts (enter (tree_at ts t)) s [] u here;
-        }
-
     halts_after : (xs ws : List Job) (k : Job) (s t : S) (rs qs : List Tree) (e : X) → ((m : S) (ms : List Tree) → Runs ws t qs m ms → Does k s rs m ms) → (HaltsIn ws t qs e → Halts k s rs e) → HaltsIn ws t qs e ⊎ HaltsLater xs ws t qs e → HaltsIn (xs ++ k ∷ []) s rs e
     halts_after xs ws k s t rs qs e same halting (inl h) = halts_first xs (k ∷ []) s rs e (halts_one k s rs e (halting h))
     halts_after xs ws k s t rs qs e same halting (inr h) =

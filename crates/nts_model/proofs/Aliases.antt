@@ -9,3 +9,9 @@ pub mod RelatedRows
 pub mod OpenedRules
 pub mod OpenedWith
 pub mod Renormalized
+pub mod Unfolding
+pub mod Unfolded
+pub mod RelatedByProofs
+pub mod Listing
+pub mod Weakening
+pub mod TellingAliases

@@ -4,4 +4,3 @@ pub mod Numbering
 pub mod Moving
 pub mod PositionKinds
 pub mod CanonicalForms
-pub mod Pushing

@@ -1,10 +1,8 @@
 -- Rules, derivations and ranked proofs.
 pub mod Monotone
-pub mod Weakening
 pub mod Flattening
 pub mod ClosedStatements
 pub mod ProofInstances
-pub mod Falling
 pub mod ProvedLater
 pub mod Served
 pub mod AlikeRelated

@@ -4,7 +4,6 @@ pub mod Applying
 pub mod Applied
 pub mod Standing
 pub mod Asked
-pub mod Unchanged
 pub mod Closing
 pub mod Granting
 pub mod Bringing

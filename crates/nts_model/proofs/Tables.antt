@@ -12,7 +12,6 @@ pub mod Instances
 pub mod Solving
 pub mod Levelled
 pub mod Readings
-pub mod RegionNames
 pub mod Held
 pub mod Alike
 pub mod Fitting

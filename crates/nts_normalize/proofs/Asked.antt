@@ -62,9 +62,6 @@ pub of_fault : (P : Type 0) (f : Fault) (e : EvalError) → e ≡ error_of f →
 of_fault P fault.Memory e q h = inl q
 of_fault P fault.Full e q h = inr (q, h refl)
 
-pub of_memory : (f : Fault) (e : EvalError) → e ≡ error_of f → f ≡ fault.Memory → e ≡ Memory
-of_memory f e q h = q ∙ ap error_of h
-
 pub no_universe : {F : Type 0} (g : Normalizes F) (s : Standing F) (x : Tree) (f : Fault) (e : EvalError) → e ≡ error_of f → (f ≡ fault.Full → s.content.universe ≡ last_universe) → (e ≡ Memory) ⊎ FailsToAsk g s x e
 no_universe g s x fault.Memory e q h = inl q
 no_universe g s x fault.Full e q h = inr (inl (q, h refl))
@@ -74,10 +71,6 @@ no_universe g s x fault.Full e q h = inr (inl (q, h refl))
 pub at_closed : {F : Type 0} (g : Normalizes F) (s : Standing F) (x : Tree) (e : EvalError) → is_alias_tree x ≡ true → IsClosed x → (e ≡ Memory) ⊎ FailsToAsk g s x e → Fails g s (Some x) e
 at_closed g s x e is closed (inl h) = inl h
 at_closed g s x e is closed (inr h) = inr (is, inl (closed, h))
-
-pub at_open : {F : Type 0} (g : Normalizes F) (s : Standing F) (x : Tree) (e : EvalError) → is_alias_tree x ≡ true → (e ≡ Memory) ⊎ FailsUnder g s x e → Fails g s (Some x) e
-at_open g s x e is (inl h) = inl h
-at_open g s x e is (inr h) = inr (is, inr h)
 
 pub not_opened : {F : Type 0} (g : Normalizes F) (s : Standing F) (x : Tree) (e : EvalError) → (IsClosed x → ⊥) → IsClosedUnder (length s.universes) x → (e ≡ Memory) ⊎ (e ≡ Full) × RunsOut (escapes x) s.universes s.content.universe last_universe → (e ≡ Memory) ⊎ FailsUnder g s x e
 not_opened g s x e escaping listed (inl h) = inl h

@@ -51,29 +51,6 @@ module _ (M : Sort → Placeholder → Option BoundVar) (U : List (Option ℕ)) 
   closed_none c (node l t) h =
       cc (label_stays c l (no_placeholder l (or_first (is_placeholder l) (any_label is_placeholder t) h)), closed_none (c + binders l) t (or_second (is_placeholder l) (any_label is_placeholder t) h))
 
-  pub closes_inside : (c : ℕ) (t : Tree) (l : Label) → t ≡ node l (children t) → placeholder_of l ≡ None → GoesInside (λ d u. Unit {0}) (closed_by M U) c t
-  closes_inside c empty l e h = cc
-  closes_inside c (more a b) l e h = cc
-  closes_inside c (node m t) l e h =
-      let same : m ≡ l = cc in
-      (ap (λ (k : Label). node k (closed_by M U (c + binders m) t)) (label_stays c m (ap placeholder_of same ∙ h)), tt)
-
-  pub closes_leaf : (c : ℕ) (t : Tree) (l : Label) → t ≡ node l (children t) → Meets (shape l) (children t) → shape l ≡ in_order [] → closed_by M U c t ≡ node (closed_label M U c l) empty
-  closes_leaf c empty l e h k = cc
-  closes_leaf c (more a b) l e h k = cc
-  closes_leaf c (node m t) l e h k =
-      let same : m ≡ l = cc in
-      let none : t ≡ empty = childless t (rw k at h) in
-      rw (same, none) refl
-    where
-      childless : (r : Tree) → HavePlaces [] r → r ≡ empty
-      childless empty w = refl
-      childless (more a b) w = absurd w
-      childless (node n r) w = absurd w
-
-pub meets_none : (l : Label) → shape l ≡ in_order [] → Meets (shape l) empty
-meets_none l e = rw e tt
-
 -- an entry is of the list
 pub entry_low : (U : List (Option ℕ)) (u e : ℕ) → entry_of U u ≡ Some e → e < length U
 entry_low [] u e h = cc

@@ -125,14 +125,6 @@ pub record AreLeft (d : ℕ) (ts : List Tree) (start here deeper : List ℕ) (ol
   pub below : above deeper ≤ above start - 1
   pub found : (s : Sort) (b : BoundVar) → (is_among new s b || (escapes_any s b d ts here || escapes_any s b (d + 1) ts deeper)) ≡ (is_among old s b || escapes_any s b d ts start)
 
-pub left_first : (d : ℕ) (ts : List Tree) (start deeper : List ℕ) (xs : List Escaping) → above start ≤ length ts → deeper ≡ [] → AreLeft d ts start start deeper xs xs
-left_first d ts start deeper xs h e =
-    rw e (record { within = h; at_level = omega arith; below = omega arith; found = λ s b. ap (λ p. is_among xs s b || p) (or_false (escapes_any s b d ts start)) })
-  where
-    or_false : (p : Bool) → (p || false) ≡ p
-    or_false true = refl
-    or_false false = refl
-
 pub left_within : (d : ℕ) (ts : List Tree) (start rest here deeper : List ℕ) (old new : List Escaping) (n : ℕ) → AreLeft d ts start here deeper old new → here ≡ rest ++ n ∷ [] → n < length ts
 left_within d ts start rest here deeper old new n h e =
     let left : AreLeft d ts start (rest ++ n ∷ []) deeper old new = rw e at h in
@@ -254,31 +246,14 @@ left_after d ts l c start rest old before here deeper first was now n i h e is p
           ∙ left.found s b;
     }
 
-pub level_done : (d : ℕ) (ts : List Tree) (start here deeper : List ℕ) (old new : List Escaping) → AreLeft d ts start here deeper old new → here ≡ [] → IsDeeper d ts start deeper old new
-level_done d ts start here deeper old new h e =
-    let left : AreLeft d ts start [] deeper old new = rw e at h in
-    record { below = left.below; found = left.found }
-
 -- the levels from one on
 pub record IsAtLevel (t : Tree) (ts : List Tree) (d : ℕ) (here : List ℕ) (xs : List Escaping) : Type 0 where
   pub within : d + above here ≤ length ts
   pub found : (s : Sort) (b : BoundVar) → (is_among xs s b || escapes_any s b d ts here) ≡ escapes t s b
 
-pub first_level : (ts : List Tree) (k : ℕ) (here : List ℕ) (xs : List Escaping) → k < length ts → here ≡ insert_key nat_cmp [] k → xs ≡ [] → IsAtLevel (get_or ts k empty) ts 0 here xs
-first_level ts k here xs h e q =
-    rw (e, q) (record { within = omega arith; found = λ s b. or_false (escapes_under s b 0 (get_or ts k empty)) })
-  where
-    or_false : (p : Bool) → (p || false) ≡ p
-    or_false true = refl
-    or_false false = refl
-
 none_above : (ks : List ℕ) → above ks ≤ 0 → ks ≡ []
 none_above [] h = refl
 none_above (k ∷ ks) h = absurd (omega arith)
-
-pub further : (t : Tree) (ts : List Tree) (d : ℕ) (here deeper : List ℕ) (old new : List Escaping) → d < length ts → IsAtLevel t ts d here old → IsDeeper d ts here deeper old new → IsAtLevel t ts (d + 1) deeper new
-further t ts d here deeper old new l h n =
-    record { within = omega (arith, h.within, n.below, l); found = λ s b. n.found s b ∙ h.found s b }
 
 pub level_empty : (t : Tree) (ts : List Tree) (d : ℕ) (here : List ℕ) (xs : List Escaping) → IsAtLevel t ts d here xs → here ≡ [] → (s : Sort) (b : BoundVar) → is_among xs s b ≡ escapes t s b
 level_empty t ts d here xs h e s b =

@@ -12,13 +12,6 @@ use Rattle.nts_placeholder.proofs.Reaching.{either, or_left, or_right, it_is, is
 abbrev pub Mapped : Type 0
 Mapped = Sort → Placeholder → Option BoundVar
 
-pub maps_none : (U : List (Option ℕ)) (xs : List Escaping) (m : Mapped) → ((s : Sort) (p : Placeholder) → m s p ≡ None) → AreMapsOf U (is_among (take 0 xs)) m
-maps_none U xs m h =
-    record {
-      made = λ s p b e. let f : None ≡ Some b = sym (h s p) ∙ e in cc;
-      all = λ s b e. let f : false ≡ true = e in cc;
-    }
-
 pub maps_same : {U : List (Option ℕ)} {E F : Sort → BoundVar → Bool} {m : Mapped} → ((s : Sort) (b : BoundVar) → E s b ≡ F s b) → AreMapsOf U E m → AreMapsOf U F m
 maps_same {U} {E} {F} {m} f h =
     record {

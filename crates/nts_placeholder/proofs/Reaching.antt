@@ -97,9 +97,6 @@ reach_same {U} {E} {F} {n} f h =
       all = λ e w. h.all e (needed_kept (λ s b q. f s b ∙ q) w);
     }
 
-pub reach_none : (U : List (Option ℕ)) (xs : List Escaping) → IsReach U (is_among (take 0 xs)) 0
-reach_none U xs = record { last = inl refl; all = λ e h. let f : false ≡ true = h.escapes in cc }
-
 module _ (U : List (Option ℕ)) (xs : List Escaping) (i n : ℕ) (x : Escaping) where
   reach_cases : slice_get xs i ≡ Some x → (e : ℕ) → IsNeeded U (is_among (take (i + 1) xs)) e → IsNeeded U (is_among (take i xs)) e ⊎ (e ≡ entry_for U x.bound)
   reach_cases at e h =
@@ -153,11 +150,6 @@ open-nil (suc n) = refl
 pub record AreSoFar (U : List (Option ℕ)) (u end i : ℕ) (list : List (Option ℕ)) (last : ℕ) : Type 0 where
   pub all : list ++ filled last (end - i) (drop i U) ≡ filled u end U
   pub count : last + open_before (end - i) (drop i U) ≡ u + open_before end U
-
-pub far_none : (U : List (Option ℕ)) (u end : ℕ) (list : List (Option ℕ)) → list ≡ [] → AreSoFar U u end 0 list u
-far_none U u end list e =
-    let z : end - 0 ≡ end = omega arith in
-    rw e (record { all = ap (λ n. filled u n U) z; count = ap (λ n. u + open_before n U) z })
 
 module _ (U : List (Option ℕ)) (u end i : ℕ) (list : List (Option ℕ)) (last : ℕ) (h : AreSoFar U u end i list last) where
   pub far_open : (more_list : List (Option ℕ)) (next : ℕ) → slice_get U i ≡ Some None → i < end → next ≡ last + 1 → more_list ≡ list ++ Some next ∷ [] → AreSoFar U u end (i + 1) more_list next
@@ -220,28 +212,6 @@ module _ (U : List (Option ℕ)) (u end i : ℕ) (list : List (Option ℕ)) (las
 abbrev pub shift : ℕ → Option ℕ → Option ℕ
 shift i None = None
 shift i (Some e) = Some (e + i)
-
-pub shift_none : (U : List (Option ℕ)) (u : ℕ) → entry_of U u ≡ shift 0 (entry_of (drop 0 U) u)
-shift_none U u = by_case (entry_of U u)
-  where
-    by_case : (o : Option ℕ) → o ≡ shift 0 o
-    by_case None = refl
-    by_case (Some e) = ap Some (let q : e ≡ e + 0 = omega arith in q)
-
-shift_one : (i : ℕ) (o : Option ℕ) → shift i (one_on o) ≡ shift (i + 1) o
-shift_one i None = refl
-shift_one i (Some e) = ap Some (let q : e + 1 + i ≡ e + (i + 1) = omega arith in q)
-
-pub shift_step : (U : List (Option ℕ)) (u i : ℕ) (x : Option ℕ) → slice_get U i ≡ Some x → is_universe x u ≡ false → entry_of U u ≡ shift i (entry_of (drop i U) u) → entry_of U u ≡ shift (i + 1) (entry_of (drop (i + 1) U) u)
-shift_step U u i x at other h =
-    h ∙ ap (λ zs. shift i (entry_of zs u)) (drop-at i U x at) ∙ ap (λ b. shift i (cond b (Some 0) (one_on (entry_of (drop (i + 1) U) u)))) other ∙ shift_one i (entry_of (drop (i + 1) U) u)
-
-pub shift_found : (U : List (Option ℕ)) (u i : ℕ) (x : Option ℕ) → slice_get U i ≡ Some x → is_universe x u ≡ true → entry_of U u ≡ shift i (entry_of (drop i U) u) → entry_of U u ≡ Some i
-shift_found U u i x at same h =
-    h ∙ ap (λ zs. shift i (entry_of zs u)) (drop-at i U x at) ∙ ap (λ b. shift i (cond b (Some 0) (one_on (entry_of (drop (i + 1) U) u)))) same ∙ ap Some (let q : 0 + i ≡ i = omega arith in q)
-
-pub shift_past : (U : List (Option ℕ)) (u i : ℕ) → length U ≤ i → entry_of U u ≡ shift i (entry_of (drop i U) u) → entry_of U u ≡ None
-shift_past U u i l h = h ∙ ap (λ zs. shift i (entry_of zs u)) (drop-past i U l)
 
 pub none_of : (o : Option ℕ) → is_some o ≡ false → o ≡ None
 none_of None h = refl

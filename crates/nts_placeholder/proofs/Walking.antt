@@ -13,7 +13,7 @@ use Rattle.nts_store.specs.Growth.{tree_at, trees_at, IsIn, AllIn, Extends}
 use Rattle.nts_store.specs.Kept.{map-kept}
 use Rattle.nts_store.specs.Replacement.{IsFormedNode}
 use Rattle.nts_store.proofs.Growing.{IsIn-extended, AllIn-extended, AllIn-push}
-use Rattle.nts_store.proofs.Replacing.{map-push, row, row-trees, IsRow-Meets, AllIn-take, AllIn-drop, MayBuild, IsFound}
+use Rattle.nts_store.proofs.Replacing.{map-push, row, row-trees, IsRow-Meets, AllIn-take, AllIn-drop, MayBuild}
 use Rattle.nts_placeholder.specs.declared.under.Place.{Place}
 use Rattle.nts_placeholder.specs.declared.under.Task.{Task}
 use Rattle.nts_placeholder.specs.declared.under.Task.TheVariants as task
@@ -311,14 +311,6 @@ pub known_more : (f : ℕ → Tree → Tree) (ts : List Tree) (old new : Place �
 known_more f ts old new n d h w is = λ k r q. known_cases f ts old n k d r h w (place_eq.ghosts.eq n k) refl (sym (is k) ∙ q)
 
 module _ (C : ℕ → Tree → Type 0) (f : ℕ → Tree → Tree) where
-  pub ends_start : (ts : List Tree) (xs : List Task) (cs : List NodeId) (t : NodeId) → IsIn ts t → C 0 (tree_at ts t) → xs ≡ task.Enter (record { node = t; depth = 0 }) ∷ [] → cs ≡ [] → EndsWith C f ts xs cs (f 0 (tree_at ts t))
-  ends_start ts xs cs t h k e q =
-      record {
-        tasks = rw e (record { within = h; depth = omega arith }, tt);
-        found_in = rw q tt;
-        are_ready = rw e (tt, k);
-        ends = rw (e, q) refl;
-      }
 
   split_jobs : (ts : List Tree) (xs ys : List Task) (k : Task) → ys ≡ xs ++ k ∷ [] → jobs ts ys ≡ jobs ts xs ++ job ts k ∷ []
   split_jobs ts xs ys k e = rw e (jobs-push ts xs k)
@@ -396,17 +388,6 @@ module _ (C : ℕ → Tree → Type 0) (f : ℕ → Tree → Tree) where
       let found = map-kept a b rs p.found_in up in
       let same : run C f (building t.depth u) (map (tree_at b) rs) ≡ map (tree_at a) rs ++ f t.depth u ∷ [] = rw found (run-building C f laws t.depth u (map (tree_at a) rs) s f_u) in
       ends_after a b xs ys zs (task.Enter t) (building t.depth u) rs rs x p e up js same (AreReady-building C f laws t.depth u (map (tree_at b) rs) s f_u) tasks (AllIn-extended up rs p.found_in)
-
-  pub ends_all : (ts : List Tree) (xs : List Task) (found : List NodeId) (x : Tree) → EndsWith C f ts xs found x → xs ≡ [] → IsFound ts found x
-  ends_all ts xs [] x p e = let q : [] ≡ x ∷ [] = rw e at p.ends in cc
-  ends_all ts xs (c ∷ cs) x p e =
-      let q : map (tree_at ts) (c ∷ cs) ≡ x ∷ [] = rw e at p.ends in
-      let first : tree_at ts c ≡ x = cc in
-      record {
-        some = omega arith;
-        within = λ d h. rw (← h) p.found_in.0;
-        tree = λ d h. ap (tree_at ts) (sym h) ∙ first;
-      }
 
   -- each turn there is less to do
 

@@ -70,9 +70,6 @@ closed_at-leaf U c s l (Some b) (Some e) h = record { kind = refl; leaf = refl }
 closed_at-leaf U c s l (Some b) None h = h
 closed_at-leaf U c s l None e h = h
 
-pub closed_leaf : (M : Sort → Placeholder → Option BoundVar) (U : List (Option ℕ)) (c : ℕ) (l : Label) (s : Sort) (p : Placeholder) → placeholder_of l ≡ Some (s, p) → IsLeafOf (closed_label M U c l) s
-closed_leaf M U c l s p e = rw e (closed_at-leaf U c s l (M s p) (entry_of U p.universe) (placeholder_leaf l s p e))
-
 kind_by : (M : Sort → Placeholder → Option BoundVar) (U : List (Option ℕ)) (c : ℕ) (l : Label) (o : Option (Sort × Placeholder)) → placeholder_of l ≡ o → kind_of_label (closed_placeholder M U c l o) ≡ kind_of_label l
 kind_by M U c l None e = refl
 kind_by M U c l (Some p) e =

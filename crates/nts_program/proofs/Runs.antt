@@ -165,11 +165,6 @@ not_done stop.Memory e = cc
 not_done stop.Failed e = cc
 not_done (stop.Refused r) e = cc
 
--- what is left of an input behind an empty buffer
-pub buffered : {T A : Type 0} (f : T → Option (List ℕ)) (inner : T) (r : BufReader T A)
-    → reader_inner r ≡ inner → reader_buffer r ≡ [] → reader_capacity r ≡ 8192 → reader_remaining f r ≡ f inner
-buffered f inner r same empty capacity = rw (capacity, empty, same) (prepend_known-nil (f inner))
-
 -- a line is answered where it is obeyed and its answer is written
 pub answered_where : {T E : Type 0} (r : Result T E) (line : List ℕ) (p q : Program) (before after : Option (List ℕ)) (text : Vec ℕ) (bytes : List ℕ)
     → IsObeyed line p q (Some text) → bytes ≡ text.items → OnOk r (Appends before after bytes) → OnOk r (IsAnsweredLine line p q before after)

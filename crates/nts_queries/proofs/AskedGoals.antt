@@ -71,13 +71,6 @@ args_kept a b e (x ∷ xs) same k h =
     HoldsArg-kept : HoldsArg a x → HoldsArg b x
     HoldsArg-kept z = record { within = IsIn-extended k x.node z.within; fits = rw (k.kept x.node z.within) z.fits }
 
-pub closed_kept : (a b : List Tree) (e : Entries) (xs : List GenericArg) → Extends a b → All (IsArgOf a e) xs → All (λ o. IsClosed (tree_at a o.node)) xs → All (λ o. IsClosed (tree_at b o.node)) xs
-closed_kept a b e [] k w h = λ i d l. absurd (omega (arith, l))
-closed_kept a b e (x ∷ xs) k w h =
-    let one = All-head (IsArgOf a e) x xs w in
-    let held = one.holds in
-    All-cons (λ o. IsClosed (tree_at b o.node)) x xs (rw (k.kept x.node held.within) (All-head (λ o. IsClosed (tree_at a o.node)) x xs h)) (closed_kept a b e xs k (All-tail (IsArgOf a e) x xs w) (All-tail (λ o. IsClosed (tree_at a o.node)) x xs h))
-
 pub trees_kept : (a b : List Tree) (e : Entries) (xs : List GenericArg) → Extends a b → All (IsArgOf a e) xs → trees_of b xs ≡ trees_of a xs
 trees_kept a b e [] k w = refl
 trees_kept a b e (x ∷ xs) k w =
@@ -144,9 +137,6 @@ module _ {a b d : List Tree} {t : Table} {g : Goal} {q : Vec GenericArg × Canon
 
   pub args_there : All (IsArgOf d t.entries) q.0.items
   args_there = args_kept b d t.entries q.0.items (now ∙ sym (content_of-extended ab posed.table.now)) bd query.args
-
-  pub closed_there : All (λ o. IsClosed (tree_at d o.node)) q.0.items
-  closed_there = closed_kept b d t.entries q.0.items bd query.args query.closed
 
   of_goal : IsInputFor (tree_at a g.param_env.node) (tree_at a g.predicate.node) asked
   of_goal = record { environment = refl; predicate = refl; hidden = refl; proper = query.proper }

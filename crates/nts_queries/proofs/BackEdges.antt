@@ -269,9 +269,6 @@ module _ (ts us : List Tree) (input : CanonicalInput) (asked : IsQueryInput ts i
   pub first_answers : (xs : List StackEntry) (n : ℕ) → IfAnswered z (λ r. IsReadAt xs n r ⊎ SaysNothing (response_at us r))
   first_answers xs n = by_answer x z some none (λ r e. inr (nothing_said _ _ _ (said r e)))
 
-  pub first_unsure : (P : Canonical Response → Type 0) → IfSome x (λ r. (r.value.certainty ≡ certainty.Yes) ↔ (k ≡ path.Coinductive)) → (k ≡ path.Coinductive → ⊥) → IfAnswered z (λ r. r.value.certainty ≡ certainty.Yes → P r)
-  first_unsure P exact no_cycle = by_answer x z some none (λ r e sure. absurd (no_cycle ((subst (λ y. IfSome y (λ v. (v.value.certainty ≡ certainty.Yes) ↔ (k ≡ path.Coinductive))) e exact).0 sure)))
-
   pub first_refuted : (xs : List StackEntry) (n at : ℕ) (es : List Entry) (step : PathKindData) → IsNone x ↔ ((k ≡ path.Inductive) × (mode_of input.typing_mode ≢ coherence)) → path_kind_of k ≡ path_kind es at (path_kind_of step) → z ≡ Err error.NoSolution → HasNoneAt xs n ⊎ IsCut input.typing_mode step
   first_refuted xs n at es step exact path q =
       let c = exact.0 (is_none x (some_is_ok x z some q)) in

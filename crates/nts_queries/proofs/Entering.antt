@@ -130,10 +130,6 @@ knows_trait c i t closed h =
     unsorted : Tree
     unsorted = node (label.List list.Sorts) empty
 
--- a table that entered a universe
-pub entered_content : (ts : List Tree) (e : Entries) (u : ℕ) → content_of ts (moved e u) ≡ in_universe (content_of ts e) u
-entered_content ts e u = refl
-
 pub goes_entered : {a b : List Tree} {t u : Table} → IsTable a t → Extends a b → IsTable b u → ChangesEntries t u → u.entries ≡ moved t.entries (t.entries.universe + 1) → Goes a b t u
 goes_entered {a} {b} {t} {u} w e k s h =
     let c = content_of a t.entries in
@@ -172,29 +168,10 @@ have_entered {a} {b} {t} {s} {u} {E} {U} {V} {x} {y} formed w closed known moves
       knows = after ws (rw (list, universe) (omega arith, tt)) here;
     }
 
--- whether a predicate binds variables, by how many sorts its binder lists
-none_listed : (r s : Tree) → IsRow r → row_length r ≡ 0 → binds (node (label.List list.Binder) (more (node (label.List list.Sorts) r) (more s empty))) ≡ false
-none_listed empty s h e = refl
-none_listed (more a b) s h e = absurd (omega (arith, e))
-none_listed (node l c) s h e = absurd h
-
 some_listed : (r s : Tree) → IsRow r → (row_length r ≡ 0 → ⊥) → binds (node (label.List list.Binder) (more (node (label.List list.Sorts) r) (more s empty))) ≡ true
 some_listed empty s h e = absurd (e refl)
 some_listed (more a b) s h e = refl
 some_listed (node l c) s h e = absurd h
-
--- a goal that binds nothing is open as it is
-pub nothing_bound : {a : List Tree} {t : Table} {g : Goal} (v s : Tree) → tree_at a g.predicate.node ≡ node (label.List list.Binder) (more v (more s empty)) → v ≡ node (label.List list.Sorts) (children v) → IsRow (children v) → row_length (children v) ≡ 0 → IsOpenedTo a a t t g g
-nothing_bound {a} {t} {g} v s is sorts row none =
-    let c = content_of a t.entries in
-    let p = tree_at a g.predicate.node in
-    let free : binds p ≡ false = ap binds (is ∙ ap (λ z. node (label.List list.Binder) (more z (more s empty))) sorts) ∙ none_listed (children v) s row none in
-    record {
-      closed = λ q. (let no : true ≡ false = sym q ∙ free in cc);
-      table = sym (ap (λ z. if z then in_universe c (c.universe + 1) else c) free);
-      environment = refl;
-      predicate = sym (ap (λ z. if z then unbound (opened (placeholder_in (c.universe + 1)) 0 (statement_of p)) else p) free);
-    }
 
 -- a trait goal that was opened
 pub trait_opened : {a b : List Tree} {t u : Table} {g : Goal} (q : Predicate) (v x : Tree) (i : ℕ) → tree_at a g.predicate.node ≡ node (label.List list.Binder) (more v (more (node (label.Clause (clause.Trait i)) (more x empty)) empty)) → v ≡ node (label.List list.Sorts) (children v) → IsRow (children v) → (row_length (children v) ≡ 0 → ⊥)
@@ -217,10 +194,6 @@ trait_opened {a} {b} {t} {u} {g} q v x i is sorts row some closed w e moves says
 -- what a closed trait goal says is closed one binder deeper
 pub arguments_closed : (p v x : Tree) (i : ℕ) → p ≡ node (label.List list.Binder) (more v (more (node (label.Clause (clause.Trait i)) (more x empty)) empty)) → IsClosed p → IsClosedUnder 1 x
 arguments_closed p v x i is h = (let z : IsClosed (node (label.List list.Binder) (more v (more (node (label.Clause (clause.Trait i)) (more x empty)) empty))) = subst IsClosed is h in z.1.1.0.1.0)
-
--- .. and known, if it is
-pub arguments_known : (c : Content) (p v x : Tree) (i : ℕ) → p ≡ node (label.List list.Binder) (more v (more (node (label.Clause (clause.Trait i)) (more x empty)) empty)) → Knows c p → Knows c x
-arguments_known c p v x i is h = (let z : Knows c (node (label.List list.Binder) (more v (more (node (label.Clause (clause.Trait i)) (more x empty)) empty))) = subst (Knows c) is h in z.1.1.0.1.0)
 
 -- the tree of a trait goal, by its kind
 pub trait_tree : (ts : List Tree) (b : Binder PredicateKind) {p : Tree} {k : ClauseKind} {r : TraitRef} → p ≡ tree_of_predicate ts b → b.value ≡ predicate.Clause k → k ≡ clause_of.Trait r → p ≡ node (label.List list.Binder) (more (tree_at ts b.vars.node) (more (node (label.Clause (clause.Trait r.def_id.number)) (more (tree_at ts r.args.node) empty)) empty))

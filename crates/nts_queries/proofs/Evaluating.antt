@@ -401,9 +401,6 @@ offers-kept {a} {b} {g} h mode e p =
 pub goes : {a b : List Tree} {t u : Table} → IsTable a t → Extends a b → IsTable b u → Continues (content_of a t.entries) (content_of b u.entries) → u.saved ≡ t.saved → u.mode ≡ t.mode → u.entries.hidden ≡ t.entries.hidden → (HasClosedSides (content_of a t.entries) → HasClosedSides (content_of b u.entries)) → Goes a b t u
 goes {a} {b} {t} {u} w e h n s m d k = record { sound = w.now.sound; continues = n; extends = e; table = h; saved = s; mode = m; hidden = d; sides = k }
 
-pub kind-kept : {a b : List Tree} {x : NodeId} → Extends a b → IsIn a x → kind_of (tree_at b x) ≡ kind_of (tree_at a x)
-kind-kept {a} {b} {x} e w = ap kind_of (e.kept x w)
-
 -- a goal after a snapshot was opened
 pub IsPosed-opened : {a : List Tree} {t u : Table} {g : Goal} → IsPosed a t g → u.entries ≡ t.entries → u.saved ≡ t.saved ++ t.entries ∷ [] → IsPosed a u g
 IsPosed-opened {a} {t} {u} {g} p e s =
@@ -578,21 +575,6 @@ is_resolved {a} {b} {t} {x} {y} h k e w q =
 -- a goal that may be asked is one of the store and the table
 pub IsPosed-admitted : {a : List Tree} {t : Table} {g : Goal} → IsTable a t → IsAdmitted a t g → IsPosed a t g
 IsPosed-admitted h k = record { table = h; holds = k.holds; knows = record { env = k.env.knows; predicate = k.predicate.knows } }
-
-pub IsAdmitted-extended : {a b : List Tree} {t : Table} {g : Goal} → Extends a b → IsTable a t → IsAdmitted a t g → IsAdmitted b t g
-IsAdmitted-extended {a} {b} {t} {g} e h k =
-    let env = e.kept g.param_env.node k.holds.env.within in
-    let predicate = e.kept g.predicate.node k.holds.predicate.within in
-    let same = content_of-extended e h.now in
-    record {
-      holds = HoldsGoal-extended e k.holds;
-      env = record { closed = rw env k.env.closed; knows = rw (env, same) k.env.knows };
-      predicate = record { closed = rw predicate k.predicate.closed; knows = rw (predicate, same) k.predicate.knows };
-      env_types = rw (env, same) k.env_types;
-      asked = rw predicate k.asked;
-    }
-
-pub ruleset asking = (Extends-trans, Extends-refl, IsTable-extended, IsAdmitted-extended)
 
 -- what holds of a result for each s, where it is Ok
 pub each_of : {T E S : Type 0} {P : S → T → Type 0} {Q : T → Type 0} (r : Result T E) → ((s : S) → IfOk r (P s)) → ((a : T) → ((s : S) → P s a) → Q a) → IfOk r Q

@@ -67,10 +67,6 @@ EachStays-later : {A : Type 0} {a b : List Tree} {t u : Table} (P : A → Conten
 EachStays-later P [] g h = tt
 EachStays-later P (x ∷ xs) g h = (Stays-later g h.0, EachStays-later P xs g h.1)
 
-EachStays-push : {A : Type 0} (c : Content) (P : A → Content → Type 0) (xs : List A) (x : A) → EachStays c P xs → Stays c (P x) → EachStays c P (xs ++ x ∷ [])
-EachStays-push c P [] x h k = (k, tt)
-EachStays-push c P (y ∷ xs) x h k = (h.0, EachStays-push c P xs x h.1 k)
-
 pub Stays-map : {c : Content} {P Q : Content → Type 0} → ((d : Content) → IsTermTable d → Continues c d → P d → Q d) → Stays c P → Stays c Q
 Stays-map f h = record { later = λ d s k. f d s k (h.later d s k) }
 

@@ -599,12 +599,6 @@ gen_known c d x u b t v r k i sv st kt kv same worlds g lower labels =
       complete = λ w z names. named_for (λ f n. rw (worlds w z) at n) (g.complete w z (rw (worlds w z) at names));
     }
 
--- what the walk asks for a child
-pub record GenChild (c d : Content) (t a : Tree) (i : ℕ) : Type 0 where
-  pub smaller : left_to_resolve d a < left_to_resolve c t
-  pub knows : Knows d a
-  pub is : a ≡ row_at (children t) i
-
 pub binders_le : (l : Label) → binders l ≤ 1
 binders_le (label.Leaf h) = omega arith
 binders_le (label.Bound s i n) = omega arith

@@ -30,19 +30,6 @@ use Rattle.nts_relating.proofs.HeadLemmas.{kind_of-variable}
 use Rattle.nts_relating.proofs.Naming.{region_free, alone_label}
 use Rattle.nts_relating.proofs.PairLemmas.{Equates-front, pairs_at-push, not_infer}
 
--- parts of an instance that is named and closed
-named_at : (w : World) (u : ℕ) (r : Tree) (i : ℕ) → i < row_length r → NamesAll term_level u (inst w r) → NamesAll term_level u (inst w (row_at r i))
-named_at w u empty i h k = absurd (omega arith)
-named_at w u (more a b) zero h k = k.0
-named_at w u (more a b) (suc i) h k = named_at w u b i (omega arith) k.1
-named_at w u (node l c) i h k = absurd (omega arith)
-
-named_take : (w : World) (u : ℕ) (r : Tree) (i : ℕ) → i < row_length r → NamesAll term_level u (inst w r) → NamesAll term_level u (inst w (row_take i r))
-named_take w u r zero h k = tt
-named_take w u empty (suc i) h k = tt
-named_take w u (more a b) (suc i) h k = (k.0, named_take w u b i (omega arith) k.1)
-named_take w u (node l c) (suc i) h k = absurd (omega arith)
-
 pub closed_at : (w : World) (n : ℕ) (r : Tree) (i : ℕ) → i < row_length r → IsClosedUnder n (inst w r) → IsClosedUnder n (inst w (row_at r i))
 closed_at w n empty i h k = absurd (omega arith)
 closed_at w n (more a b) zero h k = k.0

@@ -38,10 +38,6 @@ value_of ts e t v k =
       worlds = k.worlds;
     }
 
--- `==` on parts is equality
-same_id : (a b : NodeId) → IsTrue (id_eq.ghosts.eq a b) ↔ (a ≡ b)
-same_id a b = search rules
-
 pub same_part : (p q : Part) → part_eq.ghosts.eq p q ≡ true → p ≡ q
 same_part p q h = search rules
 

@@ -89,29 +89,3 @@ not_over_sorts ts ss t f e h c =
     let some : IsTrue (is_some (escaping (tree_at ts t))) = rw (ap (λ g. g.escaping) e) at h in
     (escapes (tree_at ts t)).0 some c.closed
 
--- a response by its kinds and its entries
-pub applicable : (ts os : List Tree) (ss : List Sort) (r : Canonical Response) → ss ≡ sorts_of r → length os ≡ length r.value.var_values.items → All (λ k. IsKindFor r.max_universe os (kind_of_var k)) r.var_kinds.items → IsValueOver ts ss r.value ↔ IsApplicable ts os r
-applicable ts os ss r e l k = (
-  (λ h.
-      let v : IsValueOver ts (sorts_of r) r.value = subst (λ z. IsValueOver ts z r.value) e h in
-      record {
-        holds = record {
-          values = λ i d b. (v.values i d b).0;
-          constraints = λ i d b. (v.constraints i d b).0;
-          hidden = λ i d b. (v.hidden i d b).0;
-          open_goals = λ i d b. (v.open_goals i d b).0;
-        };
-        kinds = k;
-        values = λ i d b. (v.values i d b).1;
-        constraints = λ i d b. (v.constraints i d b).1;
-        hidden = λ i d b. (v.hidden i d b).1;
-        open_goals = λ i d b. (v.open_goals i d b).1;
-        long = l;
-      }),
-  λ a. subst (λ z. IsValueOver ts z r.value) (sym e) (record {
-    values = λ i d b. (a.holds.values i d b, a.values i d b);
-    constraints = λ i d b. (a.holds.constraints i d b, a.constraints i d b);
-    hidden = λ i d b. (a.holds.hidden i d b, a.hidden i d b);
-    open_goals = λ i d b. (a.holds.open_goals i d b, a.open_goals i d b);
-  }),
-)

@@ -105,12 +105,6 @@ const_sort t l is h = ap kind_of is ∙ by_kind (kind_of_label l) h
         some_sort (Some s) = Some (of_sort s)
     by_kind k e = cc
 
--- the position that a term is
-pub position_is : (t : Tree) (l : Label) (s : Sort) (b : ℕ) → t ≡ node l (children t) → Meets (shape l) (children t) → l ≡ label.Bound s index.Canonical b → IsPosition t b
-position_is t l s b is m e =
-    let meets : Meets (shape (label.Bound s index.Canonical b)) (children t) = subst (λ z. Meets (shape z) (children t)) e m in
-    (s, is ∙ ap (λ z. node z (children t)) e ∙ ap (node (label.Bound s index.Canonical b)) (no_children (children t) meets))
-
 -- what may stand and is an original of the position is guessed
 pub guess_fits : (c : Content) (values os : List Tree) (b : ℕ) (k : PositionKind) (t : Tree) → IsOriginalAt values os b t → Knows c t → MayStand c k t → GuessFits c values os b k t
 guess_fits c values os b (type_variable u r) t o i h = h

@@ -24,10 +24,6 @@ older_hidden a b e f h ty g up q k (n, old, first, is, ends) =
     let x = AreHiddenTypes-at a (content_of a e) e.hidden.lookup n old here.lookup first.at in
     hidden-now a b e f (record h { ty = ty }) g (hidden_alone e f q) up (record { of_types = k.of_types; args = k.args; args_known = k.args_known; ty = rw is x.ty; ty_known = rw is x.ty_known })
 
--- at first
-pub takes_none : (ts : List Tree) (c : Content) (x : HiddenTypes) → TakesAll ts c x [] x
-takes_none ts c x = record { older = []; registers = (refl, refl); duplicates = sym (append-nil x.duplicates) }
-
 -- one more
 pub takes_more : (a b : List Tree) (e f : Entries) (y : HiddenTypes) (hs : List (AliasTerm × Ty)) (i : ℕ) (d : AliasTerm × Ty) → IsLawful a e → IsLawful a f → f ≡ record e { hidden = f.hidden } → Extends a b → All (λ h. IsHiddenType a (content_of a e) (stored_hidden h)) hs → i < length hs
     → TakesAll a (content_of a e) e.hidden (take i hs) f.hidden → Takes a (content_of a f) f.hidden (stored_hidden (get_or hs i d)) y → TakesAll b (content_of b e) e.hidden (take (i + 1) hs) y

@@ -87,17 +87,6 @@ frame_grows x q =
       mode = x.mode;
     }
 
-pub step_related : {a b : Cx} {t u : Table} → RelatingKeeps a b t u → StepKeeps a b t u
-step_related k = record {
-  grows = k.grows;
-  table = k.table;
-  kinds = (let l = k.later in record { grows = l.grows; kinds = l.kinds });
-  saved = k.saved;
-  mode = k.mode;
-  universe = k.universe;
-  hidden = k.hidden;
-}
-
 -- an argument of the table is one later
 pub arg_later : {a b : Cx} {t u : Table} {x : GenericArg} → StepKeeps a b t u → IsArgOf a.nodes t.entries x → IsArgOf b.nodes u.entries x
 arg_later {a} {b} {t} {u} {x} k h =

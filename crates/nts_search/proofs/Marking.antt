@@ -56,5 +56,3 @@ pub items_marked : (ts : List Tree) (xs ys : List StackEntry) (n : ℕ) → n < 
 items_marked ts xs ys n l e =
     ap (λ zs. map (entry_at ts) (reverse zs)) e ∙ ap (map (entry_at ts)) (reverse-read_at xs n l) ∙ map-read_at ts (reverse xs) (length xs - suc n)
 
-pub entries_marked : (ts : List Tree) (g h : SearchGraph) (n : ℕ) → n < length g.stack.items → h.stack.items ≡ read_at g.stack.items n → entries_at ts h ≡ marked (entries_at ts g) (length g.stack.items - suc n)
-entries_marked ts g h n l e = items_marked ts g.stack.items h.stack.items n l e

@@ -16,9 +16,6 @@ use Rattle.nts_search.proofs.Each.{Each, each_of, all_of, each_joined, each_left
 use Rattle.nts_search.proofs.Marking.{length-read_at, reverse-read_at}
 use Rattle.nts_search.proofs.Chains.{index_pushed, index_popped, index_read}
 
-no_entry : (n : ℕ) (x : StackEntry) → slice_get [] n ≡ Some x → ⊥
-no_entry n x e = cc e
-
 newest_first : (xs ys : List StackEntry) (x : StackEntry) → ys ≡ xs ++ x ∷ [] → reverse ys ≡ x ∷ reverse xs
 newest_first xs ys x e = ap reverse e ∙ reverse-append xs (x ∷ [])
 
@@ -91,37 +88,3 @@ IsStack-read ts g h n s l e new depth most =
       nested = omega (arith, most, depth, nested);
     }
 
-get_there : (xs : List StackEntry) (n : ℕ) (d : StackEntry) → n < length xs → slice_get xs n ≡ Some (get_or xs n d)
-get_there [] n d h = absurd (omega arith)
-get_there (x ∷ xs) zero d h = refl
-get_there (x ∷ xs) (suc n) d h = get_there xs n d (omega arith)
-
-get_mapped : (f : StackEntry → Entry) (xs : List StackEntry) (n : ℕ) (x : StackEntry) → slice_get xs n ≡ Some x → slice_get (map f xs) n ≡ Some (f x)
-get_mapped f [] n x e = absurd (no_entry n x e)
-get_mapped f (y ∷ xs) zero x e = (let z : Some y ≡ Some x = e in let same : y ≡ x = cc z in ap (λ v. Some (f v)) same)
-get_mapped f (y ∷ xs) (suc n) x e = get_mapped f xs n x e
-
-map_push : (f : StackEntry → Entry) (xs : List StackEntry) (x : StackEntry) → map f (xs ++ x ∷ []) ≡ map f xs ++ f x ∷ []
-map_push f [] x = refl
-map_push f (y ∷ xs) x = ap (λ l. f y ∷ l) (map_push f xs x)
-
-map_reversed : (f : StackEntry → Entry) (xs : List StackEntry) → map f (reverse xs) ≡ reverse (map f xs)
-map_reversed f [] = refl
-map_reversed f (x ∷ xs) = ap (map f) (reverse-append (x ∷ []) xs) ∙ map_push f (reverse xs) x ∙ ap (λ l. l ++ f x ∷ []) (map_reversed f xs) ∙ sym (reverse-append (f x ∷ []) (map f xs))
-
-length_mapped : (f : StackEntry → Entry) (xs : List StackEntry) → length (map f xs) ≡ length xs
-length_mapped f [] = refl
-length_mapped f (x ∷ xs) = ap suc (length_mapped f xs)
-
--- the entry with an index, counted from the newest
-pub entry_there : (ts : List Tree) (g : SearchGraph) (n : ℕ) (d : StackEntry) → n < length g.stack.items → slice_get (entries_at ts g) (length g.stack.items - suc n) ≡ Some (entry_at ts (get_or g.stack.items n d))
-entry_there ts g n d h =
-    let xs = g.stack.items in
-    let f = entry_at ts in
-    let at = get_reversed (map f xs) n (f (get_or xs n d)) (get_mapped f xs n (get_or xs n d) (get_there xs n d h)) in
-    ap (λ l. slice_get l (length xs - suc n)) (map_reversed f xs) ∙ ap (λ k. slice_get (reverse (map f xs)) (k - suc n)) (sym (length_mapped f xs)) ∙ at
-
--- .. and its input, where that was looked up
-pub entry_found : (ts : List Tree) (g : SearchGraph) (i : CanonicalInput) (n : ℕ) (d : StackEntry) → IsInputAt ts g i n
-    → (slice_get (entries_at ts g) (length g.stack.items - suc n) ≡ Some (entry_at ts (get_or g.stack.items n d))) × ((entry_at ts (get_or g.stack.items n d)).input ≡ form_of ts i)
-entry_found ts g i n d h = (entry_there ts g n d h.below, (h.same d).form)

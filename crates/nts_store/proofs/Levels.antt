@@ -55,9 +55,6 @@ pub record AreLeft (ss : Tree) (d : ℕ) (ts : List Tree) (start here deeper : L
   pub below : above deeper ≤ above start - 1
   pub listed : (AllListedAt ss d ts here × AllListedAt ss (d + 1) ts deeper) ↔ AllListedAt ss d ts start
 
-pub left_first : (ss : Tree) (d : ℕ) (ts : List Tree) (start deeper : List ℕ) → above start ≤ length ts → deeper ≡ [] → AreLeft ss d ts start start deeper
-left_first ss d ts start deeper h e = rw e (record { within = h; at_level = omega arith; below = omega arith; listed = ((λ w. w.0), λ w. (w, tt)) })
-
 pub left_within : (ss : Tree) (d : ℕ) (ts : List Tree) (start rest old deeper : List ℕ) (n : ℕ) → AreLeft ss d ts start old deeper → old ≡ rest ++ n ∷ [] → n < length ts
 left_within ss d ts start rest old deeper n h e =
     let left : AreLeft ss d ts start (rest ++ n ∷ []) deeper = rw e at h in
@@ -168,29 +165,14 @@ left_after ss d ts l c start rest old before here deeper n i h e is p r long a =
       );
     }
 
-pub level_done : (ss : Tree) (d : ℕ) (ts : List Tree) (start here deeper : List ℕ) → AreLeft ss d ts start here deeper → here ≡ [] → IsNextLevel ss d ts start deeper
-level_done ss d ts start here deeper h e =
-    let left : AreLeft ss d ts start [] deeper = rw e at h in
-    record { below = left.below; listed = ((λ w. left.listed.0 (tt, w)), λ w. (left.listed.1 w).1) }
-
 -- the levels from one on
 pub record IsAtLevel (ss t : Tree) (ts : List Tree) (d : ℕ) (here : List ℕ) : Type 0 where
   pub within : d + above here ≤ length ts
   pub listed : AllListedAt ss d ts here ↔ AllListed ss 0 t
 
-pub first_level : (ss : Tree) (ts : List Tree) (k : ℕ) (here : List ℕ) → k < length ts → here ≡ insert_key nat_cmp [] k → IsAtLevel ss (get_or ts k empty) ts 0 here
-first_level ss ts k here h e = rw e (record { within = omega arith; listed = ((λ w. w.0), λ w. (w, tt)) })
-
 none_above : (ks : List ℕ) → above ks ≤ 0 → ks ≡ []
 none_above [] h = refl
 none_above (k ∷ ks) h = absurd (omega arith)
-
-pub further : (ss t : Tree) (ts : List Tree) (d : ℕ) (here deeper : List ℕ) → d < length ts → IsAtLevel ss t ts d here → IsNextLevel ss d ts here deeper → IsAtLevel ss t ts (d + 1) deeper
-further ss t ts d here deeper l h n =
-    record {
-      within = omega (arith, h.within, n.below, l);
-      listed = ((λ w. h.listed.0 (n.listed.0 w)), λ w. n.listed.1 (h.listed.1 w));
-    }
 
 pub level_empty : (ss t : Tree) (ts : List Tree) (d : ℕ) (here : List ℕ) → IsAtLevel ss t ts d here → here ≡ [] → AllListed ss 0 t
 level_empty ss t ts d here h e = let a : IsAtLevel ss t ts d [] = rw e at h in a.listed.0 tt

@@ -72,9 +72,6 @@ pub record IsLeft (P : Label → Type 0) (ts : List Tree) (t : Tree) (ks : List 
   pub within : above ks ≤ length ts
   pub pass : AllPass P ts ks ↔ AllLabels P t
 
-pub left_first : (P : Label → Type 0) (ts : List Tree) (k : ℕ) (ks : List ℕ) → k < length ts → ks ≡ insert_key nat_cmp [] k → IsLeft P ts (get_or ts k empty) ks
-left_first P ts k ks h e = rw e (record { within = omega arith; pass = ((λ w. w.0), λ w. (w, tt)) })
-
 -- the terms that were left, and the first children of one
 pub record IsAdded (P : Label → Type 0) (ts : List Tree) (rest : List ℕ) (r : Tree) (n i : ℕ) (ks : List ℕ) : Type 0 where
   pub below : above ks ≤ n

@@ -299,11 +299,6 @@ pub record MayEnter (C : Tree → Type 0) (ts : List Tree) (t : NodeId) : Type 0
   pub within : IsIn ts t
   pub covers : C (tree_at ts t)
 
-pub record IsFound (ts : List Tree) (found : List NodeId) (x : Tree) : Type 0 where
-  pub some : 0 < length found
-  pub within : (c : NodeId) → get_or found 0 c ≡ c → IsIn ts c
-  pub tree : (c : NodeId) → get_or found 0 c ≡ c → tree_at ts c ≡ x
-
 -- what was found for a node, by number
 pub record IsKnown (C : Tree → Type 0) (f : Tree → Tree) (ts : List Tree) (k : ℕ) (r : NodeId) : Type 0 where
   pub node_in : k < length ts
@@ -334,15 +329,6 @@ module _ (C : Tree → Type 0) (f : Tree → Tree) where
 
   pub known_more : (ts : List Tree) (old new : ℕ → Option NodeId) (n : ℕ) (d : NodeId) → Known C f ts old → IsKnown C f ts n d → ((k : ℕ) → new k ≡ cond (nat_eq n k) (Some d) (old k)) → Known C f ts new
   known_more ts old new n d h w is = λ k r q. known_cases ts old n k d r h w (nat_eq n k) refl (sym (is k) ∙ q)
-
-  pub ends_start : (ts : List Tree) (xs : List Task) (cs : List NodeId) (t : NodeId) → IsIn ts t → C (tree_at ts t) → xs ≡ task.Enter t ∷ [] → cs ≡ [] → EndsWith C f ts xs cs (f (tree_at ts t))
-  ends_start ts xs cs t h k e q =
-      record {
-        tasks_in = rw e (h, tt);
-        found_in = rw q tt;
-        are_ready = rw e (tt, k);
-        ends = rw (e, q) refl;
-      }
 
   split_jobs : (ts : List Tree) (xs ys : List Task) (k : Task) → ys ≡ xs ++ k ∷ [] → jobs ts ys ≡ jobs ts xs ++ job ts k ∷ []
   split_jobs ts xs ys k e = rw e (jobs-push ts xs k)
@@ -420,17 +406,6 @@ module _ (C : Tree → Type 0) (f : Tree → Tree) where
       let found = map-kept a b rs p.found_in up in
       let same : run C f (building u) (map (tree_at b) rs) ≡ map (tree_at a) rs ++ f (tree_at a t) ∷ [] = rw found (run-building C f laws (tree_at a t) u (map (tree_at a) rs) s.1 formed) in
       ends_after a b xs ys zs (task.Enter t) (building u) rs rs x p e up is same (AreReady-building C f laws (tree_at a t) u (map (tree_at b) rs) s.1 formed) within (AllIn-extended up rs p.found_in)
-
-  pub ends_all : (ts : List Tree) (xs : List Task) (found : List NodeId) (x : Tree) → EndsWith C f ts xs found x → xs ≡ [] → IsFound ts found x
-  ends_all ts xs [] x p e = let q : [] ≡ x ∷ [] = rw e at p.ends in cc
-  ends_all ts xs (c ∷ cs) x p e =
-      let q : map (tree_at ts) (c ∷ cs) ≡ x ∷ [] = rw e at p.ends in
-      let first : tree_at ts c ≡ x = cc in
-      record {
-        some = omega arith;
-        within = λ d h. rw (← h) p.found_in.0;
-        tree = λ d h. ap (tree_at ts) (sym h) ∙ first;
-      }
 
   -- each turn there is less to do
 

@@ -10,7 +10,6 @@ use Rattle.nts_model.specs.Terms.Scoping.{listed_in, sorts_of, AllListed, ListsB
 use Rattle.nts_store.specs.declared.nodes.NodeId.{NodeId}
 use Rattle.nts_store.specs.Growth.{tree_at, trees_at}
 use Rattle.nts_store.proofs.Growing.{row_at-trees_at}
-use Rattle.nts_store.proofs.Reading.{trees_at-drop}
 
 -- the list of a binder is its first child
 first_list : (a : Tree) → kind_of a ≡ Some sort_list → listed_in a ≡ children a
@@ -32,29 +31,9 @@ pub record AreWellBoundFrom (ts : List Tree) (l : Label) (cs : List NodeId) (i :
   pub well_bound : IsWellBound (trees_at ts (drop i cs))
   pub listed : 0 < binders l → AllListed (children (row_at (trees_at ts cs) 0)) 0 (trees_at ts (drop i cs))
 
-pub well_bound_end : (ts : List Tree) (l : Label) (cs : List NodeId) → AreWellBoundFrom ts l cs (length cs)
-well_bound_end ts l cs = record { fits = omega arith; well_bound = rw (drop-length cs) tt; listed = λ h. rw (drop-length cs) tt }
-  where
-    drop-length : (ds : List NodeId) → drop (length ds) ds ≡ []
-    drop-length [] = refl
-    drop-length (d ∷ ds) = drop-length ds
-
-pub well_bound_step : (ts : List Tree) (l : Label) (cs : List NodeId) (i : ℕ) (c : NodeId) → AreWellBoundFrom ts l cs (i + 1) → i < length cs → get_or cs i c ≡ c → IsWellBound (tree_at ts c)
-    → (0 < binders l → AllListed (children (row_at (trees_at ts cs) 0)) 0 (tree_at ts c)) → AreWellBoundFrom ts l cs i
-well_bound_step ts l cs i c k h e w x =
-    let at = trees_at-drop ts cs i c h e in
-    record { fits = omega (arith, h); well_bound = rw at (w, k.well_bound); listed = λ b. rw at (x b, k.listed b) }
-
-lists_from : (k : ℕ) (c : Tree) → (0 < k → AllListed (sorts_of c) 0 c) → ListsBound k c
-lists_from zero c h = tt
-lists_from (suc k) c h = h (omega arith)
-
 from_lists : (k : ℕ) (c : Tree) → 0 < k → ListsBound k c → AllListed (sorts_of c) 0 c
 from_lists zero c b h = absurd (omega (arith, b))
 from_lists (suc k) c b h = h
-
-pub well_bound_node : (ts : List Tree) (l : Label) (cs : List NodeId) → Meets (shape l) (trees_at ts cs) → AreWellBoundFrom ts l cs 0 → IsWellBound (node l (trees_at ts cs))
-well_bound_node ts l cs m k = (lists_from (binders l) (trees_at ts cs) (λ b. rw (list_of_binder l (trees_at ts cs) b m) (k.listed b)), k.well_bound)
 
 -- each child of one that does
 pub child_well_bound : (ts : List Tree) (cs : List NodeId) (i : ℕ) (c : NodeId) → i < length cs → get_or cs i c ≡ c → IsWellBound (trees_at ts cs) → IsWellBound (tree_at ts c)

@@ -2,7 +2,6 @@ pub mod Places
 pub mod Moved
 pub mod Standing
 pub mod Sorted
-pub mod StillDeclared
 pub mod SameModes
 pub mod Binders
 pub mod Varying

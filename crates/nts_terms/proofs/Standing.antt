@@ -86,11 +86,6 @@ vars_tree empty e = cc
 vars_tree (more a b) e = cc
 vars_tree (node l c) e = ap (λ m. node m c) (label_is sort_list l e)
 
-pub predicate_tree : (t : Tree) → kind_of t ≡ Some bound_predicate → t ≡ node (label.List list_head.Binder) (children t)
-predicate_tree empty e = cc
-predicate_tree (more a b) e = cc
-predicate_tree (node l c) e = ap (λ m. node m c) (label_is bound_predicate l e)
-
 each_fits : (l : Label) (p : Place) (t : Tree) → shape l ≡ each p → t ≡ node l (children t) → ChildrenFit t → AllFit p (children t)
 each_fits l p t s e f = let at = rw e at f in let fit = rw s at at in fit
 
@@ -114,9 +109,6 @@ pub record SortsMade (old new : List Tree) (ns : List NodeId) (ss : List Sort) :
   pub extends : Extends old new
   pub within : AllIn new ns
   pub are : trees_at new ns ≡ row_of_sorts ss
-
-pub no_sorts_made : (ts : List Tree) → SortsMade ts ts [] []
-no_sorts_made ts = record { extends = Extends-refl ts; within = tt; are = refl }
 
 row_of_sorts-push : (ss : List Sort) (s : Sort) → row_of_sorts (ss ++ s ∷ []) ≡ row_push (row_of_sorts ss) (tree_of_sort s)
 row_of_sorts-push [] s = refl

@@ -12,12 +12,6 @@ pub words_at-open : (n : ℕ) (t : Token) (ts : List Token) → is_open t.kind �
 words_at-open zero t ts h = grind (arith, h)
 words_at-open (suc n) t ts h = grind (arith, h)
 
-pub words_at-close : (n : ℕ) (t : Token) (ts : List Token) → is_open t.kind ≡ false → is_close t.kind ≡ true → words_at (suc n) (t ∷ ts) ≡ words_at n ts
-words_at-close n t ts h k = grind (arith, h, k)
-
-pub words_at-close_zero : (t : Token) (ts : List Token) → is_open t.kind ≡ false → is_close t.kind ≡ true → words_at 0 (t ∷ ts) ≡ 0
-words_at-close_zero t ts h k = grind (arith, h, k)
-
 pub words_at-other : (n : ℕ) (t : Token) (ts : List Token) → is_open t.kind ≡ false → is_close t.kind ≡ false → words_at (suc n) (t ∷ ts) ≡ words_at (suc n) ts
 words_at-other n t ts h k = grind (arith, h, k)
 
@@ -53,15 +47,6 @@ counts_open count outer rest None t ts e none opens counts = λ n.
     subst (λ xs. get_or (count ∷ reverse xs) (suc n) 0 ≡ words_at (suc n) ts) outer_is (counts (suc n)) in
     subst (λ xs. get_or (0 ∷ reverse xs) n 0 ≡ words_at n (t ∷ ts)) (sym rest_is) (zeros_of n ∙ at ∙ sym (words_at-open n t ts opens))
 
-pub counts_close : (count : ℕ) (outer : List ℕ) (t : Token) (ts : List Token)
-    → is_open t.kind ≡ false → is_close t.kind ≡ true
-    → AreCounts (count ∷ reverse outer) ts → AreCounts (0 ∷ reverse (outer ++ count ∷ [])) (t ∷ ts)
-counts_close count outer t ts opens close counts = λ n. by n
-  where
-    by : (n : ℕ) → get_or (0 ∷ reverse (outer ++ count ∷ [])) n 0 ≡ words_at n (t ∷ ts)
-    by zero = sym (words_at-close_zero t ts opens close)
-    by (suc n) = subst (λ xs. get_or xs n 0 ≡ words_at (suc n) (t ∷ ts)) (sym (reverse-append outer (count ∷ []))) (counts n ∙ sym (words_at-close n t ts opens close))
-
 pub counts_word : (count : ℕ) (outer : List ℕ) (t : Token) (ts : List Token)
     → is_open t.kind ≡ false → is_close t.kind ≡ false → is_word t.kind ≡ true
     → AreCounts (count ∷ outer) ts → AreCounts ((count + 1) ∷ outer) (t ∷ ts)
@@ -94,9 +79,6 @@ arguments_behind-other t ts h = grind (arith, h)
 
 pub open_before-open : (t : Token) (ts : List Token) → is_open t.kind ≡ true → open_before (t ∷ ts) ≡ open_before ts - 1
 open_before-open t ts h = grind (arith, h)
-
-pub open_before-close : (t : Token) (ts : List Token) → is_open t.kind ≡ false → is_close t.kind ≡ true → open_before (t ∷ ts) ≡ open_before ts + 1
-open_before-close t ts h k = grind (arith, h, k)
 
 pub open_before-other : (t : Token) (ts : List Token) → is_open t.kind ≡ false → is_close t.kind ≡ false → open_before (t ∷ ts) ≡ open_before ts
 open_before-other t ts h k = grind (arith, h, k)

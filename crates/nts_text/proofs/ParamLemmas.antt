@@ -73,10 +73,6 @@ pub read_plain : (ps : List Param) (ss more : List Sign) (s : Sign) (p : Param) 
     → IsReadTo places.Param ps ss → IsReadTo places.Behind (ps ++ p ∷ []) more
 read_plain ps ss more s p i e k h = read_param ps ss more s p e k (h ∙ sym (append-nil (signs_before ps)) ∙ ap (λ u. signs_before ps ++ mark_of u) (sym i))
 
-pub all_params : (line : List ℕ) (ts : List Token) (ps : List Param) → AreEnded ps (map (sign_of line) ts) → AreParams line ts ps
-all_params line ts [] h = absurd h
-all_params line ts (p ∷ ps) h = h
-
 -- one more token, by its kind
 module _ (line : List ℕ) (t : Token) (ps : List Param) (ss more : List Sign) (e : more ≡ ss ++ sign_of line t ∷ []) where
   pub one_open : t.kind ≡ Open → IsReadTo places.Bracket ps ss → IsReadTo places.Param ps more
@@ -107,9 +103,3 @@ module _ (line : List ℕ) (t : Token) (ps : List Param) (ss more : List Sign) (
 pub signs_more : (line : List ℕ) (ts : List Token) (i : ℕ) (d : Token) → i < length ts → map (sign_of line) (take (i + 1) ts) ≡ map (sign_of line) (take i ts) ++ sign_of line (get_or ts i d) ∷ []
 signs_more line ts i d h = ap (map (sign_of line)) (take_more ts i d h) ∙ map-append (sign_of line) (take i ts) (get_or ts i d ∷ [])
 
--- one more parameter with no mark
-pub unmarked_more : (ps : List Param) (ss : List Sort) (i : ℕ) (d : Param) → i < length ps → (get_or ps i d).variance ≡ variances.Covariant → map unmarked ss ≡ take i ps
-    → map unmarked (ss ++ (get_or ps i d).sort ∷ []) ≡ take (i + 1) ps
-unmarked_more ps ss i d lt plain h =
-    let p : Param = get_or ps i d in
-    map-append unmarked ss (p.sort ∷ []) ∙ ap (λ xs. xs ++ unmarked p.sort ∷ []) h ∙ ap (λ v. take i ps ++ record { sort = p.sort; variance = v } ∷ []) (sym plain) ∙ sym (take_more ps i d lt)

@@ -177,4 +177,3 @@ bound_push line ns i d lt = ap (bound_after line) (take_more ns i d lt) ∙ boun
 
 pub ruleset spelling = (number_stored, lengthens_same, lengthens_insert)
 
-pub ruleset keeping = (KeepsNames-refl, KeepsNames-trans)

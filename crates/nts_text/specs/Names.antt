@@ -14,12 +14,6 @@ is_numbered types traits (declared.Uint t) = true
 is_numbered types traits (declared.Type n) = nat_lt n types
 is_numbered types traits (declared.Trait n) = nat_lt n traits
 
--- a known type has no number
-abbrev pub is_known : Declared → Bool
-is_known (declared.Int t) = true
-is_known (declared.Uint t) = true
-is_known _ = false
-
 abbrev pub word_of_int : IntTy → List ℕ
 word_of_int ints.I8 = codes "i8"
 word_of_int ints.I16 = codes "i16"

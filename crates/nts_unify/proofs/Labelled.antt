@@ -22,35 +22,9 @@ use Rattle.nts_unify.proofs.Changes.{slot_at, content_of-with_variable}
 pub new_brings : (ts : List Tree) (e : Entries) (v : Variable) → v.state ≡ Unset → BringsNoLabels (content_of ts e) (content_of ts (added e v))
 new_brings ts e v free = rw (content_of-added ts e v) (brings-with_slot (content_of ts e) (slot_of ts v) (ap (state_with ts) free))
 
--- .. in a store that has grown
-pub added_brings : (ts us : List Tree) (e f : Entries) (v : Variable) → IsLawful ts e → Extends ts us → f ≡ added e v → v.state ≡ Unset → BringsNoLabels (content_of ts e) (content_of us f)
-added_brings ts us e f v h ext q free = rw (q, ← content_of-extended ext h) (new_brings us e v free)
-
--- another universe
-pub moved_brings : (ts : List Tree) (e f : Entries) (u : ℕ) → f ≡ moved e u → BringsNoLabels (content_of ts e) (content_of ts f)
-moved_brings ts e f u q = rw q (brings-same (content_of ts e) (content_of ts (moved e u)) (λ n t h. h) refl)
-
--- sub-unification classes that become one
-pub sub_joined_brings : (ts : List Tree) (e f : Entries) (x y : ℕ) → SubRootsJoin e f x y → BringsNoLabels (content_of ts e) (content_of ts f)
-sub_joined_brings ts e f x y j = ⊎_elim
-    (λ (p : (j.first ≡ j.second) × (f ≡ e)). rw p.1 (brings-refl (content_of ts e)))
-    (λ (p : SubLinked e f j.first j.second).
-    let c = content_of ts e in
-    let n = max j.first j.second in
-    let w : Variable = record p.variable { sub_link = Some (min j.first j.second) } in
-    let d = changed c n (slot_of ts w) in
-    let is : content_of ts f ≡ d = ap (content_of ts) p.entries ∙ content_of-with_variable ts e n w in
-    let same : (m : ℕ) → state_of d m ≡ state_of c m = λ m. field-changed_kept (λ x. x.state) c n m (slot_of ts p.variable) (slot_of ts w) (slot_at ts e n p.variable p.at) refl in
-    rw is (brings-same c d (λ m t h. sym (same m) ∙ h) refl)) j.joined
-
 -- one more constraint
 pub constrained_brings : (ts : List Tree) (e f : Entries) (x : Constraint) → f ≡ constrained e x → BringsLabelsOf (content_of ts e) (content_of ts f) (tree_at ts x.left) (tree_at ts x.right)
 constrained_brings ts e f x q = rw (q, content_of-constrained ts e x) (brings-with_constraint (content_of ts e) (recorded_of ts x))
-
-pub records_bring : (ts : List Tree) (e f : Entries) (x : Constraint) → Records ts e f x → BringsLabelsOf (content_of ts e) (content_of ts f) (tree_at ts x.left) (tree_at ts x.right)
-records_bring ts e f x h = ⊎_elim
-    (λ p. rw p.1 (brings-of (tree_at ts x.left) (tree_at ts x.right) (brings-refl (content_of ts e))))
-    (λ p. constrained_brings ts e f x p.1) h
 
 -- two classes of regions that become one
 links_bring : (ts : List Tree) (e f : Entries) (r s : ℕ) → RegionsLinked e f r s → BringsNoLabels (content_of ts e) (content_of ts f)
@@ -77,8 +51,3 @@ joined_bring ts e f x y j = ⊎_elim
     (λ (p : (j.first ≡ j.second) × (f ≡ e)). rw p.1 (brings-refl (content_of ts e)))
     (λ (p : RegionsLinked e f j.first j.second). links_bring ts e f j.first j.second p) j.joined
 
--- two regions made equal
-pub equated_bring : (ts : List Tree) (e f : Entries) (a b : NodeId) (o p : Option ℕ) (visible : Bool) → EquatedAt o p ts e f a b visible → BringsLabelsOf (content_of ts e) (content_of ts f) (tree_at ts a) (tree_at ts b)
-equated_bring ts e f a b None p visible h = records_bring ts e f _ h
-equated_bring ts e f a b (Some x) None visible h = records_bring ts e f _ h
-equated_bring ts e f a b (Some x) (Some y) visible h = brings-of (tree_at ts a) (tree_at ts b) (joined_bring ts e f x y h)

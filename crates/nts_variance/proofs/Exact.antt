@@ -35,21 +35,6 @@ use Rattle.nts_variance.specs.Taking.{IsExactKind, IsExact, IsPair, Waits, AreOf
 use Rattle.nts_variance.specs.Equating.{StandsFor, IsAlone, AreToBeOne}
 use Rattle.nts_variance.proofs.Clean.{holds_terms}
 
--- an inference variable that is no type's
-exact_kind : (k : VariableKind) (n : ℕ) → k ≢ kind.Region → None ≡ number_of_type (label.Leaf (leaf.Variable k n)) → IsExactKind k
-exact_kind kind.Const n r e = tt
-exact_kind kind.Int n r e = tt
-exact_kind kind.Float n r e = tt
-exact_kind kind.Ty n r e = cc
-exact_kind kind.Region n r e = absurd (r refl)
-
-pub exact_variable : (t : Tree) (l : Label) → t ≡ node l (children t) → Meets (shape l) (children t) → IsInfer t → None ≡ number_of_type l → IsExact t
-exact_variable t l is m infer e =
-    let i = subst IsInfer is infer in
-    let v = infer_label l i.0 i.1 in
-    let named = variable_label l v.of_kind i.0 v.is in
-    record { of_kind = v.of_kind; exact = exact_kind v.of_kind i.0 v.no_region (e ∙ ap number_of_type named); number = i.0; is = variable_node t l v.of_kind i.0 is m v.is }
-
 own_fits : (k : VariableKind) (n : ℕ) → IsExactKind k → Fits k (variable_tree k n)
 own_fits kind.Const n x = refl
 own_fits kind.Int n x = refl

@@ -30,10 +30,6 @@ pub parts_paid : {E : Type 0} (r : Result Taken E) (c d : Content) (p : Pair) �
 parts_paid (Ok t) c d p e left right = rw e (left, right)
 parts_paid (Err x) c d p e left right = tt
 
-pub owed_paid : {E : Type 0} (r : Result Taken E) (c d : Content) (p : Pair) → IfOk r (λ t. t ≡ taken.Owed) → IfOk r (IsPaid c d p)
-owed_paid (Ok t) c d p e = rw e tt
-owed_paid (Err x) c d p e = tt
-
 -- a variable that was made one with what stands for a term
 side_invariant : (z : Bool) (v : Variance) (own t : NodeId) → (pair_in z v own t).variance ≡ variance.Invariant → v ≡ variance.Invariant
 side_invariant false v own t e = e

@@ -50,13 +50,6 @@ not_loose t l is formed rigid = by_case (closed_alias l (escaping t)) refl
     by_case true e = absurd (rigid (closed_alias_tree t l is formed e).loose)
     by_case false e = e
 
--- inference variables by their labels
-pub number_of_label : (t : Tree) (l : Label) (o : Option ℕ) → t ≡ node l (children t) → o ≡ infer_of l → number_at t ≡ o
-number_of_label t l o is e = ap number_at is ∙ sym e
-
-pub no_number : (t : Tree) (l : Label) → t ≡ node l (children t) → None ≡ infer_of l → IsInfer t → ⊥
-no_number t l is e i = (let x = subst IsInfer is i in let y = x.1 in cc)
-
 -- two type variables of one class
 type_variable : (l : Label) (n : ℕ) → number_of_type l ≡ Some n → variable_of l ≡ Some (kind.Ty, n)
 type_variable (label.Leaf (leaf.Variable kind.Ty m)) n e = (let same : m ≡ n = cc in ap (λ x. Some (kind.Ty, x)) same)

@@ -131,12 +131,3 @@ module _ (declared : ℕ → List Variance) where
         going = rw (stacked-push (pair_at us) ps r) there;
       }
 
-  -- no solution relates the heads, so none relates the pair
-  pub refuses_stands : (ts : List Tree) (e : Entries) (p q : Relating) → Standing ts e p q → Refuses declared (content_of ts e) (pair_at ts q ∷ []) → Refuses declared (content_of ts e) (pair_at ts p ∷ [])
-  refuses_stands ts e p q s r =
-      record {
-        none = λ j w z judges settled h.
-            (let J = judging_of declared j in
-            let on = settles_on J p.variance (inst w (tree_at ts p.left)) (inst w (tree_at ts p.right)) (inst w (tree_at ts q.left)) (inst w (tree_at ts q.right)) (s.on_left.worlds w z) (s.on_right.worlds w z) h.0 in
-            r.none j w z judges settled (subst (λ v. Settles J v (inst w (tree_at ts q.left)) (inst w (tree_at ts q.right))) (sym s.kept) on, tt));
-      }

@@ -40,9 +40,6 @@ module _ (declared : ℕ → List Variance) where
   all_related w [] h = tt
   all_related w (q ∷ qs) h = (h.0, all_related w qs h.1)
 
-  hold_related : (w : Sense) (qs : List Relating) → AllHoldIn declared w qs → AllRelatedUnder declared w.table w.answers qs
-  hold_related w qs h = all_related w qs (to_all w qs h)
-
   to_below : (w : Sense) (n : ℕ) (qs : List Relating) → HoldBelow declared w n qs → AllBelow Size Holds w n qs
   to_below w n [] h = tt
   to_below w n (q ∷ qs) h = (h.0, to_below w n qs h.1)

@@ -28,9 +28,6 @@ lines_more P old mid new (b ∷ bs) a s t h p =
     let (x, y, between, first, others, e) = h in
     (x, y ++ t, between, first, lines_more P between mid new bs a y t others p, ap (λ w. w ++ t) e ∙ append_assoc x y t)
 
-pub no_lines : {A : Type 0} (P : Seen → A → List ℕ → Seen → Type 0) (p : Printer) → WritesText p p (λ old text new. AreLines P old [] text new)
-no_lines P p = ([], Writes-refl p, (refl, refl))
-
 -- one more line
 pub line_more : {A : Type 0} (P : Lexicon → Seen → A → List ℕ → Seen → Type 0) (p q r : Printer) (xs : List A) (a : A)
     → WritesText p q (λ old text new. AreLines (P (lexicon_of p)) old xs text new)

@@ -127,12 +127,6 @@ module _ (ts mid : List Tree) (variables : LineVariables) (values : List Generic
             ∙ ap (λ ps. binding_nothing (node (label.Clause (clause.Trait i)) (more (argument_list (take n (meaning_of (values_in us variables values) rs).arguments)) empty)) ∷ ps) was.1,
       )
 
--- nothing is made of no nodes
-pub made_none : (ts : List Tree) (variables : LineVariables) (values : List GenericArg) (made : Vec GenericArg) (found : List BoundTrait) → made.items ≡ [] → found ≡ [] → IsMade ts variables values [] made found
-made_none ts variables values made found e f = λ us later. (ap (λ xs. map (λ a. tree_at us a.node) (reverse xs)) e, ap (λ xs. statements us (reverse xs)) f)
-
-pub ruleset meant = (made_none, made_trait)
-
 pub one_item : {A : Type 0} (xs : List A) (d : A) → 1 ≤ length xs → length xs < 2 → xs ≡ get_or xs 0 d ∷ []
 one_item [] d l h = absurd (omega (arith, l))
 one_item (x ∷ []) d l h = refl

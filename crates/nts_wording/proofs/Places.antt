@@ -90,12 +90,6 @@ own_region old new place at e f g h = record {
   regions = rw (e, g, at) (own_more sort.Region old.sorts.items old.regions.items h.regions);
 }
 
-pub own_none : (v : LineVariables) → v.types.items ≡ [] → v.regions.items ≡ [] → HasOwnPlaces v
-own_none v e f = record {
-  types = rw e (record { sorted = λ i p h. cc; apart = λ i j p h k. cc });
-  regions = rw f (record { sorted = λ i p h. cc; apart = λ i j p h k. cc });
-}
-
 -- places that are kept
 pub places_refl : (v : LineVariables) → KeepsPlaces v v
 places_refl v = record { types = omega arith; regions = omega arith }

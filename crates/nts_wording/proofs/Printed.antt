@@ -155,9 +155,6 @@ constructs n old between t i c list ps qs name text tree meets lists named h = �
 pub whole_term : (n : Lexicon) (old between : Seen) (t : NodeId) (ps : List Piece) (text : List ℕ) → IsText n old (tree_at n.trees t) text between → Completes n old (pieces.Term t ∷ ps) text between ps
 whole_term n old between t ps text h = λ rest new all. (text, rest, between, h, all, refl)
 
-pub leaf_term : (n : Lexicon) (old new : Seen) (t : NodeId) (l : Leaf) (c : Tree) (text : List ℕ) → tree_at n.trees t ≡ node (label.Leaf l) c → IsLeafText n l old t text new → IsText n old (tree_at n.trees t) text new
-leaf_term n old new t l c text e h = rw e (t, e, h)
-
 pub unnamed_label : (n : Lexicon) (old new : Seen) (t : NodeId) (l : Label) (c : Tree) (text : List ℕ) → tree_at n.trees t ≡ node l c
     → ((x : Leaf) → l ≡ label.Leaf x → ⊥) → ((x : TyHead) → l ≡ label.Ty x → ⊥) → IsUnnamedType old t text new → IsText n old (tree_at n.trees t) text new
 unnamed_label n old new t (label.Leaf x) c text e leaves types h = absurd (leaves x refl)
@@ -171,31 +168,9 @@ unnamed_label n old new t (label.List x) c text e leaves types h = rw e (t, e, h
 pub reverse_pushed : (xs ys : List Piece) (p : Piece) → ys ≡ xs ++ p ∷ [] → reverse ys ≡ p ∷ reverse xs
 reverse_pushed xs ys p e = ap reverse e ∙ reverse-append xs (p ∷ [])
 
-pub int_term : (n : Lexicon) (old new : Seen) (t : NodeId) (i : IntTy) (c : Tree) (text : List ℕ) → tree_at n.trees t ≡ node (label.Ty (ty.Int i)) c → text ≡ word_of_int i → new ≡ old → IsText n old (tree_at n.trees t) text new
-int_term n old new t i c text e h same = rw e (h, same)
-
-pub uint_term : (n : Lexicon) (old new : Seen) (t : NodeId) (i : UintTy) (c : Tree) (text : List ℕ) → tree_at n.trees t ≡ node (label.Ty (ty.Uint i)) c → text ≡ word_of_uint i → new ≡ old → IsText n old (tree_at n.trees t) text new
-uint_term n old new t i c text e h same = rw e (h, same)
-
-pub unnamed_head : (n : Lexicon) (old new : Seen) (t : NodeId) (h : TyHead) (c : Tree) (text : List ℕ) → tree_at n.trees t ≡ node (label.Ty h) c
-    → ((i : ℕ) → h ≡ ty.Ctor i → ⊥) → ((i : IntTy) → h ≡ ty.Int i → ⊥) → ((i : UintTy) → h ≡ ty.Uint i → ⊥) → IsUnnamedType old t text new → IsText n old (tree_at n.trees t) text new
-unnamed_head n old new t (ty.Ctor i) c text e a b d h = absurd (a i refl)
-unnamed_head n old new t (ty.Int i) c text e a b d h = absurd (b i refl)
-unnamed_head n old new t (ty.Uint i) c text e a b d h = absurd (d i refl)
-unnamed_head n old new t (ty.Float f) c text e a b d h = rw e (t, e, h)
-unnamed_head n old new t ty.FnPtr c text e a b d h = rw e (t, e, h)
-unnamed_head n old new t (ty.Alias i) c text e a b d h = rw e (t, e, h)
-unnamed_head n old new t ty.Error c text e a b d h = rw e (t, e, h)
-
 -- nothing is printed of what is no term
 pub no_term : (n : Lexicon) (old : Seen) (t : NodeId) (ps : List Piece) → length n.trees ≤ t.number → Completes n old (pieces.Term t ∷ ps) [] old ps
 no_term n old t ps h = whole_term n old old t ps [] (rw (get_or_past n.trees t.number empty h) (refl, refl))
-
-pub comma_piece : (n : Lexicon) (old : Seen) (ps : List Piece) → Completes n old (pieces.Comma ∷ ps) (codes ", ") old ps
-comma_piece n old ps = λ rest new all. (rest, all, refl)
-
-pub close_piece : (n : Lexicon) (old : Seen) (ps : List Piece) → Completes n old (pieces.Close ∷ ps) (codes ")") old ps
-close_piece n old ps = λ rest new all. (rest, all, refl)
 
 pub Completes-refl : (n : Lexicon) (old : Seen) (ps : List Piece) → Completes n old ps [] old ps
 Completes-refl n old ps = λ rest new all. all

@@ -139,15 +139,6 @@ first_of (of_variable kind.Const) f g n m e h = cc
 first_of (of_variable kind.Region) f g n m e h = cc
 first_of (of_constant s) f g n m e h = cc
 
--- the kind of a leaf that is no type variable has no sub root
-pub without_sub_root : (o : LeafSort) (f g n : ℕ) → is_type_sort o ≡ false → kind_at o f n ≡ kind_at o g n
-without_sub_root (of_variable kind.Ty) f g n e = cc
-without_sub_root (of_variable kind.Int) f g n e = refl
-without_sub_root (of_variable kind.Float) f g n e = refl
-without_sub_root (of_variable kind.Const) f g n e = refl
-without_sub_root (of_variable kind.Region) f g n e = refl
-without_sub_root (of_constant s) f g n e = refl
-
 is_type-kept : (f : Leaf → Leaf) → IsMap f → (l : Leaf) → is_type (f l) ≡ is_type l
 is_type-kept f j l = ap is_type_sort (j.keeps_sorts l)
 

@@ -21,10 +21,6 @@ get_or-map f e [] i = sym e
 get_or-map f e (x ∷ xs) zero = refl
 get_or-map f e (x ∷ xs) (suc i) = get_or-map f e xs i
 
--- leaves replaced in what is filled
-replace-node : (g : Leaf → Tree) (l : Label) (c : Tree) → replace g (node l c) ≡ put g l (replace g c)
-replace-node g l c = refl
-
 replace-value_or : (g : Leaf → Tree) (o : Option ℕ) (xs : List Tree) (l : Label) (c d : Tree) → replace g c ≡ d → replace g (value_or o xs (node l c)) ≡ value_or o (map (replace g) xs) (put g l d)
 replace-value_or g None xs l c d e = ap (put g l) e
 replace-value_or g (Some i) xs l c d e = sym (get_or-map (replace g) refl xs i)
@@ -43,16 +39,6 @@ over_rest a b h = record { leaves = λ l i. h.leaves l (inr i); formed = (let f 
 
 pub over_children : (l : Label) (c : Tree) → IsOverPositions (node l c) → IsOverPositions c
 over_children l c h = record { leaves = λ x i. h.leaves x (inr i); formed = (let f = h.formed in f.1) }
-
--- leaves that stay
-fixed_put : (g : Leaf → Tree) (l : Label) (c d : Tree) → ((x : Leaf) → IsFixed x → g x ≡ leaf_tree x) → IsOverPositions (node l c) → c ≡ d → c ≡ d → put g l c ≡ node l d
-fixed_put g (label.Leaf x) c d s h e f = s x (h.leaves x (inl refl)) ∙ ap (node (label.Leaf x)) (sym (leaf_alone x c h.formed) ∙ e)
-fixed_put g (label.Bound a b n) c d s h e f = ap (node (label.Bound a b n)) e
-fixed_put g (label.Ty x) c d s h e f = ap (node (label.Ty x)) e
-fixed_put g (label.Const x) c d s h e f = ap (node (label.Const x)) e
-fixed_put g (label.Clause x) c d s h e f = ap (node (label.Clause x)) e
-fixed_put g (label.Predicate x) c d s h e f = ap (node (label.Predicate x)) e
-fixed_put g (label.List x) c d s h e f = ap (node (label.List x)) e
 
 filled_put : (g : Leaf → Tree) (xs : List Tree) (l : Label) (c : Tree) → ((x : Leaf) → IsFixed x → g x ≡ leaf_tree x) → IsOverPositions (node l c) → filled_under g xs c ≡ filled xs c → put g l (filled_under g xs c) ≡ node l (filled xs c)
 filled_put g xs (label.Leaf x) c s h e = s x (h.leaves x (inl refl)) ∙ ap (λ z. node (label.Leaf x) (filled xs z)) (sym (leaf_alone x c h.formed))

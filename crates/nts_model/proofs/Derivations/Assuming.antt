@@ -93,12 +93,6 @@ covers_passed unknown A B f j a e = f j a e
 covers_passed inductive A B f j a e = f j a e
 covers_passed forced_ambiguity A B f j a e = f j a e
 
-pub covers_step : (k : PathKind) (A : List Assumed) → Covers A (passed k A)
-covers_step coinductive A j a e = record { number = j; assumed = put_behind a; found = get-passed A j a e; behind = λ t. refl; same = inl refl }
-covers_step unknown A j a e = covers_itself A j a e
-covers_step inductive A j a e = covers_itself A j a e
-covers_step forced_ambiguity A j a e = covers_itself A j a e
-
 module _ {m : Meaning} {mode : Mode} where
   mutual
     pub derives_more : {A B : List Assumed} {s : Sequent} → Covers A B → Derives m mode A s → Derives m mode B s

@@ -35,8 +35,8 @@ use Rattle.nts_model.proofs.Terms.Identified.{one_itself, one_trans}
 use Rattle.nts_model.proofs.Tables.Open.{Knows-deeply_resolved}
 use Rattle.nts_model.proofs.Terms.Unpositioned.{or_false, known_no_positions, known_well_bound, pair_no_positions, IsFormedTerm, formed_term}
 use Rattle.nts_model.proofs.Derivations.ClosedStatements.{closed_unbound, closed_statements_instance}
-use Rattle.nts_model.proofs.Derivations.Served.{IsClosedEnvironment, IsServed, derive_all, Owes, Grows, owes_none, owes_then, owes_both, owes_all}
-use Rattle.nts_model.proofs.Derivations.Relating.{Relates, stands_served, alike_related}
+use Rattle.nts_model.proofs.Derivations.Served.{IsClosedEnvironment, IsServed, derive_all, Owes, Grows, owes_none, owes_then, owes_both}
+use Rattle.nts_model.proofs.Derivations.Relating.{Relates, alike_related}
 
 -- values under an instance
 get_map : (ι : Instance) (vs : List Tree) (i : ℕ) → get_or (map (instance_of ι) vs) i empty ≡ instance_of ι (get_or vs i empty)
@@ -253,52 +253,6 @@ module _ (h : Handler) (V : ℕ → List Variance) (mode : Mode) (c : Content) (
         let q : AreEquated c x.chosen a b = x.equations (alike a b) i in
         owes_none (meaning h V) mode (deeply_resolved c e) (read_constraints c c.constraints) (Equates z (alike a b)) (λ P. read_alike a b q)
 
-    -- its goals
-    abbrev StandsAt : GoalKind → Premise → (Premise → Type 0) → Type 0
-    StandsAt z q P = Stands (λ y. Unit {0}) P z (premise_by read_by q)
-
-    goal_served : (q : Premise) → IsProvedAt (meaning h V) mode c x.chosen q → IsServed (meaning h V) mode (deeply_resolved c e) (read_constraints c c.constraints) (premise_by read_by q)
-    goal_served q p =
-        let y = p.proved in
-        let i = y.is_instance in
-        record {
-          sequent = y.sequent;
-          instance = y.instance;
-          derivation = y.derivation;
-          tree = y.tree;
-          environment = one_trans _ _ _ _ i.environment (one_itself _ _ _ (sym (read_filled q.environment p.environment)));
-          predicate = one_trans _ _ _ _ i.predicate (one_itself _ _ _ (sym (read_filled q.predicate p.predicate)));
-          constraints = i.constraints;
-          hidden = λ o j. ⊎_elim (λ v. v) (λ v. absurd v.1) (i.hidden o j);
-          open_goals = i.open_goals;
-        }
-
-    goal_follows : (z : GoalKind) (q : Premise) → IsCandidateFor e g d → Among d.goals q → Follows (StandsAt z q)
-    goal_follows z q keeps i =
-        let p : IsProvedAt (meaning h V) mode c x.chosen q = x.goals q i in
-        let nested = keeps.goals q i in
-        let none = or_false (any_label is_canonical e) (any_label is_canonical (more g empty)) asked.no_positions in
-        let stays : filled x.chosen e ≡ e = filled-none x.chosen e none.0 in
-        stands_served (meaning h V) mode (deeply_resolved c e) (read_constraints c c.constraints) formed_here closed_here (read_itself c s t k) z (premise_by read_by q)
-        (read_filled q.environment p.environment ∙ ap (λ y. deeply_resolved c (filled x.chosen y)) nested.environment ∙ ap (deeply_resolved c) stays)
-        (read_formed q.predicate p.predicate) (goal_served q p)
-
-    stands_grows : (z : GoalKind) (q : Premise) → Grows (meaning h V) mode (deeply_resolved c e) (read_constraints c c.constraints) (StandsAt z q)
-    stands_grows z q P Q f y = stands_more f z (premise_by read_by q) y
-
-    abbrev EquatesAll : GoalKind → (Premise → Type 0) → Type 0
-    EquatesAll z P = (q : Equation) → Among d.equations q → Equates z q P
-
-    abbrev StandAll : GoalKind → (Premise → Type 0) → Type 0
-    StandAll z P = (q : Premise) → Among d.goals q → StandsAt z q P
-
-    pub candidate_follows : (z : GoalKind) → IsCandidateFor e g d → Follows (λ P. EquatesAll z P × StandAll z P)
-    candidate_follows z keeps =
-        owes_both (meaning h V) mode (deeply_resolved c e) (read_constraints c c.constraints) (EquatesAll z) (StandAll z)
-        (λ P Q f y q i. equates_grows z q P Q f (y q i)) (λ P Q f y q i. stands_grows z q P Q f (y q i))
-        (owes_all (meaning h V) mode (deeply_resolved c e) (read_constraints c c.constraints) (Equates z) (equates_grows z) d.equations (equation_follows z))
-        (owes_all (meaning h V) mode (deeply_resolved c e) (read_constraints c c.constraints) (StandsAt z) (stands_grows z) d.goals (λ q i. goal_follows z q keeps i))
-
     -- its constraints
     pub constraint_granted : (y : Constraint) → IsHeldAt c x.chosen y → Grants (sequent_at c e g) (constraint_by read_by y)
     constraint_granted y q =
@@ -308,39 +262,6 @@ module _ (h : Handler) (V : ℕ → List Variance) (mode : Mode) (c : Content) (
     -- what the goal says under the table
     pub goal_says : deeply_resolved c g ≡ unbound (instance_of (reading_of c s t) asked.statement)
     goal_says = sym (instance_of-reading c s t g kg.knows kg.formed) ∙ ap (instance_of (reading_of c s t)) asked.binds_nothing
-
-    pub no_hidden : IsCandidateFor e g d → (y : Hidden) → Among (map (hidden_by read_by) d.hidden) y → ⊥
-    no_hidden keeps y i =
-        let (p, j, same) = among_mapped (hidden_by read_by) d.hidden y i in
-        let none : Among [] p = subst (λ l. Among l p) keeps.no_hidden j in
-        none
-
-    pub candidate_applies : InstancesAreRules h → IsCandidateFor e g d → Among (h.offers mode e g) d → d.certainty ≡ certain → (ps : List Premise)
-        → EquatesAll (goal_kind (meaning h V) (unbound (instance_of (reading_of c s t) asked.statement))) (Among ps)
-        → StandAll (goal_kind (meaning h V) (unbound (instance_of (reading_of c s t) asked.statement))) (Among ps)
-        → IsApplied (meaning h V) mode (λ y. Unit {0}) (Grants (sequent_at c e g)) (Hides (sequent_at c e g))
-        (Stands (λ y. Unit {0}) (Among ps) (goal_kind (meaning h V) (unbound (instance_of (reading_of c s t) asked.statement)))) (deeply_resolved c e) (unbound (instance_of (reading_of c s t) asked.statement))
-    candidate_applies law keeps offered sure ps equated stand =
-        let z : GoalKind = goal_kind (meaning h V) (unbound (instance_of (reading_of c s t) asked.statement)) in
-        let fit : AreValuesOf d.fresh (map (instance_of (reading_of c s t)) x.chosen) = AreValuesOf-instance (reading_of c s t) d.fresh x.chosen x.values in
-        record {
-          use_of = use_of d e g (reading_of c s t) (map (instance_of (reading_of c s t)) x.chosen);
-          applies = law.instances mode e g d (reading_of c s t) (use_of d e g (reading_of c s t) (map (instance_of (reading_of c s t)) x.chosen)) asked offered sure (record { values = fit; same = refl });
-          environment = instance_of-reading c s t e ke.knows ke.formed;
-          conclusion = ap (instance_of (reading_of c s t)) asked.binds_nothing;
-          values = λ v i. (tt, chosen_terms v i);
-          equations = λ q i.
-              (let (p, j, same) = among_mapped (equation_by read_by) d.equations q i in
-              subst (HoldsEquation (meaning h V) (λ y. Unit {0}) (Grants (sequent_at c e g)) (Stands (λ y. Unit {0}) (Among ps) z) (deeply_resolved c e)) (sym same) (equated p j));
-          goals = λ q i.
-              (let (p, j, same) = among_mapped (premise_by read_by) d.goals q i in
-              subst (Stands (λ y. Unit {0}) (Among ps) z) (sym same) (stand p j));
-          constraints = λ y i.
-              (let (p, j, same) = among_mapped (constraint_by read_by) d.constraints y i in
-              subst (Grants (sequent_at c e g)) (sym same) (constraint_granted p (x.constraints p j)));
-          hidden = λ y i. absurd (no_hidden keeps y i);
-          item_bounds = λ y q i j. absurd (no_hidden keeps y i);
-        }
 
     pub goal_terms : IsOfTerms (sequent_at c e g)
     goal_terms =
@@ -356,35 +277,3 @@ module _ (h : Handler) (V : ℕ → List Variance) (mode : Mode) (c : Content) (
           statements = closed_here.statements;
         }
 
-    -- the goal is proved under the table by the candidate
-    pub by_candidate : InstancesAreRules h → IsCandidateFor e g d → Among (h.offers mode e g) d → d.certainty ≡ certain → IsProved (meaning h V) mode c e g
-    by_candidate law keeps offered sure =
-        let o = candidate_follows (goal_kind (meaning h V) (unbound (instance_of (reading_of c s t) asked.statement))) keeps in
-        let both = o.holds in
-        let rule : IsRule (meaning h V) mode (λ y. Unit {0}) (Grants (sequent_at c e g)) (Hides (sequent_at c e g)) (Among o.premises) (deeply_resolved c e) (deeply_resolved c g) =
-        inl (
-          instance_of (reading_of c s t) asked.statement,
-          goal_says,
-          inl (handlers_instance (reading_of c s t) asked.statement asked.handlers, candidate_applies law keeps offered sure o.premises both.0 both.1),
-        ) in
-        let terms : IsOfTerms (sequent_at c e g) = goal_terms in
-        let all = derive_all (meaning h V) mode (deeply_resolved c e) (read_constraints c c.constraints) (deeply_resolved c g) o.premises o.premises o.served in
-        record {
-          sequent = sequent_at c e g;
-          derivation = by_rule o.premises terms (rule_more (λ q i. inl i) (deeply_resolved c e) (deeply_resolved c g) rule) all.0;
-          tree = all.1;
-          instance = itself;
-          is_instance = record {
-            environment = (let f = terms.formed in one_itself _ _ _ (instance_of-itself (deeply_resolved c e) f.0));
-            predicate = (let f = terms.formed in let f' = f.1 in one_itself _ _ _ (instance_of-itself (deeply_resolved c g) f'.0));
-            constraints = λ y i. inr (subst (Among (read_constraints c c.constraints)) (sym (read_itself c s t k y i)) i);
-            hidden = λ y i. absurd i;
-            open_goals = λ y i. absurd i;
-          };
-        }
-
--- .. that a lawful handler offers
-pub lawful_candidate : (h : Handler) (V : ℕ → List Variance) (mode : Mode) (c : Content) → IsSound c → HoldsTerms c → AreConstraintsOf c → (e g : Tree) → IsAsked e g → IsTermOf c e → IsTermOf c g
-    → (d : Candidate) → IsLawful h → Among (h.offers mode e g) d → d.certainty ≡ certain → HoldsCandidate (meaning h V) mode c d → IsProved (meaning h V) mode c e g
-lawful_candidate h V mode c s t k e g asked ke kg d law offered sure x =
-    by_candidate h V mode c s t k e g asked ke kg d x law.rules (let keep = law.keep in keep.each mode e g d asked offered) offered sure

@@ -161,9 +161,6 @@ max_above_left a b = omega arith
 room_right : (c B a b r : ℕ) → c * B + suc (max a b) ≤ r → c * B + suc b ≤ r
 room_right c B a b r h = omega arith
 
-room_first : (c B a b r : ℕ) → c * B + suc (max a b) ≤ r → c * B + suc (max a b) ≤ r
-room_first c B a b r h = h
-
 room_below : (c B a r : ℕ) → c * B + suc a ≤ r → c * B ≤ r
 room_below c B a r h = omega arith
 

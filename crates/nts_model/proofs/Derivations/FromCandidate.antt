@@ -50,20 +50,6 @@ steps_passed other_goal alias_bound_const A h = refl
 steps_passed other_goal alias_well_formed A h = refl
 steps_passed other_goal (normalize_goal p) A h = absurd h
 
--- .. and so is the step to the premise that relates an alias of such a goal with its value
-pub choice_passed : (z : GoalKind) (q : Premise) (a v : Tree) (A : List Assumed) → IsHandlersSource q.source → passed (step_kind z (choice z q a v).source) A ≡ passed (proof_kind z (choice z q a v).source) A
-choice_passed coinductive_trait q a v A h = refl
-choice_passed normalization q a v A h = steps_passed normalization q.source A h
-choice_passed other_goal q a v A h = steps_passed other_goal q.source A h
-
--- what a canonical goal is about, the goal with values in place of its positions is about
-pub statement_kind-filled : (f : ℕ → Bool) (vs : List Tree) (s : Tree) → IsHandlers s → statement_kind f (filled vs s) ≡ statement_kind f s
-statement_kind-filled f vs (node (label.Clause (clause.Trait i)) ts) h = refl
-statement_kind-filled f vs (node (label.Clause (clause.HostEffect i)) ts) h = refl
-statement_kind-filled f vs (node (label.Clause (clause.Projection i)) ts) h = refl
-statement_kind-filled f vs (node (label.Predicate (predicate.NormalizesTo i)) ts) h = refl
-statement_kind-filled f vs s h = absurd h
-
 module _ (h : Handler) (V : ℕ → List Variance) (mode : Mode) (A : List Assumed) (c : Content) (s : IsSound c) (t : HoldsTerms c) (k : AreConstraintsOf c) where
   module _ (e g : Tree) (asked : IsAsked e g) (ke : IsTermOf c e) (kg : IsTermOf c g) (d : Candidate) (x : HoldsCandidateFrom (meaning h V) mode A c g d) where
     -- the candidate without its goals

@@ -63,13 +63,3 @@ IsInstance-after κ ι s t u a b =
         subst (λ v. AreOneBy u.constraints v z) (sym (instance_of-after κ ι x))
         (one_trans u.constraints (instance_of κ (instance_of ι x)) (instance_of κ y) z (one_under κ t.constraints u (instance_of ι x) y b.constraints p) q)
 
-pub HasProof-instance : (m : Meaning) (mode : Mode) (κ : Instance) (t u : Sequent) → HasProof m mode t → IsInstance κ t u → HasProof m mode u
-HasProof-instance m mode κ t u p is =
-    record {
-      nodes = p.nodes;
-      first = p.first;
-      instance = after κ p.instance;
-      ranked = p.ranked;
-      found = p.found;
-      is_instance = IsInstance-after κ p.instance p.first.sequent t u p.is_instance is;
-    }

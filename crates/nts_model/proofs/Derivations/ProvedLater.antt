@@ -17,7 +17,6 @@ use Rattle.nts_model.proofs.Tables.Resolved.{deeply_resolved-deeply_resolved}
 use Rattle.nts_model.proofs.Terms.Composing.{after}
 use Rattle.nts_model.proofs.Terms.Identified.{one_itself}
 use Rattle.nts_model.proofs.Derivations.Flattening.{derivation_proof}
-use Rattle.nts_model.proofs.Derivations.Falling.{tree_proof}
 use Rattle.nts_model.proofs.Derivations.ProofInstances.{IsInstance-after}
 use Rattle.nts_model.proofs.Tables.TableInstances.{reading_of, instance_of-later}
 
@@ -142,51 +141,3 @@ sequent_later c d s q h i e p g k a b =
       open_goals = λ x here. absurd here;
     }
 
--- .. with goals that are left open
-goals_later : (c d : Content) (s : IsSound c) (q : IsSound d) (h : HoldsTerms c) (i : HoldsTerms d) (gs : List Premise) → Continues c d
-    → ((g : Premise) → Among gs g → IsTermOf c g.environment × IsTermOf c g.predicate) → (g : Premise) → Among (read_goals c gs) g → Among (read_goals d gs) (premise_under (reading_of d q i) g)
-goals_later c d s q h i [] on terms g k = absurd k
-goals_later c d s q h i (x ∷ gs) on terms g k = ⊎_elim
-    (λ e. let t = terms x (inl refl) in
-    let t0 = t.0 in
-    let t1 = t.1 in
-    let a = instance_of-later c d s q h i x.environment on t0.knows t0.formed in
-    let b = instance_of-later c d s q h i x.predicate on t1.knows t1.formed in
-    let one : premise_under (reading_of d q i) (premise_by (deeply_resolved c) x) ≡ premise_by (deeply_resolved d) x = λ j. record { source = x.source; environment = a j; predicate = b j } in
-    inl (ap (premise_under (reading_of d q i)) e ∙ one))
-    (λ j. inr (goals_later c d s q h i gs on (λ y z. terms y (inr z)) g j))
-    k
-
-pub sequent_later_with : (c d : Content) (s : IsSound c) (q : IsSound d) (h : HoldsTerms c) (i : HoldsTerms d) (e p : Tree) (gs : List Premise) → Continues c d → AreConstraintsOf c → IsTermOf c e → IsTermOf c p
-    → ((g : Premise) → Among gs g → IsTermOf c g.environment × IsTermOf c g.predicate) → IsInstance (reading_of d q i) (sequent_with c e p gs) (sequent_with d e p gs)
-sequent_later_with c d s q h i e p gs g k a b terms =
-    let z = sequent_later c d s q h i e p g k a b in
-    record { environment = z.environment; predicate = z.predicate; constraints = z.constraints; hidden = λ x here. absurd here; open_goals = goals_later c d s q h i gs g terms }
-
-pub IsProved-continues : (m : Meaning) (mode : Mode) (c d : Content) (e p : Tree) → IsSound c → IsSound d → HoldsTerms c → HoldsTerms d → Continues c d → AreConstraintsOf c → IsTermOf c e → IsTermOf c p
-    → IsProved m mode c e p → IsProved m mode d e p
-IsProved-continues m mode c d e p s q h i g k a b x =
-    record {
-      sequent = x.sequent;
-      derivation = x.derivation;
-      tree = x.tree;
-      instance = after (reading_of d q i) x.instance;
-      is_instance = IsInstance-after (reading_of d q i) x.instance x.sequent (sequent_at c e p) (sequent_at d e p) x.is_instance (sequent_later c d s q h i e p g k a b);
-    }
-
--- what is proved under a table has a ranked proof
-pub IsProved-proof : (m : Meaning) (mode : Mode) (c : Content) (e p : Tree) → IsProved m mode c e p → HasProof m mode (sequent_at c e p)
-IsProved-proof m mode c e p x = derivation_proof m mode x.sequent (sequent_at c e p) x.instance x.derivation x.is_instance
-
--- .. whose hypotheses the table holds, and whose steps all lead to lower ranks
-pub IsProved-held : (m : Meaning) (mode : Mode) (c : Content) (e p : Tree) → IsSound c → IsProved m mode c e p → HasHeldProof m mode c e p
-IsProved-held m mode c e p s x =
-    record {
-      sequent = sequent_at c e p;
-      environment = refl;
-      predicate = refl;
-      constraints = λ y i. hypotheses_held c y s i;
-      no_hidden = refl;
-      no_open_goals = refl;
-      proof = tree_proof m mode x.sequent (sequent_at c e p) x.instance x.derivation x.tree x.is_instance;
-    }

@@ -80,14 +80,6 @@ module _ (m : Meaning) (mode : Mode) (e : Tree) (cs : List Constraint) (formed :
       (owes_both m mode e cs (Chooses k p a) (Chooses k p b) (chooses_grows k p a) (chooses_grows k p b) (chooses_itself k p a x f.0) (chooses_itself k p b x f.1))
   chooses_itself k p (node l c) x f = node_chooses k p l c x f (chooses_itself k p c x f.1) (alias_or_not l c f)
 
-  -- a premise that is served stands
-  pub stands_served : (k : GoalKind) (q : Premise) → q.environment ≡ e → IsFormedTerm q.predicate → IsServed m mode e cs q → Follows (λ P. Stands (λ t. Unit {0}) P k q)
-  stands_served k q x f h = ⊎_elim
-      (λ keeps. owes_then m mode e cs (λ P. P q) (λ P. Stands (λ t. Unit {0}) P k q) (λ P z. inl (keeps, z)) (owes_one m mode e cs q h))
-      (λ loose. owes_then m mode e cs (λ P. P q × Chooses k q q.predicate P) (λ P. Stands (λ t. Unit {0}) P k q) (λ P z. inr (loose, (q.predicate, z.1, z.0)))
-      (owes_both m mode e cs (λ P. P q) (Chooses k q q.predicate) (λ P Q g z. g q z) (chooses_grows k q q.predicate) (owes_one m mode e cs q h) (chooses_itself k q q.predicate x f)))
-      (keeps_or_not (statement_of q.predicate))
-
   -- trees that are alike, where their regions are made one by the constraints
   module _ (R : Tree → Tree → Type 0) (holds : (x y : Tree) → R x y → Grants (sequent_of m mode e cs empty) (record { relation = relation.Equal; left = x; right = y })) where
     abbrev Step : ℕ → Type 0

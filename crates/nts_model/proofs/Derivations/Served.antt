@@ -130,15 +130,6 @@ module _ (m : Meaning) (mode : Mode) (e : Tree) (cs : List Constraint) where
   pub owes_one : (q : Premise) → IsServed q → Owes (λ P. P q)
   owes_one q x = record { premises = q ∷ []; served = λ r i. ⊎_elim (λ s. subst IsServed (sym s) x) (λ h. absurd h) i; holds = inl refl }
 
-  -- for each element of a list
-  pub owes_all : {A : Type 0} (X : A → (Premise → Type 0) → Type 0) → ((a : A) → Grows (X a)) → (xs : List A) → ((a : A) → Among xs a → Owes (X a)) → Owes (λ P. (a : A) → Among xs a → X a P)
-  owes_all X g [] h = owes_none (λ P. (a : _) → Among [] a → X a P) (λ P a i. absurd i)
-  owes_all X g (b ∷ xs) h =
-      let rest = owes_all X g xs (λ a i. h a (inr i)) in
-      owes_then (λ P. X b P × ((a : _) → Among xs a → X a P)) (λ P. (a : _) → Among (b ∷ xs) a → X a P)
-      (λ P x a i. ⊎_elim (λ s. subst (λ y. X y P) (sym s) x.0) (x.1 a) i)
-      (owes_both (X b) (λ P. (a : _) → Among xs a → X a P) (g b) (λ P Q f x a i. g a P Q f (x a i)) (h b (inl refl)) rest)
-
 -- a premise about aliases
 abbrev pub OfAliases : Tree → (Premise → Type 0) → Tree → Type 0
 OfAliases e P g = KeepsAliases (statement_of g) × P (relating e g)

@@ -91,51 +91,6 @@ pub record IsPlainTerm (t : Tree) : Type 0 where
   pub no_positions : HasNoPositions t
   pub well_bound : IsWellBound t
 
-same_values : (s : List Leaf) (ts : List Tree) → AllTrees IsPlainTerm ts → AllTrees (AreSeen s) ts → map (filled (map leaf_tree s)) (map (positioned s) ts) ≡ ts
-same_values s [] p h = refl
-same_values s (t ∷ ts) p h = (let q = p.0 in cc (filled-positioned s t q.formed q.no_positions h.0, same_values s ts p.1 h.1))
-
-same_recorded : (s : List Leaf) (x : Recorded) → IsPlainTerm x.left → IsPlainTerm x.right → AreSeen s x.left → AreSeen s x.right → recorded_by (filled (map leaf_tree s)) (recorded_by (positioned s) x) ≡ x
-same_recorded s x p q h k =
-    let a = filled-positioned s x.left p.formed p.no_positions h in
-    let b = filled-positioned s x.right q.formed q.no_positions k in
-    λ i. record { relation = x.relation; left = a i; right = b i; is_visible = x.is_visible }
-
-same_constraints : (s : List Leaf) (xs : List Recorded) → AllSides IsPlainTerm xs → AllSides (AreSeen s) xs → map (recorded_by (filled (map leaf_tree s))) (map (recorded_by (positioned s)) xs) ≡ xs
-same_constraints s [] p h = refl
-same_constraints s (x ∷ xs) p h = cc (same_recorded s x p.0 p.1 h.0 h.1, same_constraints s xs p.2 h.2)
-
-same_hide : (s : List Leaf) (x : Hidden) → IsPlainTerm x.key → IsPlainTerm x.hidden_type → AreSeen s x.key → AreSeen s x.hidden_type → hidden_by (filled (map leaf_tree s)) (hidden_by (positioned s) x) ≡ x
-same_hide s x p q h k =
-    let a = filled-positioned s x.key p.formed p.no_positions h in
-    let b = filled-positioned s x.hidden_type q.formed q.no_positions k in
-    λ i. record { key = a i; hidden_type = b i }
-
-same_hidden : (s : List Leaf) (xs : List Hidden) → AllHidden IsPlainTerm xs → AllHidden (AreSeen s) xs → map (hidden_by (filled (map leaf_tree s))) (map (hidden_by (positioned s)) xs) ≡ xs
-same_hidden s [] p h = refl
-same_hidden s (x ∷ xs) p h = cc (same_hide s x p.0 p.1 h.0 h.1, same_hidden s xs p.2 h.2)
-
-same_goal : (s : List Leaf) (x : Premise) → IsPlainTerm x.environment → IsPlainTerm x.predicate → AreSeen s x.environment → AreSeen s x.predicate → premise_by (filled (map leaf_tree s)) (premise_by (positioned s) x) ≡ x
-same_goal s x p q h k =
-    let a = filled-positioned s x.environment p.formed p.no_positions h in
-    let b = filled-positioned s x.predicate q.formed q.no_positions k in
-    λ i. record { source = x.source; environment = a i; predicate = b i }
-
-same_goals : (s : List Leaf) (xs : List Premise) → AllGoals IsPlainTerm xs → AllGoals (AreSeen s) xs → map (premise_by (filled (map leaf_tree s))) (map (premise_by (positioned s)) xs) ≡ xs
-same_goals s [] p h = refl
-same_goals s (x ∷ xs) p h = cc (same_goal s x p.0 p.1 h.0 h.1, same_goals s xs p.2 h.2)
-
--- a canonical response, filled with its own leaves, is what was found out
-pub own_leaves_give_findings : (x : Findings) → AllFound IsPlainTerm x → findings_by (filled (map leaf_tree (own_leaves x))) (findings_by (positioned (own_leaves x)) x) ≡ x
-own_leaves_give_findings x p =
-    let s = own_leaves x in
-    let h = all_found_seen x in
-    let a = same_values s x.values p.values h.values in
-    let b = same_constraints s x.constraints p.constraints h.constraints in
-    let c = same_hidden s x.hidden p.hidden h.hidden in
-    let d = same_goals s x.open_goals p.open_goals h.open_goals in
-    λ i. record { values = a i; constraints = b i; hidden = c i; open_goals = d i }
-
 -- what stands for leaves is over positions
 fixed_stays : (l : Leaf) → is_fixed l ≡ true → IsFixed l
 fixed_stays (leaf.Region region.Static) e = tt

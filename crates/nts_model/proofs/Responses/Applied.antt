@@ -409,10 +409,3 @@ refused c d os chosen r proper first known over chooses filled_known fails = rec
       fails_equal chosen r.findings.values os d u filled_known there fails a.solves same);
 }
 
--- whatever was guessed: two tables to which one response was applied have the same solutions
-pub same_solutions : (c d e : Content) (os : List Tree) (r : Response) → Applies c d os r → Applies c e os r → (w : World) → Solves d w
-    → (vs : List Tree) × ExtensionIf c e w (λ f. AreNamedBy f c.universe r.kinds vs)
-same_solutions c d e os r a b w s =
-    let z = a.sound w s in
-    let g = z.1 in
-    (g.0, b.complete w g.0 z.0 g.1)

@@ -19,24 +19,11 @@ use Rattle.nts_model.specs.Searching.Stacks.{IsDerivedFrom, IsProvedFrom, IsProv
 use Rattle.nts_model.proofs.Canonical.CanonicalForms.{originals_are_leaves}
 use Rattle.nts_model.proofs.Responses.Answering.{canonical_environment_over, canonical_predicate_over}
 use Rattle.nts_model.proofs.Tables.TableInstances.{reading_of}
-use Rattle.nts_model.proofs.Derivations.ProvedLater.{sequent_later, sequent_later_with}
-use Rattle.nts_model.proofs.Responses.Closing.{said_instance_with}
+use Rattle.nts_model.proofs.Derivations.ProvedLater.{sequent_later}
 use Rattle.nts_model.proofs.Responses.Granting.{opened_instance_with}
 use Rattle.nts_model.proofs.Responses.Querying.{AreQueryGoals, all_plain, own_in, response_to_for}
 use Rattle.nts_model.proofs.Responses.Asked.{given_environment, given_predicate}
 use Rattle.nts_model.proofs.Derivations.Assuming.{derived_instance}
-
-pub query_derived_with : (m : Meaning) (mode : Mode) (A : List Assumed) (i : Input) (q : Content) (qs : List Tree) (sub : ℕ → ℕ) (x : Findings) (gs : List Premise) → IsInput i → IsQueryTable (canonical_of i).kinds q qs → AreFindings q qs x
-    → x.hidden ≡ [] → x.open_goals ≡ read_goals q gs → AreQueryGoals (canonical_of i).kinds q gs
-    → IsProvedWith m mode A q (filled qs (canonical_of i).environment) (filled qs (canonical_of i).predicate) gs → IsDerivedFrom m mode A (answer_sequent (canonical_of i) (response_of q sub 0 x))
-query_derived_with m mode A i q qs sub x gs input t f h g k proved =
-    let ks = (canonical_of i).kinds in
-    derived_instance m mode A _ (sequent_with q (filled qs (canonical_of i).environment) (filled qs (canonical_of i).predicate) gs) (answer_sequent (canonical_of i) (response_of q sub 0 x)) proved
-    (said_instance_with q t.sound ks qs sub x f (all_plain ks q qs x t f h gs g k) (own_in ks q qs x t f h gs g k) (canonical_of i) gs g (canonical_environment_over i input) (canonical_predicate_over i input))
-
-pub query_derived_from : (m : Meaning) (mode : Mode) (A : List Assumed) (i : Input) (q : Content) (qs : List Tree) (sub : ℕ → ℕ) (x : Findings) → IsInput i → IsQueryTable (canonical_of i).kinds q qs → AreFindings q qs x → x.hidden ≡ [] → x.open_goals ≡ []
-    → IsProvedFrom m mode A q (filled qs (canonical_of i).environment) (filled qs (canonical_of i).predicate) → IsDerivedFrom m mode A (answer_sequent (canonical_of i) (response_of q sub 0 x))
-query_derived_from m mode A i q qs sub x input t f h g proved = query_derived_with m mode A i q qs sub x [] input t f h g (λ y j. absurd j) proved
 
 -- i is the input, r the response to its canonical form, and d the table c once the response was applied to the originals. The goals that the
 -- response leaves open are left open here, with what was chosen for its positions
@@ -57,29 +44,6 @@ pub asked_proved_from : (m : Meaning) (mode : Mode) (A : List Assumed) (i : Inpu
     → IsResponseTo (canonical_of i).kinds r → r.findings.open_goals ≡ [] → Applies c d (map leaf_tree (originals i)) r → IsDerivedFrom m mode A (answer_sequent (canonical_of i) r) → IsProvedFrom m mode A d i.environment i.predicate
 asked_proved_from m mode A i r c d input s h named fit none applies derived =
     subst (λ gs. IsProvedWith m mode A d i.environment i.predicate (map (premise_by (filled applies.chosen)) gs)) none (asked_proved_with m mode A i r c d input s h named fit applies derived)
-
--- the goal was resolved before it was asked
-pub resolved_proved_with : (m : Meaning) (mode : Mode) (A : List Assumed) (c d : Content) (e p : Tree) (gs : List Premise) → Continues c d → Knows c e → Knows c p → IsProvedWith m mode A d (deeply_resolved c e) (deeply_resolved c p) gs → IsProvedWith m mode A d e p gs
-resolved_proved_with m mode A c d e p gs g k l h =
-    let a : deeply_resolved d (deeply_resolved c e) ≡ deeply_resolved d e = g.values e k in
-    let b : deeply_resolved d (deeply_resolved c p) ≡ deeply_resolved d p = g.values p l in
-    let same : sequent_with d (deeply_resolved c e) (deeply_resolved c p) gs ≡ sequent_with d e p gs =
-    λ j. record { environment = a j; predicate = b j; constraints = read_constraints d d.constraints; hidden = []; open_goals = read_goals d gs } in
-    subst (IsDerivedFrom m mode A) same h
-
--- .. and it stays proved under later tables
-pub proved_with_continues : (m : Meaning) (mode : Mode) (A : List Assumed) (c d : Content) (e p : Tree) (gs : List Premise) → IsSound c → IsSound d → HoldsTerms c → HoldsTerms d → Continues c d → AreConstraintsOf c → IsTermOf c e → IsTermOf c p
-    → ((g : Premise) → Among gs g → IsTermOf c g.environment × IsTermOf c g.predicate) → IsProvedWith m mode A c e p gs → IsProvedWith m mode A d e p gs
-proved_with_continues m mode A c d e p gs s q h i g k a b terms x =
-    derived_instance m mode A (reading_of d q i) (sequent_with c e p gs) (sequent_with d e p gs) x (sequent_later_with c d s q h i e p gs g k a b terms)
-
-pub resolved_proved_from : (m : Meaning) (mode : Mode) (A : List Assumed) (c d : Content) (e p : Tree) → Continues c d → Knows c e → Knows c p → IsProvedFrom m mode A d (deeply_resolved c e) (deeply_resolved c p) → IsProvedFrom m mode A d e p
-resolved_proved_from m mode A c d e p g k l h =
-    let a : deeply_resolved d (deeply_resolved c e) ≡ deeply_resolved d e = g.values e k in
-    let b : deeply_resolved d (deeply_resolved c p) ≡ deeply_resolved d p = g.values p l in
-    let same : sequent_at d (deeply_resolved c e) (deeply_resolved c p) ≡ sequent_at d e p =
-    λ j. record { environment = a j; predicate = b j; constraints = read_constraints d d.constraints; hidden = []; open_goals = [] } in
-    subst (IsDerivedFrom m mode A) same h
 
 -- a goal that is proved under a table is proved under each later one
 pub proved_from_continues : (m : Meaning) (mode : Mode) (A : List Assumed) (c d : Content) (e p : Tree) → IsSound c → IsSound d → HoldsTerms c → HoldsTerms d → Continues c d → AreConstraintsOf c → IsTermOf c e → IsTermOf c p

@@ -104,12 +104,6 @@ passes-row_at P (more a b) zero h = h.0
 passes-row_at P (more a b) (suc i) h = passes-row_at P b i h.1
 passes-row_at P (node l c) i h = tt
 
-pub passes-row_take : (P : Label → Type 0) (i : ℕ) (r : Tree) → AllLabels P r → AllLabels P (row_take i r)
-passes-row_take P zero r h = tt
-passes-row_take P (suc i) empty h = tt
-passes-row_take P (suc i) (more a b) h = (h.0, passes-row_take P i b h.1)
-passes-row_take P (suc i) (node l c) h = tt
-
 pub passes-row_push : (P : Label → Type 0) (r t : Tree) → IsRow r → AllLabels P r → AllLabels P t → AllLabels P (row_push r t)
 passes-row_push P empty t h k l = (l, tt)
 passes-row_push P (more a b) t h k l = (k.0, passes-row_push P b t h k.1 l)

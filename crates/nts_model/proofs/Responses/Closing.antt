@@ -304,45 +304,6 @@ module _ (q : Content) (s : IsSound q) (ks : List PositionKind) (qs : List Tree)
         open_goals = λ g k. absurd k;
       }
 
-  -- .. with the goals that are left open
-  goal_closed : (g : Premise) → IsPlainTerm g.environment → IsPlainTerm g.predicate → AreSeen (own_leaves x) g.environment → AreSeen (own_leaves x) g.predicate
-      → premise_under κ g ≡ premise_by (closed_by answer) (premise_by (positioned (own_leaves x)) g)
-  goal_closed g p r h k =
-      let a = closes g.environment p h in
-      let b = closes g.predicate r k in
-      λ j. record { source = g.source; environment = a j; predicate = b j }
-
-  goals_closed : (gs : List Premise) → AllGoals IsPlainTerm gs → AllGoals (AreSeen (own_leaves x)) gs
-      → (g : Premise) → Among gs g → Among (map (premise_by (closed_by answer)) (map (premise_by (positioned (own_leaves x))) gs)) (premise_under κ g)
-  goals_closed [] p h g k = absurd k
-  goals_closed (z ∷ gs) p h g k = ⊎_elim
-      (λ e. inl (ap (premise_under κ) e ∙ goal_closed z p.0 p.1 h.0 h.1))
-      (λ j. inr (goals_closed gs p.2 h.2 g j)) k
-
-  pub said_instance_with : (i : CanonicalInput) (gs : List Premise) → x.open_goals ≡ read_goals q gs → IsOverPositions i.environment → IsOverPositions i.predicate
-      → IsInstance κ (sequent_with q (filled qs i.environment) (filled qs i.predicate) gs) (answer_sequent i answer)
-  said_instance_with i gs same e p =
-      let seen = all_found_seen x in
-      let z = said_instance i e p in
-      record {
-        environment = z.environment;
-        predicate = z.predicate;
-        constraints = z.constraints;
-        hidden = λ h k. absurd k;
-        open_goals = λ g k. goals_closed x.open_goals plain.open_goals seen.open_goals g (subst (λ l. Among l g) (sym same) k);
-      }
-
-  pub said_derived : (m : Meaning) (mode : Mode) (i : CanonicalInput) → IsOverPositions i.environment → IsOverPositions i.predicate
-      → IsProved m mode q (filled qs i.environment) (filled qs i.predicate) → IsDerived m mode (answer_sequent i answer)
-  said_derived m mode i e p h =
-      record {
-        sequent = h.sequent;
-        derivation = h.derivation;
-        tree = h.tree;
-        instance = after κ h.instance;
-        is_instance = IsInstance-after κ h.instance h.sequent (sequent_at q (filled qs i.environment) (filled qs i.predicate)) (answer_sequent i answer) h.is_instance (said_instance i e p);
-      }
-
   -- the response may be applied to the originals
   renumbered_for : (b : ℕ) (l : Leaf) → IsLeafIn ks l → IsLeafIn ks (renumbered b l)
   renumbered_for b (leaf.Variable k n) i = tt

@@ -235,26 +235,3 @@ module _ (c d : Content) (s : IsSound d) (h : HoldsTerms d) (os : List Leaf) (di
         open_goals = opened_goals r.findings.open_goals fit.goals;
       }
 
-  pub opened_instance : (i : CanonicalInput) → r.findings.open_goals ≡ [] → IsOverPositions i.environment → IsOverPositions i.predicate
-      → IsInstance κ (answer_sequent i r) (sequent_at d (filled (map leaf_tree os) i.environment) (filled (map leaf_tree os) i.predicate))
-  opened_instance i none e p =
-      let z = opened_instance_with i e p in
-      record {
-        environment = z.environment;
-        predicate = z.predicate;
-        constraints = z.constraints;
-        hidden = λ o k. absurd k;
-        open_goals = λ g k. subst (λ l. Among (map (premise_by (closed_by r)) l) g → ⊥) (sym none) (λ j. j) k;
-      }
-
-  -- what the response says is proved in the table
-  pub opened_proved : (m : Meaning) (mode : Mode) (i : CanonicalInput) → r.findings.open_goals ≡ [] → IsOverPositions i.environment → IsOverPositions i.predicate → IsDerived m mode (answer_sequent i r)
-      → IsProved m mode d (filled (map leaf_tree os) i.environment) (filled (map leaf_tree os) i.predicate)
-  opened_proved m mode i none e p x =
-      record {
-        sequent = x.sequent;
-        derivation = x.derivation;
-        tree = x.tree;
-        instance = after κ x.instance;
-        is_instance = IsInstance-after κ x.instance x.sequent (answer_sequent i r) (sequent_at d (filled (map leaf_tree os) i.environment) (filled (map leaf_tree os) i.predicate)) x.is_instance (opened_instance i none e p);
-      }

@@ -26,7 +26,7 @@ use Rattle.nts_model.specs.Answers.Responses.{Findings, AreFindings, value_row, 
 use Rattle.nts_model.proofs.Tables.ResolvedTerms.{IsFormed-deeply_resolved}
 use Rattle.nts_model.proofs.Derivations.ProvedLater.{contains_first, contains_later}
 use Rattle.nts_model.proofs.Responses.Answering.{AllTrees, AllSides, AllGoals, AllFound, IsPlainTerm, canonical_environment_over, canonical_predicate_over}
-use Rattle.nts_model.proofs.Responses.Closing.{answer_fits, said_derived}
+use Rattle.nts_model.proofs.Responses.Closing.{answer_fits}
 use Rattle.nts_model.proofs.Terms.Unpositioned.{known_well_bound}
 use Rattle.nts_model.proofs.Tables.Open.{Knows-deeply_resolved}
 use Rattle.nts_model.proofs.Tables.Passing.{passes-deeply_resolved, passes-seen, passes-no_positions}
@@ -194,17 +194,7 @@ module _ (ks : List PositionKind) (q : Content) (qs : List Tree) (x : Findings) 
 pub query_fits : (ks : List PositionKind) (q : Content) (qs : List Tree) (sub : ℕ → ℕ) (x : Findings) → IsQueryTable ks q qs → AreFindings q qs x → x.hidden ≡ [] → x.open_goals ≡ [] → IsResponseTo ks (response_of q sub 0 x)
 query_fits ks q qs sub x t f h g = answer_fits q t.sound ks qs sub x f (all_plain ks q qs x t f h [] g (λ y i. absurd i)) (own_in ks q qs x t f h [] g (λ y i. absurd i))
 
--- .. where goals are left open
-pub query_fits_with : (ks : List PositionKind) (q : Content) (qs : List Tree) (sub : ℕ → ℕ) (x : Findings) (gs : List Premise) → IsQueryTable ks q qs → AreFindings q qs x → x.hidden ≡ [] → x.open_goals ≡ read_goals q gs → AreQueryGoals ks q gs
-    → IsResponseTo ks (response_of q sub 0 x)
-query_fits_with ks q qs sub x gs t f h g k = answer_fits q t.sound ks qs sub x f (all_plain ks q qs x t f h gs g k) (own_in ks q qs x t f h gs g k)
-
 -- .. may be applied to the originals
 pub response_to_for : (i : Input) (r : Response) → IsResponseTo (canonical_of i).kinds r → IsResponseFor (map leaf_tree (originals i)) r
 response_to_for i r h = record { values = h.values; left = h.left; right = h.right; goals = h.goals; distinct = h.distinct; leaves = λ l j. leaf_in_for i l (h.leaves l j) }
 
-pub query_derived : (m : Meaning) (mode : Mode) (i : Input) (q : Content) (qs : List Tree) (sub : ℕ → ℕ) (x : Findings) → IsInput i → IsQueryTable (canonical_of i).kinds q qs → AreFindings q qs x → x.hidden ≡ [] → x.open_goals ≡ []
-    → IsProved m mode q (filled qs (canonical_of i).environment) (filled qs (canonical_of i).predicate) → IsDerived m mode (answer_sequent (canonical_of i) (response_of q sub 0 x))
-query_derived m mode i q qs sub x input t f h g proved =
-    said_derived q t.sound (canonical_of i).kinds qs sub x f (all_plain (canonical_of i).kinds q qs x t f h [] g (λ y j. absurd j)) (own_in (canonical_of i).kinds q qs x t f h [] g (λ y j. absurd j))
-    m mode (canonical_of i) (canonical_environment_over i input) (canonical_predicate_over i input) proved

@@ -28,10 +28,6 @@ use Rattle.nts_model.proofs.Terms.Listed.{either}
 use Rattle.nts_model.proofs.Terms.Identified.{named_tree}
 use Rattle.nts_model.proofs.Terms.Imaging.{IsImage, is_constant, leaf_of, constants}
 
--- a leaf that is no variable is itself under a table
-pub resolved_region : (d : Content) (r : FreeRegion) → deeply_resolved d (leaf_tree (leaf.Region r)) ≡ leaf_tree (leaf.Region r)
-resolved_region d r = deeply_resolved-node d (label.Leaf (leaf.Region r)) empty refl ∙ ap (node (label.Leaf (leaf.Region r))) (deeply_resolved-empty d)
-
 pub resolved_type : (d : Content) (a : Constant) → deeply_resolved d (leaf_tree (leaf.TyConstant a)) ≡ leaf_tree (leaf.TyConstant a)
 resolved_type d a = deeply_resolved-node d (label.Leaf (leaf.TyConstant a)) empty refl ∙ ap (node (label.Leaf (leaf.TyConstant a))) (deeply_resolved-empty d)
 
@@ -52,9 +48,6 @@ not_fixed region.Error e h = cc e
 not_fixed (region.Placeholder u n) e h = h
 not_fixed (region.EarlyParam n) e h = h
 not_fixed (region.LateParam n) e h = h
-
-same_universe : (u : ℕ) → u - 0 ≡ u
-same_universe u = omega arith
 
 module _ (d : Content) (s : IsSound d) (h : HoldsTerms d) (p : ℕ) (os : List Tree) where
   pub variable_image : (k : VariableKind) (n : ℕ) (t : Tree) → IsTermFor d k t → IsImage (leaf.Variable k n) (deeply_resolved d t)

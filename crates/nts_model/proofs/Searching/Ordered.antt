@@ -4,32 +4,9 @@ use Rattle.std.specs.Prelude.{slice_get, reverse}
 use Rattle.std.proofs.lemmas.List.{reverse-append}
 use Rattle.nts_model.specs.Searching.Stacks.{Entry, IsReadSince, AreReadSince}
 
--- a new entry is the newest
-pub newest_pushed : (xs : List Entry) (x : Entry) → reverse (xs ++ x ∷ []) ≡ x ∷ reverse xs
-newest_pushed xs x = reverse-append xs (x ∷ [])
-
 -- .. and the oldest is the last
 oldest_last : (x : Entry) (xs : List Entry) → reverse (x ∷ xs) ≡ reverse xs ++ x ∷ []
 oldest_last x xs = reverse-append (x ∷ []) xs
-
-since_push : (xs ys : List Entry) (x y : Entry) → AreReadSince xs ys → IsReadSince x y → AreReadSince (xs ++ x ∷ []) (ys ++ y ∷ [])
-since_push [] [] x y h k = (k, tt)
-since_push [] (z ∷ ys) x y h k = absurd h
-since_push (z ∷ xs) [] x y h k = absurd h
-since_push (z ∷ xs) (w ∷ ys) x y h k = (h.0, since_push xs ys x y h.1 k)
-
-pub since_reversed : (xs ys : List Entry) → AreReadSince xs ys → AreReadSince (reverse xs) (reverse ys)
-since_reversed [] [] h = tt
-since_reversed [] (y ∷ ys) h = absurd h
-since_reversed (x ∷ xs) [] h = absurd h
-since_reversed (x ∷ xs) (y ∷ ys) h = rw (oldest_last x xs, oldest_last y ys) (since_push (reverse xs) (reverse ys) x y (since_reversed xs ys h.1) h.0)
-
--- as many entries
-pub since_length : (xs ys : List Entry) → AreReadSince xs ys → length ys ≡ length xs
-since_length [] [] h = refl
-since_length [] (y ∷ ys) h = absurd h
-since_length (x ∷ xs) [] h = absurd h
-since_length (x ∷ xs) (y ∷ ys) h = ap suc (since_length xs ys h.1)
 
 no_entry : (n : ℕ) (x : Entry) → slice_get [] n ≡ Some x → ⊥
 no_entry n x e = cc e

@@ -157,10 +157,6 @@ pub back_derived : (m : Meaning) (mode : Mode) (st : List Entry) (n : ℕ) (k : 
 back_derived m mode st n k x e i h c p =
     record { sequent = answer_sequent x.input x.response; reached = inr (back_usable st n k x e h c p); instance = itself; is_instance = answer_itself x.response x.input i.environment i.predicate i.fits }
 
--- a new entry, which was not read, assumes nothing
-pub pushed_assumes : (x : Entry) (st : List Entry) → x.is_read ≡ false → assumptions (x ∷ st) ≡ passed x.kind (assumptions st)
-pushed_assumes x st e = rw e refl
-
 -- what was derived before entries were read is derived since
 own_covers : (x y : Entry) (A B : List Assumed) → IsReadSince x y → Covers A B → Covers (with_own x A) (with_own y B)
 own_covers x y A B g f = elim (either (x.is_read && is_certain x.certainty)) [

@@ -13,10 +13,10 @@ use Rattle.nts_model.specs.Tables.Holding.{AreOne, HoldsConstraint, HasSides, Co
 use Rattle.nts_model.specs.Tables.Alike.{Alike, one_tree, two_regions, one_label, two_rows, equality, HoldsEqual, AreAlike}
 use Rattle.nts_model.proofs.Tables.Under.{replaced-lacks}
 use Rattle.nts_model.proofs.Tables.Roots.{infer_of-rooted}
-use Rattle.nts_model.proofs.Tables.Resolved.{resolved-more, deeply_resolved-empty, deeply_resolved-node, deeply_resolved-deeply_resolved, deeply_resolved-row_take, row_length-resolved, IsRow-resolved, IsRow-row_take}
+use Rattle.nts_model.proofs.Tables.Resolved.{resolved-more, deeply_resolved-empty, deeply_resolved-node, deeply_resolved-deeply_resolved, row_length-resolved, IsRow-resolved}
 use Rattle.nts_model.proofs.Tables.Open.{Knows-deeply_resolved}
 use Rattle.nts_model.proofs.Tables.Readings.{name_label}
-use Rattle.nts_model.proofs.Tables.Fitting.{region_label, IsRegion-no_infer, Lacks-region}
+use Rattle.nts_model.proofs.Tables.Fitting.{region_label, IsRegion-no_infer}
 use Rattle.nts_model.proofs.Tables.Held.{HoldsConstraint-continues}
 
 pub deeply_resolved-more : (c : Content) (a b : Tree) → deeply_resolved c (more a b) ≡ more (deeply_resolved c a) (deeply_resolved c b)
@@ -74,40 +74,11 @@ HoldsEqual-recorded c x e h = ⊎_elim
       same_sides = (let s : HasSides c relation.Equal x r.constraint = rw e at r.same_sides in s);
     })) h
 
--- alike trees, where the relation of regions is a larger one, or turned
-pub Alike-map : (R S : Tree → Tree → Type 0) (a b : Tree) → ((x y : Tree) → R x y → S x y) → Alike R a b → Alike S a b
-Alike-map R S a b f one_tree = one_tree
-Alike-map R S a b f (two_regions x y r) = two_regions x y (f a b r)
-Alike-map R S a b f (one_label {c = c} {d = d} e h) = one_label e (Alike-map R S c d f h)
-Alike-map R S a b f (two_rows {a = s} {b = t} {c = x} {d = y} h k) = two_rows (Alike-map R S s x f h) (Alike-map R S t y f k)
-
 pub Alike-turned : (R : Tree → Tree → Type 0) (a b : Tree) → ((x y : Tree) → R x y → R y x) → Alike R a b → Alike R b a
 Alike-turned R a b f one_tree = one_tree
 Alike-turned R a b f (two_regions x y r) = two_regions y x (f a b r)
 Alike-turned R a b f (one_label {c = c} {d = d} e h) = one_label e (Alike-turned R c d f h)
 Alike-turned R a b f (two_rows {a = s} {b = t} {c = x} {d = y} h k) = two_rows (Alike-turned R s x f h) (Alike-turned R t y f k)
-
--- one tree for a variable in both
-pub Alike-replaced : (R : Tree → Tree → Type 0) (n : ℕ) (s a b : Tree) → Alike R a b → Alike R (replaced n s a) (replaced n s b)
-Alike-replaced R n s a b one_tree = one_tree
-Alike-replaced R n s a b (two_regions x y r) =
-    rw (replaced-lacks n s a (Lacks-region n a x), replaced-lacks n s b (Lacks-region n b y)) (two_regions x y r)
-Alike-replaced R n s a b (one_label {c = c} {d = d} e h) = rw e (one_label e (Alike-replaced R n s c d h))
-Alike-replaced R n s a b (two_rows {a = p} {b = q} {c = x} {d = y} h k) = two_rows (Alike-replaced R n s p x h) (Alike-replaced R n s q y k)
-
--- alike trees for a variable of one tree
-Alike-replaced_at : (R : Tree → Tree → Type 0) (o : Option ℕ) (n : ℕ) (s t : Tree) (l : Label) (c x y : Tree) → infer_of l ≡ o → Alike R s t → Alike R x y → Alike R (replaced_at o n s (node l c) (node l x)) (replaced_at o n t (node l c) (node l y))
-Alike-replaced_at R None n s t l c x y e h k = one_label e k
-Alike-replaced_at R (Some m) n s t l c x y e h k = by_case (m == n)
-  where
-    by_case : (z : Bool) → Alike R (if z then s else node l c) (if z then t else node l c)
-    by_case true = h
-    by_case false = one_tree
-
-pub Alike-values : (R : Tree → Tree → Type 0) (n : ℕ) (s t u : Tree) → Alike R s t → Alike R (replaced n s u) (replaced n t u)
-Alike-values R n s t empty h = one_tree
-Alike-values R n s t (more a b) h = two_rows (Alike-values R n s t a h) (Alike-values R n s t b h)
-Alike-values R n s t (node l c) h = Alike-replaced_at R (infer_of l) n s t l c (replaced n s c) (replaced n t c) refl h (Alike-values R n s t c h)
 
 -- under later values alike trees are alike
 pub Alike-later : (c d : Content) (s t : Tree) → IsSound d → Continues c d → KnowsAll c c.constraints → Knows c s → Knows c t → Alike (HoldsEqual c) s t → Alike (HoldsEqual d) (deeply_resolved d s) (deeply_resolved d t)
@@ -165,18 +136,6 @@ AreAlike-children c (node m x) (more y z) l p q e h = cc
 pub AreAlike-more : (c : Content) (a b x y : Tree) → AreAlike c a x → AreAlike c b y → AreAlike c (more a b) (more x y)
 AreAlike-more c a b x y h k = rw (deeply_resolved-more c a b, deeply_resolved-more c x y) (two_rows h k)
 
-pub AreAlike-rows : (c : Content) (a b : Tree) → IsRow a → IsRow b → row_length a ≡ row_length b → ((i : ℕ) → i < row_length a → AreAlike c (row_at a i) (row_at b i)) → AreAlike c a b
-AreAlike-rows c empty empty p q e h = AreAlike-itself c empty
-AreAlike-rows c empty (more x y) p q e h = absurd (omega (arith, e))
-AreAlike-rows c (more a b) empty p q e h = absurd (omega (arith, e))
-AreAlike-rows c (more a b) (more x y) p q e h =
-    let first : AreAlike c a x = h 0 (omega arith) in
-    let same : row_length b ≡ row_length y = omega (arith, e) in
-    AreAlike-more c a b x y first (AreAlike-rows c b y p q same (λ i l. h (suc i) (omega (arith, l))))
-AreAlike-rows c (node l t) b p q e h = absurd p
-AreAlike-rows c empty (node l t) p q e h = absurd q
-AreAlike-rows c (more a b) (node l t) p q e h = absurd q
-
 -- .. and one tree more
 first_alike : (R : Tree → Tree → Type 0) (a b x y : Tree) → Alike R (more a b) (more x y) → Alike R a x × Alike R b y
 first_alike R a b x y one_tree = (one_tree, one_tree)
@@ -211,18 +170,3 @@ IsRow-deeply_resolved c r h = IsRow-rooted c (resolved c r) (IsRow-resolved c r 
 pub row_length-deeply_resolved : (c : Content) (r : Tree) → IsRow r → row_length (deeply_resolved c r) ≡ row_length r
 row_length-deeply_resolved c r h = row_length-rooted c (resolved c r) ∙ row_length-resolved c r h
 
-row_length-row_take : (i : ℕ) (r : Tree) → i ≤ row_length r → row_length (row_take i r) ≡ i
-row_length-row_take zero r h = refl
-row_length-row_take (suc i) empty h = absurd (omega arith)
-row_length-row_take (suc i) (more a b) h = let e = row_length-row_take i b (omega arith) in omega (arith, e)
-row_length-row_take (suc i) (node l c) h = absurd (omega arith)
-
-pub AreAlike-row_take : (c : Content) (i : ℕ) (a b : Tree) → i < row_length a → i < row_length b → AreAlike c (row_take i a) (row_take i b) → AreAlike c (row_at a i) (row_at b i) → AreAlike c (row_take (i + 1) a) (row_take (i + 1) b)
-AreAlike-row_take c i a b p q h k =
-    let left = IsRow-row_take i a in
-    let right = IsRow-row_take i b in
-    let same : row_length (deeply_resolved c (row_take i a)) ≡ row_length (deeply_resolved c (row_take i b)) =
-    row_length-deeply_resolved c (row_take i a) left ∙ row_length-row_take i a (omega (arith, p)) ∙ sym (row_length-deeply_resolved c (row_take i b) right ∙ row_length-row_take i b (omega (arith, q))) in
-    rw (deeply_resolved-row_take c i a p, deeply_resolved-row_take c i b q)
-    (Alike-row_push (HoldsEqual c) (deeply_resolved c (row_take i a)) (deeply_resolved c (row_take i b)) (deeply_resolved c (row_at a i)) (deeply_resolved c (row_at b i))
-    (IsRow-deeply_resolved c (row_take i a) left) (IsRow-deeply_resolved c (row_take i b) right) same h k)

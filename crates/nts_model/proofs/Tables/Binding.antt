@@ -163,11 +163,6 @@ module _ (c : Content) (n : ℕ) (w : Slot) (m : ℕ) (s : IsSound c) (b : IsLin
       let is : infer_of (label.Leaf (leaf.Variable w.kind m)) ≡ Some m = infer_number_some w.kind m no_region in
       rw is apart
 
-  -- the root means itself
-  pub resolved-link_root : resolved (bound_to c n w) (variable_tree w.kind m) ≡ variable_tree w.kind m
-  resolved-link_root =
-      resolved-link (variable_tree w.kind m) ∙ ap (replaced n (variable_tree w.kind m)) root_stays ∙ replaced-lacks n (variable_tree w.kind m) (variable_tree w.kind m) Lacks-root
-
   pub IsSound-link : IsSound (bound_to c n w)
   IsSound-link =
       let unset_before = Binds-unset c n w b.binds in

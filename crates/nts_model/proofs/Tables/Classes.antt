@@ -14,7 +14,7 @@ use Rattle.nts_model.proofs.Tables.Slots.{slice_get_length, no_slot}
 use Rattle.nts_model.proofs.Tables.Roots.{Descends, root_of-reaches, Reaches-root_of, IsRootState-root_of, infer_of-rooted}
 use Rattle.nts_model.proofs.Tables.Resolved.{resolved-variable_known, resolved-variable_link, IsVariable}
 use Rattle.nts_model.proofs.Tables.Sound.{SameStates, resolved-same, state_of-with_slot_old, state_of-with_slot_new, resolved-with_slot}
-use Rattle.nts_model.proofs.Tables.Binding.{Binds-unset, Binds-kind, IsKnowable, IsLinkable, state_of-set_same, state_of-set_other, kind_at-set, resolved-known, resolved-known_value, resolved-link_root, IsSound-known, IsSound-link}
+use Rattle.nts_model.proofs.Tables.Binding.{Binds-unset, Binds-kind, IsKnowable, IsLinkable, state_of-set_same, state_of-set_other, kind_at-set, resolved-known, resolved-known_value, IsSound-known, IsSound-link}
 
 -- the states lead to the same variables
 pub data SameLink : Option SlotState → Option SlotState → Type 0 where
@@ -90,12 +90,6 @@ root_of-known c n w t k b = root_of-same c (changed c n w) k (λ m. ⊎_elim
 pub resolved-known_variable : (c : Content) (n : ℕ) (w : Slot) (t : Tree) → IsSound c → IsKnowable c n w t → (l : Label) (x : Tree) → infer_of l ≡ Some n → resolved (bound_to c n w) (node l x) ≡ resolved c t
 resolved-known_variable c n w t s b l x e =
     resolved-variable_known (bound_to c n w) l x n t (IsSound-known c n w t s b) e (state_of-set_same c n w b.binds ∙ ap Some b.is) ∙ resolved-known_value c n w t s b
-
-pub resolved-link_variable : (c : Content) (n : ℕ) (w : Slot) (m : ℕ) → IsSound c → IsLinkable c n w m → w.kind ≢ kind.Region → (l : Label) (x : Tree) → variable_of l ≡ Some (w.kind, n) → resolved (bound_to c n w) (node l x) ≡ variable_tree w.kind m
-resolved-link_variable c n w m s b no_region l x e =
-    let is : IsVariable (bound_to c n w) l w.kind n = record { is = e; no_region = no_region; has = kind_at-set c n w b.binds n ∙ Binds-kind c n w b.binds } in
-    resolved-variable_link (bound_to c n w) l x w.kind n m (IsSound-link c n w m s b no_region) is (state_of-set_same c n w b.binds ∙ ap Some b.is)
-    ∙ resolved-link_root c n w m s b no_region
 
 -- roots after a link: those of n move to m
 module _ (c : Content) (n : ℕ) (w : Slot) (m : ℕ) (d : Descends c) (b : IsLinkable c n w m) where

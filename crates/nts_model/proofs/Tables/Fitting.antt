@@ -65,13 +65,6 @@ name_no_infer l x e = ⊎_elim (λ v. infer_of_region l v.0 v.1) (λ r. (let q =
 pub IsRegion-no_infer : (l : Label) (t : Tree) → IsRegion (node l t) → infer_of l ≡ None
 IsRegion-no_infer l t h = name_no_infer l h.0 (region_label l t h.0 h.1).0
 
-pub Lacks-region : (n : ℕ) (t : Tree) → IsRegion t → Lacks n t
-Lacks-region n empty h = let e = h.1 in cc
-Lacks-region n (more a b) h = let e = h.1 in cc
-Lacks-region n (node l t) h =
-    let alone : t ≡ empty = (region_label l t h.0 h.1).1 in
-    rw (alone, IsRegion-no_infer l t h) tt
-
 -- integer and float types are types
 integer_type : (l : Label) → is_integer l ≡ true → kind_of_label l ≡ of_sort sort.Ty
 integer_type (label.Ty h) e = refl
@@ -301,9 +294,6 @@ shape-renamed w (label.Const h) = refl
 shape-renamed w (label.Clause h) = refl
 shape-renamed w (label.Predicate h) = refl
 shape-renamed w (label.List h) = refl
-
-variable_kind : (k : VariableKind) (n : ℕ) → kind_of_label (label.Leaf (leaf.Variable k n)) ≡ of_sort (sort_of_variable k)
-variable_kind k n = refl
 
 kind_of-placed : (c : Content) (w : World) (l : Label) (x : Tree) (o : Option (VariableKind × ℕ)) → variable_of l ≡ o → IsFitting c w → KnowsVariable c o → kind_of (placed w (number_of o) l x) ≡ Some (kind_of_label l)
 kind_of-placed c w l x None e f p = ap Some (kind_of_label-renamed w l)

@@ -9,7 +9,7 @@ use Rattle.nts_model.specs.Tables.Contents.{Content}
 use Rattle.nts_model.specs.Tables.Resolving.{infer_of, replaced, replaced_at, under, value_at, resolved, IsOneOf}
 use Rattle.std.specs.Prelude.{take}
 use Rattle.nts_model.proofs.Tables.Under.{under-agree}
-use Rattle.nts_model.specs.Tables.Measuring.{is_less, is_bound_below, unless_variable, closed_under, closed_aliases, aliases_left}
+use Rattle.nts_model.specs.Tables.Measuring.{is_less, is_bound_below, unless_variable, closed_under, closed_aliases}
 
 is_less_more : (d a b : ℕ) → a ≤ b → is_less d a ≡ true → is_less d b ≡ true
 is_less_more d zero b h e = cc
@@ -85,30 +85,3 @@ aliases_replaced n s (more a b) h k = let x = aliases_replaced n s a h k in let 
 aliases_replaced n s (node l t) h k =
     aliases_replaced_at n (infer_of l) s l t (replaced n s t) refl k (closed_replaced (0 + binders l) n s t h) (aliases_replaced n s t h k)
 
--- one more variable bound, to a tree without aliases: no tree has more aliases
-pub aliases_bound : (val : ℕ → Tree) (n : ℕ) (ns : List ℕ) (t : Tree) → closed_under 0 (under val ns (val n)) ≡ true → closed_aliases (under val ns (val n)) ≡ 0 → closed_aliases (under val (n ∷ ns) t) ≡ closed_aliases (under val ns t)
-aliases_bound val n ns t h k = aliases_replaced n (under val ns (val n)) (under val ns t) h k
-
--- so the pairs left have as many as before
-pub aliases_kept : (c d : Content) (ps : List (Tree × Tree)) → ((t : Tree) → closed_aliases (resolved d t) ≡ closed_aliases (resolved c t)) → aliases_left d ps ≡ aliases_left c ps
-aliases_kept c d [] h = refl
-aliases_kept c d (p ∷ ps) h = let x = h p.0 in let y = h p.1 in let z = aliases_kept c d ps h in omega (arith, x, y, z)
-
--- the measure of a pair that is not invariant: the sizes under the values that stood at the start of the call, of which
--- there were n. What the call binds is not looked into
-abbrev pub since : ℕ → Content → Tree → Tree
-since n c = under (value_at c) (reverse (take n c.order))
-
-pub since_kept : (n : ℕ) (c d : Content) (t : Tree) → take n d.order ≡ take n c.order → ((m : ℕ) → IsOneOf m (reverse (take n c.order)) → value_at d m ≡ value_at c m) → since n d t ≡ since n c t
-since_kept n c d t e h =
-    let a : under (value_at d) (reverse (take n c.order)) t ≡ under (value_at c) (reverse (take n c.order)) t = under-agree (value_at c) (value_at d) (reverse (take n c.order)) t h in
-    rw e a
-
--- a binding lowers the measure of the loop: unset variables and aliases of the pairs left. The tree's aliases are
--- consumed, and each gave one fresh variable
-pub binding_falls : (unset later aliases fresh others : ℕ) → later + 1 ≡ unset + fresh → fresh ≤ aliases → later + others < unset + (aliases + others)
-binding_falls unset later aliases fresh others e l = omega (arith, e, l)
-
--- a node that is no alias has the aliases of its children
-pub aliases_node : (l : Label) (t : Tree) → infer_of l ≡ None → is_alias l ≡ false → closed_aliases (node l t) ≡ closed_aliases t
-aliases_node l t e f = rw (e, f) refl

@@ -20,13 +20,6 @@ use Rattle.nts_model.proofs.Tables.Slots.{some_slot, field_below}
 use Rattle.nts_model.proofs.Tables.Solving.{NamesAll-more}
 use Rattle.nts_model.proofs.Terms.Variables.{infer_label}
 
--- by the universes of variables and of all placeholders
-level_both : (u : ℕ) (l : Leaf) → CanName u (term_level (label.Leaf l)) → CanName u (region_level (label.Leaf l)) → CanName u (leaf_level (label.Leaf l))
-level_both u (leaf.Variable k n) h i = tt
-level_both u (leaf.Region r) h i = i
-level_both u (leaf.TyConstant a) h i = h
-level_both u (leaf.ConstConstant a) h i = h
-
 label_both : (c : Content) (u : ℕ) (l : Label) → CanName u (level_in c l) → CanName u (region_level l) → CanName u (universe_in c l)
 label_both c u (label.Leaf (leaf.Variable k n)) h i = h
 label_both c u (label.Leaf (leaf.Region r)) h i = i

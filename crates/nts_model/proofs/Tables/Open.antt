@@ -10,7 +10,7 @@ use Rattle.nts_model.specs.declared.labels.Leaf.TheVariants as leaf
 use Rattle.nts_model.specs.declared.labels.Label.TheVariants as label
 use Rattle.nts_model.specs.Terms.Placeholders.{leaf_level}
 use Rattle.nts_model.specs.Tables.Contents.{Content, Slot, SlotState, unset, link, known, map_slot, state_of, kind_at}
-use Rattle.nts_model.specs.Tables.Resolving.{variable_of, infer_of, replaced, replaced_at, Lacks, LacksAt, under, IsOneOf, value_of_state, value_at, resolved, deeply_resolved, rooted, rooted_variable, root_of, Knows, KnowsVariable, KnowsLabel, IsRootState, IsSound, UnsetAt, AllUnset, number_of, AllRoots}
+use Rattle.nts_model.specs.Tables.Resolving.{variable_of, infer_of, replaced, replaced_at, Lacks, LacksAt, under, IsOneOf, value_of_state, value_at, resolved, deeply_resolved, rooted, rooted_variable, root_of, Knows, KnowsVariable, KnowsLabel, IsRootState, IsSound, UnsetAt, AllUnset, number_of}
 use Rattle.nts_model.proofs.Terms.Variables.{infer_label}
 use Rattle.nts_model.proofs.Tables.Under.{not_equal}
 use Rattle.nts_model.proofs.Tables.Slots.{some_slot}
@@ -138,23 +138,6 @@ unbound_is_unset c n k s h d free = by_state (state_of c n) refl
     by_state (Some (link m)) e = absurd (free (s.linked n m e (λ q. (let z : Some k ≡ Some kind.Region = sym h ∙ q in d cc))))
     by_state (Some (known t)) e = absurd (free (s.bound n t e))
 
-unset_region : (c : Content) (n : ℕ) → IsSound c → kind_at c n ≡ Some kind.Region → IsRootState (state_of c n) → state_of c n ≡ Some unset
-unset_region c n s h r = by_state (state_of c n) refl
-  where
-    no_None : (o : Option Slot) → map_slot (λ x. x.kind) o ≡ Some kind.Region → map_slot (λ x. x.state) o ≡ None → ⊥
-    no_None None a b = cc
-    no_None (Some v) a b = cc
-
-    by_state : (o : Option SlotState) → state_of c n ≡ o → state_of c n ≡ Some unset
-    by_state None e = absurd (no_None (slice_get c.slots n) h e)
-    by_state (Some unset) e = e
-    by_state (Some (link m)) e = absurd (rw e at r)
-    by_state (Some (known t)) e = absurd ((s.fits n t kind.Region e h).1 refl)
-
--- the root of a region variable is unset
-pub root_of-unset : (c : Content) (n : ℕ) → IsSound c → kind_at c n ≡ Some kind.Region → state_of c (root_of c n) ≡ Some unset
-root_of-unset c n s h = unset_region c (root_of c n) s (kind_at-root_of c n s ∙ h) (IsRootState-root_of c n s.descends)
-
 LacksAt-some : (o : Option ℕ) (n : ℕ) (P : Type 0) → o ≡ Some n → LacksAt o n P → ⊥
 LacksAt-some None n P e h = cc
 LacksAt-some (Some m) n P e h = not_equal m n h cc
@@ -179,21 +162,3 @@ AllUnset-lacks c empty s k h = tt
 AllUnset-lacks c (more a b) s k h = (AllUnset-lacks c a s k.0 (λ n q. (h n q).0), AllUnset-lacks c b s k.1 (λ n q. (h n q).1))
 AllUnset-lacks c (node l t) s k h = unset_here c l t s k.0.0 h (AllUnset-lacks c t s k.1)
 
-pub AllUnset-resolved : (c : Content) (t : Tree) → IsSound c → Knows c t → AllUnset c (resolved c t)
-AllUnset-resolved c t s k = AllUnset-lacks c (resolved c t) s (Knows-resolved c t s k) (λ n q. Lacks-resolved c t n s q)
-
-unset_root : (c : Content) (o : Option (VariableKind × ℕ)) (l : Label) (P Q : Type 0) → IsSound c → variable_of l ≡ o → KnowsVariable c o → (P → Q) → UnsetAt c (infer_of l) P → UnsetAt c (number_of (variable_of (rooted_variable c o l))) Q
-unset_root c None l P Q s e k f h = rw e (f (rw e at h))
-unset_root c (Some (kind.Ty, n)) l P Q s e k f h = rw e (rw e at h)
-unset_root c (Some (kind.Int, n)) l P Q s e k f h = rw e (rw e at h)
-unset_root c (Some (kind.Float, n)) l P Q s e k f h = rw e (rw e at h)
-unset_root c (Some (kind.Const, n)) l P Q s e k f h = rw e (rw e at h)
-unset_root c (Some (kind.Region, n)) l P Q s e k f h = root_of-unset c n s k
-
-pub AllRoots-rooted : (c : Content) (t : Tree) → IsSound c → Knows c t → AllUnset c t → AllRoots c (rooted c t)
-AllRoots-rooted c empty s k h = tt
-AllRoots-rooted c (more a b) s k h = (AllRoots-rooted c a s k.0 h.0, AllRoots-rooted c b s k.1 h.1)
-AllRoots-rooted c (node l t) s k h = unset_root c (variable_of l) l (AllUnset c t) (AllRoots c (rooted c t)) s refl k.0.0 (AllRoots-rooted c t s k.1) h
-
-pub AllRoots-deeply_resolved : (c : Content) (t : Tree) → IsSound c → Knows c t → AllRoots c (deeply_resolved c t)
-AllRoots-deeply_resolved c t s k = AllRoots-rooted c (resolved c t) s (Knows-resolved c t s k) (AllUnset-resolved c t s k)

@@ -131,10 +131,6 @@ region_tree-free : (r : FreeRegion) (x : RegionName) → IsFree x → node (labe
 region_tree-free r (of_free s) h = refl
 region_tree-free r (of_variable n) h = elim h [ ]
 
--- what the constraints make one is of one class
-same_number : (n : ℕ) → (n == n) ≡ true
-same_number n = eq-self n
-
 free_same : (r : FreeRegion) → free_regions_are_same r r ≡ true
 free_same region.Static = refl
 free_same (region.EarlyParam a) = eq-self a
@@ -198,9 +194,6 @@ name_label (label.Const h) a e = cc
 name_label (label.Clause h) a e = cc
 name_label (label.Predicate h) a e = cc
 name_label (label.List h) a e = cc
-
-region-reading : (c : Content) (n : ℕ) → (reading c).tree n ≡ inst (reading c) (variable_tree kind.Region n)
-region-reading c n = refl
 
 pub tree-region : (c : Content) (n : ℕ) → IsSound c → kind_at c n ≡ Some kind.Region → (reading c).tree n ≡ region_tree (classes c (of_variable n))
 tree-region c n s k =

@@ -74,13 +74,6 @@ resolved-reaches_known c l x k n r t s v p e =
     (λ equal. equal ∙ resolved-variable_known c (label.Leaf (leaf.Variable k r)) empty r t s (IsVariable-infer c (label.Leaf (leaf.Variable k r)) k r there) e)
     (resolved-reaches c l x k n r s v p)
 
--- .. that has none, and is another variable
-pub resolved-reaches_unset : (c : Content) (l : Label) (x : Tree) (k : VariableKind) (n r : ℕ) → IsSound c → IsVariable c l k n → Reaches c n r → (r ≡ n → ⊥) → state_of c r ≡ Some unset → resolved c (node l x) ≡ variable_tree k r
-resolved-reaches_unset c l x k n r s v p d e =
-    let there : IsVariable c (label.Leaf (leaf.Variable k r)) k r = IsVariable-reaches c l k n r s v p in
-    ⊎_elim (λ f. absurd (d f)) (λ f. f) (resolved-reaches c l x k n r s v p)
-    ∙ resolved-variable_unset c (label.Leaf (leaf.Variable k r)) empty r s (IsVariable-infer c (label.Leaf (leaf.Variable k r)) k r there) e
-
 -- the resolved tree of a variable is that of its root
 pub resolved-variable_reaches : (c : Content) (k : VariableKind) (n r : ℕ) → IsSound c → k ≢ kind.Region → kind_at c n ≡ Some k → Reaches c n r → resolved c (variable_tree k n) ≡ resolved c (variable_tree k r)
 resolved-variable_reaches c k n r s h e p =
@@ -198,23 +191,6 @@ known_step c (node m x) l k n r v s h e q d p z =
       lower = omega (arith, own, below);
     }
 
--- .. of a variable that is unset
-pub unset_step : (c : Content) (t : Tree) (l : Label) (k : VariableKind) (n : ℕ) → IsSound c → Knows c t → label_of t ≡ Some l → variable_of l ≡ Some (k, n) → k ≢ kind.Region → state_of c n ≡ Some unset → resolved c t ≡ t
-unset_step c empty l k n s h e q d z = cc
-unset_step c (more a b) l k n s h e q d z = cc
-unset_step c (node m x) l k n s h e q d z =
-    let same_label : m ≡ l = cc in
-    resolved-variable_unset c m x n s (infer_of_variable_label m k n (ap variable_of same_label ∙ q) d) z
-
--- .. of a variable that leads to another one, which is unset
-pub root_step : (c : Content) (t : Tree) (l : Label) (k : VariableKind) (n r : ℕ) → IsSound c → Knows c t → label_of t ≡ Some l → variable_of l ≡ Some (k, n) → k ≢ kind.Region → Reaches c n r → (r ≡ n → ⊥) → state_of c r ≡ Some unset → resolved c t ≡ variable_tree k r
-root_step c empty l k n r s h e q d p f z = cc
-root_step c (more a b) l k n r s h e q d p f z = cc
-root_step c (node m x) l k n r s h e q d p f z =
-    let same_label : m ≡ l = cc in
-    let is : IsVariable c m k n = is_variable c m x k n h (ap variable_of same_label ∙ q) d in
-    resolved-reaches_unset c m x k n r s is p f z
-
 -- .. of a node that is no variable, or a variable of a region
 pub record NodeStep (c : Content) (t : Tree) (l : Label) : Type 0 where
   pub is : resolved c t ≡ node l (resolved c (children t))
@@ -248,42 +224,10 @@ IsRow-resolved c empty h = rw (resolved-empty c) tt
 IsRow-resolved c (more a b) h = rw (resolved-more c a b) (IsRow-resolved c b h)
 IsRow-resolved c (node l x) h = absurd h
 
-pub row_at-resolved : (c : Content) (r : Tree) (i : ℕ) → i < row_length r → row_at (resolved c r) i ≡ resolved c (row_at r i)
-row_at-resolved c empty i h = absurd (omega arith)
-row_at-resolved c (more a b) zero h = rw (resolved-more c a b) refl
-row_at-resolved c (more a b) (suc i) h = rw (resolved-more c a b) (row_at-resolved c b i (omega arith))
-row_at-resolved c (node l x) i h = absurd (omega arith)
-
 pub resolved-row_push : (c : Content) (r t : Tree) → IsRow r → resolved c (row_push r t) ≡ row_push (resolved c r) (resolved c t)
 resolved-row_push c empty t h = rw (resolved-empty c) (resolved-more c t empty ∙ ap (more (resolved c t)) (resolved-empty c))
 resolved-row_push c (more a b) t h = rw (resolved-more c a b) (resolved-more c a (row_push b t) ∙ ap (more (resolved c a)) (resolved-row_push c b t h))
 resolved-row_push c (node l x) t h = absurd h
-
-row_take-more : (i : ℕ) (r : Tree) → i < row_length r → row_take (i + 1) r ≡ row_push (row_take i r) (row_at r i)
-row_take-more i empty h = absurd (omega arith)
-row_take-more zero (more a b) h = refl
-row_take-more (suc i) (more a b) h =
-    let e : suc i + 1 ≡ suc (i + 1) = omega arith in
-    rw e (ap (more a) (row_take-more i b (omega arith)))
-row_take-more i (node l c) h = absurd (omega arith)
-
-pub IsRow-row_take : (i : ℕ) (r : Tree) → IsRow (row_take i r)
-IsRow-row_take zero r = tt
-IsRow-row_take (suc i) empty = tt
-IsRow-row_take (suc i) (more a b) = IsRow-row_take i b
-IsRow-row_take (suc i) (node l c) = tt
-
--- one more child
-pub resolved-row_take : (c : Content) (i : ℕ) (r : Tree) → i < row_length r → resolved c (row_take (i + 1) r) ≡ row_push (resolved c (row_take i r)) (resolved c (row_at r i))
-resolved-row_take c i r h = rw (row_take-more i r h) (resolved-row_push c (row_take i r) (row_at r i) (IsRow-row_take i r))
-
-rooted-row_push : (c : Content) (r t : Tree) → rooted c (row_push r t) ≡ row_push (rooted c r) (rooted c t)
-rooted-row_push c empty t = refl
-rooted-row_push c (more a b) t = ap (more (rooted c a)) (rooted-row_push c b t)
-rooted-row_push c (node l x) t = refl
-
-pub deeply_resolved-row_take : (c : Content) (i : ℕ) (r : Tree) → i < row_length r → deeply_resolved c (row_take (i + 1) r) ≡ row_push (deeply_resolved c (row_take i r)) (deeply_resolved c (row_at r i))
-deeply_resolved-row_take c i r h = ap (rooted c) (resolved-row_take c i r h) ∙ rooted-row_push c (resolved c (row_take i r)) (resolved c (row_at r i))
 
 pub deeply_resolved-empty : (c : Content) → deeply_resolved c empty ≡ empty
 deeply_resolved-empty c = ap (rooted c) (resolved-empty c)

@@ -103,13 +103,6 @@ IsRootState-root_of c n d = IsRootState-follow c d n n (omega arith)
 pub root_of-root_of : (c : Content) (n : ℕ) → Descends c → root_of c (root_of c n) ≡ root_of c n
 root_of-root_of c n d = root_of-root c (root_of c n) (IsRootState-root_of c n d)
 
-pub Reaches-le : (c : Content) (n r : ℕ) → Descends c → Reaches c n r → r ≤ n
-Reaches-le c n r d here = omega arith
-Reaches-le c n r d (on {m = m} before e) = let q = d m r e in let z = Reaches-le c n m d before in omega (arith, q, z)
-
-pub root_of-le : (c : Content) (n : ℕ) → Descends c → root_of c n ≤ n
-root_of-le c n d = Reaches-le c n (root_of c n) d (Reaches-root_of c n)
-
 -- a class has one kind
 pub kind_at-reaches : (c : Content) (n r : ℕ) → IsSound c → Reaches c n r → kind_at c r ≡ kind_at c n
 kind_at-reaches c n r s here = refl
@@ -152,7 +145,3 @@ rooted-twice c empty d = refl
 rooted-twice c (more a b) d = cc (rooted-twice c a d, rooted-twice c b d)
 rooted-twice c (node l t) d = cc (rooted_variable-twice c (variable_of l) l d refl, rooted-twice c t d)
 
-pub size-rooted : (c : Content) (t : Tree) → size (rooted c t) ≡ size t
-size-rooted c empty = refl
-size-rooted c (more a b) = cc (size-rooted c a, size-rooted c b)
-size-rooted c (node l t) = cc (size-rooted c t)

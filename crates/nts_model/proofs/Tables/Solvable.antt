@@ -77,9 +77,6 @@ IsValue-resolved c k t s h p v =
       formed = IsFormed-resolved c t s (solvable_terms c h) p v.formed;
     }
 
-pub IsClosed-resolved : (c : Content) (t : Tree) → IsSolvable c → IsClosed t → IsClosed (resolved c t)
-IsClosed-resolved c t h k = IsClosed-values (value_at c) (reverse c.order) 0 t (λ n i. value-closed c n h) k
-
 -- the table's reading
 plain-fitting : (c : Content) → IsFitting c (plain c (classes c))
 plain-fitting c = record { each = λ n k e. rw e (by_kind n k) }
@@ -108,11 +105,6 @@ reading-solves c s h =
       nameable = record { each = λ n. reading-names c n (universe_of c n) s h.levelled refl };
       fitting = reading-fitting c s h;
     }
-
--- trees that are one in each world that solves the table are one when resolved, up to the classes of regions
-pub resolved-one : (c : Content) (a b : Tree) → IsSound c → IsSolvable c → Knows c a → Knows c b → ((w : World) → Solves c w → inst w a ≡ inst w b) → inst (plain c (classes c)) (resolved c a) ≡ inst (plain c (classes c)) (resolved c b)
-resolved-one c a b s h x y e =
-    sym (inst-reading c a s x) ∙ e (reading c) (reading-solves c s h) ∙ inst-reading c b s y
 
 -- a change that keeps kinds and constraints, and whose values are old ones or may be values
 pub KnowsAll-kept : (c d : Content) (xs : List Recorded) → KeepsKinds c d → KnowsAll c xs → KnowsAll d xs

@@ -256,10 +256,6 @@ module _ (c : Content) (v : Slot) (free : v.state ≡ unset) where
         fitting = IsFitting-with_slot w s.fitting new;
       }
 
--- the worlds of a table speak of its own variables alone
-IfNamesAll-none : (f : Label → Option ℕ) (o : Option ℕ) (t : Tree) → o ≡ None → IfNamesAll f o t
-IfNamesAll-none f o t e = rw e tt
-
 SolvesState-agrees : (c : Content) (w v : World) (n : ℕ) (o : Option SlotState) → IsSound c → Agrees (length c.slots) w v → state_of c n ≡ o → SolvesState w n o → SolvesState v n o
 SolvesState-agrees c w v n None s a e h = tt
 SolvesState-agrees c w v n (Some unset) s a e h = tt

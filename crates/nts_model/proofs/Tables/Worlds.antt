@@ -85,31 +85,3 @@ inst-deeply_resolved c w t s h = inst-rooted c w (resolved c t) h ∙ inst-resol
 pub inst-one : (c : Content) (w : World) (a b : Tree) → IsSound c → Solves c w → AreOne c a b → inst w a ≡ inst w b
 inst-one c w a b s h e = sym (inst-deeply_resolved c w a s h) ∙ ap (inst w) e ∙ inst-deeply_resolved c w b s h
 
--- .. and regions whose equality is held
-IsMet-at : (w : World) (xs : List Recorded) (y : Recorded) (k : ℕ) → AreMet w xs → k < length xs → get_or xs k y ≡ y → IsMet w y
-IsMet-at w [] y k h l e = absurd (omega arith)
-IsMet-at w (x ∷ xs) y zero h l e = let q : x ≡ y = e in rw (← q) h.0
-IsMet-at w (x ∷ xs) y (suc k) h l e = IsMet-at w xs y k h.1 (omega arith) e
-
-equal_sides : (w : World) (y : Recorded) → y.relation ≡ relation.Equal → IsMet w y → inst w y.left ≡ inst w y.right
-equal_sides w y e h = rw e at h
-
-pub inst-held : (c : Content) (w : World) (a b : Tree) → IsSound c → Solves c w → HoldsEqual c a b → inst w a ≡ inst w b
-inst-held c w a b s h e = ⊎_elim
-    (λ z. inst-one c w a b s h z)
-    (λ r. let y = r.constraint in
-    let met : inst w y.left ≡ inst w y.right = equal_sides w y r.same_relation (IsMet-at w c.constraints y r.found.0 h.constraints r.found.1 r.found.2) in
-    ⊎_elim
-    (λ k. inst-one c w a y.left s h k.0 ∙ met ∙ sym (inst-one c w b y.right s h k.1))
-    (λ k. inst-one c w a y.right s h k.0 ∙ sym met ∙ sym (inst-one c w b y.left s h k.1)) r.same_sides) e
-
--- alike trees mean one
-Alike-inst : (c : Content) (w : World) (s t : Tree) → IsSound c → Solves c w → Alike (HoldsEqual c) s t → inst w s ≡ inst w t
-Alike-inst c w s t z h one_tree = refl
-Alike-inst c w s t z h (two_regions x y r) = inst-held c w s t z h r
-Alike-inst c w s t z h (one_label {l = l} {c = x} {d = y} e a) = inst-same_label w l x y (Alike-inst c w x y z h a)
-Alike-inst c w s t z h (two_rows {a = p} {b = q} {c = x} {d = y} a b) = cc (Alike-inst c w p x z h a, Alike-inst c w q y z h b)
-
-pub AreAlike-inst : (c : Content) (w : World) (a b : Tree) → IsSound c → Solves c w → AreAlike c a b → inst w a ≡ inst w b
-AreAlike-inst c w a b s h e =
-    sym (inst-deeply_resolved c w a s h) ∙ Alike-inst c w (deeply_resolved c a) (deeply_resolved c b) s h e ∙ inst-deeply_resolved c w b s h

@@ -27,11 +27,6 @@ one_turned xs s t e f h = sym (e f h)
 pub one_trans : (xs : List Constraint) (s t u : Tree) → AreOneBy xs s t → AreOneBy xs t u → AreOneBy xs s u
 one_trans xs s t u a b f h = a f h ∙ b f h
 
--- a region's name after the map
-pub name_of_region_tree : (x : RegionName) → region_name (region_tree x) ≡ Some x
-name_of_region_tree (of_variable n) = refl
-name_of_region_tree (of_free r) = refl
-
 region_tree-by : (f : RegionName → RegionName) (x : RegionName) → replace (region_by f) (region_tree x) ≡ region_tree (f x)
 region_tree-by f (of_variable n) = refl
 region_tree-by f (of_free r) = refl

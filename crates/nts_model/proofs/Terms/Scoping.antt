@@ -122,10 +122,6 @@ well_bound_patched s t (in_row {a = a} {b = b} {s = x} {t = y} p q) h = (well_bo
 well_bound_patched s t (in_node {l = l} {c = c} {d = d} p) h = (lists_patched (binders l) c d p h.0, well_bound_patched c d p h.1)
 well_bound_patched s t (in_leaf {c = c} {d = d} p) h = (tt, well_bound_patched c d p h.1)
 
-pub lists_nothing : (k : ℕ) → ListsBound k empty
-lists_nothing zero = tt
-lists_nothing (suc k) = tt
-
 pub patched_itself : (t : Tree) → IsPatched t t
 patched_itself empty = in_end
 patched_itself (more a b) = in_row (patched_itself a) (patched_itself b)
@@ -219,62 +215,6 @@ filled_patched vs p empty = in_end
 filled_patched vs p (more a b) = in_row (filled_patched vs p a) (filled_patched vs p b)
 filled_patched vs p (node l c) = position_patched vs p l c (node l (filled vs c)) (in_node (filled_patched vs p c))
 
-pub filled_under_patched : (f : Leaf → Tree) → ((l : Leaf) → IsPatch (f l)) → (vs : List Tree) → ArePatches vs → (t : Tree) → IsPatched t (filled_under f vs t)
-filled_under_patched f q vs p empty = in_end
-filled_under_patched f q vs p (more a b) = in_row (filled_under_patched f q vs p a) (filled_under_patched f q vs p b)
-filled_under_patched f q vs p (node l c) =
-    position_patched vs p l c (put f l (filled_under f vs c)) (put_patched f q l c (filled_under f vs c) (filled_under_patched f q vs p c))
-
--- the trees of a world
-placed_patched : (w : World) → ((n : ℕ) → IsPatch (w.tree n)) → (x : Leaf) (c d : Tree) → IsPatched c d → (o : Option ℕ) → IsPatched (node (label.Leaf x) c) (placed w o (label.Leaf x) d)
-placed_patched w p x c d q None = in_leaf q
-placed_patched w p x c d q (Some n) = patched tt (p n)
-
-pub inst_patched : (w : World) → ((n : ℕ) → IsPatch (w.tree n)) → (t : Tree) → IsPatched t (inst w t)
-inst_patched w p empty = in_end
-inst_patched w p (more a b) = in_row (inst_patched w p a) (inst_patched w p b)
-inst_patched w p (node (label.Leaf x) c) = placed_patched w p x c (inst w c) (inst_patched w p c) (number_of (variable_of (label.Leaf x)))
-inst_patched w p (node (label.Bound a b d) c) = in_node (inst_patched w p c)
-inst_patched w p (node (label.Ty x) c) = in_node (inst_patched w p c)
-inst_patched w p (node (label.Const x) c) = in_node (inst_patched w p c)
-inst_patched w p (node (label.Clause x) c) = in_node (inst_patched w p c)
-inst_patched w p (node (label.Predicate x) c) = in_node (inst_patched w p c)
-inst_patched w p (node (label.List x) c) = in_node (inst_patched w p c)
-
--- leaves for the variables of a binder
-opened_at_patched : (f : Sort → ℕ → Leaf) (b : ℕ) (s : Sort) (e n : ℕ) (c d : Tree) → IsPatched c d → IsPatched (node (label.Bound s (index.Bound e) n) c) (opened_at f b (label.Bound s (index.Bound e) n) d)
-opened_at_patched f b s e n c d q = by_case (e == b)
-  where
-    by_case : (z : Bool) → IsPatched (node (label.Bound s (index.Bound e) n) c) (if z then leaf_tree (f s n) else node (label.Bound s (index.Bound e) n) d)
-    by_case true = patched tt (leaf_patch (f s n))
-    by_case false = in_node q
-
-pub opened_patched : (f : Sort → ℕ → Leaf) (b : ℕ) (t : Tree) → IsPatched t (opened f b t)
-opened_patched f b empty = in_end
-opened_patched f b (more a c) = in_row (opened_patched f b a) (opened_patched f b c)
-opened_patched f b (node (label.Bound s (index.Bound e) n) c) = opened_at_patched f b s e n c (opened f (b + 0) c) (opened_patched f (b + 0) c)
-opened_patched f b (node (label.Bound s index.Canonical n) c) = in_node (opened_patched f (b + 0) c)
-opened_patched f b (node (label.Leaf x) c) = in_node (opened_patched f (b + 0) c)
-opened_patched f b (node (label.Ty x) c) = in_node (opened_patched f (b + binders (label.Ty x)) c)
-opened_patched f b (node (label.Const x) c) = in_node (opened_patched f (b + 0) c)
-opened_patched f b (node (label.Clause x) c) = in_node (opened_patched f (b + 0) c)
-opened_patched f b (node (label.Predicate x) c) = in_node (opened_patched f (b + 0) c)
-opened_patched f b (node (label.List x) c) = in_node (opened_patched f (b + binders (label.List x)) c)
-
--- values for aliases
-alias_patched : (a v : Tree) → IsAlias a → IsPatch v → IsPatched a v
-alias_patched a v x p = by_head x.head x.is
-  where
-    by_head : (h : AliasHead) → a ≡ alias h x.parts → IsPatched a v
-    by_head (alias_of.Ty i) e = rw e (patched tt p)
-    by_head (alias_of.Const i) e = rw e (patched tt p)
-
-pub chosen_patched : (C : Tree → Tree → Type 0) → ((a v : Tree) → C a v → IsWellBound v) → (s t : Tree) → Replaced C s t → IsPatched s t
-chosen_patched C f s t (chosen x k z) = alias_patched s t x (k, f s t z)
-chosen_patched C f s t kept_empty = in_end
-chosen_patched C f s t (kept_more {a = a} {b = b} {s = x} {t = y} p q) = in_row (chosen_patched C f a b p) (chosen_patched C f x y q)
-chosen_patched C f s t (kept_node {l = l} {c = c} {d = d} none p) = in_node (chosen_patched C f c d p)
-
 -- positions for leaves
 pub numbered_leaf_patch : (stays : Leaf → Bool) (s : List Leaf) (x : Leaf) (z : Bool) → IsPatch (cond z (leaf_tree x) (position (sort_of_leaf x) (number s x)))
 numbered_leaf_patch stays s x true = leaf_patch x
@@ -306,16 +246,6 @@ patch_under val p (n ∷ ns) t h =
     let v = patch_under val p ns (val n) (p n) in
     let u = patch_under val p ns t h in
     (closed_replaced 0 n (under val ns (val n)) (under val ns t) v.0 u.0, well_bound_patched (under val ns t) (replaced n (under val ns (val n)) (under val ns t)) (replaced_patched n (under val ns (val n)) (under val ns t) v) u.1)
-
-pub listed_under : (val : ℕ → Tree) → ((n : ℕ) → IsPatch (val n)) → (ns : List ℕ) (ss : Tree) (d : ℕ) (t : Tree) → AllListed ss d t → AllListed ss d (under val ns t)
-listed_under val p [] ss d t h = h
-listed_under val p (n ∷ ns) ss d t h =
-    listed_patched ss d (under val ns t) (replaced n (under val ns (val n)) (under val ns t)) (replaced_patched n (under val ns (val n)) (under val ns t) (patch_under val p ns (val n) (p n))) (listed_under val p ns ss d t h)
-
-pub well_bound_under : (val : ℕ → Tree) → ((n : ℕ) → IsPatch (val n)) → (ns : List ℕ) (t : Tree) → IsWellBound t → IsWellBound (under val ns t)
-well_bound_under val p [] t h = h
-well_bound_under val p (n ∷ ns) t h =
-    well_bound_patched (under val ns t) (replaced n (under val ns (val n)) (under val ns t)) (replaced_patched n (under val ns (val n)) (under val ns t) (patch_under val p ns (val n) (p n))) (well_bound_under val p ns t h)
 
 -- a tree in place of a variable, or of another term
 pub infer_patched : (t v : Tree) → IsInfer t → IsPatch v → IsPatched t v

@@ -31,7 +31,7 @@ use Rattle.nts_model.proofs.Tables.Readings.{name_label}
 use Rattle.nts_model.proofs.Variances.AliasLabels.{not_alias}
 use Rattle.nts_model.proofs.Variances.SettleRows.{node_forward, arguments_forward, constructor_forward, function_forward}
 use Rattle.nts_model.proofs.Variances.Generalizing.{judged_agrees, settle_agrees, settle_joined, settle_parted, owed}
-use Rattle.nts_model.proofs.Variances.Reducing.{reduces_none, row_goal, row_turned, row_regions, refuses_beside, settle_pairs, labels_agree}
+use Rattle.nts_model.proofs.Variances.Reducing.{row_goal, row_regions, settle_pairs, labels_agree}
 use Rattle.nts_model.proofs.Variances.Forms.{closed_before_inst, IsRow-inst, row_length-inst, inst-over, FitsForm-inst, deeply_resolved-over, FitsForm-deeply_resolved, variances_over_length, variances_over_inst, variances_over_resolved, sorts_settled, forms_settle, settling_rows, related_over}
 
 -- the form of a node over parts
@@ -158,68 +158,14 @@ module _ (J : Judging) (law : IsLawfulJudging J) where
   leaves_of : (c d : Content) (ps qs gs : List Relating) → ReducesBy J c d ps qs gs → LeavesBy J c d ps qs gs
   leaves_of c d ps qs gs a = record { more = a.more; back = a.back; complete = a.complete }
 
-  -- nothing done
-  pub leaves_none : (c : Content) (ps : List Relating) → LeavesBy J c c ps ps []
-  leaves_none c ps = leaves_of c c ps ps [] (reduces_none J law c ps)
-
-  -- two steps: the goals of the first are goals still
-  pub leaves_then : (c d f : Content) (ps qs rs gs hs : List Relating) → AllKnown d gs → LeavesBy J c d ps qs gs → LeavesBy J d f qs rs hs → LeavesBy J c f ps rs (gs ++ hs)
-  leaves_then c d f ps qs rs gs hs known a b =
-      record {
-        more = (let p = a.more in let q = b.more in omega (arith, p, q));
-        back = λ w s. a.back w (b.back w s);
-        complete = λ w s j t h.
-            (let x = a.complete w s j t h in
-            let e = x.0 in
-            let y = b.complete e.world e.solves (judged_agrees J law (length c.slots) w e.world e.agrees j) e.settled x.1 in
-            let z = y.0 in (
-              record { world = z.world; agrees = Agrees-trans (length c.slots) (length d.slots) w e.world z.world a.more e.agrees z.agrees; solves = z.solves; settled = z.settled; names = λ f q n. z.names f (e.names f q tt) tt },
-              y.1,
-              settle_joined J law z.world gs hs (settle_agrees J law d e.world z.world gs z.agrees known x.2) y.2,
-            ));
-      }
-
-  -- a step on the first pairs beside the others
-  pub leaves_beside : (c d : Content) (ps qs rest gs : List Relating) → AllKnown c rest → LeavesBy J c d ps qs gs → LeavesBy J c d (ps ++ rest) (qs ++ rest) gs
-  leaves_beside c d ps qs rest gs known a =
-      record {
-        more = a.more;
-        back = a.back;
-        complete = λ w s j t h.
-            (let parts = settle_parted J law w ps rest h in
-            let x = a.complete w s j t parts.0 in
-            let e = x.0 in
-            (e, settle_joined J law e.world qs rest x.1 (settle_agrees J law c w e.world rest e.agrees known parts.1), x.2));
-      }
-
-  -- a pair left out
-  pub leaves_fewer : (c : Content) (p : Relating) (ps : List Relating) → LeavesBy J c c (p ∷ ps) ps []
-  leaves_fewer c p ps =
-      record {
-        more = omega arith;
-        back = λ w s. s;
-        complete = λ w s j t h. (record { world = w; agrees = Agrees-refl (length c.slots) w; solves = s; settled = t; names = λ f q n. q }, h.1, tt);
-      }
-
   -- a pair left as a goal, and a pair turned
   pub leaves_goal : (c : Content) (p : Relating) → LeavesBy J c c (p ∷ []) [] (p ∷ [])
   leaves_goal c p = leaves_of c c (p ∷ []) [] (p ∷ []) (row_goal J law c p)
-
-  pub leaves_turned : (c : Content) (v : Variance) (a b : Tree) → LeavesBy J c c (record { variance = v; left = a; right = b } ∷ []) (record { variance = opposite v; left = b; right = a } ∷ []) []
-  leaves_turned c v a b = leaves_of c c (record { variance = v; left = a; right = b } ∷ []) (record { variance = opposite v; left = b; right = a } ∷ []) [] (row_turned J law c v a b)
 
   -- two free regions owe a constraint
   pub leaves_regions : (c : Content) (v : Variance) (a b : Tree) → ((w : World) → Solves c w → IsRegion (inst w a)) → ((w : World) → Solves c w → IsRegion (inst w b))
       → LeavesBy J c (with_constraint c (owed v a b)) (record { variance = v; left = a; right = b } ∷ []) [] []
   leaves_regions c v a b ra rb = leaves_of c (with_constraint c (owed v a b)) (record { variance = v; left = a; right = b } ∷ []) [] [] (row_regions J law c v a b ra rb)
-
-  -- a refusal after steps, and of one of the pairs
-  pub refused_then : (c d : Content) (ps qs gs : List Relating) → LeavesBy J c d ps qs gs → RefusesBy J d qs → RefusesBy J c ps
-  refused_then c d ps qs gs a r =
-      record { none = λ w s j t h. (let x = a.complete w s j t h in let e = x.0 in r.none e.world e.solves (judged_agrees J law (length c.slots) w e.world e.agrees j) e.settled x.1) }
-
-  pub refused_beside : (c : Content) (ps rest : List Relating) → RefusesBy J c ps → RefusesBy J c (ps ++ rest)
-  refused_beside c ps rest r = refuses_beside J law c ps rest r
 
   -- what two nodes of one form say of their parts in a solution
   parts_settle : (c : Content) (w : World) (v : Variance) (F : Form) (ts us : Tree) → Solves c w → IsRow ts → IsRow us → FitsForm F ts → FitsForm F us → Knows c ts → Knows c us → IsFormed ts → IsFormed us

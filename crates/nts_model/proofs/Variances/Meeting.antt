@@ -37,10 +37,6 @@ module _ {W P : Type 0} (size : W → P → ℕ) (Holds : W → P → Type 0) wh
   all_left w n m [] qs l s h = tt
   all_left w n m (r ∷ rs) qs l s h = let a = s.0 in (h.0 (omega (arith, l, a)), all_left w n m rs qs l s.1 h.1)
 
-  -- nothing is met at first
-  pub met_none : (Valid : W → Type 0) (left : List P) → AreMet Valid [] left
-  met_none Valid left = record { each = λ w v p i h. absurd i }
-
   -- a pair is taken, and smaller ones that make it hold are left in its place
   pub met_taken : (Valid Later : W → Type 0) (met rs qs : List P) (p : P) → ((w : W) → Later w → Valid w) → ((w : W) → Later w → AreSmaller w (size w p) rs) → ((w : W) → Later w → All w rs → Holds w p)
       → AreMet Valid met (p ∷ qs) → AreMet Later (p ∷ met) (rs ++ qs)
@@ -64,6 +60,3 @@ module _ {W P : Type 0} (size : W → P → ℕ) (Holds : W → P → Type 0) wh
             ((λ l. h.each w v p i ((λ k. absurd (omega (arith, k))), below_less w (size w q) (size w p) qs l below)), below);
       }
 
-  -- in the end all hold
-  pub met_all : (Valid : W → Type 0) (met : List P) → AreMet Valid met [] → (w : W) → Valid w → (p : P) → Among met p → Holds w p
-  met_all Valid met h w v p i = h.each w v p i tt

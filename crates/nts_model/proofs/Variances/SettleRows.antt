@@ -162,9 +162,6 @@ module _ (J : Judging) (law : IsLawfulJudging J) where
   pub settled_beside : (v : Variance) (s y : Tree) → IsSettled J s → Settles J v s y → Beside v s y
   settled_beside v s y h x = record { to = x.right; normalizes = x.of_right; along = subst (λ z. Along J v z x.right) (normalizes_itself J law s x.left h x.of_left) x.along }
 
-  pub beside_settles : (v : Variance) (s y to : Tree) → IsSettled J s → Normalizes J y to → Along J v s to → Settles J v s y
-  beside_settles v s y to h p x = record { left = s; right = to; of_left = settled_normalizes s h; of_right = p; along = x }
-
   -- S1: settled trees are related without premises, and invariantly they are one
   pub settled_along : (v : Variance) (a b : Tree) → IsSettled J a → IsSettled J b → Settles J v a b → Along J v a b
   settled_along v a b s t x = let y = settled_beside v a b s x in subst (Along J v a) (normalizes_itself J law b y.to t y.normalizes) y.along
@@ -519,8 +516,3 @@ module _ (J : Judging) (law : IsLawfulJudging J) where
   plain_settled (more a b) e = let p = both_false (any_label is_alias a) (any_label is_alias b) e in (plain_settled a p.0, plain_settled b p.1)
   plain_settled (node l c) e = let p = both_false (is_alias l) (any_label is_alias c) e in ((λ i. absurd (not_alias l c p.0 i)), plain_settled c p.1)
 
-  pub plain_one : (a b : Tree) → any_label is_alias a ≡ false → any_label is_alias b ≡ false → Settles J variance.Invariant a b → a ≡ b
-  plain_one a b p q s = settled_one a b (plain_settled a p) (plain_settled b q) s
-
-  pub one_plain : (a b : Tree) → any_label is_alias a ≡ false → a ≡ b → Settles J variance.Invariant a b
-  one_plain a b p e = subst (Settles J variance.Invariant a) e (settles_itself variance.Invariant a (plain_settled a p))

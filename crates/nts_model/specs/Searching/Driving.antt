@@ -43,31 +43,6 @@ marked (x ∷ xs) (suc n) = x ∷ marked xs n
 abbrev pub MayEnd : Entry → Response → Type 0
 MayEnd x r = IsTrue x.is_read → x.certainty ≡ certain → SaysSame x.response r
 
--- a nested goal of a goal of kind z is proved under the table
-pub record IsNestedProved (m : Meaning) (mode : Mode) (z : GoalKind) (st : List Entry) (c : Content) (p : Premise) : Type 0 where
-  pub environment : IsTermOf c p.environment
-  pub predicate : IsTermOf c p.predicate
-  pub proved : IsProvedFrom m mode (passed (step_kind z p.source) (assumptions st)) c p.environment p.predicate
-
--- .. where these goals of the table are left open
-pub record IsNestedWith (m : Meaning) (mode : Mode) (z : GoalKind) (st : List Entry) (c : Content) (p : Premise) (gs : List Premise) : Type 0 where
-  pub environment : IsTermOf c p.environment
-  pub predicate : IsTermOf c p.predicate
-  pub goals : (g : Premise) → Among gs g → IsTermOf c g.environment × IsTermOf c g.predicate
-  pub proved : IsProvedWith m mode (passed (step_kind z p.source) (assumptions st)) c p.environment p.predicate gs
-
-abbrev pub AreNestedProved : Meaning → Mode → GoalKind → List Entry → Content → List Premise → Type 0
-AreNestedProved m mode z st c ps = (p : Premise) → Among ps p → IsNestedProved m mode z st c p
-
--- the entry of the next round, whose provisional answer this one is
-abbrev pub next_round : Entry → Response → Certainty → Entry
-next_round x r c = record { input = x.input; kind = x.kind; response = r; certainty = c; is_read = false }
-
--- the rounds of a head x, whose last answer is r: of the earlier ones it is of account what they read alone
-pub data Rounds (m : Meaning) (mode : Mode) : Entry → List Entry → List Entry → Response → Certainty → Type 0 where
-  last : {x y : Entry} {old new : List Entry} {r : Response} {c : Certainty} → Computes m mode (x ∷ old) (y ∷ new) x.input r c → (c ≡ certain → MayEnd y r) → Rounds m mode x old new r c
-  again : {x y : Entry} {old mid new : List Entry} {r : Response} {c : Certainty} (q : Response) (a : Certainty) → AreReadSince (x ∷ old) (y ∷ mid) → Rounds m mode (next_round x q a) mid new r c → Rounds m mode x old new r c
-
 -- the sort of a position's trees
 abbrev pub sort_at : PositionKind → Sort
 sort_at (const_variable u) = sort.Const
@@ -83,11 +58,3 @@ positions_from b (k ∷ ks) = position (sort_at k) b ∷ positions_from (suc b) 
 abbrev pub unconstrained : List PositionKind → Response
 unconstrained ks = record { findings = record { values = positions_from 0 ks; constraints = []; hidden = []; open_goals = [] }; kinds = ks; max_universe = 0 }
 
--- the entry that an input is given when it is asked by a step of kind k
-abbrev pub new_entry : CanonicalInput → PathKind → Entry
-new_entry i k = record { input = i; kind = k; response = unconstrained i.kinds; certainty = certain; is_read = false }
-
--- each entry's provisional answer may be applied
-abbrev pub AreEntries : List Entry → Type 0
-AreEntries [] = Unit {0}
-AreEntries (x ∷ xs) = IsEntry x × AreEntries xs

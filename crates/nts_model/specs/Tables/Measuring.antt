@@ -36,6 +36,3 @@ closed_aliases empty = 0
 closed_aliases (more a b) = closed_aliases a + closed_aliases b
 closed_aliases (node l t) = unless_variable (infer_of l) 0 (counted (is_alias l && closed_under 0 (node l t)) (closed_aliases t))
 
-abbrev pub aliases_left : Content → List (Tree × Tree) → ℕ
-aliases_left c [] = 0
-aliases_left c (p ∷ ps) = closed_aliases (resolved c p.0) + closed_aliases (resolved c p.1) + aliases_left c ps

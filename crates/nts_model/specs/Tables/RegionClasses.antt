@@ -84,10 +84,3 @@ abbrev pub AllRegions : List Recorded → Type 0
 AllRegions [] = Unit {0}
 AllRegions (x ∷ xs) = AreRegions x.relation x.left x.right × AllRegions xs
 
--- one region by links and by the constraints
-pub data Joined (c : Content) : List Recorded → RegionName → RegionName → Type 0 where
-  one_root : {xs : List Recorded} {a b : RegionName} → root_name c a ≡ root_name c b → Joined c xs a b
-  recorded : {xs : List Recorded} {x : Recorded} {a b : RegionName} → equated x.relation x.left x.right ≡ Some (a, b) → Joined c (x ∷ xs) a b
-  later : {xs : List Recorded} {x : Recorded} {a b : RegionName} → Joined c xs a b → Joined c (x ∷ xs) a b
-  back : {xs : List Recorded} {a b : RegionName} → Joined c xs a b → Joined c xs b a
-  next : {xs : List Recorded} {a b d : RegionName} → Joined c xs a b → Joined c xs b d → Joined c xs a d

@@ -218,7 +218,3 @@ abbrev pub number_of : Option (VariableKind × ℕ) → Option ℕ
 number_of None = None
 number_of (Some v) = Some v.1
 
-abbrev pub AllRoots : Content → Tree → Type 0
-AllRoots c empty = Unit {0}
-AllRoots c (more a b) = AllRoots c a × AllRoots c b
-AllRoots c (node l t) = UnsetAt c (number_of (variable_of l)) (AllRoots c t)

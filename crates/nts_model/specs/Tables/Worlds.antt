@@ -87,9 +87,6 @@ pub record Solves (c : Content) (w : World) : Type 0 where
   pub nameable : IsNameable term_level c w
   pub fitting : IsFitting c w
 
-abbrev pub RegionsNameable : Content → World → Type 0
-RegionsNameable = IsNameable region_level
-
 -- the same for the variables below n, for regions, and for what outlives what
 pub record Agrees (n : ℕ) (w v : World) : Type 0 where
   pub trees : (m : ℕ) → m < n → v.tree m ≡ w.tree m

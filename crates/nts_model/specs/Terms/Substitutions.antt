@@ -69,14 +69,6 @@ pub record Instance : Type 0 where
 abbrev pub instance_of : Instance → Tree → Tree
 instance_of ι = replace ι.value
 
--- a substitution: an instance in which constants stay
-abbrev pub IsSubstitution : Instance → Type 0
-IsSubstitution ι = (l : Leaf) → IsConstant l → ι.value l ≡ leaf_tree l
-
--- each variable's universe names all leaves of its value, where f gives the universes of leaves
-abbrev pub AreNameable : (Label → Option ℕ) → Instance → Type 0
-AreNameable f ι = (k : VariableKind) (n : ℕ) → IfNamesAll f (f (label.Leaf (leaf.Variable k n))) (ι.value (leaf.Variable k n))
-
 -- the sort of a leaf: each kind of variable is one, all regions that are not bound are one
 pub data LeafSort : Type 0 where
   of_variable : VariableKind → LeafSort

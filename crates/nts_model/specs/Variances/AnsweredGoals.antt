@@ -41,9 +41,3 @@ AllRelatedUnder declared f ks (p ∷ ps) = RelatedUnder declared f ks p.variance
 pub record RelatesBy (declared : ℕ → List Variance) (d : Content) (ps qs gs : List Relating) : Type 0 where
   pub related : (f : Content) → IsSound f → Continues d f → (ks : List Tree) → AllAnswered f ks gs → AllRelatedUnder declared f ks qs → AllRelatedUnder declared f ks ps
 
--- .. and so the value that stands for a tree, and a row for a row
-pub record StandsUnder (declared : ℕ → List Variance) (d : Content) (v : Variance) (t r : Tree) (gs : List Relating) : Type 0 where
-  pub related : (f : Content) → IsSound f → Continues d f → (ks : List Tree) → AllAnswered f ks gs → RelatedUnder declared f ks v r t
-
-pub record RowStandsUnder (declared : ℕ → List Variance) (d : Content) (v : Variance) (ws : List Variance) (ts rs : Tree) (gs : List Relating) : Type 0 where
-  pub related : (f : Content) → IsSound f → Continues d f → (ks : List Tree) → AllAnswered f ks gs → RowsUnder declared f ks v ws rs ts

@@ -66,23 +66,3 @@ pub record StandsIn (J : Judging) (c d : Content) (w : World) (u : ℕ) (r s : T
   pub is : inst extension.world r ≡ s
   pub goals : AllSettleIn J extension.world gs
 
-pub record StandsFor (J : Judging) (Loud : Type 0) (c d : Content) (u b : ℕ) (v : Variance) (t r : Tree) (gs : List Relating) : Type 0 where
-  pub continues : Continues c d
-  pub knows : Knows d r
-  pub listed : KeepsListed t r
-  pub goals : AllKnown d gs
-  pub back : (w : World) → Solves d w → Solves c w
-  pub sound : Loud → (w : World) → Solves d w → IsJudgedBy J w → IsSettledWorld J d w → AllSettleIn J w gs → Settles J v (inst w r) (inst w t)
-  pub complete : (w : World) → Solves c w → IsJudgedBy J w → IsSettledWorld J c w
-      → (s : Tree) → IsSettled J s → NamesAll term_level u s → IsClosedUnder b s → IsFormed s → Settles J v s (inst w t) → StandsIn J c d w u r s gs
-
--- .. and a row of arguments for a row
-pub record StandForRow (J : Judging) (Loud : Type 0) (c d : Content) (u b : ℕ) (v : Variance) (ws : List Variance) (ts rs : Tree) (gs : List Relating) : Type 0 where
-  pub continues : Continues c d
-  pub knows : Knows d rs
-  pub listed : KeepsListed ts rs
-  pub goals : AllKnown d gs
-  pub back : (w : World) → Solves d w → Solves c w
-  pub sound : Loud → (w : World) → Solves d w → IsJudgedBy J w → IsSettledWorld J d w → AllSettleIn J w gs → AllSettle J v ws (inst w rs) (inst w ts)
-  pub complete : (w : World) → Solves c w → IsJudgedBy J w → IsSettledWorld J c w
-      → (ss : Tree) → IsSettled J ss → NamesAll term_level u ss → IsClosedUnder b ss → IsFormed ss → AllSettle J v ws ss (inst w ts) → StandsIn J c d w u rs ss gs

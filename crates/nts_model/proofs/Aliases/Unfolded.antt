@@ -26,13 +26,13 @@ use Rattle.nts_model.specs.Variances.SettledProofs.{StandsForItself, IsSettledIn
 use Rattle.nts_model.proofs.Terms.Composing.{after, instance_of-after, IsFormed-instance}
 use Rattle.nts_model.proofs.Variances.AliasLabels.{not_alias}
 use Rattle.nts_model.proofs.Derivations.Monotone.{rule_more}
-use Rattle.nts_model.proofs.Derivations.Weakening.{rule_weaker}
+use Rattle.nts_model.proofs.Aliases.Weakening.{rule_weaker}
 use Rattle.nts_model.proofs.Terms.Identified.{one_at}
 use Rattle.nts_model.proofs.Derivations.ProofInstances.{IsTrivial-under}
 use Rattle.nts_model.proofs.Variances.Settling.{replaced_closed, normalizes_itself, normalized_settled}
 use Rattle.nts_model.proofs.Variances.Alongside.{along_one, along_arguments}
 use Rattle.nts_model.proofs.Variances.SettleRows.{settles_itself, settle_regions, settle_constructors, settle_functions, settle_values, settle_open, settle_row, settle_no_row, settles_turned, settled_normalizes, settled_along, alias_value, node_forward, more_forward, empty_forward}
-use Rattle.nts_model.proofs.Variances.Unfolding.{unfold_alias, unfold_subtype}
+use Rattle.nts_model.proofs.Aliases.Unfolding.{unfold_alias, unfold_subtype}
 
 -- steps from a reached node
 pub reached_on : (m : Meaning) (nodes : List Node) (a b : Node) (ι κ : Instance) → IsReached m nodes a ι b κ → (n : Node) (μ : Instance) → IsReached m nodes b κ n μ → IsReached m nodes a ι n μ

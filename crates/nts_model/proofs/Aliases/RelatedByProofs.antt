@@ -12,7 +12,7 @@ use Rattle.nts_model.specs.Derivations.Rules.{Meaning, Mode, relating}
 use Rattle.nts_model.specs.Variances.Judging.{IsSettled, Settles, IsLawfulJudging}
 use Rattle.nts_model.specs.Variances.Relations.{AllSettleIn, IsJudgedBy, IsSettledWorld, SettledExtension}
 use Rattle.nts_model.specs.Variances.RelatingBy.{IsTrueIn, judged_in, AreRelatedBy, AreUnrelatedBy}
-use Rattle.nts_model.proofs.Variances.Unfolded.{IsTruth, judging_lawful, StandsSettled, related_unfolds}
+use Rattle.nts_model.proofs.Aliases.Unfolded.{IsTruth, judging_lawful, StandsSettled, related_unfolds}
 
 trivial_true : (w : World) (r : Relation) (x : Constraint) → HasOneSide r x → IsTrueOf w r x.left x.right
 trivial_true w relation.Equal x h = h

@@ -10,7 +10,7 @@ use Rattle.nts_model.specs.Derivations.Rules.{chosen, kept_empty, kept_more, kep
 use Rattle.nts_model.specs.Variances.Judging.{Judging, AllStand, IsSettled, IsValueOf, Normalizes, Along, AreAlong, Settles, IsLawfulJudging}
 use Rattle.nts_model.specs.Variances.Listing.{Lists, by_lists, AreOf}
 use Rattle.nts_model.proofs.Derivations.Flattening.{joined, among_left, among_right, among_joined}
-use Rattle.nts_model.proofs.Derivations.Weakening.{related_weaker, are_related_weaker}
+use Rattle.nts_model.proofs.Aliases.Weakening.{related_weaker, are_related_weaker}
 use Rattle.nts_model.proofs.Tables.Under.{same_or_other}
 use Rattle.nts_model.proofs.Derivations.Monotone.{replaced_more}
 use Rattle.nts_model.proofs.Variances.SettleRows.{alias_or_none}

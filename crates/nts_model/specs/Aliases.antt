@@ -1,2 +1,0 @@
--- What answers rest on, with aliases: a trial.
-pub mod TellingAliases
