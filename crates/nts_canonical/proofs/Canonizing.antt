@@ -4,8 +4,8 @@ use Rattle.nts_model.specs.declared.labels.Leaf.{Leaf}
 use Rattle.nts_model.specs.declared.labels.Leaf.TheVariants as leaf
 use Rattle.nts_model.specs.declared.labels.Label.{Label}
 use Rattle.nts_model.specs.declared.labels.Label.TheVariants as label
-use Rattle.nts_model.specs.Terms.Trees.{Tree, empty, more, node}
-use Rattle.nts_model.specs.Tables.Resolving.{Knows, KnowsVariable, variable_of}
+use Rattle.nts_model.specs.Terms.Trees.{Tree, empty, more, node, variable_of}
+use Rattle.nts_model.specs.Tables.Resolving.{Knows, KnowsVariable}
 use Rattle.nts_model.specs.Terms.Substitutions.{replace}
 use Rattle.nts_model.specs.Canonical.Numbered.{same, added, seen_node, seen, numbered, numbered_leaf, no_leaf, AreDistinct}
 use Rattle.nts_model.specs.Canonical.Inputs.{Input, CanonicalInput as Form, is_static, after_environment, after_predicate, originals, canonical_of, position_kind, whole}

@@ -5,7 +5,7 @@ use Rattle.nts_model.specs.declared.labels.BoundVarIndexKind.TheVariants as inde
 use Rattle.nts_model.specs.declared.labels.Label.{Label}
 use Rattle.nts_model.specs.declared.labels.Label.TheVariants as label
 use Rattle.nts_model.specs.Terms.Trees.{Tree, empty, more, node, binders, kind_of_label, NodeKind, of_sort, arguments, environment, bound_predicate, statement, sort_list, one_sort}
-use Rattle.nts_model.specs.Derivations.Handlers.{position_of, value_or, filled}
+use Rattle.nts_model.specs.Terms.Substitutions.{filled, position_of, value_or}
 use Rattle.nts_store.specs.Filled.{HasValues}
 use Rattle.nts_folding.specs.Folding.{MayAnswer, asked_as, HandsOver, AtBinder, Walk, done, next, answer, down}
 use Rattle.nts_canonical.specs.Folds.{StandsFor}

@@ -13,8 +13,7 @@ use Rattle.nts_model.specs.declared.labels.Leaf.TheVariants as leaf
 use Rattle.nts_model.specs.declared.labels.Label.{Label}
 use Rattle.nts_model.specs.declared.labels.Label.TheVariants as label
 use Rattle.nts_model.specs.Terms.Trees.{Tree, empty, more, node, kind_of, any_label, is_infer, is_region_infer, is_placeholder, is_canonical, sort_of_leaf}
-use Rattle.nts_model.specs.Derivations.Handlers.{position_of}
-use Rattle.nts_model.specs.Terms.Substitutions.{leaf_tree, put, replace}
+use Rattle.nts_model.specs.Terms.Substitutions.{leaf_tree, put, replace, position_of}
 use Rattle.nts_model.specs.Canonical.Numbered.{number, numbered, numbered_leaf, no_leaf, AreDistinct}
 use Rattle.nts_model.specs.Canonical.Inputs.{Input, CanonicalInput as Form, type_variable, sub_root_of, are_one, share, position_kind, is_static, after_environment, after_predicate, originals, canonical_of, whole, whole_of}
 use Rattle.nts_model.specs.Terms.Scoping.{IsWellBound}

@@ -7,7 +7,7 @@ use Rattle.nts_model.specs.declared.labels.Label.{Label}
 use Rattle.nts_model.specs.declared.labels.Label.TheVariants as label
 use Rattle.nts_model.specs.Terms.Trees.{Tree, empty, more, node, any_label, is_canonical, kind_of, sort_of_leaf}
 use Rattle.nts_model.specs.Terms.Substitutions.{leaf_tree, put, replace}
-use Rattle.nts_model.specs.Derivations.Sequents.{Among}
+use Rattle.nts_model.specs.Lists.{Among}
 use Rattle.nts_model.specs.Canonical.Numbered.{number, numbered_leaf, no_leaf}
 use Rattle.nts_model.specs.Canonical.Inputs.{Input, CanonicalInput as Form, is_static, after_environment, after_predicate, originals, canonical_of, whole, whole_of}
 use Rattle.nts_model.proofs.Terms.Listed.{either, tell, same-yes, differ, original}

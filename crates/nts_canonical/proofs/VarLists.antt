@@ -4,7 +4,7 @@ use Rattle.std.specs.List.{position_or_len}
 use Rattle.std.proofs.lemmas.List.{take_more}
 use Rattle.nts_model.specs.declared.labels.Leaf.{Leaf}
 use Rattle.nts_model.specs.Terms.Substitutions.{leaf_sort}
-use Rattle.nts_model.specs.Derivations.Sequents.{Among}
+use Rattle.nts_model.specs.Lists.{Among}
 use Rattle.nts_model.specs.Canonical.Numbered.{number, AreDistinct}
 use Rattle.nts_model.specs.Canonical.Inputs.{sub_root_of, are_one, share, kind_at, position_kind}
 use Rattle.nts_model.proofs.Terms.Listed.{either, tell, same-yes}

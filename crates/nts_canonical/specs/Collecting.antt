@@ -4,7 +4,7 @@ use Rattle.nts_model.specs.declared.labels.Leaf.{Leaf}
 use Rattle.nts_model.specs.declared.labels.Label.{Label}
 use Rattle.nts_model.specs.declared.labels.Label.TheVariants as label
 use Rattle.nts_model.specs.Terms.Trees.{Tree, empty, more, node, size}
-use Rattle.nts_model.specs.Derivations.Sequents.{Among}
+use Rattle.nts_model.specs.Lists.{Among}
 use Rattle.nts_model.specs.Canonical.Numbered.{added, seen, no_leaf}
 use Rattle.nts_model.specs.Canonical.Inputs.{is_static}
 use Rattle.nts_model.specs.Answers.Responses.{is_fixed}

@@ -3,7 +3,7 @@ use Rattle.std.specs.Prelude.{◌≡◌, suc, List, [], ◌∷◌, Option, Some,
 use Rattle.std.proofs.Common.{arith}
 use Rattle.nts_model.specs.Terms.Trees.{Tree, node, any_argument, arguments, environment, bound_predicate, is, a_type}
 use Rattle.nts_model.specs.Derivations.Related.{pair}
-use Rattle.nts_model.specs.Derivations.Handlers.{position_of, filled}
+use Rattle.nts_model.specs.Terms.Substitutions.{filled, position_of}
 use Rattle.nts_terms.specs.declared.handles.GenericArg.{GenericArg}
 use Rattle.nts_terms.specs.declared.handles.AliasTerm.{AliasTerm}
 use Rattle.nts_terms.specs.declared.handles.Ty.{Ty}

@@ -1,8 +1,7 @@
 //! A table for a canonical input.
 ghost use Rattle.std.specs.Prelude.{◌≡◌, ◌≤◌, ℕ, List, [], map, All, IfOk, OnOk, OnErr, IsOkUnless};
 ghost use Rattle.std.specs.Prelude.{slice_get};
-ghost use Rattle.nts_model.specs.Terms.Substitutions.{leaf_tree};
-ghost use Rattle.nts_model.specs.Derivations.Handlers.{filled};
+ghost use Rattle.nts_model.specs.Terms.Substitutions.{leaf_tree, filled};
 ghost use Rattle.nts_model.specs.Tables.Resolving.{Knows};
 ghost use Rattle.nts_model.specs.Canonical.Inputs.{HaveKinds};
 ghost use Rattle.nts_terms.specs.Modes.{mode_of};

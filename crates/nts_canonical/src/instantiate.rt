@@ -2,7 +2,7 @@
 ghost use Rattle.std.specs.Prelude.{◌≡◌, List, All, IfOk, IfSome, IsOkUnless, option_map, refl};
 ghost use Rattle.std.proofs.Common.{◌∙◌};
 ghost use Rattle.nts_model.specs.Terms.Trees.{Tree};
-ghost use Rattle.nts_model.specs.Derivations.Handlers.{filled};
+ghost use Rattle.nts_model.specs.Terms.Substitutions.{filled};
 ghost use Rattle.nts_store.specs.declared.fault.Fault.TheVariants.{Memory};
 ghost use Rattle.nts_store.specs.Growth.{tree_at};
 ghost use Rattle.nts_store.specs.Filled.{HasValues};

@@ -5,7 +5,7 @@ use Rattle.std.proofs.lemmas.List.{map_push, drop_more}
 use Rattle.std.proofs.Math.Seq.{get_or-append_seam}
 use Rattle.nts_model.specs.declared.labels.TyHead.{TyHead}
 use Rattle.nts_model.specs.Terms.Trees.{Tree, empty, more, node, children}
-use Rattle.nts_model.specs.Derivations.Sequents.{Among}
+use Rattle.nts_model.specs.Lists.{Among}
 use Rattle.nts_model.specs.Derivations.Rules.{related}
 use Rattle.nts_model.specs.Derivations.Handlers.{Candidate}
 use Rattle.nts_store.specs.Growth.{tree_at}

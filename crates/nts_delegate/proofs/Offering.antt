@@ -11,12 +11,12 @@ use Rattle.nts_model.specs.declared.labels.Label.{Label}
 use Rattle.nts_model.specs.declared.labels.Label.TheVariants as label
 use Rattle.nts_model.specs.Terms.Trees.{Tree, empty, more, node, children, any_label, is_canonical, row_length, row_at, row_take, IsRow, IsClosed, IsFormed, kind_of, arguments}
 use Rattle.nts_model.specs.Terms.Scoping.{IsWellBound}
-use Rattle.nts_model.specs.Terms.Substitutions.{Occurs}
+use Rattle.nts_model.specs.Terms.Substitutions.{Occurs, position_of}
 use Rattle.nts_model.specs.Derivations.Related.{pair, unbound}
 use Rattle.nts_terms.specs.declared.handles.Goal.{Goal}
 use Rattle.nts_terms.specs.declared.handles.Predicate.{Predicate}
 use Rattle.nts_store.specs.Growth.{tree_at}
-use Rattle.nts_model.specs.Derivations.Handlers.{position_of, NamesAt, NamesFresh}
+use Rattle.nts_model.specs.Derivations.Handlers.{NamesAt, NamesFresh}
 use Rattle.nts_store.proofs.Growing.{row_take-all}
 use Rattle.nts_delegate.specs.Candidates.{IsAsked, AreEquations, AreNested, IsCandidate, AreCandidates}
 use Rattle.nts_delegate.specs.Clauses.{is_foreign, AreBodies, HoldsClause, AreClauses}

@@ -6,9 +6,11 @@ use Rattle.nts_model.specs.declared.labels.ClauseHead.TheVariants as clause
 use Rattle.nts_model.specs.declared.labels.Label.TheVariants as label
 use Rattle.nts_model.specs.Terms.Trees.{Tree, more, node, children, row_length, IsRow}
 use Rattle.nts_model.specs.Derivations.Related.{arguments, unbound}
-use Rattle.nts_model.specs.Derivations.Sequents.{Among, impl_where_bound, Premise}
+use Rattle.nts_model.specs.Lists.{Among}
+use Rattle.nts_model.specs.Derivations.Sequents.{impl_where_bound, Premise}
 use Rattle.nts_model.specs.Derivations.Rules.{Equation, related, Application}
-use Rattle.nts_model.specs.Derivations.Handlers.{Candidate, certain, never, filled, AreValuesOf, Handler}
+use Rattle.nts_model.specs.Terms.Substitutions.{filled}
+use Rattle.nts_model.specs.Derivations.Handlers.{Candidate, certain, never, AreValuesOf, Handler}
 use Rattle.nts_store.specs.Growth.{tree_at}
 use Rattle.nts_delegate.specs.Clauses.{clauses_of, coinductive_of}
 use Rattle.nts_delegate.specs.Offers.{trait_of}

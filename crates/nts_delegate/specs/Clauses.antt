@@ -15,7 +15,7 @@ use Rattle.nts_model.specs.Terms.Scoping.{IsWellBound}
 use Rattle.nts_store.specs.declared.nodes.NodeId.{NodeId}
 use Rattle.nts_terms.specs.declared.handles.Predicate.{Predicate}
 use Rattle.nts_store.specs.Growth.{tree_at, IsIn}
-use Rattle.nts_model.specs.Derivations.Handlers.{position_of}
+use Rattle.nts_model.specs.Terms.Substitutions.{position_of}
 use Rattle.nts_terms.specs.Handles.{HoldsArgs, HoldsPredicate}
 use Rattle.nts_model.specs.Derivations.Handlers.{NamesAt, NamesFresh}
 use Rattle.nts_delegate.specs.Places.{IsIndexOf}

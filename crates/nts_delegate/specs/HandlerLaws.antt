@@ -9,15 +9,16 @@ use Rattle.nts_model.specs.declared.labels.ListHead.TheVariants as list
 use Rattle.nts_model.specs.declared.labels.Label.TheVariants as label
 use Rattle.nts_model.specs.Terms.Trees.{Tree, empty, more, node, children, any_label, is_canonical, row_length, IsRow, IsClosed, IsFormed, AllFit, any_argument, HavePlaces}
 use Rattle.nts_model.specs.Terms.Trees as trees
-use Rattle.nts_model.specs.Terms.Substitutions.{leaf_tree, replace, Instance, instance_of, Renaming, rename, IsPlain}
+use Rattle.nts_model.specs.Terms.Substitutions.{leaf_tree, replace, Instance, instance_of, Renaming, rename, IsPlain, filled, filled_under}
 use Rattle.nts_model.specs.Derivations.Related.{pair, unbound, arguments}
-use Rattle.nts_model.specs.Derivations.Sequents.{Among, Premise}
+use Rattle.nts_model.specs.Lists.{Among}
+use Rattle.nts_model.specs.Derivations.Sequents.{Premise}
 use Rattle.nts_model.specs.Derivations.Rules.{Equation, Application, normalization, goal_kind, coinductive_trait, other_goal, statement_of, IsHandlers}
 use Rattle.nts_model.proofs.Tables.Under.{eq-self}
 use Rattle.nts_model.specs.Refutation.Coherence.{Covers, RulesAreOffered}
 use Rattle.nts_model.specs.Derivations.Rules.{coherence}
 use Rattle.nts_model.specs.Derivations.Handlers.{meaning}
-use Rattle.nts_model.specs.Derivations.Handlers.{Candidate, filled, filled_under, equation_by, premise_by, AreValuesOf, use_of, IsInstanceFor, application_under, renamed, IsAsked, IsOver, IsEquationOver, IsEmitted, IsNested, IsCandidateFor, CandidatesCommute, InstancesAreRules, CandidatesKeep, IsLawful, kind_of_sort}
+use Rattle.nts_model.specs.Derivations.Handlers.{Candidate, equation_by, premise_by, AreValuesOf, use_of, IsInstanceFor, application_under, renamed, IsAsked, IsOver, IsEquationOver, IsEmitted, IsNested, IsCandidateFor, CandidatesCommute, InstancesAreRules, CandidatesKeep, IsLawful, kind_of_sort}
 use Rattle.nts_model.proofs.Terms.Composing.{IsFormed-instance, IsClosed-instance, Fits-instance}
 use Rattle.nts_terms.proofs.Places.{no_places}
 use Rattle.nts_terms.proofs.Standing.{args_tree}

@@ -4,9 +4,9 @@ use Rattle.nts_model.specs.declared.labels.Sort.{Sort}
 use Rattle.nts_model.specs.declared.labels.Leaf.{Leaf}
 use Rattle.nts_model.specs.Terms.Trees.{Tree, empty, more, node, any_label, is_canonical, IsRow, IsClosed, IsFormed}
 use Rattle.nts_model.specs.Terms.Scoping.{IsWellBound}
-use Rattle.nts_model.specs.Terms.Substitutions.{replace}
-use Rattle.nts_model.specs.Derivations.Sequents.{Among}
-use Rattle.nts_model.specs.Derivations.Handlers.{filled, filled_under, equation_by, premise_by, NamesFresh}
+use Rattle.nts_model.specs.Terms.Substitutions.{replace, filled, filled_under}
+use Rattle.nts_model.specs.Lists.{Among}
+use Rattle.nts_model.specs.Derivations.Handlers.{equation_by, premise_by, NamesFresh}
 use Rattle.nts_delegate.specs.Clauses.{is_foreign}
 use Rattle.nts_delegate.specs.ClauseHandlers.{ClauseTree, ClausesOfTraits, equations_of, asked_in}
 use Rattle.nts_delegate.specs.OwnTerms.{both_false, KeepsFixed, own_replace, own_filled_under, own_replace_filled, filled_nowhere}

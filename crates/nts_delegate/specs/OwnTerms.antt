@@ -9,8 +9,8 @@ use Rattle.nts_model.specs.declared.labels.BoundVarIndexKind.TheVariants as inde
 use Rattle.nts_model.specs.declared.labels.Label.{Label}
 use Rattle.nts_model.specs.declared.labels.Label.TheVariants as label
 use Rattle.nts_model.specs.Terms.Trees.{Tree, empty, more, node, any_label, is_canonical, row_length, IsRow, IsFormed}
-use Rattle.nts_model.specs.Terms.Substitutions.{leaf_tree, put, replace, Occurs, StaysItself}
-use Rattle.nts_model.specs.Derivations.Handlers.{position_of, value_or, filled, filled_under, NamesFresh, IsFixed}
+use Rattle.nts_model.specs.Terms.Substitutions.{leaf_tree, put, replace, Occurs, StaysItself, filled, filled_under, position_of, value_or}
+use Rattle.nts_model.specs.Derivations.Handlers.{NamesFresh, IsFixed}
 use Rattle.nts_model.proofs.Terms.Substituting.{leaf_alone}
 use Rattle.nts_delegate.specs.Clauses.{is_foreign_region, is_foreign_leaf, is_foreign}
 

@@ -5,7 +5,7 @@ use Rattle.nts_model.specs.declared.labels.TyHead.TheVariants as ty
 use Rattle.nts_model.specs.declared.labels.Label.{Label}
 use Rattle.nts_model.specs.declared.labels.Label.TheVariants as label
 use Rattle.nts_model.specs.Terms.Trees.{Tree, more, node}
-use Rattle.nts_model.specs.Derivations.Sequents.{Among}
+use Rattle.nts_model.specs.Lists.{Among}
 use Rattle.nts_model.specs.Derivations.Rules.{related}
 use Rattle.nts_model.specs.Derivations.Handlers.{Candidate}
 

@@ -2,7 +2,7 @@
 ghost use Rattle.std.specs.Prelude.{◌≡◌, ◌↔◌, IfOk, IsTrue, IsOkUnless, slice_get};
 ghost use Rattle.nts_model.specs.Terms.Trees.{of_sort};
 ghost use Rattle.nts_store.specs.Growth.{IsIn};
-ghost use Rattle.nts_model.specs.Derivations.Handlers.{position_of};
+ghost use Rattle.nts_model.specs.Terms.Substitutions.{position_of};
 ghost use Rattle.nts_terms.specs.Handles.{HoldsArgs, HoldsPredicate};
 ghost use Rattle.nts_model.specs.Derivations.Handlers.{IsOfSort, NamesAt};
 ghost use Rattle.nts_delegate.specs.Clauses.{MayHave, is_foreign, is_foreign_leaf, IsClauseTerm, HoldsClause};

@@ -2,10 +2,9 @@
 use Rattle.std.proofs.Common.{ℕ, ◌≤◌, List, Option, Some, None, IfSome, option_map, slice_get, sym, subst}
 use Rattle.std.proofs.lemmas.Option.{slice_get-map}
 use Rattle.nts_model.specs.declared.labels.VariableKind.{VariableKind}
-use Rattle.nts_model.specs.Terms.Trees.{Tree, empty, more, node}
+use Rattle.nts_model.specs.Terms.Trees.{Tree, empty, more, node, variable_of}
 use Rattle.nts_model.specs.Tables.Contents.{map_slot}
 use Rattle.nts_model.specs.Tables.Passing.{AllLabels}
-use Rattle.nts_model.specs.Tables.Resolving.{variable_of}
 use Rattle.nts_unify.specs.declared.contents.Variable.{Variable}
 use Rattle.nts_unify.specs.Entries.{Entries}
 use Rattle.nts_unify.specs.Reading.{content_of, slot_of}

@@ -2,10 +2,10 @@
 use Rattle.std.specs.Prelude.{◌≡◌, ◌⊎◌, ◌+◌, ◌-◌, ◌≤◌, ℕ, Bool, true, false, List, [], ◌∷◌, ◌++◌, length, take, Option, Some, None, IsSome, IfSome}
 use Rattle.nts_model.specs.declared.labels.Sort.{Sort}
 use Rattle.nts_model.specs.declared.labels.VariableKind.{VariableKind}
-use Rattle.nts_model.specs.Terms.Trees.{Tree, empty, more, node, any_label, is_alias, IsClosed, IsClosedUnder}
+use Rattle.nts_model.specs.Terms.Trees.{Tree, empty, more, node, any_label, is_alias, IsClosed, IsClosedUnder, variable_of}
 use Rattle.nts_model.specs.Tables.Contents.{Content, universe_of}
 use Rattle.nts_model.specs.Tables.Passing.{AllLabels}
-use Rattle.nts_model.specs.Tables.Resolving.{deeply_resolved, variable_of}
+use Rattle.nts_model.specs.Tables.Resolving.{deeply_resolved}
 use Rattle.nts_folding.specs.Folding.{Walk, Stops}
 use Rattle.nts_placeholder.specs.declared.maps.Placeholder.{Placeholder}
 use Rattle.nts_placeholder.specs.declared.maps.BoundVar.{BoundVar}

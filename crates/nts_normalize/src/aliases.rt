@@ -1,6 +1,7 @@
 //! Aliases among terms, and the variables that are made for their answers.
 ghost use Rattle.std.specs.Prelude.{◌≡◌, ◌↔◌, ◌≤◌, true, false, IfSome, IsNone, IsTrue, IfOk, IsOkUnless};
-ghost use Rattle.nts_model.specs.Tables.Resolving.{Knows, variable_of};
+ghost use Rattle.nts_model.specs.Terms.Trees.{variable_of};
+ghost use Rattle.nts_model.specs.Tables.Resolving.{Knows};
 ghost use Rattle.nts_store.specs.Growth.{tree_at, IsIn};
 ghost use Rattle.nts_terms.specs.Handles.{HoldsTerm, HoldsResult};
 ghost use Rattle.nts_terms.specs.Kinds.{tree_of_alias};

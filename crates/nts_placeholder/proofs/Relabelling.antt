@@ -8,11 +8,11 @@ use Rattle.nts_model.specs.declared.labels.ListHead.{ListHead}
 use Rattle.nts_model.specs.declared.labels.ListHead.TheVariants as list
 use Rattle.nts_model.specs.declared.labels.Label.{Label}
 use Rattle.nts_model.specs.declared.labels.Label.TheVariants as label
-use Rattle.nts_model.specs.Terms.Trees.{Tree, empty, more, node, label_of, binders}
+use Rattle.nts_model.specs.Terms.Trees.{Tree, empty, more, node, label_of, binders, variable_of}
 use Rattle.nts_model.specs.Terms.Scoping.{listed_by, listed_in, sorts_of, HasSortAt, IsListed, AllListed, ListsBound}
 use Rattle.nts_model.specs.Terms.Placeholders.{CanName, leaf_level}
 use Rattle.nts_model.specs.Tables.Contents.{Content, kind_at}
-use Rattle.nts_model.specs.Tables.Resolving.{variable_of, Knows, KnowsLabel, KnowsVariable}
+use Rattle.nts_model.specs.Tables.Resolving.{Knows, KnowsLabel, KnowsVariable}
 use Rattle.nts_placeholder.specs.declared.maps.Placeholder.{Placeholder}
 use Rattle.nts_placeholder.specs.declared.maps.BoundVar.{BoundVar}
 use Rattle.nts_placeholder.specs.Closing.{placeholder_of, entry_of, closed_at, closed_placeholder, closed_label, closed_by}

@@ -3,9 +3,10 @@ use Rattle.std.proofs.Common.{◌≡◌, inl, inr, ℕ, zero, suc, ◌+◌, ◌<
 use Rattle.std.proofs.lemmas.List.{map-append, take_more}
 use Rattle.std.proofs.lemmas.List.Elements.{All-push}
 use Rattle.nts_model.specs.Terms.Trees.{Tree}
-use Rattle.nts_model.specs.Derivations.Sequents.{Among}
+use Rattle.nts_model.specs.Lists.{Among}
 use Rattle.nts_model.specs.Tables.Passing.{TreePasses}
-use Rattle.nts_model.specs.Derivations.Handlers.{filled, premise_by}
+use Rattle.nts_model.specs.Terms.Substitutions.{filled}
+use Rattle.nts_model.specs.Derivations.Handlers.{premise_by}
 use Rattle.nts_model.specs.declared.labels.Sort.{Sort}
 use Rattle.nts_certainty.specs.declared.sources.GoalSource.{GoalSource}
 use Rattle.nts_store.specs.declared.nodes.NodeId.{NodeId}

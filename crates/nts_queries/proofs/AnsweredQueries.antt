@@ -11,10 +11,10 @@ use Rattle.nts_model.proofs.Derivations.Assuming.{derived_instance}
 use Rattle.nts_model.specs.Terms.Trees.{Tree, more}
 use Rattle.nts_model.specs.Tables.Contents.{Content}
 use Rattle.nts_model.specs.Tables.Resolving.{Knows}
-use Rattle.nts_model.specs.Derivations.Sequents.{Among}
+use Rattle.nts_model.specs.Lists.{Among}
 use Rattle.nts_model.specs.Tables.Holding.{Continues}
 use Rattle.nts_model.specs.Derivations.Rules.{Meaning, Mode}
-use Rattle.nts_model.specs.Derivations.Handlers.{filled}
+use Rattle.nts_model.specs.Terms.Substitutions.{filled}
 use Rattle.nts_model.specs.Canonical.Inputs.{CanonicalInput as Form, PositionKind}
 use Rattle.nts_model.specs.Tables.Passing.{TreePasses, TablePasses, BringsOnly}
 use Rattle.nts_model.specs.Answers.Responses.{Response as Answer, IsQueryTable, IsOverPositions, answer_sequent}

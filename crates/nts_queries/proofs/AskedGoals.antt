@@ -8,7 +8,7 @@ use Rattle.nts_model.specs.declared.labels.Label.{Label}
 use Rattle.nts_model.specs.Terms.Trees.{Tree, empty, IsClosed}
 use Rattle.nts_model.specs.Tables.Contents.{Content}
 use Rattle.nts_model.specs.Terms.Substitutions.{leaf_tree, Occurs}
-use Rattle.nts_model.specs.Derivations.Sequents.{Among}
+use Rattle.nts_model.specs.Lists.{Among}
 use Rattle.nts_model.specs.Derivations.Rules.{Meaning, Mode}
 use Rattle.nts_model.specs.Derivations.Handlers.{Handler}
 use Rattle.nts_model.specs.Derivations.Proofs.{Assumed}

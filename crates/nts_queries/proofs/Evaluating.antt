@@ -6,9 +6,9 @@ use Rattle.nts_model.specs.Tables.Equations.{AreRelated}
 use Rattle.nts_model.specs.declared.labels.Sort.{Sort}
 use Rattle.nts_model.specs.declared.labels.Relation.TheVariants as relation
 use Rattle.nts_model.specs.declared.labels.Label.{Label}
-use Rattle.nts_model.specs.Terms.Trees.{Tree, empty, more, node, kind_of, kind_of_label, of_sort, NodeKind, environment, bound_predicate, IsClosed}
+use Rattle.nts_model.specs.Terms.Trees.{Tree, empty, more, node, kind_of, kind_of_label, of_sort, NodeKind, environment, bound_predicate, IsClosed, variable_tree}
 use Rattle.nts_model.specs.Tables.Contents.{Content, with_slot, kind_at}
-use Rattle.nts_model.specs.Tables.Resolving.{Knows, variable_tree, deeply_resolved}
+use Rattle.nts_model.specs.Tables.Resolving.{Knows, deeply_resolved}
 use Rattle.nts_store.specs.declared.nodes.NodeId.{NodeId}
 use Rattle.nts_terms.specs.declared.handles.Goal.{Goal}
 use Rattle.nts_store.specs.Growth.{tree_at, trees_at, IsIn, AllIn, Extends}
@@ -16,9 +16,10 @@ use Rattle.nts_terms.specs.Handles.{Holds}
 use Rattle.nts_store.specs.Kept.{AllIn-kept, map-kept}
 use Rattle.nts_store.specs.Filled.{HasValue, HasValues}
 use Rattle.nts_model.specs.Derivations.Rules.{Mode}
-use Rattle.nts_model.specs.Derivations.Sequents.{Among}
+use Rattle.nts_model.specs.Lists.{Among}
 use Rattle.nts_model.specs.Tables.Passing.{TreePasses, PassesQueries}
-use Rattle.nts_model.specs.Derivations.Handlers.{Handler, position_of, filled, IsValueOf, AreValuesOf, IsOfSort, NamesAt, NamesFresh}
+use Rattle.nts_model.specs.Terms.Substitutions.{filled, position_of}
+use Rattle.nts_model.specs.Derivations.Handlers.{Handler, IsValueOf, AreValuesOf, IsOfSort, NamesAt, NamesFresh}
 use Rattle.nts_model.specs.Terms.Regions.{of_variable}
 use Rattle.nts_store.proofs.Growing.{Extends-trans, Extends-refl, IsIn-extended}
 use Rattle.nts_unify.specs.Entries.{front, Entries, added, constrained}

@@ -6,13 +6,13 @@ use Rattle.nts_model.specs.Terms.Trees.{Tree, kind_of, FitsPlace, IsClosed}
 use Rattle.nts_model.specs.Tables.Contents.{Content, Recorded}
 use Rattle.nts_model.specs.Tables.Resolving.{Knows}
 use Rattle.nts_model.specs.Terms.Substitutions.{leaf_tree}
-use Rattle.nts_model.specs.Derivations.Sequents.{Among}
+use Rattle.nts_model.specs.Lists.{Among}
 use Rattle.nts_model.specs.Canonical.Inputs.{Input, PositionKind, position_kind, canonical_of, originals}
 use Rattle.nts_model.specs.Tables.Passing.{AllPass}
 use Rattle.nts_model.specs.Answers.Responses.{Findings, IsLabelIn, IsQueryTable, IsResponseTo}
 use Rattle.nts_model.proofs.Tables.Slots.{Knows-kept}
 use Rattle.nts_model.proofs.Tables.Sound.{SameStates, IsSound-same}
-use Rattle.nts_model.proofs.Derivations.ProvedLater.{contains_none}
+use Rattle.nts_model.proofs.Lists.{contains_none}
 use Rattle.nts_model.proofs.Responses.Querying.{query_fits}
 use Rattle.nts_certainty.specs.declared.certainty.Certainty.{Certainty}
 use Rattle.nts_certainty.specs.declared.certainty.Certainty.TheVariants as certainty

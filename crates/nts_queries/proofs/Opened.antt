@@ -19,7 +19,7 @@ use Rattle.nts_model.specs.Refutation.Opening.{binds, placeholder_in, entered, o
 use Rattle.nts_model.specs.declared.labels.Variance.{Variance}
 use Rattle.nts_model.specs.Tables.Holding.{Continues}
 use Rattle.nts_model.specs.Tables.Resolving.{Knows}
-use Rattle.nts_model.specs.Derivations.Sequents.{Among}
+use Rattle.nts_model.specs.Lists.{Among}
 use Rattle.nts_model.specs.Derivations.Rules.{Mode}
 use Rattle.nts_model.specs.Derivations.Handlers as handlers
 use Rattle.nts_model.specs.Derivations.Handlers.{Handler, meaning, IsLawful}

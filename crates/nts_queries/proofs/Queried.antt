@@ -12,7 +12,7 @@ use Rattle.nts_model.specs.Terms.Placeholders.{leaf_level, CanName}
 use Rattle.nts_model.specs.Tables.Levels.{NamesAll, term_level}
 use Rattle.nts_model.specs.Tables.Resolving.{Knows, KnowsLabel}
 use Rattle.nts_model.specs.Terms.Substitutions.{leaf_tree, Occurs}
-use Rattle.nts_model.specs.Derivations.Sequents.{Among}
+use Rattle.nts_model.specs.Lists.{Among}
 use Rattle.nts_model.specs.Canonical.Inputs.{Input, IsInput, OccursIn, originals}
 use Rattle.nts_model.proofs.Canonical.CanonicalForms.{originals_are_leaves}
 use Rattle.nts_model.proofs.Responses.Answering.{canonical_environment_over, canonical_predicate_over}

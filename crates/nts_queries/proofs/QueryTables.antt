@@ -14,14 +14,14 @@ use Rattle.nts_model.specs.declared.labels.Label.{Label}
 use Rattle.nts_model.specs.declared.labels.Label.TheVariants as label
 use Rattle.nts_model.specs.Terms.Trees.{Tree, empty, more, node, IsFormed}
 use Rattle.nts_model.specs.Tables.Contents.{Content, SlotState, unset, known, map_slot, Slot}
-use Rattle.nts_model.specs.Terms.Substitutions.{leaf_tree}
-use Rattle.nts_model.specs.Derivations.Sequents.{Among}
-use Rattle.nts_model.specs.Derivations.Handlers.{filled, IsFixed}
+use Rattle.nts_model.specs.Terms.Substitutions.{leaf_tree, filled}
+use Rattle.nts_model.specs.Lists.{Among}
+use Rattle.nts_model.specs.Derivations.Handlers.{IsFixed}
 use Rattle.nts_model.specs.Canonical.Inputs.{PositionKind, type_variable, integer_variable, float_variable, const_variable, region_variable, placeholder}
 use Rattle.nts_model.specs.Tables.Passing.{AllLabels, AllPass, TreePasses, TablePasses, PassesQueries, IsQueryRegion, IsQueryConstant}
 use Rattle.nts_model.specs.Answers.Responses.{IsLabelIn, IsRegionIn, IsConstantIn, IsOverPositions, universe_of_kind}
 use Rattle.nts_model.proofs.Tables.Under.{eq-self}
-use Rattle.nts_model.proofs.Derivations.ProvedLater.{contains_none}
+use Rattle.nts_model.proofs.Lists.{contains_none}
 use Rattle.nts_model.proofs.Responses.Bringing.{passes-filled}
 use Rattle.nts_unify.specs.declared.contents.Variable.{Variable}
 use Rattle.nts_unify.specs.declared.contents.HiddenType.{HiddenType}

@@ -15,11 +15,13 @@ use Rattle.nts_model.specs.Tables.Contents.{Content, Recorded}
 use Rattle.nts_model.specs.Tables.Resolving.{deeply_resolved, Knows}
 use Rattle.nts_model.specs.Tables.Holding.{AreOne, IsTrivial, HasSides, HoldsConstraint, Continues}
 use Rattle.nts_model.specs.Tables.Alike.{Alike, one_tree, two_regions, one_label, two_rows, HoldsEqual, AreAlike}
-use Rattle.nts_model.specs.Derivations.Sequents.{Among, Premise}
+use Rattle.nts_model.specs.Lists.{Among}
+use Rattle.nts_model.specs.Derivations.Sequents.{Premise}
 use Rattle.nts_model.specs.Derivations.Rules.{Mode, Meaning, GoalKind, goal_kind, step_kind}
 use Rattle.nts_model.specs.Derivations.Proofs.{Assumed, passed}
 use Rattle.nts_model.specs.Searching.Stacks.{IsProvedFrom}
-use Rattle.nts_model.specs.Derivations.Handlers.{Handler, meaning, Candidate, certain, filled, AreValuesOf}
+use Rattle.nts_model.specs.Terms.Substitutions.{filled}
+use Rattle.nts_model.specs.Derivations.Handlers.{Handler, meaning, Candidate, certain, AreValuesOf}
 use Rattle.nts_model.specs.Derivations.Proving as proving
 use Rattle.nts_model.specs.Derivations.Proving.{HoldsTerms, AreConstraintsOf, recorded_as, sequent_at, AreEquated, HoldsEquationAt, IsHeldAt}
 use Rattle.nts_model.proofs.Tables.Held.{Continues-refl, Continues-trans, HoldsConstraint-continues, HoldsConstraint-with_constraint}

@@ -2,7 +2,7 @@
 use Rattle.std.proofs.Common.{⊎_elim, List, [], ◌∷◌, map, sym, subst}
 use Rattle.nts_model.specs.declared.labels.Sort.{Sort}
 use Rattle.nts_model.specs.Terms.Trees.{Tree, IsClosed}
-use Rattle.nts_model.specs.Derivations.Sequents.{Among}
+use Rattle.nts_model.specs.Lists.{Among}
 use Rattle.nts_model.specs.Derivations.Handlers.{AreValuesOf}
 use Rattle.nts_model.proofs.Responses.ChosenClosed.{closed-filled, closed_get}
 use Rattle.nts_store.specs.declared.nodes.NodeId.{NodeId}

@@ -4,12 +4,12 @@ use Rattle.std.proofs.lemmas.List.{take_more}
 use Rattle.nts_model.specs.declared.labels.Sort.{Sort}
 use Rattle.nts_model.specs.declared.labels.Sort.TheVariants as sort
 use Rattle.nts_model.specs.declared.labels.Leaf.{Leaf}
-use Rattle.nts_model.specs.Terms.Trees.{Tree}
+use Rattle.nts_model.specs.Terms.Trees.{Tree, variable_tree}
 use Rattle.nts_model.specs.Tables.Contents.{Content}
-use Rattle.nts_model.specs.Tables.Resolving.{variable_tree, Knows}
-use Rattle.nts_model.specs.Terms.Substitutions.{leaf_tree, Occurs}
+use Rattle.nts_model.specs.Tables.Resolving.{Knows}
+use Rattle.nts_model.specs.Terms.Substitutions.{leaf_tree, Occurs, filled}
 use Rattle.nts_model.specs.Tables.Equations.{AreRelated, AreUnrelated}
-use Rattle.nts_model.specs.Derivations.Handlers.{filled, kind_of_sort}
+use Rattle.nts_model.specs.Derivations.Handlers.{kind_of_sort}
 use Rattle.nts_model.specs.Answers.Applying.{IsProperContent, IsNew}
 use Rattle.nts_model.specs.Refutation.Choosing.{left_of, right_of, Freshens, EquatesAll, FailsToEquate, MeetsEquations}
 use Rattle.nts_model.proofs.Refutation.Choosing.{AreOfTable, IsProperContent-with_slot, fresh_known, equations_known, unmet_when_failed}

@@ -17,7 +17,7 @@ use Rattle.nts_model.specs.declared.labels.BoundVarIndexKind.TheVariants as inde
 use Rattle.nts_model.specs.declared.labels.Label.TheVariants as label
 use Rattle.nts_model.specs.Terms.Trees.{Tree, empty, node, kind_of, of_sort}
 use Rattle.nts_model.specs.Terms.Substitutions.{leaf_tree, Occurs}
-use Rattle.nts_model.specs.Derivations.Sequents.{Among}
+use Rattle.nts_model.specs.Lists.{Among}
 use Rattle.nts_model.specs.Canonical.Numbered.{position}
 use Rattle.nts_model.specs.Canonical.Inputs.{Input, IsInput, PositionKind, type_variable, integer_variable, float_variable, const_variable, region_variable, placeholder, position_kind, canonical_of, originals}
 use Rattle.nts_model.specs.Searching.Driving.{sort_at, positions_from, unconstrained}

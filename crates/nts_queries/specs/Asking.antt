@@ -3,8 +3,7 @@
 use Rattle.std.specs.Prelude.{◌≡◌, ℕ, List, [], map}
 use Rattle.nts_model.specs.Terms.Trees.{Tree, empty}
 use Rattle.nts_model.specs.Tables.Contents.{Content}
-use Rattle.nts_model.specs.Terms.Substitutions.{leaf_tree}
-use Rattle.nts_model.specs.Derivations.Handlers.{filled}
+use Rattle.nts_model.specs.Terms.Substitutions.{leaf_tree, filled}
 use Rattle.nts_model.specs.Canonical.Inputs.{Input, IsInput, CanonicalInput, PositionKind}
 use Rattle.nts_model.specs.Answers.Responses.{Findings, AreFindings, Response, response_of}
 use Rattle.nts_unify.specs.Reading.{content_of}

@@ -10,8 +10,8 @@ use Rattle.nts_model.specs.Derivations.Related.{Constraint}
 use Rattle.nts_model.specs.Derivations.Sequents.{Premise}
 use Rattle.nts_model.specs.Derivations.Rules.{Mode, Equation, Meaning, GoalKind, step_kind}
 use Rattle.nts_model.specs.Derivations.Proofs.{Assumed, passed}
-use Rattle.nts_model.specs.Searching.Stacks.{IsProvedFrom, IsProvedFromAt, HasHeldRankedProof}
-use Rattle.nts_model.specs.Derivations.Proving.{HoldsTerms, AreConstraintsOf, HoldsEquationAt, IsHeldAt, HasHeldProof}
+use Rattle.nts_model.specs.Searching.Stacks.{IsProvedFrom, IsProvedFromAt}
+use Rattle.nts_model.specs.Derivations.Proving.{HoldsTerms, AreConstraintsOf, HoldsEquationAt, IsHeldAt, HasHeldProof, HasHeldRankedProof}
 use Rattle.nts_store.specs.declared.nodes.NodeId.{NodeId}
 use Rattle.nts_terms.specs.declared.handles.Goal.{Goal}
 use Rattle.nts_store.specs.Growth.{tree_at}

@@ -9,11 +9,12 @@ use Rattle.nts_model.specs.Tables.Resolving.{IsSound, deeply_resolved}
 use Rattle.nts_model.specs.Tables.Levels.{AreCurrent}
 use Rattle.nts_model.specs.Tables.Equations.{AreUnrelated}
 use Rattle.nts_model.specs.Derivations.Related.{Constraint}
-use Rattle.nts_model.specs.Derivations.Sequents.{Source, type_relating, normalize_goal, inductive, Premise, Among}
+use Rattle.nts_model.specs.Lists.{Among}
+use Rattle.nts_model.specs.Derivations.Sequents.{Source, type_relating, normalize_goal, inductive, Premise}
 use Rattle.nts_model.specs.Derivations.Rules.{Mode, coherence}
-use Rattle.nts_model.specs.Terms.Substitutions.{leaf_tree}
+use Rattle.nts_model.specs.Terms.Substitutions.{leaf_tree, filled}
 use Rattle.nts_model.specs.Canonical.Numbered.{position}
-use Rattle.nts_model.specs.Derivations.Handlers.{Handler, Candidate, IsAsked, filled, constraint_by, premise_by}
+use Rattle.nts_model.specs.Derivations.Handlers.{Handler, Candidate, IsAsked, constraint_by, premise_by}
 use Rattle.nts_model.specs.Refutation.Choosing.{Freshens, EquatesAll, IsMet}
 use Rattle.nts_model.specs.Refutation.Forcing.{Adds, AddsAll}
 use Rattle.nts_model.specs.Refutation.Opening.{entered, opened_in}

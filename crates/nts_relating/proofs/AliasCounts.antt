@@ -8,9 +8,9 @@ use Rattle.nts_model.specs.declared.labels.Leaf.TheVariants as leaf
 use Rattle.nts_model.specs.declared.labels.BoundVarIndexKind.TheVariants as index
 use Rattle.nts_model.specs.declared.labels.Label.{Label}
 use Rattle.nts_model.specs.declared.labels.Label.TheVariants as label
-use Rattle.nts_model.specs.Terms.Trees.{Tree, empty, more, node, binders, is_alias, IsBoundBelow, IsClosedUnder}
+use Rattle.nts_model.specs.Terms.Trees.{Tree, empty, more, node, binders, is_alias, IsBoundBelow, IsClosedUnder, infer_of, variable_of, variable_tree}
 use Rattle.nts_model.specs.Tables.Contents.{Content, Slot, SlotState, unset, link, known, state_of, kind_at, bound_to}
-use Rattle.nts_model.specs.Tables.Resolving.{variable_of, infer_of, variable_tree, under, kind_or_type, value_of_state, value_at, resolved, rooted, rooted_variable, deeply_resolved, Knows, IsSound, IsOneOf, AllUnset}
+use Rattle.nts_model.specs.Tables.Resolving.{under, kind_or_type, value_of_state, value_at, resolved, rooted, rooted_variable, deeply_resolved, Knows, IsSound, IsOneOf, AllUnset}
 use Rattle.nts_model.specs.Terms.Regions.{IsRegion, RegionName, name_of_label}
 use Rattle.nts_model.specs.Tables.Holding.{Continues}
 use Rattle.nts_model.specs.Tables.Alike.{Alike, one_tree, two_regions, one_label, two_rows, AreAlike}

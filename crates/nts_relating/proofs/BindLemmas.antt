@@ -6,7 +6,7 @@ use Rattle.nts_model.specs.declared.labels.VariableKind.{VariableKind}
 use Rattle.nts_model.specs.declared.labels.VariableKind.TheVariants as kind
 use Rattle.nts_model.specs.declared.labels.Leaf.TheVariants as leaf
 use Rattle.nts_model.specs.declared.labels.Label.TheVariants as label
-use Rattle.nts_model.specs.Tables.Resolving.{variable_tree, resolved, rooted, Knows, variable_rank, rank_of_kind}
+use Rattle.nts_model.specs.Tables.Resolving.{resolved, rooted, Knows, variable_rank, rank_of_kind}
 use Rattle.nts_model.specs.Tables.Levels.{NamesAll, level_in, term_level, region_level}
 use Rattle.nts_model.specs.Terms.Fitting.{Fits}
 use Rattle.nts_model.specs.Tables.Worlds.{inst, IsValue}
@@ -30,7 +30,7 @@ use Rattle.nts_relating.proofs.AliasCounts.{aliases_one, aliases_known, unset_no
 use Rattle.nts_relating.proofs.Plain.{plain_one, plain_known, unset_plain}
 use Rattle.nts_relating.proofs.PairLemmas.{set_one}
 use Rattle.nts_relating.proofs.Ranks.{kind_of-like}
-use Rattle.nts_model.specs.Terms.Trees.{Tree, empty, of_sort, sort_of_variable, kind_of, any_label, is_alias, IsFormed}
+use Rattle.nts_model.specs.Terms.Trees.{Tree, empty, of_sort, sort_of_variable, kind_of, any_label, is_alias, IsFormed, variable_tree}
 use Rattle.nts_model.specs.Tables.Contents.{Content, unset, known, state_of, kind_at, bound_to}
 use Rattle.nts_model.proofs.Tables.Slots.{length-slice_set, slice_get_below}
 use Rattle.nts_model.proofs.Tables.Binding.{IsKnowable, kind_at-set, IsSound-known, resolved-known_value}

@@ -8,9 +8,9 @@ use Rattle.nts_model.specs.declared.labels.VariableKind.TheVariants as kind
 use Rattle.nts_model.specs.declared.labels.Leaf.TheVariants as leaf
 use Rattle.nts_model.specs.declared.labels.Label.{Label}
 use Rattle.nts_model.specs.declared.labels.Label.TheVariants as label
-use Rattle.nts_model.specs.Terms.Trees.{Tree, empty, more, node, of_sort, kind_of, kind_of_label, IsBoundBelow, Meets, shape}
+use Rattle.nts_model.specs.Terms.Trees.{Tree, empty, more, node, of_sort, kind_of, kind_of_label, IsBoundBelow, Meets, shape, infer_of, variable_of, variable_tree}
 use Rattle.nts_model.specs.Tables.Contents.{Content, Slot, unset, link, state_of, universe_of, kind_at, with_slot}
-use Rattle.nts_model.specs.Tables.Resolving.{variable_of, variable_tree, infer_of, IsInfer, Knows, KnowsVariable, IsSound, Lacks, LacksAt, resolved, rooted, variable_rank}
+use Rattle.nts_model.specs.Tables.Resolving.{IsInfer, Knows, KnowsVariable, IsSound, Lacks, LacksAt, resolved, rooted, variable_rank}
 use Rattle.nts_model.specs.Terms.Placeholders.{CanName}
 use Rattle.nts_model.specs.Tables.Passing.{BringsNoLabels}
 use Rattle.nts_model.specs.Tables.Levels.{NamesAll, term_level, region_level}

@@ -14,9 +14,9 @@ use Rattle.nts_model.specs.declared.labels.FreeRegion.TheVariants as region
 use Rattle.nts_model.specs.declared.labels.Constant.TheVariants as constant
 use Rattle.nts_model.specs.declared.labels.ListHead.TheVariants as list
 use Rattle.nts_model.specs.declared.labels.TyHead.TheVariants as ty
-use Rattle.nts_model.specs.Terms.Trees.{Tree, empty, more, node, NodeKind, of_sort, kind_of, kind_of_label, any_label, is_infer, children, row_length, row_at, row_take, row_push, IsRow, Place, Shape, in_order, each, FitsPlace, HavePlaces, AllFit, Meets, shape, binders, IsBoundBelow, IsClosedUnder, is_region_infer, is_placeholder}
+use Rattle.nts_model.specs.Terms.Trees.{Tree, empty, more, node, NodeKind, of_sort, kind_of, kind_of_label, any_label, is_infer, children, row_length, row_at, row_take, row_push, IsRow, Place, Shape, in_order, each, FitsPlace, HavePlaces, AllFit, Meets, shape, binders, IsBoundBelow, IsClosedUnder, is_region_infer, is_placeholder, infer_of, variable_of, variable_tree}
 use Rattle.nts_model.specs.Tables.Contents.{Content, universe_of, kind_at}
-use Rattle.nts_model.specs.Tables.Resolving.{variable_of, variable_tree, infer_of, IsInfer, Knows, IsSound, Lacks, resolved, deeply_resolved, rooted, rooted_variable, root_of, left_to_resolve, rank_of, variable_rank}
+use Rattle.nts_model.specs.Tables.Resolving.{IsInfer, Knows, IsSound, Lacks, resolved, deeply_resolved, rooted, rooted_variable, root_of, left_to_resolve, rank_of, variable_rank}
 use Rattle.nts_model.specs.Terms.Fitting.{Fits}
 use Rattle.nts_model.specs.Terms.Placeholders.{CanName}
 use Rattle.nts_model.specs.Tables.Passing.{TreePasses, TablePasses}

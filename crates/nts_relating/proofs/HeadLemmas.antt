@@ -6,9 +6,9 @@ use Rattle.nts_model.specs.declared.labels.VariableKind.TheVariants as kind
 use Rattle.nts_model.specs.declared.labels.Leaf.TheVariants as leaf
 use Rattle.nts_model.specs.declared.labels.Label.{Label}
 use Rattle.nts_model.specs.declared.labels.Label.TheVariants as label
-use Rattle.nts_model.specs.Terms.Trees.{Tree, node, NodeKind, of_sort, sort_of_variable, kind_of, kind_of_label, children, label_of, shape, Meets, in_order, IsClosed}
+use Rattle.nts_model.specs.Terms.Trees.{Tree, node, NodeKind, of_sort, sort_of_variable, kind_of, kind_of_label, children, label_of, shape, Meets, in_order, IsClosed, infer_of, variable_of, variable_tree}
 use Rattle.nts_model.specs.Tables.Contents.{Content, known, state_of, kind_at}
-use Rattle.nts_model.specs.Tables.Resolving.{variable_of, variable_tree, infer_of, IsInfer, Knows, KnowsVariable, resolved, rank_of, rank_of_kind, variable_rank}
+use Rattle.nts_model.specs.Tables.Resolving.{IsInfer, Knows, KnowsVariable, resolved, rank_of, rank_of_kind, variable_rank}
 use Rattle.nts_model.proofs.Terms.Variables.{infer_label}
 use Rattle.nts_model.proofs.Tables.Roots.{kind_at-reaches}
 use Rattle.nts_model.proofs.Tables.Resolved.{KnownStep, known_step, resolved-variable_reaches}

@@ -7,9 +7,9 @@ use Rattle.nts_model.specs.declared.labels.VariableKind.TheVariants as kind
 use Rattle.nts_model.specs.declared.labels.Leaf.TheVariants as leaf
 use Rattle.nts_model.specs.declared.labels.Label.{Label}
 use Rattle.nts_model.specs.declared.labels.Label.TheVariants as label
-use Rattle.nts_model.specs.Terms.Trees.{Tree, empty, more, node, row_length, row_at, IsRow, any_label, is_infer, is_region_infer, is_placeholder, is_placeholder_constant, is_canonical}
+use Rattle.nts_model.specs.Terms.Trees.{Tree, empty, more, node, row_length, row_at, IsRow, any_label, is_infer, is_region_infer, is_placeholder, is_placeholder_constant, is_canonical, variable_of}
 use Rattle.nts_model.specs.Tables.Contents.{Content}
-use Rattle.nts_model.specs.Tables.Resolving.{variable_of, KnowsLeaves, Knows, KnowsVariable}
+use Rattle.nts_model.specs.Tables.Resolving.{KnowsLeaves, Knows, KnowsVariable}
 use Rattle.nts_model.specs.Terms.Scoping.{IsWellBound}
 use Rattle.nts_model.proofs.Terms.Unpositioned.{leaves_known}
 use Rattle.nts_store.specs.Labels.{AllLabels}

@@ -3,9 +3,9 @@ use Rattle.std.proofs.Common.{◌≡◌, ℕ, ◌+◌, ◌<◌, ◌≤◌, Bool,
 use Rattle.std.specs.Prelude.{IsTrue, ◌↔◌, ◌&&◌}
 use Rattle.std.specs.List.{list_any}
 use Rattle.nts_model.specs.declared.labels.Label.{Label}
-use Rattle.nts_model.specs.Terms.Trees.{Tree, node, size, children}
+use Rattle.nts_model.specs.Terms.Trees.{Tree, node, size, children, variable_of}
 use Rattle.nts_model.specs.Tables.Contents.{Content}
-use Rattle.nts_model.specs.Tables.Resolving.{Knows, variable_of, IsSound, rooted}
+use Rattle.nts_model.specs.Tables.Resolving.{Knows, IsSound, rooted}
 use Rattle.nts_model.specs.Tables.Worlds.{World, inst, renamed}
 use Rattle.nts_model.specs.Tables.Holding.{AreOne}
 use Rattle.nts_model.specs.Tables.Equations.{Equates, AllAlike, AreRelated}

@@ -8,9 +8,9 @@ use Rattle.nts_model.specs.declared.labels.VariableKind.TheVariants as kind
 use Rattle.nts_model.specs.declared.labels.Leaf.TheVariants as leaf
 use Rattle.nts_model.specs.declared.labels.Label.{Label}
 use Rattle.nts_model.specs.declared.labels.Label.TheVariants as label
-use Rattle.nts_model.specs.Terms.Trees.{Tree, node, children, shape, Meets, any_label, is_infer, is_region_infer, is_placeholder}
+use Rattle.nts_model.specs.Terms.Trees.{Tree, node, children, shape, Meets, any_label, is_infer, is_region_infer, is_placeholder, infer_of, variable_of, variable_tree}
 use Rattle.nts_model.specs.Tables.Contents.{Content, unset, state_of, kind_at, universe_of, with_slot}
-use Rattle.nts_model.specs.Tables.Resolving.{variable_of, infer_of, variable_tree, IsSound, resolved, root_of, Knows, variable_rank}
+use Rattle.nts_model.specs.Tables.Resolving.{IsSound, resolved, root_of, Knows, variable_rank}
 use Rattle.nts_model.specs.Terms.Regions.{RegionName, of_variable, IsRegion, name_of_label}
 use Rattle.nts_model.proofs.Tables.Fitting.{region_label}
 use Rattle.nts_model.proofs.Tables.Roots.{root_of-root}

@@ -5,10 +5,10 @@ use Rattle.nts_model.specs.declared.labels.VariableKind.TheVariants as kind
 use Rattle.nts_model.specs.declared.labels.Leaf.TheVariants as leaf
 use Rattle.nts_model.specs.declared.labels.Label.{Label}
 use Rattle.nts_model.specs.declared.labels.Label.TheVariants as label
-use Rattle.nts_model.specs.Terms.Trees.{Tree, empty, more, node, size, row_length, row_at, IsRow, children, label_of, any_label, is_alias}
+use Rattle.nts_model.specs.Terms.Trees.{Tree, empty, more, node, size, row_length, row_at, IsRow, children, label_of, any_label, is_alias, infer_of, variable_of, variable_tree}
 use Rattle.nts_model.specs.Tables.Contents.{Content, unset, state_of, kind_at, universe_of}
 use Rattle.nts_model.specs.Tables.Levels.{NamesAll, region_level}
-use Rattle.nts_model.specs.Tables.Resolving.{Knows, variable_of, variable_tree, resolved, rooted, infer_of, IsInfer, IsSound}
+use Rattle.nts_model.specs.Tables.Resolving.{Knows, resolved, rooted, IsInfer, IsSound}
 use Rattle.nts_model.specs.Tables.Worlds.{World, inst, renamed, Solves, Agrees}
 use Rattle.nts_model.specs.Tables.Holding.{AreOne}
 use Rattle.nts_model.specs.Tables.Alike.{AreAlike}

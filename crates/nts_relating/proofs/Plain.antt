@@ -6,9 +6,9 @@ use Rattle.nts_model.specs.declared.labels.VariableKind.TheVariants as kind
 use Rattle.nts_model.specs.declared.labels.Leaf.TheVariants as leaf
 use Rattle.nts_model.specs.declared.labels.Label.{Label}
 use Rattle.nts_model.specs.declared.labels.Label.TheVariants as label
-use Rattle.nts_model.specs.Terms.Trees.{Tree, empty, more, node, any_label, is_alias, row_length, row_at}
+use Rattle.nts_model.specs.Terms.Trees.{Tree, empty, more, node, any_label, is_alias, row_length, row_at, infer_of, variable_of, variable_tree}
 use Rattle.nts_model.specs.Tables.Contents.{Content, Slot, unset, link, state_of, kind_at, bound_to}
-use Rattle.nts_model.specs.Tables.Resolving.{infer_of, variable_of, variable_tree, resolved, rooted, rooted_variable, deeply_resolved, replaced, replaced_at, Knows, IsSound, AllUnset}
+use Rattle.nts_model.specs.Tables.Resolving.{resolved, rooted, rooted_variable, deeply_resolved, replaced, replaced_at, Knows, IsSound, AllUnset}
 use Rattle.nts_model.specs.Terms.Regions.{IsRegion, RegionName, name_of_label}
 use Rattle.nts_model.specs.Tables.Holding.{Continues}
 use Rattle.nts_model.specs.Tables.Alike.{Alike, one_tree, two_regions, one_label, two_rows, AreAlike}

@@ -6,9 +6,9 @@ use Rattle.nts_model.specs.declared.labels.FreeRegion.{FreeRegion}
 use Rattle.nts_model.specs.declared.labels.Leaf.TheVariants as leaf
 use Rattle.nts_model.specs.declared.labels.Label.{Label}
 use Rattle.nts_model.specs.declared.labels.Label.TheVariants as label
-use Rattle.nts_model.specs.Terms.Trees.{Tree, empty, more, node, size, children, label_of, IsRow, row_length, row_at, row_take, IsClosedUnder, of_sort, kind_of, kind_of_label, sort_of_variable}
+use Rattle.nts_model.specs.Terms.Trees.{Tree, empty, more, node, size, children, label_of, IsRow, row_length, row_at, row_take, IsClosedUnder, of_sort, kind_of, kind_of_label, sort_of_variable, infer_of, variable_of}
 use Rattle.nts_model.specs.Tables.Contents.{Content, kind_at, universe_of}
-use Rattle.nts_model.specs.Tables.Resolving.{variable_of, infer_of, IsInfer, Knows, KnowsVariable, variable_flag}
+use Rattle.nts_model.specs.Tables.Resolving.{IsInfer, Knows, KnowsVariable, variable_flag}
 use Rattle.nts_model.specs.Tables.Levels.{NamesAll, term_level}
 use Rattle.nts_model.specs.Terms.Regions.{IsRegion}
 use Rattle.nts_model.specs.Tables.Worlds.{World, inst, renamed, Solves}

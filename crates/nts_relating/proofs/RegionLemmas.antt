@@ -8,9 +8,9 @@ use Rattle.nts_model.specs.declared.labels.VariableKind.TheVariants as kind
 use Rattle.nts_model.specs.declared.labels.Leaf.TheVariants as leaf
 use Rattle.nts_model.specs.declared.labels.Label.{Label}
 use Rattle.nts_model.specs.declared.labels.Label.TheVariants as label
-use Rattle.nts_model.specs.Terms.Trees.{Tree, empty, node, children, shape, Meets, kind_of, kind_of_label, of_sort}
+use Rattle.nts_model.specs.Terms.Trees.{Tree, empty, node, children, shape, Meets, kind_of, kind_of_label, of_sort, variable_tree}
 use Rattle.nts_model.specs.Tables.Contents.{Content, kind_at, with_constraint}
-use Rattle.nts_model.specs.Tables.Resolving.{variable_tree, Knows, IsSound, deeply_resolved, root_of}
+use Rattle.nts_model.specs.Tables.Resolving.{Knows, IsSound, deeply_resolved, root_of}
 use Rattle.nts_model.specs.Tables.Worlds.{World, inst, Solves}
 use Rattle.nts_model.specs.Terms.Regions.{of_variable, of_free, IsRegion}
 use Rattle.nts_model.specs.Tables.Holding.{AreOne}

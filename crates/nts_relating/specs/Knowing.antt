@@ -1,12 +1,11 @@
 -- Variables and universes that a table has, and the places of a row.
 use Rattle.std.specs.Prelude.{◌≡◌, ℕ, zero, suc, Option, Some, None, slice_get}
 use Rattle.nts_model.specs.declared.labels.VariableKind.{VariableKind}
-use Rattle.nts_model.specs.Terms.Trees.{Tree, empty, more, node}
+use Rattle.nts_model.specs.Terms.Trees.{Tree, empty, more, node, variable_of}
 use Rattle.nts_unify.specs.declared.contents.Variable.{Variable}
 use Rattle.nts_unify.specs.Entries.{Entries}
 use Rattle.nts_model.specs.declared.labels.Label.{Label}
 use Rattle.nts_model.specs.Terms.Placeholders.{leaf_level, CanName}
-use Rattle.nts_model.specs.Tables.Resolving.{variable_of}
 
 -- the table has the variable, of that kind
 pub record HasVariable (e : Entries) (k : VariableKind) (n : ℕ) : Type 0 where

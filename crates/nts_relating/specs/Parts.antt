@@ -3,9 +3,9 @@ use Rattle.std.specs.Prelude.{◌≡◌, ◌≢◌, ◌⊎◌, ℕ, ◌+◌, ◌
 use Rattle.std.specs.HashMap.{HashMap, get}
 use Rattle.nts_model.specs.declared.labels.VariableKind.TheVariants as kind
 use Rattle.nts_model.specs.declared.labels.Label.{Label}
-use Rattle.nts_model.specs.Terms.Trees.{Tree, empty, more, node, NodeKind, kind_of, children, size, row_length, row_at, binders, IsBoundBelow, IsClosedUnder, IsClosed}
+use Rattle.nts_model.specs.Terms.Trees.{Tree, empty, more, node, NodeKind, kind_of, children, size, row_length, row_at, binders, IsBoundBelow, IsClosedUnder, IsClosed, variable_of}
 use Rattle.nts_model.specs.Tables.Contents.{Content, universe_of, kind_at}
-use Rattle.nts_model.specs.Tables.Resolving.{Knows, IsInfer, resolved, variable_of, variable_flag, variable_rank, left_to_resolve}
+use Rattle.nts_model.specs.Tables.Resolving.{Knows, IsInfer, resolved, variable_flag, variable_rank, left_to_resolve}
 use Rattle.nts_model.specs.Terms.Placeholders.{CanName}
 use Rattle.nts_model.specs.Tables.Passing.{PassesVariables, TreePasses, TablePasses}
 use Rattle.nts_model.specs.Tables.Levels.{NamesAll, term_level}

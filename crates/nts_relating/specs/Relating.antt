@@ -4,10 +4,10 @@ use Rattle.nts_model.specs.declared.labels.VariableKind.{VariableKind}
 use Rattle.nts_model.specs.declared.labels.VariableKind.TheVariants as kind
 use Rattle.nts_model.specs.declared.labels.Sort.TheVariants as sort
 use Rattle.nts_model.specs.declared.labels.Label.{Label}
-use Rattle.nts_model.specs.Terms.Trees.{Tree, empty, more, node, size, kind_of, kind_of_label, of_sort, row_length, any_label, is_alias, IsClosedUnder}
+use Rattle.nts_model.specs.Terms.Trees.{Tree, empty, more, node, size, kind_of, kind_of_label, of_sort, row_length, any_label, is_alias, IsClosedUnder, variable_tree}
 use Rattle.nts_model.specs.Terms.Patching.{IsPatched}
 use Rattle.nts_model.specs.Tables.Contents.{Content, unset, state_of, universe_of, kind_at}
-use Rattle.nts_model.specs.Tables.Resolving.{Knows, IsInfer, Lacks, resolved, deeply_resolved, variable_tree, variable_flag, variable_rank}
+use Rattle.nts_model.specs.Tables.Resolving.{Knows, IsInfer, Lacks, resolved, deeply_resolved, variable_flag, variable_rank}
 use Rattle.nts_model.specs.Tables.Levels.{NamesAll, level_in, term_level, region_level}
 use Rattle.nts_model.specs.Terms.Fitting.{Fits}
 use Rattle.nts_model.specs.Tables.Passing.{PassesVariables, TreePasses, TablePasses, BringsLabelsOf, BringsNoLabels}

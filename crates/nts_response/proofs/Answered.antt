@@ -20,7 +20,7 @@ use Rattle.nts_model.specs.Tables.Contents.{Content, Recorded}
 use Rattle.nts_model.specs.Terms.Regions.{IsRegion}
 use Rattle.nts_model.specs.Tables.Resolving.{deeply_resolved}
 use Rattle.nts_model.specs.Terms.Substitutions.{leaf_tree}
-use Rattle.nts_model.specs.Derivations.Sequents.{Among}
+use Rattle.nts_model.specs.Lists.{Among}
 use Rattle.nts_model.specs.Derivations.Handlers.{hidden_by, premise_by}
 use Rattle.nts_model.specs.Canonical.Inputs.{Input, PositionKind, placeholder, share, originals, canonical_of}
 use Rattle.nts_model.specs.Searching.Driving.{sort_at}
@@ -30,7 +30,7 @@ use Rattle.nts_model.proofs.Terms.Listed.{map-map}
 use Rattle.nts_model.proofs.Tables.ResolvedTerms.{IsClosed-deeply_resolved}
 use Rattle.nts_model.proofs.Responses.Answering.{AllTrees, AllSides, AreSeen, IsPlainTerm, all_found_seen, own_loose}
 use Rattle.nts_model.proofs.Responses.PositionSorts.{IsTreeOver, positioned_is_over, positioned_kind, answer_sorts, below_greatest, contained_map, contained_from, contained_among}
-use Rattle.nts_model.proofs.Derivations.ProvedLater.{contains_none, first_or_later}
+use Rattle.nts_model.proofs.Lists.{contains_none, first_or_later}
 use Rattle.nts_model.proofs.Responses.Querying.{all_plain, own_in, leaf_in_for}
 use Rattle.nts_store.specs.declared.nodes.NodeId.{NodeId}
 use Rattle.nts_store.specs.Growth.{tree_at}

@@ -6,7 +6,7 @@ use Rattle.nts_model.specs.Tables.Contents.{in_universe}
 use Rattle.nts_model.specs.Tables.Resolving.{Knows}
 use Rattle.nts_model.specs.Answers.Applying.{IsProperContent, ChoosesAll, AreKnownTrees}
 use Rattle.nts_model.specs.Answers.Responses.{Findings, RefusesResponse}
-use Rattle.nts_model.specs.Derivations.Handlers.{filled}
+use Rattle.nts_model.specs.Terms.Substitutions.{filled}
 use Rattle.nts_model.specs.Tables.Passing.{BringsOnly}
 use Rattle.nts_model.proofs.Responses.Bringing.{brings-trans, only-trans, only-none}
 use Rattle.nts_model.proofs.Responses.ChosenLabels.{brings-in_universe, chosen_brings, chosen_passes}

@@ -13,7 +13,8 @@ use Rattle.nts_model.specs.Terms.Trees.{Tree, empty, node, kind_of, of_sort, Nod
 use Rattle.nts_model.specs.Tables.Contents.{Content}
 use Rattle.nts_model.specs.Terms.Regions.{IsRegion, RegionName, of_variable, of_free, region_tree}
 use Rattle.nts_model.specs.Tables.Resolving.{Knows}
-use Rattle.nts_model.specs.Derivations.Handlers.{filled, NamesFresh, IsOfSort}
+use Rattle.nts_model.specs.Terms.Substitutions.{filled}
+use Rattle.nts_model.specs.Derivations.Handlers.{NamesFresh, IsOfSort}
 use Rattle.nts_model.specs.Canonical.Inputs.{PositionKind, type_variable, integer_variable, float_variable, const_variable, region_variable, placeholder}
 use Rattle.nts_model.specs.Searching.Driving.{sort_at}
 use Rattle.nts_model.specs.Answers.Applying.{ChoosesVariable, Chooses, ChoosesAll}

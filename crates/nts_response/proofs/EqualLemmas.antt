@@ -4,7 +4,7 @@ use Rattle.std.specs.Prelude.{All}
 use Rattle.std.proofs.lemmas.List.{take_all, take_more, length-map, get_or-map}
 use Rattle.nts_model.specs.Terms.Trees.{Tree, empty}
 use Rattle.nts_model.specs.Tables.Contents.{Content}
-use Rattle.nts_model.specs.Derivations.Handlers.{filled}
+use Rattle.nts_model.specs.Terms.Substitutions.{filled}
 use Rattle.nts_model.specs.Tables.Equations.{AreRelated, AreUnrelated}
 use Rattle.nts_model.specs.Answers.Applying.{IsProperContent, MakesEqual}
 use Rattle.nts_model.proofs.Responses.Applied.{FailsToEqual}

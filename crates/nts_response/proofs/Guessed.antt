@@ -9,9 +9,9 @@ use Rattle.nts_model.specs.declared.labels.Leaf.TheVariants as leaf
 use Rattle.nts_model.specs.declared.labels.Label.{Label}
 use Rattle.nts_model.specs.declared.labels.Label.TheVariants as label
 use Rattle.nts_model.specs.declared.labels.BoundVarIndexKind.TheVariants as index
-use Rattle.nts_model.specs.Terms.Trees.{Tree, empty, more, node, children, shape, Meets, IsFormed, kind_of, kind_of_label, of_sort, NodeKind}
+use Rattle.nts_model.specs.Terms.Trees.{Tree, empty, more, node, children, shape, Meets, IsFormed, kind_of, kind_of_label, of_sort, NodeKind, variable_of, variable_tree}
 use Rattle.nts_model.specs.Tables.Contents.{Content, universe_of}
-use Rattle.nts_model.specs.Tables.Resolving.{Knows, variable_of, number_of, variable_tree}
+use Rattle.nts_model.specs.Tables.Resolving.{Knows, number_of}
 use Rattle.nts_model.specs.Terms.Placeholders.{CanName, leaf_level}
 use Rattle.nts_model.specs.Tables.Levels.{NamesAll, term_level, level_at, level_in, AreCurrent}
 use Rattle.nts_model.specs.Terms.Regions.{IsRegion}

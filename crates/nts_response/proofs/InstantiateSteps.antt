@@ -6,8 +6,8 @@ use Rattle.nts_model.specs.declared.labels.Sort.{Sort}
 use Rattle.nts_model.specs.Terms.Trees.{Tree, NodeKind, empty, kind_of, IsClosed}
 use Rattle.nts_model.specs.Tables.Contents.{Content}
 use Rattle.nts_model.specs.Canonical.Inputs.{PositionKind, type_variable, integer_variable, float_variable, const_variable, region_variable, placeholder}
-use Rattle.nts_model.specs.Derivations.Handlers.{filled, NamesFresh}
-use Rattle.nts_model.specs.Terms.Substitutions.{Occurs}
+use Rattle.nts_model.specs.Derivations.Handlers.{NamesFresh}
+use Rattle.nts_model.specs.Terms.Substitutions.{Occurs, filled}
 use Rattle.nts_model.specs.Answers.Responses.{RefusesResponse}
 use Rattle.nts_model.specs.Terms.Scoping.{IsWellBound}
 use Rattle.nts_store.specs.declared.nodes.NodeId.{NodeId}

@@ -6,9 +6,8 @@ use Rattle.std.proofs.lemmas.List.Elements.{All-push}
 use Rattle.nts_model.specs.declared.labels.Sort.{Sort}
 use Rattle.nts_model.specs.declared.labels.Sort.TheVariants as sort
 use Rattle.nts_model.specs.declared.labels.VariableKind.TheVariants as kind
-use Rattle.nts_model.specs.Terms.Trees.{Tree, NodeKind, kind_of, of_sort, IsClosed}
+use Rattle.nts_model.specs.Terms.Trees.{Tree, NodeKind, kind_of, of_sort, IsClosed, variable_tree}
 use Rattle.nts_model.specs.Tables.Contents.{Content}
-use Rattle.nts_model.specs.Tables.Resolving.{variable_tree}
 use Rattle.nts_model.specs.Derivations.Handlers.{kind_of_sort}
 use Rattle.nts_model.specs.Answers.Applying.{IsNew}
 use Rattle.nts_model.proofs.Responses.Applying.{new_knows}

@@ -10,13 +10,13 @@ use Rattle.nts_model.specs.declared.labels.Leaf.{Leaf}
 use Rattle.nts_model.specs.declared.labels.Leaf.TheVariants as leaf
 use Rattle.nts_model.specs.declared.labels.Label.{Label}
 use Rattle.nts_model.specs.declared.labels.Label.TheVariants as label
-use Rattle.nts_model.specs.Terms.Trees.{Tree, empty, more, node, kind_of, of_sort, kind_of_label, IsFormed, IsClosed}
+use Rattle.nts_model.specs.Terms.Trees.{Tree, empty, more, node, kind_of, of_sort, kind_of_label, IsFormed, IsClosed, variable_of}
 use Rattle.nts_model.specs.Tables.Contents.{Content}
 use Rattle.nts_model.specs.Terms.Placeholders.{CanName, leaf_level}
 use Rattle.nts_model.specs.Terms.Regions.{IsRegion, of_variable, of_free}
-use Rattle.nts_model.specs.Tables.Resolving.{variable_of, KnowsVariable, KnowsLeaves}
-use Rattle.nts_model.specs.Terms.Substitutions.{Occurs}
-use Rattle.nts_model.specs.Derivations.Handlers.{position_of, NamesAt, NamesFresh, IsOfSort, IsFixed}
+use Rattle.nts_model.specs.Tables.Resolving.{KnowsVariable, KnowsLeaves}
+use Rattle.nts_model.specs.Terms.Substitutions.{Occurs, position_of}
+use Rattle.nts_model.specs.Derivations.Handlers.{NamesAt, NamesFresh, IsOfSort, IsFixed}
 use Rattle.nts_model.specs.Searching.Driving.{sort_at}
 use Rattle.nts_store.specs.Filled.{HasValue, HasValues}
 use Rattle.nts_canonical.specs.declared.types.CanonicalVarKind.{CanonicalVarKind}

@@ -8,7 +8,8 @@ use Rattle.nts_model.specs.Derivations.Related.{alias_label}
 use Rattle.nts_terms.specs.declared.handles.AliasDefId.{AliasDefId}
 use Rattle.nts_model.specs.Tables.Contents.{Content}
 use Rattle.nts_model.specs.Tables.Resolving.{Knows, KnowsLeaves}
-use Rattle.nts_model.specs.Derivations.Handlers.{filled, premise_by, NamesFresh}
+use Rattle.nts_model.specs.Terms.Substitutions.{filled}
+use Rattle.nts_model.specs.Derivations.Handlers.{premise_by, NamesFresh}
 use Rattle.nts_model.specs.Searching.Driving.{sort_at}
 use Rattle.nts_model.specs.Answers.Responses.{IsOverPositions}
 use Rattle.nts_model.proofs.Responses.Answering.{AllTrees, AllSides}

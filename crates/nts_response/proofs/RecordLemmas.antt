@@ -9,9 +9,9 @@ use Rattle.nts_model.specs.declared.labels.Relation.TheVariants as relation
 use Rattle.nts_model.specs.declared.labels.VariableKind.TheVariants as kind
 use Rattle.nts_model.specs.declared.labels.Leaf.TheVariants as leaf
 use Rattle.nts_model.specs.declared.labels.Label.TheVariants as label
-use Rattle.nts_model.specs.Terms.Trees.{Tree, empty, more, node, IsClosed}
+use Rattle.nts_model.specs.Terms.Trees.{Tree, empty, more, node, IsClosed, variable_tree}
 use Rattle.nts_model.specs.Tables.Contents.{Content, Recorded, with_constraint}
-use Rattle.nts_model.specs.Tables.Resolving.{variable_tree, Knows, IsSound, deeply_resolved}
+use Rattle.nts_model.specs.Tables.Resolving.{Knows, IsSound, deeply_resolved}
 use Rattle.nts_model.specs.Tables.Worlds.{World, inst, IsTrueOf}
 use Rattle.nts_model.specs.Terms.Regions.{IsRegion}
 use Rattle.nts_model.specs.Tables.Holding.{IsTrivial, HasSides, IsRecorded}

@@ -7,7 +7,7 @@ use Rattle.nts_model.specs.Tables.Contents.{Content, Recorded}
 use Rattle.nts_model.specs.Terms.Regions.{IsRegion}
 use Rattle.nts_model.specs.Answers.Applying.{IsRecordedIn, Records}
 use Rattle.nts_model.specs.Answers.Responses.{recorded_by}
-use Rattle.nts_model.specs.Derivations.Handlers.{filled}
+use Rattle.nts_model.specs.Terms.Substitutions.{filled}
 use Rattle.nts_store.specs.declared.nodes.NodeId.{NodeId}
 use Rattle.nts_store.specs.Growth.{tree_at, AllIn}
 use Rattle.nts_terms.specs.declared.cx.Cx.{Cx}

@@ -5,7 +5,7 @@ use Rattle.std.proofs.lemmas.List.Elements.{Contains-append_cases}
 use Rattle.nts_model.specs.Terms.Trees.{IsClosed}
 use Rattle.nts_model.specs.Tables.Contents.{Content, Recorded}
 use Rattle.nts_model.specs.Answers.Responses.{Response as Form}
-use Rattle.nts_model.proofs.Derivations.ProvedLater.{contains_none, first_or_later}
+use Rattle.nts_model.proofs.Lists.{contains_none, first_or_later}
 use Rattle.nts_unify.specs.Changing.{HasClosedSides}
 use Rattle.nts_unify.proofs.Keeping.{sides-added}
 use Rattle.nts_response.specs.Applicable.{ShowsConstraints}

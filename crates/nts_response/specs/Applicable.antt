@@ -7,9 +7,9 @@ use Rattle.nts_model.specs.declared.labels.Leaf.{Leaf}
 use Rattle.nts_model.specs.Terms.Trees.{Tree, Place, a_type, a_region, IsClosed}
 use Rattle.nts_model.specs.Terms.Scoping.{IsWellBound}
 use Rattle.nts_model.specs.Tables.Contents.{Content, Recorded}
-use Rattle.nts_model.specs.Terms.Substitutions.{Occurs}
+use Rattle.nts_model.specs.Terms.Substitutions.{Occurs, filled}
 use Rattle.nts_model.specs.Tables.Resolving.{Knows}
-use Rattle.nts_model.specs.Derivations.Handlers.{NamesFresh, IsFixed, filled, hidden_by, premise_by}
+use Rattle.nts_model.specs.Derivations.Handlers.{NamesFresh, IsFixed, hidden_by, premise_by}
 use Rattle.nts_model.specs.Derivations.Sequents.{Premise}
 use Rattle.nts_model.specs.Tables.Passing.{BringsOnly}
 use Rattle.nts_model.specs.Canonical.Inputs.{PositionKind}

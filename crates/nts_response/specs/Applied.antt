@@ -15,7 +15,7 @@ use Rattle.nts_model.specs.Tables.Levels.{NamesAll, level_in}
 use Rattle.nts_model.specs.Tables.Worlds.{IsValue}
 use Rattle.nts_model.specs.Canonical.Inputs.{PositionKind, type_variable, integer_variable, float_variable, const_variable, region_variable, placeholder}
 use Rattle.nts_model.specs.Searching.Driving.{sort_at}
-use Rattle.nts_model.specs.Derivations.Handlers.{filled}
+use Rattle.nts_model.specs.Terms.Substitutions.{filled}
 use Rattle.nts_model.specs.Answers.Responses.{bound_of, universe_of_kind, placeholder_at}
 use Rattle.nts_model.specs.Answers.Applying.{IsGuess, IsNew}
 use Rattle.nts_model.proofs.Tables.Slots.{KeepsKinds}

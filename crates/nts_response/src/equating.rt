@@ -1,6 +1,6 @@
 //! Originals made equal to the values of a response.
 ghost use Rattle.std.specs.Prelude.{◌≡◌, ◌≢◌, ◌++◌, Err, map, All, length, OnOk};
-ghost use Rattle.nts_model.specs.Derivations.Handlers.{filled};
+ghost use Rattle.nts_model.specs.Terms.Substitutions.{filled};
 ghost use Rattle.nts_model.specs.Tables.Equations.{AreRelated, AreUnrelated};
 ghost use Rattle.nts_model.specs.Answers.Applying.{MakesEqual};
 ghost use Rattle.nts_model.specs.Tables.Passing.{BringsLabelsOf, BringsOnly};

@@ -1,6 +1,6 @@
 //! Which originals are guessed for the positions of a response.
 ghost use Rattle.std.specs.Prelude.{◌≡◌, true, All, length, IfOk, IfSome};
-ghost use Rattle.nts_model.specs.Tables.Resolving.{variable_of};
+ghost use Rattle.nts_model.specs.Terms.Trees.{variable_of};
 ghost use Rattle.nts_model.specs.Tables.Levels.{AreCurrent};
 ghost use Rattle.nts_store.specs.Growth.{tree_at, IsIn};
 ghost use Rattle.nts_terms.specs.Handles.{HoldsArg};

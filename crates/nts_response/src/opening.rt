@@ -1,6 +1,7 @@
 //! Open goals of a response, with what was chosen in place of the positions.
 ghost use Rattle.std.specs.Prelude.{◌≡◌, map, All, IfOk};
-ghost use Rattle.nts_model.specs.Derivations.Handlers.{filled, premise_by};
+ghost use Rattle.nts_model.specs.Terms.Substitutions.{filled};
+ghost use Rattle.nts_model.specs.Derivations.Handlers.{premise_by};
 ghost use Rattle.nts_store.specs.Growth.{tree_at, AllIn, Extends};
 ghost use Rattle.nts_response.specs.Forms.{premise_at, HoldsOpen};
 ghost use Rattle.nts_response.specs.Opened.{IsOpenable};

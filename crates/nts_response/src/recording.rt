@@ -2,7 +2,7 @@
 ghost use Rattle.std.specs.Prelude.{◌≡◌, ◌&&◌, map, All, OnOk, OnErr, IsOkUnless};
 ghost use Rattle.nts_model.specs.Terms.Trees.{IsClosed};
 ghost use Rattle.nts_model.specs.Terms.Regions.{IsRegion};
-ghost use Rattle.nts_model.specs.Derivations.Handlers.{filled};
+ghost use Rattle.nts_model.specs.Terms.Substitutions.{filled};
 ghost use Rattle.nts_model.specs.Answers.Responses.{recorded_by};
 ghost use Rattle.nts_model.specs.Answers.Applying.{IsRecordedIn, Records};
 ghost use Rattle.nts_model.specs.Tables.SubUnifying.{JoinsSubRoots};

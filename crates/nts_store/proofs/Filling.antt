@@ -6,7 +6,7 @@ use Rattle.nts_model.specs.declared.labels.BoundVarIndexKind.TheVariants as inde
 use Rattle.nts_model.specs.Terms.Trees.{Tree, empty, more, node, any_label, is_canonical}
 use Rattle.nts_store.specs.declared.type_flags.TypeFlags.{TypeFlags}
 use Rattle.nts_store.specs.TypeFlags.{flags_of}
-use Rattle.nts_model.specs.Derivations.Handlers.{position_of, filled}
+use Rattle.nts_model.specs.Terms.Substitutions.{filled, position_of}
 
 both_false : (p q : Bool) → (p || q) ≡ false → (p ≡ false) × (q ≡ false)
 both_false true q h = cc

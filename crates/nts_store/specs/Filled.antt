@@ -1,7 +1,7 @@
 -- When values may stand in place of the positions of a canonical value.
 use Rattle.std.specs.Prelude.{◌≡◌, ℕ, ◌<◌, List, length, get_or, Option, Some, None, refl}
 use Rattle.nts_model.specs.declared.labels.Label.{Label}
-use Rattle.nts_model.specs.Derivations.Handlers.{position_of, value_or, filled}
+use Rattle.nts_model.specs.Terms.Substitutions.{filled, position_of, value_or}
 use Rattle.nts_model.specs.Terms.Trees.{Tree, empty, more, node, kind_of, kind_of_label}
 
 -- a position has a value of the variable's sort

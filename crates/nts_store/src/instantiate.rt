@@ -4,7 +4,7 @@ ghost use Rattle.nts_model.specs.Terms.Trees.{Tree};
 ghost use Rattle.nts_store.specs.Growth.{tree_at, IsIn, AllIn, Extends};
 ghost use Rattle.nts_store.specs.Kept.{AllIn-kept, map-kept};
 ghost use Rattle.nts_store.specs.Filled.{HasValues, kind_of-filled};
-ghost use Rattle.nts_model.specs.Derivations.Handlers.{filled};
+ghost use Rattle.nts_model.specs.Terms.Substitutions.{filled};
 
 use crate::nodes::{NodeId, Nodes};
 use crate::replacement::{Replacer, Step, replace};

@@ -1,9 +1,9 @@
 -- The value or the root of a variable, by the entries.
 use Rattle.std.proofs.Common.{◌≡◌, ℕ, List, Some, refl, ap, ◌∙◌}
 use Rattle.nts_model.specs.declared.labels.VariableKind.{VariableKind}
-use Rattle.nts_model.specs.Terms.Trees.{Tree, kind_of, of_sort, sort_of_variable, Place}
+use Rattle.nts_model.specs.Terms.Trees.{Tree, kind_of, of_sort, sort_of_variable, Place, variable_tree}
 use Rattle.nts_model.specs.Tables.Contents.{kind_at}
-use Rattle.nts_model.specs.Tables.Resolving.{variable_tree, root_of, resolved, Knows}
+use Rattle.nts_model.specs.Tables.Resolving.{root_of, resolved, Knows}
 use Rattle.nts_model.proofs.Tables.Roots.{kind_at-reaches}
 use Rattle.nts_model.proofs.Tables.Kept.{kind_of-resolved}
 use Rattle.nts_store.specs.declared.nodes.NodeId.{NodeId}

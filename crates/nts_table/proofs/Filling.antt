@@ -8,7 +8,7 @@ use Rattle.nts_model.specs.Terms.Scoping.{IsWellBound}
 use Rattle.nts_model.proofs.Terms.Unpositioned.{known_well_bound}
 use Rattle.nts_model.proofs.Terms.Scoping.{lists_patched, filled_patched}
 use Rattle.nts_model.specs.Tables.Contents.{Content}
-use Rattle.nts_model.specs.Derivations.Handlers.{position_of, value_or, filled}
+use Rattle.nts_model.specs.Terms.Substitutions.{filled, position_of, value_or}
 use Rattle.nts_model.specs.Tables.Resolving.{KnowsLeaves, Knows}
 
 known-value : (c : Content) (vs : List Tree) (o : Option ℕ) (t : Tree) → ((j : ℕ) → Knows c (get_or vs j empty)) → (o ≡ None → Knows c t) → Knows c (value_or o vs t)

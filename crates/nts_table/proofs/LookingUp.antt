@@ -6,9 +6,9 @@ use Rattle.nts_model.specs.declared.labels.VariableKind.TheVariants as kind
 use Rattle.nts_model.specs.declared.labels.Leaf.TheVariants as leaf
 use Rattle.nts_model.specs.declared.labels.Label.{Label}
 use Rattle.nts_model.specs.declared.labels.Label.TheVariants as label
-use Rattle.nts_model.specs.Terms.Trees.{Tree, empty, more, node, children, kind_of, kind_of_label, of_sort, sort_of_variable}
+use Rattle.nts_model.specs.Terms.Trees.{Tree, empty, more, node, children, kind_of, kind_of_label, of_sort, sort_of_variable, variable_of, variable_tree}
 use Rattle.nts_model.specs.Tables.Contents.{Content, SlotState, unset, link, known, state_of, kind_at}
-use Rattle.nts_model.specs.Tables.Resolving.{variable_of, variable_tree, root_of, IsSound, Knows, rank_of, rank_of_kind, variable_rank}
+use Rattle.nts_model.specs.Tables.Resolving.{root_of, IsSound, Knows, rank_of, rank_of_kind, variable_rank}
 use Rattle.nts_model.proofs.Tables.Roots.{kind_at-reaches, kind_at-root_of, root_of-root_of}
 use Rattle.nts_store.specs.declared.nodes.NodeId.{NodeId}
 use Rattle.nts_store.specs.Growth.{tree_at}

@@ -5,9 +5,9 @@ use Rattle.std.proofs.lemmas.Bool.{cases_lt}
 use Rattle.nts_model.specs.declared.labels.VariableKind.{VariableKind}
 use Rattle.nts_model.specs.declared.labels.VariableKind.TheVariants as kind
 use Rattle.nts_model.specs.declared.labels.Label.{Label}
-use Rattle.nts_model.specs.Terms.Trees.{Tree, empty, more, node}
+use Rattle.nts_model.specs.Terms.Trees.{Tree, empty, more, node, variable_of}
 use Rattle.nts_model.specs.Tables.Contents.{Content, kind_at, state_of, known}
-use Rattle.nts_model.specs.Tables.Resolving.{Knows, variable_of}
+use Rattle.nts_model.specs.Tables.Resolving.{Knows}
 use Rattle.nts_model.proofs.Tables.Roots.{kind_at-reaches}
 use Rattle.nts_model.proofs.Tables.Slots.{slice_get-slice_set_same, slice_get-slice_set_other, slice_get_below}
 use Rattle.nts_store.specs.Growth.{tree_at}

@@ -6,9 +6,9 @@ use Rattle.nts_model.specs.declared.labels.VariableKind.TheVariants as kind
 use Rattle.nts_model.specs.declared.labels.Leaf.TheVariants as leaf
 use Rattle.nts_model.specs.declared.labels.Label.{Label}
 use Rattle.nts_model.specs.declared.labels.Label.TheVariants as label
-use Rattle.nts_model.specs.Terms.Trees.{Tree, empty, more, node, children, kind_of, of_sort, sort_of_variable, shape, Meets}
+use Rattle.nts_model.specs.Terms.Trees.{Tree, empty, more, node, children, kind_of, of_sort, sort_of_variable, shape, Meets, variable_of, variable_tree}
 use Rattle.nts_model.specs.Tables.Contents.{Content, state_of, kind_at, unset, known}
-use Rattle.nts_model.specs.Tables.Resolving.{variable_of, variable_tree, resolved, rooted, root_of, IsSound, Reaches, Knows, rank_of_kind, variable_rank}
+use Rattle.nts_model.specs.Tables.Resolving.{resolved, rooted, root_of, IsSound, Reaches, Knows, rank_of_kind, variable_rank}
 use Rattle.nts_model.proofs.Terms.Variables.{infer_of_none}
 use Rattle.nts_model.proofs.Tables.Resolved.{resolved-empty, resolved-node, deeply_resolved-empty, deeply_resolved-node, IsVariable, resolved-reaches_known, resolved-variable_reaches, resolved-variable_unset, IsVariable-infer, IsVariable-reaches}
 use Rattle.nts_model.proofs.Tables.Kept.{resolved-no_infer, deeply_resolved-no_variables}

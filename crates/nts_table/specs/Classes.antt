@@ -1,9 +1,9 @@
 -- What the table has of a variable's class.
 use Rattle.std.specs.Prelude.{◌≡◌, ℕ, Option, Some, None, slice_get}
 use Rattle.nts_model.specs.declared.labels.VariableKind.{VariableKind}
-use Rattle.nts_model.specs.Terms.Trees.{Tree, empty, more, node}
+use Rattle.nts_model.specs.Terms.Trees.{Tree, empty, more, node, variable_of, variable_tree}
 use Rattle.nts_model.specs.Tables.Contents.{Content, SlotState, unset, link, known, state_of}
-use Rattle.nts_model.specs.Tables.Resolving.{variable_tree, variable_of, root_of}
+use Rattle.nts_model.specs.Tables.Resolving.{root_of}
 use Rattle.nts_unify.specs.declared.contents.State.{State}
 use Rattle.nts_unify.specs.declared.contents.State.TheVariants.{Unset, Link, Known}
 use Rattle.nts_unify.specs.declared.contents.Variable.{Variable}

@@ -4,8 +4,7 @@ use Rattle.nts_model.specs.declared.labels.Sort.{Sort}
 use Rattle.nts_model.specs.declared.labels.Sort.TheVariants as sort
 use Rattle.nts_model.specs.declared.labels.VariableKind.{VariableKind}
 use Rattle.nts_model.specs.declared.labels.VariableKind.TheVariants as kind
-use Rattle.nts_model.specs.Terms.Trees.{Tree, empty, more, NodeKind, of_sort}
-use Rattle.nts_model.specs.Tables.Resolving.{variable_tree}
+use Rattle.nts_model.specs.Terms.Trees.{Tree, empty, more, NodeKind, of_sort, variable_tree}
 use Rattle.nts_unify.specs.Entries.{Entries, added}
 use Rattle.nts_table.specs.Making.{new_variable}
 

@@ -2,8 +2,7 @@
 ghost use Rattle.std.specs.Prelude.{◌≡◌, length, IfOk, OnOk, OnErr, IsOkUnless};
 ghost use Rattle.nts_model.specs.declared.labels.Label.TheVariants as labels;
 ghost use Rattle.nts_model.specs.declared.labels.ListHead.TheVariants as heads;
-ghost use Rattle.nts_model.specs.Terms.Trees.{node, kind_of};
-ghost use Rattle.nts_model.specs.Tables.Resolving.{variable_tree};
+ghost use Rattle.nts_model.specs.Terms.Trees.{node, kind_of, variable_tree};
 ghost use Rattle.nts_store.specs.Growth.{tree_at, trees_at, IsIn, AllIn, Extends};
 ghost use Rattle.nts_terms.specs.Handles.{HoldsArg, HoldsArgs};
 ghost use Rattle.nts_unify.specs.Entries.{added};

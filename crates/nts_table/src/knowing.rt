@@ -1,7 +1,8 @@
 //! Whether a term's variables and universes are of a table, it has no positions of canonical values, and
 //! what it binds is listed.
 ghost use Rattle.std.specs.Prelude.{◌≡◌, ◌↔◌, IsTrue, true, false, IfOk, IsOkUnless};
-ghost use Rattle.nts_model.specs.Tables.Resolving.{Knows, variable_of};
+ghost use Rattle.nts_model.specs.Terms.Trees.{variable_of};
+ghost use Rattle.nts_model.specs.Tables.Resolving.{Knows};
 ghost use Rattle.nts_model.specs.Terms.Placeholders.{CanName, leaf_level};
 ghost use Rattle.nts_store.specs.Growth.{tree_at, IsIn};
 ghost use Rattle.nts_unify.specs.Reading.{content_of};

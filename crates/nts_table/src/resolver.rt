@@ -2,7 +2,8 @@
 ghost use Rattle.std.specs.Prelude.{◌≡◌, ◌≢◌, true, Some, IfOk};
 ghost use Rattle.nts_model.specs.declared.labels.VariableKind.TheVariants as variable;
 ghost use Rattle.nts_model.specs.Tables.Contents.{kind_at};
-ghost use Rattle.nts_model.specs.Tables.Resolving.{variable_tree, Knows};
+ghost use Rattle.nts_model.specs.Terms.Trees.{variable_tree};
+ghost use Rattle.nts_model.specs.Tables.Resolving.{Knows};
 ghost use Rattle.nts_store.specs.Growth.{tree_at, IsIn, Extends};
 ghost use Rattle.nts_store.specs.Replacement.{IsStep};
 ghost use Rattle.nts_unify.specs.Reading.{content_of};

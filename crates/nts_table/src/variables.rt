@@ -1,8 +1,7 @@
 //! Making variables, and what is known of them.
 ghost use Rattle.std.specs.Prelude.{List, ◌≡◌, ◌≢◌, ◌↔◌, ◌<◌, ◌≤◌, ◌+◌, length, IfOk, OnOk, OnErr, Some, IfSome, IsOkUnless};
 ghost use Rattle.nts_model.specs.declared.labels.VariableKind.TheVariants as kind;
-ghost use Rattle.nts_model.specs.Terms.Trees.{Tree};
-ghost use Rattle.nts_model.specs.Tables.Resolving.{variable_tree};
+ghost use Rattle.nts_model.specs.Terms.Trees.{Tree, variable_tree};
 ghost use Rattle.nts_store.specs.Growth.{tree_at, IsIn, Extends};
 ghost use Rattle.nts_terms.specs.Handles.{HoldsTy, HoldsConst, HoldsRegion, HoldsArg};
 ghost use Rattle.nts_unify.specs.Entries.{added, moved};

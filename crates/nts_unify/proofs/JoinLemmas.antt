@@ -5,9 +5,9 @@ use Rattle.std.specs.Prelude.{slice_get, slice_set}
 use Rattle.std.proofs.lemmas.Bool.{cases_lt}
 use Rattle.nts_model.specs.declared.labels.VariableKind.{VariableKind}
 use Rattle.nts_model.specs.declared.labels.VariableKind.TheVariants as kind
-use Rattle.nts_model.specs.Terms.Trees.{Tree}
+use Rattle.nts_model.specs.Terms.Trees.{Tree, variable_tree}
 use Rattle.nts_model.specs.Tables.Contents.{Content, SlotState, unset, link, known, state_of, universe_of, kind_at, changed, sub_link_of}
-use Rattle.nts_model.specs.Tables.Resolving.{resolved, variable_tree, Lacks}
+use Rattle.nts_model.specs.Tables.Resolving.{resolved, Lacks}
 use Rattle.nts_model.proofs.Tables.Under.{replaced-lacks}
 use Rattle.nts_model.proofs.Tables.Slots.{some_slot, length-slice_set, slice_get-slice_set_other, field-changed_kept}
 use Rattle.nts_model.proofs.Tables.Sound.{SameStates, SameStates-changed, IsSound-same, resolved-same}

@@ -7,7 +7,7 @@ use Rattle.nts_model.specs.declared.labels.VariableKind.TheVariants as kind
 use Rattle.nts_model.specs.Terms.Trees.{Tree, IsClosed}
 use Rattle.nts_model.specs.Tables.Contents.{Content, Slot, SlotState, Recorded, kind_at, with_constraint, sub_link_of, unset, link, state_of, with_slot}
 use Rattle.nts_model.specs.Tables.Resolving.{Knows}
-use Rattle.nts_model.proofs.Derivations.ProvedLater.{contains_none, first_or_later}
+use Rattle.nts_model.proofs.Lists.{contains_none, first_or_later}
 use Rattle.std.proofs.lemmas.Bool.{cases_lt}
 use Rattle.nts_model.proofs.Tables.Slots.{Knows-kept, KeepsKinds-with_slot, field_below}
 use Rattle.nts_model.proofs.Tables.Tying.{has_kind, kind_before}

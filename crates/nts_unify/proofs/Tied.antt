@@ -5,9 +5,9 @@ use Rattle.nts_model.specs.declared.labels.VariableKind.{VariableKind}
 use Rattle.nts_model.specs.declared.labels.VariableKind.TheVariants as kind
 use Rattle.nts_model.specs.declared.labels.Leaf.TheVariants as leaf
 use Rattle.nts_model.specs.declared.labels.Label.TheVariants as label
-use Rattle.nts_model.specs.Terms.Trees.{empty}
+use Rattle.nts_model.specs.Terms.Trees.{empty, variable_tree}
 use Rattle.nts_model.specs.Tables.Contents.{Content, kind_at}
-use Rattle.nts_model.specs.Tables.Resolving.{variable_tree, rooted, IsSound}
+use Rattle.nts_model.specs.Tables.Resolving.{rooted, IsSound}
 use Rattle.nts_model.specs.Tables.Holding.{AreOne}
 use Rattle.nts_model.specs.Tables.Tying.{TiesNew}
 use Rattle.nts_model.proofs.Tables.Resolved.{IsVariable, resolved-variable_link}

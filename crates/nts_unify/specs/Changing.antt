@@ -5,9 +5,9 @@ use Rattle.nts_model.specs.declared.labels.VariableKind.TheVariants as kind
 use Rattle.nts_model.specs.declared.labels.Leaf.TheVariants as leaf
 use Rattle.nts_model.specs.declared.labels.Label.{Label}
 use Rattle.nts_model.specs.declared.labels.Label.TheVariants as label
-use Rattle.nts_model.specs.Terms.Trees.{Tree, IsClosed}
+use Rattle.nts_model.specs.Terms.Trees.{Tree, IsClosed, variable_of}
 use Rattle.nts_model.specs.Tables.Contents.{Content, Slot, SlotState, unset, link, state_of, kind_at, Recorded}
-use Rattle.nts_model.specs.Tables.Resolving.{Knows, resolved, variable_of}
+use Rattle.nts_model.specs.Tables.Resolving.{Knows, resolved}
 use Rattle.nts_model.specs.Tables.SubUnifying.{JoinsSubRoots}
 
 -- the variable of a region

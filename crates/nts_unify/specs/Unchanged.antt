@@ -1,8 +1,7 @@
 -- Terms of which nothing became known.
 use Rattle.std.specs.Prelude.{◌≡◌, ℕ, Option, Some, None, slice_get}
 use Rattle.nts_model.specs.declared.labels.VariableKind.{VariableKind}
-use Rattle.nts_model.specs.Terms.Trees.{Tree, empty, more, node}
-use Rattle.nts_model.specs.Tables.Resolving.{variable_of}
+use Rattle.nts_model.specs.Terms.Trees.{Tree, empty, more, node, variable_of}
 use Rattle.nts_unify.specs.declared.contents.State.TheVariants.{Unset}
 use Rattle.nts_unify.specs.declared.contents.Variable.{Variable}
 use Rattle.nts_unify.specs.Entries.{Entries}

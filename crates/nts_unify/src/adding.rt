@@ -1,6 +1,6 @@
 //! New variables.
 ghost use Rattle.std.specs.Prelude.{◌≡◌, ◌<◌, ◌≤◌, length, OnOk, OnErr, IfOk, IfSome};
-ghost use Rattle.nts_model.specs.Tables.Resolving.{variable_tree};
+ghost use Rattle.nts_model.specs.Terms.Trees.{variable_tree};
 ghost use Rattle.nts_store.specs.Growth.{tree_at, IsIn, Extends};
 ghost use Rattle.nts_unify.specs.Entries.{added, KeepsHidden};
 ghost use Rattle.nts_unify.specs.Reading.{IsLawful};

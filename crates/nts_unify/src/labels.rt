@@ -2,9 +2,8 @@
 ghost use Rattle.std.specs.Prelude.{◌≡◌, ◌≢◌, ◌↔◌, IsTrue, true, false, None};
 ghost use Rattle.nts_model.specs.declared.labels.VariableKind.TheVariants as kinds;
 ghost use Rattle.nts_model.specs.Terms.Fitting.{Fits};
-ghost use Rattle.nts_model.specs.Terms.Trees.{Tree, node};
+ghost use Rattle.nts_model.specs.Terms.Trees.{Tree, node, infer_of};
 ghost use Rattle.nts_unify.specs.Joining.{TakesVariable};
-ghost use Rattle.nts_model.specs.Tables.Resolving.{infer_of};
 ghost use Rattle.nts_unify.specs.Changing.{region_variable, is_free_region};
 
 use nts_model::{Label, Leaf, Sort, TyHead, VariableKind};

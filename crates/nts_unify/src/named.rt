@@ -3,7 +3,7 @@ ghost use Rattle.std.specs.Prelude.{◌≡◌, MatchOption, None};
 ghost use Rattle.nts_model.specs.declared.labels.Leaf.TheVariants as leaves;
 ghost use Rattle.nts_model.specs.declared.labels.Label.TheVariants as labels;
 ghost use Rattle.nts_model.specs.Terms.Placeholders.{leaf_level};
-ghost use Rattle.nts_model.specs.Tables.Resolving.{variable_of};
+ghost use Rattle.nts_model.specs.Terms.Trees.{variable_of};
 
 use nts_model::{Constant, FreeRegion, Label, Leaf, VariableKind};
 use nts_terms::UniverseIndex;

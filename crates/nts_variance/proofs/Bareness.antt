@@ -1,9 +1,9 @@
 -- Terms in which nothing hides.
 use Rattle.std.proofs.Common.{List, ◌≡◌, ℕ, Bool, true, false, Option, Some, None, refl, ap, ◌∙◌}
 use Rattle.std.specs.Prelude.{slice_get, IsTrue, ◌↔◌, Result, Ok, Err, IfOk}
-use Rattle.nts_model.specs.Terms.Trees.{Tree, empty, more, node, any_label, is_alias}
+use Rattle.nts_model.specs.Terms.Trees.{Tree, empty, more, node, any_label, is_alias, infer_of}
 use Rattle.nts_model.specs.Tables.Contents.{unset, state_of}
-use Rattle.nts_model.specs.Tables.Resolving.{resolved, infer_of, IsSound}
+use Rattle.nts_model.specs.Tables.Resolving.{resolved, IsSound}
 use Rattle.nts_model.proofs.Tables.Resolved.{resolved-empty, resolved-more, resolved-node, resolved-variable_unset}
 use Rattle.nts_store.specs.Labels.{AllLabels}
 use Rattle.nts_relating.proofs.Plain.{neither}

@@ -8,9 +8,9 @@ use Rattle.nts_model.specs.declared.labels.Leaf.TheVariants as leaf
 use Rattle.nts_model.specs.declared.labels.BoundVarIndexKind.TheVariants as index
 use Rattle.nts_model.specs.declared.labels.Label.{Label}
 use Rattle.nts_model.specs.declared.labels.Label.TheVariants as label
-use Rattle.nts_model.specs.Terms.Trees.{Tree, empty, more, node, binders, IsBoundBelow, IsClosed, IsClosedUnder, IsFormed}
+use Rattle.nts_model.specs.Terms.Trees.{Tree, empty, more, node, binders, IsBoundBelow, IsClosed, IsClosedUnder, IsFormed, variable_of, variable_tree}
 use Rattle.nts_model.specs.Tables.Contents.{Content, unset, universe_of, kind_at}
-use Rattle.nts_model.specs.Tables.Resolving.{variable_of, number_of, variable_tree, IsInfer, Knows, IsSound, deeply_resolved}
+use Rattle.nts_model.specs.Tables.Resolving.{number_of, IsInfer, Knows, IsSound, deeply_resolved}
 use Rattle.nts_model.specs.Tables.Worlds.{World, renamed, placed, inst}
 use Rattle.nts_model.specs.Tables.Holding.{Continues}
 use Rattle.nts_model.specs.Derivations.Related.{IsAlias}

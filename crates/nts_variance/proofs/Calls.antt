@@ -6,7 +6,7 @@ use Rattle.nts_model.specs.declared.labels.AliasHead.TheVariants as alias_of
 use Rattle.nts_model.specs.Tables.Contents.{Content}
 use Rattle.nts_model.specs.Terms.Trees.{Tree, empty, more, node, size, kind_of, IsFormed}
 use Rattle.nts_model.specs.Tables.Resolving.{IsSound, Knows, deeply_resolved}
-use Rattle.nts_model.specs.Derivations.Sequents.{Among}
+use Rattle.nts_model.specs.Lists.{Among}
 use Rattle.nts_model.specs.Derivations.Related.{rest_variances}
 use Rattle.nts_model.specs.Variances.Relations.{AllKnown}
 use Rattle.nts_model.specs.Variances.Relations.{Relating as Pair}

@@ -12,10 +12,10 @@ use Rattle.nts_model.specs.declared.labels.ConstHead.TheVariants as konst
 use Rattle.nts_model.specs.declared.labels.ListHead.TheVariants as list
 use Rattle.nts_model.specs.declared.labels.Label.{Label}
 use Rattle.nts_model.specs.declared.labels.Label.TheVariants as label
-use Rattle.nts_model.specs.Terms.Trees.{Tree, empty, more, node, kind_of, kind_of_label, one_sort, in_order, shape, is, HavePlaces, AllFit, Meets, IsFormed}
+use Rattle.nts_model.specs.Terms.Trees.{Tree, empty, more, node, kind_of, kind_of_label, one_sort, in_order, shape, is, HavePlaces, AllFit, Meets, IsFormed, infer_of, variable_of, variable_tree}
 use Rattle.nts_model.specs.Tables.Contents.{Content, unset, state_of, kind_at}
 use Rattle.nts_model.specs.Terms.Placeholders.{CanName}
-use Rattle.nts_model.specs.Tables.Resolving.{variable_of, infer_of, variable_tree, rooted_variable, rooted, resolved, deeply_resolved, IsSound}
+use Rattle.nts_model.specs.Tables.Resolving.{rooted_variable, rooted, resolved, deeply_resolved, IsSound}
 use Rattle.nts_model.specs.Tables.Levels.{NamesAll, region_level}
 use Rattle.nts_model.specs.Terms.Fitting.{Fits, is_integer, is_float}
 use Rattle.nts_model.specs.Terms.Regions.{name_of_label}

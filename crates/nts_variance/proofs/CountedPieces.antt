@@ -12,9 +12,9 @@ use Rattle.nts_model.specs.declared.labels.AliasHead.TheVariants as alias_of
 use Rattle.nts_model.specs.declared.labels.TyHead.TheVariants as ty
 use Rattle.nts_model.specs.declared.labels.Label.{Label}
 use Rattle.nts_model.specs.declared.labels.Label.TheVariants as label
-use Rattle.nts_model.specs.Terms.Trees.{Tree, empty, more, node, any_label, is_alias, in_order, shape, Meets, IsFormed}
+use Rattle.nts_model.specs.Terms.Trees.{Tree, empty, more, node, any_label, is_alias, in_order, shape, Meets, IsFormed, infer_of, variable_tree}
 use Rattle.nts_model.specs.Tables.Contents.{Content, Slot, unset, Recorded, kind_at, with_slot, with_constraint}
-use Rattle.nts_model.specs.Tables.Resolving.{infer_of, variable_tree, IsInfer, resolved, deeply_resolved, Knows, IsSound}
+use Rattle.nts_model.specs.Tables.Resolving.{IsInfer, resolved, deeply_resolved, Knows, IsSound}
 use Rattle.nts_model.specs.Terms.Fitting.{Fits, is_integer, is_float}
 use Rattle.nts_model.specs.Terms.Regions.{IsRegion}
 use Rattle.nts_model.specs.Derivations.Related.{alias, IsAlias}

@@ -11,9 +11,9 @@ use Rattle.nts_model.specs.declared.labels.ConstHead.TheVariants as konst
 use Rattle.nts_model.specs.declared.labels.ListHead.TheVariants as list
 use Rattle.nts_model.specs.declared.labels.Label.{Label}
 use Rattle.nts_model.specs.declared.labels.Label.TheVariants as label
-use Rattle.nts_model.specs.Terms.Trees.{Tree, empty, more, node, kind_of, one_sort, is, AllFit, IsRow, row_length, is_alias, binders, shape, in_order, Meets, IsBoundBelow, IsClosedUnder, IsClosed, IsFormed}
+use Rattle.nts_model.specs.Terms.Trees.{Tree, empty, more, node, kind_of, one_sort, is, AllFit, IsRow, row_length, is_alias, binders, shape, in_order, Meets, IsBoundBelow, IsClosedUnder, IsClosed, IsFormed, infer_of}
 use Rattle.nts_model.specs.Tables.Contents.{Content}
-use Rattle.nts_model.specs.Tables.Resolving.{infer_of, IsInfer, resolved, Knows, IsSound}
+use Rattle.nts_model.specs.Tables.Resolving.{IsInfer, resolved, Knows, IsSound}
 use Rattle.nts_model.specs.Derivations.Related.{times, first_variance, rest_variances, arguments, alias, IsAlias}
 use Rattle.nts_model.specs.Variances.Forms.{Form, a_constructor, a_function, a_value, an_alias, over, FitsForm}
 use Rattle.nts_model.specs.Tables.Measuring.{is_less, is_bound_below, unless_variable, closed_under, counted, closed_aliases}

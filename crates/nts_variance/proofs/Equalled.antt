@@ -6,7 +6,7 @@ use Rattle.nts_model.specs.declared.labels.Variance.TheVariants as variance
 use Rattle.nts_model.specs.Terms.Trees.{Tree, size, IsFormed}
 use Rattle.nts_model.specs.Tables.Contents.{Content}
 use Rattle.nts_model.specs.Tables.Resolving.{Knows, resolved}
-use Rattle.nts_model.specs.Derivations.Sequents.{Among}
+use Rattle.nts_model.specs.Lists.{Among}
 use Rattle.nts_model.specs.Variances.Relations.{Relating as Pair}
 use Rattle.nts_model.specs.Variances.Forms.{over, variances_over, FitsForm, pairs_over}
 use Rattle.nts_model.specs.Tables.Measuring.{closed_aliases}

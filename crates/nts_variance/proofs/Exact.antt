@@ -9,9 +9,9 @@ use Rattle.nts_model.specs.declared.labels.VariableKind.TheVariants as kind
 use Rattle.nts_model.specs.declared.labels.Leaf.TheVariants as leaf
 use Rattle.nts_model.specs.declared.labels.Label.{Label}
 use Rattle.nts_model.specs.declared.labels.Label.TheVariants as label
-use Rattle.nts_model.specs.Terms.Trees.{Tree, empty, more, node, children, of_sort, label_of, shape, Meets}
+use Rattle.nts_model.specs.Terms.Trees.{Tree, empty, more, node, children, of_sort, label_of, shape, Meets, variable_tree}
 use Rattle.nts_model.specs.Tables.Contents.{Content}
-use Rattle.nts_model.specs.Tables.Resolving.{variable_tree, rooted, deeply_resolved, Knows, IsInfer}
+use Rattle.nts_model.specs.Tables.Resolving.{rooted, deeply_resolved, Knows, IsInfer}
 use Rattle.nts_model.specs.Terms.Fitting.{is_integer, is_float, HasLabel, Fits}
 use Rattle.nts_model.specs.Tables.Worlds.{World, inst, Solves}
 use Rattle.nts_model.specs.Derivations.Related.{times, first_variance, rest_variances}

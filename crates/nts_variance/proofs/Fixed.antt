@@ -8,9 +8,9 @@ use Rattle.nts_model.specs.declared.labels.FreeRegion.TheVariants as region
 use Rattle.nts_model.specs.declared.labels.Leaf.TheVariants as leaf
 use Rattle.nts_model.specs.declared.labels.Label.{Label}
 use Rattle.nts_model.specs.declared.labels.Label.TheVariants as label
-use Rattle.nts_model.specs.Terms.Trees.{Tree, empty, more, node, any_label, is_infer}
+use Rattle.nts_model.specs.Terms.Trees.{Tree, empty, more, node, any_label, is_infer, variable_of}
 use Rattle.nts_model.specs.Tables.Contents.{Content}
-use Rattle.nts_model.specs.Tables.Resolving.{variable_of, number_of, deeply_resolved, Knows}
+use Rattle.nts_model.specs.Tables.Resolving.{number_of, deeply_resolved, Knows}
 use Rattle.nts_model.specs.Terms.Regions.{name_of_label, IsRegion}
 use Rattle.nts_model.specs.Terms.Placeholders.{CanName}
 use Rattle.nts_model.specs.Tables.Levels.{NamesAll, region_level}

@@ -15,13 +15,13 @@ use Rattle.nts_model.specs.declared.labels.Label.{Label}
 use Rattle.nts_model.specs.declared.labels.Label.TheVariants as label
 use Rattle.nts_model.specs.declared.labels.VariableKind.TheVariants as kind
 use Rattle.nts_model.specs.declared.labels.Leaf.TheVariants as leaf
-use Rattle.nts_model.specs.Terms.Trees.{Tree, empty, more, node, binders, kind_of, of_sort, shape, is_alias, any_term, FitsPlace, IsBoundBelow, IsClosed, IsClosedUnder, IsFormed, Meets}
+use Rattle.nts_model.specs.Terms.Trees.{Tree, empty, more, node, binders, kind_of, of_sort, shape, is_alias, any_term, FitsPlace, IsBoundBelow, IsClosed, IsClosedUnder, IsFormed, Meets, variable_of}
 use Rattle.nts_model.specs.Tables.Contents.{Content}
-use Rattle.nts_model.specs.Tables.Resolving.{Knows, IsSound, value_at, variable_of, rooted, rooted_variable, resolved, deeply_resolved}
+use Rattle.nts_model.specs.Tables.Resolving.{Knows, IsSound, value_at, rooted, rooted_variable, resolved, deeply_resolved}
 use Rattle.nts_model.specs.Tables.Holding.{Continues}
 use Rattle.nts_model.specs.Derivations.Related.{IsAlias, alias, arguments, pair, no_sorts, unbound, directed, direction_of}
 use Rattle.nts_model.specs.Variances.Relations.{Relating as Pair}
-use Rattle.nts_model.specs.Derivations.Sequents.{Among}
+use Rattle.nts_model.specs.Lists.{Among}
 use Rattle.nts_model.specs.Variances.AnsweredGoals.{IsAnswered}
 use Rattle.nts_model.proofs.Variances.AliasLabels.{alias_is_alias}
 use Rattle.nts_model.proofs.Tables.Resolved.{deeply_resolved-node, deeply_resolved-empty}

@@ -2,12 +2,12 @@
 use Rattle.std.proofs.Common.{◌≡◌, ℕ, List, [], ◌∷◌, refl, sym, ap, ◌∙◌, subst}
 use Rattle.nts_model.specs.declared.labels.Variance.{Variance}
 use Rattle.nts_model.specs.Tables.Contents.{Content, kind_at}
-use Rattle.nts_model.specs.Terms.Trees.{Tree}
-use Rattle.nts_model.specs.Tables.Resolving.{IsSound, Knows, resolved, rooted, deeply_resolved, variable_tree}
+use Rattle.nts_model.specs.Terms.Trees.{Tree, variable_tree}
+use Rattle.nts_model.specs.Tables.Resolving.{IsSound, Knows, resolved, rooted, deeply_resolved}
 use Rattle.nts_model.specs.Tables.Worlds.{World, inst, Solves}
 use Rattle.nts_model.specs.Tables.Holding.{AreOne, Continues, HoldsConstraint}
 use Rattle.nts_model.specs.Derivations.Related.{Related, one_tree}
-use Rattle.nts_model.specs.Derivations.Sequents.{Among}
+use Rattle.nts_model.specs.Lists.{Among}
 use Rattle.nts_model.specs.Derivations.Proving.{recorded_as}
 use Rattle.nts_model.specs.Variances.Judging.{IsSettled, Settles}
 use Rattle.nts_model.specs.Variances.Relations.{IsSettledWorld}

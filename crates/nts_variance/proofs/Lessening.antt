@@ -11,9 +11,9 @@ use Rattle.nts_model.specs.declared.labels.ListHead.TheVariants as list
 use Rattle.nts_model.specs.declared.labels.TyHead.TheVariants as ty
 use Rattle.nts_model.specs.declared.labels.Label.{Label}
 use Rattle.nts_model.specs.declared.labels.Label.TheVariants as label
-use Rattle.nts_model.specs.Terms.Trees.{Tree, empty, more, node, size, binders, is_alias, IsBoundBelow, IsClosedUnder, IsClosed, IsFormed}
+use Rattle.nts_model.specs.Terms.Trees.{Tree, empty, more, node, size, binders, is_alias, IsBoundBelow, IsClosedUnder, IsClosed, IsFormed, infer_of}
 use Rattle.nts_model.specs.Tables.Contents.{Content}
-use Rattle.nts_model.specs.Tables.Resolving.{infer_of, resolved, Knows}
+use Rattle.nts_model.specs.Tables.Resolving.{resolved, Knows}
 use Rattle.nts_model.specs.Derivations.Related.{rest_variances, arguments}
 use Rattle.nts_model.specs.Variances.Relations.{Relating as Pair, AllKnown}
 use Rattle.nts_model.specs.Variances.Forms.{Form, a_constructor, a_function, a_value, an_alias, over, FitsForm, pairs_over}

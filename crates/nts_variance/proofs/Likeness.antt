@@ -20,7 +20,7 @@ use Rattle.nts_model.specs.Tables.Solvable.{IsSolvable}
 use Rattle.nts_model.specs.Tables.Alike.{Alike, one_tree as one, two_regions, one_label, two_rows, HoldsEqual, AreAlike}
 use Rattle.nts_model.specs.Derivations.Related.{rest_variances, constructor, function, function_variances, value, AreRelated, one_tree, regions, constructors, functions, values, no_more, and_more}
 use Rattle.nts_model.specs.Derivations.Related.{arguments as arguments_of}
-use Rattle.nts_model.specs.Derivations.Sequents.{Among}
+use Rattle.nts_model.specs.Lists.{Among}
 use Rattle.nts_model.specs.Derivations.Proving.{recorded_as}
 use Rattle.nts_model.specs.Variances.Judging.{opposite}
 use Rattle.nts_model.specs.Variances.Forms.{a_constructor, a_function, a_value}

@@ -19,9 +19,9 @@ use Rattle.nts_model.specs.declared.labels.ConstHead.TheVariants as konst
 use Rattle.nts_model.specs.declared.labels.ListHead.TheVariants as list
 use Rattle.nts_model.specs.declared.labels.Label.{Label}
 use Rattle.nts_model.specs.declared.labels.Label.TheVariants as label
-use Rattle.nts_model.specs.Terms.Trees.{Tree, empty, more, node, kind_of, kind_of_label, of_sort, sort_of_variable, label_of, children, any_label, is_alias, is_infer, in_order, shape, Meets, IsClosed, IsFormed}
+use Rattle.nts_model.specs.Terms.Trees.{Tree, empty, more, node, kind_of, kind_of_label, of_sort, sort_of_variable, label_of, children, any_label, is_alias, is_infer, in_order, shape, Meets, IsClosed, IsFormed, infer_of, variable_tree}
 use Rattle.nts_model.specs.Tables.Contents.{Content, Slot, kind_at, with_slot, with_constraint}
-use Rattle.nts_model.specs.Tables.Resolving.{infer_of, variable_tree, IsInfer, Knows, KnowsVariable, resolved}
+use Rattle.nts_model.specs.Tables.Resolving.{IsInfer, Knows, KnowsVariable, resolved}
 use Rattle.nts_model.specs.Terms.Regions.{IsRegion}
 use Rattle.nts_model.specs.Derivations.Related.{IsAlias}
 use Rattle.nts_model.specs.Variances.Relations.{AllKnown}

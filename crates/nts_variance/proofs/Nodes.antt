@@ -20,7 +20,7 @@ use Rattle.nts_model.specs.Derivations.Related.{Constraint, times, first_varianc
 use Rattle.nts_model.specs.Variances.Judging.{Judging, IsSettled, Settles, AllSettle, IsLawfulJudging, opposite}
 use Rattle.nts_model.specs.Variances.Relations.{Relating, SettlesIn}
 use Rattle.nts_model.specs.Variances.AnsweredGoals.{IsAnswered}
-use Rattle.nts_model.specs.Derivations.Sequents.{Among}
+use Rattle.nts_model.specs.Lists.{Among}
 use Rattle.nts_model.specs.Derivations.Proving.{recorded_as}
 use Rattle.nts_model.specs.Variances.Leaving.{judging_of}
 use Rattle.nts_model.specs.Variances.Forms.{Form, a_constructor, a_function, a_value, an_alias, over, variances_over, FitsForm}

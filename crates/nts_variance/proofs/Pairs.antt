@@ -5,9 +5,9 @@ use Rattle.nts_model.specs.declared.labels.Variance.{Variance}
 use Rattle.nts_model.specs.declared.labels.Variance.TheVariants as variance
 use Rattle.nts_model.specs.declared.labels.VariableKind.{VariableKind}
 use Rattle.nts_model.specs.declared.labels.Label.{Label}
-use Rattle.nts_model.specs.Terms.Trees.{Tree, empty}
+use Rattle.nts_model.specs.Terms.Trees.{Tree, empty, variable_tree}
 use Rattle.nts_model.specs.Tables.Contents.{Content, universe_of, kind_at}
-use Rattle.nts_model.specs.Tables.Resolving.{variable_tree, IsSound}
+use Rattle.nts_model.specs.Tables.Resolving.{IsSound}
 use Rattle.nts_model.specs.Tables.Levels.{NamesAll, IfNamesAll, term_level}
 use Rattle.nts_model.specs.Tables.Worlds.{World, inst, IsNameable, Solves}
 use Rattle.nts_model.specs.Tables.Equations.{AreRelated, AreUnrelated}

@@ -6,9 +6,9 @@ use Rattle.nts_model.specs.declared.labels.Variance.{Variance}
 use Rattle.nts_model.specs.declared.labels.Variance.TheVariants as variance
 use Rattle.nts_model.specs.declared.labels.VariableKind.{VariableKind}
 use Rattle.nts_model.specs.declared.labels.VariableKind.TheVariants as kind
-use Rattle.nts_model.specs.Terms.Trees.{Tree, size, kind_of, of_sort, any_label, is_alias, is_infer, IsClosedUnder, IsFormed}
+use Rattle.nts_model.specs.Terms.Trees.{Tree, size, kind_of, of_sort, any_label, is_alias, is_infer, IsClosedUnder, IsFormed, variable_tree}
 use Rattle.nts_model.specs.Tables.Contents.{Content, unset, state_of}
-use Rattle.nts_model.specs.Tables.Resolving.{variable_tree, variable_flag, IsInfer, resolved, Knows, IsSound}
+use Rattle.nts_model.specs.Tables.Resolving.{variable_flag, IsInfer, resolved, Knows, IsSound}
 use Rattle.nts_model.specs.Tables.Levels.{NamesAll, term_level, region_level}
 use Rattle.nts_model.specs.Tables.Worlds.{World, inst, Solves}
 use Rattle.nts_model.specs.Tables.Solvable.{IsSolvable}

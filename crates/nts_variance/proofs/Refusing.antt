@@ -3,9 +3,8 @@ use Rattle.std.proofs.Common.{◌≡◌, ℕ, ◌<◌, Bool, false, List, [], �
 use Rattle.nts_model.specs.declared.labels.Variance.{Variance}
 use Rattle.nts_model.specs.declared.labels.VariableKind.{VariableKind}
 use Rattle.nts_model.specs.declared.labels.Label.{Label}
-use Rattle.nts_model.specs.Terms.Trees.{Tree}
+use Rattle.nts_model.specs.Terms.Trees.{Tree, variable_tree}
 use Rattle.nts_model.specs.Tables.Contents.{Content, universe_of, kind_at}
-use Rattle.nts_model.specs.Tables.Resolving.{variable_tree}
 use Rattle.nts_model.specs.Tables.Levels.{NamesAll, IfNamesAll, term_level}
 use Rattle.nts_model.specs.Tables.Worlds.{inst, IsNameable}
 use Rattle.nts_model.specs.Variances.Leaving.{judging_of}

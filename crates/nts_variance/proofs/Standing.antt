@@ -7,7 +7,7 @@ use Rattle.nts_model.specs.Tables.Resolving.{Knows, rooted, deeply_resolved}
 use Rattle.nts_model.specs.Tables.Worlds.{inst}
 use Rattle.nts_model.specs.Tables.Holding.{AreOne, HoldsConstraint}
 use Rattle.nts_model.specs.Derivations.Related.{Related}
-use Rattle.nts_model.specs.Derivations.Sequents.{Among}
+use Rattle.nts_model.specs.Lists.{Among}
 use Rattle.nts_model.specs.Derivations.Proving.{recorded_as}
 use Rattle.nts_model.specs.Variances.Judging.{Judging, Settles}
 use Rattle.nts_model.specs.Variances.Relations.{Relating as Pair}

@@ -6,9 +6,9 @@ use Rattle.nts_model.specs.declared.labels.Variance.{Variance}
 use Rattle.nts_model.specs.declared.labels.Variance.TheVariants as variance
 use Rattle.nts_model.specs.declared.labels.VariableKind.{VariableKind}
 use Rattle.nts_model.specs.declared.labels.VariableKind.TheVariants as kind
-use Rattle.nts_model.specs.Terms.Trees.{Tree, kind_of, of_sort, any_label, is_alias, is_infer, row_length, IsRow, IsFormed}
+use Rattle.nts_model.specs.Terms.Trees.{Tree, kind_of, of_sort, any_label, is_alias, is_infer, row_length, IsRow, IsFormed, variable_tree}
 use Rattle.nts_model.specs.Tables.Contents.{Content, with_constraint, kind_at}
-use Rattle.nts_model.specs.Tables.Resolving.{IsSound, Knows, deeply_resolved, variable_tree}
+use Rattle.nts_model.specs.Tables.Resolving.{IsSound, Knows, deeply_resolved}
 use Rattle.nts_model.specs.Terms.Regions.{IsRegion}
 use Rattle.nts_model.specs.Tables.Worlds.{World, inst, Solves}
 use Rattle.nts_model.specs.Tables.Holding.{Continues, HoldsConstraint, AreOne}
@@ -16,7 +16,7 @@ use Rattle.nts_model.specs.Tables.Solvable.{IsSolvable}
 use Rattle.nts_model.specs.Tables.Equations.{AreRelated, AreUnrelated}
 use Rattle.nts_model.specs.Tables.Tying.{TiesNew}
 use Rattle.nts_model.specs.Derivations.Related.{Related, one_tree}
-use Rattle.nts_model.specs.Derivations.Sequents.{Among}
+use Rattle.nts_model.specs.Lists.{Among}
 use Rattle.nts_model.specs.Derivations.Proving.{recorded_as}
 use Rattle.nts_model.specs.Variances.Judging.{IsSettled, Settles, opposite}
 use Rattle.nts_model.specs.Variances.Relations.{Relating, AllSettleIn, IsSettledWorld}

@@ -6,7 +6,7 @@ use Rattle.nts_model.specs.Terms.Trees.{Tree}
 use Rattle.nts_model.specs.Tables.Resolving.{IsSound}
 use Rattle.nts_model.specs.Tables.Worlds.{World}
 use Rattle.nts_model.specs.Tables.Holding.{Continues}
-use Rattle.nts_model.specs.Derivations.Sequents.{Among}
+use Rattle.nts_model.specs.Lists.{Among}
 use Rattle.nts_model.specs.Variances.Relations.{Relating, AllSettleIn, AllKnown}
 use Rattle.nts_model.specs.Variances.AnsweredGoals.{AllRelatedUnder}
 use Rattle.nts_model.specs.Variances.Leaving.{Judge, judging_of}

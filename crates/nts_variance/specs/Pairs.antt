@@ -1,6 +1,6 @@
 -- What relating whole pairs leaves in a table, by judgings in which erased and error regions are related with themselves alone.
 use Rattle.std.specs.Prelude.{◌≡◌, ℕ, ◌+◌, ◌≤◌, ◌<◌, Bool, List, [], ◌∷◌, length}
-use Rattle.nts_model.specs.Terms.Trees.{Tree}
+use Rattle.nts_model.specs.Terms.Trees.{Tree, variable_tree}
 use Rattle.nts_model.specs.declared.labels.VariableKind.{VariableKind}
 use Rattle.nts_model.specs.declared.labels.Variance.{Variance}
 use Rattle.nts_model.specs.declared.labels.Variance.TheVariants as variance
@@ -8,7 +8,7 @@ use Rattle.nts_model.specs.Tables.Contents.{Content}
 use Rattle.nts_model.specs.Tables.Worlds.{World, Solves}
 use Rattle.nts_model.specs.Variances.Relations.{Relating, AllSettleIn, IsSettledWorld, SettledExtension}
 use Rattle.nts_model.specs.Variances.Leaving.{Judge, judging_of}
-use Rattle.nts_model.specs.Tables.Resolving.{variable_tree, resolved, deeply_resolved, Knows, IsSound}
+use Rattle.nts_model.specs.Tables.Resolving.{resolved, deeply_resolved, Knows, IsSound}
 use Rattle.nts_model.specs.Tables.Measuring.{closed_aliases}
 use Rattle.nts_model.specs.Tables.Holding.{Continues}
 use Rattle.nts_model.specs.Variances.AnsweredGoals.{AllAnswered}

@@ -4,17 +4,17 @@ use Rattle.nts_model.specs.declared.labels.Sort.{Sort}
 use Rattle.nts_model.specs.declared.labels.Sort.TheVariants as sort
 use Rattle.nts_model.specs.declared.labels.Variance.{Variance}
 use Rattle.nts_model.specs.declared.labels.Variance.TheVariants as variance
-use Rattle.nts_model.specs.Terms.Trees.{Tree, node, size, kind_of, of_sort, row_length, IsClosed}
+use Rattle.nts_model.specs.Terms.Trees.{Tree, node, size, kind_of, of_sort, row_length, IsClosed, infer_of, variable_tree}
 use Rattle.nts_model.specs.Tables.Contents.{Content}
 use Rattle.nts_model.specs.declared.labels.VariableKind.{VariableKind}
 use Rattle.nts_model.specs.declared.labels.VariableKind.TheVariants as kind
-use Rattle.nts_model.specs.Tables.Resolving.{Knows, IsSound, infer_of, resolved, deeply_resolved, variable_tree}
+use Rattle.nts_model.specs.Tables.Resolving.{Knows, IsSound, resolved, deeply_resolved}
 use Rattle.nts_model.specs.Derivations.Related.{IsAlias}
 use Rattle.nts_model.specs.Tables.Measuring.{closed_aliases}
 use Rattle.nts_model.specs.Tables.Holding.{Continues}
 use Rattle.nts_model.specs.Variances.Relations.{Relating as Pair}
 use Rattle.nts_model.specs.Variances.AnsweredGoals.{AllAnswered, RelatedUnder, AllRelatedUnder, RelatesBy}
-use Rattle.nts_model.specs.Derivations.Sequents.{Among}
+use Rattle.nts_model.specs.Lists.{Among}
 use Rattle.nts_model.specs.Variances.Forms.{variances_over, pairs_over}
 use Rattle.nts_store.specs.declared.nodes.NodeId.{NodeId}
 use Rattle.nts_store.specs.Growth.{tree_at, IsIn}

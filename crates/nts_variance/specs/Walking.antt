@@ -14,7 +14,7 @@ use Rattle.nts_model.specs.Tables.Levels.{NamesAll, term_level, region_level}
 use Rattle.nts_model.specs.Tables.Worlds.{World, inst, Solves}
 use Rattle.nts_model.specs.Tables.Holding.{Continues, HoldsConstraint}
 use Rattle.nts_model.specs.Derivations.Related.{Related, IsAlias, region_constraint}
-use Rattle.nts_model.specs.Derivations.Sequents.{Among}
+use Rattle.nts_model.specs.Lists.{Among}
 use Rattle.nts_model.specs.Derivations.Proving.{recorded_as}
 use Rattle.nts_model.specs.Variances.Judging.{Judging, IsSettled, Settles, opposite}
 use Rattle.nts_model.specs.Terms.Substitutions.{leaf_tree}

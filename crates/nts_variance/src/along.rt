@@ -2,9 +2,9 @@
 ghost use Rattle.std.specs.Prelude.{◌≡◌, ◌≢◌, ◌∷◌, [], IfOk, Some, Err};
 ghost use Rattle.nts_model.specs.declared.labels.Sort.{Sort};
 ghost use Rattle.nts_model.specs.declared.labels.VariableKind.{VariableKind};
-ghost use Rattle.nts_model.specs.Terms.Trees.{kind_of, of_sort};
+ghost use Rattle.nts_model.specs.Terms.Trees.{kind_of, of_sort, variable_tree};
 ghost use Rattle.nts_model.specs.Tables.Contents.{kind_at};
-ghost use Rattle.nts_model.specs.Tables.Resolving.{variable_tree, IsInfer, Knows};
+ghost use Rattle.nts_model.specs.Tables.Resolving.{IsInfer, Knows};
 ghost use Rattle.nts_model.specs.Derivations.Related.{IsAlias};
 ghost use Rattle.nts_store.specs.Growth.{tree_at, IsIn, Extends};
 ghost use Rattle.nts_terms.specs.Signatures.{variances_in};

@@ -1,8 +1,8 @@
 //! Whether an alias may hide behind the variables of a term.
 ghost use Rattle.std.specs.Prelude.{◌≡◌, ◌↔◌, IsTrue, true, false, IfOk};
 ghost use Rattle.nts_store.specs.Labels.{AllLabels};
-ghost use Rattle.nts_model.specs.Tables.Resolving.{infer_of, resolved};
-ghost use Rattle.nts_model.specs.Terms.Trees.{any_label, is_alias};
+ghost use Rattle.nts_model.specs.Tables.Resolving.{resolved};
+ghost use Rattle.nts_model.specs.Terms.Trees.{any_label, is_alias, infer_of};
 ghost use Rattle.nts_store.specs.Growth.{tree_at, IsIn};
 ghost use Rattle.nts_unify.specs.Reading.{content_of, IsLawful};
 ghost use Rattle.nts_variance.specs.Bare.{is_bare};

@@ -3,8 +3,8 @@ ghost use Rattle.std.specs.Prelude.{◌≡◌, ◌≢◌, ◌⊎◌, ℕ, ◌+�
 ghost use Rattle.nts_model.specs.declared.labels.Leaf.TheVariants as leaves;
 ghost use Rattle.nts_model.specs.declared.labels.Label.TheVariants as labels;
 ghost use Rattle.nts_model.specs.declared.labels.VariableKind.TheVariants as kinds;
-ghost use Rattle.nts_model.specs.Terms.Trees.{any_label, children, is_alias, label_of, node, row_length, shape, AllFit, IsClosedUnder, IsFormed, Meets};
-ghost use Rattle.nts_model.specs.Tables.Resolving.{IsInfer, resolved, variable_tree};
+ghost use Rattle.nts_model.specs.Terms.Trees.{any_label, children, is_alias, label_of, node, row_length, shape, AllFit, IsClosedUnder, IsFormed, Meets, variable_tree};
+ghost use Rattle.nts_model.specs.Tables.Resolving.{IsInfer, resolved};
 ghost use Rattle.nts_model.specs.declared.labels.Variance.TheVariants as variances;
 ghost use Rattle.nts_store.specs.TypeFlags.{flags_of};
 ghost use Rattle.nts_model.specs.Tables.Contents.{kind_at};

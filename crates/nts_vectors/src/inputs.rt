@@ -1,6 +1,6 @@
 //! A store and a table for tests, with each condition of a call tested by a public function.
 ghost use Rattle.std.specs.Prelude.{◌≡◌, [], All, IfOk};
-ghost use Rattle.nts_model.specs.Derivations.Handlers.{filled};
+ghost use Rattle.nts_model.specs.Terms.Substitutions.{filled};
 ghost use Rattle.nts_store.specs.Filled.{HasValues};
 ghost use Rattle.nts_terms.specs.Handles.{HoldsArg};
 ghost use Rattle.nts_terms.specs.Kinds.{TyFits};

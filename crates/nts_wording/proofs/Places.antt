@@ -4,8 +4,7 @@ use Rattle.std.proofs.lemmas.List.{map-append, take_more, length-take-le}
 use Rattle.nts_model.specs.declared.labels.Sort.{Sort}
 use Rattle.nts_model.specs.declared.labels.Sort.TheVariants as sort
 use Rattle.nts_model.specs.Canonical.Numbered.{position}
-use Rattle.nts_model.specs.Tables.Resolving.{variable_tree}
-use Rattle.nts_model.specs.Terms.Trees.{Tree}
+use Rattle.nts_model.specs.Terms.Trees.{Tree, variable_tree}
 use Rattle.nts_store.specs.declared.nodes.NodeId.{NodeId}
 use Rattle.nts_store.specs.Growth.{tree_at, trees_at, AllIn, Extends}
 use Rattle.nts_store.proofs.Growing.{Extends-trans}

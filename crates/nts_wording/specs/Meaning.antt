@@ -12,8 +12,7 @@ use Rattle.nts_model.specs.declared.labels.TyHead.TheVariants as ty
 use Rattle.nts_model.specs.declared.labels.ClauseHead.TheVariants as clause
 use Rattle.nts_model.specs.declared.labels.ListHead.TheVariants as list
 use Rattle.nts_model.specs.Canonical.Numbered.{position}
-use Rattle.nts_model.specs.Tables.Resolving.{variable_tree}
-use Rattle.nts_model.specs.Terms.Trees.{Tree, empty, more, node}
+use Rattle.nts_model.specs.Terms.Trees.{Tree, empty, more, node, variable_tree}
 use Rattle.nts_table.specs.Fresh.{variable_kind}
 use Rattle.nts_delegate.specs.declared.clauses.Clause.{Clause}
 use Rattle.nts_terms.specs.declared.handles.GenericArg.{GenericArg}

@@ -10,7 +10,8 @@ use Rattle.nts_model.specs.Tables.Resolving.{deeply_resolved, IsSound}
 use Rattle.nts_model.specs.Terms.Regions.{IsRegion}
 use Rattle.nts_model.specs.Tables.Holding.{HoldsConstraint}
 use Rattle.nts_model.specs.Derivations.Related.{pair, unbound}
-use Rattle.nts_model.specs.Derivations.Sequents.{Among, Premise, IsOfTerms, Grants, Hides}
+use Rattle.nts_model.specs.Lists.{Among}
+use Rattle.nts_model.specs.Derivations.Sequents.{Premise, IsOfTerms, Grants, Hides}
 use Rattle.nts_model.specs.Derivations.Rules.{Meaning, Mode, GoalKind, Stands, statement_of, relating, RelatedIn, goal_kind, IsBuiltIn, IsRule, region_lives, type_lives, formed}
 use Rattle.nts_model.specs.Derivations.Proofs.{Assumed, by_rule, all_derived}
 use Rattle.nts_model.specs.Derivations.Proving.{HoldsTerms, AreConstraintsOf, recorded_as, read_constraints, sequent_at}

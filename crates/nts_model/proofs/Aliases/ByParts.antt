@@ -7,12 +7,13 @@ use Rattle.nts_model.specs.declared.labels.Variance.TheVariants as variance
 use Rattle.nts_model.specs.Terms.Trees.{Tree}
 use Rattle.nts_model.specs.Tables.Contents.{Content}
 use Rattle.nts_model.specs.Tables.Resolving.{deeply_resolved, Knows, IsSound}
-use Rattle.nts_model.specs.Terms.Substitutions.{instance_of}
+use Rattle.nts_model.specs.Terms.Substitutions.{instance_of, filled}
 use Rattle.nts_model.specs.Derivations.Related.{Constraint, unbound}
-use Rattle.nts_model.specs.Derivations.Sequents.{Among, Premise, Hidden, IsOfTerms, Grants, Hides, premise_under}
+use Rattle.nts_model.specs.Lists.{Among}
+use Rattle.nts_model.specs.Derivations.Sequents.{Premise, Hidden, IsOfTerms, Grants, Hides, premise_under}
 use Rattle.nts_model.specs.Derivations.Rules.{Mode, Equation, related, HoldsEquation, GoalKind, goal_kind, step_kind, proof_kind, Stands, IsApplied, IsRule}
 use Rattle.nts_model.specs.Derivations.Proofs.{Assumed, passed, by_rule, IsNormalization}
-use Rattle.nts_model.specs.Derivations.Handlers.{Handler, meaning, Candidate, certain, filled, equation_by, constraint_by, hidden_by, premise_by, AreValuesOf, use_of, IsAsked, InstancesAreRules, IsCandidateFor}
+use Rattle.nts_model.specs.Derivations.Handlers.{Handler, meaning, Candidate, certain, equation_by, constraint_by, hidden_by, premise_by, AreValuesOf, use_of, IsAsked, InstancesAreRules, IsCandidateFor}
 use Rattle.nts_model.specs.Derivations.Proving.{HoldsTerms, IsTermOf, AreConstraintsOf, read_constraints, read_goals, sequent_at, sequent_with, HoldsCandidate, IsHeldAt}
 use Rattle.nts_model.specs.Searching.Stacks.{IsProvedFrom, IsProvedWith}
 use Rattle.nts_model.specs.Variances.AnsweredGoals.{RelatedUnder}

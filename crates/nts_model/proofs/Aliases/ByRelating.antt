@@ -20,7 +20,8 @@ use Rattle.nts_model.specs.Tables.Alike.{AreAlike, one_tree, one_label, two_rows
 use Rattle.nts_model.specs.Derivations.Related.{Constraint, region_constraint, pair, no_sorts, unbound, constructor, function, value, alias, IsAlias, Related, AreRelated, regions, constructors, functions, values, open_aliases, aliases, subtypes, no_more, and_more}
 use Rattle.nts_model.specs.Derivations.Related.{arguments as arguments_of}
 use Rattle.nts_model.specs.Derivations.Related.{one_tree as same_tree}
-use Rattle.nts_model.specs.Derivations.Sequents.{Among, PathKind, coinductive, type_relating, Premise, IsOfTerms, Hides, premise_under}
+use Rattle.nts_model.specs.Lists.{Among}
+use Rattle.nts_model.specs.Derivations.Sequents.{PathKind, coinductive, type_relating, Premise, IsOfTerms, Hides, premise_under}
 use Rattle.nts_model.specs.Derivations.Rules.{Meaning, Mode, GoalKind, other_goal, goal_kind, step_kind, proof_kind, IsTerm, Stands, relating, normalization_goal, IsResult, RelatedIn, AreResultsRelated, variance_of, IsBuiltIn, subtyped, coerced, aliases_relate, IsPlainRule, IsRule}
 use Rattle.nts_model.specs.Derivations.Proofs.{Assumed, passed, by_rule}
 use Rattle.nts_model.specs.Derivations.Handlers.{premise_by}

@@ -5,7 +5,7 @@ use Rattle.nts_model.specs.declared.labels.Variance.TheVariants as variance
 use Rattle.nts_model.specs.Terms.Trees.{Tree, empty, more, node}
 use Rattle.nts_model.specs.Tables.Worlds.{World}
 use Rattle.nts_model.specs.Derivations.Related.{times, first_variance, rest_variances, function_variances, constructor, function, value, alias, one_tree, regions, constructors, functions, values, open_aliases, aliases, subtypes, no_more, and_more}
-use Rattle.nts_model.specs.Derivations.Sequents.{Among}
+use Rattle.nts_model.specs.Lists.{Among}
 use Rattle.nts_model.specs.Derivations.Rules.{chosen, kept_empty, kept_more, kept_node}
 use Rattle.nts_model.specs.Variances.Judging.{Judging, AllStand, IsSettled, IsValueOf, Normalizes, Along, AreAlong, Settles, IsLawfulJudging}
 use Rattle.nts_model.specs.Variances.Listing.{Lists, by_lists, AreOf}

@@ -9,7 +9,8 @@ use Rattle.nts_model.specs.Tables.Contents.{Content}
 use Rattle.nts_model.specs.Tables.Resolving.{deeply_resolved, IsSound}
 use Rattle.nts_model.specs.Terms.Substitutions.{instance_of}
 use Rattle.nts_model.specs.Derivations.Related.{Constraint, pair, unbound}
-use Rattle.nts_model.specs.Derivations.Sequents.{Among, Premise, IsOfTerms, Hides}
+use Rattle.nts_model.specs.Lists.{Among}
+use Rattle.nts_model.specs.Derivations.Sequents.{Premise, IsOfTerms, Hides}
 use Rattle.nts_model.specs.Derivations.Rules.{Meaning, Mode, other_goal, goal_kind, proof_kind, Stands, opened, AreFresh, bound, IsBuiltIn, IsPlainRule, IsRule}
 use Rattle.nts_model.specs.Derivations.Proofs.{Assumed, passed, by_rule}
 use Rattle.nts_model.specs.Derivations.Proving.{HoldsTerms, IsTermOf, AreConstraintsOf, read_constraints, sequent_at}

@@ -8,7 +8,8 @@ use Rattle.nts_model.specs.Tables.Contents.{Content}
 use Rattle.nts_model.specs.Tables.Resolving.{deeply_resolved, IsSound}
 use Rattle.nts_model.specs.Terms.Substitutions.{instance_of}
 use Rattle.nts_model.specs.Derivations.Related.{pair, unbound}
-use Rattle.nts_model.specs.Derivations.Sequents.{Among, Hides}
+use Rattle.nts_model.specs.Lists.{Among}
+use Rattle.nts_model.specs.Derivations.Sequents.{Hides}
 use Rattle.nts_model.specs.Derivations.Rules.{Mode, Meaning, goal_kind, statement_kind, proof_kind, IsHandlers, opened, AreFresh, bound, IsPlainRule}
 use Rattle.nts_model.specs.Derivations.Proofs.{Assumed, passed}
 use Rattle.nts_model.specs.Derivations.Handlers.{Handler, meaning, Candidate, certain, IsAsked, IsLawful}

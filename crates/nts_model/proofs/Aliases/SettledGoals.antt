@@ -1,7 +1,8 @@
 -- Goals that are asked in steps, where one that normalizes an alias may leave goals open, which join the goals.
 use Rattle.std.proofs.Common.{◌≡◌, List, [], ◌∷◌}
 use Rattle.nts_model.specs.Tables.Contents.{Content}
-use Rattle.nts_model.specs.Derivations.Sequents.{Among, coinductive, Premise}
+use Rattle.nts_model.specs.Lists.{Among}
+use Rattle.nts_model.specs.Derivations.Sequents.{coinductive, Premise}
 use Rattle.nts_model.specs.Derivations.Rules.{Meaning, Mode, other_goal, step_kind}
 use Rattle.nts_model.specs.Derivations.Proofs.{Assumed, passed}
 use Rattle.nts_model.specs.Searching.Stacks.{IsProvedWith}

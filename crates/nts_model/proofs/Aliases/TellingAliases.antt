@@ -14,14 +14,15 @@ use Rattle.nts_model.specs.Tables.Resolving.{deeply_resolved, resolved}
 use Rattle.nts_model.specs.Tables.Worlds.{World, Solves}
 use Rattle.nts_model.specs.Tables.Equations.{AreRelated, AreUnrelated}
 use Rattle.nts_model.specs.Derivations.Related.{pair, unbound, alias, IsAlias}
-use Rattle.nts_model.specs.Derivations.Sequents.{Source, inductive, Premise, Among}
+use Rattle.nts_model.specs.Lists.{Among}
+use Rattle.nts_model.specs.Derivations.Sequents.{Source, inductive, Premise}
 use Rattle.nts_model.specs.Derivations.Rules.{Mode, coherence, GoalKind, normalization, other_goal, step_kind, goal_kind, Equation, related, alike, choice, KeepsAliases, statement_of, relating, normalization_goal, variance_of}
-use Rattle.nts_model.specs.Derivations.Handlers.{Handler, meaning, Candidate, filled, premise_by}
+use Rattle.nts_model.specs.Derivations.Handlers.{Handler, meaning, Candidate, premise_by}
 use Rattle.nts_model.specs.Refutation.Choosing.{Freshens}
 use Rattle.nts_model.specs.Refutation.Forcing.{AddsAll}
 use Rattle.nts_model.specs.Refutation.Opening.{entered, opened_in}
 use Rattle.nts_model.specs.Canonical.Inputs.{Input, PositionKind, canonical_of, originals}
-use Rattle.nts_model.specs.Terms.Substitutions.{leaf_tree}
+use Rattle.nts_model.specs.Terms.Substitutions.{leaf_tree, filled}
 use Rattle.nts_model.specs.Answers.Applying.{IsNew}
 use Rattle.nts_model.specs.Answers.Responses.{Response, Applies, RefusesResponse}
 use Rattle.nts_model.specs.Variances.Relations.{Relating, AllSettleIn, IsJudgedBy, IsSettledWorld}

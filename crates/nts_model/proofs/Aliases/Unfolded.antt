@@ -18,7 +18,8 @@ use Rattle.nts_model.specs.Tables.Alike.{two_regions as alike_regions}
 use Rattle.std.specs.Prelude.{map}
 use Rattle.nts_model.specs.Terms.Substitutions.{Instance, instance_of}
 use Rattle.nts_model.specs.Derivations.Related.{Constraint, region_constraint, pair, no_sorts, unbound, alias_goal, subtype_goal, alias, IsAlias, Related, AreRelated, one_tree, regions, constructors, functions, values, open_aliases, aliases, subtypes, no_more, and_more}
-use Rattle.nts_model.specs.Derivations.Sequents.{Among, Source, Premise, Sequent, inductive, type_relating, normalize_goal, AreOneBy, IsTrivial, constraint_under, premise_under, Grants, IsInstance}
+use Rattle.nts_model.specs.Lists.{Among}
+use Rattle.nts_model.specs.Derivations.Sequents.{Source, Premise, Sequent, inductive, type_relating, normalize_goal, AreOneBy, IsTrivial, constraint_under, premise_under, Grants, IsInstance}
 use Rattle.nts_model.specs.Derivations.Rules.{Meaning, Mode, strictly, GoalKind, coinductive_trait, statement_kind, goal_kind, normalization, other_goal, IsCoinductiveStep, choice, IsTerm, Replaced, chosen, kept_empty, kept_more, kept_node, Stands, IsResult, relating, statement_of, KeepsAliases, normalization_goal, variance_of, IsRule}
 use Rattle.nts_model.specs.Derivations.Proofs.{Node, Step, RestsOn, reopened, Serves}
 use Rattle.nts_model.specs.Variances.Judging.{Judging, AllStand, IsSettled, IsValueOf, Normalizes, Along, Settles, AllSettle, IsLawfulJudging}

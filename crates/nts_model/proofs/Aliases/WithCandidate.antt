@@ -6,12 +6,13 @@ use Rattle.nts_model.specs.declared.labels.Variance.TheVariants as variance
 use Rattle.nts_model.specs.Terms.Trees.{Tree}
 use Rattle.nts_model.specs.Tables.Contents.{Content}
 use Rattle.nts_model.specs.Tables.Resolving.{deeply_resolved, Knows, IsSound}
-use Rattle.nts_model.specs.Terms.Substitutions.{instance_of}
+use Rattle.nts_model.specs.Terms.Substitutions.{instance_of, filled}
 use Rattle.nts_model.specs.Derivations.Related.{Constraint, unbound}
-use Rattle.nts_model.specs.Derivations.Sequents.{Among, Premise, Grants, Hides}
+use Rattle.nts_model.specs.Lists.{Among}
+use Rattle.nts_model.specs.Derivations.Sequents.{Premise, Grants, Hides}
 use Rattle.nts_model.specs.Derivations.Rules.{Mode, Equation, related, alike, GoalKind, goal_kind, step_kind, proof_kind, Stands, IsApplied}
 use Rattle.nts_model.specs.Derivations.Proofs.{Assumed, passed, IsNormalization}
-use Rattle.nts_model.specs.Derivations.Handlers.{Handler, meaning, Candidate, certain, filled, premise_by, AreValuesOf, IsAsked, IsCandidateFor}
+use Rattle.nts_model.specs.Derivations.Handlers.{Handler, meaning, Candidate, certain, premise_by, AreValuesOf, IsAsked, IsCandidateFor}
 use Rattle.nts_model.specs.Derivations.Proving.{HoldsTerms, IsTermOf, AreConstraintsOf, read_constraints, sequent_at, IsHeldAt}
 use Rattle.nts_model.specs.Searching.Stacks.{IsProvedFrom, IsProvedWith}
 use Rattle.nts_model.specs.Variances.AnsweredGoals.{RelatedUnder}

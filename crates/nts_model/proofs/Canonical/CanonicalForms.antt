@@ -4,9 +4,8 @@ use Rattle.nts_model.specs.declared.labels.FreeRegion.TheVariants as region
 use Rattle.nts_model.specs.declared.labels.Leaf.{Leaf}
 use Rattle.nts_model.specs.declared.labels.Leaf.TheVariants as leaf
 use Rattle.nts_model.specs.Terms.Trees.{Tree, empty, more, IsFormed, sort_of_leaf}
-use Rattle.nts_model.specs.Terms.Substitutions.{leaf_tree, replace, Renaming, rename}
-use Rattle.nts_model.specs.Derivations.Sequents.{Among}
-use Rattle.nts_model.specs.Derivations.Handlers.{filled}
+use Rattle.nts_model.specs.Terms.Substitutions.{leaf_tree, replace, Renaming, rename, filled}
+use Rattle.nts_model.specs.Lists.{Among}
 use Rattle.nts_model.specs.Canonical.Numbered.{number, seen, numbered, numbered_leaf, position, no_leaf, AreDistinct}
 use Rattle.nts_model.specs.Canonical.Inputs.{Input, CanonicalInput, canonical_of, is_static, after_environment, after_predicate, originals, position_kind, label_or_leaf, OccursIn, Renames, IsInput, FormsTellInputs, OriginalsGiveInput, OriginalsAreLeaves, made_of, MakingGivesForm}
 use Rattle.nts_model.proofs.Terms.Substituting.{replace-replace, replace-leaf}

@@ -7,9 +7,8 @@ use Rattle.nts_model.specs.declared.labels.Leaf.TheVariants as leaf
 use Rattle.nts_model.specs.declared.labels.Label.{Label}
 use Rattle.nts_model.specs.declared.labels.Label.TheVariants as label
 use Rattle.nts_model.specs.Terms.Trees.{Tree, empty, more, node, IsFormed, sort_of_leaf, sort_of_variable}
-use Rattle.nts_model.specs.Terms.Substitutions.{leaf_tree, put, replace, Occurs, LeafSort, of_variable, of_constant, leaf_sort}
-use Rattle.nts_model.specs.Derivations.Sequents.{Among}
-use Rattle.nts_model.specs.Derivations.Handlers.{filled}
+use Rattle.nts_model.specs.Terms.Substitutions.{leaf_tree, put, replace, Occurs, LeafSort, of_variable, of_constant, leaf_sort, filled}
+use Rattle.nts_model.specs.Lists.{Among}
 use Rattle.nts_model.specs.Canonical.Numbered.{added, seen_node, seen, position, numbered_leaf, numbered}
 use Rattle.nts_model.specs.Canonical.Inputs.{label_or_leaf}
 use Rattle.nts_model.proofs.Terms.Substituting.{replace-replace, replace-leaf, leaf_alone}

@@ -6,9 +6,8 @@ use Rattle.nts_model.specs.declared.labels.BoundVarIndexKind.TheVariants as inde
 use Rattle.nts_model.specs.declared.labels.Label.{Label}
 use Rattle.nts_model.specs.declared.labels.Label.TheVariants as label
 use Rattle.nts_model.specs.Terms.Trees.{Tree, empty, more, node, any_label, is_canonical, IsFormed, sort_of_leaf}
-use Rattle.nts_model.specs.Terms.Substitutions.{leaf_tree, put, replace}
-use Rattle.nts_model.specs.Derivations.Sequents.{Among}
-use Rattle.nts_model.specs.Derivations.Handlers.{filled}
+use Rattle.nts_model.specs.Terms.Substitutions.{leaf_tree, put, replace, filled}
+use Rattle.nts_model.specs.Lists.{Among}
 use Rattle.nts_model.specs.Canonical.Numbered.{number, added, seen_node, seen, position, numbered_leaf, numbered, AreDistinct}
 use Rattle.nts_model.proofs.Terms.Substituting.{replace-leaf}
 use Rattle.nts_model.proofs.Terms.Listed.{either, added-has, added-keeps, distinct-added, number-kept, number-added, original}

@@ -7,7 +7,7 @@ use Rattle.nts_model.specs.declared.labels.VariableKind.TheVariants as kind
 use Rattle.nts_model.specs.declared.labels.Leaf.{Leaf}
 use Rattle.nts_model.specs.declared.labels.Leaf.TheVariants as leaf
 use Rattle.nts_model.specs.Terms.Substitutions.{LeafSort, of_variable, of_constant, leaf_sort}
-use Rattle.nts_model.specs.Derivations.Sequents.{Among}
+use Rattle.nts_model.specs.Lists.{Among}
 use Rattle.nts_model.specs.Canonical.Numbered.{number}
 use Rattle.nts_model.specs.Canonical.Inputs.{PositionKind, type_variable, integer_variable, float_variable, const_variable, region_variable, placeholder, sub_root_of, are_one, share, kind_at, position_kind}
 use Rattle.nts_model.proofs.Terms.Listed.{either, map-equal, map-tells, map-map, among-map, place-map, place-equal, number-map}

@@ -5,12 +5,12 @@ use Rattle.nts_model.specs.declared.labels.Leaf.TheVariants as leaf
 use Rattle.nts_model.specs.declared.labels.BoundVarIndexKind.TheVariants as index
 use Rattle.nts_model.specs.declared.labels.Label.{Label}
 use Rattle.nts_model.specs.declared.labels.Label.TheVariants as label
-use Rattle.nts_model.specs.Terms.Trees.{Tree, empty, more, node, IsFormed}
+use Rattle.nts_model.specs.Terms.Trees.{Tree, empty, more, node, IsFormed, infer_of, variable_of}
 use Rattle.nts_model.specs.Tables.Contents.{Content}
-use Rattle.nts_model.specs.Tables.Resolving.{variable_of, infer_of, deeply_resolved}
+use Rattle.nts_model.specs.Tables.Resolving.{deeply_resolved}
 use Rattle.nts_model.specs.Tables.Worlds.{World, inst}
-use Rattle.nts_model.specs.Terms.Substitutions.{leaf_tree, put, replace, Instance, instance_of}
-use Rattle.nts_model.specs.Derivations.Handlers.{position_of, value_or, filled, filled_under, IsFixed}
+use Rattle.nts_model.specs.Terms.Substitutions.{leaf_tree, put, replace, Instance, instance_of, filled, filled_under, position_of, value_or}
+use Rattle.nts_model.specs.Derivations.Handlers.{IsFixed}
 use Rattle.nts_model.specs.Answers.Responses.{IsOverPositions, read_in}
 use Rattle.nts_model.proofs.Terms.Substituting.{leaf_alone}
 use Rattle.nts_model.proofs.Tables.Resolved.{deeply_resolved-node, deeply_resolved-empty}

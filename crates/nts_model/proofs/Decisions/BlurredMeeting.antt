@@ -24,10 +24,10 @@ use Rattle.nts_model.specs.Terms.Fitting.{Fits}
 use Rattle.nts_model.specs.Tables.Solvable.{IsSolvable}
 use Rattle.nts_model.specs.Tables.RegionClasses.{reading}
 use Rattle.nts_model.specs.Tables.Worlds.{World, inst}
-use Rattle.nts_model.specs.Terms.Substitutions.{leaf_tree, put, replace}
-use Rattle.nts_model.specs.Derivations.Sequents.{Among}
+use Rattle.nts_model.specs.Terms.Substitutions.{leaf_tree, put, replace, filled, position_of, value_or}
+use Rattle.nts_model.specs.Lists.{Among}
 use Rattle.nts_model.specs.Derivations.Rules.{Equation}
-use Rattle.nts_model.specs.Derivations.Handlers.{Candidate, position_of, value_or, filled, kind_of_sort, AreValuesOf}
+use Rattle.nts_model.specs.Derivations.Handlers.{Candidate, kind_of_sort, AreValuesOf}
 use Rattle.nts_model.specs.Refutation.Choosing.{left_of, right_of, AreNamedValues, IsMet}
 use Rattle.nts_model.specs.Answers.Responses.{read_in}
 use Rattle.nts_model.specs.Decisions.Deciding.{blurred_leaf, blurred, MeetsBlurred}

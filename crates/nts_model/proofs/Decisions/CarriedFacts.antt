@@ -20,7 +20,7 @@ use Rattle.nts_model.specs.Terms.Regions.{RegionName, of_variable, of_free, regi
 use Rattle.nts_model.specs.Terms.Fitting.{is_integer, is_float, HasLabel, Fits}
 use Rattle.nts_model.specs.Tables.Worlds.{World, inst, SolvesState, AreMet, IsValue, Solves}
 use Rattle.nts_model.specs.Terms.Substitutions.{leaf_tree, put, replace, of_constant, leaf_sort, Renaming, rename, IsPlain}
-use Rattle.nts_model.specs.Derivations.Sequents.{Among}
+use Rattle.nts_model.specs.Lists.{Among}
 use Rattle.nts_model.specs.Derivations.Rules.{Equation}
 use Rattle.nts_model.specs.Derivations.Handlers.{Candidate, equation_by, kind_of_sort, AreValuesOf}
 use Rattle.nts_model.specs.Refutation.Choosing.{left_of, right_of, AreNamedValues, IsMet}

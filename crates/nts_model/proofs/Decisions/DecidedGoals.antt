@@ -6,18 +6,19 @@ use Rattle.nts_model.specs.declared.labels.Leaf.TheVariants as leaf
 use Rattle.nts_model.specs.declared.labels.BoundVarIndexKind.TheVariants as index
 use Rattle.nts_model.specs.declared.labels.Label.{Label}
 use Rattle.nts_model.specs.declared.labels.Label.TheVariants as label
-use Rattle.nts_model.specs.Terms.Trees.{Tree, empty, more, node, any_label, is_infer, is_region_infer, IsFormed}
+use Rattle.nts_model.specs.Terms.Trees.{Tree, empty, more, node, any_label, is_infer, is_region_infer, IsFormed, variable_of}
 use Rattle.nts_model.specs.Tables.Contents.{Content}
-use Rattle.nts_model.specs.Tables.Resolving.{variable_of, KnowsVariable, Knows, resolved, deeply_resolved, rooted, rooted_variable, kind_or_type, IsSound}
+use Rattle.nts_model.specs.Tables.Resolving.{KnowsVariable, Knows, resolved, deeply_resolved, rooted, rooted_variable, kind_or_type, IsSound}
 use Rattle.nts_model.specs.Terms.Regions.{RegionName, of_variable}
 use Rattle.nts_model.specs.Tables.RegionClasses.{plain, plain_tree, reading}
 use Rattle.nts_model.specs.Tables.Solvable.{IsSolvable}
 use Rattle.nts_model.specs.Tables.Worlds.{World, inst}
 use Rattle.nts_model.specs.Tables.Holding.{Continues}
-use Rattle.nts_model.specs.Terms.Substitutions.{leaf_tree, put}
-use Rattle.nts_model.specs.Derivations.Sequents.{Among, Premise}
+use Rattle.nts_model.specs.Terms.Substitutions.{leaf_tree, put, filled, position_of, value_or}
+use Rattle.nts_model.specs.Lists.{Among}
+use Rattle.nts_model.specs.Derivations.Sequents.{Premise}
 use Rattle.nts_model.specs.Derivations.Rules.{Equation}
-use Rattle.nts_model.specs.Derivations.Handlers.{Candidate, position_of, value_or, filled, AreValuesOf}
+use Rattle.nts_model.specs.Derivations.Handlers.{Candidate, AreValuesOf}
 use Rattle.nts_model.specs.Answers.Responses.{read_in}
 use Rattle.nts_model.specs.Refutation.Choosing.{left_of, right_of}
 use Rattle.nts_model.specs.Decisions.Deciding.{blurred, MeetsBlurred, FixesGoals}

@@ -6,9 +6,9 @@ use Rattle.nts_model.specs.declared.labels.FreeRegion.TheVariants as region
 use Rattle.nts_model.specs.declared.labels.Leaf.{Leaf}
 use Rattle.nts_model.specs.declared.labels.Leaf.TheVariants as leaf
 use Rattle.nts_model.specs.Terms.Trees.{Tree, empty, more}
-use Rattle.nts_model.specs.Terms.Substitutions.{leaf_tree, replace, of_variable as sort_of_variable, leaf_sort, Renaming, rename, IsPlain}
+use Rattle.nts_model.specs.Terms.Substitutions.{leaf_tree, replace, of_variable as sort_of_variable, leaf_sort, Renaming, rename, IsPlain, filled}
 use Rattle.nts_model.specs.Derivations.Rules.{Mode}
-use Rattle.nts_model.specs.Derivations.Handlers.{Handler, filled, IsLawful}
+use Rattle.nts_model.specs.Derivations.Handlers.{Handler, IsLawful}
 use Rattle.nts_model.specs.Canonical.Inputs.{Input, canonical_of, is_static, label_or_leaf, static_as_label, IsInput, HaveKinds, made_of}
 use Rattle.nts_model.specs.Decisions.Deciding.{blurred_leaf, blurred_but_static, blurred, blurred_environment, IsDecided, IsGoalDecided}
 use Rattle.nts_model.proofs.Terms.Substituting.{replace-replace, replace-equal}

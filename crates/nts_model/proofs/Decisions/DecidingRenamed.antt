@@ -16,11 +16,12 @@ use Rattle.nts_model.specs.declared.labels.Label.TheVariants as label
 use Rattle.nts_model.specs.Terms.Trees.{Tree, empty, more, node, any_label, is_infer, is_alias, is_canonical, IsFormed}
 use Rattle.nts_model.specs.Terms.Regions.{of_variable, of_free}
 use Rattle.nts_model.specs.Terms.Fitting.{Fits}
-use Rattle.nts_model.specs.Terms.Substitutions.{leaf_tree, put, replace, FitsLeaf, Instance, LeafSort, of_variable as sort_of_variable, of_constant, leaf_sort, Renaming, rename, IsPlain}
+use Rattle.nts_model.specs.Terms.Substitutions.{leaf_tree, put, replace, FitsLeaf, Instance, LeafSort, of_variable as sort_of_variable, of_constant, leaf_sort, Renaming, rename, IsPlain, filled, filled_under, position_of, value_or}
 use Rattle.nts_model.specs.Derivations.Related.{pair}
-use Rattle.nts_model.specs.Derivations.Sequents.{Among, Premise}
+use Rattle.nts_model.specs.Lists.{Among}
+use Rattle.nts_model.specs.Derivations.Sequents.{Premise}
 use Rattle.nts_model.specs.Derivations.Rules.{Mode, Equation, related, alike, IsHandlers}
-use Rattle.nts_model.specs.Derivations.Handlers.{Handler, Candidate, position_of, value_or, filled, filled_under, equation_by, premise_by, AreValuesOf, kind_of_sort, renamed, IsAsked, IsLawful}
+use Rattle.nts_model.specs.Derivations.Handlers.{Handler, Candidate, equation_by, premise_by, AreValuesOf, kind_of_sort, renamed, IsAsked, IsLawful}
 use Rattle.nts_model.specs.Refutation.Choosing.{left_of, right_of}
 use Rattle.nts_model.specs.Decisions.Deciding.{blurred_leaf, blurred_but_static, blurred, blurred_environment, blurred_premise, blurred_candidate, MeetsBlurred, FixesGoals, IsDecidable, IsPlainGoal, IsFormedCandidate, IsUniform, opened_next, IsDecided, by_candidates, OneHolds, none_left, then_fails, then_holds, CandidateIs, is_unmet, is_met, GoalsAre, all_yes, one_yes, one_no}
 use Rattle.nts_model.proofs.Terms.Substituting.{replace-replace, replace-equal, replace-leaf, leaf_alone}

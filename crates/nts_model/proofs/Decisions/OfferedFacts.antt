@@ -2,7 +2,8 @@
 use Rattle.std.proofs.Common.{◌≡◌, inl, inr, List, [], ◌∷◌, map, refl, sym, ap, subst, ◌∙◌}
 use Rattle.nts_model.specs.Terms.Trees.{Tree, empty, more, IsFormed}
 use Rattle.nts_model.specs.Terms.Substitutions.{Renaming, rename, IsPlain}
-use Rattle.nts_model.specs.Derivations.Sequents.{Among, Premise}
+use Rattle.nts_model.specs.Lists.{Among}
+use Rattle.nts_model.specs.Derivations.Sequents.{Premise}
 use Rattle.nts_model.specs.Derivations.Rules.{Mode}
 use Rattle.nts_model.specs.Derivations.Handlers.{Handler, Candidate, equation_by, premise_by, renamed, IsAsked, IsLawful}
 use Rattle.nts_model.specs.Canonical.Inputs.{Input, canonical_of, IsInput}

@@ -8,7 +8,7 @@ use Rattle.nts_model.specs.declared.labels.Leaf.TheVariants as leaf
 use Rattle.nts_model.specs.Terms.Trees.{Tree, empty, sort_of_leaf}
 use Rattle.nts_model.specs.Tables.Contents.{Content}
 use Rattle.nts_model.specs.Terms.Substitutions.{leaf_tree}
-use Rattle.nts_model.specs.Derivations.Sequents.{Among}
+use Rattle.nts_model.specs.Lists.{Among}
 use Rattle.nts_model.specs.Canonical.Numbered.{number, added, seen, position}
 use Rattle.nts_model.specs.Canonical.Inputs.{placeholder, share}
 use Rattle.nts_model.specs.Answers.Responses.{Findings, response_of, value_row, constraint_row, hidden_row, goal_row, own_leaves, positioned, is_fixed, answer_kind, answer_kinds, IsIdentity, ends, next}

@@ -18,7 +18,7 @@ use Rattle.nts_model.specs.Terms.Placeholders.{leaf_level_of}
 use Rattle.nts_model.specs.Derivations.Related.{pair, unbound}
 use Rattle.nts_model.specs.Derivations.Rules.{opened, opened_at, bound}
 use Rattle.nts_model.specs.Canonical.Numbered.{AreDistinct}
-use Rattle.nts_model.specs.Derivations.Sequents.{Among}
+use Rattle.nts_model.specs.Lists.{Among}
 use Rattle.nts_model.specs.Refutation.Opening.{binds, placeholder_in}
 use Rattle.nts_model.specs.Decisions.Deciding.{blurred_leaf, blurred, level_or_root, top_level}
 use Rattle.nts_model.proofs.Canonical.Numbering.{AllLeaves, replace-agree}

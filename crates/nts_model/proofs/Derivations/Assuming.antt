@@ -4,7 +4,8 @@ use Rattle.std.proofs.Common.{inl, inr, ap, sym, ◌∙◌, subst, ⊎_elim}
 use Rattle.nts_model.specs.Terms.Trees.{Tree}
 use Rattle.nts_model.specs.Terms.Substitutions.{Instance, instance_of}
 use Rattle.nts_model.specs.Derivations.Related.{Constraint}
-use Rattle.nts_model.specs.Derivations.Sequents.{Among, PathKind, coinductive, unknown, inductive, forced_ambiguity, Premise, Hidden, Sequent, AreOneBy, Grants, Hides, constraint_under, hidden_under, premise_under, IsInstance}
+use Rattle.nts_model.specs.Lists.{Among}
+use Rattle.nts_model.specs.Derivations.Sequents.{PathKind, coinductive, unknown, inductive, forced_ambiguity, Premise, Hidden, Sequent, AreOneBy, Grants, Hides, constraint_under, hidden_under, premise_under, IsInstance}
 use Rattle.nts_model.specs.Derivations.Rules.{Meaning, Mode, goal_kind, proof_kind}
 use Rattle.nts_model.specs.Derivations.Proofs.{Serves, reopened, Assumed, put_behind, passed, Derives, DerivesAll, by_rule, by_cycle, all_derived, by_derivation, by_assumption}
 use Rattle.nts_model.specs.Searching.Stacks.{IsUsable, IsDerivedFrom}

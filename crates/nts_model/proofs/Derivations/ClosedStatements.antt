@@ -1,13 +1,19 @@
 -- The statements of an instance are closed where those of the goal or the environment are.
-use Rattle.std.proofs.Common.{◌≡◌, inl, inr, [], ◌∷◌, Some, refl, sym, ap, ◌∙◌, subst}
+use Rattle.std.proofs.Common.{◌≡◌, inl, inr, [], ◌∷◌, Some, refl, sym, ap, ◌∙◌, subst, List, false, rules, ℕ, ◌+◌}
 use Rattle.nts_model.specs.declared.labels.ListHead.TheVariants as list
 use Rattle.nts_model.specs.declared.labels.Label.TheVariants as label
-use Rattle.nts_model.specs.Terms.Trees.{Tree, empty, more, node, IsInRow, kind_of, bound_predicate, environment, sort_list, statement, is, HavePlaces, AllFit, IsClosed, IsFormed}
+use Rattle.nts_model.specs.Terms.Trees.{Tree, empty, more, node, IsInRow, kind_of, bound_predicate, environment, sort_list, statement, is, HavePlaces, AllFit, IsClosed, IsFormed, IsBoundBelow, IsClosedUnder, binders}
 use Rattle.nts_model.specs.Terms.Substitutions.{Instance, instance_of}
 use Rattle.nts_model.specs.Derivations.Related.{unbound}
 use Rattle.nts_model.specs.Derivations.Sequents.{HasClosedStatement, HasClosedStatements}
 use Rattle.nts_model.proofs.Terms.Substituting.{kind_of-replace, no_children}
 use Rattle.nts_model.proofs.Terms.Composing.{instance_kinds, IsClosed-instance}
+use Rattle.nts_model.specs.Derivations.Rules.{opened, opened_at}
+use Rattle.std.specs.Prelude.{◌<◌, ◌==◌, ◌⊎◌}
+use Rattle.nts_model.specs.declared.labels.Sort.{Sort}
+use Rattle.nts_model.specs.declared.labels.Leaf.{Leaf}
+use Rattle.nts_model.specs.declared.labels.BoundVarIndexKind.TheVariants as index
+use Rattle.nts_model.specs.declared.labels.Label.{Label}
 
 -- a predicate that binds nothing says one thing
 pub one_statement : (s t : Tree) → unbound s ≡ unbound t → s ≡ t
@@ -92,3 +98,22 @@ closed_statements_instance ι e f h ps p q i =
     let rows : instance_of ι qs ≡ ps = rows_of (instance_of ι qs) ps (sym (ap (instance_of ι) same) ∙ q) in
     let r = row_instance ι qs p g.0 g.1 (subst (IsInRow p) (sym rows) i) in
     subst HasClosedStatement (sym r.same) (closed_statement_instance ι r.of_tree r.formed (h qs r.of_tree same r.found))
+
+-- opening what is closed
+opened_label : (f : Sort → ℕ → Leaf) (c : ℕ) (l : Label) (t : Tree) → IsBoundBelow c l → opened_at f c l t ≡ node l t
+opened_label f c (label.Bound s (index.Bound d) n) t h = rw (apart d h) refl
+  where
+    apart : (d : ℕ) → d < c → (d == c) ≡ false
+    apart d h = search rules
+opened_label f c (label.Bound s index.Canonical n) t h = refl
+opened_label f c (label.Leaf x) t h = refl
+opened_label f c (label.Ty x) t h = refl
+opened_label f c (label.Const x) t h = refl
+opened_label f c (label.Clause x) t h = refl
+opened_label f c (label.Predicate x) t h = refl
+opened_label f c (label.List x) t h = refl
+
+pub opened_closed : (f : Sort → ℕ → Leaf) (c : ℕ) (t : Tree) → IsClosedUnder c t → opened f c t ≡ t
+opened_closed f c empty h = refl
+opened_closed f c (more a b) h = cc (opened_closed f c a h.0, opened_closed f c b h.1)
+opened_closed f c (node l t) h = ap (opened_at f c l) (opened_closed f (c + binders l) t h.1) ∙ opened_label f c l t h.0

@@ -3,7 +3,8 @@
 use Rattle.std.specs.Prelude.{◌≡◌, ◌⊎◌, ℕ, zero, suc, ◌+◌, ◌*◌, ◌<◌, ◌≤◌, max, List, [], ◌∷◌, Some, None, slice_get, map, IsTrue, false, refl}
 use Rattle.std.proofs.Common.{inl, inr, ap, sym, ◌∙◌, arith, subst}
 use Rattle.nts_model.specs.Terms.Substitutions.{Instance}
-use Rattle.nts_model.specs.Derivations.Sequents.{Among, PathKind, coinductive, unknown, inductive, forced_ambiguity, Premise, Sequent, IsInstance}
+use Rattle.nts_model.specs.Lists.{Among}
+use Rattle.nts_model.specs.Derivations.Sequents.{PathKind, coinductive, unknown, inductive, forced_ambiguity, Premise, Sequent, IsInstance}
 use Rattle.nts_model.specs.Derivations.Rules.{Meaning, Mode, proof_kind, goal_kind}
 use Rattle.nts_model.specs.Derivations.Proofs.{Name, Step, Node, RestsOn, IsNormalization, Serves, IsSoundStep, IsJustified, HasProof, Assumed, put_behind, passed, Derives, DerivesAll, by_rule, by_cycle, all_derived, by_derivation, by_assumption}
 use Rattle.nts_model.proofs.Derivations.Monotone.{rule_more}

@@ -3,7 +3,8 @@ use Rattle.std.proofs.Common.{◌⊎◌, inl, inr, ⊎_elim, List, [], ◌∷◌
 use Rattle.nts_model.specs.Terms.Trees.{Tree}
 use Rattle.nts_model.specs.Terms.Substitutions.{Instance, instance_of}
 use Rattle.nts_model.specs.Derivations.Related.{Constraint}
-use Rattle.nts_model.specs.Derivations.Sequents.{Among, Premise, Hidden, Sequent, AreOneBy, constraint_under, IsTrivial}
+use Rattle.nts_model.specs.Lists.{Among}
+use Rattle.nts_model.specs.Derivations.Sequents.{Premise, Hidden, Sequent, AreOneBy, constraint_under, IsTrivial}
 use Rattle.nts_model.specs.Derivations.Rules.{Meaning, Mode, goal_kind, proof_kind}
 use Rattle.nts_model.specs.Derivations.Proofs.{Serves, reopened, Assumed, passed, Derives, DerivesAll, all_derived, by_derivation, by_assumption}
 use Rattle.nts_model.specs.Searching.Stacks.{IsUsable}

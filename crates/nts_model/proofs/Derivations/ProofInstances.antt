@@ -6,7 +6,8 @@ use Rattle.nts_model.specs.declared.labels.Relation.TheVariants as relation
 use Rattle.nts_model.specs.Terms.Trees.{Tree}
 use Rattle.nts_model.specs.Terms.Substitutions.{Instance, instance_of}
 use Rattle.nts_model.specs.Derivations.Related.{Constraint}
-use Rattle.nts_model.specs.Derivations.Sequents.{Among, Premise, Hidden, Sequent, constraint_under, hidden_under, premise_under, AreOneBy, HasOneSide, IsTrivial, Grants, AreOneHidden, Hides, IsInstance}
+use Rattle.nts_model.specs.Lists.{Among}
+use Rattle.nts_model.specs.Derivations.Sequents.{Premise, Hidden, Sequent, constraint_under, hidden_under, premise_under, AreOneBy, HasOneSide, IsTrivial, Grants, AreOneHidden, Hides, IsInstance}
 use Rattle.nts_model.specs.Derivations.Rules.{Meaning, Mode}
 use Rattle.nts_model.specs.Derivations.Proofs.{HasProof}
 use Rattle.nts_model.proofs.Terms.Composing.{after, instance_of-after}

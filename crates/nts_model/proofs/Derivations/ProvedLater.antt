@@ -8,7 +8,8 @@ use Rattle.nts_model.specs.Tables.Contents.{Content, Recorded}
 use Rattle.nts_model.specs.Tables.Resolving.{IsSound, deeply_resolved}
 use Rattle.nts_model.specs.Tables.Holding.{HasSides, HoldsConstraint, Continues}
 use Rattle.nts_model.specs.Derivations.Related.{Constraint}
-use Rattle.nts_model.specs.Derivations.Sequents.{Among, Premise, constraint_under, premise_under, IsInstance}
+use Rattle.nts_model.specs.Lists.{Among}
+use Rattle.nts_model.specs.Derivations.Sequents.{Premise, constraint_under, premise_under, IsInstance}
 use Rattle.nts_model.specs.Derivations.Rules.{Meaning, Mode}
 use Rattle.nts_model.specs.Derivations.Proofs.{HasProof}
 use Rattle.nts_model.specs.Derivations.Proving.{HoldsTerms, IsTermOf, AreConstraintsOf, read_constraint, turned, in_either_order, read_constraints, recorded_as, sequent_at, read_goals, sequent_with, IsProved, HasHeldProof}
@@ -19,6 +20,7 @@ use Rattle.nts_model.proofs.Terms.Identified.{one_itself}
 use Rattle.nts_model.proofs.Derivations.Flattening.{derivation_proof}
 use Rattle.nts_model.proofs.Derivations.ProofInstances.{IsInstance-after}
 use Rattle.nts_model.proofs.Tables.TableInstances.{reading_of, instance_of-later}
+use Rattle.nts_model.proofs.Lists.{contains_none, first_or_later}
 
 -- elements of a list
 pub contains_first : {X : Type 0} (x : X) (xs : List X) → Contains (x ∷ xs) x
@@ -26,13 +28,6 @@ contains_first x xs = (0, omega arith, refl)
 
 pub contains_later : {X : Type 0} (y : X) (xs : List X) (x : X) → Contains xs x → Contains (y ∷ xs) x
 contains_later y xs x (k, l, e) = (suc k, omega (arith, l), e)
-
-pub first_or_later : {X : Type 0} (y : X) (xs : List X) (x : X) → Contains (y ∷ xs) x → (y ≡ x) ⊎ Contains xs x
-first_or_later y xs x (zero, l, e) = inl e
-first_or_later y xs x (suc k, l, e) = inr (k, omega (arith, l), e)
-
-pub contains_none : {X : Type 0} (x : X) → Contains [] x → ⊥
-contains_none x (k, l, e) = omega (arith, l)
 
 -- where a read constraint comes from: a recorded one, or an equality turned
 pub record IsReadFrom (c : Content) (x : Constraint) (r : Recorded) : Type 0 where

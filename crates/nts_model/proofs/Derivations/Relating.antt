@@ -15,7 +15,8 @@ use Rattle.nts_model.specs.Tables.Alike.{Alike}
 use Rattle.nts_model.specs.Derivations.Related.{Constraint, alias_goal, constructor, function, value, alias_label, alias, IsAlias, Related, AreRelated, regions, constructors, functions, values, open_aliases, aliases, no_more, and_more, rest_variances, function_variances}
 use Rattle.nts_model.specs.Derivations.Related.{arguments as arguments_of}
 use Rattle.nts_model.specs.Derivations.Related.{one_tree as same_tree}
-use Rattle.nts_model.specs.Derivations.Sequents.{Among, Premise, constraint_under, Grants}
+use Rattle.nts_model.specs.Lists.{Among}
+use Rattle.nts_model.specs.Derivations.Sequents.{Premise, constraint_under, Grants}
 use Rattle.nts_model.specs.Derivations.Rules.{Meaning, Mode, GoalKind, statement_of, choice, IsTerm, Replaced, chosen, kept_empty, kept_more, kept_node, relating, Stands}
 use Rattle.nts_model.proofs.Terms.Substituting.{no_children}
 use Rattle.nts_model.proofs.Derivations.Monotone.{related_more, are_related_more, replaced_more}

@@ -9,8 +9,8 @@ use Rattle.nts_model.specs.Tables.Resolving.{IsSound}
 use Rattle.nts_model.specs.Derivations.Sequents.{Source, Sequent}
 use Rattle.nts_model.specs.Derivations.Rules.{Meaning, Mode, GoalKind, coinductive_trait, normalization, other_goal, statement_kind, statement_of, goal_kind, IsCoinductiveStep}
 use Rattle.nts_model.specs.Derivations.Proofs.{IsSoundStep, HasProof, HasFallingProof}
-use Rattle.nts_model.specs.Derivations.Proving.{sequent_at}
-use Rattle.nts_model.specs.Searching.Stacks.{IsDerivedFrom, IsProvedFrom, HasHeldRankedProof}
+use Rattle.nts_model.specs.Derivations.Proving.{sequent_at, HasHeldRankedProof}
+use Rattle.nts_model.specs.Searching.Stacks.{IsDerivedFrom, IsProvedFrom}
 use Rattle.nts_model.proofs.Derivations.Flattening.{derivation_proof}
 use Rattle.nts_model.proofs.Derivations.ProvedLater.{hypotheses_held}
 use Rattle.nts_model.proofs.Derivations.Assuming.{none_found}

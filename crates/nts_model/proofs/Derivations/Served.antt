@@ -12,7 +12,8 @@ use Rattle.nts_model.specs.declared.labels.Label.TheVariants as label
 use Rattle.nts_model.specs.Terms.Trees.{Tree, empty, more, node, kind_of, any_label, is_canonical, binders, IsBoundBelow, IsClosedUnder, IsClosed, any_term, FitsPlace, IsFormed}
 use Rattle.nts_model.specs.Terms.Substitutions.{Instance, instance_of}
 use Rattle.nts_model.specs.Derivations.Related.{Constraint, pair, alias_goal, alias, AreRelated}
-use Rattle.nts_model.specs.Derivations.Sequents.{Among, PathKind, coinductive, unknown, inductive, forced_ambiguity, Premise, Hidden, Sequent, HasClosedStatement, HasClosedStatements, AreOneBy, constraint_under, IsTrivial, Grants}
+use Rattle.nts_model.specs.Lists.{Among}
+use Rattle.nts_model.specs.Derivations.Sequents.{PathKind, coinductive, unknown, inductive, forced_ambiguity, Premise, Hidden, Sequent, HasClosedStatement, HasClosedStatements, AreOneBy, constraint_under, IsTrivial, Grants}
 use Rattle.nts_model.specs.Derivations.Rules.{Meaning, Mode, goal_kind, proof_kind, statement_of, KeepsAliases, relating, aliases_relate}
 use Rattle.nts_model.specs.Derivations.Proofs.{Serves, passed, Derives, DerivesAll, by_rule, all_derived, by_derivation, IsTree, AreTrees}
 use Rattle.nts_model.proofs.Terms.Substituting.{closed_under_more}

@@ -1,7 +1,7 @@
 -- Joining is the least upper bound, and never turns a rerun into none.
 use Rattle.std.proofs.Common.{◌≡◌, ◌⊎◌, inl, inr, ⊎_elim, ℕ, List, [], ◌∷◌, refl, sym, ap, subst, Bool, true, false, IsTrue, rules}
 use Rattle.std.specs.Prelude.{◌==◌, ◌||◌, ◌&&◌, ◌++◌, ◌↔◌, if◌then◌else◌}
-use Rattle.nts_model.specs.Derivations.Sequents.{Among}
+use Rattle.nts_model.specs.Lists.{Among}
 use Rattle.nts_model.specs.Derivations.Rules.{Mode, coherence, post_analysis, erased, analysis, borrowck, post_borrowck}
 use Rattle.nts_model.specs.Derivations.Handlers.{Access, never, always, any_infer, in_storage, in_storage_or_infer}
 use Rattle.nts_model.specs.Erased.Accessing.{IsWithin, IsBelow, IsJoin, is_in, united, joined, Decision, stands, runs_again, is_handed_on, Parents, no_parents, is_stored, again_if, decides, IsFewer, is_stands, stands_for, is_erased, are_numbers, is_mode, suits}

@@ -5,7 +5,8 @@ use Rattle.nts_model.specs.declared.labels.Variance.{Variance}
 use Rattle.nts_model.specs.Terms.Trees.{Tree}
 use Rattle.nts_model.specs.Tables.Contents.{Content}
 use Rattle.nts_model.specs.Tables.Resolving.{IsSound}
-use Rattle.nts_model.specs.Derivations.Sequents.{Among, PathKind, coinductive, Sequent}
+use Rattle.nts_model.specs.Lists.{Among}
+use Rattle.nts_model.specs.Derivations.Sequents.{PathKind, coinductive, Sequent}
 use Rattle.nts_model.specs.Derivations.Rules.{Meaning, Mode, erased}
 use Rattle.nts_model.specs.Derivations.Proofs.{Assumed, passed}
 use Rattle.nts_model.specs.Derivations.Handlers.{Access, Handler, meaning, Candidate, certain, Certainty, IsAsked, IsInstanceFor, InstancesAreRules, IsCandidateFor}

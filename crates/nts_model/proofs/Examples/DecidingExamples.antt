@@ -7,9 +7,11 @@ use Rattle.nts_model.specs.declared.labels.Label.{Label}
 use Rattle.nts_model.specs.declared.labels.Label.TheVariants as label
 use Rattle.nts_model.specs.Terms.Trees.{Tree, empty, more, node, label_of, IsInRow, IsFormed}
 use Rattle.nts_model.specs.Derivations.Related.{constructor, arguments, unbound}
-use Rattle.nts_model.specs.Derivations.Sequents.{Among, impl_where_bound, Premise}
+use Rattle.nts_model.specs.Lists.{Among}
+use Rattle.nts_model.specs.Derivations.Sequents.{impl_where_bound, Premise}
 use Rattle.nts_model.specs.Derivations.Rules.{coherence, Equation, related, statement_of}
-use Rattle.nts_model.specs.Derivations.Handlers.{Handler, Candidate, certain, never, filled, IsAsked}
+use Rattle.nts_model.specs.Terms.Substitutions.{filled}
+use Rattle.nts_model.specs.Derivations.Handlers.{Handler, Candidate, certain, never, IsAsked}
 use Rattle.nts_model.specs.Refutation.Choosing.{left_of, right_of}
 use Rattle.nts_model.specs.Decisions.Deciding.{blurred, blurred_candidate, MeetsBlurred, IsPlainGoal, IsFormedCandidate, IsUniform, IsDecided, by_candidates, none_left, then_fails, then_holds, is_met, all_yes, one_no}
 use Rattle.nts_model.proofs.Examples.ProofExamples.{nowhere}

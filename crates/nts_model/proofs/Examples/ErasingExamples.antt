@@ -1,7 +1,7 @@
 -- Rows of the rerun table; and a goal that the erased mode refutes, though it has a fact.
 use Rattle.std.proofs.Common.{◌≡◌, ℕ, List, [], ◌∷◌, refl, inl, inr, sym, subst, false, map}
 use Rattle.nts_model.specs.Terms.Trees.{Tree}
-use Rattle.nts_model.specs.Derivations.Sequents.{Among}
+use Rattle.nts_model.specs.Lists.{Among}
 use Rattle.nts_model.specs.Derivations.Rules.{Mode, coherence, post_analysis, erased, analysis, borrowck, post_borrowck}
 use Rattle.nts_model.specs.Derivations.Handlers.{Handler, Candidate, certain, never, always, in_storage, in_storage_or_infer, IsLawful, IsCandidateFor, renamed}
 use Rattle.nts_model.specs.Terms.Substitutions.{Renaming}

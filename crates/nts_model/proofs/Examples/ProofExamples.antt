@@ -14,7 +14,8 @@ use Rattle.nts_model.specs.declared.labels.Label.TheVariants as label
 use Rattle.nts_model.specs.Terms.Trees.{Tree, empty, more, node, IsInRow, kind_of, any_label, is_alias}
 use Rattle.nts_model.specs.Terms.Substitutions.{Instance, instance_of}
 use Rattle.nts_model.specs.Derivations.Related.{Constraint, constructor, arguments, unbound, alias_label}
-use Rattle.nts_model.specs.Derivations.Sequents.{Among, coinductive, impl_where_bound, Premise, Hidden, Sequent, IsOfTerms, IsInstance}
+use Rattle.nts_model.specs.Lists.{Among}
+use Rattle.nts_model.specs.Derivations.Sequents.{coinductive, impl_where_bound, Premise, Hidden, Sequent, IsOfTerms, IsInstance}
 use Rattle.nts_model.specs.Derivations.Rules.{Mode, coherence, post_analysis, GoalKind, coinductive_trait, normalization, other_goal, proof_kind, statement_of, statement_kind, goal_kind, IsCoinductiveStep, Application, Meaning, meaning_of, Replaced, chosen, kept_empty, kept_more, kept_node, Stands, opened, IsBuiltIn, region_lives, type_lives, subtyped, coerced, const_typed, error_typed, allowed, dyn_compatible, formed, constant_evaluated, value_evaluated, error_evaluated, alias_evaluated, aliases_relate, IsPlainRule, IsRule, bound}
 use Rattle.nts_model.specs.Derivations.Proofs.{Node, RestsOn, IsNormalization, IsSoundStep, IsRankedProof, HasProof, Derives, by_rule, by_cycle, all_derived, by_assumption}
 use Rattle.nts_model.proofs.Terms.Composing.{itself, instance_of-itself, instance_kinds}

@@ -7,7 +7,8 @@ use Rattle.nts_model.specs.declared.labels.Label.TheVariants as label
 use Rattle.nts_model.specs.Terms.Trees.{Tree, empty, more, node, kind_of}
 use Rattle.nts_model.specs.Terms.Substitutions.{Instance, instance_of}
 use Rattle.nts_model.specs.Derivations.Related.{Constraint, constructor, arguments, unbound}
-use Rattle.nts_model.specs.Derivations.Sequents.{Among, impl_where_bound, Premise, Hidden, Sequent}
+use Rattle.nts_model.specs.Lists.{Among}
+use Rattle.nts_model.specs.Derivations.Sequents.{impl_where_bound, Premise, Hidden, Sequent}
 use Rattle.nts_model.specs.Derivations.Rules.{Mode, post_analysis, GoalKind, coinductive_trait, Application, Meaning, Stands, opened, IsBuiltIn, region_lives, type_lives, subtyped, coerced, const_typed, error_typed, allowed, dyn_compatible, formed, constant_evaluated, value_evaluated, error_evaluated, alias_evaluated, aliases_relate, IsPlainRule, IsRule, bound}
 use Rattle.nts_model.specs.Derivations.Proofs.{RestsOn, IsNormalization, IsSoundStep, HasProof, by_rule, all_derived, by_assumption}
 use Rattle.nts_model.proofs.Terms.Composing.{itself, instance_of-itself, instance_kinds}

@@ -11,7 +11,8 @@ use Rattle.nts_model.specs.Terms.Trees.{Tree, empty, more, node, IsClosed, IsFor
 use Rattle.nts_model.specs.Terms.Scoping.{IsWellBound}
 use Rattle.nts_model.specs.Canonical.Numbered.{position}
 use Rattle.nts_model.specs.Derivations.Related.{Constraint, arguments, function, unbound}
-use Rattle.nts_model.specs.Derivations.Sequents.{Among, Premise, Hidden, Sequent, IsOfTerms}
+use Rattle.nts_model.specs.Lists.{Among}
+use Rattle.nts_model.specs.Derivations.Sequents.{Premise, Hidden, Sequent, IsOfTerms}
 use Rattle.nts_model.specs.Derivations.Rules.{Meaning, Mode, IsTerm, IsApplied}
 use Rattle.nts_model.proofs.Examples.ProofExamples.{nowhere, auto_list}
 

@@ -12,11 +12,11 @@ use Rattle.nts_model.specs.Tables.Contents.{Content, kind_at}
 use Rattle.nts_model.specs.Tables.Resolving.{Knows}
 use Rattle.nts_model.specs.Terms.Placeholders.{CanName, free_region_level, leaf_level}
 use Rattle.nts_model.specs.Tables.Worlds.{World, inst, IsNameable, Solves, Agrees}
-use Rattle.nts_model.specs.Terms.Substitutions.{leaf_tree, Occurs, instance_of}
+use Rattle.nts_model.specs.Terms.Substitutions.{leaf_tree, Occurs, instance_of, filled}
 use Rattle.nts_model.specs.Derivations.Related.{pair}
-use Rattle.nts_model.specs.Derivations.Sequents.{Among, Premise}
+use Rattle.nts_model.specs.Lists.{Among}
+use Rattle.nts_model.specs.Derivations.Sequents.{Premise}
 use Rattle.nts_model.specs.Tables.Passing.{AllLabels}
-use Rattle.nts_model.specs.Derivations.Handlers.{filled}
 use Rattle.nts_model.specs.Canonical.Inputs.{Input, IsInput, originals, canonical_of, OccursIn}
 use Rattle.nts_model.specs.Answers.Responses.{Response, Applies, IsResponseTo}
 use Rattle.nts_model.specs.Refutation.Containing.{Truth, original_level, IsSolution, IsSolutionOf, AnswerContains, HasNoSolution, Carrier, IsGroundLabel, IsCarriable, AreGround, IsProvedIn, SolvesGoals, ExtendsTo, KeepsSolutions, RefusesGoals}

@@ -12,18 +12,18 @@ use Rattle.nts_model.specs.declared.labels.Leaf.{Leaf}
 use Rattle.nts_model.specs.declared.labels.Leaf.TheVariants as leaf
 use Rattle.nts_model.specs.declared.labels.Label.{Label}
 use Rattle.nts_model.specs.declared.labels.Label.TheVariants as label
-use Rattle.nts_model.specs.Terms.Trees.{Tree, empty, more, node, IsFormed}
+use Rattle.nts_model.specs.Terms.Trees.{Tree, empty, more, node, IsFormed, variable_of}
 use Rattle.nts_model.specs.Tables.Contents.{Content, Slot, Recorded, map_slot, universe_of, kind_at}
-use Rattle.nts_model.specs.Tables.Resolving.{variable_of, Knows}
+use Rattle.nts_model.specs.Tables.Resolving.{Knows}
 use Rattle.nts_model.specs.Terms.Placeholders.{CanName, leaf_level}
 use Rattle.nts_model.specs.Tables.Levels.{NamesAll, term_level}
 use Rattle.nts_model.specs.Terms.Regions.{RegionName, of_variable, of_free, region_tree, IsRegion}
 use Rattle.nts_model.specs.Terms.Fitting.{Fits}
 use Rattle.nts_model.specs.Tables.Worlds.{World, inst, IsTrueOf, IsValue}
-use Rattle.nts_model.specs.Terms.Substitutions.{leaf_tree, Occurs, instance_of}
-use Rattle.nts_model.specs.Derivations.Sequents.{Among}
+use Rattle.nts_model.specs.Terms.Substitutions.{leaf_tree, Occurs, instance_of, filled}
+use Rattle.nts_model.specs.Lists.{Among}
 use Rattle.nts_model.specs.Tables.Passing.{AllLabels}
-use Rattle.nts_model.specs.Derivations.Handlers.{filled, IsFixed}
+use Rattle.nts_model.specs.Derivations.Handlers.{IsFixed}
 use Rattle.nts_model.specs.Canonical.Inputs.{PositionKind, type_variable, integer_variable, float_variable, const_variable, region_variable, placeholder, position_kind}
 use Rattle.nts_model.specs.Answers.Responses.{Response, IsOverPositions, IsResponseTo, placeholder_tree, read_in, IsImageOf, AreImagesOf, IsNamedBy, AreNamedBy, AreEqualIn, AreMetIn, GrantsFor}
 use Rattle.nts_model.specs.Refutation.Containing.{Truth, IsTrueBy, original_level, IsSolution, IsFreeRegion, IsRootValue, IsInputValue, AreInputValues, IsOwnValue, IsAnswerValue, AreAnswerValues, AreMetBy, ContainsSolution, Carrier, IsGroundLabel}

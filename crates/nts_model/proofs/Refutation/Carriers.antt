@@ -15,7 +15,7 @@ use Rattle.nts_model.specs.Terms.Trees.{Tree, empty, sort_of_leaf}
 use Rattle.nts_model.specs.Terms.Placeholders.{CanName, leaf_level_of, leaf_level}
 use Rattle.nts_model.specs.Tables.Levels.{NamesAll}
 use Rattle.nts_model.specs.Terms.Substitutions.{leaf_tree, StaysItself, IsConstant, FitsLeaf, Instance, instance_of, of_variable as variable_sort, of_constant as constant_sort, leaf_sort, Renaming, rename}
-use Rattle.nts_model.specs.Derivations.Sequents.{Among}
+use Rattle.nts_model.specs.Lists.{Among}
 use Rattle.nts_model.specs.Canonical.Numbered.{same, number, AreDistinct}
 use Rattle.nts_model.specs.Refutation.Opening.{placeholder_in}
 use Rattle.nts_model.specs.Answers.Responses.{placeholder_tree}

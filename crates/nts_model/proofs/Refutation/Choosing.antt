@@ -11,10 +11,10 @@ use Rattle.nts_model.specs.Tables.Contents.{Content, Slot, unset, with_slot}
 use Rattle.nts_model.specs.Tables.Resolving.{Knows, IsSound}
 use Rattle.nts_model.specs.Tables.Solvable.{IsSolvable}
 use Rattle.nts_model.specs.Tables.Worlds.{World, inst, Agrees}
-use Rattle.nts_model.specs.Terms.Substitutions.{leaf_tree, Occurs}
+use Rattle.nts_model.specs.Terms.Substitutions.{leaf_tree, Occurs, filled, position_of, value_or}
 use Rattle.nts_model.specs.Derivations.Rules.{Equation}
-use Rattle.nts_model.specs.Derivations.Sequents.{Among}
-use Rattle.nts_model.specs.Derivations.Handlers.{Candidate, filled, position_of, value_or, kind_of_sort}
+use Rattle.nts_model.specs.Lists.{Among}
+use Rattle.nts_model.specs.Derivations.Handlers.{Candidate, kind_of_sort}
 use Rattle.nts_model.specs.Answers.Responses.{read_in}
 use Rattle.nts_model.specs.Answers.Applying.{IsProperContent, AreKnownTrees}
 use Rattle.nts_model.specs.Refutation.Choosing.{left_of, right_of, MeetsEquations, IsMet, NoneIsMet, OnlyIsMet, SomeIsMet, SeveralAreMet, Freshens, EquatesAll, FailsToEquate}

@@ -18,6 +18,7 @@ use Rattle.nts_model.specs.Derivations.Sequents.{Premise, Hidden}
 use Rattle.nts_model.specs.Derivations.Rules.{Mode, Meaning, goal_kind, Replaced, chosen, kept_empty, kept_more, kept_node, Stands, opened, opened_at, IsHandlers, IsBuiltIn, IsApplied, IsPlainRule, bound, IsRule}
 use Rattle.nts_model.specs.Derivations.Rules.{region_lives, type_lives, subtyped, coerced, const_typed, error_typed, allowed, dyn_compatible, formed, constant_evaluated, value_evaluated, error_evaluated, alias_evaluated, aliases_relate}
 use Rattle.nts_model.specs.Refutation.Coherence.{IsAliasFree}
+use Rattle.nts_model.proofs.Derivations.ClosedStatements.{opened_closed}
 
 -- related trees without aliases, where equalities are true, are one
 module _ (D : ℕ → List Variance) (S : Tree → Type 0) (H : Constraint → Type 0) (P : Tree → Type 0)
@@ -59,25 +60,6 @@ nothing_replaced C t u f (chosen i c x) = absurd (no_alias t f i)
 nothing_replaced C empty empty f kept_empty = refl
 nothing_replaced C (more a s) (more b t) f (kept_more r q) = cc (nothing_replaced C a b f.0 r, nothing_replaced C s t f.1 q)
 nothing_replaced C (node l c) (node m d) f (kept_node n r) = cc (nothing_replaced C c d f.1 r)
-
--- opening what is closed
-opened_label : (f : Sort → ℕ → Leaf) (c : ℕ) (l : Label) (t : Tree) → IsBoundBelow c l → opened_at f c l t ≡ node l t
-opened_label f c (label.Bound s (index.Bound d) n) t h = rw (apart d h) refl
-  where
-    apart : (d : ℕ) → d < c → (d == c) ≡ false
-    apart d h = search rules
-opened_label f c (label.Bound s index.Canonical n) t h = refl
-opened_label f c (label.Leaf x) t h = refl
-opened_label f c (label.Ty x) t h = refl
-opened_label f c (label.Const x) t h = refl
-opened_label f c (label.Clause x) t h = refl
-opened_label f c (label.Predicate x) t h = refl
-opened_label f c (label.List x) t h = refl
-
-pub opened_closed : (f : Sort → ℕ → Leaf) (c : ℕ) (t : Tree) → IsClosedUnder c t → opened f c t ≡ t
-opened_closed f c empty h = refl
-opened_closed f c (more a b) h = cc (opened_closed f c a h.0, opened_closed f c b h.1)
-opened_closed f c (node l t) h = ap (opened_at f c l) (opened_closed f (c + binders l) t h.1) ∙ opened_label f c l t h.0
 
 -- a handler's goal follows by no rule of the engine
 pub not_built_in : (m : Meaning) (G : Tree → Type 0) (H : Constraint → Type 0) (P : Premise → Type 0) (e s : Tree) → IsHandlers s → IsBuiltIn m G H P e s → ⊥

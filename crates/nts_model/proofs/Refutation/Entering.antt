@@ -14,8 +14,8 @@ use Rattle.nts_model.specs.Tables.Contents.{Content, kind_at}
 use Rattle.nts_model.specs.Terms.Placeholders.{CanName, free_region_level, leaf_level}
 use Rattle.nts_model.specs.Tables.Levels.{NamesAll, term_level}
 use Rattle.nts_model.specs.Tables.Worlds.{World, inst, KeepsFixedRegions}
-use Rattle.nts_model.specs.Terms.Substitutions.{leaf_tree}
-use Rattle.nts_model.specs.Derivations.Handlers.{filled, IsFixed}
+use Rattle.nts_model.specs.Terms.Substitutions.{leaf_tree, filled}
+use Rattle.nts_model.specs.Derivations.Handlers.{IsFixed}
 use Rattle.nts_model.specs.Canonical.Inputs.{CanonicalInput, PositionKind, type_variable, integer_variable, float_variable, const_variable, region_variable, placeholder}
 use Rattle.nts_model.specs.Answers.Responses.{Response, IsOverPositions, placeholder_tree, IsImageOf, AreImagesOf, IsNamedBy, AreNamedBy}
 use Rattle.nts_model.specs.Answers.Applying.{IsOriginalAt, ChoosesAll, IsProperContent, AreKnownTrees}

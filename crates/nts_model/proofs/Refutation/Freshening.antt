@@ -13,10 +13,10 @@ use Rattle.nts_model.specs.Tables.Contents.{Content}
 use Rattle.nts_model.specs.Tables.Resolving.{Knows, KnowsLabel}
 use Rattle.nts_model.specs.Tables.Levels.{term_level}
 use Rattle.nts_model.specs.Tables.Worlds.{World, inst, IsValue, IsNameable, Solves, Agrees}
-use Rattle.nts_model.specs.Terms.Substitutions.{leaf_tree, put, Occurs, Instance}
+use Rattle.nts_model.specs.Terms.Substitutions.{leaf_tree, put, Occurs, Instance, filled, filled_under, position_of, value_or}
 use Rattle.nts_model.specs.Derivations.Related.{pair}
 use Rattle.nts_model.specs.Derivations.Rules.{coherence, Equation, related, alike}
-use Rattle.nts_model.specs.Derivations.Handlers.{Handler, position_of, value_or, filled, filled_under, kind_of_sort, AreValuesOf, IsAsked, CandidatesKeep, IsCandidateFor, IsOver, IsFixed, IsEquationOver}
+use Rattle.nts_model.specs.Derivations.Handlers.{Handler, kind_of_sort, AreValuesOf, IsAsked, CandidatesKeep, IsCandidateFor, IsOver, IsFixed, IsEquationOver}
 use Rattle.nts_model.specs.Canonical.Inputs.{type_variable}
 use Rattle.nts_model.specs.Answers.Responses.{read_in, bound_of}
 use Rattle.nts_model.specs.Answers.Applying.{IsNew, IsProperContent}

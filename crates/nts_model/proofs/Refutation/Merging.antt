@@ -5,8 +5,8 @@ use Rattle.nts_model.specs.declared.labels.Sort.TheVariants as sort
 use Rattle.nts_model.specs.declared.labels.VariableKind.{VariableKind}
 use Rattle.nts_model.specs.declared.labels.VariableKind.TheVariants as kind
 use Rattle.nts_model.specs.Terms.Trees.{Tree, empty}
-use Rattle.nts_model.specs.Derivations.Sequents.{Among}
-use Rattle.nts_model.specs.Derivations.Handlers.{filled}
+use Rattle.nts_model.specs.Lists.{Among}
+use Rattle.nts_model.specs.Terms.Substitutions.{filled}
 use Rattle.nts_model.specs.Canonical.Numbered.{position}
 use Rattle.nts_model.specs.Canonical.Inputs.{CanonicalInput, PositionKind, type_variable, integer_variable, float_variable, const_variable, region_variable, placeholder}
 use Rattle.nts_model.specs.Answers.Responses.{Response}

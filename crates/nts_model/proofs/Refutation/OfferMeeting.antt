@@ -15,11 +15,12 @@ use Rattle.nts_model.specs.Terms.Trees.{Tree, empty, more, node, IsClosed, IsFor
 use Rattle.nts_model.specs.Tables.Contents.{Content}
 use Rattle.nts_model.specs.Tables.Resolving.{Knows}
 use Rattle.nts_model.specs.Tables.Worlds.{World, inst, IsFitting}
-use Rattle.nts_model.specs.Terms.Substitutions.{leaf_tree, put, replace, Occurs, Instance, instance_of}
+use Rattle.nts_model.specs.Terms.Substitutions.{leaf_tree, put, replace, Occurs, Instance, instance_of, filled_under, position_of, value_or}
 use Rattle.nts_model.specs.Derivations.Related.{Constraint, pair, unbound, alias_goal, IsAlias}
-use Rattle.nts_model.specs.Derivations.Sequents.{Among, Premise}
+use Rattle.nts_model.specs.Lists.{Among}
+use Rattle.nts_model.specs.Derivations.Sequents.{Premise}
 use Rattle.nts_model.specs.Derivations.Rules.{coherence, Equation, related, alike, GoalKind, goal_kind, Stands, relating, IsHandlers, HoldsEquation, IsApplied, IsRule}
-use Rattle.nts_model.specs.Derivations.Handlers.{Handler, meaning, Candidate, position_of, value_or, filled_under, equation_by, premise_by, AreValuesOf, IsAsked, CandidatesKeep, IsFixed}
+use Rattle.nts_model.specs.Derivations.Handlers.{Handler, meaning, Candidate, equation_by, premise_by, AreValuesOf, IsAsked, CandidatesKeep, IsFixed}
 use Rattle.nts_model.specs.Refutation.Containing.{Truth, IsTrueBy}
 use Rattle.nts_model.specs.Refutation.Coherence.{IsNoAlias, IsAliasFree, AreProved, Covers, RulesAreOffered, IsAliasFreeCandidate, IsInstanceIn}
 use Rattle.nts_model.proofs.Tables.Fitting.{IsClosed-inst}

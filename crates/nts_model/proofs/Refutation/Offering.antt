@@ -10,13 +10,13 @@ use Rattle.nts_model.specs.Terms.Placeholders.{leaf_level}
 use Rattle.nts_model.specs.Tables.Levels.{NamesAll}
 use Rattle.nts_model.specs.Terms.Regions.{of_free}
 use Rattle.nts_model.specs.Tables.Worlds.{World, inst, IsFitting, KeepsFixedRegions}
-use Rattle.nts_model.specs.Terms.Substitutions.{leaf_tree, Instance, instance_of}
+use Rattle.nts_model.specs.Terms.Substitutions.{leaf_tree, Instance, instance_of, filled_under}
 use Rattle.nts_model.specs.Derivations.Related.{pair}
-use Rattle.nts_model.specs.Derivations.Sequents.{Among}
+use Rattle.nts_model.specs.Lists.{Among}
 use Rattle.nts_model.specs.Canonical.Numbered.{seen, AreDistinct}
 use Rattle.nts_model.specs.Derivations.Rules.{Equation, related, alike}
 use Rattle.nts_model.specs.Refutation.Choosing.{left_of, right_of, AreNamedValues}
-use Rattle.nts_model.specs.Derivations.Handlers.{Handler, filled_under, equation_by, IsAsked, IsFixed}
+use Rattle.nts_model.specs.Derivations.Handlers.{Handler, equation_by, IsAsked, IsFixed}
 use Rattle.nts_model.specs.Refutation.Containing.{Truth}
 use Rattle.nts_model.specs.Refutation.Coherence.{RulesAreOffered, IsInstanceIn}
 use Rattle.nts_model.specs.Refutation.Refutation.{UsesNamed}

@@ -8,9 +8,9 @@ use Rattle.nts_model.specs.declared.labels.Leaf.TheVariants as leaf
 use Rattle.nts_model.specs.declared.labels.BoundVarIndexKind.TheVariants as index
 use Rattle.nts_model.specs.declared.labels.Label.{Label}
 use Rattle.nts_model.specs.declared.labels.Label.TheVariants as label
-use Rattle.nts_model.specs.Terms.Trees.{Tree, empty, more, node, binders, IsFormed}
+use Rattle.nts_model.specs.Terms.Trees.{Tree, empty, more, node, binders, IsFormed, variable_of}
 use Rattle.nts_model.specs.Tables.Contents.{Content}
-use Rattle.nts_model.specs.Tables.Resolving.{variable_of, Knows, KnowsVariable}
+use Rattle.nts_model.specs.Tables.Resolving.{Knows, KnowsVariable}
 use Rattle.nts_model.specs.Tables.Worlds.{World, inst, IsFitting}
 use Rattle.nts_model.specs.Terms.Substitutions.{leaf_tree, put, replace, Occurs, Renaming, rename}
 use Rattle.nts_model.specs.Derivations.Related.{Constraint, pair, unbound}
@@ -18,7 +18,7 @@ use Rattle.nts_model.specs.Derivations.Sequents.{Premise, Hidden}
 use Rattle.nts_model.specs.Derivations.Rules.{Mode, Meaning, opened, opened_at, AreFresh, bound, IsPlainRule, IsRule}
 use Rattle.nts_model.proofs.Terms.Substituting.{leaf_alone}
 use Rattle.nts_model.proofs.Tables.Fitting.{IsClosed-under}
-use Rattle.nts_model.proofs.Refutation.Covering.{opened_closed}
+use Rattle.nts_model.proofs.Derivations.ClosedStatements.{opened_closed}
 
 -- a rule for a goal that binds variables is one for the goal with fresh placeholders, as a goal that binds nothing
 module _ (m : Meaning) (mode : Mode) (G : Tree → Type 0) (H : Constraint → Type 0) (D : Hidden → Type 0) (P : Premise → Type 0) where

@@ -20,7 +20,8 @@ use Rattle.nts_model.specs.Tables.Holding.{Continues}
 use Rattle.nts_model.specs.Refutation.Opening.{placeholder_in, opened_in}
 use Rattle.nts_model.specs.Terms.Substitutions.{leaf_tree, replace, instance_of}
 use Rattle.nts_model.specs.Derivations.Related.{pair, unbound}
-use Rattle.nts_model.specs.Derivations.Sequents.{Among, Premise, IsOfTerms, Grants, Hides}
+use Rattle.nts_model.specs.Lists.{Among}
+use Rattle.nts_model.specs.Derivations.Sequents.{Premise, IsOfTerms, Grants, Hides}
 use Rattle.nts_model.specs.Derivations.Rules.{Mode, goal_kind, statement_kind, proof_kind, IsHandlers, opened, opened_at, AreFresh, bound, IsPlainRule, IsRule}
 use Rattle.nts_model.specs.Derivations.Proofs.{Assumed, passed, by_rule}
 use Rattle.nts_model.specs.Derivations.Handlers.{Handler, meaning, Candidate, certain, IsAsked, IsLawful}
@@ -29,13 +30,12 @@ use Rattle.nts_model.specs.Searching.Stacks.{IsProvedFrom, HoldsCandidateFrom}
 use Rattle.nts_model.proofs.Derivations.Monotone.{rule_more}
 use Rattle.nts_model.proofs.Tables.Fitting.{IsClosed-under}
 use Rattle.nts_model.proofs.Terms.Composing.{itself, instance_of-itself}
-use Rattle.nts_model.proofs.Refutation.Covering.{opened_closed}
 use Rattle.nts_model.proofs.Tables.ResolvedTerms.{IsFormed-deeply_resolved, IsClosed-deeply_resolved}
 use Rattle.nts_model.proofs.Tables.TableInstances.{read_leaf, reading_of, reading-leaf, instance_of-reading}
 use Rattle.nts_model.proofs.Terms.Identified.{one_itself}
 use Rattle.nts_model.proofs.Tables.Open.{Knows-deeply_resolved}
 use Rattle.nts_model.proofs.Terms.Unpositioned.{known_no_positions, known_well_bound, pair_no_positions}
-use Rattle.nts_model.proofs.Derivations.ClosedStatements.{one_statement}
+use Rattle.nts_model.proofs.Derivations.ClosedStatements.{one_statement, opened_closed}
 use Rattle.nts_model.proofs.Derivations.Owing.{IsServedFrom, at_premise, derive_all_from}
 use Rattle.nts_model.proofs.Derivations.FromCandidate.{shallow, shallow_holds, kind_resolved, candidate_follows, candidate_applies, lawful_candidate_from}
 use Rattle.nts_model.proofs.Derivations.ByCandidate.{handlers_instance, formed_here, closed_here, read_itself}

@@ -12,12 +12,12 @@ use Rattle.nts_model.specs.Tables.Resolving.{Knows}
 use Rattle.nts_model.specs.Terms.Scoping.{IsWellBound}
 use Rattle.nts_model.specs.Terms.Placeholders.{leaf_level}
 use Rattle.nts_model.specs.Tables.Worlds.{World, inst, IsTrueOf, IsMet}
-use Rattle.nts_model.specs.Terms.Substitutions.{leaf_tree, Occurs, Instance}
+use Rattle.nts_model.specs.Terms.Substitutions.{leaf_tree, Occurs, Instance, filled, filled_under}
 use Rattle.nts_model.specs.Derivations.Related.{Constraint, pair}
-use Rattle.nts_model.specs.Derivations.Sequents.{Among}
+use Rattle.nts_model.specs.Lists.{Among}
 use Rattle.nts_model.specs.Derivations.Rules.{coherence, Equation, related, alike}
 use Rattle.nts_model.specs.Tables.Equations.{AreRelated, AreUnrelated}
-use Rattle.nts_model.specs.Derivations.Handlers.{Handler, Candidate, filled, filled_under, constraint_by, IsAsked, CandidatesKeep, IsCandidateFor, IsFixed, IsOver, IsEquationOver}
+use Rattle.nts_model.specs.Derivations.Handlers.{Handler, Candidate, constraint_by, IsAsked, CandidatesKeep, IsCandidateFor, IsFixed, IsOver, IsEquationOver}
 use Rattle.nts_model.specs.Answers.Responses.{read_in}
 use Rattle.nts_model.specs.Answers.Applying.{IsProperContent}
 use Rattle.nts_model.specs.Refutation.Choosing.{left_of, right_of, MeetsEquations, Freshens}

@@ -5,10 +5,11 @@ use Rattle.nts_model.specs.Terms.Trees.{Tree}
 use Rattle.nts_model.specs.Tables.Contents.{Content}
 use Rattle.nts_model.specs.Tables.Resolving.{Knows}
 use Rattle.nts_model.specs.Tables.Worlds.{World, inst}
-use Rattle.nts_model.specs.Terms.Substitutions.{leaf_tree, Instance}
+use Rattle.nts_model.specs.Terms.Substitutions.{leaf_tree, Instance, filled}
 use Rattle.nts_model.specs.Derivations.Related.{pair}
-use Rattle.nts_model.specs.Derivations.Sequents.{Among, Premise}
-use Rattle.nts_model.specs.Derivations.Handlers.{Handler, filled, premise_by, IsAsked, CandidatesKeep}
+use Rattle.nts_model.specs.Lists.{Among}
+use Rattle.nts_model.specs.Derivations.Sequents.{Premise}
+use Rattle.nts_model.specs.Derivations.Handlers.{Handler, premise_by, IsAsked, CandidatesKeep}
 use Rattle.nts_model.specs.Canonical.Inputs.{PositionKind}
 use Rattle.nts_model.specs.Answers.Responses.{Findings, AreFindings, own_leaves, response_of, IsQueryTable}
 use Rattle.nts_model.specs.Answers.Applying.{IsProperContent}

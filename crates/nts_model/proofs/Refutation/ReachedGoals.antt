@@ -17,7 +17,8 @@ use Rattle.nts_model.specs.Terms.Trees.{Tree, empty, more, node, IsFormed}
 use Rattle.nts_model.specs.Tables.Passing.{AllLabels}
 use Rattle.nts_model.specs.Terms.Substitutions.{put, replace, Instance, instance_of}
 use Rattle.nts_model.specs.Derivations.Related.{Constraint, pair, unbound, alias_goal, alias, IsAlias}
-use Rattle.nts_model.specs.Derivations.Sequents.{Among, Premise, Hidden, HasOneSide, constraint_under}
+use Rattle.nts_model.specs.Lists.{Among}
+use Rattle.nts_model.specs.Derivations.Sequents.{Premise, Hidden, HasOneSide, constraint_under}
 use Rattle.nts_model.specs.Derivations.Rules.{Mode, coherence, Application, Meaning, GoalKind, normalization, strictly, statement_kind, goal_kind, Stands, relating, opened, IsHandlers, normalization_goal, IsResult, IsBuiltIn, IsPlainRule, bound, IsRule}
 use Rattle.nts_model.specs.Derivations.Rules.{region_lives, type_lives, subtyped, coerced, const_typed, error_typed, allowed, dyn_compatible, formed, constant_evaluated, value_evaluated, error_evaluated, alias_evaluated, aliases_relate}
 use Rattle.nts_model.specs.Derivations.Proofs.{Node}
@@ -27,7 +28,8 @@ use Rattle.nts_model.specs.Refutation.Containing.{Truth, IsTrueBy, IsGroundLabel
 use Rattle.nts_model.specs.Refutation.Refutation.{AreUsed, binding, IsGroundInstance}
 use Rattle.nts_model.proofs.Terms.Composing.{after, instance_of-after, IsFormed-instance}
 use Rattle.nts_model.proofs.Terms.Identified.{one_at}
-use Rattle.nts_model.proofs.Refutation.Covering.{not_built_in, opened_closed}
+use Rattle.nts_model.proofs.Derivations.ClosedStatements.{opened_closed}
+use Rattle.nts_model.proofs.Refutation.Covering.{not_built_in}
 use Rattle.nts_model.specs.Variances.Judging.{AllStand}
 use Rattle.nts_model.proofs.Refutation.UsedRules.{uses_unbound, uses_binding}
 

@@ -15,7 +15,7 @@ use Rattle.nts_model.specs.Tables.Levels.{NamesAll, AreCurrent}
 use Rattle.nts_model.specs.Tables.Worlds.{World, inst}
 use Rattle.nts_model.specs.Terms.Substitutions.{leaf_tree}
 use Rattle.nts_model.specs.Derivations.Related.{pair, unbound}
-use Rattle.nts_model.specs.Derivations.Sequents.{Among}
+use Rattle.nts_model.specs.Lists.{Among}
 use Rattle.nts_model.specs.Derivations.Rules.{coherence, statement_of, opened, IsHandlers}
 use Rattle.nts_model.specs.Refutation.Opening.{binds, placeholder_in, entered, opened_in}
 use Rattle.nts_model.specs.Derivations.Handlers.{Handler, Candidate, IsAsked, IsLawful}

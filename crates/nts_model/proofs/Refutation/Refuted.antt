@@ -15,7 +15,7 @@ use Rattle.nts_model.specs.Refutation.Containing.{Truth, IsTrueBy, IsSolution, A
 use Rattle.nts_model.specs.Refutation.Coherence.{RulesAreOffered}
 use Rattle.nts_model.specs.Canonical.Inputs.{CanonicalInput}
 use Rattle.nts_model.specs.Answers.Responses.{Response}
-use Rattle.nts_model.specs.Derivations.Handlers.{filled}
+use Rattle.nts_model.specs.Terms.Substitutions.{filled}
 use Rattle.nts_model.specs.Refutation.Refutation.{IsFair, IsTheory, HasMetProof, HasNoSolutionIn, KeepsSolutionsOf}
 use Rattle.nts_model.proofs.Refutation.Entering.{entered as enters}
 use Rattle.nts_model.proofs.Refutation.Theories.{Carried, carried_itself, carried_theory}

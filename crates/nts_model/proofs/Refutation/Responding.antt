@@ -17,15 +17,16 @@ use Rattle.nts_model.specs.Tables.Contents.{Content, Slot, Recorded, map_slot, u
 use Rattle.nts_model.specs.Tables.Resolving.{Knows, deeply_resolved}
 use Rattle.nts_model.specs.Tables.Levels.{NamesAll}
 use Rattle.nts_model.specs.Tables.Worlds.{World, inst, IsTrueOf, IsMet, AreMet}
-use Rattle.nts_model.specs.Terms.Substitutions.{leaf_tree}
-use Rattle.nts_model.specs.Derivations.Sequents.{Among}
-use Rattle.nts_model.specs.Derivations.Handlers.{filled, IsFixed}
+use Rattle.nts_model.specs.Terms.Substitutions.{leaf_tree, filled}
+use Rattle.nts_model.specs.Lists.{Among}
+use Rattle.nts_model.specs.Derivations.Handlers.{IsFixed}
 use Rattle.nts_model.specs.Canonical.Inputs.{PositionKind, placeholder, share}
 use Rattle.nts_model.specs.Answers.Responses.{Findings, recorded_by, AreFindings, own_leaves, positioned, is_fixed, answer_kind, universe_or, placeholder_tree, response_of, IsLeafIn, IsQueryTable}
 use Rattle.nts_model.specs.Terms.Placeholders.{leaf_level}
 use Rattle.nts_model.specs.Refutation.Containing.{Truth, IsTrueBy, IsSolution, IsOwnValue, IsAnswerValue, AreAnswerValues, AreMetBy, ContainsSolution}
 use Rattle.nts_model.proofs.Tables.Worlds.{inst-deeply_resolved}
-use Rattle.nts_model.proofs.Derivations.ProvedLater.{contains_first, contains_later, first_or_later, contains_none}
+use Rattle.nts_model.proofs.Lists.{contains_none, first_or_later}
+use Rattle.nts_model.proofs.Derivations.ProvedLater.{contains_first, contains_later}
 use Rattle.nts_model.proofs.Canonical.Positioned.{get_or-map, inst-filled, filled_under-fixed}
 use Rattle.nts_model.proofs.Responses.Answering.{AllTrees, AllSides, AreSeen, IsPlainTerm, filled-positioned, all_found_seen, positioned_over, own_loose}
 use Rattle.nts_model.proofs.Responses.Querying.{all_plain, own_in}

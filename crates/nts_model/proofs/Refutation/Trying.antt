@@ -9,12 +9,13 @@ use Rattle.nts_model.specs.Tables.Resolving.{Knows}
 use Rattle.nts_model.specs.Tables.Worlds.{World, inst, IsTrueOf, IsMet, Solves, Agrees}
 use Rattle.nts_model.specs.Tables.Holding.{Continues}
 use Rattle.nts_model.specs.Tables.Equations.{Extension}
-use Rattle.nts_model.specs.Terms.Substitutions.{leaf_tree}
+use Rattle.nts_model.specs.Terms.Substitutions.{leaf_tree, filled}
 use Rattle.nts_model.specs.Derivations.Related.{Constraint}
 use Rattle.nts_model.specs.Derivations.Rules.{Equation}
-use Rattle.nts_model.specs.Derivations.Sequents.{Among, Premise}
+use Rattle.nts_model.specs.Lists.{Among}
+use Rattle.nts_model.specs.Derivations.Sequents.{Premise}
 use Rattle.nts_model.specs.Derivations.Proving.{recorded_as}
-use Rattle.nts_model.specs.Derivations.Handlers.{Candidate, filled, premise_by, constraint_by}
+use Rattle.nts_model.specs.Derivations.Handlers.{Candidate, premise_by, constraint_by}
 use Rattle.nts_model.specs.Canonical.Inputs.{PositionKind}
 use Rattle.nts_model.specs.Answers.Responses.{Findings, AreFindings, own_leaves, response_of, IsQueryTable}
 use Rattle.nts_model.specs.Answers.Applying.{IsRecordedIn}

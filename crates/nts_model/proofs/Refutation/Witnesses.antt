@@ -12,10 +12,11 @@ use Rattle.nts_model.specs.Terms.Placeholders.{CanName, leaf_level_of}
 use Rattle.nts_model.specs.Tables.Levels.{AreCurrent}
 use Rattle.nts_model.specs.Tables.Worlds.{World, inst}
 use Rattle.nts_model.specs.Derivations.Related.{pair}
-use Rattle.nts_model.specs.Derivations.Sequents.{Source, type_relating, normalize_goal, inductive, Premise, Among}
+use Rattle.nts_model.specs.Lists.{Among}
+use Rattle.nts_model.specs.Derivations.Sequents.{Source, type_relating, normalize_goal, inductive, Premise}
 use Rattle.nts_model.specs.Derivations.Rules.{Mode, coherence}
-use Rattle.nts_model.specs.Terms.Substitutions.{leaf_tree, Occurs, IsConstant, instance_of}
-use Rattle.nts_model.specs.Derivations.Handlers.{Handler, Candidate, filled, premise_by, IsLawful}
+use Rattle.nts_model.specs.Terms.Substitutions.{leaf_tree, Occurs, IsConstant, instance_of, filled}
+use Rattle.nts_model.specs.Derivations.Handlers.{Handler, Candidate, premise_by, IsLawful}
 use Rattle.nts_model.specs.Refutation.Choosing.{Freshens, EquatesAll, IsMet}
 use Rattle.nts_model.specs.Refutation.Forcing.{AddsAll}
 use Rattle.nts_model.specs.Refutation.Opening.{binds, entered, opened_in}

@@ -14,9 +14,9 @@ use Rattle.nts_model.specs.Tables.Levels.{term_level}
 use Rattle.nts_model.specs.Tables.Worlds.{World, inst, IsTrueOf, IsMet, IsNameable, Solves, Agrees}
 use Rattle.nts_model.specs.Tables.Holding.{HoldsConstraint, Continues}
 use Rattle.nts_model.specs.Tables.Equations.{ExtensionIf, Extension, AreRelated, AreUnrelated}
-use Rattle.nts_model.specs.Terms.Substitutions.{leaf_tree, put}
+use Rattle.nts_model.specs.Terms.Substitutions.{leaf_tree, put, filled, position_of, value_or}
 use Rattle.nts_model.specs.Derivations.Proving.{HoldsTerms}
-use Rattle.nts_model.specs.Derivations.Handlers.{position_of, value_or, filled, IsFixed}
+use Rattle.nts_model.specs.Derivations.Handlers.{IsFixed}
 use Rattle.nts_model.specs.Answers.Responses.{Response, StandForAll, recorded_by, AreImagesOf, AreNamedBy, read_in, AreEqualIn, AreMetIn, GrantsFor, AreAlikeValues, Applies, RefusesResponse, IsOverPositions}
 use Rattle.nts_model.specs.Answers.Applying.{IsProperContent, IsOriginalAt, ChoosesAll, MakesEqual, Records, AreKnownTrees}
 use Rattle.nts_model.proofs.Tables.Slots.{Knows-kept}
@@ -24,7 +24,7 @@ use Rattle.nts_model.proofs.Tables.Held.{HoldsConstraint-continues, Continues-re
 use Rattle.nts_model.proofs.Tables.Instances.{inst-agrees, Agrees-refl, Agrees-trans}
 use Rattle.nts_model.proofs.Tables.Solving.{Solves-in_universe, Solves-from_in_universe}
 use Rattle.nts_model.proofs.Tables.Alike.{AreAlike-continues}
-use Rattle.nts_model.proofs.Derivations.ProvedLater.{first_or_later, contains_none}
+use Rattle.nts_model.proofs.Lists.{contains_none, first_or_later}
 use Rattle.nts_model.proofs.Canonical.Positioned.{over_first, over_rest, over_children, inst-filled}
 use Rattle.nts_model.proofs.Responses.Answering.{AllTrees, AllSides}
 use Rattle.nts_model.proofs.Responses.Applying.{all_seen, AllChosen, all_chosen, one_point, chose_continues, stand_all}

@@ -7,11 +7,12 @@ use Rattle.nts_model.specs.Tables.Contents.{Content}
 use Rattle.nts_model.specs.Tables.Resolving.{deeply_resolved, IsSound, Knows}
 use Rattle.nts_model.specs.Tables.Levels.{NamesAll, term_level}
 use Rattle.nts_model.specs.Tables.Holding.{Continues}
-use Rattle.nts_model.specs.Terms.Substitutions.{leaf_tree}
-use Rattle.nts_model.specs.Derivations.Sequents.{Among, Premise}
+use Rattle.nts_model.specs.Terms.Substitutions.{leaf_tree, filled}
+use Rattle.nts_model.specs.Lists.{Among}
+use Rattle.nts_model.specs.Derivations.Sequents.{Premise}
 use Rattle.nts_model.specs.Derivations.Rules.{Meaning, Mode}
 use Rattle.nts_model.specs.Derivations.Proofs.{Assumed}
-use Rattle.nts_model.specs.Derivations.Handlers.{filled, premise_by}
+use Rattle.nts_model.specs.Derivations.Handlers.{premise_by}
 use Rattle.nts_model.specs.Canonical.Inputs.{Input, IsInput, originals, canonical_of}
 use Rattle.nts_model.specs.Derivations.Proving.{HoldsTerms, IsTermOf, AreConstraintsOf, read_constraints, read_goals, sequent_at, sequent_with}
 use Rattle.nts_model.specs.Answers.Responses.{Findings, AreFindings, Response, Applies, response_of, answer_sequent, IsResponseTo, IsQueryTable}

@@ -9,13 +9,12 @@ use Rattle.nts_model.specs.declared.labels.Label.TheVariants as label
 use Rattle.nts_model.specs.Terms.Trees.{Tree, empty, more, node, children, IsRow, row_at, row_take, row_push}
 use Rattle.nts_model.specs.Tables.Contents.{Content, Slot, Recorded, unset, link, known, state_of, with_slot, bound_to, with_constraint}
 use Rattle.nts_model.specs.Tables.Holding.{Continues}
-use Rattle.nts_model.specs.Derivations.Sequents.{Among}
-use Rattle.nts_model.specs.Terms.Substitutions.{Occurs}
-use Rattle.nts_model.specs.Derivations.Handlers.{filled}
+use Rattle.nts_model.specs.Lists.{Among}
+use Rattle.nts_model.specs.Terms.Substitutions.{Occurs, filled}
 use Rattle.nts_model.specs.Tables.Passing.{AllLabels, AllPass, PassesVariables, TreePasses, TablePasses, BringsLabelsOf, BringsNoLabels, PassesQueries, BringsOnly}
 use Rattle.nts_model.proofs.Tables.Slots.{field-changed_same, field-changed_other, field-with_slot_new, field-with_slot_old}
 use Rattle.nts_model.proofs.Tables.Under.{same_or_other}
-use Rattle.nts_model.proofs.Derivations.ProvedLater.{contains_none, first_or_later}
+use Rattle.nts_model.proofs.Lists.{contains_none, first_or_later}
 
 -- where the values and the constraints are old ones
 pub passes-same : (P : Label → Type 0) (c d : Content) → ((n : ℕ) (t : Tree) → state_of d n ≡ Some (known t) → state_of c n ≡ Some (known t)) → ((x : Recorded) → Contains d.constraints x → Contains c.constraints x) → AllPass P c → AllPass P d

@@ -14,9 +14,9 @@ use Rattle.nts_model.specs.declared.labels.Label.{Label}
 use Rattle.nts_model.specs.declared.labels.Label.TheVariants as label
 use Rattle.nts_model.specs.Terms.Trees.{Tree, empty}
 use Rattle.nts_model.specs.Tables.Contents.{Content, in_universe}
-use Rattle.nts_model.specs.Terms.Substitutions.{Occurs}
-use Rattle.nts_model.specs.Derivations.Sequents.{Among}
-use Rattle.nts_model.specs.Derivations.Handlers.{filled, IsFixed}
+use Rattle.nts_model.specs.Terms.Substitutions.{Occurs, filled}
+use Rattle.nts_model.specs.Lists.{Among}
+use Rattle.nts_model.specs.Derivations.Handlers.{IsFixed}
 use Rattle.nts_model.specs.Canonical.Inputs.{PositionKind, type_variable, integer_variable, float_variable, const_variable, region_variable, placeholder}
 use Rattle.nts_model.specs.Answers.Responses.{placeholder_at}
 use Rattle.nts_model.specs.Answers.Applying.{IsNew, IsOriginalAt, ChoosesVariable, Chooses, ChoosesAll}

@@ -12,11 +12,12 @@ use Rattle.nts_model.specs.declared.labels.Leaf.TheVariants as leaf
 use Rattle.nts_model.specs.Terms.Trees.{Tree}
 use Rattle.nts_model.specs.Tables.Contents.{Content, Recorded}
 use Rattle.nts_model.specs.Tables.Resolving.{deeply_resolved, IsSound}
-use Rattle.nts_model.specs.Terms.Substitutions.{leaf_tree, Instance, instance_of}
+use Rattle.nts_model.specs.Terms.Substitutions.{leaf_tree, Instance, instance_of, filled}
 use Rattle.nts_model.specs.Derivations.Related.{Constraint}
-use Rattle.nts_model.specs.Derivations.Sequents.{Among, Premise, constraint_under, premise_under, IsTrivial, IsInstance}
+use Rattle.nts_model.specs.Lists.{Among}
+use Rattle.nts_model.specs.Derivations.Sequents.{Premise, constraint_under, premise_under, IsTrivial, IsInstance}
 use Rattle.nts_model.specs.Derivations.Rules.{Meaning, Mode}
-use Rattle.nts_model.specs.Derivations.Handlers.{filled, premise_by}
+use Rattle.nts_model.specs.Derivations.Handlers.{premise_by}
 use Rattle.nts_model.specs.Canonical.Numbered.{AreDistinct}
 use Rattle.nts_model.specs.Canonical.Inputs.{CanonicalInput, PositionKind, share}
 use Rattle.nts_model.specs.Derivations.Proving.{read_constraint, turned, in_either_order, read_constraints, sequent_at, read_goals, sequent_with, IsDerived, IsProved}
@@ -24,7 +25,8 @@ use Rattle.nts_model.specs.Answers.Responses.{Findings, said, recorded_by, AreFi
 use Rattle.nts_model.proofs.Terms.Composing.{after, fits_itself}
 use Rattle.nts_model.proofs.Terms.Listed.{either, map-map}
 use Rattle.nts_model.proofs.Derivations.ProofInstances.{IsInstance-after, IsTrivial-under}
-use Rattle.nts_model.proofs.Derivations.ProvedLater.{contains_first, contains_later, first_or_later, contains_none, read_from}
+use Rattle.nts_model.proofs.Lists.{contains_none, first_or_later}
+use Rattle.nts_model.proofs.Derivations.ProvedLater.{contains_first, contains_later, read_from}
 use Rattle.nts_model.proofs.Terms.Identified.{one_itself}
 use Rattle.nts_model.proofs.Canonical.Positioned.{instance_of-filled, deeply_resolved-filled}
 use Rattle.nts_model.proofs.Terms.Imaging.{IsImage, AreImages, is_constant, constants, constant_images, imaging, map-imaging, distinct_constants}

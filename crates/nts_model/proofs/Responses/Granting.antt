@@ -16,11 +16,12 @@ use Rattle.nts_model.specs.Terms.Regions.{of_free}
 use Rattle.nts_model.specs.Tables.Holding.{HasSides, HoldsConstraint}
 use Rattle.nts_model.specs.Tables.Alike.{AreAlike}
 use Rattle.nts_model.specs.Terms.Regions.{RegionName}
-use Rattle.nts_model.specs.Terms.Substitutions.{leaf_tree, replace, Instance, instance_of}
+use Rattle.nts_model.specs.Terms.Substitutions.{leaf_tree, replace, Instance, instance_of, filled, filled_under}
 use Rattle.nts_model.specs.Derivations.Related.{Constraint}
-use Rattle.nts_model.specs.Derivations.Sequents.{Among, Premise, region_by, MakesOne, AreOneBy, constraint_under, premise_under, HasOneSide, IsInstance}
+use Rattle.nts_model.specs.Lists.{Among}
+use Rattle.nts_model.specs.Derivations.Sequents.{Premise, region_by, MakesOne, AreOneBy, constraint_under, premise_under, HasOneSide, IsInstance}
 use Rattle.nts_model.specs.Derivations.Rules.{Meaning, Mode}
-use Rattle.nts_model.specs.Derivations.Handlers.{filled, filled_under, premise_by}
+use Rattle.nts_model.specs.Derivations.Handlers.{premise_by}
 use Rattle.nts_model.specs.Canonical.Numbered.{AreDistinct}
 use Rattle.nts_model.specs.Canonical.Inputs.{CanonicalInput, PositionKind, type_variable, integer_variable, float_variable, const_variable, region_variable, placeholder}
 use Rattle.nts_model.specs.Derivations.Proving.{HoldsTerms, read_constraints, recorded_as, turned, sequent_at, read_goals, sequent_with, IsDerived, IsProved}
@@ -29,7 +30,8 @@ use Rattle.nts_model.proofs.Tables.Resolved.{deeply_resolved-deeply_resolved}
 use Rattle.nts_model.proofs.Terms.Composing.{after}
 use Rattle.nts_model.proofs.Terms.Listed.{either, map-map}
 use Rattle.nts_model.proofs.Derivations.ProofInstances.{IsInstance-after}
-use Rattle.nts_model.proofs.Derivations.ProvedLater.{first_or_later, contains_first, contains_later, contains_none, read_from, read_recorded, read_turned}
+use Rattle.nts_model.proofs.Lists.{contains_none, first_or_later}
+use Rattle.nts_model.proofs.Derivations.ProvedLater.{contains_first, contains_later, read_from, read_recorded, read_turned}
 use Rattle.nts_model.proofs.Derivations.ByCandidate.{IsGranted, read_sides, granted, alike_granted}
 use Rattle.nts_model.proofs.Canonical.Positioned.{replace-filled, instance_of-filled, deeply_resolved-filled}
 use Rattle.nts_model.proofs.Terms.Imaging.{IsImage, AreImages, is_constant, leaf_of, constants, constant_images, imaging, map-imaging, among_constants, distinct_constants}

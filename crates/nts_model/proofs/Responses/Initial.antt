@@ -11,7 +11,7 @@ use Rattle.nts_model.specs.declared.labels.Leaf.TheVariants as leaf
 use Rattle.nts_model.specs.declared.labels.BoundVarIndexKind.TheVariants as index
 use Rattle.nts_model.specs.declared.labels.Label.TheVariants as label
 use Rattle.nts_model.specs.Terms.Trees.{Tree}
-use Rattle.nts_model.specs.Derivations.Sequents.{Among}
+use Rattle.nts_model.specs.Lists.{Among}
 use Rattle.nts_model.specs.Terms.Substitutions.{leaf_sort, LeafSort, of_variable, of_constant}
 use Rattle.nts_model.specs.Canonical.Numbered.{number, position, AreDistinct}
 use Rattle.nts_model.specs.Canonical.Inputs.{Input, IsInput, PositionKind, type_variable, integer_variable, float_variable, const_variable, region_variable, placeholder, kind_at, originals, canonical_of}
@@ -19,7 +19,7 @@ use Rattle.nts_model.specs.Answers.Responses.{universe_of_kind, greatest, IsOver
 use Rattle.nts_model.specs.Searching.Stacks.{IsBounded}
 use Rattle.nts_model.specs.Searching.Driving.{sort_at, positions_from, unconstrained}
 use Rattle.nts_model.proofs.Terms.Listed.{same-yes, tell}
-use Rattle.nts_model.proofs.Derivations.ProvedLater.{contains_none}
+use Rattle.nts_model.proofs.Lists.{contains_none}
 use Rattle.nts_model.proofs.Canonical.CanonicalForms.{originals_are_leaves}
 
 -- kinds of the root, whose placeholders are named by their positions

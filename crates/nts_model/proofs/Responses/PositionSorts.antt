@@ -15,7 +15,7 @@ use Rattle.nts_model.specs.declared.labels.Label.TheVariants as label
 use Rattle.nts_model.specs.Terms.Trees.{Tree, empty, more, node, any_label, is_canonical, kind_of, kind_of_label, sort_of_leaf, IsClosed}
 use Rattle.nts_model.specs.Tables.Contents.{Content}
 use Rattle.nts_model.specs.Terms.Substitutions.{put, replace, Occurs}
-use Rattle.nts_model.specs.Derivations.Sequents.{Among}
+use Rattle.nts_model.specs.Lists.{Among}
 use Rattle.nts_model.specs.Derivations.Handlers.{NamesFresh, IsFixed}
 use Rattle.nts_model.specs.Canonical.Numbered.{number, numbered_leaf}
 use Rattle.nts_model.specs.Canonical.Inputs.{PositionKind, share}
@@ -23,7 +23,8 @@ use Rattle.nts_model.specs.Searching.Driving.{sort_at}
 use Rattle.nts_model.specs.Answers.Responses.{is_fixed, positioned, answer_kind, answer_kinds, universe_of_kind, greatest}
 use Rattle.nts_model.proofs.Terms.Listed.{either, tell, differ, same-yes, map-map, map-equal}
 use Rattle.nts_model.proofs.Canonical.Numbering.{AtNode, AllLeaves, AllLeaves-map, HasNoPositions, IsSeen}
-use Rattle.nts_model.proofs.Derivations.ProvedLater.{contains_first, contains_later, contains_none, first_or_later}
+use Rattle.nts_model.proofs.Lists.{contains_none, first_or_later}
+use Rattle.nts_model.proofs.Derivations.ProvedLater.{contains_first, contains_later}
 use Rattle.nts_model.proofs.Terms.Substituting.{kind_of-replace, IsClosed-replace}
 use Rattle.nts_model.specs.Terms.Scoping.{IsWellBound}
 use Rattle.nts_model.proofs.Terms.Scoping.{well_bound_patched, replace_patched, numbered_leaf_patch}

@@ -15,10 +15,10 @@ use Rattle.nts_model.specs.Terms.Trees.{Tree, empty, is_canonical}
 use Rattle.nts_model.specs.Tables.Contents.{Content, Recorded}
 use Rattle.nts_model.specs.Tables.Resolving.{deeply_resolved}
 use Rattle.nts_model.specs.Terms.Regions.{of_variable, of_free, IsRegion}
-use Rattle.nts_model.specs.Terms.Substitutions.{leaf_tree}
-use Rattle.nts_model.specs.Derivations.Sequents.{Among, Premise}
+use Rattle.nts_model.specs.Terms.Substitutions.{leaf_tree, filled}
+use Rattle.nts_model.specs.Lists.{Among}
+use Rattle.nts_model.specs.Derivations.Sequents.{Premise}
 use Rattle.nts_model.specs.Derivations.Rules.{Meaning, Mode}
-use Rattle.nts_model.specs.Derivations.Handlers.{filled}
 use Rattle.nts_model.specs.Canonical.Inputs.{Input, IsInput, PositionKind, placeholder, position_kind, originals, canonical_of}
 use Rattle.nts_model.specs.Derivations.Proving.{IsTermOf, read_goals, IsDerived, IsProved}
 use Rattle.nts_model.specs.Tables.Passing.{AllLabels}

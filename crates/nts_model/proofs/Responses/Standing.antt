@@ -16,7 +16,7 @@ use Rattle.nts_model.specs.Tables.Resolving.{deeply_resolved, IsSound}
 use Rattle.nts_model.specs.Tables.Levels.{NamesAll, term_level}
 use Rattle.nts_model.specs.Terms.Regions.{RegionName, of_variable, of_free, region_tree, IsRegion}
 use Rattle.nts_model.specs.Terms.Substitutions.{leaf_tree}
-use Rattle.nts_model.specs.Derivations.Sequents.{Among}
+use Rattle.nts_model.specs.Lists.{Among}
 use Rattle.nts_model.specs.Derivations.Proving.{HoldsTerms}
 use Rattle.nts_model.specs.Derivations.Handlers.{IsFixed}
 use Rattle.nts_model.specs.Canonical.Numbered.{AreDistinct}

@@ -14,9 +14,9 @@ use Rattle.nts_model.specs.declared.labels.Leaf.{Leaf}
 use Rattle.nts_model.specs.declared.labels.Leaf.TheVariants as leaf
 use Rattle.nts_model.specs.declared.labels.Label.{Label}
 use Rattle.nts_model.specs.declared.labels.Label.TheVariants as label
-use Rattle.nts_model.specs.Terms.Trees.{Tree, empty, more, node, label_of, kind_of_label, of_sort, sort_of_variable, kind_of, IsFormed, IsClosed}
+use Rattle.nts_model.specs.Terms.Trees.{Tree, empty, more, node, label_of, kind_of_label, of_sort, sort_of_variable, kind_of, IsFormed, IsClosed, infer_of, variable_of, variable_tree}
 use Rattle.nts_model.specs.Tables.Contents.{Content, SlotState, unset, link, known, Recorded, state_of, kind_at, universe_of}
-use Rattle.nts_model.specs.Tables.Resolving.{variable_of, infer_of, variable_tree, resolved, IsSound}
+use Rattle.nts_model.specs.Tables.Resolving.{resolved, IsSound}
 use Rattle.nts_model.specs.Tables.Levels.{NamesAll, IfNamesAll, term_level}
 use Rattle.nts_model.specs.Terms.Fitting.{Fits}
 use Rattle.nts_model.specs.Tables.Worlds.{World, renamed, inst, SolvesState, IsTrueOf, AreMet, Solves, Agrees}

@@ -8,11 +8,12 @@ use Rattle.nts_model.specs.Tables.Contents.{Content}
 use Rattle.nts_model.specs.Tables.Resolving.{deeply_resolved, IsSound}
 use Rattle.nts_model.specs.Tables.Levels.{NamesAll, term_level}
 use Rattle.nts_model.specs.Tables.Holding.{Continues}
-use Rattle.nts_model.specs.Terms.Substitutions.{leaf_tree}
-use Rattle.nts_model.specs.Derivations.Sequents.{Among, PathKind, coinductive, Premise}
+use Rattle.nts_model.specs.Terms.Substitutions.{leaf_tree, filled}
+use Rattle.nts_model.specs.Lists.{Among}
+use Rattle.nts_model.specs.Derivations.Sequents.{PathKind, coinductive, Premise}
 use Rattle.nts_model.specs.Derivations.Rules.{Meaning, Mode, GoalKind, step_kind}
 use Rattle.nts_model.specs.Derivations.Proofs.{passed}
-use Rattle.nts_model.specs.Derivations.Handlers.{Handler, meaning, Candidate, Certainty, certain, filled, premise_by, IsAsked, IsLawful}
+use Rattle.nts_model.specs.Derivations.Handlers.{Handler, meaning, Candidate, Certainty, certain, premise_by, IsAsked, IsLawful}
 use Rattle.nts_model.specs.Canonical.Inputs.{Input, IsInput, originals, canonical_of}
 use Rattle.nts_model.specs.Derivations.Proving.{HoldsTerms, IsTermOf, AreConstraintsOf}
 use Rattle.nts_model.specs.Answers.Responses.{Findings, AreFindings, Response, Applies, response_of, answer_sequent, IsQueryTable}

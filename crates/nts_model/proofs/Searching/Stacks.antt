@@ -4,12 +4,13 @@ use Rattle.std.proofs.Common.{inl, inr, ap, sym, ◌∙◌, subst, ⊎_elim}
 use Rattle.nts_model.specs.declared.labels.Leaf.{Leaf}
 use Rattle.nts_model.specs.Terms.Trees.{Tree}
 use Rattle.nts_model.specs.Tables.Contents.{Recorded}
-use Rattle.nts_model.specs.Terms.Substitutions.{instance_of, leaf_tree}
+use Rattle.nts_model.specs.Terms.Substitutions.{instance_of, leaf_tree, filled}
 use Rattle.nts_model.specs.Derivations.Related.{Constraint}
-use Rattle.nts_model.specs.Derivations.Sequents.{Among, PathKind, coinductive, unknown, inductive, forced_ambiguity, Premise, Sequent, constraint_under, premise_under, IsInstance}
+use Rattle.nts_model.specs.Lists.{Among}
+use Rattle.nts_model.specs.Derivations.Sequents.{PathKind, coinductive, unknown, inductive, forced_ambiguity, Premise, Sequent, constraint_under, premise_under, IsInstance}
 use Rattle.nts_model.specs.Derivations.Rules.{Meaning, Mode}
 use Rattle.nts_model.specs.Derivations.Proofs.{Assumed, put_behind, passed}
-use Rattle.nts_model.specs.Derivations.Handlers.{Certainty, certain, perhaps, filled, premise_by}
+use Rattle.nts_model.specs.Derivations.Handlers.{Certainty, certain, perhaps, premise_by}
 use Rattle.nts_model.specs.Canonical.Inputs.{CanonicalInput}
 use Rattle.nts_model.specs.Answers.Responses.{Response, recorded_by, said, leaves_of_kinds, closed_by, said_constraints, answer_sequent, IsOverPositions, IsResponseTo}
 use Rattle.nts_model.specs.Derivations.Proving.{turned}

@@ -3,9 +3,9 @@ use Rattle.std.proofs.Common.{◌≡◌, inl, inr, ⊎_elim, ℕ, zero, suc, ◌
 use Rattle.std.specs.Prelude.{◌==◌, if◌then◌else◌}
 use Rattle.nts_model.specs.declared.labels.Relation.TheVariants as relation
 use Rattle.nts_model.specs.declared.labels.Label.{Label}
-use Rattle.nts_model.specs.Terms.Trees.{Tree, empty, more, node, label_of, children, IsRow, row_length, row_at, row_take, row_push}
+use Rattle.nts_model.specs.Terms.Trees.{Tree, empty, more, node, label_of, children, IsRow, row_length, row_at, row_take, row_push, infer_of, variable_of}
 use Rattle.nts_model.specs.Tables.Contents.{Content, Recorded}
-use Rattle.nts_model.specs.Tables.Resolving.{variable_of, infer_of, replaced, replaced_at, resolved, deeply_resolved, rooted, rooted_variable, Knows, IsSound}
+use Rattle.nts_model.specs.Tables.Resolving.{replaced, replaced_at, resolved, deeply_resolved, rooted, rooted_variable, Knows, IsSound}
 use Rattle.nts_model.specs.Tables.Worlds.{KnowsAll}
 use Rattle.nts_model.specs.Terms.Regions.{IsRegion, RegionName, region_name, name_of_label}
 use Rattle.nts_model.specs.Tables.RegionClasses.{root_name}

@@ -4,9 +4,9 @@ use Rattle.std.specs.Prelude.{◌==◌, slice_get, reverse}
 use Rattle.nts_model.specs.declared.labels.VariableKind.TheVariants as kind
 use Rattle.nts_model.specs.declared.labels.Leaf.TheVariants as leaf
 use Rattle.nts_model.specs.declared.labels.Label.TheVariants as label
-use Rattle.nts_model.specs.Terms.Trees.{Tree, empty, kind_of, of_sort, sort_of_variable, IsClosed}
+use Rattle.nts_model.specs.Terms.Trees.{Tree, empty, kind_of, of_sort, sort_of_variable, IsClosed, infer_of, variable_tree}
 use Rattle.nts_model.specs.Tables.Contents.{Content, Slot, SlotState, unset, link, known, state_of, kind_at, changed, bound_to}
-use Rattle.nts_model.specs.Tables.Resolving.{variable_tree, infer_of, rank_of_kind, variable_rank, replaced, Lacks, IsOneOf, kind_or_type, value_of_state, value_at, resolved, Knows, IsSound}
+use Rattle.nts_model.specs.Tables.Resolving.{rank_of_kind, variable_rank, replaced, Lacks, IsOneOf, kind_or_type, value_of_state, value_at, resolved, Knows, IsSound}
 use Rattle.nts_model.proofs.Terms.Variables.{infer_number_some}
 use Rattle.nts_model.proofs.Tables.Under.{under-agree, IsAcyclic-agree, none-one, same_or_other, replaced-lacks}
 use Rattle.nts_model.proofs.Tables.Slots.{slice_get_below, length-slice_set, reverse-push, some_slot, field-changed_same, field-changed_other, field-changed_kept, KeepsKinds, KeepsKinds-changed, Knows-kept}

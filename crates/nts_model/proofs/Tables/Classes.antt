@@ -6,9 +6,9 @@ use Rattle.nts_model.specs.declared.labels.VariableKind.TheVariants as kind
 use Rattle.nts_model.specs.declared.labels.Leaf.TheVariants as leaf
 use Rattle.nts_model.specs.declared.labels.Label.{Label}
 use Rattle.nts_model.specs.declared.labels.Label.TheVariants as label
-use Rattle.nts_model.specs.Terms.Trees.{Tree, empty, more, node}
+use Rattle.nts_model.specs.Terms.Trees.{Tree, empty, more, node, infer_of, variable_of, variable_tree}
 use Rattle.nts_model.specs.Tables.Contents.{Content, Slot, SlotState, unset, link, known, state_of, with_slot, changed, bound_to}
-use Rattle.nts_model.specs.Tables.Resolving.{variable_of, variable_tree, infer_of, replaced, replaced_at, resolved, deeply_resolved, rooted, rooted_variable, root_of, follow, follow_state, Reaches, here, on, IsRootState, IsSound}
+use Rattle.nts_model.specs.Tables.Resolving.{replaced, replaced_at, resolved, deeply_resolved, rooted, rooted_variable, root_of, follow, follow_state, Reaches, here, on, IsRootState, IsSound}
 use Rattle.nts_model.proofs.Tables.Under.{same_or_other}
 use Rattle.nts_model.proofs.Tables.Slots.{slice_get_length, no_slot}
 use Rattle.nts_model.proofs.Tables.Roots.{Descends, root_of-reaches, Reaches-root_of, IsRootState-root_of, infer_of-rooted}

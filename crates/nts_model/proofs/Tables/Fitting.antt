@@ -8,9 +8,9 @@ use Rattle.nts_model.specs.declared.labels.BoundVarIndexKind.TheVariants as inde
 use Rattle.nts_model.specs.declared.labels.Leaf.TheVariants as leaf
 use Rattle.nts_model.specs.declared.labels.Label.{Label}
 use Rattle.nts_model.specs.declared.labels.Label.TheVariants as label
-use Rattle.nts_model.specs.Terms.Trees.{Tree, empty, more, node, kind_of, of_sort, kind_of_label, sort_of_variable, label_of, binders, IsBoundBelow, IsClosedUnder, IsClosed, IsFormed, Place, FitsPlace, in_order, each, HavePlaces, AllFit, Meets, Shape, shape}
+use Rattle.nts_model.specs.Terms.Trees.{Tree, empty, more, node, kind_of, of_sort, kind_of_label, sort_of_variable, label_of, binders, IsBoundBelow, IsClosedUnder, IsClosed, IsFormed, Place, FitsPlace, in_order, each, HavePlaces, AllFit, Meets, Shape, shape, infer_of, variable_of, variable_tree}
 use Rattle.nts_model.specs.Tables.Contents.{Content, kind_at}
-use Rattle.nts_model.specs.Tables.Resolving.{variable_of, variable_tree, infer_of, number_of, replaced, replaced_at, Lacks, under, IsOneOf, Knows, KnowsVariable}
+use Rattle.nts_model.specs.Tables.Resolving.{number_of, replaced, replaced_at, Lacks, under, IsOneOf, Knows, KnowsVariable}
 use Rattle.nts_model.specs.Terms.Regions.{RegionName, of_variable, of_free, region_tree, region_name, name_of_label, IsRegion}
 use Rattle.nts_model.specs.Terms.Fitting.{is_integer, is_float, HasLabel, Fits}
 use Rattle.nts_model.specs.Tables.Worlds.{World, renamed, placed, inst, IsValue, IsFitting}

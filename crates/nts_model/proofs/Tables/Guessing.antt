@@ -3,9 +3,9 @@ use Rattle.std.proofs.Common.{◌≡◌, ℕ, ◌≤◌, Option, Some, None, ref
 use Rattle.std.specs.Prelude.{slice_get}
 use Rattle.nts_model.specs.declared.labels.VariableKind.{VariableKind}
 use Rattle.nts_model.specs.declared.labels.Label.{Label}
-use Rattle.nts_model.specs.Terms.Trees.{Tree, empty, more, node}
+use Rattle.nts_model.specs.Terms.Trees.{Tree, empty, more, node, variable_of}
 use Rattle.nts_model.specs.Tables.Contents.{Content, Slot, map_slot, kind_at, universe_of}
-use Rattle.nts_model.specs.Tables.Resolving.{variable_of, number_of, Knows, KnowsVariable}
+use Rattle.nts_model.specs.Tables.Resolving.{number_of, Knows, KnowsVariable}
 use Rattle.nts_model.specs.Terms.Placeholders.{CanName}
 use Rattle.nts_model.specs.Tables.Levels.{NamesAll, term_level, level_at, level_in}
 use Rattle.nts_model.specs.Tables.Worlds.{World, inst, Solves}

@@ -9,9 +9,9 @@ use Rattle.nts_model.specs.declared.labels.VariableKind.TheVariants as kind
 use Rattle.nts_model.specs.declared.labels.Leaf.TheVariants as leaf
 use Rattle.nts_model.specs.declared.labels.Label.{Label}
 use Rattle.nts_model.specs.declared.labels.Label.TheVariants as label
-use Rattle.nts_model.specs.Terms.Trees.{Tree, empty, more, node}
+use Rattle.nts_model.specs.Terms.Trees.{Tree, empty, more, node, variable_of, variable_tree}
 use Rattle.nts_model.specs.Tables.Contents.{Content, Slot, unset, Recorded, with_slot, changed, bound_to, with_constraint, in_universe}
-use Rattle.nts_model.specs.Tables.Resolving.{variable_of, variable_tree, replaced, resolved, deeply_resolved, rooted, rooted_variable, root_of, Knows, IsSound}
+use Rattle.nts_model.specs.Tables.Resolving.{replaced, resolved, deeply_resolved, rooted, rooted_variable, root_of, Knows, IsSound}
 use Rattle.nts_model.specs.Tables.Levels.{Falls}
 use Rattle.nts_model.specs.Tables.Worlds.{KnowsAll}
 use Rattle.nts_model.specs.Tables.Holding.{AreOne, IsTrivial, HasSides, HoldsConstraint, Continues}

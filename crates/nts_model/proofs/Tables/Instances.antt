@@ -9,9 +9,9 @@ use Rattle.nts_model.specs.declared.labels.Leaf.{Leaf}
 use Rattle.nts_model.specs.declared.labels.Leaf.TheVariants as leaf
 use Rattle.nts_model.specs.declared.labels.Label.{Label}
 use Rattle.nts_model.specs.declared.labels.Label.TheVariants as label
-use Rattle.nts_model.specs.Terms.Trees.{Tree, empty, more, node}
+use Rattle.nts_model.specs.Terms.Trees.{Tree, empty, more, node, variable_of}
 use Rattle.nts_model.specs.Tables.Contents.{Content, known, Recorded, state_of}
-use Rattle.nts_model.specs.Tables.Resolving.{variable_of, number_of, Knows, KnowsVariable, Reaches, here, on, root_of}
+use Rattle.nts_model.specs.Tables.Resolving.{number_of, Knows, KnowsVariable, Reaches, here, on, root_of}
 use Rattle.nts_model.specs.Tables.Worlds.{World, KeepsFixedRegions, renamed_leaf, renamed, placed, inst, IsTrueOf, IsMet, AreMet, Solves, Agrees, with_tree, KnowsAll}
 use Rattle.nts_model.proofs.Tables.Under.{eq-self}
 use Rattle.nts_model.proofs.Tables.Slots.{field_below}

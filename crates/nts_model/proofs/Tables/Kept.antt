@@ -6,9 +6,9 @@ use Rattle.nts_model.specs.declared.labels.VariableKind.TheVariants as kind
 use Rattle.nts_model.specs.declared.labels.Leaf.TheVariants as leaf
 use Rattle.nts_model.specs.declared.labels.Label.{Label}
 use Rattle.nts_model.specs.declared.labels.Label.TheVariants as label
-use Rattle.nts_model.specs.Terms.Trees.{Tree, empty, more, node, kind_of, of_sort, sort_of_variable, kind_of_label, any_label, is_infer, is_infer_kind, is_region_infer, is_region_infer_kind}
+use Rattle.nts_model.specs.Terms.Trees.{Tree, empty, more, node, kind_of, of_sort, sort_of_variable, kind_of_label, any_label, is_infer, is_infer_kind, is_region_infer, is_region_infer_kind, infer_number, infer_of, variable_of}
 use Rattle.nts_model.specs.Tables.Contents.{Content, Slot, SlotState, unset, link, known, map_slot, state_of, kind_at}
-use Rattle.nts_model.specs.Tables.Resolving.{variable_of, infer_of, infer_number, replaced, replaced_at, Lacks, under, IsOneOf, value_at, resolved, deeply_resolved, rooted, rooted_variable, Knows, KnowsVariable, IsSound}
+use Rattle.nts_model.specs.Tables.Resolving.{replaced, replaced_at, Lacks, under, IsOneOf, value_at, resolved, deeply_resolved, rooted, rooted_variable, Knows, KnowsVariable, IsSound}
 use Rattle.nts_model.proofs.Terms.Variables.{infer_label}
 use Rattle.nts_model.proofs.Tables.Under.{under-lacks, none-one}
 use Rattle.nts_model.proofs.Tables.Open.{AreClosedOf, Knows-under, values_closed_of}

@@ -2,9 +2,9 @@
 use Rattle.std.proofs.Common.{◌≡◌, ◌⊎◌, inl, inr, ⊎_elim, ℕ, ◌<◌, ◌≤◌, length, Option, Some, None, refl, sym, ap, ◌∙◌, arith}
 use Rattle.nts_model.specs.declared.labels.VariableKind.{VariableKind}
 use Rattle.nts_model.specs.declared.labels.Label.{Label}
-use Rattle.nts_model.specs.Terms.Trees.{Tree, empty, more, node}
+use Rattle.nts_model.specs.Terms.Trees.{Tree, empty, more, node, variable_of}
 use Rattle.nts_model.specs.Tables.Contents.{Content, Slot, SlotState, unset, link, known, Recorded, state_of, universe_of, with_slot, changed, bound_to, with_constraint, in_universe}
-use Rattle.nts_model.specs.Tables.Resolving.{variable_of, number_of, Knows, KnowsVariable, IsSound}
+use Rattle.nts_model.specs.Tables.Resolving.{number_of, Knows, KnowsVariable, IsSound}
 use Rattle.nts_model.specs.Terms.Placeholders.{CanName}
 use Rattle.nts_model.specs.Tables.Levels.{NamesAll, region_level, level_at, level_in, IsLevelled, AreRegionsLevelled, Falls, AreCurrent}
 use Rattle.nts_model.proofs.Tables.Under.{same_or_other}

@@ -4,9 +4,9 @@ use Rattle.std.specs.Prelude.{◌==◌, if◌then◌else◌, ◌&&◌, reverse}
 use Rattle.nts_model.specs.declared.labels.BoundVarIndexKind.TheVariants as index
 use Rattle.nts_model.specs.declared.labels.Label.{Label}
 use Rattle.nts_model.specs.declared.labels.Label.TheVariants as label
-use Rattle.nts_model.specs.Terms.Trees.{Tree, empty, more, node, binders, is_alias}
+use Rattle.nts_model.specs.Terms.Trees.{Tree, empty, more, node, binders, is_alias, infer_of}
 use Rattle.nts_model.specs.Tables.Contents.{Content}
-use Rattle.nts_model.specs.Tables.Resolving.{infer_of, replaced, replaced_at, under, value_at, resolved, IsOneOf}
+use Rattle.nts_model.specs.Tables.Resolving.{replaced, replaced_at, under, value_at, resolved, IsOneOf}
 use Rattle.std.specs.Prelude.{take}
 use Rattle.nts_model.proofs.Tables.Under.{under-agree}
 use Rattle.nts_model.specs.Tables.Measuring.{is_less, is_bound_below, unless_variable, closed_under, closed_aliases}

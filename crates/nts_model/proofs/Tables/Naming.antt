@@ -8,10 +8,10 @@ use Rattle.nts_model.specs.declared.labels.Leaf.{Leaf}
 use Rattle.nts_model.specs.declared.labels.Leaf.TheVariants as leaf
 use Rattle.nts_model.specs.declared.labels.Label.{Label}
 use Rattle.nts_model.specs.declared.labels.Label.TheVariants as label
-use Rattle.nts_model.specs.Terms.Trees.{Tree, empty, more, node, is_placeholder, sort_of_leaf}
+use Rattle.nts_model.specs.Terms.Trees.{Tree, empty, more, node, is_placeholder, sort_of_leaf, infer_of, variable_of}
 use Rattle.nts_model.specs.Tables.Contents.{Content, Slot, SlotState, unset, link, known, state_of, universe_of}
 use Rattle.nts_model.specs.Terms.Placeholders.{leaf_level, CanName}
-use Rattle.nts_model.specs.Tables.Resolving.{variable_of, infer_of, replaced, replaced_at, under, value_at, value_of_state, resolved, rooted, rooted_variable, deeply_resolved, Knows, KnowsVariable}
+use Rattle.nts_model.specs.Tables.Resolving.{replaced, replaced_at, under, value_at, value_of_state, resolved, rooted, rooted_variable, deeply_resolved, Knows, KnowsVariable}
 use Rattle.nts_model.specs.Tables.Levels.{NamesAll, term_level, region_level, level_in, IsLevelled, AreRegionsLevelled, AreCurrent, Falls}
 use Rattle.nts_model.specs.Terms.Substitutions.{Occurs}
 use Rattle.nts_model.specs.Derivations.Rules.{AreFresh}

@@ -4,13 +4,13 @@ use Rattle.std.specs.Prelude.{◌==◌, if◌then◌else◌, slice_get, reverse}
 use Rattle.nts_model.specs.declared.labels.VariableKind.{VariableKind}
 use Rattle.nts_model.specs.declared.labels.VariableKind.TheVariants as kind
 use Rattle.nts_model.specs.declared.labels.Label.{Label}
-use Rattle.nts_model.specs.Terms.Trees.{Tree, empty, more, node, is_canonical, binders, IsClosed}
+use Rattle.nts_model.specs.Terms.Trees.{Tree, empty, more, node, is_canonical, binders, IsClosed, infer_of, variable_of}
 use Rattle.nts_model.specs.Terms.Scoping.{ListsBound}
 use Rattle.nts_model.specs.declared.labels.Leaf.TheVariants as leaf
 use Rattle.nts_model.specs.declared.labels.Label.TheVariants as label
 use Rattle.nts_model.specs.Terms.Placeholders.{leaf_level}
 use Rattle.nts_model.specs.Tables.Contents.{Content, Slot, SlotState, unset, link, known, map_slot, state_of, kind_at}
-use Rattle.nts_model.specs.Tables.Resolving.{variable_of, infer_of, replaced, replaced_at, Lacks, LacksAt, under, IsOneOf, value_of_state, value_at, resolved, deeply_resolved, rooted, rooted_variable, root_of, Knows, KnowsVariable, KnowsLabel, IsRootState, IsSound, UnsetAt, AllUnset, number_of}
+use Rattle.nts_model.specs.Tables.Resolving.{replaced, replaced_at, Lacks, LacksAt, under, IsOneOf, value_of_state, value_at, resolved, deeply_resolved, rooted, rooted_variable, root_of, Knows, KnowsVariable, KnowsLabel, IsRootState, IsSound, UnsetAt, AllUnset, number_of}
 use Rattle.nts_model.proofs.Terms.Variables.{infer_label}
 use Rattle.nts_model.proofs.Tables.Under.{not_equal}
 use Rattle.nts_model.proofs.Tables.Slots.{some_slot}

@@ -7,10 +7,10 @@ use Rattle.nts_model.specs.declared.labels.Leaf.{Leaf}
 use Rattle.nts_model.specs.declared.labels.Leaf.TheVariants as leaf
 use Rattle.nts_model.specs.declared.labels.Label.{Label}
 use Rattle.nts_model.specs.declared.labels.Label.TheVariants as label
-use Rattle.nts_model.specs.Terms.Trees.{Tree, empty, more, node, any_label, is_canonical}
+use Rattle.nts_model.specs.Terms.Trees.{Tree, empty, more, node, any_label, is_canonical, infer_of, variable_of}
 use Rattle.nts_model.specs.Tables.Contents.{Content, SlotState, unset, link, known, state_of}
-use Rattle.nts_model.specs.Tables.Resolving.{variable_of, infer_of, replaced, replaced_at, under, value_at, resolved, rooted, rooted_variable, deeply_resolved}
-use Rattle.nts_model.specs.Derivations.Sequents.{Among}
+use Rattle.nts_model.specs.Tables.Resolving.{replaced, replaced_at, under, value_at, resolved, rooted, rooted_variable, deeply_resolved}
+use Rattle.nts_model.specs.Lists.{Among}
 use Rattle.nts_model.specs.Canonical.Numbered.{seen}
 use Rattle.nts_model.specs.Tables.Passing.{AllLabels, AllPass}
 use Rattle.nts_model.proofs.Terms.Listed.{either, among-added}

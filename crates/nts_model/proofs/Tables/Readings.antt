@@ -10,9 +10,9 @@ use Rattle.nts_model.specs.declared.labels.FreeRegion.TheVariants as region
 use Rattle.nts_model.specs.declared.labels.Leaf.TheVariants as leaf
 use Rattle.nts_model.specs.declared.labels.Label.{Label}
 use Rattle.nts_model.specs.declared.labels.Label.TheVariants as label
-use Rattle.nts_model.specs.Terms.Trees.{Tree, empty, more, node}
+use Rattle.nts_model.specs.Terms.Trees.{Tree, empty, more, node, infer_of, variable_of, variable_tree}
 use Rattle.nts_model.specs.Tables.Contents.{Content, Slot, SlotState, unset, link, known, Recorded, state_of, universe_of, kind_at}
-use Rattle.nts_model.specs.Tables.Resolving.{variable_of, variable_tree, infer_of, replaced, replaced_at, under, IsOneOf, kind_or_type, value_of_state, value_at, resolved, Knows, KnowsVariable, IsSound}
+use Rattle.nts_model.specs.Tables.Resolving.{replaced, replaced_at, under, IsOneOf, kind_or_type, value_of_state, value_at, resolved, Knows, KnowsVariable, IsSound}
 use Rattle.nts_model.specs.Terms.Placeholders.{CanName}
 use Rattle.nts_model.specs.Tables.Levels.{NamesAll, IfNamesAll, term_level, level_in, IsLevelled}
 use Rattle.nts_model.specs.Tables.Worlds.{World, renamed, inst, SolvesState, IsTrueOf, AreMet, with_tree, KnowsAll}

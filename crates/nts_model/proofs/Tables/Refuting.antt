@@ -7,9 +7,9 @@ use Rattle.nts_model.specs.declared.labels.Leaf.TheVariants as leaf
 use Rattle.nts_model.specs.declared.labels.TyHead.TheVariants as ty
 use Rattle.nts_model.specs.declared.labels.Label.{Label}
 use Rattle.nts_model.specs.declared.labels.Label.TheVariants as label
-use Rattle.nts_model.specs.Terms.Trees.{Tree, empty, more, node, size, IsRow, row_length, row_at, of_sort, sort_of_variable, binders, IsBoundBelow, IsClosedUnder, IsClosed}
+use Rattle.nts_model.specs.Terms.Trees.{Tree, empty, more, node, size, IsRow, row_length, row_at, of_sort, sort_of_variable, binders, IsBoundBelow, IsClosedUnder, IsClosed, infer_of, variable_of}
 use Rattle.nts_model.specs.Tables.Contents.{Content, universe_of, kind_at}
-use Rattle.nts_model.specs.Tables.Resolving.{variable_of, infer_of, variable_flag, flag, resolved, IsSound}
+use Rattle.nts_model.specs.Tables.Resolving.{variable_flag, flag, resolved, IsSound}
 use Rattle.nts_model.specs.Terms.Placeholders.{CanName}
 use Rattle.nts_model.specs.Tables.Levels.{NamesAll, term_level}
 use Rattle.nts_model.specs.Terms.Fitting.{is_integer, is_float, Fits}

@@ -6,9 +6,9 @@ use Rattle.nts_model.specs.declared.labels.VariableKind.TheVariants as kind
 use Rattle.nts_model.specs.declared.labels.Leaf.TheVariants as leaf
 use Rattle.nts_model.specs.declared.labels.Label.{Label}
 use Rattle.nts_model.specs.declared.labels.Label.TheVariants as label
-use Rattle.nts_model.specs.Terms.Trees.{Tree, empty, more, node, size, row_at, row_length, row_take, row_push, children, label_of, IsRow}
+use Rattle.nts_model.specs.Terms.Trees.{Tree, empty, more, node, size, row_at, row_length, row_take, row_push, children, label_of, IsRow, infer_number, infer_of, infer_of_variable, variable_of, variable_tree}
 use Rattle.nts_model.specs.Tables.Contents.{Content, unset, link, known, state_of, kind_at}
-use Rattle.nts_model.specs.Tables.Resolving.{variable_of, variable_tree, infer_of, IsInfer, Lacks, IsOneOf, kind_or_type, value_of_state, value_at, resolved, rooted, rooted_variable, deeply_resolved, Knows, IsSound, Reaches, here, on, infer_number, infer_of_variable, flag, variable_flag, rank_of_kind, rank_of, variable_rank, left_to_resolve}
+use Rattle.nts_model.specs.Tables.Resolving.{IsInfer, Lacks, IsOneOf, kind_or_type, value_of_state, value_at, resolved, rooted, rooted_variable, deeply_resolved, Knows, IsSound, Reaches, here, on, flag, variable_flag, rank_of_kind, rank_of, variable_rank, left_to_resolve}
 use Rattle.nts_model.proofs.Terms.Variables.{infer_of_variable_label}
 use Rattle.nts_model.proofs.Tables.Under.{under-empty, under-more, under-node, under-unbound, under-bound, Lacks-under, under-lacks, under-twice}
 use Rattle.nts_model.proofs.Tables.Roots.{Lacks-rooted, rooted-twice, kind_at-reaches}

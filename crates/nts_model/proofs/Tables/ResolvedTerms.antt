@@ -6,9 +6,9 @@ use Rattle.nts_model.specs.declared.labels.VariableKind.TheVariants as kind
 use Rattle.nts_model.specs.declared.labels.Leaf.TheVariants as leaf
 use Rattle.nts_model.specs.declared.labels.Label.{Label}
 use Rattle.nts_model.specs.declared.labels.Label.TheVariants as label
-use Rattle.nts_model.specs.Terms.Trees.{Tree, empty, more, node, kind_of, of_sort, sort_of_variable, label_of, binders, IsBoundBelow, IsClosedUnder, IsClosed, Place, FitsPlace, in_order, each, HavePlaces, AllFit, Meets, Shape, shape, IsFormed}
+use Rattle.nts_model.specs.Terms.Trees.{Tree, empty, more, node, kind_of, of_sort, sort_of_variable, label_of, binders, IsBoundBelow, IsClosedUnder, IsClosed, Place, FitsPlace, in_order, each, HavePlaces, AllFit, Meets, Shape, shape, IsFormed, infer_of, variable_of, variable_tree}
 use Rattle.nts_model.specs.Tables.Contents.{Content, Slot, SlotState, map_slot, unset, link, known, state_of, kind_at}
-use Rattle.nts_model.specs.Tables.Resolving.{variable_of, variable_tree, infer_of, replaced, replaced_at, under, value_at, resolved, rooted, rooted_variable, deeply_resolved, root_of, IsInfer, rank_of_kind, variable_rank, IsRootState, Knows, IsSound}
+use Rattle.nts_model.specs.Tables.Resolving.{replaced, replaced_at, under, value_at, resolved, rooted, rooted_variable, deeply_resolved, root_of, IsInfer, rank_of_kind, variable_rank, IsRootState, Knows, IsSound}
 use Rattle.nts_model.specs.Terms.Regions.{of_variable}
 use Rattle.nts_model.specs.Terms.Fitting.{is_integer, is_float, HasLabel, Fits}
 use Rattle.nts_model.specs.Derivations.Proving.{HoldsTerms}

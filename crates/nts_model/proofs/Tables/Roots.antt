@@ -5,9 +5,9 @@ use Rattle.nts_model.specs.declared.labels.VariableKind.TheVariants as kind
 use Rattle.nts_model.specs.declared.labels.Leaf.TheVariants as leaf
 use Rattle.nts_model.specs.declared.labels.Label.{Label}
 use Rattle.nts_model.specs.declared.labels.Label.TheVariants as label
-use Rattle.nts_model.specs.Terms.Trees.{Tree, empty, more, node, size}
+use Rattle.nts_model.specs.Terms.Trees.{Tree, empty, more, node, size, infer_of, variable_of}
 use Rattle.nts_model.specs.Tables.Contents.{Content, SlotState, unset, link, known, state_of, kind_at}
-use Rattle.nts_model.specs.Tables.Resolving.{variable_of, infer_of, follow, follow_state, root_of, rooted, rooted_variable, Reaches, here, on, IsRootState, IsSound, Lacks, LacksAt}
+use Rattle.nts_model.specs.Tables.Resolving.{follow, follow_state, root_of, rooted, rooted_variable, Reaches, here, on, IsRootState, IsSound, Lacks, LacksAt}
 
 -- links lead to lower numbers
 abbrev pub Descends : Content → Type 0

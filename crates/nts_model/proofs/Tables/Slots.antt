@@ -3,11 +3,11 @@ use Rattle.std.proofs.Common.{◌≡◌, ⊎_elim, ℕ, zero, suc, ◌<◌, ◌�
 use Rattle.std.specs.Prelude.{slice_get, slice_set, reverse}
 use Rattle.std.proofs.lemmas.Grind.{common_steps}
 use Rattle.nts_model.specs.declared.labels.VariableKind.{VariableKind}
-use Rattle.nts_model.specs.Terms.Trees.{Tree, empty, more, node}
+use Rattle.nts_model.specs.Terms.Trees.{Tree, empty, more, node, variable_of}
 use Rattle.nts_model.specs.declared.labels.Label.{Label}
 use Rattle.nts_model.specs.Terms.Placeholders.{leaf_level, CanName}
 use Rattle.nts_model.specs.Tables.Contents.{Content, Slot, map_slot, kind_at, with_slot, changed}
-use Rattle.nts_model.specs.Tables.Resolving.{variable_of, Knows, KnowsVariable, KnowsLabel}
+use Rattle.nts_model.specs.Tables.Resolving.{Knows, KnowsVariable, KnowsLabel}
 use Rattle.nts_model.proofs.Tables.Under.{same_or_other}
 
 pub slice_get-slice_set_same : {A : Type 0} (xs : List A) (n : ℕ) (x : A) → n < length xs → slice_get (slice_set xs n x) n ≡ Some x

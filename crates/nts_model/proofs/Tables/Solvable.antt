@@ -3,9 +3,9 @@ use Rattle.std.proofs.Common.{◌≡◌, ◌⊎◌, inl, inr, ⊎_elim, ℕ, Lis
 use Rattle.std.specs.Prelude.{slice_get, reverse}
 use Rattle.nts_model.specs.declared.labels.VariableKind.{VariableKind}
 use Rattle.nts_model.specs.declared.labels.VariableKind.TheVariants as kind
-use Rattle.nts_model.specs.Terms.Trees.{Tree, IsClosed}
+use Rattle.nts_model.specs.Terms.Trees.{Tree, IsClosed, variable_tree}
 use Rattle.nts_model.specs.Tables.Contents.{Content, Slot, SlotState, unset, link, known, Recorded, map_slot, state_of, universe_of, kind_at, with_slot, changed, bound_to, with_constraint, in_universe}
-use Rattle.nts_model.specs.Tables.Resolving.{variable_tree, value_of_state, value_at, resolved, IsOneOf, Knows, IsSound}
+use Rattle.nts_model.specs.Tables.Resolving.{value_of_state, value_at, resolved, IsOneOf, Knows, IsSound}
 use Rattle.nts_model.specs.Terms.Placeholders.{CanName}
 use Rattle.nts_model.specs.Tables.Levels.{NamesAll, level_in, IsLevelled}
 use Rattle.nts_model.specs.Terms.Regions.{of_variable}

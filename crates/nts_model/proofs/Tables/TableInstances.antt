@@ -6,9 +6,9 @@ use Rattle.nts_model.specs.declared.labels.Leaf.{Leaf}
 use Rattle.nts_model.specs.declared.labels.Leaf.TheVariants as leaf
 use Rattle.nts_model.specs.declared.labels.Label.{Label}
 use Rattle.nts_model.specs.declared.labels.Label.TheVariants as label
-use Rattle.nts_model.specs.Terms.Trees.{Tree, empty, more, node, IsClosed, IsFormed}
+use Rattle.nts_model.specs.Terms.Trees.{Tree, empty, more, node, IsClosed, IsFormed, variable_of, variable_tree}
 use Rattle.nts_model.specs.Tables.Contents.{Content, kind_at}
-use Rattle.nts_model.specs.Tables.Resolving.{rooted, variable_of, variable_tree, deeply_resolved, Knows, KnowsVariable, IsSound}
+use Rattle.nts_model.specs.Tables.Resolving.{rooted, deeply_resolved, Knows, KnowsVariable, IsSound}
 use Rattle.nts_model.specs.Tables.Holding.{Continues}
 use Rattle.nts_model.specs.Terms.Regions.{of_free}
 use Rattle.nts_model.specs.Terms.Fitting.{Fits}

@@ -4,7 +4,7 @@ use Rattle.std.proofs.lemmas.Bool.{cases_lt}
 use Rattle.nts_model.specs.declared.labels.VariableKind.{VariableKind}
 use Rattle.nts_model.specs.declared.labels.VariableKind.TheVariants as kind
 use Rattle.nts_model.specs.Tables.Contents.{Content, Slot, kind_at}
-use Rattle.nts_model.specs.Tables.Resolving.{variable_tree}
+use Rattle.nts_model.specs.Terms.Trees.{variable_tree}
 use Rattle.nts_model.specs.Tables.Holding.{AreOne, Continues}
 use Rattle.nts_model.specs.Tables.Tying.{TiesNew}
 use Rattle.nts_model.proofs.Tables.Slots.{field_below}

@@ -2,8 +2,8 @@
 use Rattle.std.proofs.Common.{◌≡◌, ◌⊎◌, inl, inr, ⊎_elim, ℕ, Bool, true, false, List, [], ◌∷◌, Option, Some, None, refl, sym, ap, ◌∙◌, arith, rules}
 use Rattle.std.specs.Prelude.{◌==◌, if◌then◌else◌}
 use Rattle.nts_model.specs.declared.labels.Label.{Label}
-use Rattle.nts_model.specs.Terms.Trees.{Tree, empty, more, node}
-use Rattle.nts_model.specs.Tables.Resolving.{infer_of, replaced, replaced_at, Lacks, LacksAt, under, IsNoneOf, IsOneOf, IsAcyclic}
+use Rattle.nts_model.specs.Terms.Trees.{Tree, empty, more, node, infer_of}
+use Rattle.nts_model.specs.Tables.Resolving.{replaced, replaced_at, Lacks, LacksAt, under, IsNoneOf, IsOneOf, IsAcyclic}
 
 replaced_at-lacks : (o : Option ℕ) (n : ℕ) (s t u : Tree) (P : Type 0) → LacksAt o n P → (P → u ≡ t) → replaced_at o n s t u ≡ t
 replaced_at-lacks None n s t u P h e = e h

@@ -5,9 +5,9 @@ use Rattle.nts_model.specs.declared.labels.Relation.TheVariants as relation
 use Rattle.nts_model.specs.declared.labels.VariableKind.{VariableKind}
 use Rattle.nts_model.specs.declared.labels.VariableKind.TheVariants as kind
 use Rattle.nts_model.specs.declared.labels.Label.{Label}
-use Rattle.nts_model.specs.Terms.Trees.{Tree, empty, more, node}
+use Rattle.nts_model.specs.Terms.Trees.{Tree, empty, more, node, infer_of, variable_of}
 use Rattle.nts_model.specs.Tables.Contents.{Content, Slot, SlotState, unset, link, known, Recorded}
-use Rattle.nts_model.specs.Tables.Resolving.{variable_of, infer_of, number_of, replaced, replaced_at, under, IsOneOf, value_of_state, value_at, resolved, deeply_resolved, rooted, rooted_variable, IsSound}
+use Rattle.nts_model.specs.Tables.Resolving.{number_of, replaced, replaced_at, under, IsOneOf, value_of_state, value_at, resolved, deeply_resolved, rooted, rooted_variable, IsSound}
 use Rattle.nts_model.specs.Tables.Worlds.{World, placed, inst, IsMet, AreMet, Solves}
 use Rattle.nts_model.specs.Tables.Holding.{AreOne}
 use Rattle.nts_model.specs.Tables.Alike.{Alike, one_tree, two_regions, one_label, two_rows, HoldsEqual, AreAlike}

@@ -15,7 +15,8 @@ use Rattle.nts_model.specs.Tables.RegionClasses.{equated, two_names}
 use Rattle.nts_model.specs.Tables.Alike.{Alike, one_tree, two_regions, one_label, two_rows}
 use Rattle.nts_model.specs.Terms.Substitutions.{leaf_tree, put, replace, Instance, instance_of}
 use Rattle.nts_model.specs.Derivations.Related.{Constraint}
-use Rattle.nts_model.specs.Derivations.Sequents.{Among, Sequent, region_or_leaf, region_by, MakesOne, AreOneBy, constraint_under, HasOneSide, Grants}
+use Rattle.nts_model.specs.Lists.{Among}
+use Rattle.nts_model.specs.Derivations.Sequents.{Sequent, region_or_leaf, region_by, MakesOne, AreOneBy, constraint_under, HasOneSide, Grants}
 use Rattle.nts_model.proofs.Terms.Substituting.{replace-replace, replace-equal, replace-leaf, region_alone}
 
 pub one_itself : (xs : List Constraint) (s t : Tree) → s ≡ t → AreOneBy xs s t

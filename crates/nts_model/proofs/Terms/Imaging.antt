@@ -7,7 +7,7 @@ use Rattle.nts_model.specs.declared.labels.Leaf.TheVariants as leaf
 use Rattle.nts_model.specs.declared.labels.Label.TheVariants as label
 use Rattle.nts_model.specs.Terms.Trees.{Tree, node, IsClosed, IsFormed}
 use Rattle.nts_model.specs.Terms.Substitutions.{leaf_tree, FitsLeaf, IsConstant, Instance, of_constant, leaf_sort}
-use Rattle.nts_model.specs.Derivations.Sequents.{Among}
+use Rattle.nts_model.specs.Lists.{Among}
 use Rattle.nts_model.specs.Derivations.Handlers.{IsFixed}
 use Rattle.nts_model.specs.Canonical.Numbered.{same, AreDistinct}
 use Rattle.nts_model.proofs.Terms.Listed.{tell, same-yes, same-no, either, map-equal}

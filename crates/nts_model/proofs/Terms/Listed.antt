@@ -5,7 +5,7 @@ use Rattle.std.specs.List.{position_or_len}
 use Rattle.nts_model.specs.declared.labels.Leaf.{Leaf}
 use Rattle.nts_model.specs.Terms.Trees.{Tree, empty}
 use Rattle.nts_model.specs.Terms.Substitutions.{leaf_tree}
-use Rattle.nts_model.specs.Derivations.Sequents.{Among}
+use Rattle.nts_model.specs.Lists.{Among}
 use Rattle.nts_model.specs.Canonical.Numbered.{same, number, added, AreDistinct}
 
 pub either : (b : Bool) → (b ≡ true) ⊎ (b ≡ false)

@@ -2,7 +2,7 @@
 use Rattle.std.proofs.Common.{◌≡◌, false, cond, List, [], ◌∷◌, map, ◌⊎◌, inl, inr, refl, sym, ap, subst, ◌∙◌}
 use Rattle.nts_model.specs.declared.labels.Leaf.{Leaf}
 use Rattle.nts_model.specs.Terms.Substitutions.{leaf_sort, Renaming}
-use Rattle.nts_model.specs.Derivations.Sequents.{Among}
+use Rattle.nts_model.specs.Lists.{Among}
 use Rattle.nts_model.specs.Canonical.Numbered.{same, AreDistinct}
 use Rattle.nts_model.proofs.Terms.Listed.{tell, same-yes, same-no, map-equal, among-map, IsInjective}
 

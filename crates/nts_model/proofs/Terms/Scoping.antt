@@ -12,16 +12,15 @@ use Rattle.nts_model.specs.declared.labels.Leaf.{Leaf}
 use Rattle.nts_model.specs.declared.labels.Leaf.TheVariants as leaf
 use Rattle.nts_model.specs.declared.labels.Label.{Label}
 use Rattle.nts_model.specs.declared.labels.Label.TheVariants as label
-use Rattle.nts_model.specs.Terms.Trees.{Tree, empty, more, node, label_of, row_at, row_push, IsRow, kind_of, kind_of_label, of_sort, binders, sort_of_leaf, IsClosedUnder, IsClosed}
+use Rattle.nts_model.specs.Terms.Trees.{Tree, empty, more, node, label_of, row_at, row_push, IsRow, kind_of, kind_of_label, of_sort, binders, sort_of_leaf, IsClosedUnder, IsClosed, infer_of, variable_of}
 use Rattle.nts_model.specs.Terms.Scoping.{listed_by, listed_in, sorts_of, HasSortAt, IsListed, AllListed, ListsBound, IsWellBound}
 use Rattle.nts_model.specs.Terms.Patching.{IsNoList, IsPatch, IsPatched, patched, in_end, in_row, in_node, in_leaf}
 use Rattle.nts_model.specs.Tables.Contents.{Content}
-use Rattle.nts_model.specs.Tables.Resolving.{IsInfer, variable_of, number_of, infer_of, replaced, replaced_at, under, rooted}
-use Rattle.nts_model.specs.Terms.Substitutions.{leaf_tree, put, replace}
+use Rattle.nts_model.specs.Tables.Resolving.{IsInfer, number_of, replaced, replaced_at, under, rooted}
+use Rattle.nts_model.specs.Terms.Substitutions.{leaf_tree, put, replace, filled, filled_under, position_of, value_or}
 use Rattle.nts_model.specs.Tables.Worlds.{World, placed, inst}
 use Rattle.nts_model.specs.Derivations.Related.{IsAlias, alias}
 use Rattle.nts_model.specs.Derivations.Rules.{opened_at, opened, Replaced, chosen, kept_empty, kept_more, kept_node}
-use Rattle.nts_model.specs.Derivations.Handlers.{position_of, value_or, filled, filled_under}
 use Rattle.nts_model.specs.Canonical.Numbered.{position, number, seen, numbered_leaf, numbered}
 use Rattle.nts_model.proofs.Terms.Substituting.{closed_under_more}
 

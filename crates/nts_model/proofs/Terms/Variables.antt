@@ -3,7 +3,7 @@ use Rattle.std.proofs.Common.{◌≡◌, ◌≢◌, ℕ, Option, Some, None, ref
 use Rattle.nts_model.specs.declared.labels.VariableKind.{VariableKind}
 use Rattle.nts_model.specs.declared.labels.VariableKind.TheVariants as kind
 use Rattle.nts_model.specs.declared.labels.Label.{Label}
-use Rattle.nts_model.specs.Tables.Resolving.{variable_of, infer_number, infer_of}
+use Rattle.nts_model.specs.Terms.Trees.{infer_number, infer_of, variable_of}
 
 pub infer_number_some : (k : VariableKind) (n : ℕ) → k ≢ kind.Region → infer_number k n ≡ Some n
 infer_number_some kind.Ty n h = refl

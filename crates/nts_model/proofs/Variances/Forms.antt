@@ -12,10 +12,10 @@ use Rattle.nts_model.specs.declared.labels.ConstHead.TheVariants as konst
 use Rattle.nts_model.specs.declared.labels.ListHead.TheVariants as list
 use Rattle.nts_model.specs.declared.labels.Label.{Label}
 use Rattle.nts_model.specs.declared.labels.Label.TheVariants as label
-use Rattle.nts_model.specs.Terms.Trees.{Tree, empty, more, node, kind_of, NodeKind, one_sort, kind_of_label, any_label, is_alias, is_infer, is_region_infer, binders, IsRow, row_length, is, HavePlaces, AllFit, IsClosedUnder, IsClosed, IsFormed}
+use Rattle.nts_model.specs.Terms.Trees.{Tree, empty, more, node, kind_of, NodeKind, one_sort, kind_of_label, any_label, is_alias, is_infer, is_region_infer, binders, IsRow, row_length, is, HavePlaces, AllFit, IsClosedUnder, IsClosed, IsFormed, variable_of}
 use Rattle.nts_model.specs.Terms.Scoping.{KeepsListed}
 use Rattle.nts_model.specs.Tables.Contents.{Content}
-use Rattle.nts_model.specs.Tables.Resolving.{variable_of, number_of, rooted_variable, deeply_resolved, Knows, KnowsVariable, IsSound}
+use Rattle.nts_model.specs.Tables.Resolving.{number_of, rooted_variable, deeply_resolved, Knows, KnowsVariable, IsSound}
 use Rattle.nts_model.specs.Tables.Worlds.{World, placed, inst, IsFitting, Solves}
 use Rattle.nts_model.specs.Derivations.Related.{Constraint, times, first_variance, function, function_variances, alias, arguments, Related, AreRelated, constructors, functions, values, open_aliases, no_more, and_more}
 use Rattle.nts_model.specs.Variances.Judging.{Judging, IsSettled, Settles, AllSettle, IsLawfulJudging}

@@ -7,11 +7,11 @@ use Rattle.nts_model.specs.declared.labels.VariableKind.TheVariants as kind
 use Rattle.nts_model.specs.declared.labels.AliasHead.{AliasHead}
 use Rattle.nts_model.specs.declared.labels.AliasHead.TheVariants as alias_of
 use Rattle.nts_model.specs.declared.labels.Label.{Label}
-use Rattle.nts_model.specs.Terms.Trees.{Tree, empty, more, node, children, kind_of, binders, is_alias, is_canonical, IsRow, IsClosedUnder, IsClosed, IsFormed}
+use Rattle.nts_model.specs.Terms.Trees.{Tree, empty, more, node, children, kind_of, binders, is_alias, is_canonical, IsRow, IsClosedUnder, IsClosed, IsFormed, variable_of, variable_tree}
 use Rattle.nts_model.specs.Terms.Scoping.{IsListed, ListsBound, KeepsListed}
 use Rattle.nts_model.specs.Terms.Placeholders.{leaf_level, CanName}
 use Rattle.nts_model.specs.Tables.Contents.{Content, Slot, unset, Recorded, with_slot, with_constraint}
-use Rattle.nts_model.specs.Tables.Resolving.{variable_of, variable_tree, Knows, KnowsVariable, IsSound}
+use Rattle.nts_model.specs.Tables.Resolving.{Knows, KnowsVariable, IsSound}
 use Rattle.nts_model.specs.Tables.Levels.{NamesAll, term_level}
 use Rattle.nts_model.specs.Terms.Fitting.{Fits}
 use Rattle.nts_model.specs.Terms.Regions.{IsRegion}

@@ -11,9 +11,9 @@ use Rattle.nts_model.specs.declared.labels.ConstHead.TheVariants as konst
 use Rattle.nts_model.specs.declared.labels.ListHead.TheVariants as list
 use Rattle.nts_model.specs.declared.labels.Label.{Label}
 use Rattle.nts_model.specs.declared.labels.Label.TheVariants as label
-use Rattle.nts_model.specs.Terms.Trees.{Tree, empty, more, node, kind_of, kind_of_label, label_of, IsRow, row_length, Meets, shape, IsClosed, IsFormed}
+use Rattle.nts_model.specs.Terms.Trees.{Tree, empty, more, node, kind_of, kind_of_label, label_of, IsRow, row_length, Meets, shape, IsClosed, IsFormed, variable_of}
 use Rattle.nts_model.specs.Tables.Contents.{Content, with_constraint}
-use Rattle.nts_model.specs.Tables.Resolving.{variable_of, deeply_resolved, Knows}
+use Rattle.nts_model.specs.Tables.Resolving.{deeply_resolved, Knows}
 use Rattle.nts_model.specs.Terms.Regions.{RegionName, IsRegion, name_of_label}
 use Rattle.nts_model.specs.Tables.Worlds.{World, renamed, inst, Solves}
 use Rattle.nts_model.specs.Derivations.Related.{alias_label, arguments, IsAlias, one_tree, regions, constructors, functions, values, open_aliases, aliases, subtypes, no_more, and_more, rest_variances}

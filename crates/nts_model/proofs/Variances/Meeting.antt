@@ -1,6 +1,6 @@
 -- Pairs that were met before in a call may be passed over.
 use Rattle.std.proofs.Common.{⊎_elim, ℕ, suc, ◌<◌, List, [], ◌∷◌, ◌++◌, sym, arith, subst}
-use Rattle.nts_model.specs.Derivations.Sequents.{Among}
+use Rattle.nts_model.specs.Lists.{Among}
 
 -- a sense is a way to judge pairs, as a world or a later table is: it gives a pair a size, and some pairs hold in it
 module _ {W P : Type 0} (size : W → P → ℕ) (Holds : W → P → Type 0) where

@@ -3,14 +3,14 @@ use Rattle.std.specs.Prelude.{◌≡◌, ◌⊎◌, ℕ, suc, ◌+◌, ◌≤◌
 use Rattle.nts_model.specs.declared.labels.Sort.{Sort}
 use Rattle.nts_model.specs.declared.labels.VariableKind.{VariableKind}
 use Rattle.nts_model.specs.declared.labels.VariableKind.TheVariants as kind
-use Rattle.nts_model.specs.Terms.Trees.{Tree, IsFormed}
+use Rattle.nts_model.specs.Terms.Trees.{Tree, IsFormed, variable_tree}
 use Rattle.nts_model.specs.Tables.Contents.{Content, Slot, unset, Recorded, with_slot}
-use Rattle.nts_model.specs.Tables.Resolving.{variable_tree, Knows, IsSound}
+use Rattle.nts_model.specs.Tables.Resolving.{Knows, IsSound}
 use Rattle.nts_model.specs.Tables.Levels.{NamesAll, level_in}
 use Rattle.nts_model.specs.Tables.Worlds.{IsMet, IsValue, KnowsAll}
 use Rattle.nts_model.specs.Tables.Holding.{HoldsConstraint, Continues}
 use Rattle.nts_model.specs.Tables.Equations.{Narrows, AreRelated}
-use Rattle.nts_model.specs.Derivations.Handlers.{filled}
+use Rattle.nts_model.specs.Terms.Substitutions.{filled}
 use Rattle.nts_model.specs.Canonical.Numbered.{position}
 use Rattle.nts_model.specs.Canonical.Inputs.{PositionKind, type_variable, integer_variable, float_variable, const_variable, region_variable, placeholder}
 use Rattle.nts_model.specs.Answers.Responses.{recorded_by, bound_of, placeholder_at}

@@ -24,12 +24,13 @@ use Rattle.nts_model.specs.Tables.Worlds.{World, inst, IsTrueOf, IsValue, Solves
 use Rattle.nts_model.specs.Tables.Holding.{HoldsConstraint, Continues}
 use Rattle.nts_model.specs.Tables.Alike.{AreAlike}
 use Rattle.nts_model.specs.Tables.Equations.{ExtensionIf}
-use Rattle.nts_model.specs.Terms.Substitutions.{leaf_tree, replace, Occurs}
+use Rattle.nts_model.specs.Terms.Substitutions.{leaf_tree, replace, Occurs, filled, filled_under}
 use Rattle.nts_model.specs.Derivations.Related.{Constraint}
-use Rattle.nts_model.specs.Derivations.Sequents.{Among, Hidden, Premise, Sequent, IsTrivial}
+use Rattle.nts_model.specs.Lists.{Among}
+use Rattle.nts_model.specs.Derivations.Sequents.{Hidden, Premise, Sequent, IsTrivial}
 use Rattle.nts_model.specs.Derivations.Proving.{HoldsTerms, IsTermOf, AreConstraintsOf, read_constraint, in_either_order}
 use Rattle.nts_model.specs.Tables.Passing.{AllLabels, AllPass}
-use Rattle.nts_model.specs.Derivations.Handlers.{filled, filled_under, hidden_by, premise_by, IsFixed}
+use Rattle.nts_model.specs.Derivations.Handlers.{hidden_by, premise_by, IsFixed}
 use Rattle.nts_model.specs.Canonical.Numbered.{seen, position, numbered_leaf, AreDistinct}
 use Rattle.nts_model.specs.Canonical.Inputs.{CanonicalInput, PositionKind, type_variable, integer_variable, float_variable, const_variable, region_variable, placeholder, share}
 

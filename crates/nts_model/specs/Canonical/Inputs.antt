@@ -8,9 +8,8 @@ use Rattle.nts_model.specs.declared.labels.FreeRegion.TheVariants as region
 use Rattle.nts_model.specs.declared.labels.Leaf.{Leaf}
 use Rattle.nts_model.specs.declared.labels.Leaf.TheVariants as leaf
 use Rattle.nts_model.specs.Terms.Trees.{Tree, empty, more, any_label, is_canonical, IsFormed}
-use Rattle.nts_model.specs.Terms.Substitutions.{leaf_tree, replace, Occurs, LeafSort, of_variable, of_constant, leaf_sort, Renaming, rename}
-use Rattle.nts_model.specs.Derivations.Sequents.{Among}
-use Rattle.nts_model.specs.Derivations.Handlers.{filled}
+use Rattle.nts_model.specs.Terms.Substitutions.{leaf_tree, replace, Occurs, LeafSort, of_variable, of_constant, leaf_sort, Renaming, rename, filled}
+use Rattle.nts_model.specs.Lists.{Among}
 use Rattle.nts_model.specs.Canonical.Numbered.{number, seen, numbered, position, no_leaf, AreDistinct}
 
 -- a goal with the hidden types of its table, a row of pairs of an alias and its type, and the sub root of each

@@ -9,7 +9,7 @@ use Rattle.nts_model.specs.declared.labels.Label.TheVariants as label
 use Rattle.nts_model.specs.contracts.labels.LeafPartialEq.TheImpl as leaf_eq
 use Rattle.nts_model.specs.Terms.Trees.{Tree, empty, more, node, sort_of_leaf}
 use Rattle.nts_model.specs.Terms.Substitutions.{leaf_tree, put}
-use Rattle.nts_model.specs.Derivations.Sequents.{Among}
+use Rattle.nts_model.specs.Lists.{Among}
 
 -- the two leaves are one
 abbrev pub same : Leaf → Leaf → Bool

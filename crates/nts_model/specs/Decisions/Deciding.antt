@@ -7,11 +7,12 @@ use Rattle.nts_model.specs.declared.labels.Leaf.TheVariants as leaf
 use Rattle.nts_model.specs.declared.labels.ClauseHead.TheVariants as clause
 use Rattle.nts_model.specs.declared.labels.Label.TheVariants as label
 use Rattle.nts_model.specs.Terms.Trees.{Tree, empty, more, node, any_label, is_infer, is_alias, IsFormed}
-use Rattle.nts_model.specs.Terms.Substitutions.{leaf_tree, replace}
+use Rattle.nts_model.specs.Terms.Substitutions.{leaf_tree, replace, filled}
 use Rattle.nts_model.specs.Derivations.Related.{pair, unbound}
-use Rattle.nts_model.specs.Derivations.Sequents.{Among, Premise}
+use Rattle.nts_model.specs.Lists.{Among}
+use Rattle.nts_model.specs.Derivations.Sequents.{Premise}
 use Rattle.nts_model.specs.Derivations.Rules.{Mode, Equation, statement_of, opened}
-use Rattle.nts_model.specs.Derivations.Handlers.{Handler, Candidate, certain, filled, equation_by, AreValuesOf, IsAsked}
+use Rattle.nts_model.specs.Derivations.Handlers.{Handler, Candidate, certain, equation_by, AreValuesOf, IsAsked}
 use Rattle.nts_model.specs.Refutation.Choosing.{left_of, right_of}
 use Rattle.nts_model.specs.Refutation.Opening.{binds, placeholder_in}
 use Rattle.nts_model.specs.Terms.Placeholders.{leaf_level}

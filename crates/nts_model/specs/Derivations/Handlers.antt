@@ -14,9 +14,10 @@ use Rattle.nts_model.specs.declared.labels.Label.TheVariants as label
 use Rattle.nts_model.specs.Terms.Trees.{Tree, empty, more, node, kind_of_label, of_sort, NodeKind, any_label, is_canonical, IsClosed, IsFormed}
 use Rattle.nts_model.specs.Terms.Scoping.{IsWellBound}
 use Rattle.nts_model.specs.Terms.Fitting.{Fits}
-use Rattle.nts_model.specs.Terms.Substitutions.{put, Occurs, StaysItself, Instance, instance_of, Renaming, rename, IsPlain}
+use Rattle.nts_model.specs.Terms.Substitutions.{put, Occurs, StaysItself, Instance, instance_of, Renaming, rename, IsPlain, filled_under, position_of}
 use Rattle.nts_model.specs.Derivations.Related.{Constraint, pair, unbound}
-use Rattle.nts_model.specs.Derivations.Sequents.{Among, Source, normalize_goal, Premise, Hidden, HasClosedStatements}
+use Rattle.nts_model.specs.Lists.{Among}
+use Rattle.nts_model.specs.Derivations.Sequents.{Source, normalize_goal, Premise, Hidden, HasClosedStatements}
 use Rattle.nts_model.specs.Derivations.Rules.{Mode, Equation, related, alike, Application, Meaning, meaning_of, statement_of, IsHandlers}
 
 -- how sure an answer is
@@ -42,26 +43,6 @@ pub record Candidate : Type 0 where
   pub goals : List Premise
   pub certainty : Certainty
   pub accesses : Access
-
--- the position that a label names
-abbrev pub position_of : Label → Option ℕ
-position_of (label.Bound s index.Canonical i) = Some i
-position_of l = None
-
-abbrev pub value_or : Option ℕ → List Tree → Tree → Tree
-value_or None vs t = t
-value_or (Some i) vs t = get_or vs i empty
-
--- the values in place of the positions; .. and trees in place of leaves
-abbrev pub filled : List Tree → Tree → Tree
-filled vs empty = empty
-filled vs (more a b) = more (filled vs a) (filled vs b)
-filled vs (node l c) = value_or (position_of l) vs (node l (filled vs c))
-
-abbrev pub filled_under : (Leaf → Tree) → List Tree → Tree → Tree
-filled_under f vs empty = empty
-filled_under f vs (more a b) = more (filled_under f vs a) (filled_under f vs b)
-filled_under f vs (node l c) = value_or (position_of l) vs (put f l (filled_under f vs c))
 
 -- what changes where the trees do
 abbrev pub equation_by : (Tree → Tree) → Equation → Equation

@@ -3,7 +3,8 @@ use Rattle.std.specs.Prelude.{◌≡◌, ◌⊎◌, ℕ, ◌<◌, List, [], ◌�
 use Rattle.nts_model.specs.Terms.Trees.{Tree}
 use Rattle.nts_model.specs.Terms.Substitutions.{Instance, instance_of}
 use Rattle.nts_model.specs.Derivations.Related.{Constraint}
-use Rattle.nts_model.specs.Derivations.Sequents.{Among, PathKind, coinductive, type_relating, Premise, Hidden, Sequent, IsOfTerms, AreOneBy, constraint_under, hidden_under, Grants, Hides, IsInstance}
+use Rattle.nts_model.specs.Lists.{Among}
+use Rattle.nts_model.specs.Derivations.Sequents.{PathKind, coinductive, type_relating, Premise, Hidden, Sequent, IsOfTerms, AreOneBy, constraint_under, hidden_under, Grants, Hides, IsInstance}
 use Rattle.nts_model.specs.Derivations.Rules.{Meaning, Mode, goal_kind, normalization, proof_kind, IsCoinductiveStep, IsRule}
 
 -- the name of a node: its place in the tree of goals from which the list was made, the last turn first

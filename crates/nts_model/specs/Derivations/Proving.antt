@@ -1,5 +1,5 @@
 -- What is proved under a table.
-use Rattle.std.specs.Prelude.{◌≡◌, ℕ, false, List, [], ◌∷◌, map, Some, Contains}
+use Rattle.std.specs.Prelude.{◌≡◌, ℕ, false, List, [], ◌∷◌, map, Some, Contains, ◌&&◌, ◌≤◌, ◌⊎◌}
 use Rattle.nts_model.specs.declared.labels.Relation.{Relation}
 use Rattle.nts_model.specs.declared.labels.Relation.TheVariants as relation
 use Rattle.nts_model.specs.declared.labels.VariableKind.{VariableKind}
@@ -9,12 +9,13 @@ use Rattle.nts_model.specs.Tables.Resolving.{deeply_resolved, Knows}
 use Rattle.nts_model.specs.Terms.Fitting.{Fits}
 use Rattle.nts_model.specs.Tables.Alike.{AreAlike}
 use Rattle.nts_model.specs.Tables.Holding.{HoldsConstraint}
-use Rattle.nts_model.specs.Terms.Substitutions.{Instance}
+use Rattle.nts_model.specs.Terms.Substitutions.{Instance, filled}
 use Rattle.nts_model.specs.Derivations.Related.{Constraint}
-use Rattle.nts_model.specs.Derivations.Sequents.{Among, Premise, Sequent, IsInstance}
+use Rattle.nts_model.specs.Lists.{Among}
+use Rattle.nts_model.specs.Derivations.Sequents.{Premise, Sequent, IsInstance}
 use Rattle.nts_model.specs.Derivations.Rules.{Equation, related, alike, Meaning, Mode}
-use Rattle.nts_model.specs.Derivations.Proofs.{Derives, IsTree, HasFallingProof}
-use Rattle.nts_model.specs.Derivations.Handlers.{Candidate, filled, constraint_by, premise_by, AreValuesOf}
+use Rattle.nts_model.specs.Derivations.Proofs.{Derives, IsTree, HasFallingProof, HasProof}
+use Rattle.nts_model.specs.Derivations.Handlers.{Candidate, constraint_by, premise_by, AreValuesOf}
 
 -- the values are closed terms that fit their variables, and the constraints are between terms of the table
 pub record HoldsTerms (c : Content) : Type 0 where
@@ -122,3 +123,13 @@ pub record HoldsCandidate (m : Meaning) (mode : Mode) (c : Content) (d : Candida
   pub equations : (q : Equation) → Among d.equations q → HoldsEquationAt c chosen q
   pub constraints : (x : Constraint) → Among d.constraints x → IsHeldAt c chosen x
   pub goals : (q : Premise) → Among d.goals q → IsProvedAt m mode c chosen q
+
+-- the goal under the table has a ranked proof whose hypotheses the table holds
+pub record HasHeldRankedProof (m : Meaning) (mode : Mode) (c : Content) (e p : Tree) : Type 0 where
+  pub sequent : Sequent
+  pub environment : sequent.environment ≡ deeply_resolved c e
+  pub predicate : sequent.predicate ≡ deeply_resolved c p
+  pub constraints : (x : Constraint) → Among sequent.constraints x → HoldsConstraint c (recorded_as x)
+  pub no_hidden : sequent.hidden ≡ []
+  pub no_open_goals : sequent.open_goals ≡ []
+  pub proof : HasProof m mode sequent

@@ -24,7 +24,8 @@ use Rattle.nts_model.specs.Terms.Regions.{IsRegion}
 use Rattle.nts_model.specs.Tables.Alike.{Alike}
 use Rattle.nts_model.specs.Terms.Substitutions.{leaf_tree, Occurs}
 use Rattle.nts_model.specs.Derivations.Related.{Constraint, pair, unbound, alias_goal, value, alias, IsAlias, Related, AreRelated}
-use Rattle.nts_model.specs.Derivations.Sequents.{Among, PathKind, coinductive, unknown, inductive, Source, normalize_goal, type_relating, impl_where_bound, Premise, Hidden}
+use Rattle.nts_model.specs.Lists.{Among}
+use Rattle.nts_model.specs.Derivations.Sequents.{PathKind, coinductive, unknown, inductive, Source, normalize_goal, type_relating, impl_where_bound, Premise, Hidden}
 
 -- the mode of a proof: which hidden types a goal may know
 pub data Mode : Type 0 where

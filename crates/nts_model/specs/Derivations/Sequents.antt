@@ -11,11 +11,7 @@ use Rattle.nts_model.specs.Terms.Regions.{RegionName, region_tree, name_of_leaf}
 use Rattle.nts_model.specs.Tables.RegionClasses.{equated}
 use Rattle.nts_model.specs.Terms.Substitutions.{leaf_tree, replace, Instance, instance_of}
 use Rattle.nts_model.specs.Derivations.Related.{Constraint, pair, unbound}
-
--- the list has the element
-abbrev pub Among : {X : Type 0} → List X → X → Type 0
-Among [] x = ⊥
-Among (y ∷ ys) x = (x ≡ y) ⊎ Among ys x
+use Rattle.nts_model.specs.Lists.{Among}
 
 -- how a cycle through a step counts
 pub data PathKind : Type 0 where

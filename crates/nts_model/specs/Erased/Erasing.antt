@@ -1,7 +1,8 @@
 -- The stack of a search in which some inputs are asked in the erased mode.
 use Rattle.std.specs.Prelude.{◌≡◌, ◌&&◌, ℕ, zero, suc, List, [], ◌∷◌, map, IsTrue, if◌then◌else◌}
 use Rattle.nts_model.specs.Terms.Trees.{Tree}
-use Rattle.nts_model.specs.Derivations.Sequents.{Among, PathKind}
+use Rattle.nts_model.specs.Lists.{Among}
+use Rattle.nts_model.specs.Derivations.Sequents.{PathKind}
 use Rattle.nts_model.specs.Terms.Substitutions.{Instance}
 use Rattle.nts_model.specs.Derivations.Rules.{Meaning, Mode, Application, erased}
 use Rattle.nts_model.specs.Derivations.Handlers.{Access, never, Handler, Candidate, certain, Certainty, IsAsked, IsInstanceFor}

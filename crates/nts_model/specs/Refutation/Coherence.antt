@@ -4,11 +4,12 @@ use Rattle.nts_model.specs.declared.labels.Leaf.{Leaf}
 use Rattle.nts_model.specs.declared.labels.Label.{Label}
 use Rattle.nts_model.specs.Terms.Trees.{Tree, is_alias}
 use Rattle.nts_model.specs.Tables.Passing.{AllLabels}
-use Rattle.nts_model.specs.Terms.Substitutions.{Occurs, Instance, instance_of, leaf_tree}
+use Rattle.nts_model.specs.Terms.Substitutions.{Occurs, Instance, instance_of, leaf_tree, filled_under}
 use Rattle.nts_model.specs.Derivations.Related.{Constraint, pair}
-use Rattle.nts_model.specs.Derivations.Sequents.{Among, Premise}
+use Rattle.nts_model.specs.Lists.{Among}
+use Rattle.nts_model.specs.Derivations.Sequents.{Premise}
 use Rattle.nts_model.specs.Derivations.Rules.{Mode, coherence, Equation, Application, Meaning, IsRule}
-use Rattle.nts_model.specs.Derivations.Handlers.{Handler, Candidate, IsAsked, AreValuesOf, filled_under, equation_by, constraint_by, premise_by}
+use Rattle.nts_model.specs.Derivations.Handlers.{Handler, Candidate, IsAsked, AreValuesOf, equation_by, constraint_by, premise_by}
 use Rattle.nts_model.specs.Tables.Worlds.{World, inst}
 use Rattle.nts_model.specs.Refutation.Containing.{Truth, IsTrueBy, AreGround}
 

@@ -16,11 +16,11 @@ use Rattle.nts_model.specs.Tables.Contents.{Content, Recorded, universe_of, kind
 use Rattle.nts_model.specs.Terms.Placeholders.{CanName, free_region_level, leaf_level_of, leaf_level}
 use Rattle.nts_model.specs.Tables.Levels.{NamesAll}
 use Rattle.nts_model.specs.Tables.Worlds.{World, inst, KeepsFixedRegions, IsValue, IsNameable, Solves, Agrees}
-use Rattle.nts_model.specs.Terms.Substitutions.{leaf_tree, IsConstant, Instance, instance_of}
+use Rattle.nts_model.specs.Terms.Substitutions.{leaf_tree, IsConstant, Instance, instance_of, filled}
 use Rattle.nts_model.specs.Derivations.Related.{pair}
 use Rattle.nts_model.specs.Tables.Passing.{AllLabels}
-use Rattle.nts_model.specs.Derivations.Sequents.{Among, Premise}
-use Rattle.nts_model.specs.Derivations.Handlers.{filled}
+use Rattle.nts_model.specs.Lists.{Among}
+use Rattle.nts_model.specs.Derivations.Sequents.{Premise}
 use Rattle.nts_model.specs.Canonical.Numbered.{number}
 use Rattle.nts_model.specs.Canonical.Inputs.{CanonicalInput, PositionKind, type_variable, integer_variable, float_variable, const_variable, region_variable, placeholder}
 use Rattle.nts_model.specs.Answers.Responses.{Response, placeholder_tree}

@@ -8,7 +8,8 @@ use Rattle.nts_model.specs.Tables.Resolving.{deeply_resolved}
 use Rattle.nts_model.specs.Tables.Equations.{AreRelated}
 use Rattle.nts_model.specs.Derivations.Related.{Constraint}
 use Rattle.nts_model.specs.Derivations.Sequents.{Premise}
-use Rattle.nts_model.specs.Derivations.Handlers.{Candidate, certain, filled, constraint_by}
+use Rattle.nts_model.specs.Terms.Substitutions.{filled}
+use Rattle.nts_model.specs.Derivations.Handlers.{Candidate, certain, constraint_by}
 use Rattle.nts_model.specs.Refutation.Choosing.{Freshens, EquatesAll, OnlyIsMet}
 
 -- a constraint that the leak check sees

@@ -9,10 +9,10 @@ use Rattle.nts_model.specs.declared.labels.Leaf.TheVariants as leaf
 use Rattle.nts_model.specs.declared.labels.ListHead.TheVariants as list
 use Rattle.nts_model.specs.declared.labels.Label.{Label}
 use Rattle.nts_model.specs.declared.labels.Label.TheVariants as label
-use Rattle.nts_model.specs.Terms.Trees.{Tree, empty, more, node}
+use Rattle.nts_model.specs.Terms.Trees.{Tree, empty, more, node, variable_of}
 use Rattle.nts_model.specs.Tables.Contents.{Content, universe_of, in_universe}
 use Rattle.nts_model.specs.Terms.Placeholders.{leaf_level}
-use Rattle.nts_model.specs.Tables.Resolving.{variable_of, number_of}
+use Rattle.nts_model.specs.Tables.Resolving.{number_of}
 use Rattle.nts_model.specs.Derivations.Related.{unbound}
 use Rattle.nts_model.specs.Derivations.Rules.{statement_of, opened}
 

@@ -4,12 +4,13 @@ use Rattle.nts_model.specs.Terms.Trees.{Tree}
 use Rattle.nts_model.specs.Tables.Contents.{Content}
 use Rattle.nts_model.specs.Tables.Resolving.{deeply_resolved, Knows}
 use Rattle.nts_model.specs.Tables.Holding.{HoldsConstraint}
-use Rattle.nts_model.specs.Terms.Substitutions.{Instance}
+use Rattle.nts_model.specs.Terms.Substitutions.{Instance, filled}
 use Rattle.nts_model.specs.Derivations.Related.{Constraint}
-use Rattle.nts_model.specs.Derivations.Sequents.{Among, PathKind, coinductive, unknown, inductive, forced_ambiguity, Premise, Sequent, IsInstance}
+use Rattle.nts_model.specs.Lists.{Among}
+use Rattle.nts_model.specs.Derivations.Sequents.{PathKind, coinductive, unknown, inductive, forced_ambiguity, Premise, Sequent, IsInstance}
 use Rattle.nts_model.specs.Derivations.Rules.{Equation, Meaning, Mode, goal_kind, step_kind}
 use Rattle.nts_model.specs.Derivations.Proofs.{Assumed, passed, Derives, HasProof}
-use Rattle.nts_model.specs.Derivations.Handlers.{Candidate, Certainty, certain, perhaps, filled, AreValuesOf}
+use Rattle.nts_model.specs.Derivations.Handlers.{Candidate, Certainty, certain, perhaps, AreValuesOf}
 use Rattle.nts_model.specs.Derivations.Proving.{IsTermOf, sequent_at, sequent_with, recorded_as, HoldsEquationAt, IsHeldAt}
 use Rattle.nts_model.specs.Canonical.Inputs.{CanonicalInput}
 use Rattle.nts_model.specs.Answers.Responses.{Response, answer_sequent, IsOverPositions, IsResponseTo, greatest}
@@ -120,12 +121,3 @@ pub record SaysSame (r q : Response) : Type 0 where
   pub open_goals : r.findings.open_goals ≡ q.findings.open_goals
   pub kinds : r.kinds ≡ q.kinds
 
--- the goal under the table has a ranked proof whose hypotheses the table holds
-pub record HasHeldRankedProof (m : Meaning) (mode : Mode) (c : Content) (e p : Tree) : Type 0 where
-  pub sequent : Sequent
-  pub environment : sequent.environment ≡ deeply_resolved c e
-  pub predicate : sequent.predicate ≡ deeply_resolved c p
-  pub constraints : (x : Constraint) → Among sequent.constraints x → HoldsConstraint c (recorded_as x)
-  pub no_hidden : sequent.hidden ≡ []
-  pub no_open_goals : sequent.open_goals ≡ []
-  pub proof : HasProof m mode sequent

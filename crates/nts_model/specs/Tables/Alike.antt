@@ -2,9 +2,9 @@
 use Rattle.std.specs.Prelude.{◌≡◌, false, None}
 use Rattle.nts_model.specs.declared.labels.Relation.TheVariants as relation
 use Rattle.nts_model.specs.declared.labels.Label.{Label}
-use Rattle.nts_model.specs.Terms.Trees.{Tree, more, node}
+use Rattle.nts_model.specs.Terms.Trees.{Tree, more, node, infer_of}
 use Rattle.nts_model.specs.Tables.Contents.{Content, Recorded}
-use Rattle.nts_model.specs.Tables.Resolving.{infer_of, deeply_resolved}
+use Rattle.nts_model.specs.Tables.Resolving.{deeply_resolved}
 use Rattle.nts_model.specs.Terms.Regions.{IsRegion}
 use Rattle.nts_model.specs.Tables.Holding.{HoldsConstraint}
 

@@ -4,10 +4,10 @@ use Rattle.nts_model.specs.declared.labels.Leaf.{Leaf}
 use Rattle.nts_model.specs.declared.labels.Leaf.TheVariants as leaf
 use Rattle.nts_model.specs.declared.labels.Label.{Label}
 use Rattle.nts_model.specs.declared.labels.Label.TheVariants as label
-use Rattle.nts_model.specs.Terms.Trees.{Tree, empty, more, node}
+use Rattle.nts_model.specs.Terms.Trees.{Tree, empty, more, node, variable_of}
 use Rattle.nts_model.specs.Tables.Contents.{Content, link, known, state_of, universe_of}
 use Rattle.nts_model.specs.Terms.Placeholders.{constant_level, free_region_level, CanName}
-use Rattle.nts_model.specs.Tables.Resolving.{variable_of, number_of}
+use Rattle.nts_model.specs.Tables.Resolving.{number_of}
 
 -- the universe of a placeholder that is a type or const, and of one that is a region
 abbrev pub term_level_of_leaf : Leaf → Option ℕ

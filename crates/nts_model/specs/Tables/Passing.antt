@@ -12,7 +12,7 @@ use Rattle.nts_model.specs.declared.labels.Label.{Label}
 use Rattle.nts_model.specs.declared.labels.Label.TheVariants as label
 use Rattle.nts_model.specs.Terms.Trees.{Tree, empty, more, node}
 use Rattle.nts_model.specs.Tables.Contents.{Content, Recorded, known, state_of}
-use Rattle.nts_model.specs.Derivations.Sequents.{Among}
+use Rattle.nts_model.specs.Lists.{Among}
 
 -- each label of the tree is so
 abbrev pub AllLabels : (Label → Type 0) → Tree → Type 0

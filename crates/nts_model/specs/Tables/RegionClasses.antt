@@ -6,9 +6,9 @@ use Rattle.nts_model.specs.declared.labels.VariableKind.{VariableKind}
 use Rattle.nts_model.specs.declared.labels.VariableKind.TheVariants as kind
 use Rattle.nts_model.specs.declared.labels.FreeRegion.{FreeRegion}
 use Rattle.nts_model.specs.declared.labels.FreeRegion.TheVariants as region
-use Rattle.nts_model.specs.Terms.Trees.{Tree}
+use Rattle.nts_model.specs.Terms.Trees.{Tree, variable_tree}
 use Rattle.nts_model.specs.Tables.Contents.{Content, Recorded, kind_at}
-use Rattle.nts_model.specs.Tables.Resolving.{variable_tree, kind_or_type, value_at, under, root_of}
+use Rattle.nts_model.specs.Tables.Resolving.{kind_or_type, value_at, under, root_of}
 use Rattle.nts_model.specs.Terms.Regions.{RegionName, of_variable, of_free, region_tree, region_name}
 use Rattle.nts_model.specs.Tables.Worlds.{World, inst, with_tree}
 

@@ -6,35 +6,10 @@ use Rattle.nts_model.specs.declared.labels.Leaf.{Leaf}
 use Rattle.nts_model.specs.declared.labels.Leaf.TheVariants as leaf
 use Rattle.nts_model.specs.declared.labels.Label.{Label}
 use Rattle.nts_model.specs.declared.labels.Label.TheVariants as label
-use Rattle.nts_model.specs.Terms.Trees.{Tree, empty, more, node, size, is_canonical, binders, kind_of, of_sort, sort_of_variable, IsClosed}
+use Rattle.nts_model.specs.Terms.Trees.{Tree, empty, more, node, size, is_canonical, binders, kind_of, of_sort, sort_of_variable, IsClosed, infer_of, variable_of, variable_tree}
 use Rattle.nts_model.specs.Terms.Scoping.{ListsBound}
 use Rattle.nts_model.specs.Terms.Placeholders.{leaf_level, CanName}
 use Rattle.nts_model.specs.Tables.Contents.{Content, SlotState, unset, link, known, state_of, kind_at}
-
--- the tree of a variable
-abbrev pub variable_tree : VariableKind → ℕ → Tree
-variable_tree k n = node (label.Leaf (leaf.Variable k n)) empty
-
--- the kind and the number of a variable's label
-abbrev pub variable_of_leaf : Leaf → Option (VariableKind × ℕ)
-variable_of_leaf (leaf.Variable k n) = Some (k, n)
-variable_of_leaf l = None
-
-abbrev pub variable_of : Label → Option (VariableKind × ℕ)
-variable_of (label.Leaf l) = variable_of_leaf l
-variable_of l = None
-
--- the number, if the variable is no region
-abbrev pub infer_number : VariableKind → ℕ → Option ℕ
-infer_number kind.Region n = None
-infer_number k n = Some n
-
-abbrev pub infer_of_variable : Option (VariableKind × ℕ) → Option ℕ
-infer_of_variable None = None
-infer_of_variable (Some v) = infer_number v.0 v.1
-
-abbrev pub infer_of : Label → Option ℕ
-infer_of l = infer_of_variable (variable_of l)
 
 abbrev pub replaced_at : Option ℕ → ℕ → Tree → Tree → Tree → Tree
 replaced_at None n s t u = u

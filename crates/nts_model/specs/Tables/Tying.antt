@@ -3,7 +3,7 @@ use Rattle.std.specs.Prelude.{◌≡◌, ◌≢◌, ℕ, ◌≤◌, ◌<◌, len
 use Rattle.nts_model.specs.declared.labels.VariableKind.{VariableKind}
 use Rattle.nts_model.specs.declared.labels.VariableKind.TheVariants as kind
 use Rattle.nts_model.specs.Tables.Contents.{Content, kind_at}
-use Rattle.nts_model.specs.Tables.Resolving.{variable_tree}
+use Rattle.nts_model.specs.Terms.Trees.{variable_tree}
 use Rattle.nts_model.specs.Tables.Holding.{AreOne}
 
 -- each variable that the second table has beyond the first, and that is no region, is one with a variable of the first

@@ -9,9 +9,9 @@ use Rattle.nts_model.specs.declared.labels.Leaf.{Leaf}
 use Rattle.nts_model.specs.declared.labels.Leaf.TheVariants as leaf
 use Rattle.nts_model.specs.declared.labels.Label.{Label}
 use Rattle.nts_model.specs.declared.labels.Label.TheVariants as label
-use Rattle.nts_model.specs.Terms.Trees.{Tree, empty, more, node, IsClosed, IsFormed}
+use Rattle.nts_model.specs.Terms.Trees.{Tree, empty, more, node, IsClosed, IsFormed, variable_of}
 use Rattle.nts_model.specs.Tables.Contents.{Content, SlotState, unset, link, known, Recorded, state_of, universe_of, kind_at}
-use Rattle.nts_model.specs.Tables.Resolving.{variable_of, number_of, Knows}
+use Rattle.nts_model.specs.Tables.Resolving.{number_of, Knows}
 use Rattle.nts_model.specs.Tables.Levels.{term_level, region_level, IfNamesAll}
 use Rattle.nts_model.specs.Terms.Fitting.{Fits}
 

@@ -7,8 +7,7 @@ use Rattle.nts_model.specs.declared.labels.Leaf.{Leaf}
 use Rattle.nts_model.specs.declared.labels.Leaf.TheVariants as leaf
 use Rattle.nts_model.specs.declared.labels.Label.{Label}
 use Rattle.nts_model.specs.declared.labels.Label.TheVariants as label
-use Rattle.nts_model.specs.Terms.Trees.{Tree, empty, node}
-use Rattle.nts_model.specs.Tables.Resolving.{variable_tree}
+use Rattle.nts_model.specs.Terms.Trees.{Tree, empty, node, variable_tree}
 
 -- a region that is a variable, or free
 pub data RegionName : Type 0 where

@@ -1,5 +1,5 @@
 -- Maps of leaves: renamings, and instances of trees.
-use Rattle.std.specs.Prelude.{◌≡◌, ◌⊎◌, ℕ, Option}
+use Rattle.std.specs.Prelude.{◌≡◌, ◌⊎◌, ℕ, Option, List, None, Some, get_or, ◌∷◌}
 use Rattle.nts_model.specs.declared.labels.Sort.{Sort}
 use Rattle.nts_model.specs.declared.labels.Sort.TheVariants as sort
 use Rattle.nts_model.specs.declared.labels.VariableKind.{VariableKind}
@@ -15,6 +15,7 @@ use Rattle.nts_model.specs.Terms.Trees.{Tree, empty, more, node, IsClosed, IsFor
 use Rattle.nts_model.specs.Tables.Levels.{IfNamesAll}
 use Rattle.nts_model.specs.Terms.Regions.{IsRegion}
 use Rattle.nts_model.specs.Terms.Fitting.{Fits}
+use Rattle.nts_model.specs.declared.labels.BoundVarIndexKind.TheVariants as index
 
 -- the tree that a leaf is
 abbrev pub leaf_tree : Leaf → Tree
@@ -94,3 +95,23 @@ rename ρ = replace (λ l. leaf_tree (ρ.to l))
 -- .. that leaves 'static, erased and error regions
 abbrev pub IsPlain : Renaming → Type 0
 IsPlain ρ = (r : FreeRegion) → StaysItself r → ρ.to (leaf.Region r) ≡ leaf.Region r
+
+-- the position that a label names
+abbrev pub position_of : Label → Option ℕ
+position_of (label.Bound s index.Canonical i) = Some i
+position_of l = None
+
+abbrev pub value_or : Option ℕ → List Tree → Tree → Tree
+value_or None vs t = t
+value_or (Some i) vs t = get_or vs i empty
+
+-- the values in place of the positions; .. and trees in place of leaves
+abbrev pub filled : List Tree → Tree → Tree
+filled vs empty = empty
+filled vs (more a b) = more (filled vs a) (filled vs b)
+filled vs (node l c) = value_or (position_of l) vs (node l (filled vs c))
+
+abbrev pub filled_under : (Leaf → Tree) → List Tree → Tree → Tree
+filled_under f vs empty = empty
+filled_under f vs (more a b) = more (filled_under f vs a) (filled_under f vs b)
+filled_under f vs (node l c) = value_or (position_of l) vs (put f l (filled_under f vs c))

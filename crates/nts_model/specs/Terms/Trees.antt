@@ -1,6 +1,6 @@
 -- Finite trees of labelled nodes: one shape for types, regions, consts, arguments, predicates,
 -- environments and goals. A list of trees is a tree too: `empty`, or `more` of a first tree and the rest.
-use Rattle.std.specs.Prelude.{◌≡◌, ◌⊎◌, ℕ, zero, suc, ◌+◌, ◌<◌, ◌||◌, Bool, true, false, List, [], ◌∷◌, Option, Some, None}
+use Rattle.std.specs.Prelude.{◌≡◌, ◌⊎◌, ℕ, zero, suc, ◌+◌, ◌<◌, ◌||◌, Bool, true, false, List, [], ◌∷◌, Option, Some, None, ◌*◌, ◌==◌, ◌≢◌}
 use Rattle.nts_model.specs.declared.labels.Sort.{Sort}
 use Rattle.nts_model.specs.declared.labels.Sort.TheVariants as sort
 use Rattle.nts_model.specs.declared.labels.VariableKind.{VariableKind}
@@ -257,3 +257,28 @@ abbrev pub IsFormed : Tree → Type 0
 IsFormed empty = Unit {0}
 IsFormed (more a b) = IsFormed a × IsFormed b
 IsFormed (node l c) = Meets (shape l) c × IsFormed c
+
+-- the tree of a variable
+abbrev pub variable_tree : VariableKind → ℕ → Tree
+variable_tree k n = node (label.Leaf (leaf.Variable k n)) empty
+
+-- the kind and the number of a variable's label
+abbrev pub variable_of_leaf : Leaf → Option (VariableKind × ℕ)
+variable_of_leaf (leaf.Variable k n) = Some (k, n)
+variable_of_leaf l = None
+
+abbrev pub variable_of : Label → Option (VariableKind × ℕ)
+variable_of (label.Leaf l) = variable_of_leaf l
+variable_of l = None
+
+-- the number, if the variable is no region
+abbrev pub infer_number : VariableKind → ℕ → Option ℕ
+infer_number kind.Region n = None
+infer_number k n = Some n
+
+abbrev pub infer_of_variable : Option (VariableKind × ℕ) → Option ℕ
+infer_of_variable None = None
+infer_of_variable (Some v) = infer_number v.0 v.1
+
+abbrev pub infer_of : Label → Option ℕ
+infer_of l = infer_of_variable (variable_of l)

@@ -8,7 +8,7 @@ use Rattle.nts_model.specs.Tables.Contents.{Content}
 use Rattle.nts_model.specs.Tables.Resolving.{IsSound, deeply_resolved}
 use Rattle.nts_model.specs.Tables.Holding.{Continues, HoldsConstraint}
 use Rattle.nts_model.specs.Derivations.Related.{alias_goal, subtype_goal, IsAlias, Related, AreRelated}
-use Rattle.nts_model.specs.Derivations.Sequents.{Among}
+use Rattle.nts_model.specs.Lists.{Among}
 use Rattle.nts_model.specs.Derivations.Proving.{recorded_as}
 use Rattle.nts_model.specs.Variances.Relations.{Relating}
 

@@ -3,7 +3,7 @@ use Rattle.std.specs.Prelude.{ℕ, ◌≤◌, List, length}
 use Rattle.nts_model.specs.declared.labels.Variance.{Variance}
 use Rattle.nts_model.specs.Tables.Contents.{Content}
 use Rattle.nts_model.specs.Tables.Worlds.{World, Solves}
-use Rattle.nts_model.specs.Derivations.Sequents.{Among}
+use Rattle.nts_model.specs.Lists.{Among}
 use Rattle.nts_model.specs.Variances.Judging.{Judging, IsLawfulJudging}
 use Rattle.nts_model.specs.Variances.Listing.{Lists}
 use Rattle.nts_model.specs.Variances.Relations.{Relating, AllSettleIn, IsJudgedBy, IsSettledWorld, SettledExtension}

@@ -1,7 +1,7 @@
 -- A judging by lists: which aliases stand for themselves, and what aliases normalize to.
 use Rattle.std.specs.Prelude.{List}
 use Rattle.nts_model.specs.Terms.Trees.{Tree}
-use Rattle.nts_model.specs.Derivations.Sequents.{Among}
+use Rattle.nts_model.specs.Lists.{Among}
 use Rattle.nts_model.specs.Variances.Judging.{Judging}
 
 -- the aliases that stand for themselves, and pairs of an alias and its value

@@ -6,7 +6,8 @@ use Rattle.nts_model.specs.Terms.Trees.{Tree, kind_of}
 use Rattle.nts_model.specs.Tables.Alike.{Alike}
 use Rattle.nts_model.specs.Terms.Substitutions.{Instance, instance_of}
 use Rattle.nts_model.specs.Derivations.Related.{Constraint, alias}
-use Rattle.nts_model.specs.Derivations.Sequents.{Among, Premise, Hidden, IsTrivial, constraint_under, hidden_under, premise_under}
+use Rattle.nts_model.specs.Lists.{Among}
+use Rattle.nts_model.specs.Derivations.Sequents.{Premise, Hidden, IsTrivial, constraint_under, hidden_under, premise_under}
 use Rattle.nts_model.specs.Derivations.Rules.{Meaning, Mode, strictly, goal_kind, normalization, IsRule, normalization_goal}
 use Rattle.nts_model.specs.Derivations.Proofs.{Node, Step, IsSoundStep, IsRankedProof}
 use Rattle.nts_model.specs.Variances.Judging.{Judging, AllStand}

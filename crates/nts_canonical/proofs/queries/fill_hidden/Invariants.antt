@@ -1,5 +1,5 @@
 use Rattle.std.proofs.Common.{map, take}
-use Rattle.nts_model.specs.Derivations.Handlers.{filled}
+use Rattle.nts_model.specs.Terms.Substitutions.{filled}
 use Rattle.nts_store.specs.Growth.{tree_at, Extends}
 use Rattle.nts_canonical.specs.Replaced.{AreImages}
 use Rattle.nts_canonical.proofs.queries.fill_hidden.Given as goal

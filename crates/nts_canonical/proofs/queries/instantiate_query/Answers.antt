@@ -1,5 +1,5 @@
 use Rattle.std.proofs.Common.{map, ap, ◌∙◌, subst, sym}
-use Rattle.nts_model.specs.Derivations.Handlers.{filled}
+use Rattle.nts_model.specs.Terms.Substitutions.{filled}
 use Rattle.nts_store.specs.Growth.{tree_at}
 use Rattle.nts_store.specs.Filled.{HasValues}
 use Rattle.nts_terms.proofs.Standing.{args_stand}

@@ -5,7 +5,8 @@ use Rattle.nts_table.specs.TableLaws.{IsTable-extended}
 use Rattle.nts_queries.proofs.Running.{constraint_stays, equality_stays}
 use Rattle.nts_delegate.proofs.Results.{OnOk-map}
 use Rattle.nts_queries.proofs.Evaluating.{Runs-trans, Runs-extends, can_fill, instance_term, held_values}
-use Rattle.nts_model.specs.Derivations.Handlers.{filled, constraint_by}
+use Rattle.nts_model.specs.Terms.Substitutions.{filled}
+use Rattle.nts_model.specs.Derivations.Handlers.{constraint_by}
 use Rattle.nts_unify.specs.Lawful.{content_of-extended}
 use Rattle.nts_delegate.specs.Offered.{constraint_of}
 use Rattle.nts_queries.proofs.Constraining.{added_equal}

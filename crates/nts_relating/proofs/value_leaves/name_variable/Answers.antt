@@ -1,5 +1,5 @@
 use Rattle.std.proofs.Common.{refl, sym, ap, ◌∙◌, None}
-use Rattle.nts_model.specs.Tables.Resolving.{variable_tree}
+use Rattle.nts_model.specs.Terms.Trees.{variable_tree}
 use Rattle.nts_unify.specs.declared.contents.State.TheVariants.{Unset}
 use Rattle.nts_unify.specs.Reading.{IsLawful}
 use Rattle.nts_unify.specs.Lawful.{IsNew, IsLawful-extended, IsLawful-added}

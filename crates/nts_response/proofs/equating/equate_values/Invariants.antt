@@ -1,6 +1,6 @@
 use Rattle.std.proofs.Common.{◌++◌, take, map}
 use Rattle.nts_model.specs.Answers.Applying.{MakesEqual}
-use Rattle.nts_model.specs.Derivations.Handlers.{filled}
+use Rattle.nts_model.specs.Terms.Substitutions.{filled}
 use Rattle.nts_model.specs.Tables.Passing.{BringsOnly}
 use Rattle.nts_unify.specs.Changing.{IsLater}
 use Rattle.nts_store.specs.Growth.{tree_at}

@@ -1,5 +1,5 @@
 use Rattle.std.proofs.Common.{◌≡◌, Err, refl, sym, ap, subst, ◌∙◌, rules}
-use Rattle.nts_model.specs.Derivations.Handlers.{filled}
+use Rattle.nts_model.specs.Terms.Substitutions.{filled}
 use Rattle.nts_store.specs.declared.fault.EvalError.TheVariants.{NoSolution}
 use Rattle.nts_store.specs.Filled.{HasValues}
 use Rattle.nts_store.proofs.Growing.{Extends-trans}

@@ -1,5 +1,5 @@
 use Rattle.std.proofs.Common.{◌≡◌, map, ◌∙◌}
-use Rattle.nts_model.specs.Derivations.Handlers.{filled}
+use Rattle.nts_model.specs.Terms.Substitutions.{filled}
 use Rattle.nts_store.specs.Growth.{tree_at}
 use Rattle.nts_store.specs.Kept.{map-kept}
 use Rattle.nts_store.proofs.Growing.{AllIn-extended}

@@ -1,6 +1,7 @@
 use Rattle.std.proofs.Common.{map, arith, subst}
 use Rattle.std.proofs.lemmas.List.{take_all}
-use Rattle.nts_model.specs.Derivations.Handlers.{filled, premise_by}
+use Rattle.nts_model.specs.Terms.Substitutions.{filled}
+use Rattle.nts_model.specs.Derivations.Handlers.{premise_by}
 use Rattle.nts_store.specs.Growth.{tree_at}
 use Rattle.nts_store.specs.Kept.{map-kept}
 use Rattle.nts_store.proofs.Growing.{AllIn-extended, Extends-trans}

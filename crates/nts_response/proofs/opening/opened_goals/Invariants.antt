@@ -1,5 +1,6 @@
 use Rattle.std.proofs.Common.{take, map}
-use Rattle.nts_model.specs.Derivations.Handlers.{filled, premise_by}
+use Rattle.nts_model.specs.Terms.Substitutions.{filled}
+use Rattle.nts_model.specs.Derivations.Handlers.{premise_by}
 use Rattle.nts_store.specs.Growth.{tree_at, Extends}
 use Rattle.nts_response.specs.Forms.{HoldsOpen, premise_at}
 use Rattle.nts_response.specs.Replacing.{ReplacesEach}

@@ -1,5 +1,5 @@
 use Rattle.std.proofs.Common.{[], ◌∷◌}
-use Rattle.nts_model.specs.Tables.Resolving.{variable_tree}
+use Rattle.nts_model.specs.Terms.Trees.{variable_tree}
 use Rattle.nts_store.specs.Growth.{tree_at}
 use Rattle.nts_terms.specs.Signatures.{variances_in}
 use Rattle.nts_unify.specs.Reading.{content_of}

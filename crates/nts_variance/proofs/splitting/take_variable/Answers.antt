@@ -1,6 +1,6 @@
 use Rattle.nts_store.specs.Growth.{tree_at}
 use Rattle.nts_terms.specs.Signatures.{variances_in}
-use Rattle.nts_model.specs.Tables.Resolving.{variable_tree}
+use Rattle.nts_model.specs.Terms.Trees.{variable_tree}
 use Rattle.nts_unify.specs.Reading.{content_of}
 use Rattle.nts_relating.proofs.PairLemmas.{err_of}
 use Rattle.nts_variance.specs.Walking.{sides}

@@ -1,6 +1,6 @@
 use Rattle.std.proofs.Common.{sym, ap, ◌∙◌}
 use Rattle.nts_model.specs.declared.labels.VariableKind.TheVariants as kind
-use Rattle.nts_model.specs.Tables.Resolving.{variable_tree}
+use Rattle.nts_model.specs.Terms.Trees.{variable_tree}
 use Rattle.nts_unify.specs.Reading.{content_of}
 use Rattle.nts_table.specs.Resolution.{resolution, resolution_of}
 use Rattle.nts_unify.proofs.Leading.{kind_within, IsRoot-content}
