@@ -8,11 +8,11 @@ use Rattle.nts_model.specs.Terms.Trees.{Tree, empty, more, node, binders, kind_o
 use Rattle.nts_model.specs.Terms.Substitutions.{filled, position_of, value_or}
 use Rattle.nts_store.specs.Filled.{HasValues}
 use Rattle.nts_folding.specs.Folding.{MayAnswer, asked_as, HandsOver, AtBinder, Walk, done, next, answer, down}
-use Rattle.nts_canonical.specs.Folds.{StandsFor}
+use Rattle.nts_canonical.specs.Folds.{IsFoldAnswer}
 
 -- the folder's relations
 abbrev pub Answers : List Tree → Tree → Option Tree → List Tree → Type 0
-Answers s x o t = StandsFor s x o × (t ≡ s)
+Answers s x o t = IsFoldAnswer s x o × (t ≡ s)
 
 abbrev pub Stays : List Tree → List Tree → Type 0
 Stays s t = t ≡ s

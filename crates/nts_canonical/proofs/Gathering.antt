@@ -20,7 +20,7 @@ use Rattle.nts_relating.proofs.Looking.{row_from-end, row_from-step}
 use Rattle.nts_canonical.proofs.Leafless.{both_false}
 use Rattle.nts_canonical.specs.declared.collecting.Task.{Task}
 use Rattle.nts_canonical.specs.declared.collecting.Task.TheVariants as task
-use Rattle.nts_canonical.specs.Collecting.{after_leaf, Job, read, finish, job, jobs, TaskIn, TasksIn, entered, seen_after, IsReadAt, IsRead, AreRead, AreDue, weight, weights, IsReading, WalkGoesOn}
+use Rattle.nts_canonical.specs.Collecting.{after_leaf, Job, read, finish, job, jobs, TaskIn, TasksIn, entered, seen_after, IsLabelRead, IsRead, AreRead, AreDue, job_weight, job_weights, IsReading, WalkGoesOn}
 
 -- a leaf that was seen is not added once more
 pub added-among : (s : List Leaf) (l : Leaf) → Among s l → added s l ≡ s
@@ -32,7 +32,7 @@ added-among (x ∷ xs) l h =
     ]
 
 -- a tree that was read shows nothing new
-seen-read_at : (stays : Leaf → Bool) (s inside : List Leaf) (A : Type 0) (l : Label) → (A → inside ≡ s) → IsReadAt stays s l A → seen_node stays s l inside ≡ s
+seen-read_at : (stays : Leaf → Bool) (s inside : List Leaf) (A : Type 0) (l : Label) → (A → inside ≡ s) → IsLabelRead stays s l A → seen_node stays s l inside ≡ s
 seen-read_at stays s i A (label.Leaf x) f h = elim (either (stays x)) [ inl e ↦ rw e refl | inr e ↦ rw e (added-among s x (h e)) ]
 seen-read_at stays s i A (label.Bound o b n) f h = f h
 seen-read_at stays s i A (label.Ty x) f h = f h
@@ -47,7 +47,7 @@ seen-read stays s (more a b) h = ap (λ z. seen stays z b) (seen-read stays s a 
 seen-read stays s (node l c) h = seen-read_at stays s (seen stays s c) (IsRead stays s c) l (seen-read stays s c) h
 
 -- a tree without leaves is read
-read_at-leafless : (stays : Leaf → Bool) (s : List Leaf) (A : Type 0) (l : Label) → is_leaf l ≡ false → A → IsReadAt stays s l A
+read_at-leafless : (stays : Leaf → Bool) (s : List Leaf) (A : Type 0) (l : Label) → is_leaf l ≡ false → A → IsLabelRead stays s l A
 read_at-leafless stays s A (label.Leaf x) e h = absurd (let f : true ≡ false = e in cc)
 read_at-leafless stays s A (label.Bound o b n) e h = h
 read_at-leafless stays s A (label.Ty x) e h = h
@@ -64,7 +64,7 @@ read-leafless stays s (node l c) e =
     let h = both_false (is_leaf l) (any_label is_leaf c) e in read_at-leafless stays s (IsRead stays s c) l h.0 (read-leafless stays s c h.1)
 
 -- once its leaves are seen, a tree is read
-read_at-seen : (stays : Leaf → Bool) (s inside u : List Leaf) (A : Type 0) (l : Label) → (Extends inside u → A) → Extends (seen_node stays s l inside) u → IsReadAt stays u l A
+read_at-seen : (stays : Leaf → Bool) (s inside u : List Leaf) (A : Type 0) (l : Label) → (Extends inside u → A) → Extends (seen_node stays s l inside) u → IsLabelRead stays u l A
 read_at-seen stays s i u A (label.Leaf x) f h = λ e. h.within x (rw e (added-has s x))
 read_at-seen stays s i u A (label.Bound o b n) f h = f h
 read_at-seen stays s i u A (label.Ty x) f h = f h
@@ -79,7 +79,7 @@ read-seen stays s (more a b) u h = (read-seen stays s a u (extends-trans (extend
 read-seen stays s (node l c) u h = read_at-seen stays s (seen stays s c) u (IsRead stays u c) l (read-seen stays s c u) h
 
 -- .. and stays so when more is seen
-read_at-more : (stays : Leaf → Bool) (s u : List Leaf) (A B : Type 0) (l : Label) → ((m : Leaf) → Among s m → Among u m) → (A → B) → IsReadAt stays s l A → IsReadAt stays u l B
+read_at-more : (stays : Leaf → Bool) (s u : List Leaf) (A B : Type 0) (l : Label) → ((m : Leaf) → Among s m → Among u m) → (A → B) → IsLabelRead stays s l A → IsLabelRead stays u l B
 read_at-more stays s u A B (label.Leaf x) k f h = λ e. k x (h e)
 read_at-more stays s u A B (label.Bound o b n) k f h = f h
 read_at-more stays s u A B (label.Ty x) k f h = f h
@@ -161,26 +161,26 @@ AreDue-entered stays empty s = tt
 AreDue-entered stays (more a b) s = AreDue-append stays (entered b) (read a ∷ []) s tt (AreDue-entered stays b (seen stays s a))
 AreDue-entered stays (node l c) s = tt
 
-weights-append : (xs ys : List Job) → weights (xs ++ ys) ≡ weights xs + weights ys
-weights-append [] ys = omega arith
-weights-append (x ∷ xs) ys = omega (arith, weights-append xs ys)
+job_weights-append : (xs ys : List Job) → job_weights (xs ++ ys) ≡ job_weights xs + job_weights ys
+job_weights-append [] ys = omega arith
+job_weights-append (x ∷ xs) ys = omega (arith, job_weights-append xs ys)
 
-weights-entered : (c : Tree) → weights (entered c) ≤ 2 * size c
-weights-entered empty = omega arith
-weights-entered (more a b) = omega (arith, weights-append (entered b) (read a ∷ []), weights-entered b)
-weights-entered (node l c) = omega arith
+job_weights-entered : (c : Tree) → job_weights (entered c) ≤ 2 * size c
+job_weights-entered empty = omega arith
+job_weights-entered (more a b) = omega (arith, job_weights-append (entered b) (read a ∷ []), job_weights-entered b)
+job_weights-entered (node l c) = omega arith
 
 -- the last task with its place taken by others that show the same
 continues : (stays : Leaf → Bool) (ts : List Tree) (xs ys : List Task) (k : Task) (ws : List Job) (s u : List Leaf) (ns ms : List ℕ)
     → IsReading stays ts (xs ++ k ∷ []) s ns → TasksIn ts ys → jobs ts ys ≡ jobs ts xs ++ ws → seen_after stays ws u ≡ seen_after stays (job ts k ∷ []) s
-    → AreDue stays ws u → weights ws < weight (job ts k) → AreRead stays ts u ms → WalkGoesOn stays ts (xs ++ k ∷ []) s ns ys u ms
+    → AreDue stays ws u → job_weights ws < job_weight (job ts k) → AreRead stays ts u ms → WalkGoesOn stays ts (xs ++ k ∷ []) s ns ys u ms
 continues stays ts xs ys k ws s u ns ms h within are same due less done =
     let push = jobs-push ts xs k in
     let split = AreDue-split stays (jobs ts xs) (job ts k ∷ []) s (subst (λ z. AreDue stays z s) push h.due) in
-    let a = weights-append (jobs ts xs) ws in
-    let b = weights-append (jobs ts xs) (job ts k ∷ []) in
-    let c = ap weights are in
-    let d = ap weights push in
+    let a = job_weights-append (jobs ts xs) ws in
+    let b = job_weights-append (jobs ts xs) (job ts k ∷ []) in
+    let c = ap job_weights are in
+    let d = ap job_weights push in
     record {
       reading = record {
         within = within;
@@ -258,7 +258,7 @@ continues_down stays ts xs ys zs t l s ns h is n row y within are =
     let long : size u ≡ size c + 1 = ap size is in
     continues stays ts xs zs (task.Enter t) (finish u ∷ entered c) s s ns ns h within new inside
     (subst (λ z. IsRead stays z u) (sym inside) (read-seen stays s u (seen stays s u) (extends-self (seen stays s u))), AreDue-entered stays c s)
-    (omega (arith, long, weights-entered c)) h.are_read
+    (omega (arith, long, job_weights-entered c)) h.are_read
 
 -- a term is finished
 pub continues_finish : (stays : Leaf → Bool) (ts : List Tree) (xs : List Task) (t : NodeId) (s : List Leaf) (ns ms : List ℕ)

@@ -13,7 +13,7 @@ use Rattle.nts_model.specs.Canonical.Inputs.{Input, CanonicalInput as Form, is_s
 use Rattle.nts_model.proofs.Terms.Listed.{either, tell, same-yes, differ, original}
 use Rattle.nts_model.proofs.Canonical.Numbering.{extends-self, extends-trans, extends-seen, first_none, rest_none}
 use Rattle.nts_store.specs.Filled.{HasValue, HasValues}
-use Rattle.nts_canonical.specs.Collecting.{IsReadAt, IsRead}
+use Rattle.nts_canonical.specs.Collecting.{IsLabelRead, IsRead}
 use Rattle.nts_canonical.proofs.Gathering.{read-seen}
 use Rattle.nts_canonical.proofs.Canonizing.{numbered-environment, numbered-predicate, numbered-hidden}
 
@@ -35,7 +35,7 @@ has_value u x h = (omega (arith, number-within u x h, length-leaves u), ap kind_
 has_values-leaf : (stays : Leaf → Bool) (u : List Leaf) (x : Leaf) → (stays x ≡ false → Among u x) → HasValues (map leaf_tree u) (numbered_leaf stays u x)
 has_values-leaf stays u x h = elim (either (stays x)) [ inl e ↦ rw e (tt, tt) | inr e ↦ rw e (has_value u x (h e), tt) ]
 
-has_values-node : (stays : Leaf → Bool) (u : List Leaf) (A : Type 0) (l : Label) (d : Tree) → is_canonical l ≡ false → (A → HasValues (map leaf_tree u) d) → IsReadAt stays u l A → HasValues (map leaf_tree u) (put (numbered_leaf stays u) l d)
+has_values-node : (stays : Leaf → Bool) (u : List Leaf) (A : Type 0) (l : Label) (d : Tree) → is_canonical l ≡ false → (A → HasValues (map leaf_tree u) d) → IsLabelRead stays u l A → HasValues (map leaf_tree u) (put (numbered_leaf stays u) l d)
 has_values-node stays u A (label.Leaf x) d n f h = has_values-leaf stays u x h
 has_values-node stays u A (label.Bound s (index.Bound k) i) d n f h = (tt, f h)
 has_values-node stays u A (label.Bound s index.Canonical i) d n f h = absurd (let c : true ≡ false = n in cc)

@@ -6,7 +6,7 @@ use Rattle.nts_model.specs.declared.labels.Leaf.{Leaf}
 use Rattle.nts_model.specs.Terms.Substitutions.{leaf_sort}
 use Rattle.nts_model.specs.Lists.{Among}
 use Rattle.nts_model.specs.Canonical.Numbered.{number, AreDistinct}
-use Rattle.nts_model.specs.Canonical.Inputs.{sub_root_of, are_one, share, kind_at, position_kind}
+use Rattle.nts_model.specs.Canonical.Inputs.{sub_root_of, are_one, share, position_kind_at, position_kind}
 use Rattle.nts_model.proofs.Terms.Listed.{either, tell, same-yes}
 use Rattle.nts_unify.specs.Entries.{Entries}
 use Rattle.nts_canonical.specs.declared.types.CanonicalVarKind.{CanonicalVarKind}
@@ -47,9 +47,9 @@ map-take-more f xs i d l = ap (map f) (take_more xs i d l) ∙ map-push f (take 
 -- one more kind
 pub one_kind : (r : ℕ → ℕ) (ls : List Leaf) (roots : List (Option ℕ)) (ks us : List CanonicalVarKind) (k : CanonicalVarKind) (i first : ℕ) (d : Leaf) → AreDistinct ls → i < length ls
     → roots ≡ map (sub_root_of r) ls → map kind_of_var ks ≡ map (position_kind r ls) (take i ls) → first ≡ position_or_len (are_one (sub_root_of r (get_or ls i d))) roots
-    → kind_of_var k ≡ kind_at (leaf_sort (get_or ls i d)) first i → us ≡ ks ++ k ∷ [] → map kind_of_var us ≡ map (position_kind r ls) (take (i + 1) ls)
+    → kind_of_var k ≡ position_kind_at (leaf_sort (get_or ls i d)) first i → us ≡ ks ++ k ∷ [] → map kind_of_var us ≡ map (position_kind r ls) (take (i + 1) ls)
 one_kind r ls roots ks us k i first d a l q h f is u =
     let x = get_or ls i d in
     let place : first ≡ position_or_len (share r x) ls = f ∙ ap (position_or_len (are_one (sub_root_of r x))) q ∙ place-map (sub_root_of r) (are_one (sub_root_of r x)) ls in
-    let at : kind_of_var k ≡ position_kind r ls x = is ∙ ap (λ n. kind_at (leaf_sort x) n i) place ∙ ap (kind_at (leaf_sort x) (position_or_len (share r x) ls)) (sym (number-at ls i d a l)) in
+    let at : kind_of_var k ≡ position_kind r ls x = is ∙ ap (λ n. position_kind_at (leaf_sort x) n i) place ∙ ap (position_kind_at (leaf_sort x) (position_or_len (share r x) ls)) (sym (number-at ls i d a l)) in
     rw (u, map-push kind_of_var ks k, h, at) (sym (map-take-more (position_kind r ls) ls i d l))

@@ -21,7 +21,7 @@ pub record AreOnePair (ts : List Tree) (a b : AliasTerm × Ty) : Type 0 where
   pub hidden_type : tree_at ts a.1.node ≡ tree_at ts b.1.node
 
 -- the same terms, kinds and mode once more
-pub record IsCopy (a b : CanonicalInput) : Type 0 where
+pub record IsInputCopy (a b : CanonicalInput) : Type 0 where
   pub goal : b.canonical.value.goal ≡ a.canonical.value.goal
   pub hidden : b.canonical.value.predefined_opaques_in_body.items ≡ a.canonical.value.predefined_opaques_in_body.items
   pub kinds : b.canonical.var_kinds.items ≡ a.canonical.var_kinds.items

@@ -58,14 +58,14 @@ seen_after stays (read t ∷ js) s = seen stays (seen_after stays js s) t
 seen_after stays (finish t ∷ js) s = seen_after stays js s
 
 -- each leaf of the tree that doesn't stay is among those seen
-abbrev pub IsReadAt : (Leaf → Bool) → List Leaf → Label → Type 0 → Type 0
-IsReadAt stays s (label.Leaf x) inside = stays x ≡ false → Among s x
-IsReadAt stays s l inside = inside
+abbrev pub IsLabelRead : (Leaf → Bool) → List Leaf → Label → Type 0 → Type 0
+IsLabelRead stays s (label.Leaf x) inside = stays x ≡ false → Among s x
+IsLabelRead stays s l inside = inside
 
 abbrev pub IsRead : (Leaf → Bool) → List Leaf → Tree → Type 0
 IsRead stays s empty = Unit {0}
 IsRead stays s (more a b) = IsRead stays s a × IsRead stays s b
-IsRead stays s (node l c) = IsReadAt stays s l (IsRead stays s c)
+IsRead stays s (node l c) = IsLabelRead stays s l (IsRead stays s c)
 
 -- .. of each of these terms
 abbrev pub AreRead : (Leaf → Bool) → List Tree → List Leaf → List ℕ → Type 0
@@ -79,13 +79,13 @@ AreDue stays (read t ∷ js) s = AreDue stays js s
 AreDue stays (finish t ∷ js) s = IsRead stays (seen_after stays js s) t × AreDue stays js s
 
 -- how much there is to do
-abbrev pub weight : Job → ℕ
-weight (read t) = 2 * size t
-weight (finish t) = 1
+abbrev pub job_weight : Job → ℕ
+job_weight (read t) = 2 * size t
+job_weight (finish t) = 1
 
-abbrev pub weights : List Job → ℕ
-weights [] = 0
-weights (j ∷ js) = weight j + weights js
+abbrev pub job_weights : List Job → ℕ
+job_weights [] = 0
+job_weights (j ∷ js) = job_weight j + job_weights js
 
 -- a walk that has seen these leaves, and has finished these terms
 pub record IsReading (stays : Leaf → Bool) (ts : List Tree) (tasks : List Task) (s : List Leaf) (finished : List ℕ) : Type 0 where
@@ -97,4 +97,4 @@ pub record IsReading (stays : Leaf → Bool) (ts : List Tree) (tasks : List Task
 pub record WalkGoesOn (stays : Leaf → Bool) (ts : List Tree) (xs : List Task) (s : List Leaf) (ns : List ℕ) (ys : List Task) (u : List Leaf) (ms : List ℕ) : Type 0 where
   pub reading : IsReading stays ts ys u ms
   pub same : seen_after stays (jobs ts ys) u ≡ seen_after stays (jobs ts xs) s
-  pub less : weights (jobs ts ys) < weights (jobs ts xs)
+  pub less : job_weights (jobs ts ys) < job_weights (jobs ts xs)

@@ -21,9 +21,9 @@ IsNoPosition (node l c) = position_of l ≡ None
 IsNoPosition t = Unit {0}
 
 -- where the tree has values, an answer is the tree with them, and no answer is given for a position
-abbrev pub StandsFor : List Tree → Tree → Option Tree → Type 0
-StandsFor values x (Some y) = HasValues values x → y ≡ filled values x
-StandsFor values x None = HasValues values x → IsNoPosition x
+abbrev pub IsFoldAnswer : List Tree → Tree → Option Tree → Type 0
+IsFoldAnswer values x (Some y) = HasValues values x → y ≡ filled values x
+IsFoldAnswer values x None = HasValues values x → IsNoPosition x
 
 pub AreHeld-kept : (a b : List Tree) (xs : List GenericArg) → All (HoldsArg a) xs → Extends a b → All (HoldsArg b) xs
 AreHeld-kept a b xs h e = list_holds (HoldsArg a) (HoldsArg b) (λ x k. Holds-kept any_argument a b x.node k e) xs h

@@ -9,7 +9,7 @@ ghost use Rattle.nts_store.specs.Filled.{HasValues};
 ghost use Rattle.nts_terms.specs.Handles.{Holds, HoldsArg};
 ghost use Rattle.nts_terms.specs.Rest.{Grows};
 ghost use Rattle.nts_canonical.specs.Forms.{trees_of};
-ghost use Rattle.nts_canonical.specs.Folds.{StandsFor, AreHeld-kept, trees_of-kept};
+ghost use Rattle.nts_canonical.specs.Folds.{IsFoldAnswer, AreHeld-kept, trees_of-kept};
 
 use crate::types::Canonical;
 use nts_folding::{TermFolder, TypeFoldable};
@@ -54,7 +54,7 @@ impl TermFolder for Filler<'_> {
 
     ghost ready = { λ ts s. All (HoldsArg ts) s.values.now };
 
-    ghost answers = { λ s x o t. StandsFor s x o × (t ≡ s) };
+    ghost answers = { λ s x o t. IsFoldAnswer s x o × (t ≡ s) };
 
     ghost fails = { λ s o e. e ≡ Memory };
 
@@ -80,7 +80,7 @@ fn value_for<T: Stored>(cx: &Cx, values: &[GenericArg], t: T) -> Option<T>
     requires holds { Holds T.place cx.now.nodes (T.id t) }
     requires values { All (HoldsArg cx.now.nodes) values.now }
     ensures holds { IfSome result (λ r. Holds T.place cx.now.nodes (T.id r)) }
-    ensures stands { StandsFor (trees_of cx.now.nodes values.now) (tree_at cx.now.nodes (T.id t)) (option_map (λ r. tree_at cx.now.nodes (T.id r)) result) }
+    ensures stands { IsFoldAnswer (trees_of cx.now.nodes values.now) (tree_at cx.now.nodes (T.id t)) (option_map (λ r. tree_at cx.now.nodes (T.id r)) result) }
 {
     let node = t.node();
     // Most terms hold no such variable, and are left alone without a walk.

@@ -1,6 +1,6 @@
 //! Canonical values, and what their positions stand for.
 ghost use Rattle.std.specs.Prelude.{IfOk, IsOkUnless};
-ghost use Rattle.nts_canonical.specs.Alike.{IsCopy};
+ghost use Rattle.nts_canonical.specs.Alike.{IsInputCopy};
 
 use nts_folding::{TypeFoldable, TypeFolder};
 use nts_store::Fault;
@@ -77,7 +77,7 @@ pub struct CanonicalInput {
 impl CanonicalInput {
     /// The same input once more.
     pub fn clone(&self) -> Result<CanonicalInput, Fault>
-        ensures copy { IfOk result (IsCopy self.now) }
+        ensures copy { IfOk result (IsInputCopy self.now) }
         ensures memory { IsOkUnless result Fault.Memory }
     {
         let query = &self.canonical.value;

@@ -4,7 +4,7 @@ ghost use Rattle.std.specs.List.{position_or_len};
 ghost use Rattle.nts_model.specs.declared.labels.Leaf.{Leaf};
 ghost use Rattle.nts_model.specs.Terms.Substitutions.{leaf_sort};
 ghost use Rattle.nts_model.specs.Canonical.Numbered.{AreDistinct};
-ghost use Rattle.nts_model.specs.Canonical.Inputs.{sub_root_of, are_one, kind_at, position_kind};
+ghost use Rattle.nts_model.specs.Canonical.Inputs.{sub_root_of, are_one, position_kind_at, position_kind};
 ghost use Rattle.nts_unify.specs.Reading.{LinksDescend};
 ghost use Rattle.nts_canonical.specs.SubRoots.{sub_root_in};
 ghost use Rattle.nts_canonical.specs.Owned.{IsOwned, AreOwned};
@@ -90,7 +90,7 @@ fn are_one(a: Option<usize>, b: Option<usize>) -> bool
 
 /// The kind of the position of a leaf, where the first of its sub root is at `first`.
 fn kind_at(leaf: Leaf, first: usize, number: usize) -> CanonicalVarKind
-    ensures { kind_of_var result ≡ kind_at (leaf_sort leaf) first number }
+    ensures { kind_of_var result ≡ position_kind_at (leaf_sort leaf) first number }
 {
     match leaf {
         Leaf::Variable(VariableKind::Ty, _) => CanonicalVarKind::Ty {

@@ -9,7 +9,7 @@ use Rattle.nts_table.specs.TableLaws.{IsTable-opened}
 use Rattle.nts_queries.proofs.Evaluating.{IsPosed-opened}
 use Rattle.nts_contexts.specs.declared.context.EvalCtxt.{EvalCtxt}
 use Rattle.nts_queries.specs.Stepping.{ArePosed}
-use Rattle.nts_contexts.specs.Contexts.{IsReady, IsOpened, IsCopy, IsProbe, IsRoot}
+use Rattle.nts_contexts.specs.Contexts.{IsContextReady, IsOpened, IsCopy, IsProbe, IsRootContext}
 
 -- no goals
 pub none_posed : {ts : List Tree} {t : Table} → ArePosed ts t []
@@ -20,7 +20,7 @@ pub posed_opened : {ts : List Tree} {t u : Table} (gs : List (GoalSource × Goal
 posed_opened gs o h = λ k d l. IsPosed-opened (h k d l) o.entries o.saved
 
 -- a probe as it begins
-pub probe_begun : {H : Type 0} {ready : List Tree → H → Type 0} {a c : EvalCtxt H} → IsReady ready a → a.state.now.fault ≡ None → IsOpened a.table.now c.table.now → c.cx.now ≡ a.cx.now → c.handler ≡ a.handler → IsCopy a.state.now c.state.now → IsProbe ready a c
+pub probe_begun : {H : Type 0} {ready : List Tree → H → Type 0} {a c : EvalCtxt H} → IsContextReady ready a → a.state.now.fault ≡ None → IsOpened a.table.now c.table.now → c.cx.now ≡ a.cx.now → c.handler ≡ a.handler → IsCopy a.state.now c.state.now → IsProbe ready a c
 probe_begun {H} {ready} {a} {c} h none o x q s =
     record {
       is_ready = record {
@@ -40,7 +40,7 @@ probe_begun {H} {ready} {a} {c} h none o x q s =
 
 -- a root context as it begins
 pub root_begun : {H : Type 0} {ready : List Tree → H → Type 0} {t : Table} {s : Cx} {h : H} {n : ℕ} {c : EvalCtxt H} → IsTable s.nodes t → ready s.nodes h → IsOpened t c.table.now → c.cx.now ≡ s → c.handler.now ≡ h
-    → c.state.now.nested_goals.items ≡ [] → c.state.now.is_tainted ≡ false → c.state.now.fault ≡ None → c.state.now.last_steps ≡ 0 → c.state.now.root_depth ≡ n → IsRoot ready t s h n c
+    → c.state.now.nested_goals.items ≡ [] → c.state.now.is_tainted ≡ false → c.state.now.fault ≡ None → c.state.now.last_steps ≡ 0 → c.state.now.root_depth ≡ n → IsRootContext ready t s h n c
 root_begun w k o x q e t f z d =
     record {
       is_ready = record { table = rw x (IsTable-opened w o.entries o.saved); goals = rw e none_posed; handler = rw (x, q) k };

@@ -20,13 +20,13 @@ use Rattle.nts_contexts.specs.declared.state.EvalState.{EvalState}
 use Rattle.nts_contexts.specs.declared.context.EvalCtxt.{EvalCtxt}
 use Rattle.nts_contexts.specs.Faults.{fault_after}
 use Rattle.nts_queries.specs.Stepping.{ArePosed}
-use Rattle.nts_contexts.specs.Contexts.{IsReady, Keeps}
+use Rattle.nts_contexts.specs.Contexts.{IsContextReady, KeepsContext}
 
 fault-kept : (a b c : Option Fault) → IfSome a (λ f. b ≡ Some f) → IfSome b (λ f. c ≡ Some f) → IfSome a (λ f. c ≡ Some f)
 fault-kept None b c h k = tt
 fault-kept (Some f) b c h k = rw h at k
 
-pub keeps_then : {H : Type 0} {ready : List Tree → H → Type 0} {a b c : EvalCtxt H} → Keeps ready a b → Keeps ready b c → Keeps ready a c
+pub keeps_then : {H : Type 0} {ready : List Tree → H → Type 0} {a b c : EvalCtxt H} → KeepsContext ready a b → KeepsContext ready b c → KeepsContext ready a c
 keeps_then {H} {ready} {a} {b} {c} g h =
     record {
       table = h.table ∙ g.table;
@@ -59,7 +59,7 @@ same_fault : (o : Option Fault) → IfSome o (λ f. o ≡ Some f)
 same_fault None = tt
 same_fault (Some f) = refl
 
-pub keeps_refl : {H : Type 0} {ready : List Tree → H → Type 0} {a : EvalCtxt H} → IsReady ready a → Keeps ready a a
+pub keeps_refl : {H : Type 0} {ready : List Tree → H → Type 0} {a : EvalCtxt H} → IsContextReady ready a → KeepsContext ready a a
 keeps_refl {H} {ready} {a} h =
     record {
       table = refl;
@@ -79,9 +79,9 @@ first_kept None r = tt
 first_kept (Some f) r = refl
 
 -- a call that was refused: the table is as before, and what was answered was noted
-pub keeps_refused : {H : Type 0} {ready : List Tree → H → Type 0} {a b : EvalCtxt H} {R : Type 0} (r : Result R EvalError) → IsReady ready a
+pub keeps_refused : {H : Type 0} {ready : List Tree → H → Type 0} {a b : EvalCtxt H} {R : Type 0} (r : Result R EvalError) → IsContextReady ready a
     → b.table.ghost_name ≡ a.table.ghost_name → b.cx ≡ a.cx → b.handler ≡ a.handler → b.state.ghost_name ≡ a.state.ghost_name
-    → b.table.now ≡ a.table.now → b.state.now ≡ record a.state.now { fault = fault_after a.state.now.fault r } → Keeps ready a b
+    → b.table.now ≡ a.table.now → b.state.now ≡ record a.state.now { fault = fault_after a.state.now.fault r } → KeepsContext ready a b
 keeps_refused {H} {ready} {a} {b} r h nt nc nh ns t s =
     record {
       table = nt;
@@ -109,10 +109,10 @@ posed_after (Err x) gs hs more e q h p = rw q h
 
 -- a context without a fault after a call on its store and table, which left the state m with goals of both, and in which the answer was noted
 pub keeps_grown : {H : Type 0} {ready : List Tree → H → Type 0} {a b : EvalCtxt H} (m : EvalState) (f : Option Fault)
-    → ((x y : List Tree) (h : H) → ready x h → Extends x y → ready y h) → IsReady ready a
+    → ((x y : List Tree) (h : H) → ready x h → Extends x y → ready y h) → IsContextReady ready a
     → b.table.ghost_name ≡ a.table.ghost_name → b.cx.ghost_name ≡ a.cx.ghost_name → b.handler ≡ a.handler → b.state.ghost_name ≡ a.state.ghost_name
     → Runs a.cx.now b.cx.now a.table.now b.table.now → b.state.now ≡ record m { fault = f } → ArePosed b.cx.now.nodes b.table.now m.nested_goals.items
-    → a.state.now.fault ≡ None → m.is_tainted ≡ a.state.now.is_tainted → m.root_depth ≡ a.state.now.root_depth → Keeps ready a b
+    → a.state.now.fault ≡ None → m.is_tainted ≡ a.state.now.is_tainted → m.root_depth ≡ a.state.now.root_depth → KeepsContext ready a b
 keeps_grown {H} {ready} {a} {b} m f law h nt nc nh ns k s p none t d =
     let g = k.goes in
     record {
@@ -133,10 +133,10 @@ keeps_grown {H} {ready} {a} {b} m f law h nt nc nh ns k s p none t d =
 
 -- .. whose goals were of the store and the table before
 pub keeps_ran : {H : Type 0} {ready : List Tree → H → Type 0} {a b : EvalCtxt H} (m : EvalState) (f : Option Fault)
-    → ((x y : List Tree) (h : H) → ready x h → Extends x y → ready y h) → IsReady ready a
+    → ((x y : List Tree) (h : H) → ready x h → Extends x y → ready y h) → IsContextReady ready a
     → b.table.ghost_name ≡ a.table.ghost_name → b.cx.ghost_name ≡ a.cx.ghost_name → b.handler ≡ a.handler → b.state.ghost_name ≡ a.state.ghost_name
     → Runs a.cx.now b.cx.now a.table.now b.table.now → b.state.now ≡ record m { fault = f } → ArePosed a.cx.now.nodes a.table.now m.nested_goals.items
-    → a.state.now.fault ≡ None → m.is_tainted ≡ a.state.now.is_tainted → m.root_depth ≡ a.state.now.root_depth → Keeps ready a b
+    → a.state.now.fault ≡ None → m.is_tainted ≡ a.state.now.is_tainted → m.root_depth ≡ a.state.now.root_depth → KeepsContext ready a b
 keeps_ran m f law h nt nc nh ns k s p none t d = keeps_grown m f law h nt nc nh ns k s (posed_later m.nested_goals.items k.goes p) none t d
 
 -- a call that was answered met no fault

@@ -12,29 +12,29 @@ use Rattle.nts_table.specs.Tables.{Table, IsTable, IsSide, IsPlainSide}
 use Rattle.nts_queries.specs.Evaluation.{Goes, IsPosed}
 use Rattle.nts_queries.proofs.Evaluating.{IsPosed-opened, IsPosed-later, Knows-goes}
 use Rattle.nts_contexts.specs.declared.context.EvalCtxt.{EvalCtxt}
-use Rattle.nts_contexts.specs.Contexts.{IsGoalOf, Keeps, IsOpened, IsRoot, IsProbe}
+use Rattle.nts_contexts.specs.Contexts.{IsGoalOfContext, KeepsContext, IsOpened, IsRootContext, IsProbe}
 use Rattle.nts_contexts.specs.Related.{IsEnvOf}
 use Rattle.nts_contexts.proofs.Relates.{env_later}
 
-pub goal_in_root : {H : Type 0} {ready : List Tree → H → Type 0} {t : Table} {s : Cx} {h : H} {n : ℕ} {c : EvalCtxt H} {g : Goal} → IsRoot ready t s h n c → IsPosed s.nodes t g → IsGoalOf c g
+pub goal_in_root : {H : Type 0} {ready : List Tree → H → Type 0} {t : Table} {s : Cx} {h : H} {n : ℕ} {c : EvalCtxt H} {g : Goal} → IsRootContext ready t s h n c → IsPosed s.nodes t g → IsGoalOfContext c g
 goal_in_root r p = (let o = r.table in rw r.cx (IsPosed-opened p o.entries o.saved))
 
-pub goal_in_probe : {H : Type 0} {ready : List Tree → H → Type 0} {a c : EvalCtxt H} {g : Goal} → IsProbe ready a c → IsGoalOf a g → IsGoalOf c g
+pub goal_in_probe : {H : Type 0} {ready : List Tree → H → Type 0} {a c : EvalCtxt H} {g : Goal} → IsProbe ready a c → IsGoalOfContext a g → IsGoalOfContext c g
 goal_in_probe r p = (let o = r.table in rw r.cx (IsPosed-opened p o.entries o.saved))
 
-pub goal_later : {H : Type 0} {ready : List Tree → H → Type 0} {a b : EvalCtxt H} {g : Goal} → Keeps ready a b → IsGoalOf a g → IsGoalOf b g
+pub goal_later : {H : Type 0} {ready : List Tree → H → Type 0} {a b : EvalCtxt H} {g : Goal} → KeepsContext ready a b → IsGoalOfContext a g → IsGoalOfContext b g
 goal_later k p = (let r = k.runs in IsPosed-later r.goes p)
 
 env_opened : {a : Cx} {t u : Table} {env : ParamEnv} → IsOpened t u → IsEnvOf a t env → IsEnvOf a u env
 env_opened o s = (let e = o.entries in record { holds = s.holds; knows = rw e s.knows })
 
-pub env_in_root : {H : Type 0} {ready : List Tree → H → Type 0} {t : Table} {s : Cx} {h : H} {n : ℕ} {c : EvalCtxt H} {env : ParamEnv} → IsRoot ready t s h n c → IsEnvOf s t env → IsEnvOf c.cx.now c.table.now env
+pub env_in_root : {H : Type 0} {ready : List Tree → H → Type 0} {t : Table} {s : Cx} {h : H} {n : ℕ} {c : EvalCtxt H} {env : ParamEnv} → IsRootContext ready t s h n c → IsEnvOf s t env → IsEnvOf c.cx.now c.table.now env
 env_in_root r e = rw r.cx (env_opened r.table e)
 
 pub env_in_probe : {H : Type 0} {ready : List Tree → H → Type 0} {a c : EvalCtxt H} {env : ParamEnv} → IsProbe ready a c → IsEnvOf a.cx.now a.table.now env → IsEnvOf c.cx.now c.table.now env
 env_in_probe r e = rw r.cx (env_opened r.table e)
 
-pub env_kept : {H : Type 0} {ready : List Tree → H → Type 0} {a b : EvalCtxt H} {env : ParamEnv} → Keeps ready a b → IsEnvOf a.cx.now a.table.now env → IsEnvOf b.cx.now b.table.now env
+pub env_kept : {H : Type 0} {ready : List Tree → H → Type 0} {a b : EvalCtxt H} {env : ParamEnv} → KeepsContext ready a b → IsEnvOf a.cx.now a.table.now env → IsEnvOf b.cx.now b.table.now env
 env_kept k e = env_later k.runs e
 
 side_opened : {ts : List Tree} {t u : Table} {p : Place} {x : NodeId} → IsOpened t u → IsSide p ts t x → IsSide p ts u x
@@ -43,10 +43,10 @@ side_opened o s = (let e = o.entries in record { holds = s.holds; known = rw e s
 plain_opened : {ts : List Tree} {t u : Table} {p : Place} {x : NodeId} → IsOpened t u → IsPlainSide p ts t x → IsPlainSide p ts u x
 plain_opened o s = (let e = o.entries in record { holds = s.holds; known = rw e s.known; plain = rw e s.plain })
 
-pub side_in_root : {H : Type 0} {ready : List Tree → H → Type 0} {t : Table} {s : Cx} {h : H} {n : ℕ} {c : EvalCtxt H} {p : Place} {x : NodeId} → IsRoot ready t s h n c → IsSide p s.nodes t x → IsSide p c.cx.now.nodes c.table.now x
+pub side_in_root : {H : Type 0} {ready : List Tree → H → Type 0} {t : Table} {s : Cx} {h : H} {n : ℕ} {c : EvalCtxt H} {p : Place} {x : NodeId} → IsRootContext ready t s h n c → IsSide p s.nodes t x → IsSide p c.cx.now.nodes c.table.now x
 side_in_root r d = rw r.cx (side_opened r.table d)
 
-pub plain_in_root : {H : Type 0} {ready : List Tree → H → Type 0} {t : Table} {s : Cx} {h : H} {n : ℕ} {c : EvalCtxt H} {p : Place} {x : NodeId} → IsRoot ready t s h n c → IsPlainSide p s.nodes t x → IsPlainSide p c.cx.now.nodes c.table.now x
+pub plain_in_root : {H : Type 0} {ready : List Tree → H → Type 0} {t : Table} {s : Cx} {h : H} {n : ℕ} {c : EvalCtxt H} {p : Place} {x : NodeId} → IsRootContext ready t s h n c → IsPlainSide p s.nodes t x → IsPlainSide p c.cx.now.nodes c.table.now x
 plain_in_root r d = rw r.cx (plain_opened r.table d)
 
 pub side_in_probe : {H : Type 0} {ready : List Tree → H → Type 0} {a c : EvalCtxt H} {p : Place} {x : NodeId} → IsProbe ready a c → IsSide p a.cx.now.nodes a.table.now x → IsSide p c.cx.now.nodes c.table.now x
@@ -61,7 +61,7 @@ side_goes {a = a} {p = p} {x = x} g s =
     let h = s.holds in
     record { holds = Holds-extended p x e h; known = rw (e.kept x h.within) (Knows-goes (tree_at a x) g s.known) }
 
-pub side_later : {H : Type 0} {ready : List Tree → H → Type 0} {a b : EvalCtxt H} {p : Place} {x : NodeId} → Keeps ready a b → IsSide p a.cx.now.nodes a.table.now x → IsSide p b.cx.now.nodes b.table.now x
+pub side_later : {H : Type 0} {ready : List Tree → H → Type 0} {a b : EvalCtxt H} {p : Place} {x : NodeId} → KeepsContext ready a b → IsSide p a.cx.now.nodes a.table.now x → IsSide p b.cx.now.nodes b.table.now x
 side_later k d = (let r = k.runs in side_goes r.goes d)
 
 plain_extended : {a b : List Tree} {t u : Table} {p : Place} {x : NodeId} → Goes a b t u → IsTable a t → u ≡ t → IsPlainSide p a t x → IsPlainSide p b u x
@@ -73,7 +73,7 @@ plain_extended {p = p} {x = x} g w q s =
     record { holds = Holds-extended p x e h; known = rw (q, same, kept) s.known; plain = rw (q, same, kept) s.plain }
 
 -- no alias comes in where the table stays
-pub plain_later : {H : Type 0} {ready : List Tree → H → Type 0} {a b : EvalCtxt H} {p : Place} {x : NodeId} → Keeps ready a b → IsTable a.cx.now.nodes a.table.now → b.table.now ≡ a.table.now → IsPlainSide p a.cx.now.nodes a.table.now x → IsPlainSide p b.cx.now.nodes b.table.now x
+pub plain_later : {H : Type 0} {ready : List Tree → H → Type 0} {a b : EvalCtxt H} {p : Place} {x : NodeId} → KeepsContext ready a b → IsTable a.cx.now.nodes a.table.now → b.table.now ≡ a.table.now → IsPlainSide p a.cx.now.nodes a.table.now x → IsPlainSide p b.cx.now.nodes b.table.now x
 plain_later k w q d = (let r = k.runs in plain_extended r.goes w q d)
 
 pub ruleset handed = (goal_in_root, goal_in_probe, goal_later, env_in_root, env_in_probe, env_kept, side_in_root, plain_in_root, side_in_probe, plain_in_probe, side_later, plain_later)

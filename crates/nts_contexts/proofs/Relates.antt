@@ -24,7 +24,7 @@ use Rattle.nts_unify.specs.Reading.{content_of}
 use Rattle.nts_unify.specs.Changing.{HasClosedSides}
 use Rattle.nts_unify.proofs.Keeping.{sides-added}
 use Rattle.nts_table.specs.Tables.{Table, IsTable}
-use Rattle.nts_variance.specs.Walking.{IsGrown}
+use Rattle.nts_variance.specs.Walking.{IsTableGrown}
 use Rattle.nts_variance.specs.declared.along.Relating.{Relating as Pair}
 use Rattle.nts_solver_relating.specs.Sides.{IsRelatedBy, SolverRelatingKeeps, AreMadeEqual, AreGoalsOfPairs}
 use Rattle.nts_queries.specs.Evaluation.{Runs, IsPosed}
@@ -33,12 +33,12 @@ use Rattle.nts_queries.proofs.Evaluating.{goes, runs-back}
 use Rattle.nts_queries.proofs.Stepping.{posed_later}
 use Rattle.nts_contexts.specs.declared.state.EvalState.{EvalState}
 use Rattle.nts_contexts.specs.declared.context.EvalCtxt.{EvalCtxt}
-use Rattle.nts_contexts.specs.Contexts.{IsReady, Keeps}
+use Rattle.nts_contexts.specs.Contexts.{IsContextReady, KeepsContext}
 use Rattle.nts_contexts.specs.Related.{IsEnvOf, AddsRelated, AreEquatedIn}
 use Rattle.nts_contexts.proofs.Frames.{posed_more}
 
 -- what was recorded since is between closed terms
-closed_grown : {c d : Content} → IsGrown c d → HasClosedSides c → HasClosedSides d
+closed_grown : {c d : Content} → IsTableGrown c d → HasClosedSides c → HasClosedSides d
 closed_grown l h =
     record {
       left = sides-added (λ x. IsClosed x.left) (λ x s. s.left) l.visible h.left;

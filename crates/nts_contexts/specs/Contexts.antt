@@ -22,23 +22,23 @@ abbrev pub tree_in : {H : Type 0} → EvalCtxt H → NodeId → Tree
 tree_in c n = tree_at c.cx.now.nodes n
 
 -- a goal of the context's store and table
-abbrev pub IsGoalOf : {H : Type 0} → EvalCtxt H → Goal → Type 0
-IsGoalOf c g = IsPosed c.cx.now.nodes c.table.now g
+abbrev pub IsGoalOfContext : {H : Type 0} → EvalCtxt H → Goal → Type 0
+IsGoalOfContext c g = IsPosed c.cx.now.nodes c.table.now g
 
 -- the context's table, goals and handler are of its store
-pub record IsReady {H : Type 0} (ready : List Tree → H → Type 0) (c : EvalCtxt H) : Type 0 where
+pub record IsContextReady {H : Type 0} (ready : List Tree → H → Type 0) (c : EvalCtxt H) : Type 0 where
   pub table : IsTable c.cx.now.nodes c.table.now
   pub goals : ArePosed c.cx.now.nodes c.table.now c.state.now.nested_goals.items
   pub handler : ready c.cx.now.nodes c.handler.now
 
 -- what each call leaves of a context: its parts are the same, store and table went on, a fault and the taint stay
-pub record Keeps {H : Type 0} (ready : List Tree → H → Type 0) (old new : EvalCtxt H) : Type 0 where
+pub record KeepsContext {H : Type 0} (ready : List Tree → H → Type 0) (old new : EvalCtxt H) : Type 0 where
   pub table : new.table.ghost_name ≡ old.table.ghost_name
   pub cx : new.cx.ghost_name ≡ old.cx.ghost_name
   pub state : new.state.ghost_name ≡ old.state.ghost_name
   pub handler : new.handler ≡ old.handler
   pub runs : Runs old.cx.now new.cx.now old.table.now new.table.now
-  pub is_ready : IsReady ready new
+  pub is_ready : IsContextReady ready new
   pub fault : IfSome old.state.now.fault (λ f. new.state.now.fault ≡ Some f)
   pub taint : old.state.now.is_tainted ≡ true → new.state.now.is_tainted ≡ true
   pub depth : new.state.now.root_depth ≡ old.state.now.root_depth
@@ -63,8 +63,8 @@ pub record IsOpened (t u : Table) : Type 0 where
   pub mode : u.mode ≡ t.mode
 
 -- a root context as it begins, over this table, store and handler
-pub record IsRoot {H : Type 0} (ready : List Tree → H → Type 0) (t : Table) (s : Cx) (h : H) (n : ℕ) (c : EvalCtxt H) : Type 0 where
-  pub is_ready : IsReady ready c
+pub record IsRootContext {H : Type 0} (ready : List Tree → H → Type 0) (t : Table) (s : Cx) (h : H) (n : ℕ) (c : EvalCtxt H) : Type 0 where
+  pub is_ready : IsContextReady ready c
   pub table : IsOpened t c.table.now
   pub cx : c.cx.now ≡ s
   pub handler : c.handler.now ≡ h
@@ -76,7 +76,7 @@ pub record IsRoot {H : Type 0} (ready : List Tree → H → Type 0) (t : Table) 
 
 -- the context of a probe as it begins, in that context
 pub record IsProbe {H : Type 0} (ready : List Tree → H → Type 0) (outer c : EvalCtxt H) : Type 0 where
-  pub is_ready : IsReady ready c
+  pub is_ready : IsContextReady ready c
   pub table : IsOpened outer.table.now c.table.now
   pub cx : c.cx.now ≡ outer.cx.now
   pub handler : c.handler ≡ outer.handler
@@ -87,7 +87,7 @@ pub record IsProbe {H : Type 0} (ready : List Tree → H → Type 0) (outer c : 
   pub depth : c.state.now.root_depth ≡ outer.state.now.root_depth
 
 -- a closure whose calls are such was called with a context that begins so, answered r, and left a context like that
-pub record IsRun {H R : Type 0} (calls : MutBor (EvalCtxt H) → R → MutBor (EvalCtxt H) → Type 0) (begins : EvalCtxt H → Type 0) (r : R) (leaves : EvalCtxt H → Type 0) : Type 0 where
+pub record IsContextRun {H R : Type 0} (calls : MutBor (EvalCtxt H) → R → MutBor (EvalCtxt H) → Type 0) (begins : EvalCtxt H → Type 0) (r : R) (leaves : EvalCtxt H → Type 0) : Type 0 where
   pub before : MutBor (EvalCtxt H)
   pub after : MutBor (EvalCtxt H)
   pub begun : begins before.now
@@ -95,7 +95,7 @@ pub record IsRun {H R : Type 0} (calls : MutBor (EvalCtxt H) → R → MutBor (E
   pub left : leaves after.now
 
 -- what a root context leaves: its store, and its table where it was answered; it has no fault
-pub record IsLeft {H R E : Type 0} (r : Result R E) (t : Table) (s : Cx) (c : EvalCtxt H) : Type 0 where
+pub record IsLeftByRoot {H R E : Type 0} (r : Result R E) (t : Table) (s : Cx) (c : EvalCtxt H) : Type 0 where
   pub cx : s ≡ c.cx.now
   pub table : OnOk r (t.entries ≡ c.table.now.entries)
   pub fault : c.state.now.fault ≡ None

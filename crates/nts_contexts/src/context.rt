@@ -5,7 +5,7 @@ ghost use Rattle.nts_store.specs.Errors.{error_of};
 ghost use Rattle.nts_table.specs.Tables.{IsTable};
 ghost use Rattle.nts_queries.specs.Evaluation.{Runs};
 ghost use Rattle.nts_contexts.specs.Faults.{fault_of, fault_in, fault_after, AnsweredNoFault};
-ghost use Rattle.nts_contexts.specs.Contexts.{IsReady, Keeps, IsOpened, IsRoot, IsProbe, IsRun, IsLeft, IsCopy, EvaluatedNothing};
+ghost use Rattle.nts_contexts.specs.Contexts.{IsContextReady, KeepsContext, IsOpened, IsRootContext, IsProbe, IsContextRun, IsLeftByRoot, IsCopy, EvaluatedNothing};
 
 use crate::state::EvalState;
 use nts_delegate::GoalHandler;
@@ -35,12 +35,12 @@ impl<'a, H: GoalHandler> EvalCtxt<'a, H> {
     ) -> Result<R, EvalError>
         requires table { IsTable cx.old.nodes table.old }
         requires ready { H.ready cx.old.nodes handler.now }
-        requires callable { (before : MutBor (EvalCtxt H)) → IsRoot H.ready table.old cx.old handler.now root_depth before.now → F.pre f before }
-        requires keeps { (before : _) (r : _) (after : _) → F.post f before r after → IsReady H.ready before.now → Keeps H.ready before.now after.now }
-        requires no_goals { (before : _) (r : _) (after : _) → F.post f before r after → IsRoot H.ready table.old cx.old handler.now root_depth before.now → OnOk r (after.now.state.now.nested_goals.items ≡ []) }
+        requires callable { (before : MutBor (EvalCtxt H)) → IsRootContext H.ready table.old cx.old handler.now root_depth before.now → F.pre f before }
+        requires keeps { (before : _) (r : _) (after : _) → F.post f before r after → IsContextReady H.ready before.now → KeepsContext H.ready before.now after.now }
+        requires no_goals { (before : _) (r : _) (after : _) → F.post f before r after → IsRootContext H.ready table.old cx.old handler.now root_depth before.now → OnOk r (after.now.state.now.nested_goals.items ≡ []) }
         ensures runs { Runs cx.old cx.new table.old table.new }
         ensures err { OnErr result (table.new ≡ table.old) }
-        ensures answers { AnsweredNoFault result → IsRun (λ b r a. F.post f b r a) (IsRoot H.ready table.old cx.old handler.now root_depth) result (IsLeft result table.new cx.new) }
+        ensures answers { AnsweredNoFault result → IsContextRun (λ b r a. F.post f b r a) (IsRootContext H.ready table.old cx.old handler.now root_depth) result (IsLeftByRoot result table.new cx.new) }
     {
         let snapshot = table.start_snapshot()?;
         let mut state = EvalState {
@@ -76,14 +76,14 @@ impl<'a, H: GoalHandler> EvalCtxt<'a, H> {
         &mut self,
         f: F,
     ) -> Result<R, EvalError>
-        requires ready { IsReady H.ready self.old }
+        requires ready { IsContextReady H.ready self.old }
         requires callable { (before : MutBor (EvalCtxt H)) → IsProbe H.ready self.old before.now → F.pre f before }
-        requires keeps { (before : _) (r : _) (after : _) → F.post f before r after → IsReady H.ready before.now → Keeps H.ready before.now after.now }
-        ensures keeps { Keeps H.ready self.old self.new }
+        requires keeps { (before : _) (r : _) (after : _) → F.post f before r after → IsContextReady H.ready before.now → KeepsContext H.ready before.now after.now }
+        ensures keeps { KeepsContext H.ready self.old self.new }
         ensures table { self.new.table.now ≡ self.old.table.now }
         ensures goals { self.new.state.now.nested_goals.items ≡ self.old.state.now.nested_goals.items }
         ensures nothing { EvaluatedNothing self.old.state.now self.new.state.now }
-        ensures answers { AnsweredNoFault result → IsRun (λ b r a. F.post f b r a) (IsProbe H.ready self.old) result (λ c. c.state.now.fault ≡ self.new.state.now.fault) }
+        ensures answers { AnsweredNoFault result → IsContextRun (λ b r a. F.post f b r a) (IsProbe H.ready self.old) result (λ c. c.state.now.fault ≡ self.new.state.now.fault) }
         ensures noted { IfSome (fault_in result) (λ f. IsSome self.new.state.now.fault) }
         ensures faulted { IfSome self.old.state.now.fault (λ f. result ≡ Err (error_of f)) }
     {

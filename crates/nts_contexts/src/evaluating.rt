@@ -8,7 +8,7 @@ ghost use Rattle.nts_queries.specs.Answering.{told_in};
 ghost use Rattle.nts_queries.specs.Meant.{Since, IsProvedSince, ReachesBy, RefusesOneOf};
 ghost use Rattle.nts_queries.specs.Stepping.{AreLeft, AreSettled};
 ghost use Rattle.nts_contexts.specs.Faults.{fault_after, tainted_after};
-ghost use Rattle.nts_contexts.specs.Contexts.{IsReady, Keeps, content_in};
+ghost use Rattle.nts_contexts.specs.Contexts.{IsContextReady, KeepsContext, content_in};
 
 use crate::context::EvalCtxt;
 use nts_certainty::Certainty;
@@ -23,8 +23,8 @@ impl<H: GoalHandler> EvalCtxt<'_, H> {
     /// Evaluates the goals that were added, in steps, until a step finds nothing out, or as often as the store's limit says: then
     /// it is an overflow. The goals that are not proved are left. After `NoSolution` the context is tainted.
     pub fn try_evaluate_added_goals(&mut self) -> Result<Certainty, EvalError>
-        requires ready { IsReady H.ready self.old }
-        ensures keeps { Keeps H.ready self.old self.new }
+        requires ready { IsContextReady H.ready self.old }
+        ensures keeps { KeepsContext H.ready self.old self.new }
         ensures steps { self.old.state.now.fault ≡ None → self.new.state.now.last_steps ≤ self.old.cx.now.step_limit }
         ensures left { AreLeft self.old.state.now.nested_goals.items self.new.state.now.nested_goals.items }
         ensures proved { (s : Since (λ ts. H.ready ts self.old.handler.now) self.old.cx.now.nodes) → OnOk result (AreSettled (λ z. IsProvedSince (λ ts. H.handler ts self.old.handler.now) s self.old.table.now.mode self.new.cx.now.nodes self.new.table.now z.1) self.old.state.now.nested_goals.items self.new.state.now.nested_goals.items) }
@@ -60,8 +60,8 @@ impl<H: GoalHandler> EvalCtxt<'_, H> {
         &mut self,
         shallow_certainty: Certainty,
     ) -> Result<CanonicalResponse, EvalError>
-        requires ready { IsReady H.ready self.old }
-        ensures keeps { Keeps H.ready self.old self.new }
+        requires ready { IsContextReady H.ready self.old }
+        ensures keeps { KeepsContext H.ready self.old self.new }
         ensures left { AreLeft self.old.state.now.nested_goals.items self.new.state.now.nested_goals.items }
         ensures proved { (s : Since (λ ts. H.ready ts self.old.handler.now) self.old.cx.now.nodes) → OnOk result (AreSettled (λ z. IsProvedSince (λ ts. H.handler ts self.old.handler.now) s self.old.table.now.mode self.new.cx.now.nodes self.new.table.now z.1) self.old.state.now.nested_goals.items self.new.state.now.nested_goals.items) }
         ensures certain { IfOk result (λ r. r.value.certainty ≡ certainty.Yes → (shallow_certainty ≡ certainty.Yes) × (self.new.state.now.nested_goals.items ≡ [])) }

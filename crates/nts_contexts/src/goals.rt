@@ -2,7 +2,7 @@
 ghost use Rattle.std.specs.Prelude.{◌≡◌, ◌++◌, ◌∷◌, [], map, All, Ok, None, Err, IfSome, OnOk, OnErr};
 ghost use Rattle.nts_store.specs.Errors.{error_of};
 ghost use Rattle.nts_contexts.specs.Faults.{fault_after};
-ghost use Rattle.nts_contexts.specs.Contexts.{IsReady, Keeps, IsGoalOf, EvaluatedNothing};
+ghost use Rattle.nts_contexts.specs.Contexts.{IsContextReady, KeepsContext, IsGoalOfContext, EvaluatedNothing};
 
 use crate::context::EvalCtxt;
 use nts_certainty::GoalSource;
@@ -13,9 +13,9 @@ use nts_terms::Goal;
 impl<H: GoalHandler> EvalCtxt<'_, H> {
     /// Adds a goal that is to hold, after those that were added before.
     pub fn add_goal(&mut self, source: GoalSource, goal: Goal) -> Result<(), EvalError>
-        requires ready { IsReady H.ready self.old }
-        requires goal { IsGoalOf self.old goal }
-        ensures keeps { Keeps H.ready self.old self.new }
+        requires ready { IsContextReady H.ready self.old }
+        requires goal { IsGoalOfContext self.old goal }
+        ensures keeps { KeepsContext H.ready self.old self.new }
         ensures table { self.new.table.now ≡ self.old.table.now }
         ensures cx { self.new.cx.now ≡ self.old.cx.now }
         ensures ok { OnOk result (self.new.state.now.nested_goals.items ≡ self.old.state.now.nested_goals.items ++ (source, goal) ∷ []) }
@@ -31,9 +31,9 @@ impl<H: GoalHandler> EvalCtxt<'_, H> {
 
     /// Adds goals that are to hold, in order, all or none of them.
     pub fn add_goals(&mut self, source: GoalSource, goals: &[Goal]) -> Result<(), EvalError>
-        requires ready { IsReady H.ready self.old }
-        requires goals { All (IsGoalOf self.old) goals.now }
-        ensures keeps { Keeps H.ready self.old self.new }
+        requires ready { IsContextReady H.ready self.old }
+        requires goals { All (IsGoalOfContext self.old) goals.now }
+        ensures keeps { KeepsContext H.ready self.old self.new }
         ensures table { self.new.table.now ≡ self.old.table.now }
         ensures cx { self.new.cx.now ≡ self.old.cx.now }
         ensures ok { OnOk result (self.new.state.now.nested_goals.items ≡ self.old.state.now.nested_goals.items ++ map (λ g. (source, g)) goals.now) }

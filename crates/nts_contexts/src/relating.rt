@@ -13,7 +13,7 @@ ghost use Rattle.nts_solver_relating.specs.Sides.{ArePlain, AreMadeEqual, IsRela
 ghost use Rattle.nts_queries.specs.Evaluation.{Runs};
 ghost use Rattle.nts_contexts.specs.Related.{IsEnvOf, AddsRelated, AreEquatedIn, KeepsState};
 ghost use Rattle.nts_contexts.specs.Faults.{fault_after};
-ghost use Rattle.nts_contexts.specs.Contexts.{IsReady, IsGoalOf, Keeps, EvaluatedNothing, content_in, tree_in};
+ghost use Rattle.nts_contexts.specs.Contexts.{IsContextReady, IsGoalOfContext, KeepsContext, EvaluatedNothing, content_in, tree_in};
 
 use crate::context::EvalCtxt;
 use crate::state::EvalState;
@@ -94,11 +94,11 @@ impl<H: GoalHandler> EvalCtxt<'_, H> {
         variance: Variance,
         rhs: T,
     ) -> Result<(), EvalError>
-        requires ready { IsReady H.ready self.old }
+        requires ready { IsContextReady H.ready self.old }
         requires env { IsEnvOf self.old.cx.now self.old.table.now env }
         requires left { IsSide T.place self.old.cx.now.nodes self.old.table.now (T.id lhs) }
         requires right { IsSide T.place self.old.cx.now.nodes self.old.table.now (T.id rhs) }
-        ensures keeps { Keeps H.ready self.old self.new }
+        ensures keeps { KeepsContext H.ready self.old self.new }
         ensures heads { OnOk result (T.head lhs ≡ T.head rhs) }
         ensures related { OnOk result (AddsRelated self.old.cx.now self.new.cx.now self.old.table.now self.new.table.now self.old.state.now self.new.state.now env variance (T.id lhs) (T.id rhs)) }
         ensures equal { ArePlain variance (content_in self.old) (tree_in self.old (T.id lhs)) (tree_in self.old (T.id rhs)) → OnOk result (AreEquatedIn self.old.cx.now self.new.cx.now self.old.table.now self.new.table.now self.old.state.now self.new.state.now (T.id lhs) (T.id rhs)) }
@@ -117,11 +117,11 @@ impl<H: GoalHandler> EvalCtxt<'_, H> {
 
     /// Relates two values so that the first is the lesser one: as `relate` does by the covariant variance.
     pub fn sub<T: Relate>(&mut self, env: ParamEnv, sub: T, sup: T) -> Result<(), EvalError>
-        requires ready { IsReady H.ready self.old }
+        requires ready { IsContextReady H.ready self.old }
         requires env { IsEnvOf self.old.cx.now self.old.table.now env }
         requires left { IsSide T.place self.old.cx.now.nodes self.old.table.now (T.id sub) }
         requires right { IsSide T.place self.old.cx.now.nodes self.old.table.now (T.id sup) }
-        ensures keeps { Keeps H.ready self.old self.new }
+        ensures keeps { KeepsContext H.ready self.old self.new }
         ensures heads { OnOk result (T.head sub ≡ T.head sup) }
         ensures related { OnOk result (AddsRelated self.old.cx.now self.new.cx.now self.old.table.now self.new.table.now self.old.state.now self.new.state.now env variances.Covariant (T.id sub) (T.id sup)) }
         ensures no { result ≡ Err EvalError.NoSolution → T.head sub ≡ T.head sup → RefusesSides (variances_in self.old.cx.now.declarations) (content_in self.old) variances.Covariant (tree_in self.old (T.id sub)) (tree_in self.old (T.id sup)) }
@@ -137,11 +137,11 @@ impl<H: GoalHandler> EvalCtxt<'_, H> {
     /// Makes two values equal, and adds the goals that are left: as `relate` does by the invariant variance. Where no alias stands in
     /// the two, none is left.
     pub fn eq<T: Relate>(&mut self, env: ParamEnv, lhs: T, rhs: T) -> Result<(), EvalError>
-        requires ready { IsReady H.ready self.old }
+        requires ready { IsContextReady H.ready self.old }
         requires env { IsEnvOf self.old.cx.now self.old.table.now env }
         requires left { IsSide T.place self.old.cx.now.nodes self.old.table.now (T.id lhs) }
         requires right { IsSide T.place self.old.cx.now.nodes self.old.table.now (T.id rhs) }
-        ensures keeps { Keeps H.ready self.old self.new }
+        ensures keeps { KeepsContext H.ready self.old self.new }
         ensures heads { OnOk result (T.head lhs ≡ T.head rhs) }
         ensures related { OnOk result (AddsRelated self.old.cx.now self.new.cx.now self.old.table.now self.new.table.now self.old.state.now self.new.state.now env variances.Invariant (T.id lhs) (T.id rhs)) }
         ensures equal { ArePlain variances.Invariant (content_in self.old) (tree_in self.old (T.id lhs)) (tree_in self.old (T.id rhs)) → OnOk result (AreEquatedIn self.old.cx.now self.new.cx.now self.old.table.now self.new.table.now self.old.state.now self.new.state.now (T.id lhs) (T.id rhs)) }
@@ -164,12 +164,12 @@ impl<H: GoalHandler> EvalCtxt<'_, H> {
         lhs: T,
         rhs: T,
     ) -> Result<Vec<Goal>, EvalError>
-        requires ready { IsReady H.ready self.old }
+        requires ready { IsContextReady H.ready self.old }
         requires env { IsEnvOf self.old.cx.now self.old.table.now env }
         requires left { IsSide T.place self.old.cx.now.nodes self.old.table.now (T.id lhs) }
         requires right { IsSide T.place self.old.cx.now.nodes self.old.table.now (T.id rhs) }
-        ensures keeps { Keeps H.ready self.old self.new }
-        ensures posed { IfOk result (λ gs. All (IsGoalOf self.new) gs.items) }
+        ensures keeps { KeepsContext H.ready self.old self.new }
+        ensures posed { IfOk result (λ gs. All (IsGoalOfContext self.new) gs.items) }
         ensures goals { self.new.state.now.nested_goals.items ≡ self.old.state.now.nested_goals.items }
         ensures heads { OnOk result (T.head lhs ≡ T.head rhs) }
         ensures related { IfOk result (λ gs. IsRelatedBy (variances_in self.old.cx.now.declarations) self.old.cx.now.nodes self.new.cx.now.nodes self.old.table.now.entries self.new.table.now.entries env variances.Invariant (tree_in self.old (T.id lhs)) (tree_in self.old (T.id rhs)) gs.items) }
@@ -196,10 +196,10 @@ impl<H: GoalHandler> EvalCtxt<'_, H> {
         lhs: T,
         rhs: T,
     ) -> Result<(), EvalError>
-        requires ready { IsReady H.ready self.old }
+        requires ready { IsContextReady H.ready self.old }
         requires left { IsSide T.place self.old.cx.now.nodes self.old.table.now (T.id lhs) }
         requires right { IsSide T.place self.old.cx.now.nodes self.old.table.now (T.id rhs) }
-        ensures keeps { Keeps H.ready self.old self.new }
+        ensures keeps { KeepsContext H.ready self.old self.new }
         ensures goals { self.new.state.now.nested_goals.items ≡ self.old.state.now.nested_goals.items }
         ensures heads { OnOk result (T.head lhs ≡ T.head rhs) }
         ensures related { OnOk result (AreRelated (content_in self.old) (content_in self.new) (tree_in self.old (T.id lhs)) (tree_in self.old (T.id rhs))) }

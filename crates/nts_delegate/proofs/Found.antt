@@ -12,8 +12,8 @@ use Rattle.nts_store.specs.Growth.{tree_at}
 use Rattle.nts_terms.specs.declared.handles.Goal.{Goal}
 use Rattle.nts_delegate.specs.declared.delegate.CandidateData.{CandidateData}
 use Rattle.nts_delegate.specs.declared.clauses.Clause.{Clause}
-use Rattle.nts_delegate.specs.Candidates.{IsAsked, AreCandidates}
-use Rattle.nts_delegate.specs.Clauses.{HoldsClause, AreClauses, head_of}
+use Rattle.nts_delegate.specs.Candidates.{IsAskedIn, AreCandidates}
+use Rattle.nts_delegate.specs.Clauses.{HoldsClause, AreClauses, head_of_clause}
 use Rattle.nts_delegate.specs.ClauseHandlers.{equations_of, offer_by, takes_all, offers_of_clauses, clause_tree}
 use Rattle.nts_delegate.specs.ClausesLawful.{offer_read}
 use Rattle.nts_delegate.specs.Offered.{candidate_of, candidates_of}
@@ -78,7 +78,7 @@ module _ (ts : List Tree) (g : Goal) (args : Tree) where
       ∙ ap (map (offer_by env (children args))) (filter_left (takes_all (children args)) (map (clause_tree ts) cs) (clause_tree ts c) t)
 
   -- one clause more: it offers, or takes another number of arguments, or is irrelevant
-  pub found_offer : (cs : List Clause) (c : Clause) (ds es : List CandidateData) (d : CandidateData) → IsFound cs ds → takes_all (children args) (clause_tree ts c) ≡ true → IsAsked ts g → HoldsClause ts c → IsPart (tree_at ts g.predicate.node) args → AreClosedArguments args
+  pub found_offer : (cs : List Clause) (c : Clause) (ds es : List CandidateData) (d : CandidateData) → IsFound cs ds → takes_all (children args) (clause_tree ts c) ≡ true → IsAskedIn ts g → HoldsClause ts c → IsPart (tree_at ts g.predicate.node) args → AreClosedArguments args
       → IsOffer ts g args c d → es ≡ ds ++ d ∷ [] → IsFound (cs ++ c ∷ []) es
   found_offer cs c ds es d f t a h p closed o e =
       let last = offered (candidate_of ts d) f.leaves_out in
@@ -93,13 +93,13 @@ module _ (ts : List Tree) (g : Goal) (args : Tree) where
   found_untaken cs c ds f t =
       record { leaves_out = subst (λ x. LeavesOut x (candidates_of ts ds)) (sym (offers_same cs c t)) f.leaves_out; candidates = f.candidates }
 
-  found_irrelevant : (cs : List Clause) (c : Clause) (ds : List CandidateData) (k : TyHead) → first_built_by (children args) ≡ Some k → may_be_built_by k (head_of ts c) ≡ false → IsFound cs ds → IsFound (cs ++ c ∷ []) ds
+  found_irrelevant : (cs : List Clause) (c : Clause) (ds : List CandidateData) (k : TyHead) → first_built_by (children args) ≡ Some k → may_be_built_by k (head_of_clause ts c) ≡ false → IsFound cs ds → IsFound (cs ++ c ∷ []) ds
   found_irrelevant cs c ds k first n f = by_case (takes_all (children args) (clause_tree ts c)) refl
     where
       by_case : (b : Bool) → takes_all (children args) (clause_tree ts c) ≡ b → IsFound (cs ++ c ∷ []) ds
       by_case false t = found_untaken cs c ds f t
       by_case true t =
-          let o = other_head k (head_of ts c) n in
+          let o = other_head k (head_of_clause ts c) n in
           let x = offer_by env (children args) (clause_tree ts c) in
           let out = irrelevant (children args) (children (tree_at ts c.head.node)) k o.head x first o.is o.other refl in
           record { leaves_out = subst (λ y. LeavesOut y (candidates_of ts ds)) (sym (offers_more cs c t)) (left_out x f.leaves_out out); candidates = f.candidates }
@@ -109,7 +109,7 @@ module _ (ts : List Tree) (g : Goal) (args : Tree) where
     pub done : List Clause
     pub left : List Clause
     pub split : cs ≡ done ++ left
-    pub places : ps ≡ places_from (may_be_built_by k) (length done) (map (head_of ts) left)
+    pub places : ps ≡ places_from (may_be_built_by k) (length done) (map (head_of_clause ts) left)
     pub found : IsFound done ds
 
   -- the clause at the next place
@@ -119,23 +119,23 @@ module _ (ts : List Tree) (g : Goal) (args : Tree) where
     pub left : List Clause
     pub split : cs ≡ done ++ clause ∷ left
     pub number : length done ≡ m
-    pub places : rest ≡ places_from (may_be_built_by k) (suc m) (map (head_of ts) left)
+    pub places : rest ≡ places_from (may_be_built_by k) (suc m) (map (head_of_clause ts) left)
     pub found : IsFound done ds
 
   next_from : (k : TyHead) → first_built_by (children args) ≡ Some k → (left done cs : List Clause) (ds : List CandidateData) (m : ℕ) (rest : List ℕ) → cs ≡ done ++ left
-      → m ∷ rest ≡ places_from (may_be_built_by k) (length done) (map (head_of ts) left) → IsFound done ds → IsNext k cs ds m rest
+      → m ∷ rest ≡ places_from (may_be_built_by k) (length done) (map (head_of_clause ts) left) → IsFound done ds → IsNext k cs ds m rest
   next_from k first [] done cs ds m rest s e f = cc e
-  next_from k first (c ∷ left) done cs ds m rest s e f = by_case (may_be_built_by k (head_of ts c)) refl e (λ q p g. next_from k first left (done ++ c ∷ []) cs ds m rest q p g)
+  next_from k first (c ∷ left) done cs ds m rest s e f = by_case (may_be_built_by k (head_of_clause ts c)) refl e (λ q p g. next_from k first left (done ++ c ∷ []) cs ds m rest q p g)
     where
-      by_case : (b : Bool) → may_be_built_by k (head_of ts c) ≡ b → m ∷ rest ≡ cond b (length done ∷ places_from (may_be_built_by k) (suc (length done)) (map (head_of ts) left)) (places_from (may_be_built_by k) (suc (length done)) (map (head_of ts) left))
-          → (cs ≡ (done ++ c ∷ []) ++ left → m ∷ rest ≡ places_from (may_be_built_by k) (length (done ++ c ∷ [])) (map (head_of ts) left) → IsFound (done ++ c ∷ []) ds → IsNext k cs ds m rest) → IsNext k cs ds m rest
+      by_case : (b : Bool) → may_be_built_by k (head_of_clause ts c) ≡ b → m ∷ rest ≡ cond b (length done ∷ places_from (may_be_built_by k) (suc (length done)) (map (head_of_clause ts) left)) (places_from (may_be_built_by k) (suc (length done)) (map (head_of_clause ts) left))
+          → (cs ≡ (done ++ c ∷ []) ++ left → m ∷ rest ≡ places_from (may_be_built_by k) (length (done ++ c ∷ [])) (map (head_of_clause ts) left) → IsFound (done ++ c ∷ []) ds → IsNext k cs ds m rest) → IsNext k cs ds m rest
       by_case true t q next =
           let here : m ≡ length done = cc q in
-          let later : rest ≡ places_from (may_be_built_by k) (suc (length done)) (map (head_of ts) left) = cc q in
-          record { done = done; clause = c; left = left; split = s; number = sym here; places = later ∙ ap (λ n. places_from (may_be_built_by k) (suc n) (map (head_of ts) left)) (sym here); found = f }
+          let later : rest ≡ places_from (may_be_built_by k) (suc (length done)) (map (head_of_clause ts) left) = cc q in
+          record { done = done; clause = c; left = left; split = s; number = sym here; places = later ∙ ap (λ n. places_from (may_be_built_by k) (suc n) (map (head_of_clause ts) left)) (sym here); found = f }
       by_case false t q next =
           let long : suc (length done) ≡ length (done ++ c ∷ []) = let l = length-append done (c ∷ []) in omega (arith, l) in
-          next (s ∙ sym (append_assoc done (c ∷ []) left)) (q ∙ ap (λ n. places_from (may_be_built_by k) n (map (head_of ts) left)) long) (found_irrelevant done c ds k first t f)
+          next (s ∙ sym (append_assoc done (c ∷ []) left)) (q ∙ ap (λ n. places_from (may_be_built_by k) n (map (head_of_clause ts) left)) long) (found_irrelevant done c ds k first t f)
 
   pub next_clause : (k : TyHead) → first_built_by (children args) ≡ Some k → (cs : List Clause) (ds : List CandidateData) (m : ℕ) (rest places : List ℕ) → IsAt k cs ds places → places ≡ m ∷ rest → IsNext k cs ds m rest
   next_clause k first cs ds m rest places a e = next_from k first a.left a.done cs ds m rest a.split (sym e ∙ a.places) a.found
@@ -155,21 +155,21 @@ module _ (ts : List Tree) (g : Goal) (args : Tree) where
         done = x.done ++ x.clause ∷ [];
         left = x.left;
         split = x.split ∙ sym (append_assoc x.done (x.clause ∷ []) x.left);
-        places = x.places ∙ ap (λ j. places_from (may_be_built_by k) j (map (head_of ts) x.left)) long;
+        places = x.places ∙ ap (λ j. places_from (may_be_built_by k) j (map (head_of_clause ts) x.left)) long;
         found = f;
       }
 
   -- no place is left
-  none_from : (k : TyHead) → first_built_by (children args) ≡ Some k → (left done : List Clause) (ds : List CandidateData) → [] ≡ places_from (may_be_built_by k) (length done) (map (head_of ts) left) → IsFound done ds → IsFound (done ++ left) ds
+  none_from : (k : TyHead) → first_built_by (children args) ≡ Some k → (left done : List Clause) (ds : List CandidateData) → [] ≡ places_from (may_be_built_by k) (length done) (map (head_of_clause ts) left) → IsFound done ds → IsFound (done ++ left) ds
   none_from k first [] done ds e f = subst (λ cs. IsFound cs ds) (sym (append-nil done)) f
-  none_from k first (c ∷ left) done ds e f = by_case (may_be_built_by k (head_of ts c)) refl e (λ p g. none_from k first left (done ++ c ∷ []) ds p g)
+  none_from k first (c ∷ left) done ds e f = by_case (may_be_built_by k (head_of_clause ts c)) refl e (λ p g. none_from k first left (done ++ c ∷ []) ds p g)
     where
-      by_case : (b : Bool) → may_be_built_by k (head_of ts c) ≡ b → [] ≡ cond b (length done ∷ places_from (may_be_built_by k) (suc (length done)) (map (head_of ts) left)) (places_from (may_be_built_by k) (suc (length done)) (map (head_of ts) left))
-          → ([] ≡ places_from (may_be_built_by k) (length (done ++ c ∷ [])) (map (head_of ts) left) → IsFound (done ++ c ∷ []) ds → IsFound ((done ++ c ∷ []) ++ left) ds) → IsFound (done ++ c ∷ left) ds
+      by_case : (b : Bool) → may_be_built_by k (head_of_clause ts c) ≡ b → [] ≡ cond b (length done ∷ places_from (may_be_built_by k) (suc (length done)) (map (head_of_clause ts) left)) (places_from (may_be_built_by k) (suc (length done)) (map (head_of_clause ts) left))
+          → ([] ≡ places_from (may_be_built_by k) (length (done ++ c ∷ [])) (map (head_of_clause ts) left) → IsFound (done ++ c ∷ []) ds → IsFound ((done ++ c ∷ []) ++ left) ds) → IsFound (done ++ c ∷ left) ds
       by_case true t q next = cc q
       by_case false t q next =
           let long : suc (length done) ≡ length (done ++ c ∷ []) = let l = length-append done (c ∷ []) in omega (arith, l) in
-          subst (λ cs. IsFound cs ds) (append_assoc done (c ∷ []) left) (next (q ∙ ap (λ n. places_from (may_be_built_by k) n (map (head_of ts) left)) long) (found_irrelevant done c ds k first t f))
+          subst (λ cs. IsFound cs ds) (append_assoc done (c ∷ []) left) (next (q ∙ ap (λ n. places_from (may_be_built_by k) n (map (head_of_clause ts) left)) long) (found_irrelevant done c ds k first t f))
 
   pub all_found : (k : TyHead) → first_built_by (children args) ≡ Some k → (cs : List Clause) (ds : List CandidateData) (places : List ℕ) → IsAt k cs ds places → places ≡ [] → IsFound cs ds
   all_found k first cs ds places a e = subst (λ xs. IsFound xs ds) (sym a.split) (none_from k first a.left a.done ds (sym e ∙ a.places) a.found)
@@ -184,6 +184,6 @@ module _ (ts : List Tree) (g : Goal) (args : Tree) where
   pub goes_on_by : {k : TyHead} {cs : List Clause} {ds : List CandidateData} {m : ℕ} {rest : List ℕ} (x : IsNext k cs ds m rest) (c : Clause) (es : List CandidateData) → c ≡ get_or cs m c → IsFound (x.done ++ c ∷ []) es → IsAt k cs es rest
   goes_on_by x c es e f = goes_on x es (subst (λ z. IsFound (x.done ++ z ∷ []) es) (e ∙ (clause_there x).1 c) f)
 
-  pub begins_at : (k : TyHead) (cs : List Clause) (ds : List CandidateData) (ps : List ℕ) → ps ≡ places_from (may_be_built_by k) 0 (map (head_of ts) cs) → ds ≡ [] → IsAt k cs ds ps
+  pub begins_at : (k : TyHead) (cs : List Clause) (ds : List CandidateData) (ps : List ℕ) → ps ≡ places_from (may_be_built_by k) 0 (map (head_of_clause ts) cs) → ds ≡ [] → IsAt k cs ds ps
   begins_at k cs ds ps e f =
       record { done = []; left = cs; split = refl; places = e; found = subst (IsFound []) (sym f) (record { leaves_out = none; candidates = tt }) }

@@ -18,10 +18,10 @@ use Rattle.nts_terms.specs.declared.handles.Predicate.{Predicate}
 use Rattle.nts_store.specs.Growth.{tree_at}
 use Rattle.nts_model.specs.Derivations.Handlers.{NamesAt, NamesFresh}
 use Rattle.nts_store.proofs.Growing.{row_take-all}
-use Rattle.nts_delegate.specs.Candidates.{IsAsked, AreEquations, AreNested, IsCandidate, AreCandidates}
+use Rattle.nts_delegate.specs.Candidates.{IsAskedIn, AreEquations, AreNested, IsCandidate, AreCandidates}
 use Rattle.nts_delegate.specs.Clauses.{is_foreign, AreBodies, HoldsClause, AreClauses}
 use Rattle.nts_delegate.specs.OwnTerms.{leaves_fixed}
-use Rattle.nts_delegate.specs.Offers.{trait_read, trait_of_body, trait_of, IsPair, ArePairs, asked_by, IsOffer, takes, AreEach}
+use Rattle.nts_delegate.specs.Offers.{trait_read, trait_of_body, trait_of, IsArgumentPair, AreArgumentPairs, asked_by, IsOffer, takes, AreEach}
 use Rattle.nts_delegate.specs.declared.delegate.Equation.{Equation}
 use Rattle.nts_delegate.specs.declared.delegate.CandidateData.{CandidateData}
 use Rattle.nts_delegate.specs.declared.clauses.Clause.{Clause}
@@ -116,7 +116,7 @@ is_part t r h =
     }
 
 -- pairs of arguments
-pub pairs_push : (ts : List Tree) (i : ℕ) (us vs : Tree) (qs : List Equation) (q : Equation) → i < row_length us → i < row_length vs → ArePairs ts (row_take i us) (row_take i vs) qs → IsPair ts (row_at us i) (row_at vs i) q → ArePairs ts (row_take (i + 1) us) (row_take (i + 1) vs) (qs ++ q ∷ [])
+pub pairs_push : (ts : List Tree) (i : ℕ) (us vs : Tree) (qs : List Equation) (q : Equation) → i < row_length us → i < row_length vs → AreArgumentPairs ts (row_take i us) (row_take i vs) qs → IsArgumentPair ts (row_at us i) (row_at vs i) q → AreArgumentPairs ts (row_take (i + 1) us) (row_take (i + 1) vs) (qs ++ q ∷ [])
 pairs_push ts i empty vs qs q h k p w = absurd (omega arith)
 pairs_push ts i (node l c) vs qs q h k p w = absurd (omega arith)
 pairs_push ts i (more a us) empty qs q h k p w = absurd (omega arith)
@@ -128,14 +128,14 @@ pairs_push ts (suc i) (more a us) (more b vs) (x ∷ qs) q h k p w =
     let e : suc i + 1 ≡ suc (i + 1) = omega arith in
     rw e (p.0, pairs_push ts i us vs qs q (omega arith) (omega arith) p.1 w)
 
-pub pairs_all : (ts : List Tree) (i : ℕ) (us vs : Tree) (qs : List Equation) → IsRow us → IsRow vs → i ≡ row_length us → row_length us ≡ row_length vs → ArePairs ts (row_take i us) (row_take i vs) qs → ArePairs ts us vs qs
+pub pairs_all : (ts : List Tree) (i : ℕ) (us vs : Tree) (qs : List Equation) → IsRow us → IsRow vs → i ≡ row_length us → row_length us ≡ row_length vs → AreArgumentPairs ts (row_take i us) (row_take i vs) qs → AreArgumentPairs ts us vs qs
 pairs_all ts i us vs qs r s e l p =
     let long : i ≡ row_length vs = e ∙ l in
     let first : row_take i us ≡ us = rw e (row_take-all us r) in
     let second : row_take i vs ≡ vs = rw long (row_take-all vs s) in
     rw (first, second) at p
 
-pairs_over : (ts : List Tree) (fresh : List Sort) (g : Goal) (us vs : Tree) (qs : List Equation) → ArePairs ts us vs qs → IsClosed us → IsClosed vs → any_label is_canonical us ≡ false → ((l : Leaf) → Occurs l us → Occurs l (pair (tree_at ts g.param_env.node) (tree_at ts g.predicate.node))) → NamesFresh fresh vs → any_label is_foreign vs ≡ false → IsWellBound us → IsWellBound vs → AreEquations ts fresh g qs
+pairs_over : (ts : List Tree) (fresh : List Sort) (g : Goal) (us vs : Tree) (qs : List Equation) → AreArgumentPairs ts us vs qs → IsClosed us → IsClosed vs → any_label is_canonical us ≡ false → ((l : Leaf) → Occurs l us → Occurs l (pair (tree_at ts g.param_env.node) (tree_at ts g.predicate.node))) → NamesFresh fresh vs → any_label is_foreign vs ≡ false → IsWellBound us → IsWellBound vs → AreEquations ts fresh g qs
 pairs_over ts fresh g empty empty [] p cu cv n k f o x y = tt
 pairs_over ts fresh g (more a us) (more b vs) (q ∷ qs) p cu cv n k f o x y =
     let lacks = both_false (any_label is_canonical a) (any_label is_canonical us) n in
@@ -156,7 +156,7 @@ pairs_over ts fresh g (more a us) (more b vs) (q ∷ qs) p cu cv n k f o x y =
 pairs_over ts fresh g us vs qs p cu cv n k f o x y = absurd p
 
 -- a goal that handlers are asked has no positions
-positions : {ts : List Tree} {g : Goal} → IsAsked ts g → (any_label is_canonical (tree_at ts g.param_env.node) ≡ false) × (any_label is_canonical (tree_at ts g.predicate.node) ≡ false)
+positions : {ts : List Tree} {g : Goal} → IsAskedIn ts g → (any_label is_canonical (tree_at ts g.param_env.node) ≡ false) × (any_label is_canonical (tree_at ts g.predicate.node) ≡ false)
 positions {ts} {g} a =
     let asked = a.asked in
     let env = both_false (any_label is_canonical (tree_at ts g.param_env.node)) (any_label is_canonical (more (tree_at ts g.predicate.node) empty)) asked.no_positions in
@@ -165,7 +165,7 @@ positions {ts} {g} a =
     last : (p : Bool) → (p || false) ≡ false → p ≡ false
     last p h = (both_false p false h).0
 
-asked_nested : (ts : List Tree) (fresh : List Sort) (g : Goal) (ps : List Predicate) → IsAsked ts g → AreBodies ts fresh ps → AreNested ts fresh g (map (asked_by g) ps)
+asked_nested : (ts : List Tree) (fresh : List Sort) (g : Goal) (ps : List Predicate) → IsAskedIn ts g → AreBodies ts fresh ps → AreNested ts fresh g (map (asked_by g) ps)
 asked_nested ts fresh g [] a b = tt
 asked_nested ts fresh g (p ∷ ps) a b = (
   record {
@@ -209,14 +209,14 @@ statement_arguments (node (label.Clause (clause.Trait i)) (more a b)) r e f h =
 statement_arguments s r e f h = cc
 
 -- those of a goal that handlers are asked
-pub goal_arguments : {ts : List Tree} {g : Goal} (r : ℕ × Tree) → IsAsked ts g → trait_of (tree_at ts g.predicate.node) ≡ Some r → AreClosedArguments r.1
+pub goal_arguments : {ts : List Tree} {g : Goal} (r : ℕ × Tree) → IsAskedIn ts g → trait_of (tree_at ts g.predicate.node) ≡ Some r → AreClosedArguments r.1
 goal_arguments {ts} {g} r a e =
     let asked = a.asked in
     let here : trait_read asked.statement ≡ Some r = subst (λ z. trait_of z ≡ Some r) asked.binds_nothing e in
     let formed : IsFormed (unbound asked.statement) = subst IsFormed asked.binds_nothing asked.formed.1.0 in
     statement_arguments asked.statement r here formed.1.1.0 asked.closed.1.0
 
-pub offer_is_candidate : (ts : List Tree) (g : Goal) (args : Tree) (c : Clause) (d : CandidateData) → IsAsked ts g → HoldsClause ts c → IsPart (tree_at ts g.predicate.node) args → AreClosedArguments args → IsOffer ts g args c d → IsCandidate ts g d
+pub offer_is_candidate : (ts : List Tree) (g : Goal) (args : Tree) (c : Clause) (d : CandidateData) → IsAskedIn ts g → HoldsClause ts c → IsPart (tree_at ts g.predicate.node) args → AreClosedArguments args → IsOffer ts g args c d → IsCandidate ts g d
 offer_is_candidate ts g args c d a h part closed o =
     record {
       hidden = o.hidden;
@@ -256,7 +256,7 @@ filter_left p (y ∷ xs) x h = rw (filter_left p xs x h) refl
 pub taken : (cs : List Clause) (i : ℕ) (c : Clause) → i < length cs → c ≡ get_or cs i c → take (i + 1) cs ≡ take i cs ++ c ∷ []
 taken cs i c l e = take_more cs i c l ∙ ap (λ x. take i cs ++ x ∷ []) (sym e)
 
-pub found_more : (ts : List Tree) (g : Goal) (args : Tree) (cs ls : List Clause) (ds es : List CandidateData) (c : Clause) (d : CandidateData) → AreFound ts g args cs ds → takes ts args c ≡ true → IsAsked ts g → HoldsClause ts c → IsPart (tree_at ts g.predicate.node) args → AreClosedArguments args → IsOffer ts g args c d → ls ≡ cs ++ c ∷ [] → es ≡ ds ++ d ∷ [] → AreFound ts g args ls es
+pub found_more : (ts : List Tree) (g : Goal) (args : Tree) (cs ls : List Clause) (ds es : List CandidateData) (c : Clause) (d : CandidateData) → AreFound ts g args cs ds → takes ts args c ≡ true → IsAskedIn ts g → HoldsClause ts c → IsPart (tree_at ts g.predicate.node) args → AreClosedArguments args → IsOffer ts g args c d → ls ≡ cs ++ c ∷ [] → es ≡ ds ++ d ∷ [] → AreFound ts g args ls es
 found_more ts g args cs ls ds es c d f t a h p closed o l e =
     rw (l, e) (record {
       each = rw (filter_kept (takes ts args) cs c t) (each_push ts g args _ ds c d f.each o);

@@ -15,7 +15,7 @@ use Rattle.nts_model.proofs.Terms.Unpositioned.{known_leaves}
 use Rattle.nts_store.specs.declared.nodes.NodeId.{NodeId}
 use Rattle.nts_store.specs.Growth.{tree_at}
 use Rattle.nts_terms.specs.declared.handles.Goal.{Goal}
-use Rattle.nts_delegate.specs.Candidates.{KnowsGoal, IsOver}
+use Rattle.nts_delegate.specs.Candidates.{KnowsGoal, IsOverIn}
 
 -- a leaf of a tree whose leaves are known
 pub leaf_known : (c : Content) (l : Leaf) (t : Tree) → Occurs l t → KnowsLeaves c t → KnowsLeaf c (label.Leaf l)
@@ -44,7 +44,7 @@ each_known c (node (label.Clause x) t) h = ((tt, tt), each_known c t (λ l o. h 
 each_known c (node (label.Predicate x) t) h = ((tt, tt), each_known c t (λ l o. h l (inr o)))
 each_known c (node (label.List x) t) h = ((tt, tt), each_known c t (λ l o. h l (inr o)))
 
-pub over_knows : {ts : List Tree} {fresh : List Sort} {g : Goal} {t : NodeId} → IsOver ts fresh g t → (c : Content) → KnowsGoal ts c g → KnowsLeaves c (tree_at ts t)
+pub over_knows : {ts : List Tree} {fresh : List Sort} {g : Goal} {t : NodeId} → IsOverIn ts fresh g t → (c : Content) → KnowsGoal ts c g → KnowsLeaves c (tree_at ts t)
 over_knows {ts} {fresh} {g} {t} o c k =
     let e = tree_at ts g.param_env.node in
     let p = tree_at ts g.predicate.node in

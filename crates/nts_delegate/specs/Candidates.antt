@@ -23,7 +23,7 @@ use Rattle.nts_delegate.specs.declared.delegate.CandidateGoal.{CandidateGoal}
 use Rattle.nts_delegate.specs.declared.delegate.CandidateData.{CandidateData}
 
 -- .. that handlers are asked
-pub record IsAsked (ts : List Tree) (g : Goal) : Type 0 where
+pub record IsAskedIn (ts : List Tree) (g : Goal) : Type 0 where
   pub holds : HoldsGoal ts g
   pub asked : handlers.IsAsked (tree_at ts g.param_env.node) (tree_at ts g.predicate.node)
 
@@ -34,7 +34,7 @@ pub record KnowsGoal (ts : List Tree) (c : Content) (g : Goal) : Type 0 where
 
 -- a closed term over the fresh variables and the goal: it has no other leaves than the goal, but for regions that stay
 -- themselves, and its binders list what they bind
-pub record IsOver (ts : List Tree) (fresh : List Sort) (g : Goal) (t : NodeId) : Type 0 where
+pub record IsOverIn (ts : List Tree) (fresh : List Sort) (g : Goal) (t : NodeId) : Type 0 where
   pub within : IsIn ts t
   pub names : NamesFresh fresh (tree_at ts t)
   pub leaves : (l : Leaf) → Occurs l (tree_at ts t) → Occurs l (pair (tree_at ts g.param_env.node) (tree_at ts g.predicate.node)) ⊎ IsFixed l
@@ -43,8 +43,8 @@ pub record IsOver (ts : List Tree) (fresh : List Sort) (g : Goal) (t : NodeId) :
 
 -- an equation between arguments
 pub record IsEquation (ts : List Tree) (fresh : List Sort) (g : Goal) (q : Equation) : Type 0 where
-  pub lhs : IsOver ts fresh g q.lhs.node
-  pub rhs : IsOver ts fresh g q.rhs.node
+  pub lhs : IsOverIn ts fresh g q.lhs.node
+  pub rhs : IsOverIn ts fresh g q.rhs.node
   pub argument : FitsPlace any_argument (kind_of (tree_at ts q.lhs.node))
 
 abbrev pub AreEquations : List Tree → List Sort → Goal → List Equation → Type 0
@@ -52,8 +52,8 @@ AreEquations ts fresh g [] = Unit {0}
 AreEquations ts fresh g (q ∷ qs) = IsEquation ts fresh g q × AreEquations ts fresh g qs
 
 pub record IsRegionConstraint (ts : List Tree) (fresh : List Sort) (g : Goal) (x : RegionConstraint) : Type 0 where
-  pub left : IsOver ts fresh g x.left.node
-  pub right : IsOver ts fresh g x.right.node
+  pub left : IsOverIn ts fresh g x.left.node
+  pub right : IsOverIn ts fresh g x.right.node
   pub left_sort : kind_of (tree_at ts x.left.node) ≡ Some (left_kind x.relation)
   pub right_sort : kind_of (tree_at ts x.right.node) ≡ Some (of_sort sort.Region)
 
@@ -62,15 +62,15 @@ AreRegionConstraints ts fresh g [] = Unit {0}
 AreRegionConstraints ts fresh g (x ∷ xs) = IsRegionConstraint ts fresh g x × AreRegionConstraints ts fresh g xs
 
 -- a goal that is asked in the same environment
-pub record IsNested (ts : List Tree) (fresh : List Sort) (g h : Goal) : Type 0 where
+pub record IsNestedIn (ts : List Tree) (fresh : List Sort) (g h : Goal) : Type 0 where
   pub environment : h.param_env ≡ g.param_env
   pub holds : HoldsGoal ts h
-  pub env : IsOver ts fresh g h.param_env.node
-  pub predicate : IsOver ts fresh g h.predicate.node
+  pub env : IsOverIn ts fresh g h.param_env.node
+  pub predicate : IsOverIn ts fresh g h.predicate.node
 
 abbrev pub AreNested : List Tree → List Sort → Goal → List CandidateGoal → Type 0
 AreNested ts fresh g [] = Unit {0}
-AreNested ts fresh g (h ∷ hs) = IsNested ts fresh g h.goal × AreNested ts fresh g hs
+AreNested ts fresh g (h ∷ hs) = IsNestedIn ts fresh g h.goal × AreNested ts fresh g hs
 
 -- a candidate of the store for a goal; until hidden types exist it has none, and rests on none
 pub record IsCandidate (ts : List Tree) (g : Goal) (c : CandidateData) : Type 0 where

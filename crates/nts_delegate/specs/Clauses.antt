@@ -88,15 +88,15 @@ abbrev pub coinductive_of : Clauses → ℕ → Bool
 coinductive_of h i = coinductive_in (slice_get h.traits.items i)
 
 -- what the first argument of a clause's head is built by
-abbrev pub head_of : List Tree → Clause → Option TyHead
-head_of ts c = first_built_by (children (tree_at ts c.head.node))
+abbrev pub head_of_clause : List Tree → Clause → Option TyHead
+head_of_clause ts c = first_built_by (children (tree_at ts c.head.node))
 
 -- the index of a trait's clauses leads to each by that
 abbrev pub IsIndexed : List Tree → Option TraitClauses → Type 0
 IsIndexed ts None = Unit {0}
-IsIndexed ts (Some t) = IsIndexOf t.heads (map (head_of ts) t.clauses.items)
+IsIndexed ts (Some t) = IsIndexOf t.heads (map (head_of_clause ts) t.clauses.items)
 
 -- the clauses are of the store, and their index leads to them
-pub record AreReady (ts : List Tree) (h : Clauses) : Type 0 where
+pub record AreClausesReady (ts : List Tree) (h : Clauses) : Type 0 where
   pub clauses : (i : ℕ) → AreClauses ts (clauses_of h i)
   pub indexed : (i : ℕ) → IsIndexed ts (slice_get h.traits.items i)

@@ -8,7 +8,7 @@ use Rattle.nts_terms.specs.declared.handles.Predicate.{Predicate}
 use Rattle.nts_store.specs.Growth.{Extends}
 use Rattle.nts_terms.specs.Handles.{Holds}
 use Rattle.nts_model.specs.Terms.Trees.{Place}
-use Rattle.nts_delegate.specs.Clauses.{IsClauseTerm, AreBodies, HoldsClause, AreClauses, clauses_in, clauses_of, head_of, IsIndexed, AreReady}
+use Rattle.nts_delegate.specs.Clauses.{IsClauseTerm, AreBodies, HoldsClause, AreClauses, clauses_in, clauses_of, head_of_clause, IsIndexed, AreClausesReady}
 use Rattle.nts_delegate.specs.Places.{IsIndexOf}
 use Rattle.nts_delegate.specs.Relevant.{first_built_by}
 use Rattle.nts_delegate.specs.declared.clauses.TraitClauses.{TraitClauses}
@@ -47,10 +47,10 @@ AreClauses-kept : (a b : List Tree) (cs : List Clause) → AreClauses a cs → E
 AreClauses-kept a b [] h e = tt
 AreClauses-kept a b (c ∷ cs) h e = (IsClause-kept h.0 e, AreClauses-kept a b cs h.1 e)
 
-heads_kept : (a b : List Tree) (cs : List Clause) → AreClauses a cs → Extends a b → map (head_of b) cs ≡ map (head_of a) cs
+heads_kept : (a b : List Tree) (cs : List Clause) → AreClauses a cs → Extends a b → map (head_of_clause b) cs ≡ map (head_of_clause a) cs
 heads_kept a b [] h e = refl
 heads_kept a b (c ∷ cs) h e =
-    let head : head_of b c ≡ head_of a c = ap (λ t. first_built_by (children t)) (e.kept c.head.node h.0.head.within) in
+    let head : head_of_clause b c ≡ head_of_clause a c = ap (λ t. first_built_by (children t)) (e.kept c.head.node h.0.head.within) in
     let rest = heads_kept a b cs h.1 e in
     cc (head, rest)
 
@@ -58,8 +58,8 @@ indexed_kept : (a b : List Tree) (o : Option TraitClauses) → AreClauses a (cla
 indexed_kept a b None r h e = tt
 indexed_kept a b (Some t) r h e = subst (IsIndexOf t.heads) (sym (heads_kept a b t.clauses.items r e)) h
 
-pub AreReady-kept : (a b : List Tree) (h : Clauses) → AreReady a h → Extends a b → AreReady b h
-AreReady-kept a b h r e =
+pub AreClausesReady-kept : (a b : List Tree) (h : Clauses) → AreClausesReady a h → Extends a b → AreClausesReady b h
+AreClausesReady-kept a b h r e =
     record {
       clauses = λ i. AreClauses-kept a b (clauses_of h i) (r.clauses i) e;
       indexed = λ i. indexed_kept a b (slice_get h.traits.items i) (r.clauses i) (r.indexed i) e;

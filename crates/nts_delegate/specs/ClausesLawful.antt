@@ -6,7 +6,7 @@ use Rattle.nts_model.specs.declared.labels.ListHead.TheVariants as list
 use Rattle.nts_model.specs.declared.labels.Label.TheVariants as label
 use Rattle.nts_model.specs.Terms.Trees.{Tree, empty, more, node, children, IsRow, AllFit, any_argument, any_label}
 use Rattle.nts_model.specs.Derivations.Rules.{Mode, Application}
-use Rattle.nts_model.specs.Derivations.Handlers.{Candidate, Handler, IsLawful}
+use Rattle.nts_model.specs.Derivations.Handlers.{Candidate, Handler, IsLawfulHandler}
 use Rattle.nts_model.specs.Refutation.Coherence.{RulesAreOffered}
 use Rattle.nts_delegate.specs.SameHandlers.{MeansSame}
 use Rattle.nts_store.specs.declared.nodes.NodeId.{NodeId}
@@ -15,8 +15,8 @@ use Rattle.nts_terms.specs.declared.handles.Predicate.{Predicate}
 use Rattle.nts_store.specs.Growth.{tree_at, Extends}
 use Rattle.nts_store.specs.Formed.{AreFormed}
 use Rattle.nts_terms.proofs.Standing.{args_tree}
-use Rattle.nts_delegate.specs.Clauses.{is_foreign, IsClauseTerm, AreBodies, HoldsClause, AreClauses, clauses_of, coinductive_of, AreReady}
-use Rattle.nts_delegate.specs.Offers.{trait_of, IsPair, ArePairs, asked_by, IsOffer, takes, AreEach, AreOffersOf, AreOffers}
+use Rattle.nts_delegate.specs.Clauses.{is_foreign, IsClauseTerm, AreBodies, HoldsClause, AreClauses, clauses_of, coinductive_of, AreClausesReady}
+use Rattle.nts_delegate.specs.Offers.{trait_of, IsArgumentPair, AreArgumentPairs, asked_by, IsOffer, takes, AreEach, AreOffersOf, AreOffers}
 use Rattle.nts_delegate.specs.ClauseHandlers.{ClauseTree, equations_of, asked_in, offer_by, takes_all, offers_by, handler_by, clause_tree, clauses_in_store, handler_of}
 use Rattle.nts_delegate.specs.Offered.{certainty_of, access_of, equation_as, equation_of, constraint_of, hidden_of, premise_of, candidate_of, candidates_of}
 use Rattle.nts_delegate.specs.declared.delegate.Equation.{Equation as EquationData}
@@ -25,7 +25,7 @@ use Rattle.nts_delegate.specs.declared.clauses.Clause.{Clause}
 use Rattle.nts_delegate.specs.declared.clauses.Clauses.{Clauses}
 use Rattle.nts_delegate.specs.OwnTerms.{both_false}
 use Rattle.nts_delegate.specs.OwnClauses.{IsOwnTerm, AreOwnTerms, IsOwnClause, AreOwnClauses}
-use Rattle.nts_delegate.specs.HandlerLaws.{IsLawful-clauses, AreOffered-clauses}
+use Rattle.nts_delegate.specs.HandlerLaws.{IsLawfulHandler-clauses, AreOffered-clauses}
 
 own_term : (ts : List Tree) (fresh : List Sort) (t : NodeId) → AreFormed ts → IsClauseTerm ts fresh t → IsOwnTerm fresh (tree_at ts t)
 own_term ts fresh t f h =
@@ -61,19 +61,19 @@ own_clauses ts (c ∷ cs) f h = (own_clause ts c f h.0, own_clauses ts cs f h.1)
 
 -- the theorem: candidates commute with plain renaming, their instances are rules, rules are closed under instances,
 -- and candidates keep the environment and have nothing foreign
-pub IsLawful-handler_of : (ts : List Tree) (h : Clauses) → AreFormed ts → AreReady ts h → IsLawful (handler_of ts h)
-IsLawful-handler_of ts h f r =
-    IsLawful-clauses (clauses_in_store ts h) (coinductive_of h) (λ i. own_clauses ts (clauses_of h i) f (r.clauses i))
+pub IsLawfulHandler-handler_of : (ts : List Tree) (h : Clauses) → AreFormed ts → AreClausesReady ts h → IsLawfulHandler (handler_of ts h)
+IsLawfulHandler-handler_of ts h f r =
+    IsLawfulHandler-clauses (clauses_in_store ts h) (coinductive_of h) (λ i. own_clauses ts (clauses_of h i) f (r.clauses i))
 
 -- .. and in coherence every rule for an instance of a goal is offered
-pub AreOffered-handler_of : (ts : List Tree) (h : Clauses) → AreFormed ts → AreReady ts h → RulesAreOffered (handler_of ts h)
+pub AreOffered-handler_of : (ts : List Tree) (h : Clauses) → AreFormed ts → AreClausesReady ts h → RulesAreOffered (handler_of ts h)
 AreOffered-handler_of ts h f r = AreOffered-clauses (clauses_in_store ts h) (coinductive_of h) (λ i. own_clauses ts (clauses_of h i) f (r.clauses i))
 
 -- the data of the offers, as trees, are the handler's offers
-pair_read : (ts : List Tree) (a b : Tree) (q : EquationData) → IsPair ts a b q → equation_of ts q ≡ equation_as q.kind a b
+pair_read : (ts : List Tree) (a b : Tree) (q : EquationData) → IsArgumentPair ts a b q → equation_of ts q ≡ equation_as q.kind a b
 pair_read ts a b q p = cc (p.left, p.right)
 
-pairs_read : (ts : List Tree) (us vs : Tree) (qs : List EquationData) → ArePairs ts us vs qs → map (equation_of ts) qs ≡ equations_of us vs
+pairs_read : (ts : List Tree) (us vs : Tree) (qs : List EquationData) → AreArgumentPairs ts us vs qs → map (equation_of ts) qs ≡ equations_of us vs
 pairs_read ts empty empty [] p = refl
 pairs_read ts (more a us) (more b vs) (q ∷ qs) p =
     let here = pair_read ts a b q p.0 ∙ ap (λ k. equation_as k a b) p.0.kind in
@@ -131,7 +131,7 @@ clauses_same : (a b : List Tree) (cs : List Clause) → AreClauses a cs → Exte
 clauses_same a b [] h e = refl
 clauses_same a b (c ∷ cs) h e = cc (clause_same a b c h.0 e, clauses_same a b cs h.1 e)
 
-pub handler_of-kept : (a b : List Tree) (h : Clauses) → AreReady a h → Extends a b → handler_of b h ≡ handler_of a h
+pub handler_of-kept : (a b : List Tree) (h : Clauses) → AreClausesReady a h → Extends a b → handler_of b h ≡ handler_of a h
 handler_of-kept a b h r e =
     let same : clauses_in_store b h ≡ clauses_in_store a h = λ j i. clauses_same a b (clauses_of h i) (r.clauses i) e j in
     ap (λ clauses. handler_by clauses (coinductive_of h)) same
@@ -142,7 +142,7 @@ applies_in mode a k = k.applies mode a
 abbrev offers_in : Mode → Tree → Tree → Handler → List Candidate
 offers_in mode t g k = k.offers mode t g
 
-pub MeansSame-kept : (a b : List Tree) (h : Clauses) → AreReady a h → Extends a b → MeansSame (handler_of b h) (handler_of a h)
+pub MeansSame-kept : (a b : List Tree) (h : Clauses) → AreClausesReady a h → Extends a b → MeansSame (handler_of b h) (handler_of a h)
 MeansSame-kept a b h r e =
     let same = handler_of-kept a b h r e in
     record {

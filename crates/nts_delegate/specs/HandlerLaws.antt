@@ -18,7 +18,7 @@ use Rattle.nts_model.proofs.Tables.Under.{eq-self}
 use Rattle.nts_model.specs.Refutation.Coherence.{Covers, RulesAreOffered}
 use Rattle.nts_model.specs.Derivations.Rules.{coherence}
 use Rattle.nts_model.specs.Derivations.Handlers.{meaning}
-use Rattle.nts_model.specs.Derivations.Handlers.{Candidate, equation_by, premise_by, AreValuesOf, use_of, IsInstanceFor, application_under, renamed, IsAsked, IsOver, IsEquationOver, IsEmitted, IsNested, IsCandidateFor, CandidatesCommute, InstancesAreRules, CandidatesKeep, IsLawful, kind_of_sort}
+use Rattle.nts_model.specs.Derivations.Handlers.{Candidate, equation_by, premise_by, AreValuesOf, use_of, IsInstanceFor, application_under, renamed_candidate, IsAsked, IsOver, IsEquationOver, IsEmitted, IsNested, IsCandidateFor, CandidatesCommute, InstancesAreRules, CandidatesKeep, IsLawfulHandler, kind_of_sort}
 use Rattle.nts_model.proofs.Terms.Composing.{IsFormed-instance, IsClosed-instance, Fits-instance}
 use Rattle.nts_terms.proofs.Places.{no_places}
 use Rattle.nts_terms.proofs.Standing.{args_tree}
@@ -73,8 +73,8 @@ goal_shape s h f = absurd h
 formed_goal : (e g : Tree) → (h : IsAsked e g) → IsFormed (pair e (unbound h.statement))
 formed_goal e g h = rw h.binds_nothing at h.formed
 
-goal_of : (e g : Tree) → IsAsked e g → IsTraitGoal g ⊎ IsOtherGoal g
-goal_of e g h = rw h.binds_nothing (goal_shape h.statement h.handlers (formed_goal e g h).1.0.1.1.0)
+trait_or_other : (e g : Tree) → IsAsked e g → IsTraitGoal g ⊎ IsOtherGoal g
+trait_or_other e g h = rw h.binds_nothing (goal_shape h.statement h.handlers (formed_goal e g h).1.0.1.1.0)
 
 -- what the clauses that take as many arguments offer
 record IsOfferOf (cs : List ClauseTree) (e us : Tree) (c : Candidate) : Type 0 where
@@ -100,33 +100,33 @@ offer_among (d ∷ cs) e us c a = offer_first cs d e us c (λ b. offer_among cs 
 keeps_renamed : (ρ : Renaming) → IsPlain ρ → KeepsFixed (λ l. leaf_tree (ρ.to l))
 keeps_renamed ρ p r s = ap leaf_tree (p r s)
 
-offer_renamed : (ρ : Renaming) → IsPlain ρ → (e us : Tree) → IsRow us → (c : ClauseTree) → IsOwnClause c → offer_by (rename ρ e) (rename ρ us) c ≡ renamed ρ (offer_by e us c)
+offer_renamed : (ρ : Renaming) → IsPlain ρ → (e us : Tree) → IsRow us → (c : ClauseTree) → IsOwnClause c → offer_by (rename ρ e) (rename ρ us) c ≡ renamed_candidate ρ (offer_by e us c)
 offer_renamed ρ p e us r c o =
     let k = keeps_renamed ρ p in
     let equations = replaced_equations (λ l. leaf_tree (ρ.to l)) k c.fresh us c.head r o.head in
     let goals = replaced_goals (λ l. leaf_tree (ρ.to l)) k c.fresh e c.body o.body in
     cc (equations, goals)
 
-offers_renamed_case : (ρ : Renaming) (e us : Tree) (c : ClauseTree) (xs : List ClauseTree) (ys : List ClauseTree) → offer_by (rename ρ e) (rename ρ us) c ≡ renamed ρ (offer_by e us c) → map (offer_by (rename ρ e) (rename ρ us)) xs ≡ map (renamed ρ) (map (offer_by e us) ys) → (w : Bool) → map (offer_by (rename ρ e) (rename ρ us)) (cond w (c ∷ xs) xs) ≡ map (renamed ρ) (map (offer_by e us) (cond w (c ∷ ys) ys))
+offers_renamed_case : (ρ : Renaming) (e us : Tree) (c : ClauseTree) (xs : List ClauseTree) (ys : List ClauseTree) → offer_by (rename ρ e) (rename ρ us) c ≡ renamed_candidate ρ (offer_by e us c) → map (offer_by (rename ρ e) (rename ρ us)) xs ≡ map (renamed_candidate ρ) (map (offer_by e us) ys) → (w : Bool) → map (offer_by (rename ρ e) (rename ρ us)) (cond w (c ∷ xs) xs) ≡ map (renamed_candidate ρ) (map (offer_by e us) (cond w (c ∷ ys) ys))
 offers_renamed_case ρ e us c xs ys one rest true = cc (one, rest)
 offers_renamed_case ρ e us c xs ys one rest false = rest
 
-offers_renamed : (ρ : Renaming) → IsPlain ρ → (e us : Tree) → IsRow us → (cs : List ClauseTree) → AreOwnClauses cs → map (offer_by (rename ρ e) (rename ρ us)) (filter (takes_all (rename ρ us)) cs) ≡ map (renamed ρ) (map (offer_by e us) (filter (takes_all us) cs))
+offers_renamed : (ρ : Renaming) → IsPlain ρ → (e us : Tree) → IsRow us → (cs : List ClauseTree) → AreOwnClauses cs → map (offer_by (rename ρ e) (rename ρ us)) (filter (takes_all (rename ρ us)) cs) ≡ map (renamed_candidate ρ) (map (offer_by e us) (filter (takes_all us) cs))
 offers_renamed ρ p e us r [] o = refl
 offers_renamed ρ p e us r (c ∷ cs) o =
     let xs = filter (takes_all (rename ρ us)) cs in
     let as_many : takes_all (rename ρ us) c ≡ takes_all us c = ap (λ n. n == row_length c.head) (row_length-replace (λ l. leaf_tree (ρ.to l)) us r) in
     ap (λ w. map (offer_by (rename ρ e) (rename ρ us)) (cond w (c ∷ xs) xs)) as_many ∙ offers_renamed_case ρ e us c xs (filter (takes_all us) cs) (offer_renamed ρ p e us r c o.0) (offers_renamed ρ p e us r cs o.1) (takes_all us c)
 
-commute_shape : (clauses : ClausesOfTraits) → AreOwn clauses → (e g : Tree) (ρ : Renaming) → IsPlain ρ → IsTraitGoal g ⊎ IsOtherGoal g → offers_by clauses (rename ρ e) (trait_of (rename ρ g)) ≡ map (renamed ρ) (offers_by clauses e (trait_of g))
+commute_shape : (clauses : ClausesOfTraits) → AreOwn clauses → (e g : Tree) (ρ : Renaming) → IsPlain ρ → IsTraitGoal g ⊎ IsOtherGoal g → offers_by clauses (rename ρ e) (trait_of (rename ρ g)) ≡ map (renamed_candidate ρ) (offers_by clauses e (trait_of g))
 commute_shape clauses own e g ρ p (inl t) =
     rw t.is (offers_renamed ρ p e t.with_arguments t.row (clauses t.of_trait) (own t.of_trait))
 commute_shape clauses own e g ρ p (inr o) =
-    ap (offers_by clauses (rename ρ e)) (o.none_under (λ l. leaf_tree (ρ.to l))) ∙ sym (ap (λ x. map (renamed ρ) (offers_by clauses e x)) o.none)
+    ap (offers_by clauses (rename ρ e)) (o.none_under (λ l. leaf_tree (ρ.to l))) ∙ sym (ap (λ x. map (renamed_candidate ρ) (offers_by clauses e x)) o.none)
 
 commute : (clauses : ClausesOfTraits) (is_coinductive : ℕ → Bool) → AreOwn clauses → CandidatesCommute (handler_by clauses is_coinductive)
 commute clauses is_coinductive own =
-    record { renaming = λ mode e g ρ p h. commute_shape clauses own e g ρ p (goal_of e g h) }
+    record { renaming = λ mode e g ρ p h. commute_shape clauses own e g ρ p (trait_or_other e g h) }
 
 -- instances of candidates are rules
 
@@ -214,7 +214,7 @@ rule_under clauses own a ι h =
 rules : (clauses : ClausesOfTraits) (is_coinductive : ℕ → Bool) → AreOwn clauses → InstancesAreRules (handler_by clauses is_coinductive)
 rules clauses is_coinductive own =
     record {
-      instances = λ mode e g c ι a asked among sure is. instance_shape clauses own e g c ι a asked.no_positions (goal_of e g asked) among is;
+      instances = λ mode e g c ι a asked among sure is. instance_shape clauses own e g c ι a asked.no_positions (trait_or_other e g asked) among is;
       closed = λ mode a ι h. rule_under clauses own a ι h;
     }
 
@@ -288,10 +288,10 @@ keep_shape clauses own e g c asked (inr o) among =
 
 keep : (clauses : ClausesOfTraits) (is_coinductive : ℕ → Bool) → AreOwn clauses → CandidatesKeep (handler_by clauses is_coinductive)
 keep clauses is_coinductive own =
-    record { each = λ mode e g c asked among. keep_shape clauses own e g c asked (goal_of e g asked) among }
+    record { each = λ mode e g c asked among. keep_shape clauses own e g c asked (trait_or_other e g asked) among }
 
-pub IsLawful-clauses : (clauses : ClausesOfTraits) (is_coinductive : ℕ → Bool) → AreOwn clauses → IsLawful (handler_by clauses is_coinductive)
-IsLawful-clauses clauses is_coinductive own =
+pub IsLawfulHandler-clauses : (clauses : ClausesOfTraits) (is_coinductive : ℕ → Bool) → AreOwn clauses → IsLawfulHandler (handler_by clauses is_coinductive)
+IsLawfulHandler-clauses clauses is_coinductive own =
     record { commute = commute clauses is_coinductive own; rules = rules clauses is_coinductive own; keep = keep clauses is_coinductive own }
 
 -- every rule for an instance of a goal is one of an offered candidate
@@ -355,5 +355,5 @@ covered_shape clauses own is_coinductive e g ι a n (inr o) h env con =
 
 pub AreOffered-clauses : (clauses : ClausesOfTraits) (is_coinductive : ℕ → Bool) → AreOwn clauses → RulesAreOffered (handler_by clauses is_coinductive)
 AreOffered-clauses clauses is_coinductive own =
-    record { covered = λ e g ι a asked applies env con. covered_shape clauses own is_coinductive e g ι a asked.no_positions (goal_of e g asked) applies env con }
+    record { covered = λ e g ι a asked applies env con. covered_shape clauses own is_coinductive e g ι a asked.no_positions (trait_or_other e g asked) applies env con }
 

@@ -43,7 +43,7 @@ HoldsTrait ts None = Unit {0}
 HoldsTrait ts (Some r) = HoldsArgs ts r.args
 
 -- an argument of the goal is to be the clause's
-pub record IsPair (ts : List Tree) (a b : Tree) (q : Equation) : Type 0 where
+pub record IsArgumentPair (ts : List Tree) (a b : Tree) (q : Equation) : Type 0 where
   pub kind : q.kind ≡ equation.Related
   pub left_in : IsIn ts q.lhs.node
   pub right_in : IsIn ts q.rhs.node
@@ -52,10 +52,10 @@ pub record IsPair (ts : List Tree) (a b : Tree) (q : Equation) : Type 0 where
   pub argument : FitsPlace any_argument (kind_of a)
 
 -- .. each of them, one by one
-abbrev pub ArePairs : List Tree → Tree → Tree → List Equation → Type 0
-ArePairs ts empty empty [] = Unit {0}
-ArePairs ts (more a us) (more b vs) (q ∷ qs) = IsPair ts a b q × ArePairs ts us vs qs
-ArePairs ts a b qs = ⊥
+abbrev pub AreArgumentPairs : List Tree → Tree → Tree → List Equation → Type 0
+AreArgumentPairs ts empty empty [] = Unit {0}
+AreArgumentPairs ts (more a us) (more b vs) (q ∷ qs) = IsArgumentPair ts a b q × AreArgumentPairs ts us vs qs
+AreArgumentPairs ts a b qs = ⊥
 
 abbrev pub asked_by : Goal → Predicate → CandidateGoal
 asked_by g p =
@@ -64,7 +64,7 @@ asked_by g p =
 -- the arguments are those of the clause's head, and its body is to be proved
 pub record IsOffer (ts : List Tree) (g : Goal) (args : Tree) (c : Clause) (d : CandidateData) : Type 0 where
   pub fresh : d.fresh.items ≡ c.fresh.items
-  pub equations : ArePairs ts (children args) (children (tree_at ts c.head.node)) d.equations.items
+  pub equations : AreArgumentPairs ts (children args) (children (tree_at ts c.head.node)) d.equations.items
   pub constraints : d.region_constraints.items ≡ []
   pub hidden : d.hidden_types.items ≡ []
   pub goals : d.goals.items ≡ map (asked_by g) c.body.items

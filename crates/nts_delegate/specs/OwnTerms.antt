@@ -66,14 +66,14 @@ own_filled_under f k vs (node l c) h w =
     ap (value_or (position_of l) vs) (own_put_filled f k vs l c (filled_under f vs c) s.0 w (own_filled_under f k vs c s.1 w.1))
 
 -- values that are replaced
-value_at : (f : Leaf → Tree) (vs : List Tree) (i : ℕ) → replace f (get_or vs i empty) ≡ get_or (map (replace f) vs) i empty
-value_at f [] i = refl
-value_at f (v ∷ vs) zero = refl
-value_at f (v ∷ vs) (suc i) = value_at f vs i
+value_replaced : (f : Leaf → Tree) (vs : List Tree) (i : ℕ) → replace f (get_or vs i empty) ≡ get_or (map (replace f) vs) i empty
+value_replaced f [] i = refl
+value_replaced f (v ∷ vs) zero = refl
+value_replaced f (v ∷ vs) (suc i) = value_replaced f vs i
 
 replaced_value : (f : Leaf → Tree) (o : Option ℕ) (vs : List Tree) (t u : Tree) → replace f t ≡ u → replace f (value_or o vs t) ≡ value_or o (map (replace f) vs) u
 replaced_value f None vs t u e = e
-replaced_value f (Some i) vs t u e = value_at f vs i
+replaced_value f (Some i) vs t u e = value_replaced f vs i
 
 pub own_replace_filled : (f : Leaf → Tree) → KeepsFixed f → (vs : List Tree) (t : Tree) → any_label is_foreign t ≡ false → IsFormed t → replace f (filled vs t) ≡ filled (map (replace f) vs) t
 own_replace_filled f k vs empty h w = refl

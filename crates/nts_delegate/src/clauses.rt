@@ -4,12 +4,12 @@ ghost use Rattle.nts_model.specs.Terms.Trees.{Tree, row_length, children, IsRow}
 ghost use Rattle.nts_store.specs.Growth.{tree_at, Extends};
 ghost use Rattle.nts_terms.specs.Handles.{HoldsArgs};
 ghost use Rattle.nts_terms.specs.Kinds.{tree_of_statement, StatementFits, tree_of_clause, ClauseFits};
-ghost use Rattle.nts_delegate.specs.Offers.{IsOffer, ArePairs, asked_by, read_trait, trait_of, trait_read, HoldsTrait};
+ghost use Rattle.nts_delegate.specs.Offers.{IsOffer, AreArgumentPairs, asked_by, read_trait, trait_of, trait_read, HoldsTrait};
 ghost use Rattle.nts_terms.specs.Rest.{Grows};
 ghost use Rattle.nts_model.specs.declared.labels.TyHead.{TyHead};
-ghost use Rattle.nts_delegate.specs.Candidates.{IsAsked, AreCandidates};
+ghost use Rattle.nts_delegate.specs.Candidates.{IsAskedIn, AreCandidates};
 ghost use Rattle.nts_delegate.specs.ClauseHandlers.{clause_tree, offers_of_clauses};
-ghost use Rattle.nts_delegate.specs.Clauses.{head_of, AreClauses, IsIndexed};
+ghost use Rattle.nts_delegate.specs.Clauses.{head_of_clause, AreClauses, IsIndexed};
 ghost use Rattle.nts_delegate.specs.Places.{IsIndexOf};
 ghost use Rattle.nts_delegate.specs.Offered.{candidates_of};
 ghost use Rattle.nts_delegate.specs.Relevant.{built_by_label, first_built_by, LeavesOut};
@@ -81,14 +81,14 @@ pub struct Clauses {
 }
 
 impl Clauses {
-    ghost use Rattle.nts_delegate.specs.Clauses.{HoldsClause, AreReady, clauses_of, coinductive_of};
+    ghost use Rattle.nts_delegate.specs.Clauses.{HoldsClause, AreClausesReady, clauses_of, coinductive_of};
     ghost use Rattle.nts_delegate.specs.Adding.{KeepsClauses, AddsClause, MakesCoinductive};
 
     /// No clauses. It takes no memory.
     pub fn new(alloc: Global) -> Self
         ensures clauses { (i : ℕ) → clauses_of result i ≡ [] }
         ensures coinductive { (i : ℕ) → coinductive_of result i ≡ false }
-        ensures ready { (ts : List Tree) → AreReady ts result }
+        ensures ready { (ts : List Tree) → AreClausesReady ts result }
     {
         Clauses {
             alloc,
@@ -100,7 +100,7 @@ impl Clauses {
     pub fn add_clause(&mut self, cx: &Cx, clause: Clause) -> Result<(), Fault>
         ensures added { OnOk result (AddsClause self.old self.new clause) }
         ensures err { OnErr result (KeepsClauses self.old self.new) }
-        ensures ready { AreReady cx.now.nodes self.old → HoldsClause cx.now.nodes clause → AreReady cx.now.nodes self.new }
+        ensures ready { AreClausesReady cx.now.nodes self.old → HoldsClause cx.now.nodes clause → AreClausesReady cx.now.nodes self.new }
         ensures memory { IsOkUnless result Fault.Memory }
     {
         let head = head_of_clause(cx, &clause);
@@ -113,7 +113,7 @@ impl Clauses {
     pub fn set_coinductive(&mut self, id: TraitId) -> Result<(), Fault>
         ensures made { OnOk result (MakesCoinductive self.old self.new id.number) }
         ensures err { OnErr result (KeepsClauses self.old self.new) }
-        ensures ready { (ts : List Tree) → AreReady ts self.old → AreReady ts self.new }
+        ensures ready { (ts : List Tree) → AreClausesReady ts self.old → AreClausesReady ts self.new }
         ensures memory { IsOkUnless result Fault.Memory }
     {
         let entry = self.entry(id)?;
@@ -126,7 +126,7 @@ impl Clauses {
         ensures is { IfOk result (λ i. i ≡ id.number) }
         ensures within { IfOk result (λ i. i < length self.new.traits.items) }
         ensures same { KeepsClauses self.old self.new }
-        ensures ready { (ts : List Tree) → AreReady ts self.old → AreReady ts self.new }
+        ensures ready { (ts : List Tree) → AreClausesReady ts self.old → AreClausesReady ts self.new }
         ensures memory { IsOkUnless result Fault.Memory }
     {
         while self.traits.len() <= id.number {
@@ -147,18 +147,18 @@ impl Clauses {
 }
 
 impl GoalHandler for Clauses {
-    ghost use Rattle.nts_delegate.specs.Candidates.{IsAsked, AreCandidates};
-    ghost use Rattle.nts_delegate.specs.Clauses.{AreReady, coinductive_of};
-    ghost use Rattle.nts_delegate.specs.ClausesKept.{AreReady-kept};
+    ghost use Rattle.nts_delegate.specs.Candidates.{IsAskedIn, AreCandidates};
+    ghost use Rattle.nts_delegate.specs.Clauses.{AreClausesReady, coinductive_of};
+    ghost use Rattle.nts_delegate.specs.ClausesKept.{AreClausesReady-kept};
     ghost use Rattle.nts_delegate.specs.ClauseHandlers.{handler_of};
-    ghost use Rattle.nts_delegate.specs.ClausesLawful.{IsLawful-handler_of, AreOffered-handler_of, MeansSame-kept};
+    ghost use Rattle.nts_delegate.specs.ClausesLawful.{IsLawfulHandler-handler_of, AreOffered-handler_of, MeansSame-kept};
     ghost use Rattle.nts_delegate.specs.Offered.{candidates_of};
     ghost use Rattle.nts_delegate.specs.Relevant.{LeavesOut};
     ghost use Rattle.nts_terms.specs.Modes.{mode_of};
     ghost use Rattle.nts_delegate.specs.Offers.{AreOffers};
     ghost use Rattle.nts_store.specs.Growth.{tree_at};
 
-    ghost ready = { AreReady };
+    ghost ready = { AreClausesReady };
 
     ghost handler = { handler_of };
 
@@ -168,8 +168,8 @@ impl GoalHandler for Clauses {
         mode: &TypingMode,
         goal: Goal,
     ) -> Result<Vec<CandidateData>, Fault>
-        requires ready { AreReady cx.old.nodes self.now }
-        requires goal { IsAsked cx.old.nodes goal }
+        requires ready { AreClausesReady cx.old.nodes self.now }
+        requires goal { IsAskedIn cx.old.nodes goal }
         ensures offers { IfOk result (λ cs. AreOffers cx.new.nodes goal self.now cs.items) }
         ensures offered { IfOk result (λ cs. candidates_of cx.new.nodes cs.items ≡
             (handler_of cx.new.nodes self.now).offers (mode_of mode.now)
@@ -189,8 +189,8 @@ impl GoalHandler for Clauses {
         mode: &TypingMode,
         goal: Goal,
     ) -> Result<Vec<CandidateData>, Fault>
-        requires ready { AreReady cx.old.nodes self.now }
-        requires goal { IsAsked cx.old.nodes goal }
+        requires ready { AreClausesReady cx.old.nodes self.now }
+        requires goal { IsAskedIn cx.old.nodes goal }
         ensures candidates { IfOk result (λ cs. AreCandidates cx.new.nodes goal cs.items) }
         ensures offered { IfOk result (λ cs. LeavesOut ((handler_of cx.new.nodes self.now).offers
             (mode_of mode.now) (tree_at cx.new.nodes goal.param_env.node)
@@ -214,19 +214,19 @@ impl GoalHandler for Clauses {
         }
     }
 
-    ghost lawful = { λ ts s f r. IsLawful-handler_of ts s f r };
+    ghost lawful = { λ ts s f r. IsLawfulHandler-handler_of ts s f r };
 
     ghost offered = { λ ts s f r. AreOffered-handler_of ts s f r };
 
     ghost handler_kept = { λ a b s r e. MeansSame-kept a b s r e };
 
-    ghost ready_kept = { λ a b s h e. AreReady-kept a b s h e };
+    ghost ready_kept = { λ a b s h e. AreClausesReady-kept a b s h e };
 }
 
 impl Clauses {
-    ghost use Rattle.nts_delegate.specs.Candidates.{IsAsked, AreCandidates};
+    ghost use Rattle.nts_delegate.specs.Candidates.{IsAskedIn, AreCandidates};
     ghost use Rattle.nts_delegate.specs.ClauseHandlers.{clauses_in_store, offers_by};
-    ghost use Rattle.nts_delegate.specs.Clauses.{AreReady};
+    ghost use Rattle.nts_delegate.specs.Clauses.{AreClausesReady};
     ghost use Rattle.nts_delegate.specs.Offered.{candidates_of};
     ghost use Rattle.nts_delegate.specs.Offers.{trait_of, AreOffers};
     ghost use Rattle.nts_delegate.specs.Relevant.{LeavesOut};
@@ -234,8 +234,8 @@ impl Clauses {
     /// What each clause of the goal's trait offers, if it takes as many arguments.
     #[inline(never)]
     fn offers(&self, cx: &Cx, goal: Goal) -> Result<Vec<CandidateData>, Fault>
-        requires ready { AreReady cx.now.nodes self.now }
-        requires goal { IsAsked cx.now.nodes goal }
+        requires ready { AreClausesReady cx.now.nodes self.now }
+        requires goal { IsAskedIn cx.now.nodes goal }
         ensures offers { IfOk result (λ cs. AreOffers cx.now.nodes goal self.now cs.items) }
         ensures candidates { IfOk result (λ cs. AreCandidates cx.now.nodes goal cs.items) }
         ensures memory { IsOkUnless result Fault.Memory }
@@ -255,8 +255,8 @@ impl Clauses {
     /// What those clauses offer for which the first argument of the goal may be the one of the head.
     #[inline(never)]
     fn relevant_offers(&self, cx: &Cx, goal: Goal) -> Result<Vec<CandidateData>, Fault>
-        requires ready { AreReady cx.now.nodes self.now }
-        requires goal { IsAsked cx.now.nodes goal }
+        requires ready { AreClausesReady cx.now.nodes self.now }
+        requires goal { IsAskedIn cx.now.nodes goal }
         ensures offered { IfOk result (λ cs. LeavesOut (offers_by (clauses_in_store cx.now.nodes self.now)
             (tree_at cx.now.nodes goal.param_env.node) (trait_of (tree_at cx.now.nodes
             goal.predicate.node))) (candidates_of cx.now.nodes cs.items)) }
@@ -287,7 +287,7 @@ fn offers_at(
 ) -> Result<Vec<CandidateData>, Fault>
     requires clauses { AreClauses cx.now.nodes of_trait.now.clauses.items }
     requires indexed { IsIndexed cx.now.nodes (Some of_trait.now) }
-    requires goal { IsAsked cx.now.nodes goal }
+    requires goal { IsAskedIn cx.now.nodes goal }
     requires args { HoldsArgs cx.now.nodes trait_ref.args }
     requires asked { trait_of (tree_at cx.now.nodes goal.predicate.node) ≡ read_trait cx.now.nodes (Some trait_ref) }
     requires first { first_built_by (children (tree_at cx.now.nodes trait_ref.args.node)) ≡ Some head }
@@ -334,7 +334,7 @@ fn built_by(label: Label) -> Option<TyHead>
 
 /// What the first argument of a clause's head is built by, if it is of the store.
 fn head_of_clause(cx: &Cx, clause: &Clause) -> Option<TyHead>
-    ensures { HoldsArgs cx.now.nodes clause.now.head → result ≡ head_of cx.now.nodes clause.now }
+    ensures { HoldsArgs cx.now.nodes clause.now.head → result ≡ head_of_clause cx.now.nodes clause.now }
 {
     if !cx.holds(clause.head) {
         return None;
@@ -417,7 +417,7 @@ fn pairs_of(
     requires row { IsRow (children (tree_at cx.now.nodes head.node)) }
     requires long { row_length (children (tree_at cx.now.nodes args.node)) ≡ row_length (children
         (tree_at cx.now.nodes head.node)) }
-    ensures { IfOk result (λ qs. ArePairs cx.now.nodes (children (tree_at cx.now.nodes args.node))
+    ensures { IfOk result (λ qs. AreArgumentPairs cx.now.nodes (children (tree_at cx.now.nodes args.node))
         (children (tree_at cx.now.nodes head.node)) qs.items) }
 {
     let mut equations = Vec::new(alloc);

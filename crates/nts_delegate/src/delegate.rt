@@ -59,11 +59,11 @@ pub struct CandidateData {
 /// What offers the rules of traits as data.
 pub trait GoalHandler {
     ghost use Rattle.std.specs.Prelude.{◌≡◌};
-    ghost use Rattle.nts_model.specs.Derivations.Handlers.{Handler, IsLawful};
+    ghost use Rattle.nts_model.specs.Derivations.Handlers.{Handler, IsLawfulHandler};
     ghost use Rattle.nts_model.specs.Refutation.Coherence.{RulesAreOffered};
     ghost use Rattle.nts_store.specs.Growth.{tree_at};
     ghost use Rattle.nts_store.specs.Formed.{AreFormed};
-    ghost use Rattle.nts_delegate.specs.Candidates.{IsAsked, AreCandidates};
+    ghost use Rattle.nts_delegate.specs.Candidates.{IsAskedIn, AreCandidates};
     ghost use Rattle.nts_delegate.specs.Offered.{candidates_of};
     ghost use Rattle.nts_delegate.specs.Relevant.{LeavesOut};
     ghost use Rattle.nts_terms.specs.Modes.{mode_of};
@@ -83,7 +83,7 @@ pub trait GoalHandler {
         goal: Goal,
     ) -> Result<Vec<CandidateData>, Fault>
         requires ready { ready cx.old.nodes self.now }
-        requires goal { IsAsked cx.old.nodes goal }
+        requires goal { IsAskedIn cx.old.nodes goal }
         ensures candidates { IfOk result (λ cs. AreCandidates cx.new.nodes goal cs.items) }
         ensures offered { IfOk result (λ cs. candidates_of cx.new.nodes cs.items ≡
             (handler cx.new.nodes self.now).offers (mode_of mode.now)
@@ -100,7 +100,7 @@ pub trait GoalHandler {
         goal: Goal,
     ) -> Result<Vec<CandidateData>, Fault>
         requires ready { ready cx.old.nodes self.now }
-        requires goal { IsAsked cx.old.nodes goal }
+        requires goal { IsAskedIn cx.old.nodes goal }
         ensures candidates { IfOk result (λ cs. AreCandidates cx.new.nodes goal cs.items) }
         ensures offered { IfOk result (λ cs. LeavesOut ((handler cx.new.nodes self.now).offers
             (mode_of mode.now) (tree_at cx.new.nodes goal.param_env.node)
@@ -117,7 +117,7 @@ pub trait GoalHandler {
 
     /// The handler keeps the laws: candidates commute with plain renaming, their instances are rules, rules are closed
     /// under instances, and candidates keep the environment and have no foreign leaves, sorts or sources.
-    ghost lawful: { (ts : List Tree) (s : Self) → AreFormed ts → ready ts s → IsLawful (handler ts s) };
+    ghost lawful: { (ts : List Tree) (s : Self) → AreFormed ts → ready ts s → IsLawfulHandler (handler ts s) };
 
     /// In coherence each rule for an instance of a goal is one of a candidate that is offered for the goal, and that asks for
     /// nothing beyond the rule.

@@ -5,7 +5,7 @@ ghost use Rattle.nts_model.specs.Derivations.Handlers.{meaning};
 ghost use Rattle.nts_store.specs.Growth.{Extends};
 ghost use Rattle.nts_table.specs.Tables.{IsTable};
 ghost use Rattle.nts_terms.specs.Modes.{mode_of};
-ghost use Rattle.nts_queries.specs.Running.{HasHeldProofIn, HasFallingProofIn};
+ghost use Rattle.nts_queries.specs.Running.{HasRankedProofIn, HasFallingProofIn};
 ghost use Rattle.nts_terms.specs.Handles.{HoldsGoal};
 ghost use Rattle.nts_queries.specs.Evaluation.{Runs, IsAdmitted, IsPosed, IsGoalUnder};
 ghost use Rattle.nts_queries.specs.Meant.{Since, IsProvedSince, IsAskedUnder, IsRefusedUnder};
@@ -85,7 +85,7 @@ pub fn evaluate_root_goal<H: GoalHandler>(
     ensures stalled { IfOk result (λ e. e.stalled_on ≡ None) }
     ensures err { OnErr result (table.new ≡ table.old) }
     ensures proved { IfOk result (λ e. e.certainty ≡ certainty.Yes → (v : ℕ → List Variance) →
-        HasHeldProofIn (meaning (H.handler cx.old.nodes handler.now) v) (mode_of table.old.mode)
+        HasRankedProofIn (meaning (H.handler cx.old.nodes handler.now) v) (mode_of table.old.mode)
         cx.new.nodes table.new goal) }
     ensures falls { ((i : ℕ) → (H.handler cx.old.nodes handler.now).is_coinductive i ≡ false) →
         IfOk result (λ e. e.certainty ≡ certainty.Yes → (v : ℕ → List Variance) → HasFallingProofIn

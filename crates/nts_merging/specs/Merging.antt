@@ -21,7 +21,7 @@ abbrev pub HasNone : {X : Type 0} → (X → Type 0) → List X → Type 0
 HasNone {X} P xs = (i : ℕ) (d : X) → i < length xs → P (get_or xs i d) → ⊥
 
 -- the one at the place i is so, and none before it
-pub record IsFirst {X : Type 0} (P : X → Type 0) (xs : List X) (i : ℕ) : Type 0 where
+pub record IsFirstSuch {X : Type 0} (P : X → Type 0) (xs : List X) (i : ℕ) : Type 0 where
   pub below : i < length xs
   pub is : (d : X) → P (get_or xs i d)
   pub first : (j : ℕ) (d : X) → j < i → P (get_or xs j d) → ⊥
@@ -35,7 +35,7 @@ pub record AreAllOne (ts : List Tree) (rs : List (Canonical Response)) : Type 0 
 -- there is no such response
 abbrev pub Merges : List Tree → List (Canonical Response) → Option (Canonical Response × MergeCandidateInfo) → Type 0
 Merges ts rs None = HasNone (AppliesAlways ts) rs × (AreAllOne ts rs → ⊥)
-Merges ts rs (Some (r, info.AlwaysApplicable i)) = IsFirst (AppliesAlways ts) rs i × (get_or rs i r ≡ r)
+Merges ts rs (Some (r, info.AlwaysApplicable i)) = IsFirstSuch (AppliesAlways ts) rs i × (get_or rs i r ≡ r)
 Merges ts rs (Some (r, info.EqualResponse)) = HasNone (AppliesAlways ts) rs × AreAllOne ts rs × (get_or rs 0 r ≡ r)
 
 -- ambiguity, joined with each answer that is not certain

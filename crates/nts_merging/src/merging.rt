@@ -2,7 +2,7 @@
 ghost use Rattle.std.specs.Prelude.{◌≡◌, ◌↔◌, All, IfSome, IsTrue, length, get_or, MatchOption};
 ghost use Rattle.nts_response.specs.Forms.{HoldsResponse};
 ghost use Rattle.nts_response.specs.Same.{AreOneResponse};
-ghost use Rattle.nts_merging.specs.Merging.{AppliesAlways, IsFirst, HasNone, AreAllOne, Merges};
+ghost use Rattle.nts_merging.specs.Merging.{AppliesAlways, IsFirstSuch, HasNone, AreAllOne, Merges};
 
 use nts_certainty::Certainty;
 use nts_response::{CanonicalResponse, has_no_inference_or_external_constraints, same_response};
@@ -38,7 +38,7 @@ pub fn try_merge_candidates<'a>(
 /// The place of the first response that is certain, with neither inference nor external constraints.
 fn first_that_applies_always(cx: &Cx, candidates: &[CanonicalResponse]) -> Option<usize>
     requires { All (λ r. HoldsResponse cx.now.nodes r.value) candidates.now }
-    ensures { MatchOption result (HasNone (AppliesAlways cx.now.nodes) candidates.now) (IsFirst (AppliesAlways cx.now.nodes) candidates.now) }
+    ensures { MatchOption result (HasNone (AppliesAlways cx.now.nodes) candidates.now) (IsFirstSuch (AppliesAlways cx.now.nodes) candidates.now) }
 {
     for i in 0..candidates.len() {
         if applies_always(cx, &candidates[i]) {

@@ -25,27 +25,27 @@ use Rattle.nts_table.specs.Frames.{ChangesEntries}
 use Rattle.nts_placeholder.specs.Escaping.{escapes}
 use Rattle.nts_placeholder.specs.Universes.{AreFilled, open_before}
 use Rattle.nts_normalize.specs.declared.folder.NormalizationFolder.{NormalizationFolder}
-use Rattle.nts_normalize.specs.Calling.{Normalizes, tree_of_goal}
+use Rattle.nts_normalize.specs.Calling.{ClosureNormalizes, tree_of_goal}
 use Rattle.nts_normalize.specs.Normalizing.{Fills, Collects, in_universe, collected}
-use Rattle.nts_normalize.specs.Walking.{IsReady, Goes, standing_of, goals_kept, goals_same, IsReady-kept, Keeps-trans}
+use Rattle.nts_normalize.specs.Walking.{IsFolderReady, FolderGoes, standing_of, goals_kept, goals_same, IsFolderReady-kept, FolderKeeps-trans}
 
 grows_on : (a b c : Cx) → Grows a b → Grows b c → Grows a c
 grows_on a b c h k = record { extends = Extends-trans h.extends k.extends; rest = KeepsRest-trans h.rest k.rest }
 
 -- one step after the other
-pub Goes-trans : {F : Type 0} {g : Normalizes F} {a b c : Cx} {s t u : NormalizationFolder F} → Goes g a b s t → Goes g b c t u → Goes g a c s u
-Goes-trans {a} {b} {c} {s} {t} {u} h k =
-    record { grows = grows_on a b c h.grows k.grows; ready = k.ready; keeps = Keeps-trans s t u h.keeps k.keeps }
+pub FolderGoes-trans : {F : Type 0} {g : ClosureNormalizes F} {a b c : Cx} {s t u : NormalizationFolder F} → FolderGoes g a b s t → FolderGoes g b c t u → FolderGoes g a c s u
+FolderGoes-trans {a} {b} {c} {s} {t} {u} h k =
+    record { grows = grows_on a b c h.grows k.grows; ready = k.ready; keeps = FolderKeeps-trans s t u h.keeps k.keeps }
 
 -- and then the store grows
-pub Goes-grown : {F : Type 0} {g : Normalizes F} {a b c : Cx} {s t : NormalizationFolder F} → Goes g a b s t → Grows b c → Goes g a c s t
-Goes-grown {g} {a} {b} {c} {s} {t} h k =
-    record { grows = grows_on a b c h.grows k; ready = IsReady-kept g b.nodes c.nodes t h.ready k.extends; keeps = h.keeps }
+pub FolderGoes-grown : {F : Type 0} {g : ClosureNormalizes F} {a b c : Cx} {s t : NormalizationFolder F} → FolderGoes g a b s t → Grows b c → FolderGoes g a c s t
+FolderGoes-grown {g} {a} {b} {c} {s} {t} h k =
+    record { grows = grows_on a b c h.grows k; ready = IsFolderReady-kept g b.nodes c.nodes t h.ready k.extends; keeps = h.keeps }
 
 -- the table changes, and the universes, while the store grows
-pub Goes-changed : {F : Type 0} {g : Normalizes F} {a b : Cx} {s : NormalizationFolder F} {t : NormalizationFolder F}
-    → IsReady g a.nodes s → Grows a b → IsTable b.nodes t.table → ChangesEntries s.table t.table → t.stalled_goals ≡ s.stalled_goals → Goes g a b s t
-Goes-changed {s} {t} h k m n e =
+pub FolderGoes-changed : {F : Type 0} {g : ClosureNormalizes F} {a b : Cx} {s : NormalizationFolder F} {t : NormalizationFolder F}
+    → IsFolderReady g a.nodes s → Grows a b → IsTable b.nodes t.table → ChangesEntries s.table t.table → t.stalled_goals ≡ s.stalled_goals → FolderGoes g a b s t
+FolderGoes-changed {s} {t} h k m n e =
     record {
       grows = k;
       ready = record { table = m; goals = rw e (goals_kept k.extends s.stalled_goals.items h.goals); normalizer = h.normalizer };
@@ -53,8 +53,8 @@ Goes-changed {s} {t} h k m n e =
     }
 
 -- universes that were made for a folder's list, while the store grew
-pub fills : {F : Type 0} {g : Normalizes F} {a b : List Tree} (s t : NormalizationFolder F) (x : Tree)
-    → IsReady g a s → Extends a b → AreFilled (escapes x) s.universes.items t.universes.items s.table.entries t.table.entries → t.stalled_goals ≡ s.stalled_goals → t.normalize ≡ s.normalize
+pub fills : {F : Type 0} {g : ClosureNormalizes F} {a b : List Tree} (s t : NormalizationFolder F) (x : Tree)
+    → IsFolderReady g a s → Extends a b → AreFilled (escapes x) s.universes.items t.universes.items s.table.entries t.table.entries → t.stalled_goals ≡ s.stalled_goals → t.normalize ≡ s.normalize
     → Fills g (standing_of a s) x (standing_of b t)
 fills {a} {b} s t x h e k m n =
     record {
@@ -72,9 +72,9 @@ on_ok P Q f (Ok x) h = f x h
 on_ok P Q f (Err e) h = tt
 
 -- goals are collected
-pub Goes-collects : {F : Type 0} {g : Normalizes F} {a b : Cx} {s t u : NormalizationFolder F} (more : List Goal) → Goes g a b s t → u.table ≡ t.table
-    → u.stalled_goals.items ≡ t.stalled_goals.items ++ more → All (HoldsGoal b.nodes) more → Goes g a b s u
-Goes-collects {b} {s} {t} {u} more h e k m =
+pub FolderGoes-collects : {F : Type 0} {g : ClosureNormalizes F} {a b : Cx} {s t u : NormalizationFolder F} (more : List Goal) → FolderGoes g a b s t → u.table ≡ t.table
+    → u.stalled_goals.items ≡ t.stalled_goals.items ++ more → All (HoldsGoal b.nodes) more → FolderGoes g a b s u
+FolderGoes-collects {b} {s} {t} {u} more h e k m =
     record {
       grows = h.grows;
       ready = record { table = rw e h.ready.table; goals = rw k (All-append (HoldsGoal b.nodes) t.stalled_goals.items more h.ready.goals m); normalizer = h.ready.normalizer };
@@ -101,8 +101,8 @@ collected_trees f None = refl
 collected_trees f (Some x) = refl
 
 -- what collecting a goal is to a walk, while the store grows
-pub collects : {F : Type 0} {g : Normalizes F} {a b : List Tree} (s u : NormalizationFolder F) (o : Option Goal)
-    → IsReady g a s → Extends a b → IfSome o (HoldsGoal a) → u.table ≡ s.table → u.universes ≡ s.universes → u.normalize ≡ s.normalize
+pub collects : {F : Type 0} {g : ClosureNormalizes F} {a b : List Tree} (s u : NormalizationFolder F) (o : Option Goal)
+    → IsFolderReady g a s → Extends a b → IfSome o (HoldsGoal a) → u.table ≡ s.table → u.universes ≡ s.universes → u.normalize ≡ s.normalize
     → u.stalled_goals.items ≡ s.stalled_goals.items ++ collected o → Collects g (option_map (tree_of_goal a) o) (standing_of a s) (standing_of b u)
 collects {a} {b} s u o h e k m n p q =
     record {

@@ -28,10 +28,10 @@ abbrev pub Answer : Type 0
 Answer = Result (Term × Option Goal) EvalError
 
 -- a closure of this type
-abbrev pub Normalizes : Type 0 → Type 1
-Normalizes F = Mut F (MutBor Table × (MutBor Cx × (AliasTerm × Unit {0}))) (Answer × (MutBor Table × (MutBor Cx × Unit {0})))
+abbrev pub ClosureNormalizes : Type 0 → Type 1
+ClosureNormalizes F = Mut F (MutBor Table × (MutBor Cx × (AliasTerm × Unit {0}))) (Answer × (MutBor Table × (MutBor Cx × Unit {0})))
 
-module _ {F : Type 0} (g : Normalizes F) where
+module _ {F : Type 0} (g : ClosureNormalizes F) where
   -- the closure may be called so
   abbrev pub MayBeCalled : F → Table → Cx → AliasTerm → Type 0
   MayBeCalled f t cx a = (p : MutBor Table) (q : MutBor Cx) → p.now ≡ t → q.now ≡ cx → g.pre f (p, (q, (a, tt)))
@@ -64,14 +64,14 @@ pub record KeepsAll (t : Table) (cx : Cx) (a : AliasTerm) (r : Answer) (t' : Tab
 
 -- the closure may be called with each table and alias of a store; it keeps the terms of the store and the open snapshots and
 -- the mode of the table, and answers a term of the alias's sort that the table knows
-pub record IsNormalizer {F : Type 0} (g : Normalizes F) : Type 0 where
+pub record IsNormalizer {F : Type 0} (g : ClosureNormalizes F) : Type 0 where
   pub callable : (f : F) (t : Table) (cx : Cx) (a : AliasTerm) → IsTable cx.nodes t → IsAliasTerm cx.nodes a → MayBeCalled g f t cx a
   pub keeps : (f : F) (t : Table) (cx : Cx) (a : AliasTerm) (r : Answer) (f' : F) (t' : Table) (cx' : Cx)
       → IsTable cx.nodes t → IsAliasTerm cx.nodes a → IsCalled g f t cx a r f' t' cx' → KeepsAll t cx a r t' cx'
 
 -- the closure, handed a table of the content c and the alias x, may answer the term y and the goal o, and leave the table with
 -- the content d
-pub record Answers {F : Type 0} (g : Normalizes F) (f : F) (c : Content) (x y : Tree) (o : Option Tree) (f' : F) (d : Content) : Type 0 where
+pub record ClosureAnswers {F : Type 0} (g : ClosureNormalizes F) (f : F) (c : Content) (x y : Tree) (o : Option Tree) (f' : F) (d : Content) : Type 0 where
   pub before : Table
   pub after : Table
   pub old : Cx
@@ -87,7 +87,7 @@ pub record Answers {F : Type 0} (g : Normalizes F) (f : F) (c : Content) (x y : 
   pub ambiguous : option_map (tree_of_goal new.nodes) goal ≡ o
 
 -- the closure, handed a table of the content c and the alias x, may answer the error e
-pub record Refuses {F : Type 0} (g : Normalizes F) (f : F) (c : Content) (x : Tree) (e : EvalError) : Type 0 where
+pub record ClosureRefuses {F : Type 0} (g : ClosureNormalizes F) (f : F) (c : Content) (x : Tree) (e : EvalError) : Type 0 where
   pub before : Table
   pub after : Table
   pub old : Cx

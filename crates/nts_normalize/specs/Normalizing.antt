@@ -12,10 +12,10 @@ use Rattle.nts_placeholder.specs.declared.maps.BoundVar.{BoundVar}
 use Rattle.nts_placeholder.specs.Closing.{closed_by}
 use Rattle.nts_placeholder.specs.Escaping.{escapes}
 use Rattle.nts_placeholder.specs.Opening.{opened_by, AreMapsOf}
-use Rattle.nts_placeholder.specs.Universes.{filled, open_before, IsReach, RunsOut}
+use Rattle.nts_placeholder.specs.Universes.{filled_universes, open_before, IsReach, RunsOut}
 use Rattle.nts_store.specs.declared.fault.EvalError.{EvalError}
 use Rattle.nts_store.specs.declared.fault.EvalError.TheVariants.{Memory, Full}
-use Rattle.nts_normalize.specs.Calling.{Normalizes, Answers, Refuses}
+use Rattle.nts_normalize.specs.Calling.{ClosureNormalizes, ClosureAnswers, ClosureRefuses}
 
 -- where a walk stands: what the table holds, the universes of the binders around, the innermost last, the goals that were
 -- collected, and the closure
@@ -58,10 +58,10 @@ pub record IsLeftOut (u : ℕ) (c : Content) (t : Tree) (o : Option Tree) : Type
   pub ambiguous : IsSome o
   pub new : NamesVariables u c t → ⊥
 
-module _ {F : Type 0} (g : Normalizes F) where
+module _ {F : Type 0} (g : ClosureNormalizes F) where
   -- in one more universe the closure answers of the alias x the term y and the goal o
   pub record Asks (s : Standing F) (x y : Tree) (o : Option Tree) (t : Standing F) : Type 0 where
-    pub answers : Answers g s.normalize (in_universe s.content (s.content.universe + 1)) x y o t.normalize t.content
+    pub answers : ClosureAnswers g s.normalize (in_universe s.content (s.content.universe + 1)) x y o t.normalize t.content
     pub universes : t.universes ≡ s.universes
     pub goals : t.goals ≡ s.goals
 
@@ -76,13 +76,13 @@ module _ {F : Type 0} (g : Normalizes F) where
   pub record Fills (s : Standing F) (x : Tree) (t : Standing F) : Type 0 where
     pub reach : ℕ
     pub is_reach : IsReach s.universes (escapes x) reach
-    pub universes : t.universes ≡ filled s.content.universe reach s.universes
+    pub universes : t.universes ≡ filled_universes s.content.universe reach s.universes
     pub content : t.content ≡ in_universe s.content (s.content.universe + open_before reach s.universes)
     pub goals : t.goals ≡ s.goals
     pub normalize : t.normalize ≡ s.normalize
 
   -- the alias x is opened with placeholders of the universes around: this is y, and the maps tell what stands for what
-  pub record Opens (s : Standing F) (x y : Tree) (maps : Sort → Placeholder → Option BoundVar) (t : Standing F) : Type 0 where
+  pub record OpensAlias (s : Standing F) (x y : Tree) (maps : Sort → Placeholder → Option BoundVar) (t : Standing F) : Type 0 where
     pub fills : Fills s x t
     pub are_maps : AreMapsOf t.universes (escapes x) maps
     pub tree : y ≡ opened_by t.universes 0 x
@@ -113,7 +113,7 @@ module _ {F : Type 0} (g : Normalizes F) where
     pub between : Standing F
     pub alias : Tree
     pub maps : Sort → Placeholder → Option BoundVar
-    pub opens : Opens s x alias maps between
+    pub opens : OpensAlias s x alias maps between
     pub answered : IsAnsweredUnder between x alias maps y t
 
   -- one that names a binder beyond those listed stays
@@ -132,7 +132,7 @@ module _ {F : Type 0} (g : Normalizes F) where
   abbrev pub FailsToAsk : Standing F → Tree → EvalError → Type 0
   FailsToAsk s x e =
       (e ≡ Full) × (s.content.universe ≡ last_universe)
-      ⊎ Refuses g s.normalize (in_universe s.content (s.content.universe + 1)) x e
+      ⊎ ClosureRefuses g s.normalize (in_universe s.content (s.content.universe + 1)) x e
 
   -- an alias under binders fails: there are too few universes to open it, or the question about the opened one fails
   pub record FailsUnder (s : Standing F) (x : Tree) (e : EvalError) : Type 0 where
@@ -141,12 +141,12 @@ module _ {F : Type 0} (g : Normalizes F) where
     pub ends :
         (e ≡ Full) × RunsOut (escapes x) s.universes s.content.universe last_universe
         ⊎ ((between : Standing F) × (alias : Tree) × (maps : Sort → Placeholder → Option BoundVar)
-        × Opens s x alias maps between × FailsToAsk between alias e)
+        × OpensAlias s x alias maps between × FailsToAsk between alias e)
 
   -- the errors at a term: want of memory, and what fails at an alias
-  abbrev pub Fails : Standing F → Option Tree → EvalError → Type 0
-  Fails s None e = e ≡ Memory
-  Fails s (Some x) e = (e ≡ Memory) ⊎ (is_alias_tree x ≡ true) × (IsClosed x × FailsToAsk s x e ⊎ FailsUnder s x e)
+  abbrev pub FailsToNormalize : Standing F → Option Tree → EvalError → Type 0
+  FailsToNormalize s None e = e ≡ Memory
+  FailsToNormalize s (Some x) e = (e ≡ Memory) ⊎ (is_alias_tree x ≡ true) × (IsClosed x × FailsToAsk s x e ⊎ FailsUnder s x e)
 
 -- a part without aliases may be left as it is; any other is gone into
 abbrev pub Skips : {F : Type 0} → Standing F → Tree → Option Tree → Standing F → Type 0
@@ -157,13 +157,13 @@ Skips s x (Some y) t = (any_label is_alias x ≡ false) × (y ≡ x) × (t ≡ s
 abbrev pub Enters : {F : Type 0} → Standing F → Standing F → Type 0
 Enters s t = t ≡ record s { universes = s.universes ++ None ∷ [] }
 
-abbrev pub Leaves : {F : Type 0} → Standing F → Standing F → Type 0
-Leaves s t = t ≡ record s { universes = take (length s.universes - 1) s.universes }
+abbrev pub LeavesStanding : {F : Type 0} → Standing F → Standing F → Type 0
+LeavesStanding s t = t ≡ record s { universes = take (length s.universes - 1) s.universes }
 
 -- from one standing to another the tree x becomes y
-abbrev pub IsNormalized : {F : Type 0} → Normalizes F → Standing F → Tree → Tree → Standing F → Type 0
-IsNormalized g s x y t = Walk Skips Enters Leaves (Rebuilds g) s x y t
+abbrev pub IsNormalized : {F : Type 0} → ClosureNormalizes F → Standing F → Tree → Tree → Standing F → Type 0
+IsNormalized g s x y t = Walk Skips Enters LeavesStanding (Rebuilds g) s x y t
 
 -- the walk of the tree x from that standing ends at the error e
-abbrev pub StopsNormalizing : {F : Type 0} → Normalizes F → Standing F → Tree → EvalError → Type 0
-StopsNormalizing g s x e = Stops Skips Enters Leaves (Rebuilds g) (Fails g) s x e
+abbrev pub StopsNormalizing : {F : Type 0} → ClosureNormalizes F → Standing F → Tree → EvalError → Type 0
+StopsNormalizing g s x e = Stops Skips Enters LeavesStanding (Rebuilds g) (FailsToNormalize g) s x e

@@ -15,26 +15,26 @@ use Rattle.nts_unify.specs.Lawful.{content_of-extended}
 use Rattle.nts_table.specs.TableLaws.{IsTable-extended}
 use Rattle.nts_table.specs.Frames.{ChangesEntries}
 use Rattle.nts_normalize.specs.declared.folder.NormalizationFolder.{NormalizationFolder}
-use Rattle.nts_normalize.specs.Calling.{Normalizes, IsNormalizer, tree_of_goal}
+use Rattle.nts_normalize.specs.Calling.{ClosureNormalizes, IsNormalizer, tree_of_goal}
 use Rattle.nts_normalize.specs.Normalizing.{Standing}
 
 -- the folder and its table belong to the store, and its closure keeps what it has to
-pub record IsReady {F : Type 0} (g : Normalizes F) (ts : List Tree) (s : NormalizationFolder F) : Type 0 where
+pub record IsFolderReady {F : Type 0} (g : ClosureNormalizes F) (ts : List Tree) (s : NormalizationFolder F) : Type 0 where
   pub table : IsTable ts s.table
   pub goals : All (HoldsGoal ts) s.stalled_goals.items
   pub normalizer : IsNormalizer g
 
 -- what a walk keeps of the folder, after an error too: the snapshots and the mode of its table, and the goals that it has collected
-pub record Keeps {F : Type 0} (s t : NormalizationFolder F) : Type 0 where
+pub record FolderKeeps {F : Type 0} (s t : NormalizationFolder F) : Type 0 where
   pub changes : ChangesEntries s.table t.table
   pub more : List Goal
   pub goals : t.stalled_goals.items ≡ s.stalled_goals.items ++ more
 
 -- a step: the store grew at most, folder and table are of it, and the folder keeps what it has to
-pub record Goes {F : Type 0} (g : Normalizes F) (a b : Cx) (s t : NormalizationFolder F) : Type 0 where
+pub record FolderGoes {F : Type 0} (g : ClosureNormalizes F) (a b : Cx) (s t : NormalizationFolder F) : Type 0 where
   pub grows : Grows a b
-  pub ready : IsReady g b.nodes t
-  pub keeps : Keeps s t
+  pub ready : IsFolderReady g b.nodes t
+  pub keeps : FolderKeeps s t
 
 -- where a folder stands with a table
 abbrev pub standing_with : {F : Type 0} → List Tree → Table → NormalizationFolder F → Standing F
@@ -57,19 +57,19 @@ goals_same e (g ∷ gs) h =
     let first = h 0 g (omega arith) in
     cc (same_pair (e.kept g.param_env.node first.env.within) (e.kept g.predicate.node first.predicate.within), goals_same e gs (λ k d l. h (suc k) d (omega arith)))
 
-pub IsReady-kept : {F : Type 0} (g : Normalizes F) (a b : List Tree) (s : NormalizationFolder F) → IsReady g a s → Extends a b → IsReady g b s
-IsReady-kept g a b s h e =
+pub IsFolderReady-kept : {F : Type 0} (g : ClosureNormalizes F) (a b : List Tree) (s : NormalizationFolder F) → IsFolderReady g a s → Extends a b → IsFolderReady g b s
+IsFolderReady-kept g a b s h e =
     record { table = IsTable-extended e h.table; goals = goals_kept e s.stalled_goals.items h.goals; normalizer = h.normalizer }
 
-pub standing_of-kept : {F : Type 0} (g : Normalizes F) (a b : List Tree) (s : NormalizationFolder F) → IsReady g a s → Extends a b → standing_of b s ≡ standing_of a s
+pub standing_of-kept : {F : Type 0} (g : ClosureNormalizes F) (a b : List Tree) (s : NormalizationFolder F) → IsFolderReady g a s → Extends a b → standing_of b s ≡ standing_of a s
 standing_of-kept g a b s h e =
     cc (content_of-extended e h.table.now, goals_same e s.stalled_goals.items h.goals)
 
-pub Keeps-refl : {F : Type 0} (s : NormalizationFolder F) → Keeps s s
-Keeps-refl s = record { changes = record { saved = refl; mode = refl }; more = []; goals = sym (append-nil s.stalled_goals.items) }
+pub FolderKeeps-refl : {F : Type 0} (s : NormalizationFolder F) → FolderKeeps s s
+FolderKeeps-refl s = record { changes = record { saved = refl; mode = refl }; more = []; goals = sym (append-nil s.stalled_goals.items) }
 
-pub Keeps-trans : {F : Type 0} (s t u : NormalizationFolder F) → Keeps s t → Keeps t u → Keeps s u
-Keeps-trans s t u h k =
+pub FolderKeeps-trans : {F : Type 0} (s t u : NormalizationFolder F) → FolderKeeps s t → FolderKeeps t u → FolderKeeps s u
+FolderKeeps-trans s t u h k =
     record {
       changes = record { saved = k.changes.saved ∙ h.changes.saved; mode = k.changes.mode ∙ h.changes.mode };
       more = h.more ++ k.more;

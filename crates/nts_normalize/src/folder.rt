@@ -14,8 +14,8 @@ ghost use Rattle.nts_placeholder.specs.Closing.{mapped, closed_by};
 ghost use Rattle.nts_placeholder.specs.Escaping.{escapes};
 ghost use Rattle.nts_placeholder.specs.Universes.{RunsOut};
 ghost use Rattle.nts_normalize.specs.Calling.{IsNormalizer, IsAliasTerm, IsAnswerIn, tree_of_goal};
-ghost use Rattle.nts_normalize.specs.Normalizing.{Standing, Skips, Enters, Leaves, Rebuilds, Asks, Opens, IsLeftOut, IsAnsweredUnder, IsReplacedUnder, Fails, FailsToAsk, FailsUnder, IsNormalized, StopsNormalizing, is_alias_tree, collected};
-ghost use Rattle.nts_normalize.specs.Walking.{IsReady, Keeps, Goes, standing_of, standing_with, IsReady-kept, standing_of-kept, Keeps-refl, Keeps-trans};
+ghost use Rattle.nts_normalize.specs.Normalizing.{Standing, Skips, Enters, LeavesStanding, Rebuilds, Asks, OpensAlias, IsLeftOut, IsAnsweredUnder, IsReplacedUnder, FailsToNormalize, FailsToAsk, FailsUnder, IsNormalized, StopsNormalizing, is_alias_tree, collected};
+ghost use Rattle.nts_normalize.specs.Walking.{IsFolderReady, FolderKeeps, FolderGoes, standing_of, standing_with, IsFolderReady-kept, standing_of-kept, FolderKeeps-refl, FolderKeeps-trans};
 
 use crate::aliases::{alias_of, names_variables};
 use nts_folding::{TypeFoldable, TypeFolder};
@@ -114,17 +114,17 @@ where
 
     /// What stands for an alias whose arguments were normalized.
     fn replace(&mut self, cx: &mut Cx, t: Term, alias: AliasTerm) -> Result<Term, EvalError>
-        requires ready { IsReady F.FnMut cx.old.nodes self.old }
+        requires ready { IsFolderReady F.FnMut cx.old.nodes self.old }
         requires holds { HoldsTerm cx.old.nodes t }
         requires alias { tree_at cx.old.nodes t.node ≡ tree_of_alias cx.old.nodes alias }
         requires is { is_alias_tree (tree_at cx.old.nodes t.node) ≡ true }
         requires args { IsAliasTerm cx.old.nodes alias × HoldsResult cx.old.nodes alias t }
-        ensures goes { Goes F.FnMut cx.old cx.new self.old self.new }
+        ensures goes { FolderGoes F.FnMut cx.old cx.new self.old self.new }
         ensures within { IfOk result (λ r. IsIn cx.new.nodes r.node) }
         ensures kind { IfOk result (λ r. kind_of (tree_at cx.new.nodes r.node) ≡ kind_of (tree_at cx.old.nodes t.node)) }
         ensures rebuilds { IfOk result (λ r. Rebuilds F.FnMut (standing_of cx.old.nodes self.old) (tree_at
             cx.old.nodes t.node) (tree_at cx.new.nodes r.node) (standing_of cx.new.nodes self.new)) }
-        ensures err { IfErr result (Fails F.FnMut (standing_of cx.old.nodes self.old) (Some (tree_at
+        ensures err { IfErr result (FailsToNormalize F.FnMut (standing_of cx.old.nodes self.old) (Some (tree_at
             cx.old.nodes t.node))) }
     {
         if cx.has_escaping_bound_vars(t) {
@@ -140,12 +140,12 @@ where
 
     /// What stands for an alias that names binders around the value: it is opened, and the answer is closed.
     fn replace_under(&mut self, cx: &mut Cx, t: Term) -> Result<Term, EvalError>
-        requires ready { IsReady F.FnMut cx.old.nodes self.old }
+        requires ready { IsFolderReady F.FnMut cx.old.nodes self.old }
         requires holds { HoldsTerm cx.old.nodes t }
         requires is { is_alias_tree (tree_at cx.old.nodes t.node) ≡ true }
         requires open { IsClosed (tree_at cx.old.nodes t.node) → ⊥ }
         requires listed { IsClosedUnder (length self.old.universes.items) (tree_at cx.old.nodes t.node) }
-        ensures goes { Goes F.FnMut cx.old cx.new self.old self.new }
+        ensures goes { FolderGoes F.FnMut cx.old cx.new self.old self.new }
         ensures within { IfOk result (λ r. IsIn cx.new.nodes r.node) }
         ensures kind { IfOk result (λ r. kind_of (tree_at cx.new.nodes r.node) ≡ kind_of (tree_at cx.old.nodes t.node)) }
         ensures replaced { IfOk result (λ r. IsReplacedUnder F.FnMut (standing_of cx.old.nodes self.old) (tree_at
@@ -165,11 +165,11 @@ where
         alias: AliasTerm,
         maps: &PlaceholderMaps,
     ) -> Result<Term, EvalError>
-        requires ready { IsReady F.FnMut cx.old.nodes self.old }
+        requires ready { IsFolderReady F.FnMut cx.old.nodes self.old }
         requires holds { HoldsTerm cx.old.nodes t }
         requires args { IsAliasTerm cx.old.nodes alias }
         requires sort { kind_of (tree_of_alias cx.old.nodes alias) ≡ kind_of (tree_at cx.old.nodes t.node) }
-        ensures goes { Goes F.FnMut cx.old cx.new self.old self.new }
+        ensures goes { FolderGoes F.FnMut cx.old cx.new self.old self.new }
         ensures within { IfOk result (λ r. IsIn cx.new.nodes r.node) }
         ensures kind { IfOk result (λ r. kind_of (tree_at cx.new.nodes r.node) ≡ kind_of (tree_at cx.old.nodes t.node)) }
         ensures ends { IfOk result (λ r. IsAnsweredUnder F.FnMut (standing_of cx.old.nodes self.old)
@@ -190,14 +190,14 @@ where
 
     /// The alias with placeholders in place of the bound variables that escape from it.
     fn open(&mut self, cx: &mut Cx, t: Term) -> Result<(AliasTerm, PlaceholderMaps), EvalError>
-        requires ready { IsReady F.FnMut cx.old.nodes self.old }
+        requires ready { IsFolderReady F.FnMut cx.old.nodes self.old }
         requires holds { HoldsTerm cx.old.nodes t }
         requires is { is_alias_tree (tree_at cx.old.nodes t.node) ≡ true }
         requires listed { IsClosedUnder (length self.old.universes.items) (tree_at cx.old.nodes t.node) }
-        ensures goes { Goes F.FnMut cx.old cx.new self.old self.new }
+        ensures goes { FolderGoes F.FnMut cx.old cx.new self.old self.new }
         ensures args { IfOk result (λ r. IsAliasTerm cx.new.nodes r.0) }
         ensures sort { IfOk result (λ r. kind_of (tree_of_alias cx.new.nodes r.0) ≡ kind_of (tree_at cx.old.nodes t.node)) }
-        ensures opens { IfOk result (λ r. Opens F.FnMut (standing_of cx.old.nodes self.old) (tree_at
+        ensures opens { IfOk result (λ r. OpensAlias F.FnMut (standing_of cx.old.nodes self.old) (tree_at
             cx.old.nodes t.node) (tree_of_alias cx.new.nodes r.0) (mapped r.1) (standing_of cx.new.nodes
             self.new)) }
         ensures err { IfErr result (λ e. (e ≡ EvalError.Memory) ⊎ ((e ≡ EvalError.Full) × RunsOut (escapes
@@ -223,7 +223,7 @@ where
         term: Term,
         goal: Option<Goal>,
     ) -> Result<bool, Fault>
-        requires ready { IsReady F.FnMut cx.old.nodes self.now }
+        requires ready { IsFolderReady F.FnMut cx.old.nodes self.now }
         requires holds { HoldsTerm cx.old.nodes term }
         requires known { Knows (content_of cx.old.nodes self.now.table.entries) (tree_at cx.old.nodes term.node) }
         ensures grows { Grows cx.old cx.new }
@@ -241,7 +241,7 @@ where
 
     /// The term under the values of the table, with bound variables in place of the placeholders that the maps list.
     fn close(&self, cx: &mut Cx, maps: &PlaceholderMaps, term: Term) -> Result<Term, Fault>
-        requires ready { IsReady F.FnMut cx.old.nodes self.now }
+        requires ready { IsFolderReady F.FnMut cx.old.nodes self.now }
         requires holds { HoldsTerm cx.old.nodes term }
         requires known { Knows (content_of cx.old.nodes self.now.table.entries) (tree_at cx.old.nodes term.node) }
         ensures grows { Grows cx.old cx.new }
@@ -257,9 +257,9 @@ where
 
     /// What the closure answers of an alias, in one more universe.
     fn ask(&mut self, cx: &mut Cx, alias: AliasTerm) -> Result<(Term, Option<Goal>), EvalError>
-        requires ready { IsReady F.FnMut cx.old.nodes self.old }
+        requires ready { IsFolderReady F.FnMut cx.old.nodes self.old }
         requires args { IsAliasTerm cx.old.nodes alias }
-        ensures goes { Goes F.FnMut cx.old cx.new self.old self.new }
+        ensures goes { FolderGoes F.FnMut cx.old cx.new self.old self.new }
         ensures answer { IfOk result (IsAnswerIn cx.new.nodes self.new.table alias) }
         ensures asks { IfOk result (λ r. Asks F.FnMut (standing_of cx.old.nodes self.old) (tree_of_alias
             cx.old.nodes alias) (tree_at cx.new.nodes r.0.node) (option_map (tree_of_goal cx.new.nodes) r.1)
@@ -310,25 +310,25 @@ where
 
     ghost meaning = { standing_of };
 
-    ghost ready = { IsReady F.FnMut };
+    ghost ready = { IsFolderReady F.FnMut };
 
     ghost answers = { Skips };
 
     ghost enters = { Enters };
 
-    ghost leaves = { Leaves };
+    ghost leaves = { LeavesStanding };
 
     ghost rebuilds = { Rebuilds F.FnMut };
 
-    ghost fails = { Fails F.FnMut };
+    ghost fails = { FailsToNormalize F.FnMut };
 
-    ghost keeps = { Keeps };
+    ghost keeps = { FolderKeeps };
 
-    ghost keeps_refl = { Keeps-refl };
+    ghost keeps_refl = { FolderKeeps-refl };
 
-    ghost keeps_trans = { Keeps-trans };
+    ghost keeps_trans = { FolderKeeps-trans };
 
-    ghost ready_kept = { λ a b s h e. IsReady-kept F.FnMut a b s h e };
+    ghost ready_kept = { λ a b s h e. IsFolderReady-kept F.FnMut a b s h e };
 
     ghost memory_fails = { λ m e h. h };
 

@@ -15,7 +15,7 @@ use Rattle.nts_placeholder.specs.declared.maps.BoundVar.{BoundVar}
 use Rattle.nts_placeholder.specs.Closing.{placeholder_of, one_on, is_universe, entry_of, closed_at, closed_placeholder, closed_label, closed_by}
 use Rattle.nts_placeholder.specs.Escaping.{is_bound, escapes_under, escapes}
 use Rattle.nts_placeholder.specs.Opening.{placeholder_label, or_root, universe_at, opened_label, opened_by, entry_for, placeholder_for, AreMapsOf}
-use Rattle.nts_placeholder.specs.Inverse.{AreDistinct, IsUnlisted, AllUnlisted, NamesUniverses, ClosingGivesBack}
+use Rattle.nts_placeholder.specs.Inverse.{AreUniversesDistinct, IsUnlisted, AllUnlisted, NamesUniverses, ClosingGivesBack}
 use Rattle.nts_placeholder.proofs.OpeningLemmas.{escapes_low}
 use Rattle.nts_placeholder.proofs.Reaching.{or_left, or_right, same_sort-same}
 
@@ -54,7 +54,7 @@ value_in : (o : Option BoundVar) → IsSome o → (b : BoundVar) × (o ≡ Some 
 value_in None h = cc
 value_in (Some b) h = (b, refl)
 
-good : (U : List (Option ℕ)) (M : Sort → Placeholder → Option BoundVar) (t : Tree) → AreDistinct U → IsClosedUnder (length U) t → NamesUniverses U t → AreMapsOf U (escapes t) M → (s : Sort) (b : BoundVar) → escapes t s b ≡ true → IsGood U M s b
+good : (U : List (Option ℕ)) (M : Sort → Placeholder → Option BoundVar) (t : Tree) → AreUniversesDistinct U → IsClosedUnder (length U) t → NamesUniverses U t → AreMapsOf U (escapes t) M → (s : Sort) (b : BoundVar) → escapes t s b ≡ true → IsGood U M s b
 good U M t d k n m s b e =
     let named = n s b e in
     let at : universe_at U (entry_for U b) ≡ named.0 = ap or_root (get_or_from_slice_get U (entry_for U b) (Some named.0) None named.1) in

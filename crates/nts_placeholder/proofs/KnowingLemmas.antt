@@ -11,7 +11,7 @@ use Rattle.nts_unify.specs.Lawful.{content_of-extended}
 use Rattle.nts_placeholder.specs.declared.maps.BoundVar.{BoundVar}
 use Rattle.nts_placeholder.specs.Knowing.{NamesListed}
 use Rattle.nts_placeholder.specs.Opening.{opened_by}
-use Rattle.nts_placeholder.specs.Universes.{filled, open_before, AreFilled}
+use Rattle.nts_placeholder.specs.Universes.{filled_universes, open_before, AreFilled}
 use Rattle.nts_placeholder.proofs.Relabelling.{opening_keeps_known}
 
 names_later : (u v : ℕ) (U : List (Option ℕ)) → u ≤ v → NamesListed u U → NamesListed v U
@@ -19,7 +19,7 @@ names_later u v [] l h = tt
 names_later u v (None ∷ U) l h = names_later u v U l h
 names_later u v (Some k ∷ U) l h = (omega (arith, l, h.0), names_later u v U l h.1)
 
-names_filled : (w u n : ℕ) (U : List (Option ℕ)) → NamesListed w U → u + open_before n U ≤ w → NamesListed w (filled u n U)
+names_filled : (w u n : ℕ) (U : List (Option ℕ)) → NamesListed w U → u + open_before n U ≤ w → NamesListed w (filled_universes u n U)
 names_filled w u zero U h l = h
 names_filled w u (suc n) [] h l = tt
 names_filled w u (suc n) (None ∷ U) h l = (omega (arith, l), names_filled w (u + 1) n U h (omega (arith, l)))

@@ -12,7 +12,7 @@ use Rattle.nts_placeholder.specs.declared.escaping.Escaping.{Escaping}
 use Rattle.nts_placeholder.specs.Escaping.{same_sort, is_bound, escapes_under, escapes, is_among}
 use Rattle.nts_placeholder.specs.declared.maps.Placeholder.{Placeholder}
 use Rattle.nts_placeholder.specs.Opening.{opened_label, opened_by, AreMapsOf}
-use Rattle.nts_placeholder.specs.Universes.{filled, open_before, IsNeeded, IsReach}
+use Rattle.nts_placeholder.specs.Universes.{filled_universes, open_before, IsNeeded, IsReach}
 use Rattle.nts_placeholder.proofs.Reaching.{both, either, reach_same}
 use Rattle.nts_placeholder.proofs.Mapping.{maps_same}
 
@@ -68,7 +68,7 @@ escapes_low s b n t e h =
     let k : IsClosedUnder (n + 0) t = rw (← same) h in
     escaping_low s b n 0 t e k
 
-pub length-filled : (u n : ℕ) (U : List (Option ℕ)) → length (filled u n U) ≡ length U
+pub length-filled : (u n : ℕ) (U : List (Option ℕ)) → length (filled_universes u n U) ≡ length U
 length-filled u zero U = refl
 length-filled u (suc n) [] = refl
 length-filled u (suc n) (None ∷ U) = ap (λ k. suc k) (length-filled (u + 1) n U)
@@ -101,8 +101,8 @@ pub maps_for : (xs ys : List Escaping) (U V : List (Option ℕ)) (t u : Tree) (m
 maps_for xs ys U V t u m h e q r w =
     maps_same (found_of xs ys t u h e q) (subst (λ (W : List (Option ℕ)). AreMapsOf W (is_among ys) m) r w)
 
-pub filled_for : (U V W : List (Option ℕ)) (u v n : ℕ) → W ≡ filled v n V → v ≡ u → V ≡ U → W ≡ filled u n U
-filled_for U V W u v n h e q = h ∙ ap (λ k. filled k n V) e ∙ ap (filled u n) q
+pub filled_for : (U V W : List (Option ℕ)) (u v n : ℕ) → W ≡ filled_universes v n V → v ≡ u → V ≡ U → W ≡ filled_universes u n U
+filled_for U V W u v n h e q = h ∙ ap (λ k. filled_universes k n V) e ∙ ap (filled_universes u n) q
 
 pub open_for : (U V : List (Option ℕ)) (n k : ℕ) → k ≡ open_before n V → V ≡ U → k ≡ open_before n U
 open_for U V n k h q = h ∙ ap (open_before n) q

@@ -9,7 +9,7 @@ use Rattle.nts_placeholder.specs.declared.escaping.Escaping.{Escaping}
 use Rattle.nts_placeholder.specs.Closing.{one_on, is_universe, entry_of}
 use Rattle.nts_placeholder.specs.Escaping.{same_sort, is_it, is_among}
 use Rattle.nts_placeholder.specs.Opening.{entry_for}
-use Rattle.nts_placeholder.specs.Universes.{filled, open_before, IsNeeded, IsReach}
+use Rattle.nts_placeholder.specs.Universes.{filled_universes, open_before, IsNeeded, IsReach}
 use Rattle.nts_placeholder.proofs.Finding.{among-push}
 
 -- variables by what tells them
@@ -138,9 +138,9 @@ drop-past (suc i) [] h = refl
 drop-past zero (x ∷ U) h = absurd (omega (arith, h))
 drop-past (suc i) (x ∷ U) h = drop-past i U (omega (arith, h))
 
-filled-nil : (u n : ℕ) → filled u n [] ≡ []
-filled-nil u zero = refl
-filled-nil u (suc n) = refl
+filled_universes-nil : (u n : ℕ) → filled_universes u n [] ≡ []
+filled_universes-nil u zero = refl
+filled_universes-nil u (suc n) = refl
 
 open-nil : (n : ℕ) → open_before n [] ≡ 0
 open-nil zero = refl
@@ -148,7 +148,7 @@ open-nil (suc n) = refl
 
 -- the entries before place i stand in the new list
 pub record AreSoFar (U : List (Option ℕ)) (u end i : ℕ) (list : List (Option ℕ)) (last : ℕ) : Type 0 where
-  pub all : list ++ filled last (end - i) (drop i U) ≡ filled u end U
+  pub all : list ++ filled_universes last (end - i) (drop i U) ≡ filled_universes u end U
   pub count : last + open_before (end - i) (drop i U) ≡ u + open_before end U
 
 module _ (U : List (Option ℕ)) (u end i : ℕ) (list : List (Option ℕ)) (last : ℕ) (h : AreSoFar U u end i list last) where
@@ -156,17 +156,17 @@ module _ (U : List (Option ℕ)) (u end i : ℕ) (list : List (Option ℕ)) (las
   far_open more_list next at l q is =
       let e : end - i ≡ suc (end - (i + 1)) = omega (arith, l) in
       let R = drop (i + 1) U in
-      let all : list ++ filled last (suc (end - (i + 1))) (None ∷ R) ≡ filled u end U = rw (e, drop-at i U None at) at h.all in
+      let all : list ++ filled_universes last (suc (end - (i + 1))) (None ∷ R) ≡ filled_universes u end U = rw (e, drop-at i U None at) at h.all in
       let count : last + open_before (suc (end - (i + 1))) (None ∷ R) ≡ u + open_before end U = rw (e, drop-at i U None at) at h.count in
       rw (is, q) (record {
-        all = append_assoc list (Some (last + 1) ∷ []) (filled (last + 1) (end - (i + 1)) R) ∙ all;
+        all = append_assoc list (Some (last + 1) ∷ []) (filled_universes (last + 1) (end - (i + 1)) R) ∙ all;
         count = omega (arith, count);
       })
 
   pub far_kept : (more_list : List (Option ℕ)) (v : ℕ) → slice_get U i ≡ Some (Some v) → more_list ≡ list ++ Some v ∷ [] → AreSoFar U u end (i + 1) more_list last
   far_kept more_list v at is = by_case (end - i) refl
     where
-      here : (m : ℕ) → end - i ≡ m → list ++ filled last m (Some v ∷ drop (i + 1) U) ≡ filled u end U
+      here : (m : ℕ) → end - i ≡ m → list ++ filled_universes last m (Some v ∷ drop (i + 1) U) ≡ filled_universes u end U
       here m e = rw (e, drop-at i U (Some v) at) at h.all
 
       many : (m : ℕ) → end - i ≡ m → last + open_before m (Some v ∷ drop (i + 1) U) ≡ u + open_before end U
@@ -178,7 +178,7 @@ module _ (U : List (Option ℕ)) (u end i : ℕ) (list : List (Option ℕ)) (las
           rw is (record { all = rw z (append_assoc list (Some v ∷ []) (drop (i + 1) U) ∙ here zero e); count = rw z (many zero e) })
       by_case (suc m) e =
           let z : end - (i + 1) ≡ m = omega (arith, e) in
-          rw is (record { all = rw z (append_assoc list (Some v ∷ []) (filled last m (drop (i + 1) U)) ∙ here (suc m) e); count = rw z (many (suc m) e) })
+          rw is (record { all = rw z (append_assoc list (Some v ∷ []) (filled_universes last m (drop (i + 1) U)) ∙ here (suc m) e); count = rw z (many (suc m) e) })
 
   pub far_some : (more_list : List (Option ℕ)) (x : Option ℕ) → slice_get U i ≡ Some x → is_some x ≡ true → more_list ≡ list ++ x ∷ [] → AreSoFar U u end (i + 1) more_list last
   far_some more_list None at q is = cc
@@ -189,7 +189,7 @@ module _ (U : List (Option ℕ)) (u end i : ℕ) (list : List (Option ℕ)) (las
       let e : end - i ≡ 0 = omega (arith, l) in
       let z : end - (i + 1) ≡ 0 = omega (arith, l) in
       let R = drop (i + 1) U in
-      let all : list ++ (x ∷ R) ≡ filled u end U = rw (e, drop-at i U x at) at h.all in
+      let all : list ++ (x ∷ R) ≡ filled_universes u end U = rw (e, drop-at i U x at) at h.all in
       let count : last + 0 ≡ u + open_before end U = rw e at h.count in
       rw is (record { all = rw z (append_assoc list (x ∷ []) R ∙ all); count = rw z count })
 
@@ -200,12 +200,12 @@ module _ (U : List (Option ℕ)) (u end i : ℕ) (list : List (Option ℕ)) (las
       let count : last + open_before (suc (end - (i + 1))) (None ∷ R) ≡ u + open_before end U = rw (e, drop-at i U None at) at h.count in
       omega (arith, count, q)
 
-  pub far_all : length U ≤ i → (list ≡ filled u end U) × (last ≡ u + open_before end U)
+  pub far_all : length U ≤ i → (list ≡ filled_universes u end U) × (last ≡ u + open_before end U)
   far_all l =
       let none = drop-past i U l in
-      let all : list ++ filled last (end - i) [] ≡ filled u end U = rw none at h.all in
+      let all : list ++ filled_universes last (end - i) [] ≡ filled_universes u end U = rw none at h.all in
       let count : last + open_before (end - i) [] ≡ u + open_before end U = rw none at h.count in
-      (sym (append-nil list) ∙ ap (λ zs. list ++ zs) (sym (filled-nil last (end - i))) ∙ all, omega (arith, count, open-nil (end - i)))
+      (sym (append-nil list) ∙ ap (λ zs. list ++ zs) (sym (filled_universes-nil last (end - i))) ∙ all, omega (arith, count, open-nil (end - i)))
 
 -- the entry of a universe is looked for from place i on
 

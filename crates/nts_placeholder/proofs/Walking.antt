@@ -18,7 +18,7 @@ use Rattle.nts_placeholder.specs.declared.under.Place.{Place}
 use Rattle.nts_placeholder.specs.declared.under.Task.{Task}
 use Rattle.nts_placeholder.specs.declared.under.Task.TheVariants as task
 use Rattle.nts_placeholder.specs.contracts.under.PlacePartialEq.TheImpl as place_eq
-use Rattle.nts_placeholder.specs.Under.{GoesInside, Job, enter, build, job, jobs, place_of, IsTaskAt, AreTasksFrom, AreTasks, entered, building}
+use Rattle.nts_placeholder.specs.Under.{GoesInside, Job, enter, build, job, jobs, place_of, IsTaskAt, AreTasksFrom, AreTasksUnder, entered, building}
 
 pub same_place : (p q : Place) → place_eq.ghosts.eq p q ≡ true → p ≡ q
 same_place p q h = search rules
@@ -46,26 +46,26 @@ tasks-front ts i [] x h = (tt, deeper h.0 (omega arith))
 tasks-front ts i (y ∷ xs) x h =
     let r = tasks-front ts (i + 1) xs x h.1 in ((h.0, r.0), deeper r.1 (omega arith))
 
-pub AreTasks-push : (ts : List Tree) (xs : List Task) (x : Task) → AreTasks ts xs → IsTaskAt ts (length xs) x → AreTasks ts (xs ++ x ∷ [])
-AreTasks-push ts xs x h k = tasks-push ts 0 xs x h (deeper k (omega arith))
+pub AreTasksUnder-push : (ts : List Tree) (xs : List Task) (x : Task) → AreTasksUnder ts xs → IsTaskAt ts (length xs) x → AreTasksUnder ts (xs ++ x ∷ [])
+AreTasksUnder-push ts xs x h k = tasks-push ts 0 xs x h (deeper k (omega arith))
 
-pub AreTasks-front : (ts : List Tree) (xs : List Task) (x : Task) → AreTasks ts (xs ++ x ∷ []) → AreTasks ts xs × IsTaskAt ts (length xs) x
-AreTasks-front ts xs x h = let r = tasks-front ts 0 xs x h in (r.0, deeper r.1 (omega arith))
+pub AreTasksUnder-front : (ts : List Tree) (xs : List Task) (x : Task) → AreTasksUnder ts (xs ++ x ∷ []) → AreTasksUnder ts xs × IsTaskAt ts (length xs) x
+AreTasksUnder-front ts xs x h = let r = tasks-front ts 0 xs x h in (r.0, deeper r.1 (omega arith))
 
 tasks-extended : {a b : List Tree} → Extends a b → (i : ℕ) (xs : List Task) → AreTasksFrom a i xs → AreTasksFrom b i xs
 tasks-extended e i [] h = tt
 tasks-extended e i (x ∷ xs) h =
     (record { within = IsIn-extended e (place_of x).node h.0.within; depth = h.0.depth }, tasks-extended e (i + 1) xs h.1)
 
-pub AreTasks-extended : {a b : List Tree} → Extends a b → (xs : List Task) → AreTasks a xs → AreTasks b xs
-AreTasks-extended e xs h = tasks-extended e 0 xs h
+pub AreTasksUnder-extended : {a b : List Tree} → Extends a b → (xs : List Task) → AreTasksUnder a xs → AreTasksUnder b xs
+AreTasksUnder-extended e xs h = tasks-extended e 0 xs h
 
 jobs-kept : {a b : List Tree} → Extends a b → (i : ℕ) (xs : List Task) → AreTasksFrom a i xs → jobs b xs ≡ jobs a xs
 jobs-kept e i [] h = refl
 jobs-kept e i (task.Enter p ∷ xs) h = cc (e.kept p.node h.0.within, jobs-kept e (i + 1) xs h.1)
 jobs-kept e i (task.Build p l n ∷ xs) h = cc (e.kept p.node h.0.within, jobs-kept e (i + 1) xs h.1)
 
-pub jobs-extended : {a b : List Tree} → Extends a b → (xs : List Task) → AreTasks a xs → jobs b xs ≡ jobs a xs
+pub jobs-extended : {a b : List Tree} → Extends a b → (xs : List Task) → AreTasksUnder a xs → jobs b xs ≡ jobs a xs
 jobs-extended e xs h = jobs-kept e 0 xs h
 
 -- the tasks of a node
@@ -93,10 +93,10 @@ entered-at d i (node l c) h = absurd (omega arith)
 pub record PushedFrom (ts : List Tree) (d : ℕ) (xs ys : List Task) (u : Tree) (i : ℕ) : Type 0 where
   pub fits : i ≤ row_length (children u)
   pub deep : d ≤ length ys
-  pub tasks : AreTasks ts ys
+  pub tasks : AreTasksUnder ts ys
   pub are : jobs ts ys ≡ jobs ts xs ++ entered d (row_drop i (children u))
 
-pub pushed_start : (ts : List Tree) (d : ℕ) (xs : List Task) (u : Tree) (n : ℕ) → AreTasks ts xs → d ≤ length xs → n ≡ row_length (children u) → IsRow (children u) → PushedFrom ts d xs xs u n
+pub pushed_start : (ts : List Tree) (d : ℕ) (xs : List Task) (u : Tree) (n : ℕ) → AreTasksUnder ts xs → d ≤ length xs → n ≡ row_length (children u) → IsRow (children u) → PushedFrom ts d xs xs u n
 pushed_start ts d xs u n h b e r =
     let none : row_drop n (children u) ≡ empty = rw e (row_drop-all (children u) r) in
     record { fits = omega (arith, e); deep = b; tasks = h; are = rw none (sym (append-nil (jobs ts xs))) }
@@ -109,7 +109,7 @@ pushed_step ts d xs ys zs u i j c p e w q is =
     record {
       fits = omega (arith, p.fits);
       deep = omega (arith, p.deep, ap length is, length-append ys (x ∷ []));
-      tasks = rw is (AreTasks-push ts ys x p.tasks (record { within = w; depth = p.deep }));
+      tasks = rw is (AreTasksUnder-push ts ys x p.tasks (record { within = w; depth = p.deep }));
       are = rw (is, at, jobs-push ts ys x, old, q) (append_assoc (jobs ts xs) (entered d (row_drop (j + 1) (children u))) (enter d (row_at (children u) j) ∷ []));
     }
 
@@ -269,7 +269,7 @@ module _ (C : ℕ → Tree → Type 0) (f : ℕ → Tree → Tree) where
 
 -- doing the tasks, over the terms found so far, ends with the tree x alone
 pub record EndsWith (C : ℕ → Tree → Type 0) (f : ℕ → Tree → Tree) (ts : List Tree) (xs : List Task) (found : List NodeId) (x : Tree) : Type 0 where
-  pub tasks : AreTasks ts xs
+  pub tasks : AreTasksUnder ts xs
   pub found_in : AllIn ts found
   pub are_ready : AreReady C f (jobs ts xs) (map (tree_at ts) found)
   pub ends : run C f (jobs ts xs) (map (tree_at ts) found) ≡ x ∷ []
@@ -278,7 +278,7 @@ pub record EndsWith (C : ℕ → Tree → Type 0) (f : ℕ → Tree → Tree) (t
 pub record MayEnter (C : ℕ → Tree → Type 0) (ts : List Tree) (xs : List Task) (p : Place) : Type 0 where
   pub within : IsIn ts p.node
   pub depth : p.depth ≤ length xs
-  pub tasks : AreTasks ts xs
+  pub tasks : AreTasksUnder ts xs
   pub covers : C p.depth (tree_at ts p.node)
 
 -- what was found for a term under so many binders
@@ -316,10 +316,10 @@ module _ (C : ℕ → Tree → Type 0) (f : ℕ → Tree → Tree) where
   split_jobs ts xs ys k e = rw e (jobs-push ts xs k)
 
   -- the last task with its place taken by others that give the same
-  ends_after : (a b : List Tree) (xs ys zs : List Task) (k : Task) (ws : List Job) (rs qs : List NodeId) (x : Tree) → EndsWith C f a ys rs x → ys ≡ xs ++ k ∷ [] → Extends a b → jobs b zs ≡ jobs b xs ++ ws → run C f ws (map (tree_at b) qs) ≡ done C f (job a k) (map (tree_at a) rs) → AreReady C f ws (map (tree_at b) qs) → AreTasks b zs → AllIn b qs → EndsWith C f b zs qs x
+  ends_after : (a b : List Tree) (xs ys zs : List Task) (k : Task) (ws : List Job) (rs qs : List NodeId) (x : Tree) → EndsWith C f a ys rs x → ys ≡ xs ++ k ∷ [] → Extends a b → jobs b zs ≡ jobs b xs ++ ws → run C f ws (map (tree_at b) qs) ≡ done C f (job a k) (map (tree_at a) rs) → AreReady C f ws (map (tree_at b) qs) → AreTasksUnder b zs → AllIn b qs → EndsWith C f b zs qs x
   ends_after a b xs ys zs k ws rs qs x p e up is same ready tasks found =
       let old = split_jobs a xs ys k e in
-      let front = AreTasks-front a xs k (rw e at p.tasks) in
+      let front = AreTasksUnder-front a xs k (rw e at p.tasks) in
       let new : jobs b zs ≡ jobs a xs ++ ws = is ∙ ap (λ js. js ++ ws) (jobs-extended up xs front.0) in
       let was = AreReady-split C f (jobs a xs) (job a k ∷ []) (map (tree_at a) rs) (rw old at p.are_ready) in
       let end : run C f (jobs a xs) (done C f (job a k) (map (tree_at a) rs)) ≡ x ∷ [] = sym (run-append C f (jobs a xs) (job a k ∷ []) (map (tree_at a) rs)) ∙ ap (λ js. run C f js (map (tree_at a) rs)) (sym old) ∙ p.ends in
@@ -334,7 +334,7 @@ module _ (C : ℕ → Tree → Type 0) (f : ℕ → Tree → Tree) where
   may_enter a xs ys p rs x h e =
       let old = split_jobs a xs ys (task.Enter p) e in
       let was = AreReady-split C f (jobs a xs) (enter p.depth (tree_at a p.node) ∷ []) (map (tree_at a) rs) (rw old at h.are_ready) in
-      let front = AreTasks-front a xs (task.Enter p) (rw e at h.tasks) in
+      let front = AreTasksUnder-front a xs (task.Enter p) (rw e at h.tasks) in
       record { within = front.1.within; depth = front.1.depth; tasks = front.0; covers = was.0.1 }
 
   pub may_build : (a : List Tree) (xs ys : List Task) (o : Place) (l : Label) (n i : ℕ) (rs cs : List NodeId) (x : Tree) → EndsWith C f a ys rs x → ys ≡ xs ++ task.Build o l n ∷ [] → i ≡ length rs - n → cs ≡ drop i rs → MayBuild a l cs
@@ -356,13 +356,13 @@ module _ (C : ℕ → Tree → Type 0) (f : ℕ → Tree → Tree) where
       let len : length (map (tree_at a) rs) - n ≡ i = rw (length-map rs (tree_at a)) (sym q) in
       let made : node l (row (drop i (map (tree_at a) rs))) ≡ f o.depth (tree_at a o.node) = rw len at now.1 in
       let same : row (drop i (map (tree_at a) rs)) ≡ trees_at a (drop i rs) = ap row (drop-map (tree_at a) i rs) ∙ row-trees a (drop i rs) in
-      ((AreTasks-front a xs (task.Build o l n) (rw e at p.tasks)).1.within, ap (node l) (ap (trees_at a) is ∙ sym same) ∙ made)
+      ((AreTasksUnder-front a xs (task.Build o l n) (rw e at p.tasks)).1.within, ap (node l) (ap (trees_at a) is ∙ sym same) ∙ made)
 
   pub ends_done : (a b : List Tree) (xs ys : List Task) (t : Place) (r : NodeId) (rs qs : List NodeId) (x : Tree) → EndsWith C f a ys rs x → ys ≡ xs ++ task.Enter t ∷ [] → Extends a b → IsIn b r → tree_at b r ≡ f t.depth (tree_at a t.node) → qs ≡ rs ++ r ∷ [] → EndsWith C f b xs qs x
   ends_done a b xs ys t r rs qs x p e up w s is =
-      let front = AreTasks-front a xs (task.Enter t) (rw e at p.tasks) in
+      let front = AreTasksUnder-front a xs (task.Enter t) (rw e at p.tasks) in
       let same : map (tree_at b) qs ≡ map (tree_at a) rs ++ f t.depth (tree_at a t.node) ∷ [] = rw (is, map-push b rs r, map-kept a b rs p.found_in up, s) refl in
-      ends_after a b xs ys xs (task.Enter t) [] rs qs x p e up (sym (append-nil (jobs b xs))) same tt (AreTasks-extended up xs front.0) (rw is (AllIn-push b rs r (AllIn-extended up rs p.found_in) w))
+      ends_after a b xs ys xs (task.Enter t) [] rs qs x p e up (sym (append-nil (jobs b xs))) same tt (AreTasksUnder-extended up xs front.0) (rw is (AllIn-push b rs r (AllIn-extended up rs p.found_in) w))
 
   pub ends_known : (a : List Tree) (xs ys : List Task) (t : Place) (r : NodeId) (rs qs : List NodeId) (x : Tree) → EndsWith C f a ys rs x → ys ≡ xs ++ task.Enter t ∷ [] → IsKnown f a t r → qs ≡ rs ++ r ∷ [] → EndsWith C f a xs qs x
   ends_known a xs ys t r rs qs x p e k is =
@@ -370,17 +370,17 @@ module _ (C : ℕ → Tree → Type 0) (f : ℕ → Tree → Tree) where
 
   pub ends_build : (a b : List Tree) (xs ys : List Task) (o : Place) (l : Label) (n i : ℕ) (d : NodeId) (rs cs qs : List NodeId) (x : Tree) → EndsWith C f a ys rs x → ys ≡ xs ++ task.Build o l n ∷ [] → Extends a b → i ≡ length rs - n → cs ≡ drop i rs → IsIn b d → tree_at b d ≡ node l (trees_at a cs) → qs ≡ take i rs ++ d ∷ [] → EndsWith C f b xs qs x
   ends_build a b xs ys o l n i d rs cs qs x p e up q is within made new =
-      let front = AreTasks-front a xs (task.Build o l n) (rw e at p.tasks) in
+      let front = AreTasksUnder-front a xs (task.Build o l n) (rw e at p.tasks) in
       let kept = AllIn-take a i rs p.found_in in
       let len : length (map (tree_at a) rs) - n ≡ i = rw (length-map rs (tree_at a)) (sym q) in
       let last : row (drop i (map (tree_at a) rs)) ≡ trees_at a cs = ap row (drop-map (tree_at a) i rs) ∙ row-trees a (drop i rs) ∙ ap (trees_at a) (sym is) in
       let same : map (tree_at b) qs ≡ done C f (build o.depth (tree_at a o.node) l n) (map (tree_at a) rs) =
       rw (new, map-push b (take i rs) d, map-kept a b (take i rs) kept up, made, len, last, take-map (tree_at a) i rs) refl in
-      ends_after a b xs ys xs (task.Build o l n) [] rs qs x p e up (sym (append-nil (jobs b xs))) same tt (AreTasks-extended up xs front.0) (rw new (AllIn-push b (take i rs) d (AllIn-extended up (take i rs) kept) within))
+      ends_after a b xs ys xs (task.Build o l n) [] rs qs x p e up (sym (append-nil (jobs b xs))) same tt (AreTasksUnder-extended up xs front.0) (rw new (AllIn-push b (take i rs) d (AllIn-extended up (take i rs) kept) within))
 
-  pub ends_down : (laws : AreLaws C f) (a b : List Tree) (xs ys zs : List Task) (t : Place) (rs : List NodeId) (x : Tree) → EndsWith C f a ys rs x → ys ≡ xs ++ task.Enter t ∷ [] → Extends a b → GoesInside C f t.depth (tree_at a t.node) → IsFormedNode (tree_at b t.node) → AreTasks b zs → jobs b zs ≡ jobs b xs ++ building t.depth (tree_at b t.node) → EndsWith C f b zs rs x
+  pub ends_down : (laws : AreLaws C f) (a b : List Tree) (xs ys zs : List Task) (t : Place) (rs : List NodeId) (x : Tree) → EndsWith C f a ys rs x → ys ≡ xs ++ task.Enter t ∷ [] → Extends a b → GoesInside C f t.depth (tree_at a t.node) → IsFormedNode (tree_at b t.node) → AreTasksUnder b zs → jobs b zs ≡ jobs b xs ++ building t.depth (tree_at b t.node) → EndsWith C f b zs rs x
   ends_down laws a b xs ys zs t rs x p e up s formed tasks is =
-      let front = AreTasks-front a xs (task.Enter t) (rw e at p.tasks) in
+      let front = AreTasksUnder-front a xs (task.Enter t) (rw e at p.tasks) in
       let stays : tree_at b t.node ≡ tree_at a t.node = up.kept t.node front.1.within in
       let u = tree_at a t.node in
       let f_u : IsFormedNode u = rw stays at formed in
@@ -395,9 +395,9 @@ module _ (C : ℕ → Tree → Type 0) (f : ℕ → Tree → Tree) where
   weights_split a xs ys k e =
       omega (arith, ap (weights C f) (split_jobs a xs ys k e), weights-append C f (jobs a xs) (job a k ∷ []))
 
-  weights_extended : (a b : List Tree) (xs ys : List Task) (k : Task) → AreTasks a ys → ys ≡ xs ++ k ∷ [] → Extends a b → weights C f (jobs b xs) ≡ weights C f (jobs a xs)
+  weights_extended : (a b : List Tree) (xs ys : List Task) (k : Task) → AreTasksUnder a ys → ys ≡ xs ++ k ∷ [] → Extends a b → weights C f (jobs b xs) ≡ weights C f (jobs a xs)
   weights_extended a b xs ys k h e up =
-      let front = AreTasks-front a xs k (rw e at h) in
+      let front = AreTasksUnder-front a xs k (rw e at h) in
       ap (weights C f) (jobs-extended up xs front.0)
 
   pub less_after : (a b : List Tree) (xs ys : List Task) (k : Task) (rs : List NodeId) (x : Tree) → EndsWith C f a ys rs x → ys ≡ xs ++ k ∷ [] → Extends a b → weights C f (jobs b xs) < weights C f (jobs a ys)
@@ -411,7 +411,7 @@ module _ (C : ℕ → Tree → Type 0) (f : ℕ → Tree → Tree) where
 
   pub less_down : (laws : AreLaws C f) (a b : List Tree) (xs ys zs : List Task) (t : Place) (rs : List NodeId) (x : Tree) → EndsWith C f a ys rs x → ys ≡ xs ++ task.Enter t ∷ [] → Extends a b → GoesInside C f t.depth (tree_at a t.node) → IsFormedNode (tree_at b t.node) → jobs b zs ≡ jobs b xs ++ building t.depth (tree_at b t.node) → weights C f (jobs b zs) < weights C f (jobs a ys)
   less_down laws a b xs ys zs t rs x p e up s formed is =
-      let front = AreTasks-front a xs (task.Enter t) (rw e at p.tasks) in
+      let front = AreTasksUnder-front a xs (task.Enter t) (rw e at p.tasks) in
       let stays : tree_at b t.node ≡ tree_at a t.node = up.kept t.node front.1.within in
       let u = tree_at a t.node in
       let less = weights-building C f laws t.depth u s (rw stays at formed) in

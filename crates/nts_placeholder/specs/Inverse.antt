@@ -11,8 +11,8 @@ use Rattle.nts_placeholder.specs.Escaping.{escapes}
 use Rattle.nts_placeholder.specs.Opening.{entry_for, opened_by, AreMapsOf}
 
 -- no universe is listed twice
-abbrev pub AreDistinct : List (Option ℕ) → Type 0
-AreDistinct U = (i j u : ℕ) → slice_get U i ≡ Some (Some u) → slice_get U j ≡ Some (Some u) → i ≡ j
+abbrev pub AreUniversesDistinct : List (Option ℕ) → Type 0
+AreUniversesDistinct U = (i j u : ℕ) → slice_get U i ≡ Some (Some u) → slice_get U j ≡ Some (Some u) → i ≡ j
 
 -- the placeholder, if it is one, is of no listed universe
 abbrev pub IsUnlisted : List (Option ℕ) → Option (Sort × Placeholder) → Type 0
@@ -30,5 +30,5 @@ NamesUniverses U t = (s : Sort) (b : BoundVar) → escapes t s b ≡ true → (u
 
 -- closing gives back what was opened, where the universes are distinct and the tree holds no variable and no placeholder of one of them
 abbrev pub ClosingGivesBack : Type 0
-ClosingGivesBack = (c : Content) (U : List (Option ℕ)) (M : Sort → Placeholder → Option BoundVar) (t : Tree) → AreDistinct U → IsClosedUnder (length U) t → NamesUniverses U t → AreMapsOf U (escapes t) M → AllUnlisted U t → any_label is_infer t ≡ false → any_label is_region_infer t ≡ false
+ClosingGivesBack = (c : Content) (U : List (Option ℕ)) (M : Sort → Placeholder → Option BoundVar) (t : Tree) → AreUniversesDistinct U → IsClosedUnder (length U) t → NamesUniverses U t → AreMapsOf U (escapes t) M → AllUnlisted U t → any_label is_infer t ≡ false → any_label is_region_infer t ≡ false
     → closed_by M U 0 (deeply_resolved c (opened_by U 0 t)) ≡ t

@@ -46,8 +46,8 @@ abbrev pub AreTasksFrom : List Tree → ℕ → List Task → Type 0
 AreTasksFrom ts i [] = Unit {0}
 AreTasksFrom ts i (x ∷ xs) = IsTaskAt ts i x × AreTasksFrom ts (i + 1) xs
 
-abbrev pub AreTasks : List Tree → List Task → Type 0
-AreTasks ts xs = AreTasksFrom ts 0 xs
+abbrev pub AreTasksUnder : List Tree → List Task → Type 0
+AreTasksUnder ts xs = AreTasksFrom ts 0 xs
 
 -- the trees of a row under d binders, of which the first is to be done first
 abbrev pub entered : ℕ → Tree → List Job

@@ -6,11 +6,11 @@ use Rattle.nts_placeholder.specs.declared.maps.BoundVar.{BoundVar}
 use Rattle.nts_placeholder.specs.Opening.{entry_for}
 
 -- the open entries before place n get the universes after u, one after the other
-abbrev pub filled : ℕ → ℕ → List (Option ℕ) → List (Option ℕ)
-filled u zero U = U
-filled u (suc n) [] = []
-filled u (suc n) (None ∷ U) = Some (u + 1) ∷ filled (u + 1) n U
-filled u (suc n) (Some v ∷ U) = Some v ∷ filled u n U
+abbrev pub filled_universes : ℕ → ℕ → List (Option ℕ) → List (Option ℕ)
+filled_universes u zero U = U
+filled_universes u (suc n) [] = []
+filled_universes u (suc n) (None ∷ U) = Some (u + 1) ∷ filled_universes (u + 1) n U
+filled_universes u (suc n) (Some v ∷ U) = Some v ∷ filled_universes u n U
 
 -- how many entries before place n are open
 abbrev pub open_before : ℕ → List (Option ℕ) → ℕ
@@ -36,7 +36,7 @@ pub record IsReach (U : List (Option ℕ)) (escaping : Sort → BoundVar → Boo
 pub record AreFilled (escaping : Sort → BoundVar → Bool) (U V : List (Option ℕ)) (old new : Entries) : Type 0 where
   pub reach : ℕ
   pub is_reach : IsReach U escaping reach
-  pub list : V ≡ filled old.universe reach U
+  pub list : V ≡ filled_universes old.universe reach U
   pub entries : new ≡ moved old (old.universe + open_before reach U)
 
 -- more universes are needed than there are

@@ -5,7 +5,7 @@ ghost use Rattle.nts_placeholder.specs.declared.under.Place.{Place};
 ghost use Rattle.nts_model.specs.Terms.Trees.{Tree, empty, more, kind_of};
 ghost use Rattle.nts_store.specs.Growth.{tree_at, IsIn, Extends};
 ghost use Rattle.nts_store.specs.Replacement.{IsFormedNode};
-ghost use Rattle.nts_placeholder.specs.Under.{IsStepUnder, jobs, AreTasks, building};
+ghost use Rattle.nts_placeholder.specs.Under.{IsStepUnder, jobs, AreTasksUnder, building};
 
 use nts_model::Label;
 use nts_store::{NodeId, Nodes, binders_of};
@@ -124,8 +124,8 @@ fn walk<R: ReplacerUnder>(
 fn push_node(nodes: &Nodes, place: Place, tasks: &mut Vec<Task>) -> Result<(), AllocError>
     requires within { IsIn nodes.now place.node }
     requires depth { place.depth ≤ length tasks.old.items }
-    requires tasks { AreTasks nodes.now tasks.old.items }
-    ensures tasks { OnOk result (AreTasks nodes.now tasks.new.items) }
+    requires tasks { AreTasksUnder nodes.now tasks.old.items }
+    ensures tasks { OnOk result (AreTasksUnder nodes.now tasks.new.items) }
     ensures formed { IsFormedNode (tree_at nodes.now place.node) }
     ensures jobs { OnOk result (jobs nodes.now tasks.new.items ≡ jobs nodes.now tasks.old.items ++ building place.depth (tree_at nodes.now place.node)) }
 {

@@ -5,7 +5,7 @@ ghost use Rattle.nts_placeholder.specs.declared.maps.BoundVar.{BoundVar};
 ghost use Rattle.nts_placeholder.specs.Closing.{entry_of};
 ghost use Rattle.nts_placeholder.specs.Escaping.{is_among};
 ghost use Rattle.nts_placeholder.specs.Opening.{universe_at};
-ghost use Rattle.nts_placeholder.specs.Universes.{filled, open_before, IsReach};
+ghost use Rattle.nts_placeholder.specs.Universes.{filled_universes, open_before, IsReach};
 
 use crate::escaping::Escaping;
 use nts_store::Fault;
@@ -42,7 +42,7 @@ pub(crate) fn fill(
     end: usize,
     universe: UniverseIndex,
 ) -> Result<Filled, Fault>
-    ensures list { IfOk result (λ f. f.universes.items ≡ filled universe end universes.now) }
+    ensures list { IfOk result (λ f. f.universes.items ≡ filled_universes universe end universes.now) }
     ensures count { IfOk result (λ f. f.count ≡ open_before end universes.now) }
     ensures full { result ≡ Err Fault.Full → u32.MAX < universe + open_before end universes.now }
 {

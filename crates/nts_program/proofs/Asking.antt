@@ -12,7 +12,7 @@ use Rattle.nts_terms.proofs.Moved.{KeepsRest-trans, KeepsRest-refl, Holds-extend
 use Rattle.nts_table.specs.Tables.{Table}
 use Rattle.nts_unify.specs.Reading.{content_of}
 use Rattle.nts_table.specs.TableLaws.{IsTable-extended}
-use Rattle.nts_delegate.specs.ClausesKept.{AreReady-kept}
+use Rattle.nts_delegate.specs.ClausesKept.{AreClausesReady-kept}
 use Rattle.nts_terms.specs.declared.cx.Cx.{Cx}
 use Rattle.nts_queries.specs.Evaluation.{Goes, Runs, AreValues, AllKnown, AreOfSorts}
 use Rattle.nts_wording.specs.Found.{IsKnownValue}
@@ -49,6 +49,6 @@ values-fresh {ts} {t} fresh ns vs e h =
 pub values-run : {a b : Cx} {t u : Table} (vs : List GenericArg) → Runs a b t u → All (λ v. IsKnownValue a.nodes t v) vs → All (λ v. IsKnownValue b.nodes u v) vs
 values-run vs r h = values-later vs r.goes h
 
-pub ruleset keeping = (Extends-trans, Extends-refl, AreReady-kept)
+pub ruleset keeping = (Extends-trans, Extends-refl, AreClausesReady-kept)
 
-pub ruleset asking = (Extends-trans, Extends-refl, KeepsRest-trans, KeepsRest-refl, Holds-extended, AreReady-kept, IsTable-extended, IsAdmitted-extended, values-extended, values-later, values-run)
+pub ruleset asking = (Extends-trans, Extends-refl, KeepsRest-trans, KeepsRest-refl, Holds-extended, AreClausesReady-kept, IsTable-extended, IsAdmitted-extended, values-extended, values-later, values-run)

@@ -16,7 +16,7 @@ use Rattle.nts_program.specs.declared.program.Program.{Program}
 use Rattle.nts_wording.specs.declared.status.Status.TheVariants.{Done, Refused}
 use Rattle.nts_wording.specs.declared.status.Stop.{Stop}
 use Rattle.nts_wording.specs.declared.status.Stop.TheVariants as stop
-use Rattle.nts_wording.specs.Growing.{refusal_line, IsTold}
+use Rattle.nts_wording.specs.Growing.{refusal_line, IsStopTold}
 use Rattle.nts_wording.specs.Statuses.{status_of}
 use Rattle.nts_program.specs.Obeying.{IsNewProgram, IsObeyed}
 use Rattle.nts_program.specs.Running.{answer_text, IsAnsweredLine, AreObeyed, AnswersAll, StopsAtRefusal}
@@ -118,7 +118,7 @@ run_done {input} {left} {before} {after} {p} {n} h none = record {
         let same : k.0 ≡ ys = cc in
         sym (k.2 ∙ ap (λ w. h.lines ++ lines_of w) same ∙ ap (λ w. h.lines ++ w) (last ys nothing) ∙ append-nil h.lines)
 
-reason_told : (old new : Option (List ℕ)) (n : ℕ) (s : Stop) → status_of s ≡ Refused → IsTold old new n s → (r : Refusal) × Appends old new (refusal_line n r)
+reason_told : (old new : Option (List ℕ)) (n : ℕ) (s : Stop) → status_of s ≡ Refused → IsStopTold old new n s → (r : Refusal) × Appends old new (refusal_line n r)
 reason_told old new n stop.Memory e h = cc
 reason_told old new n stop.Failed e h = cc
 reason_told old new n (stop.Refused r) e h = (r, h)
@@ -126,7 +126,7 @@ reason_told old new n (stop.Refused r) e h = (r, h)
 -- the next line is refused
 pub run_refused : {input left before mid after : Option (List ℕ)} {p : Program} {n : ℕ} (next : Option (List ℕ)) (line : List ℕ) (s : Stop)
     → HasRun input left before mid p n → IfSome left (λ xs. 0 < length xs) → IfSome left (λ xs. line ≡ first_line xs) → DropsThrough left next 10
-    → (status_of s ≡ Refused → IsPassedOver line → ⊥) → IsTold mid after n s → status_of s ≡ Refused → StopsAtRefusal input before after
+    → (status_of s ≡ Refused → IsPassedOver line → ⊥) → IsStopTold mid after n s → status_of s ≡ Refused → StopsAtRefusal input before after
 run_refused {input} {left} {before} {mid} {after} {p} {n} next line s h some is rest meant told e =
     let why = reason_told mid after n s e told in
     record {

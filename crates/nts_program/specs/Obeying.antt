@@ -49,7 +49,7 @@ pub record IsInStep (p : Program) : Type 0 where
 
 -- what is written of a goal: the text of an answer, which is `yes` only where the goal that the nodes
 -- say is proved
-pub record IsTold (old new : Program) (rs : List Resolved) (text : List ℕ) : Type 0 where
+pub record IsAnswerWritten (old new : Program) (rs : List Resolved) (text : List ℕ) : Type 0 where
   pub answer : Answer
   pub says : IsAnswerText new.cx.nodes new.names new.scope answer text
   pub justified : IsJustifiedAnswer old.mode rs old.cx.nodes new.cx.nodes old.clauses answer
@@ -79,7 +79,7 @@ Follows old new (commands.Impl head body) o =
     (c : Clause) × AddsClause old.clauses new.clauses c × IsRuleOf new.cx.nodes head.items body.items c
     × Grows old.cx new.cx × (new.mode ≡ old.mode) × (o ≡ None)
 Follows old new (commands.Goal nodes) o =
-    (text : Vec ℕ) × (o ≡ Some text) × IsTold old new nodes.items text.items × Grows old.cx new.cx × KeepsRules old new
+    (text : Vec ℕ) × (o ≡ Some text) × IsAnswerWritten old new nodes.items text.items × Grows old.cx new.cx × KeepsRules old new
 
 -- a line that is passed over changes nothing
 pub record PassesOver (line : List ℕ) (old new : Program) (o : Option (Vec ℕ)) : Type 0 where

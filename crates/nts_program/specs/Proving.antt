@@ -2,7 +2,7 @@
 use Rattle.std.specs.Prelude.{◌≡◌, ℕ, List, [], All}
 use Rattle.nts_model.specs.declared.labels.Variance.{Variance}
 use Rattle.nts_model.specs.Derivations.Handlers.{meaning}
-use Rattle.nts_model.specs.Derivations.Proving.{HasHeldRankedProof}
+use Rattle.nts_model.specs.Derivations.Proving.{HasRankedProofUnder}
 use Rattle.nts_model.specs.Terms.Trees.{Tree}
 use Rattle.nts_terms.specs.declared.handles.GenericArg.{GenericArg}
 use Rattle.nts_terms.specs.declared.handles.Goal.{Goal}
@@ -34,7 +34,7 @@ IsTypingMode m t = ⊥
 pub record IsProvedGoal (ts us : List Tree) (h : Clauses) (t : Table) (g : Goal) : Type 0 where
   pub store : List Tree
   pub extends : Extends ts store
-  pub proved : (v : ℕ → List Variance) → HasHeldRankedProof (meaning (handler_of store h) v) (mode_of t.mode) (content_of us t.entries) (tree_at us g.param_env.node) (tree_at us g.predicate.node)
+  pub proved : (v : ℕ → List Variance) → HasRankedProofUnder (meaning (handler_of store h) v) (mode_of t.mode) (content_of us t.entries) (tree_at us g.param_env.node) (tree_at us g.predicate.node)
 
 -- the goal that nodes say holds in a table, which is told of the goal's variables; it is asked in the
 -- mode of a line, of the first variables of that table, one for each variable of the line

@@ -4,7 +4,7 @@ ghost use Rattle.nts_model.specs.Terms.Trees.{Tree};
 ghost use Rattle.nts_store.specs.Growth.{Extends};
 ghost use Rattle.nts_table.specs.Tables.{IsTable};
 ghost use Rattle.nts_terms.specs.Handles.{HoldsGoal};
-ghost use Rattle.nts_delegate.specs.Clauses.{AreReady};
+ghost use Rattle.nts_delegate.specs.Clauses.{AreClausesReady};
 ghost use Rattle.nts_queries.specs.Evaluation.{IsAdmitted, AreOfSorts};
 ghost use Rattle.nts_certainty.specs.declared.certainty.Certainty.TheVariants as certainty;
 ghost use Rattle.nts_program.specs.Proving.{IsTypingMode, IsProvedGoal, IsJustifiedAnswer};
@@ -40,7 +40,7 @@ fn typing_mode(alloc: Global, mode: Mode) -> TypingMode
 /// Asks a goal, with these clauses as the rules.
 #[tactic(auto, using(crate::proofs::Asking::asking))]
 pub fn ask(cx: &mut Cx, clauses: &Clauses, mode: Mode, nodes: &[Resolved]) -> Result<Answer, Stop>
-    requires ready { AreReady cx.old.nodes clauses.now }
+    requires ready { AreClausesReady cx.old.nodes clauses.now }
     ensures yes { IfOk result (IsJustifiedAnswer mode nodes.now cx.old.nodes cx.new.nodes clauses.now) }
     ensures grows { Grows cx.old cx.new }
 {
@@ -101,7 +101,7 @@ fn evaluated(
     values: &[GenericArg],
 ) -> Result<Option<Certainty>, Stop>
     requires table { IsTable cx.old.nodes table.old }
-    requires ready { AreReady cx.old.nodes clauses.now }
+    requires ready { AreClausesReady cx.old.nodes clauses.now }
     requires holds { HoldsGoal cx.old.nodes goal }
     requires values { All (λ v. IsKnownValue cx.old.nodes table.old v) values.now }
     ensures grows { Grows cx.old cx.new }

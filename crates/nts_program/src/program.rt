@@ -1,12 +1,12 @@
 //! The state of a run, and what each command does to it.
 ghost use Rattle.std.specs.Prelude.{◌≡◌, true, false, length, map, IsNone, IfOk, OnOk, OnErr};
 ghost use Rattle.nts_delegate.specs.Adding.{AddsClause, MakesCoinductive};
-ghost use Rattle.nts_delegate.specs.Clauses.{AreReady};
+ghost use Rattle.nts_delegate.specs.Clauses.{AreClausesReady};
 ghost use Rattle.nts_delegate.specs.declared.clauses.Clause.{Clause};
 ghost use Rattle.nts_text.specs.Lines.{IsPassedOver};
 ghost use Rattle.nts_text.specs.Resolution.{trait_sorts};
 ghost use Rattle.nts_wording.specs.Meaning.{IsRuleOf};
-ghost use Rattle.nts_program.specs.Obeying.{IsNewProgram, DeclaresType, DeclaresTrait, Follows, KeepsRules, IsTold, IsObeyed, IsInStep};
+ghost use Rattle.nts_program.specs.Obeying.{IsNewProgram, DeclaresType, DeclaresTrait, Follows, KeepsRules, IsAnswerWritten, IsObeyed, IsInStep};
 ghost use Rattle.nts_terms.specs.Rest.{Grows};
 
 use crate::answer::ask;
@@ -34,7 +34,7 @@ pub struct Program {
 impl Program {
     /// Nothing said. It takes no memory.
     pub fn new(alloc: Global) -> Self
-        ensures ready { AreReady result.cx.nodes result.clauses }
+        ensures ready { AreClausesReady result.cx.nodes result.clauses }
         ensures new { IsNewProgram result }
         ensures step { IsInStep result }
     {
@@ -50,8 +50,8 @@ impl Program {
 
     /// Does what a line says. The result is the text of its answer, if it asks for one.
     pub fn obey(&mut self, line: &[u8]) -> Result<Option<Vec<u8>>, Stop>
-        requires ready { AreReady self.old.cx.nodes self.old.clauses }
-        ensures ready { OnOk result (AreReady self.new.cx.nodes self.new.clauses) }
+        requires ready { AreClausesReady self.old.cx.nodes self.old.clauses }
+        ensures ready { OnOk result (AreClausesReady self.new.cx.nodes self.new.clauses) }
         ensures passed { IfOk result (λ o. IsPassedOver line.now → IsNone o) }
         ensures refused { OnErr result (IsPassedOver line.now → ⊥) }
         ensures obeyed { IfOk result (IsObeyed line.now self.old self.new) }
@@ -65,8 +65,8 @@ impl Program {
 
     /// Does what a command says, likewise.
     fn follow(&mut self, command: Command) -> Result<Option<Vec<u8>>, Stop>
-        requires ready { AreReady self.old.cx.nodes self.old.clauses }
-        ensures ready { OnOk result (AreReady self.new.cx.nodes self.new.clauses) }
+        requires ready { AreClausesReady self.old.cx.nodes self.old.clauses }
+        ensures ready { OnOk result (AreClausesReady self.new.cx.nodes self.new.clauses) }
         ensures names { self.new.names ≡ self.old.names }
         ensures scope { self.new.scope ≡ self.old.scope }
         ensures follows { IfOk result (Follows self.old self.new command) }
@@ -103,8 +103,8 @@ impl Program {
     }
 
     fn declare_type(&mut self, params: &[Param]) -> Result<(), Stop>
-        requires ready { AreReady self.old.cx.nodes self.old.clauses }
-        ensures ready { OnOk result (AreReady self.new.cx.nodes self.new.clauses) }
+        requires ready { AreClausesReady self.old.cx.nodes self.old.clauses }
+        ensures ready { OnOk result (AreClausesReady self.new.cx.nodes self.new.clauses) }
         ensures declared { OnOk result (DeclaresType params.now self.old.cx self.new.cx) }
         ensures rules { KeepsRules self.old self.new }
         ensures names { self.new.names ≡ self.old.names }
@@ -122,8 +122,8 @@ impl Program {
 
     #[tactic(auto, using(crate::proofs::Asking::keeping))]
     fn declare_trait(&mut self, number: usize, coinductive: bool) -> Result<(), Stop>
-        requires ready { AreReady self.old.cx.nodes self.old.clauses }
-        ensures ready { OnOk result (AreReady self.new.cx.nodes self.new.clauses) }
+        requires ready { AreClausesReady self.old.cx.nodes self.old.clauses }
+        ensures ready { OnOk result (AreClausesReady self.new.cx.nodes self.new.clauses) }
         ensures declared { OnOk result (DeclaresTrait (trait_sorts self.old.names number) self.old.cx self.new.cx) }
         ensures coinductive { OnOk result (coinductive ≡ true →
             MakesCoinductive self.old.clauses self.new.clauses
@@ -147,8 +147,8 @@ impl Program {
 
     #[tactic(auto, using(crate::proofs::Asking::keeping))]
     fn add_impl(&mut self, head: &[Resolved], body: &[Resolved]) -> Result<(), Stop>
-        requires ready { AreReady self.old.cx.nodes self.old.clauses }
-        ensures ready { OnOk result (AreReady self.new.cx.nodes self.new.clauses) }
+        requires ready { AreClausesReady self.old.cx.nodes self.old.clauses }
+        ensures ready { OnOk result (AreClausesReady self.new.cx.nodes self.new.clauses) }
         ensures added { OnOk result ((c : Clause) × AddsClause self.old.clauses self.new.clauses c
             × IsRuleOf self.new.cx.nodes head.now body.now c) }
         ensures grows { OnOk result (Grows self.old.cx self.new.cx) }
@@ -166,9 +166,9 @@ impl Program {
 
     #[tactic(auto, using(crate::proofs::Asking::keeping))]
     fn answer(&mut self, nodes: &[Resolved]) -> Result<Vec<u8>, Stop>
-        requires ready { AreReady self.old.cx.nodes self.old.clauses }
-        ensures ready { OnOk result (AreReady self.new.cx.nodes self.new.clauses) }
-        ensures told { IfOk result (λ text. IsTold self.old self.new nodes.now text.items) }
+        requires ready { AreClausesReady self.old.cx.nodes self.old.clauses }
+        ensures ready { OnOk result (AreClausesReady self.new.cx.nodes self.new.clauses) }
+        ensures told { IfOk result (λ text. IsAnswerWritten self.old self.new nodes.now text.items) }
         ensures grows { OnOk result (Grows self.old.cx self.new.cx) }
         ensures rules { KeepsRules self.old self.new }
         ensures names { self.new.names ≡ self.old.names }

@@ -1,8 +1,8 @@
 //! A run over all lines of an input.
 ghost use Rattle.std.specs.Prelude.{◌≡◌, OnOk, IfErr};
-ghost use Rattle.nts_delegate.specs.Clauses.{AreReady};
+ghost use Rattle.nts_delegate.specs.Clauses.{AreClausesReady};
 ghost use Rattle.nts_text.specs.Lines.{IsPassedOver};
-ghost use Rattle.nts_wording.specs.Growing.{Begins, IsTold};
+ghost use Rattle.nts_wording.specs.Growing.{Begins, IsStopTold};
 ghost use Rattle.nts_program.specs.Running.{IsAnsweredLine, AnswersAll, StopsAtRefusal};
 ghost use Rattle.nts_wording.specs.Statuses.{status_of};
 ghost use Rattle.nts_wording.specs.declared.status.Status.TheVariants.{Done, Refused};
@@ -76,12 +76,12 @@ fn handle_line<W: Write>(
     number: u64,
     output: &mut W,
 ) -> Result<(), Stop>
-    requires ready { AreReady program.old.cx.nodes program.old.clauses }
-    ensures ready { OnOk result (AreReady program.new.cx.nodes program.new.clauses) }
+    requires ready { AreClausesReady program.old.cx.nodes program.old.clauses }
+    ensures ready { OnOk result (AreClausesReady program.new.cx.nodes program.new.clauses) }
     ensures answered { OnOk result (IsAnsweredLine line.now program.old program.new
         (W.contents output.old) (W.contents output.new)) }
     ensures refused { IfErr result (λ s. status_of s ≡ Refused → IsPassedOver line.now → ⊥) }
-    ensures told { IfErr result (IsTold (W.contents output.old) (W.contents output.new) number) }
+    ensures told { IfErr result (IsStopTold (W.contents output.old) (W.contents output.new) number) }
     ensures begins { Begins (W.contents output.old) (W.contents output.new) }
     ensures passed { OnOk result (IsPassedOver line.now → output.new ≡ output.old) }
 {

@@ -37,7 +37,7 @@ use Rattle.nts_canonical.specs.Forms.{form_of, input_of, trees_of}
 use Rattle.nts_canonical.specs.Building.{IsArgOf, kinds_of}
 use Rattle.nts_response.specs.declared.types.Response.{Response}
 use Rattle.nts_response.specs.Forms.{premise_at, response_at}
-use Rattle.nts_response.specs.Applicable.{ShowsConstraints, IsApplicable, IsApplied}
+use Rattle.nts_response.specs.Applicable.{ShowsConstraints, IsApplicable, IsResponseApplied}
 use Rattle.nts_queries.specs.Asking.{IsInputFor}
 use Rattle.nts_queries.specs.Telling.{QueryTells, QueryRefutes, Asked, Refused, IsCutIn}
 use Rattle.nts_queries.specs.Meant.{IsQueryRefuted, IsRefusedIn}
@@ -91,7 +91,7 @@ original_passes P i proper none e p (l ∷ ls) sub v (inl q) = rw q (leaf_passes
 original_passes P i proper none e p (l ∷ ls) sub v (inr m) = original_passes P i proper none e p ls (λ k j. sub k (inr j)) v m
 
 -- a response that was applied, seen from a smaller store
-applied_at : {a d e : List Tree} {x y : Entries} {os : List Tree} {r : Answer} → content_of d x ≡ content_of a x → IsApplied d e x y os r false [] → IsApplied a e x y os r false []
+applied_at : {a d e : List Tree} {x y : Entries} {os : List Tree} {r : Answer} → content_of d x ≡ content_of a x → IsResponseApplied d e x y os r false [] → IsResponseApplied a e x y os r false []
 applied_at {a} {d} {e} {x} {y} {os} {r} same h =
     record {
       applies = (let z = h.applies in
@@ -142,9 +142,9 @@ module _ {a b d : List Tree} {t : Table} {g : Goal} {q : Vec GenericArg × Canon
   of_goal = record { environment = refl; predicate = refl; hidden = refl; proper = query.proper }
 
   -- it was applied
-  module _ {e : List Tree} (u : Table) (r : Canonical Response) (applied : IsApplied d e t.entries u.entries (trees_of d q.0.items) (response_at d r) false []) where
-    here : IsApplied a e t.entries u.entries (map leaf_tree (originals asked)) (response_at d r) false []
-    here = subst (λ os. IsApplied a e t.entries u.entries os (response_at d r) false []) leaves_are (applied_at now applied)
+  module _ {e : List Tree} (u : Table) (r : Canonical Response) (applied : IsResponseApplied d e t.entries u.entries (trees_of d q.0.items) (response_at d r) false []) where
+    here : IsResponseApplied a e t.entries u.entries (map leaf_tree (originals asked)) (response_at d r) false []
+    here = subst (λ os. IsResponseApplied a e t.entries u.entries os (response_at d r) false []) leaves_are (applied_at now applied)
 
     pub evaluates : IsAnswerTo d (kinds_of q.1) r → (x : HasChanged) → (x ≡ changes.No) ↔ IsIdentity 0 (trees_of d r.value.var_values.items) → Evaluates a e t u (tree_at a g.param_env.node) (tree_at a g.predicate.node) x
     evaluates fits x same =

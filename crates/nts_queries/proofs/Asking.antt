@@ -29,9 +29,9 @@ use Rattle.nts_table.specs.Tables.{Table}
 use Rattle.nts_table.specs.Tables.{IsTable}
 use Rattle.nts_unify.specs.Lawful.{content_of-extended}
 use Rattle.nts_table.specs.TableLaws.{IsTable-extended}
-use Rattle.nts_delegate.specs.ClausesKept.{AreReady-kept}
+use Rattle.nts_delegate.specs.ClausesKept.{AreClausesReady-kept}
 use Rattle.nts_queries.specs.Evaluation.{IsAdmitted, IsAskedGoal}
-use Rattle.nts_delegate.specs.Candidates.{IsAsked}
+use Rattle.nts_delegate.specs.Candidates.{IsAskedIn}
 use Rattle.nts_terms.specs.Handles.{HoldsGoal}
 use Rattle.nts_queries.proofs.Evaluating.{HoldsGoal-extended}
 use Rattle.nts_store.proofs.Escaping.{closed_by_facts}
@@ -79,7 +79,7 @@ pub record AreTests (ts : List Tree) (g : Goal) (b : Binder PredicateKind) (r : 
   pub goal_well_bound : IsWellBound (tree_at ts g.predicate.node)
   pub statements : HasClosedStatements (tree_at ts g.param_env.node)
 
-trait_is_asked : (ts : List Tree) (g : Goal) (b : Binder PredicateKind) (r : TraitRef) (env goal args : TypeFlags) → AreTests ts g b r env goal args → IsAsked ts g
+trait_is_asked : (ts : List Tree) (g : Goal) (b : Binder PredicateKind) (r : TraitRef) (env goal args : TypeFlags) → AreTests ts g b r env goal args → IsAskedIn ts g
 trait_is_asked ts g b r env goal args t =
     let statement = node (label.Clause (clause_head.Trait r.def_id.number)) (more (tree_at ts r.args.node) empty) in
     let binder : tree_at ts b.vars.node ≡ no_sorts = vars_tree (tree_at ts b.vars.node) t.fits.0.fits ∙ ap (node (label.List list.Sorts)) (row_of_none (children (tree_at ts b.vars.node)) t.row t.none) in
@@ -117,8 +117,8 @@ trait_asked ts g b r env goal args t =
     }
 
 -- a goal that is asked, in a store that has grown
-pub IsAsked-extended : {a b : List Tree} {g : Goal} → Extends a b → IsAsked a g → IsAsked b g
-IsAsked-extended {a} {b} {g} e h =
+pub IsAskedIn-extended : {a b : List Tree} {g : Goal} → Extends a b → IsAskedIn a g → IsAskedIn b g
+IsAskedIn-extended {a} {b} {g} e h =
     let k = h.holds in
     record {
       holds = HoldsGoal-extended e h.holds;
@@ -129,7 +129,7 @@ pub IsAskedGoal-extended : {a b : List Tree} {g : Goal} → Extends a b → IsAs
 IsAskedGoal-extended {a} {b} {g} e h =
     let k = h.asked.holds in
     record {
-      asked = IsAsked-extended e h.asked;
+      asked = IsAskedIn-extended e h.asked;
       plain = λ z. subst (λ v. statement_kind z (statement_of v) ≢ normalization) (sym (e.kept g.predicate.node k.predicate.within)) (h.plain z);
     }
 
@@ -152,4 +152,4 @@ IsAdmitted-extended {a} {b} {t} {g} e h k =
     }
 
 -- what goals keep while a store grows
-pub ruleset asking = (Extends-trans, Extends-refl, AreReady-kept, IsTable-extended, IsAdmitted-extended)
+pub ruleset asking = (Extends-trans, Extends-refl, AreClausesReady-kept, IsTable-extended, IsAdmitted-extended)

@@ -40,7 +40,7 @@ use Rattle.nts_terms.specs.declared.cx.Cx.{Cx}
 use Rattle.nts_terms.specs.Modes.{mode_of}
 use Rattle.nts_canonical.specs.Alike.{AreOneInput}
 use Rattle.nts_search.specs.declared.stack.SearchGraph.{SearchGraph}
-use Rattle.nts_search.specs.Searching.{entries_at, read_at, IsStack, KeepsRest}
+use Rattle.nts_search.specs.Searching.{entries_at, read_at, IsStack, KeepsRestOfGraph}
 use Rattle.nts_queries.specs.Telling.{SaysNothing}
 use Rattle.nts_queries.specs.Searching.{IsSearch, AreLater, Searches, IsCut, IsReadAt, HasNoneAt, assumed_in}
 use Rattle.nts_queries.proofs.Searching.{later_itself}
@@ -178,7 +178,7 @@ later_read [] n = tt
 later_read (x ∷ xs) zero = (record { input = refl; kind = refl; provisional = refl; read = λ h. refl }, later_itself xs)
 later_read (x ∷ xs) (suc n) = (record { input = refl; kind = refl; provisional = refl; read = λ h. h }, later_read xs n)
 
-pub searched_read : {a : Cx} {g h : SearchGraph} (n k : ℕ) → IsSearch a g n → h.stack.items ≡ read_at g.stack.items k → ((ts : List Tree) → IsStack ts g → IsStack ts h) → KeepsRest g h → Searches a a g h
+pub searched_read : {a : Cx} {g h : SearchGraph} (n k : ℕ) → IsSearch a g n → h.stack.items ≡ read_at g.stack.items k → ((ts : List Tree) → IsStack ts g → IsStack ts h) → KeepsRestOfGraph g h → Searches a a g h
 searched_read {a} {g} {h} n k s e kept rest =
     let most = rest.most_rounds in
     record {

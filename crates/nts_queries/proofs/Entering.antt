@@ -15,7 +15,7 @@ use Rattle.nts_model.specs.Tables.Resolving.{Knows}
 use Rattle.nts_model.specs.Derivations.Related.{unbound}
 use Rattle.nts_model.specs.Terms.Substitutions.{leaf_tree}
 use Rattle.nts_model.specs.Derivations.Rules.{opened, opened_at, statement_of}
-use Rattle.nts_model.specs.Refutation.Opening.{binds, placeholder_in, entered, opened_in}
+use Rattle.nts_model.specs.Refutation.Opening.{binds, placeholder_in, entered_table, opened_in}
 use Rattle.nts_model.proofs.Tables.Held.{Continues-in_universe}
 use Rattle.nts_model.proofs.Terms.Scoping.{closed_listed}
 use Rattle.nts_store.specs.Growth.{tree_at, Extends}
@@ -36,7 +36,7 @@ use Rattle.nts_placeholder.specs.Opening.{placeholder_label, opened_label, opene
 use Rattle.nts_placeholder.specs.declared.maps.BoundVar.{BoundVar}
 use Rattle.nts_placeholder.specs.Knowing.{NamesListed, IsKnownAfter}
 use Rattle.nts_model.proofs.Tables.Slots.{Knows-kept}
-use Rattle.nts_placeholder.specs.Universes.{filled, open_before, AreFilled}
+use Rattle.nts_placeholder.specs.Universes.{filled_universes, open_before, AreFilled}
 use Rattle.nts_terms.specs.declared.handles.Goal.{Goal}
 use Rattle.nts_terms.specs.declared.handles.Predicate.{Predicate}
 use Rattle.nts_queries.specs.Opening.{IsOpenedTo}
@@ -86,7 +86,7 @@ opens_as u c d (node l t) e f h =
     ∙ label_opens u c l t f (subst (λ z. IsBoundBelow z l) e h.0)
 
 -- a list of one universe stays, and no other one is made
-one_list : (u v n : ℕ) → filled v n (Some u ∷ []) ≡ Some u ∷ []
+one_list : (u v n : ℕ) → filled_universes v n (Some u ∷ []) ≡ Some u ∷ []
 one_list u v zero = refl
 one_list u v (suc zero) = refl
 one_list u v (suc (suc n)) = refl
@@ -181,7 +181,7 @@ trait_opened {a} {b} {t} {u} {g} q v x i is sorts row some closed w e moves says
     let p = tree_at a g.predicate.node in
     let s = node (label.Clause (clause.Trait i)) (more x empty) in
     let bound : binds p ≡ true = ap binds (is ∙ ap (λ z. node (label.List list.Binder) (more z (more s empty))) sorts) ∙ some_listed (children v) s row some in
-    let enters : entered c p ≡ in_universe c (c.universe + 1) = ap (λ z. if z then in_universe c (c.universe + 1) else c) bound in
+    let enters : entered_table c p ≡ in_universe c (c.universe + 1) = ap (λ z. if z then in_universe c (c.universe + 1) else c) bound in
     let opens : opened_in c p ≡ unbound (opened (placeholder_in (c.universe + 1)) 0 (statement_of p)) = ap (λ z. if z then unbound (opened (placeholder_in (c.universe + 1)) 0 (statement_of p)) else p) bound in
     let states : statement_of p ≡ s = ap statement_of is in
     record {

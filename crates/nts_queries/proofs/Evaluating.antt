@@ -19,7 +19,7 @@ use Rattle.nts_model.specs.Derivations.Rules.{Mode}
 use Rattle.nts_model.specs.Lists.{Among}
 use Rattle.nts_model.specs.Tables.Passing.{TreePasses, PassesQueries}
 use Rattle.nts_model.specs.Terms.Substitutions.{filled, position_of}
-use Rattle.nts_model.specs.Derivations.Handlers.{Handler, IsValueOf, AreValuesOf, IsOfSort, NamesAt, NamesFresh}
+use Rattle.nts_model.specs.Derivations.Handlers.{Handler, IsValueOfSort, AreValuesOf, IsOfSort, NamesAt, NamesFresh}
 use Rattle.nts_model.specs.Terms.Regions.{of_variable}
 use Rattle.nts_store.proofs.Growing.{Extends-trans, Extends-refl, IsIn-extended}
 use Rattle.nts_unify.specs.Entries.{front, Entries, added, constrained}
@@ -53,7 +53,7 @@ use Rattle.nts_terms.specs.declared.cx.Cx.{Cx}
 use Rattle.nts_terms.specs.Rest.{KeepsRest}
 use Rattle.nts_delegate.specs.declared.delegate.Equation.{Equation}
 use Rattle.nts_model.specs.declared.labels.Sort.TheVariants as sort
-use Rattle.nts_delegate.specs.Candidates.{IsEquation, AreEquations, IsRegionConstraint, AreRegionConstraints, IsNested, AreNested, IsCandidate, AreCandidates, IsOver}
+use Rattle.nts_delegate.specs.Candidates.{IsEquation, AreEquations, IsRegionConstraint, AreRegionConstraints, IsNestedIn, AreNested, IsCandidate, AreCandidates, IsOverIn}
 use Rattle.nts_delegate.proofs.Over.{over_knows}
 use Rattle.nts_terms.specs.Handles.{HoldsGoal}
 use Rattle.nts_store.specs.Formed.{AreFormed}
@@ -61,7 +61,7 @@ use Rattle.nts_terms.proofs.Moved.{KeepsRest-refl, KeepsRest-trans}
 use Rattle.nts_queries.specs.Meant.{Since, offers_of}
 use Rattle.nts_queries.specs.Instances.{HoldsValues, IsTermInstance}
 use Rattle.nts_queries.specs.Evaluation.{Goes, Runs, IsAdmitted, IsPosed, AllKnown, AreOfSorts, AreValues}
-use Rattle.nts_table.specs.Tables.{IsTermOf}
+use Rattle.nts_table.specs.Tables.{IsTermIn}
 
 pub Goes-trans : {a b c : List Tree} {t u v : Table} → Goes a b t u → Goes b c u v → Goes a c t v
 Goes-trans {a} {b} {c} {t} {u} {v} g h =
@@ -103,8 +103,8 @@ Holds-extended {a} {b} {p} {n} e h = record { within = IsIn-extended e n h.withi
 pub HoldsGoal-extended : {a b : List Tree} {g : Goal} → Extends a b → HoldsGoal a g → HoldsGoal b g
 HoldsGoal-extended e h = record { env = Holds-extended e h.env; predicate = Holds-extended e h.predicate }
 
-pub IsTermOf-later : {a b : List Tree} {t u : Table} {x : NodeId} → Goes a b t u → IsTermOf a t x → IsTermOf b u x
-IsTermOf-later {a} {b} {t} {u} {x} g h =
+pub IsTermIn-later : {a b : List Tree} {t u : Table} {x : NodeId} → Goes a b t u → IsTermIn a t x → IsTermIn b u x
+IsTermIn-later {a} {b} {t} {u} {x} g h =
     record { within = IsIn-extended g.extends x h.within; knows = rw (g.extends.kept x h.within) (Knows-goes (tree_at a x) g h.knows) }
 
 pub IsPosed-later : {a b : List Tree} {t u : Table} {g : Goal} → Goes a b t u → IsPosed a t g → IsPosed b u g
@@ -133,8 +133,8 @@ AreValues-later {a} {b} {t} {u} {fresh} {vs} s h =
       labels = λ P q v i. h.labels P q v (rw same at i);
     }
 
-pub IsOver-extended : {a b : List Tree} {fresh : List Sort} {g : Goal} {x : NodeId} → Extends a b → HoldsGoal a g → IsOver a fresh g x → IsOver b fresh g x
-IsOver-extended {a} {b} {fresh} {g} {x} e p h =
+pub IsOverIn-extended : {a b : List Tree} {fresh : List Sort} {g : Goal} {x : NodeId} → Extends a b → HoldsGoal a g → IsOverIn a fresh g x → IsOverIn b fresh g x
+IsOverIn-extended {a} {b} {fresh} {g} {x} e p h =
     let same = e.kept x h.within in
     let env = e.kept g.param_env.node p.env.within in
     let predicate = e.kept g.predicate.node p.predicate.within in
@@ -181,7 +181,7 @@ pub record CanFill (a : List Tree) (t : Table) (vs : List NodeId) (x : NodeId) :
   pub positions : HasValues (map (tree_at a) vs) (tree_at a x)
   pub knows : Knows (content_of a t.entries) (filled (map (tree_at a) vs) (tree_at a x))
 
-pub can_fill : {a : List Tree} {t : Table} {g : Goal} {fresh : List Sort} {vs : List NodeId} {x : NodeId} → IsPosed a t g → IsOver a fresh g x → AreValues a t fresh vs → CanFill a t vs x
+pub can_fill : {a : List Tree} {t : Table} {g : Goal} {fresh : List Sort} {vs : List NodeId} {x : NodeId} → IsPosed a t g → IsOverIn a fresh g x → AreValues a t fresh vs → CanFill a t vs x
 can_fill {a} {t} {g} {fresh} {vs} {x} p o v =
     record {
       within = o.within;
@@ -203,7 +203,7 @@ filled-kept : {a b : List Tree} (vs : List NodeId) (x : NodeId) → AllIn a vs �
 filled-kept {a} {b} vs x w i e = rw (map-kept a b vs w e, e.kept x i) refl
 
 -- an instance of a term is a term of the table, and it is one in a store that grows later or has grown before
-pub instance_term : {a b : List Tree} {t : Table} {vs : List NodeId} {x y : NodeId} → IsTable a t → CanFill a t vs x → Extends a b → IsTermInstance a b vs x y → IsTermOf b t y
+pub instance_term : {a b : List Tree} {t : Table} {vs : List NodeId} {x y : NodeId} → IsTable a t → CanFill a t vs x → Extends a b → IsTermInstance a b vs x y → IsTermIn b t y
 instance_term {a} {b} {t} {vs} {x} {y} h f e q =
     let same = content_of-extended e h.now in
     record { within = q.within; knows = rw (q.tree, same) f.knows }
@@ -218,7 +218,7 @@ IsInstance-earlier {a} {b} {d} {vs} {x} {y} w i e q =
     record { formed = q.formed; within = q.within; kind = q.kind ∙ ap kind_of (e.kept x i); tree = q.tree ∙ filled-kept vs x w i e }
 
 -- a goal of two terms of the right kinds
-pub goal_posed : {b : List Tree} {t : Table} {e p : NodeId} → IsTable b t → IsTermOf b t e → kind_of (tree_at b e) ≡ Some environment → IsTermOf b t p → kind_of (tree_at b p) ≡ Some bound_predicate → IsPosed b t (record { param_env = record { node = e }; predicate = record { node = p } })
+pub goal_posed : {b : List Tree} {t : Table} {e p : NodeId} → IsTable b t → IsTermIn b t e → kind_of (tree_at b e) ≡ Some environment → IsTermIn b t p → kind_of (tree_at b p) ≡ Some bound_predicate → IsPosed b t (record { param_env = record { node = e }; predicate = record { node = p } })
 goal_posed {b} {t} {e} {p} h k i l j =
     record {
       table = h;
@@ -230,10 +230,10 @@ goal_posed {b} {t} {e} {p} h k i l j =
     }
 
 -- the parts of a goal that is posed
-pub env_term : {a : List Tree} {t : Table} {g : Goal} → IsPosed a t g → IsTermOf a t g.param_env.node
+pub env_term : {a : List Tree} {t : Table} {g : Goal} → IsPosed a t g → IsTermIn a t g.param_env.node
 env_term p = record { within = p.holds.env.within; knows = p.knows.env }
 
-pub predicate_term : {a : List Tree} {t : Table} {g : Goal} → IsPosed a t g → IsTermOf a t g.predicate.node
+pub predicate_term : {a : List Tree} {t : Table} {g : Goal} → IsPosed a t g → IsTermIn a t g.predicate.node
 predicate_term p = record { within = p.holds.predicate.within; knows = p.knows.predicate }
 
 -- the kind of a term stays
@@ -241,10 +241,10 @@ pub kind-extended : {a b : List Tree} {x : NodeId} {k : Option NodeKind} → Ext
 kind-extended {a} {b} {x} {k} e w h = ap kind_of (e.kept x w) ∙ h
 
 -- a goal whose parts were replaced one after the other, the store growing
-pub goal_made : {a b d : List Tree} {t : Table} {g : Goal} {e p : NodeId} → IsTable a t → HoldsGoal a g → Extends a b → Extends b d → IsTermOf b t e → kind_of (tree_at b e) ≡ kind_of (tree_at a g.param_env.node) → IsTermOf d t p → kind_of (tree_at d p) ≡ kind_of (tree_at b g.predicate.node) → IsPosed d t (record { param_env = record { node = e }; predicate = record { node = p } })
+pub goal_made : {a b d : List Tree} {t : Table} {g : Goal} {e p : NodeId} → IsTable a t → HoldsGoal a g → Extends a b → Extends b d → IsTermIn b t e → kind_of (tree_at b e) ≡ kind_of (tree_at a g.param_env.node) → IsTermIn d t p → kind_of (tree_at d p) ≡ kind_of (tree_at b g.predicate.node) → IsPosed d t (record { param_env = record { node = e }; predicate = record { node = p } })
 goal_made {a} {b} {d} {t} {g} {e} {p} h q ab bd k i l j =
     let later = Goes-extends (IsTable-extended ab h) bd in
-    goal_posed later.table (IsTermOf-later later k) (kind-extended bd k.within (i ∙ q.env.fits)) l (j ∙ kind-extended ab q.predicate.within q.predicate.fits)
+    goal_posed later.table (IsTermIn-later later k) (kind-extended bd k.within (i ∙ q.env.fits)) l (j ∙ kind-extended ab q.predicate.within q.predicate.fits)
 
 -- the equation at a place
 pub equation_at : (ts : List Tree) (fresh : List Sort) (g : Goal) (qs : List Equation) (k : ℕ) (d : Equation) → AreEquations ts fresh g qs → k < length qs → IsEquation ts fresh g (get_or qs k d)
@@ -267,7 +267,7 @@ sorts-fresh ts (v ∷ vs) n (s ∷ ss) e =
     let rest : trees_at ts vs ≡ fresh_row (suc n) ss = cc in
     (ap kind_of first ∙ kind_of-fresh s n, sorts-fresh ts vs (suc n) ss rest)
 
-value-fresh : (s : Sort) (n : ℕ) → IsValueOf s (variable_tree (variable_kind s) n)
+value-fresh : (s : Sort) (n : ℕ) → IsValueOfSort s (variable_tree (variable_kind s) n)
 value-fresh sort.Ty n = record { fits = refl; formed = (tt, tt); closed = (tt, tt) }
 value-fresh sort.Region n = record { fits = (of_variable n, refl); formed = (tt, tt); closed = (tt, tt) }
 value-fresh sort.Const n = record { fits = refl; formed = (tt, tt); closed = (tt, tt) }
@@ -412,7 +412,7 @@ IsPosed-opened {a} {t} {u} {g} p e s =
     }
 
 -- a constraint whose sides are terms of the table
-pub goes-constrained : {a : List Tree} {t u : Table} (x : Constraint) → IsTable a t → IsTermOf a t x.left → IsTermOf a t x.right → kind_of (tree_at a x.left) ≡ Some (left_kind x.relation) → kind_of (tree_at a x.right) ≡ Some (of_sort sort.Region) → (x.relation ≡ relation.Equal → ⊥) → IsClosed (tree_at a x.left) → IsClosed (tree_at a x.right) → u.entries ≡ constrained t.entries x → u.saved ≡ t.saved → u.mode ≡ t.mode → Goes a a t u
+pub goes-constrained : {a : List Tree} {t u : Table} (x : Constraint) → IsTable a t → IsTermIn a t x.left → IsTermIn a t x.right → kind_of (tree_at a x.left) ≡ Some (left_kind x.relation) → kind_of (tree_at a x.right) ≡ Some (of_sort sort.Region) → (x.relation ≡ relation.Equal → ⊥) → IsClosed (tree_at a x.left) → IsClosed (tree_at a x.right) → u.entries ≡ constrained t.entries x → u.saved ≡ t.saved → u.mode ≡ t.mode → Goes a a t u
 goes-constrained {a} {t} {u} x h l r k j n cl cr e s m =
     let is : IsConstraint a (content_of a t.entries) x = record {
       left_in = l.within;
@@ -439,11 +439,11 @@ goes-constrained {a} {t} {u} x h l r k j n cl cr e s m =
 same_table : {t u : Table} → u.entries ≡ t.entries → u.saved ≡ t.saved → u.mode ≡ t.mode → u ≡ t
 same_table e s m = λ i. record { entries = e i; saved = s i; mode = m i }
 
-goes-recorded : {a : List Tree} {t u : Table} (x : Constraint) → IsTable a t → IsTermOf a t x.left → IsTermOf a t x.right → kind_of (tree_at a x.left) ≡ Some (left_kind x.relation) → kind_of (tree_at a x.right) ≡ Some (of_sort sort.Region) → (x.relation ≡ relation.Equal → ⊥) → IsClosed (tree_at a x.left) → IsClosed (tree_at a x.right) → Records a t.entries u.entries x → u.saved ≡ t.saved → u.mode ≡ t.mode → Goes a a t u
+goes-recorded : {a : List Tree} {t u : Table} (x : Constraint) → IsTable a t → IsTermIn a t x.left → IsTermIn a t x.right → kind_of (tree_at a x.left) ≡ Some (left_kind x.relation) → kind_of (tree_at a x.right) ≡ Some (of_sort sort.Region) → (x.relation ≡ relation.Equal → ⊥) → IsClosed (tree_at a x.left) → IsClosed (tree_at a x.right) → Records a t.entries u.entries x → u.saved ≡ t.saved → u.mode ≡ t.mode → Goes a a t u
 goes-recorded x h l r k j n cl cr (inl e) s m = rw (same_table e.1 s m) (Goes-extends h (Extends-refl _))
 goes-recorded x h l r k j n cl cr (inr e) s m = goes-constrained x h l r k j n cl cr e.1 s m
 
-pub recorded_goes : {a : List Tree} {t u : Table} {E : Type 0} (x : Constraint) (o : Result (Unit {0}) E) → IsTable a t → IsTermOf a t x.left → IsTermOf a t x.right → kind_of (tree_at a x.left) ≡ Some (left_kind x.relation) → kind_of (tree_at a x.right) ≡ Some (of_sort sort.Region) → (x.relation ≡ relation.Equal → ⊥) → IsClosed (tree_at a x.left) → IsClosed (tree_at a x.right) → OnOk o (Records a t.entries u.entries x) → u.saved ≡ t.saved → u.mode ≡ t.mode → OnErr o (u ≡ t) → Goes a a t u
+pub recorded_goes : {a : List Tree} {t u : Table} {E : Type 0} (x : Constraint) (o : Result (Unit {0}) E) → IsTable a t → IsTermIn a t x.left → IsTermIn a t x.right → kind_of (tree_at a x.left) ≡ Some (left_kind x.relation) → kind_of (tree_at a x.right) ≡ Some (of_sort sort.Region) → (x.relation ≡ relation.Equal → ⊥) → IsClosed (tree_at a x.left) → IsClosed (tree_at a x.right) → OnOk o (Records a t.entries u.entries x) → u.saved ≡ t.saved → u.mode ≡ t.mode → OnErr o (u ≡ t) → Goes a a t u
 recorded_goes x (Ok z) h l r k j n cl cr e s m q = goes-recorded x h l r k j n cl cr e s m
 recorded_goes x (Err z) h l r k j n cl cr e s m q = rw q (Goes-extends h (Extends-refl _))
 
@@ -505,7 +505,7 @@ constraint_at ts fresh g [] k d h l = absurd (omega arith)
 constraint_at ts fresh g (x ∷ xs) zero d h l = h.0
 constraint_at ts fresh g (x ∷ xs) (suc k) d h l = constraint_at ts fresh g xs k d h.1 (omega arith)
 
-pub nested_at : (ts : List Tree) (fresh : List Sort) (g : Goal) (hs : List CandidateGoal) (k : ℕ) (d : CandidateGoal) → AreNested ts fresh g hs → k < length hs → IsNested ts fresh g (get_or hs k d).goal
+pub nested_at : (ts : List Tree) (fresh : List Sort) (g : Goal) (hs : List CandidateGoal) (k : ℕ) (d : CandidateGoal) → AreNested ts fresh g hs → k < length hs → IsNestedIn ts fresh g (get_or hs k d).goal
 nested_at ts fresh g [] k d h l = absurd (omega arith)
 nested_at ts fresh g (x ∷ xs) zero d h l = h.0
 nested_at ts fresh g (x ∷ xs) (suc k) d h l = nested_at ts fresh g xs k d h.1 (omega arith)
@@ -514,8 +514,8 @@ nested_at ts fresh g (x ∷ xs) (suc k) d h l = nested_at ts fresh g xs k d h.1 
 pub IsEquation-extended : {a b : List Tree} {fresh : List Sort} {g : Goal} {q : Equation} → Extends a b → HoldsGoal a g → IsEquation a fresh g q → IsEquation b fresh g q
 IsEquation-extended {a} {b} {fresh} {g} {q} e p h =
     record {
-      lhs = IsOver-extended e p h.lhs;
-      rhs = IsOver-extended e p h.rhs;
+      lhs = IsOverIn-extended e p h.lhs;
+      rhs = IsOverIn-extended e p h.rhs;
       argument = rw (e.kept q.lhs.node h.lhs.within) h.argument;
     }
 
@@ -526,8 +526,8 @@ equations-extended fresh g (q ∷ qs) e p h = (IsEquation-extended e p h.0, equa
 pub IsRegionConstraint-extended : {a b : List Tree} {fresh : List Sort} {g : Goal} {x : RegionConstraint} → Extends a b → HoldsGoal a g → IsRegionConstraint a fresh g x → IsRegionConstraint b fresh g x
 IsRegionConstraint-extended {a} {b} {fresh} {g} {x} e p h =
     record {
-      left = IsOver-extended e p h.left;
-      right = IsOver-extended e p h.right;
+      left = IsOverIn-extended e p h.left;
+      right = IsOverIn-extended e p h.right;
       left_sort = kind-extended e h.left.within h.left_sort;
       right_sort = kind-extended e h.right.within h.right_sort;
     }
@@ -536,14 +536,14 @@ constraints-extended : {a b : List Tree} (fresh : List Sort) (g : Goal) (xs : Li
 constraints-extended fresh g [] e p h = tt
 constraints-extended fresh g (x ∷ xs) e p h = (IsRegionConstraint-extended e p h.0, constraints-extended fresh g xs e p h.1)
 
-pub IsNested-extended : {a b : List Tree} {fresh : List Sort} {g h : Goal} → Extends a b → HoldsGoal a g → IsNested a fresh g h → IsNested b fresh g h
-IsNested-extended e p h =
-    record { environment = h.environment; holds = HoldsGoal-extended e h.holds; env = IsOver-extended e p h.env; predicate = IsOver-extended e p h.predicate }
+pub IsNestedIn-extended : {a b : List Tree} {fresh : List Sort} {g h : Goal} → Extends a b → HoldsGoal a g → IsNestedIn a fresh g h → IsNestedIn b fresh g h
+IsNestedIn-extended e p h =
+    record { environment = h.environment; holds = HoldsGoal-extended e h.holds; env = IsOverIn-extended e p h.env; predicate = IsOverIn-extended e p h.predicate }
 
 nested-extended : {a b : List Tree} (fresh : List Sort) (g : Goal) (hs : List CandidateGoal) → Extends a b → HoldsGoal a g → AreNested a fresh g hs → AreNested b fresh g hs
 nested-extended fresh g [] e p h = tt
 nested-extended fresh g (x ∷ xs) e p h =
-    (record { environment = h.0.environment; holds = HoldsGoal-extended e h.0.holds; env = IsOver-extended e p h.0.env; predicate = IsOver-extended e p h.0.predicate }, nested-extended fresh g xs e p h.1)
+    (record { environment = h.0.environment; holds = HoldsGoal-extended e h.0.holds; env = IsOverIn-extended e p h.0.env; predicate = IsOverIn-extended e p h.0.predicate }, nested-extended fresh g xs e p h.1)
 
 pub IsCandidate-extended : {a b : List Tree} {g : Goal} {c : CandidateData} → Extends a b → HoldsGoal a g → IsCandidate a g c → IsCandidate b g c
 IsCandidate-extended {a} {b} {g} {c} e p h =
@@ -561,10 +561,10 @@ AreCandidates-extended (c ∷ cs) e p h = (IsCandidate-extended e p h.0, AreCand
 
 -- a term that was resolved
 pub record IsResolved (a b : List Tree) (t : Table) (x y : NodeId) : Type 0 where
-  pub term : IsTermOf b t y
+  pub term : IsTermIn b t y
   pub kind : kind_of (tree_at b y) ≡ kind_of (tree_at a x)
 
-pub is_resolved : {a b : List Tree} {t : Table} {x y : NodeId} → IsTable a t → IsTermOf a t x → Extends a b → IsIn b y → tree_at b y ≡ deeply_resolved (content_of a t.entries) (tree_at a x) → IsResolved a b t x y
+pub is_resolved : {a b : List Tree} {t : Table} {x y : NodeId} → IsTable a t → IsTermIn a t x → Extends a b → IsIn b y → tree_at b y ≡ deeply_resolved (content_of a t.entries) (tree_at a x) → IsResolved a b t x y
 is_resolved {a} {b} {t} {x} {y} h k e w q =
     let same = content_of-extended e h.now in
     let c = content_of a t.entries in

@@ -8,7 +8,7 @@ use Rattle.nts_model.specs.Tables.Contents.{Content}
 use Rattle.nts_model.specs.Lists.{Among}
 use Rattle.nts_model.specs.Derivations.Rules.{Mode}
 use Rattle.nts_model.specs.Derivations.Handlers.{Candidate, Handler}
-use Rattle.nts_model.specs.Refutation.Choosing.{IsMet, MeetsEquations}
+use Rattle.nts_model.specs.Refutation.Choosing.{IsCandidateMet, MeetsEquations}
 use Rattle.nts_model.specs.Answers.Responses.{Response as Answer}
 use Rattle.nts_model.proofs.Refutation.Choosing.{met_when_equated}
 use Rattle.nts_store.specs.declared.nodes.NodeId.{NodeId}
@@ -33,9 +33,9 @@ use Rattle.nts_delegate.specs.Offered.{equation_of, candidate_of, candidates_of}
 use Rattle.nts_response.specs.declared.types.Response.{Response}
 use Rattle.nts_response.specs.Forms.{response_at}
 use Rattle.nts_queries.specs.Evaluation.{IsPosed}
-use Rattle.nts_queries.specs.Choices.{Equated, KeepsMet}
+use Rattle.nts_queries.specs.Choices.{EquatesCandidate, KeepsMet}
 use Rattle.nts_queries.specs.Choices.KeepsMet.{none, kept, dropped}
-use Rattle.nts_queries.specs.Telling.{IsPlain, Outcomes, Replies, Fails}
+use Rattle.nts_queries.specs.Telling.{IsPlainResponse, Outcomes, Replies, Fails}
 use Rattle.nts_queries.specs.Telling.Outcomes.{no_outcome, then_fails, then_replies}
 use Rattle.nts_queries.specs.Telling.Fails.{is_unmet}
 use Rattle.nts_queries.specs.Meant.{HaveOutcomes, CandidatesTell}
@@ -45,7 +45,7 @@ use Rattle.nts_queries.proofs.Running.{candidate-kept, candidates-kept}
 use Rattle.nts_queries.proofs.Trying.{equations_of_table}
 
 -- where the equations were made equal, some world of the table meets them
-pub some_meets : {a b : List Tree} {t u : Table} {g : Goal} (fresh : List Sort) (vs : List NodeId) (qs : List Equation) → AreFormed a → IsPosed a t g → AreEquations a fresh g qs → IsTable b u → Equated a b t u fresh vs qs → MeetsEquations (content_of a t.entries) fresh (map (equation_of a) qs)
+pub some_meets : {a b : List Tree} {t u : Table} {g : Goal} (fresh : List Sort) (vs : List NodeId) (qs : List Equation) → AreFormed a → IsPosed a t g → AreEquations a fresh g qs → IsTable b u → EquatesCandidate a b t u fresh vs qs → MeetsEquations (content_of a t.entries) fresh (map (equation_of a) qs)
 some_meets {a} {b} {t} {u} {g} fresh vs qs f p all k h =
     met_when_equated fresh (map (equation_of a) qs) (map (tree_at b) vs) (content_of a t.entries) h.made (content_of b u.entries) h.freshens h.equates k.now.sound k.now.proper.solvable (equations_of_table a fresh g (content_of a t.entries) qs f p.knows all)
 
@@ -74,13 +74,13 @@ pub next_items : (taken left rest all : List CandidateData) (x : CandidateData) 
 next_items taken left rest all x p e = append_assoc taken (x ∷ []) rest ∙ ap (λ zs. taken ++ zs) (sym e) ∙ p
 
 -- what trying it says, of the table and the store that were handed in
-met_before : {a b : List Tree} {t u : Table} {g : Goal} (x : CandidateData) (y : Bool) → Extends a b → IsTable a t → IsCandidate a g x → u ≡ t → IsTrue y ↔ IsMet (content_of b u.entries) (candidate_of b x) → IsTrue y ↔ IsMet (content_of a t.entries) (candidate_of a x)
+met_before : {a b : List Tree} {t u : Table} {g : Goal} (x : CandidateData) (y : Bool) → Extends a b → IsTable a t → IsCandidate a g x → u ≡ t → IsTrue y ↔ IsCandidateMet (content_of b u.entries) (candidate_of b x) → IsTrue y ↔ IsCandidateMet (content_of a t.entries) (candidate_of a x)
 met_before {a} {b} {t} {u} {g} x y e w h q m =
     let same : content_of b u.entries ≡ content_of a t.entries = ap (λ (z : Table). content_of b z.entries) q ∙ content_of-extended e w.now in
-    subst (λ z. IsTrue y ↔ IsMet (content_of a t.entries) z) (candidate-kept {a = a} {b = b} {g = g} {d = x} e h) (subst (λ z. IsTrue y ↔ IsMet z (candidate_of b x)) same m)
+    subst (λ z. IsTrue y ↔ IsCandidateMet (content_of a t.entries) z) (candidate-kept {a = a} {b = b} {g = g} {d = x} e h) (subst (λ z. IsTrue y ↔ IsCandidateMet z (candidate_of b x)) same m)
 
 -- one more is kept or dropped
-pub kept_more : {a b : List Tree} {t u : Table} {g : Goal} {xs ys zs : List CandidateData} (x : CandidateData) (y : Bool) → Extends a b → IsTable a t → IsCandidate a g x → u ≡ t → IsTrue y ↔ IsMet (content_of b u.entries) (candidate_of b x)
+pub kept_more : {a b : List Tree} {t u : Table} {g : Goal} {xs ys zs : List CandidateData} (x : CandidateData) (y : Bool) → Extends a b → IsTable a t → IsCandidate a g x → u ≡ t → IsTrue y ↔ IsCandidateMet (content_of b u.entries) (candidate_of b x)
     → zs ≡ (if y then ys ++ x ∷ [] else ys) → KeepsMet a (content_of a t.entries) xs ys → KeepsMet a (content_of a t.entries) (xs ++ x ∷ []) zs
 kept_more {a} {b} {t} {u} {g} {xs} {ys} {zs} x true e w h q m s k =
     let now = met_before {a = a} {b = b} {t = t} {u = u} {g = g} x true e w h q m in
@@ -143,4 +143,4 @@ kept_outcomes {a} {b} {t} g {xs} {ys} {rs} h mode qs m e w args all o =
 pub kept_tell : {a b : List Tree} {t : Table} (e : List Tree) (g : Goal) {xs ys : List CandidateData} (h : Handler) (mode : TypingMode) (qs : List GenericArg) (r : Canonical Response) → KeepsMet a (content_of a t.entries) xs ys → Extends a b → IsTable a t → All (IsArgOf a t.entries) qs → AreCandidates a g xs → CandidatesTell h mode b t qs ys e r → CandidatesTell h mode a t qs xs e r
 kept_tell e g h mode qs r m up w args all (inl (rs, o, s)) = inl (rs, kept_outcomes g h mode qs m up w args all o, s)
 kept_tell {a} {b} {t} e g h mode qs r m up w args all (inr p) =
-    inr (subst (λ z. IsPlain z (trees_of a qs) (response_at e r)) (content_of-extended up w.now) (subst (λ z. IsPlain (content_of b t.entries) z (response_at e r)) (trees_kept a b t.entries qs up args) p))
+    inr (subst (λ z. IsPlainResponse z (trees_of a qs) (response_at e r)) (content_of-extended up w.now) (subst (λ z. IsPlainResponse (content_of b t.entries) z (response_at e r)) (trees_kept a b t.entries qs up args) p))

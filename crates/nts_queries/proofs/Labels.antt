@@ -22,7 +22,7 @@ use Rattle.nts_terms.specs.Handles.{HoldsGoal}
 use Rattle.nts_unify.specs.Reading.{content_of}
 use Rattle.nts_unify.specs.Lawful.{content_of-extended}
 use Rattle.nts_table.specs.Tables.{Table, IsTable}
-use Rattle.nts_delegate.specs.Candidates.{IsOver, IsNested}
+use Rattle.nts_delegate.specs.Candidates.{IsOverIn, IsNestedIn}
 use Rattle.nts_queries.specs.Instances.{instance_at, IsGoalInstance}
 use Rattle.nts_queries.specs.Evaluation.{AreValues, asked_terms, AsksOnly}
 
@@ -34,7 +34,7 @@ fixed_passes P q (leaf.Region region.Error) h = q _ tt
 fixed_passes P q l h = absurd h
 
 -- a term of a candidate with values in place of its positions, where the goal's terms and the values pass
-over_passes : {a : List Tree} {t : Table} {fresh : List Sort} {g : Goal} {vs : List NodeId} {x : NodeId} → IsOver a fresh g x → AreValues a t fresh vs → (P : Label → Bool) → PassesQueries P → ((u : Tree) → Among (asked_terms a g) u → TreePasses P u) → TreePasses P (instance_at a vs x)
+over_passes : {a : List Tree} {t : Table} {fresh : List Sort} {g : Goal} {vs : List NodeId} {x : NodeId} → IsOverIn a fresh g x → AreValues a t fresh vs → (P : Label → Bool) → PassesQueries P → ((u : Tree) → Among (asked_terms a g) u → TreePasses P u) → TreePasses P (instance_at a vs x)
 over_passes {a} {t} {fresh} {g} {vs} {x} o v P q h =
     let e = tree_at a g.param_env.node in
     let p = tree_at a g.predicate.node in
@@ -42,7 +42,7 @@ over_passes {a} {t} {fresh} {g} {vs} {x} o v P q h =
     passes-filled P (map (tree_at a) vs) (tree_at a x) q (v.labels P q) (λ l i. ⊎_elim (λ j. passes-leaf P (pair e p) l both j) (λ f. fixed_passes P q l f) (o.leaves l i))
 
 -- what two terms of a candidate bring
-pub over_only : {a : List Tree} {t : Table} {fresh : List Sort} {g : Goal} {vs : List NodeId} {x y : NodeId} {c d : Content} → AreValues a t fresh vs → IsOver a fresh g x → IsOver a fresh g y → BringsLabelsOf c d (instance_at a vs x) (instance_at a vs y) → BringsOnly (asked_terms a g) c d
+pub over_only : {a : List Tree} {t : Table} {fresh : List Sort} {g : Goal} {vs : List NodeId} {x y : NodeId} {c d : Content} → AreValues a t fresh vs → IsOverIn a fresh g x → IsOverIn a fresh g y → BringsLabelsOf c d (instance_at a vs x) (instance_at a vs y) → BringsOnly (asked_terms a g) c d
 over_only {a} {t} {fresh} {g} {vs} {x} {y} v l r h =
     only-of (asked_terms a g) (instance_at a vs x) (instance_at a vs y) h (λ P q k i. (over_passes l v P q k, over_passes r v P q k))
 
@@ -54,7 +54,7 @@ only_earlier {a} {b} {g} {c} {d} e p h =
     rw (env, predicate) at h
 
 -- a goal of a candidate
-pub nested_only : {a b : List Tree} {t : Table} {fresh : List Sort} {g h k : Goal} {vs : List NodeId} → IsNested a fresh g h → AreValues a t fresh vs → IsGoalInstance a b vs h k → AsksOnly a b g k
+pub nested_only : {a b : List Tree} {t : Table} {fresh : List Sort} {g h k : Goal} {vs : List NodeId} → IsNestedIn a fresh g h → AreValues a t fresh vs → IsGoalInstance a b vs h k → AsksOnly a b g k
 nested_only n v i =
     record {
       labels = λ P q m t j.

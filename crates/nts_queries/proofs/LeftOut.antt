@@ -9,7 +9,7 @@ use Rattle.nts_model.specs.Lists.{Among}
 use Rattle.nts_model.specs.Derivations.Rules.{Mode, related}
 use Rattle.nts_model.specs.Terms.Substitutions.{filled_under}
 use Rattle.nts_model.specs.Derivations.Handlers.{Candidate, Handler}
-use Rattle.nts_model.specs.Refutation.Choosing.{IsMet}
+use Rattle.nts_model.specs.Refutation.Choosing.{IsCandidateMet}
 use Rattle.nts_model.specs.Answers.Responses.{Response as Answer}
 use Rattle.nts_delegate.specs.Relevant.{built_by, IsIrrelevant, LeavesOut}
 use Rattle.nts_delegate.specs.Relevant.LeavesOut.{none, offered, left_out}
@@ -45,7 +45,7 @@ built_filled f vs (more a b) h e = cc e
 some_inj : (a b : TyHead) → Some a ≡ Some b → a ≡ b
 some_inj a b e = cc e
 
-pub unmet : (c : Content) (x : Candidate) → IsIrrelevant x → IsMet c x → ⊥
+pub unmet : (c : Content) (x : Candidate) → IsIrrelevant x → IsCandidateMet c x → ⊥
 unmet c x r m =
     let one = m.equal (related r.left r.right) r.equation in
     let left = built_filled _ m.values r.left r.apart.left r.apart.of_left in

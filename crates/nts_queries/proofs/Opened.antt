@@ -15,14 +15,14 @@ use Rattle.nts_model.specs.Derivations.Related.{unbound}
 use Rattle.nts_model.specs.Derivations.Rules.{opened, opened_at, statement_of}
 use Rattle.nts_model.specs.Answers.Responses.{Response as Answer}
 use Rattle.nts_model.specs.Tables.Passing.{TreePasses, TablePasses, PassesQueries, BringsOnly}
-use Rattle.nts_model.specs.Refutation.Opening.{binds, placeholder_in, entered, opened_in}
+use Rattle.nts_model.specs.Refutation.Opening.{binds, placeholder_in, entered_table, opened_in}
 use Rattle.nts_model.specs.declared.labels.Variance.{Variance}
 use Rattle.nts_model.specs.Tables.Holding.{Continues}
 use Rattle.nts_model.specs.Tables.Resolving.{Knows}
 use Rattle.nts_model.specs.Lists.{Among}
 use Rattle.nts_model.specs.Derivations.Rules.{Mode}
 use Rattle.nts_model.specs.Derivations.Handlers as handlers
-use Rattle.nts_model.specs.Derivations.Handlers.{Handler, meaning, IsLawful}
+use Rattle.nts_model.specs.Derivations.Handlers.{Handler, meaning, IsLawfulHandler}
 use Rattle.nts_model.proofs.Tables.Slots.{KeepsKinds, Knows-kept}
 use Rattle.nts_model.proofs.Tables.Fitting.{IsClosed-under}
 use Rattle.nts_model.proofs.Refutation.OpenedProofs.{by_entered_candidate}
@@ -41,7 +41,7 @@ use Rattle.nts_response.specs.declared.types.Response.{Response}
 use Rattle.nts_response.specs.Forms.{response_at}
 use Rattle.nts_table.specs.Tables.{Table, IsTable}
 use Rattle.nts_unify.specs.Lawful.{content_of-extended}
-use Rattle.nts_delegate.specs.Candidates.{IsAsked}
+use Rattle.nts_delegate.specs.Candidates.{IsAskedIn}
 use Rattle.nts_delegate.specs.declared.delegate.CandidateData.{CandidateData}
 use Rattle.nts_delegate.specs.Offered.{candidates_of}
 use Rattle.nts_delegate.specs.Relevant.{LeavesOut}
@@ -52,7 +52,7 @@ use Rattle.nts_queries.specs.Opening.{IsOpenedTo}
 use Rattle.nts_queries.specs.Meant.{IsServed, offers_of, IsTold, IsRefuted, CandidatesTell}
 use Rattle.nts_queries.proofs.Evaluating.{Knows-goes, offers-kept}
 use Rattle.nts_queries.proofs.Running.{term_table}
-use Rattle.nts_queries.specs.Telling.{IsPlain, StandsForAll, Outcomes}
+use Rattle.nts_queries.specs.Telling.{IsPlainResponse, StandsForAll, Outcomes}
 use Rattle.nts_queries.specs.Telling.Tells.{tells_nothing, tells_one}
 use Rattle.nts_queries.specs.Telling.Refutes.{all_fail}
 
@@ -117,11 +117,11 @@ goal_closed c e g h asked = by_test (binds g) refl
 
 -- what the candidates tell, in terms of what is offered for the goal
 pub told_offered : {b d : List Tree} (h : Handler) (mode : TypingMode) (u : Table) (o : Goal) (qs : List GenericArg) (xs : List CandidateData) (e : List Tree) (r : Canonical Response) → Extends b d → IsTable b u → HoldsGoal b o → trees_of d qs ≡ trees_of b qs → LeavesOut (offers_of h (mode_of mode) d o) (candidates_of d xs) → CandidatesTell h mode d u qs xs e r
-    → ((rs : List Answer) × Outcomes h (mode_of mode) (content_of b u.entries) (trees_of b qs) (offers_of h (mode_of mode) b o) rs × StandsForAll rs (response_at e r)) ⊎ IsPlain (content_of b u.entries) (trees_of b qs) (response_at e r)
+    → ((rs : List Answer) × Outcomes h (mode_of mode) (content_of b u.entries) (trees_of b qs) (offers_of h (mode_of mode) b o) rs × StandsForAll rs (response_at e r)) ⊎ IsPlainResponse (content_of b u.entries) (trees_of b qs) (response_at e r)
 told_offered {b} {d} h mode u o qs xs e r up w holds trees those (inl (rs, x, y)) =
     inl (rs, rw (content_of-extended up w.now, trees, offers-kept h (mode_of mode) up holds) at (all_outcomes those (candidates_of d xs) rs refl x), y)
 told_offered {b} {d} h mode u o qs xs e r up w holds trees those (inr x) =
-    inr (subst (λ z. IsPlain z (trees_of b qs) (response_at e r)) (content_of-extended up w.now) (subst (λ z. IsPlain (content_of d u.entries) z (response_at e r)) trees x))
+    inr (subst (λ z. IsPlainResponse z (trees_of b qs) (response_at e r)) (content_of-extended up w.now) (subst (λ z. IsPlainResponse (content_of d u.entries) z (response_at e r)) trees x))
 
 -- a goal of the store a and the table t, that is the goal o of the store b in the table u once it is opened
 module _ {a b : List Tree} {t u : Table} {g o : Goal} (posed : IsPosed a t g) (opens : IsOpenedTo a b t u g o) (up : Extends a b) where
@@ -135,7 +135,7 @@ module _ {a b : List Tree} {t u : Table} {g o : Goal} (posed : IsPosed a t g) (o
   environment_same = ap (λ (z : ParamEnv). tree_at b z.node) opens.environment ∙ up.kept g.param_env.node posed.holds.env.within
 
   opened_outcomes : (h : Handler) (mode : TypingMode) (qs : List Tree) (rs : List Answer) → Outcomes h (mode_of mode) there qs (offers_of h (mode_of mode) b o) rs
-      → Outcomes h (mode_of mode) (entered before (tree_at a g.predicate.node)) qs (h.offers (mode_of mode) (tree_at a g.param_env.node) (opened_in before (tree_at a g.predicate.node))) rs
+      → Outcomes h (mode_of mode) (entered_table before (tree_at a g.predicate.node)) qs (h.offers (mode_of mode) (tree_at a g.param_env.node) (opened_in before (tree_at a g.predicate.node))) rs
   opened_outcomes h mode qs rs x =
       let offers = h.offers (mode_of mode) in
       subst (λ z. Outcomes h (mode_of mode) z qs (offers (tree_at a g.param_env.node) (opened_in before (tree_at a g.predicate.node))) rs) opens.table
@@ -143,22 +143,22 @@ module _ {a b : List Tree} {t u : Table} {g o : Goal} (posed : IsPosed a t g) (o
       (subst (λ z. Outcomes h (mode_of mode) there qs (offers z (tree_at b o.predicate.node)) rs) environment_same x))
 
   -- what its candidates are answered the goal is answered
-  asked_opened : IsAsked b o → handlers.IsAsked (tree_at a g.param_env.node) (opened_in before (tree_at a g.predicate.node))
+  asked_opened : IsAskedIn b o → handlers.IsAsked (tree_at a g.param_env.node) (opened_in before (tree_at a g.predicate.node))
   asked_opened asked = subst (λ z. handlers.IsAsked (tree_at a g.param_env.node) z) opens.predicate (subst (λ z. handlers.IsAsked z (tree_at b o.predicate.node)) environment_same asked.asked)
 
-  pub told_through : IsAsked b o → (h : Handler) (mode : TypingMode) (qs : List GenericArg) (e : List Tree) (r : Canonical Response) → trees_of b qs ≡ trees_of a qs
-      → ((rs : List Answer) × Outcomes h (mode_of mode) there (trees_of b qs) (offers_of h (mode_of mode) b o) rs × StandsForAll rs (response_at e r)) ⊎ IsPlain there (trees_of b qs) (response_at e r) → IsTold h mode a t g qs e r
+  pub told_through : IsAskedIn b o → (h : Handler) (mode : TypingMode) (qs : List GenericArg) (e : List Tree) (r : Canonical Response) → trees_of b qs ≡ trees_of a qs
+      → ((rs : List Answer) × Outcomes h (mode_of mode) there (trees_of b qs) (offers_of h (mode_of mode) b o) rs × StandsForAll rs (response_at e r)) ⊎ IsPlainResponse there (trees_of b qs) (response_at e r) → IsTold h mode a t g qs e r
   told_through ask h mode qs e r same (inl (rs, x, y)) =
       let there_told : Outcomes h (mode_of mode) there (trees_of a qs) (offers_of h (mode_of mode) b o) rs = subst (λ z. Outcomes h (mode_of mode) there z (offers_of h (mode_of mode) b o) rs) same x in
       tells_one rs (asked_opened ask) (opened_outcomes h mode (trees_of a qs) rs there_told) y
-  told_through ask h mode qs e r same (inr x) = tells_nothing there (inr opens.table) (subst (λ z. IsPlain there z (response_at e r)) same x)
+  told_through ask h mode qs e r same (inr x) = tells_nothing there (inr opens.table) (subst (λ z. IsPlainResponse there z (response_at e r)) same x)
 
-  pub refuted_through : IsAsked b o → (h : Handler) (mode : TypingMode) (qs : List Tree) → Outcomes h (mode_of mode) there qs (offers_of h (mode_of mode) b o) [] → IsRefuted h mode a t g
+  pub refuted_through : IsAskedIn b o → (h : Handler) (mode : TypingMode) (qs : List Tree) → Outcomes h (mode_of mode) there qs (offers_of h (mode_of mode) b o) [] → IsRefuted h mode a t g
   refuted_through ask h mode qs x = all_fail qs (asked_opened ask) (opened_outcomes h mode qs [] x)
 
   -- .. of which nothing is told there
-  pub nothing_through : (h : Handler) (mode : TypingMode) (qs : List GenericArg) (e : List Tree) (r : Canonical Response) → trees_of b qs ≡ trees_of a qs → IsPlain there (trees_of b qs) (response_at e r) → IsTold h mode a t g qs e r
-  nothing_through h mode qs e r same x = tells_nothing there (inr opens.table) (subst (λ z. IsPlain there z (response_at e r)) same x)
+  pub nothing_through : (h : Handler) (mode : TypingMode) (qs : List GenericArg) (e : List Tree) (r : Canonical Response) → trees_of b qs ≡ trees_of a qs → IsPlainResponse there (trees_of b qs) (response_at e r) → IsTold h mode a t g qs e r
+  nothing_through h mode qs e r same x = tells_nothing there (inr opens.table) (subst (λ z. IsPlainResponse there z (response_at e r)) same x)
 
   -- what answering the opened goal brings
   passes_entered : (P : Label → Bool) → TablePasses P before → TablePasses P there
@@ -180,7 +180,7 @@ module _ {a b : List Tree} {t u : Table} {g o : Goal} (posed : IsPosed a t g) (o
   labels_entered = record { labels = λ P q m k. passes_entered P k }
 
   -- a certain candidate for the opened goal proves the goal
-  pub proved_through : (h : Handler) (V : ℕ → List Variance) (mode : Mode) (A : List Assumed) {d : List Tree} {v : Table} → IsPosed b u o → IsAsked b o → Goes b d u v → Continues before (content_of d v.entries) → AreFormed d → IsLawful h
+  pub proved_through : (h : Handler) (V : ℕ → List Variance) (mode : Mode) (A : List Assumed) {d : List Tree} {v : Table} → IsPosed b u o → IsAskedIn b o → Goes b d u v → Continues before (content_of d v.entries) → AreFormed d → IsLawfulHandler h
       → IsServed h (meaning h V) mode A (content_of d v.entries) (tree_at d o.param_env.node) (tree_at d o.predicate.node) → IsProvedFrom (meaning h V) mode A (content_of d v.entries) (tree_at d g.param_env.node) (tree_at d g.predicate.node)
   proved_through h V mode A {d} {v} there_posed asked goes later formed law served =
       let c = content_of d v.entries in

@@ -29,7 +29,7 @@ use Rattle.nts_response.specs.Forms.{response_at}
 use Rattle.std.specs.Global.{Box}
 use Rattle.nts_queries.specs.Answering.{IfAnswered}
 use Rattle.nts_queries.specs.Found.{Found, IsMerged, kept_after}
-use Rattle.nts_queries.specs.Telling.{IsPlain, Outcomes, Replies, Fails, StandsForAll}
+use Rattle.nts_queries.specs.Telling.{IsPlainResponse, Outcomes, Replies, Fails, StandsForAll}
 use Rattle.nts_queries.specs.Telling.Outcomes.{no_outcome, then_fails, then_replies}
 use Rattle.nts_queries.specs.Meant.{HaveOutcomes, CandidatesTell, RepliesWith, FailsIn}
 use Rattle.nts_queries.proofs.AskedGoals.{trees_kept}
@@ -123,4 +123,4 @@ told_merged {P} {a} {b} {e} {t} {g} {qs} h mode xs rs r ab be w args found outco
     let one : Found P a b t g qs r = subst (Found P a b t g qs) is (found i r l) in
     inl (map (response_at b) rs, outcomes, subst (StandsForAll (map (response_at b) rs)) (sym (response_same b e r be one.holds)) (merged_stands b rs r m merges))
 told_merged {P} {a} {b} {e} {t} {g} {qs} h mode xs rs r ab be w args found outcomes (inr (none, doubt, plain, holds, no_more)) =
-    inr (subst (λ z. IsPlain z (trees_of a qs) (response_at e r)) (content_of-extended ab w.now) (subst (λ z. IsPlain (content_of b t.entries) z (response_at e r)) (trees_kept a b t.entries qs ab args) plain))
+    inr (subst (λ z. IsPlainResponse z (trees_of a qs) (response_at e r)) (content_of-extended ab w.now) (subst (λ z. IsPlainResponse (content_of b t.entries) z (response_at e r)) (trees_kept a b t.entries qs ab args) plain))

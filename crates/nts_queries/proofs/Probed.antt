@@ -28,8 +28,8 @@ use Rattle.nts_canonical.specs.Forms.{form_of, kind_of_var, trees_of, IsHidden}
 use Rattle.nts_canonical.specs.Kinds.{AreInputKinds}
 use Rattle.nts_canonical.specs.Building.{IsArgOf}
 use Rattle.nts_response.specs.declared.types.Response.{Response}
-use Rattle.nts_response.specs.Forms.{response_at, recorded_at, premise_at, HoldsResponse, HoldsConstraint, HoldsOpen}
-use Rattle.nts_response.specs.Replacing.{value_at}
+use Rattle.nts_response.specs.Forms.{response_at, recorded_at, premise_at, HoldsResponse, StoreHoldsConstraint, HoldsOpen}
+use Rattle.nts_response.specs.Replacing.{argument_value}
 use Rattle.nts_response.proofs.ApplySteps.{response_kept}
 use Rattle.nts_response.proofs.Each.{same_views, values_kept, constraints_kept, hidden_kept, goals_kept}
 use Rattle.nts_model.proofs.Responses.Bringing.{only-refl}
@@ -38,7 +38,7 @@ use Rattle.nts_model.specs.Derivations.Handlers.{Handler}
 use Rattle.nts_terms.specs.declared.modes.TypingMode.{TypingMode}
 use Rattle.nts_terms.specs.Modes.{mode_of}
 use Rattle.nts_delegate.specs.declared.delegate.CandidateData.{CandidateData}
-use Rattle.nts_queries.specs.Telling.{IsPlain, Replies}
+use Rattle.nts_queries.specs.Telling.{IsPlainResponse, Replies}
 use Rattle.nts_queries.specs.Telling.Replies.{replies}
 use Rattle.nts_queries.specs.Meant.{HasRunTo}
 use Rattle.nts_queries.specs.Found.{Found}
@@ -56,8 +56,8 @@ pub response_same : (a b : List Tree) (r : Canonical Response) → Extends a b �
 response_same a b r e h =
     let v = r.value in
     let x = v.external_constraints in
-    let values = same_views HoldsArg value_at values_kept a b v.var_values.items h.values e in
-    let constraints = same_views HoldsConstraint recorded_at constraints_kept a b x.region_constraints.items h.constraints e in
+    let values = same_views HoldsArg argument_value values_kept a b v.var_values.items h.values e in
+    let constraints = same_views StoreHoldsConstraint recorded_at constraints_kept a b x.region_constraints.items h.constraints e in
     let hidden = same_views IsHidden hidden_of hidden_kept a b x.opaque_types.items h.hidden e in
     let goals = same_views HoldsOpen premise_at goals_kept a b x.normalization_nested_goals.items h.open_goals e in
     λ i. record {
@@ -132,7 +132,7 @@ found_still {P} {a} {b} {e} {t} {g} {qs} r x w up formed k args same unsure says
     still h i = content_of-extended i h.now
 
 -- an answer that is not certain keeps its table's constraints to itself
-pub plain_of : (x : Certainty) (c : Content) (qs : List Tree) (r : Answer) → IsResponseOf (told_in x c) qs r → (x ≡ certainty.Yes → ⊥) → IsPlain c qs r
+pub plain_of : (x : Certainty) (c : Content) (qs : List Tree) (r : Answer) → IsResponseOf (told_in x c) qs r → (x ≡ certainty.Yes → ⊥) → IsPlainResponse c qs r
 plain_of x c qs r h n = subst (λ z. IsResponseOf z qs r) (told_unsure x c n) h
 
 pub doubtful : (m : MaybeInfo) → certainty.Maybe m ≡ certainty.Yes → ⊥
@@ -142,7 +142,7 @@ doubtful m e = cc
 pub not_kept : {x : Certainty} → is_kept x ≡ false → x ≡ certainty.Yes → ⊥
 not_kept {x} e y = (let z : true ≡ false = sym (ap is_kept y) ∙ e in cc)
 
-pub told_or_plain : (x : Certainty) (c : Content) (qs : List Tree) (r : Answer) → IsResponseOf (told_in x c) qs r → IsResponseOf c qs r ⊎ IsPlain c qs r
+pub told_or_plain : (x : Certainty) (c : Content) (qs : List Tree) (r : Answer) → IsResponseOf (told_in x c) qs r → IsResponseOf c qs r ⊎ IsPlainResponse c qs r
 told_or_plain certainty.Yes c qs r h = inl h
 told_or_plain (certainty.Maybe i) c qs r h = inr h
 
@@ -152,7 +152,7 @@ said_of (inr x) = inr (inl x)
 
 -- a candidate that was run in a snapshot of the table t has this response
 pub run_replies : {a b : List Tree} (s t u : Table) (h : Handler) (mode : TypingMode) (x : CandidateData) (qs : List Tree) (r : Answer) → HasRunTo h s.mode a s b u x → s.mode ≡ mode → s.entries ≡ t.entries
-    → IsResponseOf (content_of b u.entries) qs r ⊎ IsPlain (content_of b u.entries) qs r ⊎ IsPlain (content_of a s.entries) qs r → Replies h (mode_of mode) (content_of a t.entries) qs (candidate_of a x) r
+    → IsResponseOf (content_of b u.entries) qs r ⊎ IsPlainResponse (content_of b u.entries) qs r ⊎ IsPlainResponse (content_of a s.entries) qs r → Replies h (mode_of mode) (content_of a t.entries) qs (candidate_of a x) r
 run_replies {a} {b} s t u h mode x qs r run moded same says =
     subst (λ z. Replies h (mode_of mode) (content_of a z) qs (candidate_of a x) r) same (subst (λ z. Replies h (mode_of z) (content_of a s.entries) qs (candidate_of a x) r) moded (replies run.values run.met (content_of b u.entries) run.begun run.reaches says))
 

@@ -35,17 +35,17 @@ use Rattle.nts_response.specs.declared.types.Response.{Response}
 use Rattle.nts_response.specs.Forms.{response_at}
 use Rattle.nts_search.specs.declared.stack.StackEntry.{StackEntry}
 use Rattle.nts_search.specs.declared.stack.SearchGraph.{SearchGraph}
-use Rattle.nts_search.specs.Searching.{entry_at, entries_at, HoldsAnswer, HoldsEntry, IsStack, IsInputAt, KeepsRest}
+use Rattle.nts_search.specs.Searching.{entry_at, entries_at, HoldsAnswer, HoldsEntry, IsStack, IsInputAt, KeepsRestOfGraph}
 use Rattle.nts_search.specs.Ending.{AreOneAnswer, IsVague}
 use Rattle.nts_search.proofs.RoundEnds.{round_may_end}
 use Rattle.std.specs.Global.{Box}
 use Rattle.nts_queries.specs.declared.round.Asked.{Asked}
 use Rattle.nts_queries.specs.declared.round.Ended.{Ended}
-use Rattle.nts_queries.specs.Rounds.{IsFirst, EndsWith, IsBoxed}
+use Rattle.nts_queries.specs.Rounds.{IsFirstRound, EndsWith, IsBoxed}
 use Rattle.nts_queries.specs.Answering.{IsQueryInput, IsAnswerTo, IfAnswered}
 use Rattle.nts_queries.specs.Telling.{QueryTells, QueryRefutes, SaysNothing}
 use Rattle.nts_queries.specs.Telling.Tells.{says_nothing}
-use Rattle.nts_queries.specs.Searching.{IsHeadAnswer, IsHead, IsSearch, IsLater, AreLater, Searches, assumed_in, IsAnswerTold, HeadsTell, IsCut, IsReadAt, HasNoneAt}
+use Rattle.nts_queries.specs.Searching.{IsHeadAnswer, IsHead, IsSearch, IsEntryLater, AreLater, Searches, assumed_in, IsAnswerTold, HeadsTell, IsCut, IsReadAt, HasNoneAt}
 use Rattle.nts_queries.proofs.Probed.{response_same}
 use Rattle.nts_queries.proofs.Searching.{form_later, input_later, head_answer_later, later_itself, later_pushed, Searches-refl, Searches-trans, search_grows, search_later, search_counted, nothing_assumed, none_passed, answer_told_later, tell_grown}
 use Rattle.nts_queries.proofs.BackEdges.{by_answer, some_is_ok, copied_response, usable_derived}
@@ -100,7 +100,7 @@ holds_answer ts ks None h = tt
 holds_answer ts ks (Some r) h = h.holds
 
 pub search_pushed : {a b : Cx} {g h : SearchGraph} (n : ℕ) (input : CanonicalInput) (step : PathKind) (p : Option (Canonical Response)) → IsSearch a g (n + 1) → Grows a b → IsQueryInput a.nodes input → IsHeadAnswer a.nodes (kinds_of input) p → (e : Option ℕ) × (h.stack.items ≡ g.stack.items ++ entry_of input step p e ∷ [])
-    → ((ts : List Tree) → IsStack ts g → HoldsQuery ts input.canonical.value → HoldsAnswer ts p → IsStack ts h) → KeepsRest g h → IsSearch b h n
+    → ((ts : List Tree) → IsStack ts g → HoldsQuery ts input.canonical.value → HoldsAnswer ts p → IsStack ts h) → KeepsRestOfGraph g h → IsSearch b h n
 search_pushed {a} {b} {g} {h} n input step p s w asked answer pushed kept rest =
     let now : IsSearch b g (n + 1) = search_grows (n + 1) (n + 1) (omega arith) s w in
     let q : IsQueryInput b.nodes input = input_later a.nodes b.nodes input w.extends asked in
@@ -130,7 +130,7 @@ tell_pushed {a} {b} {g} h hd n input step p s w asked answer pushed tells told =
     (All-push (λ x. IsAnswerTold hd (mode_of x.input.typing_mode) b.nodes (form_of b.nodes x.input) x.provisional) g.stack.items (entry_of input step p pushed.0) (tell_grown hd n s w tells) here)
 
 -- the stack is as before
-pub search_same : {a b : Cx} {g h : SearchGraph} (n : ℕ) → IsSearch a g n → Grows a b → h.stack.items ≡ g.stack.items → ((ts : List Tree) → IsStack ts g → IsStack ts h) → KeepsRest g h → Searches a b g h
+pub search_same : {a b : Cx} {g h : SearchGraph} (n : ℕ) → IsSearch a g n → Grows a b → h.stack.items ≡ g.stack.items → ((ts : List Tree) → IsStack ts g → IsStack ts h) → KeepsRestOfGraph g h → Searches a b g h
 search_same {a} {b} {g} {h} n s w same kept rest =
     let now : Searches a b g g = Searches-refl n s w in
     let most = rest.most_rounds in
@@ -145,10 +145,10 @@ search_same {a} {b} {g} {h} n s w same kept rest =
 -- the entry y was put on the stack of g, where the search went on, and is taken off as x
 pub record IsPopped (a c : Cx) (g j : SearchGraph) (y x : StackEntry) : Type 0 where
   pub searches : Searches a c g j
-  pub entry : IsLater y x
+  pub entry : IsEntryLater y x
   pub head : IsHead c.nodes x
 
-pub search_popped : {a b c : Cx} {g h i j : SearchGraph} (y x : StackEntry) → h.stack.items ≡ g.stack.items ++ y ∷ [] → KeepsRest g h → Searches b c h i → i.stack.items ≡ j.stack.items ++ x ∷ [] → ((ts : List Tree) → IsStack ts i → IsStack ts j × HoldsEntry ts x) → KeepsRest i j → IsPopped a c g j y x
+pub search_popped : {a b c : Cx} {g h i j : SearchGraph} (y x : StackEntry) → h.stack.items ≡ g.stack.items ++ y ∷ [] → KeepsRestOfGraph g h → Searches b c h i → i.stack.items ≡ j.stack.items ++ x ∷ [] → ((ts : List Tree) → IsStack ts i → IsStack ts j × HoldsEntry ts x) → KeepsRestOfGraph i j → IsPopped a c g j y x
 search_popped {a} {b} {c} {g} {h} {i} {j} y x pushed up s popped kept down =
     let there : AreLater (g.stack.items ++ y ∷ []) (j.stack.items ++ x ∷ []) = subst (λ z. AreLater z (j.stack.items ++ x ∷ [])) pushed (subst (AreLater h.stack.items) popped s.later) in
     let later = later_pushed g.stack.items j.stack.items y x there in
@@ -224,10 +224,10 @@ module _ (x : Option (Canonical Response)) (z : Result (Box (Canonical Response)
   last_each h = by_answer x z some none h
 
 -- before the first round
-pub first_fits : (ts : List Tree) (i : CanonicalInput) (x : Asked) → IsFirst ts i x → IsHeadAnswer ts (kinds_of i) x.provisional
+pub first_fits : (ts : List Tree) (i : CanonicalInput) (x : Asked) → IsFirstRound ts i x → IsHeadAnswer ts (kinds_of i) x.provisional
 first_fits ts i x h = subst (IsHeadAnswer ts (kinds_of i)) (sym h.is) h.fits
 
-pub first_told : (hd : Handler) (mode : Mode) (ts : List Tree) (f : Form) (i : CanonicalInput) (x : Asked) → IsFirst ts i x → IsAnswerTold hd mode ts f x.provisional
+pub first_told : (hd : Handler) (mode : Mode) (ts : List Tree) (f : Form) (i : CanonicalInput) (x : Asked) → IsFirstRound ts i x → IsAnswerTold hd mode ts f x.provisional
 first_told hd mode ts f i x h = subst (IsAnswerTold hd mode ts f) (sym h.is) (says_nothing h.nothing)
 
 -- what a round ends with, by what its table answered
@@ -238,7 +238,7 @@ round_ends Q (Err error.Memory) o e some none = absurd e
 round_ends Q (Err error.Full) o e some none = absurd e
 
 -- the entry that was taken off is the one that was put on
-pub ended_entry : (own x : StackEntry) (r : Result (Box Ended) EvalError) → IsLater own x → IfOk r (λ z. z.value.entry ≡ x) → IfOk r (λ z. (z.value.entry.input ≡ own.input) × (z.value.entry.step_kind ≡ own.step_kind) × (z.value.entry.provisional ≡ own.provisional))
+pub ended_entry : (own x : StackEntry) (r : Result (Box Ended) EvalError) → IsEntryLater own x → IfOk r (λ z. z.value.entry ≡ x) → IfOk r (λ z. (z.value.entry.input ≡ own.input) × (z.value.entry.step_kind ≡ own.step_kind) × (z.value.entry.provisional ≡ own.provisional))
 ended_entry own x (Ok z) l e = (ap (λ (y : StackEntry). y.input) e ∙ l.input, ap (λ (y : StackEntry). y.step_kind) e ∙ l.kind, ap (λ (y : StackEntry). y.provisional) e ∙ l.provisional)
 ended_entry own x (Err z) l e = tt
 

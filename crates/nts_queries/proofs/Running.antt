@@ -13,7 +13,7 @@ use Rattle.nts_model.specs.declared.labels.Label.TheVariants as label
 use Rattle.nts_model.specs.Terms.Trees.{Tree, empty, node, kind_of, kind_of_label, of_sort, any_argument, FitsPlace, shape, Meets, IsFormed}
 use Rattle.nts_model.specs.Tables.Contents.{Content, Recorded}
 use Rattle.nts_model.specs.Tables.Resolving.{deeply_resolved, Knows}
-use Rattle.nts_model.specs.Tables.Holding.{AreOne, IsTrivial, HasSides, HoldsConstraint, Continues}
+use Rattle.nts_model.specs.Tables.Holding.{AreOne, IsTrivialUnder, HasSides, HoldsConstraint, Continues}
 use Rattle.nts_model.specs.Tables.Alike.{Alike, one_tree, two_regions, one_label, two_rows, HoldsEqual, AreAlike}
 use Rattle.nts_model.specs.Lists.{Among}
 use Rattle.nts_model.specs.Derivations.Sequents.{Premise}
@@ -57,7 +57,7 @@ use Rattle.nts_delegate.specs.Offered.{certainty_of, access_of, source_of, equat
 use Rattle.nts_queries.specs.Meant.{IsServed}
 use Rattle.nts_queries.specs.Running.{IsTermTable, Stays, EquationHolds, ConstraintHolds, PremiseHolds, EachStays, EquatesEach, Constrains}
 use Rattle.nts_queries.specs.Evaluation.{Goes, AllKnown}
-use Rattle.nts_table.specs.Tables.{IsTermOf}
+use Rattle.nts_table.specs.Tables.{IsTermIn}
 use Rattle.nts_queries.proofs.Evaluating.{candidate_at, Knows-goes}
 
 -- what stays, stays
@@ -117,7 +117,7 @@ held_stays {ts} {t} x h a b k =
     record { later = λ d s e. HoldsConstraint-continues (content_of ts t.entries) d x e (known_all h) a b k }
 
 -- a constraint that was recorded is held, and one whose sides are one tree is trivial
-trivial_outlives : (d : Content) (r : Relation) (a b : Tree) → (r ≡ relation.TypeOutlives → ⊥) → a ≡ b → IsTrivial d r a b
+trivial_outlives : (d : Content) (r : Relation) (a b : Tree) → (r ≡ relation.TypeOutlives → ⊥) → a ≡ b → IsTrivialUnder d r a b
 trivial_outlives d relation.Equal a b n e = ap (deeply_resolved d) e
 trivial_outlives d relation.RegionOutlives a b n e = ap (deeply_resolved d) e
 trivial_outlives d relation.TypeOutlives a b n e = absurd (n refl)
@@ -132,7 +132,7 @@ no_type relation.Equal a b k j e q = cc
 no_type relation.RegionOutlives a b k j e q = cc
 no_type relation.TypeOutlives a b k j e q = let s : Some (left_kind relation.TypeOutlives) ≡ Some (of_sort sort.Region) = sym k ∙ ap kind_of e ∙ j in cc
 
-pub recorded_stays : {ts : List Tree} {t u : Table} (x : Constraint) → Goes ts ts t u → IsTermOf ts t x.left → IsTermOf ts t x.right → kind_of (tree_at ts x.left) ≡ Some (left_kind x.relation) → kind_of (tree_at ts x.right) ≡ Some (of_sort sort.Region) → Records ts t.entries u.entries x → Stays (content_of ts u.entries) (λ d. HoldsConstraint d (recorded_of ts x))
+pub recorded_stays : {ts : List Tree} {t u : Table} (x : Constraint) → Goes ts ts t u → IsTermIn ts t x.left → IsTermIn ts t x.right → kind_of (tree_at ts x.left) ≡ Some (left_kind x.relation) → kind_of (tree_at ts x.right) ≡ Some (of_sort sort.Region) → Records ts t.entries u.entries x → Stays (content_of ts u.entries) (λ d. HoldsConstraint d (recorded_of ts x))
 recorded_stays {ts} {t} {u} x g l r k j (inl e) =
     record { later = λ d s n. inl (trivial_outlives d x.relation (tree_at ts x.left) (tree_at ts x.right) (no_type x.relation (tree_at ts x.left) (tree_at ts x.right) k j e.0) e.0) }
 recorded_stays {ts} {t} {u} x g l r k j (inr e) =
@@ -202,12 +202,12 @@ equated d vs kind_data.Related a b h = h
 equated d vs kind_data.Structural a b h = h
 
 -- the term y of the store b, with the tree of a filled one, is a term of each later table
-later_term : {b e : List Tree} {t u : Table} {y : NodeId} {x : Tree} (d : Content) → Goes b e t u → AreFormed b → IsTermOf b t y → tree_at b y ≡ x → Continues (content_of e u.entries) d → proving.IsTermOf d x
+later_term : {b e : List Tree} {t u : Table} {y : NodeId} {x : Tree} (d : Content) → Goes b e t u → AreFormed b → IsTermIn b t y → tree_at b y ≡ x → Continues (content_of e u.entries) d → proving.IsTermOf d x
 later_term {b} {e} {t} {u} {y} {x} d g f h q k =
     subst (proving.IsTermOf d) q (term_later (content_of e u.entries) d (tree_at b y) k (Knows-goes (tree_at b y) g h.knows) (f y h.within))
 
 -- an equation whose sides were made equal
-pub equation_stays : {b e : List Tree} {t u : Table} {x y : NodeId} (a : List Tree) (vs : List Tree) (q : Equation) → Goes b e t u → AreFormed b → IsTermOf b t x → IsTermOf b t y → tree_at b x ≡ filled vs (tree_at a q.lhs.node) → tree_at b y ≡ filled vs (tree_at a q.rhs.node) → kind_of (tree_at b x) ≡ kind_of (tree_at a q.lhs.node) → FitsPlace any_argument (kind_of (tree_at a q.lhs.node)) → Stays (content_of e u.entries) (λ d. AreAlike d (tree_at b x) (tree_at b y)) → Stays (content_of e u.entries) (EquationHolds vs (equation_of a q))
+pub equation_stays : {b e : List Tree} {t u : Table} {x y : NodeId} (a : List Tree) (vs : List Tree) (q : Equation) → Goes b e t u → AreFormed b → IsTermIn b t x → IsTermIn b t y → tree_at b x ≡ filled vs (tree_at a q.lhs.node) → tree_at b y ≡ filled vs (tree_at a q.rhs.node) → kind_of (tree_at b x) ≡ kind_of (tree_at a q.lhs.node) → FitsPlace any_argument (kind_of (tree_at a q.lhs.node)) → Stays (content_of e u.entries) (λ d. AreAlike d (tree_at b x) (tree_at b y)) → Stays (content_of e u.entries) (EquationHolds vs (equation_of a q))
 equation_stays {b} {e} {t} {u} {x} {y} a vs q g f l r i j k w h =
     record {
       later = λ d s n.
@@ -221,7 +221,7 @@ equation_stays {b} {e} {t} {u} {x} {y} a vs q g f l r i j k w h =
     }
 
 -- a constraint whose sides were recorded, or made equal
-pub constraint_stays : {b e : List Tree} {t u : Table} {y z : NodeId} (a : List Tree) (vs : List Tree) (x : RegionConstraint) → Goes b e t u → AreFormed b → IsTermOf b t y → IsTermOf b t z → tree_at b y ≡ filled vs (tree_at a x.left.node) → tree_at b z ≡ filled vs (tree_at a x.right.node) → Stays (content_of e u.entries) (λ d. HoldsConstraint d (record { relation = x.relation; left = tree_at b y; right = tree_at b z; is_visible = false })) → Stays (content_of e u.entries) (ConstraintHolds vs (constraint_of a x))
+pub constraint_stays : {b e : List Tree} {t u : Table} {y z : NodeId} (a : List Tree) (vs : List Tree) (x : RegionConstraint) → Goes b e t u → AreFormed b → IsTermIn b t y → IsTermIn b t z → tree_at b y ≡ filled vs (tree_at a x.left.node) → tree_at b z ≡ filled vs (tree_at a x.right.node) → Stays (content_of e u.entries) (λ d. HoldsConstraint d (record { relation = x.relation; left = tree_at b y; right = tree_at b z; is_visible = false })) → Stays (content_of e u.entries) (ConstraintHolds vs (constraint_of a x))
 constraint_stays {b} {e} {t} {u} {y} {z} a vs x g f l r i j h =
     record {
       later = λ d s n. record {
@@ -231,7 +231,7 @@ constraint_stays {b} {e} {t} {u} {y} {z} a vs x g f l r i j h =
       };
     }
 
-pub equality_stays : {b e : List Tree} {t u : Table} {y z : NodeId} (r : Relation) → r ≡ relation.Equal → Goes b e t u → AreFormed b → IsTermOf b t y → IsTermOf b t z → kind_of (tree_at b y) ≡ Some (left_kind r) → kind_of (tree_at b z) ≡ Some (of_sort sort.Region) → Stays (content_of e u.entries) (λ d. AreAlike d (tree_at b y) (tree_at b z)) → Stays (content_of e u.entries) (λ d. HoldsConstraint d (record { relation = r; left = tree_at b y; right = tree_at b z; is_visible = false }))
+pub equality_stays : {b e : List Tree} {t u : Table} {y z : NodeId} (r : Relation) → r ≡ relation.Equal → Goes b e t u → AreFormed b → IsTermIn b t y → IsTermIn b t z → kind_of (tree_at b y) ≡ Some (left_kind r) → kind_of (tree_at b z) ≡ Some (of_sort sort.Region) → Stays (content_of e u.entries) (λ d. AreAlike d (tree_at b y) (tree_at b z)) → Stays (content_of e u.entries) (λ d. HoldsConstraint d (record { relation = r; left = tree_at b y; right = tree_at b z; is_visible = false }))
 equality_stays {b} {e} {t} {u} {y} {z} r q g f l k i j h =
     record {
       later = λ d s n. rw q (regions_held d (tree_at b y) (tree_at b z) s (later_term d g f l refl n) (later_term d g f k refl n) (rw q at i) j (h.later d s n));

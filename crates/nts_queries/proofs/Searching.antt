@@ -30,7 +30,7 @@ use Rattle.nts_store.specs.Filled.{HasValues}
 use Rattle.nts_canonical.specs.Building.{kinds_of, values_of, HasNoName}
 use Rattle.nts_canonical.specs.Folds.{HoldsQuery-kept}
 use Rattle.nts_response.specs.declared.types.Response.{Response}
-use Rattle.nts_response.specs.Applicable.{IsOverSorts, IsHiddenOver, IsGoalOver, IsApplicable, sorts_of}
+use Rattle.nts_response.specs.Applicable.{IsOverSorts, IsHiddenOver, IsGoalOver, IsApplicable, response_sorts}
 use Rattle.nts_response.proofs.ApplySteps.{response_kept}
 use Rattle.nts_queries.specs.Answering.{IsFormOf, IsQueryInput, IsAnswerTo, TellsNoMore}
 use Rattle.nts_queries.specs.Meant.{IsServed}
@@ -42,7 +42,7 @@ use Rattle.nts_search.specs.declared.stack.SearchGraph.{SearchGraph}
 use Rattle.nts_search.specs.Searching.{entry_at, entries_at, answer_at, certainty_in}
 use Rattle.nts_search.proofs.StackLater.{IsStack-later, entries_kept}
 use Rattle.nts_terms.specs.Modes.{mode_of}
-use Rattle.nts_queries.specs.Searching.{IsHeadAnswer, IsHead, IsSearch, IsLater, AreLater, Searches, assumed_in, IsAnswerTold, HeadsTell}
+use Rattle.nts_queries.specs.Searching.{IsHeadAnswer, IsHead, IsSearch, IsEntryLater, AreLater, Searches, assumed_in, IsAnswerTold, HeadsTell}
 use Rattle.nts_queries.proofs.Probed.{response_same}
 
 -- an answer that can be applied can be applied while the store grows
@@ -69,8 +69,8 @@ applicable_later a b os r e none x =
           let right = h.right in
           let y = x.constraints i d l in
           record { left = over_later a b _ _ e left.within y.left; right = over_later a b _ _ e right.within y.right; place = place_later a b _ _ e y.place });
-      hidden = none_of (IsHiddenOver b (sorts_of r)) _ none.no_hidden;
-      open_goals = none_of (IsGoalOver b (sorts_of r)) _ none.no_goals;
+      hidden = none_of (IsHiddenOver b (response_sorts r)) _ none.no_hidden;
+      open_goals = none_of (IsGoalOver b (response_sorts r)) _ none.no_goals;
       long = x.long;
     }
 
@@ -125,7 +125,7 @@ pub later_itself : (xs : List StackEntry) → AreLater xs xs
 later_itself [] = tt
 later_itself (x ∷ xs) = (record { input = refl; kind = refl; provisional = refl; read = λ h. h }, later_itself xs)
 
-one_then : (x y z : StackEntry) → IsLater x y → IsLater y z → IsLater x z
+one_then : (x y z : StackEntry) → IsEntryLater x y → IsEntryLater y z → IsEntryLater x z
 one_then x y z a b = record { input = b.input ∙ a.input; kind = b.kind ∙ a.kind; provisional = b.provisional ∙ a.provisional; read = λ h. b.read (a.read h) }
 
 pub later_then : (xs ys zs : List StackEntry) → AreLater xs ys → AreLater ys zs → AreLater xs zs
@@ -143,7 +143,7 @@ later_long (x ∷ xs) [] h = absurd h
 later_long (x ∷ xs) (y ∷ ys) h = (let e = later_long xs ys h.1 in omega (arith, e))
 
 -- the last of them was pushed, and popped
-pub later_pushed : (xs ys : List StackEntry) (x y : StackEntry) → AreLater (xs ++ x ∷ []) (ys ++ y ∷ []) → AreLater xs ys × IsLater x y
+pub later_pushed : (xs ys : List StackEntry) (x y : StackEntry) → AreLater (xs ++ x ∷ []) (ys ++ y ∷ []) → AreLater xs ys × IsEntryLater x y
 later_pushed [] [] x y h = (tt, h.0)
 later_pushed [] (z ∷ []) x y h = absurd h.1
 later_pushed [] (z ∷ (w ∷ ys)) x y h = absurd h.1
@@ -151,7 +151,7 @@ later_pushed (z ∷ []) [] x y h = absurd h.1
 later_pushed (z ∷ (w ∷ xs)) [] x y h = absurd h.1
 later_pushed (z ∷ xs) (w ∷ ys) x y h = (let r = later_pushed xs ys x y h.1 in ((h.0, r.0), r.1))
 
-later_push : (xs ys : List StackEntry) (x y : StackEntry) → AreLater xs ys → IsLater x y → AreLater (xs ++ x ∷ []) (ys ++ y ∷ [])
+later_push : (xs ys : List StackEntry) (x y : StackEntry) → AreLater xs ys → IsEntryLater x y → AreLater (xs ++ x ∷ []) (ys ++ y ∷ [])
 later_push [] [] x y h k = (k, tt)
 later_push [] (z ∷ ys) x y h k = absurd h
 later_push (z ∷ xs) [] x y h k = absurd h
@@ -193,7 +193,7 @@ pub search_grows : {a b : Cx} {g : SearchGraph} (n m : ℕ) → m ≤ n → IsSe
 search_grows n m l s w = search_later n m l s (Searches-refl n s w)
 
 -- what it assumes
-entry_since : (ts : List Tree) (x y : StackEntry) → IsLater x y → IsReadSince (entry_at ts x) (entry_at ts y)
+entry_since : (ts : List Tree) (x y : StackEntry) → IsEntryLater x y → IsReadSince (entry_at ts x) (entry_at ts y)
 entry_since ts x y h =
     let i = h.input in
     let p = h.provisional in
@@ -262,7 +262,7 @@ pub answer_told_later : (h : Handler) (mode : Mode) (a b : List Tree) (ks : List
 answer_told_later h mode a b ks f None e k t = t
 answer_told_later h mode a b ks f (Some r) e k t = subst (QueryTells h mode f) (sym (response_same a b r e k.holds)) t
 
-told_at : (h : Handler) (a b : List Tree) (x y : StackEntry) → Extends a b → IsHead a x → IsLater x y → IsToldAt h a x → IsToldAt h b y
+told_at : (h : Handler) (a b : List Tree) (x y : StackEntry) → Extends a b → IsHead a x → IsEntryLater x y → IsToldAt h a x → IsToldAt h b y
 told_at h a b x y e head later told =
     let input = later.input in
     let provisional = later.provisional in

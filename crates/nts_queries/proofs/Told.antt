@@ -32,8 +32,8 @@ use Rattle.nts_unify.specs.declared.contents.Constraint.{Constraint}
 use Rattle.nts_unify.specs.Entries.{Entries}
 use Rattle.nts_unify.specs.Reading.{content_of, recorded_of, left_kind, IsConstraint, AreConstraints, IsLawful}
 use Rattle.nts_unify.specs.Lawful.{content_of-extended}
-use Rattle.nts_table.specs.Tables.{IsTable, IsTermOf, Table}
-use Rattle.nts_table.specs.Deduplicated.{resolved_constraint, resolved_constraints, SaysSame, IsAmong, AreNews, none, passed, told}
+use Rattle.nts_table.specs.Tables.{IsTable, IsTermIn, Table}
+use Rattle.nts_table.specs.Deduplicated.{resolved_constraint, resolved_constraints, RelatesSame, IsAmong, AreNews, none, passed, told}
 use Rattle.nts_delegate.specs.declared.delegate.RegionConstraint.{RegionConstraint}
 use Rattle.nts_delegate.specs.Offered.{hidden_of}
 use Rattle.nts_canonical.specs.Forms.{trees_of}
@@ -41,34 +41,34 @@ use Rattle.nts_canonical.specs.Building.{IsArgOf}
 use Rattle.nts_certainty.specs.declared.certainty.Certainty.{Certainty}
 use Rattle.nts_certainty.specs.declared.certainty.Certainty.TheVariants as certainty
 use Rattle.nts_response.specs.declared.types.Response.{Response}
-use Rattle.nts_response.specs.Forms.{recorded_at, premise_at, findings_at, HoldsConstraint, KnowsFindings}
+use Rattle.nts_response.specs.Forms.{recorded_at, premise_at, findings_at, StoreHoldsConstraint, KnowsFindings}
 use Rattle.nts_response.proofs.Each.{same_views, values_kept}
-use Rattle.nts_response.specs.Replacing.{ReplacesEach, value_at}
+use Rattle.nts_response.specs.Replacing.{ReplacesEach, argument_value}
 use Rattle.nts_queries.specs.Asking.{IsResponseOf, without_constraints}
 use Rattle.nts_queries.specs.Answering.{told_in, AreTold, KnowsSides}
 
 -- an argument of a table is a term of it while the store grows
-pub term_of_arg : {a b : List Tree} {t : Table} {x : GenericArg} → IsTable a t → Extends a b → IsArgOf a t.entries x → IsTermOf b t x.node
+pub term_of_arg : {a b : List Tree} {t : Table} {x : GenericArg} → IsTable a t → Extends a b → IsArgOf a t.entries x → IsTermIn b t x.node
 term_of_arg {a} {b} {t} {x} h e k =
     record { within = IsIn-extended e x.node k.holds.within; knows = rw (content_of-extended e h.now, e.kept x.node k.holds.within) k.known }
 
 -- a term of that kind may stand where the argument does
-pub holds_resolved : {a b c : List Tree} {t : Table} {x : GenericArg} {n : NodeId} → Extends a b → IsArgOf a t.entries x → IsTermOf c t n → kind_of (tree_at c n) ≡ kind_of (tree_at b x.node) → Holds any_argument c n
+pub holds_resolved : {a b c : List Tree} {t : Table} {x : GenericArg} {n : NodeId} → Extends a b → IsArgOf a t.entries x → IsTermIn c t n → kind_of (tree_at c n) ≡ kind_of (tree_at b x.node) → Holds any_argument c n
 holds_resolved {a} {b} {c} {t} {x} {n} e k r q =
     let same : kind_of (tree_at c n) ≡ kind_of (tree_at a x.node) = q ∙ ap kind_of (e.kept x.node k.holds.within) in
     record { within = r.within; fits = rw same k.holds.fits }
 
 -- resolved arguments are arguments of the table
 pub args_resolved : (a b : List Tree) (e : Entries) (c : Content) (xs ys : List GenericArg) → content_of b e ≡ c → IsSound c → All (λ x. Knows c (tree_at a x.node)) xs
-    → ReplacesEach HoldsArg value_at (deeply_resolved c) a b xs ys → All (IsArgOf b e) ys
+    → ReplacesEach HoldsArg argument_value (deeply_resolved c) a b xs ys → All (IsArgOf b e) ys
 args_resolved a b e c xs ys same s k r = each xs ys k r.views r.held
   where
-    each : (xs ys : List GenericArg) → All (λ x. Knows c (tree_at a x.node)) xs → map (value_at b) ys ≡ map (deeply_resolved c) (map (value_at a) xs) → All (HoldsArg b) ys → All (IsArgOf b e) ys
+    each : (xs ys : List GenericArg) → All (λ x. Knows c (tree_at a x.node)) xs → map (argument_value b) ys ≡ map (deeply_resolved c) (map (argument_value a) xs) → All (HoldsArg b) ys → All (IsArgOf b e) ys
     each xs [] k v h = λ j d l. absurd (omega arith)
     each [] (y ∷ ys) k v h = cc
     each (x ∷ xs) (y ∷ ys) k v h =
         let first : tree_at b y.node ≡ deeply_resolved c (tree_at a x.node) = cc in
-        let rest : map (value_at b) ys ≡ map (deeply_resolved c) (map (value_at a) xs) = cc in
+        let rest : map (argument_value b) ys ≡ map (deeply_resolved c) (map (argument_value a) xs) = cc in
         let arg : IsArgOf b e y = record { holds = h 0 y (omega arith); known = rw (same, first) (Knows-deeply_resolved c (tree_at a x.node) s (k 0 x (omega arith))) } in
         All-cons (IsArgOf b e) y ys arg (each xs ys (λ j d l. k (suc j) d (omega arith)) rest (λ j d l. h (suc j) d (omega arith)))
 
@@ -102,7 +102,7 @@ told_recorded (passed {xs} {ys} x n k) y h = Contains-append_left xs (x ∷ []) 
 told_recorded (told {xs} {ys} x n k) y h =
     ⊎_elim (λ w. Contains-append_left xs (x ∷ []) y (told_recorded n y w)) (λ e. subst (Contains (xs ++ x ∷ [])) e (Contains-push xs x)) (Contains-push_cases ys x y h)
 
-among : (xs : List Recorded) (z : Recorded) → IsAmong xs z → (y : Recorded) × Contains xs y × SaysSame y z
+among : (xs : List Recorded) (z : Recorded) → IsAmong xs z → (y : Recorded) × Contains xs y × RelatesSame y z
 among [] z h = absurd h
 among (x ∷ xs) z (inl e) = (x, (0, omega arith, refl), e)
 among (x ∷ xs) z (inr h) =
@@ -112,9 +112,9 @@ among (x ∷ xs) z (inr h) =
     (r.0, (suc at.0, omega arith, at.2), r.2)
 
 abbrev IsToldIn : List Recorded → Recorded → Type 0
-IsToldIn ys z = (z.left ≡ z.right) ⊎ ((y : Recorded) × Contains ys y × SaysSame y z)
+IsToldIn ys z = (z.left ≡ z.right) ⊎ ((y : Recorded) × Contains ys y × RelatesSame y z)
 
-same_told : (ys : List Recorded) (w z : Recorded) → SaysSame w z → IsToldIn ys w → IsToldIn ys z
+same_told : (ys : List Recorded) (w z : Recorded) → RelatesSame w z → IsToldIn ys w → IsToldIn ys z
 same_told ys w z e (inl q) = inl (sym e.left ∙ q ∙ e.right)
 same_told ys w z e (inr (y, m, s)) = inr (y, m, record { relation = s.relation ∙ e.relation; left = s.left ∙ e.left; right = s.right ∙ e.right })
 
@@ -127,7 +127,7 @@ recorded_told none z h = absurd (let l = h.1 in omega arith)
 recorded_told (passed {xs} {ys} x n k) z h =
     ⊎_elim (recorded_told n z) (λ e. subst (IsToldIn ys) e (⊎_elim (λ q. inl q) (λ m. (let w = among xs x m in same_told ys w.0 x w.2 (recorded_told n w.0 w.1))) k)) (Contains-push_cases xs x z h)
 recorded_told (told {xs} {ys} x n k) z h =
-    ⊎_elim (λ w. more_told ys x z (recorded_told n z w)) (λ e. inr (x, Contains-push ys x, subst (SaysSame x) e (record { relation = refl; left = refl; right = refl }))) (Contains-push_cases xs x z h)
+    ⊎_elim (λ w. more_told ys x z (recorded_told n z w)) (λ e. inr (x, Contains-push ys x, subst (RelatesSame x) e (record { relation = refl; left = refl; right = refl }))) (Contains-push_cases xs x z h)
 
 -- sides that are one are of one sort
 trivial : (q : Relation) (x : Relates) → kind_of x.left ≡ Some (left_kind q) → kind_of x.right ≡ Some (of_sort sort.Region) → x.left ≡ x.right → HasOneSide q x
@@ -176,7 +176,7 @@ left_fits relation.Equal k e = rw e tt
 left_fits relation.RegionOutlives k e = rw e tt
 left_fits relation.TypeOutlives k e = rw e tt
 
-pub holds_told : (ts : List Tree) (c : Content) (x : Constraint) (r : RegionConstraint × VisibleForLeakCheck) → IsConstraint ts c x → r.0.left.node ≡ x.left → r.0.right.node ≡ x.right → HoldsConstraint ts r
+pub holds_told : (ts : List Tree) (c : Content) (x : Constraint) (r : RegionConstraint × VisibleForLeakCheck) → IsConstraint ts c x → r.0.left.node ≡ x.left → r.0.right.node ≡ x.right → StoreHoldsConstraint ts r
 holds_told ts c x r h l k = record {
   left = record { within = rw l h.left_in; fits = rw l (left_fits x.relation (kind_of (tree_at ts x.left)) h.left_sort) };
   right = record { within = rw k h.right_in; fits = rw k h.right_sort };
@@ -258,6 +258,6 @@ pub answers_told : (a b d : List Tree) (e : Entries) (q : Certainty) (root : ℕ
 answers_told a b d e q root qs x r h up more args values t hidden goals is =
     let first = content_of-extended up h in
     let second = content_of-extended (Extends-trans up more) h in
-    let views = same_views HoldsArg value_at values_kept b d x.var_values.items (λ j y l. (args j y l).holds) more ∙ values in
+    let views = same_views HoldsArg argument_value values_kept b d x.var_values.items (λ j y l. (args j y l).holds) more ∙ values in
     let all : AreTold (told_in q (content_of a e)) (map (recorded_at d) x.external_constraints.region_constraints.items) = subst (λ c. AreTold (told_in q c) (map (recorded_at d) x.external_constraints.region_constraints.items)) first t in
     response_told q (content_of a e) root qs (findings_at d x) r views all (ap (map (hidden_of d)) hidden) (ap (map (premise_at d)) goals) (is ∙ ap (λ c. response_of c root 0 (findings_at d x)) second)

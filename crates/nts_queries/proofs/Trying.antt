@@ -28,12 +28,12 @@ use Rattle.nts_table.specs.Making.{new_variable}
 use Rattle.nts_delegate.specs.declared.delegate.Equation.{Equation}
 use Rattle.nts_delegate.specs.declared.delegate.EquationKind.{EquationKind}
 use Rattle.nts_delegate.specs.declared.delegate.EquationKind.TheVariants as kind_data
-use Rattle.nts_delegate.specs.Candidates.{KnowsGoal, IsOver, IsEquation, AreEquations}
+use Rattle.nts_delegate.specs.Candidates.{KnowsGoal, IsOverIn, IsEquation, AreEquations}
 use Rattle.nts_delegate.proofs.Over.{leaf_known, over_knows}
 use Rattle.nts_delegate.specs.Offered.{equation_as, equation_of}
 use Rattle.nts_queries.specs.Instances.{instance_at}
 use Rattle.nts_queries.specs.Evaluation.{IsPosed}
-use Rattle.nts_queries.specs.Choices.{Equated}
+use Rattle.nts_queries.specs.Choices.{EquatesCandidate}
 use Rattle.nts_queries.proofs.Evaluating.{length-slots}
 use Rattle.nts_queries.proofs.Running.{equation-kept}
 
@@ -83,7 +83,7 @@ pub right_is : (k : EquationKind) (a b : Tree) → right_of (equation_as k a b) 
 right_is kind_data.Related a b = refl
 right_is kind_data.Structural a b = refl
 
-leaves_known : (ts : List Tree) (fresh : List Sort) (g : Goal) (c : Content) (x : NodeId) (l : Leaf) → KnowsGoal ts c g → IsOver ts fresh g x → Occurs l (tree_at ts x) → Knows c (leaf_tree l)
+leaves_known : (ts : List Tree) (fresh : List Sort) (g : Goal) (c : Content) (x : NodeId) (l : Leaf) → KnowsGoal ts c g → IsOverIn ts fresh g x → Occurs l (tree_at ts x) → Knows c (leaf_tree l)
 leaves_known ts fresh g c x l k o i = (let h = leaf_known c l (tree_at ts x) i (over_knows o c k) in ((h.0, h.1, refl), tt, tt))
 
 -- the equations of a candidate are formed, and over what the table knows
@@ -121,11 +121,11 @@ sides_kept a b vs q P e h =
     let right = right_is q.kind (tree_at b q.lhs.node) (tree_at b q.rhs.node) in
     subst (λ z. P (filled xs (left_of z)) (filled xs (right_of z))) e (subst (λ z. P (filled xs z) (filled xs (right_of (equation_of b q)))) (sym left) (subst (λ z. P (instance_at b vs q.lhs.node) (filled xs z)) (sym right) h))
 
-pub equated_first : {a b : List Tree} {t u : Table} (fresh : List Sort) (vs : List NodeId) → Freshens t.entries.universe fresh (map (tree_at b) vs) (content_of a t.entries) (content_of b u.entries) → Equated a b t u fresh vs []
+pub equated_first : {a b : List Tree} {t u : Table} (fresh : List Sort) (vs : List NodeId) → Freshens t.entries.universe fresh (map (tree_at b) vs) (content_of a t.entries) (content_of b u.entries) → EquatesCandidate a b t u fresh vs []
 equated_first {a} {b} {t} {u} fresh vs h = record { made = content_of b u.entries; freshens = h; equates = refl }
 
-pub equated_more : {a b e : List Tree} {t u v : Table} {ws : List NodeId} {rs : List Equation} {g : Goal} (q : Equation) (fresh : List Sort) (vs : List NodeId) (qs : List Equation) (i : ℕ) → ws ≡ vs → rs ≡ qs → i < length qs → Extends a b → Extends b e → AllIn b vs → IsEquation a fresh g (get_or qs i q) → Equated a b t u fresh vs (take i qs)
-    → AreRelated (content_of b u.entries) (content_of e v.entries) (instance_at b ws (get_or rs i q).lhs.node) (instance_at b ws (get_or rs i q).rhs.node) → Equated a e t v fresh vs (take (i + 1) qs)
+pub equated_more : {a b e : List Tree} {t u v : Table} {ws : List NodeId} {rs : List Equation} {g : Goal} (q : Equation) (fresh : List Sort) (vs : List NodeId) (qs : List Equation) (i : ℕ) → ws ≡ vs → rs ≡ qs → i < length qs → Extends a b → Extends b e → AllIn b vs → IsEquation a fresh g (get_or qs i q) → EquatesCandidate a b t u fresh vs (take i qs)
+    → AreRelated (content_of b u.entries) (content_of e v.entries) (instance_at b ws (get_or rs i q).lhs.node) (instance_at b ws (get_or rs i q).rhs.node) → EquatesCandidate a e t v fresh vs (take (i + 1) qs)
 equated_more {a} {b} {e} {t} {u} {v} {ws} {rs} {g} q fresh vs qs i y z l x k w o h r =
     let item = get_or qs i q in
     let kept = equation-kept {a = a} {b = b} item x o.lhs.within o.rhs.within in
@@ -140,7 +140,7 @@ equated_more {a} {b} {e} {t} {u} {v} {ws} {rs} {g} q fresh vs qs i y z l x k w o
     })
 
 -- where an equation fails, no world of the table meets them all
-pub none_meets : {a b : List Tree} {t u : Table} {ws : List NodeId} {rs : List Equation} {g : Goal} (q : Equation) (fresh : List Sort) (vs : List NodeId) (qs : List Equation) (i : ℕ) → ws ≡ vs → rs ≡ qs → i < length qs → Extends a b → AreFormed a → IsPosed a t g → AreEquations a fresh g qs → IsEquation a fresh g (get_or qs i q) → Equated a b t u fresh vs (take i qs)
+pub none_meets : {a b : List Tree} {t u : Table} {ws : List NodeId} {rs : List Equation} {g : Goal} (q : Equation) (fresh : List Sort) (vs : List NodeId) (qs : List Equation) (i : ℕ) → ws ≡ vs → rs ≡ qs → i < length qs → Extends a b → AreFormed a → IsPosed a t g → AreEquations a fresh g qs → IsEquation a fresh g (get_or qs i q) → EquatesCandidate a b t u fresh vs (take i qs)
     → AreUnrelated (content_of b u.entries) (instance_at b ws (get_or rs i q).lhs.node) (instance_at b ws (get_or rs i q).rhs.node) → MeetsEquations (content_of a t.entries) fresh (map (equation_of a) qs) → ⊥
 none_meets {a} {b} {t} {u} {ws} {rs} {g} q fresh vs qs i y z l x f p all o h r =
     let item = get_or qs i q in

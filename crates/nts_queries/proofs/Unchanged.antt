@@ -6,7 +6,7 @@ use Rattle.std.proofs.lemmas.List.Elements.{Contains-get_or}
 use Rattle.nts_model.proofs.Terms.Listed.{map-map}
 use Rattle.nts_model.specs.Terms.Regions.{IsRegion}
 use Rattle.nts_delegate.specs.Offered.{hidden_of}
-use Rattle.nts_response.specs.Replacing.{value_at}
+use Rattle.nts_response.specs.Replacing.{argument_value}
 use Rattle.nts_model.specs.declared.labels.Sort.{Sort}
 use Rattle.nts_model.specs.declared.labels.Sort.TheVariants as sort
 use Rattle.nts_model.specs.declared.labels.Leaf.{Leaf}
@@ -31,7 +31,7 @@ use Rattle.nts_canonical.specs.declared.types.Canonical.{Canonical}
 use Rattle.nts_canonical.specs.Forms.{kind_of_var, trees_of}
 use Rattle.nts_response.specs.declared.types.Response.{Response}
 use Rattle.nts_response.specs.Applied.{NamesOriginal}
-use Rattle.nts_response.specs.Applicable.{IsOverSorts, IsConstraintOver, IsHiddenOver, IsGoalOver, IsKindFor, IsApplicable, sorts_of}
+use Rattle.nts_response.specs.Applicable.{IsOverSorts, IsConstraintOver, IsHiddenOver, IsGoalOver, IsKindFor, IsApplicable, response_sorts}
 use Rattle.nts_response.specs.Forms.{response_at, recorded_at, premise_at, HoldsResponse}
 use Rattle.nts_model.specs.Canonical.Inputs.{CanonicalInput as Shape}
 use Rattle.nts_canonical.specs.declared.types.CanonicalInput.{CanonicalInput}
@@ -157,10 +157,10 @@ module _ (ts : List Tree) (i : Input) (proper : IsInput i) (r : Canonical Respon
           original = named os at.0 k (leaf_for (own_leaf at.0 k) (fits.leaves (own_leaf at.0 k) (own_at ks at.0 k at.1)));
         }
 
-    over : (t : NodeId) → IsPositionIn ks (tree_at ts t) → IsOverSorts ts (sorts_of r) t
+    over : (t : NodeId) → IsPositionIn ks (tree_at ts t) → IsOverSorts ts (response_sorts r) t
     over t p =
-        let sorts : map sort_at ks ≡ sorts_of r = ap (map sort_at) (sym kinds_are) ∙ map-map sort_at kind_of_var r.var_kinds.items in
-        let at : slice_get (sorts_of r) p.number ≡ Some (sort_at p.kind) = subst (λ z. slice_get z p.number ≡ Some (sort_at p.kind)) sorts (get_mapped sort_at ks p.number p.kind p.found) in
+        let sorts : map sort_at ks ≡ response_sorts r = ap (map sort_at) (sym kinds_are) ∙ map-map sort_at kind_of_var r.var_kinds.items in
+        let at : slice_get (response_sorts r) p.number ≡ Some (sort_at p.kind) = subst (λ z. slice_get z p.number ≡ Some (sort_at p.kind)) sorts (get_mapped sort_at ks p.number p.kind p.found) in
         record {
           names = rw p.is (rw at refl, tt);
           leaves = λ l o. absurd (⊎_elim (no_leaf l (sort_at p.kind) p.number) (λ z. z) (subst (Occurs l) p.is o));
@@ -173,16 +173,16 @@ module _ (ts : List Tree) (i : Input) (proper : IsInput i) (r : Canonical Respon
         record {
           holds = holds;
           kinds = each_view (IsKindFor r.max_universe os) kind_of_var r.var_kinds.items ks kinds_are kind_for;
-          values = λ n d l. over (get_or r.value.var_values.items n d).node (each_view (IsPositionIn ks) (value_at ts) r.value.var_values.items (positions_from 0 ks) values_are (λ t c. positions_in ks 0 ks (λ m. let z : 0 + m ≡ m = omega arith in ap (slice_get ks) z) t (contained_among (positions_from 0 ks) t c)) n d l);
-          constraints = none_of (IsConstraintOver ts (sorts_of r)) _ (no_views (recorded_at ts) r.value.external_constraints.region_constraints.items (ap (λ (z : Form). z.findings.constraints) is));
-          hidden = none_of (IsHiddenOver ts (sorts_of r)) _ no_more.no_hidden;
-          open_goals = none_of (IsGoalOver ts (sorts_of r)) _ no_more.no_goals;
+          values = λ n d l. over (get_or r.value.var_values.items n d).node (each_view (IsPositionIn ks) (argument_value ts) r.value.var_values.items (positions_from 0 ks) values_are (λ t c. positions_in ks 0 ks (λ m. let z : 0 + m ≡ m = omega arith in ap (slice_get ks) z) t (contained_among (positions_from 0 ks) t c)) n d l);
+          constraints = none_of (IsConstraintOver ts (response_sorts r)) _ (no_views (recorded_at ts) r.value.external_constraints.region_constraints.items (ap (λ (z : Form). z.findings.constraints) is));
+          hidden = none_of (IsHiddenOver ts (response_sorts r)) _ no_more.no_hidden;
+          open_goals = none_of (IsGoalOver ts (response_sorts r)) _ no_more.no_goals;
           long = length-map (originals j) leaf_tree
               ∙ sym (length-map (originals j) (position_kind j.sub_root (originals j)))
               ∙ ap length same
               ∙ sym (many 0 ks)
               ∙ ap length (sym values_are)
-              ∙ length-map r.value.var_values.items (value_at ts);
+              ∙ length-map r.value.var_values.items (argument_value ts);
         }
 
   pub unchanged_answers : IsAnswerTo ts ks r

@@ -28,7 +28,7 @@ use Rattle.nts_canonical.specs.Forms.{form_of, input_of, trees_of}
 use Rattle.nts_canonical.specs.Building.{IsInputOf, IsArgOf}
 use Rattle.nts_response.specs.declared.types.Response.{Response}
 use Rattle.nts_response.specs.Forms.{response_at, HoldsResponse}
-use Rattle.nts_response.specs.Applicable.{IsApplicable, IsApplied}
+use Rattle.nts_response.specs.Applicable.{IsApplicable, IsResponseApplied}
 use Rattle.nts_queries.specs.declared.steps.Evaluated.{Evaluated}
 use Rattle.nts_queries.specs.Asking.{IsInputFor, without_constraints}
 
@@ -100,7 +100,7 @@ pub record Evaluates (a b : List Tree) (t u : Table) (e g : Tree) (changed : Has
   pub of_goal : IsInputFor e g input
   pub response : Answer
   pub fits : IsResponseTo (let f = canonical_of input in f.kinds) response
-  pub applied : IsApplied a b t.entries u.entries (map leaf_tree (originals input)) response false []
+  pub applied : IsResponseApplied a b t.entries u.entries (map leaf_tree (originals input)) response false []
   pub changes : (changed ≡ changes.No) ↔ IsIdentity 0 (let x = response.findings in x.values)
 
 -- .. of what the goal is in the store

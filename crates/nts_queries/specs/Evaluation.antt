@@ -25,7 +25,7 @@ use Rattle.nts_table.specs.Tables.{Table}
 use Rattle.nts_unify.specs.Reading.{content_of}
 use Rattle.nts_unify.specs.Changing.{HasClosedSides}
 use Rattle.nts_table.specs.Tables.{IsTable}
-use Rattle.nts_delegate.specs.Candidates.{IsAsked, KnowsGoal}
+use Rattle.nts_delegate.specs.Candidates.{IsAskedIn, KnowsGoal}
 use Rattle.nts_terms.specs.Handles.{HoldsGoal}
 
 -- the store and the table later on: terms keep their trees, the table is a later one and has all that it had, the snapshots
@@ -78,7 +78,7 @@ pub record AsksOnly (a b : List Tree) (g h : Goal) : Type 0 where
 
 -- a goal that is asked of a handler, and that normalizes no alias
 pub record IsAskedGoal (ts : List Tree) (g : Goal) : Type 0 where
-  pub asked : IsAsked ts g
+  pub asked : IsAskedIn ts g
   pub plain : (is_coinductive : ℕ → Bool) → statement_kind is_coinductive (statement_of (tree_at ts g.predicate.node)) ≢ normalization
 
 -- a type variable

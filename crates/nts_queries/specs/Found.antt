@@ -19,7 +19,7 @@ use Rattle.nts_merging.specs.declared.merging.MergeCandidateInfo.{MergeCandidate
 use Rattle.nts_merging.specs.Merging.{Merges, doubt_of}
 use Rattle.nts_queries.specs.Evaluation.{Goes, asked_terms}
 use Rattle.nts_queries.specs.Asking.{IsResponseOf}
-use Rattle.nts_queries.specs.Telling.{IsPlain}
+use Rattle.nts_queries.specs.Telling.{IsPlainResponse}
 use Rattle.nts_queries.specs.Answering.{told_in, TellsNoMore}
 
 -- a response of the store b says what a table found out of these terms: the table went on from the table t of the store a, for
@@ -41,7 +41,7 @@ pub record Found (P : List Tree → Table → Type 0) (a b : List Tree) (t : Tab
 abbrev pub IsMerged : List Tree → List Tree → Table → List GenericArg → List (Canonical Response) → Canonical Response → Type 0
 IsMerged a b t qs rs r =
     ((m : MergeCandidateInfo) × Merges a rs (Some (r, m)))
-    ⊎ (Merges a rs None × (r.value.certainty ≡ doubt_of (map (λ c. c.value.certainty) rs)) × IsPlain (content_of a t.entries) (trees_of a qs) (response_at b r) × HoldsResponse b r.value × TellsNoMore r)
+    ⊎ (Merges a rs None × (r.value.certainty ≡ doubt_of (map (λ c. c.value.certainty) rs)) × IsPlainResponse (content_of a t.entries) (trees_of a qs) (response_at b r) × HoldsResponse b r.value × TellsNoMore r)
 
 -- a response is kept, and that a candidate has no solution is not
 abbrev pub kept_after : List (Canonical Response) → Result (Box (Canonical Response)) EvalError → List (Canonical Response)

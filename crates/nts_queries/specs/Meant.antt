@@ -26,7 +26,7 @@ use Rattle.nts_response.specs.declared.types.Response.{Response}
 use Rattle.nts_response.specs.Forms.{response_at}
 use Rattle.nts_model.specs.Answers.Responses.{Response as Answer}
 use Rattle.nts_delegate.specs.Offered.{source_of, candidate_of, candidates_of}
-use Rattle.nts_queries.specs.Telling.{IsPlain, StandsForAll, goals_with, IsBegun, Tells, Refutes, Outcomes, Replies, Fails, Reaches, RefusesOne, Asked, Refused, QueryTells, QueryRefutes}
+use Rattle.nts_queries.specs.Telling.{IsPlainResponse, StandsForAll, goals_with, IsBegun, Tells, Refutes, Outcomes, Replies, Fails, Reaches, RefusesOne, Asked, Refused, QueryTells, QueryRefutes}
 use Rattle.nts_queries.specs.Stepping.{goals_at}
 use Rattle.nts_queries.specs.Running.{StaysProved}
 
@@ -122,7 +122,7 @@ HaveOutcomes h mode a t qs xs rs = Outcomes h (mode_of mode) (content_of a t.ent
 abbrev pub CandidatesTell : Handler → TypingMode → List Tree → Table → List GenericArg → List CandidateData → List Tree → Canonical Response → Type 0
 CandidatesTell h mode a t qs xs b r =
     ((rs : List Answer) × HaveOutcomes h mode a t qs xs rs × StandsForAll rs (response_at b r))
-    ⊎ IsPlain (content_of a t.entries) (trees_of a qs) (response_at b r)
+    ⊎ IsPlainResponse (content_of a t.entries) (trees_of a qs) (response_at b r)
 
 -- .. by one of them
 abbrev pub RepliesWith : Handler → TypingMode → List Tree → Table → List GenericArg → CandidateData → List Tree → Canonical Response → Type 0

@@ -18,7 +18,7 @@ use Rattle.nts_response.specs.declared.types.Response.{Response}
 use Rattle.nts_response.specs.Forms.{response_at}
 use Rattle.nts_search.specs.declared.stack.StackEntry.{StackEntry}
 use Rattle.nts_search.specs.declared.stack.SearchGraph.{SearchGraph}
-use Rattle.nts_search.specs.Searching.{HoldsEntry, IsStack, KeepsRest}
+use Rattle.nts_search.specs.Searching.{HoldsEntry, IsStack, KeepsRestOfGraph}
 use Rattle.nts_queries.specs.declared.round.Asked.{Asked}
 use Rattle.nts_queries.specs.Asking.{first_table, first_values, asked_environment, asked_predicate}
 use Rattle.nts_queries.specs.Evaluation.{IsPosed}
@@ -37,7 +37,7 @@ pub record BeginsQuery (a b : List Tree) (i : CanonicalInput) (t : Table) (g : G
   pub values : trees_of b qs ≡ first_values (kinds_of i)
 
 -- a query before its first round: a cycle back to it is answered something that says nothing
-pub record IsFirst (ts : List Tree) (i : CanonicalInput) (x : Asked) : Type 0 where
+pub record IsFirstRound (ts : List Tree) (i : CanonicalInput) (x : Asked) : Type 0 where
   pub input : x.input ≡ i
   pub answer : Canonical Response
   pub is : x.provisional ≡ Some answer
@@ -48,7 +48,7 @@ pub record IsFirst (ts : List Tree) (i : CanonicalInput) (x : Asked) : Type 0 wh
 pub record IsTakenOff (g h : SearchGraph) (x : StackEntry) : Type 0 where
   pub popped : g.stack.items ≡ h.stack.items ++ x ∷ []
   pub kept : (ts : List Tree) → IsStack ts g → IsStack ts h × HoldsEntry ts x
-  pub rest : KeepsRest g h
+  pub rest : KeepsRestOfGraph g h
 
 -- a round ends with what its table answered, or that there is no solution; other errors are no end of a round
 abbrev pub EndsWith : Result (Box (Canonical Response)) EvalError → Option (Canonical Response) → Type 0

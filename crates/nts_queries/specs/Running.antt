@@ -11,7 +11,7 @@ use Rattle.nts_model.specs.Derivations.Sequents.{Premise}
 use Rattle.nts_model.specs.Derivations.Rules.{Mode, Equation, Meaning, GoalKind, step_kind}
 use Rattle.nts_model.specs.Derivations.Proofs.{Assumed, passed}
 use Rattle.nts_model.specs.Searching.Stacks.{IsProvedFrom, IsProvedFromAt}
-use Rattle.nts_model.specs.Derivations.Proving.{HoldsTerms, AreConstraintsOf, HoldsEquationAt, IsHeldAt, HasHeldProof, HasHeldRankedProof}
+use Rattle.nts_model.specs.Derivations.Proving.{HoldsTerms, AreConstraintsOf, HoldsEquationAt, IsHeldAt, HasFallingProofUnder, HasRankedProofUnder}
 use Rattle.nts_store.specs.declared.nodes.NodeId.{NodeId}
 use Rattle.nts_terms.specs.declared.handles.Goal.{Goal}
 use Rattle.nts_store.specs.Growth.{tree_at}
@@ -66,11 +66,11 @@ StaysProved m mode A ts t g =
     Stays (content_of ts t.entries) (λ d. IsProvedFrom m mode A d (tree_at ts g.param_env.node) (tree_at ts g.predicate.node))
 
 -- a goal has a ranked proof under a table, the hypotheses of which the table holds
-abbrev pub HasHeldProofIn : Meaning → Mode → List Tree → Table → Goal → Type 0
-HasHeldProofIn m mode ts t g =
-    HasHeldRankedProof m mode (content_of ts t.entries) (tree_at ts g.param_env.node) (tree_at ts g.predicate.node)
+abbrev pub HasRankedProofIn : Meaning → Mode → List Tree → Table → Goal → Type 0
+HasRankedProofIn m mode ts t g =
+    HasRankedProofUnder m mode (content_of ts t.entries) (tree_at ts g.param_env.node) (tree_at ts g.predicate.node)
 
 -- .. in which each step leads to a lower rank
 abbrev pub HasFallingProofIn : Meaning → Mode → List Tree → Table → Goal → Type 0
 HasFallingProofIn m mode ts t g =
-    HasHeldProof m mode (content_of ts t.entries) (tree_at ts g.param_env.node) (tree_at ts g.predicate.node)
+    HasFallingProofUnder m mode (content_of ts t.entries) (tree_at ts g.param_env.node) (tree_at ts g.predicate.node)

@@ -15,7 +15,7 @@ use Rattle.nts_canonical.specs.declared.types.Canonical.{Canonical}
 use Rattle.nts_canonical.specs.Forms.{form_of}
 use Rattle.nts_canonical.specs.Building.{kinds_of}
 use Rattle.nts_response.specs.declared.types.Response.{Response}
-use Rattle.nts_response.specs.Forms.{response_at, parts_of}
+use Rattle.nts_response.specs.Forms.{response_at, response_parts}
 use Rattle.nts_search.specs.declared.stack.StackEntry.{StackEntry}
 use Rattle.nts_search.specs.declared.stack.SearchGraph.{SearchGraph}
 use Rattle.nts_search.specs.Searching.{entries_at, IsStack}
@@ -40,7 +40,7 @@ pub record IsSearch (a : Cx) (g : SearchGraph) (n : ℕ) : Type 0 where
   pub room : length g.stack.items + n ≤ g.root_depth + 1
 
 -- an entry later on: it may have been read
-pub record IsLater (x y : StackEntry) : Type 0 where
+pub record IsEntryLater (x y : StackEntry) : Type 0 where
   pub input : y.input ≡ x.input
   pub kind : y.step_kind ≡ x.step_kind
   pub provisional : y.provisional ≡ x.provisional
@@ -48,7 +48,7 @@ pub record IsLater (x y : StackEntry) : Type 0 where
 
 abbrev pub AreLater : List StackEntry → List StackEntry → Type 0
 AreLater [] [] = Unit {0}
-AreLater (x ∷ xs) (y ∷ ys) = IsLater x y × AreLater xs ys
+AreLater (x ∷ xs) (y ∷ ys) = IsEntryLater x y × AreLater xs ys
 AreLater xs ys = ⊥
 
 -- the search went on from the stack g and the store a: the same entries are on its stack
@@ -78,7 +78,7 @@ IsCut mode k = (k ≡ path.Inductive) × IsCutIn (mode_of mode)
 
 -- the same response once more
 pub record IsCopied (q r : Canonical Response) : Type 0 where
-  pub value : parts_of r.value ≡ parts_of q.value
+  pub value : response_parts r.value ≡ response_parts q.value
   pub kinds : r.var_kinds.items ≡ q.var_kinds.items
   pub universe : r.max_universe ≡ q.max_universe
 

@@ -15,16 +15,16 @@ use Rattle.nts_model.specs.Derivations.Rules.{Mode, coherence}
 use Rattle.nts_model.specs.Terms.Substitutions.{leaf_tree, filled}
 use Rattle.nts_model.specs.Canonical.Numbered.{position}
 use Rattle.nts_model.specs.Derivations.Handlers.{Handler, Candidate, IsAsked, constraint_by, premise_by}
-use Rattle.nts_model.specs.Refutation.Choosing.{Freshens, EquatesAll, IsMet}
+use Rattle.nts_model.specs.Refutation.Choosing.{Freshens, EquatesAll, IsCandidateMet}
 use Rattle.nts_model.specs.Refutation.Forcing.{Adds, AddsAll}
-use Rattle.nts_model.specs.Refutation.Opening.{entered, opened_in}
+use Rattle.nts_model.specs.Refutation.Opening.{entered_table, opened_in}
 use Rattle.nts_model.specs.Canonical.Inputs.{Input, CanonicalInput, canonical_of, originals}
 use Rattle.nts_model.specs.Answers.Responses.{Response, IsResponseTo, Applies, RefusesResponse}
 use Rattle.nts_queries.specs.Asking.{first_table, first_values, asked_environment, asked_predicate, IsInputFor, IsResponseOf, without_constraints}
 
 -- the response of a table that keeps its region constraints to itself
-abbrev pub IsPlain : Content → List Tree → Response → Type 0
-IsPlain c qs r = IsResponseOf (without_constraints c) qs r
+abbrev pub IsPlainResponse : Content → List Tree → Response → Type 0
+IsPlainResponse c qs r = IsResponseOf (without_constraints c) qs r
 
 -- a response that says nothing: its values are the positions in order
 pub record SaysNothing (r : Response) : Type 0 where
@@ -84,13 +84,13 @@ mutual
   -- what a goal is answered in a table, for these terms: nothing is told, or the response that stands for those of the
   -- candidates for the goal, opened if it binds variables
   pub data Tells (h : Handler) (mode : Mode) : Content → Tree → Tree → List Tree → Response → Type 0 where
-    tells_nothing : {c : Content} {e g : Tree} {qs : List Tree} {r : Response} (d : Content) → (d ≡ c) ⊎ (d ≡ entered c g) → IsPlain d qs r → Tells h mode c e g qs r
+    tells_nothing : {c : Content} {e g : Tree} {qs : List Tree} {r : Response} (d : Content) → (d ≡ c) ⊎ (d ≡ entered_table c g) → IsPlainResponse d qs r → Tells h mode c e g qs r
     says_nothing : {c : Content} {e g : Tree} {qs : List Tree} {r : Response} → SaysNothing r → Tells h mode c e g qs r
-    tells_one : {c : Content} {e g : Tree} {qs : List Tree} {r : Response} (rs : List Response) → IsAsked e (opened_in c g) → Outcomes h mode (entered c g) qs (h.offers mode e (opened_in c g)) rs → StandsForAll rs r → Tells h mode c e g qs r
+    tells_one : {c : Content} {e g : Tree} {qs : List Tree} {r : Response} (rs : List Response) → IsAsked e (opened_in c g) → Outcomes h mode (entered_table c g) qs (h.offers mode e (opened_in c g)) rs → StandsForAll rs r → Tells h mode c e g qs r
 
   -- each candidate fails
   pub data Refutes (h : Handler) (mode : Mode) : Content → Tree → Tree → Type 0 where
-    all_fail : {c : Content} {e g : Tree} (qs : List Tree) → IsAsked e (opened_in c g) → Outcomes h mode (entered c g) qs (h.offers mode e (opened_in c g)) [] → Refutes h mode c e g
+    all_fail : {c : Content} {e g : Tree} (qs : List Tree) → IsAsked e (opened_in c g) → Outcomes h mode (entered_table c g) qs (h.offers mode e (opened_in c g)) [] → Refutes h mode c e g
 
   -- candidate by candidate, it fails or has a response
   pub data Outcomes (h : Handler) (mode : Mode) : Content → List Tree → List Candidate → List Response → Type 0 where
@@ -102,11 +102,11 @@ mutual
   -- found; or it keeps its constraints to itself; or it says only what was known before
   pub data Replies (h : Handler) (mode : Mode) : Content → List Tree → Candidate → Response → Type 0 where
     replies : {c : Content} {qs : List Tree} {x : Candidate} {r : Response} (values : List Tree) (met found : Content) → IsBegun c x values met → Reaches h mode (goals_with values x.goals) met found
-        → IsResponseOf found qs r ⊎ IsPlain found qs r ⊎ IsPlain c qs r → Replies h mode c qs x r
+        → IsResponseOf found qs r ⊎ IsPlainResponse found qs r ⊎ IsPlainResponse c qs r → Replies h mode c qs x r
 
   -- a candidate fails: no world of the table meets its equations, or a constraint can't be, or a goal is refused
   pub data Fails (h : Handler) (mode : Mode) : Content → Candidate → Type 0 where
-    is_unmet : {c : Content} {x : Candidate} → (IsMet c x → ⊥) → Fails h mode c x
+    is_unmet : {c : Content} {x : Candidate} → (IsCandidateMet c x → ⊥) → Fails h mode c x
     breaks_off : {c : Content} {x : Candidate} → BreaksOff c x → Fails h mode c x
     is_refused : {c : Content} {x : Candidate} (values : List Tree) (met : Content) → IsBegun c x values met → RefusesOne h mode (goals_with values x.goals) met → Fails h mode c x
 

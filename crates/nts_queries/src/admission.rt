@@ -6,7 +6,7 @@ ghost use Rattle.nts_store.specs.Growth.{tree_at, IsIn, Extends};
 ghost use Rattle.nts_unify.specs.Reading.{content_of};
 ghost use Rattle.nts_table.specs.Tables.{IsTable};
 ghost use Rattle.nts_queries.specs.Evaluation.{IsRootTerm, is_type_variable, is_internal};
-ghost use Rattle.nts_table.specs.Tables.{IsTermOf};
+ghost use Rattle.nts_table.specs.Tables.{IsTermIn};
 ghost use Rattle.nts_terms.specs.Rest.{Grows};
 
 use crate::candidate::resolve_term;
@@ -68,7 +68,7 @@ pub fn is_asked(cx: &Cx, t: NodeId) -> Result<bool, AllocError>
 /// Whether an environment, resolved, has no type variable.
 pub fn is_settled_env(table: &InferCtxt, cx: &mut Cx, t: NodeId) -> Result<bool, Fault>
     requires table { IsTable cx.old.nodes table.now }
-    requires term { IsTermOf cx.old.nodes table.now t }
+    requires term { IsTermIn cx.old.nodes table.now t }
     ensures answer { IfOk result (λ b. IsTrue b ↔ (any_label is_type_variable (deeply_resolved
         (content_of cx.old.nodes table.now.entries) (tree_at cx.old.nodes t)) ≡ false)) }
     ensures grows { Grows cx.old cx.new }

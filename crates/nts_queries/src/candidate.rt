@@ -9,11 +9,11 @@ ghost use Rattle.nts_unify.specs.Reading.{content_of, left_kind};
 ghost use Rattle.nts_table.specs.Tables.{IsTable};
 ghost use Rattle.nts_table.specs.Resolution.{IsResolved};
 ghost use Rattle.nts_model.specs.Tables.Resolving.{deeply_resolved};
-ghost use Rattle.nts_delegate.specs.Candidates.{IsOver, IsEquation, IsNested, AreNested, IsCandidate, IsRegionConstraint, AreRegionConstraints};
+ghost use Rattle.nts_delegate.specs.Candidates.{IsOverIn, IsEquation, IsNestedIn, AreNested, IsCandidate, IsRegionConstraint, AreRegionConstraints};
 ghost use Rattle.nts_terms.specs.Handles.{HoldsGoal};
 ghost use Rattle.nts_model.specs.Tables.Alike.{AreAlike};
 ghost use Rattle.nts_model.specs.Tables.Equations.{AreRelated, AreUnrelated};
-ghost use Rattle.nts_model.specs.Refutation.Choosing.{Freshens, IsMet};
+ghost use Rattle.nts_model.specs.Refutation.Choosing.{Freshens, IsCandidateMet};
 ghost use Rattle.nts_model.specs.Tables.Passing.{BringsLabelsOf, BringsNoLabels, BringsOnly};
 ghost use Rattle.nts_model.specs.Refutation.Forcing.{Adds, AddsBy, AddsAll};
 ghost use Rattle.nts_model.specs.Terms.Substitutions.{filled};
@@ -21,9 +21,9 @@ ghost use Rattle.nts_model.specs.Derivations.Handlers.{constraint_by};
 ghost use Rattle.nts_delegate.specs.Offered.{equation_of, constraint_of, candidate_of};
 ghost use Rattle.nts_queries.specs.Running.{Stays, HoldsOutlives, constraint_between, EquationHolds, ConstraintHolds, EquatesEach, Constrains};
 ghost use Rattle.nts_queries.specs.Evaluation.{Goes, Runs, IsPosed, AreValues, asked_terms, AsksOnly};
-ghost use Rattle.nts_table.specs.Tables.{IsTermOf};
+ghost use Rattle.nts_table.specs.Tables.{IsTermIn};
 ghost use Rattle.nts_queries.specs.Instances.{HoldsValues, IsTermInstance, IsGoalInstance, instance_at};
-ghost use Rattle.nts_queries.specs.Choices.{Equated};
+ghost use Rattle.nts_queries.specs.Choices.{EquatesCandidate};
 ghost use Rattle.nts_queries.specs.Adding.{AreAdded};
 ghost use Rattle.nts_queries.specs.Telling.{FailsToAdd};
 ghost use Rattle.nts_terms.specs.Rest.{Grows};
@@ -65,7 +65,7 @@ pub struct Trial<'a> {
 impl Trial<'_> {
     /// A term of the candidate, with the values in place of its fresh variables.
     fn instantiate(self, cx: &mut Cx, t: NodeId) -> Result<NodeId, Fault>
-        requires over { IsOver cx.old.nodes self.fresh.now self.goal t }
+        requires over { IsOverIn cx.old.nodes self.fresh.now self.goal t }
         requires values { HoldsValues cx.old.nodes self.fresh.now self.values.now }
         ensures grows { Grows cx.old cx.new }
         ensures instance { IfOk result (IsTermInstance cx.old.nodes cx.new.nodes self.entry.values.now
@@ -85,8 +85,8 @@ impl Trial<'_> {
 
     /// Two terms of the candidate, likewise.
     fn instantiate_both(self, cx: &mut Cx, a: NodeId, b: NodeId) -> Result<(NodeId, NodeId), Fault>
-        requires left { IsOver cx.old.nodes self.fresh.now self.goal a }
-        requires right { IsOver cx.old.nodes self.fresh.now self.goal b }
+        requires left { IsOverIn cx.old.nodes self.fresh.now self.goal a }
+        requires right { IsOverIn cx.old.nodes self.fresh.now self.goal b }
         requires holds { HoldsGoal cx.old.nodes self.goal }
         requires values { HoldsValues cx.old.nodes self.fresh.now self.values.now }
         ensures grows { Grows cx.old cx.new }
@@ -104,7 +104,7 @@ impl Trial<'_> {
     /// A goal of the candidate, with the values in place of its fresh variables.
     fn added_goal(self, table: &InferCtxt, cx: &mut Cx, nested: Goal) -> Result<Goal, Fault>
         requires posed { IsPosed cx.old.nodes table.now self.goal }
-        requires nested { IsNested cx.old.nodes self.fresh.now self.goal nested }
+        requires nested { IsNestedIn cx.old.nodes self.fresh.now self.goal nested }
         requires values { AreValues cx.old.nodes table.now self.fresh.now self.values.now }
         ensures grows { Grows cx.old cx.new }
         ensures posed { IfOk result (λ g. IsPosed cx.new.nodes table.now g) }
@@ -148,9 +148,9 @@ impl Trial<'_> {
 /// A term with all its variables replaced by values and roots.
 pub fn resolve_term(table: &InferCtxt, cx: &mut Cx, t: NodeId) -> Result<NodeId, Fault>
     requires table { IsTable cx.old.nodes table.now }
-    requires term { IsTermOf cx.old.nodes table.now t }
+    requires term { IsTermIn cx.old.nodes table.now t }
     ensures grows { Grows cx.old cx.new }
-    ensures term { IfOk result (λ r. IsTermOf cx.new.nodes table.now r) }
+    ensures term { IfOk result (λ r. IsTermIn cx.new.nodes table.now r) }
     ensures kind { IfOk result (λ r. kind_of (tree_at cx.new.nodes r) ≡ kind_of
         (tree_at cx.old.nodes t)) }
     ensures tree { IfOk result (λ r. tree_at cx.new.nodes r ≡ deeply_resolved
@@ -219,11 +219,11 @@ pub fn equate(
         vs.items) }
     ensures equal { IfOk result (λ vs. EquatesEach cx.old.nodes cx.new.nodes table.new vs.items
         candidate.now.equations.items) }
-    ensures equated { IfOk result (λ vs. Equated cx.old.nodes cx.new.nodes table.old table.new
+    ensures equated { IfOk result (λ vs. EquatesCandidate cx.old.nodes cx.new.nodes table.old table.new
         candidate.now.fresh.items vs.items candidate.now.equations.items) }
     ensures labels { OnOk result (BringsOnly (asked_terms cx.old.nodes goal)
         (content_of cx.old.nodes table.old.entries) (content_of cx.new.nodes table.new.entries)) }
-    ensures unmet { result ≡ Err EvalError.NoSolution → IsMet (content_of cx.old.nodes
+    ensures unmet { result ≡ Err EvalError.NoSolution → IsCandidateMet (content_of cx.old.nodes
         table.old.entries) (candidate_of cx.old.nodes candidate.now) → ⊥ }
     ensures full { result ≢ Err EvalError.Full }
 {
@@ -270,8 +270,8 @@ fn equate_one(
 /// Makes two terms of the table equal.
 fn relate_terms(table: &mut InferCtxt, cx: &mut Cx, a: NodeId, b: NodeId) -> Result<(), EvalError>
     requires table { IsTable cx.old.nodes table.old }
-    requires left { IsTermOf cx.old.nodes table.old a }
-    requires right { IsTermOf cx.old.nodes table.old b }
+    requires left { IsTermIn cx.old.nodes table.old a }
+    requires right { IsTermIn cx.old.nodes table.old b }
     ensures runs { Runs cx.old cx.new table.old table.new }
     ensures equal { OnOk result (Stays (content_of cx.new.nodes table.new.entries) (λ d. AreAlike d
         (tree_at cx.old.nodes a) (tree_at cx.old.nodes b))) }
@@ -362,8 +362,8 @@ fn record_outlives(
     right: NodeId,
 ) -> Result<(), Fault>
     requires table { IsTable cx.now.nodes table.old }
-    requires left { IsTermOf cx.now.nodes table.old left }
-    requires right { IsTermOf cx.now.nodes table.old right }
+    requires left { IsTermIn cx.now.nodes table.old left }
+    requires right { IsTermIn cx.now.nodes table.old right }
     requires left_sort { kind_of (tree_at cx.now.nodes left) ≡ Some (left_kind relation) }
     requires right_sort { kind_of (tree_at cx.now.nodes right) ≡ Some (of_sort sort.Region) }
     requires outlives { relation ≢ relations.Equal }

@@ -1,6 +1,6 @@
 //! Which candidates are asked at all.
 ghost use Rattle.std.specs.Prelude.{◌≡◌, ◌↔◌, ◌++◌, ◌∷◌, [], if◌then◌else◌, IsTrue, IfOk, OnOk, IsOkUnless};
-ghost use Rattle.nts_model.specs.Refutation.Choosing.{IsMet};
+ghost use Rattle.nts_model.specs.Refutation.Choosing.{IsCandidateMet};
 ghost use Rattle.nts_unify.specs.Reading.{content_of};
 ghost use Rattle.nts_delegate.specs.Candidates.{IsCandidate, AreCandidates};
 ghost use Rattle.nts_delegate.specs.Offered.{candidate_of};
@@ -26,7 +26,7 @@ fn is_met(
     requires candidate { IsCandidate cx.old.nodes goal candidate.now }
     ensures same { table.new ≡ table.old }
     ensures grows { Grows cx.old cx.new }
-    ensures met { IfOk result (λ b. IsTrue b ↔ IsMet (content_of cx.old.nodes table.old.entries) (candidate_of cx.old.nodes candidate.now)) }
+    ensures met { IfOk result (λ b. IsTrue b ↔ IsCandidateMet (content_of cx.old.nodes table.old.entries) (candidate_of cx.old.nodes candidate.now)) }
     ensures memory { IsOkUnless result EvalError.Memory }
 {
     terms_are_formed(cx);

@@ -5,7 +5,7 @@ ghost use Rattle.nts_model.specs.Tables.Passing.{BringsOnly};
 ghost use Rattle.nts_model.specs.Answers.Responses.{RefusesResponse, IsIdentity};
 ghost use Rattle.nts_certainty.specs.declared.sources.HasChanged.TheVariants as changes;
 ghost use Rattle.nts_queries.specs.Evaluation.{Runs};
-ghost use Rattle.nts_response.specs.Applicable.{IsApplicable, IsApplied};
+ghost use Rattle.nts_response.specs.Applicable.{IsApplicable, IsResponseApplied};
 ghost use Rattle.nts_model.specs.Tables.Resolving.{deeply_resolved};
 ghost use Rattle.nts_store.specs.Growth.{tree_at};
 ghost use Rattle.nts_terms.specs.Handles.{HoldsArg};
@@ -14,7 +14,7 @@ ghost use Rattle.nts_unify.specs.Reading.{content_of, recorded_of};
 ghost use Rattle.nts_table.specs.Tables.{IsTable};
 ghost use Rattle.nts_canonical.specs.Forms.{trees_of};
 ghost use Rattle.nts_canonical.specs.Building.{IsArgOf};
-ghost use Rattle.nts_response.specs.Forms.{response_at, recorded_at, HoldsResponse, HoldsConstraint};
+ghost use Rattle.nts_response.specs.Forms.{response_at, recorded_at, HoldsResponse, StoreHoldsConstraint};
 ghost use Rattle.nts_queries.specs.Asking.{IsResponseOf};
 ghost use Rattle.nts_queries.specs.Answering.{told_in, AreTold, KnowsSides, TellsNoMore, IfAnswered};
 
@@ -49,7 +49,7 @@ pub fn apply_answer(
     requires no_more { TellsNoMore answer.now }
     ensures runs { Runs cx.old cx.new table.old table.new }
     ensures err { OnErr result (table.new ≡ table.old) }
-    ensures applied { OnOk result (IsApplied cx.old.nodes cx.new.nodes table.old.entries table.new.entries (trees_of cx.old.nodes originals.now) (response_at cx.old.nodes answer.now) false []) }
+    ensures applied { OnOk result (IsResponseApplied cx.old.nodes cx.new.nodes table.old.entries table.new.entries (trees_of cx.old.nodes originals.now) (response_at cx.old.nodes answer.now) false []) }
     ensures labels { OnOk result (BringsOnly (trees_of cx.old.nodes originals.now) (content_of cx.old.nodes table.old.entries) (content_of cx.new.nodes table.new.entries)) }
     ensures certainty { IfOk result (λ e. e.certainty ≡ answer.now.value.certainty) }
     ensures changed { IfOk result (λ e. (e.has_changed ≡ changes.No) ↔ IsIdentity 0 (trees_of cx.old.nodes answer.now.value.var_values.items)) }
@@ -162,7 +162,7 @@ fn told_constraints(
 ) -> Result<Vec<(RegionConstraint, VisibleForLeakCheck)>, Fault>
     requires table { IsTable cx.old.nodes table.now }
     ensures told { IfOk result (λ v. AreTold (told_in certainty (content_of cx.old.nodes table.now.entries)) (map (recorded_at cx.new.nodes) v.items)) }
-    ensures holds { IfOk result (λ v. All (HoldsConstraint cx.new.nodes) v.items) }
+    ensures holds { IfOk result (λ v. All (StoreHoldsConstraint cx.new.nodes) v.items) }
     ensures known { IfOk result (λ v. KnowsSides (content_of cx.new.nodes table.now.entries) (map (recorded_at cx.new.nodes) v.items)) }
     ensures grows { Grows cx.old cx.new }
     ensures memory { IsOkUnless result Fault.Memory }

@@ -5,9 +5,9 @@ ghost use Rattle.nts_model.specs.Terms.Trees.{Tree};
 ghost use Rattle.nts_terms.specs.Rest.{Grows};
 ghost use Rattle.nts_canonical.specs.Forms.{HoldsQuery};
 ghost use Rattle.nts_search.specs.declared.stack.StackEntry.{StackEntry};
-ghost use Rattle.nts_search.specs.Searching.{HoldsAnswer, IsStack, KeepsRest};
+ghost use Rattle.nts_search.specs.Searching.{HoldsAnswer, IsStack, KeepsRestOfGraph};
 ghost use Rattle.nts_queries.specs.Answering.{IsQueryInput};
-ghost use Rattle.nts_queries.specs.Rounds.{IsFirst, IsTakenOff, EndsWith, IsBoxed};
+ghost use Rattle.nts_queries.specs.Rounds.{IsFirstRound, IsTakenOff, EndsWith, IsBoxed};
 
 use crate::cycles::{answer_of, unchanged_answer};
 use nts_canonical::CanonicalInput;
@@ -39,7 +39,7 @@ pub struct Ended {
 #[inline(never)]
 pub fn first_round(cx: &mut Cx, input: Box<CanonicalInput>) -> Result<Box<Asked>, Fault>
     requires { IsQueryInput cx.old.nodes input.value }
-    ensures first { IfOk result (λ a. IsFirst cx.new.nodes input.value a.value) }
+    ensures first { IfOk result (λ a. IsFirstRound cx.new.nodes input.value a.value) }
     ensures grows { Grows cx.old cx.new }
     ensures memory { IsOkUnless result Fault.Memory }
 {
@@ -64,7 +64,7 @@ pub fn push_query(
     ensures kept { OnOk result ((ts : List Tree) → IsStack ts graph.old → HoldsQuery ts asked.value.input.canonical.value → HoldsAnswer ts asked.value.provisional → IsStack ts graph.new) }
     ensures err { OnErr result (graph.new.stack.items ≡ graph.old.stack.items) }
     ensures err_kept { OnErr result ((ts : List Tree) → IsStack ts graph.old → IsStack ts graph.new) }
-    ensures rest { KeepsRest graph.old graph.new }
+    ensures rest { KeepsRestOfGraph graph.old graph.new }
 {
     let Asked { input, provisional } = Box::into_inner(asked);
     graph.push(input, step, provisional)

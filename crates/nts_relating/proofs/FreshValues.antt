@@ -32,7 +32,7 @@ use Rattle.nts_model.proofs.Tables.Sound.{resolved-with_slot, state_of-with_slot
 use Rattle.nts_unify.specs.Changing.{unset_count, unset_of, one_unset, IsLater}
 use Rattle.nts_unify.specs.Joining.{IsOneClass, IsJoined}
 use Rattle.nts_relating.specs.Relating.{IsLike, IsUnset, RegionsRelate, Generalized}
-use Rattle.nts_unify.proofs.Keeping.{IsLater-trans, Keeps-trans, unset-push, unset_of-infer, IsLater-with_slot}
+use Rattle.nts_unify.proofs.Keeping.{IsLater-trans, KeepsKnowing-trans, unset-push, unset_of-infer, IsLater-with_slot}
 use Rattle.nts_relating.proofs.Ranks.{zero_le, infer_ranked, region_unfit}
 use Rattle.nts_relating.proofs.GenLemmas.{RegionNode, lacks_other, resolved-region_node}
 use Rattle.nts_relating.proofs.Ranks.{zero_le, infer_ranked, region_unfit}
@@ -210,7 +210,7 @@ gen_fresh_region c d e x u b v t l s region within r sorted is_region known of_u
     let has : kind_at e fresh ≡ Some kind.Region = k.later.kinds fresh kind.Region (a.has ∙ ap Some region) in
     let node_of : RegionNode (variable_tree kind.Region fresh) (label.Leaf (leaf.Variable kind.Region fresh)) = record { is = refl; no_infer = refl } in
     record {
-      keeps = Keeps-trans (record {
+      keeps = KeepsKnowing-trans (record {
         later = a.later;
         states = λ n q z. a.states n q;
         trees = λ z q. a.trees z;

@@ -46,7 +46,7 @@ use Rattle.nts_unify.specs.Reading.{content_of}
 use Rattle.nts_unify.specs.Changing.{IsLater, is_free_region}
 use Rattle.nts_relating.specs.Relating.{IsLike, IsUnset, Generalized}
 use Rattle.nts_relating.proofs.RegionLemmas.{IsRegionVariable, regions-one}
-use Rattle.nts_unify.proofs.Keeping.{Knows-later, Keeps-refl, Keeps-trans}
+use Rattle.nts_unify.proofs.Keeping.{Knows-later, KeepsKnowing-refl, KeepsKnowing-trans}
 use Rattle.nts_unify.proofs.Changes.{length-slots}
 use Rattle.nts_relating.proofs.Ranks.{kind_of-like, like_of-kinds, zero_le, infer_ranked, region_unfit, row_unfit, fits_node, rank-push}
 
@@ -234,7 +234,7 @@ pub gen_settled : (c : Content) (x u b : ℕ) (t : Tree) → IsSound c → Knows
 gen_settled c x u b t s k e f g h =
     let names = settled_names c u t e f g in
     record {
-      keeps = Keeps-refl c;
+      keeps = KeepsKnowing-refl c;
       knows = k;
       rank = omega arith;
       fits = λ j n z f. f;
@@ -259,7 +259,7 @@ pub gen_region : (c : Content) (x u b : ℕ) (t : Tree) (l : Label) → IsSound 
 gen_region c x u b t l s k r v f n =
     let names : NamesAll region_level u t = subst (λ (y : Tree). NamesAll region_level u y) (sym r.is) (n, tt) in
     record {
-      keeps = Keeps-refl c;
+      keeps = KeepsKnowing-refl c;
       knows = k;
       rank = omega arith;
       fits = λ j n z f. f;
@@ -307,7 +307,7 @@ gen_region_root c x u b n r t s v has named =
     let again : root_of c r ≡ root_of c n = ap (root_of c) (sym v.root) ∙ root_of-root_of c n s.descends in
     let one : AreOne c (variable_tree kind.Region r) t = rw (v.is) (regions-one c r n again) in
     record {
-      keeps = Keeps-refl c;
+      keeps = KeepsKnowing-refl c;
       knows = ((has, tt, refl), tt, tt);
       rank = zero_le _ _ refl;
       fits = λ j n z. region_unfit j t n (ap kind_of v.is);
@@ -335,7 +335,7 @@ pub gen_named : (c : Content) (x u b y : ℕ) (k : VariableKind) (t : Tree) → 
 gen_named c x u b y k t s h i rank like d named same worlds =
     let stays : resolved c (variable_tree k y) ≡ variable_tree k y = resolved-variable_unset c (label.Leaf (leaf.Variable k y)) empty y s (infer_number_some k y h.no_region) h.state in
     record {
-      keeps = Keeps-refl c;
+      keeps = KeepsKnowing-refl c;
       knows = ((h.has, tt, refl), tt, tt);
       rank = rank;
       fits = λ j n z f. infer_ranked t i z;
@@ -380,7 +380,7 @@ IsRow-push (node l c) t h = absurd h
 pub gen_start : (c : Content) (x u b : ℕ) (row : Tree) → IsSound c → Generalized c c x u b (row_take 0 row) empty
 gen_start c x u b row s =
     record {
-      keeps = Keeps-refl c;
+      keeps = KeepsKnowing-refl c;
       knows = tt;
       rank = omega arith;
       fits = λ j n z. row_unfit j empty tt;
@@ -471,7 +471,7 @@ gen_push us vs c d e x u b i row a rs qs r sc fd se known g ext all lt ea h eq =
     let known_child : Knows c a = rw ea (Knows-row_at c row i known) in
     let later_alike = AreAlike-continues d e (trees_at us rs) (row_take i row) fd.sound se h.continues fd.sides g.knows first g.alike in
     rw (is, row') (record {
-      keeps = Keeps-trans g.keeps h.keeps;
+      keeps = KeepsKnowing-trans g.keeps h.keeps;
       knows = Knows-push e (trees_at us rs) (tree_at vs r) ir (Knows-later (trees_at us rs) h.keeps.later g.knows) h.knows;
       rank = zero_le _ _ (rank-push (trees_at us rs) (tree_at vs r) ir);
       fits = λ j n z. row_unfit j (row_push (row_take i row) a) (IsRow-push (row_take i row) a it);

@@ -22,10 +22,10 @@ use Rattle.nts_unify.specs.declared.contents.State.{State}
 use Rattle.nts_unify.specs.declared.contents.State.TheVariants.{Unset, Link, Known}
 use Rattle.nts_unify.specs.Entries.{Entries}
 use Rattle.nts_unify.specs.Reading.{state_with, content_of, IsLawful}
-use Rattle.nts_unify.specs.Roots.{IsRootState, IsRoot, HasClass}
+use Rattle.nts_unify.specs.Roots.{IsUnlinked, IsRoot, HasClass}
 use Rattle.nts_unify.specs.Changing.{region_variable, region_number}
 use Rattle.nts_unify.specs.Unchanged.{HasUnset}
-use Rattle.nts_relating.specs.Relating.{IsLike, IsOpen, IsHead}
+use Rattle.nts_relating.specs.Relating.{IsLike, IsOpen, IsHeadOfTree}
 use Rattle.nts_relating.specs.declared.relate.Head.{Head}
 use Rattle.nts_relating.specs.declared.relate.Head.TheVariants.{Open, Closed}
 use Rattle.nts_relating.proofs.Ranks.{kind_of-like, like_of-kinds}
@@ -125,7 +125,7 @@ head_known ts e t l n r v h k is i class =
     }
 
 -- .. is what the variable is
-pub head_through : (ts : List Tree) (e : Entries) (t : Tree) (v : NodeId) (h : Head) → HeadKnown ts e t v → IsHead ts e (tree_at ts v) h → IsHead ts e t h
+pub head_through : (ts : List Tree) (e : Entries) (t : Tree) (v : NodeId) (h : Head) → HeadKnown ts e t v → IsHeadOfTree ts e (tree_at ts v) h → IsHeadOfTree ts e t h
 head_through ts e t v (Open n) k o =
     record {
       bindable = o.bindable;
@@ -146,7 +146,7 @@ head_through ts e t v (Closed n) k o = (
   },
 )
 
-is_unset : (s : State) → IsRootState s → ((v : NodeId) → s ≡ Known v → ⊥) → s ≡ Unset
+is_unset : (s : State) → IsUnlinked s → ((v : NodeId) → s ≡ Known v → ⊥) → s ≡ Unset
 is_unset Unset h k = refl
 is_unset (Link m) h k = absurd h
 is_unset (Known v) h k = absurd (k v refl)

@@ -25,46 +25,46 @@ use Rattle.nts_relating.specs.contracts.relate.PairPartialEq.TheImpl as pair_eq
 use Rattle.nts_unify.specs.Entries.{Entries}
 use Rattle.nts_unify.specs.Reading.{content_of, IsLawful}
 use Rattle.nts_unify.specs.Changing.{IsLater, is_free_region}
-use Rattle.nts_relating.specs.Met.{Judge, of_world, of_table, IsJudgeOf, judged_size, JudgesOne, OneBelow, IsOneAfter, AreOneAfter}
-use Rattle.nts_relating.specs.Relating.{IsOpen, IsClosedHead, VariablesRelate, pair_at, pairs_at, Pushed, IsValid, IsMemo}
+use Rattle.nts_relating.specs.Met.{OnenessJudge, of_world, of_table, IsJudgeOf, judged_size, JudgesOne, OneBelow, IsOneAfter, AreOneAfter}
+use Rattle.nts_relating.specs.Relating.{IsOpen, IsClosedHead, VariablesRelate, sides_at, all_sides_at, Pushed, IsValid, IsMemo}
 use Rattle.nts_unify.proofs.Keeping.{Knows-later, IsLater-refl}
 use Rattle.nts_relating.proofs.GenLemmas.{IsFair, unchanged}
 use Rattle.nts_relating.proofs.Naming.{lawful_sides, alone_label}
 use Rattle.nts_model.proofs.Responses.Bringing.{brings-of, brings-refl}
 use Rattle.nts_relating.proofs.Plain.{plain_refl}
-use Rattle.nts_relating.proofs.PairLemmas.{Stepped, PairsBring-last, last_pair, pairs_at-push, pairs_at-extended, ArePairsIn-push, ArePairsIn-extended, Equates-push, Equates-front, AllAlike-push, total-last, not_infer, variables_related, variable_same}
+use Rattle.nts_relating.proofs.PairLemmas.{Stepped, PairsBring-last, last_pair, all_sides_at-push, all_sides_at-extended, ArePairsIn-push, ArePairsIn-extended, Equates-push, Equates-front, AllAlike-push, total-last, not_infer, variables_related, variable_same}
 
 -- nodes that are no variables
-judged-node : (j : Judge) (l : Label) (x : Tree) → variable_of l ≡ None → judged_size j (node l x) ≡ judged_size j x + 1
+judged-node : (j : OnenessJudge) (l : Label) (x : Tree) → variable_of l ≡ None → judged_size j (node l x) ≡ judged_size j x + 1
 judged-node (of_world w) l x e = ap size (inst-node w l x e)
 judged-node (of_table f) l x e = ap (λ t. size (rooted f t)) (resolved-node f l x (infer_of_none l e))
 
-one-node : (j : Judge) (l : Label) (x y : Tree) → variable_of l ≡ None → JudgesOne j x y → JudgesOne j (node l x) (node l y)
+one-node : (j : OnenessJudge) (l : Label) (x y : Tree) → variable_of l ≡ None → JudgesOne j x y → JudgesOne j (node l x) (node l y)
 one-node (of_world w) l x y e h = inst-node w l x e ∙ ap (node (renamed w l)) h ∙ sym (inst-node w l y e)
 one-node (of_table f) l x y e h = AreAlike-node f l x y (infer_of_none l e) h
 
 -- a side of a pair and what it is under the table
-AreEven : Judge → Tree → Tree → Type 0
+AreEven : OnenessJudge → Tree → Tree → Type 0
 AreEven (of_world w) t v = inst w t ≡ inst w v
 AreEven (of_table f) t v = AreOne f t v
 
-even_closed : (c : Content) (t v : Tree) (j : Judge) → IsJudgeOf c j → Knows c t → IsClosedHead c t v → AreEven j t v
+even_closed : (c : Content) (t v : Tree) (j : OnenessJudge) → IsJudgeOf c j → Knows c t → IsClosedHead c t v → AreEven j t v
 unfolding AreEven
 even_closed c t v (of_world w) z k h = h.worlds w z
 even_closed c t v (of_table f) z k h = AreOne-continues c f t v z.1 k h.knows (ap (rooted c) h.same)
 
-even_size : (j : Judge) (t v : Tree) → AreEven j t v → judged_size j t ≡ judged_size j v
+even_size : (j : OnenessJudge) (t v : Tree) → AreEven j t v → judged_size j t ≡ judged_size j v
 unfolding AreEven
 even_size (of_world w) t v e = ap size e
 even_size (of_table f) t v e = ap size e
 
-one_even : (j : Judge) (a b x y : Tree) → AreEven j x a → AreEven j y b → JudgesOne j a b → JudgesOne j x y
+one_even : (j : OnenessJudge) (a b x y : Tree) → AreEven j x a → AreEven j y b → JudgesOne j a b → JudgesOne j x y
 unfolding AreEven
 one_even (of_world w) a b x y p q h = p ∙ h ∙ sym q
 one_even (of_table f) a b x y p q h = AreAlike-for f a b x y p q h
 
 -- what judges a table judges the one before, and finds the pair one that was related
-judge_back : (c d : Content) (a b : Tree) (j : Judge) → IsSound c → IsFair d → Knows d a → Knows d b → AreRelated c d a b → IsJudgeOf d j → IsJudgeOf c j × JudgesOne j a b
+judge_back : (c d : Content) (a b : Tree) (j : OnenessJudge) → IsSound c → IsFair d → Knows d a → Knows d b → AreRelated c d a b → IsJudgeOf d j → IsJudgeOf c j × JudgesOne j a b
 judge_back c d a b (of_world w) s fair ka kb r z = r.sound w z
 judge_back c d a b (of_table f) s fair ka kb r z = (
   (z.0, Continues-trans c d f s r.continues z.1),
@@ -72,11 +72,11 @@ judge_back c d a b (of_table f) s fair ka kb r z = (
 )
 
 -- lists of pairs
-below_less : (j : Judge) (n m : ℕ) (ps : List (Tree × Tree)) → m ≤ n → OneBelow j n ps → OneBelow j m ps
+below_less : (j : OnenessJudge) (n m : ℕ) (ps : List (Tree × Tree)) → m ≤ n → OneBelow j n ps → OneBelow j m ps
 below_less j n m [] l h = tt
 below_less j n m (p ∷ ps) l h = ((λ k. h.0 (omega (arith, l, k))), below_less j n m ps l h.1)
 
-below_push : (j : Judge) (n : ℕ) (ps : List (Tree × Tree)) (p : Tree × Tree) → OneBelow j n ps → (judged_size j p.0 < n → JudgesOne j p.0 p.1) → OneBelow j n (ps ++ p ∷ [])
+below_push : (j : OnenessJudge) (n : ℕ) (ps : List (Tree × Tree)) (p : Tree × Tree) → OneBelow j n ps → (judged_size j p.0 < n → JudgesOne j p.0 p.1) → OneBelow j n (ps ++ p ∷ [])
 below_push j n [] p h k = (k, tt)
 below_push j n (q ∷ ps) p h k = (h.0, below_push j n ps p h.1 k)
 
@@ -89,7 +89,7 @@ below_table f n [] h = tt
 below_table f n (p ∷ ps) h = ((λ l. h.0), below_table f n ps h.1)
 
 -- a pair that was met is one where the others are
-met_one : (c : Content) (ps : List (Tree × Tree)) (p : Tree × Tree) (a b : Tree) (j : Judge) → IsJudgeOf c j → AreEven j p.0 a → AreEven j p.1 b → IsOneAfter c (ps ++ p ∷ []) (a, b) → OneBelow j (judged_size j a) ps → JudgesOne j p.0 p.1
+met_one : (c : Content) (ps : List (Tree × Tree)) (p : Tree × Tree) (a b : Tree) (j : OnenessJudge) → IsJudgeOf c j → AreEven j p.0 a → AreEven j p.1 b → IsOneAfter c (ps ++ p ∷ []) (a, b) → OneBelow j (judged_size j a) ps → JudgesOne j p.0 p.1
 met_one c ps p a b j z left right m below =
     let even = even_size j p.0 a left in
     one_even j a b p.0 p.1 left right (m.one j z (below_push j (judged_size j a) ps p below (λ l. absurd (omega (arith, even, l)))))
@@ -110,7 +110,7 @@ met_passed c ps p a b kl kr hl hr m (q ∷ ms) h = (
 )
 
 -- a pair whose children are left is one where those are
-taken_one : (ts : List Tree) (ps qs : List Pair) (a b : Tree) (l m : Label) (j : Judge) (n : ℕ) → a ≡ node l (children a) → b ≡ node m (children b) → l ≡ m → variable_of l ≡ None → Pushed ts ps qs (children a) (children b) 0 → judged_size j a ≤ n → OneBelow j n (pairs_at ts qs) → JudgesOne j a b
+taken_one : (ts : List Tree) (ps qs : List Pair) (a b : Tree) (l m : Label) (j : OnenessJudge) (n : ℕ) → a ≡ node l (children a) → b ≡ node m (children b) → l ≡ m → variable_of l ≡ None → Pushed ts ps qs (children a) (children b) 0 → judged_size j a ≤ n → OneBelow j n (all_sides_at ts qs) → JudgesOne j a b
 taken_one ts ps qs a b l m j n ia ib same alone k le below =
     let large : judged_size j a ≡ judged_size j (children a) + 1 = ap (judged_size j) ia ∙ judged-node j l (children a) alone in
     let inner : JudgesOne j (children a) (children b) = (k.below j n below).1 (omega (arith, large, le)) in
@@ -118,7 +118,7 @@ taken_one ts ps qs a b l m j n ia ib same alone k le below =
     subst (λ x. JudgesOne j x b) (sym ia) (subst (λ y. JudgesOne j (node l (children a)) y) (sym other) (one-node j l (children a) (children b) alone inner))
 
 met_taken : (ts : List Tree) (c : Content) (ps qs : List Pair) (p : Tree × Tree) (a b : Tree) (l m : Label) → a ≡ node l (children a) → b ≡ node m (children b) → l ≡ m → variable_of l ≡ None → Knows c p.0 → Knows c p.1 → IsClosedHead c p.0 a → IsClosedHead c p.1 b → Pushed ts ps qs (children a) (children b) 0
-    → (ms : List (Tree × Tree)) → AreOneAfter c (pairs_at ts ps ++ p ∷ []) ms → AreOneAfter c (pairs_at ts qs) (ms ++ (a, b) ∷ [])
+    → (ms : List (Tree × Tree)) → AreOneAfter c (all_sides_at ts ps ++ p ∷ []) ms → AreOneAfter c (all_sides_at ts qs) (ms ++ (a, b) ∷ [])
 met_taken ts c ps qs p a b l m ia ib same alone kl kr hl hr k [] h =
     (record { one = λ j z below. taken_one ts ps qs a b l m j (judged_size j a) ia ib same alone k (omega arith) below }, tt)
 met_taken ts c ps qs p a b l m ia ib same alone kl kr hl hr k (q ∷ ms) h = (
@@ -127,7 +127,7 @@ met_taken ts c ps qs p a b l m ia ib same alone kl kr hl hr k (q ∷ ms) h = (
         (let left = even_closed c p.0 a j z kl hl in
         let right = even_closed c p.1 b j z kr hr in
         let even = even_size j p.0 a left in
-        h.0.one j z (below_push j (judged_size j q.0) (pairs_at ts ps) p (k.below j (judged_size j q.0) below).0
+        h.0.one j z (below_push j (judged_size j q.0) (all_sides_at ts ps) p (k.below j (judged_size j q.0) below).0
         (λ less. one_even j a b p.0 p.1 left right (taken_one ts ps qs a b l m j (judged_size j q.0) ia ib same alone k (omega (arith, less, even)) below))));
   },
   met_taken ts c ps qs p a b l m ia ib same alone kl kr hl hr k ms h.1,
@@ -150,11 +150,11 @@ memo_done ts us e f ps ms p v x h later r o =
     let c = content_of ts e in
     let d = content_of us f in
     let last = last_pair ts e ps p v in
-    let before : AreOneAfter c (pairs_at ts ps ++ pair_at ts p ∷ []) (pairs_at ts ms) = rw (pairs_at-push ts ps p) at o.met in
+    let before : AreOneAfter c (all_sides_at ts ps ++ sides_at ts p ∷ []) (all_sides_at ts ms) = rw (all_sides_at-push ts ps p) at o.met in
     record {
       within = ArePairsIn-extended ms x o.within;
-      met = rw (pairs_at-extended ms x o.within, pairs_at-extended ps x last.front.within)
-          (met_done c d (pairs_at ts ps) (pair_at ts p) v.lawful.sound (record { sound = h.sound; sides = lawful_sides us f h }) (Knows-later (tree_at ts p.left) later last.left_known) (Knows-later (tree_at ts p.right) later last.right_known) r (pairs_at ts ms) before);
+      met = rw (all_sides_at-extended ms x o.within, all_sides_at-extended ps x last.front.within)
+          (met_done c d (all_sides_at ts ps) (sides_at ts p) v.lawful.sound (record { sound = h.sound; sides = lawful_sides us f h }) (Knows-later (tree_at ts p.left) later last.left_known) (Knows-later (tree_at ts p.right) later last.right_known) r (all_sides_at ts ms) before);
     }
 
 -- two variables made one, or one variable twice
@@ -178,11 +178,11 @@ memo_pushed ts e ps qs ms ns p a b l m v na nb ha hb ia ib same not_free k new o
     let last = last_pair ts e ps p v in
     let here : Pair = record { left = a; right = b } in
     let alone : variable_of l ≡ None = alone_label l (not_infer (tree_at ts a) l ia ha.no_variable) not_free in
-    let before : AreOneAfter c (pairs_at ts ps ++ pair_at ts p ∷ []) (pairs_at ts ms) = rw (pairs_at-push ts ps p) at o.met in
+    let before : AreOneAfter c (all_sides_at ts ps ++ sides_at ts p ∷ []) (all_sides_at ts ms) = rw (all_sides_at-push ts ps p) at o.met in
     rw new (record {
       within = ArePairsIn-push ts ms here o.within na nb;
-      met = rw (pairs_at-push ts ms here)
-          (met_taken ts c ps qs (pair_at ts p) (tree_at ts a) (tree_at ts b) l m ia ib same alone last.left_known last.right_known ha hb k (pairs_at ts ms) before);
+      met = rw (all_sides_at-push ts ms here)
+          (met_taken ts c ps qs (sides_at ts p) (tree_at ts a) (tree_at ts b) l m ia ib same alone last.left_known last.right_known ha hb k (all_sides_at ts ms) before);
     })
 
 -- `==` on pairs is equality
@@ -197,12 +197,12 @@ same_pair p q h = both (id_eq.ghosts.eq p.left q.left) (id_eq.ghosts.eq p.right 
     both true false f g h = cc
     both false y f g h = cc
 
-met_at : (ts : List Tree) (c : Content) (left : List (Tree × Tree)) (ms : List Pair) (p : Pair) → list_any (pair_eq.ghosts.eq p) ms ≡ true → AreOneAfter c left (pairs_at ts ms) → IsOneAfter c left (pair_at ts p)
+met_at : (ts : List Tree) (c : Content) (left : List (Tree × Tree)) (ms : List Pair) (p : Pair) → list_any (pair_eq.ghosts.eq p) ms ≡ true → AreOneAfter c left (all_sides_at ts ms) → IsOneAfter c left (sides_at ts p)
 met_at ts c left [] p h k = cc
 met_at ts c left (q ∷ ms) p h k = by_case (pair_eq.ghosts.eq p q) refl (λ e. met_at ts c left ms p (rw e at h) k.1)
   where
-    by_case : (x : Bool) → pair_eq.ghosts.eq p q ≡ x → (pair_eq.ghosts.eq p q ≡ false → IsOneAfter c left (pair_at ts p)) → IsOneAfter c left (pair_at ts p)
-    by_case true e rest = subst (λ o. IsOneAfter c left (pair_at ts o)) (sym (same_pair p q e)) k.0
+    by_case : (x : Bool) → pair_eq.ghosts.eq p q ≡ x → (pair_eq.ghosts.eq p q ≡ false → IsOneAfter c left (sides_at ts p)) → IsOneAfter c left (sides_at ts p)
+    by_case true e rest = subst (λ o. IsOneAfter c left (sides_at ts o)) (sym (same_pair p q e)) k.0
     by_case false e rest = rest e
 
 pub met_keys : (ms : List Pair) (p : Pair) → list_any (pair_eq.ghosts.eq p) ms ≡ true → insert_key pair_eq.ghosts.eq ms p ≡ ms
@@ -220,22 +220,22 @@ pub passed_met : (ts : List Tree) (e : Entries) (ps ms : List Pair) (p : Pair) (
 passed_met ts e ps ms p a b v ha hb found o =
     let c = content_of ts e in
     let last = last_pair ts e ps p v in
-    let before : AreOneAfter c (pairs_at ts ps ++ pair_at ts p ∷ []) (pairs_at ts ms) = rw (pairs_at-push ts ps p) at o.met in
-    let m = met_at ts c (pairs_at ts ps ++ pair_at ts p ∷ []) ms (record { left = a; right = b }) found before in
-    let one = λ (j : Judge) (z : IsJudgeOf c j) (below : OneBelow j (judged_size j (tree_at ts a)) (pairs_at ts ps)).
-    met_one c (pairs_at ts ps) (pair_at ts p) (tree_at ts a) (tree_at ts b) j z (even_closed c (tree_at ts p.left) (tree_at ts a) j z last.left_known ha) (even_closed c (tree_at ts p.right) (tree_at ts b) j z last.right_known hb) m below in
+    let before : AreOneAfter c (all_sides_at ts ps ++ sides_at ts p ∷ []) (all_sides_at ts ms) = rw (all_sides_at-push ts ps p) at o.met in
+    let m = met_at ts c (all_sides_at ts ps ++ sides_at ts p ∷ []) ms (record { left = a; right = b }) found before in
+    let one = λ (j : OnenessJudge) (z : IsJudgeOf c j) (below : OneBelow j (judged_size j (tree_at ts a)) (all_sides_at ts ps)).
+    met_one c (all_sides_at ts ps) (sides_at ts p) (tree_at ts a) (tree_at ts b) j z (even_closed c (tree_at ts p.left) (tree_at ts a) j z last.left_known ha) (even_closed c (tree_at ts p.right) (tree_at ts b) j z last.right_known hb) m below in
     record {
       stepped = record {
         valid = last.front;
         step = record {
           later = IsLater-refl c;
-          reduces = rw (pairs_at-push ts ps p) (record {
+          reduces = rw (all_sides_at-push ts ps p) (record {
             continues = Continues-refl c v.lawful.sound;
-            sound = λ w z q. (z, Equates-push w (pairs_at ts ps) (pair_at ts p) q (one (of_world w) z (below_world w (judged_size (of_world w) (tree_at ts a)) (pairs_at ts ps) q)));
-            complete = λ w z q. (unchanged c w z, (Equates-front w (pairs_at ts ps) (pair_at ts p) q).0);
-            alike = λ f h next q. AllAlike-push f (pairs_at ts ps) (pair_at ts p) q (one (of_table f) (h, next) (below_table f (judged_size (of_table f) (tree_at ts a)) (pairs_at ts ps) q));
+            sound = λ w z q. (z, Equates-push w (all_sides_at ts ps) (sides_at ts p) q (one (of_world w) z (below_world w (judged_size (of_world w) (tree_at ts a)) (all_sides_at ts ps) q)));
+            complete = λ w z q. (unchanged c w z, (Equates-front w (all_sides_at ts ps) (sides_at ts p) q).0);
+            alike = λ f h next q. AllAlike-push f (all_sides_at ts ps) (sides_at ts p) q (one (of_table f) (h, next) (below_table f (judged_size (of_table f) (tree_at ts a)) (all_sides_at ts ps) q));
           });
-          brings = rw (pairs_at-push ts ps p) (PairsBring-last c c (pairs_at ts ps) (pair_at ts p) (brings-of (tree_at ts p.left) (tree_at ts p.right) (brings-refl c)) last.front.known (λ i j. plain_refl c));
+          brings = rw (all_sides_at-push ts ps p) (PairsBring-last c c (all_sides_at ts ps) (sides_at ts p) (brings-of (tree_at ts p.left) (tree_at ts p.right) (brings-refl c)) last.front.known (λ i j. plain_refl c));
           ties = TiesNew-same c c refl;
           fewer = λ (q : false ≡ true). cc;
           smaller = λ q. (omega (arith, total-last ts c ps p), refl);
@@ -243,6 +243,6 @@ passed_met ts e ps ms p a b v ha hb found o =
       };
       memo = record {
         within = o.within;
-        met = met_passed c (pairs_at ts ps) (pair_at ts p) (tree_at ts a) (tree_at ts b) last.left_known last.right_known ha hb m (pairs_at ts ms) before;
+        met = met_passed c (all_sides_at ts ps) (sides_at ts p) (tree_at ts a) (tree_at ts b) last.left_known last.right_known ha hb m (all_sides_at ts ms) before;
       };
     }

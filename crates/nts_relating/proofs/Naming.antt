@@ -36,7 +36,7 @@ use Rattle.nts_unify.specs.Roots.{IsRoot}
 use Rattle.nts_unify.specs.Changing.{region_variable, is_free_region}
 use Rattle.nts_unify.specs.Unchanged.{HasUnset}
 use Rattle.nts_unify.specs.Joining.{CanJoin, CanJoinRegions, Joins, RegionsJoin}
-use Rattle.nts_relating.specs.Relating.{IsLike, IsUnset, IsOpen, IsRegionOf, RegionsRelate, IsSettled, StaysBelow, Generalized}
+use Rattle.nts_relating.specs.Relating.{IsLike, IsUnset, IsOpen, IsRegionOf, RegionsRelate, IsSettledByFlags, StaysBelow, Generalized}
 use Rattle.nts_unify.specs.Lawful.{IsNew, content_of-added, content_of-extended, IsLawful-added, IsLawful-extended}
 use Rattle.nts_unify.proofs.Changes.{length-slots}
 use Rattle.nts_unify.proofs.Leading.{universe_of-entry}
@@ -291,7 +291,7 @@ fresh_joined ts us e m f x u b n root t r l v h within other i leads lawful is j
     fresh_region_value ts us e m f x u b t (tree_at us r) l v h within related (j.one.universes x apart) (j.one.universes fresh new_apart) is (λ z. sym one)
 
 -- a term that stays: it has neither variables nor placeholders, and is closed
-pub settled_value : (c : Content) (x u b : ℕ) (t : Tree) (flags : TypeFlags) → IsSound c → Knows c t → flags ≡ flags_of t → IsSettled flags b → Generalized c c x u b t t
+pub settled_value : (c : Content) (x u b : ℕ) (t : Tree) (flags : TypeFlags) → IsSound c → Knows c t → flags ≡ flags_of t → IsSettledByFlags flags b → Generalized c c x u b t t
 settled_value c x u b t flags s k e h =
     let infer : any_label is_infer t ≡ false = sym (ap (λ (f : TypeFlags). f.has_infer) e) ∙ h.no_infer in
     let region : any_label is_region_infer t ≡ false = sym (ap (λ (f : TypeFlags). f.has_region_infer) e) ∙ h.no_region_infer in

@@ -31,13 +31,13 @@ use Rattle.std.specs.Prelude.{OnOk}
 use Rattle.nts_unify.proofs.Changes.{some_inj}
 use Rattle.nts_unify.specs.Entries.{Entries}
 use Rattle.nts_unify.specs.Reading.{content_of, IsLawful}
-use Rattle.nts_unify.specs.Changing.{unset_count, IsLater, Keeps, is_free_region}
+use Rattle.nts_unify.specs.Changing.{unset_count, IsLater, KeepsKnowing, is_free_region}
 use Rattle.nts_unify.specs.Joining.{Joins}
 use Rattle.nts_unify.specs.Unchanged.{HasUnset}
 use Rattle.nts_relating.specs.Knowing.{row_from}
 use Rattle.nts_relating.specs.Met.{judged_size, JudgesOne, OneBelow}
-use Rattle.nts_relating.specs.Relating.{IsOpen, IsClosedHead, IsSet, RegionsRelate, pair_at, pairs_at, ArePairsIn, AreKnown, PairsPass, PairsBring, total, Pushed, IsValid, IsPairStep, IsPairRun, Running, AreMadeOne, VariablesRelate, IsPlainIn, KeepsPlain}
-use Rattle.nts_unify.proofs.Keeping.{IsLater-refl, IsLater-trans, Knows-later, Keeps-refl}
+use Rattle.nts_relating.specs.Relating.{IsOpen, IsClosedHead, IsSet, RegionsRelate, sides_at, all_sides_at, ArePairsIn, AreKnown, PairsPass, PairsBring, total, Pushed, IsValid, IsPairStep, IsPairRun, Running, AreMadeOne, VariablesRelate, IsPlainIn, KeepsPlain}
+use Rattle.nts_unify.proofs.Keeping.{IsLater-refl, IsLater-trans, Knows-later, KeepsKnowing-refl}
 use Rattle.nts_unify.proofs.JoinLemmas.{free_slot, at_min, at_max}
 use Rattle.nts_unify.proofs.Tied.{ties_of_keeps}
 use Rattle.nts_relating.proofs.AliasCounts.{aliases_continue, joined_none}
@@ -48,9 +48,9 @@ use Rattle.nts_relating.proofs.Naming.{lawful_sides, alone_label}
 use Rattle.nts_relating.proofs.Looking.{row_from-end, row_from-step}
 use Rattle.nts_relating.proofs.Judging.{judged-more, one-itself, one-more, below_front}
 
-pub pairs_at-push : (ts : List Tree) (ps : List Pair) (p : Pair) → pairs_at ts (ps ++ p ∷ []) ≡ pairs_at ts ps ++ pair_at ts p ∷ []
-pairs_at-push ts [] p = refl
-pairs_at-push ts (q ∷ ps) p = ap (λ x. pair_at ts q ∷ x) (pairs_at-push ts ps p)
+pub all_sides_at-push : (ts : List Tree) (ps : List Pair) (p : Pair) → all_sides_at ts (ps ++ p ∷ []) ≡ all_sides_at ts ps ++ sides_at ts p ∷ []
+all_sides_at-push ts [] p = refl
+all_sides_at-push ts (q ∷ ps) p = ap (λ x. sides_at ts q ∷ x) (all_sides_at-push ts ps p)
 
 pub ArePairsIn-push : (ts : List Tree) (ps : List Pair) (p : Pair) → ArePairsIn ts ps → IsIn ts p.left → IsIn ts p.right → ArePairsIn ts (ps ++ p ∷ [])
 ArePairsIn-push ts [] p h l r = (l, r, tt)
@@ -99,7 +99,7 @@ total-push : (c : Content) (ps : List (Tree × Tree)) (p : Tree × Tree) → tot
 total-push c [] p = omega arith
 total-push c (q ∷ ps) p = omega (arith, total-push c ps p)
 
-total-kept : {c d : Content} (ps : List (Tree × Tree)) → Keeps c d → AreKnown c ps → total d ps ≡ total c ps
+total-kept : {c d : Content} (ps : List (Tree × Tree)) → KeepsKnowing c d → AreKnown c ps → total d ps ≡ total c ps
 total-kept [] k h = refl
 total-kept (p ∷ ps) k h = omega (arith, ap size (k.trees p.0 h.0), ap size (k.trees p.1 h.1), total-kept ps k h.2)
 
@@ -172,12 +172,12 @@ Reduces-last c d ps p fair later known left right r =
     }
 
 -- in a store that has grown
-pub pairs_at-extended : {ts us : List Tree} (ps : List Pair) → Extends ts us → ArePairsIn ts ps → pairs_at us ps ≡ pairs_at ts ps
-pairs_at-extended [] e h = refl
-pairs_at-extended (p ∷ ps) e h =
+pub all_sides_at-extended : {ts us : List Tree} (ps : List Pair) → Extends ts us → ArePairsIn ts ps → all_sides_at us ps ≡ all_sides_at ts ps
+all_sides_at-extended [] e h = refl
+all_sides_at-extended (p ∷ ps) e h =
     let left = e.kept p.left h.0 in
     let right = e.kept p.right h.1 in
-    let rest = pairs_at-extended ps e h.2 in
+    let rest = all_sides_at-extended ps e h.2 in
     λ i. (left i, right i) ∷ rest i
 
 pub ArePairsIn-extended : {ts us : List Tree} (ps : List Pair) → Extends ts us → ArePairsIn ts ps → ArePairsIn us ps
@@ -189,7 +189,7 @@ valid_later ps v x l h =
     record {
       lawful = h;
       within = ArePairsIn-extended ps x v.within;
-      known = rw (pairs_at-extended ps x v.within) (AreKnown-later (pairs_at _ ps) l v.known);
+      known = rw (all_sides_at-extended ps x v.within) (AreKnown-later (all_sides_at _ ps) l v.known);
     }
 
 -- the last pair
@@ -203,7 +203,7 @@ pub record LastPair (ts : List Tree) (e : Entries) (ps : List Pair) (p : Pair) :
 pub last_pair : (ts : List Tree) (e : Entries) (ps : List Pair) (p : Pair) → IsValid ts e (ps ++ p ∷ []) → LastPair ts e ps p
 last_pair ts e ps p v =
     let w = ArePairsIn-front ts ps p v.within in
-    let k = AreKnown-front (content_of ts e) (pairs_at ts ps) (pair_at ts p) (rw (pairs_at-push ts ps p) at v.known) in
+    let k = AreKnown-front (content_of ts e) (all_sides_at ts ps) (sides_at ts p) (rw (all_sides_at-push ts ps p) at v.known) in
     record {
       front = record { lawful = v.lawful; within = w.0; known = k.0 };
       left_in = w.1;
@@ -212,25 +212,25 @@ last_pair ts e ps p v =
       right_known = k.2;
     }
 
-pub total-last : (ts : List Tree) (c : Content) (ps : List Pair) (p : Pair) → total c (pairs_at ts (ps ++ p ∷ [])) ≡ total c (pairs_at ts ps) + size (resolved c (tree_at ts p.left)) + size (resolved c (tree_at ts p.right)) + 1
-total-last ts c ps p = ap (total c) (pairs_at-push ts ps p) ∙ total-push c (pairs_at ts ps) (pair_at ts p)
+pub total-last : (ts : List Tree) (c : Content) (ps : List Pair) (p : Pair) → total c (all_sides_at ts (ps ++ p ∷ [])) ≡ total c (all_sides_at ts ps) + size (resolved c (tree_at ts p.left)) + size (resolved c (tree_at ts p.right)) + 1
+total-last ts c ps p = ap (total c) (all_sides_at-push ts ps p) ∙ total-push c (all_sides_at ts ps) (sides_at ts p)
 
 pub record Stepped (ts us : List Tree) (e f : Entries) (ps qs : List Pair) (p : Pair) (bound : Bool) : Type 0 where
   pub valid : IsValid us f qs
-  pub step : IsPairStep (content_of ts e) (content_of us f) (pairs_at ts (ps ++ p ∷ [])) (pairs_at us qs) bound
+  pub step : IsPairStep (content_of ts e) (content_of us f) (all_sides_at ts (ps ++ p ∷ [])) (all_sides_at us qs) bound
 
 -- the last pair is made equal in a store that may have grown
-reduces_last : (ts us : List Tree) (e f : Entries) (ps : List Pair) (p : Pair) → IsValid ts e (ps ++ p ∷ []) → Extends ts us → IsLawful us f → IsLater (content_of ts e) (content_of us f) → AreRelated (content_of ts e) (content_of us f) (tree_at ts p.left) (tree_at ts p.right) → Reduces (content_of ts e) (content_of us f) (pairs_at ts (ps ++ p ∷ [])) (pairs_at us ps)
+reduces_last : (ts us : List Tree) (e f : Entries) (ps : List Pair) (p : Pair) → IsValid ts e (ps ++ p ∷ []) → Extends ts us → IsLawful us f → IsLater (content_of ts e) (content_of us f) → AreRelated (content_of ts e) (content_of us f) (tree_at ts p.left) (tree_at ts p.right) → Reduces (content_of ts e) (content_of us f) (all_sides_at ts (ps ++ p ∷ [])) (all_sides_at us ps)
 reduces_last ts us e f ps p v x h l r =
     let last = last_pair ts e ps p v in
-    rw (pairs_at-push ts ps p, pairs_at-extended ps x last.front.within)
-    (Reduces-last (content_of ts e) (content_of us f) (pairs_at ts ps) (pair_at ts p) (record { sound = h.sound; sides = lawful_sides us f h }) l last.front.known last.left_known last.right_known r)
+    rw (all_sides_at-push ts ps p, all_sides_at-extended ps x last.front.within)
+    (Reduces-last (content_of ts e) (content_of us f) (all_sides_at ts ps) (sides_at ts p) (record { sound = h.sound; sides = lawful_sides us f h }) l last.front.known last.left_known last.right_known r)
 
 brings_last : (ts us : List Tree) (e f : Entries) (ps : List Pair) (p : Pair) → IsValid ts e (ps ++ p ∷ []) → Extends ts us → BringsLabelsOf (content_of ts e) (content_of us f) (tree_at ts p.left) (tree_at ts p.right) → (IsPlainIn (content_of ts e) (tree_at ts p.left) → IsPlainIn (content_of ts e) (tree_at ts p.right) → KeepsPlain (content_of ts e) (content_of us f))
-    → PairsBring (content_of ts e) (content_of us f) (pairs_at ts (ps ++ p ∷ [])) (pairs_at us ps)
+    → PairsBring (content_of ts e) (content_of us f) (all_sides_at ts (ps ++ p ∷ [])) (all_sides_at us ps)
 brings_last ts us e f ps p v x h plain =
     let last = last_pair ts e ps p v in
-    rw (pairs_at-push ts ps p, pairs_at-extended ps x last.front.within) (PairsBring-last (content_of ts e) (content_of us f) (pairs_at ts ps) (pair_at ts p) h last.front.known plain)
+    rw (all_sides_at-push ts ps p, all_sides_at-extended ps x last.front.within) (PairsBring-last (content_of ts e) (content_of us f) (all_sides_at ts ps) (sides_at ts p) h last.front.known plain)
 
 -- a variable got a value
 pub step_set : (ts us : List Tree) (e f : Entries) (ps : List Pair) (p : Pair) → IsValid ts e (ps ++ p ∷ []) → Extends ts us → IsLawful us f → IsLater (content_of ts e) (content_of us f) → unset_count (content_of us f).slots < unset_count (content_of ts e).slots → AreRelated (content_of ts e) (content_of us f) (tree_at ts p.left) (tree_at ts p.right) → BringsLabelsOf (content_of ts e) (content_of us f) (tree_at ts p.left) (tree_at ts p.right) → (IsPlainIn (content_of ts e) (tree_at ts p.left) → IsPlainIn (content_of ts e) (tree_at ts p.right) → KeepsPlain (content_of ts e) (content_of us f)) → TiesNew (content_of ts e) (content_of us f)
@@ -281,7 +281,7 @@ set_right ts us e f p y a h k kl kr o r s =
     AreRelated-turned (set_left ts us e f (record { left = p.right; right = p.left }) y a h k kr kl o r s)
 
 -- nothing that trees stand for changed
-pub step_kept : (ts : List Tree) (e f : Entries) (ps : List Pair) (p : Pair) → IsValid ts e (ps ++ p ∷ []) → IsLawful ts f → Keeps (content_of ts e) (content_of ts f) → AreRelated (content_of ts e) (content_of ts f) (tree_at ts p.left) (tree_at ts p.right) → BringsLabelsOf (content_of ts e) (content_of ts f) (tree_at ts p.left) (tree_at ts p.right) → Stepped ts ts e f ps ps p false
+pub step_kept : (ts : List Tree) (e f : Entries) (ps : List Pair) (p : Pair) → IsValid ts e (ps ++ p ∷ []) → IsLawful ts f → KeepsKnowing (content_of ts e) (content_of ts f) → AreRelated (content_of ts e) (content_of ts f) (tree_at ts p.left) (tree_at ts p.right) → BringsLabelsOf (content_of ts e) (content_of ts f) (tree_at ts p.left) (tree_at ts p.right) → Stepped ts ts e f ps ps p false
 step_kept ts e f ps p v h k r brings =
     let last = last_pair ts e ps p v in
     record {
@@ -292,7 +292,7 @@ step_kept ts e f ps p v h k r brings =
         brings = brings_last ts ts e f ps p v (Extends-refl ts) brings (λ a b. plain_kept k);
         ties = ties_of_keeps (content_of ts e) (content_of ts f) h.sound k;
         fewer = λ (q : false ≡ true). cc;
-        smaller = λ q. (omega (arith, total-kept (pairs_at ts ps) k last.front.known, total-last ts (content_of ts e) ps p), k.unset_kept);
+        smaller = λ q. (omega (arith, total-kept (all_sides_at ts ps) k last.front.known, total-last ts (content_of ts e) ps p), k.unset_kept);
       };
     }
 
@@ -443,7 +443,7 @@ step_variables ts us e f ps p x y false v ext o q r =
     let same = r.same refl in
     let store : us ≡ ts = same.0 in
     let is : f ≡ e = same.1 in
-    rw (store, is) (step_kept ts e e ps p v v.lawful (Keeps-refl (content_of ts e)) (variable_same ts e (tree_at ts p.left) (tree_at ts p.right) x y v.lawful o q same.2) (brings-of (tree_at ts p.left) (tree_at ts p.right) (brings-refl (content_of ts e))))
+    rw (store, is) (step_kept ts e e ps p v v.lawful (KeepsKnowing-refl (content_of ts e)) (variable_same ts e (tree_at ts p.left) (tree_at ts p.right) x y v.lawful o q same.2) (brings-of (tree_at ts p.left) (tree_at ts p.right) (brings-refl (content_of ts e))))
 
 -- the children of two nodes
 pub pushed_none : (ts : List Tree) (ps : List Pair) (a b : Tree) (i : ℕ) → IsRow a → IsRow b → i ≡ row_length a → row_length a ≡ row_length b → Pushed ts ps ps a b i
@@ -472,10 +472,10 @@ pushed_more ts ps qs rs a b i j x y h next la lb ix iy ex ey e =
       known = λ c ka kb w.
           let kx : Knows c (tree_at ts x) = rw ex (Knows-row_at c a i ka) in
           let ky : Knows c (tree_at ts y) = rw ey (Knows-row_at c b i kb) in
-          rw (e, pairs_at-push ts qs p) (AreKnown-push c (pairs_at ts qs) (pair_at ts p) (h.known c ka kb w) kx ky);
+          rw (e, all_sides_at-push ts qs p) (AreKnown-push c (all_sides_at ts qs) (sides_at ts p) (h.known c ka kb w) kx ky);
       sound = λ w z.
-          let q : Equates w (pairs_at ts qs ++ pair_at ts p ∷ []) = rw (e, pairs_at-push ts qs p) at z in
-          let parts = Equates-front w (pairs_at ts qs) (pair_at ts p) q in
+          let q : Equates w (all_sides_at ts qs ++ sides_at ts p ∷ []) = rw (e, all_sides_at-push ts qs p) at z in
+          let parts = Equates-front w (all_sides_at ts qs) (sides_at ts p) q in
           let rest = h.sound w parts.0 in
           let tail : inst w (row_from (i + 1) a) ≡ inst w (row_from (i + 1) b) = rw next at rest.1 in
           (rest.0, ap (inst w) da ∙ (λ k. more (head_one w parts.1 k) (tail k)) ∙ sym (ap (inst w) db));
@@ -483,27 +483,27 @@ pushed_more ts ps qs rs a b i j x y h next la lb ix iy ex ey e =
           let split : more (inst w (row_at a i)) (inst w (row_from (i + 1) a)) ≡ more (inst w (row_at b i)) (inst w (row_from (i + 1) b)) = sym (ap (inst w) da) ∙ q ∙ ap (inst w) db in
           let parts = more_eq _ _ _ _ split in
           let tail : inst w (row_from j a) ≡ inst w (row_from j b) = rw next parts.1 in
-          rw (e, pairs_at-push ts qs p) (Equates-push w (pairs_at ts qs) (pair_at ts p) (h.complete w z tail) (ap (inst w) ex ∙ parts.0 ∙ sym (ap (inst w) ey)));
+          rw (e, all_sides_at-push ts qs p) (Equates-push w (all_sides_at ts qs) (sides_at ts p) (h.complete w z tail) (ap (inst w) ex ∙ parts.0 ∙ sym (ap (inst w) ey)));
       alike = λ c z.
-          let q : AllAlike c (pairs_at ts qs ++ pair_at ts p ∷ []) = rw (e, pairs_at-push ts qs p) at z in
-          let parts = AllAlike-front c (pairs_at ts qs) (pair_at ts p) q in
+          let q : AllAlike c (all_sides_at ts qs ++ sides_at ts p ∷ []) = rw (e, all_sides_at-push ts qs p) at z in
+          let parts = AllAlike-front c (all_sides_at ts qs) (sides_at ts p) q in
           let rest = h.alike c parts.0 in
           let tail : AreAlike c (row_from (i + 1) a) (row_from (i + 1) b) = rw next at rest.1 in
           let first : AreAlike c (row_at a i) (row_at b i) = rw (ex, ey) at parts.1 in
           (rest.0, rw (da, db) (AreAlike-more c (row_at a i) (row_from (i + 1) a) (row_at b i) (row_from (i + 1) b) first tail));
       weight = λ c.
-          omega (arith, ap (λ z. total c (pairs_at ts z)) e, total-last ts c qs p, rw next at (h.weight c), ap row_length da, ap (λ t. size (resolved c t)) da, ap (λ t. size (resolved c t)) db, ap size (resolved-more c (row_at a i) (row_from (i + 1) a)), ap size (resolved-more c (row_at b i) (row_from (i + 1) b)), ap (λ t. size (resolved c t)) ex, ap (λ t. size (resolved c t)) ey);
+          omega (arith, ap (λ z. total c (all_sides_at ts z)) e, total-last ts c qs p, rw next at (h.weight c), ap row_length da, ap (λ t. size (resolved c t)) da, ap (λ t. size (resolved c t)) db, ap size (resolved-more c (row_at a i) (row_from (i + 1) a)), ap size (resolved-more c (row_at b i) (row_from (i + 1) b)), ap (λ t. size (resolved c t)) ex, ap (λ t. size (resolved c t)) ey);
       labels = λ P ka kb w.
           let kx : TreePasses P (tree_at ts x) = rw ex (passes-row_at (λ z. P z ≡ true) a i ka) in
           let ky : TreePasses P (tree_at ts y) = rw ey (passes-row_at (λ z. P z ≡ true) b i kb) in
-          rw (e, pairs_at-push ts qs p) (PairsPass-push P (pairs_at ts qs) (pair_at ts p) (h.labels P ka kb w) kx ky);
+          rw (e, all_sides_at-push ts qs p) (PairsPass-push P (all_sides_at ts qs) (sides_at ts p) (h.labels P ka kb w) kx ky);
       plain = λ c ka kb w.
           let kx : IsPlainIn c (tree_at ts x) = rw ex (plain_row_at c a i la ka) in
           let ky : IsPlainIn c (tree_at ts y) = rw ey (plain_row_at c b i lb kb) in
-          rw (e, pairs_at-push ts qs p) (plain_push c (pairs_at ts qs) (pair_at ts p) (h.plain c ka kb w) kx ky);
+          rw (e, all_sides_at-push ts qs p) (plain_push c (all_sides_at ts qs) (sides_at ts p) (h.plain c ka kb w) kx ky);
       below = λ k n z.
-          let q : OneBelow k n (pairs_at ts qs ++ pair_at ts p ∷ []) = rw (e, pairs_at-push ts qs p) at z in
-          let parts = below_front k n (pairs_at ts qs) (pair_at ts p) q in
+          let q : OneBelow k n (all_sides_at ts qs ++ sides_at ts p ∷ []) = rw (e, all_sides_at-push ts qs p) at z in
+          let parts = below_front k n (all_sides_at ts qs) (sides_at ts p) q in
           let rest = h.below k n parts.0 in (
             rest.0,
             λ l.
@@ -555,13 +555,13 @@ step_pushed ts e ps qs p a b l m v ha hb ia ib same not_free k =
       };
       step = record {
         later = IsLater-refl c;
-        reduces = rw (pairs_at-push ts ps p) (record {
+        reduces = rw (all_sides_at-push ts ps p) (record {
           continues = Continues-refl c v.lawful.sound;
           sound = λ w z q.
               let parts = k.sound w q in
-              (z, Equates-push w (pairs_at ts ps) (pair_at ts p) parts.0 (ha.worlds w z ∙ inst-is w (tree_at ts a) l ia alone ∙ (λ i. node (renamed w (same i)) (parts.1 i)) ∙ sym (inst-is w (tree_at ts b) m ib other) ∙ sym (hb.worlds w z)));
+              (z, Equates-push w (all_sides_at ts ps) (sides_at ts p) parts.0 (ha.worlds w z ∙ inst-is w (tree_at ts a) l ia alone ∙ (λ i. node (renamed w (same i)) (parts.1 i)) ∙ sym (inst-is w (tree_at ts b) m ib other) ∙ sym (hb.worlds w z)));
           complete = λ w z q.
-              let parts = Equates-front w (pairs_at ts ps) (pair_at ts p) q in
+              let parts = Equates-front w (all_sides_at ts ps) (sides_at ts p) q in
               let nodes : node (renamed w l) (inst w (children (tree_at ts a))) ≡ node (renamed w m) (inst w (children (tree_at ts b))) = sym (inst-is w (tree_at ts a) l ia alone) ∙ sym (ha.worlds w z) ∙ parts.1 ∙ hb.worlds w z ∙ inst-is w (tree_at ts b) m ib other in
               (unchanged c w z, k.complete w parts.0 (node_eq _ _ _ _ nodes).1);
           alike = λ f h next q.
@@ -569,16 +569,16 @@ step_pushed ts e ps qs p a b l m v ha hb ia ib same not_free k =
               let inner : AreAlike f (tree_at ts a) (tree_at ts b) = AreAlike-children f (tree_at ts a) (tree_at ts b) l (ap label_of ia) (ap label_of ib ∙ ap Some (sym same)) (infer_of_none l alone) parts.1 in
               let left : AreOne f (tree_at ts p.left) (tree_at ts a) = AreOne-continues c f (tree_at ts p.left) (tree_at ts a) next last.left_known ha.knows (ap (rooted c) ha.same) in
               let right : AreOne f (tree_at ts p.right) (tree_at ts b) = AreOne-continues c f (tree_at ts p.right) (tree_at ts b) next last.right_known hb.knows (ap (rooted c) hb.same) in
-              AllAlike-push f (pairs_at ts ps) (pair_at ts p) parts.0 (AreAlike-for f (tree_at ts a) (tree_at ts b) (tree_at ts p.left) (tree_at ts p.right) left right inner);
+              AllAlike-push f (all_sides_at ts ps) (sides_at ts p) parts.0 (AreAlike-for f (tree_at ts a) (tree_at ts b) (tree_at ts p.left) (tree_at ts p.right) left right inner);
         });
-        brings = rw (pairs_at-push ts ps p) (record {
+        brings = rw (all_sides_at-push ts ps p) (record {
           labels = λ P f h q.
-              let parts = PairsPass-front P (pairs_at ts ps) (pair_at ts p) q in
+              let parts = PairsPass-front P (all_sides_at ts ps) (sides_at ts p) q in
               let left = passes-children (λ z. P z ≡ true) (tree_at ts a) (ha.labels P h parts.1) in
               let right = passes-children (λ z. P z ≡ true) (tree_at ts b) (hb.labels P h parts.2) in
               (h, k.labels P left right parts.0);
           plain = λ q.
-              let parts = plain_front c (pairs_at ts ps) (pair_at ts p) q in
+              let parts = plain_front c (all_sides_at ts ps) (sides_at ts p) q in
               let left = (neither (is_alias l) _ (ap (any_label is_alias) (sym (ha.same ∙ sa)) ∙ parts.1)).1 in
               let right = (neither (is_alias m) _ (ap (any_label is_alias) (sym (hb.same ∙ sb)) ∙ parts.2)).1 in
               (plain_refl c, k.plain c left right parts.0);

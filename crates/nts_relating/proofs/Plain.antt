@@ -17,7 +17,7 @@ use Rattle.nts_model.proofs.Tables.Resolved.{resolved-empty, resolved-more, reso
 use Rattle.nts_model.proofs.Tables.Open.{AllUnset-lacks, Knows-deeply_resolved}
 use Rattle.nts_model.proofs.Tables.Fitting.{region_label}
 use Rattle.nts_model.proofs.Tables.Binding.{IsKnowable, resolved-known}
-use Rattle.nts_unify.specs.Changing.{IsLater, Keeps}
+use Rattle.nts_unify.specs.Changing.{IsLater, KeepsKnowing}
 use Rattle.nts_unify.proofs.Keeping.{Knows-later}
 use Rattle.nts_relating.specs.Relating.{IsPlainIn, KeepsPlain, PairsArePlain, AreKnown}
 use Rattle.nts_relating.proofs.AliasCounts.{joined_variable}
@@ -142,7 +142,7 @@ joined_plain c d low high k z s on apart free has no_region linked others =
     (λ l x n is state e. ⊎_elim (λ q. ap (any_label is_alias) q ∙ e) (λ q. ap (any_label is_alias) q ∙ variable_plain k low) (joined_variable c d low high k s apart free has no_region linked others l x n is state))
 
 -- nothing changed, and one step after another
-pub plain_kept : {c d : Content} → Keeps c d → KeepsPlain c d
+pub plain_kept : {c d : Content} → KeepsKnowing c d → KeepsPlain c d
 plain_kept h = record { plain = λ t k e. ap (any_label is_alias) (h.trees t k) ∙ e }
 
 pub plain_refl : (c : Content) → KeepsPlain c c

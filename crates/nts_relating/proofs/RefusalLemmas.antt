@@ -25,10 +25,10 @@ use Rattle.nts_model.specs.Terms.Fitting.{Fits}
 use Rattle.nts_unify.specs.Joining.{TakesVariable}
 use Rattle.nts_relating.proofs.Ranks.{region_unfit}
 use Rattle.nts_unify.specs.Changing.{is_free_region}
-use Rattle.nts_relating.specs.Relating.{IsClosedHead, Blocks, Forbids, pair_at, pairs_at}
+use Rattle.nts_relating.specs.Relating.{IsClosedHead, Blocks, Forbids, sides_at, all_sides_at}
 use Rattle.nts_relating.proofs.HeadLemmas.{kind_of-variable}
 use Rattle.nts_relating.proofs.Naming.{region_free, alone_label}
-use Rattle.nts_relating.proofs.PairLemmas.{Equates-front, pairs_at-push, not_infer}
+use Rattle.nts_relating.proofs.PairLemmas.{Equates-front, all_sides_at-push, not_infer}
 
 pub closed_at : (w : World) (n : ℕ) (r : Tree) (i : ℕ) → i < row_length r → IsClosedUnder n (inst w r) → IsClosedUnder n (inst w (row_at r i))
 closed_at w n empty i h k = absurd (omega arith)
@@ -209,10 +209,10 @@ heads_apart c w a b l m z ka kb ia ib il im two apart e = by_case (is_free_regio
 pub refuse_last : (c : Content) (ps : List (Tree × Tree)) (p : Tree × Tree) → ((w : World) → Solves c w → inst w p.0 ≡ inst w p.1 → ⊥) → Refuses c (ps ++ p ∷ [])
 refuse_last c ps p h = record { none = λ w z q. h w z (Equates-front w ps p q).1 }
 
-pub refuse_pair : (ts : List Tree) (e : Entries) (ps : List Pair) (p : Pair) → ((w : World) → Solves (content_of ts e) w → inst w (tree_at ts p.left) ≡ inst w (tree_at ts p.right) → ⊥) → Refuses (content_of ts e) (pairs_at ts (ps ++ p ∷ []))
-refuse_pair ts e ps p h = rw (pairs_at-push ts ps p) (refuse_last (content_of ts e) (pairs_at ts ps) (pair_at ts p) h)
+pub refuse_pair : (ts : List Tree) (e : Entries) (ps : List Pair) (p : Pair) → ((w : World) → Solves (content_of ts e) w → inst w (tree_at ts p.left) ≡ inst w (tree_at ts p.right) → ⊥) → Refuses (content_of ts e) (all_sides_at ts (ps ++ p ∷ []))
+refuse_pair ts e ps p h = rw (all_sides_at-push ts ps p) (refuse_last (content_of ts e) (all_sides_at ts ps) (sides_at ts p) h)
 
-pub refuse_heads : (ts : List Tree) (e : Entries) (ps : List Pair) (p : Pair) (a b : NodeId) (l m : Label) → IsClosedHead (content_of ts e) (tree_at ts p.left) (tree_at ts a) → IsClosedHead (content_of ts e) (tree_at ts p.right) (tree_at ts b) → tree_at ts a ≡ node l (children (tree_at ts a)) → tree_at ts b ≡ node m (children (tree_at ts b)) → (is_free_region l ≡ true → is_free_region m ≡ true → ⊥) → (l ≡ m → DifferInLength (children (tree_at ts a)) (children (tree_at ts b))) → Refuses (content_of ts e) (pairs_at ts (ps ++ p ∷ []))
+pub refuse_heads : (ts : List Tree) (e : Entries) (ps : List Pair) (p : Pair) (a b : NodeId) (l m : Label) → IsClosedHead (content_of ts e) (tree_at ts p.left) (tree_at ts a) → IsClosedHead (content_of ts e) (tree_at ts p.right) (tree_at ts b) → tree_at ts a ≡ node l (children (tree_at ts a)) → tree_at ts b ≡ node m (children (tree_at ts b)) → (is_free_region l ≡ true → is_free_region m ≡ true → ⊥) → (l ≡ m → DifferInLength (children (tree_at ts a)) (children (tree_at ts b))) → Refuses (content_of ts e) (all_sides_at ts (ps ++ p ∷ []))
 refuse_heads ts e ps p a b l m ha hb ia ib two apart =
     refuse_pair ts e ps p
     (λ w z q. heads_apart (content_of ts e) w (tree_at ts a) (tree_at ts b) l m z ha.knows hb.knows ia ib (not_infer (tree_at ts a) l ia ha.no_variable) (not_infer (tree_at ts b) m ib hb.no_variable) two apart (sym (ha.worlds w z) ∙ q ∙ hb.worlds w z))

@@ -34,7 +34,7 @@ use Rattle.nts_unify.specs.Changing.{region_variable, is_free_region}
 use Rattle.nts_unify.specs.Joining.{IsOneClass, RegionsJoin}
 use Rattle.nts_relating.specs.Relating.{IsRegionOf, RegionsRelate}
 use Rattle.nts_unify.proofs.Leading.{IsRoot-content, Reaches-leads}
-use Rattle.nts_unify.proofs.Keeping.{Keeps-refl, Keeps-with_constraint}
+use Rattle.nts_unify.proofs.Keeping.{KeepsKnowing-refl, KeepsKnowing-with_constraint}
 use Rattle.nts_relating.proofs.HeadLemmas.{region_label, variable_node}
 
 -- a node that is no bound region
@@ -109,7 +109,7 @@ pub regions_same : (c : Content) (a b : Tree) (x y r s : ℕ) → IsSound c → 
 regions_same c a b x y r s h va vb same =
     let one : AreOne c a b = rw (va.is, vb.is) (regions-one c x y (va.root ∙ same ∙ sym vb.root)) in
     record {
-      keeps = Keeps-refl c;
+      keeps = KeepsKnowing-refl c;
       continues = Continues-refl c h;
       narrows = record {
         sound = λ w z. (z, inst-is w c a x r va z ∙ ap w.tree same ∙ sym (inst-is w c b y s vb z));
@@ -178,7 +178,7 @@ regions_recorded ts e f x h left right equal visible q =
     let d = with_constraint c (recorded_of ts x) in
     let held = HoldsEqual-recorded d (recorded_of ts x) equal (HoldsConstraint-with_constraint c (recorded_of ts x)) in
     rw is (record {
-      keeps = Keeps-with_constraint c (recorded_of ts x) (record { visible = visible; left = region_closed 0 a left.free; right = region_closed 0 b right.free });
+      keeps = KeepsKnowing-with_constraint c (recorded_of ts x) (record { visible = visible; left = region_closed 0 a left.free; right = region_closed 0 b right.free });
       continues = Continues-with_constraint c (recorded_of ts x) h.sound;
       narrows = record {
         sound = λ w z. (let p = Solves-from_with_constraint c (recorded_of ts x) w z in (p.0, rw equal at p.1));

@@ -16,27 +16,27 @@ use Rattle.nts_model.proofs.Tables.Alike.{AreAlike-continues}
 use Rattle.nts_model.proofs.Tables.Resolved.{Knows-row_at, flag_le}
 use Rattle.nts_model.proofs.Responses.Bringing.{passes-before, passes-row_at, passes-children}
 use Rattle.nts_model.proofs.Tables.Slots.{field_below}
-use Rattle.nts_unify.specs.Changing.{Keeps}
-use Rattle.nts_relating.specs.Parts.{IsValueOf, IsMadeAgain, WalkGrows, IsPartOf, inner}
+use Rattle.nts_unify.specs.Changing.{KeepsKnowing}
+use Rattle.nts_relating.specs.Parts.{IsVariableValue, IsGeneralizedNode, WalkGrows, IsPartOf, inner}
 use Rattle.nts_relating.specs.Relating.{Generalized, Blocks}
-use Rattle.nts_unify.proofs.Keeping.{Knows-later, Keeps-refl, Keeps-trans}
+use Rattle.nts_unify.proofs.Keeping.{Knows-later, KeepsKnowing-refl, KeepsKnowing-trans}
 use Rattle.nts_relating.proofs.GenLemmas.{IsFair, unchanged, named_for}
 use Rattle.nts_relating.proofs.PairLemmas.{Knows-children}
 use Rattle.nts_relating.proofs.RefusalLemmas.{closed_at, size_at, flag_one}
 
 -- the values that a table has stay
-values_kept : {c d : Content} → IsSound c → Keeps c d → (n : ℕ) (t : Tree) → state_of c n ≡ Some (known t) → state_of d n ≡ Some (known t)
+values_kept : {c d : Content} → IsSound c → KeepsKnowing c d → (n : ℕ) (t : Tree) → state_of c n ≡ Some (known t) → state_of d n ≡ Some (known t)
 values_kept {c} {d} s k n t e = k.states n (field_below (λ z. z.state) c n (known t) e) (λ r. (s.fits n t kind.Region e r).1 refl) ∙ e
 
 -- growing
 pub WalkGrows-refl : (c : Content) (x u : ℕ) (t : Tree) → IsSound c → WalkGrows c c x u t
 WalkGrows-refl c x u t s =
-    record { keeps = Keeps-refl c; continues = Continues-refl c s; own = refl; labels = λ P v p q. p; labels_before = λ P p. p; sound = λ w z. z; complete = λ w z q. unchanged c w z }
+    record { keeps = KeepsKnowing-refl c; continues = Continues-refl c s; own = refl; labels = λ P v p q. p; labels_before = λ P p. p; sound = λ w z. z; complete = λ w z q. unchanged c w z }
 
 pub WalkGrows-trans : {c d e : Content} {x u : ℕ} {t : Tree} → IsSound c → Knows c t → WalkGrows c d x u t → WalkGrows d e x u t → WalkGrows c e x u t
 WalkGrows-trans {c} {d} {e} {x} {u} {t} s k g h =
     record {
-      keeps = Keeps-trans g.keeps h.keeps;
+      keeps = KeepsKnowing-trans g.keeps h.keeps;
       continues = Continues-trans c d e s g.continues h.continues;
       own = h.own ∙ g.own;
       labels = λ P v p q. h.labels P v (g.labels P v p q) q;
@@ -64,7 +64,7 @@ named_child f w u (more a b) zero h k = k.0
 named_child f w u (more a b) (suc i) h k = named_child f w u b i (omega arith) k.1
 named_child f w u (node l c) i h k = absurd (omega arith)
 
-pub part_child : {c : Content} {u n b i : ℕ} {whole t a : Tree} → IsPartOf c u n whole b t → IsMadeAgain u b t → i < row_length (children t) → a ≡ row_at (children t) i → IsPartOf c u n whole (inner b t) a
+pub part_child : {c : Content} {u n b i : ℕ} {whole t a : Tree} → IsPartOf c u n whole b t → IsGeneralizedNode u b t → i < row_length (children t) → a ≡ row_at (children t) i → IsPartOf c u n whole (inner b t) a
 part_child {c} {u} {n} {b} {i} {whole} {t} {a} p m less is =
     let l = m.label in
     let r = children t in
@@ -82,7 +82,7 @@ part_child {c} {u} {n} {b} {i} {whole} {t} {a} p m less is =
       smaller = λ w z. (let s = p.smaller w z in omega (arith, s, size_at w r i less, ap size (at w), flag_le (row_at r i)));
     })
 
-pub part_value : {c : Content} {u n b : ℕ} {whole t v : Tree} → IsPartOf c u n whole b t → IsValueOf c t v → IsPartOf c u n whole 0 v
+pub part_value : {c : Content} {u n b : ℕ} {whole t v : Tree} → IsPartOf c u n whole b t → IsVariableValue c t v → IsPartOf c u n whole 0 v
 part_value {c} {u} {n} {b} {whole} {t} {v} p h =
     record {
       knows = h.knows;
@@ -102,7 +102,7 @@ part_later {c} {d} {x} {u} {n} {b} {whole} {t} g p =
       smaller = λ w z. p.smaller w (g.sound w z);
     }
 
-pub value_later : {c d : Content} {x u : ℕ} {whole t v : Tree} → WalkGrows c d x u whole → Knows c t → IsValueOf c t v → IsValueOf d t v
+pub value_later : {c d : Content} {x u : ℕ} {whole t v : Tree} → WalkGrows c d x u whole → Knows c t → IsVariableValue c t v → IsVariableValue d t v
 value_later {c} {d} {x} {u} {whole} {t} {v} g k h =
     record {
       infer = h.infer;
@@ -149,7 +149,7 @@ grows_by {c} {d} s p g =
 pub stands_now : {c d : Content} {x u b : ℕ} {t r : Tree} → IsSound c → IsSound d → Knows c t → Generalized c d x u b t r → Generalized d d x u b t r
 stands_now {c} {d} {x} {u} {b} {t} {r} before s k g =
     record {
-      keeps = Keeps-refl d;
+      keeps = KeepsKnowing-refl d;
       knows = g.knows;
       rank = g.rank;
       fits = g.fits;
@@ -173,7 +173,7 @@ pub stands_later : {c d : Content} {x u b : ℕ} {whole t r : Tree} → IsFair c
 stands_later {c} {d} {x} {u} {b} {whole} {t} {r} fair s k h g =
     let old : resolved d r ≡ resolved c r = h.keeps.trees r g.knows in
     record {
-      keeps = Keeps-refl d;
+      keeps = KeepsKnowing-refl d;
       knows = Knows-later r h.keeps.later g.knows;
       rank = g.rank;
       fits = g.fits;

@@ -17,13 +17,13 @@ use Rattle.nts_relating.specs.declared.value_walk.Task.TheVariants as task
 use Rattle.nts_relating.specs.contracts.value_walk.PartPartialEq.TheImpl as part_eq
 use Rattle.nts_unify.specs.Entries.{Entries}
 use Rattle.nts_unify.specs.Reading.{content_of}
-use Rattle.nts_relating.specs.Parts.{IsValueOf, IsMadeAgain, WalkGrows, IsPart, part_of, IsTask, AreTasks, IsPending, Has, IsCovered, inner, IsReady, AreReady, weight, weights, IsChild, AreChildren, IsEntered}
+use Rattle.nts_relating.specs.Parts.{IsVariableValue, IsGeneralizedNode, WalkGrows, IsGeneralizingPart, part_of, IsGeneralizingTask, AreGeneralizingTasks, IsPending, Has, IsCovered, inner, IsTaskReady, AreTasksReady, task_weight, task_weights, IsChild, AreChildren, IsEntered}
 use Rattle.nts_relating.specs.Knowing.{row_from}
 use Rattle.nts_relating.proofs.Looking.{row_from-step}
 use Rattle.nts_relating.proofs.HeadLemmas.{HeadKnown}
 use Rattle.nts_relating.proofs.ValueParts.{part_child, part_later, value_later}
 
-pub value_of : (ts : List Tree) (e : Entries) (t : Tree) (v : NodeId) → HeadKnown ts e t v → IsValueOf (content_of ts e) t (tree_at ts v)
+pub value_of : (ts : List Tree) (e : Entries) (t : Tree) (v : NodeId) → HeadKnown ts e t v → IsVariableValue (content_of ts e) t (tree_at ts v)
 value_of ts e t v k =
     record {
       infer = k.infer;
@@ -65,17 +65,17 @@ Has-more {m} {n} {p} {r} h q k =
     ⊎_elim (λ (same : q ≡ p). (r, ap n same ∙ h.own)) (λ (e : n q ≡ m q). (k.0, e ∙ k.1)) (h.others q)
 
 -- lists of tasks
-pub AreTasks-front : (ts : List Tree) (c : Content) (u : ℕ) (root : Part) (xs : List Task) (x : Task) → AreTasks ts c u root (xs ++ x ∷ []) → AreTasks ts c u root xs × IsTask ts c u root x
-AreTasks-front ts c u root [] x h = (tt, h.0)
-AreTasks-front ts c u root (y ∷ xs) x h = let r = AreTasks-front ts c u root xs x h.1 in ((h.0, r.0), r.1)
+pub AreGeneralizingTasks-front : (ts : List Tree) (c : Content) (u : ℕ) (root : Part) (xs : List Task) (x : Task) → AreGeneralizingTasks ts c u root (xs ++ x ∷ []) → AreGeneralizingTasks ts c u root xs × IsGeneralizingTask ts c u root x
+AreGeneralizingTasks-front ts c u root [] x h = (tt, h.0)
+AreGeneralizingTasks-front ts c u root (y ∷ xs) x h = let r = AreGeneralizingTasks-front ts c u root xs x h.1 in ((h.0, r.0), r.1)
 
-pub AreTasks-append : (ts : List Tree) (c : Content) (u : ℕ) (root : Part) (xs ys : List Task) → AreTasks ts c u root xs → AreTasks ts c u root ys → AreTasks ts c u root (xs ++ ys)
-AreTasks-append ts c u root [] ys h k = k
-AreTasks-append ts c u root (x ∷ xs) ys h k = (h.0, AreTasks-append ts c u root xs ys h.1 k)
+pub AreGeneralizingTasks-append : (ts : List Tree) (c : Content) (u : ℕ) (root : Part) (xs ys : List Task) → AreGeneralizingTasks ts c u root xs → AreGeneralizingTasks ts c u root ys → AreGeneralizingTasks ts c u root (xs ++ ys)
+AreGeneralizingTasks-append ts c u root [] ys h k = k
+AreGeneralizingTasks-append ts c u root (x ∷ xs) ys h k = (h.0, AreGeneralizingTasks-append ts c u root xs ys h.1 k)
 
-pub weights-append : (ts : List Tree) (c : Content) (xs ys : List Task) → weights ts c (xs ++ ys) ≡ weights ts c xs + weights ts c ys
-weights-append ts c [] ys = omega arith
-weights-append ts c (x ∷ xs) ys = omega (arith, weights-append ts c xs ys)
+pub task_weights-append : (ts : List Tree) (c : Content) (xs ys : List Task) → task_weights ts c (xs ++ ys) ≡ task_weights ts c xs + task_weights ts c ys
+task_weights-append ts c [] ys = omega arith
+task_weights-append ts c (x ∷ xs) ys = omega (arith, task_weights-append ts c xs ys)
 
 IsPending-split : (xs ys : List Task) (p : Part) → IsPending (xs ++ ys) p → IsPending xs p ⊎ IsPending ys p
 IsPending-split [] ys p h = inr h
@@ -107,22 +107,22 @@ covers_put m x y zs e xs q (inl k) = inl k
 covers_put m x y zs e xs q (inr k) =
     ⊎_elim (λ w. inr (IsPending-left xs (y ∷ zs) q w)) (λ w. ⊎_elim (λ (s : part_of x ≡ q). inr (IsPending-right xs (y ∷ zs) q (inl (sym e ∙ s)))) (λ z. absurd z) w) (IsPending-split xs (x ∷ []) q k)
 
-ready_covers : (ts : List Tree) (m n : Part → Option NodeId) (xs ys : List Task) (x : Task) → Covers m xs n ys → IsReady ts m xs x → IsReady ts n ys x
+ready_covers : (ts : List Tree) (m n : Part → Option NodeId) (xs ys : List Task) (x : Task) → Covers m xs n ys → IsTaskReady ts m xs x → IsTaskReady ts n ys x
 ready_covers ts m n xs ys (task.Enter p) h k = tt
 ready_covers ts m n xs ys (task.Build p) h k =
     λ i less. (let c = k i less in record { child = c.child; within = c.within; tree = c.tree; covered = h (record { term = c.child; binders = inner p.binders (tree_at ts p.term) }) c.covered })
 ready_covers ts m n xs ys (task.Pass p v) h k = h (record { term = v; binders = 0 }) k
 
-pub ready_front : (ts : List Tree) (m n : Part → Option NodeId) (x : Task) (zs : List Task) → ((xs : List Task) → Covers m (xs ++ x ∷ []) n (xs ++ zs)) → AreReady ts n zs → (xs : List Task) → AreReady ts m (xs ++ x ∷ []) → AreReady ts n (xs ++ zs)
+pub ready_front : (ts : List Tree) (m n : Part → Option NodeId) (x : Task) (zs : List Task) → ((xs : List Task) → Covers m (xs ++ x ∷ []) n (xs ++ zs)) → AreTasksReady ts n zs → (xs : List Task) → AreTasksReady ts m (xs ++ x ∷ []) → AreTasksReady ts n (xs ++ zs)
 ready_front ts m n x zs h k [] r = k
 ready_front ts m n x zs h k (y ∷ xs) r = (ready_covers ts m n (xs ++ x ∷ []) (xs ++ zs) y (h xs) r.0, ready_front ts m n x zs h k xs r.1)
 
-pub ready_last : (ts : List Tree) (m : Part → Option NodeId) (x : Task) (xs : List Task) → AreReady ts m (xs ++ x ∷ []) → IsReady ts m [] x
+pub ready_last : (ts : List Tree) (m : Part → Option NodeId) (x : Task) (xs : List Task) → AreTasksReady ts m (xs ++ x ∷ []) → IsTaskReady ts m [] x
 ready_last ts m x [] r = r.0
 ready_last ts m x (y ∷ xs) r = ready_last ts m x xs r.1
 
 -- a store and a table that grow
-later_part : {ts us : List Tree} {c d : Content} {x u : ℕ} {root p : Part} → Extends ts us → IsIn ts root.term → WalkGrows c d x u (tree_at ts root.term) → IsPart ts c u root p → IsPart us d u root p
+later_part : {ts us : List Tree} {c d : Content} {x u : ℕ} {root p : Part} → Extends ts us → IsIn ts root.term → WalkGrows c d x u (tree_at ts root.term) → IsGeneralizingPart ts c u root p → IsGeneralizingPart us d u root p
 later_part {ts} {us} {c} {d} {x} {u} {root} {p} e i g h =
     record {
       within = IsIn-extended e p.term h.within;
@@ -130,7 +130,7 @@ later_part {ts} {us} {c} {d} {x} {u} {root} {p} e i g h =
       part = rw (e.kept p.term h.within, e.kept root.term i) (part_later g h.part);
     }
 
-later_task : {ts us : List Tree} {c d : Content} {x u : ℕ} (root : Part) → Extends ts us → IsIn ts root.term → WalkGrows c d x u (tree_at ts root.term) → (y : Task) → IsTask ts c u root y → IsTask us d u root y
+later_task : {ts us : List Tree} {c d : Content} {x u : ℕ} (root : Part) → Extends ts us → IsIn ts root.term → WalkGrows c d x u (tree_at ts root.term) → (y : Task) → IsGeneralizingTask ts c u root y → IsGeneralizingTask us d u root y
 later_task root e i g (task.Enter p) h = later_part e i g h
 later_task root e i g (task.Build p) h = (later_part e i g h.0, rw (e.kept p.term h.0.within) h.1)
 later_task root e i g (task.Pass p v) h = (
@@ -139,22 +139,22 @@ later_task root e i g (task.Pass p v) h = (
   rw (e.kept p.term h.0.within, e.kept v h.1) (value_later g h.0.part.knows h.2),
 )
 
-pub later_tasks : {ts us : List Tree} {c d : Content} {x u : ℕ} (root : Part) → Extends ts us → IsIn ts root.term → WalkGrows c d x u (tree_at ts root.term) → (xs : List Task) → AreTasks ts c u root xs → AreTasks us d u root xs
+pub later_tasks : {ts us : List Tree} {c d : Content} {x u : ℕ} (root : Part) → Extends ts us → IsIn ts root.term → WalkGrows c d x u (tree_at ts root.term) → (xs : List Task) → AreGeneralizingTasks ts c u root xs → AreGeneralizingTasks us d u root xs
 later_tasks root e i g [] h = tt
 later_tasks root e i g (y ∷ xs) h = (later_task root e i g y h.0, later_tasks root e i g xs h.1)
 
-later_one : {ts us : List Tree} (c : Content) (u : ℕ) (root : Part) → Extends ts us → (m : Part → Option NodeId) (above : List Task) (y : Task) → IsTask ts c u root y → IsReady ts m above y → IsReady us m above y
+later_one : {ts us : List Tree} (c : Content) (u : ℕ) (root : Part) → Extends ts us → (m : Part → Option NodeId) (above : List Task) (y : Task) → IsGeneralizingTask ts c u root y → IsTaskReady ts m above y → IsTaskReady us m above y
 later_one c u root e m above (task.Enter p) h k = tt
 later_one {ts} {us} c u root e m above (task.Build p) h k =
     let same = e.kept p.term h.0.within in
     rw same (λ i less. (let c = k i less in record { child = c.child; within = IsIn-extended e c.child c.within; tree = e.kept c.child c.within ∙ c.tree; covered = c.covered }))
 later_one c u root e m above (task.Pass p v) h k = k
 
-pub later_ready : {ts us : List Tree} (c : Content) (u : ℕ) (root : Part) → Extends ts us → (m : Part → Option NodeId) (xs : List Task) → AreTasks ts c u root xs → AreReady ts m xs → AreReady us m xs
+pub later_ready : {ts us : List Tree} (c : Content) (u : ℕ) (root : Part) → Extends ts us → (m : Part → Option NodeId) (xs : List Task) → AreGeneralizingTasks ts c u root xs → AreTasksReady ts m xs → AreTasksReady us m xs
 later_ready c u root e m [] h k = tt
 later_ready c u root e m (y ∷ xs) h k = (later_one c u root e m xs y h.0 k.0, later_ready c u root e m xs h.1 k.1)
 
-later_weight : {ts us : List Tree} {c d : Content} {x u : ℕ} {whole : Tree} (root : Part) → Extends ts us → WalkGrows c d x u whole → (y : Task) → IsTask ts c u root y → weight us d y ≡ weight ts c y
+later_weight : {ts us : List Tree} {c d : Content} {x u : ℕ} {whole : Tree} (root : Part) → Extends ts us → WalkGrows c d x u whole → (y : Task) → IsGeneralizingTask ts c u root y → task_weight us d y ≡ task_weight ts c y
 later_weight {ts} {us} {c} {d} root e g (task.Enter p) h =
     let tree = e.kept p.term h.within in
     let kept : resolved d (tree_at ts p.term) ≡ resolved c (tree_at ts p.term) = g.keeps.trees (tree_at ts p.term) h.part.knows in
@@ -162,12 +162,12 @@ later_weight {ts} {us} {c} {d} root e g (task.Enter p) h =
 later_weight root e g (task.Build p) h = refl
 later_weight root e g (task.Pass p v) h = refl
 
-pub later_weights : {ts us : List Tree} {c d : Content} {x u : ℕ} {whole : Tree} (root : Part) → Extends ts us → WalkGrows c d x u whole → (xs : List Task) → AreTasks ts c u root xs → weights us d xs ≡ weights ts c xs
+pub later_weights : {ts us : List Tree} {c d : Content} {x u : ℕ} {whole : Tree} (root : Part) → Extends ts us → WalkGrows c d x u whole → (xs : List Task) → AreGeneralizingTasks ts c u root xs → task_weights us d xs ≡ task_weights ts c xs
 later_weights root e g [] h = refl
 later_weights root e g (y ∷ xs) h = omega (arith, later_weight root e g y h.0, later_weights root e g xs h.1)
 
 -- the children of a node
-pub children_tasks : (ts : List Tree) (c : Content) (u : ℕ) (root p : Part) → IsPart ts c u root p → IsMadeAgain u p.binders (tree_at ts p.term) → inner p.binders (tree_at ts p.term) ≤ p.binders + 1 → (xs : List Task) → AreChildren ts (children (tree_at ts p.term)) (inner p.binders (tree_at ts p.term)) p.term.number xs → AreTasks ts c u root xs
+pub children_tasks : (ts : List Tree) (c : Content) (u : ℕ) (root p : Part) → IsGeneralizingPart ts c u root p → IsGeneralizedNode u p.binders (tree_at ts p.term) → inner p.binders (tree_at ts p.term) ≤ p.binders + 1 → (xs : List Task) → AreChildren ts (children (tree_at ts p.term)) (inner p.binders (tree_at ts p.term)) p.term.number xs → AreGeneralizingTasks ts c u root xs
 children_tasks ts c u root p h m few [] k = tt
 children_tasks ts c u root p h m few (task.Enter q ∷ xs) k =
     let here = k.0 in (
@@ -181,7 +181,7 @@ children_tasks ts c u root p h m few (task.Enter q ∷ xs) k =
 children_tasks ts c u root p h m few (task.Build q ∷ xs) k = absurd k
 children_tasks ts c u root p h m few (task.Pass q v ∷ xs) k = absurd k
 
-pub children_ready : (ts : List Tree) (m : Part → Option NodeId) (row : Tree) (b n : ℕ) (xs : List Task) → AreChildren ts row b n xs → AreReady ts m xs
+pub children_ready : (ts : List Tree) (m : Part → Option NodeId) (row : Tree) (b n : ℕ) (xs : List Task) → AreChildren ts row b n xs → AreTasksReady ts m xs
 children_ready ts m row b n [] k = tt
 children_ready ts m row b n (task.Enter q ∷ xs) k = (tt, children_ready ts m row b n xs k.1)
 children_ready ts m row b n (task.Build q ∷ xs) k = absurd k
@@ -213,7 +213,7 @@ entered_more ts row b n i j xs ys zs a inside h e less within before tree under 
       weight = λ c.
           let rest : resolved c (row_from (j + 1) row) ≡ resolved c (row_from i row) = ap (λ m. resolved c (row_from m row)) (sym e) in
           let split : resolved c (row_from j row) ≡ more (resolved c (row_at row j)) (resolved c (row_from (j + 1) row)) = ap (resolved c) step ∙ resolved-more c (row_at row j) (row_from (j + 1) row) in
-          omega (arith, weights-append ts c h.added (task.Enter q ∷ []), h.weight c, ap size rest, ap size split, ap (λ t. size (resolved c t)) tree, rank_le (tree_at ts a));
+          omega (arith, task_weights-append ts c h.added (task.Enter q ∷ []), h.weight c, ap size rest, ap size split, ap (λ t. size (resolved c t)) tree, rank_le (tree_at ts a));
     }
 
 pub some_of : (o : Option NodeId) → is_some o ≡ true → (r : NodeId) × (o ≡ Some r)

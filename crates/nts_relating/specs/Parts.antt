@@ -22,12 +22,12 @@ use Rattle.nts_relating.specs.declared.value_walk.Look.TheVariants as look
 use Rattle.nts_relating.specs.contracts.value_walk.PartPartialEq.TheImpl as part_eq
 use Rattle.nts_unify.specs.Entries.{Entries}
 use Rattle.nts_unify.specs.Reading.{content_of, IsLawful}
-use Rattle.nts_unify.specs.Changing.{Keeps, is_free_region}
+use Rattle.nts_unify.specs.Changing.{KeepsKnowing, is_free_region}
 use Rattle.nts_relating.specs.Knowing.{row_from}
 use Rattle.nts_relating.specs.Relating.{Generalized}
 
 -- a variable's value
-pub record IsValueOf (c : Content) (t v : Tree) : Type 0 where
+pub record IsVariableValue (c : Content) (t v : Tree) : Type 0 where
   pub infer : IsInfer t
   pub sort : NodeKind
   pub own_sort : kind_of t ≡ Some sort
@@ -40,7 +40,7 @@ pub record IsValueOf (c : Content) (t v : Tree) : Type 0 where
   pub worlds : (w : World) → Solves c w → inst w t ≡ inst w v
 
 -- a node that may stand in the value, over other children
-pub record IsMadeAgain (u b : ℕ) (t : Tree) : Type 0 where
+pub record IsGeneralizedNode (u b : ℕ) (t : Tree) : Type 0 where
   pub label : Label
   pub is : t ≡ node label (children t)
   pub alone : variable_of label ≡ None
@@ -49,14 +49,14 @@ pub record IsMadeAgain (u b : ℕ) (t : Tree) : Type 0 where
   pub below : IsBoundBelow b label
 
 -- what a look at a term finds
-abbrev pub IsLook : List Tree → List Tree → Entries → Entries → ℕ → ℕ → ℕ → NodeId → Look → Type 0
-IsLook ts us e f x u b t (look.Made r) = IsIn us r × Generalized (content_of ts e) (content_of us f) x u b (tree_at ts t) (tree_at us r)
-IsLook ts us e f x u b t (look.Value v) = (us ≡ ts) × (f ≡ e) × IsIn ts v × IsValueOf (content_of ts e) (tree_at ts t) (tree_at ts v)
-IsLook ts us e f x u b t look.Node = (us ≡ ts) × (f ≡ e) × IsMadeAgain u b (tree_at ts t)
+abbrev pub IsGeneralizingLook : List Tree → List Tree → Entries → Entries → ℕ → ℕ → ℕ → NodeId → Look → Type 0
+IsGeneralizingLook ts us e f x u b t (look.Made r) = IsIn us r × Generalized (content_of ts e) (content_of us f) x u b (tree_at ts t) (tree_at us r)
+IsGeneralizingLook ts us e f x u b t (look.Value v) = (us ≡ ts) × (f ≡ e) × IsIn ts v × IsVariableValue (content_of ts e) (tree_at ts t) (tree_at ts v)
+IsGeneralizingLook ts us e f x u b t look.Node = (us ≡ ts) × (f ≡ e) × IsGeneralizedNode u b (tree_at ts t)
 
 -- the table has grown by what the value of the variable x for the tree t needs
 pub record WalkGrows (c d : Content) (x u : ℕ) (t : Tree) : Type 0 where
-  pub keeps : Keeps c d
+  pub keeps : KeepsKnowing c d
   pub continues : Continues c d
   pub own : universe_of d x ≡ universe_of c x
   pub labels : (P : Label → Bool) → PassesVariables P → TablePasses P c → TreePasses P t → TablePasses P d
@@ -73,7 +73,7 @@ pub record IsPartOf (c : Content) (u n : ℕ) (whole : Tree) (b : ℕ) (t : Tree
   pub smaller : (w : World) → Solves c w → size (inst w t) + variable_flag t ≤ size (inst w whole) + variable_flag whole
 
 -- .. by their terms
-pub record IsPart (ts : List Tree) (c : Content) (u : ℕ) (root p : Part) : Type 0 where
+pub record IsGeneralizingPart (ts : List Tree) (c : Content) (u : ℕ) (root p : Part) : Type 0 where
   pub within : IsIn ts p.term
   pub room : p.binders + p.term.number < 2 ^ 64
   pub part : IsPartOf c u root.binders (tree_at ts root.term) p.binders (tree_at ts p.term)
@@ -84,14 +84,14 @@ part_of (task.Build p) = p
 part_of (task.Pass p v) = p
 
 -- what a task is for
-abbrev pub IsTask : List Tree → Content → ℕ → Part → Task → Type 0
-IsTask ts c u root (task.Enter p) = IsPart ts c u root p
-IsTask ts c u root (task.Build p) = IsPart ts c u root p × IsMadeAgain u p.binders (tree_at ts p.term)
-IsTask ts c u root (task.Pass p v) = IsPart ts c u root p × IsIn ts v × IsValueOf c (tree_at ts p.term) (tree_at ts v)
+abbrev pub IsGeneralizingTask : List Tree → Content → ℕ → Part → Task → Type 0
+IsGeneralizingTask ts c u root (task.Enter p) = IsGeneralizingPart ts c u root p
+IsGeneralizingTask ts c u root (task.Build p) = IsGeneralizingPart ts c u root p × IsGeneralizedNode u p.binders (tree_at ts p.term)
+IsGeneralizingTask ts c u root (task.Pass p v) = IsGeneralizingPart ts c u root p × IsIn ts v × IsVariableValue c (tree_at ts p.term) (tree_at ts v)
 
-abbrev pub AreTasks : List Tree → Content → ℕ → Part → List Task → Type 0
-AreTasks ts c u root [] = Unit {0}
-AreTasks ts c u root (x ∷ xs) = IsTask ts c u root x × AreTasks ts c u root xs
+abbrev pub AreGeneralizingTasks : List Tree → Content → ℕ → Part → List Task → Type 0
+AreGeneralizingTasks ts c u root [] = Unit {0}
+AreGeneralizingTasks ts c u root (x ∷ xs) = IsGeneralizingTask ts c u root x × AreGeneralizingTasks ts c u root xs
 
 -- one of the tasks is for the part
 abbrev pub IsPending : List Task → Part → Type 0
@@ -122,51 +122,51 @@ inner b (more s t) = b
 inner b (node l c) = b + binders l
 
 -- what a task stands on is found, or is to be found first
-abbrev pub IsReady : List Tree → (Part → Option NodeId) → List Task → Task → Type 0
-IsReady ts m xs (task.Enter p) = Unit {0}
-IsReady ts m xs (task.Build p) = (i : ℕ) → i < row_length (children (tree_at ts p.term)) → IsChildCovered ts m xs (children (tree_at ts p.term)) (inner p.binders (tree_at ts p.term)) i
-IsReady ts m xs (task.Pass p v) = IsCovered m xs (record { term = v; binders = 0 })
+abbrev pub IsTaskReady : List Tree → (Part → Option NodeId) → List Task → Task → Type 0
+IsTaskReady ts m xs (task.Enter p) = Unit {0}
+IsTaskReady ts m xs (task.Build p) = (i : ℕ) → i < row_length (children (tree_at ts p.term)) → IsChildCovered ts m xs (children (tree_at ts p.term)) (inner p.binders (tree_at ts p.term)) i
+IsTaskReady ts m xs (task.Pass p v) = IsCovered m xs (record { term = v; binders = 0 })
 
 -- the last is to be done first
-abbrev pub AreReady : List Tree → (Part → Option NodeId) → List Task → Type 0
-AreReady ts m [] = Unit {0}
-AreReady ts m (x ∷ xs) = IsReady ts m xs x × AreReady ts m xs
+abbrev pub AreTasksReady : List Tree → (Part → Option NodeId) → List Task → Type 0
+AreTasksReady ts m [] = Unit {0}
+AreTasksReady ts m (x ∷ xs) = IsTaskReady ts m xs x × AreTasksReady ts m xs
 
 -- a term stands for a part
-pub record IsMadeFor (ts : List Tree) (c : Content) (x u : ℕ) (p : Part) (r : NodeId) : Type 0 where
+pub record IsGeneralizedFor (ts : List Tree) (c : Content) (x u : ℕ) (p : Part) (r : NodeId) : Type 0 where
   pub within : IsIn ts p.term
   pub made_in : IsIn ts r
   pub knows : Knows c (tree_at ts p.term)
   pub stands : Generalized c c x u p.binders (tree_at ts p.term) (tree_at ts r)
 
 -- a walk under way: each task fits, what each stands on comes before it, and what was made stands for its part
-pub record IsWalk (ts : List Tree) (e : Entries) (x u : ℕ) (root : Part) (xs : List Task) (m : Part → Option NodeId) : Type 0 where
+pub record IsGeneralizingWalk (ts : List Tree) (e : Entries) (x u : ℕ) (root : Part) (xs : List Task) (m : Part → Option NodeId) : Type 0 where
   pub lawful : IsLawful ts e
   pub known : x < length e.variables
   pub named : u ≤ e.universe
   pub no_region : kind_at (content_of ts e) x ≢ Some kind.Region
   pub root_in : IsIn ts root.term
   pub root_known : Knows (content_of ts e) (tree_at ts root.term)
-  pub tasks : AreTasks ts (content_of ts e) u root xs
-  pub ready : AreReady ts m xs
-  pub made : (p : Part) (r : NodeId) → m p ≡ Some r → IsMadeFor ts (content_of ts e) x u p r
+  pub tasks : AreGeneralizingTasks ts (content_of ts e) u root xs
+  pub ready : AreTasksReady ts m xs
+  pub made : (p : Part) (r : NodeId) → m p ≡ Some r → IsGeneralizedFor ts (content_of ts e) x u p r
   pub whole : IsCovered m xs root
 
 -- for the measure
-abbrev pub weight : List Tree → Content → Task → ℕ
-weight ts c (task.Enter p) = 2 * left_to_resolve c (tree_at ts p.term) + 1
-weight ts c (task.Build p) = 1
-weight ts c (task.Pass p v) = 1
+abbrev pub task_weight : List Tree → Content → Task → ℕ
+task_weight ts c (task.Enter p) = 2 * left_to_resolve c (tree_at ts p.term) + 1
+task_weight ts c (task.Build p) = 1
+task_weight ts c (task.Pass p v) = 1
 
-abbrev pub weights : List Tree → Content → List Task → ℕ
-weights ts c [] = 0
-weights ts c (x ∷ xs) = weight ts c x + weights ts c xs
+abbrev pub task_weights : List Tree → Content → List Task → ℕ
+task_weights ts c [] = 0
+task_weights ts c (x ∷ xs) = task_weight ts c x + task_weights ts c xs
 
 -- a task was done, or what it stands on is left in its place
-pub record IsTurn (ts us : List Tree) (e f : Entries) (x u : ℕ) (root : Part) (xs ys : List Task) (m : Part → Option NodeId) : Type 0 where
-  pub walk : IsWalk us f x u root ys m
+pub record IsGeneralizingTurn (ts us : List Tree) (e f : Entries) (x u : ℕ) (root : Part) (xs ys : List Task) (m : Part → Option NodeId) : Type 0 where
+  pub walk : IsGeneralizingWalk us f x u root ys m
   pub grows : WalkGrows (content_of ts e) (content_of us f) x u (tree_at ts root.term)
-  pub less : weights us (content_of us f) ys < weights ts (content_of ts e) xs
+  pub less : task_weights us (content_of us f) ys < task_weights ts (content_of ts e) xs
 
 -- a part that is to be entered is a child of a node
 pub record IsChild (ts : List Tree) (row : Tree) (b n : ℕ) (p : Part) : Type 0 where
@@ -189,4 +189,4 @@ pub record IsEntered (ts : List Tree) (row : Tree) (b n i : ℕ) (xs ys : List T
   pub are : ys ≡ xs ++ added
   pub children : AreChildren ts row b n added
   pub each : (j : ℕ) → i ≤ j → j < row_length row → (c : NodeId) × IsIn ts c × (tree_at ts c ≡ row_at row j) × IsPending added (record { term = c; binders = b })
-  pub weight : (c : Content) → weights ts c added ≤ 6 * size (resolved c (row_from i row))
+  pub weight : (c : Content) → task_weights ts c added ≤ 6 * size (resolved c (row_from i row))

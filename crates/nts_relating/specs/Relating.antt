@@ -26,10 +26,10 @@ use Rattle.nts_relating.specs.declared.relate.Head.{Head}
 use Rattle.nts_relating.specs.declared.relate.Head.TheVariants.{Open, Closed}
 use Rattle.nts_unify.specs.Entries.{Entries}
 use Rattle.nts_unify.specs.Reading.{content_of, IsLawful}
-use Rattle.nts_unify.specs.Changing.{IsLater, Keeps, unset_count}
+use Rattle.nts_unify.specs.Changing.{IsLater, KeepsKnowing, unset_count}
 use Rattle.nts_unify.specs.Joining.{IsBindable, TakesVariable}
 use Rattle.nts_relating.specs.Knowing.{row_from}
-use Rattle.nts_relating.specs.Met.{Judge, judged_size, JudgesOne, OneBelow, AreOneAfter}
+use Rattle.nts_relating.specs.Met.{OnenessJudge, judged_size, JudgesOne, OneBelow, AreOneAfter}
 
 -- a list of trees of the same sorts
 abbrev pub IsLike : Tree → Tree → Type 0
@@ -43,7 +43,7 @@ abbrev pub StaysBelow : Option ℕ → ℕ → Type 0
 StaysBelow None n = Unit {0}
 StaysBelow (Some d) n = d < n
 
-pub record IsSettled (flags : TypeFlags) (binders : ℕ) : Type 0 where
+pub record IsSettledByFlags (flags : TypeFlags) (binders : ℕ) : Type 0 where
   pub no_infer : flags.has_infer ≡ false
   pub no_region_infer : flags.has_region_infer ≡ false
   pub no_placeholder : flags.has_placeholder ≡ false
@@ -52,7 +52,7 @@ pub record IsSettled (flags : TypeFlags) (binders : ℕ) : Type 0 where
 -- the tree r stands for t in the value of the variable x, which the universe u bounds, under b binders. No region beyond u is in r
 -- under the table's values; where none was in t, the two are one, and else they are one up to regions
 pub record Generalized (c d : Content) (x u b : ℕ) (t r : Tree) : Type 0 where
-  pub keeps : Keeps c d
+  pub keeps : KeepsKnowing c d
   pub knows : Knows d r
   pub rank : variable_rank r ≤ variable_rank t
   pub fits : (k : VariableKind) → k ≢ kind.Region → variable_rank t ≡ 0 → Fits k t → Fits k r
@@ -106,9 +106,9 @@ pub record IsClosedHead (c : Content) (t v : Tree) : Type 0 where
   pub same : resolved c t ≡ resolved c v
   pub worlds : (w : World) → Solves c w → inst w t ≡ inst w v
 
-abbrev pub IsHead : List Tree → Entries → Tree → Head → Type 0
-IsHead ts e t (Open n) = IsOpen ts e t n
-IsHead ts e t (Closed v) = IsIn ts v × IsClosedHead (content_of ts e) t (tree_at ts v)
+abbrev pub IsHeadOfTree : List Tree → Entries → Tree → Head → Type 0
+IsHeadOfTree ts e t (Open n) = IsOpen ts e t n
+IsHeadOfTree ts e t (Closed v) = IsIn ts v × IsClosedHead (content_of ts e) t (tree_at ts v)
 
 -- a free region of the store and the table
 pub record IsRegionOf (ts : List Tree) (e : Entries) (t : NodeId) : Type 0 where
@@ -119,7 +119,7 @@ pub record IsRegionOf (ts : List Tree) (e : Entries) (t : NodeId) : Type 0 where
 
 -- two regions made equal
 pub record RegionsRelate (c d : Content) (a b : Tree) : Type 0 where
-  pub keeps : Keeps c d
+  pub keeps : KeepsKnowing c d
   pub continues : Continues c d
   pub narrows : Narrows c d (λ w. inst w a ≡ inst w b)
   pub alike : AreAlike d a b
@@ -153,12 +153,12 @@ pub record IsSet (c d : Content) (x : ℕ) (t : Tree) : Type 0 where
   pub complete : (w : World) → Solves c w → w.tree x ≡ inst w t → Extension c d w
 
 -- two trees that are to be equal
-abbrev pub pair_at : List Tree → Pair → Tree × Tree
-pair_at ts p = (tree_at ts p.left, tree_at ts p.right)
+abbrev pub sides_at : List Tree → Pair → Tree × Tree
+sides_at ts p = (tree_at ts p.left, tree_at ts p.right)
 
-abbrev pub pairs_at : List Tree → List Pair → List (Tree × Tree)
-pairs_at ts [] = []
-pairs_at ts (p ∷ ps) = pair_at ts p ∷ pairs_at ts ps
+abbrev pub all_sides_at : List Tree → List Pair → List (Tree × Tree)
+all_sides_at ts [] = []
+all_sides_at ts (p ∷ ps) = sides_at ts p ∷ all_sides_at ts ps
 
 abbrev pub ArePairsIn : List Tree → List Pair → Type 0
 ArePairsIn ts [] = Unit {0}
@@ -180,24 +180,24 @@ total c (p ∷ ps) = size (resolved c p.0) + size (resolved c p.1) + 1 + total c
 -- the pairs of the children from the i-th on stand at the end, the first ones last
 pub record Pushed (ts : List Tree) (ps qs : List Pair) (a b : Tree) (i : ℕ) : Type 0 where
   pub within : ArePairsIn ts ps → ArePairsIn ts qs
-  pub known : (c : Content) → Knows c a → Knows c b → AreKnown c (pairs_at ts ps) → AreKnown c (pairs_at ts qs)
-  pub sound : (w : World) → Equates w (pairs_at ts qs) → Equates w (pairs_at ts ps) × (inst w (row_from i a) ≡ inst w (row_from i b))
-  pub complete : (w : World) → Equates w (pairs_at ts ps) → inst w (row_from i a) ≡ inst w (row_from i b) → Equates w (pairs_at ts qs)
-  pub alike : (c : Content) → AllAlike c (pairs_at ts qs) → AllAlike c (pairs_at ts ps) × AreAlike c (row_from i a) (row_from i b)
-  pub weight : (c : Content) → total c (pairs_at ts qs) + row_length (row_from i a) ≡ total c (pairs_at ts ps) + size (resolved c (row_from i a)) + size (resolved c (row_from i b))
-  pub labels : (P : Label → Bool) → TreePasses P a → TreePasses P b → PairsPass P (pairs_at ts ps) → PairsPass P (pairs_at ts qs)
-  pub plain : (c : Content) → IsPlainIn c a → IsPlainIn c b → PairsArePlain c (pairs_at ts ps) → PairsArePlain c (pairs_at ts qs)
-  pub below : (j : Judge) (n : ℕ) → OneBelow j n (pairs_at ts qs) → OneBelow j n (pairs_at ts ps) × (judged_size j (row_from i a) ≤ n → JudgesOne j (row_from i a) (row_from i b))
+  pub known : (c : Content) → Knows c a → Knows c b → AreKnown c (all_sides_at ts ps) → AreKnown c (all_sides_at ts qs)
+  pub sound : (w : World) → Equates w (all_sides_at ts qs) → Equates w (all_sides_at ts ps) × (inst w (row_from i a) ≡ inst w (row_from i b))
+  pub complete : (w : World) → Equates w (all_sides_at ts ps) → inst w (row_from i a) ≡ inst w (row_from i b) → Equates w (all_sides_at ts qs)
+  pub alike : (c : Content) → AllAlike c (all_sides_at ts qs) → AllAlike c (all_sides_at ts ps) × AreAlike c (row_from i a) (row_from i b)
+  pub weight : (c : Content) → total c (all_sides_at ts qs) + row_length (row_from i a) ≡ total c (all_sides_at ts ps) + size (resolved c (row_from i a)) + size (resolved c (row_from i b))
+  pub labels : (P : Label → Bool) → TreePasses P a → TreePasses P b → PairsPass P (all_sides_at ts ps) → PairsPass P (all_sides_at ts qs)
+  pub plain : (c : Content) → IsPlainIn c a → IsPlainIn c b → PairsArePlain c (all_sides_at ts ps) → PairsArePlain c (all_sides_at ts qs)
+  pub below : (j : OnenessJudge) (n : ℕ) → OneBelow j n (all_sides_at ts qs) → OneBelow j n (all_sides_at ts ps) × (judged_size j (row_from i a) ≤ n → JudgesOne j (row_from i a) (row_from i b))
 
 pub record IsValid (ts : List Tree) (e : Entries) (ps : List Pair) : Type 0 where
   pub lawful : IsLawful ts e
   pub within : ArePairsIn ts ps
-  pub known : AreKnown (content_of ts e) (pairs_at ts ps)
+  pub known : AreKnown (content_of ts e) (all_sides_at ts ps)
 
 -- each pair that was met is one where the smaller ones of the pairs left are
 pub record IsMemo (ts : List Tree) (e : Entries) (ps ms : List Pair) : Type 0 where
   pub within : ArePairsIn ts ms
-  pub met : AreOneAfter (content_of ts e) (pairs_at ts ps) (pairs_at ts ms)
+  pub met : AreOneAfter (content_of ts e) (all_sides_at ts ps) (all_sides_at ts ms)
 
 -- two variables are one: they were joined, or one got the other as its value. No tree has more closed aliases, or fewer
 pub record AreMadeOne (c d : Content) (x y : ℕ) : Type 0 where

@@ -10,7 +10,7 @@ ghost use Rattle.nts_unify.specs.Entries.{Entries};
 ghost use Rattle.nts_unify.specs.Reading.{content_of, IsLawful, LinksDescend};
 ghost use Rattle.nts_unify.specs.Changing.{region_variable, is_free_region, IsLater};
 ghost use Rattle.nts_unify.specs.Joining.{IsBindable};
-ghost use Rattle.nts_relating.specs.Relating.{IsHead, IsClosedHead, IsRegionOf, RegionsRelate, IsSet, Forbids, KeepsApart, AreMadeOne, VariablesRelate, CanTake, IsValid, IsPairStep, IsPairRun, PairsBring, IsMemo, IsPlainIn, KeepsPlain, Pushed, pairs_at};
+ghost use Rattle.nts_relating.specs.Relating.{IsHeadOfTree, IsClosedHead, IsRegionOf, RegionsRelate, IsSet, Forbids, KeepsApart, AreMadeOne, VariablesRelate, CanTake, IsValid, IsPairStep, IsPairRun, PairsBring, IsMemo, IsPlainIn, KeepsPlain, Pushed, all_sides_at};
 ghost use Rattle.nts_store.specs.declared.fault.EvalError.TheVariants.{NoSolution};
 ghost use Rattle.nts_unify.specs.Entries.{KeepsHidden};
 
@@ -49,7 +49,7 @@ pub fn head_of(nodes: &Nodes, table: &InferCtxtInner, t: NodeId) -> Head
     requires within { IsIn nodes.now t }
     requires knows { Knows (content_of nodes.now table.now.entries) (tree_at nodes.now t) }
     requires lawful { IsLawful nodes.now table.now.entries }
-    ensures { IsHead nodes.now table.now.entries (tree_at nodes.now t) result }
+    ensures { IsHeadOfTree nodes.now table.now.entries (tree_at nodes.now t) result }
 {
     let Some(n) = infer_number(nodes.label(t)) else {
         return Head::Closed(t);
@@ -270,8 +270,8 @@ fn relate_heads(
     ensures changes { KeepsHidden table.old table.new }
     ensures valid { OnOk result (IsValid nodes.now table.new.entries pairs.new.items) }
     ensures memo { OnOk result (IsMemo nodes.now table.new.entries pairs.new.items met.new.keys) }
-    ensures step { OnOk result (IsPairStep (content_of nodes.now table.old.entries) (content_of nodes.now table.new.entries) (pairs_at nodes.now (pairs.old.items ++ pair ∷ [])) (pairs_at nodes.now pairs.new.items) false) }
-    ensures no { result ≡ Err NoSolution → Refuses (content_of nodes.now table.old.entries) (pairs_at nodes.now (pairs.old.items ++ pair ∷ [])) }
+    ensures step { OnOk result (IsPairStep (content_of nodes.now table.old.entries) (content_of nodes.now table.new.entries) (all_sides_at nodes.now (pairs.old.items ++ pair ∷ [])) (all_sides_at nodes.now pairs.new.items) false) }
+    ensures no { result ≡ Err NoSolution → Refuses (content_of nodes.now table.old.entries) (all_sides_at nodes.now (pairs.old.items ++ pair ∷ [])) }
     ensures full { result ≢ Err EvalError.Full }
 {
     if a.number == b.number {
@@ -315,8 +315,8 @@ fn step(
     ensures changes { KeepsHidden table.old table.new }
     ensures valid { OnOk result (IsValid nodes.new table.new.entries pairs.new.items) }
     ensures memo { OnOk result (IsMemo nodes.new table.new.entries pairs.new.items met.new.keys) }
-    ensures step { IfOk result (λ bound. IsPairStep (content_of nodes.old table.old.entries) (content_of nodes.new table.new.entries) (pairs_at nodes.old (pairs.old.items ++ pair ∷ [])) (pairs_at nodes.new pairs.new.items) bound) }
-    ensures no { result ≡ Err NoSolution → Refuses (content_of nodes.old table.old.entries) (pairs_at nodes.old (pairs.old.items ++ pair ∷ [])) }
+    ensures step { IfOk result (λ bound. IsPairStep (content_of nodes.old table.old.entries) (content_of nodes.new table.new.entries) (all_sides_at nodes.old (pairs.old.items ++ pair ∷ [])) (all_sides_at nodes.new pairs.new.items) bound) }
+    ensures no { result ≡ Err NoSolution → Refuses (content_of nodes.old table.old.entries) (all_sides_at nodes.old (pairs.old.items ++ pair ∷ [])) }
     ensures full { result ≢ Err EvalError.Full }
 {
     let left = head_of(nodes, table, pair.left);
@@ -356,8 +356,8 @@ fn run(
     ensures changes { KeepsHidden table.old table.new }
     ensures valid { OnOk result (IsValid nodes.new table.new.entries pairs.new.items) }
     ensures memo { OnOk result (IsMemo nodes.new table.new.entries pairs.new.items met.new.keys) }
-    ensures run { IfOk result (λ bound. IsPairRun (content_of nodes.old table.old.entries) (content_of nodes.new table.new.entries) (pairs_at nodes.old pairs.old.items) (pairs_at nodes.new pairs.new.items) bound) }
-    ensures no { result ≡ Err NoSolution → Refuses (content_of nodes.old table.old.entries) (pairs_at nodes.old pairs.old.items) }
+    ensures run { IfOk result (λ bound. IsPairRun (content_of nodes.old table.old.entries) (content_of nodes.new table.new.entries) (all_sides_at nodes.old pairs.old.items) (all_sides_at nodes.new pairs.new.items) bound) }
+    ensures no { result ≡ Err NoSolution → Refuses (content_of nodes.old table.old.entries) (all_sides_at nodes.old pairs.old.items) }
     ensures full { result ≢ Err EvalError.Full }
 {
     while let Some(pair) = pairs.pop() {
@@ -387,10 +387,10 @@ fn run_all(
     ensures changes { KeepsHidden table.old table.new }
     ensures lawful { OnOk result (IsLawful nodes.new table.new.entries) }
     ensures later { OnOk result (IsLater (content_of nodes.old table.old.entries) (content_of nodes.new table.new.entries)) }
-    ensures reduces { OnOk result (Reduces (content_of nodes.old table.old.entries) (content_of nodes.new table.new.entries) (pairs_at nodes.old pairs.old.items) []) }
-    ensures brings { OnOk result (PairsBring (content_of nodes.old table.old.entries) (content_of nodes.new table.new.entries) (pairs_at nodes.old pairs.old.items) []) }
+    ensures reduces { OnOk result (Reduces (content_of nodes.old table.old.entries) (content_of nodes.new table.new.entries) (all_sides_at nodes.old pairs.old.items) []) }
+    ensures brings { OnOk result (PairsBring (content_of nodes.old table.old.entries) (content_of nodes.new table.new.entries) (all_sides_at nodes.old pairs.old.items) []) }
     ensures ties { OnOk result (TiesNew (content_of nodes.old table.old.entries) (content_of nodes.new table.new.entries)) }
-    ensures no { result ≡ Err NoSolution → Refuses (content_of nodes.old table.old.entries) (pairs_at nodes.old pairs.old.items) }
+    ensures no { result ≡ Err NoSolution → Refuses (content_of nodes.old table.old.entries) (all_sides_at nodes.old pairs.old.items) }
     ensures full { result ≢ Err EvalError.Full }
 {
     loop {

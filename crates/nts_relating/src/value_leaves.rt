@@ -8,7 +8,7 @@ ghost use Rattle.nts_model.specs.Terms.Placeholders.{CanName};
 ghost use Rattle.nts_model.specs.Tables.Levels.{term_level, region_level};
 ghost use Rattle.nts_store.specs.Growth.{tree_at, IsIn, Extends};
 ghost use Rattle.nts_unify.specs.Reading.{content_of, IsLawful};
-ghost use Rattle.nts_relating.specs.Relating.{Generalized, IsOpen, IsRegionOf, IsSettled};
+ghost use Rattle.nts_relating.specs.Relating.{Generalized, IsOpen, IsRegionOf, IsSettledByFlags};
 ghost use Rattle.nts_unify.specs.Entries.{KeepsHidden};
 
 use indexmap::IndexSet;
@@ -29,7 +29,7 @@ pub struct Target {
 /// Whether a term is its own value: it has no variable and no placeholder, and no bound variable
 /// passes the binders.
 pub fn is_settled(flags: TypeFlags, binders: usize) -> bool
-    ensures { result ≡ true → IsSettled flags binders }
+    ensures { result ≡ true → IsSettledByFlags flags binders }
 {
     if flags.has_infer || flags.has_region_infer || flags.has_placeholder {
         return false;

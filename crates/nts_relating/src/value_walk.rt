@@ -8,7 +8,7 @@ ghost use Rattle.nts_store.specs.Growth.{tree_at, IsIn, Extends};
 ghost use Rattle.nts_relating.specs.declared.value_walk.Task.TheVariants as task;
 ghost use Rattle.nts_unify.specs.Reading.{content_of, IsLawful};
 ghost use Rattle.nts_relating.specs.Relating.{Generalized, Blocks};
-ghost use Rattle.nts_relating.specs.Parts.{IsLook, IsEntered, IsWalk, IsTurn, Has, made_at, inner};
+ghost use Rattle.nts_relating.specs.Parts.{IsGeneralizingLook, IsEntered, IsGeneralizingWalk, IsGeneralizingTurn, Has, made_at, inner};
 ghost use Rattle.nts_unify.specs.Entries.{KeepsHidden};
 
 use crate::value_leaves::{Target, is_allowed, is_settled, name_region, name_variable};
@@ -74,7 +74,7 @@ fn look_at(
     ensures extends { Extends nodes.old nodes.new }
     ensures changes { KeepsHidden table.old table.new }
     ensures lawful { OnOk result (IsLawful nodes.new table.new.entries) }
-    ensures look { IfOk result (IsLook nodes.old nodes.new table.old.entries table.new.entries target.variable target.universe target.binders t) }
+    ensures look { IfOk result (IsGeneralizingLook nodes.old nodes.new table.old.entries table.new.entries target.variable target.universe target.binders t) }
     ensures full { result ≢ Err EvalError.Full }
     ensures no { result ≡ Err EvalError.NoSolution → Blocks (content_of nodes.old table.old.entries) target.variable target.universe target.binders (tree_at nodes.old t) }
 {
@@ -132,11 +132,11 @@ fn enter(
     target: Target,
     part: Part,
 ) -> Result<(), EvalError>
-    requires walk { IsWalk nodes.old table.old.entries target.variable target.universe walk.old.root (walk.old.tasks.items ++ task.Enter part ∷ []) (made_at walk.old.made) }
+    requires walk { IsGeneralizingWalk nodes.old table.old.entries target.variable target.universe walk.old.root (walk.old.tasks.items ++ task.Enter part ∷ []) (made_at walk.old.made) }
     ensures extends { Extends nodes.old nodes.new }
     ensures changes { KeepsHidden table.old table.new }
     ensures root { walk.new.root ≡ walk.old.root }
-    ensures turn { OnOk result (IsTurn nodes.old nodes.new table.old.entries table.new.entries target.variable target.universe walk.old.root (walk.old.tasks.items ++ task.Enter part ∷ []) walk.new.tasks.items (made_at walk.new.made)) }
+    ensures turn { OnOk result (IsGeneralizingTurn nodes.old nodes.new table.old.entries table.new.entries target.variable target.universe walk.old.root (walk.old.tasks.items ++ task.Enter part ∷ []) walk.new.tasks.items (made_at walk.new.made)) }
     ensures full { result ≢ Err EvalError.Full }
     ensures no { result ≡ Err EvalError.NoSolution → Blocks (content_of nodes.old table.old.entries) target.variable target.universe walk.old.root.binders (tree_at nodes.old walk.old.root.term) }
 {
@@ -185,10 +185,10 @@ fn build(
     target: Target,
     part: Part,
 ) -> Result<(), EvalError>
-    requires walk { IsWalk nodes.old table.now.entries target.variable target.universe walk.old.root (walk.old.tasks.items ++ task.Build part ∷ []) (made_at walk.old.made) }
+    requires walk { IsGeneralizingWalk nodes.old table.now.entries target.variable target.universe walk.old.root (walk.old.tasks.items ++ task.Build part ∷ []) (made_at walk.old.made) }
     ensures extends { Extends nodes.old nodes.new }
     ensures root { walk.new.root ≡ walk.old.root }
-    ensures turn { OnOk result (IsTurn nodes.old nodes.new table.now.entries table.now.entries target.variable target.universe walk.old.root (walk.old.tasks.items ++ task.Build part ∷ []) walk.new.tasks.items (made_at walk.new.made)) }
+    ensures turn { OnOk result (IsGeneralizingTurn nodes.old nodes.new table.now.entries table.now.entries target.variable target.universe walk.old.root (walk.old.tasks.items ++ task.Build part ∷ []) walk.new.tasks.items (made_at walk.new.made)) }
     ensures full { result ≢ Err EvalError.Full }
     ensures no { result ≢ Err EvalError.NoSolution }
 {
@@ -215,11 +215,11 @@ fn step(
     target: Target,
     task: Task,
 ) -> Result<(), EvalError>
-    requires walk { IsWalk nodes.old table.old.entries target.variable target.universe walk.old.root (walk.old.tasks.items ++ task ∷ []) (made_at walk.old.made) }
+    requires walk { IsGeneralizingWalk nodes.old table.old.entries target.variable target.universe walk.old.root (walk.old.tasks.items ++ task ∷ []) (made_at walk.old.made) }
     ensures extends { Extends nodes.old nodes.new }
     ensures changes { KeepsHidden table.old table.new }
     ensures root { walk.new.root ≡ walk.old.root }
-    ensures turn { OnOk result (IsTurn nodes.old nodes.new table.old.entries table.new.entries target.variable target.universe walk.old.root (walk.old.tasks.items ++ task ∷ []) walk.new.tasks.items (made_at walk.new.made)) }
+    ensures turn { OnOk result (IsGeneralizingTurn nodes.old nodes.new table.old.entries table.new.entries target.variable target.universe walk.old.root (walk.old.tasks.items ++ task ∷ []) walk.new.tasks.items (made_at walk.new.made)) }
     ensures full { result ≢ Err EvalError.Full }
     ensures no { result ≡ Err EvalError.NoSolution → Blocks (content_of nodes.old table.old.entries) target.variable target.universe walk.old.root.binders (tree_at nodes.old walk.old.root.term) }
 {

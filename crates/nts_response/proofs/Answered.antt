@@ -43,9 +43,9 @@ use Rattle.nts_canonical.specs.Forms.{kind_of_var}
 use Rattle.nts_delegate.specs.Offered.{hidden_of}
 use Rattle.nts_response.specs.declared.types.Response.{Response}
 use Rattle.nts_response.specs.Forms.{HoldsResponse, recorded_at, premise_at, response_at}
-use Rattle.nts_response.specs.Replacing.{value_at}
+use Rattle.nts_response.specs.Replacing.{argument_value}
 use Rattle.nts_response.specs.Applied.{NamesOriginal}
-use Rattle.nts_response.specs.Applicable.{IsOverSorts, left_place, IsHiddenOver, IsGoalOver, IsKindFor, sorts_of, IsApplicable}
+use Rattle.nts_response.specs.Applicable.{IsOverSorts, left_place, IsHiddenOver, IsGoalOver, IsKindFor, response_sorts, IsApplicable}
 
 -- the left side of a table's constraint may stand there
 left_fits : (r : Relation) (t : Tree) → kind_of t ≡ Some (left_kind r) → FitsPlace (left_place r) (kind_of t)
@@ -128,7 +128,7 @@ module _ (ts : List Tree) (ks : List PositionKind) (os : List Tree) (q : Content
   kinds_are : map kind_of_var r.var_kinds.items ≡ answer_kinds q sub 0 own
   kinds_are = ap (λ (z : Form). z.kinds) is
 
-  sorts_are : sorts ≡ sorts_of r
+  sorts_are : sorts ≡ response_sorts r
   sorts_are = sym (sym (map-map sort_at kind_of_var r.var_kinds.items) ∙ ap (map sort_at) kinds_are ∙ answer_sorts q sub 0 own)
 
   -- each kind
@@ -142,7 +142,7 @@ module _ (ts : List Tree) (ks : List PositionKind) (os : List Tree) (q : Content
       }
 
   -- each value
-  values_are : map (value_at ts) r.value.var_values.items ≡ map (positioned own) x.values
+  values_are : map (argument_value ts) r.value.var_values.items ≡ map (positioned own) x.values
   values_are = ap (λ (z : Form). z.findings.values) is
 
   value_closed : (t : Tree) → Contains x.values t → IsClosed t
@@ -194,7 +194,7 @@ module _ (ts : List Tree) (ks : List PositionKind) (os : List Tree) (q : Content
         place = subst (FitsPlace (left_place z.relation)) (sym (positioned_kind own z.left)) (side_fits z at);
       })
 
-  node_over : (t : NodeId) → IsTreeOver sorts (tree_at ts t) → IsOverSorts ts (sorts_of r) t
+  node_over : (t : NodeId) → IsTreeOver sorts (tree_at ts t) → IsOverSorts ts (response_sorts r) t
   node_over t h = subst (λ ss. IsOverSorts ts ss t) sorts_are (record { names = h.names; leaves = h.leaves; closed = h.closed; well_bound = h.well_bound })
 
   many : length os ≡ length r.value.var_values.items
@@ -204,7 +204,7 @@ module _ (ts : List Tree) (ks : List PositionKind) (os : List Tree) (q : Content
       ∙ ap length (sym found.values)
       ∙ sym (length-map x.values (positioned own))
       ∙ ap length (sym values_are)
-      ∙ length-map r.value.var_values.items (value_at ts)
+      ∙ length-map r.value.var_values.items (argument_value ts)
 
   found_applicable : IsApplicable ts os r
   found_applicable =
@@ -213,14 +213,14 @@ module _ (ts : List Tree) (ks : List PositionKind) (os : List Tree) (q : Content
       record {
         holds = holds;
         kinds = each_view (IsKindFor r.max_universe os) kind_of_var r.var_kinds.items (answer_kinds q sub 0 own) kinds_are kind_for;
-        values = λ i d l. node_over (get_or r.value.var_values.items i d).node (each_view (IsTreeOver sorts) (value_at ts) r.value.var_values.items (map (positioned own) x.values) values_are value_over i d l);
+        values = λ i d l. node_over (get_or r.value.var_values.items i d).node (each_view (IsTreeOver sorts) (argument_value ts) r.value.var_values.items (map (positioned own) x.values) values_are value_over i d l);
         constraints = λ i d l.
             (let o = each_view IsOverThere (recorded_at ts) r.value.external_constraints.region_constraints.items (map (recorded_by (positioned own)) x.constraints) constraints_are constraint_over i d l in
             let here = holds.constraints i d l in
             let side = here.left in
             record { left = node_over _ o.left; right = node_over _ o.right; place = record { within = side.within; fits = o.place } });
-        hidden = none_viewed (IsHiddenOver ts (sorts_of r)) (hidden_of ts) r.value.external_constraints.opaque_types.items h;
-        open_goals = none_viewed (IsGoalOver ts (sorts_of r)) (premise_at ts) r.value.external_constraints.normalization_nested_goals.items g;
+        hidden = none_viewed (IsHiddenOver ts (response_sorts r)) (hidden_of ts) r.value.external_constraints.opaque_types.items h;
+        open_goals = none_viewed (IsGoalOver ts (response_sorts r)) (premise_at ts) r.value.external_constraints.normalization_nested_goals.items g;
         long = many;
       }
 

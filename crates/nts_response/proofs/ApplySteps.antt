@@ -34,10 +34,10 @@ use Rattle.nts_canonical.specs.declared.types.CanonicalVarKind.{CanonicalVarKind
 use Rattle.nts_canonical.specs.Forms.{kind_of_var, trees_of, IsHidden}
 use Rattle.nts_canonical.specs.Building.{IsArgOf}
 use Rattle.nts_response.specs.declared.types.Response.{Response}
-use Rattle.nts_response.specs.Forms.{findings_at, response_at, HoldsResponse, HoldsConstraint, HoldsOpen, recorded_at, premise_at}
-use Rattle.nts_response.specs.Replacing.{value_at}
-use Rattle.nts_response.specs.Applied.{StepKeeps, content_in, HaveSorts}
-use Rattle.nts_response.specs.Applicable.{IsKindFor, sorts_of, IsApplicable, IsApplied, IsPut}
+use Rattle.nts_response.specs.Forms.{findings_at, response_at, HoldsResponse, StoreHoldsConstraint, HoldsOpen, recorded_at, premise_at}
+use Rattle.nts_response.specs.Replacing.{argument_value}
+use Rattle.nts_response.specs.Applied.{StepKeeps, content_within, PositionsHaveSorts}
+use Rattle.nts_response.specs.Applicable.{IsKindFor, response_sorts, IsApplicable, IsResponseApplied, IsPut}
 use Rattle.nts_response.specs.Registered.{TakesAll}
 use Rattle.nts_response.specs.Placing.{ArePlaced, JoinsNew}
 use Rattle.nts_response.proofs.Placed.{placed_moved, joins_since}
@@ -57,7 +57,7 @@ response_kept a b r e h =
     let g = goals_kept in
     record {
       values = list_holds (HoldsArg a) (HoldsArg b) (λ x q. v.held a b x q e) r.var_values.items h.values;
-      constraints = list_holds (HoldsConstraint a) (HoldsConstraint b) (λ x q. c.held a b x q e) r.external_constraints.region_constraints.items h.constraints;
+      constraints = list_holds (StoreHoldsConstraint a) (StoreHoldsConstraint b) (λ x q. c.held a b x q e) r.external_constraints.region_constraints.items h.constraints;
       hidden = list_holds (IsHidden a) (IsHidden b) (λ x q. p.held a b x q e) r.external_constraints.opaque_types.items h.hidden;
       open_goals = list_holds (HoldsOpen a) (HoldsOpen b) (λ x q. g.held a b x q e) r.external_constraints.normalization_nested_goals.items h.open_goals;
     }
@@ -68,7 +68,7 @@ pub record ChoseFor (a b : List Tree) (t u : Table) (os vs : List GenericArg) (k
   pub chooses : ChoosesAll (content_of a t.entries) (trees_of a vs) (trees_of a os) 0 (map kind_of_var ks) (trees_of b chosen) (in_universe (content_of a t.entries) (t.entries.universe + m)) (content_of b u.entries)
   pub args : All (IsArgOf b u.entries) chosen
   pub placed : JoinsNew (ArePlaced (map kind_of_var ks) (trees_of b chosen)) (content_of a t.entries) (content_of b u.entries)
-  pub sorts : HaveSorts (map kind_of_var ks) (trees_of b chosen)
+  pub sorts : PositionsHaveSorts (map kind_of_var ks) (trees_of b chosen)
   pub extends : Extends a b
 
 -- .. of the response r
@@ -76,15 +76,15 @@ abbrev pub Chose : List Tree → List Tree → Table → Table → List GenericA
 Chose a b t u os r chosen = ChoseFor a b t u os r.value.var_values.items r.var_kinds.items r.max_universe chosen
 
 pub chose : (a b : List Tree) (t w u : Table) (os vs : List GenericArg) (ks : List CanonicalVarKind) (m : ℕ) (chosen : List GenericArg) (p : ℕ) → p ≡ t.entries.universe → w.entries ≡ moved t.entries (t.entries.universe + m)
-    → ChoosesAll (content_in a w.entries p) (trees_of a vs) (trees_of a os) 0 (map kind_of_var ks) (trees_of b chosen) (content_of a w.entries) (content_of b u.entries)
+    → ChoosesAll (content_within a w.entries p) (trees_of a vs) (trees_of a os) 0 (map kind_of_var ks) (trees_of b chosen) (content_of a w.entries) (content_of b u.entries)
     → JoinsNew (ArePlaced (map kind_of_var ks) (trees_of b chosen)) (content_of a w.entries) (content_of b u.entries)
-    → All (IsArgOf b u.entries) chosen → HaveSorts (map kind_of_var ks) (trees_of b chosen) → Extends a b → ChoseFor a b t u os vs ks m chosen
+    → All (IsArgOf b u.entries) chosen → PositionsHaveSorts (map kind_of_var ks) (trees_of b chosen) → Extends a b → ChoseFor a b t u os vs ks m chosen
 chose a b t w u os vs ks m chosen p q e h placed args sorts up =
     let xs = trees_of a vs in
     let kinds = map kind_of_var ks in
     record {
-      chooses = subst (λ (z : Entries). ChoosesAll (content_in a z t.entries.universe) xs (trees_of a os) 0 kinds (trees_of b chosen) (content_of a z) (content_of b u.entries)) e
-          (subst (λ z. ChoosesAll (content_in a w.entries z) xs (trees_of a os) 0 kinds (trees_of b chosen) (content_of a w.entries) (content_of b u.entries)) q h);
+      chooses = subst (λ (z : Entries). ChoosesAll (content_within a z t.entries.universe) xs (trees_of a os) 0 kinds (trees_of b chosen) (content_of a z) (content_of b u.entries)) e
+          (subst (λ z. ChoosesAll (content_within a w.entries z) xs (trees_of a os) 0 kinds (trees_of b chosen) (content_of a w.entries) (content_of b u.entries)) q h);
       args = args;
       placed = placed_moved (ArePlaced kinds (trees_of b chosen)) (content_of a t.entries) (content_of b u.entries) (t.entries.universe + m)
           (subst (λ (z : Entries). JoinsNew (ArePlaced kinds (trees_of b chosen)) (content_of a z) (content_of b u.entries)) e placed);
@@ -150,14 +150,14 @@ module _ (a b : List Tree) (t u : Table) (os : List GenericArg) (r : Canonical R
       let h = fits.holds in
       let x = r.value.external_constraints in
       cc (
-        same_views HoldsArg value_at values_kept a b r.value.var_values.items h.values chosen_so.extends,
-        same_views HoldsConstraint recorded_at constraints_kept a b x.region_constraints.items h.constraints chosen_so.extends,
+        same_views HoldsArg argument_value values_kept a b r.value.var_values.items h.values chosen_so.extends,
+        same_views StoreHoldsConstraint recorded_at constraints_kept a b x.region_constraints.items h.constraints chosen_so.extends,
         same_views IsHidden hidden_of hidden_kept a b x.opaque_types.items h.hidden chosen_so.extends,
         same_views HoldsOpen premise_at goals_kept a b x.normalization_nested_goals.items h.open_goals chosen_so.extends,
       )
 
   originals_same : trees_of b os ≡ trees_of a os
-  originals_same = same_views HoldsArg value_at values_kept a b os (λ k d l. (let y = args k d l in y.holds)) chosen_so.extends
+  originals_same = same_views HoldsArg argument_value values_kept a b os (λ k d l. (let y = args k d l in y.holds)) chosen_so.extends
 
   -- it was refused
   pub refuses : FailsToEqual (trees_of b chosen) (trees_of b r.value.var_values.items) (trees_of b os) (content_of b u.entries) → RefusesResponse (content_of a t.entries) (trees_of a os) (response_at a r)
@@ -171,7 +171,7 @@ module _ (a b : List Tree) (t u : Table) (os : List GenericArg) (r : Canonical R
 
   -- it was put into the table
   pub is_applied : (d : List Tree) (v : Table) (visible : Bool) (goals : List (GoalSource × Goal)) → AreFormed d → IsTable d v → u.entries.hidden ≡ t.entries.hidden
-      → IsPut b d u.entries v.entries (trees_of b os) (trees_of b chosen) (findings_at b r.value) visible goals → IsApplied a d t.entries v.entries (trees_of a os) (response_at a r) visible goals
+      → IsPut b d u.entries v.entries (trees_of b os) (trees_of b chosen) (findings_at b r.value) visible goals → IsResponseApplied a d t.entries v.entries (trees_of a os) (response_at a r) visible goals
   is_applied d v visible goals formed_later table_later hidden put_there =
       let h = fits.holds in
       let k = chosen_ready in
@@ -207,6 +207,6 @@ module _ (a b : List Tree) (t u : Table) (os : List GenericArg) (r : Canonical R
       only-trans (only-none (trees_of a os) (brings-trans (brings-in_universe c (t.entries.universe + r.max_universe)) (chosen_brings c vs (trees_of a os) 0 ks xs moved_there (content_of b u.entries) chosen_so.chooses)))
       (only-trans
       (only_by put.equal_labels (λ P q g z i. ⊎_elim
-      (λ j. values_pass P q a (sorts_of r) xs (chosen_passes P q c vs (trees_of a os) 0 ks xs moved_there (content_of b u.entries) g chosen_so.chooses) r.value.var_values.items fits.values z j)
+      (λ j. values_pass P q a (response_sorts r) xs (chosen_passes P q c vs (trees_of a os) 0 ks xs moved_there (content_of b u.entries) g chosen_so.chooses) r.value.var_values.items fits.values z j)
       (λ j. g z j) (among_either (map (filled xs) vs) (trees_of a os) z i)))
-      (only_by put.recorded_labels (λ P q g z i. sides_pass P q a (sorts_of r) xs (chosen_passes P q c vs (trees_of a os) 0 ks xs moved_there (content_of b u.entries) g chosen_so.chooses) x.region_constraints.items fits.constraints z i)))
+      (only_by put.recorded_labels (λ P q g z i. sides_pass P q a (response_sorts r) xs (chosen_passes P q c vs (trees_of a os) 0 ks xs moved_there (content_of b u.entries) g chosen_so.chooses) x.region_constraints.items fits.constraints z i)))

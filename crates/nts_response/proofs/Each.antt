@@ -9,8 +9,8 @@ use Rattle.nts_folding.specs.FoldLaws.{list_holds}
 use Rattle.nts_terms.specs.Handles.{HoldsArg}
 use Rattle.nts_canonical.proofs.PairLists.{holds_kept, is_hidden-kept, alias-kept}
 use Rattle.nts_canonical.proofs.VarLists.{map-push}
-use Rattle.nts_response.specs.Replacing.{ReplacesEach, value_at}
-use Rattle.nts_response.specs.Forms.{HoldsConstraint, HoldsOpen, recorded_at, premise_at}
+use Rattle.nts_response.specs.Replacing.{ReplacesEach, argument_value}
+use Rattle.nts_response.specs.Forms.{StoreHoldsConstraint, HoldsOpen, recorded_at, premise_at}
 use Rattle.nts_canonical.specs.Forms.{IsHidden}
 use Rattle.nts_delegate.specs.Offered.{hidden_of}
 
@@ -40,10 +40,10 @@ replaced_more holds view image k a b c xs ys zs i d r up more h l so held is e =
     }
 
 -- values, constraints, hidden types and goals are kept
-pub values_kept : IsKept HoldsArg value_at
+pub values_kept : IsKept HoldsArg argument_value
 values_kept = record { held = λ a b x h e. holds_kept _ a b x.node h e; same = λ a b x h e. e.kept x.node h.within }
 
-pub constraints_kept : IsKept HoldsConstraint recorded_at
+pub constraints_kept : IsKept StoreHoldsConstraint recorded_at
 constraints_kept = record {
   held = λ a b x h e. record { left = holds_kept _ a b x.0.left.node h.left e; right = holds_kept _ a b x.0.right.node h.right e };
   same = λ a b x h e. cc (e.kept x.0.left.node (let q = h.left in q.within), e.kept x.0.right.node (let q = h.right in q.within));

@@ -5,7 +5,7 @@ use Rattle.nts_model.specs.Answers.Responses.{Findings}
 use Rattle.nts_delegate.specs.Offered.{hidden_of}
 use Rattle.nts_response.specs.declared.types.Response.{Response}
 use Rattle.nts_response.specs.Forms.{recorded_at, premise_at, findings_at}
-use Rattle.nts_response.specs.Replacing.{value_at}
+use Rattle.nts_response.specs.Replacing.{argument_value}
 use Rattle.nts_response.specs.Same.{AreOneEach, FoundOne}
 
 each_same : {X V : Type 0} (f : X → V) (xs ys : List X) → AreOneEach (λ x y. f x ≡ f y) xs ys → map f xs ≡ map f ys
@@ -37,13 +37,13 @@ found_one ts a b =
     let x = a.external_constraints in
     let y = b.external_constraints in (
       λ h. cc (
-        each_same (value_at ts) a.var_values.items b.var_values.items h.values,
+        each_same (argument_value ts) a.var_values.items b.var_values.items h.values,
         each_same (recorded_at ts) x.region_constraints.items y.region_constraints.items h.constraints,
         each_same (hidden_of ts) x.opaque_types.items y.opaque_types.items h.hidden,
         each_same (premise_at ts) x.normalization_nested_goals.items y.normalization_nested_goals.items h.open_goals,
       ),
       λ e. record {
-        values = same_each (value_at ts) a.var_values.items b.var_values.items (ap (λ (z : Findings). z.values) e);
+        values = same_each (argument_value ts) a.var_values.items b.var_values.items (ap (λ (z : Findings). z.values) e);
         constraints = same_each (recorded_at ts) x.region_constraints.items y.region_constraints.items (ap (λ (z : Findings). z.constraints) e);
         hidden = same_each (hidden_of ts) x.opaque_types.items y.opaque_types.items (ap (λ (z : Findings). z.hidden) e);
         open_goals = same_each (premise_at ts) x.normalization_nested_goals.items y.normalization_nested_goals.items (ap (λ (z : Findings). z.open_goals) e);

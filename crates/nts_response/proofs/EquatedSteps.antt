@@ -21,8 +21,8 @@ use Rattle.nts_canonical.specs.declared.types.CanonicalVarKind.{CanonicalVarKind
 use Rattle.nts_canonical.specs.Forms.{kind_of_var, trees_of}
 use Rattle.nts_canonical.specs.Building.{IsArgOf}
 use Rattle.nts_response.specs.Applied.{IsFillable}
-use Rattle.nts_response.specs.Instantiated.{values_alone, AreValuesFor, AreEquated}
-use Rattle.nts_response.specs.Replacing.{value_at}
+use Rattle.nts_response.specs.Instantiated.{values_alone, AreValuesFor, AreValuesEquated}
+use Rattle.nts_response.specs.Replacing.{argument_value}
 use Rattle.nts_response.specs.Placing.{ArePlaced}
 use Rattle.nts_response.proofs.Placed.{joins_since}
 use Rattle.nts_response.proofs.Each.{same_views, values_kept}
@@ -57,10 +57,10 @@ module _ (a b : List Tree) (t u : Table) (os vs : List GenericArg) (ks : List Ca
   moved_proper = proper_content {ts = a} {t = record t { entries = moved t.entries (t.entries.universe + m) }} (record { now = IsLawful-moved a t.entries (t.entries.universe + m) (omega arith) table.now; saved = table.saved })
 
   originals_same : trees_of b os ≡ trees_of a os
-  originals_same = same_views HoldsArg value_at values_kept a b os (λ k d l. (let y = args k d l in y.holds)) chosen_so.extends
+  originals_same = same_views HoldsArg argument_value values_kept a b os (λ k d l. (let y = args k d l in y.holds)) chosen_so.extends
 
   values_same : trees_of b vs ≡ trees_of a vs
-  values_same = same_views HoldsArg value_at values_kept a b vs fits.held chosen_so.extends
+  values_same = same_views HoldsArg argument_value values_kept a b vs fits.held chosen_so.extends
 
   -- they could not be made equal
   pub values_refused : FailsToEqual (trees_of b chosen) (trees_of b vs) (trees_of b os) (content_of b u.entries) → RefusesResponse (content_of a t.entries) (trees_of a os) (values_alone (trees_of a vs) (map kind_of_var ks) m)
@@ -76,7 +76,7 @@ module _ (a b : List Tree) (t u : Table) (os vs : List GenericArg) (ks : List Ca
 
   -- they were made equal
   pub values_applied : (d : List Tree) (v : Table) → AreFormed d → IsTable d v → IsLater (content_of b u.entries) (content_of d v.entries) → MakesEqual (trees_of b chosen) (trees_of b vs) (trees_of b os) (content_of b u.entries) (content_of d v.entries)
-      → AreEquated (content_of a t.entries) (content_of d v.entries) (trees_of a os) (values_alone (trees_of a vs) (map kind_of_var ks) m) (trees_of b chosen)
+      → AreValuesEquated (content_of a t.entries) (content_of d v.entries) (trees_of a os) (values_alone (trees_of a vs) (map kind_of_var ks) m) (trees_of b chosen)
   values_applied d v formed_later table_later later equal =
       let makes : MakesEqual (trees_of b chosen) (trees_of a vs) (trees_of a os) (content_of b u.entries) (content_of d v.entries) =
       subst (λ z. MakesEqual (trees_of b chosen) (trees_of a vs) z (content_of b u.entries) (content_of d v.entries)) originals_same

@@ -23,7 +23,7 @@ use Rattle.nts_canonical.specs.declared.types.Canonical.{Canonical}
 use Rattle.nts_canonical.specs.Forms.{kind_of_var}
 use Rattle.nts_response.specs.declared.types.Response.{Response}
 use Rattle.nts_response.specs.OverSorts.{is_moved, MayStay, IsValueOver}
-use Rattle.nts_response.specs.Applicable.{IsOverSorts, IsKindFor, sorts_of, IsApplicable}
+use Rattle.nts_response.specs.Applicable.{IsOverSorts, IsKindFor, response_sorts, IsApplicable}
 
 -- a leaf is foreign to clauses exactly where it doesn't stay itself
 fixed_leaf : (l : Leaf) → is_foreign_leaf l ≡ false → IsFixed l

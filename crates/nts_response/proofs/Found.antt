@@ -11,8 +11,8 @@ use Rattle.nts_delegate.specs.Offered.{hidden_of}
 use Rattle.nts_canonical.specs.declared.types.Canonical.{Canonical}
 use Rattle.nts_canonical.specs.Forms.{kind_of_var, IsHidden}
 use Rattle.nts_response.specs.declared.types.Response.{Response}
-use Rattle.nts_response.specs.Forms.{HoldsConstraint, HoldsOpen, HoldsResponse, recorded_at, premise_at, findings_at, response_at}
-use Rattle.nts_response.specs.Replacing.{ReplacesEach, value_at}
+use Rattle.nts_response.specs.Forms.{StoreHoldsConstraint, HoldsOpen, HoldsResponse, recorded_at, premise_at, findings_at, response_at}
+use Rattle.nts_response.specs.Replacing.{ReplacesEach, argument_value}
 use Rattle.nts_response.proofs.Each.{values_kept, constraints_kept, hidden_kept, goals_kept, replaced_later}
 
 equal_findings : (x y : Findings) → x.values ≡ y.values → x.constraints ≡ y.constraints → x.hidden ≡ y.hidden → x.open_goals ≡ y.open_goals → x ≡ y
@@ -20,8 +20,8 @@ equal_findings x y p q r s = λ j. record { values = p j; constraints = q j; hid
 
 -- the values were replaced first, then the constraints, the hidden types and the goals, while the store grew
 pub record ReplacesParts (f : Tree → Tree) (a b c d e : List Tree) (x y : Response) : Type 0 where
-  pub values : ReplacesEach HoldsArg value_at f a b x.var_values.items y.var_values.items
-  pub constraints : ReplacesEach HoldsConstraint recorded_at (recorded_by f) b c x.external_constraints.region_constraints.items y.external_constraints.region_constraints.items
+  pub values : ReplacesEach HoldsArg argument_value f a b x.var_values.items y.var_values.items
+  pub constraints : ReplacesEach StoreHoldsConstraint recorded_at (recorded_by f) b c x.external_constraints.region_constraints.items y.external_constraints.region_constraints.items
   pub hidden : ReplacesEach IsHidden hidden_of (hidden_by f) c d x.external_constraints.opaque_types.items y.external_constraints.opaque_types.items
   pub open_goals : ReplacesEach HoldsOpen premise_at (premise_by f) d e x.external_constraints.normalization_nested_goals.items y.external_constraints.normalization_nested_goals.items
   pub first : Extends a b
@@ -34,8 +34,8 @@ pub record ReplacesParts (f : Tree → Tree) (a b c d e : List Tree) (x y : Resp
 
 pub all_replaced : (f : Tree → Tree) (a b c d e : List Tree) (x y : Response) → HoldsResponse a x → Extends a a → ReplacesParts f a b c d e x y → findings_at e y ≡ findings_by f (findings_at a x)
 all_replaced f a b c d e x y h same r =
-    let values = replaced_later HoldsArg value_at f values_kept a a b e _ _ same r.after_values h.values r.values in
-    let constraints = replaced_later HoldsConstraint recorded_at (recorded_by f) constraints_kept a b c e _ _ r.first r.after_constraints h.constraints r.constraints in
+    let values = replaced_later HoldsArg argument_value f values_kept a a b e _ _ same r.after_values h.values r.values in
+    let constraints = replaced_later StoreHoldsConstraint recorded_at (recorded_by f) constraints_kept a b c e _ _ r.first r.after_constraints h.constraints r.constraints in
     let hidden = replaced_later IsHidden hidden_of (hidden_by f) hidden_kept a c d e _ _ r.second r.after_hidden h.hidden r.hidden in
     let goals = replaced_later HoldsOpen premise_at (premise_by f) goals_kept a d e e _ _ r.third r.all h.open_goals r.open_goals in
     equal_findings (findings_at e y) (findings_by f (findings_at a x)) values.views constraints.views hidden.views goals.views

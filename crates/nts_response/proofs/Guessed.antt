@@ -32,7 +32,7 @@ use Rattle.nts_relating.specs.Knowing.{HasNamed}
 use Rattle.nts_relating.proofs.Looking.{known_named}
 use Rattle.nts_canonical.specs.declared.types.CanonicalVarKind.{CanonicalVarKind}
 use Rattle.nts_canonical.specs.Forms.{kind_of_var, trees_of}
-use Rattle.nts_response.specs.Applied.{content_in, MayStand, GuessFits, IsGuessed, AreGuesses, IsPosition, IsRootVariable, IsClosedConst}
+use Rattle.nts_response.specs.Applied.{content_within, MayStand, GuessFits, IsGuessed, AreGuesses, IsPosition, IsRootVariable, IsClosedConst}
 
 -- the current universe names what a table knows
 low_named : (m : ℕ) (o : Option ℕ) → ((u : ℕ) → o ≡ Some u → u ≤ m) → CanName m o
@@ -79,17 +79,17 @@ variable_node l t k n is m e =
     let meets : Meets (shape (label.Leaf (leaf.Variable k n))) (children t) = subst (λ z. Meets (shape z) (children t)) e m in
     is ∙ ap (λ z. node z (children t)) e ∙ ap (node (label.Leaf (leaf.Variable k n))) (no_children (children t) meets)
 
-root_named : (ts : List Tree) (e : Entries) (p : ℕ) (l : Label) (k : VariableKind) → IsRootVariable e l k → (t : Tree) → (i : IsRootVariable e l k) → t ≡ variable_tree k i.number → NamesAll (level_in (content_in ts e p)) 0 t
+root_named : (ts : List Tree) (e : Entries) (p : ℕ) (l : Label) (k : VariableKind) → IsRootVariable e l k → (t : Tree) → (i : IsRootVariable e l k) → t ≡ variable_tree k i.number → NamesAll (level_in (content_within ts e p)) 0 t
 root_named ts e p l k h t i is =
     let there : universe_of (content_of ts e) i.number ≡ Some 0 = universe_of-entry ts e i.number i.variable i.at ∙ ap Some i.root in
     rw is (rw there (omega arith), tt)
 
-pub integer_stands : (ts : List Tree) (e : Entries) (p : ℕ) (l : Label) (t : Tree) → t ≡ node l (children t) → Meets (shape l) (children t) → IsRootVariable e l kind.Int → MayStand (content_in ts e p) integer_variable t
+pub integer_stands : (ts : List Tree) (e : Entries) (p : ℕ) (l : Label) (t : Tree) → t ≡ node l (children t) → Meets (shape l) (children t) → IsRootVariable e l kind.Int → MayStand (content_within ts e p) integer_variable t
 integer_stands ts e p l t is m h =
     let tree = variable_node l t kind.Int h.number is m h.is in
     record { value = rw tree (record { fits = refl; closed = (tt, tt); formed = (tt, tt) }); named = root_named ts e p l kind.Int h t h tree }
 
-pub float_stands : (ts : List Tree) (e : Entries) (p : ℕ) (l : Label) (t : Tree) → t ≡ node l (children t) → Meets (shape l) (children t) → IsRootVariable e l kind.Float → MayStand (content_in ts e p) float_variable t
+pub float_stands : (ts : List Tree) (e : Entries) (p : ℕ) (l : Label) (t : Tree) → t ≡ node l (children t) → Meets (shape l) (children t) → IsRootVariable e l kind.Float → MayStand (content_within ts e p) float_variable t
 float_stands ts e p l t is m h =
     let tree = variable_node l t kind.Float h.number is m h.is in
     record { value = rw tree (record { fits = refl; closed = (tt, tt); formed = (tt, tt) }); named = root_named ts e p l kind.Float h t h tree }
@@ -137,5 +137,5 @@ one_guess ts c values os ks gs zs b k x h at fits q = rw q (record {
     some e = cc
 
 -- a label of a known term names a variable of the table
-pub known_label : (ts : List Tree) (e : Entries) (p : ℕ) (t : Tree) (l : Label) → t ≡ node l (children t) → Knows (content_in ts e p) t → HasNamed e (variable_of l)
-known_label ts e p t l is h = (let k : Knows (content_in ts e p) (node l (children t)) = subst (Knows (content_in ts e p)) is h in known_named ts e (variable_of l) k.0.0)
+pub known_label : (ts : List Tree) (e : Entries) (p : ℕ) (t : Tree) (l : Label) → t ≡ node l (children t) → Knows (content_within ts e p) t → HasNamed e (variable_of l)
+known_label ts e p t l is h = (let k : Knows (content_within ts e p) (node l (children t)) = subst (Knows (content_within ts e p)) is h in known_named ts e (variable_of l) k.0.0)

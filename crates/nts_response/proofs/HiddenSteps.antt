@@ -14,7 +14,7 @@ use Rattle.nts_unify.specs.Lawful.{AreHiddenTypes-at}
 use Rattle.nts_table.specs.Registering.{Registers}
 use Rattle.nts_canonical.specs.Building.{stored_hidden, replaced_by}
 use Rattle.nts_canonical.proofs.Registered.{registered_more, hidden-now, hidden_alone}
-use Rattle.nts_response.specs.Registered.{Takes, TakesAll}
+use Rattle.nts_response.specs.Registered.{RegistersHidden, TakesAll}
 
 -- what gave place, behind the alias of the one that took it
 pub older_hidden : (a b : List Tree) (e f : Entries) (h : HiddenType) (ty : Ty) → IsLawful a e → Extends a b → f ≡ record e { hidden = record e.hidden { lookup = f.hidden.lookup } } → IsHiddenType a (content_of a e) h
@@ -26,7 +26,7 @@ older_hidden a b e f h ty g up q k (n, old, first, is, ends) =
 
 -- one more
 pub takes_more : (a b : List Tree) (e f : Entries) (y : HiddenTypes) (hs : List (AliasTerm × Ty)) (i : ℕ) (d : AliasTerm × Ty) → IsLawful a e → IsLawful a f → f ≡ record e { hidden = f.hidden } → Extends a b → All (λ h. IsHiddenType a (content_of a e) (stored_hidden h)) hs → i < length hs
-    → TakesAll a (content_of a e) e.hidden (take i hs) f.hidden → Takes a (content_of a f) f.hidden (stored_hidden (get_or hs i d)) y → TakesAll b (content_of b e) e.hidden (take (i + 1) hs) y
+    → TakesAll a (content_of a e) e.hidden (take i hs) f.hidden → RegistersHidden a (content_of a f) f.hidden (stored_hidden (get_or hs i d)) y → TakesAll b (content_of b e) e.hidden (take (i + 1) hs) y
 takes_more a b e f y hs i d g h q up all l r k =
     record {
       older = r.older ++ replaced_by (stored_hidden (get_or hs i d)) k.older;

@@ -28,9 +28,9 @@ use Rattle.nts_response.specs.Applied.{StepKeeps, NamesOriginal}
 use Rattle.nts_response.specs.Applicable.{IsOverSorts, IsKindFor}
 use Rattle.nts_response.specs.OverSorts.{IsArgIn}
 use Rattle.nts_response.specs.States.{state_at}
-use Rattle.nts_response.specs.Instantiated.{values_alone, answer_of, missing, MakesLike, AddsMissing, AreValuesFor, AreEquated, state_sorts, IsInstantiable, IsInstantiated, RefusesState}
+use Rattle.nts_response.specs.Instantiated.{values_alone, answer_of, missing, MakesLike, AddsMissing, AreValuesFor, AreValuesEquated, state_sorts, IsInstantiable, IsInstantiated, RefusesState}
 use Rattle.nts_response.specs.Placing.{JoinsBy, PlacedOrOne}
-use Rattle.nts_response.specs.Replacing.{value_at}
+use Rattle.nts_response.specs.Replacing.{argument_value}
 use Rattle.nts_response.proofs.Each.{same_views, values_kept}
 use Rattle.nts_response.proofs.MissingSteps.{all_behind, kinds_like}
 
@@ -67,15 +67,15 @@ over_later a b ss t w e h =
 
 -- the trees of the missing values
 pub missing_trees : (ts : List Tree) (os vs : List GenericArg) → missing (trees_of ts os) (trees_of ts vs) ≡ trees_of ts (drop (length os) vs)
-missing_trees ts os vs = ap (λ n. drop n (trees_of ts vs)) (length-map os (value_at ts)) ∙ drop-map (value_at ts) (length os) vs
+missing_trees ts os vs = ap (λ n. drop n (trees_of ts vs)) (length-map os (argument_value ts)) ∙ drop-map (argument_value ts) (length os) vs
 
 -- whether a state fits, once its values do
 pub state_fitting : {T : Type 0} (ts : List Tree) (os all : List GenericArg) (s : Canonical (State T)) (ss : List Sort) (b : Bool) → ss ≡ state_sorts s → all ≡ os ++ drop (length os) s.value.var_values.items → length os ≤ length s.value.var_values.items → All (IsArgIn ts ss) s.value.var_values.items
     → (IsTrue b ↔ All (λ k. IsKindFor s.max_universe (trees_of ts all) (kind_of_var k)) s.var_kinds.items) → IsTrue b ↔ IsInstantiable ts (trees_of ts os) s
 state_fitting ts os all s ss b e q long fit i =
     let vs = s.value.var_values.items in
-    let trees : trees_of ts all ≡ trees_of ts os ++ missing (trees_of ts os) (trees_of ts vs) = ap (trees_of ts) q ∙ map-append (value_at ts) os (drop (length os) vs) ∙ ap (λ z. trees_of ts os ++ z) (sym (missing_trees ts os vs)) in
-    let m = length-map os (value_at ts) in
+    let trees : trees_of ts all ≡ trees_of ts os ++ missing (trees_of ts os) (trees_of ts vs) = ap (trees_of ts) q ∙ map-append (argument_value ts) os (drop (length os) vs) ∙ ap (λ z. trees_of ts os ++ z) (sym (missing_trees ts os vs)) in
+    let m = length-map os (argument_value ts) in
     let over = subst (λ z. All (IsArgIn ts z) vs) e fit in (
       λ t. record { held = λ k d l. (over k d l).0; kinds = subst (λ z. All (λ k. IsKindFor s.max_universe z (kind_of_var k)) s.var_kinds.items) trees (i.0 t); values = λ k d l. (over k d l).1; long = omega (arith, m, long) },
       λ h. i.1 (subst (λ z. All (λ k. IsKindFor s.max_universe z (kind_of_var k)) s.var_kinds.items) (sym trees) h.kinds),
@@ -87,7 +87,7 @@ module _ {T : Type 0} (a b : Cx) (t u : Table) (os new : List GenericArg) (s : C
   pub lengthened : trees_of b.nodes new ≡ trees_of a.nodes os ++ trees_of b.nodes m.fresh
   lengthened =
       let g = keeps.grows in
-      ap (trees_of b.nodes) m.is ∙ map-append (value_at b.nodes) os m.fresh ∙ ap (λ z. z ++ trees_of b.nodes m.fresh) (same_views HoldsArg value_at values_kept a.nodes b.nodes os (λ k d l. (let x = args k d l in x.holds)) g.extends)
+      ap (trees_of b.nodes) m.is ∙ map-append (argument_value b.nodes) os m.fresh ∙ ap (λ z. z ++ trees_of b.nodes m.fresh) (same_views HoldsArg argument_value values_kept a.nodes b.nodes os (λ k d l. (let x = args k d l in x.holds)) g.extends)
 
   pub makes_missing : MakesLike (missing (trees_of a.nodes os) (trees_of a.nodes s.value.var_values.items)) (trees_of b.nodes m.fresh) (content_of a.nodes t.entries) (content_of b.nodes u.entries)
   makes_missing = subst (λ z. MakesLike z (trees_of b.nodes m.fresh) (content_of a.nodes t.entries) (content_of b.nodes u.entries)) (sym (missing_trees a.nodes os s.value.var_values.items)) m.makes
@@ -105,9 +105,9 @@ module _ {T : Type 0} (a b : Cx) (t u : Table) (os new : List GenericArg) (s : C
       let vs = s.value.var_values.items in
       let held = fits.held in
       let long = fits.long in
-      let os_long = length-map os (value_at a.nodes) in
+      let os_long = length-map os (argument_value a.nodes) in
       let fresh_long = like_long (trees_of a.nodes (drop (length os) vs)) (trees_of b.nodes m.fresh) (content_of a.nodes t.entries) (content_of b.nodes u.entries) m.makes in
-      let values_long = length-map (drop (length os) vs) (value_at a.nodes) in
+      let values_long = length-map (drop (length os) vs) (argument_value a.nodes) in
       let dropped = length-drop (length os) vs in
       let both = length-append (trees_of a.nodes os) (trees_of b.nodes m.fresh) in
       let all = ap length lengthened in
@@ -119,7 +119,7 @@ module _ {T : Type 0} (a b : Cx) (t u : Table) (os new : List GenericArg) (s : C
       }
 
   values_same : trees_of b.nodes s.value.var_values.items ≡ trees_of a.nodes s.value.var_values.items
-  values_same = (let g = keeps.grows in same_views HoldsArg value_at values_kept a.nodes b.nodes s.value.var_values.items fits.held g.extends)
+  values_same = (let g = keeps.grows in same_views HoldsArg argument_value values_kept a.nodes b.nodes s.value.var_values.items fits.held g.extends)
 
   -- they were refused
   pub refused_state : (tree : List Tree → T → Tree) → RefusesResponse (content_of b.nodes u.entries) (trees_of b.nodes new) (values_alone (trees_of b.nodes s.value.var_values.items) (map kind_of_var s.var_kinds.items) s.max_universe)
@@ -134,18 +134,18 @@ module _ {T : Type 0} (a b : Cx) (t u : Table) (os new : List GenericArg) (s : C
 
   -- they were applied in the store d, and then the payload was filled
   pub instantiated_state : (tree : List Tree → T → Tree) (d z : List Tree) (w : Table) (chosen : List GenericArg) (p : T) → Extends b.nodes d → Extends d z → IsTable d w → w.entries.hidden ≡ u.entries.hidden
-      → AreEquated (content_of b.nodes u.entries) (content_of d w.entries) (trees_of b.nodes new) (values_alone (trees_of b.nodes s.value.var_values.items) (map kind_of_var s.var_kinds.items) s.max_universe) (trees_of d chosen)
+      → AreValuesEquated (content_of b.nodes u.entries) (content_of d w.entries) (trees_of b.nodes new) (values_alone (trees_of b.nodes s.value.var_values.items) (map kind_of_var s.var_kinds.items) s.max_universe) (trees_of d chosen)
       → tree z p ≡ filled (trees_of d chosen) (tree a.nodes s.value.payload) → IsInstantiated a.nodes z t.entries w.entries os new (state_at tree a.nodes s) (tree z p)
   instantiated_state tree d z w chosen p first second table hidden x is =
       let behind : All (IsArgOf b.nodes u.entries) m.fresh = all_behind (IsArgOf b.nodes u.entries) os m.fresh (subst (All (IsArgOf b.nodes u.entries)) m.is m.args) in
-      let fresh_same : trees_of z m.fresh ≡ trees_of b.nodes m.fresh = same_views HoldsArg value_at values_kept b.nodes z m.fresh (λ k j l. (let y = behind k j l in y.holds)) (Extends-trans first second) in
+      let fresh_same : trees_of z m.fresh ≡ trees_of b.nodes m.fresh = same_views HoldsArg argument_value values_kept b.nodes z m.fresh (λ k j l. (let y = behind k j l in y.holds)) (Extends-trans first second) in
       let originals : trees_of b.nodes new ≡ trees_of a.nodes os ++ trees_of z m.fresh = lengthened ∙ ap (λ v. trees_of a.nodes os ++ v) (sym fresh_same) in
       let content : content_of z w.entries ≡ content_of d w.entries = content_of-extended second table.now in
       let answer = answer_of (state_at tree a.nodes s) in
-      let y : AreEquated (content_of b.nodes u.entries) (content_of z w.entries) (trees_of a.nodes os ++ trees_of z m.fresh) answer (trees_of d chosen) =
-      subst (λ v. AreEquated (content_of b.nodes u.entries) v (trees_of a.nodes os ++ trees_of z m.fresh) answer (trees_of d chosen)) (sym content)
-      (subst (λ v. AreEquated (content_of b.nodes u.entries) (content_of d w.entries) v answer (trees_of d chosen)) originals
-      (subst (λ v. AreEquated (content_of b.nodes u.entries) (content_of d w.entries) (trees_of b.nodes new) (values_alone v (map kind_of_var s.var_kinds.items) s.max_universe) (trees_of d chosen)) values_same x)) in
+      let y : AreValuesEquated (content_of b.nodes u.entries) (content_of z w.entries) (trees_of a.nodes os ++ trees_of z m.fresh) answer (trees_of d chosen) =
+      subst (λ v. AreValuesEquated (content_of b.nodes u.entries) v (trees_of a.nodes os ++ trees_of z m.fresh) answer (trees_of d chosen)) (sym content)
+      (subst (λ v. AreValuesEquated (content_of b.nodes u.entries) (content_of d w.entries) v answer (trees_of d chosen)) originals
+      (subst (λ v. AreValuesEquated (content_of b.nodes u.entries) (content_of d w.entries) (trees_of b.nodes new) (values_alone v (map kind_of_var s.var_kinds.items) s.max_universe) (trees_of d chosen)) values_same x)) in
       record {
         fresh = m.fresh;
         originals = m.is;

@@ -23,7 +23,7 @@ use Rattle.nts_table.specs.Tables.{Table}
 use Rattle.nts_canonical.specs.Forms.{trees_of}
 use Rattle.nts_canonical.specs.Building.{IsArgOf}
 use Rattle.nts_response.specs.Forms.{recorded_at}
-use Rattle.nts_response.specs.Replacing.{value_at}
+use Rattle.nts_response.specs.Replacing.{argument_value}
 use Rattle.nts_response.specs.Applied.{StepKeeps, IsFillable}
 use Rattle.nts_response.specs.Applicable.{IsOverSorts, IsConstraintOver}
 use Rattle.nts_response.specs.Recorded.{sides_of, IsRecordable}
@@ -81,8 +81,8 @@ module _ (a b : Cx) (t u : Table) (chosen : List NodeId) (s : StepKeeps a b t u)
       let first = filled_same a b t u chosen (get_or values i d).node s w (fillable i d l) in
       let second = x.kept (get_or originals i f).node held.within in
       only_two (vs ++ trees_of a.nodes originals) (filled xs (tree_at a.nodes (get_or values i d).node)) (tree_at a.nodes (get_or originals i f).node) (content_of a.nodes t.entries) (content_of b.nodes u.entries) e
-      (among_first vs (trees_of a.nodes originals) _ (among_mapped (filled xs) (trees_of a.nodes values) _ (among_viewed (value_at a.nodes) values i d l)))
-      (among_second vs (trees_of a.nodes originals) _ (among_viewed (value_at a.nodes) originals i f m)) h
+      (among_first vs (trees_of a.nodes originals) _ (among_mapped (filled xs) (trees_of a.nodes values) _ (among_viewed (argument_value a.nodes) values i d l)))
+      (among_second vs (trees_of a.nodes originals) _ (among_viewed (argument_value a.nodes) originals i f m)) h
       (subst (BringsLabelsOf (content_of b.nodes u.entries) e (filled xs (tree_at a.nodes (get_or values i d).node))) second
       (subst (λ y. BringsLabelsOf (content_of b.nodes u.entries) e y (tree_at b.nodes (get_or originals i f).node)) first k))
 

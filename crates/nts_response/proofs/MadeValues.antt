@@ -38,9 +38,9 @@ use Rattle.nts_canonical.specs.Kinds.{value_leaf}
 use Rattle.nts_canonical.specs.Building.{AddsValue, IsPositionValue, IsArgOf}
 use Rattle.nts_canonical.proofs.PairLists.{holds_kept}
 use Rattle.nts_table.proofs.TermTables.{proper_content}
-use Rattle.nts_response.specs.Applied.{IsOriginal, AreGuesses, StepKeeps, content_in, IsMadeFor, GuessFits, HasSort, HaveSorts, NamesOriginal, original_named}
+use Rattle.nts_response.specs.Applied.{IsOriginal, AreGuesses, StepKeeps, content_within, IsMadeForPosition, GuessFits, HasSort, PositionsHaveSorts, NamesOriginal, original_named}
 use Rattle.nts_canonical.proofs.VarLists.{map-push}
-use Rattle.nts_response.specs.Replacing.{value_at}
+use Rattle.nts_response.specs.Replacing.{argument_value}
 use Rattle.nts_store.proofs.Growing.{Extends-refl}
 use Rattle.nts_response.specs.Placing.{ArePlaced, IsPlacedNext, JoinsNew}
 use Rattle.nts_response.proofs.Each.{same_views, values_kept}
@@ -74,7 +74,7 @@ is_new a b t w k u x h i up n q =
     }
 
 -- the value of a kind is what is made for it
-pub made_value : (a b : List Tree) (t w : Table) (p u : ℕ) (os values : List Tree) (k : PositionKind) (x : Tree) → IsTable a t → IsTable b w → Extends a b → u ≡ p + universe_of_kind k → u ≤ t.entries.universe → original_named k ≡ None → IsPositionValue k u values t.entries w.entries x → IsMadeFor p os k x (content_of a t.entries) (content_of b w.entries)
+pub made_value : (a b : List Tree) (t w : Table) (p u : ℕ) (os values : List Tree) (k : PositionKind) (x : Tree) → IsTable a t → IsTable b w → Extends a b → u ≡ p + universe_of_kind k → u ≤ t.entries.universe → original_named k ≡ None → IsPositionValue k u values t.entries w.entries x → IsMadeForPosition p os k x (content_of a t.entries) (content_of b w.entries)
 made_value a b t w p u os values (type_variable v r) x h i up is l o q = is_new a b t w kind.Ty (p + v) x h i up (subst (IsAdded t.entries w.entries kind.Ty) is (is_added t.entries w.entries kind.Ty u _ q.adds)) q.tree
 made_value a b t w p u os values integer_variable x h i up is l o q = is_new a b t w kind.Int 0 x h i up (is_added t.entries w.entries kind.Int 0 None q.adds) q.tree
 made_value a b t w p u os values float_variable x h i up is l o q = is_new a b t w kind.Float 0 x h i up (is_added t.entries w.entries kind.Float 0 None q.adds) q.tree
@@ -131,7 +131,7 @@ original_sort ts xs (const_variable u) n d l h e = cc
 original_sort ts xs (region_variable u) n d l h e = cc
 
 -- .. a term of the table, of the position's sort
-pub made_known : (p : ℕ) (os : List Tree) (k : PositionKind) (x : Tree) (c d : Content) → ((n : ℕ) → Knows d (get_or os n empty)) → c.universe ≤ d.universe → IsMadeFor p os k x c d → Knows d x
+pub made_known : (p : ℕ) (os : List Tree) (k : PositionKind) (x : Tree) (c d : Content) → ((n : ℕ) → Knows d (get_or os n empty)) → c.universe ≤ d.universe → IsMadeForPosition p os k x c d → Knows d x
 made_known p os (type_variable v r) x c d k l h = new_knows c d (p + v) kind.Ty x h
 made_known p os integer_variable x c d k l h = new_knows c d 0 kind.Int x h
 made_known p os float_variable x c d k l h = new_knows c d 0 kind.Float x h
@@ -142,7 +142,7 @@ made_known p os (placeholder sort.Ty (suc v) n) x c d k l (q, b, e) = rw q ((tt,
 made_known p os (placeholder sort.Const (suc v) n) x c d k l (q, b, e) = rw q ((tt, omega (arith, b, l), refl), tt, tt)
 made_known p os (placeholder sort.Region (suc v) n) x c d k l (q, b, e) = rw q ((tt, omega (arith, b, l), refl), tt, tt)
 
-pub made_sort : (p : ℕ) (os : List Tree) (k : PositionKind) (x : Tree) (c d : Content) → NamesOriginal os k → IsMadeFor p os k x c d → HasSort k x
+pub made_sort : (p : ℕ) (os : List Tree) (k : PositionKind) (x : Tree) (c d : Content) → NamesOriginal os k → IsMadeForPosition p os k x c d → HasSort k x
 made_sort p os (type_variable v r) x c d o h = rw h.tree refl
 made_sort p os integer_variable x c d o h = rw h.tree refl
 made_sort p os float_variable x c d o h = rw h.tree refl
@@ -154,7 +154,7 @@ made_sort p os (placeholder sort.Const (suc v) n) x c d o (q, b, e) = rw q refl
 made_sort p os (placeholder sort.Region (suc v) n) x c d o (q, b, e) = rw q refl
 
 -- what is made, or guessed, is chosen
-pub made_chosen : (c : Content) (values os : List Tree) (b : ℕ) (k : PositionKind) (x : Tree) (d e : Content) → IsMadeFor c.universe os k x d e → Chooses c values os b k x d e
+pub made_chosen : (c : Content) (values os : List Tree) (b : ℕ) (k : PositionKind) (x : Tree) (d e : Content) → IsMadeForPosition c.universe os k x d e → Chooses c values os b k x d e
 made_chosen c values os b (type_variable u r) x d e h = inl h
 made_chosen c values os b integer_variable x d e h = inl h
 made_chosen c values os b float_variable x d e h = inl h
@@ -187,7 +187,7 @@ choose_more c values os b i [] k (s ∷ ts) t d e f q h x = absurd h
 choose_more c values os b i (j ∷ ks) k [] t d e f q h x = absurd h
 choose_more c values os b i (j ∷ ks) k (s ∷ ts) t d e f q (m, one, rest) x = (m, one, choose_more c values os (suc b) i ks k ts t m e f (omega (arith, q)) rest x)
 
-pub sorts_more : (ks : List PositionKind) (k : PositionKind) (ts : List Tree) (t : Tree) → HaveSorts ks ts → HasSort k t → HaveSorts (ks ++ k ∷ []) (ts ++ t ∷ [])
+pub sorts_more : (ks : List PositionKind) (k : PositionKind) (ts : List Tree) (t : Tree) → PositionsHaveSorts ks ts → HasSort k t → PositionsHaveSorts (ks ++ k ∷ []) (ts ++ t ∷ [])
 sorts_more [] k [] t h x = (x, tt)
 sorts_more [] k (s ∷ ts) t h x = absurd h
 sorts_more (j ∷ ks) k [] t h x = absurd h
@@ -201,7 +201,7 @@ guess_sort c values os b (const_variable u) x h = (let v = h.value in Fits-kind_
 guess_sort c values os b (region_variable u) x h = (let v = h.value in Fits-kind_of kind.Region x v.fits)
 guess_sort c values os b (placeholder s u n) x h = absurd h
 
-as_many : (ks : List PositionKind) (ts : List Tree) → HaveSorts ks ts → length ts ≡ length ks
+as_many : (ks : List PositionKind) (ts : List Tree) → PositionsHaveSorts ks ts → length ts ≡ length ks
 as_many [] [] h = refl
 as_many [] (t ∷ ts) h = absurd h
 as_many (k ∷ ks) [] h = absurd h
@@ -209,9 +209,9 @@ as_many (k ∷ ks) (t ∷ ts) h = ap suc (as_many ks ts h.1)
 
 -- what was chosen for the positions of these kinds
 pub record ChosenSoFar (a b : Cx) (t u : Table) (p : ℕ) (values os : List Tree) (ks : List CanonicalVarKind) (xs : List GenericArg) : Type 0 where
-  pub chosen : ChoosesAll (content_in a.nodes t.entries p) values os 0 (map kind_of_var ks) (trees_of b.nodes xs) (content_of a.nodes t.entries) (content_of b.nodes u.entries)
+  pub chosen : ChoosesAll (content_within a.nodes t.entries p) values os 0 (map kind_of_var ks) (trees_of b.nodes xs) (content_of a.nodes t.entries) (content_of b.nodes u.entries)
   pub args : All (IsArgOf b.nodes u.entries) xs
-  pub sorts : HaveSorts (map kind_of_var ks) (trees_of b.nodes xs)
+  pub sorts : PositionsHaveSorts (map kind_of_var ks) (trees_of b.nodes xs)
   pub placed : JoinsNew (ArePlaced (map kind_of_var ks) (trees_of b.nodes xs)) (content_of a.nodes t.entries) (content_of b.nodes u.entries)
   pub keeps : StepKeeps a b t u
 
@@ -220,18 +220,18 @@ none_chosen a t p values os h = record { chosen = refl; args = λ i d l. absurd 
 
 -- one position more
 pub one_chosen : (a b c : Cx) (t u v : Table) (p : ℕ) (values os : List Tree) (ks : List CanonicalVarKind) (xs zs : List GenericArg) (i : ℕ) (k : CanonicalVarKind) (x : GenericArg) → i < length ks → ChosenSoFar a b t u p values os (take i ks) xs → StepKeeps b c u v → IsArgOf c.nodes v.entries x
-    → HasSort (kind_of_var (get_or ks i k)) (tree_at c.nodes x.node) → Chooses (content_in a.nodes t.entries p) values os i (kind_of_var (get_or ks i k)) (tree_at c.nodes x.node) (content_of b.nodes u.entries) (content_of c.nodes v.entries)
+    → HasSort (kind_of_var (get_or ks i k)) (tree_at c.nodes x.node) → Chooses (content_within a.nodes t.entries p) values os i (kind_of_var (get_or ks i k)) (tree_at c.nodes x.node) (content_of b.nodes u.entries) (content_of c.nodes v.entries)
     → JoinsNew (IsPlacedNext (kind_of_var (get_or ks i k)) (trees_of b.nodes xs) (tree_at c.nodes x.node)) (content_of b.nodes u.entries) (content_of c.nodes v.entries) → zs ≡ xs ++ x ∷ []
     → ChosenSoFar a c t v p values os (take (i + 1) ks) zs
 one_chosen a b c t u v p values os ks xs zs i k x l h s arg sort choice next q =
     let item = get_or ks i k in
     let g = s.grows in
     let held : All (HoldsArg b.nodes) xs = λ j d m. (let y = h.args j d m in y.holds) in
-    let trees : trees_of c.nodes zs ≡ trees_of b.nodes xs ++ tree_at c.nodes x.node ∷ [] = ap (trees_of c.nodes) q ∙ map-push (value_at c.nodes) xs x ∙ ap (λ ts. ts ++ tree_at c.nodes x.node ∷ []) (same_views HoldsArg value_at values_kept b.nodes c.nodes xs held g.extends) in
+    let trees : trees_of c.nodes zs ≡ trees_of b.nodes xs ++ tree_at c.nodes x.node ∷ [] = ap (trees_of c.nodes) q ∙ map-push (argument_value c.nodes) xs x ∙ ap (λ ts. ts ++ tree_at c.nodes x.node ∷ []) (same_views HoldsArg argument_value values_kept b.nodes c.nodes xs held g.extends) in
     let kinds : map kind_of_var (take (i + 1) ks) ≡ map kind_of_var (take i ks) ++ kind_of_var item ∷ [] = ap (map kind_of_var) (take_more ks i k l) ∙ map-push kind_of_var (take i ks) item in
     let long : i ≡ 0 + length (map kind_of_var (take i ks)) = (let m = length-map (take i ks) kind_of_var in let n = length-take-le i ks (omega arith) in omega (arith, m, n)) in
     record {
-      chosen = rw (trees, kinds) (choose_more (content_in a.nodes t.entries p) values os 0 i (map kind_of_var (take i ks)) (kind_of_var item) (trees_of b.nodes xs) (tree_at c.nodes x.node) (content_of a.nodes t.entries) (content_of b.nodes u.entries) (content_of c.nodes v.entries) long h.chosen choice);
+      chosen = rw (trees, kinds) (choose_more (content_within a.nodes t.entries p) values os 0 i (map kind_of_var (take i ks)) (kind_of_var item) (trees_of b.nodes xs) (tree_at c.nodes x.node) (content_of a.nodes t.entries) (content_of b.nodes u.entries) (content_of c.nodes v.entries) long h.chosen choice);
       args = subst (All (IsArgOf c.nodes v.entries)) (sym q) (All-push (IsArgOf c.nodes v.entries) xs x (λ j d m. arg_later s (h.args j d m)) arg);
       sorts = rw (trees, kinds) (sorts_more (map kind_of_var (take i ks)) (kind_of_var item) (trees_of b.nodes xs) (tree_at c.nodes x.node) h.sorts sort);
       placed = rw (trees, kinds) (placed_more (content_of a.nodes t.entries) (content_of b.nodes u.entries) (content_of c.nodes v.entries) (map kind_of_var (take i ks)) (kind_of_var item) (trees_of b.nodes xs) (tree_at c.nodes x.node) (as_many (map kind_of_var (take i ks)) (trees_of b.nodes xs) h.sorts) h.placed next);
@@ -243,17 +243,17 @@ pub record IsChoice (a b c : Cx) (t u v : Table) (p : ℕ) (values os xs : List 
   pub keeps : StepKeeps b c u v
   pub arg : IsArgOf c.nodes v.entries x
   pub sort : HasSort (kind_of_var k) (tree_at c.nodes x.node)
-  pub chosen : Chooses (content_in a.nodes t.entries p) values os i (kind_of_var k) (tree_at c.nodes x.node) (content_of b.nodes u.entries) (content_of c.nodes v.entries)
+  pub chosen : Chooses (content_within a.nodes t.entries p) values os i (kind_of_var k) (tree_at c.nodes x.node) (content_of b.nodes u.entries) (content_of c.nodes v.entries)
   pub placed : JoinsNew (IsPlacedNext (kind_of_var k) xs (tree_at c.nodes x.node)) (content_of b.nodes u.entries) (content_of c.nodes v.entries)
 
 -- an original is an argument of the table later
-known_in : (a b : Cx) (t u : Table) (p : ℕ) (x : Tree) → p ≤ t.entries.universe → StepKeeps a b t u → Knows (content_in a.nodes t.entries p) x → Knows (content_of b.nodes u.entries) x
+known_in : (a b : Cx) (t u : Table) (p : ℕ) (x : Tree) → p ≤ t.entries.universe → StepKeeps a b t u → Knows (content_within a.nodes t.entries p) x → Knows (content_of b.nodes u.entries) x
 known_in a b t u p x l s h =
     let k = s.kinds in
     let g : t.entries.universe ≤ u.entries.universe = k.grows in
-    Knows-kept (content_in a.nodes t.entries p) (content_of b.nodes u.entries) x (record { grows = omega (arith, l, g); kinds = k.kinds }) h
+    Knows-kept (content_within a.nodes t.entries p) (content_of b.nodes u.entries) x (record { grows = omega (arith, l, g); kinds = k.kinds }) h
 
-pub original_arg : (a b : Cx) (t u : Table) (p : ℕ) (x : GenericArg) → p ≤ t.entries.universe → StepKeeps a b t u → IsOriginal a.nodes (content_in a.nodes t.entries p) x → IsArgOf b.nodes u.entries x
+pub original_arg : (a b : Cx) (t u : Table) (p : ℕ) (x : GenericArg) → p ≤ t.entries.universe → StepKeeps a b t u → IsOriginal a.nodes (content_within a.nodes t.entries p) x → IsArgOf b.nodes u.entries x
 original_arg a b t u p x l s h =
     let held = h.holds in
     let g = s.grows in
@@ -261,7 +261,7 @@ original_arg a b t u p x l s h =
     record { holds = holds_kept _ a.nodes b.nodes x.node held e; known = rw (e.kept x.node held.within) (known_in a b t u p (tree_at a.nodes x.node) l s h.knows) }
 
 -- a guess
-pub guess_choice : (a b : Cx) (t u : Table) (p : ℕ) (values os xs : List Tree) (ks : List CanonicalVarKind) (gs : List (Option GenericArg)) (i : ℕ) (k : CanonicalVarKind) (x : GenericArg) → AreGuesses a.nodes (content_in a.nodes t.entries p) values os ks gs → slice_get ks i ≡ Some k → slice_get gs i ≡ Some (Some x)
+pub guess_choice : (a b : Cx) (t u : Table) (p : ℕ) (values os xs : List Tree) (ks : List CanonicalVarKind) (gs : List (Option GenericArg)) (i : ℕ) (k : CanonicalVarKind) (x : GenericArg) → AreGuesses a.nodes (content_within a.nodes t.entries p) values os ks gs → slice_get ks i ≡ Some k → slice_get gs i ≡ Some (Some x)
     → p ≤ t.entries.universe → StepKeeps a b t u → IsChoice a b b t u u p values os xs i k x
 guess_choice a b t u p values os xs ks gs i k x h at is l s =
     let fits = h.each i k (Some x) at is in
@@ -269,7 +269,7 @@ guess_choice a b t u p values os xs ks gs i k x h at is l s =
     let g = s.grows in
     let e = g.extends in
     let same : tree_at b.nodes x.node ≡ tree_at a.nodes x.node = e.kept x.node held.within in
-    let c = content_in a.nodes t.entries p in
+    let c = content_within a.nodes t.entries p in
     record {
       keeps = step_none b u s.table;
       arg = record { holds = holds_kept _ a.nodes b.nodes x.node held e; known = rw same (known_in a b t u p (tree_at a.nodes x.node) l s (guess_known c values os i (kind_of_var k) (tree_at a.nodes x.node) fits.1)) };
@@ -280,19 +280,19 @@ guess_choice a b t u p values os xs ks gs i k x h at is l s =
 
 -- .. or what was made
 pub made_choice : (a b c : Cx) (t u v : Table) (p : ℕ) (values os zs xs : List Tree) (i : ℕ) (k : CanonicalVarKind) (x : GenericArg) → zs ≡ os → StepKeeps b c u v → IsArgOf c.nodes v.entries x → HasSort (kind_of_var k) (tree_at c.nodes x.node)
-    → IsMadeFor p zs (kind_of_var k) (tree_at c.nodes x.node) (content_of b.nodes u.entries) (content_of c.nodes v.entries)
+    → IsMadeForPosition p zs (kind_of_var k) (tree_at c.nodes x.node) (content_of b.nodes u.entries) (content_of c.nodes v.entries)
     → JoinsNew (IsPlacedNext (kind_of_var k) xs (tree_at c.nodes x.node)) (content_of b.nodes u.entries) (content_of c.nodes v.entries) → IsChoice a b c t u v p values os xs i k x
 made_choice a b c t u v p values os zs xs i k x same s arg sort h placed = record {
   keeps = s;
   arg = arg;
   sort = sort;
-  chosen = made_chosen (content_in a.nodes t.entries p) values os i (kind_of_var k) (tree_at c.nodes x.node) (content_of b.nodes u.entries) (content_of c.nodes v.entries) (subst (λ ws. IsMadeFor p ws (kind_of_var k) (tree_at c.nodes x.node) (content_of b.nodes u.entries) (content_of c.nodes v.entries)) same h);
+  chosen = made_chosen (content_within a.nodes t.entries p) values os i (kind_of_var k) (tree_at c.nodes x.node) (content_of b.nodes u.entries) (content_of c.nodes v.entries) (subst (λ ws. IsMadeForPosition p ws (kind_of_var k) (tree_at c.nodes x.node) (content_of b.nodes u.entries) (content_of c.nodes v.entries)) same h);
   placed = placed;
 }
 
 -- the originals in a store that has grown
 pub originals_kept : (a b : Cx) (t u : Table) (c : Content) (xs : List GenericArg) → StepKeeps a b t u → All (IsOriginal a.nodes c) xs → trees_of b.nodes xs ≡ trees_of a.nodes xs
-originals_kept a b t u c xs s h = (let g = s.grows in same_views HoldsArg value_at values_kept a.nodes b.nodes xs (λ j d m. (let y = h j d m in y.holds)) g.extends)
+originals_kept a b t u c xs s h = (let g = s.grows in same_views HoldsArg argument_value values_kept a.nodes b.nodes xs (λ j d m. (let y = h j d m in y.holds)) g.extends)
 
 past_trees : (ts : List Tree) (xs : List GenericArg) (n : ℕ) → length xs ≤ n → get_or (trees_of ts xs) n empty ≡ empty
 past_trees ts [] n l = refl

@@ -27,7 +27,7 @@ use Rattle.nts_canonical.specs.Building.{IsArgOf}
 use Rattle.nts_canonical.proofs.VarLists.{map-push}
 use Rattle.nts_response.specs.Applied.{StepKeeps}
 use Rattle.nts_response.specs.Instantiated.{IsNewLike, MakesLike, AddsMissing}
-use Rattle.nts_response.specs.Replacing.{value_at}
+use Rattle.nts_response.specs.Replacing.{argument_value}
 use Rattle.nts_response.proofs.Each.{same_views, values_kept}
 use Rattle.nts_response.proofs.MadeValues.{is_new, added_keeps}
 use Rattle.nts_response.proofs.Stepping.{arg_later}
@@ -76,9 +76,9 @@ missing_more a b d t u w os vs new newer i f x l held s r m n h e =
     let value = held i f l in
     let o = first.extends in
     let behind = all_behind (IsArgOf b.nodes u.entries) os m.fresh (subst (All (IsArgOf b.nodes u.entries)) m.is m.args) in
-    let same : trees_of d.nodes m.fresh ≡ trees_of b.nodes m.fresh = same_views HoldsArg value_at values_kept b.nodes d.nodes m.fresh (λ k y q. (let z = behind k y q in z.holds)) up in
-    let trees : trees_of d.nodes (m.fresh ++ x ∷ []) ≡ trees_of b.nodes m.fresh ++ tree_at d.nodes x.node ∷ [] = map-push (value_at d.nodes) m.fresh x ∙ ap (λ z. z ++ tree_at d.nodes x.node ∷ []) same in
-    let values : trees_of a.nodes (take (i + 1) vs) ≡ trees_of a.nodes (take i vs) ++ tree_at a.nodes (get_or vs i f).node ∷ [] = ap (trees_of a.nodes) (take_more vs i f l) ∙ map-push (value_at a.nodes) (take i vs) (get_or vs i f) in
+    let same : trees_of d.nodes m.fresh ≡ trees_of b.nodes m.fresh = same_views HoldsArg argument_value values_kept b.nodes d.nodes m.fresh (λ k y q. (let z = behind k y q in z.holds)) up in
+    let trees : trees_of d.nodes (m.fresh ++ x ∷ []) ≡ trees_of b.nodes m.fresh ++ tree_at d.nodes x.node ∷ [] = map-push (argument_value d.nodes) m.fresh x ∙ ap (λ z. z ++ tree_at d.nodes x.node ∷ []) same in
+    let values : trees_of a.nodes (take (i + 1) vs) ≡ trees_of a.nodes (take i vs) ++ tree_at a.nodes (get_or vs i f).node ∷ [] = ap (trees_of a.nodes) (take_more vs i f l) ∙ map-push (argument_value a.nodes) (take i vs) (get_or vs i f) in
     let like = subst (λ z. IsNewLike (content_of b.nodes u.entries) (content_of d.nodes w.entries) z (tree_at d.nodes x.node)) (o.kept (get_or vs i f).node value.within) n in
     let new_variable = n.new in
     record {

@@ -21,7 +21,7 @@ use Rattle.nts_model.specs.Searching.Driving.{sort_at}
 use Rattle.nts_store.specs.Filled.{HasValue, HasValues}
 use Rattle.nts_canonical.specs.declared.types.CanonicalVarKind.{CanonicalVarKind}
 use Rattle.nts_canonical.specs.Forms.{kind_of_var}
-use Rattle.nts_response.specs.Applied.{HaveSorts}
+use Rattle.nts_response.specs.Applied.{PositionsHaveSorts}
 
 -- a label that is no leaf, or a region that stays itself, is known to each table
 leaf_variable : (c : Content) (l : Label) → ((x : Leaf) → label.Leaf x ≡ l → IsFixed x) → KnowsVariable c (variable_of l)
@@ -62,17 +62,17 @@ fixed_known c (node l t) h = (
 )
 
 -- values of these sorts serve every position
-value_there : (ks : List CanonicalVarKind) (ts : List Tree) (i : ℕ) (l : Label) → HaveSorts (map kind_of_var ks) ts → IsOfSort (slice_get (map (λ k. sort_at (kind_of_var k)) ks) i) (kind_of_label l) → (i < length ts) × (kind_of (get_or ts i empty) ≡ Some (kind_of_label l))
+value_there : (ks : List CanonicalVarKind) (ts : List Tree) (i : ℕ) (l : Label) → PositionsHaveSorts (map kind_of_var ks) ts → IsOfSort (slice_get (map (λ k. sort_at (kind_of_var k)) ks) i) (kind_of_label l) → (i < length ts) × (kind_of (get_or ts i empty) ≡ Some (kind_of_label l))
 value_there [] ts i l h k = absurd k
 value_there (s ∷ ss) [] i l h k = absurd h
 value_there (s ∷ ss) (t ∷ ts) zero l h k = (omega arith, h.0 ∙ ap Some (sym k))
 value_there (s ∷ ss) (t ∷ ts) (suc i) l h k = let w = value_there ss ts i l h.1 k in (omega (arith, w.0), w.1)
 
-has_value : (ks : List CanonicalVarKind) (ts : List Tree) (o : Option ℕ) (l : Label) → HaveSorts (map kind_of_var ks) ts → NamesAt (map (λ k. sort_at (kind_of_var k)) ks) o l → HasValue o ts l
+has_value : (ks : List CanonicalVarKind) (ts : List Tree) (o : Option ℕ) (l : Label) → PositionsHaveSorts (map kind_of_var ks) ts → NamesAt (map (λ k. sort_at (kind_of_var k)) ks) o l → HasValue o ts l
 has_value ks ts None l h k = tt
 has_value ks ts (Some i) l h k = value_there ks ts i l h k
 
-pub has_values : (ks : List CanonicalVarKind) (ts : List Tree) (t : Tree) → HaveSorts (map kind_of_var ks) ts → NamesFresh (map (λ k. sort_at (kind_of_var k)) ks) t → HasValues ts t
+pub has_values : (ks : List CanonicalVarKind) (ts : List Tree) (t : Tree) → PositionsHaveSorts (map kind_of_var ks) ts → NamesFresh (map (λ k. sort_at (kind_of_var k)) ks) t → HasValues ts t
 has_values ks ts empty h k = tt
 has_values ks ts (more a b) h k = (has_values ks ts a h k.0, has_values ks ts b h k.1)
 has_values ks ts (node l c) h k = (has_value ks ts (position_of l) l h k.0, has_values ks ts c h k.1)

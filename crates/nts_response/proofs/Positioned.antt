@@ -15,7 +15,7 @@ use Rattle.nts_canonical.specs.Forms.{kind_of_var, trees_of}
 use Rattle.nts_canonical.proofs.VarLists.{map-push}
 use Rattle.nts_canonical.proofs.PairLists.{holds_kept}
 use Rattle.nts_model.specs.Searching.Driving.{sort_at, positions_from}
-use Rattle.nts_response.specs.Replacing.{value_at}
+use Rattle.nts_response.specs.Replacing.{argument_value}
 use Rattle.nts_response.proofs.Each.{same_views, values_kept}
 
 -- the values are the positions of the first i kinds
@@ -34,7 +34,7 @@ one_position a b xs zs ks i d x l up so within tree e =
     let taken = map kind_of_var (take i ks) in
     let long : i ≡ 0 + length taken = (let p = length-map (take i ks) kind_of_var in let q = length-take-le i ks (omega arith) in omega (arith, p, q)) in
     let left : trees_of b zs ≡ positions_from 0 taken ++ position (sort_at (kind_of_var k)) i ∷ [] =
-    ap (trees_of b) e ∙ map-push (value_at b) xs x ∙ ap (λ vs. vs ++ tree_at b x.node ∷ []) (same_views HoldsArg value_at values_kept a b xs so.held up ∙ so.trees) ∙ ap (λ t. positions_from 0 taken ++ t ∷ []) tree in
+    ap (trees_of b) e ∙ map-push (argument_value b) xs x ∙ ap (λ vs. vs ++ tree_at b x.node ∷ []) (same_views HoldsArg argument_value values_kept a b xs so.held up ∙ so.trees) ∙ ap (λ t. positions_from 0 taken ++ t ∷ []) tree in
     let right : positions_from 0 (map kind_of_var (take (i + 1) ks)) ≡ positions_from 0 taken ++ position (sort_at (kind_of_var k)) i ∷ [] =
     ap (λ us. positions_from 0 (map kind_of_var us)) (take_more ks i d l) ∙ ap (positions_from 0) (map-push kind_of_var (take i ks) k) ∙ positions_push 0 i taken (kind_of_var k) long in
     let held : HoldsArg b x = record { within = within; fits = rw tree tt } in

@@ -36,9 +36,9 @@ use Rattle.nts_terms.specs.declared.handles.Goal.{Goal}
 use Rattle.nts_terms.specs.Handles.{HoldsArg, alias_head}
 use Rattle.nts_response.specs.declared.types.Response.{Response}
 use Rattle.nts_response.specs.Opened.{IsOpenable}
-use Rattle.nts_response.specs.Forms.{HoldsConstraint, HoldsOpen, HoldsResponse, recorded_at, premise_at}
-use Rattle.nts_response.specs.Applied.{HaveSorts, IsFillable}
-use Rattle.nts_response.specs.Applicable.{IsOverSorts, IsConstraintOver, IsHiddenOver, IsGoalOver, IsApplicable, AreRegistrable, IsReady, AreKnownPremises}
+use Rattle.nts_response.specs.Forms.{StoreHoldsConstraint, HoldsOpen, HoldsResponse, recorded_at, premise_at}
+use Rattle.nts_response.specs.Applied.{PositionsHaveSorts, IsFillable}
+use Rattle.nts_response.specs.Applicable.{IsOverSorts, IsConstraintOver, IsHiddenOver, IsGoalOver, IsApplicable, AreRegistrable, IsResponseReady, AreKnownPremises}
 use Rattle.nts_response.specs.Recorded.{IsRecordable}
 use Rattle.nts_response.proofs.Each.{goals_kept, same_views}
 use Rattle.nts_response.proofs.Over.{fixed_known, has_values}
@@ -71,7 +71,7 @@ row_over ts c ss (x ∷ xs) h =
 
 -- with these values of the sorts of the positions
 module _ (a b : List Tree) (c : Content) (ks : List CanonicalVarKind) (xs : List Tree) (formed : AreFormed a) (up : Extends a b)
-    (sorts : HaveSorts (map kind_of_var ks) xs) (regions : AreRegionsAt (map kind_of_var ks) xs) (known : (j : ℕ) → Knows c (get_or xs j empty)) (closed : (j : ℕ) → IsClosed (get_or xs j empty)) where
+    (sorts : PositionsHaveSorts (map kind_of_var ks) xs) (regions : AreRegionsAt (map kind_of_var ks) xs) (known : (j : ℕ) → Knows c (get_or xs j empty)) (closed : (j : ℕ) → IsClosed (get_or xs j empty)) where
   abbrev ss : List Sort
   ss = map (λ k. sort_at (kind_of_var k)) ks
 
@@ -87,7 +87,7 @@ module _ (a b : List Tree) (c : Content) (ks : List CanonicalVarKind) (xs : List
   pub fillable : (t : NodeId) → IsIn a t → IsOverSorts a ss t → IsFillable b c xs t
   fillable t w o = record { within = IsIn-extended up t w; positions = has t w o; knows = rw (there t w) (knows t w o) }
 
-  recordable : (x : RegionConstraint × VisibleForLeakCheck) → HoldsConstraint a x → IsConstraintOver a ss x → IsRecordable b c xs x
+  recordable : (x : RegionConstraint × VisibleForLeakCheck) → StoreHoldsConstraint a x → IsConstraintOver a ss x → IsRecordable b c xs x
   recordable x h o =
       let held_left = h.left in
       let held_right = h.right in
@@ -132,7 +132,7 @@ module _ (a b : List Tree) (c : Content) (ks : List CanonicalVarKind) (xs : List
     values_known vs (λ k d l. h (suc k) d (omega (arith, l))) (λ k d l. o (suc k) d (omega (arith, l))),
   )
 
-  sides_known : (cs : List (RegionConstraint × VisibleForLeakCheck)) → All (HoldsConstraint a) cs → All (IsConstraintOver a ss) cs → AreKnownSides c xs (map (recorded_at a) cs)
+  sides_known : (cs : List (RegionConstraint × VisibleForLeakCheck)) → All (StoreHoldsConstraint a) cs → All (IsConstraintOver a ss) cs → AreKnownSides c xs (map (recorded_at a) cs)
   sides_known [] h o = tt
   sides_known (x ∷ cs) h o =
       let held = h 0 x (omega arith) in
@@ -168,7 +168,7 @@ values_over ts us (v ∷ vs) f h o = (
   values_over ts us vs f (λ k d l. h (suc k) d (omega (arith, l))) (λ k d l. o (suc k) d (omega (arith, l))),
 )
 
-pub sides_over : (ts : List Tree) (ss : List Sort) (cs : List (RegionConstraint × VisibleForLeakCheck)) → AreFormed ts → All (HoldsConstraint ts) cs → All (IsConstraintOver ts ss) cs → AllSides IsOverPositions (map (recorded_at ts) cs)
+pub sides_over : (ts : List Tree) (ss : List Sort) (cs : List (RegionConstraint × VisibleForLeakCheck)) → AreFormed ts → All (StoreHoldsConstraint ts) cs → All (IsConstraintOver ts ss) cs → AllSides IsOverPositions (map (recorded_at ts) cs)
 sides_over ts us [] f h o = tt
 sides_over ts us (x ∷ cs) f h o =
     let held = h 0 x (omega arith) in
@@ -182,11 +182,11 @@ sides_over ts us (x ∷ cs) f h o =
 
 -- what is to be known to put a response into a table, and to say what that did
 pub record CanPut (a b : List Tree) (c : Content) (xs : List Tree) (r : Canonical Response) : Type 0 where
-  pub ready : IsReady b c xs r.value
+  pub ready : IsResponseReady b c xs r.value
   pub values : AreKnownFilled c xs (trees_of a r.value.var_values.items)
   pub sides : AreKnownSides c xs (map (recorded_at a) r.value.external_constraints.region_constraints.items)
 
-pub can_put : (a b : List Tree) (c : Content) (os xs : List Tree) (r : Canonical Response) → AreFormed a → Extends a b → IsApplicable a os r → HaveSorts (map kind_of_var r.var_kinds.items) xs → AreRegionsAt (map kind_of_var r.var_kinds.items) xs
+pub can_put : (a b : List Tree) (c : Content) (os xs : List Tree) (r : Canonical Response) → AreFormed a → Extends a b → IsApplicable a os r → PositionsHaveSorts (map kind_of_var r.var_kinds.items) xs → AreRegionsAt (map kind_of_var r.var_kinds.items) xs
     → ((j : ℕ) → Knows c (get_or xs j empty)) → ((j : ℕ) → IsClosed (get_or xs j empty)) → HoldsResponse b r.value → CanPut a b c xs r
 can_put a b c os xs r f up p sorts regions known closed later =
     let h = p.holds in

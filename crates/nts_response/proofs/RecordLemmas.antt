@@ -14,7 +14,7 @@ use Rattle.nts_model.specs.Tables.Contents.{Content, Recorded, with_constraint}
 use Rattle.nts_model.specs.Tables.Resolving.{Knows, IsSound, deeply_resolved}
 use Rattle.nts_model.specs.Tables.Worlds.{World, inst, IsTrueOf}
 use Rattle.nts_model.specs.Terms.Regions.{IsRegion}
-use Rattle.nts_model.specs.Tables.Holding.{IsTrivial, HasSides, IsRecorded}
+use Rattle.nts_model.specs.Tables.Holding.{IsTrivialUnder, HasSides, IsRecorded}
 use Rattle.nts_model.specs.Tables.Alike.{Alike, one_tree, two_regions, one_label, two_rows, HoldsEqual}
 use Rattle.nts_model.specs.Answers.Applying.{IsProperContent, IsRecordedIn}
 use Rattle.nts_model.proofs.Derivations.AlikeRelated.{empty_like}
@@ -53,7 +53,7 @@ same_sides_met w relation.Equal a b d e = ap (inst w) e
 same_sides_met w relation.RegionOutlives a b d e = inl (ap (inst w) e)
 same_sides_met w relation.TypeOutlives a b d e = absurd (d refl)
 
-same_sides_trivial : (c : Content) (r : Relation) (a b : Tree) → (r ≡ relation.TypeOutlives → ⊥) → a ≡ b → IsTrivial c r a b
+same_sides_trivial : (c : Content) (r : Relation) (a b : Tree) → (r ≡ relation.TypeOutlives → ⊥) → a ≡ b → IsTrivialUnder c r a b
 same_sides_trivial c relation.Equal a b d e = ap (deeply_resolved c) e
 same_sides_trivial c relation.RegionOutlives a b d e = ap (deeply_resolved c) e
 same_sides_trivial c relation.TypeOutlives a b d e = absurd (d refl)
@@ -100,7 +100,7 @@ recorded_seen c d x v h =
     record {
       continues = h.continues;
       narrows = record { sound = n.sound; complete = n.complete; names = n.names };
-      held = ⊎_elim (λ (z : IsTrivial d x.relation x.left x.right). inl z)
+      held = ⊎_elim (λ (z : IsTrivialUnder d x.relation x.left x.right). inl z)
           (λ (z : IsRecorded d x). inr (record { constraint = z.constraint; found = z.found; same_relation = z.same_relation; same_sides = HasSides-seen d x.relation x z.constraint v z.same_sides })) h.held;
       proper = h.proper;
     }

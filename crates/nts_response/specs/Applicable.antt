@@ -72,17 +72,17 @@ pub record IsKindFor (m : ℕ) (os : List Tree) (k : PositionKind) : Type 0 wher
   pub universe : universe_of_kind k ≤ m
   pub original : NamesOriginal os k
 
-abbrev pub sorts_of : Canonical Response → List Sort
-sorts_of r = map (λ k. sort_at (kind_of_var k)) r.var_kinds.items
+abbrev pub response_sorts : Canonical Response → List Sort
+response_sorts r = map (λ k. sort_at (kind_of_var k)) r.var_kinds.items
 
 -- a response that can be applied to these originals: it is over positions of its kinds, and has a value for each original
 pub record IsApplicable (ts : List Tree) (os : List Tree) (r : Canonical Response) : Type 0 where
   pub holds : HoldsResponse ts r.value
   pub kinds : All (λ k. IsKindFor r.max_universe os (kind_of_var k)) r.var_kinds.items
-  pub values : All (λ v. IsOverSorts ts (sorts_of r) v.node) r.value.var_values.items
-  pub constraints : All (IsConstraintOver ts (sorts_of r)) r.value.external_constraints.region_constraints.items
-  pub hidden : All (IsHiddenOver ts (sorts_of r)) r.value.external_constraints.opaque_types.items
-  pub open_goals : All (IsGoalOver ts (sorts_of r)) r.value.external_constraints.normalization_nested_goals.items
+  pub values : All (λ v. IsOverSorts ts (response_sorts r) v.node) r.value.var_values.items
+  pub constraints : All (IsConstraintOver ts (response_sorts r)) r.value.external_constraints.region_constraints.items
+  pub hidden : All (IsHiddenOver ts (response_sorts r)) r.value.external_constraints.opaque_types.items
+  pub open_goals : All (IsGoalOver ts (response_sorts r)) r.value.external_constraints.normalization_nested_goals.items
   pub long : length os ≡ length r.value.var_values.items
 
 -- the constraints of a table to which a response was applied: those that there were, then those by which originals became equal
@@ -101,7 +101,7 @@ AreKnownPremises c (p ∷ ps) = Knows c p.environment × Knows c p.predicate × 
 -- a response was applied to originals, and these are its open goals, of the store and of the table. Values were chosen for
 -- its positions: they stand in what it adds, in its hidden types and in its goals. Two variables are of one class of
 -- sub-unification exactly if they were, if their positions are, if they became one, or by such variables
-pub record IsApplied (a b : List Tree) (e f : Entries) (os : List Tree) (r : Form) (visible : Bool) (goals : List (GoalSource × Goal)) : Type 0 where
+pub record IsResponseApplied (a b : List Tree) (e f : Entries) (os : List Tree) (r : Form) (visible : Bool) (goals : List (GoalSource × Goal)) : Type 0 where
   pub applies : Applies (content_of a e) (content_of b f) os r
   pub hidden_types : List (AliasTerm × Ty)
   pub hidden : map (hidden_of b) hidden_types ≡ map (hidden_by (filled applies.chosen)) r.findings.hidden
@@ -119,7 +119,7 @@ pub record AreRegistrable (ts : List Tree) (c : Content) (xs : List Tree) (hs : 
   pub knows : Knows c (filled xs (hidden_pairs ts hs))
 
 -- all that a response holds can be filled
-pub record IsReady (ts : List Tree) (c : Content) (xs : List Tree) (r : Response) : Type 0 where
+pub record IsResponseReady (ts : List Tree) (c : Content) (xs : List Tree) (r : Response) : Type 0 where
   pub holds : HoldsResponse ts r
   pub values : All (λ v. IsFillable ts c xs v.node) r.var_values.items
   pub constraints : All (IsRecordable ts c xs) r.external_constraints.region_constraints.items

@@ -52,8 +52,8 @@ pub record StepKeeps (old new : Cx) (t u : Table) : Type 0 where
   pub hidden : u.entries.hidden ≡ t.entries.hidden
 
 -- the content of a table as it was in an earlier universe
-abbrev pub content_in : List Tree → Entries → ℕ → Content
-content_in ts e u = in_universe (content_of ts e) u
+abbrev pub content_within : List Tree → Entries → ℕ → Content
+content_within ts e u = in_universe (content_of ts e) u
 
 -- an original: a term of the store and of the table
 pub record IsOriginal (ts : List Tree) (c : Content) (x : GenericArg) : Type 0 where
@@ -123,13 +123,13 @@ pub record IsChoosable (p m : ℕ) (os : List Tree) (k : PositionKind) : Type 0 
 
 -- what stands for a position where nothing is guessed: a new variable, or the placeholder. p is the universe before those
 -- of the response were made
-abbrev pub IsMadeFor : ℕ → List Tree → PositionKind → Tree → Content → Content → Type 0
-IsMadeFor p os (type_variable u r) t d e = IsNew d e kind.Ty (p + u) t
-IsMadeFor p os integer_variable t d e = IsNew d e kind.Int 0 t
-IsMadeFor p os float_variable t d e = IsNew d e kind.Float 0 t
-IsMadeFor p os (const_variable u) t d e = IsNew d e kind.Const (p + u) t
-IsMadeFor p os (region_variable u) t d e = IsNew d e kind.Region (p + u) t
-IsMadeFor p os (placeholder s u n) t d e = (t ≡ placeholder_at p os s u n) × (p + u ≤ d.universe) × (e ≡ d)
+abbrev pub IsMadeForPosition : ℕ → List Tree → PositionKind → Tree → Content → Content → Type 0
+IsMadeForPosition p os (type_variable u r) t d e = IsNew d e kind.Ty (p + u) t
+IsMadeForPosition p os integer_variable t d e = IsNew d e kind.Int 0 t
+IsMadeForPosition p os float_variable t d e = IsNew d e kind.Float 0 t
+IsMadeForPosition p os (const_variable u) t d e = IsNew d e kind.Const (p + u) t
+IsMadeForPosition p os (region_variable u) t d e = IsNew d e kind.Region (p + u) t
+IsMadeForPosition p os (placeholder s u n) t d e = (t ≡ placeholder_at p os s u n) × (p + u ≤ d.universe) × (e ≡ d)
 
 -- the position of the original that a placeholder of the root names
 abbrev pub if_root : ℕ → ℕ → Option ℕ
@@ -144,10 +144,10 @@ original_named k = None
 abbrev pub HasSort : PositionKind → Tree → Type 0
 HasSort k t = kind_of t ≡ Some (of_sort (sort_at k))
 
-abbrev pub HaveSorts : List PositionKind → List Tree → Type 0
-HaveSorts [] [] = Unit {0}
-HaveSorts (k ∷ ks) (t ∷ ts) = HasSort k t × HaveSorts ks ts
-HaveSorts ks ts = ⊥
+abbrev pub PositionsHaveSorts : List PositionKind → List Tree → Type 0
+PositionsHaveSorts [] [] = Unit {0}
+PositionsHaveSorts (k ∷ ks) (t ∷ ts) = HasSort k t × PositionsHaveSorts ks ts
+PositionsHaveSorts ks ts = ⊥
 
 -- a term whose positions can be filled with these trees, to a term of the table
 pub record IsFillable (ts : List Tree) (c : Content) (xs : List Tree) (t : NodeId) : Type 0 where

@@ -61,7 +61,7 @@ response_at ts c =
     }
 
 -- its terms are of the store
-pub record HoldsConstraint (ts : List Tree) (x : RegionConstraint × VisibleForLeakCheck) : Type 0 where
+pub record StoreHoldsConstraint (ts : List Tree) (x : RegionConstraint × VisibleForLeakCheck) : Type 0 where
   pub left : HoldsArg ts x.0.left
   pub right : HoldsRegion ts x.0.right
 
@@ -70,7 +70,7 @@ pub record HoldsOpen (ts : List Tree) (g : GoalSource × Goal) : Type 0 where
 
 pub record HoldsResponse (ts : List Tree) (r : Response) : Type 0 where
   pub values : All (HoldsArg ts) r.var_values.items
-  pub constraints : All (HoldsConstraint ts) r.external_constraints.region_constraints.items
+  pub constraints : All (StoreHoldsConstraint ts) r.external_constraints.region_constraints.items
   pub hidden : All (IsHidden ts) r.external_constraints.opaque_types.items
   pub open_goals : All (HoldsOpen ts) r.external_constraints.normalization_nested_goals.items
 
@@ -82,8 +82,8 @@ pub record KnowsFindings (c : Content) (x : Findings) : Type 0 where
 abbrev pub found_in : ExternalConstraintsData → List (RegionConstraint × VisibleForLeakCheck) × List (AliasTerm × Ty) × List (GoalSource × Goal)
 found_in x = (x.region_constraints.items, x.opaque_types.items, x.normalization_nested_goals.items)
 
-abbrev pub parts_of : Response → Certainty × List GenericArg × List (RegionConstraint × VisibleForLeakCheck) × List (AliasTerm × Ty) × List (GoalSource × Goal)
-parts_of r =
+abbrev pub response_parts : Response → Certainty × List GenericArg × List (RegionConstraint × VisibleForLeakCheck) × List (AliasTerm × Ty) × List (GoalSource × Goal)
+response_parts r =
     let x = r.external_constraints in
     (r.certainty, r.var_values.items, x.region_constraints.items, x.opaque_types.items, x.normalization_nested_goals.items)
 

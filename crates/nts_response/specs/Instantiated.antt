@@ -46,7 +46,7 @@ pub record AreValuesFor (ts : List Tree) (os : List Tree) (m : ℕ) (ks : List C
   pub long : length os ≡ length vs
 
 -- .. were applied: this was chosen for the positions
-pub record AreEquated (c d : Content) (os : List Tree) (r : Form) (chosen : List Tree) : Type 0 where
+pub record AreValuesEquated (c d : Content) (os : List Tree) (r : Form) (chosen : List Tree) : Type 0 where
   pub applies : Applies c d os r
   pub is : applies.chosen ≡ chosen
   pub shares : JoinsBy (PlacedOrOne c d r.kinds chosen) c d

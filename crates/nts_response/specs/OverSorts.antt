@@ -17,7 +17,7 @@ use Rattle.nts_delegate.specs.declared.delegate.RegionConstraint.{RegionConstrai
 use Rattle.nts_delegate.specs.Clauses.{is_foreign_leaf}
 use Rattle.nts_canonical.specs.Forms.{IsHidden}
 use Rattle.nts_response.specs.declared.types.Response.{Response}
-use Rattle.nts_response.specs.Forms.{HoldsConstraint, HoldsOpen}
+use Rattle.nts_response.specs.Forms.{StoreHoldsConstraint, HoldsOpen}
 use Rattle.nts_response.specs.Applicable.{IsOverSorts, IsConstraintOver, IsHiddenOver, IsGoalOver}
 
 -- a leaf, other than of a region that stays itself
@@ -34,7 +34,7 @@ abbrev pub IsArgIn : List Tree → List Sort → GenericArg → Type 0
 IsArgIn ts ss v = HoldsArg ts v × IsOverSorts ts ss v.node
 
 abbrev pub IsConstraintIn : List Tree → List Sort → RegionConstraint × VisibleForLeakCheck → Type 0
-IsConstraintIn ts ss x = HoldsConstraint ts x × IsConstraintOver ts ss x
+IsConstraintIn ts ss x = StoreHoldsConstraint ts x × IsConstraintOver ts ss x
 
 abbrev pub IsHiddenIn : List Tree → List Sort → AliasTerm × Ty → Type 0
 IsHiddenIn ts ss h = IsHidden ts h × IsHiddenOver ts ss h

@@ -31,13 +31,13 @@ pub record IsRecordable (ts : List Tree) (c : Content) (xs : List Tree) (x : Reg
   pub left_closed : IsClosed (filled xs (tree_at ts x.0.left.node))
 
 -- that a type outlives a region the leak check always sees; a constraint between regions, as told
-abbrev pub seen_as : Relation → Bool → Bool
-seen_as relation.TypeOutlives v = true
-seen_as r v = v
+abbrev pub seen_by_leak_check : Relation → Bool → Bool
+seen_by_leak_check relation.TypeOutlives v = true
+seen_by_leak_check r v = v
 
 -- whether it sees a constraint of a response: it saw it in the query, and is to see it here
 abbrev pub seen_if : Bool → Recorded → Bool
-seen_if v x = seen_as x.relation (x.is_visible && v)
+seen_if v x = seen_by_leak_check x.relation (x.is_visible && v)
 
 -- a constraint between closed terms, which the leak check sees or not
 pub record IsShown (v : Bool) (x : Recorded) : Type 0 where

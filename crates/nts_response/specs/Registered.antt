@@ -10,7 +10,7 @@ use Rattle.nts_table.specs.Registering.{Registers}
 use Rattle.nts_canonical.specs.Building.{replaced_by, RegistersAll}
 
 -- one is registered, and what gave place to it is a duplicate afterwards
-pub record Takes (ts : List Tree) (c : Content) (x : HiddenTypes) (h : HiddenType) (y : HiddenTypes) : Type 0 where
+pub record RegistersHidden (ts : List Tree) (c : Content) (x : HiddenTypes) (h : HiddenType) (y : HiddenTypes) : Type 0 where
   pub older : Option Ty
   pub registers : Registers ts c x.lookup h y.lookup older
   pub duplicates : y.duplicates ≡ x.duplicates ++ replaced_by h older

@@ -25,8 +25,8 @@ state_leaves vs p = seen is_fixed [] (state_row vs p)
 
 -- the state of a table with these sub roots that has these values and this payload, whose universes are counted from m:
 -- each leaf is a position, as in a response
-abbrev pub state_of : Content → (ℕ → ℕ) → ℕ → List Tree → Tree → StateForm
-state_of c r m vs p =
+abbrev pub state_form_of : Content → (ℕ → ℕ) → ℕ → List Tree → Tree → StateForm
+state_form_of c r m vs p =
     record {
       values = map (positioned (state_leaves vs p)) vs;
       payload = positioned (state_leaves vs p) p;
@@ -36,7 +36,7 @@ state_of c r m vs p =
 
 -- .. once they are read under the values of the table
 abbrev pub resolved_state_of : Content → (ℕ → ℕ) → ℕ → List Tree → Tree → StateForm
-resolved_state_of c r m vs p = state_of c r m (map (deeply_resolved c) vs) (deeply_resolved c p)
+resolved_state_of c r m vs p = state_form_of c r m (map (deeply_resolved c) vs) (deeply_resolved c p)
 
 -- what a canonical state stands for in a store, where this tells the tree of a payload
 abbrev pub state_at : {T : Type 0} → (List Tree → T → Tree) → List Tree → Canonical (State T) → StateForm

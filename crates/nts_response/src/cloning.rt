@@ -1,6 +1,6 @@
 //! The same response once more.
 ghost use Rattle.std.specs.Prelude.{◌≡◌, IfOk, IsOkUnless};
-ghost use Rattle.nts_response.specs.Forms.{parts_of, found_in};
+ghost use Rattle.nts_response.specs.Forms.{response_parts, found_in};
 
 use crate::types::{CanonicalResponse, ExternalConstraintsData, Response};
 use nts_canonical::Canonical;
@@ -26,7 +26,7 @@ impl ExternalConstraintsData {
 impl Response {
     /// The same once more.
     pub fn clone(&self) -> Result<Response, Fault>
-        ensures same { IfOk result (λ r. parts_of r ≡ parts_of self.now) }
+        ensures same { IfOk result (λ r. response_parts r ≡ response_parts self.now) }
         ensures memory { IsOkUnless result Fault.Memory }
     {
         let var_values = self.var_values.clone()?;
@@ -41,7 +41,7 @@ impl Response {
 
 /// The same canonical response once more.
 pub fn clone_response(response: &CanonicalResponse) -> Result<CanonicalResponse, Fault>
-    ensures value { IfOk result (λ r. parts_of r.value ≡ parts_of response.now.value) }
+    ensures value { IfOk result (λ r. response_parts r.value ≡ response_parts response.now.value) }
     ensures kinds { IfOk result (λ r. r.var_kinds.items ≡ response.now.var_kinds.items) }
     ensures universe { IfOk result (λ r. r.max_universe ≡ response.now.max_universe) }
     ensures memory { IsOkUnless result Fault.Memory }

@@ -9,7 +9,7 @@ ghost use Rattle.nts_store.specs.Growth.{tree_at, AllIn};
 ghost use Rattle.nts_store.specs.declared.fault.EvalError.TheVariants.{NoSolution};
 ghost use Rattle.nts_unify.specs.Reading.{content_of};
 ghost use Rattle.nts_unify.specs.Changing.{IsLater};
-ghost use Rattle.nts_table.specs.Tables.{IsTable, IsTermOf};
+ghost use Rattle.nts_table.specs.Tables.{IsTable, IsTermIn};
 ghost use Rattle.nts_canonical.specs.Forms.{trees_of};
 ghost use Rattle.nts_canonical.specs.Building.{IsArgOf};
 ghost use Rattle.nts_response.specs.Applied.{StepKeeps, IsFillable};
@@ -56,7 +56,7 @@ fn equate_one(
     requires table { IsTable cx.old.nodes table.old }
     requires chosen { AllIn cx.old.nodes chosen.now }
     requires value { IsFillable cx.old.nodes (content_of cx.old.nodes table.old.entries) (map (tree_at cx.old.nodes) chosen.now) value }
-    requires original { IsTermOf cx.old.nodes table.old original }
+    requires original { IsTermIn cx.old.nodes table.old original }
     ensures related { OnOk result (AreRelated (content_of cx.old.nodes table.old.entries) (content_of cx.new.nodes table.new.entries) (filled (map (tree_at cx.old.nodes) chosen.now) (tree_at cx.old.nodes value)) (tree_at cx.old.nodes original)) }
     ensures labels { OnOk result (BringsLabelsOf (content_of cx.old.nodes table.old.entries) (content_of cx.new.nodes table.new.entries) (filled (map (tree_at cx.old.nodes) chosen.now) (tree_at cx.old.nodes value)) (tree_at cx.old.nodes original)) }
     ensures no { result ≡ Err NoSolution → AreUnrelated (content_of cx.old.nodes table.old.entries) (filled (map (tree_at cx.old.nodes) chosen.now) (tree_at cx.old.nodes value)) (tree_at cx.old.nodes original) }

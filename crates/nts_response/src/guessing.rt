@@ -6,7 +6,7 @@ ghost use Rattle.nts_store.specs.Growth.{tree_at, IsIn};
 ghost use Rattle.nts_terms.specs.Handles.{HoldsArg};
 ghost use Rattle.nts_relating.specs.Knowing.{HasNamed};
 ghost use Rattle.nts_canonical.specs.Forms.{kind_of_var, trees_of};
-ghost use Rattle.nts_response.specs.Applied.{content_in, IsOriginal, IsPosition, IsRootVariable, IsClosedConst, MayStand, AreGuesses};
+ghost use Rattle.nts_response.specs.Applied.{content_within, IsOriginal, IsPosition, IsRootVariable, IsClosedConst, MayStand, AreGuesses};
 
 use crate::formed::terms_are_formed;
 use nts_canonical::CanonicalVarKind;
@@ -28,10 +28,10 @@ pub(crate) fn guesses(
     originals: &[GenericArg],
 ) -> Result<Vec<Option<GenericArg>>, AllocError>
     requires values { All (HoldsArg cx.now.nodes) values.now }
-    requires originals { All (IsOriginal cx.now.nodes (content_in cx.now.nodes table.now.entries universe)) originals.now }
-    requires current { AreCurrent (content_in cx.now.nodes table.now.entries universe) }
+    requires originals { All (IsOriginal cx.now.nodes (content_within cx.now.nodes table.now.entries universe)) originals.now }
+    requires current { AreCurrent (content_within cx.now.nodes table.now.entries universe) }
     requires long { length originals.now ≡ length values.now }
-    ensures { IfOk result (λ g. AreGuesses cx.now.nodes (content_in cx.now.nodes table.now.entries universe) (trees_of cx.now.nodes values.now) (trees_of cx.now.nodes originals.now) kinds.now g.items) }
+    ensures { IfOk result (λ g. AreGuesses cx.now.nodes (content_within cx.now.nodes table.now.entries universe) (trees_of cx.now.nodes values.now) (trees_of cx.now.nodes originals.now) kinds.now g.items) }
 {
     let mut guessed = vec![in cx.alloc; None; kinds.len()]?;
     for i in 0..values.len() {
@@ -64,9 +64,9 @@ fn may_stand(
     kind: CanonicalVarKind,
     original: GenericArg,
 ) -> bool
-    requires original { IsOriginal cx.now.nodes (content_in cx.now.nodes table.now.entries universe) original }
-    requires current { AreCurrent (content_in cx.now.nodes table.now.entries universe) }
-    ensures { result ≡ true → MayStand (content_in cx.now.nodes table.now.entries universe) (kind_of_var kind) (tree_at cx.now.nodes original.node) }
+    requires original { IsOriginal cx.now.nodes (content_within cx.now.nodes table.now.entries universe) original }
+    requires current { AreCurrent (content_within cx.now.nodes table.now.entries universe) }
+    ensures { result ≡ true → MayStand (content_within cx.now.nodes table.now.entries universe) (kind_of_var kind) (tree_at cx.now.nodes original.node) }
 {
     terms_are_formed(cx);
     let label = cx.nodes.label(original.node);

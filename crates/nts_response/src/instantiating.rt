@@ -10,9 +10,9 @@ ghost use Rattle.nts_unify.specs.Reading.{content_of};
 ghost use Rattle.nts_table.specs.Tables.{IsTable};
 ghost use Rattle.nts_canonical.specs.Forms.{kind_of_var, trees_of};
 ghost use Rattle.nts_canonical.specs.Building.{IsArgOf};
-ghost use Rattle.nts_response.specs.Applied.{StepKeeps, KeepsFrame, HaveSorts};
+ghost use Rattle.nts_response.specs.Applied.{StepKeeps, KeepsFrame, PositionsHaveSorts};
 ghost use Rattle.nts_response.specs.States.{state_at};
-ghost use Rattle.nts_response.specs.Instantiated.{values_alone, AreValuesFor, AreEquated, state_sorts, IsInstantiable, IsInstantiated, RefusesState, AddsMissing};
+ghost use Rattle.nts_response.specs.Instantiated.{values_alone, AreValuesFor, AreValuesEquated, state_sorts, IsInstantiable, IsInstantiated, RefusesState, AddsMissing};
 
 use crate::choosing::choose_values;
 use crate::equating::equate_values;
@@ -124,9 +124,9 @@ fn equated(
     requires closed { All (λ o. IsClosed (tree_at cx.old.nodes o.node)) originals.now }
     requires fits { AreValuesFor cx.old.nodes (trees_of cx.old.nodes originals.now) max_universe kinds.now values.now }
     requires room { table.old.entries.universe + max_universe ≤ u32.MAX }
-    ensures equated { IfOk result (λ r. AreEquated (content_of cx.old.nodes table.old.entries) (content_of cx.new.nodes table.new.entries) (trees_of cx.old.nodes originals.now) (values_alone (trees_of cx.old.nodes values.now) (map kind_of_var kinds.now) max_universe) (trees_of cx.new.nodes r.items)) }
+    ensures equated { IfOk result (λ r. AreValuesEquated (content_of cx.old.nodes table.old.entries) (content_of cx.new.nodes table.new.entries) (trees_of cx.old.nodes originals.now) (values_alone (trees_of cx.old.nodes values.now) (map kind_of_var kinds.now) max_universe) (trees_of cx.new.nodes r.items)) }
     ensures args { IfOk result (λ r. All (IsArgOf cx.new.nodes table.new.entries) r.items) }
-    ensures sorts { IfOk result (λ r. HaveSorts (map kind_of_var kinds.now) (trees_of cx.new.nodes r.items)) }
+    ensures sorts { IfOk result (λ r. PositionsHaveSorts (map kind_of_var kinds.now) (trees_of cx.new.nodes r.items)) }
     ensures originals { OnOk result (All (IsArgOf cx.new.nodes table.new.entries) originals.now) }
     ensures no { result ≡ Err NoSolution → RefusesResponse (content_of cx.old.nodes table.old.entries) (trees_of cx.old.nodes originals.now) (values_alone (trees_of cx.old.nodes values.now) (map kind_of_var kinds.now) max_universe) }
     ensures full { result ≢ Err EvalError.Full }

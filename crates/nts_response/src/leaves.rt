@@ -7,7 +7,7 @@ ghost use Rattle.nts_store.specs.Growth.{tree_at, IsIn};
 ghost use Rattle.nts_terms.specs.Handles.{HoldsArg};
 ghost use Rattle.nts_delegate.specs.Offered.{hidden_of};
 ghost use Rattle.nts_canonical.specs.Forms.{trees_of, IsHidden};
-ghost use Rattle.nts_response.specs.Forms.{recorded_at, premise_at, findings_at, HoldsConstraint, HoldsOpen, HoldsResponse};
+ghost use Rattle.nts_response.specs.Forms.{recorded_at, premise_at, findings_at, StoreHoldsConstraint, HoldsOpen, HoldsResponse};
 
 use crate::types::Response;
 use indexmap::IndexSet;
@@ -56,7 +56,7 @@ fn see_constraints(
     leaves: &mut IndexSet<Leaf>,
     constraints: &[(RegionConstraint, VisibleForLeakCheck)],
 ) -> Result<(), AllocError>
-    requires { All (HoldsConstraint cx.now.nodes) constraints.now }
+    requires { All (StoreHoldsConstraint cx.now.nodes) constraints.now }
     ensures { OnOk result (leaves.new.keys ≡ seen is_fixed leaves.old.keys (constraint_row (map (recorded_at cx.now.nodes) constraints.now) empty)) }
 {
     for i in 0..constraints.len() {

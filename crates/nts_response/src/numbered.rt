@@ -6,8 +6,8 @@ ghost use Rattle.nts_store.specs.Growth.{tree_at, Extends};
 ghost use Rattle.nts_terms.specs.Handles.{Holds, HoldsArg};
 ghost use Rattle.nts_delegate.specs.Offered.{hidden_of};
 ghost use Rattle.nts_canonical.specs.Forms.{IsHidden};
-ghost use Rattle.nts_response.specs.Forms.{recorded_at, premise_at, HoldsConstraint, HoldsOpen};
-ghost use Rattle.nts_response.specs.Replacing.{ReplacesEach, value_at};
+ghost use Rattle.nts_response.specs.Forms.{recorded_at, premise_at, StoreHoldsConstraint, HoldsOpen};
+ghost use Rattle.nts_response.specs.Replacing.{ReplacesEach, argument_value};
 
 use indexmap::IndexSet;
 use nts_canonical::{Staying, numbered};
@@ -40,7 +40,7 @@ pub(crate) fn numbered_values(
     values: &[GenericArg],
 ) -> Result<Vec<GenericArg>, AllocError>
     requires { All (HoldsArg nodes.old) values.now }
-    ensures each { IfOk result (λ v. ReplacesEach HoldsArg value_at (positioned leaves.now.keys) nodes.old nodes.new values.now v.items) }
+    ensures each { IfOk result (λ v. ReplacesEach HoldsArg argument_value (positioned leaves.now.keys) nodes.old nodes.new values.now v.items) }
     ensures extends { Extends nodes.old nodes.new }
 {
     let mut numbered = Vec::with_capacity(alloc, values.len())?;
@@ -57,8 +57,8 @@ pub(crate) fn numbered_constraints(
     leaves: &IndexSet<Leaf>,
     constraints: &[(RegionConstraint, VisibleForLeakCheck)],
 ) -> Result<Vec<(RegionConstraint, VisibleForLeakCheck)>, AllocError>
-    requires { All (HoldsConstraint nodes.old) constraints.now }
-    ensures each { IfOk result (λ v. ReplacesEach HoldsConstraint recorded_at (recorded_by (positioned leaves.now.keys)) nodes.old nodes.new constraints.now v.items) }
+    requires { All (StoreHoldsConstraint nodes.old) constraints.now }
+    ensures each { IfOk result (λ v. ReplacesEach StoreHoldsConstraint recorded_at (recorded_by (positioned leaves.now.keys)) nodes.old nodes.new constraints.now v.items) }
     ensures extends { Extends nodes.old nodes.new }
 {
     let mut numbered = Vec::with_capacity(alloc, constraints.len())?;
@@ -75,8 +75,8 @@ fn numbered_constraint(
     leaves: &IndexSet<Leaf>,
     constraint: (RegionConstraint, VisibleForLeakCheck),
 ) -> Result<(RegionConstraint, VisibleForLeakCheck), AllocError>
-    requires { HoldsConstraint nodes.old constraint }
-    ensures holds { IfOk result (HoldsConstraint nodes.new) }
+    requires { StoreHoldsConstraint nodes.old constraint }
+    ensures holds { IfOk result (StoreHoldsConstraint nodes.new) }
     ensures replaced { IfOk result (λ r. recorded_at nodes.new r ≡ recorded_by (positioned leaves.now.keys) (recorded_at nodes.old constraint)) }
     ensures extends { Extends nodes.old nodes.new }
 {

@@ -10,11 +10,11 @@ ghost use Rattle.nts_model.specs.Tables.Passing.{BringsLabelsOf, BringsOnly};
 ghost use Rattle.nts_store.specs.Growth.{tree_at, AllIn};
 ghost use Rattle.nts_unify.specs.Reading.{content_of};
 ghost use Rattle.nts_unify.specs.Recording.{is_visible};
-ghost use Rattle.nts_table.specs.Tables.{IsTable, IsTermOf};
+ghost use Rattle.nts_table.specs.Tables.{IsTable, IsTermIn};
 ghost use Rattle.nts_table.specs.Frames.{ChangesVariables};
 ghost use Rattle.nts_response.specs.Forms.{recorded_at};
 ghost use Rattle.nts_response.specs.Applied.{StepKeeps};
-ghost use Rattle.nts_response.specs.Recorded.{sides_of, IsLeftSide, IsRecordable, AddsSeen, AddsAllSeen, seen_as, seen_if};
+ghost use Rattle.nts_response.specs.Recorded.{sides_of, IsLeftSide, IsRecordable, AddsSeen, AddsAllSeen, seen_by_leak_check, seen_if};
 
 use nts_delegate::RegionConstraint;
 use nts_model::Relation;
@@ -86,13 +86,13 @@ fn record_between(
     span: Span,
 ) -> Result<(), Fault>
     requires table { IsTable cx.now.nodes table.old }
-    requires left { IsTermOf cx.now.nodes table.old left }
-    requires right { IsTermOf cx.now.nodes table.old right }
+    requires left { IsTermIn cx.now.nodes table.old left }
+    requires right { IsTermIn cx.now.nodes table.old right }
     requires left_side { IsLeftSide relation (tree_at cx.now.nodes left) }
     requires right_side { IsRegion (tree_at cx.now.nodes right) }
     requires closed { IsClosed (tree_at cx.now.nodes left) }
     ensures recorded { OnOk result (IsRecordedIn (content_of cx.now.nodes table.old.entries) (content_of cx.now.nodes table.new.entries) (record { relation = relation; left = tree_at cx.now.nodes left; right = tree_at cx.now.nodes right; is_visible = is_visible visible })) }
-    ensures seen { OnOk result (AddsSeen (seen_as relation (is_visible visible)) (content_of cx.now.nodes table.old.entries).constraints (content_of cx.now.nodes table.new.entries).constraints) }
+    ensures seen { OnOk result (AddsSeen (seen_by_leak_check relation (is_visible visible)) (content_of cx.now.nodes table.old.entries).constraints (content_of cx.now.nodes table.new.entries).constraints) }
     ensures labels { OnOk result (BringsLabelsOf (content_of cx.now.nodes table.old.entries) (content_of cx.now.nodes table.new.entries) (tree_at cx.now.nodes left) (tree_at cx.now.nodes right)) }
     ensures joins { OnOk result (JoinsSubRoots (content_of cx.now.nodes table.old.entries) (content_of cx.now.nodes table.new.entries)) }
     ensures changes { ChangesVariables table.old table.new }

@@ -5,7 +5,7 @@ ghost use Rattle.nts_terms.specs.Rest.{Grows};
 ghost use Rattle.nts_table.specs.Frames.{ChangesEntries};
 ghost use Rattle.nts_table.specs.Tables.{IsTable};
 ghost use Rattle.nts_canonical.specs.Building.{stored_hidden};
-ghost use Rattle.nts_response.specs.Registered.{Takes, TakesAll};
+ghost use Rattle.nts_response.specs.Registered.{RegistersHidden, TakesAll};
 
 use nts_store::Fault;
 use nts_table::InferCtxt;
@@ -43,7 +43,7 @@ fn register_one(
 ) -> Result<(), Fault>
     requires table { IsTable cx.old.nodes table.old }
     requires hidden { IsHiddenType cx.old.nodes (content_of cx.old.nodes table.old.entries) (stored_hidden hidden) }
-    ensures registered { OnOk result (Takes cx.old.nodes (content_of cx.old.nodes table.old.entries) table.old.entries.hidden (stored_hidden hidden) table.new.entries.hidden) }
+    ensures registered { OnOk result (RegistersHidden cx.old.nodes (content_of cx.old.nodes table.old.entries) table.old.entries.hidden (stored_hidden hidden) table.new.entries.hidden) }
     ensures entries { OnOk result (table.new.entries ≡ record table.old.entries { hidden = table.new.entries.hidden }) }
     ensures changes { ChangesEntries table.old table.new }
     ensures table { IsTable cx.new.nodes table.new }

@@ -5,7 +5,7 @@ ghost use Rattle.nts_store.specs.Growth.{tree_at};
 ghost use Rattle.nts_terms.specs.Handles.{HoldsArg};
 ghost use Rattle.nts_delegate.specs.Offered.{hidden_of};
 ghost use Rattle.nts_canonical.specs.Forms.{IsHidden};
-ghost use Rattle.nts_response.specs.Forms.{HoldsConstraint, HoldsOpen, HoldsResponse, recorded_at, premise_at};
+ghost use Rattle.nts_response.specs.Forms.{StoreHoldsConstraint, HoldsOpen, HoldsResponse, recorded_at, premise_at};
 ghost use Rattle.nts_response.specs.Same.{AreOneEach, FoundOne, AreOneResponse};
 
 use crate::types::{CanonicalResponse, Response};
@@ -39,7 +39,7 @@ impl Told for GenericArg {
 }
 
 impl Told for (RegionConstraint, VisibleForLeakCheck) {
-    ghost holds = { HoldsConstraint };
+    ghost holds = { StoreHoldsConstraint };
 
     ghost are_one = { λ ts x y. recorded_at ts x ≡ recorded_at ts y };
 

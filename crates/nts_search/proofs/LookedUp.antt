@@ -11,13 +11,13 @@ use Rattle.nts_canonical.specs.Alike.{AreOneInput}
 use Rattle.nts_search.specs.declared.terms.GoalTerms.{GoalTerms}
 use Rattle.nts_search.specs.declared.stack.StackEntry.{StackEntry}
 use Rattle.nts_search.specs.declared.stack.SearchGraph.{SearchGraph}
-use Rattle.nts_search.specs.Indexed.{terms_of, same_terms, newest_of, AreChained}
+use Rattle.nts_search.specs.Indexed.{input_terms, same_terms, newest_of, AreChained}
 use Rattle.nts_search.specs.Searching.{HoldsEntry, HasNoInput}
 use Rattle.nts_search.proofs.Each.{Each, each_of, all_of, each_joined, each_left, each_right, each_reversed}
 use Rattle.nts_search.proofs.Chains.{are_same}
 
 -- inputs that are one have the same terms
-one_terms : (ts : List Tree) (a b : CanonicalInput) → AreApart ts → HoldsQuery ts a.canonical.value → HoldsQuery ts b.canonical.value → AreOneInput ts a b → terms_of a ≡ terms_of b
+one_terms : (ts : List Tree) (a b : CanonicalInput) → AreApart ts → HoldsQuery ts a.canonical.value → HoldsQuery ts b.canonical.value → AreOneInput ts a b → input_terms a ≡ input_terms b
 one_terms ts a b apart h k one =
     let g = a.canonical.value.goal in
     let q = b.canonical.value.goal in
@@ -26,7 +26,7 @@ one_terms ts a b apart h k one =
     λ i. record { environment = record { number = e i }; predicate = record { number = p i } }
 
 abbrev pub HasOther : GoalTerms → StackEntry → Type 0
-HasOther k x = terms_of x.input ≡ k → ⊥
+HasOther k x = input_terms x.input ≡ k → ⊥
 
 -- the first entry of a list with these terms, where so many are older
 record Meets (k : GoalTerms) (xs : List StackEntry) (n : ℕ) : Type 0 where
@@ -35,36 +35,36 @@ record Meets (k : GoalTerms) (xs : List StackEntry) (n : ℕ) : Type 0 where
   older : List StackEntry
   split : xs ≡ newer ++ entry ∷ older
   others : Each (HasOther k) newer
-  terms : terms_of entry.input ≡ k
+  terms : input_terms entry.input ≡ k
   number : length older ≡ n
 
-other_terms : (k : GoalTerms) (x : StackEntry) → same_terms (terms_of x.input) k ≡ false → HasOther k x
-other_terms k x s e = let t : IsTrue (same_terms (terms_of x.input) k) = (are_same (terms_of x.input) k).1 e in cc (t, s)
+other_terms : (k : GoalTerms) (x : StackEntry) → same_terms (input_terms x.input) k ≡ false → HasOther k x
+other_terms k x s e = let t : IsTrue (same_terms (input_terms x.input) k) = (are_same (input_terms x.input) k).1 e in cc (t, s)
 
 no_number : (n : ℕ) → None ≡ Some n → ⊥
 no_number n e = cc e
 
-meets_at : (k : GoalTerms) (x : StackEntry) (xs : List StackEntry) (n : ℕ) (b : Bool) → same_terms (terms_of x.input) k ≡ b → cond b (Some (length xs)) (newest_of k xs) ≡ Some n
+meets_at : (k : GoalTerms) (x : StackEntry) (xs : List StackEntry) (n : ℕ) (b : Bool) → same_terms (input_terms x.input) k ≡ b → cond b (Some (length xs)) (newest_of k xs) ≡ Some n
     → (newest_of k xs ≡ Some n → Meets k xs n) → Meets k (x ∷ xs) n
 meets_at k x xs n true s e f =
     let q : Some (length xs) ≡ Some n = e in
-    record { newer = []; entry = x; older = xs; split = refl; others = tt; terms = (are_same (terms_of x.input) k).0 s; number = cc q }
+    record { newer = []; entry = x; older = xs; split = refl; others = tt; terms = (are_same (input_terms x.input) k).0 s; number = cc q }
 meets_at k x xs n false s e f =
     let m = f e in
     record { newer = x ∷ m.newer; entry = m.entry; older = m.older; split = ap (λ l. x ∷ l) m.split; others = (other_terms k x s, m.others); terms = m.terms; number = m.number }
 
 meets : (k : GoalTerms) (xs : List StackEntry) (n : ℕ) → newest_of k xs ≡ Some n → Meets k xs n
 meets k [] n e = absurd (no_number n e)
-meets k (x ∷ xs) n e = meets_at k x xs n (same_terms (terms_of x.input) k) refl e (meets k xs n)
+meets k (x ∷ xs) n e = meets_at k x xs n (same_terms (input_terms x.input) k) refl e (meets k xs n)
 
-has_none_at : (k : GoalTerms) (x : StackEntry) (xs : List StackEntry) (b : Bool) → same_terms (terms_of x.input) k ≡ b → cond b (Some (length xs)) (newest_of k xs) ≡ None
+has_none_at : (k : GoalTerms) (x : StackEntry) (xs : List StackEntry) (b : Bool) → same_terms (input_terms x.input) k ≡ b → cond b (Some (length xs)) (newest_of k xs) ≡ None
     → (newest_of k xs ≡ None → Each (HasOther k) xs) → Each (HasOther k) (x ∷ xs)
 has_none_at k x xs true s e f = absurd (no_number (length xs) (sym e))
 has_none_at k x xs false s e f = (other_terms k x s, f e)
 
 has_none : (k : GoalTerms) (xs : List StackEntry) → newest_of k xs ≡ None → Each (HasOther k) xs
 has_none k [] e = tt
-has_none k (x ∷ xs) e = has_none_at k x xs (same_terms (terms_of x.input) k) refl e (has_none k xs)
+has_none k (x ∷ xs) e = has_none_at k x xs (same_terms (input_terms x.input) k) refl e (has_none k xs)
 
 chained_from : (us : List StackEntry) (x : StackEntry) (ws : List StackEntry) → AreChained (us ++ x ∷ ws) → AreChained (x ∷ ws)
 chained_from [] x ws h = h
@@ -80,10 +80,10 @@ pub record Ahead (ts : List Tree) (zs : List StackEntry) (i : CanonicalInput) (a
   pub split : zs ≡ passed ++ left
   pub others : Each (IsOther ts i) passed
   pub chained : AreChained left
-  pub leads : at ≡ newest_of (terms_of i) left
+  pub leads : at ≡ newest_of (input_terms i) left
 
 -- entries of other terms are other inputs
-others_by : (ts : List Tree) (i : CanonicalInput) (xs : List StackEntry) → AreApart ts → HoldsQuery ts i.canonical.value → Each (HoldsEntry ts) xs → Each (HasOther (terms_of i)) xs → Each (IsOther ts i) xs
+others_by : (ts : List Tree) (i : CanonicalInput) (xs : List StackEntry) → AreApart ts → HoldsQuery ts i.canonical.value → Each (HoldsEntry ts) xs → Each (HasOther (input_terms i)) xs → Each (IsOther ts i) xs
 others_by ts i [] apart k h o = tt
 others_by ts i (x ∷ xs) apart k h o = ((λ one. o.0 (one_terms ts x.input i apart h.0.input k one)), others_by ts i xs apart k h.1 o.1)
 
@@ -108,11 +108,11 @@ record Parted (ts : List Tree) (xs : List StackEntry) (i : CanonicalInput) (n : 
   split : reverse xs ≡ newer ++ entry ∷ older
   others : Each (IsOther ts i) newer
   chained : AreChained older
-  leads : entry.earlier ≡ newest_of (terms_of i) older
+  leads : entry.earlier ≡ newest_of (input_terms i) older
   number : length older ≡ n
 
 parted_by : (ts : List Tree) (xs : List StackEntry) (i : CanonicalInput) (n : ℕ) → AreApart ts → HoldsQuery ts i.canonical.value → Each (HoldsEntry ts) (reverse xs) → (a : Ahead ts (reverse xs) i (Some n))
-    → Meets (terms_of i) a.left n → Parted ts xs i n
+    → Meets (input_terms i) a.left n → Parted ts xs i n
 parted_by ts xs i n apart k held a m =
     let x = m.entry in
     let left : Each (HoldsEntry ts) a.left = each_right (HoldsEntry ts) a.passed a.left (subst (Each (HoldsEntry ts)) a.split held) in
@@ -153,13 +153,13 @@ stands_by ts xs i n p =
         chained = p.chained;
         leads = ap (λ z. z.earlier) (here d) ∙ p.leads;
       };
-      falls = λ d j e. older_first p.older (terms_of i) n j p.number (sym p.leads ∙ sym (ap (λ z. z.earlier) (here d)) ∙ e);
+      falls = λ d j e. older_first p.older (input_terms i) n j p.number (sym p.leads ∙ sym (ap (λ z. z.earlier) (here d)) ∙ e);
     }
 
 pub stands : (ts : List Tree) (xs : List StackEntry) (i : CanonicalInput) (n : ℕ) → AreApart ts → HoldsQuery ts i.canonical.value → All (HoldsEntry ts) xs → Ahead ts (reverse xs) i (Some n) → Stands ts xs i n
 stands ts xs i n apart k held a =
     let each = each_reversed (HoldsEntry ts) xs (each_of (HoldsEntry ts) xs held) in
-    stands_by ts xs i n (parted_by ts xs i n apart k each a (meets (terms_of i) a.left n (sym a.leads)))
+    stands_by ts xs i n (parted_by ts xs i n apart k each a (meets (input_terms i) a.left n (sym a.leads)))
 
 -- how many entries are left to look at
 abbrev pub left_of : Option ℕ → ℕ
@@ -175,6 +175,6 @@ pub stands_nowhere : (ts : List Tree) (g : SearchGraph) (i : CanonicalInput) →
 stands_nowhere ts g i apart k held a =
     let xs = g.stack.items in
     let each : Each (HoldsEntry ts) (a.passed ++ a.left) = subst (Each (HoldsEntry ts)) a.split (each_reversed (HoldsEntry ts) xs (each_of (HoldsEntry ts) xs held)) in
-    let left : Each (IsOther ts i) a.left = others_by ts i a.left apart k (each_right (HoldsEntry ts) a.passed a.left each) (has_none (terms_of i) a.left (sym a.leads)) in
+    let left : Each (IsOther ts i) a.left = others_by ts i a.left apart k (each_right (HoldsEntry ts) a.passed a.left each) (has_none (input_terms i) a.left (sym a.leads)) in
     let all : Each (IsOther ts i) (reverse xs) = subst (Each (IsOther ts i)) (sym a.split) (each_joined (IsOther ts i) a.passed a.left a.others left) in
     all_of (IsOther ts i) xs (subst (Each (IsOther ts i)) (reverse-reverse xs) (each_reversed (IsOther ts i) (reverse xs) all))

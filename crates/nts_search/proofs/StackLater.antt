@@ -12,8 +12,8 @@ use Rattle.nts_canonical.specs.Folds.{HoldsQuery-kept}
 use Rattle.nts_canonical.proofs.PairLists.{hidden_row-kept}
 use Rattle.nts_terms.specs.Handles.{HoldsArg}
 use Rattle.nts_response.specs.declared.types.Response.{Response}
-use Rattle.nts_response.specs.Forms.{response_at, recorded_at, premise_at, HoldsConstraint, HoldsOpen, HoldsResponse}
-use Rattle.nts_response.specs.Replacing.{value_at}
+use Rattle.nts_response.specs.Forms.{response_at, recorded_at, premise_at, StoreHoldsConstraint, HoldsOpen, HoldsResponse}
+use Rattle.nts_response.specs.Replacing.{argument_value}
 use Rattle.nts_response.proofs.Each.{same_views, values_kept, constraints_kept, hidden_kept, goals_kept}
 use Rattle.nts_response.proofs.ApplySteps.{response_kept}
 use Rattle.nts_search.specs.declared.stack.StackEntry.{StackEntry}
@@ -26,8 +26,8 @@ response_same : (a b : List Tree) (r : Canonical Response) → Extends a b → H
 response_same a b r e h =
     let v = r.value in
     let x = v.external_constraints in
-    let values = same_views HoldsArg value_at values_kept a b v.var_values.items h.values e in
-    let constraints = same_views HoldsConstraint recorded_at constraints_kept a b x.region_constraints.items h.constraints e in
+    let values = same_views HoldsArg argument_value values_kept a b v.var_values.items h.values e in
+    let constraints = same_views StoreHoldsConstraint recorded_at constraints_kept a b x.region_constraints.items h.constraints e in
     let hidden = same_views IsHidden hidden_of hidden_kept a b x.opaque_types.items h.hidden e in
     let goals = same_views HoldsOpen premise_at goals_kept a b x.normalization_nested_goals.items h.open_goals e in
     λ i. record {

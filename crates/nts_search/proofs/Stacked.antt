@@ -10,7 +10,7 @@ use Rattle.nts_canonical.specs.Forms.{form_of}
 use Rattle.nts_search.specs.declared.terms.GoalTerms.{GoalTerms}
 use Rattle.nts_search.specs.declared.stack.StackEntry.{StackEntry}
 use Rattle.nts_search.specs.declared.stack.SearchGraph.{SearchGraph}
-use Rattle.nts_search.specs.Indexed.{terms_of, same_terms, led_to, IsIndexOf}
+use Rattle.nts_search.specs.Indexed.{input_terms, same_terms, led_to, IsEntryIndex}
 use Rattle.nts_search.specs.Searching.{entry_at, entries_at, HoldsEntry, IsStack, IsInputAt, read_at}
 use Rattle.nts_search.proofs.Each.{Each, each_of, all_of, each_joined, each_left, each_right}
 use Rattle.nts_search.proofs.Marking.{length-read_at, reverse-read_at}
@@ -31,7 +31,7 @@ one_more : (xs ys : List StackEntry) (x : StackEntry) → ys ≡ xs ++ x ∷ [] 
 one_more xs ys x e = ap length e ∙ length-append xs (x ∷ [])
 
 pub IsStack-pushed : (ts : List Tree) (g h : SearchGraph) (x : StackEntry) → IsStack ts g → HoldsEntry ts x → h.stack.items ≡ g.stack.items ++ x ∷ []
-    → x.earlier ≡ led_to g.newest (terms_of x.input) → ((k : GoalTerms) → led_to h.newest k ≡ cond (same_terms (terms_of x.input) k) (Some (length g.stack.items)) (led_to g.newest k))
+    → x.earlier ≡ led_to g.newest (input_terms x.input) → ((k : GoalTerms) → led_to h.newest k ≡ cond (same_terms (input_terms x.input) k) (Some (length g.stack.items)) (led_to g.newest k))
     → length g.stack.items ≤ g.root_depth → h.root_depth ≡ g.root_depth → h.most_inputs ≡ max g.most_inputs (length h.stack.items) → IsStack ts h
 IsStack-pushed ts g h x s held e lead new room depth most =
     let long = one_more g.stack.items h.stack.items x e in
@@ -41,18 +41,18 @@ IsStack-pushed ts g h x s held e lead new room depth most =
     record {
       held = subst (λ l. (k : ℕ) (d : StackEntry) → k < length l → HoldsEntry ts (get_or l k d)) (sym e)
           (all_of (HoldsEntry ts) (g.stack.items ++ x ∷ []) (each_joined (HoldsEntry ts) g.stack.items (x ∷ []) (each_of (HoldsEntry ts) g.stack.items s.held) (held, tt)));
-      index = subst (IsIndexOf h.newest) (sym (newest_first g.stack.items h.stack.items x e))
-          (index_pushed g.newest h.newest (reverse g.stack.items) x s.index lead (λ k. new k ∙ ap (λ n. cond (same_terms (terms_of x.input) k) (Some n) (led_to g.newest k)) (sym old)));
+      index = subst (IsEntryIndex h.newest) (sym (newest_first g.stack.items h.stack.items x e))
+          (index_pushed g.newest h.newest (reverse g.stack.items) x s.index lead (λ k. new k ∙ ap (λ n. cond (same_terms (input_terms x.input) k) (Some n) (led_to g.newest k)) (sym old)));
       counted = omega (arith, most, long);
       nested = omega (arith, most, long, room, depth, nested);
     }
 
 -- where the index leads back
-pub index_leads : (ts : List Tree) (g : SearchGraph) (xs : List StackEntry) (x : StackEntry) → IsStack ts g → g.stack.items ≡ xs ++ x ∷ [] → IsIndexOf g.newest (x ∷ reverse xs)
-index_leads ts g xs x s e = subst (IsIndexOf g.newest) (newest_first xs g.stack.items x e) s.index
+pub index_leads : (ts : List Tree) (g : SearchGraph) (xs : List StackEntry) (x : StackEntry) → IsStack ts g → g.stack.items ≡ xs ++ x ∷ [] → IsEntryIndex g.newest (x ∷ reverse xs)
+index_leads ts g xs x s e = subst (IsEntryIndex g.newest) (newest_first xs g.stack.items x e) s.index
 
 pub IsStack-popped : (ts : List Tree) (g h : SearchGraph) (x : StackEntry) → IsStack ts g → g.stack.items ≡ h.stack.items ++ x ∷ []
-    → ((k : GoalTerms) → led_to h.newest k ≡ cond (same_terms (terms_of x.input) k) x.earlier (led_to g.newest k)) → h.root_depth ≡ g.root_depth → h.most_inputs ≡ g.most_inputs → IsStack ts h × HoldsEntry ts x
+    → ((k : GoalTerms) → led_to h.newest k ≡ cond (same_terms (input_terms x.input) k) x.earlier (led_to g.newest k)) → h.root_depth ≡ g.root_depth → h.most_inputs ≡ g.most_inputs → IsStack ts h × HoldsEntry ts x
 IsStack-popped ts g h x s e new depth most =
     let long = one_more h.stack.items g.stack.items x e in
     let counted = s.counted in
@@ -82,8 +82,8 @@ IsStack-read ts g h n s l e new depth most =
     record {
       held = subst (λ l. (k : ℕ) (d : StackEntry) → k < length l → HoldsEntry ts (get_or l k d)) (sym e)
           (all_of (HoldsEntry ts) (read_at xs n) (held-read ts xs n (each_of (HoldsEntry ts) xs s.held)));
-      index = subst (λ m. IsIndexOf m (reverse h.stack.items)) (sym new)
-          (subst (IsIndexOf g.newest) (sym (ap reverse e ∙ reverse-read_at xs n l)) (index_read g.newest (reverse xs) (length xs - suc n) s.index));
+      index = subst (λ m. IsEntryIndex m (reverse h.stack.items)) (sym new)
+          (subst (IsEntryIndex g.newest) (sym (ap reverse e ∙ reverse-read_at xs n l)) (index_read g.newest (reverse xs) (length xs - suc n) s.index));
       counted = omega (arith, long, most, counted);
       nested = omega (arith, most, depth, nested);
     }

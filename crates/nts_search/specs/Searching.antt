@@ -15,7 +15,7 @@ use Rattle.nts_response.specs.declared.types.Response.{Response}
 use Rattle.nts_response.specs.Forms.{response_at, HoldsResponse}
 use Rattle.nts_search.specs.declared.stack.StackEntry.{StackEntry}
 use Rattle.nts_search.specs.declared.stack.SearchGraph.{SearchGraph}
-use Rattle.nts_search.specs.Indexed.{IsIndexOf}
+use Rattle.nts_search.specs.Indexed.{IsEntryIndex}
 
 -- what an answer to an input stands for: without a solution it says nothing, and is a doubt
 abbrev pub answer_at : List Tree → CanonicalInput → Option (Canonical Response) → Form
@@ -54,7 +54,7 @@ pub record HoldsEntry (ts : List Tree) (x : StackEntry) : Type 0 where
 -- be nested
 pub record IsStack (ts : List Tree) (g : SearchGraph) : Type 0 where
   pub held : All (HoldsEntry ts) g.stack.items
-  pub index : IsIndexOf g.newest (reverse g.stack.items)
+  pub index : IsEntryIndex g.newest (reverse g.stack.items)
   pub counted : length g.stack.items ≤ g.most_inputs
   pub nested : g.most_inputs ≤ suc g.root_depth
 
@@ -74,7 +74,7 @@ read_at (x ∷ xs) zero = record x { is_read = true } ∷ xs
 read_at (x ∷ xs) (suc n) = x ∷ read_at xs n
 
 -- all but the entries and how many there were
-pub record KeepsRest (old new : SearchGraph) : Type 0 where
+pub record KeepsRestOfGraph (old new : SearchGraph) : Type 0 where
   pub root_depth : new.root_depth ≡ old.root_depth
   pub has_overflowed : new.has_overflowed ≡ old.has_overflowed
   pub most_rounds : new.most_rounds ≡ old.most_rounds

@@ -7,7 +7,7 @@ ghost use Rattle.nts_delegate.specs.Offered.{path_kind_of};
 ghost use Rattle.nts_canonical.specs.Forms.{HoldsQuery};
 ghost use Rattle.nts_search.specs.declared.terms.GoalTerms.{GoalTerms};
 ghost use Rattle.nts_search.specs.Indexed.{led_to, same_terms};
-ghost use Rattle.nts_search.specs.Searching.{entries_at, HoldsAnswer, HoldsEntry, IsStack, HasNoInput, IsInputAt, read_at, KeepsRest};
+ghost use Rattle.nts_search.specs.Searching.{entries_at, HoldsAnswer, HoldsEntry, IsStack, HasNoInput, IsInputAt, read_at, KeepsRestOfGraph};
 
 use crate::kinds::extend;
 use crate::terms::GoalTerms;
@@ -125,7 +125,7 @@ impl SearchGraph {
         ensures long { length self.new.stack.items ≡ length self.old.stack.items }
         ensures kept { (ts : List Tree) → IsStack ts self.old → IsStack ts self.new }
         ensures inputs { self.new.most_inputs ≡ self.old.most_inputs }
-        ensures rest { KeepsRest self.old self.new }
+        ensures rest { KeepsRestOfGraph self.old self.new }
     {
         self.stack[head].is_read = true;
     }
@@ -145,7 +145,7 @@ impl SearchGraph {
         ensures err { OnErr result (self.new.stack.items ≡ self.old.stack.items) }
         ensures err_kept { OnErr result ((ts : List Tree) → IsStack ts self.old → IsStack ts self.new) }
         ensures err_inputs { OnErr result (self.new.most_inputs ≡ self.old.most_inputs) }
-        ensures rest { KeepsRest self.old self.new }
+        ensures rest { KeepsRestOfGraph self.old self.new }
     {
         let terms = GoalTerms::of(&input);
         let at = self.stack.len();
@@ -170,7 +170,7 @@ impl SearchGraph {
         ensures popped { self.old.stack.items ≡ self.new.stack.items ++ result ∷ [] }
         ensures kept { (ts : List Tree) → IsStack ts self.old → IsStack ts self.new × HoldsEntry ts result }
         ensures inputs { self.new.most_inputs ≡ self.old.most_inputs }
-        ensures rest { KeepsRest self.old self.new }
+        ensures rest { KeepsRestOfGraph self.old self.new }
     {
         let Some(entry) = self.stack.pop() else {
             unreachable!();

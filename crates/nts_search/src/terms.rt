@@ -1,6 +1,6 @@
 //! The terms of goals, by which entries are looked up.
 ghost use Rattle.std.specs.Prelude.{◌≡◌};
-ghost use Rattle.nts_search.specs.Indexed.{terms_of};
+ghost use Rattle.nts_search.specs.Indexed.{input_terms};
 
 use nts_canonical::CanonicalInput;
 use nts_store::NodeId;
@@ -15,7 +15,7 @@ pub struct GoalTerms {
 impl GoalTerms {
     /// The terms of an input's goal.
     pub fn of(input: &CanonicalInput) -> GoalTerms
-        ensures { result ≡ terms_of input.now }
+        ensures { result ≡ input_terms input.now }
     {
         let goal = input.canonical.value.goal;
         GoalTerms {

@@ -37,9 +37,9 @@ use Rattle.nts_unify.specs.Reading.{content_of, IsLawful}
 use Rattle.nts_unify.specs.Lawful.{content_of-extended}
 use Rattle.nts_variance.specs.declared.along.Relating.{Relating}
 use Rattle.nts_variance.specs.Terms.{pair_at, pairs_at, IsGoal, AreGoals, ArePairs}
-use Rattle.nts_variance.specs.Goals.{head_of, goal_of}
+use Rattle.nts_variance.specs.Goals.{goal_head, goal_of}
 use Rattle.nts_variance.specs.Pairs.{Refuses}
-use Rattle.nts_variance.specs.Taking.{Takes, IsSide}
+use Rattle.nts_variance.specs.Taking.{Takes, IsPairSide}
 use Rattle.nts_variance.specs.Equating.{GoalsRelate}
 use Rattle.nts_variance.specs.Rows.{IsListOf, RowsRelate, RefusesRows}
 use Rattle.nts_variance.proofs.Growing.{grown_refl}
@@ -110,7 +110,7 @@ term_pairs : (a b : Tree) (s : Sort) → kind_of a ≡ Some (of_sort s) → rela
 term_pairs a b s e = rw (no_term_list a s e, invariant_at a) refl
 
 -- what was resolved can be related
-pub resolved_side : (ts us : List Tree) (e : Entries) (a r : NodeId) → IsLawful ts e → Extends ts us → IsSide ts (content_of ts e) a → IsIn us r → tree_at us r ≡ resolved (content_of ts e) (tree_at ts a) → IsSide us (content_of us e) r
+pub resolved_side : (ts us : List Tree) (e : Entries) (a r : NodeId) → IsLawful ts e → Extends ts us → IsPairSide ts (content_of ts e) a → IsIn us r → tree_at us r ≡ resolved (content_of ts e) (tree_at ts a) → IsPairSide us (content_of us e) r
 resolved_side ts us e a r lawful ext h within is =
     let c = content_of ts e in
     let t = tree_at ts a in
@@ -118,7 +118,7 @@ resolved_side ts us e a r lawful ext h within is =
     let knows : Knows c (resolved c t) = Knows-resolved c t lawful.sound h.knows in
     record { within = within; knows = rw (same, is) knows; sort = h.sort; kind = ap kind_of is ∙ kind_of-resolved c t lawful.sound h.knows ∙ h.kind }
 
-pub side_later : (ts us : List Tree) (e : Entries) (a : NodeId) → IsLawful ts e → Extends ts us → IsSide ts (content_of ts e) a → IsSide us (content_of us e) a
+pub side_later : (ts us : List Tree) (e : Entries) (a : NodeId) → IsLawful ts e → Extends ts us → IsPairSide ts (content_of ts e) a → IsPairSide us (content_of us e) a
 side_later ts us e a lawful ext h =
     let same : content_of us e ≡ content_of ts e = content_of-extended ext lawful in
     let at : tree_at us a ≡ tree_at ts a = ext.kept a h.within in
@@ -164,7 +164,7 @@ lists_of ts c a b (inl h) e =
     let one : Some (of_sort h.0.sort) ≡ Some arguments = sym h.0.kind ∙ list_kind (tree_at ts a) e in cc
 lists_of ts c a b (inr h) e = h
 
-pub terms_of : (ts : List Tree) (c : Content) (a b : NodeId) → CanRelate ts c a b → is_list (tree_at ts a) ≡ false → IsSide ts c a × IsSide ts c b
+pub terms_of : (ts : List Tree) (c : Content) (a b : NodeId) → CanRelate ts c a b → is_list (tree_at ts a) ≡ false → IsPairSide ts c a × IsPairSide ts c b
 terms_of ts c a b (inl h) e = h
 terms_of ts c a b (inr h) e = (let one = kind_list (tree_at ts a) h.0.kind in cc)
 
@@ -179,7 +179,7 @@ directed_known c h variance.Covariant a b = predicate_known c h a b
 directed_known c h variance.Contravariant a b = λ left right ka kb. predicate_known c h b a right left kb ka
 
 goal_known : (c : Content) (p : Pair) → IsGoal p → Knows c p.left → Knows c p.right → Knows c (goal_of p)
-goal_known c p g = directed_known c (head_of p) p.variance p.left p.right g.left g.right
+goal_known c p g = directed_known c (goal_head p) p.variance p.left p.right g.left g.right
 
 -- a goal's predicate is one
 directed_kind : (h : PredicateHead) (v : Variance) (a b : Tree) → kind_of (directed h v a b) ≡ Some bound_predicate
@@ -188,7 +188,7 @@ directed_kind h variance.Covariant a b = refl
 directed_kind h variance.Contravariant a b = refl
 
 goal_kind : (p : Pair) → kind_of (goal_of p) ≡ Some bound_predicate
-goal_kind p = directed_kind (head_of p) p.variance p.left p.right
+goal_kind p = directed_kind (goal_head p) p.variance p.left p.right
 
 are_goals_of : (us ws : List Tree) (c : Content) (env : ParamEnv) (ps : List Relating) (gs : List Goal) → Extends us ws → ArePairs us c ps → AreGoals (pairs_at us ps) → AreMadeFor us ws env ps gs → AreGoalsOfPairs ws c env ps gs
 are_goals_of us ws c env [] [] ext known goals made = tt
@@ -339,7 +339,7 @@ module _ (declared : ℕ → List Variance) where
       inr (rw (type_pairs v a b kind) (Refuses-from declared c (record { variance = v; left = resolved c a; right = resolved c b } ∷ []) (record { variance = v; left = a; right = b } ∷ []) (settle_resolved c v a b lawful.sound) one))
 
   -- two sides in which no alias stands, made equal
-  plain_terms : (ts us : List Tree) (e f : Entries) (p q : NodeId) → IsLawful ts e → IsLawful us f → IsLater (content_of ts e) (content_of us f) → ((n : NodeId) → IsIn ts n → IsFormed (tree_at ts n)) → IsSide ts (content_of ts e) p → IsSide ts (content_of ts e) q → IsPlainIn (content_of ts e) (tree_at ts p) → IsPlainIn (content_of ts e) (tree_at ts q)
+  plain_terms : (ts us : List Tree) (e f : Entries) (p q : NodeId) → IsLawful ts e → IsLawful us f → IsLater (content_of ts e) (content_of us f) → ((n : NodeId) → IsIn ts n → IsFormed (tree_at ts n)) → IsPairSide ts (content_of ts e) p → IsPairSide ts (content_of ts e) q → IsPlainIn (content_of ts e) (tree_at ts p) → IsPlainIn (content_of ts e) (tree_at ts q)
       → KeepsPlain (content_of ts e) (content_of us f) → AreRelated (content_of ts e) (content_of us f) (tree_at ts p) (tree_at ts q) → TiesNew (content_of ts e) (content_of us f) → SidesRelate declared ts us e f variance.Invariant (tree_at ts p) (tree_at ts q) []
   plain_terms ts us e f p q first lawful later formed left right pa pb kept made ties =
       let a = tree_at ts p in

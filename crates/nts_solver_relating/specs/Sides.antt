@@ -29,7 +29,7 @@ use Rattle.nts_variance.specs.declared.along.Relating.{Relating}
 use Rattle.nts_variance.specs.Terms.{pair_at, pairs_at, AreGoals, ArePairs}
 use Rattle.nts_variance.specs.Goals.{goal_of}
 use Rattle.nts_variance.specs.Pairs.{Refuses}
-use Rattle.nts_variance.specs.Taking.{Takes, IsSide}
+use Rattle.nts_variance.specs.Taking.{Takes, IsPairSide}
 use Rattle.nts_variance.specs.Rows.{IsListOf, argument_pairs}
 
 abbrev pub is_list : Tree → Bool
@@ -47,7 +47,7 @@ variance_at t v = v
 
 -- what can be related: two types, regions or consts of the store and the table, or two lists of arguments
 abbrev pub CanRelate : List Tree → Content → NodeId → NodeId → Type 0
-CanRelate ts c a b = (IsSide ts c a × IsSide ts c b) ⊎ (IsListOf ts c a × IsListOf ts c b)
+CanRelate ts c a b = (IsPairSide ts c a × IsPairSide ts c b) ⊎ (IsListOf ts c a × IsListOf ts c b)
 
 -- the pairs that are related: the two themselves, or the arguments of the two lists
 abbrev pub related_pairs : Variance → Tree → Tree → List Pair

@@ -23,10 +23,10 @@ use Rattle.nts_table.specs.contracts.deduplicated.SaidPartialEq.TheImpl as said_
 use Rattle.nts_unify.specs.Entries.{Entries}
 use Rattle.nts_unify.specs.Reading.{recorded_of, content_of, IsConstraint, AreConstraints, IsLawful}
 use Rattle.nts_unify.specs.Lawful.{content_of-extended, IsLawful-extended, AreConstraints-push}
-use Rattle.nts_table.specs.Deduplicated.{resolved_constraint, resolved_constraints, SaysSame, IsAmong, SaysNothingNew, AreNews, none, passed, told, said, SidesIn, AllSidesIn, Tells}
+use Rattle.nts_table.specs.Deduplicated.{resolved_constraint, resolved_constraints, RelatesSame, IsAmong, SaysNothingNew, AreNews, none, passed, told, said, SidesIn, AllSidesIn, TellsConstraint}
 
-SaysSame-trans : {x y z : Recorded} → SaysSame x y → SaysSame y z → SaysSame x z
-SaysSame-trans h k =
+RelatesSame-trans : {x y z : Recorded} → RelatesSame x y → RelatesSame y z → RelatesSame x z
+RelatesSame-trans h k =
     record { relation = h.relation ∙ k.relation; left = h.left ∙ k.left; right = h.right ∙ k.right }
 
 among-front : (xs ys : List Recorded) (z : Recorded) → IsAmong xs z → IsAmong (xs ++ ys) z
@@ -34,22 +34,22 @@ among-front [] ys z h = absurd h
 among-front (x ∷ xs) ys z (inl e) = inl e
 among-front (x ∷ xs) ys z (inr h) = inr (among-front xs ys z h)
 
-among-last : (xs : List Recorded) (x z : Recorded) → SaysSame x z → IsAmong (xs ++ x ∷ []) z
+among-last : (xs : List Recorded) (x z : Recorded) → RelatesSame x z → IsAmong (xs ++ x ∷ []) z
 among-last [] x z e = inl e
 among-last (y ∷ xs) x z e = inr (among-last xs x z e)
 
-among-split : (xs : List Recorded) (x z : Recorded) → IsAmong (xs ++ x ∷ []) z → IsAmong xs z ⊎ SaysSame x z
+among-split : (xs : List Recorded) (x z : Recorded) → IsAmong (xs ++ x ∷ []) z → IsAmong xs z ⊎ RelatesSame x z
 among-split [] x z (inl e) = inr e
 among-split [] x z (inr h) = absurd h
 among-split (y ∷ xs) x z (inl e) = inl (inl e)
 among-split (y ∷ xs) x z (inr h) = ⊎_elim (λ k. inl (inr k)) (λ e. inr e) (among-split xs x z h)
 
-among-same : (xs : List Recorded) (y z : Recorded) → SaysSame y z → IsAmong xs y → IsAmong xs z
+among-same : (xs : List Recorded) (y z : Recorded) → RelatesSame y z → IsAmong xs y → IsAmong xs z
 among-same [] y z e h = h
-among-same (x ∷ xs) y z e (inl k) = inl (SaysSame-trans k e)
+among-same (x ∷ xs) y z e (inl k) = inl (RelatesSame-trans k e)
 among-same (x ∷ xs) y z e (inr h) = inr (among-same xs y z e h)
 
-nothing-same : (xs : List Recorded) (y z : Recorded) → SaysSame y z → SaysNothingNew xs y → SaysNothingNew xs z
+nothing-same : (xs : List Recorded) (y z : Recorded) → RelatesSame y z → SaysNothingNew xs y → SaysNothingNew xs z
 nothing-same xs y z e (inl q) = inl (sym e.left ∙ q ∙ e.right)
 nothing-same xs y z e (inr h) = inr (among-same xs y z e h)
 
@@ -87,7 +87,7 @@ nothing-told n z (inl q) = inl q
 nothing-told n z (inr h) = among-told n z h
 
 -- one more constraint
-pub AreNews-tells : (ts : List Tree) (xs : List Recorded) (old new : List Constraint) (x : Constraint) → AreNews xs (map (recorded_of ts) old) → Tells ts old new x → AreNews (xs ++ recorded_of ts x ∷ []) (map (recorded_of ts) new)
+pub AreNews-tells : (ts : List Tree) (xs : List Recorded) (old new : List Constraint) (x : Constraint) → AreNews xs (map (recorded_of ts) old) → TellsConstraint ts old new x → AreNews (xs ++ recorded_of ts x ∷ []) (map (recorded_of ts) new)
 AreNews-tells ts xs old new x n (inl h) =
     rw h.1 (passed (recorded_of ts x) n (nothing-recorded n (recorded_of ts x) h.0))
 AreNews-tells ts xs old new x n (inr h) =
@@ -199,7 +199,7 @@ AreConstraints-moved a b e (x ∷ xs) lawful up h =
       AreConstraints-moved a b e xs lawful up h.1,
     )
 
-pub AreConstraints-told : (ts : List Tree) (c : Content) (old new : List Constraint) (x : Constraint) → AreConstraints ts c old → IsConstraint ts c x → Tells ts old new x → AreConstraints ts c new
+pub AreConstraints-told : (ts : List Tree) (c : Content) (old new : List Constraint) (x : Constraint) → AreConstraints ts c old → IsConstraint ts c x → TellsConstraint ts old new x → AreConstraints ts c new
 AreConstraints-told ts c old new x h k (inl w) = rw w.1 h
 AreConstraints-told ts c old new x h k (inr w) = rw w.1 (AreConstraints-push ts c old x h k)
 
@@ -254,7 +254,7 @@ slice_get_some (x ∷ xs) zero h = (x, refl)
 slice_get_some (x ∷ xs) (suc i) h = slice_get_some xs i (omega (arith, h))
 
 -- one turn: the next constraint, resolved in a store that grew, is told if it says something new
-pub next_news : (a b d : List Tree) (e : Entries) (i : ℕ) (r : Constraint) (old new : List Constraint) → IsLawful a e → Extends a b → i < length e.constraints → ((x : Constraint) → slice_get e.constraints i ≡ Some x → recorded_of d r ≡ resolved_constraint (content_of b e) (recorded_of b x)) → AreNews (take i (resolved_constraints (content_of a e))) (map (recorded_of d) old) → Tells d old new r → AreNews (take (i + 1) (resolved_constraints (content_of a e))) (map (recorded_of d) new)
+pub next_news : (a b d : List Tree) (e : Entries) (i : ℕ) (r : Constraint) (old new : List Constraint) → IsLawful a e → Extends a b → i < length e.constraints → ((x : Constraint) → slice_get e.constraints i ≡ Some x → recorded_of d r ≡ resolved_constraint (content_of b e) (recorded_of b x)) → AreNews (take i (resolved_constraints (content_of a e))) (map (recorded_of d) old) → TellsConstraint d old new r → AreNews (take (i + 1) (resolved_constraints (content_of a e))) (map (recorded_of d) new)
 next_news a b d e i r old new lawful up below is n t =
     let at = slice_get_some e.constraints i below in
     let x = at.0 in

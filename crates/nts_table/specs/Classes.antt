@@ -11,7 +11,7 @@ use Rattle.nts_unify.specs.Entries.{Entries}
 use Rattle.nts_unify.specs.Roots.{IsRoot}
 
 -- the root of a variable's class, and what the table has of the root
-pub record IsRootVariable (e : Entries) (n : ℕ) (v : Variable) : Type 0 where
+pub record IsClassRoot (e : Entries) (n : ℕ) (v : Variable) : Type 0 where
   pub number : ℕ
   pub root : IsRoot e n number
   pub at : slice_get e.variables number ≡ Some v
@@ -24,13 +24,13 @@ unless_known (Known t) u = None
 -- the root's universe, if the class has no value
 pub record HasOpenUniverse (e : Entries) (n : ℕ) (o : Option ℕ) : Type 0 where
   pub variable : Variable
-  pub root : IsRootVariable e n variable
+  pub root : IsClassRoot e n variable
   pub is : o ≡ unless_known variable.state variable.universe
 
 -- the root's universe
 pub record HasUniverse (e : Entries) (n : ℕ) (o : Option ℕ) : Type 0 where
   pub variable : Variable
-  pub root : IsRootVariable e n variable
+  pub root : IsClassRoot e n variable
   pub is : o ≡ Some variable.universe
 
 -- the value of a variable's class, or else the root

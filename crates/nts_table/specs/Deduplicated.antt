@@ -18,14 +18,14 @@ abbrev pub resolved_constraints : Content → List Recorded
 resolved_constraints c = map (resolved_constraint c) c.constraints
 
 -- both relate the same sides in the same order
-pub record SaysSame (x y : Recorded) : Type 0 where
+pub record RelatesSame (x y : Recorded) : Type 0 where
   pub relation : x.relation ≡ y.relation
   pub left : x.left ≡ y.left
   pub right : x.right ≡ y.right
 
 abbrev pub IsAmong : List Recorded → Recorded → Type 0
 IsAmong [] y = ⊥
-IsAmong (x ∷ xs) y = SaysSame x y ⊎ IsAmong xs y
+IsAmong (x ∷ xs) y = RelatesSame x y ⊎ IsAmong xs y
 
 -- after these it says nothing new: its sides are one, or one of them is the same
 abbrev pub SaysNothingNew : List Recorded → Recorded → Type 0
@@ -50,6 +50,6 @@ AllSidesIn ts [] = Unit {0}
 AllSidesIn ts (x ∷ xs) = SidesIn ts x × AllSidesIn ts xs
 
 -- one more constraint is told, if it says something new after those told
-abbrev pub Tells : List Tree → List Constraint → List Constraint → Constraint → Type 0
-Tells ts old new x =
+abbrev pub TellsConstraint : List Tree → List Constraint → List Constraint → Constraint → Type 0
+TellsConstraint ts old new x =
     (SaysNothingNew (map (recorded_of ts) old) (recorded_of ts x) × (new ≡ old)) ⊎ ((SaysNothingNew (map (recorded_of ts) old) (recorded_of ts x) → ⊥) × (new ≡ old ++ x ∷ []))

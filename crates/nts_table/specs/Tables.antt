@@ -25,7 +25,7 @@ pub record IsTable (ts : List Tree) (t : Table) : Type 0 where
   pub saved : AllLawful ts t.saved
 
 -- a term of the store and the table
-pub record IsTermOf (ts : List Tree) (t : Table) (x : NodeId) : Type 0 where
+pub record IsTermIn (ts : List Tree) (t : Table) (x : NodeId) : Type 0 where
   pub within : IsIn ts x
   pub knows : Knows (content_of ts t.entries) (tree_at ts x)
 

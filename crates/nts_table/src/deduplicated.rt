@@ -3,7 +3,7 @@ ghost use Rattle.std.specs.Prelude.{◌≡◌, ◌<◌, List, length, map, slice
 ghost use Rattle.nts_store.specs.Growth.{Extends};
 ghost use Rattle.nts_unify.specs.Reading.{content_of, recorded_of, IsConstraint, AreConstraints};
 ghost use Rattle.nts_table.specs.Tables.{IsTable};
-ghost use Rattle.nts_table.specs.Deduplicated.{resolved_constraint, resolved_constraints, AreNews, said, SidesIn, AllSidesIn, Tells};
+ghost use Rattle.nts_table.specs.Deduplicated.{resolved_constraint, resolved_constraints, AreNews, said, SidesIn, AllSidesIn, TellsConstraint};
 ghost use Rattle.nts_terms.specs.Rest.{Grows};
 
 use crate::infer_ctxt::InferCtxt;
@@ -75,7 +75,7 @@ fn tell(
     requires told { AllSidesIn nodes.now told.old.items }
     requires seen { seen.old.keys ≡ map said told.old.items }
     ensures seen { OnOk result (seen.new.keys ≡ map said told.new.items) }
-    ensures tells { OnOk result (Tells nodes.now told.old.items told.new.items constraint) }
+    ensures tells { OnOk result (TellsConstraint nodes.now told.old.items told.new.items constraint) }
     ensures memory { IsOkUnless result Fault.Memory }
 {
     // Equal terms of one store have one number, so numbers tell whether two constraints are the same.

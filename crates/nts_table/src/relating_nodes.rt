@@ -4,7 +4,7 @@ ghost use Rattle.nts_model.specs.Tables.Equations.{AreRelated, AreUnrelated};
 ghost use Rattle.nts_model.specs.Tables.Passing.{BringsLabelsOf};
 ghost use Rattle.nts_store.specs.Growth.{tree_at, Extends};
 ghost use Rattle.nts_unify.specs.Reading.{content_of};
-ghost use Rattle.nts_table.specs.Tables.{IsTable, IsTermOf};
+ghost use Rattle.nts_table.specs.Tables.{IsTable, IsTermIn};
 ghost use Rattle.nts_unify.specs.Changing.{IsLater};
 ghost use Rattle.nts_store.specs.declared.fault.EvalError.TheVariants.{NoSolution};
 ghost use Rattle.nts_table.specs.Frames.{ChangesVariables};
@@ -24,8 +24,8 @@ pub fn relate_nodes(
     b: NodeId,
 ) -> Result<(), EvalError>
     requires table { IsTable nodes.old table.old }
-    requires left { IsTermOf nodes.old table.old a }
-    requires right { IsTermOf nodes.old table.old b }
+    requires left { IsTermIn nodes.old table.old a }
+    requires right { IsTermIn nodes.old table.old b }
     ensures extends { Extends nodes.old nodes.new }
     ensures table { IsTable nodes.new table.new }
     ensures changes { ChangesVariables table.old table.new }

@@ -16,12 +16,12 @@ IsFixedLeaf (leaf.Region r) = StaysItself r
 IsFixedLeaf l = ⊥
 
 -- a label in the type of a const with arguments of these sorts: a position is that of an argument of its sort
-abbrev pub MayStand : List Sort → Label → Type 0
-MayStand ss (label.Leaf l) = IsFixedLeaf l
-MayStand ss (label.Bound s index.Canonical i) = slice_get ss i ≡ Some s
-MayStand ss l = Unit {0}
+abbrev pub MayStandInConst : List Sort → Label → Type 0
+MayStandInConst ss (label.Leaf l) = IsFixedLeaf l
+MayStandInConst ss (label.Bound s index.Canonical i) = slice_get ss i ≡ Some s
+MayStandInConst ss l = Unit {0}
 
 -- a type over the arguments of a const and nothing else: no bound variable escapes from it either
 pub record IsConstType (ss : List Sort) (t : Tree) : Type 0 where
-  pub labels : AllLabels (MayStand ss) t
+  pub labels : AllLabels (MayStandInConst ss) t
   pub closed : IsClosed t

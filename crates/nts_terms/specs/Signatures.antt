@@ -83,11 +83,11 @@ const_type None = None
 const_type (Some c) = Some c.ty
 
 -- the sorts of the arguments that something declared takes
-abbrev pub sorts_of : Declared → DefId → Option (List Sort)
-sorts_of d (def.Ctor c) = ctor_sorts (slice_get d.ctors c.number)
-sorts_of d (def.Trait t) = slice_get d.traits t.number
-sorts_of d (def.Alias (alias_def.Ty a)) = alias_sorts (slice_get d.aliases a.number)
-sorts_of d (def.Alias (alias_def.Const c)) = const_sorts (slice_get d.consts c.number)
+abbrev pub declared_sorts : Declared → DefId → Option (List Sort)
+declared_sorts d (def.Ctor c) = ctor_sorts (slice_get d.ctors c.number)
+declared_sorts d (def.Trait t) = slice_get d.traits t.number
+declared_sorts d (def.Alias (alias_def.Ty a)) = alias_sorts (slice_get d.aliases a.number)
+declared_sorts d (def.Alias (alias_def.Const c)) = const_sorts (slice_get d.consts c.number)
 
 -- the type of a declared const
 abbrev pub type_of : Declared → ConstId → Option Ty
@@ -99,13 +99,13 @@ HaveSorts [] empty = Unit {0}
 HaveSorts (s ∷ ss) (more a b) = (kind_of a ≡ Some (of_sort s)) × HaveSorts ss b
 HaveSorts ss t = ⊥
 
-abbrev pub AreOfSorts : Option (List Sort) → Tree → Type 0
-AreOfSorts None t = ⊥
-AreOfSorts (Some ss) t = HaveSorts ss (children t)
+abbrev pub AreArgumentsOfSorts : Option (List Sort) → Tree → Type 0
+AreArgumentsOfSorts None t = ⊥
+AreArgumentsOfSorts (Some ss) t = HaveSorts ss (children t)
 
 -- the arguments are as declared
 abbrev pub AreDeclared : Declared → DefId → Tree → Type 0
-AreDeclared d i t = AreOfSorts (sorts_of d i) t
+AreDeclared d i t = AreArgumentsOfSorts (declared_sorts d i) t
 
 -- what the kind names is declared, and takes arguments of these sorts
 abbrev pub TyIsDeclared : Declared → List Tree → TyKind → Type 0

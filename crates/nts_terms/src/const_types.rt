@@ -2,7 +2,7 @@
 ghost use Rattle.std.specs.Prelude.{◌↔◌, IfOk, IsOkUnless, IsTrue};
 ghost use Rattle.nts_store.specs.Growth.{tree_at};
 ghost use Rattle.nts_terms.specs.Handles.{HoldsTy};
-ghost use Rattle.nts_terms.specs.ConstTypes.{IsConstType, MayStand};
+ghost use Rattle.nts_terms.specs.ConstTypes.{IsConstType, MayStandInConst};
 
 use crate::cx::Cx;
 use crate::handles::Ty;
@@ -15,7 +15,7 @@ struct OfArguments<'a> {
 }
 
 impl LabelTest for OfArguments<'_> {
-    ghost passes = { λ s l. MayStand s.sorts.now l };
+    ghost passes = { λ s l. MayStandInConst s.sorts.now l };
 
     fn test(&self, label: Label) -> bool {
         match label {

@@ -91,7 +91,7 @@ impl Model for Declarations {
 }
 
 impl Declarations {
-    ghost use Rattle.nts_terms.specs.Signatures.{nothing_declared, sorts_of, type_of, variances_in, variance_or_invariant};
+    ghost use Rattle.nts_terms.specs.Signatures.{nothing_declared, declared_sorts, type_of, variances_in, variance_or_invariant};
 
     /// Nothing declared. It takes no memory.
     pub(crate) fn new(alloc: Global) -> Self
@@ -131,7 +131,7 @@ impl Declarations {
 
     /// The sorts that something declared takes; `None` for a number that isn't declared.
     pub fn sorts(&self, def: DefId) -> Option<&[Sort]>
-        ensures { MatchOption result (sorts_of self.now def ≡ None) (λ s. sorts_of self.now def ≡ Some s.now) }
+        ensures { MatchOption result (declared_sorts self.now def ≡ None) (λ s. declared_sorts self.now def ≡ Some s.now) }
     {
         match def {
             DefId::Ctor(c) => match self.ctors.get(c.number) {

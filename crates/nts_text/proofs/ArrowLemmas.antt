@@ -3,7 +3,7 @@ use Rattle.std.proofs.Common.{◌≡◌, ◌≢◌, ℕ, zero, suc, ◌<◌, Boo
 use Rattle.std.specs.Prelude.{IfSome, slice_get}
 use Rattle.std.proofs.lemmas.Option.{slice_get-get_or}
 use Rattle.std.proofs.lemmas.List.Elements.{All-nil, All-cons, All-head, All-tail}
-use Rattle.nts_text.specs.Lines.{SaysNothing}
+use Rattle.nts_text.specs.Lines.{TokensSayNothing}
 use Rattle.nts_text.specs.Predicates.{is_marked, may_follow, may_follow_bound, may_stand, binding_behind, depth_behind, continues, are_predicates}
 use Rattle.nts_text.specs.declared.lexer.Token.{Token}
 use Rattle.nts_text.specs.declared.lexer.TokenKind.{TokenKind}
@@ -73,7 +73,7 @@ parts_at (t ∷ ts) (suc at) lt here =
 
 module _ (line : List ℕ) (ts : List Token) where
   -- no clause is said where there is no arrow and the tokens are no predicate
-  pub says_no_fact : All IsNoArrow ts → are_predicates wanted.Base ts ≡ false → SaysNothing line ts keywords.Impl
+  pub says_no_fact : All IsNoArrow ts → are_predicates wanted.Base ts ≡ false → TokensSayNothing line ts keywords.Impl
   says_no_fact none fails (lines.Mode m) says = says
   says_no_fact none fails (lines.Depth d) says = says
   says_no_fact none fails (lines.Type name params) says = says
@@ -85,7 +85,7 @@ module _ (line : List ℕ) (ts : List Token) where
 
   -- .. or where there is one, and not predicates before and behind it
   pub says_no_rule : (at : ℕ) → at < length ts → IfSome (slice_get ts at) (λ t. t.kind ≡ Arrow) → All IsNoArrow (take at ts)
-      → (are_predicates wanted.Base (take at ts) ≡ true → are_predicates wanted.Many (drop (suc at) ts) ≡ true → ⊥) → SaysNothing line ts keywords.Impl
+      → (are_predicates wanted.Base (take at ts) ≡ true → are_predicates wanted.Many (drop (suc at) ts) ≡ true → ⊥) → TokensSayNothing line ts keywords.Impl
   says_no_rule at lt here first fails (lines.Mode m) says = says
   says_no_rule at lt here first fails (lines.Depth d) says = says
   says_no_rule at lt here first fails (lines.Type name params) says = says

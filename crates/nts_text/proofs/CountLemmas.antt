@@ -3,7 +3,7 @@ use Rattle.std.proofs.Common.{◌≡◌, ℕ, ◌+◌, ◌-◌, ◌==◌, if◌t
 use Rattle.std.proofs.lemmas.List.{reverse-append, length-append}
 use Rattle.nts_text.specs.declared.predicates.Role.{Role}
 use Rattle.nts_text.specs.declared.predicates.Role.TheVariants as roles
-use Rattle.nts_text.specs.Predicates.{is_open, is_close, is_word, words_at, written_nodes, arguments_behind, open_before, is_binding, role_before}
+use Rattle.nts_text.specs.Predicates.{is_open, is_close, is_word, words_at, written_nodes, arguments_behind, open_brackets, is_binding, role_before}
 use Rattle.nts_text.specs.declared.lexer.Token.{Token}
 use Rattle.nts_text.specs.declared.lexer.TokenKind.{TokenKind}
 use Rattle.nts_text.specs.declared.lexer.TokenKind.TheVariants.{Open, Close}
@@ -77,11 +77,11 @@ arguments_behind-open t ts h = grind (arith, h)
 pub arguments_behind-other : (t : Token) (ts : List Token) → is_open t.kind ≡ false → arguments_behind (t ∷ ts) ≡ 0
 arguments_behind-other t ts h = grind (arith, h)
 
-pub open_before-open : (t : Token) (ts : List Token) → is_open t.kind ≡ true → open_before (t ∷ ts) ≡ open_before ts - 1
-open_before-open t ts h = grind (arith, h)
+pub open_brackets-open : (t : Token) (ts : List Token) → is_open t.kind ≡ true → open_brackets (t ∷ ts) ≡ open_brackets ts - 1
+open_brackets-open t ts h = grind (arith, h)
 
-pub open_before-other : (t : Token) (ts : List Token) → is_open t.kind ≡ false → is_close t.kind ≡ false → open_before (t ∷ ts) ≡ open_before ts
-open_before-other t ts h k = grind (arith, h, k)
+pub open_brackets-other : (t : Token) (ts : List Token) → is_open t.kind ≡ false → is_close t.kind ≡ false → open_brackets (t ∷ ts) ≡ open_brackets ts
+open_brackets-other t ts h k = grind (arith, h, k)
 
 -- one bracket less is open
 pub fewer_open : (outer rest : List ℕ) (top : Option ℕ) (n : ℕ) → outer ≡ rest ++ option_to_list top → (top ≡ None → rest ≡ []) → length outer ≡ n → length rest ≡ n - 1
@@ -92,7 +92,7 @@ fewer_open outer rest None n e none h =
 
 -- the role of a word, where this is known of what stands behind it
 pub role_of-behind : (binding : Bool) (depth : ℕ) (ts : List Token) (r : Role) → r ≡ (if binding then roles.Bound else (if depth == 0 then roles.Trait else roles.Argument))
-    → binding ≡ is_binding ts → depth ≡ open_before ts → r ≡ role_before ts
+    → binding ≡ is_binding ts → depth ≡ open_brackets ts → r ≡ role_before ts
 role_of-behind binding depth ts r h e f =
     h ∙ ap (λ b. if b then roles.Bound else (if depth == 0 then roles.Trait else roles.Argument)) e
     ∙ ap (λ d. if is_binding ts then roles.Bound else (if d == 0 then roles.Trait else roles.Argument)) f

@@ -1,13 +1,13 @@
 -- What lines do not say, and why they are refused.
 use Rattle.std.proofs.Common.{◌≡◌, ◌≢◌, ℕ, ◌-◌, true, false, List, [], ◌∷◌, ◌++◌, ◌⊎◌, inl, inr, length, map, take, drop, refl, sym, ap, subst, ◌∙◌, arith}
 use Rattle.std.specs.Prelude.{codes, Bool, Result, Ok, Err, IsErrAnd, IfOk, IfErr, OnOk}
-use Rattle.nts_text.specs.NameTable.{IsTaken}
+use Rattle.nts_text.specs.NameTable.{IsNameTaken}
 use Rattle.nts_text.specs.declared.commands.Command.{Command}
 use Rattle.std.proofs.lemmas.List.{map-append, take_all, length-drop}
 use Rattle.nts_model.specs.declared.labels.Sort.{Sort}
 use Rattle.nts_text.specs.Declarations.{sign_of, signs_of_params, unmarked, AreParams, EndsInCoinductive}
 use Rattle.nts_text.specs.Faults.{HasFreeName, HasBoundTwice, HasBadNames, IsFaultOf}
-use Rattle.nts_text.specs.Lines.{bytes_of, BeginsWithKeyword, Says, SaysNothing, SaysTooMuch}
+use Rattle.nts_text.specs.Lines.{bytes_of, BeginsWithKeyword, Says, TokensSayNothing, SaysTooMuch}
 use Rattle.nts_text.specs.Reasons.{is_form_reason, is_name_reason}
 use Rattle.nts_text.specs.Tokens.{AreTokensFrom, HasStrayByte}
 use Rattle.nts_text.specs.declared.lexer.Token.{Token}
@@ -48,7 +48,7 @@ closed line before word (p ∷ ps) w s h =
 
 -- a trait's line says nothing where what stands before `coinductive` is no list of sorts
 pub no_coinductive_trait : (line : List ℕ) (ts rest list : List Token) → rest ≡ drop 1 ts → EndsInCoinductive line rest list
-    → ((ss : List Sort) → AreParams line list (map unmarked ss) → ⊥) → SaysNothing line ts keywords.Trait
+    → ((ss : List Sort) → AreParams line list (map unmarked ss) → ⊥) → TokensSayNothing line ts keywords.Trait
 no_coinductive_trait line ts rest list r ends none (lines.Mode m) says = says
 no_coinductive_trait line ts rest list r ends none (lines.Depth d) says = says
 no_coinductive_trait line ts rest list r ends none (lines.Type name params) says = says
@@ -66,7 +66,7 @@ no_coinductive_trait line ts rest list r ends none (lines.Trait name sorts false
 
 -- .. or where there is no `coinductive`, and the whole is none
 pub no_trait : (line : List ℕ) (ts rest : List Token) → rest ≡ drop 1 ts → ((list : List Token) → EndsInCoinductive line rest list → ⊥)
-    → ((ss : List Sort) → AreParams line rest (map unmarked ss) → ⊥) → SaysNothing line ts keywords.Trait
+    → ((ss : List Sort) → AreParams line rest (map unmarked ss) → ⊥) → TokensSayNothing line ts keywords.Trait
 no_trait line ts rest r other none (lines.Mode m) says = says
 no_trait line ts rest r other none (lines.Depth d) says = says
 no_trait line ts rest r other none (lines.Type name params) says = says
@@ -125,13 +125,13 @@ bad_goal names line ns (Refused reasons.NumberOutOfRange) reason parameter unkno
 
 -- why a declaration is refused
 pub bad_type : (names : NameTable) (line : List ℕ) (name : Token) (params : Vec Param) (e : TextError)
-    → (e ≢ Memory → (e ≡ Refused reasons.NameDeclaredTwice) × IsTaken names (bytes_of line name)) → HasBadNames names line e (lines.Type name params)
+    → (e ≢ Memory → (e ≡ Refused reasons.NameDeclaredTwice) × IsNameTaken names (bytes_of line name)) → HasBadNames names line e (lines.Type name params)
 bad_type names line name params Memory taken = tt
 bad_type names line name params (Refused reasons.NameDeclaredTwice) taken = (taken (λ m. cc)).1
 bad_type names line name params (Refused r) taken = absurd (let e : Refused r ≡ Refused reasons.NameDeclaredTwice = (taken (λ m. cc)).0 in cc)
 
 pub bad_trait : (names : NameTable) (line : List ℕ) (name : Token) (sorts : Vec Sort) (coinductive : Bool) (e : TextError)
-    → (e ≢ Memory → (e ≡ Refused reasons.NameDeclaredTwice) × IsTaken names (bytes_of line name)) → HasBadNames names line e (lines.Trait name sorts coinductive)
+    → (e ≢ Memory → (e ≡ Refused reasons.NameDeclaredTwice) × IsNameTaken names (bytes_of line name)) → HasBadNames names line e (lines.Trait name sorts coinductive)
 bad_trait names line name sorts coinductive Memory taken = tt
 bad_trait names line name sorts coinductive (Refused reasons.NameDeclaredTwice) taken = (taken (λ m. cc)).1
 bad_trait names line name sorts coinductive (Refused r) taken = absurd (let e : Refused r ≡ Refused reasons.NameDeclaredTwice = (taken (λ m. cc)).0 in cc)
@@ -164,7 +164,7 @@ fault_of_byte names line k end (Refused r) begins h = absurd (let e : Refused r 
 
 -- tokens that say nothing, or a number that is no depth
 pub fault_of_form : (names : NameTable) (line : List ℕ) (k : Keyword) (end : ℕ) (ts : List Token) (e : TextError) → BeginsWithKeyword line k end → AreTokensFrom line end ts
-    → is_form_reason e ≡ true → (e ≡ Refused reasons.Syntax → SaysNothing line ts k) → (e ≡ Refused reasons.NumberOutOfRange → (k ≡ keywords.Depth) × SaysTooMuch line ts) → IsFaultOf names line e
+    → is_form_reason e ≡ true → (e ≡ Refused reasons.Syntax → TokensSayNothing line ts k) → (e ≡ Refused reasons.NumberOutOfRange → (k ≡ keywords.Depth) × SaysTooMuch line ts) → IsFaultOf names line e
 fault_of_form names line k end ts Memory begins cut form nothing range = tt
 fault_of_form names line k end ts (Refused reasons.Syntax) begins cut form nothing range = record { keyword = k; end = end; begins = begins; nothing = inr (ts, cut, nothing refl) }
 fault_of_form names line k end ts (Refused reasons.NumberOutOfRange) begins cut form nothing range =

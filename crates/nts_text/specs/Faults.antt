@@ -1,8 +1,8 @@
 -- What is at fault with a line that is refused.
 use Rattle.std.specs.Prelude.{◌≡◌, ℕ, List, ◌⊎◌, Some, slice_get, take}
 use Rattle.nts_text.specs.Binders.{BoundNames, bound_behind, bound_after}
-use Rattle.nts_text.specs.Lines.{bytes_of, BeginsWithKeyword, HasNoKeyword, Says, SaysNothing, SaysTooMuch}
-use Rattle.nts_text.specs.NameTable.{IsTaken}
+use Rattle.nts_text.specs.Lines.{bytes_of, BeginsWithKeyword, HasNoKeyword, Says, TokensSayNothing, SaysTooMuch}
+use Rattle.nts_text.specs.NameTable.{IsNameTaken}
 use Rattle.nts_text.specs.Spelled.{IsNumberOf, HasNoNumber}
 use Rattle.nts_text.specs.Tokens.{AreTokensFrom, HasStrayByte}
 use Rattle.nts_text.specs.declared.lexer.Token.{Token}
@@ -21,7 +21,7 @@ use Rattle.nts_text.specs.declared.refusals.TextError.TheVariants.{Memory, Refus
 -- the node's name is neither known, nor declared, nor one that its predicate's binder binds
 abbrev pub IsUnknown : NameTable → List ℕ → BoundNames → Node → Type 0
 IsUnknown names line b n =
-    (IsTaken names (bytes_of line n.token) → ⊥) × HasNoNumber (bound_behind line b n).here (bytes_of line n.token)
+    (IsNameTaken names (bytes_of line n.token) → ⊥) × HasNoNumber (bound_behind line b n).here (bytes_of line n.token)
 
 -- some node has an unknown name
 abbrev pub HasFreeName : NameTable → List ℕ → List Node → Type 0
@@ -33,7 +33,7 @@ HasFreeName names line ns =
 abbrev pub IsBoundTwice : NameTable → List ℕ → BoundNames → Node → Type 0
 IsBoundTwice names line b n =
     (n.role ≡ Bound)
-    × ((n.token.kind ≡ Static) ⊎ IsTaken names (bytes_of line n.token) ⊎ ((i : ℕ) × IsNumberOf b.next i (bytes_of line n.token)))
+    × ((n.token.kind ≡ Static) ⊎ IsNameTaken names (bytes_of line n.token) ⊎ ((i : ℕ) × IsNumberOf b.next i (bytes_of line n.token)))
 
 abbrev pub HasBoundTwice : NameTable → List ℕ → List Node → Type 0
 HasBoundTwice names line ns =
@@ -42,8 +42,8 @@ HasBoundTwice names line ns =
 -- why the names of a line are refused
 abbrev pub HasBadNames : NameTable → List ℕ → TextError → Line → Type 0
 HasBadNames names line Memory l = Unit {0}
-HasBadNames names line (Refused NameDeclaredTwice) (lines.Type name params) = IsTaken names (bytes_of line name)
-HasBadNames names line (Refused NameDeclaredTwice) (lines.Trait name sorts coinductive) = IsTaken names (bytes_of line name)
+HasBadNames names line (Refused NameDeclaredTwice) (lines.Type name params) = IsNameTaken names (bytes_of line name)
+HasBadNames names line (Refused NameDeclaredTwice) (lines.Trait name sorts coinductive) = IsNameTaken names (bytes_of line name)
 HasBadNames names line (Refused NameDeclaredTwice) (lines.Impl head body) =
     HasBoundTwice names line head.items ⊎ HasBoundTwice names line body.items
 HasBadNames names line (Refused NameDeclaredTwice) (lines.Goal ns) = HasBoundTwice names line ns.items
@@ -60,7 +60,7 @@ pub record HasNoForm (line : List ℕ) : Type 0 where
   pub keyword : Keyword
   pub end : ℕ
   pub begins : BeginsWithKeyword line keyword end
-  pub nothing : HasStrayByte line end ⊎ ((ts : List Token) × AreTokensFrom line end ts × SaysNothing line ts keyword)
+  pub nothing : HasStrayByte line end ⊎ ((ts : List Token) × AreTokensFrom line end ts × TokensSayNothing line ts keyword)
 
 -- behind `depth` stands a number that is no depth
 pub record HasNoDepth (line : List ℕ) : Type 0 where

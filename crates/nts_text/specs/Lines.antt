@@ -67,8 +67,8 @@ Says line ts keywords.Goal (lines.Goal ns) = (are_predicates wanted.One ts ≡ t
 Says line ts _ _ = ⊥
 
 -- the tokens behind a keyword say nothing
-abbrev pub SaysNothing : List ℕ → List Token → Keyword → Type 0
-SaysNothing line ts k = (l : Line) → Says line ts k l → ⊥
+abbrev pub TokensSayNothing : List ℕ → List Token → Keyword → Type 0
+TokensSayNothing line ts k = (l : Line) → Says line ts k l → ⊥
 
 -- the one token is a number that is no depth
 abbrev pub SaysTooMuch : List ℕ → List Token → Type 0

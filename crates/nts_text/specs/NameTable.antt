@@ -14,12 +14,12 @@ abbrev pub declared_as : NameTable → List ℕ → Option Declared
 declared_as names name = get_by (λ key. pointwise nat_eq name key.items) names.numbers
 
 -- the name is that of a known type, or declared
-abbrev pub IsTaken : NameTable → List ℕ → Type 0
-IsTaken names name = ((d : Declared) × IsNameOf d name) ⊎ IsSome (declared_as names name)
+abbrev pub IsNameTaken : NameTable → List ℕ → Type 0
+IsNameTaken names name = ((d : Declared) × IsNameOf d name) ⊎ IsSome (declared_as names name)
 
 -- the name is that of this known type, or declared to be this
-abbrev pub StandsFor : NameTable → List ℕ → Declared → Type 0
-StandsFor names name d = IsNameOf d name ⊎ (declared_as names name ≡ Some d)
+abbrev pub NameStandsFor : NameTable → List ℕ → Declared → Type 0
+NameStandsFor names name d = IsNameOf d name ⊎ (declared_as names name ≡ Some d)
 
 -- each other name means what it meant
 abbrev pub KeepsOthers : NameTable → NameTable → List ℕ → Type 0
@@ -32,7 +32,7 @@ signatures ss = map (λ s. (s.name.items, s.sorts.items)) ss
 -- a free name becomes that of a new type: this has the next number and these sorts, and is printed by
 -- that name; nothing else changes
 pub record AddsType (old new : NameTable) (name : List ℕ) (sorts : List Sort) : Type 0 where
-  pub free : IsTaken old name → ⊥
+  pub free : IsNameTaken old name → ⊥
   pub named : declared_as new name ≡ Some (declared.Type (vec_len old.types))
   pub others : KeepsOthers old new name
   pub listed : signatures new.types.items ≡ signatures old.types.items ++ (name, sorts) ∷ []
@@ -40,7 +40,7 @@ pub record AddsType (old new : NameTable) (name : List ℕ) (sorts : List Sort) 
 
 -- the same for a trait
 pub record AddsTrait (old new : NameTable) (name : List ℕ) (sorts : List Sort) : Type 0 where
-  pub free : IsTaken old name → ⊥
+  pub free : IsNameTaken old name → ⊥
   pub named : declared_as new name ≡ Some (declared.Trait (vec_len old.traits))
   pub others : KeepsOthers old new name
   pub listed : signatures new.traits.items ≡ signatures old.traits.items ++ (name, sorts) ∷ []

@@ -24,11 +24,11 @@ is_word Name = true
 is_word k = is_marked k
 
 -- what a binder may bind: a name, or a region with its mark
-abbrev pub is_bound : TokenKind → Bool
-is_bound Name = true
-is_bound RegionParam = true
-is_bound Static = true
-is_bound _ = false
+abbrev pub is_bound_token : TokenKind → Bool
+is_bound_token Name = true
+is_bound_token RegionParam = true
+is_bound_token Static = true
+is_bound_token _ = false
 
 abbrev pub is_name : TokenKind → Bool
 is_name Name = true
@@ -65,8 +65,8 @@ may_follow many depth before k = is_marked before && ends_item many depth k
 
 -- whether k may stand behind another token in the list of a binder: names parted by commas, at least one
 abbrev pub may_follow_bound : TokenKind → TokenKind → Bool
-may_follow_bound For k = is_bound k
-may_follow_bound Comma k = is_bound k
+may_follow_bound For k = is_bound_token k
+may_follow_bound Comma k = is_bound_token k
 may_follow_bound before Comma = true
 may_follow_bound before Greater = true
 may_follow_bound before k = false
@@ -136,11 +136,11 @@ arguments_behind [] = 0
 arguments_behind (t ∷ ts) = if is_open t.kind then words_at 0 ts else 0
 
 -- how many brackets are open before these tokens
-abbrev pub open_before : List Token → ℕ
-open_before [] = 0
-open_before (t ∷ ts) =
-    if is_open t.kind then open_before ts - 1
-    else (if is_close t.kind then open_before ts + 1 else open_before ts)
+abbrev pub open_brackets : List Token → ℕ
+open_brackets [] = 0
+open_brackets (t ∷ ts) =
+    if is_open t.kind then open_brackets ts - 1
+    else (if is_close t.kind then open_brackets ts + 1 else open_brackets ts)
 
 -- whether the list of a binder is open before a token, if this is so behind it
 abbrev pub binding_before : TokenKind → Bool → Bool
@@ -156,7 +156,7 @@ is_binding (t ∷ ts) = binding_before t.kind (is_binding ts)
 -- what a word is, in front of these tokens: bound by a binder, or a trait where no bracket is open
 abbrev pub role_before : List Token → Role
 role_before ts =
-    if is_binding ts then roles.Bound else (if open_before ts == 0 then roles.Trait else roles.Argument)
+    if is_binding ts then roles.Bound else (if open_brackets ts == 0 then roles.Trait else roles.Argument)
 
 -- each word, with its role and the number of its arguments
 abbrev pub written_nodes : List Token → List Node

@@ -5,7 +5,7 @@ use Rattle.nts_model.specs.declared.labels.Sort.{Sort}
 use Rattle.nts_model.specs.declared.labels.Sort.TheVariants.{Ty, Region, Const}
 use Rattle.nts_text.specs.declared.names.NameTable.{NameTable}
 use Rattle.nts_text.specs.Lines.{bytes_of}
-use Rattle.nts_text.specs.NameTable.{IsTaken, StandsFor}
+use Rattle.nts_text.specs.NameTable.{IsNameTaken, NameStandsFor}
 use Rattle.nts_text.specs.Binders.{BoundNames, bound_behind}
 use Rattle.nts_text.specs.Spelled.{type_names, region_names, IsNumberOf, HasNoNumber}
 use Rattle.nts_text.specs.declared.lexer.TokenKind.{TokenKind}
@@ -75,17 +75,17 @@ IsBoundAs Const k = ⊥
 -- the predicate's binder binds; or it is a name for a binder to bind, which is free and not yet in its list
 abbrev pub IsMeaningOf : NameTable → Scope → List ℕ → BoundNames → Node → Resolved → Type 0
 IsMeaningOf names scope line b n (nodes.Binds s) =
-    IsBoundAs s n.token.kind × (IsTaken names (bytes_of line n.token) → ⊥) × HasNoNumber b.next (bytes_of line n.token)
+    IsBoundAs s n.token.kind × (IsNameTaken names (bytes_of line n.token) → ⊥) × HasNoNumber b.next (bytes_of line n.token)
 IsMeaningOf names scope line b n (nodes.BoundType i) =
     (n.token.kind ≡ Name) × (n.arguments ≡ 0) × IsNumberOf b.here i (bytes_of line n.token)
 IsMeaningOf names scope line b n (nodes.BoundRegion i) =
     (n.token.kind ≡ RegionParam) × IsNumberOf b.here i (bytes_of line n.token)
 IsMeaningOf names scope line b n (nodes.Trait i arguments) =
-    StandsFor names (bytes_of line n.token) (declared.Trait i) × (arguments ≡ n.arguments)
+    NameStandsFor names (bytes_of line n.token) (declared.Trait i) × (arguments ≡ n.arguments)
 IsMeaningOf names scope line b n (nodes.Ctor i arguments) =
-    StandsFor names (bytes_of line n.token) (declared.Type i) × (arguments ≡ n.arguments)
-IsMeaningOf names scope line b n (nodes.Int t) = StandsFor names (bytes_of line n.token) (declared.Int t)
-IsMeaningOf names scope line b n (nodes.Uint t) = StandsFor names (bytes_of line n.token) (declared.Uint t)
+    NameStandsFor names (bytes_of line n.token) (declared.Type i) × (arguments ≡ n.arguments)
+IsMeaningOf names scope line b n (nodes.Int t) = NameStandsFor names (bytes_of line n.token) (declared.Int t)
+IsMeaningOf names scope line b n (nodes.Uint t) = NameStandsFor names (bytes_of line n.token) (declared.Uint t)
 IsMeaningOf names scope line b n (nodes.TypeVariable i) =
     (n.token.kind ≡ TypeVariable) × IsNumberOf (type_names scope.variables) i (bytes_of line n.token)
 IsMeaningOf names scope line b n (nodes.TypeParam i) =

@@ -64,7 +64,7 @@ pub fn known_type(name: &[u8]) -> Option<Declared>
 }
 
 impl NameTable {
-    ghost use Rattle.nts_text.specs.NameTable.{declared_as, signatures, IsTaken, KeepsOthers, StandsFor};
+    ghost use Rattle.nts_text.specs.NameTable.{declared_as, signatures, IsNameTaken, KeepsOthers, NameStandsFor};
 
     /// No names but those of the known types.
     pub fn new(alloc: Global) -> Self
@@ -81,8 +81,8 @@ impl NameTable {
 
     /// What a name stands for, if it is known or declared.
     pub fn lookup(&self, name: &[u8]) -> Option<Declared>
-        ensures found { IfSome result (StandsFor self.now name.now) }
-        ensures unknown { IsNone result → IsTaken self.now name.now → ⊥ }
+        ensures found { IfSome result (NameStandsFor self.now name.now) }
+        ensures unknown { IsNone result → IsNameTaken self.now name.now → ⊥ }
         ensures numbered { IfSome result (λ d. is_numbered (vec_len self.now.types) (vec_len self.now.traits) d ≡ true) }
     {
         match known_type(name) {
@@ -98,9 +98,9 @@ impl NameTable {
         name: &[u8],
         sorts: Vec<Sort>,
     ) -> Result<usize, TextError>
-        ensures taken { IfErr result (λ e. e ≢ Memory → (e ≡ Refused NameDeclaredTwice) × IsTaken self.old name.now) }
+        ensures taken { IfErr result (λ e. e ≢ Memory → (e ≡ Refused NameDeclaredTwice) × IsNameTaken self.old name.now) }
         ensures kept { result ≡ Err (Refused NameDeclaredTwice) → self.new ≡ self.old }
-        ensures free { OnOk result (IsTaken self.old name.now → ⊥) }
+        ensures free { OnOk result (IsNameTaken self.old name.now → ⊥) }
         ensures declared { IfOk result (λ n. declared_as self.new name.now ≡ Some (Declared.Type n)) }
         ensures others { KeepsOthers self.old self.new name.now }
         ensures number { IfOk result (λ n. n ≡ vec_len self.old.types) }
@@ -125,9 +125,9 @@ impl NameTable {
         name: &[u8],
         sorts: Vec<Sort>,
     ) -> Result<usize, TextError>
-        ensures taken { IfErr result (λ e. e ≢ Memory → (e ≡ Refused NameDeclaredTwice) × IsTaken self.old name.now) }
+        ensures taken { IfErr result (λ e. e ≢ Memory → (e ≡ Refused NameDeclaredTwice) × IsNameTaken self.old name.now) }
         ensures kept { result ≡ Err (Refused NameDeclaredTwice) → self.new ≡ self.old }
-        ensures free { OnOk result (IsTaken self.old name.now → ⊥) }
+        ensures free { OnOk result (IsNameTaken self.old name.now → ⊥) }
         ensures declared { IfOk result (λ n. declared_as self.new name.now ≡ Some (Declared.Trait n)) }
         ensures others { KeepsOthers self.old self.new name.now }
         ensures number { IfOk result (λ n. n ≡ vec_len self.old.traits) }

@@ -6,7 +6,7 @@ ghost use Rattle.nts_text.specs.Tokens.{IsInside};
 ghost use Rattle.nts_text.specs.Predicates.{are_predicates};
 ghost use Rattle.nts_text.specs.Reasons.{is_form_reason};
 ghost use Rattle.nts_text.specs.Declarations.{AreParams, EndsInCoinductive, sign_of, unmarked, word_of_sort};
-ghost use Rattle.nts_text.specs.Lines.{word_of_keyword, word_of_mode, bytes_of, IsPassedOver, BeginsWithKeyword, HasNoKeyword, NamesAreInside, Says, SaysNothing, SaysTooMuch};
+ghost use Rattle.nts_text.specs.Lines.{word_of_keyword, word_of_mode, bytes_of, IsPassedOver, BeginsWithKeyword, HasNoKeyword, NamesAreInside, Says, TokensSayNothing, SaysTooMuch};
 ghost use Rattle.nts_text.specs.declared.refusals.TextError.TheVariants.{Refused};
 ghost use Rattle.nts_text.specs.declared.refusals.Refusal.TheVariants.{Syntax, NumberOutOfRange, UnknownCommand};
 ghost use Rattle.nts_text.specs.declared.lexer.Token.{Token};
@@ -241,7 +241,7 @@ fn mode_line(line: &[u8], tokens: &[Token]) -> Option<Line>
     requires { All (IsInside line.now) tokens.now }
     ensures says { IfSome result (Says line.now tokens.now Keyword.Mode) }
     ensures inside { IfSome result (NamesAreInside line.now) }
-    ensures none { IsNone result → SaysNothing line.now tokens.now Keyword.Mode }
+    ensures none { IsNone result → TokensSayNothing line.now tokens.now Keyword.Mode }
 {
     let [word] = tokens else {
         return None;
@@ -269,7 +269,7 @@ fn type_line(alloc: Global, line: &[u8], tokens: &[Token]) -> Result<Option<Line
     requires { All (IsInside line.now) tokens.now }
     ensures says { IfOk result (λ o. IfSome o (Says line.now tokens.now Keyword.Type)) }
     ensures inside { IfOk result (λ o. IfSome o (NamesAreInside line.now)) }
-    ensures none { IfOk result (λ o. IsNone o → SaysNothing line.now tokens.now Keyword.Type) }
+    ensures none { IfOk result (λ o. IsNone o → TokensSayNothing line.now tokens.now Keyword.Type) }
 {
     let [name, rest @ ..] = tokens else {
         return Ok(None);
@@ -318,7 +318,7 @@ fn trait_line(alloc: Global, line: &[u8], tokens: &[Token]) -> Result<Option<Lin
     requires { All (IsInside line.now) tokens.now }
     ensures says { IfOk result (λ o. IfSome o (Says line.now tokens.now Keyword.Trait)) }
     ensures inside { IfOk result (λ o. IfSome o (NamesAreInside line.now)) }
-    ensures none { IfOk result (λ o. IsNone o → SaysNothing line.now tokens.now Keyword.Trait) }
+    ensures none { IfOk result (λ o. IsNone o → TokensSayNothing line.now tokens.now Keyword.Trait) }
 {
     let [name, rest @ ..] = tokens else {
         return Ok(None);
@@ -358,7 +358,7 @@ fn impl_line(alloc: Global, line: &[u8], tokens: &[Token]) -> Result<Option<Line
     requires { All (IsInside line.now) tokens.now }
     ensures says { IfOk result (λ o. IfSome o (Says line.now tokens.now Keyword.Impl)) }
     ensures inside { IfOk result (λ o. IfSome o (NamesAreInside line.now)) }
-    ensures none { IfOk result (λ o. IsNone o → SaysNothing line.now tokens.now Keyword.Impl) }
+    ensures none { IfOk result (λ o. IsNone o → TokensSayNothing line.now tokens.now Keyword.Impl) }
 {
     let Some(at) = arrow_of(tokens) else {
         return match predicates_of(alloc, tokens, Wanted::Base)? {
@@ -403,7 +403,7 @@ pub fn line_of(
     ensures says { IfOk result (Says line.now tokens.now keyword) }
     ensures inside { IfOk result (NamesAreInside line.now) }
     ensures reasons { IfErr result (λ e. is_form_reason e ≡ true) }
-    ensures syntax { result ≡ Err (Refused Syntax) → SaysNothing line.now tokens.now keyword }
+    ensures syntax { result ≡ Err (Refused Syntax) → TokensSayNothing line.now tokens.now keyword }
     ensures range { result ≡ Err (Refused NumberOutOfRange) → (keyword ≡ Keyword.Depth) × SaysTooMuch line.now tokens.now }
     ensures depth { keyword ≡ Keyword.Depth → IsErr result → (t : Token) → tokens.now ≡ t ∷ [] → t.kind ≡ TokenKind.Number → 65535 < decimal_value (bytes_of line.now t) }
     ensures goal { keyword ≡ Keyword.Goal → result ≡ Err (Refused Syntax) → are_predicates Wanted.One tokens.now ≡ false }

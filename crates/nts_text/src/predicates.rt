@@ -1,7 +1,7 @@
 //! Predicates, as the grammar reads them.
 
 ghost use Rattle.std.specs.Prelude.{◌≡◌, false, true, ◌==◌, if◌then◌else◌, is_some, map, filter, IfOk, IfSome};
-ghost use Rattle.nts_text.specs.Predicates.{is_bound, is_marked, is_word, ends_item, may_follow, may_follow_bound, may_stand, binding_before, binding_behind, is_many, before_first_of, are_predicates, written_nodes, is_forest};
+ghost use Rattle.nts_text.specs.Predicates.{is_bound_token, is_marked, is_word, ends_item, may_follow, may_follow_bound, may_stand, binding_before, binding_behind, is_many, before_first_of, are_predicates, written_nodes, is_forest};
 
 use crate::lexer::{Token, TokenKind};
 use std::alloc::{AllocError, Global};
@@ -59,7 +59,7 @@ fn is_word(kind: TokenKind) -> bool
 }
 
 fn is_bound(kind: TokenKind) -> bool
-    ensures { result ≡ is_bound kind }
+    ensures { result ≡ is_bound_token kind }
 {
     matches!(
         kind,

@@ -2,7 +2,7 @@
 
 ghost use Rattle.std.specs.Prelude.{◌≡◌, ◌≢◌, true, None, Some, Err, ◌++◌, ◌∷◌, [], length, vec_len, reverse, All, IfOk, IfErr, IsErr, OnOk, MatchResult};
 ghost use Rattle.nts_text.specs.Lines.{bytes_of};
-ghost use Rattle.nts_text.specs.NameTable.{IsTaken, StandsFor};
+ghost use Rattle.nts_text.specs.NameTable.{IsNameTaken, NameStandsFor};
 ghost use Rattle.nts_text.specs.Binders.{BoundNames, bound_names, bound_behind, nothing_bound};
 ghost use Rattle.nts_text.specs.Faults.{IsUnknown, HasFreeName, IsBoundTwice, HasBoundTwice};
 ghost use Rattle.nts_text.specs.Spelled.{KeepsNames};
@@ -58,9 +58,9 @@ fn refused<T>(refusal: Refusal) -> Result<T, TextError>
 /// What the name of a node stands for.
 fn declared(names: &NameTable, line: &[u8], node: Node) -> Result<Declared, TextError>
     requires { IsInside line.now node.token }
-    ensures unknown { IfErr result (λ e. (e ≡ Refused UnknownName) × (IsTaken names.now (bytes_of line.now node.token) → ⊥)) }
+    ensures unknown { IfErr result (λ e. (e ≡ Refused UnknownName) × (IsNameTaken names.now (bytes_of line.now node.token) → ⊥)) }
     ensures numbered { IfOk result (λ d. is_numbered (vec_len names.now.types) (vec_len names.now.traits) d ≡ true) }
-    ensures found { IfOk result (StandsFor names.now (bytes_of line.now node.token)) }
+    ensures found { IfOk result (NameStandsFor names.now (bytes_of line.now node.token)) }
 {
     match names.lookup(text(line, node.token)) {
         Some(declared) => Ok(declared),
@@ -78,7 +78,7 @@ fn predicate(names: &NameTable, line: &[u8], node: Node) -> Result<Resolved, Tex
         IfOk result (IsMeaningOf names.now scope line.now b node) }
     ensures reasons { IfErr result (λ e. is_name_reason e ≡ true) }
     ensures reason { result ≢ Err (Refused ParameterInAClause) }
-    ensures unknown { result ≡ Err (Refused UnknownName) → IsTaken names.now (bytes_of line.now node.token) → ⊥ }
+    ensures unknown { result ≡ Err (Refused UnknownName) → IsNameTaken names.now (bytes_of line.now node.token) → ⊥ }
     ensures declares { result ≢ Err (Refused NameDeclaredTwice) }
 {
     let Declared::Trait(number) = declared(names, line, node)? else {
@@ -103,7 +103,7 @@ fn named_type(names: &NameTable, line: &[u8], node: Node) -> Result<Resolved, Te
         IfOk result (IsMeaningOf names.now scope line.now b node) }
     ensures reasons { IfErr result (λ e. is_name_reason e ≡ true) }
     ensures reason { result ≢ Err (Refused ParameterInAClause) }
-    ensures unknown { result ≡ Err (Refused UnknownName) → IsTaken names.now (bytes_of line.now node.token) → ⊥ }
+    ensures unknown { result ≡ Err (Refused UnknownName) → IsNameTaken names.now (bytes_of line.now node.token) → ⊥ }
     ensures declares { result ≢ Err (Refused NameDeclaredTwice) }
 {
     let (found, wanted) = match declared(names, line, node)? {

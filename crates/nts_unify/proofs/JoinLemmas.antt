@@ -18,7 +18,7 @@ use Rattle.nts_unify.specs.declared.contents.Variable.{Variable}
 use Rattle.nts_unify.specs.Entries.{Entries, with_variable, bound}
 use Rattle.nts_unify.specs.Reading.{state_with, slot_of, recorded_of, content_of, IsLawful}
 use Rattle.nts_unify.specs.Roots.{SubLinked, SubRootsJoin}
-use Rattle.nts_unify.specs.Changing.{unset_count, unset_of, one_unset, IsLater, Keeps, AddsVisible, nothing_more}
+use Rattle.nts_unify.specs.Changing.{unset_count, unset_of, one_unset, IsLater, KeepsKnowing, AddsVisible, nothing_more}
 use Rattle.nts_unify.specs.Unchanged.{HasUnset}
 use Rattle.nts_unify.specs.Joining.{CanJoin, CanJoinRegions, IsOneClass, IsJoined, Joins, RegionsJoin}
 use Rattle.nts_model.proofs.Tables.Solving.{Lowers}
@@ -28,7 +28,7 @@ use Rattle.nts_unify.specs.Proper.{IsProper, IsProper-link, IsProper-region_link
 use Rattle.nts_unify.proofs.Leading.{universe_of-entry}
 use Rattle.nts_unify.proofs.Merging.{Marked, Marked-refl, marked, ComesDown, comes_down, LeadsTo, leads_to, leads_to_region, one_class}
 use Rattle.nts_unify.proofs.Changes.{proper_lowered, proper_sub_linked, slot_at, content_of-with_variable, content_of-bound, AreHeld-at, LeadsDown, leads_down, IsLawful-set, IsLawful-bound}
-use Rattle.nts_unify.proofs.Keeping.{Keeps-trans, Keeps-same, news_none, unset-set, unset_of-infer}
+use Rattle.nts_unify.proofs.Keeping.{KeepsKnowing-trans, KeepsKnowing-same, news_none, unset-set, unset_of-infer}
 use Rattle.nts_unify.proofs.SubJoins.{sub_kept, sub_bound, links_sub_roots, joined_subs}
 use Rattle.nts_model.specs.Tables.SubUnifying.{JoinsSubRoots}
 use Rattle.nts_model.specs.Tables.Passing.{BringsNoLabels}
@@ -177,7 +177,7 @@ record Joined (ts : List Tree) (e f : Entries) (low high : ℕ) : Type 0 where
 
 record RegionsJoined (ts : List Tree) (e f : Entries) (low high : ℕ) : Type 0 where
   lawful : IsLawful ts f
-  keeps : Keeps (content_of ts e) (content_of ts f)
+  keeps : KeepsKnowing (content_of ts e) (content_of ts f)
   others : (n : ℕ) → (n ≡ high → ⊥) → state_of (content_of ts f) n ≡ state_of (content_of ts e) n
   leads : LeadsTo (content_of ts e) (content_of ts f) high low
 
@@ -338,7 +338,7 @@ regions_join ts e d f x y u low high root linked can h is_low is_high at_low at_
     let one : IsOneClass (content_of ts e) (content_of ts f) low high =
     one_class (content_of ts e) (content_of ts e) (content_of ts d) (content_of ts f) low high u root.universe linked.universe h.sound h.sound both.lawful.sound (Marked-refl (content_of ts e) h.sound) l1 k1 other (universe_of-entry ts e low root at_low) (universe_of-entry ts e high linked at_high) is_u in
     let lawful : IsLawful ts f = rw is_linked j.lawful in
-    let keeps : Keeps (content_of ts e) (content_of ts f) = rw is_linked (Keeps-trans (Keeps-same both.same (rw is_lowered (sub_kept ts e low root (record root { universe = u }) at_low refl)) (rw is_lowered nothing_more) both.unset_kept) j.keeps) in
+    let keeps : KeepsKnowing (content_of ts e) (content_of ts f) = rw is_linked (KeepsKnowing-trans (KeepsKnowing-same both.same (rw is_lowered (sub_kept ts e low root (record root { universe = u }) at_low refl)) (rw is_lowered nothing_more) both.unset_kept) j.keeps) in
     let others : (n : ℕ) → (n ≡ high → ⊥) → state_of (content_of ts f) n ≡ state_of (content_of ts d) n = rw is_linked j.others in
     let constraints : f.constraints ≡ e.constraints = ap (λ (z : Entries). z.constraints) is_linked ∙ ap (λ (z : Entries). z.constraints) is_lowered in
     let brings : BringsNoLabels (content_of ts e) (content_of ts f) =

@@ -12,7 +12,7 @@ use Rattle.std.proofs.lemmas.Bool.{cases_lt}
 use Rattle.nts_model.proofs.Tables.Slots.{Knows-kept, KeepsKinds-with_slot, field_below}
 use Rattle.nts_model.proofs.Tables.Tying.{has_kind, kind_before}
 use Rattle.nts_model.proofs.Tables.Sound.{SameStates, resolved-same, SameStates-with_constraint}
-use Rattle.nts_unify.specs.Changing.{one_unset, unset_of, unset_count, IsSeen, HasClosedSides, IsLater, Keeps, AddsVisible, nothing_more, one_more}
+use Rattle.nts_unify.specs.Changing.{one_unset, unset_of, unset_count, IsSeen, HasClosedSides, IsLater, KeepsKnowing, AddsVisible, nothing_more, one_more}
 use Rattle.nts_unify.specs.Entries.{Inner, KeepsHidden}
 use Rattle.nts_model.proofs.Tables.SubUnified.{JoinsSubRoots-refl, JoinsSubRoots-trans, JoinsSubRoots-same, JoinsSubRoots-added}
 use Rattle.nts_model.specs.Tables.SubUnifying.{JoinsSubRoots}
@@ -69,8 +69,8 @@ IsLater-with_slot c v free alone =
     let kept = KeepsKinds-with_slot c v in
     record { more = omega (arith, length-append c.slots (v ∷ [])); grows = kept.grows; kinds = kept.kinds; subs = JoinsSubRoots-added c v free alone; visible = nothing_more }
 
-pub Keeps-refl : (c : Content) → Keeps c c
-Keeps-refl c = record { later = IsLater-refl c; states = λ n h k. refl; trees = λ t h. refl; unset_kept = refl; news = news_none c c refl }
+pub KeepsKnowing-refl : (c : Content) → KeepsKnowing c c
+KeepsKnowing-refl c = record { later = IsLater-refl c; states = λ n h k. refl; trees = λ t h. refl; unset_kept = refl; news = news_none c c refl }
 
 -- the kind of an old variable is no other one afterwards
 pub no_region-later : {c d : Content} (n : ℕ) → IsLater c d → n < length c.slots → kind_at c n ≢ Some kind.Region → kind_at d n ≢ Some kind.Region
@@ -80,8 +80,8 @@ no_region-later {c} {d} n l h k q =
     let z : Some has.0 ≡ Some kind.Region = sym there ∙ q in
     k (has.1 ∙ z)
 
-pub Keeps-trans : {c d e : Content} → Keeps c d → Keeps d e → Keeps c e
-Keeps-trans {c} {d} {e} a b =
+pub KeepsKnowing-trans : {c d e : Content} → KeepsKnowing c d → KeepsKnowing d e → KeepsKnowing c e
+KeepsKnowing-trans {c} {d} {e} a b =
     record {
       later = IsLater-trans a.later b.later;
       states = λ n h k. b.states n (omega (arith, h, a.later.more)) (no_region-later n a.later h k) ∙ a.states n h k;
@@ -121,8 +121,8 @@ pub same_subs : {c d : Content} → SameStates c d → ((n : ℕ) → sub_link_o
 same_subs {c} {d} s l =
     JoinsSubRoots-same c d (λ n m h. s.states n ∙ h) (λ n m k h i j. sym (s.states n) ∙ h) (λ n m h. l n ∙ h) (λ n m h. sym (l n) ∙ h)
 
-pub Keeps-same : {c d : Content} → SameStates c d → ((n : ℕ) → sub_link_of d n ≡ sub_link_of c n) → AddsVisible c.constraints d.constraints → unset_count d.slots ≡ unset_count c.slots → Keeps c d
-Keeps-same {c} {d} s l v u =
+pub KeepsKnowing-same : {c d : Content} → SameStates c d → ((n : ℕ) → sub_link_of d n ≡ sub_link_of c n) → AddsVisible c.constraints d.constraints → unset_count d.slots ≡ unset_count c.slots → KeepsKnowing c d
+KeepsKnowing-same {c} {d} s l v u =
     record {
       later = record { more = omega (arith, s.more); grows = s.grows; kinds = λ n k h. s.kinds n ∙ h; subs = same_subs s l; visible = v };
       states = λ n h k. s.states n;
@@ -131,8 +131,8 @@ Keeps-same {c} {d} s l v u =
       news = news_none c d s.more;
     }
 
-pub Keeps-with_constraint : (c : Content) (x : Recorded) → IsSeen x → Keeps c (with_constraint c x)
-Keeps-with_constraint c x v = Keeps-same (SameStates-with_constraint c x) (λ n. refl) (one_more x nothing_more v) refl
+pub KeepsKnowing-with_constraint : (c : Content) (x : Recorded) → IsSeen x → KeepsKnowing c (with_constraint c x)
+KeepsKnowing-with_constraint c x v = KeepsKnowing-same (SameStates-with_constraint c x) (λ n. refl) (one_more x nothing_more v) refl
 
 pub KeepsHidden-refl : (a : Inner) → KeepsHidden a a
 KeepsHidden-refl a = record { saved = refl; universe = refl; hidden = refl }

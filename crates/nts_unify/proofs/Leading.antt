@@ -14,7 +14,7 @@ use Rattle.nts_unify.specs.declared.contents.Variable.{Variable}
 use Rattle.nts_unify.specs.Entries.{Entries}
 use Rattle.nts_unify.specs.Reading.{state_with, content_of}
 use Rattle.nts_unify.proofs.Changes.{slot_at, length-slots}
-use Rattle.nts_unify.specs.Roots.{Leads, here, on, IsRootState, IsRoot, HasClass}
+use Rattle.nts_unify.specs.Roots.{Leads, here, on, IsUnlinked, IsRoot, HasClass}
 
 pub state_of-entry : (ts : List Tree) (e : Entries) (n : ℕ) (v : Variable) → slice_get e.variables n ≡ Some v → state_of (content_of ts e) n ≡ Some (state_with ts v.state)
 state_of-entry ts e n v h = ap (map_slot (λ x. x.state)) (slot_at ts e n v h)
@@ -38,7 +38,7 @@ Reaches-leads ts e n r here = resolving.here
 Reaches-leads ts e n r (on {m = m} v before at is) =
     resolving.on (Reaches-leads ts e n m before) (state_of-entry ts e m v at ∙ ap (λ s. Some (state_with ts s)) is)
 
-root_state : (ts : List Tree) (s : State) → IsRootState s → resolving.IsRootState (Some (state_with ts s))
+root_state : (ts : List Tree) (s : State) → IsUnlinked s → resolving.IsRootState (Some (state_with ts s))
 root_state ts Unset h = tt
 root_state ts (Link m) h = h
 root_state ts (Known t) h = tt

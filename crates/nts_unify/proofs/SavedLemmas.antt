@@ -4,7 +4,7 @@ use Rattle.std.proofs.Common.{Option, Some, None, append-nil, ◌≡◌, ℕ, su
 use Rattle.std.proofs.lemmas.Grind.{common_steps}
 use Rattle.nts_unify.specs.declared.contents.UndoLog.{UndoLog}
 use Rattle.nts_unify.specs.Entries.{Entries, Inner, undone, all_undone}
-use Rattle.nts_unify.specs.Saved.{saved_of, IsFirst, AreMarks}
+use Rattle.nts_unify.specs.Saved.{saved_of, IsFirstMark, AreMarks}
 
 all_undone-append : (a b : List UndoLog) (c : Entries) → all_undone (a ++ b) c ≡ all_undone a (all_undone b c)
 all_undone-append [] b c = refl
@@ -42,24 +42,24 @@ pub AreMarks-more : (n m : ℕ) (ps : List ℕ) → AreMarks n ps → n ≤ m �
 AreMarks-more n m [] h k = tt
 AreMarks-more n m (p ∷ ps) h k = (h.0, omega (arith, h.1), AreMarks-more n m ps h.2 k)
 
-IsFirst-push : (p n : ℕ) (ps : List ℕ) → IsFirst p ps → p ≤ n → IsFirst p (ps ++ n ∷ [])
-IsFirst-push p n [] h k = (k, tt)
-IsFirst-push p n (q ∷ ps) h k = (h.0, IsFirst-push p n ps h.1 k)
+IsFirstMark-push : (p n : ℕ) (ps : List ℕ) → IsFirstMark p ps → p ≤ n → IsFirstMark p (ps ++ n ∷ [])
+IsFirstMark-push p n [] h k = (k, tt)
+IsFirstMark-push p n (q ∷ ps) h k = (h.0, IsFirstMark-push p n ps h.1 k)
 
 pub AreMarks-push : (n : ℕ) (ps : List ℕ) → AreMarks n ps → AreMarks n (ps ++ n ∷ [])
 AreMarks-push n [] h = (tt, omega arith, tt)
-AreMarks-push n (p ∷ ps) h = (IsFirst-push p n ps h.0 h.1, h.1, AreMarks-push n ps h.2)
+AreMarks-push n (p ∷ ps) h = (IsFirstMark-push p n ps h.0 h.1, h.1, AreMarks-push n ps h.2)
 
-IsFirst-last : (p q : ℕ) (ps : List ℕ) → IsFirst p (ps ++ q ∷ []) → IsFirst p ps × (p ≤ q)
-IsFirst-last p q [] h = (tt, h.0)
-IsFirst-last p q (r ∷ ps) h = let i = IsFirst-last p q ps h.1 in ((h.0, i.0), i.1)
+IsFirstMark-last : (p q : ℕ) (ps : List ℕ) → IsFirstMark p (ps ++ q ∷ []) → IsFirstMark p ps × (p ≤ q)
+IsFirstMark-last p q [] h = (tt, h.0)
+IsFirstMark-last p q (r ∷ ps) h = let i = IsFirstMark-last p q ps h.1 in ((h.0, i.0), i.1)
 
 -- without the last mark
 pub AreMarks-front : (n q : ℕ) (ps : List ℕ) → AreMarks n (ps ++ q ∷ []) → AreMarks q ps × (q ≤ n)
 AreMarks-front n q [] h = (tt, h.1)
 AreMarks-front n q (p ∷ ps) h =
     let i = AreMarks-front n q ps h.2 in
-    let f = IsFirst-last p q ps h.0 in
+    let f = IsFirstMark-last p q ps h.0 in
     ((f.0, f.1, i.0), i.1)
 
 pub saved_of-pop : (c : Entries) (log : List UndoLog) (ps qs : List ℕ) (o : Option ℕ) → ps ≡ qs ++ option_to_list o → IsSome o → (x : Entries) × (saved_of c log ps ≡ saved_of c log qs ++ x ∷ [])

@@ -12,10 +12,10 @@ use Rattle.nts_model.specs.Tables.Holding.{AreOne}
 use Rattle.nts_model.specs.Tables.Tying.{TiesNew}
 use Rattle.nts_model.proofs.Tables.Resolved.{IsVariable, resolved-variable_link}
 use Rattle.nts_model.proofs.Tables.Tying.{IsTied}
-use Rattle.nts_unify.specs.Changing.{Keeps}
+use Rattle.nts_unify.specs.Changing.{KeepsKnowing}
 
 -- the links lead down to a variable that was there
-pub ties_of_keeps : (c d : Content) → IsSound d → Keeps c d → TiesNew c d
+pub ties_of_keeps : (c d : Content) → IsSound d → KeepsKnowing c d → TiesNew c d
 ties_of_keeps c d s keeps = record { tied = λ n k l h r. below (suc n) n k (omega arith) l h r }
   where
     below : (b n : ℕ) (k : VariableKind) → n < b → length c.slots ≤ n → kind_at d n ≡ Some k → k ≢ kind.Region → IsTied c d n k

@@ -71,7 +71,7 @@ pub record IsLater (c d : Content) : Type 0 where
   pub visible : AddsVisible c.constraints d.constraints
 
 -- what the table knew of trees, it knows no more and no less of; a new variable that is no region leads to another one
-pub record Keeps (c d : Content) : Type 0 where
+pub record KeepsKnowing (c d : Content) : Type 0 where
   pub later : IsLater c d
   pub states : (n : ℕ) → n < length c.slots → kind_at c n ≢ Some kind.Region → state_of d n ≡ state_of c n
   pub trees : (t : Tree) → Knows c t → resolved d t ≡ resolved c t

@@ -10,7 +10,7 @@ use Rattle.nts_model.specs.Tables.Equations.{Narrows}
 use Rattle.nts_model.specs.Tables.Passing.{BringsNoLabels}
 use Rattle.nts_unify.specs.Entries.{Entries}
 use Rattle.nts_unify.specs.Reading.{content_of, IsLawful, LinksDescend}
-use Rattle.nts_unify.specs.Changing.{IsLater, Keeps, unset_count}
+use Rattle.nts_unify.specs.Changing.{IsLater, KeepsKnowing, unset_count}
 use Rattle.nts_unify.specs.Unchanged.{HasUnset}
 
 -- the table has the variable without a value, of a kind that has values
@@ -58,7 +58,7 @@ pub record Joins (ts : List Tree) (e f : Entries) (x y : ℕ) : Type 0 where
 
 pub record RegionsJoin (ts : List Tree) (e f : Entries) (x y : ℕ) : Type 0 where
   pub lawful : IsLawful ts f
-  pub keeps : Keeps (content_of ts e) (content_of ts f)
+  pub keeps : KeepsKnowing (content_of ts e) (content_of ts f)
   pub brings : BringsNoLabels (content_of ts e) (content_of ts f)
   pub one : IsOneClass (content_of ts e) (content_of ts f) (min x y) (max x y)
 

@@ -11,15 +11,15 @@ pub data Leads (e : Entries) : ℕ → ℕ → Type 0 where
   on : {n m r : ℕ} (v : Variable) → Leads e n m → slice_get e.variables m ≡ Some v → v.state ≡ Link r → Leads e n r
 
 -- no link leads on
-abbrev pub IsRootState : State → Type 0
-IsRootState Unset = Unit {0}
-IsRootState (Link m) = ⊥
-IsRootState (Known t) = Unit {0}
+abbrev pub IsUnlinked : State → Type 0
+IsUnlinked Unset = Unit {0}
+IsUnlinked (Link m) = ⊥
+IsUnlinked (Known t) = Unit {0}
 
 pub record IsRoot (e : Entries) (n r : ℕ) : Type 0 where
   pub within : r < length e.variables
   pub leads : Leads e n r
-  pub ends : (v : Variable) → slice_get e.variables r ≡ Some v → IsRootState v.state
+  pub ends : (v : Variable) → slice_get e.variables r ≡ Some v → IsUnlinked v.state
 
 -- the root of a variable's class, and what is known of the class
 pub record HasClass (e : Entries) (n r : ℕ) (s : State) : Type 0 where

@@ -9,11 +9,11 @@ saved_of c log [] = []
 saved_of c log (p ∷ ps) = all_undone (drop p log) c ∷ saved_of c log ps
 
 -- the mark stands before all others
-abbrev pub IsFirst : ℕ → List ℕ → Type 0
-IsFirst p [] = Unit {0}
-IsFirst p (q ∷ qs) = (p ≤ q) × IsFirst p qs
+abbrev pub IsFirstMark : ℕ → List ℕ → Type 0
+IsFirstMark p [] = Unit {0}
+IsFirstMark p (q ∷ qs) = (p ≤ q) × IsFirstMark p qs
 
 -- the marks stand in order, none past the end
 abbrev pub AreMarks : ℕ → List ℕ → Type 0
 AreMarks n [] = Unit {0}
-AreMarks n (p ∷ ps) = IsFirst p ps × (p ≤ n) × AreMarks n ps
+AreMarks n (p ∷ ps) = IsFirstMark p ps × (p ≤ n) × AreMarks n ps

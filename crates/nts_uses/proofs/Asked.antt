@@ -12,7 +12,7 @@ use Rattle.nts_unify.specs.Lawful.{content_of-extended}
 use Rattle.nts_table.specs.Tables.{Table, IsTable, IsPlainSide}
 use Rattle.nts_store.proofs.Growing.{Extends-trans, Extends-refl}
 use Rattle.nts_table.specs.TableLaws.{IsTable-extended}
-use Rattle.nts_delegate.specs.ClausesKept.{AreReady-kept}
+use Rattle.nts_delegate.specs.ClausesKept.{AreClausesReady-kept}
 use Rattle.nts_queries.proofs.Asking.{IsAdmitted-extended}
 use Rattle.nts_queries.proofs.Evaluating.{IsPosed-admitted}
 
@@ -31,4 +31,4 @@ not_true false e = refl
 pub plain_now : {a b : List Tree} {t : Table} {p : Place} {x : NodeId} (y : Bool) → Extends a b → IsTable a t → Holds p a x → Knows (content_of a t.entries) (tree_at a x) → y ≡ any_label is_alias (resolved (content_of a t.entries) (tree_at a x)) → not y ≡ true → IsPlainSide p b t x
 plain_now y e w h k is n = plain_kept e w (record { holds = h; known = k; plain = sym is ∙ not_true y n })
 
-pub ruleset asked = (plain_kept, Extends-trans, Extends-refl, AreReady-kept, IsTable-extended, IsAdmitted-extended, IsPosed-admitted)
+pub ruleset asked = (plain_kept, Extends-trans, Extends-refl, AreClausesReady-kept, IsTable-extended, IsAdmitted-extended, IsPosed-admitted)

@@ -2,7 +2,7 @@
 ghost use Rattle.std.specs.Prelude.{IfOk, IfSome, OnOk};
 ghost use Rattle.nts_store.specs.Growth.{Extends};
 ghost use Rattle.nts_terms.specs.Handles.{HoldsArg, HoldsTy, HoldsPredicate, HoldsGoal};
-ghost use Rattle.nts_delegate.specs.Clauses.{AreReady};
+ghost use Rattle.nts_delegate.specs.Clauses.{AreClausesReady};
 ghost use Rattle.nts_terms.specs.Rest.{Grows};
 
 use next_trait_solver::clauses::{Clause, Clauses};
@@ -46,8 +46,8 @@ pub(crate) fn add_rule(
     body: Vec<Predicate>,
 ) -> Result<bool, EvalError>
     requires argument { HoldsArg cx.old.nodes argument }
-    requires ready { AreReady cx.old.nodes rules.old }
-    ensures ready { OnOk result (AreReady cx.new.nodes rules.new) }
+    requires ready { AreClausesReady cx.old.nodes rules.old }
+    ensures ready { OnOk result (AreClausesReady cx.new.nodes rules.new) }
     ensures grows { Grows cx.old cx.new }
 {
     let head = cx.mk_args(&[argument])?;
@@ -89,8 +89,8 @@ pub(crate) fn add_rule_of_vec(
     clone: TraitId,
     vec: CtorId,
 ) -> Result<bool, EvalError>
-    requires { AreReady cx.old.nodes rules.old }
-    ensures ready { OnOk result (AreReady cx.new.nodes rules.new) }
+    requires { AreClausesReady cx.old.nodes rules.old }
+    ensures ready { OnOk result (AreClausesReady cx.new.nodes rules.new) }
     ensures grows { Grows cx.old cx.new }
 {
     let any = cx.mk_ty(TyKind::Bound(BoundVarIndexKind::Canonical, BoundTy { var: 0 }))?;
@@ -111,7 +111,7 @@ pub(crate) fn add_rule_of_vec(
 #[tactic(auto, using(nts_queries::proofs::Asking::asking))]
 fn ask(cx: &mut Cx, rules: &Clauses, goal: Goal) -> Result<Option<Certainty>, EvalError>
     requires holds { HoldsGoal cx.old.nodes goal }
-    requires ready { AreReady cx.old.nodes rules.now }
+    requires ready { AreClausesReady cx.old.nodes rules.now }
 {
     let mut table = InferCtxt::new(cx.alloc, TypingMode::PostAnalysis);
     if !goal_is_admitted(&table, cx, goal)? {

@@ -1,12 +1,12 @@
 //! A rule that relates two types and adds several goals.
 ghost use Rattle.std.specs.Prelude.{◌≡◌, OnOk, OnErr};
 ghost use Rattle.nts_model.specs.Terms.Trees.{any_argument};
-ghost use Rattle.nts_delegate.specs.Clauses.{AreReady};
+ghost use Rattle.nts_delegate.specs.Clauses.{AreClausesReady};
 ghost use Rattle.nts_table.specs.Tables.{IsTable, IsPlainSide};
 ghost use Rattle.nts_terms.specs.Handles.{HoldsGoal};
 ghost use Rattle.nts_queries.specs.Evaluation.{IsPosed};
 ghost use Rattle.nts_contexts.specs.Related.{IsEnvOf};
-ghost use Rattle.nts_contexts.specs.Contexts.{IsReady, Keeps, IsGoalOf};
+ghost use Rattle.nts_contexts.specs.Contexts.{IsContextReady, KeepsContext, IsGoalOfContext};
 
 use crate::clone::{add_rule, holds_for, vec_of};
 use crate::rule::is_plain;
@@ -31,7 +31,7 @@ pub fn count_goals(
     second: Goal,
 ) -> Result<(usize, usize), EvalError>
     requires table { IsTable cx.old.nodes table.old }
-    requires ready { AreReady cx.old.nodes rules.now }
+    requires ready { AreClausesReady cx.old.nodes rules.now }
     requires left { IsPlainSide any_argument cx.old.nodes table.old lhs.node }
     requires right { IsPlainSide any_argument cx.old.nodes table.old rhs.node }
     requires first { IsPosed cx.old.nodes table.old first }
@@ -46,22 +46,22 @@ pub fn count_goals(
         depth,
         Span(0),
         |ecx: &mut EvalCtxt<'_, Clauses>| -> Result<(usize, usize), EvalError>
-            requires ready { IsReady AreReady ecx.old }
+            requires ready { IsContextReady AreClausesReady ecx.old }
             requires left { IsPlainSide any_argument ecx.old.cx.now.nodes ecx.old.table.now lhs.node }
             requires right { IsPlainSide any_argument ecx.old.cx.now.nodes ecx.old.table.now rhs.node }
-            requires first { IsGoalOf ecx.old first }
-            requires second { IsGoalOf ecx.old second }
-            ensures keeps { Keeps AreReady ecx.old ecx.new }
+            requires first { IsGoalOfContext ecx.old first }
+            requires second { IsGoalOfContext ecx.old second }
+            ensures keeps { KeepsContext AreClausesReady ecx.old ecx.new }
             ensures goals { OnOk result (ecx.new.state.now.nested_goals.items ≡ ecx.old.state.now.nested_goals.items) }
         {
             let env = first.param_env;
             let equated = ecx.probe(
                 |probe: &mut EvalCtxt<'_, Clauses>| -> Result<usize, EvalError>
-                    requires ready { IsReady AreReady probe.old }
+                    requires ready { IsContextReady AreClausesReady probe.old }
                     requires left { IsPlainSide any_argument probe.old.cx.now.nodes probe.old.table.now lhs.node }
                     requires right { IsPlainSide any_argument probe.old.cx.now.nodes probe.old.table.now rhs.node }
                     requires env { IsEnvOf probe.old.cx.now probe.old.table.now env }
-                    ensures keeps { Keeps AreReady probe.old probe.new }
+                    ensures keeps { KeepsContext AreClausesReady probe.old probe.new }
                 {
                     let goals = probe.eq_and_get_goals(env, lhs, rhs)?;
                     Ok(goals.len())
@@ -69,12 +69,12 @@ pub fn count_goals(
             )?;
             let asked = ecx.probe(
                 |probe: &mut EvalCtxt<'_, Clauses>| -> Result<usize, EvalError>
-                    requires ready { IsReady AreReady probe.old }
+                    requires ready { IsContextReady AreClausesReady probe.old }
                     requires left { IsPlainSide any_argument probe.old.cx.now.nodes probe.old.table.now lhs.node }
                     requires right { IsPlainSide any_argument probe.old.cx.now.nodes probe.old.table.now rhs.node }
-                    requires first { IsGoalOf probe.old first }
-                    requires second { IsGoalOf probe.old second }
-                    ensures keeps { Keeps AreReady probe.old probe.new }
+                    requires first { IsGoalOfContext probe.old first }
+                    requires second { IsGoalOfContext probe.old second }
+                    ensures keeps { KeepsContext AreClausesReady probe.old probe.new }
                 {
                     probe.sub(first.param_env, lhs, rhs)?;
                     probe.add_goals(GoalSource::Misc, &[first, second])?;
@@ -99,7 +99,7 @@ fn try_count(
     second: Goal,
 ) -> Result<Option<(usize, usize)>, EvalError>
     requires table { IsTable cx.old.nodes table.old }
-    requires ready { AreReady cx.old.nodes rules.now }
+    requires ready { AreClausesReady cx.old.nodes rules.now }
     requires first { HoldsGoal cx.old.nodes first }
     requires second { HoldsGoal cx.old.nodes second }
 {

@@ -1,7 +1,7 @@
 //! A goal that is asked of a search of its own, which counts what it took.
 ghost use Rattle.nts_table.specs.Tables.{IsTable};
 ghost use Rattle.nts_terms.specs.Handles.{HoldsGoal};
-ghost use Rattle.nts_delegate.specs.Clauses.{AreReady};
+ghost use Rattle.nts_delegate.specs.Clauses.{AreClausesReady};
 
 use crate::clone::{add_rule_of_vec, holds_for};
 use next_trait_solver::clauses::Clauses;
@@ -33,7 +33,7 @@ fn ask_in_a_search(
 ) -> Result<Option<Counted>, EvalError>
     requires table { IsTable cx.old.nodes table.now }
     requires holds { HoldsGoal cx.old.nodes goal }
-    requires ready { AreReady cx.old.nodes rules.now }
+    requires ready { AreClausesReady cx.old.nodes rules.now }
 {
     if !goal_is_admitted(table, cx, goal)? {
         return Ok(None);

@@ -1,10 +1,10 @@
 //! What errors in a context and its probes leave behind.
 ghost use Rattle.std.specs.Prelude.{◌≡◌, Err, IfSome, OnOk, OnErr};
 ghost use Rattle.nts_model.specs.Terms.Trees.{any_argument};
-ghost use Rattle.nts_delegate.specs.Clauses.{AreReady};
+ghost use Rattle.nts_delegate.specs.Clauses.{AreClausesReady};
 ghost use Rattle.nts_table.specs.Tables.{IsTable, IsPlainSide};
 ghost use Rattle.nts_queries.specs.Evaluation.{Runs};
-ghost use Rattle.nts_contexts.specs.Contexts.{IsReady, Keeps};
+ghost use Rattle.nts_contexts.specs.Contexts.{IsContextReady, KeepsContext};
 
 use crate::rule::is_plain;
 use next_trait_solver::clauses::Clauses;
@@ -38,7 +38,7 @@ pub fn err_in_probes(
     outer: Option<EvalError>,
 ) -> Result<(), EvalError>
     requires table { IsTable cx.old.nodes table.old }
-    requires ready { AreReady cx.old.nodes rules.now }
+    requires ready { AreClausesReady cx.old.nodes rules.now }
     requires left { IsPlainSide any_argument cx.old.nodes table.old sides.0.node }
     requires tried { IsPlainSide any_argument cx.old.nodes table.old sides.1.node }
     requires right { IsPlainSide any_argument cx.old.nodes table.old sides.2.node }
@@ -54,26 +54,26 @@ pub fn err_in_probes(
         depth,
         Span(0),
         |ecx: &mut EvalCtxt<'_, Clauses>| -> Result<(), EvalError>
-            requires ready { IsReady AreReady ecx.old }
+            requires ready { IsContextReady AreClausesReady ecx.old }
             requires left { IsPlainSide any_argument ecx.old.cx.now.nodes ecx.old.table.now left.node }
             requires tried { IsPlainSide any_argument ecx.old.cx.now.nodes ecx.old.table.now tried.node }
             requires right { IsPlainSide any_argument ecx.old.cx.now.nodes ecx.old.table.now right.node }
-            ensures keeps { Keeps AreReady ecx.old ecx.new }
+            ensures keeps { KeepsContext AreClausesReady ecx.old ecx.new }
             ensures goals { OnOk result (ecx.new.state.now.nested_goals.items ≡ ecx.old.state.now.nested_goals.items) }
         {
             let _ = ecx.probe(
                 |probe: &mut EvalCtxt<'_, Clauses>| -> Result<(), EvalError>
-                    requires ready { IsReady AreReady probe.old }
+                    requires ready { IsContextReady AreClausesReady probe.old }
                     requires left { IsPlainSide any_argument probe.old.cx.now.nodes probe.old.table.now left.node }
                     requires tried { IsPlainSide any_argument probe.old.cx.now.nodes probe.old.table.now tried.node }
-                    ensures keeps { Keeps AreReady probe.old probe.new }
+                    ensures keeps { KeepsContext AreClausesReady probe.old probe.new }
                 {
                     probe.probe(
                         |deep: &mut EvalCtxt<'_, Clauses>| -> Result<(), EvalError>
-                            requires ready { IsReady AreReady deep.old }
+                            requires ready { IsContextReady AreClausesReady deep.old }
                             requires left { IsPlainSide any_argument deep.old.cx.now.nodes deep.old.table.now left.node }
                             requires tried { IsPlainSide any_argument deep.old.cx.now.nodes deep.old.table.now tried.node }
-                            ensures keeps { Keeps AreReady deep.old deep.new }
+                            ensures keeps { KeepsContext AreClausesReady deep.old deep.new }
                         {
                             deep.eq_structurally_relating_aliases(env, left, tried)?;
                             answer_of(inner)
@@ -128,7 +128,7 @@ fn try_errors(
     outer: Option<EvalError>,
 ) -> Result<Option<(Result<(), EvalError>, Known)>, EvalError>
     requires table { IsTable cx.old.nodes table.old }
-    requires ready { AreReady cx.old.nodes rules.now }
+    requires ready { AreClausesReady cx.old.nodes rules.now }
 {
     let (left, tried, right) = sides;
     let env = cx.mk_env(&[])?;

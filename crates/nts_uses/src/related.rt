@@ -1,9 +1,9 @@
 //! Types with an alias in them, or with variables that may vary, related in a context: what rests on these is left as goals.
 ghost use Rattle.std.specs.Prelude.{◌≡◌, OnOk, OnErr};
 ghost use Rattle.nts_model.specs.Terms.Trees.{any_argument};
-ghost use Rattle.nts_delegate.specs.Clauses.{AreReady};
+ghost use Rattle.nts_delegate.specs.Clauses.{AreClausesReady};
 ghost use Rattle.nts_table.specs.Tables.{IsTable, IsSide};
-ghost use Rattle.nts_contexts.specs.Contexts.{IsReady, Keeps};
+ghost use Rattle.nts_contexts.specs.Contexts.{IsContextReady, KeepsContext};
 ghost use Rattle.nts_contexts.specs.Related.{IsEnvOf};
 
 use crate::clone::vec_of;
@@ -38,7 +38,7 @@ pub fn relate_in_probes(
     rhs: GenericArg,
 ) -> Result<Left, EvalError>
     requires table { IsTable cx.old.nodes table.old }
-    requires ready { AreReady cx.old.nodes rules.now }
+    requires ready { AreClausesReady cx.old.nodes rules.now }
     requires env { IsEnvOf cx.old table.old env }
     requires left { IsSide any_argument cx.old.nodes table.old lhs.node }
     requires right { IsSide any_argument cx.old.nodes table.old rhs.node }
@@ -52,20 +52,20 @@ pub fn relate_in_probes(
         depth,
         Span(0),
         |ecx: &mut EvalCtxt<'_, Clauses>| -> Result<Left, EvalError>
-            requires ready { IsReady AreReady ecx.old }
+            requires ready { IsContextReady AreClausesReady ecx.old }
             requires env { IsEnvOf ecx.old.cx.now ecx.old.table.now env }
             requires left { IsSide any_argument ecx.old.cx.now.nodes ecx.old.table.now lhs.node }
             requires right { IsSide any_argument ecx.old.cx.now.nodes ecx.old.table.now rhs.node }
-            ensures keeps { Keeps AreReady ecx.old ecx.new }
+            ensures keeps { KeepsContext AreClausesReady ecx.old ecx.new }
             ensures goals { OnOk result (ecx.new.state.now.nested_goals.items ≡ ecx.old.state.now.nested_goals.items) }
         {
             let answered = ecx.probe(
                 |probe: &mut EvalCtxt<'_, Clauses>| -> Result<usize, EvalError>
-                    requires ready { IsReady AreReady probe.old }
+                    requires ready { IsContextReady AreClausesReady probe.old }
                     requires env { IsEnvOf probe.old.cx.now probe.old.table.now env }
                     requires left { IsSide any_argument probe.old.cx.now.nodes probe.old.table.now lhs.node }
                     requires right { IsSide any_argument probe.old.cx.now.nodes probe.old.table.now rhs.node }
-                    ensures keeps { Keeps AreReady probe.old probe.new }
+                    ensures keeps { KeepsContext AreClausesReady probe.old probe.new }
                 {
                     let goals = probe.eq_and_get_goals(env, lhs, rhs)?;
                     probe.add_goals(GoalSource::TypeRelating, &goals)?;
@@ -74,11 +74,11 @@ pub fn relate_in_probes(
             )?;
             ecx.probe(
                 |probe: &mut EvalCtxt<'_, Clauses>| -> Result<Left, EvalError>
-                    requires ready { IsReady AreReady probe.old }
+                    requires ready { IsContextReady AreClausesReady probe.old }
                     requires env { IsEnvOf probe.old.cx.now probe.old.table.now env }
                     requires left { IsSide any_argument probe.old.cx.now.nodes probe.old.table.now lhs.node }
                     requires right { IsSide any_argument probe.old.cx.now.nodes probe.old.table.now rhs.node }
-                    ensures keeps { Keeps AreReady probe.old probe.new }
+                    ensures keeps { KeepsContext AreClausesReady probe.old probe.new }
                 {
                     probe.relate(env, lhs, variance, rhs)?;
                     let added = probe.state.nested_goals.len();
@@ -104,7 +104,7 @@ fn try_relate(
     rhs: GenericArg,
 ) -> Result<Option<Left>, EvalError>
     requires table { IsTable cx.old.nodes table.old }
-    requires ready { AreReady cx.old.nodes rules.now }
+    requires ready { AreClausesReady cx.old.nodes rules.now }
 {
     let env = cx.mk_env(&[])?;
     if !cx.holds(lhs) || !cx.holds(rhs) {

@@ -1,12 +1,12 @@
 //! A rule that is written in a context: two types are made one, and a goal is asked for.
 ghost use Rattle.std.specs.Prelude.{◌≡◌, true, IfOk, OnOk, OnErr};
 ghost use Rattle.nts_model.specs.Terms.Trees.{any_argument};
-ghost use Rattle.nts_delegate.specs.Clauses.{AreReady};
+ghost use Rattle.nts_delegate.specs.Clauses.{AreClausesReady};
 ghost use Rattle.nts_table.specs.Tables.{IsTable, IsPlainSide};
 ghost use Rattle.nts_terms.specs.Handles.{HoldsGoal};
 ghost use Rattle.nts_terms.specs.Rest.{Grows};
 ghost use Rattle.nts_queries.specs.Evaluation.{IsPosed};
-ghost use Rattle.nts_contexts.specs.Contexts.{IsReady, Keeps, IsGoalOf};
+ghost use Rattle.nts_contexts.specs.Contexts.{IsContextReady, KeepsContext, IsGoalOfContext};
 
 use crate::clone::{add_rule, holds_for, vec_of};
 use next_trait_solver::clauses::Clauses;
@@ -29,7 +29,7 @@ pub fn use_rule(
     goal: Goal,
 ) -> Result<Certainty, EvalError>
     requires table { IsTable cx.old.nodes table.old }
-    requires ready { AreReady cx.old.nodes rules.now }
+    requires ready { AreClausesReady cx.old.nodes rules.now }
     requires left { IsPlainSide any_argument cx.old.nodes table.old lhs.node }
     requires right { IsPlainSide any_argument cx.old.nodes table.old rhs.node }
     requires goal { IsPosed cx.old.nodes table.old goal }
@@ -43,19 +43,19 @@ pub fn use_rule(
         depth,
         Span(0),
         |ecx: &mut EvalCtxt<'_, Clauses>| -> Result<Certainty, EvalError>
-            requires ready { IsReady AreReady ecx.old }
+            requires ready { IsContextReady AreClausesReady ecx.old }
             requires left { IsPlainSide any_argument ecx.old.cx.now.nodes ecx.old.table.now lhs.node }
             requires right { IsPlainSide any_argument ecx.old.cx.now.nodes ecx.old.table.now rhs.node }
-            requires goal { IsGoalOf ecx.old goal }
-            ensures keeps { Keeps AreReady ecx.old ecx.new }
+            requires goal { IsGoalOfContext ecx.old goal }
+            ensures keeps { KeepsContext AreClausesReady ecx.old ecx.new }
             ensures goals { OnOk result (ecx.new.state.now.nested_goals.items ≡ ecx.old.state.now.nested_goals.items) }
         {
             ecx.eq(goal.param_env, lhs, rhs)?;
             ecx.probe(
                 |probe: &mut EvalCtxt<'_, Clauses>| -> Result<Certainty, EvalError>
-                    requires ready { IsReady AreReady probe.old }
-                    requires goal { IsGoalOf probe.old goal }
-                    ensures keeps { Keeps AreReady probe.old probe.new }
+                    requires ready { IsContextReady AreClausesReady probe.old }
+                    requires goal { IsGoalOfContext probe.old goal }
+                    ensures keeps { KeepsContext AreClausesReady probe.old probe.new }
                 {
                     probe.add_goal(GoalSource::Misc, goal)?;
                     let certainty = probe.try_evaluate_added_goals()?;
@@ -97,7 +97,7 @@ fn try_rule(
     goal: Goal,
 ) -> Result<Option<Certainty>, EvalError>
     requires table { IsTable cx.old.nodes table.old }
-    requires ready { AreReady cx.old.nodes rules.now }
+    requires ready { AreClausesReady cx.old.nodes rules.now }
     requires goal { HoldsGoal cx.old.nodes goal }
 {
     if !goal_is_admitted(table, cx, goal)? {

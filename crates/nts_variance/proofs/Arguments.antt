@@ -7,7 +7,7 @@ use Rattle.nts_model.specs.Tables.Contents.{Content}
 use Rattle.nts_model.specs.Tables.Resolving.{IsSound, Knows}
 use Rattle.nts_model.specs.Derivations.Related.{rest_variances}
 use Rattle.nts_model.specs.Variances.Forms.{a_constructor, pairs_over}
-use Rattle.nts_model.specs.Variances.Relations.{Relating as Pair, AllKnown}
+use Rattle.nts_model.specs.Variances.Relations.{Relating as Pair, ArePairsKnown}
 use Rattle.nts_model.proofs.Tables.Held.{Continues-refl, Continues-trans}
 use Rattle.nts_model.proofs.Tables.Resolved.{Knows-row_at}
 use Rattle.nts_store.specs.declared.nodes.NodeId.{NodeId}
@@ -21,7 +21,7 @@ use Rattle.nts_relating.proofs.Looking.{row_from-end, row_from-step}
 use Rattle.nts_variance.specs.declared.along.Relating.{Relating}
 use Rattle.nts_variance.specs.Terms.{pair_at, pairs_at}
 use Rattle.nts_variance.specs.Pairs.{Refuses}
-use Rattle.nts_variance.specs.Taking.{Takes, IsSide}
+use Rattle.nts_variance.specs.Taking.{Takes, IsPairSide}
 use Rattle.nts_variance.specs.Equating.{GoalsRelate}
 use Rattle.nts_variance.specs.Rows.{IsListOf, row_pairs, argument_pairs, RowsRelate, AreRelatedTo}
 use Rattle.nts_variance.proofs.Calls.{pairs_joined, joined_at}
@@ -41,7 +41,7 @@ children_known c empty h = tt
 children_known c (more a b) h = tt
 children_known c (node l x) h = h.1
 
-pub argument_side : {ts us : List Tree} {c d : Content} (t a : NodeId) (i : ℕ) → IsListOf ts c t → (Knows c (tree_at ts t) → Knows d (tree_at ts t)) → ChildrenFit (tree_at ts t) → i < row_length (children (tree_at ts t)) → IsIn us a → tree_at us a ≡ row_at (children (tree_at ts t)) i → IsSide us d a
+pub argument_side : {ts us : List Tree} {c d : Content} (t a : NodeId) (i : ℕ) → IsListOf ts c t → (Knows c (tree_at ts t) → Knows d (tree_at ts t)) → ChildrenFit (tree_at ts t) → i < row_length (children (tree_at ts t)) → IsIn us a → tree_at us a ≡ row_at (children (tree_at ts t)) i → IsPairSide us d a
 argument_side {ts} {us} {c} {d} t a i whole later fits less within at =
     let row = children (tree_at ts t) in
     let sorted = part_sorted (a_constructor 0) row i (list_fits (tree_at ts t) whole.kind fits) less in
@@ -49,7 +49,7 @@ argument_side {ts} {us} {c} {d} t a i whole later fits less within at =
     record { within = within; knows = rw at knows; sort = sorted.sort; kind = rw at sorted.kind }
 
 -- pairs of rows of the table
-rows_known : (c : Content) (v : Variance) (ws : List Variance) (a b : Tree) → Knows c a → Knows c b → AllKnown c (pairs_over v ws a b)
+rows_known : (c : Content) (v : Variance) (ws : List Variance) (a b : Tree) → Knows c a → Knows c b → ArePairsKnown c (pairs_over v ws a b)
 rows_known c v ws empty b h k = tt
 rows_known c v ws (node l x) b h k = tt
 rows_known c v ws (more x a) empty h k = tt
@@ -67,7 +67,7 @@ module _ (declared : ℕ → List Variance) where
   takes_none : (c : Content) (ps : List Pair) → IsSound c → Takes declared c c ps ps []
   takes_none c ps sound = record { later = grown_refl c; continues = Continues-refl c sound; leaves = Leaves-none declared c ps; relates = record { related = λ f s on ks g h. h } }
 
-  takes_then : (c d e : Content) (ps : List Pair) (q : Pair) (qs gs hs : List Pair) → IsSound c → IsSound d → AllKnown d qs → AllKnown d gs → Takes declared c d ps (q ∷ qs) gs → Takes declared d e (q ∷ []) [] hs → Takes declared c e ps qs (gs ++ hs)
+  takes_then : (c d e : Content) (ps : List Pair) (q : Pair) (qs gs hs : List Pair) → IsSound c → IsSound d → ArePairsKnown d qs → ArePairsKnown d gs → Takes declared c d ps (q ∷ qs) gs → Takes declared d e (q ∷ []) [] hs → Takes declared c e ps qs (gs ++ hs)
   takes_then c d e ps q qs gs hs first sound kq kg a b =
       record {
         later = grown_trans a.later b.later;
@@ -102,7 +102,7 @@ module _ (declared : ℕ → List Variance) where
       let rest = row_pairs (row_from (i + 1) (children a)) (row_from (i + 1) (children b)) in
       let before : Takes declared c d (argument_pairs a b) (pair_at us p ∷ rest) (pairs_at us gs) = rw (next_pair us a b i p less short invariant left right) at u.takes in
       let grown = u.takes.later in
-      let known : AllKnown d rest = rows_known d variance.Invariant [] (row_from (i + 1) (children a)) (row_from (i + 1) (children b)) (row_from_known d (i + 1) (children a) (children_known d a (Knows-grown a grown ka))) (row_from_known d (i + 1) (children b) (children_known d b (Knows-grown b grown kb))) in
+      let known : ArePairsKnown d rest = rows_known d variance.Invariant [] (row_from (i + 1) (children a)) (row_from (i + 1) (children b)) (row_from_known d (i + 1) (children a) (children_known d a (Knows-grown a grown ka))) (row_from_known d (i + 1) (children b) (children_known d b (Knows-grown b grown kb))) in
       let taken = takes_then c d m (argument_pairs a b) (pair_at us p) rest (pairs_at us gs) (pairs_at ws hs) sound u.lawful.sound known (known_pairs us d gs u.known) before t in
       rw next (record {
         lawful = lawful;

@@ -36,7 +36,7 @@ use Rattle.nts_unify.proofs.Leading.{state_of-entry, kind_at-entry, entry_at}
 use Rattle.nts_relating.specs.Relating.{IsClosedHead, IsSet, Forbids}
 use Rattle.nts_variance.specs.declared.along.Relating.{Relating}
 use Rattle.nts_variance.specs.Steps.{ended}
-use Rattle.nts_variance.specs.Walking.{StandsBy, OwedBy, RelatedSides, sides, IsGrown}
+use Rattle.nts_variance.specs.Walking.{StandsBy, OwedBy, RelatedSides, sides, IsTableGrown}
 use Rattle.nts_variance.specs.Terms.{pairs_at}
 use Rattle.nts_variance.specs.Varying.{IsVaried, IsKept}
 use Rattle.nts_variance.specs.Pairs.{Refuses, IsBound}
@@ -67,7 +67,7 @@ unset_state us Unset e = refl
 unset_state us (Link m) e = cc
 unset_state us (Known t) e = cc
 
-pub still_bindable : (ts us : List Tree) (e f : Entries) (x : ℕ) → IsBindable e x → IsKept (content_of ts e) (content_of us f) x → IsGrown (content_of ts e) (content_of us f) → IsBindable f x
+pub still_bindable : (ts us : List Tree) (e f : Entries) (x : ℕ) → IsBindable e x → IsKept (content_of ts e) (content_of us f) x → IsTableGrown (content_of ts e) (content_of us f) → IsBindable f x
 still_bindable ts us e f x b kept grown =
     let old = b.free in
     let below : x < length f.variables = (let low = bindable_below ts e x b in omega (arith, low, grown.more, length-slots ts e.variables, length-slots us f.variables)) in

@@ -8,7 +8,7 @@ use Rattle.nts_model.specs.Terms.Trees.{Tree, empty, more, node, size, kind_of, 
 use Rattle.nts_model.specs.Tables.Resolving.{IsSound, Knows, deeply_resolved}
 use Rattle.nts_model.specs.Lists.{Among}
 use Rattle.nts_model.specs.Derivations.Related.{rest_variances}
-use Rattle.nts_model.specs.Variances.Relations.{AllKnown}
+use Rattle.nts_model.specs.Variances.Relations.{ArePairsKnown}
 use Rattle.nts_model.specs.Variances.Relations.{Relating as Pair}
 use Rattle.nts_model.specs.Variances.Forms.{Form, a_constructor, a_function, a_value, an_alias, over, variances_over, FitsForm, pairs_over}
 use Rattle.nts_model.proofs.Tables.Alike.{deeply_resolved-more}
@@ -21,11 +21,11 @@ use Rattle.nts_unify.specs.Entries.{Entries}
 use Rattle.nts_unify.specs.Reading.{content_of, IsLawful}
 use Rattle.nts_variance.specs.declared.along.Relating.{Relating}
 use Rattle.nts_variance.specs.Steps.{stacked}
-use Rattle.nts_variance.specs.Walking.{IsGrown}
-use Rattle.nts_variance.specs.Parts.{form_of, parts_of}
+use Rattle.nts_variance.specs.Walking.{IsTableGrown}
+use Rattle.nts_variance.specs.Parts.{form_of_tree, parts_of}
 use Rattle.nts_variance.specs.Terms.{pair_at, pairs_at, AreGoals, ArePairs}
 use Rattle.nts_variance.specs.Pairs.{Refuses}
-use Rattle.nts_variance.specs.Taking.{IsExact, Waits, AllWait, Takes, IsLeft, IsSide, IsPair, ArePairsLeft, AreOfOneForm, ArePartsPaired, left_sizes, Sense, HoldsIn, size_in, IsUnderway, IsCall}
+use Rattle.nts_variance.specs.Taking.{IsExact, Waits, AllWait, Takes, IsLeft, IsPairSide, IsPair, ArePairsLeft, AreOfOneForm, ArePartsPaired, left_sizes, Sense, HoldsIn, size_in, IsUnderway, IsCall}
 use Rattle.nts_variance.proofs.Debts.{goals_to, AreGoals-append}
 use Rattle.nts_variance.proofs.Growing.{Knows-grown}
 use Rattle.nts_variance.proofs.Nodes.{parts_known}
@@ -40,12 +40,12 @@ pub pairs_front : (ts : List Tree) (c : Content) (xs : List Relating) (y : Relat
 pairs_front ts c [] y h = (tt, h.0)
 pairs_front ts c (x ∷ xs) y h = (let r = pairs_front ts c xs y h.1 in ((h.0, r.0), r.1))
 
-side_later : {ts us : List Tree} {c d : Content} (t : NodeId) → Extends ts us → IsGrown c d → IsSide ts c t → IsSide us d t
+side_later : {ts us : List Tree} {c d : Content} (t : NodeId) → Extends ts us → IsTableGrown c d → IsPairSide ts c t → IsPairSide us d t
 side_later {ts} t e l h =
     let at = e.kept t h.within in
     record { within = IsIn-extended e t h.within; knows = rw at (Knows-grown (tree_at ts t) l h.knows); sort = h.sort; kind = ap kind_of at ∙ h.kind }
 
-pub pairs_later : {ts us : List Tree} {c d : Content} (xs : List Relating) → Extends ts us → IsGrown c d → ArePairsLeft ts c xs → ArePairsLeft us d xs
+pub pairs_later : {ts us : List Tree} {c d : Content} (xs : List Relating) → Extends ts us → IsTableGrown c d → ArePairsLeft ts c xs → ArePairsLeft us d xs
 pairs_later [] e l h = tt
 pairs_later (x ∷ xs) e l h = (record { left = side_later x.left e l h.0.left; right = side_later x.right e l h.0.right }, pairs_later xs e l h.1)
 
@@ -57,11 +57,11 @@ stacked_kept c (x ∷ xs) e h =
     let rest = stacked_kept c xs e h.1 in
     λ i. rest i ++ record { variance = x.variance; left = left i; right = right i } ∷ []
 
-known_push : (c : Content) (xs : List Pair) (y : Pair) → AllKnown c xs → Knows c y.left → Knows c y.right → AllKnown c (xs ++ y ∷ [])
+known_push : (c : Content) (xs : List Pair) (y : Pair) → ArePairsKnown c xs → Knows c y.left → Knows c y.right → ArePairsKnown c (xs ++ y ∷ [])
 known_push c [] y h a b = (a, b, tt)
 known_push c (x ∷ xs) y h a b = (h.0, h.1, known_push c xs y h.2 a b)
 
-pub known_stack : (ts : List Tree) (c : Content) (xs : List Relating) → ArePairsLeft ts c xs → AllKnown c (stacked (pair_at ts) xs)
+pub known_stack : (ts : List Tree) (c : Content) (xs : List Relating) → ArePairsLeft ts c xs → ArePairsKnown c (stacked (pair_at ts) xs)
 known_stack ts c [] h = tt
 known_stack ts c (x ∷ xs) h = known_push c (stacked (pair_at ts) xs) (pair_at ts x) (known_stack ts c xs h.1) h.0.left.knows h.0.right.knows
 
@@ -136,9 +136,9 @@ module _ (declared : ℕ → List Variance) where
       let larger = over_larger F (deeply_resolved f ts) in
       row_smaller w v ws (size (deeply_resolved f a)) ts us (subst (λ x. size (deeply_resolved f ts) < size x) (sym same) larger)
 
-  parts_taken : (c : Content) (v : Variance) (a b : Tree) → IsSound c → Knows c a → Knows c b → AreOfOneForm a b → Takes declared c c (pair_of v a b ∷ []) (pairs_over v (variances_over declared (form_of a) (parts_of a)) (parts_of a) (parts_of b)) []
+  parts_taken : (c : Content) (v : Variance) (a b : Tree) → IsSound c → Knows c a → Knows c b → AreOfOneForm a b → Takes declared c c (pair_of v a b ∷ []) (pairs_over v (variances_over declared (form_of_tree a) (parts_of a)) (parts_of a) (parts_of b)) []
   parts_taken c v a b sound ka kb one =
-      let F = form_of a in
+      let F = form_of_tree a in
       let ts = parts_of a in
       let us = parts_of b in
       let left = one.left in
@@ -221,12 +221,12 @@ module _ (declared : ℕ → List Variance) where
       let pair = front.1 in
       let here = stacked-push (pair_at us) ps q in
       let before : IsUnderway declared c d (pair_at ts p) (pair_at us q ∷ stacked (pair_at us) ps) (pairs_at us es) (pairs_at us gs) (pairs_at us ms) = rw here at u.going in
-      let parts = pairs_over q.variance (variances_over declared (form_of a) (parts_of a)) (parts_of a) (parts_of b) in
+      let parts = pairs_over q.variance (variances_over declared (form_of_tree a) (parts_of a)) (parts_of a) (parts_of b) in
       let t = parts_taken d q.variance a b u.lawful.sound pair.left.knows pair.right.knows one in
       let t' : Takes declared d d (pair_at us q ∷ []) (parts ++ []) [] = rw (append-nil parts) t in
       let left = one.left in
       let taken = underway_taken declared c d d (pair_at ts p) (pair_at us q) (stacked (pair_at us) ps) (pairs_at us es) (pairs_at us gs) (pairs_at us ms) parts [] [] u.start u.lawful.sound (known_stack us d ps front.0) (known_pairs us d es (bare_pairs us d es u.equal)) (known_pairs us d gs u.goals) t'
-      (λ w s on. parts_smaller w q.variance (variances_over declared (form_of a) (parts_of a)) a (parts_of a) (parts_of b) (form_of a) left.with_parts.is left.fits) before in
+      (λ w s on. parts_smaller w q.variance (variances_over declared (form_of_tree a) (parts_of a)) a (parts_of a) (parts_of b) (form_of_tree a) left.with_parts.is left.fits) before in
       let plain : IsUnderway declared c d (pair_at ts p) (parts ++ stacked (pair_at us) ps) (pairs_at us es) (pairs_at us gs) (pair_at us q ∷ pairs_at us ms) = rw (append-nil (pairs_at us es), append-nil (pairs_at us gs)) at taken in
       let fewer = underway_fewer declared c d (pair_at ts p) (parts ++ stacked (pair_at us) ps) (pairs_at us es) (pairs_at us gs) (pair_at us q ∷ pairs_at us ms) (pairs_at us (ms ++ q ∷ [])) (met_last us ms q) plain in
       record {
@@ -338,9 +338,9 @@ module _ (declared : ℕ → List Variance) where
       let a = tree_at us q.left in
       let b = tree_at us q.right in
       let left = one.left in
-      let ws = variances_over declared (form_of a) (parts_of a) in
+      let ws = variances_over declared (form_of_tree a) (parts_of a) in
       let small = sizes_over q.variance ws (parts_of a) (parts_of b) in
-      let larger = over_larger (form_of a) (parts_of a) in
-      let whole : size a ≡ size (over (form_of a) (parts_of a)) = ap size left.with_parts.is in
+      let larger = over_larger (form_of_tree a) (parts_of a) in
+      let whole : size a ≡ size (over (form_of_tree a) (parts_of a)) = ap size left.with_parts.is in
       let joined = sizes_joined (pairs_over q.variance ws (parts_of a) (parts_of b)) (stacked (pair_at us) ps) in
       rw (pushed.pairs, stacked-push (pair_at us) ps q) (omega (arith, small, larger, whole, joined))

@@ -20,9 +20,9 @@ use Rattle.nts_model.specs.Tables.Measuring.{is_less, is_bound_below, unless_var
 use Rattle.nts_model.proofs.Tables.Resolved.{resolved-empty, resolved-more, resolved-node}
 use Rattle.nts_unify.specs.Changing.{unset_count}
 use Rattle.nts_relating.proofs.AliasCounts.{closed_true, closed_resolved}
-use Rattle.nts_variance.specs.Steps.{Step, enter, build, owe, popped, unpopped, entering, HasSorts, MadeForRow}
+use Rattle.nts_variance.specs.Steps.{WalkStep, enter, build, owe, popped, unpopped, entering, HasSorts, MadeForRow}
 use Rattle.nts_variance.specs.Walking.{NothingOwed, KnowsSteps, KnowsTrees}
-use Rattle.nts_variance.specs.Counting.{EscapesWith, StaysOpen, AreInvariant, BuildsOpen, HaveNone, aliases_within, IsCounted, IsCountedFor}
+use Rattle.nts_variance.specs.Counting.{EscapesWith, StaysOpen, AreStepsInvariant, BuildsOpen, HaveNone, aliases_within, IsCounted, IsCountedFor}
 use Rattle.nts_variance.proofs.Clean.{arguments_resolved, sort_label, no_places}
 use Rattle.nts_variance.proofs.Runs.{pushed, popped_row, unpopped_pushed, made_row}
 
@@ -224,30 +224,30 @@ form_sorts (a_value b) ts h = tt
 form_sorts (an_alias a) ts h = tt
 
 -- the parts of a row that are to be entered
-opens_entered : (v : Variance) (ws : List Variance) (q : Bool) (ts : Tree) (xs : List Step) (ss : List Tree) → IsRow ts
+opens_entered : (v : Variance) (ws : List Variance) (q : Bool) (ts : Tree) (xs : List WalkStep) (ss : List Tree) → IsRow ts
     → ((rs : Tree) → MadeForRow EscapesIn NothingOwed v ws q ts rs → BuildsOpen xs (pushed rs ss)) → BuildsOpen (entering v ws q ts xs) ss
 opens_entered v ws q empty xs ss r h = h empty tt
 opens_entered v ws q (more t ts) xs ss r h = λ s m. opens_entered v (rest_variances ws) q ts xs (s ∷ ss) r (λ rs k. h (more s rs) (m, k))
 opens_entered v ws q (node l c) xs ss r h = absurd r
 
-opens_over : (F : Form) (rs : Tree) (n : ℕ) (xs : List Step) (ss : List Tree) → IsRow rs → n ≡ row_length rs → StaysOpen F rs → BuildsOpen xs (over F rs ∷ ss) → BuildsOpen (build F n ∷ xs) (pushed rs ss)
+opens_over : (F : Form) (rs : Tree) (n : ℕ) (xs : List WalkStep) (ss : List Tree) → IsRow rs → n ≡ row_length rs → StaysOpen F rs → BuildsOpen xs (over F rs ∷ ss) → BuildsOpen (build F n ∷ xs) (pushed rs ss)
 opens_over F rs n xs ss row same k h =
     let one : popped n (pushed rs ss) empty ≡ rs = ap (λ m. popped m (pushed rs ss) empty) same ∙ popped_row rs ss row in
     let two : unpopped n (pushed rs ss) ≡ ss = ap (λ m. unpopped m (pushed rs ss)) same ∙ unpopped_pushed rs ss row in
     rw (one, two) (k, h)
 
-opens_built : (F : Form) (rs : Tree) (n : ℕ) (xs : List Step) (ss : List Tree) → IsRow rs → n ≡ row_length rs → BuildsOpen (build F n ∷ xs) (pushed rs ss) → StaysOpen F rs × BuildsOpen xs (over F rs ∷ ss)
+opens_built : (F : Form) (rs : Tree) (n : ℕ) (xs : List WalkStep) (ss : List Tree) → IsRow rs → n ≡ row_length rs → BuildsOpen (build F n ∷ xs) (pushed rs ss) → StaysOpen F rs × BuildsOpen xs (over F rs ∷ ss)
 opens_built F rs n xs ss row same h =
     let one : popped n (pushed rs ss) empty ≡ rs = ap (λ m. popped m (pushed rs ss) empty) same ∙ popped_row rs ss row in
     let two : unpopped n (pushed rs ss) ≡ ss = ap (λ m. unpopped m (pushed rs ss)) same ∙ unpopped_pushed rs ss row in
     rw (one, two) at h
 
-invariant_entered : (v : Variance) (ws : List Variance) (q : Bool) (ts : Tree) (xs : List Step) → v ≡ variance.Invariant → q ≡ false → AreInvariant xs → AreInvariant (entering v ws q ts xs)
+invariant_entered : (v : Variance) (ws : List Variance) (q : Bool) (ts : Tree) (xs : List WalkStep) → v ≡ variance.Invariant → q ≡ false → AreStepsInvariant xs → AreStepsInvariant (entering v ws q ts xs)
 invariant_entered v ws q empty xs e p h = h
 invariant_entered v ws q (more t ts) xs e p h = (ap (λ y. times y (first_variance ws)) e, p, invariant_entered v (rest_variances ws) q ts xs e p h)
 invariant_entered v ws q (node l c) xs e p h = h
 
-aliases_entered : (c : Content) (v : Variance) (ws : List Variance) (q : Bool) (ts : Tree) (xs : List Step) → IsRow ts → aliases_within c (entering v ws q ts xs) ≡ closed_aliases (resolved c ts) + aliases_within c xs
+aliases_entered : (c : Content) (v : Variance) (ws : List Variance) (q : Bool) (ts : Tree) (xs : List WalkStep) → IsRow ts → aliases_within c (entering v ws q ts xs) ≡ closed_aliases (resolved c ts) + aliases_within c xs
 aliases_entered c v ws q empty xs r = let e = ap closed_aliases (resolved-empty c) in omega (arith, e)
 aliases_entered c v ws q (more t ts) xs r =
     let e = ap closed_aliases (resolved-more c t ts) in
@@ -256,7 +256,7 @@ aliases_entered c v ws q (more t ts) xs r =
 aliases_entered c v ws q (node l x) xs r = absurd r
 
 -- under a later table, in which older trees are what they were
-aliases_later : (c d : Content) (xs : List Step) → ((a : Tree) → Knows c a → resolved d a ≡ resolved c a) → KnowsSteps c xs → aliases_within d xs ≡ aliases_within c xs
+aliases_later : (c d : Content) (xs : List WalkStep) → ((a : Tree) → Knows c a → resolved d a ≡ resolved c a) → KnowsSteps c xs → aliases_within d xs ≡ aliases_within c xs
 aliases_later c d [] same k = refl
 aliases_later c d (enter v q t ∷ xs) same k = let e = ap closed_aliases (same t k.0) in let r = aliases_later c d xs same k.1 in omega (arith, e, r)
 aliases_later c d (build F n ∷ xs) same k = aliases_later c d xs same k.1
@@ -275,7 +275,7 @@ none_pushed c (more t ts) ss r h =
 none_pushed c (node l x) ss r h = absurd r
 
 -- the turns: a term was made at once
-pub counted_made : (c d : Content) (v : Variance) (q : Bool) (t r : Tree) (xs : List Step) (ss : List Tree) → ((a : Tree) → Knows c a → resolved d a ≡ resolved c a) → KnowsSteps c xs → KnowsTrees c ss → IsCountedFor c d v q t r
+pub counted_made : (c d : Content) (v : Variance) (q : Bool) (t r : Tree) (xs : List WalkStep) (ss : List Tree) → ((a : Tree) → Knows c a → resolved d a ≡ resolved c a) → KnowsSteps c xs → KnowsTrees c ss → IsCountedFor c d v q t r
     → (n : ℕ) → IsCounted c n (enter v q t ∷ xs) ss → IsCounted d n xs (r ∷ ss)
 counted_made c d v q t r xs ss same steps trees m n h =
     let i = h.invariant in
@@ -290,14 +290,14 @@ counted_made c d v q t r xs ss same steps trees m n h =
     }
 
 -- a variable gave place to its value
-pub counted_through : (c : Content) (v : Variance) (q : Bool) (t w : Tree) (xs : List Step) (ss : List Tree) → IsInfer t → resolved c t ≡ resolved c w → (n : ℕ) → IsCounted c n (enter v q t ∷ xs) ss → IsCounted c n (enter v q w ∷ xs) ss
+pub counted_through : (c : Content) (v : Variance) (q : Bool) (t w : Tree) (xs : List WalkStep) (ss : List Tree) → IsInfer t → resolved c t ≡ resolved c w → (n : ℕ) → IsCounted c n (enter v q t ∷ xs) ss → IsCounted c n (enter v q w ∷ xs) ss
 counted_through c v q t w xs ss i same n h =
     let e = ap closed_aliases same in
     let all = h.few in
     record { invariant = h.invariant; opens = λ s m. h.opens s (λ b k. infer_closed t b i); none = h.none; few = omega (arith, e, all) }
 
 -- a node gave place to its parts
-pub counted_node : (c : Content) (v : Variance) (ws : List Variance) (q : Bool) (F : Form) (ts : Tree) (xs : List Step) (ss : List Tree) → IsSound c → IsFormed (over F ts) → IsRow ts → FitsForm F ts
+pub counted_node : (c : Content) (v : Variance) (ws : List Variance) (q : Bool) (F : Form) (ts : Tree) (xs : List WalkStep) (ss : List Tree) → IsSound c → IsFormed (over F ts) → IsRow ts → FitsForm F ts
     → (n : ℕ) → IsCounted c n (enter v q (over F ts) ∷ xs) ss → IsCounted c n (entering v ws q ts (build F (row_length ts) ∷ xs)) ss
 counted_node c v ws q F ts xs ss sound formed row fits n h =
     let i = h.invariant in
@@ -316,21 +316,21 @@ counted_node c v ws q F ts xs ss sound formed row fits n h =
     }
 
 -- a node was built
-pub counted_built : (c : Content) (F : Form) (rs : Tree) (k : ℕ) (xs : List Step) (ss : List Tree) → IsSound c → IsRow rs → k ≡ row_length rs → HasSorts F → (n : ℕ) → IsCounted c n (build F k ∷ xs) (pushed rs ss) → IsCounted c n xs (over F rs ∷ ss)
+pub counted_built : (c : Content) (F : Form) (rs : Tree) (k : ℕ) (xs : List WalkStep) (ss : List Tree) → IsSound c → IsRow rs → k ≡ row_length rs → HasSorts F → (n : ℕ) → IsCounted c n (build F k ∷ xs) (pushed rs ss) → IsCounted c n xs (over F rs ∷ ss)
 counted_built c F rs k xs ss sound row same sorts n h =
     let o = opens_built F rs k xs ss row same h.opens in
     let none = none_pushed c rs ss row h.none in
     record { invariant = h.invariant; opens = o.1; none = (aliases_over c F rs sound sorts o.0 ∙ none.0, none.1); few = h.few }
 
 -- a goal was left
-pub counted_owed : (c : Content) (v : Variance) (t : Tree) (xs : List Step) (ss : List Tree) → (n : ℕ) → IsCounted c n (owe v t ∷ xs) ss → IsCounted c n xs ss
+pub counted_owed : (c : Content) (v : Variance) (t : Tree) (xs : List WalkStep) (ss : List Tree) → (n : ℕ) → IsCounted c n (owe v t ∷ xs) ss → IsCounted c n xs ss
 counted_owed c v t xs ss n h = record { invariant = h.invariant; opens = h.opens; none = h.none; few = h.few }
 
 -- .. by equal lists
-pub counted_at : {c d : Content} {xs xs' ys ys' : List Step} {ss ss' rs rs' : List Tree} → xs ≡ xs' → ys ≡ ys' → ss ≡ ss' → rs ≡ rs' → ((n : ℕ) → IsCounted c n xs' ss' → IsCounted d n ys' rs') → (n : ℕ) → IsCounted c n xs ss → IsCounted d n ys rs
+pub counted_at : {c d : Content} {xs xs' ys ys' : List WalkStep} {ss ss' rs rs' : List Tree} → xs ≡ xs' → ys ≡ ys' → ss ≡ ss' → rs ≡ rs' → ((n : ℕ) → IsCounted c n xs' ss' → IsCounted d n ys' rs') → (n : ℕ) → IsCounted c n xs ss → IsCounted d n ys rs
 counted_at a b e f h = rw (a, b, e, f) h
 
-pub counted_to : {c : Content} {n : ℕ} {xs ys : List Step} {ss rs : List Tree} → xs ≡ ys → ss ≡ rs → IsCounted c n xs ss → IsCounted c n ys rs
+pub counted_to : {c : Content} {n : ℕ} {xs ys : List WalkStep} {ss rs : List Tree} → xs ≡ ys → ss ≡ rs → IsCounted c n xs ss → IsCounted c n ys rs
 counted_to p q h = rw (p, q) at h
 
 -- the whole is to be entered

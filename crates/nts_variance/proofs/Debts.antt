@@ -25,7 +25,7 @@ use Rattle.nts_model.proofs.Tables.Resolved.{deeply_resolved-empty, deeply_resol
 use Rattle.nts_model.proofs.Tables.ResolvedTerms.{IsClosed-deeply_resolved}
 use Rattle.nts_model.proofs.Tables.Kept.{kind_of-deeply_resolved}
 use Rattle.nts_model.proofs.Tables.Fitting.{IsClosedUnder-more}
-use Rattle.nts_variance.specs.Steps.{Step, enter, build, owe, popped, unpopped, entering, MadeForRow}
+use Rattle.nts_variance.specs.Steps.{WalkStep, enter, build, owe, popped, unpopped, entering, MadeForRow}
 use Rattle.nts_variance.specs.Walking.{NothingOwed, sides}
 use Rattle.nts_variance.specs.Terms.{IsGoal, AreGoals}
 use Rattle.nts_variance.specs.Debts.{IsClosedLike, OweGoals}
@@ -74,38 +74,38 @@ row_closed v ws q (more t ts) empty m b k = absurd m
 row_closed v ws q (more t ts) (node l c) m b k = absurd m
 row_closed v ws q (node l c) rs m b k = absurd m
 
-owe_entered : (v : Variance) (ws : List Variance) (q : Bool) (ts : Tree) (xs : List Step) (ss : List Tree) → IsRow ts
+owe_entered : (v : Variance) (ws : List Variance) (q : Bool) (ts : Tree) (xs : List WalkStep) (ss : List Tree) → IsRow ts
     → ((rs : Tree) → MadeForRow LikeIn NothingOwed v ws q ts rs → OweGoals xs (pushed rs ss)) → OweGoals (entering v ws q ts xs) ss
 owe_entered v ws q empty xs ss r h = h empty tt
 owe_entered v ws q (more t ts) xs ss r h = λ s m. owe_entered v (rest_variances ws) q ts xs (s ∷ ss) r (λ rs k. h (more s rs) (m, k))
 owe_entered v ws q (node l c) xs ss r h = absurd r
 
 -- a node is built over what was made last
-owe_over : (F : Form) (rs : Tree) (n : ℕ) (xs : List Step) (ss : List Tree) → IsRow rs → n ≡ row_length rs → OweGoals xs (over F rs ∷ ss) → OweGoals (build F n ∷ xs) (pushed rs ss)
+owe_over : (F : Form) (rs : Tree) (n : ℕ) (xs : List WalkStep) (ss : List Tree) → IsRow rs → n ≡ row_length rs → OweGoals xs (over F rs ∷ ss) → OweGoals (build F n ∷ xs) (pushed rs ss)
 owe_over F rs n xs ss row same h =
     let one : popped n (pushed rs ss) empty ≡ rs = ap (λ m. popped m (pushed rs ss) empty) same ∙ popped_row rs ss row in
     let two : unpopped n (pushed rs ss) ≡ ss = ap (λ m. unpopped m (pushed rs ss)) same ∙ unpopped_pushed rs ss row in
     rw (one, two) h
 
-pub owe_built : (F : Form) (rs : Tree) (n : ℕ) (xs : List Step) (ss : List Tree) → IsRow rs → n ≡ row_length rs → OweGoals (build F n ∷ xs) (pushed rs ss) → OweGoals xs (over F rs ∷ ss)
+pub owe_built : (F : Form) (rs : Tree) (n : ℕ) (xs : List WalkStep) (ss : List Tree) → IsRow rs → n ≡ row_length rs → OweGoals (build F n ∷ xs) (pushed rs ss) → OweGoals xs (over F rs ∷ ss)
 owe_built F rs n xs ss row same h =
     let one : popped n (pushed rs ss) empty ≡ rs = ap (λ m. popped m (pushed rs ss) empty) same ∙ popped_row rs ss row in
     let two : unpopped n (pushed rs ss) ≡ ss = ap (λ m. unpopped m (pushed rs ss)) same ∙ unpopped_pushed rs ss row in
     rw (one, two) at h
 
 -- a node gave place to its parts
-pub owe_node : (v : Variance) (ws : List Variance) (q : Bool) (F : Form) (ts : Tree) (xs : List Step) (ss : List Tree) → IsRow ts → OweGoals (enter v q (over F ts) ∷ xs) ss → OweGoals (entering v ws q ts (build F (row_length ts) ∷ xs)) ss
+pub owe_node : (v : Variance) (ws : List Variance) (q : Bool) (F : Form) (ts : Tree) (xs : List WalkStep) (ss : List Tree) → IsRow ts → OweGoals (enter v q (over F ts) ∷ xs) ss → OweGoals (entering v ws q ts (build F (row_length ts) ∷ xs)) ss
 owe_node v ws q F ts xs ss row h =
     owe_entered v ws q ts (build F (row_length ts) ∷ xs) ss row (λ rs m.
     (let r = made_row LikeIn NothingOwed v ws q ts rs m in
     owe_over F rs (row_length ts) xs ss r.0 (sym r.1) (h (over F rs) (record { closed = arguments_closed ts rs (row_closed v ws q ts rs m) F; kind = over_kind F ts rs }))))
 
 -- a variable gave place to its value
-pub owe_through : (v : Variance) (q : Bool) (t w : Tree) (xs : List Step) (ss : List Tree) → IsClosed w → kind_of w ≡ kind_of t → OweGoals (enter v q t ∷ xs) ss → OweGoals (enter v q w ∷ xs) ss
+pub owe_through : (v : Variance) (q : Bool) (t w : Tree) (xs : List WalkStep) (ss : List Tree) → IsClosed w → kind_of w ≡ kind_of t → OweGoals (enter v q t ∷ xs) ss → OweGoals (enter v q w ∷ xs) ss
 owe_through v q t w xs ss closed same h = λ s m. h s (like_closed t s (m.closed 0 closed) (m.kind ∙ same))
 
 -- .. which is copied, and the variable is owed the copy
-pub owe_value : (v : Variance) (t w : Tree) (xs : List Step) (ss : List Tree) → IsClosed t → IsClosed w → kind_of w ≡ kind_of t → kind_of t ≡ Some (of_sort sort.Ty) → v ≢ variance.Invariant → OweGoals (enter v false t ∷ xs) ss → OweGoals (enter v true w ∷ owe v t ∷ xs) ss
+pub owe_value : (v : Variance) (t w : Tree) (xs : List WalkStep) (ss : List Tree) → IsClosed t → IsClosed w → kind_of w ≡ kind_of t → kind_of t ≡ Some (of_sort sort.Ty) → v ≢ variance.Invariant → OweGoals (enter v false t ∷ xs) ss → OweGoals (enter v true w ∷ owe v t ∷ xs) ss
 owe_value v t w xs ss own closed same sorted varies h = λ s m.
     (let below = m.closed 0 closed in
     let kinds = m.kind ∙ same in
@@ -117,7 +117,7 @@ type_kind (more a b) n e = cc
 type_kind (node l c) n e = (let same : l ≡ label.Leaf (leaf.Variable kind.Ty n) = cc in ap (λ m. Some (kind_of_label m)) same)
 
 -- by equal lists
-pub owe_at : {xs ys : List Step} {ss rs : List Tree} → xs ≡ ys → ss ≡ rs → OweGoals ys rs → OweGoals xs ss
+pub owe_at : {xs ys : List WalkStep} {ss rs : List Tree} → xs ≡ ys → ss ≡ rs → OweGoals ys rs → OweGoals xs ss
 owe_at p q h = rw (p, q) h
 
 pub goals_to : {ps qs : List Pair} → ps ≡ qs → AreGoals qs → AreGoals ps

@@ -14,15 +14,15 @@ use Rattle.nts_store.specs.Growth.{tree_at, Extends}
 use Rattle.nts_store.proofs.Growing.{Extends-refl}
 use Rattle.nts_unify.specs.Entries.{Entries}
 use Rattle.nts_unify.specs.Reading.{content_of, IsLawful}
-use Rattle.nts_unify.specs.Changing.{Keeps, unset_count}
-use Rattle.nts_unify.proofs.Keeping.{Keeps-refl}
+use Rattle.nts_unify.specs.Changing.{KeepsKnowing, unset_count}
+use Rattle.nts_unify.proofs.Keeping.{KeepsKnowing-refl}
 use Rattle.nts_variance.specs.declared.along.Relating.{Relating}
 use Rattle.nts_variance.specs.Steps.{stacked}
-use Rattle.nts_variance.specs.Parts.{form_of, parts_of}
+use Rattle.nts_variance.specs.Parts.{form_of_tree, parts_of}
 use Rattle.nts_variance.specs.Terms.{pair_at, pairs_at, ArePairs, IsGoal, AreGoals}
 use Rattle.nts_variance.specs.Taking.{Takes, IsPair, ArePairsLeft, AreOfOneForm, ArePartsPaired}
 use Rattle.nts_variance.specs.declared.equating.Heads.{Heads}
-use Rattle.nts_variance.specs.Equating.{ArePairHeads, AreToBeOne, AreInvariant, aliases_of, sizes_of, unsolved, IsReady, IsOn, IsEqualStep}
+use Rattle.nts_variance.specs.Equating.{ArePairHeads, AreToBeOne, AreInvariant, aliases_of, sizes_of, unsolved, ArePairsReady, IsOn, IsEqualStep}
 use Rattle.nts_variance.proofs.Calls.{pairs_front, pairs_later, stacked_kept, known_stack, pair_known, call_taken, call_left, call_parts, call_passed}
 use Rattle.nts_variance.proofs.Exact.{AllInvariant, parts_invariant, stands_to_be_one}
 use Rattle.nts_variance.proofs.Lessening.{over_larger, over_aliases, aliases_joined, sizes_joined, sizes_row, aliases_row, aliases_same, sizes_same, unsolved_same}
@@ -61,18 +61,18 @@ heads_one ts e q h k one =
     (stands_to_be_one (content_of ts e) q.variance (tree_at ts q.left) (tree_at ts q.right) (tree_at ts h.pair.left) (tree_at ts h.pair.right) k.on_left k.on_right one)
 
 module _ (declared : ℕ → List Variance) where
-  pub ready_front : (ts : List Tree) (e : Entries) (ps : List Relating) (q : Relating) → IsReady ts e (ps ++ q ∷ []) → ArePairsLeft ts (content_of ts e) ps × IsPair ts (content_of ts e) q
+  pub ready_front : (ts : List Tree) (e : Entries) (ps : List Relating) (q : Relating) → ArePairsReady ts e (ps ++ q ∷ []) → ArePairsLeft ts (content_of ts e) ps × IsPair ts (content_of ts e) q
   ready_front ts e ps q r = pairs_front ts (content_of ts e) ps q r.pairs
 
   -- a pair and its heads
-  pub heads_standing : (ts : List Tree) (e : Entries) (ps : List Relating) (q : Relating) (h : Heads) → IsReady ts e (ps ++ q ∷ []) → ArePairHeads ts e q h → Standing declared ts e q h.pair
+  pub heads_standing : (ts : List Tree) (e : Entries) (ps : List Relating) (q : Relating) (h : Heads) → ArePairsReady ts e (ps ++ q ∷ []) → ArePairHeads ts e q h → Standing declared ts e q h.pair
   heads_standing ts e ps q h r k = record { own = (ready_front ts e ps q r).1; known = k.heads.known; kept = k.kept; on_left = k.on_left; on_right = k.on_right }
 
-  pub heads_ready : (ts : List Tree) (e : Entries) (ps : List Relating) (q : Relating) (h : Heads) → IsReady ts e (ps ++ q ∷ []) → ArePairHeads ts e q h → IsReady ts e (ps ++ h.pair ∷ [])
+  pub heads_ready : (ts : List Tree) (e : Entries) (ps : List Relating) (q : Relating) (h : Heads) → ArePairsReady ts e (ps ++ q ∷ []) → ArePairHeads ts e q h → ArePairsReady ts e (ps ++ h.pair ∷ [])
   heads_ready ts e ps q h r k = record { lawful = r.lawful; pairs = pairs_push ts (content_of ts e) ps h.pair (ready_front ts e ps q r).0 k.heads.known }
 
   -- what trees are under the table stayed, and the other pairs are left
-  step_kept : (ts us : List Tree) (e f : Entries) (ps : List Relating) (q : Relating) (ms ns gs hs : List Relating) → IsReady ts e (ps ++ q ∷ []) → Extends ts us → Keeps (content_of ts e) (content_of us f) → IsOn declared ts us e f (ps ++ q ∷ []) ps ms ns gs hs
+  step_kept : (ts us : List Tree) (e f : Entries) (ps : List Relating) (q : Relating) (ms ns gs hs : List Relating) → ArePairsReady ts e (ps ++ q ∷ []) → Extends ts us → KeepsKnowing (content_of ts e) (content_of us f) → IsOn declared ts us e f (ps ++ q ∷ []) ps ms ns gs hs
       → IsEqualStep declared ts us e f ps q ps ms ns gs hs false
   step_kept ts us e f ps q ms ns gs hs r ext keeps on =
       let c = content_of ts e in
@@ -91,7 +91,7 @@ module _ (declared : ℕ → List Variance) where
         smaller = λ q. (omega (arith, sizes, large), omega (arith, count, whole));
       }
 
-  pub step_done : (ts us : List Tree) (e f : Entries) (ps : List Relating) (q : Relating) (ms gs : List Relating) → IsReady ts e (ps ++ q ∷ []) → Extends ts us → IsLawful us f → Takes declared (content_of ts e) (content_of us f) (pair_at ts q ∷ []) [] [] → Keeps (content_of ts e) (content_of us f)
+  pub step_done : (ts us : List Tree) (e f : Entries) (ps : List Relating) (q : Relating) (ms gs : List Relating) → ArePairsReady ts e (ps ++ q ∷ []) → Extends ts us → IsLawful us f → Takes declared (content_of ts e) (content_of us f) (pair_at ts q ∷ []) [] [] → KeepsKnowing (content_of ts e) (content_of us f)
       → IsEqualStep declared ts us e f ps q ps ms ms gs gs false
   step_done ts us e f ps q ms gs r ext lawful t keeps =
       step_kept ts us e f ps q ms ms gs gs r ext keeps (record {
@@ -99,27 +99,27 @@ module _ (declared : ℕ → List Variance) where
         call = λ start first p es u. call_taken declared start ts us first e f p q ps ms es gs [] [] es gs u ext lawful tt tt tt tt t (sym (append-nil es)) (sym (append-nil gs));
       })
 
-  pub step_owed : (ts : List Tree) (e : Entries) (ps : List Relating) (q : Relating) (ms ns gs hs : List Relating) → IsReady ts e (ps ++ q ∷ []) → IsGoal (pair_at ts q) → hs ≡ gs ++ q ∷ [] → ns ≡ ms ++ q ∷ [] → IsEqualStep declared ts ts e e ps q ps ms ns gs hs false
+  pub step_owed : (ts : List Tree) (e : Entries) (ps : List Relating) (q : Relating) (ms ns gs hs : List Relating) → ArePairsReady ts e (ps ++ q ∷ []) → IsGoal (pair_at ts q) → hs ≡ gs ++ q ∷ [] → ns ≡ ms ++ q ∷ [] → IsEqualStep declared ts ts e e ps q ps ms ns gs hs false
   step_owed ts e ps q ms ns gs hs r is goals new =
       let c = content_of ts e in
       let lawful = r.lawful in
       let front = pairs_front ts c ps q r.pairs in
-      step_kept ts ts e e ps q ms ns gs hs r (Extends-refl ts) (Keeps-refl c) (record {
+      step_kept ts ts e e ps q ms ns gs hs r (Extends-refl ts) (KeepsKnowing-refl c) (record {
         ready = record { lawful = lawful; pairs = front.0 };
         call = λ start first p es u. call_left declared start ts first e p q ps ms ns es gs [] (q ∷ []) es hs u tt tt (pair_known ts c q front.1) (is, tt) (takes_owed declared c (pair_at ts q) lawful.sound) (sym (append-nil es)) goals new;
       })
 
-  pub step_passed : (ts : List Tree) (e : Entries) (ps : List Relating) (q : Relating) (ms ns gs : List Relating) → IsReady ts e (ps ++ q ∷ []) → Among (pairs_at ts ms) (pair_at ts q) → ns ≡ ms → IsEqualStep declared ts ts e e ps q ps ms ns gs gs false
+  pub step_passed : (ts : List Tree) (e : Entries) (ps : List Relating) (q : Relating) (ms ns gs : List Relating) → ArePairsReady ts e (ps ++ q ∷ []) → Among (pairs_at ts ms) (pair_at ts q) → ns ≡ ms → IsEqualStep declared ts ts e e ps q ps ms ns gs gs false
   step_passed ts e ps q ms ns gs r found same =
       let c = content_of ts e in
       let front = pairs_front ts c ps q r.pairs in
-      step_kept ts ts e e ps q ms ns gs gs r (Extends-refl ts) (Keeps-refl c) (record {
+      step_kept ts ts e e ps q ms ns gs gs r (Extends-refl ts) (KeepsKnowing-refl c) (record {
         ready = record { lawful = r.lawful; pairs = front.0 };
         call = λ start first p es u. call_passed declared start ts first e p q ps ms ns es gs u found same;
       })
 
   -- a variable got a value
-  pub step_bound : (ts us : List Tree) (e f : Entries) (ps : List Relating) (q : Relating) (ms gs new hs : List Relating) → IsReady ts e (ps ++ q ∷ []) → Extends ts us → IsLawful us f → ArePairs us (content_of us f) new → AreGoals (pairs_at us new) → Takes declared (content_of ts e) (content_of us f) (pair_at ts q ∷ []) [] (pairs_at us new)
+  pub step_bound : (ts us : List Tree) (e f : Entries) (ps : List Relating) (q : Relating) (ms gs new hs : List Relating) → ArePairsReady ts e (ps ++ q ∷ []) → Extends ts us → IsLawful us f → ArePairs us (content_of us f) new → AreGoals (pairs_at us new) → Takes declared (content_of ts e) (content_of us f) (pair_at ts q ∷ []) [] (pairs_at us new)
       → (q.variance ≡ variance.Invariant → (unset_count (content_of us f).slots < unset_count (content_of ts e).slots + closed_aliases (resolved (content_of ts e) (tree_at ts q.left)) + closed_aliases (resolved (content_of ts e) (tree_at ts q.right)))
       × ((t : Tree) → Knows (content_of ts e) t → closed_aliases (resolved (content_of us f) t) ≡ closed_aliases (resolved (content_of ts e) t)))
       → hs ≡ gs ++ new → IsEqualStep declared ts us e f ps q ps ms ms gs hs true
@@ -141,7 +141,7 @@ module _ (declared : ℕ → List Variance) where
       }
 
   -- the parts of two nodes are left
-  pub step_parts : (ts : List Tree) (e : Entries) (ps : List Relating) (q : Relating) (ys ms ns gs : List Relating) → AreToBeOne (content_of ts e) q.variance (tree_at ts q.left) (tree_at ts q.right) → IsReady ts e (ps ++ q ∷ []) → AreOfOneForm (tree_at ts q.left) (tree_at ts q.right)
+  pub step_parts : (ts : List Tree) (e : Entries) (ps : List Relating) (q : Relating) (ys ms ns gs : List Relating) → AreToBeOne (content_of ts e) q.variance (tree_at ts q.left) (tree_at ts q.right) → ArePairsReady ts e (ps ++ q ∷ []) → AreOfOneForm (tree_at ts q.left) (tree_at ts q.right)
       → ArePartsPaired declared ts q ps ys → ns ≡ ms ++ q ∷ [] → IsEqualStep declared ts ts e e ps q ys ms ns gs gs false
   step_parts ts e ps q ys ms ns gs to_be r one pushed new =
       let c = content_of ts e in
@@ -149,7 +149,7 @@ module _ (declared : ℕ → List Variance) where
       let b = tree_at ts q.right in
       let left = one.left in
       let right = one.right in
-      let F = form_of a in
+      let F = form_of_tree a in
       let row = variances_over declared F (parts_of a) in
       let front = pairs_front ts c ps q r.pairs in
       let pair = front.1 in

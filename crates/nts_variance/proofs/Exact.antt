@@ -30,7 +30,7 @@ use Rattle.nts_unify.specs.Entries.{Entries}
 use Rattle.nts_unify.specs.Reading.{content_of, IsLawful}
 use Rattle.nts_relating.proofs.HeadLemmas.{variable_node}
 use Rattle.nts_variance.specs.declared.along.Relating.{Relating}
-use Rattle.nts_variance.specs.Parts.{form_of, parts_of, number_of_type}
+use Rattle.nts_variance.specs.Parts.{form_of_tree, parts_of, number_of_type}
 use Rattle.nts_variance.specs.Taking.{IsExactKind, IsExact, IsPair, Waits, AreOfOneForm}
 use Rattle.nts_variance.specs.Equating.{StandsFor, IsAlone, AreToBeOne}
 use Rattle.nts_variance.proofs.Clean.{holds_terms}
@@ -135,11 +135,11 @@ module _ (declared : ℕ → List Variance) where
   alone_row (a_value b) xs v ts us n = none_row v [] ts us refl
   alone_row (an_alias h) xs v ts us n = none_row v [] ts us refl
 
-  pub parts_invariant : (c : Content) (v : Variance) (a b : Tree) → AreToBeOne c v a b → AreOfOneForm a b → AllInvariant (pairs_over v (variances_over declared (form_of a) (parts_of a)) (parts_of a) (parts_of b))
+  pub parts_invariant : (c : Content) (v : Variance) (a b : Tree) → AreToBeOne c v a b → AreOfOneForm a b → AllInvariant (pairs_over v (variances_over declared (form_of_tree a) (parts_of a)) (parts_of a) (parts_of b))
   parts_invariant c v a b one same =
-      ⊎_elim (λ e. invariant_row v (variances_over declared (form_of a) (parts_of a)) (parts_of a) (parts_of b) e)
+      ⊎_elim (λ e. invariant_row v (variances_over declared (form_of_tree a) (parts_of a)) (parts_of a) (parts_of b) e)
       (λ m. ⊎_elim
-      (λ l. alone_row (form_of a) (deeply_resolved c (parts_of a)) v (parts_of a) (parts_of b) (subst IsAlone (ap (deeply_resolved c) same.left.with_parts.is ∙ deeply_resolved-over c (form_of a) (parts_of a) same.left.fits) l))
-      (λ r. alone_row (form_of a) (deeply_resolved c (parts_of b)) v (parts_of a) (parts_of b) (subst (λ F. IsAlone (over F (deeply_resolved c (parts_of b)))) (sym same.form) (subst IsAlone (ap (deeply_resolved c) same.right.with_parts.is ∙ deeply_resolved-over c (form_of b) (parts_of b) same.right.fits) r)))
+      (λ l. alone_row (form_of_tree a) (deeply_resolved c (parts_of a)) v (parts_of a) (parts_of b) (subst IsAlone (ap (deeply_resolved c) same.left.with_parts.is ∙ deeply_resolved-over c (form_of_tree a) (parts_of a) same.left.fits) l))
+      (λ r. alone_row (form_of_tree a) (deeply_resolved c (parts_of b)) v (parts_of a) (parts_of b) (subst (λ F. IsAlone (over F (deeply_resolved c (parts_of b)))) (sym same.form) (subst IsAlone (ap (deeply_resolved c) same.right.with_parts.is ∙ deeply_resolved-over c (form_of_tree b) (parts_of b) same.right.fits) r)))
       m)
       one.trees

@@ -25,7 +25,7 @@ use Rattle.nts_store.specs.TypeFlags.{varies, varies_region}
 use Rattle.nts_relating.specs.Relating.{Generalized}
 use Rattle.nts_relating.proofs.GenLemmas.{resolved-no_infer}
 use Rattle.nts_variance.specs.Walking.{IsErased, Judges, RelatedSides}
-use Rattle.nts_variance.specs.Parts.{IsFixed}
+use Rattle.nts_variance.specs.Parts.{IsFixedTree}
 
 fixed_region : (r : FreeRegion) → varies_region r ≡ false → IsErased r
 fixed_region region.Erased e = tt
@@ -75,7 +75,7 @@ module _ (declared : ℕ → List Variance) (j : Judge declared) (w : World) (ju
       alone_label l (inst w c) x.0 y.0 (inst_alone c x.1 y.1)
 
   -- by any variance
-  pub fixed_one : (v : Variance) (s t : Tree) → IsFixed t → IsSettled J s → IsSettled J (inst w t) → Settles J v s (inst w t) → s ≡ inst w t
+  pub fixed_one : (v : Variance) (s t : Tree) → IsFixedTree t → IsSettled J s → IsSettled J (inst w t) → Settles J v s (inst w t) → s ≡ inst w t
   fixed_one v s t f own here x = settled_alone J j.lawful v s (inst w t) (inst_alone t f.no_infer f.no_region) own here x
 
 -- each universe names its regions, so what is made for it is one with it
@@ -93,7 +93,7 @@ fixed_named u (node l c) e = (let p = or_parts (varies l) (any_label varies c) e
     of_label (label.Leaf (leaf.Region r)) q = of_region r q
     of_label l q = tt
 
-fixed_made : (c d : Content) (x u b : ℕ) (t r : Tree) → IsFixed t → Generalized c d x u b t r → deeply_resolved d r ≡ deeply_resolved d t
+fixed_made : (c d : Content) (x u b : ℕ) (t r : Tree) → IsFixedTree t → Generalized c d x u b t r → deeply_resolved d r ≡ deeply_resolved d t
 fixed_made c d x u b t r f gen = gen.exact (subst (NamesAll region_level u) (sym (resolved-no_infer c t f.no_infer)) (fixed_named u t f.no_region))
 
 module _ (declared : ℕ → List Variance) (f : Content) (ks : List Tree) where
@@ -102,7 +102,7 @@ module _ (declared : ℕ → List Variance) (f : Content) (ks : List Tree) where
   itself_related true v a = one_tree tt
 
   -- .. and related with it under each later table
-  pub fixed_related : (c d : Content) (x u b : ℕ) (z : Bool) (v : Variance) (t r : Tree) → IsFixed t → Generalized c d x u b t r → Continues d f → Knows d t → RelatedSides z declared f ks v (deeply_resolved f r) (deeply_resolved f t)
+  pub fixed_related : (c d : Content) (x u b : ℕ) (z : Bool) (v : Variance) (t r : Tree) → IsFixedTree t → Generalized c d x u b t r → Continues d f → Knows d t → RelatedSides z declared f ks v (deeply_resolved f r) (deeply_resolved f t)
   fixed_related c d x u b z v t r fixed gen k now =
       let same : deeply_resolved f r ≡ deeply_resolved f t = sym (k.values r gen.knows) ∙ ap (deeply_resolved f) (fixed_made c d x u b t r fixed gen) ∙ k.values t now in
       subst (RelatedSides z declared f ks v (deeply_resolved f r)) same (itself_related z v (deeply_resolved f r))

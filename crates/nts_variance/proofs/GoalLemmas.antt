@@ -36,7 +36,7 @@ use Rattle.nts_variance.specs.declared.along.Relating.{Relating as Goal}
 use Rattle.nts_variance.specs.Terms.{pair_at, IsGoal}
 use Rattle.nts_variance.proofs.Leaves.{kept_kinds}
 use Rattle.nts_variance.proofs.Looks.{alias_tree}
-use Rattle.nts_variance.specs.Goals.{in_order, ordered, is_alias_node, expects_first, head_of, goal_of}
+use Rattle.nts_variance.specs.Goals.{in_order, ordered, is_alias_node, expects_first, goal_head, goal_of}
 
 -- an alias stays one
 alias_node : (t : Tree) → IsAlias t → is_alias_node t ≡ true
@@ -51,7 +51,7 @@ right_or true b e = refl
 right_or false true e = refl
 right_or false false e = cc
 
-head_of_alias : (p : Pair) → IsAlias p.left ⊎ IsAlias p.right → head_of p ≡ predicate.AliasRelate (direction_of p.variance)
+head_of_alias : (p : Pair) → IsAlias p.left ⊎ IsAlias p.right → goal_head p ≡ predicate.AliasRelate (direction_of p.variance)
 head_of_alias p (inl x) = rw (left_or (is_alias_node p.left) (is_alias_node p.right) (alias_node p.left x)) refl
 head_of_alias p (inr x) = rw (right_or (is_alias_node p.left) (is_alias_node p.right) (alias_node p.right x)) refl
 
@@ -77,10 +77,10 @@ alias_places : (p : Pair) → IsGoal p → IsAlias p.left ⊎ IsAlias p.right �
 alias_places p g (inl x) = (let t = alias_term p.left x in (t, subst (FitsPlace any_term) g.kinds t))
 alias_places p g (inr x) = (let t = alias_term p.right x in (subst (FitsPlace any_term) (sym g.kinds) t, t))
 
-pub goal_places : (p : Pair) → IsGoal p → FitInOrders p (head_of p)
+pub goal_places : (p : Pair) → IsGoal p → FitInOrders p (goal_head p)
 goal_places p g = by_rest g.rests
   where
-    by_rest : (IsAlias p.left ⊎ IsAlias p.right) ⊎ ((p.variance ≢ variance.Invariant) × (kind_of p.left ≡ Some (of_sort sort.Ty)) × (kind_of p.right ≡ Some (of_sort sort.Ty))) → FitInOrders p (head_of p)
+    by_rest : (IsAlias p.left ⊎ IsAlias p.right) ⊎ ((p.variance ≢ variance.Invariant) × (kind_of p.left ≡ Some (of_sort sort.Ty)) × (kind_of p.right ≡ Some (of_sort sort.Ty))) → FitInOrders p (goal_head p)
     by_rest (inl x) = (let t = alias_places p g x in rw (head_of_alias p x) ((t.0, (t.1, tt)), (t.1, (t.0, tt))))
     by_rest (inr x) = by_node (is_alias_node p.left || is_alias_node p.right)
       where
@@ -96,8 +96,8 @@ places_in_order ts variance.Invariant p h f = f.0
 places_in_order ts variance.Covariant p h f = f.0
 places_in_order ts variance.Contravariant p h f = f.1
 
-pub ordered_places : (ts : List Tree) (p : Goal) → IsGoal (pair_at ts p) → FitPlaces (head_of (pair_at ts p)) (tree_at ts (ordered p).left) (tree_at ts (ordered p).right)
-ordered_places ts p g = places_in_order ts p.variance p (head_of (pair_at ts p)) (goal_places (pair_at ts p) g)
+pub ordered_places : (ts : List Tree) (p : Goal) → IsGoal (pair_at ts p) → FitPlaces (goal_head (pair_at ts p)) (tree_at ts (ordered p).left) (tree_at ts (ordered p).right)
+ordered_places ts p g = places_in_order ts p.variance p (goal_head (pair_at ts p)) (goal_places (pair_at ts p) g)
 
 in_order_within : (ts : List Tree) (v : Variance) (p : Goal) → IsIn ts p.left → IsIn ts p.right → IsIn ts (in_order v p).left × IsIn ts (in_order v p).right
 in_order_within ts variance.Invariant p a b = (a, b)
@@ -105,7 +105,7 @@ in_order_within ts variance.Covariant p a b = (a, b)
 in_order_within ts variance.Contravariant p a b = (b, a)
 
 -- .. in each later store
-pub places_kept : (ts us : List Tree) (p : Goal) (h : PredicateHead) (q : Goal) → Extends ts us → IsIn ts p.left → IsIn ts p.right → q ≡ ordered p → h ≡ head_of (pair_at ts p) → FitPlaces (head_of (pair_at ts p)) (tree_at ts (ordered p).left) (tree_at ts (ordered p).right) → FitPlaces h (tree_at us q.left) (tree_at us q.right)
+pub places_kept : (ts us : List Tree) (p : Goal) (h : PredicateHead) (q : Goal) → Extends ts us → IsIn ts p.left → IsIn ts p.right → q ≡ ordered p → h ≡ goal_head (pair_at ts p) → FitPlaces (goal_head (pair_at ts p)) (tree_at ts (ordered p).left) (tree_at ts (ordered p).right) → FitPlaces h (tree_at us q.left) (tree_at us q.right)
 places_kept ts us p h q ext left right is head f =
     let within = in_order_within ts p.variance p left right in
     let one : tree_at us (ordered p).left ≡ tree_at ts (ordered p).left = ext.kept (ordered p).left within.0 in

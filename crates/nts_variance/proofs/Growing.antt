@@ -9,34 +9,34 @@ use Rattle.nts_model.proofs.Tables.Tying.{has_kind}
 use Rattle.nts_model.proofs.Tables.SubUnified.{JoinsSubRoots-refl}
 use Rattle.std.proofs.Common.{length-append, [], ◌∷◌}
 use Rattle.nts_unify.specs.Changing.{IsLater, AddsVisible, nothing_more, one_more}
-use Rattle.nts_variance.specs.Walking.{IsGrown}
+use Rattle.nts_variance.specs.Walking.{IsTableGrown}
 use Rattle.nts_variance.proofs.SubRoots.{grows_joined, grows_slot, grows_then}
 
-pub grown_refl : (c : Content) → IsGrown c c
+pub grown_refl : (c : Content) → IsTableGrown c c
 grown_refl c = record { more = omega arith; grows = omega arith; kinds = λ n k h. h; subs = grows_joined (JoinsSubRoots-refl c); visible = nothing_more }
 
 visible_trans : {xs ys zs : List Recorded} → AddsVisible xs ys → AddsVisible ys zs → AddsVisible xs zs
 visible_trans a nothing_more = a
 visible_trans a (one_more x b v) = one_more x (visible_trans a b) v
 
-pub grown_trans : {c d e : Content} → IsGrown c d → IsGrown d e → IsGrown c e
+pub grown_trans : {c d e : Content} → IsTableGrown c d → IsTableGrown d e → IsTableGrown c e
 grown_trans {c} {d} {e} a b =
     record { more = omega (arith, a.more, b.more); grows = omega (arith, a.grows, b.grows); kinds = λ n k h. b.kinds n k (a.kinds n k h); subs = grows_then c d e b.kinds a.more b.more a.subs b.subs; visible = visible_trans a.visible b.visible }
 
-pub grown_later : {c d : Content} → IsLater c d → IsGrown c d
+pub grown_later : {c d : Content} → IsLater c d → IsTableGrown c d
 grown_later l = record { more = l.more; grows = l.grows; kinds = l.kinds; subs = grows_joined l.subs; visible = l.visible }
 
-pub Knows-grown : {c d : Content} (t : Tree) → IsGrown c d → Knows c t → Knows d t
+pub Knows-grown : {c d : Content} (t : Tree) → IsTableGrown c d → Knows c t → Knows d t
 Knows-grown {c} {d} t l h = Knows-kept c d t (record { grows = l.grows; kinds = l.kinds }) h
 
 -- one more variable, of which nothing is known
-pub grown_slot : (c : Content) (v : Slot) → v.state ≡ unset → IsGrown c (with_slot c v)
+pub grown_slot : (c : Content) (v : Slot) → v.state ≡ unset → IsTableGrown c (with_slot c v)
 grown_slot c v free =
     let kept = KeepsKinds-with_slot c v in
     record { more = omega (arith, length-append c.slots (v ∷ [])); grows = kept.grows; kinds = kept.kinds; subs = grows_slot c v free; visible = nothing_more }
 
 -- a variable that is no region is none in a table that grew
-pub region_never : (c d : Content) (n : ℕ) → IsGrown c d → n < length c.slots → kind_at c n ≢ Some kind.Region → kind_at d n ≢ Some kind.Region
+pub region_never : (c d : Content) (n : ℕ) → IsTableGrown c d → n < length c.slots → kind_at c n ≢ Some kind.Region → kind_at d n ≢ Some kind.Region
 region_never c d n g below apart e =
     let has = has_kind c n below in
     let same : Some has.0 ≡ Some kind.Region = sym (g.kinds n has.0 has.1) ∙ e in

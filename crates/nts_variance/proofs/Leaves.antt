@@ -31,7 +31,7 @@ use Rattle.nts_model.specs.Tables.Holding.{Continues, IsRecorded, HoldsConstrain
 use Rattle.nts_model.specs.Derivations.Related.{region_constraint, IsAlias, one_tree, regions}
 use Rattle.nts_model.specs.Variances.Judging.{Judging, IsSettled, Settles, IsLawfulJudging, opposite}
 use Rattle.nts_model.specs.Derivations.Proving.{recorded_as}
-use Rattle.nts_model.specs.Variances.Relations.{Relating, AllKnown, IsJudgedBy, IsSettledWorld}
+use Rattle.nts_model.specs.Variances.Relations.{Relating, ArePairsKnown, IsJudgedBy, IsSettledWorld}
 use Rattle.nts_model.specs.Variances.Leaving.{Judge, judging_of}
 use Rattle.nts_model.specs.Tables.Solvable.{IsSolvable}
 use Rattle.nts_model.specs.Terms.Substitutions.{leaf_tree}
@@ -50,7 +50,7 @@ use Rattle.nts_model.proofs.Variances.Alongside.{beside_leaf, beside_number}
 use Rattle.nts_model.proofs.Variances.SettleRows.{settled_along, settles_kind, settles_closed, region_beside, regions_settle}
 use Rattle.nts_model.proofs.Variances.Generalizing.{owed, judged_agrees, owed_met, FreshIn, fresh_in}
 use Rattle.nts_unify.specs.Changing.{IsSeen, is_free_region}
-use Rattle.nts_unify.proofs.Keeping.{Keeps-with_constraint}
+use Rattle.nts_unify.proofs.Keeping.{KeepsKnowing-with_constraint}
 use Rattle.nts_variance.proofs.Clean.{clean_leaf, clean_erased, clean_unset, clean_number}
 use Rattle.nts_variance.proofs.CountedPieces.{counted_itself, number_none, leaf_none}
 use Rattle.nts_variance.proofs.Growing.{grown_refl, grown_trans, grown_later, grown_slot}
@@ -400,7 +400,7 @@ module _ (declared : ℕ → List Variance) (z : Bool) (c : Content) (s : Slot) 
             record { extension = g; is = e.is; goals = (settles_sides z J j.lawful g.world v r t there, tt) });
       }
     where
-      sides_known : (side : Bool) (v : Variance) (r t : Tree) → Knows (with_slot c s) r → Knows (with_slot c s) t → AllKnown (with_slot c s) (sides side v r t ∷ [])
+      sides_known : (side : Bool) (v : Variance) (r t : Tree) → Knows (with_slot c s) r → Knows (with_slot c s) t → ArePairsKnown (with_slot c s) (sides side v r t ∷ [])
       sides_known false v r t a b = (a, b, tt)
       sides_known true v r t a b = (b, a, tt)
 
@@ -434,7 +434,7 @@ module _ (declared : ℕ → List Variance) (z : Bool) (c : Content) (s : Slot) 
       let sound' = IsSound-with_slot c s sound free in
       let name : IsRegion r = region_variable s.kind (length c.slots) e in
       let seen = side_seen z v r t (tt, tt) (region_closed 0 t region) in
-      let seen_later = Keeps-with_constraint d x seen in
+      let seen_later = KeepsKnowing-with_constraint d x seen in
       record {
         later = grown_trans (grown_slot c s free) (grown_later seen_later.later);
         continues = Continues-trans c d (with_constraint d x) sound (Continues-with_slot c s free sound) (Continues-with_constraint d x sound');

@@ -15,14 +15,14 @@ use Rattle.nts_model.specs.Terms.Trees.{Tree, empty, more, node, size, binders, 
 use Rattle.nts_model.specs.Tables.Contents.{Content}
 use Rattle.nts_model.specs.Tables.Resolving.{resolved, Knows}
 use Rattle.nts_model.specs.Derivations.Related.{rest_variances, arguments}
-use Rattle.nts_model.specs.Variances.Relations.{Relating as Pair, AllKnown}
+use Rattle.nts_model.specs.Variances.Relations.{Relating as Pair, ArePairsKnown}
 use Rattle.nts_model.specs.Variances.Forms.{Form, a_constructor, a_function, a_value, an_alias, over, FitsForm, pairs_over}
 use Rattle.nts_model.specs.Tables.Measuring.{is_less, is_bound_below, unless_variable, closed_under, counted, closed_aliases}
 use Rattle.nts_model.proofs.Tables.Kept.{variable_label}
 use Rattle.nts_model.proofs.Tables.Resolved.{resolved-empty, resolved-more, resolved-node}
 use Rattle.nts_model.proofs.Terms.Substituting.{no_children}
 use Rattle.nts_model.proofs.Terms.Variables.{infer_label}
-use Rattle.nts_unify.specs.Changing.{Keeps}
+use Rattle.nts_unify.specs.Changing.{KeepsKnowing}
 use Rattle.nts_variance.specs.Equating.{aliases_of, sizes_of, unsolved}
 
 -- where no bound variable escapes from the resolved tree, none escapes from the tree
@@ -139,15 +139,15 @@ aliases_row c v ws (more a ts) (more b us) =
     omega (arith, rest, left, right)
 
 -- what was known stays
-pub aliases_same : (c d : Content) (ps : List Pair) → ((t : Tree) → Knows c t → closed_aliases (resolved d t) ≡ closed_aliases (resolved c t)) → AllKnown c ps → aliases_of d ps ≡ aliases_of c ps
+pub aliases_same : (c d : Content) (ps : List Pair) → ((t : Tree) → Knows c t → closed_aliases (resolved d t) ≡ closed_aliases (resolved c t)) → ArePairsKnown c ps → aliases_of d ps ≡ aliases_of c ps
 aliases_same c d [] h k = refl
 aliases_same c d (p ∷ ps) h k = (let x = h p.left k.0 in let y = h p.right k.1 in let rest = aliases_same c d ps h k.2 in omega (arith, x, y, rest))
 
-pub sizes_same : (c d : Content) (ps : List Pair) → Keeps c d → AllKnown c ps → sizes_of d ps ≡ sizes_of c ps
+pub sizes_same : (c d : Content) (ps : List Pair) → KeepsKnowing c d → ArePairsKnown c ps → sizes_of d ps ≡ sizes_of c ps
 sizes_same c d [] h k = refl
 sizes_same c d (p ∷ ps) h k = (let x = ap size (h.trees p.left k.0) in let rest = sizes_same c d ps h k.2 in omega (arith, x, rest))
 
-pub unsolved_same : (c d : Content) (ps : List Pair) → Keeps c d → AllKnown c ps → unsolved d ps ≡ unsolved c ps
+pub unsolved_same : (c d : Content) (ps : List Pair) → KeepsKnowing c d → ArePairsKnown c ps → unsolved d ps ≡ unsolved c ps
 unsolved_same c d ps h k =
     let rest = aliases_same c d ps (λ t known. ap closed_aliases (h.trees t known)) k in
     let count = h.unset_kept in

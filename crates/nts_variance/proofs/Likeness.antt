@@ -18,7 +18,7 @@ use Rattle.nts_model.specs.Terms.Regions.{RegionName, name_of_label, IsRegion}
 use Rattle.nts_model.specs.Tables.Holding.{HoldsConstraint, Continues}
 use Rattle.nts_model.specs.Tables.Solvable.{IsSolvable}
 use Rattle.nts_model.specs.Tables.Alike.{Alike, one_tree as one, two_regions, one_label, two_rows, HoldsEqual, AreAlike}
-use Rattle.nts_model.specs.Derivations.Related.{rest_variances, constructor, function, function_variances, value, AreRelated, one_tree, regions, constructors, functions, values, no_more, and_more}
+use Rattle.nts_model.specs.Derivations.Related.{rest_variances, constructor, function, function_variances, value, AreRelatedByArgument, one_tree, regions, constructors, functions, values, no_more, and_more}
 use Rattle.nts_model.specs.Derivations.Related.{arguments as arguments_of}
 use Rattle.nts_model.specs.Lists.{Among}
 use Rattle.nts_model.specs.Derivations.Proving.{recorded_as}
@@ -50,7 +50,7 @@ module _ (declared : ℕ → List Variance) (f : Content) (ks : List Tree) (R : 
   g = deeply_resolved f
 
   abbrev Rows : List Variance → Tree → Tree → Type 0
-  Rows = AreRelated declared (λ t. Unit {0}) (λ x. HoldsConstraint f (recorded_as x)) (Among ks) variance.Invariant
+  Rows = AreRelatedByArgument declared (λ t. Unit {0}) (λ x. HoldsConstraint f (recorded_as x)) (Among ks) variance.Invariant
 
   abbrev Step : ℕ → Type 0
   Step n = (a b : Tree) → size a < n → Alike R a b → any_label is_alias a ≡ false → IsFormedTerm a → FitsPlace any_argument (kind_of a) → RelatedTrees declared f ks variance.Invariant (g a) (g b)

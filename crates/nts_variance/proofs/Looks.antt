@@ -24,7 +24,7 @@ use Rattle.nts_model.specs.Tables.Contents.{Content, Slot, kind_at, with_slot, w
 use Rattle.nts_model.specs.Tables.Resolving.{IsInfer, Knows, KnowsVariable, resolved}
 use Rattle.nts_model.specs.Terms.Regions.{IsRegion}
 use Rattle.nts_model.specs.Derivations.Related.{IsAlias}
-use Rattle.nts_model.specs.Variances.Relations.{AllKnown}
+use Rattle.nts_model.specs.Variances.Relations.{ArePairsKnown}
 use Rattle.nts_model.specs.Variances.Forms.{FitsForm}
 use Rattle.nts_model.proofs.Terms.Variables.{infer_label}
 use Rattle.nts_model.proofs.Tables.Slots.{field_below, field-with_slot_old}
@@ -44,7 +44,7 @@ use Rattle.nts_unify.specs.Lawful.{content_of-added, content_of-extended, conten
 use Rattle.nts_unify.specs.Changing.{is_free_region}
 use Rattle.nts_unify.proofs.Changes.{length-slots}
 use Rattle.nts_unify.proofs.Leading.{state_of-class}
-use Rattle.nts_relating.specs.Parts.{IsValueOf}
+use Rattle.nts_relating.specs.Parts.{IsVariableValue}
 use Rattle.nts_relating.specs.Relating.{IsRegionOf, Generalized}
 use Rattle.nts_relating.proofs.HeadLemmas.{head_known, head_open}
 use Rattle.nts_relating.proofs.ValueTasks.{value_of}
@@ -53,9 +53,9 @@ use Rattle.nts_variance.specs.declared.along.Relating.{Relating}
 use Rattle.nts_variance.specs.declared.vary_walk.Spot.{Spot}
 use Rattle.nts_variance.specs.Walking.{IsErased, IsMade}
 use Rattle.nts_variance.specs.Counting.{IsCountedFor}
-use Rattle.nts_variance.specs.Parts.{has_parts, form_of, parts_of, none_escapes, closed_alias, const_variable, number_of_type, StandsAlone}
+use Rattle.nts_variance.specs.Parts.{has_parts, form_of_tree, parts_of, none_escapes, closed_alias, const_variable, number_of_type, StandsAlone}
 use Rattle.nts_variance.specs.Terms.{pairs_at, AreGoals, ArePairs, IsPart}
-use Rattle.nts_variance.specs.Varying.{pair_in, owed_pairs, constraint_of, with_owed, fresh, IsMadeAt, IsTypeValue, IsMadeAgain, IsOwn, IsKept}
+use Rattle.nts_variance.specs.Varying.{pair_in, owed_pairs, constraint_of_pair, with_owed, fresh, IsMadeAt, IsTypeValue, IsMadeAgain, IsOwn, IsKept}
 use Rattle.nts_variance.proofs.Pushing.{pair_at-in}
 use Rattle.nts_variance.proofs.PartLemmas.{IsOverParts, over_parts}
 use Rattle.nts_relating.proofs.Ranks.{kind_of-like}
@@ -74,7 +74,7 @@ pub node_meets : (t : Tree) (l : Label) → t ≡ node l (children t) → IsForm
 node_meets t l e f = (let g : IsFormed (node l (children t)) = subst IsFormed e f in g.0)
 
 -- a variable's value
-pub looked_value : (ts : List Tree) (e : Entries) (t : Tree) (l : Label) (n r : ℕ) (v : NodeId) → IsLawful ts e → Knows (content_of ts e) t → t ≡ node l (children t) → infer_of l ≡ Some n → HasClass e n r (Known v) → IsIn ts v × IsValueOf (content_of ts e) t (tree_at ts v)
+pub looked_value : (ts : List Tree) (e : Entries) (t : Tree) (l : Label) (n r : ℕ) (v : NodeId) → IsLawful ts e → Knows (content_of ts e) t → t ≡ node l (children t) → infer_of l ≡ Some n → HasClass e n r (Known v) → IsIn ts v × IsVariableValue (content_of ts e) t (tree_at ts v)
 looked_value ts e t l n r v lawful knows is i class = (let k = head_known ts e t l n r v lawful knows is i class in (k.within, value_of ts e t v k))
 
 -- a type variable is closed
@@ -104,7 +104,7 @@ owed_at : (us : List Tree) (z q : Bool) (v : Variance) (r t : NodeId) → pairs_
 owed_at us z true v r t = refl
 owed_at us z false v r t = ap (λ p. p ∷ []) (pair_at-in us z v r t)
 
-pairs_known : (us : List Tree) (d : Content) (z q : Bool) (v : Variance) (r t : NodeId) → IsIn us r → IsIn us t → AllKnown d (pairs_at us (cond q [] (pair_in z v r t ∷ []))) → ArePairs us d (cond q [] (pair_in z v r t ∷ []))
+pairs_known : (us : List Tree) (d : Content) (z q : Bool) (v : Variance) (r t : NodeId) → IsIn us r → IsIn us t → ArePairsKnown d (pairs_at us (cond q [] (pair_in z v r t ∷ []))) → ArePairs us d (cond q [] (pair_in z v r t ∷ []))
 pairs_known us d z true v r t i j k = tt
 pairs_known us d false false v r t i j k = ((i, j, k.0, k.1), tt)
 pairs_known us d true false v r t i j k = ((j, i, k.0, k.1), tt)
@@ -162,7 +162,7 @@ fresh_at declared z u x ts us e f s r gs hs k o below sort lawful later ext part
     }
 
 -- a fresh region
-pub recorded_by : (us : List Tree) (z : Bool) (v : Variance) (r t : NodeId) → recorded_of us (constraint_of (pair_in z v r t)) ≡ owed_by z v (tree_at us r) (tree_at us t)
+pub recorded_by : (us : List Tree) (z : Bool) (v : Variance) (r t : NodeId) → recorded_of us (constraint_of_pair (pair_in z v r t)) ≡ owed_by z v (tree_at us r) (tree_at us t)
 recorded_by us false variance.Invariant r t = refl
 recorded_by us false variance.Covariant r t = refl
 recorded_by us false variance.Contravariant r t = refl
@@ -171,7 +171,7 @@ recorded_by us true variance.Covariant r t = refl
 recorded_by us true variance.Contravariant r t = refl
 
 abbrev after : Bool → Bool → Variance → NodeId → NodeId → Entries → Entries
-after q z v r t e = cond q e (constrained e (constraint_of (pair_in z v r t)))
+after q z v r t e = cond q e (constrained e (constraint_of_pair (pair_in z v r t)))
 
 region_made : (declared : ℕ → List Variance) (z : Bool) (u : ℕ) (ts us : List Tree) (e : Entries) (q : Bool) (v : Variance) (r t : NodeId) → IsLawful ts e → Extends ts us → IsIn ts t → Knows (content_of ts e) (tree_at ts t) → IsRegion (tree_at ts t) → tree_at us r ≡ variable_tree kind.Region (length e.variables)
     → IsMade declared z u (content_of ts e) (content_of us (after q z v r t (added e (fresh kind.Region u None)))) v q (tree_at ts t) (tree_at us r) []
@@ -188,9 +188,9 @@ region_made declared z u ts us e false v r t lawful ext within knows free is =
     let before : content_of us m ≡ with_slot c slot = content_fresh ts us e _ (fresh kind.Region u None) lawful ext refl in
     let tree : tree_at us r ≡ variable_tree kind.Region (length c.slots) = is ∙ ap (variable_tree kind.Region) (sym (length-slots ts e.variables)) in
     let kept : tree_at us t ≡ tree_at ts t = ext.kept t within in
-    let x : recorded_of us (constraint_of (pair_in z v r t)) ≡ owed_by z v (variable_tree kind.Region (length c.slots)) (tree_at ts t) = recorded_by us z v r t ∙ (λ i. owed_by z v (tree i) (kept i)) in
-    let content : content_of us (constrained m (constraint_of (pair_in z v r t))) ≡ with_constraint (with_slot c slot) (owed_by z v (variable_tree kind.Region (length c.slots)) (tree_at ts t)) =
-    content_of-constrained us m (constraint_of (pair_in z v r t)) ∙ (λ i. with_constraint (before i) (x i)) in
+    let x : recorded_of us (constraint_of_pair (pair_in z v r t)) ≡ owed_by z v (variable_tree kind.Region (length c.slots)) (tree_at ts t) = recorded_by us z v r t ∙ (λ i. owed_by z v (tree i) (kept i)) in
+    let content : content_of us (constrained m (constraint_of_pair (pair_in z v r t))) ≡ with_constraint (with_slot c slot) (owed_by z v (variable_tree kind.Region (length c.slots)) (tree_at ts t)) =
+    content_of-constrained us m (constraint_of_pair (pair_in z v r t)) ∙ (λ i. with_constraint (before i) (x i)) in
     rw (content, tree) (made_region declared z c slot refl lawful.sound (lawful_sides ts e lawful) u refl v (tree_at ts t) refl knows free)
 
 region_counted : (z : Bool) (u : ℕ) (ts us : List Tree) (e : Entries) (q : Bool) (v : Variance) (r t : NodeId) → IsLawful ts e → Extends ts us → IsRegion (tree_at ts t) → tree_at us r ≡ variable_tree kind.Region (length e.variables)
@@ -215,8 +215,8 @@ region_counted z u ts us e q v r t lawful ext free is = by_case q
     by_case : (p : Bool) → IsCountedFor c (content_of us (after p z v r t m)) v p (tree_at ts t) (tree_at us r)
     by_case true = fresh_one true
     by_case false =
-        rw (content_of-constrained us m (constraint_of (pair_in z v r t)))
-        (counted_recorded c (content_of us m) (recorded_of us (constraint_of (pair_in z v r t))) v false (tree_at ts t) (tree_at us r) (fresh_one false))
+        rw (content_of-constrained us m (constraint_of_pair (pair_in z v r t)))
+        (counted_recorded c (content_of us m) (recorded_of us (constraint_of_pair (pair_in z v r t))) v false (tree_at ts t) (tree_at us r) (fresh_one false))
 
 region_kept : (u x : ℕ) (ts us : List Tree) (e : Entries) (q z : Bool) (v : Variance) (r t : NodeId) → x < length e.variables → IsLawful ts e → Extends ts us → IsKept (content_of ts e) (content_of us (after q z v r t (added e (fresh kind.Region u None)))) x
 region_kept u x ts us e true z v r t below lawful ext =
@@ -352,7 +352,7 @@ alias_sort (label.Const (konst.Unevaluated i)) k e h = ⊎_elim (λ p. (ap (λ x
 alias_sort l k e h = cc
 
 -- a node that is made again
-fits_form : (l : Label) (c : Tree) → IsOverParts (node l c) → has_parts l ≡ true → closed_alias l (escaping (node l c)) ≡ false → FitsForm (form_of (node l c)) (parts_of (node l c))
+fits_form : (l : Label) (c : Tree) → IsOverParts (node l c) → has_parts l ≡ true → closed_alias l (escaping (node l c)) ≡ false → FitsForm (form_of_tree (node l c)) (parts_of (node l c))
 fits_form (label.Ty (ty.Ctor i)) c h p e = tt
 fits_form (label.Ty ty.FnPtr) c h p e = h.fits
 fits_form (label.Ty (ty.Alias i)) c h p e = λ closed. open_tree (node (label.Ty (ty.Alias i)) c) e (subst IsClosed (sym h.with_parts.is) closed)

@@ -16,7 +16,7 @@ use Rattle.nts_model.specs.Tables.Resolving.{IsInfer, Knows, IsSound, resolved, 
 use Rattle.nts_model.specs.Tables.Levels.{NamesAll}
 use Rattle.nts_model.specs.Tables.Worlds.{World, inst, Solves}
 use Rattle.nts_model.specs.Tables.Holding.{HoldsConstraint}
-use Rattle.nts_model.specs.Derivations.Related.{Constraint, times, first_variance, rest_variances, alias, arguments, alias_label, Related, AreRelated, one_tree, regions, constructors, functions, values, open_aliases, aliases, subtypes, no_more, and_more}
+use Rattle.nts_model.specs.Derivations.Related.{Constraint, times, first_variance, rest_variances, alias, arguments, alias_label, Related, AreRelatedByArgument, one_tree, regions, constructors, functions, values, open_aliases, aliases, subtypes, no_more, and_more}
 use Rattle.nts_model.specs.Variances.Judging.{Judging, IsSettled, Settles, AllSettle, IsLawfulJudging, opposite}
 use Rattle.nts_model.specs.Variances.Relations.{Relating, SettlesIn}
 use Rattle.nts_model.specs.Variances.AnsweredGoals.{IsAnswered}
@@ -39,8 +39,8 @@ use Rattle.nts_model.proofs.Variances.Generalizing.{settle_joined}
 use Rattle.nts_model.proofs.Variances.SettleRows.{settles_turned, empty_forward, more_beside}
 use Rattle.nts_model.proofs.Variances.Forms.{IsRow-inst, row_length-inst, inst-over, FitsForm-inst, deeply_resolved-over, FitsForm-deeply_resolved, variances_over_length, variances_over_inst, variances_over_resolved, Knows-over, KeepsListed-over, related_over, form_beside}
 use Rattle.nts_variance.proofs.Growing.{grown_refl}
-use Rattle.nts_variance.specs.Steps.{Step, enter, build, owe, steps_of, popped, unpopped, entering, part_place, PartsFit, kinds_left, kind_over, EndsAlone, HasSorts, builds, sizes, Runs, ended, entered, built, owed, MadeForRow}
-use Rattle.nts_variance.specs.Walking.{IsMadeFor, MadeIn, NothingOwed, RelatedTrees, RelatedSides, StandsBy, OwedBy, IsChoice, SettlesOwed, sides, weights, KnowsSteps, Walks}
+use Rattle.nts_variance.specs.Steps.{WalkStep, enter, build, owe, steps_of, popped, unpopped, entering, part_place, PartsFit, kinds_left, kind_over, EndsAlone, HasSorts, builds, sizes, StepsLead, ended, entered, built, owed, MadeForRow}
+use Rattle.nts_variance.specs.Walking.{IsMadeFor, MadeIn, NothingOwed, RelatedTrees, RelatedSides, StandsBy, OwedBy, IsChoice, SettlesOwed, sides, step_weights, KnowsSteps, Walks}
 use Rattle.nts_variance.proofs.Runs.{pushed, made_row, parts_made, parts_entered, built_over, unbuilt, unentered, unowed}
 use Rattle.nts_variance.proofs.Turns.{answered_front}
 
@@ -59,7 +59,7 @@ resolved_rows f =
     record { none = deeply_resolved-empty f; each = deeply_resolved-more f; row = IsRow-deeply_resolved f; long = row_length-deeply_resolved f }
 
 -- .. of the parts that are entered, and of what was made for a row
-pub steps_entering : (g : Tree → Tree) → IsOnRows g → (v : Variance) (ws : List Variance) (q : Bool) (ts : Tree) (xs : List Step) → IsRow ts → steps_of g (entering v ws q ts xs) ≡ entering v ws q (g ts) (steps_of g xs)
+pub steps_entering : (g : Tree → Tree) → IsOnRows g → (v : Variance) (ws : List Variance) (q : Bool) (ts : Tree) (xs : List WalkStep) → IsRow ts → steps_of g (entering v ws q ts xs) ≡ entering v ws q (g ts) (steps_of g xs)
 steps_entering g o v ws q empty xs r = (let e = o.none in rw e refl)
 steps_entering g o v ws q (more t ts) xs r =
     let e = o.each t ts in
@@ -72,7 +72,7 @@ map_pushed g o (more a b) ss r = (let e = o.each a b in rw e (map_pushed g o b (
 map_pushed g o (node l c) ss r = absurd r
 
 -- the whole: its parts are entered, and it is built
-pub steps_node : (g : Tree → Tree) → IsOnRows g → (F : Form) (v : Variance) (ws : List Variance) (q : Bool) (ts : Tree) (xs : List Step) → IsRow ts
+pub steps_node : (g : Tree → Tree) → IsOnRows g → (F : Form) (v : Variance) (ws : List Variance) (q : Bool) (ts : Tree) (xs : List WalkStep) → IsRow ts
     → steps_of g (entering v ws q ts (build F (row_length ts) ∷ xs)) ≡ entering v ws q (g ts) (build F (row_length (g ts)) ∷ steps_of g xs)
 steps_node g o F v ws q ts xs r =
     steps_entering g o v ws q ts (build F (row_length ts) ∷ xs) r ∙ ap (λ n. entering v ws q (g ts) (build F n ∷ steps_of g xs)) (sym (o.long ts r))
@@ -184,7 +184,7 @@ module _ (declared : ℕ → List Variance) {Same : Tree → Type 0} {Holds : Co
     related_closed (aliases {a = a} {b = b} is p q g) c = ((λ h. IsClosed-under c b q), (λ h. IsClosed-under c a p))
     related_closed (subtypes {a = a} {b = b} e n i j p q g) c = ((λ h. IsClosed-under c b q), (λ h. IsClosed-under c a p))
 
-    pub related_rows_closed : {v : Variance} {ws : List Variance} {ts us : Tree} → AreRelated declared Same Holds Proved v ws ts us → (c : ℕ) → (IsClosedUnder c ts → IsClosedUnder c us) × (IsClosedUnder c us → IsClosedUnder c ts)
+    pub related_rows_closed : {v : Variance} {ws : List Variance} {ts us : Tree} → AreRelatedByArgument declared Same Holds Proved v ws ts us → (c : ℕ) → (IsClosedUnder c ts → IsClosedUnder c us) × (IsClosedUnder c us → IsClosedUnder c ts)
     related_rows_closed no_more c = ((λ h. h), (λ h. h))
     related_rows_closed (and_more r rs) c = let first = related_closed r c in let rest = related_rows_closed rs c in ((λ h. (first.0 h.0, rest.0 h.1)), (λ h. (first.1 h.0, rest.1 h.1)))
 
@@ -209,7 +209,7 @@ times_opposite variance.Contravariant variance.Contravariant = refl
 
 module _ (declared : ℕ → List Variance) (f : Content) (ks : List Tree) where
   abbrev RelatedRows : Variance → List Variance → Tree → Tree → Type 0
-  RelatedRows = AreRelated declared (λ t. Unit {0}) (λ x. HoldsConstraint f (recorded_as x)) (Among ks)
+  RelatedRows = AreRelatedByArgument declared (λ t. Unit {0}) (λ x. HoldsConstraint f (recorded_as x)) (Among ks)
 
   -- what stands for the parts, left or right
   left_rows : (v : Variance) (ws : List Variance) (ts rs : Tree) → MadeForRow (StandsBy false declared f ks) (OwedBy false declared f ks) v ws false ts rs → RelatedRows v ws rs ts
@@ -287,7 +287,7 @@ module _ (J : Judging) (law : IsLawfulJudging J) (u : ℕ) (whole : Tree) where
       }
 
 -- the measure: parts that are entered weigh less than their node, and a value less than its variable
-pub weights_entering : (c : Content) (v : Variance) (ws : List Variance) (q : Bool) (ts : Tree) (xs : List Step) → IsRow ts → weights c (entering v ws q ts xs) ≤ 6 * size (resolved c ts) + weights c xs
+pub weights_entering : (c : Content) (v : Variance) (ws : List Variance) (q : Bool) (ts : Tree) (xs : List WalkStep) → IsRow ts → step_weights c (entering v ws q ts xs) ≤ 6 * size (resolved c ts) + step_weights c xs
 weights_entering c v ws q empty xs r = omega arith
 weights_entering c v ws q (more t ts) xs r =
     let rest = weights_entering c v (rest_variances ws) q ts xs r in
@@ -319,32 +319,32 @@ size_over c (an_alias (alias_of.Const i)) ts =
     let a : size (resolved c (over (an_alias (alias_of.Const i)) ts)) ≡ size (resolved c (arguments ts)) + 1 = ap size (resolved-node c (label.Const (konst.Unevaluated i)) (arguments ts) refl) in
     omega (arith, a, arguments_size c ts)
 
-pub weights_node : (c : Content) (v : Variance) (ws : List Variance) (q : Bool) (F : Form) (ts : Tree) (n : ℕ) (xs : List Step) → IsRow ts → weights c (entering v ws q ts (build F n ∷ xs)) < weights c (enter v q (over F ts) ∷ xs)
+pub weights_node : (c : Content) (v : Variance) (ws : List Variance) (q : Bool) (F : Form) (ts : Tree) (n : ℕ) (xs : List WalkStep) → IsRow ts → step_weights c (entering v ws q ts (build F n ∷ xs)) < step_weights c (enter v q (over F ts) ∷ xs)
 weights_node c v ws q F ts n xs r = omega (arith, weights_entering c v ws q ts (build F n ∷ xs) r, size_over c F ts)
 
-pub weights_value : (c : Content) (v : Variance) (t value : Tree) (xs : List Step) → variable_rank value < variable_rank t → resolved c t ≡ resolved c value → weights c (enter v true value ∷ owe v t ∷ xs) < weights c (enter v false t ∷ xs)
+pub weights_value : (c : Content) (v : Variance) (t value : Tree) (xs : List WalkStep) → variable_rank value < variable_rank t → resolved c t ≡ resolved c value → step_weights c (enter v true value ∷ owe v t ∷ xs) < step_weights c (enter v false t ∷ xs)
 weights_value c v t value xs lower same = omega (arith, lower, ap size same)
 
-pub weights_value_on : (c : Content) (v : Variance) (q : Bool) (t value : Tree) (xs : List Step) → variable_rank value < variable_rank t → resolved c t ≡ resolved c value → weights c (enter v q value ∷ xs) < weights c (enter v q t ∷ xs)
+pub weights_value_on : (c : Content) (v : Variance) (q : Bool) (t value : Tree) (xs : List WalkStep) → variable_rank value < variable_rank t → resolved c t ≡ resolved c value → step_weights c (enter v q value ∷ xs) < step_weights c (enter v q t ∷ xs)
 weights_value_on c v q t value xs lower same = omega (arith, lower, ap size same)
 
-pub weights_built : (c : Content) (F : Form) (n : ℕ) (xs : List Step) → weights c xs < weights c (build F n ∷ xs)
+pub weights_built : (c : Content) (F : Form) (n : ℕ) (xs : List WalkStep) → step_weights c xs < step_weights c (build F n ∷ xs)
 weights_built c F n xs = omega arith
 
-pub weights_owed : (c : Content) (v : Variance) (t : Tree) (xs : List Step) → weights c xs < weights c (owe v t ∷ xs)
+pub weights_owed : (c : Content) (v : Variance) (t : Tree) (xs : List WalkStep) → step_weights c xs < step_weights c (owe v t ∷ xs)
 weights_owed c v t xs = omega arith
 
-pub weights_made : (c : Content) (v : Variance) (q : Bool) (t : Tree) (xs : List Step) → weights c xs < weights c (enter v q t ∷ xs)
+pub weights_made : (c : Content) (v : Variance) (q : Bool) (t : Tree) (xs : List WalkStep) → step_weights c xs < step_weights c (enter v q t ∷ xs)
 weights_made c v q t xs = omega arith
 
 -- .. which a later table keeps, if it knows no more of the trees
-pub weights_later : (c d : Content) (xs : List Step) → ((a : Tree) → Knows c a → resolved d a ≡ resolved c a) → KnowsSteps c xs → weights d xs ≡ weights c xs
+pub weights_later : (c d : Content) (xs : List WalkStep) → ((a : Tree) → Knows c a → resolved d a ≡ resolved c a) → KnowsSteps c xs → step_weights d xs ≡ step_weights c xs
 weights_later c d [] h k = refl
 weights_later c d (enter v q t ∷ xs) h k = (let rest = weights_later c d xs h k.1 in let here = h t k.0 in omega (arith, rest, ap size here))
 weights_later c d (build F n ∷ xs) h k = (let rest = weights_later c d xs h k.1 in omega (arith, rest))
 weights_later c d (owe v t ∷ xs) h k = (let rest = weights_later c d xs h k.1 in omega (arith, rest))
 
-pub builds_entering : (v : Variance) (ws : List Variance) (q : Bool) (ts : Tree) (xs : List Step) → builds (entering v ws q ts xs) ≡ builds xs
+pub builds_entering : (v : Variance) (ws : List Variance) (q : Bool) (ts : Tree) (xs : List WalkStep) → builds (entering v ws q ts xs) ≡ builds xs
 builds_entering v ws q empty xs = refl
 builds_entering v ws q (more t ts) xs = builds_entering v (rest_variances ws) q ts xs
 builds_entering v ws q (node l x) xs = refl
@@ -355,7 +355,7 @@ kinds_on empty ks = ks
 kinds_on (more t ts) ks = kinds_on ts (kind_of t ∷ ks)
 kinds_on (node l c) ks = ks
 
-ends_entering : (v : Variance) (ws : List Variance) (q : Bool) (ts : Tree) (xs : List Step) (ks : List (Option NodeKind)) → EndsAlone xs (kinds_on ts ks) → EndsAlone (entering v ws q ts xs) ks
+ends_entering : (v : Variance) (ws : List Variance) (q : Bool) (ts : Tree) (xs : List WalkStep) (ks : List (Option NodeKind)) → EndsAlone xs (kinds_on ts ks) → EndsAlone (entering v ws q ts xs) ks
 ends_entering v ws q empty xs ks h = h
 ends_entering v ws q (more t ts) xs ks h = ends_entering v (rest_variances ws) q ts xs (kind_of t ∷ ks) h
 ends_entering v ws q (node l c) xs ks h = h
@@ -415,23 +415,23 @@ kind_of_over (a_value b) ts = refl
 kind_of_over (an_alias (alias_of.Ty i)) ts = refl
 kind_of_over (an_alias (alias_of.Const i)) ts = refl
 
-pub ends_node : (v : Variance) (ws : List Variance) (q : Bool) (F : Form) (ts : Tree) (xs : List Step) (ks : List (Option NodeKind)) → IsFormed (over F ts) → IsRow ts → EndsAlone (enter v q (over F ts) ∷ xs) ks
+pub ends_node : (v : Variance) (ws : List Variance) (q : Bool) (F : Form) (ts : Tree) (xs : List WalkStep) (ks : List (Option NodeKind)) → IsFormed (over F ts) → IsRow ts → EndsAlone (enter v q (over F ts) ∷ xs) ks
     → EndsAlone (entering v ws q ts (build F (row_length ts) ∷ xs)) ks
 ends_node v ws q F ts xs ks f r h =
     let left = left_on ts ks r in
     let kind = kind_of_over F ts in
     ends_entering v ws q ts (build F (row_length ts) ∷ xs) ks (fit_on F ts ks (parts_place F ts f), rw (left, ← kind) h)
 
-pub ends_made : (v : Variance) (q : Bool) (t r : Tree) (xs : List Step) (ks : List (Option NodeKind)) → kind_of r ≡ kind_of t → EndsAlone (enter v q t ∷ xs) ks → EndsAlone xs (kind_of r ∷ ks)
+pub ends_made : (v : Variance) (q : Bool) (t r : Tree) (xs : List WalkStep) (ks : List (Option NodeKind)) → kind_of r ≡ kind_of t → EndsAlone (enter v q t ∷ xs) ks → EndsAlone xs (kind_of r ∷ ks)
 ends_made v q t r xs ks e h = rw e h
 
-pub ends_built : (F : Form) (n : ℕ) (rs : Tree) (xs : List Step) (ks : List (Option NodeKind)) → EndsAlone (build F n ∷ xs) ks → EndsAlone xs (kind_of (over F rs) ∷ kinds_left n ks)
+pub ends_built : (F : Form) (n : ℕ) (rs : Tree) (xs : List WalkStep) (ks : List (Option NodeKind)) → EndsAlone (build F n ∷ xs) ks → EndsAlone xs (kind_of (over F rs) ∷ kinds_left n ks)
 ends_built F n rs xs ks h = (let e = kind_of_over F rs in rw e h.1)
 
-pub ends_value : (v : Variance) (t value : Tree) (xs : List Step) (ks : List (Option NodeKind)) → kind_of value ≡ kind_of t → EndsAlone (enter v false t ∷ xs) ks → EndsAlone (enter v true value ∷ owe v t ∷ xs) ks
+pub ends_value : (v : Variance) (t value : Tree) (xs : List WalkStep) (ks : List (Option NodeKind)) → kind_of value ≡ kind_of t → EndsAlone (enter v false t ∷ xs) ks → EndsAlone (enter v true value ∷ owe v t ∷ xs) ks
 ends_value v t value xs ks e h = rw e (omega arith, h)
 
-pub ends_value_on : (v : Variance) (q : Bool) (t value : Tree) (xs : List Step) (ks : List (Option NodeKind)) → kind_of value ≡ kind_of t → EndsAlone (enter v q t ∷ xs) ks → EndsAlone (enter v q value ∷ xs) ks
+pub ends_value_on : (v : Variance) (q : Bool) (t value : Tree) (xs : List WalkStep) (ks : List (Option NodeKind)) → kind_of value ≡ kind_of t → EndsAlone (enter v q t ∷ xs) ks → EndsAlone (enter v q value ∷ xs) ks
 ends_value_on v q t value xs ks e h = rw e h
 
 -- sizes: what was made, and a node for each that is to be built, are no larger than the whole
@@ -447,7 +447,7 @@ popped_sizes zero ss r = omega arith
 popped_sizes (suc n) [] r = omega arith
 popped_sizes (suc n) (s ∷ ss) r = omega (arith, popped_sizes n ss (more s r))
 
-pub size_run : {P : Variance → Bool → Tree → Tree → Type 0} {Q : Variance → Tree → Tree → Type 0} {xs : List Step} {ss : List Tree} {e : Tree} → Runs P Q xs ss e → sizes ss + builds xs ≤ size e
+pub size_run : {P : Variance → Bool → Tree → Tree → Type 0} {Q : Variance → Tree → Tree → Type 0} {xs : List WalkStep} {ss : List Tree} {e : Tree} → StepsLead P Q xs ss e → sizes ss + builds xs ≤ size e
 size_run ended = omega arith
 size_run (entered {s = s} p h) = omega (arith, size_run h)
 size_run (built {F = F} {n = n} {ss = ss} l h) = omega (arith, size_run h, size_form F (popped n ss empty), popped_sizes n ss empty)
@@ -477,7 +477,7 @@ settles_sides true J law w v r t h = settles_turned J law v (inst w r) (inst w t
 
 module _ (declared : ℕ → List Variance) (z : Bool) (u : ℕ) where
   -- a node gives way to its parts
-  pub walk_node : (c : Content) (v : Variance) (q : Bool) (F : Form) (ts : Tree) (xs : List Step) (ss : List Tree) (gs : List Relating) → IsSound c → Knows c (over F ts) → IsFormed (over F ts) → IsRow ts → FitsForm F ts
+  pub walk_node : (c : Content) (v : Variance) (q : Bool) (F : Form) (ts : Tree) (xs : List WalkStep) (ss : List Tree) (gs : List Relating) → IsSound c → Knows c (over F ts) → IsFormed (over F ts) → IsRow ts → FitsForm F ts
       → Walks declared z u c c (enter v q (over F ts) ∷ xs) (entering v (variances_over declared F ts) q ts (build F (row_length ts) ∷ xs)) ss ss gs gs
   walk_node c v q F ts xs ss gs sound known formed row fits =
       let ws = variances_over declared F ts in
@@ -499,7 +499,7 @@ module _ (declared : ℕ → List Variance) (z : Bool) (u : ℕ) where
             let row' = IsRow-deeply_resolved f ts row in
             let fits' = FitsForm-deeply_resolved f F ts s (Knows-kept c f ts keeps inner) inner_formed fits in
             let there = steps_node g (resolved_rows f) F v ws q ts xs row in
-            let m = parts_made P Q F v ws q (g ts) (steps_of g xs) (map g ss) e row' (subst (λ ys. Runs P Q ys (map g ss) e) there h) in
+            let m = parts_made P Q F v ws q (g ts) (steps_of g xs) (map g ss) e row' (subst (λ ys. StepsLead P Q ys (map g ss) e) there h) in
             let vary : ws ≡ variances_over declared F (g ts) = sym (variances_over_resolved declared f F ts row) in
             let own = stands_over declared f ks z v q F (g ts) m.made row' fits' (subst (λ vs. MadeForRow P Q v vs q (g ts) m.made) vary m.fits) in
             let whole : P v q (g (over F ts)) (over F m.made) = subst (λ t. P v q t (over F m.made)) (sym (deeply_resolved-over f F ts fits)) own in
@@ -515,17 +515,17 @@ module _ (declared : ℕ → List Variance) (z : Bool) (u : ℕ) where
             let here : P v q (over F (g ts)) x.made = subst (λ t. P v q t x.made) (inst-over w F ts fits) x.fits in
             let m = choice_over J j.lawful u whole v q F (g ts) x.made row' (FitsForm-inst c w F ts h inner inner_formed fits) here in
             let parts : MadeForRow P Q v ws q (g ts) m.parts = subst (λ vs. MadeForRow P Q v vs q (g ts) m.parts) (variances_over_inst declared w F ts row) m.fits in
-            let on : Runs P Q (steps_of g xs) (over F m.parts ∷ map g ss) whole = subst (λ t. Runs P Q (steps_of g xs) (t ∷ map g ss) whole) m.is x.runs in
+            let on : StepsLead P Q (steps_of g xs) (over F m.parts ∷ map g ss) whole = subst (λ t. StepsLead P Q (steps_of g xs) (t ∷ map g ss) whole) m.is x.runs in
             let all = parts_entered P Q F v ws q (g ts) m.parts (steps_of g xs) (map g ss) whole parts on in
             record {
               extension = record { world = w; agrees = Agrees-refl (length c.slots) w; solves = h; settled = settled; names = λ f k n. k };
-              runs = subst (λ ys. Runs P Q ys (map g ss) whole) (sym (steps_node g (inst_rows w) F v ws q ts xs row)) all;
+              runs = subst (λ ys. StepsLead P Q ys (map g ss) whole) (sym (steps_node g (inst_rows w) F v ws q ts xs row)) all;
               goals = goals;
             });
       }
 
   -- a node is built
-  pub walk_built : (c : Content) (F : Form) (rs : Tree) (n : ℕ) (xs : List Step) (ss : List Tree) (gs : List Relating) → IsSound c → IsRow rs → n ≡ row_length rs → HasSorts F
+  pub walk_built : (c : Content) (F : Form) (rs : Tree) (n : ℕ) (xs : List WalkStep) (ss : List Tree) (gs : List Relating) → IsSound c → IsRow rs → n ≡ row_length rs → HasSorts F
       → Walks declared z u c c (build F n ∷ xs) xs (pushed rs ss) (over F rs ∷ ss) gs gs
   walk_built c F rs n xs ss gs sound row same sorts =
       record {
@@ -537,26 +537,26 @@ module _ (declared : ℕ → List Variance) (z : Bool) (u : ℕ) where
             (let g = deeply_resolved f in
             let P = StandsBy z declared f ks in
             let Q = OwedBy z declared f ks in
-            let one : Runs P Q (steps_of g xs) (over F (g rs) ∷ map g ss) e = subst (λ t. Runs P Q (steps_of g xs) (t ∷ map g ss) e) (resolved_built f F rs sorts) h in
+            let one : StepsLead P Q (steps_of g xs) (over F (g rs) ∷ map g ss) e = subst (λ t. StepsLead P Q (steps_of g xs) (t ∷ map g ss) e) (resolved_built f F rs sorts) h in
             let two = built_over P Q F (g rs) n (steps_of g xs) (map g ss) e (IsRow-deeply_resolved f rs row) (same ∙ sym (row_length-deeply_resolved f rs row)) one in
-            subst (λ ts. Runs P Q (build F n ∷ steps_of g xs) ts e) (sym (map_pushed g (resolved_rows f) rs ss row)) two);
+            subst (λ ts. StepsLead P Q (build F n ∷ steps_of g xs) ts e) (sym (map_pushed g (resolved_rows f) rs ss row)) two);
         back = λ w h. h;
         complete = λ j w h judged settled goals whole named runs.
             (let J = judging_of declared j in
             let g = inst w in
             let P = IsChoice J u whole in
             let Q = SettlesOwed J in
-            let one : Runs P Q (build F n ∷ steps_of g xs) (pushed (g rs) (map g ss)) whole = subst (λ ts. Runs P Q (build F n ∷ steps_of g xs) ts whole) (map_pushed g (inst_rows w) rs ss row) runs in
+            let one : StepsLead P Q (build F n ∷ steps_of g xs) (pushed (g rs) (map g ss)) whole = subst (λ ts. StepsLead P Q (build F n ∷ steps_of g xs) ts whole) (map_pushed g (inst_rows w) rs ss row) runs in
             let two = unbuilt P Q F (g rs) n (steps_of g xs) (map g ss) whole (IsRow-inst w rs row) (same ∙ sym (row_length-inst w rs row)) one in
             record {
               extension = record { world = w; agrees = Agrees-refl (length c.slots) w; solves = h; settled = settled; names = λ f k n. k };
-              runs = subst (λ t. Runs P Q (steps_of g xs) (t ∷ map g ss) whole) (sym (inst_built w F rs sorts)) two;
+              runs = subst (λ t. StepsLead P Q (steps_of g xs) (t ∷ map g ss) whole) (sym (inst_built w F rs sorts)) two;
               goals = goals;
             });
       }
 
   -- a variable gives way to its value, and is owed what was made for that
-  pub walk_value : (c : Content) (v : Variance) (t value : Tree) (xs : List Step) (ss : List Tree) (gs : List Relating) → IsSound c → IsInfer t → IsClosed value → kind_of value ≡ kind_of t → ((w : World) → Solves c w → inst w t ≡ inst w value)
+  pub walk_value : (c : Content) (v : Variance) (t value : Tree) (xs : List WalkStep) (ss : List Tree) (gs : List Relating) → IsSound c → IsInfer t → IsClosed value → kind_of value ≡ kind_of t → ((w : World) → Solves c w → inst w t ≡ inst w value)
       → Walks declared z u c c (enter v false t ∷ xs) (enter v true value ∷ owe v t ∷ xs) ss ss gs gs
   walk_value c v t value xs ss gs sound infer closed kinds is =
       record {
@@ -588,7 +588,7 @@ module _ (declared : ℕ → List Variance) (z : Bool) (u : ℕ) where
       }
 
   -- .. or gives way to its value alone, of which the same is said
-  pub walk_value_on : (c : Content) (v : Variance) (q : Bool) (t value : Tree) (xs : List Step) (ss : List Tree) (gs : List Relating) → IsSound c → Knows c t → Knows c value → IsInfer t → IsClosed value → kind_of value ≡ kind_of t → resolved c t ≡ resolved c value
+  pub walk_value_on : (c : Content) (v : Variance) (q : Bool) (t value : Tree) (xs : List WalkStep) (ss : List Tree) (gs : List Relating) → IsSound c → Knows c t → Knows c value → IsInfer t → IsClosed value → kind_of value ≡ kind_of t → resolved c t ≡ resolved c value
       → ((w : World) → Solves c w → inst w t ≡ inst w value) → Walks declared z u c c (enter v q t ∷ xs) (enter v q value ∷ xs) ss ss gs gs
   walk_value_on c v q t value xs ss gs sound known known_value infer closed kinds same is =
       record {
@@ -616,7 +616,7 @@ module _ (declared : ℕ → List Variance) (z : Bool) (u : ℕ) where
       }
 
   -- what is owed is left as a goal
-  pub walk_owed : (c : Content) (v : Variance) (t r : Tree) (xs : List Step) (ss : List Tree) (gs : List Relating) → IsSound c
+  pub walk_owed : (c : Content) (v : Variance) (t r : Tree) (xs : List WalkStep) (ss : List Tree) (gs : List Relating) → IsSound c
       → Walks declared z u c c (owe v t ∷ xs) xs (r ∷ ss) (r ∷ ss) gs (gs ++ sides z v r t ∷ [])
   walk_owed c v t r xs ss gs sound =
       record {

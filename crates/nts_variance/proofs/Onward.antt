@@ -8,7 +8,7 @@ use Rattle.nts_unify.specs.Reading.{content_of}
 use Rattle.nts_variance.specs.declared.along.Relating.{Relating}
 use Rattle.nts_variance.specs.Terms.{pair_at}
 use Rattle.nts_variance.specs.Pairs.{Refuses}
-use Rattle.nts_variance.specs.Equating.{AreInvariant, IsReady, IsOn, AreRefused, IsEqualStep, AreEquating, IsEqualRun}
+use Rattle.nts_variance.specs.Equating.{AreInvariant, ArePairsReady, IsOn, AreRefused, IsEqualStep, AreEquating, IsEqualRun}
 use Rattle.nts_variance.proofs.Calls.{call_refuses}
 
 pub invariant_front : (ps : List Relating) (q : Relating) → AreInvariant (ps ++ q ∷ []) → AreInvariant ps × (q.variance ≡ variance.Invariant)
@@ -20,7 +20,7 @@ module _ (declared : ℕ → List Variance) where
   on_trans ts us ws e f g xs ys zs ms ns os gs hs is a b =
       record { ready = b.ready; call = λ start first p es u. b.call start first p es (a.call start first p es u) }
 
-  pub equating_start : (ts : List Tree) (e : Entries) (xs ms gs : List Relating) → IsReady ts e xs → AreInvariant xs → AreEquating declared ts ts e e xs xs ms ms gs gs
+  pub equating_start : (ts : List Tree) (e : Entries) (xs ms gs : List Relating) → ArePairsReady ts e xs → AreInvariant xs → AreEquating declared ts ts e e xs xs ms ms gs gs
   equating_start ts e xs ms gs ready invariant =
       record {
         on = record { ready = ready; call = λ start first p es u. u };

@@ -13,9 +13,9 @@ use Rattle.nts_store.specs.Growth.{tree_at, IsIn}
 use Rattle.nts_relating.specs.Knowing.{row_from}
 use Rattle.nts_relating.proofs.Looking.{row_from-end, row_from-step}
 use Rattle.nts_variance.specs.declared.along.Relating.{Relating}
-use Rattle.nts_variance.specs.Parts.{form_of, parts_of, variances_from}
+use Rattle.nts_variance.specs.Parts.{form_of_tree, parts_of, variances_from}
 use Rattle.nts_variance.specs.Varying.{IsMadeAgain}
-use Rattle.nts_variance.specs.Taking.{IsSide, IsPair, ArePairsLeft}
+use Rattle.nts_variance.specs.Taking.{IsPairSide, IsPair, ArePairsLeft}
 use Rattle.nts_variance.proofs.Nodes.{parts_known, parts_place}
 use Rattle.nts_variance.proofs.Pushing.{rest_from, part_sorted}
 
@@ -33,10 +33,10 @@ pairs_one v w ws ts us t u xs ys i k e less short it iu vary rest =
     rw (a, b, it, iu, vary, on) refl
 
 -- the part at a place is a side
-pub part_side : (ts : List Tree) (c : Content) (t a : NodeId) (i : ℕ) → IsMadeAgain (tree_at ts t) → i < row_length (parts_of (tree_at ts t)) → Knows c (tree_at ts t) → IsIn ts a → tree_at ts a ≡ row_at (parts_of (tree_at ts t)) i → IsSide ts c a
+pub part_side : (ts : List Tree) (c : Content) (t a : NodeId) (i : ℕ) → IsMadeAgain (tree_at ts t) → i < row_length (parts_of (tree_at ts t)) → Knows c (tree_at ts t) → IsIn ts a → tree_at ts a ≡ row_at (parts_of (tree_at ts t)) i → IsPairSide ts c a
 part_side ts c t a i again less known within at =
     let whole = again.with_parts in
-    let F = form_of (tree_at ts t) in
+    let F = form_of_tree (tree_at ts t) in
     let parts = parts_of (tree_at ts t) in
     let formed : IsFormed (over F parts) = subst IsFormed whole.is again.formed in
     let sorted = part_sorted F parts i (parts_place F parts formed) less in

@@ -15,7 +15,7 @@ use Rattle.nts_model.specs.Tables.Tying.{TiesNew}
 use Rattle.nts_model.specs.Derivations.Related.{region_constraint}
 use Rattle.nts_model.specs.Variances.RelatingBy.{IsTrueIn}
 use Rattle.nts_model.specs.Variances.Judging.{Judging, IsSettled, Settles, IsLawfulJudging, opposite}
-use Rattle.nts_model.specs.Variances.Relations.{Relating, SettlesIn, AllSettleIn, AllKnown, IsSettledWorld, SettledExtension, RefusesBy}
+use Rattle.nts_model.specs.Variances.Relations.{Relating, SettlesIn, AllSettleIn, ArePairsKnown, IsSettledWorld, SettledExtension, RefusesBy}
 use Rattle.nts_model.specs.Variances.Leaving.{Judge, judging_of, LeavesBy}
 use Rattle.nts_model.proofs.Tables.Slots.{field_below}
 use Rattle.nts_model.proofs.Tables.Instances.{Agrees-refl, Agrees-trans}
@@ -23,7 +23,7 @@ use Rattle.nts_model.proofs.Variances.Alongside.{opposite_twice}
 use Rattle.nts_model.proofs.Variances.SettleRows.{settles_turned}
 use Rattle.nts_model.proofs.Variances.Generalizing.{settle_agrees, settle_joined, settle_parted}
 use Rattle.nts_model.proofs.Variances.Tied.{settled_tied}
-use Rattle.nts_variance.specs.Steps.{Step, enter, Runs, ended, entered, built, owed}
+use Rattle.nts_variance.specs.Steps.{WalkStep, enter, StepsLead, ended, entered, built, owed}
 use Rattle.nts_variance.specs.Walking.{Judges, IsChoice, sides, Walks}
 use Rattle.nts_variance.specs.Pairs.{Leaves, Refuses}
 use Rattle.nts_variance.proofs.Turns.{judges_agree}
@@ -74,7 +74,7 @@ module _ (declared : ℕ → List Variance) where
       }
 
   -- two steps: the goals of the first are goals still
-  pub Leaves-then : (c d f : Content) (ps qs rs gs hs : List Relating) → AllKnown d gs → Leaves declared c d ps qs gs → Leaves declared d f qs rs hs → Leaves declared c f ps rs (gs ++ hs)
+  pub Leaves-then : (c d f : Content) (ps qs rs gs hs : List Relating) → ArePairsKnown d gs → Leaves declared c d ps qs gs → Leaves declared d f qs rs hs → Leaves declared c f ps rs (gs ++ hs)
   Leaves-then c d f ps qs rs gs hs known a b =
       record {
         more = (let p = a.more in let q = b.more in omega (arith, p, q));
@@ -92,7 +92,7 @@ module _ (declared : ℕ → List Variance) where
       }
 
   -- a step on the first pairs beside the others
-  pub Leaves-beside : (c d : Content) (ps qs rest gs : List Relating) → AllKnown c rest → Leaves declared c d ps qs gs → Leaves declared c d (ps ++ rest) (qs ++ rest) gs
+  pub Leaves-beside : (c d : Content) (ps qs rest gs : List Relating) → ArePairsKnown c rest → Leaves declared c d ps qs gs → Leaves declared c d (ps ++ rest) (qs ++ rest) gs
   Leaves-beside c d ps qs rest gs known a =
       record {
         more = a.more;
@@ -129,7 +129,7 @@ module _ (declared : ℕ → List Variance) where
       record { none = λ j w s judges settled h. (let parts = settle_parted (judging_of declared j) j.lawful w ps rest h in r.none j w s judges settled parts.0) }
 
 -- no steps lead to the one tree that was made
-pub ended_at : {P : Variance → Bool → Tree → Tree → Type 0} {Q : Variance → Tree → Tree → Type 0} {xs : List Step} {ss : List Tree} {e : Tree} (r : Tree) → xs ≡ [] → ss ≡ r ∷ [] → Runs P Q xs ss e → r ≡ e
+pub ended_at : {P : Variance → Bool → Tree → Tree → Type 0} {Q : Variance → Tree → Tree → Type 0} {xs : List WalkStep} {ss : List Tree} {e : Tree} (r : Tree) → xs ≡ [] → ss ≡ r ∷ [] → StepsLead P Q xs ss e → r ≡ e
 ended_at r i k ended = cc
 ended_at r i k (entered p h) = cc
 ended_at r i k (built l h) = cc
@@ -165,7 +165,7 @@ module _ (declared : ℕ → List Variance) (z : Bool) (u : ℕ) where
 
   -- a variable that was made one with the tree that stands for a term
   pub walk_leaves : (c d e : Content) (x : ℕ) (k : VariableKind) (v : Variance) (t r : Tree) (new : List Relating) → Walks declared z u c d (enter v false t ∷ []) [] [] (r ∷ []) [] new → universe_of c x ≡ Some u → kind_at c x ≡ Some k
-      → IsSound e → AreRelated d e (variable_tree k x) r → TiesNew d e → AllKnown d new → Leaves declared c e (sides z v (variable_tree k x) t ∷ []) [] new
+      → IsSound e → AreRelated d e (variable_tree k x) r → TiesNew d e → ArePairsKnown d new → Leaves declared c e (sides z v (variable_tree k x) t ∷ []) [] new
   walk_leaves c d e x k v t r new walk universe kind sound made ties known =
       let first : length c.slots ≤ length d.slots = walk.later.more in
       let second : length d.slots ≤ length e.slots = made.continues.more in

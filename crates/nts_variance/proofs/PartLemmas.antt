@@ -7,7 +7,7 @@ use Rattle.nts_model.specs.declared.labels.Label.{Label}
 use Rattle.nts_model.specs.declared.labels.Label.TheVariants as label
 use Rattle.nts_model.specs.Terms.Trees.{Tree, empty, more, node, kind_of, kind_of_label, arguments as argument_list, sort_list, is, Place, any_argument, a_type, HavePlaces, AllFit, row_length, IsRow, IsFormed}
 use Rattle.nts_model.specs.Variances.Forms.{Form, a_constructor, a_function, a_value, an_alias}
-use Rattle.nts_variance.specs.Parts.{has_parts, form_of, parts_of, IsNodeWithParts}
+use Rattle.nts_variance.specs.Parts.{has_parts, form_of_tree, parts_of, IsNodeWithParts}
 
 -- a list of arguments, and of sorts
 record ListOf (l : Label) (a : Tree) : Type 0 where
@@ -89,7 +89,7 @@ FitsButOpen (an_alias h) ts = Unit {0}
 pub record IsOverParts (t : Tree) : Type 0 where
   pub with_parts : IsNodeWithParts t
   pub formed : IsFormed (parts_of t)
-  pub fits : FitsButOpen (form_of t) (parts_of t)
+  pub fits : FitsButOpen (form_of_tree t) (parts_of t)
 
 pub over_parts : (l : Label) (c : Tree) → IsFormed (node l c) → has_parts l ≡ true → IsOverParts (node l c)
 over_parts (label.Ty (ty.Ctor i)) c f h =

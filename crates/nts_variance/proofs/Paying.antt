@@ -14,7 +14,7 @@ use Rattle.nts_store.specs.declared.nodes.NodeId.{NodeId}
 use Rattle.nts_store.specs.Growth.{tree_at}
 use Rattle.nts_unify.specs.Entries.{Entries}
 use Rattle.nts_unify.specs.Reading.{content_of}
-use Rattle.nts_unify.specs.Changing.{Keeps, unset_count}
+use Rattle.nts_unify.specs.Changing.{KeepsKnowing, unset_count}
 use Rattle.nts_variance.specs.declared.along.Relating.{Relating as Goal}
 use Rattle.nts_variance.specs.declared.splitting.Taken.{Taken}
 use Rattle.nts_variance.specs.declared.splitting.Taken.TheVariants as taken
@@ -22,7 +22,7 @@ use Rattle.nts_variance.specs.Pairs.{IsBound}
 use Rattle.nts_variance.specs.Taking.{IsPaid}
 use Rattle.nts_variance.specs.Varying.{pair_in}
 
-pub done_paid : {E : Type 0} (r : Result Taken E) (c d : Content) (p : Pair) → OnOk r (Keeps c d) → IfOk r (λ t. t ≡ taken.Done) → IfOk r (IsPaid c d p)
+pub done_paid : {E : Type 0} (r : Result Taken E) (c d : Content) (p : Pair) → OnOk r (KeepsKnowing c d) → IfOk r (λ t. t ≡ taken.Done) → IfOk r (IsPaid c d p)
 done_paid (Ok t) c d p k e = rw e k
 done_paid (Err x) c d p k e = tt
 

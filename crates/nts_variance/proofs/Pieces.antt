@@ -36,7 +36,7 @@ use Rattle.nts_variance.specs.declared.along.Relating.{Relating}
 use Rattle.nts_variance.specs.declared.vary_walk.Task.{Task}
 use Rattle.nts_variance.specs.declared.vary_walk.Task.TheVariants as task
 use Rattle.nts_variance.specs.declared.vary_walk.Spot.{Spot}
-use Rattle.nts_variance.specs.Steps.{enter, steps_of, stacked, builds, Runs, ended}
+use Rattle.nts_variance.specs.Steps.{enter, steps_of, stacked, builds, StepsLead, ended}
 use Rattle.nts_variance.specs.Walking.{Judges, IsMadeFor, MadeIn, NothingOwed, IsChoice, SettlesOwed, IsMade}
 use Rattle.nts_variance.specs.Parts.{StandsAlone}
 use Rattle.nts_variance.specs.Terms.{pairs_at, step_at}
@@ -135,7 +135,7 @@ module _ (declared : ℕ → List Variance) (z : Bool) (u x : ℕ) where
             let g = inst w in
             let P = IsChoice J u whole in
             let Q = SettlesOwed J in
-            let there : Runs P Q (enter s.variance s.is_quiet (g t) ∷ steps_of g rest) (map g (stacked (tree_at ts) ms)) whole = subst (λ ys. Runs P Q (steps_of g ys) (map g (stacked (tree_at ts) ms)) whole) here runs in
+            let there : StepsLead P Q (enter s.variance s.is_quiet (g t) ∷ steps_of g rest) (map g (stacked (tree_at ts) ms)) whole = subst (λ ys. StepsLead P Q (steps_of g ys) (map g (stacked (tree_at ts) ms)) whole) here runs in
             let a = unentered P Q s.variance s.is_quiet (g t) (steps_of g rest) (map g (stacked (tree_at ts) ms)) whole there in
             let choice = a.fits in
             let same : a.made ≡ g t = one_instance declared z u j c w s.variance t a.made solves judges settled part.knows plain alone choice.settled choice.settles in

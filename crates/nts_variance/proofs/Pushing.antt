@@ -32,8 +32,8 @@ use Rattle.nts_variance.proofs.Nodes.{parts_known, parts_place}
 use Rattle.nts_terms.specs.Signatures.{variance_or_invariant}
 use Rattle.nts_relating.specs.Knowing.{row_from}
 use Rattle.nts_relating.proofs.Looking.{row_from-end, row_from-step}
-use Rattle.nts_variance.specs.Steps.{Step, enter, entering, part_place}
-use Rattle.nts_variance.specs.Parts.{has_parts, form_of, parts_of, function_variance, variance_in, variances_from, IsNodeWithParts}
+use Rattle.nts_variance.specs.Steps.{WalkStep, enter, entering, part_place}
+use Rattle.nts_variance.specs.Parts.{has_parts, form_of_tree, parts_of, function_variance, variance_in, variances_from, IsNodeWithParts}
 
 pub rest_from : (i : ℕ) (ws : List Variance) → rest_variances (variances_from i ws) ≡ variances_from (i + 1) ws
 rest_from zero ws = refl
@@ -66,7 +66,7 @@ function_at i (more a (node k c)) h l = absurd h
 
 -- how the part at a place varies
 part_variance : (declared : ℕ → List Variance) (l : Label) (c : Tree) (i : ℕ) → has_parts l ≡ true → IsRow (parts_of (node l c)) → i < row_length (parts_of (node l c))
-    → first_variance (variances_from i (variances_over declared (form_of (node l c)) (parts_of (node l c)))) ≡ variance_in declared l i (row_length (parts_of (node l c)))
+    → first_variance (variances_from i (variances_over declared (form_of_tree (node l c)) (parts_of (node l c)))) ≡ variance_in declared l i (row_length (parts_of (node l c)))
 part_variance declared (label.Ty (ty.Ctor k)) c i p r h = variance_at i (declared k)
 part_variance declared (label.Ty ty.FnPtr) c i p r h = function_at i (parts_of (node (label.Ty ty.FnPtr) c)) r h
 part_variance declared (label.Ty (ty.Alias k)) c i p r h = none_from i
@@ -75,15 +75,15 @@ part_variance declared (label.Const (konst.Value b)) c i p r h = none_from i
 part_variance declared l c i p r h = cc
 
 pub variance_of_place : (declared : ℕ → List Variance) (t : Tree) (l : Label) (c : Tree) (i : ℕ) → t ≡ node l c → has_parts l ≡ true → IsRow (parts_of t) → i < row_length (parts_of t)
-    → first_variance (variances_from i (variances_over declared (form_of t) (parts_of t))) ≡ variance_in declared l i (row_length (parts_of t))
+    → first_variance (variances_from i (variances_over declared (form_of_tree t) (parts_of t))) ≡ variance_in declared l i (row_length (parts_of t))
 variance_of_place declared t l c i e p =
-    subst (λ t. IsRow (parts_of t) → i < row_length (parts_of t) → first_variance (variances_from i (variances_over declared (form_of t) (parts_of t))) ≡ variance_in declared l i (row_length (parts_of t))) (sym e) (part_variance declared l c i p)
+    subst (λ t. IsRow (parts_of t) → i < row_length (parts_of t) → first_variance (variances_from i (variances_over declared (form_of_tree t) (parts_of t))) ≡ variance_in declared l i (row_length (parts_of t))) (sym e) (part_variance declared l c i p)
 
 -- at first no part is left, and the last is the whole
-pub entering_none : (v : Variance) (ws : List Variance) (q : Bool) (ts : Tree) (xs : List Step) (i : ℕ) → IsRow ts → i ≡ row_length ts → entering v (variances_from i ws) q (row_from i ts) xs ≡ xs
+pub entering_none : (v : Variance) (ws : List Variance) (q : Bool) (ts : Tree) (xs : List WalkStep) (i : ℕ) → IsRow ts → i ≡ row_length ts → entering v (variances_from i ws) q (row_from i ts) xs ≡ xs
 entering_none v ws q ts xs i row e = (let none : row_from i ts ≡ empty = ap (λ n. row_from n ts) e ∙ row_from-end ts row in rw none refl)
 
-pub entering_one : (v w : Variance) (ws : List Variance) (q : Bool) (ts t : Tree) (xs ys : List Step) (i k : ℕ) → i ≡ k + 1 → k < row_length ts → t ≡ row_at ts k → w ≡ times v (first_variance (variances_from k ws)) → ys ≡ entering v (variances_from i ws) q (row_from i ts) xs
+pub entering_one : (v w : Variance) (ws : List Variance) (q : Bool) (ts t : Tree) (xs ys : List WalkStep) (i k : ℕ) → i ≡ k + 1 → k < row_length ts → t ≡ row_at ts k → w ≡ times v (first_variance (variances_from k ws)) → ys ≡ entering v (variances_from i ws) q (row_from i ts) xs
     → enter w q t ∷ ys ≡ entering v (variances_from k ws) q (row_from k ts) xs
 entering_one v w ws q ts t xs ys i k e less is vary rest =
     let step : row_from k ts ≡ more (row_at ts k) (row_from (k + 1) ts) = row_from-step ts k less in
@@ -132,7 +132,7 @@ parts_closed n (an_alias (alias_of.Const i)) ts l c e h =
 
 pub part_closed : (n : ℕ) (t : Tree) (l : Label) (c : Tree) (i : ℕ) → IsNodeWithParts t → t ≡ node l c → i < row_length (parts_of t) → IsClosedUnder n t → IsClosedUnder (n + binders l) (row_at (parts_of t) i)
 part_closed n t l c i h e less closed =
-    closed_in_row (n + binders l) (parts_of t) i less (parts_closed n (form_of t) (parts_of t) l c (sym h.is ∙ e) (subst (IsClosedUnder n) h.is closed))
+    closed_in_row (n + binders l) (parts_of t) i less (parts_closed n (form_of_tree t) (parts_of t) l c (sym h.is ∙ e) (subst (IsClosedUnder n) h.is closed))
 
 -- a node over parts has a label with parts, and binds sorts
 pub over_has_parts : (F : Form) (ts : Tree) (l : Label) (c : Tree) → over F ts ≡ node l c → has_parts l ≡ true
@@ -156,7 +156,7 @@ tasks_push ts c (x ∷ xs) y h k = (h.0, tasks_push ts c xs y h.1 k)
 pub part_entered : (ts : List Tree) (c : Content) (t a : NodeId) (l : Label) (i n : ℕ) (s : Spot) → IsMadeAgain (tree_at ts t) → tree_at ts t ≡ node l (children (tree_at ts t)) → i < row_length (parts_of (tree_at ts t)) → IsClosedUnder n (tree_at ts t) → Knows c (tree_at ts t) → IsIn ts a → tree_at ts a ≡ row_at (parts_of (tree_at ts t)) i → s.term ≡ a → s.binders ≡ n + binders l → s.binders + a.number < 2 ^ 64 → IsPart ts c s
 part_entered ts c t a l i n s again is less closed known within at term inner room =
     let whole = again.with_parts in
-    let F = form_of (tree_at ts t) in
+    let F = form_of_tree (tree_at ts t) in
     let parts = parts_of (tree_at ts t) in
     let formed : IsFormed (over F parts) = subst IsFormed whole.is again.formed in
     let sorted = part_sorted F parts i (parts_place F parts formed) less in
@@ -171,9 +171,9 @@ part_entered ts c t a l i n s again is less closed known within at term inner ro
       kind = rw (term, at) sorted.kind;
     }
 
-pub node_with_parts : (t : Tree) (l : Label) → t ≡ node l (children t) → t ≡ over (form_of t) (parts_of t) → IsFormed t → IsNodeWithParts t
+pub node_with_parts : (t : Tree) (l : Label) → t ≡ node l (children t) → t ≡ over (form_of_tree t) (parts_of t) → IsFormed t → IsNodeWithParts t
 node_with_parts t l e o f =
-    let has = over_has_parts (form_of t) (parts_of t) l (children t) (sym o ∙ e) in
+    let has = over_has_parts (form_of_tree t) (parts_of t) l (children t) (sym o ∙ e) in
     let k = over_parts l (children t) (subst IsFormed e f) has in
     subst IsNodeWithParts (sym e) k.with_parts
 

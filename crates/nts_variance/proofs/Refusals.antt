@@ -33,8 +33,8 @@ use Rattle.nts_store.specs.declared.nodes.NodeId.{NodeId}
 use Rattle.nts_store.specs.Growth.{tree_at}
 use Rattle.nts_variance.specs.declared.along.Relating.{Relating as Goal}
 use Rattle.nts_variance.specs.Terms.{pair_at}
-use Rattle.nts_variance.specs.Taking.{AreNoSides, IsSide}
-use Rattle.nts_variance.specs.Parts.{form_of, parts_of}
+use Rattle.nts_variance.specs.Taking.{AreNoSides, IsPairSide}
+use Rattle.nts_variance.specs.Parts.{form_of_tree, parts_of}
 use Rattle.nts_variance.specs.Varying.{pair_in, IsMadeAgain}
 use Rattle.nts_variance.proofs.Bound.{closed_back}
 use Rattle.nts_variance.proofs.Looks.{node_meets}
@@ -140,7 +140,7 @@ module _ (declared : ℕ → List Variance) where
       }
 
   -- .. of which the closed one stands on one side of a pair
-  pub refuses_side : (ts : List Tree) (c : Content) (z : Bool) (v : Variance) (own t : NodeId) (p : Goal) → p ≡ pair_in z v own t → IsSide ts c own → IsSide ts c t → IsFormed (tree_at ts own) → IsFormed (tree_at ts t) → IsClosed (tree_at ts own) → AreNoSides (tree_at ts p.left) (tree_at ts p.right) → Refuses declared c (pair_at ts p ∷ [])
+  pub refuses_side : (ts : List Tree) (c : Content) (z : Bool) (v : Variance) (own t : NodeId) (p : Goal) → p ≡ pair_in z v own t → IsPairSide ts c own → IsPairSide ts c t → IsFormed (tree_at ts own) → IsFormed (tree_at ts t) → IsClosed (tree_at ts own) → AreNoSides (tree_at ts p.left) (tree_at ts p.right) → Refuses declared c (pair_at ts p ∷ [])
   refuses_side ts c false v own t p is so st fo ft closed none = (rw is (refuses_owed c v (tree_at ts own) (tree_at ts t) so.sort st.sort so.knows st.knows fo ft so.kind st.kind (inl closed) (rw is at none)))
   refuses_side ts c true v own t p is so st fo ft closed none = (rw is (refuses_owed c (opposite v) (tree_at ts t) (tree_at ts own) st.sort so.sort st.knows so.knows ft fo st.kind so.kind (inr closed) (rw is at none)))
 
@@ -176,21 +176,21 @@ module _ (declared : ℕ → List Variance) where
           subst (λ x. Refuses declared c (pair_of v a x ∷ [])) (sym ib) (subst (λ x. Refuses declared c (pair_of v x (node m (children b)) ∷ [])) (sym ia) at)
 
   -- two nodes with parts of different forms, and of one form with more parts on one side
-  pub refuses_forms_of : (c : Content) (v : Variance) (a b : Tree) → Knows c a → Knows c b → IsMadeAgain a → IsMadeAgain b → (form_of a ≡ form_of b → ⊥) → Refuses declared c (pair_of v a b ∷ [])
+  pub refuses_forms_of : (c : Content) (v : Variance) (a b : Tree) → Knows c a → Knows c b → IsMadeAgain a → IsMadeAgain b → (form_of_tree a ≡ form_of_tree b → ⊥) → Refuses declared c (pair_of v a b ∷ [])
   refuses_forms_of c v a b ka kb ma mb differ =
       let x = ma.with_parts.is in
       let y = mb.with_parts.is in
-      let F = form_of a in
-      let G = form_of b in
+      let F = form_of_tree a in
+      let G = form_of_tree b in
       let ts = parts_of a in
       let us = parts_of b in
       let at = refuses_by declared c (pair_of v (over F ts) (over G us) ∷ [])
       (λ j. refuses_forms (judging_of declared j) j.lawful c v F G ts us differ ma.fits mb.fits (parts_known c F ts (subst (Knows c) x ka)) (parts_known c G us (subst (Knows c) y kb)) (parts_formed F ts (subst IsFormed x ma.formed)) (parts_formed G us (subst IsFormed y mb.formed))) in
       subst (λ z. Refuses declared c (pair_of v a z ∷ [])) (sym y) (subst (λ z. Refuses declared c (pair_of v z (over G us) ∷ [])) (sym x) at)
 
-  pub refuses_long : (c : Content) (v : Variance) (a b : Tree) → Knows c a → Knows c b → IsMadeAgain a → IsMadeAgain b → form_of a ≡ form_of b → (row_length (parts_of a) ≡ row_length (parts_of b) → ⊥) → Refuses declared c (pair_of v a b ∷ [])
+  pub refuses_long : (c : Content) (v : Variance) (a b : Tree) → Knows c a → Knows c b → IsMadeAgain a → IsMadeAgain b → form_of_tree a ≡ form_of_tree b → (row_length (parts_of a) ≡ row_length (parts_of b) → ⊥) → Refuses declared c (pair_of v a b ∷ [])
   refuses_long c v a b ka kb ma mb form differ =
-      let F = form_of a in
+      let F = form_of_tree a in
       let ts = parts_of a in
       let us = parts_of b in
       let x = ma.with_parts.is in

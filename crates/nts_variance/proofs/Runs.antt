@@ -4,7 +4,7 @@ use Rattle.nts_model.specs.declared.labels.Variance.{Variance}
 use Rattle.nts_model.specs.Terms.Trees.{Tree, empty, more, node, IsRow, row_length}
 use Rattle.nts_model.specs.Derivations.Related.{times, first_variance, rest_variances}
 use Rattle.nts_model.specs.Variances.Forms.{Form, over}
-use Rattle.nts_variance.specs.Steps.{Step, enter, build, owe, stacked, popped, unpopped, entering, Runs, ended, entered, built, owed, MadeForRow}
+use Rattle.nts_variance.specs.Steps.{WalkStep, enter, build, owe, stacked, popped, unpopped, entering, StepsLead, ended, entered, built, owed, MadeForRow}
 
 -- the newest stands first
 pub stacked-push : {A B : Type 0} (f : A → B) (xs : List A) (x : A) → stacked f (xs ++ x ∷ []) ≡ f x ∷ stacked f xs
@@ -76,14 +76,14 @@ module _ (P : Variance → Bool → Tree → Tree → Type 0) (Q : Variance → 
   made_row v ws q (node l c) rs h = absurd h
 
   -- a node built over what was made for its parts
-  pub built_over : (F : Form) (rs : Tree) (n : ℕ) (xs : List Step) (ss : List Tree) (e : Tree) → IsRow rs → n ≡ row_length rs → Runs P Q xs (over F rs ∷ ss) e → Runs P Q (build F n ∷ xs) (pushed rs ss) e
+  pub built_over : (F : Form) (rs : Tree) (n : ℕ) (xs : List WalkStep) (ss : List Tree) (e : Tree) → IsRow rs → n ≡ row_length rs → StepsLead P Q xs (over F rs ∷ ss) e → StepsLead P Q (build F n ∷ xs) (pushed rs ss) e
   built_over F rs n xs ss e row same h =
       let below : n ≤ length (pushed rs ss) = (let k = length_pushed rs ss row in omega (arith, k, same)) in
       let one : popped n (pushed rs ss) empty ≡ rs = ap (λ m. popped m (pushed rs ss) empty) same ∙ popped_pushed rs empty ss row ∙ appended_none rs row in
       let two : unpopped n (pushed rs ss) ≡ ss = ap (λ m. unpopped m (pushed rs ss)) same ∙ unpopped_pushed rs ss row in
       built below (rw (one, two) h)
 
-  unbuilt_at : (F : Form) (n : ℕ) (xs ys : List Step) (ss : List Tree) (e : Tree) → ys ≡ build F n ∷ xs → Runs P Q ys ss e → (n ≤ length ss) × Runs P Q xs (over F (popped n ss empty) ∷ unpopped n ss) e
+  unbuilt_at : (F : Form) (n : ℕ) (xs ys : List WalkStep) (ss : List Tree) (e : Tree) → ys ≡ build F n ∷ xs → StepsLead P Q ys ss e → (n ≤ length ss) × StepsLead P Q xs (over F (popped n ss empty) ∷ unpopped n ss) e
   unbuilt_at F n xs [] ss e q ended = cc
   unbuilt_at F n xs (enter v b t ∷ ys) ss e q (entered p h) = cc
   unbuilt_at F n xs (owe v t ∷ ys) (s ∷ ss) e q (owed p h) = cc
@@ -92,19 +92,19 @@ module _ (P : Variance → Bool → Tree → Tree → Type 0) (Q : Variance → 
       let a : G ≡ F = cc in let b : m ≡ n = cc in let c : ys ≡ xs = cc in
       (rw (← b) l, rw (← a, ← b, ← c) h)
 
-  pub unbuilt : (F : Form) (rs : Tree) (n : ℕ) (xs : List Step) (ss : List Tree) (e : Tree) → IsRow rs → n ≡ row_length rs → Runs P Q (build F n ∷ xs) (pushed rs ss) e → Runs P Q xs (over F rs ∷ ss) e
+  pub unbuilt : (F : Form) (rs : Tree) (n : ℕ) (xs : List WalkStep) (ss : List Tree) (e : Tree) → IsRow rs → n ≡ row_length rs → StepsLead P Q (build F n ∷ xs) (pushed rs ss) e → StepsLead P Q xs (over F rs ∷ ss) e
   unbuilt F rs n xs ss e row same h =
       let k = unbuilt_at F n xs (build F n ∷ xs) (pushed rs ss) e refl h in
       let one : popped n (pushed rs ss) empty ≡ rs = ap (λ m. popped m (pushed rs ss) empty) same ∙ popped_pushed rs empty ss row ∙ appended_none rs row in
       let two : unpopped n (pushed rs ss) ≡ ss = ap (λ m. unpopped m (pushed rs ss)) same ∙ unpopped_pushed rs ss row in
       rw (one, two) at k.1
 
-  pub record Entered (v : Variance) (q : Bool) (t : Tree) (xs : List Step) (ss : List Tree) (e : Tree) : Type 0 where
+  pub record Entered (v : Variance) (q : Bool) (t : Tree) (xs : List WalkStep) (ss : List Tree) (e : Tree) : Type 0 where
     pub made : Tree
     pub fits : P v q t made
-    pub runs : Runs P Q xs (made ∷ ss) e
+    pub runs : StepsLead P Q xs (made ∷ ss) e
 
-  unentered_at : (v : Variance) (q : Bool) (t : Tree) (xs ys : List Step) (ss : List Tree) (e : Tree) → ys ≡ enter v q t ∷ xs → Runs P Q ys ss e → Entered v q t xs ss e
+  unentered_at : (v : Variance) (q : Bool) (t : Tree) (xs ys : List WalkStep) (ss : List Tree) (e : Tree) → ys ≡ enter v q t ∷ xs → StepsLead P Q ys ss e → Entered v q t xs ss e
   unentered_at v q t xs [] ss e i ended = cc
   unentered_at v q t xs (enter a b c ∷ ys) ss e i (entered {s = s} p h) =
       let x : a ≡ v = cc in let y : b ≡ q = cc in let z : c ≡ t = cc in let w : ys ≡ xs = cc in
@@ -113,15 +113,15 @@ module _ (P : Variance → Bool → Tree → Tree → Type 0) (Q : Variance → 
   unentered_at v q t xs (owe a b ∷ ys) [] e i h = elim h [ ]
   unentered_at v q t xs (build G m ∷ ys) ss e i (built l h) = cc
 
-  pub unentered : (v : Variance) (q : Bool) (t : Tree) (xs : List Step) (ss : List Tree) (e : Tree) → Runs P Q (enter v q t ∷ xs) ss e → Entered v q t xs ss e
+  pub unentered : (v : Variance) (q : Bool) (t : Tree) (xs : List WalkStep) (ss : List Tree) (e : Tree) → StepsLead P Q (enter v q t ∷ xs) ss e → Entered v q t xs ss e
   unentered v q t xs ss e h = unentered_at v q t xs (enter v q t ∷ xs) ss e refl h
 
-  pub record EnteredRow (v : Variance) (ws : List Variance) (q : Bool) (ts : Tree) (xs : List Step) (ss : List Tree) (e : Tree) : Type 0 where
+  pub record EnteredRow (v : Variance) (ws : List Variance) (q : Bool) (ts : Tree) (xs : List WalkStep) (ss : List Tree) (e : Tree) : Type 0 where
     pub made : Tree
     pub fits : MadeForRow P Q v ws q ts made
-    pub runs : Runs P Q xs (pushed made ss) e
+    pub runs : StepsLead P Q xs (pushed made ss) e
 
-  pub unentered_row : (v : Variance) (ws : List Variance) (q : Bool) (ts : Tree) (xs : List Step) (ss : List Tree) (e : Tree) → IsRow ts → Runs P Q (entering v ws q ts xs) ss e → EnteredRow v ws q ts xs ss e
+  pub unentered_row : (v : Variance) (ws : List Variance) (q : Bool) (ts : Tree) (xs : List WalkStep) (ss : List Tree) (e : Tree) → IsRow ts → StepsLead P Q (entering v ws q ts xs) ss e → EnteredRow v ws q ts xs ss e
   unentered_row v ws q empty xs ss e row h = record { made = empty; fits = tt; runs = h }
   unentered_row v ws q (more t ts) xs ss e row h =
       let a = unentered (times v (first_variance ws)) q t (entering v (rest_variances ws) q ts xs) ss e h in
@@ -129,7 +129,7 @@ module _ (P : Variance → Bool → Tree → Tree → Type 0) (Q : Variance → 
       record { made = more a.made b.made; fits = (a.fits, b.fits); runs = b.runs }
   unentered_row v ws q (node l c) xs ss e row h = absurd row
 
-  pub entered_row : (v : Variance) (ws : List Variance) (q : Bool) (ts rs : Tree) (xs : List Step) (ss : List Tree) (e : Tree) → MadeForRow P Q v ws q ts rs → Runs P Q xs (pushed rs ss) e → Runs P Q (entering v ws q ts xs) ss e
+  pub entered_row : (v : Variance) (ws : List Variance) (q : Bool) (ts rs : Tree) (xs : List WalkStep) (ss : List Tree) (e : Tree) → MadeForRow P Q v ws q ts rs → StepsLead P Q xs (pushed rs ss) e → StepsLead P Q (entering v ws q ts xs) ss e
   entered_row v ws q empty empty xs ss e m h = h
   entered_row v ws q (more t ts) (more r rs) xs ss e m h = entered m.0 (entered_row v (rest_variances ws) q ts rs xs (r ∷ ss) e m.1 h)
   entered_row v ws q empty (more r rs) xs ss e m h = absurd m
@@ -139,28 +139,28 @@ module _ (P : Variance → Bool → Tree → Tree → Type 0) (Q : Variance → 
   entered_row v ws q (node l c) rs xs ss e m h = absurd m
 
   -- a node is entered by its parts
-  pub parts_entered : (F : Form) (v : Variance) (ws : List Variance) (q : Bool) (ts rs : Tree) (xs : List Step) (ss : List Tree) (e : Tree) → MadeForRow P Q v ws q ts rs → Runs P Q xs (over F rs ∷ ss) e → Runs P Q (entering v ws q ts (build F (row_length ts) ∷ xs)) ss e
+  pub parts_entered : (F : Form) (v : Variance) (ws : List Variance) (q : Bool) (ts rs : Tree) (xs : List WalkStep) (ss : List Tree) (e : Tree) → MadeForRow P Q v ws q ts rs → StepsLead P Q xs (over F rs ∷ ss) e → StepsLead P Q (entering v ws q ts (build F (row_length ts) ∷ xs)) ss e
   parts_entered F v ws q ts rs xs ss e m h =
       let k = made_row v ws q ts rs m in
       entered_row v ws q ts rs (build F (row_length ts) ∷ xs) ss e m (built_over F rs (row_length ts) xs ss e k.0 (sym k.1) h)
 
-  pub record PartsMade (F : Form) (v : Variance) (ws : List Variance) (q : Bool) (ts : Tree) (xs : List Step) (ss : List Tree) (e : Tree) : Type 0 where
+  pub record PartsMade (F : Form) (v : Variance) (ws : List Variance) (q : Bool) (ts : Tree) (xs : List WalkStep) (ss : List Tree) (e : Tree) : Type 0 where
     pub made : Tree
     pub fits : MadeForRow P Q v ws q ts made
     pub row : IsRow made
-    pub runs : Runs P Q xs (over F made ∷ ss) e
+    pub runs : StepsLead P Q xs (over F made ∷ ss) e
 
-  pub parts_made : (F : Form) (v : Variance) (ws : List Variance) (q : Bool) (ts : Tree) (xs : List Step) (ss : List Tree) (e : Tree) → IsRow ts → Runs P Q (entering v ws q ts (build F (row_length ts) ∷ xs)) ss e → PartsMade F v ws q ts xs ss e
+  pub parts_made : (F : Form) (v : Variance) (ws : List Variance) (q : Bool) (ts : Tree) (xs : List WalkStep) (ss : List Tree) (e : Tree) → IsRow ts → StepsLead P Q (entering v ws q ts (build F (row_length ts) ∷ xs)) ss e → PartsMade F v ws q ts xs ss e
   parts_made F v ws q ts xs ss e row h =
       let a = unentered_row v ws q ts (build F (row_length ts) ∷ xs) ss e row h in
       let k = made_row v ws q ts a.made a.fits in
       record { made = a.made; fits = a.fits; row = k.0; runs = unbuilt F a.made (row_length ts) xs ss e k.0 (sym k.1) a.runs }
 
-  pub record Owed (v : Variance) (t : Tree) (xs : List Step) (s : Tree) (ss : List Tree) (e : Tree) : Type 0 where
+  pub record Owed (v : Variance) (t : Tree) (xs : List WalkStep) (s : Tree) (ss : List Tree) (e : Tree) : Type 0 where
     pub fits : Q v t s
-    pub runs : Runs P Q xs (s ∷ ss) e
+    pub runs : StepsLead P Q xs (s ∷ ss) e
 
-  unowed_at : (v : Variance) (t : Tree) (xs ys : List Step) (s : Tree) (ss zs : List Tree) (e : Tree) → ys ≡ owe v t ∷ xs → zs ≡ s ∷ ss → Runs P Q ys zs e → Owed v t xs s ss e
+  unowed_at : (v : Variance) (t : Tree) (xs ys : List WalkStep) (s : Tree) (ss zs : List Tree) (e : Tree) → ys ≡ owe v t ∷ xs → zs ≡ s ∷ ss → StepsLead P Q ys zs e → Owed v t xs s ss e
   unowed_at v t xs [] s ss zs e i j ended = cc
   unowed_at v t xs (enter a b c ∷ ys) s ss zs e i j (entered p h) = cc
   unowed_at v t xs (build G m ∷ ys) s ss zs e i j (built l h) = cc
@@ -169,5 +169,5 @@ module _ (P : Variance → Bool → Tree → Tree → Type 0) (Q : Variance → 
       let x : a ≡ v = cc in let y : b ≡ t = cc in let z : ys ≡ xs = cc in let q : r ≡ s = cc in let k : rs ≡ ss = cc in
       record { fits = rw (← x, ← y, ← q) p; runs = rw (← z, ← q, ← k) h }
 
-  pub unowed : (v : Variance) (t : Tree) (xs : List Step) (s : Tree) (ss : List Tree) (e : Tree) → Runs P Q (owe v t ∷ xs) (s ∷ ss) e → Owed v t xs s ss e
+  pub unowed : (v : Variance) (t : Tree) (xs : List WalkStep) (s : Tree) (ss : List Tree) (e : Tree) → StepsLead P Q (owe v t ∷ xs) (s ∷ ss) e → Owed v t xs s ss e
   unowed v t xs s ss e h = unowed_at v t xs (owe v t ∷ xs) s ss (s ∷ ss) e refl refl h

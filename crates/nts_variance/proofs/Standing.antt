@@ -20,12 +20,12 @@ use Rattle.nts_unify.specs.Entries.{Entries}
 use Rattle.nts_unify.specs.Reading.{content_of, IsLawful}
 use Rattle.nts_relating.specs.declared.relate.Head.{Head}
 use Rattle.nts_relating.specs.declared.relate.Head.TheVariants.{Open, Closed}
-use Rattle.nts_relating.specs.Relating.{IsHead}
+use Rattle.nts_relating.specs.Relating.{IsHeadOfTree}
 use Rattle.nts_variance.specs.declared.along.Relating.{Relating}
 use Rattle.nts_variance.specs.Steps.{stacked}
 use Rattle.nts_variance.specs.Terms.{pair_at, pairs_at}
 use Rattle.nts_variance.specs.Pairs.{Refuses}
-use Rattle.nts_variance.specs.Taking.{IsSide, IsPair, Sense, HoldsIn, size_in, Counts, IsUnderway, IsCall}
+use Rattle.nts_variance.specs.Taking.{IsPairSide, IsPair, Sense, HoldsIn, size_in, Counts, IsUnderway, IsCall}
 use Rattle.nts_variance.specs.Equating.{StandsFor, node_in, IsAt, ArePairHeads}
 use Rattle.nts_variance.proofs.Calls.{pairs_front}
 use Rattle.nts_variance.proofs.Pairing.{pairs_push}
@@ -37,11 +37,11 @@ stands_one c a b s = ap (rooted c) s.same
 
 -- a side and its head
 pub record IsHeadOf (ts : List Tree) (e : Entries) (t v : NodeId) (h : Head) : Type 0 where
-  pub side : IsSide ts (content_of ts e) v
+  pub side : IsPairSide ts (content_of ts e) v
   pub stands : StandsFor (content_of ts e) (tree_at ts t) (tree_at ts v)
   pub here : IsAt ts e v h
 
-head_of_side : (ts : List Tree) (e : Entries) (t : NodeId) (h : Head) → IsLawful ts e → IsSide ts (content_of ts e) t → IsHead ts e (tree_at ts t) h → IsHeadOf ts e t (node_in h t) h
+head_of_side : (ts : List Tree) (e : Entries) (t : NodeId) (h : Head) → IsLawful ts e → IsPairSide ts (content_of ts e) t → IsHeadOfTree ts e (tree_at ts t) h → IsHeadOf ts e t (node_in h t) h
 head_of_side ts e t (Open n) lawful side o = record { side = side; stands = record { same = refl; worlds = λ w s. refl }; here = o }
 head_of_side ts e t (Closed v) lawful side o =
     let c = content_of ts e in
@@ -53,7 +53,7 @@ head_of_side ts e t (Closed v) lawful side o =
       here = o.1.no_variable;
     }
 
-pub heads_of : (ts : List Tree) (e : Entries) (p : Relating) (l r : Head) (a b : NodeId) → IsLawful ts e → IsPair ts (content_of ts e) p → IsHead ts e (tree_at ts p.left) l → IsHead ts e (tree_at ts p.right) r → a ≡ node_in l p.left → b ≡ node_in r p.right
+pub heads_of : (ts : List Tree) (e : Entries) (p : Relating) (l r : Head) (a b : NodeId) → IsLawful ts e → IsPair ts (content_of ts e) p → IsHeadOfTree ts e (tree_at ts p.left) l → IsHeadOfTree ts e (tree_at ts p.right) r → a ≡ node_in l p.left → b ≡ node_in r p.right
     → ArePairHeads ts e p (record { pair = record { variance = p.variance; left = a; right = b }; left = l; right = r })
 heads_of ts e p l r a b lawful known hl hr ea eb =
     let x = head_of_side ts e p.left l lawful known.left hl in

@@ -37,7 +37,7 @@ use Rattle.nts_store.specs.Growth.{tree_at}
 use Rattle.nts_unify.specs.Entries.{Entries}
 use Rattle.nts_unify.specs.Reading.{content_of}
 use Rattle.nts_unify.specs.Changing.{IsLater}
-use Rattle.nts_unify.proofs.Keeping.{Keeps-with_constraint}
+use Rattle.nts_unify.proofs.Keeping.{KeepsKnowing-with_constraint}
 use Rattle.nts_variance.specs.Walking.{RelatedSides, sides}
 use Rattle.nts_variance.specs.declared.along.Relating.{Relating as Goal}
 use Rattle.nts_variance.specs.Terms.{pairs_at}
@@ -79,7 +79,7 @@ module _ (declared : ℕ → List Variance) where
   pub takes_regions : (c : Content) (v : Variance) (a b : Tree) → IsSound c → Knows c a → Knows c b → IsRegion a → IsRegion b → Takes declared c (with_constraint c (owed v a b)) (pair_of v a b ∷ []) [] []
   takes_regions c v a b sound ka kb i j =
       let x = owed v a b in
-      let seen = Keeps-with_constraint c x (owed_seen v a b (region_closed 0 a i) (region_closed 0 b j)) in
+      let seen = KeepsKnowing-with_constraint c x (owed_seen v a b (region_closed 0 a i) (region_closed 0 b j)) in
       record {
         later = grown_later seen.later;
         continues = Continues-with_constraint c x sound;

@@ -11,14 +11,14 @@ use Rattle.nts_model.specs.Tables.Resolving.{IsSound}
 use Rattle.nts_model.specs.Tables.Levels.{NamesAll, term_level}
 use Rattle.nts_model.specs.Tables.Worlds.{World, inst, Agrees}
 use Rattle.nts_model.specs.Variances.Judging.{Judging}
-use Rattle.nts_model.specs.Variances.Relations.{Relating, AllKnown, SettledExtension}
+use Rattle.nts_model.specs.Variances.Relations.{Relating, ArePairsKnown, SettledExtension}
 use Rattle.nts_model.specs.Variances.AnsweredGoals.{AllAnswered}
 use Rattle.nts_model.specs.Variances.Leaving.{Judge, judging_of}
 use Rattle.nts_model.proofs.Tables.Instances.{Agrees-refl, Agrees-trans, inst-agrees}
 use Rattle.nts_model.proofs.Tables.Held.{Continues-refl, Continues-trans}
 use Rattle.nts_model.proofs.Variances.Generalizing.{judged_agrees, settle_agrees, settle_joined}
 use Rattle.nts_variance.proofs.Growing.{grown_refl, grown_trans}
-use Rattle.nts_variance.specs.Steps.{Step, enter, build, owe, step_of, steps_of, entered}
+use Rattle.nts_variance.specs.Steps.{WalkStep, enter, build, owe, step_of, steps_of, entered}
 use Rattle.nts_variance.specs.Walking.{Judges, IsChoice, SettlesOwed, KnowsStep, KnowsSteps, KnowsTrees, Walks, IsMade}
 use Rattle.nts_variance.proofs.Runs.{unentered}
 
@@ -30,12 +30,12 @@ trees_agree c w v (t ∷ ts) a k =
     let y = trees_agree c w v ts a k.1 in
     cc (x, y)
 
-step_agrees : (c : Content) (w v : World) (x : Step) → Agrees (length c.slots) w v → KnowsStep c x → step_of (inst v) x ≡ step_of (inst w) x
+step_agrees : (c : Content) (w v : World) (x : WalkStep) → Agrees (length c.slots) w v → KnowsStep c x → step_of (inst v) x ≡ step_of (inst w) x
 step_agrees c w v (enter p q t) a k = ap (enter p q) (inst-agrees c w v t a k)
 step_agrees c w v (build F n) a k = refl
 step_agrees c w v (owe p t) a k = ap (owe p) (inst-agrees c w v t a k)
 
-pub steps_agree : (c : Content) (w v : World) (xs : List Step) → Agrees (length c.slots) w v → KnowsSteps c xs → steps_of (inst v) xs ≡ steps_of (inst w) xs
+pub steps_agree : (c : Content) (w v : World) (xs : List WalkStep) → Agrees (length c.slots) w v → KnowsSteps c xs → steps_of (inst v) xs ≡ steps_of (inst w) xs
 steps_agree c w v [] a k = refl
 steps_agree c w v (x ∷ xs) a k =
     let p = step_agrees c w v x a k.0 in
@@ -60,7 +60,7 @@ judges_agree declared j n w v a h =
     }
 
 module _ (declared : ℕ → List Variance) (z : Bool) (u : ℕ) where
-  pub walks_none : (c : Content) (xs : List Step) (ss : List Tree) (gs : List Relating) → IsSound c → Walks declared z u c c xs xs ss ss gs gs
+  pub walks_none : (c : Content) (xs : List WalkStep) (ss : List Tree) (gs : List Relating) → IsSound c → Walks declared z u c c xs xs ss ss gs gs
   walks_none c xs ss gs sound =
       record {
         later = grown_refl c;
@@ -76,7 +76,7 @@ module _ (declared : ℕ → List Variance) (z : Bool) (u : ℕ) where
         };
       }
 
-  pub walks_then : (c d e : Content) (xs ys zs : List Step) (ss rs qs : List Tree) (gs hs is : List Relating) → IsSound c → IsSound d
+  pub walks_then : (c d e : Content) (xs ys zs : List WalkStep) (ss rs qs : List Tree) (gs hs is : List Relating) → IsSound c → IsSound d
       → Walks declared z u c d xs ys ss rs gs hs → Walks declared z u d e ys zs rs qs hs is → Walks declared z u c e xs zs ss qs gs is
   walks_then c d e xs ys zs ss rs qs gs hs is sc sd a b =
       let grown : length c.slots ≤ length d.slots = (let k = a.continues in k.more) in
@@ -107,8 +107,8 @@ module _ (declared : ℕ → List Variance) (z : Bool) (u : ℕ) where
       }
 
   -- a part for which a tree was made at once
-  pub walk_made : (c d : Content) (v : Variance) (q : Bool) (t r : Tree) (new : List Relating) (xs : List Step) (ss : List Tree) (gs : List Relating)
-      → KnowsSteps c xs → KnowsTrees c ss → AllKnown c gs → IsMade declared z u c d v q t r new → Walks declared z u c d (enter v q t ∷ xs) xs ss (r ∷ ss) gs (gs ++ new)
+  pub walk_made : (c d : Content) (v : Variance) (q : Bool) (t r : Tree) (new : List Relating) (xs : List WalkStep) (ss : List Tree) (gs : List Relating)
+      → KnowsSteps c xs → KnowsTrees c ss → ArePairsKnown c gs → IsMade declared z u c d v q t r new → Walks declared z u c d (enter v q t ∷ xs) xs ss (r ∷ ss) gs (gs ++ new)
   walk_made c d v q t r new xs ss gs kx ks kg m =
       record {
         later = m.later;

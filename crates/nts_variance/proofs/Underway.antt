@@ -7,7 +7,7 @@ use Rattle.nts_model.specs.Tables.Resolving.{IsSound}
 use Rattle.nts_model.specs.Tables.Worlds.{World}
 use Rattle.nts_model.specs.Tables.Holding.{Continues}
 use Rattle.nts_model.specs.Lists.{Among}
-use Rattle.nts_model.specs.Variances.Relations.{Relating, AllSettleIn, AllKnown}
+use Rattle.nts_model.specs.Variances.Relations.{Relating, AllSettleIn, ArePairsKnown}
 use Rattle.nts_model.specs.Variances.AnsweredGoals.{AllRelatedUnder}
 use Rattle.nts_model.specs.Variances.Leaving.{Judge, judging_of}
 use Rattle.nts_model.proofs.Variances.Generalizing.{settle_joined, settle_parted}
@@ -21,7 +21,7 @@ use Rattle.nts_variance.proofs.Nodes.{answered_sides}
 use Rattle.nts_variance.proofs.Pairs.{leaves_by, Leaves-none, Leaves-then, Leaves-beside, Refuses-then, Refuses-beside}
 use Rattle.nts_variance.proofs.Turns.{answered_front}
 
-pub joined_known : (f : Content) (xs ys : List Relating) → AllKnown f xs → AllKnown f ys → AllKnown f (xs ++ ys)
+pub joined_known : (f : Content) (xs ys : List Relating) → ArePairsKnown f xs → ArePairsKnown f ys → ArePairsKnown f (xs ++ ys)
 joined_known f [] ys a b = b
 joined_known f (x ∷ xs) ys a b = (a.0, a.1, joined_known f xs ys a.2 b)
 
@@ -102,7 +102,7 @@ module _ (declared : ℕ → List Variance) where
       }
 
   -- a pair that is taken: what it leaves is smaller, and it is met from now on
-  pub underway_taken : (c d e : Content) (p q : Relating) (left es gs met ns os hs : List Relating) → IsSound c → IsSound d → AllKnown d left → AllKnown d es → AllKnown d gs → Takes declared d e (q ∷ []) (ns ++ os) hs
+  pub underway_taken : (c d e : Content) (p q : Relating) (left es gs met ns os hs : List Relating) → IsSound c → IsSound d → ArePairsKnown d left → ArePairsKnown d es → ArePairsKnown d gs → Takes declared d e (q ∷ []) (ns ++ os) hs
       → ((w : Sense) → IsSound w.table → Continues e w.table → AreSmaller Size Holds w (Size w q) ns)
       → IsUnderway declared c d p (q ∷ left) es gs met → IsUnderway declared c e p (ns ++ left) (es ++ os) (gs ++ hs) (q ∷ met)
   underway_taken c d e p q left es gs met ns os hs sound_c sound kl ke kg t smaller u =

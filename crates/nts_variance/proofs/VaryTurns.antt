@@ -14,7 +14,7 @@ use Rattle.nts_model.specs.Derivations.Related.{rest_variances}
 use Rattle.nts_model.specs.Variances.Forms.{Form, over, variances_over}
 use Rattle.nts_model.specs.Variances.Judging.{Settles}
 use Rattle.nts_model.specs.Tables.Measuring.{closed_aliases}
-use Rattle.nts_model.specs.Variances.Relations.{AllKnown}
+use Rattle.nts_model.specs.Variances.Relations.{ArePairsKnown}
 use Rattle.nts_model.specs.Variances.Relations.{Relating as Pair}
 use Rattle.nts_model.specs.Variances.Leaving.{judging_of}
 use Rattle.nts_model.proofs.Tables.Resolved.{resolved-empty, resolved-more}
@@ -29,17 +29,17 @@ use Rattle.nts_unify.specs.Reading.{content_of, IsLawful}
 use Rattle.nts_unify.specs.Changing.{unset_count}
 use Rattle.nts_unify.specs.Lawful.{IsLawful-extended, content_of-extended}
 use Rattle.nts_unify.proofs.Changes.{length-slots}
-use Rattle.nts_relating.specs.Parts.{IsValueOf}
+use Rattle.nts_relating.specs.Parts.{IsVariableValue}
 use Rattle.nts_variance.specs.declared.along.Relating.{Relating}
 use Rattle.nts_variance.specs.declared.vary_walk.Task.{Task}
 use Rattle.nts_variance.specs.declared.vary_walk.Task.TheVariants as task
 use Rattle.nts_variance.specs.declared.vary_walk.Spot.{Spot}
-use Rattle.nts_variance.specs.Steps.{Step, enter, build, owe, steps_of, stacked, popped, unpopped, entering, part_place, PartsFit, kinds_left, EndsAlone, builds, Runs, MadeForRow}
-use Rattle.nts_variance.specs.Walking.{IsGrown, IsMadeFor, MadeIn, NothingOwed, IsChoice, SettlesOwed, sides, weights, KnowsStep, KnowsSteps, KnowsTrees, Walks}
+use Rattle.nts_variance.specs.Steps.{WalkStep, enter, build, owe, steps_of, stacked, popped, unpopped, entering, part_place, PartsFit, kinds_left, EndsAlone, builds, StepsLead, MadeForRow}
+use Rattle.nts_variance.specs.Walking.{IsTableGrown, IsMadeFor, MadeIn, NothingOwed, IsChoice, SettlesOwed, sides, step_weights, KnowsStep, KnowsSteps, KnowsTrees, Walks}
 use Rattle.nts_variance.specs.Counting.{IsCounted}
-use Rattle.nts_variance.specs.Parts.{form_of, parts_of}
+use Rattle.nts_variance.specs.Parts.{form_of_tree, parts_of}
 use Rattle.nts_variance.specs.Debts.{OweGoals}
-use Rattle.nts_variance.specs.Terms.{pair_at, pairs_at, AreGoals, ArePairs, step_at, IsPart, IsNode, IsTask, AreTasks, AreMade}
+use Rattle.nts_variance.specs.Terms.{pair_at, pairs_at, AreGoals, ArePairs, step_at, IsPart, IsNodeOfTable, IsTask, AreTasks, AreMade}
 use Rattle.nts_variance.specs.Varying.{AreInside, BuildsKnown, IsWalk, IsTurn, IsMadeAt, IsTypeValue, IsMadeAgain, ArePartsPushed, IsOwn, WalkRefuses, IsVaried, IsKept}
 use Rattle.nts_variance.proofs.Growing.{grown_refl, grown_trans, Knows-grown, region_never}
 use Rattle.nts_variance.proofs.Clean.{clean_over}
@@ -84,7 +84,7 @@ knows_step ts c (task.Enter s) h = h.knows
 knows_step ts c (task.Build t) h = tt
 knows_step ts c (task.Owe s) h = h.knows
 
-KnowsSteps-push : (c : Content) (xs : List Step) (y : Step) → KnowsSteps c xs → KnowsStep c y → KnowsSteps c (xs ++ y ∷ [])
+KnowsSteps-push : (c : Content) (xs : List WalkStep) (y : WalkStep) → KnowsSteps c xs → KnowsStep c y → KnowsSteps c (xs ++ y ∷ [])
 KnowsSteps-push c [] y h k = (k, tt)
 KnowsSteps-push c (x ∷ xs) y h k = (h.0, KnowsSteps-push c xs y h.1 k)
 
@@ -100,12 +100,12 @@ knows_made : (ts : List Tree) (c : Content) (u : ℕ) (ms : List NodeId) → Are
 knows_made ts c u [] h = tt
 knows_made ts c u (m ∷ ms) h = KnowsTrees-push c (stacked (tree_at ts) ms) (tree_at ts m) (knows_made ts c u ms h.1) h.0.1
 
-pub known_pairs : (ts : List Tree) (c : Content) (gs : List Relating) → ArePairs ts c gs → AllKnown c (pairs_at ts gs)
+pub known_pairs : (ts : List Tree) (c : Content) (gs : List Relating) → ArePairs ts c gs → ArePairsKnown c (pairs_at ts gs)
 known_pairs ts c [] h = tt
 known_pairs ts c (g ∷ gs) h = (h.0.2, h.0.3, known_pairs ts c gs h.1)
 
 -- a store and a table that grow
-part_later : {ts us : List Tree} {c d : Content} (s : Spot) → Extends ts us → IsGrown c d → IsPart ts c s → IsPart us d s
+part_later : {ts us : List Tree} {c d : Content} (s : Spot) → Extends ts us → IsTableGrown c d → IsPart ts c s → IsPart us d s
 part_later {ts} {us} {c} {d} s e l h =
     let at = e.kept s.term h.within in
     record {
@@ -117,21 +117,21 @@ part_later {ts} {us} {c} {d} s e l h =
       kind = ap kind_of at ∙ h.kind;
     }
 
-node_later : {ts us : List Tree} {c d : Content} (t : NodeId) → Extends ts us → IsGrown c d → IsNode ts c t → IsNode us d t
+node_later : {ts us : List Tree} {c d : Content} (t : NodeId) → Extends ts us → IsTableGrown c d → IsNodeOfTable ts c t → IsNodeOfTable us d t
 node_later {ts} {us} {c} {d} t e l h =
     let at = e.kept t h.within in
     record { within = IsIn-extended e t h.within; knows = rw at (Knows-grown (tree_at ts t) l h.knows); is = rw at h.is; sorts = rw at h.sorts }
 
-task_later : {ts us : List Tree} {c d : Content} (y : Task) → Extends ts us → IsGrown c d → IsTask ts c y → IsTask us d y
+task_later : {ts us : List Tree} {c d : Content} (y : Task) → Extends ts us → IsTableGrown c d → IsTask ts c y → IsTask us d y
 task_later (task.Enter s) e l h = part_later s e l h
 task_later (task.Build t) e l h = node_later t e l h
 task_later (task.Owe s) e l h = part_later s e l h
 
-tasks_later : {ts us : List Tree} {c d : Content} (xs : List Task) → Extends ts us → IsGrown c d → AreTasks ts c xs → AreTasks us d xs
+tasks_later : {ts us : List Tree} {c d : Content} (xs : List Task) → Extends ts us → IsTableGrown c d → AreTasks ts c xs → AreTasks us d xs
 tasks_later [] e l h = tt
 tasks_later (x ∷ xs) e l h = (task_later x e l h.0, tasks_later xs e l h.1)
 
-made_later : {ts us : List Tree} {c d : Content} (u : ℕ) (ms : List NodeId) → Extends ts us → IsGrown c d → ((a : Tree) → Knows c a → resolved d a ≡ resolved c a) → AreMade ts c u ms → AreMade us d u ms
+made_later : {ts us : List Tree} {c d : Content} (u : ℕ) (ms : List NodeId) → Extends ts us → IsTableGrown c d → ((a : Tree) → Knows c a → resolved d a ≡ resolved c a) → AreMade ts c u ms → AreMade us d u ms
 made_later u [] e l same h = tt
 made_later {ts} {us} {c} {d} u (m ∷ ms) e l same h =
     let at = e.kept m h.0.0 in
@@ -139,7 +139,7 @@ made_later {ts} {us} {c} {d} u (m ∷ ms) e l same h =
     let clean : NamesAll region_level u (resolved d t) = subst (NamesAll region_level u) (sym (same t h.0.1)) h.0.2 in
     ((IsIn-extended e m h.0.0, rw at (Knows-grown t l h.0.1), rw at clean), made_later u ms e l same h.1)
 
-pub goals_later : {ts us : List Tree} {c d : Content} (gs : List Relating) → Extends ts us → IsGrown c d → ArePairs ts c gs → ArePairs us d gs
+pub goals_later : {ts us : List Tree} {c d : Content} (gs : List Relating) → Extends ts us → IsTableGrown c d → ArePairs ts c gs → ArePairs us d gs
 goals_later [] e l h = tt
 goals_later {ts} (g ∷ gs) e l h = (
   (
@@ -153,7 +153,7 @@ goals_later {ts} (g ∷ gs) e l h = (
 
 step_kept : {ts us : List Tree} (c : Content) (y : Task) → Extends ts us → IsTask ts c y → step_at us y ≡ step_at ts y
 step_kept c (task.Enter s) e h = ap (enter s.variance s.is_quiet) (e.kept s.term h.within)
-step_kept c (task.Build t) e h = ap (λ y. build (form_of y) (row_length (parts_of y))) (e.kept t h.within)
+step_kept c (task.Build t) e h = ap (λ y. build (form_of_tree y) (row_length (parts_of y))) (e.kept t h.within)
 step_kept c (task.Owe s) e h = ap (owe s.variance) (e.kept s.term h.within)
 
 steps_kept : {ts us : List Tree} (c : Content) (xs : List Task) → Extends ts us → AreTasks ts c xs → stacked (step_at us) xs ≡ stacked (step_at ts) xs
@@ -214,43 +214,43 @@ fit_row F (more t ts) ks r h =
 fit_row F (node l c) ks r h = absurd r
 
 -- steps inside of a node that is to be built
-inside_entering : (v : Variance) (ws : List Variance) (q : Bool) (ts : Tree) (xs : List Step) → 1 ≤ builds xs → AreInside xs → AreInside (entering v ws q ts xs)
+inside_entering : (v : Variance) (ws : List Variance) (q : Bool) (ts : Tree) (xs : List WalkStep) → 1 ≤ builds xs → AreInside xs → AreInside (entering v ws q ts xs)
 inside_entering v ws q empty xs n h = h
 inside_entering v ws q (more t ts) xs n h = (inr (omega (arith, builds_entering v (rest_variances ws) q ts xs)), inside_entering v (rest_variances ws) q ts xs n h)
 inside_entering v ws q (node l c) xs n h = h
 
-inside_node : (v : Variance) (ws : List Variance) (q : Bool) (F : Form) (n : ℕ) (ts : Tree) (xs : List Step) → AreInside xs → AreInside (entering v ws q ts (build F n ∷ xs))
+inside_node : (v : Variance) (ws : List Variance) (q : Bool) (F : Form) (n : ℕ) (ts : Tree) (xs : List WalkStep) → AreInside xs → AreInside (entering v ws q ts (build F n ∷ xs))
 inside_node v ws q F n ts xs h = inside_entering v ws q ts (build F n ∷ xs) (omega arith) h
 
-pub builds_steps : (g : Tree → Tree) (xs : List Step) → builds (steps_of g xs) ≡ builds xs
+pub builds_steps : (g : Tree → Tree) (xs : List WalkStep) → builds (steps_of g xs) ≡ builds xs
 builds_steps g [] = refl
 builds_steps g (enter v q t ∷ xs) = builds_steps g xs
 builds_steps g (build F n ∷ xs) = ap (λ k. k + 1) (builds_steps g xs)
 builds_steps g (owe v t ∷ xs) = builds_steps g xs
 
 -- nodes that are to be built are of the table
-pub fits_later : {c d : Content} {t r : Tree} → IsGrown c d → IsMadeFor c t r → IsMadeFor d t r
+pub fits_later : {c d : Content} {t r : Tree} → IsTableGrown c d → IsMadeFor c t r → IsMadeFor d t r
 fits_later {c} {d} {t} {r} l h = record { knows = Knows-grown r l h.knows; kind = h.kind; listed = h.listed; apart = h.apart }
 
-builds_entered : (f : Content) (v : Variance) (ws : List Variance) (q : Bool) (ts : Tree) (xs : List Step) (ss : List Tree) → IsRow ts
+builds_entered : (f : Content) (v : Variance) (ws : List Variance) (q : Bool) (ts : Tree) (xs : List WalkStep) (ss : List Tree) → IsRow ts
     → ((rs : Tree) → MadeForRow (MadeIn f) NothingOwed v ws q ts rs → BuildsKnown f xs (pushed rs ss)) → BuildsKnown f (entering v ws q ts xs) ss
 builds_entered f v ws q empty xs ss r h = h empty tt
 builds_entered f v ws q (more t ts) xs ss r h = λ s m. builds_entered f v (rest_variances ws) q ts xs (s ∷ ss) r (λ rs k. h (more s rs) (m, k))
 builds_entered f v ws q (node l c) xs ss r h = absurd r
 
-builds_over : (f : Content) (F : Form) (rs : Tree) (n : ℕ) (xs : List Step) (ss : List Tree) → IsRow rs → n ≡ row_length rs → Knows f (over F rs) → BuildsKnown f xs (over F rs ∷ ss) → BuildsKnown f (build F n ∷ xs) (pushed rs ss)
+builds_over : (f : Content) (F : Form) (rs : Tree) (n : ℕ) (xs : List WalkStep) (ss : List Tree) → IsRow rs → n ≡ row_length rs → Knows f (over F rs) → BuildsKnown f xs (over F rs ∷ ss) → BuildsKnown f (build F n ∷ xs) (pushed rs ss)
 builds_over f F rs n xs ss row same k h =
     let one : popped n (pushed rs ss) empty ≡ rs = ap (λ m. popped m (pushed rs ss) empty) same ∙ popped_row rs ss row in
     let two : unpopped n (pushed rs ss) ≡ ss = ap (λ m. unpopped m (pushed rs ss)) same ∙ unpopped_pushed rs ss row in
     rw (one, two) (k, h)
 
-built_known : (f : Content) (F : Form) (rs : Tree) (n : ℕ) (xs : List Step) (ss : List Tree) → IsRow rs → n ≡ row_length rs → BuildsKnown f (build F n ∷ xs) (pushed rs ss) → Knows f (over F rs) × BuildsKnown f xs (over F rs ∷ ss)
+built_known : (f : Content) (F : Form) (rs : Tree) (n : ℕ) (xs : List WalkStep) (ss : List Tree) → IsRow rs → n ≡ row_length rs → BuildsKnown f (build F n ∷ xs) (pushed rs ss) → Knows f (over F rs) × BuildsKnown f xs (over F rs ∷ ss)
 built_known f F rs n xs ss row same h =
     let one : popped n (pushed rs ss) empty ≡ rs = ap (λ m. popped m (pushed rs ss) empty) same ∙ popped_row rs ss row in
     let two : unpopped n (pushed rs ss) ≡ ss = ap (λ m. unpopped m (pushed rs ss)) same ∙ unpopped_pushed rs ss row in
     rw (one, two) at h
 
-builds_node : (f : Content) (v : Variance) (ws : List Variance) (q : Bool) (F : Form) (ts : Tree) (xs : List Step) (ss : List Tree) → IsRow ts → Knows f (over F ts) → BuildsKnown f (enter v q (over F ts) ∷ xs) ss
+builds_node : (f : Content) (v : Variance) (ws : List Variance) (q : Bool) (F : Form) (ts : Tree) (xs : List WalkStep) (ss : List Tree) → IsRow ts → Knows f (over F ts) → BuildsKnown f (enter v q (over F ts) ∷ xs) ss
     → BuildsKnown f (entering v ws q ts (build F (row_length ts) ∷ xs)) ss
 builds_node f v ws q F ts xs ss row k h =
     builds_entered f v ws q ts (build F (row_length ts) ∷ xs) ss row (λ rs m.
@@ -259,13 +259,13 @@ builds_node f v ws q F ts xs ss row k h =
     builds_over f F rs (row_length ts) xs ss r.0 (sym r.1) made.knows (h (over F rs) made)))
 
 -- the same by equal lists
-ends_at : {xs ys : List Step} {ks hs : List (Option NodeKind)} → xs ≡ ys → ks ≡ hs → EndsAlone ys hs → EndsAlone xs ks
+ends_at : {xs ys : List WalkStep} {ks hs : List (Option NodeKind)} → xs ≡ ys → ks ≡ hs → EndsAlone ys hs → EndsAlone xs ks
 ends_at p q h = rw (p, q) h
 
-builds_at : (f : Content) {xs ys : List Step} {ss rs : List Tree} → xs ≡ ys → ss ≡ rs → BuildsKnown f ys rs → BuildsKnown f xs ss
+builds_at : (f : Content) {xs ys : List WalkStep} {ss rs : List Tree} → xs ≡ ys → ss ≡ rs → BuildsKnown f ys rs → BuildsKnown f xs ss
 builds_at f p q h = rw (p, q) h
 
-walks_at : {declared : ℕ → List Variance} {z : Bool} {u : ℕ} {c d : Content} {xs xs' ys ys' : List Step} {ss ss' rs rs' : List Tree} {gs gs' hs hs' : List Pair} → xs ≡ xs' → ys ≡ ys' → ss ≡ ss' → rs ≡ rs' → gs ≡ gs' → hs ≡ hs'
+walks_at : {declared : ℕ → List Variance} {z : Bool} {u : ℕ} {c d : Content} {xs xs' ys ys' : List WalkStep} {ss ss' rs rs' : List Tree} {gs gs' hs hs' : List Pair} → xs ≡ xs' → ys ≡ ys' → ss ≡ ss' → rs ≡ rs' → gs ≡ gs' → hs ≡ hs'
     → Walks declared z u c d xs' ys' ss' rs' gs' hs' → Walks declared z u c d xs ys ss rs gs hs
 walks_at a b c d e f w = rw (a, b, c, d, e, f) w
 
@@ -310,7 +310,7 @@ module _ (declared : ℕ → List Variance) (z : Bool) (u x : ℕ) where
         };
         walks = walks_at here steps refl trees refl goals (walk_made declared z u c d s.variance s.is_quiet t (tree_at us r) (pairs_at us m.new) (stacked (step_at ts) xs) (stacked (tree_at ts) ms) (pairs_at ts gs)
             known (knows_made ts c u ms w.made) (known_pairs ts c gs w.goals) own);
-        less = omega (arith, ap (weights d) steps, weights_later c d (stacked (step_at ts) xs) own.trees known, ap (weights c) here, weights_made c s.variance s.is_quiet t (stacked (step_at ts) xs));
+        less = omega (arith, ap (step_weights d) steps, weights_later c d (stacked (step_at ts) xs) own.trees known, ap (step_weights c) here, weights_made c s.variance s.is_quiet t (stacked (step_at ts) xs));
         kept = m.kept;
         trees = own.trees;
         owes = λ h k.
@@ -321,12 +321,12 @@ module _ (declared : ℕ → List Variance) (z : Bool) (u x : ℕ) where
 
   -- the walk with other tasks, where store and table are as they were
   still : (ts : List Tree) (e : Entries) (xs ys : List Task) (ms : List NodeId) (gs : List Relating) → IsWalk ts e u x xs ms gs → AreTasks ts (content_of ts e) ys → EndsAlone (stacked (step_at ts) ys) (stacked (λ y. kind_of (tree_at ts y)) ms)
-      → AreInside (stacked (step_at ts) ys) → ((f : Content) → IsGrown (content_of ts e) f → BuildsKnown f (stacked (step_at ts) ys) (stacked (tree_at ts) ms)) → IsWalk ts e u x ys ms gs
+      → AreInside (stacked (step_at ts) ys) → ((f : Content) → IsTableGrown (content_of ts e) f → BuildsKnown f (stacked (step_at ts) ys) (stacked (tree_at ts) ms)) → IsWalk ts e u x ys ms gs
   still ts e xs ys ms gs w tasks ends inside under =
       record { lawful = w.lawful; tasks = tasks; made = w.made; goals = w.goals; ends = ends; inside = inside; builds = under; named = w.named; known = w.known; no_region = w.no_region }
 
   -- a variable gives way to its value, and is owed what is made for that
-  value_part : (ts : List Tree) (e : Entries) (s : Spot) (v : NodeId) (q : Bool) → IsPart ts (content_of ts e) s → IsIn ts v → v.number < 2 ^ 64 → IsValueOf (content_of ts e) (tree_at ts s.term) (tree_at ts v)
+  value_part : (ts : List Tree) (e : Entries) (s : Spot) (v : NodeId) (q : Bool) → IsPart ts (content_of ts e) s → IsIn ts v → v.number < 2 ^ 64 → IsVariableValue (content_of ts e) (tree_at ts s.term) (tree_at ts v)
       → IsPart ts (content_of ts e) (record { term = v; binders = 0; variance = s.variance; is_quiet = q; is_searched = false })
   value_part ts e s v q p within room k =
       record { within = within; knows = k.knows; closed = k.closed; room = omega (arith, room); sort = p.sort; kind = k.value_sort ∙ sym k.own_sort ∙ p.kind }
@@ -354,7 +354,7 @@ module _ (declared : ℕ → List Variance) (z : Bool) (u x : ℕ) where
             (rw there (inr below, inside.1))
             (λ g l. builds_at g there refl (λ r m. (rw here at (w.builds g l)) r (made_value g t (tree_at ts v) r k.infer k.closed same m)));
         walks = walks_at here there refl refl refl refl (walk_value declared z u c s.variance t (tree_at ts v) rest (stacked (tree_at ts) ms) (pairs_at ts gs) w.lawful.sound k.infer k.closed same k.worlds);
-        less = omega (arith, ap (weights c) here, ap (weights c) there, weights_value c s.variance t (tree_at ts v) rest k.lower k.same);
+        less = omega (arith, ap (step_weights c) here, ap (step_weights c) there, weights_value c s.variance t (tree_at ts v) rest k.lower k.same);
         kept = kept_refl c x;
         trees = λ a h. refl;
         owes = λ h g.
@@ -365,7 +365,7 @@ module _ (declared : ℕ → List Variance) (z : Bool) (u x : ℕ) where
 
   -- .. or gives way to its value alone
   turn_value_on_here : (ts : List Tree) (e : Entries) (xs ys : List Task) (s : Spot) (v : NodeId) (q : Bool) (ms : List NodeId) (gs : List Relating) → IsWalk ts e u x (xs ++ task.Enter s ∷ []) ms gs → s.is_quiet ≡ q → IsIn ts v → v.number < 2 ^ 64
-      → IsValueOf (content_of ts e) (tree_at ts s.term) (tree_at ts v) → ys ≡ xs ++ task.Enter (record { term = v; binders = 0; variance = s.variance; is_quiet = q; is_searched = false }) ∷ [] → IsTurn declared z u x ts ts e e (xs ++ task.Enter s ∷ []) ys ms ms gs gs
+      → IsVariableValue (content_of ts e) (tree_at ts s.term) (tree_at ts v) → ys ≡ xs ++ task.Enter (record { term = v; binders = 0; variance = s.variance; is_quiet = q; is_searched = false }) ∷ [] → IsTurn declared z u x ts ts e e (xs ++ task.Enter s ∷ []) ys ms ms gs gs
   turn_value_on_here ts e xs ys s v q ms gs w quiet within room k is =
       let c = content_of ts e in
       let t = tree_at ts s.term in
@@ -385,7 +385,7 @@ module _ (declared : ℕ → List Variance) (z : Bool) (u x : ℕ) where
             (rw there (inr below, inside.1))
             (λ g l. builds_at g there refl (λ r m. (rw here at (w.builds g l)) r (made_value g t (tree_at ts v) r k.infer k.closed same m)));
         walks = walks_at here there refl refl refl refl (walk_value_on declared z u c s.variance q t (tree_at ts v) rest (stacked (tree_at ts) ms) (pairs_at ts gs) w.lawful.sound front.1.knows k.knows k.infer k.closed same k.same k.worlds);
-        less = omega (arith, ap (weights c) here, ap (weights c) there, weights_value_on c s.variance q t (tree_at ts v) rest k.lower k.same);
+        less = omega (arith, ap (step_weights c) here, ap (step_weights c) there, weights_value_on c s.variance q t (tree_at ts v) rest k.lower k.same);
         kept = kept_refl c x;
         trees = λ a h. refl;
         owes = λ h g. (let before = rw here at h in (owe_at there refl (owe_through s.variance q t (tree_at ts v) rest (stacked (tree_at ts) ms) k.closed same before), g));
@@ -398,7 +398,7 @@ module _ (declared : ℕ → List Variance) (z : Bool) (u x : ℕ) where
   turn_node_here ts e xs ys s ms gs w again h =
       let c = content_of ts e in
       let t = tree_at ts s.term in
-      let F = form_of t in
+      let F = form_of_tree t in
       let ps = parts_of t in
       let ws = variances_over declared F ps in
       let node_is = again.with_parts in
@@ -418,7 +418,7 @@ module _ (declared : ℕ → List Variance) (z : Bool) (u x : ℕ) where
             (rw there (inside_node s.variance ws s.is_quiet F (row_length ps) ps rest inside.1))
             (λ g l. builds_at g there refl (builds_node g s.variance ws s.is_quiet F ps rest (stacked (tree_at ts) ms) node_is.row (Knows-grown (over F ps) l known) (rw here at (w.builds g l))));
         walks = walks_at here there refl refl refl refl (walk_node declared z u c s.variance s.is_quiet F ps rest (stacked (tree_at ts) ms) (pairs_at ts gs) w.lawful.sound known whole node_is.row again.fits);
-        less = omega (arith, ap (weights c) here, ap (weights c) there, weights_node c s.variance ws s.is_quiet F ps (row_length ps) rest node_is.row);
+        less = omega (arith, ap (step_weights c) here, ap (step_weights c) there, weights_node c s.variance ws s.is_quiet F ps (row_length ps) rest node_is.row);
         kept = kept_refl c x;
         trees = λ a k. refl;
         owes = λ h g. (let before = rw here at h in (owe_at there refl (owe_node s.variance ws s.is_quiet F ps rest (stacked (tree_at ts) ms) node_is.row before), g));
@@ -432,7 +432,7 @@ module _ (declared : ℕ → List Variance) (z : Bool) (u x : ℕ) where
       rw (store, table, goals) (turn_value_here ts e xs ys s v ms gs w loud within room value varies is)
 
   pub turn_value_on : (ts us : List Tree) (e f : Entries) (xs ys : List Task) (s : Spot) (v : NodeId) (q : Bool) (ms : List NodeId) (gs hs : List Relating) → IsWalk ts e u x (xs ++ task.Enter s ∷ []) ms gs → us ≡ ts → f ≡ e → hs ≡ gs → s.is_quiet ≡ q → IsIn ts v → v.number < 2 ^ 64
-      → IsValueOf (content_of ts e) (tree_at ts s.term) (tree_at ts v) → ys ≡ xs ++ task.Enter (record { term = v; binders = 0; variance = s.variance; is_quiet = q; is_searched = false }) ∷ [] → IsTurn declared z u x ts us e f (xs ++ task.Enter s ∷ []) ys ms ms gs hs
+      → IsVariableValue (content_of ts e) (tree_at ts s.term) (tree_at ts v) → ys ≡ xs ++ task.Enter (record { term = v; binders = 0; variance = s.variance; is_quiet = q; is_searched = false }) ∷ [] → IsTurn declared z u x ts us e f (xs ++ task.Enter s ∷ []) ys ms ms gs hs
   turn_value_on ts us e f xs ys s v q ms gs hs w store table goals quiet within room value is =
       rw (store, table, goals) (turn_value_on_here ts e xs ys s v q ms gs w quiet within room value is)
 
@@ -455,7 +455,7 @@ module _ (declared : ℕ → List Variance) (z : Bool) (u x : ℕ) where
   pub parts_few : (ts : List Tree) (e : Entries) (xs : List Task) (t : NodeId) (ms : List NodeId) (gs : List Relating) → IsWalk ts e u x (xs ++ task.Build t ∷ []) ms gs → row_length (parts_of (tree_at ts t)) ≤ length ms
   parts_few ts e xs t ms gs w =
       let ends = rw (stacked-push (step_at ts) xs (task.Build t)) at w.ends in
-      omega (arith, fit_length (form_of (tree_at ts t)) (row_length (parts_of (tree_at ts t))) (stacked (λ y. kind_of (tree_at ts y)) ms) ends.0, length_stacked (λ y. kind_of (tree_at ts y)) ms)
+      omega (arith, fit_length (form_of_tree (tree_at ts t)) (row_length (parts_of (tree_at ts t))) (stacked (λ y. kind_of (tree_at ts y)) ms) ends.0, length_stacked (λ y. kind_of (tree_at ts y)) ms)
 
   pub parts_in : (ts : List Tree) (e : Entries) (xs : List Task) (ms ks qs : List NodeId) (gs : List Relating) → IsWalk ts e u x xs ms gs → ms ≡ ks ++ qs → AllIn ts qs
   parts_in ts e xs ms ks qs gs w split =
@@ -463,9 +463,9 @@ module _ (declared : ℕ → List Variance) (z : Bool) (u x : ℕ) where
       made_in ts (content_of ts e) u qs (AreMade-split ts (content_of ts e) u ks qs made).1
 
   pub parts_fit : (ts : List Tree) (e : Entries) (xs : List Task) (t : NodeId) (ms ks qs : List NodeId) (gs : List Relating) → IsWalk ts e u x (xs ++ task.Build t ∷ []) ms gs → ms ≡ ks ++ qs → length qs ≡ row_length (parts_of (tree_at ts t))
-      → AllFit (part_place (form_of (tree_at ts t))) (trees_at ts qs)
+      → AllFit (part_place (form_of_tree (tree_at ts t))) (trees_at ts qs)
   parts_fit ts e xs t ms ks qs gs w split long =
-      let F = form_of (tree_at ts t) in
+      let F = form_of_tree (tree_at ts t) in
       let kinds = stacked (λ y. kind_of (tree_at ts y)) in
       let ends = rw (stacked-push (step_at ts) xs (task.Build t)) at w.ends in
       let one : PartsFit F (row_length (parts_of (tree_at ts t))) (kinds_on (trees_at ts qs) (kinds ks)) = subst (PartsFit F (row_length (parts_of (tree_at ts t)))) (ap kinds split ∙ kinds_stacked ts ks qs) ends.0 in
@@ -473,10 +473,10 @@ module _ (declared : ℕ → List Variance) (z : Bool) (u x : ℕ) where
       fit_row F (trees_at ts qs) (kinds ks) (IsRow-trees_at ts qs) two
 
   pub turn_built : (ts us : List Tree) (e : Entries) (xs : List Task) (t : NodeId) (ms ks qs ns : List NodeId) (r : NodeId) (gs : List Relating) → IsWalk ts e u x (xs ++ task.Build t ∷ []) ms gs → ms ≡ ks ++ qs → length qs ≡ row_length (parts_of (tree_at ts t)) → Extends ts us → IsIn us r
-      → tree_at us r ≡ over (form_of (tree_at ts t)) (trees_at ts qs) → ns ≡ ks ++ r ∷ [] → IsTurn declared z u x ts us e e (xs ++ task.Build t ∷ []) xs ms ns gs gs
+      → tree_at us r ≡ over (form_of_tree (tree_at ts t)) (trees_at ts qs) → ns ≡ ks ++ r ∷ [] → IsTurn declared z u x ts us e e (xs ++ task.Build t ∷ []) xs ms ns gs gs
   turn_built ts us e xs t ms ks qs ns r gs w split long ext within tree is =
       let c = content_of ts e in
-      let F = form_of (tree_at ts t) in
+      let F = form_of_tree (tree_at ts t) in
       let n = row_length (parts_of (tree_at ts t)) in
       let rs = trees_at ts qs in
       let row = IsRow-trees_at ts qs in
@@ -497,7 +497,7 @@ module _ (declared : ℕ → List Variance) (z : Bool) (u x : ℕ) where
       let left : kinds_left n (kinds_on rs kinds) ≡ kinds = ap (λ k. kinds_left k (kinds_on rs kinds)) same ∙ left_on rs kinds row in
       let whole : EndsAlone (build F n ∷ rest) (kinds_on rs kinds) = ends_at (sym here) (sym kinds_before) w.ends in
       let content : content_of us e ≡ c = content_of-extended ext w.lawful in
-      let known : (g : Content) → IsGrown c g → Knows g (over F rs) × BuildsKnown g rest (over F rs ∷ before) = λ g l. built_known g F rs n rest before row same (builds_at g (sym here) (sym on) (w.builds g l)) in
+      let known : (g : Content) → IsTableGrown c g → Knows g (over F rs) × BuildsKnown g rest (over F rs ∷ before) = λ g l. built_known g F rs n rest before row same (builds_at g (sym here) (sym on) (w.builds g l)) in
       let own : Knows c (tree_at us r) = rw tree (known c (grown_refl c)).0 in
       let clean : NamesAll region_level u (resolved c (tree_at us r)) = rw tree (clean_over c u F rs front.1.sorts (made_clean ts c u qs parted.1)) in
       let inside = rw here at w.inside in
@@ -515,7 +515,7 @@ module _ (declared : ℕ → List Variance) (z : Bool) (u x : ℕ) where
           no_region = subst (λ d. kind_at d x ≢ Some kind.Region) (sym content) w.no_region;
         };
         walks = rw content (walks_at here steps on trees refl (pairs_kept c gs ext w.goals) (walk_built declared z u c F rs n rest before (pairs_at ts gs) w.lawful.sound row same front.1.sorts));
-        less = rw content (omega (arith, ap (weights c) steps, ap (weights c) here, weights_built c F n rest));
+        less = rw content (omega (arith, ap (step_weights c) steps, ap (step_weights c) here, weights_built c F n rest));
         kept = rw content (kept_refl c x);
         trees = rw content (λ a k. refl);
         owes = λ h g. (let old = rw (here, on) at h in (owe_at steps trees (owe_built F rs n rest (stacked (tree_at ts) ks) row same old), goals_to (pairs_kept c gs ext w.goals) g));
@@ -561,7 +561,7 @@ module _ (declared : ℕ → List Variance) (z : Bool) (u x : ℕ) where
           no_region = w.no_region;
         };
         walks = walks_at here refl on on refl goals (walk_owed declared z u c s.variance t (tree_at ts m) rest before (pairs_at ts gs) w.lawful.sound);
-        less = omega (arith, ap (weights c) here, weights_owed c s.variance t rest);
+        less = omega (arith, ap (step_weights c) here, weights_owed c s.variance t rest);
         kept = kept_refl c x;
         trees = λ a k. refl;
         owes = λ h g.
@@ -588,7 +588,7 @@ module _ (declared : ℕ → List Variance) (z : Bool) (u x : ℕ) where
             let g = inst w in
             let P = IsChoice J u whole in
             let Q = SettlesOwed J in
-            let there : Runs P Q (enter s.variance s.is_quiet (g t) ∷ steps_of g rest) (map g (stacked (tree_at ts) ms)) whole = subst (λ ys. Runs P Q (steps_of g ys) (map g (stacked (tree_at ts) ms)) whole) here runs in
+            let there : StepsLead P Q (enter s.variance s.is_quiet (g t) ∷ steps_of g rest) (map g (stacked (tree_at ts) ms)) whole = subst (λ ys. StepsLead P Q (steps_of g ys) (map g (stacked (tree_at ts) ms)) whole) here runs in
             let a = unentered P Q s.variance s.is_quiet (g t) (steps_of g rest) (map g (stacked (tree_at ts) ms)) whole there in
             let choice = a.fits in
             let settles : Settles J s.variance a.made whole = subst (Settles J s.variance a.made) (own.own w solves) choice.settles in
@@ -698,5 +698,5 @@ module _ (declared : ℕ → List Variance) (z : Bool) (u x : ℕ) where
             let own = p.agrees in
             let same : w.tree x ≡ p.world.tree x = sym (own.trees x below) in
             refuses.none j p.world p.solves (judges_agree declared j (length c.slots) w p.world p.agrees judges) p.settled a.goals (subst (NamesAll term_level u) same names)
-            (subst (λ y. Runs (IsChoice J u y) (SettlesOwed J) (steps_of (inst p.world) (stacked (step_at us) ys)) (map (inst p.world) (stacked (tree_at us) ns)) y) same a.runs));
+            (subst (λ y. StepsLead (IsChoice J u y) (SettlesOwed J) (steps_of (inst p.world) (stacked (step_at us) ys)) (map (inst p.world) (stacked (tree_at us) ns)) y) same a.runs));
       }

@@ -2,7 +2,7 @@
 use Rattle.std.specs.Prelude.{◌≡◌, ℕ, List, [], ◌∷◌}
 use Rattle.nts_model.specs.Terms.Trees.{Tree, empty, kind_of, IsClosedUnder}
 use Rattle.nts_model.specs.Variances.Forms.{over}
-use Rattle.nts_variance.specs.Steps.{Step, enter, build, owe, popped, unpopped}
+use Rattle.nts_variance.specs.Steps.{WalkStep, enter, build, owe, popped, unpopped}
 use Rattle.nts_variance.specs.Terms.{IsGoal}
 
 -- where no bound variable escapes from the first tree, none escapes from the second, and the two are of one kind
@@ -11,7 +11,7 @@ pub record IsClosedLike (t s : Tree) : Type 0 where
   pub kind : kind_of s ≡ kind_of t
 
 -- whatever is made for the parts that are to be entered, what is owed to a part is a goal
-abbrev pub OweGoals : List Step → List Tree → Type 0
+abbrev pub OweGoals : List WalkStep → List Tree → Type 0
 OweGoals [] ss = Unit {0}
 OweGoals (enter v q t ∷ xs) ss = (s : Tree) → IsClosedLike t s → OweGoals xs (s ∷ ss)
 OweGoals (build F n ∷ xs) ss = OweGoals xs (over F (popped n ss empty) ∷ unpopped n ss)

@@ -79,13 +79,13 @@ sizes_of c [] = 0
 sizes_of c (p ∷ ps) = size (resolved c p.left) + 1 + sizes_of c ps
 
 -- the pairs left fit the table
-pub record IsReady (ts : List Tree) (e : Entries) (ps : List Relating) : Type 0 where
+pub record ArePairsReady (ts : List Tree) (e : Entries) (ps : List Relating) : Type 0 where
   pub lawful : IsLawful ts e
   pub pairs : ArePairsLeft ts (content_of ts e) ps
 
 -- a call of relating goes on from the pairs xs, those met ms and the goals gs to ys, ns and hs
 pub record IsOn (declared : ℕ → List Variance) (ts us : List Tree) (e f : Entries) (xs ys ms ns gs hs : List Relating) : Type 0 where
-  pub ready : IsReady us f ys
+  pub ready : ArePairsReady us f ys
   pub call : (start : List Tree) (first : Entries) (p : Relating) (es : List Relating) → IsCall declared start ts first e p xs ms es gs → IsCall declared start us first f p ys ns es hs
 
 -- no call that comes to these pairs has a solution

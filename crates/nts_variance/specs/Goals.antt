@@ -19,8 +19,8 @@ expects_first variance.Contravariant = false
 expects_first v = true
 
 -- what the predicate of a pair says: where a side is an alias, that the sides stand for one another, and else that one is a subtype
-abbrev pub head_of : Pair → PredicateHead
-head_of p = cond (is_alias_node p.left || is_alias_node p.right) (predicate.AliasRelate (direction_of p.variance)) (predicate.Subtype (expects_first p.variance))
+abbrev pub goal_head : Pair → PredicateHead
+goal_head p = cond (is_alias_node p.left || is_alias_node p.right) (predicate.AliasRelate (direction_of p.variance)) (predicate.Subtype (expects_first p.variance))
 
 -- the sides of a pair in the order of its goal, by terms of the store
 abbrev pub in_order : Variance → Relating → Relating
@@ -31,4 +31,4 @@ abbrev pub ordered : Relating → Relating
 ordered p = in_order p.variance p
 
 abbrev pub goal_of : Pair → Tree
-goal_of p = directed (head_of p) p.variance p.left p.right
+goal_of p = directed (goal_head p) p.variance p.left p.right

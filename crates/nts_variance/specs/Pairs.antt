@@ -18,7 +18,7 @@ use Rattle.nts_unify.specs.Entries.{Entries}
 use Rattle.nts_unify.specs.Reading.{content_of, IsLawful}
 use Rattle.nts_unify.specs.Changing.{unset_count}
 use Rattle.nts_variance.specs.declared.along.Relating.{Relating as Goal}
-use Rattle.nts_variance.specs.Walking.{Judges, IsGrown, IsMadeFor, RelatedSides, sides}
+use Rattle.nts_variance.specs.Walking.{Judges, IsTableGrown, IsMadeFor, RelatedSides, sides}
 use Rattle.nts_variance.specs.Terms.{pairs_at, AreGoals, ArePairs}
 
 -- relating the pairs ps in the first table leaves the pairs qs and the goals gs in the second: each of its solutions solves the
@@ -40,7 +40,7 @@ pub record Refuses (declared : ℕ → List Variance) (c : Content) (ps : List R
 pub record IsBound (declared : ℕ → List Variance) (z : Bool) (ts us : List Tree) (e f : Entries) (v : Variance) (k : VariableKind) (x : ℕ) (t : NodeId) (gs : List Goal) : Type 0 where
   pub lawful : IsLawful us f
   pub known : ArePairs us (content_of us f) gs
-  pub later : IsGrown (content_of ts e) (content_of us f)
+  pub later : IsTableGrown (content_of ts e) (content_of us f)
   pub continues : Continues (content_of ts e) (content_of us f)
   pub value : Tree
   pub made : IsMadeFor (content_of us f) (tree_at ts t) value

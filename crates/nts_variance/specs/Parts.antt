@@ -25,13 +25,13 @@ has_parts (label.Const (konst.Unevaluated i)) = true
 has_parts (label.Const (konst.Value b)) = true
 has_parts l = false
 
-abbrev pub form_of : Tree → Form
-form_of (node (label.Ty (ty.Ctor i)) c) = a_constructor i
-form_of (node (label.Ty ty.FnPtr) c) = a_function (children (row_at c 0))
-form_of (node (label.Ty (ty.Alias i)) c) = an_alias (alias_of.Ty i)
-form_of (node (label.Const (konst.Unevaluated i)) c) = an_alias (alias_of.Const i)
-form_of (node (label.Const (konst.Value b)) c) = a_value b
-form_of t = a_value 0
+abbrev pub form_of_tree : Tree → Form
+form_of_tree (node (label.Ty (ty.Ctor i)) c) = a_constructor i
+form_of_tree (node (label.Ty ty.FnPtr) c) = a_function (children (row_at c 0))
+form_of_tree (node (label.Ty (ty.Alias i)) c) = an_alias (alias_of.Ty i)
+form_of_tree (node (label.Const (konst.Unevaluated i)) c) = an_alias (alias_of.Const i)
+form_of_tree (node (label.Const (konst.Value b)) c) = a_value b
+form_of_tree t = a_value 0
 
 abbrev pub parts_of : Tree → Tree
 parts_of (node (label.Ty (ty.Ctor i)) c) = children (row_at c 0)
@@ -73,15 +73,15 @@ const_variable (label.Leaf (leaf.Variable kind.Const n)) = true
 const_variable l = false
 
 -- nothing in the tree may vary: no variable, and no free region but erased and error ones
-pub record IsFixed (t : Tree) : Type 0 where
+pub record IsFixedTree (t : Tree) : Type 0 where
   pub no_infer : any_label is_infer t ≡ false
   pub no_region : any_label varies t ≡ false
 
 -- a part without aliases stands as it is: related invariantly, or a const, or one in which nothing may vary
 abbrev pub StandsAlone : Variance → Tree → Type 0
-StandsAlone v t = ((v ≡ variance.Invariant) ⊎ (kind_of t ≡ Some (of_sort sort.Const))) ⊎ IsFixed t
+StandsAlone v t = ((v ≡ variance.Invariant) ⊎ (kind_of t ≡ Some (of_sort sort.Const))) ⊎ IsFixedTree t
 
 -- a node over its parts
 pub record IsNodeWithParts (t : Tree) : Type 0 where
-  pub is : t ≡ over (form_of t) (parts_of t)
+  pub is : t ≡ over (form_of_tree t) (parts_of t)
   pub row : IsRow (parts_of t)

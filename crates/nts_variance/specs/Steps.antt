@@ -10,17 +10,17 @@ use Rattle.nts_model.specs.Variances.Forms.{Form, a_constructor, a_function, a_v
 
 -- a part is entered, which varies so, and quietly where a goal around it says all that it owes; a node is built over so many
 -- parts that were made last; what was made last owes a goal to a part
-pub data Step : Type 0 where
-  enter : Variance → Bool → Tree → Step
-  build : Form → ℕ → Step
-  owe : Variance → Tree → Step
+pub data WalkStep : Type 0 where
+  enter : Variance → Bool → Tree → WalkStep
+  build : Form → ℕ → WalkStep
+  owe : Variance → Tree → WalkStep
 
-abbrev pub step_of : (Tree → Tree) → Step → Step
+abbrev pub step_of : (Tree → Tree) → WalkStep → WalkStep
 step_of f (enter v q t) = enter v q (f t)
 step_of f (build F n) = build F n
 step_of f (owe v t) = owe v (f t)
 
-abbrev pub steps_of : (Tree → Tree) → List Step → List Step
+abbrev pub steps_of : (Tree → Tree) → List WalkStep → List WalkStep
 steps_of f [] = []
 steps_of f (x ∷ xs) = step_of f x ∷ steps_of f xs
 
@@ -41,7 +41,7 @@ unpopped (suc n) [] = []
 unpopped (suc n) (s ∷ ss) = unpopped n ss
 
 -- the parts of a row are entered in order
-abbrev pub entering : Variance → List Variance → Bool → Tree → List Step → List Step
+abbrev pub entering : Variance → List Variance → Bool → Tree → List WalkStep → List WalkStep
 entering v ws q empty xs = xs
 entering v ws q (more t ts) xs = enter (times v (first_variance ws)) q t ∷ entering v (rest_variances ws) q ts xs
 entering v ws q (node l c) xs = xs
@@ -68,7 +68,7 @@ kind_over (a_value b) = of_sort sort.Const
 kind_over (an_alias h) = of_sort (sort_of_alias h)
 
 -- from trees of these kinds the steps lead to one tree, and each node has its parts
-abbrev pub EndsAlone : List Step → List (Option NodeKind) → Type 0
+abbrev pub EndsAlone : List WalkStep → List (Option NodeKind) → Type 0
 EndsAlone [] ks = length ks ≡ 1
 EndsAlone (enter v q t ∷ xs) ks = EndsAlone xs (kind_of t ∷ ks)
 EndsAlone (build F n ∷ xs) ks = PartsFit F n ks × EndsAlone xs (Some (kind_over F) ∷ kinds_left n ks)
@@ -80,7 +80,7 @@ HasSorts (a_function ss) = IsFormed (node (label.List list.Sorts) ss)
 HasSorts F = Unit {0}
 
 -- how many nodes are to be built
-abbrev pub builds : List Step → ℕ
+abbrev pub builds : List WalkStep → ℕ
 builds [] = 0
 builds (enter v q t ∷ xs) = builds xs
 builds (build F n ∷ xs) = builds xs + 1
@@ -93,11 +93,11 @@ sizes (t ∷ ts) = size t + sizes ts
 
 module _ (P : Variance → Bool → Tree → Tree → Type 0) (Q : Variance → Tree → Tree → Type 0) where
   -- the steps lead from the trees that were made to one tree, where P says what may be made for a part, and Q what is owed for one
-  pub data Runs : List Step → List Tree → Tree → Type 0 where
-    ended : {s : Tree} → Runs [] (s ∷ []) s
-    entered : {v : Variance} {q : Bool} {t s e : Tree} {xs : List Step} {ss : List Tree} → P v q t s → Runs xs (s ∷ ss) e → Runs (enter v q t ∷ xs) ss e
-    built : {F : Form} {n : ℕ} {e : Tree} {xs : List Step} {ss : List Tree} → n ≤ length ss → Runs xs (over F (popped n ss empty) ∷ unpopped n ss) e → Runs (build F n ∷ xs) ss e
-    owed : {v : Variance} {t s e : Tree} {xs : List Step} {ss : List Tree} → Q v t s → Runs xs (s ∷ ss) e → Runs (owe v t ∷ xs) (s ∷ ss) e
+  pub data StepsLead : List WalkStep → List Tree → Tree → Type 0 where
+    ended : {s : Tree} → StepsLead [] (s ∷ []) s
+    entered : {v : Variance} {q : Bool} {t s e : Tree} {xs : List WalkStep} {ss : List Tree} → P v q t s → StepsLead xs (s ∷ ss) e → StepsLead (enter v q t ∷ xs) ss e
+    built : {F : Form} {n : ℕ} {e : Tree} {xs : List WalkStep} {ss : List Tree} → n ≤ length ss → StepsLead xs (over F (popped n ss empty) ∷ unpopped n ss) e → StepsLead (build F n ∷ xs) ss e
+    owed : {v : Variance} {t s e : Tree} {xs : List WalkStep} {ss : List Tree} → Q v t s → StepsLead xs (s ∷ ss) e → StepsLead (owe v t ∷ xs) (s ∷ ss) e
 
   -- made for each part of a row
   abbrev pub MadeForRow : Variance → List Variance → Bool → Tree → Tree → Type 0

@@ -20,13 +20,13 @@ use Rattle.nts_store.specs.declared.nodes.NodeId.{NodeId}
 use Rattle.nts_store.specs.Growth.{tree_at, IsIn}
 use Rattle.nts_unify.specs.Entries.{Entries}
 use Rattle.nts_unify.specs.Reading.{content_of, IsLawful}
-use Rattle.nts_unify.specs.Changing.{unset_count, Keeps}
+use Rattle.nts_unify.specs.Changing.{unset_count, KeepsKnowing}
 use Rattle.nts_variance.specs.declared.along.Relating.{Relating}
 use Rattle.nts_variance.specs.declared.splitting.Taken.{Taken}
 use Rattle.nts_variance.specs.declared.splitting.Taken.TheVariants as taken
 use Rattle.nts_variance.specs.Steps.{stacked}
-use Rattle.nts_variance.specs.Walking.{IsGrown}
-use Rattle.nts_variance.specs.Parts.{form_of, parts_of}
+use Rattle.nts_variance.specs.Walking.{IsTableGrown}
+use Rattle.nts_variance.specs.Parts.{form_of_tree, parts_of}
 use Rattle.nts_variance.specs.Terms.{pair_at, pairs_at, IsGoal, AreGoals, ArePairs}
 use Rattle.nts_variance.specs.Varying.{IsMadeAgain}
 use Rattle.nts_variance.specs.Pairs.{Leaves}
@@ -35,7 +35,7 @@ use Rattle.nts_variance.specs.Pairs.{Leaves}
 -- each later table in which the goals are answered they are related if what is left is; and each settled solution in which they
 -- settle goes on to one of the table d in which what is left settles
 pub record Takes (declared : ℕ → List Variance) (c d : Content) (ps qs gs : List Pair) : Type 0 where
-  pub later : IsGrown c d
+  pub later : IsTableGrown c d
   pub continues : Continues c d
   pub leaves : Leaves declared c d ps qs gs
   pub relates : RelatesBy declared d ps qs gs
@@ -62,15 +62,15 @@ AllWait ts [] = Unit {0}
 AllWait ts (p ∷ ps) = Waits ts p × AllWait ts ps
 
 -- a side of a pair: a type, a region or a const of the store and the table
-pub record IsSide (ts : List Tree) (c : Content) (t : NodeId) : Type 0 where
+pub record IsPairSide (ts : List Tree) (c : Content) (t : NodeId) : Type 0 where
   pub within : IsIn ts t
   pub knows : Knows c (tree_at ts t)
   pub sort : Sort
   pub kind : kind_of (tree_at ts t) ≡ Some (of_sort sort)
 
 pub record IsPair (ts : List Tree) (c : Content) (p : Relating) : Type 0 where
-  pub left : IsSide ts c p.left
-  pub right : IsSide ts c p.right
+  pub left : IsPairSide ts c p.left
+  pub right : IsPairSide ts c p.right
 
 abbrev pub ArePairsLeft : List Tree → Content → List Relating → Type 0
 ArePairsLeft ts c [] = Unit {0}
@@ -93,12 +93,12 @@ number_at t = None
 pub record AreOfOneForm (a b : Tree) : Type 0 where
   pub left : IsMadeAgain a
   pub right : IsMadeAgain b
-  pub form : form_of a ≡ form_of b
+  pub form : form_of_tree a ≡ form_of_tree b
   pub long : row_length (parts_of a) ≡ row_length (parts_of b)
 
 -- a side of which a goal says all that a pair owes: a closed alias, or a closed type
-abbrev pub RestsOn : Tree → Type 0
-RestsOn t = IsClosed t × (IsAlias t ⊎ (kind_of t ≡ Some (of_sort sort.Ty)))
+abbrev pub SaysAllOwed : Tree → Type 0
+SaysAllOwed t = IsClosed t × (IsAlias t ⊎ (kind_of t ≡ Some (of_sort sort.Ty)))
 
 -- no settled solution relates the two: bound variables escape from one, or they are not of one kind
 abbrev pub AreNoSides : Tree → Tree → Type 0
@@ -115,7 +115,7 @@ IsTaken declared ts us e f p taken.Parts = (us ≡ ts) × (f ≡ e) × AreOfOneF
 -- what a way of taking a pair, of which no side is a variable with a value, leaves for the measure: where a variable got a value,
 -- fewer variables and aliases; and else what trees are under the table stays
 abbrev pub IsPaid : Content → Content → Pair → Taken → Type 0
-IsPaid c d p taken.Done = Keeps c d
+IsPaid c d p taken.Done = KeepsKnowing c d
 IsPaid c d p taken.Equal = ⊥
 IsPaid c d p taken.Owed = Unit {0}
 IsPaid c d p (taken.Bound gs) = p.variance ≡ variance.Invariant → (unset_count d.slots < unset_count c.slots + closed_aliases (resolved c p.left) + closed_aliases (resolved c p.right)) × ((t : Tree) → Knows c t → closed_aliases (resolved d t) ≡ closed_aliases (resolved c t))
@@ -123,7 +123,7 @@ IsPaid c d p taken.Parts = (IsAlias p.left → ⊥) × (IsAlias p.right → ⊥)
 
 -- the pairs of the parts of two nodes are to be taken in order
 pub record ArePartsPaired (declared : ℕ → List Variance) (ts : List Tree) (p : Relating) (xs ys : List Relating) : Type 0 where
-  pub pairs : stacked (pair_at ts) ys ≡ pairs_over p.variance (variances_over declared (form_of (tree_at ts p.left)) (parts_of (tree_at ts p.left))) (parts_of (tree_at ts p.left)) (parts_of (tree_at ts p.right)) ++ stacked (pair_at ts) xs
+  pub pairs : stacked (pair_at ts) ys ≡ pairs_over p.variance (variances_over declared (form_of_tree (tree_at ts p.left)) (parts_of (tree_at ts p.left))) (parts_of (tree_at ts p.left)) (parts_of (tree_at ts p.right)) ++ stacked (pair_at ts) xs
   pub known : (c : Content) → Knows c (tree_at ts p.left) → Knows c (tree_at ts p.right) → ArePairsLeft ts c xs → ArePairsLeft ts c ys
 
 -- for the measure: how large the left sides of pairs are
@@ -162,7 +162,7 @@ module _ (declared : ℕ → List Variance) where
   -- a call of relating the pair p under way, from the table c to d: the pairs left to take, those that are left in the end, the
   -- goals, and the pairs met, each of which holds where the smaller ones of those left do
   pub record IsUnderway (c d : Content) (p : Pair) (left es gs met : List Pair) : Type 0 where
-    pub later : IsGrown c d
+    pub later : IsTableGrown c d
     pub continues : Continues c d
     pub leaves : Leaves declared c d (p ∷ []) (left ++ es) gs
     pub sound : (w : Sense) → Counts d es gs w → AllHoldIn w left → HoldsIn w p

@@ -15,8 +15,8 @@ use Rattle.nts_variance.specs.declared.along.Relating.{Relating}
 use Rattle.nts_variance.specs.declared.vary_walk.Spot.{Spot}
 use Rattle.nts_variance.specs.declared.vary_walk.Task.{Task}
 use Rattle.nts_variance.specs.declared.vary_walk.Task.TheVariants as task
-use Rattle.nts_variance.specs.Steps.{Step, enter, build, owe, HasSorts}
-use Rattle.nts_variance.specs.Parts.{form_of, parts_of}
+use Rattle.nts_variance.specs.Steps.{WalkStep, enter, build, owe, HasSorts}
+use Rattle.nts_variance.specs.Parts.{form_of_tree, parts_of}
 use Rattle.nts_model.specs.Variances.Forms.{over}
 
 abbrev pub pair_at : List Tree → Relating → Pair
@@ -29,9 +29,9 @@ abbrev pub ArePairs : List Tree → Content → List Relating → Type 0
 ArePairs ts c [] = Unit {0}
 ArePairs ts c (p ∷ ps) = (IsIn ts p.left × IsIn ts p.right × Knows c (tree_at ts p.left) × Knows c (tree_at ts p.right)) × ArePairs ts c ps
 
-abbrev pub step_at : List Tree → Task → Step
+abbrev pub step_at : List Tree → Task → WalkStep
 step_at ts (task.Enter s) = enter s.variance s.is_quiet (tree_at ts s.term)
-step_at ts (task.Build t) = build (form_of (tree_at ts t)) (row_length (parts_of (tree_at ts t)))
+step_at ts (task.Build t) = build (form_of_tree (tree_at ts t)) (row_length (parts_of (tree_at ts t)))
 step_at ts (task.Owe s) = owe s.variance (tree_at ts s.term)
 
 -- a part that is to be entered is a type, a region or a const, and only the binders around it bind in it; a node that is to be
@@ -44,15 +44,15 @@ pub record IsPart (ts : List Tree) (c : Content) (s : Spot) : Type 0 where
   pub sort : Sort
   pub kind : kind_of (tree_at ts s.term) ≡ Some (of_sort sort)
 
-pub record IsNode (ts : List Tree) (c : Content) (t : NodeId) : Type 0 where
+pub record IsNodeOfTable (ts : List Tree) (c : Content) (t : NodeId) : Type 0 where
   pub within : IsIn ts t
   pub knows : Knows c (tree_at ts t)
-  pub is : tree_at ts t ≡ over (form_of (tree_at ts t)) (parts_of (tree_at ts t))
-  pub sorts : HasSorts (form_of (tree_at ts t))
+  pub is : tree_at ts t ≡ over (form_of_tree (tree_at ts t)) (parts_of (tree_at ts t))
+  pub sorts : HasSorts (form_of_tree (tree_at ts t))
 
 abbrev pub IsTask : List Tree → Content → Task → Type 0
 IsTask ts c (task.Enter s) = IsPart ts c s
-IsTask ts c (task.Build t) = IsNode ts c t
+IsTask ts c (task.Build t) = IsNodeOfTable ts c t
 IsTask ts c (task.Owe s) = IsPart ts c s
 
 abbrev pub AreTasks : List Tree → Content → List Task → Type 0

@@ -27,29 +27,29 @@ use Rattle.nts_unify.specs.declared.contents.State.TheVariants as State
 use Rattle.nts_unify.specs.Entries.{Entries, constrained}
 use Rattle.nts_unify.specs.Reading.{content_of, IsLawful}
 use Rattle.nts_unify.specs.Changing.{unset_count}
-use Rattle.nts_relating.specs.Parts.{IsValueOf}
+use Rattle.nts_relating.specs.Parts.{IsVariableValue}
 use Rattle.nts_relating.specs.Relating.{Blocks}
 use Rattle.nts_variance.specs.declared.along.Relating.{Relating}
 use Rattle.nts_variance.specs.declared.vary_walk.Task.{Task}
 use Rattle.nts_variance.specs.declared.vary_walk.Spot.{Spot}
 use Rattle.nts_variance.specs.declared.vary_walk.Look.{Look}
 use Rattle.nts_variance.specs.declared.vary_walk.Look.TheVariants as look
-use Rattle.nts_variance.specs.Steps.{Step, enter, build, owe, steps_of, stacked, popped, unpopped, entering, EndsAlone, builds, Runs}
-use Rattle.nts_variance.specs.Walking.{Judges, IsGrown, IsMadeFor, IsChoice, SettlesOwed, Walks, IsMade, weights}
+use Rattle.nts_variance.specs.Steps.{WalkStep, enter, build, owe, steps_of, stacked, popped, unpopped, entering, EndsAlone, builds, StepsLead}
+use Rattle.nts_variance.specs.Walking.{Judges, IsTableGrown, IsMadeFor, IsChoice, SettlesOwed, Walks, IsMade, step_weights}
 use Rattle.nts_variance.specs.Counting.{IsCounted, IsCountedFor}
-use Rattle.nts_variance.specs.Parts.{form_of, parts_of, IsNodeWithParts, StandsAlone}
+use Rattle.nts_variance.specs.Parts.{form_of_tree, parts_of, IsNodeWithParts, StandsAlone}
 use Rattle.nts_variance.specs.Debts.{IsClosedLike, OweGoals}
 use Rattle.nts_variance.specs.Terms.{pairs_at, AreGoals, ArePairs, step_at, AreTasks, AreMade}
 
 -- a variable that is to be entered stands inside of a node that is to be built
-abbrev pub AreInside : List Step → Type 0
+abbrev pub AreInside : List WalkStep → Type 0
 AreInside [] = Unit {0}
 AreInside (enter v q t ∷ xs) = ((IsInfer t → ⊥) ⊎ (1 ≤ builds xs)) × AreInside xs
 AreInside (build F n ∷ xs) = AreInside xs
 AreInside (owe v t ∷ xs) = AreInside xs
 
 -- whatever is made for the parts that are to be entered, each node that is to be built is of the table
-abbrev pub BuildsKnown : Content → List Step → List Tree → Type 0
+abbrev pub BuildsKnown : Content → List WalkStep → List Tree → Type 0
 BuildsKnown f [] ss = Unit {0}
 BuildsKnown f (enter v q t ∷ xs) ss = (s : Tree) → IsMadeFor f t s → BuildsKnown f xs (s ∷ ss)
 BuildsKnown f (build F n ∷ xs) ss = Knows f (over F (popped n ss empty)) × BuildsKnown f xs (over F (popped n ss empty) ∷ unpopped n ss)
@@ -63,7 +63,7 @@ pub record IsWalk (ts : List Tree) (e : Entries) (u x : ℕ) (xs : List Task) (m
   pub goals : ArePairs ts (content_of ts e) gs
   pub ends : EndsAlone (stacked (step_at ts) xs) (stacked (λ t. kind_of (tree_at ts t)) ms)
   pub inside : AreInside (stacked (step_at ts) xs)
-  pub builds : (f : Content) → IsGrown (content_of ts e) f → BuildsKnown f (stacked (step_at ts) xs) (stacked (tree_at ts) ms)
+  pub builds : (f : Content) → IsTableGrown (content_of ts e) f → BuildsKnown f (stacked (step_at ts) xs) (stacked (tree_at ts) ms)
   pub named : u ≤ e.universe
   pub known : x < length e.variables
   pub no_region : kind_at (content_of ts e) x ≢ Some kind.Region
@@ -77,7 +77,7 @@ pub record IsKept (c d : Content) (x : ℕ) : Type 0 where
 pub record IsTurn (declared : ℕ → List Variance) (z : Bool) (u x : ℕ) (ts us : List Tree) (e f : Entries) (xs ys : List Task) (ms ns : List NodeId) (gs hs : List Relating) : Type 0 where
   pub walk : IsWalk us f u x ys ns hs
   pub walks : Walks declared z u (content_of ts e) (content_of us f) (stacked (step_at ts) xs) (stacked (step_at us) ys) (stacked (tree_at ts) ms) (stacked (tree_at us) ns) (pairs_at ts gs) (pairs_at us hs)
-  pub less : weights (content_of us f) (stacked (step_at us) ys) < weights (content_of ts e) (stacked (step_at ts) xs)
+  pub less : step_weights (content_of us f) (stacked (step_at us) ys) < step_weights (content_of ts e) (stacked (step_at ts) xs)
   pub kept : IsKept (content_of ts e) (content_of us f) x
   pub trees : (a : Tree) → Knows (content_of ts e) a → resolved (content_of us f) a ≡ resolved (content_of ts e) a
   pub owes : OweGoals (stacked (step_at ts) xs) (stacked (tree_at ts) ms) → AreGoals (pairs_at ts gs) → OweGoals (stacked (step_at us) ys) (stacked (tree_at us) ns) × AreGoals (pairs_at us hs)
@@ -92,8 +92,8 @@ abbrev pub owed_pairs : Bool → Spot → NodeId → List Relating
 owed_pairs z s r = cond s.is_quiet [] (pair_in z s.variance r s.term ∷ [])
 
 -- the constraint of a pair of regions
-abbrev pub constraint_of : Relating → Constraint
-constraint_of p = record { relation = relation_by p.variance; left = left_by p.variance p.left p.right; right = left_by p.variance p.right p.left; is_visible = true }
+abbrev pub constraint_of_pair : Relating → Constraint
+constraint_of_pair p = record { relation = relation_by p.variance; left = left_by p.variance p.left p.right; right = left_by p.variance p.right p.left; is_visible = true }
   where
     relation_by : Variance → Relation
     relation_by variance.Invariant = relation.Equal
@@ -104,7 +104,7 @@ constraint_of p = record { relation = relation_by p.variance; left = left_by p.v
     left_by v a b = a
 
 abbrev pub with_owed : Bool → Spot → NodeId → Entries → Entries
-with_owed z s r e = cond s.is_quiet e (constrained e (constraint_of (pair_in z s.variance r s.term)))
+with_owed z s r e = cond s.is_quiet e (constrained e (constraint_of_pair (pair_in z s.variance r s.term)))
 
 abbrev pub fresh : VariableKind → ℕ → Option ℕ → Variable
 fresh k u o = record { kind = k; universe = u; state = State.Unset; sub_link = o }
@@ -124,7 +124,7 @@ pub record IsMadeAt (declared : ℕ → List Variance) (z : Bool) (u x : ℕ) (t
 
 -- a type variable's value
 pub record IsTypeValue (c : Content) (t v : Tree) : Type 0 where
-  pub value : IsValueOf c t v
+  pub value : IsVariableValue c t v
   pub number : ℕ
   pub is : label_of t ≡ Some (label.Leaf (leaf.Variable kind.Ty number))
   pub closed : IsClosed t
@@ -133,18 +133,18 @@ pub record IsTypeValue (c : Content) (t v : Tree) : Type 0 where
 pub record IsMadeAgain (t : Tree) : Type 0 where
   pub formed : IsFormed t
   pub with_parts : IsNodeWithParts t
-  pub fits : FitsForm (form_of t) (parts_of t)
+  pub fits : FitsForm (form_of_tree t) (parts_of t)
 
 -- what a look at a part finds: a value is copied where it may vary
 abbrev pub IsLook : (ℕ → List Variance) → Bool → ℕ → ℕ → List Tree → List Tree → Entries → Entries → Spot → List Relating → List Relating → Look → Type 0
 IsLook declared z u x ts us e f s gs hs (look.Made r) = IsMadeAt declared z u x ts us e f s r gs hs
 IsLook declared z u x ts us e f s gs hs (look.Value v) = (us ≡ ts) × (f ≡ e) × (hs ≡ gs) × IsIn ts v × IsTypeValue (content_of ts e) (tree_at ts s.term) (tree_at ts v) × (s.variance ≢ variance.Invariant)
-IsLook declared z u x ts us e f s gs hs (look.Through v) = (us ≡ ts) × (f ≡ e) × (hs ≡ gs) × IsIn ts v × IsValueOf (content_of ts e) (tree_at ts s.term) (tree_at ts v)
+IsLook declared z u x ts us e f s gs hs (look.Through v) = (us ≡ ts) × (f ≡ e) × (hs ≡ gs) × IsIn ts v × IsVariableValue (content_of ts e) (tree_at ts s.term) (tree_at ts v)
 IsLook declared z u x ts us e f s gs hs look.Node = (us ≡ ts) × (f ≡ e) × (hs ≡ gs) × IsMadeAgain (tree_at ts s.term)
 
 -- the parts of a node are to be entered in order, and then the node is to be built
 pub record ArePartsPushed (declared : ℕ → List Variance) (ts : List Tree) (s : Spot) (xs ys : List Task) : Type 0 where
-  pub steps : stacked (step_at ts) ys ≡ entering s.variance (variances_over declared (form_of (tree_at ts s.term)) (parts_of (tree_at ts s.term))) s.is_quiet (parts_of (tree_at ts s.term)) (build (form_of (tree_at ts s.term)) (row_length (parts_of (tree_at ts s.term))) ∷ stacked (step_at ts) xs)
+  pub steps : stacked (step_at ts) ys ≡ entering s.variance (variances_over declared (form_of_tree (tree_at ts s.term)) (parts_of (tree_at ts s.term))) s.is_quiet (parts_of (tree_at ts s.term)) (build (form_of_tree (tree_at ts s.term)) (row_length (parts_of (tree_at ts s.term))) ∷ stacked (step_at ts) xs)
   pub tasks : (c : Content) → Knows c (tree_at ts s.term) → AreTasks ts c xs → AreTasks ts c ys
 
 -- the part is the variable for which the whole is made
@@ -158,9 +158,9 @@ abbrev pub LookRefuses : Content → ℕ → ℕ → Spot → Tree → Type 0
 LookRefuses c x u s t = IsOwn c x t ⊎ (StandsAlone s.variance t × (any_label is_alias t ≡ false) × Blocks c x u s.binders t)
 
 -- no choice of the variable's own tree goes on by these steps
-pub record WalkRefuses (declared : ℕ → List Variance) (u x : ℕ) (c : Content) (xs : List Step) (ss : List Tree) (gs : List Pair) : Type 0 where
+pub record WalkRefuses (declared : ℕ → List Variance) (u x : ℕ) (c : Content) (xs : List WalkStep) (ss : List Tree) (gs : List Pair) : Type 0 where
   pub none : (j : Judge declared) (w : World) → Solves c w → Judges declared j w → IsSettledWorld (judging_of declared j) c w → AllSettleIn (judging_of declared j) w gs
-      → NamesAll term_level u (w.tree x) → Runs (IsChoice (judging_of declared j) u (w.tree x)) (SettlesOwed (judging_of declared j)) (steps_of (inst w) xs) (map (inst w) ss) (w.tree x) → ⊥
+      → NamesAll term_level u (w.tree x) → StepsLead (IsChoice (judging_of declared j) u (w.tree x)) (SettlesOwed (judging_of declared j)) (steps_of (inst w) xs) (map (inst w) ss) (w.tree x) → ⊥
 
 -- a term was made for the whole, and the goals that this owes; the variable x, for which it was made, is as it was. Invariantly the
 -- term has no closed alias, and the table has at most as many more variables without value as the whole has of them

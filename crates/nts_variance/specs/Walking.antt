@@ -18,17 +18,17 @@ use Rattle.nts_model.specs.Lists.{Among}
 use Rattle.nts_model.specs.Derivations.Proving.{recorded_as}
 use Rattle.nts_model.specs.Variances.Judging.{Judging, IsSettled, Settles, opposite}
 use Rattle.nts_model.specs.Terms.Substitutions.{leaf_tree}
-use Rattle.nts_model.specs.Variances.Relations.{Relating, AllSettleIn, AllKnown, IsJudgedBy, IsSettledWorld, SettledExtension, StandsIn}
+use Rattle.nts_model.specs.Variances.Relations.{Relating, AllSettleIn, ArePairsKnown, IsJudgedBy, IsSettledWorld, SettledExtension, StandsIn}
 use Rattle.nts_model.specs.Variances.AnsweredGoals.{AllAnswered}
 use Rattle.nts_model.specs.Variances.Leaving.{Judge, judging_of}
 use Rattle.nts_unify.specs.Changing.{AddsVisible}
 use Rattle.nts_variance.specs.SubRoots.{GrowsSubRoots}
-use Rattle.nts_variance.specs.Steps.{Step, enter, build, owe, steps_of, Runs}
+use Rattle.nts_variance.specs.Steps.{WalkStep, enter, build, owe, steps_of, StepsLead}
 
 -- the table has its variables and its universes, and may have more; its classes of sub-unification are those that it had, but for
 -- variables that became one, and new ones, each of which was made in a class; what was recorded since is visible for the leak check,
 -- and between closed terms
-pub record IsGrown (c d : Content) : Type 0 where
+pub record IsTableGrown (c d : Content) : Type 0 where
   pub more : length c.slots ≤ length d.slots
   pub grows : c.universe ≤ d.universe
   pub kinds : (n : ℕ) (k : VariableKind) → kind_at c n ≡ Some k → kind_at d n ≡ Some k
@@ -90,22 +90,22 @@ abbrev pub SettlesOwed : Judging → Variance → Tree → Tree → Type 0
 SettlesOwed J v t s = Settles J v s t
 
 -- for the measure: the trees under the table's values
-abbrev pub weight : Content → Step → ℕ
-weight c (enter v q t) = 2 * left_to_resolve c t + 1
-weight c (build F n) = 1
-weight c (owe v t) = 1
+abbrev pub step_weight : Content → WalkStep → ℕ
+step_weight c (enter v q t) = 2 * left_to_resolve c t + 1
+step_weight c (build F n) = 1
+step_weight c (owe v t) = 1
 
-abbrev pub weights : Content → List Step → ℕ
-weights c [] = 0
-weights c (x ∷ xs) = weight c x + weights c xs
+abbrev pub step_weights : Content → List WalkStep → ℕ
+step_weights c [] = 0
+step_weights c (x ∷ xs) = step_weight c x + step_weights c xs
 
 -- the parts that are to be entered, and what is owed to, are of the table
-abbrev pub KnowsStep : Content → Step → Type 0
+abbrev pub KnowsStep : Content → WalkStep → Type 0
 KnowsStep c (enter v q t) = Knows c t
 KnowsStep c (build F n) = Unit {0}
 KnowsStep c (owe v t) = Knows c t
 
-abbrev pub KnowsSteps : Content → List Step → Type 0
+abbrev pub KnowsSteps : Content → List WalkStep → Type 0
 KnowsSteps c [] = Unit {0}
 KnowsSteps c (x ∷ xs) = KnowsStep c x × KnowsSteps c xs
 
@@ -115,34 +115,34 @@ KnowsTrees c (t ∷ ts) = Knows c t × KnowsTrees c ts
 
 module _ (declared : ℕ → List Variance) (z : Bool) (u : ℕ) where
   -- a choice of the whole by which the steps run, in an extension of a world
-  pub record GoesOn (J : Judging) (c d : Content) (w : World) (whole : Tree) (ys : List Step) (rs : List Tree) (hs : List Relating) : Type 0 where
+  pub record GoesOn (J : Judging) (c d : Content) (w : World) (whole : Tree) (ys : List WalkStep) (rs : List Tree) (hs : List Relating) : Type 0 where
     pub extension : SettledExtension J c d w (λ f. NamesAll f u whole)
-    pub runs : Runs (IsChoice J u whole) (SettlesOwed J) (steps_of (inst extension.world) ys) (map (inst extension.world) rs) whole
+    pub runs : StepsLead (IsChoice J u whole) (SettlesOwed J) (steps_of (inst extension.world) ys) (map (inst extension.world) rs) whole
     pub goals : AllSettleIn J extension.world hs
 
   -- steps taken: what is made afterwards is made before, by the goals that are left, and each choice goes on
-  pub record Walks (c d : Content) (xs ys : List Step) (ss rs : List Tree) (gs hs : List Relating) : Type 0 where
-    pub later : IsGrown c d
+  pub record Walks (c d : Content) (xs ys : List WalkStep) (ss rs : List Tree) (gs hs : List Relating) : Type 0 where
+    pub later : IsTableGrown c d
     pub continues : Continues c d
-    pub made : (f : Content) → IsSound f → Continues d f → (e : Tree) → Runs (MadeIn f) NothingOwed ys rs e → Runs (MadeIn f) NothingOwed xs ss e
+    pub made : (f : Content) → IsSound f → Continues d f → (e : Tree) → StepsLead (MadeIn f) NothingOwed ys rs e → StepsLead (MadeIn f) NothingOwed xs ss e
     pub answered : (f : Content) (ks : List Tree) → AllAnswered f ks hs → AllAnswered f ks gs
     pub stands : (f : Content) → IsSound f → Continues d f → (ks : List Tree) → AllAnswered f ks hs → (e : Tree)
-        → Runs (StandsBy z declared f ks) (OwedBy z declared f ks) (steps_of (deeply_resolved f) ys) (map (deeply_resolved f) rs) e
-        → Runs (StandsBy z declared f ks) (OwedBy z declared f ks) (steps_of (deeply_resolved f) xs) (map (deeply_resolved f) ss) e
+        → StepsLead (StandsBy z declared f ks) (OwedBy z declared f ks) (steps_of (deeply_resolved f) ys) (map (deeply_resolved f) rs) e
+        → StepsLead (StandsBy z declared f ks) (OwedBy z declared f ks) (steps_of (deeply_resolved f) xs) (map (deeply_resolved f) ss) e
     pub back : (w : World) → Solves d w → Solves c w
     pub complete : (j : Judge declared) (w : World) → Solves c w → Judges declared j w → IsSettledWorld (judging_of declared j) c w → AllSettleIn (judging_of declared j) w gs
-        → (whole : Tree) → NamesAll term_level u whole → Runs (IsChoice (judging_of declared j) u whole) (SettlesOwed (judging_of declared j)) (steps_of (inst w) xs) (map (inst w) ss) whole
+        → (whole : Tree) → NamesAll term_level u whole → StepsLead (IsChoice (judging_of declared j) u whole) (SettlesOwed (judging_of declared j)) (steps_of (inst w) xs) (map (inst w) ss) whole
         → GoesOn (judging_of declared j) c d w whole ys rs hs
 
   -- a tree made at once for a part, in which no region is that the universe u cannot name, with the goals that it leaves
   pub record IsMade (c d : Content) (v : Variance) (q : Bool) (t r : Tree) (new : List Relating) : Type 0 where
-    pub later : IsGrown c d
+    pub later : IsTableGrown c d
     pub continues : Continues c d
     pub trees : (a : Tree) → Knows c a → resolved d a ≡ resolved c a
     pub clean : NamesAll region_level u (resolved d r)
     pub made : (f : Content) → IsSound f → Continues d f → IsMadeFor f t r
     pub stands : (f : Content) → IsSound f → Continues d f → (ks : List Tree) → AllAnswered f ks new → StandsBy z declared f ks v q (deeply_resolved f t) (deeply_resolved f r)
-    pub goals : AllKnown d new
+    pub goals : ArePairsKnown d new
     pub back : (w : World) → Solves d w → Solves c w
     pub complete : (j : Judge declared) (w : World) → Solves c w → Judges declared j w → IsSettledWorld (judging_of declared j) c w
         → (s : Tree) → IsSettled (judging_of declared j) s → NamesAll term_level u s → IsFormed s → Settles (judging_of declared j) v s (inst w t)

@@ -12,8 +12,8 @@ ghost use Rattle.nts_relating.specs.Relating.{IsOpen};
 ghost use Rattle.nts_variance.specs.Terms.{pair_at};
 ghost use Rattle.nts_variance.specs.Varying.{pair_in};
 ghost use Rattle.nts_variance.specs.Pairs.{Refuses};
-ghost use Rattle.nts_variance.specs.Taking.{IsSide, IsPair, IsTaken, IsPaid};
-ghost use Rattle.nts_variance.specs.Equating.{node_in, AreToBeOne, AreHeads, ArePairHeads, AreInvariant, IsReady, IsOn, IsEqualStep, IsEqualRun, AreRefused, GoalsRelate};
+ghost use Rattle.nts_variance.specs.Taking.{IsPairSide, IsPair, IsTaken, IsPaid};
+ghost use Rattle.nts_variance.specs.Equating.{node_in, AreToBeOne, AreHeads, ArePairHeads, AreInvariant, ArePairsReady, IsOn, IsEqualStep, IsEqualRun, AreRefused, GoalsRelate};
 
 use crate::along::{Relating, Side, bind_along};
 use crate::splitting::{Left, Taken, owe, push_pairs, relate_along, take_heads};
@@ -106,8 +106,8 @@ fn bind_head(
     term: NodeId,
 ) -> Result<Taken, EvalError>
     requires lawful { IsLawful nodes.old table.old.entries }
-    requires own { IsSide nodes.old (content_of nodes.old table.old.entries) own }
-    requires term { IsSide nodes.old (content_of nodes.old table.old.entries) term }
+    requires own { IsPairSide nodes.old (content_of nodes.old table.old.entries) own }
+    requires term { IsPairSide nodes.old (content_of nodes.old table.old.entries) term }
     requires open { IsOpen nodes.old table.old.entries (tree_at nodes.old own) side.variable }
     requires node { IsInfer (tree_at nodes.old term) → ⊥ }
     requires rigid { IsAlias (tree_at nodes.old term) → ⊥ }
@@ -295,7 +295,7 @@ fn step(
     call: &mut Equals,
     pair: Relating,
 ) -> Result<bool, EvalError>
-    requires ready { IsReady nodes.old table.old.entries (call.old.pairs.items ++ pair ∷ []) }
+    requires ready { ArePairsReady nodes.old table.old.entries (call.old.pairs.items ++ pair ∷ []) }
     requires one { AreToBeOne (content_of nodes.old table.old.entries) pair.variance (tree_at nodes.old pair.left) (tree_at nodes.old pair.right) }
     ensures extends { Extends nodes.old nodes.new }
     ensures changes { KeepsHidden table.old table.new }
@@ -338,7 +338,7 @@ fn run(
     table: &mut InferCtxtInner,
     call: &mut Equals,
 ) -> Result<bool, EvalError>
-    requires ready { IsReady nodes.old table.old.entries call.old.pairs.items }
+    requires ready { ArePairsReady nodes.old table.old.entries call.old.pairs.items }
     requires invariant { AreInvariant call.old.pairs.items }
     ensures extends { Extends nodes.old nodes.new }
     ensures changes { KeepsHidden table.old table.new }
@@ -367,7 +367,7 @@ fn run_all(
     table: &mut InferCtxtInner,
     call: &mut Equals,
 ) -> Result<(), EvalError>
-    requires ready { IsReady nodes.old table.old.entries call.old.pairs.items }
+    requires ready { ArePairsReady nodes.old table.old.entries call.old.pairs.items }
     requires invariant { AreInvariant call.old.pairs.items }
     ensures extends { Extends nodes.old nodes.new }
     ensures changes { KeepsHidden table.old table.new }
@@ -459,8 +459,8 @@ pub fn relate_terms(
     right: NodeId,
 ) -> Result<Vec<Relating>, EvalError>
     requires lawful { IsLawful nodes.old table.old.entries }
-    requires left { IsSide nodes.old (content_of nodes.old table.old.entries) left }
-    requires right { IsSide nodes.old (content_of nodes.old table.old.entries) right }
+    requires left { IsPairSide nodes.old (content_of nodes.old table.old.entries) left }
+    requires right { IsPairSide nodes.old (content_of nodes.old table.old.entries) right }
     ensures extends { Extends nodes.old nodes.new }
     ensures changes { KeepsHidden table.old table.new }
     ensures lawful { IsLawful nodes.new table.new.entries }

@@ -2,7 +2,7 @@
 ghost use Rattle.std.specs.Prelude.{◌≡◌, ◌≢◌, IfOk, Err};
 ghost use Rattle.nts_store.specs.Growth.{tree_at, IsIn, Extends};
 ghost use Rattle.nts_variance.specs.Terms.{pair_at, IsGoal};
-ghost use Rattle.nts_variance.specs.Goals.{goal_of, head_of, ordered, is_alias_node};
+ghost use Rattle.nts_variance.specs.Goals.{goal_of, goal_head, ordered, is_alias_node};
 
 use crate::along::Relating;
 use nts_model::{
@@ -25,7 +25,7 @@ fn is_alias(nodes: &Nodes, t: NodeId) -> bool
 fn head_of_pair(nodes: &Nodes, pair: Relating) -> PredicateHead
     requires left { IsIn nodes.now pair.left }
     requires right { IsIn nodes.now pair.right }
-    ensures { result ≡ head_of (pair_at nodes.now pair) }
+    ensures { result ≡ goal_head (pair_at nodes.now pair) }
 {
     if is_alias(nodes, pair.left) || is_alias(nodes, pair.right) {
         let direction = match pair.variance {

@@ -10,14 +10,14 @@ ghost use Rattle.nts_store.specs.Growth.{tree_at, IsIn, Extends};
 ghost use Rattle.nts_terms.specs.Signatures.{variances_in};
 ghost use Rattle.nts_unify.specs.Entries.{Entries, KeepsHidden};
 ghost use Rattle.nts_unify.specs.Reading.{content_of, IsLawful};
-ghost use Rattle.nts_unify.specs.Changing.{Keeps};
+ghost use Rattle.nts_unify.specs.Changing.{KeepsKnowing};
 ghost use Rattle.nts_relating.specs.Relating.{IsRegionOf};
-ghost use Rattle.nts_variance.specs.Parts.{has_parts as label_has_parts, form_of};
+ghost use Rattle.nts_variance.specs.Parts.{has_parts as label_has_parts, form_of_tree};
 ghost use Rattle.nts_variance.specs.Steps.{stacked};
 ghost use Rattle.nts_variance.specs.Terms.{pair_at};
 ghost use Rattle.nts_variance.specs.Varying.{pair_in, IsMadeAgain};
 ghost use Rattle.nts_variance.specs.Pairs.{Refuses};
-ghost use Rattle.nts_variance.specs.Taking.{left_sizes, number_at, IsSide, IsPair, IsTaken, IsPaid, RestsOn, AreNoSides, AreOfOneForm, ArePairsLeft, ArePartsPaired, IsLeft, IsCall};
+ghost use Rattle.nts_variance.specs.Taking.{left_sizes, number_at, IsPairSide, IsPair, IsTaken, IsPaid, SaysAllOwed, AreNoSides, AreOfOneForm, ArePairsLeft, ArePartsPaired, IsLeft, IsCall};
 
 use crate::along::{Relating, Side, bind_along};
 use crate::parts::{has_parts, holder, variance_of_part};
@@ -83,8 +83,8 @@ pub fn owe(nodes: &Nodes, pair: Relating) -> Result<Taken, EvalError>
 /// with a value.
 fn is_owed(nodes: &Nodes, table: &InferCtxtInner, t: NodeId) -> bool
     requires lawful { IsLawful nodes.now table.now.entries }
-    requires side { IsSide nodes.now (content_of nodes.now table.now.entries) t }
-    ensures yes { result ≡ true → RestsOn (tree_at nodes.now t) }
+    requires side { IsPairSide nodes.now (content_of nodes.now table.now.entries) t }
+    ensures yes { result ≡ true → SaysAllOwed (tree_at nodes.now t) }
     ensures no { result ≡ false → IsAlias (tree_at nodes.now t) → ⊥ }
 {
     // The nodes of a store are formed.
@@ -182,8 +182,8 @@ fn take_variable(
     term: NodeId,
 ) -> Result<Taken, EvalError>
     requires lawful { IsLawful nodes.old table.old.entries }
-    requires own { IsSide nodes.old (content_of nodes.old table.old.entries) own }
-    requires term { IsSide nodes.old (content_of nodes.old table.old.entries) term }
+    requires own { IsPairSide nodes.old (content_of nodes.old table.old.entries) own }
+    requires term { IsPairSide nodes.old (content_of nodes.old table.old.entries) term }
     requires variable { number_at (tree_at nodes.old own) ≡ Some side.variable }
     requires node { IsInfer (tree_at nodes.old term) → ⊥ }
     requires rigid { IsAlias (tree_at nodes.old term) → ⊥ }
@@ -226,7 +226,7 @@ fn take_regions(
     requires right { IsRegionOf nodes.now table.old.entries pair.right }
     ensures changes { KeepsHidden table.old table.new }
     ensures taken { (declared : ℕ → List Variance) → IfOk result (IsTaken declared nodes.now nodes.now table.old.entries table.new.entries pair) }
-    ensures kept { OnOk result (Keeps (content_of nodes.now table.old.entries) (content_of nodes.now table.new.entries)) }
+    ensures kept { OnOk result (KeepsKnowing (content_of nodes.now table.old.entries) (content_of nodes.now table.new.entries)) }
     ensures done { IfOk result (λ r. r ≡ Taken.Done) }
     ensures full { result ≢ Err EvalError.Full }
     ensures no { result ≢ Err EvalError.NoSolution }
@@ -249,8 +249,8 @@ fn binds_same(nodes: &Nodes, label: Label, pair: Relating) -> bool
     requires left_is { tree_at nodes.now pair.left ≡ node label (children (tree_at nodes.now pair.left)) }
     requires right_is { tree_at nodes.now pair.right ≡ node label (children (tree_at nodes.now pair.right)) }
     requires parts { label_has_parts label ≡ true }
-    ensures yes { result ≡ true → form_of (tree_at nodes.now pair.left) ≡ form_of (tree_at nodes.now pair.right) }
-    ensures no { result ≡ false → form_of (tree_at nodes.now pair.left) ≡ form_of (tree_at nodes.now pair.right) → ⊥ }
+    ensures yes { result ≡ true → form_of_tree (tree_at nodes.now pair.left) ≡ form_of_tree (tree_at nodes.now pair.right) }
+    ensures no { result ≡ false → form_of_tree (tree_at nodes.now pair.left) ≡ form_of_tree (tree_at nodes.now pair.right) → ⊥ }
 {
     // The nodes of a store are formed.
     let _ = nodes.len();
@@ -565,8 +565,8 @@ pub fn relate_along(
     right: NodeId,
 ) -> Result<Left, EvalError>
     requires lawful { IsLawful nodes.old table.old.entries }
-    requires left { IsSide nodes.old (content_of nodes.old table.old.entries) left }
-    requires right { IsSide nodes.old (content_of nodes.old table.old.entries) right }
+    requires left { IsPairSide nodes.old (content_of nodes.old table.old.entries) left }
+    requires right { IsPairSide nodes.old (content_of nodes.old table.old.entries) right }
     ensures extends { Extends nodes.old nodes.new }
     ensures changes { KeepsHidden table.old table.new }
     ensures lawful { IsLawful nodes.new table.new.entries }

@@ -16,9 +16,9 @@ ghost use Rattle.nts_unify.specs.Reading.{content_of, IsLawful};
 ghost use Rattle.nts_relating.specs.Relating.{IsRegionOf};
 ghost use Rattle.nts_variance.specs.declared.vary_walk.Task.TheVariants as tasks;
 ghost use Rattle.nts_variance.specs.Steps.{enter, stacked, part_place};
-ghost use Rattle.nts_variance.specs.Parts.{closed_alias, const_variable, number_of_type, form_of, parts_of, StandsAlone};
+ghost use Rattle.nts_variance.specs.Parts.{closed_alias, const_variable, number_of_type, form_of_tree, parts_of, StandsAlone};
 ghost use Rattle.nts_variance.specs.Terms.{step_at, pairs_at, IsPart};
-ghost use Rattle.nts_variance.specs.Varying.{pair_in, owed_pairs, constraint_of, with_owed, fresh, IsLook, LookRefuses, IsMadeAgain, ArePartsPushed, IsWalk, IsTurn, IsVaried, WalkRefuses};
+ghost use Rattle.nts_variance.specs.Varying.{pair_in, owed_pairs, constraint_of_pair, with_owed, fresh, IsLook, LookRefuses, IsMadeAgain, ArePartsPushed, IsWalk, IsTurn, IsVaried, WalkRefuses};
 
 use crate::along::Relating;
 use crate::hiding::hides_nothing;
@@ -178,7 +178,7 @@ fn make_region(
 
 /// Records what a pair of free regions says.
 pub fn record_regions(table: &mut InferCtxtInner, pair: Relating) -> Result<(), EvalError>
-    ensures entries { OnOk result (table.new.entries ≡ constrained table.old.entries (constraint_of pair)) }
+    ensures entries { OnOk result (table.new.entries ≡ constrained table.old.entries (constraint_of_pair pair)) }
     ensures changes { KeepsHidden table.old table.new }
     ensures err { OnErr result (table.new ≡ table.old) }
     ensures full { result ≢ Err EvalError.Full }
@@ -535,14 +535,14 @@ fn build_over(
 ) -> Result<NodeId, EvalError>
     requires within { IsIn nodes.old term }
     requires parts_within { AllIn nodes.old parts.now }
-    requires is { tree_at nodes.old term ≡ over (form_of (tree_at nodes.old term)) (parts_of (tree_at nodes.old term)) }
+    requires is { tree_at nodes.old term ≡ over (form_of_tree (tree_at nodes.old term)) (parts_of (tree_at nodes.old term)) }
     requires label { tree_at nodes.old term ≡ node label (children (tree_at nodes.old term)) }
     requires formed { Meets (shape label) (children (tree_at nodes.old term)) }
-    requires fit { AllFit (part_place (form_of (tree_at nodes.old term))) (trees_at nodes.old parts.now) }
+    requires fit { AllFit (part_place (form_of_tree (tree_at nodes.old term))) (trees_at nodes.old parts.now) }
     requires long { row_length (trees_at nodes.old parts.now) ≡ row_length (parts_of (tree_at nodes.old term)) }
     ensures extends { Extends nodes.old nodes.new }
     ensures within { IfOk result (λ r. IsIn nodes.new r) }
-    ensures tree { IfOk result (λ r. tree_at nodes.new r ≡ over (form_of (tree_at nodes.old term)) (trees_at nodes.old parts.now)) }
+    ensures tree { IfOk result (λ r. tree_at nodes.new r ≡ over (form_of_tree (tree_at nodes.old term)) (trees_at nodes.old parts.now)) }
     ensures full { result ≢ Err EvalError.Full }
     ensures no { result ≢ Err EvalError.NoSolution }
 {

@@ -4,7 +4,7 @@ ghost use Rattle.nts_store.specs.Growth.{Extends};
 ghost use Rattle.nts_terms.specs.Handles.{HoldsArgs};
 ghost use Rattle.nts_table.specs.Tables.{IsTable};
 ghost use Rattle.nts_terms.specs.Handles.{HoldsGoal};
-ghost use Rattle.nts_delegate.specs.Clauses.{AreReady};
+ghost use Rattle.nts_delegate.specs.Clauses.{AreClausesReady};
 ghost use Rattle.nts_terms.specs.Rest.{Grows};
 
 use nts_certainty::{Certainty, HasChanged};
@@ -75,8 +75,8 @@ fn evaluated<H: GoalHandler>(
 /// Adds the fact that a trait holds for an argument.
 #[tactic(auto, using(nts_queries::proofs::Asking::asking))]
 fn fact(cx: &mut Cx, handler: &mut Clauses, id: TraitId, argument: GenericArg) -> Result<(), Fail>
-    requires { AreReady cx.old.nodes handler.old }
-    ensures ready { OnOk result (AreReady cx.new.nodes handler.new) }
+    requires { AreClausesReady cx.old.nodes handler.old }
+    ensures ready { OnOk result (AreClausesReady cx.new.nodes handler.new) }
     ensures grows { Grows cx.old cx.new }
 {
     if !cx.holds(argument) {
@@ -121,8 +121,8 @@ fn goal_between(cx: &mut Cx, id: TraitId, left: GenericArg, right: GenericArg) -
 /// Adds the rule that a trait holds between a type and itself.
 #[tactic(auto, using(nts_queries::proofs::Asking::asking))]
 fn rule_of_one(cx: &mut Cx, handler: &mut Clauses, id: TraitId) -> Result<(), Fail>
-    requires { AreReady cx.old.nodes handler.old }
-    ensures ready { OnOk result (AreReady cx.new.nodes handler.new) }
+    requires { AreClausesReady cx.old.nodes handler.old }
+    ensures ready { OnOk result (AreClausesReady cx.new.nodes handler.new) }
     ensures grows { Grows cx.old cx.new }
 {
     let position = cx.mk_ty(TyKind::Bound(BoundVarIndexKind::Canonical, BoundTy { var: 0 }))?;

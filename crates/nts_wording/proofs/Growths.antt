@@ -5,7 +5,7 @@ use Rattle.std.specs.Io.KnownBytes.{Appends, Keeps}
 use Rattle.nts_wording.specs.declared.status.Stop.{Stop}
 use Rattle.nts_wording.specs.declared.status.Stop.TheVariants as stop
 use Rattle.nts_wording.specs.Statuses.{is_refusal}
-use Rattle.nts_wording.specs.Growing.{Begins, IsTold}
+use Rattle.nts_wording.specs.Growing.{Begins, IsStopTold}
 
 pub Appends-trans : (a b c : Option (List ℕ)) (x y : List ℕ) → Appends a b x → Appends b c y → Appends a c (x ++ y)
 Appends-trans None b c x y h k = tt
@@ -56,9 +56,9 @@ piece-within bs w n h k =
     let l : n ≤ length (drop w bs) = rw (drop-tail bs w) at k in omega (arith, length-drop w bs)
 
 -- only a refusal is told
-pub IsTold-other : (old new : Option (List ℕ)) (n : ℕ) (s : Stop) → is_refusal s ≡ false → IsTold old new n s
-IsTold-other old new n stop.Memory h = tt
-IsTold-other old new n stop.Failed h = tt
-IsTold-other old new n (stop.Refused r) h = cc
+pub IsStopTold-other : (old new : Option (List ℕ)) (n : ℕ) (s : Stop) → is_refusal s ≡ false → IsStopTold old new n s
+IsStopTold-other old new n stop.Memory h = tt
+IsStopTold-other old new n stop.Failed h = tt
+IsStopTold-other old new n (stop.Refused r) h = cc
 
-pub ruleset writes = (Begins-refl, Begins-trans, Begins-Appends, Begins-Keeps, Appends-none, Appends-Keeps, Appends-more, IsTold-other)
+pub ruleset writes = (Begins-refl, Begins-trans, Begins-Appends, Begins-Keeps, Appends-none, Appends-Keeps, Appends-more, IsStopTold-other)

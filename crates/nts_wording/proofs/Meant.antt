@@ -19,7 +19,7 @@ use Rattle.nts_text.specs.declared.resolver.Resolved.{Resolved}
 use Rattle.nts_text.specs.declared.resolver.Resolved.TheVariants as nodes
 use Rattle.nts_wording.specs.declared.build.BoundTrait.{BoundTrait}
 use Rattle.nts_wording.specs.declared.variables.LineVariables.{LineVariables}
-use Rattle.nts_wording.specs.Meaning.{argument_row, argument_list, term_of, meaning_of, values_in, made_trees, binding_nothing, predicate_tree, statement_of, statements, TakesArguments, MakesArgument, AreSaid, States, IsGoalFor, empty_environment}
+use Rattle.nts_wording.specs.Meaning.{argument_row, argument_list, term_of, nodes_meaning, values_in, made_trees, binding_nothing, predicate_tree, trait_statement, statements, TakesArguments, MakesArgument, AreSaid, States, IsGoalFor, empty_environment}
 
 -- the front of a list, and what stands behind it
 take_front : {A : Type 0} (n : ℕ) (xs ys : List A) → length xs ≡ n → take n (xs ++ ys) ≡ xs
@@ -66,7 +66,7 @@ takes ts mid old new args count l parts counted held e within tree us later =
 abbrev pub IsMade : List Tree → LineVariables → List GenericArg → List Resolved → Vec GenericArg → List BoundTrait → Type 0
 IsMade ts variables values rs made found =
     (us : List Tree) → Extends ts us
-    → (made_trees us made ≡ (meaning_of (values_in us variables values) rs).arguments) × (statements us (reverse found) ≡ (meaning_of (values_in us variables values) rs).predicates)
+    → (made_trees us made ≡ (nodes_meaning (values_in us variables values) rs).arguments) × (statements us (reverse found) ≡ (nodes_meaning (values_in us variables values) rs).predicates)
 
 module _ (ts mid : List Tree) (variables : LineVariables) (values : List GenericArg) (rs : List Resolved) (old new : Vec GenericArg) (found : List BoundTrait) where
   one_more : (us : List Tree) (last : Vec GenericArg) (a : GenericArg) (args : List Tree) (f : List Tree → Tree) (k : ℕ) → last.items ≡ new.items ++ a ∷ []
@@ -118,13 +118,13 @@ module _ (ts mid : List Tree) (variables : LineVariables) (values : List Generic
   made_trait i n args b last h e takes unbound is pushed = λ us later.
       let was = h us (Extends-trans e later) in
       let taken = takes us later in
-      let first : statement_of us b ≡ binding_nothing (node (label.Clause (clause.Trait i)) (more (tree_at us args.node) empty)) =
+      let first : trait_statement us b ≡ binding_nothing (node (label.Clause (clause.Trait i)) (more (tree_at us args.node) empty)) =
       ap (λ xs. record { binds = reverse xs; statement = tree_of_clause us (clause_kind.Trait b.trait_ref) }) unbound ∙ ap (λ r. binding_nothing (tree_of_clause us (clause_kind.Trait r))) is in (
         taken.1 ∙ ap (drop n) was.0,
         ap (λ xs. statements us (reverse xs)) pushed ∙ ap (statements us) (reverse-append found (b ∷ []))
             ∙ ap (λ s. s ∷ statements us (reverse found)) first
             ∙ ap (λ t. binding_nothing (node (label.Clause (clause.Trait i)) (more t empty)) ∷ statements us (reverse found)) (taken.0 ∙ ap (λ xs. argument_list (take n xs)) was.0)
-            ∙ ap (λ ps. binding_nothing (node (label.Clause (clause.Trait i)) (more (argument_list (take n (meaning_of (values_in us variables values) rs).arguments)) empty)) ∷ ps) was.1,
+            ∙ ap (λ ps. binding_nothing (node (label.Clause (clause.Trait i)) (more (argument_list (take n (nodes_meaning (values_in us variables values) rs).arguments)) empty)) ∷ ps) was.1,
       )
 
 pub one_item : {A : Type 0} (xs : List A) (d : A) → 1 ≤ length xs → length xs < 2 → xs ≡ get_or xs 0 d ∷ []

@@ -13,7 +13,7 @@ use Rattle.nts_terms.specs.declared.handles.GenericArg.{GenericArg}
 use Rattle.std.proofs.lemmas.List.Elements.{All-push}
 use Rattle.nts_text.specs.declared.resolver.Resolved.{Resolved}
 use Rattle.nts_text.specs.declared.resolver.Resolved.TheVariants as nodes
-use Rattle.nts_wording.specs.Meaning.{AreOwnPlaces, HasOwnPlaces, HasPlace, KeepsPlaces, ArePositions, trees_from}
+use Rattle.nts_wording.specs.Meaning.{AreOwnPlaces, HasOwnPlaces, HasPlace, KeepsPlaces, AreClausePositions, trees_from}
 use Rattle.nts_wording.specs.declared.variables.LineVariables.{LineVariables}
 
 get-front : {A : Type 0} (xs ys : List A) (i : ℕ) (x : A) → slice_get xs i ≡ Some x → slice_get (xs ++ ys) i ≡ Some x
@@ -144,8 +144,8 @@ trees_unwrapped ts (v ∷ vs) = ap (λ xs. tree_at ts v.node ∷ xs) (trees_unwr
 
 -- one position more
 pub positions_push : (mid ts us : List Tree) (ss : List Sort) (i : ℕ) (d : Sort) (vs : List GenericArg) (v : GenericArg) → i < length ss
-    → ((ws : List Tree) → Extends mid ws → ArePositions ws (take i ss) vs) → Extends mid ts → Extends ts us → tree_at us v.node ≡ position (get_or ss i d) i
-    → ArePositions us (take (i + 1) ss) (vs ++ v ∷ [])
+    → ((ws : List Tree) → Extends mid ws → AreClausePositions ws (take i ss) vs) → Extends mid ts → Extends ts us → tree_at us v.node ≡ position (get_or ss i d) i
+    → AreClausePositions us (take (i + 1) ss) (vs ++ v ∷ [])
 positions_push mid ts us ss i d vs v lt h e later here =
     let counted : length (take i ss) ≡ i = length-take-le i ss (omega (arith, lt)) in
     let long : 0 + length (take i ss) ≡ i = omega (arith, counted) in

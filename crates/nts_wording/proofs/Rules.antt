@@ -14,7 +14,7 @@ use Rattle.nts_terms.specs.Kinds.{tree_of_clause}
 use Rattle.nts_wording.specs.declared.build.BoundTrait.{BoundTrait}
 use Rattle.nts_text.specs.declared.resolver.Resolved.{Resolved}
 use Rattle.nts_wording.specs.declared.variables.LineVariables.{LineVariables}
-use Rattle.nts_wording.specs.Meaning.{statements, AreSaid, States, AreConditions, predicate_tree, binding_nothing, HasOwnPlaces, HasPlace, ArePositions, IsRuleOf}
+use Rattle.nts_wording.specs.Meaning.{statements, AreSaid, States, AreConditions, predicate_tree, binding_nothing, HasOwnPlaces, HasPlace, AreClausePositions, IsRuleOf}
 
 -- what holds of the traits holds of the conditions
 pub conditions_said : (a ts : List Tree) (variables : LineVariables) (values : List GenericArg) (rs : List Resolved) (traits : List BoundTrait) (ps : List Predicate)
@@ -38,7 +38,7 @@ stated_push mid ts traits i d ps p lt h e states us later =
 -- the clause of the one trait that the head says
 pub rule_of : (a b ts : List Tree) (variables : LineVariables) (values : List GenericArg) (head body : List Resolved) (traits : List BoundTrait) (r : BoundTrait) (c : Clause)
     → HasOwnPlaces variables → All (HasPlace variables) head × All (HasPlace variables) body → c.fresh.items ≡ variables.sorts.items → r.binds.items ≡ [] → c.trait_id ≡ r.trait_ref.def_id → c.head ≡ r.trait_ref.args
-    → ArePositions ts variables.sorts.items values → AreSaid a variables values head traits → traits ≡ r ∷ [] → Extends a ts
+    → AreClausePositions ts variables.sorts.items values → AreSaid a variables values head traits → traits ≡ r ∷ [] → Extends a ts
     → AreConditions b variables values body c.body.items → Extends b ts
     → IsRuleOf ts head body c
 rule_of a b ts variables values head body traits r c own placed fresh unbound trait args positions said one e conditions f = record {

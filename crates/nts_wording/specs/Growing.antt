@@ -17,6 +17,6 @@ abbrev pub refusal_line : ℕ → Refusal → List ℕ
 refusal_line number r = codes "line " ++ decimal number ++ codes ": " ++ words_of r ++ codes "\n"
 
 -- where a line with this number is refused, the line that says why is written
-abbrev pub IsTold : Option (List ℕ) → Option (List ℕ) → ℕ → Stop → Type 0
-IsTold old new number (stop.Refused r) = Appends old new (refusal_line number r)
-IsTold old new number s = Unit {0}
+abbrev pub IsStopTold : Option (List ℕ) → Option (List ℕ) → ℕ → Stop → Type 0
+IsStopTold old new number (stop.Refused r) = Appends old new (refusal_line number r)
+IsStopTold old new number s = Unit {0}

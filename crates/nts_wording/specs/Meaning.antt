@@ -97,9 +97,9 @@ meaning_before v r m = record {
   predicates = m.predicates;
 }
 
-abbrev pub meaning_of : Values → List Resolved → NodesMeaning
-meaning_of v [] = record { arguments = []; predicates = [] }
-meaning_of v (r ∷ rs) = meaning_before v r (meaning_of v rs)
+abbrev pub nodes_meaning : Values → List Resolved → NodesMeaning
+nodes_meaning v [] = record { arguments = []; predicates = [] }
+nodes_meaning v (r ∷ rs) = meaning_before v r (nodes_meaning v rs)
 
 -- the tree of the value at a place
 abbrev pub tree_of_value : List Tree → Option GenericArg → Tree
@@ -149,19 +149,19 @@ AreVariablesFrom n ts sorts values =
     map (λ a. tree_at ts a.node) values ≡ trees_from (λ s k. variable_tree (variable_kind s) k) n sorts
 
 -- the values are the positions of a clause, one for each sort
-abbrev pub ArePositions : List Tree → List Sort → List GenericArg → Type 0
-ArePositions ts sorts values = map (λ a. tree_at ts a.node) values ≡ trees_from position 0 sorts
+abbrev pub AreClausePositions : List Tree → List Sort → List GenericArg → Type 0
+AreClausePositions ts sorts values = map (λ a. tree_at ts a.node) values ≡ trees_from position 0 sorts
 
 -- the trees of arguments, the last one first
 abbrev pub made_trees : List Tree → Vec GenericArg → List Tree
 made_trees ts made = map (λ a. tree_at ts a.node) (reverse made.items)
 
 -- that a trait holds for its arguments, under its binder, whose variables are kept from the last to the first
-abbrev pub statement_of : List Tree → BoundTrait → BoundStatement
-statement_of ts b = record { binds = reverse b.binds.items; statement = tree_of_clause ts (clause_kind.Trait b.trait_ref) }
+abbrev pub trait_statement : List Tree → BoundTrait → BoundStatement
+trait_statement ts b = record { binds = reverse b.binds.items; statement = tree_of_clause ts (clause_kind.Trait b.trait_ref) }
 
 abbrev pub statements : List Tree → List BoundTrait → List BoundStatement
-statements ts traits = map (statement_of ts) traits
+statements ts traits = map (trait_statement ts) traits
 
 -- the last trait binds one variable more, before the others that it binds
 abbrev pub BindsFirst : Sort → List BoundTrait → List BoundTrait → Type 0
@@ -186,14 +186,14 @@ MakesArgument ts variables values r old new a =
 -- traits are what nodes say, here and in each later store
 abbrev pub AreSaid : List Tree → LineVariables → List GenericArg → List Resolved → List BoundTrait → Type 0
 AreSaid ts variables values rs traits =
-    (us : List Tree) → Extends ts us → statements us traits ≡ (meaning_of (values_in us variables values) rs).predicates
+    (us : List Tree) → Extends ts us → statements us traits ≡ (nodes_meaning (values_in us variables values) rs).predicates
 
 abbrev pub empty_environment : Tree
 empty_environment = node (label.List list.Env) empty
 
 -- the one predicate that nodes say, which a goal asks in the empty environment
 pub record IsGoalOf (ts : List Tree) (variables : LineVariables) (values : List GenericArg) (rs : List Resolved) (g : Goal) : Type 0 where
-  pub said : map predicate_tree (meaning_of (values_in ts variables values) rs).predicates ≡ tree_at ts g.predicate.node ∷ []
+  pub said : map predicate_tree (nodes_meaning (values_in ts variables values) rs).predicates ≡ tree_at ts g.predicate.node ∷ []
   pub nothing_assumed : tree_at ts g.param_env.node ≡ empty_environment
 
 -- here and in each later store
@@ -201,13 +201,13 @@ abbrev pub IsGoalFor : List Tree → LineVariables → List GenericArg → List 
 IsGoalFor ts variables values rs g = (us : List Tree) → Extends ts us → IsGoalOf us variables values rs g
 
 abbrev pub States : List Tree → BoundTrait → Predicate → Type 0
-States ts b p = (us : List Tree) → Extends ts us → tree_at us p.node ≡ predicate_tree (statement_of us b)
+States ts b p = (us : List Tree) → Extends ts us → tree_at us p.node ≡ predicate_tree (trait_statement us b)
 
 -- predicates are what nodes say, here and in each later store
 abbrev pub AreConditions : List Tree → LineVariables → List GenericArg → List Resolved → List Predicate → Type 0
 AreConditions ts variables values rs ps =
     (us : List Tree) → Extends ts us
-    → map (λ p. tree_at us p.node) ps ≡ map predicate_tree (meaning_of (values_in us variables values) rs).predicates
+    → map (λ p. tree_at us p.node) ps ≡ map predicate_tree (nodes_meaning (values_in us variables values) rs).predicates
 
 -- the head of a clause, as a predicate
 abbrev pub head_of : List Tree → Clause → Tree
@@ -221,9 +221,9 @@ pub record IsRuleOf (ts : List Tree) (first others : List Resolved) (c : Clause)
   pub own : HasOwnPlaces variables
   pub placed : All (HasPlace variables) first × All (HasPlace variables) others
   pub sorts : c.fresh.items ≡ variables.sorts.items
-  pub positions : ArePositions ts c.fresh.items values
-  pub head : (meaning_of (values_in ts variables values) first).predicates ≡ binding_nothing (head_of ts c) ∷ []
-  pub body : map (λ p. tree_at ts p.node) c.body.items ≡ map predicate_tree (meaning_of (values_in ts variables values) others).predicates
+  pub positions : AreClausePositions ts c.fresh.items values
+  pub head : (nodes_meaning (values_in ts variables values) first).predicates ≡ binding_nothing (head_of ts c) ∷ []
+  pub body : map (λ p. tree_at ts p.node) c.body.items ≡ map predicate_tree (nodes_meaning (values_in ts variables values) others).predicates
 
 -- here and in each later store
 abbrev pub IsRuleFor : List Tree → List Resolved → List Resolved → Clause → Type 0

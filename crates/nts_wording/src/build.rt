@@ -4,7 +4,7 @@ ghost use Rattle.nts_model.specs.Terms.Trees.{Tree};
 ghost use Rattle.nts_store.specs.Growth.{Extends, tree_at};
 ghost use Rattle.nts_terms.specs.Kinds.{tree_of_ty};
 ghost use Rattle.nts_terms.specs.declared.kinds.TyKind.TheVariants as ty;
-ghost use Rattle.nts_wording.specs.Meaning.{tree_at_place, BindsFirst, TakesArguments, MakesArgument, AreSaid, States, ArePositions};
+ghost use Rattle.nts_wording.specs.Meaning.{tree_at_place, BindsFirst, TakesArguments, MakesArgument, AreSaid, States, AreClausePositions};
 ghost use Rattle.nts_terms.specs.Handles.{HoldsArg, HoldsArgs, HoldsPredicate};
 ghost use Rattle.nts_terms.specs.Rest.{Grows};
 
@@ -230,7 +230,7 @@ pub fn predicate_of(cx: &mut Cx, bound: &BoundTrait) -> Result<Predicate, Stop>
 #[tactic(auto, using(crate::proofs::Stores::growing))]
 pub fn positions(cx: &mut Cx, sorts: &[Sort]) -> Result<Vec<GenericArg>, Stop>
     ensures positions { IfOk result (λ vs. (ts : List Tree) → Extends cx.new.nodes ts →
-        ArePositions ts sorts.now vs.items) }
+        AreClausePositions ts sorts.now vs.items) }
     ensures grows { Grows cx.old cx.new }
 {
     let mut values = Vec::new(cx.alloc);

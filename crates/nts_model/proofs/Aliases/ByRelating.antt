@@ -17,7 +17,7 @@ use Rattle.nts_model.specs.Tables.Contents.{Content}
 use Rattle.nts_model.specs.Tables.Resolving.{deeply_resolved, Knows, IsSound}
 use Rattle.nts_model.specs.Tables.Holding.{HoldsConstraint}
 use Rattle.nts_model.specs.Tables.Alike.{AreAlike, one_tree, one_label, two_rows}
-use Rattle.nts_model.specs.Derivations.Related.{Constraint, region_constraint, pair, no_sorts, unbound, constructor, function, value, alias, IsAlias, Related, AreRelated, regions, constructors, functions, values, open_aliases, aliases, subtypes, no_more, and_more}
+use Rattle.nts_model.specs.Derivations.Related.{Constraint, region_constraint, pair, no_sorts, unbound, constructor, function, value, alias, IsAlias, Related, AreRelatedByArgument, regions, constructors, functions, values, open_aliases, aliases, subtypes, no_more, and_more}
 use Rattle.nts_model.specs.Derivations.Related.{arguments as arguments_of}
 use Rattle.nts_model.specs.Derivations.Related.{one_tree as same_tree}
 use Rattle.nts_model.specs.Lists.{Among}
@@ -114,7 +114,7 @@ module _ (V : ℕ → List Variance) (c : Content) (s : IsSound c) (K : Tree →
     related_granted (aliases x y z k) i j = aliases x y z k
     related_granted (subtypes e x y z w u k) i j = subtypes e x y z w u k
 
-    pub rows_granted : {v : Variance} {ws : List Variance} {ts us : Tree} → AreRelated V (λ t. Unit {0}) Held K v ws ts us → deeply_resolved c ts ≡ ts → deeply_resolved c us ≡ us → AreRelated V (λ t. Unit {0}) (IsGranted c) K v ws ts us
+    pub rows_granted : {v : Variance} {ws : List Variance} {ts us : Tree} → AreRelatedByArgument V (λ t. Unit {0}) Held K v ws ts us → deeply_resolved c ts ≡ ts → deeply_resolved c us ≡ us → AreRelatedByArgument V (λ t. Unit {0}) (IsGranted c) K v ws ts us
     rows_granted no_more i j = no_more
     rows_granted (and_more {a = a} {b = b} {ts = ts} {us = us} r rs) i j =
         let left = sym (deeply_resolved-more c a ts) ∙ i in
@@ -225,7 +225,7 @@ module _ (m : Meaning) (mode : Mode) (c : Content) (s : IsSound c) (here : Tree)
 
   -- .. and rows of arguments
   abbrev pub RowsRelate : Variance → Tree → Tree → (Premise → Type 0) → Type 0
-  RowsRelate v a b P = AreRelated m.variances (λ y. Unit {0}) (IsGranted c) (λ g. Stands (λ y. Unit {0}) P z (relating here g)) v [] (deeply_resolved c a) (deeply_resolved c b)
+  RowsRelate v a b P = AreRelatedByArgument m.variances (λ y. Unit {0}) (IsGranted c) (λ g. Stands (λ y. Unit {0}) P z (relating here g)) v [] (deeply_resolved c a) (deeply_resolved c b)
 
   pub rows_follow : (ks : List Tree) (v : Variance) (a b : Tree) → EachStands ks → RowsUnder m.variances c ks v [] a b → FollowsBy (RowsRelate v a b)
   rows_follow ks v a b each r =

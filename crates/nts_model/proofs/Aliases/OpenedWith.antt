@@ -12,7 +12,7 @@ use Rattle.nts_model.specs.Lists.{Among}
 use Rattle.nts_model.specs.Derivations.Sequents.{Hides}
 use Rattle.nts_model.specs.Derivations.Rules.{Mode, Meaning, goal_kind, statement_kind, proof_kind, IsHandlers, opened, AreFresh, bound, IsPlainRule}
 use Rattle.nts_model.specs.Derivations.Proofs.{Assumed, passed}
-use Rattle.nts_model.specs.Derivations.Handlers.{Handler, meaning, Candidate, certain, IsAsked, IsLawful}
+use Rattle.nts_model.specs.Derivations.Handlers.{Handler, meaning, Candidate, certain, IsAsked, IsLawfulHandler}
 use Rattle.nts_model.specs.Derivations.Proving.{HoldsTerms, IsTermOf, AreConstraintsOf, read_constraints, sequent_at}
 use Rattle.nts_model.specs.Searching.Stacks.{IsProvedFrom}
 use Rattle.nts_model.proofs.Derivations.Monotone.{plain_rule_more}
@@ -59,7 +59,7 @@ module _ (h : Handler) (V : ℕ → List Variance) (mode : Mode) (A : List Assum
         ∙ sym (ap (statement_kind h.is_coinductive) st_is)
         ∙ sym (ap (goal_kind m) there_reads)
 
-    pub by_opened_with : IsLawful h → Among (h.offers mode e there) d → d.certainty ≡ certain → IsProvedFrom m mode A c e goal
+    pub by_opened_with : IsLawfulHandler h → Among (h.offers mode e there) d → d.certainty ≡ certain → IsProvedFrom m mode A c e goal
     by_opened_with law offered sure =
         let o = applies_plainly h V mode A c s t k e there asked ke ko d [] x law offered sure in
         let plain : IsPlainRule m mode (λ y. Unit {0}) (IsGranted c) (Hides (sequent_at c e goal)) (λ q. Among o.premises q ⊎ ⊥) e' st =

@@ -20,7 +20,7 @@ use Rattle.nts_model.specs.Derivations.Rules.{Mode, coherence, GoalKind, normali
 use Rattle.nts_model.specs.Derivations.Handlers.{Handler, meaning, Candidate, premise_by}
 use Rattle.nts_model.specs.Refutation.Choosing.{Freshens}
 use Rattle.nts_model.specs.Refutation.Forcing.{AddsAll}
-use Rattle.nts_model.specs.Refutation.Opening.{entered, opened_in}
+use Rattle.nts_model.specs.Refutation.Opening.{entered_table, opened_in}
 use Rattle.nts_model.specs.Canonical.Inputs.{Input, PositionKind, canonical_of, originals}
 use Rattle.nts_model.specs.Terms.Substitutions.{leaf_tree, filled}
 use Rattle.nts_model.specs.Answers.Applying.{IsNew}
@@ -92,15 +92,15 @@ module _ (h : Handler) (V : ℕ → List Variance) (mode : Mode) (first : List P
 
   mutual
     pub data Tells : Content → Tree → Tree → List Tree → Response → Type 0 where
-      tells_nothing : {c : Content} {e g : Tree} {qs : List Tree} {r : Response} (d : Content) → (d ≡ c) ⊎ (d ≡ entered c g) → SaysOf d qs [] r → Tells c e g qs r
+      tells_nothing : {c : Content} {e g : Tree} {qs : List Tree} {r : Response} (d : Content) → (d ≡ c) ⊎ (d ≡ entered_table c g) → SaysOf d qs [] r → Tells c e g qs r
       says_nothing : {c : Content} {e g : Tree} {qs : List Tree} {r : Response} → SaysNothing r → Tells c e g qs r
-      tells_one : {c : Content} {e g : Tree} {qs : List Tree} {r : Response} (rs : List Response) → Outcomes (entered c g) e (opened_in c g) qs (h.offers mode e (opened_in c g)) rs → StandsForAll rs r → Tells c e g qs r
+      tells_one : {c : Content} {e g : Tree} {qs : List Tree} {r : Response} (rs : List Response) → Outcomes (entered_table c g) e (opened_in c g) qs (h.offers mode e (opened_in c g)) rs → StandsForAll rs r → Tells c e g qs r
       -- a goal of the engine that relates: it was run to a table, which says what it found, with no goal left open
-      tells_run : {c : Content} {e g : Tree} {qs : List Tree} {r : Response} (found : Content) (left : List Premise) → RunsTo (entered c g) e (opened_in c g) found left → SaysOf found qs [] r → Tells c e g qs r
+      tells_run : {c : Content} {e g : Tree} {qs : List Tree} {r : Response} (found : Content) (left : List Premise) → RunsTo (entered_table c g) e (opened_in c g) found left → SaysOf found qs [] r → Tells c e g qs r
 
     pub data Refutes : Content → Tree → Tree → Type 0 where
-      all_fail : {c : Content} {e g : Tree} (qs : List Tree) → Outcomes (entered c g) e (opened_in c g) qs (h.offers mode e (opened_in c g)) [] → Refutes c e g
-      run_fails : {c : Content} {e g : Tree} → FailsToRun (entered c g) e (opened_in c g) → Refutes c e g
+      all_fail : {c : Content} {e g : Tree} (qs : List Tree) → Outcomes (entered_table c g) e (opened_in c g) qs (h.offers mode e (opened_in c g)) [] → Refutes c e g
+      run_fails : {c : Content} {e g : Tree} → FailsToRun (entered_table c g) e (opened_in c g) → Refutes c e g
 
     -- Subtype, Coerce and AliasRelate goals
     pub data RunsTo : Content → Tree → Tree → Content → List Premise → Type 0 where

@@ -17,7 +17,7 @@ use Rattle.nts_model.specs.Tables.Alike.{one_tree as alike_tree}
 use Rattle.nts_model.specs.Tables.Alike.{two_regions as alike_regions}
 use Rattle.std.specs.Prelude.{map}
 use Rattle.nts_model.specs.Terms.Substitutions.{Instance, instance_of}
-use Rattle.nts_model.specs.Derivations.Related.{Constraint, region_constraint, pair, no_sorts, unbound, alias_goal, subtype_goal, alias, IsAlias, Related, AreRelated, one_tree, regions, constructors, functions, values, open_aliases, aliases, subtypes, no_more, and_more}
+use Rattle.nts_model.specs.Derivations.Related.{Constraint, region_constraint, pair, no_sorts, unbound, alias_goal, subtype_goal, alias, IsAlias, Related, AreRelatedByArgument, one_tree, regions, constructors, functions, values, open_aliases, aliases, subtypes, no_more, and_more}
 use Rattle.nts_model.specs.Lists.{Among}
 use Rattle.nts_model.specs.Derivations.Sequents.{Source, Premise, Sequent, inductive, type_relating, normalize_goal, AreOneBy, IsTrivial, constraint_under, premise_under, Grants, IsInstance}
 use Rattle.nts_model.specs.Derivations.Rules.{Meaning, Mode, strictly, GoalKind, coinductive_trait, statement_kind, goal_kind, normalization, other_goal, IsCoinductiveStep, choice, IsTerm, Replaced, chosen, kept_empty, kept_more, kept_node, Stands, IsResult, relating, statement_of, KeepsAliases, normalization_goal, variance_of, IsRule}
@@ -250,11 +250,11 @@ module _ (m : Meaning) (mode : Mode) (Holds : Constraint → Type 0) (truth : Is
         related_settles (aliases {v = v} {a = a} {b = b} side i j k) f = premises.alias_settles v a b side i j k
         related_settles (subtypes {v = v} {a = a} {b = b} x n p q i j k) f = premises.subtype_settles x v a b n i j k
 
-        pub rows_settle : {v : Variance} {ws : List Variance} {ts us : Tree} → AreRelated m.variances (IsSettled J) H (λ g. K (relating e g)) v ws ts us → IsFormed ts → AllSettle J v ws ts us
+        pub rows_settle : {v : Variance} {ws : List Variance} {ts us : Tree} → AreRelatedByArgument m.variances (IsSettled J) H (λ g. K (relating e g)) v ws ts us → IsFormed ts → AllSettle J v ws ts us
         rows_settle (no_more {v = v} {ws = ws}) f = settle_no_row J judging_lawful v ws
         rows_settle (and_more {v = v} {ws = ws} {a = a} {b = b} {ts = ts} {us = us} r rs) f = settle_row J judging_lawful v ws a b ts us (related_settles r f.0) (rows_settle rs f.1)
 
-        related_rows : {v : Variance} {ws : List Variance} {ts us : Tree} → AreRelated m.variances (IsSettled J) H (λ g. K (relating e g)) v ws ts us → IsRow ts × IsRow us
+        related_rows : {v : Variance} {ws : List Variance} {ts us : Tree} → AreRelatedByArgument m.variances (IsSettled J) H (λ g. K (relating e g)) v ws ts us → IsRow ts × IsRow us
         related_rows no_more = (tt, tt)
         related_rows (and_more r rs) = related_rows rs
 

@@ -5,7 +5,7 @@ use Rattle.nts_model.specs.declared.labels.Variance.{Variance}
 use Rattle.nts_model.specs.declared.labels.Relation.TheVariants as relation
 use Rattle.nts_model.specs.Terms.Trees.{Tree}
 use Rattle.nts_model.specs.Tables.Alike.{Alike, one_tree, two_regions, one_label, two_rows}
-use Rattle.nts_model.specs.Derivations.Related.{Constraint, unbound, Related, AreRelated, regions, constructors, functions, values, open_aliases, aliases, subtypes, no_more, and_more}
+use Rattle.nts_model.specs.Derivations.Related.{Constraint, unbound, Related, AreRelatedByArgument, regions, constructors, functions, values, open_aliases, aliases, subtypes, no_more, and_more}
 use Rattle.nts_model.specs.Derivations.Related.{one_tree as same_tree}
 use Rattle.nts_model.specs.Derivations.Sequents.{Premise, Hidden}
 use Rattle.nts_model.specs.Derivations.Rules.{GoalKind, Meaning, Mode, Equation, related, alike, HoldsEquation, goal_kind, Stands, IsResult, IsConstResult, AreResultsRelated, IsBuiltIn, region_lives, type_lives, subtyped, coerced, const_typed, error_typed, allowed, dyn_compatible, formed, constant_evaluated, value_evaluated, error_evaluated, alias_evaluated, aliases_relate, IsApplied, IsPlainRule, IsRule}
@@ -23,7 +23,7 @@ module _ {V : ℕ → List Variance} {S S' : Tree → Type 0} {H H' : Constraint
     related_weaker (aliases found i j proved) = aliases found i j proved
     related_weaker (subtypes e n x y i j proved) = subtypes e n x y i j proved
 
-    pub are_related_weaker : {v : Variance} {ws : List Variance} {ts us : Tree} → AreRelated V S H P v ws ts us → AreRelated V S' H' P v ws ts us
+    pub are_related_weaker : {v : Variance} {ws : List Variance} {ts us : Tree} → AreRelatedByArgument V S H P v ws ts us → AreRelatedByArgument V S' H' P v ws ts us
     are_related_weaker no_more = no_more
     are_related_weaker (and_more r rs) = and_more (related_weaker r) (are_related_weaker rs)
 

@@ -25,7 +25,7 @@ use Rattle.nts_model.specs.Terms.Trees.{empty, more, any_label, is_canonical, Is
 use Rattle.nts_model.specs.Tables.Alike.{Alike}
 use Rattle.nts_model.specs.Derivations.Sequents.{normalize_goal}
 use Rattle.nts_model.specs.Derivations.Rules.{choice, relating, KeepsAliases, statement_of, Replaced}
-use Rattle.nts_model.specs.Derivations.Handlers.{IsLawful}
+use Rattle.nts_model.specs.Derivations.Handlers.{IsLawfulHandler}
 use Rattle.nts_model.specs.Derivations.Proving.{AreEquated}
 use Rattle.nts_model.proofs.Tables.Resolved.{deeply_resolved-deeply_resolved}
 use Rattle.nts_model.proofs.Terms.Unpositioned.{or_false}
@@ -165,7 +165,7 @@ module _ (h : Handler) (V : ℕ → List Variance) (mode : Mode) (A : List Assum
     pub all_parts : IsCandidateFor e g d → OwesFrom (meaning h V) mode e' cs at own (λ P. EquatesAll h V mode A c s t k e g asked ke kg d x.chosen x.values x.known x.constraints os x.open_goals P × StandAll h V mode A c s t k e g asked ke kg d x.chosen x.values x.known x.constraints os x.open_goals P)
     all_parts keeps = parts_follow h V mode A c s t k e g asked ke kg d x.chosen x.values x.known x.constraints os x.open_goals equation (goal keeps)
 
-    pub by_candidate_with : IsLawful h → Among (h.offers mode e g) d → d.certainty ≡ certain → IsProvedWith (meaning h V) mode A c e g os
+    pub by_candidate_with : IsLawfulHandler h → Among (h.offers mode e g) d → d.certainty ≡ certain → IsProvedWith (meaning h V) mode A c e g os
     by_candidate_with law offered sure =
         let keep = law.keep in
         let keeps = keep.each mode e g d asked offered in
@@ -177,7 +177,7 @@ module _ (h : Handler) (V : ℕ → List Variance) (mode : Mode) (A : List Assum
       pub served : (q : Premise) → Among premises q → IsServedFrom (meaning h V) mode e' cs (at q) (Among premises) q
       pub applies : IsApplied (meaning h V) mode (λ y. Unit {0}) (Grants (sequent_at c e g)) (Hides (sequent_at c e g)) (Stands (λ y. Unit {0}) (λ q. Among premises q ⊎ own q) here) e' (unbound (instance_of (reading_of c s t) asked.statement))
 
-    pub applies_plainly : IsLawful h → Among (h.offers mode e g) d → d.certainty ≡ certain → AppliesPlainly
+    pub applies_plainly : IsLawfulHandler h → Among (h.offers mode e g) d → d.certainty ≡ certain → AppliesPlainly
     applies_plainly law offered sure =
         let keep = law.keep in
         let keeps = keep.each mode e g d asked offered in

@@ -9,7 +9,7 @@ use Rattle.nts_model.specs.declared.labels.Leaf.TheVariants as leaf
 use Rattle.nts_model.specs.Terms.Substitutions.{LeafSort, of_variable, of_constant, leaf_sort}
 use Rattle.nts_model.specs.Lists.{Among}
 use Rattle.nts_model.specs.Canonical.Numbered.{number}
-use Rattle.nts_model.specs.Canonical.Inputs.{PositionKind, type_variable, integer_variable, float_variable, const_variable, region_variable, placeholder, sub_root_of, are_one, share, kind_at, position_kind}
+use Rattle.nts_model.specs.Canonical.Inputs.{PositionKind, type_variable, integer_variable, float_variable, const_variable, region_variable, placeholder, sub_root_of, are_one, share, position_kind_at, position_kind}
 use Rattle.nts_model.proofs.Terms.Listed.{either, map-equal, map-tells, map-map, among-map, place-map, place-equal, number-map}
 use Rattle.nts_model.proofs.Canonical.Moving.{IsMap}
 
@@ -34,7 +34,7 @@ sort_of_kind (const_variable u) = of_variable kind.Const
 sort_of_kind (region_variable u) = of_variable kind.Region
 sort_of_kind (placeholder s u n) = sort_of_placeholder s
 
-sort_of_kind-at : (l : Leaf) (f n : ℕ) → sort_of_kind (kind_at (leaf_sort l) f n) ≡ leaf_sort l
+sort_of_kind-at : (l : Leaf) (f n : ℕ) → sort_of_kind (position_kind_at (leaf_sort l) f n) ≡ leaf_sort l
 sort_of_kind-at (leaf.Variable kind.Ty i) f n = refl
 sort_of_kind-at (leaf.Variable kind.Int i) f n = refl
 sort_of_kind-at (leaf.Variable kind.Float i) f n = refl
@@ -131,7 +131,7 @@ same_test true false f g = sym (f refl)
 same_test false true f g = g refl
 same_test false false f g = refl
 
-first_of : (o : LeafSort) (f g n m : ℕ) → is_type_sort o ≡ true → kind_at o f n ≡ kind_at o g m → f ≡ g
+first_of : (o : LeafSort) (f g n m : ℕ) → is_type_sort o ≡ true → position_kind_at o f n ≡ position_kind_at o g m → f ≡ g
 first_of (of_variable kind.Ty) f g n m e h = cc
 first_of (of_variable kind.Int) f g n m e h = cc
 first_of (of_variable kind.Float) f g n m e h = cc
@@ -147,7 +147,7 @@ pub partition-kept : (f : Leaf → Leaf) → IsMap f → (s : List Leaf) (r q : 
 partition-kept f j s r q e =
     let kinds : (l : Leaf) → Among s l → position_kind q (map f s) (f l) ≡ position_kind r s l = λ l i. map-tells _ _ s (sym (map-map (position_kind q (map f s)) f s) ∙ e) l i in
     let firsts : (l : Leaf) → Among s l → is_type l ≡ true → first q (map f s) (f l) ≡ first r s l =
-    λ l i t. first_of (leaf_sort l) _ _ (number (map f s) (f l)) (number s l) t (ap (λ o. kind_at o (first q (map f s) (f l)) (number (map f s) (f l))) (sym (j.keeps_sorts l)) ∙ kinds l i) in
+    λ l i t. first_of (leaf_sort l) _ _ (number (map f s) (f l)) (number s l) t (ap (λ o. position_kind_at o (first q (map f s) (f l)) (number (map f s) (f l))) (sym (j.keeps_sorts l)) ∙ kinds l i) in
     record {
       kept = λ l m i h. elim (either (is_type l)) [
         | inr d ↦ share-not_left r l m d ∙ sym (share-not_left q (f l) (f m) (is_type-kept f j l ∙ d))

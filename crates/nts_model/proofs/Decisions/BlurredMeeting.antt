@@ -28,7 +28,7 @@ use Rattle.nts_model.specs.Terms.Substitutions.{leaf_tree, put, replace, filled,
 use Rattle.nts_model.specs.Lists.{Among}
 use Rattle.nts_model.specs.Derivations.Rules.{Equation}
 use Rattle.nts_model.specs.Derivations.Handlers.{Candidate, kind_of_sort, AreValuesOf}
-use Rattle.nts_model.specs.Refutation.Choosing.{left_of, right_of, AreNamedValues, IsMet}
+use Rattle.nts_model.specs.Refutation.Choosing.{left_of, right_of, AreNamedValues, IsCandidateMet}
 use Rattle.nts_model.specs.Answers.Responses.{read_in}
 use Rattle.nts_model.specs.Decisions.Deciding.{blurred_leaf, blurred, MeetsBlurred}
 use Rattle.nts_model.proofs.Terms.Substituting.{kind_of-replace, IsFormed-replace, IsClosed-replace, KeepsKinds}
@@ -39,7 +39,7 @@ use Rattle.nts_model.proofs.Decisions.BlurredWorlds.{blurred_world, solves_blurr
 use Rattle.nts_model.proofs.Decisions.DecidedGoals.{IsOfConstants, read_blurred}
 
 -- what a world meets, values meet but for regions
-pub met_meets : (c : Content) (x : Candidate) → IsOfConstants x → (m : IsMet c x) → MeetsBlurred x m.values
+pub met_meets : (c : Content) (x : Candidate) → IsOfConstants x → (m : IsCandidateMet c x) → MeetsBlurred x m.values
 met_meets c x k m =
     record {
       values = m.fit;
@@ -176,7 +176,7 @@ met_named u (v ∷ vs) = (names_lowered u (blurred v), met_named u vs)
 
 -- .. and what values meet but for regions, a world of the table meets
 pub meets_met : (c : Content) (x : Candidate) (vs : List Tree) → IsSound c → IsSolvable c → IsOfConstants x
-    → ((q : Equation) → Among x.equations q → NamesAll term_level c.universe (left_of q) × NamesAll term_level c.universe (right_of q)) → MeetsBlurred x vs → IsMet c x
+    → ((q : Equation) → Among x.equations q → NamesAll term_level c.universe (left_of q) × NamesAll term_level c.universe (right_of q)) → MeetsBlurred x vs → IsCandidateMet c x
 meets_met c x vs sound solvable k named m =
     record {
       world = blurred_world (reading c);

@@ -23,7 +23,7 @@ use Rattle.nts_model.specs.Terms.Substitutions.{leaf_tree, put, replace, of_cons
 use Rattle.nts_model.specs.Lists.{Among}
 use Rattle.nts_model.specs.Derivations.Rules.{Equation}
 use Rattle.nts_model.specs.Derivations.Handlers.{Candidate, equation_by, kind_of_sort, AreValuesOf}
-use Rattle.nts_model.specs.Refutation.Choosing.{left_of, right_of, AreNamedValues, IsMet}
+use Rattle.nts_model.specs.Refutation.Choosing.{left_of, right_of, AreNamedValues, IsCandidateMet}
 use Rattle.nts_model.specs.Answers.Responses.{read_in}
 use Rattle.nts_model.specs.Decisions.Deciding.{blurred_leaf, blurred}
 use Rattle.nts_model.proofs.Terms.Substituting.{kind_of-replace, IsFormed-replace, IsClosed-replace, KeepsKinds}
@@ -316,7 +316,7 @@ module _ (c q : Content) (w : World) (solves : Solves c w) (ρ : Renaming) (plai
   pub met_in_query : (x y : Candidate) (vs : List Tree) → y.fresh ≡ x.fresh → map (equation_by blurred) y.equations ≡ map (equation_by (rename ρ)) (map (equation_by blurred) x.equations)
       → ((e : Equation) → Among x.equations e → AllLeaves IsShared (left_of e) × AllLeaves IsShared (right_of e))
       → ((e : Equation) → Among y.equations e → (any_label is_region_infer (left_of e) ≡ false) × (any_label is_region_infer (right_of e) ≡ false))
-      → AreValuesOf x.fresh vs → ((e : Equation) → Among x.equations e → read_in w vs (left_of e) ≡ read_in w vs (right_of e)) → IsMet q y
+      → AreValuesOf x.fresh vs → ((e : Equation) → Among x.equations e → read_in w vs (left_of e) ≡ read_in w vs (right_of e)) → IsCandidateMet q y
   met_in_query x y vs fresh equations shared none fit equal =
       record {
         world = query_world;

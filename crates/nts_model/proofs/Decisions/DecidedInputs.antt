@@ -8,7 +8,7 @@ use Rattle.nts_model.specs.declared.labels.Leaf.TheVariants as leaf
 use Rattle.nts_model.specs.Terms.Trees.{Tree, empty, more}
 use Rattle.nts_model.specs.Terms.Substitutions.{leaf_tree, replace, of_variable as sort_of_variable, leaf_sort, Renaming, rename, IsPlain, filled}
 use Rattle.nts_model.specs.Derivations.Rules.{Mode}
-use Rattle.nts_model.specs.Derivations.Handlers.{Handler, IsLawful}
+use Rattle.nts_model.specs.Derivations.Handlers.{Handler, IsLawfulHandler}
 use Rattle.nts_model.specs.Canonical.Inputs.{Input, canonical_of, is_static, label_or_leaf, static_as_label, IsInput, HaveKinds, made_of}
 use Rattle.nts_model.specs.Decisions.Deciding.{blurred_leaf, blurred_but_static, blurred, blurred_environment, IsDecided, IsGoalDecided}
 use Rattle.nts_model.proofs.Terms.Substituting.{replace-replace, replace-equal}
@@ -117,11 +117,11 @@ environment_off ρ s t h k e =
     ∙ sym (static_filled ρ (blurred (static_as_label s))) ∙ ap (rename (off_regions ρ)) (decoded s h)
 
 -- a plain renaming of a goal is decided as the goal is
-pub plainly_renamed : (h : Handler) → IsLawful h → (mode : Mode) (e : Tree) (ρ : Renaming) → IsPlain ρ → (n : ℕ) (g : Tree) (b : Bool) → IsDecided h mode e n g b → IsDecided h mode (rename ρ e) n (rename ρ g) b
+pub plainly_renamed : (h : Handler) → IsLawfulHandler h → (mode : Mode) (e : Tree) (ρ : Renaming) → IsPlain ρ → (n : ℕ) (g : Tree) (b : Bool) → IsDecided h mode e n g b → IsDecided h mode (rename ρ e) n (rename ρ g) b
 plainly_renamed h law mode e ρ p n g b d = decided_renamed h law mode e (λ r q k i. reopens r q e k) ρ p n g b d
 
 -- one canonical form, one decision
-pub form_decided : (h : Handler) → IsLawful h → (mode : Mode) (n : ℕ) (b : Bool) (i j : Input) → IsInput i → IsInput j → canonical_of i ≡ canonical_of j
+pub form_decided : (h : Handler) → IsLawfulHandler h → (mode : Mode) (n : ℕ) (b : Bool) (i j : Input) → IsInput i → IsInput j → canonical_of i ≡ canonical_of j
     → IsGoalDecided h mode n i.environment i.predicate b → IsGoalDecided h mode n j.environment j.predicate b
 form_decided h law mode n b i j p q e d =
     let (ρ, m) = (forms_tell_inputs i j p q).0 e in
@@ -133,6 +133,6 @@ form_decided h law mode n b i j p q e d =
     (plainly_renamed h law mode (blurred_environment i.environment) (off_regions ρ) (off_plain ρ) n (blurred i.predicate) b d))
 
 -- .. so the goal of a query is decided as the goal that is asked, where leaves of its kinds stand for the positions
-pub query_decided : (h : Handler) → IsLawful h → (mode : Mode) (n : ℕ) (b : Bool) (i : Input) (s : List Leaf) (r : ℕ → ℕ) → IsInput i → HaveKinds (canonical_of i) s r → IsInput (made_of (canonical_of i) s r) → IsGoalDecided h mode n i.environment i.predicate b
+pub query_decided : (h : Handler) → IsLawfulHandler h → (mode : Mode) (n : ℕ) (b : Bool) (i : Input) (s : List Leaf) (r : ℕ → ℕ) → IsInput i → HaveKinds (canonical_of i) s r → IsInput (made_of (canonical_of i) s r) → IsGoalDecided h mode n i.environment i.predicate b
     → (let c = canonical_of i in IsGoalDecided h mode n (filled (map leaf_tree s) c.environment) (filled (map leaf_tree s) c.predicate) b)
 query_decided h law mode n b i s r p k q d = form_decided h law mode n b i (made_of (canonical_of i) s r) p q (sym (making_gives_form i s r p k)) d

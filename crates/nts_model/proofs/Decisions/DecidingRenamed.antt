@@ -21,7 +21,7 @@ use Rattle.nts_model.specs.Derivations.Related.{pair}
 use Rattle.nts_model.specs.Lists.{Among}
 use Rattle.nts_model.specs.Derivations.Sequents.{Premise}
 use Rattle.nts_model.specs.Derivations.Rules.{Mode, Equation, related, alike, IsHandlers}
-use Rattle.nts_model.specs.Derivations.Handlers.{Handler, Candidate, equation_by, premise_by, AreValuesOf, kind_of_sort, renamed, IsAsked, IsLawful}
+use Rattle.nts_model.specs.Derivations.Handlers.{Handler, Candidate, equation_by, premise_by, AreValuesOf, kind_of_sort, renamed_candidate, IsAsked, IsLawfulHandler}
 use Rattle.nts_model.specs.Refutation.Choosing.{left_of, right_of}
 use Rattle.nts_model.specs.Decisions.Deciding.{blurred_leaf, blurred_but_static, blurred, blurred_environment, blurred_premise, blurred_candidate, MeetsBlurred, FixesGoals, IsDecidable, IsPlainGoal, IsFormedCandidate, IsUniform, opened_next, IsDecided, by_candidates, OneHolds, none_left, then_fails, then_holds, CandidateIs, is_unmet, is_met, GoalsAre, all_yes, one_yes, one_no}
 use Rattle.nts_model.proofs.Terms.Substituting.{replace-replace, replace-equal, replace-leaf, leaf_alone}
@@ -258,10 +258,10 @@ goals_renamed : (ρ : Renaming) → IsPlain ρ → (ps : List Premise) → map b
 goals_renamed ρ p [] = refl
 goals_renamed ρ p (q ∷ qs) = rw (environment_renamed ρ p q.environment, blurred_renamed ρ p q.predicate, goals_renamed ρ p qs) refl
 
-candidate_renamed : (ρ : Renaming) → IsPlain ρ → (x : Candidate) → blurred_candidate (renamed ρ x) ≡ renamed ρ (blurred_candidate x)
+candidate_renamed : (ρ : Renaming) → IsPlain ρ → (x : Candidate) → blurred_candidate (renamed_candidate ρ x) ≡ renamed_candidate ρ (blurred_candidate x)
 candidate_renamed ρ p x = rw (equations_renamed ρ p x.equations, goals_renamed ρ p x.goals) refl
 
-candidates_renamed : (ρ : Renaming) → IsPlain ρ → (xs : List Candidate) → map blurred_candidate (map (renamed ρ) xs) ≡ map (renamed ρ) (map blurred_candidate xs)
+candidates_renamed : (ρ : Renaming) → IsPlain ρ → (xs : List Candidate) → map blurred_candidate (map (renamed_candidate ρ) xs) ≡ map (renamed_candidate ρ) (map blurred_candidate xs)
 candidates_renamed ρ p [] = refl
 candidates_renamed ρ p (x ∷ xs) = cc (candidate_renamed ρ p x, candidates_renamed ρ p xs)
 
@@ -284,7 +284,7 @@ pub right_by : (f : Tree → Tree) (q : Equation) → right_of (equation_by f q)
 right_by f (related a b) = refl
 right_by f (alike a b) = refl
 
-formed_renamed : (ρ : Renaming) → IsPlain ρ → (x : Candidate) → IsFormedCandidate x → IsFormedCandidate (renamed ρ x)
+formed_renamed : (ρ : Renaming) → IsPlain ρ → (x : Candidate) → IsFormedCandidate x → IsFormedCandidate (renamed_candidate ρ x)
 formed_renamed ρ p x f =
     record {
       equations = λ q i.
@@ -296,8 +296,8 @@ formed_renamed ρ p x f =
           subst (λ z. IsFormed z.predicate) (sym r.same) (IsFormed-instance (by_renaming ρ p) (let y = r.of in y.predicate) (f.goals r.of r.found)));
     }
 
-pub uniform_renamed : (h : Handler) → IsLawful h → (mode : Mode) (ρ : Renaming) → IsPlain ρ → (e g : Tree) (xs : List Candidate) → IsFormed e → IsFormed g → IsUniform h mode e g xs
-    → IsUniform h mode (rename ρ e) (rename ρ g) (map (renamed ρ) xs)
+pub uniform_renamed : (h : Handler) → IsLawfulHandler h → (mode : Mode) (ρ : Renaming) → IsPlain ρ → (e g : Tree) (xs : List Candidate) → IsFormed e → IsFormed g → IsUniform h mode e g xs
+    → IsUniform h mode (rename ρ e) (rename ρ g) (map (renamed_candidate ρ) xs)
 uniform_renamed h law mode ρ p e g xs fe fg u =
     record {
       alike = λ f q a ee eq.
@@ -312,11 +312,11 @@ uniform_renamed h law mode ρ p e g xs fe fg u =
           let bf : rename ρ f1 ≡ f = rename_forth ρ f fa.0 in
           let bq : rename ρ q1 ≡ q = rename_forth ρ q (fa.1.0) in
           let c = law.commute in
-          let moved : h.offers mode (rename ρ f1) (rename ρ q1) ≡ map (renamed ρ) (h.offers mode f1 q1) = c.renaming mode f1 q1 ρ p a1 in
+          let moved : h.offers mode (rename ρ f1) (rename ρ q1) ≡ map (renamed_candidate ρ) (h.offers mode f1 q1) = c.renaming mode f1 q1 ρ p a1 in
           let here : h.offers mode f q ≡ h.offers mode (rename ρ f1) (rename ρ q1) = cc (bf, bq) in
-          ap (map blurred_candidate) (here ∙ moved) ∙ candidates_renamed ρ p (h.offers mode f1 q1) ∙ ap (map (renamed ρ)) same);
-      sure = λ x i. (let r = among_back (renamed ρ) xs x i in ap (λ z. z.certainty) r.same ∙ u.sure r.of r.found);
-      formed = λ x i. (let r = among_back (renamed ρ) xs x i in subst IsFormedCandidate (sym r.same) (formed_renamed ρ p r.of (u.formed r.of r.found)));
+          ap (map blurred_candidate) (here ∙ moved) ∙ candidates_renamed ρ p (h.offers mode f1 q1) ∙ ap (map (renamed_candidate ρ)) same);
+      sure = λ x i. (let r = among_back (renamed_candidate ρ) xs x i in ap (λ z. z.certainty) r.same ∙ u.sure r.of r.found);
+      formed = λ x i. (let r = among_back (renamed_candidate ρ) xs x i in subst IsFormedCandidate (sym r.same) (formed_renamed ρ p r.of (u.formed r.of r.found)));
     }
 
 -- values
@@ -371,10 +371,10 @@ equations_back ρ [] f = refl
 equations_back ρ (related a b ∷ qs) f = (let k = f (related a b) (inl refl) in cc (rename_back ρ a k.0, rename_back ρ b k.1, equations_back ρ qs (λ q i. f q (inr i))))
 equations_back ρ (alike a b ∷ qs) f = (let k = f (alike a b) (inl refl) in cc (rename_back ρ a k.0, rename_back ρ b k.1, equations_back ρ qs (λ q i. f q (inr i))))
 
-meets_back : (ρ : Renaming) → IsPlain ρ → (x : Candidate) (vs : List Tree) → IsFormedCandidate x → MeetsBlurred (renamed ρ x) vs → MeetsBlurred x (map (rename (inverse ρ)) vs)
-meets_back ρ p x vs f m = meets_moved (inverse ρ) (inverse_plain ρ p) (renamed ρ x) x vs refl (equations_back ρ x.equations f.equations) m
+meets_back : (ρ : Renaming) → IsPlain ρ → (x : Candidate) (vs : List Tree) → IsFormedCandidate x → MeetsBlurred (renamed_candidate ρ x) vs → MeetsBlurred x (map (rename (inverse ρ)) vs)
+meets_back ρ p x vs f m = meets_moved (inverse ρ) (inverse_plain ρ p) (renamed_candidate ρ x) x vs refl (equations_back ρ x.equations f.equations) m
 
-fixes_renamed : (ρ : Renaming) → IsPlain ρ → (x : Candidate) → IsFormedCandidate x → FixesGoals x → FixesGoals (renamed ρ x)
+fixes_renamed : (ρ : Renaming) → IsPlain ρ → (x : Candidate) → IsFormedCandidate x → FixesGoals x → FixesGoals (renamed_candidate ρ x)
 fixes_renamed ρ p x f k vs us q mv mu i =
     let r = among_back (premise_by (rename ρ)) x.goals q i in
     let v1 : List Tree = map (rename (inverse ρ)) vs in
@@ -395,7 +395,7 @@ pub record Reopens (ρ : Renaming) (e g : Tree) : Type 0 where
   pub environment : rename to e ≡ rename ρ e
   pub opened : rename to (opened_next e g) ≡ opened_next (rename ρ e) (rename ρ g)
 
-module _ (h : Handler) (law : IsLawful h) (mode : Mode) (e : Tree) (reopens : (ρ : Renaming) → IsPlain ρ → (g : Tree) → IsPlainGoal e (opened_next e g) → Reopens ρ e g) where
+module _ (h : Handler) (law : IsLawfulHandler h) (mode : Mode) (e : Tree) (reopens : (ρ : Renaming) → IsPlain ρ → (g : Tree) → IsPlainGoal e (opened_next e g) → Reopens ρ e g) where
   mutual
     pub decided_renamed : (ρ : Renaming) → IsPlain ρ → (n : ℕ) (g : Tree) (b : Bool) → IsDecided h mode e n g b → IsDecided h mode (rename ρ e) n (rename ρ g) b
     decided_renamed ρ p n g b (by_candidates xs q u o) =
@@ -403,24 +403,24 @@ module _ (h : Handler) (law : IsLawful h) (mode : Mode) (e : Tree) (reopens : (�
         let a = q.asked in
         let f = a.formed in
         let plain : IsPlainGoal (rename r.to e) (rename r.to (opened_next e g)) = plain_renamed r.to r.plain e (opened_next e g) q in
-        let uniform : IsUniform h mode (rename r.to e) (rename r.to (opened_next e g)) (map (renamed r.to) xs) = uniform_renamed h law mode r.to r.plain e (opened_next e g) xs f.0 (f.1.0) u in
-        let holds : OneHolds h mode (rename r.to e) n (map (renamed r.to) xs) b = holds_renamed r.to r.plain n xs b u.formed o in
-        by_candidates (map (renamed r.to) xs)
+        let uniform : IsUniform h mode (rename r.to e) (rename r.to (opened_next e g)) (map (renamed_candidate r.to) xs) = uniform_renamed h law mode r.to r.plain e (opened_next e g) xs f.0 (f.1.0) u in
+        let holds : OneHolds h mode (rename r.to e) n (map (renamed_candidate r.to) xs) b = holds_renamed r.to r.plain n xs b u.formed o in
+        by_candidates (map (renamed_candidate r.to) xs)
         (subst (λ z. IsPlainGoal z (opened_next (rename ρ e) (rename ρ g))) r.environment (subst (IsPlainGoal (rename r.to e)) r.opened plain))
-        (subst (λ z. IsUniform h mode z (opened_next (rename ρ e) (rename ρ g)) (map (renamed r.to) xs)) r.environment (subst (λ z. IsUniform h mode (rename r.to e) z (map (renamed r.to) xs)) r.opened uniform))
-        (subst (λ z. OneHolds h mode z n (map (renamed r.to) xs) b) r.environment holds)
+        (subst (λ z. IsUniform h mode z (opened_next (rename ρ e) (rename ρ g)) (map (renamed_candidate r.to) xs)) r.environment (subst (λ z. IsUniform h mode (rename r.to e) z (map (renamed_candidate r.to) xs)) r.opened uniform))
+        (subst (λ z. OneHolds h mode z n (map (renamed_candidate r.to) xs) b) r.environment holds)
 
-    holds_renamed : (ρ : Renaming) → IsPlain ρ → (n : ℕ) (xs : List Candidate) (b : Bool) → ((x : Candidate) → Among xs x → IsFormedCandidate x) → OneHolds h mode e n xs b → OneHolds h mode (rename ρ e) n (map (renamed ρ) xs) b
+    holds_renamed : (ρ : Renaming) → IsPlain ρ → (n : ℕ) (xs : List Candidate) (b : Bool) → ((x : Candidate) → Among xs x → IsFormedCandidate x) → OneHolds h mode e n xs b → OneHolds h mode (rename ρ e) n (map (renamed_candidate ρ) xs) b
     holds_renamed ρ p n xs b f none_left = none_left
     holds_renamed ρ p n (x ∷ xs) b f (then_fails {m = m} {k = k} d r s) =
         then_fails (candidate_is_renamed ρ p m x false (f x (inl refl)) d) (holds_renamed ρ p k xs b (λ y i. f y (inr i)) r) s
     holds_renamed ρ p n (x ∷ xs) b f (then_holds {m = m} {k = k} d r s) =
         then_holds (candidate_is_renamed ρ p m x true (f x (inl refl)) d) (holds_renamed ρ p k xs false (λ y i. f y (inr i)) r) s
 
-    candidate_is_renamed : (ρ : Renaming) → IsPlain ρ → (n : ℕ) (x : Candidate) (b : Bool) → IsFormedCandidate x → CandidateIs h mode e n x b → CandidateIs h mode (rename ρ e) n (renamed ρ x) b
+    candidate_is_renamed : (ρ : Renaming) → IsPlain ρ → (n : ℕ) (x : Candidate) (b : Bool) → IsFormedCandidate x → CandidateIs h mode e n x b → CandidateIs h mode (rename ρ e) n (renamed_candidate ρ x) b
     candidate_is_renamed ρ p n x b f (is_unmet u) = is_unmet (λ vs m. u (map (rename (inverse ρ)) vs) (meets_back ρ p x vs f m))
     candidate_is_renamed ρ p n x b f (is_met vs m k gs) =
-        is_met (map (rename ρ) vs) (meets_moved ρ p x (renamed ρ x) vs refl refl m) (fixes_renamed ρ p x f k) (goals_are_renamed ρ p n vs x.goals b gs)
+        is_met (map (rename ρ) vs) (meets_moved ρ p x (renamed_candidate ρ x) vs refl refl m) (fixes_renamed ρ p x f k) (goals_are_renamed ρ p n vs x.goals b gs)
 
     goals_are_renamed : (ρ : Renaming) → IsPlain ρ → (n : ℕ) (vs : List Tree) (ps : List Premise) (b : Bool) → GoalsAre h mode e n vs ps b → GoalsAre h mode (rename ρ e) n (map (rename ρ) vs) (map (premise_by (rename ρ)) ps) b
     goals_are_renamed ρ p n vs ps b all_yes = all_yes

@@ -21,7 +21,7 @@ use Rattle.nts_model.specs.Lists.{Among}
 use Rattle.nts_model.specs.Derivations.Sequents.{Premise, Hidden, HasClosedStatement, HasClosedStatements, IsOfTerms, constraint_under, IsTrivial, Grants, Hides}
 use Rattle.nts_model.specs.Derivations.Rules.{Mode, Equation, related, alike, HoldsEquation, GoalKind, goal_kind, IsTerm, Stands, IsHandlers, IsApplied, IsRule}
 use Rattle.nts_model.specs.Derivations.Proofs.{by_rule}
-use Rattle.nts_model.specs.Derivations.Handlers.{Handler, meaning, Candidate, certain, equation_by, constraint_by, hidden_by, premise_by, kind_of_sort, AreValuesOf, use_of, IsAsked, InstancesAreRules, IsCandidateFor, IsLawful}
+use Rattle.nts_model.specs.Derivations.Handlers.{Handler, meaning, Candidate, certain, equation_by, constraint_by, hidden_by, premise_by, kind_of_sort, AreValuesOf, use_of, IsAsked, InstancesAreRules, IsCandidateFor, IsLawfulHandler}
 use Rattle.nts_model.specs.Derivations.Proving.{HoldsTerms, IsTermOf, AreConstraintsOf, read_constraint, recorded_as, turned, read_constraints, sequent_at, IsProved, AreEquated, IsHeldAt, IsProvedAt, HoldsCandidate}
 use Rattle.nts_model.specs.Terms.Scoping.{IsWellBound}
 use Rattle.nts_model.proofs.Tables.Fitting.{IsClosed-under}

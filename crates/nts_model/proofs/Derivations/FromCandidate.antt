@@ -14,7 +14,7 @@ use Rattle.nts_model.specs.Lists.{Among}
 use Rattle.nts_model.specs.Derivations.Sequents.{Source, misc, type_relating, impl_where_bound, alias_bound_const, alias_well_formed, normalize_goal, Premise, Hidden, IsOfTerms, Grants, Hides}
 use Rattle.nts_model.specs.Derivations.Rules.{Mode, Equation, HoldsEquation, GoalKind, coinductive_trait, normalization, other_goal, goal_kind, statement_kind, step_kind, proof_kind, Stands, statement_of, choice, IsHandlers, IsApplied, IsRule}
 use Rattle.nts_model.specs.Derivations.Proofs.{Assumed, passed, by_rule}
-use Rattle.nts_model.specs.Derivations.Handlers.{Handler, meaning, Candidate, certain, equation_by, constraint_by, hidden_by, premise_by, AreValuesOf, use_of, IsAsked, IsHandlersSource, InstancesAreRules, IsCandidateFor, IsLawful}
+use Rattle.nts_model.specs.Derivations.Handlers.{Handler, meaning, Candidate, certain, equation_by, constraint_by, hidden_by, premise_by, AreValuesOf, use_of, IsAsked, IsHandlersSource, InstancesAreRules, IsCandidateFor, IsLawfulHandler}
 use Rattle.nts_model.specs.Derivations.Proving.{HoldsTerms, IsTermOf, AreConstraintsOf, read_constraints, sequent_at, HoldsCandidate}
 use Rattle.nts_model.specs.Searching.Stacks.{IsProvedFrom, IsProvedFromAt, HoldsCandidateFrom}
 use Rattle.nts_model.proofs.Derivations.Monotone.{stands_more, rule_more}
@@ -220,6 +220,6 @@ module _ (h : Handler) (V : ℕ → List Variance) (mode : Mode) (A : List Assum
 
 -- .. that a lawful handler offers
 pub lawful_candidate_from : (h : Handler) (V : ℕ → List Variance) (mode : Mode) (A : List Assumed) (c : Content) → IsSound c → HoldsTerms c → AreConstraintsOf c → (e g : Tree) → IsAsked e g → IsTermOf c e → IsTermOf c g
-    → (d : Candidate) → IsLawful h → Among (h.offers mode e g) d → d.certainty ≡ certain → HoldsCandidateFrom (meaning h V) mode A c g d → IsProvedFrom (meaning h V) mode A c e g
+    → (d : Candidate) → IsLawfulHandler h → Among (h.offers mode e g) d → d.certainty ≡ certain → HoldsCandidateFrom (meaning h V) mode A c g d → IsProvedFrom (meaning h V) mode A c e g
 lawful_candidate_from h V mode A c s t k e g asked ke kg d law offered sure x =
     from_candidate h V mode A c s t k e g asked ke kg d x law.rules (let keep = law.keep in keep.each mode e g d asked offered) offered sure

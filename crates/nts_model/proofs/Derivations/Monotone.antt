@@ -3,7 +3,7 @@ use Rattle.std.specs.Prelude.{ℕ, List}
 use Rattle.std.proofs.Common.{inl, inr}
 use Rattle.nts_model.specs.declared.labels.Variance.{Variance}
 use Rattle.nts_model.specs.Terms.Trees.{Tree}
-use Rattle.nts_model.specs.Derivations.Related.{Constraint, unbound, Related, AreRelated, one_tree, regions, constructors, functions, values, open_aliases, aliases, subtypes, no_more, and_more}
+use Rattle.nts_model.specs.Derivations.Related.{Constraint, unbound, Related, AreRelatedByArgument, one_tree, regions, constructors, functions, values, open_aliases, aliases, subtypes, no_more, and_more}
 use Rattle.nts_model.specs.Derivations.Sequents.{Premise, Hidden}
 use Rattle.nts_model.specs.Derivations.Rules.{GoalKind, Meaning, Mode, Equation, related, alike, HoldsEquation, goal_kind, Replaced, chosen, kept_empty, kept_more, kept_node, Stands, IsResult, IsConstResult, RelatedIn, AreResultsRelated, IsBuiltIn, region_lives, type_lives, subtyped, coerced, const_typed, error_typed, allowed, dyn_compatible, formed, constant_evaluated, value_evaluated, error_evaluated, alias_evaluated, aliases_relate, IsApplied, IsPlainRule, IsRule}
 
@@ -19,7 +19,7 @@ module _ {V : ℕ → List Variance} {S : Tree → Type 0} {H : Constraint → T
     related_more (aliases is i j proved) = aliases is i j (p _ proved)
     related_more (subtypes e n x y i j proved) = subtypes e n x y i j (p _ proved)
 
-    pub are_related_more : {v : Variance} {ws : List Variance} {ts us : Tree} → AreRelated V S H P v ws ts us → AreRelated V S H P' v ws ts us
+    pub are_related_more : {v : Variance} {ws : List Variance} {ts us : Tree} → AreRelatedByArgument V S H P v ws ts us → AreRelatedByArgument V S H P' v ws ts us
     are_related_more no_more = no_more
     are_related_more (and_more r rs) = and_more (related_more r) (are_related_more rs)
 

@@ -12,7 +12,7 @@ use Rattle.nts_model.specs.declared.labels.Label.{Label}
 use Rattle.nts_model.specs.declared.labels.Label.TheVariants as label
 use Rattle.nts_model.specs.Terms.Trees.{Tree, empty, more, node, size, kind_of, arguments, sort_list, IsClosed, is, any_argument, FitsPlace, HavePlaces, AllFit, a_type, IsFormed}
 use Rattle.nts_model.specs.Tables.Alike.{Alike}
-use Rattle.nts_model.specs.Derivations.Related.{Constraint, alias_goal, constructor, function, value, alias_label, alias, IsAlias, Related, AreRelated, regions, constructors, functions, values, open_aliases, aliases, no_more, and_more, rest_variances, function_variances}
+use Rattle.nts_model.specs.Derivations.Related.{Constraint, alias_goal, constructor, function, value, alias_label, alias, IsAlias, Related, AreRelatedByArgument, regions, constructors, functions, values, open_aliases, aliases, no_more, and_more, rest_variances, function_variances}
 use Rattle.nts_model.specs.Derivations.Related.{arguments as arguments_of}
 use Rattle.nts_model.specs.Derivations.Related.{one_tree as same_tree}
 use Rattle.nts_model.specs.Lists.{Among}
@@ -35,7 +35,7 @@ module _ (m : Meaning) (mode : Mode) (e : Tree) (cs : List Constraint) (formed :
   Relates a b P = Related m.variances (λ t. Unit {0}) (Grants (sequent_of m mode e cs empty)) (OfAliases e P) variance.Invariant a b
 
   abbrev pub RelatesRows : List Variance → Tree → Tree → (Premise → Type 0) → Type 0
-  RelatesRows ws ts us P = AreRelated m.variances (λ t. Unit {0}) (Grants (sequent_of m mode e cs empty)) (OfAliases e P) variance.Invariant ws ts us
+  RelatesRows ws ts us P = AreRelatedByArgument m.variances (λ t. Unit {0}) (Grants (sequent_of m mode e cs empty)) (OfAliases e P) variance.Invariant ws ts us
 
   relates_grows : (a b : Tree) → Grows m mode e cs (Relates a b)
   relates_grows a b P Q f x = related_more (λ g z. (z.0, f (relating e g) z.1)) x

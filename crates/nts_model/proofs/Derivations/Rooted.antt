@@ -9,7 +9,7 @@ use Rattle.nts_model.specs.Tables.Resolving.{IsSound}
 use Rattle.nts_model.specs.Derivations.Sequents.{Source, Sequent}
 use Rattle.nts_model.specs.Derivations.Rules.{Meaning, Mode, GoalKind, coinductive_trait, normalization, other_goal, statement_kind, statement_of, goal_kind, IsCoinductiveStep}
 use Rattle.nts_model.specs.Derivations.Proofs.{IsSoundStep, HasProof, HasFallingProof}
-use Rattle.nts_model.specs.Derivations.Proving.{sequent_at, HasHeldRankedProof}
+use Rattle.nts_model.specs.Derivations.Proving.{sequent_at, HasRankedProofUnder}
 use Rattle.nts_model.specs.Searching.Stacks.{IsDerivedFrom, IsProvedFrom}
 use Rattle.nts_model.proofs.Derivations.Flattening.{derivation_proof}
 use Rattle.nts_model.proofs.Derivations.ProvedLater.{hypotheses_held}
@@ -22,7 +22,7 @@ derived_proof m mode t x = ⊎_elim
     x.reached
 
 -- from hypotheses that the table holds
-pub proved_held : (m : Meaning) (mode : Mode) (c : Content) (e p : Tree) → IsSound c → IsProvedFrom m mode [] c e p → HasHeldRankedProof m mode c e p
+pub proved_held : (m : Meaning) (mode : Mode) (c : Content) (e p : Tree) → IsSound c → IsProvedFrom m mode [] c e p → HasRankedProofUnder m mode c e p
 proved_held m mode c e p s x =
     record {
       sequent = sequent_at c e p;

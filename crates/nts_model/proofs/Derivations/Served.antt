@@ -11,7 +11,7 @@ use Rattle.nts_model.specs.declared.labels.Label.{Label}
 use Rattle.nts_model.specs.declared.labels.Label.TheVariants as label
 use Rattle.nts_model.specs.Terms.Trees.{Tree, empty, more, node, kind_of, any_label, is_canonical, binders, IsBoundBelow, IsClosedUnder, IsClosed, any_term, FitsPlace, IsFormed}
 use Rattle.nts_model.specs.Terms.Substitutions.{Instance, instance_of}
-use Rattle.nts_model.specs.Derivations.Related.{Constraint, pair, alias_goal, alias, AreRelated}
+use Rattle.nts_model.specs.Derivations.Related.{Constraint, pair, alias_goal, alias, AreRelatedByArgument}
 use Rattle.nts_model.specs.Lists.{Among}
 use Rattle.nts_model.specs.Derivations.Sequents.{PathKind, coinductive, unknown, inductive, forced_ambiguity, Premise, Hidden, Sequent, HasClosedStatement, HasClosedStatements, AreOneBy, constraint_under, IsTrivial, Grants}
 use Rattle.nts_model.specs.Derivations.Rules.{Meaning, Mode, goal_kind, proof_kind, statement_of, KeepsAliases, relating, aliases_relate}
@@ -147,7 +147,7 @@ module _ (m : Meaning) (mode : Mode) (e : Tree) (cs : List Constraint) (formed :
     (read : (x : Constraint) → Among cs x → constraint_under itself x ≡ x) where
   -- arguments that are related
   abbrev pub AreArgumentsRelated : Tree → Tree → (Premise → Type 0) → Type 0
-  AreArgumentsRelated ts us P = AreRelated m.variances (λ t. Unit {0}) (Grants (sequent_of m mode e cs empty)) (OfAliases e P) variance.Invariant [] ts us
+  AreArgumentsRelated ts us P = AreRelatedByArgument m.variances (λ t. Unit {0}) (Grants (sequent_of m mode e cs empty)) (OfAliases e P) variance.Invariant [] ts us
 
   served_itself : (p : Tree) (q : Premise) → IsFormed p → q.environment ≡ e → q.predicate ≡ p → (d : Derives m mode [] (sequent_of m mode e cs p)) → IsTree d → IsServed m mode e cs q
   served_itself p q f x y d t =

@@ -4,7 +4,7 @@ use Rattle.std.specs.Prelude.{◌==◌, ◌||◌, ◌&&◌, ◌++◌, ◌↔◌,
 use Rattle.nts_model.specs.Lists.{Among}
 use Rattle.nts_model.specs.Derivations.Rules.{Mode, coherence, post_analysis, erased, analysis, borrowck, post_borrowck}
 use Rattle.nts_model.specs.Derivations.Handlers.{Access, never, always, any_infer, in_storage, in_storage_or_infer}
-use Rattle.nts_model.specs.Erased.Accessing.{IsWithin, IsBelow, IsJoin, is_in, united, joined, Decision, stands, runs_again, is_handed_on, Parents, no_parents, is_stored, again_if, decides, IsFewer, is_stands, stands_for, is_erased, are_numbers, is_mode, suits}
+use Rattle.nts_model.specs.Erased.Accessing.{IsWithin, IsBelow, IsJoin, is_in, united, joined_accesses, Decision, stands, runs_again, is_handed_on, Parents, no_parents, is_stored, again_if, decides, IsFewer, is_stands, stands_for, is_erased, are_numbers, is_mode, suits}
 
 equal-iff : (m n : ℕ) → IsTrue (m == n) ↔ (m ≡ n)
 equal-iff m n = search rules
@@ -149,7 +149,7 @@ below_trans (in_storage_or_infer i) (in_storage_or_infer j) (in_storage k) f g =
 below_trans (in_storage_or_infer i) (in_storage_or_infer j) (in_storage_or_infer k) f g = λ n h. g n (f n h)
 
 -- joining is the least upper bound
-pub is_joined : (a b : Access) → IsJoin a b (joined a b)
+pub is_joined : (a b : Access) → IsJoin a b (joined_accesses a b)
 is_joined never b = record { left = tt; right = below_itself b; least = λ d f g. g }
 is_joined always b = record { left = tt; right = below_always b; least = λ d f g. f }
 is_joined any_infer never = record { left = tt; right = tt; least = λ d f g. f }

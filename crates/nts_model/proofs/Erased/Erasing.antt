@@ -14,12 +14,12 @@ use Rattle.nts_model.specs.Canonical.Inputs.{CanonicalInput}
 use Rattle.nts_model.specs.Derivations.Proving.{HoldsTerms, IsTermOf, AreConstraintsOf}
 use Rattle.nts_model.specs.Answers.Responses.{Response}
 use Rattle.nts_model.specs.Searching.Stacks.{IsReadSince, AreReadSince, IsEntry, IsDerivedFrom, IsProvedFrom, HoldsCandidateFrom, assumptions, path_kind, stronger}
-use Rattle.nts_model.specs.Searching.Driving.{Evaluates, MayEnd, as_read, marked}
+use Rattle.nts_model.specs.Searching.Driving.{EvaluatesInput, MayEnd, as_read, marked}
 use Rattle.nts_model.proofs.Searching.Driving.{back_evaluates, round_evaluates}
 use Rattle.nts_model.proofs.Derivations.FromCandidate.{from_candidate}
 use Rattle.nts_model.proofs.Searching.Stacks.{derived_since}
 use Rattle.nts_model.specs.Erased.Accessing.{suits, stands_for, IsBelow, Parents, decides, stands, is_handed_on}
-use Rattle.nts_model.specs.Erased.Erasing.{ModedEntry, seen, all_seen, plain_entry, WasReadSince, WereReadSince, mark, all_marked, EvaluatesIn, ComputesIn, ErasedAreRules, without_access, standing_of, standing}
+use Rattle.nts_model.specs.Erased.Erasing.{ModedEntry, entry_in_mode, all_seen, plain_entry, WasReadSince, WereReadSince, mark, all_marked, EvaluatesIn, ComputesIn, ErasedAreRules, without_access, standing_candidates, standing}
 use Rattle.nts_model.proofs.Erased.Accessing.{suits_less, suits_taken, suits_handed_on}
 
 -- what was read since, was so for each mode
@@ -27,7 +27,7 @@ and_more : (a b c : Bool) → (a ≡ true → b ≡ true) → (a && c) ≡ true 
 and_more true b c f e = (let h : b ≡ true = f refl in rw h e)
 and_more false b c f e = cc e
 
-seen_since : (proof : Mode) (x y : ModedEntry) → WasReadSince x y → IsReadSince (seen proof x) (seen proof y)
+seen_since : (proof : Mode) (x y : ModedEntry) → WasReadSince x y → IsReadSince (entry_in_mode proof x) (entry_in_mode proof y)
 seen_since proof x y h =
     let s = h.entry in
     let a = h.mode in
@@ -58,31 +58,31 @@ no_entry n x e = cc e
 first_entry : (a b : ModedEntry) (xs : List ModedEntry) → slice_get (a ∷ xs) 0 ≡ Some b → a ≡ b
 first_entry a b xs e = let z : Some a ≡ Some b = e in cc z
 
-get_seen : (proof : Mode) (xs : List ModedEntry) (n : ℕ) (x : ModedEntry) → slice_get xs n ≡ Some x → slice_get (all_seen proof xs) n ≡ Some (seen proof x)
+get_seen : (proof : Mode) (xs : List ModedEntry) (n : ℕ) (x : ModedEntry) → slice_get xs n ≡ Some x → slice_get (all_seen proof xs) n ≡ Some (entry_in_mode proof x)
 get_seen proof [] n x e = absurd (no_entry n x e)
-get_seen proof (y ∷ xs) zero x e = ap (λ v. Some (seen proof v)) (first_entry y x xs e)
+get_seen proof (y ∷ xs) zero x e = ap (λ v. Some (entry_in_mode proof v)) (first_entry y x xs e)
 get_seen proof (y ∷ xs) (suc n) x e = get_seen proof xs n x e
 
 -- a mode that may take an entry's answer sees that it is read
-mark_seen : (proof : Mode) (x : ModedEntry) → IsTrue (suits proof x.mode x.accesses) → seen proof (mark x) ≡ as_read (seen proof x)
+mark_seen : (proof : Mode) (x : ModedEntry) → IsTrue (suits proof x.mode x.accesses) → entry_in_mode proof (mark x) ≡ as_read (entry_in_mode proof x)
 mark_seen proof x e = (let q : suits proof x.mode x.accesses ≡ true = e in rw q refl)
 
 all_marked_seen : (proof : Mode) (xs : List ModedEntry) (n : ℕ) (x : ModedEntry) → slice_get xs n ≡ Some x → IsTrue (suits proof x.mode x.accesses) → all_seen proof (all_marked xs n) ≡ marked (all_seen proof xs) n
 all_marked_seen proof [] n x found e = absurd (no_entry n x found)
 all_marked_seen proof (y ∷ xs) zero x found e =
     ap (λ v. v ∷ all_seen proof xs) (mark_seen proof y (subst (λ v. IsTrue (suits proof v.mode v.accesses)) (sym (first_entry y x xs found)) e))
-all_marked_seen proof (y ∷ xs) (suc n) x found e = ap (λ v. seen proof y ∷ v) (all_marked_seen proof xs n x found e)
+all_marked_seen proof (y ∷ xs) (suc n) x found e = ap (λ v. entry_in_mode proof y ∷ v) (all_marked_seen proof xs n x found e)
 
 -- a coinductive back edge: the entry is read, and its provisional answer is the answer, with its accesses, which the context's
 -- are joined with
-seen_entry : (proof : Mode) (x : ModedEntry) → IsEntry x.entry → IsEntry (seen proof x)
+seen_entry : (proof : Mode) (x : ModedEntry) → IsEntry x.entry → IsEntry (entry_in_mode proof x)
 seen_entry proof x h = record { environment = h.environment; predicate = h.predicate; fits = h.fits; bounded = h.bounded }
 
 pub back_in : (m : Meaning) (st : List ModedEntry) (n : ℕ) (k : PathKind) (x : ModedEntry) → slice_get st n ≡ Some x → IsEntry x.entry → path_kind (map plain_entry st) n k ≡ coinductive
     → (let e = x.entry in EvaluatesIn m k st (all_marked st n) e.input x.mode e.response e.certainty x.accesses)
 back_in m st n k x found entry path = λ proof may.
-    subst (λ z. Evaluates m proof k (all_seen proof st) z (let e = x.entry in e.input) (let e = x.entry in e.response) (let e = x.entry in e.certainty)) (sym (all_marked_seen proof st n x found may))
-    (back_evaluates m proof (all_seen proof st) n k (seen proof x) (get_seen proof st n x found) (seen_entry proof x entry) (path_seen proof st n k ∙ path))
+    subst (λ z. EvaluatesInput m proof k (all_seen proof st) z (let e = x.entry in e.input) (let e = x.entry in e.response) (let e = x.entry in e.certainty)) (sym (all_marked_seen proof st n x found may))
+    (back_evaluates m proof (all_seen proof st) n k (entry_in_mode proof x) (get_seen proof st n x found) (seen_entry proof x entry) (path_seen proof st n k ∙ path))
 
 read_first : (b d : Bool) → (b && d) ≡ true → b ≡ true
 read_first true d q = refl
@@ -93,7 +93,7 @@ pub round_in : (m : Meaning) (x y : ModedEntry) (old new : List ModedEntry) (r :
     → (let e = x.entry in ComputesIn m (x ∷ old) (y ∷ new) e.input x.mode r c a) → (c ≡ certain → MayEnd y.entry r)
     → (let e = x.entry in EvaluatesIn m e.kind old new e.input x.mode r c a)
 round_in m x y old new r c a computes end = λ proof may.
-    round_evaluates m proof (seen proof x) (seen proof y) (all_seen proof old) (all_seen proof new) r c (computes proof may)
+    round_evaluates m proof (entry_in_mode proof x) (entry_in_mode proof y) (all_seen proof old) (all_seen proof new) r c (computes proof may)
     (λ sure read same. end sure (let e = y.entry in read_first e.is_read (suits proof y.mode y.accesses) read) same)
 
 -- a context of that mode which has these accesses asked a goal: in the erased mode, where the answer stands or its accesses were
@@ -129,7 +129,7 @@ record IsStanding (proof : Mode) (cs : List Candidate) (d : Candidate) : Type 0 
 standing_later : (proof : Mode) (c : Candidate) (cs : List Candidate) (d : Candidate) → IsStanding proof cs d → IsStanding proof (c ∷ cs) d
 standing_later proof c cs d x = record { candidate = x.candidate; found = inr x.found; stands = x.stands; same = x.same }
 
-standing-from : (proof : Mode) (cs : List Candidate) (d : Candidate) → Among (standing_of proof cs) d → IsStanding proof cs d
+standing-from : (proof : Mode) (cs : List Candidate) (d : Candidate) → Among (standing_candidates proof cs) d → IsStanding proof cs d
 standing-from proof [] d h = absurd h
 standing-from proof (c ∷ cs) d h = elim (either (stands_for proof c.accesses)) [
   | inl e ↦ ⊎_elim
@@ -139,10 +139,10 @@ standing-from proof (c ∷ cs) d h = elim (either (stands_for proof c.accesses))
   | inr e ↦ standing_later proof c cs d (standing-from proof cs d (rw e at h))
 ]
   where
-    first_of : (d ≡ without_access c) ⊎ Among (standing_of proof cs) d → (d ≡ without_access c) ⊎ Among (standing_of proof cs) d
+    first_of : (d ≡ without_access c) ⊎ Among (standing_candidates proof cs) d → (d ≡ without_access c) ⊎ Among (standing_candidates proof cs) d
     first_of x = x
 
-standing-has : (proof : Mode) (cs : List Candidate) (d : Candidate) → Among cs d → IsTrue (stands_for proof d.accesses) → Among (standing_of proof cs) (without_access d)
+standing-has : (proof : Mode) (cs : List Candidate) (d : Candidate) → Among cs d → IsTrue (stands_for proof d.accesses) → Among (standing_candidates proof cs) (without_access d)
 standing-has proof [] d h e = absurd h
 standing-has proof (c ∷ cs) d (inl q) e =
     (let y : stands_for proof c.accesses ≡ true = subst (λ v. IsTrue (stands_for proof v.accesses)) q e in rw y (inl (ap without_access q)))

@@ -3,7 +3,7 @@ use Rattle.std.proofs.Common.{◌≡◌, ℕ, List, [], ◌∷◌, refl, inl, in
 use Rattle.nts_model.specs.Terms.Trees.{Tree}
 use Rattle.nts_model.specs.Lists.{Among}
 use Rattle.nts_model.specs.Derivations.Rules.{Mode, coherence, post_analysis, erased, analysis, borrowck, post_borrowck}
-use Rattle.nts_model.specs.Derivations.Handlers.{Handler, Candidate, certain, never, always, in_storage, in_storage_or_infer, IsLawful, IsCandidateFor, renamed}
+use Rattle.nts_model.specs.Derivations.Handlers.{Handler, Candidate, certain, never, always, in_storage, in_storage_or_infer, IsLawfulHandler, IsCandidateFor, renamed_candidate}
 use Rattle.nts_model.specs.Terms.Substitutions.{Renaming}
 use Rattle.nts_model.specs.Erased.Accessing.{Parents, no_parents, stands, runs_again, decides}
 use Rattle.nts_model.specs.Erased.Erasing.{ErasedAreRules}
@@ -48,7 +48,7 @@ only_fact (borrowck xs) c (inr i) = absurd i
 only_fact (post_borrowck xs) c (inl e) = e
 only_fact (post_borrowck xs) c (inr i) = absurd i
 
-same_facts : (mode : Mode) (ρ : Renaming) → facts mode ≡ map (renamed ρ) (facts mode)
+same_facts : (mode : Mode) (ρ : Renaming) → facts mode ≡ map (renamed_candidate ρ) (facts mode)
 same_facts erased ρ = refl
 same_facts coherence ρ = refl
 same_facts post_analysis ρ = refl
@@ -60,7 +60,7 @@ fact_keeps : (e g : Tree) → IsCandidateFor e g fact
 fact_keeps e g = record { equations = λ q i. absurd i; constraints = λ x i. absurd i; goals = λ q i. absurd i; no_hidden = refl; no_access = refl }
 
 -- it keeps the laws, that of the erased mode too
-pub blind_lawful : IsLawful blind
+pub blind_lawful : IsLawfulHandler blind
 blind_lawful =
     record {
       commute = record { renaming = λ mode e g ρ p a. same_facts mode ρ };

@@ -17,7 +17,7 @@ use Rattle.nts_model.specs.Lists.{Among}
 use Rattle.nts_model.specs.Derivations.Handlers.{Candidate, kind_of_sort}
 use Rattle.nts_model.specs.Answers.Responses.{read_in}
 use Rattle.nts_model.specs.Answers.Applying.{IsProperContent, AreKnownTrees}
-use Rattle.nts_model.specs.Refutation.Choosing.{left_of, right_of, MeetsEquations, IsMet, NoneIsMet, OnlyIsMet, SomeIsMet, SeveralAreMet, Freshens, EquatesAll, FailsToEquate}
+use Rattle.nts_model.specs.Refutation.Choosing.{left_of, right_of, MeetsEquations, IsCandidateMet, NoneIsMet, OnlyIsMet, SomeIsMet, SeveralAreMet, Freshens, EquatesAll, FailsToEquate}
 use Rattle.nts_model.proofs.Tables.Instances.{inst-agrees}
 use Rattle.nts_model.proofs.Canonical.Positioned.{inst-filled}
 use Rattle.nts_model.specs.Tables.RegionClasses.{reading}
@@ -69,24 +69,24 @@ unmet_when_failed ss qs xs c made proper f fails known terms m =
     (record { each = λ q i. at (left_of q) (terms.left_formed q i) (terms.left_leaves q i) ∙ m.equal q i ∙ sym (at (right_of q) (terms.right_formed q i) (terms.right_leaves q i)) })
 
 -- one candidate more
-pub NoneIsMet-push : (c : Content) (ys : List Candidate) (x : Candidate) → NoneIsMet c ys → (IsMet c x → ⊥) → NoneIsMet c (ys ++ x ∷ [])
+pub NoneIsMet-push : (c : Content) (ys : List Candidate) (x : Candidate) → NoneIsMet c ys → (IsCandidateMet c x → ⊥) → NoneIsMet c (ys ++ x ∷ [])
 NoneIsMet-push c [] x h k = (k, tt)
 NoneIsMet-push c (y ∷ ys) x h k = (h.0, NoneIsMet-push c ys x h.1 k)
 
-pub OnlyIsMet-first : (c : Content) (ys : List Candidate) (x : Candidate) → NoneIsMet c ys → IsMet c x → OnlyIsMet c x (ys ++ x ∷ [])
+pub OnlyIsMet-first : (c : Content) (ys : List Candidate) (x : Candidate) → NoneIsMet c ys → IsCandidateMet c x → OnlyIsMet c x (ys ++ x ∷ [])
 OnlyIsMet-first c [] x h k = inl (refl, k, tt)
 OnlyIsMet-first c (y ∷ ys) x h k = inr (h.0, OnlyIsMet-first c ys x h.1 k)
 
-pub OnlyIsMet-push : (c : Content) (ys : List Candidate) (o x : Candidate) → OnlyIsMet c o ys → (IsMet c x → ⊥) → OnlyIsMet c o (ys ++ x ∷ [])
+pub OnlyIsMet-push : (c : Content) (ys : List Candidate) (o x : Candidate) → OnlyIsMet c o ys → (IsCandidateMet c x → ⊥) → OnlyIsMet c o (ys ++ x ∷ [])
 OnlyIsMet-push c [] o x h k = absurd h
 OnlyIsMet-push c (y ∷ ys) o x (inl h) k = inl (h.0, h.1, NoneIsMet-push c ys x h.2 k)
 OnlyIsMet-push c (y ∷ ys) o x (inr h) k = inr (h.0, OnlyIsMet-push c ys o x h.1 k)
 
-some_last : (c : Content) (ys : List Candidate) (x : Candidate) → IsMet c x → SomeIsMet c (ys ++ x ∷ [])
+some_last : (c : Content) (ys : List Candidate) (x : Candidate) → IsCandidateMet c x → SomeIsMet c (ys ++ x ∷ [])
 some_last c [] x k = inl k
 some_last c (y ∷ ys) x k = inr (some_last c ys x k)
 
-pub SeveralAreMet-second : (c : Content) (ys : List Candidate) (o x : Candidate) → OnlyIsMet c o ys → IsMet c x → SeveralAreMet c (ys ++ x ∷ [])
+pub SeveralAreMet-second : (c : Content) (ys : List Candidate) (o x : Candidate) → OnlyIsMet c o ys → IsCandidateMet c x → SeveralAreMet c (ys ++ x ∷ [])
 SeveralAreMet-second c [] o x h k = absurd h
 SeveralAreMet-second c (y ∷ ys) o x (inl h) k = inl (h.1, some_last c ys x k)
 SeveralAreMet-second c (y ∷ ys) o x (inr h) k = inr (SeveralAreMet-second c ys o x h.1 k)

@@ -13,7 +13,7 @@ use Rattle.nts_model.specs.declared.labels.Label.{Label}
 use Rattle.nts_model.specs.declared.labels.Label.TheVariants as label
 use Rattle.nts_model.specs.Terms.Trees.{Tree, empty, more, node, is_alias, binders, IsBoundBelow, IsClosedUnder, IsClosed}
 use Rattle.nts_model.specs.Tables.Alike.{Alike, one_tree as same_tree, two_regions, one_label, two_rows}
-use Rattle.nts_model.specs.Derivations.Related.{Constraint, unbound, alias_goal, alias, alias_label, IsAlias, Related, AreRelated, one_tree, regions, constructors, functions, values, open_aliases, aliases, subtypes, no_more, and_more, times, region_constraint, first_variance}
+use Rattle.nts_model.specs.Derivations.Related.{Constraint, unbound, alias_goal, alias, alias_label, IsAlias, Related, AreRelatedByArgument, one_tree, regions, constructors, functions, values, open_aliases, aliases, subtypes, no_more, and_more, times, region_constraint, first_variance}
 use Rattle.nts_model.specs.Derivations.Sequents.{Premise, Hidden}
 use Rattle.nts_model.specs.Derivations.Rules.{Mode, Meaning, goal_kind, Replaced, chosen, kept_empty, kept_more, kept_node, Stands, opened, opened_at, IsHandlers, IsBuiltIn, IsApplied, IsPlainRule, bound, IsRule}
 use Rattle.nts_model.specs.Derivations.Rules.{region_lives, type_lives, subtyped, coerced, const_typed, error_typed, allowed, dyn_compatible, formed, constant_evaluated, value_evaluated, error_evaluated, alias_evaluated, aliases_relate}
@@ -34,7 +34,7 @@ module _ (D : ℕ → List Variance) (S : Tree → Type 0) (H : Constraint → T
     related_equal v a b e (aliases i ca cb p) = absurd (n a b i (subst (λ z. P (alias_goal z a b)) e p))
     related_equal v a b e (subtypes x i j k ca cb p) = absurd (i e)
 
-    all_equal : (v : Variance) (ws : List Variance) (a b : Tree) → v ≡ variance.Invariant → AreRelated D S H P v ws a b → a ≡ b
+    all_equal : (v : Variance) (ws : List Variance) (a b : Tree) → v ≡ variance.Invariant → AreRelatedByArgument D S H P v ws a b → a ≡ b
     all_equal v ws a b e no_more = refl
     all_equal v ws (more a ts) (more b us) e (and_more r rs) = cc (related_equal _ a b (ap (λ z. times z (first_variance ws)) e) r, all_equal v _ ts us e rs)
 

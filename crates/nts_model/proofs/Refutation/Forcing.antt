@@ -4,13 +4,13 @@ use Rattle.nts_model.specs.Terms.Trees.{Tree}
 use Rattle.nts_model.specs.Tables.Contents.{Content}
 use Rattle.nts_model.specs.Derivations.Sequents.{Premise}
 use Rattle.nts_model.specs.Derivations.Handlers.{Candidate}
-use Rattle.nts_model.specs.Refutation.Forcing.{Leaves, LeavesAll, IsForced}
+use Rattle.nts_model.specs.Refutation.Forcing.{GoalsLeave, LeavesAll, IsForced}
 
-LeavesAll-map : (P Q : Leaves) → ((c d : Content) (e g : Tree) → P c d e g → Q c d e g) → (xs : List Tree) (ps : List Premise) (c d : Content) → LeavesAll P xs ps c d → LeavesAll Q xs ps c d
+LeavesAll-map : (P Q : GoalsLeave) → ((c d : Content) (e g : Tree) → P c d e g → Q c d e g) → (xs : List Tree) (ps : List Premise) (c d : Content) → LeavesAll P xs ps c d → LeavesAll Q xs ps c d
 LeavesAll-map P Q f xs [] c d h = h
 LeavesAll-map P Q f xs (p ∷ ps) c d (e, one, rest) = (e, f c e _ _ one, LeavesAll-map P Q f xs ps e d rest)
 
-pub IsForced-map : (offers : Tree → Tree → List Candidate) (P Q : Leaves) → ((c d : Content) (e g : Tree) → P c d e g → Q c d e g) → (c d : Content) (e g : Tree) → IsForced offers P c d e g → IsForced offers Q c d e g
+pub IsForced-map : (offers : Tree → Tree → List Candidate) (P Q : GoalsLeave) → ((c d : Content) (e g : Tree) → P c d e g → Q c d e g) → (c d : Content) (e g : Tree) → IsForced offers P c d e g → IsForced offers Q c d e g
 IsForced-map offers P Q f c d e g h =
     record {
       candidate = h.candidate;

@@ -24,7 +24,7 @@ use Rattle.nts_model.specs.Lists.{Among}
 use Rattle.nts_model.specs.Derivations.Sequents.{Premise, IsOfTerms, Grants, Hides}
 use Rattle.nts_model.specs.Derivations.Rules.{Mode, goal_kind, statement_kind, proof_kind, IsHandlers, opened, opened_at, AreFresh, bound, IsPlainRule, IsRule}
 use Rattle.nts_model.specs.Derivations.Proofs.{Assumed, passed, by_rule}
-use Rattle.nts_model.specs.Derivations.Handlers.{Handler, meaning, Candidate, certain, IsAsked, IsLawful}
+use Rattle.nts_model.specs.Derivations.Handlers.{Handler, meaning, Candidate, certain, IsAsked, IsLawfulHandler}
 use Rattle.nts_model.specs.Derivations.Proving.{HoldsTerms, IsTermOf, AreConstraintsOf, read_constraints, sequent_at, HoldsCandidate}
 use Rattle.nts_model.specs.Searching.Stacks.{IsProvedFrom, HoldsCandidateFrom}
 use Rattle.nts_model.proofs.Derivations.Monotone.{rule_more}
@@ -143,7 +143,7 @@ module _ (h : Handler) (V : ℕ → List Variance) (mode : Mode) (A : List Assum
         }
 
     -- the goal that binds variables is proved under the table
-    pub by_opened_candidate : IsLawful h → Among (h.offers mode e there) d → d.certainty ≡ certain → IsProvedFrom (meaning h V) mode A c e goal
+    pub by_opened_candidate : IsLawfulHandler h → Among (h.offers mode e there) d → d.certainty ≡ certain → IsProvedFrom (meaning h V) mode A c e goal
     by_opened_candidate law offered sure =
         let keep = law.keep in
         let keeps = keep.each mode e there d asked offered in
@@ -173,7 +173,7 @@ module _ (h : Handler) (V : ℕ → List Variance) (mode : Mode) (A : List Assum
 
   -- .. and so is a goal that a table knew before it was entered
   pub by_entered_candidate : (b : Content) (e g : Tree) → AreCurrent b → Continues b c → IsLevelled c → AreRegionsLevelled c → IsTermOf b e → IsTermOf b g → IsClosed g → IsAsked e (opened_in b g) → IsTermOf c e → IsTermOf c g → IsTermOf c (opened_in b g)
-      → (d : Candidate) → IsLawful h → Among (h.offers mode e (opened_in b g)) d → d.certainty ≡ certain → HoldsCandidateFrom (meaning h V) mode A c (opened_in b g) d → IsProvedFrom (meaning h V) mode A c e g
+      → (d : Candidate) → IsLawfulHandler h → Among (h.offers mode e (opened_in b g)) d → d.certainty ≡ certain → HoldsCandidateFrom (meaning h V) mode A c (opened_in b g) d → IsProvedFrom (meaning h V) mode A c e g
   by_entered_candidate b e (node (label.List list.Binder) (more (node (label.List list.Sorts) (more o os)) (more u empty))) now later l r te tg closed asked ke kg ko d law offered sure x =
       by_opened_candidate e o os u (placeholder_in (b.universe + 1)) asked ke kg ko closed (fresh_later b c e (bound (more o os) u) te.knows tg.knows now later l r) d x law offered sure
   by_entered_candidate b e g now later l r te tg closed asked ke kg ko d law offered sure x = lawful_candidate_from h V mode A c s t k e g asked ke kg d law offered sure x

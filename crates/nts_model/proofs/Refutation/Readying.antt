@@ -17,8 +17,8 @@ use Rattle.nts_model.specs.Terms.Substitutions.{leaf_tree}
 use Rattle.nts_model.specs.Derivations.Related.{pair, unbound}
 use Rattle.nts_model.specs.Lists.{Among}
 use Rattle.nts_model.specs.Derivations.Rules.{coherence, statement_of, opened, IsHandlers}
-use Rattle.nts_model.specs.Refutation.Opening.{binds, placeholder_in, entered, opened_in}
-use Rattle.nts_model.specs.Derivations.Handlers.{Handler, Candidate, IsAsked, IsLawful}
+use Rattle.nts_model.specs.Refutation.Opening.{binds, placeholder_in, entered_table, opened_in}
+use Rattle.nts_model.specs.Derivations.Handlers.{Handler, Candidate, IsAsked, IsLawfulHandler}
 use Rattle.nts_model.specs.Answers.Applying.{IsProperContent}
 use Rattle.nts_model.specs.Refutation.Containing.{Truth, IsSolution}
 use Rattle.nts_model.specs.Refutation.Coherence.{RulesAreOffered}
@@ -60,14 +60,14 @@ module _ (truth : Truth) (base : ℕ) (c : Content) (w : World) (s : IsSolution 
 -- a goal that the handler is asked for, in the table in which it is answered
 pub record IsReady (c : Content) (e g : Tree) : Type 0 where
   pub asked : IsAsked e (opened_in c g)
-  pub knows : Knows (entered c g) (pair e (opened_in c g))
-  pub proper : IsProperContent (entered c g)
+  pub knows : Knows (entered_table c g) (pair e (opened_in c g))
+  pub proper : IsProperContent (entered_table c g)
 
 pub record SomeBegins (h : Handler) (truth : Truth) (Proves : Tree → Tree → Type 0) (c : Content) (e g : Tree) (w : World) : Type 0 where
   pub candidate : Candidate
   pub offered : Among (h.offers coherence e (opened_in c g)) candidate
-  pub solution : IsSolution truth 0 (entered c g) w
-  pub begins : CanBegin truth Proves (entered c g) w candidate
+  pub solution : IsSolution truth 0 (entered_table c g) w
+  pub begins : CanBegin truth Proves (entered_table c g) w candidate
 
 record IsBinding (g : Tree) : Type 0 where
   pub first : Tree
@@ -82,7 +82,7 @@ binding_shape g e = cc e
 same_statement : (s t : Tree) → unbound s ≡ unbound t → s ≡ t
 same_statement s t e = cc e
 
-module _ (h : Handler) (truth : Truth) (Proves : Tree → Tree → Type 0) (theory : IsTheory h truth Proves) (lawful : IsLawful h) (law : RulesAreOffered h) where
+module _ (h : Handler) (truth : Truth) (Proves : Tree → Tree → Type 0) (theory : IsTheory h truth Proves) (lawful : IsLawfulHandler h) (law : RulesAreOffered h) where
   -- by what the world uses
   begins_by : (c : Content) (w : World) (e g : Tree) (asked : IsAsked e g) → Knows c (pair e g) → IsProperContent c → IsSolution truth 0 c w → UsesNamed h truth Proves c.universe (inst w e) (inst w asked.statement)
       → (x : Candidate) × Among (h.offers coherence e g) x × CanBegin truth Proves c w x
@@ -138,7 +138,7 @@ module _ (h : Handler) (truth : Truth) (Proves : Tree → Tree → Type 0) (theo
       where
         by_bool : (b : Bool) → binds g ≡ b → SomeBegins h truth Proves c e g w
         by_bool false q =
-            let there : entered c g ≡ c = rw q refl in
+            let there : entered_table c g ≡ c = rw q refl in
             let o : opened_in c g ≡ g = rw q refl in
             let x = begins_plain (subst (IsAsked e) o ready.asked) (subst IsProperContent there ready.proper) in
             record {
@@ -148,9 +148,9 @@ module _ (h : Handler) (truth : Truth) (Proves : Tree → Tree → Type 0) (theo
               begins = subst (λ z. CanBegin truth Proves z w x.0) (sym there) x.2;
             }
         by_bool true q =
-            let there : entered c g ≡ in_universe c (c.universe + 1) = rw q refl in
+            let there : entered_table c g ≡ in_universe c (c.universe + 1) = rw q refl in
             let o : opened_in c g ≡ unbound (opened (placeholder_in (c.universe + 1)) 0 (statement_of g)) = rw q refl in
-            let known_there = subst (λ z. Knows z (pair e (unbound (opened (placeholder_in (c.universe + 1)) 0 (statement_of g))))) there (subst (λ z. Knows (entered c g) (pair e z)) o ready.knows) in
+            let known_there = subst (λ z. Knows z (pair e (unbound (opened (placeholder_in (c.universe + 1)) 0 (statement_of g))))) there (subst (λ z. Knows (entered_table c g) (pair e z)) o ready.knows) in
             let x = begins_binding (binding_shape g q) (subst (IsAsked e) o ready.asked) known_there (subst IsProperContent there ready.proper) in
             record {
               candidate = x.0;

@@ -10,7 +10,7 @@ use Rattle.nts_model.specs.Tables.Levels.{AreCurrent}
 use Rattle.nts_model.specs.Tables.Worlds.{World, inst}
 use Rattle.nts_model.specs.Derivations.Related.{Constraint, pair}
 use Rattle.nts_model.specs.Derivations.Rules.{coherence}
-use Rattle.nts_model.specs.Derivations.Handlers.{Handler, meaning, IsLawful}
+use Rattle.nts_model.specs.Derivations.Handlers.{Handler, meaning, IsLawfulHandler}
 use Rattle.nts_model.specs.Refutation.Containing.{Truth, IsTrueBy, IsSolution, AnswerContains, HasNoSolution}
 use Rattle.nts_model.specs.Refutation.Coherence.{RulesAreOffered}
 use Rattle.nts_model.specs.Canonical.Inputs.{CanonicalInput}
@@ -22,7 +22,7 @@ use Rattle.nts_model.proofs.Refutation.Theories.{Carried, carried_itself, carrie
 use Rattle.nts_model.proofs.Refutation.ReachedGoals.{HasNoAliases, InSettledProof, settled_used, root_reached, ground_proof}
 use Rattle.nts_model.proofs.Refutation.Witnesses.{Tells, Refutes, Asked, Refused, asked_leads, IsFirst, first_query, tells_contain, refutes_none, refused_none}
 
-module _ (h : Handler) (V : ℕ → List Variance) (truth : Truth) (lawful : IsLawful h) (law : RulesAreOffered h) (none : HasNoAliases h) (fair : IsFair truth) where
+module _ (h : Handler) (V : ℕ → List Variance) (truth : Truth) (lawful : IsLawfulHandler h) (law : RulesAreOffered h) (none : HasNoAliases h) (fair : IsFair truth) where
   abbrev Holds : Constraint → Type 0
   Holds x = IsTrueBy truth x.relation x.left x.right
 
@@ -55,7 +55,7 @@ module _ (h : Handler) (V : ℕ → List Variance) (truth : Truth) (lawful : IsL
       refutes_none h truth Proves theory fair lawful law t (first_query f q qs first) vs e.world (record { values = s.values; solution = e.solution; images = e.images; proved = e.proved })
 
 -- what is refused as the table knows it has no solution, and what was asked so loses none
-module _ (h : Handler) (lawful : IsLawful h) (law : RulesAreOffered h) (none : HasNoAliases h) (c : Content) (sound : IsSound c) (current : AreCurrent c) (e g : Tree) (known : Knows c (pair e g)) where
+module _ (h : Handler) (lawful : IsLawfulHandler h) (law : RulesAreOffered h) (none : HasNoAliases h) (c : Content) (sound : IsSound c) (current : AreCurrent c) (e g : Tree) (known : Knows c (pair e g)) where
   known_there : Knows c (pair (deeply_resolved c e) (deeply_resolved c g))
   known_there = (Knows-deeply_resolved c e sound known.0, (Knows-deeply_resolved c g sound known.1.0, tt))
 

@@ -16,10 +16,10 @@ use Rattle.nts_model.specs.Lists.{Among}
 use Rattle.nts_model.specs.Derivations.Sequents.{Source, type_relating, normalize_goal, inductive, Premise}
 use Rattle.nts_model.specs.Derivations.Rules.{Mode, coherence}
 use Rattle.nts_model.specs.Terms.Substitutions.{leaf_tree, Occurs, IsConstant, instance_of, filled}
-use Rattle.nts_model.specs.Derivations.Handlers.{Handler, Candidate, premise_by, IsLawful}
-use Rattle.nts_model.specs.Refutation.Choosing.{Freshens, EquatesAll, IsMet}
+use Rattle.nts_model.specs.Derivations.Handlers.{Handler, Candidate, premise_by, IsLawfulHandler}
+use Rattle.nts_model.specs.Refutation.Choosing.{Freshens, EquatesAll, IsCandidateMet}
 use Rattle.nts_model.specs.Refutation.Forcing.{AddsAll}
-use Rattle.nts_model.specs.Refutation.Opening.{binds, entered, opened_in}
+use Rattle.nts_model.specs.Refutation.Opening.{binds, entered_table, opened_in}
 use Rattle.nts_model.specs.Canonical.Inputs.{Input, IsInput, CanonicalInput, PositionKind, type_variable, integer_variable, float_variable, const_variable, region_variable, placeholder, canonical_of, originals, OccursIn}
 use Rattle.nts_model.specs.Answers.Responses.{Findings, AreFindings, own_leaves, row_of, value_row, constraint_row, is_fixed, Response, response_of, IsResponseTo, Applies, RefusesResponse, IsQueryTable}
 use Rattle.nts_model.specs.Refutation.Containing.{Truth, IsTrueBy, original_level, IsSolution, IsInputValue, AreInputValues, IsAnswerValue, AreAnswerValues, ContainsSolution, AnswerContains, HasNoSolution, IsProvedIn, SolvesGoals, ExtendsTo, KeepsSolutions}
@@ -158,12 +158,12 @@ pub record IsFirst (f : CanonicalInput) (q : Content) (qs : List Tree) : Type 0 
 
 mutual
   pub data Tells (h : Handler) (mode : Mode) : List PositionKind → Content → Tree → Tree → List Tree → Response → Type 0 where
-    tells_nothing : {ks : List PositionKind} {c : Content} {e g : Tree} {qs : List Tree} {r : Response} (d : Content) → (d ≡ c) ⊎ (d ≡ entered c g) → IsPlain ks d qs r → Tells h mode ks c e g qs r
+    tells_nothing : {ks : List PositionKind} {c : Content} {e g : Tree} {qs : List Tree} {r : Response} (d : Content) → (d ≡ c) ⊎ (d ≡ entered_table c g) → IsPlain ks d qs r → Tells h mode ks c e g qs r
     says_nothing : {ks : List PositionKind} {c : Content} {e g : Tree} {qs : List Tree} {r : Response} → SaysNothing ks r → Tells h mode ks c e g qs r
-    tells_one : {ks : List PositionKind} {c : Content} {e g : Tree} {qs : List Tree} {r : Response} (rs : List Response) → IsReady c e g → Outcomes h mode ks (entered c g) qs (h.offers mode e (opened_in c g)) rs → StandsForAll ks rs r → Tells h mode ks c e g qs r
+    tells_one : {ks : List PositionKind} {c : Content} {e g : Tree} {qs : List Tree} {r : Response} (rs : List Response) → IsReady c e g → Outcomes h mode ks (entered_table c g) qs (h.offers mode e (opened_in c g)) rs → StandsForAll ks rs r → Tells h mode ks c e g qs r
 
   pub data Refutes (h : Handler) (mode : Mode) : List PositionKind → Content → Tree → Tree → List Tree → Type 0 where
-    all_fail : {ks : List PositionKind} {c : Content} {e g : Tree} {qs : List Tree} → IsReady c e g → Outcomes h mode ks (entered c g) qs (h.offers mode e (opened_in c g)) [] → Refutes h mode ks c e g qs
+    all_fail : {ks : List PositionKind} {c : Content} {e g : Tree} {qs : List Tree} → IsReady c e g → Outcomes h mode ks (entered_table c g) qs (h.offers mode e (opened_in c g)) [] → Refutes h mode ks c e g qs
 
   pub data Outcomes (h : Handler) (mode : Mode) : List PositionKind → Content → List Tree → List Candidate → List Response → Type 0 where
     no_outcome : {ks : List PositionKind} {c : Content} {qs : List Tree} → Outcomes h mode ks c qs [] []
@@ -175,7 +175,7 @@ mutual
         → IsResponseOf ks found qs r ⊎ IsPlain ks found qs r ⊎ IsPlain ks c qs r → Replies h mode ks c qs x r
 
   pub data Fails (h : Handler) (mode : Mode) : Content → Candidate → Type 0 where
-    is_unmet : {c : Content} {x : Candidate} → (IsMet c x → ⊥) → Fails h mode c x
+    is_unmet : {c : Content} {x : Candidate} → (IsCandidateMet c x → ⊥) → Fails h mode c x
     breaks_off : {c : Content} {x : Candidate} → BreaksOff c x → Fails h mode c x
     is_refused : {c : Content} {x : Candidate} (values : List Tree) (met : Content) → IsBegun c x values met → RefusesOne h mode (goals_with values x.goals) met → Fails h mode c x
 
@@ -240,17 +240,17 @@ solution_without truth base c w s =
       outlives = s.outlives;
     }
 
-entered_keeps : (c : Content) (g : Tree) → KeepsKinds c (entered c g)
+entered_keeps : (c : Content) (g : Tree) → KeepsKinds c (entered_table c g)
 entered_keeps c g = by_bool (binds g) refl
   where
-    by_bool : (b : Bool) → binds g ≡ b → KeepsKinds c (entered c g)
+    by_bool : (b : Bool) → binds g ≡ b → KeepsKinds c (entered_table c g)
     by_bool false q = rw q (KeepsKinds-refl c)
     by_bool true q = rw q (record { grows = omega arith; kinds = λ n k e. e })
 
-entered_solution : (truth : Truth) (c : Content) (g : Tree) (w : World) → IsSolution truth 0 c w → IsSolution truth 0 (entered c g) w
+entered_solution : (truth : Truth) (c : Content) (g : Tree) (w : World) → IsSolution truth 0 c w → IsSolution truth 0 (entered_table c g) w
 entered_solution truth c g w s = by_bool (binds g) refl
   where
-    by_bool : (b : Bool) → binds g ≡ b → IsSolution truth 0 (entered c g) w
+    by_bool : (b : Bool) → binds g ≡ b → IsSolution truth 0 (entered_table c g) w
     by_bool false q = rw q s
     by_bool true q =
         rw q (solution_later truth 0 c (in_universe c (c.universe + 1)) w w s (omega arith) (Agrees-refl (length c.slots) w) (Solves-in_universe c (c.universe + 1) w s.solves) (record { each = λ n. s.named.each n }))
@@ -448,7 +448,7 @@ module _ (truth : Truth) (Proves : Tree → Tree → Type 0) where
       (subst (Proves (inst w p.environment)) (sym (inst-deeply_resolved d w p.predicate can.sound z.solves)) (s.goals p a))
 
 -- the theorem: in coherence each answer contains each solution, and what is refused has none
-module _ (h : Handler) (truth : Truth) (Proves : Tree → Tree → Type 0) (theory : IsTheory h truth Proves) (fair : IsFair truth) (lawful : IsLawful h) (law : RulesAreOffered h) where
+module _ (h : Handler) (truth : Truth) (Proves : Tree → Tree → Type 0) (theory : IsTheory h truth Proves) (fair : IsFair truth) (lawful : IsLawfulHandler h) (law : RulesAreOffered h) where
   some_says : (ks : List PositionKind) (c met found : Content) (w : World) (qs : List Tree) (r : Response) (gs : List Premise) → ArePlaced ks qs → ((t : Tree) → Among qs t → Knows c t) → IsSolution truth 0 c w
       → BegunAt truth Proves c met w gs → Reached truth Proves met found gs → IsResponseOf ks found qs r ⊎ IsPlain ks found qs r ⊎ IsPlain ks c qs r → ContainsSolution truth r (map (inst w) qs)
   some_says ks c met found w qs r gs placed known s b x says = by_case says
@@ -478,13 +478,13 @@ module _ (h : Handler) (truth : Truth) (Proves : Tree → Tree → Type 0) (theo
     tells_contain {ks} {c} {e} {g} {qs} {r} (says_nothing says) q vs w s = nothing_said truth ks r vs q.numbered says s.values
     tells_contain {ks} {c} {e} {g} {qs} {r} (tells_one rs ready all stands) q vs w s =
         let x = some_begins h truth Proves theory lawful law c e g w s.solution q.current q.knows s.proved ready in
-        let one = outcomes_contain all q.placed (λ t i. Knows-kept c (entered c g) t (entered_keeps c g) (q.positions t i)) w x.solution x.candidate x.offered x.begins in
+        let one = outcomes_contain all q.placed (λ t i. Knows-kept c (entered_table c g) t (entered_keeps c g) (q.positions t i)) w x.solution x.candidate x.offered x.begins in
         stands_contains ks rs r vs q.numbered s.values stands (subst (OneContains truth rs) s.images one)
 
     pub refutes_none : {ks : List PositionKind} {c : Content} {e g : Tree} {qs : List Tree} → Refutes h coherence ks c e g qs → IsQuery ks c e g qs → (vs : List Tree) (w : World) → IsSolved truth Proves ks c e g qs vs w → ⊥
     refutes_none {ks} {c} {e} {g} {qs} (all_fail ready all) q vs w s =
         let x = some_begins h truth Proves theory lawful law c e g w s.solution q.current q.knows s.proved ready in
-        let one = outcomes_contain all q.placed (λ t i. Knows-kept c (entered c g) t (entered_keeps c g) (q.positions t i)) w x.solution x.candidate x.offered x.begins in
+        let one = outcomes_contain all q.placed (λ t i. Knows-kept c (entered_table c g) t (entered_keeps c g) (q.positions t i)) w x.solution x.candidate x.offered x.begins in
         one.among
 
     outcomes_contain : {ks : List PositionKind} {c : Content} {qs : List Tree} {xs : List Candidate} {rs : List Response} → Outcomes h coherence ks c qs xs rs → ArePlaced ks qs → ((t : Tree) → Among qs t → Knows c t)

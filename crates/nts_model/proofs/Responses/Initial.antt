@@ -14,7 +14,7 @@ use Rattle.nts_model.specs.Terms.Trees.{Tree}
 use Rattle.nts_model.specs.Lists.{Among}
 use Rattle.nts_model.specs.Terms.Substitutions.{leaf_sort, LeafSort, of_variable, of_constant}
 use Rattle.nts_model.specs.Canonical.Numbered.{number, position, AreDistinct}
-use Rattle.nts_model.specs.Canonical.Inputs.{Input, IsInput, PositionKind, type_variable, integer_variable, float_variable, const_variable, region_variable, placeholder, kind_at, originals, canonical_of}
+use Rattle.nts_model.specs.Canonical.Inputs.{Input, IsInput, PositionKind, type_variable, integer_variable, float_variable, const_variable, region_variable, placeholder, position_kind_at, originals, canonical_of}
 use Rattle.nts_model.specs.Answers.Responses.{universe_of_kind, greatest, IsOverPositions, own_leaf, leaves_of_kinds, IsLeafIn, IsResponseTo}
 use Rattle.nts_model.specs.Searching.Stacks.{IsBounded}
 use Rattle.nts_model.specs.Searching.Driving.{sort_at, positions_from, unconstrained}
@@ -35,7 +35,7 @@ AreInOrder b [] = Unit {0}
 AreInOrder b (k ∷ ks) = IsKindAt b k × AreInOrder (suc b) ks
 
 -- those of an input are
-at_kind : (o : LeafSort) (f n b : ℕ) → n ≡ b → IsKindAt b (kind_at o f n)
+at_kind : (o : LeafSort) (f n b : ℕ) → n ≡ b → IsKindAt b (position_kind_at o f n)
 at_kind (of_variable kind.Ty) f n b e = refl
 at_kind (of_variable kind.Int) f n b e = tt
 at_kind (of_variable kind.Float) f n b e = tt
@@ -43,7 +43,7 @@ at_kind (of_variable kind.Const) f n b e = refl
 at_kind (of_variable kind.Region) f n b e = (refl, e)
 at_kind (of_constant s) f n b e = (refl, e)
 
-kinds_from : (f g : Leaf → ℕ) (b : ℕ) (ls : List Leaf) → AreDistinct ls → ((l : Leaf) → Among ls l → g l ≡ b + number ls l) → AreInOrder b (map (λ l. kind_at (leaf_sort l) (f l) (g l)) ls)
+kinds_from : (f g : Leaf → ℕ) (b : ℕ) (ls : List Leaf) → AreDistinct ls → ((l : Leaf) → Among ls l → g l ≡ b + number ls l) → AreInOrder b (map (λ l. position_kind_at (leaf_sort l) (f l) (g l)) ls)
 kinds_from f g b [] d h = tt
 kinds_from f g b (x ∷ xs) d h = (
   at_kind (leaf_sort x) (f x) (g x) b (let a : number (x ∷ xs) x ≡ 0 = rw (same-yes x x refl) refl in let q = h x (inl refl) in omega (arith, q, a)),

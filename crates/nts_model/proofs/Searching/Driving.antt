@@ -13,12 +13,12 @@ use Rattle.nts_model.specs.Lists.{Among}
 use Rattle.nts_model.specs.Derivations.Sequents.{PathKind, coinductive, Premise}
 use Rattle.nts_model.specs.Derivations.Rules.{Meaning, Mode, GoalKind, step_kind}
 use Rattle.nts_model.specs.Derivations.Proofs.{passed}
-use Rattle.nts_model.specs.Derivations.Handlers.{Handler, meaning, Candidate, Certainty, certain, premise_by, IsAsked, IsLawful}
+use Rattle.nts_model.specs.Derivations.Handlers.{Handler, meaning, Candidate, Certainty, certain, premise_by, IsAsked, IsLawfulHandler}
 use Rattle.nts_model.specs.Canonical.Inputs.{Input, IsInput, originals, canonical_of}
 use Rattle.nts_model.specs.Derivations.Proving.{HoldsTerms, IsTermOf, AreConstraintsOf}
 use Rattle.nts_model.specs.Answers.Responses.{Findings, AreFindings, Response, Applies, response_of, answer_sequent, IsQueryTable}
 use Rattle.nts_model.specs.Searching.Stacks.{IsDerivedFrom, IsProvedWith, IsProvedFromAt, HoldsCandidateFrom, Entry, assumptions, IsReadSince, AreReadSince, stronger, path_kind, IsEntry}
-use Rattle.nts_model.specs.Searching.Driving.{Evaluates, Computes, as_read, marked, MayEnd, last}
+use Rattle.nts_model.specs.Searching.Driving.{EvaluatesInput, Computes, as_read, marked, MayEnd, last}
 use Rattle.nts_model.proofs.Tables.Slots.{Knows-kept}
 use Rattle.nts_model.proofs.Responses.Querying.{query_fits}
 use Rattle.nts_model.proofs.Derivations.FromCandidate.{lawful_candidate_from}
@@ -55,7 +55,7 @@ path_marked (x ∷ xs) (suc n) (suc i) k = ap (λ z. stronger k z) (path_marked 
 
 -- a coinductive back edge: the entry is read, and its provisional answer is the answer
 pub back_evaluates : (m : Meaning) (mode : Mode) (st : List Entry) (n : ℕ) (k : PathKind) (x : Entry) → slice_get st n ≡ Some x → IsEntry x → path_kind st n k ≡ coinductive
-    → Evaluates m mode k st (marked st n) x.input x.response x.certainty
+    → EvaluatesInput m mode k st (marked st n) x.input x.response x.certainty
 back_evaluates m mode st n k x found entry path =
     record {
       since = marked_since st n;
@@ -69,7 +69,7 @@ back_evaluates m mode st n k x found entry path =
 
 -- the last round of a head: x is its entry afterwards
 pub round_evaluates : (m : Meaning) (mode : Mode) (x y : Entry) (old new : List Entry) (r : Response) (c : Certainty)
-    → Computes m mode (x ∷ old) (y ∷ new) x.input r c → (c ≡ certain → MayEnd y r) → Evaluates m mode x.kind old new x.input r c
+    → Computes m mode (x ∷ old) (y ∷ new) x.input r c → (c ≡ certain → MayEnd y r) → EvaluatesInput m mode x.kind old new x.input r c
 round_evaluates m mode x y old new r c h end =
     let a = h.answers in
     let s = h.since in

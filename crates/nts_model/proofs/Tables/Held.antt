@@ -14,7 +14,7 @@ use Rattle.nts_model.specs.Tables.Contents.{Content, Slot, unset, Recorded, with
 use Rattle.nts_model.specs.Tables.Resolving.{replaced, resolved, deeply_resolved, rooted, rooted_variable, root_of, Knows, IsSound}
 use Rattle.nts_model.specs.Tables.Levels.{Falls}
 use Rattle.nts_model.specs.Tables.Worlds.{KnowsAll}
-use Rattle.nts_model.specs.Tables.Holding.{AreOne, IsTrivial, HasSides, HoldsConstraint, Continues}
+use Rattle.nts_model.specs.Tables.Holding.{AreOne, IsTrivialUnder, HasSides, HoldsConstraint, Continues}
 use Rattle.nts_model.proofs.Tables.Slots.{KeepsKinds, KeepsKinds-with_slot, KeepsKinds-changed, Knows-kept, length-slice_set}
 use Rattle.nts_model.proofs.Tables.Roots.{root_of-root_of}
 use Rattle.nts_model.proofs.Tables.Resolved.{resolved-deeply_resolved, deeply_resolved-deeply_resolved}
@@ -28,10 +28,10 @@ use Rattle.nts_model.proofs.Tables.Levelled.{Falls-refl, Falls-trans, Falls-same
 pub AreOne-continues : (c d : Content) (a b : Tree) → Continues c d → Knows c a → Knows c b → AreOne c a b → AreOne d a b
 AreOne-continues c d a b h j k e = sym (h.values a j) ∙ ap (deeply_resolved d) e ∙ h.values b k
 
-IsTrivial-continues : (c d : Content) (r : Relation) (a b : Tree) → Continues c d → Knows c a → Knows c b → IsTrivial c r a b → IsTrivial d r a b
-IsTrivial-continues c d relation.Equal a b h j k e = AreOne-continues c d a b h j k e
-IsTrivial-continues c d relation.RegionOutlives a b h j k e = AreOne-continues c d a b h j k e
-IsTrivial-continues c d relation.TypeOutlives a b h j k e = e
+IsTrivialUnder-continues : (c d : Content) (r : Relation) (a b : Tree) → Continues c d → Knows c a → Knows c b → IsTrivialUnder c r a b → IsTrivialUnder d r a b
+IsTrivialUnder-continues c d relation.Equal a b h j k e = AreOne-continues c d a b h j k e
+IsTrivialUnder-continues c d relation.RegionOutlives a b h j k e = AreOne-continues c d a b h j k e
+IsTrivialUnder-continues c d relation.TypeOutlives a b h j k e = e
 
 HasSides-continues : (c d : Content) (r : Relation) (x y : Recorded) → Continues c d → Knows c x.left → Knows c x.right → Knows c y.left → Knows c y.right → HasSides c r x y → HasSides d r x y
 HasSides-continues c d relation.Equal x y h a b p q e = ⊎_elim
@@ -48,7 +48,7 @@ Knows-recorded c (y ∷ xs) x h (suc k) l e = Knows-recorded c xs x h.2 k (omega
 -- a constraint that is held stays held
 pub HoldsConstraint-continues : (c d : Content) (x : Recorded) → Continues c d → KnowsAll c c.constraints → Knows c x.left → Knows c x.right → HoldsConstraint c x → HoldsConstraint d x
 HoldsConstraint-continues c d x h k a b e = ⊎_elim
-    (λ z. inl (IsTrivial-continues c d x.relation x.left x.right h a b z))
+    (λ z. inl (IsTrivialUnder-continues c d x.relation x.left x.right h a b z))
     (λ z. let y = z.constraint in
     let known = Knows-recorded c c.constraints y k z.found.0 z.found.1 z.found.2 in
     inr (record {

@@ -17,7 +17,7 @@ use Rattle.nts_model.specs.Terms.Scoping.{KeepsListed}
 use Rattle.nts_model.specs.Tables.Contents.{Content}
 use Rattle.nts_model.specs.Tables.Resolving.{number_of, rooted_variable, deeply_resolved, Knows, KnowsVariable, IsSound}
 use Rattle.nts_model.specs.Tables.Worlds.{World, placed, inst, IsFitting, Solves}
-use Rattle.nts_model.specs.Derivations.Related.{Constraint, times, first_variance, function, function_variances, alias, arguments, Related, AreRelated, constructors, functions, values, open_aliases, no_more, and_more}
+use Rattle.nts_model.specs.Derivations.Related.{Constraint, times, first_variance, function, function_variances, alias, arguments, Related, AreRelatedByArgument, constructors, functions, values, open_aliases, no_more, and_more}
 use Rattle.nts_model.specs.Variances.Judging.{Judging, IsSettled, Settles, AllSettle, IsLawfulJudging}
 use Rattle.nts_model.specs.Variances.Forms.{Form, a_constructor, a_function, a_value, an_alias, over, variances_over, FitsForm}
 use Rattle.nts_model.proofs.Terms.Variables.{infer_of_none}
@@ -240,11 +240,11 @@ KeepsListed-over (an_alias (alias_of.Const i)) ts rs l = λ ss d h. (tt, ((tt, l
 
 -- related where the parts are
 module _ (declared : ℕ → List Variance) {Same : Tree → Type 0} {Holds : Constraint → Type 0} {Proved : Tree → Type 0} where
-  none_left : {v : Variance} {ws : List Variance} {ts us : Tree} → row_length ts ≡ 0 → AreRelated declared Same Holds Proved v ws ts us → (ts ≡ empty) × (us ≡ empty)
+  none_left : {v : Variance} {ws : List Variance} {ts us : Tree} → row_length ts ≡ 0 → AreRelatedByArgument declared Same Holds Proved v ws ts us → (ts ≡ empty) × (us ≡ empty)
   none_left e no_more = (refl, refl)
   none_left e (and_more r rs) = absurd (omega (arith, e))
 
-  value_over : {v : Variance} {ws : List Variance} {ts us : Tree} (b : ℕ) → ws ≡ [] → row_length ts ≡ 1 → AreRelated declared Same Holds Proved v ws ts us → Related declared Same Holds Proved v (over (a_value b) ts) (over (a_value b) us)
+  value_over : {v : Variance} {ws : List Variance} {ts us : Tree} (b : ℕ) → ws ≡ [] → row_length ts ≡ 1 → AreRelatedByArgument declared Same Holds Proved v ws ts us → Related declared Same Holds Proved v (over (a_value b) ts) (over (a_value b) us)
   value_over b q e no_more = absurd (omega (arith, e))
   value_over b q e (and_more {v = v} {ws = ws} {a = x} {b = y} {ts = ts} {us = us} r rs) =
       let rest : row_length ts ≡ 0 = omega (arith, e) in
@@ -253,7 +253,7 @@ module _ (declared : ℕ → List Variance) {Same : Tree → Type 0} {Holds : Co
       let one : Related declared Same Holds Proved variance.Invariant x y = subst (λ z. Related declared Same Holds Proved z x y) invariant r in
       rw (alone.0, alone.1) (values one)
 
-  pub related_over : (v : Variance) (F : Form) (ts us : Tree) → FitsForm F ts → FitsForm F us → AreRelated declared Same Holds Proved v (variances_over declared F ts) ts us → Related declared Same Holds Proved v (over F ts) (over F us)
+  pub related_over : (v : Variance) (F : Form) (ts us : Tree) → FitsForm F ts → FitsForm F us → AreRelatedByArgument declared Same Holds Proved v (variances_over declared F ts) ts us → Related declared Same Holds Proved v (over F ts) (over F us)
   related_over v (a_constructor i) ts us f g r = constructors r
   related_over v (a_function ss) ts us f g r = functions r
   related_over v (a_value b) ts us f g r = value_over b refl f r

@@ -19,7 +19,7 @@ use Rattle.nts_model.specs.Tables.Worlds.{World, renamed, inst, with_tree, IsVal
 use Rattle.nts_model.specs.Tables.Holding.{Continues}
 use Rattle.nts_model.specs.Derivations.Related.{region_constraint, times, first_variance, rest_variances, constructor, function, function_variances, value, alias_label, alias, arguments}
 use Rattle.nts_model.specs.Variances.Judging.{Judging, IsSettled, IsValueOf, Along, Settles, AllSettle, IsLawfulJudging}
-use Rattle.nts_model.specs.Variances.Relations.{Relating, AllSettleIn, AllKnown, IsJudgedBy, IsSettledWorld, SettledExtension}
+use Rattle.nts_model.specs.Variances.Relations.{Relating, AllSettleIn, ArePairsKnown, IsJudgedBy, IsSettledWorld, SettledExtension}
 use Rattle.nts_model.proofs.Tables.Slots.{field-with_slot_new, KeepsKinds, KeepsKinds-with_slot, Knows-kept}
 use Rattle.nts_model.proofs.Tables.Instances.{inst-node, Agrees-refl, Agrees-trans, Agrees-with_tree, tree-with_tree, inst-agrees, IsTrueOf-agrees}
 use Rattle.nts_model.proofs.Tables.Under.{same_or_other}
@@ -46,7 +46,7 @@ module _ (J : Judging) (law : IsLawfulJudging J) where
         held = λ x i. h.held x (IsTrueOf-agrees 0 v w x.relation x.left x.right turned i);
       }
 
-  pub settle_agrees : (c : Content) (w v : World) (gs : List Relating) → Agrees (length c.slots) w v → AllKnown c gs → AllSettleIn J w gs → AllSettleIn J v gs
+  pub settle_agrees : (c : Content) (w v : World) (gs : List Relating) → Agrees (length c.slots) w v → ArePairsKnown c gs → AllSettleIn J w gs → AllSettleIn J v gs
   settle_agrees c w v [] a k h = tt
   settle_agrees c w v (g ∷ gs) a k h =
       let l : inst v g.left ≡ inst w g.left = inst-agrees c w v g.left a k.0 in

@@ -18,7 +18,7 @@ use Rattle.nts_model.specs.Terms.Regions.{RegionName, IsRegion, name_of_label}
 use Rattle.nts_model.specs.Tables.Worlds.{World, renamed, inst, Solves}
 use Rattle.nts_model.specs.Derivations.Related.{alias_label, arguments, IsAlias, one_tree, regions, constructors, functions, values, open_aliases, aliases, subtypes, no_more, and_more, rest_variances}
 use Rattle.nts_model.specs.Variances.Judging.{Judging, Normalizes, Along, Settles, AllSettle, IsLawfulJudging, opposite}
-use Rattle.nts_model.specs.Variances.Relations.{Relating, AllKnown, ReducesBy, RefusesBy}
+use Rattle.nts_model.specs.Variances.Relations.{Relating, ArePairsKnown, ReducesBy, RefusesBy}
 use Rattle.nts_model.specs.Variances.AnsweredGoals.{AllRelatedUnder, RowsUnder, RelatesBy}
 use Rattle.nts_model.specs.Variances.Leaving.{LeavesBy}
 use Rattle.nts_model.specs.Variances.Forms.{Form, a_constructor, a_function, a_value, an_alias, over, variances_over, FitsForm, pairs_over}

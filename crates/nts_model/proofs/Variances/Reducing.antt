@@ -9,7 +9,7 @@ use Rattle.nts_model.specs.declared.labels.Label.{Label}
 use Rattle.nts_model.specs.Derivations.Related.{rest_variances, constructor, one_tree, regions, constructors, functions, values, open_aliases, aliases, subtypes}
 use Rattle.nts_model.proofs.Variances.AliasLabels.{not_alias}
 use Rattle.nts_model.specs.Variances.Judging.{Judging, IsSettled, Normalizes, Along, Settles, AllSettle, IsLawfulJudging, opposite}
-use Rattle.nts_model.specs.Variances.Relations.{Relating, AllSettleIn, AllKnown, IsSettledWorld, ReducesBy, RefusesBy}
+use Rattle.nts_model.specs.Variances.Relations.{Relating, AllSettleIn, ArePairsKnown, IsSettledWorld, ReducesBy, RefusesBy}
 use Rattle.nts_model.specs.Variances.Forms.{pairs_over}
 use Rattle.nts_model.proofs.Tables.Instances.{Agrees-refl, Agrees-trans}
 use Rattle.nts_model.proofs.Tables.Solving.{Solves-with_constraint, Solves-from_with_constraint}

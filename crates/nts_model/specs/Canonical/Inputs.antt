@@ -51,16 +51,16 @@ share r l m = are_one (sub_root_of r l) (sub_root_of r m)
 
 -- what the position of a leaf of this sort stands for, where n is its number, and f that of the first type variable
 -- of its sub root. All universes are the root, and a region is a placeholder, a region variable too
-abbrev pub kind_at : LeafSort → ℕ → ℕ → PositionKind
-kind_at (of_variable kind.Ty) f n = type_variable 0 f
-kind_at (of_variable kind.Int) f n = integer_variable
-kind_at (of_variable kind.Float) f n = float_variable
-kind_at (of_variable kind.Const) f n = const_variable 0
-kind_at (of_variable kind.Region) f n = placeholder sort.Region 0 n
-kind_at (of_constant s) f n = placeholder s 0 n
+abbrev pub position_kind_at : LeafSort → ℕ → ℕ → PositionKind
+position_kind_at (of_variable kind.Ty) f n = type_variable 0 f
+position_kind_at (of_variable kind.Int) f n = integer_variable
+position_kind_at (of_variable kind.Float) f n = float_variable
+position_kind_at (of_variable kind.Const) f n = const_variable 0
+position_kind_at (of_variable kind.Region) f n = placeholder sort.Region 0 n
+position_kind_at (of_constant s) f n = placeholder s 0 n
 
 abbrev pub position_kind : (ℕ → ℕ) → List Leaf → Leaf → PositionKind
-position_kind r s l = kind_at (leaf_sort l) (position_or_len (share r l) s) (number s l)
+position_kind r s l = position_kind_at (leaf_sort l) (position_or_len (share r l) s) (number s l)
 
 -- in an environment 'static stays
 abbrev pub is_static : Leaf → Bool

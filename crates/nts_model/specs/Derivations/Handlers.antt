@@ -64,14 +64,14 @@ kind_of_sort sort.Ty = kind.Ty
 kind_of_sort sort.Region = kind.Region
 kind_of_sort sort.Const = kind.Const
 
-pub record IsValueOf (s : Sort) (v : Tree) : Type 0 where
+pub record IsValueOfSort (s : Sort) (v : Tree) : Type 0 where
   pub fits : Fits (kind_of_sort s) v
   pub formed : IsFormed v
   pub closed : IsClosed v
 
 abbrev pub AreValuesOf : List Sort → List Tree → Type 0
 AreValuesOf [] [] = Unit {0}
-AreValuesOf (s ∷ ss) (v ∷ vs) = IsValueOf s v × AreValuesOf ss vs
+AreValuesOf (s ∷ ss) (v ∷ vs) = IsValueOfSort s v × AreValuesOf ss vs
 AreValuesOf ss vs = ⊥
 
 -- the use of a candidate for an instance of a goal, where its fresh variables have these values
@@ -106,8 +106,8 @@ application_under ι a =
     }
 
 -- a candidate whose leaves are renamed
-abbrev pub renamed : Renaming → Candidate → Candidate
-renamed ρ c =
+abbrev pub renamed_candidate : Renaming → Candidate → Candidate
+renamed_candidate ρ c =
     record c {
       equations = map (equation_by (rename ρ)) c.equations;
       constraints = map (constraint_by (rename ρ)) c.constraints;
@@ -141,7 +141,7 @@ pub record IsAsked (e g : Tree) : Type 0 where
 -- candidates are a function of mode and goal, and commute with plain renaming
 pub record CandidatesCommute (h : Handler) : Type 0 where
   pub renaming : (mode : Mode) (e g : Tree) (ρ : Renaming) → IsPlain ρ → IsAsked e g
-      → h.offers mode (rename ρ e) (rename ρ g) ≡ map (renamed ρ) (h.offers mode e g)
+      → h.offers mode (rename ρ e) (rename ρ g) ≡ map (renamed_candidate ρ) (h.offers mode e g)
 
 -- instances of a certain candidate are rules, and rules are closed under instances
 pub record InstancesAreRules (h : Handler) : Type 0 where
@@ -211,7 +211,7 @@ pub record CandidatesKeep (h : Handler) : Type 0 where
   pub each : (mode : Mode) (e g : Tree) (c : Candidate) → IsAsked e g → Among (h.offers mode e g) c → IsCandidateFor e g c
 
 -- a handler that keeps the laws, which its sets being fixed is one of: they are functions
-pub record IsLawful (h : Handler) : Type 0 where
+pub record IsLawfulHandler (h : Handler) : Type 0 where
   pub commute : CandidatesCommute h
   pub rules : InstancesAreRules h
   pub keep : CandidatesKeep h

@@ -83,7 +83,7 @@ abbrev pub IsProved : Meaning → Mode → Content → Tree → Tree → Type 0
 IsProved m mode c e p = IsDerived m mode (sequent_at c e p)
 
 -- the goal under the table has a ranked proof whose hypotheses the table holds, and whose steps all lead to lower ranks
-pub record HasHeldProof (m : Meaning) (mode : Mode) (c : Content) (e p : Tree) : Type 0 where
+pub record HasFallingProofUnder (m : Meaning) (mode : Mode) (c : Content) (e p : Tree) : Type 0 where
   pub sequent : Sequent
   pub environment : sequent.environment ≡ deeply_resolved c e
   pub predicate : sequent.predicate ≡ deeply_resolved c p
@@ -125,7 +125,7 @@ pub record HoldsCandidate (m : Meaning) (mode : Mode) (c : Content) (d : Candida
   pub goals : (q : Premise) → Among d.goals q → IsProvedAt m mode c chosen q
 
 -- the goal under the table has a ranked proof whose hypotheses the table holds
-pub record HasHeldRankedProof (m : Meaning) (mode : Mode) (c : Content) (e p : Tree) : Type 0 where
+pub record HasRankedProofUnder (m : Meaning) (mode : Mode) (c : Content) (e p : Tree) : Type 0 where
   pub sequent : Sequent
   pub environment : sequent.environment ≡ deeply_resolved c e
   pub predicate : sequent.predicate ≡ deeply_resolved c p

@@ -114,17 +114,17 @@ module _ (declared : ℕ → List Variance) (Same : Tree → Type 0) (Holds : Co
     pub data Related : Variance → Tree → Tree → Type 0 where
       one_tree : {v : Variance} {t : Tree} → Same t → Related v t t
       regions : {v : Variance} {a b : Tree} → IsRegion a → IsRegion b → Holds (region_constraint v a b) → Related v a b
-      constructors : {v : Variance} {i : ℕ} {ts us : Tree} → AreRelated v (declared i) ts us → Related v (constructor i ts) (constructor i us)
-      functions : {v : Variance} {sorts ts us : Tree} → AreRelated v (function_variances ts) ts us → Related v (function sorts ts) (function sorts us)
+      constructors : {v : Variance} {i : ℕ} {ts us : Tree} → AreRelatedByArgument v (declared i) ts us → Related v (constructor i ts) (constructor i us)
+      functions : {v : Variance} {sorts ts us : Tree} → AreRelatedByArgument v (function_variances ts) ts us → Related v (function sorts ts) (function sorts us)
       values : {v : Variance} {b : ℕ} {t u : Tree} → Related variance.Invariant t u → Related v (value b t) (value b u)
       open_aliases : {v : Variance} {ts us : Tree} (h : AliasHead) → (IsClosed (alias h ts) → ⊥) → (IsClosed (alias h us) → ⊥)
-          → AreRelated v [] ts us → Related v (alias h ts) (alias h us)
+          → AreRelatedByArgument v [] ts us → Related v (alias h ts) (alias h us)
       aliases : {v : Variance} {a b : Tree} → IsAlias a ⊎ IsAlias b → IsClosed a → IsClosed b → Proved (alias_goal v a b) → Related v a b
       subtypes : {v : Variance} {a b : Tree} (e : Bool) → (v ≡ variance.Invariant → ⊥) → kind_of a ≡ Some (of_sort sort.Ty) → kind_of b ≡ Some (of_sort sort.Ty)
           → IsClosed a → IsClosed b → Proved (subtype_goal e v a b) → Related v a b
 
     -- argument by argument; what has no declared variance is invariant
-    pub data AreRelated : Variance → List Variance → Tree → Tree → Type 0 where
-      no_more : {v : Variance} {ws : List Variance} → AreRelated v ws empty empty
-      and_more : {v : Variance} {ws : List Variance} {a b ts us : Tree} → Related (times v (first_variance ws)) a b → AreRelated v (rest_variances ws) ts us
-          → AreRelated v ws (more a ts) (more b us)
+    pub data AreRelatedByArgument : Variance → List Variance → Tree → Tree → Type 0 where
+      no_more : {v : Variance} {ws : List Variance} → AreRelatedByArgument v ws empty empty
+      and_more : {v : Variance} {ws : List Variance} {a b ts us : Tree} → Related (times v (first_variance ws)) a b → AreRelatedByArgument v (rest_variances ws) ts us
+          → AreRelatedByArgument v ws (more a ts) (more b us)

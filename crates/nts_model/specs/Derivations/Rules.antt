@@ -23,7 +23,7 @@ use Rattle.nts_model.specs.Terms.Scoping.{IsWellBound}
 use Rattle.nts_model.specs.Terms.Regions.{IsRegion}
 use Rattle.nts_model.specs.Tables.Alike.{Alike}
 use Rattle.nts_model.specs.Terms.Substitutions.{leaf_tree, Occurs}
-use Rattle.nts_model.specs.Derivations.Related.{Constraint, pair, unbound, alias_goal, value, alias, IsAlias, Related, AreRelated}
+use Rattle.nts_model.specs.Derivations.Related.{Constraint, pair, unbound, alias_goal, value, alias, IsAlias, Related, AreRelatedByArgument}
 use Rattle.nts_model.specs.Lists.{Among}
 use Rattle.nts_model.specs.Derivations.Sequents.{PathKind, coinductive, unknown, inductive, Source, normalize_goal, type_relating, impl_where_bound, Premise, Hidden}
 
@@ -178,7 +178,7 @@ module _ (m : Meaning) (G : Tree → Type 0) (H : Constraint → Type 0) (P : Pr
   AreResultsRelated v a b =
       RelatedIn v a b
       ⊎ ((h : AliasHead) × (ts : Tree) × (us : Tree) × (a ≡ alias h ts) × (b ≡ alias h us)
-      × (AreRelated m.variances G H (λ g. P (relating e g)) v [] ts us ⊎ AreRelated m.variances G H (λ g. P (relating e g)) v [] us ts))
+      × (AreRelatedByArgument m.variances G H (λ g. P (relating e g)) v [] ts us ⊎ AreRelatedByArgument m.variances G H (λ g. P (relating e g)) v [] us ts))
 
 abbrev pub variance_of : AliasRelationDirection → Variance
 variance_of direction.Equate = variance.Invariant

@@ -37,24 +37,24 @@ abbrev pub united : List ℕ → List ℕ → List ℕ
 united a [] = a
 united a (n ∷ ns) = united (if is_in a n then a else a ++ n ∷ []) ns
 
-abbrev pub joined : Access → Access → Access
-joined never b = b
-joined always b = always
-joined any_infer never = any_infer
-joined any_infer any_infer = any_infer
-joined any_infer (in_storage j) = in_storage_or_infer j
-joined any_infer (in_storage_or_infer j) = in_storage_or_infer j
-joined any_infer always = always
-joined (in_storage i) never = in_storage i
-joined (in_storage i) any_infer = in_storage_or_infer i
-joined (in_storage i) (in_storage j) = in_storage (united i j)
-joined (in_storage i) (in_storage_or_infer j) = in_storage_or_infer (united i j)
-joined (in_storage i) always = always
-joined (in_storage_or_infer i) never = in_storage_or_infer i
-joined (in_storage_or_infer i) any_infer = in_storage_or_infer i
-joined (in_storage_or_infer i) (in_storage j) = in_storage_or_infer (united i j)
-joined (in_storage_or_infer i) (in_storage_or_infer j) = in_storage_or_infer (united i j)
-joined (in_storage_or_infer i) always = always
+abbrev pub joined_accesses : Access → Access → Access
+joined_accesses never b = b
+joined_accesses always b = always
+joined_accesses any_infer never = any_infer
+joined_accesses any_infer any_infer = any_infer
+joined_accesses any_infer (in_storage j) = in_storage_or_infer j
+joined_accesses any_infer (in_storage_or_infer j) = in_storage_or_infer j
+joined_accesses any_infer always = always
+joined_accesses (in_storage i) never = in_storage i
+joined_accesses (in_storage i) any_infer = in_storage_or_infer i
+joined_accesses (in_storage i) (in_storage j) = in_storage (united i j)
+joined_accesses (in_storage i) (in_storage_or_infer j) = in_storage_or_infer (united i j)
+joined_accesses (in_storage i) always = always
+joined_accesses (in_storage_or_infer i) never = in_storage_or_infer i
+joined_accesses (in_storage_or_infer i) any_infer = in_storage_or_infer i
+joined_accesses (in_storage_or_infer i) (in_storage j) = in_storage_or_infer (united i j)
+joined_accesses (in_storage_or_infer i) (in_storage_or_infer j) = in_storage_or_infer (united i j)
+joined_accesses (in_storage_or_infer i) always = always
 
 -- whether a goal is asked again in the mode of the goal above
 pub data Decision : Type 0 where

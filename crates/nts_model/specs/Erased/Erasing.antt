@@ -9,7 +9,7 @@ use Rattle.nts_model.specs.Derivations.Handlers.{Access, never, Handler, Candida
 use Rattle.nts_model.specs.Canonical.Inputs.{CanonicalInput}
 use Rattle.nts_model.specs.Answers.Responses.{Response}
 use Rattle.nts_model.specs.Searching.Stacks.{Entry, IsReadSince}
-use Rattle.nts_model.specs.Searching.Driving.{Evaluates, Computes, as_read}
+use Rattle.nts_model.specs.Searching.Driving.{EvaluatesInput, Computes, as_read}
 use Rattle.nts_model.specs.Erased.Accessing.{suits, stands_for}
 
 -- an entry with the mode of its input and the accesses of its provisional answer
@@ -19,11 +19,11 @@ pub record ModedEntry : Type 0 where
   pub accesses : Access
 
 -- an entry as a proof in a mode sees it: what the mode may not take counts as not read
-abbrev pub seen : Mode → ModedEntry → Entry
-seen proof x = (let e = x.entry in record e { is_read = e.is_read && suits proof x.mode x.accesses })
+abbrev pub entry_in_mode : Mode → ModedEntry → Entry
+entry_in_mode proof x = (let e = x.entry in record e { is_read = e.is_read && suits proof x.mode x.accesses })
 
 abbrev pub all_seen : Mode → List ModedEntry → List Entry
-all_seen proof xs = map (seen proof) xs
+all_seen proof xs = map (entry_in_mode proof) xs
 
 abbrev pub plain_entry : ModedEntry → Entry
 plain_entry x = x.entry
@@ -49,7 +49,7 @@ all_marked (x ∷ xs) (suc n) = x ∷ all_marked xs n
 
 -- an input of that mode was asked, and answered with these accesses: the answer is one for each mode that may take it
 abbrev pub EvaluatesIn : Meaning → PathKind → List ModedEntry → List ModedEntry → CanonicalInput → Mode → Response → Certainty → Access → Type 0
-EvaluatesIn m k old new i mode r c a = (proof : Mode) → IsTrue (suits proof mode a) → Evaluates m proof k (all_seen proof old) (all_seen proof new) i r c
+EvaluatesIn m k old new i mode r c a = (proof : Mode) → IsTrue (suits proof mode a) → EvaluatesInput m proof k (all_seen proof old) (all_seen proof new) i r c
 
 -- one round of the newest entry
 abbrev pub ComputesIn : Meaning → List ModedEntry → List ModedEntry → CanonicalInput → Mode → Response → Certainty → Access → Type 0
@@ -64,9 +64,9 @@ pub record ErasedAreRules (h : Handler) : Type 0 where
 abbrev pub without_access : Candidate → Candidate
 without_access c = record c { accesses = never }
 
-abbrev pub standing_of : Mode → List Candidate → List Candidate
-standing_of proof [] = []
-standing_of proof (c ∷ cs) = if stands_for proof c.accesses then without_access c ∷ standing_of proof cs else standing_of proof cs
+abbrev pub standing_candidates : Mode → List Candidate → List Candidate
+standing_candidates proof [] = []
+standing_candidates proof (c ∷ cs) = if stands_for proof c.accesses then without_access c ∷ standing_candidates proof cs else standing_candidates proof cs
 
 abbrev pub standing : Handler → Handler
-standing h = record { applies = h.applies; offers = λ mode e g. standing_of mode (h.offers erased e g); is_coinductive = h.is_coinductive }
+standing h = record { applies = h.applies; offers = λ mode e g. standing_candidates mode (h.offers erased e g); is_coinductive = h.is_coinductive }

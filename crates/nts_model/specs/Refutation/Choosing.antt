@@ -40,25 +40,25 @@ pub record MeetsEquations (c : Content) (fresh : List Sort) (qs : List Equation)
   pub equal : (q : Equation) → Among qs q → read_in world values (left_of q) ≡ read_in world values (right_of q)
 
 -- some world of the table meets the equations of the candidate
-abbrev pub IsMet : Content → Candidate → Type 0
-IsMet c x = MeetsEquations c x.fresh x.equations
+abbrev pub IsCandidateMet : Content → Candidate → Type 0
+IsCandidateMet c x = MeetsEquations c x.fresh x.equations
 
 -- none of the candidates is met; this one and no other is; two are
 abbrev pub NoneIsMet : Content → List Candidate → Type 0
 NoneIsMet c [] = Unit {0}
-NoneIsMet c (y ∷ ys) = (IsMet c y → ⊥) × NoneIsMet c ys
+NoneIsMet c (y ∷ ys) = (IsCandidateMet c y → ⊥) × NoneIsMet c ys
 
 abbrev pub OnlyIsMet : Content → Candidate → List Candidate → Type 0
 OnlyIsMet c x [] = ⊥
-OnlyIsMet c x (y ∷ ys) = (y ≡ x) × IsMet c y × NoneIsMet c ys ⊎ (IsMet c y → ⊥) × OnlyIsMet c x ys
+OnlyIsMet c x (y ∷ ys) = (y ≡ x) × IsCandidateMet c y × NoneIsMet c ys ⊎ (IsCandidateMet c y → ⊥) × OnlyIsMet c x ys
 
 abbrev pub SomeIsMet : Content → List Candidate → Type 0
 SomeIsMet c [] = ⊥
-SomeIsMet c (y ∷ ys) = IsMet c y ⊎ SomeIsMet c ys
+SomeIsMet c (y ∷ ys) = IsCandidateMet c y ⊎ SomeIsMet c ys
 
 abbrev pub SeveralAreMet : Content → List Candidate → Type 0
 SeveralAreMet c [] = ⊥
-SeveralAreMet c (y ∷ ys) = IsMet c y × SomeIsMet c ys ⊎ SeveralAreMet c ys
+SeveralAreMet c (y ∷ ys) = IsCandidateMet c y × SomeIsMet c ys ⊎ SeveralAreMet c ys
 
 -- a new variable of the universe for each sort
 abbrev pub Freshens : ℕ → List Sort → List Tree → Content → Content → Type 0

@@ -30,16 +30,16 @@ AddsAll xs [] c d = d ≡ c
 AddsAll xs (x ∷ ys) c d = (e : Content) × Adds (constraint_by (filled xs) x) c e × AddsAll xs ys e d
 
 -- what goals leave of tables, and goal by goal, each asked as the table knows it then
-abbrev pub Leaves : Type 1
-Leaves = Content → Content → Tree → Tree → Type 0
+abbrev pub GoalsLeave : Type 1
+GoalsLeave = Content → Content → Tree → Tree → Type 0
 
-abbrev pub LeavesAll : Leaves → List Tree → List Premise → Content → Content → Type 0
+abbrev pub LeavesAll : GoalsLeave → List Tree → List Premise → Content → Content → Type 0
 LeavesAll P xs [] c d = d ≡ c
 LeavesAll P xs (p ∷ ps) c d = (e : Content) × P c e (deeply_resolved c (filled xs p.environment)) (deeply_resolved c (filled xs p.predicate)) × LeavesAll P xs ps e d
 
 -- one candidate alone is met, and its certainty is sure: its equations, its constraints and what its goals leave, and nothing
 -- else, lead from the first table to the second
-pub record IsForced (offers : Tree → Tree → List Candidate) (Below : Leaves) (c d : Content) (e g : Tree) : Type 0 where
+pub record IsForced (offers : Tree → Tree → List Candidate) (Below : GoalsLeave) (c d : Content) (e g : Tree) : Type 0 where
   pub candidate : Candidate
   pub only : OnlyIsMet c candidate (offers e g)
   pub sure : candidate.certainty ≡ certain

@@ -28,16 +28,16 @@ placeholder_in u sort.Const n = leaf.ConstConstant (constant.Placeholder u n)
 placeholder_in u sort.Region n = leaf.Region (region.Placeholder u n)
 
 -- the table in which a goal is answered, and what is answered there
-abbrev pub entered : Content → Tree → Content
-entered c g = if binds g then in_universe c (c.universe + 1) else c
+abbrev pub entered_table : Content → Tree → Content
+entered_table c g = if binds g then in_universe c (c.universe + 1) else c
 
 abbrev pub opened_in : Content → Tree → Tree
 opened_in c g = if binds g then unbound (opened (placeholder_in (c.universe + 1)) 0 (statement_of g)) else g
 
 -- the universe of a label: a variable's, or a placeholder's
-abbrev pub universe_at : Content → Option ℕ → Label → Option ℕ
-universe_at c (Some n) l = universe_of c n
-universe_at c None l = leaf_level l
+abbrev pub label_universe : Content → Option ℕ → Label → Option ℕ
+label_universe c (Some n) l = universe_of c n
+label_universe c None l = leaf_level l
 
 abbrev pub universe_in : Content → Label → Option ℕ
-universe_in c l = universe_at c (number_of (variable_of l)) l
+universe_in c l = label_universe c (number_of (variable_of l)) l

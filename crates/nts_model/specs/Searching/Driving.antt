@@ -16,20 +16,20 @@ use Rattle.nts_model.specs.Answers.Responses.{Response, answer_sequent, IsRespon
 use Rattle.nts_model.specs.Searching.Stacks.{IsDerivedFrom, IsProvedFrom, IsProvedWith, Entry, assumptions, AreReadSince, IsEntry, SaysSame, IsBounded}
 
 -- an answer may be applied where its input is asked, and a Yes is derived from the assumptions
-pub record Answers (m : Meaning) (mode : Mode) (A : List Assumed) (i : CanonicalInput) (r : Response) (c : Certainty) : Type 0 where
+pub record AnswersInput (m : Meaning) (mode : Mode) (A : List Assumed) (i : CanonicalInput) (r : Response) (c : Certainty) : Type 0 where
   pub fits : IsResponseTo i.kinds r
   pub bounded : IsBounded r
   pub derived : c ≡ certain → IsDerivedFrom m mode A (answer_sequent i r)
 
 -- an input was asked by a step of kind k from the newest entry: entries were read since, and the answer rests on them
-pub record Evaluates (m : Meaning) (mode : Mode) (k : PathKind) (old new : List Entry) (i : CanonicalInput) (r : Response) (c : Certainty) : Type 0 where
+pub record EvaluatesInput (m : Meaning) (mode : Mode) (k : PathKind) (old new : List Entry) (i : CanonicalInput) (r : Response) (c : Certainty) : Type 0 where
   pub since : AreReadSince old new
-  pub answers : Answers m mode (passed k (assumptions new)) i r c
+  pub answers : AnswersInput m mode (passed k (assumptions new)) i r c
 
 -- one round of the newest entry: its answer may rest on itself
 pub record Computes (m : Meaning) (mode : Mode) (old new : List Entry) (i : CanonicalInput) (r : Response) (c : Certainty) : Type 0 where
   pub since : AreReadSince old new
-  pub answers : Answers m mode (assumptions new) i r c
+  pub answers : AnswersInput m mode (assumptions new) i r c
 
 abbrev pub as_read : Entry → Entry
 as_read x = record x { is_read = true }

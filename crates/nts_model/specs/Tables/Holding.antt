@@ -13,9 +13,9 @@ abbrev pub AreOne : Content → Tree → Tree → Type 0
 AreOne c a b = deeply_resolved c a ≡ deeply_resolved c b
 
 -- both sides are one region
-abbrev pub IsTrivial : Content → Relation → Tree → Tree → Type 0
-IsTrivial c relation.TypeOutlives a b = ⊥
-IsTrivial c r a b = AreOne c a b
+abbrev pub IsTrivialUnder : Content → Relation → Tree → Tree → Type 0
+IsTrivialUnder c relation.TypeOutlives a b = ⊥
+IsTrivialUnder c r a b = AreOne c a b
 
 -- the sides are those of the other constraint, and of an equality in either order
 abbrev pub HasSides : Content → Relation → Recorded → Recorded → Type 0
@@ -32,7 +32,7 @@ pub record IsRecorded (c : Content) (x : Recorded) : Type 0 where
 
 -- the table holds a constraint that is trivial or recorded
 abbrev pub HoldsConstraint : Content → Recorded → Type 0
-HoldsConstraint c x = IsTrivial c x.relation x.left x.right ⊎ IsRecorded c x
+HoldsConstraint c x = IsTrivialUnder c x.relation x.left x.right ⊎ IsRecorded c x
 
 -- the second table has all that the first has: variables, values, links and constraints
 pub record Continues (c d : Content) : Type 0 where

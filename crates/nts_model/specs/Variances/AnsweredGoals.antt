@@ -7,7 +7,7 @@ use Rattle.nts_model.specs.Terms.Trees.{Tree, kind_of, of_sort, IsClosed}
 use Rattle.nts_model.specs.Tables.Contents.{Content}
 use Rattle.nts_model.specs.Tables.Resolving.{IsSound, deeply_resolved}
 use Rattle.nts_model.specs.Tables.Holding.{Continues, HoldsConstraint}
-use Rattle.nts_model.specs.Derivations.Related.{alias_goal, subtype_goal, IsAlias, Related, AreRelated}
+use Rattle.nts_model.specs.Derivations.Related.{alias_goal, subtype_goal, IsAlias, Related, AreRelatedByArgument}
 use Rattle.nts_model.specs.Lists.{Among}
 use Rattle.nts_model.specs.Derivations.Proving.{recorded_as}
 use Rattle.nts_model.specs.Variances.Relations.{Relating}
@@ -19,7 +19,7 @@ RelatedUnder declared f ks v a b =
 
 abbrev pub RowsUnder : (ℕ → List Variance) → Content → List Tree → Variance → List Variance → Tree → Tree → Type 0
 RowsUnder declared f ks v ws a b =
-    AreRelated declared (λ t. Unit {0}) (λ x. HoldsConstraint f (recorded_as x)) (Among ks) v ws (deeply_resolved f a) (deeply_resolved f b)
+    AreRelatedByArgument declared (λ t. Unit {0}) (λ x. HoldsConstraint f (recorded_as x)) (Among ks) v ws (deeply_resolved f a) (deeply_resolved f b)
 
 -- the goal of a pair is among the goals: its AliasRelate goal where a side is an alias, or its Subtype goal
 abbrev pub IsAnswered : Content → List Tree → Relating → Type 0

@@ -3,7 +3,7 @@ use Rattle.std.specs.Prelude.{◌≡◌, ◌⊎◌, ℕ, List}
 use Rattle.nts_model.specs.declared.labels.Variance.{Variance}
 use Rattle.nts_model.specs.declared.labels.Variance.TheVariants as variance
 use Rattle.nts_model.specs.Terms.Trees.{Tree, empty, more, node, kind_of}
-use Rattle.nts_model.specs.Derivations.Related.{Constraint, region_constraint, IsAlias, Related, AreRelated}
+use Rattle.nts_model.specs.Derivations.Related.{Constraint, region_constraint, IsAlias, Related, AreRelatedByArgument}
 use Rattle.nts_model.specs.Derivations.Rules.{Replaced}
 
 -- the declared variances, the closed aliases that stand for themselves, the constraints that are true, and what an alias
@@ -36,7 +36,7 @@ abbrev pub Along : Judging → Variance → Tree → Tree → Type 0
 Along J = Related J.declared (IsSettled J) J.holds (λ g. ⊥)
 
 abbrev pub AreAlong : Judging → Variance → List Variance → Tree → Tree → Type 0
-AreAlong J = AreRelated J.declared (IsSettled J) J.holds (λ g. ⊥)
+AreAlong J = AreRelatedByArgument J.declared (IsSettled J) J.holds (λ g. ⊥)
 
 -- the trees have settled values that are related
 pub record Settles (J : Judging) (v : Variance) (a b : Tree) : Type 0 where

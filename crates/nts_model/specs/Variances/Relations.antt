@@ -25,9 +25,9 @@ abbrev pub AllSettleIn : Judging → World → List Relating → Type 0
 AllSettleIn J w [] = Unit {0}
 AllSettleIn J w (p ∷ ps) = SettlesIn J w p × AllSettleIn J w ps
 
-abbrev pub AllKnown : Content → List Relating → Type 0
-AllKnown c [] = Unit {0}
-AllKnown c (p ∷ ps) = Knows c p.left × Knows c p.right × AllKnown c ps
+abbrev pub ArePairsKnown : Content → List Relating → Type 0
+ArePairsKnown c [] = Unit {0}
+ArePairsKnown c (p ∷ ps) = Knows c p.left × Knows c p.right × ArePairsKnown c ps
 
 -- the judging calls true what is true in the world
 pub record IsJudgedBy (J : Judging) (w : World) : Type 0 where

@@ -1,7 +1,7 @@
 use Rattle.std.proofs.Common.{◌≡◌}
 use Rattle.nts_model.specs.Canonical.Numbered.{seen}
 use Rattle.nts_store.specs.Growth.{tree_at}
-use Rattle.nts_canonical.specs.Collecting.{stays_where, jobs, seen_after, weights, IsReading}
+use Rattle.nts_canonical.specs.Collecting.{stays_where, jobs, seen_after, job_weights, IsReading}
 use Rattle.nts_canonical.proofs.collecting.walk.Given as goal
 
 abbrev pub invariant-loop-task : goal.invariant-loop-task
@@ -11,4 +11,4 @@ invariant-loop-task l = record {
 }
 
 abbrev pub decreases-loop-task : goal.decreases-loop-task
-decreases-loop-task l = weights (jobs l.nodes l.tasks.items)
+decreases-loop-task l = job_weights (jobs l.nodes l.tasks.items)

@@ -1,7 +1,7 @@
 use Rattle.std.proofs.Common.{◌≡◌, drop, map, ap, sym, ◌∙◌, arith, eq-eqb}
 use Rattle.nts_model.specs.Terms.Trees.{children, row_length}
 use Rattle.nts_store.specs.Growth.{tree_at}
-use Rattle.nts_delegate.specs.Clauses.{head_of}
+use Rattle.nts_delegate.specs.Clauses.{head_of_clause}
 use Rattle.nts_delegate.proofs.Found.{found_offer, found_untaken, next_at, clause_there, held_there, goes_on_by, begins_at, all_found}
 use Rattle.nts_delegate.proofs.Merging.{none_at}
 use Rattle.nts_delegate.proofs.Offering.{is_part, goal_arguments, not_equal}
@@ -12,7 +12,7 @@ pub loop-place-init : goal.loop-place-init
 loop-place-init c =
     let clauses = c.args.of_trait.now.clauses.items in
     begins_at c.args.cx.now.nodes c.args.goal (tree_at c.args.cx.now.nodes c.args.trait_ref.args.node) c.args.head clauses c.new-found.result.items c.deref-place-items.result.now
-    (c.deref-place-items.ensures.value ∙ c.in_ok-places.ensures (map (head_of c.args.cx.now.nodes) clauses) c.requires.indexed) c.new-found.ensures.items
+    (c.deref-place-items.ensures.value ∙ c.in_ok-places.ensures (map (head_of_clause c.args.cx.now.nodes) clauses) c.requires.indexed) c.new-found.ensures.items
 
 pub index-clause-requires : goal.index-clause-requires
 index-clause-requires c =

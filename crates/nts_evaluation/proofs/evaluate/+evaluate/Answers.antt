@@ -32,7 +32,7 @@ use Rattle.nts_canonical.specs.declared.types.Canonical.{Canonical}
 use Rattle.nts_response.specs.declared.types.Response.{Response}
 use Rattle.nts_terms.specs.Handles.{HoldsGoal}
 use Rattle.nts_store.specs.Kept.{map-kept, AllIn-kept}
-use Rattle.nts_queries.specs.Telling.{IsPlain}
+use Rattle.nts_queries.specs.Telling.{IsPlainResponse}
 use Rattle.nts_queries.specs.Telling.Tells.{tells_nothing, says_nothing}
 use Rattle.nts_queries.specs.Telling.Fails.{is_unmet}
 use Rattle.nts_queries.proofs.Filtered.{kept_candidates, kept_outcomes, kept_tell}
@@ -96,7 +96,7 @@ compute_goal-returns-in_default g t c =
     let o = c.in_ok-opened.ensures in
     let r = c.in_ok-response.ensures in
     let trees = trees_kept c.args.cx.now.nodes c.enter_forall.new.cx.nodes c.args.table.now.entries c.args.values.now o.grows.extends c.requires.values in
-    let plain : IsPlain (content_of c.enter_forall.new.cx.nodes c.enter_forall.new.table.entries) (trees_of c.enter_forall.new.cx.nodes c.args.values.now) (response_at c.boxed_response.new.cx.nodes c.in_ok-response.response.value) = c.in_ok-response.ensures.says in
+    let plain : IsPlainResponse (content_of c.enter_forall.new.cx.nodes c.enter_forall.new.table.entries) (trees_of c.enter_forall.new.cx.nodes c.args.values.now) (response_at c.boxed_response.new.cx.nodes c.in_ok-response.response.value) = c.in_ok-response.ensures.says in
     record {
       grows = search rules;
       searches = Searches-refl c.args.depth c.requires.search (grown c.in_ok-opened.ensures.grows c.in_ok-response.ensures.grows);
@@ -130,7 +130,7 @@ compute_goal-returns-then-not-is_candidates_goal g t c =
     let o = c.in_ok-opened.ensures in
     let r = c.in_ok-response-2.ensures in
     let trees = trees_kept c.args.cx.now.nodes c.enter_forall.new.cx.nodes c.args.table.now.entries c.args.values.now o.grows.extends c.requires.values in
-    let plain : IsPlain (content_of c.enter_forall.new.cx.nodes c.enter_forall.new.table.entries) (trees_of c.enter_forall.new.cx.nodes c.args.values.now) (response_at c.boxed_response-then-not-is_candidates_goal.new.cx.nodes c.in_ok-response-2.response.value) = c.in_ok-response-2.ensures.says in
+    let plain : IsPlainResponse (content_of c.enter_forall.new.cx.nodes c.enter_forall.new.table.entries) (trees_of c.enter_forall.new.cx.nodes c.args.values.now) (response_at c.boxed_response-then-not-is_candidates_goal.new.cx.nodes c.in_ok-response-2.response.value) = c.in_ok-response-2.ensures.says in
     record {
       grows = search rules;
       searches = Searches-refl c.args.depth c.requires.search (grown c.in_ok-opened.ensures.grows c.in_ok-response-2.ensures.grows);

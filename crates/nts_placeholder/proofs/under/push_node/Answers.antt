@@ -2,9 +2,9 @@ use Rattle.std.proofs.Common.{◌≡◌, ◌≤◌, ◌+◌, ◌-◌, ◌++◌, 
 use Rattle.nts_model.specs.Terms.Trees.{binders}
 use Rattle.nts_store.specs.Growth.{tree_at}
 use Rattle.nts_store.proofs.Replacing.{formed_node}
-use Rattle.nts_placeholder.specs.Under.{AreTasks}
+use Rattle.nts_placeholder.specs.Under.{AreTasksUnder}
 use Rattle.nts_placeholder.specs.declared.under.Task.TheVariants as task
-use Rattle.nts_placeholder.proofs.Walking.{binders_small, pushed_start, pushed_step, pushed_all, AreTasks-push}
+use Rattle.nts_placeholder.proofs.Walking.{binders_small, pushed_start, pushed_step, pushed_all, AreTasksUnder-push}
 use Rattle.nts_placeholder.proofs.under.push_node.Goals as goal
 
 pub loop-i-preserved : goal.loop-i-preserved
@@ -26,7 +26,7 @@ pub loop-i-init : goal.loop-i-init
 loop-i-init c =
     let x = task.Build c.args.place c.label-label.result c.child_count-count.result in
     let e : c.push.new.self.items ≡ c.args.tasks.now.items ++ x ∷ [] = c.in_ok-push.ensures.items in
-    let tasks : AreTasks c.args.nodes.now c.push.new.self.items = rw e (AreTasks-push c.args.nodes.now c.args.tasks.now.items x c.requires.tasks (record { within = c.requires.within; depth = c.requires.depth })) in
+    let tasks : AreTasksUnder c.args.nodes.now c.push.new.self.items = rw e (AreTasksUnder-push c.args.nodes.now c.args.tasks.now.items x c.requires.tasks (record { within = c.requires.within; depth = c.requires.depth })) in
     let deep : c.args.place.depth + c.binders_of.result ≤ length c.push.new.self.items = omega (arith, c.requires.depth, c.binders_of.ensures, binders_small c.label-label.result, ap length e, length-append c.args.tasks.now.items (x ∷ [])) in
     pushed_start c.args.nodes.now _ c.push.new.self.items (tree_at c.args.nodes.now c.args.place.node) c.child_count-count.result tasks deep c.child_count-count.ensures.count c.child_count-count.ensures.row
 

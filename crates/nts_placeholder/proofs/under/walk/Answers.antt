@@ -5,7 +5,7 @@ use Rattle.nts_store.proofs.Growing.{Extends-trans}
 use Rattle.nts_store.proofs.Replacing.{MayBuild, slice_to_end}
 use Rattle.nts_placeholder.specs.contracts.under.PlacePartialEq.TheImpl as place_eq
 use Rattle.nts_placeholder.specs.Under.{GoesInside, IsStepUnder}
-use Rattle.nts_placeholder.proofs.Walking.{AreLaws, IsKnown, MayEnter, may_enter, may_build, may_keep, known_later, known_more, ends_done, ends_down, ends_known, ends_build, less_after, less_known, less_down, AreTasks-extended}
+use Rattle.nts_placeholder.proofs.Walking.{AreLaws, IsKnown, MayEnter, may_enter, may_build, may_keep, known_later, known_more, ends_done, ends_down, ends_known, ends_build, less_after, less_known, less_down, AreTasksUnder-extended}
 use Rattle.nts_placeholder.proofs.under.walk.Given.{Over}
 use Rattle.nts_placeholder.proofs.under.walk.Goals as goal
 
@@ -83,7 +83,7 @@ push_node-requires-clause-depth g c = (entered_next g c).depth
 
 pub push_node-requires-clause-tasks : goal.push_node-requires-clause-tasks
 push_node-requires-clause-tasks g c =
-    AreTasks-extended c.in_ok-result-in-None.ensures.extends c.pop.new.self.items (entered_next g c).tasks
+    AreTasksUnder-extended c.in_ok-result-in-None.ensures.extends c.pop.new.self.items (entered_next g c).tasks
 
 inside : (g : Over) (c : goal.In_ok-push_node-in-None-2 g) → let m = g.R.ReplacerUnder.meaning c.args.replacer.now in GoesInside (g.R.ReplacerUnder.covers m) (g.R.ReplacerUnder.image m) c.in-Enter.place.depth (tree_at c.loop-task.nodes c.in-Enter.place.node)
 inside g c = rw c.in-None-2.is at c.in_ok-result-in-None.ensures.step

@@ -6,7 +6,7 @@ use Rattle.nts_store.proofs.Escaping.{closed_by_facts}
 use Rattle.nts_store.proofs.Growing.{Extends-refl}
 use Rattle.nts_terms.proofs.Moved.{KeepsRest-refl}
 use Rattle.nts_terms.proofs.Standing.{vars_tree}
-use Rattle.nts_queries.proofs.Evaluating.{Goes-extends, IsTermOf-later, env_term, kind-extended, goal_posed}
+use Rattle.nts_queries.proofs.Evaluating.{Goes-extends, IsTermIn-later, env_term, kind-extended, goal_posed}
 use Rattle.nts_queries.proofs.Entering.{arguments_closed, trait_opened, trait_tree}
 use Rattle.nts_queries.proofs.binder.enter_forall.Goals as goal
 
@@ -49,7 +49,7 @@ pub returns-clause-posed : goal.returns-clause-posed
 returns-clause-posed c =
     let o = c.in_ok-opened.ensures in
     let env = c.requires.posed.holds.env in
-    goal_posed o.goes.table (IsTermOf-later o.goes (env_term c.requires.posed)) (kind-extended o.grows.extends env.within env.fits) (record { within = o.holds.within; knows = o.knows }) o.holds.fits
+    goal_posed o.goes.table (IsTermIn-later o.goes (env_term c.requires.posed)) (kind-extended o.grows.extends env.within env.fits) (record { within = o.holds.within; knows = o.knows }) o.holds.fits
 
 pub returns-clause-opened : goal.returns-clause-opened
 returns-clause-opened c =

@@ -4,7 +4,7 @@ use Rattle.nts_store.specs.Growth.{tree_at}
 use Rattle.nts_unify.specs.Reading.{content_of}
 use Rattle.nts_unify.specs.Lawful.{content_of-extended}
 use Rattle.nts_table.specs.TableLaws.{IsTable-extended}
-use Rattle.nts_queries.proofs.Evaluating.{Goes-extends, IsTermOf-later, goal_made, predicate_term, env_term}
+use Rattle.nts_queries.proofs.Evaluating.{Goes-extends, IsTermIn-later, goal_made, predicate_term, env_term}
 use Rattle.nts_queries.proofs.candidate.resolve_goal.Goals as goal
 
 pub resolve_term-requires-clause-term : goal.resolve_term-requires-clause-term
@@ -12,7 +12,7 @@ resolve_term-requires-clause-term c = env_term c.requires
 
 pub resolve_term-requires-2-clause-term : goal.resolve_term-requires-2-clause-term
 resolve_term-requires-2-clause-term c =
-    IsTermOf-later (Goes-extends c.requires.table c.in_ok-env.ensures.grows.extends) (predicate_term c.requires)
+    IsTermIn-later (Goes-extends c.requires.table c.in_ok-env.ensures.grows.extends) (predicate_term c.requires)
 
 pub resolve_term-requires-2-clause-table : goal.resolve_term-requires-2-clause-table
 resolve_term-requires-2-clause-table c = IsTable-extended c.in_ok-env.ensures.grows.extends c.requires.table

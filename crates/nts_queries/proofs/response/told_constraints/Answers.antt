@@ -2,7 +2,7 @@ use Rattle.std.proofs.Common.{ap, arith, map, subst, sym, ◌∙◌}
 use Rattle.std.proofs.lemmas.List.{take_all}
 use Rattle.std.proofs.lemmas.List.Elements.{All-push}
 use Rattle.nts_unify.specs.Reading.{content_of, recorded_of, IsConstraint}
-use Rattle.nts_response.specs.Forms.{HoldsConstraint}
+use Rattle.nts_response.specs.Forms.{StoreHoldsConstraint}
 use Rattle.nts_queries.proofs.Told.{news_told, sides_known, holds_told, is_constraint_at, more_recorded}
 use Rattle.nts_queries.proofs.response.told_constraints.Goals as goal
 use Rattle.std.specs.Prelude.{All}
@@ -20,7 +20,7 @@ loop-i-preserved c =
     let one = holds_told ts d now c.as_told.result side told.left told.right in
     record {
       trees = more_recorded ts xs c.loop-i.i now c.loop-i.told.items c.push.new.self.items c.as_told.result (omega (arith, l)) i.trees (told.trees ts ∙ ap (recorded_of ts) c.index.ensures) c.in_ok-push.ensures.items;
-      holds = subst (All (HoldsConstraint ts)) (sym c.in_ok-push.ensures.items) (All-push (HoldsConstraint ts) c.loop-i.told.items c.as_told.result i.holds one);
+      holds = subst (All (StoreHoldsConstraint ts)) (sym c.in_ok-push.ensures.items) (All-push (StoreHoldsConstraint ts) c.loop-i.told.items c.as_told.result i.holds one);
     }
 
 pub returns-clause-told : goal.returns-clause-told

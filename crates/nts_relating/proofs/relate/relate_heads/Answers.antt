@@ -6,7 +6,7 @@ use Rattle.nts_store.specs.Growth.{tree_at}
 use Rattle.nts_store.proofs.Growing.{Extends-refl}
 use Rattle.nts_unify.specs.Changing.{is_free_region}
 use Rattle.nts_unify.specs.Reading.{content_of}
-use Rattle.nts_unify.proofs.Keeping.{Keeps-refl, IsLater-refl}
+use Rattle.nts_unify.proofs.Keeping.{KeepsKnowing-refl, IsLater-refl}
 use Rattle.nts_model.proofs.Responses.Bringing.{brings-refl, brings-of}
 use Rattle.nts_relating.proofs.RegionLemmas.{region_of_term}
 use Rattle.nts_relating.proofs.PairLemmas.{Stepped, last_pair, step_kept, step_pushed, heads_same, heads_regions, regions_bring}
@@ -22,7 +22,7 @@ same_related c =
 
 same : (c : goal.Then-a-b) → Stepped c.args.nodes.now c.args.nodes.now c.args.table.now.entries c.args.table.now.entries c.args.pairs.now.items c.args.pairs.now.items c.args.pair false
 same c =
-    step_kept c.args.nodes.now c.args.table.now.entries c.args.table.now.entries c.args.pairs.now.items c.args.pair c.requires.valid c.requires.valid.lawful (Keeps-refl (content_of c.args.nodes.now c.args.table.now.entries)) (same_related c) (brings-of _ _ (brings-refl (content_of c.args.nodes.now c.args.table.now.entries)))
+    step_kept c.args.nodes.now c.args.table.now.entries c.args.table.now.entries c.args.pairs.now.items c.args.pair c.requires.valid c.requires.valid.lawful (KeepsKnowing-refl (content_of c.args.nodes.now c.args.table.now.entries)) (same_related c) (brings-of _ _ (brings-refl (content_of c.args.nodes.now c.args.table.now.entries)))
 
 pub returns-then-a-b-clause-valid : goal.returns-then-a-b-clause-valid
 returns-then-a-b-clause-valid c = (same c).valid

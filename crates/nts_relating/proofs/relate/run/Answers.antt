@@ -1,7 +1,7 @@
 use Rattle.std.proofs.Common.{rules, ◌≡◌, ap, [], ◌∷◌, ◌++◌}
 use Rattle.nts_store.proofs.Growing.{Extends-refl, Extends-trans}
 use Rattle.nts_unify.specs.Reading.{content_of}
-use Rattle.nts_relating.specs.Relating.{pairs_at}
+use Rattle.nts_relating.specs.Relating.{all_sides_at}
 use Rattle.nts_relating.proofs.PairLemmas.{running_start, running_step, running_bound, running_end}
 use Rattle.nts_relating.proofs.RefusalLemmas.{Refuses-before}
 use Rattle.nts_relating.proofs.relate.run.Goals as goal
@@ -33,7 +33,7 @@ pub returns-clause-run : goal.returns-clause-run
 returns-clause-run c =
     let none : c.pop.new.self.items ≡ [] = search rules in
     let same : c.loop-pair.pairs.items ≡ c.pop.new.self.items = search rules in
-    running_end (rw same at c.loop-pair.invariant.running) (ap (pairs_at c.loop-pair.nodes) none)
+    running_end (rw same at c.loop-pair.invariant.running) (ap (all_sides_at c.loop-pair.nodes) none)
 
 pub returns-in-Err-clause-no : goal.returns-in-Err-clause-no
 returns-in-Err-clause-no c = λ q.

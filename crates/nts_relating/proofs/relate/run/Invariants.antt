@@ -1,6 +1,6 @@
 use Rattle.nts_store.specs.Growth.{Extends}
 use Rattle.nts_unify.specs.Reading.{content_of}
-use Rattle.nts_relating.specs.Relating.{pairs_at, total, IsValid, IsMemo, Running}
+use Rattle.nts_relating.specs.Relating.{all_sides_at, total, IsValid, IsMemo, Running}
 use Rattle.nts_relating.proofs.relate.run.Given as goal
 use Rattle.nts_unify.specs.Entries.{KeepsHidden}
 
@@ -10,8 +10,8 @@ invariant-loop-pair l = record {
   changes : KeepsHidden l.initial.table l.table;
   valid : IsValid l.nodes l.table.entries l.pairs.items;
   memo : IsMemo l.nodes l.table.entries l.pairs.items l.met.keys;
-  running : Running (content_of l.initial.nodes l.initial.table.entries) (content_of l.nodes l.table.entries) (pairs_at l.initial.nodes l.initial.pairs.items) (pairs_at l.nodes l.pairs.items);
+  running : Running (content_of l.initial.nodes l.initial.table.entries) (content_of l.nodes l.table.entries) (all_sides_at l.initial.nodes l.initial.pairs.items) (all_sides_at l.nodes l.pairs.items);
 }
 
 abbrev pub decreases-loop-pair : goal.decreases-loop-pair
-decreases-loop-pair l = total (content_of l.nodes l.table.entries) (pairs_at l.nodes l.pairs.items)
+decreases-loop-pair l = total (content_of l.nodes l.table.entries) (all_sides_at l.nodes l.pairs.items)

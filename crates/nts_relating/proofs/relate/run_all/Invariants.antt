@@ -1,7 +1,7 @@
 use Rattle.nts_store.specs.Growth.{Extends}
 use Rattle.nts_unify.specs.Reading.{content_of}
 use Rattle.nts_unify.specs.Changing.{unset_count}
-use Rattle.nts_relating.specs.Relating.{pairs_at, IsValid, IsMemo, Running}
+use Rattle.nts_relating.specs.Relating.{all_sides_at, IsValid, IsMemo, Running}
 use Rattle.nts_relating.proofs.relate.run_all.Given as goal
 use Rattle.nts_unify.specs.Entries.{KeepsHidden}
 
@@ -11,7 +11,7 @@ invariant-loop-error l = record {
   changes : KeepsHidden l.initial.table l.table;
   valid : IsValid l.nodes l.table.entries l.pairs.items;
   memo : IsMemo l.nodes l.table.entries l.pairs.items l.met.keys;
-  running : Running (content_of l.initial.nodes l.initial.table.entries) (content_of l.nodes l.table.entries) (pairs_at l.initial.nodes l.initial.pairs.items) (pairs_at l.nodes l.pairs.items);
+  running : Running (content_of l.initial.nodes l.initial.table.entries) (content_of l.nodes l.table.entries) (all_sides_at l.initial.nodes l.initial.pairs.items) (all_sides_at l.nodes l.pairs.items);
 }
 
 abbrev pub decreases-loop-error : goal.decreases-loop-error

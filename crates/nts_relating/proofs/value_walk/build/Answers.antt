@@ -9,17 +9,17 @@ use Rattle.nts_relating.specs.Parts.{inner, made_at}
 use Rattle.nts_relating.proofs.Naming.{lawful_sides}
 use Rattle.nts_relating.proofs.GenLemmas.{gen_start, gen_push, Meets-like, binders_le}
 use Rattle.nts_relating.proofs.PairLemmas.{Knows-children}
-use Rattle.nts_relating.proofs.ValueTasks.{AreTasks-front, more_found}
+use Rattle.nts_relating.proofs.ValueTasks.{AreGeneralizingTasks-front, more_found}
 use Rattle.nts_relating.proofs.ValueTurns.{child_found, turn_built}
 use Rattle.nts_relating.proofs.value_walk.build.Goals as goal
 
 pub label-label-requires : goal.label-label-requires
 label-label-requires c =
-    (AreTasks-front c.args.nodes.now (content_of c.args.nodes.now c.args.table.now.entries) c.args.target.universe c.args.walk.now.root c.args.walk.now.tasks.items (task.Build c.args.part) c.requires.walk.tasks).1.0.within
+    (AreGeneralizingTasks-front c.args.nodes.now (content_of c.args.nodes.now c.args.table.now.entries) c.args.target.universe c.args.walk.now.root c.args.walk.now.tasks.items (task.Build c.args.part) c.requires.walk.tasks).1.0.within
 
 pub overflow_add-binders : goal.overflow_add-binders
 overflow_add-binders c =
-    let room = (AreTasks-front c.args.nodes.now (content_of c.args.nodes.now c.args.table.now.entries) c.args.target.universe c.args.walk.now.root c.args.walk.now.tasks.items (task.Build c.args.part) c.requires.walk.tasks).1.0.room in
+    let room = (AreGeneralizingTasks-front c.args.nodes.now (content_of c.args.nodes.now c.args.table.now.entries) c.args.target.universe c.args.walk.now.root c.args.walk.now.tasks.items (task.Build c.args.part) c.requires.walk.tasks).1.0.room in
     omega (arith, c.binders_of.ensures, binders_le c.label-label.result, c.child-term.ensures.before, room)
 
 pub loop-i-init : goal.loop-i-init
@@ -46,7 +46,7 @@ loop-i-preserved c =
     let w = c.requires.walk in
     let d = content_of ts e in
     let t = tree_at ts c.args.part.term in
-    let front = (AreTasks-front ts d c.args.target.universe c.args.walk.now.root c.args.walk.now.tasks.items (task.Build c.args.part) w.tasks).1.0 in
+    let front = (AreGeneralizingTasks-front ts d c.args.target.universe c.args.walk.now.root c.args.walk.now.tasks.items (task.Build c.args.part) w.tasks).1.0 in
     let old = w.made (record { term = c.child-term.result; binders = c.args.part.binders + c.binders_of.result }) c.made_for.result c.made_for.ensures in
     let stands : Generalized d d c.args.target.variable c.args.target.universe (inner c.args.part.binders t) (tree_at ts c.child-term.result) (tree_at ts c.made_for.result) = rw (under c) at old.stands in
     let items = c.in_ok-push.ensures.items in

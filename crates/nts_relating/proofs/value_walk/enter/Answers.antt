@@ -1,10 +1,10 @@
 use Rattle.std.proofs.Common.{◌≡◌, ◌<◌, ◌++◌, ◌∷◌, [], refl, sym, ◌∙◌, rules}
 use Rattle.nts_relating.specs.declared.value_walk.Task.TheVariants as task
 use Rattle.nts_unify.specs.Reading.{content_of}
-use Rattle.nts_relating.specs.Parts.{IsPart, made_at}
+use Rattle.nts_relating.specs.Parts.{IsGeneralizingPart, made_at}
 use Rattle.nts_relating.proofs.PairLemmas.{err_of}
 use Rattle.nts_relating.proofs.ValueParts.{blocks_whole}
-use Rattle.nts_relating.proofs.ValueTasks.{AreTasks-front, more_found, some_of}
+use Rattle.nts_relating.proofs.ValueTasks.{AreGeneralizingTasks-front, more_found, some_of}
 use Rattle.nts_relating.proofs.ValueTurns.{on_ok, turn_found, turn_done, turn_value_left, turn_node_left}
 use Rattle.nts_relating.proofs.value_walk.enter.Goals as goal
 
@@ -13,9 +13,9 @@ returns-then-contains_key-clause-turn c =
     let found = some_of (made_at c.args.walk.now.made c.args.part) (sym c.contains_key.ensures ∙ c.if-contains_key.true) in
     turn_found c.args.nodes.now c.args.table.now.entries c.args.target.variable c.args.target.universe c.args.walk.now.root c.args.part c.args.walk.now.tasks.items (made_at c.args.walk.now.made) found.0 c.requires.walk found.1
 
-part : (c : goal.After-look_at-arg-4-1) → IsPart c.args.nodes.now (content_of c.args.nodes.now c.args.table.now.entries) c.args.target.universe c.args.walk.now.root c.args.part
+part : (c : goal.After-look_at-arg-4-1) → IsGeneralizingPart c.args.nodes.now (content_of c.args.nodes.now c.args.table.now.entries) c.args.target.universe c.args.walk.now.root c.args.part
 part c =
-    (AreTasks-front c.args.nodes.now (content_of c.args.nodes.now c.args.table.now.entries) c.args.target.universe c.args.walk.now.root c.args.walk.now.tasks.items (task.Enter c.args.part) c.requires.walk.tasks).1
+    (AreGeneralizingTasks-front c.args.nodes.now (content_of c.args.nodes.now c.args.table.now.entries) c.args.target.universe c.args.walk.now.root c.args.walk.now.tasks.items (task.Enter c.args.part) c.requires.walk.tasks).1
 
 pub look_at-requires-clause-within : goal.look_at-requires-clause-within
 look_at-requires-clause-within c = (part c).within
@@ -25,12 +25,12 @@ look_at-requires-clause-knows c = (part c).part.knows
 
 pub push_node-requires-clause-room : goal.push_node-requires-clause-room
 push_node-requires-clause-room c =
-    (AreTasks-front c.args.nodes.now (content_of c.args.nodes.now c.args.table.now.entries) c.args.target.universe c.args.walk.now.root c.args.walk.now.tasks.items (task.Enter c.args.part) c.requires.walk.tasks).1.room
+    (AreGeneralizingTasks-front c.args.nodes.now (content_of c.args.nodes.now c.args.table.now.entries) c.args.target.universe c.args.walk.now.root c.args.walk.now.tasks.items (task.Enter c.args.part) c.requires.walk.tasks).1.room
 
 pub returns-in-Err-clause-no : goal.returns-in-Err-clause-no
 returns-in-Err-clause-no c = λ q.
-    let here : IsPart c.args.nodes.now (content_of c.args.nodes.now c.args.table.now.entries) c.args.target.universe c.args.walk.now.root c.args.part =
-    (AreTasks-front c.args.nodes.now (content_of c.args.nodes.now c.args.table.now.entries) c.args.target.universe c.args.walk.now.root c.args.walk.now.tasks.items (task.Enter c.args.part) c.requires.walk.tasks).1 in
+    let here : IsGeneralizingPart c.args.nodes.now (content_of c.args.nodes.now c.args.table.now.entries) c.args.target.universe c.args.walk.now.root c.args.part =
+    (AreGeneralizingTasks-front c.args.nodes.now (content_of c.args.nodes.now c.args.table.now.entries) c.args.target.universe c.args.walk.now.root c.args.walk.now.tasks.items (task.Enter c.args.part) c.requires.walk.tasks).1 in
     blocks_whole here.part (c.in-Err.ensures.no (err_of _ _ q))
 
 pub returns-in_ok-insert-in-Ok-Made-clause-turn : goal.returns-in_ok-insert-in-Ok-Made-clause-turn

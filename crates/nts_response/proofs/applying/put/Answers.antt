@@ -19,7 +19,7 @@ use Rattle.nts_response.specs.Applied.{StepKeeps}
 use Rattle.nts_response.specs.Recorded.{sides_of, AddsAllSeen}
 use Rattle.nts_response.specs.Registered.{TakesAll}
 use Rattle.nts_response.specs.Applicable.{AreKnownPremises}
-use Rattle.nts_response.specs.Forms.{HoldsConstraint, HoldsOpen, recorded_at, premise_at}
+use Rattle.nts_response.specs.Forms.{StoreHoldsConstraint, HoldsOpen, recorded_at, premise_at}
 use Rattle.nts_response.proofs.Each.{same_views, constraints_kept, hidden_kept, goals_kept, replaced_later}
 use Rattle.nts_response.proofs.Stepping.{step_then, joins_next, nodes_grown}
 use Rattle.nts_response.proofs.RecordSteps.{recordable_later}
@@ -106,7 +106,7 @@ returns-clause-put c =
     let holds = c.requires.ready.holds in
     let is = c.in_ok-register_hidden.ensures.entries in
     let last : content_of b u.entries ≡ content_of n t.entries = ap (content_of b) is ∙ content_of-extended beyond s.table.now in
-    let sides : map (recorded_at m) cs ≡ map (recorded_at a) cs = same_views HoldsConstraint recorded_at constraints_kept a m cs holds.constraints first in
+    let sides : map (recorded_at m) cs ≡ map (recorded_at a) cs = same_views StoreHoldsConstraint recorded_at constraints_kept a m cs holds.constraints first in
     let recorded_there : Records (map (tree_at m) nodes) (map (recorded_at m) cs) equal (content_of n t.entries) = rw c.deref-2.ensures.value at c.in_ok-record_constraints.ensures.recorded in
     let labels_there : BringsOnly (map (filled (map (tree_at m) nodes)) (sides_of (map (recorded_at m) cs))) equal (content_of n t.entries) = rw c.deref-2.ensures.value at c.in_ok-record_constraints.ensures.labels in
     let seen_there : AddsAllSeen (is_visible c.args.visible) (map (recorded_at m) cs) equal.constraints (content_of n t.entries).constraints = rw c.deref-2.ensures.value at c.in_ok-record_constraints.ensures.seen in

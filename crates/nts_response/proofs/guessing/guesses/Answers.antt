@@ -2,7 +2,7 @@ use Rattle.std.proofs.Common.{ap, arith, get_or}
 use Rattle.std.proofs.lemmas.Option.{slice_get-get_or}
 use Rattle.nts_canonical.specs.declared.types.CanonicalVarKind.TheVariants as var
 use Rattle.nts_canonical.specs.Forms.{kind_of_var, trees_of}
-use Rattle.nts_response.specs.Applied.{content_in}
+use Rattle.nts_response.specs.Applied.{content_within}
 use Rattle.nts_response.proofs.Guessed.{guess_fits, original_at, one_guess}
 use Rattle.nts_response.proofs.guessing.guesses.Goals.{in-Some+then-b-kinds+then-may_stand, in-Some+else-b-kinds, in_default}
 use Rattle.nts_response.proofs.guessing.guesses.Goals as goal
@@ -14,7 +14,7 @@ loop-i-preserved c =
           let b = w.in-Some.b in
           let at = c.requires.originals c.loop-i.i _ (omega (arith, c.loop-i-test.true, c.requires.long)) in
           let kind = get_or c.args.kinds.now b (var.Ty 0 0) in
-          let old = content_in ts c.args.table.now.entries c.args.universe in
+          let old = content_within ts c.args.table.now.entries c.args.universe in
           let values = trees_of ts c.args.values.now in
           let originals = trees_of ts c.args.originals.now in
           let fits = guess_fits old values originals b (kind_of_var kind) _ (original_at ts c.args.values.now c.args.originals.now c.loop-i.i b _ _ c.requires.long c.loop-i-test.true w.in-Some.ensures) at.knows (w.may_stand.ensures w.if-may_stand.true) in

@@ -8,9 +8,9 @@ use Rattle.nts_terms.specs.Handles.{HoldsArg}
 use Rattle.nts_unify.specs.Reading.{content_of}
 use Rattle.nts_canonical.specs.Forms.{kind_of_var, trees_of}
 use Rattle.nts_canonical.proofs.Filled.{trees_of-nodes}
-use Rattle.nts_response.specs.Applied.{IsFillable, HaveSorts}
-use Rattle.nts_response.specs.Instantiated.{values_alone, AreEquated}
-use Rattle.nts_response.specs.Replacing.{value_at}
+use Rattle.nts_response.specs.Applied.{IsFillable, PositionsHaveSorts}
+use Rattle.nts_response.specs.Instantiated.{values_alone, AreValuesEquated}
+use Rattle.nts_response.specs.Replacing.{argument_value}
 use Rattle.nts_response.proofs.Each.{same_views, values_kept}
 use Rattle.nts_response.proofs.Stepping.{arg_later}
 use Rattle.nts_response.proofs.ApplySteps.{ChoseFor, chose, args_later, nodes_in}
@@ -63,8 +63,8 @@ returns-clause-equated c =
     let w = c.equate_values.new.table in
     let nodes : map (tree_at b) c.deref-2.result.now ≡ trees_of b c.in_ok-chosen.chosen.items = ap (map (tree_at b)) (c.deref-2.ensures.value ∙ (rw c.deref.ensures.value at c.in_ok-nodes.ensures)) ∙ trees_of-nodes b c.in_ok-chosen.chosen.items in
     let grew = c.equate_values.ensures.keeps.grows in
-    let same : trees_of d c.in_ok-chosen.chosen.items ≡ trees_of b c.in_ok-chosen.chosen.items = same_views HoldsArg value_at values_kept b d c.in_ok-chosen.chosen.items (λ i j l. (let x = k.args i j l in x.holds)) grew.extends in
-    subst (AreEquated (content_of c.args.cx.now.nodes c.args.table.now.entries) (content_of d w.entries) (trees_of c.args.cx.now.nodes c.args.originals.now) (values_alone (trees_of c.args.cx.now.nodes c.args.values.now) (map kind_of_var c.args.kinds.now) c.args.max_universe)) (sym same)
+    let same : trees_of d c.in_ok-chosen.chosen.items ≡ trees_of b c.in_ok-chosen.chosen.items = same_views HoldsArg argument_value values_kept b d c.in_ok-chosen.chosen.items (λ i j l. (let x = k.args i j l in x.holds)) grew.extends in
+    subst (AreValuesEquated (content_of c.args.cx.now.nodes c.args.table.now.entries) (content_of d w.entries) (trees_of c.args.cx.now.nodes c.args.originals.now) (values_alone (trees_of c.args.cx.now.nodes c.args.values.now) (map kind_of_var c.args.kinds.now) c.args.max_universe)) (sym same)
     (values_applied c.args.cx.now.nodes b c.args.table.now u c.args.originals.now c.args.values.now c.args.kinds.now c.args.max_universe c.in_ok-chosen.chosen.items c.terms_are_formed.ensures c.requires.table c.requires.originals c.requires.closed c.requires.fits
     (chose c.args.cx.now.nodes b c.args.table.now c.create_universes.new.self u c.args.originals.now c.args.values.now c.args.kinds.now c.args.max_universe c.in_ok-chosen.chosen.items _ c.universe-universe.ensures c.in_ok-create_universes.ensures.entries
     k.chosen k.placed k.args k.sorts k.keeps.grows.extends)
@@ -78,7 +78,7 @@ pub returns-clause-sorts : goal.returns-clause-sorts
 returns-clause-sorts c =
     let k = c.in_ok-chosen.ensures in
     let grew = c.equate_values.ensures.keeps.grows in
-    subst (HaveSorts (map kind_of_var c.args.kinds.now)) (sym (same_views HoldsArg value_at values_kept c.choose_values.new.cx.nodes c.equate_values.new.cx.nodes c.in_ok-chosen.chosen.items (λ i j l. (let x = k.args i j l in x.holds)) grew.extends)) k.sorts
+    subst (PositionsHaveSorts (map kind_of_var c.args.kinds.now)) (sym (same_views HoldsArg argument_value values_kept c.choose_values.new.cx.nodes c.equate_values.new.cx.nodes c.in_ok-chosen.chosen.items (λ i j l. (let x = k.args i j l in x.holds)) grew.extends)) k.sorts
 
 pub returns-clause-originals : goal.returns-clause-originals
 returns-clause-originals c = λ k d l.

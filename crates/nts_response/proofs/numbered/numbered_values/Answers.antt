@@ -3,7 +3,7 @@ use Rattle.std.proofs.lemmas.List.{take_all}
 use Rattle.nts_model.specs.Answers.Responses.{positioned}
 use Rattle.nts_terms.specs.Handles.{HoldsArg}
 use Rattle.nts_store.proofs.Growing.{Extends-trans}
-use Rattle.nts_response.specs.Replacing.{ReplacesEach, value_at}
+use Rattle.nts_response.specs.Replacing.{ReplacesEach, argument_value}
 use Rattle.nts_response.proofs.Each.{replaced_more, values_kept}
 use Rattle.nts_response.proofs.numbered.numbered_values.Goals as goal
 
@@ -15,11 +15,11 @@ pub loop-i-preserved : goal.loop-i-preserved
 loop-i-preserved c =
     let up = c.position.ensures.extends in
     record {
-      each = replaced_more HoldsArg value_at (positioned c.args.leaves.now.keys) values_kept c.args.nodes.now c.loop-i.nodes c.position.new.nodes c.args.values.now c.loop-i.numbered.items c.push.new.self.items c.loop-i.i _ c.in_ok-value.value
+      each = replaced_more HoldsArg argument_value (positioned c.args.leaves.now.keys) values_kept c.args.nodes.now c.loop-i.nodes c.position.new.nodes c.args.values.now c.loop-i.numbered.items c.push.new.self.items c.loop-i.i _ c.in_ok-value.value
           c.loop-i.invariant.extends up c.requires (omega (arith, c.loop-i-test.true)) c.loop-i.invariant.each c.in_ok-value.ensures.holds c.in_ok-value.ensures.tree c.in_ok-push.ensures.items;
       extends = Extends-trans c.loop-i.invariant.extends up;
     }
 
 pub returns-clause-each : goal.returns-clause-each
 returns-clause-each c =
-    subst (λ xs. ReplacesEach HoldsArg value_at (positioned c.args.leaves.now.keys) c.args.nodes.now c.loop-i.nodes xs c.loop-i.numbered.items) (take_all c.loop-i.i c.args.values.now (omega (arith, c.loop-i-test.false))) c.loop-i.invariant.each
+    subst (λ xs. ReplacesEach HoldsArg argument_value (positioned c.args.leaves.now.keys) c.args.nodes.now c.loop-i.nodes xs c.loop-i.numbered.items) (take_all c.loop-i.i c.args.values.now (omega (arith, c.loop-i-test.false))) c.loop-i.invariant.each

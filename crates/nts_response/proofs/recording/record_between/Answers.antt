@@ -9,7 +9,7 @@ use Rattle.nts_unify.specs.Reading.{content_of}
 use Rattle.nts_unify.specs.Recording.{is_visible}
 use Rattle.nts_delegate.proofs.Results.{OnOk-map}
 use Rattle.nts_table.proofs.TermTables.{proper_content}
-use Rattle.nts_response.specs.Recorded.{IsLeftSide, AddsSeen, seen_as}
+use Rattle.nts_response.specs.Recorded.{IsLeftSide, AddsSeen, seen_by_leak_check}
 use Rattle.nts_response.proofs.RecordLemmas.{recorded_in, recorded_seen, seen_in, recorded_joins, equated_in, equated_joins}
 use Rattle.nts_response.proofs.recording.record_between.Goals as goal
 
@@ -28,7 +28,7 @@ returns-in-Equal-clause-seen c =
     let t = c.args.table.now in
     let u = c.equate_regions.new.self in
     let side : IsLeftSide relation.Equal (tree_at ts c.args.left) = subst (λ z. IsLeftSide z (tree_at ts c.args.left)) c.in-Equal.is c.requires.left_side in
-    subst (λ z. OnOk c.equate_regions.result (AddsSeen (seen_as z (is_visible c.args.visible)) (content_of ts t.entries).constraints (content_of ts u.entries).constraints)) (sym c.in-Equal.is)
+    subst (λ z. OnOk c.equate_regions.result (AddsSeen (seen_by_leak_check z (is_visible c.args.visible)) (content_of ts t.entries).constraints (content_of ts u.entries).constraints)) (sym c.in-Equal.is)
     (OnOk-map c.equate_regions.result (λ k. (equated_in ts t.entries u.entries c.args.left c.args.right (is_visible c.args.visible) c.requires.table.now (proper_content c.requires.table) (proper_content c.equate_regions.ensures.table) c.requires.left.knows c.requires.right.knows side c.requires.right_side k).1) c.equate_regions.ensures.equated)
 
 pub returns-in-RegionOutlives-clause-recorded : goal.returns-in-RegionOutlives-clause-recorded
@@ -44,7 +44,7 @@ returns-in-RegionOutlives-clause-seen c =
     let ts = c.args.cx.now.nodes in
     let t = c.args.table.now in
     let u = c.sub_regions.new.self in
-    subst (λ z. OnOk c.sub_regions.result (AddsSeen (seen_as z (is_visible c.args.visible)) (content_of ts t.entries).constraints (content_of ts u.entries).constraints)) (sym c.in-RegionOutlives.is)
+    subst (λ z. OnOk c.sub_regions.result (AddsSeen (seen_by_leak_check z (is_visible c.args.visible)) (content_of ts t.entries).constraints (content_of ts u.entries).constraints)) (sym c.in-RegionOutlives.is)
     (OnOk-map c.sub_regions.result (λ k. seen_in ts t.entries u.entries (record { relation = relation.RegionOutlives; left = c.args.left; right = c.args.right; is_visible = is_visible c.args.visible }) c.requires.closed c.requires.right_side k) c.sub_regions.ensures.recorded)
 
 pub returns-in-TypeOutlives-clause-seen : goal.returns-in-TypeOutlives-clause-seen
@@ -52,7 +52,7 @@ returns-in-TypeOutlives-clause-seen c =
     let ts = c.args.cx.now.nodes in
     let t = c.args.table.now in
     let u = c.register_ty_outlives.new.self in
-    subst (λ z. OnOk c.register_ty_outlives.result (AddsSeen (seen_as z (is_visible c.args.visible)) (content_of ts t.entries).constraints (content_of ts u.entries).constraints)) (sym c.in-TypeOutlives.is)
+    subst (λ z. OnOk c.register_ty_outlives.result (AddsSeen (seen_by_leak_check z (is_visible c.args.visible)) (content_of ts t.entries).constraints (content_of ts u.entries).constraints)) (sym c.in-TypeOutlives.is)
     (OnOk-map c.register_ty_outlives.result (λ k. seen_in ts t.entries u.entries (record { relation = relation.TypeOutlives; left = c.args.left; right = c.args.right; is_visible = true }) c.requires.closed c.requires.right_side k) c.register_ty_outlives.ensures.recorded)
 
 pub returns-in-TypeOutlives-clause-recorded : goal.returns-in-TypeOutlives-clause-recorded

@@ -9,7 +9,7 @@ use Rattle.nts_unify.specs.Recording.{is_visible}
 use Rattle.nts_table.specs.TableLaws.{IsTable-extended}
 use Rattle.nts_delegate.proofs.Results.{OnOk-map}
 use Rattle.nts_response.specs.Forms.{recorded_at}
-use Rattle.nts_response.specs.Recorded.{AddsSeen, seen_as, seen_if}
+use Rattle.nts_response.specs.Recorded.{AddsSeen, seen_by_leak_check, seen_if}
 use Rattle.nts_response.proofs.Stepping.{nodes_grown, nodes_recorded}
 use Rattle.nts_response.proofs.RecordLemmas.{recorded_seen, recorded_kinds}
 use Rattle.nts_response.proofs.recording.record_one.Goals as goal
@@ -91,7 +91,7 @@ returns-clause-seen c =
     let new = content_of c.instantiate_canonical-2.new.nodes c.record_between.new.table.entries in
     OnOk-map c.record_between.result
     (λ h. subst (λ z. AddsSeen (seen_if (is_visible c.args.visible) (recorded_at c.args.cx.now.nodes c.args.constraint)) z.constraints new.constraints) same
-    (subst (λ v. AddsSeen (seen_as c.args.constraint.0.relation v) (content_of c.instantiate_canonical-2.new.nodes c.args.table.now.entries).constraints new.constraints) c.seen_in_both-seen.ensures h)) c.record_between.ensures.seen
+    (subst (λ v. AddsSeen (seen_by_leak_check c.args.constraint.0.relation v) (content_of c.instantiate_canonical-2.new.nodes c.args.table.now.entries).constraints new.constraints) c.seen_in_both-seen.ensures h)) c.record_between.ensures.seen
 
 pub returns-clause-keeps : goal.returns-clause-keeps
 returns-clause-keeps c =

@@ -3,10 +3,10 @@ use Rattle.std.proofs.ResultArms.{chosen}
 use Rattle.std.proofs.lemmas.Grind.{common_steps}
 use Rattle.std.proofs.lemmas.List.{reverse-append}
 use Rattle.std.proofs.Math.Seq.{drop-cons}
-use Rattle.nts_text.specs.Predicates.{is_open, is_close, is_word, is_binding, binding_before, open_before, written_nodes, arguments_behind}
+use Rattle.nts_text.specs.Predicates.{is_open, is_close, is_word, is_binding, binding_before, open_brackets, written_nodes, arguments_behind}
 use Rattle.nts_text.specs.declared.lexer.Token.{Token}
 use Rattle.nts_text.specs.declared.lexer.TokenKind.TheVariants.{Name}
-use Rattle.nts_text.proofs.CountLemmas.{AreCounts, counts_open, counts_word, counts_comma, written_nodes-word, written_nodes-other, arguments_behind-open, arguments_behind-other, open_before-open, open_before-other, fewer_open, role_of-behind, is_open_false, is_close_false, words_of_nodes}
+use Rattle.nts_text.proofs.CountLemmas.{AreCounts, counts_open, counts_word, counts_comma, written_nodes-word, written_nodes-other, arguments_behind-open, arguments_behind-other, open_brackets-open, open_brackets-other, fewer_open, role_of-behind, is_open_false, is_close_false, words_of_nodes}
 use Rattle.nts_text.proofs.predicates.nodes_of.Goals as goal
 
 -- what an index gives past the end
@@ -30,8 +30,8 @@ loop-at-preserved-in-Open c =
           (counts_open _ _ _ _ t rest c.pop.ensures.items (λ h. grind (arith, common_steps, h, c.pop.ensures.cases)) opens c.loop-at.invariant.counts));
       behind = c.loop-at.invariant.counts 0 ∙ sym (ap arguments_behind split ∙ arguments_behind-open t rest opens);
       binding = c.binding_before-binding.ensures ∙ ap (binding_before t.kind) c.loop-at.invariant.binding ∙ sym (ap is_binding split);
-      unclosed = fewer_open c.loop-at.outer.items c.pop.new.self.items c.pop.result (open_before rest) c.pop.ensures.items (λ h. grind (arith, common_steps, h, c.pop.ensures.cases)) c.loop-at.invariant.unclosed
-          ∙ sym (ap open_before split ∙ open_before-open t rest opens);
+      unclosed = fewer_open c.loop-at.outer.items c.pop.new.self.items c.pop.result (open_brackets rest) c.pop.ensures.items (λ h. grind (arith, common_steps, h, c.pop.ensures.cases)) c.loop-at.invariant.unclosed
+          ∙ sym (ap open_brackets split ∙ open_brackets-open t rest opens);
       forest = grind (arith, common_steps, c.loop-at.invariant.forest, c.pop.ensures.items, c.unwrap_or-count.ensures);
       small = grind (arith, common_steps, c.loop-at.invariant.small, c.pop.ensures.items, c.unwrap_or-count.ensures);
     }
@@ -50,7 +50,7 @@ loop-at-preserved-in_ok-push-in_default c =
     let opens : is_open t.kind ≡ false = is_open_false t.kind (λ h. c.in_default.not-Open (grind (arith, h, c.in_default.kind-is))) in
     let closes : is_close t.kind ≡ false = is_close_false t.kind (λ h. c.in_default.not-Close (grind (arith, h, c.in_default.kind-is))) in
     let word : is_word t.kind ≡ true = grind (arith, c.in_default.kind-is, c.is_word.ensures, c.if-is_word.true) in
-    let depth : c.len.result ≡ open_before rest = grind (arith, common_steps, c.len.ensures, c.loop-at.invariant.unclosed) in
+    let depth : c.len.result ≡ open_brackets rest = grind (arith, common_steps, c.len.ensures, c.loop-at.invariant.unclosed) in
     let role = role_of-behind c.loop-at.binding c.len.result rest c.role_of-role.result c.role_of-role.ensures c.loop-at.invariant.binding depth in
     let pushed = chosen _ _ _ _ c.push-then-is_word.ensures.items (ap is_ok c.in_ok-push-in_default.was) in
     record {
@@ -59,7 +59,7 @@ loop-at-preserved-in_ok-push-in_default c =
       counts = subst (AreCounts ((c.loop-at.count + 1) ∷ reverse c.loop-at.outer.items)) (sym split) (counts_word c.loop-at.count (reverse c.loop-at.outer.items) t rest opens closes word c.loop-at.invariant.counts);
       behind = sym (ap arguments_behind split ∙ arguments_behind-other t rest opens);
       binding = c.binding_before-binding.ensures ∙ ap (binding_before t.kind) c.loop-at.invariant.binding ∙ sym (ap is_binding split);
-      unclosed = c.loop-at.invariant.unclosed ∙ sym (ap open_before split ∙ open_before-other t rest opens closes);
+      unclosed = c.loop-at.invariant.unclosed ∙ sym (ap open_brackets split ∙ open_brackets-other t rest opens closes);
       forest = grind (arith, common_steps, pushed, c.loop-at.invariant.forest);
       small = grind (arith, common_steps, pushed, c.loop-at.invariant.small);
     }
@@ -81,7 +81,7 @@ loop-at-preserved c =
       counts = subst (AreCounts (c.loop-at.count ∷ reverse c.loop-at.outer.items)) (sym split) (counts_comma c.loop-at.count (reverse c.loop-at.outer.items) t rest opens closes word c.loop-at.invariant.counts);
       behind = sym (ap arguments_behind split ∙ arguments_behind-other t rest opens);
       binding = c.binding_before-binding.ensures ∙ ap (binding_before t.kind) c.loop-at.invariant.binding ∙ sym (ap is_binding split);
-      unclosed = c.loop-at.invariant.unclosed ∙ sym (ap open_before split ∙ open_before-other t rest opens closes);
+      unclosed = c.loop-at.invariant.unclosed ∙ sym (ap open_brackets split ∙ open_brackets-other t rest opens closes);
       forest = λ k h. c.loop-at.invariant.forest k (omega (arith, h));
       small = omega (arith, c.loop-at.invariant.small);
     }

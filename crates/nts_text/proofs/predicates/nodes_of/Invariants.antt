@@ -1,5 +1,5 @@
 use Rattle.std.proofs.Common.{◌≡◌, ℕ, ◌+◌, ◌≤◌, ◌∷◌, length, drop, reverse, sum, true, vec_len}
-use Rattle.nts_text.specs.Predicates.{is_forest, arguments_behind, is_binding, open_before, written_nodes}
+use Rattle.nts_text.specs.Predicates.{is_forest, arguments_behind, is_binding, open_brackets, written_nodes}
 use Rattle.nts_text.proofs.CountLemmas.{AreCounts}
 use Rattle.nts_text.proofs.predicates.nodes_of.Given as goal
 
@@ -10,7 +10,7 @@ invariant-loop-at l = record {
   counts : AreCounts (l.count ∷ reverse l.outer.items) (drop l.at l.tokens);
   behind : l.arguments ≡ arguments_behind (drop l.at l.tokens);
   binding : l.binding ≡ is_binding (drop l.at l.tokens);
-  unclosed : length l.outer.items ≡ open_before (drop l.at l.tokens);
+  unclosed : length l.outer.items ≡ open_brackets (drop l.at l.tokens);
   forest : (k : ℕ) → k ≤ sum l.outer.items + l.count + l.arguments → is_forest k (reverse l.nodes.items) ≡ true;
   small : sum l.outer.items + l.count + l.arguments ≤ vec_len l.nodes;
 }

@@ -1,6 +1,6 @@
 use Rattle.nts_store.proofs.Growing.{Extends-trans}
 use Rattle.nts_table.specs.TableLaws.{IsTable-extended}
-use Rattle.nts_delegate.specs.ClausesKept.{AreReady-kept}
+use Rattle.nts_delegate.specs.ClausesKept.{AreClausesReady-kept}
 use Rattle.nts_queries.proofs.Evaluating.{Goes-extends, IsPosed-later, IsPosed-admitted}
 use Rattle.nts_uses.proofs.Asked.{plain_kept}
 use Rattle.nts_uses.proofs.count.try_count.Goals as goal
@@ -24,7 +24,7 @@ count_goals-requires-clause-table c =
 pub count_goals-requires-clause-ready : goal.count_goals-requires-clause-ready
 count_goals-requires-clause-ready c =
     let both = Extends-trans c.in_ok-goal_is_admitted.ensures.grows.extends c.in_ok-goal_is_admitted-2.ensures.grows.extends in
-    AreReady-kept _ _ c.args.rules.now c.requires.ready (Extends-trans (Extends-trans both c.in_ok-is_plain.ensures.grows.extends) c.in_ok-is_plain-2.ensures.grows.extends)
+    AreClausesReady-kept _ _ c.args.rules.now c.requires.ready (Extends-trans (Extends-trans both c.in_ok-is_plain.ensures.grows.extends) c.in_ok-is_plain-2.ensures.grows.extends)
 
 pub count_goals-requires-clause-left : goal.count_goals-requires-clause-left
 count_goals-requires-clause-left c =

@@ -1,6 +1,6 @@
 use Rattle.nts_store.proofs.Growing.{Extends-trans}
 use Rattle.nts_table.specs.TableLaws.{IsTable-extended}
-use Rattle.nts_delegate.specs.ClausesKept.{AreReady-kept}
+use Rattle.nts_delegate.specs.ClausesKept.{AreClausesReady-kept}
 use Rattle.nts_uses.proofs.Asked.{plain_kept}
 use Rattle.nts_uses.proofs.errors.try_errors.Goals as goal
 
@@ -22,7 +22,7 @@ err_in_probes-answer-requires-clause-table c =
 pub err_in_probes-answer-requires-clause-ready : goal.err_in_probes-answer-requires-clause-ready
 err_in_probes-answer-requires-clause-ready c =
     let before = Extends-trans (Extends-trans c.in_ok-env.ensures.grows.extends c.in_ok-is_plain.ensures.grows.extends) c.in_ok-is_plain-2.ensures.grows.extends in
-    AreReady-kept _ _ c.args.rules.now c.requires.ready (Extends-trans before c.in_ok-is_plain-3.ensures.grows.extends)
+    AreClausesReady-kept _ _ c.args.rules.now c.requires.ready (Extends-trans before c.in_ok-is_plain-3.ensures.grows.extends)
 
 pub err_in_probes-answer-requires-clause-left : goal.err_in_probes-answer-requires-clause-left
 err_in_probes-answer-requires-clause-left c =

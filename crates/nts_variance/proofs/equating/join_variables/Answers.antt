@@ -1,7 +1,7 @@
 use Rattle.std.proofs.Common.{arith}
 use Rattle.nts_store.specs.Growth.{tree_at}
 use Rattle.nts_unify.specs.Reading.{content_of}
-use Rattle.nts_unify.proofs.Keeping.{Keeps-refl}
+use Rattle.nts_unify.proofs.Keeping.{KeepsKnowing-refl}
 use Rattle.nts_relating.proofs.PairLemmas.{err_of}
 use Rattle.nts_variance.proofs.Joining.{takes_joined, takes_twice, refuses_joined, meet_as_one}
 use Rattle.nts_variance.proofs.equating.join_variables.Goals as goal
@@ -52,4 +52,4 @@ returns-else-made-clause-taken c = λ declared.
 pub returns-else-made-clause-paid : goal.returns-else-made-clause-paid
 returns-else-made-clause-paid c =
     let same = c.in-Ok.ensures.related.same c.if-made.false in
-    rw (same.0, same.1) (Keeps-refl (content_of c.args.nodes.now c.args.table.now.entries))
+    rw (same.0, same.1) (KeepsKnowing-refl (content_of c.args.nodes.now c.args.table.now.entries))

@@ -2,7 +2,7 @@ use Rattle.std.proofs.Common.{inl, inr, ap}
 use Rattle.nts_model.specs.Tables.Resolving.{deeply_resolved}
 use Rattle.nts_store.specs.Growth.{tree_at}
 use Rattle.nts_unify.specs.Reading.{content_of}
-use Rattle.nts_unify.proofs.Keeping.{Keeps-refl}
+use Rattle.nts_unify.proofs.Keeping.{KeepsKnowing-refl}
 use Rattle.nts_variance.proofs.Refusals.{refuses_owed}
 use Rattle.nts_variance.proofs.Takes.{takes_one}
 use Rattle.nts_variance.proofs.equating.take_nodes.Goals as goal
@@ -15,7 +15,7 @@ returns-then-not-flags-clause-taken c = λ declared.
     (c.requires.lawful, takes_one declared (content_of ts c.args.table.now.entries) p.variance (tree_at ts p.left) (tree_at ts p.right) c.requires.lawful.sound (λ f on. ap (deeply_resolved f) one))
 
 pub returns-then-not-flags-clause-paid : goal.returns-then-not-flags-clause-paid
-returns-then-not-flags-clause-paid c = Keeps-refl (content_of c.args.nodes.now c.args.table.now.entries)
+returns-then-not-flags-clause-paid c = KeepsKnowing-refl (content_of c.args.nodes.now c.args.table.now.entries)
 
 pub returns-then-is_loose-clause-no : goal.returns-then-is_loose-clause-no
 returns-then-is_loose-clause-no c = λ declared q.

@@ -5,7 +5,7 @@ use Rattle.nts_model.specs.Variances.Forms.{variances_over}
 use Rattle.nts_store.specs.Growth.{tree_at}
 use Rattle.nts_terms.specs.Signatures.{variances_in}
 use Rattle.nts_variance.specs.Steps.{stacked}
-use Rattle.nts_variance.specs.Parts.{form_of, parts_of, variance_in, variances_from}
+use Rattle.nts_variance.specs.Parts.{form_of_tree, parts_of, variance_in, variances_from}
 use Rattle.nts_variance.specs.Terms.{pair_at}
 use Rattle.nts_variance.proofs.Runs.{stacked-push}
 use Rattle.nts_variance.proofs.Pushing.{variance_of_place, over_has_parts}
@@ -19,7 +19,7 @@ loop-i-init c =
     let count : c.child_count-count.result ≡ row_length (parts_of a) = c.child_count-count.ensures.count ∙ ap row_length c.holder-left.ensures.parts in
     record {
       within = omega (arith, count);
-      pairs = sym (pairs_none c.args.pair.variance (variances_over (variances_in c.args.declarations.now) (form_of a) (parts_of a)) (parts_of a) (parts_of (tree_at ts c.args.pair.right)) _ _ c.holder-left.ensures.row count);
+      pairs = sym (pairs_none c.args.pair.variance (variances_over (variances_in c.args.declarations.now) (form_of_tree a) (parts_of a)) (parts_of a) (parts_of (tree_at ts c.args.pair.right)) _ _ c.holder-left.ensures.row count);
       known = λ d ka kb h. h;
     }
 
@@ -31,7 +31,7 @@ loop-i-preserved c =
     let b = tree_at ts p.right in
     let i = c.loop-i.invariant in
     let k = c.loop-i.i - 1 in
-    let ws = variances_over (variances_in c.args.declarations.now) (form_of a) (parts_of a) in
+    let ws = variances_over (variances_in c.args.declarations.now) (form_of_tree a) (parts_of a) in
     let count : c.child_count-count.result ≡ row_length (parts_of a) = c.child_count-count.ensures.count ∙ ap row_length c.holder-left.ensures.parts in
     let step : c.loop-i.i ≡ k + 1 = omega (arith, c.loop-i-test.true) in
     let less : k < row_length (parts_of a) = omega (arith, c.loop-i-test.true, i.within) in
@@ -40,7 +40,7 @@ loop-i-preserved c =
     let is = c.label-label.ensures.is in
     let again = c.requires.form.left in
     let whole = again.with_parts in
-    let with_label = over_has_parts (form_of a) (parts_of a) c.label-label.result _ (sym whole.is ∙ is) in
+    let with_label = over_has_parts (form_of_tree a) (parts_of a) c.label-label.result _ (sym whole.is ∙ is) in
     let vary_at : first_variance (variances_from k ws) ≡ variance_in (variances_in c.args.declarations.now) c.label-label.result k (row_length (parts_of a)) = variance_of_place (variances_in c.args.declarations.now) a c.label-label.result (children a) k is with_label c.holder-left.ensures.row less in
     let left_at : tree_at ts c.child.result ≡ row_at (parts_of a) k = c.child.ensures.tree ∙ ap (λ r. row_at r k) c.holder-left.ensures.parts in
     let right_at : tree_at ts c.child-in-loop-i.result ≡ row_at (parts_of b) k = c.child-in-loop-i.ensures.tree ∙ ap (λ r. row_at r k) c.holder-right.ensures.parts in

@@ -3,7 +3,7 @@ use Rattle.nts_model.specs.Tables.Resolving.{deeply_resolved}
 use Rattle.nts_store.specs.Growth.{tree_at}
 use Rattle.nts_unify.specs.Changing.{is_free_region}
 use Rattle.nts_unify.specs.Reading.{content_of}
-use Rattle.nts_unify.proofs.Keeping.{Keeps-refl}
+use Rattle.nts_unify.proofs.Keeping.{KeepsKnowing-refl}
 use Rattle.nts_relating.proofs.RefusalLemmas.{true_false}
 use Rattle.nts_relating.proofs.RegionLemmas.{region_of_term}
 use Rattle.nts_variance.specs.Parts.{has_parts}
@@ -65,7 +65,7 @@ pub returns-then-names_free_region-2-clause-paid : goal.returns-then-names_free_
 returns-then-names_free_region-2-clause-paid c = done_paid c.take_regions.result _ _ (pair_at c.args.nodes.now c.args.pair) c.take_regions.ensures.kept c.take_regions.ensures.done
 
 pub returns-then-not-has_parts-clause-paid : goal.returns-then-not-has_parts-clause-paid
-returns-then-not-has_parts-clause-paid c = Keeps-refl (content_of c.args.nodes.now c.args.table.now.entries)
+returns-then-not-has_parts-clause-paid c = KeepsKnowing-refl (content_of c.args.nodes.now c.args.table.now.entries)
 
 pub returns-clause-paid : goal.returns-clause-paid
 returns-clause-paid c = parts_paid c.take_parts.result (content_of c.args.nodes.now c.args.table.now.entries) (content_of c.args.nodes.now c.args.table.now.entries) (pair_at c.args.nodes.now c.args.pair) c.take_parts.ensures.parts c.requires.left_rigid c.requires.right_rigid

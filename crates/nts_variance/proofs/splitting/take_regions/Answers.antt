@@ -6,9 +6,9 @@ use Rattle.nts_model.proofs.Variances.Generalizing.{owed}
 use Rattle.nts_store.specs.Growth.{tree_at}
 use Rattle.nts_unify.specs.Lawful.{IsLawful-constrained, content_of-constrained}
 use Rattle.nts_unify.specs.Reading.{content_of, IsConstraint}
-use Rattle.nts_unify.proofs.Keeping.{Keeps-refl, Keeps-with_constraint}
+use Rattle.nts_unify.proofs.Keeping.{KeepsKnowing-refl, KeepsKnowing-with_constraint}
 use Rattle.nts_relating.proofs.RegionLemmas.{region_variable_at}
-use Rattle.nts_variance.specs.Varying.{constraint_of}
+use Rattle.nts_variance.specs.Varying.{constraint_of_pair}
 use Rattle.nts_variance.proofs.Leaves.{owed_seen}
 use Rattle.nts_variance.proofs.Looks.{recorded_by}
 use Rattle.nts_variance.proofs.Owing.{pair_constraint}
@@ -38,13 +38,13 @@ returns-clause-taken c = λ declared.
     let left = c.requires.left in
     let right = c.requires.right in
     let equated : IsConstraint ts (content_of ts e) (record { relation = relation.Equal; left = p.left; right = p.right; is_visible = true }) = record { left_in = left.within; right_in = right.within; left_known = left.knows; right_known = right.knows; left_sort = left.sort; right_sort = right.sort; regions = (left.free, right.free) } in
-    let lawful = IsLawful-constrained ts e (constraint_of p) c.requires.lawful (pair_constraint ts e false p.variance p.left p.right equated) in
+    let lawful = IsLawful-constrained ts e (constraint_of_pair p) c.requires.lawful (pair_constraint ts e false p.variance p.left p.right equated) in
     let entries = c.in_ok-record_regions.ensures.entries in
-    let content : content_of ts c.record_regions.new.table.entries ≡ with_constraint (content_of ts e) (owed p.variance a b) = ap (content_of ts) entries ∙ content_of-constrained ts e (constraint_of p) ∙ ap (with_constraint (content_of ts e)) (recorded_by ts false p.variance p.left p.right) in
+    let content : content_of ts c.record_regions.new.table.entries ≡ with_constraint (content_of ts e) (owed p.variance a b) = ap (content_of ts) entries ∙ content_of-constrained ts e (constraint_of_pair p) ∙ ap (with_constraint (content_of ts e)) (recorded_by ts false p.variance p.left p.right) in
     (rw entries lawful, rw content (takes_regions declared (content_of ts e) p.variance a b c.requires.lawful.sound left.knows right.knows left.free right.free))
 
 pub returns-then-root-clause-kept : goal.returns-then-root-clause-kept
-returns-then-root-clause-kept c = Keeps-refl (content_of c.args.nodes.now c.args.table.now.entries)
+returns-then-root-clause-kept c = KeepsKnowing-refl (content_of c.args.nodes.now c.args.table.now.entries)
 
 pub returns-clause-kept : goal.returns-clause-kept
 returns-clause-kept c =
@@ -54,5 +54,5 @@ returns-clause-kept c =
     let a = tree_at ts p.left in
     let b = tree_at ts p.right in
     let entries = c.in_ok-record_regions.ensures.entries in
-    let content : content_of ts c.record_regions.new.table.entries ≡ with_constraint (content_of ts e) (owed p.variance a b) = ap (content_of ts) entries ∙ content_of-constrained ts e (constraint_of p) ∙ ap (with_constraint (content_of ts e)) (recorded_by ts false p.variance p.left p.right) in
-    rw content (Keeps-with_constraint (content_of ts e) (owed p.variance a b) (owed_seen p.variance a b (region_closed 0 a c.requires.left.free) (region_closed 0 b c.requires.right.free)))
+    let content : content_of ts c.record_regions.new.table.entries ≡ with_constraint (content_of ts e) (owed p.variance a b) = ap (content_of ts) entries ∙ content_of-constrained ts e (constraint_of_pair p) ∙ ap (with_constraint (content_of ts e)) (recorded_by ts false p.variance p.left p.right) in
+    rw content (KeepsKnowing-with_constraint (content_of ts e) (owed p.variance a b) (owed_seen p.variance a b (region_closed 0 a c.requires.left.free) (region_closed 0 b c.requires.right.free)))

@@ -8,13 +8,13 @@ use Rattle.nts_variance.specs.Varying.{IsWalk}
 use Rattle.nts_store.specs.Growth.{tree_at}
 use Rattle.nts_variance.specs.declared.vary_walk.Task.TheVariants as task
 use Rattle.nts_variance.specs.Parts.{parts_of}
-use Rattle.nts_variance.specs.Terms.{IsNode}
+use Rattle.nts_variance.specs.Terms.{IsNodeOfTable}
 use Rattle.nts_unify.specs.Reading.{content_of}
 use Rattle.nts_variance.proofs.Pushing.{node_with_parts, rows_long, split_at, parts_long}
 use Rattle.nts_variance.proofs.VaryTurns.{task_last, parts_few, parts_in, parts_fit, turn_built}
 use Rattle.nts_variance.proofs.vary_walk.build.Goals as goal
 
-own : {ts : List Tree} {e : Entries} {u x : ℕ} (xs : List Task) (t : NodeId) {ms : List NodeId} {gs : List Relating} → IsWalk ts e u x (xs ++ task.Build t ∷ []) ms gs → IsNode ts (content_of ts e) t
+own : {ts : List Tree} {e : Entries} {u x : ℕ} (xs : List Task) (t : NodeId) {ms : List NodeId} {gs : List Relating} → IsWalk ts e u x (xs ++ task.Build t ∷ []) ms gs → IsNodeOfTable ts (content_of ts e) t
 own {ts} {e} {u} {x} xs t {ms} {gs} w = task_last (λ n. []) false u x ts e xs (task.Build t) ms gs w
 
 pub label-label-requires : goal.label-label-requires

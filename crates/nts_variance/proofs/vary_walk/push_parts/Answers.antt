@@ -7,7 +7,7 @@ use Rattle.nts_store.specs.Growth.{tree_at}
 use Rattle.nts_terms.specs.Signatures.{variances_in}
 use Rattle.nts_variance.specs.declared.vary_walk.Task.TheVariants as task
 use Rattle.nts_variance.specs.Steps.{stacked}
-use Rattle.nts_variance.specs.Parts.{form_of, parts_of, variance_in, variances_from}
+use Rattle.nts_variance.specs.Parts.{form_of_tree, parts_of, variance_in, variances_from}
 use Rattle.nts_variance.specs.Terms.{step_at}
 use Rattle.nts_variance.proofs.Runs.{stacked-push}
 use Rattle.nts_variance.proofs.Pushing.{entering_none, entering_one, variance_of_place, part_entered, over_has_parts, sorts_fit, tasks_push}
@@ -21,7 +21,7 @@ loop-i-init c =
     let items = c.in_ok-push.ensures.items in
     record {
       within = omega (arith, count);
-      steps = sym (entering_none c.args.spot.variance (variances_over (variances_in c.args.declarations.now) (form_of t) (parts_of t)) c.args.spot.is_quiet (parts_of t) _ _ c.holder-row.ensures.row count);
+      steps = sym (entering_none c.args.spot.variance (variances_over (variances_in c.args.declarations.now) (form_of_tree t) (parts_of t)) c.args.spot.is_quiet (parts_of t) _ _ c.holder-row.ensures.row count);
       tasks = λ d known h. h;
     }
 
@@ -37,14 +37,14 @@ loop-i-preserved c =
     let items = c.in_ok-push-2.ensures.items in
     let is = c.label-label.ensures.is in
     let whole = c.requires.again.with_parts in
-    let with_label = over_has_parts (form_of t) (parts_of t) c.label-label.result _ (sym whole.is ∙ is) in
-    let vary_at : first_variance (variances_from k (variances_over (variances_in c.args.declarations.now) (form_of t) (parts_of t))) ≡ variance_in (variances_in c.args.declarations.now) c.label-label.result k (row_length (parts_of t)) = variance_of_place (variances_in c.args.declarations.now) t c.label-label.result (children t) k is with_label c.holder-row.ensures.row less in
+    let with_label = over_has_parts (form_of_tree t) (parts_of t) c.label-label.result _ (sym whole.is ∙ is) in
+    let vary_at : first_variance (variances_from k (variances_over (variances_in c.args.declarations.now) (form_of_tree t) (parts_of t))) ≡ variance_in (variances_in c.args.declarations.now) c.label-label.result k (row_length (parts_of t)) = variance_of_place (variances_in c.args.declarations.now) t c.label-label.result (children t) k is with_label c.holder-row.ensures.row less in
     let at : tree_at ts c.child.result ≡ row_at (parts_of t) k = c.child.ensures.tree ∙ ap (λ r. row_at r k) c.holder-row.ensures.parts in
-    let vary : c.variance_of_part-argument.result ≡ first_variance (variances_from k (variances_over (variances_in c.args.declarations.now) (form_of t) (parts_of t))) = c.variance_of_part-argument.ensures ∙ ap (variance_in (variances_in c.args.declarations.now) c.label-label.result k) count ∙ sym vary_at in
+    let vary : c.variance_of_part-argument.result ≡ first_variance (variances_from k (variances_over (variances_in c.args.declarations.now) (form_of_tree t) (parts_of t))) = c.variance_of_part-argument.ensures ∙ ap (variance_in (variances_in c.args.declarations.now) c.label-label.result k) count ∙ sym vary_at in
     let room : c.args.spot.binders + c.binders_of.result + c.child.result.number < 2 ^ 64 = (let small = binders_le c.label-label.result in omega (arith, c.binders_of.ensures, small, c.child.ensures.before, c.holder-row.ensures.before, c.requires.room)) in
     record {
       within = omega (arith, less);
-      steps = ap (stacked (step_at ts)) items ∙ stacked-push (step_at ts) c.loop-i.tasks.items _ ∙ entering_one c.args.spot.variance c.times.result (variances_over (variances_in c.args.declarations.now) (form_of t) (parts_of t)) c.args.spot.is_quiet (parts_of t) (tree_at ts c.child.result) _ _ c.loop-i.i k step less at (c.times.ensures ∙ ap (times c.args.spot.variance) vary) i.steps;
+      steps = ap (stacked (step_at ts)) items ∙ stacked-push (step_at ts) c.loop-i.tasks.items _ ∙ entering_one c.args.spot.variance c.times.result (variances_over (variances_in c.args.declarations.now) (form_of_tree t) (parts_of t)) c.args.spot.is_quiet (parts_of t) (tree_at ts c.child.result) _ _ c.loop-i.i k step less at (c.times.ensures ∙ ap (times c.args.spot.variance) vary) i.steps;
       tasks = λ d known h. rw items (tasks_push ts d c.loop-i.tasks.items _ (i.tasks d known h) (part_entered ts d c.args.spot.term c.child.result c.label-label.result k c.args.spot.binders _ c.requires.again is less c.requires.closed known c.child.ensures.within at refl (ap (λ n. c.args.spot.binders + n) c.binders_of.ensures) room));
     }
 
@@ -58,5 +58,5 @@ returns-clause-pushed c =
     let first = ap (stacked (step_at ts)) items ∙ stacked-push (step_at ts) c.args.tasks.now.items (task.Build c.args.spot.term) in
     record {
       steps = rw first at (rw none at i.steps);
-      tasks = λ d known h. i.tasks d known (rw items (tasks_push ts d c.args.tasks.now.items (task.Build c.args.spot.term) h (record { within = c.requires.within; knows = known; is = c.requires.again.with_parts.is; sorts = sorts_fit (form_of t) (parts_of t) c.requires.again.fits })));
+      tasks = λ d known h. i.tasks d known (rw items (tasks_push ts d c.args.tasks.now.items (task.Build c.args.spot.term) h (record { within = c.requires.within; knows = known; is = c.requires.again.with_parts.is; sorts = sorts_fit (form_of_tree t) (parts_of t) c.requires.again.fits })));
     }

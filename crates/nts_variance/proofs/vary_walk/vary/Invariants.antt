@@ -3,7 +3,7 @@ use Rattle.nts_terms.specs.Signatures.{variances_in}
 use Rattle.nts_unify.specs.Entries.{KeepsHidden}
 use Rattle.nts_unify.specs.Reading.{content_of}
 use Rattle.nts_variance.specs.Steps.{stacked}
-use Rattle.nts_variance.specs.Walking.{weights}
+use Rattle.nts_variance.specs.Walking.{step_weights}
 use Rattle.nts_variance.specs.Terms.{step_at}
 use Rattle.nts_variance.proofs.VaryTurns.{WalkRun}
 use Rattle.nts_variance.proofs.vary_walk.vary.Given as goal
@@ -16,4 +16,4 @@ invariant-loop-task l = record {
 }
 
 abbrev pub decreases-loop-task : goal.decreases-loop-task
-decreases-loop-task l = weights (content_of l.nodes l.table.entries) (stacked (step_at l.nodes) l.walk.tasks.items)
+decreases-loop-task l = step_weights (content_of l.nodes l.table.entries) (stacked (step_at l.nodes) l.walk.tasks.items)

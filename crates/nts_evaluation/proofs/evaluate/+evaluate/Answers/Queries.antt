@@ -33,7 +33,7 @@ use Rattle.nts_canonical.specs.declared.types.Canonical.{Canonical}
 use Rattle.nts_response.specs.declared.types.Response.{Response}
 use Rattle.nts_terms.specs.Handles.{HoldsGoal}
 use Rattle.nts_store.specs.Kept.{map-kept, AllIn-kept}
-use Rattle.nts_queries.specs.Telling.{IsPlain}
+use Rattle.nts_queries.specs.Telling.{IsPlainResponse}
 use Rattle.nts_queries.specs.Telling.Tells.{tells_nothing, says_nothing}
 use Rattle.nts_queries.specs.Telling.Fails.{is_unmet}
 use Rattle.nts_queries.proofs.Filtered.{kept_candidates, kept_outcomes, kept_tell}

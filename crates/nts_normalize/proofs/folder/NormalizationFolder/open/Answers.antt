@@ -2,18 +2,18 @@ use Rattle.std.proofs.Common.{◌∙◌, Err, ap, refl, sym}
 use Rattle.nts_table.specs.TableLaws.{IsTable-extended}
 use Rattle.nts_folding.proofs.Folded.{on_err}
 use Rattle.nts_normalize.proofs.Asked.{of_fault}
-use Rattle.nts_normalize.proofs.Stepping.{Goes-changed, fills}
+use Rattle.nts_normalize.proofs.Stepping.{FolderGoes-changed, fills}
 use Rattle.nts_normalize.proofs.folder.NormalizationFolder.open.Goals as goal
 
 pub returns-in_err-opened-clause-goes : goal.returns-in_err-opened-clause-goes
 returns-in_err-opened-clause-goes g c =
     let did = c.replace_bound_vars.ensures in
-    Goes-changed c.requires.ready did.grows (did.table _ (IsTable-extended did.grows.extends c.requires.ready.table)) did.changes refl
+    FolderGoes-changed c.requires.ready did.grows (did.table _ (IsTable-extended did.grows.extends c.requires.ready.table)) did.changes refl
 
 pub returns-clause-goes : goal.returns-clause-goes
 returns-clause-goes g c =
     let did = c.replace_bound_vars.ensures in
-    Goes-changed c.requires.ready did.grows (did.table _ (IsTable-extended did.grows.extends c.requires.ready.table)) did.changes refl
+    FolderGoes-changed c.requires.ready did.grows (did.table _ (IsTable-extended did.grows.extends c.requires.ready.table)) did.changes refl
 
 pub returns-clause-opens : goal.returns-clause-opens
 returns-clause-opens g c =

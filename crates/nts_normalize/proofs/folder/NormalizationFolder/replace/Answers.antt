@@ -3,11 +3,11 @@ use Rattle.nts_store.proofs.Growing.{Extends-refl}
 use Rattle.nts_normalize.specs.Normalizing.{collected}
 use Rattle.nts_folding.proofs.Folded.{on_same_err}
 use Rattle.nts_normalize.proofs.Asked.{at_closed}
-use Rattle.nts_normalize.proofs.Stepping.{Goes-collects, collected_held, collects}
+use Rattle.nts_normalize.proofs.Stepping.{FolderGoes-collects, collected_held, collects}
 use Rattle.nts_normalize.proofs.folder.NormalizationFolder.replace.Goals as goal
 
 pub returns-clause-goes : goal.returns-clause-goes
-returns-clause-goes g c = Goes-collects (collected c.in_ok-term.goal) c.ask.ensures.goes c.collect.ensures.table c.in_ok-collect.ensures.goals (collected_held (Extends-refl _) c.in_ok-term.goal c.in_ok-term.ensures.answer.goal)
+returns-clause-goes g c = FolderGoes-collects (collected c.in_ok-term.goal) c.ask.ensures.goes c.collect.ensures.table c.in_ok-collect.ensures.goals (collected_held (Extends-refl _) c.in_ok-term.goal c.in_ok-term.ensures.answer.goal)
 
 pub returns-clause-rebuilds : goal.returns-clause-rebuilds
 returns-clause-rebuilds g c =

@@ -9,18 +9,18 @@ use Rattle.nts_normalize.specs.Normalizing.{collected, IsLeftOut}
 use Rattle.nts_unify.specs.Lawful.{content_of-extended}
 use Rattle.nts_normalize.specs.Walking.{standing_of-kept}
 use Rattle.nts_folding.proofs.Folded.{on_same_err}
-use Rattle.nts_normalize.proofs.Stepping.{Goes-trans, Goes-grown, Goes-collects, collected_held, collects, known_on, result_kind}
+use Rattle.nts_normalize.proofs.Stepping.{FolderGoes-trans, FolderGoes-grown, FolderGoes-collects, collected_held, collects, known_on, result_kind}
 use Rattle.nts_normalize.proofs.folder.NormalizationFolder.replace_opened.Goals as goal
 
 pub returns-in_err-is_left_out-clause-goes : goal.returns-in_err-is_left_out-clause-goes
-returns-in_err-is_left_out-clause-goes g c = Goes-grown c.ask.ensures.goes c.is_left_out.ensures.grows
+returns-in_err-is_left_out-clause-goes g c = FolderGoes-grown c.ask.ensures.goes c.is_left_out.ensures.grows
 
 pub returns-then-branch-clause-goes : goal.returns-then-branch-clause-goes
-returns-then-branch-clause-goes g c = Goes-grown c.ask.ensures.goes c.is_left_out.ensures.grows
+returns-then-branch-clause-goes g c = FolderGoes-grown c.ask.ensures.goes c.is_left_out.ensures.grows
 
 pub returns-then-branch-clause-ends : goal.returns-then-branch-clause-ends
 returns-then-branch-clause-ends g c =
-    let all = Goes-grown c.ask.ensures.goes c.is_left_out.ensures.grows in
+    let all = FolderGoes-grown c.ask.ensures.goes c.is_left_out.ensures.grows in
     let yes : IsTrue c.in_ok-is_left_out.field-0 = c.if-branch.true in
     let left = c.in_ok-is_left_out.ensures.left_out.0 yes in
     record {
@@ -32,7 +32,7 @@ returns-then-branch-clause-ends g c =
     }
 
 pub close-requires-clause-ready : goal.close-requires-clause-ready
-close-requires-clause-ready g c = (Goes-grown c.ask.ensures.goes c.is_left_out.ensures.grows).ready
+close-requires-clause-ready g c = (FolderGoes-grown c.ask.ensures.goes c.is_left_out.ensures.grows).ready
 
 pub close-requires-clause-known : goal.close-requires-clause-known
 close-requires-clause-known g c =
@@ -40,18 +40,18 @@ close-requires-clause-known g c =
     known_on _ _ c.is_left_out.ensures.grows.extends c.ask.ensures.goes.ready.table answer.holds.within answer.known
 
 pub returns-in_err-closed-clause-goes : goal.returns-in_err-closed-clause-goes
-returns-in_err-closed-clause-goes g c = Goes-grown (Goes-grown c.ask.ensures.goes c.is_left_out.ensures.grows) c.close.ensures.grows
+returns-in_err-closed-clause-goes g c = FolderGoes-grown (FolderGoes-grown c.ask.ensures.goes c.is_left_out.ensures.grows) c.close.ensures.grows
 
 pub returns-in_err-collect-clause-goes : goal.returns-in_err-collect-clause-goes
 returns-in_err-collect-clause-goes g c =
-    let all = Goes-grown (Goes-grown c.ask.ensures.goes c.is_left_out.ensures.grows) c.close.ensures.grows in
-    Goes-collects [] all c.collect.ensures.table (c.in_err-collect.ensures.goals_err ∙ sym (append-nil _)) (search rules)
+    let all = FolderGoes-grown (FolderGoes-grown c.ask.ensures.goes c.is_left_out.ensures.grows) c.close.ensures.grows in
+    FolderGoes-collects [] all c.collect.ensures.table (c.in_err-collect.ensures.goals_err ∙ sym (append-nil _)) (search rules)
 
 pub returns-clause-goes : goal.returns-clause-goes
 returns-clause-goes g c =
-    let all = Goes-grown (Goes-grown c.ask.ensures.goes c.is_left_out.ensures.grows) c.close.ensures.grows in
+    let all = FolderGoes-grown (FolderGoes-grown c.ask.ensures.goes c.is_left_out.ensures.grows) c.close.ensures.grows in
     let on = Extends-trans c.is_left_out.ensures.grows.extends c.close.ensures.grows.extends in
-    Goes-collects (collected c.in_ok-term.goal) all c.collect.ensures.table c.in_ok-collect.ensures.goals (collected_held on c.in_ok-term.goal c.in_ok-term.ensures.answer.goal)
+    FolderGoes-collects (collected c.in_ok-term.goal) all c.collect.ensures.table c.in_ok-collect.ensures.goals (collected_held on c.in_ok-term.goal c.in_ok-term.ensures.answer.goal)
 
 pub returns-clause-kind : goal.returns-clause-kind
 returns-clause-kind g c =

@@ -2,11 +2,11 @@ use Rattle.std.proofs.Common.{ap}
 use Rattle.nts_model.specs.Terms.Trees.{kind_of}
 use Rattle.nts_folding.proofs.Folded.{on_same_err}
 use Rattle.nts_normalize.proofs.Asked.{not_opened, errors_asked, replaced_opened, kinds_opened}
-use Rattle.nts_normalize.proofs.Stepping.{Goes-trans}
+use Rattle.nts_normalize.proofs.Stepping.{FolderGoes-trans}
 use Rattle.nts_normalize.proofs.folder.NormalizationFolder.replace_under.Goals as goal
 
 pub returns-clause-goes : goal.returns-clause-goes
-returns-clause-goes g c = Goes-trans c.open.ensures.goes c.replace_opened.ensures.goes
+returns-clause-goes g c = FolderGoes-trans c.open.ensures.goes c.replace_opened.ensures.goes
 
 pub returns-clause-kind : goal.returns-clause-kind
 returns-clause-kind g c =

@@ -3,7 +3,7 @@ use Rattle.std.proofs.lemmas.List.{take_all}
 use Rattle.nts_store.proofs.Growing.{Extends-refl}
 use Rattle.nts_terms.proofs.Moved.{KeepsRest-refl}
 use Rattle.nts_queries.specs.Adding.{AreAdded}
-use Rattle.nts_queries.proofs.Evaluating.{Goes-extends, IsPosed-later, AreValues-later, IsNested-extended, nested_at}
+use Rattle.nts_queries.proofs.Evaluating.{Goes-extends, IsPosed-later, AreValues-later, IsNestedIn-extended, nested_at}
 use Rattle.nts_queries.proofs.Adding.{grown_more, added_none, added_more}
 use Rattle.nts_queries.proofs.candidate.Trial.added_goals.Goals as goal
 
@@ -19,7 +19,7 @@ added_goal-requires-clause-posed c = IsPosed-later (Goes-extends c.requires.pose
 
 pub added_goal-requires-clause-nested : goal.added_goal-requires-clause-nested
 added_goal-requires-clause-nested c =
-    IsNested-extended c.loop-asked.invariant.grows.extends c.requires.posed.holds (nested_at c.args.cx.now.nodes c.args.self.fresh.now c.args.self.goal c.args.nested.now c.loop-asked.asked-index _ c.requires.nested c.loop-asked-test.true)
+    IsNestedIn-extended c.loop-asked.invariant.grows.extends c.requires.posed.holds (nested_at c.args.cx.now.nodes c.args.self.fresh.now c.args.self.goal c.args.nested.now c.loop-asked.asked-index _ c.requires.nested c.loop-asked-test.true)
 
 pub added_goal-requires-clause-values : goal.added_goal-requires-clause-values
 added_goal-requires-clause-values c = AreValues-later (Goes-extends c.requires.posed.table c.loop-asked.invariant.grows.extends) c.requires.values

@@ -1,8 +1,8 @@
-use Rattle.nts_queries.proofs.Evaluating.{IsOver-extended, HoldsValues-extended, IsInstance-later, IsInstance-earlier}
+use Rattle.nts_queries.proofs.Evaluating.{IsOverIn-extended, HoldsValues-extended, IsInstance-later, IsInstance-earlier}
 use Rattle.nts_queries.proofs.candidate.Trial.instantiate_both.Goals as goal
 
 pub instantiate-requires-2-clause-over : goal.instantiate-requires-2-clause-over
-instantiate-requires-2-clause-over c = IsOver-extended c.in_ok-left.ensures.grows.extends c.requires.holds c.requires.right
+instantiate-requires-2-clause-over c = IsOverIn-extended c.in_ok-left.ensures.grows.extends c.requires.holds c.requires.right
 
 pub instantiate-requires-2-clause-values : goal.instantiate-requires-2-clause-values
 instantiate-requires-2-clause-values c = HoldsValues-extended c.in_ok-left.ensures.grows.extends c.requires.values

@@ -1,6 +1,6 @@
 use Rattle.std.proofs.Common.{[], ◌∷◌}
 use Rattle.std.proofs.lemmas.List.Elements.{All-nil, All-cons}
-use Rattle.nts_contexts.specs.Contexts.{IsGoalOf}
+use Rattle.nts_contexts.specs.Contexts.{IsGoalOfContext}
 use Rattle.nts_contexts.proofs.Handed.{goal_later}
 use Rattle.nts_contexts.proofs.Frames.{keeps_then}
 use Rattle.nts_uses.proofs.count.fn.count_goals.fn.enter_root.probe+2.Goals as goal
@@ -10,8 +10,8 @@ add_goals-requires c =
     let e = c.in_ok-sub.ensures in
     record {
       ready = e.keeps.is_ready;
-      goals = All-cons (IsGoalOf c.sub.new.self) c.captures.first (c.captures.second ∷ []) (goal_later e.keeps c.requires.first)
-          (All-cons (IsGoalOf c.sub.new.self) c.captures.second [] (goal_later e.keeps c.requires.second) (All-nil (IsGoalOf c.sub.new.self)));
+      goals = All-cons (IsGoalOfContext c.sub.new.self) c.captures.first (c.captures.second ∷ []) (goal_later e.keeps c.requires.first)
+          (All-cons (IsGoalOfContext c.sub.new.self) c.captures.second [] (goal_later e.keeps c.requires.second) (All-nil (IsGoalOfContext c.sub.new.self)));
     }
 
 pub returns-in_err-try_evaluate_added_goals : goal.returns-in_err-try_evaluate_added_goals
