@@ -11,7 +11,7 @@ use Rattle.nts_terms.specs.declared.handles.Predicate.{Predicate}
 use Rattle.nts_store.specs.TypeFlags.{flags_of, escaping}
 use Rattle.nts_store.specs.Growth.{tree_at, IsIn}
 use Rattle.nts_terms.specs.Handles.{HoldsPredicate}
-use Rattle.nts_store.specs.Labels.{AllLabels}
+use Rattle.nts_model.specs.Tables.Passing.{AllLabels}
 use Rattle.nts_store.proofs.Escaping.{closed_by_facts, escapes}
 use Rattle.nts_model.specs.Derivations.Handlers.{NamesFresh}
 use Rattle.nts_delegate.specs.Clauses.{MayHave, is_foreign, IsClauseTerm, AreBodies}

@@ -25,7 +25,7 @@ use Rattle.nts_delegate.specs.declared.clauses.Clause.{Clause}
 use Rattle.nts_delegate.specs.declared.clauses.Clauses.{Clauses}
 use Rattle.nts_delegate.specs.OwnTerms.{both_false}
 use Rattle.nts_delegate.specs.OwnClauses.{IsOwnTerm, AreOwnTerms, IsOwnClause, AreOwnClauses}
-use Rattle.nts_delegate.specs.HandlerLaws.{IsLawfulHandler-clauses, AreOffered-clauses}
+use Rattle.nts_delegate.specs.HandlerLaws.{IsLawfulHandler-clauses, AreOffered-clauses, row_of}
 
 own_term : (ts : List Tree) (fresh : List Sort) (t : NodeId) → AreFormed ts → IsClauseTerm ts fresh t → IsOwnTerm fresh (tree_at ts t)
 own_term ts fresh t f h =
@@ -39,11 +39,6 @@ own_bodies ts fresh (p ∷ ps) f h = (own_term ts fresh p.node f h.1, own_bodies
 own_arguments : (fresh : List Sort) (us : Tree) → IsOwnTerm fresh (node (label.List list.Args) us) → IsOwnTerm fresh us
 own_arguments fresh us h =
     record { names = h.names.1; own = (both_false false (any_label is_foreign us) h.own).1; formed = h.formed.1; closed = h.closed.1; well_bound = h.well_bound.1 }
-
-row_of : (t : Tree) → AllFit any_argument t → IsRow t
-row_of empty h = tt
-row_of (more a b) h = row_of b h.1
-row_of (node l c) h = absurd h
 
 own_clause : (ts : List Tree) (c : Clause) → AreFormed ts → HoldsClause ts c → IsOwnClause (clause_tree ts c)
 own_clause ts c f h =

@@ -44,7 +44,7 @@ record AreArguments (ts : Tree) : Type 0 where
   pub row : IsRow with_arguments
   pub is : ts ≡ arguments with_arguments
 
-row_of : (t : Tree) → AllFit any_argument t → IsRow t
+pub row_of : (t : Tree) → AllFit any_argument t → IsRow t
 row_of empty h = tt
 row_of (more a b) h = row_of b h.1
 row_of (node l c) h = absurd h

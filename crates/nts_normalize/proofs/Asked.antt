@@ -20,7 +20,8 @@ use Rattle.nts_placeholder.specs.Escaping.{escapes}
 use Rattle.nts_placeholder.specs.Universes.{RunsOut}
 use Rattle.nts_normalize.specs.declared.folder.NormalizationFolder.{NormalizationFolder}
 use Rattle.nts_normalize.specs.Calling.{ClosureNormalizes, Answer, IsCalled, tree_of_goal}
-use Rattle.nts_normalize.specs.Normalizing.{Standing, Asks, OpensAlias, IsAnsweredUnder, IsReplacedUnder, FailsToAsk, FailsUnder, FailsToNormalize, is_alias_tree, last_universe, in_universe}
+use Rattle.nts_model.specs.Tables.Contents.{in_universe}
+use Rattle.nts_normalize.specs.Normalizing.{Standing, Asks, OpensAlias, IsAnsweredUnder, IsReplacedUnder, FailsToAsk, FailsUnder, FailsToNormalize, is_alias_tree, last_universe}
 use Rattle.nts_normalize.specs.Walking.{standing_of, goals_same}
 
 pub asks_answer : {F : Type 0} (g : ClosureNormalizes F) (s : NormalizationFolder F) (t u : Table) (f : F) (a b : Cx) (x : AliasTerm) (r : Answer)

@@ -26,7 +26,8 @@ use Rattle.nts_placeholder.specs.Escaping.{escapes}
 use Rattle.nts_placeholder.specs.Universes.{AreFilled, open_before}
 use Rattle.nts_normalize.specs.declared.folder.NormalizationFolder.{NormalizationFolder}
 use Rattle.nts_normalize.specs.Calling.{ClosureNormalizes, tree_of_goal}
-use Rattle.nts_normalize.specs.Normalizing.{Fills, Collects, in_universe, collected}
+use Rattle.nts_model.specs.Tables.Contents.{in_universe}
+use Rattle.nts_normalize.specs.Normalizing.{Fills, Collects, collected}
 use Rattle.nts_normalize.specs.Walking.{IsFolderReady, FolderGoes, standing_of, goals_kept, goals_same, IsFolderReady-kept, FolderKeeps-trans}
 
 grows_on : (a b c : Cx) → Grows a b → Grows b c → Grows a c

@@ -3,7 +3,7 @@ use Rattle.std.specs.Prelude.{◌≡◌, ◌⊎◌, ◌+◌, ◌-◌, ◌≤◌,
 use Rattle.nts_model.specs.declared.labels.Sort.{Sort}
 use Rattle.nts_model.specs.declared.labels.VariableKind.{VariableKind}
 use Rattle.nts_model.specs.Terms.Trees.{Tree, empty, more, node, any_label, is_alias, IsClosed, IsClosedUnder, variable_of}
-use Rattle.nts_model.specs.Tables.Contents.{Content, universe_of}
+use Rattle.nts_model.specs.Tables.Contents.{Content, universe_of, in_universe}
 use Rattle.nts_model.specs.Tables.Passing.{AllLabels}
 use Rattle.nts_model.specs.Tables.Resolving.{deeply_resolved}
 use Rattle.nts_folding.specs.Folding.{Walk, Stops}
@@ -34,10 +34,6 @@ is_alias_tree (node l c) = is_alias l
 -- no universe comes after this one
 abbrev pub last_universe : ℕ
 last_universe = 4294967295
-
--- the content in this universe
-abbrev pub in_universe : Content → ℕ → Content
-in_universe c u = record c { universe = u }
 
 -- a goal that was left is collected
 abbrev pub collected : {A : Type 0} → Option A → List A

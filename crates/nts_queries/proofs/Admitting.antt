@@ -8,7 +8,7 @@ use Rattle.nts_store.specs.declared.type_flags.TypeFlags.{TypeFlags}
 use Rattle.nts_store.specs.declared.nodes.NodeId.{NodeId}
 use Rattle.nts_store.specs.TypeFlags.{flags_of, escaping}
 use Rattle.nts_store.specs.Growth.{tree_at}
-use Rattle.nts_store.specs.Labels.{AllLabels}
+use Rattle.nts_model.specs.Tables.Passing.{AllLabels}
 use Rattle.nts_store.proofs.Escaping.{escapes, closed_by_facts}
 use Rattle.nts_table.specs.Tables.{Table}
 use Rattle.nts_unify.specs.Reading.{content_of}

@@ -15,7 +15,7 @@ use Rattle.nts_store.specs.declared.type_flags.TypeFlags.{TypeFlags}
 use Rattle.nts_store.specs.declared.nodes.NodeId.{NodeId}
 use Rattle.nts_store.specs.TypeFlags.{flags_of, escaping}
 use Rattle.nts_store.specs.Growth.{tree_at}
-use Rattle.nts_store.specs.Labels.{AllLabels}
+use Rattle.nts_model.specs.Tables.Passing.{AllLabels}
 use Rattle.nts_store.proofs.Escaping.{escapes}
 use Rattle.nts_delegate.specs.Clauses.{is_foreign_leaf}
 use Rattle.nts_store.proofs.Escaping.{closed_by_facts}

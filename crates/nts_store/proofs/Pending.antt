@@ -7,7 +7,7 @@ use Rattle.std.specs.BTreeSet.{insert_key}
 use Rattle.std.specs.BTreeMap.Range.{IsLtBy}
 use Rattle.nts_model.specs.declared.labels.Label.{Label}
 use Rattle.nts_model.specs.Terms.Trees.{Tree, empty, more, node, row_length, row_at, row_take, IsRow}
-use Rattle.nts_store.specs.Labels.{AllLabels}
+use Rattle.nts_model.specs.Tables.Passing.{AllLabels}
 use Rattle.nts_store.specs.Levels.{above}
 use Rattle.nts_store.proofs.Growing.{row_take-all}
 

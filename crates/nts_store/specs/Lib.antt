@@ -4,7 +4,6 @@ pub mod Filled
 pub mod Formed
 pub mod Growth
 pub mod Kept
-pub mod Labels
 pub mod Levels
 pub mod Replacement
 pub mod Sorts

@@ -2,7 +2,7 @@
 ghost use Rattle.std.specs.Prelude.{◌≡◌, ◌↔◌, IfOk, IsTrue};
 ghost use Rattle.nts_model.specs.declared.labels.Label.{Label};
 ghost use Rattle.nts_store.specs.Growth.{tree_at, IsIn};
-ghost use Rattle.nts_store.specs.Labels.{AllLabels};
+ghost use Rattle.nts_model.specs.Tables.Passing.{AllLabels};
 
 use crate::nodes::{NodeId, Nodes};
 use nts_model::Label;

@@ -8,7 +8,7 @@ use Rattle.nts_model.specs.declared.labels.Leaf.TheVariants as leaf
 use Rattle.nts_model.specs.declared.labels.BoundVarIndexKind.TheVariants as index
 use Rattle.nts_model.specs.Terms.Substitutions.{StaysItself}
 use Rattle.nts_model.specs.Terms.Trees.{Tree, IsClosed}
-use Rattle.nts_store.specs.Labels.{AllLabels}
+use Rattle.nts_model.specs.Tables.Passing.{AllLabels}
 
 -- no inference variable, parameter or placeholder: a region that is always itself
 abbrev pub IsFixedLeaf : Leaf → Type 0

@@ -5,7 +5,7 @@ use Rattle.nts_model.specs.Terms.Trees.{Tree, empty, more, node, any_label, is_a
 use Rattle.nts_model.specs.Tables.Contents.{unset, state_of}
 use Rattle.nts_model.specs.Tables.Resolving.{resolved, IsSound}
 use Rattle.nts_model.proofs.Tables.Resolved.{resolved-empty, resolved-more, resolved-node, resolved-variable_unset}
-use Rattle.nts_store.specs.Labels.{AllLabels}
+use Rattle.nts_model.specs.Tables.Passing.{AllLabels}
 use Rattle.nts_relating.proofs.Plain.{neither}
 use Rattle.nts_unify.specs.declared.contents.State.{State}
 use Rattle.nts_unify.specs.declared.contents.State.TheVariants as state

@@ -1,6 +1,6 @@
 //! Whether an alias may hide behind the variables of a term.
 ghost use Rattle.std.specs.Prelude.{◌≡◌, ◌↔◌, IsTrue, true, false, IfOk};
-ghost use Rattle.nts_store.specs.Labels.{AllLabels};
+ghost use Rattle.nts_model.specs.Tables.Passing.{AllLabels};
 ghost use Rattle.nts_model.specs.Tables.Resolving.{resolved};
 ghost use Rattle.nts_model.specs.Terms.Trees.{any_label, is_alias, infer_of};
 ghost use Rattle.nts_store.specs.Growth.{tree_at, IsIn};

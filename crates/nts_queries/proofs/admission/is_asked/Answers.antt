@@ -2,7 +2,7 @@ use Rattle.std.proofs.Common.{◌≡◌, ◌↔◌, Bool, false}
 use Rattle.std.specs.Prelude.{IsTrue}
 use Rattle.nts_model.specs.Terms.Trees.{any_label}
 use Rattle.nts_store.specs.Growth.{tree_at}
-use Rattle.nts_store.specs.Labels.{AllLabels}
+use Rattle.nts_model.specs.Tables.Passing.{AllLabels}
 use Rattle.nts_queries.specs.Evaluation.{is_internal}
 use Rattle.nts_queries.proofs.Admitting.{no_label}
 use Rattle.nts_delegate.proofs.Testing.{if_then}

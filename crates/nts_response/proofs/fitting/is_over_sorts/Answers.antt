@@ -1,7 +1,7 @@
 use Rattle.std.proofs.Common.{◌≡◌, ◌↔◌, Bool, true, false, is_some, rules}
 use Rattle.std.specs.Prelude.{IsTrue}
 use Rattle.nts_store.specs.Growth.{tree_at}
-use Rattle.nts_store.specs.Labels.{AllLabels}
+use Rattle.nts_model.specs.Tables.Passing.{AllLabels}
 use Rattle.nts_delegate.proofs.Testing.{if_then}
 use Rattle.nts_response.specs.OverSorts.{MayStay}
 use Rattle.nts_response.specs.Applicable.{IsOverSorts}
