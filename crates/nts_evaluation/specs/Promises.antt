@@ -19,7 +19,7 @@ use Rattle.nts_response.specs.declared.types.Response.{Response}
 use Rattle.nts_response.specs.Forms.{response_at}
 use Rattle.nts_delegate.specs.Offered.{path_kind_of}
 use Rattle.nts_search.specs.declared.stack.SearchGraph.{SearchGraph}
-use Rattle.nts_queries.specs.Meant.{Since, meaning_since, IsQueryTold, IsQueryRefuted, AreOffered, IsOffered, IsServedSince, IsProvedNow, IsProvedFromSince, IsNestedSince, IsAskedTo, IsRefusedIn, IsAskedUnder, IsRefusedUnder, IsTold, IsRefuted, HaveOutcomes, CandidatesTell, RepliesWith, FailsIn, HasRunTo, ReachesBy, RefusesOneOf}
+use Rattle.nts_queries.specs.Meant.{Since, Rules, Always, meaning_since, IsQueryTold, IsQueryRefuted, AreOffered, IsOffered, IsServedSince, IsProvedNow, IsProvedFromSince, IsNestedSince, IsAskedTo, IsRefusedIn, IsAskedUnder, IsRefusedUnder, IsTold, IsRefuted, HaveOutcomes, CandidatesTell, RepliesWith, FailsIn, HasRunTo, ReachesBy, RefusesOneOf}
 use Rattle.nts_queries.specs.Searching.{Searches, HeadsTell, IsCut, assumed_in, IsHeadAnswer, IsAnswerTold}
 use Rattle.nts_queries.specs.Answering.{IsAnswerTo, IfAnswered, IfCertain, EvaluatesGoal, IfSure}
 use Rattle.nts_model.specs.Tables.Passing.{BringsOnly}
@@ -44,21 +44,10 @@ use Rattle.nts_store.specs.declared.fault.EvalError.TheVariants as error
 use Rattle.nts_certainty.specs.declared.certainty.Certainty.TheVariants as certainty
 use Rattle.nts_search.specs.declared.kinds.CurrentGoalKind.TheVariants as kinds
 
--- what a handler means: where its terms stand, and what its rules are there
-pub record Rules : Type 1 where
-  pub ready : List Tree → Type 0
-  pub handler : List Tree → Handler
-
-abbrev pub rules_of : {S : Type 0} → (List Tree → S → Type 0) → (List Tree → S → Handler) → S → Rules
-rules_of ready handler s = record { ready = λ ts. ready ts s; handler = λ ts. handler ts s }
-
--- since any earlier store in which the handler's terms stood
-abbrev pub Always : (R : Rules) (a : Cx) → (Since R.ready a.nodes → Type 0) → Type 0
-Always R a P = (s : Since R.ready a.nodes) → P s
-
--- .. where the provisional answers on the stack are told by what the handler meant then
+-- since any earlier store in which the handler's terms stood, and where the provisional answers on the stack are told by what the
+-- handler meant then
 abbrev pub WhereTold : Rules → Cx → SearchGraph → (Handler → Type 0) → Type 0
-WhereTold R a g P = (s : Since R.ready a.nodes) → HeadsTell (R.handler s.base) a.nodes g → P (R.handler s.base)
+WhereTold R a g P = (s : Since R.ready a) → HeadsTell (R.handler s.base) a.nodes g → P (R.handler s.base)
 
 -- what is assumed behind a step of that kind
 abbrev pub assumed_behind : PathKind → Cx → SearchGraph → List Assumed

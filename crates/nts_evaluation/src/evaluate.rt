@@ -8,7 +8,8 @@ ghost use Rattle.nts_queries.specs.Stepping.{ArePosed, bound_of};
 ghost use Rattle.nts_queries.specs.Answering.{IsQueryInput};
 ghost use Rattle.nts_queries.specs.Evaluation.{IsPosed, IsAskedGoal};
 ghost use Rattle.nts_table.specs.Tables.{IsTable};
-ghost use Rattle.nts_evaluation.specs.Promises.{rules_of, AnswersQuery, AsksGoal, AsksAdded, EndsRound, AnswersGoal, TriesEach, TriesOne, RunsOne, StepsGoals, StepsOnce};
+ghost use Rattle.nts_queries.specs.Meant.{rules_of};
+ghost use Rattle.nts_evaluation.specs.Promises.{AnswersQuery, AsksGoal, AsksAdded, EndsRound, AnswersGoal, TriesEach, TriesOne, RunsOne, StepsGoals, StepsOnce};
 
 use nts_canonical::CanonicalInput;
 use nts_certainty::{Certainty, GoalSource, HasChanged, PathKind};

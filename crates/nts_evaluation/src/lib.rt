@@ -6,5 +6,5 @@ mod root;
 mod solve;
 
 pub use evaluate::try_evaluate_goals;
-pub use root::evaluate_goal;
+pub use root::evaluate_input;
 pub use solve::{GoalEvaluation, GoalStalledOn, evaluate_root_goal, goal_is_admitted};

@@ -1,18 +1,14 @@
 //! A canonical goal, asked at the root of a search.
-ghost use Rattle.std.specs.Prelude.{ℕ, ◌≡◌, ◌+◌, ◌⊎◌, List, IfOk, IfSome, IsNone};
-ghost use Rattle.nts_model.specs.declared.labels.Variance.{Variance};
-ghost use Rattle.nts_model.specs.Derivations.Proofs.{HasProof};
+ghost use Rattle.std.specs.Prelude.{◌≡◌, ◌+◌, ◌⊎◌, IfOk, IfSome, IsNone};
 ghost use Rattle.nts_model.specs.Derivations.Handlers.{meaning};
-ghost use Rattle.nts_model.specs.Answers.Responses.{answer_sequent};
 ghost use Rattle.nts_certainty.specs.declared.certainty.Certainty.TheVariants as certainty;
 ghost use Rattle.nts_terms.specs.Modes.{mode_of};
+ghost use Rattle.nts_terms.specs.Signatures.{variances_in};
 ghost use Rattle.nts_terms.specs.Rest.{Grows};
-ghost use Rattle.nts_canonical.specs.Forms.{form_of};
 ghost use Rattle.nts_canonical.specs.Building.{kinds_of};
-ghost use Rattle.nts_response.specs.Forms.{response_at};
 ghost use Rattle.nts_queries.specs.Answering.{IsQueryInput, IsAnswerTo};
 ghost use Rattle.nts_queries.specs.Searching.{IsSearch, Searches, IsCut};
-ghost use Rattle.nts_queries.specs.Telling.{QueryTells, QueryRefutes};
+ghost use Rattle.nts_queries.specs.Meant.{IsInputProved, IsQueryTold, IsQueryRefuted};
 
 use crate::evaluate::search;
 use nts_canonical::CanonicalInput;
@@ -27,7 +23,7 @@ use nts_terms::Cx;
 /// Answers a canonical goal that a step of that kind asks, in a search whose stack is empty: at its root depth. `None` is no
 /// solution. A certain answer has a ranked proof of what it says of the input. Afterwards the stack is empty again, and
 /// the counters of the search say how many inputs stood on it at most, and how many rounds a query took.
-pub fn evaluate_goal<H: GoalHandler>(
+pub fn evaluate_input<H: GoalHandler>(
     graph: &mut SearchGraph,
     cx: &mut Cx,
     handler: &H,
@@ -40,9 +36,13 @@ pub fn evaluate_goal<H: GoalHandler>(
     ensures searches { Searches cx.old cx.new graph.old graph.new }
     ensures grows { Grows cx.old cx.new }
     ensures fits { IfOk result (λ o. IfSome o (IsAnswerTo cx.new.nodes (kinds_of input))) }
-    ensures proved { IfOk result (λ o. IfSome o (λ r. r.value.certainty ≡ certainty.Yes → (v : ℕ → List Variance) → HasProof (meaning (H.handler cx.old.nodes handler.now) v) (mode_of input.typing_mode) (answer_sequent (form_of cx.old.nodes input) (response_at cx.new.nodes r)))) }
-    ensures told { IfOk result (λ o. IfSome o (λ r. QueryTells (H.handler cx.old.nodes handler.now) (mode_of input.typing_mode) (form_of cx.old.nodes input) (response_at cx.new.nodes r))) }
-    ensures refuted { IfOk result (λ o. IsNone o → QueryRefutes (H.handler cx.old.nodes handler.now) (mode_of input.typing_mode) (form_of cx.old.nodes input) ⊎ IsCut input.typing_mode step_kind) }
+    ensures proved { IfOk result (λ o. IfSome o (λ r. r.value.certainty ≡ certainty.Yes → IsInputProved
+        (meaning (H.handler cx.old.nodes handler.now) (variances_in cx.old.declarations))
+        cx.old.nodes input cx.new.nodes r)) }
+    ensures told { IfOk result (λ o. IfSome o (IsQueryTold (H.handler cx.old.nodes handler.now)
+        (mode_of input.typing_mode) cx.old.nodes input cx.new.nodes)) }
+    ensures refuted { IfOk result (λ o. IsNone o → IsQueryRefuted (H.handler cx.old.nodes handler.now)
+        (mode_of input.typing_mode) cx.old.nodes input ⊎ IsCut input.typing_mode step_kind) }
 {
     terms_are_formed(cx);
     let depth = graph.root_depth;

@@ -1,14 +1,14 @@
 //! The evaluation of goals.
-ghost use Rattle.std.specs.Prelude.{ℕ, ◌+◌, ◌≡◌, ◌↔◌, List, IsTrue, false, None, IfOk, OnOk, OnErr, IsOkUnless};
-ghost use Rattle.nts_model.specs.declared.labels.Variance.{Variance};
-ghost use Rattle.nts_model.specs.Derivations.Handlers.{meaning};
+ghost use Rattle.std.specs.Prelude.{◌+◌, ◌≡◌, ◌↔◌, IsTrue, None, IfOk, OnOk, OnErr, IsOkUnless};
+ghost use Rattle.nts_model.specs.Derivations.Handlers.{meaning, HasNoCoinductiveTrait};
 ghost use Rattle.nts_store.specs.Growth.{Extends};
 ghost use Rattle.nts_table.specs.Tables.{IsTable};
 ghost use Rattle.nts_terms.specs.Modes.{mode_of};
+ghost use Rattle.nts_terms.specs.Signatures.{variances_in};
 ghost use Rattle.nts_queries.specs.Running.{HasRankedProofIn, HasFallingProofIn};
 ghost use Rattle.nts_terms.specs.Handles.{HoldsGoal};
 ghost use Rattle.nts_queries.specs.Evaluation.{Runs, IsAdmitted, IsPosed, IsGoalUnder};
-ghost use Rattle.nts_queries.specs.Meant.{Since, IsProvedSince, IsAskedUnder, IsRefusedUnder};
+ghost use Rattle.nts_queries.specs.Meant.{rules_of, Always, IsProvedSince, IsAskedUnder, IsRefusedUnder};
 ghost use Rattle.nts_queries.specs.Answering.{EvaluatesUnder};
 ghost use Rattle.nts_certainty.specs.declared.certainty.Certainty.TheVariants as certainty;
 ghost use Rattle.nts_terms.specs.Rest.{Grows};
@@ -84,14 +84,16 @@ pub fn evaluate_root_goal<H: GoalHandler>(
         goal e.has_changed) }
     ensures stalled { IfOk result (λ e. e.stalled_on ≡ None) }
     ensures err { OnErr result (table.new ≡ table.old) }
-    ensures proved { IfOk result (λ e. e.certainty ≡ certainty.Yes → (v : ℕ → List Variance) →
-        HasRankedProofIn (meaning (H.handler cx.old.nodes handler.now) v) (mode_of table.old.mode)
-        cx.new.nodes table.new goal) }
-    ensures falls { ((i : ℕ) → (H.handler cx.old.nodes handler.now).is_coinductive i ≡ false) →
-        IfOk result (λ e. e.certainty ≡ certainty.Yes → (v : ℕ → List Variance) → HasFallingProofIn
-        (meaning (H.handler cx.old.nodes handler.now) v) (mode_of table.old.mode) cx.new.nodes table.new goal) }
-    ensures told { OnOk result (IsAskedUnder (H.handler cx.old.nodes handler.now) table.old.mode cx.old.nodes table.old cx.new.nodes table.new goal) }
-    ensures refuted { result ≡ Err EvalError.NoSolution → IsRefusedUnder (H.handler cx.old.nodes handler.now) table.old.mode cx.old.nodes table.old goal }
+    ensures proved { IfOk result (λ e. e.certainty ≡ certainty.Yes → HasRankedProofIn
+        (meaning (H.handler cx.old.nodes handler.now) (variances_in cx.old.declarations))
+        (mode_of table.old.mode) cx.new.nodes table.new goal) }
+    ensures falls { HasNoCoinductiveTrait (H.handler cx.old.nodes handler.now) → IfOk result (λ e.
+        e.certainty ≡ certainty.Yes → HasFallingProofIn (meaning (H.handler cx.old.nodes handler.now)
+        (variances_in cx.old.declarations)) (mode_of table.old.mode) cx.new.nodes table.new goal) }
+    ensures told { OnOk result (IsAskedUnder (H.handler cx.old.nodes handler.now) table.old.mode
+        cx.old.nodes table.old cx.new.nodes table.new goal) }
+    ensures refuted { result ≡ Err EvalError.NoSolution → IsRefusedUnder
+        (H.handler cx.old.nodes handler.now) table.old.mode cx.old.nodes table.old goal }
 {
     let _ = (span, stalled_on);
     terms_are_formed(cx);
@@ -115,11 +117,15 @@ fn evaluate_root<H: GoalHandler>(
         goal e.has_changed) }
     ensures stalled { IfOk result (λ e. e.stalled_on ≡ None) }
     ensures err { OnErr result (table.new ≡ table.old) }
-    ensures proved { (s : Since (λ ts. H.ready ts handler.now) cx.old.nodes) →
-        IfOk result (λ e. e.certainty ≡ certainty.Yes → IsProvedSince
-        (λ ts. H.handler ts handler.now) s table.old.mode cx.new.nodes table.new goal) }
-    ensures told { (s : Since (λ ts. H.ready ts handler.now) cx.old.nodes) → OnOk result (IsAskedUnder (H.handler s.base handler.now) table.old.mode cx.old.nodes table.old cx.new.nodes table.new goal) }
-    ensures refuted { (s : Since (λ ts. H.ready ts handler.now) cx.old.nodes) → result ≡ Err EvalError.NoSolution → IsRefusedUnder (H.handler s.base handler.now) table.old.mode cx.old.nodes table.old goal }
+    ensures proved { Always (rules_of H.ready H.handler handler.now) cx.old (λ s. IfOk result (λ e.
+        e.certainty ≡ certainty.Yes → IsProvedSince (λ ts. H.handler ts handler.now) s table.old.mode
+        cx.new.nodes table.new goal)) }
+    ensures told { Always (rules_of H.ready H.handler handler.now) cx.old (λ s. OnOk result
+        (IsAskedUnder (H.handler s.base handler.now) table.old.mode cx.old.nodes table.old
+        cx.new.nodes table.new goal)) }
+    ensures refuted { Always (rules_of H.ready H.handler handler.now) cx.old (λ s.
+        result ≡ Err EvalError.NoSolution → IsRefusedUnder (H.handler s.base handler.now) table.old.mode
+        cx.old.nodes table.old goal) }
 {
     let asked = resolve_goal(table, cx, goal)?;
     let depth = cx.recursion_limit();

@@ -50,7 +50,8 @@ use Rattle.nts_table.specs.Fresh.{variable_kind, with_fresh, fresh_row}
 use Rattle.nts_table.specs.Making.{new_variable}
 use Rattle.nts_unify.specs.declared.contents.Variable.{Variable}
 use Rattle.nts_terms.specs.declared.cx.Cx.{Cx}
-use Rattle.nts_terms.specs.Rest.{KeepsRest}
+use Rattle.nts_terms.specs.Rest.{KeepsRest, Grows}
+use Rattle.nts_terms.specs.Signatures.{variances_in}
 use Rattle.nts_delegate.specs.declared.delegate.Equation.{Equation}
 use Rattle.nts_model.specs.declared.labels.Sort.TheVariants as sort
 use Rattle.nts_delegate.specs.Candidates.{IsEquation, AreEquations, IsRegionConstraint, AreRegionConstraints, IsNestedIn, AreNested, IsCandidate, AreCandidates, IsOverIn}
@@ -390,8 +391,21 @@ pub Runs-refl : {a : Cx} {t : Table} → IsTable a.nodes t → Runs a a t t
 Runs-refl {a} h = record { goes = Goes-extends h (Extends-refl a.nodes); rest = KeepsRest-refl a }
 
 -- what a handler was ready for earlier, while the store grows
-abbrev pub Since-later : {ready : List Tree → Type 0} {a b : List Tree} → Extends a b → Since ready a → Since ready b
-Since-later e s = record { base = s.base; formed = s.formed; extends = Extends-trans s.extends e; is_ready = s.is_ready; variances = s.variances }
+abbrev pub Since-later : {ready : List Tree → Type 0} {a b : Cx} → Grows a b → Since ready a → Since ready b
+Since-later g s =
+    record {
+      base = s.base;
+      formed = s.formed;
+      extends = Extends-trans s.extends g.extends;
+      is_ready = s.is_ready;
+      variances = s.variances;
+      declared = s.declared ∙ sym (ap (λ d. variances_in d) g.rest.declarations);
+    }
+
+-- now, in a store that is formed
+abbrev pub Since-now : {ready : List Tree → Type 0} {a : Cx} → AreFormed a.nodes → ready a.nodes → Since ready a
+Since-now {ready} {a} f r =
+    record { base = a.nodes; formed = f; extends = Extends-refl a.nodes; is_ready = r; variances = variances_in a.declarations; declared = refl }
 
 -- what is offered for a goal stays, while the store grows
 pub offers-kept : {a b : List Tree} {g : Goal} (h : Handler) (mode : Mode) → Extends a b → HoldsGoal a g → offers_of h mode b g ≡ offers_of h mode a g

@@ -32,6 +32,7 @@ use Rattle.nts_certainty.specs.declared.certainty.Certainty.TheVariants as certa
 use Rattle.nts_certainty.specs.declared.sources.GoalSource.{GoalSource}
 use Rattle.nts_certainty.specs.Certainties.{both}
 use Rattle.nts_store.specs.Growth.{Extends}
+use Rattle.nts_terms.specs.declared.cx.Cx.{Cx}
 use Rattle.nts_terms.specs.declared.handles.Goal.{Goal}
 use Rattle.nts_terms.specs.declared.modes.TypingMode.{TypingMode}
 use Rattle.nts_terms.specs.Modes.{mode_of}
@@ -227,19 +228,19 @@ settled_more P Q gs left i d x l f new h =
     (take_next gs i d g l (subst (λ n. Among (take n gs) g) next j))
 
 -- what is proved of a goal stays proved, from more
-proved_later : {ready : List Tree → Type 0} {a b e : List Tree} {u v : Table} (A B : List Assumed) (handler : List Tree → Handler) (s : Since ready a) (mode : TypingMode) (z : GoalKind) (g : GoalSource × Goal) → HoldsGoal b g.1 → Goes b e u v → Covers A B → IsNestedSince handler s mode z A b u g → IsNestedSince handler s mode z B e v g
+proved_later : {ready : List Tree → Type 0} {a b e : List Tree} {u v : Table} {w : Cx} (A B : List Assumed) (handler : List Tree → Handler) (s : Since ready w) (mode : TypingMode) (z : GoalKind) (g : GoalSource × Goal) → HoldsGoal b g.1 → Goes b e u v → Covers A B → IsNestedSince handler s mode z A b u g → IsNestedSince handler s mode z B e v g
 proved_later A B handler s mode z g h k f p =
     rw (k.extends.kept g.1.param_env.node h.env.within, k.extends.kept g.1.predicate.node h.predicate.within) (stays_more (covers_passed (step_kind z (source_of g.0)) A B f) (Stays-later k p))
 
 holds_later : {a b : List Tree} {t : Table} (gs : List (GoalSource × Goal)) (g : GoalSource × Goal) → ArePosed a t gs → Extends a b → Among gs g → HoldsGoal b g.1
 holds_later {a} {b} {t} gs g h e i = (let p = all_among (λ x. IsPosed a t x.1) gs g h i in HoldsGoal-extended e p.holds)
 
-pub settled_proved : {ready : List Tree → Type 0} {a b e : List Tree} {t u v : Table} (A B : List Assumed) (handler : List Tree → Handler) (s : Since ready a) (mode : TypingMode) (z : GoalKind) (gs left : List (GoalSource × Goal)) (i : ℕ) (d : GoalSource × Goal) (x : Certainty) → i < length gs → ArePosed a t gs → Extends a b → Goes b e u v → Covers A B
+pub settled_proved : {ready : List Tree → Type 0} {a b e : List Tree} {t u v : Table} {w : Cx} (A B : List Assumed) (handler : List Tree → Handler) (s : Since ready w) (mode : TypingMode) (z : GoalKind) (gs left : List (GoalSource × Goal)) (i : ℕ) (d : GoalSource × Goal) (x : Certainty) → i < length gs → ArePosed a t gs → Extends a b → Goes b e u v → Covers A B
     → (x ≡ certainty.Yes → IsNestedSince handler s mode z B e v (get_or gs i d)) → AreSettled (IsNestedSince handler s mode z A b u) (take i gs) left → AreSettled (IsNestedSince handler s mode z B e v) (take (i + 1) gs) (left_after left (get_or gs i d) x)
 settled_proved {ready} {a} {b} {e} {t} {u} {v} A B handler s mode z gs left i d x l h k goes f new old =
     settled_more (IsNestedSince handler s mode z A b u) (IsNestedSince handler s mode z B e v) gs left i d x l (λ g j p. proved_later A B handler s mode z g (holds_later gs g h k j) goes f p) new old
 
-pub settled_step : {ready : List Tree → Type 0} {a b e : List Tree} {t u v : Table} (A B : List Assumed) (handler : List Tree → Handler) (s : Since ready a) (mode : TypingMode) (z : GoalKind) (gs left more : List (GoalSource × Goal)) → ArePosed a t gs → Extends a b → Goes b e u v → Covers A B
+pub settled_step : {ready : List Tree → Type 0} {a b e : List Tree} {t u v : Table} {w : Cx} (A B : List Assumed) (handler : List Tree → Handler) (s : Since ready w) (mode : TypingMode) (z : GoalKind) (gs left more : List (GoalSource × Goal)) → ArePosed a t gs → Extends a b → Goes b e u v → Covers A B
     → AreSettled (IsNestedSince handler s mode z A b u) gs left → AreSettled (IsNestedSince handler s mode z B e v) left more → AreSettled (IsNestedSince handler s mode z B e v) gs more
 settled_step {ready} {a} {b} {e} {t} {u} {v} A B handler s mode z gs left more h k goes f old new =
     settled_trans (IsNestedSince handler s mode z A b u) (IsNestedSince handler s mode z B e v) gs left more (λ g i p. proved_later A B handler s mode z g (holds_later gs g h k i) goes f p) old new
@@ -248,13 +249,13 @@ pub sure_more : (old x : Certainty) (left : List (GoalSource × Goal)) (y : Goal
 sure_more old x left y h e = (let z = both_sure old x e in subst (λ c. left_after left y c ≡ []) (sym z.1) (h z.0))
 
 -- .. where nothing is assumed
-pub settled_rooted : {ready : List Tree → Type 0} {a : List Tree} (b : List Tree) (u : Table) (A : List Assumed) (handler : List Tree → Handler) (s : Since ready a) (mode : TypingMode) (z : GoalKind) (gs left : List (GoalSource × Goal)) → A ≡ [] → AreSettled (IsNestedSince handler s mode z A b u) gs left → AreSettled (λ g. IsProvedSince handler s mode b u g.1) gs left
-settled_rooted {ready} {a} b u A handler s mode z gs left none h = λ g i. ⊎_elim
+pub settled_rooted : {ready : List Tree → Type 0} {w : Cx} (b : List Tree) (u : Table) (A : List Assumed) (handler : List Tree → Handler) (s : Since ready w) (mode : TypingMode) (z : GoalKind) (gs left : List (GoalSource × Goal)) → A ≡ [] → AreSettled (IsNestedSince handler s mode z A b u) gs left → AreSettled (λ g. IsProvedSince handler s mode b u g.1) gs left
+settled_rooted b u A handler s mode z gs left none h = λ g i. ⊎_elim
     (λ j. inl j)
     (λ p. inr (subst (λ B. IsProvedFromSince handler s mode B b u g.1) (ap (passed (step_kind z (source_of g.0))) none ∙ none_passed (step_kind z (source_of g.0))) p))
     (h g i)
 
-pub settled_after : {ready : List Tree → Type 0} {a b e : List Tree} {t u v : Table} (handler : List Tree → Handler) (s : Since ready a) (mode : TypingMode) (gs left : List (GoalSource × Goal)) → ArePosed a t gs → Extends a b → Goes b e u v
+pub settled_after : {ready : List Tree → Type 0} {a b e : List Tree} {t u v : Table} {w : Cx} (handler : List Tree → Handler) (s : Since ready w) (mode : TypingMode) (gs left : List (GoalSource × Goal)) → ArePosed a t gs → Extends a b → Goes b e u v
     → AreSettled (λ g. IsProvedSince handler s mode b u g.1) gs left → AreSettled (λ g. IsProvedSince handler s mode e v g.1) gs left
 settled_after {ready} {a} {b} {e} {t} {u} {v} handler s mode gs left h k goes old = λ g i. ⊎_elim
     (λ j. inl j)

@@ -4,12 +4,14 @@ use Rattle.nts_model.specs.declared.labels.Variance.{Variance}
 use Rattle.nts_model.specs.Terms.Trees.{Tree}
 use Rattle.nts_model.specs.Lists.{Among}
 use Rattle.nts_model.specs.Derivations.Rules.{Mode, Meaning, GoalKind, step_kind}
-use Rattle.nts_model.specs.Derivations.Proofs.{Assumed, passed}
+use Rattle.nts_model.specs.Derivations.Proofs.{Assumed, HasProof, passed}
 use Rattle.nts_model.specs.Searching.Stacks.{IsProvedFrom, HoldsCandidateFrom}
 use Rattle.nts_model.specs.Tables.Resolving.{deeply_resolved}
 use Rattle.nts_model.specs.Derivations.Handlers.{Candidate, certain, Handler, meaning}
 use Rattle.nts_model.specs.Tables.Contents.{Content}
+use Rattle.nts_terms.specs.declared.cx.Cx.{Cx}
 use Rattle.nts_terms.specs.declared.handles.Goal.{Goal}
+use Rattle.nts_terms.specs.Signatures.{variances_in}
 use Rattle.nts_store.specs.Formed.{AreFormed}
 use Rattle.nts_store.specs.Growth.{tree_at, Extends}
 use Rattle.nts_table.specs.Tables.{Table}
@@ -24,22 +26,35 @@ use Rattle.nts_canonical.specs.declared.types.CanonicalInput.{CanonicalInput}
 use Rattle.nts_canonical.specs.Forms.{form_of, trees_of}
 use Rattle.nts_response.specs.declared.types.Response.{Response}
 use Rattle.nts_response.specs.Forms.{response_at}
-use Rattle.nts_model.specs.Answers.Responses.{Response as Answer}
+use Rattle.nts_model.specs.Answers.Responses.{Response as Answer, answer_sequent}
 use Rattle.nts_delegate.specs.Offered.{source_of, candidate_of, candidates_of}
 use Rattle.nts_queries.specs.Telling.{IsPlainResponse, StandsForAll, goals_with, IsBegun, Tells, Refutes, Outcomes, Replies, Fails, Reaches, RefusesOne, Asked, Refused, QueryTells, QueryRefutes}
 use Rattle.nts_queries.specs.Stepping.{goals_at}
 use Rattle.nts_queries.specs.Running.{StaysProved}
 
--- a store from which the present one has grown, and in which the handler's terms stood; and any declared variances
-pub record Since (ready : List Tree → Type 0) (now : List Tree) : Type 0 where
+-- what a handler means: where its terms stand, and what its rules are there
+pub record Rules : Type 1 where
+  pub ready : List Tree → Type 0
+  pub handler : List Tree → Handler
+
+abbrev pub rules_of : {S : Type 0} → (List Tree → S → Type 0) → (List Tree → S → Handler) → S → Rules
+rules_of ready handler s = record { ready = λ ts. ready ts s; handler = λ ts. handler ts s }
+
+-- a store from which the present one has grown, and in which the handler's terms stood; and the variances that are declared now
+pub record Since (ready : List Tree → Type 0) (now : Cx) : Type 0 where
   pub base : List Tree
   pub formed : AreFormed base
-  pub extends : Extends base now
+  pub extends : Extends base now.nodes
   pub is_ready : ready base
   pub variances : ℕ → List Variance
+  pub declared : variances ≡ variances_in now.declarations
+
+-- since any earlier store in which the handler's terms stood
+abbrev pub Always : (R : Rules) (a : Cx) → (Since R.ready a → Type 0) → Type 0
+Always R a P = (s : Since R.ready a) → P s
 
 -- what the handler means there
-abbrev pub meaning_since : {ready : List Tree → Type 0} {now : List Tree} → (List Tree → Handler) → Since ready now → Meaning
+abbrev pub meaning_since : {ready : List Tree → Type 0} {now : Cx} → (List Tree → Handler) → Since ready now → Meaning
 meaning_since handler s = meaning (handler s.base) s.variances
 
 -- what a handler offers for a goal of a store
@@ -61,24 +76,24 @@ pub record IsServed (h : Handler) (m : Meaning) (mode : Mode) (A : List Assumed)
   pub sure : candidate.certainty ≡ certain
   pub holds : HoldsCandidateFrom m mode A c g candidate
 
-abbrev pub IsServedSince : {ready : List Tree → Type 0} {now : List Tree} → (List Tree → Handler) → Since ready now → TypingMode → List Assumed → List Tree → Table → Goal → Type 0
+abbrev pub IsServedSince : {ready : List Tree → Type 0} {now : Cx} → (List Tree → Handler) → Since ready now → TypingMode → List Assumed → List Tree → Table → Goal → Type 0
 IsServedSince handler s mode A ts t g =
     IsServed (handler s.base) (meaning_since handler s) (mode_of mode) A (content_of ts t.entries) (tree_at ts g.param_env.node) (tree_at ts g.predicate.node)
 
 -- a goal is proved from assumptions by what the handler means since then, in a table of that mode; now and later
-abbrev pub IsProvedNow : {ready : List Tree → Type 0} {now : List Tree} → (List Tree → Handler) → Since ready now → TypingMode → List Assumed → List Tree → Table → Goal → Type 0
+abbrev pub IsProvedNow : {ready : List Tree → Type 0} {now : Cx} → (List Tree → Handler) → Since ready now → TypingMode → List Assumed → List Tree → Table → Goal → Type 0
 IsProvedNow handler s mode A ts t g =
     IsProvedFrom (meaning_since handler s) (mode_of mode) A (content_of ts t.entries) (tree_at ts g.param_env.node) (tree_at ts g.predicate.node)
 
-abbrev pub IsProvedFromSince : {ready : List Tree → Type 0} {now : List Tree} → (List Tree → Handler) → Since ready now → TypingMode → List Assumed → List Tree → Table → Goal → Type 0
+abbrev pub IsProvedFromSince : {ready : List Tree → Type 0} {now : Cx} → (List Tree → Handler) → Since ready now → TypingMode → List Assumed → List Tree → Table → Goal → Type 0
 IsProvedFromSince handler s mode A ts t g = StaysProved (meaning_since handler s) (mode_of mode) A ts t g
 
 -- .. from nothing
-abbrev pub IsProvedSince : {ready : List Tree → Type 0} {now : List Tree} → (List Tree → Handler) → Since ready now → TypingMode → List Tree → Table → Goal → Type 0
+abbrev pub IsProvedSince : {ready : List Tree → Type 0} {now : Cx} → (List Tree → Handler) → Since ready now → TypingMode → List Tree → Table → Goal → Type 0
 IsProvedSince handler s mode ts t g = IsProvedFromSince handler s mode [] ts t g
 
 -- .. from what is assumed at a goal of kind z, which a step leads from
-abbrev pub IsNestedSince : {ready : List Tree → Type 0} {now : List Tree} → (List Tree → Handler) → Since ready now → TypingMode → GoalKind → List Assumed → List Tree → Table → GoalSource × Goal → Type 0
+abbrev pub IsNestedSince : {ready : List Tree → Type 0} {now : Cx} → (List Tree → Handler) → Since ready now → TypingMode → GoalKind → List Assumed → List Tree → Table → GoalSource × Goal → Type 0
 IsNestedSince handler s mode z A ts t g = IsProvedFromSince handler s mode (passed (step_kind z (source_of g.0)) A) ts t g.1
 
 -- a goal of the table t and the store a was asked in a query, which left the table u of the store b; and it was
@@ -99,6 +114,10 @@ IsAskedUnder h mode a t b u g =
 abbrev pub IsRefusedUnder : Handler → TypingMode → List Tree → Table → Goal → Type 0
 IsRefusedUnder h mode a t g =
     Refused h (mode_of mode) (content_of a t.entries) (deeply_resolved (content_of a t.entries) (tree_at a g.param_env.node)) (deeply_resolved (content_of a t.entries) (tree_at a g.predicate.node))
+
+-- what a response of the store b says of an input of the store a has a ranked proof
+abbrev pub IsInputProved : Meaning → List Tree → CanonicalInput → List Tree → Canonical Response → Type 0
+IsInputProved m a i b r = HasProof m (mode_of i.typing_mode) (answer_sequent (form_of a i) (response_at b r))
 
 -- a query's response, of the store b, and what the query refutes
 abbrev pub IsQueryTold : Handler → Mode → List Tree → CanonicalInput → List Tree → Canonical Response → Type 0

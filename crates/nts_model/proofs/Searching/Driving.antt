@@ -18,7 +18,7 @@ use Rattle.nts_model.specs.Canonical.Inputs.{Input, IsInput, originals, canonica
 use Rattle.nts_model.specs.Derivations.Proving.{HoldsTerms, IsTermOf, AreConstraintsOf}
 use Rattle.nts_model.specs.Answers.Responses.{Findings, AreFindings, Response, Applies, response_of, answer_sequent, IsQueryTable}
 use Rattle.nts_model.specs.Searching.Stacks.{IsDerivedFrom, IsProvedWith, IsProvedFromAt, HoldsCandidateFrom, Entry, assumptions, IsReadSince, AreReadSince, stronger, path_kind, IsEntry}
-use Rattle.nts_model.specs.Searching.Driving.{EvaluatesInput, Computes, as_read, marked, MayEnd, last}
+use Rattle.nts_model.specs.Searching.Driving.{EvaluatesInput, Computes, as_read, marked, MayEnd}
 use Rattle.nts_model.proofs.Tables.Slots.{Knows-kept}
 use Rattle.nts_model.proofs.Responses.Querying.{query_fits}
 use Rattle.nts_model.proofs.Derivations.FromCandidate.{lawful_candidate_from}

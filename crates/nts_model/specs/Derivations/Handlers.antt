@@ -125,6 +125,10 @@ pub record Handler : Type 1 where
 abbrev pub meaning : Handler → (ℕ → List Variance) → Meaning
 meaning h variances = meaning_of h.applies h.is_coinductive variances
 
+-- no trait is coinductive
+abbrev pub HasNoCoinductiveTrait : Handler → Type 0
+HasNoCoinductiveTrait h = (i : ℕ) → h.is_coinductive i ≡ false
+
 -- the goals that a handler is asked: closed terms without positions, that bind nothing, of the kinds that it answers.
 -- What is said is closed by itself: it names no variable of the binder that binds nothing. So are the statements of the
 -- environment. Each bound variable is of the list of its binder

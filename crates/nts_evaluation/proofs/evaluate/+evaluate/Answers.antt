@@ -196,9 +196,9 @@ evaluate_added-returns-in_ok-asked-in-Some g t c =
           IfOk-map c.evaluate_goal.result
           (λ x f y.
           rw (all.extends.kept c.args.goal.param_env.node p.holds.env.within, all.extends.kept c.args.goal.predicate.node p.holds.predicate.within)
-          (unread _ _ _ _ all env predicate p.knows.env p.knows.predicate (f y))) (e.proved (Since-later k.grows.extends s));
-      told = λ s tells. OnOk-map c.evaluate_goal.result (λ f. inl (rw (same, k.env, k.predicate) at f)) (c.evaluate_goal.ensures.told (Since-later k.grows.extends s) (tell_grown (g.H.GoalHandler.handler s.base c.args.handler.now) (bound_of c.args.depth) c.requires.search k.grows tells));
-      refuted = λ s tells n. rw (same, k.env, k.predicate) at (c.evaluate_goal.ensures.refuted (Since-later k.grows.extends s) (tell_grown (g.H.GoalHandler.handler s.base c.args.handler.now) (bound_of c.args.depth) c.requires.search k.grows tells) n);
+          (unread _ _ _ _ all env predicate p.knows.env p.knows.predicate (f y))) (e.proved (Since-later k.grows s));
+      told = λ s tells. OnOk-map c.evaluate_goal.result (λ f. inl (rw (same, k.env, k.predicate) at f)) (c.evaluate_goal.ensures.told (Since-later k.grows s) (tell_grown (g.H.GoalHandler.handler s.base c.args.handler.now) (bound_of c.args.depth) c.requires.search k.grows tells));
+      refuted = λ s tells n. rw (same, k.env, k.predicate) at (c.evaluate_goal.ensures.refuted (Since-later k.grows s) (tell_grown (g.H.GoalHandler.handler s.base c.args.handler.now) (bound_of c.args.depth) c.requires.search k.grows tells) n);
     }
 
 pub evaluate_candidates-loop-candidate-init : goal.evaluate_candidates-loop-candidate-init
@@ -271,7 +271,7 @@ evaluate_goal-returns-in_err-answer g t c =
       refuted = λ s tells n.
           let h = g.H.GoalHandler.handler s.base c.args.handler.now in
           let refused : c.search.result ≡ Err EvalError.NoSolution = search rules in
-          query_cut c.requires.posed q.query q.grows.extends c.search.ensures.grows.extends (c.search.ensures.refuted (Since-later q.grows.extends s) (tell_grown h (c.args.depth + 1) c.requires.search q.grows tells) refused);
+          query_cut c.requires.posed q.query q.grows.extends c.search.ensures.grows.extends (c.search.ensures.refuted (Since-later q.grows s) (tell_grown h (c.args.depth + 1) c.requires.search q.grows tells) refused);
     }
 
 pub evaluate_goal-returns-in_err-originals : goal.evaluate_goal-returns-in_err-originals
@@ -432,9 +432,9 @@ evaluate_step-loop-added-preserved g t c =
       labels = only-trans i.labels (only_one gs (get_or gs c.loop-added.added-index d) i.runs.goes.extends c.requires.posed there e.labels);
       proved = λ s.
           subst (AreSettled (IsNestedSince (λ ts. g.H.GoalHandler.handler ts c.args.handler.now) s c.args.table.now.mode (goal_kind_of c.args.kind) (assumed_in c.evaluate_added.new.cx.nodes c.evaluate_added.new.graph) c.evaluate_added.new.cx.nodes c.evaluate_added.new.table) (take (c.loop-added.added-index + 1) gs)) (sym n.left)
-          (settled_proved (assumed_in c.loop-added.cx.nodes c.loop-added.graph) (assumed_in c.evaluate_added.new.cx.nodes c.evaluate_added.new.graph) (λ ts. g.H.GoalHandler.handler ts c.args.handler.now) s c.args.table.now.mode (goal_kind_of c.args.kind) gs c.loop-added.step.left.items c.loop-added.added-index d c.in_ok-answer.answer.certainty at c.requires.posed i.runs.goes.extends e.runs.goes covers (rw (i.runs.goes.mode, c.step_kind_for_source-kind.ensures) at (e.proved (Since-later i.runs.goes.extends s))) (i.proved s));
+          (settled_proved (assumed_in c.loop-added.cx.nodes c.loop-added.graph) (assumed_in c.evaluate_added.new.cx.nodes c.evaluate_added.new.graph) (λ ts. g.H.GoalHandler.handler ts c.args.handler.now) s c.args.table.now.mode (goal_kind_of c.args.kind) gs c.loop-added.step.left.items c.loop-added.added-index d c.in_ok-answer.answer.certainty at c.requires.posed i.runs.goes.extends e.runs.goes covers (rw (i.runs.goes.mode, c.step_kind_for_source-kind.ensures) at (e.proved (Since-later (ran i.runs) s))) (i.proved s));
       sure = λ y. n.left ∙ sure_more c.loop-added.step.certainty c.in_ok-answer.answer.certainty c.loop-added.step.left.items (get_or gs c.loop-added.added-index d) i.sure (sym n.certainty ∙ y);
-      told = λ s tells. reach_more c.loop-added.table (g.H.GoalHandler.handler s.base c.args.handler.now) c.args.table.now.mode gs (get_or gs c.loop-added.added-index d) c.requires.posed there i.runs.goes.extends (i.told s tells) c.evaluate_added.new.table i.runs.goes.table e.runs.goes.extends (rw i.runs.goes.mode at (e.told (Since-later i.runs.goes.extends s) (heads_tell_later (g.H.GoalHandler.handler s.base c.args.handler.now) (bound_of c.args.depth) c.requires.search i.runs.goes.extends i.searches tells)));
+      told = λ s tells. reach_more c.loop-added.table (g.H.GoalHandler.handler s.base c.args.handler.now) c.args.table.now.mode gs (get_or gs c.loop-added.added-index d) c.requires.posed there i.runs.goes.extends (i.told s tells) c.evaluate_added.new.table i.runs.goes.table e.runs.goes.extends (rw i.runs.goes.mode at (e.told (Since-later (ran i.runs) s) (heads_tell_later (g.H.GoalHandler.handler s.base c.args.handler.now) (bound_of c.args.depth) c.requires.search i.runs.goes.extends i.searches tells)));
     }
 
 pub evaluate_step-returns : goal.evaluate_step-returns
@@ -469,7 +469,7 @@ evaluate_step-returns-in_err-answer g t c =
           let refused : c.evaluate_added.result ≡ Err EvalError.NoSolution = search rules in
           let later = heads_tell_later h (bound_of c.args.depth) c.requires.search i.runs.goes.extends i.searches tells in
           refuse_more c.loop-added.table h c.args.table.now.mode c.args.goals.now _ c.requires.posed (among_get c.args.goals.now c.loop-added.added-index _ c.loop-added-test.true) i.runs.goes.extends (i.told s tells) i.runs.goes.table c.step_kind_for_source-kind.ensures kind
-          (rw i.runs.goes.mode at (c.evaluate_added.ensures.refuted (Since-later i.runs.goes.extends s) later refused));
+          (rw i.runs.goes.mode at (c.evaluate_added.ensures.refuted (Since-later (ran i.runs) s) later refused));
     }
 
 pub evaluate_step-returns-in_err-note : goal.evaluate_step-returns-in_err-note
@@ -660,11 +660,11 @@ try_evaluate_goals-loop-step-preserved g t c =
       proved = λ s.
           let i = c.loop-step.invariant in
           let e = c.in_ok-stepped.ensures in
-          settled_step (assumed_in c.loop-step.cx.nodes c.loop-step.graph) (assumed_in c.evaluate_step.new.cx.nodes c.evaluate_step.new.graph) (λ ts. g.H.GoalHandler.handler ts c.args.handler.now) s c.args.table.now.mode (goal_kind_of c.args.kind) c.args.goals.now.items c.loop-step.goals.items c.in_ok-stepped.stepped.left.items c.requires.posed i.runs.goes.extends e.runs.goes (search_covers (bound_of c.args.depth) (search_later (bound_of c.args.depth) (bound_of c.args.depth) (omega arith) c.requires.search i.searches) e.runs.goes.extends e.searches) (i.proved s) (rw (i.runs.goes.mode, c.deref.ensures.value) at (e.proved (Since-later i.runs.goes.extends s)));
+          settled_step (assumed_in c.loop-step.cx.nodes c.loop-step.graph) (assumed_in c.evaluate_step.new.cx.nodes c.evaluate_step.new.graph) (λ ts. g.H.GoalHandler.handler ts c.args.handler.now) s c.args.table.now.mode (goal_kind_of c.args.kind) c.args.goals.now.items c.loop-step.goals.items c.in_ok-stepped.stepped.left.items c.requires.posed i.runs.goes.extends e.runs.goes (search_covers (bound_of c.args.depth) (search_later (bound_of c.args.depth) (bound_of c.args.depth) (omega arith) c.requires.search i.searches) e.runs.goes.extends e.searches) (i.proved s) (rw (i.runs.goes.mode, c.deref.ensures.value) at (e.proved (Since-later (ran i.runs) s)));
       told = λ s tells.
           let i = c.loop-step.invariant in
           let e = c.in_ok-stepped.ensures in
-          reach_step c.loop-step.table (g.H.GoalHandler.handler s.base c.args.handler.now) c.args.table.now.mode c.args.goals.now.items c.loop-step.goals.items c.requires.posed i.left i.runs.goes.extends (i.told s tells) c.evaluate_step.new.cx.nodes c.evaluate_step.new.table (rw (i.runs.goes.mode, c.deref.ensures.value) at (e.told (Since-later i.runs.goes.extends s) (heads_tell_later (g.H.GoalHandler.handler s.base c.args.handler.now) (bound_of c.args.depth) c.requires.search i.runs.goes.extends i.searches tells)));
+          reach_step c.loop-step.table (g.H.GoalHandler.handler s.base c.args.handler.now) c.args.table.now.mode c.args.goals.now.items c.loop-step.goals.items c.requires.posed i.left i.runs.goes.extends (i.told s tells) c.evaluate_step.new.cx.nodes c.evaluate_step.new.table (rw (i.runs.goes.mode, c.deref.ensures.value) at (e.told (Since-later (ran i.runs) s) (heads_tell_later (g.H.GoalHandler.handler s.base c.args.handler.now) (bound_of c.args.depth) c.requires.search i.runs.goes.extends i.searches tells)));
     }
 
 pub try_evaluate_goals-returns : goal.try_evaluate_goals-returns
@@ -701,7 +701,7 @@ try_evaluate_goals-returns-in_err-stepped g t c =
           let h = g.H.GoalHandler.handler s.base c.args.handler.now in
           let refused : c.evaluate_step.result ≡ Err EvalError.NoSolution = search rules in
           refuse_step c.loop-step.table h c.args.table.now.mode c.args.goals.now.items c.loop-step.goals.items c.requires.posed i.left i.runs.goes.extends (i.told s tells)
-          (rw (i.runs.goes.mode, c.deref.ensures.value) at (c.evaluate_step.ensures.refuted (Since-later i.runs.goes.extends s) (heads_tell_later (g.H.GoalHandler.handler s.base c.args.handler.now) (bound_of c.args.depth) c.requires.search i.runs.goes.extends i.searches tells) kind refused));
+          (rw (i.runs.goes.mode, c.deref.ensures.value) at (c.evaluate_step.ensures.refuted (Since-later (ran i.runs) s) (heads_tell_later (g.H.GoalHandler.handler s.base c.args.handler.now) (bound_of c.args.depth) c.requires.search i.runs.goes.extends i.searches tells) kind refused));
     }
 
 pub try_evaluate_goals-returns-then-not-stepped : goal.try_evaluate_goals-returns-then-not-stepped
@@ -715,8 +715,8 @@ try_evaluate_goals-returns-then-not-stepped g t c =
       posed = search rules;
       left = search rules;
       labels = only-trans i.labels (only_left c.args.goals.now.items c.loop-step.goals.items i.runs.goes.extends c.requires.posed i.left (rw c.deref.ensures.value at c.in_ok-stepped.ensures.labels));
-      proved = λ s. settled_step (assumed_in c.loop-step.cx.nodes c.loop-step.graph) (assumed_in c.evaluate_step.new.cx.nodes c.evaluate_step.new.graph) (λ ts. g.H.GoalHandler.handler ts c.args.handler.now) s c.args.table.now.mode (goal_kind_of c.args.kind) c.args.goals.now.items c.loop-step.goals.items c.in_ok-stepped.stepped.left.items c.requires.posed i.runs.goes.extends e.runs.goes (search_covers (bound_of c.args.depth) (search_later (bound_of c.args.depth) (bound_of c.args.depth) (omega arith) c.requires.search i.searches) e.runs.goes.extends e.searches) (i.proved s) (rw (i.runs.goes.mode, c.deref.ensures.value) at (e.proved (Since-later i.runs.goes.extends s)));
+      proved = λ s. settled_step (assumed_in c.loop-step.cx.nodes c.loop-step.graph) (assumed_in c.evaluate_step.new.cx.nodes c.evaluate_step.new.graph) (λ ts. g.H.GoalHandler.handler ts c.args.handler.now) s c.args.table.now.mode (goal_kind_of c.args.kind) c.args.goals.now.items c.loop-step.goals.items c.in_ok-stepped.stepped.left.items c.requires.posed i.runs.goes.extends e.runs.goes (search_covers (bound_of c.args.depth) (search_later (bound_of c.args.depth) (bound_of c.args.depth) (omega arith) c.requires.search i.searches) e.runs.goes.extends e.searches) (i.proved s) (rw (i.runs.goes.mode, c.deref.ensures.value) at (e.proved (Since-later (ran i.runs) s)));
       sure = search rules;
-      told = λ s tells. reach_step c.loop-step.table (g.H.GoalHandler.handler s.base c.args.handler.now) c.args.table.now.mode c.args.goals.now.items c.loop-step.goals.items c.requires.posed i.left i.runs.goes.extends (i.told s tells) c.evaluate_step.new.cx.nodes c.evaluate_step.new.table (rw (i.runs.goes.mode, c.deref.ensures.value) at (e.told (Since-later i.runs.goes.extends s) (heads_tell_later (g.H.GoalHandler.handler s.base c.args.handler.now) (bound_of c.args.depth) c.requires.search i.runs.goes.extends i.searches tells)));
+      told = λ s tells. reach_step c.loop-step.table (g.H.GoalHandler.handler s.base c.args.handler.now) c.args.table.now.mode c.args.goals.now.items c.loop-step.goals.items c.requires.posed i.left i.runs.goes.extends (i.told s tells) c.evaluate_step.new.cx.nodes c.evaluate_step.new.table (rw (i.runs.goes.mode, c.deref.ensures.value) at (e.told (Since-later (ran i.runs) s) (heads_tell_later (g.H.GoalHandler.handler s.base c.args.handler.now) (bound_of c.args.depth) c.requires.search i.runs.goes.extends i.searches tells)));
       refuted = search rules;
     }

@@ -14,7 +14,8 @@ use Rattle.nts_terms.specs.Modes.{mode_of}
 use Rattle.nts_queries.specs.Found.{Found}
 use Rattle.nts_queries.specs.Stepping.{ArePosed, AreLeft, AreSettled, terms_of, bound_of}
 use Rattle.nts_queries.specs.Evaluation.{Runs}
-use Rattle.nts_evaluation.specs.Promises.{rules_of, Always, WhereTold}
+use Rattle.nts_evaluation.specs.Promises.{WhereTold}
+use Rattle.nts_queries.specs.Meant.{rules_of, Always}
 use Rattle.nts_evaluation.proofs.evaluate.+evaluate.Given as goal
 
 abbrev pub decreases-evaluate_goal : goal.decreases-evaluate_goal

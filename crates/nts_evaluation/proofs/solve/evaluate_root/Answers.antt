@@ -38,7 +38,7 @@ returns-clause-proved g c = λ s y.
     let env = a.runs.goes.extends.kept _ k.posed.holds.env.within ∙ k.env in
     let predicate = a.runs.goes.extends.kept _ k.posed.holds.predicate.within ∙ k.predicate in
     let none = nothing_left c.evaluate_goal.new.cx.nodes (path_kind_of path.Unknown) c.new-graph.ensures.empty a.searches in
-    let proved = subst (λ A. IsProvedFromSince (λ ts. g.H.GoalHandler.handler ts c.args.handler.now) s c.args.table.now.mode A c.evaluate_goal.new.cx.nodes c.evaluate_goal.new.table c.in_ok-asked.asked) none (a.proved (Since-later k.grows.extends s) y) in
+    let proved = subst (λ A. IsProvedFromSince (λ ts. g.H.GoalHandler.handler ts c.args.handler.now) s c.args.table.now.mode A c.evaluate_goal.new.cx.nodes c.evaluate_goal.new.table c.in_ok-asked.asked) none (a.proved (Since-later k.grows s) y) in
     rw (all.extends.kept c.args.goal.param_env.node c.requires.posed.holds.env.within, all.extends.kept c.args.goal.predicate.node c.requires.posed.holds.predicate.within)
     (unread _ _ _ _ all env predicate c.requires.posed.knows.env c.requires.posed.knows.predicate proved)
 
@@ -46,11 +46,11 @@ pub returns-clause-told : goal.returns-clause-told
 returns-clause-told g c = λ s.
     let k = c.in_ok-asked.ensures in
     let here = content_of-extended k.grows.extends c.requires.posed.table.now in
-    rw (here, k.env, k.predicate) at (c.in_ok-evaluated.ensures.told (Since-later k.grows.extends s) (tell_begun c.new-graph.result (g.H.GoalHandler.handler s.base c.args.handler.now) c.resolve_goal.new.cx.nodes c.new-graph.ensures.empty))
+    rw (here, k.env, k.predicate) at (c.in_ok-evaluated.ensures.told (Since-later k.grows s) (tell_begun c.new-graph.result (g.H.GoalHandler.handler s.base c.args.handler.now) c.resolve_goal.new.cx.nodes c.new-graph.ensures.empty))
 
 pub returns-in_err-evaluated-clause-refuted : goal.returns-in_err-evaluated-clause-refuted
 returns-in_err-evaluated-clause-refuted g c = λ s q.
     let k = c.in_ok-asked.ensures in
     let here = content_of-extended k.grows.extends c.requires.posed.table.now in
     let refused : c.evaluate_goal.result ≡ Err EvalError.NoSolution = search rules in
-    not_cut c.args.table.now.mode (rw (here, k.env, k.predicate) at (c.evaluate_goal.ensures.refuted (Since-later k.grows.extends s) (tell_begun c.new-graph.result (g.H.GoalHandler.handler s.base c.args.handler.now) c.resolve_goal.new.cx.nodes c.new-graph.ensures.empty) refused))
+    not_cut c.args.table.now.mode (rw (here, k.env, k.predicate) at (c.evaluate_goal.ensures.refuted (Since-later k.grows s) (tell_begun c.new-graph.result (g.H.GoalHandler.handler s.base c.args.handler.now) c.resolve_goal.new.cx.nodes c.new-graph.ensures.empty) refused))

@@ -1,8 +1,6 @@
-use Rattle.std.proofs.Common.{[]}
-use Rattle.nts_store.proofs.Growing.{Extends-refl}
 use Rattle.nts_queries.proofs.Running.{Stays-now}
 use Rattle.nts_model.proofs.Derivations.Rooted.{proved_held, proof_falls}
-use Rattle.nts_queries.proofs.Evaluating.{IsPosed-admitted, each_of}
+use Rattle.nts_queries.proofs.Evaluating.{IsPosed-admitted, Since-now, each_of}
 use Rattle.nts_evaluation.proofs.solve.evaluate_root_goal.Goals as goal
 
 pub evaluate_root-evaluated-requires-clause-posed : goal.evaluate_root-evaluated-requires-clause-posed
@@ -11,15 +9,15 @@ evaluate_root-evaluated-requires-clause-posed g c = IsPosed-admitted c.requires.
 pub returns-clause-proved : goal.returns-clause-proved
 returns-clause-proved g c =
     let e = c.evaluate_root-evaluated.ensures in
-    each_of c.evaluate_root-evaluated.result e.proved (λ a proved y v.
-    let now = Stays-now c.terms_are_formed-2.ensures e.runs.goes.table (proved (record { base = c.args.cx.now.nodes; formed = c.terms_are_formed.ensures; extends = Extends-refl _; is_ready = c.requires.ready; variances = v }) y) in
+    each_of c.evaluate_root-evaluated.result e.proved (λ a proved y.
+    let now = Stays-now c.terms_are_formed-2.ensures e.runs.goes.table (proved (Since-now c.terms_are_formed.ensures c.requires.ready) y) in
     proved_held _ _ _ _ _ e.runs.goes.table.now.sound now)
 
 pub returns-clause-falls : goal.returns-clause-falls
 returns-clause-falls g c = λ none.
     let e = c.evaluate_root-evaluated.ensures in
-    each_of c.evaluate_root-evaluated.result e.proved (λ a proved y v.
-    let now = Stays-now c.terms_are_formed-2.ensures e.runs.goes.table (proved (record { base = c.args.cx.now.nodes; formed = c.terms_are_formed.ensures; extends = Extends-refl _; is_ready = c.requires.ready; variances = v }) y) in
+    each_of c.evaluate_root-evaluated.result e.proved (λ a proved y.
+    let now = Stays-now c.terms_are_formed-2.ensures e.runs.goes.table (proved (Since-now c.terms_are_formed.ensures c.requires.ready) y) in
     let held = proved_held _ _ _ _ _ e.runs.goes.table.now.sound now in
     record {
       sequent = held.sequent;
@@ -32,8 +30,8 @@ returns-clause-falls g c = λ none.
     })
 
 pub returns-clause-told : goal.returns-clause-told
-returns-clause-told g c = c.evaluate_root-evaluated.ensures.told (record { base = c.args.cx.now.nodes; formed = c.terms_are_formed.ensures; extends = Extends-refl _; is_ready = c.requires.ready; variances = λ i. [] })
+returns-clause-told g c = c.evaluate_root-evaluated.ensures.told (Since-now c.terms_are_formed.ensures c.requires.ready)
 
 pub returns-clause-refuted : goal.returns-clause-refuted
 returns-clause-refuted g c = λ q.
-    c.evaluate_root-evaluated.ensures.refuted (record { base = c.args.cx.now.nodes; formed = c.terms_are_formed.ensures; extends = Extends-refl _; is_ready = c.requires.ready; variances = λ i. [] }) q
+    c.evaluate_root-evaluated.ensures.refuted (Since-now c.terms_are_formed.ensures c.requires.ready) q

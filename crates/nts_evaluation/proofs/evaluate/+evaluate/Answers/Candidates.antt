@@ -132,7 +132,7 @@ compute_goal-returns g t c =
                 let there = Goes-trans goes f.goes in
                 let later = (Goes-trans o.goes there).continues in
                 let among = kept_offered c.in-Some.opened h c.enter_forall.new.table.mode m.kept m.grows.extends (HoldsGoal-extended e.grows.extends posed.holds) e.candidates offered in
-                proved_through c.requires.posed opened o.grows.extends h s.variances (mode_of c.args.table.now.mode) (assumed_in c.evaluate_candidates-response.new.cx.nodes c.evaluate_candidates-response.new.graph) posed (let z = c.is_candidates_goal.ensures c.if-not-is_candidates_goal.false in z.asked) there later f.formed law (rw o.goes.mode at (f.sure y (Since-later all s) among));
+                proved_through c.requires.posed opened o.grows.extends h s.variances (mode_of c.args.table.now.mode) (assumed_in c.evaluate_candidates-response.new.cx.nodes c.evaluate_candidates-response.new.graph) posed (let z = c.is_candidates_goal.ensures c.if-not-is_candidates_goal.false in z.asked) there later f.formed law (rw o.goes.mode at (f.sure y (Since-later (grown o.grows (grown e.grows m.grows)) s) among));
           })
           (rw (c.deref.ensures.value, m.same) at c.evaluate_candidates-response.ensures.found);
       told = λ s tells.
@@ -142,7 +142,7 @@ compute_goal-returns g t c =
           let h = g.H.GoalHandler.handler s.base c.args.handler.now in
           let same = g.met.H.GoalHandler.handler_kept s.base c.relevant_candidates.new.cx.nodes c.args.handler.now s.is_ready (Extends-trans s.extends up) in
           let offered = subst (λ os. LeavesOut os (candidates_of c.relevant_candidates.new.cx.nodes c.in_ok-candidates.candidates.items)) (ap (λ m. (g.H.GoalHandler.handler c.relevant_candidates.new.cx.nodes c.args.handler.now).offers (mode_of m) (tree_at c.relevant_candidates.new.cx.nodes c.in-Some.opened.param_env.node) (tree_at c.relevant_candidates.new.cx.nodes c.in-Some.opened.predicate.node)) c.typing_mode.ensures ∙ same.offers _ _ _) e.offered in
-          let run = rw (c.deref.ensures.value, m.same) at (c.evaluate_candidates-response.ensures.told (Since-later (Extends-trans up m.grows.extends) s) (tell_grown h c.args.depth c.requires.search (grown o.grows (grown e.grows m.grows)) tells)) in
+          let run = rw (c.deref.ensures.value, m.same) at (c.evaluate_candidates-response.ensures.told (Since-later (grown o.grows (grown e.grows m.grows)) s) (tell_grown h c.args.depth c.requires.search (grown o.grows (grown e.grows m.grows)) tells)) in
           IfOk-map c.evaluate_candidates-response.result
           (λ r f. told_through c.requires.posed opened o.grows.extends (let z = c.is_candidates_goal.ensures c.if-not-is_candidates_goal.false in z.asked) h c.args.table.now.mode c.args.values.now c.evaluate_candidates-response.new.cx.nodes r.value trees
           (rw (o.goes.mode) at (told_offered h c.enter_forall.new.table.mode c.enter_forall.new.table c.in-Some.opened c.args.values.now c.in_ok-candidates.candidates.items c.evaluate_candidates-response.new.cx.nodes r.value e.grows.extends o.goes.table posed.holds (both ∙ sym trees) offered
@@ -153,7 +153,7 @@ compute_goal-returns g t c =
           let h = g.H.GoalHandler.handler s.base c.args.handler.now in
           let same = g.met.H.GoalHandler.handler_kept s.base c.relevant_candidates.new.cx.nodes c.args.handler.now s.is_ready (Extends-trans s.extends up) in
           let offered = subst (λ os. LeavesOut os (candidates_of c.relevant_candidates.new.cx.nodes c.in_ok-candidates.candidates.items)) (ap (λ m. (g.H.GoalHandler.handler c.relevant_candidates.new.cx.nodes c.args.handler.now).offers (mode_of m) (tree_at c.relevant_candidates.new.cx.nodes c.in-Some.opened.param_env.node) (tree_at c.relevant_candidates.new.cx.nodes c.in-Some.opened.predicate.node)) c.typing_mode.ensures ∙ same.offers _ _ _) e.offered in
-          let kept = rw (c.deref.ensures.value, m.same) at (c.evaluate_candidates-response.ensures.refuted (Since-later (Extends-trans up m.grows.extends) s) (tell_grown h c.args.depth c.requires.search (grown o.grows (grown e.grows m.grows)) tells) n) in
+          let kept = rw (c.deref.ensures.value, m.same) at (c.evaluate_candidates-response.ensures.refuted (Since-later (grown o.grows (grown e.grows m.grows)) s) (tell_grown h c.args.depth c.requires.search (grown o.grows (grown e.grows m.grows)) tells) n) in
           let run = kept_outcomes c.in-Some.opened h c.enter_forall.new.table.mode c.args.values.now m.kept m.grows.extends (IsTable-extended e.grows.extends o.goes.table) args e.candidates kept in
           refuted_through c.requires.posed opened o.grows.extends (let z = c.is_candidates_goal.ensures c.if-not-is_candidates_goal.false in z.asked) h c.args.table.now.mode (trees_of c.relevant_candidates.new.cx.nodes c.args.values.now)
           (rw (here, o.goes.mode, offers-kept h (mode_of c.args.table.now.mode) e.grows.extends posed.holds) at (all_outcomes offered _ _ refl run));
@@ -183,7 +183,7 @@ evaluate_candidates-loop-candidate-preserved g t c =
     let mode = c.args.table.now.mode in
     let now = search_later c.args.depth c.args.depth (omega arith) c.requires.search i.searches in
     let covers = search_covers c.args.depth now p.grows.extends p.searches in
-    let later = λ (s : Since (λ ts. g.H.GoalHandler.ready ts c.args.handler.now) c.args.cx.now.nodes) (tells : HeadsTell (g.H.GoalHandler.handler s.base c.args.handler.now) c.args.cx.now.nodes c.args.graph.now). heads_tell_later (g.H.GoalHandler.handler s.base c.args.handler.now) c.args.depth c.requires.search i.grows.extends i.searches tells in
+    let later = λ (s : Since (λ ts. g.H.GoalHandler.ready ts c.args.handler.now) c.args.cx.now) (tells : HeadsTell (g.H.GoalHandler.handler s.base c.args.handler.now) c.args.cx.now.nodes c.args.graph.now). heads_tell_later (g.H.GoalHandler.handler s.base c.args.handler.now) c.args.depth c.requires.search i.grows.extends i.searches tells in
     record {
       same = p.same ∙ i.same;
       grows = record { extends = Extends-trans i.grows.extends p.grows.extends; rest = KeepsRest-trans i.grows.rest p.grows.rest };
@@ -191,12 +191,12 @@ evaluate_candidates-loop-candidate-preserved g t c =
       found = founds_more rs new c.probe_candidate-answer.result p.grows.extends (founds_with rs (λ b u f s offered. served_more covers (f s offered)) i.found)
           (IfOk-map c.probe_candidate-answer.result
           (λ r f. found_earlier r.value i.grows.extends w holds c.requires.values
-          (λ b u f s offered. f (Since-later i.grows.extends s)
+          (λ b u f s offered. f (Since-later i.grows s)
           (rw (offers-kept (g.H.GoalHandler.handler s.base c.args.handler.now) (mode_of mode) i.grows.extends holds) (offered_there _ c.args.goal _ cs c.loop-candidate.candidate-index c.candidate-item.is at c.requires.candidates i.grows.extends offered))) f)
           (rw i.same at p.found)) m.kept;
       told = λ s tells. outcomes_more (g.H.GoalHandler.handler s.base c.args.handler.now) mode cs c.loop-candidate.candidate-index x x rs new c.probe_candidate-answer.result at c.candidate-item.is i.grows.extends p.grows.extends w c.requires.values (candidate_at c.args.cx.now.nodes c.args.goal cs c.loop-candidate.candidate-index x c.requires.candidates at) i.found m.kept
-          (rw i.same at (p.told (Since-later i.grows.extends s) (later s tells)))
-          (failed_of c.probe_candidate-answer.result m.dropped (λ n. rw i.same at (p.refuted (Since-later i.grows.extends s) (later s tells) n))) (i.told s tells);
+          (rw i.same at (p.told (Since-later i.grows s) (later s tells)))
+          (failed_of c.probe_candidate-answer.result m.dropped (λ n. rw i.same at (p.refuted (Since-later i.grows s) (later s tells) n))) (i.told s tells);
     }
 
 pub evaluate_candidates-probe_candidate-answer-requires : goal.evaluate_candidates-probe_candidate-answer-requires
@@ -311,7 +311,7 @@ run_candidate-returns g t c =
       labels = only-trans v.labels (only_earlier v.runs.goes.extends c.requires.posed.holds (only-trans k.labels (only_earlier k.runs.goes.extends (HoldsGoal-extended v.runs.goes.extends c.requires.posed.holds) brought)));
       proved = λ s offered y.
           let h = g.H.GoalHandler.handler s.base c.args.handler.now in
-          let since = Since-later (Extends-trans there.goes.extends n.grows.extends) s in
+          let since = Since-later (grown (ran there) n.grows) s in
           let sure = both_sure _ _ (sym c.and.ensures ∙ ok_inside y) in
           let kind = goal_kind (meaning (g.H.GoalHandler.handler s.base c.args.handler.now) s.variances) (tree_at c.args.cx.now.nodes c.args.goal.predicate.node) in
           let settled = rw (upto.goes.mode, c.goal_kind-kind.ensures.kind s.base s.variances) at (e.proved since) in
@@ -328,7 +328,7 @@ run_candidate-returns g t c =
           (has_run h s.variances (mode_of mode) A here seen (map (tree_at z) vs) (tree_at c.args.cx.now.nodes c.args.goal.param_env.node) (tree_at c.args.cx.now.nodes c.args.goal.predicate.node) (term_table c.terms_are_formed.ensures e.runs.goes.table) offered run);
       told = λ s tells.
           let h = g.H.GoalHandler.handler s.base c.args.handler.now in
-          let since = Since-later (Extends-trans there.goes.extends n.grows.extends) s in
+          let since = Since-later (grown (ran there) n.grows) s in
           ran_to {t = c.args.table.now} {u = c.equate.new.table} {v = c.record_constraints.new.table} h mode c.args.goal x vs gs (rw c.deref-2.ensures.value v.equated) (rw (c.deref-3.ensures.value) at k.added) constraints c.requires.candidate.goals v.runs.goes.extends k.runs.goes.extends there.goes.extends n.grows.extends k.runs.goes.table within (rw c.deref-4.ensures.value at n.added.goals) c.try_evaluate_goals.new.cx.nodes c.try_evaluate_goals.new.table (rw upto.goes.mode at (c.in_ok-certainty.ensures.told since (tell_grown h c.args.depth c.requires.search (grown (ran c.in_ok-values.ensures.runs) (grown (ran c.in_ok-record_constraints.ensures.runs) c.in_ok-goals.ensures.grows)) tells)));
       refuted = search rules;
     }
@@ -354,7 +354,7 @@ run_candidate-returns-in_err-certainty g t c =
       told = search rules;
       refuted = λ s tells no.
           let h = g.H.GoalHandler.handler s.base c.args.handler.now in
-          let since = Since-later (Extends-trans there.goes.extends n.grows.extends) s in
+          let since = Since-later (grown (ran there) n.grows) s in
           let refused : c.try_evaluate_goals.result ≡ Err EvalError.NoSolution = search rules in
           ran_refused {t = c.args.table.now} {u = c.equate.new.table} {v = c.record_constraints.new.table} h mode c.args.goal x vs gs (rw c.deref-2.ensures.value v.equated) (rw (c.deref-3.ensures.value) at k.added) constraints c.requires.candidate.goals v.runs.goes.extends k.runs.goes.extends there.goes.extends n.grows.extends k.runs.goes.table within (rw c.deref-4.ensures.value at n.added.goals) (rw upto.goes.mode at (c.try_evaluate_goals.ensures.refuted since (tell_grown h c.args.depth c.requires.search (grown (ran c.in_ok-values.ensures.runs) (grown (ran c.in_ok-record_constraints.ensures.runs) c.in_ok-goals.ensures.grows)) tells) (kind_asked c.goal_kind-kind.result (meaning h s.variances) (c.goal_kind-kind.ensures.kind s.base s.variances) c.requires.asked) refused));
     }

@@ -88,13 +88,13 @@ evaluate_goal-returns g t c =
           (λ x is applied y.
           rw (all.kept c.args.goal.param_env.node holds.env.within, all.kept c.args.goal.predicate.node holds.predicate.within)
           (stays_more (covers_passed (path_kind_of c.args.step) (assumed_in c.search.new.cx.nodes c.search.new.graph) (assumed_in c.apply_answer-evaluated.new.cx.nodes c.search.new.graph) covers) (asked_stays c.requires.posed q.query q.grows.extends k.grows.extends c.apply_answer-evaluated.new.table c.in_ok-answer.answer.value applied (meaning_since (λ ts. g.H.GoalHandler.handler ts c.args.handler.now) s) (mode_of c.args.table.now.mode) A c.terms_are_formed.ensures e.runs.goes.table k.fits
-          (rw q.query.mode at (k.proved (Since-later q.grows.extends s) (sym is ∙ y))))))
+          (rw q.query.mode at (k.proved (Since-later q.grows s) (sym is ∙ y))))))
           (rw c.deref-2.ensures at e.certainty) (rw (c.deref.ensures.value, c.deref-2.ensures) at e.applied);
       told = λ s tells.
           OnOk-map c.apply_answer-evaluated.result
-          (λ applied. asks c.requires.posed q.query q.grows.extends k.grows.extends c.apply_answer-evaluated.new.table c.in_ok-answer.answer.value applied k.fits (rw q.query.mode at (k.told (Since-later q.grows.extends s) (tell_grown (g.H.GoalHandler.handler s.base c.args.handler.now) (c.args.depth + 1) c.requires.search q.grows tells))))
+          (λ applied. asks c.requires.posed q.query q.grows.extends k.grows.extends c.apply_answer-evaluated.new.table c.in_ok-answer.answer.value applied k.fits (rw q.query.mode at (k.told (Since-later q.grows s) (tell_grown (g.H.GoalHandler.handler s.base c.args.handler.now) (c.args.depth + 1) c.requires.search q.grows tells))))
           (rw (c.deref.ensures.value, c.deref-2.ensures) at c.apply_answer-evaluated.ensures.applied);
-      refuted = λ s tells n. inl (response_refused c.requires.posed q.query q.grows.extends k.grows.extends c.in_ok-answer.answer.value k.fits (rw q.query.mode at (k.told (Since-later q.grows.extends s) (tell_grown (g.H.GoalHandler.handler s.base c.args.handler.now) (c.args.depth + 1) c.requires.search q.grows tells))) (rw (c.deref.ensures.value, c.deref-2.ensures) at (c.apply_answer-evaluated.ensures.no n)));
+      refuted = λ s tells n. inl (response_refused c.requires.posed q.query q.grows.extends k.grows.extends c.in_ok-answer.answer.value k.fits (rw q.query.mode at (k.told (Since-later q.grows s) (tell_grown (g.H.GoalHandler.handler s.base c.args.handler.now) (c.args.depth + 1) c.requires.search q.grows tells))) (rw (c.deref.ensures.value, c.deref-2.ensures) at (c.apply_answer-evaluated.ensures.no n)));
     }
 
 pub evaluate_goal-search-requires : goal.evaluate_goal-search-requires
@@ -175,8 +175,8 @@ evaluate_round-returns g t c =
           (λ w same ends.
           round_ends (λ o. IfSome o (λ r. r.value.certainty ≡ certainty.Yes → IsDerivedFrom h (mode_of input.typing_mode) (assumptions (entry_at z w.value.entry ∷ entries_at z c.end_round.new.graph)) (answer_sequent (form_of a input) (response_at z r)))) c.compute_goal-response.result w.value.answer ends
           (λ r is y.
-          let found : Found (λ d u. (v : Since (λ ts. g.H.GoalHandler.ready ts c.args.handler.now) c.query_table.new.cx.nodes) → IsProvedNow (λ ts. g.H.GoalHandler.handler ts c.args.handler.now) v c.in_ok-table.table.value.mode (assumed_in c.compute_goal-response.new.cx.nodes c.compute_goal-response.new.graph) d u c.in_ok-table.goal) c.query_table.new.cx.nodes c.compute_goal-response.new.cx.nodes c.in_ok-table.table.value c.in_ok-table.goal c.in_ok-table.values.items r.value = rw (c.deref_mut.ensures.value, c.deref-2.ensures.value, is) at c.compute_goal-response.ensures.found in
-          let proved : IsProvedFrom h (mode_of c.in_ok-table.table.value.mode) A (content_of found.store found.after.entries) (tree_at found.store asked.param_env.node) (tree_at found.store asked.predicate.node) = found.sure y (Since-later k.grows.extends s) in
+          let found : Found (λ d u. (v : Since (λ ts. g.H.GoalHandler.ready ts c.args.handler.now) c.query_table.new.cx) → IsProvedNow (λ ts. g.H.GoalHandler.handler ts c.args.handler.now) v c.in_ok-table.table.value.mode (assumed_in c.compute_goal-response.new.cx.nodes c.compute_goal-response.new.graph) d u c.in_ok-table.goal) c.query_table.new.cx.nodes c.compute_goal-response.new.cx.nodes c.in_ok-table.table.value c.in_ok-table.goal c.in_ok-table.values.items r.value = rw (c.deref_mut.ensures.value, c.deref-2.ensures.value, is) at c.compute_goal-response.ensures.found in
+          let proved : IsProvedFrom h (mode_of c.in_ok-table.table.value.mode) A (content_of found.store found.after.entries) (tree_at found.store asked.param_env.node) (tree_at found.store asked.predicate.node) = found.sure y (Since-later k.grows s) in
           let there : IsProvedFrom h (mode_of input.typing_mode) A (content_of found.store found.after.entries) (tree_at found.store asked.param_env.node) (tree_at found.store asked.predicate.node) = subst (λ v. IsProvedFrom h v A (content_of found.store found.after.entries) (tree_at found.store asked.param_env.node) (tree_at found.store asked.predicate.node)) x.mode proved in
           subst (λ (e : StackEntry). IsDerivedFrom h (mode_of input.typing_mode) (assumptions (entry_at z e ∷ entries_at z c.end_round.new.graph)) (answer_sequent (form_of a input) (response_at z r.value))) (sym same)
           (subst (λ es. IsDerivedFrom h (mode_of input.typing_mode) (assumptions es) (answer_sequent (form_of a input) (response_at z r.value))) popped
@@ -187,8 +187,8 @@ evaluate_round-returns g t c =
           let before = (tell_pushed c.push_query.new.graph (g.H.GoalHandler.handler s.base c.args.handler.now) (c.args.depth + 1) c.args.asked.value.input c.args.step c.args.asked.value.provisional c.requires.search k.grows c.requires.input c.requires.provisional c.in_ok-push_query.ensures.pushed tells told) in
           IfOk-map c.end_round.result
           (λ w ends. round_ends (IsAnswerTold h mode c.compute_goal-response.new.cx.nodes f) c.compute_goal-response.result w.value.answer ends
-          (λ r is. rw (x.first, x.environment, x.predicate, x.values, x.mode) at (rw (c.deref_mut.ensures.value, c.deref-2.ensures.value, is) at (c.compute_goal-response.ensures.told (Since-later k.grows.extends s) before)))
-          (λ no. rw (x.first, x.environment, x.predicate, x.mode) at (rw c.deref_mut.ensures.value at (c.compute_goal-response.ensures.refuted (Since-later k.grows.extends s) before no))))
+          (λ r is. rw (x.first, x.environment, x.predicate, x.values, x.mode) at (rw (c.deref_mut.ensures.value, c.deref-2.ensures.value, is) at (c.compute_goal-response.ensures.told (Since-later k.grows s) before)))
+          (λ no. rw (x.first, x.environment, x.predicate, x.mode) at (rw c.deref_mut.ensures.value at (c.compute_goal-response.ensures.refuted (Since-later k.grows s) before no))))
           c.end_round.ensures.answer;
       no = search rules;
     }
@@ -248,7 +248,7 @@ evaluate_rounds-loop-round-preserved g t c =
           let mode = mode_of c.args.input.value.typing_mode in
           let later = heads_tell_later h (c.args.depth + 1) c.requires.search i.grows.extends noted tells in
           let before = round_told h c.loop-round.cx.nodes c.args.input.value c.loop-round.asked.value.input (form_of c.args.cx.now.nodes c.args.input.value) (form_of c.loop-round.cx.nodes c.loop-round.asked.value.input) c.loop-round.asked.value.provisional (sym i.input) (sym form) (i.told s tells) in
-          let told = round_told h z c.loop-round.asked.value.input c.args.input.value (form_of c.loop-round.cx.nodes c.loop-round.asked.value.input) (form_of c.args.cx.now.nodes c.args.input.value) c.in_ok-ended.ended.value.answer i.input form (e.told (Since-later i.grows.extends s) later before) in
+          let told = round_told h z c.loop-round.asked.value.input c.args.input.value (form_of c.loop-round.cx.nodes c.loop-round.asked.value.input) (form_of c.args.cx.now.nodes c.args.input.value) c.in_ok-ended.ended.value.answer i.input form (e.told (Since-later i.grows s) later before) in
           subst (λ (y : Asked). IsAnswerTold h mode z (form_of c.args.cx.now.nodes c.args.input.value) y.provisional) (sym next) told;
     }
 
@@ -272,20 +272,20 @@ evaluate_rounds-returns-then-round_is_last g t c =
           last_each c.in_ok-ended.ended.value.answer c.last_answer.result c.last_answer.ensures.some c.last_answer.ensures.none
           (λ r is sure.
           let last = rw (c.deref.ensures, c.deref-in-loop-round.ensures, is) at (c.round_is_last.ensures.0 c.if-round_is_last.true) in
-          let derived = round_proved m z (assumptions (entry_at z x ∷ entries_at z c.evaluate_round.new.graph)) c.loop-round.asked.value.input c.args.input.value (form_of c.loop-round.cx.nodes c.loop-round.asked.value.input) (form_of c.args.cx.now.nodes c.args.input.value) c.in_ok-ended.ended.value.answer r i.input form is (e.proved (Since-later i.grows.extends s)) sure in
+          let derived = round_proved m z (assumptions (entry_at z x ∷ entries_at z c.evaluate_round.new.graph)) c.loop-round.asked.value.input c.args.input.value (form_of c.loop-round.cx.nodes c.loop-round.asked.value.input) (form_of c.args.cx.now.nodes c.args.input.value) c.in_ok-ended.ended.value.answer r i.input form is (e.proved (Since-later i.grows s)) sure in
           round_closes m (mode_of c.args.input.value.typing_mode) z c.evaluate_round.new.graph x c.args.input.value c.args.step (form_of c.args.cx.now.nodes c.args.input.value) r (e.entry.0 ∙ i.input) e.entry.1
           (form_later c.args.cx.now.nodes z c.args.input.value (Extends-trans i.grows.extends e.grows.extends) c.requires.input) last sure derived);
       told = λ s tells.
           let h = g.H.GoalHandler.handler s.base c.args.handler.now in
           let later = heads_tell_later h (c.args.depth + 1) c.requires.search i.grows.extends noted tells in
           let before = round_told h c.loop-round.cx.nodes c.args.input.value c.loop-round.asked.value.input (form_of c.args.cx.now.nodes c.args.input.value) (form_of c.loop-round.cx.nodes c.loop-round.asked.value.input) c.loop-round.asked.value.provisional (sym i.input) (sym form) (i.told s tells) in
-          let told = round_told h z c.loop-round.asked.value.input c.args.input.value (form_of c.loop-round.cx.nodes c.loop-round.asked.value.input) (form_of c.args.cx.now.nodes c.args.input.value) c.in_ok-ended.ended.value.answer i.input form (e.told (Since-later i.grows.extends s) later before) in
+          let told = round_told h z c.loop-round.asked.value.input c.args.input.value (form_of c.loop-round.cx.nodes c.loop-round.asked.value.input) (form_of c.args.cx.now.nodes c.args.input.value) c.in_ok-ended.ended.value.answer i.input form (e.told (Since-later i.grows s) later before) in
           last_told c.in_ok-ended.ended.value.answer c.last_answer.result c.last_answer.ensures.some c.last_answer.ensures.none h mode z (form_of c.args.cx.now.nodes c.args.input.value) told;
       refuted = λ s tells no.
           let h = g.H.GoalHandler.handler s.base c.args.handler.now in
           let later = heads_tell_later h (c.args.depth + 1) c.requires.search i.grows.extends noted tells in
           let before = round_told h c.loop-round.cx.nodes c.args.input.value c.loop-round.asked.value.input (form_of c.args.cx.now.nodes c.args.input.value) (form_of c.loop-round.cx.nodes c.loop-round.asked.value.input) c.loop-round.asked.value.provisional (sym i.input) (sym form) (i.told s tells) in
-          let told = round_told h z c.loop-round.asked.value.input c.args.input.value (form_of c.loop-round.cx.nodes c.loop-round.asked.value.input) (form_of c.args.cx.now.nodes c.args.input.value) c.in_ok-ended.ended.value.answer i.input form (e.told (Since-later i.grows.extends s) later before) in
+          let told = round_told h z c.loop-round.asked.value.input c.args.input.value (form_of c.loop-round.cx.nodes c.loop-round.asked.value.input) (form_of c.args.cx.now.nodes c.args.input.value) c.in_ok-ended.ended.value.answer i.input form (e.told (Since-later i.grows s) later before) in
           inl (last_refuted c.in_ok-ended.ended.value.answer c.last_answer.result c.last_answer.ensures.some c.last_answer.ensures.none h mode z (form_of c.args.cx.now.nodes c.args.input.value) told no);
     }
 
