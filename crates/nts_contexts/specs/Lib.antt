@@ -1,3 +1,4 @@
 pub mod Faults
 pub mod Contexts
 pub mod Related
+pub mod Promises

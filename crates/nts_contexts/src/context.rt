@@ -35,12 +35,19 @@ impl<'a, H: GoalHandler> EvalCtxt<'a, H> {
     ) -> Result<R, EvalError>
         requires table { IsTable cx.old.nodes table.old }
         requires ready { H.ready cx.old.nodes handler.now }
-        requires callable { (before : MutBor (EvalCtxt H)) → IsRootContext H.ready table.old cx.old handler.now root_depth before.now → F.pre f before }
-        requires keeps { (before : _) (r : _) (after : _) → F.post f before r after → IsContextReady H.ready before.now → KeepsContext H.ready before.now after.now }
-        requires no_goals { (before : _) (r : _) (after : _) → F.post f before r after → IsRootContext H.ready table.old cx.old handler.now root_depth before.now → OnOk r (after.now.state.now.nested_goals.items ≡ []) }
+        requires callable { (before : MutBor (EvalCtxt H)) →
+            IsRootContext H.ready table.old cx.old handler.now root_depth before.now →
+            F.pre f before }
+        requires keeps { (before : _) (r : _) (after : _) → F.post f before r after →
+            IsContextReady H.ready before.now → KeepsContext H.ready before.now after.now }
+        requires no_goals { (before : _) (r : _) (after : _) → F.post f before r after →
+            IsRootContext H.ready table.old cx.old handler.now root_depth before.now →
+            OnOk r (after.now.state.now.nested_goals.items ≡ []) }
         ensures runs { Runs cx.old cx.new table.old table.new }
         ensures err { OnErr result (table.new ≡ table.old) }
-        ensures answers { AnsweredNoFault result → IsContextRun (λ b r a. F.post f b r a) (IsRootContext H.ready table.old cx.old handler.now root_depth) result (IsLeftByRoot result table.new cx.new) }
+        ensures answers { AnsweredNoFault result → IsContextRun (λ b r a. F.post f b r a)
+            (IsRootContext H.ready table.old cx.old handler.now root_depth) result
+            (IsLeftByRoot result table.new cx.new) }
     {
         let snapshot = table.start_snapshot()?;
         let mut state = EvalState {
@@ -77,13 +84,17 @@ impl<'a, H: GoalHandler> EvalCtxt<'a, H> {
         f: F,
     ) -> Result<R, EvalError>
         requires ready { IsContextReady H.ready self.old }
-        requires callable { (before : MutBor (EvalCtxt H)) → IsProbe H.ready self.old before.now → F.pre f before }
-        requires keeps { (before : _) (r : _) (after : _) → F.post f before r after → IsContextReady H.ready before.now → KeepsContext H.ready before.now after.now }
+        requires callable { (before : MutBor (EvalCtxt H)) → IsProbe H.ready self.old before.now →
+            F.pre f before }
+        requires keeps { (before : _) (r : _) (after : _) → F.post f before r after →
+            IsContextReady H.ready before.now → KeepsContext H.ready before.now after.now }
         ensures keeps { KeepsContext H.ready self.old self.new }
         ensures table { self.new.table.now ≡ self.old.table.now }
-        ensures goals { self.new.state.now.nested_goals.items ≡ self.old.state.now.nested_goals.items }
+        ensures goals { self.new.state.now.nested_goals.items
+            ≡ self.old.state.now.nested_goals.items }
         ensures nothing { EvaluatedNothing self.old.state.now self.new.state.now }
-        ensures answers { AnsweredNoFault result → IsContextRun (λ b r a. F.post f b r a) (IsProbe H.ready self.old) result (λ c. c.state.now.fault ≡ self.new.state.now.fault) }
+        ensures answers { AnsweredNoFault result → IsContextRun (λ b r a. F.post f b r a)
+            (IsProbe H.ready self.old) result (λ c. c.state.now.fault ≡ self.new.state.now.fault) }
         ensures noted { IfSome (fault_in result) (λ f. IsSome self.new.state.now.fault) }
         ensures faulted { IfSome self.old.state.now.fault (λ f. result ≡ Err (error_of f)) }
     {
@@ -113,7 +124,8 @@ impl<'a, H: GoalHandler> EvalCtxt<'a, H> {
         ensures store { self.new.cx.now ≡ self.old.cx.now }
         ensures handler { self.new.handler ≡ self.old.handler }
         ensures state { self.new.state.ghost_name ≡ self.old.state.ghost_name }
-        ensures left { self.new.state.now ≡ record self.old.state.now { fault = fault_after self.old.state.now.fault result } }
+        ensures left { self.new.state.now ≡ record self.old.state.now { fault = fault_after
+            self.old.state.now.fault result } }
         ensures refused { IfErr result (λ e. IsSome (fault_of e)) }
         ensures faulted { IfSome self.old.state.now.fault (λ f. result ≡ Err (error_of f)) }
     {

@@ -1,14 +1,13 @@
 //! Goals of a context are evaluated.
-ghost use Rattle.std.specs.Prelude.{◌≡◌, ◌≤◌, ◌+◌, true, [], None, Ok, Err, IfOk, IfSome, OnOk};
+ghost use Rattle.std.specs.Prelude.{◌≡◌, ◌≤◌, ◌+◌, true, [], None, Ok, Err, IfOk, OnOk};
 ghost use Rattle.nts_certainty.specs.declared.certainty.Certainty.TheVariants as certainty;
-ghost use Rattle.nts_store.specs.Errors.{error_of};
 ghost use Rattle.nts_response.specs.Forms.{response_at, HoldsResponse};
 ghost use Rattle.nts_queries.specs.Asking.{IsResponseOf};
 ghost use Rattle.nts_queries.specs.Answering.{told_in};
-ghost use Rattle.nts_queries.specs.Meant.{Since, IsProvedSince, ReachesBy, RefusesOneOf};
-ghost use Rattle.nts_queries.specs.Stepping.{AreLeft, AreSettled};
+ghost use Rattle.nts_queries.specs.Meant.{rules_of, Always};
 ghost use Rattle.nts_contexts.specs.Faults.{fault_after, tainted_after};
 ghost use Rattle.nts_contexts.specs.Contexts.{IsContextReady, KeepsContext, content_in};
+ghost use Rattle.nts_contexts.specs.Promises.{EvaluatesAdded, ReachesAdded, RefusesOneAdded};
 
 use crate::context::EvalCtxt;
 use nts_certainty::Certainty;
@@ -25,15 +24,20 @@ impl<H: GoalHandler> EvalCtxt<'_, H> {
     pub fn try_evaluate_added_goals(&mut self) -> Result<Certainty, EvalError>
         requires ready { IsContextReady H.ready self.old }
         ensures keeps { KeepsContext H.ready self.old self.new }
-        ensures steps { self.old.state.now.fault ≡ None → self.new.state.now.last_steps ≤ self.old.cx.now.step_limit }
-        ensures left { AreLeft self.old.state.now.nested_goals.items self.new.state.now.nested_goals.items }
-        ensures proved { (s : Since (λ ts. H.ready ts self.old.handler.now) self.old.cx.now.nodes) → OnOk result (AreSettled (λ z. IsProvedSince (λ ts. H.handler ts self.old.handler.now) s self.old.table.now.mode self.new.cx.now.nodes self.new.table.now z.1) self.old.state.now.nested_goals.items self.new.state.now.nested_goals.items) }
+        ensures evaluates { EvaluatesAdded (rules_of H.ready H.handler self.old.handler.now)
+            self.old self.new result }
+        ensures steps { self.old.state.now.fault ≡ None →
+            self.new.state.now.last_steps ≤ self.old.cx.now.step_limit }
         ensures sure { result ≡ Ok certainty.Yes → self.new.state.now.nested_goals.items ≡ [] }
-        ensures told { (s : Since (λ ts. H.ready ts self.old.handler.now) self.old.cx.now.nodes) → OnOk result (ReachesBy (H.handler s.base self.old.handler.now) self.old.table.now.mode self.old.cx.now.nodes self.old.table.now self.new.cx.now.nodes self.new.table.now self.old.state.now.nested_goals.items) }
-        ensures refuted { (s : Since (λ ts. H.ready ts self.old.handler.now) self.old.cx.now.nodes) → result ≡ Err EvalError.NoSolution → RefusesOneOf (H.handler s.base self.old.handler.now) self.old.table.now.mode self.old.cx.now.nodes self.old.table.now self.old.state.now.nested_goals.items }
-        ensures taint { self.new.state.now.is_tainted ≡ tainted_after self.old.state.now.is_tainted result }
+        ensures told { Always (rules_of H.ready H.handler self.old.handler.now) self.old.cx.now
+            (λ s. OnOk result
+            (ReachesAdded (H.handler s.base self.old.handler.now) self.old self.new)) }
+        ensures refuted { Always (rules_of H.ready H.handler self.old.handler.now) self.old.cx.now
+            (λ s. result ≡ Err EvalError.NoSolution →
+            RefusesOneAdded (H.handler s.base self.old.handler.now) self.old) }
+        ensures taint { self.new.state.now.is_tainted
+            ≡ tainted_after self.old.state.now.is_tainted result }
         ensures fault { self.new.state.now.fault ≡ fault_after self.old.state.now.fault result }
-        ensures faulted { IfSome self.old.state.now.fault (λ f. result ≡ Err (error_of f)) }
     {
         self.state.check()?;
         let alloc = self.cx.alloc;
@@ -62,13 +66,16 @@ impl<H: GoalHandler> EvalCtxt<'_, H> {
     ) -> Result<CanonicalResponse, EvalError>
         requires ready { IsContextReady H.ready self.old }
         ensures keeps { KeepsContext H.ready self.old self.new }
-        ensures left { AreLeft self.old.state.now.nested_goals.items self.new.state.now.nested_goals.items }
-        ensures proved { (s : Since (λ ts. H.ready ts self.old.handler.now) self.old.cx.now.nodes) → OnOk result (AreSettled (λ z. IsProvedSince (λ ts. H.handler ts self.old.handler.now) s self.old.table.now.mode self.new.cx.now.nodes self.new.table.now z.1) self.old.state.now.nested_goals.items self.new.state.now.nested_goals.items) }
-        ensures certain { IfOk result (λ r. r.value.certainty ≡ certainty.Yes → (shallow_certainty ≡ certainty.Yes) × (self.new.state.now.nested_goals.items ≡ [])) }
-        ensures says { IfOk result (λ r. IsResponseOf (told_in r.value.certainty (content_in self.new)) [] (response_at self.new.cx.now.nodes r)) }
+        ensures evaluates { EvaluatesAdded (rules_of H.ready H.handler self.old.handler.now)
+            self.old self.new result }
+        ensures certain { IfOk result (λ r. r.value.certainty ≡ certainty.Yes →
+            (shallow_certainty ≡ certainty.Yes) × (self.new.state.now.nested_goals.items ≡ [])) }
+        ensures says { IfOk result (λ r. IsResponseOf
+            (told_in r.value.certainty (content_in self.new)) []
+            (response_at self.new.cx.now.nodes r)) }
         ensures holds { IfOk result (λ r. HoldsResponse self.new.cx.now.nodes r.value) }
-        ensures tainted { self.old.state.now.fault ≡ None → self.old.state.now.is_tainted ≡ true → result ≡ Err EvalError.NoSolution }
-        ensures faulted { IfSome self.old.state.now.fault (λ f. result ≡ Err (error_of f)) }
+        ensures tainted { self.old.state.now.fault ≡ None →
+            self.old.state.now.is_tainted ≡ true → result ≡ Err EvalError.NoSolution }
     {
         self.state.check()?;
         if self.state.is_tainted {

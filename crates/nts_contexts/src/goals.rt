@@ -18,8 +18,11 @@ impl<H: GoalHandler> EvalCtxt<'_, H> {
         ensures keeps { KeepsContext H.ready self.old self.new }
         ensures table { self.new.table.now ≡ self.old.table.now }
         ensures cx { self.new.cx.now ≡ self.old.cx.now }
-        ensures ok { OnOk result (self.new.state.now.nested_goals.items ≡ self.old.state.now.nested_goals.items ++ (source, goal) ∷ []) }
-        ensures err { OnErr result (self.new.state.now.nested_goals.items ≡ self.old.state.now.nested_goals.items) }
+        ensures ok { OnOk result
+            (self.new.state.now.nested_goals.items ≡ self.old.state.now.nested_goals.items ++
+            (source, goal) ∷ []) }
+        ensures err { OnErr result
+            (self.new.state.now.nested_goals.items ≡ self.old.state.now.nested_goals.items) }
         ensures nothing { EvaluatedNothing self.old.state.now self.new.state.now }
         ensures fault { self.new.state.now.fault ≡ fault_after self.old.state.now.fault result }
         ensures faulted { IfSome self.old.state.now.fault (λ f. result ≡ Err (error_of f)) }
@@ -36,8 +39,11 @@ impl<H: GoalHandler> EvalCtxt<'_, H> {
         ensures keeps { KeepsContext H.ready self.old self.new }
         ensures table { self.new.table.now ≡ self.old.table.now }
         ensures cx { self.new.cx.now ≡ self.old.cx.now }
-        ensures ok { OnOk result (self.new.state.now.nested_goals.items ≡ self.old.state.now.nested_goals.items ++ map (λ g. (source, g)) goals.now) }
-        ensures err { OnErr result (self.new.state.now.nested_goals.items ≡ self.old.state.now.nested_goals.items) }
+        ensures ok { OnOk result
+            (self.new.state.now.nested_goals.items ≡ self.old.state.now.nested_goals.items ++ map
+            (λ g. (source, g)) goals.now) }
+        ensures err { OnErr result
+            (self.new.state.now.nested_goals.items ≡ self.old.state.now.nested_goals.items) }
         ensures empty { goals.now ≡ [] → self.old.state.now.fault ≡ None → result ≡ Ok tt }
         ensures nothing { EvaluatedNothing self.old.state.now self.new.state.now }
         ensures fault { self.new.state.now.fault ≡ fault_after self.old.state.now.fault result }

@@ -1,19 +1,18 @@
 //! Values that are related in a context.
-ghost use Rattle.std.specs.Prelude.{◌≡◌, ◌++◌, [], map, All, Ok, Err, IfOk, IfErr, IfSome, OnOk, OnErr};
+ghost use Rattle.std.specs.Prelude.{◌≡◌, ◌++◌, [], map, Ok, Err, IfOk, IfErr, IfSome, OnOk, OnErr};
 ghost use Rattle.nts_certainty.specs.declared.sources.GoalSource.TheVariants as sources;
 ghost use Rattle.nts_model.specs.declared.labels.Variance.TheVariants as variances;
 ghost use Rattle.nts_model.specs.Tables.Equations.{AreRelated, AreUnrelated};
 ghost use Rattle.nts_model.specs.Tables.Passing.{BringsLabelsOf};
 ghost use Rattle.nts_store.specs.Errors.{error_of};
-ghost use Rattle.nts_store.specs.Growth.{tree_at};
 ghost use Rattle.nts_terms.specs.Signatures.{variances_in};
-ghost use Rattle.nts_unify.specs.Reading.{content_of};
 ghost use Rattle.nts_table.specs.Tables.{IsTable, IsSide};
-ghost use Rattle.nts_solver_relating.specs.Sides.{ArePlain, AreMadeEqual, IsRelatedBy, RefusesSides};
+ghost use Rattle.nts_solver_relating.specs.Sides.{ArePlainIn, AreUnrelatedIn, RefusesIn};
 ghost use Rattle.nts_queries.specs.Evaluation.{Runs};
 ghost use Rattle.nts_contexts.specs.Related.{IsEnvOf, AddsRelated, AreEquatedIn, KeepsState};
 ghost use Rattle.nts_contexts.specs.Faults.{fault_after};
-ghost use Rattle.nts_contexts.specs.Contexts.{IsContextReady, IsGoalOfContext, KeepsContext, EvaluatedNothing, content_in, tree_in};
+ghost use Rattle.nts_contexts.specs.Contexts.{IsContextReady, KeepsContext, EvaluatedNothing, content_in, tree_in};
+ghost use Rattle.nts_contexts.specs.Promises.{RelatesIn, EquatesIn};
 
 use crate::context::EvalCtxt;
 use crate::state::EvalState;
@@ -33,7 +32,8 @@ fn push_related(
     state: &mut EvalState,
     related: Result<Vec<Goal>, EvalError>,
 ) -> Result<(), EvalError>
-    ensures ok { IfOk related (λ gs. OnOk result (state.new.nested_goals.items ≡ state.old.nested_goals.items ++ map (λ g. (sources.TypeRelating, g)) gs.items)) }
+    ensures ok { IfOk related (λ gs. OnOk result (state.new.nested_goals.items
+        ≡ state.old.nested_goals.items ++ map (λ g. (sources.TypeRelating, g)) gs.items)) }
     ensures none { IfOk related (λ gs. gs.items ≡ [] → result ≡ Ok tt) }
     ensures refused { IfErr related (λ e. result ≡ Err e) }
     ensures no { result ≡ Err EvalError.NoSolution → related ≡ Err EvalError.NoSolution }
@@ -64,10 +64,17 @@ fn relate_and_push<T: Relate>(
     requires right { IsSide T.place cx.old.nodes table.old (T.id rhs) }
     ensures runs { Runs cx.old cx.new table.old table.new }
     ensures heads { OnOk result (T.head lhs ≡ T.head rhs) }
-    ensures related { OnOk result (AddsRelated cx.old cx.new table.old table.new state.old state.new env variance (T.id lhs) (T.id rhs)) }
-    ensures equal { ArePlain variance (content_of cx.old.nodes table.old.entries) (tree_at cx.old.nodes (T.id lhs)) (tree_at cx.old.nodes (T.id rhs)) → OnOk result (AreEquatedIn cx.old cx.new table.old table.new state.old state.new (T.id lhs) (T.id rhs)) }
-    ensures no { result ≡ Err EvalError.NoSolution → T.head lhs ≡ T.head rhs → RefusesSides (variances_in cx.old.declarations) (content_of cx.old.nodes table.old.entries) variance (tree_at cx.old.nodes (T.id lhs)) (tree_at cx.old.nodes (T.id rhs)) }
-    ensures unequal { ArePlain variance (content_of cx.old.nodes table.old.entries) (tree_at cx.old.nodes (T.id lhs)) (tree_at cx.old.nodes (T.id rhs)) → result ≡ Err EvalError.NoSolution → T.head lhs ≡ T.head rhs → AreUnrelated (content_of cx.old.nodes table.old.entries) (tree_at cx.old.nodes (T.id lhs)) (tree_at cx.old.nodes (T.id rhs)) }
+    ensures related { OnOk result (AddsRelated cx.old cx.new table.old table.new state.old state.new
+        env variance (T.id lhs) (T.id rhs)) }
+    ensures equal { ArePlainIn variance cx.old.nodes table.old.entries (T.id lhs) (T.id rhs) →
+        OnOk result (AreEquatedIn cx.old cx.new table.old table.new state.old state.new
+        (T.id lhs) (T.id rhs)) }
+    ensures no { result ≡ Err EvalError.NoSolution → T.head lhs ≡ T.head rhs → RefusesIn
+        (variances_in cx.old.declarations) cx.old.nodes table.old.entries variance
+        (T.id lhs) (T.id rhs) }
+    ensures unequal { ArePlainIn variance cx.old.nodes table.old.entries (T.id lhs) (T.id rhs) →
+        result ≡ Err EvalError.NoSolution → T.head lhs ≡ T.head rhs →
+        AreUnrelatedIn cx.old.nodes table.old.entries (T.id lhs) (T.id rhs) }
     ensures goals { OnErr result (state.new.nested_goals.items ≡ state.old.nested_goals.items) }
     ensures err { OnErr result (table.new ≡ table.old) }
     ensures kept { KeepsState state.old state.new }
@@ -98,17 +105,8 @@ impl<H: GoalHandler> EvalCtxt<'_, H> {
         requires env { IsEnvOf self.old.cx.now self.old.table.now env }
         requires left { IsSide T.place self.old.cx.now.nodes self.old.table.now (T.id lhs) }
         requires right { IsSide T.place self.old.cx.now.nodes self.old.table.now (T.id rhs) }
-        ensures keeps { KeepsContext H.ready self.old self.new }
-        ensures heads { OnOk result (T.head lhs ≡ T.head rhs) }
-        ensures related { OnOk result (AddsRelated self.old.cx.now self.new.cx.now self.old.table.now self.new.table.now self.old.state.now self.new.state.now env variance (T.id lhs) (T.id rhs)) }
-        ensures equal { ArePlain variance (content_in self.old) (tree_in self.old (T.id lhs)) (tree_in self.old (T.id rhs)) → OnOk result (AreEquatedIn self.old.cx.now self.new.cx.now self.old.table.now self.new.table.now self.old.state.now self.new.state.now (T.id lhs) (T.id rhs)) }
-        ensures no { result ≡ Err EvalError.NoSolution → T.head lhs ≡ T.head rhs → RefusesSides (variances_in self.old.cx.now.declarations) (content_in self.old) variance (tree_in self.old (T.id lhs)) (tree_in self.old (T.id rhs)) }
-        ensures unequal { ArePlain variance (content_in self.old) (tree_in self.old (T.id lhs)) (tree_in self.old (T.id rhs)) → result ≡ Err EvalError.NoSolution → T.head lhs ≡ T.head rhs → AreUnrelated (content_in self.old) (tree_in self.old (T.id lhs)) (tree_in self.old (T.id rhs)) }
-        ensures goals { OnErr result (self.new.state.now.nested_goals.items ≡ self.old.state.now.nested_goals.items) }
-        ensures err { OnErr result (self.new.table.now ≡ self.old.table.now) }
-        ensures nothing { EvaluatedNothing self.old.state.now self.new.state.now }
-        ensures fault { self.new.state.now.fault ≡ fault_after self.old.state.now.fault result }
-        ensures faulted { IfSome self.old.state.now.fault (λ f. result ≡ Err (error_of f)) }
+        ensures { RelatesIn H.ready (T.head lhs ≡ T.head rhs) self.old self.new env variance
+            (T.id lhs) (T.id rhs) result }
     {
         self.state.check()?;
         let related = relate_and_push(self.table, self.cx, self.state, env, lhs, variance, rhs);
@@ -121,15 +119,9 @@ impl<H: GoalHandler> EvalCtxt<'_, H> {
         requires env { IsEnvOf self.old.cx.now self.old.table.now env }
         requires left { IsSide T.place self.old.cx.now.nodes self.old.table.now (T.id sub) }
         requires right { IsSide T.place self.old.cx.now.nodes self.old.table.now (T.id sup) }
-        ensures keeps { KeepsContext H.ready self.old self.new }
-        ensures heads { OnOk result (T.head sub ≡ T.head sup) }
-        ensures related { OnOk result (AddsRelated self.old.cx.now self.new.cx.now self.old.table.now self.new.table.now self.old.state.now self.new.state.now env variances.Covariant (T.id sub) (T.id sup)) }
-        ensures no { result ≡ Err EvalError.NoSolution → T.head sub ≡ T.head sup → RefusesSides (variances_in self.old.cx.now.declarations) (content_in self.old) variances.Covariant (tree_in self.old (T.id sub)) (tree_in self.old (T.id sup)) }
-        ensures goals { OnErr result (self.new.state.now.nested_goals.items ≡ self.old.state.now.nested_goals.items) }
-        ensures err { OnErr result (self.new.table.now ≡ self.old.table.now) }
-        ensures nothing { EvaluatedNothing self.old.state.now self.new.state.now }
-        ensures fault { self.new.state.now.fault ≡ fault_after self.old.state.now.fault result }
-        ensures faulted { IfSome self.old.state.now.fault (λ f. result ≡ Err (error_of f)) }
+        ensures { RelatesIn H.ready (T.head sub ≡ T.head sup) self.old self.new env
+            variances.Covariant
+            (T.id sub) (T.id sup) result }
     {
         self.relate(env, sub, Variance::Covariant, sup)
     }
@@ -141,17 +133,9 @@ impl<H: GoalHandler> EvalCtxt<'_, H> {
         requires env { IsEnvOf self.old.cx.now self.old.table.now env }
         requires left { IsSide T.place self.old.cx.now.nodes self.old.table.now (T.id lhs) }
         requires right { IsSide T.place self.old.cx.now.nodes self.old.table.now (T.id rhs) }
-        ensures keeps { KeepsContext H.ready self.old self.new }
-        ensures heads { OnOk result (T.head lhs ≡ T.head rhs) }
-        ensures related { OnOk result (AddsRelated self.old.cx.now self.new.cx.now self.old.table.now self.new.table.now self.old.state.now self.new.state.now env variances.Invariant (T.id lhs) (T.id rhs)) }
-        ensures equal { ArePlain variances.Invariant (content_in self.old) (tree_in self.old (T.id lhs)) (tree_in self.old (T.id rhs)) → OnOk result (AreEquatedIn self.old.cx.now self.new.cx.now self.old.table.now self.new.table.now self.old.state.now self.new.state.now (T.id lhs) (T.id rhs)) }
-        ensures no { result ≡ Err EvalError.NoSolution → T.head lhs ≡ T.head rhs → RefusesSides (variances_in self.old.cx.now.declarations) (content_in self.old) variances.Invariant (tree_in self.old (T.id lhs)) (tree_in self.old (T.id rhs)) }
-        ensures unequal { ArePlain variances.Invariant (content_in self.old) (tree_in self.old (T.id lhs)) (tree_in self.old (T.id rhs)) → result ≡ Err EvalError.NoSolution → T.head lhs ≡ T.head rhs → AreUnrelated (content_in self.old) (tree_in self.old (T.id lhs)) (tree_in self.old (T.id rhs)) }
-        ensures goals { OnErr result (self.new.state.now.nested_goals.items ≡ self.old.state.now.nested_goals.items) }
-        ensures err { OnErr result (self.new.table.now ≡ self.old.table.now) }
-        ensures nothing { EvaluatedNothing self.old.state.now self.new.state.now }
-        ensures fault { self.new.state.now.fault ≡ fault_after self.old.state.now.fault result }
-        ensures faulted { IfSome self.old.state.now.fault (λ f. result ≡ Err (error_of f)) }
+        ensures { RelatesIn H.ready (T.head lhs ≡ T.head rhs) self.old self.new env
+            variances.Invariant
+            (T.id lhs) (T.id rhs) result }
     {
         self.relate(env, lhs, Variance::Invariant, rhs)
     }
@@ -168,18 +152,8 @@ impl<H: GoalHandler> EvalCtxt<'_, H> {
         requires env { IsEnvOf self.old.cx.now self.old.table.now env }
         requires left { IsSide T.place self.old.cx.now.nodes self.old.table.now (T.id lhs) }
         requires right { IsSide T.place self.old.cx.now.nodes self.old.table.now (T.id rhs) }
-        ensures keeps { KeepsContext H.ready self.old self.new }
-        ensures posed { IfOk result (λ gs. All (IsGoalOfContext self.new) gs.items) }
-        ensures goals { self.new.state.now.nested_goals.items ≡ self.old.state.now.nested_goals.items }
-        ensures heads { OnOk result (T.head lhs ≡ T.head rhs) }
-        ensures related { IfOk result (λ gs. IsRelatedBy (variances_in self.old.cx.now.declarations) self.old.cx.now.nodes self.new.cx.now.nodes self.old.table.now.entries self.new.table.now.entries env variances.Invariant (tree_in self.old (T.id lhs)) (tree_in self.old (T.id rhs)) gs.items) }
-        ensures equal { ArePlain variances.Invariant (content_in self.old) (tree_in self.old (T.id lhs)) (tree_in self.old (T.id rhs)) → IfOk result (λ gs. AreMadeEqual (content_in self.old) (content_in self.new) (tree_in self.old (T.id lhs)) (tree_in self.old (T.id rhs)) gs.items) }
-        ensures no { result ≡ Err EvalError.NoSolution → T.head lhs ≡ T.head rhs → RefusesSides (variances_in self.old.cx.now.declarations) (content_in self.old) variances.Invariant (tree_in self.old (T.id lhs)) (tree_in self.old (T.id rhs)) }
-        ensures unequal { ArePlain variances.Invariant (content_in self.old) (tree_in self.old (T.id lhs)) (tree_in self.old (T.id rhs)) → result ≡ Err EvalError.NoSolution → T.head lhs ≡ T.head rhs → AreUnrelated (content_in self.old) (tree_in self.old (T.id lhs)) (tree_in self.old (T.id rhs)) }
-        ensures err { OnErr result (self.new.table.now ≡ self.old.table.now) }
-        ensures nothing { EvaluatedNothing self.old.state.now self.new.state.now }
-        ensures fault { self.new.state.now.fault ≡ fault_after self.old.state.now.fault result }
-        ensures faulted { IfSome self.old.state.now.fault (λ f. result ≡ Err (error_of f)) }
+        ensures { EquatesIn H.ready (T.head lhs ≡ T.head rhs) self.old self.new env
+            (T.id lhs) (T.id rhs) result }
     {
         self.state.check()?;
         let span = self.state.span;
@@ -200,11 +174,16 @@ impl<H: GoalHandler> EvalCtxt<'_, H> {
         requires left { IsSide T.place self.old.cx.now.nodes self.old.table.now (T.id lhs) }
         requires right { IsSide T.place self.old.cx.now.nodes self.old.table.now (T.id rhs) }
         ensures keeps { KeepsContext H.ready self.old self.new }
-        ensures goals { self.new.state.now.nested_goals.items ≡ self.old.state.now.nested_goals.items }
+        ensures goals
+            { self.new.state.now.nested_goals.items ≡ self.old.state.now.nested_goals.items }
         ensures heads { OnOk result (T.head lhs ≡ T.head rhs) }
-        ensures related { OnOk result (AreRelated (content_in self.old) (content_in self.new) (tree_in self.old (T.id lhs)) (tree_in self.old (T.id rhs))) }
-        ensures labels { OnOk result (BringsLabelsOf (content_in self.old) (content_in self.new) (tree_in self.old (T.id lhs)) (tree_in self.old (T.id rhs))) }
-        ensures no { result ≡ Err EvalError.NoSolution → T.head lhs ≡ T.head rhs → AreUnrelated (content_in self.old) (tree_in self.old (T.id lhs)) (tree_in self.old (T.id rhs)) }
+        ensures related { OnOk result (AreRelated (content_in self.old) (content_in self.new)
+            (tree_in self.old (T.id lhs)) (tree_in self.old (T.id rhs))) }
+        ensures labels { OnOk result (BringsLabelsOf (content_in self.old) (content_in self.new)
+            (tree_in self.old (T.id lhs)) (tree_in self.old (T.id rhs))) }
+        ensures no { result ≡ Err EvalError.NoSolution → T.head lhs ≡ T.head rhs →
+            AreUnrelated (content_in self.old) (tree_in self.old (T.id lhs)) (tree_in self.old
+            (T.id rhs)) }
         ensures err { OnErr result (self.new.table.now ≡ self.old.table.now) }
         ensures nothing { EvaluatedNothing self.old.state.now self.new.state.now }
         ensures fault { self.new.state.now.fault ≡ fault_after self.old.state.now.fault result }

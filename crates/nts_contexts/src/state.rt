@@ -93,7 +93,9 @@ impl EvalState {
         answer: Result<R, EvalError>,
     ) -> Result<R, EvalError>
         ensures same { result ≡ answer }
-        ensures state { self.new ≡ record self.old { nested_goals = goals; last_steps = last_steps; is_tainted = tainted_after self.old.is_tainted answer; fault = fault_after self.old.fault answer } }
+        ensures state { self.new ≡ record self.old { nested_goals = goals; last_steps = last_steps;
+            is_tainted = tainted_after self.old.is_tainted answer; fault = fault_after
+            self.old.fault answer } }
     {
         self.nested_goals = goals;
         self.last_steps = last_steps;
@@ -120,7 +122,8 @@ impl EvalState {
 
     /// Adds a goal from that source.
     pub(crate) fn push(&mut self, source: GoalSource, goal: Goal) -> Result<(), AllocError>
-        ensures ok { OnOk result (self.new.nested_goals.items ≡ self.old.nested_goals.items ++ (source, goal) ∷ []) }
+        ensures ok { OnOk result
+            (self.new.nested_goals.items ≡ self.old.nested_goals.items ++ (source, goal) ∷ []) }
         ensures err { OnErr result (self.new.nested_goals.items ≡ self.old.nested_goals.items) }
         ensures taint { self.new.is_tainted ≡ self.old.is_tainted }
         ensures fault { self.new.fault ≡ self.old.fault }
@@ -138,7 +141,8 @@ impl EvalState {
         source: GoalSource,
         goals: &[Goal],
     ) -> Result<(), AllocError>
-        ensures ok { OnOk result (self.new.nested_goals.items ≡ self.old.nested_goals.items ++ map (λ g. (source, g)) goals.now) }
+        ensures ok { OnOk result (self.new.nested_goals.items ≡ self.old.nested_goals.items ++ map
+            (λ g. (source, g)) goals.now) }
         ensures err { OnErr result (self.new.nested_goals.items ≡ self.old.nested_goals.items) }
         ensures empty { goals.now ≡ [] → result ≡ Ok tt }
         ensures taint { self.new.is_tainted ≡ self.old.is_tainted }

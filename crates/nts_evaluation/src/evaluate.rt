@@ -64,8 +64,8 @@ pub fn search<H: GoalHandler>(
     requires input { IsQueryInput cx.old.nodes input.value }
     requires ready { H.ready cx.old.nodes handler.now }
     requires search { IsSearch cx.old graph.old (depth + 1) }
-    ensures { AnswersQuery (rules_of H.ready H.handler handler.now) cx.old cx.new graph.old graph.new
-        input.value step result }
+    ensures { AnswersQuery (rules_of H.ready H.handler handler.now) cx.old cx.new
+        graph.old graph.new input.value step result }
 {
     if let Some(head) = graph.find(cx, &input) {
         return answer_cycle(cx, graph, head, &input, step);
@@ -91,8 +91,8 @@ fn evaluate_rounds<H: GoalHandler>(
     requires input { IsQueryInput cx.old.nodes input.value }
     requires ready { H.ready cx.old.nodes handler.now }
     requires search { IsSearch cx.old graph.old (depth + 1) }
-    ensures { AnswersQuery (rules_of H.ready H.handler handler.now) cx.old cx.new graph.old graph.new
-        input.value step result }
+    ensures { AnswersQuery (rules_of H.ready H.handler handler.now) cx.old cx.new
+        graph.old graph.new input.value step result }
 {
     let mut asked = first_round(cx, input)?;
     for round in 0..cx.round_limit() {
@@ -119,7 +119,8 @@ fn evaluate_round<H: GoalHandler>(
     depth: usize,
 ) -> Result<Box<Ended>, EvalError>
     requires input { IsQueryInput cx.old.nodes asked.value.input }
-    requires provisional { IsHeadAnswer cx.old.nodes (kinds_of asked.value.input) asked.value.provisional }
+    requires provisional { IsHeadAnswer cx.old.nodes (kinds_of asked.value.input)
+        asked.value.provisional }
     requires ready { H.ready cx.old.nodes handler.now }
     requires search { IsSearch cx.old graph.old (depth + 1) }
     ensures { EndsRound (rules_of H.ready H.handler handler.now) cx.old cx.new graph.old graph.new

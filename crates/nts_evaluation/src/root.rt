@@ -36,13 +36,14 @@ pub fn evaluate_input<H: GoalHandler>(
     ensures searches { Searches cx.old cx.new graph.old graph.new }
     ensures grows { Grows cx.old cx.new }
     ensures fits { IfOk result (λ o. IfSome o (IsAnswerTo cx.new.nodes (kinds_of input))) }
-    ensures proved { IfOk result (λ o. IfSome o (λ r. r.value.certainty ≡ certainty.Yes → IsInputProved
-        (meaning (H.handler cx.old.nodes handler.now) (variances_in cx.old.declarations))
-        cx.old.nodes input cx.new.nodes r)) }
+    ensures proved { (let h = H.handler cx.old.nodes handler.now in IfOk result (λ o. IfSome o (λ r.
+        r.value.certainty ≡ certainty.Yes → IsInputProved
+        (meaning h (variances_in cx.old.declarations)) cx.old.nodes input cx.new.nodes r))) }
     ensures told { IfOk result (λ o. IfSome o (IsQueryTold (H.handler cx.old.nodes handler.now)
         (mode_of input.typing_mode) cx.old.nodes input cx.new.nodes)) }
-    ensures refuted { IfOk result (λ o. IsNone o → IsQueryRefuted (H.handler cx.old.nodes handler.now)
-        (mode_of input.typing_mode) cx.old.nodes input ⊎ IsCut input.typing_mode step_kind) }
+    ensures refuted { IfOk result (λ o. IsNone o → IsQueryRefuted
+        (H.handler cx.old.nodes handler.now) (mode_of input.typing_mode) cx.old.nodes input
+        ⊎ IsCut input.typing_mode step_kind) }
 {
     terms_are_formed(cx);
     let depth = graph.root_depth;

@@ -80,16 +80,16 @@ pub fn evaluate_root_goal<H: GoalHandler>(
     requires admitted { IsAdmitted cx.old.nodes table.old goal }
     ensures runs { Runs cx.old cx.new table.old table.new }
     ensures goal { IfOk result (λ e. IsGoalUnder cx.old.nodes cx.new.nodes table.old goal e.goal) }
-    ensures evaluates { IfOk result (λ e. EvaluatesUnder cx.old.nodes cx.new.nodes table.old table.new
-        goal e.has_changed) }
+    ensures evaluates { IfOk result (λ e. EvaluatesUnder cx.old.nodes cx.new.nodes
+        table.old table.new goal e.has_changed) }
     ensures stalled { IfOk result (λ e. e.stalled_on ≡ None) }
     ensures err { OnErr result (table.new ≡ table.old) }
     ensures proved { IfOk result (λ e. e.certainty ≡ certainty.Yes → HasRankedProofIn
         (meaning (H.handler cx.old.nodes handler.now) (variances_in cx.old.declarations))
         (mode_of table.old.mode) cx.new.nodes table.new goal) }
-    ensures falls { HasNoCoinductiveTrait (H.handler cx.old.nodes handler.now) → IfOk result (λ e.
-        e.certainty ≡ certainty.Yes → HasFallingProofIn (meaning (H.handler cx.old.nodes handler.now)
-        (variances_in cx.old.declarations)) (mode_of table.old.mode) cx.new.nodes table.new goal) }
+    ensures falls { (let h = H.handler cx.old.nodes handler.now in HasNoCoinductiveTrait h →
+        IfOk result (λ e. e.certainty ≡ certainty.Yes → HasFallingProofIn (meaning h (variances_in
+        cx.old.declarations)) (mode_of table.old.mode) cx.new.nodes table.new goal)) }
     ensures told { OnOk result (IsAskedUnder (H.handler cx.old.nodes handler.now) table.old.mode
         cx.old.nodes table.old cx.new.nodes table.new goal) }
     ensures refuted { result ≡ Err EvalError.NoSolution → IsRefusedUnder
@@ -113,19 +113,19 @@ fn evaluate_root<H: GoalHandler>(
     requires ready { H.ready cx.old.nodes handler.now }
     ensures runs { Runs cx.old cx.new table.old table.new }
     ensures goal { IfOk result (λ e. IsGoalUnder cx.old.nodes cx.new.nodes table.old goal e.goal) }
-    ensures evaluates { IfOk result (λ e. EvaluatesUnder cx.old.nodes cx.new.nodes table.old table.new
-        goal e.has_changed) }
+    ensures evaluates { IfOk result (λ e. EvaluatesUnder cx.old.nodes cx.new.nodes
+        table.old table.new goal e.has_changed) }
     ensures stalled { IfOk result (λ e. e.stalled_on ≡ None) }
     ensures err { OnErr result (table.new ≡ table.old) }
     ensures proved { Always (rules_of H.ready H.handler handler.now) cx.old (λ s. IfOk result (λ e.
-        e.certainty ≡ certainty.Yes → IsProvedSince (λ ts. H.handler ts handler.now) s table.old.mode
-        cx.new.nodes table.new goal)) }
+        e.certainty ≡ certainty.Yes → IsProvedSince (λ ts. H.handler ts handler.now) s
+        table.old.mode cx.new.nodes table.new goal)) }
     ensures told { Always (rules_of H.ready H.handler handler.now) cx.old (λ s. OnOk result
         (IsAskedUnder (H.handler s.base handler.now) table.old.mode cx.old.nodes table.old
         cx.new.nodes table.new goal)) }
     ensures refuted { Always (rules_of H.ready H.handler handler.now) cx.old (λ s.
-        result ≡ Err EvalError.NoSolution → IsRefusedUnder (H.handler s.base handler.now) table.old.mode
-        cx.old.nodes table.old goal) }
+        result ≡ Err EvalError.NoSolution → IsRefusedUnder (H.handler s.base handler.now)
+        table.old.mode cx.old.nodes table.old goal) }
 {
     let asked = resolve_goal(table, cx, goal)?;
     let depth = cx.recursion_limit();

@@ -10,7 +10,7 @@ use Rattle.nts_model.specs.Terms.Trees.{Tree, node, children, row_length, kind_o
 use Rattle.nts_model.specs.Tables.Contents.{Content}
 use Rattle.nts_model.specs.Tables.Resolving.{Knows}
 use Rattle.nts_model.specs.Variances.Relations.{Relating as Pair}
-use Rattle.nts_model.specs.Tables.Equations.{AreRelated}
+use Rattle.nts_model.specs.Tables.Equations.{AreRelated, AreUnrelated}
 use Rattle.nts_model.specs.Tables.Passing.{BringsLabelsOf}
 use Rattle.nts_relating.specs.Relating.{IsPlainIn}
 use Rattle.nts_store.specs.declared.nodes.NodeId.{NodeId}
@@ -111,6 +111,22 @@ pub record AreMadeEqual (c d : Content) (a b : Tree) (gs : List Goal) : Type 0 w
   pub none : gs ≡ []
   pub related : AreRelated c d a b
   pub labels : BringsLabelsOf c d a b
+
+-- .. of two terms of a store, under a table of these entries
+abbrev pub IsRelatedIn : (ℕ → List Variance) → List Tree → List Tree → Entries → Entries → ParamEnv → Variance → NodeId → NodeId → List Goal → Type 0
+IsRelatedIn declared ts us e f env v x y gs = IsRelatedBy declared ts us e f env v (tree_at ts x) (tree_at ts y) gs
+
+abbrev pub RefusesIn : (ℕ → List Variance) → List Tree → Entries → Variance → NodeId → NodeId → Type 0
+RefusesIn declared ts e v x y = RefusesSides declared (content_of ts e) v (tree_at ts x) (tree_at ts y)
+
+abbrev pub ArePlainIn : Variance → List Tree → Entries → NodeId → NodeId → Type 0
+ArePlainIn v ts e x y = ArePlain v (content_of ts e) (tree_at ts x) (tree_at ts y)
+
+abbrev pub AreMadeEqualIn : List Tree → List Tree → Entries → Entries → NodeId → NodeId → List Goal → Type 0
+AreMadeEqualIn ts us e f x y gs = AreMadeEqual (content_of ts e) (content_of us f) (tree_at ts x) (tree_at ts y) gs
+
+abbrev pub AreUnrelatedIn : List Tree → Entries → NodeId → NodeId → Type 0
+AreUnrelatedIn ts e x y = AreUnrelated (content_of ts e) (tree_at ts x) (tree_at ts y)
 
 -- what relating keeps, whatever it answers: the store grew at most, and the table is one of it; its snapshots, mode, current universe
 -- and hidden types are as before

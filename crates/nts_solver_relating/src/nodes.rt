@@ -4,7 +4,6 @@ ghost use Rattle.nts_model.specs.declared.labels.Sort.TheVariants as sorts;
 ghost use Rattle.nts_model.specs.declared.labels.Variance.TheVariants as variances;
 ghost use Rattle.nts_model.specs.Terms.Trees.{kind_of, of_sort, any_label, is_alias};
 ghost use Rattle.nts_model.specs.Tables.Resolving.{Knows, resolved};
-ghost use Rattle.nts_model.specs.Tables.Equations.{AreUnrelated};
 ghost use Rattle.nts_relating.specs.Relating.{IsPlainIn};
 ghost use Rattle.nts_store.specs.Growth.{tree_at, IsIn, Extends};
 ghost use Rattle.nts_terms.specs.Signatures.{variances_in};
@@ -14,7 +13,7 @@ ghost use Rattle.nts_variance.specs.Terms.{pairs_at, AreGoals};
 ghost use Rattle.nts_table.specs.Tables.{IsTable};
 ghost use Rattle.nts_table.specs.Frames.{ChangesVariables};
 ghost use Rattle.nts_solver_relating.specs.Promises.{RelatesSides};
-ghost use Rattle.nts_solver_relating.specs.Sides.{is_list, variance_at, CanRelate, SidesRelate, RefusesSides, AreWithin, AreMadeFor, IsRelatedBy, AreMadeEqual, ArePlain};
+ghost use Rattle.nts_solver_relating.specs.Sides.{is_list, variance_at, CanRelate, SidesRelate, AreWithin, AreMadeFor, IsRelatedIn, RefusesIn, ArePlainIn, AreMadeEqualIn, AreUnrelatedIn};
 
 use nts_model::{Label, ListHead, Sort, Variance};
 use nts_relating::relate_nodes;
@@ -59,9 +58,12 @@ fn relate_sides(
     ensures extends { Extends nodes.old nodes.new }
     ensures changes { KeepsHidden table.old table.new }
     ensures lawful { IsLawful nodes.new table.new.entries }
-    ensures related { IfOk result (λ gs. SidesRelate (variances_in declarations.now) nodes.old nodes.new table.old.entries table.new.entries variance (tree_at nodes.old left) (tree_at nodes.old right) gs.items) }
+    ensures related { IfOk result (λ gs. SidesRelate (variances_in declarations.now) nodes.old
+        nodes.new table.old.entries table.new.entries variance (tree_at nodes.old left)
+        (tree_at nodes.old right) gs.items) }
     ensures full { result ≢ Err EvalError.Full }
-    ensures no { result ≡ Err EvalError.NoSolution → RefusesSides (variances_in declarations.now) (content_of nodes.old table.old.entries) variance (tree_at nodes.old left) (tree_at nodes.old right) }
+    ensures no { result ≡ Err EvalError.NoSolution →
+        RefusesIn (variances_in declarations.now) nodes.old table.old.entries variance left right }
 {
     if is_list_node(nodes, left) {
         return relate_rows(alloc, nodes, declarations, table, left, right);
@@ -111,9 +113,11 @@ fn relate_for_goals(
     ensures extends { Extends nodes.old nodes.new }
     ensures changes { KeepsHidden table.old table.new }
     ensures lawful { IsLawful nodes.new table.new.entries }
-    ensures related { IfOk result (λ gs. IsRelatedBy (variances_in declarations.now) nodes.old nodes.new table.old.entries table.new.entries env variance (tree_at nodes.old left) (tree_at nodes.old right) gs.items) }
+    ensures related { IfOk result (λ gs. IsRelatedIn (variances_in declarations.now) nodes.old
+        nodes.new table.old.entries table.new.entries env variance left right gs.items) }
     ensures full { result ≢ Err EvalError.Full }
-    ensures no { result ≡ Err EvalError.NoSolution → RefusesSides (variances_in declarations.now) (content_of nodes.old table.old.entries) variance (tree_at nodes.old left) (tree_at nodes.old right) }
+    ensures no { result ≡ Err EvalError.NoSolution →
+        RefusesIn (variances_in declarations.now) nodes.old table.old.entries variance left right }
 {
     match relate_sides(alloc, nodes, declarations, table, variance, left, right) {
         Err(error) => Err(error),
@@ -137,10 +141,12 @@ fn relate_or_leave(
     ensures extends { Extends nodes.old nodes.new }
     ensures changes { KeepsHidden table.old table.new }
     ensures lawful { IsLawful nodes.new table.new.entries }
-    ensures related { IfOk result (λ gs. IsRelatedBy (variances_in declarations.now) nodes.old nodes.new table.old.entries table.new.entries env variance (tree_at nodes.old left) (tree_at nodes.old right) gs.items) }
+    ensures related { IfOk result (λ gs. IsRelatedIn (variances_in declarations.now) nodes.old
+        nodes.new table.old.entries table.new.entries env variance left right gs.items) }
     ensures err { OnErr result (table.new ≡ table.old) }
     ensures full { result ≢ Err EvalError.Full }
-    ensures no { result ≡ Err EvalError.NoSolution → RefusesSides (variances_in declarations.now) (content_of nodes.old table.old.entries) variance (tree_at nodes.old left) (tree_at nodes.old right) }
+    ensures no { result ≡ Err EvalError.NoSolution →
+        RefusesIn (variances_in declarations.now) nodes.old table.old.entries variance left right }
 {
     let snapshot = table.start_snapshot()?;
     let related = relate_for_goals(
@@ -167,7 +173,8 @@ fn has_alias(
     requires table { IsTable nodes.old table.now }
     requires knows { Knows (content_of nodes.old table.now.entries) (tree_at nodes.old t) }
     ensures extends { Extends nodes.old nodes.new }
-    ensures answer { IfOk result (λ b. b ≡ any_label is_alias (resolved (content_of nodes.old table.now.entries) (tree_at nodes.old t))) }
+    ensures answer { IfOk result (λ b. b ≡ any_label is_alias
+        (resolved (content_of nodes.old table.now.entries) (tree_at nodes.old t))) }
 {
     let flags = nodes.flags(t);
     if !flags.has_infer {
@@ -194,12 +201,17 @@ fn equate_plain(
     ensures extends { Extends nodes.old nodes.new }
     ensures changes { KeepsHidden table.old table.new }
     ensures lawful { IsLawful nodes.new table.new.entries }
-    ensures related { IfOk result (λ gs. IsRelatedBy (variances_in declarations.now) nodes.old nodes.new table.old.entries table.new.entries env variances.Invariant (tree_at nodes.old left) (tree_at nodes.old right) gs.items) }
-    ensures equal { IfOk result (λ gs. AreMadeEqual (content_of nodes.old table.old.entries) (content_of nodes.new table.new.entries) (tree_at nodes.old left) (tree_at nodes.old right) gs.items) }
+    ensures related { IfOk result (λ gs. IsRelatedIn (variances_in declarations.now) nodes.old
+        nodes.new table.old.entries table.new.entries env variances.Invariant left right gs.items) }
+    ensures equal { IfOk result (λ gs. AreMadeEqualIn nodes.old nodes.new table.old.entries
+        table.new.entries left right gs.items) }
     ensures err { OnErr result (table.new ≡ table.old) }
     ensures full { result ≢ Err EvalError.Full }
-    ensures no { result ≡ Err EvalError.NoSolution → RefusesSides (variances_in declarations.now) (content_of nodes.old table.old.entries) variances.Invariant (tree_at nodes.old left) (tree_at nodes.old right) }
-    ensures unequal { result ≡ Err EvalError.NoSolution → AreUnrelated (content_of nodes.old table.old.entries) (tree_at nodes.old left) (tree_at nodes.old right) }
+    ensures no { result ≡ Err EvalError.NoSolution →
+        RefusesIn (variances_in declarations.now) nodes.old table.old.entries variances.Invariant
+        left right }
+    ensures unequal { result ≡ Err EvalError.NoSolution →
+        AreUnrelatedIn nodes.old table.old.entries left right }
 {
     // The nodes of a store are formed.
     let _ = nodes.len();
@@ -303,8 +315,10 @@ fn are_plain(
     requires table { IsTable nodes.old table.now }
     requires sides { CanRelate nodes.old (content_of nodes.old table.now.entries) left right }
     ensures extends { Extends nodes.old nodes.new }
-    ensures yes { IfOk result (λ b. b ≡ true → ArePlain variance (content_of nodes.old table.now.entries) (tree_at nodes.old left) (tree_at nodes.old right)) }
-    ensures no { IfOk result (λ b. b ≡ false → ArePlain variance (content_of nodes.old table.now.entries) (tree_at nodes.old left) (tree_at nodes.old right) → ⊥) }
+    ensures yes { IfOk result (λ b. b ≡ true →
+        ArePlainIn variance nodes.old table.now.entries left right) }
+    ensures no { IfOk result (λ b. b ≡ false →
+        ArePlainIn variance nodes.old table.now.entries left right → ⊥) }
 {
     if variance != Variance::Invariant {
         return Ok(false);
@@ -337,12 +351,17 @@ pub fn relate_by(
     ensures extends { Extends nodes.old nodes.new }
     ensures table { IsTable nodes.new table.new }
     ensures changes { ChangesVariables table.old table.new }
-    ensures related { IfOk result (λ gs. IsRelatedBy (variances_in declarations.now) nodes.old nodes.new table.old.entries table.new.entries env variance (tree_at nodes.old left) (tree_at nodes.old right) gs.items) }
-    ensures equal { ArePlain variance (content_of nodes.old table.old.entries) (tree_at nodes.old left) (tree_at nodes.old right) → IfOk result (λ gs. AreMadeEqual (content_of nodes.old table.old.entries) (content_of nodes.new table.new.entries) (tree_at nodes.old left) (tree_at nodes.old right) gs.items) }
+    ensures related { IfOk result (λ gs. IsRelatedIn (variances_in declarations.now) nodes.old
+        nodes.new table.old.entries table.new.entries env variance left right gs.items) }
+    ensures equal { ArePlainIn variance nodes.old table.old.entries left right →
+        IfOk result (λ gs. AreMadeEqualIn nodes.old nodes.new table.old.entries table.new.entries
+        left right gs.items) }
     ensures err { OnErr result (table.new ≡ table.old) }
     ensures full { result ≢ Err EvalError.Full }
-    ensures no { result ≡ Err EvalError.NoSolution → RefusesSides (variances_in declarations.now) (content_of nodes.old table.old.entries) variance (tree_at nodes.old left) (tree_at nodes.old right) }
-    ensures unequal { ArePlain variance (content_of nodes.old table.old.entries) (tree_at nodes.old left) (tree_at nodes.old right) → result ≡ Err EvalError.NoSolution → AreUnrelated (content_of nodes.old table.old.entries) (tree_at nodes.old left) (tree_at nodes.old right) }
+    ensures no { result ≡ Err EvalError.NoSolution →
+        RefusesIn (variances_in declarations.now) nodes.old table.old.entries variance left right }
+    ensures unequal { ArePlainIn variance nodes.old table.old.entries left right →
+        result ≡ Err EvalError.NoSolution → AreUnrelatedIn nodes.old table.old.entries left right }
 {
     if are_plain(alloc, nodes, table, variance, left, right)? {
         return equate_plain(

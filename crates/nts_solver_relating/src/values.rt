@@ -1,11 +1,8 @@
 //! Two values of the table related by a variance.
 ghost use Rattle.std.specs.Prelude.{◌≡◌, ◌≢◌, OnOk, OnErr, IfOk, Err};
-ghost use Rattle.nts_model.specs.Tables.Equations.{AreUnrelated};
-ghost use Rattle.nts_store.specs.Growth.{tree_at};
 ghost use Rattle.nts_terms.specs.Signatures.{variances_in};
-ghost use Rattle.nts_unify.specs.Reading.{content_of};
 ghost use Rattle.nts_table.specs.Tables.{Table, IsTable, IsSide};
-ghost use Rattle.nts_solver_relating.specs.Sides.{ArePlain, AreMadeEqual, IsRelatedBy, RefusesSides, SolverRelatingKeeps};
+ghost use Rattle.nts_solver_relating.specs.Sides.{SolverRelatingKeeps, IsRelatedIn, RefusesIn, ArePlainIn, AreMadeEqualIn, AreUnrelatedIn};
 
 use crate::nodes::relate_by;
 use nts_model::Variance;
@@ -40,10 +37,18 @@ pub trait RelateExt {
         requires right { IsSide T.place cx.old.nodes (seen self.old) (T.id rhs) }
         ensures keeps { SolverRelatingKeeps cx.old cx.new (seen self.old) (seen self.new) }
         ensures heads { OnOk result (T.head lhs ≡ T.head rhs) }
-        ensures related { IfOk result (λ gs. IsRelatedBy (variances_in cx.old.declarations) cx.old.nodes cx.new.nodes (seen self.old).entries (seen self.new).entries env variance (tree_at cx.old.nodes (T.id lhs)) (tree_at cx.old.nodes (T.id rhs)) gs.items) }
-        ensures equal { ArePlain variance (content_of cx.old.nodes (seen self.old).entries) (tree_at cx.old.nodes (T.id lhs)) (tree_at cx.old.nodes (T.id rhs)) → IfOk result (λ gs. AreMadeEqual (content_of cx.old.nodes (seen self.old).entries) (content_of cx.new.nodes (seen self.new).entries) (tree_at cx.old.nodes (T.id lhs)) (tree_at cx.old.nodes (T.id rhs)) gs.items) }
-        ensures no { result ≡ Err EvalError.NoSolution → T.head lhs ≡ T.head rhs → RefusesSides (variances_in cx.old.declarations) (content_of cx.old.nodes (seen self.old).entries) variance (tree_at cx.old.nodes (T.id lhs)) (tree_at cx.old.nodes (T.id rhs)) }
-        ensures unequal { ArePlain variance (content_of cx.old.nodes (seen self.old).entries) (tree_at cx.old.nodes (T.id lhs)) (tree_at cx.old.nodes (T.id rhs)) → result ≡ Err EvalError.NoSolution → T.head lhs ≡ T.head rhs → AreUnrelated (content_of cx.old.nodes (seen self.old).entries) (tree_at cx.old.nodes (T.id lhs)) (tree_at cx.old.nodes (T.id rhs)) }
+        ensures related { IfOk result (λ gs. IsRelatedIn (variances_in cx.old.declarations)
+            cx.old.nodes cx.new.nodes (seen self.old).entries (seen self.new).entries env variance
+            (T.id lhs) (T.id rhs) gs.items) }
+        ensures equal { ArePlainIn variance cx.old.nodes (seen self.old).entries (T.id lhs)
+            (T.id rhs) → IfOk result (λ gs. AreMadeEqualIn cx.old.nodes cx.new.nodes
+            (seen self.old).entries (seen self.new).entries (T.id lhs) (T.id rhs) gs.items) }
+        ensures no { result ≡ Err EvalError.NoSolution → T.head lhs ≡ T.head rhs →
+            RefusesIn (variances_in cx.old.declarations) cx.old.nodes
+            (seen self.old).entries variance (T.id lhs) (T.id rhs) }
+        ensures unequal { ArePlainIn variance cx.old.nodes (seen self.old).entries (T.id lhs)
+            (T.id rhs) → result ≡ Err EvalError.NoSolution → T.head lhs ≡ T.head rhs →
+            AreUnrelatedIn cx.old.nodes (seen self.old).entries (T.id lhs) (T.id rhs) }
         ensures err { OnErr result (seen self.new ≡ seen self.old) }
         ensures full { result ≢ Err EvalError.Full };
 }

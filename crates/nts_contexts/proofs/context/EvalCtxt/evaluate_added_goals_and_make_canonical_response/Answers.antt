@@ -1,4 +1,5 @@
-use Rattle.std.proofs.Common.{refl}
+use Rattle.std.proofs.Common.{refl, rules}
+use Rattle.std.proofs.lemmas.Result.{IfOk-from_err}
 use Rattle.nts_unify.specs.Lawful.{content_of-extended}
 use Rattle.nts_queries.proofs.Evaluating.{Goes-extends, Runs-extends}
 use Rattle.nts_queries.proofs.Stepping.{settled_after}
@@ -29,13 +30,32 @@ returns-in-Err-clause-keeps g c =
     keeps_then e.keeps
     (keeps_ran c.try_evaluate_added_goals.new.self.state.now _ g.met.H.GoalHandler.ready_kept h refl refl refl refl (Runs-extends h.table m.grows.extends m.grows.rest) c.note.ensures.fault h.goals none refl refl)
 
-pub returns-in-Ok-clause-proved : goal.returns-in-Ok-clause-proved
-returns-in-Ok-clause-proved g c = λ s.
+pub returns-in_err-check-clause-evaluates : goal.returns-in_err-check-clause-evaluates
+returns-in_err-check-clause-evaluates g c =
+    record { left = search rules; proved = λ s. IfOk-from_err c.from_residual.result _ (search rules); faulted = search rules }
+
+pub returns-then-self-clause-evaluates : goal.returns-then-self-clause-evaluates
+returns-then-self-clause-evaluates g c = record { left = search rules; proved = search rules; faulted = search rules }
+
+pub returns-in-Ok-clause-evaluates : goal.returns-in-Ok-clause-evaluates
+returns-in-Ok-clause-evaluates g c =
     let e = c.in_ok-goals_certainty.ensures in
     let m = c.in-Ok.ensures in
-    let k = e.keeps.runs in
-    settled_after {u = c.try_evaluate_added_goals.new.self.table.now} {v = c.try_evaluate_added_goals.new.self.table.now} (λ ts. g.H.GoalHandler.handler ts c.args.self.now.handler.now) s c.args.self.now.table.now.mode c.args.self.now.state.now.nested_goals.items c.try_evaluate_added_goals.new.self.state.now.nested_goals.items
-    c.requires.ready.goals k.goes.extends (Goes-extends e.keeps.is_ready.table m.grows.extends) (e.proved s)
+    record {
+      left = e.evaluates.left;
+      proved = λ s.
+          settled_after {u = c.try_evaluate_added_goals.new.self.table.now} {v = c.try_evaluate_added_goals.new.self.table.now} (λ ts. g.H.GoalHandler.handler ts c.args.self.now.handler.now) s c.args.self.now.table.now.mode c.args.self.now.state.now.nested_goals.items c.try_evaluate_added_goals.new.self.state.now.nested_goals.items
+          c.requires.ready.goals e.keeps.runs.goes.extends (Goes-extends e.keeps.is_ready.table m.grows.extends) (e.evaluates.proved s);
+      faulted = search rules;
+    }
+
+pub returns-in-Err-clause-evaluates : goal.returns-in-Err-clause-evaluates
+returns-in-Err-clause-evaluates g c =
+    record {
+      left = search rules;
+      proved = search rules;
+      faulted = search rules;
+    }
 
 pub returns-in-Ok-clause-says : goal.returns-in-Ok-clause-says
 returns-in-Ok-clause-says g c =

@@ -1,4 +1,5 @@
-use Rattle.std.proofs.Common.{ap, sym}
+use Rattle.std.proofs.Common.{ap, sym, rules}
+use Rattle.std.proofs.lemmas.Result.{IfOk-from_err}
 use Rattle.nts_contexts.specs.declared.state.EvalState.{EvalState}
 use Rattle.nts_contexts.proofs.Frames.{keeps_refl}
 use Rattle.nts_model.specs.Derivations.Rules.{other_goal}
@@ -15,11 +16,20 @@ try_evaluate_goals-evaluated-requires-clause-search g c = search_begun c.args.se
 pub returns-in_err-check-clause-keeps : goal.returns-in_err-check-clause-keeps
 returns-in_err-check-clause-keeps g c = keeps_refl c.requires.ready
 
-pub returns-clause-proved : goal.returns-clause-proved
-returns-clause-proved g c = λ s.
+pub returns-in_err-check-clause-evaluates : goal.returns-in_err-check-clause-evaluates
+returns-in_err-check-clause-evaluates g c =
+    record { left = search rules; proved = λ s. IfOk-from_err c.from_residual.result _ (search rules); faulted = search rules }
+
+pub returns-clause-evaluates : goal.returns-clause-evaluates
+returns-clause-evaluates g c =
     let run = c.try_evaluate_goals-evaluated.ensures in
-    let none = nothing_assumed c.try_evaluate_goals-evaluated.new.cx.nodes c.new-graph.ensures.empty run.searches in
-    let rooted = OnOk-map c.try_evaluate_goals-evaluated.result (λ h. settled_rooted c.try_evaluate_goals-evaluated.new.cx.nodes c.try_evaluate_goals-evaluated.new.table (assumed_in c.try_evaluate_goals-evaluated.new.cx.nodes c.try_evaluate_goals-evaluated.new.graph) (λ ts. g.H.GoalHandler.handler ts c.args.self.now.handler.now) s c.args.self.now.table.now.mode other_goal c.take_goals-goals.result.items c.try_evaluate_goals-evaluated.new.goals.items none h) (run.proved s) in
-    let left = sym (ap (λ (z : EvalState). z.nested_goals.items) c.end_steps.ensures.state) in
-    let same = sym c.end_steps.ensures.same in
-    rw (c.take_goals-goals.ensures.goals, same, left) at rooted
+    record {
+      left = search rules;
+      proved = λ s.
+          let none = nothing_assumed c.try_evaluate_goals-evaluated.new.cx.nodes c.new-graph.ensures.empty run.searches in
+          let rooted = OnOk-map c.try_evaluate_goals-evaluated.result (λ h. settled_rooted c.try_evaluate_goals-evaluated.new.cx.nodes c.try_evaluate_goals-evaluated.new.table (assumed_in c.try_evaluate_goals-evaluated.new.cx.nodes c.try_evaluate_goals-evaluated.new.graph) (λ ts. g.H.GoalHandler.handler ts c.args.self.now.handler.now) s c.args.self.now.table.now.mode other_goal c.take_goals-goals.result.items c.try_evaluate_goals-evaluated.new.goals.items none h) (run.proved s) in
+          let left = sym (ap (λ (z : EvalState). z.nested_goals.items) c.end_steps.ensures.state) in
+          let same = sym c.end_steps.ensures.same in
+          rw (c.take_goals-goals.ensures.goals, same, left) at rooted;
+      faulted = search rules;
+    }

@@ -1,0 +1,66 @@
+-- What the calls of a context promise: one record for each family of calls.
+use Rattle.std.specs.Global.{Vec}
+use Rattle.std.specs.Prelude.{◌≡◌, ℕ, List, All, Result, Ok, Err, IfOk, IfSome, OnOk, OnErr}
+use Rattle.nts_model.specs.declared.labels.Variance.{Variance}
+use Rattle.nts_model.specs.declared.labels.Variance.TheVariants as variance
+use Rattle.nts_model.specs.Terms.Trees.{Tree}
+use Rattle.nts_model.specs.Derivations.Handlers.{Handler}
+use Rattle.nts_store.specs.declared.nodes.NodeId.{NodeId}
+use Rattle.nts_store.specs.declared.fault.EvalError.{EvalError}
+use Rattle.nts_store.specs.declared.fault.EvalError.TheVariants as error
+use Rattle.nts_store.specs.Errors.{error_of}
+use Rattle.nts_terms.specs.declared.handles.Goal.{Goal}
+use Rattle.nts_terms.specs.declared.handles.ParamEnv.{ParamEnv}
+use Rattle.nts_terms.specs.Signatures.{variances_in}
+use Rattle.nts_solver_relating.specs.Sides.{ArePlainIn, AreMadeEqualIn, AreUnrelatedIn, IsRelatedIn, RefusesIn}
+use Rattle.nts_queries.specs.Meant.{Rules, Always, IsProvedSince, ReachesBy, RefusesOneOf}
+use Rattle.nts_queries.specs.Stepping.{AreLeft, AreSettled}
+use Rattle.nts_contexts.specs.declared.context.EvalCtxt.{EvalCtxt}
+use Rattle.nts_contexts.specs.Contexts.{KeepsContext, EvaluatedNothing, IsGoalOfContext}
+use Rattle.nts_contexts.specs.Faults.{fault_after}
+use Rattle.nts_contexts.specs.Related.{AddsRelated, AreEquatedIn}
+
+-- the goals that were added to a context were asked, in any order and more than once; and one of them is refused
+abbrev pub ReachesAdded : {H : Type 0} → Handler → EvalCtxt H → EvalCtxt H → Type 0
+ReachesAdded h a b = ReachesBy h a.table.now.mode a.cx.now.nodes a.table.now b.cx.now.nodes b.table.now a.state.now.nested_goals.items
+
+abbrev pub RefusesOneAdded : {H : Type 0} → Handler → EvalCtxt H → Type 0
+RefusesOneAdded h a = RefusesOneOf h a.table.now.mode a.cx.now.nodes a.table.now a.state.now.nested_goals.items
+
+-- the goals that were added to the context are evaluated in steps: some are left, and each other one is proved
+pub record EvaluatesAdded {H : Type 0} {X : Type 0} (R : Rules) (a b : EvalCtxt H) (r : Result X EvalError) : Type 0 where
+  pub left : AreLeft a.state.now.nested_goals.items b.state.now.nested_goals.items
+  pub proved : Always R a.cx.now (λ s. OnOk r (AreSettled (λ z. IsProvedSince R.handler s a.table.now.mode b.cx.now.nodes b.table.now z.1) a.state.now.nested_goals.items b.state.now.nested_goals.items))
+  pub faulted : IfSome a.state.now.fault (λ f. r ≡ Err (error_of f))
+
+-- two values, which are of one alias or trait if they are the arguments of one, are related by a variance in a context, and the goals
+-- that this leaves are added; or they are refused, and the table and the goals are as before
+pub record RelatesIn {H : Type 0} (ready : List Tree → H → Type 0) (OfOneHead : Type 0) (a b : EvalCtxt H) (env : ParamEnv) (v : Variance) (x y : NodeId) (r : Result (Unit {0}) EvalError) : Type 0 where
+  pub keeps : KeepsContext ready a b
+  pub heads : OnOk r OfOneHead
+  pub related : OnOk r (AddsRelated a.cx.now b.cx.now a.table.now b.table.now a.state.now b.state.now env v x y)
+  -- invariantly, where no alias stands in the two, they are made equal, and no goal is left
+  pub equal : ArePlainIn v a.cx.now.nodes a.table.now.entries x y → OnOk r (AreEquatedIn a.cx.now b.cx.now a.table.now b.table.now a.state.now b.state.now x y)
+  pub no : r ≡ Err error.NoSolution → OfOneHead → RefusesIn (variances_in a.cx.now.declarations) a.cx.now.nodes a.table.now.entries v x y
+  pub unequal : ArePlainIn v a.cx.now.nodes a.table.now.entries x y → r ≡ Err error.NoSolution → OfOneHead → AreUnrelatedIn a.cx.now.nodes a.table.now.entries x y
+  pub goals : OnErr r (b.state.now.nested_goals.items ≡ a.state.now.nested_goals.items)
+  pub err : OnErr r (b.table.now ≡ a.table.now)
+  pub nothing : EvaluatedNothing a.state.now b.state.now
+  pub fault : b.state.now.fault ≡ fault_after a.state.now.fault r
+  pub faulted : IfSome a.state.now.fault (λ f. r ≡ Err (error_of f))
+
+-- two values are made equal in a context, and the goals that this leaves are answered; or they are refused, and the table is as before
+pub record EquatesIn {H : Type 0} (ready : List Tree → H → Type 0) (OfOneHead : Type 0) (a b : EvalCtxt H) (env : ParamEnv) (x y : NodeId) (r : Result (Vec Goal) EvalError) : Type 0 where
+  pub keeps : KeepsContext ready a b
+  pub posed : IfOk r (λ gs. All (IsGoalOfContext b) gs.items)
+  pub goals : b.state.now.nested_goals.items ≡ a.state.now.nested_goals.items
+  pub heads : OnOk r OfOneHead
+  pub related : IfOk r (λ gs. IsRelatedIn (variances_in a.cx.now.declarations) a.cx.now.nodes b.cx.now.nodes a.table.now.entries b.table.now.entries env variance.Invariant x y gs.items)
+  -- where no alias stands in the two, no goal is left
+  pub equal : ArePlainIn variance.Invariant a.cx.now.nodes a.table.now.entries x y → IfOk r (λ gs. AreMadeEqualIn a.cx.now.nodes b.cx.now.nodes a.table.now.entries b.table.now.entries x y gs.items)
+  pub no : r ≡ Err error.NoSolution → OfOneHead → RefusesIn (variances_in a.cx.now.declarations) a.cx.now.nodes a.table.now.entries variance.Invariant x y
+  pub unequal : ArePlainIn variance.Invariant a.cx.now.nodes a.table.now.entries x y → r ≡ Err error.NoSolution → OfOneHead → AreUnrelatedIn a.cx.now.nodes a.table.now.entries x y
+  pub err : OnErr r (b.table.now ≡ a.table.now)
+  pub nothing : EvaluatedNothing a.state.now b.state.now
+  pub fault : b.state.now.fault ≡ fault_after a.state.now.fault r
+  pub faulted : IfSome a.state.now.fault (λ f. r ≡ Err (error_of f))
