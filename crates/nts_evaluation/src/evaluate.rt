@@ -18,7 +18,7 @@ use nts_queries::{
     Asked, AvailableDepth, Ended, Evaluated, Step, Trial, answer_cycle, apply_answer, boxed_query,
     boxed_response, end_round, enter_forall, equate, first_round, goal_kind, is_candidates_goal,
     keep_met, keep_response, keeps_constraints, last_answer, merge_responses, next_round,
-    push_query, query_table, record_constraints, resolve_goal, terms_are_formed, unchanged_answer,
+    push_query, query_table, record_constraints, resolve_goal, unchanged_answer,
 };
 use nts_response::CanonicalResponse;
 use nts_search::{CurrentGoalKind, SearchGraph, round_is_last, step_kind_for_source};
@@ -47,7 +47,7 @@ pub fn evaluate_goal<H: GoalHandler>(
     let (originals, input) = boxed_query(table, cx, goal)?;
     let answer = search(cx, handler, graph, input, step, depth)?;
     let evaluated = apply_answer(table, cx, goal.param_env, &originals, &answer);
-    terms_are_formed(cx);
+    cx.terms_are_formed();
     evaluated
 }
 
@@ -129,7 +129,7 @@ fn evaluate_round<H: GoalHandler>(
     let (mut table, goal, values) = query_table(cx, &asked.input)?;
     push_query(graph, asked, step)?;
     let response = compute_goal(&mut table, cx, handler, graph, goal, &values, depth);
-    terms_are_formed(cx);
+    cx.terms_are_formed();
     end_round(cx.alloc, graph, response)
 }
 
@@ -153,7 +153,7 @@ fn compute_goal<H: GoalHandler>(
         table.old goal values.now result }
 {
     let opened = enter_forall(table, cx, goal)?;
-    terms_are_formed(cx);
+    cx.terms_are_formed();
     let Some(opened) = opened else {
         let response = boxed_response(table, cx, values, Certainty::AMBIGUOUS)?;
         return Ok(response);
@@ -165,7 +165,7 @@ fn compute_goal<H: GoalHandler>(
     let candidates = handler.relevant_candidates(cx, table.typing_mode(), opened)?;
     let kept = keep_met(table, cx, opened, candidates)?;
     let response = evaluate_candidates(table, cx, handler, graph, opened, &kept, values, depth);
-    terms_are_formed(cx);
+    cx.terms_are_formed();
     response
 }
 
@@ -196,7 +196,7 @@ fn evaluate_candidates<H: GoalHandler>(
         let answer = probe_candidate(table, cx, handler, graph, goal, candidate, values, depth);
         keep_response(&mut responses, answer)?;
     }
-    terms_are_formed(cx);
+    cx.terms_are_formed();
     merge_responses(table, cx, values, responses)
 }
 
@@ -229,7 +229,7 @@ fn probe_candidate<H: GoalHandler>(
             return Err(error);
         }
     };
-    terms_are_formed(cx);
+    cx.terms_are_formed();
     if keeps_constraints(certainty) {
         let response = boxed_response(table, cx, values, certainty);
         table.rollback_to(snapshot);
@@ -279,7 +279,7 @@ fn run_candidate<H: GoalHandler>(
         AvailableDepth::Below(depth),
         &mut last_steps,
     )?;
-    terms_are_formed(cx);
+    cx.terms_are_formed();
     Ok(candidate.certainty.and(certainty))
 }
 

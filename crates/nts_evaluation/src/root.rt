@@ -14,7 +14,6 @@ use crate::evaluate::search;
 use nts_canonical::CanonicalInput;
 use nts_certainty::PathKind;
 use nts_delegate::GoalHandler;
-use nts_queries::terms_are_formed;
 use nts_response::CanonicalResponse;
 use nts_search::SearchGraph;
 use nts_store::{EvalError, Fault};
@@ -45,7 +44,7 @@ pub fn evaluate_input<H: GoalHandler>(
         (H.handler cx.old.nodes handler.now) (mode_of input.typing_mode) cx.old.nodes input
         ⊎ IsCut input.typing_mode step_kind) }
 {
-    terms_are_formed(cx);
+    cx.terms_are_formed();
     let depth = graph.root_depth;
     let input = Box::new(cx.alloc, input)?;
     match search(cx, handler, graph, input, step_kind, depth) {

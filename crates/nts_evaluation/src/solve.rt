@@ -16,7 +16,7 @@ ghost use Rattle.nts_terms.specs.Rest.{Grows};
 use crate::evaluate::evaluate_goal;
 use nts_certainty::{Certainty, HasChanged, PathKind};
 use nts_delegate::GoalHandler;
-use nts_queries::{is_asked, is_root_term, is_settled_env, resolve_goal, terms_are_formed};
+use nts_queries::{is_asked, is_root_term, is_settled_env, resolve_goal};
 use nts_search::SearchGraph;
 use nts_store::{EvalError, Fault};
 use nts_table::InferCtxt;
@@ -96,9 +96,9 @@ pub fn evaluate_root_goal<H: GoalHandler>(
         (H.handler cx.old.nodes handler.now) table.old.mode cx.old.nodes table.old goal }
 {
     let _ = (span, stalled_on);
-    terms_are_formed(cx);
+    cx.terms_are_formed();
     let evaluated = evaluate_root(table, cx, handler, goal);
-    terms_are_formed(cx);
+    cx.terms_are_formed();
     evaluated
 }
 

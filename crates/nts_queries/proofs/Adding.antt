@@ -22,10 +22,10 @@ use Rattle.nts_delegate.specs.declared.delegate.CandidateGoal.{CandidateGoal}
 use Rattle.nts_delegate.specs.Candidates.{AreNested}
 use Rattle.nts_delegate.specs.Offered.{premise_of, source_of}
 use Rattle.nts_response.specs.Forms.{premise_at}
-use Rattle.nts_queries.specs.Evaluation.{IsPosed, AreValues, asked_terms, AsksOnly}
+use Rattle.nts_queries.specs.Evaluation.{IsPosed, AreValues, asked_terms, AsksOnly, goals_at}
 use Rattle.nts_queries.specs.Instances.{IsGoalInstance}
 use Rattle.nts_queries.specs.Telling.{goals_with}
-use Rattle.nts_queries.specs.Stepping.{ArePosed, goals_at, terms_of}
+use Rattle.nts_queries.specs.Stepping.{ArePosed, terms_of}
 use Rattle.nts_queries.specs.Adding.{AreAdded}
 use Rattle.nts_queries.proofs.Evaluating.{Goes-extends, IsPosed-later, nested_at}
 

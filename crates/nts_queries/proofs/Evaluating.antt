@@ -60,7 +60,6 @@ use Rattle.nts_terms.specs.Handles.{HoldsGoal}
 use Rattle.nts_store.specs.Formed.{AreFormed}
 use Rattle.nts_terms.proofs.Moved.{KeepsRest-refl, KeepsRest-trans}
 use Rattle.nts_queries.specs.Meant.{Since, offers_of}
-use Rattle.nts_queries.specs.Instances.{HoldsValues, IsTermInstance}
 use Rattle.nts_queries.specs.Evaluation.{Goes, Runs, IsAdmitted, IsPosed, AllKnown, AreOfSorts, AreValues}
 use Rattle.nts_table.specs.Tables.{IsTermIn}
 
@@ -190,33 +189,6 @@ can_fill {a} {t} {g} {fresh} {vs} {x} p o v =
       positions = has-values fresh (map (tree_at a) vs) (tree_at a x) v.sorts o.names;
       knows = knows-filled (content_of a t.entries) (map (tree_at a) vs) (tree_at a x) (λ i. known-there (content_of a t.entries) (map (tree_at a) vs) i v.known) (λ i. closed-there fresh (map (tree_at a) vs) i v.values) (over_knows o (content_of a t.entries) p.knows) o.well_bound;
     }
-
--- values that stand for variables are terms of their sorts
-pub held_values : {a : List Tree} {t : Table} {fresh : List Sort} {vs : List NodeId} → AreValues a t fresh vs → HoldsValues a fresh vs
-held_values h = record { within = h.within; sorts = h.sorts }
-
-pub HoldsValues-extended : {a b : List Tree} {fresh : List Sort} {vs : List NodeId} → Extends a b → HoldsValues a fresh vs → HoldsValues b fresh vs
-HoldsValues-extended {a} {b} {fresh} {vs} e h =
-    record { within = AllIn-kept a b vs h.within e; sorts = rw (map-kept a b vs h.within e) h.sorts }
-
--- a filled tree, in a store that has grown
-filled-kept : {a b : List Tree} (vs : List NodeId) (x : NodeId) → AllIn a vs → IsIn a x → Extends a b → filled (map (tree_at b) vs) (tree_at b x) ≡ filled (map (tree_at a) vs) (tree_at a x)
-filled-kept {a} {b} vs x w i e = rw (map-kept a b vs w e, e.kept x i) refl
-
--- an instance of a term is a term of the table, and it is one in a store that grows later or has grown before
-pub instance_term : {a b : List Tree} {t : Table} {vs : List NodeId} {x y : NodeId} → IsTable a t → CanFill a t vs x → Extends a b → IsTermInstance a b vs x y → IsTermIn b t y
-instance_term {a} {b} {t} {vs} {x} {y} h f e q =
-    let same = content_of-extended e h.now in
-    record { within = q.within; knows = rw (q.tree, same) f.knows }
-
-pub IsInstance-later : {a b d : List Tree} {vs : List NodeId} {x y : NodeId} → Extends b d → AreFormed d → IsTermInstance a b vs x y → IsTermInstance a d vs x y
-IsInstance-later {a} {b} {d} {vs} {x} {y} e f q =
-    let kept = e.kept y q.within in
-    record { formed = f; within = IsIn-extended e y q.within; kind = ap kind_of kept ∙ q.kind; tree = kept ∙ q.tree }
-
-pub IsInstance-earlier : {a b d : List Tree} {vs : List NodeId} {x y : NodeId} → AllIn a vs → IsIn a x → Extends a b → IsTermInstance b d vs x y → IsTermInstance a d vs x y
-IsInstance-earlier {a} {b} {d} {vs} {x} {y} w i e q =
-    record { formed = q.formed; within = q.within; kind = q.kind ∙ ap kind_of (e.kept x i); tree = q.tree ∙ filled-kept vs x w i e }
 
 -- a goal of two terms of the right kinds
 pub goal_posed : {b : List Tree} {t : Table} {e p : NodeId} → IsTable b t → IsTermIn b t e → kind_of (tree_at b e) ≡ Some environment → IsTermIn b t p → kind_of (tree_at b p) ≡ Some bound_predicate → IsPosed b t (record { param_env = record { node = e }; predicate = record { node = p } })

@@ -26,3 +26,4 @@ pub mod Searching
 pub mod Unchanged
 pub mod BackEdges
 pub mod Rounds
+pub mod Instances

@@ -36,7 +36,8 @@ use Rattle.nts_queries.proofs.AskedGoals.{trees_kept}
 use Rattle.nts_queries.proofs.Evaluating.{Goes-trans, Goes-extends}
 use Rattle.nts_queries.proofs.Labels.{only_back}
 use Rattle.nts_queries.proofs.Running.{candidate-kept}
-use Rattle.nts_queries.proofs.Probed.{response_same, found_later, found_with, found_still}
+use Rattle.nts_queries.proofs.Searching.{response_same}
+use Rattle.nts_queries.proofs.Probed.{found_later, found_with, found_still}
 use Rattle.nts_queries.proofs.MergedResponses.{doubt_unsure, told_unsure, merged_stands, merged_among}
 
 -- what was found for a goal in a store that has grown, seen from the smaller store

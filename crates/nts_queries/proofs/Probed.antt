@@ -50,21 +50,7 @@ use Rattle.nts_queries.proofs.Evaluating.{Goes-extends, committed}
 use Rattle.nts_queries.proofs.Fitting.{answer_to}
 use Rattle.nts_queries.proofs.MergedResponses.{told_unsure}
 use Rattle.nts_queries.proofs.QueryTables.{is_label_in, first_sides, table_in}
-
--- a response stays the same while the store grows
-pub response_same : (a b : List Tree) (r : Canonical Response) → Extends a b → HoldsResponse a r.value → response_at b r ≡ response_at a r
-response_same a b r e h =
-    let v = r.value in
-    let x = v.external_constraints in
-    let values = same_views HoldsArg argument_value values_kept a b v.var_values.items h.values e in
-    let constraints = same_views StoreHoldsConstraint recorded_at constraints_kept a b x.region_constraints.items h.constraints e in
-    let hidden = same_views IsHidden hidden_of hidden_kept a b x.opaque_types.items h.hidden e in
-    let goals = same_views HoldsOpen premise_at goals_kept a b x.normalization_nested_goals.items h.open_goals e in
-    λ i. record {
-      findings = record { values = values i; constraints = constraints i; hidden = hidden i; open_goals = goals i };
-      kinds = map kind_of_var r.var_kinds.items;
-      max_universe = r.max_universe;
-    }
+use Rattle.nts_queries.proofs.Searching.{response_same}
 
 -- what was found stays found
 pub found_later : {P : List Tree → Table → Type 0} {a b e : List Tree} {t : Table} {g : Goal} {qs : List GenericArg} (r : Canonical Response) → Extends b e → Found P a b t g qs r → Found P a e t g qs r

@@ -35,11 +35,11 @@ use Rattle.nts_response.specs.Forms.{premise_at}
 use Rattle.nts_queries.specs.Choices.{EquatesCandidate}
 use Rattle.nts_queries.specs.Telling.{FailsToAdd, IsBegun, goals_with}
 use Rattle.nts_queries.specs.Telling.Fails.{breaks_off, is_refused}
-use Rattle.nts_queries.specs.Stepping.{ArePosed, AreSettled, goals_at, terms_of}
+use Rattle.nts_queries.specs.Stepping.{ArePosed, AreSettled, terms_of}
 use Rattle.nts_queries.specs.Adding.{AreAdded}
 use Rattle.nts_queries.specs.Meant.{HasRunTo, FailsIn, ReachesBy, RefusesOneOf}
 use Rattle.nts_queries.specs.Running.{Stays, PremiseHolds, EachStays, StaysProved}
-use Rattle.nts_queries.specs.Evaluation.{Goes, IsPosed, asked_terms}
+use Rattle.nts_queries.specs.Evaluation.{Goes, IsPosed, asked_terms, goals_at}
 use Rattle.nts_queries.proofs.Running.{premise_stays, premises-kept}
 use Rattle.nts_queries.proofs.Stepping.{all_among}
 

@@ -46,8 +46,7 @@ use Rattle.nts_queries.specs.Answering.{IsQueryInput, IsAnswerTo, IfAnswered}
 use Rattle.nts_queries.specs.Telling.{QueryTells, QueryRefutes, SaysNothing}
 use Rattle.nts_queries.specs.Telling.Tells.{says_nothing}
 use Rattle.nts_queries.specs.Searching.{IsHeadAnswer, IsHead, IsSearch, IsEntryLater, AreLater, Searches, assumed_in, IsAnswerTold, HeadsTell, IsCut, IsReadAt, HasNoneAt}
-use Rattle.nts_queries.proofs.Probed.{response_same}
-use Rattle.nts_queries.proofs.Searching.{form_later, input_later, head_answer_later, later_itself, later_pushed, Searches-refl, Searches-trans, search_grows, search_later, search_counted, nothing_assumed, none_passed, answer_told_later, tell_grown}
+use Rattle.nts_queries.proofs.Searching.{form_later, input_later, head_answer_later, later_itself, later_pushed, Searches-refl, Searches-trans, search_grows, search_later, search_counted, nothing_assumed, none_passed, answer_told_later, tell_grown, response_same}
 use Rattle.nts_queries.proofs.BackEdges.{by_answer, some_is_ok, copied_response, usable_derived}
 
 -- the store grows, and the search goes on

@@ -1,5 +1,5 @@
 -- The stack of a search while goals are evaluated: what stays, and what it assumes.
-use Rattle.std.proofs.Common.{◌≡◌, ℕ, ◌≤◌, List, [], ◌∷◌, ◌++◌, map, length, get_or, Option, Some, None, refl, sym, ap, ◌∙◌, subst, arith}
+use Rattle.std.proofs.Common.{◌≡◌, ℕ, ◌≤◌, List, [], ◌∷◌, ◌++◌, map, length, get_or, Option, Some, None, refl, sym, ap, ◌∙◌, subst, arith, ◌⊎◌}
 use Rattle.std.specs.Prelude.{All, reverse, Bool, max}
 use Rattle.std.proofs.lemmas.List.{reverse-append}
 use Rattle.std.proofs.lemmas.List.Elements.{All-cons, All-head, All-tail}
@@ -21,10 +21,10 @@ use Rattle.nts_store.proofs.Growing.{IsIn-extended}
 use Rattle.nts_store.specs.declared.nodes.NodeId.{NodeId}
 use Rattle.nts_terms.specs.declared.cx.Cx.{Cx}
 use Rattle.nts_terms.specs.Rest.{Grows}
-use Rattle.nts_terms.specs.Handles.{Holds}
+use Rattle.nts_terms.specs.Handles.{Holds, HoldsArg}
 use Rattle.nts_canonical.specs.declared.types.Canonical.{Canonical}
 use Rattle.nts_canonical.specs.declared.types.CanonicalInput.{CanonicalInput}
-use Rattle.nts_canonical.specs.Forms.{form_of, query_tree}
+use Rattle.nts_canonical.specs.Forms.{form_of, query_tree, IsHidden, kind_of_var}
 use Rattle.nts_model.specs.Terms.Scoping.{IsWellBound}
 use Rattle.nts_store.specs.Filled.{HasValues}
 use Rattle.nts_canonical.specs.Building.{kinds_of, values_of, HasNoName}
@@ -36,14 +36,31 @@ use Rattle.nts_queries.specs.Answering.{IsFormOf, IsQueryInput, IsAnswerTo, Tell
 use Rattle.nts_queries.specs.Meant.{IsServed}
 use Rattle.nts_queries.specs.Running.{Stays}
 use Rattle.nts_queries.specs.Telling.{QueryTells}
-use Rattle.nts_delegate.specs.Offered.{path_kind_of}
+use Rattle.nts_delegate.specs.Offered.{path_kind_of, hidden_of}
 use Rattle.nts_search.specs.declared.stack.StackEntry.{StackEntry}
 use Rattle.nts_search.specs.declared.stack.SearchGraph.{SearchGraph}
 use Rattle.nts_search.specs.Searching.{entry_at, entries_at, answer_at, certainty_in}
 use Rattle.nts_search.proofs.StackLater.{IsStack-later, entries_kept}
 use Rattle.nts_terms.specs.Modes.{mode_of}
 use Rattle.nts_queries.specs.Searching.{IsHeadAnswer, IsHead, IsSearch, IsEntryLater, AreLater, Searches, assumed_in, IsAnswerTold, HeadsTell}
-use Rattle.nts_queries.proofs.Probed.{response_same}
+use Rattle.nts_response.proofs.Each.{constraints_kept, goals_kept, hidden_kept, same_views, values_kept}
+use Rattle.nts_response.specs.Forms.{HoldsOpen, HoldsResponse, StoreHoldsConstraint, premise_at, recorded_at, response_at}
+use Rattle.nts_response.specs.Replacing.{argument_value}
+
+-- a response stays the same while the store grows
+pub response_same : (a b : List Tree) (r : Canonical Response) → Extends a b → HoldsResponse a r.value → response_at b r ≡ response_at a r
+response_same a b r e h =
+    let v = r.value in
+    let x = v.external_constraints in
+    let values = same_views HoldsArg argument_value values_kept a b v.var_values.items h.values e in
+    let constraints = same_views StoreHoldsConstraint recorded_at constraints_kept a b x.region_constraints.items h.constraints e in
+    let hidden = same_views IsHidden hidden_of hidden_kept a b x.opaque_types.items h.hidden e in
+    let goals = same_views HoldsOpen premise_at goals_kept a b x.normalization_nested_goals.items h.open_goals e in
+    λ i. record {
+      findings = record { values = values i; constraints = constraints i; hidden = hidden i; open_goals = goals i };
+      kinds = map kind_of_var r.var_kinds.items;
+      max_universe = r.max_universe;
+    }
 
 -- an answer that can be applied can be applied while the store grows
 over_later : (a b : List Tree) (ss : List Sort) (t : NodeId) → Extends a b → IsIn a t → IsOverSorts a ss t → IsOverSorts b ss t

@@ -41,8 +41,8 @@ use Rattle.nts_unify.specs.Reading.{content_of}
 use Rattle.nts_unify.specs.Lawful.{content_of-extended}
 use Rattle.nts_table.specs.Tables.{Table, IsTable}
 use Rattle.nts_response.specs.Forms.{premise_at}
-use Rattle.nts_queries.specs.Evaluation.{Goes, IsPosed, asked_terms}
-use Rattle.nts_queries.specs.Stepping.{ArePosed, goals_at, terms_of, AreLeft, AreSettled, left_after}
+use Rattle.nts_queries.specs.Evaluation.{Goes, IsPosed, asked_terms, goals_at}
+use Rattle.nts_queries.specs.Stepping.{ArePosed, terms_of, AreLeft, AreSettled, left_after}
 use Rattle.nts_queries.specs.Telling.{Reaches, RefusesOne, Asked, Refused}
 use Rattle.nts_queries.specs.Telling.Reaches.{asks_nothing, then_asks}
 use Rattle.nts_queries.specs.Telling.RefusesOne.{refuses_one}

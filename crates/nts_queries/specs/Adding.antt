@@ -11,9 +11,9 @@ use Rattle.nts_terms.specs.declared.handles.Goal.{Goal}
 use Rattle.nts_table.specs.Tables.{Table}
 use Rattle.nts_delegate.specs.declared.delegate.CandidateGoal.{CandidateGoal}
 use Rattle.nts_delegate.specs.Offered.{premise_of}
-use Rattle.nts_queries.specs.Evaluation.{asked_terms}
+use Rattle.nts_queries.specs.Evaluation.{asked_terms, goals_at}
 use Rattle.nts_queries.specs.Telling.{goals_with}
-use Rattle.nts_queries.specs.Stepping.{ArePosed, goals_at, terms_of}
+use Rattle.nts_queries.specs.Stepping.{ArePosed, terms_of}
 
 -- these are the goals of a candidate for the goal g, with the values in place of its positions, in the store b that has grown
 -- from a. They have no labels but those of g, and what any query's table may hold

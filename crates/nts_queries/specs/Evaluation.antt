@@ -1,5 +1,5 @@
 -- What the steps of an evaluation keep.
-use Rattle.std.specs.Prelude.{◌≡◌, ◌≢◌, ℕ, Bool, true, false, List, [], ◌∷◌, map, Some}
+use Rattle.std.specs.Prelude.{◌≡◌, ◌≢◌, ℕ, Bool, true, false, List, [], ◌∷◌, map, Some, ◌++◌, ◌+◌, ◌⊎◌}
 use Rattle.nts_model.specs.declared.labels.VariableKind.{VariableKind}
 use Rattle.nts_model.specs.declared.labels.VariableKind.TheVariants as variable
 use Rattle.nts_model.specs.declared.labels.Leaf.TheVariants as leaf
@@ -27,6 +27,9 @@ use Rattle.nts_unify.specs.Changing.{HasClosedSides}
 use Rattle.nts_table.specs.Tables.{IsTable}
 use Rattle.nts_delegate.specs.Candidates.{IsAskedIn, KnowsGoal}
 use Rattle.nts_terms.specs.Handles.{HoldsGoal}
+use Rattle.nts_model.specs.Derivations.Sequents.{Premise}
+use Rattle.nts_response.specs.Forms.{premise_at}
+use Rattle.nts_certainty.specs.declared.sources.GoalSource.{GoalSource}
 
 -- the store and the table later on: terms keep their trees, the table is a later one and has all that it had, the snapshots
 -- that were open are open, the mode and the hidden types are the same, and what was recorded since is between closed terms
@@ -117,3 +120,7 @@ pub record IsAdmitted (ts : List Tree) (t : Table) (g : Goal) : Type 0 where
 pub record IsGoalUnder (a b : List Tree) (t : Table) (g h : Goal) : Type 0 where
   pub env : tree_at b h.param_env.node ≡ deeply_resolved (content_of a t.entries) (tree_at a g.param_env.node)
   pub predicate : tree_at b h.predicate.node ≡ deeply_resolved (content_of a t.entries) (tree_at a g.predicate.node)
+
+-- what they are in the store, and their terms
+abbrev pub goals_at : List Tree → List (GoalSource × Goal) → List Premise
+goals_at ts gs = map (premise_at ts) gs

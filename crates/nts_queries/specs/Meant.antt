@@ -29,7 +29,7 @@ use Rattle.nts_response.specs.Forms.{response_at}
 use Rattle.nts_model.specs.Answers.Responses.{Response as Answer, answer_sequent}
 use Rattle.nts_delegate.specs.Offered.{source_of, candidate_of, candidates_of}
 use Rattle.nts_queries.specs.Telling.{IsPlainResponse, StandsForAll, goals_with, IsBegun, Tells, Refutes, Outcomes, Replies, Fails, Reaches, RefusesOne, Asked, Refused, QueryTells, QueryRefutes}
-use Rattle.nts_queries.specs.Stepping.{goals_at}
+use Rattle.nts_queries.specs.Evaluation.{goals_at}
 use Rattle.nts_queries.specs.Running.{StaysProved}
 
 -- what a handler means: where its terms stand, and what its rules are there

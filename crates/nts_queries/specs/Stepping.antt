@@ -17,10 +17,6 @@ use Rattle.nts_queries.specs.declared.steps.AvailableDepth.TheVariants as availa
 abbrev pub ArePosed : List Tree → Table → List (GoalSource × Goal) → Type 0
 ArePosed ts t gs = All (λ g. IsPosed ts t g.1) gs
 
--- what they are in the store, and their terms
-abbrev pub goals_at : List Tree → List (GoalSource × Goal) → List Premise
-goals_at ts gs = map (premise_at ts) gs
-
 abbrev pub terms_of : List Tree → List (GoalSource × Goal) → List Tree
 terms_of ts [] = []
 terms_of ts (g ∷ gs) = asked_terms ts g.1 ++ terms_of ts gs

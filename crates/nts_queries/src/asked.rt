@@ -10,7 +10,6 @@ ghost use Rattle.nts_store.specs.Growth.{tree_at};
 ghost use Rattle.nts_queries.specs.Evaluation.{IsAskedGoal};
 ghost use Rattle.nts_terms.specs.Handles.{HoldsEnv, HoldsGoal};
 
-use crate::candidate::terms_are_formed;
 use nts_delegate::GoalHandler;
 use nts_search::CurrentGoalKind;
 use nts_terms::{ClauseKind, Cx, Goal, ParamEnv, PredicateKind};
@@ -47,7 +46,7 @@ pub fn is_candidates_goal(cx: &Cx, goal: Goal) -> bool
     let ClauseKind::Trait(trait_ref) = clause else {
         return false;
     };
-    terms_are_formed(cx);
+    cx.terms_are_formed();
     let args = cx.nodes.flags(trait_ref.args.node);
     args.escaping.is_none()
 }

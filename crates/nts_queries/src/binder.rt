@@ -16,7 +16,6 @@ ghost use Rattle.nts_table.specs.Tables.{IsTable};
 ghost use Rattle.nts_queries.specs.Evaluation.{Goes, IsPosed};
 ghost use Rattle.nts_queries.specs.Opening.{IsOpenedTo};
 
-use crate::candidate::terms_are_formed;
 use nts_model::{ClauseHead, Label, ListHead};
 use nts_placeholder::BoundVarReplacer;
 use nts_store::Fault;
@@ -36,7 +35,7 @@ pub fn enter_forall(table: &mut InferCtxt, cx: &mut Cx, goal: Goal) -> Result<Op
     ensures left { IfOk result (λ o. IsNone o → table.new ≡ table.old) }
     ensures full { result ≡ Err Fault.Full → table.old.entries.universe ≡ u32.MAX }
 {
-    terms_are_formed(cx);
+    cx.terms_are_formed();
     let predicate = goal.predicate.kind(cx);
     if predicate.vars.len(cx) == 0 {
         return Ok(Some(goal));
@@ -52,7 +51,7 @@ pub fn enter_forall(table: &mut InferCtxt, cx: &mut Cx, goal: Goal) -> Result<Op
         return Ok(None);
     }
     let opened = open_trait(table, cx, trait_ref)?;
-    terms_are_formed(cx);
+    cx.terms_are_formed();
     Ok(Some(Goal {
         param_env: goal.param_env,
         predicate: opened,
@@ -106,7 +105,7 @@ fn open_args(table: &mut InferCtxt, cx: &mut Cx, args: GenericArgs) -> Result<Ge
         cx.new.nodes r.node)) }
     ensures full { result ≡ Err Fault.Full → table.old.entries.universe ≡ u32.MAX }
 {
-    terms_are_formed(cx);
+    cx.terms_are_formed();
     let universe = table.create_next_universe()?;
     let mut universes = Vec::new(cx.alloc);
     universes.push(Some(universe))?;

@@ -4,7 +4,6 @@ ghost use Rattle.nts_model.specs.declared.labels.Sort.TheVariants as sort;
 ghost use Rattle.nts_model.specs.declared.labels.Relation.TheVariants as relations;
 ghost use Rattle.nts_model.specs.Terms.Trees.{kind_of, of_sort, IsClosed};
 ghost use Rattle.nts_store.specs.Growth.{tree_at, IsIn, Extends};
-ghost use Rattle.nts_store.specs.Formed.{AreFormed};
 ghost use Rattle.nts_unify.specs.Reading.{content_of, left_kind};
 ghost use Rattle.nts_table.specs.Tables.{IsTable};
 ghost use Rattle.nts_table.specs.Resolution.{IsResolved};
@@ -34,13 +33,6 @@ use nts_model::{Relation, Sort};
 use nts_store::{EvalError, Fault, NodeId, instantiate_canonical};
 use nts_table::{InferCtxt, relate_nodes, resolve_nodes};
 use nts_terms::{Cx, Goal, ParamEnv, Predicate, Region, Span, Ty, VisibleForLeakCheck};
-
-/// What a store has are terms: each node has the children of its label.
-pub fn terms_are_formed(cx: &Cx)
-    ensures { AreFormed cx.now.nodes }
-{
-    let _ = cx.nodes.len();
-}
 
 /// Whether a term is its own value, whatever a table knows.
 fn has_no_variable(cx: &Cx, t: NodeId) -> bool
@@ -72,14 +64,14 @@ impl Trial<'_> {
             t) }
         ensures memory { IsOkUnless result Fault.Memory }
     {
-        terms_are_formed(cx);
+        cx.terms_are_formed();
         // Most terms name no position, and need no walk.
         if !cx.nodes.flags(t).has_canonical {
             return Ok(t);
         }
         let alloc = cx.alloc;
         let made = instantiate_canonical(alloc, &mut cx.nodes, self.values, t)?;
-        terms_are_formed(cx);
+        cx.terms_are_formed();
         Ok(made)
     }
 
@@ -227,7 +219,7 @@ pub fn equate(
         table.old.entries) (candidate_of cx.old.nodes candidate.now) → ⊥ }
     ensures full { result ≢ Err EvalError.Full }
 {
-    terms_are_formed(cx);
+    cx.terms_are_formed();
     let values = fresh_values(table, cx, &candidate.fresh)?;
     for equation in &candidate.equations {
         let trial = Trial {

@@ -8,7 +8,7 @@ ghost use Rattle.nts_queries.specs.Choices.{KeepsMet};
 ghost use Rattle.nts_queries.specs.Evaluation.{IsPosed};
 ghost use Rattle.nts_terms.specs.Rest.{Grows};
 
-use crate::candidate::{equate, terms_are_formed};
+use crate::candidate::equate;
 use nts_delegate::CandidateData;
 use nts_store::EvalError;
 use nts_table::InferCtxt;
@@ -29,7 +29,7 @@ fn is_met(
     ensures met { IfOk result (λ b. IsTrue b ↔ IsCandidateMet (content_of cx.old.nodes table.old.entries) (candidate_of cx.old.nodes candidate.now)) }
     ensures memory { IsOkUnless result EvalError.Memory }
 {
-    terms_are_formed(cx);
+    cx.terms_are_formed();
     let snapshot = table.start_snapshot()?;
     let tried = equate(table, cx, goal, candidate);
     table.rollback_to(snapshot);

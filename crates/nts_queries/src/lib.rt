@@ -17,7 +17,7 @@ mod steps;
 pub use admission::{is_asked, is_root_term, is_settled_env};
 pub use asked::{goal_kind, is_candidates_goal};
 pub use binder::enter_forall;
-pub use candidate::{Trial, equate, record_constraints, resolve_goal, terms_are_formed};
+pub use candidate::{Trial, equate, record_constraints, resolve_goal};
 pub use cycles::{answer_cycle, unchanged_answer};
 pub use filter::keep_met;
 pub use merged::{keep_response, merge_responses};

@@ -5,7 +5,6 @@ ghost use Rattle.nts_queries.specs.Evaluation.{IsPosed};
 ghost use Rattle.nts_queries.specs.Answering.{is_kept, IsQueryInput, IsQueryOf};
 ghost use Rattle.nts_queries.specs.Rounds.{BeginsQuery};
 
-use crate::candidate::terms_are_formed;
 use nts_canonical::{CanonicalInput, build_with_canonical, canonicalize_goal};
 use nts_certainty::{Certainty, MaybeCause};
 use nts_store::Fault;
@@ -24,10 +23,10 @@ pub fn query_of(
     ensures grows { Grows cx.old cx.new }
     ensures memory { IsOkUnless result Fault.Memory }
 {
-    terms_are_formed(cx);
+    cx.terms_are_formed();
     let mode = table.typing_mode().clone()?;
     let query = canonicalize_goal(table, cx, goal, &[], mode)?;
-    terms_are_formed(cx);
+    cx.terms_are_formed();
     Ok(query)
 }
 

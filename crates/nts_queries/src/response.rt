@@ -18,7 +18,7 @@ ghost use Rattle.nts_response.specs.Forms.{response_at, recorded_at, HoldsRespon
 ghost use Rattle.nts_queries.specs.Asking.{IsResponseOf};
 ghost use Rattle.nts_queries.specs.Answering.{told_in, AreTold, KnowsSides, TellsNoMore, IfAnswered};
 
-use crate::candidate::{resolve_term, terms_are_formed};
+use crate::candidate::resolve_term;
 use crate::steps::Evaluated;
 use nts_certainty::{Certainty, HasChanged};
 use nts_delegate::RegionConstraint;
@@ -94,7 +94,7 @@ pub fn make_response(
     ensures grows { Grows cx.old cx.new }
     ensures memory { IsOkUnless result Fault.Memory }
 {
-    terms_are_formed(cx);
+    cx.terms_are_formed();
     let var_values = resolved_values(table, cx, values)?;
     let region_constraints = told_constraints(table, cx, certainty)?;
     let alloc = cx.alloc;

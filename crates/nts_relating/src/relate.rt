@@ -166,7 +166,7 @@ fn bind_variable(
     match name_variable(nodes, table, &mut moved, target, t, y) {
         Err(error) => Err(error),
         Ok(value) => {
-            let _ = nodes.len();
+            nodes.terms_are_formed();
             let variable = table.variable(x);
             let state = State::Known(value);
             table.bind(x, Variable { state, ..variable })?;
@@ -215,7 +215,7 @@ pub fn bind(
     match generalize(alloc, nodes, table, target, t) {
         Err(error) => Err(error),
         Ok(value) => {
-            let _ = nodes.len();
+            nodes.terms_are_formed();
             let variable = table.variable(x);
             let state = State::Known(value);
             table.bind(x, Variable { state, ..variable })?;

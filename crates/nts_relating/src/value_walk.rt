@@ -193,7 +193,7 @@ fn build(
     ensures no { result ≢ Err EvalError.NoSolution }
 {
     // Equal terms have one number, so what was made for a child is found by the child's number.
-    let _ = nodes.len();
+    nodes.terms_are_formed();
     let label = nodes.label(part.term);
     let mut children = Vec::new(alloc);
     for i in 0..nodes.child_count(part.term) {

@@ -18,7 +18,6 @@ ghost use Rattle.nts_response.specs.Applicable.{IsApplicable, IsResponseApplied,
 
 use crate::choosing::choose_values;
 use crate::equating::equate_values;
-use crate::formed::terms_are_formed;
 use crate::opening::opened_goals;
 use crate::recording::record_constraints;
 use crate::registering::register_hidden;
@@ -93,7 +92,7 @@ fn apply(
     ensures grows { Grows cx.old cx.new }
     ensures full { result ≢ Err EvalError.Full }
 {
-    terms_are_formed(cx);
+    cx.terms_are_formed();
     let universe = table.universe();
     table.create_universes(response.max_universe)?;
     let value = &response.value;
@@ -107,7 +106,7 @@ fn apply(
     )?;
     let chosen = nodes_of(cx.alloc, &chosen)?;
     let goals = put(table, cx, originals, &chosen, value, visible, span)?;
-    terms_are_formed(cx);
+    cx.terms_are_formed();
     Ok((goals, value.certainty))
 }
 

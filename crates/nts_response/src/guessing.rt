@@ -8,7 +8,6 @@ ghost use Rattle.nts_relating.specs.Knowing.{HasNamed};
 ghost use Rattle.nts_canonical.specs.Forms.{kind_of_var, trees_of};
 ghost use Rattle.nts_response.specs.Applied.{content_within, IsOriginal, IsPosition, IsRootVariable, IsClosedConst, MayStand, AreGuesses};
 
-use crate::formed::terms_are_formed;
 use nts_canonical::CanonicalVarKind;
 use nts_model::{BoundVarIndexKind, Label, Sort, VariableKind};
 use nts_store::{NodeId, sort_of};
@@ -68,7 +67,7 @@ fn may_stand(
     requires current { AreCurrent (content_within cx.now.nodes table.now.entries universe) }
     ensures { result ≡ true → MayStand (content_within cx.now.nodes table.now.entries universe) (kind_of_var kind) (tree_at cx.now.nodes original.node) }
 {
-    terms_are_formed(cx);
+    cx.terms_are_formed();
     let label = cx.nodes.label(original.node);
     match kind {
         CanonicalVarKind::Int => is_root_variable(table, label, VariableKind::Int),

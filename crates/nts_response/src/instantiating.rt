@@ -16,7 +16,6 @@ ghost use Rattle.nts_response.specs.Instantiated.{values_alone, AreValuesFor, Ar
 
 use crate::choosing::choose_values;
 use crate::equating::equate_values;
-use crate::formed::terms_are_formed;
 use crate::types::{CanonicalState, State};
 use nts_canonical::{Canonical, CanonicalVarKind, instantiate_canonical, nodes_of};
 use nts_folding::TypeFoldable;
@@ -134,13 +133,13 @@ fn equated(
     ensures hidden { OnOk result (table.new.entries.hidden ≡ table.old.entries.hidden) }
     ensures keeps { KeepsFrame cx.old cx.new table.old table.new }
 {
-    terms_are_formed(cx);
+    cx.terms_are_formed();
     let universe = table.universe();
     table.create_universes(max_universe)?;
     let chosen = choose_values(table, cx, universe, kinds, values, originals)?;
     let nodes = nodes_of(cx.alloc, &chosen)?;
     equate_values(table, cx, &nodes, values, originals)?;
-    terms_are_formed(cx);
+    cx.terms_are_formed();
     Ok(chosen)
 }
 

@@ -8,7 +8,6 @@ mod choosing;
 mod cloning;
 mod equating;
 mod fitting;
-mod formed;
 mod guessing;
 mod instantiating;
 mod leaves;

@@ -90,7 +90,7 @@ impl SearchGraph {
         ensures found { MatchOption result (HasNoInput cx.now.nodes self.now input.now) (IsInputAt cx.now.nodes self.now input.now) }
     {
         // No two terms of a store have equal trees. So an entry of the same input has these terms.
-        let _ = cx.nodes.len();
+        cx.nodes.terms_are_formed();
         let mut at = self.newest.get(&GoalTerms::of(input)).copied();
         while let Some(i) = at {
             let entry = &self.stack[i];

@@ -214,7 +214,7 @@ fn equate_plain(
         AreUnrelatedIn nodes.old table.old.entries left right }
 {
     // The nodes of a store are formed.
-    let _ = nodes.len();
+    nodes.terms_are_formed();
     let _ = declarations;
     let _ = env;
     match relate_nodes(alloc, nodes, table, left, right) {

@@ -1,5 +1,6 @@
 //! The context: terms, declarations and limits.
 ghost use Rattle.std.specs.Prelude.{◌≡◌, [], false};
+ghost use Rattle.nts_store.specs.Formed.{AreFormed};
 ghost use Rattle.nts_terms.specs.Signatures.{nothing_declared};
 
 use crate::declarations::Declarations;
@@ -35,6 +36,13 @@ impl Drop for Cx {
 }
 
 impl Cx {
+    /// Each node of the store has the children of its label. It does nothing: a proof that rests on this calls it.
+    pub fn terms_are_formed(&self)
+        ensures { AreFormed self.now.nodes }
+    {
+        self.nodes.terms_are_formed();
+    }
+
     /// An empty store with nothing declared. It takes no memory.
     pub fn new(alloc: Global) -> Self
         ensures nodes { result.nodes ≡ [] }

@@ -68,7 +68,7 @@ pub fn bind_along(
     ensures no { (k : VariableKind) → kind_at (content_of nodes.old table.old.entries) side.variable ≡ Some k → result ≡ Err EvalError.NoSolution → Refuses (variances_in declarations.now) (content_of nodes.old table.old.entries) (sides side.is_turned variance (variable_tree k side.variable) (tree_at nodes.old term) ∷ []) }
 {
     // The nodes of a store are formed.
-    let _ = nodes.len();
+    nodes.terms_are_formed();
     if nodes.flags(term).escaping.is_some() {
         return Err(EvalError::NoSolution);
     }

@@ -131,7 +131,7 @@ fn is_loose(nodes: &Nodes, t: NodeId) -> bool
     ensures no { result ≡ false → IsAlias (tree_at nodes.now t) → ⊥ }
 {
     // The nodes of a store are formed.
-    let _ = nodes.len();
+    nodes.terms_are_formed();
     is_closed_alias(nodes.label(t), nodes.flags(t))
 }
 
@@ -148,7 +148,7 @@ fn take_nodes(nodes: &Nodes, table: &mut InferCtxtInner, pair: Relating) -> Resu
     ensures no { (declared : ℕ → List Variance) → result ≡ Err EvalError.NoSolution → Refuses declared (content_of nodes.now table.old.entries) (pair_at nodes.now pair ∷ []) }
 {
     // The nodes of a store are formed.
-    let _ = nodes.len();
+    nodes.terms_are_formed();
     if nodes.same(pair.left, pair.right) && !nodes.flags(pair.left).has_alias {
         return Ok(Taken::Done);
     }
@@ -182,7 +182,7 @@ fn take_left(
     ensures no { result ≡ Err EvalError.NoSolution → Refuses (variances_in declarations.now) (content_of nodes.old table.old.entries) (pair_at nodes.old pair ∷ []) }
 {
     // The nodes of a store are formed.
-    let _ = nodes.len();
+    nodes.terms_are_formed();
     let Relating {
         variance,
         left,
@@ -228,7 +228,7 @@ fn take_right(
     ensures no { result ≡ Err EvalError.NoSolution → Refuses (variances_in declarations.now) (content_of nodes.old table.old.entries) (pair_at nodes.old pair ∷ []) }
 {
     // The nodes of a store are formed.
-    let _ = nodes.len();
+    nodes.terms_are_formed();
     let Relating {
         variance,
         left,

@@ -88,7 +88,7 @@ fn is_owed(nodes: &Nodes, table: &InferCtxtInner, t: NodeId) -> bool
     ensures no { result ≡ false → IsAlias (tree_at nodes.now t) → ⊥ }
 {
     // The nodes of a store are formed.
-    let _ = nodes.len();
+    nodes.terms_are_formed();
     let label = nodes.label(t);
     if let Some(n) = type_number(label) {
         return table.probe_variable(n).is_ok();
@@ -135,7 +135,7 @@ fn equate(
     ensures no { (declared : ℕ → List Variance) → result ≡ Err EvalError.NoSolution → Refuses declared (content_of nodes.old table.old.entries) (pair_at nodes.old pair ∷ []) }
 {
     // The nodes of a store are formed.
-    let _ = nodes.len();
+    nodes.terms_are_formed();
     if !is_plain(nodes, pair) {
         return Ok(Taken::Equal);
     }
@@ -155,7 +155,7 @@ fn take_variables(nodes: &Nodes, table: &InferCtxtInner, pair: Relating) -> Take
     ensures { (declared : ℕ → List Variance) → IsTaken declared nodes.now nodes.now table.now.entries table.now.entries pair result }
 {
     // The nodes of a store are formed.
-    let _ = nodes.len();
+    nodes.terms_are_formed();
     let Some(x) = type_number(nodes.label(pair.left)) else {
         return Taken::Equal;
     };
@@ -196,7 +196,7 @@ fn take_variable(
     ensures no { result ≡ Err EvalError.NoSolution → Refuses (variances_in declarations.now) (content_of nodes.old table.old.entries) (pair_at nodes.old pair ∷ []) }
 {
     // The nodes of a store are formed.
-    let _ = nodes.len();
+    nodes.terms_are_formed();
     if type_number(nodes.label(own)).is_none() {
         return Ok(Taken::Equal);
     }
@@ -253,7 +253,7 @@ fn binds_same(nodes: &Nodes, label: Label, pair: Relating) -> bool
     ensures no { result ≡ false → form_of_tree (tree_at nodes.now pair.left) ≡ form_of_tree (tree_at nodes.now pair.right) → ⊥ }
 {
     // The nodes of a store are formed.
-    let _ = nodes.len();
+    nodes.terms_are_formed();
     if let Label::Ty(TyHead::FnPtr) = label {
         return nodes.same(nodes.child(pair.left, 0), nodes.child(pair.right, 0));
     }
@@ -308,7 +308,7 @@ pub fn take_heads(
     ensures no { (declared : ℕ → List Variance) → result ≡ Err EvalError.NoSolution → Refuses declared (content_of nodes.now table.old.entries) (pair_at nodes.now pair ∷ []) }
 {
     // The nodes of a store are formed.
-    let _ = nodes.len();
+    nodes.terms_are_formed();
     let left = nodes.label(pair.left);
     let right = nodes.label(pair.right);
     if names_free_region(left) && names_free_region(right) {
@@ -366,7 +366,7 @@ fn take_varying(
     ensures no { result ≡ Err EvalError.NoSolution → Refuses (variances_in declarations.now) (content_of nodes.old table.old.entries) (pair_at nodes.old pair ∷ []) }
 {
     // The nodes of a store are formed.
-    let _ = nodes.len();
+    nodes.terms_are_formed();
     let Relating {
         variance,
         left,

@@ -387,7 +387,7 @@ fn look_at(
     ensures no { result ≡ Err EvalError.NoSolution → LookRefuses (content_of nodes.old table.old.entries) target.variable target.universe spot (tree_at nodes.old spot.term) }
 {
     // The nodes of a store are formed.
-    let _ = nodes.len();
+    nodes.terms_are_formed();
     let label = nodes.label(spot.term);
     let flags = nodes.flags(spot.term);
     if !flags.has_alias && stands_alone(spot.variance, label, flags) {
@@ -516,7 +516,7 @@ fn build(
     ensures no { result ≢ Err EvalError.NoSolution }
 {
     // The nodes of a store are formed, which says what parts this one has.
-    let _ = nodes.len();
+    nodes.terms_are_formed();
     let label = nodes.label(term);
     let row = holder(nodes, term);
     let first = walk.made.len() - nodes.child_count(row);

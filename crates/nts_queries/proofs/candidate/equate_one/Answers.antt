@@ -3,7 +3,8 @@ use Rattle.nts_store.specs.Growth.{tree_at}
 use Rattle.nts_table.specs.TableLaws.{IsTable-extended}
 use Rattle.nts_queries.proofs.Running.{equation_stays}
 use Rattle.nts_delegate.proofs.Results.{OnOk-map}
-use Rattle.nts_queries.proofs.Evaluating.{Runs-trans, Runs-extends, can_fill, instance_term, held_values}
+use Rattle.nts_queries.proofs.Instances.{held_values, instance_term}
+use Rattle.nts_queries.proofs.Evaluating.{Runs-trans, Runs-extends, can_fill}
 use Rattle.nts_unify.specs.Lawful.{content_of-extended}
 use Rattle.nts_queries.proofs.candidate.equate_one.Goals as goal
 use Rattle.nts_queries.proofs.Labels.{over_only}

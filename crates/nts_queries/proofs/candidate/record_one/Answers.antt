@@ -4,7 +4,8 @@ use Rattle.nts_terms.proofs.Moved.{KeepsRest-refl}
 use Rattle.nts_table.specs.TableLaws.{IsTable-extended}
 use Rattle.nts_queries.proofs.Running.{constraint_stays, equality_stays}
 use Rattle.nts_delegate.proofs.Results.{OnOk-map}
-use Rattle.nts_queries.proofs.Evaluating.{Runs-trans, Runs-extends, can_fill, instance_term, held_values}
+use Rattle.nts_queries.proofs.Instances.{held_values, instance_term}
+use Rattle.nts_queries.proofs.Evaluating.{Runs-trans, Runs-extends, can_fill}
 use Rattle.nts_model.specs.Terms.Substitutions.{filled}
 use Rattle.nts_model.specs.Derivations.Handlers.{constraint_by}
 use Rattle.nts_unify.specs.Lawful.{content_of-extended}

@@ -20,7 +20,7 @@ no_region c = λ r.
 
 bound : (c : goal.In_ok-bind-in-Ok) → HasValue c.args.nodes.now c.generalize.new.nodes c.args.table.now.entries c.bind.new.self.entries c.args.x (tree_at c.args.nodes.now c.args.t)
 bound c =
-    bind_value c.args.nodes.now c.generalize.new.nodes c.args.table.now.entries c.generalize.new.table.entries c.bind.new.self.entries c.args.x c.args.t c.in-Ok.value c.variable-variable.result c.variable-variable-in-Ok.result c.requires.lawful c.requires.open c.variable-variable.ensures c.requires.closed.knows c.in-Ok.ensures.lawful c.in-Ok.ensures.within (c.len.ensures.formed c.in-Ok.value c.in-Ok.ensures.within) c.in-Ok.ensures.generalized (omega (arith, c.in-Ok.ensures.generalized.rank, no_rank _ c.requires.closed.no_variable, rank_positive c.variable-variable.result.kind (no_region c))) (c.in-Ok.ensures.generalized.fits c.variable-variable.result.kind (no_region c) (no_rank _ c.requires.closed.no_variable) (subst (λ (y : Tree). Fits c.variable-variable.result.kind y) (sym c.label.ensures.is) (c.fits.ensures.yes c.if-not-fits.false _))) c.variable-variable-in-Ok.ensures c.in_ok-bind-in-Ok.ensures.entries
+    bind_value c.args.nodes.now c.generalize.new.nodes c.args.table.now.entries c.generalize.new.table.entries c.bind.new.self.entries c.args.x c.args.t c.in-Ok.value c.variable-variable.result c.variable-variable-in-Ok.result c.requires.lawful c.requires.open c.variable-variable.ensures c.requires.closed.knows c.in-Ok.ensures.lawful c.in-Ok.ensures.within (c.terms_are_formed.ensures.formed c.in-Ok.value c.in-Ok.ensures.within) c.in-Ok.ensures.generalized (omega (arith, c.in-Ok.ensures.generalized.rank, no_rank _ c.requires.closed.no_variable, rank_positive c.variable-variable.result.kind (no_region c))) (c.in-Ok.ensures.generalized.fits c.variable-variable.result.kind (no_region c) (no_rank _ c.requires.closed.no_variable) (subst (λ (y : Tree). Fits c.variable-variable.result.kind y) (sym c.label.ensures.is) (c.fits.ensures.yes c.if-not-fits.false _))) c.variable-variable-in-Ok.ensures c.in_ok-bind-in-Ok.ensures.entries
 
 pub returns-in_ok-bind-in-Ok-clause-lawful : goal.returns-in_ok-bind-in-Ok-clause-lawful
 returns-in_ok-bind-in-Ok-clause-lawful c = (bound c).lawful

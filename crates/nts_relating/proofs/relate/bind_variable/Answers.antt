@@ -32,7 +32,7 @@ bind-requires c =
 
 made : (c : goal.After-drop-moved-inside-5) → IsLawful c.name_variable.new.nodes c.bind.new.self.entries × AreMadeOne (content_of c.args.nodes.now c.args.table.now.entries) (content_of c.name_variable.new.nodes c.bind.new.self.entries) c.args.x c.args.y
 made c =
-    taken c.args.nodes.now c.make.new.self c.name_variable.new.nodes c.args.table.now.entries c.name_variable.new.table.entries c.bind.new.self.entries c.args.x c.args.y c.variable-kind.result.kind c.in_ok-t.t c.in-Ok.value c.variable.result c.variable-variable.result c.variable-kind.result c.requires.lawful c.in_ok-t.ensures.extends c.requires.can c.variable.ensures c.variable-kind.ensures refl c.in_ok-t.ensures.tree c.in-Ok.ensures.lawful c.in-Ok.ensures.within (c.len.ensures.formed c.in-Ok.value c.in-Ok.ensures.within) c.in-Ok.ensures.generalized c.variable-variable.ensures c.in_ok-bind-in-Ok.ensures.entries
+    taken c.args.nodes.now c.make.new.self c.name_variable.new.nodes c.args.table.now.entries c.name_variable.new.table.entries c.bind.new.self.entries c.args.x c.args.y c.variable-kind.result.kind c.in_ok-t.t c.in-Ok.value c.variable.result c.variable-variable.result c.variable-kind.result c.requires.lawful c.in_ok-t.ensures.extends c.requires.can c.variable.ensures c.variable-kind.ensures refl c.in_ok-t.ensures.tree c.in-Ok.ensures.lawful c.in-Ok.ensures.within (c.terms_are_formed.ensures.formed c.in-Ok.value c.in-Ok.ensures.within) c.in-Ok.ensures.generalized c.variable-variable.ensures c.in_ok-bind-in-Ok.ensures.entries
 
 pub returns-clause-lawful : goal.returns-clause-lawful
 returns-clause-lawful c = (made c).0

@@ -36,7 +36,7 @@ under c = ap (λ n. c.args.part.binders + n) c.binders_of.ensures ∙ sym (ap (i
 
 pub made_for-requires : goal.made_for-requires
 made_for-requires c =
-    child_found c.args.nodes.now c.args.table.now.entries c.args.target.variable c.args.target.universe c.args.walk.now.root c.args.part c.args.walk.now.tasks.items (made_at c.args.walk.now.made) c.label-label.result c.child-term.result c.loop-i.i (c.args.part.binders + c.binders_of.result) c.requires.walk c.len.ensures.apart c.label-label.ensures.is (ap (λ n. c.args.part.binders + n) c.binders_of.ensures) (omega (arith, c.child_count-i-end.ensures.count, c.loop-i-test.true)) c.child-term.ensures.within c.child-term.ensures.tree
+    child_found c.args.nodes.now c.args.table.now.entries c.args.target.variable c.args.target.universe c.args.walk.now.root c.args.part c.args.walk.now.tasks.items (made_at c.args.walk.now.made) c.label-label.result c.child-term.result c.loop-i.i (c.args.part.binders + c.binders_of.result) c.requires.walk c.terms_are_formed.ensures.apart c.label-label.ensures.is (ap (λ n. c.args.part.binders + n) c.binders_of.ensures) (omega (arith, c.child_count-i-end.ensures.count, c.loop-i-test.true)) c.child-term.ensures.within c.child-term.ensures.tree
 
 pub loop-i-preserved : goal.loop-i-preserved
 loop-i-preserved c =

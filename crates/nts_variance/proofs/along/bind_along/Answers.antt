@@ -14,7 +14,7 @@ pub returns-then-is_some-clause-no : goal.returns-then-is_some-clause-no
 returns-then-is_some-clause-no c = λ k has q.
     let t = tree_at c.args.nodes.now c.args.term in
     let some : true ≡ is_some (escaping t) = c.if-is_some.ensures ∙ ap (λ f. is_some f.escaping) c.flags.ensures in
-    open_refuses (variances_in c.args.declarations.now) c.args.side.is_turned (content_of c.args.nodes.now c.args.table.now.entries) c.args.side.variable k c.args.variance t has (c.len.ensures.formed c.args.term c.requires.within) (some_escapes t some)
+    open_refuses (variances_in c.args.declarations.now) c.args.side.is_turned (content_of c.args.nodes.now c.args.table.now.entries) c.args.side.variable k c.args.variance t has (c.terms_are_formed.ensures.formed c.args.term c.requires.within) (some_escapes t some)
 
 pub variable-requires : goal.variable-requires
 variable-requires c = bindable_below c.args.nodes.now c.args.table.now.entries c.args.side.variable c.requires.«open»

@@ -11,7 +11,7 @@ returns-clause-yes c = λ q.
     let t = tree_at c.args.nodes.now c.args.t in
     let l = c.label.result in
     let loose : closed_alias l (escaping t) ≡ true = ap (λ f. closed_alias l f.escaping) (sym c.flags.ensures) ∙ sym c.is_closed_alias.ensures ∙ q in
-    (closed_alias_tree t l c.label.ensures.is (c.len.ensures.formed c.args.t c.requires.within) loose).loose
+    (closed_alias_tree t l c.label.ensures.is (c.terms_are_formed.ensures.formed c.args.t c.requires.within) loose).loose
 
 pub returns-clause-no : goal.returns-clause-no
 returns-clause-no c = λ q.

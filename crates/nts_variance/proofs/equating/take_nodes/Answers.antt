@@ -22,11 +22,11 @@ returns-then-is_loose-clause-no c = λ declared q.
     let ts = c.args.nodes.now in
     let p = c.args.pair in
     let known = c.requires.pair in
-    refuses_owed declared (content_of ts c.args.table.now.entries) p.variance (tree_at ts p.left) (tree_at ts p.right) known.left.sort known.right.sort known.left.knows known.right.knows (c.len.ensures.formed p.left known.left.within) (c.len.ensures.formed p.right known.right.within) known.left.kind known.right.kind (let a = c.is_loose.ensures.yes c.if-is_loose.true in inl a.closed) (c.owe.ensures.no q)
+    refuses_owed declared (content_of ts c.args.table.now.entries) p.variance (tree_at ts p.left) (tree_at ts p.right) known.left.sort known.right.sort known.left.knows known.right.knows (c.terms_are_formed.ensures.formed p.left known.left.within) (c.terms_are_formed.ensures.formed p.right known.right.within) known.left.kind known.right.kind (let a = c.is_loose.ensures.yes c.if-is_loose.true in inl a.closed) (c.owe.ensures.no q)
 
 pub returns-then-is_loose-2-clause-no : goal.returns-then-is_loose-2-clause-no
 returns-then-is_loose-2-clause-no c = λ declared q.
     let ts = c.args.nodes.now in
     let p = c.args.pair in
     let known = c.requires.pair in
-    refuses_owed declared (content_of ts c.args.table.now.entries) p.variance (tree_at ts p.left) (tree_at ts p.right) known.left.sort known.right.sort known.left.knows known.right.knows (c.len.ensures.formed p.left known.left.within) (c.len.ensures.formed p.right known.right.within) known.left.kind known.right.kind (let a = c.is_loose-2.ensures.yes c.if-is_loose-2.true in inr a.closed) (c.owe-then-is_loose-2.ensures.no q)
+    refuses_owed declared (content_of ts c.args.table.now.entries) p.variance (tree_at ts p.left) (tree_at ts p.right) known.left.sort known.right.sort known.left.knows known.right.knows (c.terms_are_formed.ensures.formed p.left known.left.within) (c.terms_are_formed.ensures.formed p.right known.right.within) known.left.kind known.right.kind (let a = c.is_loose-2.ensures.yes c.if-is_loose-2.true in inr a.closed) (c.owe-then-is_loose-2.ensures.no q)

@@ -33,7 +33,7 @@ returns-then-not-is_same-clause-no c = λ declared q.
       | else-names_free_region-via-then-names_free_region+else-names_free_region-2 w ↦ true_false (sym g ∙ sym w.names_free_region-then-names_free_region.ensures ∙ w.if-names_free_region-2.false)
       | else-names_free_region-via-else-names_free_region w ↦ true_false (sym f ∙ sym c.names_free_region.ensures ∙ w.if-names_free_region.false)
     ] in
-    refuses_apart declared (content_of ts c.args.table.now.entries) p.variance (tree_at ts p.left) (tree_at ts p.right) c.label-left.result c.label-right.result known.left.sort known.right.sort known.left.knows known.right.knows (c.len.ensures.formed p.left known.left.within) (c.len.ensures.formed p.right known.right.within) known.left.kind known.right.kind c.label-left.ensures.is c.label-right.ensures.is c.requires.left_node c.requires.right_node c.requires.left_rigid c.requires.right_rigid (c.is_same.ensures.no c.if-not-is_same.true) two
+    refuses_apart declared (content_of ts c.args.table.now.entries) p.variance (tree_at ts p.left) (tree_at ts p.right) c.label-left.result c.label-right.result known.left.sort known.right.sort known.left.knows known.right.knows (c.terms_are_formed.ensures.formed p.left known.left.within) (c.terms_are_formed.ensures.formed p.right known.right.within) known.left.kind known.right.kind c.label-left.ensures.is c.label-right.ensures.is c.requires.left_node c.requires.right_node c.requires.left_rigid c.requires.right_rigid (c.is_same.ensures.no c.if-not-is_same.true) two
 
 pub returns-then-not-has_parts-clause-taken : goal.returns-then-not-has_parts-clause-taken
 returns-then-not-has_parts-clause-taken c = λ declared.
@@ -49,7 +49,7 @@ take_parts-requires-clause-left c =
     let ts = c.args.nodes.now in
     let a = tree_at ts c.args.pair.left in
     let l = c.label-left.result in
-    let formed = c.len.ensures.formed c.args.pair.left c.requires.pair.left.within in
+    let formed = c.terms_are_formed.ensures.formed c.args.pair.left c.requires.pair.left.within in
     made_again a l c.label-left.ensures.is formed (sym c.has_parts.ensures ∙ c.if-not-has_parts.false) (not_loose a l c.label-left.ensures.is formed c.requires.left_rigid)
 
 pub take_parts-requires-clause-right : goal.take_parts-requires-clause-right
@@ -57,7 +57,7 @@ take_parts-requires-clause-right c =
     let ts = c.args.nodes.now in
     let b = tree_at ts c.args.pair.right in
     let m = c.label-right.result in
-    let formed = c.len.ensures.formed c.args.pair.right c.requires.pair.right.within in
+    let formed = c.terms_are_formed.ensures.formed c.args.pair.right c.requires.pair.right.within in
     let same : has_parts m ≡ true = ap has_parts (sym (c.is_same.ensures.yes c.if-not-is_same.false)) ∙ sym c.has_parts.ensures ∙ c.if-not-has_parts.false in
     made_again b m c.label-right.ensures.is formed same (not_loose b m c.label-right.ensures.is formed c.requires.right_rigid)
 

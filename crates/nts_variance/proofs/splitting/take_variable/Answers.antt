@@ -55,4 +55,4 @@ returns-in-Ok-clause-no c = λ q.
     let term = c.requires.term in
     let found : is_some c.type_number.result ≡ true = search rules in
     let closed = type_closed (tree_at ts c.args.own) c.label.result c.type_number.result c.label.ensures.is c.label.ensures.formed (sym c.type_number.ensures) found in
-    refuses_side (variances_in c.args.declarations.now) ts (content_of ts c.args.table.now.entries) c.args.side.is_turned c.args.variance c.args.own c.args.term c.args.pair c.requires.pair own term (c.len.ensures.formed c.args.own own.within) (c.len.ensures.formed c.args.term term.within) closed (c.owe.ensures.no q)
+    refuses_side (variances_in c.args.declarations.now) ts (content_of ts c.args.table.now.entries) c.args.side.is_turned c.args.variance c.args.own c.args.term c.args.pair c.requires.pair own term (c.terms_are_formed.ensures.formed c.args.own own.within) (c.terms_are_formed.ensures.formed c.args.term term.within) closed (c.owe.ensures.no q)

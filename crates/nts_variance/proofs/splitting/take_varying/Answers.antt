@@ -10,14 +10,14 @@ returns-then-is_owed-clause-no c = λ q.
     let ts = c.args.nodes.now in
     let p = c.args.pair in
     let known = c.requires.pair in
-    refuses_owed (variances_in c.args.declarations.now) (content_of ts c.args.table.now.entries) p.variance (tree_at ts p.left) (tree_at ts p.right) known.left.sort known.right.sort known.left.knows known.right.knows (c.len.ensures.formed p.left known.left.within) (c.len.ensures.formed p.right known.right.within) known.left.kind known.right.kind (inl (c.is_owed.ensures.yes c.if-is_owed.true).0) (c.owe.ensures.no q)
+    refuses_owed (variances_in c.args.declarations.now) (content_of ts c.args.table.now.entries) p.variance (tree_at ts p.left) (tree_at ts p.right) known.left.sort known.right.sort known.left.knows known.right.knows (c.terms_are_formed.ensures.formed p.left known.left.within) (c.terms_are_formed.ensures.formed p.right known.right.within) known.left.kind known.right.kind (inl (c.is_owed.ensures.yes c.if-is_owed.true).0) (c.owe.ensures.no q)
 
 pub returns-then-is_owed-2-clause-no : goal.returns-then-is_owed-2-clause-no
 returns-then-is_owed-2-clause-no c = λ q.
     let ts = c.args.nodes.now in
     let p = c.args.pair in
     let known = c.requires.pair in
-    refuses_owed (variances_in c.args.declarations.now) (content_of ts c.args.table.now.entries) p.variance (tree_at ts p.left) (tree_at ts p.right) known.left.sort known.right.sort known.left.knows known.right.knows (c.len.ensures.formed p.left known.left.within) (c.len.ensures.formed p.right known.right.within) known.left.kind known.right.kind (inr (c.is_owed-2.ensures.yes c.if-is_owed-2.true).0) (c.owe-then-is_owed-2.ensures.no q)
+    refuses_owed (variances_in c.args.declarations.now) (content_of ts c.args.table.now.entries) p.variance (tree_at ts p.left) (tree_at ts p.right) known.left.sort known.right.sort known.left.knows known.right.knows (c.terms_are_formed.ensures.formed p.left known.left.within) (c.terms_are_formed.ensures.formed p.right known.right.within) known.left.kind known.right.kind (inr (c.is_owed-2.ensures.yes c.if-is_owed-2.true).0) (c.owe-then-is_owed-2.ensures.no q)
 
 pub returns-in-Some-infer_number-clause-taken : goal.returns-in-Some-infer_number-clause-taken
 returns-in-Some-infer_number-clause-taken c = c.take_variables.ensures (variances_in c.args.declarations.now)

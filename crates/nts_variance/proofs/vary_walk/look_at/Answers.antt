@@ -20,7 +20,7 @@ pub returns-then-is_closed_alias-clause-look : goal.returns-then-is_closed_alias
 returns-then-is_closed_alias-clause-look c = λ declared.
     let t = tree_at c.args.nodes.now c.args.spot.term in
     let s = c.in_ok-made.ensures in
-    let formed = c.len.ensures.formed c.args.spot.term c.requires.part.within in
+    let formed = c.terms_are_formed.ensures.formed c.args.spot.term c.requires.part.within in
     let is = c.label-label.ensures.is in
     let loose : closed_alias c.label-label.result (escaping t) ≡ true = ap (λ f. closed_alias c.label-label.result f.escaping) (sym c.flags-flags.ensures) ∙ sym c.if-is_closed_alias.ensures in
     let a = closed_alias_tree t c.label-label.result is formed loose in
@@ -30,7 +30,7 @@ returns-then-is_closed_alias-clause-look c = λ declared.
 pub returns-then-has_parts-clause-look : goal.returns-then-has_parts-clause-look
 returns-then-has_parts-clause-look c = λ declared.
     let t = tree_at c.args.nodes.now c.args.spot.term in
-    let formed = c.len.ensures.formed c.args.spot.term c.requires.part.within in
+    let formed = c.terms_are_formed.ensures.formed c.args.spot.term c.requires.part.within in
     let tight : closed_alias c.label-label.result (escaping t) ≡ false = ap (λ f. closed_alias c.label-label.result f.escaping) (sym c.flags-flags.ensures) ∙ sym c.if-is_closed_alias.ensures in
     (refl, refl, refl, made_again t c.label-label.result c.label-label.ensures.is formed (sym c.if-has_parts.ensures) tight)
 
@@ -47,7 +47,7 @@ returns-then-may_vary-clause-look c = λ declared.
 pub returns-clause-look : goal.returns-clause-look
 returns-clause-look c = λ declared.
     let t = tree_at c.args.nodes.now c.args.spot.term in
-    let formed = c.len.ensures.formed c.args.spot.term c.requires.part.within in
+    let formed = c.terms_are_formed.ensures.formed c.args.spot.term c.requires.part.within in
     let is = c.label-label.ensures.is in
     let side : (const_variable c.label-label.result ≡ false) ⊎ (any_label is_alias t ≡ true) = elim c.else-not-flags.branch [
       | else-not-flags-via-then-not-flags+else-stands_alone w ↦ inl (w.if-stands_alone.ensures.no_const refl)

@@ -35,7 +35,7 @@ returns-in_err-check-clause-evaluates g c =
     record { left = search rules; proved = λ s. IfOk-from_err c.from_residual.result _ (search rules); faulted = search rules }
 
 pub returns-then-self-clause-evaluates : goal.returns-then-self-clause-evaluates
-returns-then-self-clause-evaluates g c = record { left = search rules; proved = search rules; faulted = search rules }
+returns-then-self-clause-evaluates g c = record { left = search rules; proved = λ s. tt; faulted = search rules }
 
 pub returns-in-Ok-clause-evaluates : goal.returns-in-Ok-clause-evaluates
 returns-in-Ok-clause-evaluates g c =
@@ -53,7 +53,7 @@ pub returns-in-Err-clause-evaluates : goal.returns-in-Err-clause-evaluates
 returns-in-Err-clause-evaluates g c =
     record {
       left = search rules;
-      proved = search rules;
+      proved = λ s. IfOk-from_err c.note.result _ (search rules);
       faulted = search rules;
     }
 

@@ -1,6 +1,7 @@
 use Rattle.std.proofs.Common.{◌∙◌}
 use Rattle.nts_table.specs.TableLaws.{IsTable-extended}
-use Rattle.nts_queries.proofs.Evaluating.{goal_posed, can_fill, instance_term, held_values}
+use Rattle.nts_queries.proofs.Instances.{held_values, instance_term}
+use Rattle.nts_queries.proofs.Evaluating.{goal_posed, can_fill}
 use Rattle.nts_queries.proofs.candidate.Trial.added_goal.Goals as goal
 use Rattle.nts_queries.proofs.Labels.{nested_only}
 

@@ -1,4 +1,5 @@
-use Rattle.nts_queries.proofs.Evaluating.{IsOverIn-extended, HoldsValues-extended, IsInstance-later, IsInstance-earlier}
+use Rattle.nts_queries.proofs.Instances.{HoldsValues-extended, IsInstance-earlier, IsInstance-later}
+use Rattle.nts_queries.proofs.Evaluating.{IsOverIn-extended}
 use Rattle.nts_queries.proofs.candidate.Trial.instantiate_both.Goals as goal
 
 pub instantiate-requires-2-clause-over : goal.instantiate-requires-2-clause-over

@@ -11,7 +11,7 @@ standing : (c : In-Some) → Stands c.args.cx.now.nodes c.args.self.now.stack.it
 standing c =
     let ts = c.args.cx.now.nodes in
     let xs = c.args.self.now.stack.items in
-    stands ts xs c.args.input.now c.in-Some.i c.len.ensures.apart c.requires.input c.requires.holds.held (subst (Ahead ts (reverse xs) c.args.input.now) c.in-Some.is c.loop-at.invariant)
+    stands ts xs c.args.input.now c.in-Some.i c.terms_are_formed.ensures.apart c.requires.input c.requires.holds.held (subst (Ahead ts (reverse xs) c.args.input.now) c.in-Some.is c.loop-at.invariant)
 
 pub index-entry-requires : goal.index-entry-requires
 index-entry-requires c =
@@ -59,4 +59,4 @@ returns c =
     let ts = c.args.cx.now.nodes in
     let g = c.args.self.now in
     let i = c.args.input.now in
-    record { found = stands_nowhere ts g i c.len.ensures.apart c.requires.input c.requires.holds.held (subst (Ahead ts (reverse g.stack.items) i) c.in_default.is c.loop-at.invariant) }
+    record { found = stands_nowhere ts g i c.terms_are_formed.ensures.apart c.requires.input c.requires.holds.held (subst (Ahead ts (reverse g.stack.items) i) c.in_default.is c.loop-at.invariant) }
