@@ -43,4 +43,3 @@ rows_tell ts = record {
   others = λ x y xs ys e. ap (λ t. tail_of (tail_of t)) e;
   lengths = row_lengths ts;
 }
-

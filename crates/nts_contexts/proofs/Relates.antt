@@ -27,10 +27,10 @@ use Rattle.nts_table.specs.Tables.{Table, IsTable}
 use Rattle.nts_variance.specs.Walking.{IsTableGrown}
 use Rattle.nts_variance.specs.declared.along.Relating.{Relating as Pair}
 use Rattle.nts_solver_relating.specs.Sides.{IsRelatedBy, SolverRelatingKeeps, AreMadeEqual, AreGoalsOfPairs}
-use Rattle.nts_queries.specs.Evaluation.{Runs, IsPosed}
-use Rattle.nts_queries.specs.Stepping.{ArePosed}
-use Rattle.nts_queries.proofs.Evaluating.{goes, runs-back}
-use Rattle.nts_queries.proofs.Stepping.{posed_later}
+use Rattle.nts_asking.specs.Evaluation.{Runs, IsPosed}
+use Rattle.nts_trying.specs.Stepping.{ArePosed}
+use Rattle.nts_asking.proofs.Evaluating.{goes, runs-back}
+use Rattle.nts_trying.proofs.Stepping.{posed_later}
 use Rattle.nts_contexts.specs.declared.state.EvalState.{EvalState}
 use Rattle.nts_contexts.specs.declared.context.EvalCtxt.{EvalCtxt}
 use Rattle.nts_contexts.specs.Contexts.{IsContextReady, KeepsContext}

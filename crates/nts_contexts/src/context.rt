@@ -3,7 +3,7 @@ ghost use Rattle.std.specs.Prelude.{◌≡◌, ◌++◌, ◌∷◌, [], length, 
 ghost use Rattle.std.specs.Borrow.{MutBor};
 ghost use Rattle.nts_store.specs.Errors.{error_of};
 ghost use Rattle.nts_table.specs.Tables.{IsTable};
-ghost use Rattle.nts_queries.specs.Evaluation.{Runs};
+ghost use Rattle.nts_asking.specs.Evaluation.{Runs};
 ghost use Rattle.nts_contexts.specs.Faults.{fault_of, fault_in, fault_after, AnsweredNoFault};
 ghost use Rattle.nts_contexts.specs.Contexts.{IsContextReady, KeepsContext, IsOpened, IsRootContext, IsProbe, IsContextRun, IsLeftByRoot, IsCopy, EvaluatedNothing};
 
@@ -124,8 +124,10 @@ impl<'a, H: GoalHandler> EvalCtxt<'a, H> {
         ensures store { self.new.cx.now ≡ self.old.cx.now }
         ensures handler { self.new.handler ≡ self.old.handler }
         ensures state { self.new.state.ghost_name ≡ self.old.state.ghost_name }
-        ensures left { self.new.state.now ≡ record self.old.state.now { fault = fault_after
-            self.old.state.now.fault result } }
+        ensures left { self.new.state.now ≡ record self.old.state.now {
+          fault = fault_after
+              self.old.state.now.fault result;
+        } }
         ensures refused { IfErr result (λ e. IsSome (fault_of e)) }
         ensures faulted { IfSome self.old.state.now.fault (λ f. result ≡ Err (error_of f)) }
     {

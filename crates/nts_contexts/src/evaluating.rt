@@ -2,21 +2,22 @@
 ghost use Rattle.std.specs.Prelude.{◌≡◌, ◌≤◌, ◌+◌, true, [], None, Ok, Err, IfOk, OnOk};
 ghost use Rattle.nts_certainty.specs.declared.certainty.Certainty.TheVariants as certainty;
 ghost use Rattle.nts_response.specs.Forms.{response_at, HoldsResponse};
-ghost use Rattle.nts_queries.specs.Asking.{IsResponseOf};
-ghost use Rattle.nts_queries.specs.Answering.{told_in};
-ghost use Rattle.nts_queries.specs.Meant.{rules_of, Always};
+ghost use Rattle.nts_asking.specs.Asking.{IsResponseOf};
+ghost use Rattle.nts_asking.specs.Answering.{told_in};
+ghost use Rattle.nts_asking.specs.Meant.{rules_of, Always};
 ghost use Rattle.nts_contexts.specs.Faults.{fault_after, tainted_after};
 ghost use Rattle.nts_contexts.specs.Contexts.{IsContextReady, KeepsContext, content_in};
 ghost use Rattle.nts_contexts.specs.Promises.{EvaluatesAdded, ReachesAdded, RefusesOneAdded};
 
 use crate::context::EvalCtxt;
+use nts_asking::make_response;
 use nts_certainty::Certainty;
 use nts_delegate::GoalHandler;
 use nts_evaluation::try_evaluate_goals;
-use nts_queries::{AvailableDepth, make_response};
 use nts_response::CanonicalResponse;
 use nts_search::{CurrentGoalKind, SearchGraph};
 use nts_store::EvalError;
+use nts_trying::AvailableDepth;
 
 impl<H: GoalHandler> EvalCtxt<'_, H> {
     /// Evaluates the goals that were added, in steps, until a step finds nothing out, or as often as the store's limit says: then

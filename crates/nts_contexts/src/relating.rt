@@ -8,7 +8,7 @@ ghost use Rattle.nts_store.specs.Errors.{error_of};
 ghost use Rattle.nts_terms.specs.Signatures.{variances_in};
 ghost use Rattle.nts_table.specs.Tables.{IsTable, IsSide};
 ghost use Rattle.nts_solver_relating.specs.Sides.{ArePlainIn, AreUnrelatedIn, RefusesIn};
-ghost use Rattle.nts_queries.specs.Evaluation.{Runs};
+ghost use Rattle.nts_asking.specs.Evaluation.{Runs};
 ghost use Rattle.nts_contexts.specs.Related.{IsEnvOf, AddsRelated, AreEquatedIn, KeepsState};
 ghost use Rattle.nts_contexts.specs.Faults.{fault_after};
 ghost use Rattle.nts_contexts.specs.Contexts.{IsContextReady, KeepsContext, EvaluatedNothing, content_in, tree_in};
@@ -174,8 +174,7 @@ impl<H: GoalHandler> EvalCtxt<'_, H> {
         requires left { IsSide T.place self.old.cx.now.nodes self.old.table.now (T.id lhs) }
         requires right { IsSide T.place self.old.cx.now.nodes self.old.table.now (T.id rhs) }
         ensures keeps { KeepsContext H.ready self.old self.new }
-        ensures goals
-            { self.new.state.now.nested_goals.items ≡ self.old.state.now.nested_goals.items }
+        ensures goals { self.new.state.now.nested_goals.items ≡ self.old.state.now.nested_goals.items }
         ensures heads { OnOk result (T.head lhs ≡ T.head rhs) }
         ensures related { OnOk result (AreRelated (content_in self.old) (content_in self.new)
             (tree_in self.old (T.id lhs)) (tree_in self.old (T.id rhs))) }

@@ -93,9 +93,13 @@ impl EvalState {
         answer: Result<R, EvalError>,
     ) -> Result<R, EvalError>
         ensures same { result ≡ answer }
-        ensures state { self.new ≡ record self.old { nested_goals = goals; last_steps = last_steps;
-            is_tainted = tainted_after self.old.is_tainted answer; fault = fault_after
-            self.old.fault answer } }
+        ensures state { self.new ≡ record self.old {
+          nested_goals = goals;
+          last_steps = last_steps;
+          is_tainted = tainted_after self.old.is_tainted answer;
+          fault = fault_after
+              self.old.fault answer;
+        } }
     {
         self.nested_goals = goals;
         self.last_steps = last_steps;

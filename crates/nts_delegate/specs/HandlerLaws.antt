@@ -356,4 +356,3 @@ covered_shape clauses own is_coinductive e g ι a n (inr o) h env con =
 pub AreOffered-clauses : (clauses : ClausesOfTraits) (is_coinductive : ℕ → Bool) → AreOwn clauses → RulesAreOffered (handler_by clauses is_coinductive)
 AreOffered-clauses clauses is_coinductive own =
     record { covered = λ e g ι a asked applies env con. covered_shape clauses own is_coinductive e g ι a asked.no_positions (trait_or_other e g asked) applies env con }
-

@@ -17,10 +17,10 @@ use Rattle.nts_canonical.specs.declared.types.CanonicalInput.{CanonicalInput}
 use Rattle.nts_response.specs.declared.types.Response.{Response}
 use Rattle.nts_delegate.specs.declared.delegate.CandidateData.{CandidateData}
 use Rattle.nts_search.specs.declared.stack.SearchGraph.{SearchGraph}
-use Rattle.nts_queries.specs.Searching.{Searches}
+use Rattle.nts_asking.specs.Searching.{Searches}
 use Rattle.nts_model.specs.Derivations.Handlers.{Handler}
 use Rattle.nts_evaluation.specs.Promises.{AnswersQuery, AnswersGoal, AnswersBy}
-use Rattle.nts_queries.specs.Meant.{Rules}
+use Rattle.nts_asking.specs.Meant.{Rules}
 
 pub query_failed : {R : Rules} {a b : Cx} {g h : SearchGraph} {input : CanonicalInput} {step : PathKind} (r : Result (Box (Canonical Response)) EvalError) → is_err r ≡ true → r ≢ Err error.NoSolution → Grows a b → Searches a b g h → AnswersQuery R a b g h input step r
 query_failed r fails other grows searches = record { grows = grows; searches = searches; fits = IfOk-from_err r _ fails; proved = λ s. IfOk-from_err r _ fails; told = λ s tells. IfOk-from_err r _ fails; refuted = λ s tells n. absurd (other n) }

@@ -19,9 +19,9 @@ use Rattle.nts_response.specs.declared.types.Response.{Response}
 use Rattle.nts_response.specs.Forms.{response_at}
 use Rattle.nts_delegate.specs.Offered.{path_kind_of}
 use Rattle.nts_search.specs.declared.stack.SearchGraph.{SearchGraph}
-use Rattle.nts_queries.specs.Meant.{Since, Rules, Always, meaning_since, IsQueryTold, IsQueryRefuted, AreOffered, IsOffered, IsServedSince, IsProvedNow, IsProvedFromSince, IsNestedSince, IsAskedTo, IsRefusedIn, IsAskedUnder, IsRefusedUnder, IsTold, IsRefuted, HaveOutcomes, CandidatesTell, RepliesWith, FailsIn, HasRunTo, ReachesBy, RefusesOneOf}
-use Rattle.nts_queries.specs.Searching.{Searches, HeadsTell, IsCut, assumed_in, IsHeadAnswer, IsAnswerTold}
-use Rattle.nts_queries.specs.Answering.{IsAnswerTo, IfAnswered, IfCertain, EvaluatesGoal, IfSure}
+use Rattle.nts_asking.specs.Meant.{Since, Rules, Always, meaning_since, IsQueryTold, IsQueryRefuted, AreOffered, IsOffered, IsServedSince, IsProvedNow, IsProvedFromSince, IsNestedSince, IsAskedTo, IsRefusedIn, IsAskedUnder, IsRefusedUnder, IsTold, IsRefuted, HaveOutcomes, CandidatesTell, RepliesWith, FailsIn, HasRunTo, ReachesBy, RefusesOneOf}
+use Rattle.nts_asking.specs.Searching.{Searches, HeadsTell, IsCut, assumed_in, IsHeadAnswer, IsAnswerTold}
+use Rattle.nts_asking.specs.Answering.{IsAnswerTo, IfAnswered, IfCertain, EvaluatesGoal, IfSure}
 use Rattle.nts_model.specs.Tables.Passing.{BringsOnly}
 use Rattle.nts_certainty.specs.declared.sources.GoalSource.{GoalSource}
 use Rattle.nts_certainty.specs.declared.certainty.Certainty.{Certainty}
@@ -33,13 +33,13 @@ use Rattle.nts_delegate.specs.declared.delegate.CandidateData.{CandidateData}
 use Rattle.nts_search.specs.declared.kinds.CurrentGoalKind.{CurrentGoalKind}
 use Rattle.nts_search.specs.Kinds.{goal_kind_of}
 use Rattle.nts_search.specs.Searching.{entry_at, entries_at}
-use Rattle.nts_queries.specs.declared.steps.Evaluated.{Evaluated}
-use Rattle.nts_queries.specs.declared.steps.Step.{Step}
-use Rattle.nts_queries.specs.declared.round.Asked.{Asked}
-use Rattle.nts_queries.specs.declared.round.Ended.{Ended}
-use Rattle.nts_queries.specs.Found.{Found}
-use Rattle.nts_queries.specs.Stepping.{ArePosed, AreLeft, AreSettled, terms_of}
-use Rattle.nts_queries.specs.Evaluation.{Runs, asked_terms}
+use Rattle.nts_asking.specs.declared.response.Evaluated.{Evaluated}
+use Rattle.nts_trying.specs.declared.steps.Step.{Step}
+use Rattle.nts_asking.specs.declared.round.Round.{Round}
+use Rattle.nts_asking.specs.declared.round.Ended.{Ended}
+use Rattle.nts_trying.specs.Found.{Found}
+use Rattle.nts_trying.specs.Stepping.{ArePosed, AreLeft, AreSettled, terms_of}
+use Rattle.nts_asking.specs.Evaluation.{Runs, asked_terms}
 use Rattle.nts_store.specs.declared.fault.EvalError.TheVariants as error
 use Rattle.nts_certainty.specs.declared.certainty.Certainty.TheVariants as certainty
 use Rattle.nts_search.specs.declared.kinds.CurrentGoalKind.TheVariants as kinds
@@ -90,7 +90,7 @@ pub record AsksAdded (R : Rules) (a b : Cx) (g h : SearchGraph) (t u : Table) (g
   pub refuted : WhereTold R a g (λ m. r ≡ Err error.NoSolution → IsRefusedUnder m t.mode a.nodes t goal ⊎ IsCut t.mode step)
 
 -- a round of a query: the input was on the stack, and is off it again
-pub record EndsRound (R : Rules) (a b : Cx) (g h : SearchGraph) (asked : Asked) (step : PathKind) (r : Result (Box Ended) EvalError) : Type 0 where
+pub record EndsRound (R : Rules) (a b : Cx) (g h : SearchGraph) (asked : Round) (step : PathKind) (r : Result (Box Ended) EvalError) : Type 0 where
   pub grows : Grows a b
   pub searches : Searches a b g h
   pub entry : IfOk r (λ z. (z.value.entry.input ≡ asked.input) × (z.value.entry.step_kind ≡ step) × (z.value.entry.provisional ≡ asked.provisional))

@@ -3,28 +3,31 @@
 ghost use Rattle.std.specs.Prelude.{◌+◌, All};
 ghost use Rattle.nts_canonical.specs.Building.{kinds_of, IsArgOf};
 ghost use Rattle.nts_delegate.specs.Candidates.{IsCandidate, AreCandidates};
-ghost use Rattle.nts_queries.specs.Searching.{IsSearch, IsHeadAnswer};
-ghost use Rattle.nts_queries.specs.Stepping.{ArePosed, bound_of};
-ghost use Rattle.nts_queries.specs.Answering.{IsQueryInput};
-ghost use Rattle.nts_queries.specs.Evaluation.{IsPosed, IsAskedGoal};
+ghost use Rattle.nts_asking.specs.Searching.{IsSearch, IsHeadAnswer};
+ghost use Rattle.nts_trying.specs.Stepping.{ArePosed, bound_of};
+ghost use Rattle.nts_asking.specs.Answering.{IsQueryInput};
+ghost use Rattle.nts_asking.specs.Evaluation.{IsPosed, IsAskedGoal};
 ghost use Rattle.nts_table.specs.Tables.{IsTable};
-ghost use Rattle.nts_queries.specs.Meant.{rules_of};
+ghost use Rattle.nts_asking.specs.Meant.{rules_of};
 ghost use Rattle.nts_evaluation.specs.Promises.{AnswersQuery, AsksGoal, AsksAdded, EndsRound, AnswersGoal, TriesEach, TriesOne, RunsOne, StepsGoals, StepsOnce};
 
+use nts_asking::{
+    Ended, Evaluated, Round, answer_cycle, apply_answer, boxed_query, boxed_response, end_round,
+    first_round, keeps_constraints, last_answer, next_round, push_query, query_table, resolve_goal,
+    unchanged_answer,
+};
 use nts_canonical::CanonicalInput;
 use nts_certainty::{Certainty, GoalSource, HasChanged, PathKind};
 use nts_delegate::{CandidateData, GoalHandler};
-use nts_queries::{
-    Asked, AvailableDepth, Ended, Evaluated, Step, Trial, answer_cycle, apply_answer, boxed_query,
-    boxed_response, end_round, enter_forall, equate, first_round, goal_kind, is_candidates_goal,
-    keep_met, keep_response, keeps_constraints, last_answer, merge_responses, next_round,
-    push_query, query_table, record_constraints, resolve_goal, unchanged_answer,
-};
 use nts_response::CanonicalResponse;
 use nts_search::{CurrentGoalKind, SearchGraph, round_is_last, step_kind_for_source};
 use nts_store::EvalError;
 use nts_table::InferCtxt;
 use nts_terms::{Cx, GenericArg, Goal};
+use nts_trying::{
+    AvailableDepth, Step, Trial, enter_forall, equate, goal_kind, is_candidates_goal, keep_met,
+    keep_response, merge_responses, record_constraints,
+};
 
 /// Evaluates a goal in a query of its own: its leaves give place to positions, the search answers the query, and the response is
 /// applied to the leaves. Nothing else is added to the table.
@@ -114,7 +117,7 @@ fn evaluate_round<H: GoalHandler>(
     cx: &mut Cx,
     handler: &H,
     graph: &mut SearchGraph,
-    asked: Box<Asked>,
+    asked: Box<Round>,
     step: PathKind,
     depth: usize,
 ) -> Result<Box<Ended>, EvalError>

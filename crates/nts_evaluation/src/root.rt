@@ -6,9 +6,9 @@ ghost use Rattle.nts_terms.specs.Modes.{mode_of};
 ghost use Rattle.nts_terms.specs.Signatures.{variances_in};
 ghost use Rattle.nts_terms.specs.Rest.{Grows};
 ghost use Rattle.nts_canonical.specs.Building.{kinds_of};
-ghost use Rattle.nts_queries.specs.Answering.{IsQueryInput, IsAnswerTo};
-ghost use Rattle.nts_queries.specs.Searching.{IsSearch, Searches, IsCut};
-ghost use Rattle.nts_queries.specs.Meant.{IsInputProved, IsQueryTold, IsQueryRefuted};
+ghost use Rattle.nts_asking.specs.Answering.{IsQueryInput, IsAnswerTo};
+ghost use Rattle.nts_asking.specs.Searching.{IsSearch, Searches, IsCut};
+ghost use Rattle.nts_asking.specs.Meant.{IsInputProved, IsQueryTold, IsQueryRefuted};
 
 use crate::evaluate::search;
 use nts_canonical::CanonicalInput;

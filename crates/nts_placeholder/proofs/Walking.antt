@@ -311,7 +311,6 @@ pub known_more : (f : ℕ → Tree → Tree) (ts : List Tree) (old new : Place �
 known_more f ts old new n d h w is = λ k r q. known_cases f ts old n k d r h w (place_eq.ghosts.eq n k) refl (sym (is k) ∙ q)
 
 module _ (C : ℕ → Tree → Type 0) (f : ℕ → Tree → Tree) where
-
   split_jobs : (ts : List Tree) (xs ys : List Task) (k : Task) → ys ≡ xs ++ k ∷ [] → jobs ts ys ≡ jobs ts xs ++ job ts k ∷ []
   split_jobs ts xs ys k e = rw e (jobs-push ts xs k)
 

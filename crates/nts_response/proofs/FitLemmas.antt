@@ -88,4 +88,3 @@ pub not_over_sorts : (ts : List Tree) (ss : List Sort) (t : NodeId) (f : TypeFla
 not_over_sorts ts ss t f e h c =
     let some : IsTrue (is_some (escaping (tree_at ts t))) = rw (ap (λ g. g.escaping) e) at h in
     (escapes (tree_at ts t)).0 some c.closed
-

@@ -55,4 +55,3 @@ map-read_at ts (x ∷ xs) (suc n) = ap (λ l. entry_at ts x ∷ l) (map-read_at 
 pub items_marked : (ts : List Tree) (xs ys : List StackEntry) (n : ℕ) → n < length xs → ys ≡ read_at xs n → map (entry_at ts) (reverse ys) ≡ marked (map (entry_at ts) (reverse xs)) (length xs - suc n)
 items_marked ts xs ys n l e =
     ap (λ zs. map (entry_at ts) (reverse zs)) e ∙ ap (map (entry_at ts)) (reverse-read_at xs n l) ∙ map-read_at ts (reverse xs) (length xs - suc n)
-

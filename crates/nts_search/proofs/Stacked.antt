@@ -87,4 +87,3 @@ IsStack-read ts g h n s l e new depth most =
       counted = omega (arith, long, most, counted);
       nested = omega (arith, most, depth, nested);
     }
-

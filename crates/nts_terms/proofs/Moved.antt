@@ -33,4 +33,3 @@ Holds-extended p n e h =
     record { within = IsIn-extended e n h.within; fits = rw kept h.fits }
 
 pub ruleset growth = (Extends-trans, KeepsRest-trans, Holds-extended)
-

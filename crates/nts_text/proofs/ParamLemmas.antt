@@ -102,4 +102,3 @@ module _ (line : List ℕ) (t : Token) (ps : List Param) (ss more : List Sign) (
 -- one more token
 pub signs_more : (line : List ℕ) (ts : List Token) (i : ℕ) (d : Token) → i < length ts → map (sign_of line) (take (i + 1) ts) ≡ map (sign_of line) (take i ts) ++ sign_of line (get_or ts i d) ∷ []
 signs_more line ts i d h = ap (map (sign_of line)) (take_more ts i d h) ∙ map-append (sign_of line) (take i ts) (get_or ts i d ∷ [])
-

@@ -176,4 +176,3 @@ pub bound_push : (line : List ℕ) (ns : List Node) (i : ℕ) (d : Node) → i <
 bound_push line ns i d lt = ap (bound_after line) (take_more ns i d lt) ∙ bound_last line nothing_bound (take i ns) (get_or ns i d)
 
 pub ruleset spelling = (number_stored, lengthens_same, lengthens_insert)
-

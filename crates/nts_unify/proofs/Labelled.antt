@@ -50,4 +50,3 @@ pub joined_bring : (ts : List Tree) (e f : Entries) (x y : ℕ) → RegionsJoine
 joined_bring ts e f x y j = ⊎_elim
     (λ (p : (j.first ≡ j.second) × (f ≡ e)). rw p.1 (brings-refl (content_of ts e)))
     (λ (p : RegionsLinked e f j.first j.second). links_bring ts e f j.first j.second p) j.joined
-

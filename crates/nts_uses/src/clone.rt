@@ -36,7 +36,7 @@ pub(crate) fn holds_for(
 
 /// Adds a rule: over variables of these sorts the trait holds for the argument where the conditions hold. It answers
 /// whether the rule fits.
-#[tactic(auto, using(nts_queries::proofs::Asking::asking))]
+#[tactic(auto, using(nts_asking::proofs::Asking::asking))]
 pub(crate) fn add_rule(
     cx: &mut Cx,
     rules: &mut Clauses,
@@ -82,7 +82,7 @@ pub(crate) fn vec_of(
 }
 
 /// Adds the rule that `Vec(T)` is `Clone` for each `T` that is. The rule's variable is the position 0.
-#[tactic(auto, using(nts_queries::proofs::Asking::asking, nts_terms::proofs::Moved::growth))]
+#[tactic(auto, using(nts_asking::proofs::Asking::asking, nts_terms::proofs::Moved::growth))]
 pub(crate) fn add_rule_of_vec(
     cx: &mut Cx,
     rules: &mut Clauses,
@@ -108,7 +108,7 @@ pub(crate) fn add_rule_of_vec(
 }
 
 /// How sure it is that a goal holds by the rules, or nothing where it may not be asked.
-#[tactic(auto, using(nts_queries::proofs::Asking::asking))]
+#[tactic(auto, using(nts_asking::proofs::Asking::asking))]
 fn ask(cx: &mut Cx, rules: &Clauses, goal: Goal) -> Result<Option<Certainty>, EvalError>
     requires holds { HoldsGoal cx.old.nodes goal }
     requires ready { AreClausesReady cx.old.nodes rules.now }
@@ -123,7 +123,7 @@ fn ask(cx: &mut Cx, rules: &Clauses, goal: Goal) -> Result<Option<Certainty>, Ev
 
 /// How sure it is that `Vec(u32)` is `Clone`: `Yes`. There is no answer where a rule does not fit, or the goal may
 /// not be asked.
-#[tactic(auto, using(nts_queries::proofs::Asking::asking, nts_terms::proofs::Moved::growth))]
+#[tactic(auto, using(nts_asking::proofs::Asking::asking, nts_terms::proofs::Moved::growth))]
 pub fn clone_of_vec(alloc: Global) -> Result<Option<Certainty>, EvalError> {
     let mut cx = Cx::new(alloc);
     let clone = cx.declare_trait(&[Sort::Ty])?;

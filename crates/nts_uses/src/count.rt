@@ -4,7 +4,7 @@ ghost use Rattle.nts_model.specs.Terms.Trees.{any_argument};
 ghost use Rattle.nts_delegate.specs.Clauses.{AreClausesReady};
 ghost use Rattle.nts_table.specs.Tables.{IsTable, IsPlainSide};
 ghost use Rattle.nts_terms.specs.Handles.{HoldsGoal};
-ghost use Rattle.nts_queries.specs.Evaluation.{IsPosed};
+ghost use Rattle.nts_asking.specs.Evaluation.{IsPosed};
 ghost use Rattle.nts_contexts.specs.Related.{IsEnvOf};
 ghost use Rattle.nts_contexts.specs.Contexts.{IsContextReady, KeepsContext, IsGoalOfContext};
 
@@ -114,7 +114,7 @@ fn try_count(
 
 /// How many goals are left where `Vec(T)` and `Vec(u32)` are made one for an unknown `T`, which is to be `Clone` as is another
 /// unknown type, where `u32` and `u8` are: none, and then the second one. There is no answer where a term does not fit.
-#[tactic(auto, using(nts_queries::proofs::Asking::asking, nts_terms::proofs::Moved::growth))]
+#[tactic(auto, using(nts_asking::proofs::Asking::asking, nts_terms::proofs::Moved::growth))]
 pub fn goals_of_vec(alloc: Global) -> Result<Option<(usize, usize)>, EvalError> {
     let mut cx = Cx::new(alloc);
     let mut table = InferCtxt::new(alloc, TypingMode::PostAnalysis);

@@ -24,7 +24,7 @@ pub struct Counted {
 }
 
 /// Asks a goal in a search with eight levels, or answers nothing where the goal may not be asked.
-#[tactic(auto, using(nts_queries::proofs::Asking::asking))]
+#[tactic(auto, using(nts_asking::proofs::Asking::asking))]
 fn ask_in_a_search(
     cx: &mut Cx,
     rules: &Clauses,
@@ -54,7 +54,7 @@ fn ask_in_a_search(
 
 /// Asks whether an unknown type is `Auto`, where `Vec(T)` is for each `T` that is, and cycles hold: each round answers one `Vec`
 /// more than the one before.
-#[tactic(auto, using(nts_queries::proofs::Asking::asking, nts_terms::proofs::Moved::growth))]
+#[tactic(auto, using(nts_asking::proofs::Asking::asking, nts_terms::proofs::Moved::growth))]
 pub fn growing_answer(alloc: Global) -> Result<Option<Counted>, EvalError> {
     let mut cx = Cx::new(alloc);
     let auto = cx.declare_trait(&[Sort::Ty])?;

@@ -5,7 +5,7 @@ ghost use Rattle.nts_delegate.specs.Clauses.{AreClausesReady};
 ghost use Rattle.nts_table.specs.Tables.{IsTable, IsPlainSide};
 ghost use Rattle.nts_terms.specs.Handles.{HoldsGoal};
 ghost use Rattle.nts_terms.specs.Rest.{Grows};
-ghost use Rattle.nts_queries.specs.Evaluation.{IsPosed};
+ghost use Rattle.nts_asking.specs.Evaluation.{IsPosed};
 ghost use Rattle.nts_contexts.specs.Contexts.{IsContextReady, KeepsContext, IsGoalOfContext};
 
 use crate::clone::{add_rule, holds_for, vec_of};
@@ -111,7 +111,7 @@ fn try_rule(
 
 /// How sure the rule is that makes `Vec(T)` and `Vec(u32)` one for an unknown `T`, which is to be `Clone`, where `u32` is: `Yes`. There
 /// is no answer where a term does not fit.
-#[tactic(auto, using(nts_queries::proofs::Asking::asking, nts_terms::proofs::Moved::growth))]
+#[tactic(auto, using(nts_asking::proofs::Asking::asking, nts_terms::proofs::Moved::growth))]
 pub fn rule_of_vec(alloc: Global) -> Result<Option<Certainty>, EvalError> {
     let mut cx = Cx::new(alloc);
     let mut table = InferCtxt::new(alloc, TypingMode::PostAnalysis);

@@ -142,4 +142,3 @@ goal_sides true v r t g =
       kinds = sym g.kinds;
       rests = ⊎_elim (λ a. inl (⊎_elim (λ l. inr l) (λ k. inl k) a)) (λ p. inr (opposite_varies v p.0, p.2, p.1)) g.rests;
     }
-

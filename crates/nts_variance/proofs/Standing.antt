@@ -130,4 +130,3 @@ module _ (declared : ℕ → List Variance) where
         are_goals = u.are_goals;
         going = rw (stacked-push (pair_at us) ps r) there;
       }
-

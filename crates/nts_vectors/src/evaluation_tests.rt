@@ -49,7 +49,7 @@ fn goal_about(cx: &mut Cx, id: TraitId, argument: GenericArg) -> Result<Goal, Fa
 }
 
 /// How sure it is that a goal holds, and whether its variables changed, or nothing where it has no solution; asked through the bound.
-#[tactic(auto, using(nts_queries::proofs::Asking::asking))]
+#[tactic(auto, using(nts_asking::proofs::Asking::asking))]
 fn evaluated<H: GoalHandler>(
     table: &mut InferCtxt,
     cx: &mut Cx,
@@ -73,7 +73,7 @@ fn evaluated<H: GoalHandler>(
 }
 
 /// Adds the fact that a trait holds for an argument.
-#[tactic(auto, using(nts_queries::proofs::Asking::asking))]
+#[tactic(auto, using(nts_asking::proofs::Asking::asking))]
 fn fact(cx: &mut Cx, handler: &mut Clauses, id: TraitId, argument: GenericArg) -> Result<(), Fail>
     requires { AreClausesReady cx.old.nodes handler.old }
     ensures ready { OnOk result (AreClausesReady cx.new.nodes handler.new) }
@@ -119,7 +119,7 @@ fn goal_between(cx: &mut Cx, id: TraitId, left: GenericArg, right: GenericArg) -
 }
 
 /// Adds the rule that a trait holds between a type and itself.
-#[tactic(auto, using(nts_queries::proofs::Asking::asking))]
+#[tactic(auto, using(nts_asking::proofs::Asking::asking))]
 fn rule_of_one(cx: &mut Cx, handler: &mut Clauses, id: TraitId) -> Result<(), Fail>
     requires { AreClausesReady cx.old.nodes handler.old }
     ensures ready { OnOk result (AreClausesReady cx.new.nodes handler.new) }
@@ -142,7 +142,7 @@ fn rule_of_one(cx: &mut Cx, handler: &mut Clauses, id: TraitId) -> Result<(), Fa
 }
 
 #[test]
-#[tactic(auto, using(nts_queries::proofs::Asking::asking))]
+#[tactic(auto, using(nts_asking::proofs::Asking::asking))]
 fn two_variables_become_one(rt: HostRuntime) -> Result<(), Fail> {
     let mut cx = Cx::new(rt.alloc());
     let mut table = InferCtxt::new(rt.alloc(), TypingMode::Coherence);
@@ -162,7 +162,7 @@ fn two_variables_become_one(rt: HostRuntime) -> Result<(), Fail> {
 
 /// The query itself holds, but the variable cannot name what it would be.
 #[test]
-#[tactic(auto, using(nts_queries::proofs::Asking::asking))]
+#[tactic(auto, using(nts_asking::proofs::Asking::asking))]
 fn a_placeholder_that_the_variable_cannot_name(rt: HostRuntime) -> Result<(), Fail> {
     let mut cx = Cx::new(rt.alloc());
     let mut table = InferCtxt::new(rt.alloc(), TypingMode::Coherence);
@@ -181,7 +181,7 @@ fn a_placeholder_that_the_variable_cannot_name(rt: HostRuntime) -> Result<(), Fa
 }
 
 #[test]
-#[tactic(auto, using(nts_queries::proofs::Asking::asking))]
+#[tactic(auto, using(nts_asking::proofs::Asking::asking))]
 fn a_fact_holds(rt: HostRuntime) -> Result<(), Fail> {
     let mut cx = Cx::new(rt.alloc());
     let mut table = InferCtxt::new(rt.alloc(), TypingMode::PostAnalysis);
@@ -196,7 +196,7 @@ fn a_fact_holds(rt: HostRuntime) -> Result<(), Fail> {
 }
 
 #[test]
-#[tactic(auto, using(nts_queries::proofs::Asking::asking))]
+#[tactic(auto, using(nts_asking::proofs::Asking::asking))]
 fn without_a_fact_nothing_holds(rt: HostRuntime) -> Result<(), Fail> {
     let mut cx = Cx::new(rt.alloc());
     let mut table = InferCtxt::new(rt.alloc(), TypingMode::PostAnalysis);
@@ -212,7 +212,7 @@ fn without_a_fact_nothing_holds(rt: HostRuntime) -> Result<(), Fail> {
 }
 
 #[test]
-#[tactic(auto, using(nts_queries::proofs::Asking::asking))]
+#[tactic(auto, using(nts_asking::proofs::Asking::asking))]
 fn two_facts_are_ambiguous(rt: HostRuntime) -> Result<(), Fail> {
     let mut cx = Cx::new(rt.alloc());
     let mut table = InferCtxt::new(rt.alloc(), TypingMode::Coherence);
@@ -230,7 +230,7 @@ fn two_facts_are_ambiguous(rt: HostRuntime) -> Result<(), Fail> {
 }
 
 #[test]
-#[tactic(auto, using(nts_queries::proofs::Asking::asking))]
+#[tactic(auto, using(nts_asking::proofs::Asking::asking))]
 fn an_open_variable_is_its_root(rt: HostRuntime) -> Result<(), Fail> {
     let mut cx = Cx::new(rt.alloc());
     let mut table = InferCtxt::new(rt.alloc(), TypingMode::PostAnalysis);

@@ -277,4 +277,3 @@ module _ (h : Handler) (V : ℕ → List Variance) (mode : Mode) (c : Content) (
           statement = subst HasClosedStatement (sym goal_says) (closed_unbound (instance_of (reading_of c s t) asked.statement) (IsClosed-instance (reading_of c s t) asked.statement w.0));
           statements = closed_here.statements;
         }
-

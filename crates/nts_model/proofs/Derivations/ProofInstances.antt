@@ -63,4 +63,3 @@ IsInstance-after κ ι s t u a b =
     side x y z p q =
         subst (λ v. AreOneBy u.constraints v z) (sym (instance_of-after κ ι x))
         (one_trans u.constraints (instance_of κ (instance_of ι x)) (instance_of κ y) z (one_under κ t.constraints u (instance_of ι x) y b.constraints p) q)
-

@@ -135,4 +135,3 @@ sequent_later c d s q h i e p g k a b =
       hidden = λ x here. absurd here;
       open_goals = λ x here. absurd here;
     }
-

@@ -408,4 +408,3 @@ refused c d os chosen r proper first known over chooses filled_known fails = rec
       let there : AreKnownTrees d os = trees_later (in_universe c (c.universe + r.max_universe)) d os m.0 (trees_later c (in_universe c (c.universe + r.max_universe)) os (Continues-in_universe c (c.universe + r.max_universe) (omega arith) proper.sound) known) in
       fails_equal chosen r.findings.values os d u filled_known there fails a.solves same);
 }
-

@@ -27,4 +27,3 @@ given_environment i h = first_part _ _ _ _ (originals_give_input i h)
 
 pub given_predicate : (i : Input) → IsInput i → filled (map leaf_tree (originals i)) (canonical_of i).predicate ≡ i.predicate
 given_predicate i h = first_part _ _ _ _ (rest_part _ _ _ _ (originals_give_input i h))
-

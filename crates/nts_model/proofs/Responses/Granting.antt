@@ -236,4 +236,3 @@ module _ (c d : Content) (s : IsSound d) (h : HoldsTerms d) (os : List Leaf) (di
         hidden = λ o k. absurd k;
         open_goals = opened_goals r.findings.open_goals fit.goals;
       }
-

@@ -197,4 +197,3 @@ query_fits ks q qs sub x t f h g = answer_fits q t.sound ks qs sub x f (all_plai
 -- .. may be applied to the originals
 pub response_to_for : (i : Input) (r : Response) → IsResponseTo (canonical_of i).kinds r → IsResponseFor (map leaf_tree (originals i)) r
 response_to_for i r h = record { values = h.values; left = h.left; right = h.right; goals = h.goals; distinct = h.distinct; leaves = λ l j. leaf_in_for i l (h.leaves l j) }
-

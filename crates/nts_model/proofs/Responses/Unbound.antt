@@ -47,4 +47,3 @@ pub record Extends (c d : Content) (w : World) : Type 0 where
   pub world : World
   pub agrees : Agrees (length c.slots) w world
   pub solves : Solves d world
-

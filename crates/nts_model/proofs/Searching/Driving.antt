@@ -88,4 +88,3 @@ round_evaluates m mode x y old new r c h end =
             (subst (λ k. IsDerivedFrom m mode (passed k (assumptions new)) (answer_sequent y.input r)) kind e));
       };
     }
-

@@ -169,4 +169,3 @@ IsRow-deeply_resolved c r h = IsRow-rooted c (resolved c r) (IsRow-resolved c r 
 
 pub row_length-deeply_resolved : (c : Content) (r : Tree) → IsRow r → row_length (deeply_resolved c r) ≡ row_length r
 row_length-deeply_resolved c r h = row_length-rooted c (resolved c r) ∙ row_length-resolved c r h
-

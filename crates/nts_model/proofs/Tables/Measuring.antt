@@ -84,4 +84,3 @@ aliases_replaced n s empty h k = refl
 aliases_replaced n s (more a b) h k = let x = aliases_replaced n s a h k in let y = aliases_replaced n s b h k in cc (x, y)
 aliases_replaced n s (node l t) h k =
     aliases_replaced_at n (infer_of l) s l t (replaced n s t) refl k (closed_replaced (0 + binders l) n s t h) (aliases_replaced n s t h k)
-

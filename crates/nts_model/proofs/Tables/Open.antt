@@ -161,4 +161,3 @@ pub AllUnset-lacks : (c : Content) (t : Tree) → IsSound c → Knows c t → ((
 AllUnset-lacks c empty s k h = tt
 AllUnset-lacks c (more a b) s k h = (AllUnset-lacks c a s k.0 (λ n q. (h n q).0), AllUnset-lacks c b s k.1 (λ n q. (h n q).1))
 AllUnset-lacks c (node l t) s k h = unset_here c l t s k.0.0 h (AllUnset-lacks c t s k.1)
-

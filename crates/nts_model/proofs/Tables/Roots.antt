@@ -144,4 +144,3 @@ pub rooted-twice : (c : Content) (t : Tree) → Descends c → rooted c (rooted 
 rooted-twice c empty d = refl
 rooted-twice c (more a b) d = cc (rooted-twice c a d, rooted-twice c b d)
 rooted-twice c (node l t) d = cc (rooted_variable-twice c (variable_of l) l d refl, rooted-twice c t d)
-

@@ -84,4 +84,3 @@ inst-deeply_resolved c w t s h = inst-rooted c w (resolved c t) h ∙ inst-resol
 -- trees that are one mean one
 pub inst-one : (c : Content) (w : World) (a b : Tree) → IsSound c → Solves c w → AreOne c a b → inst w a ≡ inst w b
 inst-one c w a b s h e = sym (inst-deeply_resolved c w a s h) ∙ ap (inst w) e ∙ inst-deeply_resolved c w b s h
-

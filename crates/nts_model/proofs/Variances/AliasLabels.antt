@@ -69,4 +69,3 @@ region_closed c t r = let x = region_tree_of t r in subst (IsClosedUnder c) (sym
 
 pub region_kind : (t : Tree) → IsRegion t → kind_of t ≡ Some (of_sort sort.Region)
 region_kind t r = let x = region_tree_of t r in ap kind_of x.is ∙ x.kind
-

@@ -22,4 +22,3 @@ module _ (declared : ℕ → List Variance) where
   pub answered_relates : (f : Content) (ks : List Tree) (p : Relating) → IsAnswered f ks p → RelatedUnder declared f ks p.variance p.left p.right
   answered_relates f ks p (inl x) = aliases x.0 x.1 x.2 x.3
   answered_relates f ks p (inr x) = subtypes x.0 x.1 x.2 x.3 x.4 x.5 x.6
-

@@ -98,4 +98,3 @@ module _ (J : Judging) (law : IsLawfulJudging J) where
           };
           is = tree-with_tree w (length c.slots) s;
         }
-

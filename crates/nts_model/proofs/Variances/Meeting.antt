@@ -59,4 +59,3 @@ module _ {W P : Type 0} (size : W → P → ℕ) (Holds : W → P → Type 0) wh
         each = λ w v q j below. h.each w v q j
             ((λ l. h.each w v p i ((λ k. absurd (omega (arith, k))), below_less w (size w q) (size w p) qs l below)), below);
       }
-

@@ -18,7 +18,6 @@ use Rattle.nts_model.proofs.Variances.Alongside.{opposite_twice}
 use Rattle.nts_model.proofs.Variances.Generalizing.{judged_agrees, settle_agrees, settle_joined, settle_parted, owed, owed_met, owed_holds}
 
 module _ (J : Judging) (law : IsLawfulJudging J) where
-
   -- the rows that leave a goal: an alias on a side; two type variables, or one that got its value in this call, by a variance
   -- that is not invariant
   pub row_goal : (c : Content) (p : Relating) → ReducesBy J c c (p ∷ []) [] (p ∷ [])
@@ -66,4 +65,3 @@ module _ (J : Judging) (law : IsLawfulJudging J) where
   labels_agree (open_aliases h i j rs) = inl refl
   labels_agree (aliases is _ _ p) = absurd p
   labels_agree (subtypes x n i j _ _ p) = absurd p
-

@@ -515,4 +515,3 @@ module _ (J : Judging) (law : IsLawfulJudging J) where
   plain_settled empty e = tt
   plain_settled (more a b) e = let p = both_false (any_label is_alias a) (any_label is_alias b) e in (plain_settled a p.0, plain_settled b p.1)
   plain_settled (node l c) e = let p = both_false (is_alias l) (any_label is_alias c) e in ((λ i. absurd (not_alias l c p.0 i)), plain_settled c p.1)
-

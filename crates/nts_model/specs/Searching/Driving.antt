@@ -58,4 +58,3 @@ positions_from b (k ∷ ks) = position (sort_at k) b ∷ positions_from (suc b) 
 -- the answer that changes nothing, which each head has at first
 abbrev pub unconstrained : List PositionKind → Response
 unconstrained ks = record { findings = record { values = positions_from 0 ks; constraints = []; hidden = []; open_goals = [] }; kinds = ks; max_universe = 0 }
-

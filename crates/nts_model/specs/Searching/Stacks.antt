@@ -120,4 +120,3 @@ pub record SaysSame (r q : Response) : Type 0 where
   pub constraints : r.findings.constraints ≡ q.findings.constraints
   pub open_goals : r.findings.open_goals ≡ q.findings.open_goals
   pub kinds : r.kinds ≡ q.kinds
-

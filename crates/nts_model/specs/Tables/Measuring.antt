@@ -35,4 +35,3 @@ abbrev pub closed_aliases : Tree → ℕ
 closed_aliases empty = 0
 closed_aliases (more a b) = closed_aliases a + closed_aliases b
 closed_aliases (node l t) = unless_variable (infer_of l) 0 (counted (is_alias l && closed_under 0 (node l t)) (closed_aliases t))
-

@@ -83,4 +83,3 @@ AreRegions r a b = Unit {0}
 abbrev pub AllRegions : List Recorded → Type 0
 AllRegions [] = Unit {0}
 AllRegions (x ∷ xs) = AreRegions x.relation x.left x.right × AllRegions xs
-

@@ -192,4 +192,3 @@ AllUnset c (node l t) = UnsetAt c (infer_of l) (AllUnset c t)
 abbrev pub number_of : Option (VariableKind × ℕ) → Option ℕ
 number_of None = None
 number_of (Some v) = Some v.1
-

@@ -40,4 +40,3 @@ AllRelatedUnder declared f ks (p ∷ ps) = RelatedUnder declared f ks p.variance
 -- under each later table that answers the goals, what was taken is related if what is left is
 pub record RelatesBy (declared : ℕ → List Variance) (d : Content) (ps qs gs : List Relating) : Type 0 where
   pub related : (f : Content) → IsSound f → Continues d f → (ks : List Tree) → AllAnswered f ks gs → AllRelatedUnder declared f ks qs → AllRelatedUnder declared f ks ps
-

@@ -65,4 +65,3 @@ pub record StandsIn (J : Judging) (c d : Content) (w : World) (u : ℕ) (r s : T
   pub extension : SettledExtension J c d w (λ f. NamesAll f u s)
   pub is : inst extension.world r ≡ s
   pub goals : AllSettleIn J extension.world gs
-

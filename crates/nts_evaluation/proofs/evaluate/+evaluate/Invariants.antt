@@ -5,17 +5,17 @@ use Rattle.nts_unify.specs.Reading.{content_of}
 use Rattle.nts_terms.specs.Rest.{Grows}
 use Rattle.nts_response.specs.Forms.{response_at}
 use Rattle.nts_certainty.specs.declared.certainty.Certainty.TheVariants as certainty
-use Rattle.nts_queries.specs.Meant.{AreOffered, IsServedSince, IsNestedSince, HaveOutcomes, ReachesBy}
-use Rattle.nts_queries.specs.Searching.{Searches, IsHeadAnswer, IsAnswerTold, assumed_in}
+use Rattle.nts_asking.specs.Meant.{AreOffered, IsServedSince, IsNestedSince, HaveOutcomes, ReachesBy}
+use Rattle.nts_asking.specs.Searching.{Searches, IsHeadAnswer, IsAnswerTold, assumed_in}
 use Rattle.nts_search.specs.Kinds.{goal_kind_of}
 use Rattle.nts_canonical.specs.Building.{kinds_of}
 use Rattle.nts_canonical.specs.Forms.{form_of}
 use Rattle.nts_terms.specs.Modes.{mode_of}
-use Rattle.nts_queries.specs.Found.{Found}
-use Rattle.nts_queries.specs.Stepping.{ArePosed, AreLeft, AreSettled, terms_of, bound_of}
-use Rattle.nts_queries.specs.Evaluation.{Runs}
+use Rattle.nts_trying.specs.Found.{Found}
+use Rattle.nts_trying.specs.Stepping.{ArePosed, AreLeft, AreSettled, terms_of, bound_of}
+use Rattle.nts_asking.specs.Evaluation.{Runs}
 use Rattle.nts_evaluation.specs.Promises.{WhereTold}
-use Rattle.nts_queries.specs.Meant.{rules_of, Always}
+use Rattle.nts_asking.specs.Meant.{rules_of, Always}
 use Rattle.nts_evaluation.proofs.evaluate.+evaluate.Given as goal
 
 abbrev pub decreases-evaluate_goal : goal.decreases-evaluate_goal

@@ -9,8 +9,8 @@ use Rattle.nts_terms.specs.Signatures.{variances_in}
 use Rattle.nts_canonical.specs.Forms.{form_of}
 use Rattle.nts_response.specs.Forms.{response_at}
 use Rattle.nts_delegate.specs.Offered.{path_kind_of}
-use Rattle.nts_queries.proofs.Evaluating.{Since-now}
-use Rattle.nts_queries.proofs.Rounds.{empty_stack, tell_begun, nothing_left}
+use Rattle.nts_asking.proofs.Evaluating.{Since-now}
+use Rattle.nts_asking.proofs.Rounds.{empty_stack, tell_begun, nothing_left}
 use Rattle.nts_evaluation.proofs.root.evaluate_input.Goals as goal
 
 pub returns-in-Ok-clause-proved : goal.returns-in-Ok-clause-proved

@@ -1,6 +1,6 @@
-use Rattle.nts_queries.proofs.Running.{Stays-now}
+use Rattle.nts_asking.proofs.Running.{Stays-now}
 use Rattle.nts_model.proofs.Derivations.Rooted.{proved_held, proof_falls}
-use Rattle.nts_queries.proofs.Evaluating.{IsPosed-admitted, Since-now, each_of}
+use Rattle.nts_asking.proofs.Evaluating.{IsPosed-admitted, Since-now, each_of}
 use Rattle.nts_evaluation.proofs.solve.evaluate_root_goal.Goals as goal
 
 pub evaluate_root-evaluated-requires-clause-posed : goal.evaluate_root-evaluated-requires-clause-posed

@@ -1,8 +1,8 @@
 use Rattle.std.proofs.Common.{refl, rules}
 use Rattle.std.proofs.lemmas.Result.{IfOk-from_err}
 use Rattle.nts_unify.specs.Lawful.{content_of-extended}
-use Rattle.nts_queries.proofs.Evaluating.{Goes-extends, Runs-extends}
-use Rattle.nts_queries.proofs.Stepping.{settled_after}
+use Rattle.nts_asking.proofs.Evaluating.{Goes-extends, Runs-extends}
+use Rattle.nts_trying.proofs.Stepping.{settled_after}
 use Rattle.nts_contexts.proofs.Frames.{keeps_refl, keeps_then, keeps_ran, none_after}
 use Rattle.nts_contexts.proofs.context.EvalCtxt.evaluate_added_goals_and_make_canonical_response.Goals as goal
 

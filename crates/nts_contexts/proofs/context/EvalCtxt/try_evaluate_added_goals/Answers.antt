@@ -4,10 +4,10 @@ use Rattle.nts_contexts.specs.declared.state.EvalState.{EvalState}
 use Rattle.nts_contexts.proofs.Frames.{keeps_refl}
 use Rattle.nts_model.specs.Derivations.Rules.{other_goal}
 use Rattle.nts_delegate.proofs.Results.{OnOk-map}
-use Rattle.nts_queries.specs.Searching.{assumed_in}
-use Rattle.nts_queries.proofs.Searching.{nothing_assumed}
-use Rattle.nts_queries.proofs.Stepping.{settled_rooted}
-use Rattle.nts_queries.proofs.Rounds.{search_begun, tell_begun}
+use Rattle.nts_asking.specs.Searching.{assumed_in}
+use Rattle.nts_asking.proofs.Searching.{nothing_assumed}
+use Rattle.nts_trying.proofs.Stepping.{settled_rooted}
+use Rattle.nts_asking.proofs.Rounds.{search_begun, tell_begun}
 use Rattle.nts_contexts.proofs.context.EvalCtxt.try_evaluate_added_goals.Goals as goal
 
 pub try_evaluate_goals-evaluated-requires-clause-search : goal.try_evaluate_goals-evaluated-requires-clause-search

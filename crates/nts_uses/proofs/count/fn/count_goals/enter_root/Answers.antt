@@ -1,5 +1,5 @@
 use Rattle.std.proofs.Common.{◌∙◌}
-use Rattle.nts_queries.proofs.Opened.{on_ok}
+use Rattle.nts_trying.proofs.Opened.{on_ok}
 use Rattle.nts_contexts.proofs.Handed.{goal_in_probe, goal_later, plain_in_probe, plain_later}
 use Rattle.nts_contexts.proofs.Frames.{keeps_then}
 use Rattle.nts_uses.proofs.count.fn.count_goals.enter_root.Goals as goal

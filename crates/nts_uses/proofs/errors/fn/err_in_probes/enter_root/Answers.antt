@@ -1,5 +1,5 @@
 use Rattle.std.proofs.Common.{◌∙◌}
-use Rattle.nts_queries.proofs.Opened.{on_ok}
+use Rattle.nts_trying.proofs.Opened.{on_ok}
 use Rattle.nts_contexts.proofs.Handed.{plain_later}
 use Rattle.nts_contexts.proofs.Frames.{keeps_then}
 use Rattle.nts_uses.proofs.errors.fn.err_in_probes.enter_root.Goals as goal

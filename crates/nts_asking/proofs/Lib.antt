@@ -1,0 +1,14 @@
+pub mod Admitting
+pub mod AnsweredQueries
+pub mod AskedGoals
+pub mod Asking
+pub mod Evaluating
+pub mod Queried
+pub mod QueryTables
+pub mod Running
+pub mod Told
+pub mod Fitting
+pub mod Searching
+pub mod Unchanged
+pub mod BackEdges
+pub mod Rounds

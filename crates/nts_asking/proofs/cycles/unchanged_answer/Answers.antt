@@ -1,0 +1,20 @@
+use Rattle.std.proofs.Common.{sym, subst}
+use Rattle.nts_canonical.specs.Building.{kinds_of}
+use Rattle.nts_canonical.specs.declared.types.Canonical.{Canonical}
+use Rattle.nts_response.specs.declared.types.Response.{Response}
+use Rattle.nts_response.specs.Forms.{response_at}
+use Rattle.nts_asking.specs.Answering.{IsAnswerTo}
+use Rattle.nts_asking.specs.Telling.{SaysNothing}
+use Rattle.nts_asking.proofs.Unchanged.{unchanged_fits, nothing_said}
+use Rattle.nts_asking.proofs.cycles.unchanged_answer.Goals as goal
+
+pub returns-clause-fits : goal.returns-clause-fits
+returns-clause-fits c =
+    let k = c.in_ok-answer.ensures in
+    subst (IsAnswerTo c.identity_answer.new.cx.nodes (kinds_of c.args.input.now)) (sym c.in_ok-answer-2.ensures.ok)
+    (unchanged_fits c.args.cx.now.nodes c.identity_answer.new.cx.nodes c.args.input.now c.in_ok-answer.answer c.requires k.holds k.response)
+
+pub returns-clause-nothing : goal.returns-clause-nothing
+returns-clause-nothing c =
+    let k = c.in_ok-answer.ensures in
+    subst (λ (r : Canonical Response). SaysNothing (response_at c.identity_answer.new.cx.nodes r)) (sym c.in_ok-answer-2.ensures.ok) (nothing_said _ _ _ k.response)

@@ -1,0 +1,80 @@
+//! Whether a goal may be asked at the root.
+ghost use Rattle.std.specs.Prelude.{◌≡◌, ◌↔◌, IsTrue, false, IfOk, IsOkUnless};
+ghost use Rattle.nts_model.specs.Terms.Trees.{any_label};
+ghost use Rattle.nts_model.specs.Tables.Resolving.{deeply_resolved};
+ghost use Rattle.nts_store.specs.Growth.{tree_at, IsIn};
+ghost use Rattle.nts_unify.specs.Reading.{content_of};
+ghost use Rattle.nts_table.specs.Tables.{IsTable};
+ghost use Rattle.nts_asking.specs.Evaluation.{IsRootTerm, is_type_variable, is_internal};
+ghost use Rattle.nts_table.specs.Tables.{IsTermIn};
+ghost use Rattle.nts_terms.specs.Rest.{Grows};
+
+use crate::terms::resolve_term;
+use nts_model::{Label, Leaf, PredicateHead, VariableKind};
+use nts_store::{Fault, LabelTest, NodeId, all_labels};
+use nts_table::InferCtxt;
+use nts_terms::Cx;
+use std::alloc::AllocError;
+
+/// No label is a type variable.
+#[derive(Drop)]
+struct NoTypeVariable;
+
+impl LabelTest for NoTypeVariable {
+    ghost passes = { λ s l. is_type_variable l ≡ false };
+
+    fn test(&self, label: Label) -> bool {
+        !matches!(label, Label::Leaf(Leaf::Variable(VariableKind::Ty, _)))
+    }
+}
+
+/// No label is a predicate that only an evaluation asks.
+#[derive(Drop)]
+struct NoInternalPredicate;
+
+impl LabelTest for NoInternalPredicate {
+    ghost passes = { λ s l. is_internal l ≡ false };
+
+    fn test(&self, label: Label) -> bool {
+        !matches!(
+            label,
+            Label::Predicate(PredicateHead::ConstEquate | PredicateHead::NormalizesTo(_))
+        )
+    }
+}
+
+/// Whether a term may stand in a goal at the root: no bound variable escapes, and it is a term of the
+/// table's.
+pub fn is_root_term(table: &InferCtxt, cx: &Cx, t: NodeId) -> Result<bool, AllocError>
+    requires { IsIn cx.now.nodes t }
+    ensures { IfOk result (λ b. IsTrue b ↔ IsRootTerm cx.now.nodes table.now t) }
+{
+    let flags = cx.nodes.flags(t);
+    if flags.escaping.is_some() {
+        return Ok(false);
+    }
+    table.knows_node(cx.alloc, &cx.nodes, t)
+}
+
+/// Whether a predicate may be asked at the root.
+pub fn is_asked(cx: &Cx, t: NodeId) -> Result<bool, AllocError>
+    requires { IsIn cx.now.nodes t }
+    ensures { IfOk result (λ b. IsTrue b ↔ (any_label is_internal
+        (tree_at cx.now.nodes t) ≡ false)) }
+{
+    all_labels(cx.alloc, &cx.nodes, t, &NoInternalPredicate)
+}
+
+/// Whether an environment, resolved, has no type variable.
+pub fn is_settled_env(table: &InferCtxt, cx: &mut Cx, t: NodeId) -> Result<bool, Fault>
+    requires table { IsTable cx.old.nodes table.now }
+    requires term { IsTermIn cx.old.nodes table.now t }
+    ensures answer { IfOk result (λ b. IsTrue b ↔ (any_label is_type_variable (deeply_resolved
+        (content_of cx.old.nodes table.now.entries) (tree_at cx.old.nodes t)) ≡ false)) }
+    ensures grows { Grows cx.old cx.new }
+    ensures memory { IsOkUnless result Fault.Memory }
+{
+    let resolved = resolve_term(table, cx, t)?;
+    let settled = all_labels(cx.alloc, &cx.nodes, resolved, &NoTypeVariable)?;
+    Ok(settled)
+}

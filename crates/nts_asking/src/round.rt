@@ -1,0 +1,119 @@
+//! What a round of a query begins and ends with. It stands behind boxes, since a round stands on the machine's stack while the
+//! goals below it are evaluated.
+ghost use Rattle.std.specs.Prelude.{◌≡◌, ◌≢◌, ◌<◌, ◌≤◌, ◌++◌, ◌∷◌, [], ℕ, false, List, Option, Some, None, length, IfOk, OnOk, OnErr, IsOkUnless};
+ghost use Rattle.nts_model.specs.Terms.Trees.{Tree};
+ghost use Rattle.nts_terms.specs.Rest.{Grows};
+ghost use Rattle.nts_canonical.specs.Forms.{HoldsQuery};
+ghost use Rattle.nts_search.specs.declared.stack.StackEntry.{StackEntry};
+ghost use Rattle.nts_search.specs.Searching.{HoldsAnswer, IsStack, KeepsRestOfGraph};
+ghost use Rattle.nts_asking.specs.Answering.{IsQueryInput};
+ghost use Rattle.nts_asking.specs.Rounds.{IsFirstRound, IsTakenOff, EndsWith, IsBoxed};
+
+use crate::cycles::{answer_of, unchanged_answer};
+use nts_canonical::CanonicalInput;
+use nts_certainty::{Certainty, PathKind};
+use nts_response::CanonicalResponse;
+use nts_search::{SearchGraph, StackEntry};
+use nts_store::{EvalError, Fault};
+use nts_terms::Cx;
+use std::alloc::{AllocError, Global};
+
+/// A query before a round.
+#[derive(Drop)]
+pub struct Round {
+    pub input: CanonicalInput,
+    /// What a cycle back to it is answered in the round. `None` is no solution.
+    pub provisional: Option<CanonicalResponse>,
+}
+
+/// A query after a round.
+#[derive(Drop)]
+pub struct Ended {
+    /// What the round found. `None` is no solution.
+    pub answer: Option<CanonicalResponse>,
+    /// The query's entry, as it was taken off the stack.
+    pub entry: StackEntry,
+}
+
+/// A query before its first round: a cycle back to it is answered yes, and says nothing.
+#[inline(never)]
+pub fn first_round(cx: &mut Cx, input: Box<CanonicalInput>) -> Result<Box<Round>, Fault>
+    requires { IsQueryInput cx.old.nodes input.value }
+    ensures first { IfOk result (λ a. IsFirstRound cx.new.nodes input.value a.value) }
+    ensures grows { Grows cx.old cx.new }
+    ensures memory { IsOkUnless result Fault.Memory }
+{
+    let answer = unchanged_answer(cx, &input, Certainty::Yes)?;
+    let asked = Round {
+        input: Box::into_inner(input),
+        provisional: Some(Box::into_inner(answer)),
+    };
+    let asked = Box::new(cx.alloc, asked)?;
+    Ok(asked)
+}
+
+/// Puts a query on the stack. After an error the stack is as before.
+#[inline(never)]
+pub fn push_query(
+    graph: &mut SearchGraph,
+    asked: Box<Round>,
+    step: PathKind,
+) -> Result<(), AllocError>
+    requires room { length graph.old.stack.items ≤ graph.old.root_depth }
+    ensures pushed { OnOk result ((e : Option ℕ) × (graph.new.stack.items ≡ graph.old.stack.items ++ record { input = asked.value.input; step_kind = step; provisional = asked.value.provisional; is_read = false; earlier = e } ∷ [])) }
+    ensures kept { OnOk result ((ts : List Tree) → IsStack ts graph.old → HoldsQuery ts asked.value.input.canonical.value → HoldsAnswer ts asked.value.provisional → IsStack ts graph.new) }
+    ensures err { OnErr result (graph.new.stack.items ≡ graph.old.stack.items) }
+    ensures err_kept { OnErr result ((ts : List Tree) → IsStack ts graph.old → IsStack ts graph.new) }
+    ensures rest { KeepsRestOfGraph graph.old graph.new }
+{
+    let Round { input, provisional } = Box::into_inner(asked);
+    graph.push(input, step, provisional)
+}
+
+/// Takes the newest query off the stack, after a round in which its table answered that. An error other than that there is no
+/// solution ends the query.
+#[inline(never)]
+pub fn end_round(
+    alloc: Global,
+    graph: &mut SearchGraph,
+    response: Result<Box<CanonicalResponse>, EvalError>,
+) -> Result<Box<Ended>, EvalError>
+    requires { 0 < length graph.old.stack.items }
+    ensures off { (x : StackEntry) × IsTakenOff graph.old graph.new x × IfOk result (λ z. z.value.entry ≡ x) }
+    ensures answer { IfOk result (λ z. EndsWith response z.value.answer) }
+    ensures no { result ≢ Err EvalError.NoSolution }
+{
+    let entry = graph.pop();
+    let answer = match response {
+        Ok(answer) => Some(Box::into_inner(answer)),
+        Err(EvalError::NoSolution) => None,
+        Err(error) => return Err(error),
+    };
+    let ended = Box::new(alloc, Ended { answer, entry })?;
+    Ok(ended)
+}
+
+/// What the last round found.
+#[inline(never)]
+pub fn last_answer(alloc: Global, ended: Box<Ended>) -> Result<Box<CanonicalResponse>, EvalError>
+    ensures some { (r : _) → ended.value.answer ≡ Some r → IsBoxed r result }
+    ensures none { ended.value.answer ≡ None → result ≡ Err EvalError.NoSolution }
+{
+    let Ended { answer, entry: _ } = Box::into_inner(ended);
+    answer_of(alloc, answer)
+}
+
+/// A query before the next round: a cycle back to it is answered what this one found.
+#[inline(never)]
+pub fn next_round(alloc: Global, ended: Box<Ended>) -> Result<Box<Round>, AllocError>
+    ensures { IfOk result (λ a. a.value ≡ record { input = ended.value.entry.input; provisional = ended.value.answer }) }
+{
+    let Ended { answer, entry } = Box::into_inner(ended);
+    let StackEntry { input, .. } = entry;
+    let asked = Round {
+        input,
+        provisional: answer,
+    };
+    let asked = Box::new(alloc, asked)?;
+    Ok(asked)
+}

@@ -1,0 +1,85 @@
+-- Candidates that a handler left out fail, since no values meet their equations.
+use Rattle.std.proofs.Common.{◌≡◌, ◌⊎◌, inl, inr, List, [], ◌∷◌, ◌++◌, Some, ap, sym, ◌∙◌, subst}
+use Rattle.nts_model.specs.declared.labels.TyHead.{TyHead}
+use Rattle.nts_model.specs.declared.labels.Leaf.{Leaf}
+use Rattle.nts_model.specs.declared.labels.Label.TheVariants as label
+use Rattle.nts_model.specs.Terms.Trees.{Tree, empty, more, node}
+use Rattle.nts_model.specs.Tables.Contents.{Content}
+use Rattle.nts_model.specs.Lists.{Among}
+use Rattle.nts_model.specs.Derivations.Rules.{Mode, related}
+use Rattle.nts_model.specs.Terms.Substitutions.{filled_under}
+use Rattle.nts_model.specs.Derivations.Handlers.{Candidate, Handler}
+use Rattle.nts_model.specs.Refutation.Choosing.{IsCandidateMet}
+use Rattle.nts_model.specs.Answers.Responses.{Response as Answer}
+use Rattle.nts_delegate.specs.Relevant.{built_by, IsIrrelevant, LeavesOut}
+use Rattle.nts_delegate.specs.Relevant.LeavesOut.{none, offered, left_out}
+use Rattle.nts_asking.specs.Telling.{Outcomes}
+use Rattle.nts_asking.specs.Telling.Outcomes.{then_fails}
+use Rattle.nts_asking.specs.Telling.Fails.{is_unmet}
+use Rattle.nts_asking.proofs.Evaluating.{offers-kept}
+use Rattle.nts_trying.proofs.Filtered.{are_candidates, kept_among, last_outcome}
+use Rattle.nts_asking.proofs.Running.{candidates-kept}
+use Rattle.nts_trying.specs.Choices.{KeepsMet}
+use Rattle.nts_asking.specs.Meant.{offers_of, AreOffered}
+use Rattle.nts_store.specs.Growth.{Extends}
+use Rattle.nts_terms.specs.declared.handles.Goal.{Goal}
+use Rattle.nts_terms.specs.declared.modes.TypingMode.{TypingMode}
+use Rattle.nts_terms.specs.Modes.{mode_of}
+use Rattle.nts_terms.specs.Handles.{HoldsGoal}
+use Rattle.nts_delegate.specs.declared.delegate.CandidateData.{CandidateData}
+use Rattle.nts_delegate.specs.Candidates.{AreCandidates}
+use Rattle.nts_delegate.specs.Offered.{candidates_of}
+
+-- values leave what a type is built by
+built_filled : (f : Leaf → Tree) (vs : List Tree) (t : Tree) (h : TyHead) → built_by t ≡ Some h → built_by (filled_under f vs t) ≡ Some h
+built_filled f vs (node (label.Ty k) c) h e = e
+built_filled f vs (node (label.Leaf x) c) h e = cc e
+built_filled f vs (node (label.Bound s i n) c) h e = cc e
+built_filled f vs (node (label.Const x) c) h e = cc e
+built_filled f vs (node (label.Clause x) c) h e = cc e
+built_filled f vs (node (label.Predicate x) c) h e = cc e
+built_filled f vs (node (label.List x) c) h e = cc e
+built_filled f vs empty h e = cc e
+built_filled f vs (more a b) h e = cc e
+
+some_inj : (a b : TyHead) → Some a ≡ Some b → a ≡ b
+some_inj a b e = cc e
+
+pub unmet : (c : Content) (x : Candidate) → IsIrrelevant x → IsCandidateMet c x → ⊥
+unmet c x r m =
+    let one = m.equal (related r.left r.right) r.equation in
+    let left = built_filled _ m.values r.left r.apart.left r.apart.of_left in
+    let right = built_filled _ m.values r.right r.apart.right r.apart.of_right in
+    r.apart.apart (some_inj r.apart.left r.apart.right (sym left ∙ ap built_by one ∙ right))
+
+-- so the outcomes of the others are outcomes of all
+pub all_outcomes : {h : Handler} {mode : Mode} {c : Content} {qs : List Tree} {xs ys : List Candidate} → LeavesOut xs ys → (zs : List Candidate) (rs : List Answer) → zs ≡ ys → Outcomes h mode c qs zs rs → Outcomes h mode c qs xs rs
+all_outcomes {h} {mode} {c} {qs} none zs rs e o = subst (λ z. Outcomes h mode c qs z rs) e o
+all_outcomes {h} {mode} {c} {qs} (left_out {xs} {ys} x l r) zs rs e o = then_fails (all_outcomes l zs rs e o) (is_unmet (unmet c x r))
+all_outcomes {h} {mode} {c} {qs} (offered {xs} {ys} x l) zs rs e o = last_outcome xs ys zs x e (λ ws ps q p. all_outcomes l ws ps q p) o
+
+-- .. and each of the others is among all
+before_last : {A : Type 0} (xs : List A) (x z : A) → Among xs z → Among (xs ++ x ∷ []) z
+before_last [] x z i = absurd i
+before_last (y ∷ xs) x z (inl e) = inl e
+before_last (y ∷ xs) x z (inr i) = inr (before_last xs x z i)
+
+at_last : {A : Type 0} (xs : List A) (x z : A) → z ≡ x → Among (xs ++ x ∷ []) z
+at_last [] x z e = inl e
+at_last (y ∷ xs) x z e = inr (at_last xs x z e)
+
+last_or_before : {A : Type 0} (xs : List A) (x z : A) → Among (xs ++ x ∷ []) z → Among xs z ⊎ (z ≡ x)
+last_or_before [] x z (inl e) = inr e
+last_or_before [] x z (inr i) = absurd i
+last_or_before (y ∷ xs) x z (inl e) = inl (inl e)
+last_or_before (y ∷ xs) x z (inr i) = elim (last_or_before xs x z i) [ inl j ↦ inl (inr j) | inr e ↦ inr e ]
+
+pub among_all : {xs ys : List Candidate} (z : Candidate) → LeavesOut xs ys → Among ys z → Among xs z
+among_all z none i = absurd i
+among_all z (offered {xs} {ys} x l) i = elim (last_or_before ys x z i) [ inl j ↦ before_last xs x z (among_all z l j) | inr e ↦ at_last xs x z e ]
+among_all z (left_out {xs} {ys} x l r) i = before_last xs x z (among_all z l i)
+
+pub kept_offered : {a b : List Tree} {c : Content} (g : Goal) {xs ys : List CandidateData} (h : Handler) (mode : TypingMode) → KeepsMet a c xs ys → Extends a b → HoldsGoal a g → AreCandidates a g xs → LeavesOut (offers_of h (mode_of mode) a g) (candidates_of a xs) → AreOffered h mode b g ys
+kept_offered {a} {b} {c} g {xs} {ys} h mode k e p all same z i =
+    let there = subst (λ zs. Among zs z) (candidates-kept {a = a} {b = b} g ys e (are_candidates g k all)) i in
+    subst (λ zs. Among zs z) (sym (offers-kept h (mode_of mode) e p)) (among_all z same (kept_among z k there))

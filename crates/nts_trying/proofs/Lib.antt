@@ -1,0 +1,15 @@
+pub mod Labels
+pub mod Sides
+pub mod Trying
+pub mod Constraining
+pub mod Opened
+pub mod Probed
+pub mod Ran
+pub mod Outcomes
+pub mod Stepping
+pub mod Entering
+pub mod MergedResponses
+pub mod Adding
+pub mod Filtered
+pub mod LeftOut
+pub mod Instances

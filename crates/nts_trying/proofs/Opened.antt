@@ -1,0 +1,209 @@
+-- A goal that was opened: what is said of it where it was opened is said of the goal.
+use Rattle.std.proofs.Common.{◌≡◌, ◌⊎◌, inl, inr, ℕ, suc, ◌+◌, Bool, true, false, List, [], refl, sym, ap, ◌∙◌, subst, arith}
+use Rattle.std.specs.Prelude.{◌==◌, if◌then◌else◌, Result, Ok, Err, OnOk}
+use Rattle.nts_model.specs.Derivations.Proofs.{Assumed}
+use Rattle.nts_model.specs.Searching.Stacks.{IsProvedFrom}
+use Rattle.nts_model.specs.declared.labels.Sort.{Sort}
+use Rattle.nts_model.specs.declared.labels.Sort.TheVariants as sort
+use Rattle.nts_model.specs.declared.labels.BoundVarIndexKind.TheVariants as index
+use Rattle.nts_model.specs.declared.labels.ListHead.TheVariants as list
+use Rattle.nts_model.specs.declared.labels.Label.{Label}
+use Rattle.nts_model.specs.declared.labels.Label.TheVariants as label
+use Rattle.nts_model.specs.Terms.Trees.{Tree, empty, more, node, binders, IsClosed, IsFormed}
+use Rattle.nts_model.specs.Tables.Contents.{Content, in_universe}
+use Rattle.nts_model.specs.Derivations.Related.{unbound}
+use Rattle.nts_model.specs.Derivations.Rules.{opened, opened_at, statement_of}
+use Rattle.nts_model.specs.Answers.Responses.{Response as Answer}
+use Rattle.nts_model.specs.Tables.Passing.{TreePasses, TablePasses, PassesQueries, BringsOnly}
+use Rattle.nts_model.specs.Refutation.Opening.{binds, placeholder_in, entered_table, opened_in}
+use Rattle.nts_model.specs.declared.labels.Variance.{Variance}
+use Rattle.nts_model.specs.Tables.Holding.{Continues}
+use Rattle.nts_model.specs.Tables.Resolving.{Knows}
+use Rattle.nts_model.specs.Lists.{Among}
+use Rattle.nts_model.specs.Derivations.Rules.{Mode}
+use Rattle.nts_model.specs.Derivations.Handlers as handlers
+use Rattle.nts_model.specs.Derivations.Handlers.{Handler, meaning, IsLawfulHandler}
+use Rattle.nts_model.proofs.Tables.Slots.{KeepsKinds, Knows-kept}
+use Rattle.nts_model.proofs.Tables.Fitting.{IsClosed-under}
+use Rattle.nts_model.proofs.Refutation.OpenedProofs.{by_entered_candidate}
+use Rattle.nts_store.specs.Growth.{tree_at, Extends}
+use Rattle.nts_store.specs.Formed.{AreFormed}
+use Rattle.nts_store.proofs.Growing.{Extends-trans, IsIn-extended}
+use Rattle.nts_terms.specs.declared.handles.Goal.{Goal}
+use Rattle.nts_terms.specs.declared.handles.ParamEnv.{ParamEnv}
+use Rattle.nts_terms.specs.declared.modes.TypingMode.{TypingMode}
+use Rattle.nts_terms.specs.Modes.{mode_of}
+use Rattle.nts_unify.specs.Reading.{content_of}
+use Rattle.nts_terms.specs.declared.handles.GenericArg.{GenericArg}
+use Rattle.nts_canonical.specs.declared.types.Canonical.{Canonical}
+use Rattle.nts_canonical.specs.Forms.{trees_of}
+use Rattle.nts_response.specs.declared.types.Response.{Response}
+use Rattle.nts_response.specs.Forms.{response_at}
+use Rattle.nts_table.specs.Tables.{Table, IsTable}
+use Rattle.nts_unify.specs.Lawful.{content_of-extended}
+use Rattle.nts_delegate.specs.Candidates.{IsAskedIn}
+use Rattle.nts_delegate.specs.declared.delegate.CandidateData.{CandidateData}
+use Rattle.nts_delegate.specs.Offered.{candidates_of}
+use Rattle.nts_delegate.specs.Relevant.{LeavesOut}
+use Rattle.nts_trying.proofs.LeftOut.{all_outcomes}
+use Rattle.nts_terms.specs.Handles.{HoldsGoal}
+use Rattle.nts_asking.specs.Evaluation.{Goes, IsPosed, asked_terms}
+use Rattle.nts_trying.specs.Opening.{IsOpenedTo}
+use Rattle.nts_asking.specs.Meant.{IsServed, offers_of, IsTold, IsRefuted, CandidatesTell}
+use Rattle.nts_asking.proofs.Evaluating.{Knows-goes, offers-kept}
+use Rattle.nts_asking.proofs.Running.{term_table}
+use Rattle.nts_asking.specs.Telling.{IsPlainResponse, StandsForAll, Outcomes}
+use Rattle.nts_asking.specs.Telling.Tells.{tells_nothing, tells_one}
+use Rattle.nts_asking.specs.Telling.Refutes.{all_fail}
+
+-- what holds, holds of what went well
+pub on_ok : {A E P : Type 0} (r : Result A E) → P → OnOk r P
+on_ok (Ok x) p = p
+on_ok (Err e) p = tt
+
+-- in a tree of queries that is less than n + 1 high
+next : (n : ℕ) → n + 1 ≡ suc n
+next n = omega arith
+
+-- the labels of an opened goal are those of the goal, and placeholders of a universe above the root
+placeholder_passes : (P : Label → Bool) → PassesQueries P → (u : ℕ) (s : Sort) (n : ℕ) → P (label.Leaf (placeholder_in (u + 1) s n)) ≡ true
+placeholder_passes P q u s n = subst (λ v. P (label.Leaf (placeholder_in v s n)) ≡ true) (sym (next u)) (by_sort s)
+  where
+    by_sort : (s : Sort) → P (label.Leaf (placeholder_in (suc u) s n)) ≡ true
+    by_sort sort.Ty = q _ tt
+    by_sort sort.Const = q _ tt
+    by_sort sort.Region = q _ tt
+
+passes_if : (P : Label → Bool) (b : Bool) (s t : Tree) → TreePasses P s → TreePasses P t → TreePasses P (if b then s else t)
+passes_if P true s t h k = h
+passes_if P false s t h k = k
+
+opened_label_passes : (P : Label → Bool) → PassesQueries P → (u c : ℕ) (l : Label) (t : Tree) → P l ≡ true → TreePasses P t → TreePasses P (opened_at (placeholder_in (u + 1)) c l t)
+opened_label_passes P q u c (label.Bound s (index.Bound d) n) t h k =
+    passes_if P (d == c) (node (label.Leaf (placeholder_in (u + 1) s n)) empty) (node (label.Bound s (index.Bound d) n) t) (placeholder_passes P q u s n, tt) (h, k)
+opened_label_passes P q u c (label.Bound s index.Canonical n) t h k = (h, k)
+opened_label_passes P q u c (label.Leaf x) t h k = (h, k)
+opened_label_passes P q u c (label.Ty x) t h k = (h, k)
+opened_label_passes P q u c (label.Const x) t h k = (h, k)
+opened_label_passes P q u c (label.Clause x) t h k = (h, k)
+opened_label_passes P q u c (label.Predicate x) t h k = (h, k)
+opened_label_passes P q u c (label.List x) t h k = (h, k)
+
+opened_passes : (P : Label → Bool) → PassesQueries P → (u c : ℕ) (t : Tree) → TreePasses P t → TreePasses P (opened (placeholder_in (u + 1)) c t)
+opened_passes P q u c empty h = tt
+opened_passes P q u c (more a b) h = (opened_passes P q u c a h.0, opened_passes P q u c b h.1)
+opened_passes P q u c (node l t) h = opened_label_passes P q u c l (opened (placeholder_in (u + 1)) (c + binders l) t) h.0 (opened_passes P q u (c + binders l) t h.1)
+
+pub opened_goal_passes : (P : Label → Bool) → PassesQueries P → (c : Content) (g : Tree) → TreePasses P g → TreePasses P (opened_in c g)
+opened_goal_passes P q c (node (label.List list.Binder) (more (node (label.List list.Sorts) (more s ss)) (more t empty))) h =
+    (q _ tt, ((q _ tt, tt), (opened_passes P q c.universe 0 t h.1.1.0, tt)))
+opened_goal_passes P q c g h = h
+
+-- a goal that is asked once it is opened is closed
+asked_closed : (e g : Tree) → handlers.IsAsked e g → IsClosed g
+asked_closed e g asked =
+    let z = asked.closed in
+    let w = z.1 in
+    rw asked.binds_nothing (tt, ((tt, tt), (IsClosed-under 1 asked.statement w.0, tt)))
+
+goal_closed : (c : Content) (e g : Tree) → (binds g ≡ true → IsClosed g) → handlers.IsAsked e (opened_in c g) → IsClosed g
+goal_closed c e g h asked = by_test (binds g) refl
+  where
+    by_test : (z : Bool) → binds g ≡ z → IsClosed g
+    by_test true q = h q
+    by_test false q =
+        let same : opened_in c g ≡ g = ap (λ z. if z then unbound (opened (placeholder_in (c.universe + 1)) 0 (statement_of g)) else g) q in
+        asked_closed e g (subst (handlers.IsAsked e) same asked)
+
+-- what the candidates tell, in terms of what is offered for the goal
+pub told_offered : {b d : List Tree} (h : Handler) (mode : TypingMode) (u : Table) (o : Goal) (qs : List GenericArg) (xs : List CandidateData) (e : List Tree) (r : Canonical Response) → Extends b d → IsTable b u → HoldsGoal b o → trees_of d qs ≡ trees_of b qs → LeavesOut (offers_of h (mode_of mode) d o) (candidates_of d xs) → CandidatesTell h mode d u qs xs e r
+    → ((rs : List Answer) × Outcomes h (mode_of mode) (content_of b u.entries) (trees_of b qs) (offers_of h (mode_of mode) b o) rs × StandsForAll rs (response_at e r)) ⊎ IsPlainResponse (content_of b u.entries) (trees_of b qs) (response_at e r)
+told_offered {b} {d} h mode u o qs xs e r up w holds trees those (inl (rs, x, y)) =
+    inl (rs, rw (content_of-extended up w.now, trees, offers-kept h (mode_of mode) up holds) at (all_outcomes those (candidates_of d xs) rs refl x), y)
+told_offered {b} {d} h mode u o qs xs e r up w holds trees those (inr x) =
+    inr (subst (λ z. IsPlainResponse z (trees_of b qs) (response_at e r)) (content_of-extended up w.now) (subst (λ z. IsPlainResponse (content_of d u.entries) z (response_at e r)) trees x))
+
+-- a goal of the store a and the table t, that is the goal o of the store b in the table u once it is opened
+module _ {a b : List Tree} {t u : Table} {g o : Goal} (posed : IsPosed a t g) (opens : IsOpenedTo a b t u g o) (up : Extends a b) where
+  abbrev before : Content
+  before = content_of a t.entries
+
+  abbrev there : Content
+  there = content_of b u.entries
+
+  environment_same : tree_at b o.param_env.node ≡ tree_at a g.param_env.node
+  environment_same = ap (λ (z : ParamEnv). tree_at b z.node) opens.environment ∙ up.kept g.param_env.node posed.holds.env.within
+
+  opened_outcomes : (h : Handler) (mode : TypingMode) (qs : List Tree) (rs : List Answer) → Outcomes h (mode_of mode) there qs (offers_of h (mode_of mode) b o) rs
+      → Outcomes h (mode_of mode) (entered_table before (tree_at a g.predicate.node)) qs (h.offers (mode_of mode) (tree_at a g.param_env.node) (opened_in before (tree_at a g.predicate.node))) rs
+  opened_outcomes h mode qs rs x =
+      let offers = h.offers (mode_of mode) in
+      subst (λ z. Outcomes h (mode_of mode) z qs (offers (tree_at a g.param_env.node) (opened_in before (tree_at a g.predicate.node))) rs) opens.table
+      (subst (λ z. Outcomes h (mode_of mode) there qs (offers (tree_at a g.param_env.node) z) rs) opens.predicate
+      (subst (λ z. Outcomes h (mode_of mode) there qs (offers z (tree_at b o.predicate.node)) rs) environment_same x))
+
+  -- what its candidates are answered the goal is answered
+  asked_opened : IsAskedIn b o → handlers.IsAsked (tree_at a g.param_env.node) (opened_in before (tree_at a g.predicate.node))
+  asked_opened asked = subst (λ z. handlers.IsAsked (tree_at a g.param_env.node) z) opens.predicate (subst (λ z. handlers.IsAsked z (tree_at b o.predicate.node)) environment_same asked.asked)
+
+  pub told_through : IsAskedIn b o → (h : Handler) (mode : TypingMode) (qs : List GenericArg) (e : List Tree) (r : Canonical Response) → trees_of b qs ≡ trees_of a qs
+      → ((rs : List Answer) × Outcomes h (mode_of mode) there (trees_of b qs) (offers_of h (mode_of mode) b o) rs × StandsForAll rs (response_at e r)) ⊎ IsPlainResponse there (trees_of b qs) (response_at e r) → IsTold h mode a t g qs e r
+  told_through ask h mode qs e r same (inl (rs, x, y)) =
+      let there_told : Outcomes h (mode_of mode) there (trees_of a qs) (offers_of h (mode_of mode) b o) rs = subst (λ z. Outcomes h (mode_of mode) there z (offers_of h (mode_of mode) b o) rs) same x in
+      tells_one rs (asked_opened ask) (opened_outcomes h mode (trees_of a qs) rs there_told) y
+  told_through ask h mode qs e r same (inr x) = tells_nothing there (inr opens.table) (subst (λ z. IsPlainResponse there z (response_at e r)) same x)
+
+  pub refuted_through : IsAskedIn b o → (h : Handler) (mode : TypingMode) (qs : List Tree) → Outcomes h (mode_of mode) there qs (offers_of h (mode_of mode) b o) [] → IsRefuted h mode a t g
+  refuted_through ask h mode qs x = all_fail qs (asked_opened ask) (opened_outcomes h mode qs [] x)
+
+  -- .. of which nothing is told there
+  pub nothing_through : (h : Handler) (mode : TypingMode) (qs : List GenericArg) (e : List Tree) (r : Canonical Response) → trees_of b qs ≡ trees_of a qs → IsPlainResponse there (trees_of b qs) (response_at e r) → IsTold h mode a t g qs e r
+  nothing_through h mode qs e r same x = tells_nothing there (inr opens.table) (subst (λ z. IsPlainResponse there z (response_at e r)) same x)
+
+  -- what answering the opened goal brings
+  passes_entered : (P : Label → Bool) → TablePasses P before → TablePasses P there
+  passes_entered P h = subst (TablePasses P) (sym opens.table) (by_test (binds (tree_at a g.predicate.node)))
+    where
+      by_test : (z : Bool) → TablePasses P (if z then in_universe before (before.universe + 1) else before)
+      by_test true = record { values = h.values; left = h.left; right = h.right }
+      by_test false = h
+
+  goal_passes : (P : Label → Bool) → PassesQueries P → ((x : Tree) → Among (asked_terms a g) x → TreePasses P x) → (x : Tree) → Among (asked_terms b o) x → TreePasses P x
+  goal_passes P q m x (inl e) = rw (e, environment_same) (m _ (inl refl))
+  goal_passes P q m x (inr (inl e)) = subst (TreePasses P) (sym (e ∙ opens.predicate)) (opened_goal_passes P q before (tree_at a g.predicate.node) (m _ (inr (inl refl))))
+  goal_passes P q m x (inr (inr e)) = absurd e
+
+  pub labels_through : {c : Content} → BringsOnly (asked_terms b o) there c → BringsOnly (asked_terms a g) before c
+  labels_through h = record { labels = λ P q m k. h.labels P q (goal_passes P q m) (passes_entered P k) }
+
+  pub labels_entered : BringsOnly (asked_terms a g) before there
+  labels_entered = record { labels = λ P q m k. passes_entered P k }
+
+  -- a certain candidate for the opened goal proves the goal
+  pub proved_through : (h : Handler) (V : ℕ → List Variance) (mode : Mode) (A : List Assumed) {d : List Tree} {v : Table} → IsPosed b u o → IsAskedIn b o → Goes b d u v → Continues before (content_of d v.entries) → AreFormed d → IsLawfulHandler h
+      → IsServed h (meaning h V) mode A (content_of d v.entries) (tree_at d o.param_env.node) (tree_at d o.predicate.node) → IsProvedFrom (meaning h V) mode A (content_of d v.entries) (tree_at d g.param_env.node) (tree_at d g.predicate.node)
+  proved_through h V mode A {d} {v} there_posed asked goes later formed law served =
+      let c = content_of d v.entries in
+      let terms = term_table formed goes.table in
+      let proper = goes.table.now.proper in
+      let solvable = proper.solvable in
+      let e = tree_at a g.param_env.node in
+      let p = tree_at a g.predicate.node in
+      let ad = Extends-trans up goes.extends in
+      let env : tree_at d g.param_env.node ≡ e = ad.kept g.param_env.node posed.holds.env.within in
+      let pred : tree_at d g.predicate.node ≡ p = ad.kept g.predicate.node posed.holds.predicate.within in
+      let oenv : tree_at d o.param_env.node ≡ e = goes.extends.kept o.param_env.node there_posed.holds.env.within ∙ environment_same in
+      let opred : tree_at d o.predicate.node ≡ opened_in before p = goes.extends.kept o.predicate.node there_posed.holds.predicate.within ∙ opens.predicate in
+      let fe : IsFormed e = subst IsFormed env (formed g.param_env.node (IsIn-extended ad g.param_env.node posed.holds.env.within)) in
+      let fp : IsFormed p = subst IsFormed pred (formed g.predicate.node (IsIn-extended ad g.predicate.node posed.holds.predicate.within)) in
+      let fo : IsFormed (opened_in before p) = subst IsFormed opred (formed o.predicate.node (IsIn-extended goes.extends o.predicate.node there_posed.holds.predicate.within)) in
+      let grown : KeepsKinds before c = record { grows = later.grows; kinds = later.kinds } in
+      let ke : Knows c e = Knows-kept before c e grown posed.knows.env in
+      let kp : Knows c p = Knows-kept before c p grown posed.knows.predicate in
+      let ko : Knows c (opened_in before p) = subst (Knows c) opens.predicate (Knows-goes (tree_at b o.predicate.node) goes there_posed.knows.predicate) in
+      let ask : handlers.IsAsked e (opened_in before p) = subst (λ z. handlers.IsAsked e z) opens.predicate (subst (λ z. handlers.IsAsked z (tree_at b o.predicate.node)) environment_same asked.asked) in
+      let x : IsServed h (meaning h V) mode A c e (opened_in before p) = subst (λ z. IsServed h (meaning h V) mode A c e z) opred (subst (λ z. IsServed h (meaning h V) mode A c z (tree_at d o.predicate.node)) oenv served) in
+      let current = posed.table.now.proper.current in
+      let proved = by_entered_candidate h V mode A c terms.sound terms.values terms.constraints before e p current later solvable.levelled proper.regions (record { knows = posed.knows.env; formed = fe }) (record { knows = posed.knows.predicate; formed = fp }) (goal_closed before e p opens.closed ask) ask
+      (record { knows = ke; formed = fe }) (record { knows = kp; formed = fp }) (record { knows = ko; formed = fo }) x.candidate law x.offered x.sure x.holds in
+      subst (λ z. IsProvedFrom (meaning h V) mode A c z (tree_at d g.predicate.node)) (sym env) (subst (λ z. IsProvedFrom (meaning h V) mode A c e z) (sym pred) proved)

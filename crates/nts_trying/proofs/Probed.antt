@@ -1,0 +1,177 @@
+-- What was found in a table that is gone, seen from the table that asked.
+use Rattle.std.proofs.Common.{◌≡◌, ◌⊎◌, inl, inr, true, false, List, [], ◌∷◌, ◌++◌, map, refl, sym, ap, ◌∙◌, subst}
+use Rattle.std.specs.Prelude.{All}
+use Rattle.nts_model.specs.Derivations.Proofs.{Assumed}
+use Rattle.nts_model.specs.Searching.Stacks.{IsProvedFrom, IsDerivedFrom}
+use Rattle.nts_model.specs.Terms.Trees.{Tree}
+use Rattle.nts_model.specs.Tables.Contents.{Content}
+use Rattle.nts_model.specs.Tables.Passing.{TablePasses, BringsOnly}
+use Rattle.nts_model.specs.Derivations.Rules.{Meaning, Mode}
+use Rattle.nts_model.specs.Canonical.Inputs.{PositionKind}
+use Rattle.nts_model.specs.Answers.Responses.{Response as Answer, answer_sequent, IsOverPositions}
+use Rattle.nts_certainty.specs.declared.certainty.Certainty.{Certainty}
+use Rattle.nts_certainty.specs.declared.certainty.MaybeInfo.{MaybeInfo}
+use Rattle.nts_certainty.specs.declared.certainty.Certainty.TheVariants as certainty
+use Rattle.nts_store.specs.Formed.{AreFormed}
+use Rattle.nts_store.specs.Growth.{tree_at, Extends}
+use Rattle.nts_store.proofs.Growing.{Extends-trans}
+use Rattle.nts_terms.specs.declared.handles.GenericArg.{GenericArg}
+use Rattle.nts_terms.specs.declared.handles.Goal.{Goal}
+use Rattle.nts_terms.specs.Handles.{HoldsArg, HoldsGoal}
+use Rattle.nts_unify.specs.Reading.{content_of}
+use Rattle.nts_unify.specs.Lawful.{content_of-extended}
+use Rattle.nts_table.specs.Tables.{Table, IsTable}
+use Rattle.nts_delegate.specs.Offered.{hidden_of, candidate_of}
+use Rattle.nts_canonical.specs.declared.types.Canonical.{Canonical}
+use Rattle.nts_canonical.specs.declared.types.CanonicalInput.{CanonicalInput}
+use Rattle.nts_canonical.specs.Forms.{form_of, kind_of_var, trees_of, IsHidden}
+use Rattle.nts_canonical.specs.Kinds.{AreInputKinds}
+use Rattle.nts_canonical.specs.Building.{IsArgOf}
+use Rattle.nts_response.specs.declared.types.Response.{Response}
+use Rattle.nts_response.specs.Forms.{response_at, recorded_at, premise_at, HoldsResponse, StoreHoldsConstraint, HoldsOpen}
+use Rattle.nts_response.specs.Replacing.{argument_value}
+use Rattle.nts_response.proofs.ApplySteps.{response_kept}
+use Rattle.nts_response.proofs.Each.{same_views, values_kept, constraints_kept, hidden_kept, goals_kept}
+use Rattle.nts_model.proofs.Responses.Bringing.{only-refl}
+use Rattle.nts_asking.specs.Asking.{IsResponseOf, first_table, first_values, asked_environment, asked_predicate}
+use Rattle.nts_model.specs.Derivations.Handlers.{Handler}
+use Rattle.nts_terms.specs.declared.modes.TypingMode.{TypingMode}
+use Rattle.nts_terms.specs.Modes.{mode_of}
+use Rattle.nts_delegate.specs.declared.delegate.CandidateData.{CandidateData}
+use Rattle.nts_asking.specs.Telling.{IsPlainResponse, Replies}
+use Rattle.nts_asking.specs.Telling.Replies.{replies}
+use Rattle.nts_asking.specs.Meant.{HasRunTo}
+use Rattle.nts_trying.specs.Found.{Found}
+use Rattle.nts_asking.specs.Answering.{is_kept, told_in, IsAnswerTo, TellsNoMore}
+use Rattle.nts_asking.specs.Evaluation.{Goes, asked_terms}
+use Rattle.nts_asking.proofs.AnsweredQueries.{args_later, args_know, query_passes, query_table, query_says}
+use Rattle.nts_asking.proofs.AskedGoals.{trees_kept}
+use Rattle.nts_asking.proofs.Evaluating.{Goes-extends, committed}
+use Rattle.nts_asking.proofs.Fitting.{answer_to}
+use Rattle.nts_trying.proofs.MergedResponses.{told_unsure}
+use Rattle.nts_asking.proofs.QueryTables.{is_label_in, first_sides, table_in}
+use Rattle.nts_asking.proofs.Searching.{response_same}
+
+-- what was found stays found
+pub found_later : {P : List Tree → Table → Type 0} {a b e : List Tree} {t : Table} {g : Goal} {qs : List GenericArg} (r : Canonical Response) → Extends b e → Found P a b t g qs r → Found P a e t g qs r
+found_later {P} {a} {b} {e} {t} {g} {qs} r k f =
+    record {
+      store = f.store;
+      after = f.after;
+      formed = f.formed;
+      goes = f.goes;
+      labels = f.labels;
+      extends = Extends-trans f.extends k;
+      says = rw (response_same b e r k f.holds) f.says;
+      holds = response_kept b e r.value k f.holds;
+      no_more = f.no_more;
+      sure = f.sure;
+    }
+
+pub found_with : {P Q : List Tree → Table → Type 0} {a b : List Tree} {t : Table} {g : Goal} {qs : List GenericArg} (r : Canonical Response) → ((c : List Tree) (u : Table) → P c u → Q c u) → Found P a b t g qs r → Found Q a b t g qs r
+found_with r p f =
+    record {
+      store = f.store;
+      after = f.after;
+      formed = f.formed;
+      goes = f.goes;
+      labels = f.labels;
+      extends = f.extends;
+      says = f.says;
+      holds = f.holds;
+      no_more = f.no_more;
+      sure = λ y. p f.store f.after (f.sure y);
+    }
+
+-- the response of a table that went on
+pub found_in : {P : List Tree → Table → Type 0} {a b e : List Tree} {t u : Table} {g : Goal} {qs : List GenericArg} (r : Canonical Response) (x : Certainty) → Goes a b t u → AreFormed b → Extends b e → BringsOnly (asked_terms a g) (content_of a t.entries) (content_of b u.entries) → All (IsArgOf a t.entries) qs
+    → r.value.certainty ≡ x → IsResponseOf (told_in x (content_of b u.entries)) (trees_of b qs) (response_at e r) → HoldsResponse e r.value → TellsNoMore r → (x ≡ certainty.Yes → P b u) → Found P a e t g qs r
+found_in {P} {a} {b} {e} {t} {u} {g} {qs} r x goes formed k labels args same says holds no_more sure =
+    record {
+      store = b;
+      after = u;
+      formed = formed;
+      goes = goes;
+      labels = labels;
+      extends = k;
+      says = rw (same, ← trees_kept a b t.entries qs goes.extends args) says;
+      holds = holds;
+      no_more = no_more;
+      sure = λ y. sure (sym same ∙ y);
+    }
+
+-- .. in a snapshot s of the table t, which was taken back
+abbrev pub left_in : Table → Table → Table
+left_in t u = record { entries = u.entries; saved = t.saved; mode = t.mode }
+
+pub went_in : {a b : List Tree} {t s u : Table} → IsTable a t → s.entries ≡ t.entries → s.saved ≡ t.saved ++ t.entries ∷ [] → s.mode ≡ t.mode → Goes a b s u → Goes a b t (left_in t u)
+went_in {a} {b} {t} {s} {u} w same opened mode step = committed {v = left_in t u} t.entries same opened w step refl (step.saved ∙ opened) mode (sym (step.mode ∙ mode))
+
+-- the response of the table as it was, which is not certain
+pub found_still : {P : List Tree → Table → Type 0} {a b e : List Tree} {t : Table} {g : Goal} {qs : List GenericArg} (r : Canonical Response) (x : Certainty) → IsTable a t → Extends a b → AreFormed b → Extends b e → All (IsArgOf a t.entries) qs
+    → r.value.certainty ≡ x → (x ≡ certainty.Yes → ⊥) → IsResponseOf (told_in x (content_of b t.entries)) (trees_of b qs) (response_at e r) → HoldsResponse e r.value → TellsNoMore r → Found P a e t g qs r
+found_still {P} {a} {b} {e} {t} {g} {qs} r x w up formed k args same unsure says holds no_more =
+    let goes = Goes-extends w up in
+    found_in r x goes formed k (subst (BringsOnly (asked_terms a g) (content_of a t.entries)) (sym (still w up)) (only-refl (asked_terms a g) (content_of a t.entries))) args same says holds no_more (λ y. absurd (unsure y))
+  where
+    still : IsTable a t → Extends a b → content_of b t.entries ≡ content_of a t.entries
+    still h i = content_of-extended i h.now
+
+-- an answer that is not certain keeps its table's constraints to itself
+pub plain_of : (x : Certainty) (c : Content) (qs : List Tree) (r : Answer) → IsResponseOf (told_in x c) qs r → (x ≡ certainty.Yes → ⊥) → IsPlainResponse c qs r
+plain_of x c qs r h n = subst (λ z. IsResponseOf z qs r) (told_unsure x c n) h
+
+pub doubtful : (m : MaybeInfo) → certainty.Maybe m ≡ certainty.Yes → ⊥
+doubtful m e = cc
+
+-- a yes is kept
+pub not_kept : {x : Certainty} → is_kept x ≡ false → x ≡ certainty.Yes → ⊥
+not_kept {x} e y = (let z : true ≡ false = sym (ap is_kept y) ∙ e in cc)
+
+pub told_or_plain : (x : Certainty) (c : Content) (qs : List Tree) (r : Answer) → IsResponseOf (told_in x c) qs r → IsResponseOf c qs r ⊎ IsPlainResponse c qs r
+told_or_plain certainty.Yes c qs r h = inl h
+told_or_plain (certainty.Maybe i) c qs r h = inr h
+
+pub said_of : {A B C : Type 0} → A ⊎ B → A ⊎ B ⊎ C
+said_of (inl x) = inl x
+said_of (inr x) = inr (inl x)
+
+-- a candidate that was run in a snapshot of the table t has this response
+pub run_replies : {a b : List Tree} (s t u : Table) (h : Handler) (mode : TypingMode) (x : CandidateData) (qs : List Tree) (r : Answer) → HasRunTo h s.mode a s b u x → s.mode ≡ mode → s.entries ≡ t.entries
+    → IsResponseOf (content_of b u.entries) qs r ⊎ IsPlainResponse (content_of b u.entries) qs r ⊎ IsPlainResponse (content_of a s.entries) qs r → Replies h (mode_of mode) (content_of a t.entries) qs (candidate_of a x) r
+run_replies {a} {b} s t u h mode x qs r run moded same says =
+    subst (λ z. Replies h (mode_of mode) (content_of a z) qs (candidate_of a x) r) same (subst (λ z. Replies h (mode_of z) (content_of a s.entries) qs (candidate_of a x) r) moded (replies run.values run.met (content_of b u.entries) run.begun run.reaches says))
+
+-- what was found in the table of a query, which was made for an input of these kinds
+module _ {P : List Tree → Table → Type 0} (a b e : List Tree) (q : Table) (g : Goal) (ks : List PositionKind) (input : CanonicalInput) (vs : List GenericArg) (r : Canonical Response) (found : Found P b e q g vs r)
+    (kinds : AreInputKinds ks) (same : (let f = form_of a input in f.kinds) ≡ ks) (over_environment : (let f = form_of a input in IsOverPositions f.environment)) (over_predicate : (let f = form_of a input in IsOverPositions f.predicate))
+    (first : content_of b q.entries ≡ first_table ks) (environment : tree_at b g.param_env.node ≡ asked_environment (form_of a input)) (predicate : tree_at b g.predicate.node ≡ asked_predicate (form_of a input))
+    (holds : HoldsGoal b g) (args : All (IsArgOf b q.entries) vs) (values : trees_of b vs ≡ first_values ks) where
+  abbrev d : List Tree
+  d = found.store
+
+  abbrev u : Table
+  u = found.after
+
+  later_args : All (IsArgOf d u.entries) vs
+  later_args = args_later b d q.entries u.entries vs found.goes.extends found.goes.continues args
+
+  later_values : trees_of d vs ≡ first_values ks
+  later_values = trees_kept b d q.entries vs found.goes.extends args ∙ values
+
+  pass : TablePasses (is_label_in ks) (content_of d u.entries)
+  pass = query_passes b d q u g ks (form_of a input) same kinds over_environment over_predicate first environment predicate found.labels
+
+  pub found_fits : IsAnswerTo e ks r
+  found_fits =
+      answer_to ks r.value.certainty r found.formed found.goes.table kinds (table_in ks (content_of d u.entries) pass) (args_know d u.entries vs (first_values ks) later_args later_values)
+      (rw values at found.says) found.holds (found.goes.sides (rw first (first_sides ks))) found.no_more.no_hidden found.no_more.no_goals
+
+  pub found_derived : (m : Meaning) (mode : Mode) (A : List Assumed) → r.value.certainty ≡ certainty.Yes → IsProvedFrom m mode A (content_of d u.entries) (tree_at d g.param_env.node) (tree_at d g.predicate.node) → IsDerivedFrom m mode A (answer_sequent (form_of a input) (response_at e r))
+  found_derived m mode A sure proved =
+      let later = found.goes.extends in
+      let env = later.kept g.param_env.node holds.env.within ∙ environment in
+      let pred = later.kept g.predicate.node holds.predicate.within ∙ predicate in
+      query_says ks (content_of d u.entries) (form_of a input) (response_at e r) m mode A same
+      (query_table ks found.formed found.goes.table kinds pass (args_know d u.entries vs (first_values ks) later_args later_values))
+      (rw (sure, values) at found.says) over_environment over_predicate (rw (env, pred) at proved)

@@ -1,0 +1,263 @@
+-- Goals that are evaluated in steps: what was asked so far, what is left, and what is proved.
+use Rattle.std.proofs.Common.{◌≡◌, ◌⊎◌, inl, inr, ⊎_elim, ℕ, zero, suc, ◌+◌, ◌<◌, List, [], ◌∷◌, ◌++◌, map, length, take, get_or, refl, sym, ap, ◌∙◌, subst, arith}
+use Rattle.std.specs.Prelude.{All, ◌≢◌}
+use Rattle.std.proofs.lemmas.List.Elements.{All-head, All-tail}
+use Rattle.nts_model.specs.Lists.{Among}
+use Rattle.nts_model.specs.Derivations.Sequents.{inductive}
+use Rattle.nts_model.specs.Derivations.Rules.{Mode, GoalKind, step_kind}
+use Rattle.nts_model.specs.Derivations.Proofs.{Assumed, passed}
+use Rattle.nts_model.proofs.Derivations.Assuming.{Covers, covers_passed}
+use Rattle.nts_certainty.specs.declared.sources.PathKind.{PathKind}
+use Rattle.nts_certainty.specs.declared.sources.PathKind.TheVariants as path
+use Rattle.nts_certainty.specs.declared.sources.GoalSource.TheVariants as source
+use Rattle.nts_search.specs.declared.kinds.CurrentGoalKind.{CurrentGoalKind}
+use Rattle.nts_search.specs.declared.kinds.CurrentGoalKind.TheVariants as kinds
+use Rattle.nts_search.specs.Kinds.{goal_kind_of}
+use Rattle.nts_delegate.specs.Offered.{path_kind_of, source_of}
+use Rattle.nts_asking.specs.Telling.{CanAsk, IsInductive}
+use Rattle.nts_asking.specs.Telling.RefusesOne.{cuts_one}
+use Rattle.nts_asking.specs.Searching.{IsCut}
+use Rattle.nts_asking.specs.Meant.{IsNestedSince}
+use Rattle.nts_asking.proofs.Searching.{stays_more, none_passed}
+use Rattle.nts_model.specs.Terms.Trees.{Tree}
+use Rattle.nts_model.specs.Tables.Contents.{Content}
+use Rattle.nts_model.specs.Derivations.Sequents.{Premise}
+use Rattle.nts_model.specs.Tables.Passing.{BringsOnly}
+use Rattle.nts_model.specs.Tables.Resolving.{deeply_resolved}
+use Rattle.nts_model.specs.Derivations.Handlers.{Handler}
+use Rattle.nts_model.proofs.Refutation.Answered.{among_left, among_right}
+use Rattle.nts_model.proofs.Derivations.ByCandidate.{among_mapped}
+use Rattle.nts_certainty.specs.declared.certainty.Certainty.{Certainty}
+use Rattle.nts_certainty.specs.declared.certainty.Certainty.TheVariants as certainty
+use Rattle.nts_certainty.specs.declared.sources.GoalSource.{GoalSource}
+use Rattle.nts_certainty.specs.Certainties.{both}
+use Rattle.nts_store.specs.Growth.{Extends}
+use Rattle.nts_terms.specs.declared.cx.Cx.{Cx}
+use Rattle.nts_terms.specs.declared.handles.Goal.{Goal}
+use Rattle.nts_terms.specs.declared.modes.TypingMode.{TypingMode}
+use Rattle.nts_terms.specs.Modes.{mode_of}
+use Rattle.nts_terms.specs.Handles.{HoldsGoal}
+use Rattle.nts_unify.specs.Reading.{content_of}
+use Rattle.nts_unify.specs.Lawful.{content_of-extended}
+use Rattle.nts_table.specs.Tables.{Table, IsTable}
+use Rattle.nts_response.specs.Forms.{premise_at}
+use Rattle.nts_asking.specs.Evaluation.{Goes, IsPosed, asked_terms, goals_at}
+use Rattle.nts_trying.specs.Stepping.{ArePosed, terms_of, AreLeft, AreSettled, left_after}
+use Rattle.nts_asking.specs.Telling.{Reaches, RefusesOne, Asked, Refused}
+use Rattle.nts_asking.specs.Telling.Reaches.{asks_nothing, then_asks}
+use Rattle.nts_asking.specs.Telling.RefusesOne.{refuses_one}
+use Rattle.nts_asking.specs.Meant.{Since, IsProvedSince, IsProvedFromSince, IsAskedUnder, IsRefusedUnder, ReachesBy, RefusesOneOf}
+use Rattle.nts_asking.proofs.Evaluating.{IsPosed-later, HoldsGoal-extended}
+use Rattle.nts_asking.proofs.Running.{both_sure, Stays-later}
+
+-- elements of lists
+pub among_get : {X : Type 0} (xs : List X) (i : ℕ) (d : X) → i < length xs → Among xs (get_or xs i d)
+among_get [] i d l = absurd (omega arith)
+among_get (x ∷ xs) zero d l = inl refl
+among_get (x ∷ xs) (suc i) d l = inr (among_get xs i d (omega arith))
+
+pub all_among : {X : Type 0} (P : X → Type 0) (xs : List X) (x : X) → All P xs → Among xs x → P x
+all_among P [] x h i = absurd i
+all_among P (y ∷ xs) x h (inl e) = subst P (sym e) (All-head P y xs h)
+all_among P (y ∷ xs) x h (inr i) = all_among P xs x (All-tail P y xs h) i
+
+all_from : {X : Type 0} (P : X → Type 0) (xs : List X) → ((x : X) → Among xs x → P x) → All P xs
+all_from P xs h = λ i d l. h (get_or xs i d) (among_get xs i d l)
+
+among_image : {X Y : Type 0} (f : X → Y) (xs : List X) (x : X) → Among xs x → Among (map f xs) (f x)
+among_image f [] x i = absurd i
+among_image f (y ∷ xs) x (inl e) = inl (ap f e)
+among_image f (y ∷ xs) x (inr i) = inr (among_image f xs x i)
+
+take_next : {X : Type 0} (xs : List X) (i : ℕ) (d x : X) → i < length xs → Among (take (suc i) xs) x → Among (take i xs) x ⊎ (x ≡ get_or xs i d)
+take_next [] i d x l h = absurd (omega arith)
+take_next (y ∷ xs) zero d x l (inl e) = inr e
+take_next (y ∷ xs) zero d x l (inr h) = absurd h
+take_next (y ∷ xs) (suc i) d x l (inl e) = inl (inl e)
+take_next (y ∷ xs) (suc i) d x l (inr h) = ⊎_elim (λ k. inl (inr k)) (λ e. inr e) (take_next xs i d x (omega arith) h)
+
+-- goals in a store that has grown
+premise_same : {a b : List Tree} (g : GoalSource × Goal) → Extends a b → HoldsGoal a g.1 → premise_at b g ≡ premise_at a g
+premise_same {a} {b} g e h = cc (e.kept g.1.param_env.node h.env.within, e.kept g.1.predicate.node h.predicate.within)
+
+pub posed_later : {a b : List Tree} {t u : Table} (gs : List (GoalSource × Goal)) → Goes a b t u → ArePosed a t gs → ArePosed b u gs
+posed_later gs s h = λ i d l. IsPosed-later s (h i d l)
+
+-- those that are left are posed
+pub posed_left : {a b : List Tree} {t u : Table} (gs left : List (GoalSource × Goal)) → Goes a b t u → ArePosed a t gs → AreLeft gs left → ArePosed b u left
+posed_left {a} {b} {t} {u} gs left s h k = all_from (λ g. IsPosed b u g.1) left (λ g i. IsPosed-later s (all_among (λ g. IsPosed a t g.1) gs g h (k g i)))
+
+-- labels of some of the goals
+only_sub : (xs ys : List Tree) {c d : Content} → ((t : Tree) → Among xs t → Among ys t) → BringsOnly xs c d → BringsOnly ys c d
+only_sub xs ys f h = record { labels = λ P q m. h.labels P q (λ t i. m t (f t i)) }
+
+term_among : (a : List Tree) (gs : List (GoalSource × Goal)) (g : GoalSource × Goal) (t : Tree) → Among gs g → Among (asked_terms a g.1) t → Among (terms_of a gs) t
+term_among a [] g t i j = absurd i
+term_among a (x ∷ gs) g t (inl e) j = among_left (asked_terms a x.1) (terms_of a gs) t (subst (λ z. Among (asked_terms a z.1) t) e j)
+term_among a (x ∷ gs) g t (inr i) j = among_right (asked_terms a x.1) (terms_of a gs) t (term_among a gs g t i j)
+
+among_both : {X : Type 0} (xs ys : List X) (x : X) → Among (xs ++ ys) x → Among xs x ⊎ Among ys x
+among_both [] ys x h = inr h
+among_both (z ∷ xs) ys x (inl e) = inl (inl e)
+among_both (z ∷ xs) ys x (inr h) = ⊎_elim (λ k. inl (inr k)) (λ k. inr k) (among_both xs ys x h)
+
+term_of_some : (a : List Tree) (gs : List (GoalSource × Goal)) (t : Tree) → Among (terms_of a gs) t → (g : GoalSource × Goal) × Among gs g × Among (asked_terms a g.1) t
+term_of_some a [] t h = absurd h
+term_of_some a (g ∷ gs) t h =
+    ⊎_elim (λ k. (g, inl refl, k)) (λ k. (let r = term_of_some a gs t k in (r.0, inr r.1, r.2))) (among_both (asked_terms a g.1) (terms_of a gs) t h)
+
+terms_same : {a b : List Tree} (g : Goal) (t : Tree) → Extends a b → HoldsGoal a g → Among (asked_terms b g) t → Among (asked_terms a g) t
+terms_same {a} {b} g t e h i = rw (e.kept g.param_env.node h.env.within, e.kept g.predicate.node h.predicate.within) at i
+
+pub only_one : {a b : List Tree} {t : Table} {c d : Content} (gs : List (GoalSource × Goal)) (g : GoalSource × Goal) → Extends a b → ArePosed a t gs → Among gs g → BringsOnly (asked_terms b g.1) c d → BringsOnly (terms_of a gs) c d
+only_one {a} {b} {t} gs g e h i k =
+    let p = all_among (λ g. IsPosed a t g.1) gs g h i in
+    only_sub (asked_terms b g.1) (terms_of a gs) (λ x j. term_among a gs g x i (terms_same g.1 x e p.holds j)) k
+
+pub only_left : {a b : List Tree} {t : Table} {c d : Content} (gs left : List (GoalSource × Goal)) → Extends a b → ArePosed a t gs → AreLeft gs left → BringsOnly (terms_of b left) c d → BringsOnly (terms_of a gs) c d
+only_left {a} {b} {t} gs left e h k o =
+    only_sub (terms_of b left) (terms_of a gs)
+    (λ x j.
+    let r = term_of_some b left x j in
+    let i = k r.0 r.1 in
+    let p = all_among (λ g. IsPosed a t g.1) gs r.0 h i in
+    term_among a gs r.0 x i (terms_same r.0.1 x e p.holds r.2)) o
+
+-- a step that is inductive, though its goal normalizes no alias
+inductive_source : (z : CurrentGoalKind) (o : GoalSource) → z ≢ kinds.NormalizesTo → step_kind (goal_kind_of z) (source_of o) ≡ inductive → IsInductive (source_of o)
+inductive_source kinds.NormalizesTo o n e = absurd (n refl)
+inductive_source kinds.Misc source.Misc n e = cc e
+inductive_source kinds.Misc source.TypeRelating n e = tt
+inductive_source kinds.Misc source.ImplWhereBound n e = cc e
+inductive_source kinds.Misc source.AliasBoundConstCondition n e = cc e
+inductive_source kinds.Misc source.AliasWellFormed n e = cc e
+inductive_source kinds.Misc (source.NormalizeGoal path.Inductive) n e = tt
+inductive_source kinds.Misc (source.NormalizeGoal path.Coinductive) n e = cc e
+inductive_source kinds.Misc (source.NormalizeGoal path.Unknown) n e = cc e
+inductive_source kinds.Misc (source.NormalizeGoal path.ForcedAmbiguity) n e = cc e
+inductive_source kinds.CoinductiveTrait source.Misc n e = cc e
+inductive_source kinds.CoinductiveTrait source.TypeRelating n e = tt
+inductive_source kinds.CoinductiveTrait source.ImplWhereBound n e = cc e
+inductive_source kinds.CoinductiveTrait source.AliasBoundConstCondition n e = cc e
+inductive_source kinds.CoinductiveTrait source.AliasWellFormed n e = cc e
+inductive_source kinds.CoinductiveTrait (source.NormalizeGoal path.Inductive) n e = tt
+inductive_source kinds.CoinductiveTrait (source.NormalizeGoal path.Coinductive) n e = cc e
+inductive_source kinds.CoinductiveTrait (source.NormalizeGoal path.Unknown) n e = cc e
+inductive_source kinds.CoinductiveTrait (source.NormalizeGoal path.ForcedAmbiguity) n e = cc e
+
+-- one goal more was asked, or passed over
+module _ {a b : List Tree} {t : Table} (u : Table) (h : Handler) (mode : TypingMode) (gs : List (GoalSource × Goal)) (g : GoalSource × Goal) (posed : ArePosed a t gs) (i : Among gs g) (e : Extends a b) (before : ReachesBy h mode a t b u gs) where
+  abbrev here : Content
+  here = content_of b u.entries
+
+  same_premise : premise_at b g ≡ premise_at a g
+  same_premise = (let p = all_among (λ g. IsPosed a t g.1) gs g posed i in premise_same g e p.holds)
+
+  can_ask : IsTable b u → CanAsk here
+  can_ask w = record { sound = w.now.sound; current = w.now.proper.current }
+
+  pub reach_more : {d : List Tree} (v : Table) → IsTable b u → Extends b d → IsAskedUnder h mode b u d v g.1 ⊎ (v.entries ≡ u.entries) → ReachesBy h mode a t d v gs
+  reach_more {d} v w f (inl x) =
+      let p = premise_at a g in
+      then_asks here p before (among_image (premise_at a) gs g i) (can_ask w) (subst (λ (q : Premise). Asked h (mode_of mode) here (content_of d v.entries) (deeply_resolved here q.environment) (deeply_resolved here q.predicate)) same_premise x)
+  reach_more {d} v w f (inr x) = subst (Reaches h (mode_of mode) (goals_at a gs) (content_of a t.entries)) (sym (ap (content_of d) x ∙ content_of-extended f w.now)) before
+
+  pub refuse_more : IsTable b u → {z : CurrentGoalKind} {w : PathKind} → path_kind_of w ≡ step_kind (goal_kind_of z) (source_of g.0) → z ≢ kinds.NormalizesTo → IsRefusedUnder h mode b u g.1 ⊎ IsCut mode w → RefusesOneOf h mode a t gs
+  refuse_more table {z} {w} same n (inr x) =
+      cuts_one here (premise_at a g) before (among_image (premise_at a) gs g i) (inductive_source z g.0 n (sym same ∙ ap path_kind_of x.0)) x.1
+  refuse_more table same n (inl x) =
+      refuses_one here (premise_at a g) before (among_image (premise_at a) gs g i) (can_ask table) (subst (λ (q : Premise). Refused h (mode_of mode) here (deeply_resolved here q.environment) (deeply_resolved here q.predicate)) same_premise x)
+
+-- a step over the goals that are left, after the steps before
+reaches_into : {h : Handler} {mode : Mode} (gs hs : List Premise) {c d e : Content} → ((p : Premise) → Among gs p → Among hs p) → Reaches h mode hs c d → Reaches h mode gs d e → Reaches h mode hs c e
+reaches_into gs hs f h asks_nothing = h
+reaches_into gs hs f h (then_asks x p r i k q) = then_asks x p (reaches_into gs hs f h r) (f p i) k q
+
+refuses_into : {h : Handler} {mode : Mode} (gs hs : List Premise) {c d : Content} → ((p : Premise) → Among gs p → Among hs p) → Reaches h mode hs c d → RefusesOne h mode gs d → RefusesOne h mode hs c
+refuses_into gs hs f h (refuses_one x p r i k q) = refuses_one x p (reaches_into gs hs f h r) (f p i) k q
+refuses_into gs hs f h (cuts_one x p r i q z) = cuts_one x p (reaches_into gs hs f h r) (f p i) q z
+
+module _ {a b : List Tree} {t : Table} (u : Table) (h : Handler) (mode : TypingMode) (gs left : List (GoalSource × Goal)) (posed : ArePosed a t gs) (some : AreLeft gs left) (e : Extends a b) (before : ReachesBy h mode a t b u gs) where
+  goals_left : (p : Premise) → Among (goals_at b left) p → Among (goals_at a gs) p
+  goals_left p j =
+      let r = among_mapped (premise_at b) left p j in
+      let i = some r.0 r.1 in
+      let q = all_among (λ g. IsPosed a t g.1) gs r.0 posed i in
+      subst (Among (goals_at a gs)) (sym (r.2 ∙ premise_same r.0 e q.holds)) (among_image (premise_at a) gs r.0 i)
+
+  pub reach_step : (d : List Tree) (v : Table) → ReachesBy h mode b u d v left → ReachesBy h mode a t d v gs
+  reach_step d v x = reaches_into (goals_at b left) (goals_at a gs) goals_left before x
+
+  pub refuse_step : RefusesOneOf h mode b u left → RefusesOneOf h mode a t gs
+  refuse_step x = refuses_into (goals_at b left) (goals_at a gs) goals_left before x
+
+pub left_trans : (gs left more : List (GoalSource × Goal)) → AreLeft gs left → AreLeft left more → AreLeft gs more
+left_trans gs left more h k = λ g i. h g (k g i)
+
+settled_trans : (P Q : GoalSource × Goal → Type 0) (gs left more : List (GoalSource × Goal)) → ((g : GoalSource × Goal) → Among gs g → P g → Q g) → AreSettled P gs left → AreSettled Q left more → AreSettled Q gs more
+settled_trans P Q gs left more f h k = λ g i. ⊎_elim (λ j. k g j) (λ p. inr (f g i p)) (h g i)
+
+-- the answer to one goal more is noted
+left_grows : (left : List (GoalSource × Goal)) (y : GoalSource × Goal) (x : Certainty) (g : GoalSource × Goal) → Among left g → Among (left_after left y x) g
+left_grows left y certainty.Yes g i = i
+left_grows left y (certainty.Maybe m) g i = among_left left (y ∷ []) g i
+
+left_noted : (left : List (GoalSource × Goal)) (y : GoalSource × Goal) (x : Certainty) → Among (left_after left y x) y ⊎ (x ≡ certainty.Yes)
+left_noted left y certainty.Yes = inr refl
+left_noted left y (certainty.Maybe m) = inl (among_right left (y ∷ []) y (inl refl))
+
+pub left_more : (gs left : List (GoalSource × Goal)) (y : GoalSource × Goal) (x : Certainty) → Among gs y → AreLeft gs left → AreLeft gs (left_after left y x)
+left_more gs left y certainty.Yes i h = h
+left_more gs left y (certainty.Maybe m) i h = λ g j. ⊎_elim (λ k. h g k) (λ k. ⊎_elim (λ e. subst (Among gs) (sym e) i) (λ z. absurd z) k) (among_both left (y ∷ []) g j)
+
+among_taken : {X : Type 0} (xs : List X) (i : ℕ) (x : X) → Among (take i xs) x → Among xs x
+among_taken [] zero x h = absurd h
+among_taken [] (suc i) x h = absurd h
+among_taken (y ∷ xs) zero x h = absurd h
+among_taken (y ∷ xs) (suc i) x (inl e) = inl e
+among_taken (y ∷ xs) (suc i) x (inr h) = inr (among_taken xs i x h)
+
+settled_more : (P Q : GoalSource × Goal → Type 0) (gs left : List (GoalSource × Goal)) (i : ℕ) (d : GoalSource × Goal) (x : Certainty) → i < length gs → ((g : GoalSource × Goal) → Among gs g → P g → Q g) → (x ≡ certainty.Yes → Q (get_or gs i d)) → AreSettled P (take i gs) left → AreSettled Q (take (i + 1) gs) (left_after left (get_or gs i d) x)
+settled_more P Q gs left i d x l f new h =
+    let y = get_or gs i d in
+    let next : i + 1 ≡ suc i = omega arith in
+    λ g j.
+    ⊎_elim
+    (λ k. ⊎_elim (λ m. inl (left_grows left y x g m)) (λ p. inr (f g (among_taken gs i g k) p)) (h g k))
+    (λ e. ⊎_elim (λ m. inl (subst (Among (left_after left y x)) (sym e) m)) (λ s. inr (subst Q (sym e) (new s))) (left_noted left y x))
+    (take_next gs i d g l (subst (λ n. Among (take n gs) g) next j))
+
+-- what is proved of a goal stays proved, from more
+proved_later : {ready : List Tree → Type 0} {a b e : List Tree} {u v : Table} {w : Cx} (A B : List Assumed) (handler : List Tree → Handler) (s : Since ready w) (mode : TypingMode) (z : GoalKind) (g : GoalSource × Goal) → HoldsGoal b g.1 → Goes b e u v → Covers A B → IsNestedSince handler s mode z A b u g → IsNestedSince handler s mode z B e v g
+proved_later A B handler s mode z g h k f p =
+    rw (k.extends.kept g.1.param_env.node h.env.within, k.extends.kept g.1.predicate.node h.predicate.within) (stays_more (covers_passed (step_kind z (source_of g.0)) A B f) (Stays-later k p))
+
+holds_later : {a b : List Tree} {t : Table} (gs : List (GoalSource × Goal)) (g : GoalSource × Goal) → ArePosed a t gs → Extends a b → Among gs g → HoldsGoal b g.1
+holds_later {a} {b} {t} gs g h e i = (let p = all_among (λ x. IsPosed a t x.1) gs g h i in HoldsGoal-extended e p.holds)
+
+pub settled_proved : {ready : List Tree → Type 0} {a b e : List Tree} {t u v : Table} {w : Cx} (A B : List Assumed) (handler : List Tree → Handler) (s : Since ready w) (mode : TypingMode) (z : GoalKind) (gs left : List (GoalSource × Goal)) (i : ℕ) (d : GoalSource × Goal) (x : Certainty) → i < length gs → ArePosed a t gs → Extends a b → Goes b e u v → Covers A B
+    → (x ≡ certainty.Yes → IsNestedSince handler s mode z B e v (get_or gs i d)) → AreSettled (IsNestedSince handler s mode z A b u) (take i gs) left → AreSettled (IsNestedSince handler s mode z B e v) (take (i + 1) gs) (left_after left (get_or gs i d) x)
+settled_proved {ready} {a} {b} {e} {t} {u} {v} A B handler s mode z gs left i d x l h k goes f new old =
+    settled_more (IsNestedSince handler s mode z A b u) (IsNestedSince handler s mode z B e v) gs left i d x l (λ g j p. proved_later A B handler s mode z g (holds_later gs g h k j) goes f p) new old
+
+pub settled_step : {ready : List Tree → Type 0} {a b e : List Tree} {t u v : Table} {w : Cx} (A B : List Assumed) (handler : List Tree → Handler) (s : Since ready w) (mode : TypingMode) (z : GoalKind) (gs left more : List (GoalSource × Goal)) → ArePosed a t gs → Extends a b → Goes b e u v → Covers A B
+    → AreSettled (IsNestedSince handler s mode z A b u) gs left → AreSettled (IsNestedSince handler s mode z B e v) left more → AreSettled (IsNestedSince handler s mode z B e v) gs more
+settled_step {ready} {a} {b} {e} {t} {u} {v} A B handler s mode z gs left more h k goes f old new =
+    settled_trans (IsNestedSince handler s mode z A b u) (IsNestedSince handler s mode z B e v) gs left more (λ g i p. proved_later A B handler s mode z g (holds_later gs g h k i) goes f p) old new
+
+pub sure_more : (old x : Certainty) (left : List (GoalSource × Goal)) (y : GoalSource × Goal) → (old ≡ certainty.Yes → left ≡ []) → both old x ≡ certainty.Yes → left_after left y x ≡ []
+sure_more old x left y h e = (let z = both_sure old x e in subst (λ c. left_after left y c ≡ []) (sym z.1) (h z.0))
+
+-- .. where nothing is assumed
+pub settled_rooted : {ready : List Tree → Type 0} {w : Cx} (b : List Tree) (u : Table) (A : List Assumed) (handler : List Tree → Handler) (s : Since ready w) (mode : TypingMode) (z : GoalKind) (gs left : List (GoalSource × Goal)) → A ≡ [] → AreSettled (IsNestedSince handler s mode z A b u) gs left → AreSettled (λ g. IsProvedSince handler s mode b u g.1) gs left
+settled_rooted b u A handler s mode z gs left none h = λ g i. ⊎_elim
+    (λ j. inl j)
+    (λ p. inr (subst (λ B. IsProvedFromSince handler s mode B b u g.1) (ap (passed (step_kind z (source_of g.0))) none ∙ none_passed (step_kind z (source_of g.0))) p))
+    (h g i)
+
+pub settled_after : {ready : List Tree → Type 0} {a b e : List Tree} {t u v : Table} {w : Cx} (handler : List Tree → Handler) (s : Since ready w) (mode : TypingMode) (gs left : List (GoalSource × Goal)) → ArePosed a t gs → Extends a b → Goes b e u v
+    → AreSettled (λ g. IsProvedSince handler s mode b u g.1) gs left → AreSettled (λ g. IsProvedSince handler s mode e v g.1) gs left
+settled_after {ready} {a} {b} {e} {t} {u} {v} handler s mode gs left h k goes old = λ g i. ⊎_elim
+    (λ j. inl j)
+    (λ p. inr (let held = holds_later gs g h k i in rw (goes.extends.kept g.1.param_env.node held.env.within, goes.extends.kept g.1.predicate.node held.predicate.within) (Stays-later goes p)))
+    (old g i)

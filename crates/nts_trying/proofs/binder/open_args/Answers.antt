@@ -1,0 +1,24 @@
+use Rattle.std.proofs.Common.{rules, ◌≡◌, ◌+◌, [], ◌∷◌, Some}
+use Rattle.nts_store.specs.Growth.{tree_at}
+use Rattle.nts_table.specs.TableLaws.{IsTable-extended}
+use Rattle.nts_trying.proofs.Entering.{HaveEntered, have_entered}
+use Rattle.nts_trying.proofs.binder.open_args.Goals as goal
+
+entered : (c : goal.After-drop-universes-2) → HaveEntered c.args.cx.now.nodes c.replace_bound_vars.new.cx.nodes c.args.table.now c.replace_bound_vars.new.table (tree_at c.args.cx.now.nodes c.args.args.node) (tree_at c.replace_bound_vars.new.cx.nodes c.in_ok-opened.opened.node)
+entered c =
+    let k = c.in_ok-universe.ensures in
+    let r = c.in_ok-opened.ensures in
+    let list : c.push.new.self.items ≡ Some (c.args.table.now.entries.universe + 1) ∷ [] = first_of (cc, search rules) in
+    have_entered (c.terms_are_formed.ensures c.args.args.node c.requires.holds.within) c.requires.table c.requires.levels c.requires.knows k.entries (k.table _ c.requires.table) k.changes list r.universes r.changes r.grows.extends (IsTable-extended r.grows.extends (r.table _ (k.table _ c.requires.table))) r.tree r.knows
+
+pub returns-clause-goes : goal.returns-clause-goes
+returns-clause-goes c = (entered c).goes
+
+pub returns-clause-entries : goal.returns-clause-entries
+returns-clause-entries c = (entered c).entries
+
+pub returns-clause-tree : goal.returns-clause-tree
+returns-clause-tree c = (entered c).tree
+
+pub returns-clause-knows : goal.returns-clause-knows
+returns-clause-knows c = (entered c).knows

@@ -1,0 +1,49 @@
+-- What was found in a table that is gone.
+use Rattle.std.specs.Global.{Box}
+use Rattle.std.specs.Prelude.{◌≡◌, ◌⊎◌, List, [], ◌∷◌, ◌++◌, map, Some, None, Result, Ok, Err}
+use Rattle.nts_model.specs.Terms.Trees.{Tree}
+use Rattle.nts_model.specs.Tables.Passing.{BringsOnly}
+use Rattle.nts_certainty.specs.declared.certainty.Certainty.TheVariants as certainty
+use Rattle.nts_store.specs.Formed.{AreFormed}
+use Rattle.nts_store.specs.Growth.{Extends}
+use Rattle.nts_store.specs.declared.fault.EvalError.{EvalError}
+use Rattle.nts_terms.specs.declared.handles.GenericArg.{GenericArg}
+use Rattle.nts_terms.specs.declared.handles.Goal.{Goal}
+use Rattle.nts_unify.specs.Reading.{content_of}
+use Rattle.nts_table.specs.Tables.{Table}
+use Rattle.nts_canonical.specs.declared.types.Canonical.{Canonical}
+use Rattle.nts_canonical.specs.Forms.{trees_of}
+use Rattle.nts_response.specs.declared.types.Response.{Response}
+use Rattle.nts_response.specs.Forms.{response_at, HoldsResponse}
+use Rattle.nts_merging.specs.declared.merging.MergeCandidateInfo.{MergeCandidateInfo}
+use Rattle.nts_merging.specs.Merging.{Merges, doubt_of}
+use Rattle.nts_asking.specs.Evaluation.{Goes, asked_terms}
+use Rattle.nts_asking.specs.Asking.{IsResponseOf}
+use Rattle.nts_asking.specs.Telling.{IsPlainResponse}
+use Rattle.nts_asking.specs.Answering.{told_in, TellsNoMore}
+
+-- a response of the store b says what a table found out of these terms: the table went on from the table t of the store a, for
+-- the goal, and is gone. Where the response is certain, P holds of that table and its store
+pub record Found (P : List Tree → Table → Type 0) (a b : List Tree) (t : Table) (g : Goal) (qs : List GenericArg) (r : Canonical Response) : Type 0 where
+  pub store : List Tree
+  pub after : Table
+  pub formed : AreFormed store
+  pub goes : Goes a store t after
+  pub labels : BringsOnly (asked_terms a g) (content_of a t.entries) (content_of store after.entries)
+  pub extends : Extends store b
+  pub says : IsResponseOf (told_in r.value.certainty (content_of store after.entries)) (trees_of a qs) (response_at b r)
+  pub holds : HoldsResponse b r.value
+  pub no_more : TellsNoMore r
+  pub sure : r.value.certainty ≡ certainty.Yes → P store after
+
+-- the response is the one that stands for those of the candidates; or, where none does, it is in doubt as they are, and says
+-- what the table t knew
+abbrev pub IsMerged : List Tree → List Tree → Table → List GenericArg → List (Canonical Response) → Canonical Response → Type 0
+IsMerged a b t qs rs r =
+    ((m : MergeCandidateInfo) × Merges a rs (Some (r, m)))
+    ⊎ (Merges a rs None × (r.value.certainty ≡ doubt_of (map (λ c. c.value.certainty) rs)) × IsPlainResponse (content_of a t.entries) (trees_of a qs) (response_at b r) × HoldsResponse b r.value × TellsNoMore r)
+
+-- a response is kept, and that a candidate has no solution is not
+abbrev pub kept_after : List (Canonical Response) → Result (Box (Canonical Response)) EvalError → List (Canonical Response)
+kept_after rs (Ok b) = rs ++ b.value ∷ []
+kept_after rs (Err e) = rs

@@ -1,0 +1,6 @@
+pub mod Choices
+pub mod Instances
+pub mod Opening
+pub mod Found
+pub mod Stepping
+pub mod Adding

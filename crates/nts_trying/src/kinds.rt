@@ -1,0 +1,84 @@
+//! Which goals the handler's candidates answer.
+ghost use Rattle.std.specs.Prelude.{ℕ, ◌≡◌, true, List};
+ghost use Rattle.nts_model.specs.declared.labels.Variance.{Variance};
+ghost use Rattle.nts_model.specs.Terms.Trees.{Tree};
+ghost use Rattle.nts_model.specs.Derivations.Rules.{goal_kind};
+ghost use Rattle.nts_model.specs.Derivations.Handlers.{meaning};
+ghost use Rattle.nts_search.specs.Kinds.{goal_kind_of};
+ghost use Rattle.nts_model.specs.Derivations.Sequents.{HasClosedStatements};
+ghost use Rattle.nts_store.specs.Growth.{tree_at};
+ghost use Rattle.nts_asking.specs.Evaluation.{IsAskedGoal};
+ghost use Rattle.nts_terms.specs.Handles.{HoldsEnv, HoldsGoal};
+
+use nts_delegate::GoalHandler;
+use nts_search::CurrentGoalKind;
+use nts_terms::{ClauseKind, Cx, Goal, ParamEnv, PredicateKind};
+
+/// Whether a goal is answered by the handler's candidates: a closed trait goal that binds nothing, and
+/// that has neither aliases nor positions of a canonical value, and each bound variable of which is of the
+/// list of its binder. In its environment, too, no bound variable names a binder that binds nothing.
+#[inline(never)]
+pub fn is_candidates_goal(cx: &Cx, goal: Goal) -> bool
+    requires { HoldsGoal cx.now.nodes goal }
+    ensures { result ≡ true → IsAskedGoal cx.now.nodes goal }
+{
+    let env = cx.nodes.flags(goal.param_env.node);
+    let flags = cx.nodes.flags(goal.predicate.node);
+    if env.has_canonical || flags.has_canonical || flags.has_alias || env.has_alias {
+        return false;
+    }
+    if !cx.nodes.is_well_bound(goal.param_env.node) {
+        return false;
+    }
+    if !cx.nodes.is_well_bound(goal.predicate.node) {
+        return false;
+    }
+    let predicate = goal.predicate.kind(cx);
+    if env.escaping.is_some() || predicate.vars.len(cx) != 0 {
+        return false;
+    }
+    if !statements_are_closed(cx, goal.param_env) {
+        return false;
+    }
+    let PredicateKind::Clause(clause) = predicate.value else {
+        return false;
+    };
+    let ClauseKind::Trait(trait_ref) = clause else {
+        return false;
+    };
+    cx.terms_are_formed();
+    let args = cx.nodes.flags(trait_ref.args.node);
+    args.escaping.is_none()
+}
+
+/// Whether no bound variable names a binder of the environment that binds nothing.
+#[inline(never)]
+fn statements_are_closed(cx: &Cx, env: ParamEnv) -> bool
+    requires { HoldsEnv cx.now.nodes env }
+    ensures { result ≡ true → HasClosedStatements (tree_at cx.now.nodes env.node) }
+{
+    for i in 0..env.len(cx) {
+        if !env.get(cx, i).has_closed_statement(cx) {
+            return false;
+        }
+    }
+    true
+}
+
+/// What kind of goal it is, for the steps from it.
+#[inline(never)]
+pub fn goal_kind<H: GoalHandler>(cx: &Cx, handler: &H, goal: Goal) -> CurrentGoalKind
+    requires { HoldsGoal cx.now.nodes goal }
+    ensures kind { (ts : List Tree) (v : ℕ → List Variance) → goal_kind_of result ≡ goal_kind (meaning (H.handler ts handler.now) v) (tree_at cx.now.nodes goal.predicate.node) }
+{
+    match goal.predicate.kind(cx).value {
+        PredicateKind::Clause(ClauseKind::Trait(trait_ref)) => {
+            if handler.trait_is_coinductive(trait_ref.def_id) {
+                return CurrentGoalKind::CoinductiveTrait;
+            }
+            CurrentGoalKind::Misc
+        }
+        PredicateKind::NormalizesTo { .. } => CurrentGoalKind::NormalizesTo,
+        _ => CurrentGoalKind::Misc,
+    }
+}

@@ -1,0 +1,17 @@
+//! Trying: whether a goal has candidates, how its binder is opened, which candidates can be met, what a candidate equates, records and
+//! adds, the steps in which goals are asked, and the one response for those of several candidates.
+#![tactic(auto)]
+
+mod binder;
+mod candidate;
+mod filter;
+mod kinds;
+mod merged;
+mod steps;
+
+pub use binder::enter_forall;
+pub use candidate::{Trial, equate, record_constraints};
+pub use filter::keep_met;
+pub use kinds::{goal_kind, is_candidates_goal};
+pub use merged::{keep_response, merge_responses};
+pub use steps::{AvailableDepth, Step, depth_below};
