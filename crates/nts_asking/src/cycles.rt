@@ -49,7 +49,8 @@ fn identity_answer(
     input: &CanonicalInput,
     certainty: Certainty,
 ) -> Result<CanonicalResponse, Fault>
-    ensures response { IfOk result (λ r. response_at cx.new.nodes r ≡ record (unconstrained (kinds_of input.now)) { max_universe = input.now.canonical.max_universe }) }
+    ensures response { IfOk result (λ r. response_at cx.new.nodes r ≡ record (unconstrained
+        (kinds_of input.now)) { max_universe = input.now.canonical.max_universe }) }
     ensures holds { IfOk result (λ r. HoldsResponse cx.new.nodes r.value) }
     ensures certainty { IfOk result (λ r. r.value.certainty ≡ certainty) }
     ensures grows { Grows cx.old cx.new }
@@ -90,14 +91,19 @@ pub fn answer_cycle(
 ) -> Result<Box<CanonicalResponse>, EvalError>
     requires input { IsQueryInput cx.old.nodes input.now }
     requires head { head < length graph.old.stack.items }
-    requires same { (d : StackEntry) → AreOneInput cx.old.nodes (get_or graph.old.stack.items head d).input input.now }
+    requires same { (d : StackEntry) →
+        AreOneInput cx.old.nodes (get_or graph.old.stack.items head d).input input.now }
     requires search { (n : ℕ) × IsSearch cx.old graph.old n }
     ensures grows { Grows cx.old cx.new }
     ensures searches { Searches cx.old cx.new graph.old graph.new }
     ensures fits { IfAnswered result (IsAnswerTo cx.new.nodes (kinds_of input.now)) }
-    ensures usable { IfCertain result (λ r. IsUsable (passed (path_kind_of step) (assumed_in cx.new.nodes graph.new)) (answer_sequent (form_of cx.old.nodes input.now) (response_at cx.new.nodes r))) }
-    ensures some { IfAnswered result (λ r. IsReadAt graph.old.stack.items head r ⊎ SaysNothing (response_at cx.new.nodes r)) }
-    ensures none { result ≡ Err EvalError.NoSolution → HasNoneAt graph.old.stack.items head ⊎ IsCut input.now.typing_mode step }
+    ensures usable { IfCertain result (λ r. IsUsable (passed (path_kind_of step)
+        (assumed_in cx.new.nodes graph.new)) (answer_sequent (form_of cx.old.nodes input.now)
+        (response_at cx.new.nodes r))) }
+    ensures some { IfAnswered result (λ r. IsReadAt graph.old.stack.items head r ⊎
+        SaysNothing (response_at cx.new.nodes r)) }
+    ensures none { result ≡ Err EvalError.NoSolution → HasNoneAt graph.old.stack.items head ⊎
+        IsCut input.now.typing_mode step }
 {
     let kind = graph.path_kind(head, step);
     if kind == PathKind::Coinductive {

@@ -38,7 +38,8 @@ pub fn boxed_query(
     goal: Goal,
 ) -> Result<(Vec<GenericArg>, Box<CanonicalInput>), Fault>
     requires posed { IsPosed cx.old.nodes table.now goal }
-    ensures query { IfOk result (λ r. IsQueryOf cx.old.nodes cx.new.nodes table.now goal (r.0, r.1.value)) }
+    ensures query { IfOk result (λ r. IsQueryOf cx.old.nodes cx.new.nodes table.now goal
+        (r.0, r.1.value)) }
     ensures grows { Grows cx.old cx.new }
     ensures memory { IsOkUnless result Fault.Memory }
 {
@@ -54,7 +55,8 @@ pub fn query_table(
     input: &CanonicalInput,
 ) -> Result<(Box<InferCtxt>, Goal, Vec<GenericArg>), Fault>
     requires { IsQueryInput cx.old.nodes input.now }
-    ensures begins { IfOk result (λ r. BeginsQuery cx.old.nodes cx.new.nodes input.now r.0.value r.1 r.2.items) }
+    ensures begins { IfOk result (λ r. BeginsQuery cx.old.nodes cx.new.nodes input.now r.0.value r.1
+        r.2.items) }
     ensures grows { Grows cx.old cx.new }
     ensures memory { IsOkUnless result Fault.Memory }
 {

@@ -55,12 +55,19 @@ pub fn apply_answer(
     requires no_more { TellsNoMore answer.now }
     ensures runs { Runs cx.old cx.new table.old table.new }
     ensures err { OnErr result (table.new ≡ table.old) }
-    ensures applied { OnOk result (IsResponseApplied cx.old.nodes cx.new.nodes table.old.entries table.new.entries (trees_of cx.old.nodes originals.now) (response_at cx.old.nodes answer.now) false []) }
-    ensures labels { OnOk result (BringsOnly (trees_of cx.old.nodes originals.now) (content_of cx.old.nodes table.old.entries) (content_of cx.new.nodes table.new.entries)) }
+    ensures applied { OnOk result (IsResponseApplied cx.old.nodes cx.new.nodes table.old.entries
+        table.new.entries (trees_of cx.old.nodes originals.now)
+        (response_at cx.old.nodes answer.now) false []) }
+    ensures labels { OnOk result (BringsOnly (trees_of cx.old.nodes originals.now)
+        (content_of cx.old.nodes table.old.entries) (content_of cx.new.nodes table.new.entries)) }
     ensures certainty { IfOk result (λ e. e.certainty ≡ answer.now.value.certainty) }
-    ensures changed { IfOk result (λ e. (e.has_changed ≡ changes.No) ↔ IsIdentity 0 (trees_of cx.old.nodes answer.now.value.var_values.items)) }
-    ensures no { result ≡ Err EvalError.NoSolution → RefusesResponse (content_of cx.old.nodes table.old.entries) (trees_of cx.old.nodes originals.now) (response_at cx.old.nodes answer.now) }
-    ensures full { result ≡ Err EvalError.Full → u32.MAX < table.old.entries.universe + answer.now.max_universe }
+    ensures changed { IfOk result (λ e. (e.has_changed ≡ changes.No) ↔ IsIdentity 0
+        (trees_of cx.old.nodes answer.now.value.var_values.items)) }
+    ensures no { result ≡ Err EvalError.NoSolution →
+        RefusesResponse (content_of cx.old.nodes table.old.entries)
+        (trees_of cx.old.nodes originals.now) (response_at cx.old.nodes answer.now) }
+    ensures full { result ≡ Err EvalError.Full →
+        u32.MAX < table.old.entries.universe + answer.now.max_universe }
 {
     let has_changed = if has_only_region_constraints(cx, answer) {
         HasChanged::No
@@ -93,10 +100,13 @@ pub fn make_response(
 ) -> Result<CanonicalResponse, Fault>
     requires table { IsTable cx.old.nodes table.now }
     requires values { All (IsArgOf cx.old.nodes table.now.entries) values.now }
-    ensures says { IfOk result (λ r. IsResponseOf (told_in certainty (content_of cx.old.nodes table.now.entries)) (trees_of cx.old.nodes values.now) (response_at cx.new.nodes r)) }
+    ensures says { IfOk result (λ r. IsResponseOf (told_in certainty
+        (content_of cx.old.nodes table.now.entries)) (trees_of cx.old.nodes values.now)
+        (response_at cx.new.nodes r)) }
     ensures certainty { IfOk result (λ r. r.value.certainty ≡ certainty) }
     ensures holds { IfOk result (λ r. HoldsResponse cx.new.nodes r.value) }
-    ensures nothing { IfOk result (λ r. (r.value.external_constraints.opaque_types.items ≡ []) × (r.value.external_constraints.normalization_nested_goals.items ≡ [])) }
+    ensures nothing { IfOk result (λ r. (r.value.external_constraints.opaque_types.items ≡ []) ×
+        (r.value.external_constraints.normalization_nested_goals.items ≡ [])) }
     ensures grows { Grows cx.old cx.new }
     ensures memory { IsOkUnless result Fault.Memory }
 {
@@ -127,10 +137,14 @@ pub fn boxed_response(
 ) -> Result<Box<CanonicalResponse>, Fault>
     requires table { IsTable cx.old.nodes table.now }
     requires values { All (IsArgOf cx.old.nodes table.now.entries) values.now }
-    ensures says { IfAnswered result (λ r. IsResponseOf (told_in certainty (content_of cx.old.nodes table.now.entries)) (trees_of cx.old.nodes values.now) (response_at cx.new.nodes r)) }
+    ensures says { IfAnswered result (λ r. IsResponseOf (told_in certainty
+        (content_of cx.old.nodes table.now.entries)) (trees_of cx.old.nodes values.now)
+        (response_at cx.new.nodes r)) }
     ensures certainty { IfAnswered result (λ r. r.value.certainty ≡ certainty) }
     ensures holds { IfAnswered result (λ r. HoldsResponse cx.new.nodes r.value) }
-    ensures nothing { IfAnswered result (λ r. (r.value.external_constraints.opaque_types.items ≡ []) × (r.value.external_constraints.normalization_nested_goals.items ≡ [])) }
+    ensures nothing { IfAnswered result (λ r.
+        (r.value.external_constraints.opaque_types.items ≡ []) ×
+        (r.value.external_constraints.normalization_nested_goals.items ≡ [])) }
     ensures grows { Grows cx.old cx.new }
     ensures memory { IsOkUnless result Fault.Memory }
 {
@@ -147,7 +161,8 @@ fn resolved_values(
 ) -> Result<Vec<GenericArg>, Fault>
     requires table { IsTable cx.old.nodes table.now }
     requires values { All (IsArgOf cx.old.nodes table.now.entries) values.now }
-    ensures trees { IfOk result (λ v. trees_of cx.new.nodes v.items ≡ map (deeply_resolved (content_of cx.old.nodes table.now.entries)) (trees_of cx.old.nodes values.now)) }
+    ensures trees { IfOk result (λ v. trees_of cx.new.nodes v.items ≡ map (deeply_resolved
+        (content_of cx.old.nodes table.now.entries)) (trees_of cx.old.nodes values.now)) }
     ensures args { IfOk result (λ v. All (IsArgOf cx.new.nodes table.now.entries) v.items) }
     ensures grows { Grows cx.old cx.new }
     ensures memory { IsOkUnless result Fault.Memory }
@@ -167,9 +182,11 @@ fn told_constraints(
     certainty: Certainty,
 ) -> Result<Vec<(RegionConstraint, VisibleForLeakCheck)>, Fault>
     requires table { IsTable cx.old.nodes table.now }
-    ensures told { IfOk result (λ v. AreTold (told_in certainty (content_of cx.old.nodes table.now.entries)) (map (recorded_at cx.new.nodes) v.items)) }
+    ensures told { IfOk result (λ v. AreTold (told_in certainty
+        (content_of cx.old.nodes table.now.entries)) (map (recorded_at cx.new.nodes) v.items)) }
     ensures holds { IfOk result (λ v. All (StoreHoldsConstraint cx.new.nodes) v.items) }
-    ensures known { IfOk result (λ v. KnowsSides (content_of cx.new.nodes table.now.entries) (map (recorded_at cx.new.nodes) v.items)) }
+    ensures known { IfOk result (λ v. KnowsSides (content_of cx.new.nodes table.now.entries)
+        (map (recorded_at cx.new.nodes) v.items)) }
     ensures grows { Grows cx.old cx.new }
     ensures memory { IsOkUnless result Fault.Memory }
 {

@@ -60,10 +60,21 @@ pub fn push_query(
     step: PathKind,
 ) -> Result<(), AllocError>
     requires room { length graph.old.stack.items ≤ graph.old.root_depth }
-    ensures pushed { OnOk result ((e : Option ℕ) × (graph.new.stack.items ≡ graph.old.stack.items ++ record { input = asked.value.input; step_kind = step; provisional = asked.value.provisional; is_read = false; earlier = e } ∷ [])) }
-    ensures kept { OnOk result ((ts : List Tree) → IsStack ts graph.old → HoldsQuery ts asked.value.input.canonical.value → HoldsAnswer ts asked.value.provisional → IsStack ts graph.new) }
+    ensures pushed { OnOk result ((e : Option ℕ) ×
+        (graph.new.stack.items ≡ graph.old.stack.items ++ record {
+          input = asked.value.input;
+          step_kind = step;
+          provisional = asked.value.provisional;
+          is_read = false;
+          earlier =
+              e;
+        } ∷ [])) }
+    ensures kept { OnOk result ((ts : List Tree) → IsStack ts graph.old →
+        HoldsQuery ts asked.value.input.canonical.value → HoldsAnswer ts asked.value.provisional →
+        IsStack ts graph.new) }
     ensures err { OnErr result (graph.new.stack.items ≡ graph.old.stack.items) }
-    ensures err_kept { OnErr result ((ts : List Tree) → IsStack ts graph.old → IsStack ts graph.new) }
+    ensures err_kept { OnErr result ((ts : List Tree) → IsStack ts graph.old →
+        IsStack ts graph.new) }
     ensures rest { KeepsRestOfGraph graph.old graph.new }
 {
     let Round { input, provisional } = Box::into_inner(asked);
@@ -79,7 +90,8 @@ pub fn end_round(
     response: Result<Box<CanonicalResponse>, EvalError>,
 ) -> Result<Box<Ended>, EvalError>
     requires { 0 < length graph.old.stack.items }
-    ensures off { (x : StackEntry) × IsTakenOff graph.old graph.new x × IfOk result (λ z. z.value.entry ≡ x) }
+    ensures off { (x : StackEntry) × IsTakenOff graph.old graph.new x ×
+        IfOk result (λ z. z.value.entry ≡ x) }
     ensures answer { IfOk result (λ z. EndsWith response z.value.answer) }
     ensures no { result ≢ Err EvalError.NoSolution }
 {
@@ -106,7 +118,11 @@ pub fn last_answer(alloc: Global, ended: Box<Ended>) -> Result<Box<CanonicalResp
 /// A query before the next round: a cycle back to it is answered what this one found.
 #[inline(never)]
 pub fn next_round(alloc: Global, ended: Box<Ended>) -> Result<Box<Round>, AllocError>
-    ensures { IfOk result (λ a. a.value ≡ record { input = ended.value.entry.input; provisional = ended.value.answer }) }
+    ensures { IfOk result (λ a. a.value ≡ record {
+      input = ended.value.entry.input;
+      provisional =
+          ended.value.answer;
+    }) }
 {
     let Ended { answer, entry } = Box::into_inner(ended);
     let StackEntry { input, .. } = entry;

@@ -37,16 +37,22 @@ pub fn build_with_canonical(
 ) -> Result<(InferCtxt, QueryInput, Vec<GenericArg>), Fault>
     requires { IsInputOf cx.old.nodes input.now }
     ensures values { IfOk result (λ r. trees_of cx.new.nodes r.2.items ≡ values_of input.now) }
-    ensures query { IfOk result (λ r. query_tree cx.new.nodes r.1 ≡ filled (values_of input.now) (query_tree cx.old.nodes input.now.canonical.value)) }
-    ensures entries { IfOk result (λ r. r.0.entries ≡ made_entries (kinds_of input.now) r.0.entries.hidden.lookup) }
-    ensures kinds { IfOk result (λ r. HaveKinds (form_of cx.old.nodes input.now) (value_leaves 0 (kinds_of input.now)) (sub_root_in r.0.entries)) }
-    ensures hidden { IfOk result (λ r. (ds : List HiddenType) × RegistersAll cx.new.nodes (content_of cx.new.nodes r.0.entries) [] r.1.predefined_opaques_in_body.items r.0.entries.hidden.lookup ds) }
+    ensures query { IfOk result (λ r. query_tree cx.new.nodes r.1 ≡ filled (values_of input.now)
+        (query_tree cx.old.nodes input.now.canonical.value)) }
+    ensures entries { IfOk result (λ r. r.0.entries ≡ made_entries
+        (kinds_of input.now) r.0.entries.hidden.lookup) }
+    ensures kinds { IfOk result (λ r. HaveKinds (form_of cx.old.nodes input.now) (value_leaves 0
+        (kinds_of input.now)) (sub_root_in r.0.entries)) }
+    ensures hidden { IfOk result (λ r. (ds : List HiddenType) ×
+        RegistersAll cx.new.nodes (content_of cx.new.nodes r.0.entries) []
+        r.1.predefined_opaques_in_body.items r.0.entries.hidden.lookup ds) }
     ensures mode { IfOk result (λ r. mode_of r.0.mode ≡ mode_of input.now.typing_mode) }
     ensures saved { IfOk result (λ r. r.0.saved ≡ []) }
     ensures table { IfOk result (λ r. IsTable cx.new.nodes r.0) }
     ensures args { IfOk result (λ r. All (IsArgOf cx.new.nodes r.0.entries) r.2.items) }
     ensures holds { IfOk result (λ r. HoldsQuery cx.new.nodes r.1) }
-    ensures knows { IfOk result (λ r. Knows (content_of cx.new.nodes r.0.entries) (query_tree cx.new.nodes r.1)) }
+    ensures knows { IfOk result (λ r. Knows (content_of cx.new.nodes r.0.entries)
+        (query_tree cx.new.nodes r.1)) }
     ensures grows { Grows cx.old cx.new }
     ensures memory { IsOkUnless result Fault.Memory }
 {
@@ -73,8 +79,12 @@ pub fn instantiate_canonical_var<F: Fn(UniverseIndex) -> UniverseIndex>(
     requires table { IsTable cx.old.nodes table.old }
     requires values { All (IsArgOf cx.old.nodes table.old.entries) var_values.now }
     requires callable { F.IsAlwaysCallable universe_map }
-    requires named { (u : ℕ) → F.post universe_map (universe_of_kind (kind_of_var kind)) u → u ≤ table.old.entries.universe }
-    ensures value { IfOk result (λ r. (u : ℕ) × F.post universe_map (universe_of_kind (kind_of_var kind)) u × IsPositionValue (kind_of_var kind) u (trees_of cx.old.nodes var_values.now) table.old.entries table.new.entries (tree_at cx.new.nodes r.node)) }
+    requires named { (u : ℕ) → F.post universe_map (universe_of_kind (kind_of_var kind)) u →
+        u ≤ table.old.entries.universe }
+    ensures value { IfOk result (λ r. (u : ℕ) ×
+        F.post universe_map (universe_of_kind (kind_of_var kind)) u ×
+        IsPositionValue (kind_of_var kind) u (trees_of cx.old.nodes var_values.now)
+        table.old.entries table.new.entries (tree_at cx.new.nodes r.node)) }
     ensures holds { IfOk result (HoldsArg cx.new.nodes) }
     ensures changes { ChangesEntries table.old table.new }
     ensures table { IsTable cx.new.nodes table.new }
@@ -114,7 +124,9 @@ pub fn value_in(
     requires table { IsTable cx.old.nodes table.old }
     requires values { All (IsArgOf cx.old.nodes table.old.entries) var_values.now }
     requires named { universe ≤ table.old.entries.universe }
-    ensures value { IfOk result (λ r. IsPositionValue (kind_of_var kind) universe (trees_of cx.old.nodes var_values.now) table.old.entries table.new.entries (tree_at cx.new.nodes r.node)) }
+    ensures value { IfOk result (λ r. IsPositionValue (kind_of_var kind) universe
+        (trees_of cx.old.nodes var_values.now) table.old.entries table.new.entries
+        (tree_at cx.new.nodes r.node)) }
     ensures holds { IfOk result (HoldsArg cx.new.nodes) }
     ensures changes { ChangesEntries table.old table.new }
     ensures table { IsTable cx.new.nodes table.new }
@@ -181,8 +193,12 @@ fn make_values(
     requires table { IsTable cx.old.nodes table.old }
     requires empty { table.old.entries.variables ≡ [] }
     requires kinds { AreInputKinds (map kind_of_var kinds.now) }
-    ensures values { IfOk result (λ v. AreLeafArgs cx.new.nodes v.items (value_leaves 0 (map kind_of_var kinds.now))) }
-    ensures entries { OnOk result (table.new.entries ≡ record table.old.entries { variables = made_variables [] (map kind_of_var kinds.now) }) }
+    ensures values { IfOk result (λ v. AreLeafArgs cx.new.nodes v.items (value_leaves 0
+        (map kind_of_var kinds.now))) }
+    ensures entries { OnOk result (table.new.entries ≡ record table.old.entries {
+      variables =
+          made_variables [] (map kind_of_var kinds.now);
+    }) }
     ensures changes { ChangesEntries table.old table.new }
     ensures table { IsTable cx.new.nodes table.new }
     ensures grows { Grows cx.old cx.new }
@@ -204,9 +220,15 @@ fn register_hidden(
     hidden: &[(AliasTerm, Ty)],
 ) -> Result<(), Fault>
     requires table { IsTable cx.old.nodes table.old }
-    requires hidden { All (λ h. IsHiddenType cx.old.nodes (content_of cx.old.nodes table.old.entries) (stored_hidden h)) hidden.now }
-    ensures registered { OnOk result ((ds : List HiddenType) × RegistersAll cx.new.nodes (content_of cx.new.nodes table.old.entries) table.old.entries.hidden.lookup hidden.now table.new.entries.hidden.lookup ds) }
-    ensures entries { OnOk result (table.new.entries ≡ record table.old.entries { hidden = record table.old.entries.hidden { lookup = table.new.entries.hidden.lookup } }) }
+    requires hidden { All (λ h. IsHiddenType cx.old.nodes
+        (content_of cx.old.nodes table.old.entries) (stored_hidden h)) hidden.now }
+    ensures registered { OnOk result ((ds : List HiddenType) ×
+        RegistersAll cx.new.nodes (content_of cx.new.nodes table.old.entries)
+        table.old.entries.hidden.lookup hidden.now table.new.entries.hidden.lookup ds) }
+    ensures entries { OnOk result (table.new.entries ≡ record table.old.entries {
+      hidden = record
+          table.old.entries.hidden { lookup = table.new.entries.hidden.lookup };
+    }) }
     ensures changes { ChangesEntries table.old table.new }
     ensures table { IsTable cx.new.nodes table.new }
     ensures grows { Grows cx.old cx.new }

@@ -60,7 +60,9 @@ fn canonicalize_over(
     mode: TypingMode,
 ) -> Result<(Vec<GenericArg>, CanonicalInput), Fault>
     requires table { IsTable cx.old.nodes table.now }
-    requires leaves { leaves.now.keys ≡ seen no_leaf (seen no_leaf (seen is_static [] (tree_at cx.old.nodes goal.param_env.node)) (tree_at cx.old.nodes goal.predicate.node)) (hidden_pairs cx.old.nodes opaque_types.now) }
+    requires leaves { leaves.now.keys ≡ seen no_leaf (seen no_leaf (seen is_static []
+        (tree_at cx.old.nodes goal.param_env.node)) (tree_at cx.old.nodes goal.predicate.node))
+        (hidden_pairs cx.old.nodes opaque_types.now) }
     requires goal { HoldsGoal cx.old.nodes goal }
     requires hidden { AreHidden cx.old.nodes opaque_types.now }
     requires knows { Knows (content_of cx.old.nodes table.now.entries)
@@ -97,7 +99,9 @@ fn leaves_of(
     requires environment { HoldsEnv cx.now.nodes goal.param_env }
     requires predicate { HoldsPredicate cx.now.nodes goal.predicate }
     requires hidden { AreHidden cx.now.nodes opaque_types.now }
-    ensures { IfOk result (λ s. s.keys ≡ seen no_leaf (seen no_leaf (seen is_static [] (tree_at cx.now.nodes goal.param_env.node)) (tree_at cx.now.nodes goal.predicate.node)) (hidden_pairs cx.now.nodes opaque_types.now)) }
+    ensures { IfOk result (λ s. s.keys ≡ seen no_leaf (seen no_leaf (seen is_static []
+        (tree_at cx.now.nodes goal.param_env.node)) (tree_at cx.now.nodes goal.predicate.node))
+        (hidden_pairs cx.now.nodes opaque_types.now)) }
 {
     let mut leaves = IndexSet::new(cx.alloc);
     collect_all(cx, &mut leaves, goal, opaque_types)?;
@@ -114,7 +118,9 @@ fn collect_all(
     requires environment { HoldsEnv cx.now.nodes goal.param_env }
     requires predicate { HoldsPredicate cx.now.nodes goal.predicate }
     requires hidden { AreHidden cx.now.nodes opaque_types.now }
-    ensures { OnOk result (leaves.new.keys ≡ seen no_leaf (seen no_leaf (seen is_static leaves.old.keys (tree_at cx.now.nodes goal.param_env.node)) (tree_at cx.now.nodes goal.predicate.node)) (hidden_pairs cx.now.nodes opaque_types.now)) }
+    ensures { OnOk result (leaves.new.keys ≡ seen no_leaf (seen no_leaf
+        (seen is_static leaves.old.keys (tree_at cx.now.nodes goal.param_env.node))
+        (tree_at cx.now.nodes goal.predicate.node)) (hidden_pairs cx.now.nodes opaque_types.now)) }
 {
     let env = goal.param_env.node;
     collect(cx.alloc, &cx.nodes, Staying::Static, leaves, env)?;
@@ -166,9 +172,13 @@ fn numbered_query(
     requires environment { HoldsEnv nodes.old goal.param_env }
     requires predicate { HoldsPredicate nodes.old goal.predicate }
     requires hidden { AreHidden nodes.old opaque_types.now }
-    ensures environment { IfOk result (λ q. tree_at nodes.new q.goal.param_env.node ≡ replace (numbered_leaf is_static leaves.now.keys) (tree_at nodes.old goal.param_env.node)) }
-    ensures predicate { IfOk result (λ q. tree_at nodes.new q.goal.predicate.node ≡ replace (numbered_leaf no_leaf leaves.now.keys) (tree_at nodes.old goal.predicate.node)) }
-    ensures hidden { IfOk result (λ q. hidden_pairs nodes.new q.predefined_opaques_in_body.items ≡ replace (numbered_leaf no_leaf leaves.now.keys) (hidden_pairs nodes.old opaque_types.now)) }
+    ensures environment { IfOk result (λ q. tree_at nodes.new q.goal.param_env.node ≡ replace
+        (numbered_leaf is_static leaves.now.keys) (tree_at nodes.old goal.param_env.node)) }
+    ensures predicate { IfOk result (λ q. tree_at nodes.new q.goal.predicate.node ≡ replace
+        (numbered_leaf no_leaf leaves.now.keys) (tree_at nodes.old goal.predicate.node)) }
+    ensures hidden { IfOk result (λ q.
+        hidden_pairs nodes.new q.predefined_opaques_in_body.items ≡ replace
+        (numbered_leaf no_leaf leaves.now.keys) (hidden_pairs nodes.old opaque_types.now)) }
     ensures holds { IfOk result (HoldsQuery nodes.new) }
     ensures extends { Extends nodes.old nodes.new }
 {
@@ -191,7 +201,8 @@ fn numbered_hidden(
     opaque_types: &[(AliasTerm, Ty)],
 ) -> Result<Vec<(AliasTerm, Ty)>, AllocError>
     requires { AreHidden nodes.old opaque_types.now }
-    ensures images { IfOk result (λ v. AreImages (replace (numbered_leaf no_leaf leaves.now.keys)) nodes.old nodes.new opaque_types.now v.items) }
+    ensures images { IfOk result (λ v. AreImages (replace (numbered_leaf no_leaf leaves.now.keys))
+        nodes.old nodes.new opaque_types.now v.items) }
     ensures extends { Extends nodes.old nodes.new }
 {
     let mut hidden = Vec::with_capacity(alloc, opaque_types.len())?;
@@ -210,7 +221,8 @@ fn numbered_pair(
     hidden: (AliasTerm, Ty),
 ) -> Result<(AliasTerm, Ty), AllocError>
     requires { IsHidden nodes.old hidden }
-    ensures image { IfOk result (IsImage (replace (numbered_leaf no_leaf leaves.now.keys)) nodes.old nodes.new hidden) }
+    ensures image { IfOk result (IsImage (replace (numbered_leaf no_leaf leaves.now.keys)) nodes.old
+        nodes.new hidden) }
     ensures extends { Extends nodes.old nodes.new }
 {
     let (alias, ty) = hidden;

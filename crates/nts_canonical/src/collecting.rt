@@ -55,7 +55,8 @@ pub fn collect(
     t: NodeId,
 ) -> Result<(), AllocError>
     requires { IsIn nodes.now t }
-    ensures { OnOk result (leaves.new.keys ≡ seen (stays_where staying) leaves.old.keys (tree_at nodes.now t)) }
+    ensures { OnOk result (leaves.new.keys ≡ seen (stays_where staying) leaves.old.keys
+        (tree_at nodes.now t)) }
 {
     let mut finished = IndexSet::new(alloc);
     let mut tasks = Vec::new(alloc);
@@ -74,7 +75,8 @@ fn walk(
     requires within { IsIn nodes.now t }
     requires idle { tasks.old.items ≡ [] }
     requires unread { finished.old.keys ≡ [] }
-    ensures { OnOk result (leaves.new.keys ≡ seen (stays_where staying) leaves.old.keys (tree_at nodes.now t)) }
+    ensures { OnOk result (leaves.new.keys ≡ seen (stays_where staying) leaves.old.keys
+        (tree_at nodes.now t)) }
 {
     tasks.push(Task::Enter(t))?;
     while let Some(task) = tasks.pop() {
@@ -96,8 +98,11 @@ fn enter(
     tasks: &mut Vec<Task>,
     term: NodeId,
 ) -> Result<(), AllocError>
-    requires { IsReading (stays_where staying) nodes.now (tasks.old.items ++ Enter term ∷ []) leaves.old.keys finished.now.keys }
-    ensures { OnOk result (WalkGoesOn (stays_where staying) nodes.now (tasks.old.items ++ Enter term ∷ []) leaves.old.keys finished.now.keys tasks.new.items leaves.new.keys finished.now.keys) }
+    requires { IsReading (stays_where staying) nodes.now (tasks.old.items ++ Enter term ∷ [])
+        leaves.old.keys finished.now.keys }
+    ensures { OnOk result (WalkGoesOn (stays_where staying) nodes.now
+        (tasks.old.items ++ Enter term ∷ []) leaves.old.keys finished.now.keys tasks.new.items
+        leaves.new.keys finished.now.keys) }
 {
     if let Label::Leaf(leaf) = nodes.label(term) {
         return see(staying, leaves, leaf);
@@ -113,7 +118,8 @@ fn enter(
 }
 
 fn see(staying: Staying, leaves: &mut IndexSet<Leaf>, leaf: Leaf) -> Result<(), AllocError>
-    ensures { OnOk result (leaves.new.keys ≡ after_leaf (stays_where staying) leaves.old.keys leaf) }
+    ensures { OnOk result (leaves.new.keys ≡ after_leaf (stays_where staying) leaves.old.keys
+        leaf) }
 {
     if stays(staying, leaf) {
         return Ok(());
@@ -128,7 +134,8 @@ fn push_children(nodes: &Nodes, term: NodeId, tasks: &mut Vec<Task>) -> Result<(
     requires tasks { TasksIn nodes.now tasks.old.items }
     ensures row { IsRow (children (tree_at nodes.now term)) }
     ensures within { OnOk result (TasksIn nodes.now tasks.new.items) }
-    ensures jobs { OnOk result (jobs nodes.now tasks.new.items ≡ jobs nodes.now tasks.old.items ++ entered (children (tree_at nodes.now term))) }
+    ensures jobs { OnOk result (jobs nodes.now tasks.new.items ≡ jobs nodes.now
+        tasks.old.items ++ entered (children (tree_at nodes.now term))) }
 {
     let mut i = nodes.child_count(term);
     while i > 0 {

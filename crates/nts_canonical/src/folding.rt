@@ -29,8 +29,10 @@ pub fn resolve_value<T: TypeFoldable>(table: &InferCtxt, cx: &mut Cx, value: T) 
     requires table { IsTable cx.old.nodes table.now }
     requires holds { T.holds cx.old.nodes value }
     requires knows { Knows (content_of cx.old.nodes table.now.entries) (T.tree cx.old.nodes value) }
-    ensures tree { IfOk result (λ r. T.tree cx.new.nodes r ≡ deeply_resolved (content_of cx.old.nodes table.now.entries) (T.tree cx.old.nodes value)) }
-    ensures knows { IfOk result (λ r. Knows (content_of cx.new.nodes table.now.entries) (T.tree cx.new.nodes r)) }
+    ensures tree { IfOk result (λ r. T.tree cx.new.nodes r ≡ deeply_resolved
+        (content_of cx.old.nodes table.now.entries) (T.tree cx.old.nodes value)) }
+    ensures knows { IfOk result (λ r. Knows (content_of cx.new.nodes table.now.entries)
+        (T.tree cx.new.nodes r)) }
     ensures holds { IfOk result (T.holds cx.new.nodes) }
     ensures grows { Grows cx.old cx.new }
     ensures memory { IsOkUnless result Fault.Memory }
@@ -63,7 +65,8 @@ pub fn position_value<T: TypeFoldable>(
     value: T,
 ) -> Result<T, Fault>
     requires holds { T.holds cx.old.nodes value }
-    ensures tree { IfOk result (λ r. T.tree cx.new.nodes r ≡ positioned leaves.now.keys (T.tree cx.old.nodes value)) }
+    ensures tree { IfOk result (λ r. T.tree cx.new.nodes r ≡ positioned leaves.now.keys
+        (T.tree cx.old.nodes value)) }
     ensures holds { IfOk result (T.holds cx.new.nodes) }
     ensures grows { Grows cx.old cx.new }
     ensures memory { IsOkUnless result Fault.Memory }

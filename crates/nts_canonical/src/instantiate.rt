@@ -27,8 +27,10 @@ pub fn instantiate_canonical<T: TypeFoldable>(
 ) -> Result<T, Fault>
     requires holds { T.holds cx.old.nodes canonical.value }
     requires values { All (HoldsArg cx.old.nodes) values.now }
-    requires positions { HasValues (trees_of cx.old.nodes values.now) (T.tree cx.old.nodes canonical.value) }
-    ensures tree { IfOk result (λ r. T.tree cx.new.nodes r ≡ filled (trees_of cx.old.nodes values.now) (T.tree cx.old.nodes canonical.value)) }
+    requires positions { HasValues (trees_of cx.old.nodes values.now)
+        (T.tree cx.old.nodes canonical.value) }
+    ensures tree { IfOk result (λ r. T.tree cx.new.nodes r ≡ filled
+        (trees_of cx.old.nodes values.now) (T.tree cx.old.nodes canonical.value)) }
     ensures holds { IfOk result (T.holds cx.new.nodes) }
     ensures grows { Grows cx.old cx.new }
     ensures memory { IsOkUnless result Fault.Memory }
@@ -80,7 +82,8 @@ fn value_for<T: Stored>(cx: &Cx, values: &[GenericArg], t: T) -> Option<T>
     requires holds { Holds T.place cx.now.nodes (T.id t) }
     requires values { All (HoldsArg cx.now.nodes) values.now }
     ensures holds { IfSome result (λ r. Holds T.place cx.now.nodes (T.id r)) }
-    ensures stands { IsFoldAnswer (trees_of cx.now.nodes values.now) (tree_at cx.now.nodes (T.id t)) (option_map (λ r. tree_at cx.now.nodes (T.id r)) result) }
+    ensures stands { IsFoldAnswer (trees_of cx.now.nodes values.now) (tree_at cx.now.nodes (T.id t))
+        (option_map (λ r. tree_at cx.now.nodes (T.id r)) result) }
 {
     let node = t.node();
     // Most terms hold no such variable, and are left alone without a walk.

@@ -93,7 +93,8 @@ pub fn numbered<T: Stored>(
     requires { Holds T.place nodes.old (T.id x) }
     ensures extends { Extends nodes.old nodes.new }
     ensures holds { IfOk result (λ r. Holds T.place nodes.new (T.id r)) }
-    ensures tree { IfOk result (λ r. tree_at nodes.new (T.id r) ≡ replace (numbered_leaf (stays_where staying) leaves.now.keys) (tree_at nodes.old (T.id x))) }
+    ensures tree { IfOk result (λ r. tree_at nodes.new (T.id r) ≡ replace (numbered_leaf
+        (stays_where staying) leaves.now.keys) (tree_at nodes.old (T.id x))) }
 {
     let numberer = Numberer { leaves, staying };
     let node = replace(alloc, nodes, &numberer, x.node())?;

@@ -22,8 +22,10 @@ pub(crate) fn instantiate_query(
 ) -> Result<QueryInput, Fault>
     requires holds { HoldsQuery cx.old.nodes canonical.now.value }
     requires values { All (HoldsArg cx.old.nodes) values.now }
-    requires positions { HasValues (trees_of cx.old.nodes values.now) (query_tree cx.old.nodes canonical.now.value) }
-    ensures tree { IfOk result (λ q. query_tree cx.new.nodes q ≡ filled (trees_of cx.old.nodes values.now) (query_tree cx.old.nodes canonical.now.value)) }
+    requires positions { HasValues (trees_of cx.old.nodes values.now)
+        (query_tree cx.old.nodes canonical.now.value) }
+    ensures tree { IfOk result (λ q. query_tree cx.new.nodes q ≡ filled
+        (trees_of cx.old.nodes values.now) (query_tree cx.old.nodes canonical.now.value)) }
     ensures holds { IfOk result (HoldsQuery cx.new.nodes) }
     ensures grows { Grows cx.old cx.new }
     ensures memory { IsOkUnless result Fault.Memory }
@@ -48,8 +50,10 @@ fn fill_query(
 ) -> Result<QueryInput, AllocError>
     requires holds { HoldsQuery nodes.old query.now }
     requires values { AllIn nodes.old values.now }
-    requires positions { HasValues (map (tree_at nodes.old) values.now) (query_tree nodes.old query.now) }
-    ensures tree { IfOk result (λ q. query_tree nodes.new q ≡ filled (map (tree_at nodes.old) values.now) (query_tree nodes.old query.now)) }
+    requires positions { HasValues (map (tree_at nodes.old) values.now)
+        (query_tree nodes.old query.now) }
+    ensures tree { IfOk result (λ q. query_tree nodes.new q ≡ filled
+        (map (tree_at nodes.old) values.now) (query_tree nodes.old query.now)) }
     ensures holds { IfOk result (HoldsQuery nodes.new) }
     ensures extends { Extends nodes.old nodes.new }
 {
@@ -74,8 +78,10 @@ pub fn fill_hidden(
 ) -> Result<Vec<(AliasTerm, Ty)>, AllocError>
     requires holds { AreHidden nodes.old opaque_types.now }
     requires values { AllIn nodes.old values.now }
-    requires positions { HasValues (map (tree_at nodes.old) values.now) (hidden_pairs nodes.old opaque_types.now) }
-    ensures images { IfOk result (λ v. AreImages (filled (map (tree_at nodes.old) values.now)) nodes.old nodes.new opaque_types.now v.items) }
+    requires positions { HasValues (map (tree_at nodes.old) values.now)
+        (hidden_pairs nodes.old opaque_types.now) }
+    ensures images { IfOk result (λ v. AreImages (filled (map (tree_at nodes.old) values.now))
+        nodes.old nodes.new opaque_types.now v.items) }
     ensures extends { Extends nodes.old nodes.new }
 {
     let mut hidden = Vec::with_capacity(alloc, opaque_types.len())?;
@@ -94,9 +100,12 @@ fn fill_pair(
 ) -> Result<(AliasTerm, Ty), AllocError>
     requires holds { IsHidden nodes.old hidden }
     requires values { AllIn nodes.old values.now }
-    requires alias_positions { HasValues (map (tree_at nodes.old) values.now) (tree_at nodes.old hidden.0.args.node) }
-    requires positions { HasValues (map (tree_at nodes.old) values.now) (tree_at nodes.old hidden.1.node) }
-    ensures image { IfOk result (IsImage (filled (map (tree_at nodes.old) values.now)) nodes.old nodes.new hidden) }
+    requires alias_positions { HasValues (map (tree_at nodes.old) values.now)
+        (tree_at nodes.old hidden.0.args.node) }
+    requires positions { HasValues (map (tree_at nodes.old) values.now)
+        (tree_at nodes.old hidden.1.node) }
+    ensures image { IfOk result (IsImage (filled (map (tree_at nodes.old) values.now)) nodes.old
+        nodes.new hidden) }
     ensures extends { Extends nodes.old nodes.new }
 {
     let (alias, ty) = hidden;
@@ -118,10 +127,12 @@ pub fn fill<T: Stored>(
 ) -> Result<T, AllocError>
     requires holds { Holds T.place nodes.old (T.id x) }
     requires values { AllIn nodes.old values.now }
-    requires positions { HasValues (map (tree_at nodes.old) values.now) (tree_at nodes.old (T.id x)) }
+    requires positions { HasValues (map (tree_at nodes.old) values.now) (tree_at nodes.old
+        (T.id x)) }
     ensures extends { Extends nodes.old nodes.new }
     ensures holds { IfOk result (λ r. Holds T.place nodes.new (T.id r)) }
-    ensures tree { IfOk result (λ r. tree_at nodes.new (T.id r) ≡ filled (map (tree_at nodes.old) values.now) (tree_at nodes.old (T.id x))) }
+    ensures tree { IfOk result (λ r. tree_at nodes.new (T.id r) ≡ filled
+        (map (tree_at nodes.old) values.now) (tree_at nodes.old (T.id x))) }
 {
     let node = nts_store::instantiate_canonical(alloc, nodes, values, x.node())?;
     Ok(T::from_node(node))

@@ -28,7 +28,8 @@ pub(crate) fn kinds_of(
     requires descends { LinksDescend table.now.entries }
     requires owned { AreOwned table.now.entries leaves.now }
     requires distinct { AreDistinct leaves.now }
-    ensures { IfOk result (λ v. map kind_of_var v.items ≡ map (position_kind (sub_root_in table.now.entries) leaves.now) leaves.now) }
+    ensures { IfOk result (λ v. map kind_of_var v.items ≡ map (position_kind
+        (sub_root_in table.now.entries) leaves.now) leaves.now) }
 {
     let roots = sub_roots(alloc, table, leaves)?;
     let mut kinds = Vec::with_capacity(alloc, leaves.len())?;
@@ -47,7 +48,8 @@ pub fn sub_roots(
 ) -> Result<Vec<Option<usize>>, AllocError>
     requires descends { LinksDescend table.now.entries }
     requires owned { AreOwned table.now.entries leaves.now }
-    ensures { IfOk result (λ v. v.items ≡ map (sub_root_of (sub_root_in table.now.entries)) leaves.now) }
+    ensures { IfOk result (λ v. v.items ≡ map (sub_root_of (sub_root_in table.now.entries))
+        leaves.now) }
 {
     let mut roots = Vec::with_capacity(alloc, leaves.len())?;
     for i in 0..leaves.len() {
@@ -114,7 +116,8 @@ fn kind_at(leaf: Leaf, first: usize, number: usize) -> CanonicalVarKind
 }
 
 fn region_at(number: usize) -> CanonicalVarKind
-    ensures { result ≡ CanonicalVarKind.PlaceholderRegion (record { universe = 0; bound = record { var = number } }) }
+    ensures { result ≡ CanonicalVarKind.PlaceholderRegion
+        (record { universe = 0; bound = record { var = number } }) }
 {
     CanonicalVarKind::PlaceholderRegion(PlaceholderRegion {
         universe: 0,

@@ -174,7 +174,8 @@ impl<H: GoalHandler> EvalCtxt<'_, H> {
         requires left { IsSide T.place self.old.cx.now.nodes self.old.table.now (T.id lhs) }
         requires right { IsSide T.place self.old.cx.now.nodes self.old.table.now (T.id rhs) }
         ensures keeps { KeepsContext H.ready self.old self.new }
-        ensures goals { self.new.state.now.nested_goals.items ≡ self.old.state.now.nested_goals.items }
+        ensures goals { self.new.state.now.nested_goals.items ≡
+            self.old.state.now.nested_goals.items }
         ensures heads { OnOk result (T.head lhs ≡ T.head rhs) }
         ensures related { OnOk result (AreRelated (content_in self.old) (content_in self.new)
             (tree_in self.old (T.id lhs)) (tree_in self.old (T.id rhs))) }

@@ -59,10 +59,14 @@ impl TraitClauses {
 
     /// One more clause, the first argument of which is built so.
     fn add(&mut self, alloc: Global, head: Option<TyHead>, clause: Clause) -> Result<(), AllocError>
-        ensures clauses { OnOk result (self.new.clauses.items ≡ self.old.clauses.items ++ clause ∷ []) }
-        ensures index { OnOk result ((hs : List (Option TyHead)) → IsIndexOf self.old.heads hs → length self.old.clauses.items ≡ length hs → IsIndexOf self.new.heads (hs ++ head ∷ [])) }
+        ensures clauses { OnOk result
+            (self.new.clauses.items ≡ self.old.clauses.items ++ clause ∷ []) }
+        ensures index { OnOk result ((hs : List (Option TyHead)) → IsIndexOf self.old.heads hs →
+            length self.old.clauses.items ≡ length hs →
+            IsIndexOf self.new.heads (hs ++ head ∷ [])) }
         ensures err_clauses { OnErr result (self.new.clauses.items ≡ self.old.clauses.items) }
-        ensures err_index { OnErr result ((hs : List (Option TyHead)) → IsIndexOf self.old.heads hs → IsIndexOf self.new.heads hs) }
+        ensures err_index { OnErr result ((hs : List (Option TyHead)) →
+            IsIndexOf self.old.heads hs → IsIndexOf self.new.heads hs) }
         ensures coinductive { self.new.is_coinductive ≡ self.old.is_coinductive }
     {
         let place = self.clauses.len();
@@ -100,7 +104,8 @@ impl Clauses {
     pub fn add_clause(&mut self, cx: &Cx, clause: Clause) -> Result<(), Fault>
         ensures added { OnOk result (AddsClause self.old self.new clause) }
         ensures err { OnErr result (KeepsClauses self.old self.new) }
-        ensures ready { AreClausesReady cx.now.nodes self.old → HoldsClause cx.now.nodes clause → AreClausesReady cx.now.nodes self.new }
+        ensures ready { AreClausesReady cx.now.nodes self.old → HoldsClause cx.now.nodes clause →
+            AreClausesReady cx.now.nodes self.new }
         ensures memory { IsOkUnless result Fault.Memory }
     {
         let head = head_of_clause(cx, &clause);
@@ -113,7 +118,8 @@ impl Clauses {
     pub fn set_coinductive(&mut self, id: TraitId) -> Result<(), Fault>
         ensures made { OnOk result (MakesCoinductive self.old self.new id.number) }
         ensures err { OnErr result (KeepsClauses self.old self.new) }
-        ensures ready { (ts : List Tree) → AreClausesReady ts self.old → AreClausesReady ts self.new }
+        ensures ready { (ts : List Tree) → AreClausesReady ts self.old →
+            AreClausesReady ts self.new }
         ensures memory { IsOkUnless result Fault.Memory }
     {
         let entry = self.entry(id)?;
@@ -126,7 +132,8 @@ impl Clauses {
         ensures is { IfOk result (λ i. i ≡ id.number) }
         ensures within { IfOk result (λ i. i < length self.new.traits.items) }
         ensures same { KeepsClauses self.old self.new }
-        ensures ready { (ts : List Tree) → AreClausesReady ts self.old → AreClausesReady ts self.new }
+        ensures ready { (ts : List Tree) → AreClausesReady ts self.old →
+            AreClausesReady ts self.new }
         ensures memory { IsOkUnless result Fault.Memory }
     {
         while self.traits.len() <= id.number {
@@ -257,7 +264,8 @@ impl Clauses {
     fn relevant_offers(&self, cx: &Cx, goal: Goal) -> Result<Vec<CandidateData>, Fault>
         requires ready { AreClausesReady cx.now.nodes self.now }
         requires goal { IsAskedIn cx.now.nodes goal }
-        ensures offered { IfOk result (λ cs. LeavesOut (offers_by (clauses_in_store cx.now.nodes self.now)
+        ensures offered { IfOk result (λ cs.
+            LeavesOut (offers_by (clauses_in_store cx.now.nodes self.now)
             (tree_at cx.now.nodes goal.param_env.node) (trait_of (tree_at cx.now.nodes
             goal.predicate.node))) (candidates_of cx.now.nodes cs.items)) }
         ensures candidates { IfOk result (λ cs. AreCandidates cx.now.nodes goal cs.items) }
@@ -289,8 +297,10 @@ fn offers_at(
     requires indexed { IsIndexed cx.now.nodes (Some of_trait.now) }
     requires goal { IsAskedIn cx.now.nodes goal }
     requires args { HoldsArgs cx.now.nodes trait_ref.args }
-    requires asked { trait_of (tree_at cx.now.nodes goal.predicate.node) ≡ read_trait cx.now.nodes (Some trait_ref) }
-    requires first { first_built_by (children (tree_at cx.now.nodes trait_ref.args.node)) ≡ Some head }
+    requires asked { trait_of (tree_at cx.now.nodes goal.predicate.node) ≡ read_trait cx.now.nodes
+        (Some trait_ref) }
+    requires first { first_built_by (children (tree_at cx.now.nodes trait_ref.args.node)) ≡ Some
+        head }
     ensures offered { IfOk result (λ cs. LeavesOut (offers_of_clauses (tree_at cx.now.nodes
         goal.param_env.node) (children (tree_at cx.now.nodes trait_ref.args.node))
         (map (clause_tree cx.now.nodes) of_trait.now.clauses.items))
@@ -334,7 +344,8 @@ fn built_by(label: Label) -> Option<TyHead>
 
 /// What the first argument of a clause's head is built by, if it is of the store.
 fn head_of_clause(cx: &Cx, clause: &Clause) -> Option<TyHead>
-    ensures { HoldsArgs cx.now.nodes clause.now.head → result ≡ head_of_clause cx.now.nodes clause.now }
+    ensures { HoldsArgs cx.now.nodes clause.now.head →
+        result ≡ head_of_clause cx.now.nodes clause.now }
 {
     if !cx.holds(clause.head) {
         return None;
@@ -417,7 +428,8 @@ fn pairs_of(
     requires row { IsRow (children (tree_at cx.now.nodes head.node)) }
     requires long { row_length (children (tree_at cx.now.nodes args.node)) ≡ row_length (children
         (tree_at cx.now.nodes head.node)) }
-    ensures { IfOk result (λ qs. AreArgumentPairs cx.now.nodes (children (tree_at cx.now.nodes args.node))
+    ensures { IfOk result (λ qs. AreArgumentPairs cx.now.nodes
+        (children (tree_at cx.now.nodes args.node))
         (children (tree_at cx.now.nodes head.node)) qs.items) }
 {
     let mut equations = Vec::new(alloc);

@@ -113,7 +113,8 @@ pub trait GoalHandler {
 
     /// Whether a cycle through conditions of this trait's impls holds.
     fn trait_is_coinductive(&self, id: TraitId) -> bool
-        ensures meaning { (ts : List Tree) → result ≡ (handler ts self.now).is_coinductive id.number };
+        ensures meaning { (ts : List Tree) →
+            result ≡ (handler ts self.now).is_coinductive id.number };
 
     /// The handler keeps the laws: candidates commute with plain renaming, their instances are rules, rules are closed
     /// under instances, and candidates keep the environment and have no foreign leaves, sorts or sources.

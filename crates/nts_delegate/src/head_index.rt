@@ -34,8 +34,10 @@ impl HeadIndex {
         head: Option<TyHead>,
         place: usize,
     ) -> Result<(), AllocError>
-        ensures noted { OnOk result ((hs : List (Option TyHead)) → IsIndexOf self.old hs → place ≡ length hs → IsIndexOf self.new (hs ++ head ∷ [])) }
-        ensures err { OnErr result ((hs : List (Option TyHead)) → IsIndexOf self.old hs → IsIndexOf self.new hs) }
+        ensures noted { OnOk result ((hs : List (Option TyHead)) → IsIndexOf self.old hs →
+            place ≡ length hs → IsIndexOf self.new (hs ++ head ∷ [])) }
+        ensures err { OnErr result ((hs : List (Option TyHead)) → IsIndexOf self.old hs →
+            IsIndexOf self.new hs) }
     {
         match head {
             Some(head) => note_built(&mut self.by_head, alloc, head, place),
@@ -48,7 +50,8 @@ impl HeadIndex {
 
     /// The places, in order, of the types that are built by this and of those that are not built.
     pub fn places_of(&self, alloc: Global, head: TyHead) -> Result<Vec<usize>, AllocError>
-        ensures { (hs : List (Option TyHead)) → IsIndexOf self.now hs → IfOk result (λ places. places.items ≡ places_from (may_be_built_by head) 0 hs) }
+        ensures { (hs : List (Option TyHead)) → IsIndexOf self.now hs →
+            IfOk result (λ places. places.items ≡ places_from (may_be_built_by head) 0 hs) }
     {
         let built: &[usize] = match self.by_head.get(&head) {
             Some(places) => places,
@@ -65,7 +68,9 @@ fn note_built(
     head: TyHead,
     place: usize,
 ) -> Result<(), AllocError>
-    ensures noted { OnOk result ((k : TyHead) → places_at by_head.new k ≡ (if same_head head k then places_at by_head.old k ++ place ∷ [] else places_at by_head.old k)) }
+    ensures noted { OnOk result ((k : TyHead) →
+        places_at by_head.new k ≡ (if same_head head k then places_at by_head.old k ++ place ∷ []
+        else places_at by_head.old k)) }
     ensures err { OnErr result ((k : TyHead) → places_at by_head.new k ≡ places_at by_head.old k) }
 {
     if let Some(places) = by_head.get_mut(&head) {
@@ -80,7 +85,8 @@ fn note_built(
 
 /// The places of two lists as one, in order.
 fn merged(alloc: Global, built: &[usize], blanket: &[usize]) -> Result<Vec<usize>, AllocError>
-    ensures { (zs : List ℕ) → AreMerged built.now blanket.now zs → IfOk result (λ places. places.items ≡ zs) }
+    ensures { (zs : List ℕ) → AreMerged built.now blanket.now zs →
+        IfOk result (λ places. places.items ≡ zs) }
 {
     let mut places = Vec::new(alloc);
     let mut i = 0;
@@ -100,8 +106,10 @@ fn merged(alloc: Global, built: &[usize], blanket: &[usize]) -> Result<Vec<usize
 /// Whether the next place of the first list, if there is one left, stands before that of the second.
 fn is_next(built: &[usize], i: usize, blanket: &[usize], j: usize) -> bool
     requires { (i < length built.now) ⊎ (j < length blanket.now) }
-    ensures yes { IsTrue result → (i < length built.now) × (j < length blanket.now → slice_index built.now i < slice_index blanket.now j) }
-    ensures no { result ≡ false → (j < length blanket.now) × (i < length built.now → slice_index blanket.now j ≤ slice_index built.now i) }
+    ensures yes { IsTrue result → (i < length built.now) × (j < length blanket.now →
+        slice_index built.now i < slice_index blanket.now j) }
+    ensures no { result ≡ false → (j < length blanket.now) × (i < length built.now →
+        slice_index blanket.now j ≤ slice_index built.now i) }
 {
     if i >= built.len() {
         return false;

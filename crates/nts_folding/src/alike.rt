@@ -36,8 +36,11 @@ pub trait TermFolder {
         ensures ready { ready cx.new.nodes self.new }
         ensures keeps { keeps self.old self.new }
         ensures holds { IfOk result (λ o. IfSome o (λ r. Holds T.place cx.new.nodes (T.id r))) }
-        ensures answers { IfOk result (λ o. answers (meaning cx.old.nodes self.old) (tree_at cx.old.nodes (T.id t)) (option_map (λ r. tree_at cx.new.nodes (T.id r)) o) (meaning cx.new.nodes self.new)) }
-        ensures err { IfErr result (fails (meaning cx.old.nodes self.old) (Some (tree_at cx.old.nodes (T.id t)))) };
+        ensures answers { IfOk result (λ o. answers (meaning cx.old.nodes self.old)
+            (tree_at cx.old.nodes (T.id t)) (option_map (λ r. tree_at cx.new.nodes (T.id r)) o)
+            (meaning cx.new.nodes self.new)) }
+        ensures err { IfErr result (fails (meaning cx.old.nodes self.old)
+            (Some (tree_at cx.old.nodes (T.id t)))) };
 
     ghost keeps_refl: { (s : Self) → keeps s s };
 

@@ -53,8 +53,11 @@ pub trait TypeFolder {
         ensures ready { ready cx.new.nodes self.new }
         ensures keeps { keeps self.old self.new }
         ensures holds { IfOk result (λ o. IfSome o (HoldsTy cx.new.nodes)) }
-        ensures answers { IfOk result (λ o. answers (meaning cx.old.nodes self.old) (tree_at cx.old.nodes t.node) (option_map (λ r. tree_at cx.new.nodes r.node) o) (meaning cx.new.nodes self.new)) }
-        ensures err { IfErr result (fails (meaning cx.old.nodes self.old) (Some (tree_at cx.old.nodes t.node))) };
+        ensures answers { IfOk result (λ o. answers (meaning cx.old.nodes self.old)
+            (tree_at cx.old.nodes t.node) (option_map (λ r. tree_at cx.new.nodes r.node) o)
+            (meaning cx.new.nodes self.new)) }
+        ensures err { IfErr result (fails (meaning cx.old.nodes self.old)
+            (Some (tree_at cx.old.nodes t.node))) };
 
     /// What stands for a region, or `None` to leave it.
     fn fold_region(&mut self, cx: &mut Cx, t: Region) -> Result<Option<Region>, Self::Error>
@@ -64,8 +67,11 @@ pub trait TypeFolder {
         ensures ready { ready cx.new.nodes self.new }
         ensures keeps { keeps self.old self.new }
         ensures holds { IfOk result (λ o. IfSome o (HoldsRegion cx.new.nodes)) }
-        ensures answers { IfOk result (λ o. answers (meaning cx.old.nodes self.old) (tree_at cx.old.nodes t.node) (option_map (λ r. tree_at cx.new.nodes r.node) o) (meaning cx.new.nodes self.new)) }
-        ensures err { IfErr result (fails (meaning cx.old.nodes self.old) (Some (tree_at cx.old.nodes t.node))) };
+        ensures answers { IfOk result (λ o. answers (meaning cx.old.nodes self.old)
+            (tree_at cx.old.nodes t.node) (option_map (λ r. tree_at cx.new.nodes r.node) o)
+            (meaning cx.new.nodes self.new)) }
+        ensures err { IfErr result (fails (meaning cx.old.nodes self.old)
+            (Some (tree_at cx.old.nodes t.node))) };
 
     /// What stands for a const, or `None` to fold its children.
     fn fold_const(&mut self, cx: &mut Cx, t: Const) -> Result<Option<Const>, Self::Error>
@@ -75,8 +81,11 @@ pub trait TypeFolder {
         ensures ready { ready cx.new.nodes self.new }
         ensures keeps { keeps self.old self.new }
         ensures holds { IfOk result (λ o. IfSome o (HoldsConst cx.new.nodes)) }
-        ensures answers { IfOk result (λ o. answers (meaning cx.old.nodes self.old) (tree_at cx.old.nodes t.node) (option_map (λ r. tree_at cx.new.nodes r.node) o) (meaning cx.new.nodes self.new)) }
-        ensures err { IfErr result (fails (meaning cx.old.nodes self.old) (Some (tree_at cx.old.nodes t.node))) };
+        ensures answers { IfOk result (λ o. answers (meaning cx.old.nodes self.old)
+            (tree_at cx.old.nodes t.node) (option_map (λ r. tree_at cx.new.nodes r.node) o)
+            (meaning cx.new.nodes self.new)) }
+        ensures err { IfErr result (fails (meaning cx.old.nodes self.old)
+            (Some (tree_at cx.old.nodes t.node))) };
 
     /// What stands for a predicate, or `None` to fold its children.
     fn fold_predicate(
@@ -90,21 +99,27 @@ pub trait TypeFolder {
         ensures ready { ready cx.new.nodes self.new }
         ensures keeps { keeps self.old self.new }
         ensures holds { IfOk result (λ o. IfSome o (HoldsPredicate cx.new.nodes)) }
-        ensures answers { IfOk result (λ o. answers (meaning cx.old.nodes self.old) (tree_at cx.old.nodes t.node) (option_map (λ r. tree_at cx.new.nodes r.node) o) (meaning cx.new.nodes self.new)) }
-        ensures err { IfErr result (fails (meaning cx.old.nodes self.old) (Some (tree_at cx.old.nodes t.node))) };
+        ensures answers { IfOk result (λ o. answers (meaning cx.old.nodes self.old)
+            (tree_at cx.old.nodes t.node) (option_map (λ r. tree_at cx.new.nodes r.node) o)
+            (meaning cx.new.nodes self.new)) }
+        ensures err { IfErr result (fails (meaning cx.old.nodes self.old)
+            (Some (tree_at cx.old.nodes t.node))) };
 
     /// Called before the children of a binder are folded.
     fn enter_binder(&mut self) -> Result<(), Self::Error>
         ensures ready { (ts : List Tree) → ready ts self.old → ready ts self.new }
         ensures keeps { keeps self.old self.new }
-        ensures enters { OnOk result ((ts : List Tree) → ready ts self.old → enters (meaning ts self.old) (meaning ts self.new)) }
-        ensures err { (ts : List Tree) → ready ts self.old → IfErr result (fails (meaning ts self.old) None) };
+        ensures enters { OnOk result ((ts : List Tree) → ready ts self.old →
+            enters (meaning ts self.old) (meaning ts self.new)) }
+        ensures err { (ts : List Tree) → ready ts self.old →
+            IfErr result (fails (meaning ts self.old) None) };
 
     /// Called after they were folded.
     fn leave_binder(&mut self)
         ensures ready { (ts : List Tree) → ready ts self.old → ready ts self.new }
         ensures keeps { keeps self.old self.new }
-        ensures leaves { (ts : List Tree) → ready ts self.old → leaves (meaning ts self.old) (meaning ts self.new) };
+        ensures leaves { (ts : List Tree) → ready ts self.old →
+            leaves (meaning ts self.old) (meaning ts self.new) };
 
     /// What stands for a type or const that was made again, after its children were folded.
     fn rebuilt(&mut self, cx: &mut Cx, t: Term) -> Result<Term, Self::Error>
@@ -114,9 +129,13 @@ pub trait TypeFolder {
         ensures ready { ready cx.new.nodes self.new }
         ensures keeps { keeps self.old self.new }
         ensures within { IfOk result (λ r. IsIn cx.new.nodes r.node) }
-        ensures kind { IfOk result (λ r. kind_of (tree_at cx.new.nodes r.node) ≡ kind_of (tree_at cx.old.nodes t.node)) }
-        ensures rebuilds { IfOk result (λ r. rebuilds (meaning cx.old.nodes self.old) (tree_at cx.old.nodes t.node) (tree_at cx.new.nodes r.node) (meaning cx.new.nodes self.new)) }
-        ensures err { IfErr result (fails (meaning cx.old.nodes self.old) (Some (tree_at cx.old.nodes t.node))) };
+        ensures kind { IfOk result (λ r. kind_of (tree_at cx.new.nodes r.node) ≡ kind_of
+            (tree_at cx.old.nodes t.node)) }
+        ensures rebuilds { IfOk result (λ r. rebuilds (meaning cx.old.nodes self.old)
+            (tree_at cx.old.nodes t.node) (tree_at cx.new.nodes r.node)
+            (meaning cx.new.nodes self.new)) }
+        ensures err { IfErr result (fails (meaning cx.old.nodes self.old)
+            (Some (tree_at cx.old.nodes t.node))) };
 
     ghost keeps_refl: { (s : Self) → keeps s s };
 
@@ -137,8 +156,11 @@ pub fn fold_node<F: TypeFolder>(cx: &mut Cx, folder: &mut F, t: NodeId) -> Resul
     ensures ready { F.ready cx.new.nodes folder.new }
     ensures keeps { F.keeps folder.old folder.new }
     ensures within { IfOk result (IsIn cx.new.nodes) }
-    ensures walk { IfOk result (λ r. Walk F.answers F.enters F.leaves F.rebuilds (F.meaning cx.old.nodes folder.old) (tree_at cx.old.nodes t) (tree_at cx.new.nodes r) (F.meaning cx.new.nodes folder.new)) }
-    ensures err { IfErr result (Stops F.answers F.enters F.leaves F.rebuilds F.fails (F.meaning cx.old.nodes folder.old) (tree_at cx.old.nodes t)) }
+    ensures walk { IfOk result (λ r. Walk F.answers F.enters F.leaves F.rebuilds
+        (F.meaning cx.old.nodes folder.old) (tree_at cx.old.nodes t) (tree_at cx.new.nodes r)
+        (F.meaning cx.new.nodes folder.new)) }
+    ensures err { IfErr result (Stops F.answers F.enters F.leaves F.rebuilds F.fails
+        (F.meaning cx.old.nodes folder.old) (tree_at cx.old.nodes t)) }
 {
     let mut tasks = Vec::new(cx.alloc);
     let mut found = Vec::new(cx.alloc);
@@ -161,8 +183,11 @@ fn walk<F: TypeFolder>(
     ensures ready { F.ready cx.new.nodes folder.new }
     ensures keeps { F.keeps folder.old folder.new }
     ensures within { IfOk result (IsIn cx.new.nodes) }
-    ensures walk { IfOk result (λ r. Walk F.answers F.enters F.leaves F.rebuilds (F.meaning cx.old.nodes folder.old) (tree_at cx.old.nodes t) (tree_at cx.new.nodes r) (F.meaning cx.new.nodes folder.new)) }
-    ensures err { IfErr result (Stops F.answers F.enters F.leaves F.rebuilds F.fails (F.meaning cx.old.nodes folder.old) (tree_at cx.old.nodes t)) }
+    ensures walk { IfOk result (λ r. Walk F.answers F.enters F.leaves F.rebuilds
+        (F.meaning cx.old.nodes folder.old) (tree_at cx.old.nodes t) (tree_at cx.new.nodes r)
+        (F.meaning cx.new.nodes folder.new)) }
+    ensures err { IfErr result (Stops F.answers F.enters F.leaves F.rebuilds F.fails
+        (F.meaning cx.old.nodes folder.old) (tree_at cx.old.nodes t)) }
 {
     push(tasks, Task::Enter(t))?;
     while let Some(task) = tasks.pop() {
@@ -200,8 +225,11 @@ fn start<F: TypeFolder>(cx: &mut Cx, folder: &mut F, t: NodeId) -> Result<Option
     ensures ready { F.ready cx.new.nodes folder.new }
     ensures keeps { F.keeps folder.old folder.new }
     ensures within { IfOk result (λ o. IfSome o (IsIn cx.new.nodes)) }
-    ensures starts { IfOk result (λ o. Starts F.answers F.enters (F.meaning cx.old.nodes folder.old) (tree_at cx.old.nodes t) (option_map (tree_at cx.new.nodes) o) (F.meaning cx.new.nodes folder.new)) }
-    ensures err { IfErr result (Stops F.answers F.enters F.leaves F.rebuilds F.fails (F.meaning cx.old.nodes folder.old) (tree_at cx.old.nodes t)) }
+    ensures starts { IfOk result (λ o. Starts F.answers F.enters (F.meaning cx.old.nodes folder.old)
+        (tree_at cx.old.nodes t) (option_map (tree_at cx.new.nodes) o)
+        (F.meaning cx.new.nodes folder.new)) }
+    ensures err { IfErr result (Stops F.answers F.enters F.leaves F.rebuilds F.fails
+        (F.meaning cx.old.nodes folder.old) (tree_at cx.old.nodes t)) }
 {
     let label = cx.nodes.label(t);
     let answer = ask(cx, folder, t, label)?;
@@ -225,9 +253,13 @@ fn ask<F: TypeFolder>(
     ensures ready { F.ready cx.new.nodes folder.new }
     ensures keeps { F.keeps folder.old folder.new }
     ensures within { IfOk result (λ o. IfSome o (IsIn cx.new.nodes)) }
-    ensures kind { IfOk result (λ o. IfSome o (λ r. kind_of (tree_at cx.new.nodes r) ≡ Some (kind_of_label label))) }
-    ensures asks { IfOk result (λ o. MayAnswer F.answers (kind_of_label label) (F.meaning cx.old.nodes folder.old) (tree_at cx.old.nodes t) (option_map (tree_at cx.new.nodes) o) (F.meaning cx.new.nodes folder.new)) }
-    ensures err { IfErr result (F.fails (F.meaning cx.old.nodes folder.old) (Some (tree_at cx.old.nodes t))) }
+    ensures kind { IfOk result (λ o. IfSome o (λ r. kind_of (tree_at cx.new.nodes r) ≡ Some
+        (kind_of_label label))) }
+    ensures asks { IfOk result (λ o. MayAnswer F.answers (kind_of_label label)
+        (F.meaning cx.old.nodes folder.old) (tree_at cx.old.nodes t)
+        (option_map (tree_at cx.new.nodes) o) (F.meaning cx.new.nodes folder.new)) }
+    ensures err { IfErr result (F.fails (F.meaning cx.old.nodes folder.old)
+        (Some (tree_at cx.old.nodes t))) }
 {
     match sort_of(label) {
         Some(Sort::Ty) => Ok(folder.fold_ty(cx, Ty { node: t })?.map(|r| r.node)),
@@ -249,8 +281,10 @@ fn ask<F: TypeFolder>(
 fn enter<F: TypeFolder>(folder: &mut F, label: Label) -> Result<(), F::Error>
     ensures ready { (ts : List Tree) → F.ready ts folder.old → F.ready ts folder.new }
     ensures keeps { F.keeps folder.old folder.new }
-    ensures enters { OnOk result ((ts : List Tree) → F.ready ts folder.old → AtBinder F.enters (binders label) (F.meaning ts folder.old) (F.meaning ts folder.new)) }
-    ensures err { (ts : List Tree) → F.ready ts folder.old → IfErr result (F.fails (F.meaning ts folder.old) None) }
+    ensures enters { OnOk result ((ts : List Tree) → F.ready ts folder.old →
+        AtBinder F.enters (binders label) (F.meaning ts folder.old) (F.meaning ts folder.new)) }
+    ensures err { (ts : List Tree) → F.ready ts folder.old →
+        IfErr result (F.fails (F.meaning ts folder.old) None) }
 {
     if binders_of(label) > 0 {
         return folder.enter_binder();
@@ -261,7 +295,8 @@ fn enter<F: TypeFolder>(folder: &mut F, label: Label) -> Result<(), F::Error>
 fn leave<F: TypeFolder>(folder: &mut F, label: Label)
     ensures ready { (ts : List Tree) → F.ready ts folder.old → F.ready ts folder.new }
     ensures keeps { F.keeps folder.old folder.new }
-    ensures leaves { (ts : List Tree) → F.ready ts folder.old → AtBinder F.leaves (binders label) (F.meaning ts folder.old) (F.meaning ts folder.new) }
+    ensures leaves { (ts : List Tree) → F.ready ts folder.old →
+        AtBinder F.leaves (binders label) (F.meaning ts folder.old) (F.meaning ts folder.new) }
 {
     if binders_of(label) > 0 {
         folder.leave_binder();
@@ -282,8 +317,11 @@ fn finish<F: TypeFolder>(
     ensures ready { F.ready cx.new.nodes folder.new }
     ensures keeps { F.keeps folder.old folder.new }
     ensures within { IfOk result (IsIn cx.new.nodes) }
-    ensures comes_back { IfOk result (λ r. ComesBack F.leaves F.rebuilds label (F.meaning cx.old.nodes folder.old) (trees_at cx.old.nodes children.now) (tree_at cx.new.nodes r) (F.meaning cx.new.nodes folder.new)) }
-    ensures err { IfErr result (CannotMake F.leaves F.fails label (F.meaning cx.old.nodes folder.old) (trees_at cx.old.nodes children.now)) }
+    ensures comes_back { IfOk result (λ r. ComesBack F.leaves F.rebuilds label
+        (F.meaning cx.old.nodes folder.old) (trees_at cx.old.nodes children.now)
+        (tree_at cx.new.nodes r) (F.meaning cx.new.nodes folder.new)) }
+    ensures err { IfErr result (CannotMake F.leaves F.fails label
+        (F.meaning cx.old.nodes folder.old) (trees_at cx.old.nodes children.now)) }
 {
     leave(folder, label);
     let node = cx.nodes.make(label, children)?;
@@ -304,9 +342,13 @@ fn hand_over<F: TypeFolder>(
     ensures ready { F.ready cx.new.nodes folder.new }
     ensures keeps { F.keeps folder.old folder.new }
     ensures within { IfOk result (IsIn cx.new.nodes) }
-    ensures kind { IfOk result (λ r. kind_of (tree_at cx.new.nodes r) ≡ Some (kind_of_label label)) }
-    ensures hands { IfOk result (λ r. HandsOver F.rebuilds (kind_of_label label) (F.meaning cx.old.nodes folder.old) (tree_at cx.old.nodes made) (tree_at cx.new.nodes r) (F.meaning cx.new.nodes folder.new)) }
-    ensures err { IfErr result (F.fails (F.meaning cx.old.nodes folder.old) (Some (tree_at cx.old.nodes made))) }
+    ensures kind { IfOk result (λ r. kind_of (tree_at cx.new.nodes r) ≡ Some
+        (kind_of_label label)) }
+    ensures hands { IfOk result (λ r. HandsOver F.rebuilds (kind_of_label label)
+        (F.meaning cx.old.nodes folder.old) (tree_at cx.old.nodes made) (tree_at cx.new.nodes r)
+        (F.meaning cx.new.nodes folder.new)) }
+    ensures err { IfErr result (F.fails (F.meaning cx.old.nodes folder.old)
+        (Some (tree_at cx.old.nodes made))) }
 {
     match sort_of(label) {
         Some(Sort::Ty | Sort::Const) => Ok(folder.rebuilt(cx, Term { node: made })?.node),

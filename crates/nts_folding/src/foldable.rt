@@ -29,8 +29,11 @@ pub trait TypeFoldable: Drop {
         ensures ready { F.ready cx.new.nodes folder.new }
         ensures keeps { F.keeps folder.old folder.new }
         ensures holds { IfOk result (holds cx.new.nodes) }
-        ensures walk { IfOk result (λ r. Walk F.answers F.enters F.leaves F.rebuilds (F.meaning cx.old.nodes folder.old) (tree cx.old.nodes self) (tree cx.new.nodes r) (F.meaning cx.new.nodes folder.new)) }
-        ensures err { IfErr result (Stops F.answers F.enters F.leaves F.rebuilds F.fails (F.meaning cx.old.nodes folder.old) (tree cx.old.nodes self)) };
+        ensures walk { IfOk result (λ r. Walk F.answers F.enters F.leaves F.rebuilds
+            (F.meaning cx.old.nodes folder.old) (tree cx.old.nodes self) (tree cx.new.nodes r)
+            (F.meaning cx.new.nodes folder.new)) }
+        ensures err { IfErr result (Stops F.answers F.enters F.leaves F.rebuilds F.fails
+            (F.meaning cx.old.nodes folder.old) (tree cx.old.nodes self)) };
 
     ghost holds_kept: { (a b : List Tree) (x : Self) → holds a x → Extends a b → holds b x };
 
@@ -45,8 +48,11 @@ fn fold_handle<T: Stored, F: TypeFolder>(cx: &mut Cx, folder: &mut F, x: T) -> R
     ensures ready { F.ready cx.new.nodes folder.new }
     ensures keeps { F.keeps folder.old folder.new }
     ensures holds { IfOk result (λ r. Holds T.place cx.new.nodes (T.id r)) }
-    ensures walk { IfOk result (λ r. Walk F.answers F.enters F.leaves F.rebuilds (F.meaning cx.old.nodes folder.old) (tree_at cx.old.nodes (T.id x)) (tree_at cx.new.nodes (T.id r)) (F.meaning cx.new.nodes folder.new)) }
-    ensures err { IfErr result (Stops F.answers F.enters F.leaves F.rebuilds F.fails (F.meaning cx.old.nodes folder.old) (tree_at cx.old.nodes (T.id x))) }
+    ensures walk { IfOk result (λ r. Walk F.answers F.enters F.leaves F.rebuilds
+        (F.meaning cx.old.nodes folder.old) (tree_at cx.old.nodes (T.id x)) (tree_at cx.new.nodes
+        (T.id r)) (F.meaning cx.new.nodes folder.new)) }
+    ensures err { IfErr result (Stops F.answers F.enters F.leaves F.rebuilds F.fails
+        (F.meaning cx.old.nodes folder.old) (tree_at cx.old.nodes (T.id x))) }
 {
     let node = fold_node(cx, folder, x.node())?;
     Ok(T::from_node(node))

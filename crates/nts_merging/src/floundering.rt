@@ -20,8 +20,10 @@ pub fn flounder(
     max_universe: UniverseIndex,
     var_kinds: Vec<CanonicalVarKind>,
 ) -> Result<CanonicalResponse, EvalError>
-    ensures response { IfOk result (λ r. response_at cx.new.nodes r ≡ record (unconstrained (map kind_of_var var_kinds.items)) { max_universe = max_universe }) }
-    ensures certainty { IfOk result (λ r. r.value.certainty ≡ doubt_of (map (λ c. c.value.certainty) candidates.now)) }
+    ensures response { IfOk result (λ r. response_at cx.new.nodes r ≡ record (unconstrained
+        (map kind_of_var var_kinds.items)) { max_universe = max_universe }) }
+    ensures certainty { IfOk result (λ r. r.value.certainty ≡ doubt_of
+        (map (λ c. c.value.certainty) candidates.now)) }
     ensures holds { IfOk result (λ r. HoldsResponse cx.new.nodes r.value) }
     ensures grows { Grows cx.old cx.new }
     ensures no { (result ≡ Err EvalError.NoSolution) ↔ (candidates.now ≡ []) }
@@ -42,8 +44,10 @@ pub fn bail_with_ambiguity(
     max_universe: UniverseIndex,
     var_kinds: Vec<CanonicalVarKind>,
 ) -> Result<CanonicalResponse, Fault>
-    ensures response { IfOk result (λ r. response_at cx.new.nodes r ≡ record (unconstrained (map kind_of_var var_kinds.items)) { max_universe = max_universe }) }
-    ensures certainty { IfOk result (λ r. r.value.certainty ≡ doubt_of (map (λ c. c.value.certainty) candidates.now)) }
+    ensures response { IfOk result (λ r. response_at cx.new.nodes r ≡ record (unconstrained
+        (map kind_of_var var_kinds.items)) { max_universe = max_universe }) }
+    ensures certainty { IfOk result (λ r. r.value.certainty ≡ doubt_of
+        (map (λ c. c.value.certainty) candidates.now)) }
     ensures holds { IfOk result (λ r. HoldsResponse cx.new.nodes r.value) }
     ensures grows { Grows cx.old cx.new }
     ensures memory { IsOkUnless result Fault.Memory }

@@ -24,7 +24,8 @@ pub fn try_merge_candidates<'a>(
     candidates: &'a [CanonicalResponse],
 ) -> Option<(&'a CanonicalResponse, MergeCandidateInfo)>
     requires holds { All (λ r. HoldsResponse cx.now.nodes r.value) candidates.now }
-    ensures merges { MatchOption result (Merges cx.now.nodes candidates.now None) (λ m. Merges cx.now.nodes candidates.now (Some (m.0.now, m.1))) }
+    ensures merges { MatchOption result (Merges cx.now.nodes candidates.now None) (λ m.
+        Merges cx.now.nodes candidates.now (Some (m.0.now, m.1))) }
 {
     if let Some(i) = first_that_applies_always(cx, candidates) {
         return Some((&candidates[i], MergeCandidateInfo::AlwaysApplicable(i)));
@@ -38,7 +39,8 @@ pub fn try_merge_candidates<'a>(
 /// The place of the first response that is certain, with neither inference nor external constraints.
 fn first_that_applies_always(cx: &Cx, candidates: &[CanonicalResponse]) -> Option<usize>
     requires { All (λ r. HoldsResponse cx.now.nodes r.value) candidates.now }
-    ensures { MatchOption result (HasNone (AppliesAlways cx.now.nodes) candidates.now) (IsFirstSuch (AppliesAlways cx.now.nodes) candidates.now) }
+    ensures { MatchOption result (HasNone (AppliesAlways cx.now.nodes) candidates.now) (IsFirstSuch
+        (AppliesAlways cx.now.nodes) candidates.now) }
 {
     for i in 0..candidates.len() {
         if applies_always(cx, &candidates[i]) {

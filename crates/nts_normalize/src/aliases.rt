@@ -22,7 +22,8 @@ use nts_unify::named_variable;
 /// The alias that a term is.
 pub(crate) fn alias_of(cx: &Cx, t: Term) -> Option<AliasTerm>
     requires { HoldsTerm cx.now.nodes t }
-    ensures alias { IfSome result (λ a. tree_at cx.now.nodes t.node ≡ tree_of_alias cx.now.nodes a) }
+    ensures alias { IfSome result (λ a. tree_at cx.now.nodes t.node ≡ tree_of_alias cx.now.nodes
+        a) }
     ensures holds { IfSome result (λ a. IsAliasTerm cx.now.nodes a × HoldsResult cx.now.nodes a t) }
     ensures is { IfSome result (λ a. is_alias_tree (tree_at cx.now.nodes t.node) ≡ true) }
     ensures none { IsNone result → is_alias_tree (tree_at cx.now.nodes t.node) ≡ false }
@@ -68,8 +69,10 @@ pub(crate) fn names_variables(
 ) -> Result<bool, Fault>
     requires table { IsTable cx.old.nodes table.now }
     requires holds { HoldsTerm cx.old.nodes t }
-    requires known { Knows (content_of cx.old.nodes table.now.entries) (tree_at cx.old.nodes t.node) }
-    ensures answer { IfOk result (λ b. IsTrue b ↔ NamesVariables universe (content_of cx.old.nodes table.now.entries) (tree_at cx.old.nodes t.node)) }
+    requires known { Knows (content_of cx.old.nodes table.now.entries)
+        (tree_at cx.old.nodes t.node) }
+    ensures answer { IfOk result (λ b. IsTrue b ↔ NamesVariables universe
+        (content_of cx.old.nodes table.now.entries) (tree_at cx.old.nodes t.node)) }
     ensures grows { Grows cx.old cx.new }
     ensures memory { IsOkUnless result Fault.Memory }
 {

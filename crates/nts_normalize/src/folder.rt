@@ -89,14 +89,16 @@ where
         requires goals { All (HoldsGoal cx.old.nodes) self.old.stalled_goals.items }
         requires normalizer { IsNormalizer F.FnMut }
         requires holds { T.holds cx.old.nodes value }
-        ensures normalized { IfOk result (λ r. IsNormalized F.FnMut (standing_with cx.old.nodes table.old
+        ensures normalized { IfOk result (λ r. IsNormalized F.FnMut
+            (standing_with cx.old.nodes table.old
             self.old) (T.tree cx.old.nodes value) (T.tree cx.new.nodes r) (standing_with cx.new.nodes
             table.new self.new)) }
         ensures holds { IfOk result (T.holds cx.new.nodes) }
         ensures goals { All (HoldsGoal cx.new.nodes) self.new.stalled_goals.items }
         ensures table { IsTable cx.new.nodes table.new }
         ensures changes { ChangesEntries table.old table.new }
-        ensures collects { (more : List Goal) × (self.new.stalled_goals.items ≡ self.old.stalled_goals.items ++ more) }
+        ensures collects { (more : List Goal) ×
+            (self.new.stalled_goals.items ≡ self.old.stalled_goals.items ++ more) }
         ensures grows { Grows cx.old cx.new }
         ensures err { IfErr result (StopsNormalizing F.FnMut (standing_with cx.old.nodes table.old
             self.old) (T.tree cx.old.nodes value)) }
@@ -121,10 +123,13 @@ where
         requires args { IsAliasTerm cx.old.nodes alias × HoldsResult cx.old.nodes alias t }
         ensures goes { FolderGoes F.FnMut cx.old cx.new self.old self.new }
         ensures within { IfOk result (λ r. IsIn cx.new.nodes r.node) }
-        ensures kind { IfOk result (λ r. kind_of (tree_at cx.new.nodes r.node) ≡ kind_of (tree_at cx.old.nodes t.node)) }
-        ensures rebuilds { IfOk result (λ r. Rebuilds F.FnMut (standing_of cx.old.nodes self.old) (tree_at
+        ensures kind { IfOk result (λ r. kind_of (tree_at cx.new.nodes r.node) ≡ kind_of
+            (tree_at cx.old.nodes t.node)) }
+        ensures rebuilds { IfOk result (λ r. Rebuilds F.FnMut (standing_of cx.old.nodes self.old)
+            (tree_at
             cx.old.nodes t.node) (tree_at cx.new.nodes r.node) (standing_of cx.new.nodes self.new)) }
-        ensures err { IfErr result (FailsToNormalize F.FnMut (standing_of cx.old.nodes self.old) (Some (tree_at
+        ensures err { IfErr result (FailsToNormalize F.FnMut (standing_of cx.old.nodes self.old)
+            (Some (tree_at
             cx.old.nodes t.node))) }
     {
         if cx.has_escaping_bound_vars(t) {
@@ -144,11 +149,14 @@ where
         requires holds { HoldsTerm cx.old.nodes t }
         requires is { is_alias_tree (tree_at cx.old.nodes t.node) ≡ true }
         requires open { IsClosed (tree_at cx.old.nodes t.node) → ⊥ }
-        requires listed { IsClosedUnder (length self.old.universes.items) (tree_at cx.old.nodes t.node) }
+        requires listed { IsClosedUnder (length self.old.universes.items)
+            (tree_at cx.old.nodes t.node) }
         ensures goes { FolderGoes F.FnMut cx.old cx.new self.old self.new }
         ensures within { IfOk result (λ r. IsIn cx.new.nodes r.node) }
-        ensures kind { IfOk result (λ r. kind_of (tree_at cx.new.nodes r.node) ≡ kind_of (tree_at cx.old.nodes t.node)) }
-        ensures replaced { IfOk result (λ r. IsReplacedUnder F.FnMut (standing_of cx.old.nodes self.old) (tree_at
+        ensures kind { IfOk result (λ r. kind_of (tree_at cx.new.nodes r.node) ≡ kind_of
+            (tree_at cx.old.nodes t.node)) }
+        ensures replaced { IfOk result (λ r. IsReplacedUnder F.FnMut
+            (standing_of cx.old.nodes self.old) (tree_at
             cx.old.nodes t.node) (tree_at cx.new.nodes r.node) (standing_of cx.new.nodes self.new)) }
         ensures err { IfErr result (λ e. (e ≡ EvalError.Memory) ⊎ FailsUnder F.FnMut (standing_of
             cx.old.nodes self.old) (tree_at cx.old.nodes t.node) e) }
@@ -168,10 +176,12 @@ where
         requires ready { IsFolderReady F.FnMut cx.old.nodes self.old }
         requires holds { HoldsTerm cx.old.nodes t }
         requires args { IsAliasTerm cx.old.nodes alias }
-        requires sort { kind_of (tree_of_alias cx.old.nodes alias) ≡ kind_of (tree_at cx.old.nodes t.node) }
+        requires sort { kind_of (tree_of_alias cx.old.nodes alias) ≡ kind_of
+            (tree_at cx.old.nodes t.node) }
         ensures goes { FolderGoes F.FnMut cx.old cx.new self.old self.new }
         ensures within { IfOk result (λ r. IsIn cx.new.nodes r.node) }
-        ensures kind { IfOk result (λ r. kind_of (tree_at cx.new.nodes r.node) ≡ kind_of (tree_at cx.old.nodes t.node)) }
+        ensures kind { IfOk result (λ r. kind_of (tree_at cx.new.nodes r.node) ≡ kind_of
+            (tree_at cx.old.nodes t.node)) }
         ensures ends { IfOk result (λ r. IsAnsweredUnder F.FnMut (standing_of cx.old.nodes self.old)
             (tree_at cx.old.nodes t.node) (tree_of_alias cx.old.nodes alias) (mapped maps.now) (tree_at
             cx.new.nodes r.node) (standing_of cx.new.nodes self.new)) }
@@ -193,14 +203,18 @@ where
         requires ready { IsFolderReady F.FnMut cx.old.nodes self.old }
         requires holds { HoldsTerm cx.old.nodes t }
         requires is { is_alias_tree (tree_at cx.old.nodes t.node) ≡ true }
-        requires listed { IsClosedUnder (length self.old.universes.items) (tree_at cx.old.nodes t.node) }
+        requires listed { IsClosedUnder (length self.old.universes.items)
+            (tree_at cx.old.nodes t.node) }
         ensures goes { FolderGoes F.FnMut cx.old cx.new self.old self.new }
         ensures args { IfOk result (λ r. IsAliasTerm cx.new.nodes r.0) }
-        ensures sort { IfOk result (λ r. kind_of (tree_of_alias cx.new.nodes r.0) ≡ kind_of (tree_at cx.old.nodes t.node)) }
-        ensures opens { IfOk result (λ r. OpensAlias F.FnMut (standing_of cx.old.nodes self.old) (tree_at
+        ensures sort { IfOk result (λ r. kind_of (tree_of_alias cx.new.nodes r.0) ≡ kind_of
+            (tree_at cx.old.nodes t.node)) }
+        ensures opens { IfOk result (λ r. OpensAlias F.FnMut (standing_of cx.old.nodes self.old)
+            (tree_at
             cx.old.nodes t.node) (tree_of_alias cx.new.nodes r.0) (mapped r.1) (standing_of cx.new.nodes
             self.new)) }
-        ensures err { IfErr result (λ e. (e ≡ EvalError.Memory) ⊎ ((e ≡ EvalError.Full) × RunsOut (escapes
+        ensures err { IfErr result (λ e. (e ≡ EvalError.Memory) ⊎ ((e ≡ EvalError.Full) ×
+            RunsOut (escapes
             (tree_at cx.old.nodes t.node)) self.old.universes.items self.old.table.entries.universe u32.MAX)) }
     {
         let (opened, maps) = BoundVarReplacer::replace_bound_vars(
@@ -225,7 +239,8 @@ where
     ) -> Result<bool, Fault>
         requires ready { IsFolderReady F.FnMut cx.old.nodes self.now }
         requires holds { HoldsTerm cx.old.nodes term }
-        requires known { Knows (content_of cx.old.nodes self.now.table.entries) (tree_at cx.old.nodes term.node) }
+        requires known { Knows (content_of cx.old.nodes self.now.table.entries)
+            (tree_at cx.old.nodes term.node) }
         ensures grows { Grows cx.old cx.new }
         ensures left_out { IfOk result (λ b. IsTrue b ↔ IsLeftOut universe (content_of cx.old.nodes
             self.now.table.entries) (tree_at cx.old.nodes term.node) (option_map (tree_of_goal
@@ -243,13 +258,15 @@ where
     fn close(&self, cx: &mut Cx, maps: &PlaceholderMaps, term: Term) -> Result<Term, Fault>
         requires ready { IsFolderReady F.FnMut cx.old.nodes self.now }
         requires holds { HoldsTerm cx.old.nodes term }
-        requires known { Knows (content_of cx.old.nodes self.now.table.entries) (tree_at cx.old.nodes term.node) }
+        requires known { Knows (content_of cx.old.nodes self.now.table.entries)
+            (tree_at cx.old.nodes term.node) }
         ensures grows { Grows cx.old cx.new }
         ensures within { IfOk result (λ r. IsIn cx.new.nodes r.node) }
         ensures tree { IfOk result (λ r. tree_at cx.new.nodes r.node ≡ closed_by (mapped maps.now)
             self.now.universes.items 0 (deeply_resolved (content_of cx.old.nodes self.now.table.entries)
             (tree_at cx.old.nodes term.node))) }
-        ensures kind { IfOk result (λ r. kind_of (tree_at cx.new.nodes r.node) ≡ kind_of (tree_at cx.old.nodes term.node)) }
+        ensures kind { IfOk result (λ r. kind_of (tree_at cx.new.nodes r.node) ≡ kind_of
+            (tree_at cx.old.nodes term.node)) }
         ensures memory { IsOkUnless result Fault.Memory }
     {
         PlaceholderReplacer::replace_placeholders(&self.table, cx, maps, &self.universes, term)
@@ -261,7 +278,8 @@ where
         requires args { IsAliasTerm cx.old.nodes alias }
         ensures goes { FolderGoes F.FnMut cx.old cx.new self.old self.new }
         ensures answer { IfOk result (IsAnswerIn cx.new.nodes self.new.table alias) }
-        ensures asks { IfOk result (λ r. Asks F.FnMut (standing_of cx.old.nodes self.old) (tree_of_alias
+        ensures asks { IfOk result (λ r. Asks F.FnMut (standing_of cx.old.nodes self.old)
+            (tree_of_alias
             cx.old.nodes alias) (tree_at cx.new.nodes r.0.node) (option_map (tree_of_goal cx.new.nodes) r.1)
             (standing_of cx.new.nodes self.new)) }
         ensures universes { self.new.universes ≡ self.old.universes }
@@ -274,8 +292,10 @@ where
 
     /// Collects a goal that was left ambiguous.
     fn collect(&mut self, goal: Option<Goal>) -> Result<(), AllocError>
-        ensures goals { OnOk result (self.new.stalled_goals.items ≡ self.old.stalled_goals.items ++ collected goal) }
-        ensures goals_err { OnErr result (self.new.stalled_goals.items ≡ self.old.stalled_goals.items) }
+        ensures goals { OnOk result
+            (self.new.stalled_goals.items ≡ self.old.stalled_goals.items ++ collected goal) }
+        ensures goals_err { OnErr result
+            (self.new.stalled_goals.items ≡ self.old.stalled_goals.items) }
         ensures table { self.new.table ≡ self.old.table }
         ensures universes { self.new.universes ≡ self.old.universes }
         ensures normalize { self.new.normalize ≡ self.old.normalize }

@@ -62,7 +62,8 @@ fn close_nodes(
     requires within { IsIn nodes.old t }
     ensures extends { Extends nodes.old nodes.new }
     ensures within { IfOk result (IsIn nodes.new) }
-    ensures tree { IfOk result (λ r. tree_at nodes.new r ≡ closed_by (mapped maps.now) universes.now 0 (tree_at nodes.old t)) }
+    ensures tree { IfOk result (λ r. tree_at nodes.new r ≡ closed_by (mapped maps.now) universes.now
+        0 (tree_at nodes.old t)) }
 {
     replace_under(alloc, nodes, &Closer { maps, universes }, t)
 }
@@ -110,7 +111,8 @@ impl Closer<'_> {
     fn close(&self, label: Label, sort: Sort, placeholder: Placeholder, depth: usize) -> Label
         requires is { placeholder_of label ≡ Some (sort, placeholder) }
         requires shallow { depth < 2 ^ 63 }
-        ensures { result ≡ closed_label (mapped self.now.maps.now) self.now.universes.now depth label }
+        ensures { result ≡ closed_label (mapped self.now.maps.now) self.now.universes.now depth
+            label }
     {
         let entry = entry_of_universe(self.universes, placeholder.universe);
         match (self.maps.bound_var(sort, placeholder), entry) {

@@ -27,7 +27,8 @@ pub(crate) fn escaping_variables(
     t: NodeId,
 ) -> Result<Vec<Escaping>, AllocError>
     requires within { IsIn nodes.now t }
-    ensures found { IfOk result (λ xs. (s : Sort) (b : BoundVar) → is_among xs.items s b ≡ escapes (tree_at nodes.now t) s b) }
+    ensures found { IfOk result (λ xs. (s : Sort) (b : BoundVar) →
+        is_among xs.items s b ≡ escapes (tree_at nodes.now t) s b) }
 {
     let mut found = Vec::new(alloc);
     let mut here = BTreeSet::new(alloc);
@@ -51,7 +52,8 @@ fn next_level(
     found: &mut Vec<Escaping>,
 ) -> Result<BTreeSet<usize>, AllocError>
     requires within { above here.old.keys ≤ length nodes.now }
-    ensures deeper { IfOk result (λ deeper. IsDeeper level nodes.now here.old.keys deeper.keys found.old.items found.new.items) }
+    ensures deeper { IfOk result (λ deeper. IsDeeper level nodes.now here.old.keys deeper.keys
+        found.old.items found.new.items) }
 {
     // Equal terms have one number, and children stand before their parents. So where the last number
     // comes first, each node is visited once at each level, however often the value has it.
@@ -78,7 +80,8 @@ fn next_level(
 
 /// Notes the bound variable that a label is, if its binder is outside.
 fn note(found: &mut Vec<Escaping>, level: usize, label: Label) -> Result<(), AllocError>
-    ensures noted { OnOk result ((s : Sort) (b : BoundVar) → is_among found.new.items s b ≡ (is_among found.old.items s b || is_bound s b level label)) }
+    ensures noted { OnOk result ((s : Sort) (b : BoundVar) →
+        is_among found.new.items s b ≡ (is_among found.old.items s b || is_bound s b level label)) }
 {
     if let Label::Bound(sort, index, var) = label {
         match index {

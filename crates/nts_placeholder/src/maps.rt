@@ -63,8 +63,10 @@ impl PlaceholderMaps {
         bound: BoundVar,
     ) -> Result<(), AllocError>
         ensures own { OnOk result (mapped self.new sort placeholder ≡ Some bound) }
-        ensures others { OnOk result ((s : Sort) (p : Placeholder) → ((s ≡ sort) × (p ≡ placeholder)) ⊎ (mapped self.new s p ≡ mapped self.old s p)) }
-        ensures err { OnErr result ((s : Sort) (p : Placeholder) → mapped self.new s p ≡ mapped self.old s p) }
+        ensures others { OnOk result ((s : Sort) (p : Placeholder) → ((s ≡ sort) ×
+            (p ≡ placeholder)) ⊎ (mapped self.new s p ≡ mapped self.old s p)) }
+        ensures err { OnErr result ((s : Sort) (p : Placeholder) →
+            mapped self.new s p ≡ mapped self.old s p) }
     {
         match sort {
             Sort::Ty => self.types.insert(placeholder, bound)?,

@@ -38,7 +38,8 @@ impl BoundVarReplacer {
         value: T,
     ) -> bool
         requires { IsIn cx.now.nodes (T.id value) }
-        ensures { IsTrue result ↔ IsClosedUnder (length universe_indices.now) (tree_at cx.now.nodes (T.id value)) }
+        ensures { IsTrue result ↔ IsClosedUnder (length universe_indices.now) (tree_at cx.now.nodes
+            (T.id value)) }
     {
         is_closed_under(&cx.nodes, universe_indices.len(), value.node())
     }
@@ -54,7 +55,8 @@ impl BoundVarReplacer {
         value: T,
     ) -> Result<(T, PlaceholderMaps), Fault>
         requires holds { Holds T.place cx.old.nodes (T.id value) }
-        requires levels { IsClosedUnder (length universe_indices.old.items) (tree_at cx.old.nodes (T.id value)) }
+        requires levels { IsClosedUnder (length universe_indices.old.items) (tree_at cx.old.nodes
+            (T.id value)) }
         ensures tree { IfOk result (λ r. tree_at cx.new.nodes (T.id r.0) ≡
             opened_by universe_indices.new.items 0 (tree_at cx.old.nodes (T.id value))) }
         ensures holds { IfOk result (λ r. Holds T.place cx.new.nodes (T.id r.0)) }
@@ -70,7 +72,8 @@ impl BoundVarReplacer {
         ensures grows { Grows cx.old cx.new }
         ensures list_err { OnErr result (universe_indices.new.items ≡ universe_indices.old.items) }
         ensures table_err { OnErr result (table.new ≡ table.old) }
-        ensures full { result ≡ Err Fault.Full → RunsOut (escapes (tree_at cx.old.nodes (T.id value)))
+        ensures full { result ≡ Err Fault.Full →
+            RunsOut (escapes (tree_at cx.old.nodes (T.id value)))
             universe_indices.old.items table.old.entries.universe u32.MAX }
         ensures enough { OnOk result (RunsOut (escapes (tree_at cx.old.nodes (T.id value)))
             universe_indices.old.items table.old.entries.universe u32.MAX → ⊥) }
@@ -99,7 +102,8 @@ fn maps_of(
     found: &[Escaping],
     universes: &[Option<UniverseIndex>],
 ) -> Result<PlaceholderMaps, AllocError>
-    requires { (s : Sort) (b : BoundVar) → is_among found.now s b ≡ true → b.level < length universes.now }
+    requires { (s : Sort) (b : BoundVar) → is_among found.now s b ≡ true →
+        b.level < length universes.now }
     ensures { IfOk result (λ maps. AreMapsOf universes.now (is_among found.now) (mapped maps)) }
 {
     let mut maps = PlaceholderMaps::new(alloc);
@@ -123,7 +127,8 @@ fn open_nodes(
     requires levels { IsClosedUnder (length universes.now) (tree_at nodes.old t) }
     ensures extends { Extends nodes.old nodes.new }
     ensures within { IfOk result (IsIn nodes.new) }
-    ensures tree { IfOk result (λ r. tree_at nodes.new r ≡ opened_by universes.now 0 (tree_at nodes.old t)) }
+    ensures tree { IfOk result (λ r. tree_at nodes.new r ≡ opened_by universes.now 0
+        (tree_at nodes.old t)) }
 {
     replace_under(alloc, nodes, &Opener { universes }, t)
 }

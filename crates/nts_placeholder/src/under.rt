@@ -38,7 +38,8 @@ pub trait ReplacerUnder {
         requires shallow { place.depth < 2 ^ 63 }
         requires covers { covers (meaning self.now) place.depth (tree_at nodes.old place.node) }
         ensures extends { Extends nodes.old nodes.new }
-        ensures step { IfOk result (IsStepUnder (covers (meaning self.now)) (image (meaning self.now)) place.depth nodes.new (tree_at nodes.old place.node)) };
+        ensures step { IfOk result (IsStepUnder (covers (meaning self.now))
+            (image (meaning self.now)) place.depth nodes.new (tree_at nodes.old place.node)) };
 
     ghost image_empty: { (m : Meaning) (d : ℕ) → image m d empty ≡ empty };
 
@@ -69,7 +70,8 @@ pub fn replace_under<R: ReplacerUnder>(
     requires covers { R.covers (R.meaning replacer.now) 0 (tree_at nodes.old t) }
     ensures extends { Extends nodes.old nodes.new }
     ensures within { IfOk result (IsIn nodes.new) }
-    ensures tree { IfOk result (λ r. tree_at nodes.new r ≡ R.image (R.meaning replacer.now) 0 (tree_at nodes.old t)) }
+    ensures tree { IfOk result (λ r. tree_at nodes.new r ≡ R.image (R.meaning replacer.now) 0
+        (tree_at nodes.old t)) }
 {
     let mut tasks = Vec::new(alloc);
     let mut found = Vec::new(alloc);
@@ -96,7 +98,8 @@ fn walk<R: ReplacerUnder>(
     requires unknown { (k : Place) → get ⟦<Place as PartialEq>⟧.eq known.old k ≡ None }
     ensures extends { Extends nodes.old nodes.new }
     ensures within { IfOk result (IsIn nodes.new) }
-    ensures tree { IfOk result (λ r. tree_at nodes.new r ≡ R.image (R.meaning replacer.now) 0 (tree_at nodes.old t)) }
+    ensures tree { IfOk result (λ r. tree_at nodes.new r ≡ R.image (R.meaning replacer.now) 0
+        (tree_at nodes.old t)) }
 {
     tasks.push(Task::Enter(Place { node: t, depth: 0 }))?;
     while let Some(task) = tasks.pop() {
@@ -127,7 +130,8 @@ fn push_node(nodes: &Nodes, place: Place, tasks: &mut Vec<Task>) -> Result<(), A
     requires tasks { AreTasksUnder nodes.now tasks.old.items }
     ensures tasks { OnOk result (AreTasksUnder nodes.now tasks.new.items) }
     ensures formed { IsFormedNode (tree_at nodes.now place.node) }
-    ensures jobs { OnOk result (jobs nodes.now tasks.new.items ≡ jobs nodes.now tasks.old.items ++ building place.depth (tree_at nodes.now place.node)) }
+    ensures jobs { OnOk result (jobs nodes.now tasks.new.items ≡ jobs nodes.now
+        tasks.old.items ++ building place.depth (tree_at nodes.now place.node)) }
 {
     let label = nodes.label(place.node);
     let depth = place.depth + binders_of(label);

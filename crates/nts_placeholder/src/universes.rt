@@ -21,7 +21,8 @@ pub struct Filled {
 
 /// The place after the last open entry that one of the bound variables names, or the first place.
 pub(crate) fn reach_of(universes: &[Option<UniverseIndex>], found: &[Escaping]) -> usize
-    requires { (s : Sort) (b : BoundVar) → is_among found.now s b ≡ true → b.level < length universes.now }
+    requires { (s : Sort) (b : BoundVar) → is_among found.now s b ≡ true →
+        b.level < length universes.now }
     ensures { IsReach universes.now (is_among found.now) result }
 {
     let mut end = 0;
@@ -42,7 +43,8 @@ pub(crate) fn fill(
     end: usize,
     universe: UniverseIndex,
 ) -> Result<Filled, Fault>
-    ensures list { IfOk result (λ f. f.universes.items ≡ filled_universes universe end universes.now) }
+    ensures list { IfOk result (λ f. f.universes.items ≡ filled_universes universe end
+        universes.now) }
     ensures count { IfOk result (λ f. f.count ≡ open_before end universes.now) }
     ensures full { result ≡ Err Fault.Full → u32.MAX < universe + open_before end universes.now }
 {

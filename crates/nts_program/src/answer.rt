@@ -41,7 +41,8 @@ fn typing_mode(alloc: Global, mode: Mode) -> TypingMode
 #[tactic(auto, using(crate::proofs::Asking::asking))]
 pub fn ask(cx: &mut Cx, clauses: &Clauses, mode: Mode, nodes: &[Resolved]) -> Result<Answer, Stop>
     requires ready { AreClausesReady cx.old.nodes clauses.now }
-    ensures yes { IfOk result (IsJustifiedAnswer mode nodes.now cx.old.nodes cx.new.nodes clauses.now) }
+    ensures yes { IfOk result (IsJustifiedAnswer mode nodes.now cx.old.nodes cx.new.nodes
+        clauses.now) }
     ensures grows { Grows cx.old cx.new }
 {
     let mut variables = LineVariables::new(cx.alloc);

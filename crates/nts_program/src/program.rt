@@ -124,7 +124,8 @@ impl Program {
     fn declare_trait(&mut self, number: usize, coinductive: bool) -> Result<(), Stop>
         requires ready { AreClausesReady self.old.cx.nodes self.old.clauses }
         ensures ready { OnOk result (AreClausesReady self.new.cx.nodes self.new.clauses) }
-        ensures declared { OnOk result (DeclaresTrait (trait_sorts self.old.names number) self.old.cx self.new.cx) }
+        ensures declared { OnOk result (DeclaresTrait (trait_sorts self.old.names number)
+            self.old.cx self.new.cx) }
         ensures coinductive { OnOk result (coinductive ≡ true →
             MakesCoinductive self.old.clauses self.new.clauses
             (length self.old.cx.declarations.traits)) }
@@ -168,7 +169,8 @@ impl Program {
     fn answer(&mut self, nodes: &[Resolved]) -> Result<Vec<u8>, Stop>
         requires ready { AreClausesReady self.old.cx.nodes self.old.clauses }
         ensures ready { OnOk result (AreClausesReady self.new.cx.nodes self.new.clauses) }
-        ensures told { IfOk result (λ text. IsAnswerWritten self.old self.new nodes.now text.items) }
+        ensures told { IfOk result (λ text. IsAnswerWritten self.old self.new nodes.now
+            text.items) }
         ensures grows { OnOk result (Grows self.old.cx self.new.cx) }
         ensures rules { KeepsRules self.old self.new }
         ensures names { self.new.names ≡ self.old.names }

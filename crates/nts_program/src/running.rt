@@ -81,7 +81,8 @@ fn handle_line<W: Write>(
     ensures answered { OnOk result (IsAnsweredLine line.now program.old program.new
         (W.contents output.old) (W.contents output.new)) }
     ensures refused { IfErr result (λ s. status_of s ≡ Refused → IsPassedOver line.now → ⊥) }
-    ensures told { IfErr result (IsStopTold (W.contents output.old) (W.contents output.new) number) }
+    ensures told { IfErr result (IsStopTold (W.contents output.old)
+        (W.contents output.new) number) }
     ensures begins { Begins (W.contents output.old) (W.contents output.new) }
     ensures passed { OnOk result (IsPassedOver line.now → output.new ≡ output.old) }
 {

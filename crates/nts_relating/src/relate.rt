@@ -72,7 +72,8 @@ fn relate_regions(
     requires right { IsRegionOf nodes.now table.old.entries b }
     ensures changes { KeepsHidden table.old table.new }
     ensures lawful { OnOk result (IsLawful nodes.now table.new.entries) }
-    ensures related { OnOk result (RegionsRelate (content_of nodes.now table.old.entries) (content_of nodes.now table.new.entries) (tree_at nodes.now a) (tree_at nodes.now b)) }
+    ensures related { OnOk result (RegionsRelate (content_of nodes.now table.old.entries)
+        (content_of nodes.now table.new.entries) (tree_at nodes.now a) (tree_at nodes.now b)) }
     ensures no { result ≢ Err NoSolution }
     ensures full { result ≢ Err EvalError.Full }
 {
@@ -114,7 +115,8 @@ pub fn relate_variables(
     requires right { IsBindable table.old.entries y }
     ensures extends { Extends nodes.old nodes.new }
     ensures changes { KeepsHidden table.old table.new }
-    ensures related { IfOk result (VariablesRelate nodes.old nodes.new table.old.entries table.new.entries x y) }
+    ensures related { IfOk result (VariablesRelate nodes.old nodes.new table.old.entries
+        table.new.entries x y) }
     ensures no { result ≡ Err NoSolution → KeepsApart (content_of nodes.old table.old.entries) x y }
     ensures full { result ≢ Err EvalError.Full }
 {
@@ -151,7 +153,8 @@ fn bind_variable(
     ensures extends { Extends nodes.old nodes.new }
     ensures changes { KeepsHidden table.old table.new }
     ensures lawful { OnOk result (IsLawful nodes.new table.new.entries) }
-    ensures made { OnOk result (AreMadeOne (content_of nodes.old table.old.entries) (content_of nodes.new table.new.entries) x y) }
+    ensures made { OnOk result (AreMadeOne (content_of nodes.old table.old.entries)
+        (content_of nodes.new table.new.entries) x y) }
     ensures no { result ≢ Err NoSolution }
     ensures full { result ≢ Err EvalError.Full }
 {
@@ -193,14 +196,17 @@ pub fn bind(
     t: NodeId,
 ) -> Result<(), EvalError>
     requires within { IsIn nodes.old t }
-    requires closed { IsClosedHead (content_of nodes.old table.old.entries) (tree_at nodes.old t) (tree_at nodes.old t) }
+    requires closed { IsClosedHead (content_of nodes.old table.old.entries) (tree_at nodes.old t)
+        (tree_at nodes.old t) }
     requires lawful { IsLawful nodes.old table.old.entries }
     requires open { IsBindable table.old.entries x }
     ensures extends { Extends nodes.old nodes.new }
     ensures changes { KeepsHidden table.old table.new }
     ensures lawful { OnOk result (IsLawful nodes.new table.new.entries) }
-    ensures set { OnOk result (IsSet (content_of nodes.old table.old.entries) (content_of nodes.new table.new.entries) x (tree_at nodes.old t)) }
-    ensures no { result ≡ Err NoSolution → Forbids (content_of nodes.old table.old.entries) x (tree_at nodes.old t) }
+    ensures set { OnOk result (IsSet (content_of nodes.old table.old.entries)
+        (content_of nodes.new table.new.entries) x (tree_at nodes.old t)) }
+    ensures no { result ≡ Err NoSolution → Forbids (content_of nodes.old table.old.entries) x
+        (tree_at nodes.old t) }
     ensures full { result ≢ Err EvalError.Full }
 {
     let variable = table.variable(x);
@@ -234,8 +240,10 @@ fn push_children(
     requires left { IsIn nodes.now a }
     requires right { IsIn nodes.now b }
     requires row { IsRow (children (tree_at nodes.now b)) }
-    requires long { row_length (children (tree_at nodes.now a)) ≡ row_length (children (tree_at nodes.now b)) }
-    ensures pushed { OnOk result (Pushed nodes.now pairs.old.items pairs.new.items (children (tree_at nodes.now a)) (children (tree_at nodes.now b)) 0) }
+    requires long { row_length (children (tree_at nodes.now a)) ≡ row_length
+        (children (tree_at nodes.now b)) }
+    ensures pushed { OnOk result (Pushed nodes.now pairs.old.items pairs.new.items
+        (children (tree_at nodes.now a)) (children (tree_at nodes.now b)) 0) }
     ensures no { result ≢ Err NoSolution }
     ensures full { result ≢ Err EvalError.Full }
 {
@@ -265,13 +273,19 @@ fn relate_heads(
     requires memo { IsMemo nodes.now table.old.entries (pairs.old.items ++ pair ∷ []) met.old.keys }
     requires left_in { IsIn nodes.now a }
     requires right_in { IsIn nodes.now b }
-    requires left { IsClosedHead (content_of nodes.now table.old.entries) (tree_at nodes.now pair.left) (tree_at nodes.now a) }
-    requires right { IsClosedHead (content_of nodes.now table.old.entries) (tree_at nodes.now pair.right) (tree_at nodes.now b) }
+    requires left { IsClosedHead (content_of nodes.now table.old.entries)
+        (tree_at nodes.now pair.left) (tree_at nodes.now a) }
+    requires right { IsClosedHead (content_of nodes.now table.old.entries)
+        (tree_at nodes.now pair.right) (tree_at nodes.now b) }
     ensures changes { KeepsHidden table.old table.new }
     ensures valid { OnOk result (IsValid nodes.now table.new.entries pairs.new.items) }
     ensures memo { OnOk result (IsMemo nodes.now table.new.entries pairs.new.items met.new.keys) }
-    ensures step { OnOk result (IsPairStep (content_of nodes.now table.old.entries) (content_of nodes.now table.new.entries) (all_sides_at nodes.now (pairs.old.items ++ pair ∷ [])) (all_sides_at nodes.now pairs.new.items) false) }
-    ensures no { result ≡ Err NoSolution → Refuses (content_of nodes.now table.old.entries) (all_sides_at nodes.now (pairs.old.items ++ pair ∷ [])) }
+    ensures step { OnOk result (IsPairStep (content_of nodes.now table.old.entries)
+        (content_of nodes.now table.new.entries) (all_sides_at nodes.now
+        (pairs.old.items ++ pair ∷ [])) (all_sides_at nodes.now pairs.new.items) false) }
+    ensures no { result ≡ Err NoSolution →
+        Refuses (content_of nodes.now table.old.entries) (all_sides_at nodes.now
+        (pairs.old.items ++ pair ∷ [])) }
     ensures full { result ≢ Err EvalError.Full }
 {
     if a.number == b.number {
@@ -315,8 +329,12 @@ fn step(
     ensures changes { KeepsHidden table.old table.new }
     ensures valid { OnOk result (IsValid nodes.new table.new.entries pairs.new.items) }
     ensures memo { OnOk result (IsMemo nodes.new table.new.entries pairs.new.items met.new.keys) }
-    ensures step { IfOk result (λ bound. IsPairStep (content_of nodes.old table.old.entries) (content_of nodes.new table.new.entries) (all_sides_at nodes.old (pairs.old.items ++ pair ∷ [])) (all_sides_at nodes.new pairs.new.items) bound) }
-    ensures no { result ≡ Err NoSolution → Refuses (content_of nodes.old table.old.entries) (all_sides_at nodes.old (pairs.old.items ++ pair ∷ [])) }
+    ensures step { IfOk result (λ bound. IsPairStep (content_of nodes.old table.old.entries)
+        (content_of nodes.new table.new.entries) (all_sides_at nodes.old
+        (pairs.old.items ++ pair ∷ [])) (all_sides_at nodes.new pairs.new.items) bound) }
+    ensures no { result ≡ Err NoSolution →
+        Refuses (content_of nodes.old table.old.entries) (all_sides_at nodes.old
+        (pairs.old.items ++ pair ∷ [])) }
     ensures full { result ≢ Err EvalError.Full }
 {
     let left = head_of(nodes, table, pair.left);
@@ -356,8 +374,11 @@ fn run(
     ensures changes { KeepsHidden table.old table.new }
     ensures valid { OnOk result (IsValid nodes.new table.new.entries pairs.new.items) }
     ensures memo { OnOk result (IsMemo nodes.new table.new.entries pairs.new.items met.new.keys) }
-    ensures run { IfOk result (λ bound. IsPairRun (content_of nodes.old table.old.entries) (content_of nodes.new table.new.entries) (all_sides_at nodes.old pairs.old.items) (all_sides_at nodes.new pairs.new.items) bound) }
-    ensures no { result ≡ Err NoSolution → Refuses (content_of nodes.old table.old.entries) (all_sides_at nodes.old pairs.old.items) }
+    ensures run { IfOk result (λ bound. IsPairRun (content_of nodes.old table.old.entries)
+        (content_of nodes.new table.new.entries) (all_sides_at nodes.old pairs.old.items)
+        (all_sides_at nodes.new pairs.new.items) bound) }
+    ensures no { result ≡ Err NoSolution →
+        Refuses (content_of nodes.old table.old.entries) (all_sides_at nodes.old pairs.old.items) }
     ensures full { result ≢ Err EvalError.Full }
 {
     while let Some(pair) = pairs.pop() {
@@ -386,11 +407,16 @@ fn run_all(
     ensures extends { Extends nodes.old nodes.new }
     ensures changes { KeepsHidden table.old table.new }
     ensures lawful { OnOk result (IsLawful nodes.new table.new.entries) }
-    ensures later { OnOk result (IsLater (content_of nodes.old table.old.entries) (content_of nodes.new table.new.entries)) }
-    ensures reduces { OnOk result (Reduces (content_of nodes.old table.old.entries) (content_of nodes.new table.new.entries) (all_sides_at nodes.old pairs.old.items) []) }
-    ensures brings { OnOk result (PairsBring (content_of nodes.old table.old.entries) (content_of nodes.new table.new.entries) (all_sides_at nodes.old pairs.old.items) []) }
-    ensures ties { OnOk result (TiesNew (content_of nodes.old table.old.entries) (content_of nodes.new table.new.entries)) }
-    ensures no { result ≡ Err NoSolution → Refuses (content_of nodes.old table.old.entries) (all_sides_at nodes.old pairs.old.items) }
+    ensures later { OnOk result (IsLater (content_of nodes.old table.old.entries)
+        (content_of nodes.new table.new.entries)) }
+    ensures reduces { OnOk result (Reduces (content_of nodes.old table.old.entries)
+        (content_of nodes.new table.new.entries) (all_sides_at nodes.old pairs.old.items) []) }
+    ensures brings { OnOk result (PairsBring (content_of nodes.old table.old.entries)
+        (content_of nodes.new table.new.entries) (all_sides_at nodes.old pairs.old.items) []) }
+    ensures ties { OnOk result (TiesNew (content_of nodes.old table.old.entries)
+        (content_of nodes.new table.new.entries)) }
+    ensures no { result ≡ Err NoSolution →
+        Refuses (content_of nodes.old table.old.entries) (all_sides_at nodes.old pairs.old.items) }
     ensures full { result ≢ Err EvalError.Full }
 {
     loop {
@@ -424,13 +450,21 @@ pub fn relate_nodes(
     ensures extends { Extends nodes.old nodes.new }
     ensures lawful { IsLawful nodes.new table.new.entries }
     ensures changes { KeepsHidden table.old table.new }
-    ensures later { IsLater (content_of nodes.old table.old.entries) (content_of nodes.new table.new.entries) }
-    ensures related { OnOk result (AreRelated (content_of nodes.old table.old.entries) (content_of nodes.new table.new.entries) (tree_at nodes.old a) (tree_at nodes.old b)) }
-    ensures labels { OnOk result (BringsLabelsOf (content_of nodes.old table.old.entries) (content_of nodes.new table.new.entries) (tree_at nodes.old a) (tree_at nodes.old b)) }
-    ensures plain { OnOk result (IsPlainIn (content_of nodes.old table.old.entries) (tree_at nodes.old a) → IsPlainIn (content_of nodes.old table.old.entries) (tree_at nodes.old b) → KeepsPlain (content_of nodes.old table.old.entries) (content_of nodes.new table.new.entries)) }
-    ensures ties { OnOk result (TiesNew (content_of nodes.old table.old.entries) (content_of nodes.new table.new.entries)) }
+    ensures later { IsLater (content_of nodes.old table.old.entries)
+        (content_of nodes.new table.new.entries) }
+    ensures related { OnOk result (AreRelated (content_of nodes.old table.old.entries)
+        (content_of nodes.new table.new.entries) (tree_at nodes.old a) (tree_at nodes.old b)) }
+    ensures labels { OnOk result (BringsLabelsOf (content_of nodes.old table.old.entries)
+        (content_of nodes.new table.new.entries) (tree_at nodes.old a) (tree_at nodes.old b)) }
+    ensures plain { OnOk result (IsPlainIn (content_of nodes.old table.old.entries)
+        (tree_at nodes.old a) → IsPlainIn (content_of nodes.old table.old.entries)
+        (tree_at nodes.old b) → KeepsPlain (content_of nodes.old table.old.entries)
+        (content_of nodes.new table.new.entries)) }
+    ensures ties { OnOk result (TiesNew (content_of nodes.old table.old.entries)
+        (content_of nodes.new table.new.entries)) }
     ensures err { OnErr result (table.new ≡ table.old) }
-    ensures no { result ≡ Err NoSolution → AreUnrelated (content_of nodes.old table.old.entries) (tree_at nodes.old a) (tree_at nodes.old b) }
+    ensures no { result ≡ Err NoSolution → AreUnrelated (content_of nodes.old table.old.entries)
+        (tree_at nodes.old a) (tree_at nodes.old b) }
     ensures full { result ≢ Err EvalError.Full }
 {
     let mut pairs = Vec::new(alloc);

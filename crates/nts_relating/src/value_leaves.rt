@@ -45,7 +45,8 @@ pub fn is_settled(flags: TypeFlags, binders: usize) -> bool
 pub fn is_allowed(target: Target, label: Label) -> bool
     ensures named { result ≡ true → CanName target.universe (term_level label) }
     ensures bound { result ≡ true → IsBoundBelow target.binders label }
-    ensures no { result ≡ false → CanName target.universe (term_level label) → IsBoundBelow target.binders label → ⊥ }
+    ensures no { result ≡ false → CanName target.universe (term_level label) →
+        IsBoundBelow target.binders label → ⊥ }
 {
     match label {
         Label::Leaf(Leaf::TyConstant(Constant::Placeholder(u, _))) => u <= target.universe,
@@ -77,7 +78,9 @@ pub fn name_variable(
     ensures changes { KeepsHidden table.old table.new }
     ensures within { IfOk result (λ r. IsIn nodes.new r) }
     ensures lawful { OnOk result (IsLawful nodes.new table.new.entries) }
-    ensures generalized { IfOk result (λ r. Generalized (content_of nodes.old table.old.entries) (content_of nodes.new table.new.entries) target.variable target.universe target.binders (tree_at nodes.old t) (tree_at nodes.new r)) }
+    ensures generalized { IfOk result (λ r. Generalized (content_of nodes.old table.old.entries)
+        (content_of nodes.new table.new.entries) target.variable target.universe target.binders
+        (tree_at nodes.old t) (tree_at nodes.new r)) }
     ensures full { result ≢ Err EvalError.Full }
     ensures no { result ≢ Err EvalError.NoSolution }
 {
@@ -106,12 +109,15 @@ pub fn name_region(
     requires region { IsRegionOf nodes.old table.old.entries t }
     requires known { target.variable < length table.old.entries.variables }
     requires named { target.universe ≤ table.old.entries.universe }
-    requires no_region { kind_at (content_of nodes.old table.old.entries) target.variable ≢ Some kind.Region }
+    requires no_region { kind_at (content_of nodes.old table.old.entries) target.variable ≢ Some
+        kind.Region }
     ensures extends { Extends nodes.old nodes.new }
     ensures changes { KeepsHidden table.old table.new }
     ensures within { IfOk result (λ r. IsIn nodes.new r) }
     ensures lawful { OnOk result (IsLawful nodes.new table.new.entries) }
-    ensures generalized { IfOk result (λ r. Generalized (content_of nodes.old table.old.entries) (content_of nodes.new table.new.entries) target.variable target.universe target.binders (tree_at nodes.old t) (tree_at nodes.new r)) }
+    ensures generalized { IfOk result (λ r. Generalized (content_of nodes.old table.old.entries)
+        (content_of nodes.new table.new.entries) target.variable target.universe target.binders
+        (tree_at nodes.old t) (tree_at nodes.new r)) }
     ensures full { result ≢ Err EvalError.Full }
     ensures no { result ≢ Err EvalError.NoSolution }
 {

@@ -70,13 +70,17 @@ fn look_at(
     requires lawful { IsLawful nodes.old table.old.entries }
     requires known { target.variable < length table.old.entries.variables }
     requires named { target.universe ≤ table.old.entries.universe }
-    requires no_region { kind_at (content_of nodes.old table.old.entries) target.variable ≢ Some kind.Region }
+    requires no_region { kind_at (content_of nodes.old table.old.entries) target.variable ≢ Some
+        kind.Region }
     ensures extends { Extends nodes.old nodes.new }
     ensures changes { KeepsHidden table.old table.new }
     ensures lawful { OnOk result (IsLawful nodes.new table.new.entries) }
-    ensures look { IfOk result (IsGeneralizingLook nodes.old nodes.new table.old.entries table.new.entries target.variable target.universe target.binders t) }
+    ensures look { IfOk result (IsGeneralizingLook nodes.old nodes.new table.old.entries
+        table.new.entries target.variable target.universe target.binders t) }
     ensures full { result ≢ Err EvalError.Full }
-    ensures no { result ≡ Err EvalError.NoSolution → Blocks (content_of nodes.old table.old.entries) target.variable target.universe target.binders (tree_at nodes.old t) }
+    ensures no { result ≡ Err EvalError.NoSolution →
+        Blocks (content_of nodes.old table.old.entries) target.variable target.universe
+        target.binders (tree_at nodes.old t) }
 {
     let label = nodes.label(t);
     if let Some(n) = infer_number(label) {
@@ -108,7 +112,9 @@ fn look_at(
 fn push_node(nodes: &Nodes, tasks: &mut Vec<Task>, part: Part) -> Result<(), EvalError>
     requires within { IsIn nodes.now part.term }
     requires room { part.binders + part.term.number < 2 ^ 64 }
-    ensures entered { OnOk result (IsEntered nodes.now (children (tree_at nodes.now part.term)) (inner part.binders (tree_at nodes.now part.term)) part.term.number 0 (tasks.old.items ++ task.Build part ∷ []) tasks.new.items) }
+    ensures entered { OnOk result (IsEntered nodes.now (children (tree_at nodes.now part.term))
+        (inner part.binders (tree_at nodes.now part.term)) part.term.number 0
+        (tasks.old.items ++ task.Build part ∷ []) tasks.new.items) }
     ensures full { result ≢ Err EvalError.Full }
     ensures no { result ≢ Err EvalError.NoSolution }
 {
@@ -132,13 +138,19 @@ fn enter(
     target: Target,
     part: Part,
 ) -> Result<(), EvalError>
-    requires walk { IsGeneralizingWalk nodes.old table.old.entries target.variable target.universe walk.old.root (walk.old.tasks.items ++ task.Enter part ∷ []) (made_at walk.old.made) }
+    requires walk { IsGeneralizingWalk nodes.old table.old.entries target.variable target.universe
+        walk.old.root (walk.old.tasks.items ++ task.Enter part ∷ []) (made_at walk.old.made) }
     ensures extends { Extends nodes.old nodes.new }
     ensures changes { KeepsHidden table.old table.new }
     ensures root { walk.new.root ≡ walk.old.root }
-    ensures turn { OnOk result (IsGeneralizingTurn nodes.old nodes.new table.old.entries table.new.entries target.variable target.universe walk.old.root (walk.old.tasks.items ++ task.Enter part ∷ []) walk.new.tasks.items (made_at walk.new.made)) }
+    ensures turn { OnOk result (IsGeneralizingTurn nodes.old nodes.new table.old.entries
+        table.new.entries target.variable target.universe walk.old.root
+        (walk.old.tasks.items ++ task.Enter part ∷ []) walk.new.tasks.items
+        (made_at walk.new.made)) }
     ensures full { result ≢ Err EvalError.Full }
-    ensures no { result ≡ Err EvalError.NoSolution → Blocks (content_of nodes.old table.old.entries) target.variable target.universe walk.old.root.binders (tree_at nodes.old walk.old.root.term) }
+    ensures no { result ≡ Err EvalError.NoSolution →
+        Blocks (content_of nodes.old table.old.entries) target.variable target.universe
+        walk.old.root.binders (tree_at nodes.old walk.old.root.term) }
 {
     // Equal terms have one number. So a node is entered once under as many binders, however often
     // the term has it.
@@ -185,10 +197,14 @@ fn build(
     target: Target,
     part: Part,
 ) -> Result<(), EvalError>
-    requires walk { IsGeneralizingWalk nodes.old table.now.entries target.variable target.universe walk.old.root (walk.old.tasks.items ++ task.Build part ∷ []) (made_at walk.old.made) }
+    requires walk { IsGeneralizingWalk nodes.old table.now.entries target.variable target.universe
+        walk.old.root (walk.old.tasks.items ++ task.Build part ∷ []) (made_at walk.old.made) }
     ensures extends { Extends nodes.old nodes.new }
     ensures root { walk.new.root ≡ walk.old.root }
-    ensures turn { OnOk result (IsGeneralizingTurn nodes.old nodes.new table.now.entries table.now.entries target.variable target.universe walk.old.root (walk.old.tasks.items ++ task.Build part ∷ []) walk.new.tasks.items (made_at walk.new.made)) }
+    ensures turn { OnOk result (IsGeneralizingTurn nodes.old nodes.new table.now.entries
+        table.now.entries target.variable target.universe walk.old.root
+        (walk.old.tasks.items ++ task.Build part ∷ []) walk.new.tasks.items
+        (made_at walk.new.made)) }
     ensures full { result ≢ Err EvalError.Full }
     ensures no { result ≢ Err EvalError.NoSolution }
 {
@@ -215,13 +231,18 @@ fn step(
     target: Target,
     task: Task,
 ) -> Result<(), EvalError>
-    requires walk { IsGeneralizingWalk nodes.old table.old.entries target.variable target.universe walk.old.root (walk.old.tasks.items ++ task ∷ []) (made_at walk.old.made) }
+    requires walk { IsGeneralizingWalk nodes.old table.old.entries target.variable target.universe
+        walk.old.root (walk.old.tasks.items ++ task ∷ []) (made_at walk.old.made) }
     ensures extends { Extends nodes.old nodes.new }
     ensures changes { KeepsHidden table.old table.new }
     ensures root { walk.new.root ≡ walk.old.root }
-    ensures turn { OnOk result (IsGeneralizingTurn nodes.old nodes.new table.old.entries table.new.entries target.variable target.universe walk.old.root (walk.old.tasks.items ++ task ∷ []) walk.new.tasks.items (made_at walk.new.made)) }
+    ensures turn { OnOk result (IsGeneralizingTurn nodes.old nodes.new table.old.entries
+        table.new.entries target.variable target.universe walk.old.root
+        (walk.old.tasks.items ++ task ∷ []) walk.new.tasks.items (made_at walk.new.made)) }
     ensures full { result ≢ Err EvalError.Full }
-    ensures no { result ≡ Err EvalError.NoSolution → Blocks (content_of nodes.old table.old.entries) target.variable target.universe walk.old.root.binders (tree_at nodes.old walk.old.root.term) }
+    ensures no { result ≡ Err EvalError.NoSolution →
+        Blocks (content_of nodes.old table.old.entries) target.variable target.universe
+        walk.old.root.binders (tree_at nodes.old walk.old.root.term) }
 {
     match task {
         Task::Enter(part) => enter(nodes, table, walk, target, part),
@@ -266,15 +287,20 @@ pub fn generalize(
     requires lawful { IsLawful nodes.old table.old.entries }
     requires known { target.variable < length table.old.entries.variables }
     requires named { target.universe ≤ table.old.entries.universe }
-    requires no_region { kind_at (content_of nodes.old table.old.entries) target.variable ≢ Some kind.Region }
+    requires no_region { kind_at (content_of nodes.old table.old.entries) target.variable ≢ Some
+        kind.Region }
     requires room { target.binders + t.number < 2 ^ 64 }
     ensures extends { Extends nodes.old nodes.new }
     ensures changes { KeepsHidden table.old table.new }
     ensures within { IfOk result (λ r. IsIn nodes.new r) }
     ensures lawful { OnOk result (IsLawful nodes.new table.new.entries) }
-    ensures generalized { IfOk result (λ r. Generalized (content_of nodes.old table.old.entries) (content_of nodes.new table.new.entries) target.variable target.universe target.binders (tree_at nodes.old t) (tree_at nodes.new r)) }
+    ensures generalized { IfOk result (λ r. Generalized (content_of nodes.old table.old.entries)
+        (content_of nodes.new table.new.entries) target.variable target.universe target.binders
+        (tree_at nodes.old t) (tree_at nodes.new r)) }
     ensures full { result ≢ Err EvalError.Full }
-    ensures no { result ≡ Err EvalError.NoSolution → Blocks (content_of nodes.old table.old.entries) target.variable target.universe target.binders (tree_at nodes.old t) }
+    ensures no { result ≡ Err EvalError.NoSolution →
+        Blocks (content_of nodes.old table.old.entries) target.variable target.universe
+        target.binders (tree_at nodes.old t) }
 {
     let root = Part {
         term: t,

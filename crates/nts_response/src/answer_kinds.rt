@@ -30,7 +30,9 @@ pub(crate) fn answer_kinds(
 ) -> Result<Vec<CanonicalVarKind>, AllocError>
     requires descends { LinksDescend table.now.entries }
     requires owned { AreOwned table.now.entries leaves.now }
-    ensures { (ts : List Tree) → IfOk result (λ v. map kind_of_var v.items ≡ answer_kinds (content_of ts table.now.entries) (sub_root_in table.now.entries) max_input_universe leaves.now) }
+    ensures { (ts : List Tree) →
+        IfOk result (λ v. map kind_of_var v.items ≡ answer_kinds (content_of ts table.now.entries)
+        (sub_root_in table.now.entries) max_input_universe leaves.now) }
 {
     let roots = sub_roots(alloc, table, leaves)?;
     let mut kinds = Vec::with_capacity(alloc, leaves.len())?;
@@ -49,7 +51,9 @@ fn answer_kind(
     first: usize,
 ) -> CanonicalVarKind
     requires { IsOwned table.now.entries leaf }
-    ensures { (ts : List Tree) → kind_of_var result ≡ answer_kind (content_of ts table.now.entries) max_input_universe first leaf }
+    ensures { (ts : List Tree) →
+        kind_of_var result ≡ answer_kind (content_of ts table.now.entries) max_input_universe first
+        leaf }
 {
     match leaf {
         Leaf::Variable(kind, n) => {
@@ -119,7 +123,8 @@ fn const_kind(max_input_universe: UniverseIndex, constant: Constant) -> Canonica
 
 /// The placeholder that a constant is in a response. A parameter, which no query has, is one of the root.
 fn placeholder_of(max_input_universe: UniverseIndex, constant: Constant) -> (UniverseIndex, usize)
-    ensures { (s : Sort) → placeholder s result.0 result.1 ≡ constant_kind max_input_universe s constant }
+    ensures { (s : Sort) →
+        placeholder s result.0 result.1 ≡ constant_kind max_input_universe s constant }
 {
     match constant {
         Constant::Placeholder(universe, var) => (universe.saturating_sub(max_input_universe), var),

@@ -42,10 +42,16 @@ fn put(
     requires table { IsTable cx.old.nodes table.old }
     requires originals { All (IsArgOf cx.old.nodes table.old.entries) originals.now }
     requires chosen { AllIn cx.old.nodes chosen.now }
-    requires ready { IsResponseReady cx.old.nodes (content_of cx.old.nodes table.old.entries) (map (tree_at cx.old.nodes) chosen.now) response.now }
+    requires ready { IsResponseReady cx.old.nodes (content_of cx.old.nodes table.old.entries)
+        (map (tree_at cx.old.nodes) chosen.now) response.now }
     requires long { length originals.now ≡ length response.now.var_values.items }
-    ensures put { IfOk result (λ g. IsPut cx.old.nodes cx.new.nodes table.old.entries table.new.entries (trees_of cx.old.nodes originals.now) (map (tree_at cx.old.nodes) chosen.now) (findings_at cx.old.nodes response.now) (is_visible visible) g.items) }
-    ensures no { result ≡ Err NoSolution → FailsToEqual (map (tree_at cx.old.nodes) chosen.now) (trees_of cx.old.nodes response.now.var_values.items) (trees_of cx.old.nodes originals.now) (content_of cx.old.nodes table.old.entries) }
+    ensures put { IfOk result (λ g. IsPut cx.old.nodes cx.new.nodes table.old.entries
+        table.new.entries (trees_of cx.old.nodes originals.now)
+        (map (tree_at cx.old.nodes) chosen.now) (findings_at cx.old.nodes response.now)
+        (is_visible visible) g.items) }
+    ensures no { result ≡ Err NoSolution → FailsToEqual (map (tree_at cx.old.nodes) chosen.now)
+        (trees_of cx.old.nodes response.now.var_values.items) (trees_of cx.old.nodes originals.now)
+        (content_of cx.old.nodes table.old.entries) }
     ensures universe { OnOk result (table.new.entries.universe ≡ table.old.entries.universe) }
     ensures changes { ChangesEntries table.old table.new }
     ensures table { IsTable cx.new.nodes table.new }
@@ -82,11 +88,17 @@ fn apply(
     requires closed { All (λ o. IsClosed (tree_at cx.old.nodes o.node)) originals.now }
     requires fits { IsApplicable cx.old.nodes (trees_of cx.old.nodes originals.now) response.now }
     requires room { table.old.entries.universe + response.now.max_universe ≤ u32.MAX }
-    ensures applied { IfOk result (λ p. IsResponseApplied cx.old.nodes cx.new.nodes table.old.entries table.new.entries (trees_of cx.old.nodes originals.now) (response_at cx.old.nodes response.now) (is_visible visible) p.0.items) }
-    ensures labels { OnOk result (BringsOnly (trees_of cx.old.nodes originals.now) (content_of cx.old.nodes table.old.entries) (content_of cx.new.nodes table.new.entries)) }
+    ensures applied { IfOk result (λ p. IsResponseApplied cx.old.nodes cx.new.nodes
+        table.old.entries table.new.entries (trees_of cx.old.nodes originals.now)
+        (response_at cx.old.nodes response.now) (is_visible visible) p.0.items) }
+    ensures labels { OnOk result (BringsOnly (trees_of cx.old.nodes originals.now)
+        (content_of cx.old.nodes table.old.entries) (content_of cx.new.nodes table.new.entries)) }
     ensures certainty { IfOk result (λ p. p.1 ≡ response.now.value.certainty) }
-    ensures no { result ≡ Err NoSolution → RefusesResponse (content_of cx.old.nodes table.old.entries) (trees_of cx.old.nodes originals.now) (response_at cx.old.nodes response.now) }
-    ensures universe { OnOk result (table.new.entries.universe ≡ table.old.entries.universe + response.now.max_universe) }
+    ensures no { result ≡ Err NoSolution →
+        RefusesResponse (content_of cx.old.nodes table.old.entries)
+        (trees_of cx.old.nodes originals.now) (response_at cx.old.nodes response.now) }
+    ensures universe { OnOk result
+        (table.new.entries.universe ≡ table.old.entries.universe + response.now.max_universe) }
     ensures changes { ChangesEntries table.old table.new }
     ensures table { IsTable cx.new.nodes table.new }
     ensures grows { Grows cx.old cx.new }
@@ -135,12 +147,19 @@ pub fn instantiate_and_apply_query_response(
     requires originals { All (IsArgOf cx.old.nodes table.old.entries) originals.now }
     requires closed { All (λ o. IsClosed (tree_at cx.old.nodes o.node)) originals.now }
     requires fits { IsApplicable cx.old.nodes (trees_of cx.old.nodes originals.now) response.now }
-    ensures applied { IfOk result (λ p. IsResponseApplied cx.old.nodes cx.new.nodes table.old.entries table.new.entries (trees_of cx.old.nodes originals.now) (response_at cx.old.nodes response.now) (is_visible visible) p.0.items) }
-    ensures labels { OnOk result (BringsOnly (trees_of cx.old.nodes originals.now) (content_of cx.old.nodes table.old.entries) (content_of cx.new.nodes table.new.entries)) }
+    ensures applied { IfOk result (λ p. IsResponseApplied cx.old.nodes cx.new.nodes
+        table.old.entries table.new.entries (trees_of cx.old.nodes originals.now)
+        (response_at cx.old.nodes response.now) (is_visible visible) p.0.items) }
+    ensures labels { OnOk result (BringsOnly (trees_of cx.old.nodes originals.now)
+        (content_of cx.old.nodes table.old.entries) (content_of cx.new.nodes table.new.entries)) }
     ensures certainty { IfOk result (λ p. p.1 ≡ response.now.value.certainty) }
-    ensures no { result ≡ Err NoSolution → RefusesResponse (content_of cx.old.nodes table.old.entries) (trees_of cx.old.nodes originals.now) (response_at cx.old.nodes response.now) }
-    ensures full { (result ≡ Err EvalError.Full) ↔ (u32.MAX < table.old.entries.universe + response.now.max_universe) }
-    ensures universe { OnOk result (table.new.entries.universe ≡ table.old.entries.universe + response.now.max_universe) }
+    ensures no { result ≡ Err NoSolution →
+        RefusesResponse (content_of cx.old.nodes table.old.entries)
+        (trees_of cx.old.nodes originals.now) (response_at cx.old.nodes response.now) }
+    ensures full { (result ≡ Err
+        EvalError.Full) ↔ (u32.MAX < table.old.entries.universe + response.now.max_universe) }
+    ensures universe { OnOk result
+        (table.new.entries.universe ≡ table.old.entries.universe + response.now.max_universe) }
     ensures err { OnErr result (table.new ≡ table.old) }
     ensures changes { ChangesEntries table.old table.new }
     ensures table { IsTable cx.new.nodes table.new }

@@ -32,8 +32,11 @@ pub fn canonicalize_response(
 ) -> Result<CanonicalResponse, Fault>
     requires table { IsTable cx.old.nodes table.now }
     requires holds { HoldsResponse cx.old.nodes value }
-    requires knows { KnowsFindings (content_of cx.old.nodes table.now.entries) (findings_at cx.old.nodes value) }
-    ensures response { IfOk result (λ r. response_at cx.new.nodes r ≡ response_of (content_of cx.old.nodes table.now.entries) (sub_root_in table.now.entries) max_input_universe (findings_at cx.old.nodes value)) }
+    requires knows { KnowsFindings (content_of cx.old.nodes table.now.entries)
+        (findings_at cx.old.nodes value) }
+    ensures response { IfOk result (λ r. response_at cx.new.nodes r ≡ response_of
+        (content_of cx.old.nodes table.now.entries) (sub_root_in table.now.entries)
+        max_input_universe (findings_at cx.old.nodes value)) }
     ensures certainty { IfOk result (λ r. r.value.certainty ≡ value.certainty) }
     ensures holds { IfOk result (λ r. HoldsResponse cx.new.nodes r.value) }
     ensures grows { Grows cx.old cx.new }
@@ -58,7 +61,8 @@ fn numbered_response(
     value: Response,
 ) -> Result<Response, AllocError>
     requires { HoldsResponse nodes.old value }
-    ensures findings { IfOk result (λ r. findings_at nodes.new r ≡ findings_by (positioned leaves.now.keys) (findings_at nodes.old value)) }
+    ensures findings { IfOk result (λ r. findings_at nodes.new r ≡ findings_by
+        (positioned leaves.now.keys) (findings_at nodes.old value)) }
     ensures certainty { IfOk result (λ r. r.certainty ≡ value.certainty) }
     ensures holds { IfOk result (HoldsResponse nodes.new) }
     ensures extends { Extends nodes.old nodes.new }

@@ -31,14 +31,22 @@ pub(crate) fn choose_values(
 ) -> Result<Vec<GenericArg>, Fault>
     requires table { IsTable cx.old.nodes table.old }
     requires values { All (HoldsArg cx.old.nodes) values.now }
-    requires originals { All (IsOriginal cx.old.nodes (content_within cx.old.nodes table.old.entries universe)) originals.now }
+    requires originals { All (IsOriginal cx.old.nodes (content_within cx.old.nodes table.old.entries
+        universe)) originals.now }
     requires current { AreCurrent (content_within cx.old.nodes table.old.entries universe) }
     requires long { length originals.now ≡ length values.now }
-    requires kinds { All (λ k. IsChoosable universe table.old.entries.universe (trees_of cx.old.nodes originals.now) (kind_of_var k)) kinds.now }
-    ensures chosen { IfOk result (λ r. ChoosesAll (content_within cx.old.nodes table.old.entries universe) (trees_of cx.old.nodes values.now) (trees_of cx.old.nodes originals.now) 0 (map kind_of_var kinds.now) (trees_of cx.new.nodes r.items) (content_of cx.old.nodes table.old.entries) (content_of cx.new.nodes table.new.entries)) }
+    requires kinds { All (λ k. IsChoosable universe table.old.entries.universe
+        (trees_of cx.old.nodes originals.now) (kind_of_var k)) kinds.now }
+    ensures chosen { IfOk result (λ r. ChoosesAll (content_within cx.old.nodes table.old.entries
+        universe) (trees_of cx.old.nodes values.now) (trees_of cx.old.nodes originals.now) 0
+        (map kind_of_var kinds.now) (trees_of cx.new.nodes r.items)
+        (content_of cx.old.nodes table.old.entries) (content_of cx.new.nodes table.new.entries)) }
     ensures args { IfOk result (λ r. All (IsArgOf cx.new.nodes table.new.entries) r.items) }
-    ensures placed { IfOk result (λ r. JoinsNew (ArePlaced (map kind_of_var kinds.now) (trees_of cx.new.nodes r.items)) (content_of cx.old.nodes table.old.entries) (content_of cx.new.nodes table.new.entries)) }
-    ensures sorts { IfOk result (λ r. PositionsHaveSorts (map kind_of_var kinds.now) (trees_of cx.new.nodes r.items)) }
+    ensures placed { IfOk result (λ r. JoinsNew (ArePlaced (map kind_of_var kinds.now)
+        (trees_of cx.new.nodes r.items)) (content_of cx.old.nodes table.old.entries)
+        (content_of cx.new.nodes table.new.entries)) }
+    ensures sorts { IfOk result (λ r. PositionsHaveSorts (map kind_of_var kinds.now)
+        (trees_of cx.new.nodes r.items)) }
     ensures keeps { StepKeeps cx.old cx.new table.old table.new }
     ensures memory { IsOkUnless result Fault.Memory }
 {
@@ -66,10 +74,15 @@ fn choose_value(
     requires table { IsTable cx.old.nodes table.old }
     requires originals { All (IsArgOf cx.old.nodes table.old.entries) originals.now }
     requires chosen { All (IsArgOf cx.old.nodes table.old.entries) chosen.now }
-    requires kind { IsChoosable universe table.old.entries.universe (trees_of cx.old.nodes originals.now) (kind_of_var kind) }
-    ensures made { IfOk result (λ r. IsMadeForPosition universe (trees_of cx.old.nodes originals.now) (kind_of_var kind) (tree_at cx.new.nodes r.node) (content_of cx.old.nodes table.old.entries) (content_of cx.new.nodes table.new.entries)) }
+    requires kind { IsChoosable universe table.old.entries.universe
+        (trees_of cx.old.nodes originals.now) (kind_of_var kind) }
+    ensures made { IfOk result (λ r. IsMadeForPosition universe
+        (trees_of cx.old.nodes originals.now) (kind_of_var kind) (tree_at cx.new.nodes r.node)
+        (content_of cx.old.nodes table.old.entries) (content_of cx.new.nodes table.new.entries)) }
     ensures arg { IfOk result (IsArgOf cx.new.nodes table.new.entries) }
-    ensures placed { IfOk result (λ r. JoinsNew (IsPlacedNext (kind_of_var kind) (trees_of cx.old.nodes chosen.now) (tree_at cx.new.nodes r.node)) (content_of cx.old.nodes table.old.entries) (content_of cx.new.nodes table.new.entries)) }
+    ensures placed { IfOk result (λ r. JoinsNew (IsPlacedNext (kind_of_var kind)
+        (trees_of cx.old.nodes chosen.now) (tree_at cx.new.nodes r.node))
+        (content_of cx.old.nodes table.old.entries) (content_of cx.new.nodes table.new.entries)) }
     ensures sort { IfOk result (λ r. HasSort (kind_of_var kind) (tree_at cx.new.nodes r.node)) }
     ensures keeps { StepKeeps cx.old cx.new table.old table.new }
     ensures memory { IsOkUnless result Fault.Memory }

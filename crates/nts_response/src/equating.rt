@@ -29,13 +29,21 @@ pub(crate) fn equate_values(
 ) -> Result<(), EvalError>
     requires table { IsTable cx.old.nodes table.old }
     requires chosen { AllIn cx.old.nodes chosen.now }
-    requires values { All (λ v. IsFillable cx.old.nodes (content_of cx.old.nodes table.old.entries) (map (tree_at cx.old.nodes) chosen.now) v.node) values.now }
+    requires values { All (λ v. IsFillable cx.old.nodes (content_of cx.old.nodes table.old.entries)
+        (map (tree_at cx.old.nodes) chosen.now) v.node) values.now }
     requires originals { All (IsArgOf cx.old.nodes table.old.entries) originals.now }
     requires long { length originals.now ≡ length values.now }
-    ensures equal { OnOk result (MakesEqual (map (tree_at cx.old.nodes) chosen.now) (trees_of cx.old.nodes values.now) (trees_of cx.old.nodes originals.now) (content_of cx.old.nodes table.old.entries) (content_of cx.new.nodes table.new.entries)) }
-    ensures labels { OnOk result (BringsOnly (map (filled (map (tree_at cx.old.nodes) chosen.now)) (trees_of cx.old.nodes values.now) ++ trees_of cx.old.nodes originals.now) (content_of cx.old.nodes table.old.entries) (content_of cx.new.nodes table.new.entries)) }
-    ensures no { result ≡ Err NoSolution → FailsToEqual (map (tree_at cx.old.nodes) chosen.now) (trees_of cx.old.nodes values.now) (trees_of cx.old.nodes originals.now) (content_of cx.old.nodes table.old.entries) }
-    ensures later { IsLater (content_of cx.old.nodes table.old.entries) (content_of cx.new.nodes table.new.entries) }
+    ensures equal { OnOk result (MakesEqual (map (tree_at cx.old.nodes) chosen.now)
+        (trees_of cx.old.nodes values.now) (trees_of cx.old.nodes originals.now)
+        (content_of cx.old.nodes table.old.entries) (content_of cx.new.nodes table.new.entries)) }
+    ensures labels { OnOk result (BringsOnly (map (filled (map (tree_at cx.old.nodes) chosen.now))
+        (trees_of cx.old.nodes values.now) ++ trees_of cx.old.nodes originals.now)
+        (content_of cx.old.nodes table.old.entries) (content_of cx.new.nodes table.new.entries)) }
+    ensures no { result ≡ Err NoSolution → FailsToEqual (map (tree_at cx.old.nodes) chosen.now)
+        (trees_of cx.old.nodes values.now) (trees_of cx.old.nodes originals.now)
+        (content_of cx.old.nodes table.old.entries) }
+    ensures later { IsLater (content_of cx.old.nodes table.old.entries)
+        (content_of cx.new.nodes table.new.entries) }
     ensures keeps { StepKeeps cx.old cx.new table.old table.new }
     ensures full { result ≢ Err EvalError.Full }
 {
@@ -55,12 +63,20 @@ fn equate_one(
 ) -> Result<(), EvalError>
     requires table { IsTable cx.old.nodes table.old }
     requires chosen { AllIn cx.old.nodes chosen.now }
-    requires value { IsFillable cx.old.nodes (content_of cx.old.nodes table.old.entries) (map (tree_at cx.old.nodes) chosen.now) value }
+    requires value { IsFillable cx.old.nodes (content_of cx.old.nodes table.old.entries)
+        (map (tree_at cx.old.nodes) chosen.now) value }
     requires original { IsTermIn cx.old.nodes table.old original }
-    ensures related { OnOk result (AreRelated (content_of cx.old.nodes table.old.entries) (content_of cx.new.nodes table.new.entries) (filled (map (tree_at cx.old.nodes) chosen.now) (tree_at cx.old.nodes value)) (tree_at cx.old.nodes original)) }
-    ensures labels { OnOk result (BringsLabelsOf (content_of cx.old.nodes table.old.entries) (content_of cx.new.nodes table.new.entries) (filled (map (tree_at cx.old.nodes) chosen.now) (tree_at cx.old.nodes value)) (tree_at cx.old.nodes original)) }
-    ensures no { result ≡ Err NoSolution → AreUnrelated (content_of cx.old.nodes table.old.entries) (filled (map (tree_at cx.old.nodes) chosen.now) (tree_at cx.old.nodes value)) (tree_at cx.old.nodes original) }
-    ensures later { IsLater (content_of cx.old.nodes table.old.entries) (content_of cx.new.nodes table.new.entries) }
+    ensures related { OnOk result (AreRelated (content_of cx.old.nodes table.old.entries)
+        (content_of cx.new.nodes table.new.entries) (filled (map (tree_at cx.old.nodes) chosen.now)
+        (tree_at cx.old.nodes value)) (tree_at cx.old.nodes original)) }
+    ensures labels { OnOk result (BringsLabelsOf (content_of cx.old.nodes table.old.entries)
+        (content_of cx.new.nodes table.new.entries) (filled (map (tree_at cx.old.nodes) chosen.now)
+        (tree_at cx.old.nodes value)) (tree_at cx.old.nodes original)) }
+    ensures no { result ≡ Err NoSolution → AreUnrelated (content_of cx.old.nodes table.old.entries)
+        (filled (map (tree_at cx.old.nodes) chosen.now) (tree_at cx.old.nodes value))
+        (tree_at cx.old.nodes original) }
+    ensures later { IsLater (content_of cx.old.nodes table.old.entries)
+        (content_of cx.new.nodes table.new.entries) }
     ensures keeps { StepKeeps cx.old cx.new table.old table.new }
     ensures full { result ≢ Err EvalError.Full }
 {

@@ -118,7 +118,8 @@ pub fn response_fits(
     response: &CanonicalResponse,
 ) -> Result<bool, Fault>
     requires originals { All (HoldsArg cx.now.nodes) originals.now }
-    ensures fits { IfOk result (λ b. IsTrue b ↔ IsApplicable cx.now.nodes (trees_of cx.now.nodes originals.now) response.now) }
+    ensures fits { IfOk result (λ b. IsTrue b ↔ IsApplicable cx.now.nodes
+        (trees_of cx.now.nodes originals.now) response.now) }
     ensures memory { IsOkUnless result Fault.Memory }
 {
     if originals.len() != response.value.var_values.len() {
@@ -141,7 +142,8 @@ pub fn state_fits<T>(
     state: &CanonicalState<T>,
 ) -> Result<bool, Fault>
     requires originals { All (HoldsArg cx.now.nodes) originals.now }
-    ensures fits { IfOk result (λ b. IsTrue b ↔ IsInstantiable cx.now.nodes (trees_of cx.now.nodes originals.now) state.now) }
+    ensures fits { IfOk result (λ b. IsTrue b ↔ IsInstantiable cx.now.nodes
+        (trees_of cx.now.nodes originals.now) state.now) }
     ensures memory { IsOkUnless result Fault.Memory }
 {
     let values: &[GenericArg] = &state.value.var_values;
@@ -201,7 +203,8 @@ fn all_fit<E: Entry>(cx: &Cx, sorts: &[Sort], entries: &[E]) -> Result<bool, All
 
 /// Whether a handle is of the store, and its term a closed one over positions of these sorts.
 fn term_fits<T: Stored>(cx: &Cx, sorts: &[Sort], x: T) -> Result<bool, AllocError>
-    ensures { IfOk result (λ b. IsTrue b ↔ (Holds T.place cx.now.nodes (T.id x) × IsOverSorts cx.now.nodes sorts.now (T.id x))) }
+    ensures { IfOk result (λ b. IsTrue b ↔ (Holds T.place cx.now.nodes (T.id x) ×
+        IsOverSorts cx.now.nodes sorts.now (T.id x))) }
 {
     if !cx.holds(x) {
         return Ok(false);
@@ -242,7 +245,8 @@ fn kinds_fit(
     kinds: &[CanonicalVarKind],
 ) -> bool
     requires { All (HoldsArg cx.now.nodes) originals.now }
-    ensures { IsTrue result ↔ All (λ k. IsKindFor max_universe (trees_of cx.now.nodes originals.now) (kind_of_var k)) kinds.now }
+    ensures { IsTrue result ↔ All (λ k. IsKindFor max_universe (trees_of cx.now.nodes originals.now)
+        (kind_of_var k)) kinds.now }
 {
     for i in 0..kinds.len() {
         if !kind_fits(cx, originals, max_universe, kinds[i]) {
@@ -260,7 +264,8 @@ fn kind_fits(
     kind: CanonicalVarKind,
 ) -> bool
     requires { All (HoldsArg cx.now.nodes) originals.now }
-    ensures { IsTrue result ↔ IsKindFor max_universe (trees_of cx.now.nodes originals.now) (kind_of_var kind) }
+    ensures { IsTrue result ↔ IsKindFor max_universe (trees_of cx.now.nodes originals.now)
+        (kind_of_var kind) }
 {
     universe_of(kind) <= max_universe && names_original(cx, originals, kind)
 }
@@ -268,7 +273,8 @@ fn kind_fits(
 /// Whether the kind is no placeholder of the root, or one that names an original of its sort.
 fn names_original(cx: &Cx, originals: &[GenericArg], kind: CanonicalVarKind) -> bool
     requires { All (HoldsArg cx.now.nodes) originals.now }
-    ensures { IsTrue result ↔ NamesOriginal (trees_of cx.now.nodes originals.now) (kind_of_var kind) }
+    ensures { IsTrue result ↔ NamesOriginal (trees_of cx.now.nodes originals.now)
+        (kind_of_var kind) }
 {
     match kind {
         CanonicalVarKind::PlaceholderTy(p) => {
@@ -293,7 +299,8 @@ fn names_in_root(
     position: usize,
 ) -> bool
     requires { All (HoldsArg cx.now.nodes) originals.now }
-    ensures { IsTrue result ↔ NamesOriginal (trees_of cx.now.nodes originals.now) (placeholder sort universe position) }
+    ensures { IsTrue result ↔ NamesOriginal (trees_of cx.now.nodes originals.now)
+        (placeholder sort universe position) }
 {
     if universe != 0 {
         return true;

@@ -27,10 +27,13 @@ pub(crate) fn guesses(
     originals: &[GenericArg],
 ) -> Result<Vec<Option<GenericArg>>, AllocError>
     requires values { All (HoldsArg cx.now.nodes) values.now }
-    requires originals { All (IsOriginal cx.now.nodes (content_within cx.now.nodes table.now.entries universe)) originals.now }
+    requires originals { All (IsOriginal cx.now.nodes (content_within cx.now.nodes table.now.entries
+        universe)) originals.now }
     requires current { AreCurrent (content_within cx.now.nodes table.now.entries universe) }
     requires long { length originals.now ≡ length values.now }
-    ensures { IfOk result (λ g. AreGuesses cx.now.nodes (content_within cx.now.nodes table.now.entries universe) (trees_of cx.now.nodes values.now) (trees_of cx.now.nodes originals.now) kinds.now g.items) }
+    ensures { IfOk result (λ g. AreGuesses cx.now.nodes
+        (content_within cx.now.nodes table.now.entries universe) (trees_of cx.now.nodes values.now)
+        (trees_of cx.now.nodes originals.now) kinds.now g.items) }
 {
     let mut guessed = vec![in cx.alloc; None; kinds.len()]?;
     for i in 0..values.len() {
@@ -63,9 +66,11 @@ fn may_stand(
     kind: CanonicalVarKind,
     original: GenericArg,
 ) -> bool
-    requires original { IsOriginal cx.now.nodes (content_within cx.now.nodes table.now.entries universe) original }
+    requires original { IsOriginal cx.now.nodes (content_within cx.now.nodes table.now.entries
+        universe) original }
     requires current { AreCurrent (content_within cx.now.nodes table.now.entries universe) }
-    ensures { result ≡ true → MayStand (content_within cx.now.nodes table.now.entries universe) (kind_of_var kind) (tree_at cx.now.nodes original.node) }
+    ensures { result ≡ true → MayStand (content_within cx.now.nodes table.now.entries universe)
+        (kind_of_var kind) (tree_at cx.now.nodes original.node) }
 {
     cx.terms_are_formed();
     let label = cx.nodes.label(original.node);

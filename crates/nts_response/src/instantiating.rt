@@ -43,14 +43,22 @@ pub fn instantiate_canonical_state<T: TypeFoldable>(
     requires closed { All (λ o. IsClosed (tree_at cx.old.nodes o.node)) orig_values.old.items }
     requires payload { T.holds cx.old.nodes state.value.payload }
     requires positions { NamesFresh (state_sorts state) (T.tree cx.old.nodes state.value.payload) }
-    requires fits { IsInstantiable cx.old.nodes (trees_of cx.old.nodes orig_values.old.items) state }
-    ensures instantiated { IfOk result (λ p. IsInstantiated cx.old.nodes cx.new.nodes table.old.entries table.new.entries orig_values.old.items orig_values.new.items (state_at T.tree cx.old.nodes state) (T.tree cx.new.nodes p)) }
+    requires fits { IsInstantiable cx.old.nodes (trees_of cx.old.nodes orig_values.old.items)
+        state }
+    ensures instantiated { IfOk result (λ p. IsInstantiated cx.old.nodes cx.new.nodes
+        table.old.entries table.new.entries orig_values.old.items orig_values.new.items
+        (state_at T.tree cx.old.nodes state) (T.tree cx.new.nodes p)) }
     ensures payload { IfOk result (T.holds cx.new.nodes) }
-    ensures originals { OnOk result (All (IsArgOf cx.new.nodes table.new.entries) orig_values.new.items) }
-    ensures no { result ≡ Err NoSolution → RefusesState (content_of cx.old.nodes table.old.entries) (trees_of cx.old.nodes orig_values.old.items) (state_at T.tree cx.old.nodes state) }
-    ensures full { (result ≡ Err EvalError.Full) ↔ (u32.MAX < table.old.entries.universe + state.max_universe) }
-    ensures universe { OnOk result (table.new.entries.universe ≡ table.old.entries.universe + state.max_universe) }
-    ensures err { OnErr result ((table.new ≡ table.old) × (orig_values.new.items ≡ orig_values.old.items)) }
+    ensures originals { OnOk result (All (IsArgOf cx.new.nodes table.new.entries)
+        orig_values.new.items) }
+    ensures no { result ≡ Err NoSolution → RefusesState (content_of cx.old.nodes table.old.entries)
+        (trees_of cx.old.nodes orig_values.old.items) (state_at T.tree cx.old.nodes state) }
+    ensures full { (result ≡ Err
+        EvalError.Full) ↔ (u32.MAX < table.old.entries.universe + state.max_universe) }
+    ensures universe { OnOk result
+        (table.new.entries.universe ≡ table.old.entries.universe + state.max_universe) }
+    ensures err { OnErr result ((table.new ≡ table.old) ×
+        (orig_values.new.items ≡ orig_values.old.items)) }
     ensures keeps { KeepsFrame cx.old cx.new table.old table.new }
 {
     if table.universe().checked_add(state.max_universe).is_none() {
@@ -79,12 +87,16 @@ fn instantiate<T: TypeFoldable>(
     requires positions { NamesFresh (state_sorts state) (T.tree cx.old.nodes state.value.payload) }
     requires fits { IsInstantiable cx.old.nodes (trees_of cx.old.nodes orig_values.now) state }
     requires room { table.old.entries.universe + state.max_universe ≤ u32.MAX }
-    ensures instantiated { IfOk result (λ r. IsInstantiated cx.old.nodes cx.new.nodes table.old.entries table.new.entries orig_values.now r.0.items (state_at T.tree cx.old.nodes state) (T.tree cx.new.nodes r.1)) }
+    ensures instantiated { IfOk result (λ r. IsInstantiated cx.old.nodes cx.new.nodes
+        table.old.entries table.new.entries orig_values.now r.0.items
+        (state_at T.tree cx.old.nodes state) (T.tree cx.new.nodes r.1)) }
     ensures payload { IfOk result (λ r. T.holds cx.new.nodes r.1) }
     ensures originals { IfOk result (λ r. All (IsArgOf cx.new.nodes table.new.entries) r.0.items) }
-    ensures no { result ≡ Err NoSolution → RefusesState (content_of cx.old.nodes table.old.entries) (trees_of cx.old.nodes orig_values.now) (state_at T.tree cx.old.nodes state) }
+    ensures no { result ≡ Err NoSolution → RefusesState (content_of cx.old.nodes table.old.entries)
+        (trees_of cx.old.nodes orig_values.now) (state_at T.tree cx.old.nodes state) }
     ensures full { result ≢ Err EvalError.Full }
-    ensures universe { OnOk result (table.new.entries.universe ≡ table.old.entries.universe + state.max_universe) }
+    ensures universe { OnOk result
+        (table.new.entries.universe ≡ table.old.entries.universe + state.max_universe) }
     ensures keeps { KeepsFrame cx.old cx.new table.old table.new }
 {
     let Canonical {
@@ -121,15 +133,24 @@ fn equated(
     requires table { IsTable cx.old.nodes table.old }
     requires originals { All (IsArgOf cx.old.nodes table.old.entries) originals.now }
     requires closed { All (λ o. IsClosed (tree_at cx.old.nodes o.node)) originals.now }
-    requires fits { AreValuesFor cx.old.nodes (trees_of cx.old.nodes originals.now) max_universe kinds.now values.now }
+    requires fits { AreValuesFor cx.old.nodes (trees_of cx.old.nodes originals.now) max_universe
+        kinds.now values.now }
     requires room { table.old.entries.universe + max_universe ≤ u32.MAX }
-    ensures equated { IfOk result (λ r. AreValuesEquated (content_of cx.old.nodes table.old.entries) (content_of cx.new.nodes table.new.entries) (trees_of cx.old.nodes originals.now) (values_alone (trees_of cx.old.nodes values.now) (map kind_of_var kinds.now) max_universe) (trees_of cx.new.nodes r.items)) }
+    ensures equated { IfOk result (λ r. AreValuesEquated (content_of cx.old.nodes table.old.entries)
+        (content_of cx.new.nodes table.new.entries) (trees_of cx.old.nodes originals.now)
+        (values_alone (trees_of cx.old.nodes values.now) (map kind_of_var kinds.now) max_universe)
+        (trees_of cx.new.nodes r.items)) }
     ensures args { IfOk result (λ r. All (IsArgOf cx.new.nodes table.new.entries) r.items) }
-    ensures sorts { IfOk result (λ r. PositionsHaveSorts (map kind_of_var kinds.now) (trees_of cx.new.nodes r.items)) }
+    ensures sorts { IfOk result (λ r. PositionsHaveSorts (map kind_of_var kinds.now)
+        (trees_of cx.new.nodes r.items)) }
     ensures originals { OnOk result (All (IsArgOf cx.new.nodes table.new.entries) originals.now) }
-    ensures no { result ≡ Err NoSolution → RefusesResponse (content_of cx.old.nodes table.old.entries) (trees_of cx.old.nodes originals.now) (values_alone (trees_of cx.old.nodes values.now) (map kind_of_var kinds.now) max_universe) }
+    ensures no { result ≡ Err NoSolution →
+        RefusesResponse (content_of cx.old.nodes table.old.entries)
+        (trees_of cx.old.nodes originals.now) (values_alone (trees_of cx.old.nodes values.now)
+        (map kind_of_var kinds.now) max_universe) }
     ensures full { result ≢ Err EvalError.Full }
-    ensures universe { OnOk result (table.new.entries.universe ≡ table.old.entries.universe + max_universe) }
+    ensures universe { OnOk result
+        (table.new.entries.universe ≡ table.old.entries.universe + max_universe) }
     ensures hidden { OnOk result (table.new.entries.hidden ≡ table.old.entries.hidden) }
     ensures keeps { KeepsFrame cx.old cx.new table.old table.new }
 {
@@ -156,7 +177,8 @@ fn with_missing(
     requires closed { All (λ o. IsClosed (tree_at cx.old.nodes o.node)) orig_values.now }
     requires values { All (HoldsArg cx.old.nodes) values.now }
     requires long { length orig_values.now ≤ length values.now }
-    ensures added { IfOk result (λ r. AddsMissing cx.old cx.new table.old table.new orig_values.now (drop (length orig_values.now) values.now) r.items) }
+    ensures added { IfOk result (λ r. AddsMissing cx.old cx.new table.old table.new orig_values.now
+        (drop (length orig_values.now) values.now) r.items) }
     ensures keeps { StepKeeps cx.old cx.new table.old table.new }
     ensures memory { IsOkUnless result Fault.Memory }
 {

@@ -36,14 +36,16 @@ pub(crate) fn leaves_of(cx: &Cx, value: &Response) -> Result<IndexSet<Leaf>, All
 
 fn see(cx: &Cx, leaves: &mut IndexSet<Leaf>, t: NodeId) -> Result<(), AllocError>
     requires { IsIn cx.now.nodes t }
-    ensures { OnOk result (leaves.new.keys ≡ seen is_fixed leaves.old.keys (tree_at cx.now.nodes t)) }
+    ensures { OnOk result (leaves.new.keys ≡ seen is_fixed leaves.old.keys
+        (tree_at cx.now.nodes t)) }
 {
     collect(cx.alloc, &cx.nodes, Staying::FixedRegions, leaves, t)
 }
 
 fn see_values(cx: &Cx, leaves: &mut IndexSet<Leaf>, values: &[GenericArg]) -> Result<(), AllocError>
     requires { All (HoldsArg cx.now.nodes) values.now }
-    ensures { OnOk result (leaves.new.keys ≡ seen is_fixed leaves.old.keys (value_row (trees_of cx.now.nodes values.now) empty)) }
+    ensures { OnOk result (leaves.new.keys ≡ seen is_fixed leaves.old.keys
+        (value_row (trees_of cx.now.nodes values.now) empty)) }
 {
     for i in 0..values.len() {
         see(cx, leaves, values[i].node)?;
@@ -57,7 +59,8 @@ fn see_constraints(
     constraints: &[(RegionConstraint, VisibleForLeakCheck)],
 ) -> Result<(), AllocError>
     requires { All (StoreHoldsConstraint cx.now.nodes) constraints.now }
-    ensures { OnOk result (leaves.new.keys ≡ seen is_fixed leaves.old.keys (constraint_row (map (recorded_at cx.now.nodes) constraints.now) empty)) }
+    ensures { OnOk result (leaves.new.keys ≡ seen is_fixed leaves.old.keys (constraint_row
+        (map (recorded_at cx.now.nodes) constraints.now) empty)) }
 {
     for i in 0..constraints.len() {
         let (constraint, _) = constraints[i];
@@ -73,7 +76,8 @@ fn see_hidden(
     hidden: &[(AliasTerm, Ty)],
 ) -> Result<(), AllocError>
     requires { All (IsHidden cx.now.nodes) hidden.now }
-    ensures { OnOk result (leaves.new.keys ≡ seen is_fixed leaves.old.keys (hidden_row (map (hidden_of cx.now.nodes) hidden.now) empty)) }
+    ensures { OnOk result (leaves.new.keys ≡ seen is_fixed leaves.old.keys
+        (hidden_row (map (hidden_of cx.now.nodes) hidden.now) empty)) }
 {
     for i in 0..hidden.len() {
         let (alias, ty) = hidden[i];
@@ -89,7 +93,8 @@ fn see_goals(
     goals: &[(GoalSource, Goal)],
 ) -> Result<(), AllocError>
     requires { All (HoldsOpen cx.now.nodes) goals.now }
-    ensures { OnOk result (leaves.new.keys ≡ seen is_fixed leaves.old.keys (goal_row (map (premise_at cx.now.nodes) goals.now) empty)) }
+    ensures { OnOk result (leaves.new.keys ≡ seen is_fixed leaves.old.keys
+        (goal_row (map (premise_at cx.now.nodes) goals.now) empty)) }
 {
     for i in 0..goals.len() {
         let (_, goal) = goals[i];

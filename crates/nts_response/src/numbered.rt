@@ -28,7 +28,8 @@ fn position<T: Stored>(
     requires { Holds T.place nodes.old (T.id x) }
     ensures extends { Extends nodes.old nodes.new }
     ensures holds { IfOk result (λ r. Holds T.place nodes.new (T.id r)) }
-    ensures tree { IfOk result (λ r. tree_at nodes.new (T.id r) ≡ positioned leaves.now.keys (tree_at nodes.old (T.id x))) }
+    ensures tree { IfOk result (λ r. tree_at nodes.new (T.id r) ≡ positioned leaves.now.keys
+        (tree_at nodes.old (T.id x))) }
 {
     numbered(alloc, nodes, Staying::FixedRegions, leaves, x)
 }
@@ -40,7 +41,8 @@ pub(crate) fn numbered_values(
     values: &[GenericArg],
 ) -> Result<Vec<GenericArg>, AllocError>
     requires { All (HoldsArg nodes.old) values.now }
-    ensures each { IfOk result (λ v. ReplacesEach HoldsArg argument_value (positioned leaves.now.keys) nodes.old nodes.new values.now v.items) }
+    ensures each { IfOk result (λ v. ReplacesEach HoldsArg argument_value
+        (positioned leaves.now.keys) nodes.old nodes.new values.now v.items) }
     ensures extends { Extends nodes.old nodes.new }
 {
     let mut numbered = Vec::with_capacity(alloc, values.len())?;
@@ -58,7 +60,8 @@ pub(crate) fn numbered_constraints(
     constraints: &[(RegionConstraint, VisibleForLeakCheck)],
 ) -> Result<Vec<(RegionConstraint, VisibleForLeakCheck)>, AllocError>
     requires { All (StoreHoldsConstraint nodes.old) constraints.now }
-    ensures each { IfOk result (λ v. ReplacesEach StoreHoldsConstraint recorded_at (recorded_by (positioned leaves.now.keys)) nodes.old nodes.new constraints.now v.items) }
+    ensures each { IfOk result (λ v. ReplacesEach StoreHoldsConstraint recorded_at (recorded_by
+        (positioned leaves.now.keys)) nodes.old nodes.new constraints.now v.items) }
     ensures extends { Extends nodes.old nodes.new }
 {
     let mut numbered = Vec::with_capacity(alloc, constraints.len())?;
@@ -77,7 +80,8 @@ fn numbered_constraint(
 ) -> Result<(RegionConstraint, VisibleForLeakCheck), AllocError>
     requires { StoreHoldsConstraint nodes.old constraint }
     ensures holds { IfOk result (StoreHoldsConstraint nodes.new) }
-    ensures replaced { IfOk result (λ r. recorded_at nodes.new r ≡ recorded_by (positioned leaves.now.keys) (recorded_at nodes.old constraint)) }
+    ensures replaced { IfOk result (λ r. recorded_at nodes.new r ≡ recorded_by
+        (positioned leaves.now.keys) (recorded_at nodes.old constraint)) }
     ensures extends { Extends nodes.old nodes.new }
 {
     let (constraint, visible) = constraint;
@@ -98,7 +102,8 @@ pub(crate) fn numbered_hidden(
     hidden: &[(AliasTerm, Ty)],
 ) -> Result<Vec<(AliasTerm, Ty)>, AllocError>
     requires { All (IsHidden nodes.old) hidden.now }
-    ensures each { IfOk result (λ v. ReplacesEach IsHidden hidden_of (hidden_by (positioned leaves.now.keys)) nodes.old nodes.new hidden.now v.items) }
+    ensures each { IfOk result (λ v. ReplacesEach IsHidden hidden_of
+        (hidden_by (positioned leaves.now.keys)) nodes.old nodes.new hidden.now v.items) }
     ensures extends { Extends nodes.old nodes.new }
 {
     let mut numbered = Vec::with_capacity(alloc, hidden.len())?;
@@ -117,7 +122,8 @@ fn numbered_pair(
 ) -> Result<(AliasTerm, Ty), AllocError>
     requires { IsHidden nodes.old hidden }
     ensures holds { IfOk result (IsHidden nodes.new) }
-    ensures replaced { IfOk result (λ r. hidden_of nodes.new r ≡ hidden_by (positioned leaves.now.keys) (hidden_of nodes.old hidden)) }
+    ensures replaced { IfOk result (λ r. hidden_of nodes.new r ≡ hidden_by
+        (positioned leaves.now.keys) (hidden_of nodes.old hidden)) }
     ensures extends { Extends nodes.old nodes.new }
 {
     let (alias, ty) = hidden;
@@ -137,7 +143,8 @@ pub(crate) fn numbered_goals(
     goals: &[(GoalSource, Goal)],
 ) -> Result<Vec<(GoalSource, Goal)>, AllocError>
     requires { All (HoldsOpen nodes.old) goals.now }
-    ensures each { IfOk result (λ v. ReplacesEach HoldsOpen premise_at (premise_by (positioned leaves.now.keys)) nodes.old nodes.new goals.now v.items) }
+    ensures each { IfOk result (λ v. ReplacesEach HoldsOpen premise_at
+        (premise_by (positioned leaves.now.keys)) nodes.old nodes.new goals.now v.items) }
     ensures extends { Extends nodes.old nodes.new }
 {
     let mut numbered = Vec::with_capacity(alloc, goals.len())?;
@@ -156,7 +163,8 @@ fn numbered_goal(
 ) -> Result<(GoalSource, Goal), AllocError>
     requires { HoldsOpen nodes.old goal }
     ensures holds { IfOk result (HoldsOpen nodes.new) }
-    ensures replaced { IfOk result (λ r. premise_at nodes.new r ≡ premise_by (positioned leaves.now.keys) (premise_at nodes.old goal)) }
+    ensures replaced { IfOk result (λ r. premise_at nodes.new r ≡ premise_by
+        (positioned leaves.now.keys) (premise_at nodes.old goal)) }
     ensures extends { Extends nodes.old nodes.new }
 {
     let (source, goal) = goal;

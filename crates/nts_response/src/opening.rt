@@ -22,7 +22,9 @@ pub(crate) fn opened_goals(
 ) -> Result<Vec<(GoalSource, Goal)>, AllocError>
     requires chosen { AllIn nodes.old chosen.now }
     requires goals { All (IsOpenable nodes.old (map (tree_at nodes.old) chosen.now)) goals.now }
-    ensures each { IfOk result (λ v. ReplacesEach HoldsOpen premise_at (premise_by (filled (map (tree_at nodes.old) chosen.now))) nodes.old nodes.new goals.now v.items) }
+    ensures each { IfOk result (λ v. ReplacesEach HoldsOpen premise_at
+        (premise_by (filled (map (tree_at nodes.old) chosen.now))) nodes.old nodes.new goals.now
+        v.items) }
     ensures extends { Extends nodes.old nodes.new }
 {
     let mut opened = Vec::with_capacity(alloc, goals.len())?;
@@ -42,7 +44,8 @@ fn opened_goal(
     requires chosen { AllIn nodes.old chosen.now }
     requires goal { IsOpenable nodes.old (map (tree_at nodes.old) chosen.now) goal }
     ensures holds { IfOk result (HoldsOpen nodes.new) }
-    ensures replaced { IfOk result (λ r. premise_at nodes.new r ≡ premise_by (filled (map (tree_at nodes.old) chosen.now)) (premise_at nodes.old goal)) }
+    ensures replaced { IfOk result (λ r. premise_at nodes.new r ≡ premise_by
+        (filled (map (tree_at nodes.old) chosen.now)) (premise_at nodes.old goal)) }
     ensures extends { Extends nodes.old nodes.new }
 {
     let (source, goal) = goal;

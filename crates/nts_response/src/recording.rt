@@ -34,11 +34,21 @@ pub(crate) fn record_constraints(
 ) -> Result<(), Fault>
     requires table { IsTable cx.old.nodes table.old }
     requires chosen { AllIn cx.old.nodes chosen.now }
-    requires constraints { All (IsRecordable cx.old.nodes (content_of cx.old.nodes table.old.entries) (map (tree_at cx.old.nodes) chosen.now)) constraints.now }
-    ensures recorded { OnOk result (Records (map (tree_at cx.old.nodes) chosen.now) (map (recorded_at cx.old.nodes) constraints.now) (content_of cx.old.nodes table.old.entries) (content_of cx.new.nodes table.new.entries)) }
-    ensures seen { OnOk result (AddsAllSeen (is_visible visible) (map (recorded_at cx.old.nodes) constraints.now) (content_of cx.old.nodes table.old.entries).constraints (content_of cx.new.nodes table.new.entries).constraints) }
-    ensures labels { OnOk result (BringsOnly (map (filled (map (tree_at cx.old.nodes) chosen.now)) (sides_of (map (recorded_at cx.old.nodes) constraints.now))) (content_of cx.old.nodes table.old.entries) (content_of cx.new.nodes table.new.entries)) }
-    ensures joins { OnOk result (JoinsSubRoots (content_of cx.old.nodes table.old.entries) (content_of cx.new.nodes table.new.entries)) }
+    requires constraints { All (IsRecordable cx.old.nodes
+        (content_of cx.old.nodes table.old.entries) (map (tree_at cx.old.nodes) chosen.now))
+        constraints.now }
+    ensures recorded { OnOk result (Records (map (tree_at cx.old.nodes) chosen.now)
+        (map (recorded_at cx.old.nodes) constraints.now) (content_of cx.old.nodes table.old.entries)
+        (content_of cx.new.nodes table.new.entries)) }
+    ensures seen { OnOk result (AddsAllSeen (is_visible visible)
+        (map (recorded_at cx.old.nodes) constraints.now)
+        (content_of cx.old.nodes table.old.entries).constraints
+        (content_of cx.new.nodes table.new.entries).constraints) }
+    ensures labels { OnOk result (BringsOnly (map (filled (map (tree_at cx.old.nodes) chosen.now))
+        (sides_of (map (recorded_at cx.old.nodes) constraints.now)))
+        (content_of cx.old.nodes table.old.entries) (content_of cx.new.nodes table.new.entries)) }
+    ensures joins { OnOk result (JoinsSubRoots (content_of cx.old.nodes table.old.entries)
+        (content_of cx.new.nodes table.new.entries)) }
     ensures keeps { StepKeeps cx.old cx.new table.old table.new }
     ensures memory { IsOkUnless result Fault.Memory }
 {
@@ -59,11 +69,22 @@ fn record_one(
 ) -> Result<(), Fault>
     requires table { IsTable cx.old.nodes table.old }
     requires chosen { AllIn cx.old.nodes chosen.now }
-    requires constraint { IsRecordable cx.old.nodes (content_of cx.old.nodes table.old.entries) (map (tree_at cx.old.nodes) chosen.now) constraint }
-    ensures recorded { OnOk result (IsRecordedIn (content_of cx.old.nodes table.old.entries) (content_of cx.new.nodes table.new.entries) (recorded_by (filled (map (tree_at cx.old.nodes) chosen.now)) (recorded_at cx.old.nodes constraint))) }
-    ensures seen { OnOk result (AddsSeen (seen_if (is_visible visible) (recorded_at cx.old.nodes constraint)) (content_of cx.old.nodes table.old.entries).constraints (content_of cx.new.nodes table.new.entries).constraints) }
-    ensures labels { OnOk result (BringsLabelsOf (content_of cx.old.nodes table.old.entries) (content_of cx.new.nodes table.new.entries) (filled (map (tree_at cx.old.nodes) chosen.now) (tree_at cx.old.nodes constraint.0.left.node)) (filled (map (tree_at cx.old.nodes) chosen.now) (tree_at cx.old.nodes constraint.0.right.node))) }
-    ensures joins { OnOk result (JoinsSubRoots (content_of cx.old.nodes table.old.entries) (content_of cx.new.nodes table.new.entries)) }
+    requires constraint { IsRecordable cx.old.nodes (content_of cx.old.nodes table.old.entries)
+        (map (tree_at cx.old.nodes) chosen.now) constraint }
+    ensures recorded { OnOk result (IsRecordedIn (content_of cx.old.nodes table.old.entries)
+        (content_of cx.new.nodes table.new.entries) (recorded_by
+        (filled (map (tree_at cx.old.nodes) chosen.now)) (recorded_at cx.old.nodes constraint))) }
+    ensures seen { OnOk result (AddsSeen (seen_if (is_visible visible)
+        (recorded_at cx.old.nodes constraint))
+        (content_of cx.old.nodes table.old.entries).constraints
+        (content_of cx.new.nodes table.new.entries).constraints) }
+    ensures labels { OnOk result (BringsLabelsOf (content_of cx.old.nodes table.old.entries)
+        (content_of cx.new.nodes table.new.entries) (filled (map (tree_at cx.old.nodes) chosen.now)
+        (tree_at cx.old.nodes constraint.0.left.node))
+        (filled (map (tree_at cx.old.nodes) chosen.now)
+        (tree_at cx.old.nodes constraint.0.right.node))) }
+    ensures joins { OnOk result (JoinsSubRoots (content_of cx.old.nodes table.old.entries)
+        (content_of cx.new.nodes table.new.entries)) }
     ensures keeps { StepKeeps cx.old cx.new table.old table.new }
     ensures memory { IsOkUnless result Fault.Memory }
 {
@@ -91,10 +112,23 @@ fn record_between(
     requires left_side { IsLeftSide relation (tree_at cx.now.nodes left) }
     requires right_side { IsRegion (tree_at cx.now.nodes right) }
     requires closed { IsClosed (tree_at cx.now.nodes left) }
-    ensures recorded { OnOk result (IsRecordedIn (content_of cx.now.nodes table.old.entries) (content_of cx.now.nodes table.new.entries) (record { relation = relation; left = tree_at cx.now.nodes left; right = tree_at cx.now.nodes right; is_visible = is_visible visible })) }
-    ensures seen { OnOk result (AddsSeen (seen_by_leak_check relation (is_visible visible)) (content_of cx.now.nodes table.old.entries).constraints (content_of cx.now.nodes table.new.entries).constraints) }
-    ensures labels { OnOk result (BringsLabelsOf (content_of cx.now.nodes table.old.entries) (content_of cx.now.nodes table.new.entries) (tree_at cx.now.nodes left) (tree_at cx.now.nodes right)) }
-    ensures joins { OnOk result (JoinsSubRoots (content_of cx.now.nodes table.old.entries) (content_of cx.now.nodes table.new.entries)) }
+    ensures recorded { OnOk result (IsRecordedIn (content_of cx.now.nodes table.old.entries)
+        (content_of cx.now.nodes table.new.entries)
+        (record {
+          relation = relation;
+          left = tree_at cx.now.nodes left;
+          right = tree_at
+              cx.now.nodes right;
+          is_visible = is_visible visible;
+        })) }
+    ensures seen { OnOk result (AddsSeen (seen_by_leak_check relation (is_visible visible))
+        (content_of cx.now.nodes table.old.entries).constraints
+        (content_of cx.now.nodes table.new.entries).constraints) }
+    ensures labels { OnOk result (BringsLabelsOf (content_of cx.now.nodes table.old.entries)
+        (content_of cx.now.nodes table.new.entries) (tree_at cx.now.nodes left)
+        (tree_at cx.now.nodes right)) }
+    ensures joins { OnOk result (JoinsSubRoots (content_of cx.now.nodes table.old.entries)
+        (content_of cx.now.nodes table.new.entries)) }
     ensures changes { ChangesVariables table.old table.new }
     ensures table { IsTable cx.now.nodes table.new }
     ensures err { OnErr result (table.new ≡ table.old) }

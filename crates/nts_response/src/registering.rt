@@ -20,9 +20,13 @@ pub(crate) fn register_hidden(
     span: Span,
 ) -> Result<(), Fault>
     requires table { IsTable cx.old.nodes table.old }
-    requires hidden { All (λ h. IsHiddenType cx.old.nodes (content_of cx.old.nodes table.old.entries) (stored_hidden h)) hidden.now }
-    ensures registered { OnOk result (TakesAll cx.new.nodes (content_of cx.new.nodes table.old.entries) table.old.entries.hidden hidden.now table.new.entries.hidden) }
-    ensures entries { OnOk result (table.new.entries ≡ record table.old.entries { hidden = table.new.entries.hidden }) }
+    requires hidden { All (λ h. IsHiddenType cx.old.nodes
+        (content_of cx.old.nodes table.old.entries) (stored_hidden h)) hidden.now }
+    ensures registered { OnOk result (TakesAll cx.new.nodes
+        (content_of cx.new.nodes table.old.entries) table.old.entries.hidden hidden.now
+        table.new.entries.hidden) }
+    ensures entries { OnOk result (table.new.entries ≡ record table.old.entries
+        { hidden = table.new.entries.hidden }) }
     ensures changes { ChangesEntries table.old table.new }
     ensures table { IsTable cx.new.nodes table.new }
     ensures grows { Grows cx.old cx.new }
@@ -42,9 +46,13 @@ fn register_one(
     span: Span,
 ) -> Result<(), Fault>
     requires table { IsTable cx.old.nodes table.old }
-    requires hidden { IsHiddenType cx.old.nodes (content_of cx.old.nodes table.old.entries) (stored_hidden hidden) }
-    ensures registered { OnOk result (RegistersHidden cx.old.nodes (content_of cx.old.nodes table.old.entries) table.old.entries.hidden (stored_hidden hidden) table.new.entries.hidden) }
-    ensures entries { OnOk result (table.new.entries ≡ record table.old.entries { hidden = table.new.entries.hidden }) }
+    requires hidden { IsHiddenType cx.old.nodes (content_of cx.old.nodes table.old.entries)
+        (stored_hidden hidden) }
+    ensures registered { OnOk result (RegistersHidden cx.old.nodes
+        (content_of cx.old.nodes table.old.entries) table.old.entries.hidden
+        (stored_hidden hidden) table.new.entries.hidden) }
+    ensures entries { OnOk result (table.new.entries ≡ record table.old.entries
+        { hidden = table.new.entries.hidden }) }
     ensures changes { ChangesEntries table.old table.new }
     ensures table { IsTable cx.new.nodes table.new }
     ensures grows { Grows cx.old cx.new }

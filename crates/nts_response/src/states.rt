@@ -31,8 +31,11 @@ pub fn make_canonical_state<T: TypeFoldable>(
     requires table { IsTable cx.old.nodes table.now }
     requires values { All (HoldsArg cx.old.nodes) var_values.now }
     requires payload { T.holds cx.old.nodes payload }
-    requires knows { Knows (content_of cx.old.nodes table.now.entries) (state_row (trees_of cx.old.nodes var_values.now) (T.tree cx.old.nodes payload)) }
-    ensures state { IfOk result (λ r. state_at T.tree cx.new.nodes r ≡ resolved_state_of (content_of cx.old.nodes table.now.entries) (sub_root_in table.now.entries) max_input_universe (trees_of cx.old.nodes var_values.now) (T.tree cx.old.nodes payload)) }
+    requires knows { Knows (content_of cx.old.nodes table.now.entries)
+        (state_row (trees_of cx.old.nodes var_values.now) (T.tree cx.old.nodes payload)) }
+    ensures state { IfOk result (λ r. state_at T.tree cx.new.nodes r ≡ resolved_state_of
+        (content_of cx.old.nodes table.now.entries) (sub_root_in table.now.entries)
+        max_input_universe (trees_of cx.old.nodes var_values.now) (T.tree cx.old.nodes payload)) }
     ensures values { IfOk result (λ r. All (HoldsArg cx.new.nodes) r.value.var_values.items) }
     ensures payload { IfOk result (λ r. T.holds cx.new.nodes r.value.payload) }
     ensures grows { Grows cx.old cx.new }

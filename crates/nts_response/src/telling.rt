@@ -80,7 +80,9 @@ fn is_position(cx: &Cx, t: NodeId, number: usize) -> bool
 /// there are no region constraints, hidden types and open goals.
 pub fn has_no_inference_or_external_constraints(cx: &Cx, response: &CanonicalResponse) -> bool
     requires { HoldsResponse cx.now.nodes response.now.value }
-    ensures { IsTrue result ↔ (ArePositions (trees_of cx.now.nodes response.now.value.var_values.items) × FoundNothing response.now.value.external_constraints) }
+    ensures { IsTrue result ↔ (ArePositions
+        (trees_of cx.now.nodes response.now.value.var_values.items) ×
+        FoundNothing response.now.value.external_constraints) }
 {
     let value = &response.value;
     is_identity(cx, &value.var_values) && value.external_constraints.is_empty()

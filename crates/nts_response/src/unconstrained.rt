@@ -23,7 +23,8 @@ pub fn response_no_constraints_raw(
     var_kinds: Vec<CanonicalVarKind>,
     certainty: Certainty,
 ) -> Result<CanonicalResponse, Fault>
-    ensures response { IfOk result (λ r. response_at cx.new.nodes r ≡ record (unconstrained (map kind_of_var var_kinds.items)) { max_universe = max_universe }) }
+    ensures response { IfOk result (λ r. response_at cx.new.nodes r ≡ record (unconstrained
+        (map kind_of_var var_kinds.items)) { max_universe = max_universe }) }
     ensures certainty { IfOk result (λ r. r.value.certainty ≡ certainty) }
     ensures holds { IfOk result (λ r. HoldsResponse cx.new.nodes r.value) }
     ensures grows { Grows cx.old cx.new }
@@ -54,7 +55,8 @@ fn positions(
     nodes: &mut Nodes,
     kinds: &[CanonicalVarKind],
 ) -> Result<Vec<GenericArg>, AllocError>
-    ensures values { IfOk result (λ v. trees_of nodes.new v.items ≡ positions_from 0 (map kind_of_var kinds.now)) }
+    ensures values { IfOk result (λ v. trees_of nodes.new v.items ≡ positions_from 0
+        (map kind_of_var kinds.now)) }
     ensures holds { IfOk result (λ v. All (HoldsArg nodes.new) v.items) }
     ensures extends { Extends nodes.old nodes.new }
 {

@@ -23,10 +23,17 @@ pub fn initial_provisional_result(
     kind: PathKind,
     input: &CanonicalInput,
 ) -> Result<Option<CanonicalResponse>, Fault>
-    ensures none { IfOk result (λ o. IsNone o ↔ ((kind ≡ PathKind.Inductive) × (mode_of input.now.typing_mode ≢ coherence))) }
-    ensures yes { IfOk result (λ o. IfSome o (λ r. (r.value.certainty ≡ Certainty.Yes) ↔ (kind ≡ PathKind.Coinductive))) }
-    ensures doubt { IfOk result (λ o. IfSome o (λ r. kind ≢ PathKind.Coinductive → r.value.certainty ≡ overflowing false)) }
-    ensures response { IfOk result (λ o. IfSome o (λ r. response_at cx.new.nodes r ≡ record (unconstrained (map kind_of_var input.now.canonical.var_kinds.items)) { max_universe = input.now.canonical.max_universe })) }
+    ensures none { IfOk result (λ o. IsNone o ↔ ((kind ≡ PathKind.Inductive) ×
+        (mode_of input.now.typing_mode ≢ coherence))) }
+    ensures yes { IfOk result (λ o. IfSome o (λ r.
+        (r.value.certainty ≡ Certainty.Yes) ↔ (kind ≡ PathKind.Coinductive))) }
+    ensures doubt { IfOk result (λ o. IfSome o (λ r. kind ≢ PathKind.Coinductive →
+        r.value.certainty ≡ overflowing false)) }
+    ensures response { IfOk result (λ o. IfSome o (λ r. response_at cx.new.nodes r ≡ record
+        (unconstrained (map kind_of_var input.now.canonical.var_kinds.items)) {
+          max_universe =
+              input.now.canonical.max_universe;
+        })) }
     ensures holds { IfOk result (λ o. IfSome o (λ r. HoldsResponse cx.new.nodes r.value)) }
     ensures nothing { IfOk result (λ o. IfSome o (λ r. FoundNothing r.value.external_constraints)) }
     ensures grows { Grows cx.old cx.new }

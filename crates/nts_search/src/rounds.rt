@@ -14,7 +14,9 @@ use nts_terms::Cx;
 pub fn round_is_last(cx: &Cx, entry: &StackEntry, answer: &Option<CanonicalResponse>) -> bool
     requires entry { HoldsEntry cx.now.nodes entry.now }
     requires answer { HoldsAnswer cx.now.nodes answer.now }
-    ensures { IsTrue result ↔ ((entry.now.is_read ≡ false) ⊎ (AreOneAnswer cx.now.nodes entry.now.provisional answer.now ⊎ IsVague cx.now.nodes answer.now)) }
+    ensures { IsTrue result ↔ ((entry.now.is_read ≡ false) ⊎
+        (AreOneAnswer cx.now.nodes entry.now.provisional answer.now ⊎
+        IsVague cx.now.nodes answer.now)) }
 {
     !entry.is_read || same_answer(cx, &entry.provisional, answer) || is_vague(cx, answer)
 }

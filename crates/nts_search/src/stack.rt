@@ -87,7 +87,8 @@ impl SearchGraph {
     pub fn find(&self, cx: &Cx, input: &CanonicalInput) -> Option<usize>
         requires holds { IsStack cx.now.nodes self.now }
         requires input { HoldsQuery cx.now.nodes input.now.canonical.value }
-        ensures found { MatchOption result (HasNoInput cx.now.nodes self.now input.now) (IsInputAt cx.now.nodes self.now input.now) }
+        ensures found { MatchOption result (HasNoInput cx.now.nodes self.now input.now)
+            (IsInputAt cx.now.nodes self.now input.now) }
     {
         // No two terms of a store have equal trees. So an entry of the same input has these terms.
         cx.nodes.terms_are_formed();
@@ -106,7 +107,8 @@ impl SearchGraph {
     /// own.
     pub fn path_kind(&self, head: usize, step: PathKind) -> PathKind
         requires { head < length self.now.stack.items }
-        ensures { (ts : List Tree) → path_kind_of result ≡ path_kind (entries_at ts self.now) (length self.now.stack.items - suc head) (path_kind_of step) }
+        ensures { (ts : List Tree) → path_kind_of result ≡ path_kind (entries_at ts self.now)
+            (length self.now.stack.items - suc head) (path_kind_of step) }
     {
         let mut kind = step;
         let mut at = self.stack.len();
@@ -121,7 +123,9 @@ impl SearchGraph {
     pub fn read(&mut self, head: usize)
         requires { head < length self.old.stack.items }
         ensures items { self.new.stack.items ≡ read_at self.old.stack.items head }
-        ensures entries { (ts : List Tree) → entries_at ts self.new ≡ marked (entries_at ts self.old) (length self.old.stack.items - suc head) }
+        ensures entries { (ts : List Tree) →
+            entries_at ts self.new ≡ marked (entries_at ts self.old)
+            (length self.old.stack.items - suc head) }
         ensures long { length self.new.stack.items ≡ length self.old.stack.items }
         ensures kept { (ts : List Tree) → IsStack ts self.old → IsStack ts self.new }
         ensures inputs { self.new.most_inputs ≡ self.old.most_inputs }
@@ -138,12 +142,24 @@ impl SearchGraph {
         provisional: Option<CanonicalResponse>,
     ) -> Result<(), AllocError>
         requires room { length self.old.stack.items ≤ self.old.root_depth }
-        ensures pushed { OnOk result ((e : Option ℕ) × (self.new.stack.items ≡ self.old.stack.items ++ record { input = input; step_kind = step_kind; provisional = provisional; is_read = false; earlier = e } ∷ [])) }
-        ensures kept { OnOk result ((ts : List Tree) → IsStack ts self.old → HoldsQuery ts input.canonical.value → HoldsAnswer ts provisional → IsStack ts self.new) }
-        ensures inputs { OnOk result (self.new.most_inputs ≡ max self.old.most_inputs (length self.new.stack.items)) }
+        ensures pushed { OnOk result ((e : Option ℕ) ×
+            (self.new.stack.items ≡ self.old.stack.items ++ record {
+              input = input;
+              step_kind =
+                  step_kind;
+              provisional = provisional;
+              is_read = false;
+              earlier = e;
+            } ∷ [])) }
+        ensures kept { OnOk result ((ts : List Tree) → IsStack ts self.old →
+            HoldsQuery ts input.canonical.value → HoldsAnswer ts provisional →
+            IsStack ts self.new) }
+        ensures inputs { OnOk result (self.new.most_inputs ≡ max self.old.most_inputs
+            (length self.new.stack.items)) }
 
         ensures err { OnErr result (self.new.stack.items ≡ self.old.stack.items) }
-        ensures err_kept { OnErr result ((ts : List Tree) → IsStack ts self.old → IsStack ts self.new) }
+        ensures err_kept { OnErr result ((ts : List Tree) → IsStack ts self.old →
+            IsStack ts self.new) }
         ensures err_inputs { OnErr result (self.new.most_inputs ≡ self.old.most_inputs) }
         ensures rest { KeepsRestOfGraph self.old self.new }
     {
@@ -168,7 +184,8 @@ impl SearchGraph {
     pub fn pop(&mut self) -> StackEntry
         requires { 0 < length self.old.stack.items }
         ensures popped { self.old.stack.items ≡ self.new.stack.items ++ result ∷ [] }
-        ensures kept { (ts : List Tree) → IsStack ts self.old → IsStack ts self.new × HoldsEntry ts result }
+        ensures kept { (ts : List Tree) → IsStack ts self.old → IsStack ts self.new ×
+            HoldsEntry ts result }
         ensures inputs { self.new.most_inputs ≡ self.old.most_inputs }
         ensures rest { KeepsRestOfGraph self.old self.new }
     {
@@ -204,7 +221,8 @@ impl SearchGraph {
 
 /// Lets an index lead from these terms to an older entry, or no more.
 fn lead_back(newest: &mut HashMap<GoalTerms, usize>, terms: GoalTerms, earlier: Option<usize>)
-    ensures { IsSome (led_to newest.old terms) → (k : GoalTerms) → led_to newest.new k ≡ (if same_terms terms k then earlier else led_to newest.old k) }
+    ensures { IsSome (led_to newest.old terms) → (k : GoalTerms) →
+        led_to newest.new k ≡ (if same_terms terms k then earlier else led_to newest.old k) }
 {
     match earlier {
         Some(i) => {

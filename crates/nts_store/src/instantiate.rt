@@ -63,7 +63,8 @@ pub fn instantiate_canonical(
     requires positions { HasValues (map (tree_at nodes.old) values.now) (tree_at nodes.old t) }
     ensures extends { Extends nodes.old nodes.new }
     ensures within { IfOk result (IsIn nodes.new) }
-    ensures tree { IfOk result (λ r. tree_at nodes.new r ≡ filled (map (tree_at nodes.old) values.now) (tree_at nodes.old t)) }
+    ensures tree { IfOk result (λ r. tree_at nodes.new r ≡ filled
+        (map (tree_at nodes.old) values.now) (tree_at nodes.old t)) }
 {
     replace(alloc, nodes, &Filler { values }, t)
 }

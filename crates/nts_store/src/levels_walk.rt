@@ -21,7 +21,8 @@ pub(crate) fn all_listed(
 ) -> Result<bool, AllocError>
     requires sorts { IsIn nodes.now sorts }
     requires within { IsIn nodes.now t }
-    ensures { IfOk result (λ b. IsTrue b ↔ AllListed (children (tree_at nodes.now sorts)) 0 (tree_at nodes.now t)) }
+    ensures { IfOk result (λ b. IsTrue b ↔ AllListed (children (tree_at nodes.now sorts)) 0
+        (tree_at nodes.now t)) }
 {
     // Most terms hold no bound variable that escapes, and are left alone without a walk.
     if is_closed_under(nodes, 0, t) {
@@ -52,8 +53,10 @@ fn next_level(
 ) -> Result<Option<BTreeSet<usize>>, AllocError>
     requires sorts { IsIn nodes.now sorts }
     requires within { above here.old.keys ≤ length nodes.now }
-    ensures next { IfOk result (λ o. IfSome o (λ deeper. IsNextLevel (children (tree_at nodes.now sorts)) level nodes.now here.old.keys deeper.keys)) }
-    ensures none { IfOk result (λ o. IfNone o (AllListedAt (children (tree_at nodes.now sorts)) level nodes.now here.old.keys → ⊥)) }
+    ensures next { IfOk result (λ o. IfSome o (λ deeper. IsNextLevel
+        (children (tree_at nodes.now sorts)) level nodes.now here.old.keys deeper.keys)) }
+    ensures none { IfOk result (λ o. IfNone o (AllListedAt (children (tree_at nodes.now sorts))
+        level nodes.now here.old.keys → ⊥)) }
 {
     // Equal terms have one number, and children stand before their parents. So where the last number
     // comes first, each node is visited once at each level, however often the tree has it.

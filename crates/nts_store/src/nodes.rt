@@ -86,7 +86,8 @@ impl Nodes {
         requires within { AllIn self.old children.now }
         requires formed { Meets (shape label) (trees_at self.old children.now) }
         ensures within { IfOk result (λ t. IsIn self.new t) }
-        ensures tree { IfOk result (λ t. tree_at self.new t ≡ node label (trees_at self.old children.now)) }
+        ensures tree { IfOk result (λ t. tree_at self.new t ≡ node label
+            (trees_at self.old children.now)) }
         ensures extends { Extends self.old self.new }
         ensures err { OnErr result (self.new ≡ self.old) }
     {
@@ -120,7 +121,8 @@ impl Nodes {
     fn is_well_bound_under(&self, label: Label, children: &[NodeId]) -> Result<bool, AllocError>
         requires within { AllIn self.now children.now }
         requires formed { Meets (shape label) (trees_at self.now children.now) }
-        ensures { IfOk result (λ b. IsTrue b ↔ IsWellBound (node label (trees_at self.now children.now))) }
+        ensures { IfOk result (λ b. IsTrue b ↔ IsWellBound
+            (node label (trees_at self.now children.now))) }
     {
         let binds = binders_of(label) > 0;
         let mut i = children.len();
@@ -138,10 +140,12 @@ impl Nodes {
 
     fn node(&self, t: NodeId) -> &Node
         requires { IsIn self.now t }
-        ensures is { tree_at self.now t ≡ node result.now.label (trees_at self.now result.now.children.items) }
+        ensures is { tree_at self.now t ≡ node result.now.label
+            (trees_at self.now result.now.children.items) }
         ensures all { AllIn self.now result.now.children.items }
         ensures before { AllBelow t.number result.now.children.items }
-        ensures formed { Meets (shape result.now.label) (trees_at self.now result.now.children.items) }
+        ensures formed { Meets (shape result.now.label)
+            (trees_at self.now result.now.children.items) }
         ensures flags { result.now.flags ≡ flags_of (tree_at self.now t) }
         ensures well_bound { IsTrue result.now.is_well_bound ↔ IsWellBound (tree_at self.now t) }
     {

@@ -41,7 +41,8 @@ pub trait Replacer {
         requires ready { ready nodes.old self.now }
         requires covers { covers (meaning nodes.old self.now) (tree_at nodes.old t) }
         ensures extends { Extends nodes.old nodes.new }
-        ensures step { IfOk result (IsStep (covers (meaning nodes.old self.now)) (image (meaning nodes.old self.now)) nodes.new (tree_at nodes.old t)) };
+        ensures step { IfOk result (IsStep (covers (meaning nodes.old self.now))
+            (image (meaning nodes.old self.now)) nodes.new (tree_at nodes.old t)) };
 
     ghost ready_kept: { (a b : List Tree) (s : Self) → ready a s → Extends a b → ready b s };
 
@@ -77,7 +78,8 @@ pub fn replace<R: Replacer>(
     requires covers { R.covers (R.meaning nodes.old replacer.now) (tree_at nodes.old t) }
     ensures extends { Extends nodes.old nodes.new }
     ensures within { IfOk result (IsIn nodes.new) }
-    ensures tree { IfOk result (λ r. tree_at nodes.new r ≡ R.image (R.meaning nodes.old replacer.now) (tree_at nodes.old t)) }
+    ensures tree { IfOk result (λ r. tree_at nodes.new r ≡ R.image
+        (R.meaning nodes.old replacer.now) (tree_at nodes.old t)) }
 {
     let mut tasks = Vec::new(alloc);
     let mut found = Vec::new(alloc);
@@ -105,7 +107,8 @@ fn walk<R: Replacer>(
     requires unknown { (k : ℕ) → get nat_eq known.old k ≡ None }
     ensures extends { Extends nodes.old nodes.new }
     ensures within { IfOk result (IsIn nodes.new) }
-    ensures tree { IfOk result (λ r. tree_at nodes.new r ≡ R.image (R.meaning nodes.old replacer.now) (tree_at nodes.old t)) }
+    ensures tree { IfOk result (λ r. tree_at nodes.new r ≡ R.image
+        (R.meaning nodes.old replacer.now) (tree_at nodes.old t)) }
 {
     tasks.push(Task::Enter(t))?;
     while let Some(task) = tasks.pop() {
@@ -137,7 +140,8 @@ pub fn push_node(nodes: &Nodes, node: NodeId, tasks: &mut Vec<Task>) -> Result<(
     requires tasks { TasksIn nodes.now tasks.old.items }
     ensures within { OnOk result (TasksIn nodes.now tasks.new.items) }
     ensures formed { IsFormedNode (tree_at nodes.now node) }
-    ensures jobs { OnOk result (jobs nodes.now tasks.new.items ≡ jobs nodes.now tasks.old.items ++ building (tree_at nodes.now node)) }
+    ensures jobs { OnOk result (jobs nodes.now tasks.new.items ≡ jobs nodes.now
+        tasks.old.items ++ building (tree_at nodes.now node)) }
 {
     let label = nodes.label(node);
     let count = nodes.child_count(node);

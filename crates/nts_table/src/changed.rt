@@ -13,8 +13,10 @@ impl InferCtxt {
     /// is the root of its class.
     pub fn is_changed_arg(&self, cx: &Cx, arg: GenericArg) -> bool
         requires { HoldsArg cx.now.nodes arg }
-        ensures unchanged { result ≡ false → IsUnchanged self.now.entries (tree_at cx.now.nodes arg.node) }
-        ensures changed { result ≡ true → IsUnchanged self.now.entries (tree_at cx.now.nodes arg.node) → ⊥ }
+        ensures unchanged { result ≡ false →
+            IsUnchanged self.now.entries (tree_at cx.now.nodes arg.node) }
+        ensures changed { result ≡ true →
+            IsUnchanged self.now.entries (tree_at cx.now.nodes arg.node) → ⊥ }
     {
         match named_variable(cx.nodes.label(arg.node)) {
             None => false,

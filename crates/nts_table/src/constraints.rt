@@ -29,10 +29,21 @@ impl InferCtxt {
         requires table { IsTable cx.now.nodes self.old }
         requires left { HoldsRegion cx.now.nodes a }
         requires right { HoldsRegion cx.now.nodes b }
-        requires left_known { Knows (content_of cx.now.nodes self.old.entries) (tree_at cx.now.nodes a.node) }
-        requires right_known { Knows (content_of cx.now.nodes self.old.entries) (tree_at cx.now.nodes b.node) }
-        ensures recorded { OnOk result (Records cx.now.nodes self.old.entries self.new.entries (record { relation = relation.RegionOutlives; left = b.node; right = a.node; is_visible = is_visible visible })) }
-        ensures labels { OnOk result (BringsLabelsOf (content_of cx.now.nodes self.old.entries) (content_of cx.now.nodes self.new.entries) (tree_at cx.now.nodes b.node) (tree_at cx.now.nodes a.node)) }
+        requires left_known { Knows (content_of cx.now.nodes self.old.entries)
+            (tree_at cx.now.nodes a.node) }
+        requires right_known { Knows (content_of cx.now.nodes self.old.entries)
+            (tree_at cx.now.nodes b.node) }
+        ensures recorded { OnOk result (Records cx.now.nodes self.old.entries self.new.entries
+            (record {
+              relation = relation.RegionOutlives;
+              left = b.node;
+              right = a.node;
+              is_visible
+                  = is_visible visible;
+            })) }
+        ensures labels { OnOk result (BringsLabelsOf (content_of cx.now.nodes self.old.entries)
+            (content_of cx.now.nodes self.new.entries) (tree_at cx.now.nodes b.node)
+            (tree_at cx.now.nodes a.node)) }
         ensures table { IsTable cx.now.nodes self.new }
         ensures changes { ChangesVariables self.old self.new }
         ensures err { OnErr result (self.new ≡ self.old) }
@@ -60,10 +71,20 @@ impl InferCtxt {
         requires table { IsTable cx.now.nodes self.old }
         requires left { HoldsTy cx.now.nodes ty }
         requires right { HoldsRegion cx.now.nodes region }
-        requires left_known { Knows (content_of cx.now.nodes self.old.entries) (tree_at cx.now.nodes ty.node) }
-        requires right_known { Knows (content_of cx.now.nodes self.old.entries) (tree_at cx.now.nodes region.node) }
-        ensures recorded { OnOk result (Records cx.now.nodes self.old.entries self.new.entries (record { relation = relation.TypeOutlives; left = ty.node; right = region.node; is_visible = true })) }
-        ensures labels { OnOk result (BringsLabelsOf (content_of cx.now.nodes self.old.entries) (content_of cx.now.nodes self.new.entries) (tree_at cx.now.nodes ty.node) (tree_at cx.now.nodes region.node)) }
+        requires left_known { Knows (content_of cx.now.nodes self.old.entries)
+            (tree_at cx.now.nodes ty.node) }
+        requires right_known { Knows (content_of cx.now.nodes self.old.entries)
+            (tree_at cx.now.nodes region.node) }
+        ensures recorded { OnOk result (Records cx.now.nodes self.old.entries self.new.entries
+            (record {
+              relation = relation.TypeOutlives;
+              left = ty.node;
+              right = region.node;
+              is_visible = true;
+            })) }
+        ensures labels { OnOk result (BringsLabelsOf (content_of cx.now.nodes self.old.entries)
+            (content_of cx.now.nodes self.new.entries) (tree_at cx.now.nodes ty.node)
+            (tree_at cx.now.nodes region.node)) }
         ensures table { IsTable cx.now.nodes self.new }
         ensures changes { ChangesVariables self.old self.new }
         ensures err { OnErr result (self.new ≡ self.old) }
@@ -84,8 +105,11 @@ impl InferCtxt {
     pub(crate) fn record(&mut self, nodes: &Nodes, constraint: Constraint) -> Result<(), Fault>
         requires table { IsTable nodes.now self.old }
         requires sides { IsConstraint nodes.now (content_of nodes.now self.old.entries) constraint }
-        ensures recorded { OnOk result (Records nodes.now self.old.entries self.new.entries constraint) }
-        ensures labels { OnOk result (BringsLabelsOf (content_of nodes.now self.old.entries) (content_of nodes.now self.new.entries) (tree_at nodes.now constraint.left) (tree_at nodes.now constraint.right)) }
+        ensures recorded { OnOk result (Records nodes.now self.old.entries self.new.entries
+            constraint) }
+        ensures labels { OnOk result (BringsLabelsOf (content_of nodes.now self.old.entries)
+            (content_of nodes.now self.new.entries) (tree_at nodes.now constraint.left)
+            (tree_at nodes.now constraint.right)) }
         ensures table { IsTable nodes.now self.new }
         ensures changes { ChangesVariables self.old self.new }
         ensures err { OnErr result (self.new ≡ self.old) }

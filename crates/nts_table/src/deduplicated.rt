@@ -31,8 +31,10 @@ impl InferCtxt {
         cx: &mut Cx,
     ) -> Result<Vec<Constraint>, Fault>
         requires table { IsTable cx.old.nodes self.now }
-        ensures news { IfOk result (λ v. AreNews (resolved_constraints (content_of cx.old.nodes self.now.entries)) (map (recorded_of cx.new.nodes) v.items)) }
-        ensures sides { IfOk result (λ v. AreConstraints cx.new.nodes (content_of cx.new.nodes self.now.entries) v.items) }
+        ensures news { IfOk result (λ v. AreNews (resolved_constraints
+            (content_of cx.old.nodes self.now.entries)) (map (recorded_of cx.new.nodes) v.items)) }
+        ensures sides { IfOk result (λ v. AreConstraints cx.new.nodes
+            (content_of cx.new.nodes self.now.entries) v.items) }
         ensures grows { Grows cx.old cx.new }
         ensures memory { IsOkUnless result Fault.Memory }
     {
@@ -48,8 +50,12 @@ impl InferCtxt {
     fn resolved_constraint(&self, cx: &mut Cx, i: usize) -> Result<Constraint, Fault>
         requires table { IsTable cx.old.nodes self.now }
         requires has { i < length self.now.entries.constraints }
-        ensures resolved { IfOk result (λ r. (x : Constraint) → slice_get self.now.entries.constraints i ≡ Some x → recorded_of cx.new.nodes r ≡ resolved_constraint (content_of cx.old.nodes self.now.entries) (recorded_of cx.old.nodes x)) }
-        ensures sides { IfOk result (λ r. IsConstraint cx.new.nodes (content_of cx.new.nodes self.now.entries) r) }
+        ensures resolved { IfOk result (λ r. (x : Constraint) →
+            slice_get self.now.entries.constraints i ≡ Some x →
+            recorded_of cx.new.nodes r ≡ resolved_constraint
+            (content_of cx.old.nodes self.now.entries) (recorded_of cx.old.nodes x)) }
+        ensures sides { IfOk result (λ r. IsConstraint cx.new.nodes
+            (content_of cx.new.nodes self.now.entries) r) }
         ensures grows { Grows cx.old cx.new }
         ensures memory { IsOkUnless result Fault.Memory }
     {
@@ -75,7 +81,8 @@ fn tell(
     requires told { AllSidesIn nodes.now told.old.items }
     requires seen { seen.old.keys ≡ map said told.old.items }
     ensures seen { OnOk result (seen.new.keys ≡ map said told.new.items) }
-    ensures tells { OnOk result (TellsConstraint nodes.now told.old.items told.new.items constraint) }
+    ensures tells { OnOk result (TellsConstraint nodes.now told.old.items told.new.items
+        constraint) }
     ensures memory { IsOkUnless result Fault.Memory }
 {
     // Equal terms of one store have one number, so numbers tell whether two constraints are the same.

@@ -35,12 +35,17 @@ impl InferCtxt {
         requires table { IsTable cx.now.nodes self.old }
         requires left { HoldsRegion cx.now.nodes a }
         requires right { HoldsRegion cx.now.nodes b }
-        requires left_known { Knows (content_of cx.now.nodes self.old.entries) (tree_at cx.now.nodes a.node) }
-        requires right_known { Knows (content_of cx.now.nodes self.old.entries) (tree_at cx.now.nodes b.node) }
+        requires left_known { Knows (content_of cx.now.nodes self.old.entries)
+            (tree_at cx.now.nodes a.node) }
+        requires right_known { Knows (content_of cx.now.nodes self.old.entries)
+            (tree_at cx.now.nodes b.node) }
         requires left_free { IsRegion (tree_at cx.now.nodes a.node) }
         requires right_free { IsRegion (tree_at cx.now.nodes b.node) }
-        ensures equated { OnOk result (Equated cx.now.nodes self.old.entries self.new.entries a.node b.node (is_visible visible)) }
-        ensures labels { OnOk result (BringsLabelsOf (content_of cx.now.nodes self.old.entries) (content_of cx.now.nodes self.new.entries) (tree_at cx.now.nodes a.node) (tree_at cx.now.nodes b.node)) }
+        ensures equated { OnOk result (Equated cx.now.nodes self.old.entries self.new.entries a.node
+            b.node (is_visible visible)) }
+        ensures labels { OnOk result (BringsLabelsOf (content_of cx.now.nodes self.old.entries)
+            (content_of cx.now.nodes self.new.entries) (tree_at cx.now.nodes a.node)
+            (tree_at cx.now.nodes b.node)) }
         ensures table { IsTable cx.now.nodes self.new }
         ensures changes { ChangesVariables self.old self.new }
         ensures err { OnErr result (self.new ≡ self.old) }

@@ -21,7 +21,8 @@ impl InferCtxt {
     /// New variables of these sorts, in their order.
     pub fn fresh_nodes(&mut self, cx: &mut Cx, sorts: &[Sort]) -> Result<Vec<NodeId>, Fault>
         requires table { IsTable cx.old.nodes self.old }
-        ensures trees { IfOk result (λ v. trees_at cx.new.nodes v.items ≡ fresh_row (length self.old.entries.variables) sorts.now) }
+        ensures trees { IfOk result (λ v. trees_at cx.new.nodes v.items ≡ fresh_row
+            (length self.old.entries.variables) sorts.now) }
         ensures within { IfOk result (λ v. AllIn cx.new.nodes v.items) }
         ensures entries { OnOk result (self.new.entries ≡ with_fresh self.old.entries sorts.now) }
         ensures changes { ChangesEntries self.old self.new }
@@ -38,7 +39,8 @@ impl InferCtxt {
     /// A list of new variables of these sorts, as arguments of what is declared with them.
     pub fn fresh_args_for_item(&mut self, cx: &mut Cx, sorts: &[Sort]) -> Result<GenericArgs, Fault>
         requires table { IsTable cx.old.nodes self.old }
-        ensures tree { IfOk result (λ a. tree_at cx.new.nodes a.node ≡ node (labels.List heads.Args) (fresh_row (length self.old.entries.variables) sorts.now)) }
+        ensures tree { IfOk result (λ a. tree_at cx.new.nodes a.node ≡ node (labels.List heads.Args)
+            (fresh_row (length self.old.entries.variables) sorts.now)) }
         ensures holds { IfOk result (λ a. HoldsArgs cx.new.nodes a) }
         ensures entries { OnOk result (self.new.entries ≡ with_fresh self.old.entries sorts.now) }
         ensures changes { ChangesEntries self.old self.new }
@@ -54,7 +56,8 @@ impl InferCtxt {
 
     fn add_fresh_args(&mut self, cx: &mut Cx, sorts: &[Sort]) -> Result<GenericArgs, Fault>
         requires table { IsTable cx.old.nodes self.old }
-        ensures tree { IfOk result (λ a. tree_at cx.new.nodes a.node ≡ node (labels.List heads.Args) (fresh_row (length self.old.entries.variables) sorts.now)) }
+        ensures tree { IfOk result (λ a. tree_at cx.new.nodes a.node ≡ node (labels.List heads.Args)
+            (fresh_row (length self.old.entries.variables) sorts.now)) }
         ensures holds { IfOk result (λ a. HoldsArgs cx.new.nodes a) }
         ensures entries { OnOk result (self.new.entries ≡ with_fresh self.old.entries sorts.now) }
         ensures changes { ChangesEntries self.old self.new }
@@ -70,7 +73,8 @@ impl InferCtxt {
     /// As `fresh_nodes`, but some variables may stay after an error.
     fn add_fresh(&mut self, cx: &mut Cx, sorts: &[Sort]) -> Result<Vec<NodeId>, Fault>
         requires table { IsTable cx.old.nodes self.old }
-        ensures trees { IfOk result (λ v. trees_at cx.new.nodes v.items ≡ fresh_row (length self.old.entries.variables) sorts.now) }
+        ensures trees { IfOk result (λ v. trees_at cx.new.nodes v.items ≡ fresh_row
+            (length self.old.entries.variables) sorts.now) }
         ensures within { IfOk result (λ v. AllIn cx.new.nodes v.items) }
         ensures entries { OnOk result (self.new.entries ≡ with_fresh self.old.entries sorts.now) }
         ensures changes { ChangesEntries self.old self.new }
@@ -89,8 +93,10 @@ impl InferCtxt {
     pub(crate) fn fresh_node(&mut self, cx: &mut Cx, sort: Sort) -> Result<NodeId, Fault>
         requires table { IsTable cx.old.nodes self.old }
         ensures within { IfOk result (λ r. IsIn cx.new.nodes r) }
-        ensures tree { IfOk result (λ r. tree_at cx.new.nodes r ≡ variable_tree (variable_kind sort) (length self.old.entries.variables)) }
-        ensures entries { OnOk result (self.new.entries ≡ added self.old.entries (new_variable self.old.entries (variable_kind sort))) }
+        ensures tree { IfOk result (λ r. tree_at cx.new.nodes r ≡ variable_tree (variable_kind sort)
+            (length self.old.entries.variables)) }
+        ensures entries { OnOk result (self.new.entries ≡ added self.old.entries
+            (new_variable self.old.entries (variable_kind sort))) }
         ensures changes { ChangesEntries self.old self.new }
         ensures table { IsTable cx.new.nodes self.new }
         ensures grows { Grows cx.old cx.new }
@@ -111,7 +117,8 @@ impl InferCtxt {
     ) -> Result<GenericArg, Fault>
         requires table { IsTable cx.old.nodes self.old }
         requires holds { HoldsArg cx.old.nodes arg }
-        ensures fresh { IfOk result (λ r. IsFreshLike (kind_of (tree_at cx.old.nodes arg.node)) (tree_at cx.new.nodes r.node) self.old.entries self.new.entries) }
+        ensures fresh { IfOk result (λ r. IsFreshLike (kind_of (tree_at cx.old.nodes arg.node))
+            (tree_at cx.new.nodes r.node) self.old.entries self.new.entries) }
         ensures holds { IfOk result (λ r. HoldsArg cx.new.nodes r) }
         ensures changes { ChangesEntries self.old self.new }
         ensures table { IsTable cx.new.nodes self.new }

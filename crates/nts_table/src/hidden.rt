@@ -31,11 +31,19 @@ impl InferCtxt {
         requires table { IsTable cx.old.nodes self.old }
         requires of_types { IsAliasOf sort.Ty key.def_id }
         requires args { HoldsArgs cx.old.nodes key.args }
-        requires args_known { Knows (content_of cx.old.nodes self.old.entries) (tree_at cx.old.nodes key.args.node) }
+        requires args_known { Knows (content_of cx.old.nodes self.old.entries)
+            (tree_at cx.old.nodes key.args.node) }
         requires ty { HoldsTy cx.old.nodes ty }
-        requires ty_known { Knows (content_of cx.old.nodes self.old.entries) (tree_at cx.old.nodes ty.node) }
-        ensures registered { IfOk result (Registers cx.old.nodes (content_of cx.old.nodes self.old.entries) self.old.entries.hidden.lookup (record { alias = key.def_id; args = key.args; ty = ty }) self.new.entries.hidden.lookup) }
-        ensures entries { OnOk result (self.new.entries ≡ record self.old.entries { hidden = record self.old.entries.hidden { lookup = self.new.entries.hidden.lookup } }) }
+        requires ty_known { Knows (content_of cx.old.nodes self.old.entries)
+            (tree_at cx.old.nodes ty.node) }
+        ensures registered { IfOk result (Registers cx.old.nodes
+            (content_of cx.old.nodes self.old.entries) self.old.entries.hidden.lookup
+            (record { alias = key.def_id; args = key.args; ty = ty })
+            self.new.entries.hidden.lookup) }
+        ensures entries { OnOk result (self.new.entries ≡ record self.old.entries {
+          hidden = record
+              self.old.entries.hidden { lookup = self.new.entries.hidden.lookup };
+        }) }
         ensures changes { ChangesEntries self.old self.new }
         ensures table { IsTable cx.new.nodes self.new }
         ensures grows { Grows cx.old cx.new }
@@ -72,10 +80,13 @@ impl InferCtxt {
         requires table { IsTable cx.now.nodes self.old }
         requires of_types { IsAliasOf sort.Ty key.def_id }
         requires args { HoldsArgs cx.now.nodes key.args }
-        requires args_known { Knows (content_of cx.now.nodes self.old.entries) (tree_at cx.now.nodes key.args.node) }
+        requires args_known { Knows (content_of cx.now.nodes self.old.entries)
+            (tree_at cx.now.nodes key.args.node) }
         requires ty { HoldsTy cx.now.nodes ty }
-        requires ty_known { Knows (content_of cx.now.nodes self.old.entries) (tree_at cx.now.nodes ty.node) }
-        ensures added { OnOk result (self.new.entries ≡ duplicated self.old.entries (record { alias = key.def_id; args = key.args; ty = ty })) }
+        requires ty_known { Knows (content_of cx.now.nodes self.old.entries)
+            (tree_at cx.now.nodes ty.node) }
+        ensures added { OnOk result (self.new.entries ≡ duplicated self.old.entries
+            (record { alias = key.def_id; args = key.args; ty = ty })) }
         ensures changes { ChangesEntries self.old self.new }
         ensures table { IsTable cx.now.nodes self.new }
         ensures err { OnErr result (self.new ≡ self.old) }
@@ -92,7 +103,8 @@ impl InferCtxt {
 
     /// The duplicates in the order of adding, each behind its alias.
     pub fn clone_duplicate_opaque_types(&self) -> Result<Vec<(AliasTerm, Ty)>, Fault>
-        ensures duplicates { IfOk result (λ v. v.items ≡ map pair_of self.now.entries.hidden.duplicates) }
+        ensures duplicates { IfOk result (λ v.
+            v.items ≡ map pair_of self.now.entries.hidden.duplicates) }
         ensures memory { IsOkUnless result Fault.Memory }
     {
         pairs_of(self.inner.allocator(), self.inner.duplicates())
@@ -111,7 +123,8 @@ impl InferCtxt {
         &self,
         entries: usize,
     ) -> Result<Vec<(AliasTerm, Ty)>, Fault>
-        ensures since { IfOk result (λ v. v.items ≡ map pair_of (drop entries self.now.entries.hidden.lookup)) }
+        ensures since { IfOk result (λ v. v.items ≡ map pair_of
+            (drop entries self.now.entries.hidden.lookup)) }
         ensures memory { IsOkUnless result Fault.Memory }
     {
         let hidden = self.inner.hidden_types();
@@ -128,7 +141,8 @@ impl InferCtxt {
     ) -> Result<Option<usize>, AllocError>
         requires table { IsTable nodes.old self.now }
         requires hidden { IsHiddenType nodes.old (content_of nodes.old self.now.entries) hidden }
-        ensures place { IfOk result (IsPlace nodes.old (content_of nodes.old self.now.entries) self.now.entries.hidden.lookup hidden) }
+        ensures place { IfOk result (IsPlace nodes.old (content_of nodes.old self.now.entries)
+            self.now.entries.hidden.lookup hidden) }
         ensures extends { Extends nodes.old nodes.new }
     {
         let args = resolve_nodes(alloc, nodes, self, hidden.args.node, true)?;

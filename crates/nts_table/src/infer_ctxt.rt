@@ -39,7 +39,13 @@ impl Model for InferCtxt {
 impl InferCtxt {
     /// A table without variables, in the root universe. It takes no memory.
     pub fn new(alloc: Global, mode: TypingMode) -> Self
-        ensures entries { result.entries ≡ record { variables = []; order = []; universe = 0; constraints = []; hidden = record { lookup = []; duplicates = [] } } }
+        ensures entries { result.entries ≡ record {
+          variables = [];
+          order = [];
+          universe = 0;
+          constraints = [];
+          hidden = record { lookup = []; duplicates = [] };
+        } }
         ensures saved { result.saved ≡ [] }
         ensures mode { result.mode ≡ mode }
         ensures table { (ts : List Tree) → IsTable ts result }

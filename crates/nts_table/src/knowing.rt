@@ -35,7 +35,8 @@ impl InferCtxt {
     /// of the list of its binder.
     pub fn knows<T: Stored>(&self, cx: &Cx, x: T) -> Result<bool, Fault>
         requires { IsIn cx.now.nodes (T.id x) }
-        ensures answer { IfOk result (λ b. IsTrue b ↔ Knows (content_of cx.now.nodes self.now.entries) (tree_at cx.now.nodes (T.id x))) }
+        ensures answer { IfOk result (λ b. IsTrue b ↔ Knows
+            (content_of cx.now.nodes self.now.entries) (tree_at cx.now.nodes (T.id x))) }
         ensures memory { IsOkUnless result Fault.Memory }
     {
         let answer = self.knows_node(cx.alloc, &cx.nodes, x.node())?;
@@ -45,7 +46,8 @@ impl InferCtxt {
     /// Each node is looked at once, however often and however deep the term has it.
     pub fn knows_node(&self, alloc: Global, nodes: &Nodes, t: NodeId) -> Result<bool, AllocError>
         requires { IsIn nodes.now t }
-        ensures { IfOk result (λ b. IsTrue b ↔ Knows (content_of nodes.now self.now.entries) (tree_at nodes.now t)) }
+        ensures { IfOk result (λ b. IsTrue b ↔ Knows (content_of nodes.now self.now.entries)
+            (tree_at nodes.now t)) }
     {
         // Positions and binders are told by what the node keeps. Most terms hold neither variables nor placeholders, and are not walked.
         let flags = nodes.flags(t);

@@ -11,9 +11,12 @@ impl InferCtxt {
     /// What `f` answers, which ends the snapshots that it starts. Afterwards the table is as before.
     pub fn probe<R, F: FnOnce(&mut InferCtxt) -> R>(&mut self, f: F) -> Result<R, Fault>
         requires callable { F.IsAlwaysCallable f }
-        requires ends { (t u : Table) (r : R) → FnOnceReturnsAtMut F.FnOnce f t r u → u.saved ≡ t.saved }
-        requires mode { (t u : Table) (r : R) → FnOnceReturnsAtMut F.FnOnce f t r u → u.mode ≡ t.mode }
-        ensures answered { IfOk result (λ r. ProbeAnswers (λ t u. FnOnceReturnsAtMut F.FnOnce f t r u) self.old.entries) }
+        requires ends { (t u : Table) (r : R) → FnOnceReturnsAtMut F.FnOnce f t r u →
+            u.saved ≡ t.saved }
+        requires mode { (t u : Table) (r : R) → FnOnceReturnsAtMut F.FnOnce f t r u →
+            u.mode ≡ t.mode }
+        ensures answered { IfOk result (λ r. ProbeAnswers (λ t u.
+            FnOnceReturnsAtMut F.FnOnce f t r u) self.old.entries) }
         ensures same { self.new ≡ self.old }
         ensures memory { IsOkUnless result Fault.Memory }
     {

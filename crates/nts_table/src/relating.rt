@@ -202,9 +202,15 @@ impl InferCtxt {
         requires left { IsSide T.place cx.old.nodes self.old (T.id lhs) }
         requires right { IsSide T.place cx.old.nodes self.old (T.id rhs) }
         ensures heads { OnOk result (T.head lhs ≡ T.head rhs) }
-        ensures related { OnOk result (AreRelated (content_of cx.old.nodes self.old.entries) (content_of cx.new.nodes self.new.entries) (tree_at cx.old.nodes (T.id lhs)) (tree_at cx.old.nodes (T.id rhs))) }
-        ensures labels { OnOk result (BringsLabelsOf (content_of cx.old.nodes self.old.entries) (content_of cx.new.nodes self.new.entries) (tree_at cx.old.nodes (T.id lhs)) (tree_at cx.old.nodes (T.id rhs))) }
-        ensures no { result ≡ Err EvalError.NoSolution → T.head lhs ≡ T.head rhs → AreUnrelated (content_of cx.old.nodes self.old.entries) (tree_at cx.old.nodes (T.id lhs)) (tree_at cx.old.nodes (T.id rhs)) }
+        ensures related { OnOk result (AreRelated (content_of cx.old.nodes self.old.entries)
+            (content_of cx.new.nodes self.new.entries) (tree_at cx.old.nodes (T.id lhs))
+            (tree_at cx.old.nodes (T.id rhs))) }
+        ensures labels { OnOk result (BringsLabelsOf (content_of cx.old.nodes self.old.entries)
+            (content_of cx.new.nodes self.new.entries) (tree_at cx.old.nodes (T.id lhs))
+            (tree_at cx.old.nodes (T.id rhs))) }
+        ensures no { result ≡ Err EvalError.NoSolution → T.head lhs ≡ T.head rhs →
+            AreUnrelated (content_of cx.old.nodes self.old.entries) (tree_at cx.old.nodes
+            (T.id lhs)) (tree_at cx.old.nodes (T.id rhs)) }
         ensures keeps { RelatingKeeps cx.old cx.new self.old self.new }
         ensures err { OnErr result (self.new ≡ self.old) }
         ensures full { result ≢ Err EvalError.Full }

@@ -29,11 +29,15 @@ pub fn relate_nodes(
     ensures extends { Extends nodes.old nodes.new }
     ensures table { IsTable nodes.new table.new }
     ensures changes { ChangesVariables table.old table.new }
-    ensures later { IsLater (content_of nodes.old table.old.entries) (content_of nodes.new table.new.entries) }
-    ensures related { OnOk result (AreRelated (content_of nodes.old table.old.entries) (content_of nodes.new table.new.entries) (tree_at nodes.old a) (tree_at nodes.old b)) }
-    ensures labels { OnOk result (BringsLabelsOf (content_of nodes.old table.old.entries) (content_of nodes.new table.new.entries) (tree_at nodes.old a) (tree_at nodes.old b)) }
+    ensures later { IsLater (content_of nodes.old table.old.entries)
+        (content_of nodes.new table.new.entries) }
+    ensures related { OnOk result (AreRelated (content_of nodes.old table.old.entries)
+        (content_of nodes.new table.new.entries) (tree_at nodes.old a) (tree_at nodes.old b)) }
+    ensures labels { OnOk result (BringsLabelsOf (content_of nodes.old table.old.entries)
+        (content_of nodes.new table.new.entries) (tree_at nodes.old a) (tree_at nodes.old b)) }
     ensures err { OnErr result (table.new ≡ table.old) }
-    ensures no { result ≡ Err NoSolution → AreUnrelated (content_of nodes.old table.old.entries) (tree_at nodes.old a) (tree_at nodes.old b) }
+    ensures no { result ≡ Err NoSolution → AreUnrelated (content_of nodes.old table.old.entries)
+        (tree_at nodes.old a) (tree_at nodes.old b) }
     ensures full { result ≢ Err EvalError.Full }
 {
     nts_relating::relate_nodes(alloc, nodes, &mut table.inner, a, b)

@@ -71,10 +71,14 @@ impl Resolver<'_> {
     fn region_step(&self, nodes: &mut Nodes, t: NodeId, n: usize) -> Result<Step, AllocError>
         requires within { IsIn nodes.old t }
         requires table { IsTable nodes.old self.now.table.now }
-        requires has { kind_at (content_of nodes.old self.now.table.now.entries) n ≡ Some variable.Region }
+        requires has { kind_at (content_of nodes.old self.now.table.now.entries) n ≡ Some
+            variable.Region }
         requires variable { tree_at nodes.old t ≡ variable_tree variable.Region n }
         ensures extends { Extends nodes.old nodes.new }
-        ensures step { IfOk result (IsStep (CanResolve (resolution nodes.old self.now.table.now self.now.regions)) (resolution_of (resolution nodes.old self.now.table.now self.now.regions)) nodes.new (tree_at nodes.old t)) }
+        ensures step { IfOk result
+            (IsStep (CanResolve (resolution nodes.old self.now.table.now self.now.regions))
+            (resolution_of (resolution nodes.old self.now.table.now self.now.regions)) nodes.new
+            (tree_at nodes.old t)) }
     {
         if !self.regions {
             return Ok(Step::Done(t));
@@ -97,7 +101,10 @@ impl Resolver<'_> {
         requires variable { tree_at nodes.old t ≡ variable_tree kind n }
         requires no_region { kind ≢ variable.Region }
         ensures extends { Extends nodes.old nodes.new }
-        ensures step { IfOk result (IsStep (CanResolve (resolution nodes.old self.now.table.now self.now.regions)) (resolution_of (resolution nodes.old self.now.table.now self.now.regions)) nodes.new (tree_at nodes.old t)) }
+        ensures step { IfOk result
+            (IsStep (CanResolve (resolution nodes.old self.now.table.now self.now.regions))
+            (resolution_of (resolution nodes.old self.now.table.now self.now.regions)) nodes.new
+            (tree_at nodes.old t)) }
     {
         let value = match self.table.probe_variable(n) {
             Ok(value) => value,
@@ -131,7 +138,8 @@ pub fn resolve_nodes(
     requires knows { Knows (content_of nodes.old table.now.entries) (tree_at nodes.old t) }
     ensures extends { Extends nodes.old nodes.new }
     ensures within { IfOk result (IsIn nodes.new) }
-    ensures tree { IfOk result (λ r. tree_at nodes.new r ≡ resolved_to regions (content_of nodes.old table.now.entries) (tree_at nodes.old t)) }
+    ensures tree { IfOk result (λ r. tree_at nodes.new r ≡ resolved_to regions
+        (content_of nodes.old table.now.entries) (tree_at nodes.old t)) }
 {
     replace(alloc, nodes, &Resolver { table, regions }, t)
 }

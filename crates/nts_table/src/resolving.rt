@@ -18,8 +18,10 @@ impl InferCtxt {
     pub fn resolve_vars_if_possible<T: Stored>(&self, cx: &mut Cx, x: T) -> Result<T, Fault>
         requires table { IsTable cx.old.nodes self.now }
         requires holds { Holds T.place cx.old.nodes (T.id x) }
-        requires knows { Knows (content_of cx.old.nodes self.now.entries) (tree_at cx.old.nodes (T.id x)) }
-        ensures tree { IfOk result (λ r. tree_at cx.new.nodes (T.id r) ≡ resolved (content_of cx.old.nodes self.now.entries) (tree_at cx.old.nodes (T.id x))) }
+        requires knows { Knows (content_of cx.old.nodes self.now.entries) (tree_at cx.old.nodes
+            (T.id x)) }
+        ensures tree { IfOk result (λ r. tree_at cx.new.nodes (T.id r) ≡ resolved
+            (content_of cx.old.nodes self.now.entries) (tree_at cx.old.nodes (T.id x))) }
         ensures holds { IfOk result (λ r. Holds T.place cx.new.nodes (T.id r)) }
         ensures grows { Grows cx.old cx.new }
         ensures memory { IsOkUnless result Fault.Memory }
@@ -32,8 +34,10 @@ impl InferCtxt {
     pub fn has_alias<T: Stored>(&self, cx: &mut Cx, x: T) -> Result<bool, Fault>
         requires table { IsTable cx.old.nodes self.now }
         requires within { IsIn cx.old.nodes (T.id x) }
-        requires knows { Knows (content_of cx.old.nodes self.now.entries) (tree_at cx.old.nodes (T.id x)) }
-        ensures answer { IfOk result (λ b. b ≡ any_label is_alias (resolved (content_of cx.old.nodes self.now.entries) (tree_at cx.old.nodes (T.id x)))) }
+        requires knows { Knows (content_of cx.old.nodes self.now.entries) (tree_at cx.old.nodes
+            (T.id x)) }
+        ensures answer { IfOk result (λ b. b ≡ any_label is_alias
+            (resolved (content_of cx.old.nodes self.now.entries) (tree_at cx.old.nodes (T.id x)))) }
         ensures grows { Grows cx.old cx.new }
         ensures memory { IsOkUnless result Fault.Memory }
     {

@@ -23,7 +23,8 @@ impl InferCtxt {
     pub fn opportunistic_resolve_ty_var(&self, cx: &mut Cx, vid: usize) -> Result<Ty, Fault>
         requires table { IsTable cx.old.nodes self.now }
         requires has { kind_at (content_of cx.old.nodes self.now.entries) vid ≡ Some kinds.Ty }
-        ensures tree { IfOk result (λ t. tree_at cx.new.nodes t.node ≡ shallow_variable (content_of cx.old.nodes self.now.entries) kinds.Ty vid) }
+        ensures tree { IfOk result (λ t. tree_at cx.new.nodes t.node ≡ shallow_variable
+            (content_of cx.old.nodes self.now.entries) kinds.Ty vid) }
         ensures holds { IfOk result (λ t. HoldsTy cx.new.nodes t) }
         ensures grows { Grows cx.old cx.new }
         ensures err { OnErr result (cx.new.nodes ≡ cx.old.nodes) }
@@ -37,7 +38,8 @@ impl InferCtxt {
     pub fn opportunistic_resolve_int_var(&self, cx: &mut Cx, vid: usize) -> Result<Ty, Fault>
         requires table { IsTable cx.old.nodes self.now }
         requires has { kind_at (content_of cx.old.nodes self.now.entries) vid ≡ Some kinds.Int }
-        ensures tree { IfOk result (λ t. tree_at cx.new.nodes t.node ≡ shallow_variable (content_of cx.old.nodes self.now.entries) kinds.Int vid) }
+        ensures tree { IfOk result (λ t. tree_at cx.new.nodes t.node ≡ shallow_variable
+            (content_of cx.old.nodes self.now.entries) kinds.Int vid) }
         ensures holds { IfOk result (λ t. HoldsTy cx.new.nodes t) }
         ensures grows { Grows cx.old cx.new }
         ensures err { OnErr result (cx.new.nodes ≡ cx.old.nodes) }
@@ -51,7 +53,8 @@ impl InferCtxt {
     pub fn opportunistic_resolve_float_var(&self, cx: &mut Cx, vid: usize) -> Result<Ty, Fault>
         requires table { IsTable cx.old.nodes self.now }
         requires has { kind_at (content_of cx.old.nodes self.now.entries) vid ≡ Some kinds.Float }
-        ensures tree { IfOk result (λ t. tree_at cx.new.nodes t.node ≡ shallow_variable (content_of cx.old.nodes self.now.entries) kinds.Float vid) }
+        ensures tree { IfOk result (λ t. tree_at cx.new.nodes t.node ≡ shallow_variable
+            (content_of cx.old.nodes self.now.entries) kinds.Float vid) }
         ensures holds { IfOk result (λ t. HoldsTy cx.new.nodes t) }
         ensures grows { Grows cx.old cx.new }
         ensures err { OnErr result (cx.new.nodes ≡ cx.old.nodes) }
@@ -65,7 +68,8 @@ impl InferCtxt {
     pub fn opportunistic_resolve_ct_var(&self, cx: &mut Cx, vid: usize) -> Result<Const, Fault>
         requires table { IsTable cx.old.nodes self.now }
         requires has { kind_at (content_of cx.old.nodes self.now.entries) vid ≡ Some kinds.Const }
-        ensures tree { IfOk result (λ t. tree_at cx.new.nodes t.node ≡ shallow_variable (content_of cx.old.nodes self.now.entries) kinds.Const vid) }
+        ensures tree { IfOk result (λ t. tree_at cx.new.nodes t.node ≡ shallow_variable
+            (content_of cx.old.nodes self.now.entries) kinds.Const vid) }
         ensures holds { IfOk result (λ t. HoldsConst cx.new.nodes t) }
         ensures grows { Grows cx.old cx.new }
         ensures err { OnErr result (cx.new.nodes ≡ cx.old.nodes) }
@@ -79,7 +83,8 @@ impl InferCtxt {
     pub fn opportunistic_resolve_lt_var(&self, cx: &mut Cx, vid: usize) -> Result<Region, Fault>
         requires table { IsTable cx.old.nodes self.now }
         requires has { kind_at (content_of cx.old.nodes self.now.entries) vid ≡ Some kinds.Region }
-        ensures tree { IfOk result (λ r. tree_at cx.new.nodes r.node ≡ shallow_variable (content_of cx.old.nodes self.now.entries) kinds.Region vid) }
+        ensures tree { IfOk result (λ r. tree_at cx.new.nodes r.node ≡ shallow_variable
+            (content_of cx.old.nodes self.now.entries) kinds.Region vid) }
         ensures holds { IfOk result (λ r. HoldsRegion cx.new.nodes r) }
         ensures grows { Grows cx.old cx.new }
         ensures err { OnErr result (cx.new.nodes ≡ cx.old.nodes) }
@@ -93,8 +98,10 @@ impl InferCtxt {
     pub fn shallow_resolve(&self, cx: &mut Cx, ty: Ty) -> Result<Ty, Fault>
         requires table { IsTable cx.old.nodes self.now }
         requires holds { HoldsTy cx.old.nodes ty }
-        requires knows { Knows (content_of cx.old.nodes self.now.entries) (tree_at cx.old.nodes ty.node) }
-        ensures tree { IfOk result (λ t. tree_at cx.new.nodes t.node ≡ shallowly_resolved (content_of cx.old.nodes self.now.entries) (tree_at cx.old.nodes ty.node)) }
+        requires knows { Knows (content_of cx.old.nodes self.now.entries)
+            (tree_at cx.old.nodes ty.node) }
+        ensures tree { IfOk result (λ t. tree_at cx.new.nodes t.node ≡ shallowly_resolved
+            (content_of cx.old.nodes self.now.entries) (tree_at cx.old.nodes ty.node)) }
         ensures holds { IfOk result (λ t. HoldsTy cx.new.nodes t) }
         ensures grows { Grows cx.old cx.new }
         ensures err { OnErr result (cx.new.nodes ≡ cx.old.nodes) }
@@ -108,8 +115,10 @@ impl InferCtxt {
     pub fn shallow_resolve_const(&self, cx: &mut Cx, ct: Const) -> Result<Const, Fault>
         requires table { IsTable cx.old.nodes self.now }
         requires holds { HoldsConst cx.old.nodes ct }
-        requires knows { Knows (content_of cx.old.nodes self.now.entries) (tree_at cx.old.nodes ct.node) }
-        ensures tree { IfOk result (λ t. tree_at cx.new.nodes t.node ≡ shallowly_resolved (content_of cx.old.nodes self.now.entries) (tree_at cx.old.nodes ct.node)) }
+        requires knows { Knows (content_of cx.old.nodes self.now.entries)
+            (tree_at cx.old.nodes ct.node) }
+        ensures tree { IfOk result (λ t. tree_at cx.new.nodes t.node ≡ shallowly_resolved
+            (content_of cx.old.nodes self.now.entries) (tree_at cx.old.nodes ct.node)) }
         ensures holds { IfOk result (λ t. HoldsConst cx.new.nodes t) }
         ensures grows { Grows cx.old cx.new }
         ensures err { OnErr result (cx.new.nodes ≡ cx.old.nodes) }
@@ -126,8 +135,10 @@ impl InferCtxt {
         requires within { IsIn nodes.old t }
         requires knows { Knows (content_of nodes.old self.now.entries) (tree_at nodes.old t) }
         ensures within { IfOk result (λ r. IsIn nodes.new r) }
-        ensures tree { IfOk result (λ r. tree_at nodes.new r ≡ shallowly_resolved (content_of nodes.old self.now.entries) (tree_at nodes.old t)) }
-        ensures sort { IfOk result (λ r. kind_of (tree_at nodes.new r) ≡ kind_of (tree_at nodes.old t)) }
+        ensures tree { IfOk result (λ r. tree_at nodes.new r ≡ shallowly_resolved
+            (content_of nodes.old self.now.entries) (tree_at nodes.old t)) }
+        ensures sort { IfOk result (λ r. kind_of (tree_at nodes.new r) ≡ kind_of
+            (tree_at nodes.old t)) }
         ensures extends { Extends nodes.old nodes.new }
         ensures err { OnErr result (nodes.new ≡ nodes.old) }
     {
@@ -149,8 +160,10 @@ impl InferCtxt {
         requires table { IsTable nodes.old self.now }
         requires has { kind_at (content_of nodes.old self.now.entries) n ≡ Some kind }
         ensures within { IfOk result (λ r. IsIn nodes.new r) }
-        ensures tree { IfOk result (λ r. tree_at nodes.new r ≡ shallow_variable (content_of nodes.old self.now.entries) kind n) }
-        ensures sort { IfOk result (λ r. kind_of (tree_at nodes.new r) ≡ Some (of_sort (sort_of_variable kind))) }
+        ensures tree { IfOk result (λ r. tree_at nodes.new r ≡ shallow_variable
+            (content_of nodes.old self.now.entries) kind n) }
+        ensures sort { IfOk result (λ r. kind_of (tree_at nodes.new r) ≡ Some
+            (of_sort (sort_of_variable kind))) }
         ensures extends { Extends nodes.old nodes.new }
         ensures err { OnErr result (nodes.new ≡ nodes.old) }
     {

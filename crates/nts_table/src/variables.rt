@@ -21,9 +21,11 @@ impl InferCtxt {
     /// A new type variable of the current universe.
     pub fn next_ty_infer(&mut self, cx: &mut Cx) -> Result<Ty, Fault>
         requires table { IsTable cx.old.nodes self.old }
-        ensures tree { IfOk result (λ t. tree_at cx.new.nodes t.node ≡ variable_tree kind.Ty (length self.old.entries.variables)) }
+        ensures tree { IfOk result (λ t. tree_at cx.new.nodes t.node ≡ variable_tree kind.Ty
+            (length self.old.entries.variables)) }
         ensures holds { IfOk result (λ t. HoldsTy cx.new.nodes t) }
-        ensures entries { OnOk result (self.new.entries ≡ added self.old.entries (new_variable self.old.entries kind.Ty)) }
+        ensures entries { OnOk result (self.new.entries ≡ added self.old.entries
+            (new_variable self.old.entries kind.Ty)) }
         ensures changes { ChangesEntries self.old self.new }
         ensures table { IsTable cx.new.nodes self.new }
         ensures grows { Grows cx.old cx.new }
@@ -37,9 +39,11 @@ impl InferCtxt {
     /// A new variable of integer types, in the root universe.
     pub fn next_int_infer(&mut self, cx: &mut Cx) -> Result<Ty, Fault>
         requires table { IsTable cx.old.nodes self.old }
-        ensures tree { IfOk result (λ t. tree_at cx.new.nodes t.node ≡ variable_tree kind.Int (length self.old.entries.variables)) }
+        ensures tree { IfOk result (λ t. tree_at cx.new.nodes t.node ≡ variable_tree kind.Int
+            (length self.old.entries.variables)) }
         ensures holds { IfOk result (λ t. HoldsTy cx.new.nodes t) }
-        ensures entries { OnOk result (self.new.entries ≡ added self.old.entries (unset_variable kind.Int 0)) }
+        ensures entries { OnOk result (self.new.entries ≡ added self.old.entries
+            (unset_variable kind.Int 0)) }
         ensures changes { ChangesEntries self.old self.new }
         ensures table { IsTable cx.new.nodes self.new }
         ensures grows { Grows cx.old cx.new }
@@ -53,9 +57,11 @@ impl InferCtxt {
     /// A new variable of float types, in the root universe.
     pub fn next_float_infer(&mut self, cx: &mut Cx) -> Result<Ty, Fault>
         requires table { IsTable cx.old.nodes self.old }
-        ensures tree { IfOk result (λ t. tree_at cx.new.nodes t.node ≡ variable_tree kind.Float (length self.old.entries.variables)) }
+        ensures tree { IfOk result (λ t. tree_at cx.new.nodes t.node ≡ variable_tree kind.Float
+            (length self.old.entries.variables)) }
         ensures holds { IfOk result (λ t. HoldsTy cx.new.nodes t) }
-        ensures entries { OnOk result (self.new.entries ≡ added self.old.entries (unset_variable kind.Float 0)) }
+        ensures entries { OnOk result (self.new.entries ≡ added self.old.entries
+            (unset_variable kind.Float 0)) }
         ensures changes { ChangesEntries self.old self.new }
         ensures table { IsTable cx.new.nodes self.new }
         ensures grows { Grows cx.old cx.new }
@@ -69,9 +75,11 @@ impl InferCtxt {
     /// A new variable of consts, of the current universe.
     pub fn next_const_infer(&mut self, cx: &mut Cx) -> Result<Const, Fault>
         requires table { IsTable cx.old.nodes self.old }
-        ensures tree { IfOk result (λ t. tree_at cx.new.nodes t.node ≡ variable_tree kind.Const (length self.old.entries.variables)) }
+        ensures tree { IfOk result (λ t. tree_at cx.new.nodes t.node ≡ variable_tree kind.Const
+            (length self.old.entries.variables)) }
         ensures holds { IfOk result (λ t. HoldsConst cx.new.nodes t) }
-        ensures entries { OnOk result (self.new.entries ≡ added self.old.entries (new_variable self.old.entries kind.Const)) }
+        ensures entries { OnOk result (self.new.entries ≡ added self.old.entries
+            (new_variable self.old.entries kind.Const)) }
         ensures changes { ChangesEntries self.old self.new }
         ensures table { IsTable cx.new.nodes self.new }
         ensures grows { Grows cx.old cx.new }
@@ -85,9 +93,11 @@ impl InferCtxt {
     /// A new region variable of the current universe.
     pub fn next_region_infer(&mut self, cx: &mut Cx) -> Result<Region, Fault>
         requires table { IsTable cx.old.nodes self.old }
-        ensures tree { IfOk result (λ r. tree_at cx.new.nodes r.node ≡ variable_tree kind.Region (length self.old.entries.variables)) }
+        ensures tree { IfOk result (λ r. tree_at cx.new.nodes r.node ≡ variable_tree kind.Region
+            (length self.old.entries.variables)) }
         ensures holds { IfOk result (λ r. HoldsRegion cx.new.nodes r) }
-        ensures entries { OnOk result (self.new.entries ≡ added self.old.entries (new_variable self.old.entries kind.Region)) }
+        ensures entries { OnOk result (self.new.entries ≡ added self.old.entries
+            (new_variable self.old.entries kind.Region)) }
         ensures changes { ChangesEntries self.old self.new }
         ensures table { IsTable cx.new.nodes self.new }
         ensures grows { Grows cx.old cx.new }
@@ -110,9 +120,11 @@ impl InferCtxt {
         requires table { IsTable cx.old.nodes self.old }
         requires named { universe ≤ self.old.entries.universe }
         requires within { IfSome sub_root_of (λ n. n < length self.old.entries.variables) }
-        ensures tree { IfOk result (λ r. tree_at cx.new.nodes r.node ≡ variable_tree kind (length self.old.entries.variables)) }
+        ensures tree { IfOk result (λ r. tree_at cx.new.nodes r.node ≡ variable_tree kind
+            (length self.old.entries.variables)) }
         ensures holds { IfOk result (λ r. HoldsArg cx.new.nodes r) }
-        ensures entries { OnOk result (IsAddedTo self.old.entries self.new.entries (unset_variable kind universe) sub_root_of) }
+        ensures entries { OnOk result (IsAddedTo self.old.entries self.new.entries
+            (unset_variable kind universe) sub_root_of) }
         ensures changes { ChangesEntries self.old self.new }
         ensures table { IsTable cx.new.nodes self.new }
         ensures grows { Grows cx.old cx.new }
@@ -139,8 +151,10 @@ impl InferCtxt {
         requires named { universe ≤ self.old.entries.universe }
         requires linked { IfSome sub_link (λ m. m < length self.old.entries.variables) }
         ensures within { IfOk result (λ r. IsIn cx.new.nodes r) }
-        ensures tree { IfOk result (λ r. tree_at cx.new.nodes r ≡ variable_tree kind (length self.old.entries.variables)) }
-        ensures entries { OnOk result (self.new.entries ≡ added self.old.entries (record (unset_variable kind universe) { sub_link = sub_link })) }
+        ensures tree { IfOk result (λ r. tree_at cx.new.nodes r ≡ variable_tree kind
+            (length self.old.entries.variables)) }
+        ensures entries { OnOk result (self.new.entries ≡ added self.old.entries
+            (record (unset_variable kind universe) { sub_link = sub_link })) }
         ensures changes { ChangesEntries self.old self.new }
         ensures table { IsTable cx.new.nodes self.new }
         ensures grows { Grows cx.old cx.new }
@@ -154,7 +168,8 @@ impl InferCtxt {
     /// One more universe, which becomes the current one. `Full` comes where there is none.
     pub fn create_next_universe(&mut self) -> Result<UniverseIndex, Fault>
         ensures number { IfOk result (λ u. u ≡ self.old.entries.universe + 1) }
-        ensures entries { OnOk result (self.new.entries ≡ moved self.old.entries (self.old.entries.universe + 1)) }
+        ensures entries { OnOk result (self.new.entries ≡ moved self.old.entries
+            (self.old.entries.universe + 1)) }
         ensures table { (ts : List Tree) → IsTable ts self.old → IsTable ts self.new }
         ensures changes { ChangesEntries self.old self.new }
         ensures err { OnErr result (self.new ≡ self.old) }
@@ -172,7 +187,8 @@ impl InferCtxt {
     /// That many more universes, in one step; the last of them becomes the current one. `Full` comes exactly where there
     /// are not so many.
     pub fn create_universes(&mut self, count: UniverseIndex) -> Result<(), Fault>
-        ensures entries { OnOk result (self.new.entries ≡ moved self.old.entries (self.old.entries.universe + count)) }
+        ensures entries { OnOk result (self.new.entries ≡ moved self.old.entries
+            (self.old.entries.universe + count)) }
         ensures table { (ts : List Tree) → IsTable ts self.old → IsTable ts self.new }
         ensures changes { ChangesEntries self.old self.new }
         ensures err { OnErr result (self.new ≡ self.old) }

@@ -36,7 +36,8 @@ impl Cx {
     /// Whether a const with arguments of these sorts may be declared with that type.
     pub fn is_const_type(&self, sorts: &[Sort], ty: Ty) -> Result<bool, Fault>
         requires { HoldsTy self.now.nodes ty }
-        ensures is { IfOk result (λ b. IsTrue b ↔ IsConstType sorts.now (tree_at self.now.nodes ty.node)) }
+        ensures is { IfOk result (λ b. IsTrue b ↔ IsConstType sorts.now
+            (tree_at self.now.nodes ty.node)) }
         ensures memory { IsOkUnless result Fault.Memory }
     {
         if self.nodes.flags(ty.node).escaping.is_some() {

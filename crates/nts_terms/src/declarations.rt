@@ -118,7 +118,8 @@ impl Declarations {
 
     /// How the argument of a constructor at a place varies with the whole. What is not declared is invariant.
     pub fn variance_of(&self, def: CtorId, place: usize) -> Variance
-        ensures { result ≡ variance_or_invariant (slice_get (variances_in self.now def.number) place) }
+        ensures { result ≡ variance_or_invariant (slice_get (variances_in self.now def.number)
+            place) }
     {
         match self.ctors.get(def.number) {
             Some(signature) => match signature.variances.get(place) {
@@ -131,7 +132,8 @@ impl Declarations {
 
     /// The sorts that something declared takes; `None` for a number that isn't declared.
     pub fn sorts(&self, def: DefId) -> Option<&[Sort]>
-        ensures { MatchOption result (declared_sorts self.now def ≡ None) (λ s. declared_sorts self.now def ≡ Some s.now) }
+        ensures { MatchOption result (declared_sorts self.now def ≡ None) (λ s.
+            declared_sorts self.now def ≡ Some s.now) }
     {
         match def {
             DefId::Ctor(c) => match self.ctors.get(c.number) {
@@ -187,7 +189,10 @@ impl Cx {
     pub fn declare_ctor(&mut self, sorts: &[Sort], variances: &[Variance]) -> Result<CtorId, Fault>
         requires variances { AreVariancesOf sorts.now variances.now }
         ensures number { IfOk result (λ c. c.number ≡ length self.old.declarations.ctors) }
-        ensures declared { OnOk result (self.new ≡ record self.old { declarations = with_ctor self.old.declarations sorts.now variances.now }) }
+        ensures declared { OnOk result (self.new ≡ record self.old {
+          declarations = with_ctor
+              self.old.declarations sorts.now variances.now;
+        }) }
         ensures err { OnErr result (self.new ≡ self.old) }
         ensures memory { IsOkUnless result Fault.Memory }
     {
@@ -203,7 +208,10 @@ impl Cx {
     /// A new trait, which takes arguments of these sorts.
     pub fn declare_trait(&mut self, sorts: &[Sort]) -> Result<TraitId, Fault>
         ensures number { IfOk result (λ t. t.number ≡ length self.old.declarations.traits) }
-        ensures declared { OnOk result (self.new ≡ record self.old { declarations = with_trait self.old.declarations sorts.now }) }
+        ensures declared { OnOk result (self.new ≡ record self.old {
+          declarations = with_trait
+              self.old.declarations sorts.now;
+        }) }
         ensures err { OnErr result (self.new ≡ self.old) }
         ensures memory { IsOkUnless result Fault.Memory }
     {
@@ -216,7 +224,10 @@ impl Cx {
     /// A new alias of types, which takes arguments of these sorts.
     pub fn declare_alias(&mut self, sorts: &[Sort], kind: AliasKind) -> Result<AliasId, Fault>
         ensures number { IfOk result (λ a. a.number ≡ length self.old.declarations.aliases) }
-        ensures declared { OnOk result (self.new ≡ record self.old { declarations = with_alias self.old.declarations sorts.now kind }) }
+        ensures declared { OnOk result (self.new ≡ record self.old {
+          declarations = with_alias
+              self.old.declarations sorts.now kind;
+        }) }
         ensures err { OnErr result (self.new ≡ self.old) }
         ensures memory { IsOkUnless result Fault.Memory }
     {
@@ -234,7 +245,10 @@ impl Cx {
         requires holds { HoldsTy self.old.nodes ty }
         requires ty { IsConstType sorts.now (tree_at self.old.nodes ty.node) }
         ensures number { IfOk result (λ c. c.number ≡ length self.old.declarations.consts) }
-        ensures declared { OnOk result (self.new ≡ record self.old { declarations = with_const self.old.declarations sorts.now ty }) }
+        ensures declared { OnOk result (self.new ≡ record self.old {
+          declarations = with_const
+              self.old.declarations sorts.now ty;
+        }) }
         ensures err { OnErr result (self.new ≡ self.old) }
         ensures memory { IsOkUnless result Fault.Memory }
     {

@@ -14,7 +14,8 @@ impl Cx {
     /// Whether that is declared, and takes arguments of just these sorts.
     pub fn fits(&self, def: DefId, args: GenericArgs) -> bool
         requires { HoldsArgs self.now.nodes args }
-        ensures { IsTrue result ↔ AreDeclared self.now.declarations def (tree_at self.now.nodes args.node) }
+        ensures { IsTrue result ↔ AreDeclared self.now.declarations def
+            (tree_at self.now.nodes args.node) }
     {
         match self.declarations.sorts(def) {
             Some(sorts) => self.have_sorts(args, sorts),
@@ -24,7 +25,8 @@ impl Cx {
 
     fn have_sorts(&self, args: GenericArgs, sorts: &[Sort]) -> bool
         requires { HoldsArgs self.now.nodes args }
-        ensures { IsTrue result ↔ HaveSorts sorts.now (children (tree_at self.now.nodes args.node)) }
+        ensures { IsTrue result ↔ HaveSorts sorts.now
+            (children (tree_at self.now.nodes args.node)) }
     {
         if args.len(self) != sorts.len() {
             return false;
@@ -40,7 +42,8 @@ impl Cx {
     #[tactic(auto, using(crate::proofs::Places::sort_tests))]
     fn has_sort(&self, arg: GenericArg, sort: Sort) -> bool
         requires { HoldsArg self.now.nodes arg }
-        ensures { IsTrue result ↔ (kind_of (tree_at self.now.nodes arg.node) ≡ Some (of_sort sort)) }
+        ensures { IsTrue result ↔ (kind_of (tree_at self.now.nodes arg.node) ≡ Some
+            (of_sort sort)) }
     {
         match sort_of(self.nodes.label(arg.node)) {
             Some(its_sort) => its_sort == sort,

@@ -215,7 +215,8 @@ impl Cx {
     pub fn same<T: Stored>(&self, a: T, b: T) -> bool
         requires a_in { IsIn self.now.nodes (T.id a) }
         requires b_in { IsIn self.now.nodes (T.id b) }
-        ensures { IsTrue result ↔ (tree_at self.now.nodes (T.id a) ≡ tree_at self.now.nodes (T.id b)) }
+        ensures { IsTrue result ↔ (tree_at self.now.nodes (T.id a) ≡ tree_at self.now.nodes
+            (T.id b)) }
     {
         self.nodes.same(a.node(), b.node())
     }

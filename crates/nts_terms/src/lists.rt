@@ -20,7 +20,8 @@ impl Cx {
     #[tactic(auto, using(crate::proofs::Standing::filled))]
     pub fn mk_args(&mut self, args: &[GenericArg]) -> Result<GenericArgs, Fault>
         requires { All (λ a. HoldsArg self.old.nodes a) args.now }
-        ensures tree { IfOk result (λ l. tree_at self.new.nodes l.node ≡ tree_of_args self.old.nodes args.now) }
+        ensures tree { IfOk result (λ l. tree_at self.new.nodes l.node ≡ tree_of_args self.old.nodes
+            args.now) }
         ensures holds { IfOk result (λ l. HoldsArgs self.new.nodes l) }
         ensures grows { Grows self.old self.new }
         ensures err { OnErr result (self.new.nodes ≡ self.old.nodes) }
@@ -35,7 +36,8 @@ impl Cx {
     #[tactic(auto, using(crate::proofs::Standing::filled))]
     pub fn mk_env(&mut self, predicates: &[Predicate]) -> Result<ParamEnv, Fault>
         requires { All (λ p. HoldsPredicate self.old.nodes p) predicates.now }
-        ensures tree { IfOk result (λ e. tree_at self.new.nodes e.node ≡ tree_of_env self.old.nodes predicates.now) }
+        ensures tree { IfOk result (λ e. tree_at self.new.nodes e.node ≡ tree_of_env self.old.nodes
+            predicates.now) }
         ensures holds { IfOk result (λ e. HoldsEnv self.new.nodes e) }
         ensures grows { Grows self.old self.new }
         ensures err { OnErr result (self.new.nodes ≡ self.old.nodes) }
@@ -86,7 +88,8 @@ impl GenericArgs {
     pub fn get(self, cx: &Cx, i: usize) -> GenericArg
         requires holds { HoldsArgs cx.now.nodes self }
         requires index { i < row_length (children (tree_at cx.now.nodes self.node)) }
-        ensures tree { tree_at cx.now.nodes result.node ≡ row_at (children (tree_at cx.now.nodes self.node)) i }
+        ensures tree { tree_at cx.now.nodes result.node ≡ row_at
+            (children (tree_at cx.now.nodes self.node)) i }
         ensures holds { HoldsArg cx.now.nodes result }
         ensures before { result.node.number < self.node.number }
     {
@@ -111,7 +114,8 @@ impl ParamEnv {
     pub fn get(self, cx: &Cx, i: usize) -> Predicate
         requires holds { HoldsEnv cx.now.nodes self }
         requires index { i < row_length (children (tree_at cx.now.nodes self.node)) }
-        ensures tree { tree_at cx.now.nodes result.node ≡ row_at (children (tree_at cx.now.nodes self.node)) i }
+        ensures tree { tree_at cx.now.nodes result.node ≡ row_at
+            (children (tree_at cx.now.nodes self.node)) i }
         ensures holds { HoldsPredicate cx.now.nodes result }
         ensures before { result.node.number < self.node.number }
     {

@@ -23,7 +23,8 @@ impl Cx {
         requires within { AllIn self.old.nodes children.now }
         requires formed { Meets (shape label) (trees_at self.old.nodes children.now) }
         ensures within { IfOk result (IsIn self.new.nodes) }
-        ensures tree { IfOk result (λ n. tree_at self.new.nodes n ≡ node label (trees_at self.old.nodes children.now)) }
+        ensures tree { IfOk result (λ n. tree_at self.new.nodes n ≡ node label
+            (trees_at self.old.nodes children.now)) }
         ensures grows { Grows self.old self.new }
         ensures err { OnErr result (self.new.nodes ≡ self.old.nodes) }
         ensures memory { IsOkUnless result Fault.Memory }
@@ -35,7 +36,8 @@ impl Cx {
     pub fn mk_ty(&mut self, kind: TyKind) -> Result<Ty, Fault>
         requires parts { TyFits self.old.nodes kind }
         requires declared { TyIsDeclared self.old.declarations self.old.nodes kind }
-        ensures tree { IfOk result (λ t. tree_at self.new.nodes t.node ≡ tree_of_ty self.old.nodes kind) }
+        ensures tree { IfOk result (λ t. tree_at self.new.nodes t.node ≡ tree_of_ty self.old.nodes
+            kind) }
         ensures holds { IfOk result (λ t. HoldsTy self.new.nodes t) }
         ensures grows { Grows self.old self.new }
         ensures err { OnErr result (self.new.nodes ≡ self.old.nodes) }
@@ -48,7 +50,8 @@ impl Cx {
 
     fn make_ty(&mut self, kind: TyKind) -> Result<NodeId, Fault>
         requires { TyFits self.old.nodes kind }
-        ensures tree { IfOk result (λ n. tree_at self.new.nodes n ≡ tree_of_ty self.old.nodes kind) }
+        ensures tree { IfOk result (λ n. tree_at self.new.nodes n ≡ tree_of_ty self.old.nodes
+            kind) }
         ensures holds { IfOk result (λ n. Holds a_type self.new.nodes n) }
         ensures grows { Grows self.old self.new }
         ensures err { OnErr result (self.new.nodes ≡ self.old.nodes) }
@@ -119,7 +122,8 @@ impl Cx {
     pub fn mk_const(&mut self, kind: ConstKind) -> Result<Const, Fault>
         requires parts { ConstFits self.old.nodes kind }
         requires declared { ConstIsDeclared self.old.declarations self.old.nodes kind }
-        ensures tree { IfOk result (λ c. tree_at self.new.nodes c.node ≡ tree_of_const self.old.nodes kind) }
+        ensures tree { IfOk result (λ c. tree_at self.new.nodes c.node ≡ tree_of_const
+            self.old.nodes kind) }
         ensures holds { IfOk result (λ c. HoldsConst self.new.nodes c) }
         ensures grows { Grows self.old self.new }
         ensures err { OnErr result (self.new.nodes ≡ self.old.nodes) }
@@ -132,7 +136,8 @@ impl Cx {
 
     fn make_const(&mut self, kind: ConstKind) -> Result<NodeId, Fault>
         requires { ConstFits self.old.nodes kind }
-        ensures tree { IfOk result (λ n. tree_at self.new.nodes n ≡ tree_of_const self.old.nodes kind) }
+        ensures tree { IfOk result (λ n. tree_at self.new.nodes n ≡ tree_of_const self.old.nodes
+            kind) }
         ensures holds { IfOk result (λ n. Holds a_const self.new.nodes n) }
         ensures grows { Grows self.old self.new }
         ensures err { OnErr result (self.new.nodes ≡ self.old.nodes) }
@@ -164,8 +169,10 @@ impl Cx {
     #[tactic(auto, using(crate::proofs::Moved::growth))]
     pub fn mk_predicate(&mut self, predicate: Binder<PredicateKind>) -> Result<Predicate, Fault>
         requires parts { PredicateFits self.old.nodes predicate }
-        requires declared { StatementIsDeclared self.old.declarations self.old.nodes predicate.value }
-        ensures tree { IfOk result (λ p. tree_at self.new.nodes p.node ≡ tree_of_predicate self.old.nodes predicate) }
+        requires declared { StatementIsDeclared self.old.declarations self.old.nodes
+            predicate.value }
+        ensures tree { IfOk result (λ p. tree_at self.new.nodes p.node ≡ tree_of_predicate
+            self.old.nodes predicate) }
         ensures holds { IfOk result (λ p. HoldsPredicate self.new.nodes p) }
         ensures grows { Grows self.old self.new }
         ensures memory { IsOkUnless result Fault.Memory }
@@ -178,7 +185,8 @@ impl Cx {
 
     fn make_statement(&mut self, kind: PredicateKind) -> Result<NodeId, Fault>
         requires { StatementFits self.old.nodes kind }
-        ensures tree { IfOk result (λ n. tree_at self.new.nodes n ≡ tree_of_statement self.old.nodes kind) }
+        ensures tree { IfOk result (λ n. tree_at self.new.nodes n ≡ tree_of_statement self.old.nodes
+            kind) }
         ensures holds { IfOk result (λ n. Holds (is statement) self.new.nodes n) }
         ensures grows { Grows self.old self.new }
         ensures memory { IsOkUnless result Fault.Memory }
@@ -215,7 +223,8 @@ impl Cx {
 
     fn make_clause(&mut self, kind: ClauseKind) -> Result<NodeId, Fault>
         requires { ClauseFits self.old.nodes kind }
-        ensures tree { IfOk result (λ n. tree_at self.new.nodes n ≡ tree_of_clause self.old.nodes kind) }
+        ensures tree { IfOk result (λ n. tree_at self.new.nodes n ≡ tree_of_clause self.old.nodes
+            kind) }
         ensures holds { IfOk result (λ n. Holds (is statement) self.new.nodes n) }
         ensures grows { Grows self.old self.new }
         ensures memory { IsOkUnless result Fault.Memory }

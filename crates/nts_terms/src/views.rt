@@ -31,7 +31,8 @@ fn only_child(nodes: &Nodes, t: NodeId) -> NodeId
     requires one { IsOne (children (tree_at nodes.now t)) }
     ensures within { IsIn nodes.now result }
     ensures is { children (tree_at nodes.now t) ≡ one nodes.now result }
-    ensures holds { (p : Place) → HavePlaces (p ∷ []) (children (tree_at nodes.now t)) → Holds p nodes.now result }
+    ensures holds { (p : Place) → HavePlaces (p ∷ []) (children (tree_at nodes.now t)) →
+        Holds p nodes.now result }
 {
     nodes.child(t, 0)
 }
@@ -42,7 +43,8 @@ fn both_children(nodes: &Nodes, t: NodeId) -> (NodeId, NodeId)
     requires within { IsIn nodes.now t }
     requires two { AreTwo (children (tree_at nodes.now t)) }
     ensures is { children (tree_at nodes.now t) ≡ two nodes.now result.0 result.1 }
-    ensures holds { (p q : Place) → HavePlaces (p ∷ q ∷ []) (children (tree_at nodes.now t)) → Holds p nodes.now result.0 × Holds q nodes.now result.1 }
+    ensures holds { (p q : Place) → HavePlaces (p ∷ q ∷ []) (children (tree_at nodes.now t)) →
+        Holds p nodes.now result.0 × Holds q nodes.now result.1 }
 {
     (nodes.child(t, 0), nodes.child(t, 1))
 }
@@ -257,7 +259,8 @@ impl Predicate {
 #[tactic(auto, using(crate::proofs::Places::places))]
 fn binder_children(nodes: &Nodes, t: NodeId) -> (NodeId, NodeId)
     requires { Holds (is bound_predicate) nodes.now t }
-    ensures tree { tree_at nodes.now t ≡ node (label.List list.Binder) (two nodes.now result.0 result.1) }
+    ensures tree { tree_at nodes.now t ≡ node (label.List list.Binder)
+        (two nodes.now result.0 result.1) }
     ensures vars { Holds (is sort_list) nodes.now result.0 }
     ensures body { Holds (is statement) nodes.now result.1 }
 {
@@ -298,7 +301,8 @@ fn statement_kind(nodes: &Nodes, t: NodeId) -> PredicateKind
 #[tactic(auto, using(crate::proofs::Places::places))]
 fn goal_kind(nodes: &Nodes, t: NodeId, head: PredicateHead) -> PredicateKind
     requires within { IsIn nodes.now t }
-    requires labelled { tree_at nodes.now t ≡ node (label.Predicate head) (children (tree_at nodes.now t)) }
+    requires labelled { tree_at nodes.now t ≡ node (label.Predicate head)
+        (children (tree_at nodes.now t)) }
     requires formed { Meets (shape (label.Predicate head)) (children (tree_at nodes.now t)) }
     ensures tree { tree_at nodes.now t ≡ tree_of_statement nodes.now result }
     ensures fits { StatementFits nodes.now result }
@@ -340,7 +344,8 @@ fn goal_kind(nodes: &Nodes, t: NodeId, head: PredicateHead) -> PredicateKind
 #[tactic(auto, using(crate::proofs::Places::places))]
 fn clause_kind(nodes: &Nodes, t: NodeId, head: ClauseHead) -> ClauseKind
     requires within { IsIn nodes.now t }
-    requires labelled { tree_at nodes.now t ≡ node (label.Clause head) (children (tree_at nodes.now t)) }
+    requires labelled { tree_at nodes.now t ≡ node (label.Clause head)
+        (children (tree_at nodes.now t)) }
     requires formed { Meets (shape (label.Clause head)) (children (tree_at nodes.now t)) }
     ensures tree { tree_at nodes.now t ≡ tree_of_clause nodes.now result }
     ensures fits { ClauseFits nodes.now result }
@@ -396,9 +401,11 @@ fn trait_ref(nodes: &Nodes, t: NodeId, def_id: TraitId) -> TraitRef
 #[tactic(auto, using(crate::proofs::Places::places))]
 fn alias_and_result(nodes: &Nodes, t: NodeId, head: AliasHead) -> (AliasTerm, Term)
     requires within { IsIn nodes.now t }
-    requires formed { HavePlaces (is arguments ∷ a_result head ∷ []) (children (tree_at nodes.now t)) }
+    requires formed { HavePlaces (is arguments ∷ a_result head ∷ [])
+        (children (tree_at nodes.now t)) }
     ensures def { alias_head result.0.def_id ≡ head }
-    ensures children { children (tree_at nodes.now t) ≡ two nodes.now result.0.args.node result.1.node }
+    ensures children { children (tree_at nodes.now t) ≡ two nodes.now result.0.args.node
+        result.1.node }
     ensures alias { HoldsArgs nodes.now result.0.args }
     ensures term { HoldsResult nodes.now result.0 result.1 }
 {

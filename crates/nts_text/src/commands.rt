@@ -99,7 +99,8 @@ pub fn read_command(
     ensures refused { OnErr result (IsPassedOver line.now → ⊥) }
     ensures fault { IfErr result (IsFaultOf names.old line.now) }
     ensures sorted { IfOk result (λ o. IfSome o (IsSorted names.new)) }
-    ensures said { IfOk result (λ o. IfSome o (IsCommandOf line.now names.old names.new scope.new)) }
+    ensures said { IfOk result (λ o.
+        IfSome o (IsCommandOf line.now names.old names.new scope.new)) }
     ensures names { IfOk result (λ o. IsNone o → names.new ≡ names.old) }
     ensures parameters { OnOk result (KeepsNumbers scope.old.parameters scope.new.parameters) }
 {

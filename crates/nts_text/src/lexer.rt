@@ -211,7 +211,8 @@ pub fn tokens_of(alloc: Global, line: &[u8], start: usize) -> Result<Vec<Token>,
     requires { start ≤ length line.now }
     ensures tokens { IfOk result (λ ts. AreTokensFrom line.now start ts.items) }
     ensures inside { IfOk result (λ ts. All (IsInside line.now) ts.items) }
-    ensures refused { IfErr result (λ e. e ≢ Memory → (e ≡ Refused Syntax) × HasStrayByte line.now start) }
+    ensures refused { IfErr result (λ e. e ≢ Memory → (e ≡ Refused Syntax) ×
+        HasStrayByte line.now start) }
 {
     let mut tokens = Vec::new(alloc);
     let mut at = skip_blanks(line, start);

@@ -83,7 +83,8 @@ impl NameTable {
     pub fn lookup(&self, name: &[u8]) -> Option<Declared>
         ensures found { IfSome result (NameStandsFor self.now name.now) }
         ensures unknown { IsNone result → IsNameTaken self.now name.now → ⊥ }
-        ensures numbered { IfSome result (λ d. is_numbered (vec_len self.now.types) (vec_len self.now.traits) d ≡ true) }
+        ensures numbered { IfSome result (λ d. is_numbered (vec_len self.now.types)
+            (vec_len self.now.traits) d ≡ true) }
     {
         match known_type(name) {
             Some(known) => Some(known),
@@ -98,13 +99,16 @@ impl NameTable {
         name: &[u8],
         sorts: Vec<Sort>,
     ) -> Result<usize, TextError>
-        ensures taken { IfErr result (λ e. e ≢ Memory → (e ≡ Refused NameDeclaredTwice) × IsNameTaken self.old name.now) }
+        ensures taken { IfErr result (λ e. e ≢ Memory → (e ≡ Refused NameDeclaredTwice) ×
+            IsNameTaken self.old name.now) }
         ensures kept { result ≡ Err (Refused NameDeclaredTwice) → self.new ≡ self.old }
         ensures free { OnOk result (IsNameTaken self.old name.now → ⊥) }
-        ensures declared { IfOk result (λ n. declared_as self.new name.now ≡ Some (Declared.Type n)) }
+        ensures declared { IfOk result (λ n. declared_as self.new name.now ≡ Some
+            (Declared.Type n)) }
         ensures others { KeepsOthers self.old self.new name.now }
         ensures number { IfOk result (λ n. n ≡ vec_len self.old.types) }
-        ensures listed { OnOk result (signatures self.new.types.items ≡ signatures self.old.types.items ++ (name.now, sorts.items) ∷ []) }
+        ensures listed { OnOk result (signatures self.new.types.items ≡ signatures
+            self.old.types.items ++ (name.now, sorts.items) ∷ []) }
         ensures traits { self.new.traits ≡ self.old.traits }
     {
         if self.lookup(name).is_some() {
@@ -125,13 +129,16 @@ impl NameTable {
         name: &[u8],
         sorts: Vec<Sort>,
     ) -> Result<usize, TextError>
-        ensures taken { IfErr result (λ e. e ≢ Memory → (e ≡ Refused NameDeclaredTwice) × IsNameTaken self.old name.now) }
+        ensures taken { IfErr result (λ e. e ≢ Memory → (e ≡ Refused NameDeclaredTwice) ×
+            IsNameTaken self.old name.now) }
         ensures kept { result ≡ Err (Refused NameDeclaredTwice) → self.new ≡ self.old }
         ensures free { OnOk result (IsNameTaken self.old name.now → ⊥) }
-        ensures declared { IfOk result (λ n. declared_as self.new name.now ≡ Some (Declared.Trait n)) }
+        ensures declared { IfOk result (λ n. declared_as self.new name.now ≡ Some
+            (Declared.Trait n)) }
         ensures others { KeepsOthers self.old self.new name.now }
         ensures number { IfOk result (λ n. n ≡ vec_len self.old.traits) }
-        ensures listed { OnOk result (signatures self.new.traits.items ≡ signatures self.old.traits.items ++ (name.now, sorts.items) ∷ []) }
+        ensures listed { OnOk result (signatures self.new.traits.items ≡ signatures
+            self.old.traits.items ++ (name.now, sorts.items) ∷ []) }
         ensures types { self.new.types ≡ self.old.types }
     {
         if self.lookup(name).is_some() {

@@ -182,7 +182,8 @@ enum Place {
 fn params_of(alloc: Global, line: &[u8], tokens: &[Token]) -> Result<Option<Vec<Param>>, AllocError>
     requires { All (IsInside line.now) tokens.now }
     ensures params { IfOk result (λ o. IfSome o (λ ps. AreParams line.now tokens.now ps.items)) }
-    ensures only { IfOk result (λ o. (ps : List Param) → AreParams line.now tokens.now ps → IsSomeAnd o (λ qs. qs.items ≡ ps)) }
+    ensures only { IfOk result (λ o. (ps : List Param) → AreParams line.now tokens.now ps →
+        IsSomeAnd o (λ qs. qs.items ≡ ps)) }
 {
     let mut params = Vec::new(alloc);
     let mut place = Place::Bracket;
@@ -220,8 +221,10 @@ fn params_of(alloc: Global, line: &[u8], tokens: &[Token]) -> Result<Option<Vec<
 /// The sorts that stand in brackets, or `None` if these tokens are none.
 fn sorts_of(alloc: Global, line: &[u8], tokens: &[Token]) -> Result<Option<Vec<Sort>>, AllocError>
     requires { All (IsInside line.now) tokens.now }
-    ensures sorts { IfOk result (λ o. IfSome o (λ v. AreParams line.now tokens.now (map unmarked v.items))) }
-    ensures none { IfOk result (λ o. IsNone o → (ss : List Sort) → AreParams line.now tokens.now (map unmarked ss) → ⊥) }
+    ensures sorts { IfOk result (λ o. IfSome o (λ v. AreParams line.now tokens.now
+        (map unmarked v.items))) }
+    ensures none { IfOk result (λ o. IsNone o → (ss : List Sort) →
+        AreParams line.now tokens.now (map unmarked ss) → ⊥) }
 {
     let Some(params) = params_of(alloc, line, tokens)? else {
         return Ok(None);
@@ -253,8 +256,10 @@ fn depth_line(line: &[u8], tokens: &[Token]) -> Result<Line, Refusal>
     requires { All (IsInside line.now) tokens.now }
     ensures says { IfOk result (Says line.now tokens.now Keyword.Depth) }
     ensures inside { IfOk result (NamesAreInside line.now) }
-    ensures refused { IfErr result (λ e. e ≢ Syntax → (e ≡ NumberOutOfRange) × SaysTooMuch line.now tokens.now) }
-    ensures syntax { IfErr result (λ e. e ≡ Syntax → (t : Token) → tokens.now ≡ t ∷ [] → t.kind ≢ TokenKind.Number) }
+    ensures refused { IfErr result (λ e. e ≢ Syntax → (e ≡ NumberOutOfRange) ×
+        SaysTooMuch line.now tokens.now) }
+    ensures syntax { IfErr result (λ e. e ≡ Syntax → (t : Token) → tokens.now ≡ t ∷ [] →
+        t.kind ≢ TokenKind.Number) }
 {
     match tokens {
         [number] if number.kind == TokenKind::Number => match number_of(text(line, *number)) {
@@ -303,7 +308,8 @@ fn is_coinductive(line: &[u8], token: Token) -> bool
 fn before_coinductive<'a>(line: &[u8], tokens: &'a [Token]) -> Option<&'a [Token]>
     requires { All (IsInside line.now) tokens.now }
     ensures found { IfSome result (λ list. EndsInCoinductive line.now tokens.now list.now) }
-    ensures none { IsNone result → (list : List Token) → EndsInCoinductive line.now tokens.now list → ⊥ }
+    ensures none { IsNone result → (list : List Token) →
+        EndsInCoinductive line.now tokens.now list → ⊥ }
     ensures inside { IfSome result (λ list. All (IsInside line.now) list.now) }
 {
     let (word, list) = tokens.split_last()?;
@@ -318,7 +324,8 @@ fn trait_line(alloc: Global, line: &[u8], tokens: &[Token]) -> Result<Option<Lin
     requires { All (IsInside line.now) tokens.now }
     ensures says { IfOk result (λ o. IfSome o (Says line.now tokens.now Keyword.Trait)) }
     ensures inside { IfOk result (λ o. IfSome o (NamesAreInside line.now)) }
-    ensures none { IfOk result (λ o. IsNone o → TokensSayNothing line.now tokens.now Keyword.Trait) }
+    ensures none { IfOk result (λ o. IsNone o →
+        TokensSayNothing line.now tokens.now Keyword.Trait) }
 {
     let [name, rest @ ..] = tokens else {
         return Ok(None);
@@ -343,7 +350,8 @@ fn trait_line(alloc: Global, line: &[u8], tokens: &[Token]) -> Result<Option<Lin
 /// The place of the first arrow.
 fn arrow_of(tokens: &[Token]) -> Option<usize>
     ensures inside { IfSome result (λ at. at < length tokens.now) }
-    ensures found { IfSome result (λ at. IfSome (slice_get tokens.now at) (λ t. t.kind ≡ TokenKind.Arrow)) }
+    ensures found { IfSome result (λ at. IfSome (slice_get tokens.now at) (λ t.
+        t.kind ≡ TokenKind.Arrow)) }
     ensures first { IfSome result (λ at. All (λ t. t.kind ≢ TokenKind.Arrow) (take at tokens.now)) }
     ensures none { IsNone result → All (λ t. t.kind ≢ TokenKind.Arrow) tokens.now }
 {
@@ -404,9 +412,12 @@ pub fn line_of(
     ensures inside { IfOk result (NamesAreInside line.now) }
     ensures reasons { IfErr result (λ e. is_form_reason e ≡ true) }
     ensures syntax { result ≡ Err (Refused Syntax) → TokensSayNothing line.now tokens.now keyword }
-    ensures range { result ≡ Err (Refused NumberOutOfRange) → (keyword ≡ Keyword.Depth) × SaysTooMuch line.now tokens.now }
-    ensures depth { keyword ≡ Keyword.Depth → IsErr result → (t : Token) → tokens.now ≡ t ∷ [] → t.kind ≡ TokenKind.Number → 65535 < decimal_value (bytes_of line.now t) }
-    ensures goal { keyword ≡ Keyword.Goal → result ≡ Err (Refused Syntax) → are_predicates Wanted.One tokens.now ≡ false }
+    ensures range { result ≡ Err (Refused NumberOutOfRange) → (keyword ≡ Keyword.Depth) ×
+        SaysTooMuch line.now tokens.now }
+    ensures depth { keyword ≡ Keyword.Depth → IsErr result → (t : Token) → tokens.now ≡ t ∷ [] →
+        t.kind ≡ TokenKind.Number → 65535 < decimal_value (bytes_of line.now t) }
+    ensures goal { keyword ≡ Keyword.Goal → result ≡ Err (Refused Syntax) →
+        are_predicates Wanted.One tokens.now ≡ false }
 {
     let read = match keyword {
         Keyword::Mode => mode_line(line, tokens),

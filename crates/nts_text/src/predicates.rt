@@ -197,7 +197,8 @@ fn role_of(binding: bool, depth: usize) -> Role
 /// so that a name's arguments are counted when it is reached.
 fn nodes_of(alloc: Global, tokens: &[Token]) -> Result<Vec<Node>, AllocError>
     ensures nodes { IfOk result (λ ns. ns.items ≡ written_nodes tokens.now) }
-    ensures words { IfOk result (λ ns. map (λ n. n.token) ns.items ≡ filter (λ t. is_word t.kind) tokens.now) }
+    ensures words { IfOk result (λ ns. map (λ n. n.token) ns.items ≡ filter (λ t.
+        is_word t.kind) tokens.now) }
     ensures forest { IfOk result (λ ns. is_forest 0 ns.items ≡ true) }
 {
     let mut nodes = Vec::new(alloc);
@@ -246,7 +247,8 @@ pub fn predicates_of(
 ) -> Result<Option<Vec<Node>>, AllocError>
     ensures written { IfOk result (λ o. is_some o ≡ are_predicates wanted tokens.now) }
     ensures nodes { IfOk result (λ o. IfSome o (λ ns. ns.items ≡ written_nodes tokens.now)) }
-    ensures words { IfOk result (λ o. IfSome o (λ ns. map (λ n. n.token) ns.items ≡ filter (λ t. is_word t.kind) tokens.now)) }
+    ensures words { IfOk result (λ o. IfSome o (λ ns. map (λ n. n.token) ns.items ≡ filter (λ t.
+        is_word t.kind) tokens.now)) }
     ensures forest { IfOk result (λ o. IfSome o (λ ns. is_forest 0 ns.items ≡ true)) }
 {
     if !are_predicates(tokens, wanted) {

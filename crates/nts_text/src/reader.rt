@@ -28,8 +28,10 @@ fn drop_last(line: &mut Vec<u8>, byte: u8)
 /// Reads the next line in the place of what `line` holds, without its line feed and without a
 /// carriage return before that or before the end of the input. The result says if there was one.
 pub fn next_line<R: BufRead>(reader: &mut R, line: &mut Vec<u8>) -> Result<bool, ReadError>
-    ensures line { OnOk result (IfSome (R.remaining reader.old) (λ xs. line.new.items ≡ first_line xs)) }
-    ensures found { IfOk result (λ more. IfSome (R.remaining reader.old) (λ xs. IsTrue more ↔ (0 < length xs))) }
+    ensures line { OnOk result (IfSome (R.remaining reader.old) (λ xs.
+        line.new.items ≡ first_line xs)) }
+    ensures found { IfOk result (λ more. IfSome (R.remaining reader.old) (λ xs.
+        IsTrue more ↔ (0 < length xs))) }
     ensures rest { OnOk result (DropsThrough (R.remaining reader.old) (R.remaining reader.new) 10) }
 {
     line.clear();

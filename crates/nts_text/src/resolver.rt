@@ -58,8 +58,10 @@ fn refused<T>(refusal: Refusal) -> Result<T, TextError>
 /// What the name of a node stands for.
 fn declared(names: &NameTable, line: &[u8], node: Node) -> Result<Declared, TextError>
     requires { IsInside line.now node.token }
-    ensures unknown { IfErr result (λ e. (e ≡ Refused UnknownName) × (IsNameTaken names.now (bytes_of line.now node.token) → ⊥)) }
-    ensures numbered { IfOk result (λ d. is_numbered (vec_len names.now.types) (vec_len names.now.traits) d ≡ true) }
+    ensures unknown { IfErr result (λ e. (e ≡ Refused UnknownName) ×
+        (IsNameTaken names.now (bytes_of line.now node.token) → ⊥)) }
+    ensures numbered { IfOk result (λ d. is_numbered (vec_len names.now.types)
+        (vec_len names.now.traits) d ≡ true) }
     ensures found { IfOk result (NameStandsFor names.now (bytes_of line.now node.token)) }
 {
     match names.lookup(text(line, node.token)) {
@@ -78,7 +80,8 @@ fn predicate(names: &NameTable, line: &[u8], node: Node) -> Result<Resolved, Tex
         IfOk result (IsMeaningOf names.now scope line.now b node) }
     ensures reasons { IfErr result (λ e. is_name_reason e ≡ true) }
     ensures reason { result ≢ Err (Refused ParameterInAClause) }
-    ensures unknown { result ≡ Err (Refused UnknownName) → IsNameTaken names.now (bytes_of line.now node.token) → ⊥ }
+    ensures unknown { result ≡ Err (Refused UnknownName) →
+        IsNameTaken names.now (bytes_of line.now node.token) → ⊥ }
     ensures declares { result ≢ Err (Refused NameDeclaredTwice) }
 {
     let Declared::Trait(number) = declared(names, line, node)? else {
@@ -103,7 +106,8 @@ fn named_type(names: &NameTable, line: &[u8], node: Node) -> Result<Resolved, Te
         IfOk result (IsMeaningOf names.now scope line.now b node) }
     ensures reasons { IfErr result (λ e. is_name_reason e ≡ true) }
     ensures reason { result ≢ Err (Refused ParameterInAClause) }
-    ensures unknown { result ≡ Err (Refused UnknownName) → IsNameTaken names.now (bytes_of line.now node.token) → ⊥ }
+    ensures unknown { result ≡ Err (Refused UnknownName) →
+        IsNameTaken names.now (bytes_of line.now node.token) → ⊥ }
     ensures declares { result ≢ Err (Refused NameDeclaredTwice) }
 {
     let (found, wanted) = match declared(names, line, node)? {
@@ -126,7 +130,8 @@ fn named_type(names: &NameTable, line: &[u8], node: Node) -> Result<Resolved, Te
 
 /// A place for a parameter: none in a clause.
 fn allows_parameter(site: Site) -> Result<(), TextError>
-    ensures { MatchResult result (λ _. site ≡ Site.Goal) (λ e. (e ≡ Refused ParameterInAClause) × (site ≡ Site.Clause)) }
+    ensures { MatchResult result (λ _. site ≡ Site.Goal) (λ e. (e ≡ Refused ParameterInAClause) ×
+        (site ≡ Site.Clause)) }
 {
     match site {
         Site::Clause => refused(Refusal::ParameterInAClause),
@@ -245,7 +250,8 @@ impl Reading<'_> {
             (bound_names bounds.now) node) }
         ensures kept { KeepsNames scope.old scope.new }
         ensures reasons { IfErr result (λ e. is_name_reason e ≡ true) }
-        ensures parameter { result ≡ Err (Refused ParameterInAClause) → self.now.site ≡ Site.Clause }
+        ensures parameter { result ≡ Err (Refused ParameterInAClause) →
+            self.now.site ≡ Site.Clause }
         ensures unknown { result ≡ Err (Refused UnknownName) →
             IsUnknown self.now.names.now self.now.line.now (bound_names bounds.now) node }
         ensures twice { result ≢ Err (Refused NameDeclaredTwice) }
@@ -280,7 +286,8 @@ impl Reading<'_> {
             (bound_names bounds.now) node) }
         ensures kept { KeepsNames scope.old scope.new }
         ensures reasons { IfErr result (λ e. is_name_reason e ≡ true) }
-        ensures parameter { result ≡ Err (Refused ParameterInAClause) → self.now.site ≡ Site.Clause }
+        ensures parameter { result ≡ Err (Refused ParameterInAClause) →
+            self.now.site ≡ Site.Clause }
         ensures unknown { result ≢ Err (Refused UnknownName) }
         ensures twice { result ≢ Err (Refused NameDeclaredTwice) }
     {
@@ -326,7 +333,8 @@ impl Reading<'_> {
             (bound_names bounds.now) node) }
         ensures kept { KeepsNames scope.old scope.new }
         ensures reasons { IfErr result (λ e. is_name_reason e ≡ true) }
-        ensures parameter { result ≡ Err (Refused ParameterInAClause) → self.now.site ≡ Site.Clause }
+        ensures parameter { result ≡ Err (Refused ParameterInAClause) →
+            self.now.site ≡ Site.Clause }
         ensures unknown { result ≡ Err (Refused UnknownName) →
             IsUnknown self.now.names.now self.now.line.now (bound_names bounds.now) node }
         ensures twice { result ≢ Err (Refused NameDeclaredTwice) }
@@ -361,7 +369,8 @@ impl Reading<'_> {
             bound_behind self.now.line.now (bound_names bounds.old) node) }
         ensures kept { KeepsNames scope.old scope.new }
         ensures reasons { IfErr result (λ e. is_name_reason e ≡ true) }
-        ensures parameter { result ≡ Err (Refused ParameterInAClause) → self.now.site ≡ Site.Clause }
+        ensures parameter { result ≡ Err (Refused ParameterInAClause) →
+            self.now.site ≡ Site.Clause }
         ensures unknown { result ≡ Err (Refused UnknownName) →
             IsUnknown self.now.names.now self.now.line.now (bound_names bounds.old) node }
         ensures twice { result ≡ Err (Refused NameDeclaredTwice) →
@@ -385,7 +394,8 @@ fn want_arguments(
     node: Resolved,
 ) -> Result<(), AllocError>
     requires { IsDeclared names.now node }
-    ensures { OnOk result (wanted.new.items ≡ wanted.old.items ++ reverse (argument_sorts names.now node)) }
+    ensures { OnOk result (wanted.new.items ≡ wanted.old.items ++ reverse
+        (argument_sorts names.now node)) }
 {
     let sorts = match node {
         Resolved::Trait { number, .. } => names.traits[number].sorts.as_slice(),
@@ -408,7 +418,8 @@ fn keep(
     node: Resolved,
 ) -> Result<(), AllocError>
     requires { IsDeclared names.now node }
-    ensures wants { OnOk result (wanted.new.items ≡ wanted.old.items ++ reverse (argument_sorts names.now node)) }
+    ensures wants { OnOk result (wanted.new.items ≡ wanted.old.items ++ reverse
+        (argument_sorts names.now node)) }
     ensures keeps { OnOk result (all.new.items ≡ all.old.items ++ node ∷ []) }
 {
     want_arguments(wanted, names, node)?;
@@ -437,7 +448,8 @@ impl Reading<'_> {
             nothing_bound nodes.now all.new.items) }
         ensures kept { KeepsNames scope.old scope.new }
         ensures reasons { IfErr result (λ e. is_name_reason e ≡ true) }
-        ensures parameter { result ≡ Err (Refused ParameterInAClause) → self.now.site ≡ Site.Clause }
+        ensures parameter { result ≡ Err (Refused ParameterInAClause) →
+            self.now.site ≡ Site.Clause }
         ensures unknown { result ≡ Err (Refused UnknownName) →
             HasFreeName self.now.names.now self.now.line.now nodes.now }
         ensures twice { result ≡ Err (Refused NameDeclaredTwice) →
@@ -475,7 +487,8 @@ pub fn resolve_nodes(
     ensures kept { KeepsNames scope.old scope.new }
     ensures reasons { IfErr result (λ e. is_name_reason e ≡ true) }
     ensures parameter { result ≡ Err (Refused ParameterInAClause) → site ≡ Site.Clause }
-    ensures unknown { result ≡ Err (Refused UnknownName) → HasFreeName names.now line.now nodes.now }
+    ensures unknown { result ≡ Err (Refused UnknownName) →
+        HasFreeName names.now line.now nodes.now }
     ensures twice { result ≡ Err (Refused NameDeclaredTwice) →
         HasBoundTwice names.now line.now nodes.now }
 {

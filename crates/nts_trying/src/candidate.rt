@@ -49,7 +49,8 @@ impl Trial<'_> {
         requires over { IsOverIn cx.old.nodes self.fresh.now self.goal t }
         requires values { HoldsValues cx.old.nodes self.fresh.now self.values.now }
         ensures grows { Grows cx.old cx.new }
-        ensures instance { IfOk result (IsTermInstance cx.old.nodes cx.new.nodes self.entry.values.now
+        ensures instance { IfOk result
+            (IsTermInstance cx.old.nodes cx.new.nodes self.entry.values.now
             t) }
         ensures memory { IsOkUnless result Fault.Memory }
     {
@@ -71,9 +72,11 @@ impl Trial<'_> {
         requires holds { HoldsGoal cx.old.nodes self.goal }
         requires values { HoldsValues cx.old.nodes self.fresh.now self.values.now }
         ensures grows { Grows cx.old cx.new }
-        ensures left { IfOk result (λ r. IsTermInstance cx.old.nodes cx.new.nodes self.entry.values.now
+        ensures left { IfOk result (λ r. IsTermInstance cx.old.nodes cx.new.nodes
+            self.entry.values.now
             a r.0) }
-        ensures right { IfOk result (λ r. IsTermInstance cx.old.nodes cx.new.nodes self.entry.values.now
+        ensures right { IfOk result (λ r. IsTermInstance cx.old.nodes cx.new.nodes
+            self.entry.values.now
             b r.1) }
         ensures memory { IsOkUnless result Fault.Memory }
     {
@@ -89,7 +92,8 @@ impl Trial<'_> {
         requires values { AreValues cx.old.nodes table.now self.fresh.now self.values.now }
         ensures grows { Grows cx.old cx.new }
         ensures posed { IfOk result (λ g. IsPosed cx.new.nodes table.now g) }
-        ensures goal { IfOk result (IsGoalInstance cx.old.nodes cx.new.nodes self.entry.values.now nested) }
+        ensures goal { IfOk result (IsGoalInstance cx.old.nodes cx.new.nodes self.entry.values.now
+            nested) }
         ensures labels { IfOk result (AsksOnly cx.old.nodes cx.new.nodes self.entry.goal) }
         ensures memory { IsOkUnless result Fault.Memory }
     {
@@ -114,7 +118,8 @@ impl Trial<'_> {
         requires nested { AreNested cx.old.nodes self.fresh.now self.goal nested.now }
         requires values { AreValues cx.old.nodes table.now self.fresh.now self.values.now }
         ensures grows { Grows cx.old cx.new }
-        ensures added { IfOk result (λ gs. AreAdded cx.old.nodes cx.new.nodes table.now self.entry.goal self.entry.values.now nested.now gs.items) }
+        ensures added { IfOk result (λ gs. AreAdded cx.old.nodes cx.new.nodes table.now
+            self.entry.goal self.entry.values.now nested.now gs.items) }
         ensures memory { IsOkUnless result Fault.Memory }
     {
         let mut added = Vec::with_capacity(cx.alloc, nested.len())?;
@@ -160,7 +165,8 @@ pub fn equate(
         vs.items) }
     ensures equal { IfOk result (λ vs. EquatesEach cx.old.nodes cx.new.nodes table.new vs.items
         candidate.now.equations.items) }
-    ensures equated { IfOk result (λ vs. EquatesCandidate cx.old.nodes cx.new.nodes table.old table.new
+    ensures equated { IfOk result (λ vs. EquatesCandidate cx.old.nodes cx.new.nodes table.old
+        table.new
         candidate.now.fresh.items vs.items candidate.now.equations.items) }
     ensures labels { OnOk result (BringsOnly (asked_terms cx.old.nodes goal)
         (content_of cx.old.nodes table.old.entries) (content_of cx.new.nodes table.new.entries)) }
@@ -194,7 +200,8 @@ fn equate_one(
     ensures runs { Runs cx.old cx.new table.old table.new }
     ensures equal { OnOk result (Stays (content_of cx.new.nodes table.new.entries) (EquationHolds
         (map (tree_at cx.old.nodes) trial.entry.values.now) (equation_of cx.old.nodes equation))) }
-    ensures related { OnOk result (AreRelated (content_of cx.old.nodes table.old.entries) (content_of
+    ensures related { OnOk result (AreRelated (content_of cx.old.nodes table.old.entries)
+        (content_of
         cx.new.nodes table.new.entries) (instance_at cx.old.nodes trial.entry.values.now
         equation.lhs.node) (instance_at cx.old.nodes trial.entry.values.now equation.rhs.node)) }
     ensures labels { OnOk result (BringsOnly (asked_terms cx.old.nodes trial.entry.goal)
@@ -216,7 +223,8 @@ fn relate_terms(table: &mut InferCtxt, cx: &mut Cx, a: NodeId, b: NodeId) -> Res
     ensures runs { Runs cx.old cx.new table.old table.new }
     ensures equal { OnOk result (Stays (content_of cx.new.nodes table.new.entries) (λ d. AreAlike d
         (tree_at cx.old.nodes a) (tree_at cx.old.nodes b))) }
-    ensures related { OnOk result (AreRelated (content_of cx.old.nodes table.old.entries) (content_of
+    ensures related { OnOk result (AreRelated (content_of cx.old.nodes table.old.entries)
+        (content_of
         cx.new.nodes table.new.entries) (tree_at cx.old.nodes a) (tree_at cx.old.nodes b)) }
     ensures labels { OnOk result (BringsLabelsOf (content_of cx.old.nodes table.old.entries)
         (content_of cx.new.nodes table.new.entries) (tree_at cx.old.nodes a) (tree_at cx.old.nodes b)) }
@@ -278,7 +286,8 @@ fn record_one(
         table.old.entries) (content_of cx.new.nodes table.new.entries)) }
     ensures labels { OnOk result (BringsOnly (asked_terms cx.old.nodes trial.entry.goal)
         (content_of cx.old.nodes table.old.entries) (content_of cx.new.nodes table.new.entries)) }
-    ensures no { result ≡ Err EvalError.NoSolution → (constraint.relation ≡ relations.Equal) × AreUnrelated
+    ensures no { result ≡ Err EvalError.NoSolution → (constraint.relation ≡ relations.Equal) ×
+        AreUnrelated
         (content_of cx.old.nodes table.old.entries) (instance_at cx.old.nodes trial.entry.values.now
         constraint.left.node) (instance_at cx.old.nodes trial.entry.values.now constraint.right.node) }
     ensures full { result ≢ Err EvalError.Full }
@@ -316,7 +325,8 @@ fn record_outlives(
     ensures added { OnOk result (AddsBy relation (constraint_between relation (tree_at cx.now.nodes
         left) (tree_at cx.now.nodes right)) (content_of cx.now.nodes table.old.entries) (content_of
         cx.now.nodes table.new.entries)) }
-    ensures labels { OnOk result (BringsLabelsOf (content_of cx.now.nodes table.old.entries) (content_of
+    ensures labels { OnOk result (BringsLabelsOf (content_of cx.now.nodes table.old.entries)
+        (content_of
         cx.now.nodes table.new.entries) (tree_at cx.now.nodes left) (tree_at cx.now.nodes right)) }
     ensures memory { IsOkUnless result Fault.Memory }
 {

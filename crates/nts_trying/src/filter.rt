@@ -26,7 +26,8 @@ fn is_met(
     requires candidate { IsCandidate cx.old.nodes goal candidate.now }
     ensures same { table.new ≡ table.old }
     ensures grows { Grows cx.old cx.new }
-    ensures met { IfOk result (λ b. IsTrue b ↔ IsCandidateMet (content_of cx.old.nodes table.old.entries) (candidate_of cx.old.nodes candidate.now)) }
+    ensures met { IfOk result (λ b. IsTrue b ↔ IsCandidateMet
+        (content_of cx.old.nodes table.old.entries) (candidate_of cx.old.nodes candidate.now)) }
     ensures memory { IsOkUnless result EvalError.Memory }
 {
     cx.terms_are_formed();
@@ -46,7 +47,8 @@ fn keep_if(
     candidate: CandidateData,
     is_met: bool,
 ) -> Result<(), AllocError>
-    ensures { OnOk result (kept.new.items ≡ (if is_met then kept.old.items ++ candidate ∷ [] else kept.old.items)) }
+    ensures { OnOk result (kept.new.items ≡ (if is_met then kept.old.items ++ candidate ∷ [] else
+        kept.old.items)) }
 {
     if is_met {
         kept.push(candidate)?;
@@ -66,7 +68,8 @@ pub fn keep_met(
     requires candidates { AreCandidates cx.old.nodes goal candidates.items }
     ensures same { table.new ≡ table.old }
     ensures grows { Grows cx.old cx.new }
-    ensures kept { IfOk result (λ ks. KeepsMet cx.old.nodes (content_of cx.old.nodes table.old.entries) candidates.items ks.items) }
+    ensures kept { IfOk result (λ ks. KeepsMet cx.old.nodes
+        (content_of cx.old.nodes table.old.entries) candidates.items ks.items) }
     ensures memory { IsOkUnless result EvalError.Memory }
 {
     let mut kept = Vec::new(cx.alloc);

@@ -69,7 +69,9 @@ fn statements_are_closed(cx: &Cx, env: ParamEnv) -> bool
 #[inline(never)]
 pub fn goal_kind<H: GoalHandler>(cx: &Cx, handler: &H, goal: Goal) -> CurrentGoalKind
     requires { HoldsGoal cx.now.nodes goal }
-    ensures kind { (ts : List Tree) (v : ℕ → List Variance) → goal_kind_of result ≡ goal_kind (meaning (H.handler ts handler.now) v) (tree_at cx.now.nodes goal.predicate.node) }
+    ensures kind { (ts : List Tree) (v : ℕ → List Variance) →
+        goal_kind_of result ≡ goal_kind (meaning (H.handler ts handler.now) v)
+        (tree_at cx.now.nodes goal.predicate.node) }
 {
     match goal.predicate.kind(cx).value {
         PredicateKind::Clause(ClauseKind::Trait(trait_ref)) => {

@@ -42,7 +42,9 @@ pub fn keep_response(
 fn merged_place(cx: &Cx, responses: &[CanonicalResponse]) -> Option<usize>
     requires holds { All (λ r. HoldsResponse cx.now.nodes r.value) responses.now }
     ensures none { IsNone result → Merges cx.now.nodes responses.now None }
-    ensures some { IfSome result (λ i. (i < length responses.now) × ((d : Canonical Response) → (m : MergeCandidateInfo) × Merges cx.now.nodes responses.now (Some (get_or responses.now i d, m)))) }
+    ensures some { IfSome result (λ i. (i < length responses.now) × ((d : Canonical Response) →
+        (m : MergeCandidateInfo) ×
+        Merges cx.now.nodes responses.now (Some (get_or responses.now i d, m)))) }
 {
     match try_merge_candidates(cx, responses) {
         None => None,
@@ -63,7 +65,8 @@ pub fn merge_responses(
     requires table { IsTable cx.old.nodes table.now }
     requires values { All (IsArgOf cx.old.nodes table.now.entries) values.now }
     requires holds { All (λ r. HoldsResponse cx.old.nodes r.value) responses.items }
-    ensures merged { IfAnswered result (IsMerged cx.old.nodes cx.new.nodes table.now values.now responses.items) }
+    ensures merged { IfAnswered result (IsMerged cx.old.nodes cx.new.nodes table.now values.now
+        responses.items) }
     ensures no { (result ≡ Err EvalError.NoSolution) ↔ (responses.items ≡ []) }
     ensures grows { Grows cx.old cx.new }
 {

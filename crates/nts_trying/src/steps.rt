@@ -81,9 +81,13 @@ impl Step {
 
     /// Notes the answer to a goal. A goal that is not certain is left for the next step.
     pub fn note(&mut self, added: (GoalSource, Goal), answer: Evaluated) -> Result<(), AllocError>
-        ensures left { OnOk result (self.new.left.items ≡ left_after self.old.left.items added answer.certainty) }
-        ensures certainty { OnOk result (self.new.certainty ≡ both self.old.certainty answer.certainty) }
-        ensures changed { OnOk result ((self.new.has_changed ≡ false) ↔ ((self.old.has_changed ≡ false) × (answer.has_changed ≡ changes.No))) }
+        ensures left { OnOk result (self.new.left.items ≡ left_after self.old.left.items added
+            answer.certainty) }
+        ensures certainty { OnOk result (self.new.certainty ≡ both self.old.certainty
+            answer.certainty) }
+        ensures changed { OnOk result
+            ((self.new.has_changed ≡ false) ↔ ((self.old.has_changed ≡ false) ×
+            (answer.has_changed ≡ changes.No))) }
     {
         if answer.has_changed == HasChanged::Yes {
             self.has_changed = true;

@@ -25,8 +25,10 @@ pub fn add_variable(
     requires linked { IfSome sub_link (λ m. m < length table.old.entries.variables) }
     ensures extends { Extends nodes.old nodes.new }
     ensures within { IfOk result (λ r. IsIn nodes.new r) }
-    ensures tree { IfOk result (λ r. tree_at nodes.new r ≡ variable_tree kind (length table.old.entries.variables)) }
-    ensures entries { OnOk result (table.new.entries ≡ added table.old.entries (record { kind = kind; universe = universe; state = State.Unset; sub_link = sub_link })) }
+    ensures tree { IfOk result (λ r. tree_at nodes.new r ≡ variable_tree kind
+        (length table.old.entries.variables)) }
+    ensures entries { OnOk result (table.new.entries ≡ added table.old.entries
+        (record { kind = kind; universe = universe; state = State.Unset; sub_link = sub_link })) }
     ensures lawful { IsLawful nodes.old table.old.entries → IsLawful nodes.new table.new.entries }
     ensures changes { KeepsHidden table.old table.new }
     ensures err { OnErr result (table.new ≡ table.old) }

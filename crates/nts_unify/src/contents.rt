@@ -91,7 +91,13 @@ impl Model for Contents {
 
 impl Contents {
     pub fn new(alloc: Global) -> Self
-        ensures { result ≡ record { variables = []; order = []; universe = 0; constraints = []; hidden = record { lookup = []; duplicates = [] } } }
+        ensures { result ≡ record {
+          variables = [];
+          order = [];
+          universe = 0;
+          constraints = [];
+          hidden = record { lookup = []; duplicates = [] };
+        } }
     {
         Contents {
             variables: Vec::new(alloc),

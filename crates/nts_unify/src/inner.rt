@@ -38,7 +38,13 @@ pub struct Snapshot {
 impl InferCtxtInner {
     /// No variables, in the root universe. It takes no memory.
     pub fn new(alloc: Global) -> Self
-        ensures entries { result.entries ≡ record { variables = []; order = []; universe = 0; constraints = []; hidden = record { lookup = []; duplicates = [] } } }
+        ensures entries { result.entries ≡ record {
+          variables = [];
+          order = [];
+          universe = 0;
+          constraints = [];
+          hidden = record { lookup = []; duplicates = [] };
+        } }
         ensures saved { result.saved ≡ [] }
     {
         InferCtxtInner {
@@ -133,7 +139,8 @@ impl InferCtxtInner {
 
     pub fn set(&mut self, n: usize, variable: Variable) -> Result<(), AllocError>
         requires { n < length self.old.entries.variables }
-        ensures entries { OnOk result (self.new.entries ≡ with_variable self.old.entries n variable) }
+        ensures entries { OnOk result (self.new.entries ≡ with_variable self.old.entries n
+            variable) }
         ensures saved { self.new.saved ≡ self.old.saved }
         ensures err { OnErr result (self.new ≡ self.old) }
     {

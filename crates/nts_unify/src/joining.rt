@@ -14,7 +14,8 @@ use std::alloc::AllocError;
 /// universe. Their sub roots are joined too, which only matters for type variables.
 pub fn join(table: &mut InferCtxtInner, x: usize, y: usize) -> Result<(), AllocError>
     requires { CanJoin table.old.entries x y }
-    ensures joined { OnOk result ((ts : List Tree) → IsLawful ts table.old.entries → Joins ts table.old.entries table.new.entries x y) }
+    ensures joined { OnOk result ((ts : List Tree) → IsLawful ts table.old.entries →
+        Joins ts table.old.entries table.new.entries x y) }
     ensures changes { KeepsHidden table.old table.new }
 {
     table.join_sub_roots(x, y)?;
@@ -32,7 +33,8 @@ pub fn join(table: &mut InferCtxtInner, x: usize, y: usize) -> Result<(), AllocE
 /// Makes one region variable of two. The root is the lower number, in the lower universe.
 pub fn join_regions(table: &mut InferCtxtInner, x: usize, y: usize) -> Result<(), AllocError>
     requires { CanJoinRegions table.old.entries x y }
-    ensures joined { OnOk result ((ts : List Tree) → IsLawful ts table.old.entries → RegionsJoin ts table.old.entries table.new.entries x y) }
+    ensures joined { OnOk result ((ts : List Tree) → IsLawful ts table.old.entries →
+        RegionsJoin ts table.old.entries table.new.entries x y) }
     ensures changes { KeepsHidden table.old table.new }
 {
     table.link_regions(x, y)?;

@@ -69,7 +69,8 @@ pub fn takes_variable(kind: VariableKind, other: VariableKind) -> bool
 /// Whether a variable of the kind can have a value with the label, which is no variable.
 pub fn fits(kind: VariableKind, label: Label) -> bool
     ensures yes { result ≡ true → (c : Tree) → Fits kind (node label c) }
-    ensures no { result ≡ false → kind ≢ kinds.Region → infer_of label ≡ None → (c : Tree) → Fits kind (node label c) → ⊥ }
+    ensures no { result ≡ false → kind ≢ kinds.Region → infer_of label ≡ None → (c : Tree) →
+        Fits kind (node label c) → ⊥ }
 {
     match kind {
         VariableKind::Ty => match label {

@@ -10,7 +10,8 @@ use nts_terms::UniverseIndex;
 
 /// The kind and the number of the variable that a label names, if it names one.
 pub fn named_variable(label: Label) -> Option<(VariableKind, usize)>
-    ensures { MatchOption result (variable_of label ≡ None) (λ v. label ≡ labels.Leaf (leaves.Variable v.0 v.1)) }
+    ensures { MatchOption result (variable_of label ≡ None) (λ v. label ≡ labels.Leaf
+        (leaves.Variable v.0 v.1)) }
 {
     match label {
         Label::Leaf(Leaf::Variable(kind, n)) => Some((kind, n)),

@@ -47,19 +47,24 @@ pub fn count_goals(
         Span(0),
         |ecx: &mut EvalCtxt<'_, Clauses>| -> Result<(usize, usize), EvalError>
             requires ready { IsContextReady AreClausesReady ecx.old }
-            requires left { IsPlainSide any_argument ecx.old.cx.now.nodes ecx.old.table.now lhs.node }
-            requires right { IsPlainSide any_argument ecx.old.cx.now.nodes ecx.old.table.now rhs.node }
+            requires left { IsPlainSide any_argument ecx.old.cx.now.nodes ecx.old.table.now
+                lhs.node }
+            requires right { IsPlainSide any_argument ecx.old.cx.now.nodes ecx.old.table.now
+                rhs.node }
             requires first { IsGoalOfContext ecx.old first }
             requires second { IsGoalOfContext ecx.old second }
             ensures keeps { KeepsContext AreClausesReady ecx.old ecx.new }
-            ensures goals { OnOk result (ecx.new.state.now.nested_goals.items ≡ ecx.old.state.now.nested_goals.items) }
+            ensures goals { OnOk result
+                (ecx.new.state.now.nested_goals.items ≡ ecx.old.state.now.nested_goals.items) }
         {
             let env = first.param_env;
             let equated = ecx.probe(
                 |probe: &mut EvalCtxt<'_, Clauses>| -> Result<usize, EvalError>
                     requires ready { IsContextReady AreClausesReady probe.old }
-                    requires left { IsPlainSide any_argument probe.old.cx.now.nodes probe.old.table.now lhs.node }
-                    requires right { IsPlainSide any_argument probe.old.cx.now.nodes probe.old.table.now rhs.node }
+                    requires left { IsPlainSide any_argument probe.old.cx.now.nodes
+                        probe.old.table.now lhs.node }
+                    requires right { IsPlainSide any_argument probe.old.cx.now.nodes
+                        probe.old.table.now rhs.node }
                     requires env { IsEnvOf probe.old.cx.now probe.old.table.now env }
                     ensures keeps { KeepsContext AreClausesReady probe.old probe.new }
                 {
@@ -70,8 +75,10 @@ pub fn count_goals(
             let asked = ecx.probe(
                 |probe: &mut EvalCtxt<'_, Clauses>| -> Result<usize, EvalError>
                     requires ready { IsContextReady AreClausesReady probe.old }
-                    requires left { IsPlainSide any_argument probe.old.cx.now.nodes probe.old.table.now lhs.node }
-                    requires right { IsPlainSide any_argument probe.old.cx.now.nodes probe.old.table.now rhs.node }
+                    requires left { IsPlainSide any_argument probe.old.cx.now.nodes
+                        probe.old.table.now lhs.node }
+                    requires right { IsPlainSide any_argument probe.old.cx.now.nodes
+                        probe.old.table.now rhs.node }
                     requires first { IsGoalOfContext probe.old first }
                     requires second { IsGoalOfContext probe.old second }
                     ensures keeps { KeepsContext AreClausesReady probe.old probe.new }

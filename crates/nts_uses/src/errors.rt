@@ -55,24 +55,32 @@ pub fn err_in_probes(
         Span(0),
         |ecx: &mut EvalCtxt<'_, Clauses>| -> Result<(), EvalError>
             requires ready { IsContextReady AreClausesReady ecx.old }
-            requires left { IsPlainSide any_argument ecx.old.cx.now.nodes ecx.old.table.now left.node }
-            requires tried { IsPlainSide any_argument ecx.old.cx.now.nodes ecx.old.table.now tried.node }
-            requires right { IsPlainSide any_argument ecx.old.cx.now.nodes ecx.old.table.now right.node }
+            requires left { IsPlainSide any_argument ecx.old.cx.now.nodes ecx.old.table.now
+                left.node }
+            requires tried { IsPlainSide any_argument ecx.old.cx.now.nodes ecx.old.table.now
+                tried.node }
+            requires right { IsPlainSide any_argument ecx.old.cx.now.nodes ecx.old.table.now
+                right.node }
             ensures keeps { KeepsContext AreClausesReady ecx.old ecx.new }
-            ensures goals { OnOk result (ecx.new.state.now.nested_goals.items ≡ ecx.old.state.now.nested_goals.items) }
+            ensures goals { OnOk result
+                (ecx.new.state.now.nested_goals.items ≡ ecx.old.state.now.nested_goals.items) }
         {
             let _ = ecx.probe(
                 |probe: &mut EvalCtxt<'_, Clauses>| -> Result<(), EvalError>
                     requires ready { IsContextReady AreClausesReady probe.old }
-                    requires left { IsPlainSide any_argument probe.old.cx.now.nodes probe.old.table.now left.node }
-                    requires tried { IsPlainSide any_argument probe.old.cx.now.nodes probe.old.table.now tried.node }
+                    requires left { IsPlainSide any_argument probe.old.cx.now.nodes
+                        probe.old.table.now left.node }
+                    requires tried { IsPlainSide any_argument probe.old.cx.now.nodes
+                        probe.old.table.now tried.node }
                     ensures keeps { KeepsContext AreClausesReady probe.old probe.new }
                 {
                     probe.probe(
                         |deep: &mut EvalCtxt<'_, Clauses>| -> Result<(), EvalError>
                             requires ready { IsContextReady AreClausesReady deep.old }
-                            requires left { IsPlainSide any_argument deep.old.cx.now.nodes deep.old.table.now left.node }
-                            requires tried { IsPlainSide any_argument deep.old.cx.now.nodes deep.old.table.now tried.node }
+                            requires left { IsPlainSide any_argument deep.old.cx.now.nodes
+                                deep.old.table.now left.node }
+                            requires tried { IsPlainSide any_argument deep.old.cx.now.nodes
+                                deep.old.table.now tried.node }
                             ensures keeps { KeepsContext AreClausesReady deep.old deep.new }
                         {
                             deep.eq_structurally_relating_aliases(env, left, tried)?;

@@ -57,14 +57,17 @@ pub fn relate_in_probes(
             requires left { IsSide any_argument ecx.old.cx.now.nodes ecx.old.table.now lhs.node }
             requires right { IsSide any_argument ecx.old.cx.now.nodes ecx.old.table.now rhs.node }
             ensures keeps { KeepsContext AreClausesReady ecx.old ecx.new }
-            ensures goals { OnOk result (ecx.new.state.now.nested_goals.items ≡ ecx.old.state.now.nested_goals.items) }
+            ensures goals { OnOk result
+                (ecx.new.state.now.nested_goals.items ≡ ecx.old.state.now.nested_goals.items) }
         {
             let answered = ecx.probe(
                 |probe: &mut EvalCtxt<'_, Clauses>| -> Result<usize, EvalError>
                     requires ready { IsContextReady AreClausesReady probe.old }
                     requires env { IsEnvOf probe.old.cx.now probe.old.table.now env }
-                    requires left { IsSide any_argument probe.old.cx.now.nodes probe.old.table.now lhs.node }
-                    requires right { IsSide any_argument probe.old.cx.now.nodes probe.old.table.now rhs.node }
+                    requires left { IsSide any_argument probe.old.cx.now.nodes probe.old.table.now
+                        lhs.node }
+                    requires right { IsSide any_argument probe.old.cx.now.nodes probe.old.table.now
+                        rhs.node }
                     ensures keeps { KeepsContext AreClausesReady probe.old probe.new }
                 {
                     let goals = probe.eq_and_get_goals(env, lhs, rhs)?;
@@ -76,8 +79,10 @@ pub fn relate_in_probes(
                 |probe: &mut EvalCtxt<'_, Clauses>| -> Result<Left, EvalError>
                     requires ready { IsContextReady AreClausesReady probe.old }
                     requires env { IsEnvOf probe.old.cx.now probe.old.table.now env }
-                    requires left { IsSide any_argument probe.old.cx.now.nodes probe.old.table.now lhs.node }
-                    requires right { IsSide any_argument probe.old.cx.now.nodes probe.old.table.now rhs.node }
+                    requires left { IsSide any_argument probe.old.cx.now.nodes probe.old.table.now
+                        lhs.node }
+                    requires right { IsSide any_argument probe.old.cx.now.nodes probe.old.table.now
+                        rhs.node }
                     ensures keeps { KeepsContext AreClausesReady probe.old probe.new }
                 {
                     probe.relate(env, lhs, variance, rhs)?;

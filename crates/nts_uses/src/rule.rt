@@ -44,11 +44,14 @@ pub fn use_rule(
         Span(0),
         |ecx: &mut EvalCtxt<'_, Clauses>| -> Result<Certainty, EvalError>
             requires ready { IsContextReady AreClausesReady ecx.old }
-            requires left { IsPlainSide any_argument ecx.old.cx.now.nodes ecx.old.table.now lhs.node }
-            requires right { IsPlainSide any_argument ecx.old.cx.now.nodes ecx.old.table.now rhs.node }
+            requires left { IsPlainSide any_argument ecx.old.cx.now.nodes ecx.old.table.now
+                lhs.node }
+            requires right { IsPlainSide any_argument ecx.old.cx.now.nodes ecx.old.table.now
+                rhs.node }
             requires goal { IsGoalOfContext ecx.old goal }
             ensures keeps { KeepsContext AreClausesReady ecx.old ecx.new }
-            ensures goals { OnOk result (ecx.new.state.now.nested_goals.items ≡ ecx.old.state.now.nested_goals.items) }
+            ensures goals { OnOk result
+                (ecx.new.state.now.nested_goals.items ≡ ecx.old.state.now.nested_goals.items) }
         {
             ecx.eq(goal.param_env, lhs, rhs)?;
             ecx.probe(
@@ -76,7 +79,8 @@ pub(crate) fn is_plain(
     argument: GenericArg,
 ) -> Result<bool, EvalError>
     requires table { IsTable cx.old.nodes table.now }
-    ensures plain { IfOk result (λ b. b ≡ true → IsPlainSide any_argument cx.new.nodes table.now argument.node) }
+    ensures plain { IfOk result (λ b. b ≡ true →
+        IsPlainSide any_argument cx.new.nodes table.now argument.node) }
     ensures grows { Grows cx.old cx.new }
 {
     if !cx.holds(argument) || !table.knows(cx, argument)? {

@@ -63,9 +63,17 @@ pub fn bind_along(
     requires rigid { IsAlias (tree_at nodes.old term) → ⊥ }
     ensures extends { Extends nodes.old nodes.new }
     ensures changes { KeepsHidden table.old table.new }
-    ensures bound { (k : VariableKind) → kind_at (content_of nodes.old table.old.entries) side.variable ≡ Some k → IfOk result (λ gs. IsBound (variances_in declarations.now) side.is_turned nodes.old nodes.new table.old.entries table.new.entries variance k side.variable term gs.items) }
+    ensures bound { (k : VariableKind) →
+        kind_at (content_of nodes.old table.old.entries) side.variable ≡ Some k →
+        IfOk result (λ gs. IsBound (variances_in declarations.now) side.is_turned nodes.old
+        nodes.new table.old.entries table.new.entries variance k side.variable term gs.items) }
     ensures full { result ≢ Err EvalError.Full }
-    ensures no { (k : VariableKind) → kind_at (content_of nodes.old table.old.entries) side.variable ≡ Some k → result ≡ Err EvalError.NoSolution → Refuses (variances_in declarations.now) (content_of nodes.old table.old.entries) (sides side.is_turned variance (variable_tree k side.variable) (tree_at nodes.old term) ∷ []) }
+    ensures no { (k : VariableKind) →
+        kind_at (content_of nodes.old table.old.entries) side.variable ≡ Some k →
+        result ≡ Err EvalError.NoSolution →
+        Refuses (variances_in declarations.now) (content_of nodes.old table.old.entries)
+        (sides side.is_turned variance (variable_tree k side.variable)
+        (tree_at nodes.old term) ∷ []) }
 {
     // The nodes of a store are formed.
     nodes.terms_are_formed();

@@ -74,13 +74,18 @@ fn join_variables(
     requires pair { IsPair nodes.old (content_of nodes.old table.old.entries) pair }
     requires left { IsOpen nodes.old table.old.entries (tree_at nodes.old pair.left) x }
     requires right { IsOpen nodes.old table.old.entries (tree_at nodes.old pair.right) y }
-    requires one { AreToBeOne (content_of nodes.old table.old.entries) pair.variance (tree_at nodes.old pair.left) (tree_at nodes.old pair.right) }
+    requires one { AreToBeOne (content_of nodes.old table.old.entries) pair.variance
+        (tree_at nodes.old pair.left) (tree_at nodes.old pair.right) }
     ensures extends { Extends nodes.old nodes.new }
     ensures changes { KeepsHidden table.old table.new }
-    ensures taken { (declared : ℕ → List Variance) → IfOk result (IsTaken declared nodes.old nodes.new table.old.entries table.new.entries pair) }
-    ensures paid { IfOk result (IsPaid (content_of nodes.old table.old.entries) (content_of nodes.new table.new.entries) (pair_at nodes.old pair)) }
+    ensures taken { (declared : ℕ → List Variance) →
+        IfOk result (IsTaken declared nodes.old nodes.new table.old.entries table.new.entries
+        pair) }
+    ensures paid { IfOk result (IsPaid (content_of nodes.old table.old.entries)
+        (content_of nodes.new table.new.entries) (pair_at nodes.old pair)) }
     ensures full { result ≢ Err EvalError.Full }
-    ensures no { (declared : ℕ → List Variance) → result ≡ Err EvalError.NoSolution → Refuses declared (content_of nodes.old table.old.entries) (pair_at nodes.old pair ∷ []) }
+    ensures no { (declared : ℕ → List Variance) → result ≡ Err EvalError.NoSolution →
+        Refuses declared (content_of nodes.old table.old.entries) (pair_at nodes.old pair ∷ []) }
 {
     match relate_variables(alloc, nodes, table, x, y) {
         Err(error) => Err(error),
@@ -113,10 +118,15 @@ fn bind_head(
     requires rigid { IsAlias (tree_at nodes.old term) → ⊥ }
     ensures extends { Extends nodes.old nodes.new }
     ensures changes { KeepsHidden table.old table.new }
-    ensures taken { IfOk result (IsTaken (variances_in declarations.now) nodes.old nodes.new table.old.entries table.new.entries (pair_in side.is_turned variance own term)) }
-    ensures paid { IfOk result (IsPaid (content_of nodes.old table.old.entries) (content_of nodes.new table.new.entries) (pair_at nodes.old (pair_in side.is_turned variance own term))) }
+    ensures taken { IfOk result (IsTaken (variances_in declarations.now) nodes.old nodes.new
+        table.old.entries table.new.entries (pair_in side.is_turned variance own term)) }
+    ensures paid { IfOk result (IsPaid (content_of nodes.old table.old.entries)
+        (content_of nodes.new table.new.entries) (pair_at nodes.old
+        (pair_in side.is_turned variance own term))) }
     ensures full { result ≢ Err EvalError.Full }
-    ensures no { result ≡ Err EvalError.NoSolution → Refuses (variances_in declarations.now) (content_of nodes.old table.old.entries) (pair_at nodes.old (pair_in side.is_turned variance own term) ∷ []) }
+    ensures no { result ≡ Err EvalError.NoSolution →
+        Refuses (variances_in declarations.now) (content_of nodes.old table.old.entries)
+        (pair_at nodes.old (pair_in side.is_turned variance own term) ∷ []) }
 {
     match bind_along(alloc, nodes, declarations, table, side, variance, term) {
         Err(error) => Err(error),
@@ -142,10 +152,14 @@ fn take_nodes(nodes: &Nodes, table: &mut InferCtxtInner, pair: Relating) -> Resu
     requires left_node { IsInfer (tree_at nodes.now pair.left) → ⊥ }
     requires right_node { IsInfer (tree_at nodes.now pair.right) → ⊥ }
     ensures changes { KeepsHidden table.old table.new }
-    ensures taken { (declared : ℕ → List Variance) → IfOk result (IsTaken declared nodes.now nodes.now table.old.entries table.new.entries pair) }
-    ensures paid { IfOk result (IsPaid (content_of nodes.now table.old.entries) (content_of nodes.now table.new.entries) (pair_at nodes.now pair)) }
+    ensures taken { (declared : ℕ → List Variance) →
+        IfOk result (IsTaken declared nodes.now nodes.now table.old.entries table.new.entries
+        pair) }
+    ensures paid { IfOk result (IsPaid (content_of nodes.now table.old.entries)
+        (content_of nodes.now table.new.entries) (pair_at nodes.now pair)) }
     ensures full { result ≢ Err EvalError.Full }
-    ensures no { (declared : ℕ → List Variance) → result ≡ Err EvalError.NoSolution → Refuses declared (content_of nodes.now table.old.entries) (pair_at nodes.now pair ∷ []) }
+    ensures no { (declared : ℕ → List Variance) → result ≡ Err EvalError.NoSolution →
+        Refuses declared (content_of nodes.now table.old.entries) (pair_at nodes.now pair ∷ []) }
 {
     // The nodes of a store are formed.
     nodes.terms_are_formed();
@@ -176,10 +190,14 @@ fn take_left(
     requires node { IsInfer (tree_at nodes.old pair.right) → ⊥ }
     ensures extends { Extends nodes.old nodes.new }
     ensures changes { KeepsHidden table.old table.new }
-    ensures taken { IfOk result (IsTaken (variances_in declarations.now) nodes.old nodes.new table.old.entries table.new.entries pair) }
-    ensures paid { IfOk result (IsPaid (content_of nodes.old table.old.entries) (content_of nodes.new table.new.entries) (pair_at nodes.old pair)) }
+    ensures taken { IfOk result (IsTaken (variances_in declarations.now) nodes.old nodes.new
+        table.old.entries table.new.entries pair) }
+    ensures paid { IfOk result (IsPaid (content_of nodes.old table.old.entries)
+        (content_of nodes.new table.new.entries) (pair_at nodes.old pair)) }
     ensures full { result ≢ Err EvalError.Full }
-    ensures no { result ≡ Err EvalError.NoSolution → Refuses (variances_in declarations.now) (content_of nodes.old table.old.entries) (pair_at nodes.old pair ∷ []) }
+    ensures no { result ≡ Err EvalError.NoSolution →
+        Refuses (variances_in declarations.now) (content_of nodes.old table.old.entries)
+        (pair_at nodes.old pair ∷ []) }
 {
     // The nodes of a store are formed.
     nodes.terms_are_formed();
@@ -222,10 +240,14 @@ fn take_right(
     requires node { IsInfer (tree_at nodes.old pair.left) → ⊥ }
     ensures extends { Extends nodes.old nodes.new }
     ensures changes { KeepsHidden table.old table.new }
-    ensures taken { IfOk result (IsTaken (variances_in declarations.now) nodes.old nodes.new table.old.entries table.new.entries pair) }
-    ensures paid { IfOk result (IsPaid (content_of nodes.old table.old.entries) (content_of nodes.new table.new.entries) (pair_at nodes.old pair)) }
+    ensures taken { IfOk result (IsTaken (variances_in declarations.now) nodes.old nodes.new
+        table.old.entries table.new.entries pair) }
+    ensures paid { IfOk result (IsPaid (content_of nodes.old table.old.entries)
+        (content_of nodes.new table.new.entries) (pair_at nodes.old pair)) }
     ensures full { result ≢ Err EvalError.Full }
-    ensures no { result ≡ Err EvalError.NoSolution → Refuses (variances_in declarations.now) (content_of nodes.old table.old.entries) (pair_at nodes.old pair ∷ []) }
+    ensures no { result ≡ Err EvalError.NoSolution →
+        Refuses (variances_in declarations.now) (content_of nodes.old table.old.entries)
+        (pair_at nodes.old pair ∷ []) }
 {
     // The nodes of a store are formed.
     nodes.terms_are_formed();
@@ -255,13 +277,18 @@ fn take_equal(
 ) -> Result<Taken, EvalError>
     requires lawful { IsLawful nodes.old table.old.entries }
     requires heads { AreHeads nodes.old table.old.entries heads }
-    requires one { AreToBeOne (content_of nodes.old table.old.entries) heads.pair.variance (tree_at nodes.old heads.pair.left) (tree_at nodes.old heads.pair.right) }
+    requires one { AreToBeOne (content_of nodes.old table.old.entries) heads.pair.variance
+        (tree_at nodes.old heads.pair.left) (tree_at nodes.old heads.pair.right) }
     ensures extends { Extends nodes.old nodes.new }
     ensures changes { KeepsHidden table.old table.new }
-    ensures taken { IfOk result (IsTaken (variances_in declarations.now) nodes.old nodes.new table.old.entries table.new.entries heads.pair) }
-    ensures paid { IfOk result (IsPaid (content_of nodes.old table.old.entries) (content_of nodes.new table.new.entries) (pair_at nodes.old heads.pair)) }
+    ensures taken { IfOk result (IsTaken (variances_in declarations.now) nodes.old nodes.new
+        table.old.entries table.new.entries heads.pair) }
+    ensures paid { IfOk result (IsPaid (content_of nodes.old table.old.entries)
+        (content_of nodes.new table.new.entries) (pair_at nodes.old heads.pair)) }
     ensures full { result ≢ Err EvalError.Full }
-    ensures no { result ≡ Err EvalError.NoSolution → Refuses (variances_in declarations.now) (content_of nodes.old table.old.entries) (pair_at nodes.old heads.pair ∷ []) }
+    ensures no { result ≡ Err EvalError.NoSolution →
+        Refuses (variances_in declarations.now) (content_of nodes.old table.old.entries)
+        (pair_at nodes.old heads.pair ∷ []) }
 {
     let Heads { pair, left, right } = heads;
     match left {
@@ -296,12 +323,17 @@ fn step(
     pair: Relating,
 ) -> Result<bool, EvalError>
     requires ready { ArePairsReady nodes.old table.old.entries (call.old.pairs.items ++ pair ∷ []) }
-    requires one { AreToBeOne (content_of nodes.old table.old.entries) pair.variance (tree_at nodes.old pair.left) (tree_at nodes.old pair.right) }
+    requires one { AreToBeOne (content_of nodes.old table.old.entries) pair.variance
+        (tree_at nodes.old pair.left) (tree_at nodes.old pair.right) }
     ensures extends { Extends nodes.old nodes.new }
     ensures changes { KeepsHidden table.old table.new }
-    ensures step { IfOk result (IsEqualStep (variances_in declarations.now) nodes.old nodes.new table.old.entries table.new.entries call.old.pairs.items pair call.new.pairs.items call.old.met.keys call.new.met.keys call.old.goals.items call.new.goals.items) }
+    ensures step { IfOk result (IsEqualStep (variances_in declarations.now) nodes.old nodes.new
+        table.old.entries table.new.entries call.old.pairs.items pair call.new.pairs.items
+        call.old.met.keys call.new.met.keys call.old.goals.items call.new.goals.items) }
     ensures full { result ≢ Err EvalError.Full }
-    ensures no { result ≡ Err EvalError.NoSolution → Refuses (variances_in declarations.now) (content_of nodes.old table.old.entries) (pair_at nodes.old pair ∷ []) }
+    ensures no { result ≡ Err EvalError.NoSolution →
+        Refuses (variances_in declarations.now) (content_of nodes.old table.old.entries)
+        (pair_at nodes.old pair ∷ []) }
 {
     let heads = at_heads(nodes, table, pair);
     let pair = heads.pair;
@@ -342,9 +374,13 @@ fn run(
     requires invariant { AreInvariant call.old.pairs.items }
     ensures extends { Extends nodes.old nodes.new }
     ensures changes { KeepsHidden table.old table.new }
-    ensures run { IfOk result (IsEqualRun (variances_in declarations.now) nodes.old nodes.new table.old.entries table.new.entries call.old.pairs.items call.new.pairs.items call.old.met.keys call.new.met.keys call.old.goals.items call.new.goals.items) }
+    ensures run { IfOk result (IsEqualRun (variances_in declarations.now) nodes.old nodes.new
+        table.old.entries table.new.entries call.old.pairs.items call.new.pairs.items
+        call.old.met.keys call.new.met.keys call.old.goals.items call.new.goals.items) }
     ensures full { result ≢ Err EvalError.Full }
-    ensures no { result ≡ Err EvalError.NoSolution → AreRefused (variances_in declarations.now) nodes.old table.old.entries call.old.pairs.items call.old.met.keys call.old.goals.items }
+    ensures no { result ≡ Err EvalError.NoSolution →
+        AreRefused (variances_in declarations.now) nodes.old table.old.entries call.old.pairs.items
+        call.old.met.keys call.old.goals.items }
 {
     while let Some(pair) = call.pairs.pop() {
         match step(alloc, nodes, declarations, table, call, pair) {
@@ -371,9 +407,13 @@ fn run_all(
     requires invariant { AreInvariant call.old.pairs.items }
     ensures extends { Extends nodes.old nodes.new }
     ensures changes { KeepsHidden table.old table.new }
-    ensures all { OnOk result (IsOn (variances_in declarations.now) nodes.old nodes.new table.old.entries table.new.entries call.old.pairs.items [] call.old.met.keys call.new.met.keys call.old.goals.items call.new.goals.items) }
+    ensures all { OnOk result (IsOn (variances_in declarations.now) nodes.old nodes.new
+        table.old.entries table.new.entries call.old.pairs.items [] call.old.met.keys
+        call.new.met.keys call.old.goals.items call.new.goals.items) }
     ensures full { result ≢ Err EvalError.Full }
-    ensures no { result ≡ Err EvalError.NoSolution → AreRefused (variances_in declarations.now) nodes.old table.old.entries call.old.pairs.items call.old.met.keys call.old.goals.items }
+    ensures no { result ≡ Err EvalError.NoSolution →
+        AreRefused (variances_in declarations.now) nodes.old table.old.entries call.old.pairs.items
+        call.old.met.keys call.old.goals.items }
 {
     loop {
         match run(alloc, nodes, declarations, table, call) {
@@ -400,9 +440,12 @@ pub fn relate_pair(
     ensures extends { Extends nodes.old nodes.new }
     ensures changes { KeepsHidden table.old table.new }
     ensures lawful { OnOk result (IsLawful nodes.new table.new.entries) }
-    ensures related { IfOk result (λ gs. GoalsRelate (variances_in declarations.now) nodes.old nodes.new table.old.entries table.new.entries root gs.items) }
+    ensures related { IfOk result (λ gs. GoalsRelate (variances_in declarations.now) nodes.old
+        nodes.new table.old.entries table.new.entries root gs.items) }
     ensures full { result ≢ Err EvalError.Full }
-    ensures no { result ≡ Err EvalError.NoSolution → Refuses (variances_in declarations.now) (content_of nodes.old table.old.entries) (pair_at nodes.old root ∷ []) }
+    ensures no { result ≡ Err EvalError.NoSolution →
+        Refuses (variances_in declarations.now) (content_of nodes.old table.old.entries)
+        (pair_at nodes.old root ∷ []) }
 {
     let Relating {
         variance,
@@ -464,10 +507,14 @@ pub fn relate_terms(
     ensures extends { Extends nodes.old nodes.new }
     ensures changes { KeepsHidden table.old table.new }
     ensures lawful { IsLawful nodes.new table.new.entries }
-    ensures related { IfOk result (λ gs. GoalsRelate (variances_in declarations.now) nodes.old nodes.new table.old.entries table.new.entries (record { variance = variance; left = left; right = right }) gs.items) }
+    ensures related { IfOk result (λ gs. GoalsRelate (variances_in declarations.now) nodes.old
+        nodes.new table.old.entries table.new.entries
+        (record { variance = variance; left = left; right = right }) gs.items) }
     ensures err { OnErr result (table.new ≡ table.old) }
     ensures full { result ≢ Err EvalError.Full }
-    ensures no { result ≡ Err EvalError.NoSolution → Refuses (variances_in declarations.now) (content_of nodes.old table.old.entries) (pair_at nodes.old (record { variance = variance; left = left; right = right }) ∷ []) }
+    ensures no { result ≡ Err EvalError.NoSolution →
+        Refuses (variances_in declarations.now) (content_of nodes.old table.old.entries)
+        (pair_at nodes.old (record { variance = variance; left = left; right = right }) ∷ []) }
 {
     let root = Relating {
         variance,

@@ -43,8 +43,11 @@ pub fn hides_nothing(
     requires lawful { IsLawful nodes.now table.now.entries }
     requires within { IsIn nodes.now t }
     requires plain { any_label is_alias (tree_at nodes.now t) ≡ false }
-    ensures exact { IfOk result (λ b. IsTrue b ↔ AllLabels (λ l. is_bare table.now.entries (infer_of l) ≡ true) (tree_at nodes.now t)) }
-    ensures plain { IfOk result (λ b. b ≡ true → any_label is_alias (resolved (content_of nodes.now table.now.entries) (tree_at nodes.now t)) ≡ false) }
+    ensures exact { IfOk result (λ b. IsTrue b ↔ AllLabels (λ l. is_bare table.now.entries
+        (infer_of l) ≡ true) (tree_at nodes.now t)) }
+    ensures plain { IfOk result (λ b. b ≡ true →
+        any_label is_alias (resolved (content_of nodes.now table.now.entries)
+        (tree_at nodes.now t)) ≡ false) }
 {
     all_labels(alloc, nodes, t, &Bare { table })
 }

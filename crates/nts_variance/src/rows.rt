@@ -29,9 +29,13 @@ fn relate_arguments(
     ensures extends { Extends nodes.old nodes.new }
     ensures changes { KeepsHidden table.old table.new }
     ensures lawful { OnOk result (IsLawful nodes.new table.new.entries) }
-    ensures related { IfOk result (λ gs. RowsRelate (variances_in declarations.now) nodes.old nodes.new table.old.entries table.new.entries (tree_at nodes.old left) (tree_at nodes.old right) gs.items) }
+    ensures related { IfOk result (λ gs. RowsRelate (variances_in declarations.now) nodes.old
+        nodes.new table.old.entries table.new.entries (tree_at nodes.old left)
+        (tree_at nodes.old right) gs.items) }
     ensures full { result ≢ Err EvalError.Full }
-    ensures no { result ≡ Err EvalError.NoSolution → RefusesRows (variances_in declarations.now) (content_of nodes.old table.old.entries) (tree_at nodes.old left) (tree_at nodes.old right) }
+    ensures no { result ≡ Err EvalError.NoSolution →
+        RefusesRows (variances_in declarations.now) (content_of nodes.old table.old.entries)
+        (tree_at nodes.old left) (tree_at nodes.old right) }
 {
     let count = nodes.child_count(left);
     if nodes.child_count(right) != count {
@@ -75,10 +79,14 @@ pub fn relate_rows(
     ensures extends { Extends nodes.old nodes.new }
     ensures changes { KeepsHidden table.old table.new }
     ensures lawful { IsLawful nodes.new table.new.entries }
-    ensures related { IfOk result (λ gs. RowsRelate (variances_in declarations.now) nodes.old nodes.new table.old.entries table.new.entries (tree_at nodes.old left) (tree_at nodes.old right) gs.items) }
+    ensures related { IfOk result (λ gs. RowsRelate (variances_in declarations.now) nodes.old
+        nodes.new table.old.entries table.new.entries (tree_at nodes.old left)
+        (tree_at nodes.old right) gs.items) }
     ensures err { OnErr result (table.new ≡ table.old) }
     ensures full { result ≢ Err EvalError.Full }
-    ensures no { result ≡ Err EvalError.NoSolution → RefusesRows (variances_in declarations.now) (content_of nodes.old table.old.entries) (tree_at nodes.old left) (tree_at nodes.old right) }
+    ensures no { result ≡ Err EvalError.NoSolution →
+        RefusesRows (variances_in declarations.now) (content_of nodes.old table.old.entries)
+        (tree_at nodes.old left) (tree_at nodes.old right) }
 {
     let snapshot = table.start_snapshot()?;
     let related = relate_arguments(alloc, nodes, declarations, table, left, right);

@@ -62,10 +62,13 @@ pub fn owe(nodes: &Nodes, pair: Relating) -> Result<Taken, EvalError>
     requires left_sort { (s : Sort) × (kind_of (tree_at nodes.now pair.left) ≡ Some (of_sort s)) }
     requires right_sort { (s : Sort) × (kind_of (tree_at nodes.now pair.right) ≡ Some (of_sort s)) }
     ensures owed { IfOk result (λ r. r ≡ Taken.Owed) }
-    ensures closed { OnOk result (IsClosed (tree_at nodes.now pair.left) × IsClosed (tree_at nodes.now pair.right)) }
-    ensures kinds { OnOk result (kind_of (tree_at nodes.now pair.left) ≡ kind_of (tree_at nodes.now pair.right)) }
+    ensures closed { OnOk result (IsClosed (tree_at nodes.now pair.left) ×
+        IsClosed (tree_at nodes.now pair.right)) }
+    ensures kinds { OnOk result (kind_of (tree_at nodes.now pair.left) ≡ kind_of
+        (tree_at nodes.now pair.right)) }
     ensures full { result ≢ Err EvalError.Full }
-    ensures no { result ≡ Err EvalError.NoSolution → AreNoSides (tree_at nodes.now pair.left) (tree_at nodes.now pair.right) }
+    ensures no { result ≡ Err EvalError.NoSolution →
+        AreNoSides (tree_at nodes.now pair.left) (tree_at nodes.now pair.right) }
 {
     if nodes.flags(pair.left).escaping.is_some() {
         return Err(EvalError::NoSolution);
@@ -102,7 +105,8 @@ fn is_plain(nodes: &Nodes, pair: Relating) -> bool
     requires right { IsIn nodes.now pair.right }
     ensures left { result ≡ true → any_label is_alias (tree_at nodes.now pair.left) ≡ false }
     ensures right { result ≡ true → any_label is_alias (tree_at nodes.now pair.right) ≡ false }
-    ensures values { result ≡ true → (any_label is_infer (tree_at nodes.now pair.left) ≡ false) ⊎ (any_label is_infer (tree_at nodes.now pair.right) ≡ false) }
+    ensures values { result ≡ true → (any_label is_infer (tree_at nodes.now pair.left) ≡ false) ⊎
+        (any_label is_infer (tree_at nodes.now pair.right) ≡ false) }
 {
     let left = nodes.flags(pair.left);
     let right = nodes.flags(pair.right);
@@ -130,9 +134,12 @@ fn equate(
     requires invariant { pair.variance ≡ variances.Invariant }
     ensures extends { Extends nodes.old nodes.new }
     ensures changes { KeepsHidden table.old table.new }
-    ensures taken { (declared : ℕ → List Variance) → IfOk result (IsTaken declared nodes.old nodes.new table.old.entries table.new.entries pair) }
+    ensures taken { (declared : ℕ → List Variance) →
+        IfOk result (IsTaken declared nodes.old nodes.new table.old.entries table.new.entries
+        pair) }
     ensures full { result ≢ Err EvalError.Full }
-    ensures no { (declared : ℕ → List Variance) → result ≡ Err EvalError.NoSolution → Refuses declared (content_of nodes.old table.old.entries) (pair_at nodes.old pair ∷ []) }
+    ensures no { (declared : ℕ → List Variance) → result ≡ Err EvalError.NoSolution →
+        Refuses declared (content_of nodes.old table.old.entries) (pair_at nodes.old pair ∷ []) }
 {
     // The nodes of a store are formed.
     nodes.terms_are_formed();
@@ -152,7 +159,8 @@ fn take_variables(nodes: &Nodes, table: &InferCtxtInner, pair: Relating) -> Take
     requires left { IsInfer (tree_at nodes.now pair.left) }
     requires right { IsInfer (tree_at nodes.now pair.right) }
     requires varies { pair.variance ≢ variances.Invariant }
-    ensures { (declared : ℕ → List Variance) → IsTaken declared nodes.now nodes.now table.now.entries table.now.entries pair result }
+    ensures { (declared : ℕ → List Variance) →
+        IsTaken declared nodes.now nodes.now table.now.entries table.now.entries pair result }
 {
     // The nodes of a store are formed.
     nodes.terms_are_formed();
@@ -191,9 +199,12 @@ fn take_variable(
     requires varies { pair.variance ≢ variances.Invariant }
     ensures extends { Extends nodes.old nodes.new }
     ensures changes { KeepsHidden table.old table.new }
-    ensures taken { IfOk result (IsTaken (variances_in declarations.now) nodes.old nodes.new table.old.entries table.new.entries pair) }
+    ensures taken { IfOk result (IsTaken (variances_in declarations.now) nodes.old nodes.new
+        table.old.entries table.new.entries pair) }
     ensures full { result ≢ Err EvalError.Full }
-    ensures no { result ≡ Err EvalError.NoSolution → Refuses (variances_in declarations.now) (content_of nodes.old table.old.entries) (pair_at nodes.old pair ∷ []) }
+    ensures no { result ≡ Err EvalError.NoSolution →
+        Refuses (variances_in declarations.now) (content_of nodes.old table.old.entries)
+        (pair_at nodes.old pair ∷ []) }
 {
     // The nodes of a store are formed.
     nodes.terms_are_formed();
@@ -225,8 +236,11 @@ fn take_regions(
     requires left { IsRegionOf nodes.now table.old.entries pair.left }
     requires right { IsRegionOf nodes.now table.old.entries pair.right }
     ensures changes { KeepsHidden table.old table.new }
-    ensures taken { (declared : ℕ → List Variance) → IfOk result (IsTaken declared nodes.now nodes.now table.old.entries table.new.entries pair) }
-    ensures kept { OnOk result (KeepsKnowing (content_of nodes.now table.old.entries) (content_of nodes.now table.new.entries)) }
+    ensures taken { (declared : ℕ → List Variance) →
+        IfOk result (IsTaken declared nodes.now nodes.now table.old.entries table.new.entries
+        pair) }
+    ensures kept { OnOk result (KeepsKnowing (content_of nodes.now table.old.entries)
+        (content_of nodes.now table.new.entries)) }
     ensures done { IfOk result (λ r. r ≡ Taken.Done) }
     ensures full { result ≢ Err EvalError.Full }
     ensures no { result ≢ Err EvalError.NoSolution }
@@ -246,11 +260,15 @@ fn take_regions(
 fn binds_same(nodes: &Nodes, label: Label, pair: Relating) -> bool
     requires left { IsIn nodes.now pair.left }
     requires right { IsIn nodes.now pair.right }
-    requires left_is { tree_at nodes.now pair.left ≡ node label (children (tree_at nodes.now pair.left)) }
-    requires right_is { tree_at nodes.now pair.right ≡ node label (children (tree_at nodes.now pair.right)) }
+    requires left_is { tree_at nodes.now pair.left ≡ node label
+        (children (tree_at nodes.now pair.left)) }
+    requires right_is { tree_at nodes.now pair.right ≡ node label
+        (children (tree_at nodes.now pair.right)) }
     requires parts { label_has_parts label ≡ true }
-    ensures yes { result ≡ true → form_of_tree (tree_at nodes.now pair.left) ≡ form_of_tree (tree_at nodes.now pair.right) }
-    ensures no { result ≡ false → form_of_tree (tree_at nodes.now pair.left) ≡ form_of_tree (tree_at nodes.now pair.right) → ⊥ }
+    ensures yes { result ≡ true → form_of_tree (tree_at nodes.now pair.left) ≡ form_of_tree
+        (tree_at nodes.now pair.right) }
+    ensures no { result ≡ false → form_of_tree (tree_at nodes.now pair.left) ≡ form_of_tree
+        (tree_at nodes.now pair.right) → ⊥ }
 {
     // The nodes of a store are formed.
     nodes.terms_are_formed();
@@ -270,13 +288,18 @@ fn take_parts(
     requires pair { IsPair nodes.now (content_of nodes.now table.now.entries) pair }
     requires left { IsMadeAgain (tree_at nodes.now pair.left) }
     requires right { IsMadeAgain (tree_at nodes.now pair.right) }
-    requires left_is { tree_at nodes.now pair.left ≡ node label (children (tree_at nodes.now pair.left)) }
-    requires right_is { tree_at nodes.now pair.right ≡ node label (children (tree_at nodes.now pair.right)) }
+    requires left_is { tree_at nodes.now pair.left ≡ node label
+        (children (tree_at nodes.now pair.left)) }
+    requires right_is { tree_at nodes.now pair.right ≡ node label
+        (children (tree_at nodes.now pair.right)) }
     requires parts { label_has_parts label ≡ true }
-    ensures taken { (declared : ℕ → List Variance) → IfOk result (IsTaken declared nodes.now nodes.now table.now.entries table.now.entries pair) }
+    ensures taken { (declared : ℕ → List Variance) →
+        IfOk result (IsTaken declared nodes.now nodes.now table.now.entries table.now.entries
+        pair) }
     ensures parts { IfOk result (λ r. r ≡ Taken.Parts) }
     ensures full { result ≢ Err EvalError.Full }
-    ensures no { (declared : ℕ → List Variance) → result ≡ Err EvalError.NoSolution → Refuses declared (content_of nodes.now table.now.entries) (pair_at nodes.now pair ∷ []) }
+    ensures no { (declared : ℕ → List Variance) → result ≡ Err EvalError.NoSolution →
+        Refuses declared (content_of nodes.now table.now.entries) (pair_at nodes.now pair ∷ []) }
 {
     if !binds_same(nodes, label, pair) {
         return Err(EvalError::NoSolution);
@@ -302,10 +325,14 @@ pub fn take_heads(
     requires left_rigid { IsAlias (tree_at nodes.now pair.left) → ⊥ }
     requires right_rigid { IsAlias (tree_at nodes.now pair.right) → ⊥ }
     ensures changes { KeepsHidden table.old table.new }
-    ensures taken { (declared : ℕ → List Variance) → IfOk result (IsTaken declared nodes.now nodes.now table.old.entries table.new.entries pair) }
-    ensures paid { IfOk result (IsPaid (content_of nodes.now table.old.entries) (content_of nodes.now table.new.entries) (pair_at nodes.now pair)) }
+    ensures taken { (declared : ℕ → List Variance) →
+        IfOk result (IsTaken declared nodes.now nodes.now table.old.entries table.new.entries
+        pair) }
+    ensures paid { IfOk result (IsPaid (content_of nodes.now table.old.entries)
+        (content_of nodes.now table.new.entries) (pair_at nodes.now pair)) }
     ensures full { result ≢ Err EvalError.Full }
-    ensures no { (declared : ℕ → List Variance) → result ≡ Err EvalError.NoSolution → Refuses declared (content_of nodes.now table.old.entries) (pair_at nodes.now pair ∷ []) }
+    ensures no { (declared : ℕ → List Variance) → result ≡ Err EvalError.NoSolution →
+        Refuses declared (content_of nodes.now table.old.entries) (pair_at nodes.now pair ∷ []) }
 {
     // The nodes of a store are formed.
     nodes.terms_are_formed();
@@ -335,9 +362,12 @@ fn take(
     requires pair { IsPair nodes.old (content_of nodes.old table.old.entries) pair }
     ensures extends { Extends nodes.old nodes.new }
     ensures changes { KeepsHidden table.old table.new }
-    ensures taken { IfOk result (IsTaken (variances_in declarations.now) nodes.old nodes.new table.old.entries table.new.entries pair) }
+    ensures taken { IfOk result (IsTaken (variances_in declarations.now) nodes.old nodes.new
+        table.old.entries table.new.entries pair) }
     ensures full { result ≢ Err EvalError.Full }
-    ensures no { result ≡ Err EvalError.NoSolution → Refuses (variances_in declarations.now) (content_of nodes.old table.old.entries) (pair_at nodes.old pair ∷ []) }
+    ensures no { result ≡ Err EvalError.NoSolution →
+        Refuses (variances_in declarations.now) (content_of nodes.old table.old.entries)
+        (pair_at nodes.old pair ∷ []) }
 {
     if nodes.same(pair.left, pair.right) && !nodes.flags(pair.left).has_alias {
         return Ok(Taken::Done);
@@ -361,9 +391,12 @@ fn take_varying(
     requires varies { pair.variance ≢ variances.Invariant }
     ensures extends { Extends nodes.old nodes.new }
     ensures changes { KeepsHidden table.old table.new }
-    ensures taken { IfOk result (IsTaken (variances_in declarations.now) nodes.old nodes.new table.old.entries table.new.entries pair) }
+    ensures taken { IfOk result (IsTaken (variances_in declarations.now) nodes.old nodes.new
+        table.old.entries table.new.entries pair) }
     ensures full { result ≢ Err EvalError.Full }
-    ensures no { result ≡ Err EvalError.NoSolution → Refuses (variances_in declarations.now) (content_of nodes.old table.old.entries) (pair_at nodes.old pair ∷ []) }
+    ensures no { result ≡ Err EvalError.NoSolution →
+        Refuses (variances_in declarations.now) (content_of nodes.old table.old.entries)
+        (pair_at nodes.old pair ∷ []) }
 {
     // The nodes of a store are formed.
     nodes.terms_are_formed();
@@ -433,7 +466,8 @@ pub fn push_pairs(
     requires left { IsIn nodes.now pair.left }
     requires right { IsIn nodes.now pair.right }
     requires form { AreOfOneForm (tree_at nodes.now pair.left) (tree_at nodes.now pair.right) }
-    ensures pushed { OnOk result (ArePartsPaired (variances_in declarations.now) nodes.now pair pairs.old.items pairs.new.items) }
+    ensures pushed { OnOk result (ArePartsPaired (variances_in declarations.now) nodes.now pair
+        pairs.old.items pairs.new.items) }
     ensures full { result ≢ Err EvalError.Full }
     ensures no { result ≢ Err EvalError.NoSolution }
 {
@@ -475,13 +509,23 @@ fn step(
     pair: Relating,
 ) -> Result<(), EvalError>
     requires lawful { IsLawful nodes.old table.old.entries }
-    requires pairs { ArePairsLeft nodes.old (content_of nodes.old table.old.entries) (call.old.pairs.items ++ pair ∷ []) }
+    requires pairs { ArePairsLeft nodes.old (content_of nodes.old table.old.entries)
+        (call.old.pairs.items ++ pair ∷ []) }
     ensures extends { Extends nodes.old nodes.new }
     ensures changes { KeepsHidden table.old table.new }
-    ensures call { (ts : List Tree) (e : Entries) (p : Relating) → IsCall (variances_in declarations.now) ts nodes.old e table.old.entries p (call.old.pairs.items ++ pair ∷ []) call.old.met.keys call.old.equal.items call.old.goals.items → OnOk result (IsCall (variances_in declarations.now) ts nodes.new e table.new.entries p call.new.pairs.items call.new.met.keys call.new.equal.items call.new.goals.items) }
-    ensures less { OnOk result (left_sizes (stacked (pair_at nodes.new) call.new.pairs.items) < left_sizes (stacked (pair_at nodes.old) (call.old.pairs.items ++ pair ∷ []))) }
+    ensures call { (ts : List Tree) (e : Entries) (p : Relating) →
+        IsCall (variances_in declarations.now) ts nodes.old e table.old.entries p
+        (call.old.pairs.items ++ pair ∷ []) call.old.met.keys call.old.equal.items
+        call.old.goals.items →
+        OnOk result (IsCall (variances_in declarations.now) ts nodes.new e table.new.entries p
+        call.new.pairs.items call.new.met.keys call.new.equal.items call.new.goals.items) }
+    ensures less { OnOk result (left_sizes
+        (stacked (pair_at nodes.new) call.new.pairs.items) < left_sizes (stacked (pair_at nodes.old)
+        (call.old.pairs.items ++ pair ∷ []))) }
     ensures full { result ≢ Err EvalError.Full }
-    ensures no { result ≡ Err EvalError.NoSolution → Refuses (variances_in declarations.now) (content_of nodes.old table.old.entries) (pair_at nodes.old pair ∷ []) }
+    ensures no { result ≡ Err EvalError.NoSolution →
+        Refuses (variances_in declarations.now) (content_of nodes.old table.old.entries)
+        (pair_at nodes.old pair ∷ []) }
 {
     match take(alloc, nodes, declarations, table, pair) {
         Err(error) => Err(error),
@@ -526,9 +570,12 @@ fn run(
     ensures extends { Extends nodes.old nodes.new }
     ensures changes { KeepsHidden table.old table.new }
     ensures lawful { OnOk result (IsLawful nodes.new table.new.entries) }
-    ensures left { IfOk result (λ r. IsLeft (variances_in declarations.now) nodes.old nodes.new table.old.entries table.new.entries root r.equal.items r.goals.items) }
+    ensures left { IfOk result (λ r. IsLeft (variances_in declarations.now) nodes.old nodes.new
+        table.old.entries table.new.entries root r.equal.items r.goals.items) }
     ensures full { result ≢ Err EvalError.Full }
-    ensures no { result ≡ Err EvalError.NoSolution → Refuses (variances_in declarations.now) (content_of nodes.old table.old.entries) (pair_at nodes.old root ∷ []) }
+    ensures no { result ≡ Err EvalError.NoSolution →
+        Refuses (variances_in declarations.now) (content_of nodes.old table.old.entries)
+        (pair_at nodes.old root ∷ []) }
 {
     let mut call = Call {
         pairs: Vec::new(alloc),
@@ -570,10 +617,14 @@ pub fn relate_along(
     ensures extends { Extends nodes.old nodes.new }
     ensures changes { KeepsHidden table.old table.new }
     ensures lawful { IsLawful nodes.new table.new.entries }
-    ensures left { IfOk result (λ r. IsLeft (variances_in declarations.now) nodes.old nodes.new table.old.entries table.new.entries (record { variance = variance; left = left; right = right }) r.equal.items r.goals.items) }
+    ensures left { IfOk result (λ r. IsLeft (variances_in declarations.now) nodes.old nodes.new
+        table.old.entries table.new.entries
+        (record { variance = variance; left = left; right = right }) r.equal.items r.goals.items) }
     ensures err { OnErr result (table.new ≡ table.old) }
     ensures full { result ≢ Err EvalError.Full }
-    ensures no { result ≡ Err EvalError.NoSolution → Refuses (variances_in declarations.now) (content_of nodes.old table.old.entries) (pair_at nodes.old (record { variance = variance; left = left; right = right }) ∷ []) }
+    ensures no { result ≡ Err EvalError.NoSolution →
+        Refuses (variances_in declarations.now) (content_of nodes.old table.old.entries)
+        (pair_at nodes.old (record { variance = variance; left = left; right = right }) ∷ []) }
 {
     let root = Relating {
         variance,

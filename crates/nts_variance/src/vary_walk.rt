@@ -134,10 +134,14 @@ fn make_fresh(
     ensures extends { Extends nodes.old nodes.new }
     ensures changes { KeepsHidden table.old table.new }
     ensures within { IfOk result (λ r. IsIn nodes.new r) }
-    ensures tree { IfOk result (λ r. tree_at nodes.new r ≡ variable_tree kind (length table.old.entries.variables)) }
-    ensures entries { OnOk result (table.new.entries ≡ added table.old.entries (fresh kind target.universe sub_link)) }
-    ensures lawful { IsLawful nodes.old table.old.entries → OnOk result (IsLawful nodes.new table.new.entries) }
-    ensures goals { IfOk result (λ r. goals.new.items ≡ goals.old.items ++ owed_pairs target.is_turned spot r) }
+    ensures tree { IfOk result (λ r. tree_at nodes.new r ≡ variable_tree kind
+        (length table.old.entries.variables)) }
+    ensures entries { OnOk result (table.new.entries ≡ added table.old.entries
+        (fresh kind target.universe sub_link)) }
+    ensures lawful { IsLawful nodes.old table.old.entries →
+        OnOk result (IsLawful nodes.new table.new.entries) }
+    ensures goals { IfOk result (λ r. goals.new.items ≡ goals.old.items ++ owed_pairs
+        target.is_turned spot r) }
     ensures full { result ≢ Err EvalError.Full }
     ensures no { result ≢ Err EvalError.NoSolution }
 {
@@ -161,8 +165,10 @@ fn make_region(
     ensures extends { Extends nodes.old nodes.new }
     ensures changes { KeepsHidden table.old table.new }
     ensures within { IfOk result (λ r. IsIn nodes.new r) }
-    ensures tree { IfOk result (λ r. tree_at nodes.new r ≡ variable_tree kinds.Region (length table.old.entries.variables)) }
-    ensures entries { IfOk result (λ r. table.new.entries ≡ with_owed target.is_turned spot r (added table.old.entries (fresh kinds.Region target.universe None))) }
+    ensures tree { IfOk result (λ r. tree_at nodes.new r ≡ variable_tree kinds.Region
+        (length table.old.entries.variables)) }
+    ensures entries { IfOk result (λ r. table.new.entries ≡ with_owed target.is_turned spot r
+        (added table.old.entries (fresh kinds.Region target.universe None))) }
     ensures lawful { OnOk result (IsLawful nodes.new table.new.entries) }
     ensures full { result ≢ Err EvalError.Full }
     ensures no { result ≢ Err EvalError.NoSolution }
@@ -178,7 +184,8 @@ fn make_region(
 
 /// Records what a pair of free regions says.
 pub fn record_regions(table: &mut InferCtxtInner, pair: Relating) -> Result<(), EvalError>
-    ensures entries { OnOk result (table.new.entries ≡ constrained table.old.entries (constraint_of_pair pair)) }
+    ensures entries { OnOk result (table.new.entries ≡ constrained table.old.entries
+        (constraint_of_pair pair)) }
     ensures changes { KeepsHidden table.old table.new }
     ensures err { OnErr result (table.new ≡ table.old) }
     ensures full { result ≢ Err EvalError.Full }
@@ -212,14 +219,20 @@ fn look_at_variable(
     requires formed { IsFormed (tree_at nodes.old spot.term) }
     requires known { target.variable < length table.old.entries.variables }
     requires named { target.universe ≤ table.old.entries.universe }
-    requires no_region { kind_at (content_of nodes.old table.old.entries) target.variable ≢ Some kinds.Region }
-    requires is { label_of (tree_at nodes.old spot.term) ≡ Some (labels.Leaf (leaves.Variable kinds.Ty n)) }
+    requires no_region { kind_at (content_of nodes.old table.old.entries) target.variable ≢ Some
+        kinds.Region }
+    requires is { label_of (tree_at nodes.old spot.term) ≡ Some (labels.Leaf
+        (leaves.Variable kinds.Ty n)) }
     requires varies { spot.variance ≢ variances.Invariant }
     ensures extends { Extends nodes.old nodes.new }
     ensures changes { KeepsHidden table.old table.new }
-    ensures look { (declared : ℕ → List Variance) → IfOk result (IsLook declared target.is_turned target.universe target.variable nodes.old nodes.new table.old.entries table.new.entries spot goals.old.items goals.new.items) }
+    ensures look { (declared : ℕ → List Variance) →
+        IfOk result (IsLook declared target.is_turned target.universe target.variable nodes.old
+        nodes.new table.old.entries table.new.entries spot goals.old.items goals.new.items) }
     ensures full { result ≢ Err EvalError.Full }
-    ensures no { result ≡ Err EvalError.NoSolution → LookRefuses (content_of nodes.old table.old.entries) target.variable target.universe spot (tree_at nodes.old spot.term) }
+    ensures no { result ≡ Err EvalError.NoSolution →
+        LookRefuses (content_of nodes.old table.old.entries) target.variable target.universe spot
+        (tree_at nodes.old spot.term) }
 {
     match table.probe_variable(n) {
         Ok(value) => Ok(Look::Value(value)),
@@ -260,7 +273,9 @@ fn is_const_variable(label: Label) -> bool
 
 /// Whether a part without aliases stands as it is: it is related invariantly, a const variable, or nothing in it may vary.
 fn stands_alone(variance: Variance, label: Label, flags: TypeFlags) -> bool
-    ensures alone { result ≡ true → ((variance ≡ variances.Invariant) ⊎ (const_variable label ≡ true)) ⊎ ((flags.has_infer ≡ false) × (flags.has_free_region ≡ false)) }
+    ensures alone { result ≡ true → ((variance ≡ variances.Invariant) ⊎
+        (const_variable label ≡ true)) ⊎ ((flags.has_infer ≡ false) ×
+        (flags.has_free_region ≡ false)) }
     ensures varies { result ≡ false → variance ≢ variances.Invariant }
     ensures no_const { result ≡ false → const_variable label ≡ false }
 {
@@ -283,15 +298,22 @@ fn look_at_value(
     requires formed { IsFormed (tree_at nodes.old spot.term) }
     requires known { target.variable < length table.old.entries.variables }
     requires named { target.universe ≤ table.old.entries.universe }
-    requires no_region { kind_at (content_of nodes.old table.old.entries) target.variable ≢ Some kinds.Region }
+    requires no_region { kind_at (content_of nodes.old table.old.entries) target.variable ≢ Some
+        kinds.Region }
     requires alone { StandsAlone spot.variance (tree_at nodes.old spot.term) }
     requires plain { any_label is_alias (tree_at nodes.old spot.term) ≡ false }
-    requires resolved { spot.is_quiet ≡ false → any_label is_alias (resolved (content_of nodes.old table.old.entries) (tree_at nodes.old spot.term)) ≡ false }
+    requires resolved { spot.is_quiet ≡ false →
+        any_label is_alias (resolved (content_of nodes.old table.old.entries)
+        (tree_at nodes.old spot.term)) ≡ false }
     ensures extends { Extends nodes.old nodes.new }
     ensures changes { KeepsHidden table.old table.new }
-    ensures look { (declared : ℕ → List Variance) (gs : List Relating) → IfOk result (IsLook declared target.is_turned target.universe target.variable nodes.old nodes.new table.old.entries table.new.entries spot gs gs) }
+    ensures look { (declared : ℕ → List Variance) (gs : List Relating) →
+        IfOk result (IsLook declared target.is_turned target.universe target.variable nodes.old
+        nodes.new table.old.entries table.new.entries spot gs gs) }
     ensures full { result ≢ Err EvalError.Full }
-    ensures no { result ≡ Err EvalError.NoSolution → LookRefuses (content_of nodes.old table.old.entries) target.variable target.universe spot (tree_at nodes.old spot.term) }
+    ensures no { result ≡ Err EvalError.NoSolution →
+        LookRefuses (content_of nodes.old table.old.entries) target.variable target.universe spot
+        (tree_at nodes.old spot.term) }
 {
     let value_target = ValueTarget {
         variable: target.variable,
@@ -315,7 +337,9 @@ fn is_seen_plain(
     requires lawful { IsLawful nodes.now table.now.entries }
     requires within { IsIn nodes.now spot.term }
     requires plain { any_label is_alias (tree_at nodes.now spot.term) ≡ false }
-    ensures { IfOk result (λ b. b ≡ true → any_label is_alias (resolved (content_of nodes.now table.now.entries) (tree_at nodes.now spot.term)) ≡ false) }
+    ensures { IfOk result (λ b. b ≡ true →
+        any_label is_alias (resolved (content_of nodes.now table.now.entries)
+        (tree_at nodes.now spot.term)) ≡ false) }
 {
     if spot.is_searched {
         return Ok(false);
@@ -339,16 +363,22 @@ fn look_at_piece(
     requires formed { IsFormed (tree_at nodes.old spot.term) }
     requires known { target.variable < length table.old.entries.variables }
     requires named { target.universe ≤ table.old.entries.universe }
-    requires no_region { kind_at (content_of nodes.old table.old.entries) target.variable ≢ Some kinds.Region }
+    requires no_region { kind_at (content_of nodes.old table.old.entries) target.variable ≢ Some
+        kinds.Region }
     requires alone { StandsAlone spot.variance (tree_at nodes.old spot.term) }
     requires plain { any_label is_alias (tree_at nodes.old spot.term) ≡ false }
-    requires label { tree_at nodes.old spot.term ≡ node label (children (tree_at nodes.old spot.term)) }
+    requires label { tree_at nodes.old spot.term ≡ node label
+        (children (tree_at nodes.old spot.term)) }
     requires flags { flags ≡ flags_of (tree_at nodes.old spot.term) }
     ensures extends { Extends nodes.old nodes.new }
     ensures changes { KeepsHidden table.old table.new }
-    ensures look { (declared : ℕ → List Variance) (gs : List Relating) → IfOk result (IsLook declared target.is_turned target.universe target.variable nodes.old nodes.new table.old.entries table.new.entries spot gs gs) }
+    ensures look { (declared : ℕ → List Variance) (gs : List Relating) →
+        IfOk result (IsLook declared target.is_turned target.universe target.variable nodes.old
+        nodes.new table.old.entries table.new.entries spot gs gs) }
     ensures full { result ≢ Err EvalError.Full }
-    ensures no { result ≡ Err EvalError.NoSolution → LookRefuses (content_of nodes.old table.old.entries) target.variable target.universe spot (tree_at nodes.old spot.term) }
+    ensures no { result ≡ Err EvalError.NoSolution →
+        LookRefuses (content_of nodes.old table.old.entries) target.variable target.universe spot
+        (tree_at nodes.old spot.term) }
 {
     if spot.is_quiet || !flags.has_infer {
         return look_at_value(alloc, nodes, table, target, spot);
@@ -379,12 +409,17 @@ fn look_at(
     requires part { IsPart nodes.old (content_of nodes.old table.old.entries) spot }
     requires known { target.variable < length table.old.entries.variables }
     requires named { target.universe ≤ table.old.entries.universe }
-    requires no_region { kind_at (content_of nodes.old table.old.entries) target.variable ≢ Some kinds.Region }
+    requires no_region { kind_at (content_of nodes.old table.old.entries) target.variable ≢ Some
+        kinds.Region }
     ensures extends { Extends nodes.old nodes.new }
     ensures changes { KeepsHidden table.old table.new }
-    ensures look { (declared : ℕ → List Variance) → IfOk result (IsLook declared target.is_turned target.universe target.variable nodes.old nodes.new table.old.entries table.new.entries spot goals.old.items goals.new.items) }
+    ensures look { (declared : ℕ → List Variance) →
+        IfOk result (IsLook declared target.is_turned target.universe target.variable nodes.old
+        nodes.new table.old.entries table.new.entries spot goals.old.items goals.new.items) }
     ensures full { result ≢ Err EvalError.Full }
-    ensures no { result ≡ Err EvalError.NoSolution → LookRefuses (content_of nodes.old table.old.entries) target.variable target.universe spot (tree_at nodes.old spot.term) }
+    ensures no { result ≡ Err EvalError.NoSolution →
+        LookRefuses (content_of nodes.old table.old.entries) target.variable target.universe spot
+        (tree_at nodes.old spot.term) }
 {
     // The nodes of a store are formed.
     nodes.terms_are_formed();
@@ -425,7 +460,8 @@ fn push_parts(
     requires again { IsMadeAgain (tree_at nodes.now spot.term) }
     requires closed { IsClosedUnder spot.binders (tree_at nodes.now spot.term) }
     requires room { spot.binders + spot.term.number < 2 ^ 64 }
-    ensures pushed { OnOk result (ArePartsPushed (variances_in declarations.now) nodes.now spot tasks.old.items tasks.new.items) }
+    ensures pushed { OnOk result (ArePartsPushed (variances_in declarations.now) nodes.now spot
+        tasks.old.items tasks.new.items) }
     ensures full { result ≢ Err EvalError.Full }
     ensures no { result ≢ Err EvalError.NoSolution }
 {
@@ -459,12 +495,21 @@ fn enter(
     target: Target,
     spot: Spot,
 ) -> Result<(), EvalError>
-    requires walk { IsWalk nodes.old table.old.entries target.universe target.variable (walk.old.tasks.items ++ tasks.Enter spot ∷ []) walk.old.made.items walk.old.goals.items }
+    requires walk { IsWalk nodes.old table.old.entries target.universe target.variable
+        (walk.old.tasks.items ++ tasks.Enter spot ∷ []) walk.old.made.items walk.old.goals.items }
     ensures extends { Extends nodes.old nodes.new }
     ensures changes { KeepsHidden table.old table.new }
-    ensures turn { OnOk result (IsTurn (variances_in declarations.now) target.is_turned target.universe target.variable nodes.old nodes.new table.old.entries table.new.entries (walk.old.tasks.items ++ tasks.Enter spot ∷ []) walk.new.tasks.items walk.old.made.items walk.new.made.items walk.old.goals.items walk.new.goals.items) }
+    ensures turn { OnOk result (IsTurn (variances_in declarations.now) target.is_turned
+        target.universe target.variable nodes.old nodes.new table.old.entries table.new.entries
+        (walk.old.tasks.items ++ tasks.Enter spot ∷ []) walk.new.tasks.items walk.old.made.items
+        walk.new.made.items walk.old.goals.items walk.new.goals.items) }
     ensures full { result ≢ Err EvalError.Full }
-    ensures no { result ≡ Err EvalError.NoSolution → WalkRefuses (variances_in declarations.now) target.universe target.variable (content_of nodes.old table.old.entries) (stacked (step_at nodes.old) (walk.old.tasks.items ++ tasks.Enter spot ∷ [])) (stacked (tree_at nodes.old) walk.old.made.items) (pairs_at nodes.old walk.old.goals.items) }
+    ensures no { result ≡ Err EvalError.NoSolution →
+        WalkRefuses (variances_in declarations.now) target.universe target.variable
+        (content_of nodes.old table.old.entries) (stacked (step_at nodes.old)
+        (walk.old.tasks.items ++ tasks.Enter spot ∷ []))
+        (stacked (tree_at nodes.old) walk.old.made.items)
+        (pairs_at nodes.old walk.old.goals.items) }
 {
     match look_at(alloc, nodes, table, &mut walk.goals, target, spot) {
         Err(error) => Err(error),
@@ -509,9 +554,14 @@ fn build(
     target: Target,
     term: NodeId,
 ) -> Result<(), EvalError>
-    requires walk { IsWalk nodes.old table.now.entries target.universe target.variable (walk.old.tasks.items ++ tasks.Build term ∷ []) walk.old.made.items walk.old.goals.items }
+    requires walk { IsWalk nodes.old table.now.entries target.universe target.variable
+        (walk.old.tasks.items ++ tasks.Build term ∷ []) walk.old.made.items walk.old.goals.items }
     ensures extends { Extends nodes.old nodes.new }
-    ensures turn { (declared : ℕ → List Variance) → OnOk result (IsTurn declared target.is_turned target.universe target.variable nodes.old nodes.new table.now.entries table.now.entries (walk.old.tasks.items ++ tasks.Build term ∷ []) walk.new.tasks.items walk.old.made.items walk.new.made.items walk.old.goals.items walk.new.goals.items) }
+    ensures turn { (declared : ℕ → List Variance) →
+        OnOk result (IsTurn declared target.is_turned target.universe target.variable nodes.old
+        nodes.new table.now.entries table.now.entries
+        (walk.old.tasks.items ++ tasks.Build term ∷ []) walk.new.tasks.items walk.old.made.items
+        walk.new.made.items walk.old.goals.items walk.new.goals.items) }
     ensures full { result ≢ Err EvalError.Full }
     ensures no { result ≢ Err EvalError.NoSolution }
 {
@@ -535,14 +585,18 @@ fn build_over(
 ) -> Result<NodeId, EvalError>
     requires within { IsIn nodes.old term }
     requires parts_within { AllIn nodes.old parts.now }
-    requires is { tree_at nodes.old term ≡ over (form_of_tree (tree_at nodes.old term)) (parts_of (tree_at nodes.old term)) }
+    requires is { tree_at nodes.old term ≡ over (form_of_tree (tree_at nodes.old term))
+        (parts_of (tree_at nodes.old term)) }
     requires label { tree_at nodes.old term ≡ node label (children (tree_at nodes.old term)) }
     requires formed { Meets (shape label) (children (tree_at nodes.old term)) }
-    requires fit { AllFit (part_place (form_of_tree (tree_at nodes.old term))) (trees_at nodes.old parts.now) }
-    requires long { row_length (trees_at nodes.old parts.now) ≡ row_length (parts_of (tree_at nodes.old term)) }
+    requires fit { AllFit (part_place (form_of_tree (tree_at nodes.old term)))
+        (trees_at nodes.old parts.now) }
+    requires long { row_length (trees_at nodes.old parts.now) ≡ row_length
+        (parts_of (tree_at nodes.old term)) }
     ensures extends { Extends nodes.old nodes.new }
     ensures within { IfOk result (λ r. IsIn nodes.new r) }
-    ensures tree { IfOk result (λ r. tree_at nodes.new r ≡ over (form_of_tree (tree_at nodes.old term)) (trees_at nodes.old parts.now)) }
+    ensures tree { IfOk result (λ r. tree_at nodes.new r ≡ over (form_of_tree
+        (tree_at nodes.old term)) (trees_at nodes.old parts.now)) }
     ensures full { result ≢ Err EvalError.Full }
     ensures no { result ≢ Err EvalError.NoSolution }
 {
@@ -567,12 +621,20 @@ fn step(
     target: Target,
     task: Task,
 ) -> Result<(), EvalError>
-    requires walk { IsWalk nodes.old table.old.entries target.universe target.variable (walk.old.tasks.items ++ task ∷ []) walk.old.made.items walk.old.goals.items }
+    requires walk { IsWalk nodes.old table.old.entries target.universe target.variable
+        (walk.old.tasks.items ++ task ∷ []) walk.old.made.items walk.old.goals.items }
     ensures extends { Extends nodes.old nodes.new }
     ensures changes { KeepsHidden table.old table.new }
-    ensures turn { OnOk result (IsTurn (variances_in declarations.now) target.is_turned target.universe target.variable nodes.old nodes.new table.old.entries table.new.entries (walk.old.tasks.items ++ task ∷ []) walk.new.tasks.items walk.old.made.items walk.new.made.items walk.old.goals.items walk.new.goals.items) }
+    ensures turn { OnOk result (IsTurn (variances_in declarations.now) target.is_turned
+        target.universe target.variable nodes.old nodes.new table.old.entries table.new.entries
+        (walk.old.tasks.items ++ task ∷ []) walk.new.tasks.items walk.old.made.items
+        walk.new.made.items walk.old.goals.items walk.new.goals.items) }
     ensures full { result ≢ Err EvalError.Full }
-    ensures no { result ≡ Err EvalError.NoSolution → WalkRefuses (variances_in declarations.now) target.universe target.variable (content_of nodes.old table.old.entries) (stacked (step_at nodes.old) (walk.old.tasks.items ++ task ∷ [])) (stacked (tree_at nodes.old) walk.old.made.items) (pairs_at nodes.old walk.old.goals.items) }
+    ensures no { result ≡ Err EvalError.NoSolution →
+        WalkRefuses (variances_in declarations.now) target.universe target.variable
+        (content_of nodes.old table.old.entries) (stacked (step_at nodes.old)
+        (walk.old.tasks.items ++ task ∷ [])) (stacked (tree_at nodes.old) walk.old.made.items)
+        (pairs_at nodes.old walk.old.goals.items) }
 {
     match task {
         Task::Enter(spot) => enter(alloc, nodes, declarations, table, walk, target, spot),
@@ -600,16 +662,30 @@ pub fn vary(
     term: NodeId,
 ) -> Result<Varied, EvalError>
     requires lawful { IsLawful nodes.old table.old.entries }
-    requires part { IsPart nodes.old (content_of nodes.old table.old.entries) (record { term = term; binders = 0; variance = variance; is_quiet = false; is_searched = false }) }
+    requires part { IsPart nodes.old (content_of nodes.old table.old.entries)
+        (record {
+          term = term;
+          binders = 0;
+          variance = variance;
+          is_quiet = false;
+          is_searched =
+              false;
+        }) }
     requires node { IsInfer (tree_at nodes.old term) → ⊥ }
     requires known { target.variable < length table.old.entries.variables }
     requires named { target.universe ≤ table.old.entries.universe }
-    requires no_region { kind_at (content_of nodes.old table.old.entries) target.variable ≢ Some kinds.Region }
+    requires no_region { kind_at (content_of nodes.old table.old.entries) target.variable ≢ Some
+        kinds.Region }
     ensures extends { Extends nodes.old nodes.new }
     ensures changes { KeepsHidden table.old table.new }
-    ensures varied { IfOk result (λ r. IsVaried (variances_in declarations.now) target.is_turned target.universe target.variable nodes.old nodes.new table.old.entries table.new.entries variance term r.made r.goals.items) }
+    ensures varied { IfOk result (λ r. IsVaried (variances_in declarations.now) target.is_turned
+        target.universe target.variable nodes.old nodes.new table.old.entries table.new.entries
+        variance term r.made r.goals.items) }
     ensures full { result ≢ Err EvalError.Full }
-    ensures no { result ≡ Err EvalError.NoSolution → WalkRefuses (variances_in declarations.now) target.universe target.variable (content_of nodes.old table.old.entries) (enter variance false (tree_at nodes.old term) ∷ []) [] [] }
+    ensures no { result ≡ Err EvalError.NoSolution →
+        WalkRefuses (variances_in declarations.now) target.universe target.variable
+        (content_of nodes.old table.old.entries) (enter variance false
+        (tree_at nodes.old term) ∷ []) [] [] }
 {
     let mut walk = Walk {
         tasks: Vec::new(alloc),

@@ -82,7 +82,8 @@ impl LineVariables {
     #[tactic(auto, using(crate::proofs::Places::placed))]
     fn add_type(&mut self) -> Result<(), AllocError>
         ensures own { HasOwnPlaces self.old → HasOwnPlaces self.new }
-        ensures added { OnOk result (length self.new.types.items ≡ length self.old.types.items + 1) }
+        ensures added { OnOk result
+            (length self.new.types.items ≡ length self.old.types.items + 1) }
         ensures kept { KeepsPlaces self.old self.new }
     {
         let place = self.sorts.len();
@@ -95,7 +96,8 @@ impl LineVariables {
     #[tactic(auto, using(crate::proofs::Places::placed))]
     fn add_region(&mut self) -> Result<(), AllocError>
         ensures own { HasOwnPlaces self.old → HasOwnPlaces self.new }
-        ensures added { OnOk result (length self.new.regions.items ≡ length self.old.regions.items + 1) }
+        ensures added { OnOk result
+            (length self.new.regions.items ≡ length self.old.regions.items + 1) }
         ensures kept { KeepsPlaces self.old self.new }
     {
         let place = self.sorts.len();
