@@ -4,7 +4,7 @@ use Rattle.std.specs.List.{filter}
 use Rattle.nts_model.specs.declared.labels.Sort.{Sort}
 use Rattle.nts_model.specs.declared.labels.ListHead.TheVariants as list
 use Rattle.nts_model.specs.declared.labels.Label.TheVariants as label
-use Rattle.nts_model.specs.Terms.Trees.{Tree, empty, more, node, children, IsRow, AllFit, any_argument, any_label}
+use Rattle.nts_model.specs.Terms.Trees.{Tree, empty, more, node, children, any_label}
 use Rattle.nts_model.specs.Derivations.Rules.{Mode, Application}
 use Rattle.nts_model.specs.Derivations.Handlers.{Candidate, Handler, IsLawfulHandler}
 use Rattle.nts_model.specs.Refutation.Coherence.{RulesAreOffered}

@@ -1,5 +1,5 @@
 -- A handler made of clauses over their own terms keeps the laws.
-use Rattle.std.proofs.Common.{◌≡◌, if◌then◌else◌, subst, ◌⊎◌, inl, inr, ℕ, ◌==◌, ◌||◌, Bool, true, false, cond, List, [], ◌∷◌, map, None, refl, sym, ap, ◌∙◌, eqb-true}
+use Rattle.std.proofs.Common.{◌≡◌, subst, ◌⊎◌, inl, inr, ℕ, ◌==◌, ◌||◌, Bool, true, false, cond, List, [], ◌∷◌, map, None, refl, sym, ap, ◌∙◌, eqb-true}
 use Rattle.std.specs.List.{filter}
 use Rattle.nts_model.specs.declared.labels.Sort.{Sort}
 use Rattle.nts_model.specs.declared.labels.Leaf.{Leaf}
@@ -13,11 +13,10 @@ use Rattle.nts_model.specs.Terms.Substitutions.{leaf_tree, replace, Instance, in
 use Rattle.nts_model.specs.Derivations.Related.{pair, unbound, arguments}
 use Rattle.nts_model.specs.Lists.{Among}
 use Rattle.nts_model.specs.Derivations.Sequents.{Premise}
-use Rattle.nts_model.specs.Derivations.Rules.{Equation, Application, normalization, goal_kind, coinductive_trait, other_goal, statement_of, IsHandlers}
+use Rattle.nts_model.specs.Derivations.Rules.{Equation, Application, statement_of, IsHandlers}
 use Rattle.nts_model.proofs.Tables.Under.{eq-self}
 use Rattle.nts_model.specs.Refutation.Coherence.{Covers, RulesAreOffered}
 use Rattle.nts_model.specs.Derivations.Rules.{coherence}
-use Rattle.nts_model.specs.Derivations.Handlers.{meaning}
 use Rattle.nts_model.specs.Derivations.Handlers.{Candidate, equation_by, premise_by, AreValuesOf, use_of, IsInstanceFor, application_under, renamed_candidate, IsAsked, IsOver, IsEquationOver, IsEmitted, IsNested, IsCandidateFor, CandidatesCommute, InstancesAreRules, CandidatesKeep, IsLawfulHandler, kind_of_sort}
 use Rattle.nts_model.proofs.Terms.Composing.{IsFormed-instance, IsClosed-instance, Fits-instance}
 use Rattle.nts_terms.proofs.Places.{no_places}

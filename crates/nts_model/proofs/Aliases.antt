@@ -1,4 +1,5 @@
--- Goals that hold aliases, and goals of the engine's own kinds.
+-- Goals that hold aliases, goals of the engine's own kinds, and relating by settled proofs. They wait for aliases in the evaluation:
+-- no call promises them yet.
 pub mod ByParts
 pub mod ByRelating
 pub mod ChosenValues

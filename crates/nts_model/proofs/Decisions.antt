@@ -1,4 +1,4 @@
--- Goals that a finite tree of goals decides, and facts.
+-- Goals that a finite tree of goals decides, and facts. They wait for determinate goals: no call promises them yet.
 pub mod Deciding
 pub mod DecidingRenamed
 pub mod DecidedInputs

@@ -1,4 +1,5 @@
--- Which solutions an answer contains.
+-- Which solutions an answer contains. The search rests on Choosing, OpenedProofs, and what these use of Freshening and Trying; all else
+-- waits for refutation in coherence: no call promises it yet.
 pub mod Carrying
 pub mod AskingWorlds
 pub mod Answered

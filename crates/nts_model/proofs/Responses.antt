@@ -8,7 +8,6 @@ pub mod Closing
 pub mod Granting
 pub mod Bringing
 pub mod Querying
-pub mod Unbound
 pub mod AskedFrom
 pub mod Initial
 pub mod PositionSorts

@@ -9,7 +9,7 @@ use Rattle.nts_model.specs.declared.labels.Label.TheVariants as label
 use Rattle.nts_model.specs.Terms.Trees.{Tree, empty, more, node, kind_of, kind_of_label, of_sort, shape, in_order}
 use Rattle.nts_placeholder.specs.declared.maps.Placeholder.{Placeholder}
 use Rattle.nts_placeholder.specs.declared.maps.BoundVar.{BoundVar}
-use Rattle.nts_placeholder.specs.Closing.{placeholder_of, entry_of, closed_at, closed_placeholder, closed_label, closed_by}
+use Rattle.nts_placeholder.specs.Closing.{placeholder_of, entry_of, closed_at, closed_placeholder, closed_by}
 
 -- what the maps say, and the list of universes
 pub record Closing : Type 0 where

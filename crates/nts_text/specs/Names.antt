@@ -1,5 +1,5 @@
 -- What names stand for.
-use Rattle.std.specs.Prelude.{◌≡◌, ℕ, Bool, true, false, nat_lt, List, codes}
+use Rattle.std.specs.Prelude.{◌≡◌, ℕ, Bool, true, nat_lt, List, codes}
 use Rattle.nts_model.specs.declared.labels.IntTy.{IntTy}
 use Rattle.nts_model.specs.declared.labels.IntTy.TheVariants as ints
 use Rattle.nts_model.specs.declared.labels.UintTy.{UintTy}

@@ -25,7 +25,7 @@ use Rattle.nts_model.specs.Derivations.Sequents.{Premise}
 use Rattle.nts_model.specs.Tables.Passing.{BringsOnly}
 use Rattle.nts_model.specs.Tables.Resolving.{deeply_resolved}
 use Rattle.nts_model.specs.Derivations.Handlers.{Handler}
-use Rattle.nts_model.proofs.Refutation.Answered.{among_left, among_right}
+use Rattle.nts_model.proofs.Lists.{among_left, among_right}
 use Rattle.nts_model.proofs.Derivations.ByCandidate.{among_mapped}
 use Rattle.nts_certainty.specs.declared.certainty.Certainty.{Certainty}
 use Rattle.nts_certainty.specs.declared.certainty.Certainty.TheVariants as certainty

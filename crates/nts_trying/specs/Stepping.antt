@@ -1,14 +1,12 @@
 -- Goals that were added, and what evaluating them in steps leaves.
-use Rattle.std.specs.Prelude.{◌⊎◌, ℕ, ◌+◌, List, [], ◌∷◌, ◌++◌, map, All}
+use Rattle.std.specs.Prelude.{◌⊎◌, ℕ, ◌+◌, List, [], ◌∷◌, ◌++◌, All}
 use Rattle.nts_model.specs.Terms.Trees.{Tree}
 use Rattle.nts_model.specs.Lists.{Among}
-use Rattle.nts_model.specs.Derivations.Sequents.{Premise}
 use Rattle.nts_certainty.specs.declared.certainty.Certainty.{Certainty}
 use Rattle.nts_certainty.specs.declared.certainty.Certainty.TheVariants as certainty
 use Rattle.nts_certainty.specs.declared.sources.GoalSource.{GoalSource}
 use Rattle.nts_terms.specs.declared.handles.Goal.{Goal}
 use Rattle.nts_table.specs.Tables.{Table}
-use Rattle.nts_response.specs.Forms.{premise_at}
 use Rattle.nts_asking.specs.Evaluation.{IsPosed, asked_terms}
 use Rattle.nts_trying.specs.declared.steps.AvailableDepth.{AvailableDepth}
 use Rattle.nts_trying.specs.declared.steps.AvailableDepth.TheVariants as available

@@ -14,7 +14,7 @@ use Rattle.nts_model.specs.Derivations.Sequents.{Premise, Hidden, IsOfTerms, Gra
 use Rattle.nts_model.specs.Derivations.Rules.{Mode, Equation, related, HoldsEquation, GoalKind, goal_kind, step_kind, proof_kind, Stands, IsApplied, IsRule}
 use Rattle.nts_model.specs.Derivations.Proofs.{Assumed, passed, by_rule, IsNormalization}
 use Rattle.nts_model.specs.Derivations.Handlers.{Handler, meaning, Candidate, certain, equation_by, constraint_by, hidden_by, premise_by, AreValuesOf, use_of, IsAsked, InstancesAreRules, IsCandidateFor}
-use Rattle.nts_model.specs.Derivations.Proving.{HoldsTerms, IsTermOf, AreConstraintsOf, read_constraints, read_goals, sequent_at, sequent_with, HoldsCandidate, IsHeldAt}
+use Rattle.nts_model.specs.Derivations.Proving.{HoldsTerms, IsTermOf, AreConstraintsOf, read_constraints, read_goals, sequent_at, sequent_with, HoldsButForGoals, IsHeldAt}
 use Rattle.nts_model.specs.Searching.Stacks.{IsProvedFrom, IsProvedWith}
 use Rattle.nts_model.specs.Variances.AnsweredGoals.{RelatedUnder}
 use Rattle.nts_model.proofs.Derivations.Monotone.{stands_more}
@@ -35,8 +35,8 @@ module _ (h : Handler) (V : ℕ → List Variance) (mode : Mode) (A : List Assum
     abbrev pub bare : Candidate
     bare = record d { equations = []; goals = [] }
 
-    abbrev pub bare_holds : HoldsCandidate (meaning h V) mode c bare
-    bare_holds = record { chosen = chosen; values = values; known = known; equations = λ q i. absurd i; constraints = held; goals = λ q i. absurd i }
+    abbrev pub bare_holds : HoldsButForGoals c bare
+    bare_holds = record { chosen = chosen; values = values; known = known; equations = λ q i. absurd i; constraints = held }
 
     abbrev pub read : Tree → Tree
     read = read_by h V mode c s t k e g asked ke kg bare bare_holds

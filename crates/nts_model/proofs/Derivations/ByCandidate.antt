@@ -22,7 +22,7 @@ use Rattle.nts_model.specs.Derivations.Sequents.{Premise, Hidden, HasClosedState
 use Rattle.nts_model.specs.Derivations.Rules.{Mode, Equation, related, alike, HoldsEquation, GoalKind, goal_kind, IsTerm, Stands, IsHandlers, IsApplied, IsRule}
 use Rattle.nts_model.specs.Derivations.Proofs.{by_rule}
 use Rattle.nts_model.specs.Derivations.Handlers.{Handler, meaning, Candidate, certain, equation_by, constraint_by, hidden_by, premise_by, kind_of_sort, AreValuesOf, use_of, IsAsked, InstancesAreRules, IsCandidateFor, IsLawfulHandler}
-use Rattle.nts_model.specs.Derivations.Proving.{HoldsTerms, IsTermOf, AreConstraintsOf, read_constraint, recorded_as, turned, read_constraints, sequent_at, IsProved, AreEquated, IsHeldAt, IsProvedAt, HoldsCandidate}
+use Rattle.nts_model.specs.Derivations.Proving.{HoldsTerms, IsTermOf, AreConstraintsOf, read_constraint, recorded_as, turned, read_constraints, sequent_at, AreEquated, IsHeldAt, HoldsButForGoals}
 use Rattle.nts_model.specs.Terms.Scoping.{IsWellBound}
 use Rattle.nts_model.proofs.Tables.Fitting.{IsClosed-under}
 use Rattle.nts_model.proofs.Tables.Resolved.{deeply_resolved-node, deeply_resolved-deeply_resolved}
@@ -179,7 +179,7 @@ module _ (h : Handler) (V : ℕ → List Variance) (mode : Mode) (c : Content) (
   resolved_well_bound u q = known_well_bound c (deeply_resolved c u) (Knows-deeply_resolved c u s q)
 
   -- for an environment, and values of the candidate's fresh variables
-  module _ (e g : Tree) (asked : IsAsked e g) (ke : IsTermOf c e) (kg : IsTermOf c g) (d : Candidate) (x : HoldsCandidate (meaning h V) mode c d) where
+  module _ (e g : Tree) (asked : IsAsked e g) (ke : IsTermOf c e) (kg : IsTermOf c g) (d : Candidate) (x : HoldsButForGoals c d) where
     pub formed_here : IsFormed (deeply_resolved c e)
     formed_here = IsFormed-deeply_resolved c e s t ke.knows ke.formed
 

@@ -15,7 +15,7 @@ use Rattle.nts_model.specs.Derivations.Sequents.{Source, misc, type_relating, im
 use Rattle.nts_model.specs.Derivations.Rules.{Mode, Equation, HoldsEquation, GoalKind, coinductive_trait, normalization, other_goal, goal_kind, statement_kind, step_kind, proof_kind, Stands, statement_of, choice, IsHandlers, IsApplied, IsRule}
 use Rattle.nts_model.specs.Derivations.Proofs.{Assumed, passed, by_rule}
 use Rattle.nts_model.specs.Derivations.Handlers.{Handler, meaning, Candidate, certain, equation_by, constraint_by, hidden_by, premise_by, AreValuesOf, use_of, IsAsked, IsHandlersSource, InstancesAreRules, IsCandidateFor, IsLawfulHandler}
-use Rattle.nts_model.specs.Derivations.Proving.{HoldsTerms, IsTermOf, AreConstraintsOf, read_constraints, sequent_at, HoldsCandidate}
+use Rattle.nts_model.specs.Derivations.Proving.{HoldsTerms, IsTermOf, AreConstraintsOf, read_constraints, sequent_at, HoldsButForGoals}
 use Rattle.nts_model.specs.Searching.Stacks.{IsProvedFrom, IsProvedFromAt, HoldsCandidateFrom}
 use Rattle.nts_model.proofs.Derivations.Monotone.{stands_more, rule_more}
 use Rattle.nts_model.proofs.Terms.Composing.{itself, instance_of-itself}
@@ -57,8 +57,8 @@ module _ (h : Handler) (V : ℕ → List Variance) (mode : Mode) (A : List Assum
     abbrev pub shallow : Candidate
     shallow = record d { goals = [] }
 
-    abbrev pub shallow_holds : HoldsCandidate (meaning h V) mode c shallow
-    shallow_holds = record { chosen = x.chosen; values = x.values; known = x.known; equations = x.equations; constraints = x.constraints; goals = λ q i. absurd i }
+    abbrev pub shallow_holds : HoldsButForGoals c shallow
+    shallow_holds = record { chosen = x.chosen; values = x.values; known = x.known; equations = x.equations; constraints = x.constraints }
 
     abbrev read : Tree → Tree
     read = read_by h V mode c s t k e g asked ke kg shallow shallow_holds

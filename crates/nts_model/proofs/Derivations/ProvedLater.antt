@@ -12,7 +12,7 @@ use Rattle.nts_model.specs.Lists.{Among}
 use Rattle.nts_model.specs.Derivations.Sequents.{Premise, constraint_under, premise_under, IsInstance}
 use Rattle.nts_model.specs.Derivations.Rules.{Meaning, Mode}
 use Rattle.nts_model.specs.Derivations.Proofs.{HasProof}
-use Rattle.nts_model.specs.Derivations.Proving.{HoldsTerms, IsTermOf, AreConstraintsOf, read_constraint, turned, in_either_order, read_constraints, recorded_as, sequent_at, read_goals, sequent_with, IsProved, HasFallingProofUnder}
+use Rattle.nts_model.specs.Derivations.Proving.{HoldsTerms, IsTermOf, AreConstraintsOf, read_constraint, turned, in_either_order, read_constraints, recorded_as, sequent_at, read_goals, sequent_with, HasFallingProofUnder}
 use Rattle.nts_model.specs.Derivations.Handlers.{premise_by}
 use Rattle.nts_model.proofs.Tables.Resolved.{deeply_resolved-deeply_resolved}
 use Rattle.nts_model.proofs.Terms.Composing.{after}

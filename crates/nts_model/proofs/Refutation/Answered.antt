@@ -25,6 +25,7 @@ use Rattle.nts_model.proofs.Tables.Slots.{CanName-more}
 use Rattle.nts_model.proofs.Canonical.CanonicalForms.{originals_give_input, originals_are_leaves}
 use Rattle.nts_model.proofs.Responses.Answering.{canonical_environment_over, canonical_predicate_over}
 use Rattle.nts_model.proofs.Refutation.AskingWorlds.{image_inside, formed_parts, ground_parts, IsAskable, image, asked_values, asked_filled, contained_granted, named_with_regions, IsOfParts}
+use Rattle.nts_model.proofs.Lists.{among_left, among_right}
 
 first_part : (a b c d : Tree) → more a b ≡ more c d → a ≡ c
 first_part a b c d e = cc e
@@ -146,15 +147,6 @@ among_split : {X : Type 0} (xs ys : List X) (x : X) → Among (xs ++ ys) x → A
 among_split [] ys x a = inr a
 among_split (y ∷ xs) ys x (inl e) = inl (inl e)
 among_split (y ∷ xs) ys x (inr a) = elim (among_split xs ys x a) [ inl b ↦ inl (inr b) | inr b ↦ inr b ]
-
-pub among_left : {X : Type 0} (xs ys : List X) (x : X) → Among xs x → Among (xs ++ ys) x
-among_left [] ys x a = absurd a
-among_left (y ∷ xs) ys x (inl e) = inl e
-among_left (y ∷ xs) ys x (inr a) = inr (among_left xs ys x a)
-
-pub among_right : {X : Type 0} (xs ys : List X) (x : X) → Among ys x → Among (xs ++ ys) x
-among_right [] ys x a = a
-among_right (y ∷ xs) ys x a = inr (among_right xs ys x a)
 
 module _ (truth : Truth) (base : ℕ) (Proves : Tree → Tree → Type 0) where
   -- what is proved of a term of the table stays proved

@@ -25,7 +25,7 @@ use Rattle.nts_model.specs.Derivations.Sequents.{Premise, IsOfTerms, Grants, Hid
 use Rattle.nts_model.specs.Derivations.Rules.{Mode, goal_kind, statement_kind, proof_kind, IsHandlers, opened, opened_at, AreFresh, bound, IsPlainRule, IsRule}
 use Rattle.nts_model.specs.Derivations.Proofs.{Assumed, passed, by_rule}
 use Rattle.nts_model.specs.Derivations.Handlers.{Handler, meaning, Candidate, certain, IsAsked, IsLawfulHandler}
-use Rattle.nts_model.specs.Derivations.Proving.{HoldsTerms, IsTermOf, AreConstraintsOf, read_constraints, sequent_at, HoldsCandidate}
+use Rattle.nts_model.specs.Derivations.Proving.{HoldsTerms, IsTermOf, AreConstraintsOf, read_constraints, sequent_at, HoldsButForGoals}
 use Rattle.nts_model.specs.Searching.Stacks.{IsProvedFrom, HoldsCandidateFrom}
 use Rattle.nts_model.proofs.Derivations.Monotone.{rule_more}
 use Rattle.nts_model.proofs.Tables.Fitting.{IsClosed-under}
@@ -106,7 +106,7 @@ module _ (h : Handler) (V : ℕ → List Variance) (mode : Mode) (A : List Assum
     abbrev parts : Candidate
     parts = shallow h V mode A c s t k e there asked ke ko d x
 
-    abbrev parts_hold : HoldsCandidate (meaning h V) mode c parts
+    abbrev parts_hold : HoldsButForGoals c parts
     parts_hold = shallow_holds h V mode A c s t k e there asked ke ko d x
 
     goal_reads : deeply_resolved c goal ≡ bound (more (read sort) (read sorts)) (read u)

@@ -35,7 +35,8 @@ use Rattle.nts_model.proofs.Derivations.ProvedLater.{contains_first, contains_la
 use Rattle.nts_model.proofs.Refutation.Freshening.{knows_leaf}
 use Rattle.nts_model.proofs.Canonical.CanonicalForms.{originals_are_leaves}
 use Rattle.nts_model.proofs.Refutation.AskingWorlds.{image, contained_granted}
-use Rattle.nts_model.proofs.Refutation.Answered.{IsAskedFrom, AreTermsOf, solution_later, still_proved, askable, asked_solution, asked_refuses, asked_extends, kept_same, kept_trans, among_left, among_right}
+use Rattle.nts_model.proofs.Lists.{among_left, among_right}
+use Rattle.nts_model.proofs.Refutation.Answered.{IsAskedFrom, AreTermsOf, solution_later, still_proved, askable, asked_solution, asked_refuses, asked_extends, kept_same, kept_trans}
 use Rattle.nts_model.proofs.Refutation.Entering.{IsBegun as Begins, entered as enters}
 use Rattle.nts_model.proofs.Refutation.Responding.{ArePlaced, answer_contains}
 use Rattle.nts_model.proofs.Refutation.Trying.{Reaches as ReachesWorld, reaches_trans, equated_reaches, same_positions}

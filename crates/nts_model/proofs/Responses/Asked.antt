@@ -10,7 +10,7 @@ use Rattle.nts_model.specs.Terms.Substitutions.{leaf_tree, filled}
 use Rattle.nts_model.specs.Lists.{Among}
 use Rattle.nts_model.specs.Derivations.Rules.{Meaning, Mode}
 use Rattle.nts_model.specs.Canonical.Inputs.{Input, IsInput, originals, canonical_of}
-use Rattle.nts_model.specs.Derivations.Proving.{HoldsTerms, read_constraints, sequent_at, IsDerived, IsProved}
+use Rattle.nts_model.specs.Derivations.Proving.{HoldsTerms, read_constraints, sequent_at}
 use Rattle.nts_model.specs.Answers.Responses.{Response, Applies, answer_sequent, IsResponseTo}
 use Rattle.nts_model.proofs.Canonical.CanonicalForms.{originals_give_input, originals_are_leaves}
 use Rattle.nts_model.proofs.Responses.Answering.{canonical_environment_over, canonical_predicate_over}

@@ -20,7 +20,7 @@ use Rattle.nts_model.specs.Derivations.Rules.{Meaning, Mode}
 use Rattle.nts_model.specs.Derivations.Handlers.{premise_by}
 use Rattle.nts_model.specs.Canonical.Numbered.{AreDistinct}
 use Rattle.nts_model.specs.Canonical.Inputs.{CanonicalInput, PositionKind, share}
-use Rattle.nts_model.specs.Derivations.Proving.{read_constraint, turned, in_either_order, read_constraints, sequent_at, read_goals, sequent_with, IsDerived, IsProved}
+use Rattle.nts_model.specs.Derivations.Proving.{read_constraint, turned, in_either_order, read_constraints, sequent_at, read_goals, sequent_with}
 use Rattle.nts_model.specs.Answers.Responses.{Findings, said, recorded_by, AreFindings, own_leaves, positioned, is_fixed, Response, answer_kind, response_of, IsOverPositions, IsLeafIn, own_leaf, leaves_of_kinds, closed_by, said_constraints, answer_sequent, IsResponseTo}
 use Rattle.nts_model.proofs.Terms.Composing.{after, fits_itself}
 use Rattle.nts_model.proofs.Terms.Listed.{either, map-map}

@@ -24,7 +24,7 @@ use Rattle.nts_model.specs.Derivations.Rules.{Meaning, Mode}
 use Rattle.nts_model.specs.Derivations.Handlers.{premise_by}
 use Rattle.nts_model.specs.Canonical.Numbered.{AreDistinct}
 use Rattle.nts_model.specs.Canonical.Inputs.{CanonicalInput, PositionKind, type_variable, integer_variable, float_variable, const_variable, region_variable, placeholder}
-use Rattle.nts_model.specs.Derivations.Proving.{HoldsTerms, read_constraints, recorded_as, turned, sequent_at, read_goals, sequent_with, IsDerived, IsProved}
+use Rattle.nts_model.specs.Derivations.Proving.{HoldsTerms, read_constraints, recorded_as, turned, sequent_at, read_goals, sequent_with}
 use Rattle.nts_model.specs.Answers.Responses.{said, recorded_by, Response, IsOverPositions, StandsFor, StandForAll, AreAlikeValues, Applies, IsLeafFor, own_leaf, leaves_of_kinds, closed_by, said_constraints, answer_sequent, IsResponseFor}
 use Rattle.nts_model.proofs.Tables.Resolved.{deeply_resolved-deeply_resolved}
 use Rattle.nts_model.proofs.Terms.Composing.{after}

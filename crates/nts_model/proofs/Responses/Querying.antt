@@ -20,7 +20,7 @@ use Rattle.nts_model.specs.Lists.{Among}
 use Rattle.nts_model.specs.Derivations.Sequents.{Premise}
 use Rattle.nts_model.specs.Derivations.Rules.{Meaning, Mode}
 use Rattle.nts_model.specs.Canonical.Inputs.{Input, IsInput, PositionKind, placeholder, position_kind, originals, canonical_of}
-use Rattle.nts_model.specs.Derivations.Proving.{IsTermOf, read_goals, IsDerived, IsProved}
+use Rattle.nts_model.specs.Derivations.Proving.{IsTermOf, read_goals}
 use Rattle.nts_model.specs.Tables.Passing.{AllLabels}
 use Rattle.nts_model.specs.Answers.Responses.{Findings, AreFindings, value_row, constraint_row, hidden_row, goal_row, row_of, is_fixed, own_leaves, response_of, answer_sequent, IsLeafFor, IsResponseFor, IsResponseTo, Response, IsLeafIn, IsLabelIn, IsQueryTable}
 use Rattle.nts_model.proofs.Tables.ResolvedTerms.{IsFormed-deeply_resolved}

@@ -1,5 +1,5 @@
 -- What a handler means, the candidates that it offers, and the laws that it keeps.
-use Rattle.std.specs.Prelude.{◌≡◌, ◌⊎◌, ℕ, Bool, false, List, [], ◌∷◌, Option, Some, None, map, get_or, slice_get}
+use Rattle.std.specs.Prelude.{◌≡◌, ◌⊎◌, ℕ, Bool, false, List, [], ◌∷◌, Option, Some, None, map, slice_get}
 use Rattle.nts_model.specs.declared.labels.Sort.{Sort}
 use Rattle.nts_model.specs.declared.labels.Sort.TheVariants as sort
 use Rattle.nts_model.specs.declared.labels.Variance.{Variance}
@@ -7,14 +7,13 @@ use Rattle.nts_model.specs.declared.labels.VariableKind.{VariableKind}
 use Rattle.nts_model.specs.declared.labels.VariableKind.TheVariants as kind
 use Rattle.nts_model.specs.declared.labels.Leaf.{Leaf}
 use Rattle.nts_model.specs.declared.labels.Leaf.TheVariants as leaf
-use Rattle.nts_model.specs.declared.labels.BoundVarIndexKind.TheVariants as index
 use Rattle.nts_model.specs.declared.labels.PredicateHead.TheVariants as predicate
 use Rattle.nts_model.specs.declared.labels.Label.{Label}
 use Rattle.nts_model.specs.declared.labels.Label.TheVariants as label
 use Rattle.nts_model.specs.Terms.Trees.{Tree, empty, more, node, kind_of_label, of_sort, NodeKind, any_label, is_canonical, IsClosed, IsFormed}
 use Rattle.nts_model.specs.Terms.Scoping.{IsWellBound}
 use Rattle.nts_model.specs.Terms.Fitting.{Fits}
-use Rattle.nts_model.specs.Terms.Substitutions.{put, Occurs, StaysItself, Instance, instance_of, Renaming, rename, IsPlain, filled_under, position_of}
+use Rattle.nts_model.specs.Terms.Substitutions.{Occurs, StaysItself, Instance, instance_of, Renaming, rename, IsPlain, filled_under, position_of}
 use Rattle.nts_model.specs.Derivations.Related.{Constraint, pair, unbound}
 use Rattle.nts_model.specs.Lists.{Among}
 use Rattle.nts_model.specs.Derivations.Sequents.{Source, normalize_goal, Premise, Hidden, HasClosedStatements}

@@ -1,5 +1,5 @@
 -- What is proved under a table.
-use Rattle.std.specs.Prelude.{◌≡◌, ℕ, false, List, [], ◌∷◌, map, Some, Contains, ◌&&◌, ◌≤◌, ◌⊎◌}
+use Rattle.std.specs.Prelude.{◌≡◌, ℕ, false, List, [], ◌∷◌, map, Some, Contains}
 use Rattle.nts_model.specs.declared.labels.Relation.{Relation}
 use Rattle.nts_model.specs.declared.labels.Relation.TheVariants as relation
 use Rattle.nts_model.specs.declared.labels.VariableKind.{VariableKind}
@@ -9,12 +9,12 @@ use Rattle.nts_model.specs.Tables.Resolving.{deeply_resolved, Knows}
 use Rattle.nts_model.specs.Terms.Fitting.{Fits}
 use Rattle.nts_model.specs.Tables.Alike.{AreAlike}
 use Rattle.nts_model.specs.Tables.Holding.{HoldsConstraint}
-use Rattle.nts_model.specs.Terms.Substitutions.{Instance, filled}
+use Rattle.nts_model.specs.Terms.Substitutions.{filled}
 use Rattle.nts_model.specs.Derivations.Related.{Constraint}
 use Rattle.nts_model.specs.Lists.{Among}
-use Rattle.nts_model.specs.Derivations.Sequents.{Premise, Sequent, IsInstance}
+use Rattle.nts_model.specs.Derivations.Sequents.{Premise, Sequent}
 use Rattle.nts_model.specs.Derivations.Rules.{Equation, related, alike, Meaning, Mode}
-use Rattle.nts_model.specs.Derivations.Proofs.{Derives, IsTree, HasFallingProof, HasProof}
+use Rattle.nts_model.specs.Derivations.Proofs.{HasFallingProof, HasProof}
 use Rattle.nts_model.specs.Derivations.Handlers.{Candidate, constraint_by, premise_by, AreValuesOf}
 
 -- the values are closed terms that fit their variables, and the constraints are between terms of the table
@@ -70,18 +70,6 @@ read_goals c gs = map (premise_by (deeply_resolved c)) gs
 abbrev pub sequent_with : Content → Tree → Tree → List Premise → Sequent
 sequent_with c e p gs = record (sequent_at c e p) { open_goals = read_goals c gs }
 
--- an instance of what is derived without assumptions and, until cycles are accepted, without cycles
-pub record IsDerived (m : Meaning) (mode : Mode) (t : Sequent) : Type 0 where
-  pub sequent : Sequent
-  pub derivation : Derives m mode [] sequent
-  pub tree : IsTree derivation
-  pub instance : Instance
-  pub is_instance : IsInstance instance sequent t
-
--- the goal is proved under the table
-abbrev pub IsProved : Meaning → Mode → Content → Tree → Tree → Type 0
-IsProved m mode c e p = IsDerived m mode (sequent_at c e p)
-
 -- the goal under the table has a ranked proof whose hypotheses the table holds, and whose steps all lead to lower ranks
 pub record HasFallingProofUnder (m : Meaning) (mode : Mode) (c : Content) (e p : Tree) : Type 0 where
   pub sequent : Sequent
@@ -103,26 +91,19 @@ abbrev pub HoldsEquationAt : Content → List Tree → Equation → Type 0
 HoldsEquationAt c vs (related a b) = AreEquated c vs a b
 HoldsEquationAt c vs (alike a b) = AreEquated c vs a b
 
--- a constraint is held, and a goal is proved, for these values
+-- a constraint is held for these values
 pub record IsHeldAt (c : Content) (vs : List Tree) (x : Constraint) : Type 0 where
   pub left : IsTermOf c (filled vs x.left)
   pub right : IsTermOf c (filled vs x.right)
   pub held : HoldsConstraint c (recorded_as (constraint_by (filled vs) x))
 
-pub record IsProvedAt (m : Meaning) (mode : Mode) (c : Content) (vs : List Tree) (q : Premise) : Type 0 where
-  pub environment : IsTermOf c (filled vs q.environment)
-  pub predicate : IsTermOf c (filled vs q.predicate)
-  pub proved : IsProved m mode c (filled vs q.environment) (filled vs q.predicate)
-
--- a candidate holds under the table: terms of the table for its fresh variables, for which its equations and constraints hold and its
--- goals are proved
-pub record HoldsCandidate (m : Meaning) (mode : Mode) (c : Content) (d : Candidate) : Type 0 where
+-- what a candidate equates and constrains holds under the table, for terms of the table as values of its fresh variables
+pub record HoldsButForGoals (c : Content) (d : Candidate) : Type 0 where
   pub chosen : List Tree
   pub values : AreValuesOf d.fresh chosen
   pub known : (v : Tree) → Among chosen v → Knows c v
   pub equations : (q : Equation) → Among d.equations q → HoldsEquationAt c chosen q
   pub constraints : (x : Constraint) → Among d.constraints x → IsHeldAt c chosen x
-  pub goals : (q : Premise) → Among d.goals q → IsProvedAt m mode c chosen q
 
 -- the goal under the table has a ranked proof whose hypotheses the table holds
 pub record HasRankedProofUnder (m : Meaning) (mode : Mode) (c : Content) (e p : Tree) : Type 0 where

@@ -1,19 +1,16 @@
 -- What the calls of a search answer, and how the stack stands afterwards.
-use Rattle.std.specs.Prelude.{◌≡◌, ℕ, zero, suc, true, false, List, [], ◌∷◌, IsTrue}
+use Rattle.std.specs.Prelude.{◌≡◌, ℕ, zero, suc, true, List, [], ◌∷◌, IsTrue}
 use Rattle.nts_model.specs.declared.labels.Sort.{Sort}
 use Rattle.nts_model.specs.declared.labels.Sort.TheVariants as sort
 use Rattle.nts_model.specs.Terms.Trees.{Tree}
-use Rattle.nts_model.specs.Tables.Contents.{Content}
-use Rattle.nts_model.specs.Lists.{Among}
-use Rattle.nts_model.specs.Derivations.Sequents.{PathKind, Premise}
-use Rattle.nts_model.specs.Derivations.Rules.{Meaning, Mode, GoalKind, step_kind}
+use Rattle.nts_model.specs.Derivations.Sequents.{PathKind}
+use Rattle.nts_model.specs.Derivations.Rules.{Meaning, Mode}
 use Rattle.nts_model.specs.Derivations.Proofs.{Assumed, passed}
 use Rattle.nts_model.specs.Derivations.Handlers.{Certainty, certain}
 use Rattle.nts_model.specs.Canonical.Inputs.{CanonicalInput, PositionKind, const_variable, region_variable, placeholder}
 use Rattle.nts_model.specs.Canonical.Numbered.{position}
-use Rattle.nts_model.specs.Derivations.Proving.{IsTermOf}
 use Rattle.nts_model.specs.Answers.Responses.{Response, answer_sequent, IsResponseTo}
-use Rattle.nts_model.specs.Searching.Stacks.{IsDerivedFrom, IsProvedFrom, IsProvedWith, Entry, assumptions, AreReadSince, IsEntry, SaysSame, IsBounded}
+use Rattle.nts_model.specs.Searching.Stacks.{IsDerivedFrom, Entry, assumptions, AreReadSince, SaysSame, IsBounded}
 
 -- an answer may be applied where its input is asked, and a Yes is derived from the assumptions
 pub record AnswersInput (m : Meaning) (mode : Mode) (A : List Assumed) (i : CanonicalInput) (r : Response) (c : Certainty) : Type 0 where

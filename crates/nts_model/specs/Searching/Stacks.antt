@@ -2,16 +2,15 @@
 use Rattle.std.specs.Prelude.{◌≡◌, ◌⊎◌, ℕ, zero, suc, ◌&&◌, Bool, true, false, List, [], ◌∷◌, Some, slice_get, IsTrue, if◌then◌else◌, ◌≤◌}
 use Rattle.nts_model.specs.Terms.Trees.{Tree}
 use Rattle.nts_model.specs.Tables.Contents.{Content}
-use Rattle.nts_model.specs.Tables.Resolving.{deeply_resolved, Knows}
-use Rattle.nts_model.specs.Tables.Holding.{HoldsConstraint}
+use Rattle.nts_model.specs.Tables.Resolving.{Knows}
 use Rattle.nts_model.specs.Terms.Substitutions.{Instance, filled}
 use Rattle.nts_model.specs.Derivations.Related.{Constraint}
 use Rattle.nts_model.specs.Lists.{Among}
 use Rattle.nts_model.specs.Derivations.Sequents.{PathKind, coinductive, unknown, inductive, forced_ambiguity, Premise, Sequent, IsInstance}
 use Rattle.nts_model.specs.Derivations.Rules.{Equation, Meaning, Mode, goal_kind, step_kind}
-use Rattle.nts_model.specs.Derivations.Proofs.{Assumed, passed, Derives, HasProof}
+use Rattle.nts_model.specs.Derivations.Proofs.{Assumed, passed, Derives}
 use Rattle.nts_model.specs.Derivations.Handlers.{Candidate, Certainty, certain, perhaps, AreValuesOf}
-use Rattle.nts_model.specs.Derivations.Proving.{IsTermOf, sequent_at, sequent_with, recorded_as, HoldsEquationAt, IsHeldAt}
+use Rattle.nts_model.specs.Derivations.Proving.{IsTermOf, sequent_at, sequent_with, HoldsEquationAt, IsHeldAt}
 use Rattle.nts_model.specs.Canonical.Inputs.{CanonicalInput}
 use Rattle.nts_model.specs.Answers.Responses.{Response, answer_sequent, IsOverPositions, IsResponseTo, greatest}
 

@@ -12,7 +12,7 @@ use Rattle.nts_model.specs.declared.labels.Label.TheVariants as label
 use Rattle.nts_model.specs.Terms.Trees.{Tree, empty, more, node, IsClosed, IsFormed, variable_of}
 use Rattle.nts_model.specs.Tables.Contents.{Content, SlotState, unset, link, known, Recorded, state_of, universe_of, kind_at}
 use Rattle.nts_model.specs.Tables.Resolving.{number_of, Knows}
-use Rattle.nts_model.specs.Tables.Levels.{term_level, region_level, IfNamesAll}
+use Rattle.nts_model.specs.Tables.Levels.{term_level, IfNamesAll}
 use Rattle.nts_model.specs.Terms.Fitting.{Fits}
 
 -- a tree for each variable, a region for each free region, and which types and regions outlive which regions

@@ -1,5 +1,5 @@
 -- Maps of leaves: renamings, and instances of trees.
-use Rattle.std.specs.Prelude.{◌≡◌, ◌⊎◌, ℕ, Option, List, None, Some, get_or, ◌∷◌}
+use Rattle.std.specs.Prelude.{◌≡◌, ◌⊎◌, ℕ, Option, List, None, Some, get_or}
 use Rattle.nts_model.specs.declared.labels.Sort.{Sort}
 use Rattle.nts_model.specs.declared.labels.Sort.TheVariants as sort
 use Rattle.nts_model.specs.declared.labels.VariableKind.{VariableKind}
@@ -12,7 +12,6 @@ use Rattle.nts_model.specs.declared.labels.Leaf.TheVariants as leaf
 use Rattle.nts_model.specs.declared.labels.Label.{Label}
 use Rattle.nts_model.specs.declared.labels.Label.TheVariants as label
 use Rattle.nts_model.specs.Terms.Trees.{Tree, empty, more, node, IsClosed, IsFormed}
-use Rattle.nts_model.specs.Tables.Levels.{IfNamesAll}
 use Rattle.nts_model.specs.Terms.Regions.{IsRegion}
 use Rattle.nts_model.specs.Terms.Fitting.{Fits}
 use Rattle.nts_model.specs.declared.labels.BoundVarIndexKind.TheVariants as index

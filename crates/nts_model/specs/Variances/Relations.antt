@@ -2,15 +2,13 @@
 use Rattle.std.specs.Prelude.{◌≡◌, ℕ, ◌<◌, ◌≤◌, List, [], ◌∷◌, Option, length}
 use Rattle.nts_model.specs.declared.labels.Variance.{Variance}
 use Rattle.nts_model.specs.declared.labels.Label.{Label}
-use Rattle.nts_model.specs.Terms.Trees.{Tree, IsClosedUnder, IsFormed}
-use Rattle.nts_model.specs.Terms.Scoping.{KeepsListed}
+use Rattle.nts_model.specs.Terms.Trees.{Tree}
 use Rattle.nts_model.specs.Tables.Contents.{Content}
 use Rattle.nts_model.specs.Tables.Resolving.{Knows}
-use Rattle.nts_model.specs.Tables.Levels.{NamesAll, term_level}
+use Rattle.nts_model.specs.Tables.Levels.{NamesAll}
 use Rattle.nts_model.specs.Tables.Worlds.{World, inst, IsTrueOf, IsNameable, Solves, Agrees}
-use Rattle.nts_model.specs.Tables.Holding.{Continues}
 use Rattle.nts_model.specs.Derivations.Related.{Constraint}
-use Rattle.nts_model.specs.Variances.Judging.{Judging, IsSettled, Settles, AllSettle}
+use Rattle.nts_model.specs.Variances.Judging.{Judging, IsSettled, Settles}
 
 -- two trees to be related: a pair that is left, or a goal (AliasRelate where a side is an alias, else Subtype)
 pub record Relating : Type 0 where
