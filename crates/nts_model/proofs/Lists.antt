@@ -1,6 +1,6 @@
 -- Elements of lists.
-use Rattle.std.proofs.Common.{List, [], arith, inl, inr, suc, zero, ◌∙◌, ◌∷◌, ◌≡◌, ◌⊎◌, ◌++◌, ◌<◌, ◌≤◌}
-use Rattle.std.specs.Prelude.{Contains, ◌⊎◌}
+use Rattle.std.proofs.Common.{List, [], arith, inl, inr, suc, zero, ◌∙◌, ◌∷◌, ◌≡◌, ◌⊎◌, ◌++◌}
+use Rattle.std.specs.Prelude.{Contains}
 use Rattle.nts_model.specs.Lists.{Among}
 
 pub first_or_later : {X : Type 0} (y : X) (xs : List X) (x : X) → Contains (y ∷ xs) x → (y ≡ x) ⊎ Contains xs x
