@@ -1,0 +1,265 @@
+#!/usr/bin/env python3
+"""The glossary: the words of the public clauses, each with its room and the comment above its definition.
+
+    tools/glossary.py             prints docs/GLOSSARY.md
+    tools/glossary.py --check     exits 1 if docs/GLOSSARY.md is something else
+    tools/glossary.py --bare      lists the words whose comment is missing, or cannot be read alone
+    tools/glossary.py --trusted   counts what the theorem is made of, and all clauses of its call
+"""
+import collections
+import os
+import re
+import sys
+
+TOP = os.path.join(os.path.dirname(os.path.abspath(__file__)), "..")
+CRATES = os.path.join(TOP, "crates")
+PAGE = os.path.join(TOP, "docs", "GLOSSARY.md")
+LIBRARY = "next_trait_solver"
+SEVERAL = 3
+THEOREM = ("nts_evaluation", "evaluate_root_goal", ("proved", "falls"))
+
+USE = re.compile(r"(?:pub |ghost )*use (Rattle\.[^\s;{]+?)(?:\.\{([^}]*)\})?(?: as (\S+?))?;?$")
+HEAD = re.compile(r"((?:abbrev |unfoldable |data |record |opaque |pub )*)([^\s:({=]+)\s*(.*)$")
+TOKEN = re.compile(r"[^\s(){}\[\],;]+")
+CLAUSE = re.compile(r"(requires|ensures)\s+(\w*)\s*\{")
+
+
+def read(path):
+    with open(path, encoding="utf-8") as f:
+        return f.read()
+
+
+def files_below(folder, ending):
+    for at, _, names in sorted(os.walk(folder)):
+        for name in sorted(names):
+            if name.endswith(ending):
+                yield os.path.join(at, name)
+
+
+def crates():
+    return sorted(os.listdir(CRATES))
+
+
+class Room:
+    """A file of definitions: their first lines, the comments above them, what they are made of, and what is imported."""
+
+    def __init__(self, name, path):
+        self.name, self.path = name, path
+        self.comment, self.lines, self.imports, self.aliases = {}, {}, {}, {}
+        self.read(read(path).split("\n"))
+
+    def read(self, lines):
+        comment, word, columns, inside = [], None, [0], None
+        for line in lines:
+            text, indent = line.strip(), len(line) - len(line.lstrip())
+            if text.startswith("--"):
+                comment.append(text[2:].strip())
+                continue
+            if not text:
+                comment, word = [], word if inside is None else word
+                continue
+            while indent < columns[-1]:
+                columns.pop()
+            if inside is not None and indent <= inside:
+                inside = None
+            if USE.match(text):
+                self.use(*USE.match(text).groups())
+            elif re.match(r"(abbrev |unfoldable )*mutual\b|module ", text):
+                columns.append(indent + 2)
+            else:
+                head = HEAD.match(text)
+                if head and inside is None and indent == columns[-1]:
+                    kind, name, rest = head.groups()
+                    typed = "data " in kind or "record " in kind
+                    if typed or rest == ":" or rest.startswith(": "):
+                        word, inside = name, indent if typed else None
+                        self.comment[name], self.lines[name] = " ".join(comment), []
+                if word:
+                    self.lines[word].append(text)
+            comment = []
+
+    def use(self, path, names, other):
+        if names is None:
+            self.aliases[other or path.split(".")[-1]] = path
+            return
+        for item in names.split(","):
+            word, _, renamed = item.strip().partition(" as ")
+            self.imports[renamed or word] = (path, word)
+
+
+class Words:
+    """All definitions of `specs/`, by room and name."""
+
+    def __init__(self):
+        self.rooms = {}
+        for crate in crates():
+            for path in files_below(os.path.join(CRATES, crate, "specs"), ".antt"):
+                inner = os.path.relpath(path, os.path.join(CRATES, crate))[:-5].replace(os.sep, ".")
+                name = f"Rattle.{crate}.{inner}"
+                self.rooms[name] = Room(name, path)
+
+    def find(self, path, word):
+        """The room that defines the word, where `path` is the room that is imported, or one that hands the word on."""
+        while path in self.rooms:
+            room = self.rooms[path]
+            if word in room.lines:
+                return path, word
+            if word not in room.imports:
+                return None
+            path, word = room.imports[word]
+        above, _, last = path.rpartition(".")
+        return self.find(above, last) if above in self.rooms else None
+
+    def named_in(self, text, imports, own=None):
+        """The definitions that a text names, by what is imported there."""
+        for token in TOKEN.findall(text):
+            for word in {token, token.split(".")[0]}:
+                if own and word in self.rooms[own].lines:
+                    yield own, word
+                elif word in imports:
+                    found = self.find(*imports[word])
+                    if found:
+                        yield found
+
+    def made_of(self, roots):
+        """All definitions that these are made of, themselves among them."""
+        seen, left = set(), list(roots)
+        while left:
+            key = left.pop()
+            if key not in seen:
+                seen.add(key)
+                room, word = key
+                text = "\n".join(self.rooms[room].lines[word])
+                left += self.named_in(text, self.rooms[room].imports, room)
+        return seen
+
+
+def imports_of(source):
+    """The words that the ghost imports of a source file name. Those of a trait count for the whole file."""
+    imports = {}
+    for line in source.split("\n"):
+        use = USE.match(line.strip())
+        if use and use.group(2):
+            for item in use.group(2).split(","):
+                word, _, renamed = item.strip().partition(" as ")
+                imports[renamed or word] = (use.group(1), word)
+    return imports
+
+
+def braces(text, start):
+    """The text between the brace at `start` and its partner."""
+    depth = 0
+    for at in range(start, len(text)):
+        depth += {"{": 1, "}": -1}.get(text[at], 0)
+        if depth == 0:
+            return text[start + 1 : at]
+    return text[start + 1 :]
+
+
+def functions(source):
+    """Each function of a source file: what it is a method of, if of something; whether it is public; its name and its clauses."""
+    owner, in_trait, lines = None, False, source.split("\n")
+    for at, line in enumerate(lines):
+        block = re.match(r"(?:pub )?(impl|trait)\b(?:<[^{]*?>)?\s*(?:[\w:<>', ]+ for )?(\w+)", line)
+        if block:
+            owner, in_trait = block.group(2), block.group(1) == "trait"
+        elif line.startswith("}"):
+            owner, in_trait = None, False
+        head = re.match(r"( *)(pub |pub\(crate\) )?fn (\w+)", line)
+        if head:
+            end = next((i for i in range(at, len(lines)) if lines[i] == head.group(1) + "{"), at)
+            ends = next((i for i in range(at, len(lines)) if lines[i].endswith((" {", "};", ");"))), at)
+            signature = "\n".join(lines[at : min(e for e in (end, ends) if e >= at) + 1] if end > at else lines[at : ends + 1])
+            clauses = [(c.group(2), braces(signature, c.end() - 1)) for c in CLAUSE.finditer(signature)]
+            yield owner, in_trait or head.group(2) == "pub ", head.group(3), clauses
+
+
+def exported():
+    """What the library hands on: the names, by the crate that they come from."""
+    names = collections.defaultdict(set)
+    for path in files_below(os.path.join(CRATES, LIBRARY, "src"), ".rt"):
+        for crate, rest in re.findall(r"pub use (\w+)::([^;]+);", read(path)):
+            items = braces(rest, rest.index("{")).split(",") if "{" in rest else [rest]
+            names[crate] |= {item.strip().split("::")[-1] for item in items if item.strip()}
+    return names
+
+
+def clause_words(words, crate, wanted):
+    """What clauses of a crate name, of the functions for which `wanted` says so: for each call the definitions."""
+    for path in files_below(os.path.join(CRATES, crate, "src"), ".rt"):
+        source = read(path)
+        imports = imports_of(source)
+        for owner, public, name, clauses in functions(source):
+            named = set()
+            for label, text in clauses:
+                if wanted(owner, public, name, label):
+                    named |= set(words.named_in(text, imports))
+            yield named
+
+
+def public_words(words):
+    """What stands in the clauses of functions that the library hands on, with the number of these functions."""
+    calls = collections.Counter()
+    for crate, names in exported().items():
+        for named in clause_words(words, crate, lambda owner, public, name, _: public and (owner or name) in names):
+            calls.update(named)
+    return calls
+
+
+def theorem_words(words, labels):
+    """What the clauses of the theorem's call name: those with these labels, or all."""
+    crate, call, _ = THEOREM
+    return set().union(*clause_words(words, crate, lambda owner, _, name, label: name == call and (not labels or label in labels)))
+
+
+def place(room):
+    crate, _, inner = room[len("Rattle.") :].partition(".specs.")
+    return f"{crate}/{inner.split('.')[-1]}"
+
+
+def rows(words):
+    """The words of the page: those of the clauses of several calls, those of the theorem's call, and the facts and the values, that is
+    the words with a capital letter, of which the theorem is made."""
+    several = {key for key, calls in public_words(words).items() if calls >= SEVERAL}
+    made = {key for key in words.made_of(theorem_words(words, THEOREM[2])) if key[1][0].isupper()}
+    for room, word in sorted(several | theorem_words(words, ()) | made, key=lambda key: (key[1].lower(), key)):
+        yield word, place(room), words.rooms[room].comment[word], words.rooms[room].path
+
+
+def page(words):
+    lines = [
+        "# Glossary",
+        "",
+        "The words of the contracts of the library's calls, and those of which [the theorem](THEOREM.md) is made. Printed by",
+        "`tools/glossary.py`: behind each word stand its crate and its room, and then the comment above its definition.",
+        "",
+    ]
+    lines += [f"- `{word}` {room}: {comment}" for word, room, comment, _ in rows(words)]
+    return "\n".join(lines) + "\n"
+
+
+def count(words, roots):
+    made = words.made_of(roots)
+    files = {room for room, _ in made}
+    lines = sum(len(words.rooms[room].lines[word]) for room, word in made)
+    return f"{len(made)} definitions in {len(files)} files, {lines} lines"
+
+
+def main(arguments):
+    words = Words()
+    if arguments == ["--bare"]:
+        for word, room, comment, path in rows(words):
+            if not comment or comment.startswith(".."):
+                print(f"{os.path.relpath(path, TOP)}: {word}: {comment}")
+    elif arguments == ["--trusted"]:
+        for labels in (("proved",), THEOREM[2], ()):
+            print(" and ".join(labels) or "all clauses", "of", THEOREM[1] + ":", count(words, theorem_words(words, labels)))
+    elif arguments == ["--check"]:
+        if read(PAGE) != page(words):
+            sys.exit("docs/GLOSSARY.md is not what tools/glossary.py prints")
+    else:
+        print(page(words), end="")
+
+
+if __name__ == "__main__":
+    main(sys.argv[1:])
