@@ -17,6 +17,7 @@ PAGE = os.path.join(TOP, "docs", "GLOSSARY.md")
 LIBRARY = "next_trait_solver"
 SEVERAL = 3
 THEOREM = ("nts_evaluation", "evaluate_root_goal", ("proved", "falls"))
+LAWS = "IsLawfulHandler"
 
 USE = re.compile(r"(?:pub |ghost )*use (Rattle\.[^\s;{]+?)(?:\.\{([^}]*)\})?(?: as (\S+?))?;?$")
 HEAD = re.compile(r"((?:abbrev |unfoldable |data |record |opaque |pub )*)([^\s:({=]+)\s*(.*)$")
@@ -238,11 +239,22 @@ def page(words):
     return "\n".join(lines) + "\n"
 
 
-def count(words, roots):
-    made = words.made_of(roots)
-    files = {room for room, _ in made}
-    lines = sum(len(words.rooms[room].lines[word]) for room, word in made)
-    return f"{len(made)} definitions in {len(files)} files, {lines} lines"
+def count(words, title, roots):
+    lines, made = collections.Counter(), words.made_of(roots)
+    for room, word in made:
+        lines[room] += len(words.rooms[room].lines[word])
+    print(f"{title}: {len(made)} definitions in {len(lines)} files, {lines.total()} lines;", end=" ")
+    print("most in", ", ".join(f"{room.split('.')[-1]} {n}" for room, n in lines.most_common(8)))
+
+
+def trusted(words):
+    call, labels = THEOREM[1:]
+    proved = theorem_words(words, labels[:1])
+    laws = {(room, LAWS) for room in words.rooms if LAWS in words.rooms[room].lines}
+    count(words, f"{labels[0]} of {call}", proved)
+    count(words, ".. with the laws of a handler", proved | laws)
+    count(words, f"{' and '.join(labels)}", theorem_words(words, labels))
+    count(words, f"all clauses of {call}", theorem_words(words, ()))
 
 
 def main(arguments):
@@ -252,8 +264,7 @@ def main(arguments):
             if not comment or comment.startswith(".."):
                 print(f"{os.path.relpath(path, TOP)}: {word}: {comment}")
     elif arguments == ["--trusted"]:
-        for labels in (("proved",), THEOREM[2], ()):
-            print(" and ".join(labels) or "all clauses", "of", THEOREM[1] + ":", count(words, theorem_words(words, labels)))
+        trusted(words)
     elif arguments == ["--check"]:
         if read(PAGE) != page(words):
             sys.exit("docs/GLOSSARY.md is not what tools/glossary.py prints")

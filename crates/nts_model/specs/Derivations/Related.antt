@@ -111,6 +111,7 @@ rest_variances (w ∷ ws) = ws
 -- for themselves, `Holds` the constraints at hand, and `Proved` the premises at hand
 module _ (declared : ℕ → List Variance) (Same : Tree → Type 0) (Holds : Constraint → Type 0) (Proved : Tree → Type 0) where
   mutual
+    -- two trees are related by a variance, where what may be one tree, what constraints hold and what is proved is given
     pub data Related : Variance → Tree → Tree → Type 0 where
       one_tree : {v : Variance} {t : Tree} → Same t → Related v t t
       regions : {v : Variance} {a b : Tree} → IsRegion a → IsRegion b → Holds (region_constraint v a b) → Related v a b
