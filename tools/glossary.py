@@ -10,6 +10,7 @@ import collections
 import os
 import re
 import sys
+import textwrap
 
 TOP = os.path.join(os.path.dirname(os.path.abspath(__file__)), "..")
 CRATES = os.path.join(TOP, "crates")
@@ -235,7 +236,8 @@ def page(words):
         "`tools/glossary.py`: behind each word stand its crate and its room, and then the comment above its definition.",
         "",
     ]
-    lines += [f"- `{word}` {room}: {comment}" for word, room, comment, _ in rows(words)]
+    for word, room, comment, _ in rows(words):
+        lines += textwrap.wrap(f"- `{word}` {room}: {comment}", 116, subsequent_indent="  ", break_on_hyphens=False)
     return "\n".join(lines) + "\n"
 
 
