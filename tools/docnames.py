@@ -9,7 +9,7 @@ import sys
 
 TOP = os.path.join(os.path.dirname(os.path.abspath(__file__)), "..")
 CODE = (".rt", ".antt", ".edit", ".py", ".sh", ".nts")
-FOREIGN = {"rustc_next_trait_solver", "indexmap", "thiserror", "fold_binder", "Send", "TYPE", "HANDLES", "version"}
+FOREIGN = {"rustc_next_trait_solver", "indexmap", "thiserror", "fold_binder", "Send", "TYPE", "HANDLES", "version", "WORD", "vectors"}
 
 
 def read(path):
@@ -31,6 +31,7 @@ def pages():
 def words_of_the_code():
     words = set(FOREIGN)
     words |= {os.path.basename(page)[: -len(".md")] for page in pages()}
+    words |= {part for name in os.listdir(TOP) for part in name.split(".")}
     for folder in ("crates", "examples", "tools"):
         for path in files(folder, CODE):
             words |= set(re.split(r"[/.]", os.path.relpath(path, TOP)))
