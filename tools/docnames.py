@@ -9,7 +9,8 @@ import sys
 
 TOP = os.path.join(os.path.dirname(os.path.abspath(__file__)), "..")
 CODE = (".rt", ".antt", ".edit", ".py", ".sh", ".nts")
-FOREIGN = {"rustc_next_trait_solver", "indexmap", "thiserror", "fold_binder", "Send", "TYPE", "HANDLES", "version", "WORD", "vectors"}
+FOREIGN = {"rustc_next_trait_solver", "indexmap", "thiserror", "fold_binder", "Send", "TYPE", "HANDLES"}
+COMMANDS = {"rt", "cd", "grep"}
 
 
 def read(path):
@@ -48,7 +49,8 @@ def is_known(name, known):
 def names_of(page):
     text = re.sub(r"```.*?```", "", read(page), flags=re.S)
     for quoted in re.findall(r"`([^`\n]+)`", text):
-        yield from (word for word in re.findall(r"[A-Za-z_][\w'-]*", quoted) if len(word) > 2)
+        if quoted.split()[0] not in COMMANDS:
+            yield from (word for word in re.findall(r"[A-Za-z_][\w'-]*", quoted) if len(word) > 2)
 
 
 def main():
