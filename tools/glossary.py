@@ -158,22 +158,29 @@ def braces(text, start):
     return text[start + 1 :]
 
 
+def signature(lines, at, indent):
+    """A function from its head to where its body begins, or to its semicolon where it has none."""
+    end = at
+    while lines[end] != indent + "{" and not lines[end].endswith((" {", ";")):
+        end += 1
+    return "\n".join(lines[at : end + 1])
+
+
 def functions(source):
-    """Each function of a source file: what it is a method of, if of something; whether it is public; its name and its clauses."""
+    """Each function of a source file: of what it is a method, if it is one; whether it is public; its name; and its clauses."""
     owner, in_trait, lines = None, False, source.split("\n")
     for at, line in enumerate(lines):
         block = re.match(r"(?:pub )?(impl|trait)\b(?:<[^{]*?>)?\s*(?:[\w:<>', ]+ for )?(\w+)", line)
+        head = re.match(r"( *)(pub |pub\(crate\) )?fn (\w+)", line)
         if block:
             owner, in_trait = block.group(2), block.group(1) == "trait"
         elif line.startswith("}"):
             owner, in_trait = None, False
-        head = re.match(r"( *)(pub |pub\(crate\) )?fn (\w+)", line)
-        if head:
-            end = next((i for i in range(at, len(lines)) if lines[i] == head.group(1) + "{"), at)
-            ends = next((i for i in range(at, len(lines)) if lines[i].endswith((" {", "};", ");"))), at)
-            signature = "\n".join(lines[at : min(e for e in (end, ends) if e >= at) + 1] if end > at else lines[at : ends + 1])
-            clauses = [(c.group(2), braces(signature, c.end() - 1)) for c in CLAUSE.finditer(signature)]
-            yield owner, in_trait or head.group(2) == "pub ", head.group(3), clauses
+        elif head:
+            indent, public, name = head.groups()
+            text = signature(lines, at, indent)
+            clauses = [(clause.group(2), braces(text, clause.end() - 1)) for clause in CLAUSE.finditer(text)]
+            yield owner, in_trait or public == "pub ", name, clauses
 
 
 def exported():
