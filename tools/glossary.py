@@ -160,10 +160,10 @@ def braces(text, start):
 
 def signature(lines, at, indent):
     """A function from its head to where its body begins, or to its semicolon where it has none."""
-    end = at
-    while lines[end] != indent + "{" and not lines[end].endswith((" {", ";")):
-        end += 1
-    return "\n".join(lines[at : end + 1])
+    for end in range(at, len(lines)):
+        if lines[end] in (indent + "{", indent + "{}") or lines[end].endswith((" {", " {}", ";")):
+            return "\n".join(lines[at : end + 1])
+    return lines[at]
 
 
 def functions(source):
