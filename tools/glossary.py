@@ -20,8 +20,8 @@ SEVERAL = 3
 THEOREM = ("nts_evaluation", "evaluate_root_goal", ("proved", "falls"))
 LAWS = "IsLawfulHandler"
 
-USE = re.compile(r"(?:pub |ghost )*use (Rattle\.[^\s;{]+?)(?:\.\{([^}]*)\})?(?: as (\S+?))?;?$")
-HEAD = re.compile(r"((?:abbrev |unfoldable |data |record |opaque |pub )*)([^\s:({=]+)\s*(.*)$")
+USE = re.compile(r"(?:pub |ghost )*use (Rattle\.[^\s;{]+?)(?:\.\{([^}]*)\})?(?: as \S+?)?;?$")
+HEAD = re.compile(r"((?:abbrev |unfoldable |data |record |opaque |pub )*)([^\s:({=]*)\s*(.*)$")
 TOKEN = re.compile(r"[^\s(){}\[\],;]+")
 CLAUSE = re.compile(r"(requires|ensures)\s+(\w*)\s*\{")
 
@@ -38,55 +38,49 @@ def files_below(folder, ending):
                 yield os.path.join(at, name)
 
 
+def imported(line):
+    """The words that a line imports, each with its room and its name there."""
+    use = USE.match(line)
+    if not use or not use.group(2):
+        return {}
+    items = (item.strip().partition(" as ") for item in use.group(2).split(","))
+    return {renamed or word: (use.group(1), word) for word, _, renamed in items}
+
+
 def crates():
     return sorted(os.listdir(CRATES))
 
 
 class Room:
-    """A file of definitions: their first lines, the comments above them, what they are made of, and what is imported."""
+    """A file of definitions: for each word its lines and the comment above it; and what is imported."""
 
-    def __init__(self, name, path):
-        self.name, self.path = name, path
-        self.comment, self.lines, self.imports, self.aliases = {}, {}, {}, {}
-        self.read(read(path).split("\n"))
-
-    def read(self, lines):
-        comment, word, columns, inside = [], None, [0], None
-        for line in lines:
-            text, indent = line.strip(), len(line) - len(line.lstrip())
+    def __init__(self, path):
+        self.path = path
+        self.comment, self.lines, self.imports = {}, {}, {}
+        comment, word, columns, typed = [], None, [0], None
+        for line in read(path).split("\n"):
+            text, column = line.strip(), len(line) - len(line.lstrip())
             if text.startswith("--"):
                 comment.append(text[2:].strip())
                 continue
-            if not text:
-                comment, word = [], word if inside is None else word
-                continue
-            while indent < columns[-1]:
-                columns.pop()
-            if inside is not None and indent <= inside:
-                inside = None
-            if USE.match(text):
-                self.use(*USE.match(text).groups())
-            elif re.match(r"(abbrev |unfoldable )*mutual\b|module ", text):
-                columns.append(indent + 2)
-            else:
-                head = HEAD.match(text)
-                if head and inside is None and indent == columns[-1]:
-                    kind, name, rest = head.groups()
-                    typed = "data " in kind or "record " in kind
-                    if typed or rest == ":" or rest.startswith(": "):
-                        word, inside = name, indent if typed else None
-                        self.comment[name], self.lines[name] = " ".join(comment), []
-                if word:
-                    self.lines[word].append(text)
+            if text:
+                while column < columns[-1]:
+                    columns.pop()
+                if typed is not None and column <= typed:
+                    typed = None
+                if USE.match(text):
+                    self.imports.update(imported(text))
+                elif re.match(r"(abbrev |unfoldable )*mutual\b|module ", text):
+                    columns.append(column + 2)
+                else:
+                    kind, name, rest = HEAD.match(text).groups()
+                    is_type = "data " in kind or "record " in kind
+                    if typed is None and column == columns[-1] and (is_type or re.match(r":( |$)", rest)):
+                        word, typed = name, column if is_type else None
+                        self.comment[word], self.lines[word] = " ".join(comment), []
+                    if word:
+                        self.lines[word].append(text)
             comment = []
-
-    def use(self, path, names, other):
-        if names is None:
-            self.aliases[other or path.split(".")[-1]] = path
-            return
-        for item in names.split(","):
-            word, _, renamed = item.strip().partition(" as ")
-            self.imports[renamed or word] = (path, word)
 
 
 class Words:
@@ -98,7 +92,7 @@ class Words:
             for path in files_below(os.path.join(CRATES, crate, "specs"), ".antt"):
                 inner = os.path.relpath(path, os.path.join(CRATES, crate))[:-5].replace(os.sep, ".")
                 name = f"Rattle.{crate}.{inner}"
-                self.rooms[name] = Room(name, path)
+                self.rooms[name] = Room(path)
 
     def find(self, path, word):
         """The room that defines the word, where `path` is the room that is imported, or one that hands the word on."""
@@ -138,14 +132,7 @@ class Words:
 
 def imports_of(source):
     """The words that the ghost imports of a source file name. Those of a trait count for the whole file."""
-    imports = {}
-    for line in source.split("\n"):
-        use = USE.match(line.strip())
-        if use and use.group(2):
-            for item in use.group(2).split(","):
-                word, _, renamed = item.strip().partition(" as ")
-                imports[renamed or word] = (use.group(1), word)
-    return imports
+    return {word: room for line in source.split("\n") for word, room in imported(line.strip()).items()}
 
 
 def braces(text, start):
