@@ -66,7 +66,7 @@ pub record IsRankedProof (m : Meaning) (mode : Mode) (nodes : List Node) : Type 
   pub justified : (n : Node) → Among nodes n → IsJustified m mode n
   pub steps : (n : Node) (s : Step) → Among nodes n → Among n.steps s → IsSoundStep m nodes n s
 
--- a ranked proof proves each instance of its nodes
+-- the sequent is an instance of a node of a ranked proof
 pub record HasProof (m : Meaning) (mode : Mode) (t : Sequent) : Type 0 where
   pub nodes : List Node
   pub first : Node

@@ -124,7 +124,7 @@ module _ (declared : ℕ → List Variance) (Same : Tree → Type 0) (Holds : Co
       subtypes : {v : Variance} {a b : Tree} (e : Bool) → (v ≡ variance.Invariant → ⊥) → kind_of a ≡ Some (of_sort sort.Ty) → kind_of b ≡ Some (of_sort sort.Ty)
           → IsClosed a → IsClosed b → Proved (subtype_goal e v a b) → Related v a b
 
-    -- argument by argument; what has no declared variance is invariant
+    -- two rows are related argument by argument; what has no declared variance is invariant
     pub data AreRelatedByArgument : Variance → List Variance → Tree → Tree → Type 0 where
       no_more : {v : Variance} {ws : List Variance} → AreRelatedByArgument v ws empty empty
       and_more : {v : Variance} {ws : List Variance} {a b ts us : Tree} → Related (times v (first_variance ws)) a b → AreRelatedByArgument v (rest_variances ws) ts us

@@ -144,7 +144,7 @@ IsClosedUnder c empty = Unit {0}
 IsClosedUnder c (more a b) = IsClosedUnder c a × IsClosedUnder c b
 IsClosedUnder c (node l ts) = IsBoundBelow c l × IsClosedUnder (c + binders l) ts
 
--- without escaping bound variables
+-- a tree without escaping bound variables
 abbrev pub IsClosed : Tree → Type 0
 IsClosed t = IsClosedUnder 0 t
 
