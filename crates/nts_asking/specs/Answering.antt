@@ -107,7 +107,7 @@ pub record Evaluates (a b : List Tree) (t u : Table) (e g : Tree) (changed : Has
 abbrev pub EvaluatesGoal : List Tree → List Tree → Table → Table → Goal → HasChanged → Type 0
 EvaluatesGoal a b t u g changed = Evaluates a b t u (tree_at a g.param_env.node) (tree_at a g.predicate.node) changed
 
--- .. and of what it is under the table
+-- evaluating the goal as the table knows it left the table with the response to its input applied, and nothing else
 abbrev pub EvaluatesUnder : List Tree → List Tree → Table → Table → Goal → HasChanged → Type 0
 EvaluatesUnder a b t u g changed =
     Evaluates a b t u (deeply_resolved (content_of a t.entries) (tree_at a g.param_env.node)) (deeply_resolved (content_of a t.entries) (tree_at a g.predicate.node)) changed

@@ -43,7 +43,7 @@ pub record Goes (ts us : List Tree) (t u : Table) : Type 0 where
   pub hidden : u.entries.hidden ≡ t.entries.hidden
   pub sides : HasClosedSides (content_of ts t.entries) → HasClosedSides (content_of us u.entries)
 
--- .. and what else the store keeps is the same
+-- store and table went on: what was known and held is so still, and what else the store keeps is the same
 pub record Runs (a b : Cx) (t u : Table) : Type 0 where
   pub goes : Goes a.nodes b.nodes t u
   pub rest : KeepsRest a b

@@ -106,11 +106,12 @@ abbrev pub IsRefusedIn : Handler → TypingMode → List Tree → Table → Goal
 IsRefusedIn h mode a t g =
     Refused h (mode_of mode) (content_of a t.entries) (tree_at a g.param_env.node) (tree_at a g.predicate.node)
 
--- .. as the table knows it
+-- the goal as the table knows it was asked: its query tells a response, and that was applied to the goal's leaves
 abbrev pub IsAskedUnder : Handler → TypingMode → List Tree → Table → List Tree → Table → Goal → Type 0
 IsAskedUnder h mode a t b u g =
     Asked h (mode_of mode) (content_of a t.entries) (content_of b u.entries) (deeply_resolved (content_of a t.entries) (tree_at a g.param_env.node)) (deeply_resolved (content_of a t.entries) (tree_at a g.predicate.node))
 
+-- the goal as the table knows it is refused: by its query, or since no solution of the table grants the response
 abbrev pub IsRefusedUnder : Handler → TypingMode → List Tree → Table → Goal → Type 0
 IsRefusedUnder h mode a t g =
     Refused h (mode_of mode) (content_of a t.entries) (deeply_resolved (content_of a t.entries) (tree_at a g.param_env.node)) (deeply_resolved (content_of a t.entries) (tree_at a g.predicate.node))

@@ -70,7 +70,7 @@ abbrev pub HasRankedProofIn : Meaning → Mode → List Tree → Table → Goal 
 HasRankedProofIn m mode ts t g =
     HasRankedProofUnder m mode (content_of ts t.entries) (tree_at ts g.param_env.node) (tree_at ts g.predicate.node)
 
--- .. in which each step leads to a lower rank
+-- a goal has a ranked proof under a table, the hypotheses of which the table holds, in which each step leads to a lower rank
 abbrev pub HasFallingProofIn : Meaning → Mode → List Tree → Table → Goal → Type 0
 HasFallingProofIn m mode ts t g =
     HasFallingProofUnder m mode (content_of ts t.entries) (tree_at ts g.param_env.node) (tree_at ts g.predicate.node)

@@ -16,6 +16,6 @@ abbrev pub sub_follow : Entries → ℕ → ℕ → ℕ
 sub_follow e zero n = n
 sub_follow e (suc k) n = along (sub_follow e k) n (sub_link_in (slice_get e.variables n))
 
--- where they end. They lead to lower numbers, so n steps are enough
+-- where the links of sub-unification end. They lead to lower numbers, so n steps are enough
 abbrev pub sub_root_in : Entries → ℕ → ℕ
 sub_root_in e n = sub_follow e n n

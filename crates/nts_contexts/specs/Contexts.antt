@@ -14,10 +14,11 @@ use Rattle.nts_trying.specs.Stepping.{ArePosed}
 use Rattle.nts_contexts.specs.declared.state.EvalState.{EvalState}
 use Rattle.nts_contexts.specs.declared.context.EvalCtxt.{EvalCtxt}
 
--- what a context's table stands for, and a term of its store
+-- what a context's table stands for
 abbrev pub content_in : {H : Type 0} → EvalCtxt H → Content
 content_in c = content_of c.cx.now.nodes c.table.now.entries
 
+-- the tree of a term of the context's store
 abbrev pub tree_in : {H : Type 0} → EvalCtxt H → NodeId → Tree
 tree_in c n = tree_at c.cx.now.nodes n
 

@@ -68,6 +68,7 @@ pub record StoreHoldsConstraint (ts : List Tree) (x : RegionConstraint × Visibl
 pub record HoldsOpen (ts : List Tree) (g : GoalSource × Goal) : Type 0 where
   pub goal : HoldsGoal ts g.1
 
+-- all terms of the response are of the store
 pub record HoldsResponse (ts : List Tree) (r : Response) : Type 0 where
   pub values : All (HoldsArg ts) r.var_values.items
   pub constraints : All (StoreHoldsConstraint ts) r.external_constraints.region_constraints.items

@@ -73,7 +73,7 @@ read_at [] n = []
 read_at (x ∷ xs) zero = record x { is_read = true } ∷ xs
 read_at (x ∷ xs) (suc n) = x ∷ read_at xs n
 
--- all but the entries and how many there were
+-- all of a search stays but the entries and how many there were
 pub record KeepsRestOfGraph (old new : SearchGraph) : Type 0 where
   pub root_depth : new.root_depth ≡ old.root_depth
   pub has_overflowed : new.has_overflowed ≡ old.has_overflowed

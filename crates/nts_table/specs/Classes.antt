@@ -40,6 +40,7 @@ value_or_root k r (Some unset) = variable_tree k r
 value_or_root k r (Some (link m)) = variable_tree k r
 value_or_root k r (Some (known t)) = t
 
+-- what stands for a variable: the value of its class, or else the root
 abbrev pub shallow_variable : Content → VariableKind → ℕ → Tree
 shallow_variable c k n = value_or_root k (root_of c n) (state_of c (root_of c n))
 

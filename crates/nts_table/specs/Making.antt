@@ -6,11 +6,11 @@ use Rattle.nts_unify.specs.declared.contents.Variable.{Variable}
 use Rattle.nts_unify.specs.Entries.{Entries, added}
 use Rattle.nts_unify.specs.Roots.{IsSubRoot}
 
--- of this universe, and nothing is known of it
+-- a variable of this universe of which nothing is known
 abbrev pub unset_variable : VariableKind → ℕ → Variable
 unset_variable k u = record { kind = k; universe = u; state = Unset; sub_link = None }
 
--- .. of the current universe
+-- a variable of the current universe of which nothing is known
 abbrev pub new_variable : Entries → VariableKind → Variable
 new_variable c k = unset_variable k c.universe
 

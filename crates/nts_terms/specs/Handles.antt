@@ -25,30 +25,39 @@ pub record Holds (p : Place) (ts : List Tree) (n : NodeId) : Type 0 where
   pub within : IsIn ts n
   pub fits : FitsPlace p (kind_of (tree_at ts n))
 
+-- a type of the store
 abbrev pub HoldsTy : List Tree → Ty → Type 0
 HoldsTy ts t = Holds a_type ts t.node
 
+-- a region of the store
 abbrev pub HoldsRegion : List Tree → Region → Type 0
 HoldsRegion ts r = Holds a_region ts r.node
 
+-- a const of the store
 abbrev pub HoldsConst : List Tree → Const → Type 0
 HoldsConst ts c = Holds a_const ts c.node
 
+-- a type or a const of the store
 abbrev pub HoldsTerm : List Tree → Term → Type 0
 HoldsTerm ts t = Holds any_term ts t.node
 
+-- an argument of the store
 abbrev pub HoldsArg : List Tree → GenericArg → Type 0
 HoldsArg ts a = Holds any_argument ts a.node
 
+-- a list of arguments of the store
 abbrev pub HoldsArgs : List Tree → GenericArgs → Type 0
 HoldsArgs ts a = Holds (is arguments) ts a.node
 
+-- a binder's list of sorts of the store
 abbrev pub HoldsVars : List Tree → BoundVars → Type 0
 HoldsVars ts v = Holds (is sort_list) ts v.node
 
+-- a predicate of the store, with its binder
 abbrev pub HoldsPredicate : List Tree → Predicate → Type 0
 HoldsPredicate ts p = Holds (is bound_predicate) ts p.node
 
+-- an environment of the store
 abbrev pub HoldsEnv : List Tree → ParamEnv → Type 0
 HoldsEnv ts e = Holds (is environment) ts e.node
 

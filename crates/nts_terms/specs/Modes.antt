@@ -8,7 +8,7 @@ use Rattle.nts_terms.specs.declared.modes.TypingMode.TheVariants as mode
 abbrev pub numbers_of : List AliasId → List ℕ
 numbers_of ids = map (λ i. i.number) ids
 
--- the opaque types of a mode by their numbers
+-- a typing mode as proofs know it, its opaque types by their numbers
 abbrev pub mode_of : TypingMode → Mode
 mode_of mode.Coherence = coherence
 mode_of (mode.Analysis ids) = analysis (numbers_of ids.items)

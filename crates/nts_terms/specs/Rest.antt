@@ -12,7 +12,7 @@ pub record KeepsRest (old new : Cx) : Type 0 where
   pub division : new.depth_division ≡ old.depth_division
   pub fast_paths : new.disable_fast_paths ≡ old.disable_fast_paths
 
--- the context has more terms at most
+-- the store has more terms at most, and what else it keeps is the same
 pub record Grows (old new : Cx) : Type 0 where
   pub extends : Extends old.nodes new.nodes
   pub rest : KeepsRest old new

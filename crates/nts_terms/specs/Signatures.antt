@@ -137,6 +137,7 @@ abbrev pub ctor_variances : Option CtorSorts → List Variance
 ctor_variances None = []
 ctor_variances (Some c) = c.variances
 
+-- the variances of a constructor's arguments, as they were declared
 abbrev pub variances_in : Declared → ℕ → List Variance
 variances_in d i = ctor_variances (slice_get d.ctors i)
 

@@ -36,6 +36,7 @@ pub record KeepsHidden (old new : Inner) : Type 0 where
 abbrev pub front : {A : Type 0} → List A → List A
 front xs = take (length xs - 1) xs
 
+-- the entries with one more variable
 abbrev pub added : Entries → Variable → Entries
 added c v = record c { variables = c.variables ++ v ∷ [] }
 

@@ -30,7 +30,7 @@ abbrev pub recorded_of : List Tree → Constraint → Recorded
 recorded_of ts x =
     record { relation = x.relation; left = tree_at ts x.left; right = tree_at ts x.right; is_visible = x.is_visible }
 
--- the content, where the store has these trees
+-- the content that the entries of a table stand for, where the store has these trees
 abbrev pub content_of : List Tree → Entries → Content
 content_of ts c =
     record { slots = map (slot_of ts) c.variables; order = c.order; universe = c.universe; constraints = map (recorded_of ts) c.constraints }

@@ -16,6 +16,7 @@ IsUnlinked Unset = Unit {0}
 IsUnlinked (Link m) = ⊥
 IsUnlinked (Known t) = Unit {0}
 
+-- links lead from the variable n to r, which has none
 pub record IsRoot (e : Entries) (n r : ℕ) : Type 0 where
   pub within : r < length e.variables
   pub leads : Leads e n r

@@ -19,11 +19,12 @@ use Rattle.nts_model.specs.Lists.{Among}
 use Rattle.nts_model.specs.Derivations.Sequents.{Source, normalize_goal, Premise, Hidden, HasClosedStatements}
 use Rattle.nts_model.specs.Derivations.Rules.{Mode, Equation, related, alike, Application, Meaning, meaning_of, statement_of, IsHandlers}
 
--- how sure an answer is
+-- why an answer is not certain
 pub data Cause : Type 0 where
   ambiguity : Cause
   overflow : (suggests_limit keeps_constraints : Bool) → Cause
 
+-- how sure an answer is
 pub data Certainty : Type 0 where
   certain : Certainty
   perhaps : Cause → (may_be_error : Bool) → Certainty
@@ -120,7 +121,7 @@ pub record Handler : Type 1 where
   pub offers : Mode → Tree → Tree → List Candidate
   pub is_coinductive : ℕ → Bool
 
--- .. where constructors have declared variances
+-- what a handler means where constructors have declared variances
 abbrev pub meaning : Handler → (ℕ → List Variance) → Meaning
 meaning h variances = meaning_of h.applies h.is_coinductive variances
 

@@ -17,6 +17,7 @@ pub record Step : Type 0 where
   pub target : Name
   pub instance : Instance
 
+-- a goal of a ranked proof: its name, its rank, and the steps to what it rests on
 pub record Node : Type 0 where
   pub name : Name
   pub sequent : Sequent
@@ -60,11 +61,12 @@ pub record IsJustified (m : Meaning) (mode : Mode) (n : Node) : Type 0 where
   pub terms : IsOfTerms n.sequent
   pub rule : IsRule m mode (λ t. Unit {0}) (Grants n.sequent) (Hides n.sequent) (RestsOn m n) n.sequent.environment n.sequent.predicate
 
+-- a finite list of nodes, each of which is justified, and each of whose steps is sound
 pub record IsRankedProof (m : Meaning) (mode : Mode) (nodes : List Node) : Type 0 where
   pub justified : (n : Node) → Among nodes n → IsJustified m mode n
   pub steps : (n : Node) (s : Step) → Among nodes n → Among n.steps s → IsSoundStep m nodes n s
 
--- a ranked proof proves each instance of its nodes
+-- the sequent is an instance of a node of a ranked proof
 pub record HasProof (m : Meaning) (mode : Mode) (t : Sequent) : Type 0 where
   pub nodes : List Node
   pub first : Node

@@ -111,6 +111,7 @@ rest_variances (w ∷ ws) = ws
 -- for themselves, `Holds` the constraints at hand, and `Proved` the premises at hand
 module _ (declared : ℕ → List Variance) (Same : Tree → Type 0) (Holds : Constraint → Type 0) (Proved : Tree → Type 0) where
   mutual
+    -- two trees are related by a variance, where what may be one tree, what constraints hold and what is proved is given
     pub data Related : Variance → Tree → Tree → Type 0 where
       one_tree : {v : Variance} {t : Tree} → Same t → Related v t t
       regions : {v : Variance} {a b : Tree} → IsRegion a → IsRegion b → Holds (region_constraint v a b) → Related v a b
@@ -123,7 +124,7 @@ module _ (declared : ℕ → List Variance) (Same : Tree → Type 0) (Holds : Co
       subtypes : {v : Variance} {a b : Tree} (e : Bool) → (v ≡ variance.Invariant → ⊥) → kind_of a ≡ Some (of_sort sort.Ty) → kind_of b ≡ Some (of_sort sort.Ty)
           → IsClosed a → IsClosed b → Proved (subtype_goal e v a b) → Related v a b
 
-    -- argument by argument; what has no declared variance is invariant
+    -- two rows are related argument by argument; what has no declared variance is invariant
     pub data AreRelatedByArgument : Variance → List Variance → Tree → Tree → Type 0 where
       no_more : {v : Variance} {ws : List Variance} → AreRelatedByArgument v ws empty empty
       and_more : {v : Variance} {ws : List Variance} {a b ts us : Tree} → Related (times v (first_variance ws)) a b → AreRelatedByArgument v (rest_variances ws) ts us

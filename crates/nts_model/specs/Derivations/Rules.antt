@@ -169,11 +169,11 @@ IsResult G P e a r =
     ⊎ ((x : IsAlias a) × IsTerm r × G r × P (relating e (normalization_goal x.head x.parts r)) × (kind_of r ≡ kind_of a))
 
 module _ (m : Meaning) (G : Tree → Type 0) (H : Constraint → Type 0) (P : Premise → Type 0) (e : Tree) where
-  -- related in an environment, and two results related: as trees, or as aliases of one head by their arguments, which are
-  -- invariant, in either order
+  -- related in an environment, where G are the values that may be chosen, H the constraints and P the premises at hand
   abbrev pub RelatedIn : Variance → Tree → Tree → Type 0
   RelatedIn = Related m.variances G H (λ g. P (relating e g))
 
+  -- two results are related: as trees, or as aliases of one head by their arguments, which are invariant, in either order
   abbrev pub AreResultsRelated : Variance → Tree → Tree → Type 0
   AreResultsRelated v a b =
       RelatedIn v a b

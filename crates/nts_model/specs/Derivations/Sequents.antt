@@ -22,6 +22,7 @@ pub data Source : Type 0 where
   misc type_relating impl_where_bound alias_bound_const alias_well_formed : Source
   normalize_goal : PathKind → Source
 
+-- a goal that is asked below another one, in an environment, and why
 pub record Premise : Type 0 where
   pub source : Source
   pub environment : Tree
@@ -45,7 +46,7 @@ pub record Sequent : Type 0 where
 abbrev pub HasClosedStatement : Tree → Type 0
 HasClosedStatement p = (s : Tree) → p ≡ unbound s → IsClosed s
 
--- .. of each predicate of an environment
+-- of each predicate of an environment: where its binder binds nothing, no bound variable of the statement names it
 abbrev pub HasClosedStatements : Tree → Type 0
 HasClosedStatements e = (ps p : Tree) → e ≡ node (label.List list.Env) ps → IsInRow p ps → HasClosedStatement p
 
@@ -73,6 +74,7 @@ abbrev pub HasOneSide : Relation → Constraint → Type 0
 HasOneSide relation.TypeOutlives x = ⊥
 HasOneSide r x = x.left ≡ x.right
 
+-- a constraint whose two sides are one
 abbrev pub IsTrivial : Constraint → Type 0
 IsTrivial x = HasOneSide x.relation x
 

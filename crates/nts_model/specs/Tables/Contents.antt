@@ -44,6 +44,7 @@ state_of c n = map_slot (λ v. v.state) (slice_get c.slots n)
 abbrev pub universe_of : Content → ℕ → Option ℕ
 universe_of c n = map_slot (λ v. v.universe) (slice_get c.slots n)
 
+-- the kind of a variable, if the table has the variable
 abbrev pub kind_at : Content → ℕ → Option VariableKind
 kind_at c n = map_slot (λ v. v.kind) (slice_get c.slots n)
 

@@ -12,7 +12,7 @@ use Rattle.nts_model.specs.Tables.Levels.{Falls}
 abbrev pub AreOne : Content → Tree → Tree → Type 0
 AreOne c a b = deeply_resolved c a ≡ deeply_resolved c b
 
--- both sides are one region
+-- under the table's values and roots both sides are one region
 abbrev pub IsTrivialUnder : Content → Relation → Tree → Tree → Type 0
 IsTrivialUnder c relation.TypeOutlives a b = ⊥
 IsTrivialUnder c r a b = AreOne c a b

@@ -117,6 +117,7 @@ KnowsLeaves c (node l t) = KnowsLeaf c l × KnowsLeaves c t
 abbrev pub KnowsLabel : Content → Label → Type 0
 KnowsLabel c l = KnowsVariable c (variable_of l) × CanName c.universe (leaf_level l) × (is_canonical l ≡ false)
 
+-- the table has the variables of the tree, and names its placeholders; what it binds is listed, and it has no position
 abbrev pub Knows : Content → Tree → Type 0
 Knows c empty = Unit {0}
 Knows c (more a b) = Knows c a × Knows c b

@@ -29,6 +29,7 @@ abbrev pub IsListed : Tree → ℕ → Label → Type 0
 IsListed ss d (label.Bound s (index.Bound e) n) = e ≡ d → HasSortAt ss n s
 IsListed ss d l = Unit {0}
 
+-- each bound variable of a tree that names the binder d binders out is of its list
 abbrev pub AllListed : Tree → ℕ → Tree → Type 0
 AllListed ss d empty = Unit {0}
 AllListed ss d (more a b) = AllListed ss d a × AllListed ss d b

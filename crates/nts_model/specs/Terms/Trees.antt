@@ -21,6 +21,7 @@ use Rattle.nts_model.specs.declared.labels.ListHead.TheVariants as list
 use Rattle.nts_model.specs.declared.labels.Label.{Label}
 use Rattle.nts_model.specs.declared.labels.Label.TheVariants as label
 
+-- a term: a label over a row of trees, or a row of trees
 pub data Tree : Type 0 where
   empty : Tree
   more : Tree → Tree → Tree
@@ -38,6 +39,7 @@ label_of empty = None
 label_of (more a b) = None
 label_of (node l c) = Some l
 
+-- the children of a node, as a row
 abbrev pub children : Tree → Tree
 children empty = empty
 children (more a b) = empty
@@ -49,11 +51,13 @@ IsRow empty = Unit {0}
 IsRow (more a b) = IsRow b
 IsRow (node l c) = ⊥
 
+-- how many trees a row has
 abbrev pub row_length : Tree → ℕ
 row_length empty = 0
 row_length (more a b) = row_length b + 1
 row_length (node l c) = 0
 
+-- the tree at a place of a row
 abbrev pub row_at : Tree → ℕ → Tree
 row_at empty i = empty
 row_at (more a b) zero = a
@@ -134,12 +138,13 @@ abbrev pub IsBoundBelow : ℕ → Label → Type 0
 IsBoundBelow c (label.Bound s (index.Bound d) n) = d < c
 IsBoundBelow c l = Unit {0}
 
+-- no bound variable of the tree passes the c binders around it
 abbrev pub IsClosedUnder : ℕ → Tree → Type 0
 IsClosedUnder c empty = Unit {0}
 IsClosedUnder c (more a b) = IsClosedUnder c a × IsClosedUnder c b
 IsClosedUnder c (node l ts) = IsBoundBelow c l × IsClosedUnder (c + binders l) ts
 
--- without escaping bound variables
+-- a tree without escaping bound variables
 abbrev pub IsClosed : Tree → Type 0
 IsClosed t = IsClosedUnder 0 t
 
@@ -189,6 +194,7 @@ pub data Place : Type 0 where
   is : NodeKind → Place
   any_term any_argument : Place
 
+-- a node of that kind may stand at the place
 abbrev pub FitsPlace : Place → Option NodeKind → Type 0
 FitsPlace (is k) o = o ≡ Some k
 FitsPlace any_term (Some (of_sort s)) = s ≡ sort.Region → ⊥
@@ -200,16 +206,19 @@ pub data Shape : Type 0 where
   in_order : List Place → Shape
   each : Place → Shape
 
+-- the trees of a row may stand at these places, in order
 abbrev pub HavePlaces : List Place → Tree → Type 0
 HavePlaces [] empty = Unit {0}
 HavePlaces (p ∷ ps) (more a b) = FitsPlace p (kind_of a) × HavePlaces ps b
 HavePlaces ps t = ⊥
 
+-- each tree of a row may stand at the place
 abbrev pub AllFit : Place → Tree → Type 0
 AllFit p empty = Unit {0}
 AllFit p (more a b) = FitsPlace p (kind_of a) × AllFit p b
 AllFit p (node l c) = ⊥
 
+-- the row is of that shape
 abbrev pub Meets : Shape → Tree → Type 0
 Meets (in_order ps) c = HavePlaces ps c
 Meets (each p) c = AllFit p c
