@@ -13,7 +13,8 @@ use Rattle.nts_store.proofs.Escaping.{escapes, closed_by_facts}
 use Rattle.nts_table.specs.Tables.{Table}
 use Rattle.nts_unify.specs.Reading.{content_of}
 use Rattle.nts_asking.specs.Evaluation.{IsRootTerm}
-use Rattle.nts_delegate.proofs.Testing.{both_false, or_false}
+use Rattle.nts_delegate.proofs.Testing.{or_false}
+use Rattle.nts_store.proofs.Filling.{both_false}
 
 -- no label passes a test
 none_of : (p : Label → Bool) (t : Tree) → AllLabels (λ l. p l ≡ false) t → any_label p t ≡ false

@@ -38,13 +38,7 @@ use Rattle.nts_asking.specs.Asking.{IsResponseOf, first_table, first_values, ask
 use Rattle.nts_asking.specs.Evaluation.{asked_terms}
 use Rattle.nts_asking.proofs.QueryTables.{first_content, first_passes, is_label_in, queries_pass, labels_in, table_in, values_pass, asked_passes, value_formed}
 use Rattle.nts_asking.proofs.Running.{term_table}
-
--- the goal of the query is that of its input, in the first table
-first_part : (a b c d : Tree) → more a b ≡ more c d → a ≡ c
-first_part a b c d e = cc e
-
-rest_part : (a b c d : Tree) → more a b ≡ more c d → b ≡ d
-rest_part a b c d e = cc e
+use Rattle.nts_model.proofs.Responses.Asked.{first_part, rest_part}
 
 pub query_environment : (a b : List Tree) (input : CanonicalInput) (q : QueryInput) → query_tree b q ≡ filled (values_of input) (query_tree a input.canonical.value) → tree_at b q.goal.param_env.node ≡ asked_environment (form_of a input)
 query_environment a b input q e = first_part _ _ _ _ e

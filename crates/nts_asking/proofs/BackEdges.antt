@@ -11,7 +11,7 @@ use Rattle.nts_model.specs.Answers.Responses.{Response as Answer, answer_sequent
 use Rattle.nts_model.specs.Searching.Stacks.{Entry, IsDerivedFrom, IsUsable, assumptions, path_kind, stronger}
 use Rattle.nts_model.specs.Searching.Driving.{as_read, marked}
 use Rattle.nts_model.proofs.Terms.Composing.{itself}
-use Rattle.nts_model.proofs.Searching.Driving.{get-marked}
+use Rattle.nts_model.proofs.Searching.Driving.{get-marked, path_marked}
 use Rattle.nts_model.proofs.Searching.Ordered.{get_reversed}
 use Rattle.indexmap.proofs.ReorderLemmas.{map-reverse}
 use Rattle.std.proofs.lemmas.Option.{slice_get-get_or}
@@ -127,14 +127,6 @@ step_inductive path.ForcedAmbiguity e = cc e
 
 pub last_inductive : (xs : List Entry) (n : ℕ) (k q : PathKindData) → path_kind_of k ≡ path_kind xs n (path_kind_of q) → k ≡ path.Inductive → q ≡ path.Inductive
 last_inductive xs n k q e i = step_inductive q (path_inductive xs n (path_kind_of q) (sym e ∙ ap path_kind_of i))
-
--- reading changes no path
-path_marked : (xs : List Entry) (n i : ℕ) (k : PathKind) → path_kind (marked xs i) n k ≡ path_kind xs n k
-path_marked [] n i k = refl
-path_marked (x ∷ xs) zero zero k = refl
-path_marked (x ∷ xs) zero (suc i) k = refl
-path_marked (x ∷ xs) (suc n) zero k = refl
-path_marked (x ∷ xs) (suc n) (suc i) k = ap (λ z. stronger k z) (path_marked xs n i x.kind)
 
 -- the entry with an index, from the newest
 got_at : {X : Type 0} (f : X → Entry) (xs : List X) (n : ℕ) (d : X) → n < length xs → slice_get (map f (reverse xs)) (length xs - suc n) ≡ Some (f (get_or xs n d))

@@ -62,6 +62,7 @@ use Rattle.nts_terms.proofs.Moved.{KeepsRest-refl, KeepsRest-trans}
 use Rattle.nts_asking.specs.Meant.{Since, offers_of}
 use Rattle.nts_asking.specs.Evaluation.{Goes, Runs, IsAdmitted, IsPosed, AllKnown, AreOfSorts, AreValues}
 use Rattle.nts_table.specs.Tables.{IsTermIn}
+use Rattle.nts_unify.proofs.Changes.{length-slots}
 
 pub Goes-trans : {a b c : List Tree} {t u v : Table} → Goes a b t u → Goes b c u v → Goes a c t v
 Goes-trans {a} {b} {c} {t} {u} {v} g h =
@@ -272,10 +273,6 @@ kinds-fresh ts e [] = KeepsKinds-refl (content_of ts e)
 kinds-fresh ts e (s ∷ ss) =
     let next = added e (new_variable e (variable_kind s)) in
     KeepsKinds-trans (kinds-added ts e (new_variable e (variable_kind s))) (kinds-fresh ts next ss)
-
-pub length-slots : (ts : List Tree) (vs : List Variable) → length (map (slot_of ts) vs) ≡ length vs
-length-slots ts [] = refl
-length-slots ts (v ∷ vs) = ap suc (length-slots ts vs)
 
 kind-new : (ts : List Tree) (e : Entries) (v : Variable) → kind_at (content_of ts (added e v)) (length e.variables) ≡ Some v.kind
 kind-new ts e v =

@@ -30,16 +30,13 @@ use Rattle.nts_unify.specs.Changing.{HasClosedSides}
 use Rattle.nts_asking.specs.Answering.{told_in, IsAnswerTo}
 use Rattle.nts_asking.proofs.Running.{term_table}
 use Rattle.nts_asking.proofs.QueryTables.{labels_in, values_pass, value_formed}
+use Rattle.nts_asking.proofs.Told.{states_without}
 
 -- a query's table, with what its constraints are between
 record IsFoundTable (ks : List PositionKind) (c : Content) : Type 0 where
   pub table : IsQueryTable ks c (first_values ks)
   pub places : (y : Recorded) → Contains c.constraints y → FitsPlace (left_place y.relation) (kind_of y.left)
   pub sides : HasClosedSides c
-
--- .. is one without its region constraints
-states_without : (c : Content) → SameStates c (without_constraints c)
-states_without c = record { states = λ n. refl; kinds = λ n. refl; order = refl; grows = omega arith; more = refl }
 
 knows_without : (c : Content) (t : Tree) → Knows c t → Knows (without_constraints c) t
 knows_without c t h = Knows-kept c (without_constraints c) t (record { grows = omega arith; kinds = λ n k e. e }) h

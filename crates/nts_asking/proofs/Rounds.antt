@@ -46,8 +46,9 @@ use Rattle.nts_asking.specs.Answering.{IsQueryInput, IsAnswerTo, IfAnswered}
 use Rattle.nts_asking.specs.Telling.{QueryTells, QueryRefutes, SaysNothing}
 use Rattle.nts_asking.specs.Telling.Tells.{says_nothing}
 use Rattle.nts_asking.specs.Searching.{IsHeadAnswer, IsHead, IsSearch, IsEntryLater, AreLater, Searches, assumed_in, IsAnswerTold, HeadsTell, IsCut, IsReadAt, HasNoneAt}
-use Rattle.nts_asking.proofs.Searching.{form_later, input_later, head_answer_later, later_itself, later_pushed, Searches-refl, Searches-trans, search_grows, search_later, search_counted, nothing_assumed, none_passed, answer_told_later, tell_grown, response_same}
+use Rattle.nts_asking.proofs.Searching.{form_later, input_later, head_answer_later, later_itself, later_pushed, Searches-refl, Searches-trans, search_grows, search_later, search_counted, nothing_assumed, none_passed, answer_told_later, tell_grown}
 use Rattle.nts_asking.proofs.BackEdges.{by_answer, some_is_ok, copied_response, usable_derived}
+use Rattle.nts_search.proofs.StackLater.{response_same}
 
 -- the store grows, and the search goes on
 pub grown : {a b c : Cx} → Grows a b → Grows b c → Grows a c

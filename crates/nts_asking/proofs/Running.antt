@@ -37,7 +37,6 @@ use Rattle.nts_certainty.specs.Certainties.{both}
 use Rattle.nts_store.specs.Growth.{tree_at, IsIn, AllIn, Extends}
 use Rattle.nts_store.specs.Kept.{map-kept}
 use Rattle.nts_store.specs.Formed.{AreFormed}
-use Rattle.nts_terms.proofs.Places.{no_places}
 use Rattle.nts_table.proofs.TermTables.{known_all, holds_terms}
 use Rattle.nts_table.specs.Tables.{Table}
 use Rattle.nts_unify.specs.Lawful.{content_of-constrained}
@@ -59,6 +58,7 @@ use Rattle.nts_asking.specs.Running.{IsTermTable, Stays, EquationHolds, Constrai
 use Rattle.nts_asking.specs.Evaluation.{Goes, AllKnown}
 use Rattle.nts_table.specs.Tables.{IsTermIn}
 use Rattle.nts_asking.proofs.Evaluating.{candidate_at, Knows-goes}
+use Rattle.nts_model.proofs.Terms.Substituting.{no_children as no_places}
 
 -- what stays, stays
 pub Stays-later : {a b : List Tree} {t u : Table} {P : Content → Type 0} → Goes a b t u → Stays (content_of a t.entries) P → Stays (content_of b u.entries) P

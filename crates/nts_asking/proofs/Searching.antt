@@ -40,27 +40,13 @@ use Rattle.nts_delegate.specs.Offered.{path_kind_of, hidden_of}
 use Rattle.nts_search.specs.declared.stack.StackEntry.{StackEntry}
 use Rattle.nts_search.specs.declared.stack.SearchGraph.{SearchGraph}
 use Rattle.nts_search.specs.Searching.{entry_at, entries_at, answer_at, certainty_in}
-use Rattle.nts_search.proofs.StackLater.{IsStack-later, entries_kept}
+use Rattle.nts_search.proofs.StackLater.{IsStack-later, entries_kept, response_same}
 use Rattle.nts_terms.specs.Modes.{mode_of}
 use Rattle.nts_asking.specs.Searching.{IsHeadAnswer, IsHead, IsSearch, IsEntryLater, AreLater, Searches, assumed_in, IsAnswerTold, HeadsTell}
 use Rattle.nts_response.proofs.Each.{constraints_kept, goals_kept, hidden_kept, same_views, values_kept}
 use Rattle.nts_response.specs.Forms.{HoldsOpen, HoldsResponse, StoreHoldsConstraint, premise_at, recorded_at, response_at}
 use Rattle.nts_response.specs.Replacing.{argument_value}
-
--- a response stays the same while the store grows
-pub response_same : (a b : List Tree) (r : Canonical Response) → Extends a b → HoldsResponse a r.value → response_at b r ≡ response_at a r
-response_same a b r e h =
-    let v = r.value in
-    let x = v.external_constraints in
-    let values = same_views HoldsArg argument_value values_kept a b v.var_values.items h.values e in
-    let constraints = same_views StoreHoldsConstraint recorded_at constraints_kept a b x.region_constraints.items h.constraints e in
-    let hidden = same_views IsHidden hidden_of hidden_kept a b x.opaque_types.items h.hidden e in
-    let goals = same_views HoldsOpen premise_at goals_kept a b x.normalization_nested_goals.items h.open_goals e in
-    λ i. record {
-      findings = record { values = values i; constraints = constraints i; hidden = hidden i; open_goals = goals i };
-      kinds = map kind_of_var r.var_kinds.items;
-      max_universe = r.max_universe;
-    }
+use Rattle.nts_asking.proofs.Unchanged.{none_of}
 
 -- an answer that can be applied can be applied while the store grows
 over_later : (a b : List Tree) (ss : List Sort) (t : NodeId) → Extends a b → IsIn a t → IsOverSorts a ss t → IsOverSorts b ss t
@@ -68,10 +54,6 @@ over_later a b ss t e i h = record { names = rw (e.kept t i) h.names; leaves = r
 
 place_later : (a b : List Tree) (p : Place) (t : NodeId) → Extends a b → Holds p a t → Holds p b t
 place_later a b p t e h = record { within = IsIn-extended e t h.within; fits = rw (e.kept t h.within) h.fits }
-
-none_of : {X : Type 0} (P : X → Type 0) (xs : List X) → xs ≡ [] → All P xs
-none_of P [] e = λ i d l. absurd (omega (arith, l))
-none_of P (x ∷ xs) e = cc
 
 applicable_later : (a b os : List Tree) (r : Canonical Response) → Extends a b → TellsNoMore r → IsApplicable a os r → IsApplicable b os r
 applicable_later a b os r e none x =

@@ -229,7 +229,7 @@ response_without c root m x =
     let same = kinds_without c root m (own_leaves x) in
     λ i. record { findings = findings_by (positioned (own_leaves x)) x; kinds = same i; max_universe = greatest (same i) }
 
-states_without : (c : Content) → SameStates c (without_constraints c)
+pub states_without : (c : Content) → SameStates c (without_constraints c)
 states_without c = record { states = λ n. refl; kinds = λ n. refl; order = refl; grows = omega arith; more = refl }
 
 -- the response of the table says what it tells

@@ -22,7 +22,7 @@ use Rattle.nts_model.specs.Canonical.Numbered.{position}
 use Rattle.nts_model.specs.Canonical.Inputs.{Input, IsInput, PositionKind, type_variable, integer_variable, float_variable, const_variable, region_variable, placeholder, position_kind, canonical_of, originals}
 use Rattle.nts_model.specs.Searching.Driving.{sort_at, positions_from, unconstrained}
 use Rattle.nts_model.specs.Answers.Responses.{Response as Form, IsLeafFor, IsLeafIn, IsResponseTo, own_leaf, leaves_of_kinds}
-use Rattle.nts_model.proofs.Responses.Initial.{initial_fits, initial_bounded}
+use Rattle.nts_model.proofs.Responses.Initial.{initial_fits, initial_bounded, no_leaf_there as no_leaf}
 use Rattle.nts_model.proofs.Responses.PositionSorts.{below_greatest, contained_map, contained_among}
 use Rattle.nts_model.proofs.Responses.Querying.{leaf_in_for}
 use Rattle.nts_store.specs.declared.nodes.NodeId.{NodeId}
@@ -38,6 +38,7 @@ use Rattle.nts_canonical.specs.declared.types.CanonicalInput.{CanonicalInput}
 use Rattle.nts_canonical.specs.Building.{kinds_of}
 use Rattle.nts_asking.specs.Answering.{IsQueryInput, IsAnswerTo, TellsNoMore}
 use Rattle.nts_asking.specs.Telling.{SaysNothing}
+use Rattle.nts_response.proofs.Answered.{each_view, region_sort}
 
 -- the positions in order
 nth_position : (b : ℕ) (ks : List PositionKind) (i : ℕ) → i + 1 ≤ length (positions_from b ks) → (s : Sort) × (get_or (positions_from b ks) i empty ≡ position s (b + i))
@@ -65,25 +66,9 @@ get_mapped f [] n x e = cc e
 get_mapped f (y ∷ xs) zero x e = (let z : Some y ≡ Some x = e in let w : y ≡ x = cc z in ap (λ v. Some (f v)) w)
 get_mapped f (y ∷ xs) (suc n) x e = get_mapped f xs n x e
 
-no_leaf : (l : Leaf) (s : Sort) (n : ℕ) → label.Leaf l ≡ label.Bound s index.Canonical n → ⊥
-no_leaf l s n e = cc e
-
-region_sort : (t : Tree) → IsRegion t → kind_of t ≡ Some (of_sort sort.Region)
-region_sort (node l empty) h = by_label l h
-  where
-    by_label : (l : Label) → IsRegion (node l empty) → kind_of (node l empty) ≡ Some (of_sort sort.Region)
-    by_label (label.Leaf (leaf.Variable kind.Region n)) h = refl
-    by_label (label.Leaf (leaf.Region r)) h = refl
-    by_label l h = (let e = h.1 in cc)
-region_sort t h = (let e = h.1 in cc)
-
-none_of : {X : Type 0} (P : X → Type 0) (xs : List X) → xs ≡ [] → All P xs
+pub none_of : {X : Type 0} (P : X → Type 0) (xs : List X) → xs ≡ [] → All P xs
 none_of P [] e = λ i d l. absurd (omega (arith, l))
 none_of P (x ∷ xs) e = cc
-
--- what holds of each view holds of each element
-each_view : {X V : Type 0} (P : V → Type 0) (view : X → V) (xs : List X) (vs : List V) → map view xs ≡ vs → ((v : V) → Contains vs v → P v) → All (λ x. P (view x)) xs
-each_view P view xs vs e h = λ i d l. h (view (get_or xs i d)) (subst (λ z. Contains z (view (get_or xs i d))) e (contained_map view xs (get_or xs i d) (Contains-get_or xs i d l)))
 
 no_views : {X V : Type 0} (f : X → V) (xs : List X) → map f xs ≡ [] → xs ≡ []
 no_views f [] e = refl

@@ -55,9 +55,6 @@ pub owned-originals : (ts : List Tree) (e : Entries) (i : Input) → Knows (cont
 owned-originals ts e i k =
     owned-seen ts e no_leaf _ i.hidden (owned-seen ts e no_leaf _ i.predicate (owned-seen ts e is_static [] i.environment tt k.0) k.1.0) k.1.1.0
 
-pub distinct-originals : (i : Input) → AreDistinct (originals i)
-distinct-originals i = distinct-seen no_leaf _ i.hidden (distinct-seen no_leaf _ i.predicate (distinct-seen is_static [] i.environment tt))
-
 -- each part by the numbers of the whole
 pub numbered-environment : (i : Input) → numbered is_static [] i.environment ≡ replace (numbered_leaf is_static (originals i)) i.environment
 numbered-environment i =

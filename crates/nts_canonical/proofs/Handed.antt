@@ -29,8 +29,9 @@ use Rattle.nts_canonical.specs.Forms.{form_of, HoldsQuery}
 use Rattle.nts_canonical.specs.Building.{HasNoName, IsInputOf}
 use Rattle.nts_canonical.proofs.VarLists.{number-at}
 use Rattle.nts_canonical.proofs.Making.{some}
-use Rattle.nts_canonical.proofs.Canonizing.{distinct-originals, numbered-environment, numbered-predicate, numbered-hidden}
+use Rattle.nts_canonical.proofs.Canonizing.{numbered-environment, numbered-predicate, numbered-hidden}
 use Rattle.nts_canonical.proofs.Having.{originals_are_values}
+use Rattle.nts_model.proofs.Canonical.CanonicalForms.{distinct-originals}
 
 -- the first place that passes, where there is one
 record IsFirst (p : Leaf → Bool) (s : List Leaf) (i : ℕ) : Type 0 where

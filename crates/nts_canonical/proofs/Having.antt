@@ -16,6 +16,7 @@ use Rattle.nts_store.specs.Filled.{HasValue, HasValues}
 use Rattle.nts_canonical.specs.Collecting.{IsLabelRead, IsRead}
 use Rattle.nts_canonical.proofs.Gathering.{read-seen}
 use Rattle.nts_canonical.proofs.Canonizing.{numbered-environment, numbered-predicate, numbered-hidden}
+use Rattle.nts_model.proofs.Terms.Unpositioned.{or_false}
 
 number-within : (u : List Leaf) (x : Leaf) → Among u x → number u x < length u
 number-within [] x h = elim h [ ]
@@ -44,10 +45,6 @@ has_values-node stays u A (label.Const x) d n f h = (tt, f h)
 has_values-node stays u A (label.Clause x) d n f h = (tt, f h)
 has_values-node stays u A (label.Predicate x) d n f h = (tt, f h)
 has_values-node stays u A (label.List x) d n f h = (tt, f h)
-
-or_false : (a b : Bool) → (a || b) ≡ false → (a ≡ false) × (b ≡ false)
-or_false true b e = cc
-or_false false b e = (refl, e)
 
 has_values-numbered : (stays : Leaf → Bool) (u : List Leaf) (t : Tree) → any_label is_canonical t ≡ false → IsRead stays u t → HasValues (map leaf_tree u) (replace (numbered_leaf stays u) t)
 has_values-numbered stays u empty n h = tt

@@ -10,9 +10,10 @@ use Rattle.nts_model.specs.Tables.Resolving.{Knows, deeply_resolved}
 use Rattle.nts_model.specs.Canonical.Numbered.{seen}
 use Rattle.nts_model.specs.Answers.Responses.{is_fixed, positioned}
 use Rattle.nts_model.proofs.Tables.Resolved.{deeply_resolved-node, deeply_resolved-empty}
-use Rattle.nts_model.proofs.Tables.Alike.{deeply_resolved-more}
 use Rattle.nts_folding.specs.Folding.{StaysHere, StaysMade, MayAnswer, asked_as, HandsOver, AtBinder, Walk, done, next, answer, down}
 use Rattle.nts_canonical.specs.Mapping.{AnswersImage, IsAny, itself, same_state}
+use Rattle.nts_model.proofs.Tables.TableInstances.{deeply_resolved-more}
+use Rattle.nts_model.proofs.Canonical.Positioned.{resolved_label as resolved_node}
 
 -- no folder is asked for what it is
 abbrev pub IsUnasked : NodeKind → Type 0
@@ -93,9 +94,6 @@ no_variable (label.Const x) c h = refl
 no_variable (label.Clause x) c h = refl
 no_variable (label.Predicate x) c h = refl
 no_variable (label.List x) c h = refl
-
-resolved_node : (c : Content) (l : Label) (x : Tree) → variable_of l ≡ None → deeply_resolved c (node l x) ≡ node l (deeply_resolved c x)
-resolved_node c l x e = let i : infer_of l ≡ None = rw e refl in deeply_resolved-node c l x i ∙ rw e refl
 
 pub resolving : IsMapping Knows deeply_resolved same_state
 resolving = record {

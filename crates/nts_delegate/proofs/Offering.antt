@@ -25,10 +25,7 @@ use Rattle.nts_delegate.specs.Offers.{trait_read, trait_of_body, trait_of, IsArg
 use Rattle.nts_delegate.specs.declared.delegate.Equation.{Equation}
 use Rattle.nts_delegate.specs.declared.delegate.CandidateData.{CandidateData}
 use Rattle.nts_delegate.specs.declared.clauses.Clause.{Clause}
-
-both_false : (p q : Bool) → (p || q) ≡ false → (p ≡ false) × (q ≡ false)
-both_false true q h = cc
-both_false false q h = (refl, h)
+use Rattle.nts_store.proofs.Filling.{both_false}
 
 -- a label that names no position
 no_name : (fresh : List Sort) (l : Label) → is_canonical l ≡ false → NamesAt fresh (position_of l) l

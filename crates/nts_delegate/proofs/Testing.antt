@@ -15,10 +15,7 @@ use Rattle.nts_model.specs.Tables.Passing.{AllLabels}
 use Rattle.nts_store.proofs.Escaping.{closed_by_facts, escapes}
 use Rattle.nts_model.specs.Derivations.Handlers.{NamesFresh}
 use Rattle.nts_delegate.specs.Clauses.{MayHave, is_foreign, IsClauseTerm, AreBodies}
-
-pub both_false : (p q : Bool) → (p || q) ≡ false → (p ≡ false) × (q ≡ false)
-both_false true q h = cc
-both_false false q h = (refl, h)
+use Rattle.nts_store.proofs.Filling.{both_false}
 
 pub or_false : (p q : Bool) → p ≡ false → q ≡ false → (p || q) ≡ false
 or_false p q h k = rw (h, k) refl

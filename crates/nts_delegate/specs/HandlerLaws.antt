@@ -19,13 +19,13 @@ use Rattle.nts_model.specs.Refutation.Coherence.{Covers, RulesAreOffered}
 use Rattle.nts_model.specs.Derivations.Rules.{coherence}
 use Rattle.nts_model.specs.Derivations.Handlers.{Candidate, equation_by, premise_by, AreValuesOf, use_of, IsInstanceFor, application_under, renamed_candidate, IsAsked, IsOver, IsEquationOver, IsEmitted, IsNested, IsCandidateFor, CandidatesCommute, InstancesAreRules, CandidatesKeep, IsLawfulHandler, kind_of_sort}
 use Rattle.nts_model.proofs.Terms.Composing.{IsFormed-instance, IsClosed-instance, Fits-instance}
-use Rattle.nts_terms.proofs.Places.{no_places}
 use Rattle.nts_terms.proofs.Standing.{args_tree}
 use Rattle.nts_delegate.specs.Clauses.{is_foreign}
 use Rattle.nts_delegate.specs.Offers.{trait_of}
 use Rattle.nts_delegate.specs.ClauseHandlers.{offers_of_clauses, ClauseTree, ClausesOfTraits, equations_of, asked_in, trait_goal, IsInstanceOfClause, offer_by, takes_all, offers_by, handler_by}
 use Rattle.nts_delegate.specs.OwnTerms.{both_false, KeepsFixed, names_nothing, leaves_fixed, IsRow-replace, row_length-replace}
 use Rattle.nts_delegate.specs.OwnClauses.{IsOwnTerm, AreOwnTerms, IsOwnClause, AreOwnClauses, AreOwn, own_among, replaced_equations, filled_equations, moved_equations, replaced_goals, filled_goals, moved_goals}
+use Rattle.nts_model.proofs.Terms.Substituting.{no_children as no_places}
 
 -- a goal that is asked is a trait's, or has no offers
 record IsTraitGoal (g : Tree) : Type 0 where

@@ -8,9 +8,7 @@ use Rattle.nts_folding.specs.FoldLaws.{list_holds, list_same}
 use Rattle.nts_folding.specs.Folding.{Walk, done, Stops, tree_of_list}
 use Rattle.nts_store.proofs.Growing.{Extends-refl, Extends-trans}
 use Rattle.nts_folding.proofs.Folded.{walk_push, stops_at}
-
-all_rest : {X : Type 0} (P : X → Type 0) (x : X) (xs : List X) → All P (x ∷ xs) → All P xs
-all_rest P x xs h = λ k d l. h (suc k) d (omega arith)
+use Rattle.nts_terms.proofs.Standing.{all_rest}
 
 all_at : {X : Type 0} (P : X → Type 0) (xs ys : List X) (x : X) → All P (xs ++ x ∷ ys) → P x
 all_at P [] ys x h = h 0 x (omega arith)

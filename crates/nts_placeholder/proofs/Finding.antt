@@ -18,6 +18,7 @@ use Rattle.nts_store.proofs.Pending.{cmp-equal, above-insert, above-last, above-
 use Rattle.nts_placeholder.specs.declared.maps.BoundVar.{BoundVar}
 use Rattle.nts_placeholder.specs.declared.escaping.Escaping.{Escaping}
 use Rattle.nts_placeholder.specs.Escaping.{same_sort, is_bound, escapes_under, escapes, is_it, is_among, escapes_any, IsDeeper}
+use Rattle.nts_store.proofs.Levels.{none_above}
 
 -- a variable that is noted
 
@@ -250,10 +251,6 @@ left_after d ts l c start rest old before here deeper first was now n i h e is p
 pub record IsAtLevel (t : Tree) (ts : List Tree) (d : ℕ) (here : List ℕ) (xs : List Escaping) : Type 0 where
   pub within : d + above here ≤ length ts
   pub found : (s : Sort) (b : BoundVar) → (is_among xs s b || escapes_any s b d ts here) ≡ escapes t s b
-
-none_above : (ks : List ℕ) → above ks ≤ 0 → ks ≡ []
-none_above [] h = refl
-none_above (k ∷ ks) h = absurd (omega arith)
 
 pub level_empty : (t : Tree) (ts : List Tree) (d : ℕ) (here : List ℕ) (xs : List Escaping) → IsAtLevel t ts d here xs → here ≡ [] → (s : Sort) (b : BoundVar) → is_among xs s b ≡ escapes t s b
 level_empty t ts d here xs h e s b =

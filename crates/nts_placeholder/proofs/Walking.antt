@@ -13,7 +13,7 @@ use Rattle.nts_store.specs.Growth.{tree_at, trees_at, IsIn, AllIn, Extends}
 use Rattle.nts_store.specs.Kept.{map-kept}
 use Rattle.nts_store.specs.Replacement.{IsFormedNode}
 use Rattle.nts_store.proofs.Growing.{IsIn-extended, AllIn-extended, AllIn-push}
-use Rattle.nts_store.proofs.Replacing.{map-push, row, row-trees, IsRow-Meets, AllIn-take, AllIn-drop, MayBuild}
+use Rattle.nts_store.proofs.Replacing.{map-push, row, row-trees, IsRow-Meets, AllIn-take, AllIn-drop, MayBuild, row_drop}
 use Rattle.nts_placeholder.specs.declared.under.Place.{Place}
 use Rattle.nts_placeholder.specs.declared.under.Task.{Task}
 use Rattle.nts_placeholder.specs.declared.under.Task.TheVariants as task
@@ -69,12 +69,6 @@ pub jobs-extended : {a b : List Tree} → Extends a b → (xs : List Task) → A
 jobs-extended e xs h = jobs-kept e 0 xs h
 
 -- the tasks of a node
-
-abbrev row_drop : ℕ → Tree → Tree
-row_drop zero r = r
-row_drop (suc i) empty = empty
-row_drop (suc i) (more a b) = row_drop i b
-row_drop (suc i) (node l c) = empty
 
 row_drop-all : (r : Tree) → IsRow r → row_drop (row_length r) r ≡ empty
 row_drop-all empty h = refl

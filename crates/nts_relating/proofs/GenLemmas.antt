@@ -33,7 +33,7 @@ use Rattle.nts_model.proofs.Tables.Instances.{inst-node, inst-agrees, Agrees-ref
 use Rattle.nts_model.proofs.Tables.Fitting.{IsClosedUnder-more}
 use Rattle.nts_model.proofs.Tables.Levelled.{NamesAll-falls}
 use Rattle.nts_model.proofs.Tables.Held.{AreOne-continues, Continues-refl, Continues-trans}
-use Rattle.nts_model.proofs.Tables.Alike.{Alike-row_push, AreAlike-one, AreAlike-itself, AreAlike-for, AreAlike-node, AreAlike-continues, deeply_resolved-more, row_length-deeply_resolved, IsRow-deeply_resolved}
+use Rattle.nts_model.proofs.Tables.Alike.{Alike-row_push, AreAlike-one, AreAlike-itself, AreAlike-for, AreAlike-node, AreAlike-continues, row_length-deeply_resolved, IsRow-deeply_resolved}
 use Rattle.nts_model.specs.Terms.Patching.{IsPatched, in_end, in_node}
 use Rattle.nts_model.proofs.Terms.Unpositioned.{known_well_bound}
 use Rattle.nts_model.proofs.Terms.Scoping.{patched_itself, leaf_patch, term_patched, infer_patched, push_patched, lists_patched}
@@ -49,6 +49,7 @@ use Rattle.nts_relating.proofs.RegionLemmas.{IsRegionVariable, regions-one}
 use Rattle.nts_unify.proofs.Keeping.{Knows-later, KeepsKnowing-refl, KeepsKnowing-trans}
 use Rattle.nts_unify.proofs.Changes.{length-slots}
 use Rattle.nts_relating.proofs.Ranks.{kind_of-like, like_of-kinds, zero_le, infer_ranked, region_unfit, row_unfit, fits_node, rank-push}
+use Rattle.nts_model.proofs.Tables.TableInstances.{deeply_resolved-more}
 
 not_infer_label : (l : Label) → is_infer l ≡ false → infer_of l ≡ None
 not_infer_label (label.Leaf (leaf.Variable kind.Ty n)) e = cc

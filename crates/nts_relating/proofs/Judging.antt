@@ -1,8 +1,9 @@
 -- What worlds and tables say of trees and of pairs.
 use Rattle.std.proofs.Common.{◌≡◌, ℕ, ◌+◌, ◌<◌, List, [], ◌∷◌, ◌++◌, refl, ap}
 use Rattle.nts_model.specs.Terms.Trees.{Tree, more, size}
-use Rattle.nts_model.proofs.Tables.Alike.{AreAlike-itself, AreAlike-more, deeply_resolved-more}
+use Rattle.nts_model.proofs.Tables.Alike.{AreAlike-itself, AreAlike-more}
 use Rattle.nts_relating.specs.Met.{OnenessJudge, of_world, of_table, judged_size, JudgesOne, OneBelow}
+use Rattle.nts_model.proofs.Tables.TableInstances.{deeply_resolved-more}
 
 -- rows
 pub judged-more : (j : OnenessJudge) (a b : Tree) → judged_size j (more a b) ≡ judged_size j a + judged_size j b + 1

@@ -101,10 +101,6 @@ known_named ts e (Some v) h =
     let z : Some p.0.kind ≡ Some v.0 = sym (kind_at-entry ts e v.1 p.0 p.1) ∙ h in
     record { variable = p.0; at = p.1; of_kind = cc }
 
-pub from_not : (b : Bool) → not b ≡ true → b ≡ false
-from_not true h = cc
-from_not false h = refl
-
 -- all labels of a tree are of the table
 pub labels_known : (ts : List Tree) (e : Entries) (t : Tree) → AllLabels (IsNamed e) t → KnowsLeaves (content_of ts e) t
 labels_known ts e empty h = tt

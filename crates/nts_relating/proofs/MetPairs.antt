@@ -33,6 +33,7 @@ use Rattle.nts_relating.proofs.Naming.{lawful_sides, alone_label}
 use Rattle.nts_model.proofs.Responses.Bringing.{brings-of, brings-refl}
 use Rattle.nts_relating.proofs.Plain.{plain_refl}
 use Rattle.nts_relating.proofs.PairLemmas.{Stepped, PairsBring-last, last_pair, all_sides_at-push, all_sides_at-extended, ArePairsIn-push, ArePairsIn-extended, Equates-push, Equates-front, AllAlike-push, total-last, not_infer, variables_related, variable_same}
+use Rattle.nts_store.proofs.Equal.{same_id}
 
 -- nodes that are no variables
 judged-node : (j : OnenessJudge) (l : Label) (x : Tree) → variable_of l ≡ None → judged_size j (node l x) ≡ judged_size j x + 1
@@ -184,10 +185,6 @@ memo_pushed ts e ps qs ms ns p a b l m v na nb ha hb ia ib same not_free k new o
       met = rw (all_sides_at-push ts ms here)
           (met_taken ts c ps qs (sides_at ts p) (tree_at ts a) (tree_at ts b) l m ia ib same alone last.left_known last.right_known ha hb k (all_sides_at ts ms) before);
     })
-
--- `==` on pairs is equality
-same_id : (a b : NodeId) → IsTrue (id_eq.ghosts.eq a b) ↔ (a ≡ b)
-same_id a b = search rules
 
 same_pair : (p q : Pair) → pair_eq.ghosts.eq p q ≡ true → p ≡ q
 same_pair p q h = both (id_eq.ghosts.eq p.left q.left) (id_eq.ghosts.eq p.right q.right) (same_id p.left q.left).0 (same_id p.right q.right).0 h

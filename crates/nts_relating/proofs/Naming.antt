@@ -104,7 +104,7 @@ can_join_fresh_region e m y number v h vk new em en =
     rw (em, en) can
 
 -- the sides of the constraints are of the table
-sides_of : (ts : List Tree) (c : Content) (xs : List Constraint) → AreConstraints ts c xs → KnowsAll c (map (recorded_of ts) xs)
+pub sides_of : (ts : List Tree) (c : Content) (xs : List Constraint) → AreConstraints ts c xs → KnowsAll c (map (recorded_of ts) xs)
 sides_of ts c [] h = tt
 sides_of ts c (x ∷ xs) h = (h.0.left_known, h.0.right_known, sides_of ts c xs h.1)
 

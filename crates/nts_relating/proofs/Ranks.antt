@@ -26,7 +26,7 @@ rank_positive kind.Float n = omega arith
 rank_positive kind.Const n = omega arith
 rank_positive kind.Region n = absurd (n refl)
 
-region_sort : (k : VariableKind) → k ≢ kind.Region → of_sort (sort_of_variable k) ≡ of_sort sort.Region → ⊥
+pub region_sort : (k : VariableKind) → k ≢ kind.Region → of_sort (sort_of_variable k) ≡ of_sort sort.Region → ⊥
 region_sort kind.Ty h e = cc
 region_sort kind.Int h e = cc
 region_sort kind.Float h e = cc

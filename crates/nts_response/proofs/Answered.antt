@@ -63,7 +63,7 @@ pub table_places : {ts : List Tree} {t : Table} → IsTable ts t → (y : Record
 table_places {ts} {t} h y i = recorded_fits ts (content_of ts t.entries) t.entries.constraints h.now.constraints y i
 
 -- what holds of each view holds of each element
-each_view : {X V : Type 0} (P : V → Type 0) (view : X → V) (xs : List X) (vs : List V) → map view xs ≡ vs → ((v : V) → Contains vs v → P v) → All (λ x. P (view x)) xs
+pub each_view : {X V : Type 0} (P : V → Type 0) (view : X → V) (xs : List X) (vs : List V) → map view xs ≡ vs → ((v : V) → Contains vs v → P v) → All (λ x. P (view x)) xs
 each_view P view xs vs e h = λ i d l. h (view (get_or xs i d)) (subst (λ z. Contains z (view (get_or xs i d))) e (contained_map view xs (get_or xs i d) (Contains-get_or xs i d l)))
 
 none_viewed : {X V : Type 0} (P : X → Type 0) (view : X → V) (xs : List X) → map view xs ≡ [] → All P xs
@@ -79,7 +79,7 @@ sides_so P [] x h i = absurd (contains_none x i)
 sides_so P (y ∷ xs) x h i = ⊎_elim (λ e. subst (λ z. P z.left × P z.right) e (h.0, h.1)) (λ j. sides_so P xs x h.2 j) (first_or_later y xs x i)
 
 -- a placeholder of the root names an original of its sort
-region_sort : (t : Tree) → IsRegion t → kind_of t ≡ Some (of_sort sort.Region)
+pub region_sort : (t : Tree) → IsRegion t → kind_of t ≡ Some (of_sort sort.Region)
 region_sort (node l empty) h = by_label l h
   where
     by_label : (l : Label) → IsRegion (node l empty) → kind_of (node l empty) ≡ Some (of_sort sort.Region)

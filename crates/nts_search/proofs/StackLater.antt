@@ -22,7 +22,7 @@ use Rattle.nts_search.specs.Searching.{answer_at, certainty_in, entry_at, entrie
 use Rattle.nts_search.proofs.Each.{Each, each_of, all_of, each_by, each_reversed}
 
 -- a response stays the same
-response_same : (a b : List Tree) (r : Canonical Response) → Extends a b → HoldsResponse a r.value → response_at b r ≡ response_at a r
+pub response_same : (a b : List Tree) (r : Canonical Response) → Extends a b → HoldsResponse a r.value → response_at b r ≡ response_at a r
 response_same a b r e h =
     let v = r.value in
     let x = v.external_constraints in

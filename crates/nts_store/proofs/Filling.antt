@@ -8,7 +8,7 @@ use Rattle.nts_store.specs.declared.type_flags.TypeFlags.{TypeFlags}
 use Rattle.nts_store.specs.TypeFlags.{flags_of}
 use Rattle.nts_model.specs.Terms.Substitutions.{filled, position_of}
 
-both_false : (p q : Bool) → (p || q) ≡ false → (p ≡ false) × (q ≡ false)
+pub both_false : (p q : Bool) → (p || q) ≡ false → (p ≡ false) × (q ≡ false)
 both_false true q h = cc
 both_false false q h = (refl, h)
 
@@ -32,7 +32,7 @@ filled-none values (node l c) h =
     let none = no_position l w.0 in
     rw none (ap (node l) (filled-none values c w.1))
 
-from_not : (b : Bool) → not b ≡ true → b ≡ false
+pub from_not : (b : Bool) → not b ≡ true → b ≡ false
 from_not true h = cc
 from_not false h = refl
 

@@ -106,7 +106,7 @@ pub length-trees : (ns : List Node) → length (trees ns) ≡ length ns
 length-trees ns = rw zero-add at (length-grown [] ns)
 
 -- equal trees of terms are equal terms
-term-apart : (ts : List Tree) (c d : NodeId) → AreApart ts → IsIn ts c → IsIn ts d → tree_at ts c ≡ tree_at ts d → c ≡ d
+pub term-apart : (ts : List Tree) (c d : NodeId) → AreApart ts → IsIn ts c → IsIn ts d → tree_at ts c ≡ tree_at ts d → c ≡ d
 term-apart ts c d a h k e = let n : c.number ≡ d.number = a c.number d.number h k e in ap (λ m. record { number = m }) n
 
 trees_at-apart : (ts : List Tree) (cs ds : List NodeId) → AreApart ts → AllIn ts cs → AllIn ts ds → trees_at ts cs ≡ trees_at ts ds → cs ≡ ds

@@ -170,7 +170,7 @@ pub record IsAtLevel (ss t : Tree) (ts : List Tree) (d : ℕ) (here : List ℕ) 
   pub within : d + above here ≤ length ts
   pub listed : AllListedAt ss d ts here ↔ AllListed ss 0 t
 
-none_above : (ks : List ℕ) → above ks ≤ 0 → ks ≡ []
+pub none_above : (ks : List ℕ) → above ks ≤ 0 → ks ≡ []
 none_above [] h = refl
 none_above (k ∷ ks) h = absurd (omega arith)
 

@@ -43,7 +43,7 @@ map-push ts (d ∷ cs) c = ap (λ xs. tree_at ts d ∷ xs) (map-push ts cs c)
 
 -- the tasks of a node
 
-abbrev row_drop : ℕ → Tree → Tree
+abbrev pub row_drop : ℕ → Tree → Tree
 row_drop zero r = r
 row_drop (suc i) empty = empty
 row_drop (suc i) (more a b) = row_drop i b

@@ -24,6 +24,8 @@ use Rattle.nts_unify.specs.Entries.{Entries}
 use Rattle.nts_unify.specs.Reading.{recorded_of, content_of, IsConstraint, AreConstraints, IsLawful}
 use Rattle.nts_unify.specs.Lawful.{content_of-extended, IsLawful-extended, AreConstraints-push}
 use Rattle.nts_table.specs.Deduplicated.{resolved_constraint, resolved_constraints, RelatesSame, IsAmong, SaysNothingNew, AreNews, none, passed, told, said, SidesIn, AllSidesIn, TellsConstraint}
+use Rattle.nts_store.proofs.Equal.{both_true, same_id}
+use Rattle.nts_store.proofs.Inserting.{term-apart as one_term}
 
 RelatesSame-trans : {x y z : Recorded} → RelatesSame x y → RelatesSame y z → RelatesSame x z
 RelatesSame-trans h k =
@@ -109,10 +111,6 @@ among-said ts (y ∷ xs) x (inl e) =
     })
 among-said ts (y ∷ xs) x (inr h) = inr (among-said ts xs x h)
 
-one_term : (ts : List Tree) (c d : NodeId) → AreApart ts → IsIn ts c → IsIn ts d → tree_at ts c ≡ tree_at ts d → c ≡ d
-one_term ts c d a h k e =
-    let n : c.number ≡ d.number = a c.number d.number h k e in ap (λ m. record { number = m }) n
-
 pub said-among : (ts : List Tree) (xs : List Constraint) (x : Constraint) → AreApart ts → SidesIn ts x → AllSidesIn ts xs → IsAmong (map (recorded_of ts) xs) (recorded_of ts x) → HasSaid xs (said x)
 said-among ts [] x a k h w = absurd w
 said-among ts (y ∷ xs) x a k h (inl e) =
@@ -124,14 +122,6 @@ said-among ts (y ∷ xs) x a k h (inr w) = inr (said-among ts xs x a k h.1 w)
 -- `==` on what constraints say is equality
 same_relation : (a b : Relation) → IsTrue (relation_eq.ghosts.eq a b) ↔ (a ≡ b)
 same_relation a b = search rules
-
-same_id : (a b : NodeId) → IsTrue (id_eq.ghosts.eq a b) ↔ (a ≡ b)
-same_id a b = search rules
-
-both_true : (p q : Bool) (A B : Type 0) → (IsTrue p ↔ A) → (IsTrue q ↔ B) → IsTrue (p && q) ↔ (A × B)
-both_true true true A B h k = ((λ _. (h.0 refl, k.0 refl)), λ _. refl)
-both_true true false A B h k = ((λ f. cc), λ w. k.1 w.1)
-both_true false q A B h k = ((λ f. cc), λ w. h.1 w.0)
 
 same_said : (a b : Said) → IsTrue (said_eq.ghosts.eq a b) ↔ (a ≡ b)
 same_said a b =

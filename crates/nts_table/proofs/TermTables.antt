@@ -15,11 +15,7 @@ use Rattle.nts_unify.specs.declared.contents.State.TheVariants as state
 use Rattle.nts_unify.specs.declared.contents.Variable.{Variable}
 use Rattle.nts_unify.specs.Reading.{content_of, slot_of, state_with, recorded_of, IsHeldState, AreHeld, AreConstraints}
 use Rattle.nts_table.specs.Tables.{Table, IsTable}
-
--- the sides of the recorded constraints are known
-known_sides : (ts : List Tree) (c : Content) (xs : List Constraint) → AreConstraints ts c xs → KnowsAll c (map (recorded_of ts) xs)
-known_sides ts c [] h = tt
-known_sides ts c (x ∷ xs) h = (h.0.left_known, h.0.right_known, known_sides ts c xs h.1)
+use Rattle.nts_relating.proofs.Naming.{sides_of as known_sides}
 
 pub known_all : {ts : List Tree} {t : Table} → IsTable ts t → KnowsAll (content_of ts t.entries) (content_of ts t.entries).constraints
 known_all {ts} {t} h = known_sides ts (content_of ts t.entries) t.entries.constraints h.now.constraints

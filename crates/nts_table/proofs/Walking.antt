@@ -27,6 +27,7 @@ use Rattle.nts_table.specs.Resolution.{resolved_to, Resolution, resolution, reso
 use Rattle.nts_unify.proofs.Leading.{state_of-class, Reaches-leads}
 use Rattle.nts_unify.proofs.Changes.{AreHeld-at, some_inj}
 use Rattle.nts_relating.proofs.HeadLemmas.{variable_node}
+use Rattle.nts_relating.proofs.Ranks.{region_sort as no_region_sort}
 
 -- a tree without variables to be replaced
 pub resolved_to-left : (regions : Bool) (c : Content) (t : Tree) → IsResolved regions t → resolved_to regions c t ≡ t
@@ -91,13 +92,6 @@ variable_root c k n r h e =
     let there = IsVariable-reaches c (label.Leaf (leaf.Variable k n)) k n r h.sound is h.reaches in
     resolved-variable_reaches c k n r h.sound h.no_region h.has h.reaches
     ∙ resolved-variable_unset c (label.Leaf (leaf.Variable k r)) empty r h.sound (IsVariable-infer c (label.Leaf (leaf.Variable k r)) k r there) e
-
-pub no_region_sort : (k : VariableKind) → k ≢ kind.Region → of_sort (sort_of_variable k) ≡ of_sort sort.Region → ⊥
-no_region_sort kind.Ty h e = cc
-no_region_sort kind.Int h e = cc
-no_region_sort kind.Float h e = cc
-no_region_sort kind.Const h e = cc
-no_region_sort kind.Region h e = h refl
 
 -- a variable that is the value of another
 pub record ValueVariable (c : Content) (k j : VariableKind) (m : ℕ) (v : Tree) : Type 0 where

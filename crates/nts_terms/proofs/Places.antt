@@ -4,11 +4,7 @@ use Rattle.nts_model.specs.Terms.Trees.{Tree, empty, more, node, row_length, row
 use Rattle.nts_model.specs.declared.labels.Sort.{Sort}
 use Rattle.nts_store.specs.Sorts.{sort_of_kind}
 use Rattle.nts_terms.specs.Kinds.{IsOne, AreTwo}
-
-pub no_places : (c : Tree) → HavePlaces [] c → c ≡ empty
-no_places empty h = refl
-no_places (more a b) h = absurd h
-no_places (node l c) h = absurd h
+use Rattle.nts_model.proofs.Terms.Substituting.{no_children as no_places}
 
 pub one_place : (p : Place) (c : Tree) → HavePlaces (p ∷ []) c → IsOne c
 one_place p empty h = absurd h

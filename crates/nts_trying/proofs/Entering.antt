@@ -26,7 +26,6 @@ use Rattle.nts_terms.specs.declared.kinds.ClauseKind.TheVariants as clause_of
 use Rattle.nts_terms.specs.declared.kinds.PredicateKind.{PredicateKind}
 use Rattle.nts_terms.specs.declared.kinds.PredicateKind.TheVariants as predicate
 use Rattle.nts_terms.specs.Kinds.{tree_of_statement, tree_of_predicate}
-use Rattle.nts_terms.proofs.Places.{no_places}
 use Rattle.nts_unify.specs.Entries.{Entries, moved}
 use Rattle.nts_unify.specs.Lawful.{content_of-extended}
 use Rattle.nts_unify.specs.Reading.{content_of}
@@ -41,6 +40,7 @@ use Rattle.nts_terms.specs.declared.handles.Goal.{Goal}
 use Rattle.nts_terms.specs.declared.handles.Predicate.{Predicate}
 use Rattle.nts_trying.specs.Opening.{IsOpenedTo}
 use Rattle.nts_asking.specs.Evaluation.{Goes}
+use Rattle.nts_model.proofs.Terms.Substituting.{no_children as no_places}
 
 -- under one listed universe a bound variable of the binder outside opens to its placeholder
 same_label : (u : ℕ) (s : Sort) (n : ℕ) → placeholder_label s (record { universe = u; var = n }) ≡ label.Leaf (placeholder_in u s n)

@@ -36,9 +36,9 @@ use Rattle.nts_asking.proofs.AskedGoals.{trees_kept}
 use Rattle.nts_asking.proofs.Evaluating.{Goes-trans, Goes-extends}
 use Rattle.nts_trying.proofs.Labels.{only_back}
 use Rattle.nts_asking.proofs.Running.{candidate-kept}
-use Rattle.nts_asking.proofs.Searching.{response_same}
 use Rattle.nts_trying.proofs.Probed.{found_later, found_with, found_still}
 use Rattle.nts_trying.proofs.MergedResponses.{doubt_unsure, told_unsure, merged_stands, merged_among}
+use Rattle.nts_search.proofs.StackLater.{response_same}
 
 -- what was found for a goal in a store that has grown, seen from the smaller store
 pub found_earlier : {P Q : List Tree → Table → Type 0} {a b e : List Tree} {t : Table} {g : Goal} {qs : List GenericArg} (r : Canonical Response) → Extends a b → IsTable a t → HoldsGoal a g → All (IsArgOf a t.entries) qs → ((c : List Tree) (u : Table) → P c u → Q c u) → Found P b e t g qs r → Found Q a e t g qs r

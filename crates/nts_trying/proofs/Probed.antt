@@ -50,7 +50,7 @@ use Rattle.nts_asking.proofs.Evaluating.{Goes-extends, committed}
 use Rattle.nts_asking.proofs.Fitting.{answer_to}
 use Rattle.nts_trying.proofs.MergedResponses.{told_unsure}
 use Rattle.nts_asking.proofs.QueryTables.{is_label_in, first_sides, table_in}
-use Rattle.nts_asking.proofs.Searching.{response_same}
+use Rattle.nts_search.proofs.StackLater.{response_same}
 
 -- what was found stays found
 pub found_later : {P : List Tree → Table → Type 0} {a b e : List Tree} {t : Table} {g : Goal} {qs : List GenericArg} (r : Canonical Response) → Extends b e → Found P a b t g qs r → Found P a e t g qs r

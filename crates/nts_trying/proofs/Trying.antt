@@ -34,8 +34,8 @@ use Rattle.nts_delegate.specs.Offered.{equation_as, equation_of}
 use Rattle.nts_trying.specs.Instances.{instance_at}
 use Rattle.nts_asking.specs.Evaluation.{IsPosed}
 use Rattle.nts_trying.specs.Choices.{EquatesCandidate}
-use Rattle.nts_asking.proofs.Evaluating.{length-slots}
 use Rattle.nts_asking.proofs.Running.{equation-kept}
+use Rattle.nts_unify.proofs.Changes.{length-slots}
 
 -- new variables for a list of sorts
 kinds_are : (s : Sort) → variable_kind s ≡ kind_of_sort s

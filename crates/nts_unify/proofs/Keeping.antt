@@ -20,7 +20,7 @@ use Rattle.nts_model.specs.Tables.SubUnifying.{JoinsSubRoots}
 pub IsLater-refl : (c : Content) → IsLater c c
 IsLater-refl c = record { more = omega arith; grows = omega arith; kinds = λ n k h. h; subs = JoinsSubRoots-refl c; visible = nothing_more }
 
-AddsVisible-trans : {xs ys zs : List Recorded} → AddsVisible xs ys → AddsVisible ys zs → AddsVisible xs zs
+pub AddsVisible-trans : {xs ys zs : List Recorded} → AddsVisible xs ys → AddsVisible ys zs → AddsVisible xs zs
 AddsVisible-trans a nothing_more = a
 AddsVisible-trans a (one_more x b v) = one_more x (AddsVisible-trans a b) v
 

@@ -31,15 +31,11 @@ use Rattle.nts_variance.proofs.Pairs.{Leaves-none, Leaves-then, Leaves-beside, R
 use Rattle.nts_variance.proofs.Pushing.{part_sorted}
 use Rattle.nts_variance.proofs.Turns.{answered_front}
 use Rattle.nts_variance.proofs.VaryTurns.{known_pairs, goals_later}
+use Rattle.nts_relating.proofs.PairLemmas.{Knows-children as children_known}
 
 -- the arguments of a list are sides
 list_fits : (t : Tree) → kind_of t ≡ Some arguments → ChildrenFit t → AllFit any_argument (children t)
 list_fits t e f = subst ChildrenFit (args_tree t e) f
-
-pub children_known : (c : Content) (t : Tree) → Knows c t → Knows c (children t)
-children_known c empty h = tt
-children_known c (more a b) h = tt
-children_known c (node l x) h = h.1
 
 pub argument_side : {ts us : List Tree} {c d : Content} (t a : NodeId) (i : ℕ) → IsListOf ts c t → (Knows c (tree_at ts t) → Knows d (tree_at ts t)) → ChildrenFit (tree_at ts t) → i < row_length (children (tree_at ts t)) → IsIn us a → tree_at us a ≡ row_at (children (tree_at ts t)) i → IsPairSide us d a
 argument_side {ts} {us} {c} {d} t a i whole later fits less within at =

@@ -11,7 +11,6 @@ use Rattle.nts_model.specs.Derivations.Related.{rest_variances}
 use Rattle.nts_model.specs.Variances.Relations.{ArePairsKnown}
 use Rattle.nts_model.specs.Variances.Relations.{Relating as Pair}
 use Rattle.nts_model.specs.Variances.Forms.{Form, a_constructor, a_function, a_value, an_alias, over, variances_over, FitsForm, pairs_over}
-use Rattle.nts_model.proofs.Tables.Alike.{deeply_resolved-more}
 use Rattle.nts_model.proofs.Variances.Forms.{deeply_resolved-over, variances_over_length}
 use Rattle.nts_model.proofs.Variances.Meeting.{AreSmaller}
 use Rattle.nts_store.specs.declared.nodes.NodeId.{NodeId}
@@ -28,12 +27,12 @@ use Rattle.nts_variance.specs.Pairs.{Refuses}
 use Rattle.nts_variance.specs.Taking.{IsExact, Waits, AllWait, Takes, IsLeft, IsPairSide, IsPair, ArePairsLeft, AreOfOneForm, ArePartsPaired, left_sizes, Sense, HoldsIn, size_in, IsUnderway, IsCall}
 use Rattle.nts_variance.proofs.Debts.{goals_to, AreGoals-append}
 use Rattle.nts_variance.proofs.Growing.{Knows-grown}
-use Rattle.nts_variance.proofs.Nodes.{parts_known}
-use Rattle.nts_variance.proofs.Refusals.{parts_formed}
+use Rattle.nts_variance.proofs.Nodes.{parts_known, parts_formed}
 use Rattle.nts_variance.proofs.Runs.{stacked-push}
 use Rattle.nts_variance.proofs.Takes.{pair_of, takes_over}
 use Rattle.nts_variance.proofs.Underway.{underway_start, underway_end, underway_taken, underway_fewer, underway_passed, underway_refuses, underway_back, underway_again}
 use Rattle.nts_variance.proofs.VaryTurns.{known_pairs, goals_later, pairs_kept}
+use Rattle.nts_model.proofs.Tables.TableInstances.{deeply_resolved-more}
 
 -- lists of pairs
 pub pairs_front : (ts : List Tree) (c : Content) (xs : List Relating) (y : Relating) → ArePairsLeft ts c (xs ++ y ∷ []) → ArePairsLeft ts c xs × IsPair ts c y

@@ -31,6 +31,7 @@ use Rattle.nts_model.proofs.Tables.Resolved.{resolved-empty, resolved-more, reso
 use Rattle.nts_model.proofs.Tables.ResolvedTerms.{IsFormed-deeply_resolved, Fits-deeply_resolved}
 use Rattle.nts_variance.specs.Steps.{HasSorts}
 use Rattle.nts_variance.specs.Walking.{IsErased}
+use Rattle.nts_model.proofs.Variances.Forms.{no_places, sort_label}
 
 -- leaves that are no regions, and the erased and the error region
 level_none : (l : Label) → name_of_label l ≡ None → region_level l ≡ None
@@ -108,11 +109,6 @@ float_label (label.Ty (ty.Float i)) e = (refl, refl)
 float_label (label.Leaf (leaf.Variable kind.Float n)) e = (refl, refl)
 float_label l e = cc
 
-pub no_places : (t : Tree) → HavePlaces [] t → t ≡ empty
-no_places empty h = refl
-no_places (more a b) h = absurd h
-no_places (node l c) h = absurd h
-
 alone_clean : (u : ℕ) (l : Label) (c : Tree) → (region_level l ≡ None) × (shape l ≡ in_order []) → IsFormed (node l c) → NamesAll region_level u (node l c)
 alone_clean u l c e f =
     let none = no_places c (subst (λ p. Meets p c) e.1 f.0) in
@@ -143,10 +139,6 @@ arguments_resolved c ts =
     let a = resolved-node c (label.List list.Args) ts refl in
     let d = resolved-empty c in
     cc (a, b, d)
-
-pub sort_label : (l : Label) → kind_of_label l ≡ one_sort → (s : Sort) × (l ≡ label.List (list.Sort s))
-sort_label (label.List (list.Sort s)) e = (s, refl)
-sort_label l e = cc
 
 sort_clean : (c : Content) (u : ℕ) (a : Tree) → kind_of a ≡ Some one_sort → IsFormed a → NamesAll region_level u (resolved c a)
 sort_clean c u empty e f = cc

@@ -23,8 +23,9 @@ use Rattle.nts_relating.proofs.AliasCounts.{closed_true, closed_resolved}
 use Rattle.nts_variance.specs.Steps.{WalkStep, enter, build, owe, popped, unpopped, entering, HasSorts, MadeForRow}
 use Rattle.nts_variance.specs.Walking.{NothingOwed, KnowsSteps, KnowsTrees}
 use Rattle.nts_variance.specs.Counting.{EscapesWith, StaysOpen, AreStepsInvariant, BuildsOpen, HaveNone, aliases_within, IsCounted, IsCountedFor}
-use Rattle.nts_variance.proofs.Clean.{arguments_resolved, sort_label, no_places}
+use Rattle.nts_variance.proofs.Clean.{arguments_resolved}
 use Rattle.nts_variance.proofs.Runs.{pushed, popped_row, unpopped_pushed, made_row}
+use Rattle.nts_model.proofs.Variances.Forms.{no_places, sort_label}
 
 -- whether a tree is closed, and that it is
 both_true : (a b : Bool) → (a && b) ≡ true → (a ≡ true) × (b ≡ true)

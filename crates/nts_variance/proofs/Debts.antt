@@ -20,7 +20,6 @@ use Rattle.nts_model.specs.Variances.Forms.{Form, a_constructor, a_function, a_v
 use Rattle.nts_model.specs.Variances.Judging.{opposite}
 use Rattle.nts_model.specs.Variances.Relations.{Relating as Pair}
 use Rattle.nts_model.specs.Terms.Patching.{IsPatched, patched, in_end, in_row, in_node, in_leaf}
-use Rattle.nts_model.proofs.Tables.Alike.{deeply_resolved-more}
 use Rattle.nts_model.proofs.Tables.Resolved.{deeply_resolved-empty, deeply_resolved-node}
 use Rattle.nts_model.proofs.Tables.ResolvedTerms.{IsClosed-deeply_resolved}
 use Rattle.nts_model.proofs.Tables.Kept.{kind_of-deeply_resolved}
@@ -31,6 +30,7 @@ use Rattle.nts_variance.specs.Terms.{IsGoal, AreGoals}
 use Rattle.nts_variance.specs.Debts.{IsClosedLike, OweGoals}
 use Rattle.nts_variance.proofs.Clean.{holds_terms}
 use Rattle.nts_variance.proofs.Runs.{pushed, popped_row, unpopped_pushed, made_row}
+use Rattle.nts_model.proofs.Tables.TableInstances.{deeply_resolved-more}
 
 -- trees in which closed trees took the place of others
 pub closed_patched : (t r : Tree) → IsPatched t r → (b : ℕ) → IsClosedUnder b t → IsClosedUnder b r

@@ -18,7 +18,7 @@ use Rattle.nts_model.specs.Derivations.Related.{times, first_variance, rest_vari
 use Rattle.nts_model.specs.Variances.Relations.{Relating as Pair}
 use Rattle.nts_model.specs.Variances.Judging.{Judging, IsSettled, Settles, IsLawfulJudging, opposite}
 use Rattle.nts_model.specs.Variances.Forms.{Form, a_constructor, a_function, a_value, an_alias, over, variances_over, pairs_over}
-use Rattle.nts_model.proofs.Variances.Alongside.{along_const, beside_number}
+use Rattle.nts_model.proofs.Variances.Alongside.{along_const, beside_number, times_invariant}
 use Rattle.nts_model.proofs.Tables.Fitting.{Fits-inst}
 use Rattle.nts_model.proofs.Variances.Forms.{deeply_resolved-over}
 use Rattle.nts_model.proofs.Tables.Kept.{variable_label}
@@ -82,11 +82,11 @@ stands_to_be_one c v a b x y p q h =
     }
 
 -- settled trees that settle by a variance, one of which is a const or a number, are one
-or_left : (a b : Bool) → a ≡ true → (a || b) ≡ true
+pub or_left : (a b : Bool) → a ≡ true → (a || b) ≡ true
 or_left true b e = refl
 or_left false b e = cc
 
-or_right : (a b : Bool) → b ≡ true → (a || b) ≡ true
+pub or_right : (a b : Bool) → b ≡ true → (a || b) ≡ true
 or_right true b e = refl
 or_right false b e = e
 
@@ -108,11 +108,6 @@ module _ (J : Judging) (law : IsLawfulJudging J) where
 abbrev pub AllInvariant : List Pair → Type 0
 AllInvariant [] = Unit {0}
 AllInvariant (p ∷ ps) = (p.variance ≡ variance.Invariant) × AllInvariant ps
-
-times_invariant : (v : Variance) → times v variance.Invariant ≡ variance.Invariant
-times_invariant variance.Invariant = refl
-times_invariant variance.Covariant = refl
-times_invariant variance.Contravariant = refl
 
 none_row : (v : Variance) (ws : List Variance) (ts us : Tree) → ws ≡ [] → AllInvariant (pairs_over v ws ts us)
 none_row v ws empty us e = tt

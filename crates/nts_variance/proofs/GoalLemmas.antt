@@ -23,9 +23,7 @@ use Rattle.nts_model.specs.Derivations.Related.{IsAlias, alias, arguments, pair,
 use Rattle.nts_model.specs.Variances.Relations.{Relating as Pair}
 use Rattle.nts_model.specs.Lists.{Among}
 use Rattle.nts_model.specs.Variances.AnsweredGoals.{IsAnswered}
-use Rattle.nts_model.proofs.Variances.AliasLabels.{alias_is_alias}
 use Rattle.nts_model.proofs.Tables.Resolved.{deeply_resolved-node, deeply_resolved-empty}
-use Rattle.nts_model.proofs.Tables.Alike.{deeply_resolved-more}
 use Rattle.nts_model.proofs.Tables.Fitting.{IsClosed-values}
 use Rattle.nts_model.proofs.Tables.Open.{values_closed_of}
 use Rattle.nts_model.proofs.Tables.Kept.{kind_of-resolved, kind_of-rooted}
@@ -37,14 +35,13 @@ use Rattle.nts_variance.specs.Terms.{pair_at, IsGoal}
 use Rattle.nts_variance.proofs.Leaves.{kept_kinds}
 use Rattle.nts_variance.proofs.Looks.{alias_tree}
 use Rattle.nts_variance.specs.Goals.{in_order, ordered, is_alias_node, expects_first, goal_head, goal_of}
+use Rattle.nts_model.proofs.Derivations.AlikeRelated.{alias_label_is as alias_is_alias}
+use Rattle.nts_model.proofs.Tables.TableInstances.{deeply_resolved-more}
+use Rattle.nts_variance.proofs.Exact.{or_left as left_or}
 
 -- an alias stays one
 alias_node : (t : Tree) → IsAlias t → is_alias_node t ≡ true
 alias_node t x = ap is_alias_node x.is ∙ alias_is_alias x.head
-
-left_or : (a b : Bool) → a ≡ true → (a || b) ≡ true
-left_or true b e = refl
-left_or false b e = cc
 
 right_or : (a b : Bool) → b ≡ true → (a || b) ≡ true
 right_or true b e = refl

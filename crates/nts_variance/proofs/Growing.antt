@@ -11,13 +11,10 @@ use Rattle.std.proofs.Common.{length-append, [], ◌∷◌}
 use Rattle.nts_unify.specs.Changing.{IsLater, AddsVisible, nothing_more, one_more}
 use Rattle.nts_variance.specs.Walking.{IsTableGrown}
 use Rattle.nts_variance.proofs.SubRoots.{grows_joined, grows_slot, grows_then}
+use Rattle.nts_unify.proofs.Keeping.{AddsVisible-trans as visible_trans}
 
 pub grown_refl : (c : Content) → IsTableGrown c c
 grown_refl c = record { more = omega arith; grows = omega arith; kinds = λ n k h. h; subs = grows_joined (JoinsSubRoots-refl c); visible = nothing_more }
-
-visible_trans : {xs ys zs : List Recorded} → AddsVisible xs ys → AddsVisible ys zs → AddsVisible xs zs
-visible_trans a nothing_more = a
-visible_trans a (one_more x b v) = one_more x (visible_trans a b) v
 
 pub grown_trans : {c d e : Content} → IsTableGrown c d → IsTableGrown d e → IsTableGrown c e
 grown_trans {c} {d} {e} a b =

@@ -58,6 +58,8 @@ use Rattle.nts_variance.specs.Counting.{IsCountedFor}
 use Rattle.nts_variance.specs.Parts.{has_parts}
 use Rattle.nts_variance.specs.Walking.{IsErased, Judges, IsMadeFor, RelatedTrees, RelatedSides, sides, IsMade}
 use Rattle.nts_variance.proofs.Nodes.{answered_sides, settles_sides}
+use Rattle.nts_variance.proofs.Exact.{or_right as either_float}
+use Rattle.nts_model.proofs.Variances.Forms.{no_places as no_children}
 
 -- labels of instances
 renamed_alias : (w : World) (l : Label) → is_alias (renamed w l) ≡ is_alias l
@@ -84,11 +86,6 @@ renamed_name w (label.List h) v e = refl
 no_region_name : (l : Label) (t : Tree) → name_of_label l ≡ None → IsRegion (node l t) → ⊥
 no_region_name l t e r = (let x = region_label l t r.0 r.1 in let q = x.0 in cc)
 
-no_children : (t : Tree) → HavePlaces [] t → t ≡ empty
-no_children empty h = refl
-no_children (more a b) h = absurd h
-no_children (node l c) h = absurd h
-
 -- in a settled world the instance of a tree without aliases is settled
 placed_settled : (J : Judging) (c : Content) (w : World) (l : Label) (x : Tree) (o : Option (VariableKind × ℕ)) → IsSettledWorld J c w → KnowsVariable c o → is_alias l ≡ false → IsSettled J x → IsSettled J (placed w (number_of o) l x)
 placed_settled J c w l x None h k e s = ((λ i. absurd (not_alias (renamed w l) x (renamed_alias w l ∙ e) i)), s)
@@ -110,10 +107,6 @@ integer_node : (y : Tree) → HasLabel is_integer (label_of y) → NumberNode y
 integer_node empty h = absurd h
 integer_node (more a b) h = absurd h
 integer_node (node l c) h = record { label = l; children = c; is = refl; number = rw h refl }
-
-either_float : (a b : Bool) → b ≡ true → (a || b) ≡ true
-either_float true b e = refl
-either_float false b e = e
 
 float_node : (y : Tree) → HasLabel is_float (label_of y) → NumberNode y
 float_node empty h = absurd h

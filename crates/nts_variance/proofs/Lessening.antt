@@ -24,17 +24,13 @@ use Rattle.nts_model.proofs.Terms.Substituting.{no_children}
 use Rattle.nts_model.proofs.Terms.Variables.{infer_label}
 use Rattle.nts_unify.specs.Changing.{KeepsKnowing}
 use Rattle.nts_variance.specs.Equating.{aliases_of, sizes_of, unsolved}
+use Rattle.nts_model.proofs.Tables.Measuring.{both_true}
 
 -- where no bound variable escapes from the resolved tree, none escapes from the tree
 less_below : (d c : ℕ) → is_less d c ≡ true → d < c
 less_below d zero e = cc
 less_below zero (suc c) e = omega arith
 less_below (suc d) (suc c) e = (let rest = less_below d c e in omega (arith, rest))
-
-both_true : (a b : Bool) → (a && b) ≡ true → (a ≡ true) × (b ≡ true)
-both_true true true e = (refl, refl)
-both_true true false e = cc
-both_true false b e = cc
 
 bound_below : (b : ℕ) (l : Label) → is_bound_below b l ≡ true → IsBoundBelow b l
 bound_below b (label.Bound s (index.Bound d) n) e = less_below d b e

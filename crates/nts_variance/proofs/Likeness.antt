@@ -28,7 +28,7 @@ use Rattle.nts_model.proofs.Terms.Substituting.{no_children}
 use Rattle.nts_model.proofs.Variances.AliasLabels.{region_tree_of, region_kind}
 use Rattle.nts_model.proofs.Tables.Resolved.{deeply_resolved-empty, deeply_resolved-deeply_resolved}
 use Rattle.nts_model.proofs.Tables.Open.{Knows-deeply_resolved}
-use Rattle.nts_model.proofs.Tables.Alike.{deeply_resolved-more, IsRow-deeply_resolved, IsRegion-deeply_resolved, HoldsEqual-one, HoldsEqual-continues, AreAlike-turned}
+use Rattle.nts_model.proofs.Tables.Alike.{IsRow-deeply_resolved, IsRegion-deeply_resolved, HoldsEqual-one, HoldsEqual-continues, AreAlike-turned}
 use Rattle.nts_model.proofs.Derivations.AlikeRelated.{arguments_in, IsNodeLike, that_node, that_region, that_label, node_like, IsRowLike, that_row, that_first, row_like, empty_like, arguments_like, sort_list_like}
 use Rattle.nts_model.proofs.Terms.Unpositioned.{known_no_positions, known_well_bound, IsFormedTerm, formed_term, term_formed}
 use Rattle.nts_model.proofs.Tables.Fitting.{region_label}
@@ -38,9 +38,10 @@ use Rattle.nts_model.proofs.Variances.Forms.{deeply_resolved-over}
 use Rattle.nts_relating.proofs.Plain.{plain_rooted}
 use Rattle.nts_relating.specs.Relating.{IsLike}
 use Rattle.nts_relating.proofs.Ranks.{kind_of-like, like_of-kinds}
-use Rattle.nts_relating.proofs.GenLemmas.{Meets-like}
+use Rattle.nts_relating.proofs.GenLemmas.{Meets-like, IsLike-refl as like_itself}
 use Rattle.nts_variance.specs.Walking.{RelatedTrees, RelatedSides}
 use Rattle.nts_variance.proofs.Clean.{holds_terms}
+use Rattle.nts_model.proofs.Tables.TableInstances.{deeply_resolved-more}
 
 no_alias_left : (a b : Bool) → (a || b) ≡ false → a ≡ false
 no_alias_left a b e = (or_parts a b e).0
@@ -239,11 +240,6 @@ alike_aliases R a b (two_rows {a = x} {b = y} {c = z} {d = w} h k) =
     let p = alike_aliases R x z h in
     let q = alike_aliases R y w k in
     cc (p, q)
-
-like_itself : (t : Tree) → IsLike t t
-like_itself empty = tt
-like_itself (more a b) = (refl, like_itself b)
-like_itself (node l c) = refl
 
 alike_like : (R : Tree → Tree → Type 0) (a b : Tree) → Alike R a b → IsLike a b
 alike_like R a b one = like_itself a

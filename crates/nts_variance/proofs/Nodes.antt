@@ -28,7 +28,7 @@ use Rattle.nts_model.proofs.Tables.Slots.{KeepsKinds, Knows-kept}
 use Rattle.nts_model.proofs.Tables.Fitting.{IsClosed-under}
 use Rattle.nts_model.proofs.Variances.AliasLabels.{region_closed}
 use Rattle.nts_model.proofs.Tables.Resolved.{resolved-more, resolved-node, rank_le, deeply_resolved-node, deeply_resolved-empty}
-use Rattle.nts_model.proofs.Tables.Alike.{deeply_resolved-more, IsRow-deeply_resolved, row_length-deeply_resolved}
+use Rattle.nts_model.proofs.Tables.Alike.{IsRow-deeply_resolved, row_length-deeply_resolved}
 use Rattle.nts_model.proofs.Tables.Instances.{Agrees-refl}
 use Rattle.nts_model.proofs.Tables.Held.{Continues-refl}
 use Rattle.nts_model.proofs.Variances.Settling.{normalizes_itself}
@@ -37,12 +37,13 @@ use Rattle.nts_model.proofs.Terms.Scoping.{closed_listed}
 use Rattle.nts_model.proofs.Variances.AnsweredGoals.{answered_relates}
 use Rattle.nts_model.proofs.Variances.Generalizing.{settle_joined}
 use Rattle.nts_model.proofs.Variances.SettleRows.{settles_turned, empty_forward, more_beside}
-use Rattle.nts_model.proofs.Variances.Forms.{IsRow-inst, row_length-inst, inst-over, FitsForm-inst, deeply_resolved-over, FitsForm-deeply_resolved, variances_over_length, variances_over_inst, variances_over_resolved, Knows-over, KeepsListed-over, related_over, form_beside}
+use Rattle.nts_model.proofs.Variances.Forms.{IsRow-inst, row_length-inst, inst-over, FitsForm-inst, deeply_resolved-over, FitsForm-deeply_resolved, variances_over_length, variances_over_inst, variances_over_resolved, Knows-over, KeepsListed-over, related_over, form_beside, head_closed}
 use Rattle.nts_variance.proofs.Growing.{grown_refl}
 use Rattle.nts_variance.specs.Steps.{WalkStep, enter, build, owe, steps_of, popped, unpopped, entering, part_place, PartsFit, kinds_left, kind_over, EndsAlone, HasSorts, builds, sizes, StepsLead, ended, entered, built, owed, MadeForRow}
 use Rattle.nts_variance.specs.Walking.{IsMadeFor, MadeIn, NothingOwed, RelatedTrees, RelatedSides, StandsBy, OwedBy, IsChoice, SettlesOwed, sides, step_weights, KnowsSteps, Walks}
 use Rattle.nts_variance.proofs.Runs.{pushed, made_row, parts_made, parts_entered, built_over, unbuilt, unentered, unowed}
 use Rattle.nts_variance.proofs.Turns.{answered_front}
+use Rattle.nts_model.proofs.Tables.TableInstances.{deeply_resolved-more}
 
 -- a function of trees that is applied to each tree of a row
 pub record IsOnRows (g : Tree → Tree) : Type 0 where
@@ -187,10 +188,6 @@ module _ (declared : ℕ → List Variance) {Same : Tree → Type 0} {Holds : Co
     pub related_rows_closed : {v : Variance} {ws : List Variance} {ts us : Tree} → AreRelatedByArgument declared Same Holds Proved v ws ts us → (c : ℕ) → (IsClosedUnder c ts → IsClosedUnder c us) × (IsClosedUnder c us → IsClosedUnder c ts)
     related_rows_closed no_more c = ((λ h. h), (λ h. h))
     related_rows_closed (and_more r rs) c = let first = related_closed r c in let rest = related_rows_closed rs c in ((λ h. (first.0 h.0, rest.0 h.1)), (λ h. (first.1 h.0, rest.1 h.1)))
-
-head_closed : (h : AliasHead) (ts us : Tree) → ((c : ℕ) → IsClosedUnder c ts → IsClosedUnder c us) → IsClosed (alias h ts) → IsClosed (alias h us)
-head_closed (alias_of.Ty i) ts us f k = (tt, ((tt, f (0 + 0 + 0) k.1.0.1), tt))
-head_closed (alias_of.Const i) ts us f k = (tt, ((tt, f (0 + 0 + 0) k.1.0.1), tt))
 
 fits_beside : (F : Form) (ts rs : Tree) → row_length rs ≡ row_length ts → ((c : ℕ) → IsClosedUnder c rs → IsClosedUnder c ts) → FitsForm F ts → FitsForm F rs
 fits_beside (a_constructor i) ts rs e g f = tt

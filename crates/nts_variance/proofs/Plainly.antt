@@ -21,7 +21,7 @@ use Rattle.nts_model.specs.Variances.Relations.{Relating, AllSettleIn, IsSettled
 use Rattle.nts_model.specs.Variances.AnsweredGoals.{AllRelatedUnder}
 use Rattle.nts_model.specs.Variances.Leaving.{Judge, judging_of}
 use Rattle.nts_model.specs.Variances.Forms.{pairs_over}
-use Rattle.nts_model.proofs.Tables.Alike.{deeply_resolved-more, row_length-deeply_resolved}
+use Rattle.nts_model.proofs.Tables.Alike.{row_length-deeply_resolved}
 use Rattle.nts_model.proofs.Tables.Fitting.{region_label}
 use Rattle.nts_model.proofs.Tables.Open.{Knows-resolved}
 use Rattle.nts_model.proofs.Tables.Resolved.{resolved-more, resolved-node, deeply_resolved-node}
@@ -42,6 +42,7 @@ use Rattle.nts_variance.proofs.Leaves.{inst_settled, kept_kinds}
 use Rattle.nts_variance.proofs.Likeness.{sides_related}
 use Rattle.nts_variance.proofs.Pushing.{of_any}
 use Rattle.nts_variance.proofs.Takes.{pair_of}
+use Rattle.nts_model.proofs.Tables.TableInstances.{deeply_resolved-more}
 
 -- rows, and parts of trees that are one but for regions
 fitting_row : (t : Tree) → AllFit any_argument t → IsRow t

@@ -38,7 +38,7 @@ use Rattle.nts_variance.specs.Parts.{form_of_tree, parts_of}
 use Rattle.nts_variance.specs.Varying.{pair_in, IsMadeAgain}
 use Rattle.nts_variance.proofs.Bound.{closed_back}
 use Rattle.nts_variance.proofs.Looks.{node_meets}
-use Rattle.nts_variance.proofs.Nodes.{parts_known}
+use Rattle.nts_variance.proofs.Nodes.{parts_known, parts_formed}
 use Rattle.nts_variance.proofs.Pairs.{refuses_by}
 use Rattle.nts_variance.proofs.Takes.{pair_of}
 
@@ -115,14 +115,6 @@ no_free_label t l is e r =
     let x = region_label l (children t) i.0 i.1 in
     let y = named_free l i.0 x.0 in
     cc
-
--- the parts of a node are formed
-pub parts_formed : (F : Form) (ts : Tree) → IsFormed (over F ts) → IsFormed ts
-parts_formed (a_constructor i) ts k = k.1.0.1
-parts_formed (a_function ss) ts k = k.1.1.0.1
-parts_formed (a_value b) ts k = k.1
-parts_formed (an_alias (alias_of.Ty i)) ts k = k.1.0.1
-parts_formed (an_alias (alias_of.Const i)) ts k = k.1.0.1
 
 module _ (declared : ℕ → List Variance) where
   -- a goal needs closed sides of one kind

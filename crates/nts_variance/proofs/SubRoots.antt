@@ -7,7 +7,7 @@ use Rattle.nts_model.specs.declared.labels.VariableKind.{VariableKind}
 use Rattle.nts_model.specs.Tables.Contents.{Content, Slot, SlotState, unset, link, known, map_slot, state_of, kind_at, sub_link_of, with_slot}
 use Rattle.nts_model.specs.Tables.SubUnifying.{SharesSubRoot, itself, linked, turned, through, BecameOne, AreJoined, before, since, back, along, JoinsSubRoots}
 use Rattle.nts_model.proofs.Tables.Slots.{field_below, field-with_slot_new, field-with_slot_old}
-use Rattle.nts_model.proofs.Tables.SubUnified.{shares-mapped}
+use Rattle.nts_model.proofs.Tables.SubUnified.{shares-mapped, either_link, some_kind}
 use Rattle.nts_model.proofs.Tables.Under.{same_or_other}
 use Rattle.nts_variance.specs.SubRoots.{AreJoinedSince, was, became, made, reversed, onward, GrowsSubRoots}
 
@@ -98,20 +98,6 @@ either_place n k = by (ltb n k) refl
     by : (o : Bool) → ltb n k ≡ o → (n < k) ⊎ (k ≤ n)
     by true e = inl (ltb-true n k e)
     by false e = inr (not_less (λ l. (let y = lt-ltb n k l in cc)))
-
--- a state that is a link, or none
-either_link : (o : Option SlotState) → ((k : ℕ) × (o ≡ Some (link k))) ⊎ ((k : ℕ) → o ≡ Some (link k) → ⊥)
-either_link None = inr (λ k e. cc)
-either_link (Some unset) = inr (λ k e. cc)
-either_link (Some (link m)) = inl (m, refl)
-either_link (Some (known t)) = inr (λ k e. cc)
-
-some_kind : (d : Content) (n m : ℕ) → state_of d n ≡ Some (link m) → (k : VariableKind) × (kind_at d n ≡ Some k)
-some_kind d n m h = by_slot (slice_get d.slots n) h
-  where
-    by_slot : (o : Option Slot) → map_slot (λ x. x.state) o ≡ Some (link m) → (k : VariableKind) × (map_slot (λ x. x.kind) o ≡ Some k)
-    by_slot None e = cc
-    by_slot (Some v) e = (v.kind, refl)
 
 module _ (c d e : Content) (kinds : (n : ℕ) (k : VariableKind) → kind_at d n ≡ Some k → kind_at e n ≡ Some k) (more : length c.slots ≤ length d.slots) (later : length d.slots ≤ length e.slots) (a : GrowsSubRoots c d) (b : GrowsSubRoots d e) where
   abbrev both : ℕ → Option ℕ

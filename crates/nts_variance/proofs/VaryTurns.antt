@@ -48,15 +48,12 @@ use Rattle.nts_variance.proofs.Counting.{counted_at, counted_to, counted_start, 
 use Rattle.nts_variance.proofs.Runs.{stacked-push, pushed, unpopped_pushed, popped_row, made_row, unentered}
 use Rattle.nts_variance.proofs.Turns.{judges_agree, walks_none, walks_then, walk_made}
 use Rattle.nts_variance.proofs.Nodes.{made_over, made_value, kinds_on, left_on, weights_node, weights_value, weights_value_on, weights_built, weights_owed, weights_made, weights_later, builds_entering, ends_node, ends_made, ends_built, ends_value, ends_value_on, size_run, walk_node, walk_built, walk_value, walk_value_on, walk_owed}
+use Rattle.nts_variance.proofs.Pushing.{tasks_push as AreTasks-push}
 
 -- lists of tasks, of what was made and of pairs
 AreTasks-front : (ts : List Tree) (c : Content) (xs : List Task) (y : Task) → AreTasks ts c (xs ++ y ∷ []) → AreTasks ts c xs × IsTask ts c y
 AreTasks-front ts c [] y h = (tt, h.0)
 AreTasks-front ts c (x ∷ xs) y h = let r = AreTasks-front ts c xs y h.1 in ((h.0, r.0), r.1)
-
-AreTasks-push : (ts : List Tree) (c : Content) (xs : List Task) (y : Task) → AreTasks ts c xs → IsTask ts c y → AreTasks ts c (xs ++ y ∷ [])
-AreTasks-push ts c [] y h k = (k, tt)
-AreTasks-push ts c (x ∷ xs) y h k = (h.0, AreTasks-push ts c xs y h.1 k)
 
 AreMade-push : (ts : List Tree) (c : Content) (u : ℕ) (ms : List NodeId) (r : NodeId) → AreMade ts c u ms → IsIn ts r → Knows c (tree_at ts r) → NamesAll region_level u (resolved c (tree_at ts r)) → AreMade ts c u (ms ++ r ∷ [])
 AreMade-push ts c u [] r h i k n = ((i, k, n), tt)

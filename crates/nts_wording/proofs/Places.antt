@@ -15,15 +15,12 @@ use Rattle.nts_text.specs.declared.resolver.Resolved.{Resolved}
 use Rattle.nts_text.specs.declared.resolver.Resolved.TheVariants as nodes
 use Rattle.nts_wording.specs.Meaning.{AreOwnPlaces, HasOwnPlaces, HasPlace, KeepsPlaces, AreClausePositions, trees_from}
 use Rattle.nts_wording.specs.declared.variables.LineVariables.{LineVariables}
+use Rattle.nts_model.proofs.Tables.Slots.{slice_get-push_new as get-end}
 
 get-front : {A : Type 0} (xs ys : List A) (i : ℕ) (x : A) → slice_get xs i ≡ Some x → slice_get (xs ++ ys) i ≡ Some x
 get-front [] ys i x h = cc
 get-front (y ∷ xs) ys zero x h = h
 get-front (y ∷ xs) ys (suc i) x h = get-front xs ys i x h
-
-get-end : {A : Type 0} (xs : List A) (x : A) → slice_get (xs ++ x ∷ []) (length xs) ≡ Some x
-get-end [] x = refl
-get-end (y ∷ xs) x = get-end xs x
 
 get-none : {A : Type 0} (xs : List A) (x : A) → slice_get xs (length xs) ≡ Some x → ⊥
 get-none [] x h = cc

@@ -18,13 +18,7 @@ use Rattle.nts_model.specs.declared.labels.UintTy.{UintTy}
 use Rattle.nts_text.specs.Names.{word_of_int, word_of_uint}
 use Rattle.nts_wording.specs.Printing.{Lexicon, Seen, IsText, IsLeafText, IsUnnamedType, separator, in_brackets, type_name}
 use Rattle.nts_wording.specs.Pieces.{ArePrinted, Completes, Opens}
-
--- a list of trees without the first i
-abbrev pub row_from : ℕ → Tree → Tree
-row_from zero r = r
-row_from (suc i) empty = empty
-row_from (suc i) (more a b) = row_from i b
-row_from (suc i) (node l c) = empty
+use Rattle.nts_store.proofs.Replacing.{row_drop as row_from}
 
 -- what stands before the tree with this number
 abbrev pub lead : ℕ → Tree → List ℕ

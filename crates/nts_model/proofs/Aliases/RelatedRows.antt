@@ -9,11 +9,7 @@ use Rattle.nts_model.specs.Variances.Forms.{pairs_over}
 use Rattle.nts_model.specs.Variances.AnsweredGoals.{AllRelatedUnder, RelatedUnder, RowsUnder}
 use Rattle.nts_model.proofs.Tables.Resolved.{deeply_resolved-empty}
 use Rattle.nts_model.proofs.Tables.TableInstances.{deeply_resolved-more}
-
-invariant_below : (v : Variance) → times v variance.Invariant ≡ variance.Invariant
-invariant_below variance.Invariant = refl
-invariant_below variance.Covariant = refl
-invariant_below variance.Contravariant = refl
+use Rattle.nts_model.proofs.Variances.Alongside.{times_invariant as invariant_below}
 
 -- so they are related whatever the variance of the two is
 pub rows_under : (declared : ℕ → List Variance) (c : Content) (ks : List Tree) (v : Variance) (ts us : Tree) → IsRow ts → IsRow us → row_length ts ≡ row_length us

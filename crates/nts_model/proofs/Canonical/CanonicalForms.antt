@@ -68,7 +68,7 @@ originals_give_input i h =
     )
 
 -- the originals are the leaves
-distinct-originals : (i : Input) → AreDistinct (originals i)
+pub distinct-originals : (i : Input) → AreDistinct (originals i)
 distinct-originals i = distinct-seen no_leaf _ i.hidden (distinct-seen no_leaf _ i.predicate (distinct-seen is_static [] i.environment tt))
 
 occurs-original : (i : Input) → IsInput i → (l : Leaf) → OccursIn l i → Among (originals i) l

@@ -11,6 +11,7 @@ use Rattle.nts_model.specs.Lists.{Among}
 use Rattle.nts_model.specs.Canonical.Numbered.{number, added, seen_node, seen, position, numbered_leaf, numbered, AreDistinct}
 use Rattle.nts_model.proofs.Terms.Substituting.{replace-leaf}
 use Rattle.nts_model.proofs.Terms.Listed.{either, added-has, added-keeps, distinct-added, number-kept, number-added, original}
+use Rattle.nts_model.proofs.Terms.Unpositioned.{or_false}
 
 -- each leaf of the tree is so
 abbrev pub AtNode : (Leaf → Type 0) → Label → Type 0 → Type 0
@@ -82,10 +83,6 @@ replace-tells f g (node l c) e = put-tells f g (AllLeaves (λ x. f x ≡ g x) c)
 -- values in the place of positions that a map gave
 abbrev pub HasNoPositions : Tree → Type 0
 HasNoPositions t = any_label is_canonical t ≡ false
-
-or_false : (a b : Bool) → (a || b) ≡ false → (a ≡ false) × (b ≡ false)
-or_false true b e = cc
-or_false false b e = (refl, e)
 
 pub first_none : (a b : Tree) → HasNoPositions (more a b) → HasNoPositions a
 first_none a b e = (or_false (any_label is_canonical a) (any_label is_canonical b) e).0

@@ -14,7 +14,7 @@ use Rattle.nts_model.specs.Derivations.Handlers.{IsFixed}
 use Rattle.nts_model.specs.Answers.Responses.{IsOverPositions, read_in}
 use Rattle.nts_model.proofs.Terms.Substituting.{leaf_alone}
 use Rattle.nts_model.proofs.Tables.Resolved.{deeply_resolved-node, deeply_resolved-empty}
-use Rattle.nts_model.proofs.Tables.Alike.{deeply_resolved-more}
+use Rattle.nts_model.proofs.Tables.TableInstances.{deeply_resolved-more}
 
 pub get_or-map : (f : Tree → Tree) → f empty ≡ empty → (xs : List Tree) (i : ℕ) → get_or (map f xs) i empty ≡ f (get_or xs i empty)
 get_or-map f e [] i = sym e
@@ -65,7 +65,7 @@ instance_of-filled κ xs t h = replace-filled κ.value xs t ∙ filled_under-fix
     fixed (leaf.ConstConstant a) i = absurd i
 
 -- under a table
-resolved_label : (c : Content) (l : Label) (x : Tree) → variable_of l ≡ None → deeply_resolved c (node l x) ≡ node l (deeply_resolved c x)
+pub resolved_label : (c : Content) (l : Label) (x : Tree) → variable_of l ≡ None → deeply_resolved c (node l x) ≡ node l (deeply_resolved c x)
 resolved_label c l x e = let i : infer_of l ≡ None = rw e refl in deeply_resolved-node c l x i ∙ rw e refl
 
 over_label : (l : Label) (c : Tree) → IsOverPositions (node l c) → variable_of l ≡ None

@@ -22,9 +22,10 @@ use Rattle.nts_model.proofs.Terms.Unpositioned.{or_false}
 use Rattle.nts_model.proofs.Decisions.Deciding.{decided_by}
 use Rattle.nts_model.proofs.Decisions.BlurredWorlds.{merged_leaf, blurred_kinds, blurred_leaf_formed}
 use Rattle.nts_model.proofs.Decisions.DecidingRenamed.{labels_renamed}
-use Rattle.nts_model.proofs.Decisions.Reopening.{binding, two_ways}
+use Rattle.nts_model.proofs.Decisions.Reopening.{binding}
 use Rattle.nts_model.proofs.Decisions.DecidedOpening.{as_leaves}
 use Rattle.nts_model.proofs.Decisions.DecidedGoals.{later_blurred}
+use Rattle.nts_model.proofs.Terms.Listed.{either as two_ways}
 
 infer_merged : (l : Leaf) → is_infer (label.Leaf (merged_leaf l)) ≡ is_infer (label.Leaf l)
 infer_merged (leaf.Region r) = refl

@@ -17,7 +17,8 @@ use Rattle.nts_model.specs.Refutation.Opening.{binds, placeholder_in, opened_in}
 use Rattle.nts_model.specs.Decisions.Deciding.{blurred_leaf, blurred, blurred_environment, top_level, opened_next}
 use Rattle.nts_model.proofs.Terms.Substituting.{replace-equal}
 use Rattle.nts_model.proofs.Decisions.BlurredWorlds.{merged_leaf, merged_leaf_tree}
-use Rattle.nts_model.proofs.Decisions.Reopening.{opened_if, binding, binding_back, two_ways}
+use Rattle.nts_model.proofs.Decisions.Reopening.{opened_if, binding, binding_back}
+use Rattle.nts_model.proofs.Terms.Listed.{either as two_ways}
 
 -- blurring before and after
 opened_label : (f : Sort → ℕ → Leaf) (c : ℕ) (l : Label) (a t b : Tree) → blurred t ≡ blurred b → opened f (c + binders l) a ≡ b → blurred (opened_at f c l t) ≡ blurred (opened f c (put blurred_leaf l a))

@@ -25,7 +25,7 @@ use Rattle.nts_model.specs.Derivations.Handlers.{Handler, Candidate, equation_by
 use Rattle.nts_model.specs.Refutation.Choosing.{left_of, right_of}
 use Rattle.nts_model.specs.Decisions.Deciding.{blurred_leaf, blurred_but_static, blurred, blurred_environment, blurred_premise, blurred_candidate, MeetsBlurred, FixesGoals, IsDecidable, IsPlainGoal, IsFormedCandidate, IsUniform, opened_next, IsDecided, by_candidates, OneHolds, none_left, then_fails, then_holds, CandidateIs, is_unmet, is_met, GoalsAre, all_yes, one_yes, one_no}
 use Rattle.nts_model.proofs.Terms.Substituting.{replace-replace, replace-equal, replace-leaf, leaf_alone}
-use Rattle.nts_model.proofs.Terms.Composing.{IsFormed-instance, IsClosed-instance, Fits-instance}
+use Rattle.nts_model.proofs.Terms.Composing.{IsFormed-instance, IsClosed-instance, Fits-instance, leaf_tree-inj as one_leaf}
 use Rattle.nts_model.proofs.Derivations.ClosedStatements.{closed_statements_instance}
 use Rattle.nts_model.proofs.Terms.Scoping.{leaf_patch, replace_patched, well_bound_patched}
 use Rattle.nts_model.proofs.Canonical.Positioned.{replace-filled}
@@ -54,9 +54,6 @@ fits_leaf ρ (leaf.ConstConstant a) = of_const (ρ.to (leaf.ConstConstant a)) (�
     of_const : (x : Leaf) → leaf_sort x ≡ of_constant sort.Const → FitsLeaf (leaf.ConstConstant a) (leaf_tree x)
     of_const (leaf.ConstConstant b) e = (b, refl)
     of_const x e = absurd (cc e)
-
-pub one_leaf : (l m : Leaf) → leaf_tree l ≡ leaf_tree m → l ≡ m
-one_leaf l m e = cc e
 
 abbrev pub by_renaming : (ρ : Renaming) → IsPlain ρ → Instance
 by_renaming ρ p =

@@ -22,7 +22,7 @@ use Rattle.nts_model.specs.Lists.{Among}
 use Rattle.nts_model.specs.Refutation.Opening.{binds, placeholder_in}
 use Rattle.nts_model.specs.Decisions.Deciding.{blurred_leaf, blurred, level_or_root, top_level}
 use Rattle.nts_model.proofs.Canonical.Numbering.{AllLeaves, replace-agree}
-use Rattle.nts_model.proofs.Terms.Listed.{same-no}
+use Rattle.nts_model.proofs.Terms.Listed.{same-no, either as two_ways}
 use Rattle.nts_model.proofs.Terms.Renamings.{swapped, forward, backward, backward-forward, forward-backward, sorts-forward, map-forward, renaming-injective}
 use Rattle.nts_model.proofs.Refutation.OpenedGoals.{rename_opened}
 use Rattle.nts_model.proofs.Decisions.DecidingRenamed.{region_blurred, blurred_renamed, Reopens}
@@ -284,10 +284,6 @@ binding_back f (node (label.List list.Binder) (more (node (label.List list.Sorts
 binding_back f (node (label.List list.Binder) (more (node (label.List list.Sorts) (more a b)) (more u (node l c)))) s ss t e =
     absurd (node_not_empty f l (replace (λ x. leaf_tree (f x)) c) (cc e))
 binding_back f g s ss t e = absurd (cc e)
-
-pub two_ways : (b : Bool) → (b ≡ true) ⊎ (b ≡ false)
-two_ways true = inl refl
-two_ways false = inr refl
 
 reopens_plain : (ρ : Renaming) → IsPlain ρ → (e g : Tree) → binds g ≡ false → binds (rename ρ g) ≡ false → Reopens ρ e g
 reopens_plain ρ p e g h k = record { to = ρ; plain = p; environment = refl; opened = rw (h, k) refl }

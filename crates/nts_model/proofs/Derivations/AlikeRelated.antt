@@ -43,7 +43,7 @@ alias_of_label (label.Ty (ty.Alias i)) e = (alias_of.Ty i, refl)
 alias_of_label (label.Const (konst.Unevaluated i)) e = (alias_of.Const i, refl)
 alias_of_label l e = absurd (cc e)
 
-alias_label_is : (h : AliasHead) → is_alias (alias_label h) ≡ true
+pub alias_label_is : (h : AliasHead) → is_alias (alias_label h) ≡ true
 alias_label_is (alias_of.Ty i) = refl
 alias_label_is (alias_of.Const i) = refl
 
@@ -51,7 +51,7 @@ pub alias_places : (h : AliasHead) (c : Tree) → IsFormedTerm (node (alias_labe
 alias_places (alias_of.Ty i) c f = (f.0, f.1)
 alias_places (alias_of.Const i) c f = (f.0, f.1)
 
-label_same : (l m : Label) (c d : Tree) → node l c ≡ node m d → l ≡ m
+pub label_same : (l m : Label) (c d : Tree) → node l c ≡ node m d → l ≡ m
 label_same l m c d e = cc e
 
 -- a closed node with such a label is one

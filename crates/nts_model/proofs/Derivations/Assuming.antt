@@ -11,7 +11,7 @@ use Rattle.nts_model.specs.Derivations.Proofs.{Serves, reopened, Assumed, put_be
 use Rattle.nts_model.specs.Searching.Stacks.{IsUsable, IsDerivedFrom}
 use Rattle.nts_model.proofs.Terms.Composing.{after, instance_of-after}
 use Rattle.nts_model.proofs.Terms.Identified.{one_trans, one_under}
-use Rattle.nts_model.proofs.Derivations.Flattening.{get-put_behind}
+use Rattle.nts_model.proofs.Derivations.Flattening.{get-put_behind, none_stand as none_found}
 use Rattle.nts_model.proofs.Derivations.ProofInstances.{constraint_under-after, hidden_under-after, IsTrivial-under, Hides-one, IsInstance-after}
 
 -- an instance of what has an instance that serves a premise serves it
@@ -54,9 +54,6 @@ pub record IsCovered (B : List Assumed) (a : Assumed) : Type 0 where
 
 abbrev pub Covers : List Assumed → List Assumed → Type 0
 Covers A B = (j : ℕ) (a : Assumed) → slice_get A j ≡ Some a → IsCovered B a
-
-pub none_found : (j : ℕ) (a : Assumed) → slice_get [] j ≡ Some a → ⊥
-none_found j a e = cc e
 
 pub covers_none : (B : List Assumed) → Covers [] B
 covers_none B j a e = absurd (none_found j a e)

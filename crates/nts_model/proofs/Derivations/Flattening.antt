@@ -259,7 +259,7 @@ module _ {m : Meaning} {mode : Mode} where
     sound_all (by_assumption ι j a f b sv rest) i π M c B F low stand within n h =
         sound_all rest (suc i) π M c B F low stand within n h
 
-none_stand : (j : ℕ) (a : Assumed) → slice_get [] j ≡ Some a → ⊥
+pub none_stand : (j : ℕ) (a : Assumed) → slice_get [] j ≡ Some a → ⊥
 none_stand j a e = cc e
 
 -- a derivation without assumptions gives a ranked proof of each instance

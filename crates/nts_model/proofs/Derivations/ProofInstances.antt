@@ -22,7 +22,7 @@ hidden_under-after κ ι h = rw (instance_of-after κ ι h.key, instance_of-afte
 pub premise_under-after : (κ ι : Instance) (g : Premise) → premise_under (after κ ι) g ≡ premise_under κ (premise_under ι g)
 premise_under-after κ ι g = rw (instance_of-after κ ι g.environment, instance_of-after κ ι g.predicate) refl
 
-HasOneSide-under : (κ : Instance) (r : Relation) (x : Constraint) → HasOneSide r x → HasOneSide r (constraint_under κ x)
+pub HasOneSide-under : (κ : Instance) (r : Relation) (x : Constraint) → HasOneSide r x → HasOneSide r (constraint_under κ x)
 HasOneSide-under κ relation.Equal x h = ap (instance_of κ) h
 HasOneSide-under κ relation.RegionOutlives x h = ap (instance_of κ) h
 HasOneSide-under κ relation.TypeOutlives x h = h

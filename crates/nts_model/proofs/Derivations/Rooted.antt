@@ -11,9 +11,8 @@ use Rattle.nts_model.specs.Derivations.Rules.{Meaning, Mode, GoalKind, coinducti
 use Rattle.nts_model.specs.Derivations.Proofs.{IsSoundStep, HasProof, HasFallingProof}
 use Rattle.nts_model.specs.Derivations.Proving.{sequent_at, HasRankedProofUnder}
 use Rattle.nts_model.specs.Searching.Stacks.{IsDerivedFrom, IsProvedFrom}
-use Rattle.nts_model.proofs.Derivations.Flattening.{derivation_proof}
+use Rattle.nts_model.proofs.Derivations.Flattening.{derivation_proof, none_stand as none_found}
 use Rattle.nts_model.proofs.Derivations.ProvedLater.{hypotheses_held}
-use Rattle.nts_model.proofs.Derivations.Assuming.{none_found}
 
 pub derived_proof : (m : Meaning) (mode : Mode) (t : Sequent) → IsDerivedFrom m mode [] t → HasProof m mode t
 derived_proof m mode t x = ⊎_elim

@@ -5,13 +5,10 @@ use Rattle.nts_model.specs.Lists.{Among}
 use Rattle.nts_model.specs.Derivations.Rules.{Mode, coherence, post_analysis, erased, analysis, borrowck, post_borrowck}
 use Rattle.nts_model.specs.Derivations.Handlers.{Access, never, always, any_infer, in_storage, in_storage_or_infer}
 use Rattle.nts_model.specs.Erased.Accessing.{IsWithin, IsBelow, IsJoin, is_in, united, joined_accesses, Decision, stands, runs_again, is_handed_on, Parents, no_parents, is_stored, again_if, decides, IsFewer, is_stands, stands_for, is_erased, are_numbers, is_mode, suits}
+use Rattle.nts_model.proofs.Terms.Listed.{either}
 
 equal-iff : (m n : ℕ) → IsTrue (m == n) ↔ (m ≡ n)
 equal-iff m n = search rules
-
-either : (b : Bool) → (b ≡ true) ⊎ (b ≡ false)
-either true = inl refl
-either false = inr refl
 
 -- membership
 or_left : (a b : Bool) → a ≡ true → (a || b) ≡ true

@@ -21,6 +21,7 @@ use Rattle.nts_model.proofs.Searching.Stacks.{derived_since}
 use Rattle.nts_model.specs.Erased.Accessing.{suits, stands_for, IsBelow, Parents, decides, stands, is_handed_on}
 use Rattle.nts_model.specs.Erased.Erasing.{ModedEntry, entry_in_mode, all_seen, plain_entry, WasReadSince, WereReadSince, mark, all_marked, EvaluatesIn, ComputesIn, ErasedAreRules, without_access, standing_candidates, standing}
 use Rattle.nts_model.proofs.Erased.Accessing.{suits_less, suits_taken, suits_handed_on}
+use Rattle.nts_model.proofs.Terms.Listed.{either}
 
 -- what was read since, was so for each mode
 and_more : (a b c : Bool) → (a ≡ true → b ≡ true) → (a && c) ≡ true → (b && c) ≡ true
@@ -114,11 +115,6 @@ asked_in_mode m k old new i mode r c a b x f = λ proof may. x proof (suits_less
 pub derived_since_in : (m : Meaning) (proof : Mode) (k : PathKind) (xs ys : List ModedEntry) (t : Sequent) → WereReadSince xs ys
     → IsDerivedFrom m proof (passed k (assumptions (all_seen proof xs))) t → IsDerivedFrom m proof (passed k (assumptions (all_seen proof ys))) t
 derived_since_in m proof k xs ys t h x = derived_since m proof k (all_seen proof xs) (all_seen proof ys) t (all_seen_since proof xs ys h) x
-
--- the erased candidates that stand for a mode are rules of it
-either : (b : Bool) → (b ≡ true) ⊎ (b ≡ false)
-either true = inl refl
-either false = inr refl
 
 record IsStanding (proof : Mode) (cs : List Candidate) (d : Candidate) : Type 0 where
   pub candidate : Candidate

@@ -14,7 +14,8 @@ use Rattle.nts_model.specs.Terms.Substitutions.{filled}
 use Rattle.nts_model.specs.Derivations.Handlers.{Handler, Candidate, certain, never, IsAsked}
 use Rattle.nts_model.specs.Refutation.Choosing.{left_of, right_of}
 use Rattle.nts_model.specs.Decisions.Deciding.{blurred, blurred_candidate, MeetsBlurred, IsPlainGoal, IsFormedCandidate, IsUniform, IsDecided, by_candidates, none_left, then_fails, then_holds, is_met, all_yes, one_no}
-use Rattle.nts_model.proofs.Examples.ProofExamples.{nowhere}
+use Rattle.nts_model.proofs.Examples.InputExamples.{no_clauses as nowhere}
+use Rattle.nts_model.proofs.Examples.ProofExamples.{no_predicates}
 
 -- a trait of the type List
 abbrev trait_of_list : ℕ → Tree
@@ -22,9 +23,6 @@ trait_of_list i = node (label.Clause (clause.Trait i)) (arguments (more (constru
 
 abbrev list_goal : ℕ → Tree
 list_goal i = unbound (trait_of_list i)
-
-no_predicates : (ps : Tree) → nowhere ≡ node (label.List list.Env) ps → ps ≡ empty
-no_predicates ps e = cc e
 
 asked : (i : ℕ) → IsAsked nowhere (list_goal i)
 asked i =

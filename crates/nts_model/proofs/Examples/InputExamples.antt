@@ -26,7 +26,7 @@ of_one l = trait_of 0 (more (leaf_tree l) empty)
 abbrev of_two : Leaf → Leaf → Tree
 of_two l m = trait_of 1 (pair (leaf_tree l) (leaf_tree m))
 
-abbrev no_clauses : Tree
+abbrev pub no_clauses : Tree
 no_clauses = node (label.List list.Env) empty
 
 abbrev one_clause : Tree → Tree

@@ -16,7 +16,8 @@ use Rattle.nts_model.proofs.Terms.Composing.{itself, instance_of-itself}
 use Rattle.nts_model.proofs.Derivations.ClosedStatements.{closed_unbound}
 use Rattle.nts_model.proofs.Terms.Identified.{one_itself}
 use Rattle.nts_model.proofs.Derivations.Flattening.{derivation_proof}
-use Rattle.nts_model.proofs.Examples.ProofExamples.{replaced_plain, nowhere, auto_list, auto_sequent, auto_terms}
+use Rattle.nts_model.proofs.Examples.ProofExamples.{replaced_plain, auto_list, auto_sequent, auto_terms, auto_goal as open_goal, fact_clause, no_predicates}
+use Rattle.nts_model.proofs.Examples.InputExamples.{no_clauses as nowhere}
 
 abbrev item : Tree
 item = alias (alias_of.Ty 0) empty
@@ -24,18 +25,11 @@ item = alias (alias_of.Ty 0) empty
 abbrev list_type : Tree
 list_type = constructor 1 empty
 
--- norm Item = List <- Auto(List), and impl Auto(List)
-abbrev open_goal : Premise
-open_goal = record { source = impl_where_bound; environment = nowhere; predicate = auto_list }
-
 abbrev norm_goal : Tree
 norm_goal = normalization_goal (alias_of.Ty 0) empty list_type
 
 abbrev norm_clause : Application
 norm_clause = record { environment = nowhere; conclusion = norm_goal; values = []; equations = []; goals = open_goal ∷ []; constraints = []; hidden = [] }
-
-abbrev fact_clause : Application
-fact_clause = record { environment = nowhere; conclusion = auto_list; values = []; equations = []; goals = []; constraints = []; hidden = [] }
 
 abbrev rules : Meaning
 rules = meaning_of (λ mode x. (x ≡ norm_clause) ⊎ (x ≡ fact_clause)) (λ i. false) (λ i. [])
@@ -48,9 +42,6 @@ relate_goal = unbound (node (label.Predicate (predicate.AliasRelate direction.Eq
 
 abbrev relate_sequent : Sequent
 relate_sequent = record { environment = nowhere; predicate = relate_goal; constraints = []; hidden = []; open_goals = [] }
-
-no_predicates : (ps : Tree) → nowhere ≡ node (label.List list.Env) ps → ps ≡ empty
-no_predicates ps e = cc e
 
 norm_terms : IsOfTerms norm_sequent
 norm_terms =

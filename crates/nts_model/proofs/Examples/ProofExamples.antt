@@ -22,18 +22,9 @@ use Rattle.nts_model.proofs.Terms.Composing.{itself, instance_of-itself, instanc
 use Rattle.nts_model.proofs.Derivations.ClosedStatements.{closed_unbound}
 use Rattle.nts_model.proofs.Terms.Identified.{one_itself, one_leafless}
 use Rattle.nts_model.proofs.Derivations.Flattening.{derivation_proof}
-
--- where no alias is, none is replaced
-either_false : (a b : Bool) → (a || b) ≡ false → (a ≡ false) × (b ≡ false)
-either_false true b e = cc
-either_false false b e = (refl, e)
-
-label_is : (l m : Label) (c d : Tree) → node l c ≡ node m d → l ≡ m
-label_is l m c d e = cc e
-
-alias_is : (h : AliasHead) → is_alias (alias_label h) ≡ true
-alias_is (alias_of.Ty i) = refl
-alias_is (alias_of.Const i) = refl
+use Rattle.nts_model.proofs.Terms.Unpositioned.{or_false as either_false}
+use Rattle.nts_model.proofs.Derivations.AlikeRelated.{alias_label_is as alias_is, label_same as label_is}
+use Rattle.nts_model.proofs.Examples.InputExamples.{no_clauses as nowhere}
 
 pub replaced_plain : (C : Tree → Tree → Type 0) (t : Tree) → any_label is_alias t ≡ false → Replaced C t t
 replaced_plain C empty e = kept_empty
@@ -58,14 +49,11 @@ replaced_only C _ _ e (kept_node {l = l} {c = c} {d = d} n r) =
     let (x, y) = either_false (is_alias l) (any_label is_alias c) e in
     ap (node l) (replaced_only C c d y r)
 
-abbrev pub nowhere : Tree
-nowhere = node (label.List list.Env) empty
-
 -- Auto(List)
 abbrev pub auto_list : Tree
 auto_list = unbound (node (label.Clause (clause.Trait 0)) (arguments (more (constructor 1 empty) empty)))
 
-abbrev auto_goal : Premise
+abbrev pub auto_goal : Premise
 auto_goal = record { source = impl_where_bound; environment = nowhere; predicate = auto_list }
 
 -- impl Auto(List) <- Auto(List)
@@ -73,7 +61,7 @@ abbrev auto_clause : Application
 auto_clause = record { environment = nowhere; conclusion = auto_list; values = []; equations = []; goals = auto_goal ∷ []; constraints = []; hidden = [] }
 
 -- impl Auto(List)
-abbrev fact_clause : Application
+abbrev pub fact_clause : Application
 fact_clause = record { environment = nowhere; conclusion = auto_list; values = []; equations = []; goals = []; constraints = []; hidden = [] }
 
 abbrev pub by_clause : Application → (ℕ → Bool) → Meaning
@@ -85,7 +73,7 @@ no_clauses = meaning_of (λ mode x. ⊥) (λ i. false) (λ i. [])
 abbrev pub auto_sequent : Sequent
 auto_sequent = record { environment = nowhere; predicate = auto_list; constraints = []; hidden = []; open_goals = [] }
 
-no_predicates : (ps : Tree) → nowhere ≡ node (label.List list.Env) ps → ps ≡ empty
+pub no_predicates : (ps : Tree) → nowhere ≡ node (label.List list.Env) ps → ps ≡ empty
 no_predicates ps e = cc e
 
 pub auto_terms : IsOfTerms auto_sequent

@@ -15,7 +15,8 @@ use Rattle.nts_model.proofs.Terms.Composing.{itself, instance_of-itself, instanc
 use Rattle.nts_model.proofs.Terms.Identified.{one_itself, one_leafless}
 use Rattle.nts_model.specs.Terms.Trees.{IsFormed}
 use Rattle.nts_model.specs.Searching.Stacks.{IsDerivedFrom}
-use Rattle.nts_model.proofs.Examples.ProofExamples.{nowhere, auto_list, by_clause, auto_sequent, auto_terms, auto_instance, replaced_plain, replaced_only, UsesClause, rule_uses}
+use Rattle.nts_model.proofs.Examples.ProofExamples.{auto_list, by_clause, auto_sequent, auto_terms, auto_instance, replaced_plain, replaced_only, UsesClause, rule_uses}
+use Rattle.nts_model.proofs.Examples.InputExamples.{no_clauses as nowhere}
 
 -- Far(List)
 abbrev far_list : Tree

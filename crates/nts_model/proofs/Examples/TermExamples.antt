@@ -14,7 +14,8 @@ use Rattle.nts_model.specs.Derivations.Related.{Constraint, arguments, function,
 use Rattle.nts_model.specs.Lists.{Among}
 use Rattle.nts_model.specs.Derivations.Sequents.{Premise, Hidden, Sequent, IsOfTerms}
 use Rattle.nts_model.specs.Derivations.Rules.{Meaning, Mode, IsTerm, IsApplied}
-use Rattle.nts_model.proofs.Examples.ProofExamples.{nowhere, auto_list}
+use Rattle.nts_model.proofs.Examples.ProofExamples.{auto_list}
+use Rattle.nts_model.proofs.Examples.InputExamples.{no_clauses as nowhere}
 
 -- Auto of a term
 abbrev auto_of : Tree → Tree

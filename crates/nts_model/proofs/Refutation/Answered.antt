@@ -26,12 +26,7 @@ use Rattle.nts_model.proofs.Canonical.CanonicalForms.{originals_give_input, orig
 use Rattle.nts_model.proofs.Responses.Answering.{canonical_environment_over, canonical_predicate_over}
 use Rattle.nts_model.proofs.Refutation.AskingWorlds.{image_inside, formed_parts, ground_parts, IsAskable, image, asked_values, asked_filled, contained_granted, named_with_regions, IsOfParts}
 use Rattle.nts_model.proofs.Lists.{among_left, among_right}
-
-first_part : (a b c d : Tree) → more a b ≡ more c d → a ≡ c
-first_part a b c d e = cc e
-
-rest_part : (a b c d : Tree) → more a b ≡ more c d → b ≡ d
-rest_part a b c d e = cc e
+use Rattle.nts_model.proofs.Responses.Asked.{first_part, rest_part}
 
 given_environment : (i : Input) → IsInput i → filled (map leaf_tree (originals i)) (canonical_of i).environment ≡ i.environment
 given_environment i h = first_part _ _ _ _ (originals_give_input i h)
@@ -143,7 +138,7 @@ pub record AreTermsOf (c : Content) (gs : List Premise) : Type 0 where
   pub environments : (q : Premise) → Among gs q → Knows c q.environment
   pub predicates : (q : Premise) → Among gs q → Knows c q.predicate
 
-among_split : {X : Type 0} (xs ys : List X) (x : X) → Among (xs ++ ys) x → Among xs x ⊎ Among ys x
+pub among_split : {X : Type 0} (xs ys : List X) (x : X) → Among (xs ++ ys) x → Among xs x ⊎ Among ys x
 among_split [] ys x a = inr a
 among_split (y ∷ xs) ys x (inl e) = inl (inl e)
 among_split (y ∷ xs) ys x (inr a) = elim (among_split xs ys x a) [ inl b ↦ inl (inr b) | inr b ↦ inr b ]

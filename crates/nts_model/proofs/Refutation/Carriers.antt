@@ -22,7 +22,7 @@ use Rattle.nts_model.specs.Answers.Responses.{placeholder_tree}
 use Rattle.nts_model.specs.Refutation.Containing.{Carrier}
 use Rattle.nts_model.specs.Refutation.Refutation.{IsCarrying}
 use Rattle.nts_model.proofs.Terms.Substituting.{replace-replace}
-use Rattle.nts_model.proofs.Terms.Composing.{fits_itself}
+use Rattle.nts_model.proofs.Terms.Composing.{fits_itself, leaf_tree-inj as one_leaf}
 use Rattle.nts_model.proofs.Terms.Listed.{either, same-no, original, map-map, map-tells}
 use Rattle.nts_model.proofs.Terms.Renamings.{swapped, swapped-other, forward, backward, forward-injective, backward-forward, extension, map-forward}
 use Rattle.nts_model.proofs.Responses.Standing.{distinct_images}
@@ -119,9 +119,6 @@ carried_fits ρ h (leaf.Variable k n) = rw (h.variables k n) (fits_itself (leaf.
 carried_fits ρ h (leaf.Region r) = let (q, e) = region_carried ρ h r in rw e (fits_itself (leaf.Region q))
 carried_fits ρ h (leaf.TyConstant a) = let (b, e) = type_by_sort (ρ.to (leaf.TyConstant a)) (ρ.keeps_sorts (leaf.TyConstant a)) in (b, ap leaf_tree e)
 carried_fits ρ h (leaf.ConstConstant a) = let (b, e) = const_by_sort (ρ.to (leaf.ConstConstant a)) (ρ.keeps_sorts (leaf.ConstConstant a)) in (b, ap leaf_tree e)
-
-pub one_leaf : (l m : Leaf) → leaf_tree l ≡ leaf_tree m → l ≡ m
-one_leaf l m e = cc e
 
 abbrev pub instance_by : (ρ : Renaming) → IsCarrying ρ → Instance
 instance_by ρ h =

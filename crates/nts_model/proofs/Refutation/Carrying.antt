@@ -15,7 +15,7 @@ use Rattle.nts_model.specs.Tables.Worlds.{IsValue}
 use Rattle.nts_model.specs.Terms.Substitutions.{leaf_tree, put, replace, Instance, instance_of}
 use Rattle.nts_model.specs.Refutation.Containing.{Carrier}
 use Rattle.nts_model.proofs.Terms.Substituting.{replace-replace, replace-equal, replace-leaf}
-use Rattle.nts_model.proofs.Terms.Composing.{Fits-instance, IsClosed-instance, IsFormed-instance, fits_itself}
+use Rattle.nts_model.proofs.Terms.Composing.{Fits-instance, IsClosed-instance, IsFormed-instance, fits_itself, leaf_tree-inj as one_leaf}
 
 -- what each leaf's tree is named by, each instance of a tree is
 names_put : (f : Leaf → Tree) (u v : ℕ) → ((l : Leaf) → CanName u (leaf_level_of l) → NamesAll leaf_level v (f l)) → (l : Label) (c : Tree) → CanName u (leaf_level l) → NamesAll leaf_level v c → NamesAll leaf_level v (put f l c)
@@ -84,9 +84,6 @@ placeholder_formed : (s : Sort) (u n : ℕ) → IsFormed (placeholder_tree s u n
 placeholder_formed sort.Ty u n = (tt, tt)
 placeholder_formed sort.Const u n = (tt, tt)
 placeholder_formed sort.Region u n = (tt, tt)
-
-one_leaf : (l m : Leaf) → leaf_tree l ≡ leaf_tree m → l ≡ m
-one_leaf l m e = cc e
 
 identity : Instance
 identity = record { value = leaf_tree; fits = fits_itself; formed = λ l. (tt, tt); closed = λ l. (tt, tt); distinct = λ l m i j e. one_leaf l m e; stays = λ r h. refl }

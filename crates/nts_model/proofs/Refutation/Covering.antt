@@ -18,7 +18,8 @@ use Rattle.nts_model.specs.Derivations.Sequents.{Premise, Hidden}
 use Rattle.nts_model.specs.Derivations.Rules.{Mode, Meaning, goal_kind, Replaced, chosen, kept_empty, kept_more, kept_node, Stands, opened, opened_at, IsHandlers, IsBuiltIn, IsApplied, IsPlainRule, bound, IsRule}
 use Rattle.nts_model.specs.Derivations.Rules.{region_lives, type_lives, subtyped, coerced, const_typed, error_typed, allowed, dyn_compatible, formed, constant_evaluated, value_evaluated, error_evaluated, alias_evaluated, aliases_relate}
 use Rattle.nts_model.specs.Refutation.Coherence.{IsAliasFree}
-use Rattle.nts_model.proofs.Derivations.ClosedStatements.{opened_closed}
+use Rattle.nts_model.proofs.Derivations.ClosedStatements.{opened_closed, one_statement as unbound_statement}
+use Rattle.nts_model.proofs.Derivations.AlikeRelated.{alias_label_is as alias_is}
 
 -- related trees without aliases, where equalities are true, are one
 module _ (D : ℕ → List Variance) (S : Tree → Type 0) (H : Constraint → Type 0) (P : Tree → Type 0)
@@ -43,10 +44,6 @@ alike_equal R h a b same_tree = refl
 alike_equal R h a b (two_regions i j r) = h a b r
 alike_equal R h (node l c) (node m d) (one_label i r) = cc (alike_equal R h c d r)
 alike_equal R h (more a s) (more b t) (two_rows r q) = cc (alike_equal R h a b r, alike_equal R h s t q)
-
-alias_is : (h : AliasHead) → is_alias (alias_label h) ≡ true
-alias_is (alias_of.Ty i) = refl
-alias_is (alias_of.Const i) = refl
 
 pub no_alias : (t : Tree) → IsAliasFree t → IsAlias t → ⊥
 no_alias t f i = by_head (subst IsAliasFree i.is f)
@@ -77,10 +74,6 @@ not_built_in m G H P e s h value_evaluated = h
 not_built_in m G H P e s h error_evaluated = h
 not_built_in m G H P e s h (alias_evaluated x) = h
 not_built_in m G H P e s h (aliases_relate r q x y z) = h
-
--- a rule for a handler's goal that binds nothing is a use of a clause
-unbound_statement : (s t : Tree) → unbound s ≡ unbound t → s ≡ t
-unbound_statement s t e = cc e
 
 bound_statement : (sorts s t : Tree) → unbound s ≡ bound sorts t → s ≡ t
 bound_statement sorts s t e = cc e

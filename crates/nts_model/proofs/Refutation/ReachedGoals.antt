@@ -32,6 +32,7 @@ use Rattle.nts_model.proofs.Derivations.ClosedStatements.{opened_closed}
 use Rattle.nts_model.proofs.Refutation.Covering.{not_built_in}
 use Rattle.nts_model.specs.Variances.Judging.{AllStand}
 use Rattle.nts_model.proofs.Refutation.UsedRules.{uses_unbound, uses_binding}
+use Rattle.nts_model.proofs.Derivations.ProofInstances.{HasOneSide-under as one_side_under}
 
 -- no rule of the handler normalizes an alias: a store without declared aliases has none
 pub record HasNoAliases (h : Handler) : Type 0 where
@@ -118,11 +119,6 @@ trivial_true : (truth : Truth) (r : Relation) (x : Constraint) → HasOneSide r 
 trivial_true truth relation.Equal x h = h
 trivial_true truth relation.RegionOutlives x h = inl h
 trivial_true truth relation.TypeOutlives x h = absurd h
-
-one_side_under : (κ : Instance) (r : Relation) (x : Constraint) → HasOneSide r x → HasOneSide r (constraint_under κ x)
-one_side_under κ relation.Equal x h = ap (instance_of κ) h
-one_side_under κ relation.RegionOutlives x h = ap (instance_of κ) h
-one_side_under κ relation.TypeOutlives x h = h
 
 constraint_after : (κ ι both : Instance) → ((t : Tree) → instance_of both t ≡ instance_of κ (instance_of ι t)) → (x : Constraint) → constraint_under both x ≡ constraint_under κ (constraint_under ι x)
 constraint_after κ ι both h x = rw (h x.left, h x.right) refl

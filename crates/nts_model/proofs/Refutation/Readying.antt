@@ -31,6 +31,7 @@ use Rattle.nts_model.proofs.Refutation.OpenedGoals.{inst_opened}
 use Rattle.nts_model.proofs.Refutation.OfferMeeting.{handlers_inst}
 use Rattle.nts_model.proofs.Refutation.Offering.{world_instance, world_instance_in, meets_used}
 use Rattle.nts_model.proofs.Refutation.Opening.{CanBegin, can_begin}
+use Rattle.nts_model.proofs.Derivations.ClosedStatements.{one_statement as same_statement}
 
 -- in a solution the current universe names the image of each term of the table
 module _ (truth : Truth) (base : ℕ) (c : Content) (w : World) (s : IsSolution truth base c w) (current : AreCurrent c) where
@@ -78,9 +79,6 @@ record IsBinding (g : Tree) : Type 0 where
 binding_shape : (g : Tree) → binds g ≡ true → IsBinding g
 binding_shape (node (label.List list.Binder) (more (node (label.List list.Sorts) (more x xs)) (more s empty))) e = record { first = x; rest = xs; says = s; is = refl }
 binding_shape g e = cc e
-
-same_statement : (s t : Tree) → unbound s ≡ unbound t → s ≡ t
-same_statement s t e = cc e
 
 module _ (h : Handler) (truth : Truth) (Proves : Tree → Tree → Type 0) (theory : IsTheory h truth Proves) (lawful : IsLawfulHandler h) (law : RulesAreOffered h) where
   -- by what the world uses

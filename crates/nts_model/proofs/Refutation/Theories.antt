@@ -41,6 +41,7 @@ use Rattle.nts_model.proofs.Refutation.OpenedGoals.{rename_opened, kept_tree}
 use Rattle.nts_model.proofs.Refutation.Carrying.{names_replaced}
 use Rattle.nts_model.proofs.Refutation.Carriers.{forward_others, forward_property, none_renamed, none_carrying, then_by, then_carrying, rename_then, back_to, back_carrying, region_carried, instance_by, AreMovable, extension_carrying, shifted, shifted_carrying, shifted_low}
 use Rattle.nts_model.proofs.Refutation.UsedRules.{handlers_replaced, handlers_before}
+use Rattle.nts_model.proofs.Decisions.Reopening.{index_of as name_of}
 
 -- elements of mapped lists
 mapped : {X Y : Type 0} (f : X → Y) (xs : List X) (y : Y) → Among (map f xs) y → (x : X) × Among xs x × (y ≡ f x)
@@ -412,11 +413,6 @@ module _ (t : Tree) (f : Sort → ℕ → Leaf) (h : AreAbsent t f) where
   below_absent : (n : ℕ) (l : Leaf) → Occurs l t → Among (below f n) l → ⊥
   below_absent n l o i = let r = below_is f n l i in h.absent r.0 r.1 (subst (λ z. Occurs z t) r.3 o)
 
--- names of bound variables are below a number
-abbrev name_of : Label → ℕ
-name_of (label.Bound s (index.Bound d) n) = suc n
-name_of l = 0
-
 abbrev names_below : Tree → ℕ
 names_below empty = 0
 names_below (more a b) = max (names_below a) (names_below b)
@@ -585,10 +581,6 @@ back_again ρ t f = rename_then ρ (back_to ρ) t ∙ replace-equal (λ l. leaf_
 
 pub forth_again : (ρ : Renaming) (t : Tree) → IsFormed t → rename ρ (rename (back_to ρ) t) ≡ t
 forth_again ρ t f = rename_then (back_to ρ) ρ t ∙ replace-equal (λ l. leaf_tree (ρ.to (ρ.from l))) leaf_tree (λ l. ap leaf_tree (ρ.forth l)) t ∙ replace-leaf t f
-
--- which renamings have of a statement
-unbound_same : (s t : Tree) → unbound s ≡ unbound t → s ≡ t
-unbound_same s t e = cc e
 
 binding_same : (x xs s y ys t : Tree) → binding x xs s ≡ binding y ys t → s ≡ t
 binding_same x xs s y ys t e = cc e

@@ -36,7 +36,7 @@ use Rattle.nts_model.proofs.Refutation.Freshening.{knows_leaf}
 use Rattle.nts_model.proofs.Canonical.CanonicalForms.{originals_are_leaves}
 use Rattle.nts_model.proofs.Refutation.AskingWorlds.{image, contained_granted}
 use Rattle.nts_model.proofs.Lists.{among_left, among_right}
-use Rattle.nts_model.proofs.Refutation.Answered.{IsAskedFrom, AreTermsOf, solution_later, still_proved, askable, asked_solution, asked_refuses, asked_extends, kept_same, kept_trans}
+use Rattle.nts_model.proofs.Refutation.Answered.{IsAskedFrom, AreTermsOf, solution_later, still_proved, askable, asked_solution, asked_refuses, asked_extends, kept_same, kept_trans, among_split}
 use Rattle.nts_model.proofs.Refutation.Entering.{IsBegun as Begins, entered as enters}
 use Rattle.nts_model.proofs.Refutation.Responding.{ArePlaced, answer_contains}
 use Rattle.nts_model.proofs.Refutation.Trying.{Reaches as ReachesWorld, reaches_trans, equated_reaches, same_positions}
@@ -365,11 +365,6 @@ premise_among : (xs : List Tree) (gs : List Premise) (q : Premise) → Among (go
 premise_among xs [] q i = absurd i
 premise_among xs (g ∷ gs) q (inl e) = (g, inl refl, e)
 premise_among xs (g ∷ gs) q (inr i) = (let x = premise_among xs gs q i in (x.0, inr x.1, x.2))
-
-among_split : {X : Type 0} (xs ys : List X) (x : X) → Among (xs ++ ys) x → Among xs x ⊎ Among ys x
-among_split [] ys x a = inr a
-among_split (y ∷ xs) ys x (inl e) = inl (inl e)
-among_split (y ∷ xs) ys x (inr a) = elim (among_split xs ys x a) [ inl b ↦ inl (inr b) | inr b ↦ inr b ]
 
 module _ (truth : Truth) (Proves : Tree → Tree → Type 0) where
   -- what a candidate's constraints say is true where its equations were made

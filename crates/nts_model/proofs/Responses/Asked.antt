@@ -16,10 +16,10 @@ use Rattle.nts_model.proofs.Canonical.CanonicalForms.{originals_give_input, orig
 use Rattle.nts_model.proofs.Responses.Answering.{canonical_environment_over, canonical_predicate_over}
 use Rattle.nts_model.proofs.Responses.Querying.{response_to_for}
 
-first_part : (a b c d : Tree) → more a b ≡ more c d → a ≡ c
+pub first_part : (a b c d : Tree) → more a b ≡ more c d → a ≡ c
 first_part a b c d e = cc e
 
-rest_part : (a b c d : Tree) → more a b ≡ more c d → b ≡ d
+pub rest_part : (a b c d : Tree) → more a b ≡ more c d → b ≡ d
 rest_part a b c d e = cc e
 
 pub given_environment : (i : Input) → IsInput i → filled (map leaf_tree (originals i)) (canonical_of i).environment ≡ i.environment

@@ -105,7 +105,7 @@ all_in all b (k ∷ ks) h g l (inl e) =
 all_in all b (k ∷ ks) h g l (inr i) =
     all_in all (suc b) ks h.1 (λ j. let z : suc b + j ≡ b + suc j = omega arith in ap (slice_get all) z ∙ g (suc j)) l i
 
-no_leaf_there : (l : Leaf) (s : Sort) (n : ℕ) → label.Leaf l ≡ label.Bound s index.Canonical n → ⊥
+pub no_leaf_there : (l : Leaf) (s : Sort) (n : ℕ) → label.Leaf l ≡ label.Bound s index.Canonical n → ⊥
 no_leaf_there l s n e = cc e
 
 position_over : (s : Sort) (n : ℕ) → IsOverPositions (position s n)

@@ -29,6 +29,7 @@ use Rattle.nts_model.proofs.Terms.Substituting.{kind_of-replace, IsClosed-replac
 use Rattle.nts_model.specs.Terms.Scoping.{IsWellBound}
 use Rattle.nts_model.proofs.Terms.Scoping.{well_bound_patched, replace_patched, numbered_leaf_patch}
 use Rattle.nts_model.proofs.Responses.Answering.{AreSeen, IsPlainTerm, positioned_over}
+use Rattle.nts_model.proofs.Terms.Unpositioned.{or_false}
 
 -- a closed term over positions of these sorts, whose binders list what they bind
 pub record IsTreeOver (ss : List Sort) (t : Tree) : Type 0 where
@@ -50,10 +51,6 @@ sort_numbered (x ∷ xs) l h = elim (tell l x) [
 
 named_leaf : (s : List Leaf) (l : Leaf) → IsSeen is_fixed s l → NamesFresh (map sort_of_leaf s) (numbered_leaf is_fixed s l)
 named_leaf s l h = elim (either (is_fixed l)) [ inl e ↦ rw e (tt, tt) | inr e ↦ rw (e, sort_numbered s l (h e)) (refl, tt) ]
-
-or_false : (a b : Bool) → (a || b) ≡ false → (a ≡ false) × (b ≡ false)
-or_false true b e = cc
-or_false false b e = (refl, e)
 
 named_put : (ss : List Sort) (f : Leaf → Tree) (A : Type 0) (l : Label) (c : Tree) → is_canonical l ≡ false → (A → NamesFresh ss c) → AtNode (λ x. NamesFresh ss (f x)) l A → NamesFresh ss (put f l c)
 named_put ss f A (label.Leaf x) c e k h = h

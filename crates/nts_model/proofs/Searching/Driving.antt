@@ -24,6 +24,7 @@ use Rattle.nts_model.proofs.Responses.Querying.{query_fits}
 use Rattle.nts_model.proofs.Derivations.FromCandidate.{lawful_candidate_from}
 use Rattle.nts_model.proofs.Responses.AskedFrom.{opened_goals, asked_proved_with, proved_from_continues}
 use Rattle.nts_model.proofs.Searching.Stacks.{back_derived, derived_since, head_closed}
+use Rattle.nts_model.proofs.Searching.Ordered.{no_entry}
 
 -- reading since goes on
 pub read_itself : (x : Entry) → IsReadSince x x
@@ -38,15 +39,12 @@ marked_since [] n = tt
 marked_since (x ∷ xs) zero = (record { input = refl; kind = refl; response = refl; certainty = refl; read = λ h. refl }, all_read_itself xs)
 marked_since (x ∷ xs) (suc n) = (read_itself x, marked_since xs n)
 
-no_entry : (n : ℕ) (x : Entry) → slice_get [] n ≡ Some x → ⊥
-no_entry n x e = cc e
-
 pub get-marked : (xs : List Entry) (n : ℕ) (x : Entry) → slice_get xs n ≡ Some x → slice_get (marked xs n) n ≡ Some (as_read x)
 get-marked [] n x e = absurd (no_entry n x e)
 get-marked (y ∷ xs) zero x e = (let z : Some y ≡ Some x = e in let same : y ≡ x = cc z in ap (λ v. Some (as_read v)) same)
 get-marked (y ∷ xs) (suc n) x e = get-marked xs n x e
 
-path_marked : (xs : List Entry) (n i : ℕ) (k : PathKind) → path_kind (marked xs i) n k ≡ path_kind xs n k
+pub path_marked : (xs : List Entry) (n i : ℕ) (k : PathKind) → path_kind (marked xs i) n k ≡ path_kind xs n k
 path_marked [] n i k = refl
 path_marked (x ∷ xs) zero zero k = refl
 path_marked (x ∷ xs) zero (suc i) k = refl

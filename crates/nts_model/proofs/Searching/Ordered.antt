@@ -8,7 +8,7 @@ use Rattle.nts_model.specs.Searching.Stacks.{Entry, IsReadSince, AreReadSince}
 oldest_last : (x : Entry) (xs : List Entry) → reverse (x ∷ xs) ≡ reverse xs ++ x ∷ []
 oldest_last x xs = reverse-append (x ∷ []) xs
 
-no_entry : (n : ℕ) (x : Entry) → slice_get [] n ≡ Some x → ⊥
+pub no_entry : (n : ℕ) (x : Entry) → slice_get [] n ≡ Some x → ⊥
 no_entry n x e = cc e
 
 get_left : (xs ys : List Entry) (n : ℕ) (x : Entry) → slice_get xs n ≡ Some x → slice_get (xs ++ ys) n ≡ Some x

@@ -22,6 +22,7 @@ use Rattle.nts_model.proofs.Canonical.Positioned.{instance_of-filled}
 use Rattle.nts_model.proofs.Responses.Closing.{said_split}
 use Rattle.nts_model.proofs.Derivations.ProvedLater.{contains_first, contains_later}
 use Rattle.nts_model.proofs.Derivations.Assuming.{Covers, covers_none, covers_later, covers_more, covers_passed, get-passed, derived_more, close_head}
+use Rattle.nts_model.proofs.Searching.Ordered.{no_entry}
 
 -- what an answer says is an instance of itself
 leaves_themselves : (ls : List Leaf) → map (instance_of itself) (map leaf_tree ls) ≡ map leaf_tree ls
@@ -113,9 +114,6 @@ own_assumed : (x : Entry) (A : List Assumed) → IsTrue x.is_read → x.certaint
 own_assumed x A h e =
     let q : x.is_read ≡ true = h in
     rw (q, e) (record { number = 0; assumed = record { sequent = answer_sequent x.input x.response; is_behind = false }; found = refl; same = refl })
-
-no_entry : (n : ℕ) (x : Entry) → slice_get [] n ≡ Some x → ⊥
-no_entry n x e = cc e
 
 first_entry : (a b : Entry) (xs : List Entry) → slice_get (a ∷ xs) 0 ≡ Some b → a ≡ b
 first_entry a b xs e = let z : Some a ≡ Some b = e in cc z

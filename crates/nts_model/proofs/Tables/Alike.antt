@@ -18,9 +18,7 @@ use Rattle.nts_model.proofs.Tables.Open.{Knows-deeply_resolved}
 use Rattle.nts_model.proofs.Tables.Readings.{name_label}
 use Rattle.nts_model.proofs.Tables.Fitting.{region_label, IsRegion-no_infer}
 use Rattle.nts_model.proofs.Tables.Held.{HoldsConstraint-continues}
-
-pub deeply_resolved-more : (c : Content) (a b : Tree) → deeply_resolved c (more a b) ≡ more (deeply_resolved c a) (deeply_resolved c b)
-deeply_resolved-more c a b = ap (rooted c) (resolved-more c a b)
+use Rattle.nts_model.proofs.Tables.TableInstances.{deeply_resolved-more}
 
 -- a region stands for its root
 name-rooted : (c : Content) (l : Label) (x : RegionName) → name_of_label l ≡ Some x → name_of_label (rooted_variable c (variable_of l) l) ≡ Some (root_name c x)

@@ -11,7 +11,7 @@ use Rattle.nts_model.specs.Tables.Contents.{Content, Slot, SlotState, unset, lin
 use Rattle.nts_model.specs.Tables.Resolving.{replaced, replaced_at, resolved, deeply_resolved, rooted, rooted_variable, root_of, follow, follow_state, Reaches, here, on, IsRootState, IsSound}
 use Rattle.nts_model.proofs.Tables.Under.{same_or_other}
 use Rattle.nts_model.proofs.Tables.Slots.{slice_get_length, no_slot}
-use Rattle.nts_model.proofs.Tables.Roots.{Descends, root_of-reaches, Reaches-root_of, IsRootState-root_of, infer_of-rooted}
+use Rattle.nts_model.proofs.Tables.Roots.{Descends, root_of-reaches, Reaches-root_of, IsRootState-root_of, infer_of-rooted, follow_state-root as end_state}
 use Rattle.nts_model.proofs.Tables.Resolved.{resolved-variable_known, resolved-variable_link, IsVariable}
 use Rattle.nts_model.proofs.Tables.Sound.{SameStates, resolved-same, state_of-with_slot_old, state_of-with_slot_new, resolved-with_slot}
 use Rattle.nts_model.proofs.Tables.Binding.{Binds-unset, Binds-kind, IsKnowable, IsLinkable, state_of-set_same, state_of-set_other, kind_at-set, resolved-known, resolved-known_value, IsSound-known, IsSound-link}
@@ -20,12 +20,6 @@ use Rattle.nts_model.proofs.Tables.Binding.{Binds-unset, Binds-kind, IsKnowable,
 pub data SameLink : Option SlotState → Option SlotState → Type 0 where
   same_state : {o : Option SlotState} → SameLink o o
   both_end : {o p : Option SlotState} → IsRootState o → IsRootState p → SameLink o p
-
-end_state : (f : ℕ → ℕ) (n : ℕ) (o : Option SlotState) → IsRootState o → follow_state f n o ≡ n
-end_state f n None h = refl
-end_state f n (Some unset) h = refl
-end_state f n (Some (link m)) h = absurd h
-end_state f n (Some (known t)) h = refl
 
 along : (f g : ℕ → ℕ) (n : ℕ) (o : Option SlotState) → ((m : ℕ) → g m ≡ f m) → follow_state g n o ≡ follow_state f n o
 along f g n None h = refl

@@ -18,17 +18,7 @@ use Rattle.nts_model.proofs.Terms.Variables.{infer_label, infer_of_region}
 use Rattle.nts_model.proofs.Tables.Open.{AreClosedOf, Knows-under}
 use Rattle.nts_model.proofs.Tables.Kept.{variable_label}
 use Rattle.nts_model.proofs.Tables.Readings.{name_label}
-
--- a closed tree stays closed below binders
-IsBoundBelow-more : (a b : ℕ) (l : Label) → a ≤ b → IsBoundBelow a l → IsBoundBelow b l
-IsBoundBelow-more a b (label.Bound s (index.Bound d) n) h k = omega (arith, h, k)
-IsBoundBelow-more a b (label.Bound s index.Canonical n) h k = tt
-IsBoundBelow-more a b (label.Leaf x) h k = tt
-IsBoundBelow-more a b (label.Ty x) h k = tt
-IsBoundBelow-more a b (label.Const x) h k = tt
-IsBoundBelow-more a b (label.Clause x) h k = tt
-IsBoundBelow-more a b (label.Predicate x) h k = tt
-IsBoundBelow-more a b (label.List x) h k = tt
+use Rattle.nts_model.proofs.Terms.Substituting.{bound_below_more as IsBoundBelow-more, name_kind as region_sort}
 
 pub IsClosedUnder-more : (a b : ℕ) (t : Tree) → a ≤ b → IsClosedUnder a t → IsClosedUnder b t
 IsClosedUnder-more a b empty h k = tt
@@ -85,12 +75,6 @@ float_is_type : (s : Tree) → HasLabel is_float (label_of s) → kind_of s ≡ 
 float_is_type empty h = absurd h
 float_is_type (more a b) h = absurd h
 float_is_type (node l c) h = ap Some (float_type l h)
-
--- what fits is of the variable's sort
-region_sort : (l : Label) (x : RegionName) → name_of_label l ≡ Some x → kind_of_label l ≡ of_sort sort.Region
-region_sort (label.Leaf (leaf.Variable kind.Region n)) x e = refl
-region_sort (label.Leaf (leaf.Region r)) x e = refl
-region_sort l x e = cc
 
 pub Fits-kind_of : (k : VariableKind) (t : Tree) → Fits k t → kind_of t ≡ Some (of_sort (sort_of_variable k))
 Fits-kind_of kind.Ty t h = h

@@ -12,6 +12,7 @@ use Rattle.nts_model.specs.Tables.Resolving.{replaced, replaced_at, Lacks, under
 use Rattle.nts_model.proofs.Terms.Variables.{infer_label}
 use Rattle.nts_model.proofs.Tables.Under.{under-lacks, none-one}
 use Rattle.nts_model.proofs.Tables.Open.{AreClosedOf, Knows-under, values_closed_of}
+use Rattle.nts_model.proofs.Terms.Unpositioned.{or_false}
 
 pub variable_label : (l : Label) (k : VariableKind) (n : ℕ) → variable_of l ≡ Some (k, n) → l ≡ label.Leaf (leaf.Variable k n)
 variable_label (label.Leaf (leaf.Variable j m)) k n e = let p : j ≡ k = ap first e in let q : m ≡ n = ap second e in cc
@@ -97,11 +98,6 @@ kind_of-rooted c (node l t) = ap Some (kind_of-rooted_variable c (variable_of l)
 
 pub kind_of-deeply_resolved : (c : Content) (t : Tree) → IsSound c → Knows c t → kind_of (deeply_resolved c t) ≡ kind_of t
 kind_of-deeply_resolved c t s k = kind_of-rooted c (resolved c t) ∙ kind_of-resolved c t s k
-
--- trees without variables
-or_false : (a b : Bool) → (a || b) ≡ false → (a ≡ false) × (b ≡ false)
-or_false true b e = cc
-or_false false b e = (refl, e)
 
 infer_kind : (k : VariableKind) (n : ℕ) → is_infer_kind k ≡ false → infer_number k n ≡ None
 infer_kind kind.Ty n e = cc

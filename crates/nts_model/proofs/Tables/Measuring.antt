@@ -17,7 +17,7 @@ is_less_more d (suc a) zero h e = absurd (omega (arith, h))
 is_less_more zero (suc a) (suc b) h e = refl
 is_less_more (suc d) (suc a) (suc b) h e = is_less_more d a b (omega (arith, h)) e
 
-both_true : (a b : Bool) → (a && b) ≡ true → (a ≡ true) × (b ≡ true)
+pub both_true : (a b : Bool) → (a && b) ≡ true → (a ≡ true) × (b ≡ true)
 both_true true true e = (refl, refl)
 both_true true false e = cc
 both_true false b e = cc

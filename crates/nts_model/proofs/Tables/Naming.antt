@@ -63,7 +63,7 @@ known_named c d (node l t) h a f = (label_known c d l h.0.0 h.0.1 a f, known_nam
 infer_universe : (c : Content) (l : Label) (i : ℕ) → infer_of l ≡ Some i → universe_in c l ≡ universe_of c i
 infer_universe c l i e = let v = infer_label l i e in let q = v.is in rw q refl
 
-names_if : (f : Label → Option ℕ) (u : ℕ) (b : Bool) (s t : Tree) → (b ≡ true → NamesAll f u s) → NamesAll f u t → NamesAll f u (if b then s else t)
+pub names_if : (f : Label → Option ℕ) (u : ℕ) (b : Bool) (s t : Tree) → (b ≡ true → NamesAll f u s) → NamesAll f u t → NamesAll f u (if b then s else t)
 names_if f u true s t h k = h refl
 names_if f u false s t h k = k
 

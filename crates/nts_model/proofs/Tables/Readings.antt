@@ -27,6 +27,7 @@ use Rattle.nts_model.proofs.Tables.Open.{AreClosedOf, Knows-under, values_closed
 use Rattle.nts_model.proofs.Tables.Instances.{inst-variable, inst-node}
 use Rattle.nts_model.proofs.Tables.Solving.{NamesAll-more}
 use Rattle.nts_model.proofs.Tables.Slots.{CanName-more}
+use Rattle.nts_model.proofs.Tables.Naming.{names_if as names-if}
 
 -- instances of resolved trees
 renamed-with_tree : (w : World) (n : ℕ) (t : Tree) (l : Label) → renamed (with_tree w n t) l ≡ renamed w l
@@ -275,10 +276,6 @@ reading-values c n (Some (known t)) s e = let k = has_kind c n (known t) e in re
 -- universes name resolved trees
 infer_level : (c : Content) (l : Label) (i : ℕ) → infer_of l ≡ Some i → level_in c l ≡ universe_of c i
 infer_level c l i e = let v = infer_label l i e in let q = v.is in rw q refl
-
-names-if : (f : Label → Option ℕ) (u : ℕ) (b : Bool) (s t : Tree) → (b ≡ true → NamesAll f u s) → NamesAll f u t → NamesAll f u (if b then s else t)
-names-if f u true s t h k = h refl
-names-if f u false s t h k = k
 
 names-replaced_at : (c : Content) (u n : ℕ) (o : Option ℕ) (s : Tree) (l : Label) (t x : Tree) → infer_of l ≡ o → ((v : ℕ) → CanName v (universe_of c n) → NamesAll (level_in c) v s) → NamesAll (level_in c) u (node l t) → NamesAll (level_in c) u x → NamesAll (level_in c) u (replaced_at o n s (node l t) (node l x))
 names-replaced_at c u n None s l t x e h k q = (k.0, q)

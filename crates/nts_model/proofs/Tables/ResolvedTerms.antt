@@ -18,6 +18,7 @@ use Rattle.nts_model.proofs.Tables.Resolved.{rank_none, resolved-node, resolved-
 use Rattle.nts_model.proofs.Tables.Open.{AreClosedOf, Knows-under, values_closed_of, Knows-resolved}
 use Rattle.nts_model.proofs.Tables.Kept.{FitKinds, FitKinds-value_at, kind_of-replaced, kind_of-under, kind_of-resolved, kind_of-rooted}
 use Rattle.nts_model.proofs.Terms.Substituting.{closed_under_more}
+use Rattle.nts_model.proofs.Terms.Scoping.{closed_replaced_at as IsClosed-replaced_at}
 
 FitsPlace-same : (p : Place) (s t : Tree) → kind_of s ≡ kind_of t → FitsPlace p (kind_of t) → FitsPlace p (kind_of s)
 FitsPlace-same p s t e h = rw e h
@@ -92,15 +93,6 @@ IsClosed-value_at c n h = value_is IsClosed c n tt (λ k m. (tt, tt)) (h.closed 
 pub IsFormed-resolved : (c : Content) (t : Tree) → IsSound c → HoldsTerms c → Knows c t → IsFormed t → IsFormed (resolved c t)
 IsFormed-resolved c t s h k i =
     IsFormed-under c (value_at c) (reverse c.order) t (values_closed_of c s) (FitKinds-value_at c s) (λ n. IsFormed-value_at c n h) k i
-
--- closed trees for variables
-IsClosed-replaced_at : (b n : ℕ) (o : Option ℕ) (s : Tree) (l : Label) (t x : Tree) → IsClosed s → IsClosedUnder b (node l t) → IsClosedUnder (b + binders l) x → IsClosedUnder b (replaced_at o n s (node l t) (node l x))
-IsClosed-replaced_at b n None s l t x h k q = (k.0, q)
-IsClosed-replaced_at b n (Some m) s l t x h k q = by_case (m == n)
-  where
-    by_case : (z : Bool) → IsClosedUnder b (if z then s else node l t)
-    by_case true = closed_under_more 0 b s (omega arith) h
-    by_case false = k
 
 IsClosed-replaced : (b n : ℕ) (s t : Tree) → IsClosed s → IsClosedUnder b t → IsClosedUnder b (replaced n s t)
 IsClosed-replaced b n s empty h k = tt

@@ -13,7 +13,7 @@ use Rattle.nts_model.specs.Tables.Resolving.{follow, follow_state, root_of, root
 abbrev pub Descends : Content → Type 0
 Descends c = (n m : ℕ) → state_of c n ≡ Some (link m) → m < n
 
-follow_state-root : (f : ℕ → ℕ) (n : ℕ) (o : Option SlotState) → IsRootState o → follow_state f n o ≡ n
+pub follow_state-root : (f : ℕ → ℕ) (n : ℕ) (o : Option SlotState) → IsRootState o → follow_state f n o ≡ n
 follow_state-root f n None h = refl
 follow_state-root f n (Some unset) h = refl
 follow_state-root f n (Some (link m)) h = absurd h

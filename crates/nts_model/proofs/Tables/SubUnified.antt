@@ -40,7 +40,7 @@ joins_sub_roots c d links kept only all =
     record { links = links; only = λ n m h. shares-joined c d d only h; all = λ n m h. joined-shares c d (λ k l i. shares-mapped c d kept i) all h }
 
 -- a state that is a link, or none
-either_link : (o : Option SlotState) → ((k : ℕ) × (o ≡ Some (link k))) ⊎ ((k : ℕ) → o ≡ Some (link k) → ⊥)
+pub either_link : (o : Option SlotState) → ((k : ℕ) × (o ≡ Some (link k))) ⊎ ((k : ℕ) → o ≡ Some (link k) → ⊥)
 either_link None = inr (λ k e. cc)
 either_link (Some unset) = inr (λ k e. cc)
 either_link (Some (link m)) = inl (m, refl)
@@ -57,7 +57,7 @@ JoinsSubRoots-same c d links new kept only =
 pub JoinsSubRoots-refl : (c : Content) → JoinsSubRoots c c
 JoinsSubRoots-refl c = JoinsSubRoots-same c c (λ n m h. h) (λ n m k h i j. h) (λ n m h. h) (λ n m h. h)
 
-some_kind : (d : Content) (n m : ℕ) → state_of d n ≡ Some (link m) → (k : VariableKind) × (kind_at d n ≡ Some k)
+pub some_kind : (d : Content) (n m : ℕ) → state_of d n ≡ Some (link m) → (k : VariableKind) × (kind_at d n ≡ Some k)
 some_kind d n m h = by_slot (slice_get d.slots n) h
   where
     by_slot : (o : Option Slot) → map_slot (λ x. x.state) o ≡ Some (link m) → (k : VariableKind) × (map_slot (λ x. x.kind) o ≡ Some k)

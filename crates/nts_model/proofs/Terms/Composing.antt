@@ -98,7 +98,7 @@ fits_itself (leaf.Region r) = (of_free r, refl)
 fits_itself (leaf.TyConstant a) = (a, refl)
 fits_itself (leaf.ConstConstant a) = (a, refl)
 
-leaf_tree-inj : (l m : Leaf) → leaf_tree l ≡ leaf_tree m → l ≡ m
+pub leaf_tree-inj : (l m : Leaf) → leaf_tree l ≡ leaf_tree m → l ≡ m
 leaf_tree-inj l m e = cc e
 
 pub itself : Instance

@@ -18,6 +18,7 @@ use Rattle.nts_model.specs.Derivations.Related.{Constraint}
 use Rattle.nts_model.specs.Lists.{Among}
 use Rattle.nts_model.specs.Derivations.Sequents.{Sequent, region_or_leaf, region_by, MakesOne, AreOneBy, constraint_under, HasOneSide, Grants}
 use Rattle.nts_model.proofs.Terms.Substituting.{replace-replace, replace-equal, replace-leaf, region_alone}
+use Rattle.nts_model.proofs.Terms.Unpositioned.{or_false}
 
 pub one_itself : (xs : List Constraint) (s t : Tree) → s ≡ t → AreOneBy xs s t
 one_itself xs s t e f h = ap (replace (region_by f)) e
@@ -174,10 +175,6 @@ one_under κ xs u s t g e f h =
 abbrev pub is_leaf : Label → Bool
 is_leaf (label.Leaf l) = true
 is_leaf l = false
-
-or_false : (a b : Bool) → (a || b) ≡ false → (a ≡ false) × (b ≡ false)
-or_false true b e = cc
-or_false false b e = (refl, e)
 
 leaf_is_leaf : (f : RegionName → RegionName) (l : Leaf) → any_label is_leaf (region_by f l) ≡ true
 leaf_is_leaf f l = by_name (name_of_leaf l)

@@ -226,7 +226,7 @@ numbered_patched stays s (node l c) =
     put_patched (numbered_leaf stays s) (λ x. numbered_leaf_patch stays s x (stays x)) l c (numbered stays s c) (numbered_patched stays s c)
 
 -- values of variables, each under the older ones
-closed_replaced_at : (b n : ℕ) (o : Option ℕ) (s : Tree) (l : Label) (t x : Tree) → IsClosed s → IsClosedUnder b (node l t) → IsClosedUnder (b + binders l) x → IsClosedUnder b (replaced_at o n s (node l t) (node l x))
+pub closed_replaced_at : (b n : ℕ) (o : Option ℕ) (s : Tree) (l : Label) (t x : Tree) → IsClosed s → IsClosedUnder b (node l t) → IsClosedUnder (b + binders l) x → IsClosedUnder b (replaced_at o n s (node l t) (node l x))
 closed_replaced_at b n None s l t x h k q = (k.0, q)
 closed_replaced_at b n (Some m) s l t x h k q = by_case (m == n)
   where

@@ -120,7 +120,7 @@ IsFormed-replace f k q (more a b) h = (IsFormed-replace f k q a h.0, IsFormed-re
 IsFormed-replace f k q (node l c) h = IsFormed-put f q l (replace f c) (Meets-replace f k (shape l) c h.0) (IsFormed-replace f k q c h.1)
 
 -- closed trees for leaves
-bound_below_more : (a b : ℕ) (l : Label) → a ≤ b → IsBoundBelow a l → IsBoundBelow b l
+pub bound_below_more : (a b : ℕ) (l : Label) → a ≤ b → IsBoundBelow a l → IsBoundBelow b l
 bound_below_more a b (label.Bound s (index.Bound d) n) h k = omega (arith, h, k)
 bound_below_more a b (label.Bound s index.Canonical n) h k = tt
 bound_below_more a b (label.Leaf x) h k = tt
@@ -202,7 +202,7 @@ region_leaf (node l c) (x, e) =
     let (named, alone) = region_alone l c x e in
     rw alone (leaf_of_name l x named)
 
-name_kind : (l : Label) (x : RegionName) → name_of_label l ≡ Some x → kind_of_label l ≡ of_sort sort.Region
+pub name_kind : (l : Label) (x : RegionName) → name_of_label l ≡ Some x → kind_of_label l ≡ of_sort sort.Region
 name_kind (label.Leaf (leaf.Variable kind.Region n)) x e = refl
 name_kind (label.Leaf (leaf.Region r)) x e = refl
 name_kind l x e = cc

@@ -14,8 +14,9 @@ use Rattle.nts_model.specs.Derivations.Proving.{recorded_as}
 use Rattle.nts_model.specs.Variances.Relations.{Relating}
 use Rattle.nts_model.specs.Variances.AnsweredGoals.{RelatedUnder, IsAnswered, AllAnswered, AllRelatedUnder, RelatesBy}
 use Rattle.nts_model.proofs.Tables.Resolved.{deeply_resolved-node, deeply_resolved-empty}
-use Rattle.nts_model.proofs.Tables.Alike.{deeply_resolved-more, IsRegion-deeply_resolved}
+use Rattle.nts_model.proofs.Tables.Alike.{IsRegion-deeply_resolved}
 use Rattle.nts_model.proofs.Tables.Held.{Continues-trans}
+use Rattle.nts_model.proofs.Tables.TableInstances.{deeply_resolved-more}
 
 module _ (declared : ℕ → List Variance) where
   -- a goal that is answered relates its sides

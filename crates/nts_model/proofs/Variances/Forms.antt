@@ -24,11 +24,11 @@ use Rattle.nts_model.proofs.Terms.Variables.{infer_of_none}
 use Rattle.nts_model.proofs.Tables.Resolved.{deeply_resolved-node, deeply_resolved-empty}
 use Rattle.nts_model.proofs.Tables.Kept.{variable_label, kind_of-deeply_resolved, deeply_resolved-no_variables}
 use Rattle.nts_model.proofs.Tables.Fitting.{Fits-kind_of}
-use Rattle.nts_model.proofs.Tables.Alike.{deeply_resolved-more, IsRow-deeply_resolved, row_length-deeply_resolved}
+use Rattle.nts_model.proofs.Tables.Alike.{IsRow-deeply_resolved, row_length-deeply_resolved}
 use Rattle.nts_model.proofs.Tables.Refuting.{closed-node}
-use Rattle.nts_model.proofs.Variances.Settling.{times_invariant}
-use Rattle.nts_model.proofs.Variances.Alongside.{rows_length, rows_row}
+use Rattle.nts_model.proofs.Variances.Alongside.{rows_length, rows_row, times_invariant}
 use Rattle.nts_model.proofs.Variances.SettleRows.{plain_settled, settle_row, settle_no_row, row_forward, row_backward, constructors_settle, functions_settle, values_settle, open_settle, constructor_beside, function_beside, value_beside, open_beside}
+use Rattle.nts_model.proofs.Tables.TableInstances.{deeply_resolved-more}
 
 -- the sorts that a function binds: no variables and no aliases are among them
 abbrev AreSorts : Tree → Type 0
@@ -36,12 +36,12 @@ AreSorts empty = Unit {0}
 AreSorts (more a b) = ((s : Sort) × (a ≡ node (label.List (list.Sort s)) empty)) × AreSorts b
 AreSorts (node l c) = ⊥
 
-no_places : (t : Tree) → HavePlaces [] t → t ≡ empty
+pub no_places : (t : Tree) → HavePlaces [] t → t ≡ empty
 no_places empty h = refl
 no_places (more a b) h = absurd h
 no_places (node l c) h = absurd h
 
-sort_label : (l : Label) → kind_of_label l ≡ one_sort → (s : Sort) × (l ≡ label.List (list.Sort s))
+pub sort_label : (l : Label) → kind_of_label l ≡ one_sort → (s : Sort) × (l ≡ label.List (list.Sort s))
 sort_label (label.List (list.Sort s)) e = (s, refl)
 sort_label l e = cc
 
@@ -147,7 +147,7 @@ closed_before_resolved c b (more x y) f h =
     (closed_before_resolved c b x f.0 k.0, closed_before_resolved c b y f.1 k.1)
 closed_before_resolved c b (node l t) f h = closed_node_resolved c b l t (variable_of l) refl f (closed_before_resolved c (b + binders l) t f.1) h
 
-head_closed : (h : AliasHead) (ts us : Tree) → ((c : ℕ) → IsClosedUnder c ts → IsClosedUnder c us) → IsClosed (alias h ts) → IsClosed (alias h us)
+pub head_closed : (h : AliasHead) (ts us : Tree) → ((c : ℕ) → IsClosedUnder c ts → IsClosedUnder c us) → IsClosed (alias h ts) → IsClosed (alias h us)
 head_closed (alias_of.Ty i) ts us f k = (tt, ((tt, f (0 + 0 + 0) k.1.0.1), tt))
 head_closed (alias_of.Const i) ts us f k = (tt, ((tt, f (0 + 0 + 0) k.1.0.1), tt))
 

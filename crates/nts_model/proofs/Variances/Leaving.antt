@@ -25,7 +25,6 @@ use Rattle.nts_model.specs.Variances.Forms.{Form, a_constructor, a_function, a_v
 use Rattle.nts_model.proofs.Tables.Slots.{KeepsKinds, Knows-kept}
 use Rattle.nts_model.proofs.Tables.Instances.{inst-node, Agrees-refl, Agrees-trans}
 use Rattle.nts_model.proofs.Tables.Resolved.{deeply_resolved-empty}
-use Rattle.nts_model.proofs.Tables.Alike.{deeply_resolved-more}
 use Rattle.nts_model.proofs.Tables.Fitting.{region_label}
 use Rattle.nts_model.proofs.Tables.Readings.{name_label}
 use Rattle.nts_model.proofs.Variances.AliasLabels.{not_alias}
@@ -33,6 +32,7 @@ use Rattle.nts_model.proofs.Variances.SettleRows.{node_forward, arguments_forwar
 use Rattle.nts_model.proofs.Variances.Generalizing.{judged_agrees, settle_agrees, settle_joined, settle_parted, owed}
 use Rattle.nts_model.proofs.Variances.Reducing.{row_goal, row_regions, settle_pairs, labels_agree}
 use Rattle.nts_model.proofs.Variances.Forms.{closed_before_inst, IsRow-inst, row_length-inst, inst-over, FitsForm-inst, deeply_resolved-over, FitsForm-deeply_resolved, variances_over_length, variances_over_inst, variances_over_resolved, sorts_settled, forms_settle, settling_rows, related_over}
+use Rattle.nts_model.proofs.Tables.TableInstances.{deeply_resolved-more}
 
 -- the form of a node over parts
 form_of_list : Tree → Option Form

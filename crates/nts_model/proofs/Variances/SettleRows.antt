@@ -19,6 +19,7 @@ use Rattle.nts_model.proofs.Derivations.Served.{closed_or_not}
 use Rattle.nts_model.proofs.Variances.AliasLabels.{not_alias, row_no_alias, empty_no_alias, region_tree_of}
 use Rattle.nts_model.proofs.Variances.Settling.{replaced_closed, normalizes_itself, normalizes_kind, empty_back_at, more_back_at}
 use Rattle.nts_model.proofs.Variances.Alongside.{along_one, along_alone, RegionsAlone, along_kind, along_closed, along_turned, rows_row, variances_of_length, beside_constructor, beside_function, beside_value, beside_alias, beside_region, beside_more}
+use Rattle.nts_model.proofs.Terms.Unpositioned.{or_false as both_false}
 
 -- whether a tree is an alias
 args_or_not : (c : Tree) → ((p : Tree) × (c ≡ arguments p)) ⊎ ((p : Tree) → c ≡ arguments p → ⊥)
@@ -65,10 +66,6 @@ alias_or_none (node (label.Bound s i n) c) = inr (not_alias (label.Bound s i n) 
 alias_or_none (node (label.Clause x) c) = inr (not_alias (label.Clause x) c refl)
 alias_or_none (node (label.Predicate x) c) = inr (not_alias (label.Predicate x) c refl)
 alias_or_none (node (label.List x) c) = inr (not_alias (label.List x) c refl)
-
-both_false : (a b : Bool) → (a || b) ≡ false → (a ≡ false) × (b ≡ false)
-both_false true b e = cc
-both_false false b e = (refl, e)
 
 module _ (J : Judging) (law : IsLawfulJudging J) where
   -- a settled tree normalizes to itself

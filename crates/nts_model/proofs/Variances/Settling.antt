@@ -16,11 +16,6 @@ use Rattle.nts_model.specs.Variances.Judging.{Judging, AllStand, IsSettled, IsVa
 use Rattle.nts_model.proofs.Tables.Fitting.{IsClosed-under}
 use Rattle.nts_model.proofs.Variances.AliasLabels.{row_no_alias, empty_no_alias}
 
-pub times_invariant : (v : Variance) → times v variance.Invariant ≡ variance.Invariant
-times_invariant variance.Invariant = refl
-times_invariant variance.Covariant = refl
-times_invariant variance.Contravariant = refl
-
 -- an alias in a settled tree stands for itself
 pub stands_alias : (S : Tree → Type 0) (a : Tree) → AllStand S a → IsAlias a → S a
 stands_alias S empty s x = absurd (empty_no_alias x)

@@ -6,10 +6,11 @@ use Rattle.nts_unify.specs.Reading.{content_of}
 use Rattle.nts_canonical.specs.SubRoots.{sub_root_in}
 use Rattle.nts_canonical.specs.Forms.{input_of}
 use Rattle.nts_canonical.proofs.PairLists.{are_hidden-kept, AreLeafArgs-kept, trees_of-leaves, AreLeafArgs-hold}
-use Rattle.nts_canonical.proofs.Canonizing.{owned-originals, distinct-originals, form_is}
+use Rattle.nts_canonical.proofs.Canonizing.{owned-originals, form_is}
 use Rattle.nts_canonical.proofs.Handed.{handed_in, form-kinds, form-positions, form-no_name, form-well_bound}
 use Rattle.nts_canonical.proofs.Having.{originals_are_values, values_of}
 use Rattle.nts_canonical.proofs.canonicalize.canonicalize_over.Goals as goal
+use Rattle.nts_model.proofs.Canonical.CanonicalForms.{distinct-originals}
 
 pub kinds_of-requires-clause-owned : goal.kinds_of-requires-clause-owned
 kinds_of-requires-clause-owned c =
