@@ -17,7 +17,7 @@ use Rattle.nts_model.proofs.Responses.AskedFrom.{asked_proved_from, proved_from_
 use Rattle.nts_model.specs.Canonical.Inputs.{Input, IsInput, CanonicalInput as Form, OccursIn, originals, canonical_of}
 use Rattle.nts_model.specs.Tables.Passing.{TreePasses, BringsOnly}
 use Rattle.nts_model.specs.Answers.Responses.{Response as Answer, RefusesResponse, answer_sequent, IsIdentity}
-use Rattle.nts_model.proofs.Responses.Bringing.{passes-leaf}
+use Rattle.nts_model.proofs.Tables.Bringing.{passes-leaf}
 use Rattle.nts_model.proofs.Canonical.CanonicalForms.{originals_are_leaves}
 use Rattle.nts_certainty.specs.declared.sources.HasChanged.{HasChanged}
 use Rattle.nts_certainty.specs.declared.sources.HasChanged.TheVariants as changes

@@ -22,7 +22,7 @@ use Rattle.nts_model.specs.Tables.Passing.{AllLabels, AllPass, TreePasses, Table
 use Rattle.nts_model.specs.Answers.Responses.{IsLabelIn, IsRegionIn, IsConstantIn, IsOverPositions, universe_of_kind}
 use Rattle.nts_model.proofs.Tables.Under.{eq-self}
 use Rattle.nts_model.proofs.Lists.{contains_none}
-use Rattle.nts_model.proofs.Responses.Bringing.{passes-filled}
+use Rattle.nts_model.proofs.Tables.Bringing.{passes-filled}
 use Rattle.nts_unify.specs.declared.contents.Variable.{Variable}
 use Rattle.nts_unify.specs.declared.contents.HiddenType.{HiddenType}
 use Rattle.nts_unify.specs.Changing.{HasClosedSides}

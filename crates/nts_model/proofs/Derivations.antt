@@ -5,7 +5,6 @@ pub mod ClosedStatements
 pub mod ProofInstances
 pub mod ProvedLater
 pub mod Served
-pub mod AlikeRelated
 pub mod Relating
 pub mod ByCandidate
 pub mod Assuming

@@ -6,7 +6,6 @@ pub mod Standing
 pub mod Asked
 pub mod Closing
 pub mod Granting
-pub mod Bringing
 pub mod Querying
 pub mod AskedFrom
 pub mod Initial

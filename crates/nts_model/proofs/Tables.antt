@@ -26,3 +26,6 @@ pub mod Measuring
 pub mod SubUnified
 pub mod Naming
 pub mod Tying
+pub mod AlikeNodes
+pub mod Bringing
+pub mod AliasLabels

@@ -8,3 +8,4 @@ pub mod Identified
 pub mod Listed
 pub mod Renamings
 pub mod Imaging
+pub mod Closed

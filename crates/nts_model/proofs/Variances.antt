@@ -1,6 +1,5 @@
 -- Relating with aliases and variances.
 pub mod Meeting
-pub mod AliasLabels
 pub mod Settling
 pub mod Alongside
 pub mod SettleRows

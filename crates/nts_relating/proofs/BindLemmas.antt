@@ -22,7 +22,7 @@ use Rattle.nts_model.proofs.Tables.Instances.{inst-agrees}
 use Rattle.nts_model.proofs.Tables.Solving.{Solves-known, Solves-from_known, IsNameable-set}
 use Rattle.nts_model.proofs.Tables.Held.{AreOne-continues, Continues-known, Continues-trans}
 use Rattle.nts_model.proofs.Tables.Tying.{TiesNew-same, TiesNew-trans}
-use Rattle.nts_model.proofs.Responses.Bringing.{brings-known}
+use Rattle.nts_model.proofs.Tables.Bringing.{brings-known}
 use Rattle.nts_model.proofs.Tables.Alike.{AreAlike-continues, AreAlike-for}
 use Rattle.nts_unify.proofs.Leading.{universe_of-entry}
 use Rattle.nts_relating.proofs.Naming.{lawful_sides, kind_read}

@@ -25,7 +25,7 @@ use Rattle.nts_model.proofs.Tables.Fitting.{IsValue-inst}
 use Rattle.nts_model.proofs.Tables.Solving.{Solves-from_with_slot, Solves-with_slot, IsNameable-with_slot, IsNameable-agrees}
 use Rattle.nts_model.proofs.Tables.Held.{AreOne-continues, Continues-trans, Continues-with_slot}
 use Rattle.nts_model.proofs.Tables.Alike.{AreAlike-one}
-use Rattle.nts_model.proofs.Responses.Bringing.{brings-with_slot}
+use Rattle.nts_model.proofs.Tables.Bringing.{brings-with_slot}
 use Rattle.nts_model.proofs.Tables.Open.{Knows-resolved}
 use Rattle.nts_model.proofs.Tables.Resolved.{resolved-variable_unset, resolved-variable_link, IsVariable}
 use Rattle.nts_model.proofs.Tables.Sound.{resolved-with_slot, state_of-with_slot_old, state_of-with_slot_new, IsSound-with_slot}

@@ -26,7 +26,7 @@ use Rattle.nts_model.specs.Tables.Equations.{ExtensionIf}
 use Rattle.nts_model.specs.Tables.Holding.{AreOne}
 use Rattle.nts_model.specs.Tables.Alike.{HoldsEqual, AreAlike}
 use Rattle.nts_model.proofs.Terms.Variables.{infer_number_some, infer_of_none}
-use Rattle.nts_model.proofs.Responses.Bringing.{passes-pushed, passes-row_push}
+use Rattle.nts_model.proofs.Tables.Bringing.{passes-pushed, passes-row_push}
 use Rattle.nts_model.proofs.Tables.Under.{under-lacks}
 use Rattle.nts_model.proofs.Tables.Roots.{root_of-root_of}
 use Rattle.nts_model.proofs.Tables.Instances.{inst-node, inst-agrees, Agrees-refl, Agrees-trans}

@@ -30,7 +30,7 @@ use Rattle.nts_relating.specs.Relating.{IsOpen, IsClosedHead, VariablesRelate, s
 use Rattle.nts_unify.proofs.Keeping.{Knows-later, IsLater-refl}
 use Rattle.nts_relating.proofs.GenLemmas.{IsFair, unchanged}
 use Rattle.nts_relating.proofs.Naming.{lawful_sides, alone_label}
-use Rattle.nts_model.proofs.Responses.Bringing.{brings-of, brings-refl}
+use Rattle.nts_model.proofs.Tables.Bringing.{brings-of, brings-refl}
 use Rattle.nts_relating.proofs.Plain.{plain_refl}
 use Rattle.nts_relating.proofs.PairLemmas.{Stepped, PairsBring-last, last_pair, all_sides_at-push, all_sides_at-extended, ArePairsIn-push, ArePairsIn-extended, Equates-push, Equates-front, AllAlike-push, total-last, not_infer, variables_related, variable_same}
 use Rattle.nts_store.proofs.Equal.{same_id}

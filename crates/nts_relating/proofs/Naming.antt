@@ -20,7 +20,7 @@ use Rattle.nts_model.specs.Tables.Levels.{NamesAll, region_level}
 use Rattle.nts_model.specs.Tables.Worlds.{KnowsAll}
 use Rattle.nts_model.specs.Tables.Holding.{AreOne}
 use Rattle.nts_model.proofs.Tables.Alike.{AreAlike-turned}
-use Rattle.nts_model.proofs.Responses.Bringing.{brings-turned}
+use Rattle.nts_model.proofs.Tables.Bringing.{brings-turned}
 use Rattle.nts_model.proofs.Tables.Slots.{slice_get-push_old, slice_get-push_new, slice_get_below, field_below}
 use Rattle.nts_store.specs.declared.nodes.NodeId.{NodeId}
 use Rattle.nts_store.specs.declared.type_flags.TypeFlags.{TypeFlags}

@@ -16,7 +16,7 @@ use Rattle.nts_model.specs.Tables.Measuring.{closed_aliases}
 use Rattle.nts_model.specs.Tables.Equations.{Equates, AllAlike, Reduces, AreRelated}
 use Rattle.nts_model.specs.Tables.Passing.{TreePasses, BringsLabelsOf}
 use Rattle.nts_model.proofs.Terms.Variables.{infer_of_none}
-use Rattle.nts_model.proofs.Responses.Bringing.{brings-of, brings-refl, passes-children, passes-row_at}
+use Rattle.nts_model.proofs.Tables.Bringing.{brings-of, brings-refl, passes-children, passes-row_at}
 use Rattle.nts_model.proofs.Tables.Instances.{inst-node, inst-agrees, Agrees-refl, Agrees-trans}
 use Rattle.nts_model.proofs.Tables.Held.{AreOne-continues, Continues-refl, Continues-trans}
 use Rattle.nts_model.specs.Tables.Tying.{TiesNew}

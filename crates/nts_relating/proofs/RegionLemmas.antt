@@ -14,10 +14,10 @@ use Rattle.nts_model.specs.Tables.Resolving.{Knows, IsSound, deeply_resolved, ro
 use Rattle.nts_model.specs.Tables.Worlds.{World, inst, Solves}
 use Rattle.nts_model.specs.Terms.Regions.{of_variable, of_free, IsRegion}
 use Rattle.nts_model.specs.Tables.Holding.{AreOne}
-use Rattle.nts_model.proofs.Variances.AliasLabels.{region_closed}
+use Rattle.nts_model.proofs.Tables.AliasLabels.{region_closed}
 use Rattle.nts_model.proofs.Tables.Roots.{root_of-link, root_of-root_of, kind_at-root_of}
 use Rattle.nts_model.proofs.Tables.Sound.{IsSound-with_constraint}
-use Rattle.nts_model.proofs.Responses.Bringing.{brings-refl, brings-of, brings-with_constraint}
+use Rattle.nts_model.proofs.Tables.Bringing.{brings-refl, brings-of, brings-with_constraint}
 use Rattle.nts_model.proofs.Tables.Resolved.{resolved-empty, deeply_resolved-node}
 use Rattle.nts_model.proofs.Tables.Instances.{tree-reaches}
 use Rattle.nts_model.proofs.Tables.Solving.{Solves-with_constraint, Solves-from_with_constraint}

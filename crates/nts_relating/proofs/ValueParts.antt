@@ -14,7 +14,7 @@ use Rattle.nts_model.proofs.Tables.Refuting.{closed-node}
 use Rattle.nts_model.proofs.Tables.Held.{AreOne-continues, Continues-refl, Continues-trans}
 use Rattle.nts_model.proofs.Tables.Alike.{AreAlike-continues}
 use Rattle.nts_model.proofs.Tables.Resolved.{Knows-row_at, flag_le}
-use Rattle.nts_model.proofs.Responses.Bringing.{passes-before, passes-row_at, passes-children}
+use Rattle.nts_model.proofs.Tables.Bringing.{passes-before, passes-row_at, passes-children}
 use Rattle.nts_model.proofs.Tables.Slots.{field_below}
 use Rattle.nts_unify.specs.Changing.{KeepsKnowing}
 use Rattle.nts_relating.specs.Parts.{IsVariableValue, IsGeneralizedNode, WalkGrows, IsPartOf, inner}

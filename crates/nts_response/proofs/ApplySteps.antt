@@ -8,7 +8,7 @@ use Rattle.nts_model.specs.Answers.Applying.{IsProperContent, ChoosesAll, AreKno
 use Rattle.nts_model.specs.Answers.Responses.{Findings, RefusesResponse}
 use Rattle.nts_model.specs.Terms.Substitutions.{filled}
 use Rattle.nts_model.specs.Tables.Passing.{BringsOnly}
-use Rattle.nts_model.proofs.Responses.Bringing.{brings-trans, only-trans, only-none}
+use Rattle.nts_model.proofs.Tables.Bringing.{brings-trans, only-trans, only-none}
 use Rattle.nts_model.proofs.Responses.ChosenLabels.{brings-in_universe, chosen_brings, chosen_passes}
 use Rattle.nts_model.proofs.Responses.Answering.{AllTrees}
 use Rattle.nts_model.proofs.Responses.Applied.{FailsToEqual, applied, refused}

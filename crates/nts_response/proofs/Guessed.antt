@@ -18,7 +18,7 @@ use Rattle.nts_model.specs.Terms.Regions.{IsRegion}
 use Rattle.nts_model.specs.Canonical.Inputs.{type_variable, integer_variable, float_variable, const_variable, region_variable, placeholder, PositionKind}
 use Rattle.nts_model.specs.Answers.Applying.{IsOriginalAt}
 use Rattle.nts_model.proofs.Terms.Substituting.{no_children}
-use Rattle.nts_model.proofs.Variances.AliasLabels.{region_closed}
+use Rattle.nts_model.proofs.Tables.AliasLabels.{region_closed}
 use Rattle.nts_model.proofs.Tables.Solving.{NamesAll-more}
 use Rattle.nts_model.proofs.Tables.Slots.{slice_get-slice_set_same, slice_get-slice_set_other, slice_get_below, length-slice_set}
 use Rattle.nts_model.proofs.Tables.Under.{same_or_other}

@@ -9,7 +9,7 @@ use Rattle.nts_model.specs.Tables.Contents.{Content, Recorded}
 use Rattle.nts_model.specs.Lists.{Among}
 use Rattle.nts_model.specs.Terms.Substitutions.{filled}
 use Rattle.nts_model.specs.Tables.Passing.{TreePasses, PassesQueries, BringsLabelsOf, BringsOnly}
-use Rattle.nts_model.proofs.Responses.Bringing.{only-of, only-trans}
+use Rattle.nts_model.proofs.Tables.Bringing.{only-of, only-trans}
 use Rattle.nts_model.proofs.Responses.ChosenLabels.{filled_passes}
 use Rattle.nts_model.proofs.Responses.PositionSorts.{contained_map, contained_among}
 use Rattle.nts_store.specs.declared.nodes.NodeId.{NodeId}

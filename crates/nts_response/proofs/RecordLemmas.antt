@@ -17,8 +17,8 @@ use Rattle.nts_model.specs.Terms.Regions.{IsRegion}
 use Rattle.nts_model.specs.Tables.Holding.{IsTrivialUnder, HasSides, IsRecorded}
 use Rattle.nts_model.specs.Tables.Alike.{Alike, one_tree, two_regions, one_label, two_rows, HoldsEqual}
 use Rattle.nts_model.specs.Answers.Applying.{IsProperContent, IsRecordedIn}
-use Rattle.nts_model.proofs.Derivations.AlikeRelated.{empty_like}
-use Rattle.nts_model.proofs.Variances.AliasLabels.{region_closed}
+use Rattle.nts_model.proofs.Tables.AlikeNodes.{empty_like}
+use Rattle.nts_model.proofs.Tables.AliasLabels.{region_closed}
 use Rattle.nts_model.proofs.Tables.Alike.{IsRegion-deeply_resolved, HoldsEqual-one}
 use Rattle.nts_model.proofs.Tables.Resolved.{deeply_resolved-deeply_resolved}
 use Rattle.nts_model.proofs.Tables.Fitting.{region_label}

@@ -12,7 +12,7 @@ use Rattle.nts_unify.specs.Reading.{content_of, IsLawful}
 use Rattle.nts_unify.specs.Lawful.{content_of-extended}
 use Rattle.nts_unify.proofs.Labelled.{new_brings}
 use Rattle.nts_model.specs.Tables.Passing.{BringsNoLabels}
-use Rattle.nts_model.proofs.Responses.Bringing.{brings-refl, brings-trans}
+use Rattle.nts_model.proofs.Tables.Bringing.{brings-refl, brings-trans}
 use Rattle.nts_table.specs.Making.{new_variable}
 use Rattle.nts_table.specs.Fresh.{variable_kind, with_fresh, fresh_row}
 

@@ -14,7 +14,7 @@ use Rattle.nts_model.specs.Derivations.Related.{pair}
 use Rattle.nts_model.specs.Derivations.Handlers.{IsFixed}
 use Rattle.nts_model.specs.Tables.Passing.{TreePasses, PassesQueries, BringsLabelsOf, BringsOnly}
 use Rattle.nts_model.proofs.Tables.Passing.{passes-deeply_resolved}
-use Rattle.nts_model.proofs.Responses.Bringing.{query_variables, only-of, only-refl, passes-filled, passes-leaf}
+use Rattle.nts_model.proofs.Tables.Bringing.{query_variables, only-of, only-refl, passes-filled, passes-leaf}
 use Rattle.nts_store.specs.declared.nodes.NodeId.{NodeId}
 use Rattle.nts_store.specs.Growth.{tree_at, Extends}
 use Rattle.nts_terms.specs.declared.handles.Goal.{Goal}

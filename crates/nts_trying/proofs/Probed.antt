@@ -32,7 +32,7 @@ use Rattle.nts_response.specs.Forms.{response_at, recorded_at, premise_at, Holds
 use Rattle.nts_response.specs.Replacing.{argument_value}
 use Rattle.nts_response.proofs.ApplySteps.{response_kept}
 use Rattle.nts_response.proofs.Each.{same_views, values_kept, constraints_kept, hidden_kept, goals_kept}
-use Rattle.nts_model.proofs.Responses.Bringing.{only-refl}
+use Rattle.nts_model.proofs.Tables.Bringing.{only-refl}
 use Rattle.nts_asking.specs.Asking.{IsResponseOf, first_table, first_values, asked_environment, asked_predicate}
 use Rattle.nts_model.specs.Derivations.Handlers.{Handler}
 use Rattle.nts_terms.specs.declared.modes.TypingMode.{TypingMode}

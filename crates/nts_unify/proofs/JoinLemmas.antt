@@ -32,7 +32,7 @@ use Rattle.nts_unify.proofs.Keeping.{KeepsKnowing-trans, KeepsKnowing-same, news
 use Rattle.nts_unify.proofs.SubJoins.{sub_kept, sub_bound, links_sub_roots, joined_subs}
 use Rattle.nts_model.specs.Tables.SubUnifying.{JoinsSubRoots}
 use Rattle.nts_model.specs.Tables.Passing.{BringsNoLabels}
-use Rattle.nts_model.proofs.Responses.Bringing.{brings-linked}
+use Rattle.nts_model.proofs.Tables.Bringing.{brings-linked}
 use Rattle.nts_model.proofs.Tables.SubUnified.{JoinsSubRoots-same}
 
 -- a change of universes and sub-unification alone

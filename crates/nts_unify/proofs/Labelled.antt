@@ -4,7 +4,7 @@ use Rattle.nts_model.specs.Terms.Trees.{Tree}
 use Rattle.nts_model.specs.Tables.Contents.{Content, state_of, changed}
 use Rattle.nts_model.specs.Tables.Passing.{BringsLabelsOf, BringsNoLabels}
 use Rattle.nts_model.proofs.Tables.Slots.{slice_get_below, slice_get-slice_set_other, field-changed_same, field-changed_other, field-changed_kept}
-use Rattle.nts_model.proofs.Responses.Bringing.{brings-refl, brings-of, brings-same, brings-linked, brings-with_slot, brings-with_constraint}
+use Rattle.nts_model.proofs.Tables.Bringing.{brings-refl, brings-of, brings-same, brings-linked, brings-with_slot, brings-with_constraint}
 use Rattle.nts_store.specs.declared.nodes.NodeId.{NodeId}
 use Rattle.nts_store.specs.Growth.{tree_at, Extends}
 use Rattle.nts_unify.specs.declared.contents.State.TheVariants.{Unset, Link}

@@ -35,7 +35,7 @@ use Rattle.nts_variance.specs.Terms.{pair_at, IsGoal}
 use Rattle.nts_variance.proofs.Leaves.{kept_kinds}
 use Rattle.nts_variance.proofs.Looks.{alias_tree}
 use Rattle.nts_variance.specs.Goals.{in_order, ordered, is_alias_node, expects_first, goal_head, goal_of}
-use Rattle.nts_model.proofs.Derivations.AlikeRelated.{alias_label_is as alias_is_alias}
+use Rattle.nts_model.proofs.Tables.AlikeNodes.{alias_label_is as alias_is_alias}
 use Rattle.nts_model.proofs.Tables.TableInstances.{deeply_resolved-more}
 use Rattle.nts_variance.proofs.Exact.{or_left as left_or}
 

@@ -45,7 +45,7 @@ use Rattle.nts_model.proofs.Tables.Solving.{Solves-from_with_slot, Solves-with_c
 use Rattle.nts_model.proofs.Tables.Held.{Continues-refl, Continues-trans, Continues-with_slot, Continues-with_constraint}
 use Rattle.nts_model.proofs.Tables.Fitting.{region_label, IsValue-variable, Fits-inst, IsValue-inst}
 use Rattle.nts_model.proofs.Tables.Alike.{IsRegion-deeply_resolved}
-use Rattle.nts_model.proofs.Variances.AliasLabels.{not_alias, region_closed, region_kind}
+use Rattle.nts_model.proofs.Tables.AliasLabels.{not_alias, region_closed, region_kind}
 use Rattle.nts_model.proofs.Variances.Alongside.{beside_leaf, beside_number}
 use Rattle.nts_model.proofs.Variances.SettleRows.{settled_along, settles_kind, settles_closed, region_beside, regions_settle}
 use Rattle.nts_model.proofs.Variances.Generalizing.{owed, judged_agrees, owed_met, FreshIn, fresh_in}

@@ -25,11 +25,11 @@ use Rattle.nts_model.specs.Derivations.Proving.{recorded_as}
 use Rattle.nts_model.specs.Variances.Judging.{opposite}
 use Rattle.nts_model.specs.Variances.Forms.{a_constructor, a_function, a_value}
 use Rattle.nts_model.proofs.Terms.Substituting.{no_children}
-use Rattle.nts_model.proofs.Variances.AliasLabels.{region_tree_of, region_kind}
+use Rattle.nts_model.proofs.Tables.AliasLabels.{region_tree_of, region_kind}
 use Rattle.nts_model.proofs.Tables.Resolved.{deeply_resolved-empty, deeply_resolved-deeply_resolved}
 use Rattle.nts_model.proofs.Tables.Open.{Knows-deeply_resolved}
 use Rattle.nts_model.proofs.Tables.Alike.{IsRow-deeply_resolved, IsRegion-deeply_resolved, HoldsEqual-one, HoldsEqual-continues, AreAlike-turned}
-use Rattle.nts_model.proofs.Derivations.AlikeRelated.{arguments_in, IsNodeLike, that_node, that_region, that_label, node_like, IsRowLike, that_row, that_first, row_like, empty_like, arguments_like, sort_list_like}
+use Rattle.nts_model.proofs.Tables.AlikeNodes.{arguments_in, IsNodeLike, that_node, that_region, that_label, node_like, IsRowLike, that_row, that_first, row_like, empty_like, arguments_like, sort_list_like}
 use Rattle.nts_model.proofs.Terms.Unpositioned.{known_no_positions, known_well_bound, IsFormedTerm, formed_term, term_formed}
 use Rattle.nts_model.proofs.Tables.Fitting.{region_label}
 use Rattle.nts_model.proofs.Tables.Kept.{kind_of-deeply_resolved}

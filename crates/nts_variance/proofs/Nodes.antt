@@ -26,7 +26,7 @@ use Rattle.nts_model.specs.Variances.Leaving.{judging_of}
 use Rattle.nts_model.specs.Variances.Forms.{Form, a_constructor, a_function, a_value, an_alias, over, variances_over, FitsForm}
 use Rattle.nts_model.proofs.Tables.Slots.{KeepsKinds, Knows-kept}
 use Rattle.nts_model.proofs.Tables.Fitting.{IsClosed-under}
-use Rattle.nts_model.proofs.Variances.AliasLabels.{region_closed}
+use Rattle.nts_model.proofs.Tables.AliasLabels.{region_closed}
 use Rattle.nts_model.proofs.Tables.Resolved.{resolved-more, resolved-node, rank_le, deeply_resolved-node, deeply_resolved-empty}
 use Rattle.nts_model.proofs.Tables.Alike.{IsRow-deeply_resolved, row_length-deeply_resolved}
 use Rattle.nts_model.proofs.Tables.Instances.{Agrees-refl}

@@ -28,7 +28,7 @@ use Rattle.nts_relating.proofs.RegionLemmas.{IsRegionVariable, regions-one}
 use Rattle.nts_variance.specs.Parts.{has_parts, none_escapes, closed_alias, number_of_type}
 use Rattle.nts_variance.specs.Taking.{number_at}
 use Rattle.nts_variance.proofs.Looks.{bare, open_tree, closed_alias_tree}
-use Rattle.nts_model.proofs.Derivations.AlikeRelated.{alias_label_is as alias_is}
+use Rattle.nts_model.proofs.Tables.AlikeNodes.{alias_label_is as alias_is}
 
 -- a node of which no closed alias's label and flags are told is none
 pub tight_alias : (t : Tree) (l : Label) → t ≡ node l (children t) → closed_alias l (escaping t) ≡ false → IsAlias t → ⊥

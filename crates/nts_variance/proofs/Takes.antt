@@ -24,7 +24,7 @@ use Rattle.nts_model.specs.Variances.AnsweredGoals.{AllRelatedUnder}
 use Rattle.nts_model.specs.Variances.Leaving.{Judge, judging_of}
 use Rattle.nts_model.specs.Variances.Forms.{Form, over, variances_over, FitsForm, pairs_over}
 use Rattle.nts_model.proofs.Tables.Alike.{AreAlike-turned}
-use Rattle.nts_model.proofs.Variances.AliasLabels.{region_closed}
+use Rattle.nts_model.proofs.Tables.AliasLabels.{region_closed}
 use Rattle.nts_model.proofs.Tables.Fitting.{Fits-inst}
 use Rattle.nts_model.proofs.Variances.Generalizing.{owed}
 use Rattle.nts_model.proofs.Tables.Held.{AreOne-continues, Continues-refl, Continues-trans, Continues-with_constraint}

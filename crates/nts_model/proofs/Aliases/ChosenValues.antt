@@ -28,8 +28,8 @@ use Rattle.nts_model.proofs.Tables.Open.{Knows-deeply_resolved}
 use Rattle.nts_model.proofs.Terms.Unpositioned.{IsFormedTerm, formed_term, known_no_positions, known_well_bound}
 use Rattle.nts_model.proofs.Derivations.Monotone.{replaced_more}
 use Rattle.nts_model.proofs.Derivations.ByCandidate.{read_itself}
-use Rattle.nts_model.proofs.Derivations.AlikeRelated.{closed_alias}
-use Rattle.nts_model.proofs.Variances.AliasLabels.{not_alias, empty_no_alias}
+use Rattle.nts_model.proofs.Tables.AlikeNodes.{closed_alias}
+use Rattle.nts_model.proofs.Tables.AliasLabels.{not_alias, empty_no_alias}
 use Rattle.nts_model.proofs.Derivations.Served.{IsClosedEnvironment, Grows}
 use Rattle.nts_model.proofs.Derivations.Relating.{Chooses, chooses_grows, chooses_itself}
 use Rattle.nts_model.proofs.Derivations.Owing.{OwesFrom, owes_from, from_none, from_then, from_both}

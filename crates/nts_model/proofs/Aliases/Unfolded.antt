@@ -25,7 +25,7 @@ use Rattle.nts_model.specs.Derivations.Proofs.{Node, Step, RestsOn, reopened, Se
 use Rattle.nts_model.specs.Variances.Judging.{Judging, AllStand, IsSettled, IsValueOf, Normalizes, Along, Settles, AllSettle, IsLawfulJudging}
 use Rattle.nts_model.specs.Variances.SettledProofs.{StandsForItself, IsSettledIn, IsReached, IsAfter, start, onward, GrantsAt, HidesAt, RestsOnAt, SettledNode, ProvesSettled, NormalizesSettled, judging}
 use Rattle.nts_model.proofs.Terms.Composing.{after, instance_of-after, IsFormed-instance}
-use Rattle.nts_model.proofs.Variances.AliasLabels.{not_alias}
+use Rattle.nts_model.proofs.Tables.AliasLabels.{not_alias}
 use Rattle.nts_model.proofs.Derivations.Monotone.{rule_more}
 use Rattle.nts_model.proofs.Aliases.Weakening.{rule_weaker}
 use Rattle.nts_model.proofs.Terms.Identified.{one_at}

@@ -28,9 +28,9 @@ use Rattle.nts_model.specs.Derivations.Rules.{choice, relating, KeepsAliases, st
 use Rattle.nts_model.specs.Derivations.Handlers.{IsLawfulHandler}
 use Rattle.nts_model.specs.Derivations.Proving.{AreEquated}
 use Rattle.nts_model.proofs.Tables.Resolved.{deeply_resolved-deeply_resolved}
-use Rattle.nts_model.proofs.Terms.Unpositioned.{or_false}
+use Rattle.nts_model.proofs.Terms.Unpositioned.{or_false, filled-none}
 use Rattle.nts_model.proofs.Derivations.Served.{IsClosedEnvironment}
-use Rattle.nts_model.proofs.Derivations.ByCandidate.{GrantsEqual, alike_granted, filled-none, formed_here, closed_here}
+use Rattle.nts_model.proofs.Derivations.ByCandidate.{GrantsEqual, alike_granted, formed_here, closed_here}
 use Rattle.nts_model.proofs.Aliases.ChosenValues.{added_stands}
 use Rattle.nts_model.proofs.Aliases.ByRelating.{resolved_about}
 use Rattle.nts_model.proofs.Derivations.Owing.{from_none}

@@ -75,26 +75,6 @@ pub among_mapped : {X Y : Type 0} (f : X → Y) (xs : List X) (y : Y) → Among 
 among_mapped f [] y i = absurd i
 among_mapped f (x ∷ xs) y i = ⊎_elim (λ e. (x, inl refl, e)) (λ j. let (z, a, b) = among_mapped f xs y j in (z, inr a, b)) i
 
--- without positions there is nothing to fill
-position_none : (l : Label) → is_canonical l ≡ false → position_of l ≡ None
-position_none (label.Bound a index.Canonical n) e = cc
-position_none (label.Bound a (index.Bound i) n) e = refl
-position_none (label.Leaf y) e = refl
-position_none (label.Ty y) e = refl
-position_none (label.Const y) e = refl
-position_none (label.Clause y) e = refl
-position_none (label.Predicate y) e = refl
-position_none (label.List y) e = refl
-
-pub filled-none : (vs : List Tree) (t : Tree) → any_label is_canonical t ≡ false → filled vs t ≡ t
-filled-none vs empty e = refl
-filled-none vs (more a b) e =
-    let (x, y) = or_false (any_label is_canonical a) (any_label is_canonical b) e in
-    cc (filled-none vs a x, filled-none vs b y)
-filled-none vs (node l t) e =
-    let (x, y) = or_false (is_canonical l) (any_label is_canonical t) e in
-    rw (position_none l x, filled-none vs t y) refl
-
 pub handlers_instance : (ι : Instance) (s : Tree) → IsHandlers s → IsHandlers (instance_of ι s)
 handlers_instance ι (node (label.Clause (clause.Trait i)) ts) h = tt
 handlers_instance ι (node (label.Clause (clause.HostEffect i)) ts) h = tt

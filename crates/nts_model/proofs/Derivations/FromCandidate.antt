@@ -23,8 +23,8 @@ use Rattle.nts_model.proofs.Tables.TableInstances.{reading_of, instance_of-readi
 use Rattle.nts_model.proofs.Terms.Identified.{one_itself, one_trans}
 use Rattle.nts_model.proofs.Derivations.Served.{keeps_or_not, Grows}
 use Rattle.nts_model.proofs.Derivations.Relating.{Chooses, chooses_grows, chooses_itself}
-use Rattle.nts_model.proofs.Derivations.ByCandidate.{AreValuesOf-instance, among_mapped, filled-none, handlers_instance, read_itself, formed_here, closed_here, read_by, read_filled, Equates, equates_grows, read_formed, chosen_terms, equation_follows, constraint_granted, goal_says, goal_terms}
-use Rattle.nts_model.proofs.Terms.Unpositioned.{or_false, IsFormedTerm}
+use Rattle.nts_model.proofs.Derivations.ByCandidate.{AreValuesOf-instance, among_mapped, handlers_instance, read_itself, formed_here, closed_here, read_by, read_filled, Equates, equates_grows, read_formed, chosen_terms, equation_follows, constraint_granted, goal_says, goal_terms}
+use Rattle.nts_model.proofs.Terms.Unpositioned.{or_false, IsFormedTerm, filled-none}
 use Rattle.nts_model.proofs.Derivations.Owing.{IsServedFrom, at_premise, derive_all_from, OwesFrom, owes_from, from_then, from_both, from_one, from_all}
 
 -- what a handler's goal is about, each instance of it is about

@@ -22,8 +22,9 @@ use Rattle.nts_model.proofs.Terms.Substituting.{no_children}
 use Rattle.nts_model.proofs.Derivations.Monotone.{related_more, are_related_more, replaced_more}
 use Rattle.nts_model.proofs.Terms.Composing.{itself}
 use Rattle.nts_model.proofs.Terms.Unpositioned.{IsFormedTerm, term_formed, term_no_positions, term_well_bound}
-use Rattle.nts_model.proofs.Derivations.Served.{closed_or_not, keeps_or_not, sequent_of, IsServed, Owes, Grows, owes_none, owes_then, owes_both, owes_one, OfAliases, IsClosedEnvironment, aliases_served}
-use Rattle.nts_model.proofs.Derivations.AlikeRelated.{arguments_in, alias_or_not, alias_places, IsNodeLike, that_node, that_region, that_label, node_like, IsRowLike, that_row, that_first, row_like, empty_like, arguments_like, sort_list_like, alike_closed, alike_closed_back}
+use Rattle.nts_model.proofs.Terms.Closed.{closed_or_not}
+use Rattle.nts_model.proofs.Derivations.Served.{keeps_or_not, sequent_of, IsServed, Owes, Grows, owes_none, owes_then, owes_both, owes_one, OfAliases, IsClosedEnvironment, aliases_served}
+use Rattle.nts_model.proofs.Tables.AlikeNodes.{arguments_in, alias_or_not, alias_places, IsNodeLike, that_node, that_region, that_label, node_like, IsRowLike, that_row, that_first, row_like, empty_like, arguments_like, sort_list_like, alike_closed, alike_closed_back}
 
 module _ (m : Meaning) (mode : Mode) (e : Tree) (cs : List Constraint) (formed : IsFormed e) (closed : IsClosedEnvironment e)
     (read : (x : Constraint) → Among cs x → constraint_under itself x ≡ x) where

@@ -23,7 +23,7 @@ use Rattle.nts_model.proofs.Derivations.ClosedStatements.{closed_unbound}
 use Rattle.nts_model.proofs.Terms.Identified.{one_itself, one_leafless}
 use Rattle.nts_model.proofs.Derivations.Flattening.{derivation_proof}
 use Rattle.nts_model.proofs.Terms.Unpositioned.{or_false as either_false}
-use Rattle.nts_model.proofs.Derivations.AlikeRelated.{alias_label_is as alias_is, label_same as label_is}
+use Rattle.nts_model.proofs.Tables.AlikeNodes.{alias_label_is as alias_is, label_same as label_is}
 use Rattle.nts_model.proofs.Examples.InputExamples.{no_clauses as nowhere}
 
 pub replaced_plain : (C : Tree → Tree → Type 0) (t : Tree) → any_label is_alias t ≡ false → Replaced C t t

@@ -19,7 +19,7 @@ use Rattle.nts_model.specs.Derivations.Rules.{Mode, Meaning, goal_kind, Replaced
 use Rattle.nts_model.specs.Derivations.Rules.{region_lives, type_lives, subtyped, coerced, const_typed, error_typed, allowed, dyn_compatible, formed, constant_evaluated, value_evaluated, error_evaluated, alias_evaluated, aliases_relate}
 use Rattle.nts_model.specs.Refutation.Coherence.{IsAliasFree}
 use Rattle.nts_model.proofs.Derivations.ClosedStatements.{opened_closed, one_statement as unbound_statement}
-use Rattle.nts_model.proofs.Derivations.AlikeRelated.{alias_label_is as alias_is}
+use Rattle.nts_model.proofs.Tables.AlikeNodes.{alias_label_is as alias_is}
 
 -- related trees without aliases, where equalities are true, are one
 module _ (D : ℕ → List Variance) (S : Tree → Type 0) (H : Constraint → Type 0) (P : Tree → Type 0)

@@ -21,7 +21,7 @@ use Rattle.nts_model.specs.Canonical.Inputs.{PositionKind, type_variable, intege
 use Rattle.nts_model.specs.Answers.Responses.{placeholder_at}
 use Rattle.nts_model.specs.Answers.Applying.{IsNew, IsOriginalAt, ChoosesVariable, Chooses, ChoosesAll}
 use Rattle.nts_model.specs.Tables.Passing.{TreePasses, BringsNoLabels, PassesQueries}
-use Rattle.nts_model.proofs.Responses.Bringing.{brings-same, brings-refl, brings-trans, brings-with_slot, passes-filled}
+use Rattle.nts_model.proofs.Tables.Bringing.{brings-same, brings-refl, brings-trans, brings-with_slot, passes-filled}
 
 -- universes alone
 pub brings-in_universe : (c : Content) (u : ℕ) → BringsNoLabels c (in_universe c u)

@@ -1,10 +1,14 @@
 -- Terms without positions of canonical values.
-use Rattle.std.proofs.Common.{◌≡◌, Bool, true, false, refl}
+use Rattle.std.proofs.Common.{◌≡◌, Bool, true, false, refl, List, None, ◌∙◌, ◌∷◌, ◌⊎◌}
 use Rattle.std.specs.Prelude.{◌||◌}
 use Rattle.nts_model.specs.Terms.Trees.{Tree, empty, more, node, any_label, is_canonical, binders, Meets, shape, IsFormed}
 use Rattle.nts_model.specs.Terms.Scoping.{ListsBound, IsWellBound}
 use Rattle.nts_model.specs.Tables.Contents.{Content}
 use Rattle.nts_model.specs.Tables.Resolving.{KnowsLeaves, Knows}
+use Rattle.nts_model.specs.Terms.Substitutions.{filled, position_of}
+use Rattle.nts_model.specs.declared.labels.BoundVarIndexKind.TheVariants as index
+use Rattle.nts_model.specs.declared.labels.Label.{Label}
+use Rattle.nts_model.specs.declared.labels.Label.TheVariants as label
 
 pub or_false : (a b : Bool) → (a || b) ≡ false → (a ≡ false) × (b ≡ false)
 or_false true b e = cc
@@ -76,3 +80,23 @@ pub term_well_bound : (t : Tree) → IsFormedTerm t → IsWellBound t
 term_well_bound empty h = tt
 term_well_bound (more a b) h = (term_well_bound a h.0, term_well_bound b h.1)
 term_well_bound (node l c) h = (h.3, term_well_bound c h.1)
+
+-- without positions there is nothing to fill
+position_none : (l : Label) → is_canonical l ≡ false → position_of l ≡ None
+position_none (label.Bound a index.Canonical n) e = cc
+position_none (label.Bound a (index.Bound i) n) e = refl
+position_none (label.Leaf y) e = refl
+position_none (label.Ty y) e = refl
+position_none (label.Const y) e = refl
+position_none (label.Clause y) e = refl
+position_none (label.Predicate y) e = refl
+position_none (label.List y) e = refl
+
+pub filled-none : (vs : List Tree) (t : Tree) → any_label is_canonical t ≡ false → filled vs t ≡ t
+filled-none vs empty e = refl
+filled-none vs (more a b) e =
+    let (x, y) = or_false (any_label is_canonical a) (any_label is_canonical b) e in
+    cc (filled-none vs a x, filled-none vs b y)
+filled-none vs (node l t) e =
+    let (x, y) = or_false (is_canonical l) (any_label is_canonical t) e in
+    rw (position_none l x, filled-none vs t y) refl

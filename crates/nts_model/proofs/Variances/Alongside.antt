@@ -19,8 +19,8 @@ use Rattle.nts_model.specs.Terms.Trees.{Tree, empty, more, node, size, binders, 
 use Rattle.nts_model.specs.Terms.Regions.{IsRegion}
 use Rattle.nts_model.specs.Derivations.Related.{region_constraint, times, first_variance, rest_variances, constructor, function, function_variances, value, alias_label, alias, arguments, one_tree, regions, constructors, functions, values, open_aliases, aliases, subtypes, no_more, and_more}
 use Rattle.nts_model.specs.Variances.Judging.{Judging, IsSettled, Along, AreAlong, IsLawfulJudging, opposite}
-use Rattle.nts_model.proofs.Variances.AliasLabels.{region_tree_of, region_closed, region_kind}
-use Rattle.nts_model.proofs.Derivations.AlikeRelated.{alias_label_is as alias_is_alias}
+use Rattle.nts_model.proofs.Tables.AliasLabels.{region_tree_of, region_closed, region_kind}
+use Rattle.nts_model.proofs.Tables.AlikeNodes.{alias_label_is as alias_is_alias}
 
 times_opposite : (v w : Variance) → times (opposite v) w ≡ opposite (times v w)
 times_opposite variance.Invariant w = refl

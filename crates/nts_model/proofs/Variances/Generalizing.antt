@@ -26,7 +26,7 @@ use Rattle.nts_model.proofs.Tables.Under.{same_or_other}
 use Rattle.nts_model.proofs.Tables.Solving.{IsNameable-with_slot, IsNameable-agrees, Solves-with_slot, Solves-from_with_slot, Solves-with_constraint, Solves-from_with_constraint}
 use Rattle.nts_model.proofs.Tables.Held.{Continues-refl, Continues-trans, Continues-with_slot, Continues-with_constraint}
 use Rattle.nts_model.proofs.Tables.Sound.{IsSound-with_slot}
-use Rattle.nts_model.proofs.Variances.AliasLabels.{not_alias, region_closed}
+use Rattle.nts_model.proofs.Tables.AliasLabels.{not_alias, region_closed}
 use Rattle.nts_model.proofs.Variances.Alongside.{beside_leaf, along_empty, along_rows_closed, rows_row}
 use Rattle.nts_model.proofs.Variances.Settling.{normalizes_itself, replaced_closed}
 use Rattle.nts_model.proofs.Tables.Fitting.{IsValue-variable, Fits-inst, IsValue-inst}

@@ -27,7 +27,7 @@ use Rattle.nts_model.proofs.Tables.Instances.{inst-node, Agrees-refl, Agrees-tra
 use Rattle.nts_model.proofs.Tables.Resolved.{deeply_resolved-empty}
 use Rattle.nts_model.proofs.Tables.Fitting.{region_label}
 use Rattle.nts_model.proofs.Tables.Readings.{name_label}
-use Rattle.nts_model.proofs.Variances.AliasLabels.{not_alias}
+use Rattle.nts_model.proofs.Tables.AliasLabels.{not_alias}
 use Rattle.nts_model.proofs.Variances.SettleRows.{node_forward, arguments_forward, constructor_forward, function_forward}
 use Rattle.nts_model.proofs.Variances.Generalizing.{judged_agrees, settle_agrees, settle_joined, settle_parted, owed}
 use Rattle.nts_model.proofs.Variances.Reducing.{row_goal, row_regions, settle_pairs, labels_agree}

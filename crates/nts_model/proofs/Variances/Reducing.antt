@@ -7,7 +7,7 @@ use Rattle.nts_model.specs.Terms.Regions.{IsRegion}
 use Rattle.nts_model.specs.Tables.Worlds.{World, inst, Solves}
 use Rattle.nts_model.specs.declared.labels.Label.{Label}
 use Rattle.nts_model.specs.Derivations.Related.{rest_variances, constructor, one_tree, regions, constructors, functions, values, open_aliases, aliases, subtypes}
-use Rattle.nts_model.proofs.Variances.AliasLabels.{not_alias}
+use Rattle.nts_model.proofs.Tables.AliasLabels.{not_alias}
 use Rattle.nts_model.specs.Variances.Judging.{Judging, IsSettled, Normalizes, Along, Settles, AllSettle, IsLawfulJudging, opposite}
 use Rattle.nts_model.specs.Variances.Relations.{Relating, AllSettleIn, ArePairsKnown, IsSettledWorld, ReducesBy, RefusesBy}
 use Rattle.nts_model.specs.Variances.Forms.{pairs_over}

@@ -15,8 +15,8 @@ use Rattle.nts_model.specs.Terms.Regions.{IsRegion}
 use Rattle.nts_model.specs.Derivations.Related.{region_constraint, times, first_variance, rest_variances, constructor, function, function_variances, value, alias_label, alias, IsAlias, arguments, one_tree, regions, constructors, functions, values, open_aliases, no_more, and_more}
 use Rattle.nts_model.specs.Derivations.Rules.{chosen, kept_empty, kept_more, kept_node}
 use Rattle.nts_model.specs.Variances.Judging.{Judging, IsSettled, IsValueOf, Normalizes, Along, AreAlong, Settles, AllSettle, IsLawfulJudging, opposite}
-use Rattle.nts_model.proofs.Derivations.Served.{closed_or_not}
-use Rattle.nts_model.proofs.Variances.AliasLabels.{not_alias, row_no_alias, empty_no_alias, region_tree_of}
+use Rattle.nts_model.proofs.Terms.Closed.{closed_or_not}
+use Rattle.nts_model.proofs.Tables.AliasLabels.{not_alias, row_no_alias, empty_no_alias, region_tree_of}
 use Rattle.nts_model.proofs.Variances.Settling.{replaced_closed, normalizes_itself, normalizes_kind, empty_back_at, more_back_at}
 use Rattle.nts_model.proofs.Variances.Alongside.{along_one, along_alone, RegionsAlone, along_kind, along_closed, along_turned, rows_row, variances_of_length, beside_constructor, beside_function, beside_value, beside_alias, beside_region, beside_more}
 use Rattle.nts_model.proofs.Terms.Unpositioned.{or_false as both_false}

@@ -14,7 +14,7 @@ use Rattle.nts_model.specs.Derivations.Related.{times, alias_label, alias, IsAli
 use Rattle.nts_model.specs.Derivations.Rules.{Replaced, chosen, kept_empty, kept_more, kept_node}
 use Rattle.nts_model.specs.Variances.Judging.{Judging, AllStand, IsSettled, IsValueOf, Normalizes, IsLawfulJudging}
 use Rattle.nts_model.proofs.Tables.Fitting.{IsClosed-under}
-use Rattle.nts_model.proofs.Variances.AliasLabels.{row_no_alias, empty_no_alias}
+use Rattle.nts_model.proofs.Tables.AliasLabels.{row_no_alias, empty_no_alias}
 
 -- an alias in a settled tree stands for itself
 pub stands_alias : (S : Tree → Type 0) (a : Tree) → AllStand S a → IsAlias a → S a

@@ -14,7 +14,7 @@ use Rattle.nts_model.specs.Variances.Relations.{IsSettledWorld}
 use Rattle.nts_model.specs.Tables.Tying.{TiesNew}
 use Rattle.nts_model.proofs.Tables.Slots.{some_slot}
 use Rattle.nts_model.proofs.Tables.Worlds.{slice_get_some, inst-one}
-use Rattle.nts_model.proofs.Variances.AliasLabels.{not_alias, region_tree_of}
+use Rattle.nts_model.proofs.Tables.AliasLabels.{not_alias, region_tree_of}
 
 module _ (J : Judging) (law : IsLawfulJudging J) where
   pub region_settled : (t : Tree) → IsRegion t → IsSettled J t

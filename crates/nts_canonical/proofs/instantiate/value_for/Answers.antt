@@ -1,6 +1,6 @@
 use Rattle.std.proofs.Common.{◌≡◌, false, rules, sym, ap, ◌∙◌}
 use Rattle.nts_model.specs.Terms.Trees.{any_label, is_canonical}
-use Rattle.nts_model.proofs.Derivations.ByCandidate.{filled-none}
+use Rattle.nts_model.proofs.Terms.Unpositioned.{filled-none}
 use Rattle.nts_store.specs.Growth.{tree_at}
 use Rattle.nts_canonical.proofs.instantiate.value_for.Goals as goal
 

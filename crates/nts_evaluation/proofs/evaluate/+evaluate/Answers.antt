@@ -3,7 +3,7 @@ use Rattle.std.specs.Prelude.{is_some, IfSome}
 use Rattle.std.proofs.lemmas.List.{take_all}
 use Rattle.nts_model.specs.Lists.{Among}
 use Rattle.nts_model.specs.Derivations.Handlers.{meaning}
-use Rattle.nts_model.proofs.Responses.Bringing.{only-trans, only-refl}
+use Rattle.nts_model.proofs.Tables.Bringing.{only-trans, only-refl}
 use Rattle.nts_certainty.specs.declared.sources.GoalSource.{GoalSource}
 use Rattle.nts_store.specs.Growth.{tree_at, AllIn}
 use Rattle.nts_store.proofs.Growing.{Extends-trans, Extends-refl}

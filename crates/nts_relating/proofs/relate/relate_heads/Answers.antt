@@ -7,7 +7,7 @@ use Rattle.nts_store.proofs.Growing.{Extends-refl}
 use Rattle.nts_unify.specs.Changing.{is_free_region}
 use Rattle.nts_unify.specs.Reading.{content_of}
 use Rattle.nts_unify.proofs.Keeping.{KeepsKnowing-refl, IsLater-refl}
-use Rattle.nts_model.proofs.Responses.Bringing.{brings-refl, brings-of}
+use Rattle.nts_model.proofs.Tables.Bringing.{brings-refl, brings-of}
 use Rattle.nts_relating.proofs.RegionLemmas.{region_of_term}
 use Rattle.nts_relating.proofs.PairLemmas.{Stepped, last_pair, step_kept, step_pushed, heads_same, heads_regions, regions_bring}
 use Rattle.nts_relating.proofs.MetPairs.{Passed, memo_done, memo_pushed, passed_met, met_keys, new_keys}

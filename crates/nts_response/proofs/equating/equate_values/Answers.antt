@@ -1,5 +1,5 @@
 use Rattle.std.proofs.Common.{arith, rules, refl, ◌≡◌, Err}
-use Rattle.nts_model.proofs.Responses.Bringing.{only-refl}
+use Rattle.nts_model.proofs.Tables.Bringing.{only-refl}
 use Rattle.nts_unify.proofs.Keeping.{IsLater-refl, IsLater-trans}
 use Rattle.nts_store.specs.declared.fault.EvalError.TheVariants as EvalError
 use Rattle.nts_store.specs.Kept.{AllIn-kept}

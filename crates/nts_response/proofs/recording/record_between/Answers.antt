@@ -3,7 +3,7 @@ use Rattle.nts_model.specs.declared.labels.Sort.TheVariants as sort
 use Rattle.nts_model.specs.declared.labels.Relation.TheVariants as relation
 use Rattle.nts_model.specs.Terms.Trees.{kind_of, of_sort}
 use Rattle.nts_model.specs.Answers.Applying.{IsRecordedIn}
-use Rattle.nts_model.proofs.Variances.AliasLabels.{region_kind}
+use Rattle.nts_model.proofs.Tables.AliasLabels.{region_kind}
 use Rattle.nts_store.specs.Growth.{tree_at}
 use Rattle.nts_unify.specs.Reading.{content_of}
 use Rattle.nts_unify.specs.Recording.{is_visible}

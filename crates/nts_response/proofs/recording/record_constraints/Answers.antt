@@ -1,6 +1,6 @@
 use Rattle.std.proofs.Common.{refl}
 use Rattle.nts_model.specs.declared.labels.Relation.TheVariants as relation
-use Rattle.nts_model.proofs.Responses.Bringing.{only-refl}
+use Rattle.nts_model.proofs.Tables.Bringing.{only-refl}
 use Rattle.nts_model.proofs.Tables.SubUnified.{JoinsSubRoots-refl}
 use Rattle.nts_store.specs.Kept.{AllIn-kept}
 use Rattle.nts_terms.specs.declared.modes.VisibleForLeakCheck.{VisibleForLeakCheck}

@@ -7,7 +7,7 @@ use Rattle.nts_delegate.specs.Candidates.{IsEquation}
 use Rattle.nts_asking.proofs.Evaluating.{Runs-trans, AreValues-later, IsEquation-extended, equation_at, IsPosed-later}
 use Rattle.nts_trying.proofs.Trying.{equated_first, equated_more, none_meets}
 use Rattle.nts_trying.proofs.candidate.equate.Goals as goal
-use Rattle.nts_model.proofs.Responses.Bringing.{only-none, only-trans}
+use Rattle.nts_model.proofs.Tables.Bringing.{only-none, only-trans}
 use Rattle.nts_trying.proofs.Labels.{only_earlier}
 
 pub loop-equation-init : goal.loop-equation-init

@@ -8,7 +8,7 @@ use Rattle.nts_delegate.specs.Candidates.{IsRegionConstraint}
 use Rattle.nts_delegate.specs.declared.delegate.RegionConstraint.{RegionConstraint}
 use Rattle.nts_asking.proofs.Evaluating.{Runs-refl, Runs-trans, AreValues-later, IsRegionConstraint-extended, constraint_at, IsPosed-later}
 use Rattle.nts_trying.proofs.candidate.record_constraints.Goals as goal
-use Rattle.nts_model.proofs.Responses.Bringing.{only-refl, only-trans}
+use Rattle.nts_model.proofs.Tables.Bringing.{only-refl, only-trans}
 use Rattle.nts_trying.proofs.Labels.{only_earlier}
 
 pub record_one-requires-clause-constraint : goal.record_one-requires-clause-constraint

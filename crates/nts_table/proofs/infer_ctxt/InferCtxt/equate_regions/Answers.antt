@@ -2,7 +2,7 @@ use Rattle.std.proofs.Common.{sym}
 use Rattle.nts_store.specs.Growth.{tree_at}
 use Rattle.nts_unify.specs.Reading.{content_of}
 use Rattle.nts_table.proofs.RegionLinks.{known_region, IsTable-regions_joined}
-use Rattle.nts_model.proofs.Responses.Bringing.{brings-of}
+use Rattle.nts_model.proofs.Tables.Bringing.{brings-of}
 use Rattle.nts_unify.proofs.Labelled.{joined_bring}
 use Rattle.nts_table.proofs.infer_ctxt.InferCtxt.equate_regions.Goals as goal
 

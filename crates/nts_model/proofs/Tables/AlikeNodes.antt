@@ -1,4 +1,4 @@
--- Trees that are alike are related, where every alias may stand for itself.
+-- Trees that are alike, node by node.
 use Rattle.std.proofs.Common.{◌≡◌, ◌⊎◌, inl, inr, ⊎_elim, ℕ, ◌+◌, Bool, true, false, [], ◌∷◌, Some, refl, sym, ap, ◌∙◌, subst}
 use Rattle.nts_model.specs.declared.labels.Sort.{Sort}
 use Rattle.nts_model.specs.declared.labels.TyHead.TheVariants as ty
@@ -14,7 +14,7 @@ use Rattle.nts_model.specs.Tables.Alike.{Alike, one_tree, two_regions, one_label
 use Rattle.nts_model.specs.Derivations.Related.{alias_label, IsAlias}
 use Rattle.nts_model.specs.Derivations.Related.{arguments as arguments_of}
 use Rattle.nts_model.proofs.Terms.Substituting.{region_alone, no_children}
-use Rattle.nts_model.proofs.Derivations.Served.{closed_or_not}
+use Rattle.nts_model.proofs.Terms.Closed.{closed_or_not}
 use Rattle.nts_model.proofs.Terms.Unpositioned.{IsFormedTerm}
 
 -- the arguments of a node

@@ -12,7 +12,7 @@ use Rattle.nts_model.specs.Terms.Trees.{Tree, empty, more, node, kind_of, of_sor
 use Rattle.nts_model.specs.Terms.Regions.{RegionName, IsRegion, name_of_label, name_of_variable}
 use Rattle.nts_model.specs.Derivations.Related.{alias_label, IsAlias}
 use Rattle.nts_model.proofs.Tables.Fitting.{region_label}
-use Rattle.nts_model.proofs.Derivations.AlikeRelated.{alias_label_is as alias_is_alias}
+use Rattle.nts_model.proofs.Tables.AlikeNodes.{alias_label_is as alias_is_alias}
 
 pub not_alias : (l : Label) (c : Tree) → is_alias l ≡ false → IsAlias (node l c) → ⊥
 not_alias l c e x =
