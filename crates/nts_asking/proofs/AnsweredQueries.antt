@@ -6,8 +6,8 @@ use Rattle.nts_model.specs.Derivations.Proofs.{Assumed}
 use Rattle.nts_model.specs.Searching.Stacks.{IsProvedFrom, IsDerivedFrom}
 use Rattle.nts_model.specs.Derivations.Proving.{sequent_at}
 use Rattle.nts_model.specs.Answers.Responses.{response_of}
-use Rattle.nts_model.proofs.Responses.Closing.{said_instance}
-use Rattle.nts_model.proofs.Derivations.Assuming.{derived_instance}
+use Rattle.nts_theory.proofs.Responses.Closing.{said_instance}
+use Rattle.nts_theory.proofs.Derivations.Assuming.{derived_instance}
 use Rattle.nts_model.specs.Terms.Trees.{Tree, more}
 use Rattle.nts_model.specs.Tables.Contents.{Content}
 use Rattle.nts_model.specs.Tables.Resolving.{Knows}
@@ -18,7 +18,7 @@ use Rattle.nts_model.specs.Terms.Substitutions.{filled}
 use Rattle.nts_model.specs.Canonical.Inputs.{CanonicalInput as Form, PositionKind}
 use Rattle.nts_model.specs.Tables.Passing.{TreePasses, TablePasses, BringsOnly}
 use Rattle.nts_model.specs.Answers.Responses.{Response as Answer, IsQueryTable, IsOverPositions, answer_sequent}
-use Rattle.nts_model.proofs.Responses.Querying.{all_plain, own_in}
+use Rattle.nts_theory.proofs.Responses.Querying.{all_plain, own_in}
 use Rattle.nts_model.proofs.Tables.Slots.{Knows-kept}
 use Rattle.nts_store.specs.Formed.{AreFormed}
 use Rattle.nts_store.specs.Growth.{tree_at, Extends}
@@ -38,7 +38,7 @@ use Rattle.nts_asking.specs.Asking.{IsResponseOf, first_table, first_values, ask
 use Rattle.nts_asking.specs.Evaluation.{asked_terms}
 use Rattle.nts_asking.proofs.QueryTables.{first_content, first_passes, is_label_in, queries_pass, labels_in, table_in, values_pass, asked_passes, value_formed}
 use Rattle.nts_asking.proofs.Running.{term_table}
-use Rattle.nts_model.proofs.Responses.Asked.{first_part, rest_part}
+use Rattle.nts_theory.proofs.Responses.Asked.{first_part, rest_part}
 
 pub query_environment : (a b : List Tree) (input : CanonicalInput) (q : QueryInput) → query_tree b q ≡ filled (values_of input) (query_tree a input.canonical.value) → tree_at b q.goal.param_env.node ≡ asked_environment (form_of a input)
 query_environment a b input q e = first_part _ _ _ _ e

@@ -13,7 +13,7 @@ use Rattle.nts_model.specs.Derivations.Rules.{Meaning, Mode}
 use Rattle.nts_model.specs.Derivations.Handlers.{Handler}
 use Rattle.nts_model.specs.Derivations.Proofs.{Assumed}
 use Rattle.nts_model.specs.Searching.Stacks.{IsProvedFrom, IsDerivedFrom}
-use Rattle.nts_model.proofs.Responses.AskedFrom.{asked_proved_from, proved_from_continues}
+use Rattle.nts_theory.proofs.Responses.AskedFrom.{asked_proved_from, proved_from_continues}
 use Rattle.nts_model.specs.Canonical.Inputs.{Input, IsInput, CanonicalInput as Form, OccursIn, originals, canonical_of}
 use Rattle.nts_model.specs.Tables.Passing.{TreePasses, BringsOnly}
 use Rattle.nts_model.specs.Answers.Responses.{Response as Answer, RefusesResponse, answer_sequent, IsIdentity}

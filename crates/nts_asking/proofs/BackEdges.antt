@@ -11,12 +11,12 @@ use Rattle.nts_model.specs.Answers.Responses.{Response as Answer, answer_sequent
 use Rattle.nts_model.specs.Searching.Stacks.{Entry, IsDerivedFrom, IsUsable, assumptions, path_kind, stronger}
 use Rattle.nts_model.specs.Searching.Driving.{as_read, marked}
 use Rattle.nts_model.proofs.Terms.Composing.{itself}
-use Rattle.nts_model.proofs.Searching.Driving.{get-marked, path_marked}
-use Rattle.nts_model.proofs.Searching.Ordered.{get_reversed}
+use Rattle.nts_theory.proofs.Searching.Driving.{get-marked, path_marked}
+use Rattle.nts_theory.proofs.Searching.Ordered.{get_reversed}
 use Rattle.indexmap.proofs.ReorderLemmas.{map-reverse}
 use Rattle.std.proofs.lemmas.Option.{slice_get-get_or}
 use Rattle.std.proofs.lemmas.List.{length-map}
-use Rattle.nts_model.proofs.Searching.Stacks.{answer_itself, back_usable}
+use Rattle.nts_theory.proofs.Searching.Stacks.{answer_itself, back_usable}
 use Rattle.nts_certainty.specs.declared.sources.PathKind.{PathKind as PathKindData}
 use Rattle.nts_certainty.specs.declared.sources.PathKind.TheVariants as path
 use Rattle.nts_certainty.specs.declared.certainty.Certainty.TheVariants as certainty

@@ -13,7 +13,7 @@ use Rattle.nts_model.specs.Answers.Responses.{Findings, IsLabelIn, IsQueryTable,
 use Rattle.nts_model.proofs.Tables.Slots.{Knows-kept}
 use Rattle.nts_model.proofs.Tables.Sound.{SameStates, IsSound-same}
 use Rattle.nts_model.proofs.Lists.{contains_none}
-use Rattle.nts_model.proofs.Responses.Querying.{query_fits}
+use Rattle.nts_theory.proofs.Responses.Querying.{query_fits}
 use Rattle.nts_certainty.specs.declared.certainty.Certainty.{Certainty}
 use Rattle.nts_certainty.specs.declared.certainty.Certainty.TheVariants as certainty
 use Rattle.nts_store.specs.Formed.{AreFormed}

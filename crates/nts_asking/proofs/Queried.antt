@@ -15,7 +15,7 @@ use Rattle.nts_model.specs.Terms.Substitutions.{leaf_tree, Occurs}
 use Rattle.nts_model.specs.Lists.{Among}
 use Rattle.nts_model.specs.Canonical.Inputs.{Input, IsInput, OccursIn, originals}
 use Rattle.nts_model.proofs.Canonical.CanonicalForms.{originals_are_leaves}
-use Rattle.nts_model.proofs.Responses.Answering.{canonical_environment_over, canonical_predicate_over}
+use Rattle.nts_theory.proofs.Responses.Answering.{canonical_environment_over, canonical_predicate_over}
 use Rattle.nts_model.proofs.Terms.Unpositioned.{known_no_positions, false_or}
 use Rattle.nts_model.specs.Answers.Responses.{IsOverPositions}
 use Rattle.nts_store.specs.Formed.{AreFormed}

@@ -10,7 +10,7 @@ use Rattle.nts_model.specs.Derivations.Proofs.{Assumed, passed}
 use Rattle.nts_model.specs.Searching.Stacks.{IsDerivedFrom, IsUsable, assumptions}
 use Rattle.nts_model.specs.Canonical.Inputs.{PositionKind, CanonicalInput as Form}
 use Rattle.nts_model.specs.Answers.Responses.{answer_sequent}
-use Rattle.nts_model.proofs.Searching.Stacks.{head_closed}
+use Rattle.nts_theory.proofs.Searching.Stacks.{head_closed}
 use Rattle.nts_certainty.specs.declared.sources.PathKind.{PathKind}
 use Rattle.nts_certainty.specs.declared.certainty.Certainty.TheVariants as certainty
 use Rattle.nts_store.specs.declared.fault.EvalError.{EvalError}

@@ -12,10 +12,10 @@ use Rattle.nts_model.specs.Derivations.Proving.{sequent_at}
 use Rattle.nts_model.specs.Derivations.Proofs.{Assumed, passed}
 use Rattle.nts_model.specs.Derivations.Handlers.{Handler}
 use Rattle.nts_model.specs.Searching.Stacks.{IsProvedFrom, IsReadSince, AreReadSince, assumptions}
-use Rattle.nts_model.proofs.Searching.Stacks.{read_since_covers}
+use Rattle.nts_theory.proofs.Searching.Stacks.{read_since_covers}
 use Rattle.nts_model.specs.Canonical.Inputs.{PositionKind, CanonicalInput as Form}
 use Rattle.nts_model.specs.Answers.Responses.{IsResponseTo, IsOverPositions}
-use Rattle.nts_model.proofs.Derivations.Assuming.{Covers, covers_passed, derived_more}
+use Rattle.nts_theory.proofs.Derivations.Assuming.{Covers, covers_passed, derived_more}
 use Rattle.nts_store.specs.Growth.{IsIn, Extends}
 use Rattle.nts_store.proofs.Growing.{IsIn-extended}
 use Rattle.nts_store.specs.declared.nodes.NodeId.{NodeId}

@@ -22,9 +22,9 @@ use Rattle.nts_model.specs.Canonical.Numbered.{position}
 use Rattle.nts_model.specs.Canonical.Inputs.{Input, IsInput, PositionKind, type_variable, integer_variable, float_variable, const_variable, region_variable, placeholder, position_kind, canonical_of, originals}
 use Rattle.nts_model.specs.Searching.Driving.{sort_at, positions_from, unconstrained}
 use Rattle.nts_model.specs.Answers.Responses.{Response as Form, IsLeafFor, IsLeafIn, IsResponseTo, own_leaf, leaves_of_kinds}
-use Rattle.nts_model.proofs.Responses.Initial.{initial_fits, initial_bounded, no_leaf_there as no_leaf}
-use Rattle.nts_model.proofs.Responses.PositionSorts.{below_greatest, contained_map, contained_among}
-use Rattle.nts_model.proofs.Responses.Querying.{leaf_in_for}
+use Rattle.nts_theory.proofs.Responses.Initial.{initial_fits, initial_bounded, no_leaf_there as no_leaf}
+use Rattle.nts_theory.proofs.Responses.PositionSorts.{below_greatest, contained_map, contained_among}
+use Rattle.nts_theory.proofs.Responses.Querying.{leaf_in_for}
 use Rattle.nts_store.specs.declared.nodes.NodeId.{NodeId}
 use Rattle.nts_store.specs.Growth.{tree_at}
 use Rattle.nts_canonical.specs.declared.types.Canonical.{Canonical}

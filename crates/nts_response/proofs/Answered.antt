@@ -28,10 +28,10 @@ use Rattle.nts_model.specs.Answers.Responses.{Findings, AreFindings, recorded_by
 use Rattle.nts_model.proofs.Tables.Kept.{kind_of-deeply_resolved}
 use Rattle.nts_model.proofs.Terms.Listed.{map-map}
 use Rattle.nts_model.proofs.Tables.ResolvedTerms.{IsClosed-deeply_resolved}
-use Rattle.nts_model.proofs.Responses.Answering.{AllTrees, AllSides, AreSeen, IsPlainTerm, all_found_seen, own_loose}
-use Rattle.nts_model.proofs.Responses.PositionSorts.{IsTreeOver, positioned_is_over, positioned_kind, answer_sorts, below_greatest, contained_map, contained_from, contained_among}
+use Rattle.nts_theory.proofs.Responses.Answering.{AllTrees, AllSides, AreSeen, IsPlainTerm, all_found_seen, own_loose}
+use Rattle.nts_theory.proofs.Responses.PositionSorts.{IsTreeOver, positioned_is_over, positioned_kind, answer_sorts, below_greatest, contained_map, contained_from, contained_among}
 use Rattle.nts_model.proofs.Lists.{contains_none, first_or_later}
-use Rattle.nts_model.proofs.Responses.Querying.{all_plain, own_in, leaf_in_for}
+use Rattle.nts_theory.proofs.Responses.Querying.{all_plain, own_in, leaf_in_for}
 use Rattle.nts_store.specs.declared.nodes.NodeId.{NodeId}
 use Rattle.nts_store.specs.Growth.{tree_at}
 use Rattle.nts_unify.specs.declared.contents.Constraint.{Constraint}

@@ -9,9 +9,9 @@ use Rattle.nts_model.specs.Answers.Responses.{Findings, RefusesResponse}
 use Rattle.nts_model.specs.Terms.Substitutions.{filled}
 use Rattle.nts_model.specs.Tables.Passing.{BringsOnly}
 use Rattle.nts_model.proofs.Tables.Bringing.{brings-trans, only-trans, only-none}
-use Rattle.nts_model.proofs.Responses.ChosenLabels.{brings-in_universe, chosen_brings, chosen_passes}
-use Rattle.nts_model.proofs.Responses.Answering.{AllTrees}
-use Rattle.nts_model.proofs.Responses.Applied.{FailsToEqual, applied, refused}
+use Rattle.nts_theory.proofs.Responses.ChosenLabels.{brings-in_universe, chosen_brings, chosen_passes}
+use Rattle.nts_theory.proofs.Responses.Answering.{AllTrees}
+use Rattle.nts_theory.proofs.Responses.Applied.{FailsToEqual, applied, refused}
 use Rattle.nts_model.proofs.Tables.Slots.{Knows-kept}
 use Rattle.nts_store.specs.Growth.{tree_at, AllIn, Extends}
 use Rattle.nts_store.specs.Formed.{AreFormed}
@@ -22,7 +22,7 @@ use Rattle.nts_terms.specs.declared.handles.Goal.{Goal}
 use Rattle.nts_terms.specs.Handles.{HoldsArg}
 use Rattle.nts_certainty.specs.declared.sources.GoalSource.{GoalSource}
 use Rattle.nts_unify.specs.Entries.{Entries, moved}
-use Rattle.nts_model.proofs.Responses.ChosenClosed.{chosen_records}
+use Rattle.nts_theory.proofs.Responses.ChosenClosed.{chosen_records}
 use Rattle.nts_unify.specs.Changing.{AddsVisible}
 use Rattle.nts_unify.specs.Reading.{content_of}
 use Rattle.nts_unify.specs.Lawful.{IsLawful-moved}

@@ -18,7 +18,7 @@ use Rattle.nts_model.specs.Derivations.Handlers.{NamesFresh, IsOfSort}
 use Rattle.nts_model.specs.Canonical.Inputs.{PositionKind, type_variable, integer_variable, float_variable, const_variable, region_variable, placeholder}
 use Rattle.nts_model.specs.Searching.Driving.{sort_at}
 use Rattle.nts_model.specs.Answers.Applying.{ChoosesVariable, Chooses, ChoosesAll}
-use Rattle.nts_model.proofs.Responses.Answering.{AllTrees}
+use Rattle.nts_theory.proofs.Responses.Answering.{AllTrees}
 use Rattle.nts_model.proofs.Terms.Identified.{named_tree}
 use Rattle.nts_canonical.specs.declared.types.CanonicalVarKind.{CanonicalVarKind}
 use Rattle.nts_canonical.specs.Forms.{kind_of_var}

@@ -7,7 +7,7 @@ use Rattle.nts_model.specs.Tables.Contents.{Content}
 use Rattle.nts_model.specs.Terms.Substitutions.{filled}
 use Rattle.nts_model.specs.Tables.Equations.{AreRelated, AreUnrelated}
 use Rattle.nts_model.specs.Answers.Applying.{IsProperContent, MakesEqual}
-use Rattle.nts_model.proofs.Responses.Applied.{FailsToEqual}
+use Rattle.nts_theory.proofs.Responses.Applied.{FailsToEqual}
 use Rattle.nts_model.proofs.Tables.Slots.{Knows-kept}
 use Rattle.nts_store.specs.declared.nodes.NodeId.{NodeId}
 use Rattle.nts_store.specs.Growth.{tree_at, AllIn}

@@ -5,14 +5,14 @@ use Rattle.nts_model.specs.Terms.Trees.{Tree, empty, IsClosed}
 use Rattle.nts_model.specs.Tables.Contents.{in_universe}
 use Rattle.nts_model.specs.Answers.Applying.{IsProperContent, MakesEqual}
 use Rattle.nts_model.specs.Answers.Responses.{RefusesResponse}
-use Rattle.nts_model.proofs.Responses.Applied.{FailsToEqual, AreKnownFilled, applied, refused}
+use Rattle.nts_theory.proofs.Responses.Applied.{FailsToEqual, AreKnownFilled, applied, refused}
 use Rattle.nts_store.specs.Growth.{tree_at}
 use Rattle.nts_store.specs.Formed.{AreFormed}
 use Rattle.nts_terms.specs.declared.handles.GenericArg.{GenericArg}
 use Rattle.nts_terms.specs.Handles.{HoldsArg}
 use Rattle.nts_unify.specs.Entries.{moved}
 use Rattle.nts_unify.specs.Lawful.{IsLawful-moved}
-use Rattle.nts_model.proofs.Responses.ChosenClosed.{chosen_records}
+use Rattle.nts_theory.proofs.Responses.ChosenClosed.{chosen_records}
 use Rattle.nts_unify.specs.Changing.{IsLater, AddsVisible}
 use Rattle.nts_unify.specs.Reading.{content_of}
 use Rattle.nts_table.specs.Tables.{Table, IsTable}

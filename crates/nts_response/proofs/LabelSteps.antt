@@ -10,8 +10,8 @@ use Rattle.nts_model.specs.Lists.{Among}
 use Rattle.nts_model.specs.Terms.Substitutions.{filled}
 use Rattle.nts_model.specs.Tables.Passing.{TreePasses, PassesQueries, BringsLabelsOf, BringsOnly}
 use Rattle.nts_model.proofs.Tables.Bringing.{only-of, only-trans}
-use Rattle.nts_model.proofs.Responses.ChosenLabels.{filled_passes}
-use Rattle.nts_model.proofs.Responses.PositionSorts.{contained_map, contained_among}
+use Rattle.nts_theory.proofs.Responses.ChosenLabels.{filled_passes}
+use Rattle.nts_theory.proofs.Responses.PositionSorts.{contained_map, contained_among}
 use Rattle.nts_store.specs.declared.nodes.NodeId.{NodeId}
 use Rattle.nts_store.specs.Growth.{tree_at, AllIn}
 use Rattle.nts_terms.specs.declared.cx.Cx.{Cx}

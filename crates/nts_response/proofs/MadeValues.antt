@@ -17,7 +17,7 @@ use Rattle.nts_model.specs.Canonical.Inputs.{PositionKind, type_variable, intege
 use Rattle.nts_model.specs.Answers.Responses.{universe_of_kind}
 use Rattle.nts_model.specs.Answers.Applying.{IsNew, Chooses, ChoosesAll}
 use Rattle.nts_model.proofs.Tables.Slots.{Knows-kept, KeepsKinds, KeepsKinds-refl, KeepsKinds-with_slot}
-use Rattle.nts_model.proofs.Responses.Applying.{new_knows}
+use Rattle.nts_theory.proofs.Responses.Applying.{new_knows}
 use Rattle.nts_model.proofs.Tables.Fitting.{Fits-kind_of}
 use Rattle.nts_store.specs.Growth.{tree_at, Extends}
 use Rattle.nts_terms.specs.declared.cx.Cx.{Cx}

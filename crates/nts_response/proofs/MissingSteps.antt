@@ -10,7 +10,7 @@ use Rattle.nts_model.specs.Terms.Trees.{Tree, NodeKind, kind_of, of_sort, IsClos
 use Rattle.nts_model.specs.Tables.Contents.{Content}
 use Rattle.nts_model.specs.Derivations.Handlers.{kind_of_sort}
 use Rattle.nts_model.specs.Answers.Applying.{IsNew}
-use Rattle.nts_model.proofs.Responses.Applying.{new_knows}
+use Rattle.nts_theory.proofs.Responses.Applying.{new_knows}
 use Rattle.nts_store.specs.Growth.{tree_at}
 use Rattle.nts_terms.specs.declared.cx.Cx.{Cx}
 use Rattle.nts_terms.specs.declared.handles.GenericArg.{GenericArg}

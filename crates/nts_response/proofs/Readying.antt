@@ -12,9 +12,9 @@ use Rattle.nts_model.specs.Terms.Substitutions.{filled}
 use Rattle.nts_model.specs.Derivations.Handlers.{premise_by, NamesFresh}
 use Rattle.nts_model.specs.Searching.Driving.{sort_at}
 use Rattle.nts_model.specs.Answers.Responses.{IsOverPositions}
-use Rattle.nts_model.proofs.Responses.Answering.{AllTrees, AllSides}
-use Rattle.nts_model.proofs.Responses.ChosenClosed.{closed-filled}
-use Rattle.nts_model.proofs.Responses.Applied.{AreKnownFilled, AreKnownSides}
+use Rattle.nts_theory.proofs.Responses.Answering.{AllTrees, AllSides}
+use Rattle.nts_theory.proofs.Responses.ChosenClosed.{closed-filled}
+use Rattle.nts_theory.proofs.Responses.Applied.{AreKnownFilled, AreKnownSides}
 use Rattle.nts_store.specs.declared.nodes.NodeId.{NodeId}
 use Rattle.nts_store.specs.Growth.{tree_at, IsIn, Extends}
 use Rattle.nts_store.specs.Formed.{AreFormed}

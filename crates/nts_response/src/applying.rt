@@ -3,7 +3,7 @@ ghost use Rattle.std.specs.Prelude.{◌≡◌, ◌≢◌, ◌↔◌, ◌+◌, �
 ghost use Rattle.nts_model.specs.Answers.Responses.{RefusesResponse};
 ghost use Rattle.nts_model.specs.Tables.Passing.{BringsOnly};
 ghost use Rattle.nts_model.specs.Terms.Trees.{IsClosed};
-ghost use Rattle.nts_model.proofs.Responses.Applied.{FailsToEqual};
+ghost use Rattle.nts_theory.proofs.Responses.Applied.{FailsToEqual};
 ghost use Rattle.nts_store.specs.Growth.{tree_at, AllIn};
 ghost use Rattle.nts_store.specs.declared.fault.EvalError.TheVariants.{NoSolution};
 ghost use Rattle.nts_terms.specs.Rest.{Grows};

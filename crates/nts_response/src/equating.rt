@@ -4,7 +4,7 @@ ghost use Rattle.nts_model.specs.Terms.Substitutions.{filled};
 ghost use Rattle.nts_model.specs.Tables.Equations.{AreRelated, AreUnrelated};
 ghost use Rattle.nts_model.specs.Answers.Applying.{MakesEqual};
 ghost use Rattle.nts_model.specs.Tables.Passing.{BringsLabelsOf, BringsOnly};
-ghost use Rattle.nts_model.proofs.Responses.Applied.{FailsToEqual};
+ghost use Rattle.nts_theory.proofs.Responses.Applied.{FailsToEqual};
 ghost use Rattle.nts_store.specs.Growth.{tree_at, AllIn};
 ghost use Rattle.nts_store.specs.declared.fault.EvalError.TheVariants.{NoSolution};
 ghost use Rattle.nts_unify.specs.Reading.{content_of};

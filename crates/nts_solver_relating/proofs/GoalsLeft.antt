@@ -16,9 +16,9 @@ use Rattle.nts_model.specs.Tables.Worlds.{World, Solves}
 use Rattle.nts_model.specs.Tables.Holding.{Continues}
 use Rattle.nts_model.specs.Tables.Equations.{AreRelated, AreUnrelated}
 use Rattle.nts_model.specs.Tables.Tying.{TiesNew}
-use Rattle.nts_model.specs.Variances.Leaving.{Judge, judging_of}
+use Rattle.nts_variance_model.specs.Variances.Leaving.{Judge, judging_of}
 use Rattle.nts_model.specs.Derivations.Related.{pair, unbound, directed}
-use Rattle.nts_model.specs.Variances.Relations.{Relating as Pair, AllSettleIn}
+use Rattle.nts_variance_model.specs.Variances.Relations.{Relating as Pair, AllSettleIn}
 use Rattle.nts_model.proofs.Terms.Scoping.{closed_listed}
 use Rattle.nts_model.proofs.Tables.Held.{AreOne-continues, Continues-trans}
 use Rattle.nts_model.proofs.Tables.Kept.{kind_of-resolved}

@@ -9,7 +9,7 @@ use Rattle.nts_model.specs.declared.labels.Label.TheVariants as label
 use Rattle.nts_model.specs.Terms.Trees.{Tree, node, children, row_length, kind_of_label}
 use Rattle.nts_model.specs.Tables.Contents.{Content}
 use Rattle.nts_model.specs.Tables.Resolving.{Knows}
-use Rattle.nts_model.specs.Variances.Relations.{Relating as Pair}
+use Rattle.nts_variance_model.specs.Variances.Relations.{Relating as Pair}
 use Rattle.nts_model.specs.Tables.Equations.{AreRelated, AreUnrelated}
 use Rattle.nts_model.specs.Tables.Passing.{BringsLabelsOf}
 use Rattle.nts_relating.specs.Relating.{IsPlainIn}

@@ -10,7 +10,7 @@ use Rattle.nts_model.specs.Derivations.Rules.{Mode}
 use Rattle.nts_model.specs.Derivations.Handlers.{Candidate, Handler}
 use Rattle.nts_model.specs.Refutation.Choosing.{IsCandidateMet, MeetsEquations}
 use Rattle.nts_model.specs.Answers.Responses.{Response as Answer}
-use Rattle.nts_model.proofs.Refutation.Choosing.{met_when_equated}
+use Rattle.nts_theory.proofs.Refutation.Choosing.{met_when_equated}
 use Rattle.nts_store.specs.declared.nodes.NodeId.{NodeId}
 use Rattle.nts_store.specs.Formed.{AreFormed}
 use Rattle.nts_store.specs.Growth.{tree_at, Extends}

@@ -25,7 +25,7 @@ use Rattle.nts_model.specs.Derivations.Handlers as handlers
 use Rattle.nts_model.specs.Derivations.Handlers.{Handler, meaning, IsLawfulHandler}
 use Rattle.nts_model.proofs.Tables.Slots.{KeepsKinds, Knows-kept}
 use Rattle.nts_model.proofs.Tables.Fitting.{IsClosed-under}
-use Rattle.nts_model.proofs.Refutation.OpenedProofs.{by_entered_candidate}
+use Rattle.nts_theory.proofs.Refutation.OpenedProofs.{by_entered_candidate}
 use Rattle.nts_store.specs.Growth.{tree_at, Extends}
 use Rattle.nts_store.specs.Formed.{AreFormed}
 use Rattle.nts_store.proofs.Growing.{Extends-trans, IsIn-extended}

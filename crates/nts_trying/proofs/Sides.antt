@@ -4,7 +4,7 @@ use Rattle.nts_model.specs.declared.labels.Sort.{Sort}
 use Rattle.nts_model.specs.Terms.Trees.{Tree, IsClosed}
 use Rattle.nts_model.specs.Lists.{Among}
 use Rattle.nts_model.specs.Derivations.Handlers.{AreValuesOf}
-use Rattle.nts_model.proofs.Responses.ChosenClosed.{closed-filled, closed_get}
+use Rattle.nts_theory.proofs.Responses.ChosenClosed.{closed-filled, closed_get}
 use Rattle.nts_store.specs.declared.nodes.NodeId.{NodeId}
 use Rattle.nts_store.specs.Growth.{tree_at}
 use Rattle.nts_terms.specs.declared.handles.Goal.{Goal}

@@ -6,7 +6,7 @@ use Rattle.nts_model.specs.Lists.{Among}
 use Rattle.nts_model.specs.Derivations.Sequents.{inductive}
 use Rattle.nts_model.specs.Derivations.Rules.{Mode, GoalKind, step_kind}
 use Rattle.nts_model.specs.Derivations.Proofs.{Assumed, passed}
-use Rattle.nts_model.proofs.Derivations.Assuming.{Covers, covers_passed}
+use Rattle.nts_theory.proofs.Derivations.Assuming.{Covers, covers_passed}
 use Rattle.nts_certainty.specs.declared.sources.PathKind.{PathKind}
 use Rattle.nts_certainty.specs.declared.sources.PathKind.TheVariants as path
 use Rattle.nts_certainty.specs.declared.sources.GoalSource.TheVariants as source
@@ -26,7 +26,7 @@ use Rattle.nts_model.specs.Tables.Passing.{BringsOnly}
 use Rattle.nts_model.specs.Tables.Resolving.{deeply_resolved}
 use Rattle.nts_model.specs.Derivations.Handlers.{Handler}
 use Rattle.nts_model.proofs.Lists.{among_left, among_right}
-use Rattle.nts_model.proofs.Derivations.ByCandidate.{among_mapped}
+use Rattle.nts_theory.proofs.Derivations.ByCandidate.{among_mapped}
 use Rattle.nts_certainty.specs.declared.certainty.Certainty.{Certainty}
 use Rattle.nts_certainty.specs.declared.certainty.Certainty.TheVariants as certainty
 use Rattle.nts_certainty.specs.declared.sources.GoalSource.{GoalSource}

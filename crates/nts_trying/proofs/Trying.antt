@@ -12,7 +12,7 @@ use Rattle.nts_model.specs.Tables.Equations.{AreRelated, AreUnrelated}
 use Rattle.nts_model.specs.Derivations.Handlers.{kind_of_sort}
 use Rattle.nts_model.specs.Answers.Applying.{IsProperContent, IsNew}
 use Rattle.nts_model.specs.Refutation.Choosing.{left_of, right_of, Freshens, EquatesAll, FailsToEquate, MeetsEquations}
-use Rattle.nts_model.proofs.Refutation.Choosing.{AreOfTable, IsProperContent-with_slot, fresh_known, equations_known, unmet_when_failed}
+use Rattle.nts_theory.proofs.Refutation.Choosing.{AreOfTable, IsProperContent-with_slot, fresh_known, equations_known, unmet_when_failed}
 use Rattle.nts_store.specs.declared.nodes.NodeId.{NodeId}
 use Rattle.nts_store.specs.Growth.{tree_at, trees_at, AllIn, Extends}
 use Rattle.nts_store.specs.Kept.{map-kept}

@@ -6,8 +6,8 @@ use Rattle.nts_model.specs.Terms.Trees.{Tree, empty, more, node, children, row_l
 use Rattle.nts_model.specs.Tables.Contents.{Content}
 use Rattle.nts_model.specs.Tables.Resolving.{IsSound, Knows}
 use Rattle.nts_model.specs.Derivations.Related.{rest_variances}
-use Rattle.nts_model.specs.Variances.Forms.{a_constructor, pairs_over}
-use Rattle.nts_model.specs.Variances.Relations.{Relating as Pair, ArePairsKnown}
+use Rattle.nts_variance_model.specs.Variances.Forms.{a_constructor, pairs_over}
+use Rattle.nts_variance_model.specs.Variances.Relations.{Relating as Pair, ArePairsKnown}
 use Rattle.nts_model.proofs.Tables.Held.{Continues-refl, Continues-trans}
 use Rattle.nts_model.proofs.Tables.Resolved.{Knows-row_at}
 use Rattle.nts_store.specs.declared.nodes.NodeId.{NodeId}

@@ -14,14 +14,14 @@ use Rattle.nts_model.specs.Tables.Resolving.{number_of, IsInfer, Knows, IsSound,
 use Rattle.nts_model.specs.Tables.Worlds.{World, renamed, placed, inst}
 use Rattle.nts_model.specs.Tables.Holding.{Continues}
 use Rattle.nts_model.specs.Derivations.Related.{IsAlias}
-use Rattle.nts_model.specs.Variances.AnsweredGoals.{AllAnswered}
+use Rattle.nts_variance_model.specs.Variances.AnsweredGoals.{AllAnswered}
 use Rattle.nts_model.specs.Tables.Measuring.{closed_aliases}
-use Rattle.nts_model.specs.Variances.Leaving.{judging_of}
+use Rattle.nts_variance_model.specs.Variances.Leaving.{judging_of}
 use Rattle.nts_model.proofs.Tables.Held.{Continues-trans}
 use Rattle.nts_model.proofs.Tables.Slots.{Knows-kept, field_below}
 use Rattle.nts_model.proofs.Tables.Kept.{variable_label}
 use Rattle.nts_model.proofs.Tables.Fitting.{binders-renamed}
-use Rattle.nts_model.proofs.Variances.SettleRows.{settles_closed}
+use Rattle.nts_variance_model.proofs.Variances.SettleRows.{settles_closed}
 use Rattle.nts_store.specs.declared.nodes.NodeId.{NodeId}
 use Rattle.nts_store.specs.Growth.{tree_at, Extends}
 use Rattle.nts_store.specs.TypeFlags.{escaping}

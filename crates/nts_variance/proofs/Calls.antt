@@ -8,11 +8,11 @@ use Rattle.nts_model.specs.Terms.Trees.{Tree, empty, more, node, size, kind_of, 
 use Rattle.nts_model.specs.Tables.Resolving.{IsSound, Knows, deeply_resolved}
 use Rattle.nts_model.specs.Lists.{Among}
 use Rattle.nts_model.specs.Derivations.Related.{rest_variances}
-use Rattle.nts_model.specs.Variances.Relations.{ArePairsKnown}
-use Rattle.nts_model.specs.Variances.Relations.{Relating as Pair}
-use Rattle.nts_model.specs.Variances.Forms.{Form, a_constructor, a_function, a_value, an_alias, over, variances_over, FitsForm, pairs_over}
-use Rattle.nts_model.proofs.Variances.Forms.{deeply_resolved-over, variances_over_length}
-use Rattle.nts_model.proofs.Variances.Meeting.{AreSmaller}
+use Rattle.nts_variance_model.specs.Variances.Relations.{ArePairsKnown}
+use Rattle.nts_variance_model.specs.Variances.Relations.{Relating as Pair}
+use Rattle.nts_variance_model.specs.Variances.Forms.{Form, a_constructor, a_function, a_value, an_alias, over, variances_over, FitsForm, pairs_over}
+use Rattle.nts_variance_model.proofs.Variances.Forms.{deeply_resolved-over, variances_over_length}
+use Rattle.nts_variance_model.proofs.Variances.Meeting.{AreSmaller}
 use Rattle.nts_store.specs.declared.nodes.NodeId.{NodeId}
 use Rattle.nts_store.specs.Growth.{tree_at, Extends}
 use Rattle.nts_store.proofs.Growing.{IsIn-extended, Extends-refl}

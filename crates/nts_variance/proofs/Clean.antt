@@ -20,7 +20,7 @@ use Rattle.nts_model.specs.Tables.Levels.{NamesAll, region_level}
 use Rattle.nts_model.specs.Terms.Fitting.{Fits, is_integer, is_float}
 use Rattle.nts_model.specs.Terms.Regions.{name_of_label}
 use Rattle.nts_model.specs.Derivations.Related.{arguments}
-use Rattle.nts_model.specs.Variances.Forms.{Form, a_constructor, a_function, a_value, an_alias, over}
+use Rattle.nts_variance_model.specs.Variances.Forms.{Form, a_constructor, a_function, a_value, an_alias, over}
 use Rattle.nts_model.specs.Derivations.Proving.{HoldsTerms}
 use Rattle.nts_model.specs.Tables.Solvable.{IsSolvable}
 use Rattle.nts_model.specs.Terms.Substitutions.{leaf_tree}
@@ -31,7 +31,7 @@ use Rattle.nts_model.proofs.Tables.Resolved.{resolved-empty, resolved-more, reso
 use Rattle.nts_model.proofs.Tables.ResolvedTerms.{IsFormed-deeply_resolved, Fits-deeply_resolved}
 use Rattle.nts_variance.specs.Steps.{HasSorts}
 use Rattle.nts_variance.specs.Walking.{IsErased}
-use Rattle.nts_model.proofs.Variances.Forms.{no_places, sort_label}
+use Rattle.nts_variance_model.proofs.Variances.Forms.{no_places, sort_label}
 
 -- leaves that are no regions, and the erased and the error region
 level_none : (l : Label) → name_of_label l ≡ None → region_level l ≡ None

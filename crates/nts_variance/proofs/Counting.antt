@@ -15,7 +15,7 @@ use Rattle.nts_model.specs.Terms.Trees.{Tree, empty, more, node, kind_of, one_so
 use Rattle.nts_model.specs.Tables.Contents.{Content}
 use Rattle.nts_model.specs.Tables.Resolving.{IsInfer, resolved, Knows, IsSound}
 use Rattle.nts_model.specs.Derivations.Related.{times, first_variance, rest_variances, arguments, alias, IsAlias}
-use Rattle.nts_model.specs.Variances.Forms.{Form, a_constructor, a_function, a_value, an_alias, over, FitsForm}
+use Rattle.nts_variance_model.specs.Variances.Forms.{Form, a_constructor, a_function, a_value, an_alias, over, FitsForm}
 use Rattle.nts_model.specs.Tables.Measuring.{is_less, is_bound_below, unless_variable, closed_under, counted, closed_aliases}
 use Rattle.nts_model.proofs.Tables.Resolved.{resolved-empty, resolved-more, resolved-node}
 use Rattle.nts_unify.specs.Changing.{unset_count}
@@ -25,7 +25,7 @@ use Rattle.nts_variance.specs.Walking.{NothingOwed, KnowsSteps, KnowsTrees}
 use Rattle.nts_variance.specs.Counting.{EscapesWith, StaysOpen, AreStepsInvariant, BuildsOpen, HaveNone, aliases_within, IsCounted, IsCountedFor}
 use Rattle.nts_variance.proofs.Clean.{arguments_resolved}
 use Rattle.nts_variance.proofs.Runs.{pushed, popped_row, unpopped_pushed, made_row}
-use Rattle.nts_model.proofs.Variances.Forms.{no_places, sort_label}
+use Rattle.nts_variance_model.proofs.Variances.Forms.{no_places, sort_label}
 
 -- whether a tree is closed, and that it is
 both_true : (a b : Bool) → (a && b) ≡ true → (a ≡ true) × (b ≡ true)

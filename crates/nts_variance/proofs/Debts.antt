@@ -16,9 +16,9 @@ use Rattle.nts_model.specs.Derivations.Related.{rest_variances, arguments, alias
 use Rattle.nts_model.specs.Tables.Solvable.{IsSolvable}
 use Rattle.nts_model.specs.Tables.Contents.{Content}
 use Rattle.nts_model.specs.Tables.Resolving.{IsSound, Knows, deeply_resolved}
-use Rattle.nts_model.specs.Variances.Forms.{Form, a_constructor, a_function, a_value, an_alias, over}
-use Rattle.nts_model.specs.Variances.Judging.{opposite}
-use Rattle.nts_model.specs.Variances.Relations.{Relating as Pair}
+use Rattle.nts_variance_model.specs.Variances.Forms.{Form, a_constructor, a_function, a_value, an_alias, over}
+use Rattle.nts_variance_model.specs.Variances.Judging.{opposite}
+use Rattle.nts_variance_model.specs.Variances.Relations.{Relating as Pair}
 use Rattle.nts_model.specs.Terms.Patching.{IsPatched, patched, in_end, in_row, in_node, in_leaf}
 use Rattle.nts_model.proofs.Tables.Resolved.{deeply_resolved-empty, deeply_resolved-node}
 use Rattle.nts_model.proofs.Tables.ResolvedTerms.{IsClosed-deeply_resolved}

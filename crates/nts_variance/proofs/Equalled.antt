@@ -7,8 +7,8 @@ use Rattle.nts_model.specs.Terms.Trees.{Tree, size, IsFormed}
 use Rattle.nts_model.specs.Tables.Contents.{Content}
 use Rattle.nts_model.specs.Tables.Resolving.{Knows, resolved}
 use Rattle.nts_model.specs.Lists.{Among}
-use Rattle.nts_model.specs.Variances.Relations.{Relating as Pair}
-use Rattle.nts_model.specs.Variances.Forms.{over, variances_over, FitsForm, pairs_over}
+use Rattle.nts_variance_model.specs.Variances.Relations.{Relating as Pair}
+use Rattle.nts_variance_model.specs.Variances.Forms.{over, variances_over, FitsForm, pairs_over}
 use Rattle.nts_model.specs.Tables.Measuring.{closed_aliases}
 use Rattle.nts_store.specs.Growth.{tree_at, Extends}
 use Rattle.nts_store.proofs.Growing.{Extends-refl}

@@ -15,15 +15,15 @@ use Rattle.nts_model.specs.Tables.Resolving.{rooted, deeply_resolved, Knows, IsI
 use Rattle.nts_model.specs.Terms.Fitting.{is_integer, is_float, HasLabel, Fits}
 use Rattle.nts_model.specs.Tables.Worlds.{World, inst, Solves}
 use Rattle.nts_model.specs.Derivations.Related.{times, first_variance, rest_variances}
-use Rattle.nts_model.specs.Variances.Relations.{Relating as Pair}
-use Rattle.nts_model.specs.Variances.Judging.{Judging, IsSettled, Settles, IsLawfulJudging, opposite}
-use Rattle.nts_model.specs.Variances.Forms.{Form, a_constructor, a_function, a_value, an_alias, over, variances_over, pairs_over}
-use Rattle.nts_model.proofs.Variances.Alongside.{along_const, beside_number, times_invariant}
+use Rattle.nts_variance_model.specs.Variances.Relations.{Relating as Pair}
+use Rattle.nts_variance_model.specs.Variances.Judging.{Judging, IsSettled, Settles, IsLawfulJudging, opposite}
+use Rattle.nts_variance_model.specs.Variances.Forms.{Form, a_constructor, a_function, a_value, an_alias, over, variances_over, pairs_over}
+use Rattle.nts_variance_model.proofs.Variances.Alongside.{along_const, beside_number, times_invariant}
 use Rattle.nts_model.proofs.Tables.Fitting.{Fits-inst}
-use Rattle.nts_model.proofs.Variances.Forms.{deeply_resolved-over}
+use Rattle.nts_variance_model.proofs.Variances.Forms.{deeply_resolved-over}
 use Rattle.nts_model.proofs.Tables.Kept.{variable_label}
 use Rattle.nts_model.proofs.Tables.ResolvedTerms.{Fits-deeply_resolved}
-use Rattle.nts_model.proofs.Variances.SettleRows.{settled_along, settled_one, settles_kind, settles_turned}
+use Rattle.nts_variance_model.proofs.Variances.SettleRows.{settled_along, settled_one, settles_kind, settles_turned}
 use Rattle.nts_model.proofs.Terms.Variables.{infer_label}
 use Rattle.nts_store.specs.Growth.{tree_at}
 use Rattle.nts_unify.specs.Entries.{Entries}

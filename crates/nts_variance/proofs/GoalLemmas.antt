@@ -20,15 +20,15 @@ use Rattle.nts_model.specs.Tables.Contents.{Content}
 use Rattle.nts_model.specs.Tables.Resolving.{Knows, IsSound, value_at, rooted, rooted_variable, resolved, deeply_resolved}
 use Rattle.nts_model.specs.Tables.Holding.{Continues}
 use Rattle.nts_model.specs.Derivations.Related.{IsAlias, alias, arguments, pair, no_sorts, unbound, directed, direction_of}
-use Rattle.nts_model.specs.Variances.Relations.{Relating as Pair}
+use Rattle.nts_variance_model.specs.Variances.Relations.{Relating as Pair}
 use Rattle.nts_model.specs.Lists.{Among}
-use Rattle.nts_model.specs.Variances.AnsweredGoals.{IsAnswered}
+use Rattle.nts_variance_model.specs.Variances.AnsweredGoals.{IsAnswered}
 use Rattle.nts_model.proofs.Tables.Resolved.{deeply_resolved-node, deeply_resolved-empty}
 use Rattle.nts_model.proofs.Tables.Fitting.{IsClosed-values}
 use Rattle.nts_model.proofs.Tables.Open.{values_closed_of}
 use Rattle.nts_model.proofs.Tables.Kept.{kind_of-resolved, kind_of-rooted}
 use Rattle.nts_model.proofs.Tables.Slots.{Knows-kept}
-use Rattle.nts_model.proofs.Variances.SettleRows.{alias_or_none}
+use Rattle.nts_variance_model.proofs.Variances.SettleRows.{alias_or_none}
 use Rattle.nts_store.specs.Growth.{tree_at, IsIn, Extends}
 use Rattle.nts_variance.specs.declared.along.Relating.{Relating as Goal}
 use Rattle.nts_variance.specs.Terms.{pair_at, IsGoal}

@@ -9,12 +9,12 @@ use Rattle.nts_model.specs.Tables.Holding.{AreOne, Continues, HoldsConstraint}
 use Rattle.nts_model.specs.Derivations.Related.{Related, one_tree}
 use Rattle.nts_model.specs.Lists.{Among}
 use Rattle.nts_model.specs.Derivations.Proving.{recorded_as}
-use Rattle.nts_model.specs.Variances.Judging.{IsSettled, Settles}
-use Rattle.nts_model.specs.Variances.Relations.{IsSettledWorld}
-use Rattle.nts_model.specs.Variances.Leaving.{Judge, judging_of}
+use Rattle.nts_variance_model.specs.Variances.Judging.{IsSettled, Settles}
+use Rattle.nts_variance_model.specs.Variances.Relations.{IsSettledWorld}
+use Rattle.nts_variance_model.specs.Variances.Leaving.{Judge, judging_of}
 use Rattle.nts_model.proofs.Tables.Held.{AreOne-continues}
 use Rattle.nts_model.proofs.Tables.Slots.{Knows-kept, field_below}
-use Rattle.nts_model.proofs.Variances.Tied.{settled_tied}
+use Rattle.nts_variance_model.proofs.Variances.Tied.{settled_tied}
 use Rattle.nts_unify.specs.Entries.{Entries}
 use Rattle.nts_unify.specs.Reading.{content_of, IsLawful}
 use Rattle.nts_unify.proofs.Changes.{some_inj}

@@ -29,10 +29,10 @@ use Rattle.nts_model.specs.Terms.Regions.{of_free, name_of_label, IsRegion}
 use Rattle.nts_model.specs.Tables.Worlds.{World, renamed, placed, inst, IsValue, IsMet, Solves, KnowsAll}
 use Rattle.nts_model.specs.Tables.Holding.{Continues, IsRecorded, HoldsConstraint}
 use Rattle.nts_model.specs.Derivations.Related.{region_constraint, IsAlias, one_tree, regions}
-use Rattle.nts_model.specs.Variances.Judging.{Judging, IsSettled, Settles, IsLawfulJudging, opposite}
+use Rattle.nts_variance_model.specs.Variances.Judging.{Judging, IsSettled, Settles, IsLawfulJudging, opposite}
 use Rattle.nts_model.specs.Derivations.Proving.{recorded_as}
-use Rattle.nts_model.specs.Variances.Relations.{Relating, ArePairsKnown, IsJudgedBy, IsSettledWorld}
-use Rattle.nts_model.specs.Variances.Leaving.{Judge, judging_of}
+use Rattle.nts_variance_model.specs.Variances.Relations.{Relating, ArePairsKnown, IsJudgedBy, IsSettledWorld}
+use Rattle.nts_variance_model.specs.Variances.Leaving.{Judge, judging_of}
 use Rattle.nts_model.specs.Tables.Solvable.{IsSolvable}
 use Rattle.nts_model.specs.Terms.Substitutions.{leaf_tree}
 use Rattle.nts_model.specs.Tables.Measuring.{closed_aliases}
@@ -46,9 +46,9 @@ use Rattle.nts_model.proofs.Tables.Held.{Continues-refl, Continues-trans, Contin
 use Rattle.nts_model.proofs.Tables.Fitting.{region_label, IsValue-variable, Fits-inst, IsValue-inst}
 use Rattle.nts_model.proofs.Tables.Alike.{IsRegion-deeply_resolved}
 use Rattle.nts_model.proofs.Tables.AliasLabels.{not_alias, region_closed, region_kind}
-use Rattle.nts_model.proofs.Variances.Alongside.{beside_leaf, beside_number}
-use Rattle.nts_model.proofs.Variances.SettleRows.{settled_along, settles_kind, settles_closed, region_beside, regions_settle}
-use Rattle.nts_model.proofs.Variances.Generalizing.{owed, judged_agrees, owed_met, FreshIn, fresh_in}
+use Rattle.nts_variance_model.proofs.Variances.Alongside.{beside_leaf, beside_number}
+use Rattle.nts_variance_model.proofs.Variances.SettleRows.{settled_along, settles_kind, settles_closed, region_beside, regions_settle}
+use Rattle.nts_variance_model.proofs.Variances.Generalizing.{owed, judged_agrees, owed_met, FreshIn, fresh_in}
 use Rattle.nts_unify.specs.Changing.{IsSeen, is_free_region}
 use Rattle.nts_unify.proofs.Keeping.{KeepsKnowing-with_constraint}
 use Rattle.nts_variance.proofs.Clean.{clean_leaf, clean_erased, clean_unset, clean_number}
@@ -59,7 +59,7 @@ use Rattle.nts_variance.specs.Parts.{has_parts}
 use Rattle.nts_variance.specs.Walking.{IsErased, Judges, IsMadeFor, RelatedTrees, RelatedSides, sides, IsMade}
 use Rattle.nts_variance.proofs.Nodes.{answered_sides, settles_sides}
 use Rattle.nts_variance.proofs.Exact.{or_right as either_float}
-use Rattle.nts_model.proofs.Variances.Forms.{no_places as no_children}
+use Rattle.nts_variance_model.proofs.Variances.Forms.{no_places as no_children}
 
 -- labels of instances
 renamed_alias : (w : World) (l : Label) → is_alias (renamed w l) ≡ is_alias l

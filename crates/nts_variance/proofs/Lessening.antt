@@ -15,8 +15,8 @@ use Rattle.nts_model.specs.Terms.Trees.{Tree, empty, more, node, size, binders, 
 use Rattle.nts_model.specs.Tables.Contents.{Content}
 use Rattle.nts_model.specs.Tables.Resolving.{resolved, Knows}
 use Rattle.nts_model.specs.Derivations.Related.{rest_variances, arguments}
-use Rattle.nts_model.specs.Variances.Relations.{Relating as Pair, ArePairsKnown}
-use Rattle.nts_model.specs.Variances.Forms.{Form, a_constructor, a_function, a_value, an_alias, over, FitsForm, pairs_over}
+use Rattle.nts_variance_model.specs.Variances.Relations.{Relating as Pair, ArePairsKnown}
+use Rattle.nts_variance_model.specs.Variances.Forms.{Form, a_constructor, a_function, a_value, an_alias, over, FitsForm, pairs_over}
 use Rattle.nts_model.specs.Tables.Measuring.{is_less, is_bound_below, unless_variable, closed_under, counted, closed_aliases}
 use Rattle.nts_model.proofs.Tables.Kept.{variable_label}
 use Rattle.nts_model.proofs.Tables.Resolved.{resolved-empty, resolved-more, resolved-node}

@@ -22,8 +22,8 @@ use Rattle.nts_model.specs.Derivations.Related.{rest_variances, constructor, fun
 use Rattle.nts_model.specs.Derivations.Related.{arguments as arguments_of}
 use Rattle.nts_model.specs.Lists.{Among}
 use Rattle.nts_model.specs.Derivations.Proving.{recorded_as}
-use Rattle.nts_model.specs.Variances.Judging.{opposite}
-use Rattle.nts_model.specs.Variances.Forms.{a_constructor, a_function, a_value}
+use Rattle.nts_variance_model.specs.Variances.Judging.{opposite}
+use Rattle.nts_variance_model.specs.Variances.Forms.{a_constructor, a_function, a_value}
 use Rattle.nts_model.proofs.Terms.Substituting.{no_children}
 use Rattle.nts_model.proofs.Tables.AliasLabels.{region_tree_of, region_kind}
 use Rattle.nts_model.proofs.Tables.Resolved.{deeply_resolved-empty, deeply_resolved-deeply_resolved}
@@ -34,7 +34,7 @@ use Rattle.nts_model.proofs.Terms.Unpositioned.{known_no_positions, known_well_b
 use Rattle.nts_model.proofs.Tables.Fitting.{region_label}
 use Rattle.nts_model.proofs.Tables.Kept.{kind_of-deeply_resolved}
 use Rattle.nts_model.proofs.Tables.ResolvedTerms.{IsFormed-deeply_resolved}
-use Rattle.nts_model.proofs.Variances.Forms.{deeply_resolved-over}
+use Rattle.nts_variance_model.proofs.Variances.Forms.{deeply_resolved-over}
 use Rattle.nts_relating.proofs.Plain.{plain_rooted}
 use Rattle.nts_relating.specs.Relating.{IsLike}
 use Rattle.nts_relating.proofs.Ranks.{kind_of-like, like_of-kinds}

@@ -24,8 +24,8 @@ use Rattle.nts_model.specs.Tables.Contents.{Content, Slot, kind_at, with_slot, w
 use Rattle.nts_model.specs.Tables.Resolving.{IsInfer, Knows, KnowsVariable, resolved}
 use Rattle.nts_model.specs.Terms.Regions.{IsRegion}
 use Rattle.nts_model.specs.Derivations.Related.{IsAlias}
-use Rattle.nts_model.specs.Variances.Relations.{ArePairsKnown}
-use Rattle.nts_model.specs.Variances.Forms.{FitsForm}
+use Rattle.nts_variance_model.specs.Variances.Relations.{ArePairsKnown}
+use Rattle.nts_variance_model.specs.Variances.Forms.{FitsForm}
 use Rattle.nts_model.proofs.Terms.Variables.{infer_label}
 use Rattle.nts_model.proofs.Tables.Slots.{field_below, field-with_slot_old}
 use Rattle.nts_model.proofs.Terms.Substituting.{no_children}

@@ -17,13 +17,13 @@ use Rattle.nts_model.specs.Tables.Levels.{NamesAll}
 use Rattle.nts_model.specs.Tables.Worlds.{World, inst, Solves}
 use Rattle.nts_model.specs.Tables.Holding.{HoldsConstraint}
 use Rattle.nts_model.specs.Derivations.Related.{Constraint, times, first_variance, rest_variances, alias, arguments, alias_label, Related, AreRelatedByArgument, one_tree, regions, constructors, functions, values, open_aliases, aliases, subtypes, no_more, and_more}
-use Rattle.nts_model.specs.Variances.Judging.{Judging, IsSettled, Settles, AllSettle, IsLawfulJudging, opposite}
-use Rattle.nts_model.specs.Variances.Relations.{Relating, SettlesIn}
-use Rattle.nts_model.specs.Variances.AnsweredGoals.{IsAnswered}
+use Rattle.nts_variance_model.specs.Variances.Judging.{Judging, IsSettled, Settles, AllSettle, IsLawfulJudging, opposite}
+use Rattle.nts_variance_model.specs.Variances.Relations.{Relating, SettlesIn}
+use Rattle.nts_variance_model.specs.Variances.AnsweredGoals.{IsAnswered}
 use Rattle.nts_model.specs.Lists.{Among}
 use Rattle.nts_model.specs.Derivations.Proving.{recorded_as}
-use Rattle.nts_model.specs.Variances.Leaving.{judging_of}
-use Rattle.nts_model.specs.Variances.Forms.{Form, a_constructor, a_function, a_value, an_alias, over, variances_over, FitsForm}
+use Rattle.nts_variance_model.specs.Variances.Leaving.{judging_of}
+use Rattle.nts_variance_model.specs.Variances.Forms.{Form, a_constructor, a_function, a_value, an_alias, over, variances_over, FitsForm}
 use Rattle.nts_model.proofs.Tables.Slots.{KeepsKinds, Knows-kept}
 use Rattle.nts_model.proofs.Tables.Fitting.{IsClosed-under}
 use Rattle.nts_model.proofs.Tables.AliasLabels.{region_closed}
@@ -31,13 +31,13 @@ use Rattle.nts_model.proofs.Tables.Resolved.{resolved-more, resolved-node, rank_
 use Rattle.nts_model.proofs.Tables.Alike.{IsRow-deeply_resolved, row_length-deeply_resolved}
 use Rattle.nts_model.proofs.Tables.Instances.{Agrees-refl}
 use Rattle.nts_model.proofs.Tables.Held.{Continues-refl}
-use Rattle.nts_model.proofs.Variances.Settling.{normalizes_itself}
-use Rattle.nts_model.proofs.Variances.Alongside.{along_empty}
+use Rattle.nts_variance_model.proofs.Variances.Settling.{normalizes_itself}
+use Rattle.nts_variance_model.proofs.Variances.Alongside.{along_empty}
 use Rattle.nts_model.proofs.Terms.Scoping.{closed_listed}
-use Rattle.nts_model.proofs.Variances.AnsweredGoals.{answered_relates}
-use Rattle.nts_model.proofs.Variances.Generalizing.{settle_joined}
-use Rattle.nts_model.proofs.Variances.SettleRows.{settles_turned, empty_forward, more_beside}
-use Rattle.nts_model.proofs.Variances.Forms.{IsRow-inst, row_length-inst, inst-over, FitsForm-inst, deeply_resolved-over, FitsForm-deeply_resolved, variances_over_length, variances_over_inst, variances_over_resolved, Knows-over, KeepsListed-over, related_over, form_beside, head_closed}
+use Rattle.nts_variance_model.proofs.Variances.AnsweredGoals.{answered_relates}
+use Rattle.nts_variance_model.proofs.Variances.Generalizing.{settle_joined}
+use Rattle.nts_variance_model.proofs.Variances.SettleRows.{settles_turned, empty_forward, more_beside}
+use Rattle.nts_variance_model.proofs.Variances.Forms.{IsRow-inst, row_length-inst, inst-over, FitsForm-inst, deeply_resolved-over, FitsForm-deeply_resolved, variances_over_length, variances_over_inst, variances_over_resolved, Knows-over, KeepsListed-over, related_over, form_beside, head_closed}
 use Rattle.nts_variance.proofs.Growing.{grown_refl}
 use Rattle.nts_variance.specs.Steps.{WalkStep, enter, build, owe, steps_of, popped, unpopped, entering, part_place, PartsFit, kinds_left, kind_over, EndsAlone, HasSorts, builds, sizes, StepsLead, ended, entered, built, owed, MadeForRow}
 use Rattle.nts_variance.specs.Walking.{IsMadeFor, MadeIn, NothingOwed, RelatedTrees, RelatedSides, StandsBy, OwedBy, IsChoice, SettlesOwed, sides, step_weights, KnowsSteps, Walks}

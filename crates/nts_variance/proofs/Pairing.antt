@@ -5,8 +5,8 @@ use Rattle.nts_model.specs.Terms.Trees.{Tree, empty, more, row_at, row_length, I
 use Rattle.nts_model.specs.Tables.Contents.{Content}
 use Rattle.nts_model.specs.Tables.Resolving.{Knows}
 use Rattle.nts_model.specs.Derivations.Related.{times, first_variance, rest_variances}
-use Rattle.nts_model.specs.Variances.Forms.{over, pairs_over}
-use Rattle.nts_model.specs.Variances.Relations.{Relating as Pair}
+use Rattle.nts_variance_model.specs.Variances.Forms.{over, pairs_over}
+use Rattle.nts_variance_model.specs.Variances.Relations.{Relating as Pair}
 use Rattle.nts_model.proofs.Tables.Resolved.{Knows-row_at}
 use Rattle.nts_store.specs.declared.nodes.NodeId.{NodeId}
 use Rattle.nts_store.specs.Growth.{tree_at, IsIn}

@@ -6,7 +6,7 @@ use Rattle.nts_model.specs.declared.labels.ListHead.TheVariants as list
 use Rattle.nts_model.specs.declared.labels.Label.{Label}
 use Rattle.nts_model.specs.declared.labels.Label.TheVariants as label
 use Rattle.nts_model.specs.Terms.Trees.{Tree, empty, more, node, kind_of, kind_of_label, arguments as argument_list, sort_list, is, Place, any_argument, a_type, HavePlaces, AllFit, row_length, IsRow, IsFormed}
-use Rattle.nts_model.specs.Variances.Forms.{Form, a_constructor, a_function, a_value, an_alias}
+use Rattle.nts_variance_model.specs.Variances.Forms.{Form, a_constructor, a_function, a_value, an_alias}
 use Rattle.nts_variance.specs.Parts.{has_parts, form_of_tree, parts_of, IsNodeWithParts}
 
 -- a list of arguments, and of sorts

@@ -9,7 +9,7 @@ use Rattle.nts_model.specs.Tables.Resolving.{Knows, resolved}
 use Rattle.nts_model.specs.Tables.Measuring.{closed_aliases}
 use Rattle.nts_model.specs.Tables.Contents.{Content}
 use Rattle.nts_model.specs.Derivations.Related.{IsAlias}
-use Rattle.nts_model.specs.Variances.Relations.{Relating as Pair}
+use Rattle.nts_variance_model.specs.Variances.Relations.{Relating as Pair}
 use Rattle.nts_store.specs.declared.nodes.NodeId.{NodeId}
 use Rattle.nts_store.specs.Growth.{tree_at}
 use Rattle.nts_unify.specs.Entries.{Entries}

@@ -12,18 +12,18 @@ use Rattle.nts_model.specs.Tables.Resolving.{variable_flag, IsInfer, resolved, K
 use Rattle.nts_model.specs.Tables.Levels.{NamesAll, term_level, region_level}
 use Rattle.nts_model.specs.Tables.Worlds.{World, inst, Solves}
 use Rattle.nts_model.specs.Tables.Solvable.{IsSolvable}
-use Rattle.nts_model.specs.Variances.Judging.{IsSettled, Settles}
-use Rattle.nts_model.specs.Variances.Relations.{IsSettledWorld}
-use Rattle.nts_model.specs.Variances.Leaving.{Judge, judging_of}
+use Rattle.nts_variance_model.specs.Variances.Judging.{IsSettled, Settles}
+use Rattle.nts_variance_model.specs.Variances.Relations.{IsSettledWorld}
+use Rattle.nts_variance_model.specs.Variances.Leaving.{Judge, judging_of}
 use Rattle.nts_model.proofs.Tables.Slots.{Knows-kept}
 use Rattle.nts_model.proofs.Terms.Scoping.{listed_patched}
 use Rattle.nts_model.proofs.Tables.Resolved.{no_rank, rank_none, no_flag, flag_le}
 use Rattle.nts_model.proofs.Tables.Instances.{inst-agrees}
 use Rattle.nts_model.proofs.Tables.Fitting.{Fits-inst, IsClosed-inst}
 use Rattle.nts_model.proofs.Tables.Held.{Continues-refl}
-use Rattle.nts_model.proofs.Variances.Alongside.{along_const}
-use Rattle.nts_model.proofs.Variances.SettleRows.{settled_one, settled_along, settles_kind}
-use Rattle.nts_model.proofs.Variances.Tied.{settled_tied}
+use Rattle.nts_variance_model.proofs.Variances.Alongside.{along_const}
+use Rattle.nts_variance_model.proofs.Variances.SettleRows.{settled_one, settled_along, settles_kind}
+use Rattle.nts_variance_model.proofs.Variances.Tied.{settled_tied}
 use Rattle.nts_store.specs.declared.nodes.NodeId.{NodeId}
 use Rattle.nts_store.specs.Growth.{tree_at}
 use Rattle.nts_unify.specs.Entries.{Entries}

@@ -16,18 +16,18 @@ use Rattle.nts_model.specs.Tables.Solvable.{IsSolvable}
 use Rattle.nts_model.specs.Tables.Equations.{AreRelated, AreUnrelated}
 use Rattle.nts_model.specs.Tables.Tying.{TiesNew}
 use Rattle.nts_model.specs.Tables.Alike.{Alike, one_tree, two_regions, one_label, two_rows, AreAlike}
-use Rattle.nts_model.specs.Variances.Judging.{IsSettled, Settles}
-use Rattle.nts_model.specs.Variances.Relations.{Relating, AllSettleIn, IsSettledWorld}
-use Rattle.nts_model.specs.Variances.AnsweredGoals.{AllRelatedUnder}
-use Rattle.nts_model.specs.Variances.Leaving.{Judge, judging_of}
-use Rattle.nts_model.specs.Variances.Forms.{pairs_over}
+use Rattle.nts_variance_model.specs.Variances.Judging.{IsSettled, Settles}
+use Rattle.nts_variance_model.specs.Variances.Relations.{Relating, AllSettleIn, IsSettledWorld}
+use Rattle.nts_variance_model.specs.Variances.AnsweredGoals.{AllRelatedUnder}
+use Rattle.nts_variance_model.specs.Variances.Leaving.{Judge, judging_of}
+use Rattle.nts_variance_model.specs.Variances.Forms.{pairs_over}
 use Rattle.nts_model.proofs.Tables.Alike.{row_length-deeply_resolved}
 use Rattle.nts_model.proofs.Tables.Fitting.{region_label}
 use Rattle.nts_model.proofs.Tables.Open.{Knows-resolved}
 use Rattle.nts_model.proofs.Tables.Resolved.{resolved-more, resolved-node, deeply_resolved-node}
-use Rattle.nts_model.proofs.Variances.SettleRows.{settled_one}
+use Rattle.nts_variance_model.proofs.Variances.SettleRows.{settled_one}
 use Rattle.nts_model.proofs.Tables.Slots.{Knows-kept}
-use Rattle.nts_model.proofs.Variances.Tied.{settled_tied}
+use Rattle.nts_variance_model.proofs.Variances.Tied.{settled_tied}
 use Rattle.nts_model.proofs.Tables.Under.{same_or_other}
 use Rattle.nts_model.proofs.Tables.Worlds.{inst-resolved}
 use Rattle.nts_terms.proofs.Standing.{args_tree}

@@ -13,8 +13,8 @@ use Rattle.nts_model.specs.declared.labels.Label.{Label}
 use Rattle.nts_model.specs.declared.labels.Label.TheVariants as label
 use Rattle.nts_model.specs.Terms.Trees.{Tree, empty, more, node, NodeKind, of_sort, kind_of, row_at, row_length, IsRow, IsClosedUnder, Place, any_argument, a_type, FitsPlace, AllFit, binders}
 use Rattle.nts_model.specs.Derivations.Related.{times, first_variance, rest_variances, function_variances}
-use Rattle.nts_model.specs.Variances.Forms.{Form, a_constructor, a_function, a_value, an_alias, over, variances_over}
-use Rattle.nts_model.specs.Variances.Forms.{FitsForm}
+use Rattle.nts_variance_model.specs.Variances.Forms.{Form, a_constructor, a_function, a_value, an_alias, over, variances_over}
+use Rattle.nts_variance_model.specs.Variances.Forms.{FitsForm}
 use Rattle.nts_model.specs.Tables.Contents.{Content}
 use Rattle.nts_model.specs.Tables.Resolving.{Knows}
 use Rattle.nts_model.proofs.Tables.Resolved.{Knows-row_at}

@@ -17,13 +17,13 @@ use Rattle.nts_model.specs.Tables.Resolving.{Knows, IsInfer}
 use Rattle.nts_model.specs.Terms.Regions.{RegionName, name_of_label, IsRegion}
 use Rattle.nts_model.specs.Tables.Worlds.{World, inst, Solves}
 use Rattle.nts_model.specs.Derivations.Related.{IsAlias}
-use Rattle.nts_model.specs.Variances.Judging.{Judging, Settles, IsLawfulJudging, opposite}
-use Rattle.nts_model.specs.Variances.Leaving.{judging_of}
-use Rattle.nts_model.specs.Variances.Forms.{Form, a_constructor, a_function, a_value, an_alias, over, FitsForm}
+use Rattle.nts_variance_model.specs.Variances.Judging.{Judging, Settles, IsLawfulJudging, opposite}
+use Rattle.nts_variance_model.specs.Variances.Leaving.{judging_of}
+use Rattle.nts_variance_model.specs.Variances.Forms.{Form, a_constructor, a_function, a_value, an_alias, over, FitsForm}
 use Rattle.nts_model.proofs.Tables.AliasLabels.{region_closed, region_kind}
 use Rattle.nts_model.proofs.Tables.Fitting.{region_label, Fits-inst, IsClosed-inst}
-use Rattle.nts_model.proofs.Variances.Leaving.{refuses_over, refuses_forms, refuses_labels}
-use Rattle.nts_model.proofs.Variances.SettleRows.{settles_kind, settles_closed, settles_turned}
+use Rattle.nts_variance_model.proofs.Variances.Leaving.{refuses_over, refuses_forms, refuses_labels}
+use Rattle.nts_variance_model.proofs.Variances.SettleRows.{settles_kind, settles_closed, settles_turned}
 use Rattle.nts_unify.specs.Changing.{is_free_region}
 use Rattle.nts_relating.proofs.Naming.{alone_label}
 use Rattle.nts_relating.proofs.PairLemmas.{not_infer}

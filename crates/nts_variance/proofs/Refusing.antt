@@ -7,7 +7,7 @@ use Rattle.nts_model.specs.Terms.Trees.{Tree, variable_tree}
 use Rattle.nts_model.specs.Tables.Contents.{Content, universe_of, kind_at}
 use Rattle.nts_model.specs.Tables.Levels.{NamesAll, IfNamesAll, term_level}
 use Rattle.nts_model.specs.Tables.Worlds.{inst, IsNameable}
-use Rattle.nts_model.specs.Variances.Leaving.{judging_of}
+use Rattle.nts_variance_model.specs.Variances.Leaving.{judging_of}
 use Rattle.nts_model.proofs.Tables.Slots.{field_below}
 use Rattle.nts_variance.specs.Steps.{enter, entered, ended}
 use Rattle.nts_variance.specs.Walking.{IsChoice, sides}

@@ -3,7 +3,7 @@ use Rattle.std.proofs.Common.{◌≡◌, ℕ, zero, suc, ◌+◌, ◌≤◌, Boo
 use Rattle.nts_model.specs.declared.labels.Variance.{Variance}
 use Rattle.nts_model.specs.Terms.Trees.{Tree, empty, more, node, IsRow, row_length}
 use Rattle.nts_model.specs.Derivations.Related.{times, first_variance, rest_variances}
-use Rattle.nts_model.specs.Variances.Forms.{Form, over}
+use Rattle.nts_variance_model.specs.Variances.Forms.{Form, over}
 use Rattle.nts_variance.specs.Steps.{WalkStep, enter, build, owe, stacked, popped, unpopped, entering, StepsLead, ended, entered, built, owed, MadeForRow}
 
 -- the newest stands first

@@ -18,20 +18,20 @@ use Rattle.nts_model.specs.Tables.Tying.{TiesNew}
 use Rattle.nts_model.specs.Derivations.Related.{Related, one_tree}
 use Rattle.nts_model.specs.Lists.{Among}
 use Rattle.nts_model.specs.Derivations.Proving.{recorded_as}
-use Rattle.nts_model.specs.Variances.Judging.{IsSettled, Settles, opposite}
-use Rattle.nts_model.specs.Variances.Relations.{Relating, AllSettleIn, IsSettledWorld}
-use Rattle.nts_model.specs.Variances.AnsweredGoals.{AllRelatedUnder}
-use Rattle.nts_model.specs.Variances.Leaving.{Judge, judging_of}
-use Rattle.nts_model.specs.Variances.Forms.{Form, over, variances_over, FitsForm, pairs_over}
+use Rattle.nts_variance_model.specs.Variances.Judging.{IsSettled, Settles, opposite}
+use Rattle.nts_variance_model.specs.Variances.Relations.{Relating, AllSettleIn, IsSettledWorld}
+use Rattle.nts_variance_model.specs.Variances.AnsweredGoals.{AllRelatedUnder}
+use Rattle.nts_variance_model.specs.Variances.Leaving.{Judge, judging_of}
+use Rattle.nts_variance_model.specs.Variances.Forms.{Form, over, variances_over, FitsForm, pairs_over}
 use Rattle.nts_model.proofs.Tables.Alike.{AreAlike-turned}
 use Rattle.nts_model.proofs.Tables.AliasLabels.{region_closed}
 use Rattle.nts_model.proofs.Tables.Fitting.{Fits-inst}
-use Rattle.nts_model.proofs.Variances.Generalizing.{owed}
+use Rattle.nts_variance_model.proofs.Variances.Generalizing.{owed}
 use Rattle.nts_model.proofs.Tables.Held.{AreOne-continues, Continues-refl, Continues-trans, Continues-with_constraint}
-use Rattle.nts_model.proofs.Variances.Leaving.{leaves_over, leaves_regions, relates_over}
-use Rattle.nts_model.proofs.Variances.SettleRows.{settled_one}
+use Rattle.nts_variance_model.proofs.Variances.Leaving.{leaves_over, leaves_regions, relates_over}
+use Rattle.nts_variance_model.proofs.Variances.SettleRows.{settled_one}
 use Rattle.nts_model.proofs.Tables.Slots.{Knows-kept}
-use Rattle.nts_model.proofs.Variances.Tied.{settled_tied}
+use Rattle.nts_variance_model.proofs.Variances.Tied.{settled_tied}
 use Rattle.nts_store.specs.declared.nodes.NodeId.{NodeId}
 use Rattle.nts_store.specs.Growth.{tree_at}
 use Rattle.nts_unify.specs.Entries.{Entries}

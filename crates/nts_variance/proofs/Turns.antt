@@ -10,13 +10,13 @@ use Rattle.nts_model.specs.Tables.Contents.{Content}
 use Rattle.nts_model.specs.Tables.Resolving.{IsSound}
 use Rattle.nts_model.specs.Tables.Levels.{NamesAll, term_level}
 use Rattle.nts_model.specs.Tables.Worlds.{World, inst, Agrees}
-use Rattle.nts_model.specs.Variances.Judging.{Judging}
-use Rattle.nts_model.specs.Variances.Relations.{Relating, ArePairsKnown, SettledExtension}
-use Rattle.nts_model.specs.Variances.AnsweredGoals.{AllAnswered}
-use Rattle.nts_model.specs.Variances.Leaving.{Judge, judging_of}
+use Rattle.nts_variance_model.specs.Variances.Judging.{Judging}
+use Rattle.nts_variance_model.specs.Variances.Relations.{Relating, ArePairsKnown, SettledExtension}
+use Rattle.nts_variance_model.specs.Variances.AnsweredGoals.{AllAnswered}
+use Rattle.nts_variance_model.specs.Variances.Leaving.{Judge, judging_of}
 use Rattle.nts_model.proofs.Tables.Instances.{Agrees-refl, Agrees-trans, inst-agrees}
 use Rattle.nts_model.proofs.Tables.Held.{Continues-refl, Continues-trans}
-use Rattle.nts_model.proofs.Variances.Generalizing.{judged_agrees, settle_agrees, settle_joined}
+use Rattle.nts_variance_model.proofs.Variances.Generalizing.{judged_agrees, settle_agrees, settle_joined}
 use Rattle.nts_variance.proofs.Growing.{grown_refl, grown_trans}
 use Rattle.nts_variance.specs.Steps.{WalkStep, enter, build, owe, step_of, steps_of, entered}
 use Rattle.nts_variance.specs.Walking.{Judges, IsChoice, SettlesOwed, KnowsStep, KnowsSteps, KnowsTrees, Walks, IsMade}

@@ -7,13 +7,13 @@ use Rattle.nts_model.specs.Tables.Resolving.{IsSound}
 use Rattle.nts_model.specs.Tables.Worlds.{World}
 use Rattle.nts_model.specs.Tables.Holding.{Continues}
 use Rattle.nts_model.specs.Lists.{Among}
-use Rattle.nts_model.specs.Variances.Relations.{Relating, AllSettleIn, ArePairsKnown}
-use Rattle.nts_model.specs.Variances.AnsweredGoals.{AllRelatedUnder}
-use Rattle.nts_model.specs.Variances.Leaving.{Judge, judging_of}
-use Rattle.nts_model.proofs.Variances.Generalizing.{settle_joined, settle_parted}
+use Rattle.nts_variance_model.specs.Variances.Relations.{Relating, AllSettleIn, ArePairsKnown}
+use Rattle.nts_variance_model.specs.Variances.AnsweredGoals.{AllRelatedUnder}
+use Rattle.nts_variance_model.specs.Variances.Leaving.{Judge, judging_of}
+use Rattle.nts_variance_model.proofs.Variances.Generalizing.{settle_joined, settle_parted}
 use Rattle.nts_model.proofs.Tables.Held.{Continues-refl, Continues-trans}
-use Rattle.nts_model.proofs.Variances.Leaving.{leaves_goal}
-use Rattle.nts_model.proofs.Variances.Meeting.{All, AllBelow, AreSmaller, AreMet, met_taken, met_again, met_passed}
+use Rattle.nts_variance_model.proofs.Variances.Leaving.{leaves_goal}
+use Rattle.nts_variance_model.proofs.Variances.Meeting.{All, AllBelow, AreSmaller, AreMet, met_taken, met_again, met_passed}
 use Rattle.nts_variance.specs.Pairs.{Leaves, Refuses}
 use Rattle.nts_variance.specs.Taking.{Takes, Sense, HoldsIn, AllHoldIn, size_in, HoldBelow, Counts, IsUnderway}
 use Rattle.nts_variance.proofs.Growing.{grown_refl, grown_trans}

@@ -11,16 +11,16 @@ use Rattle.nts_model.specs.Tables.Resolving.{IsInfer, Knows, resolved}
 use Rattle.nts_model.specs.Tables.Levels.{NamesAll, term_level, region_level}
 use Rattle.nts_model.specs.Tables.Worlds.{inst}
 use Rattle.nts_model.specs.Derivations.Related.{rest_variances}
-use Rattle.nts_model.specs.Variances.Forms.{Form, over, variances_over}
-use Rattle.nts_model.specs.Variances.Judging.{Settles}
+use Rattle.nts_variance_model.specs.Variances.Forms.{Form, over, variances_over}
+use Rattle.nts_variance_model.specs.Variances.Judging.{Settles}
 use Rattle.nts_model.specs.Tables.Measuring.{closed_aliases}
-use Rattle.nts_model.specs.Variances.Relations.{ArePairsKnown}
-use Rattle.nts_model.specs.Variances.Relations.{Relating as Pair}
-use Rattle.nts_model.specs.Variances.Leaving.{judging_of}
+use Rattle.nts_variance_model.specs.Variances.Relations.{ArePairsKnown}
+use Rattle.nts_variance_model.specs.Variances.Relations.{Relating as Pair}
+use Rattle.nts_variance_model.specs.Variances.Leaving.{judging_of}
 use Rattle.nts_model.proofs.Tables.Resolved.{resolved-empty, resolved-more}
 use Rattle.nts_model.proofs.Tables.Held.{Continues-refl}
-use Rattle.nts_model.proofs.Variances.Alongside.{along_size}
-use Rattle.nts_model.proofs.Variances.SettleRows.{settled_along}
+use Rattle.nts_variance_model.proofs.Variances.Alongside.{along_size}
+use Rattle.nts_variance_model.proofs.Variances.SettleRows.{settled_along}
 use Rattle.nts_store.specs.declared.nodes.NodeId.{NodeId}
 use Rattle.nts_store.specs.Growth.{tree_at, trees_at, IsIn, AllIn, Extends}
 use Rattle.nts_store.proofs.Growing.{IsIn-extended, Extends-refl, Extends-trans, row_length-trees_at, IsRow-trees_at}

@@ -7,7 +7,7 @@ use Rattle.nts_model.specs.Terms.Trees.{Tree, empty}
 use Rattle.nts_model.specs.Tables.Contents.{Content}
 use Rattle.nts_model.specs.Tables.Resolving.{resolved}
 use Rattle.nts_model.specs.Derivations.Related.{alias}
-use Rattle.nts_model.specs.Variances.Forms.{Form, an_alias, over}
+use Rattle.nts_variance_model.specs.Variances.Forms.{Form, an_alias, over}
 use Rattle.nts_model.specs.Tables.Measuring.{closed_under, closed_aliases}
 use Rattle.nts_unify.specs.Changing.{unset_count}
 use Rattle.nts_variance.specs.Steps.{WalkStep, enter, build, owe, popped, unpopped}

@@ -1,7 +1,7 @@
 -- What the walk that makes a term keeps, so that each goal which it hands out is one.
 use Rattle.std.specs.Prelude.{◌≡◌, ℕ, List, [], ◌∷◌}
 use Rattle.nts_model.specs.Terms.Trees.{Tree, empty, kind_of, IsClosedUnder}
-use Rattle.nts_model.specs.Variances.Forms.{over}
+use Rattle.nts_variance_model.specs.Variances.Forms.{over}
 use Rattle.nts_variance.specs.Steps.{WalkStep, enter, build, owe, popped, unpopped}
 use Rattle.nts_variance.specs.Terms.{IsGoal}
 

@@ -8,7 +8,7 @@ use Rattle.nts_model.specs.Terms.Fitting.{is_integer, is_float, HasLabel}
 use Rattle.nts_model.specs.Tables.Contents.{Content}
 use Rattle.nts_model.specs.Tables.Resolving.{IsInfer, resolved, deeply_resolved}
 use Rattle.nts_model.specs.Tables.Worlds.{World, inst, Solves}
-use Rattle.nts_model.specs.Variances.Relations.{Relating as Pair}
+use Rattle.nts_variance_model.specs.Variances.Relations.{Relating as Pair}
 use Rattle.nts_model.specs.Tables.Measuring.{closed_aliases}
 use Rattle.nts_store.specs.declared.nodes.NodeId.{NodeId}
 use Rattle.nts_store.specs.Growth.{tree_at}

@@ -6,7 +6,7 @@ use Rattle.nts_model.specs.declared.labels.PredicateHead.{PredicateHead}
 use Rattle.nts_model.specs.declared.labels.PredicateHead.TheVariants as predicate
 use Rattle.nts_model.specs.Terms.Trees.{Tree, node, is_alias}
 use Rattle.nts_model.specs.Derivations.Related.{direction_of, directed}
-use Rattle.nts_model.specs.Variances.Relations.{Relating as Pair}
+use Rattle.nts_variance_model.specs.Variances.Relations.{Relating as Pair}
 use Rattle.nts_variance.specs.declared.along.Relating.{Relating}
 
 abbrev pub is_alias_node : Tree → Bool

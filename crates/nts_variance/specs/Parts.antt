@@ -12,7 +12,7 @@ use Rattle.nts_model.specs.declared.labels.Label.{Label}
 use Rattle.nts_model.specs.declared.labels.Label.TheVariants as label
 use Rattle.nts_model.specs.Terms.Trees.{Tree, empty, node, children, of_sort, kind_of, any_label, is_infer, is_alias, row_at, IsRow}
 use Rattle.nts_model.specs.Derivations.Related.{rest_variances}
-use Rattle.nts_model.specs.Variances.Forms.{Form, a_constructor, a_function, a_value, an_alias, over}
+use Rattle.nts_variance_model.specs.Variances.Forms.{Form, a_constructor, a_function, a_value, an_alias, over}
 use Rattle.nts_store.specs.TypeFlags.{varies}
 use Rattle.nts_terms.specs.Signatures.{variance_or_invariant}
 

@@ -5,8 +5,8 @@ use Rattle.nts_model.specs.declared.labels.Variance.TheVariants as variance
 use Rattle.nts_model.specs.Terms.Trees.{Tree, children, row_length, kind_of, arguments}
 use Rattle.nts_model.specs.Tables.Contents.{Content}
 use Rattle.nts_model.specs.Tables.Resolving.{Knows}
-use Rattle.nts_model.specs.Variances.Forms.{pairs_over}
-use Rattle.nts_model.specs.Variances.Relations.{Relating as Pair}
+use Rattle.nts_variance_model.specs.Variances.Forms.{pairs_over}
+use Rattle.nts_variance_model.specs.Variances.Relations.{Relating as Pair}
 use Rattle.nts_store.specs.declared.nodes.NodeId.{NodeId}
 use Rattle.nts_store.specs.Growth.{tree_at, IsIn}
 use Rattle.nts_unify.specs.Entries.{Entries}

@@ -6,7 +6,7 @@ use Rattle.nts_model.specs.declared.labels.ListHead.TheVariants as list
 use Rattle.nts_model.specs.declared.labels.Label.TheVariants as label
 use Rattle.nts_model.specs.Terms.Trees.{Tree, empty, more, node, size, NodeKind, of_sort, kind_of, sort_of_alias, Place, any_argument, a_type, FitsPlace, IsFormed}
 use Rattle.nts_model.specs.Derivations.Related.{times, first_variance, rest_variances}
-use Rattle.nts_model.specs.Variances.Forms.{Form, a_constructor, a_function, a_value, an_alias, over}
+use Rattle.nts_variance_model.specs.Variances.Forms.{Form, a_constructor, a_function, a_value, an_alias, over}
 
 -- a part is entered, which varies so, and quietly where a goal around it says all that it owes; a node is built over so many
 -- parts that were made last; what was made last owes a goal to a part

@@ -12,10 +12,10 @@ use Rattle.nts_model.specs.Tables.Resolving.{Knows, IsSound, resolved, deeply_re
 use Rattle.nts_model.specs.Derivations.Related.{IsAlias}
 use Rattle.nts_model.specs.Tables.Measuring.{closed_aliases}
 use Rattle.nts_model.specs.Tables.Holding.{Continues}
-use Rattle.nts_model.specs.Variances.Relations.{Relating as Pair}
-use Rattle.nts_model.specs.Variances.AnsweredGoals.{AllAnswered, RelatedUnder, AllRelatedUnder, RelatesBy}
+use Rattle.nts_variance_model.specs.Variances.Relations.{Relating as Pair}
+use Rattle.nts_variance_model.specs.Variances.AnsweredGoals.{AllAnswered, RelatedUnder, AllRelatedUnder, RelatesBy}
 use Rattle.nts_model.specs.Lists.{Among}
-use Rattle.nts_model.specs.Variances.Forms.{variances_over, pairs_over}
+use Rattle.nts_variance_model.specs.Variances.Forms.{variances_over, pairs_over}
 use Rattle.nts_store.specs.declared.nodes.NodeId.{NodeId}
 use Rattle.nts_store.specs.Growth.{tree_at, IsIn}
 use Rattle.nts_unify.specs.Entries.{Entries}

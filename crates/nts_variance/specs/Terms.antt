@@ -8,7 +8,7 @@ use Rattle.nts_model.specs.Tables.Contents.{Content}
 use Rattle.nts_model.specs.Tables.Resolving.{Knows, resolved}
 use Rattle.nts_model.specs.Tables.Levels.{NamesAll, region_level}
 use Rattle.nts_model.specs.Derivations.Related.{IsAlias}
-use Rattle.nts_model.specs.Variances.Relations.{Relating as Pair}
+use Rattle.nts_variance_model.specs.Variances.Relations.{Relating as Pair}
 use Rattle.nts_store.specs.declared.nodes.NodeId.{NodeId}
 use Rattle.nts_store.specs.Growth.{tree_at, IsIn}
 use Rattle.nts_variance.specs.declared.along.Relating.{Relating}
@@ -17,7 +17,7 @@ use Rattle.nts_variance.specs.declared.vary_walk.Task.{Task}
 use Rattle.nts_variance.specs.declared.vary_walk.Task.TheVariants as task
 use Rattle.nts_variance.specs.Steps.{WalkStep, enter, build, owe, HasSorts}
 use Rattle.nts_variance.specs.Parts.{form_of_tree, parts_of}
-use Rattle.nts_model.specs.Variances.Forms.{over}
+use Rattle.nts_variance_model.specs.Variances.Forms.{over}
 
 abbrev pub pair_at : List Tree → Relating → Pair
 pair_at ts p = record { variance = p.variance; left = tree_at ts p.left; right = tree_at ts p.right }

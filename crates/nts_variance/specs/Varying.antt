@@ -13,11 +13,11 @@ use Rattle.nts_model.specs.Tables.Contents.{Content, state_of, universe_of, kind
 use Rattle.nts_model.specs.Tables.Resolving.{IsInfer, Knows, resolved}
 use Rattle.nts_model.specs.Tables.Levels.{NamesAll, term_level, region_level}
 use Rattle.nts_model.specs.Tables.Worlds.{World, inst, Solves}
-use Rattle.nts_model.specs.Variances.Forms.{FitsForm, over, variances_over}
-use Rattle.nts_model.specs.Variances.Relations.{AllSettleIn, IsSettledWorld}
-use Rattle.nts_model.specs.Variances.Relations.{Relating as Pair}
-use Rattle.nts_model.specs.Variances.Judging.{opposite}
-use Rattle.nts_model.specs.Variances.Leaving.{Judge, judging_of}
+use Rattle.nts_variance_model.specs.Variances.Forms.{FitsForm, over, variances_over}
+use Rattle.nts_variance_model.specs.Variances.Relations.{AllSettleIn, IsSettledWorld}
+use Rattle.nts_variance_model.specs.Variances.Relations.{Relating as Pair}
+use Rattle.nts_variance_model.specs.Variances.Judging.{opposite}
+use Rattle.nts_variance_model.specs.Variances.Leaving.{Judge, judging_of}
 use Rattle.nts_model.specs.Tables.Measuring.{closed_aliases}
 use Rattle.nts_store.specs.declared.nodes.NodeId.{NodeId}
 use Rattle.nts_store.specs.Growth.{tree_at, IsIn}

@@ -16,11 +16,11 @@ use Rattle.nts_model.specs.Tables.Holding.{Continues, HoldsConstraint}
 use Rattle.nts_model.specs.Derivations.Related.{Related, IsAlias, region_constraint}
 use Rattle.nts_model.specs.Lists.{Among}
 use Rattle.nts_model.specs.Derivations.Proving.{recorded_as}
-use Rattle.nts_model.specs.Variances.Judging.{Judging, IsSettled, Settles, opposite}
+use Rattle.nts_variance_model.specs.Variances.Judging.{Judging, IsSettled, Settles, opposite}
 use Rattle.nts_model.specs.Terms.Substitutions.{leaf_tree}
-use Rattle.nts_model.specs.Variances.Relations.{Relating, AllSettleIn, ArePairsKnown, IsJudgedBy, IsSettledWorld, SettledExtension, StandsIn}
-use Rattle.nts_model.specs.Variances.AnsweredGoals.{AllAnswered}
-use Rattle.nts_model.specs.Variances.Leaving.{Judge, judging_of}
+use Rattle.nts_variance_model.specs.Variances.Relations.{Relating, AllSettleIn, ArePairsKnown, IsJudgedBy, IsSettledWorld, SettledExtension, StandsIn}
+use Rattle.nts_variance_model.specs.Variances.AnsweredGoals.{AllAnswered}
+use Rattle.nts_variance_model.specs.Variances.Leaving.{Judge, judging_of}
 use Rattle.nts_unify.specs.Changing.{AddsVisible}
 use Rattle.nts_variance.specs.SubRoots.{GrowsSubRoots}
 use Rattle.nts_variance.specs.Steps.{WalkStep, enter, build, owe, steps_of, StepsLead}

@@ -1,7 +1,7 @@
 //! Variances of pairs.
 ghost use Rattle.std.specs.Prelude.{◌≡◌};
 ghost use Rattle.nts_model.specs.Derivations.Related.{times as times_of};
-ghost use Rattle.nts_model.specs.Variances.Judging.{opposite as opposite_of};
+ghost use Rattle.nts_variance_model.specs.Variances.Judging.{opposite as opposite_of};
 
 use nts_model::Variance;
 

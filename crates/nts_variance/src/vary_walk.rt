@@ -8,7 +8,7 @@ ghost use Rattle.nts_model.specs.Tables.Resolving.{IsInfer, resolved};
 ghost use Rattle.nts_model.specs.declared.labels.Variance.TheVariants as variances;
 ghost use Rattle.nts_store.specs.TypeFlags.{flags_of};
 ghost use Rattle.nts_model.specs.Tables.Contents.{kind_at};
-ghost use Rattle.nts_model.specs.Variances.Forms.{over};
+ghost use Rattle.nts_variance_model.specs.Variances.Forms.{over};
 ghost use Rattle.nts_store.specs.Growth.{tree_at, trees_at, IsIn, AllIn, Extends};
 ghost use Rattle.nts_terms.specs.Signatures.{variances_in};
 ghost use Rattle.nts_unify.specs.Entries.{KeepsHidden, added, constrained};

@@ -2,7 +2,7 @@ use Rattle.std.proofs.Common.{◌≡◌, Err, rules, subst}
 use Rattle.nts_model.specs.Derivations.Handlers.{meaning}
 use Rattle.nts_model.specs.Answers.Responses.{answer_sequent}
 use Rattle.nts_model.specs.Searching.Stacks.{IsDerivedFrom}
-use Rattle.nts_model.proofs.Derivations.Rooted.{derived_proof}
+use Rattle.nts_theory.proofs.Derivations.Rooted.{derived_proof}
 use Rattle.nts_store.specs.declared.fault.EvalError.TheVariants as EvalError
 use Rattle.nts_terms.specs.Modes.{mode_of}
 use Rattle.nts_terms.specs.Signatures.{variances_in}

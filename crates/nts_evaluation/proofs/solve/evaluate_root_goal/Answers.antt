@@ -1,5 +1,5 @@
 use Rattle.nts_asking.proofs.Running.{Stays-now}
-use Rattle.nts_model.proofs.Derivations.Rooted.{proved_held, proof_falls}
+use Rattle.nts_theory.proofs.Derivations.Rooted.{proved_held, proof_falls}
 use Rattle.nts_asking.proofs.Evaluating.{IsPosed-admitted, Since-now, each_of}
 use Rattle.nts_evaluation.proofs.solve.evaluate_root_goal.Goals as goal
 

@@ -1,5 +1,5 @@
 use Rattle.std.proofs.Common.{◌≡◌, rules, Err, map, ap, subst, ◌∙◌}
-use Rattle.nts_model.proofs.Responses.Applied.{FailsToEqual}
+use Rattle.nts_theory.proofs.Responses.Applied.{FailsToEqual}
 use Rattle.nts_store.specs.declared.fault.EvalError.TheVariants.{NoSolution}
 use Rattle.nts_unify.specs.Reading.{content_of}
 use Rattle.nts_unify.specs.Recording.{is_visible}

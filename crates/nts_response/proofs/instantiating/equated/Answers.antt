@@ -1,7 +1,7 @@
 use Rattle.std.proofs.Common.{◌≡◌, Err, map, rules, ap, sym, subst, ◌∙◌}
 use Rattle.std.specs.Prelude.{All}
 use Rattle.nts_model.specs.Answers.Applying.{MakesEqual}
-use Rattle.nts_model.proofs.Responses.Applied.{FailsToEqual}
+use Rattle.nts_theory.proofs.Responses.Applied.{FailsToEqual}
 use Rattle.nts_store.specs.declared.fault.EvalError.TheVariants.{NoSolution}
 use Rattle.nts_store.specs.Growth.{tree_at, AllIn}
 use Rattle.nts_terms.specs.Handles.{HoldsArg}

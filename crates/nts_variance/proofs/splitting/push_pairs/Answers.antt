@@ -1,7 +1,7 @@
 use Rattle.std.proofs.Common.{◌≡◌, ◌+◌, ◌-◌, ◌<◌, sym, ap, ◌∙◌, arith}
 use Rattle.nts_model.specs.Terms.Trees.{row_length, row_at, children}
 use Rattle.nts_model.specs.Derivations.Related.{times, first_variance}
-use Rattle.nts_model.specs.Variances.Forms.{variances_over}
+use Rattle.nts_variance_model.specs.Variances.Forms.{variances_over}
 use Rattle.nts_store.specs.Growth.{tree_at}
 use Rattle.nts_terms.specs.Signatures.{variances_in}
 use Rattle.nts_variance.specs.Steps.{stacked}

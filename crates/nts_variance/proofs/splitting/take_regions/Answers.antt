@@ -2,7 +2,7 @@ use Rattle.std.proofs.Common.{◌≡◌, true, false, sym, ap, ◌∙◌}
 use Rattle.nts_model.specs.declared.labels.Relation.TheVariants as relation
 use Rattle.nts_model.specs.Tables.Contents.{with_constraint}
 use Rattle.nts_model.proofs.Tables.AliasLabels.{region_closed}
-use Rattle.nts_model.proofs.Variances.Generalizing.{owed}
+use Rattle.nts_variance_model.proofs.Variances.Generalizing.{owed}
 use Rattle.nts_store.specs.Growth.{tree_at}
 use Rattle.nts_unify.specs.Lawful.{IsLawful-constrained, content_of-constrained}
 use Rattle.nts_unify.specs.Reading.{content_of, IsConstraint}

@@ -43,7 +43,7 @@ use Rattle.nts_trying.proofs.Outcomes.{found_earlier, founds_more, founds_with, 
 use Rattle.nts_trying.proofs.Ran.{breaks, added_is, added_only, ran_to, ran_refused, all_proved, all_posed, proved_all, ok_inside}
 use Rattle.nts_model.specs.Derivations.Rules.{goal_kind}
 use Rattle.nts_model.specs.Derivations.Proofs.{passed}
-use Rattle.nts_model.proofs.Derivations.Assuming.{covers_passed}
+use Rattle.nts_theory.proofs.Derivations.Assuming.{covers_passed}
 use Rattle.nts_search.specs.Kinds.{goal_kind_of}
 use Rattle.nts_search.specs.Searching.{entry_at, entries_at}
 use Rattle.nts_search.proofs.Stacked.{entries_pushed, entries_popped}

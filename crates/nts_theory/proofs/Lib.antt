@@ -1,0 +1,8 @@
+pub mod Derivations
+pub mod Responses
+pub mod Searching
+pub mod Refutation
+pub mod Aliases
+pub mod Decisions
+pub mod Erased
+pub mod Examples

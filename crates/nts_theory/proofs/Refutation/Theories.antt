@@ -1,0 +1,701 @@
+-- What follows by rules is kept by renaming; so the renamings of proved goals are a theory.
+use Rattle.std.proofs.lemmas.Bool.{cases_lt}
+use Rattle.std.proofs.Common.{◌≡◌, inl, inr, ℕ, zero, suc, ◌+◌, ◌≤◌, Bool, true, false, max, List, [], ◌∷◌, map, Option, Some, None, refl, sym, ap, subst, ◌∙◌, arith}
+use Rattle.std.specs.Prelude.{◌⊎◌, ◌<◌, ◌==◌, if◌then◌else◌}
+use Rattle.std.proofs.Math.Nat.{le-max_left, le-max_right}
+use Rattle.nts_model.specs.declared.labels.Sort.{Sort}
+use Rattle.nts_model.specs.declared.labels.Sort.TheVariants as sort
+use Rattle.nts_model.specs.declared.labels.Relation.{Relation}
+use Rattle.nts_model.specs.declared.labels.Relation.TheVariants as relation
+use Rattle.nts_model.specs.declared.labels.FreeRegion.{FreeRegion}
+use Rattle.nts_model.specs.declared.labels.FreeRegion.TheVariants as region
+use Rattle.nts_model.specs.declared.labels.Leaf.{Leaf}
+use Rattle.nts_model.specs.declared.labels.Leaf.TheVariants as leaf
+use Rattle.nts_model.specs.declared.labels.BoundVarIndexKind.TheVariants as index
+use Rattle.nts_model.specs.declared.labels.Label.{Label}
+use Rattle.nts_model.specs.declared.labels.Label.TheVariants as label
+use Rattle.nts_model.specs.Terms.Trees.{Tree, empty, more, node, binders, sort_of_leaf, is_placeholder, IsClosed, IsFormed}
+use Rattle.nts_model.specs.Terms.Placeholders.{CanName, leaf_level_of, leaf_level}
+use Rattle.nts_model.specs.Tables.Levels.{NamesAll}
+use Rattle.nts_model.specs.Tables.Passing.{AllLabels}
+use Rattle.nts_model.specs.Terms.Substitutions.{leaf_tree, put, Occurs, StaysItself, leaf_sort, Renaming, rename}
+use Rattle.nts_model.specs.Derivations.Related.{pair, unbound}
+use Rattle.nts_model.specs.Lists.{Among}
+use Rattle.nts_model.specs.Derivations.Rules.{coherence, Equation, related, alike, opened, opened_at, AreFresh, IsHandlers}
+use Rattle.nts_model.specs.Canonical.Numbered.{seen, AreDistinct}
+use Rattle.nts_model.specs.Refutation.Opening.{placeholder_in}
+use Rattle.nts_model.specs.Refutation.Choosing.{left_of, right_of}
+use Rattle.nts_model.specs.Derivations.Handlers.{Handler, equation_by, constraint_by, premise_by, application_under, InstancesAreRules}
+use Rattle.nts_model.specs.Refutation.Containing.{Truth, IsTrueBy, IsGroundLabel}
+use Rattle.nts_theory.specs.Refutation.Refutation.{IsCarrying, IsFair, UsesClause, UsesNamed, binding, AreUsed, IsTheory}
+use Rattle.nts_model.proofs.Terms.Substituting.{replace-equal, replace-leaf}
+use Rattle.nts_model.proofs.Terms.Composing.{IsFormed-instance, IsClosed-instance}
+use Rattle.nts_model.proofs.Tables.Solving.{NamesAll-more}
+use Rattle.nts_model.proofs.Canonical.Numbering.{distinct-seen}
+use Rattle.nts_model.proofs.Canonical.Moving.{among-seen, occurs-seen}
+use Rattle.nts_model.proofs.Tables.Naming.{fresh_in}
+use Rattle.nts_model.proofs.Terms.Listed.{map-map, map-tells}
+use Rattle.nts_theory.proofs.Responses.Standing.{distinct_images}
+use Rattle.nts_model.proofs.Terms.Renamings.{forward, extension, map-forward}
+use Rattle.nts_theory.proofs.Refutation.OpenedGoals.{rename_opened, kept_tree}
+use Rattle.nts_theory.proofs.Refutation.Carrying.{names_replaced}
+use Rattle.nts_theory.proofs.Refutation.Carriers.{forward_others, forward_property, none_renamed, none_carrying, then_by, then_carrying, rename_then, back_to, back_carrying, region_carried, instance_by, AreMovable, extension_carrying, shifted, shifted_carrying, shifted_low}
+use Rattle.nts_theory.proofs.Refutation.UsedRules.{handlers_replaced, handlers_before}
+use Rattle.nts_theory.proofs.Decisions.Reopening.{index_of as name_of}
+
+-- elements of mapped lists
+mapped : {X Y : Type 0} (f : X → Y) (xs : List X) (y : Y) → Among (map f xs) y → (x : X) × Among xs x × (y ≡ f x)
+mapped f [] y i = absurd i
+mapped f (x ∷ xs) y (inl e) = (x, inl refl, e)
+mapped f (x ∷ xs) y (inr i) = (let r = mapped f xs y i in (r.0, inr r.1, r.2))
+
+equal_by : (f : Tree → Tree) (q : Equation) → left_of q ≡ right_of q → left_of (equation_by f q) ≡ right_of (equation_by f q)
+equal_by f (related a b) e = ap f e
+equal_by f (alike a b) e = ap f e
+
+true_renamed : (truth : Truth) → IsFair truth → (ρ : Renaming) → IsCarrying ρ → (r : Relation) (a b : Tree) → IsTrueBy truth r a b → IsTrueBy truth r (rename ρ a) (rename ρ b)
+true_renamed truth fair ρ k relation.Equal a b h = ap (rename ρ) h
+true_renamed truth fair ρ k relation.RegionOutlives a b (inl e) = inl (ap (rename ρ) e)
+true_renamed truth fair ρ k relation.RegionOutlives a b (inr e) = inr (fair.renamed ρ k a b ∙ e)
+true_renamed truth fair ρ k relation.TypeOutlives a b e = fair.renamed ρ k a b ∙ e
+
+-- a use of a clause, renamed
+pub uses_renamed : (h : Handler) (truth : Truth) (Proves Later : Tree → Tree → Type 0) (rules : InstancesAreRules h) → IsFair truth → (ρ : Renaming) (k : IsCarrying ρ)
+    → ((e g : Tree) → Proves e g → Later (rename ρ e) (rename ρ g)) → (e s : Tree) → UsesClause h truth Proves e s → UsesClause h truth Later (rename ρ e) (rename ρ s)
+uses_renamed h truth Proves Later rules fair ρ k later e s x =
+    record {
+      use_of = application_under (instance_by ρ k) x.use_of;
+      applies = rules.closed coherence x.use_of (instance_by ρ k) x.applies;
+      environment = ap (rename ρ) x.environment;
+      conclusion = ap (rename ρ) x.conclusion;
+      equal = λ q i. (let r = mapped (equation_by (rename ρ)) x.use_of.equations q i in
+          subst (λ z. left_of z ≡ right_of z) (sym r.2) (equal_by (rename ρ) r.0 (x.equal r.0 r.1)));
+      met = λ y i. (let r = mapped (constraint_by (rename ρ)) x.use_of.constraints y i in
+          subst (λ z. IsTrueBy truth z.relation z.left z.right) (sym r.2) (true_renamed truth fair ρ k r.0.relation r.0.left r.0.right (x.met r.0 r.1)));
+      goals = λ p i. (let r = mapped (premise_by (rename ρ)) x.use_of.goals p i in
+          subst (λ z. Later z.environment z.predicate) (sym r.2) (later r.0.environment r.0.predicate (x.goals r.0 r.1)));
+    }
+
+-- a universe that names a tree, and trees
+abbrev level_or : Option ℕ → ℕ
+level_or None = 0
+level_or (Some u) = u
+
+abbrev top : Tree → ℕ
+top empty = 0
+top (more a b) = max (top a) (top b)
+top (node l c) = max (level_or (leaf_level l)) (top c)
+
+can_level : (o : Option ℕ) → CanName (level_or o) o
+can_level None = tt
+can_level (Some u) = omega arith
+
+can_more : (a b : ℕ) (o : Option ℕ) → a ≤ b → CanName a o → CanName b o
+can_more a b None l h = tt
+can_more a b (Some u) l h = omega (arith, l, h)
+
+named_top : (t : Tree) → NamesAll leaf_level (top t) t
+named_top empty = tt
+named_top (more a b) = (
+  NamesAll-more leaf_level (top a) (max (top a) (top b)) a (le-max_left (top a) (top b)) (named_top a),
+  NamesAll-more leaf_level (top b) (max (top a) (top b)) b (le-max_right (top a) (top b)) (named_top b),
+)
+named_top (node l c) =
+    let m = level_or (leaf_level l) in (
+      can_more m (max m (top c)) (leaf_level l) (le-max_left m (top c)) (can_level (leaf_level l)),
+      NamesAll-more leaf_level (top c) (max m (top c)) c (le-max_right m (top c)) (named_top c),
+    )
+
+abbrev top_of : List Tree → ℕ
+top_of [] = 0
+top_of (v ∷ vs) = max (top v) (top_of vs)
+
+named_tops : (vs : List Tree) (v : Tree) → Among vs v → NamesAll leaf_level (top_of vs) v
+named_tops [] v i = absurd i
+named_tops (x ∷ xs) v (inl e) = rw e (NamesAll-more leaf_level (top x) (max (top x) (top_of xs)) x (le-max_left (top x) (top_of xs)) (named_top x))
+named_tops (x ∷ xs) v (inr i) = NamesAll-more leaf_level (top_of xs) (max (top x) (top_of xs)) v (le-max_right (top x) (top_of xs)) (named_tops xs v i)
+
+named_leaf_in : (u : ℕ) (t : Tree) (l : Leaf) → Occurs l t → NamesAll leaf_level u t → CanName u (leaf_level_of l)
+named_leaf_in u empty l i h = absurd i
+named_leaf_in u (more a b) l (inl i) h = named_leaf_in u a l i h.0
+named_leaf_in u (more a b) l (inr i) h = named_leaf_in u b l i h.1
+named_leaf_in u (node m c) l (inl e) h = subst (λ z. CanName u (leaf_level z)) (sym e) h.0
+named_leaf_in u (node m c) l (inr i) h = named_leaf_in u c l i h.1
+
+-- the leaves that a carrying renaming may move
+abbrev stays_region : FreeRegion → Bool
+stays_region region.Static = true
+stays_region region.Erased = true
+stays_region region.Error = true
+stays_region r = false
+
+abbrev stays : Leaf → Bool
+stays (leaf.Variable k n) = true
+stays (leaf.Region r) = stays_region r
+stays l = false
+
+fixed_stays : (r : FreeRegion) → StaysItself r → stays_region r ≡ true
+fixed_stays region.Static h = refl
+fixed_stays region.Erased h = refl
+fixed_stays region.Error h = refl
+fixed_stays r h = absurd h
+
+stays_or : (l : Leaf) → (stays l ≡ true) ⊎ (stays l ≡ false)
+stays_or l = by_bool (stays l)
+  where
+    by_bool : (b : Bool) → (b ≡ true) ⊎ (b ≡ false)
+    by_bool true = inl refl
+    by_bool false = inr refl
+
+region_stays : (r : FreeRegion) → stays_region r ≡ true → StaysItself r
+region_stays region.Static h = tt
+region_stays region.Erased h = tt
+region_stays region.Error h = tt
+region_stays r h = cc h
+
+stay_carried : (ρ : Renaming) → IsCarrying ρ → (l : Leaf) → stays l ≡ true → ρ.to l ≡ l
+stay_carried ρ k (leaf.Variable v n) h = k.variables v n
+stay_carried ρ k (leaf.Region r) h = k.plain r (region_stays r h)
+stay_carried ρ k (leaf.TyConstant a) h = cc h
+stay_carried ρ k (leaf.ConstConstant a) h = cc h
+
+movable_by : (xs : List Leaf) → ((l : Leaf) → Among xs l → stays l ≡ false) → AreMovable xs
+movable_by xs h = record {
+  no_variables = λ k n i. (let e = h (leaf.Variable k n) i in cc e);
+  no_fixed = λ r s i. (let e = h (leaf.Region r) i in let q = fixed_stays r s in let z : true ≡ false = sym q ∙ e in cc z);
+}
+
+-- a moved leaf may be moved again
+back_stay : (ρ : Renaming) → IsCarrying ρ → (l : Leaf) → stays l ≡ false → stays (ρ.to l) ≡ false
+back_stay ρ k l h = elim (stays_or (ρ.to l)) [
+  | inl s ↦ (let e : l ≡ ρ.to l = sym (ρ.back l) ∙ stay_carried (back_to ρ) (back_carrying ρ k) (ρ.to l) s in ap stays (sym e) ∙ h)
+  | inr n ↦ n
+]
+
+-- values are named by a universe that names the goal, once what is foreign is renamed
+module _ (t : Tree) (formed : IsFormed t) (u : ℕ) (low : NamesAll leaf_level u t) (vs : List Tree) where
+  abbrev bound_up : ℕ
+  bound_up = max u (top_of vs)
+
+  abbrev own : List Leaf
+  own = seen stays [] t
+
+  abbrev lower : Renaming
+  lower = shifted bound_up
+
+  abbrev lowered_own : List Leaf
+  lowered_own = map (lower.to) own
+
+  own_inside : (l : Leaf) → Among own l → (stays l ≡ false) × Occurs l t
+  own_inside l i = elim (among-seen stays [] t l i) [ inl j ↦ absurd j | inr p ↦ p ]
+
+  pub own_sorts : (s : List Leaf) → map leaf_sort (map (lower.to) s) ≡ map leaf_sort s
+  own_sorts [] = refl
+  own_sorts (x ∷ xs) = cc (lower.keeps_sorts x, own_sorts xs)
+
+  lowered_inside : (l : Leaf) → Among lowered_own l → stays l ≡ false
+  lowered_inside l i = let r = mapped (lower.to) own l i in subst (λ z. stays z ≡ false) (sym r.2) (back_stay lower (shifted_carrying bound_up) r.0 (own_inside r.0 r.1).0)
+
+  abbrev restore : Renaming
+  restore = extension lowered_own own (own_sorts own)
+
+  restore_carrying : IsCarrying restore
+  restore_carrying = extension_carrying lowered_own own (own_sorts own) (movable_by lowered_own lowered_inside) (movable_by own (λ l i. (own_inside l i).0))
+
+  abbrev pub homed : Renaming
+  homed = then_by lower restore
+
+  pub homed_carrying : IsCarrying homed
+  homed_carrying = then_carrying lower restore (shifted_carrying bound_up) restore_carrying
+
+  own_distinct : AreDistinct own
+  own_distinct = distinct-seen stays [] t tt
+
+  lowered_distinct : AreDistinct lowered_own
+  lowered_distinct = distinct_images (lower.to) own own_distinct (λ a b i j e. sym (lower.back a) ∙ ap (lower.from) e ∙ lower.back b)
+
+  back_home : (l : Leaf) → Among own l → homed.to l ≡ l
+  back_home l i =
+      let all : map (λ x. forward lowered_own own (lower.to x)) own ≡ map (λ x. x) own =
+      sym (map-map (forward lowered_own own) (lower.to) own) ∙ map-forward lowered_own own lowered_distinct own_distinct (own_sorts own) ∙ sym (map_same own) in
+      map-tells (λ x. forward lowered_own own (lower.to x)) (λ x. x) own all l i
+    where
+      map_same : (s : List Leaf) → map (λ x. x) s ≡ s
+      map_same [] = refl
+      map_same (x ∷ xs) = ap (λ z. x ∷ z) (map_same xs)
+
+  homed_leaf : (l : Leaf) → Occurs l t → homed.to l ≡ l
+  homed_leaf l i = elim (stays_or l) [
+    | inl s ↦ stay_carried homed homed_carrying l s
+    | inr n ↦ back_home l (occurs-seen stays [] t l formed n i)
+  ]
+
+  pub homed_same : rename homed t ≡ t
+  homed_same = kept_tree (λ l. leaf_tree (homed.to l)) t formed (λ l i. ap leaf_tree (homed_leaf l i))
+
+  own_low : (l : Leaf) → Among own l → CanName u (leaf_level_of l)
+  own_low l i = named_leaf_in u t l (own_inside l i).1 low
+
+  lowered_low : (l : Leaf) → Among lowered_own l → CanName u (leaf_level_of l)
+  lowered_low l i =
+      let r = mapped (lower.to) own l i in
+      let c = can_more u bound_up (leaf_level_of r.0) (le-max_left u (top_of vs)) (own_low r.0 r.1) in
+      subst (λ z. CanName u (leaf_level_of z)) (sym r.2) (can_more 0 u (leaf_level_of (lower.to r.0)) (omega arith) (shifted_low bound_up r.0 c))
+
+  homed_level : (l : Leaf) → CanName bound_up (leaf_level_of l) → CanName u (leaf_level_of (homed.to l))
+  homed_level l h =
+      forward_property (λ z. CanName u (leaf_level_of z)) lowered_own own lowered_low own_low (lower.to l)
+      (can_more 0 u (leaf_level_of (lower.to l)) (omega arith) (shifted_low bound_up l h))
+
+  pub homed_named : (v : Tree) → Among vs v → NamesAll leaf_level u (rename homed v)
+  homed_named v i =
+      names_replaced (λ l. leaf_tree (homed.to l)) bound_up u (λ l h. (homed_level l h, tt)) v
+      (NamesAll-more leaf_level (top_of vs) bound_up v (le-max_right u (top_of vs)) (named_tops vs v i))
+
+-- so uses of clauses have named values
+pub uses_named : (h : Handler) (truth : Truth) (Proves : Tree → Tree → Type 0) (rules : InstancesAreRules h) → IsFair truth → ((ρ : Renaming) → IsCarrying ρ → (e g : Tree) → Proves e g → Proves (rename ρ e) (rename ρ g))
+    → (u : ℕ) (e s : Tree) → IsFormed (pair e s) → NamesAll leaf_level u (pair e s) → UsesClause h truth Proves e s → UsesNamed h truth Proves u e s
+unfolding uses_renamed
+uses_named h truth Proves rules fair kept u e s f n x =
+    let t = pair e s in
+    let vs = x.use_of.values in
+    let ρ = homed t f u n vs in
+    let k = homed_carrying t f u n vs in
+    let same = homed_same t f u n vs in
+    let y = uses_renamed h truth Proves Proves rules fair ρ k (kept ρ k) e s x in
+    let left : rename ρ e ≡ e = first _ _ _ _ same in
+    let right : rename ρ s ≡ s = second _ _ _ _ same in
+    let here : UsesNamed h truth Proves u (rename ρ e) (rename ρ s) = record {
+      uses = y;
+      named = λ v i. (let r = mapped (rename ρ) vs v i in subst (NamesAll leaf_level u) (sym r.2) (homed_named t f u n vs r.0 r.1));
+    } in
+    subst (λ z. UsesNamed h truth Proves u z s) left (subst (λ z. UsesNamed h truth Proves u (rename ρ e) z) right here)
+  where
+    first : (a b c d : Tree) → pair a b ≡ pair c d → a ≡ c
+    first a b c d e = cc e
+
+    second : (a b c d : Tree) → pair a b ≡ pair c d → b ≡ d
+    second a b c d e = cc e
+
+-- leaves that stand for bound variables, and do not stand in a tree
+pub record AreAbsent (t : Tree) (f : Sort → ℕ → Leaf) : Type 0 where
+  pub moves : (s : Sort) (n : ℕ) → stays (f s n) ≡ false
+  pub sorts : (s : Sort) (n : ℕ) → sort_of_leaf (f s n) ≡ s
+  pub distinct : (s : Sort) (n m : ℕ) → f s n ≡ f s m → n ≡ m
+  pub absent : (s : Sort) (n : ℕ) → Occurs (f s n) t → ⊥
+
+placeholder_moves : (l : Leaf) → is_placeholder (label.Leaf l) ≡ true → stays l ≡ false
+placeholder_moves (leaf.Variable k n) h = cc h
+placeholder_moves (leaf.Region (region.Placeholder u n)) h = refl
+placeholder_moves (leaf.Region region.Static) h = cc h
+placeholder_moves (leaf.Region region.Erased) h = cc h
+placeholder_moves (leaf.Region region.Error) h = cc h
+placeholder_moves (leaf.Region (region.EarlyParam n)) h = cc h
+placeholder_moves (leaf.Region (region.LateParam n)) h = cc h
+placeholder_moves (leaf.TyConstant a) h = refl
+placeholder_moves (leaf.ConstConstant a) h = refl
+
+sort_moved : (l m : Leaf) → stays l ≡ false → stays m ≡ false → leaf_sort l ≡ leaf_sort m → sort_of_leaf l ≡ sort_of_leaf m
+sort_moved (leaf.Region r) (leaf.Region q) h k e = refl
+sort_moved (leaf.Region r) (leaf.TyConstant q) h k e = cc e
+sort_moved (leaf.Region r) (leaf.ConstConstant q) h k e = cc e
+sort_moved (leaf.Region r) (leaf.Variable q n) h k e = cc k
+sort_moved (leaf.TyConstant a) (leaf.TyConstant b) h k e = refl
+sort_moved (leaf.TyConstant a) (leaf.ConstConstant b) h k e = cc e
+sort_moved (leaf.TyConstant a) (leaf.Region b) h k e = cc e
+sort_moved (leaf.TyConstant a) (leaf.Variable q n) h k e = cc k
+sort_moved (leaf.ConstConstant a) (leaf.ConstConstant b) h k e = refl
+sort_moved (leaf.ConstConstant a) (leaf.TyConstant b) h k e = cc e
+sort_moved (leaf.ConstConstant a) (leaf.Region b) h k e = cc e
+sort_moved (leaf.ConstConstant a) (leaf.Variable q n) h k e = cc k
+sort_moved (leaf.Variable q n) m h k e = cc h
+
+moved_sort : (l m : Leaf) → stays l ≡ false → stays m ≡ false → sort_of_leaf l ≡ sort_of_leaf m → leaf_sort l ≡ leaf_sort m
+moved_sort (leaf.Region r) (leaf.Region q) h k e = refl
+moved_sort (leaf.Region r) (leaf.TyConstant q) h k e = cc e
+moved_sort (leaf.Region r) (leaf.ConstConstant q) h k e = cc e
+moved_sort (leaf.Region r) (leaf.Variable q n) h k e = cc k
+moved_sort (leaf.TyConstant a) (leaf.TyConstant b) h k e = refl
+moved_sort (leaf.TyConstant a) (leaf.ConstConstant b) h k e = cc e
+moved_sort (leaf.TyConstant a) (leaf.Region b) h k e = cc e
+moved_sort (leaf.TyConstant a) (leaf.Variable q n) h k e = cc k
+moved_sort (leaf.ConstConstant a) (leaf.ConstConstant b) h k e = refl
+moved_sort (leaf.ConstConstant a) (leaf.TyConstant b) h k e = cc e
+moved_sort (leaf.ConstConstant a) (leaf.Region b) h k e = cc e
+moved_sort (leaf.ConstConstant a) (leaf.Variable q n) h k e = cc k
+moved_sort (leaf.Variable q n) m h k e = cc h
+
+pub absent_fresh : (t : Tree) (f : Sort → ℕ → Leaf) → AreFresh t f → AreAbsent t f
+absent_fresh t f h = record { moves = λ s n. placeholder_moves (f s n) (h.placeholders s n); sorts = h.sorts; distinct = h.distinct; absent = h.absent }
+
+-- what stands in a renamed tree stood there before
+leaf_before : (ρ : Renaming) (l : Label) (c : Tree) (x : Leaf) → (Occurs (ρ.to x) (rename ρ c) → Occurs x c) → Occurs (ρ.to x) (put (λ y. leaf_tree (ρ.to y)) l (rename ρ c)) → Occurs x (node l c)
+leaf_before ρ (label.Leaf y) c x f (inl e) = inl (ap label.Leaf (sym (ρ.back x) ∙ ap (ρ.from) (one (ρ.to x) (ρ.to y) e) ∙ ρ.back y))
+  where
+    one : (a b : Leaf) → label.Leaf a ≡ label.Leaf b → a ≡ b
+    one a b e = cc e
+leaf_before ρ (label.Leaf y) c x f (inr i) = absurd i
+leaf_before ρ (label.Bound a b n) c x f (inl e) = cc e
+leaf_before ρ (label.Bound a b n) c x f (inr i) = inr (f i)
+leaf_before ρ (label.Ty y) c x f (inl e) = cc e
+leaf_before ρ (label.Ty y) c x f (inr i) = inr (f i)
+leaf_before ρ (label.Const y) c x f (inl e) = cc e
+leaf_before ρ (label.Const y) c x f (inr i) = inr (f i)
+leaf_before ρ (label.Clause y) c x f (inl e) = cc e
+leaf_before ρ (label.Clause y) c x f (inr i) = inr (f i)
+leaf_before ρ (label.Predicate y) c x f (inl e) = cc e
+leaf_before ρ (label.Predicate y) c x f (inr i) = inr (f i)
+leaf_before ρ (label.List y) c x f (inl e) = cc e
+leaf_before ρ (label.List y) c x f (inr i) = inr (f i)
+
+occurs_before : (ρ : Renaming) (t : Tree) (x : Leaf) → Occurs (ρ.to x) (rename ρ t) → Occurs x t
+occurs_before ρ empty x i = i
+occurs_before ρ (more a b) x (inl i) = inl (occurs_before ρ a x i)
+occurs_before ρ (more a b) x (inr i) = inr (occurs_before ρ b x i)
+occurs_before ρ (node l c) x i = leaf_before ρ l c x (occurs_before ρ c x) i
+
+pub absent_renamed : (ρ : Renaming) → IsCarrying ρ → (t : Tree) (f : Sort → ℕ → Leaf) → AreAbsent t f → AreAbsent (rename ρ t) (λ s n. ρ.to (f s n))
+absent_renamed ρ k t f h = record {
+  moves = λ s n. back_stay ρ k (f s n) (h.moves s n);
+  sorts = λ s n. sort_moved (ρ.to (f s n)) (f s n) (back_stay ρ k (f s n) (h.moves s n)) (h.moves s n) (ρ.keeps_sorts (f s n)) ∙ h.sorts s n;
+  distinct = λ s n m e. h.distinct s n m (sym (ρ.back (f s n)) ∙ ap (ρ.from) e ∙ ρ.back (f s m));
+  absent = λ s n i. h.absent s n (occurs_before ρ t (f s n) i);
+}
+
+-- the leaves for the bound variables of names below n
+abbrev below : (Sort → ℕ → Leaf) → ℕ → List Leaf
+below f zero = []
+below f (suc n) = f sort.Ty n ∷ f sort.Region n ∷ f sort.Const n ∷ below f n
+
+below_is : (f : Sort → ℕ → Leaf) (n : ℕ) (l : Leaf) → Among (below f n) l → (s : Sort) × (m : ℕ) × (m < n) × (l ≡ f s m)
+below_is f zero l i = absurd i
+below_is f (suc n) l (inl e) = (sort.Ty, n, omega arith, e)
+below_is f (suc n) l (inr (inl e)) = (sort.Region, n, omega arith, e)
+below_is f (suc n) l (inr (inr (inl e))) = (sort.Const, n, omega arith, e)
+below_is f (suc n) l (inr (inr (inr i))) = (let r = below_is f n l i in let q = r.2 in (r.0, r.1, omega (arith, q), r.3))
+
+module _ (t : Tree) (f : Sort → ℕ → Leaf) (h : AreAbsent t f) where
+  one_sort : (s o : Sort) (n m : ℕ) → f s n ≡ f o m → s ≡ o
+  one_sort s o n m e = sym (h.sorts s n) ∙ ap sort_of_leaf e ∙ h.sorts o m
+
+  not_below : (s : Sort) (n : ℕ) → Among (below f n) (f s n) → ⊥
+  not_below s n i =
+      let r = below_is f n (f s n) i in
+      let o = one_sort s r.0 n r.1 r.3 in
+      let same = h.distinct s n r.1 (r.3 ∙ ap (λ z. f z r.1) (sym o)) in
+      let q = r.2 in omega (arith, q, same)
+
+  apart_sorts : (s o : Sort) (n : ℕ) → (s ≡ o → ⊥) → f s n ≡ f o n → ⊥
+  apart_sorts s o n d e = d (one_sort s o n n e)
+
+  ty_region : sort.Ty ≡ sort.Region → ⊥
+  ty_region e = cc e
+
+  ty_const : sort.Ty ≡ sort.Const → ⊥
+  ty_const e = cc e
+
+  region_const : sort.Region ≡ sort.Const → ⊥
+  region_const e = cc e
+
+  below_distinct : (n : ℕ) → AreDistinct (below f n)
+  below_distinct zero = tt
+  below_distinct (suc n) = (
+    (λ i. elim i [
+      | inl e ↦ apart_sorts sort.Ty sort.Region n ty_region e
+      | inr j ↦ (elim j [ inl e ↦ apart_sorts sort.Ty sort.Const n ty_const e | inr k ↦ not_below sort.Ty n k ])
+    ]),
+    ((λ i. elim i [ inl e ↦ apart_sorts sort.Region sort.Const n region_const e | inr k ↦ not_below sort.Region n k ]), ((λ i. not_below sort.Const n i), below_distinct n)),
+  )
+
+  below_moves : (n : ℕ) (l : Leaf) → Among (below f n) l → stays l ≡ false
+  below_moves n l i = let r = below_is f n l i in subst (λ z. stays z ≡ false) (sym r.3) (h.moves r.0 r.1)
+
+  below_absent : (n : ℕ) (l : Leaf) → Occurs l t → Among (below f n) l → ⊥
+  below_absent n l o i = let r = below_is f n l i in h.absent r.0 r.1 (subst (λ z. Occurs z t) r.3 o)
+
+abbrev names_below : Tree → ℕ
+names_below empty = 0
+names_below (more a b) = max (names_below a) (names_below b)
+names_below (node l c) = max (name_of l) (names_below c)
+
+left_below : (a b n : ℕ) → max a b ≤ n → a ≤ n
+left_below a b n h = let l = le-max_left a b in omega (arith, l, h)
+
+right_below : (a b n : ℕ) → max a b ≤ n → b ≤ n
+right_below a b n h = let l = le-max_right a b in omega (arith, l, h)
+
+-- two families of leaves that agree up to that number open a tree alike
+module _ (f p : Sort → ℕ → Leaf) (k : ℕ) (agree : (s : Sort) (n : ℕ) → n < k → f s n ≡ p s n) where
+  alike_label : (c : ℕ) (l : Label) (u : Tree) → name_of l ≤ k → opened_at f c l u ≡ opened_at p c l u
+  alike_label c (label.Bound s (index.Bound d) n) u h = ap (λ z. if d == c then leaf_tree z else node (label.Bound s (index.Bound d) n) u) (agree s n (omega (arith, h)))
+  alike_label c (label.Bound s index.Canonical n) u h = refl
+  alike_label c (label.Leaf x) u h = refl
+  alike_label c (label.Ty x) u h = refl
+  alike_label c (label.Const x) u h = refl
+  alike_label c (label.Clause x) u h = refl
+  alike_label c (label.Predicate x) u h = refl
+  alike_label c (label.List x) u h = refl
+
+  alike_opened : (c : ℕ) (t : Tree) → names_below t ≤ k → opened f c t ≡ opened p c t
+  alike_opened c empty h = refl
+  alike_opened c (more a b) h = cc (alike_opened c a (left_below (names_below a) (names_below b) k h), alike_opened c b (right_below (names_below a) (names_below b) k h))
+  alike_opened c (node l t) h =
+      ap (opened_at f c l) (alike_opened (c + binders l) t (right_below (name_of l) (names_below t) k h))
+      ∙ alike_label c l (opened p (c + binders l) t) (left_below (name_of l) (names_below t) k h)
+
+below_sorts : (f p : Sort → ℕ → Leaf) → ((s : Sort) (n : ℕ) → leaf_sort (f s n) ≡ leaf_sort (p s n)) → (n : ℕ) → map leaf_sort (below f n) ≡ map leaf_sort (below p n)
+below_sorts f p h zero = refl
+below_sorts f p h (suc n) = (let a = h sort.Ty n in let b = h sort.Region n in let c = h sort.Const n in let d = below_sorts f p h n in cc (a, b, c, d))
+
+picked : (g : Leaf → Leaf) (f p : Sort → ℕ → Leaf) (n : ℕ) → map g (below f n) ≡ below p n → (s : Sort) (m : ℕ) → m < n → g (f s m) ≡ p s m
+picked g f p zero e s m h = absurd (omega (arith, h))
+picked g f p (suc n) e s m h = elim (cases_lt m n) [
+  | inl l ↦ picked g f p n (tail e) s m l
+  | inr l ↦ (let q : m ≡ n = omega (arith, h, l) in rw q (at_first s e))
+]
+  where
+    tail : map g (below f (suc n)) ≡ below p (suc n) → map g (below f n) ≡ below p n
+    tail e = cc
+
+    at_first : (s : Sort) → map g (below f (suc n)) ≡ below p (suc n) → g (f s n) ≡ p s n
+    at_first sort.Ty e = cc
+    at_first sort.Region e = cc
+    at_first sort.Const e = cc
+
+-- one family gives place to another
+module _ (e s : Tree) (formed : IsFormed (pair e s)) (f p : Sort → ℕ → Leaf) (a : AreAbsent (pair e s) f) (b : AreAbsent (pair e s) p) where
+  abbrev count : ℕ
+  count = names_below s
+
+  same_sorts : (o : Sort) (n : ℕ) → leaf_sort (f o n) ≡ leaf_sort (p o n)
+  same_sorts o n = moved_sort (f o n) (p o n) (a.moves o n) (b.moves o n) (a.sorts o n ∙ sym (b.sorts o n))
+
+  pub all_sorts : map leaf_sort (below f (names_below s)) ≡ map leaf_sort (below p (names_below s))
+  all_sorts = below_sorts f p same_sorts (names_below s)
+
+  abbrev pub swap : Renaming
+  swap = extension (below f (names_below s)) (below p (names_below s)) all_sorts
+
+  pub swap_carrying : IsCarrying swap
+  swap_carrying = extension_carrying (below f count) (below p count) all_sorts (movable_by (below f count) (below_moves (pair e s) f a count)) (movable_by (below p count) (below_moves (pair e s) p b count))
+
+  swap_keeps : rename swap (pair e s) ≡ pair e s
+  swap_keeps =
+      kept_tree (λ l. leaf_tree (swap.to l)) (pair e s) formed
+      (λ l i. ap leaf_tree (forward_others (below f count) (below p count) l (below_absent (pair e s) f a count l i) (below_absent (pair e s) p b count l i)))
+
+  swap_brings : (o : Sort) (n : ℕ) → n < count → swap.to (f o n) ≡ p o n
+  swap_brings = picked swap.to f p count (map-forward (below f count) (below p count) (below_distinct (pair e s) f a count) (below_distinct (pair e s) p b count) all_sorts)
+
+  first_same : (x y z w : Tree) → pair x y ≡ pair z w → x ≡ z
+  first_same x y z w q = cc q
+
+  second_same : (x y z w : Tree) → pair x y ≡ pair z w → y ≡ w
+  second_same x y z w q = cc q
+
+  le_self : (n : ℕ) → n ≤ n
+  le_self n = omega arith
+
+  swap_opened : rename swap (opened f 0 s) ≡ opened p 0 s
+  swap_opened =
+      rename_opened swap f 0 s
+      ∙ ap (opened (λ o n. swap.to (f o n)) 0) (second_same _ _ _ _ swap_keeps)
+      ∙ alike_opened (λ o n. swap.to (f o n)) p count swap_brings 0 s (le_self count)
+
+  pub uses_swapped : (h : Handler) (truth : Truth) (Proves : Tree → Tree → Type 0) (rules : InstancesAreRules h) → IsFair truth → ((ρ : Renaming) → IsCarrying ρ → (x y : Tree) → Proves x y → Proves (rename ρ x) (rename ρ y))
+      → UsesClause h truth Proves e (opened f 0 s) → UsesClause h truth Proves e (opened p 0 s)
+  uses_swapped h truth Proves rules fair kept u =
+      subst (λ z. UsesClause h truth Proves z (opened p 0 s)) (first_same _ _ _ _ swap_keeps)
+      (subst (λ z. UsesClause h truth Proves (rename swap e) z) swap_opened
+      (uses_renamed h truth Proves Proves rules fair swap swap_carrying (kept swap swap_carrying) e (opened f 0 s) u))
+
+-- a goal that is opened with placeholders of the next universe is named by that
+level_in : (u : ℕ) (s : Sort) (n : ℕ) → CanName u (leaf_level (label.Leaf (placeholder_in u s n)))
+level_in u sort.Ty n = omega arith
+level_in u sort.Const n = omega arith
+level_in u sort.Region n = omega arith
+
+named_if : (b : Bool) (u : ℕ) (s : Sort) (d n : ℕ) (t : Tree) → NamesAll leaf_level u t → NamesAll leaf_level u (if b then leaf_tree (placeholder_in u s n) else node (label.Bound s (index.Bound d) n) t)
+named_if true u s d n t h = (level_in u s n, tt)
+named_if false u s d n t h = (tt, h)
+
+named_label : (u c : ℕ) (l : Label) (t : Tree) → CanName u (leaf_level l) → NamesAll leaf_level u t → NamesAll leaf_level u (opened_at (placeholder_in u) c l t)
+named_label u c (label.Bound s (index.Bound d) n) t h k = named_if (d == c) u s d n t k
+named_label u c (label.Bound s index.Canonical n) t h k = (h, k)
+named_label u c (label.Leaf x) t h k = (h, k)
+named_label u c (label.Ty x) t h k = (h, k)
+named_label u c (label.Const x) t h k = (h, k)
+named_label u c (label.Clause x) t h k = (h, k)
+named_label u c (label.Predicate x) t h k = (h, k)
+named_label u c (label.List x) t h k = (h, k)
+
+pub named_opened : (u c : ℕ) (t : Tree) → NamesAll leaf_level u t → NamesAll leaf_level u (opened (placeholder_in u) c t)
+named_opened u c empty h = tt
+named_opened u c (more a b) h = (named_opened u c a h.0, named_opened u c b h.1)
+named_opened u c (node l t) h = named_label u c l (opened (placeholder_in u) (c + binders l) t) h.0 (named_opened u (c + binders l) t h.1)
+
+-- the goals of which a renaming is proved
+pub record Carried (Proves : Tree → Tree → Type 0) (e g : Tree) : Type 0 where
+  pub by : Renaming
+  pub carrying : IsCarrying by
+  pub environment : Tree
+  pub predicate : Tree
+  pub proved : Proves environment predicate
+  pub is_environment : rename by environment ≡ e
+  pub is_predicate : rename by predicate ≡ g
+
+ground_leaf : (ρ : Renaming) → IsCarrying ρ → (l : Leaf) → IsGroundLabel (label.Leaf l) → AllLabels IsGroundLabel (leaf_tree (ρ.to l))
+ground_leaf ρ k (leaf.Variable v n) h = rw (k.variables v n) (h, tt)
+ground_leaf ρ k (leaf.Region r) h = let q = region_carried ρ k r in rw (q.1) (refl, tt)
+ground_leaf ρ k (leaf.TyConstant a) h = by_sort (ρ.to (leaf.TyConstant a)) (ρ.keeps_sorts (leaf.TyConstant a))
+  where
+    by_sort : (m : Leaf) → leaf_sort m ≡ leaf_sort (leaf.TyConstant a) → AllLabels IsGroundLabel (leaf_tree m)
+    by_sort (leaf.TyConstant b) e = (refl, tt)
+    by_sort (leaf.ConstConstant b) e = (refl, tt)
+    by_sort (leaf.Region b) e = (refl, tt)
+    by_sort (leaf.Variable v n) e = cc e
+ground_leaf ρ k (leaf.ConstConstant a) h = by_sort (ρ.to (leaf.ConstConstant a)) (ρ.keeps_sorts (leaf.ConstConstant a))
+  where
+    by_sort : (m : Leaf) → leaf_sort m ≡ leaf_sort (leaf.ConstConstant a) → AllLabels IsGroundLabel (leaf_tree m)
+    by_sort (leaf.TyConstant b) e = (refl, tt)
+    by_sort (leaf.ConstConstant b) e = (refl, tt)
+    by_sort (leaf.Region b) e = (refl, tt)
+    by_sort (leaf.Variable v n) e = cc e
+
+ground_put : (ρ : Renaming) → IsCarrying ρ → (l : Label) (c : Tree) → IsGroundLabel l → AllLabels IsGroundLabel c → AllLabels IsGroundLabel (put (λ x. leaf_tree (ρ.to x)) l c)
+ground_put ρ k (label.Leaf x) c h i = ground_leaf ρ k x h
+ground_put ρ k (label.Bound a b n) c h i = (h, i)
+ground_put ρ k (label.Ty x) c h i = (h, i)
+ground_put ρ k (label.Const x) c h i = (h, i)
+ground_put ρ k (label.Clause x) c h i = (h, i)
+ground_put ρ k (label.Predicate x) c h i = (h, i)
+ground_put ρ k (label.List x) c h i = (h, i)
+
+ground_renamed : (ρ : Renaming) → IsCarrying ρ → (t : Tree) → AllLabels IsGroundLabel t → AllLabels IsGroundLabel (rename ρ t)
+ground_renamed ρ k empty h = tt
+ground_renamed ρ k (more a b) h = (ground_renamed ρ k a h.0, ground_renamed ρ k b h.1)
+ground_renamed ρ k (node l c) h = ground_put ρ k l (rename ρ c) h.0 (ground_renamed ρ k c h.1)
+
+pub back_again : (ρ : Renaming) (t : Tree) → IsFormed t → rename (back_to ρ) (rename ρ t) ≡ t
+back_again ρ t f = rename_then ρ (back_to ρ) t ∙ replace-equal (λ l. leaf_tree (ρ.from (ρ.to l))) leaf_tree (λ l. ap leaf_tree (ρ.back l)) t ∙ replace-leaf t f
+
+pub forth_again : (ρ : Renaming) (t : Tree) → IsFormed t → rename ρ (rename (back_to ρ) t) ≡ t
+forth_again ρ t f = rename_then (back_to ρ) ρ t ∙ replace-equal (λ l. leaf_tree (ρ.to (ρ.from l))) leaf_tree (λ l. ap leaf_tree (ρ.forth l)) t ∙ replace-leaf t f
+
+binding_same : (x xs s y ys t : Tree) → binding x xs s ≡ binding y ys t → s ≡ t
+binding_same x xs s y ys t e = cc e
+
+module _ (h : Handler) (truth : Truth) (Proves : Tree → Tree → Type 0) (rules : InstancesAreRules h) (fair : IsFair truth) (used : AreUsed h truth Proves) where
+  abbrev Later : Tree → Tree → Type 0
+  Later = Carried Proves
+
+  pub carried_kept : (ρ : Renaming) → IsCarrying ρ → (e g : Tree) → Later e g → Later (rename ρ e) (rename ρ g)
+  carried_kept ρ k e g c =
+      record {
+        by = then_by c.by ρ;
+        carrying = then_carrying c.by ρ c.carrying k;
+        environment = c.environment;
+        predicate = c.predicate;
+        proved = c.proved;
+        is_environment = sym (rename_then c.by ρ c.environment) ∙ ap (rename ρ) c.is_environment;
+        is_predicate = sym (rename_then c.by ρ c.predicate) ∙ ap (rename ρ) c.is_predicate;
+      }
+
+  pub carried_itself : (e g : Tree) → Proves e g → Later e g
+  carried_itself e g p =
+      let f = used.ground.formed e g p in
+      record {
+        by = none_renamed;
+        carrying = none_carrying;
+        environment = e;
+        predicate = g;
+        proved = p;
+        is_environment = replace-leaf e f.0;
+        is_predicate = replace-leaf g f.1.0;
+      }
+
+  formed_later : (e g : Tree) → Later e g → IsFormed (pair e g)
+  formed_later e g c =
+      let f = used.ground.formed c.environment c.predicate c.proved in
+      let ι = instance_by c.by c.carrying in
+      (subst IsFormed c.is_environment (IsFormed-instance ι c.environment f.0), (subst IsFormed c.is_predicate (IsFormed-instance ι c.predicate f.1.0), tt))
+
+  ground_later : (e g : Tree) → Later e g → AllLabels IsGroundLabel (pair e g)
+  ground_later e g c =
+      let f = used.ground.ground c.environment c.predicate c.proved in
+      (subst (AllLabels IsGroundLabel) c.is_environment (ground_renamed c.by c.carrying c.environment f.0), (subst (AllLabels IsGroundLabel) c.is_predicate (ground_renamed c.by c.carrying c.predicate f.1.0), tt))
+
+  -- the goal before, by the renaming back
+  before : (e g : Tree) (c : Later e g) → c.predicate ≡ rename (back_to c.by) g
+  before e g c = let f = used.ground.formed c.environment c.predicate c.proved in sym (back_again c.by c.predicate f.1.0) ∙ ap (rename (back_to c.by)) c.is_predicate
+
+  carried_later : (ρ : Renaming) (k : IsCarrying ρ) (e g : Tree) → Proves e g → Later (rename ρ e) (rename ρ g)
+  carried_later ρ k e g p = carried_kept ρ k e g (carried_itself e g p)
+
+  -- .. of a goal that binds nothing
+  plain_before : (e s : Tree) → Later e (unbound s) → IsHandlers s → IsClosed s → UsesClause h truth Later e s
+  plain_before e s c i z =
+      let b = back_to c.by in
+      let k = back_carrying c.by c.carrying in
+      let t = rename b s in
+      let is : c.predicate ≡ unbound t = before e (unbound s) c in
+      let u = used.plain c.environment t (subst (Proves c.environment) is c.proved) (handlers_replaced (λ l. leaf_tree (b.to l)) s i) (IsClosed-instance (instance_by b k) s z) in
+      let v = uses_renamed h truth Proves Later rules fair c.by c.carrying (carried_later c.by c.carrying) c.environment t u in
+      let f = formed_later e (unbound s) c in
+      subst (λ y. UsesClause h truth Later y s) c.is_environment (subst (λ y. UsesClause h truth Later (rename c.by c.environment) y) (forth_again c.by s (let y = f.1.0 in y.1.1.0)) v)
+
+  plain_named : (u : ℕ) (e s : Tree) → Later e (unbound s) → IsHandlers s → IsClosed s → NamesAll leaf_level u (pair e s) → UsesNamed h truth Later u e s
+  plain_named u e s c i z n =
+      let f = formed_later e (unbound s) c in
+      uses_named h truth Later rules fair carried_kept u e s (f.0, ((let y = f.1.0 in y.1.1.0), tt)) n (plain_before e s c i z)
+
+  -- .. and of one that binds variables
+  opened_before : (e x xs s : Tree) (p : Sort → ℕ → Leaf) → Later e (binding x xs s) → IsHandlers (opened p 0 s) → AreAbsent (pair e s) p → UsesClause h truth Later e (opened p 0 s)
+  opened_before e x xs s p c i a =
+      let b = back_to c.by in
+      let k = back_carrying c.by c.carrying in
+      let t = rename b s in
+      let is : c.predicate ≡ binding (rename b x) (rename b xs) t = before e (binding x xs s) c in
+      let hs = handlers_replaced (λ l. leaf_tree (b.to l)) s (handlers_before p 0 s i) in
+      let u = used.opened c.environment (rename b x) (rename b xs) t (subst (Proves c.environment) is c.proved) hs in
+      let v = uses_renamed h truth Proves Later rules fair c.by c.carrying (carried_later c.by c.carrying) c.environment (opened u.fresh 0 t) u.uses in
+      let f = formed_later e (binding x xs s) c in
+      let fs : IsFormed s = (let y = f.1.0 in y.1.1.0) in
+      let back : rename c.by t ≡ s = forth_again c.by s fs in
+      let fresh : Sort → ℕ → Leaf = λ o n. c.by.to (u.fresh o n) in
+      let q : rename c.by (opened u.fresh 0 t) ≡ opened fresh 0 s = rename_opened c.by u.fresh 0 t ∙ ap (opened fresh 0) back in
+      let w = subst (λ y. UsesClause h truth Later y (opened fresh 0 s)) c.is_environment (subst (λ y. UsesClause h truth Later (rename c.by c.environment) y) q v) in
+      let old : AreAbsent (pair c.environment t) u.fresh = fewer c.environment (rename b x) (rename b xs) t u.fresh (absent_fresh (pair c.environment (binding (rename b x) (rename b xs) t)) u.fresh u.are_fresh) in
+      let new : AreAbsent (pair e s) fresh =
+      subst (λ y. AreAbsent (pair y s) fresh) c.is_environment (subst (λ y. AreAbsent (pair (rename c.by c.environment) y) fresh) back (absent_renamed c.by c.carrying (pair c.environment t) u.fresh old)) in
+      uses_swapped e s (f.0, (fs, tt)) fresh p new a h truth Later rules fair carried_kept w
+    where
+      fewer : (e x xs s : Tree) (f : Sort → ℕ → Leaf) → AreAbsent (pair e (binding x xs s)) f → AreAbsent (pair e s) f
+      fewer e x xs s f a = record {
+        moves = a.moves;
+        sorts = a.sorts;
+        distinct = a.distinct;
+        absent = λ o n i. a.absent o n (elim i [
+          | inl j ↦ inl j
+          | inr j ↦ (elim j [ inl k ↦ inr (inl (inr (inr (inl k)))) | inr k ↦ absurd k ])
+        ]);
+      }
+
+  opened_named : (u : ℕ) (e x xs s : Tree) → Later e (binding x xs s) → IsHandlers (opened (placeholder_in (u + 1)) 0 s) → IsFormed (opened (placeholder_in (u + 1)) 0 s) → NamesAll leaf_level u (pair e s)
+      → UsesNamed h truth Later (u + 1) e (opened (placeholder_in (u + 1)) 0 s)
+  opened_named u e x xs s c i fo n =
+      let f = formed_later e (binding x xs s) c in
+      let fresh = absent_fresh (pair e s) (placeholder_in (u + 1)) (fresh_in u (u + 1) (pair e s) (omega arith) n) in
+      let up = NamesAll-more leaf_level u (u + 1) (pair e s) (omega arith) n in
+      uses_named h truth Later rules fair carried_kept (u + 1) e (opened (placeholder_in (u + 1)) 0 s) (f.0, (fo, tt)) (up.0, (named_opened (u + 1) 0 s up.1.0, tt))
+      (opened_before e x xs s (placeholder_in (u + 1)) c i fresh)
+
+  -- what is carried is a theory
+  pub carried_theory : IsTheory h truth Later
+  carried_theory =
+      record {
+        ground = record { formed = formed_later; ground = ground_later };
+        kept = carried_kept;
+        plain = plain_named;
+        opened = opened_named;
+      }

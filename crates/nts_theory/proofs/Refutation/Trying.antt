@@ -1,0 +1,213 @@
+-- A candidate that a solution meets is not refused, and its response contains the solution.
+use Rattle.std.proofs.Common.{◌≡◌, inl, inr, ℕ, ◌≤◌, List, [], ◌∷◌, map, length, refl, sym, subst, ◌∙◌, arith}
+use Rattle.nts_model.specs.declared.labels.Relation.{Relation}
+use Rattle.nts_model.specs.declared.labels.Relation.TheVariants as relation
+use Rattle.nts_model.specs.declared.labels.Leaf.{Leaf}
+use Rattle.nts_model.specs.Terms.Trees.{Tree}
+use Rattle.nts_model.specs.Tables.Contents.{Content, Recorded}
+use Rattle.nts_model.specs.Tables.Resolving.{Knows}
+use Rattle.nts_model.specs.Tables.Worlds.{World, inst, IsTrueOf, IsMet, Solves, Agrees}
+use Rattle.nts_model.specs.Tables.Holding.{Continues}
+use Rattle.nts_model.specs.Tables.Equations.{Extension}
+use Rattle.nts_model.specs.Terms.Substitutions.{leaf_tree, filled}
+use Rattle.nts_model.specs.Derivations.Related.{Constraint}
+use Rattle.nts_model.specs.Derivations.Rules.{Equation}
+use Rattle.nts_model.specs.Lists.{Among}
+use Rattle.nts_model.specs.Derivations.Sequents.{Premise}
+use Rattle.nts_model.specs.Derivations.Proving.{recorded_as}
+use Rattle.nts_model.specs.Derivations.Handlers.{Candidate, premise_by, constraint_by}
+use Rattle.nts_model.specs.Canonical.Inputs.{PositionKind}
+use Rattle.nts_model.specs.Answers.Responses.{Findings, AreFindings, own_leaves, response_of, IsQueryTable}
+use Rattle.nts_model.specs.Answers.Applying.{IsRecordedIn}
+use Rattle.nts_model.specs.Terms.Placeholders.{leaf_level}
+use Rattle.nts_model.specs.Refutation.Choosing.{left_of, right_of, EquatesAll, FailsToEquate, RecordsAll}
+use Rattle.nts_model.specs.Refutation.Containing.{Truth, IsTrueBy, IsSolution, ContainsSolution, IsProvedIn, SolvesGoals, KeepsSolutions, RefusesGoals}
+use Rattle.nts_model.proofs.Tables.Slots.{Knows-kept, KeepsKinds, KeepsKinds-refl, KeepsKinds-trans}
+use Rattle.nts_model.proofs.Tables.Instances.{inst-agrees, Agrees-refl, Agrees-trans}
+use Rattle.nts_theory.proofs.Refutation.Answered.{solution_later, still_proved}
+use Rattle.nts_theory.proofs.Refutation.Responding.{ArePlaced, answer_contains}
+
+-- the world meets the equations, the constraints and the goals of a candidate, where the trees xs stand for its fresh variables
+pub record Equalizes (w : World) (xs : List Tree) (qs : List Equation) : Type 0 where
+  pub each : (q : Equation) → Among qs q → inst w (filled xs (left_of q)) ≡ inst w (filled xs (right_of q))
+
+pub record MeetsCandidate (truth : Truth) (Proves : Tree → Tree → Type 0) (w : World) (xs : List Tree) (a : Candidate) : Type 0 where
+  pub equal : Equalizes w xs a.equations
+  pub met : (x : Constraint) → Among a.constraints x → IsTrueBy truth x.relation (inst w (filled xs x.left)) (inst w (filled xs x.right))
+  pub goals : (g : Premise) → Among a.goals g → IsProvedIn Proves w (premise_by (filled xs) g)
+
+-- the filled terms are of the table
+pub record KnowsEquations (c : Content) (xs : List Tree) (qs : List Equation) : Type 0 where
+  pub left : (q : Equation) → Among qs q → Knows c (filled xs (left_of q))
+  pub right : (q : Equation) → Among qs q → Knows c (filled xs (right_of q))
+
+pub record KnowsCandidate (c : Content) (xs : List Tree) (a : Candidate) : Type 0 where
+  pub equations : KnowsEquations c xs a.equations
+  pub left : (x : Constraint) → Among a.constraints x → Knows c (filled xs x.left)
+  pub right : (x : Constraint) → Among a.constraints x → Knows c (filled xs x.right)
+  pub environments : (g : Premise) → Among a.goals g → Knows c (filled xs g.environment)
+  pub predicates : (g : Premise) → Among a.goals g → Knows c (filled xs g.predicate)
+
+kinds_later : (c d : Content) → Continues c d → KeepsKinds c d
+kinds_later c d h = record { grows = h.grows; kinds = h.kinds }
+
+knows_later : (c d : Content) (t : Tree) → KeepsKinds c d → Knows c t → Knows d t
+knows_later c d t h k = Knows-kept c d t h k
+
+equal_later : (c : Content) (w v : World) (a b : Tree) → Agrees (length c.slots) w v → Knows c a → Knows c b → inst w a ≡ inst w b → inst v a ≡ inst v b
+equal_later c w v a b h k l e = inst-agrees c w v a h k ∙ e ∙ sym (inst-agrees c w v b h l)
+
+rest_equal : (c e : Content) (w v : World) (xs : List Tree) (q : Equation) (qs : List Equation) → Agrees (length c.slots) w v → KnowsEquations c xs (q ∷ qs) → Equalizes w xs (q ∷ qs) → Equalizes v xs qs
+rest_equal c e w v xs q qs a k h = record { each = λ p i. equal_later c w v (filled xs (left_of p)) (filled xs (right_of p)) a (k.left p (inr i)) (k.right p (inr i)) (h.each p (inr i)) }
+
+rest_known : (c e : Content) (xs : List Tree) (q : Equation) (qs : List Equation) → Continues c e → KnowsEquations c xs (q ∷ qs) → KnowsEquations e xs qs
+rest_known c e xs q qs g k = record { left = λ p i. knows_later c e _ (kinds_later c e g) (k.left p (inr i)); right = λ p i. knows_later c e _ (kinds_later c e g) (k.right p (inr i)) }
+
+-- a world of a table, extended to a later one
+pub record ReachesWorld (c d : Content) (w : World) : Type 0 where
+  pub extended : Extension c d w
+  pub longer : length c.slots ≤ length d.slots
+  pub keeps : KeepsKinds c d
+
+-- what a world of the table equalizes can be equated, without losing the world
+pub equated_world : (xs : List Tree) (qs : List Equation) (c d : Content) (w : World) → EquatesAll xs qs c d → Solves c w → KnowsEquations c xs qs → Equalizes w xs qs → ReachesWorld c d w
+equated_world xs [] c d w h s k e =
+    subst (λ z. ReachesWorld c z w) (sym h)
+    (record { extended = record { world = w; agrees = Agrees-refl (length c.slots) w; solves = s; names = λ f q n. q }; longer = omega arith; keeps = KeepsKinds-refl c })
+equated_world xs (q ∷ qs) c d w (m, r, rest) s k e =
+    let x = r.complete w s (e.each q (inl refl)) in
+    let g = r.continues in
+    let more = equated_world xs qs m d x.world rest x.solves (rest_known c m xs q qs g k) (rest_equal c m w x.world xs q qs x.agrees k e) in
+    let y = more.extended in
+    record {
+      extended = record {
+        world = y.world;
+        agrees = Agrees-trans (length c.slots) (length m.slots) w x.world y.world g.more x.agrees y.agrees;
+        solves = y.solves;
+        names = λ f n o. y.names f (x.names f n tt) tt;
+      };
+      longer = (let a = g.more in let b = more.longer in omega (arith, a, b));
+      keeps = KeepsKinds-trans (kinds_later c m g) more.keeps;
+    }
+
+-- no equation fails that the world meets
+pub equated_never_fails : (xs : List Tree) (qs : List Equation) (c : Content) (w : World) → FailsToEquate xs qs c → Solves c w → KnowsEquations c xs qs → Equalizes w xs qs → ⊥
+equated_never_fails xs [] c w h s k e = h
+equated_never_fails xs (q ∷ qs) c w (inl r) s k e = r.none w s (e.each q (inl refl))
+equated_never_fails xs (q ∷ qs) c w (inr (m, r, rest)) s k e =
+    let x = r.complete w s (e.each q (inl refl)) in
+    equated_never_fails xs qs m x.world rest x.solves (rest_known c m xs q qs r.continues k) (rest_equal c m w x.world xs q qs x.agrees k e)
+
+-- seen from the table afterwards, the sides of each equation are one
+pub equated_back : (xs : List Tree) (qs : List Equation) (c d : Content) (w : World) → EquatesAll xs qs c d → Solves d w → Solves c w × Equalizes w xs qs
+equated_back xs [] c d w h s = (rw (← h) s, record { each = λ q i. absurd i })
+equated_back xs (q ∷ qs) c d w (m, r, rest) s =
+    let more = equated_back xs qs m d w rest s in
+    let one = r.sound w more.0 in
+    (one.0, record { each = λ p i. elim i [ inl e ↦ subst (λ z. inst w (filled xs (left_of z)) ≡ inst w (filled xs (right_of z))) (sym e) one.1 | inr j ↦ more.1.each p j ] })
+
+-- a solution, from one table to a later one
+pub record Reaches (truth : Truth) (base : ℕ) (c d : Content) (w : World) : Type 0 where
+  pub world : World
+  pub agrees : Agrees (length c.slots) w world
+  pub solution : IsSolution truth base d world
+  pub longer : length c.slots ≤ length d.slots
+  pub keeps : KeepsKinds c d
+
+module _ (truth : Truth) (base : ℕ) where
+  abbrev pub reaches_self : (c : Content) (w : World) → IsSolution truth base c w → Reaches truth base c c w
+  reaches_self c w s = record { world = w; agrees = Agrees-refl (length c.slots) w; solution = s; longer = omega arith; keeps = KeepsKinds-refl c }
+
+  abbrev pub reaches_trans : (c d e : Content) (w : World) → (x : Reaches truth base c d w) → Reaches truth base d e x.world → Reaches truth base c e w
+  reaches_trans c d e w x y =
+      record {
+        world = y.world;
+        agrees = Agrees-trans (length c.slots) (length d.slots) w x.world y.world x.longer x.agrees y.agrees;
+        solution = y.solution;
+        longer = (let a = x.longer in let b = y.longer in omega (arith, a, b));
+        keeps = KeepsKinds-trans x.keeps y.keeps;
+      }
+
+  pub equated_reaches : (xs : List Tree) (qs : List Equation) (c d : Content) (w : World) → EquatesAll xs qs c d → IsSolution truth base c w → KnowsEquations c xs qs → Equalizes w xs qs → Reaches truth base c d w
+  equated_reaches xs qs c d w h s k e =
+      let x = equated_world xs qs c d w h s.solves k e in
+      let y = x.extended in
+      record {
+        world = y.world;
+        agrees = y.agrees;
+        solution = solution_later truth base c d w y.world s (let z = x.keeps in z.grows) y.agrees y.solves (y.names leaf_level s.named tt);
+        longer = x.longer;
+        keeps = x.keeps;
+      }
+
+  pub true_there : (c : Content) (w : World) (r : Relation) (a b : Tree) → IsSolution truth base c w → IsTrueBy truth r a b → IsTrueOf w r a b
+  true_there c w relation.Equal a b s h = h
+  true_there c w relation.RegionOutlives a b s (inl e) = inl e
+  true_there c w relation.RegionOutlives a b s (inr e) = inr (s.outlives a b ∙ e)
+  true_there c w relation.TypeOutlives a b s e = s.outlives a b ∙ e
+
+  recorded_solution : (c d : Content) (x : Recorded) (w : World) → IsRecordedIn c d x → IsSolution truth base c w → IsMet w x → IsSolution truth base d w
+  recorded_solution c d x w r s m =
+      let n = r.narrows in
+      let g = r.continues in
+      solution_later truth base c d w w s g.grows (Agrees-refl (length c.slots) w) (n.complete w s.solves m) (n.names leaf_level w s.solves s.named m)
+
+  pub recorded_reaches : (xs : List Tree) (ys : List Constraint) (c d : Content) (w : World) → RecordsAll xs ys c d → IsSolution truth base c w
+      → ((x : Constraint) → Among ys x → IsTrueBy truth x.relation (inst w (filled xs x.left)) (inst w (filled xs x.right))) → (r : Reaches truth base c d w) × (r.world ≡ w)
+  recorded_reaches xs [] c d w h s m = subst (λ z. (r : Reaches truth base c z w) × (r.world ≡ w)) (sym h) (reaches_self c w s, refl)
+  recorded_reaches xs (x ∷ ys) c d w (e, r, rest) s m =
+      let t = recorded_solution c e (recorded_as (constraint_by (filled xs) x)) w r s (true_there c w x.relation (inst w (filled xs x.left)) (inst w (filled xs x.right)) s (m x (inl refl))) in
+      let g = r.continues in
+      let later = recorded_reaches xs ys e d w rest t (λ y i. m y (inr i)) in
+      let step : Reaches truth base c e w = record { world = w; agrees = Agrees-refl (length c.slots) w; solution = t; longer = g.more; keeps = record { grows = g.grows; kinds = g.kinds } } in
+      (reaches_trans c e d w step later.0, later.1)
+
+  premise_among : (xs : List Tree) (gs : List Premise) (q : Premise) → Among (map (premise_by (filled xs)) gs) q → (g : Premise) × Among gs g × (q ≡ premise_by (filled xs) g)
+  premise_among xs [] q i = absurd i
+  premise_among xs (g ∷ gs) q (inl e) = (g, inl refl, e)
+  premise_among xs (g ∷ gs) q (inr i) = (let x = premise_among xs gs q i in (x.0, inr x.1, x.2))
+
+  module _ (Proves : Tree → Tree → Type 0) (c d e : Content) (xs : List Tree) (a : Candidate) (equated : EquatesAll xs a.equations c d) (recorded : RecordsAll xs a.constraints d e) (known : KnowsCandidate c xs a)
+      (w : World) (s : IsSolution truth base c w) (meets : MeetsCandidate truth Proves w xs a) where
+    after_equations : Reaches truth base c d w
+    after_equations = equated_reaches xs a.equations c d w equated s known.equations meets.equal
+
+    still_true : (x : Constraint) → Among a.constraints x → IsTrueBy truth x.relation (inst (after_equations.world) (filled xs x.left)) (inst (after_equations.world) (filled xs x.right))
+    still_true x i =
+        let v = after_equations in
+        subst (λ z. IsTrueBy truth x.relation z (inst v.world (filled xs x.right))) (sym (inst-agrees c w v.world (filled xs x.left) v.agrees (known.left x i)))
+        (subst (λ z. IsTrueBy truth x.relation (inst w (filled xs x.left)) z) (sym (inst-agrees c w v.world (filled xs x.right) v.agrees (known.right x i))) (meets.met x i))
+
+    -- what a candidate's equations and constraints leave: a solution that proves its goals
+    pub tried : (r : Reaches truth base c e w) × SolvesGoals truth base Proves e (map (premise_by (filled xs)) a.goals) r.world
+    tried =
+        let v = after_equations in
+        let z = recorded_reaches xs a.constraints d e v.world recorded v.solution still_true in
+        let r = reaches_trans c d e w v z.0 in (
+          r,
+          record {
+            solution = r.solution;
+            goals = λ q i.
+                (let g = premise_among xs a.goals q i in
+                subst (IsProvedIn Proves r.world) (sym g.2)
+                (still_proved truth base Proves c w r.world (premise_by (filled xs) g.0) r.agrees (known.environments g.0 g.1) (known.predicates g.0 g.1) (meets.goals g.0 g.1)));
+          },
+        )
+
+    -- so its goals are not refused
+    pub tried_not_refused : RefusesGoals truth base Proves e (map (premise_by (filled xs)) a.goals) → ⊥
+    tried_not_refused r = let t = tried in r (t.0.world) t.1
+
+pub same_positions : (c : Content) (w v : World) (qs : List Tree) → Agrees (length c.slots) w v → ((t : Tree) → Among qs t → Knows c t) → map (inst v) qs ≡ map (inst w) qs
+same_positions c w v [] a k = refl
+same_positions c w v (q ∷ qs) a k = cc (inst-agrees c w v q a (k q (inl refl)), same_positions c w v qs a (λ t i. k t (inr i)))
+
+-- a response that is made once the goals were evaluated contains the solution
+pub evaluated_contains : (truth : Truth) (Proves : Tree → Tree → Type 0) (ks : List PositionKind) (c f : Content) (qs : List Tree) (gs hs : List Premise) (x : Findings) (sub : ℕ → ℕ) → KeepsSolutions truth 0 Proves c gs f hs
+    → IsQueryTable ks f qs → AreFindings f qs x → x.hidden ≡ [] → x.open_goals ≡ [] → ArePlaced ks qs → ((l : Leaf) → Among (own_leaves x) l → Knows f (leaf_tree l)) → ((t : Tree) → Among qs t → Knows c t)
+    → (w : World) → SolvesGoals truth 0 Proves c gs w → ContainsSolution truth (response_of f sub 0 x) (map (inst w) qs)
+evaluated_contains truth Proves ks c f qs gs hs x sub keeps table found no_hidden no_goals placed known terms w s =
+    let e = keeps.each w s in
+    let t = e.solves in
+    subst (ContainsSolution truth (response_of f sub 0 x)) (same_positions c w e.world qs e.agrees terms)
+    (answer_contains truth ks f qs x table found no_hidden no_goals placed known e.world t.solution sub)

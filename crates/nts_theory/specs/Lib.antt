@@ -1,0 +1,3 @@
+pub mod Decisions
+pub mod Erased
+pub mod Refutation

@@ -1,0 +1,2 @@
+-- What is refuted in coherence. It waits: no call promises it yet.
+pub mod Refutation

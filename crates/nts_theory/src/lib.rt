@@ -1,0 +1,2 @@
+//! Derivations, responses, the stack of a search, refutation, and what waits for later calls: theorems, no data.
+#![tactic(auto)]

@@ -1,0 +1,2 @@
+//! Relating with aliases and variances: definitions and theorems, no data.
+#![tactic(auto)]
