@@ -25,7 +25,7 @@ use nts_store::EvalError;
 use nts_table::InferCtxt;
 use nts_terms::{Cx, GenericArg, Goal};
 use nts_trying::{
-    AvailableDepth, Step, Trial, enter_forall, equate, goal_kind, is_candidates_goal, keep_met,
+    AvailableDepth, GoalRow, Step, Trial, enter_forall, equate, goal_kind, goal_row, keep_met,
     keep_response, merge_responses, record_constraints,
 };
 
@@ -157,14 +157,17 @@ fn compute_goal<H: GoalHandler>(
 {
     let opened = enter_forall(table, cx, goal)?;
     cx.terms_are_formed();
-    let Some(opened) = opened else {
-        let response = boxed_response(table, cx, values, Certainty::AMBIGUOUS)?;
-        return Ok(response);
+    let opened = match goal_row(cx, opened) {
+        GoalRow::Candidates(opened) => opened,
+        GoalRow::Unanswered(_) => {
+            let response = boxed_response(table, cx, values, Certainty::AMBIGUOUS)?;
+            return Ok(response);
+        }
+        GoalRow::Unopened => {
+            let response = boxed_response(table, cx, values, Certainty::AMBIGUOUS)?;
+            return Ok(response);
+        }
     };
-    if !is_candidates_goal(cx, opened) {
-        let response = boxed_response(table, cx, values, Certainty::AMBIGUOUS)?;
-        return Ok(response);
-    }
     let candidates = handler.relevant_candidates(cx, table.typing_mode(), opened)?;
     let kept = keep_met(table, cx, opened, candidates)?;
     let response = evaluate_candidates(table, cx, handler, graph, opened, &kept, values, depth);

@@ -1,6 +1,6 @@
 -- A goal that was opened: what is said of it where it was opened is said of the goal.
 use Rattle.std.proofs.Common.{◌≡◌, ◌⊎◌, inl, inr, ℕ, suc, ◌+◌, Bool, true, false, List, [], refl, sym, ap, ◌∙◌, subst, arith}
-use Rattle.std.specs.Prelude.{◌==◌, if◌then◌else◌, Result, Ok, Err, OnOk}
+use Rattle.std.specs.Prelude.{◌==◌, if◌then◌else◌, Option, Some, None, IfSome, Result, Ok, Err, OnOk}
 use Rattle.nts_model.specs.Derivations.Proofs.{Assumed}
 use Rattle.nts_model.specs.Searching.Stacks.{IsProvedFrom}
 use Rattle.nts_model.specs.declared.labels.Sort.{Sort}
@@ -207,3 +207,7 @@ module _ {a b : List Tree} {t u : Table} {g o : Goal} (posed : IsPosed a t g) (o
       let proved = by_entered_candidate h V mode A c terms.sound terms.values terms.constraints before e p current later solvable.levelled proper.regions (record { knows = posed.knows.env; formed = fe }) (record { knows = posed.knows.predicate; formed = fp }) (goal_closed before e p opens.closed ask) ask
       (record { knows = ke; formed = fe }) (record { knows = kp; formed = fp }) (record { knows = ko; formed = fo }) x.candidate law x.offered x.sure x.holds in
       subst (λ z. IsProvedFrom (meaning h V) mode A c z (tree_at d g.predicate.node)) (sym env) (subst (λ z. IsProvedFrom (meaning h V) mode A c e z) (sym pred) proved)
+
+pub opened_holds : {ts : List Tree} {t : Table} (o : Option Goal) → IfSome o (IsPosed ts t) → IfSome o (HoldsGoal ts)
+opened_holds None p = tt
+opened_holds (Some g) p = p.holds

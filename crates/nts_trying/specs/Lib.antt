@@ -4,3 +4,4 @@ pub mod Opening
 pub mod Found
 pub mod Stepping
 pub mod Adding
+pub mod Rows

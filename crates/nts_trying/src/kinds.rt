@@ -1,5 +1,5 @@
 //! Which goals the handler's candidates answer.
-ghost use Rattle.std.specs.Prelude.{ℕ, ◌≡◌, true, List};
+ghost use Rattle.std.specs.Prelude.{ℕ, ◌≡◌, true, List, IfSome};
 ghost use Rattle.nts_model.specs.declared.labels.Variance.{Variance};
 ghost use Rattle.nts_model.specs.Terms.Trees.{Tree};
 ghost use Rattle.nts_model.specs.Derivations.Rules.{goal_kind};
@@ -8,6 +8,7 @@ ghost use Rattle.nts_search.specs.Kinds.{goal_kind_of};
 ghost use Rattle.nts_model.specs.Derivations.Sequents.{HasClosedStatements};
 ghost use Rattle.nts_store.specs.Growth.{tree_at};
 ghost use Rattle.nts_asking.specs.Evaluation.{IsAskedGoal};
+ghost use Rattle.nts_trying.specs.Rows.{IsRowOf};
 ghost use Rattle.nts_terms.specs.Handles.{HoldsEnv, HoldsGoal};
 
 use nts_delegate::GoalHandler;
@@ -18,7 +19,7 @@ use nts_terms::{ClauseKind, Cx, Goal, ParamEnv, PredicateKind};
 /// that has neither aliases nor positions of a canonical value, and each bound variable of which is of the
 /// list of its binder. In its environment, too, no bound variable names a binder that binds nothing.
 #[inline(never)]
-pub fn is_candidates_goal(cx: &Cx, goal: Goal) -> bool
+fn is_candidates_goal(cx: &Cx, goal: Goal) -> bool
     requires { HoldsGoal cx.now.nodes goal }
     ensures { result ≡ true → IsAskedGoal cx.now.nodes goal }
 {
@@ -63,6 +64,34 @@ fn statements_are_closed(cx: &Cx, env: ParamEnv) -> bool
         }
     }
     true
+}
+
+/// By what a goal is answered.
+#[derive(Clone, Copy)]
+pub enum GoalRow {
+    /// By the candidates of the handler.
+    Candidates(Goal),
+    /// It is ambiguous: nothing answers a goal of its kind, or with its terms.
+    Unanswered(Goal),
+    /// It is ambiguous: it binds variables, and can't be opened.
+    Unopened,
+}
+
+/// By what a goal is answered that was opened, or that could not be.
+#[inline(never)]
+pub fn goal_row(cx: &Cx, opened: Option<Goal>) -> GoalRow
+    requires { IfSome opened (HoldsGoal cx.now.nodes) }
+    ensures { IsRowOf cx.now.nodes opened result }
+{
+    match opened {
+        Some(goal) => {
+            if is_candidates_goal(cx, goal) {
+                return GoalRow::Candidates(goal);
+            }
+            GoalRow::Unanswered(goal)
+        }
+        None => GoalRow::Unopened,
+    }
 }
 
 /// What kind of goal it is, for the steps from it.

@@ -12,6 +12,6 @@ mod steps;
 pub use binder::enter_forall;
 pub use candidate::{Trial, equate, record_constraints};
 pub use filter::keep_met;
-pub use kinds::{goal_kind, is_candidates_goal};
+pub use kinds::{GoalRow, goal_kind, goal_row};
 pub use merged::{keep_response, merge_responses};
 pub use steps::{AvailableDepth, Step, depth_below};
