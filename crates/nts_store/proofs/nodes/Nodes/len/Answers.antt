@@ -4,4 +4,4 @@ use Rattle.nts_store.proofs.nodes.Nodes.len.Goals as goal
 
 pub returns : goal.returns
 returns c =
-    c.len.ensures.len ∙ sym (length-trees c.self.inside.nodes.keys) ∙ ap length c.self.view_is
+    record { count = c.len.ensures.len ∙ sym (length-trees c.self.inside.nodes.keys) ∙ ap length c.self.view_is }
