@@ -117,6 +117,14 @@ class Words:
                     if found:
                         yield found
 
+    def promised(self, named):
+        """The definitions that the records of promises among these name."""
+        found = set()
+        for room, word in named:
+            if room.endswith(".Promises"):
+                found |= set(self.named_in("\n".join(self.rooms[room].lines[word]), self.rooms[room].imports, room))
+        return found
+
     def made_of(self, roots):
         """All definitions that these are made of, themselves among them."""
         seen, left = set(), list(roots)
@@ -176,7 +184,7 @@ def exported():
     for path in files_below(os.path.join(CRATES, LIBRARY, "src"), ".rt"):
         for crate, rest in re.findall(r"pub use (\w+)::([^;]+);", read(path)):
             items = braces(rest, rest.index("{")).split(",") if "{" in rest else [rest]
-            names[crate] |= {item.strip().split("::")[-1] for item in items if item.strip()}
+            names[crate] |= {item.split(" as ")[0].strip().split("::")[-1] for item in items if item.strip()}
     return names
 
 
@@ -190,7 +198,7 @@ def clause_words(words, crate, wanted):
             for label, text in clauses:
                 if wanted(owner, public, name, label):
                     named |= set(words.named_in(text, imports))
-            yield named
+            yield named | words.promised(named)
 
 
 def public_words(words):

@@ -28,7 +28,7 @@ pub record AddsRelated (a b : Cx) (t u : Table) (m n : EvalState) (env : ParamEn
   pub related : IsRelatedBy (variances_in a.declarations) a.nodes b.nodes t.entries u.entries env v (tree_at a.nodes x) (tree_at a.nodes y) goals
   pub added : n.nested_goals.items ≡ m.nested_goals.items ++ map (λ g. (source.TypeRelating, g)) goals
 
--- .. or were made equal, which leaves none
+-- two values were made equal, and the goals are those that were there
 pub record AreEquatedIn (a b : Cx) (t u : Table) (m n : EvalState) (x y : NodeId) : Type 0 where
   pub goals : n.nested_goals.items ≡ m.nested_goals.items
   pub related : AreRelated (content_of a.nodes t.entries) (content_of b.nodes u.entries) (tree_at a.nodes x) (tree_at a.nodes y)

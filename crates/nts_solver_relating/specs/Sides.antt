@@ -112,19 +112,23 @@ pub record AreMadeEqual (c d : Content) (a b : Tree) (gs : List Goal) : Type 0 w
   pub related : AreRelated c d a b
   pub labels : BringsLabelsOf c d a b
 
--- .. of two terms of a store, under a table of these entries
+-- two terms of a store were related by a variance, from one table's entries to the other's, and these goals are left
 abbrev pub IsRelatedIn : (ℕ → List Variance) → List Tree → List Tree → Entries → Entries → ParamEnv → Variance → NodeId → NodeId → List Goal → Type 0
 IsRelatedIn declared ts us e f env v x y gs = IsRelatedBy declared ts us e f env v (tree_at ts x) (tree_at ts y) gs
 
+-- two terms are refused under a table of these entries: no settled solution of it relates them
 abbrev pub RefusesIn : (ℕ → List Variance) → List Tree → Entries → Variance → NodeId → NodeId → Type 0
 RefusesIn declared ts e v x y = RefusesSides declared (content_of ts e) v (tree_at ts x) (tree_at ts y)
 
+-- two terms are to be made equal, and no alias stands in them, with the table's values in place of variables
 abbrev pub ArePlainIn : Variance → List Tree → Entries → NodeId → NodeId → Type 0
 ArePlainIn v ts e x y = ArePlain v (content_of ts e) (tree_at ts x) (tree_at ts y)
 
+-- two terms were made equal, from one table's entries to the other's, and no goal is left
 abbrev pub AreMadeEqualIn : List Tree → List Tree → Entries → Entries → NodeId → NodeId → List Goal → Type 0
 AreMadeEqualIn ts us e f x y gs = AreMadeEqual (content_of ts e) (content_of us f) (tree_at ts x) (tree_at ts y) gs
 
+-- no solution of a table of these entries makes the two terms equal
 abbrev pub AreUnrelatedIn : List Tree → Entries → NodeId → NodeId → Type 0
 AreUnrelatedIn ts e x y = AreUnrelated (content_of ts e) (tree_at ts x) (tree_at ts y)
 

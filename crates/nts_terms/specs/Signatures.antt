@@ -23,10 +23,12 @@ use Rattle.nts_terms.specs.declared.handles.ConstId.{ConstId}
 use Rattle.nts_terms.specs.declared.handles.Ty.{Ty}
 use Rattle.nts_store.specs.Growth.{tree_at}
 
+-- of a constructor, the sorts of its arguments and their variances
 pub record CtorSorts : Type 0 where
   pub sorts : List Sort
   pub variances : List Variance
 
+-- of an alias, the sorts of its arguments and its kind
 pub record AliasSorts : Type 0 where
   pub sorts : List Sort
   pub kind : AliasKind
