@@ -86,6 +86,7 @@ fn tell(
     ensures memory { IsOkUnless result Fault.Memory }
 {
     // Equal terms of one store have one number, so numbers tell whether two constraints are the same.
+    nodes.terms_are_formed();
     let terms = nodes.len();
     prove!(constraint.left.number < terms);
     if nodes.same(constraint.left, constraint.right) {

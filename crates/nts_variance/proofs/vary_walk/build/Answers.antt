@@ -32,18 +32,18 @@ overflow_sub-first c = omega (arith, few_at c.args.walk.now.tasks.items c.args.t
 
 pub build_over-requires-clause-parts_within : goal.build_over-requires-clause-parts_within
 build_over-requires-clause-parts_within c =
-    parts_in (λ n. []) false c.args.target.universe c.args.target.variable c.args.nodes.now c.args.table.now.entries _ c.args.walk.now.made.items c.split_off.new.self.items c.deref.result.now c.args.walk.now.goals.items c.requires.walk (split_at c.args.walk.now.made.items c.split_off.new.self.items c.in_ok-parts.parts.items c.deref.result.now (c.len-2.result - c.child_count.result) c.in_ok-parts.ensures.items c.in_ok-parts.ensures.tail c.deref.ensures.value)
+    parts_in (λ n. []) false c.args.target.universe c.args.target.variable c.args.nodes.now c.args.table.now.entries _ c.args.walk.now.made.items c.split_off.new.self.items c.deref.result.now c.args.walk.now.goals.items c.requires.walk (split_at c.args.walk.now.made.items c.split_off.new.self.items c.in_ok-parts.parts.items c.deref.result.now (c.len.result - c.child_count.result) c.in_ok-parts.ensures.items c.in_ok-parts.ensures.tail c.deref.ensures.value)
 
 pub build_over-requires-clause-is : goal.build_over-requires-clause-is
 build_over-requires-clause-is c = (own c.args.walk.now.tasks.items c.args.term c.requires.walk).is
 
 pub build_over-requires-clause-fit : goal.build_over-requires-clause-fit
 build_over-requires-clause-fit c =
-    parts_fit (λ n. []) false c.args.target.universe c.args.target.variable c.args.nodes.now c.args.table.now.entries c.args.walk.now.tasks.items c.args.term c.args.walk.now.made.items c.split_off.new.self.items c.deref.result.now c.args.walk.now.goals.items c.requires.walk (split_at c.args.walk.now.made.items c.split_off.new.self.items c.in_ok-parts.parts.items c.deref.result.now (c.len-2.result - c.child_count.result) c.in_ok-parts.ensures.items c.in_ok-parts.ensures.tail c.deref.ensures.value) (parts_long (length c.deref.result.now) _ c.len-2.result c.child_count.result (row_length (parts_of (tree_at c.args.nodes.now c.args.term))) _ (length c.args.walk.now.made.items) c.deref.ensures.len c.in_ok-parts.ensures.tail_len c.len.ensures (c.child_count.ensures.count ∙ ap row_length c.holder-row.ensures.parts) (few_at c.args.walk.now.tasks.items c.args.term c.requires.walk) (search rules))
+    parts_fit (λ n. []) false c.args.target.universe c.args.target.variable c.args.nodes.now c.args.table.now.entries c.args.walk.now.tasks.items c.args.term c.args.walk.now.made.items c.split_off.new.self.items c.deref.result.now c.args.walk.now.goals.items c.requires.walk (split_at c.args.walk.now.made.items c.split_off.new.self.items c.in_ok-parts.parts.items c.deref.result.now (c.len.result - c.child_count.result) c.in_ok-parts.ensures.items c.in_ok-parts.ensures.tail c.deref.ensures.value) (parts_long (length c.deref.result.now) _ c.len.result c.child_count.result (row_length (parts_of (tree_at c.args.nodes.now c.args.term))) _ (length c.args.walk.now.made.items) c.deref.ensures.len c.in_ok-parts.ensures.tail_len c.len.ensures (c.child_count.ensures.count ∙ ap row_length c.holder-row.ensures.parts) (few_at c.args.walk.now.tasks.items c.args.term c.requires.walk) (search rules))
 
 pub build_over-requires-clause-long : goal.build_over-requires-clause-long
-build_over-requires-clause-long c = rows_long c.args.nodes.now c.deref.result.now ∙ (parts_long (length c.deref.result.now) _ c.len-2.result c.child_count.result (row_length (parts_of (tree_at c.args.nodes.now c.args.term))) _ (length c.args.walk.now.made.items) c.deref.ensures.len c.in_ok-parts.ensures.tail_len c.len.ensures (c.child_count.ensures.count ∙ ap row_length c.holder-row.ensures.parts) (few_at c.args.walk.now.tasks.items c.args.term c.requires.walk) (search rules))
+build_over-requires-clause-long c = rows_long c.args.nodes.now c.deref.result.now ∙ (parts_long (length c.deref.result.now) _ c.len.result c.child_count.result (row_length (parts_of (tree_at c.args.nodes.now c.args.term))) _ (length c.args.walk.now.made.items) c.deref.ensures.len c.in_ok-parts.ensures.tail_len c.len.ensures (c.child_count.ensures.count ∙ ap row_length c.holder-row.ensures.parts) (few_at c.args.walk.now.tasks.items c.args.term c.requires.walk) (search rules))
 
 pub returns-clause-turn : goal.returns-clause-turn
 returns-clause-turn c = λ declared.
-    turn_built declared c.args.target.is_turned c.args.target.universe c.args.target.variable c.args.nodes.now c.build_over.new.nodes c.args.table.now.entries c.args.walk.now.tasks.items c.args.term c.args.walk.now.made.items c.split_off.new.self.items c.deref.result.now c.push.new.self.items c.in_ok-whole.whole c.args.walk.now.goals.items c.requires.walk (split_at c.args.walk.now.made.items c.split_off.new.self.items c.in_ok-parts.parts.items c.deref.result.now (c.len-2.result - c.child_count.result) c.in_ok-parts.ensures.items c.in_ok-parts.ensures.tail c.deref.ensures.value) (parts_long (length c.deref.result.now) _ c.len-2.result c.child_count.result (row_length (parts_of (tree_at c.args.nodes.now c.args.term))) _ (length c.args.walk.now.made.items) c.deref.ensures.len c.in_ok-parts.ensures.tail_len c.len.ensures (c.child_count.ensures.count ∙ ap row_length c.holder-row.ensures.parts) (few_at c.args.walk.now.tasks.items c.args.term c.requires.walk) (search rules)) c.in_ok-whole.ensures.extends c.in_ok-whole.ensures.within c.in_ok-whole.ensures.tree c.in_ok-push.ensures.items
+    turn_built declared c.args.target.is_turned c.args.target.universe c.args.target.variable c.args.nodes.now c.build_over.new.nodes c.args.table.now.entries c.args.walk.now.tasks.items c.args.term c.args.walk.now.made.items c.split_off.new.self.items c.deref.result.now c.push.new.self.items c.in_ok-whole.whole c.args.walk.now.goals.items c.requires.walk (split_at c.args.walk.now.made.items c.split_off.new.self.items c.in_ok-parts.parts.items c.deref.result.now (c.len.result - c.child_count.result) c.in_ok-parts.ensures.items c.in_ok-parts.ensures.tail c.deref.ensures.value) (parts_long (length c.deref.result.now) _ c.len.result c.child_count.result (row_length (parts_of (tree_at c.args.nodes.now c.args.term))) _ (length c.args.walk.now.made.items) c.deref.ensures.len c.in_ok-parts.ensures.tail_len c.len.ensures (c.child_count.ensures.count ∙ ap row_length c.holder-row.ensures.parts) (few_at c.args.walk.now.tasks.items c.args.term c.requires.walk) (search rules)) c.in_ok-whole.ensures.extends c.in_ok-whole.ensures.within c.in_ok-whole.ensures.tree c.in_ok-push.ensures.items
