@@ -33,8 +33,7 @@ pub record EvaluatesAdded {H : Type 0} {X : Type 0} (R : Rules) (a b : EvalCtxt 
   pub proved : Always R a.cx.now (λ s. OnOk r (AreSettled (λ z. IsProvedSince R.handler s a.table.now.mode b.cx.now.nodes b.table.now z.1) a.state.now.nested_goals.items b.state.now.nested_goals.items))
   pub faulted : IfSome a.state.now.fault (λ f. r ≡ Err (error_of f))
 
--- two values, which are of one alias or trait if they are the arguments of one, are related by a variance in a context, and the goals
--- that this leaves are added; or they are refused, and the table and the goals are as before
+-- two values are related by a variance in a context, and the goals that this leaves are added; or they are refused
 pub record RelatesIn {H : Type 0} (ready : List Tree → H → Type 0) (OfOneHead : Type 0) (a b : EvalCtxt H) (env : ParamEnv) (v : Variance) (x y : NodeId) (r : Result (Unit {0}) EvalError) : Type 0 where
   pub keeps : KeepsContext ready a b
   pub heads : OnOk r OfOneHead
