@@ -158,15 +158,15 @@ fn compute_goal<H: GoalHandler>(
     let opened = enter_forall(table, cx, goal)?;
     cx.terms_are_formed();
     let opened = match goal_row(cx, opened) {
-        GoalRow::Candidates(opened) => opened,
-        GoalRow::Unanswered(_) => {
-            let response = boxed_response(table, cx, values, Certainty::AMBIGUOUS)?;
-            return Ok(response);
-        }
         GoalRow::Unopened => {
             let response = boxed_response(table, cx, values, Certainty::AMBIGUOUS)?;
             return Ok(response);
         }
+        GoalRow::Unanswered(_) => {
+            let response = boxed_response(table, cx, values, Certainty::AMBIGUOUS)?;
+            return Ok(response);
+        }
+        GoalRow::Candidates(opened) => opened,
     };
     let candidates = handler.relevant_candidates(cx, table.typing_mode(), opened)?;
     let kept = keep_met(table, cx, opened, candidates)?;

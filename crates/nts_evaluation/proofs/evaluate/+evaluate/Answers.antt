@@ -36,7 +36,7 @@ use Rattle.nts_asking.specs.Telling.{IsPlainResponse}
 use Rattle.nts_asking.specs.Telling.Tells.{tells_nothing, says_nothing}
 use Rattle.nts_asking.specs.Telling.Fails.{is_unmet}
 use Rattle.nts_trying.proofs.Filtered.{kept_candidates, kept_outcomes, kept_tell}
-use Rattle.nts_trying.proofs.Opened.{told_through, told_offered, refuted_through, nothing_through, labels_through, labels_entered, proved_through}
+use Rattle.nts_trying.proofs.Opened.{told_through, told_offered, refuted_through, nothing_through, labels_through, labels_entered, proved_through, opened_holds}
 use Rattle.nts_trying.proofs.Probed.{found_in, found_still, found_fits, found_derived, went_in, plain_of, doubtful, not_kept, told_or_plain, run_replies, said_of}
 use Rattle.nts_trying.proofs.Outcomes.{found_earlier, founds_more, founds_with, outcomes_first, outcomes_more, found_merged, told_merged, failed_of}
 use Rattle.nts_trying.proofs.Ran.{breaks, added_is, added_only, ran_to, ran_refused, all_proved, all_posed, proved_all, ok_inside}
@@ -76,23 +76,26 @@ compute_goal-evaluate_candidates-response-requires = candidates.compute_goal-eva
 pub compute_goal-keep_met-requires-clause-posed : goal.compute_goal-keep_met-requires-clause-posed
 compute_goal-keep_met-requires-clause-posed g t c =
     let o = c.in_ok-opened.ensures in
-    IsPosed-later (Goes-extends o.goes.table c.in_ok-candidates.ensures.grows.extends) (rw c.in-Some.is at o.posed)
+    IsPosed-later (Goes-extends o.goes.table c.in_ok-candidates.ensures.grows.extends) (rw c.in-Candidates.ensures.0 at o.posed)
+
+pub compute_goal-goal_row-requires : goal.compute_goal-goal_row-requires
+compute_goal-goal_row-requires g t c = opened_holds c.in_ok-opened.opened c.in_ok-opened.ensures.posed
 
 pub compute_goal-boxed_response-requires-clause-values : goal.compute_goal-boxed_response-requires-clause-values
 compute_goal-boxed_response-requires-clause-values g t c =
     let o = c.in_ok-opened.ensures in
     args_later c.args.cx.now.nodes c.enter_forall.new.cx.nodes c.args.table.now.entries c.enter_forall.new.table.entries c.args.values.now o.goes.extends o.goes.continues c.requires.values
 
-pub compute_goal-boxed_response-requires-then-not-is_candidates_goal-clause-values : goal.compute_goal-boxed_response-requires-then-not-is_candidates_goal-clause-values
-compute_goal-boxed_response-requires-then-not-is_candidates_goal-clause-values g t c =
+pub compute_goal-boxed_response-requires-in-Unanswered-clause-values : goal.compute_goal-boxed_response-requires-in-Unanswered-clause-values
+compute_goal-boxed_response-requires-in-Unanswered-clause-values g t c =
     let o = c.in_ok-opened.ensures in
     args_later c.args.cx.now.nodes c.enter_forall.new.cx.nodes c.args.table.now.entries c.enter_forall.new.table.entries c.args.values.now o.goes.extends o.goes.continues c.requires.values
 
 pub compute_goal-returns : goal.compute_goal-returns
 compute_goal-returns = candidates.compute_goal-returns
 
-pub compute_goal-returns-in_default : goal.compute_goal-returns-in_default
-compute_goal-returns-in_default g t c =
+pub compute_goal-returns-in-Unopened : goal.compute_goal-returns-in-Unopened
+compute_goal-returns-in-Unopened g t c =
     let o = c.in_ok-opened.ensures in
     let r = c.in_ok-response.ensures in
     let trees = trees_kept c.args.cx.now.nodes c.enter_forall.new.cx.nodes c.args.table.now.entries c.args.values.now o.grows.extends c.requires.values in
@@ -100,8 +103,8 @@ compute_goal-returns-in_default g t c =
     record {
       grows = search rules;
       searches = Searches-refl c.args.depth c.requires.search (grown c.in_ok-opened.ensures.grows c.in_ok-response.ensures.grows);
-      found = found_in c.in_ok-response.response.value _ o.goes c.terms_are_formed.ensures r.grows.extends (only_same _ o.grows.extends c.requires.posed.table (o.left (ap is_some c.in_default.is))) c.requires.values r.certainty r.says r.holds (record { no_hidden = r.nothing.0; no_goals = r.nothing.1 }) (λ y. absurd (doubtful _ y));
-      told = λ s tells. tells_nothing (content_of c.enter_forall.new.cx.nodes c.enter_forall.new.table.entries) (inl (content_same o.grows.extends c.requires.posed.table (o.left (ap is_some c.in_default.is)))) (rw trees at plain);
+      found = found_in c.in_ok-response.response.value _ o.goes c.terms_are_formed.ensures r.grows.extends (only_same _ o.grows.extends c.requires.posed.table (o.left (ap is_some c.in-Unopened.ensures))) c.requires.values r.certainty r.says r.holds (record { no_hidden = r.nothing.0; no_goals = r.nothing.1 }) (λ y. absurd (doubtful _ y));
+      told = λ s tells. tells_nothing (content_of c.enter_forall.new.cx.nodes c.enter_forall.new.table.entries) (inl (content_same o.grows.extends c.requires.posed.table (o.left (ap is_some c.in-Unopened.ensures)))) (rw trees at plain);
       refuted = search rules;
     }
 
@@ -119,23 +122,23 @@ compute_goal-returns-in_err-opened g t c =
 
 pub compute_goal-returns-in_err-response-2 : goal.compute_goal-returns-in_err-response-2
 compute_goal-returns-in_err-response-2 g t c =
-    goal_failed c.from_residual-in_err-response-2.result (search rules) (search rules) (search rules) (Searches-refl c.args.depth c.requires.search (grown c.in_ok-opened.ensures.grows c.boxed_response-then-not-is_candidates_goal.ensures.grows))
+    goal_failed c.from_residual-in_err-response-2.result (search rules) (search rules) (search rules) (Searches-refl c.args.depth c.requires.search (grown c.in_ok-opened.ensures.grows c.boxed_response-in-Unanswered.ensures.grows))
 
 pub compute_goal-returns-in_err-response : goal.compute_goal-returns-in_err-response
 compute_goal-returns-in_err-response g t c =
     goal_failed c.from_residual-in_err-response.result (search rules) (search rules) (search rules) (Searches-refl c.args.depth c.requires.search (grown c.in_ok-opened.ensures.grows c.boxed_response.ensures.grows))
 
-pub compute_goal-returns-then-not-is_candidates_goal : goal.compute_goal-returns-then-not-is_candidates_goal
-compute_goal-returns-then-not-is_candidates_goal g t c =
+pub compute_goal-returns-in-Unanswered : goal.compute_goal-returns-in-Unanswered
+compute_goal-returns-in-Unanswered g t c =
     let o = c.in_ok-opened.ensures in
     let r = c.in_ok-response-2.ensures in
     let trees = trees_kept c.args.cx.now.nodes c.enter_forall.new.cx.nodes c.args.table.now.entries c.args.values.now o.grows.extends c.requires.values in
-    let plain : IsPlainResponse (content_of c.enter_forall.new.cx.nodes c.enter_forall.new.table.entries) (trees_of c.enter_forall.new.cx.nodes c.args.values.now) (response_at c.boxed_response-then-not-is_candidates_goal.new.cx.nodes c.in_ok-response-2.response.value) = c.in_ok-response-2.ensures.says in
+    let plain : IsPlainResponse (content_of c.enter_forall.new.cx.nodes c.enter_forall.new.table.entries) (trees_of c.enter_forall.new.cx.nodes c.args.values.now) (response_at c.boxed_response-in-Unanswered.new.cx.nodes c.in_ok-response-2.response.value) = c.in_ok-response-2.ensures.says in
     record {
       grows = search rules;
       searches = Searches-refl c.args.depth c.requires.search (grown c.in_ok-opened.ensures.grows c.in_ok-response-2.ensures.grows);
-      found = found_in c.in_ok-response-2.response.value _ o.goes c.terms_are_formed.ensures r.grows.extends (labels_entered c.requires.posed (rw c.in-Some.is at o.opened) o.grows.extends) c.requires.values r.certainty r.says r.holds (record { no_hidden = r.nothing.0; no_goals = r.nothing.1 }) (λ y. absurd (doubtful _ y));
-      told = λ s tells. nothing_through c.requires.posed (rw c.in-Some.is at o.opened) o.grows.extends (g.H.GoalHandler.handler s.base c.args.handler.now) c.args.table.now.mode c.args.values.now _ c.in_ok-response-2.response.value trees plain;
+      found = found_in c.in_ok-response-2.response.value _ o.goes c.terms_are_formed.ensures r.grows.extends (labels_entered c.requires.posed (rw c.in-Unanswered.ensures at o.opened) o.grows.extends) c.requires.values r.certainty r.says r.holds (record { no_hidden = r.nothing.0; no_goals = r.nothing.1 }) (λ y. absurd (doubtful _ y));
+      told = λ s tells. nothing_through c.requires.posed (rw c.in-Unanswered.ensures at o.opened) o.grows.extends (g.H.GoalHandler.handler s.base c.args.handler.now) c.args.table.now.mode c.args.values.now _ c.in_ok-response-2.response.value trees plain;
       refuted = search rules;
     }
 

@@ -69,7 +69,7 @@ compute_goal-evaluate_candidates-response-requires g t c = λ κs k.
     let o = c.in_ok-opened.ensures in
     let e = c.in_ok-candidates.ensures in
     let m = c.in_ok-kept.ensures in
-    let posed = rw c.in-Some.is at o.posed in
+    let posed = rw c.in-Candidates.ensures.0 at o.posed in
     let more = Extends-trans e.grows.extends m.grows.extends in
     let goes = goes-back o.goes.table more m.same in
     let all = Goes-trans o.goes goes in (
@@ -79,7 +79,7 @@ compute_goal-evaluate_candidates-response-requires g t c = λ κs k.
         (
           IsPosed-later goes posed,
           (
-            IsAskedGoal-extended more (c.is_candidates_goal.ensures c.if-not-is_candidates_goal.false),
+            IsAskedGoal-extended more c.in-Candidates.ensures.1,
             (
               g.met.H.GoalHandler.ready_kept _ _ _ c.requires.ready (Extends-trans o.grows.extends more),
               (
@@ -103,8 +103,8 @@ compute_goal-returns g t c =
     let more = Extends-trans e.grows.extends m.grows.extends in
     let up = Extends-trans o.grows.extends e.grows.extends in
     let all = Extends-trans o.grows.extends more in
-    let opened = rw c.in-Some.is at o.opened in
-    let posed = rw c.in-Some.is at o.posed in
+    let opened = rw c.in-Candidates.ensures.0 at o.opened in
+    let posed = rw c.in-Candidates.ensures.0 at o.posed in
     let here = content_of-extended e.grows.extends o.goes.table.now in
     let trees = trees_kept c.args.cx.now.nodes c.enter_forall.new.cx.nodes c.args.table.now.entries c.args.values.now o.grows.extends c.requires.values in
     record {
@@ -119,7 +119,7 @@ compute_goal-returns g t c =
             after = f.after;
             formed = f.formed;
             goes = Goes-trans o.goes (Goes-trans goes f.goes);
-            labels = labels_through c.requires.posed opened o.grows.extends (only_back {g = c.in-Some.opened} more o.goes.table posed.holds f.labels);
+            labels = labels_through c.requires.posed opened o.grows.extends (only_back {g = c.in-Candidates.opened} more o.goes.table posed.holds f.labels);
             extends = f.extends;
             says = rw both at f.says;
             holds = f.holds;
@@ -127,12 +127,12 @@ compute_goal-returns g t c =
             sure = λ y s.
                 let h = g.H.GoalHandler.handler s.base c.args.handler.now in
                 let same = g.met.H.GoalHandler.handler_kept s.base c.relevant_candidates.new.cx.nodes c.args.handler.now s.is_ready (Extends-trans s.extends up) in
-                let offered = subst (λ os. LeavesOut os (candidates_of c.relevant_candidates.new.cx.nodes c.in_ok-candidates.candidates.items)) (ap (λ m. (g.H.GoalHandler.handler c.relevant_candidates.new.cx.nodes c.args.handler.now).offers (mode_of m) (tree_at c.relevant_candidates.new.cx.nodes c.in-Some.opened.param_env.node) (tree_at c.relevant_candidates.new.cx.nodes c.in-Some.opened.predicate.node)) c.typing_mode.ensures ∙ same.offers _ _ _) e.offered in
+                let offered = subst (λ os. LeavesOut os (candidates_of c.relevant_candidates.new.cx.nodes c.in_ok-candidates.candidates.items)) (ap (λ m. (g.H.GoalHandler.handler c.relevant_candidates.new.cx.nodes c.args.handler.now).offers (mode_of m) (tree_at c.relevant_candidates.new.cx.nodes c.in-Candidates.opened.param_env.node) (tree_at c.relevant_candidates.new.cx.nodes c.in-Candidates.opened.predicate.node)) c.typing_mode.ensures ∙ same.offers _ _ _) e.offered in
                 let law = g.met.H.GoalHandler.lawful s.base c.args.handler.now s.formed s.is_ready in
                 let there = Goes-trans goes f.goes in
                 let later = (Goes-trans o.goes there).continues in
-                let among = kept_offered c.in-Some.opened h c.enter_forall.new.table.mode m.kept m.grows.extends (HoldsGoal-extended e.grows.extends posed.holds) e.candidates offered in
-                proved_through c.requires.posed opened o.grows.extends h s.variances (mode_of c.args.table.now.mode) (assumed_in c.evaluate_candidates-response.new.cx.nodes c.evaluate_candidates-response.new.graph) posed (let z = c.is_candidates_goal.ensures c.if-not-is_candidates_goal.false in z.asked) there later f.formed law (rw o.goes.mode at (f.sure y (Since-later (grown o.grows (grown e.grows m.grows)) s) among));
+                let among = kept_offered c.in-Candidates.opened h c.enter_forall.new.table.mode m.kept m.grows.extends (HoldsGoal-extended e.grows.extends posed.holds) e.candidates offered in
+                proved_through c.requires.posed opened o.grows.extends h s.variances (mode_of c.args.table.now.mode) (assumed_in c.evaluate_candidates-response.new.cx.nodes c.evaluate_candidates-response.new.graph) posed (let z = c.in-Candidates.ensures.1 in z.asked) there later f.formed law (rw o.goes.mode at (f.sure y (Since-later (grown o.grows (grown e.grows m.grows)) s) among));
           })
           (rw (c.deref.ensures.value, m.same) at c.evaluate_candidates-response.ensures.found);
       told = λ s tells.
@@ -141,21 +141,21 @@ compute_goal-returns g t c =
           let both = trees_kept c.args.cx.now.nodes c.relevant_candidates.new.cx.nodes c.args.table.now.entries c.args.values.now up c.requires.values in
           let h = g.H.GoalHandler.handler s.base c.args.handler.now in
           let same = g.met.H.GoalHandler.handler_kept s.base c.relevant_candidates.new.cx.nodes c.args.handler.now s.is_ready (Extends-trans s.extends up) in
-          let offered = subst (λ os. LeavesOut os (candidates_of c.relevant_candidates.new.cx.nodes c.in_ok-candidates.candidates.items)) (ap (λ m. (g.H.GoalHandler.handler c.relevant_candidates.new.cx.nodes c.args.handler.now).offers (mode_of m) (tree_at c.relevant_candidates.new.cx.nodes c.in-Some.opened.param_env.node) (tree_at c.relevant_candidates.new.cx.nodes c.in-Some.opened.predicate.node)) c.typing_mode.ensures ∙ same.offers _ _ _) e.offered in
+          let offered = subst (λ os. LeavesOut os (candidates_of c.relevant_candidates.new.cx.nodes c.in_ok-candidates.candidates.items)) (ap (λ m. (g.H.GoalHandler.handler c.relevant_candidates.new.cx.nodes c.args.handler.now).offers (mode_of m) (tree_at c.relevant_candidates.new.cx.nodes c.in-Candidates.opened.param_env.node) (tree_at c.relevant_candidates.new.cx.nodes c.in-Candidates.opened.predicate.node)) c.typing_mode.ensures ∙ same.offers _ _ _) e.offered in
           let run = rw (c.deref.ensures.value, m.same) at (c.evaluate_candidates-response.ensures.told (Since-later (grown o.grows (grown e.grows m.grows)) s) (tell_grown h c.args.depth c.requires.search (grown o.grows (grown e.grows m.grows)) tells)) in
           IfOk-map c.evaluate_candidates-response.result
-          (λ r f. told_through c.requires.posed opened o.grows.extends (let z = c.is_candidates_goal.ensures c.if-not-is_candidates_goal.false in z.asked) h c.args.table.now.mode c.args.values.now c.evaluate_candidates-response.new.cx.nodes r.value trees
-          (rw (o.goes.mode) at (told_offered h c.enter_forall.new.table.mode c.enter_forall.new.table c.in-Some.opened c.args.values.now c.in_ok-candidates.candidates.items c.evaluate_candidates-response.new.cx.nodes r.value e.grows.extends o.goes.table posed.holds (both ∙ sym trees) offered
-          (kept_tell c.evaluate_candidates-response.new.cx.nodes c.in-Some.opened h c.enter_forall.new.table.mode c.args.values.now r.value m.kept m.grows.extends (IsTable-extended e.grows.extends o.goes.table) args e.candidates f)))) run;
+          (λ r f. told_through c.requires.posed opened o.grows.extends (let z = c.in-Candidates.ensures.1 in z.asked) h c.args.table.now.mode c.args.values.now c.evaluate_candidates-response.new.cx.nodes r.value trees
+          (rw (o.goes.mode) at (told_offered h c.enter_forall.new.table.mode c.enter_forall.new.table c.in-Candidates.opened c.args.values.now c.in_ok-candidates.candidates.items c.evaluate_candidates-response.new.cx.nodes r.value e.grows.extends o.goes.table posed.holds (both ∙ sym trees) offered
+          (kept_tell c.evaluate_candidates-response.new.cx.nodes c.in-Candidates.opened h c.enter_forall.new.table.mode c.args.values.now r.value m.kept m.grows.extends (IsTable-extended e.grows.extends o.goes.table) args e.candidates f)))) run;
       refuted = λ s tells n.
           let goes = Goes-trans o.goes (Goes-extends o.goes.table e.grows.extends) in
           let args = args_later c.args.cx.now.nodes c.relevant_candidates.new.cx.nodes c.args.table.now.entries c.enter_forall.new.table.entries c.args.values.now goes.extends goes.continues c.requires.values in
           let h = g.H.GoalHandler.handler s.base c.args.handler.now in
           let same = g.met.H.GoalHandler.handler_kept s.base c.relevant_candidates.new.cx.nodes c.args.handler.now s.is_ready (Extends-trans s.extends up) in
-          let offered = subst (λ os. LeavesOut os (candidates_of c.relevant_candidates.new.cx.nodes c.in_ok-candidates.candidates.items)) (ap (λ m. (g.H.GoalHandler.handler c.relevant_candidates.new.cx.nodes c.args.handler.now).offers (mode_of m) (tree_at c.relevant_candidates.new.cx.nodes c.in-Some.opened.param_env.node) (tree_at c.relevant_candidates.new.cx.nodes c.in-Some.opened.predicate.node)) c.typing_mode.ensures ∙ same.offers _ _ _) e.offered in
+          let offered = subst (λ os. LeavesOut os (candidates_of c.relevant_candidates.new.cx.nodes c.in_ok-candidates.candidates.items)) (ap (λ m. (g.H.GoalHandler.handler c.relevant_candidates.new.cx.nodes c.args.handler.now).offers (mode_of m) (tree_at c.relevant_candidates.new.cx.nodes c.in-Candidates.opened.param_env.node) (tree_at c.relevant_candidates.new.cx.nodes c.in-Candidates.opened.predicate.node)) c.typing_mode.ensures ∙ same.offers _ _ _) e.offered in
           let kept = rw (c.deref.ensures.value, m.same) at (c.evaluate_candidates-response.ensures.refuted (Since-later (grown o.grows (grown e.grows m.grows)) s) (tell_grown h c.args.depth c.requires.search (grown o.grows (grown e.grows m.grows)) tells) n) in
-          let run = kept_outcomes c.in-Some.opened h c.enter_forall.new.table.mode c.args.values.now m.kept m.grows.extends (IsTable-extended e.grows.extends o.goes.table) args e.candidates kept in
-          refuted_through c.requires.posed opened o.grows.extends (let z = c.is_candidates_goal.ensures c.if-not-is_candidates_goal.false in z.asked) h c.args.table.now.mode (trees_of c.relevant_candidates.new.cx.nodes c.args.values.now)
+          let run = kept_outcomes c.in-Candidates.opened h c.enter_forall.new.table.mode c.args.values.now m.kept m.grows.extends (IsTable-extended e.grows.extends o.goes.table) args e.candidates kept in
+          refuted_through c.requires.posed opened o.grows.extends (let z = c.in-Candidates.ensures.1 in z.asked) h c.args.table.now.mode (trees_of c.relevant_candidates.new.cx.nodes c.args.values.now)
           (rw (here, o.goes.mode, offers-kept h (mode_of c.args.table.now.mode) e.grows.extends posed.holds) at (all_outcomes offered _ _ refl run));
     }
 
