@@ -208,6 +208,6 @@ module _ {a b : List Tree} {t u : Table} {g o : Goal} (posed : IsPosed a t g) (o
       (record { knows = ke; formed = fe }) (record { knows = kp; formed = fp }) (record { knows = ko; formed = fo }) x.candidate law x.offered x.sure x.holds in
       subst (λ z. IsProvedFrom (meaning h V) mode A c z (tree_at d g.predicate.node)) (sym env) (subst (λ z. IsProvedFrom (meaning h V) mode A c e z) (sym pred) proved)
 
-pub opened_holds : {ts : List Tree} {t : Table} (o : Option Goal) → IfSome o (IsPosed ts t) → IfSome o (HoldsGoal ts)
-opened_holds None p = tt
-opened_holds (Some g) p = p.holds
+pub opened_holds : (ts : List Tree) (t : Table) (o : Option Goal) → IfSome o (IsPosed ts t) → IfSome o (HoldsGoal ts)
+opened_holds ts t None p = tt
+opened_holds ts t (Some g) p = p.holds

@@ -228,7 +228,7 @@ settled_more P Q gs left i d x l f new h =
     (take_next gs i d g l (subst (λ n. Among (take n gs) g) next j))
 
 -- what is proved of a goal stays proved, from more
-proved_later : {ready : List Tree → Type 0} {a b e : List Tree} {u v : Table} {w : Cx} (A B : List Assumed) (handler : List Tree → Handler) (s : Since ready w) (mode : TypingMode) (z : GoalKind) (g : GoalSource × Goal) → HoldsGoal b g.1 → Goes b e u v → Covers A B → IsNestedSince handler s mode z A b u g → IsNestedSince handler s mode z B e v g
+proved_later : {ready : List Tree → Type 0} {b e : List Tree} {u v : Table} {w : Cx} (A B : List Assumed) (handler : List Tree → Handler) (s : Since ready w) (mode : TypingMode) (z : GoalKind) (g : GoalSource × Goal) → HoldsGoal b g.1 → Goes b e u v → Covers A B → IsNestedSince handler s mode z A b u g → IsNestedSince handler s mode z B e v g
 proved_later A B handler s mode z g h k f p =
     rw (k.extends.kept g.1.param_env.node h.env.within, k.extends.kept g.1.predicate.node h.predicate.within) (stays_more (covers_passed (step_kind z (source_of g.0)) A B f) (Stays-later k p))
 

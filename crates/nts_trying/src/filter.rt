@@ -1,5 +1,5 @@
 //! Which candidates are asked at all.
-ghost use Rattle.std.specs.Prelude.{◌≡◌, ◌↔◌, ◌++◌, ◌∷◌, [], IsTrue, IfOk, OnOk, IsOkUnless};
+ghost use Rattle.std.specs.Prelude.{if◌then◌else◌, ◌≡◌, ◌↔◌, ◌++◌, ◌∷◌, [], IsTrue, IfOk, OnOk, IsOkUnless};
 ghost use Rattle.nts_model.specs.Refutation.Choosing.{IsCandidateMet};
 ghost use Rattle.nts_unify.specs.Reading.{content_of};
 ghost use Rattle.nts_delegate.specs.Candidates.{IsCandidate, AreCandidates};

@@ -79,7 +79,7 @@ compute_goal-keep_met-requires-clause-posed g t c =
     IsPosed-later (Goes-extends o.goes.table c.in_ok-candidates.ensures.grows.extends) (rw c.in-Candidates.ensures.0 at o.posed)
 
 pub compute_goal-goal_row-requires : goal.compute_goal-goal_row-requires
-compute_goal-goal_row-requires g t c = opened_holds c.in_ok-opened.opened c.in_ok-opened.ensures.posed
+compute_goal-goal_row-requires g t c = opened_holds _ _ c.in_ok-opened.opened c.in_ok-opened.ensures.posed
 
 pub compute_goal-boxed_response-requires-clause-values : goal.compute_goal-boxed_response-requires-clause-values
 compute_goal-boxed_response-requires-clause-values g t c =
