@@ -97,13 +97,13 @@ compute_goal-returns = candidates.compute_goal-returns
 pub compute_goal-returns-in-Unopened : goal.compute_goal-returns-in-Unopened
 compute_goal-returns-in-Unopened g t c =
     let o = c.in_ok-opened.ensures in
-    let r = c.in_ok-response.ensures in
+    let r = c.in_ok-response-in-Unopened.ensures in
     let trees = trees_kept c.args.cx.now.nodes c.enter_forall.new.cx.nodes c.args.table.now.entries c.args.values.now o.grows.extends c.requires.values in
-    let plain : IsPlainResponse (content_of c.enter_forall.new.cx.nodes c.enter_forall.new.table.entries) (trees_of c.enter_forall.new.cx.nodes c.args.values.now) (response_at c.boxed_response.new.cx.nodes c.in_ok-response.response.value) = c.in_ok-response.ensures.says in
+    let plain : IsPlainResponse (content_of c.enter_forall.new.cx.nodes c.enter_forall.new.table.entries) (trees_of c.enter_forall.new.cx.nodes c.args.values.now) (response_at c.boxed_response.new.cx.nodes c.in_ok-response-in-Unopened.response.value) = c.in_ok-response-in-Unopened.ensures.says in
     record {
       grows = search rules;
-      searches = Searches-refl c.args.depth c.requires.search (grown c.in_ok-opened.ensures.grows c.in_ok-response.ensures.grows);
-      found = found_in c.in_ok-response.response.value _ o.goes c.terms_are_formed.ensures r.grows.extends (only_same _ o.grows.extends c.requires.posed.table (o.left (ap is_some c.in-Unopened.ensures))) c.requires.values r.certainty r.says r.holds (record { no_hidden = r.nothing.0; no_goals = r.nothing.1 }) (λ y. absurd (doubtful _ y));
+      searches = Searches-refl c.args.depth c.requires.search (grown c.in_ok-opened.ensures.grows c.in_ok-response-in-Unopened.ensures.grows);
+      found = found_in c.in_ok-response-in-Unopened.response.value _ o.goes c.terms_are_formed.ensures r.grows.extends (only_same _ o.grows.extends c.requires.posed.table (o.left (ap is_some c.in-Unopened.ensures))) c.requires.values r.certainty r.says r.holds (record { no_hidden = r.nothing.0; no_goals = r.nothing.1 }) (λ y. absurd (doubtful _ y));
       told = λ s tells. tells_nothing (content_of c.enter_forall.new.cx.nodes c.enter_forall.new.table.entries) (inl (content_same o.grows.extends c.requires.posed.table (o.left (ap is_some c.in-Unopened.ensures)))) (rw trees at plain);
       refuted = search rules;
     }
@@ -120,25 +120,25 @@ pub compute_goal-returns-in_err-opened : goal.compute_goal-returns-in_err-opened
 compute_goal-returns-in_err-opened g t c =
     goal_failed c.from_residual.result (search rules) (search rules) (search rules) (Searches-refl c.args.depth c.requires.search c.enter_forall.ensures.grows)
 
-pub compute_goal-returns-in_err-response-2 : goal.compute_goal-returns-in_err-response-2
-compute_goal-returns-in_err-response-2 g t c =
-    goal_failed c.from_residual-in_err-response-2.result (search rules) (search rules) (search rules) (Searches-refl c.args.depth c.requires.search (grown c.in_ok-opened.ensures.grows c.boxed_response-in-Unanswered.ensures.grows))
+pub compute_goal-returns-in_err-response-in-Unopened : goal.compute_goal-returns-in_err-response-in-Unopened
+compute_goal-returns-in_err-response-in-Unopened g t c =
+    goal_failed c.from_residual-in_err-response-in-Unopened.result (search rules) (search rules) (search rules) (Searches-refl c.args.depth c.requires.search (grown c.in_ok-opened.ensures.grows c.boxed_response.ensures.grows))
 
-pub compute_goal-returns-in_err-response : goal.compute_goal-returns-in_err-response
-compute_goal-returns-in_err-response g t c =
-    goal_failed c.from_residual-in_err-response.result (search rules) (search rules) (search rules) (Searches-refl c.args.depth c.requires.search (grown c.in_ok-opened.ensures.grows c.boxed_response.ensures.grows))
+pub compute_goal-returns-in_err-response-in-Unanswered : goal.compute_goal-returns-in_err-response-in-Unanswered
+compute_goal-returns-in_err-response-in-Unanswered g t c =
+    goal_failed c.from_residual-in_err-response-in-Unanswered.result (search rules) (search rules) (search rules) (Searches-refl c.args.depth c.requires.search (grown c.in_ok-opened.ensures.grows c.boxed_response-in-Unanswered.ensures.grows))
 
 pub compute_goal-returns-in-Unanswered : goal.compute_goal-returns-in-Unanswered
 compute_goal-returns-in-Unanswered g t c =
     let o = c.in_ok-opened.ensures in
-    let r = c.in_ok-response-2.ensures in
+    let r = c.in_ok-response-in-Unanswered.ensures in
     let trees = trees_kept c.args.cx.now.nodes c.enter_forall.new.cx.nodes c.args.table.now.entries c.args.values.now o.grows.extends c.requires.values in
-    let plain : IsPlainResponse (content_of c.enter_forall.new.cx.nodes c.enter_forall.new.table.entries) (trees_of c.enter_forall.new.cx.nodes c.args.values.now) (response_at c.boxed_response-in-Unanswered.new.cx.nodes c.in_ok-response-2.response.value) = c.in_ok-response-2.ensures.says in
+    let plain : IsPlainResponse (content_of c.enter_forall.new.cx.nodes c.enter_forall.new.table.entries) (trees_of c.enter_forall.new.cx.nodes c.args.values.now) (response_at c.boxed_response-in-Unanswered.new.cx.nodes c.in_ok-response-in-Unanswered.response.value) = c.in_ok-response-in-Unanswered.ensures.says in
     record {
       grows = search rules;
-      searches = Searches-refl c.args.depth c.requires.search (grown c.in_ok-opened.ensures.grows c.in_ok-response-2.ensures.grows);
-      found = found_in c.in_ok-response-2.response.value _ o.goes c.terms_are_formed.ensures r.grows.extends (labels_entered c.requires.posed (rw c.in-Unanswered.ensures at o.opened) o.grows.extends) c.requires.values r.certainty r.says r.holds (record { no_hidden = r.nothing.0; no_goals = r.nothing.1 }) (λ y. absurd (doubtful _ y));
-      told = λ s tells. nothing_through c.requires.posed (rw c.in-Unanswered.ensures at o.opened) o.grows.extends (g.H.GoalHandler.handler s.base c.args.handler.now) c.args.table.now.mode c.args.values.now _ c.in_ok-response-2.response.value trees plain;
+      searches = Searches-refl c.args.depth c.requires.search (grown c.in_ok-opened.ensures.grows c.in_ok-response-in-Unanswered.ensures.grows);
+      found = found_in c.in_ok-response-in-Unanswered.response.value _ o.goes c.terms_are_formed.ensures r.grows.extends (labels_entered c.requires.posed (rw c.in-Unanswered.ensures at o.opened) o.grows.extends) c.requires.values r.certainty r.says r.holds (record { no_hidden = r.nothing.0; no_goals = r.nothing.1 }) (λ y. absurd (doubtful _ y));
+      told = λ s tells. nothing_through c.requires.posed (rw c.in-Unanswered.ensures at o.opened) o.grows.extends (g.H.GoalHandler.handler s.base c.args.handler.now) c.args.table.now.mode c.args.values.now _ c.in_ok-response-in-Unanswered.response.value trees plain;
       refuted = search rules;
     }
 
