@@ -1,12 +1,14 @@
 //! States put into tables and made from them, case by case.
 
-use crate::fixture::Fixture;
+use crate::fixture::{instantiate, state};
 use nts_canonical::CanonicalVarKind;
+use nts_fixtures::Fixture;
 use nts_model::{UintTy, VariableKind};
 use nts_response::CanonicalState;
 use nts_store::EvalError;
 use nts_terms::GenericArg;
 use std::process::Abort;
+use std::test::Fail;
 
 /// The kind of a type variable of the root.
 fn ty_kind() -> CanonicalVarKind {
@@ -14,18 +16,24 @@ fn ty_kind() -> CanonicalVarKind {
 }
 
 #[test]
-fn a_value_without_an_original_gets_one(rt: HostRuntime) {
-    let mut fixture = Fixture::new(&rt, rt.alloc());
-    let word = fixture.uint(&rt, UintTy::U32);
-    let position = fixture.ty_at(&rt, 0);
+fn a_value_without_an_original_gets_one(rt: HostRuntime) -> Result<(), Fail> {
+    let mut fixture = Fixture::new(rt.alloc())?;
+    let word = fixture.uint(UintTy::U32)?;
+    let position = fixture.position(0)?;
     let mut originals = Vec::new(rt.alloc());
-    originals.push(word).expect(&rt, "memory");
-    let payload = fixture
-        .instantiate(&rt, &mut originals, &[ty_kind()], &[word, position], 1)
-        .expect(&rt, "instantiated");
+    originals.push(word)?;
+    let payload = instantiate(
+        &rt,
+        &mut fixture,
+        &mut originals,
+        &[ty_kind()],
+        &[word, position],
+        1,
+    )?;
     let made = second(&rt, &originals, word);
-    let value = fixture.resolved(&rt, payload);
-    fixture.resolves(&rt, made, value);
+    let value = fixture.resolved(payload)?;
+    assert!(rt; fixture.resolved(made)? == value);
+    Ok(())
 }
 
 /// The second of two originals, which is not the first one.
@@ -37,29 +45,38 @@ fn second(rt: &impl Abort, originals: &[GenericArg], first: GenericArg) -> Gener
 }
 
 #[test]
-fn a_refused_state_leaves_all_as_before(rt: HostRuntime) {
-    let mut fixture = Fixture::new(&rt, rt.alloc());
-    let byte = fixture.uint(&rt, UintTy::U8);
-    let word = fixture.uint(&rt, UintTy::U32);
-    let position = fixture.ty_at(&rt, 0);
+fn a_refused_state_leaves_all_as_before(rt: HostRuntime) -> Result<(), Fail> {
+    let mut fixture = Fixture::new(rt.alloc())?;
+    let byte = fixture.uint(UintTy::U8)?;
+    let word = fixture.uint(UintTy::U32)?;
+    let position = fixture.position(0)?;
     let mut originals = Vec::new(rt.alloc());
-    originals.push(byte).expect(&rt, "memory");
-    let refused = fixture.instantiate(&rt, &mut originals, &[ty_kind()], &[word, position], 1);
+    originals.push(byte)?;
+    let refused = instantiate(
+        &rt,
+        &mut fixture,
+        &mut originals,
+        &[ty_kind()],
+        &[word, position],
+        1,
+    );
     let before = originals.as_slice() == [byte].as_slice();
-    fixture.counts(&rt, 0);
-    fixture.in_universe(&rt, 0);
+    assert!(rt; fixture.table.variable_count() == 0);
+    assert!(rt; fixture.table.universe() == 0);
     assert!(rt; before && matches!(refused, Err(EvalError::NoSolution)));
+    Ok(())
 }
 
 #[test]
-fn equal_leaves_of_a_state_are_one_position(rt: HostRuntime) {
-    let mut fixture = Fixture::new(&rt, rt.alloc());
-    let x = fixture.var(&rt, VariableKind::Ty);
-    let first = fixture.ty_at(&rt, 0);
-    let second = fixture.ty_at(&rt, 1);
-    has(&rt, &fixture.state(&rt, x, x), first, 1);
-    let y = fixture.var(&rt, VariableKind::Ty);
-    has(&rt, &fixture.state(&rt, x, y), second, 2);
+fn equal_leaves_of_a_state_are_one_position(rt: HostRuntime) -> Result<(), Fail> {
+    let mut fixture = Fixture::new(rt.alloc())?;
+    let x = fixture.root_var(VariableKind::Ty)?;
+    let first = fixture.position(0)?;
+    let second = fixture.position(1)?;
+    has(&rt, &state(&mut fixture, x, x)?, first, 1);
+    let y = fixture.root_var(VariableKind::Ty)?;
+    has(&rt, &state(&mut fixture, x, y)?, second, 2);
+    Ok(())
 }
 
 /// Sees the payload of a state, and how many kinds it has.

@@ -1,12 +1,12 @@
 //! Responses as canonical values, case by case.
-ghost use Rattle.std.specs.Prelude.{◌≡◌};
 ghost use Rattle.nts_table.specs.Tables.{IsTable};
 ghost use Rattle.nts_response.specs.Forms.{HoldsResponse};
 
-use crate::fixture::Fixture;
+use crate::fixture::certain;
 use nts_canonical::CanonicalVarKind;
 use nts_certainty::{Certainty, GoalSource};
 use nts_delegate::RegionConstraint;
+use nts_fixtures::{Fixture, table_in};
 use nts_model::{BoundVarIndexKind, Relation, VariableKind};
 use nts_response::{
     CanonicalResponse, ExternalConstraintsData, Response, canonicalize_response, clone_response,
@@ -15,21 +15,10 @@ use nts_response::{
 use nts_table::InferCtxt;
 use nts_terms::{
     BoundRegion, BoundTy, Cx, GenericArg, Goal, PlaceholderRegion, Predicate, Region, RegionKind,
-    Ty, TyKind, TypingMode, VisibleForLeakCheck,
+    Ty, TyKind, VisibleForLeakCheck,
 };
 use std::process::Abort;
-
-/// A table in the universe 3, of the root at first.
-fn table_in_universe_three(rt: &impl Abort, cx: &Cx) -> InferCtxt
-    ensures table { IsTable cx.now.nodes result }
-    ensures universe { result.entries.universe ≡ 3 }
-{
-    let mut table = InferCtxt::new(cx.alloc, TypingMode::PostAnalysis);
-    table.create_next_universe().expect(rt, "memory");
-    table.create_next_universe().expect(rt, "memory");
-    table.create_next_universe().expect(rt, "memory");
-    table
-}
+use std::test::Fail;
 
 /// The response to an input whose greatest universe is 2, which found these two values and this constraint.
 fn response(
@@ -92,15 +81,11 @@ fn has_positions(rt: &impl Abort, cx: &mut Cx, response: &CanonicalResponse, pos
 }
 
 #[test]
-fn universes_are_counted_from_the_greatest_of_the_input(rt: HostRuntime) {
+fn universes_are_counted_from_the_greatest_of_the_input(rt: HostRuntime) -> Result<(), Fail> {
     let mut cx = Cx::new(rt.alloc());
-    let mut table = table_in_universe_three(&rt, &cx);
-    let far = table
-        .variable_in_universe(&mut cx, VariableKind::Ty, 3, None)
-        .expect(&rt, "memory");
-    let near = table
-        .variable_in_universe(&mut cx, VariableKind::Ty, 1, None)
-        .expect(&rt, "memory");
+    let mut table = table_in(&cx, 3)?;
+    let far = table.variable_in_universe(&mut cx, VariableKind::Ty, 3, None)?;
+    let near = table.variable_in_universe(&mut cx, VariableKind::Ty, 1, None)?;
     let fixed = region(&rt, &mut cx, &table, RegionKind::ReStatic);
     let trivial = RegionConstraint {
         relation: Relation::RegionOutlives,
@@ -110,6 +95,7 @@ fn universes_are_counted_from_the_greatest_of_the_input(rt: HostRuntime) {
     let found = response(&rt, &table, &mut cx, far, near, trivial);
     has_positions(&rt, &mut cx, &found, &[0, 1]);
     see_far_and_near(&rt, &found);
+    Ok(())
 }
 
 /// The far variable is of the universe after the greatest of the input, and the near one of the root.
@@ -124,12 +110,10 @@ fn see_far_and_near(rt: &impl Abort, found: &CanonicalResponse) {
 }
 
 #[test]
-fn equal_leaves_have_one_position_and_static_has_none(rt: HostRuntime) {
+fn equal_leaves_have_one_position_and_static_has_none(rt: HostRuntime) -> Result<(), Fail> {
     let mut cx = Cx::new(rt.alloc());
-    let mut table = table_in_universe_three(&rt, &cx);
-    let x = table
-        .variable_in_universe(&mut cx, VariableKind::Ty, 0, None)
-        .expect(&rt, "memory");
+    let mut table = table_in(&cx, 3)?;
+    let x = table.variable_in_universe(&mut cx, VariableKind::Ty, 0, None)?;
     let placeholder = PlaceholderRegion {
         universe: 3,
         bound: BoundRegion { var: 7 },
@@ -145,6 +129,7 @@ fn equal_leaves_have_one_position_and_static_has_none(rt: HostRuntime) {
     has_positions(&rt, &mut cx, &found, &[0, 0]);
     see_placeholder(&rt, &found);
     see_outlives(&rt, &mut cx, &found, fixed);
+    Ok(())
 }
 
 /// The second position is the placeholder, of the universe after the greatest of the input.
@@ -176,19 +161,16 @@ fn see_outlives(rt: &impl Abort, cx: &mut Cx, found: &CanonicalResponse, fixed: 
 }
 
 #[test]
-fn what_found_nothing_out_has_its_positions_as_values(rt: HostRuntime) {
+fn what_found_nothing_out_has_its_positions_as_values(rt: HostRuntime) -> Result<(), Fail> {
     let mut cx = Cx::new(rt.alloc());
     let mut kinds = Vec::new(rt.alloc());
-    kinds
-        .push(CanonicalVarKind::Ty { ui: 0, sub_root: 0 })
-        .expect(&rt, "memory");
-    kinds.push(CanonicalVarKind::Int).expect(&rt, "memory");
-    kinds
-        .push(CanonicalVarKind::Region(2))
-        .expect(&rt, "memory");
+    kinds.push(CanonicalVarKind::Ty { ui: 0, sub_root: 0 })?;
+    kinds.push(CanonicalVarKind::Int)?;
+    kinds.push(CanonicalVarKind::Region(2))?;
     let certainty = Certainty::overflow(true);
-    let found = response_no_constraints_raw(&mut cx, 2, kinds, certainty).expect(&rt, "memory");
+    let found = response_no_constraints_raw(&mut cx, 2, kinds, certainty)?;
     see_nothing_found(&rt, &mut cx, &found);
+    Ok(())
 }
 
 fn see_nothing_found(rt: &impl Abort, cx: &mut Cx, found: &CanonicalResponse)
@@ -210,10 +192,11 @@ fn see_nothing_found(rt: &impl Abort, cx: &mut Cx, found: &CanonicalResponse)
 }
 
 #[test]
-fn values_in_another_order_are_no_identity(rt: HostRuntime) {
-    let mut fixture = Fixture::new(&rt, rt.alloc());
-    let (first, second) = (fixture.ty_at(&rt, 0), fixture.ty_at(&rt, 1));
+fn values_in_another_order_are_no_identity(rt: HostRuntime) -> Result<(), Fail> {
+    let mut fixture = Fixture::new(rt.alloc())?;
+    let (first, second) = (fixture.position(0)?, fixture.position(1)?);
     see_orders(&rt, &fixture.cx, first, second);
+    Ok(())
 }
 
 /// Two positions in their order, in the other one, and one of them twice.
@@ -226,11 +209,11 @@ fn see_orders(rt: &impl Abort, cx: &Cx, first: GenericArg, second: GenericArg) {
 }
 
 #[test]
-fn a_clone_has_what_its_source_has(rt: HostRuntime) {
-    let mut fixture = Fixture::new(&rt, rt.alloc());
-    let first = fixture.ty_at(&rt, 0);
+fn a_clone_has_what_its_source_has(rt: HostRuntime) -> Result<(), Fail> {
+    let mut fixture = Fixture::new(rt.alloc())?;
+    let first = fixture.position(0)?;
     let kind = CanonicalVarKind::Ty { ui: 3, sub_root: 0 };
-    let mut response = fixture.response(&rt, 5, &[kind], &[first, first]);
+    let mut response = certain(rt.alloc(), 5, &[kind], &[first, first])?;
     let goal = Goal {
         param_env: fixture.env,
         predicate: Predicate { node: first.node },
@@ -239,9 +222,10 @@ fn a_clone_has_what_its_source_has(rt: HostRuntime) {
         .value
         .external_constraints
         .normalization_nested_goals;
-    goals.push((GoalSource::Misc, goal)).expect(&rt, "memory");
-    let copy = clone_response(&response).expect(&rt, "memory");
+    goals.push((GoalSource::Misc, goal))?;
+    let copy = clone_response(&response)?;
     see_clone(&rt, &copy);
+    Ok(())
 }
 
 fn see_clone(rt: &impl Abort, copy: &CanonicalResponse) {

@@ -1,5 +1,8 @@
 //! Calls of the table that the other tests do not make.
-use crate::fixture::{Fixture, variable_of};
+use crate::fixture::{
+    changed, equates_regions, outlives, region_infer, relates, tells, variable_of,
+};
+use nts_fixtures::Fixture;
 use nts_model::{Relation, UintTy, Variance};
 use nts_solver_relating::RelateExt;
 use nts_store::EvalError;
@@ -10,6 +13,7 @@ use nts_terms::{
 };
 use nts_unify::{Constraint, State};
 use std::process::Abort;
+use std::test::Fail;
 
 #[test]
 fn related(rt: HostRuntime) {
@@ -25,14 +29,15 @@ fn related(rt: HostRuntime) {
 }
 
 #[test]
-fn read_back(rt: HostRuntime) {
-    let mut fixture = Fixture::new(&rt, rt.alloc());
-    let ty = fixture.ty_var(&rt);
-    let byte = fixture.ty(&rt, TyKind::Uint(UintTy::U8));
-    fixture.changed(&rt, ty, false);
-    fixture.relates(&rt, ty, byte);
-    fixture.changed(&rt, ty, true);
-    fixture.stands_for(&rt, ty, byte);
+fn read_back(rt: HostRuntime) -> Result<(), Fail> {
+    let mut fixture = Fixture::new(rt.alloc())?;
+    let ty = fixture.ty_var()?;
+    let byte = fixture.uint(UintTy::U8)?;
+    changed(&rt, &fixture, ty, false);
+    relates(&rt, &mut fixture, ty, byte)?;
+    changed(&rt, &fixture, ty, true);
+    assert!(rt; fixture.resolved(ty)? == byte);
+    Ok(())
 }
 
 #[test]
@@ -81,23 +86,24 @@ fn heads(rt: HostRuntime) {
 }
 
 #[test]
-fn each_constraint_once(rt: HostRuntime) {
-    let mut fixture = Fixture::new(&rt, rt.alloc());
-    let a = fixture.region_infer(&rt);
-    let b = fixture.region_infer(&rt);
-    let fixed = fixture.region(&rt, RegionKind::ReStatic);
+fn each_constraint_once(rt: HostRuntime) -> Result<(), Fail> {
+    let mut fixture = Fixture::new(rt.alloc())?;
+    let a = region_infer(&mut fixture)?;
+    let b = region_infer(&mut fixture)?;
+    let fixed = fixture.region(RegionKind::ReStatic)?;
     let fixed = Region { node: fixed.node };
-    fixture.outlives(&rt, fixed, a, VisibleForLeakCheck::No);
-    fixture.outlives(&rt, b, a, VisibleForLeakCheck::Yes);
-    fixture.outlives(&rt, fixed, b, VisibleForLeakCheck::Yes);
-    fixture.equates_regions(&rt, a, b);
+    outlives(&mut fixture, fixed, a, VisibleForLeakCheck::No)?;
+    outlives(&mut fixture, b, a, VisibleForLeakCheck::Yes)?;
+    outlives(&mut fixture, fixed, b, VisibleForLeakCheck::Yes)?;
+    equates_regions(&rt, &mut fixture, a, b)?;
     let only = Constraint {
         relation: Relation::RegionOutlives,
         left: fixed.node,
         right: a.node,
         is_visible: false,
     };
-    fixture.tells(&rt, &[only]);
+    tells(&rt, &mut fixture, &[only]);
+    Ok(())
 }
 
 #[test]

@@ -2,75 +2,85 @@
 ghost use Rattle.std.specs.Prelude.{◌≡◌, []};
 ghost use Rattle.nts_table.specs.Tables.{IsTable};
 
-use crate::fixture::Fixture;
+use crate::fixture::{
+    const_var, duplicates, float_var, has, hidden, hidden_since, hide_beside, int_var, refuses,
+    relates,
+};
+use nts_fixtures::Fixture;
 use nts_model::{FloatTy, IntTy, UintTy};
+use nts_store::EvalError;
 use nts_table::InferCtxt;
-use nts_terms::{AliasDefId, AliasId, ConstKind, Cx, Ty, TyKind, TypingMode};
+use nts_terms::{AliasDefId, AliasId, AliasKind, ConstKind, Cx, Ty, TyKind, TypingMode};
 use nts_unify::State;
 use std::process::Abort;
+use std::test::Fail;
 
 #[test]
-fn integers(rt: HostRuntime) {
-    let mut fixture = Fixture::new(&rt, rt.alloc());
-    fixture.universe(&rt);
-    let number = fixture.int_var(&rt);
-    fixture.has(&rt, 0, 0, State::Unset);
-    let byte = fixture.ty(&rt, TyKind::Uint(UintTy::U8));
-    let signed = fixture.ty(&rt, TyKind::Int(IntTy::I64));
-    let real = fixture.ty(&rt, TyKind::Float(FloatTy::F32));
-    let bytes = fixture.wrap(&rt, byte);
-    fixture.refuses(&rt, number, real);
-    fixture.refuses(&rt, number, bytes);
-    fixture.relates(&rt, number, byte);
-    fixture.has(&rt, 0, 0, State::Known(byte.node));
-    fixture.refuses(&rt, signed, number);
+fn integers(rt: HostRuntime) -> Result<(), Fail> {
+    let mut fixture = Fixture::new(rt.alloc())?;
+    fixture.universe()?;
+    let number = int_var(&mut fixture)?;
+    has(&rt, &fixture, 0, 0, State::Unset);
+    let byte = fixture.uint(UintTy::U8)?;
+    let signed = fixture.ty(TyKind::Int(IntTy::I64))?;
+    let real = fixture.ty(TyKind::Float(FloatTy::F32))?;
+    let bytes = fixture.wrap(byte)?;
+    refuses(&rt, &mut fixture, number, real)?;
+    refuses(&rt, &mut fixture, number, bytes)?;
+    relates(&rt, &mut fixture, number, byte)?;
+    has(&rt, &fixture, 0, 0, State::Known(byte.node));
+    refuses(&rt, &mut fixture, signed, number)?;
+    Ok(())
 }
 
 #[test]
-fn floats(rt: HostRuntime) {
-    let mut fixture = Fixture::new(&rt, rt.alloc());
-    let first = fixture.float_var(&rt);
-    let second = fixture.float_var(&rt);
-    let number = fixture.int_var(&rt);
-    let byte = fixture.ty(&rt, TyKind::Uint(UintTy::U8));
-    let real = fixture.ty(&rt, TyKind::Float(FloatTy::F64));
-    fixture.refuses(&rt, first, byte);
-    fixture.refuses(&rt, first, number);
-    fixture.relates(&rt, second, first);
-    fixture.has(&rt, 1, 0, State::Link(0));
-    fixture.relates(&rt, second, real);
-    fixture.has(&rt, 0, 0, State::Known(real.node));
+fn floats(rt: HostRuntime) -> Result<(), Fail> {
+    let mut fixture = Fixture::new(rt.alloc())?;
+    let first = float_var(&mut fixture)?;
+    let second = float_var(&mut fixture)?;
+    let number = int_var(&mut fixture)?;
+    let byte = fixture.uint(UintTy::U8)?;
+    let real = fixture.ty(TyKind::Float(FloatTy::F64))?;
+    refuses(&rt, &mut fixture, first, byte)?;
+    refuses(&rt, &mut fixture, first, number)?;
+    relates(&rt, &mut fixture, second, first)?;
+    has(&rt, &fixture, 1, 0, State::Link(0));
+    relates(&rt, &mut fixture, second, real)?;
+    has(&rt, &fixture, 0, 0, State::Known(real.node));
+    Ok(())
 }
 
 #[test]
-fn a_variable_for_a_type(rt: HostRuntime) {
-    let mut fixture = Fixture::new(&rt, rt.alloc());
-    let hole = fixture.ty_var(&rt);
-    let number = fixture.int_var(&rt);
-    let real = fixture.float_var(&rt);
-    let word = fixture.ty(&rt, TyKind::Uint(UintTy::U32));
-    fixture.relates(&rt, number, hole);
-    fixture.has(&rt, 0, 0, State::Known(number.node));
-    fixture.has(&rt, 1, 0, State::Unset);
-    fixture.refuses(&rt, hole, real);
-    fixture.stands_for(&rt, hole, number);
-    fixture.relates(&rt, hole, word);
-    fixture.has(&rt, 1, 0, State::Known(word.node));
-    fixture.stands_for(&rt, hole, word);
+fn a_variable_for_a_type(rt: HostRuntime) -> Result<(), Fail> {
+    let mut fixture = Fixture::new(rt.alloc())?;
+    let hole = fixture.ty_var()?;
+    let number = int_var(&mut fixture)?;
+    let real = float_var(&mut fixture)?;
+    let word = fixture.uint(UintTy::U32)?;
+    relates(&rt, &mut fixture, number, hole)?;
+    has(&rt, &fixture, 0, 0, State::Known(number.node));
+    has(&rt, &fixture, 1, 0, State::Unset);
+    refuses(&rt, &mut fixture, hole, real)?;
+    assert!(rt; fixture.resolved(hole)? == number);
+    relates(&rt, &mut fixture, hole, word)?;
+    has(&rt, &fixture, 1, 0, State::Known(word.node));
+    assert!(rt; fixture.resolved(hole)? == word);
+    Ok(())
 }
 
 #[test]
-fn integers_of_two_types(rt: HostRuntime) {
-    let mut fixture = Fixture::new(&rt, rt.alloc());
-    let left = fixture.ty_var(&rt);
-    let right = fixture.ty_var(&rt);
-    let first = fixture.int_var(&rt);
-    let second = fixture.int_var(&rt);
-    fixture.relates(&rt, left, first);
-    fixture.relates(&rt, right, second);
-    fixture.relates(&rt, left, right);
-    fixture.has(&rt, 3, 0, State::Link(2));
-    fixture.stands_for(&rt, right, first);
+fn integers_of_two_types(rt: HostRuntime) -> Result<(), Fail> {
+    let mut fixture = Fixture::new(rt.alloc())?;
+    let left = fixture.ty_var()?;
+    let right = fixture.ty_var()?;
+    let first = int_var(&mut fixture)?;
+    let second = int_var(&mut fixture)?;
+    relates(&rt, &mut fixture, left, first)?;
+    relates(&rt, &mut fixture, right, second)?;
+    relates(&rt, &mut fixture, left, right)?;
+    has(&rt, &fixture, 3, 0, State::Link(2));
+    assert!(rt; fixture.resolved(right)? == first);
+    Ok(())
 }
 
 #[test]
@@ -110,56 +120,69 @@ fn see_shallow(rt: &impl Abort, cx: &mut Cx, table: &mut InferCtxt)
 }
 
 #[test]
-fn consts(rt: HostRuntime) {
-    let mut fixture = Fixture::new(&rt, rt.alloc());
-    let size = fixture.const_var(&rt);
-    let param = fixture.konst(&rt, ConstKind::Param(0));
-    let hole = fixture.ty_var(&rt);
-    fixture.refuses(&rt, hole, size);
-    fixture.relates(&rt, size, param);
-    fixture.has(&rt, 0, 0, State::Known(param.node));
+fn consts(rt: HostRuntime) -> Result<(), Fail> {
+    let mut fixture = Fixture::new(rt.alloc())?;
+    let size = const_var(&mut fixture)?;
+    let param = fixture.konst(ConstKind::Param(0))?;
+    let hole = fixture.ty_var()?;
+    refuses(&rt, &mut fixture, hole, size)?;
+    relates(&rt, &mut fixture, size, param)?;
+    has(&rt, &fixture, 0, 0, State::Known(param.node));
+    Ok(())
+}
+
+/// A type of integers without a sign.
+fn uint(fixture: &mut Fixture, kind: UintTy) -> Result<Ty, EvalError>
+    requires { IsTable fixture.old.cx.nodes fixture.old.table }
+    ensures { IsTable fixture.new.cx.nodes fixture.new.table }
+{
+    let ty = fixture.uint(kind)?;
+    Ok(Ty { node: ty.node })
 }
 
 #[test]
-fn hidden_types(rt: HostRuntime) {
-    let mut fixture = Fixture::new(&rt, rt.alloc());
-    let alias = fixture.opaque(&rt);
-    let byte = fixture.uint(&rt, UintTy::U8);
-    let word = fixture.uint(&rt, UintTy::U32);
-    fixture.hidden(&rt, &[]);
-    fixture.hide(&rt, alias, byte, None);
-    fixture.hidden(&rt, &[byte]);
-    fixture.hide(&rt, alias, word, Some(byte));
-    fixture.hidden(&rt, &[word]);
+fn hidden_types(rt: HostRuntime) -> Result<(), Fail> {
+    let mut fixture = Fixture::new(rt.alloc())?;
+    let alias = fixture.declare_alias(&[], AliasKind::Opaque)?;
+    let byte = uint(&mut fixture, UintTy::U8)?;
+    let word = uint(&mut fixture, UintTy::U32)?;
+    hidden(&rt, &fixture, &[]);
+    assert!(rt; fixture.hide(alias, &[], byte)? == None);
+    hidden(&rt, &fixture, &[byte]);
+    assert!(rt; fixture.hide(alias, &[], word)? == Some(byte));
+    hidden(&rt, &fixture, &[word]);
+    Ok(())
 }
 
 #[test]
-fn duplicates_of_hidden_types(rt: HostRuntime) {
-    let mut fixture = Fixture::new(&rt, rt.alloc());
-    let alias = fixture.opaque(&rt);
-    let byte = fixture.uint(&rt, UintTy::U8);
-    let word = fixture.uint(&rt, UintTy::U32);
-    fixture.hide(&rt, alias, byte, None);
-    fixture.hide_beside(&rt, alias, word);
-    let snapshot = fixture.table.start_snapshot().expect(&rt, "memory");
-    fixture.hide_beside(&rt, alias, byte);
-    fixture.duplicates(&rt, &[word, byte]);
+fn duplicates_of_hidden_types(rt: HostRuntime) -> Result<(), Fail> {
+    let mut fixture = Fixture::new(rt.alloc())?;
+    let alias = fixture.declare_alias(&[], AliasKind::Opaque)?;
+    let byte = uint(&mut fixture, UintTy::U8)?;
+    let word = uint(&mut fixture, UintTy::U32)?;
+    assert!(rt; fixture.hide(alias, &[], byte)? == None);
+    hide_beside(&mut fixture, alias, word)?;
+    let snapshot = fixture.table.start_snapshot()?;
+    hide_beside(&mut fixture, alias, byte)?;
+    duplicates(&rt, &fixture, &[word, byte]);
     fixture.table.rollback_to(snapshot);
-    fixture.duplicates(&rt, &[word]);
+    duplicates(&rt, &fixture, &[word]);
+    Ok(())
 }
 
 #[test]
-fn lists_of_hidden_types(rt: HostRuntime) {
-    let mut fixture = Fixture::new(&rt, rt.alloc());
-    let alias = fixture.opaque(&rt);
-    let byte = fixture.uint(&rt, UintTy::U8);
-    let word = fixture.uint(&rt, UintTy::U32);
-    fixture.hide(&rt, alias, byte, None);
-    fixture.hide_beside(&rt, alias, word);
+fn lists_of_hidden_types(rt: HostRuntime) -> Result<(), Fail> {
+    let mut fixture = Fixture::new(rt.alloc())?;
+    let alias = fixture.declare_alias(&[], AliasKind::Opaque)?;
+    let byte = uint(&mut fixture, UintTy::U8)?;
+    let word = uint(&mut fixture, UintTy::U32)?;
+    assert!(rt; fixture.hide(alias, &[], byte)? == None);
+    hide_beside(&mut fixture, alias, word)?;
     see_lookup(&rt, &fixture.table, alias, byte);
-    fixture.hidden_since(&rt, 0, &[byte]);
-    fixture.hidden_since(&rt, 1, &[]);
-    fixture.hidden_since(&rt, 7, &[]);
+    hidden_since(&rt, &fixture, 0, &[byte]);
+    hidden_since(&rt, &fixture, 1, &[]);
+    hidden_since(&rt, &fixture, 7, &[]);
+    Ok(())
 }
 
 /// The one hidden type of a table, with its alias.

@@ -15,5 +15,3 @@ mod refusing_tests;
 mod relating_tests;
 #[cfg(test)]
 mod tests;
-#[cfg(test)]
-mod variance_tests;

@@ -6,13 +6,12 @@ ghost use Rattle.nts_table.specs.Frames.{ChangesEntries};
 ghost use Rattle.nts_table.specs.Tables.{IsTable};
 
 use crate::fixture::empty_knows;
-use nts_model::{Sort, VariableKind};
+use nts_model::Sort;
 use nts_store::Fault;
 use nts_table::{InferCtxt, is_unbound};
 use nts_terms::{
     Cx, InferTy, Region, RegionKind, Span, Ty, TyKind, TypingMode, VisibleForLeakCheck,
 };
-use nts_unify::{State, Variable};
 use std::process::Abort;
 
 #[test]

@@ -1,10 +1,14 @@
 //! Canonical inputs of goals, case by case.
-use crate::inputs::Fixture;
+use crate::inputs::{
+    another_table, canonical, declare, env_of, input_of, join, make_universes, rebuilt, same,
+    there_and_back, trait_holds, value_of, with_hidden,
+};
 use nts_canonical::{Canonical, CanonicalInput, CanonicalVarKind, instantiate_canonical};
+use nts_fixtures::Fixture;
 use nts_model::{BoundVarIndexKind, Sort, UintTy, VariableKind};
 use nts_terms::{
-    AliasDefId, BoundRegion, BoundTy, Cx, GenericArg, PlaceholderRegion, PlaceholderType,
-    RegionKind, TyKind,
+    AliasDefId, AliasKind, BoundRegion, BoundTy, Cx, GenericArg, PlaceholderRegion,
+    PlaceholderType, RegionKind, TyKind,
 };
 use nts_unify::State;
 use std::process::Abort;
@@ -28,49 +32,51 @@ fn is_ty(rt: &impl Abort, input: &CanonicalInput, position: usize, root: usize) 
 }
 
 #[test]
-fn equal_variables_have_one_position(rt: HostRuntime) {
-    let mut fixture = Fixture::new(&rt, rt.alloc());
-    let id = fixture.declare(&rt, &[Sort::Ty, Sort::Ty, Sort::Ty]);
-    let a = fixture.ty_var(&rt);
-    let b = fixture.ty_var(&rt);
-    let predicate = fixture.predicate(&rt, id, &[a, b, a]);
-    let env = fixture.no_env(&rt);
-    let (originals, input) = fixture.canonical(&rt, env, predicate);
+fn equal_variables_have_one_position(rt: HostRuntime) -> Result<(), Fail> {
+    let mut fixture = Fixture::new(rt.alloc())?;
+    let id = declare(&mut fixture, &[Sort::Ty, Sort::Ty, Sort::Ty])?;
+    let a = fixture.ty_var()?;
+    let b = fixture.ty_var()?;
+    let predicate = trait_holds(&rt, &mut fixture, id, &[a, b, a])?;
+    let env = fixture.env;
+    let (originals, input) = canonical(&mut fixture, env, predicate)?;
     are(&rt, &originals, &[a, b]);
-    let first = fixture.position(&rt, 0);
-    let second = fixture.position(&rt, 1);
-    let wanted = fixture.predicate(&rt, id, &[first, second, first]);
+    let first = fixture.position(0)?;
+    let second = fixture.position(1)?;
+    let wanted = trait_holds(&rt, &mut fixture, id, &[first, second, first])?;
     assert!(rt; input.canonical.value.goal.predicate == wanted);
     assert_eq!(rt; input.canonical.max_universe, 0);
     assert_eq!(rt; input.canonical.var_kinds.len(), 2);
     is_ty(&rt, &input, 0, 0);
     is_ty(&rt, &input, 1, 1);
+    Ok(())
 }
 
 #[test]
-fn one_sub_root(rt: HostRuntime) {
-    let mut fixture = Fixture::new(&rt, rt.alloc());
-    let id = fixture.declare(&rt, &[Sort::Ty, Sort::Ty]);
-    let a = fixture.ty_var(&rt);
-    let b = fixture.ty_var(&rt);
-    let predicate = fixture.predicate(&rt, id, &[a, b]);
-    let apart = fixture.input(&rt, predicate);
-    fixture.join(&rt, 0, 1);
-    let joined = fixture.input(&rt, predicate);
+fn one_sub_root(rt: HostRuntime) -> Result<(), Fail> {
+    let mut fixture = Fixture::new(rt.alloc())?;
+    let id = declare(&mut fixture, &[Sort::Ty, Sort::Ty])?;
+    let a = fixture.ty_var()?;
+    let b = fixture.ty_var()?;
+    let predicate = trait_holds(&rt, &mut fixture, id, &[a, b])?;
+    let apart = input_of(&mut fixture, predicate)?;
+    join(&rt, &mut fixture, 0, 1);
+    let joined = input_of(&mut fixture, predicate)?;
     is_ty(&rt, &joined, 0, 0);
     is_ty(&rt, &joined, 1, 0);
-    assert!(rt; !fixture.same(&rt, &apart, &joined));
-    assert!(rt; fixture.same(&rt, &joined, &joined));
+    assert!(rt; !same(&rt, &fixture.cx, &apart, &joined));
+    assert!(rt; same(&rt, &fixture.cx, &joined, &joined));
+    Ok(())
 }
 
 #[test]
-fn static_of_an_environment_stays(rt: HostRuntime) {
-    let mut fixture = Fixture::new(&rt, rt.alloc());
-    let id = fixture.declare(&rt, &[Sort::Region]);
-    let region = fixture.region(&rt, RegionKind::ReStatic);
-    let predicate = fixture.predicate(&rt, id, &[region]);
-    let env = fixture.env_of(&rt, predicate);
-    let (originals, input) = fixture.canonical(&rt, env, predicate);
+fn static_of_an_environment_stays(rt: HostRuntime) -> Result<(), Fail> {
+    let mut fixture = Fixture::new(rt.alloc())?;
+    let id = declare(&mut fixture, &[Sort::Region])?;
+    let region = fixture.region(RegionKind::ReStatic)?;
+    let predicate = trait_holds(&rt, &mut fixture, id, &[region])?;
+    let env = env_of(&rt, &mut fixture, predicate)?;
+    let (originals, input) = canonical(&mut fixture, env, predicate)?;
     are(&rt, &originals, &[region]);
     assert!(rt; input.canonical.value.goal.param_env == env);
     assert!(rt; input.canonical.value.goal.predicate != predicate);
@@ -82,151 +88,159 @@ fn static_of_an_environment_stays(rt: HostRuntime) {
         }
         _ => assert!(rt; false),
     }
+    Ok(())
 }
 
 #[test]
-fn eighteen_variables_and_the_first_again(rt: HostRuntime) {
-    let mut fixture = Fixture::new(&rt, rt.alloc());
-    let id = fixture.declare(&rt, &[Sort::Ty; 19]);
+fn eighteen_variables_and_the_first_again(rt: HostRuntime) -> Result<(), Fail> {
+    let mut fixture = Fixture::new(rt.alloc())?;
+    let id = declare(&mut fixture, &[Sort::Ty; 19])?;
     let mut arguments = Vec::new(rt.alloc());
     let mut positions = Vec::new(rt.alloc());
     for i in 0..18 {
-        arguments.push(fixture.ty_var(&rt)).expect(&rt, "memory");
-        positions
-            .push(fixture.position(&rt, i))
-            .expect(&rt, "memory");
+        arguments.push(fixture.ty_var()?)?;
+        positions.push(fixture.position(i)?)?;
     }
-    let mut again = arguments.clone().expect(&rt, "memory");
-    again.push(arguments[0]).expect(&rt, "memory");
-    positions.push(positions[0]).expect(&rt, "memory");
-    let predicate = fixture.predicate(&rt, id, &again);
-    let env = fixture.no_env(&rt);
-    let (originals, input) = fixture.canonical(&rt, env, predicate);
+    let mut again = arguments.clone()?;
+    again.push(arguments[0])?;
+    positions.push(positions[0])?;
+    let predicate = trait_holds(&rt, &mut fixture, id, &again)?;
+    let env = fixture.env;
+    let (originals, input) = canonical(&mut fixture, env, predicate)?;
     are(&rt, &originals, &arguments);
-    let wanted = fixture.predicate(&rt, id, &positions);
+    let wanted = trait_holds(&rt, &mut fixture, id, &positions)?;
     assert!(rt; input.canonical.value.goal.predicate == wanted);
     assert_eq!(rt; input.canonical.var_kinds.len(), 18);
+    Ok(())
 }
 
 #[test]
-fn variables_of_two_tables(rt: HostRuntime) {
-    let mut fixture = Fixture::new(&rt, rt.alloc());
-    let id = fixture.declare(&rt, &[Sort::Ty, Sort::Ty]);
-    let a = fixture.ty_var(&rt);
-    let b = fixture.ty_var(&rt);
-    let inside = fixture.wrap(&rt, b);
-    let predicate = fixture.predicate(&rt, id, &[a, inside]);
-    let first = fixture.input(&rt, predicate);
-    let its_own = fixture.wrap(&rt, a);
-    let predicate = fixture.predicate(&rt, id, &[a, its_own]);
-    let other = fixture.input(&rt, predicate);
-    fixture.another_table();
-    fixture.ty_var(&rt);
-    let d = fixture.ty_var(&rt);
-    let c = fixture.ty_var(&rt);
-    let inside = fixture.wrap(&rt, d);
-    let predicate = fixture.predicate(&rt, id, &[c, inside]);
-    let second = fixture.input(&rt, predicate);
-    assert!(rt; fixture.same(&rt, &first, &second));
-    assert!(rt; !fixture.same(&rt, &first, &other));
+fn variables_of_two_tables(rt: HostRuntime) -> Result<(), Fail> {
+    let mut fixture = Fixture::new(rt.alloc())?;
+    let id = declare(&mut fixture, &[Sort::Ty, Sort::Ty])?;
+    let a = fixture.ty_var()?;
+    let b = fixture.ty_var()?;
+    let inside = fixture.wrap(b)?;
+    let predicate = trait_holds(&rt, &mut fixture, id, &[a, inside])?;
+    let first = input_of(&mut fixture, predicate)?;
+    let its_own = fixture.wrap(a)?;
+    let predicate = trait_holds(&rt, &mut fixture, id, &[a, its_own])?;
+    let other = input_of(&mut fixture, predicate)?;
+    another_table(&mut fixture);
+    fixture.ty_var()?;
+    let d = fixture.ty_var()?;
+    let c = fixture.ty_var()?;
+    let inside = fixture.wrap(d)?;
+    let predicate = trait_holds(&rt, &mut fixture, id, &[c, inside])?;
+    let second = input_of(&mut fixture, predicate)?;
+    assert!(rt; same(&rt, &fixture.cx, &first, &second));
+    assert!(rt; !same(&rt, &fixture.cx, &first, &other));
+    Ok(())
 }
 
 #[test]
-fn placeholders(rt: HostRuntime) {
-    let mut fixture = Fixture::new(&rt, rt.alloc());
-    fixture.make_universes(&rt, 1);
-    let id = fixture.declare(&rt, &[Sort::Ty, Sort::Ty]);
-    let a = fixture.placeholder(&rt, 3);
-    let b = fixture.placeholder(&rt, 5);
-    let twice = fixture.predicate(&rt, id, &[a, a]);
-    let one_way = fixture.predicate(&rt, id, &[a, b]);
-    let other_way = fixture.predicate(&rt, id, &[b, a]);
-    let twice = fixture.input(&rt, twice);
-    let one_way = fixture.input(&rt, one_way);
-    let other_way = fixture.input(&rt, other_way);
-    assert!(rt; !fixture.same(&rt, &twice, &one_way));
-    assert!(rt; fixture.same(&rt, &one_way, &other_way));
+fn placeholders(rt: HostRuntime) -> Result<(), Fail> {
+    let mut fixture = Fixture::new(rt.alloc())?;
+    make_universes(&mut fixture, 1)?;
+    let id = declare(&mut fixture, &[Sort::Ty, Sort::Ty])?;
+    let a = fixture.placeholder(1, 3)?;
+    let b = fixture.placeholder(1, 5)?;
+    let twice = trait_holds(&rt, &mut fixture, id, &[a, a])?;
+    let one_way = trait_holds(&rt, &mut fixture, id, &[a, b])?;
+    let other_way = trait_holds(&rt, &mut fixture, id, &[b, a])?;
+    let twice = input_of(&mut fixture, twice)?;
+    let one_way = input_of(&mut fixture, one_way)?;
+    let other_way = input_of(&mut fixture, other_way)?;
+    assert!(rt; !same(&rt, &fixture.cx, &twice, &one_way));
+    assert!(rt; same(&rt, &fixture.cx, &one_way, &other_way));
+    Ok(())
 }
 
 #[test]
-fn static_is_a_leaf_outside_of_an_environment(rt: HostRuntime) {
-    let mut fixture = Fixture::new(&rt, rt.alloc());
-    let id = fixture.declare(&rt, &[Sort::Region]);
-    let bare = fixture.declare(&rt, &[]);
-    let fixed = fixture.region(&rt, RegionKind::ReStatic);
-    let param = fixture.region(&rt, RegionKind::ReEarlyParam(0));
-    let of_fixed = fixture.predicate(&rt, id, &[fixed]);
-    let of_param = fixture.predicate(&rt, id, &[param]);
-    let first = fixture.input(&rt, of_fixed);
-    let second = fixture.input(&rt, of_param);
-    assert!(rt; fixture.same(&rt, &first, &second));
-    let predicate = fixture.predicate(&rt, bare, &[]);
-    let fixed_env = fixture.env_of(&rt, of_fixed);
-    let param_env = fixture.env_of(&rt, of_param);
-    let (_, first) = fixture.canonical(&rt, fixed_env, predicate);
-    let (_, second) = fixture.canonical(&rt, param_env, predicate);
-    assert!(rt; !fixture.same(&rt, &first, &second));
+fn static_is_a_leaf_outside_of_an_environment(rt: HostRuntime) -> Result<(), Fail> {
+    let mut fixture = Fixture::new(rt.alloc())?;
+    let id = declare(&mut fixture, &[Sort::Region])?;
+    let bare = declare(&mut fixture, &[])?;
+    let fixed = fixture.region(RegionKind::ReStatic)?;
+    let param = fixture.region(RegionKind::ReEarlyParam(0))?;
+    let of_fixed = trait_holds(&rt, &mut fixture, id, &[fixed])?;
+    let of_param = trait_holds(&rt, &mut fixture, id, &[param])?;
+    let first = input_of(&mut fixture, of_fixed)?;
+    let second = input_of(&mut fixture, of_param)?;
+    assert!(rt; same(&rt, &fixture.cx, &first, &second));
+    let predicate = trait_holds(&rt, &mut fixture, bare, &[])?;
+    let fixed_env = env_of(&rt, &mut fixture, of_fixed)?;
+    let param_env = env_of(&rt, &mut fixture, of_param)?;
+    let (_, first) = canonical(&mut fixture, fixed_env, predicate)?;
+    let (_, second) = canonical(&mut fixture, param_env, predicate)?;
+    assert!(rt; !same(&rt, &fixture.cx, &first, &second));
+    Ok(())
 }
 
 #[test]
-fn a_copy_is_the_same(rt: HostRuntime) {
-    let mut fixture = Fixture::new(&rt, rt.alloc());
-    let id = fixture.declare(&rt, &[Sort::Ty]);
-    let a = fixture.ty_var(&rt);
-    let predicate = fixture.predicate(&rt, id, &[a]);
-    let input = fixture.input(&rt, predicate);
-    let copy = input.clone().expect(&rt, "memory");
-    assert!(rt; fixture.same(&rt, &input, &copy));
+fn a_copy_is_the_same(rt: HostRuntime) -> Result<(), Fail> {
+    let mut fixture = Fixture::new(rt.alloc())?;
+    let id = declare(&mut fixture, &[Sort::Ty])?;
+    let a = fixture.ty_var()?;
+    let predicate = trait_holds(&rt, &mut fixture, id, &[a])?;
+    let input = input_of(&mut fixture, predicate)?;
+    let copy = input.clone()?;
+    assert!(rt; same(&rt, &fixture.cx, &input, &copy));
+    Ok(())
 }
 
 #[test]
-fn originals_give_a_goal_back(rt: HostRuntime) {
-    let mut fixture = Fixture::new(&rt, rt.alloc());
-    let id = fixture.declare(&rt, &[Sort::Ty, Sort::Ty]);
-    let a = fixture.ty_var(&rt);
-    let inside = fixture.wrap(&rt, a);
-    let predicate = fixture.predicate(&rt, id, &[inside, a]);
-    let env = fixture.env_of(&rt, predicate);
-    let goal = fixture.there_and_back(&rt, env, predicate);
+fn originals_give_a_goal_back(rt: HostRuntime) -> Result<(), Fail> {
+    let mut fixture = Fixture::new(rt.alloc())?;
+    let id = declare(&mut fixture, &[Sort::Ty, Sort::Ty])?;
+    let a = fixture.ty_var()?;
+    let inside = fixture.wrap(a)?;
+    let predicate = trait_holds(&rt, &mut fixture, id, &[inside, a])?;
+    let env = env_of(&rt, &mut fixture, predicate)?;
+    let goal = there_and_back(&mut fixture, env, predicate)?;
     assert!(rt; goal.param_env == env);
     assert!(rt; goal.predicate == predicate);
+    Ok(())
 }
 
 #[test]
-fn hidden_types_are_part_of_an_input(rt: HostRuntime) {
-    let mut fixture = Fixture::new(&rt, rt.alloc());
-    let bare = fixture.declare(&rt, &[]);
-    let a = fixture.ty_var(&rt);
-    let b = fixture.ty_var(&rt);
-    let predicate = fixture.predicate(&rt, bare, &[]);
-    let (originals, input) = fixture.with_hidden(&rt, predicate, b, a);
+fn hidden_types_are_part_of_an_input(rt: HostRuntime) -> Result<(), Fail> {
+    let mut fixture = Fixture::new(rt.alloc())?;
+    let bare = declare(&mut fixture, &[])?;
+    let a = fixture.ty_var()?;
+    let b = fixture.ty_var()?;
+    let predicate = trait_holds(&rt, &mut fixture, bare, &[])?;
+    let id = fixture.declare_alias(&[Sort::Ty], AliasKind::Opaque)?;
+    let (originals, input) = with_hidden(&mut fixture, predicate, id, b, a)?;
     are(&rt, &originals, &[b, a]);
-    let first = fixture.position(&rt, 0);
-    let second = fixture.position(&rt, 1);
-    let wanted = fixture.args(&rt, &[first]);
+    let first = fixture.position(0)?;
+    let second = fixture.position(1)?;
+    let wanted = fixture.args(&[first])?;
     match input.canonical.value.predefined_opaques_in_body.get(0) {
         Some((alias, ty)) => {
-            assert!(rt; alias.def_id == AliasDefId::Ty(fixture.hidden));
+            assert!(rt; alias.def_id == AliasDefId::Ty(id));
             assert!(rt; alias.args == wanted);
             assert!(rt; GenericArg::from(*ty) == second);
         }
         None => assert!(rt; false),
     }
+    Ok(())
 }
 
 #[test]
-fn a_table_that_is_made_has_the_input_again(rt: HostRuntime) {
-    let mut fixture = Fixture::new(&rt, rt.alloc());
-    fixture.make_universes(&rt, 1);
-    let id = fixture.declare(&rt, &[Sort::Ty, Sort::Ty, Sort::Ty, Sort::Ty]);
-    let a = fixture.ty_var(&rt);
-    let b = fixture.ty_var(&rt);
-    let c = fixture.ty_var(&rt);
-    fixture.join(&rt, 0, 2);
-    let held = fixture.placeholder(&rt, 7);
-    let inside = fixture.wrap(&rt, b);
-    let predicate = fixture.predicate(&rt, id, &[held, a, inside, c]);
-    let (values, originals, same) = fixture.rebuilt(&rt, predicate, b, a, c);
+fn a_table_that_is_made_has_the_input_again(rt: HostRuntime) -> Result<(), Fail> {
+    let mut fixture = Fixture::new(rt.alloc())?;
+    make_universes(&mut fixture, 1)?;
+    let id = declare(&mut fixture, &[Sort::Ty, Sort::Ty, Sort::Ty, Sort::Ty])?;
+    let a = fixture.ty_var()?;
+    let b = fixture.ty_var()?;
+    let c = fixture.ty_var()?;
+    join(&rt, &mut fixture, 0, 2);
+    let held = fixture.placeholder(1, 7)?;
+    let inside = fixture.wrap(b)?;
+    let predicate = trait_holds(&rt, &mut fixture, id, &[held, a, inside, c])?;
+    let alias = fixture.declare_alias(&[Sort::Ty], AliasKind::Opaque)?;
+    let (values, originals, same) = rebuilt(&mut fixture, predicate, alias, b, [a, c])?;
     assert!(rt; same);
     are(&rt, &values, &originals);
     assert_eq!(rt; values.len(), 4);
@@ -237,6 +251,7 @@ fn a_table_that_is_made_has_the_input_again(rt: HostRuntime) {
     assert!(rt; table.variable(2).sub_link == Some(0));
     assert_eq!(rt; table.num_opaque_types(), 1);
     assert!(rt; GenericArg::from(table.hidden_type(0).ty) == values[3]);
+    Ok(())
 }
 
 /// Sees the last variable of the table.
@@ -256,45 +271,51 @@ fn leads_to(rt: &impl Abort, fixture: &Fixture, n: usize, root: usize) {
 }
 
 #[test]
-fn values_of_kinds(rt: HostRuntime) {
-    let mut fixture = Fixture::new(&rt, rt.alloc());
-    fixture.make_universes(&rt, 7);
+fn values_of_kinds(rt: HostRuntime) -> Result<(), Fail> {
+    let mut fixture = Fixture::new(rt.alloc())?;
+    make_universes(&mut fixture, 7)?;
     let ty = CanonicalVarKind::Ty { ui: 4, sub_root: 0 };
-    let first = fixture.value(&rt, ty, &[]);
+    let first = value_of(&mut fixture, ty, &[])?;
     is_last(&rt, &fixture, VariableKind::Ty, 5);
-    let second = fixture.value(&rt, ty, &[first]);
+    let second = value_of(&mut fixture, ty, &[first])?;
     is_last(&rt, &fixture, VariableKind::Ty, 5);
     leads_to(&rt, &fixture, 1, 0);
-    let third = fixture.value(&rt, ty, &[second]);
+    let third = value_of(&mut fixture, ty, &[second])?;
     leads_to(&rt, &fixture, 2, 0);
-    fixture.value(&rt, CanonicalVarKind::Int, &[first, third]);
+    value_of(&mut fixture, CanonicalVarKind::Int, &[first, third])?;
     is_last(&rt, &fixture, VariableKind::Int, 0);
-    fixture.value(&rt, CanonicalVarKind::Float, &[]);
+    value_of(&mut fixture, CanonicalVarKind::Float, &[])?;
     is_last(&rt, &fixture, VariableKind::Float, 0);
-    fixture.value(&rt, CanonicalVarKind::Const(0), &[]);
+    value_of(&mut fixture, CanonicalVarKind::Const(0), &[])?;
     is_last(&rt, &fixture, VariableKind::Const, 1);
-    fixture.value(&rt, CanonicalVarKind::Region(2), &[]);
+    value_of(&mut fixture, CanonicalVarKind::Region(2), &[])?;
     is_last(&rt, &fixture, VariableKind::Region, 3);
+    Ok(())
 }
 
 #[test]
-fn placeholders_are_moved_into_universes(rt: HostRuntime) {
-    let mut fixture = Fixture::new(&rt, rt.alloc());
-    fixture.make_universes(&rt, 7);
+fn placeholders_are_moved_into_universes(rt: HostRuntime) -> Result<(), Fail> {
+    let mut fixture = Fixture::new(rt.alloc())?;
+    make_universes(&mut fixture, 7)?;
     let bound = BoundTy { var: 3 };
     let kind = CanonicalVarKind::PlaceholderTy(PlaceholderType { universe: 0, bound });
-    let value = fixture.value(&rt, kind, &[]);
-    let wanted = fixture.placeholder(&rt, 3);
+    let value = value_of(&mut fixture, kind, &[])?;
+    let wanted = fixture.placeholder(1, 3)?;
     assert!(rt; value == wanted);
     let bound = BoundRegion { var: 2 };
     let region = PlaceholderRegion { universe: 6, bound };
-    let value = fixture.value(&rt, CanonicalVarKind::PlaceholderRegion(region), &[]);
-    let wanted = fixture.region(
-        &rt,
-        RegionKind::RePlaceholder(PlaceholderRegion { universe: 7, bound }),
-    );
+    let value = value_of(
+        &mut fixture,
+        CanonicalVarKind::PlaceholderRegion(region),
+        &[],
+    )?;
+    let wanted = fixture.region(RegionKind::RePlaceholder(PlaceholderRegion {
+        universe: 7,
+        bound,
+    }))?;
     assert!(rt; value == wanted);
     assert_eq!(rt; fixture.table.variable_count(), 0);
+    Ok(())
 }
 
 #[test]

@@ -1,7 +1,5 @@
 //! Goals asked of the library.
 ghost use Rattle.std.specs.Prelude.{IfOk, OnOk};
-ghost use Rattle.nts_store.specs.Growth.{Extends};
-ghost use Rattle.nts_terms.specs.Handles.{HoldsArgs};
 ghost use Rattle.nts_table.specs.Tables.{IsTable};
 ghost use Rattle.nts_terms.specs.Handles.{HoldsGoal};
 ghost use Rattle.nts_delegate.specs.Clauses.{AreClausesReady};
@@ -15,8 +13,8 @@ use nts_resolve::eager_resolve_vars;
 use nts_store::EvalError;
 use nts_table::InferCtxt;
 use nts_terms::{
-    Binder, BoundTy, ClauseKind, Cx, DefId, GenericArg, GenericArgs, Goal, PlaceholderType,
-    PredicateKind, Span, TraitId, TraitRef, Ty, TyKind, TypingMode,
+    Binder, BoundTy, ClauseKind, Cx, DefId, GenericArg, Goal, PlaceholderType, PredicateKind, Span,
+    TraitId, TraitRef, Ty, TyKind, TypingMode,
 };
 use std::test::Fail;
 

@@ -1,0 +1,12 @@
+//! A store and a table for the tests of the crates above.
+//!
+//! Each condition of a call is tested by a public function, and a term that does not meet it is answered
+//! by `NoSolution`. The functions answer results, since only a test may end the process.
+#![tactic(auto)]
+
+mod fixture;
+mod tables;
+mod terms;
+
+pub use fixture::Fixture;
+pub use tables::table_in;

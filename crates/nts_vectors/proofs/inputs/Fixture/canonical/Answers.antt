@@ -1,5 +1,0 @@
-use Rattle.nts_table.specs.TableLaws.{IsTable-extended}
-use Rattle.nts_vectors.proofs.inputs.Fixture.canonical.Goals as goal
-
-pub returns : goal.returns
-returns g c = IsTable-extended c.canonicalize_goal.ensures.grows.extends c.requires

@@ -1,6 +1,0 @@
-use Rattle.nts_store.proofs.Growing.{Extends-trans}
-use Rattle.nts_table.specs.TableLaws.{IsTable-extended}
-use Rattle.nts_vectors.proofs.inputs.Fixture.predicate.Goals as goal
-
-pub returns : goal.returns
-returns g c = IsTable-extended (Extends-trans c.mk_bound_vars.ensures.grows.extends c.mk_predicate.ensures.grows.extends) c.args-args.ensures

@@ -1,5 +1,0 @@
-use Rattle.std.proofs.Common.{arith}
-use Rattle.nts_vectors.proofs.inputs.Fixture.value.Goals as goal
-
-pub instantiate_canonical_var-requires-clause-values : goal.instantiate_canonical_var-requires-clause-values
-instantiate_canonical_var-requires-clause-values g c = λ k d l. c.loop-value.invariant k d (omega (arith, l, c.loop-value-test.false))
