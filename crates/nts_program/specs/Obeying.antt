@@ -52,7 +52,7 @@ pub record IsInStep (p : Program) : Type 0 where
 pub record IsAnswerWritten (old new : Program) (rs : List Resolved) (text : List ℕ) : Type 0 where
   pub answer : Answer
   pub says : IsAnswerText new.cx.nodes new.names new.scope answer text
-  pub justified : IsJustifiedAnswer old.mode rs old.cx.nodes new.cx.nodes old.clauses answer
+  pub justified : IsJustifiedAnswer old.mode rs old.cx new.cx.nodes old.clauses answer
 
 -- the rules and the mode stay
 pub record KeepsRules (old new : Program) : Type 0 where

@@ -1,9 +1,10 @@
 -- Why a goal is answered as it is.
-use Rattle.std.specs.Prelude.{◌≡◌, ℕ, List, [], All}
-use Rattle.nts_model.specs.declared.labels.Variance.{Variance}
+use Rattle.std.specs.Prelude.{◌≡◌, List, [], All}
 use Rattle.nts_model.specs.Derivations.Handlers.{meaning}
 use Rattle.nts_model.specs.Derivations.Proving.{HasRankedProofUnder}
 use Rattle.nts_model.specs.Terms.Trees.{Tree}
+use Rattle.nts_terms.specs.declared.cx.Cx.{Cx}
+use Rattle.nts_terms.specs.Signatures.{variances_in}
 use Rattle.nts_terms.specs.declared.handles.GenericArg.{GenericArg}
 use Rattle.nts_terms.specs.declared.handles.Goal.{Goal}
 use Rattle.nts_terms.specs.declared.modes.TypingMode.{TypingMode}
@@ -30,15 +31,15 @@ IsTypingMode modes.Analysis (typing.Analysis hidden) = hidden.items ≡ []
 IsTypingMode modes.PostAnalysis typing.PostAnalysis = Unit {0}
 IsTypingMode m t = ⊥
 
--- a goal has a ranked proof by the clauses, in the mode of a table and under its values
-pub record IsProvedGoal (ts us : List Tree) (h : Clauses) (t : Table) (g : Goal) : Type 0 where
+-- a goal has a ranked proof by the clauses and the variances that are declared, in the mode of a table and under its values
+pub record IsProvedGoal (a : Cx) (us : List Tree) (h : Clauses) (t : Table) (g : Goal) : Type 0 where
   pub store : List Tree
-  pub extends : Extends ts store
-  pub proved : (v : ℕ → List Variance) → HasRankedProofUnder (meaning (handler_of store h) v) (mode_of t.mode) (content_of us t.entries) (tree_at us g.param_env.node) (tree_at us g.predicate.node)
+  pub extends : Extends a.nodes store
+  pub proved : HasRankedProofUnder (meaning (handler_of store h) (variances_in a.declarations)) (mode_of t.mode) (content_of us t.entries) (tree_at us g.param_env.node) (tree_at us g.predicate.node)
 
 -- the goal that nodes say holds in a table, which is told of the goal's variables; it is asked in the
 -- mode of a line, of the first variables of that table, one for each variable of the line
-pub record IsHeld (m : Mode) (rs : List Resolved) (ts us : List Tree) (h : Clauses) (f : Found) : Type 0 where
+pub record IsHeld (m : Mode) (rs : List Resolved) (a : Cx) (us : List Tree) (h : Clauses) (f : Found) : Type 0 where
   pub store : List Tree
   pub table : Table
   pub goal : Goal
@@ -48,10 +49,10 @@ pub record IsHeld (m : Mode) (rs : List Resolved) (ts us : List Tree) (h : Claus
   pub first : AreVariablesFrom 0 store f.variables.sorts.items values
   pub mode : IsTypingMode m table.mode
   pub asked : IsGoalOf store f.variables values rs goal
-  pub proved : IsProvedGoal ts store h table goal
+  pub proved : IsProvedGoal a store h table goal
   pub found : IsFoundIn store us (content_of store table.entries) values (answers.Yes f)
 
 -- a goal that is answered `yes` is proved
-abbrev pub IsJustifiedAnswer : Mode → List Resolved → List Tree → List Tree → Clauses → Answer → Type 0
-IsJustifiedAnswer m rs ts us h (answers.Yes f) = IsHeld m rs ts us h f
-IsJustifiedAnswer m rs ts us h a = Unit {0}
+abbrev pub IsJustifiedAnswer : Mode → List Resolved → Cx → List Tree → Clauses → Answer → Type 0
+IsJustifiedAnswer m rs a us h (answers.Yes f) = IsHeld m rs a us h f
+IsJustifiedAnswer m rs a us h r = Unit {0}

@@ -41,7 +41,7 @@ fn typing_mode(alloc: Global, mode: Mode) -> TypingMode
 #[tactic(auto, using(crate::proofs::Asking::asking))]
 pub fn ask(cx: &mut Cx, clauses: &Clauses, mode: Mode, nodes: &[Resolved]) -> Result<Answer, Stop>
     requires ready { AreClausesReady cx.old.nodes clauses.now }
-    ensures yes { IfOk result (IsJustifiedAnswer mode nodes.now cx.old.nodes cx.new.nodes
+    ensures yes { IfOk result (IsJustifiedAnswer mode nodes.now cx.old cx.new.nodes
         clauses.now) }
     ensures grows { Grows cx.old cx.new }
 {
@@ -110,7 +110,7 @@ fn evaluated(
     ensures values { OnOk result (All (λ v. IsKnownValue cx.new.nodes table.new v) values.now) }
     ensures admitted { IfOk result (λ _. IsAdmitted cx.old.nodes table.old goal) }
     ensures proved { IfOk result (λ o. o ≡ Some certainty.Yes →
-        IsProvedGoal cx.old.nodes cx.new.nodes clauses.now table.new goal) }
+        IsProvedGoal cx.old cx.new.nodes clauses.now table.new goal) }
     ensures none { IfOk result (λ o. o ≡ None → table.new ≡ table.old) }
     ensures mode { OnOk result (table.new.mode ≡ table.old.mode) }
 {

@@ -1,5 +1,7 @@
 use Rattle.nts_table.specs.TableLaws.{IsTable-extended}
+use Rattle.nts_store.proofs.Growing.{Extends-refl}
 use Rattle.nts_program.proofs.Asking.{values-run}
+use Rattle.nts_program.proofs.Justifying.{earlier}
 use Rattle.nts_wording.proofs.Telling.{values-extended}
 use Rattle.nts_program.proofs.answer.evaluated.Goals as goal
 
@@ -9,3 +11,13 @@ evaluate_root_goal-requires-clause-table c = IsTable-extended c.in_ok-admitted.e
 pub returns-in-Ok-clause-values : goal.returns-in-Ok-clause-values
 returns-in-Ok-clause-values c =
     values-run c.args.values.now c.in-Ok.ensures.runs (values-extended c.args.values.now c.requires.table c.in_ok-admitted.ensures.grows.extends c.requires.values)
+
+pub returns-in-Ok-clause-proved : goal.returns-in-Ok-clause-proved
+returns-in-Ok-clause-proved c = λ e.
+    let now = c.goal_is_admitted.new.cx in
+    earlier c.args.cx.now now _ c.args.clauses.now _ c.args.goal c.in_ok-admitted.ensures.grows
+    (record {
+      store = now.nodes;
+      extends = Extends-refl now.nodes;
+      proved = rw c.in-Ok.ensures.runs.goes.mode (c.in-Ok.ensures.proved (cc e));
+    })
