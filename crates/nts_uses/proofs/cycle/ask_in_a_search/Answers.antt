@@ -10,5 +10,5 @@ query_of-requires c =
     let e = c.in_ok-goal_is_admitted.ensures in
     record { posed = IsPosed-admitted (IsTable-extended e.grows.extends c.requires.table) (IsAdmitted-extended e.grows.extends c.requires.table (e.admitted.0 c.if-not-branch.false)) }
 
-pub evaluate_goal-requires-clause-search : goal.evaluate_goal-requires-clause-search
-evaluate_goal-requires-clause-search c = search_begun c.new-graph.result.root_depth c.new-graph.ensures.stack c.new-graph.ensures.empty refl c.new-graph.ensures.rounds
+pub evaluate_input-requires-clause-search : goal.evaluate_input-requires-clause-search
+evaluate_input-requires-clause-search c = search_begun c.new-graph.result.root_depth c.new-graph.ensures.stack c.new-graph.ensures.empty refl c.new-graph.ensures.rounds
