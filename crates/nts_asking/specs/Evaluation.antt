@@ -121,6 +121,6 @@ pub record IsGoalUnder (a b : List Tree) (t : Table) (g h : Goal) : Type 0 where
   pub env : tree_at b h.param_env.node ≡ deeply_resolved (content_of a t.entries) (tree_at a g.param_env.node)
   pub predicate : tree_at b h.predicate.node ≡ deeply_resolved (content_of a t.entries) (tree_at a g.predicate.node)
 
--- what they are in the store, and their terms
+-- goals of a store, with their sources, as premises over its trees
 abbrev pub goals_at : List Tree → List (GoalSource × Goal) → List Premise
 goals_at ts gs = map (premise_at ts) gs

@@ -15,6 +15,7 @@ use Rattle.nts_trying.specs.declared.steps.AvailableDepth.TheVariants as availab
 abbrev pub ArePosed : List Tree → Table → List (GoalSource × Goal) → Type 0
 ArePosed ts t gs = All (λ g. IsPosed ts t g.1) gs
 
+-- the terms of goals
 abbrev pub terms_of : List Tree → List (GoalSource × Goal) → List Tree
 terms_of ts [] = []
 terms_of ts (g ∷ gs) = asked_terms ts g.1 ++ terms_of ts gs
