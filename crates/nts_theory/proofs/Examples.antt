@@ -7,3 +7,4 @@ pub mod StackExamples
 pub mod DecidingExamples
 pub mod ErasingExamples
 pub mod OpenGoalExample
+pub mod ToldExamples

@@ -4,7 +4,7 @@ pub mod Carrying
 pub mod AskingWorlds
 pub mod Answered
 pub mod Responding
-pub mod Merging
+pub mod Agreeing
 pub mod Trying
 pub mod Covering
 pub mod OfferMeeting
@@ -16,6 +16,8 @@ pub mod Offering
 pub mod Opening
 pub mod Readying
 pub mod ReachedGoals
+pub mod Queried
+pub mod Begun
 pub mod Witnesses
 pub mod Refuted
 pub mod Freshening
@@ -24,3 +26,4 @@ pub mod Probing
 pub mod Choosing
 pub mod Forcing
 pub mod OpenedProofs
+pub mod QueryLabels

@@ -1,3 +1,4 @@
 pub mod Decisions
 pub mod Erased
 pub mod Refutation
+pub mod Telling

@@ -26,7 +26,7 @@ use Rattle.nts_model.proofs.Canonical.Positioned.{inst-filled, filled_under-fixe
 use Rattle.nts_theory.proofs.Refutation.Carrying.{names_terms}
 use Rattle.nts_theory.proofs.Refutation.Answered.{solution_later}
 use Rattle.nts_theory.proofs.Responses.Applying.{SoFar, all_chosen}
-use Rattle.nts_theory.proofs.Refutation.Merging.{IsNumberedKind, AreNumberedKinds}
+use Rattle.nts_theory.proofs.Refutation.Agreeing.{IsNumberedKind, AreNumberedKinds}
 use Rattle.nts_model.proofs.Tables.Slots.{KeepsKinds-refl}
 
 -- the table without variables

@@ -1,5 +1,5 @@
 -- A candidate that a world meets can be begun there; and constraints that are added keep the worlds in which they are true.
-use Rattle.std.proofs.Common.{◌≡◌, inl, inr, ℕ, List, [], ◌∷◌, length, refl, sym, ap, subst, ◌∙◌, arith}
+use Rattle.std.proofs.Common.{ℕ, ◌≡◌, inl, inr, List, [], ◌∷◌, length, refl, sym, ap, subst, ◌∙◌, arith}
 use Rattle.std.specs.Prelude.{◌⊎◌}
 use Rattle.nts_model.specs.declared.labels.Relation.{Relation}
 use Rattle.nts_model.specs.declared.labels.Relation.TheVariants as relation
@@ -16,7 +16,7 @@ use Rattle.nts_model.specs.Terms.Substitutions.{leaf_tree, Occurs, Instance, fil
 use Rattle.nts_model.specs.Derivations.Related.{Constraint, pair}
 use Rattle.nts_model.specs.Lists.{Among}
 use Rattle.nts_model.specs.Derivations.Rules.{coherence, Equation, related, alike}
-use Rattle.nts_model.specs.Tables.Equations.{AreRelated, AreUnrelated}
+use Rattle.nts_model.specs.Tables.Equations.{AreRelated}
 use Rattle.nts_model.specs.Derivations.Handlers.{Handler, Candidate, constraint_by, IsAsked, CandidatesKeep, IsCandidateFor, IsFixed, IsOver, IsEquationOver}
 use Rattle.nts_model.specs.Answers.Responses.{read_in}
 use Rattle.nts_model.specs.Answers.Applying.{IsProperContent}
@@ -27,6 +27,7 @@ use Rattle.nts_model.specs.Refutation.Coherence.{IsInstanceIn}
 use Rattle.nts_model.proofs.Tables.Slots.{Knows-kept}
 use Rattle.nts_model.proofs.Tables.Instances.{inst-agrees, Agrees-refl}
 use Rattle.nts_model.proofs.Tables.Solving.{Solves-with_constraint}
+use Rattle.nts_theory.specs.Telling.{FailsToAdd}
 use Rattle.nts_theory.proofs.Refutation.Answered.{solution_later}
 use Rattle.nts_theory.proofs.Refutation.Choosing.{AreFresh, fresh_known, filled_known}
 use Rattle.nts_theory.proofs.Refutation.Trying.{MeetsCandidate, KnowsCandidate, Reaches, reaches_self, reaches_trans, true_there}
@@ -199,12 +200,6 @@ module _ (truth : Truth) (base : ℕ) where
       reaches_trans truth base c e d w r (added_all xs ys e d r.world rest r.solution (rest_true c e w xs y ys r h))
 
   -- .. until an equality fails: it was not true
-  abbrev pub FailsToAdd : List Tree → List Constraint → Content → Type 0
-  FailsToAdd xs [] c = ⊥
-  FailsToAdd xs (x ∷ ys) c =
-      (x.relation ≡ relation.Equal) × AreUnrelated c (filled xs x.left) (filled xs x.right)
-      ⊎ ((e : Content) × Adds (constraint_by (filled xs) x) c e × FailsToAdd xs ys e)
-
   pub added_never_fails : (xs : List Tree) (ys : List Constraint) (c : Content) (w : World) → FailsToAdd xs ys c → IsSolution truth base c w → AreTrueIn c w xs ys → ⊥
   added_never_fails xs [] c w f s h = f
   added_never_fails xs (y ∷ ys) c w (inl (e, u)) s h = u.none w s.solves (subst (λ z. IsTrueBy truth z (inst w (filled xs y.left)) (inst w (filled xs y.right))) e (h.true y (inl refl)))

@@ -1,5 +1,5 @@
 -- A goal that is proved in a world of a query's table has a candidate that can be begun, in the table in which it is answered.
-use Rattle.std.proofs.Common.{◌≡◌, ℕ, ◌+◌, Bool, true, false, length, Option, Some, None, refl, sym, ap, subst, ◌∙◌, arith}
+use Rattle.std.proofs.Common.{ℕ, ◌≡◌, ◌+◌, Bool, true, false, length, Option, Some, None, refl, sym, ap, subst, ◌∙◌, arith}
 use Rattle.std.specs.Prelude.{slice_get}
 use Rattle.nts_model.specs.declared.labels.Sort.{Sort}
 use Rattle.nts_model.specs.declared.labels.Sort.TheVariants as sort
@@ -22,6 +22,7 @@ use Rattle.nts_model.specs.Derivations.Handlers.{Handler, Candidate, IsAsked, Is
 use Rattle.nts_model.specs.Answers.Applying.{IsProperContent}
 use Rattle.nts_model.specs.Refutation.Containing.{Truth, IsSolution}
 use Rattle.nts_model.specs.Refutation.Coherence.{RulesAreOffered}
+use Rattle.nts_theory.specs.Telling.{IsReady}
 use Rattle.nts_theory.specs.Refutation.Refutation.{UsesNamed, binding, IsTheory}
 use Rattle.nts_model.proofs.Tables.Instances.{Agrees-refl}
 use Rattle.nts_model.proofs.Tables.Fitting.{IsClosed-inst, IsFormed-inst}
@@ -57,12 +58,6 @@ module _ (truth : Truth) (base : ℕ) (c : Content) (w : World) (s : IsSolution 
   names_image (node (label.Clause x) t) k = (tt, names_image t k.1)
   names_image (node (label.Predicate x) t) k = (tt, names_image t k.1)
   names_image (node (label.List x) t) k = (tt, names_image t k.1)
-
--- a goal that the handler is asked for, in the table in which it is answered
-pub record IsReady (c : Content) (e g : Tree) : Type 0 where
-  pub asked : IsAsked e (opened_in c g)
-  pub knows : Knows (entered_table c g) (pair e (opened_in c g))
-  pub proper : IsProperContent (entered_table c g)
 
 pub record SomeBegins (h : Handler) (truth : Truth) (Proves : Tree → Tree → Type 0) (c : Content) (e g : Tree) (w : World) : Type 0 where
   pub candidate : Candidate

@@ -1,5 +1,5 @@
 -- What is refused in coherence has no settled proof in any solution of the table.
-use Rattle.std.proofs.Common.{sym, ℕ, List, subst}
+use Rattle.std.proofs.Common.{ℕ, sym, List, subst}
 use Rattle.nts_model.specs.declared.labels.Variance.{Variance}
 use Rattle.nts_model.specs.Terms.Trees.{Tree}
 use Rattle.nts_model.specs.Tables.Contents.{Content}
@@ -14,15 +14,15 @@ use Rattle.nts_model.specs.Derivations.Handlers.{Handler, meaning, IsLawfulHandl
 use Rattle.nts_model.specs.Refutation.Containing.{Truth, IsTrueBy, IsSolution, AnswerContains, HasNoSolution}
 use Rattle.nts_model.specs.Refutation.Coherence.{RulesAreOffered}
 use Rattle.nts_model.specs.Canonical.Inputs.{CanonicalInput}
-use Rattle.nts_model.specs.Answers.Responses.{Response}
-use Rattle.nts_model.specs.Terms.Substitutions.{filled}
 use Rattle.nts_theory.specs.Refutation.Refutation.{IsFair, IsTheory, HasMetProof, HasNoSolutionIn, KeepsSolutionsOf}
 use Rattle.nts_theory.proofs.Refutation.Entering.{entered as enters}
 use Rattle.nts_theory.proofs.Refutation.Theories.{Carried, carried_itself, carried_theory}
 use Rattle.nts_theory.proofs.Refutation.ReachedGoals.{HasNoAliases, InSettledProof, settled_used, root_reached, ground_proof}
-use Rattle.nts_theory.proofs.Refutation.Witnesses.{Tells, Refutes, Asked, Refused, asked_leads, IsFirst, first_query, tells_contain, refutes_none, refused_none}
+use Rattle.nts_theory.specs.Telling.{Verdict, Queries, Asked, Refused, QueryTells, QueryRefutes}
+use Rattle.nts_theory.proofs.Refutation.Queried.{BeginsEach, IsFirst, first_query}
+use Rattle.nts_theory.proofs.Refutation.Witnesses.{asked_leads, tells_contain, refutes_none, refused_none}
 
-module _ (h : Handler) (V : ℕ → List Variance) (truth : Truth) (lawful : IsLawfulHandler h) (law : RulesAreOffered h) (none : HasNoAliases h) (fair : IsFair truth) where
+module _ (Q : Queries) (begins : BeginsEach Q) (h : Handler) (V : ℕ → List Variance) (truth : Truth) (lawful : IsLawfulHandler h) (law : RulesAreOffered h) (none : HasNoAliases h) (fair : IsFair truth) where
   abbrev Holds : Constraint → Type 0
   Holds x = IsTrueBy truth x.relation x.left x.right
 
@@ -40,22 +40,22 @@ module _ (h : Handler) (V : ℕ → List Variance) (truth : Truth) (lawful : IsL
       subst (λ z. Proves z g) p.environment (subst (Proves _) p.predicate q)
 
   -- the root: no solution of the caller's table gives the goal a settled proof
-  pub refused_has_no_proof : (c : Content) (e g : Tree) → Refused h coherence c e g → Knows c (pair e g) → AreCurrent c → (w : World) → IsSolution truth c.universe c w → HasMetProof (meaning h V) truth (inst w e) (inst w g) → ⊥
-  refused_has_no_proof c e g r k current w s p = refused_none h truth Proves theory fair lawful law r k current c.universe w s (proved (inst w e) (inst w g) p)
+  pub refused_has_no_proof : (c : Content) (e g : Tree) → Refused Q h coherence c e g → Knows c (pair e g) → AreCurrent c → (w : World) → IsSolution truth c.universe c w → HasMetProof (meaning h V) truth (inst w e) (inst w g) → ⊥
+  refused_has_no_proof c e g r k current w s p = refused_none Q begins h truth Proves theory fair lawful law r k current c.universe w s (proved (inst w e) (inst w g) p)
 
   -- each answer of a query contains each solution of its input, and what a query refutes has none
-  pub answer_contains_all : (f : CanonicalInput) (q : Content) (qs : List Tree) (r : Response) → IsFirst f q qs → Tells h coherence f.kinds q (filled qs f.environment) (filled qs f.predicate) qs r → AnswerContains truth Proves f r
-  answer_contains_all f q qs r first t vs s =
-      let e = enters truth Proves f q qs vs first.begins s in
-      tells_contain h truth Proves theory fair lawful law t (first_query f q qs first) vs e.world (record { values = s.values; solution = e.solution; images = e.images; proved = e.proved })
+  pub answer_contains_all : (f : CanonicalInput) (v : Verdict) → IsFirst f (Q.table f.kinds) (Q.values f.kinds) → QueryTells Q h coherence f v → AnswerContains truth Proves f v.response
+  answer_contains_all f v first t ts s =
+      let e = enters truth Proves f (Q.table f.kinds) (Q.values f.kinds) ts first.begins s in
+      tells_contain Q begins h truth Proves theory fair lawful law t (first_query f (Q.table f.kinds) (Q.values f.kinds) first) ts e.world (record { values = s.values; solution = e.solution; images = e.images; proved = e.proved })
 
-  pub refuted_has_none : (f : CanonicalInput) (q : Content) (qs : List Tree) → IsFirst f q qs → Refutes h coherence f.kinds q (filled qs f.environment) (filled qs f.predicate) qs → HasNoSolution Proves f
-  refuted_has_none f q qs first t vs s =
-      let e = enters truth Proves f q qs vs first.begins s in
-      refutes_none h truth Proves theory fair lawful law t (first_query f q qs first) vs e.world (record { values = s.values; solution = e.solution; images = e.images; proved = e.proved })
+  pub refuted_has_none : (f : CanonicalInput) → IsFirst f (Q.table f.kinds) (Q.values f.kinds) → QueryRefutes Q h coherence f → HasNoSolution Proves f
+  refuted_has_none f first t ts s =
+      let e = enters truth Proves f (Q.table f.kinds) (Q.values f.kinds) ts first.begins s in
+      refutes_none Q begins h truth Proves theory fair lawful law t (first_query f (Q.table f.kinds) (Q.values f.kinds) first) ts e.world (record { values = s.values; solution = e.solution; images = e.images; proved = e.proved })
 
 -- what is refused as the table knows it has no solution, and what was asked so loses none
-module _ (h : Handler) (lawful : IsLawfulHandler h) (law : RulesAreOffered h) (none : HasNoAliases h) (c : Content) (sound : IsSound c) (current : AreCurrent c) (e g : Tree) (known : Knows c (pair e g)) where
+module _ (Q : Queries) (begins : BeginsEach Q) (h : Handler) (lawful : IsLawfulHandler h) (law : RulesAreOffered h) (none : HasNoAliases h) (c : Content) (sound : IsSound c) (current : AreCurrent c) (e g : Tree) (known : Knows c (pair e g)) where
   known_there : Knows c (pair (deeply_resolved c e) (deeply_resolved c g))
   known_there = (Knows-deeply_resolved c e sound known.0, (Knows-deeply_resolved c g sound known.1.0, tt))
 
@@ -64,16 +64,16 @@ module _ (h : Handler) (lawful : IsLawfulHandler h) (law : RulesAreOffered h) (n
       subst (λ z. HasMetProof (meaning h v) truth z (inst w (deeply_resolved c g))) (sym (inst-deeply_resolved c w e sound s.solves))
       (subst (HasMetProof (meaning h v) truth (inst w e)) (sym (inst-deeply_resolved c w g sound s.solves)) p)
 
-  pub no_solution_in : Refused h coherence c (deeply_resolved c e) (deeply_resolved c g) → HasNoSolutionIn h c e g
+  pub no_solution_in : Refused Q h coherence c (deeply_resolved c e) (deeply_resolved c g) → HasNoSolutionIn h c e g
   no_solution_in r =
-      record { none = λ truth fair v w s p. refused_has_no_proof h v truth lawful law none fair c (deeply_resolved c e) (deeply_resolved c g) r known_there current w s (proof_there truth v w s p) }
+      record { none = λ truth fair v w s p. refused_has_no_proof Q begins h v truth lawful law none fair c (deeply_resolved c e) (deeply_resolved c g) r known_there current w s (proof_there truth v w s p) }
 
-  pub keeps_solutions_of : (d : Content) → Asked h coherence c d (deeply_resolved c e) (deeply_resolved c g) → KeepsSolutionsOf h c d e g
+  pub keeps_solutions_of : (d : Content) → Asked Q h coherence c d (deeply_resolved c e) (deeply_resolved c g) → KeepsSolutionsOf h c d e g
   keeps_solutions_of d a =
       record {
         each = λ truth fair v w s p.
-            (let t = theory h v truth lawful law none fair in
-            let l = asked_leads h truth _ t fair lawful law a known_there current in
-            let x = l.each c.universe w s (proved h v truth lawful law none fair _ _ (proof_there truth v w s p)) in
+            (let t = theory Q begins h v truth lawful law none fair in
+            let l = asked_leads Q begins h truth _ t fair lawful law a known_there current in
+            let x = l.each c.universe w s (proved Q begins h v truth lawful law none fair _ _ (proof_there truth v w s p)) in
             (x.world, x.agrees, (let y = x.solves in y.solution)));
       }

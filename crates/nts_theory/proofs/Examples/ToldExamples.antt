@@ -1,0 +1,99 @@
+-- What is told binds: responses that say nothing, verdicts that stand for others, and goals that are refuted, with what is none.
+use Rattle.std.proofs.Common.{subst, zero, suc, ◌≡◌, inl, inr, ℕ, zero, ◌+◌, ◌≤◌, true, false, List, [], ◌∷◌, ◌++◌, length, refl, sym, ap, ◌∙◌, arith}
+use Rattle.std.specs.Prelude.{◌⊎◌}
+use Rattle.nts_model.specs.declared.labels.Sort.{Sort}
+use Rattle.nts_model.specs.declared.labels.Sort.TheVariants as sort
+use Rattle.nts_model.specs.Terms.Trees.{Tree}
+use Rattle.nts_model.specs.Tables.Contents.{Content}
+use Rattle.nts_model.specs.Lists.{Among}
+use Rattle.nts_model.specs.Derivations.Rules.{Mode}
+use Rattle.nts_model.specs.Derivations.Handlers.{Handler, Candidate}
+use Rattle.nts_model.specs.Derivations.Sequents.{Premise}
+use Rattle.nts_model.specs.Refutation.Choosing.{IsCandidateMet}
+use Rattle.nts_model.specs.Refutation.Opening.{entered_table, opened_in}
+use Rattle.nts_model.specs.Searching.Driving.{unconstrained}
+use Rattle.nts_model.specs.Canonical.Numbered.{position}
+use Rattle.nts_model.specs.Canonical.Inputs.{PositionKind, type_variable, placeholder}
+use Rattle.nts_model.specs.Answers.Responses.{Response}
+use Rattle.nts_theory.specs.Telling.{Verdict, Queries, IsReady, SaysNothing, StandsForAll, FailsToAdd, goals_with, Refutes, all_fail, Outcomes, no_outcome, then_fails, then_replies, Fails, is_unmet, breaks_off, is_refused, RefusesOne, refuses_one, cuts_one}
+
+-- the answer without constraints says nothing, in each universe
+unconstrained_says_nothing : (ks : List PositionKind) → SaysNothing ks (unconstrained ks)
+unconstrained_says_nothing ks = refl
+
+-- one without values says something where there is a position: it is none of this input's
+abbrev without_values : Response
+without_values = record { findings = record { values = []; constraints = []; hidden = []; open_goals = [] }; kinds = []; max_universe = 0 }
+
+no_values_say_something : (k : PositionKind) (ks : List PositionKind) → SaysNothing (k ∷ ks) without_values → ⊥
+no_values_say_something k ks e = (let many : 0 ≡ length (k ∷ ks) = ap (λ (r : Response). length r.kinds) e in omega (arith, many))
+
+-- .. and so does one that makes two variables one, or a type variable a placeholder
+abbrev two_variables : List PositionKind
+two_variables = type_variable 0 0 ∷ type_variable 0 1 ∷ []
+
+abbrev both_one : Response
+both_one = record { findings = record { values = position sort.Ty 0 ∷ position sort.Ty 0 ∷ []; constraints = []; hidden = []; open_goals = [] }; kinds = type_variable 0 0 ∷ []; max_universe = 0 }
+
+two_made_one_say_something : SaysNothing two_variables both_one → ⊥
+two_made_one_say_something e = (let many : 1 ≡ 2 = ap (λ (r : Response). length r.kinds) e in omega (arith, many))
+
+-- a candidate without constraints and goals that is met does not fail
+no_refusal : (Q : Queries) (h : Handler) (mode : Mode) (c : Content) (vs : List Tree) (gs : List Premise) → gs ≡ [] → RefusesOne Q h mode (goals_with vs gs) c → ⊥
+no_refusal Q h mode c vs [] e (refuses_one d p r i k q) = i
+no_refusal Q h mode c vs [] e (cuts_one d p r i s k) = i
+no_refusal Q h mode c vs (g ∷ gs) e r = cc e
+
+no_break : (xs : List Tree) (x : Candidate) (c : Content) → x.constraints ≡ [] → FailsToAdd xs x.constraints c → ⊥
+no_break xs x c e f = (let z : FailsToAdd xs [] c = rw e at f in z)
+
+pub fact_never_fails : (Q : Queries) (h : Handler) (mode : Mode) (c : Content) (x : Candidate) → IsCandidateMet c x → x.constraints ≡ [] → x.goals ≡ [] → Fails Q h mode c x → ⊥
+fact_never_fails Q h mode c x met constraints goals (is_unmet n) = n met
+fact_never_fails Q h mode c x met constraints goals (breaks_off b) = no_break b.values x b.equal constraints b.fails
+fact_never_fails Q h mode c x met constraints goals (is_refused values there begun refused) = no_refusal Q h mode there values x.goals goals refused
+
+-- where no verdict is left, each candidate failed
+among_ends : {A : Type 0} (xs : List A) (x y : A) → Among (xs ++ x ∷ []) y → Among xs y ⊎ (y ≡ x)
+among_ends [] x y (inl e) = inr e
+among_ends [] x y (inr i) = absurd i
+among_ends (z ∷ xs) x y (inl e) = inl (inl e)
+among_ends (z ∷ xs) x y (inr i) = elim (among_ends xs x y i) [ inl j ↦ inl (inr j) | inr e ↦ inr e ]
+
+not_empty : {A : Type 0} (xs : List A) (x : A) → xs ++ x ∷ [] ≡ [] → ⊥
+not_empty [] x e = cc e
+not_empty (y ∷ xs) x e = cc e
+
+all_failed : {Q : Queries} {h : Handler} {mode : Mode} {c : Content} {e g : Tree} {qs : List Tree} {xs : List Candidate} {vs : List Verdict} → Outcomes Q h mode c e g qs xs vs → vs ≡ [] → (x : Candidate) → Among xs x → Fails Q h mode c x
+all_failed no_outcome none x i = absurd i
+all_failed {Q} {h} {mode} {c} (then_fails {xs = xs} {x = y} before fails) none x i = elim (among_ends xs y x i) [ inl j ↦ all_failed before none x j | inr e ↦ subst (Fails Q h mode c) (sym e) fails ]
+all_failed (then_replies {vs = vs} {v = v} before reply) none x i = absurd (not_empty vs v none)
+
+-- so a query does not refute a goal for which a candidate without constraints and goals is met: a handler that offers a fact
+pub fact_is_not_refuted : (Q : Queries) (h : Handler) (mode : Mode) (c : Content) (e g : Tree) (qs : List Tree) (x : Candidate) → Among (h.offers mode e (opened_in c g)) x → IsCandidateMet (entered_table c g) x → x.constraints ≡ [] → x.goals ≡ []
+    → Refutes Q h mode c e g qs → ⊥
+fact_is_not_refuted Q h mode c e g qs x offered met constraints goals (all_fail ready all) = fact_never_fails Q h mode (entered_table c g) x met constraints goals (all_failed all refl x offered)
+
+-- and it refutes one for which nothing is offered
+pub no_candidate_is_refuted : (Q : Queries) (h : Handler) (mode : Mode) (c : Content) (e g : Tree) (qs : List Tree) → IsReady c e g → h.offers mode e (opened_in c g) ≡ [] → Refutes Q h mode c e g qs
+no_candidate_is_refuted Q h mode c e g qs ready none = all_fail ready (rw none no_outcome)
+
+-- a yes stands for a doubt beside it only if it changes nothing
+abbrev certain_one : Verdict
+certain_one = record { response = both_one; is_yes = true }
+
+abbrev doubtful_one : Verdict
+doubtful_one = record { response = without_values; is_yes = false }
+
+doubt_stands_for_no_yes : (Q : Queries) → StandsForAll Q two_variables (certain_one ∷ doubtful_one ∷ []) doubtful_one → ⊥
+doubt_stands_for_no_yes Q (i, inl (sure, identity, agrees)) = cc sure
+doubt_stands_for_no_yes Q (i, inr same) = (let e : true ≡ false = ap (λ (v : Verdict). v.is_yes) (same certain_one (inl refl)) in cc e)
+
+equality_stands_for_no_doubt : (Q : Queries) → StandsForAll Q two_variables (certain_one ∷ doubtful_one ∷ []) certain_one → ⊥
+equality_stands_for_no_doubt Q (i, inl (sure, identity, agrees)) =
+    let p = identity.values 1 (omega arith) in
+    let e : zero ≡ suc zero = number_of p.0 (p.1) in
+    omega (arith, e)
+  where
+    number_of : (s : Sort) → position sort.Ty 0 ≡ position s 1 → zero ≡ suc zero
+    number_of s q = cc q
+equality_stands_for_no_doubt Q (i, inr same) = (let e : false ≡ true = ap (λ (v : Verdict). v.is_yes) (same doubtful_one (inr (inl refl))) in cc e)

@@ -1,0 +1,213 @@
+-- What the answers to goals rest on: the candidates of a goal, each tried to its end, and below them the goals that they ask
+-- for, each in a query of its own. A cycle is answered what an earlier round of its head found, which is told likewise, or nothing.
+use Rattle.std.specs.Prelude.{◌≡◌, ◌⊎◌, ◌↔◌, ℕ, ◌+◌, ◌≤◌, Bool, true, false, List, [], ◌∷◌, ◌++◌, map, length, get_or}
+use Rattle.nts_model.specs.declared.labels.Relation.TheVariants as relation
+use Rattle.nts_model.specs.declared.labels.Sort.{Sort}
+use Rattle.nts_model.specs.Terms.Trees.{Tree, empty}
+use Rattle.nts_model.specs.Tables.Contents.{Content}
+use Rattle.nts_model.specs.Tables.Resolving.{Knows, IsSound, deeply_resolved}
+use Rattle.nts_model.specs.Tables.Levels.{AreCurrent}
+use Rattle.nts_model.specs.Tables.Equations.{AreUnrelated}
+use Rattle.nts_model.specs.Tables.Passing.{BringsOnly}
+use Rattle.nts_model.specs.Tables.SubUnifying.{SharesSubRoot}
+use Rattle.nts_model.specs.Derivations.Related.{Constraint, pair}
+use Rattle.nts_model.specs.Lists.{Among}
+use Rattle.nts_model.specs.Derivations.Sequents.{Source, type_relating, normalize_goal, inductive, Premise}
+use Rattle.nts_model.specs.Derivations.Rules.{Mode, coherence}
+use Rattle.nts_model.specs.Terms.Substitutions.{leaf_tree, filled}
+use Rattle.nts_model.specs.Canonical.Numbered.{position}
+use Rattle.nts_model.specs.Derivations.Handlers.{Handler, Candidate, IsAsked, constraint_by, premise_by}
+use Rattle.nts_model.specs.Refutation.Choosing.{Freshens, EquatesAll, IsCandidateMet}
+use Rattle.nts_model.specs.Refutation.Forcing.{Adds, AddsAll}
+use Rattle.nts_model.specs.Refutation.Opening.{entered_table, opened_in}
+use Rattle.nts_model.specs.Searching.Driving.{unconstrained}
+use Rattle.nts_model.specs.Canonical.Inputs.{Input, IsInput, CanonicalInput, PositionKind, canonical_of, originals}
+use Rattle.nts_model.specs.Answers.Applying.{IsProperContent}
+use Rattle.nts_model.specs.Derivations.Proving.{HoldsTerms, AreConstraintsOf}
+use Rattle.nts_model.specs.Answers.Responses.{Findings, AreFindings, Response, response_of, IsResponseTo, Applies, RefusesResponse}
+
+-- a response, and whether it is certain
+pub record Verdict : Type 0 where
+  pub response : Response
+  pub is_yes : Bool
+
+-- the table of a query at first, where its input has these kinds, and what stands for the positions there; and which kinds
+-- the positions of an answer may have that changes nothing
+pub record Queries : Type 1 where
+  pub table : List PositionKind → Content
+  pub values : List PositionKind → List Tree
+  pub agrees : List PositionKind → List PositionKind → Type 0
+
+-- these are the sub roots of a table: two variables have one exactly if they are of one class
+abbrev pub AreClassesOf : Content → (ℕ → ℕ) → Type 0
+AreClassesOf c root = (n m : ℕ) → (root n ≡ root m) ↔ SharesSubRoot c n m
+
+-- a goal of a table as the input of a query: the table tells no hidden types
+pub record IsInputFor (c : Content) (e g : Tree) (i : Input) : Type 0 where
+  pub environment : i.environment ≡ e
+  pub predicate : i.predicate ≡ g
+  pub hidden : i.hidden ≡ empty
+  pub classes : AreClassesOf c i.sub_root
+  pub proper : IsInput i
+
+-- a table without its region constraints
+abbrev pub without_constraints : Content → Content
+without_constraints c = record c { constraints = [] }
+
+-- the response says what the table found out of these trees, and of the classes of its variables
+pub record IsResponseOf (found : Content) (qs : List Tree) (r : Response) : Type 0 where
+  pub roots : ℕ → ℕ
+  pub classes : AreClassesOf found roots
+  pub findings : Findings
+  pub reads : AreFindings found qs findings
+  pub no_hidden : findings.hidden ≡ []
+  pub no_goals : findings.open_goals ≡ []
+  pub is : r ≡ response_of found roots 0 findings
+
+-- .. of a table that keeps its region constraints to itself
+abbrev pub IsPlainResponse : Content → List Tree → Response → Type 0
+IsPlainResponse c qs r = IsResponseOf (without_constraints c) qs r
+
+-- a response that says nothing to an input of these kinds: its positions are the input's, and its values are these, in order
+abbrev pub SaysNothing : List PositionKind → Response → Type 0
+SaysNothing ks r = r ≡ record (unconstrained ks) { max_universe = r.max_universe }
+
+-- a response of which each value is the position with its number
+pub record IsIdentityAnswer (r : Response) : Type 0 where
+  pub values : (let x = r.findings in (i : ℕ) → i + 1 ≤ length x.values → (s : Sort) × (get_or x.values i empty ≡ position s i))
+  pub constraints : (let x = r.findings in x.constraints ≡ [])
+  pub hidden : (let x = r.findings in x.hidden ≡ [])
+  pub open_goals : (let x = r.findings in x.open_goals ≡ [])
+
+-- one of the verdicts stands for all: it is a yes that changes nothing, or all are equal to it
+abbrev pub StandsForAll : Queries → List PositionKind → List Verdict → Verdict → Type 0
+StandsForAll Q ks vs v =
+    Among vs v × ((v.is_yes ≡ true) × IsIdentityAnswer v.response × (let r = v.response in Q.agrees ks r.kinds) ⊎ ((w : Verdict) → Among vs w → w ≡ v))
+
+-- constraint by constraint, until the sides of an equality are not related
+abbrev pub FailsToAdd : List Tree → List Constraint → Content → Type 0
+FailsToAdd xs [] c = ⊥
+FailsToAdd xs (x ∷ ys) c =
+    (x.relation ≡ relation.Equal) × AreUnrelated c (filled xs x.left) (filled xs x.right)
+    ⊎ ((e : Content) × Adds (constraint_by (filled xs) x) c e × FailsToAdd xs ys e)
+
+-- a candidate's goals, with the values in place of its positions
+abbrev pub goals_with : List Tree → List Premise → List Premise
+goals_with vs ps = map (premise_by (filled vs)) ps
+
+-- the values are new variables under which a candidate's equations and constraints hold
+pub record IsBegun (c : Content) (x : Candidate) (vs : List Tree) (met : Content) : Type 0 where
+  pub made : Content
+  pub equal : Content
+  pub freshens : Freshens c.universe x.fresh vs c made
+  pub equates : EquatesAll vs x.equations made equal
+  pub adds : AddsAll vs x.constraints equal met
+
+-- .. until an equality of regions can't be
+pub record BreaksOff (c : Content) (x : Candidate) : Type 0 where
+  pub values : List Tree
+  pub made : Content
+  pub equal : Content
+  pub freshens : Freshens c.universe x.fresh values c made
+  pub equates : EquatesAll values x.equations made equal
+  pub fails : FailsToAdd values x.constraints equal
+
+-- a source of goals the steps to which are inductive, unless they start from a goal that normalizes an alias
+abbrev pub IsInductive : Source → Type 0
+IsInductive type_relating = Unit {0}
+IsInductive (normalize_goal inductive) = Unit {0}
+IsInductive s = ⊥
+
+-- in coherence an inductive cycle is in doubt, and elsewhere it has no solution
+abbrev pub IsCutIn : Mode → Type 0
+IsCutIn mode = mode ≡ coherence → ⊥
+
+-- a table in which goals are asked: no variable leads back to itself, and none is of a universe above the current one
+pub record CanAsk (c : Content) : Type 0 where
+  pub sound : IsSound c
+  pub current : AreCurrent c
+
+-- a goal that the handler is asked for, opened if it binds variables: it is known to the table in which it is answered
+pub record IsReady (c : Content) (e g : Tree) : Type 0 where
+  pub asked : IsAsked e (opened_in c g)
+  pub knows : Knows (entered_table c g) (pair e (opened_in c g))
+  pub proper : IsProperContent (entered_table c g)
+
+-- a table whose values and constraints are of terms
+pub record IsTermTable (c : Content) : Type 0 where
+  pub sound : IsSound c
+  pub values : HoldsTerms c
+  pub constraints : AreConstraintsOf c
+
+-- a table that went on while a goal was answered: it holds terms, with no labels but the goal's and those of any query
+pub record IsFound (c : Content) (e g : Tree) (found : Content) : Type 0 where
+  pub table : IsTermTable found
+  pub labels : BringsOnly (e ∷ g ∷ []) c found
+
+-- what a reply says of the table that was found: all where it is certain. One in doubt keeps the constraints to itself, and
+-- may say only what was known before
+abbrev pub SaysOf : Content → Content → List Tree → Verdict → Type 0
+SaysOf c found qs v =
+    (v.is_yes ≡ true) × IsResponseOf found qs v.response
+    ⊎ (v.is_yes ≡ false) × (IsPlainResponse found qs v.response ⊎ IsPlainResponse c qs v.response)
+
+mutual
+  -- what a goal is answered in a table, for these terms of an input of these kinds: nothing is told, or the verdict that stands
+  -- for those of the candidates for the goal
+  pub data Tells (Q : Queries) (h : Handler) (mode : Mode) : List PositionKind → Content → Tree → Tree → List Tree → Verdict → Type 0 where
+    tells_nothing : {ks : List PositionKind} {c : Content} {e g : Tree} {qs : List Tree} {v : Verdict} (d : Content) → (d ≡ c) ⊎ (d ≡ entered_table c g) → v.is_yes ≡ false → IsPlainResponse d qs v.response → Tells Q h mode ks c e g qs v
+    says_nothing : {ks : List PositionKind} {c : Content} {e g : Tree} {qs : List Tree} {v : Verdict} → SaysNothing ks v.response → Tells Q h mode ks c e g qs v
+    tells_one : {ks : List PositionKind} {c : Content} {e g : Tree} {qs : List Tree} {v : Verdict} (vs : List Verdict) → IsReady c e g → Outcomes Q h mode (entered_table c g) e (opened_in c g) qs (h.offers mode e (opened_in c g)) vs → StandsForAll Q ks vs v
+        → Tells Q h mode ks c e g qs v
+
+  -- each candidate fails
+  pub data Refutes (Q : Queries) (h : Handler) (mode : Mode) : Content → Tree → Tree → List Tree → Type 0 where
+    all_fail : {c : Content} {e g : Tree} {qs : List Tree} → IsReady c e g → Outcomes Q h mode (entered_table c g) e (opened_in c g) qs (h.offers mode e (opened_in c g)) [] → Refutes Q h mode c e g qs
+
+  -- candidate by candidate, it fails or has a verdict
+  pub data Outcomes (Q : Queries) (h : Handler) (mode : Mode) : Content → Tree → Tree → List Tree → List Candidate → List Verdict → Type 0 where
+    no_outcome : {c : Content} {e g : Tree} {qs : List Tree} → Outcomes Q h mode c e g qs [] []
+    then_fails : {c : Content} {e g : Tree} {qs : List Tree} {xs : List Candidate} {vs : List Verdict} {x : Candidate} → Outcomes Q h mode c e g qs xs vs → Fails Q h mode c x → Outcomes Q h mode c e g qs (xs ++ x ∷ []) vs
+    then_replies : {c : Content} {e g : Tree} {qs : List Tree} {xs : List Candidate} {vs : List Verdict} {x : Candidate} {v : Verdict} → Outcomes Q h mode c e g qs xs vs → Replies Q h mode c e g qs x v → Outcomes Q h mode c e g qs (xs ++ x ∷ []) (vs ++ v ∷ [])
+
+  -- the reply of a candidate: its equations and constraints hold, some of its goals were asked, and the table says what it found
+  pub data Replies (Q : Queries) (h : Handler) (mode : Mode) : Content → Tree → Tree → List Tree → Candidate → Verdict → Type 0 where
+    replies : {c : Content} {e g : Tree} {qs : List Tree} {x : Candidate} {v : Verdict} (values : List Tree) (met found : Content) → IsBegun c x values met → Reaches Q h mode (goals_with values x.goals) met found → IsFound c e g found → SaysOf c found qs v
+        → Replies Q h mode c e g qs x v
+
+  -- a candidate fails: no world of the table meets its equations, or a constraint can't be, or a goal is refused
+  pub data Fails (Q : Queries) (h : Handler) (mode : Mode) : Content → Candidate → Type 0 where
+    is_unmet : {c : Content} {x : Candidate} → (IsCandidateMet c x → ⊥) → Fails Q h mode c x
+    breaks_off : {c : Content} {x : Candidate} → BreaksOff c x → Fails Q h mode c x
+    is_refused : {c : Content} {x : Candidate} (values : List Tree) (met : Content) → IsBegun c x values met → RefusesOne Q h mode (goals_with values x.goals) met → Fails Q h mode c x
+
+  -- some of the goals were asked, in any order and more than once
+  pub data Reaches (Q : Queries) (h : Handler) (mode : Mode) : List Premise → Content → Content → Type 0 where
+    asks_nothing : {gs : List Premise} {c : Content} → Reaches Q h mode gs c c
+    then_asks : {gs : List Premise} {c e : Content} (d : Content) (p : Premise) → Reaches Q h mode gs c d → Among gs p → CanAsk d → Asked Q h mode d e (deeply_resolved d p.environment) (deeply_resolved d p.predicate) → Reaches Q h mode gs c e
+
+  -- .. and then one is refused; or, outside coherence, it is cut as a cycle, which only a goal can be that inductive steps lead to
+  pub data RefusesOne (Q : Queries) (h : Handler) (mode : Mode) : List Premise → Content → Type 0 where
+    refuses_one : {gs : List Premise} {c : Content} (d : Content) (p : Premise) → Reaches Q h mode gs c d → Among gs p → CanAsk d → Refused Q h mode d (deeply_resolved d p.environment) (deeply_resolved d p.predicate) → RefusesOne Q h mode gs c
+    cuts_one : {gs : List Premise} {c : Content} (d : Content) (p : Premise) → Reaches Q h mode gs c d → Among gs p → IsInductive p.source → IsCutIn mode → RefusesOne Q h mode gs c
+
+  -- a goal was asked in a query, and the response was applied to its leaves
+  pub data Asked (Q : Queries) (h : Handler) (mode : Mode) : Content → Content → Tree → Tree → Type 0 where
+    asked_by : {c d : Content} {e g : Tree} (i : Input) (v : Verdict) → IsInputFor c e g i
+        → Tells Q h mode (canonical_of i).kinds (Q.table (canonical_of i).kinds) (filled (Q.values (canonical_of i).kinds) (canonical_of i).environment) (filled (Q.values (canonical_of i).kinds) (canonical_of i).predicate) (Q.values (canonical_of i).kinds) v
+        → IsResponseTo (let f = canonical_of i in f.kinds) v.response → Applies c d (map leaf_tree (originals i)) v.response → Asked Q h mode c d e g
+
+  -- a goal is refused: its query refutes it, or no solution of the table grants the response
+  pub data Refused (Q : Queries) (h : Handler) (mode : Mode) : Content → Tree → Tree → Type 0 where
+    by_query : {c : Content} {e g : Tree} (i : Input) → IsInputFor c e g i
+        → Refutes Q h mode (Q.table (canonical_of i).kinds) (filled (Q.values (canonical_of i).kinds) (canonical_of i).environment) (filled (Q.values (canonical_of i).kinds) (canonical_of i).predicate) (Q.values (canonical_of i).kinds) → Refused Q h mode c e g
+    by_response : {c : Content} {e g : Tree} (i : Input) (v : Verdict) → IsInputFor c e g i
+        → Tells Q h mode (canonical_of i).kinds (Q.table (canonical_of i).kinds) (filled (Q.values (canonical_of i).kinds) (canonical_of i).environment) (filled (Q.values (canonical_of i).kinds) (canonical_of i).predicate) (Q.values (canonical_of i).kinds) v
+        → IsResponseTo (let f = canonical_of i in f.kinds) v.response → RefusesResponse c (map leaf_tree (originals i)) v.response → Refused Q h mode c e g
+
+-- .. of the goal of a canonical input, in the first table of its query
+abbrev pub QueryTells : Queries → Handler → Mode → CanonicalInput → Verdict → Type 0
+QueryTells Q h mode f v = Tells Q h mode f.kinds (Q.table f.kinds) (filled (Q.values f.kinds) f.environment) (filled (Q.values f.kinds) f.predicate) (Q.values f.kinds) v
+
+abbrev pub QueryRefutes : Queries → Handler → Mode → CanonicalInput → Type 0
+QueryRefutes Q h mode f = Refutes Q h mode (Q.table f.kinds) (filled (Q.values f.kinds) f.environment) (filled (Q.values f.kinds) f.predicate) (Q.values f.kinds)
