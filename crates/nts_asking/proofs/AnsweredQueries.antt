@@ -8,7 +8,7 @@ use Rattle.nts_model.specs.Derivations.Proving.{sequent_at}
 use Rattle.nts_model.specs.Answers.Responses.{response_of}
 use Rattle.nts_theory.proofs.Responses.Closing.{said_instance}
 use Rattle.nts_theory.proofs.Derivations.Assuming.{derived_instance}
-use Rattle.nts_model.specs.Terms.Trees.{Tree, more}
+use Rattle.nts_model.specs.Terms.Trees.{Tree}
 use Rattle.nts_model.specs.Tables.Contents.{Content}
 use Rattle.nts_model.specs.Tables.Resolving.{Knows}
 use Rattle.nts_model.specs.Lists.{Among}
@@ -34,9 +34,11 @@ use Rattle.nts_canonical.specs.declared.types.QueryInput.{QueryInput}
 use Rattle.nts_canonical.specs.Forms.{form_of, query_tree, trees_of}
 use Rattle.nts_canonical.specs.Kinds.{AreInputKinds}
 use Rattle.nts_canonical.specs.Building.{IsArgOf, values_of, made_entries}
-use Rattle.nts_asking.specs.Asking.{IsResponseOf, first_table, first_values, asked_environment, asked_predicate}
+use Rattle.nts_asking.specs.Asking.{first_table, first_values, asked_environment, asked_predicate}
+use Rattle.nts_theory.specs.Telling.{IsResponseOf}
 use Rattle.nts_asking.specs.Evaluation.{asked_terms}
-use Rattle.nts_asking.proofs.QueryTables.{first_content, first_passes, is_label_in, queries_pass, labels_in, table_in, values_pass, asked_passes, value_formed}
+use Rattle.nts_asking.proofs.QueryTables.{first_content, first_passes, values_pass, asked_passes, value_formed}
+use Rattle.nts_theory.proofs.Refutation.QueryLabels.{is_label_in, queries_pass, labels_in, table_in}
 use Rattle.nts_asking.proofs.Running.{term_table}
 use Rattle.nts_theory.proofs.Responses.Asked.{first_part, rest_part}
 

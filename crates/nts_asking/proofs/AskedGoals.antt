@@ -5,7 +5,7 @@ use Rattle.std.specs.Global.{Vec}
 use Rattle.std.proofs.lemmas.List.Elements.{All-head, All-tail, All-cons}
 use Rattle.nts_model.specs.declared.labels.Leaf.{Leaf}
 use Rattle.nts_model.specs.declared.labels.Label.{Label}
-use Rattle.nts_model.specs.Terms.Trees.{Tree, empty, IsClosed}
+use Rattle.nts_model.specs.Terms.Trees.{Tree, empty}
 use Rattle.nts_model.specs.Tables.Contents.{Content}
 use Rattle.nts_model.specs.Terms.Substitutions.{leaf_tree, Occurs}
 use Rattle.nts_model.specs.Lists.{Among}
@@ -38,23 +38,34 @@ use Rattle.nts_canonical.specs.Building.{IsArgOf, kinds_of}
 use Rattle.nts_response.specs.declared.types.Response.{Response}
 use Rattle.nts_response.specs.Forms.{premise_at, response_at}
 use Rattle.nts_response.specs.Applicable.{ShowsConstraints, IsApplicable, IsResponseApplied}
-use Rattle.nts_asking.specs.Asking.{IsInputFor}
-use Rattle.nts_asking.specs.Telling.{QueryTells, QueryRefutes, Asked, Refused, IsCutIn}
-use Rattle.nts_asking.specs.Meant.{IsQueryRefuted, IsRefusedIn}
-use Rattle.nts_asking.specs.Searching.{IsCut}
+use Rattle.nts_theory.specs.Telling.{IsInputFor, Verdict}
+use Rattle.nts_asking.specs.Telling.{QueryTells, QueryRefutes, Asked, Refused}
+use Rattle.nts_theory.specs.Telling.{IsCutIn}
+use Rattle.nts_asking.specs.Meant.{IsQueryRefuted, IsRefusedIn, EvaluatesGoal}
+use Rattle.nts_asking.specs.Searching.{IsCut, IsGoalCut, IsHead}
 use Rattle.nts_certainty.specs.declared.sources.PathKind.{PathKind}
 use Rattle.nts_terms.specs.Modes.{mode_of}
-use Rattle.nts_asking.specs.Telling.Asked.{asked_by}
-use Rattle.nts_asking.specs.Telling.Refused.{by_query, by_response}
+use Rattle.nts_theory.specs.Telling.Asked.{asked_by}
+use Rattle.nts_theory.specs.Telling.Refused.{by_query, by_response}
 use Rattle.nts_asking.specs.Running.{Stays}
 use Rattle.nts_asking.specs.Evaluation.{IsPosed, asked_terms}
-use Rattle.nts_asking.specs.Answering.{IsQueryOf, IsAnswerTo, Evaluates}
+use Rattle.nts_asking.specs.Answering.{IsQueryOf, IsAnswerTo, Evaluates, is_yes, verdict_at}
 use Rattle.nts_asking.proofs.Queried.{original_named}
 use Rattle.nts_asking.proofs.Running.{term_table, term_later}
+use Rattle.nts_terms.specs.declared.modes.TypingMode.{TypingMode}
+use Rattle.nts_certainty.specs.declared.certainty.Certainty.{Certainty}
+use Rattle.nts_search.specs.declared.stack.SearchGraph.{SearchGraph}
+use Rattle.nts_search.specs.Searching.{IsStack}
+use Rattle.nts_asking.proofs.Searching.{cut_earlier}
+use Rattle.nts_asking.proofs.SubClasses.{root_classes}
 
 pub ok_both : {A E : Type 0} {P R : A → Type 0} {Q : Type 0} (r : Result A E) → ((x : A) → P x → Q → R x) → IfOk r P → OnOk r Q → IfOk r R
 ok_both (Ok x) f p q = f x p q
 ok_both (Err e) f p q = tt
+
+pub ok_three : {A E : Type 0} {P Q R : A → Type 0} {S : Type 0} (r : Result A E) → ((x : A) → P x → Q x → S → R x) → IfOk r P → IfOk r Q → OnOk r S → IfOk r R
+ok_three (Ok x) f p q s = f x p q s
+ok_three (Err e) f p q s = tt
 
 pub ok_two : {A E : Type 0} {P Q R : A → Type 0} (r : Result A E) → ((x : A) → P x → Q x → R x) → IfOk r P → IfOk r Q → IfOk r R
 ok_two (Ok x) f p q = f x p q
@@ -138,20 +149,28 @@ module _ {a b d : List Tree} {t : Table} {g : Goal} {q : Vec GenericArg × Canon
   pub args_there : All (IsArgOf d t.entries) q.0.items
   args_there = args_kept b d t.entries q.0.items (now ∙ sym (content_of-extended ab posed.table.now)) bd query.args
 
-  of_goal : IsInputFor (tree_at a g.param_env.node) (tree_at a g.predicate.node) asked
-  of_goal = record { environment = refl; predicate = refl; hidden = refl; proper = query.proper }
+  of_goal : IsInputFor (content_of a t.entries) (tree_at a g.param_env.node) (tree_at a g.predicate.node) asked
+  of_goal =
+      record { environment = refl; predicate = refl; hidden = refl; classes = root_classes a t.entries (let w = posed.table in let n = w.now in n.descends); proper = query.proper }
 
   -- it was applied
   module _ {e : List Tree} (u : Table) (r : Canonical Response) (applied : IsResponseApplied d e t.entries u.entries (trees_of d q.0.items) (response_at d r) false []) where
     here : IsResponseApplied a e t.entries u.entries (map leaf_tree (originals asked)) (response_at d r) false []
     here = subst (λ os. IsResponseApplied a e t.entries u.entries os (response_at d r) false []) leaves_are (applied_at now applied)
 
-    pub evaluates : IsAnswerTo d (kinds_of q.1) r → (x : HasChanged) → (x ≡ changes.No) ↔ IsIdentity 0 (trees_of d r.value.var_values.items) → Evaluates a e t u (tree_at a g.param_env.node) (tree_at a g.predicate.node) x
-    evaluates fits x same =
-        record { input = asked; of_goal = of_goal; response = response_at d r; fits = rw kinds_are fits.to; applied = here; changes = same }
-
-    pub asks : {h : Handler} {mode : Mode} → IsAnswerTo d (kinds_of q.1) r → QueryTells h mode (form_of b q.1) (response_at d r) → Asked h mode (content_of a t.entries) (content_of e u.entries) (tree_at a g.param_env.node) (tree_at a g.predicate.node)
-    asks {h} {mode} fits x = asked_by asked (response_at d r) of_goal (subst (λ f. QueryTells h mode f (response_at d r)) query.form x) (rw kinds_are fits.to) here.applies
+    pub evaluates : (h : Handler) (mode : TypingMode) → IsAnswerTo d (kinds_of q.1) r → QueryTells h (mode_of mode) (form_of b q.1) (verdict_at d r) → (sure : Certainty) → sure ≡ r.value.certainty → (x : HasChanged) → (x ≡ changes.No) ↔ IsIdentity 0 (trees_of d r.value.var_values.items)
+        → EvaluatesGoal h mode a t e u g sure x
+    evaluates h mode fits told sure certain x same =
+        record {
+          input = asked;
+          of_goal = of_goal;
+          verdict = verdict_at d r;
+          told = subst (λ f. QueryTells h (mode_of mode) f (verdict_at d r)) query.form told;
+          fits = rw kinds_are fits.to;
+          applied = here;
+          certain = ap is_yes (sym certain);
+          changes = same;
+        }
 
     pub asked_stays : (m : Meaning) (mode : Mode) (A : List Assumed) → AreFormed e → IsTable e u → IsAnswerTo d (kinds_of q.1) r → IsDerivedFrom m mode A (answer_sequent (form_of b q.1) (response_at d r))
         → Stays (content_of e u.entries) (λ z. IsProvedFrom m mode A z (tree_at a g.param_env.node) (tree_at a g.predicate.node))
@@ -180,13 +199,21 @@ module _ {a b d : List Tree} {t : Table} {g : Goal} {q : Vec GenericArg × Canon
   query_refutes {h} {mode} x = by_query asked of_goal (subst (λ f. QueryRefutes h mode f) query.form x)
 
   -- .. or it is cut as a cycle
-  pub query_cut : {h : Handler} {step : PathKind} → IsQueryRefuted h (mode_of q.1.typing_mode) b q.1 ⊎ IsCut q.1.typing_mode step → IsRefusedIn h t.mode a t g ⊎ IsCut t.mode step
-  query_cut {h} (inl x) = inl (query_refutes (subst (λ z. QueryRefutes h z (form_of b q.1)) query.mode x))
-  query_cut (inr x) = inr (x.0, subst IsCutIn query.mode x.1)
+  pub query_cut : {h : Handler} {s : SearchGraph} {step : PathKind} → IsStack a s → All (IsHead a) s.stack.items → IsQueryRefuted h (mode_of q.1.typing_mode) b q.1 ⊎ IsCut b s (form_of b q.1) q.1.typing_mode step
+      → IsRefusedIn h t.mode a t g ⊎ IsGoalCut a s (content_of a t.entries) t.mode (tree_at a g.param_env.node) (tree_at a g.predicate.node) step
+  query_cut {h} stack heads (inl x) = inl (query_refutes (subst (λ z. QueryRefutes h z (form_of b q.1)) query.mode x))
+  query_cut {h} {s} {step} stack heads (inr x) =
+      let there = cut_earlier ab stack heads x in
+      inr (asked, of_goal, record { head = there.head; below = there.below; same = λ d. there.same d ∙ query.form; path = there.path; elsewhere = subst IsCutIn query.mode there.elsewhere })
 
-  pub response_refused : {h : Handler} {mode : Mode} (r : Canonical Response) → IsAnswerTo d (kinds_of q.1) r → QueryTells h mode (form_of b q.1) (response_at d r) → RefusesResponse (content_of d t.entries) (trees_of d q.0.items) (response_at d r) → Refused h mode (content_of a t.entries) (tree_at a g.param_env.node) (tree_at a g.predicate.node)
-  response_refused {h} {mode} r fits x k = by_response asked (response_at d r) of_goal (subst (λ f. QueryTells h mode f (response_at d r)) query.form x) (rw kinds_are fits.to) (rw (now, leaves_are) at k)
+  pub response_refused : {h : Handler} {mode : Mode} (r : Canonical Response) → IsAnswerTo d (kinds_of q.1) r → QueryTells h mode (form_of b q.1) (verdict_at d r) → RefusesResponse (content_of d t.entries) (trees_of d q.0.items) (response_at d r) → Refused h mode (content_of a t.entries) (tree_at a g.param_env.node) (tree_at a g.predicate.node)
+  response_refused {h} {mode} r fits x k = by_response asked (verdict_at d r) of_goal (subst (λ f. QueryTells h mode f (verdict_at d r)) query.form x) (rw kinds_are fits.to) (rw (now, leaves_are) at k)
 
 -- what an evaluation leaves, seen from a smaller store
-pub evaluates_at : {a d e : List Tree} {t u : Table} {x y : Tree} {z : HasChanged} → content_of d t.entries ≡ content_of a t.entries → Evaluates d e t u x y z → Evaluates a e t u x y z
-evaluates_at same h = record { input = h.input; of_goal = h.of_goal; response = h.response; fits = h.fits; applied = applied_at same h.applied; changes = h.changes }
+pub evaluates_at : {Told : Form → Verdict → Type 0} {a d e : List Tree} {t u : Entries} {x y : Tree} {sure : Certainty} {z : HasChanged} → content_of d t ≡ content_of a t → Evaluates Told d e t u x y sure z → Evaluates Told a e t u x y sure z
+evaluates_at same h =
+    record { input = h.input; of_goal = rw same at h.of_goal; verdict = h.verdict; told = h.told; fits = h.fits; applied = applied_at same h.applied; certain = h.certain; changes = h.changes }
+
+-- a goal that was evaluated was asked
+pub was_asked : {h : Handler} {mode : Mode} {a e : List Tree} {t u : Entries} {x y : Tree} {sure : Certainty} {z : HasChanged} → Evaluates (QueryTells h mode) a e t u x y sure z → Asked h mode (content_of a t) (content_of e u) x y
+was_asked h = (let k = h.applied in asked_by h.input h.verdict h.of_goal h.told h.fits k.applies)

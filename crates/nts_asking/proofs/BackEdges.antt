@@ -41,15 +41,16 @@ use Rattle.nts_terms.specs.Modes.{mode_of}
 use Rattle.nts_canonical.specs.Alike.{AreOneInput}
 use Rattle.nts_search.specs.declared.stack.SearchGraph.{SearchGraph}
 use Rattle.nts_search.specs.Searching.{entries_at, read_at, IsStack, KeepsRestOfGraph}
-use Rattle.nts_asking.specs.Telling.{SaysNothing}
+use Rattle.nts_theory.specs.Telling.{SaysNothing}
 use Rattle.nts_asking.specs.Searching.{IsSearch, AreLater, Searches, IsCut, IsReadAt, HasNoneAt, assumed_in}
 use Rattle.nts_asking.proofs.Searching.{later_itself}
 use Rattle.nts_asking.proofs.Unchanged.{unchanged_fits, nothing_said}
 use Rattle.std.specs.Global.{Box}
 use Rattle.nts_asking.specs.Rounds.{IsBoxed}
-use Rattle.nts_asking.specs.Answering.{IsQueryInput, IsAnswerTo, IfAnswered}
+use Rattle.nts_asking.specs.Answering.{IsQueryInput, IsAnswerTo, IfAnswered, is_yes, verdict_at}
 use Rattle.nts_asking.proofs.Unchanged.{get_mapped}
 use Rattle.nts_asking.specs.Searching.{IsHead, IsHeadAnswer, IsCopied, IsCopiedAnswer}
+use Rattle.nts_terms.specs.declared.modes.TypingMode.{TypingMode}
 
 -- a copy says the same, and can be applied where the response can be
 module _ (ts : List Tree) (q r : Canonical Response) (copy : IsCopied q r) where
@@ -73,6 +74,9 @@ module _ (ts : List Tree) (q r : Canonical Response) (copy : IsCopied q r) where
 
   pub copied_response : response_at ts r ≡ response_at ts q
   copied_response = cc (values, constraints, hidden, goals, copy.kinds, copy.universe)
+
+  pub copied_verdict : verdict_at ts r ≡ verdict_at ts q
+  copied_verdict = λ i. record { response = copied_response i; is_yes = is_yes (copied_certainty i) }
 
   copied_holds : HoldsResponse ts q.value → HoldsResponse ts r.value
   copied_holds h = record { values = rw values h.values; constraints = rw constraints h.constraints; hidden = rw hidden h.hidden; open_goals = rw goals h.open_goals }
@@ -125,8 +129,8 @@ step_inductive path.Unknown e = cc e
 step_inductive path.Inductive e = refl
 step_inductive path.ForcedAmbiguity e = cc e
 
-pub last_inductive : (xs : List Entry) (n : ℕ) (k q : PathKindData) → path_kind_of k ≡ path_kind xs n (path_kind_of q) → k ≡ path.Inductive → q ≡ path.Inductive
-last_inductive xs n k q e i = step_inductive q (path_inductive xs n (path_kind_of q) (sym e ∙ ap path_kind_of i))
+pub last_inductive : {ts : List Tree} {g : SearchGraph} {f : Form} {mode : TypingMode} (q : PathKindData) → IsCut ts g f mode q → q ≡ path.Inductive
+last_inductive {ts} {g} q c = step_inductive q (path_inductive (entries_at ts g) (length g.stack.items - suc c.head) (path_kind_of q) c.path)
 
 -- the entry with an index, from the newest
 got_at : {X : Type 0} (f : X → Entry) (xs : List X) (n : ℕ) (d : X) → n < length xs → slice_get (map f (reverse xs)) (length xs - suc n) ≡ Some (f (get_or xs n d))
@@ -233,7 +237,7 @@ module _ {a : Cx} {g : SearchGraph} (m n : ℕ) (search : IsSearch a g m) (below
       let one = same e in
       copied_head a.nodes (get_or g.stack.items n e) c.0 r (kinds_of input) head_there (ap (λ (f : Form). f.kinds) one.form) c.1 c.2)
 
-  pub read_answers : IfAnswered z (λ r. IsReadAt g.stack.items n r ⊎ SaysNothing (response_at a.nodes r))
+  pub read_answers : IfAnswered z (λ r. IsReadAt g.stack.items n r ⊎ SaysNothing (kinds_of input) (response_at a.nodes r))
   read_answers =
       by_answer x z some none (λ r h. inl (λ d. let c = provisional_there r h in let y = get_or_any g.stack.items n d e below in (c.0, ap (λ w. w.provisional) y ∙ c.1, c.2)))
 
@@ -258,10 +262,11 @@ module _ (ts us : List Tree) (input : CanonicalInput) (asked : IsQueryInput ts i
   pub first_fits : IfAnswered z (IsAnswerTo us (kinds_of input))
   first_fits = by_answer x z some none (λ r e. unchanged_fits ts us input r asked (subst (λ y. IfSome y (λ v. HoldsResponse us v.value)) e holds) (said r e))
 
-  pub first_answers : (xs : List StackEntry) (n : ℕ) → IfAnswered z (λ r. IsReadAt xs n r ⊎ SaysNothing (response_at us r))
+  pub first_answers : (xs : List StackEntry) (n : ℕ) → IfAnswered z (λ r. IsReadAt xs n r ⊎ SaysNothing (kinds_of input) (response_at us r))
   first_answers xs n = by_answer x z some none (λ r e. inr (nothing_said _ _ _ (said r e)))
 
-  pub first_refuted : (xs : List StackEntry) (n at : ℕ) (es : List Entry) (step : PathKindData) → IsNone x ↔ ((k ≡ path.Inductive) × (mode_of input.typing_mode ≢ coherence)) → path_kind_of k ≡ path_kind es at (path_kind_of step) → z ≡ Err error.NoSolution → HasNoneAt xs n ⊎ IsCut input.typing_mode step
-  first_refuted xs n at es step exact path q =
+  pub first_refuted : (g : SearchGraph) (n : ℕ) → n < length g.stack.items → ((d : StackEntry) → AreOneInput ts (get_or g.stack.items n d).input input) → (step : PathKindData) → IsNone x ↔ ((k ≡ path.Inductive) × (mode_of input.typing_mode ≢ coherence))
+      → path_kind_of k ≡ path_kind (entries_at ts g) (length g.stack.items - suc n) (path_kind_of step) → z ≡ Err error.NoSolution → HasNoneAt g.stack.items n ⊎ IsCut ts g (form_of ts input) input.typing_mode step
+  first_refuted g n below same step exact path q =
       let c = exact.0 (is_none x (some_is_ok x z some q)) in
-      inr (last_inductive es at k step path c.0, c.1)
+      inr (record { head = n; below = below; same = λ d. (let y = same d in y.form); path = sym path ∙ ap path_kind_of c.0; elsewhere = c.1 })

@@ -10,8 +10,6 @@ use Rattle.nts_model.specs.Lists.{Among}
 use Rattle.nts_model.specs.Canonical.Inputs.{Input, PositionKind, position_kind, canonical_of, originals}
 use Rattle.nts_model.specs.Tables.Passing.{AllPass}
 use Rattle.nts_model.specs.Answers.Responses.{Findings, IsLabelIn, IsQueryTable, IsResponseTo}
-use Rattle.nts_model.proofs.Tables.Slots.{Knows-kept}
-use Rattle.nts_model.proofs.Tables.Sound.{SameStates, IsSound-same}
 use Rattle.nts_model.proofs.Lists.{contains_none}
 use Rattle.nts_theory.proofs.Responses.Querying.{query_fits}
 use Rattle.nts_certainty.specs.declared.certainty.Certainty.{Certainty}
@@ -25,33 +23,19 @@ use Rattle.nts_response.specs.declared.types.Response.{Response}
 use Rattle.nts_response.specs.Forms.{response_at, HoldsResponse}
 use Rattle.nts_response.specs.Applicable.{left_place, IsApplicable}
 use Rattle.nts_response.proofs.Answered.{table_places, answered_applicable}
-use Rattle.nts_asking.specs.Asking.{first_values, without_constraints, IsResponseOf}
+use Rattle.nts_asking.specs.Asking.{first_values}
+use Rattle.nts_theory.specs.Telling.{without_constraints, IsResponseOf}
 use Rattle.nts_unify.specs.Changing.{HasClosedSides}
 use Rattle.nts_asking.specs.Answering.{told_in, IsAnswerTo}
 use Rattle.nts_asking.proofs.Running.{term_table}
-use Rattle.nts_asking.proofs.QueryTables.{labels_in, values_pass, value_formed}
-use Rattle.nts_asking.proofs.Told.{states_without}
+use Rattle.nts_asking.proofs.QueryTables.{values_pass, value_formed}
+use Rattle.nts_theory.proofs.Refutation.QueryLabels.{labels_in, query_without}
 
 -- a query's table, with what its constraints are between
 record IsFoundTable (ks : List PositionKind) (c : Content) : Type 0 where
   pub table : IsQueryTable ks c (first_values ks)
   pub places : (y : Recorded) → Contains c.constraints y → FitsPlace (left_place y.relation) (kind_of y.left)
   pub sides : HasClosedSides c
-
-knows_without : (c : Content) (t : Tree) → Knows c t → Knows (without_constraints c) t
-knows_without c t h = Knows-kept c (without_constraints c) t (record { grows = omega arith; kinds = λ n k e. e }) h
-
-query_without : (ks : List PositionKind) (c : Content) (qs : List Tree) → IsQueryTable ks c qs → IsQueryTable ks (without_constraints c) qs
-query_without ks c qs h =
-    let v = h.values in
-    let l = h.labels in
-    record {
-      sound = IsSound-same c (without_constraints c) h.sound (states_without c);
-      values = record { fitting = v.fitting; closed = v.closed; formed = v.formed };
-      constraints = record { left = λ x i. absurd (contains_none x i); right = λ x i. absurd (contains_none x i) };
-      labels = record { values = l.values; left = λ x i. absurd (contains_none x i); right = λ x i. absurd (contains_none x i) };
-      terms = λ t m. (let a = h.terms t m in let k = a.0 in (record { knows = knows_without c t k.knows; formed = k.formed }, a.1));
-    }
 
 root_without : (ks : List PositionKind) (c : Content) → IsFoundTable ks c → IsFoundTable ks (without_constraints c)
 root_without ks c h =

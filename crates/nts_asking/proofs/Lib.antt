@@ -6,6 +6,7 @@ pub mod Evaluating
 pub mod Queried
 pub mod QueryTables
 pub mod Running
+pub mod SubClasses
 pub mod Told
 pub mod Fitting
 pub mod Searching

@@ -1,25 +1,21 @@
 -- The table of a query: what it is at first, and which labels it may hold.
-use Rattle.std.proofs.Common.{◌≡◌, inl, inr, ℕ, zero, suc, ◌+◌, Bool, true, false, List, [], ◌∷◌, ◌++◌, map, Option, Some, None, refl, sym, ap, ◌∙◌, subst, arith}
-use Rattle.std.specs.Prelude.{◌==◌, ◌&&◌, slice_get, None}
+use Rattle.std.proofs.Common.{◌≡◌, inl, inr, ℕ, zero, suc, ◌+◌, Bool, true, List, [], ◌∷◌, ◌++◌, map, Option, Some, refl, sym, ap, ◌∙◌, subst, arith}
+use Rattle.std.specs.Prelude.{◌==◌, ◌&&◌, slice_get}
 use Rattle.nts_model.specs.declared.labels.Sort.{Sort}
 use Rattle.nts_model.specs.declared.labels.Sort.TheVariants as sort
-use Rattle.nts_model.specs.declared.labels.FreeRegion.{FreeRegion}
 use Rattle.nts_model.specs.declared.labels.FreeRegion.TheVariants as region
-use Rattle.nts_model.specs.declared.labels.Constant.{Constant}
-use Rattle.nts_model.specs.declared.labels.Constant.TheVariants as constant
 use Rattle.nts_model.specs.declared.labels.Leaf.{Leaf}
 use Rattle.nts_model.specs.declared.labels.Leaf.TheVariants as leaf
-use Rattle.nts_model.specs.declared.labels.BoundVarIndexKind.TheVariants as index
 use Rattle.nts_model.specs.declared.labels.Label.{Label}
 use Rattle.nts_model.specs.declared.labels.Label.TheVariants as label
-use Rattle.nts_model.specs.Terms.Trees.{Tree, empty, more, node, IsFormed}
-use Rattle.nts_model.specs.Tables.Contents.{Content, SlotState, unset, known, map_slot, Slot}
+use Rattle.nts_model.specs.Terms.Trees.{Tree, more, IsFormed}
+use Rattle.nts_model.specs.Tables.Contents.{SlotState, unset, known, map_slot, Slot}
 use Rattle.nts_model.specs.Terms.Substitutions.{leaf_tree, filled}
 use Rattle.nts_model.specs.Lists.{Among}
 use Rattle.nts_model.specs.Derivations.Handlers.{IsFixed}
 use Rattle.nts_model.specs.Canonical.Inputs.{PositionKind, type_variable, integer_variable, float_variable, const_variable, region_variable, placeholder}
-use Rattle.nts_model.specs.Tables.Passing.{AllLabels, AllPass, TreePasses, TablePasses, PassesQueries, IsQueryRegion, IsQueryConstant}
-use Rattle.nts_model.specs.Answers.Responses.{IsLabelIn, IsRegionIn, IsConstantIn, IsOverPositions, universe_of_kind}
+use Rattle.nts_model.specs.Tables.Passing.{TreePasses, TablePasses}
+use Rattle.nts_model.specs.Answers.Responses.{IsOverPositions, universe_of_kind}
 use Rattle.nts_model.proofs.Tables.Under.{eq-self}
 use Rattle.nts_model.proofs.Lists.{contains_none}
 use Rattle.nts_model.proofs.Tables.Bringing.{passes-filled}
@@ -30,6 +26,7 @@ use Rattle.nts_unify.specs.Reading.{content_of, slot_of}
 use Rattle.nts_canonical.specs.Kinds.{AreInputKinds, IsInputKind, kind_of_position, count_of, value_leaf, value_leaves, made_variable, made_variables}
 use Rattle.nts_canonical.specs.Building.{made_entries}
 use Rattle.nts_asking.specs.Asking.{first_table, first_values}
+use Rattle.nts_theory.proofs.Refutation.QueryLabels.{is_placeholder, same_sort, is_label_in, queries_pass}
 
 -- the table holds no terms, so it is the same in each store
 slots_same : (ts : List Tree) (xs ys : List Variable) → map (slot_of ts) ys ≡ map (slot_of []) ys → map (slot_of ts) xs ≡ map (slot_of []) xs → map (slot_of ts) (xs ++ ys) ≡ map (slot_of []) (xs ++ ys)
@@ -94,141 +91,6 @@ first_passes P ks =
       left = λ x i. absurd (contains_none x i);
       right = λ x i. absurd (contains_none x i);
     }
-
--- whether the table of a query whose input has these kinds may hold a label
-abbrev is_sort : Sort → Sort → Bool
-is_sort sort.Ty sort.Ty = true
-is_sort sort.Const sort.Const = true
-is_sort sort.Region sort.Region = true
-is_sort s t = false
-
-abbrev is_placeholder : Sort → ℕ → Option PositionKind → Bool
-is_placeholder s n (Some (placeholder t zero m)) = is_sort s t && (m == n)
-is_placeholder s n o = false
-
-abbrev is_region_in : List PositionKind → FreeRegion → Bool
-is_region_in ks (region.Placeholder zero n) = is_placeholder sort.Region n (slice_get ks n)
-is_region_in ks (region.EarlyParam n) = false
-is_region_in ks (region.LateParam n) = false
-is_region_in ks r = true
-
-abbrev is_constant_in : List PositionKind → Sort → Constant → Bool
-is_constant_in ks s (constant.Placeholder zero n) = is_placeholder s n (slice_get ks n)
-is_constant_in ks s (constant.Placeholder (suc u) n) = true
-is_constant_in ks s (constant.Param n) = false
-
-abbrev is_leaf_in : List PositionKind → Leaf → Bool
-is_leaf_in ks (leaf.Variable k n) = true
-is_leaf_in ks (leaf.Region r) = is_region_in ks r
-is_leaf_in ks (leaf.TyConstant a) = is_constant_in ks sort.Ty a
-is_leaf_in ks (leaf.ConstConstant a) = is_constant_in ks sort.Const a
-
-abbrev pub is_label_in : List PositionKind → Label → Bool
-is_label_in ks (label.Leaf l) = is_leaf_in ks l
-is_label_in ks (label.Bound s index.Canonical n) = false
-is_label_in ks l = true
-
-clash : false ≡ true → ⊥
-clash e = cc
-
-one_sort : (s t : Sort) → is_sort s t ≡ true → t ≡ s
-one_sort sort.Ty sort.Ty e = refl
-one_sort sort.Ty sort.Const e = cc
-one_sort sort.Ty sort.Region e = cc
-one_sort sort.Const sort.Const e = refl
-one_sort sort.Const sort.Ty e = cc
-one_sort sort.Const sort.Region e = cc
-one_sort sort.Region sort.Region e = refl
-one_sort sort.Region sort.Ty e = cc
-one_sort sort.Region sort.Const e = cc
-
-same_sort : (s : Sort) → is_sort s s ≡ true
-same_sort sort.Ty = refl
-same_sort sort.Const = refl
-same_sort sort.Region = refl
-
-both : (a b : Bool) → (a && b) ≡ true → (a ≡ true) × (b ≡ true)
-both true b e = (refl, e)
-both false b e = cc
-
-one_number : (m n : ℕ) → (m == n) ≡ true → m ≡ n
-one_number m n e = grind arith
-
-is_placeholder_at : (s : Sort) (n : ℕ) (o : Option PositionKind) → is_placeholder s n o ≡ true → o ≡ Some (placeholder s 0 n)
-is_placeholder_at s n None e = cc
-is_placeholder_at s n (Some (placeholder t zero m)) e =
-    let z = both (is_sort s t) (m == n) e in
-    rw (one_sort s t z.0, one_number m n z.1) refl
-is_placeholder_at s n (Some (placeholder t (suc u) m)) e = cc
-is_placeholder_at s n (Some (type_variable u r)) e = cc
-is_placeholder_at s n (Some integer_variable) e = cc
-is_placeholder_at s n (Some float_variable) e = cc
-is_placeholder_at s n (Some (const_variable u)) e = cc
-is_placeholder_at s n (Some (region_variable u)) e = cc
-
-region_in : (ks : List PositionKind) (r : FreeRegion) → is_region_in ks r ≡ true → IsRegionIn ks r
-region_in ks (region.Placeholder zero n) e = is_placeholder_at sort.Region n (slice_get ks n) e
-region_in ks (region.Placeholder (suc u) n) e = tt
-region_in ks (region.EarlyParam n) e = absurd (clash e)
-region_in ks (region.LateParam n) e = absurd (clash e)
-region_in ks region.Static e = tt
-region_in ks region.Erased e = tt
-region_in ks region.Error e = tt
-
-constant_in : (ks : List PositionKind) (s : Sort) (a : Constant) → is_constant_in ks s a ≡ true → IsConstantIn ks s a
-constant_in ks s (constant.Placeholder zero n) e = is_placeholder_at s n (slice_get ks n) e
-constant_in ks s (constant.Placeholder (suc u) n) e = tt
-constant_in ks s (constant.Param n) e = absurd (clash e)
-
-label_in : (ks : List PositionKind) (l : Label) → is_label_in ks l ≡ true → IsLabelIn ks l
-label_in ks (label.Leaf (leaf.Variable k n)) e = tt
-label_in ks (label.Leaf (leaf.Region r)) e = region_in ks r e
-label_in ks (label.Leaf (leaf.TyConstant a)) e = constant_in ks sort.Ty a e
-label_in ks (label.Leaf (leaf.ConstConstant a)) e = constant_in ks sort.Const a e
-label_in ks (label.Bound s index.Canonical n) e = absurd (clash e)
-label_in ks (label.Bound s (index.Bound d) n) e = tt
-label_in ks (label.Ty x) e = tt
-label_in ks (label.Const x) e = tt
-label_in ks (label.Clause x) e = tt
-label_in ks (label.Predicate x) e = tt
-label_in ks (label.List x) e = tt
-
-pub labels_in : (ks : List PositionKind) (t : Tree) → TreePasses (is_label_in ks) t → AllLabels (IsLabelIn ks) t
-labels_in ks empty h = tt
-labels_in ks (more a b) h = (labels_in ks a h.0, labels_in ks b h.1)
-labels_in ks (node l c) h = (label_in ks l h.0, labels_in ks c h.1)
-
-pub table_in : (ks : List PositionKind) (c : Content) → TablePasses (is_label_in ks) c → AllPass (IsLabelIn ks) c
-table_in ks c h =
-    record { values = λ n t e. labels_in ks t (h.values n t e); left = λ x i. labels_in ks x.left (h.left x i); right = λ x i. labels_in ks x.right (h.right x i) }
-
--- what any query may hold
-query_region : (ks : List PositionKind) (r : FreeRegion) → IsQueryRegion r → is_region_in ks r ≡ true
-query_region ks (region.Placeholder zero n) h = absurd h
-query_region ks (region.Placeholder (suc u) n) h = refl
-query_region ks (region.EarlyParam n) h = absurd h
-query_region ks (region.LateParam n) h = absurd h
-query_region ks region.Static h = refl
-query_region ks region.Erased h = refl
-query_region ks region.Error h = refl
-
-query_constant : (ks : List PositionKind) (s : Sort) (a : Constant) → IsQueryConstant a → is_constant_in ks s a ≡ true
-query_constant ks s (constant.Placeholder zero n) h = absurd h
-query_constant ks s (constant.Placeholder (suc u) n) h = refl
-query_constant ks s (constant.Param n) h = absurd h
-
-pub queries_pass : (ks : List PositionKind) → PassesQueries (is_label_in ks)
-queries_pass ks (label.Leaf (leaf.Variable k n)) h = refl
-queries_pass ks (label.Leaf (leaf.Region r)) h = query_region ks r h
-queries_pass ks (label.Leaf (leaf.TyConstant a)) h = query_constant ks sort.Ty a h
-queries_pass ks (label.Leaf (leaf.ConstConstant a)) h = query_constant ks sort.Const a h
-queries_pass ks (label.Bound s index.Canonical n) h = absurd h
-queries_pass ks (label.Bound s (index.Bound d) n) h = refl
-queries_pass ks (label.Ty x) h = refl
-queries_pass ks (label.Const x) h = refl
-queries_pass ks (label.Clause x) h = refl
-queries_pass ks (label.Predicate x) h = refl
-queries_pass ks (label.List x) h = refl
 
 -- the values of the positions
 placeholder_passes : (ks : List PositionKind) (i : ℕ) (s : Sort) → slice_get ks i ≡ Some (placeholder s 0 i) → is_placeholder s i (slice_get ks i) ≡ true

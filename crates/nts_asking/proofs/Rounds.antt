@@ -20,7 +20,6 @@ use Rattle.nts_terms.specs.declared.cx.Cx.{Cx}
 use Rattle.nts_terms.specs.Rest.{Grows}
 use Rattle.nts_terms.specs.Modes.{mode_of}
 use Rattle.nts_terms.specs.declared.modes.TypingMode.{TypingMode}
-use Rattle.nts_certainty.specs.declared.sources.PathKind.TheVariants as path
 use Rattle.nts_terms.proofs.Moved.{KeepsRest-trans}
 use Rattle.nts_store.proofs.Growing.{Extends-trans}
 use Rattle.nts_table.specs.Tables.{Table}
@@ -42,13 +41,15 @@ use Rattle.std.specs.Global.{Box}
 use Rattle.nts_asking.specs.declared.round.Round.{Round}
 use Rattle.nts_asking.specs.declared.round.Ended.{Ended}
 use Rattle.nts_asking.specs.Rounds.{IsFirstRound, EndsWith, IsBoxed}
-use Rattle.nts_asking.specs.Answering.{IsQueryInput, IsAnswerTo, IfAnswered}
-use Rattle.nts_asking.specs.Telling.{QueryTells, QueryRefutes, SaysNothing}
-use Rattle.nts_asking.specs.Telling.Tells.{says_nothing}
-use Rattle.nts_asking.specs.Searching.{IsHeadAnswer, IsHead, IsSearch, IsEntryLater, AreLater, Searches, assumed_in, IsAnswerTold, HeadsTell, IsCut, IsReadAt, HasNoneAt}
+use Rattle.nts_asking.specs.Answering.{IsQueryInput, IsAnswerTo, IfAnswered, verdict_at}
+use Rattle.nts_asking.specs.Telling.{QueryTells, QueryRefutes}
+use Rattle.nts_theory.specs.Telling.{SaysNothing}
+use Rattle.nts_theory.specs.Telling.Tells.{says_nothing}
+use Rattle.nts_asking.specs.Searching.{IsHeadAnswer, IsHead, IsSearch, IsEntryLater, AreLater, Searches, assumed_in, IsAnswerTold, HeadsTell, IsCut, IsReadAt, HasNoneAt, IsGoalCut}
 use Rattle.nts_asking.proofs.Searching.{form_later, input_later, head_answer_later, later_itself, later_pushed, Searches-refl, Searches-trans, search_grows, search_later, search_counted, nothing_assumed, none_passed, answer_told_later, tell_grown}
-use Rattle.nts_asking.proofs.BackEdges.{by_answer, some_is_ok, copied_response, usable_derived}
-use Rattle.nts_search.proofs.StackLater.{response_same}
+use Rattle.nts_asking.proofs.BackEdges.{by_answer, some_is_ok, usable_derived, copied_verdict}
+use Rattle.nts_asking.proofs.Told.{verdict_same}
+use Rattle.nts_model.specs.Tables.Contents.{Content}
 
 -- the store grows, and the search goes on
 pub grown : {a b c : Cx} → Grows a b → Grows b c → Grows a c
@@ -87,9 +88,13 @@ pub nothing_left : {a b : Cx} {g h : SearchGraph} (ts : List Tree) (k : Kind) �
 nothing_left ts k none s = ap (passed k) (nothing_assumed ts none s) ∙ none_passed k
 
 -- a step of unknown kind is never cut
-pub not_cut : {P : Type 0} (mode : TypingMode) → P ⊎ IsCut mode path.Unknown → P
-not_cut mode (inl x) = x
-not_cut mode (inr x) = (let e = x.0 in absurd (cc e))
+pub never_cut : {P : Type 0} {ts : List Tree} {f : Form} {mode : TypingMode} {k : PathKind} (g : SearchGraph) → g.stack.items ≡ [] → P ⊎ IsCut ts g f mode k → P
+never_cut g none (inl x) = x
+never_cut g none (inr x) = (let long : length g.stack.items ≡ 0 = ap (length {A = StackEntry}) none in let below = x.below in absurd (omega (arith, long, below)))
+
+pub not_cut : {P : Type 0} {ts : List Tree} {c : Content} {mode : TypingMode} {e p : Tree} {k : PathKind} (g : SearchGraph) → g.stack.items ≡ [] → P ⊎ IsGoalCut ts g c mode e p k → P
+not_cut g none (inl x) = x
+not_cut g none (inr (i, of, x)) = never_cut g none (inr x)
 
 -- an input as it is put on the stack
 abbrev pub entry_of : CanonicalInput → PathKind → Option (Canonical Response) → Option ℕ → StackEntry
@@ -214,7 +219,7 @@ module _ (x : Option (Canonical Response)) (z : Result (Box (Canonical Response)
   pub last_fits : (ts : List Tree) (ks : List PositionKind) → IsHeadAnswer ts ks x → IfAnswered z (IsAnswerTo ts ks)
   last_fits ts ks h = by_answer x z some none (λ r e. subst (IsHeadAnswer ts ks) e h)
 
-  pub last_told : (hd : Handler) (mode : Mode) (ts : List Tree) (f : Form) → IsAnswerTold hd mode ts f x → IfAnswered z (λ r. QueryTells hd mode f (response_at ts r))
+  pub last_told : (hd : Handler) (mode : Mode) (ts : List Tree) (f : Form) → IsAnswerTold hd mode ts f x → IfAnswered z (λ r. QueryTells hd mode f (verdict_at ts r))
   last_told hd mode ts f h = by_answer x z some none (λ r e. subst (IsAnswerTold hd mode ts f) e h)
 
   pub last_refuted : (hd : Handler) (mode : Mode) (ts : List Tree) (f : Form) → IsAnswerTold hd mode ts f x → z ≡ Err error.NoSolution → QueryRefutes hd mode f
@@ -227,8 +232,8 @@ module _ (x : Option (Canonical Response)) (z : Result (Box (Canonical Response)
 pub first_fits : (ts : List Tree) (i : CanonicalInput) (x : Round) → IsFirstRound ts i x → IsHeadAnswer ts (kinds_of i) x.provisional
 first_fits ts i x h = subst (IsHeadAnswer ts (kinds_of i)) (sym h.is) h.fits
 
-pub first_told : (hd : Handler) (mode : Mode) (ts : List Tree) (f : Form) (i : CanonicalInput) (x : Round) → IsFirstRound ts i x → IsAnswerTold hd mode ts f x.provisional
-first_told hd mode ts f i x h = subst (IsAnswerTold hd mode ts f) (sym h.is) (says_nothing h.nothing)
+pub first_told : (hd : Handler) (mode : Mode) (ts : List Tree) (f : Form) (i : CanonicalInput) (x : Round) → f.kinds ≡ kinds_of i → IsFirstRound ts i x → IsAnswerTold hd mode ts f x.provisional
+first_told hd mode ts f i x same h = subst (IsAnswerTold hd mode ts f) (sym h.is) (says_nothing (rw same h.nothing))
 
 -- what a round ends with, by what its table answered
 pub round_ends : (Q : Option (Canonical Response) → Type 0) (x : Result (Box (Canonical Response)) EvalError) (o : Option (Canonical Response)) → EndsWith x o → ((b : Box (Canonical Response)) → x ≡ Ok b → Q (Some b.value)) → (x ≡ Err error.NoSolution → Q None) → Q o
@@ -262,18 +267,18 @@ module _ {a b : Cx} {g : SearchGraph} (hd : Handler) (n m : ℕ) (input : Canoni
       subst (λ z. IsAnswerTold hd z a.nodes (form_of a.nodes input) x.provisional) one.mode
       (subst (λ f. IsAnswerTold hd (mode_of x.input.typing_mode) a.nodes f x.provisional) one.form (tells n d at.below))
 
-  pub cycle_told : (r : Canonical Response) → IsReadAt g.stack.items n r ⊎ SaysNothing (response_at b.nodes r) → QueryTells hd (mode_of input.typing_mode) (form_of a.nodes input) (response_at b.nodes r)
+  pub cycle_told : (r : Canonical Response) → IsReadAt g.stack.items n r ⊎ SaysNothing (kinds_of input) (response_at b.nodes r) → QueryTells hd (mode_of input.typing_mode) (form_of a.nodes input) (verdict_at b.nodes r)
   cycle_told r (inr s) = says_nothing s
   cycle_told r (inl read) =
       let c = read d in
       let q = c.0 in
       let head = search.heads n d at.below in
       let answer : IsHeadAnswer a.nodes (kinds_of x.input) (Some q) = subst (IsHeadAnswer a.nodes (kinds_of x.input)) c.1 head.answer in
-      let told : QueryTells hd (mode_of input.typing_mode) (form_of a.nodes input) (response_at a.nodes q) = subst (IsAnswerTold hd (mode_of input.typing_mode) a.nodes (form_of a.nodes input)) c.1 told_here in
-      let same : response_at b.nodes r ≡ response_at a.nodes q = copied_response b.nodes q r c.2 ∙ response_same a.nodes b.nodes q w.extends answer.holds in
+      let told : QueryTells hd (mode_of input.typing_mode) (form_of a.nodes input) (verdict_at a.nodes q) = subst (IsAnswerTold hd (mode_of input.typing_mode) a.nodes (form_of a.nodes input)) c.1 told_here in
+      let same : verdict_at b.nodes r ≡ verdict_at a.nodes q = copied_verdict b.nodes q r c.2 ∙ verdict_same a.nodes b.nodes q w.extends answer.holds in
       subst (QueryTells hd (mode_of input.typing_mode) (form_of a.nodes input)) (sym same) told
 
-  pub cycle_refuted : {step : PathKind} → HasNoneAt g.stack.items n ⊎ IsCut input.typing_mode step → QueryRefutes hd (mode_of input.typing_mode) (form_of a.nodes input) ⊎ IsCut input.typing_mode step
+  pub cycle_refuted : {step : PathKind} → HasNoneAt g.stack.items n ⊎ IsCut a.nodes g (form_of a.nodes input) input.typing_mode step → QueryRefutes hd (mode_of input.typing_mode) (form_of a.nodes input) ⊎ IsCut a.nodes g (form_of a.nodes input) input.typing_mode step
   cycle_refuted (inr c) = inr c
   cycle_refuted (inl h) = inl (subst (IsAnswerTold hd (mode_of input.typing_mode) a.nodes (form_of a.nodes input)) (h d) told_here)
 

@@ -23,7 +23,7 @@ use Rattle.nts_model.specs.Searching.Stacks.{IsProvedFrom}
 use Rattle.nts_model.specs.Terms.Substitutions.{filled}
 use Rattle.nts_model.specs.Derivations.Handlers.{Handler, meaning, Candidate, certain, AreValuesOf}
 use Rattle.nts_model.specs.Derivations.Proving as proving
-use Rattle.nts_model.specs.Derivations.Proving.{HoldsTerms, AreConstraintsOf, recorded_as, sequent_at, AreEquated, HoldsEquationAt, IsHeldAt}
+use Rattle.nts_model.specs.Derivations.Proving.{AreEquated, HoldsEquationAt}
 use Rattle.nts_model.proofs.Tables.Held.{Continues-refl, Continues-trans, HoldsConstraint-continues, HoldsConstraint-with_constraint}
 use Rattle.nts_model.proofs.Tables.Alike.{AreAlike-continues}
 use Rattle.nts_model.proofs.Tables.Resolved.{deeply_resolved-deeply_resolved}
@@ -54,7 +54,8 @@ use Rattle.nts_terms.specs.declared.handles.Goal.{Goal}
 use Rattle.nts_delegate.specs.Candidates.{AreEquations, AreRegionConstraints, AreNested, IsCandidate, AreCandidates}
 use Rattle.nts_delegate.specs.Offered.{certainty_of, access_of, source_of, equation_as, equation_of, hidden_of, constraint_of, premise_of, candidate_of, candidates_of}
 use Rattle.nts_asking.specs.Meant.{IsServed}
-use Rattle.nts_asking.specs.Running.{IsTermTable, Stays, EquationHolds, ConstraintHolds, PremiseHolds, EachStays, EquatesEach, Constrains}
+use Rattle.nts_asking.specs.Running.{Stays, EquationHolds, ConstraintHolds, PremiseHolds, EachStays, EquatesEach, Constrains}
+use Rattle.nts_theory.specs.Telling.{IsTermTable}
 use Rattle.nts_asking.specs.Evaluation.{Goes, AllKnown}
 use Rattle.nts_table.specs.Tables.{IsTermIn}
 use Rattle.nts_asking.proofs.Evaluating.{candidate_at, Knows-goes}

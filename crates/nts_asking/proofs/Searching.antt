@@ -1,6 +1,6 @@
 -- The stack of a search while goals are evaluated: what stays, and what it assumes.
-use Rattle.std.proofs.Common.{◌≡◌, ℕ, ◌≤◌, List, [], ◌∷◌, ◌++◌, map, length, get_or, Option, Some, None, refl, sym, ap, ◌∙◌, subst, arith, ◌⊎◌}
-use Rattle.std.specs.Prelude.{All, reverse, Bool, max}
+use Rattle.std.proofs.Common.{◌≡◌, ℕ, ◌≤◌, List, [], ◌∷◌, ◌++◌, map, length, get_or, Option, Some, None, refl, sym, ap, ◌∙◌, subst, arith, ◌⊎◌, inl, inr, suc}
+use Rattle.std.specs.Prelude.{All, reverse, Bool, max, ◌-◌, ◌⊎◌}
 use Rattle.std.proofs.lemmas.List.{reverse-append}
 use Rattle.std.proofs.lemmas.List.Elements.{All-cons, All-head, All-tail}
 use Rattle.nts_model.specs.declared.labels.Sort.{Sort}
@@ -11,7 +11,7 @@ use Rattle.nts_model.specs.Derivations.Rules.{Meaning, Mode, goal_kind, step_kin
 use Rattle.nts_model.specs.Derivations.Proving.{sequent_at}
 use Rattle.nts_model.specs.Derivations.Proofs.{Assumed, passed}
 use Rattle.nts_model.specs.Derivations.Handlers.{Handler}
-use Rattle.nts_model.specs.Searching.Stacks.{IsProvedFrom, IsReadSince, AreReadSince, assumptions}
+use Rattle.nts_model.specs.Searching.Stacks.{IsProvedFrom, IsReadSince, AreReadSince, assumptions, path_kind}
 use Rattle.nts_theory.proofs.Searching.Stacks.{read_since_covers}
 use Rattle.nts_model.specs.Canonical.Inputs.{PositionKind, CanonicalInput as Form}
 use Rattle.nts_model.specs.Answers.Responses.{IsResponseTo, IsOverPositions}
@@ -21,10 +21,10 @@ use Rattle.nts_store.proofs.Growing.{IsIn-extended}
 use Rattle.nts_store.specs.declared.nodes.NodeId.{NodeId}
 use Rattle.nts_terms.specs.declared.cx.Cx.{Cx}
 use Rattle.nts_terms.specs.Rest.{Grows}
-use Rattle.nts_terms.specs.Handles.{Holds, HoldsArg}
+use Rattle.nts_terms.specs.Handles.{Holds}
 use Rattle.nts_canonical.specs.declared.types.Canonical.{Canonical}
 use Rattle.nts_canonical.specs.declared.types.CanonicalInput.{CanonicalInput}
-use Rattle.nts_canonical.specs.Forms.{form_of, query_tree, IsHidden, kind_of_var}
+use Rattle.nts_canonical.specs.Forms.{form_of, query_tree}
 use Rattle.nts_model.specs.Terms.Scoping.{IsWellBound}
 use Rattle.nts_store.specs.Filled.{HasValues}
 use Rattle.nts_canonical.specs.Building.{kinds_of, values_of, HasNoName}
@@ -36,17 +36,17 @@ use Rattle.nts_asking.specs.Answering.{IsFormOf, IsQueryInput, IsAnswerTo, Tells
 use Rattle.nts_asking.specs.Meant.{IsServed}
 use Rattle.nts_asking.specs.Running.{Stays}
 use Rattle.nts_asking.specs.Telling.{QueryTells}
-use Rattle.nts_delegate.specs.Offered.{path_kind_of, hidden_of}
+use Rattle.nts_delegate.specs.Offered.{path_kind_of}
 use Rattle.nts_search.specs.declared.stack.StackEntry.{StackEntry}
 use Rattle.nts_search.specs.declared.stack.SearchGraph.{SearchGraph}
-use Rattle.nts_search.specs.Searching.{entry_at, entries_at, answer_at, certainty_in}
+use Rattle.nts_search.specs.Searching.{entry_at, entries_at, answer_at, certainty_in, IsStack}
 use Rattle.nts_search.proofs.StackLater.{IsStack-later, entries_kept, response_same}
 use Rattle.nts_terms.specs.Modes.{mode_of}
-use Rattle.nts_asking.specs.Searching.{IsHeadAnswer, IsHead, IsSearch, IsEntryLater, AreLater, Searches, assumed_in, IsAnswerTold, HeadsTell}
-use Rattle.nts_response.proofs.Each.{constraints_kept, goals_kept, hidden_kept, same_views, values_kept}
-use Rattle.nts_response.specs.Forms.{HoldsOpen, HoldsResponse, StoreHoldsConstraint, premise_at, recorded_at, response_at}
-use Rattle.nts_response.specs.Replacing.{argument_value}
+use Rattle.nts_asking.specs.Searching.{IsHeadAnswer, IsHead, IsSearch, IsEntryLater, AreLater, Searches, assumed_in, IsAnswerTold, HeadsTell, IsCut, IsGoalCut}
 use Rattle.nts_asking.proofs.Unchanged.{none_of}
+use Rattle.nts_asking.proofs.Told.{verdict_same}
+use Rattle.nts_terms.specs.declared.modes.TypingMode.{TypingMode}
+use Rattle.nts_certainty.specs.declared.sources.PathKind.{PathKind as PathKindData}
 
 -- an answer that can be applied can be applied while the store grows
 over_later : (a b : List Tree) (ss : List Sort) (t : NodeId) → Extends a b → IsIn a t → IsOverSorts a ss t → IsOverSorts b ss t
@@ -259,7 +259,7 @@ IsToldAt h ts x = IsAnswerTold h (mode_of x.input.typing_mode) ts (form_of ts x.
 
 pub answer_told_later : (h : Handler) (mode : Mode) (a b : List Tree) (ks : List PositionKind) (f : Form) (x : Option (Canonical Response)) → Extends a b → IsHeadAnswer a ks x → IsAnswerTold h mode a f x → IsAnswerTold h mode b f x
 answer_told_later h mode a b ks f None e k t = t
-answer_told_later h mode a b ks f (Some r) e k t = subst (QueryTells h mode f) (sym (response_same a b r e k.holds)) t
+answer_told_later h mode a b ks f (Some r) e k t = subst (QueryTells h mode f) (sym (verdict_same a b r e k.holds)) t
 
 told_at : (h : Handler) (a b : List Tree) (x y : StackEntry) → Extends a b → IsHead a x → IsEntryLater x y → IsToldAt h a x → IsToldAt h b y
 told_at h a b x y e head later told =
@@ -308,3 +308,18 @@ search_marked {a} {g} n z s =
       depth = refl;
       later = later_itself g.stack.items;
     }
+
+-- a cycle that is cut, seen from a smaller store
+pub cut_earlier : {a b : List Tree} {g : SearchGraph} {f : Form} {mode : TypingMode} {k : PathKindData} → Extends a b → IsStack a g → All (IsHead a) g.stack.items → IsCut b g f mode k → IsCut a g f mode k
+cut_earlier {a} {b} {g} {f} {mode} {k} e stack heads c =
+    record {
+      head = c.head;
+      below = c.below;
+      same = λ d. (let x = get_or g.stack.items c.head d in let h = heads c.head d c.below in sym (form_later a b x.input e h.input) ∙ c.same d);
+      path = subst (λ es. path_kind es (length g.stack.items - suc c.head) (path_kind_of k) ≡ inductive) (entries_kept a b g e stack) c.path;
+      elsewhere = c.elsewhere;
+    }
+
+pub goal_cut_earlier : {P : Type 0} {a b : List Tree} {g : SearchGraph} {c : Content} {mode : TypingMode} {x y : Tree} {k : PathKindData} → Extends a b → IsStack a g → All (IsHead a) g.stack.items → P ⊎ IsGoalCut b g c mode x y k → P ⊎ IsGoalCut a g c mode x y k
+goal_cut_earlier e stack heads (inl p) = inl p
+goal_cut_earlier e stack heads (inr (i, of, c)) = inr (i, of, cut_earlier e stack heads c)

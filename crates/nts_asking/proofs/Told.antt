@@ -41,11 +41,14 @@ use Rattle.nts_canonical.specs.Building.{IsArgOf}
 use Rattle.nts_certainty.specs.declared.certainty.Certainty.{Certainty}
 use Rattle.nts_certainty.specs.declared.certainty.Certainty.TheVariants as certainty
 use Rattle.nts_response.specs.declared.types.Response.{Response}
-use Rattle.nts_response.specs.Forms.{recorded_at, premise_at, findings_at, StoreHoldsConstraint, KnowsFindings}
+use Rattle.nts_response.specs.Forms.{recorded_at, premise_at, findings_at, StoreHoldsConstraint, KnowsFindings, HoldsResponse}
 use Rattle.nts_response.proofs.Each.{same_views, values_kept}
 use Rattle.nts_response.specs.Replacing.{ReplacesEach, argument_value}
-use Rattle.nts_asking.specs.Asking.{IsResponseOf, without_constraints}
-use Rattle.nts_asking.specs.Answering.{told_in, AreTold, KnowsSides}
+use Rattle.nts_theory.specs.Telling.{IsResponseOf, without_constraints, AreClassesOf}
+use Rattle.nts_asking.specs.Answering.{told_in, AreTold, KnowsSides, is_yes, verdict_at}
+use Rattle.nts_canonical.specs.declared.types.Canonical.{Canonical}
+use Rattle.nts_search.proofs.StackLater.{response_same}
+use Rattle.nts_asking.proofs.SubClasses.{classes_without}
 
 -- an argument of a table is a term of it while the store grows
 pub term_of_arg : {a b : List Tree} {t : Table} {x : GenericArg} → IsTable a t → Extends a b → IsArgOf a t.entries x → IsTermIn b t x.node
@@ -233,17 +236,19 @@ pub states_without : (c : Content) → SameStates c (without_constraints c)
 states_without c = record { states = λ n. refl; kinds = λ n. refl; order = refl; grows = omega arith; more = refl }
 
 -- the response of the table says what it tells
-pub response_told : (q : Certainty) (c : Content) (root : ℕ → ℕ) (qs : List Tree) (x : Findings) (r : Form) → x.values ≡ map (deeply_resolved c) qs → AreTold (told_in q c) x.constraints → x.hidden ≡ [] → x.open_goals ≡ [] → r ≡ response_of c root 0 x → IsResponseOf (told_in q c) qs r
-response_told certainty.Yes c root qs x r v t hidden goals is = record {
+pub response_told : (q : Certainty) (c : Content) (root : ℕ → ℕ) (qs : List Tree) (x : Findings) (r : Form) → AreClassesOf c root → x.values ≡ map (deeply_resolved c) qs → AreTold (told_in q c) x.constraints → x.hidden ≡ [] → x.open_goals ≡ [] → r ≡ response_of c root 0 x → IsResponseOf (told_in q c) qs r
+response_told certainty.Yes c root qs x r classes v t hidden goals is = record {
   roots = root;
+  classes = classes;
   findings = x;
   reads = record { values = v; found = t.found; kept = t.kept };
   no_hidden = hidden;
   no_goals = goals;
   is = is;
 }
-response_told (certainty.Maybe z) c root qs x r v t hidden goals is = record {
+response_told (certainty.Maybe z) c root qs x r classes v t hidden goals is = record {
   roots = root;
+  classes = classes_without c root classes;
   findings = x;
   reads = record { values = v ∙ (λ i. map (λ q. sym (deeply_resolved-same c (without_constraints c) q (states_without c)) i) qs); found = t.found; kept = t.kept };
   no_hidden = hidden;
@@ -252,12 +257,16 @@ response_told (certainty.Maybe z) c root qs x r v t hidden goals is = record {
 }
 
 -- .. where the values were found first, then the constraints, and the store grew
-pub answers_told : (a b d : List Tree) (e : Entries) (q : Certainty) (root : ℕ → ℕ) (qs : List Tree) (x : Response) (r : Form) → IsLawful a e → Extends a b → Extends b d → All (IsArgOf b e) x.var_values.items
+pub answers_told : (a b d : List Tree) (e : Entries) (q : Certainty) (root : ℕ → ℕ) (qs : List Tree) (x : Response) (r : Form) → AreClassesOf (content_of a e) root → IsLawful a e → Extends a b → Extends b d → All (IsArgOf b e) x.var_values.items
     → trees_of b x.var_values.items ≡ map (deeply_resolved (content_of a e)) qs → AreTold (told_in q (content_of b e)) (map (recorded_at d) x.external_constraints.region_constraints.items)
     → x.external_constraints.opaque_types.items ≡ [] → x.external_constraints.normalization_nested_goals.items ≡ [] → r ≡ response_of (content_of d e) root 0 (findings_at d x) → IsResponseOf (told_in q (content_of a e)) qs r
-answers_told a b d e q root qs x r h up more args values t hidden goals is =
+answers_told a b d e q root qs x r classes h up more args values t hidden goals is =
     let first = content_of-extended up h in
     let second = content_of-extended (Extends-trans up more) h in
     let views = same_views HoldsArg argument_value values_kept b d x.var_values.items (λ j y l. (args j y l).holds) more ∙ values in
     let all : AreTold (told_in q (content_of a e)) (map (recorded_at d) x.external_constraints.region_constraints.items) = subst (λ c. AreTold (told_in q c) (map (recorded_at d) x.external_constraints.region_constraints.items)) first t in
-    response_told q (content_of a e) root qs (findings_at d x) r views all (ap (map (hidden_of d)) hidden) (ap (map (premise_at d)) goals) (is ∙ ap (λ c. response_of c root 0 (findings_at d x)) second)
+    response_told q (content_of a e) root qs (findings_at d x) r classes views all (ap (map (hidden_of d)) hidden) (ap (map (premise_at d)) goals) (is ∙ ap (λ c. response_of c root 0 (findings_at d x)) second)
+
+-- a verdict of a store that has grown
+pub verdict_same : (a b : List Tree) (r : Canonical Response) → Extends a b → HoldsResponse a r.value → verdict_at b r ≡ verdict_at a r
+verdict_same a b r e h = ap (λ z. record { response = z; is_yes = is_yes r.value.certainty }) (response_same a b r e h)

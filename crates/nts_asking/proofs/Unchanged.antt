@@ -2,20 +2,12 @@
 use Rattle.std.proofs.Common.{◌≡◌, inl, inr, ⊎_elim, ℕ, zero, suc, ◌+◌, ◌≤◌, List, [], ◌∷◌, map, length, get_or, Some, refl, sym, ap, ◌∙◌, subst, arith}
 use Rattle.std.specs.Prelude.{slice_get, Contains, All}
 use Rattle.std.proofs.lemmas.List.{length-map}
-use Rattle.std.proofs.lemmas.List.Elements.{Contains-get_or}
 use Rattle.nts_model.proofs.Terms.Listed.{map-map}
-use Rattle.nts_model.specs.Terms.Regions.{IsRegion}
 use Rattle.nts_delegate.specs.Offered.{hidden_of}
 use Rattle.nts_response.specs.Replacing.{argument_value}
-use Rattle.nts_model.specs.declared.labels.Sort.{Sort}
 use Rattle.nts_model.specs.declared.labels.Sort.TheVariants as sort
 use Rattle.nts_model.specs.declared.labels.Leaf.{Leaf}
-use Rattle.nts_model.specs.declared.labels.Leaf.TheVariants as leaf
-use Rattle.nts_model.specs.declared.labels.VariableKind.TheVariants as kind
-use Rattle.nts_model.specs.declared.labels.Label.{Label}
-use Rattle.nts_model.specs.declared.labels.BoundVarIndexKind.TheVariants as index
-use Rattle.nts_model.specs.declared.labels.Label.TheVariants as label
-use Rattle.nts_model.specs.Terms.Trees.{Tree, empty, node, kind_of, of_sort}
+use Rattle.nts_model.specs.Terms.Trees.{Tree, empty, node, kind_of}
 use Rattle.nts_model.specs.Terms.Substitutions.{leaf_tree, Occurs}
 use Rattle.nts_model.specs.Lists.{Among}
 use Rattle.nts_model.specs.Canonical.Numbered.{position}
@@ -23,7 +15,7 @@ use Rattle.nts_model.specs.Canonical.Inputs.{Input, IsInput, PositionKind, type_
 use Rattle.nts_model.specs.Searching.Driving.{sort_at, positions_from, unconstrained}
 use Rattle.nts_model.specs.Answers.Responses.{Response as Form, IsLeafFor, IsLeafIn, IsResponseTo, own_leaf, leaves_of_kinds}
 use Rattle.nts_theory.proofs.Responses.Initial.{initial_fits, initial_bounded, no_leaf_there as no_leaf}
-use Rattle.nts_theory.proofs.Responses.PositionSorts.{below_greatest, contained_map, contained_among}
+use Rattle.nts_theory.proofs.Responses.PositionSorts.{below_greatest, contained_among}
 use Rattle.nts_theory.proofs.Responses.Querying.{leaf_in_for}
 use Rattle.nts_store.specs.declared.nodes.NodeId.{NodeId}
 use Rattle.nts_store.specs.Growth.{tree_at}
@@ -37,17 +29,12 @@ use Rattle.nts_model.specs.Canonical.Inputs.{CanonicalInput as Shape}
 use Rattle.nts_canonical.specs.declared.types.CanonicalInput.{CanonicalInput}
 use Rattle.nts_canonical.specs.Building.{kinds_of}
 use Rattle.nts_asking.specs.Answering.{IsQueryInput, IsAnswerTo, TellsNoMore}
-use Rattle.nts_asking.specs.Telling.{SaysNothing}
+use Rattle.nts_theory.specs.Telling.{SaysNothing}
 use Rattle.nts_response.proofs.Answered.{each_view, region_sort}
 
--- the positions in order
-nth_position : (b : ℕ) (ks : List PositionKind) (i : ℕ) → i + 1 ≤ length (positions_from b ks) → (s : Sort) × (get_or (positions_from b ks) i empty ≡ position s (b + i))
-nth_position b [] i l = absurd (omega (arith, l))
-nth_position b (k ∷ ks) zero l = (sort_at k, (let z : b + 0 ≡ b = omega arith in ap (position (sort_at k)) (sym z)))
-nth_position b (k ∷ ks) (suc i) l = (let r = nth_position (suc b) ks i (omega (arith, l)) in let z : suc b + i ≡ b + suc i = omega arith in (r.0, r.1 ∙ ap (position r.0) z))
-
-pub nothing_said : (r : Form) (ks : List PositionKind) (u : ℕ) → r ≡ record (unconstrained ks) { max_universe = u } → SaysNothing r
-nothing_said r ks u e = subst SaysNothing (sym e) (record { values = λ i l. (let z : 0 + i ≡ i = omega arith in let r = nth_position 0 ks i l in (r.0, r.1 ∙ ap (position r.0) z)); constraints = refl; hidden = refl; open_goals = refl })
+-- the answer that says nothing does so in each universe
+pub nothing_said : (r : Form) (ks : List PositionKind) (u : ℕ) → r ≡ record (unconstrained ks) { max_universe = u } → SaysNothing ks r
+nothing_said r ks u e = e ∙ ap (λ z. record (unconstrained ks) { max_universe = z }) (sym (ap (λ (z : Form). z.max_universe) e))
 
 -- a position, of the sort of its kind
 record IsPositionIn (ks : List PositionKind) (t : Tree) : Type 0 where

@@ -8,7 +8,7 @@ use Rattle.nts_model.specs.Terms.Substitutions.{leaf_tree}
 use Rattle.nts_model.specs.Derivations.Sequents.{IsTrivial}
 use Rattle.nts_model.specs.Derivations.Proving.{read_constraint}
 use Rattle.nts_model.specs.Canonical.Inputs.{Input, IsInput, PositionKind, CanonicalInput as Form, canonical_of, originals}
-use Rattle.nts_model.specs.Answers.Responses.{Response as Answer, recorded_by, said, IsOverPositions, IsResponseTo, IsIdentity}
+use Rattle.nts_model.specs.Answers.Responses.{recorded_by, said, IsOverPositions, IsResponseTo, IsIdentity}
 use Rattle.nts_certainty.specs.declared.certainty.Certainty.{Certainty}
 use Rattle.nts_certainty.specs.declared.certainty.Certainty.TheVariants as certainty
 use Rattle.nts_certainty.specs.declared.certainty.MaybeCause.{MaybeCause}
@@ -20,7 +20,6 @@ use Rattle.nts_store.specs.Growth.{tree_at}
 use Rattle.nts_terms.specs.declared.handles.Goal.{Goal}
 use Rattle.nts_terms.specs.declared.handles.GenericArg.{GenericArg}
 use Rattle.nts_terms.specs.Modes.{mode_of}
-use Rattle.nts_unify.specs.Reading.{content_of}
 use Rattle.nts_table.specs.Tables.{Table}
 use Rattle.nts_canonical.specs.declared.types.Canonical.{Canonical}
 use Rattle.nts_canonical.specs.declared.types.CanonicalInput.{CanonicalInput}
@@ -30,7 +29,9 @@ use Rattle.nts_response.specs.declared.types.Response.{Response}
 use Rattle.nts_response.specs.Forms.{response_at, HoldsResponse}
 use Rattle.nts_response.specs.Applicable.{IsApplicable, IsResponseApplied}
 use Rattle.nts_asking.specs.declared.response.Evaluated.{Evaluated}
-use Rattle.nts_asking.specs.Asking.{IsInputFor, without_constraints}
+use Rattle.nts_theory.specs.Telling.{IsInputFor, without_constraints, Verdict}
+use Rattle.nts_unify.specs.Entries.{Entries}
+use Rattle.nts_unify.specs.Reading.{content_of}
 
 -- what was found out on the way to an answer is kept, unless the answer overflowed and keeps no constraints
 abbrev pub cause_keeps : MaybeCause → Bool
@@ -40,6 +41,14 @@ cause_keeps (causes.Overflow s k) = k
 abbrev pub is_kept : Certainty → Bool
 is_kept certainty.Yes = true
 is_kept (certainty.Maybe i) = cause_keeps i.cause
+
+abbrev pub is_yes : Certainty → Bool
+is_yes certainty.Yes = true
+is_yes (certainty.Maybe i) = false
+
+-- a response of a store, and whether it is certain
+abbrev pub verdict_at : List Tree → Canonical Response → Verdict
+verdict_at ts r = record { response = response_at ts r; is_yes = is_yes r.value.certainty }
 
 -- what an answer of that certainty tells of a table: all, or no region constraints
 abbrev pub told_in : Certainty → Content → Content
@@ -92,25 +101,18 @@ pub record IsAnswerTo (ts : List Tree) (ks : List PositionKind) (r : Canonical R
   pub applicable : (i : Input) → IsInput i → (let f = canonical_of i in f.kinds) ≡ ks → IsApplicable ts (map leaf_tree (originals i)) r
   pub no_more : TellsNoMore r
 
--- what evaluating a goal of the store a leaves of the table t: the table u of the store b, in which the response to the goal's
--- input was applied to its leaves, and nothing else. Nothing changed if the values of the response are the positions in order,
--- but for regions
-pub record Evaluates (a b : List Tree) (t u : Table) (e g : Tree) (changed : HasChanged) : Type 0 where
+-- what evaluating a goal of the store a leaves of the entries x of a table: the entries y, of the store b. Its input is told a verdict, and the
+-- response, applied to the input's leaves, is all that was added. The answer is certain if the verdict is, and nothing
+-- changed if the values of the response are the positions in order, but for regions
+pub record Evaluates (Told : Form → Verdict → Type 0) (a b : List Tree) (x y : Entries) (e g : Tree) (sure : Certainty) (changed : HasChanged) : Type 0 where
   pub input : Input
-  pub of_goal : IsInputFor e g input
-  pub response : Answer
-  pub fits : IsResponseTo (let f = canonical_of input in f.kinds) response
-  pub applied : IsResponseApplied a b t.entries u.entries (map leaf_tree (originals input)) response false []
-  pub changes : (changed ≡ changes.No) ↔ IsIdentity 0 (let x = response.findings in x.values)
-
--- .. of what the goal is in the store
-abbrev pub EvaluatesGoal : List Tree → List Tree → Table → Table → Goal → HasChanged → Type 0
-EvaluatesGoal a b t u g changed = Evaluates a b t u (tree_at a g.param_env.node) (tree_at a g.predicate.node) changed
-
--- evaluating the goal as the table knows it left the table with the response to its input applied, and nothing else
-abbrev pub EvaluatesUnder : List Tree → List Tree → Table → Table → Goal → HasChanged → Type 0
-EvaluatesUnder a b t u g changed =
-    Evaluates a b t u (deeply_resolved (content_of a t.entries) (tree_at a g.param_env.node)) (deeply_resolved (content_of a t.entries) (tree_at a g.predicate.node)) changed
+  pub of_goal : IsInputFor (content_of a x) e g input
+  pub verdict : Verdict
+  pub told : Told (canonical_of input) verdict
+  pub fits : IsResponseTo (let f = canonical_of input in f.kinds) verdict.response
+  pub applied : IsResponseApplied a b x y (map leaf_tree (originals input)) verdict.response false []
+  pub certain : verdict.is_yes ≡ is_yes sure
+  pub changes : (changed ≡ changes.No) ↔ IsIdentity 0 (let r = verdict.response in let x = r.findings in x.values)
 
 -- a certain answer means P; a certain response is so
 abbrev pub IfSure : Result Evaluated EvalError → Type 0 → Type 0

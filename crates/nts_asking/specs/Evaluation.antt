@@ -32,7 +32,7 @@ use Rattle.nts_response.specs.Forms.{premise_at}
 use Rattle.nts_certainty.specs.declared.sources.GoalSource.{GoalSource}
 
 -- the store and the table later on: terms keep their trees, the table is a later one and has all that it had, the snapshots
--- that were open are open, the mode and the hidden types are the same, and what was recorded since is between closed terms
+-- that were open are open, the mode and the hidden types are the same, and constraints between closed terms stay so
 pub record Goes (ts us : List Tree) (t u : Table) : Type 0 where
   pub sound : IsSound (content_of ts t.entries)
   pub extends : Extends ts us

@@ -1,5 +1,5 @@
 -- What a certain answer means, for a handler whose terms stood in an earlier store.
-use Rattle.std.specs.Prelude.{◌≡◌, ◌⊎◌, ℕ, List, []}
+use Rattle.std.specs.Prelude.{◌≡◌, ◌⊎◌, ℕ, false, List, []}
 use Rattle.nts_model.specs.declared.labels.Variance.{Variance}
 use Rattle.nts_model.specs.Terms.Trees.{Tree}
 use Rattle.nts_model.specs.Lists.{Among}
@@ -26,11 +26,17 @@ use Rattle.nts_canonical.specs.declared.types.CanonicalInput.{CanonicalInput}
 use Rattle.nts_canonical.specs.Forms.{form_of, trees_of}
 use Rattle.nts_response.specs.declared.types.Response.{Response}
 use Rattle.nts_response.specs.Forms.{response_at}
-use Rattle.nts_model.specs.Answers.Responses.{Response as Answer, answer_sequent}
+use Rattle.nts_model.specs.Canonical.Inputs.{PositionKind}
+use Rattle.nts_model.specs.Answers.Responses.{answer_sequent}
 use Rattle.nts_delegate.specs.Offered.{source_of, candidate_of, candidates_of}
-use Rattle.nts_asking.specs.Telling.{IsPlainResponse, StandsForAll, goals_with, IsBegun, Tells, Refutes, Outcomes, Replies, Fails, Reaches, RefusesOne, Asked, Refused, QueryTells, QueryRefutes}
+use Rattle.nts_asking.specs.Telling.{StandsForAll, Tells, Refutes, Outcomes, Replies, Fails, Reaches, RefusesOne, Asked, Refused, QueryTells, QueryRefutes}
+use Rattle.nts_theory.specs.Telling.{IsPlainResponse, goals_with, IsBegun}
 use Rattle.nts_asking.specs.Evaluation.{goals_at}
 use Rattle.nts_asking.specs.Running.{StaysProved}
+use Rattle.nts_certainty.specs.declared.certainty.Certainty.{Certainty}
+use Rattle.nts_certainty.specs.declared.sources.HasChanged.{HasChanged}
+use Rattle.nts_asking.specs.Answering.{Evaluates, is_yes, verdict_at}
+use Rattle.nts_theory.specs.Telling.{Verdict}
 
 -- what a handler means: where its terms stand, and what its rules are there
 pub record Rules : Type 1 where
@@ -96,17 +102,21 @@ IsProvedSince handler s mode ts t g = IsProvedFromSince handler s mode [] ts t g
 abbrev pub IsNestedSince : {ready : List Tree → Type 0} {now : Cx} → (List Tree → Handler) → Since ready now → TypingMode → GoalKind → List Assumed → List Tree → Table → GoalSource × Goal → Type 0
 IsNestedSince handler s mode z A ts t g = IsProvedFromSince handler s mode (passed (step_kind z (source_of g.0)) A) ts t g.1
 
--- a goal of the table t and the store a was asked in a query, which left the table u of the store b; and it was
--- refused
-abbrev pub IsAskedTo : Handler → TypingMode → List Tree → Table → List Tree → Table → Goal → Type 0
-IsAskedTo h mode a t b u g =
-    Asked h (mode_of mode) (content_of a t.entries) (content_of b u.entries) (tree_at a g.param_env.node) (tree_at a g.predicate.node)
+-- a goal of the table t and the store a was evaluated, which left the table u of the store b; and it was refused
+abbrev pub EvaluatesGoal : Handler → TypingMode → List Tree → Table → List Tree → Table → Goal → Certainty → HasChanged → Type 0
+EvaluatesGoal h mode a t b u g sure changed =
+    Evaluates (QueryTells h (mode_of mode)) a b t.entries u.entries (tree_at a g.param_env.node) (tree_at a g.predicate.node) sure changed
 
 abbrev pub IsRefusedIn : Handler → TypingMode → List Tree → Table → Goal → Type 0
 IsRefusedIn h mode a t g =
     Refused h (mode_of mode) (content_of a t.entries) (tree_at a g.param_env.node) (tree_at a g.predicate.node)
 
--- the goal as the table knows it was asked: its query tells a response, and that was applied to the goal's leaves
+-- the goal as the table knows it was evaluated: its query tells a verdict, and the response was applied to the goal's leaves
+abbrev pub EvaluatesUnder : Handler → TypingMode → List Tree → Table → List Tree → Table → Goal → Certainty → HasChanged → Type 0
+EvaluatesUnder h mode a t b u g sure changed =
+    Evaluates (QueryTells h (mode_of mode)) a b t.entries u.entries (deeply_resolved (content_of a t.entries) (tree_at a g.param_env.node)) (deeply_resolved (content_of a t.entries) (tree_at a g.predicate.node)) sure changed
+
+-- .. so it was asked
 abbrev pub IsAskedUnder : Handler → TypingMode → List Tree → Table → List Tree → Table → Goal → Type 0
 IsAskedUnder h mode a t b u g =
     Asked h (mode_of mode) (content_of a t.entries) (content_of b u.entries) (deeply_resolved (content_of a t.entries) (tree_at a g.param_env.node)) (deeply_resolved (content_of a t.entries) (tree_at a g.predicate.node))
@@ -122,31 +132,31 @@ IsInputProved m a i b r = HasProof m (mode_of i.typing_mode) (answer_sequent (fo
 
 -- a query's response, of the store b, and what the query refutes
 abbrev pub IsQueryTold : Handler → Mode → List Tree → CanonicalInput → List Tree → Canonical Response → Type 0
-IsQueryTold h mode a i b r = QueryTells h mode (form_of a i) (response_at b r)
+IsQueryTold h mode a i b r = QueryTells h mode (form_of a i) (verdict_at b r)
 
 abbrev pub IsQueryRefuted : Handler → Mode → List Tree → CanonicalInput → Type 0
 IsQueryRefuted h mode a i = QueryRefutes h mode (form_of a i)
 
--- .. for a goal of the query's table and the terms that stand for the positions
+-- .. for a goal of a query's table and the terms that stand for the positions, whatever their kinds
 abbrev pub IsTold : Handler → TypingMode → List Tree → Table → Goal → List GenericArg → List Tree → Canonical Response → Type 0
 IsTold h mode a t g qs b r =
-    Tells h (mode_of mode) (content_of a t.entries) (tree_at a g.param_env.node) (tree_at a g.predicate.node) (trees_of a qs) (response_at b r)
+    (ks : List PositionKind) → Tells h (mode_of mode) ks (content_of a t.entries) (tree_at a g.param_env.node) (tree_at a g.predicate.node) (trees_of a qs) (verdict_at b r)
 
-abbrev pub IsRefuted : Handler → TypingMode → List Tree → Table → Goal → Type 0
-IsRefuted h mode a t g = Refutes h (mode_of mode) (content_of a t.entries) (tree_at a g.param_env.node) (tree_at a g.predicate.node)
+abbrev pub IsRefuted : Handler → TypingMode → List Tree → Table → Goal → List GenericArg → Type 0
+IsRefuted h mode a t g qs = Refutes h (mode_of mode) (content_of a t.entries) (tree_at a g.param_env.node) (tree_at a g.predicate.node) (trees_of a qs)
 
 -- .. by candidates: their outcomes, and the response that stands for them, or one that tells nothing
-abbrev pub HaveOutcomes : Handler → TypingMode → List Tree → Table → List GenericArg → List CandidateData → List Answer → Type 0
-HaveOutcomes h mode a t qs xs rs = Outcomes h (mode_of mode) (content_of a t.entries) (trees_of a qs) (candidates_of a xs) rs
+abbrev pub HaveOutcomes : Handler → TypingMode → List Tree → Table → Goal → List GenericArg → List CandidateData → List Verdict → Type 0
+HaveOutcomes h mode a t g qs xs vs = Outcomes h (mode_of mode) (content_of a t.entries) (tree_at a g.param_env.node) (tree_at a g.predicate.node) (trees_of a qs) (candidates_of a xs) vs
 
-abbrev pub CandidatesTell : Handler → TypingMode → List Tree → Table → List GenericArg → List CandidateData → List Tree → Canonical Response → Type 0
-CandidatesTell h mode a t qs xs b r =
-    ((rs : List Answer) × HaveOutcomes h mode a t qs xs rs × StandsForAll rs (response_at b r))
-    ⊎ IsPlainResponse (content_of a t.entries) (trees_of a qs) (response_at b r)
+abbrev pub CandidatesTell : Handler → TypingMode → List Tree → Table → Goal → List GenericArg → List CandidateData → List Tree → Canonical Response → Type 0
+CandidatesTell h mode a t g qs xs b r =
+    ((vs : List Verdict) × HaveOutcomes h mode a t g qs xs vs × ((ks : List PositionKind) → StandsForAll ks vs (verdict_at b r)))
+    ⊎ (is_yes r.value.certainty ≡ false) × IsPlainResponse (content_of a t.entries) (trees_of a qs) (response_at b r)
 
 -- .. by one of them
-abbrev pub RepliesWith : Handler → TypingMode → List Tree → Table → List GenericArg → CandidateData → List Tree → Canonical Response → Type 0
-RepliesWith h mode a t qs x b r = Replies h (mode_of mode) (content_of a t.entries) (trees_of a qs) (candidate_of a x) (response_at b r)
+abbrev pub RepliesWith : Handler → TypingMode → List Tree → Table → Goal → List GenericArg → CandidateData → List Tree → Canonical Response → Type 0
+RepliesWith h mode a t g qs x b r = Replies h (mode_of mode) (content_of a t.entries) (tree_at a g.param_env.node) (tree_at a g.predicate.node) (trees_of a qs) (candidate_of a x) (verdict_at b r)
 
 abbrev pub FailsIn : Handler → TypingMode → List Tree → Table → CandidateData → Type 0
 FailsIn h mode a t x = Fails h (mode_of mode) (content_of a t.entries) (candidate_of a x)

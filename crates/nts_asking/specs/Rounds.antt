@@ -23,7 +23,7 @@ use Rattle.nts_asking.specs.declared.round.Round.{Round}
 use Rattle.nts_asking.specs.Asking.{first_table, first_values, asked_environment, asked_predicate}
 use Rattle.nts_asking.specs.Evaluation.{IsPosed}
 use Rattle.nts_asking.specs.Answering.{IsAnswerTo}
-use Rattle.nts_asking.specs.Telling.{SaysNothing}
+use Rattle.nts_theory.specs.Telling.{SaysNothing}
 
 -- the table t of the store b is the first one of the query that is asked as the input of the store a; the goal is the input's there,
 -- and these terms stand for the positions
@@ -42,7 +42,7 @@ pub record IsFirstRound (ts : List Tree) (i : CanonicalInput) (x : Round) : Type
   pub answer : Canonical Response
   pub is : x.provisional ≡ Some answer
   pub fits : IsAnswerTo ts (kinds_of i) answer
-  pub nothing : SaysNothing (response_at ts answer)
+  pub nothing : SaysNothing (kinds_of i) (response_at ts answer)
 
 -- the entry was the newest one, and is taken off the stack
 pub record IsTakenOff (g h : SearchGraph) (x : StackEntry) : Type 0 where

@@ -4,14 +4,14 @@ use Rattle.std.specs.Prelude.{false}
 use Rattle.nts_model.specs.declared.labels.Relation.{Relation}
 use Rattle.nts_model.specs.Terms.Trees.{Tree}
 use Rattle.nts_model.specs.Tables.Contents.{Content}
-use Rattle.nts_model.specs.Tables.Resolving.{IsSound}
 use Rattle.nts_model.specs.Tables.Holding.{HoldsConstraint, Continues}
 use Rattle.nts_model.specs.Derivations.Related.{Constraint}
 use Rattle.nts_model.specs.Derivations.Sequents.{Premise}
 use Rattle.nts_model.specs.Derivations.Rules.{Mode, Equation, Meaning, GoalKind, step_kind}
 use Rattle.nts_model.specs.Derivations.Proofs.{Assumed, passed}
 use Rattle.nts_model.specs.Searching.Stacks.{IsProvedFrom, IsProvedFromAt}
-use Rattle.nts_model.specs.Derivations.Proving.{HoldsTerms, AreConstraintsOf, HoldsEquationAt, IsHeldAt, HasFallingProofUnder, HasRankedProofUnder}
+use Rattle.nts_model.specs.Derivations.Proving.{HoldsEquationAt, IsHeldAt, HasFallingProofUnder, HasRankedProofUnder}
+use Rattle.nts_theory.specs.Telling.{IsTermTable}
 use Rattle.nts_store.specs.declared.nodes.NodeId.{NodeId}
 use Rattle.nts_terms.specs.declared.handles.Goal.{Goal}
 use Rattle.nts_store.specs.Growth.{tree_at}
@@ -20,12 +20,6 @@ use Rattle.nts_unify.specs.Reading.{content_of}
 use Rattle.nts_delegate.specs.declared.delegate.Equation.{Equation as EquationData}
 use Rattle.nts_delegate.specs.declared.delegate.RegionConstraint.{RegionConstraint}
 use Rattle.nts_delegate.specs.Offered.{equation_of, constraint_of}
-
--- a table whose values and constraints are of terms
-pub record IsTermTable (c : Content) : Type 0 where
-  pub sound : IsSound c
-  pub values : HoldsTerms c
-  pub constraints : AreConstraintsOf c
 
 -- under this table, and under each later one
 pub record Stays (c : Content) (P : Content → Type 0) : Type 0 where

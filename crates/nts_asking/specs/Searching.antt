@@ -1,13 +1,12 @@
 -- How the stack of a search stands while goals are evaluated.
-use Rattle.std.specs.Prelude.{◌≡◌, ℕ, ◌+◌, ◌≤◌, List, [], ◌∷◌, length, get_or, Option, Some, None, All, IsTrue}
+use Rattle.std.specs.Prelude.{suc, ◌<◌, ◌-◌, ◌≡◌, ℕ, ◌+◌, ◌≤◌, List, [], ◌∷◌, length, get_or, Option, Some, None, All, IsTrue}
 use Rattle.nts_model.specs.Terms.Trees.{Tree}
 use Rattle.nts_model.specs.Derivations.Handlers.{Handler}
 use Rattle.nts_model.specs.Derivations.Rules.{Mode}
 use Rattle.nts_model.specs.Derivations.Proofs.{Assumed}
-use Rattle.nts_model.specs.Searching.Stacks.{assumptions}
-use Rattle.nts_model.specs.Canonical.Inputs.{CanonicalInput as Form, PositionKind}
+use Rattle.nts_model.specs.Searching.Stacks.{assumptions, path_kind}
+use Rattle.nts_model.specs.Canonical.Inputs.{CanonicalInput as Form, PositionKind, Input, canonical_of}
 use Rattle.nts_certainty.specs.declared.sources.PathKind.{PathKind}
-use Rattle.nts_certainty.specs.declared.sources.PathKind.TheVariants as path
 use Rattle.nts_terms.specs.declared.cx.Cx.{Cx}
 use Rattle.nts_terms.specs.declared.modes.TypingMode.{TypingMode}
 use Rattle.nts_terms.specs.Modes.{mode_of}
@@ -15,12 +14,16 @@ use Rattle.nts_canonical.specs.declared.types.Canonical.{Canonical}
 use Rattle.nts_canonical.specs.Forms.{form_of}
 use Rattle.nts_canonical.specs.Building.{kinds_of}
 use Rattle.nts_response.specs.declared.types.Response.{Response}
-use Rattle.nts_response.specs.Forms.{response_at, response_parts}
+use Rattle.nts_response.specs.Forms.{response_parts}
 use Rattle.nts_search.specs.declared.stack.StackEntry.{StackEntry}
 use Rattle.nts_search.specs.declared.stack.SearchGraph.{SearchGraph}
 use Rattle.nts_search.specs.Searching.{entries_at, IsStack}
-use Rattle.nts_asking.specs.Answering.{IsQueryInput, IsAnswerTo}
-use Rattle.nts_asking.specs.Telling.{QueryTells, QueryRefutes, IsCutIn}
+use Rattle.nts_asking.specs.Answering.{IsQueryInput, IsAnswerTo, verdict_at}
+use Rattle.nts_asking.specs.Telling.{QueryTells, QueryRefutes}
+use Rattle.nts_theory.specs.Telling.{IsCutIn, IsInputFor}
+use Rattle.nts_model.specs.Derivations.Sequents.{inductive}
+use Rattle.nts_delegate.specs.Offered.{path_kind_of}
+use Rattle.nts_model.specs.Tables.Contents.{Content}
 
 -- an answer to an input of these kinds can be applied where that is asked
 abbrev pub IsHeadAnswer : List Tree → List PositionKind → Option (Canonical Response) → Type 0
@@ -66,15 +69,24 @@ assumed_in ts g = assumptions (entries_at ts g)
 -- an answer to an input is told, or it is refuted
 abbrev pub IsAnswerTold : Handler → Mode → List Tree → Form → Option (Canonical Response) → Type 0
 IsAnswerTold h mode ts f None = QueryRefutes h mode f
-IsAnswerTold h mode ts f (Some r) = QueryTells h mode f (response_at ts r)
+IsAnswerTold h mode ts f (Some r) = QueryTells h mode f (verdict_at ts r)
 
 -- .. and so are all provisional answers
 abbrev pub HeadsTell : Handler → List Tree → SearchGraph → Type 0
 HeadsTell h ts g = All (λ x. IsAnswerTold h (mode_of x.input.typing_mode) ts (form_of ts x.input) x.provisional) g.stack.items
 
--- an inductive cycle has no solution, unless in coherence
-abbrev pub IsCut : TypingMode → PathKind → Type 0
-IsCut mode k = (k ≡ path.Inductive) × IsCutIn (mode_of mode)
+-- a cycle without a solution: an input of this form stands on the stack, and all steps from it on are inductive, the last
+-- one of that kind. In coherence a cycle is in doubt
+pub record IsCut (ts : List Tree) (g : SearchGraph) (f : Form) (mode : TypingMode) (k : PathKind) : Type 0 where
+  pub head : ℕ
+  pub below : head < length g.stack.items
+  pub same : (d : StackEntry) → form_of ts (get_or g.stack.items head d).input ≡ f
+  pub path : path_kind (entries_at ts g) (length g.stack.items - suc head) (path_kind_of k) ≡ inductive
+  pub elsewhere : IsCutIn (mode_of mode)
+
+-- .. that a goal comes to
+abbrev pub IsGoalCut : List Tree → SearchGraph → Content → TypingMode → Tree → Tree → PathKind → Type 0
+IsGoalCut ts g c mode e p k = (i : Input) × IsInputFor c e p i × IsCut ts g (canonical_of i) mode k
 
 -- the same response once more
 pub record IsCopied (q r : Canonical Response) : Type 0 where

@@ -14,7 +14,7 @@ ghost use Rattle.nts_search.specs.declared.stack.StackEntry.{StackEntry};
 ghost use Rattle.nts_asking.specs.Answering.{IsQueryInput, IsAnswerTo, IfCertain, IfAnswered};
 ghost use Rattle.nts_asking.specs.Rounds.{IsBoxed};
 ghost use Rattle.nts_asking.specs.Searching.{IsSearch, Searches, IsCut, IsCopiedAnswer, IsReadAt, HasNoneAt, assumed_in};
-ghost use Rattle.nts_asking.specs.Telling.{SaysNothing};
+ghost use Rattle.nts_theory.specs.Telling.{SaysNothing};
 
 use nts_canonical::CanonicalInput;
 use nts_certainty::{Certainty, PathKind};
@@ -33,7 +33,8 @@ pub fn unchanged_answer(
 ) -> Result<Box<CanonicalResponse>, Fault>
     requires { IsQueryInput cx.old.nodes input.now }
     ensures fits { IfAnswered result (IsAnswerTo cx.new.nodes (kinds_of input.now)) }
-    ensures nothing { IfAnswered result (λ r. SaysNothing (response_at cx.new.nodes r)) }
+    ensures nothing { IfAnswered result (λ r. SaysNothing (kinds_of input.now)
+        (response_at cx.new.nodes r)) }
     ensures certainty { IfAnswered result (λ r. r.value.certainty ≡ certainty) }
     ensures grows { Grows cx.old cx.new }
     ensures memory { IsOkUnless result Fault.Memory }
@@ -101,9 +102,10 @@ pub fn answer_cycle(
         (assumed_in cx.new.nodes graph.new)) (answer_sequent (form_of cx.old.nodes input.now)
         (response_at cx.new.nodes r))) }
     ensures some { IfAnswered result (λ r. IsReadAt graph.old.stack.items head r ⊎
-        SaysNothing (response_at cx.new.nodes r)) }
+        SaysNothing (kinds_of input.now) (response_at cx.new.nodes r)) }
     ensures none { result ≡ Err EvalError.NoSolution → HasNoneAt graph.old.stack.items head ⊎
-        IsCut input.now.typing_mode step }
+        IsCut cx.old.nodes graph.old (form_of cx.old.nodes input.now)
+        input.now.typing_mode step }
 {
     let kind = graph.path_kind(head, step);
     if kind == PathKind::Coinductive {

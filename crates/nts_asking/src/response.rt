@@ -14,7 +14,7 @@ ghost use Rattle.nts_table.specs.Tables.{IsTable};
 ghost use Rattle.nts_canonical.specs.Forms.{trees_of};
 ghost use Rattle.nts_canonical.specs.Building.{IsArgOf};
 ghost use Rattle.nts_response.specs.Forms.{response_at, recorded_at, HoldsResponse, StoreHoldsConstraint};
-ghost use Rattle.nts_asking.specs.Asking.{IsResponseOf};
+ghost use Rattle.nts_theory.specs.Telling.{IsResponseOf};
 ghost use Rattle.nts_asking.specs.Answering.{told_in, AreTold, KnowsSides, TellsNoMore, IfAnswered};
 
 use crate::terms::resolve_term;

@@ -16,7 +16,7 @@ descends_at : (e : Entries) → LinksDescend e → (n m : ℕ) (o : Option Varia
 descends_at e d n m None is h = cc
 descends_at e d n m (Some v) is h = d.sub_links n m v is h
 
-descends : (e : Entries) → LinksDescend e → Descends e
+pub descends : (e : Entries) → LinksDescend e → Descends e
 descends e d n m h = descends_at e d n m (slice_get e.variables n) refl h
 
 pub data IsEndOrLink (o : Option ℕ) : Type 0 where
@@ -49,7 +49,7 @@ follow-enough e d (suc j) (suc k) n h g = by_case (end_or_link (link_at e n)) (f
     by_case (is_end r) rec = follow-end e (suc j) n r ∙ sym (follow-end e (suc k) n r)
     by_case (is_link m q) rec = let l = d n m q in rw q (rec m (omega (arith, l, h)) (omega (arith, l, g)))
 
-root-link : (e : Entries) → Descends e → (n m : ℕ) → link_at e n ≡ Some m → sub_root_in e n ≡ sub_root_in e m
+pub root-link : (e : Entries) → Descends e → (n m : ℕ) → link_at e n ≡ Some m → sub_root_in e n ≡ sub_root_in e m
 root-link e d zero m q = let l = d zero m q in absurd (omega (arith, l))
 root-link e d (suc n) m q = let l = d (suc n) m q in rw q (follow-enough e d n m m (omega (arith, l)) (omega arith))
 

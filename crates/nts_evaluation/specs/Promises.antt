@@ -19,9 +19,9 @@ use Rattle.nts_response.specs.declared.types.Response.{Response}
 use Rattle.nts_response.specs.Forms.{response_at}
 use Rattle.nts_delegate.specs.Offered.{path_kind_of}
 use Rattle.nts_search.specs.declared.stack.SearchGraph.{SearchGraph}
-use Rattle.nts_asking.specs.Meant.{Since, Rules, Always, meaning_since, IsQueryTold, IsQueryRefuted, AreOffered, IsOffered, IsServedSince, IsProvedNow, IsProvedFromSince, IsNestedSince, IsAskedTo, IsRefusedIn, IsAskedUnder, IsRefusedUnder, IsTold, IsRefuted, HaveOutcomes, CandidatesTell, RepliesWith, FailsIn, HasRunTo, ReachesBy, RefusesOneOf}
-use Rattle.nts_asking.specs.Searching.{Searches, HeadsTell, IsCut, assumed_in, IsHeadAnswer, IsAnswerTold}
-use Rattle.nts_asking.specs.Answering.{IsAnswerTo, IfAnswered, IfCertain, EvaluatesGoal, IfSure}
+use Rattle.nts_asking.specs.Meant.{Since, Rules, Always, meaning_since, IsQueryTold, IsQueryRefuted, AreOffered, IsOffered, IsServedSince, IsProvedNow, IsProvedFromSince, IsNestedSince, EvaluatesGoal, IsRefusedIn, EvaluatesUnder, IsRefusedUnder, IsTold, IsRefuted, HaveOutcomes, CandidatesTell, RepliesWith, FailsIn, HasRunTo, ReachesBy, RefusesOneOf}
+use Rattle.nts_asking.specs.Searching.{Searches, HeadsTell, IsCut, assumed_in, IsHeadAnswer, IsAnswerTold, IsGoalCut}
+use Rattle.nts_asking.specs.Answering.{IsAnswerTo, IfAnswered, IfCertain, IfSure}
 use Rattle.nts_model.specs.Tables.Passing.{BringsOnly}
 use Rattle.nts_certainty.specs.declared.sources.GoalSource.{GoalSource}
 use Rattle.nts_certainty.specs.declared.certainty.Certainty.{Certainty}
@@ -38,11 +38,14 @@ use Rattle.nts_trying.specs.declared.steps.Step.{Step}
 use Rattle.nts_asking.specs.declared.round.Round.{Round}
 use Rattle.nts_asking.specs.declared.round.Ended.{Ended}
 use Rattle.nts_trying.specs.Found.{Found}
-use Rattle.nts_trying.specs.Stepping.{ArePosed, AreLeft, AreSettled, terms_of}
+use Rattle.nts_trying.specs.Stepping.{ArePosed, AreLeft, AreSettled, terms_of, bound_of}
+use Rattle.nts_trying.specs.declared.steps.AvailableDepth.{AvailableDepth}
 use Rattle.nts_asking.specs.Evaluation.{Runs, asked_terms}
 use Rattle.nts_store.specs.declared.fault.EvalError.TheVariants as error
 use Rattle.nts_certainty.specs.declared.certainty.Certainty.TheVariants as certainty
 use Rattle.nts_search.specs.declared.kinds.CurrentGoalKind.TheVariants as kinds
+use Rattle.nts_store.specs.Growth.{tree_at}
+use Rattle.nts_model.specs.Tables.Resolving.{deeply_resolved}
 
 -- since any earlier store in which the handler's terms stood, and where the provisional answers on the stack are told by what the
 -- handler meant then
@@ -63,7 +66,7 @@ pub record AnswersQuery (R : Rules) (a b : Cx) (g h : SearchGraph) (input : Cano
   pub proved : Always R a (λ s. IfCertain r (λ x. IsDerivedFrom (meaning_since R.handler s) (mode_of input.typing_mode) (assumed_behind step b h) (answer_sequent (form_of a.nodes input) (response_at b.nodes x))))
   -- and an answer is told, or refuted
   pub told : WhereTold R a g (λ m. IfAnswered r (IsQueryTold m (mode_of input.typing_mode) a.nodes input b.nodes))
-  pub refuted : WhereTold R a g (λ m. r ≡ Err error.NoSolution → IsQueryRefuted m (mode_of input.typing_mode) a.nodes input ⊎ IsCut input.typing_mode step)
+  pub refuted : WhereTold R a g (λ m. r ≡ Err error.NoSolution → IsQueryRefuted m (mode_of input.typing_mode) a.nodes input ⊎ IsCut a.nodes g (form_of a.nodes input) input.typing_mode step)
 
 -- what a table came to stand for has only labels of these trees
 abbrev pub BringsOnlyOf : List Tree → Cx → Table → Cx → Table → Type 0
@@ -74,20 +77,19 @@ pub record AsksGoal (R : Rules) (a b : Cx) (g h : SearchGraph) (t u : Table) (go
   pub runs : Runs a b t u
   pub searches : Searches a b g h
   pub err : OnErr r (u ≡ t)
-  pub evaluates : IfOk r (λ e. EvaluatesGoal a.nodes b.nodes t u goal e.has_changed)
   pub labels : OnOk r (BringsOnlyOf (asked_terms a.nodes goal) a t b u)
   pub proved : Always R a (λ s. IfSure r (IsProvedFromSince R.handler s t.mode (assumed_behind step b h) b.nodes u goal))
-  pub told : WhereTold R a g (λ m. OnOk r (IsAskedTo m t.mode a.nodes t b.nodes u goal))
-  pub refuted : WhereTold R a g (λ m. r ≡ Err error.NoSolution → IsRefusedIn m t.mode a.nodes t goal ⊎ IsCut t.mode step)
+  pub told : WhereTold R a g (λ m. IfOk r (λ e. EvaluatesGoal m t.mode a.nodes t b.nodes u goal e.certainty e.has_changed))
+  pub refuted : WhereTold R a g (λ m. r ≡ Err error.NoSolution → IsRefusedIn m t.mode a.nodes t goal ⊎ IsGoalCut a.nodes g (content_of a.nodes t.entries) t.mode (tree_at a.nodes goal.param_env.node) (tree_at a.nodes goal.predicate.node) step)
 
--- .. as the table knows it, or not at all, where it is nested too deep
-pub record AsksAdded (R : Rules) (a b : Cx) (g h : SearchGraph) (t u : Table) (goal : Goal) (step : PathKind) (r : Result Evaluated EvalError) : Type 0 where
+-- .. as the table knows it; or not at all, where no depth is left for it
+pub record AsksAdded (R : Rules) (a b : Cx) (g h : SearchGraph) (t u : Table) (goal : Goal) (step : PathKind) (depth : AvailableDepth) (r : Result Evaluated EvalError) : Type 0 where
   pub runs : Runs a b t u
   pub searches : Searches a b g h
   pub labels : OnOk r (BringsOnlyOf (asked_terms a.nodes goal) a t b u)
   pub proved : Always R a (λ s. IfSure r (IsProvedFromSince R.handler s t.mode (assumed_behind step b h) b.nodes u goal))
-  pub told : WhereTold R a g (λ m. OnOk r (IsAskedUnder m t.mode a.nodes t b.nodes u goal ⊎ (u.entries ≡ t.entries)))
-  pub refuted : WhereTold R a g (λ m. r ≡ Err error.NoSolution → IsRefusedUnder m t.mode a.nodes t goal ⊎ IsCut t.mode step)
+  pub told : WhereTold R a g (λ m. IfOk r (λ e. EvaluatesUnder m t.mode a.nodes t b.nodes u goal e.certainty e.has_changed ⊎ (bound_of depth ≡ 0) × (u.entries ≡ t.entries)))
+  pub refuted : WhereTold R a g (λ m. r ≡ Err error.NoSolution → IsRefusedUnder m t.mode a.nodes t goal ⊎ (let c = content_of a.nodes t.entries in IsGoalCut a.nodes g c t.mode (deeply_resolved c (tree_at a.nodes goal.param_env.node)) (deeply_resolved c (tree_at a.nodes goal.predicate.node)) step))
 
 -- a round of a query: the input was on the stack, and is off it again
 pub record EndsRound (R : Rules) (a b : Cx) (g h : SearchGraph) (asked : Round) (step : PathKind) (r : Result (Box Ended) EvalError) : Type 0 where
@@ -107,7 +109,7 @@ pub record AnswersGoal (R : Rules) (a b : Cx) (g h : SearchGraph) (t : Table) (g
   pub searches : Searches a b g h
   pub found : IfAnswered r (Found (λ c u. Always R a (λ s. IsProvedNow R.handler s t.mode (assumed_in b.nodes h) c u goal)) a.nodes b.nodes t goal values)
   pub told : WhereTold R a g (λ m. IfAnswered r (IsTold m t.mode a.nodes t goal values b.nodes))
-  pub refuted : WhereTold R a g (λ m. r ≡ Err error.NoSolution → IsRefuted m t.mode a.nodes t goal)
+  pub refuted : WhereTold R a g (λ m. r ≡ Err error.NoSolution → IsRefuted m t.mode a.nodes t goal values)
 
 -- .. by candidates, of which what is offered is said where they are offered: `Offered`, and what is told and refuted of them
 pub record AnswersBy (Offered : Handler → Type 0) (Told : Handler → Canonical Response → Type 0) (Failed : Handler → Type 0) (R : Rules) (a b : Cx) (g h : SearchGraph) (t u : Table) (goal : Goal)
@@ -121,11 +123,11 @@ pub record AnswersBy (Offered : Handler → Type 0) (Told : Handler → Canonica
 
 abbrev pub TriesEach : Rules → Cx → Cx → SearchGraph → SearchGraph → Table → Table → Goal → List GenericArg → List CandidateData → Result (Box (Canonical Response)) EvalError → Type 0
 TriesEach R a b g h t u goal values xs r =
-    AnswersBy (λ m. AreOffered m t.mode a.nodes goal xs) (λ m. CandidatesTell m t.mode a.nodes t values xs b.nodes) (λ m. HaveOutcomes m t.mode a.nodes t values xs []) R a b g h t u goal values r
+    AnswersBy (λ m. AreOffered m t.mode a.nodes goal xs) (λ m. CandidatesTell m t.mode a.nodes t goal values xs b.nodes) (λ m. HaveOutcomes m t.mode a.nodes t goal values xs []) R a b g h t u goal values r
 
 abbrev pub TriesOne : Rules → Cx → Cx → SearchGraph → SearchGraph → Table → Table → Goal → List GenericArg → CandidateData → Result (Box (Canonical Response)) EvalError → Type 0
 TriesOne R a b g h t u goal values x r =
-    AnswersBy (λ m. IsOffered m t.mode a.nodes goal x) (λ m. RepliesWith m t.mode a.nodes t values x b.nodes) (λ m. FailsIn m t.mode a.nodes t x) R a b g h t u goal values r
+    AnswersBy (λ m. IsOffered m t.mode a.nodes goal x) (λ m. RepliesWith m t.mode a.nodes t goal values x b.nodes) (λ m. FailsIn m t.mode a.nodes t x) R a b g h t u goal values r
 
 -- a candidate is run, and what it did stays in the table
 pub record RunsOne (R : Rules) (a b : Cx) (g h : SearchGraph) (t u : Table) (goal : Goal) (x : CandidateData) (r : Result Certainty EvalError) : Type 0 where

@@ -363,7 +363,7 @@ fn evaluate_added<H: GoalHandler>(
     requires ready { H.ready cx.old.nodes handler.now }
     requires search { IsSearch cx.old graph.old (bound_of depth) }
     ensures { AsksAdded (rules_of H.ready H.handler handler.now) cx.old cx.new graph.old graph.new
-        table.old table.new goal step result }
+        table.old table.new goal step depth result }
 {
     match depth.next(graph.has_overflowed, cx.depth_division()) {
         None => {

@@ -1,5 +1,5 @@
 //! A canonical goal, asked at the root of a search.
-ghost use Rattle.std.specs.Prelude.{◌≡◌, ◌+◌, ◌⊎◌, IfOk, IfSome, IsNone};
+ghost use Rattle.std.specs.Prelude.{◌≡◌, ◌+◌, IfOk, IfSome, IsNone};
 ghost use Rattle.nts_model.specs.Derivations.Handlers.{meaning};
 ghost use Rattle.nts_certainty.specs.declared.certainty.Certainty.TheVariants as certainty;
 ghost use Rattle.nts_terms.specs.Modes.{mode_of};
@@ -7,7 +7,7 @@ ghost use Rattle.nts_terms.specs.Signatures.{variances_in};
 ghost use Rattle.nts_terms.specs.Rest.{Grows};
 ghost use Rattle.nts_canonical.specs.Building.{kinds_of};
 ghost use Rattle.nts_asking.specs.Answering.{IsQueryInput, IsAnswerTo};
-ghost use Rattle.nts_asking.specs.Searching.{IsSearch, Searches, IsCut};
+ghost use Rattle.nts_asking.specs.Searching.{IsSearch, Searches};
 ghost use Rattle.nts_asking.specs.Meant.{IsInputProved, IsQueryTold, IsQueryRefuted};
 
 use crate::evaluate::search;
@@ -20,8 +20,8 @@ use nts_store::{EvalError, Fault};
 use nts_terms::Cx;
 
 /// Answers a canonical goal that a step of that kind asks, in a search whose stack is empty: at its root depth. `None` is no
-/// solution. A certain answer has a ranked proof of what it says of the input. Afterwards the stack is empty again, and
-/// the counters of the search say how many inputs stood on it at most, and how many rounds a query took.
+/// solution: each candidate failed. A certain answer has a ranked proof of what it says of the input. Afterwards the stack is
+/// empty again, and no query took more rounds than the store's limit says.
 pub fn evaluate_input<H: GoalHandler>(
     graph: &mut SearchGraph,
     cx: &mut Cx,
@@ -41,8 +41,7 @@ pub fn evaluate_input<H: GoalHandler>(
     ensures told { IfOk result (λ o. IfSome o (IsQueryTold (H.handler cx.old.nodes handler.now)
         (mode_of input.typing_mode) cx.old.nodes input cx.new.nodes)) }
     ensures refuted { IfOk result (λ o. IsNone o → IsQueryRefuted
-        (H.handler cx.old.nodes handler.now) (mode_of input.typing_mode) cx.old.nodes input
-        ⊎ IsCut input.typing_mode step_kind) }
+        (H.handler cx.old.nodes handler.now) (mode_of input.typing_mode) cx.old.nodes input) }
 {
     cx.terms_are_formed();
     let depth = graph.root_depth;

@@ -8,8 +8,7 @@ ghost use Rattle.nts_terms.specs.Signatures.{variances_in};
 ghost use Rattle.nts_asking.specs.Running.{HasRankedProofIn, HasFallingProofIn};
 ghost use Rattle.nts_terms.specs.Handles.{HoldsGoal};
 ghost use Rattle.nts_asking.specs.Evaluation.{Runs, IsAdmitted, IsPosed, IsGoalUnder};
-ghost use Rattle.nts_asking.specs.Meant.{rules_of, Always, IsProvedSince, IsAskedUnder, IsRefusedUnder};
-ghost use Rattle.nts_asking.specs.Answering.{EvaluatesUnder};
+ghost use Rattle.nts_asking.specs.Meant.{rules_of, Always, IsProvedSince, EvaluatesUnder, IsRefusedUnder};
 ghost use Rattle.nts_certainty.specs.declared.certainty.Certainty.TheVariants as certainty;
 ghost use Rattle.nts_terms.specs.Rest.{Grows};
 
@@ -62,11 +61,13 @@ pub fn goal_is_admitted(table: &InferCtxt, cx: &mut Cx, goal: Goal) -> Result<bo
 }
 
 /// Evaluates a goal in the table, with the store's recursion limit as depth. The goal, resolved, is asked in a query of its own,
-/// and the response is applied to its leaves: nothing else is added to the table. Where the answer is yes, the goal has a
-/// ranked proof, whatever cycles were met: each of its steps leads to a lower rank, or is coinductive. Each candidate is asked to its end: the response says nothing, or it is the one that stands for those of all
-/// candidates that did not fail. `NoSolution` says that each candidate failed: its equations can't be met, an equality
-/// of regions can't be, or a goal that it asks for was refused. After an error the table is as it was.
-/// A fault is want of memory, or `Full` where a universe above the greatest is asked for.
+/// and the response is applied to its leaves: nothing else is added to the table. The answer is certain exactly if the query's
+/// is. Where it is yes, the goal has a ranked proof, whatever cycles were met: each of its steps leads to a lower rank, or is
+/// coinductive. Each candidate is asked to its end: the response says nothing new, or it is the one that stands for those of
+/// all candidates that did not fail. One that is in doubt leaves no region constraints. `NoSolution` says that each candidate
+/// failed: its equations can't be met, an equality of regions can't be, or a goal that it asks for was refused; or that no
+/// solution of the table grants the response. After an error the table is as it was. A fault is want of memory, or `Full`
+/// where a universe above the greatest is asked for.
 pub fn evaluate_root_goal<H: GoalHandler>(
     table: &mut InferCtxt,
     cx: &mut Cx,
@@ -80,8 +81,9 @@ pub fn evaluate_root_goal<H: GoalHandler>(
     requires admitted { IsAdmitted cx.old.nodes table.old goal }
     ensures runs { Runs cx.old cx.new table.old table.new }
     ensures goal { IfOk result (λ e. IsGoalUnder cx.old.nodes cx.new.nodes table.old goal e.goal) }
-    ensures evaluates { IfOk result (λ e. EvaluatesUnder cx.old.nodes cx.new.nodes
-        table.old table.new goal e.has_changed) }
+    ensures evaluates { IfOk result (λ e. EvaluatesUnder (H.handler cx.old.nodes handler.now)
+        table.old.mode cx.old.nodes table.old cx.new.nodes table.new goal
+        e.certainty e.has_changed) }
     ensures stalled { IfOk result (λ e. e.stalled_on ≡ None) }
     ensures err { OnErr result (table.new ≡ table.old) }
     ensures proved { IfOk result (λ e. e.certainty ≡ certainty.Yes → HasRankedProofIn
@@ -90,8 +92,6 @@ pub fn evaluate_root_goal<H: GoalHandler>(
     ensures falls { (let h = H.handler cx.old.nodes handler.now in HasNoCoinductiveTrait h →
         IfOk result (λ e. e.certainty ≡ certainty.Yes → HasFallingProofIn (meaning h (variances_in
         cx.old.declarations)) (mode_of table.old.mode) cx.new.nodes table.new goal)) }
-    ensures told { OnOk result (IsAskedUnder (H.handler cx.old.nodes handler.now) table.old.mode
-        cx.old.nodes table.old cx.new.nodes table.new goal) }
     ensures refuted { result ≡ Err EvalError.NoSolution → IsRefusedUnder
         (H.handler cx.old.nodes handler.now) table.old.mode cx.old.nodes table.old goal }
 {
@@ -113,16 +113,14 @@ fn evaluate_root<H: GoalHandler>(
     requires ready { H.ready cx.old.nodes handler.now }
     ensures runs { Runs cx.old cx.new table.old table.new }
     ensures goal { IfOk result (λ e. IsGoalUnder cx.old.nodes cx.new.nodes table.old goal e.goal) }
-    ensures evaluates { IfOk result (λ e. EvaluatesUnder cx.old.nodes cx.new.nodes
-        table.old table.new goal e.has_changed) }
+    ensures evaluates { Always (rules_of H.ready H.handler handler.now) cx.old (λ s. IfOk result (λ e.
+        EvaluatesUnder (H.handler s.base handler.now) table.old.mode cx.old.nodes table.old
+        cx.new.nodes table.new goal e.certainty e.has_changed)) }
     ensures stalled { IfOk result (λ e. e.stalled_on ≡ None) }
     ensures err { OnErr result (table.new ≡ table.old) }
     ensures proved { Always (rules_of H.ready H.handler handler.now) cx.old (λ s. IfOk result (λ e.
         e.certainty ≡ certainty.Yes → IsProvedSince (λ ts. H.handler ts handler.now) s
         table.old.mode cx.new.nodes table.new goal)) }
-    ensures told { Always (rules_of H.ready H.handler handler.now) cx.old (λ s. OnOk result
-        (IsAskedUnder (H.handler s.base handler.now) table.old.mode cx.old.nodes table.old
-        cx.new.nodes table.new goal)) }
     ensures refuted { Always (rules_of H.ready H.handler handler.now) cx.old (λ s.
         result ≡ Err EvalError.NoSolution → IsRefusedUnder (H.handler s.base handler.now)
         table.old.mode cx.old.nodes table.old goal) }

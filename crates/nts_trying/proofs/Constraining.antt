@@ -20,7 +20,7 @@ use Rattle.nts_unify.specs.Lawful.{content_of-constrained}
 use Rattle.nts_delegate.specs.declared.delegate.RegionConstraint.{RegionConstraint}
 use Rattle.nts_delegate.specs.Offered.{constraint_of}
 use Rattle.nts_asking.specs.Running.{constraint_between}
-use Rattle.nts_asking.specs.Telling.{FailsToAdd}
+use Rattle.nts_theory.specs.Telling.{FailsToAdd}
 use Rattle.nts_asking.proofs.Running.{constraint-kept}
 
 -- a recorded constraint, which the leak check sees

@@ -9,7 +9,6 @@ use Rattle.nts_model.specs.Lists.{Among}
 use Rattle.nts_model.specs.Derivations.Rules.{Mode}
 use Rattle.nts_model.specs.Derivations.Handlers.{Candidate, Handler}
 use Rattle.nts_model.specs.Refutation.Choosing.{IsCandidateMet, MeetsEquations}
-use Rattle.nts_model.specs.Answers.Responses.{Response as Answer}
 use Rattle.nts_theory.proofs.Refutation.Choosing.{met_when_equated}
 use Rattle.nts_store.specs.declared.nodes.NodeId.{NodeId}
 use Rattle.nts_store.specs.Formed.{AreFormed}
@@ -35,9 +34,10 @@ use Rattle.nts_response.specs.Forms.{response_at}
 use Rattle.nts_asking.specs.Evaluation.{IsPosed}
 use Rattle.nts_trying.specs.Choices.{EquatesCandidate, KeepsMet}
 use Rattle.nts_trying.specs.Choices.KeepsMet.{none, kept, dropped}
-use Rattle.nts_asking.specs.Telling.{IsPlainResponse, Outcomes, Replies, Fails}
-use Rattle.nts_asking.specs.Telling.Outcomes.{no_outcome, then_fails, then_replies}
-use Rattle.nts_asking.specs.Telling.Fails.{is_unmet}
+use Rattle.nts_asking.specs.Telling.{Outcomes, Replies, Fails}
+use Rattle.nts_theory.specs.Telling.{IsPlainResponse, Verdict}
+use Rattle.nts_theory.specs.Telling.Outcomes.{no_outcome, then_fails, then_replies}
+use Rattle.nts_theory.specs.Telling.Fails.{is_unmet}
 use Rattle.nts_asking.specs.Meant.{HaveOutcomes, CandidatesTell}
 use Rattle.nts_asking.proofs.AskedGoals.{trees_kept}
 use Rattle.nts_asking.proofs.Evaluating.{AreCandidates-extended}
@@ -121,26 +121,27 @@ kept_among {ts} z (kept {xs} {ys} x k m) i =
 kept_among {ts} z (dropped {xs} {ys} x k n) i = among_front (candidate_of ts) xs x z (kept_among z k i)
 
 -- the outcomes of one more, where there are outcomes of more than those before it
-pub last_outcome : {h : Handler} {mode : Mode} {c : Content} {qs : List Tree} {rs : List Answer} (xs ys zs : List Candidate) (x : Candidate) → zs ≡ ys ++ x ∷ [] → ((ws : List Candidate) (ps : List Answer) → ws ≡ ys → Outcomes h mode c qs ws ps → Outcomes h mode c qs xs ps) → Outcomes h mode c qs zs rs → Outcomes h mode c qs (xs ++ x ∷ []) rs
+pub last_outcome : {h : Handler} {mode : Mode} {c : Content} {k p : Tree} {qs : List Tree} {rs : List Verdict} (xs ys zs : List Candidate) (x : Candidate) → zs ≡ ys ++ x ∷ [] → ((ws : List Candidate) (ps : List Verdict) → ws ≡ ys → Outcomes h mode c k p qs ws ps → Outcomes h mode c k p qs xs ps) → Outcomes h mode c k p qs zs rs → Outcomes h mode c k p qs (xs ++ x ∷ []) rs
 last_outcome xs ys zs x e more no_outcome = absurd (let l = ap length e in omega (arith, l, length-append ys (x ∷ [])))
-last_outcome {h} {mode} {c} {qs} xs ys zs x e more (then_fails {xs = ws} {rs = ps} {x = w} o f) =
+last_outcome {h} {mode} {c} {k} {p} {qs} xs ys zs x e more (then_fails {xs = ws} {vs = ps} {x = w} o f) =
     let same = push_inj ws ys w x e in then_fails (more ws ps same.0 o) (subst (Fails h mode c) same.1 f)
-last_outcome {h} {mode} {c} {qs} xs ys zs x e more (then_replies {xs = ws} {rs = ps} {x = w} {r = r} o f) =
-    let same = push_inj ws ys w x e in then_replies (more ws ps same.0 o) (subst (λ z. Replies h mode c qs z r) same.1 f)
+last_outcome {h} {mode} {c} {k} {p} {qs} xs ys zs x e more (then_replies {xs = ws} {vs = ps} {x = w} {v = r} o f) =
+    let same = push_inj ws ys w x e in then_replies (more ws ps same.0 o) (subst (λ z. Replies h mode c k p qs z r) same.1 f)
 
 -- what is dropped fails, so the outcomes of those that are kept are outcomes of all
-all_outcomes : {h : Handler} {mode : Mode} {ts : List Tree} {c : Content} {qs : List Tree} {xs ys : List CandidateData} → KeepsMet ts c xs ys → (zs : List Candidate) (rs : List Answer) → zs ≡ candidates_of ts ys → Outcomes h mode c qs zs rs → Outcomes h mode c qs (candidates_of ts xs) rs
-all_outcomes {h} {mode} {ts} {c} {qs} none zs rs e o = subst (λ z. Outcomes h mode c qs z rs) e o
-all_outcomes {h} {mode} {ts} {c} {qs} (dropped {xs} {ys} x m n) zs rs e o = rw (map_push (candidate_of ts) xs x) (then_fails (all_outcomes m zs rs e o) (is_unmet n))
-all_outcomes {h} {mode} {ts} {c} {qs} (kept {xs} {ys} x m y) zs rs e o =
+all_outcomes : {h : Handler} {mode : Mode} {ts : List Tree} {c : Content} {k p : Tree} {qs : List Tree} {xs ys : List CandidateData} → KeepsMet ts c xs ys → (zs : List Candidate) (rs : List Verdict) → zs ≡ candidates_of ts ys → Outcomes h mode c k p qs zs rs → Outcomes h mode c k p qs (candidates_of ts xs) rs
+all_outcomes {h} {mode} {ts} {c} {k} {p} {qs} none zs rs e o = subst (λ z. Outcomes h mode c k p qs z rs) e o
+all_outcomes {h} {mode} {ts} {c} {k} {p} {qs} (dropped {xs} {ys} x m n) zs rs e o = rw (map_push (candidate_of ts) xs x) (then_fails (all_outcomes m zs rs e o) (is_unmet n))
+all_outcomes {h} {mode} {ts} {c} {k} {p} {qs} (kept {xs} {ys} x m y) zs rs e o =
     rw (map_push (candidate_of ts) xs x) (last_outcome (candidates_of ts xs) (candidates_of ts ys) zs (candidate_of ts x) (e ∙ map_push (candidate_of ts) ys x) (λ ws ps q p. all_outcomes m ws ps q p) o)
 
-pub kept_outcomes : {a b : List Tree} {t : Table} (g : Goal) {xs ys : List CandidateData} {rs : List Answer} (h : Handler) (mode : TypingMode) (qs : List GenericArg) → KeepsMet a (content_of a t.entries) xs ys → Extends a b → IsTable a t → All (IsArgOf a t.entries) qs → AreCandidates a g xs → HaveOutcomes h mode b t qs ys rs → HaveOutcomes h mode a t qs xs rs
-kept_outcomes {a} {b} {t} g {xs} {ys} {rs} h mode qs m e w args all o =
-    let there : Outcomes h (mode_of mode) (content_of a t.entries) (trees_of a qs) (candidates_of a ys) rs = rw (content_of-extended e w.now, trees_kept a b t.entries qs e args, candidates-kept {a = a} {b = b} g ys e (are_candidates g m all)) at o in
+pub kept_outcomes : {a b : List Tree} {t : Table} (g : Goal) {xs ys : List CandidateData} {rs : List Verdict} (h : Handler) (mode : TypingMode) (qs : List GenericArg) → HoldsGoal a g → KeepsMet a (content_of a t.entries) xs ys → Extends a b → IsTable a t → All (IsArgOf a t.entries) qs → AreCandidates a g xs → HaveOutcomes h mode b t g qs ys rs → HaveOutcomes h mode a t g qs xs rs
+kept_outcomes {a} {b} {t} g {xs} {ys} {rs} h mode qs held m e w args all o =
+    let there : Outcomes h (mode_of mode) (content_of a t.entries) (tree_at a g.param_env.node) (tree_at a g.predicate.node) (trees_of a qs) (candidates_of a ys) rs =
+    rw (content_of-extended e w.now, trees_kept a b t.entries qs e args, candidates-kept {a = a} {b = b} g ys e (are_candidates g m all), e.kept g.param_env.node held.env.within, e.kept g.predicate.node held.predicate.within) at o in
     all_outcomes m (candidates_of a ys) rs refl there
 
-pub kept_tell : {a b : List Tree} {t : Table} (e : List Tree) (g : Goal) {xs ys : List CandidateData} (h : Handler) (mode : TypingMode) (qs : List GenericArg) (r : Canonical Response) → KeepsMet a (content_of a t.entries) xs ys → Extends a b → IsTable a t → All (IsArgOf a t.entries) qs → AreCandidates a g xs → CandidatesTell h mode b t qs ys e r → CandidatesTell h mode a t qs xs e r
-kept_tell e g h mode qs r m up w args all (inl (rs, o, s)) = inl (rs, kept_outcomes g h mode qs m up w args all o, s)
-kept_tell {a} {b} {t} e g h mode qs r m up w args all (inr p) =
-    inr (subst (λ z. IsPlainResponse z (trees_of a qs) (response_at e r)) (content_of-extended up w.now) (subst (λ z. IsPlainResponse (content_of b t.entries) z (response_at e r)) (trees_kept a b t.entries qs up args) p))
+pub kept_tell : {a b : List Tree} {t : Table} (e : List Tree) (g : Goal) {xs ys : List CandidateData} (h : Handler) (mode : TypingMode) (qs : List GenericArg) (r : Canonical Response) → HoldsGoal a g → KeepsMet a (content_of a t.entries) xs ys → Extends a b → IsTable a t → All (IsArgOf a t.entries) qs → AreCandidates a g xs → CandidatesTell h mode b t g qs ys e r → CandidatesTell h mode a t g qs xs e r
+kept_tell e g h mode qs r held m up w args all (inl (vs, o, s)) = inl (vs, kept_outcomes g h mode qs held m up w args all o, s)
+kept_tell {a} {b} {t} e g h mode qs r held m up w args all (inr (n, p)) =
+    inr (n, subst (λ z. IsPlainResponse z (trees_of a qs) (response_at e r)) (content_of-extended up w.now) (subst (λ z. IsPlainResponse (content_of b t.entries) z (response_at e r)) (trees_kept a b t.entries qs up args) p))

@@ -10,12 +10,11 @@ use Rattle.nts_model.specs.Derivations.Rules.{Mode, related}
 use Rattle.nts_model.specs.Terms.Substitutions.{filled_under}
 use Rattle.nts_model.specs.Derivations.Handlers.{Candidate, Handler}
 use Rattle.nts_model.specs.Refutation.Choosing.{IsCandidateMet}
-use Rattle.nts_model.specs.Answers.Responses.{Response as Answer}
 use Rattle.nts_delegate.specs.Relevant.{built_by, IsIrrelevant, LeavesOut}
 use Rattle.nts_delegate.specs.Relevant.LeavesOut.{none, offered, left_out}
 use Rattle.nts_asking.specs.Telling.{Outcomes}
-use Rattle.nts_asking.specs.Telling.Outcomes.{then_fails}
-use Rattle.nts_asking.specs.Telling.Fails.{is_unmet}
+use Rattle.nts_theory.specs.Telling.Outcomes.{then_fails}
+use Rattle.nts_theory.specs.Telling.Fails.{is_unmet}
 use Rattle.nts_asking.proofs.Evaluating.{offers-kept}
 use Rattle.nts_trying.proofs.Filtered.{are_candidates, kept_among, last_outcome}
 use Rattle.nts_asking.proofs.Running.{candidates-kept}
@@ -29,6 +28,7 @@ use Rattle.nts_terms.specs.Handles.{HoldsGoal}
 use Rattle.nts_delegate.specs.declared.delegate.CandidateData.{CandidateData}
 use Rattle.nts_delegate.specs.Candidates.{AreCandidates}
 use Rattle.nts_delegate.specs.Offered.{candidates_of}
+use Rattle.nts_theory.specs.Telling.{Verdict}
 
 -- values leave what a type is built by
 built_filled : (f : Leaf → Tree) (vs : List Tree) (t : Tree) (h : TyHead) → built_by t ≡ Some h → built_by (filled_under f vs t) ≡ Some h
@@ -53,10 +53,10 @@ unmet c x r m =
     r.apart.apart (some_inj r.apart.left r.apart.right (sym left ∙ ap built_by one ∙ right))
 
 -- so the outcomes of the others are outcomes of all
-pub all_outcomes : {h : Handler} {mode : Mode} {c : Content} {qs : List Tree} {xs ys : List Candidate} → LeavesOut xs ys → (zs : List Candidate) (rs : List Answer) → zs ≡ ys → Outcomes h mode c qs zs rs → Outcomes h mode c qs xs rs
-all_outcomes {h} {mode} {c} {qs} none zs rs e o = subst (λ z. Outcomes h mode c qs z rs) e o
-all_outcomes {h} {mode} {c} {qs} (left_out {xs} {ys} x l r) zs rs e o = then_fails (all_outcomes l zs rs e o) (is_unmet (unmet c x r))
-all_outcomes {h} {mode} {c} {qs} (offered {xs} {ys} x l) zs rs e o = last_outcome xs ys zs x e (λ ws ps q p. all_outcomes l ws ps q p) o
+pub all_outcomes : {h : Handler} {mode : Mode} {c : Content} {k p : Tree} {qs : List Tree} {xs ys : List Candidate} → LeavesOut xs ys → (zs : List Candidate) (rs : List Verdict) → zs ≡ ys → Outcomes h mode c k p qs zs rs → Outcomes h mode c k p qs xs rs
+all_outcomes {h} {mode} {c} {k} {p} {qs} none zs rs e o = subst (λ z. Outcomes h mode c k p qs z rs) e o
+all_outcomes {h} {mode} {c} {k} {p} {qs} (left_out {xs} {ys} x l r) zs rs e o = then_fails (all_outcomes l zs rs e o) (is_unmet (unmet c x r))
+all_outcomes {h} {mode} {c} {k} {p} {qs} (offered {xs} {ys} x l) zs rs e o = last_outcome xs ys zs x e (λ ws ps q p. all_outcomes l ws ps q p) o
 
 -- .. and each of the others is among all
 before_last : {A : Type 0} (xs : List A) (x z : A) → Among xs z → Among (xs ++ x ∷ []) z

@@ -1,5 +1,5 @@
 -- The response that stands for those of all candidates.
-use Rattle.std.proofs.Common.{◌≡◌, inl, inr, ℕ, zero, suc, ◌<◌, List, [], ◌∷◌, map, length, get_or, Some, None, refl, sym, ap, ◌∙◌, subst, arith}
+use Rattle.std.proofs.Common.{◌≡◌, false, inl, inr, ℕ, zero, suc, ◌<◌, List, [], ◌∷◌, map, length, get_or, Some, None, refl, sym, ap, ◌∙◌, subst, arith}
 use Rattle.nts_model.specs.Terms.Trees.{Tree}
 use Rattle.nts_model.specs.Tables.Contents.{Content}
 use Rattle.nts_model.specs.Lists.{Among}
@@ -18,10 +18,13 @@ use Rattle.nts_response.specs.Forms.{response_at, recorded_at, premise_at, Holds
 use Rattle.nts_merging.specs.declared.merging.MergeCandidateInfo.{MergeCandidateInfo}
 use Rattle.nts_merging.specs.declared.merging.MergeCandidateInfo.TheVariants as info
 use Rattle.nts_merging.specs.Merging.{AppliesAlways, Merges, doubt_of}
-use Rattle.nts_asking.specs.Asking.{without_constraints, IsResponseOf}
-use Rattle.nts_asking.specs.Answering.{told_in}
+use Rattle.nts_theory.specs.Telling.{without_constraints, IsResponseOf}
+use Rattle.nts_asking.specs.Answering.{told_in, is_yes, verdict_at}
 use Rattle.nts_trying.specs.Found.{IsMerged}
-use Rattle.nts_asking.specs.Telling.{SaysNothing, StandsForAll}
+use Rattle.nts_asking.specs.Telling.{StandsForAll}
+use Rattle.nts_theory.specs.Telling.{IsIdentityAnswer}
+use Rattle.nts_model.specs.Canonical.Inputs.{PositionKind}
+use Rattle.nts_response.specs.Same.{AreOneResponse}
 
 -- an answer that is not certain
 abbrev IsInDoubt : Certainty → Type 0
@@ -60,20 +63,25 @@ place_among f (x ∷ xs) y d (inr h) =
     let p = place_among f xs y d h in
     (suc p.0, omega (arith, p.1), p.2)
 
+-- an answer in doubt is no yes
+pub unsure_yes : (x : Certainty) → (x ≡ certainty.Yes → ⊥) → is_yes x ≡ false
+unsure_yes certainty.Yes h = absurd (h refl)
+unsure_yes (certainty.Maybe i) h = refl
+
 -- the merged response is one of the responses
 pub merged_among : (a : List Tree) (rs : List (Canonical Response)) (r : Canonical Response) (m : MergeCandidateInfo) → Merges a rs (Some (r, m)) → (i : ℕ) × (i < length rs) × (get_or rs i r ≡ r)
 merged_among a rs r (info.AlwaysApplicable i) h = (i, h.0.below, h.1)
 merged_among a rs r info.EqualResponse h = (zero, h.1.some, h.2)
 
 -- .. so its form is among theirs
-pub merged_form_among : (a : List Tree) (rs : List (Canonical Response)) (r : Canonical Response) (m : MergeCandidateInfo) → Merges a rs (Some (r, m)) → Among (map (response_at a) rs) (response_at a r)
+pub merged_form_among : (a : List Tree) (rs : List (Canonical Response)) (r : Canonical Response) (m : MergeCandidateInfo) → Merges a rs (Some (r, m)) → Among (map (verdict_at a) rs) (verdict_at a r)
 merged_form_among a rs r m h =
     let p = merged_among a rs r m h in
-    subst (λ z. Among (map (response_at a) rs) (response_at a z)) p.2 (among_place (response_at a) rs p.0 r p.1)
+    subst (λ z. Among (map (verdict_at a) rs) (verdict_at a z)) p.2 (among_place (verdict_at a) rs p.0 r p.1)
 
--- what always applies says nothing
-pub says_nothing : (a : List Tree) (r : Canonical Response) → AppliesAlways a r → SaysNothing (response_at a r)
-says_nothing a r (sure, positions, nothing) =
+-- what always applies is a yes that changes nothing
+identity_answer : (a : List Tree) (r : Canonical Response) → AppliesAlways a r → IsIdentityAnswer (response_at a r)
+identity_answer a r (sure, positions, nothing) =
     record {
       values = λ i l. positions i (omega (arith, l));
       constraints = ap (map (recorded_at a)) nothing.0;
@@ -82,15 +90,19 @@ says_nothing a r (sure, positions, nothing) =
     }
 
 -- the merged response stands for all
-pub merged_stands : (a : List Tree) (rs : List (Canonical Response)) (r : Canonical Response) (m : MergeCandidateInfo) → Merges a rs (Some (r, m)) → StandsForAll (map (response_at a) rs) (response_at a r)
-merged_stands a rs r (info.AlwaysApplicable i) h =
-    (merged_form_among a rs r (info.AlwaysApplicable i) h, inl (says_nothing a r (subst (AppliesAlways a) h.1 (h.0.is r))))
-merged_stands a rs r info.EqualResponse h = (
+pub merged_stands : (a : List Tree) (rs : List (Canonical Response)) (r : Canonical Response) (m : MergeCandidateInfo) → Merges a rs (Some (r, m)) → (ks : List PositionKind) → StandsForAll ks (map (verdict_at a) rs) (verdict_at a r)
+merged_stands a rs r (info.AlwaysApplicable i) h ks =
+    let always = subst (AppliesAlways a) h.1 (h.0.is r) in
+    (merged_form_among a rs r (info.AlwaysApplicable i) h, inl (ap is_yes always.0, identity_answer a r always, tt))
+merged_stands a rs r info.EqualResponse h ks = (
   merged_form_among a rs r info.EqualResponse h,
   inr (λ q i.
-      let p = place_among (response_at a) rs q r i in
-      p.2 ∙ sym (h.1.each p.0 r p.1).form ∙ ap (response_at a) h.2),
+      let p = place_among (verdict_at a) rs q r i in
+      p.2 ∙ sym (one_verdict (get_or rs 0 r) (get_or rs p.0 r) (h.1.each p.0 r p.1)) ∙ ap (verdict_at a) h.2),
 )
+  where
+    one_verdict : (x y : Canonical Response) → AreOneResponse a x y → verdict_at a x ≡ verdict_at a y
+    one_verdict x y e = (let form = e.form in let sure = e.certainty in λ i. record { response = form i; is_yes = is_yes (sure i) })
 
 -- a response that was taken out of its place
 pub merged_kept : (a : List Tree) (rs ss : List (Canonical Response)) (i : ℕ) (r : Canonical Response) → ss ≡ rs → (m : MergeCandidateInfo) × Merges a ss (Some (get_or ss i r, m)) → r ≡ get_or rs i r → (m : MergeCandidateInfo) × Merges a rs (Some (r, m))

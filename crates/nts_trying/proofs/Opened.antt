@@ -1,19 +1,13 @@
 -- A goal that was opened: what is said of it where it was opened is said of the goal.
-use Rattle.std.proofs.Common.{◌≡◌, ◌⊎◌, inl, inr, ℕ, suc, ◌+◌, Bool, true, false, List, [], refl, sym, ap, ◌∙◌, subst, arith}
+use Rattle.std.proofs.Common.{◌≡◌, ◌⊎◌, inl, inr, ℕ, ◌+◌, Bool, true, false, List, [], refl, sym, ap, ◌∙◌, subst}
 use Rattle.std.specs.Prelude.{◌==◌, if◌then◌else◌, Option, Some, None, IfSome, Result, Ok, Err, OnOk}
 use Rattle.nts_model.specs.Derivations.Proofs.{Assumed}
 use Rattle.nts_model.specs.Searching.Stacks.{IsProvedFrom}
-use Rattle.nts_model.specs.declared.labels.Sort.{Sort}
-use Rattle.nts_model.specs.declared.labels.Sort.TheVariants as sort
-use Rattle.nts_model.specs.declared.labels.BoundVarIndexKind.TheVariants as index
-use Rattle.nts_model.specs.declared.labels.ListHead.TheVariants as list
 use Rattle.nts_model.specs.declared.labels.Label.{Label}
-use Rattle.nts_model.specs.declared.labels.Label.TheVariants as label
-use Rattle.nts_model.specs.Terms.Trees.{Tree, empty, more, node, binders, IsClosed, IsFormed}
+use Rattle.nts_model.specs.Terms.Trees.{Tree, node, IsClosed, IsFormed}
 use Rattle.nts_model.specs.Tables.Contents.{Content, in_universe}
-use Rattle.nts_model.specs.Derivations.Related.{unbound}
-use Rattle.nts_model.specs.Derivations.Rules.{opened, opened_at, statement_of}
-use Rattle.nts_model.specs.Answers.Responses.{Response as Answer}
+use Rattle.nts_model.specs.Derivations.Related.{unbound, pair}
+use Rattle.nts_model.specs.Derivations.Rules.{opened, statement_of}
 use Rattle.nts_model.specs.Tables.Passing.{TreePasses, TablePasses, PassesQueries, BringsOnly}
 use Rattle.nts_model.specs.Refutation.Opening.{binds, placeholder_in, entered_table, opened_in}
 use Rattle.nts_model.specs.declared.labels.Variance.{Variance}
@@ -52,52 +46,20 @@ use Rattle.nts_trying.specs.Opening.{IsOpenedTo}
 use Rattle.nts_asking.specs.Meant.{IsServed, offers_of, IsTold, IsRefuted, CandidatesTell}
 use Rattle.nts_asking.proofs.Evaluating.{Knows-goes, offers-kept}
 use Rattle.nts_asking.proofs.Running.{term_table}
-use Rattle.nts_asking.specs.Telling.{IsPlainResponse, StandsForAll, Outcomes}
-use Rattle.nts_asking.specs.Telling.Tells.{tells_nothing, tells_one}
-use Rattle.nts_asking.specs.Telling.Refutes.{all_fail}
+use Rattle.nts_asking.specs.Telling.{StandsForAll, Outcomes}
+use Rattle.nts_theory.specs.Telling.{IsPlainResponse, Verdict, IsReady}
+use Rattle.nts_theory.specs.Telling.Tells.{tells_nothing, tells_one}
+use Rattle.nts_theory.specs.Telling.Refutes.{all_fail}
+use Rattle.nts_asking.specs.Answering.{is_yes, verdict_at}
+use Rattle.nts_model.specs.Canonical.Inputs.{PositionKind}
+use Rattle.nts_model.specs.Answers.Applying.{IsProperContent}
+use Rattle.nts_table.proofs.TermTables.{proper_content}
+use Rattle.nts_theory.proofs.Refutation.QueryLabels.{opened_goal_passes}
 
 -- what holds, holds of what went well
 pub on_ok : {A E P : Type 0} (r : Result A E) → P → OnOk r P
 on_ok (Ok x) p = p
 on_ok (Err e) p = tt
-
--- in a tree of queries that is less than n + 1 high
-next : (n : ℕ) → n + 1 ≡ suc n
-next n = omega arith
-
--- the labels of an opened goal are those of the goal, and placeholders of a universe above the root
-placeholder_passes : (P : Label → Bool) → PassesQueries P → (u : ℕ) (s : Sort) (n : ℕ) → P (label.Leaf (placeholder_in (u + 1) s n)) ≡ true
-placeholder_passes P q u s n = subst (λ v. P (label.Leaf (placeholder_in v s n)) ≡ true) (sym (next u)) (by_sort s)
-  where
-    by_sort : (s : Sort) → P (label.Leaf (placeholder_in (suc u) s n)) ≡ true
-    by_sort sort.Ty = q _ tt
-    by_sort sort.Const = q _ tt
-    by_sort sort.Region = q _ tt
-
-passes_if : (P : Label → Bool) (b : Bool) (s t : Tree) → TreePasses P s → TreePasses P t → TreePasses P (if b then s else t)
-passes_if P true s t h k = h
-passes_if P false s t h k = k
-
-opened_label_passes : (P : Label → Bool) → PassesQueries P → (u c : ℕ) (l : Label) (t : Tree) → P l ≡ true → TreePasses P t → TreePasses P (opened_at (placeholder_in (u + 1)) c l t)
-opened_label_passes P q u c (label.Bound s (index.Bound d) n) t h k =
-    passes_if P (d == c) (node (label.Leaf (placeholder_in (u + 1) s n)) empty) (node (label.Bound s (index.Bound d) n) t) (placeholder_passes P q u s n, tt) (h, k)
-opened_label_passes P q u c (label.Bound s index.Canonical n) t h k = (h, k)
-opened_label_passes P q u c (label.Leaf x) t h k = (h, k)
-opened_label_passes P q u c (label.Ty x) t h k = (h, k)
-opened_label_passes P q u c (label.Const x) t h k = (h, k)
-opened_label_passes P q u c (label.Clause x) t h k = (h, k)
-opened_label_passes P q u c (label.Predicate x) t h k = (h, k)
-opened_label_passes P q u c (label.List x) t h k = (h, k)
-
-opened_passes : (P : Label → Bool) → PassesQueries P → (u c : ℕ) (t : Tree) → TreePasses P t → TreePasses P (opened (placeholder_in (u + 1)) c t)
-opened_passes P q u c empty h = tt
-opened_passes P q u c (more a b) h = (opened_passes P q u c a h.0, opened_passes P q u c b h.1)
-opened_passes P q u c (node l t) h = opened_label_passes P q u c l (opened (placeholder_in (u + 1)) (c + binders l) t) h.0 (opened_passes P q u (c + binders l) t h.1)
-
-pub opened_goal_passes : (P : Label → Bool) → PassesQueries P → (c : Content) (g : Tree) → TreePasses P g → TreePasses P (opened_in c g)
-opened_goal_passes P q c (node (label.List list.Binder) (more (node (label.List list.Sorts) (more s ss)) (more t empty))) h =
-    (q _ tt, ((q _ tt, tt), (opened_passes P q c.universe 0 t h.1.1.0, tt)))
-opened_goal_passes P q c g h = h
 
 -- a goal that is asked once it is opened is closed
 asked_closed : (e g : Tree) → handlers.IsAsked e g → IsClosed g
@@ -116,12 +78,13 @@ goal_closed c e g h asked = by_test (binds g) refl
         asked_closed e g (subst (handlers.IsAsked e) same asked)
 
 -- what the candidates tell, in terms of what is offered for the goal
-pub told_offered : {b d : List Tree} (h : Handler) (mode : TypingMode) (u : Table) (o : Goal) (qs : List GenericArg) (xs : List CandidateData) (e : List Tree) (r : Canonical Response) → Extends b d → IsTable b u → HoldsGoal b o → trees_of d qs ≡ trees_of b qs → LeavesOut (offers_of h (mode_of mode) d o) (candidates_of d xs) → CandidatesTell h mode d u qs xs e r
-    → ((rs : List Answer) × Outcomes h (mode_of mode) (content_of b u.entries) (trees_of b qs) (offers_of h (mode_of mode) b o) rs × StandsForAll rs (response_at e r)) ⊎ IsPlainResponse (content_of b u.entries) (trees_of b qs) (response_at e r)
+pub told_offered : {b d : List Tree} (h : Handler) (mode : TypingMode) (u : Table) (o : Goal) (qs : List GenericArg) (xs : List CandidateData) (e : List Tree) (r : Canonical Response) → Extends b d → IsTable b u → HoldsGoal b o → trees_of d qs ≡ trees_of b qs → LeavesOut (offers_of h (mode_of mode) d o) (candidates_of d xs) → CandidatesTell h mode d u o qs xs e r
+    → ((vs : List Verdict) × Outcomes h (mode_of mode) (content_of b u.entries) (tree_at b o.param_env.node) (tree_at b o.predicate.node) (trees_of b qs) (offers_of h (mode_of mode) b o) vs × ((ks : List PositionKind) → StandsForAll ks vs (verdict_at e r)))
+    ⊎ (is_yes r.value.certainty ≡ false) × IsPlainResponse (content_of b u.entries) (trees_of b qs) (response_at e r)
 told_offered {b} {d} h mode u o qs xs e r up w holds trees those (inl (rs, x, y)) =
-    inl (rs, rw (content_of-extended up w.now, trees, offers-kept h (mode_of mode) up holds) at (all_outcomes those (candidates_of d xs) rs refl x), y)
-told_offered {b} {d} h mode u o qs xs e r up w holds trees those (inr x) =
-    inr (subst (λ z. IsPlainResponse z (trees_of b qs) (response_at e r)) (content_of-extended up w.now) (subst (λ z. IsPlainResponse (content_of d u.entries) z (response_at e r)) trees x))
+    inl (rs, rw (content_of-extended up w.now, trees, offers-kept h (mode_of mode) up holds, up.kept o.param_env.node holds.env.within, up.kept o.predicate.node holds.predicate.within) at (all_outcomes those (candidates_of d xs) rs refl x), y)
+told_offered {b} {d} h mode u o qs xs e r up w holds trees those (inr (n, x)) =
+    inr (n, subst (λ z. IsPlainResponse z (trees_of b qs) (response_at e r)) (content_of-extended up w.now) (subst (λ z. IsPlainResponse (content_of d u.entries) z (response_at e r)) trees x))
 
 -- a goal of the store a and the table t, that is the goal o of the store b in the table u once it is opened
 module _ {a b : List Tree} {t u : Table} {g o : Goal} (posed : IsPosed a t g) (opens : IsOpenedTo a b t u g o) (up : Extends a b) where
@@ -134,31 +97,45 @@ module _ {a b : List Tree} {t u : Table} {g o : Goal} (posed : IsPosed a t g) (o
   environment_same : tree_at b o.param_env.node ≡ tree_at a g.param_env.node
   environment_same = ap (λ (z : ParamEnv). tree_at b z.node) opens.environment ∙ up.kept g.param_env.node posed.holds.env.within
 
-  opened_outcomes : (h : Handler) (mode : TypingMode) (qs : List Tree) (rs : List Answer) → Outcomes h (mode_of mode) there qs (offers_of h (mode_of mode) b o) rs
-      → Outcomes h (mode_of mode) (entered_table before (tree_at a g.predicate.node)) qs (h.offers (mode_of mode) (tree_at a g.param_env.node) (opened_in before (tree_at a g.predicate.node))) rs
-  opened_outcomes h mode qs rs x =
+  opened_outcomes : (h : Handler) (mode : TypingMode) (qs : List Tree) (vs : List Verdict) → Outcomes h (mode_of mode) there (tree_at b o.param_env.node) (tree_at b o.predicate.node) qs (offers_of h (mode_of mode) b o) vs
+      → Outcomes h (mode_of mode) (entered_table before (tree_at a g.predicate.node)) (tree_at a g.param_env.node) (opened_in before (tree_at a g.predicate.node)) qs
+      (h.offers (mode_of mode) (tree_at a g.param_env.node) (opened_in before (tree_at a g.predicate.node))) vs
+  opened_outcomes h mode qs vs x =
       let offers = h.offers (mode_of mode) in
-      subst (λ z. Outcomes h (mode_of mode) z qs (offers (tree_at a g.param_env.node) (opened_in before (tree_at a g.predicate.node))) rs) opens.table
-      (subst (λ z. Outcomes h (mode_of mode) there qs (offers (tree_at a g.param_env.node) z) rs) opens.predicate
-      (subst (λ z. Outcomes h (mode_of mode) there qs (offers z (tree_at b o.predicate.node)) rs) environment_same x))
+      let e = tree_at a g.param_env.node in
+      let p = opened_in before (tree_at a g.predicate.node) in
+      subst (λ z. Outcomes h (mode_of mode) z e p qs (offers e p) vs) opens.table
+      (subst (λ z. Outcomes h (mode_of mode) there e z qs (offers e z) vs) opens.predicate (subst (λ z. Outcomes h (mode_of mode) there z (tree_at b o.predicate.node) qs (offers z (tree_at b o.predicate.node)) vs) environment_same x))
+
+  -- the goal, opened, is known to the table, and may be asked
+  ready_opened : IsPosed b u o → IsAskedIn b o → IsReady before (tree_at a g.param_env.node) (tree_at a g.predicate.node)
+  ready_opened p asked =
+      let k = p.knows in
+      let w = p.table in
+      let same = environment_same in
+      record {
+        asked = subst (λ z. handlers.IsAsked (tree_at a g.param_env.node) z) opens.predicate (subst (λ z. handlers.IsAsked z (tree_at b o.predicate.node)) environment_same asked.asked);
+        knows = subst (λ z. Knows z (pair (tree_at a g.param_env.node) (opened_in before (tree_at a g.predicate.node)))) opens.table
+            (subst (λ z. Knows there (pair (tree_at a g.param_env.node) z)) opens.predicate (subst (λ z. Knows there (pair z (tree_at b o.predicate.node))) same (k.env, (k.predicate, tt))));
+        proper = subst IsProperContent opens.table (proper_content w);
+      }
 
   -- what its candidates are answered the goal is answered
-  asked_opened : IsAskedIn b o → handlers.IsAsked (tree_at a g.param_env.node) (opened_in before (tree_at a g.predicate.node))
-  asked_opened asked = subst (λ z. handlers.IsAsked (tree_at a g.param_env.node) z) opens.predicate (subst (λ z. handlers.IsAsked z (tree_at b o.predicate.node)) environment_same asked.asked)
+  pub told_through : IsPosed b u o → IsAskedIn b o → (h : Handler) (mode : TypingMode) (qs : List GenericArg) (e : List Tree) (r : Canonical Response) → trees_of b qs ≡ trees_of a qs
+      → ((vs : List Verdict) × Outcomes h (mode_of mode) there (tree_at b o.param_env.node) (tree_at b o.predicate.node) (trees_of b qs) (offers_of h (mode_of mode) b o) vs × ((ks : List PositionKind) → StandsForAll ks vs (verdict_at e r)))
+      ⊎ (is_yes r.value.certainty ≡ false) × IsPlainResponse there (trees_of b qs) (response_at e r) → IsTold h mode a t g qs e r
+  told_through p ask h mode qs e r same (inl (vs, x, y)) ks =
+      let there_told : Outcomes h (mode_of mode) there (tree_at b o.param_env.node) (tree_at b o.predicate.node) (trees_of a qs) (offers_of h (mode_of mode) b o) vs =
+      subst (λ z. Outcomes h (mode_of mode) there (tree_at b o.param_env.node) (tree_at b o.predicate.node) z (offers_of h (mode_of mode) b o) vs) same x in
+      tells_one vs (ready_opened p ask) (opened_outcomes h mode (trees_of a qs) vs there_told) (y ks)
+  told_through p ask h mode qs e r same (inr (n, x)) ks = tells_nothing there (inr opens.table) n (subst (λ z. IsPlainResponse there z (response_at e r)) same x)
 
-  pub told_through : IsAskedIn b o → (h : Handler) (mode : TypingMode) (qs : List GenericArg) (e : List Tree) (r : Canonical Response) → trees_of b qs ≡ trees_of a qs
-      → ((rs : List Answer) × Outcomes h (mode_of mode) there (trees_of b qs) (offers_of h (mode_of mode) b o) rs × StandsForAll rs (response_at e r)) ⊎ IsPlainResponse there (trees_of b qs) (response_at e r) → IsTold h mode a t g qs e r
-  told_through ask h mode qs e r same (inl (rs, x, y)) =
-      let there_told : Outcomes h (mode_of mode) there (trees_of a qs) (offers_of h (mode_of mode) b o) rs = subst (λ z. Outcomes h (mode_of mode) there z (offers_of h (mode_of mode) b o) rs) same x in
-      tells_one rs (asked_opened ask) (opened_outcomes h mode (trees_of a qs) rs there_told) y
-  told_through ask h mode qs e r same (inr x) = tells_nothing there (inr opens.table) (subst (λ z. IsPlainResponse there z (response_at e r)) same x)
-
-  pub refuted_through : IsAskedIn b o → (h : Handler) (mode : TypingMode) (qs : List Tree) → Outcomes h (mode_of mode) there qs (offers_of h (mode_of mode) b o) [] → IsRefuted h mode a t g
-  refuted_through ask h mode qs x = all_fail qs (asked_opened ask) (opened_outcomes h mode qs [] x)
+  pub refuted_through : IsPosed b u o → IsAskedIn b o → (h : Handler) (mode : TypingMode) (qs : List GenericArg) → Outcomes h (mode_of mode) there (tree_at b o.param_env.node) (tree_at b o.predicate.node) (trees_of a qs) (offers_of h (mode_of mode) b o) [] → IsRefuted h mode a t g qs
+  refuted_through p ask h mode qs x = all_fail (ready_opened p ask) (opened_outcomes h mode (trees_of a qs) [] x)
 
   -- .. of which nothing is told there
-  pub nothing_through : (h : Handler) (mode : TypingMode) (qs : List GenericArg) (e : List Tree) (r : Canonical Response) → trees_of b qs ≡ trees_of a qs → IsPlainResponse there (trees_of b qs) (response_at e r) → IsTold h mode a t g qs e r
-  nothing_through h mode qs e r same x = tells_nothing there (inr opens.table) (subst (λ z. IsPlainResponse there z (response_at e r)) same x)
+  pub nothing_through : (h : Handler) (mode : TypingMode) (qs : List GenericArg) (e : List Tree) (r : Canonical Response) → trees_of b qs ≡ trees_of a qs → is_yes r.value.certainty ≡ false → IsPlainResponse there (trees_of b qs) (response_at e r) → IsTold h mode a t g qs e r
+  nothing_through h mode qs e r same n x ks = tells_nothing there (inr opens.table) n (subst (λ z. IsPlainResponse there z (response_at e r)) same x)
 
   -- what answering the opened goal brings
   passes_entered : (P : Label → Bool) → TablePasses P before → TablePasses P there

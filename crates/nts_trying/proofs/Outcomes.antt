@@ -9,7 +9,7 @@ use Rattle.nts_certainty.specs.declared.certainty.Certainty.TheVariants as certa
 use Rattle.nts_store.specs.declared.fault.EvalError.{EvalError}
 use Rattle.nts_store.specs.declared.fault.EvalError.TheVariants as error
 use Rattle.nts_store.specs.Formed.{AreFormed}
-use Rattle.nts_store.specs.Growth.{Extends}
+use Rattle.nts_store.specs.Growth.{Extends, tree_at}
 use Rattle.nts_terms.specs.declared.handles.GenericArg.{GenericArg}
 use Rattle.nts_terms.specs.declared.handles.Goal.{Goal}
 use Rattle.nts_terms.specs.declared.modes.TypingMode.{TypingMode}
@@ -27,18 +27,19 @@ use Rattle.nts_canonical.specs.Building.{IsArgOf}
 use Rattle.nts_response.specs.declared.types.Response.{Response}
 use Rattle.nts_response.specs.Forms.{response_at}
 use Rattle.std.specs.Global.{Box}
-use Rattle.nts_asking.specs.Answering.{IfAnswered}
+use Rattle.nts_asking.specs.Answering.{IfAnswered, verdict_at}
 use Rattle.nts_trying.specs.Found.{Found, IsMerged, kept_after}
-use Rattle.nts_asking.specs.Telling.{IsPlainResponse, Outcomes, Replies, Fails, StandsForAll}
-use Rattle.nts_asking.specs.Telling.Outcomes.{no_outcome, then_fails, then_replies}
+use Rattle.nts_asking.specs.Telling.{Outcomes, Replies, Fails, StandsForAll}
+use Rattle.nts_theory.specs.Telling.{IsPlainResponse}
+use Rattle.nts_theory.specs.Telling.Outcomes.{no_outcome, then_fails, then_replies}
 use Rattle.nts_asking.specs.Meant.{HaveOutcomes, CandidatesTell, RepliesWith, FailsIn}
 use Rattle.nts_asking.proofs.AskedGoals.{trees_kept}
 use Rattle.nts_asking.proofs.Evaluating.{Goes-trans, Goes-extends}
 use Rattle.nts_trying.proofs.Labels.{only_back}
 use Rattle.nts_asking.proofs.Running.{candidate-kept}
 use Rattle.nts_trying.proofs.Probed.{found_later, found_with, found_still}
-use Rattle.nts_trying.proofs.MergedResponses.{doubt_unsure, told_unsure, merged_stands, merged_among}
-use Rattle.nts_search.proofs.StackLater.{response_same}
+use Rattle.nts_trying.proofs.MergedResponses.{doubt_unsure, told_unsure, merged_stands, merged_among, unsure_yes}
+use Rattle.nts_asking.proofs.Told.{verdict_same}
 
 -- what was found for a goal in a store that has grown, seen from the smaller store
 pub found_earlier : {P Q : List Tree → Table → Type 0} {a b e : List Tree} {t : Table} {g : Goal} {qs : List GenericArg} (r : Canonical Response) → Extends a b → IsTable a t → HoldsGoal a g → All (IsArgOf a t.entries) qs → ((c : List Tree) (u : Table) → P c u → Q c u) → Found P b e t g qs r → Found Q a e t g qs r
@@ -57,11 +58,11 @@ found_earlier {P} {Q} {a} {b} {e} {t} {g} {qs} r up w holds args p f =
     }
 
 -- the responses in a store that has grown
-responses_same : {P : List Tree → Table → Type 0} {a b e : List Tree} {t : Table} {g : Goal} {qs : List GenericArg} (rs : List (Canonical Response)) → Extends b e → All (Found P a b t g qs) rs → map (response_at e) rs ≡ map (response_at b) rs
+responses_same : {P : List Tree → Table → Type 0} {a b e : List Tree} {t : Table} {g : Goal} {qs : List GenericArg} (rs : List (Canonical Response)) → Extends b e → All (Found P a b t g qs) rs → map (verdict_at e) rs ≡ map (verdict_at b) rs
 responses_same [] k h = refl
 responses_same {P} {a} {b} {e} {t} {g} {qs} (r ∷ rs) k h =
     let one = All-head (Found P a b t g qs) r rs h in
-    let first = response_same b e r k one.holds in
+    let first = verdict_same b e r k one.holds in
     let rest = responses_same rs k (All-tail (Found P a b t g qs) r rs h) in
     λ i. first i ∷ rest i
 
@@ -80,8 +81,8 @@ failed_of (Ok x) h f = tt
 failed_of (Err z) h f = f h
 
 -- no candidate was asked yet
-pub outcomes_first : (a b : List Tree) (t : Table) (h : Handler) (mode : TypingMode) (qs : List GenericArg) (xs : List CandidateData) (rs : List (Canonical Response)) → rs ≡ [] → HaveOutcomes h mode a t qs (take 0 xs) (map (response_at b) rs)
-outcomes_first a b t h mode qs xs rs q = subst (λ z. HaveOutcomes h mode a t qs [] (map (response_at b) z)) (sym q) no_outcome
+pub outcomes_first : (a b : List Tree) (t : Table) (g : Goal) (h : Handler) (mode : TypingMode) (qs : List GenericArg) (xs : List CandidateData) (rs : List (Canonical Response)) → rs ≡ [] → HaveOutcomes h mode a t g qs (take 0 xs) (map (verdict_at b) rs)
+outcomes_first a b t g h mode qs xs rs q = subst (λ z. HaveOutcomes h mode a t g qs [] (map (verdict_at b) z)) (sym q) no_outcome
 
 -- a candidate in a store that has grown
 candidates_next : (ts : List Tree) (xs : List CandidateData) (i : ℕ) (d : CandidateData) → i < length xs → candidates_of ts (take (i + 1) xs) ≡ candidates_of ts (take i xs) ++ candidate_of ts (get_or xs i d) ∷ []
@@ -89,22 +90,24 @@ candidates_next ts xs i d l = ap (map (candidate_of ts)) (take_more xs i d l) �
 
 pub outcomes_more : {P : List Tree → Table → Type 0} {a b e : List Tree} {t : Table} {g : Goal} {qs : List GenericArg} (h : Handler) (mode : TypingMode) (xs : List CandidateData) (i : ℕ) (d x : CandidateData) (rs new : List (Canonical Response)) (y : Result (Box (Canonical Response)) EvalError)
     → i < length xs → x ≡ get_or xs i d → Extends a b → Extends b e → IsTable a t → All (IsArgOf a t.entries) qs → IsCandidate a g (get_or xs i d) → All (Found P a b t g qs) rs → new ≡ kept_after rs y
-    → IfAnswered y (RepliesWith h mode b t qs x e) → OnErr y (FailsIn h mode b t x) → HaveOutcomes h mode a t qs (take i xs) (map (response_at b) rs) → HaveOutcomes h mode a t qs (take (i + 1) xs) (map (response_at e) new)
-outcomes_more {P} {a} {b} {e} {t} {g} {qs} h mode xs i d x rs new y l is ab be w args candidate found q told failed before =
+    → HoldsGoal a g → IfAnswered y (RepliesWith h mode b t g qs x e) → OnErr y (FailsIn h mode b t x) → HaveOutcomes h mode a t g qs (take i xs) (map (verdict_at b) rs) → HaveOutcomes h mode a t g qs (take (i + 1) xs) (map (verdict_at e) new)
+outcomes_more {P} {a} {b} {e} {t} {g} {qs} h mode xs i d x rs new y l is ab be w args candidate found q held told failed before =
+    let environment = ab.kept g.param_env.node held.env.within in
+    let predicate = ab.kept g.predicate.node held.predicate.within in
     let c = content_of a t.entries in
     let now = content_of-extended ab w.now in
     let trees = trees_kept a b t.entries qs ab args in
     let kept = candidate-kept {a = a} {b = b} {g = g} {d = get_or xs i d} ab candidate in
     let there : candidate_of b x ≡ candidate_of a (get_or xs i d) = ap (candidate_of b) is ∙ kept in
-    let earlier : Outcomes h (mode_of mode) c (trees_of a qs) (candidates_of a (take i xs)) (map (response_at e) rs) = rw (responses_same rs be found) before in
-    by_answer y q told failed earlier now trees there
+    let earlier : Outcomes h (mode_of mode) c (tree_at a g.param_env.node) (tree_at a g.predicate.node) (trees_of a qs) (candidates_of a (take i xs)) (map (verdict_at e) rs) = rw (responses_same rs be found) before in
+    by_answer y q told failed earlier now trees there environment predicate
   where
-    by_answer : (y : Result (Box (Canonical Response)) EvalError) → new ≡ kept_after rs y → IfAnswered y (RepliesWith h mode b t qs x e) → OnErr y (FailsIn h mode b t x) → Outcomes h (mode_of mode) (content_of a t.entries) (trees_of a qs) (candidates_of a (take i xs)) (map (response_at e) rs)
-        → content_of b t.entries ≡ content_of a t.entries → trees_of b qs ≡ trees_of a qs → candidate_of b x ≡ candidate_of a (get_or xs i d) → HaveOutcomes h mode a t qs (take (i + 1) xs) (map (response_at e) new)
-    by_answer (Ok r) q told failed earlier now trees there =
-        let one : Replies h (mode_of mode) (content_of a t.entries) (trees_of a qs) (candidate_of a (get_or xs i d)) (response_at e r.value) = rw (now, trees, there) at told in
-        rw (candidates_next a xs i d l, q, map-append (response_at e) rs (r.value ∷ [])) (then_replies earlier one)
-    by_answer (Err z) q told failed earlier now trees there =
+    by_answer : (y : Result (Box (Canonical Response)) EvalError) → new ≡ kept_after rs y → IfAnswered y (RepliesWith h mode b t g qs x e) → OnErr y (FailsIn h mode b t x) → Outcomes h (mode_of mode) (content_of a t.entries) (tree_at a g.param_env.node) (tree_at a g.predicate.node) (trees_of a qs) (candidates_of a (take i xs)) (map (verdict_at e) rs)
+        → content_of b t.entries ≡ content_of a t.entries → trees_of b qs ≡ trees_of a qs → candidate_of b x ≡ candidate_of a (get_or xs i d) → tree_at b g.param_env.node ≡ tree_at a g.param_env.node → tree_at b g.predicate.node ≡ tree_at a g.predicate.node → HaveOutcomes h mode a t g qs (take (i + 1) xs) (map (verdict_at e) new)
+    by_answer (Ok r) q told failed earlier now trees there environment predicate =
+        let one : Replies h (mode_of mode) (content_of a t.entries) (tree_at a g.param_env.node) (tree_at a g.predicate.node) (trees_of a qs) (candidate_of a (get_or xs i d)) (verdict_at e r.value) = rw (now, trees, there, environment, predicate) at told in
+        rw (candidates_next a xs i d l, q, map-append (verdict_at e) rs (r.value ∷ [])) (then_replies earlier one)
+    by_answer (Err z) q told failed earlier now trees there environment predicate =
         let one : Fails h (mode_of mode) (content_of a t.entries) (candidate_of a (get_or xs i d)) = rw (now, there) at failed in
         rw (candidates_next a xs i d l, q) (then_fails earlier one)
 
@@ -118,10 +121,13 @@ found_merged {P} {a} {b} {e} {t} {g} {qs} rs r ab be formed w args found (inr (n
     found_still r r.value.certainty w ab formed be args refl unsure (rw (told_unsure r.value.certainty (content_of b t.entries) unsure) plain) holds no_more
 
 pub told_merged : {P : List Tree → Table → Type 0} {a b e : List Tree} {t : Table} {g : Goal} {qs : List GenericArg} (h : Handler) (mode : TypingMode) (xs : List CandidateData) (rs : List (Canonical Response)) (r : Canonical Response) → Extends a b → Extends b e → IsTable a t → All (IsArgOf a t.entries) qs → All (Found P a b t g qs) rs
-    → HaveOutcomes h mode a t qs xs (map (response_at b) rs) → IsMerged b e t qs rs r → CandidatesTell h mode a t qs xs e r
+    → HaveOutcomes h mode a t g qs xs (map (verdict_at b) rs) → IsMerged b e t qs rs r → CandidatesTell h mode a t g qs xs e r
 told_merged {P} {a} {b} {e} {t} {g} {qs} h mode xs rs r ab be w args found outcomes (inl (m, merges)) =
     let (i, l, is) = merged_among b rs r m merges in
     let one : Found P a b t g qs r = subst (Found P a b t g qs) is (found i r l) in
-    inl (map (response_at b) rs, outcomes, subst (StandsForAll (map (response_at b) rs)) (sym (response_same b e r be one.holds)) (merged_stands b rs r m merges))
+    inl (map (verdict_at b) rs, outcomes, λ ks. subst (StandsForAll ks (map (verdict_at b) rs)) (sym (verdict_same b e r be one.holds)) (merged_stands b rs r m merges ks))
 told_merged {P} {a} {b} {e} {t} {g} {qs} h mode xs rs r ab be w args found outcomes (inr (none, doubt, plain, holds, no_more)) =
-    inr (subst (λ z. IsPlainResponse z (trees_of a qs) (response_at e r)) (content_of-extended ab w.now) (subst (λ z. IsPlainResponse (content_of b t.entries) z (response_at e r)) (trees_kept a b t.entries qs ab args) plain))
+    inr (
+      unsure_yes r.value.certainty (λ y. doubt_unsure (map (λ c. c.value.certainty) rs) (sym doubt ∙ y)),
+      subst (λ z. IsPlainResponse z (trees_of a qs) (response_at e r)) (content_of-extended ab w.now) (subst (λ z. IsPlainResponse (content_of b t.entries) z (response_at e r)) (trees_kept a b t.entries qs ab args) plain),
+    )

@@ -1,5 +1,5 @@
 -- What was found in a table that is gone, seen from the table that asked.
-use Rattle.std.proofs.Common.{◌≡◌, ◌⊎◌, inl, inr, true, false, List, [], ◌∷◌, ◌++◌, map, refl, sym, ap, ◌∙◌, subst}
+use Rattle.std.proofs.Common.{◌≡◌, ◌⊎◌, inl, inr, true, false, List, [], ◌∷◌, ◌++◌, refl, sym, ap, ◌∙◌, subst}
 use Rattle.std.specs.Prelude.{All}
 use Rattle.nts_model.specs.Derivations.Proofs.{Assumed}
 use Rattle.nts_model.specs.Searching.Stacks.{IsProvedFrom, IsDerivedFrom}
@@ -17,40 +17,42 @@ use Rattle.nts_store.specs.Growth.{tree_at, Extends}
 use Rattle.nts_store.proofs.Growing.{Extends-trans}
 use Rattle.nts_terms.specs.declared.handles.GenericArg.{GenericArg}
 use Rattle.nts_terms.specs.declared.handles.Goal.{Goal}
-use Rattle.nts_terms.specs.Handles.{HoldsArg, HoldsGoal}
+use Rattle.nts_terms.specs.Handles.{HoldsGoal}
 use Rattle.nts_unify.specs.Reading.{content_of}
 use Rattle.nts_unify.specs.Lawful.{content_of-extended}
 use Rattle.nts_table.specs.Tables.{Table, IsTable}
-use Rattle.nts_delegate.specs.Offered.{hidden_of, candidate_of}
+use Rattle.nts_delegate.specs.Offered.{candidate_of}
 use Rattle.nts_canonical.specs.declared.types.Canonical.{Canonical}
 use Rattle.nts_canonical.specs.declared.types.CanonicalInput.{CanonicalInput}
-use Rattle.nts_canonical.specs.Forms.{form_of, kind_of_var, trees_of, IsHidden}
+use Rattle.nts_canonical.specs.Forms.{form_of, trees_of}
 use Rattle.nts_canonical.specs.Kinds.{AreInputKinds}
 use Rattle.nts_canonical.specs.Building.{IsArgOf}
 use Rattle.nts_response.specs.declared.types.Response.{Response}
-use Rattle.nts_response.specs.Forms.{response_at, recorded_at, premise_at, HoldsResponse, StoreHoldsConstraint, HoldsOpen}
-use Rattle.nts_response.specs.Replacing.{argument_value}
+use Rattle.nts_response.specs.Forms.{response_at, HoldsResponse}
 use Rattle.nts_response.proofs.ApplySteps.{response_kept}
-use Rattle.nts_response.proofs.Each.{same_views, values_kept, constraints_kept, hidden_kept, goals_kept}
 use Rattle.nts_model.proofs.Tables.Bringing.{only-refl}
-use Rattle.nts_asking.specs.Asking.{IsResponseOf, first_table, first_values, asked_environment, asked_predicate}
+use Rattle.nts_asking.specs.Asking.{first_table, first_values, asked_environment, asked_predicate}
+use Rattle.nts_theory.specs.Telling.{IsResponseOf, Verdict, SaysOf, IsFound}
 use Rattle.nts_model.specs.Derivations.Handlers.{Handler}
 use Rattle.nts_terms.specs.declared.modes.TypingMode.{TypingMode}
 use Rattle.nts_terms.specs.Modes.{mode_of}
 use Rattle.nts_delegate.specs.declared.delegate.CandidateData.{CandidateData}
-use Rattle.nts_asking.specs.Telling.{IsPlainResponse, Replies}
-use Rattle.nts_asking.specs.Telling.Replies.{replies}
+use Rattle.nts_asking.specs.Telling.{Replies}
+use Rattle.nts_theory.specs.Telling.{IsPlainResponse}
+use Rattle.nts_theory.specs.Telling.Replies.{replies}
 use Rattle.nts_asking.specs.Meant.{HasRunTo}
 use Rattle.nts_trying.specs.Found.{Found}
-use Rattle.nts_asking.specs.Answering.{is_kept, told_in, IsAnswerTo, TellsNoMore}
+use Rattle.nts_asking.specs.Answering.{is_kept, told_in, IsAnswerTo, TellsNoMore, is_yes}
 use Rattle.nts_asking.specs.Evaluation.{Goes, asked_terms}
 use Rattle.nts_asking.proofs.AnsweredQueries.{args_later, args_know, query_passes, query_table, query_says}
 use Rattle.nts_asking.proofs.AskedGoals.{trees_kept}
 use Rattle.nts_asking.proofs.Evaluating.{Goes-extends, committed}
 use Rattle.nts_asking.proofs.Fitting.{answer_to}
-use Rattle.nts_trying.proofs.MergedResponses.{told_unsure}
-use Rattle.nts_asking.proofs.QueryTables.{is_label_in, first_sides, table_in}
+use Rattle.nts_trying.proofs.MergedResponses.{told_unsure, unsure_yes}
+use Rattle.nts_asking.proofs.QueryTables.{first_sides}
+use Rattle.nts_theory.proofs.Refutation.QueryLabels.{is_label_in, table_in}
 use Rattle.nts_search.proofs.StackLater.{response_same}
+use Rattle.nts_asking.proofs.Running.{term_table}
 
 -- what was found stays found
 pub found_later : {P : List Tree → Table → Type 0} {a b e : List Tree} {t : Table} {g : Goal} {qs : List GenericArg} (r : Canonical Response) → Extends b e → Found P a b t g qs r → Found P a e t g qs r
@@ -128,19 +130,23 @@ doubtful m e = cc
 pub not_kept : {x : Certainty} → is_kept x ≡ false → x ≡ certainty.Yes → ⊥
 not_kept {x} e y = (let z : true ≡ false = sym (ap is_kept y) ∙ e in cc)
 
-pub told_or_plain : (x : Certainty) (c : Content) (qs : List Tree) (r : Answer) → IsResponseOf (told_in x c) qs r → IsResponseOf c qs r ⊎ IsPlainResponse c qs r
-told_or_plain certainty.Yes c qs r h = inl h
-told_or_plain (certainty.Maybe i) c qs r h = inr h
+-- what a reply says: all of the table where it is certain; or, in doubt, what was known before
+pub says_found : (x : Certainty) (b c : Content) (qs : List Tree) (v : Verdict) → v.is_yes ≡ is_yes x → IsResponseOf (told_in x c) qs v.response → SaysOf b c qs v
+says_found certainty.Yes b c qs v e h = inl (e, h)
+says_found (certainty.Maybe i) b c qs v e h = inr (e, inl h)
 
-pub said_of : {A B C : Type 0} → A ⊎ B → A ⊎ B ⊎ C
-said_of (inl x) = inl x
-said_of (inr x) = inr (inl x)
+pub says_before : (x : Certainty) (b c : Content) (qs : List Tree) (v : Verdict) → v.is_yes ≡ is_yes x → (x ≡ certainty.Yes → ⊥) → IsPlainResponse b qs v.response → SaysOf b c qs v
+says_before x b c qs v e n h = inr (e ∙ unsure_yes x n, inr h)
 
 -- a candidate that was run in a snapshot of the table t has this response
-pub run_replies : {a b : List Tree} (s t u : Table) (h : Handler) (mode : TypingMode) (x : CandidateData) (qs : List Tree) (r : Answer) → HasRunTo h s.mode a s b u x → s.mode ≡ mode → s.entries ≡ t.entries
-    → IsResponseOf (content_of b u.entries) qs r ⊎ IsPlainResponse (content_of b u.entries) qs r ⊎ IsPlainResponse (content_of a s.entries) qs r → Replies h (mode_of mode) (content_of a t.entries) qs (candidate_of a x) r
-run_replies {a} {b} s t u h mode x qs r run moded same says =
-    subst (λ z. Replies h (mode_of mode) (content_of a z) qs (candidate_of a x) r) same (subst (λ z. Replies h (mode_of z) (content_of a s.entries) qs (candidate_of a x) r) moded (replies run.values run.met (content_of b u.entries) run.begun run.reaches says))
+pub run_replies : {a b : List Tree} (s t u : Table) (h : Handler) (mode : TypingMode) (x : CandidateData) (g : Goal) (qs : List Tree) (v : Verdict) → HasRunTo h s.mode a s b u x → s.mode ≡ mode → s.entries ≡ t.entries → AreFormed b → IsTable b u
+    → BringsOnly (asked_terms a g) (content_of a s.entries) (content_of b u.entries) → SaysOf (content_of a s.entries) (content_of b u.entries) qs v → Replies h (mode_of mode) (content_of a t.entries) (tree_at a g.param_env.node) (tree_at a g.predicate.node) qs (candidate_of a x) v
+run_replies {a} {b} s t u h mode x g qs v run moded same formed table labels says =
+    let e = tree_at a g.param_env.node in
+    let p = tree_at a g.predicate.node in
+    let found : IsFound (content_of a s.entries) e p (content_of b u.entries) = record { table = term_table formed table; labels = labels } in
+    subst (λ z. Replies h (mode_of mode) (content_of a z) e p qs (candidate_of a x) v) same
+    (subst (λ z. Replies h (mode_of z) (content_of a s.entries) e p qs (candidate_of a x) v) moded (replies run.values run.met (content_of b u.entries) run.begun run.reaches found says))
 
 -- what was found in the table of a query, which was made for an input of these kinds
 module _ {P : List Tree → Table → Type 0} (a b e : List Tree) (q : Table) (g : Goal) (ks : List PositionKind) (input : CanonicalInput) (vs : List GenericArg) (r : Canonical Response) (found : Found P b e q g vs r)

@@ -33,8 +33,8 @@ use Rattle.nts_delegate.specs.Candidates.{AreNested}
 use Rattle.nts_delegate.specs.Offered.{constraint_of, premise_of, candidate_of}
 use Rattle.nts_response.specs.Forms.{premise_at}
 use Rattle.nts_trying.specs.Choices.{EquatesCandidate}
-use Rattle.nts_asking.specs.Telling.{FailsToAdd, IsBegun, goals_with}
-use Rattle.nts_asking.specs.Telling.Fails.{breaks_off, is_refused}
+use Rattle.nts_theory.specs.Telling.{FailsToAdd, IsBegun, goals_with}
+use Rattle.nts_theory.specs.Telling.Fails.{breaks_off, is_refused}
 use Rattle.nts_trying.specs.Stepping.{ArePosed, AreSettled, terms_of}
 use Rattle.nts_trying.specs.Adding.{AreAdded}
 use Rattle.nts_asking.specs.Meant.{HasRunTo, FailsIn, ReachesBy, RefusesOneOf}

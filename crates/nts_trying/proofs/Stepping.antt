@@ -14,9 +14,9 @@ use Rattle.nts_search.specs.declared.kinds.CurrentGoalKind.{CurrentGoalKind}
 use Rattle.nts_search.specs.declared.kinds.CurrentGoalKind.TheVariants as kinds
 use Rattle.nts_search.specs.Kinds.{goal_kind_of}
 use Rattle.nts_delegate.specs.Offered.{path_kind_of, source_of}
-use Rattle.nts_asking.specs.Telling.{CanAsk, IsInductive}
-use Rattle.nts_asking.specs.Telling.RefusesOne.{cuts_one}
-use Rattle.nts_asking.specs.Searching.{IsCut}
+use Rattle.nts_theory.specs.Telling.{CanAsk, IsInductive}
+use Rattle.nts_theory.specs.Telling.RefusesOne.{cuts_one}
+use Rattle.nts_asking.specs.Searching.{IsGoalCut}
 use Rattle.nts_asking.specs.Meant.{IsNestedSince}
 use Rattle.nts_asking.proofs.Searching.{stays_more, none_passed}
 use Rattle.nts_model.specs.Terms.Trees.{Tree}
@@ -42,13 +42,17 @@ use Rattle.nts_unify.specs.Lawful.{content_of-extended}
 use Rattle.nts_table.specs.Tables.{Table, IsTable}
 use Rattle.nts_response.specs.Forms.{premise_at}
 use Rattle.nts_asking.specs.Evaluation.{Goes, IsPosed, asked_terms, goals_at}
-use Rattle.nts_trying.specs.Stepping.{ArePosed, terms_of, AreLeft, AreSettled, left_after}
+use Rattle.nts_trying.specs.Stepping.{ArePosed, terms_of, AreLeft, AreSettled, left_after, none_left, is_left, is_done}
 use Rattle.nts_asking.specs.Telling.{Reaches, RefusesOne, Asked, Refused}
-use Rattle.nts_asking.specs.Telling.Reaches.{asks_nothing, then_asks}
-use Rattle.nts_asking.specs.Telling.RefusesOne.{refuses_one}
-use Rattle.nts_asking.specs.Meant.{Since, IsProvedSince, IsProvedFromSince, IsAskedUnder, IsRefusedUnder, ReachesBy, RefusesOneOf}
+use Rattle.nts_theory.specs.Telling.Reaches.{asks_nothing, then_asks}
+use Rattle.nts_theory.specs.Telling.RefusesOne.{refuses_one}
+use Rattle.nts_asking.specs.Meant.{Since, IsProvedSince, IsProvedFromSince, EvaluatesUnder, IsRefusedUnder, ReachesBy, RefusesOneOf}
 use Rattle.nts_asking.proofs.Evaluating.{IsPosed-later, HoldsGoal-extended}
 use Rattle.nts_asking.proofs.Running.{both_sure, Stays-later}
+use Rattle.nts_certainty.specs.declared.sources.HasChanged.{HasChanged}
+use Rattle.nts_asking.proofs.AskedGoals.{was_asked}
+use Rattle.nts_asking.proofs.BackEdges.{last_inductive}
+use Rattle.nts_search.specs.declared.stack.SearchGraph.{SearchGraph}
 
 -- elements of lists
 pub among_get : {X : Type 0} (xs : List X) (i : ℕ) (d : X) → i < length xs → Among xs (get_or xs i d)
@@ -83,9 +87,20 @@ premise_same {a} {b} g e h = cc (e.kept g.1.param_env.node h.env.within, e.kept 
 pub posed_later : {a b : List Tree} {t u : Table} (gs : List (GoalSource × Goal)) → Goes a b t u → ArePosed a t gs → ArePosed b u gs
 posed_later gs s h = λ i d l. IsPosed-later s (h i d l)
 
+-- goals that are left are among those that were there
+pub left_among : {gs left : List (GoalSource × Goal)} → AreLeft gs left → (x : GoalSource × Goal) → Among left x → Among gs x
+left_among none_left x i = i
+left_among (is_left g h) x (inl e) = inl e
+left_among (is_left g h) x (inr i) = inr (left_among h x i)
+left_among (is_done g h) x i = inr (left_among h x i)
+
+pub left_refl : (gs : List (GoalSource × Goal)) → AreLeft gs gs
+left_refl [] = none_left
+left_refl (g ∷ gs) = is_left g (left_refl gs)
+
 -- those that are left are posed
 pub posed_left : {a b : List Tree} {t u : Table} (gs left : List (GoalSource × Goal)) → Goes a b t u → ArePosed a t gs → AreLeft gs left → ArePosed b u left
-posed_left {a} {b} {t} {u} gs left s h k = all_from (λ g. IsPosed b u g.1) left (λ g i. IsPosed-later s (all_among (λ g. IsPosed a t g.1) gs g h (k g i)))
+posed_left {a} {b} {t} {u} gs left s h k = all_from (λ g. IsPosed b u g.1) left (λ g i. IsPosed-later s (all_among (λ g. IsPosed a t g.1) gs g h (left_among k g i)))
 
 -- labels of some of the goals
 only_sub : (xs ys : List Tree) {c d : Content} → ((t : Tree) → Among xs t → Among ys t) → BringsOnly xs c d → BringsOnly ys c d
@@ -119,7 +134,7 @@ only_left {a} {b} {t} gs left e h k o =
     only_sub (terms_of b left) (terms_of a gs)
     (λ x j.
     let r = term_of_some b left x j in
-    let i = k r.0 r.1 in
+    let i = left_among k r.0 r.1 in
     let p = all_among (λ g. IsPosed a t g.1) gs r.0 h i in
     term_among a gs r.0 x i (terms_same r.0.1 x e p.holds r.2)) o
 
@@ -156,15 +171,15 @@ module _ {a b : List Tree} {t : Table} (u : Table) (h : Handler) (mode : TypingM
   can_ask : IsTable b u → CanAsk here
   can_ask w = record { sound = w.now.sound; current = w.now.proper.current }
 
-  pub reach_more : {d : List Tree} (v : Table) → IsTable b u → Extends b d → IsAskedUnder h mode b u d v g.1 ⊎ (v.entries ≡ u.entries) → ReachesBy h mode a t d v gs
+  pub reach_more : {d : List Tree} {sure : Certainty} {changed : HasChanged} (v : Table) → IsTable b u → Extends b d → {D : Type 0} → EvaluatesUnder h mode b u d v g.1 sure changed ⊎ D × (v.entries ≡ u.entries) → ReachesBy h mode a t d v gs
   reach_more {d} v w f (inl x) =
       let p = premise_at a g in
-      then_asks here p before (among_image (premise_at a) gs g i) (can_ask w) (subst (λ (q : Premise). Asked h (mode_of mode) here (content_of d v.entries) (deeply_resolved here q.environment) (deeply_resolved here q.predicate)) same_premise x)
-  reach_more {d} v w f (inr x) = subst (Reaches h (mode_of mode) (goals_at a gs) (content_of a t.entries)) (sym (ap (content_of d) x ∙ content_of-extended f w.now)) before
+      then_asks here p before (among_image (premise_at a) gs g i) (can_ask w) (subst (λ (q : Premise). Asked h (mode_of mode) here (content_of d v.entries) (deeply_resolved here q.environment) (deeply_resolved here q.predicate)) same_premise (was_asked x))
+  reach_more {d} v w f (inr (deep, x)) = subst (Reaches h (mode_of mode) (goals_at a gs) (content_of a t.entries)) (sym (ap (content_of d) x ∙ content_of-extended f w.now)) before
 
-  pub refuse_more : IsTable b u → {z : CurrentGoalKind} {w : PathKind} → path_kind_of w ≡ step_kind (goal_kind_of z) (source_of g.0) → z ≢ kinds.NormalizesTo → IsRefusedUnder h mode b u g.1 ⊎ IsCut mode w → RefusesOneOf h mode a t gs
-  refuse_more table {z} {w} same n (inr x) =
-      cuts_one here (premise_at a g) before (among_image (premise_at a) gs g i) (inductive_source z g.0 n (sym same ∙ ap path_kind_of x.0)) x.1
+  pub refuse_more : IsTable b u → {z : CurrentGoalKind} {w : PathKind} → path_kind_of w ≡ step_kind (goal_kind_of z) (source_of g.0) → z ≢ kinds.NormalizesTo → {us : List Tree} {s : SearchGraph} {c : Content} {x y : Tree} → IsRefusedUnder h mode b u g.1 ⊎ IsGoalCut us s c mode x y w → RefusesOneOf h mode a t gs
+  refuse_more table {z} {w} same n (inr (j, of, c)) =
+      cuts_one here (premise_at a g) before (among_image (premise_at a) gs g i) (inductive_source z g.0 n (sym same ∙ ap path_kind_of (last_inductive w c))) c.elsewhere
   refuse_more table same n (inl x) =
       refuses_one here (premise_at a g) before (among_image (premise_at a) gs g i) (can_ask table) (subst (λ (q : Premise). Refused h (mode_of mode) here (deeply_resolved here q.environment) (deeply_resolved here q.predicate)) same_premise x)
 
@@ -181,7 +196,7 @@ module _ {a b : List Tree} {t : Table} (u : Table) (h : Handler) (mode : TypingM
   goals_left : (p : Premise) → Among (goals_at b left) p → Among (goals_at a gs) p
   goals_left p j =
       let r = among_mapped (premise_at b) left p j in
-      let i = some r.0 r.1 in
+      let i = left_among some r.0 r.1 in
       let q = all_among (λ g. IsPosed a t g.1) gs r.0 posed i in
       subst (Among (goals_at a gs)) (sym (r.2 ∙ premise_same r.0 e q.holds)) (among_image (premise_at a) gs r.0 i)
 
@@ -191,8 +206,11 @@ module _ {a b : List Tree} {t : Table} (u : Table) (h : Handler) (mode : TypingM
   pub refuse_step : RefusesOneOf h mode b u left → RefusesOneOf h mode a t gs
   refuse_step x = refuses_into (goals_at b left) (goals_at a gs) goals_left before x
 
-pub left_trans : (gs left more : List (GoalSource × Goal)) → AreLeft gs left → AreLeft left more → AreLeft gs more
-left_trans gs left more h k = λ g i. h g (k g i)
+pub left_trans : {gs left more : List (GoalSource × Goal)} → AreLeft gs left → AreLeft left more → AreLeft gs more
+left_trans none_left none_left = none_left
+left_trans (is_done g h) k = is_done g (left_trans h k)
+left_trans (is_left g h) (is_left x k) = is_left g (left_trans h k)
+left_trans (is_left g h) (is_done x k) = is_done g (left_trans h k)
 
 settled_trans : (P Q : GoalSource × Goal → Type 0) (gs left more : List (GoalSource × Goal)) → ((g : GoalSource × Goal) → Among gs g → P g → Q g) → AreSettled P gs left → AreSettled Q left more → AreSettled Q gs more
 settled_trans P Q gs left more f h k = λ g i. ⊎_elim (λ j. k g j) (λ p. inr (f g i p)) (h g i)
@@ -206,9 +224,19 @@ left_noted : (left : List (GoalSource × Goal)) (y : GoalSource × Goal) (x : Ce
 left_noted left y certainty.Yes = inr refl
 left_noted left y (certainty.Maybe m) = inl (among_right left (y ∷ []) y (inl refl))
 
-pub left_more : (gs left : List (GoalSource × Goal)) (y : GoalSource × Goal) (x : Certainty) → Among gs y → AreLeft gs left → AreLeft gs (left_after left y x)
-left_more gs left y certainty.Yes i h = h
-left_more gs left y (certainty.Maybe m) i h = λ g j. ⊎_elim (λ k. h g k) (λ k. ⊎_elim (λ e. subst (Among gs) (sym e) i) (λ z. absurd z) k) (among_both left (y ∷ []) g j)
+left_kept : {gs left : List (GoalSource × Goal)} (y : GoalSource × Goal) → AreLeft gs left → AreLeft (gs ++ y ∷ []) (left ++ y ∷ [])
+left_kept y none_left = is_left y none_left
+left_kept y (is_left g h) = is_left g (left_kept y h)
+left_kept y (is_done g h) = is_done g (left_kept y h)
+
+left_dropped : {gs left : List (GoalSource × Goal)} (y : GoalSource × Goal) → AreLeft gs left → AreLeft (gs ++ y ∷ []) left
+left_dropped y none_left = is_done y none_left
+left_dropped y (is_left g h) = is_left g (left_dropped y h)
+left_dropped y (is_done g h) = is_done g (left_dropped y h)
+
+pub left_more : {gs left : List (GoalSource × Goal)} (y : GoalSource × Goal) (x : Certainty) → AreLeft gs left → AreLeft (gs ++ y ∷ []) (left_after left y x)
+left_more y certainty.Yes h = left_dropped y h
+left_more y (certainty.Maybe m) h = left_kept y h
 
 among_taken : {X : Type 0} (xs : List X) (i : ℕ) (x : X) → Among (take i xs) x → Among xs x
 among_taken [] zero x h = absurd h

@@ -18,8 +18,8 @@ use Rattle.nts_response.specs.Forms.{response_at, HoldsResponse}
 use Rattle.nts_merging.specs.declared.merging.MergeCandidateInfo.{MergeCandidateInfo}
 use Rattle.nts_merging.specs.Merging.{Merges, doubt_of}
 use Rattle.nts_asking.specs.Evaluation.{Goes, asked_terms}
-use Rattle.nts_asking.specs.Asking.{IsResponseOf}
-use Rattle.nts_asking.specs.Telling.{IsPlainResponse}
+use Rattle.nts_theory.specs.Telling.{IsResponseOf}
+use Rattle.nts_theory.specs.Telling.{IsPlainResponse}
 use Rattle.nts_asking.specs.Answering.{told_in, TellsNoMore}
 
 -- a response of the store b says what a table found out of these terms: the table went on from the table t of the store a, for

@@ -20,9 +20,11 @@ abbrev pub terms_of : List Tree → List (GoalSource × Goal) → List Tree
 terms_of ts [] = []
 terms_of ts (g ∷ gs) = asked_terms ts g.1 ++ terms_of ts gs
 
--- those that are left are some of the goals
-abbrev pub AreLeft : List (GoalSource × Goal) → List (GoalSource × Goal) → Type 0
-AreLeft gs left = (g : GoalSource × Goal) → Among left g → Among gs g
+-- the goals that are left of those that were there, in their order, each as often as it was
+pub data AreLeft : List (GoalSource × Goal) → List (GoalSource × Goal) → Type 0 where
+  none_left : AreLeft [] []
+  is_left : {gs left : List (GoalSource × Goal)} (g : GoalSource × Goal) → AreLeft gs left → AreLeft (g ∷ gs) (g ∷ left)
+  is_done : {gs left : List (GoalSource × Goal)} (g : GoalSource × Goal) → AreLeft gs left → AreLeft (g ∷ gs) left
 
 -- and of each goal that is not left, P holds
 abbrev pub AreSettled : (GoalSource × Goal → Type 0) → List (GoalSource × Goal) → List (GoalSource × Goal) → Type 0

@@ -22,7 +22,7 @@ ghost use Rattle.nts_table.specs.Tables.{IsTermIn};
 ghost use Rattle.nts_trying.specs.Instances.{HoldsValues, IsTermInstance, IsGoalInstance, instance_at};
 ghost use Rattle.nts_trying.specs.Choices.{EquatesCandidate};
 ghost use Rattle.nts_trying.specs.Adding.{AreAdded};
-ghost use Rattle.nts_asking.specs.Telling.{FailsToAdd};
+ghost use Rattle.nts_theory.specs.Telling.{FailsToAdd};
 ghost use Rattle.nts_terms.specs.Rest.{Grows};
 
 use nts_certainty::GoalSource;

@@ -44,7 +44,9 @@ pub fn depth_below(depth: usize, has_overflowed: bool, division: usize) -> Optio
 impl AvailableDepth {
     /// The depth of the next goal, if it is not nested too deep.
     pub fn next(self, has_overflowed: bool, division: usize) -> Option<usize>
+        ensures too_deep { IsNone result ↔ (bound_of self ≡ 0) }
         ensures within { IfSome result (λ n. n < bound_of self) }
+        ensures whole { has_overflowed ≡ false → IfSome result (λ n. n + 1 ≡ bound_of self) }
         ensures root { (n : ℕ) → self ≡ available.Root n → result ≡ Some n }
     {
         match self {

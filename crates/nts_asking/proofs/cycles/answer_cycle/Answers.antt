@@ -39,4 +39,4 @@ pub returns-clause-some : goal.returns-clause-some
 returns-clause-some c = first_answers c.args.cx.now.nodes c.initial_provisional_result.new.cx.nodes c.args.input.now c.requires.input c.path_kind-kind.result c.in_ok-answer-2.answer c.answer_of-2.result c.answer_of-2.ensures.some c.answer_of-2.ensures.none c.in_ok-answer-2.ensures.response c.in_ok-answer-2.ensures.holds c.args.graph.now.stack.items c.args.head
 
 pub returns-clause-none : goal.returns-clause-none
-returns-clause-none c = first_refuted c.args.cx.now.nodes c.initial_provisional_result.new.cx.nodes c.args.input.now c.requires.input c.path_kind-kind.result c.in_ok-answer-2.answer c.answer_of-2.result c.answer_of-2.ensures.some c.answer_of-2.ensures.none c.in_ok-answer-2.ensures.response c.in_ok-answer-2.ensures.holds c.args.graph.now.stack.items c.args.head _ _ c.args.step c.in_ok-answer-2.ensures.none (c.path_kind-kind.ensures c.args.cx.now.nodes)
+returns-clause-none c = first_refuted c.args.cx.now.nodes c.initial_provisional_result.new.cx.nodes c.args.input.now c.requires.input c.path_kind-kind.result c.in_ok-answer-2.answer c.answer_of-2.result c.answer_of-2.ensures.some c.answer_of-2.ensures.none c.in_ok-answer-2.ensures.response c.in_ok-answer-2.ensures.holds c.args.graph.now c.args.head c.requires.head c.requires.same c.args.step c.in_ok-answer-2.ensures.none (c.path_kind-kind.ensures c.args.cx.now.nodes)

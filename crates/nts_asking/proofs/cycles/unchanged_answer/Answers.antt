@@ -4,7 +4,7 @@ use Rattle.nts_canonical.specs.declared.types.Canonical.{Canonical}
 use Rattle.nts_response.specs.declared.types.Response.{Response}
 use Rattle.nts_response.specs.Forms.{response_at}
 use Rattle.nts_asking.specs.Answering.{IsAnswerTo}
-use Rattle.nts_asking.specs.Telling.{SaysNothing}
+use Rattle.nts_theory.specs.Telling.{SaysNothing}
 use Rattle.nts_asking.proofs.Unchanged.{unchanged_fits, nothing_said}
 use Rattle.nts_asking.proofs.cycles.unchanged_answer.Goals as goal
 
@@ -17,4 +17,4 @@ returns-clause-fits c =
 pub returns-clause-nothing : goal.returns-clause-nothing
 returns-clause-nothing c =
     let k = c.in_ok-answer.ensures in
-    subst (λ (r : Canonical Response). SaysNothing (response_at c.identity_answer.new.cx.nodes r)) (sym c.in_ok-answer-2.ensures.ok) (nothing_said _ _ _ k.response)
+    subst (λ (r : Canonical Response). SaysNothing (kinds_of c.args.input.now) (response_at c.identity_answer.new.cx.nodes r)) (sym c.in_ok-answer-2.ensures.ok) (nothing_said _ _ _ k.response)

@@ -9,10 +9,11 @@ use Rattle.nts_canonical.specs.SubRoots.{sub_root_in}
 use Rattle.nts_model.specs.Answers.Responses.{response_of}
 use Rattle.nts_response.specs.Forms.{response_at, findings_at}
 use Rattle.nts_response.specs.declared.types.Response.{Response}
-use Rattle.nts_asking.specs.Asking.{IsResponseOf}
+use Rattle.nts_theory.specs.Telling.{IsResponseOf}
 use Rattle.nts_asking.specs.Answering.{told_in}
 use Rattle.nts_asking.proofs.Told.{knows_findings, answers_told}
 use Rattle.nts_asking.proofs.response.make_response.Goals as goal
+use Rattle.nts_asking.proofs.SubClasses.{root_classes}
 
 pub told_constraints-requires : goal.told_constraints-requires
 told_constraints-requires c = record { table = IsTable-extended c.in_ok-var_values.ensures.grows.extends c.requires.table }
@@ -39,5 +40,5 @@ returns-clause-says c =
     IfOk-weaker c.canonicalize_response.result
     (λ r. response_at c.canonicalize_response.new.cx.nodes r ≡ response_of (content_of d e) (sub_root_in e) 0 (findings_at d x))
     (λ r. IsResponseOf (told_in c.args.certainty (content_of a e)) (trees_of a c.args.values.now) (response_at c.canonicalize_response.new.cx.nodes r))
-    (λ r is. answers_told a c.resolved_values.new.cx.nodes d e c.args.certainty (sub_root_in e) (trees_of a c.args.values.now) x (response_at c.canonicalize_response.new.cx.nodes r) c.requires.table.now values.grows.extends found.grows.extends values.args values.trees found.told c.new.ensures.items c.new-2.ensures.items is)
+    (λ r is. answers_told a c.resolved_values.new.cx.nodes d e c.args.certainty (sub_root_in e) (trees_of a c.args.values.now) x (response_at c.canonicalize_response.new.cx.nodes r) (root_classes a e c.requires.table.now.descends) c.requires.table.now values.grows.extends found.grows.extends values.args values.trees found.told c.new.ensures.items c.new-2.ensures.items is)
     c.canonicalize_response.ensures.response

@@ -10,5 +10,5 @@ returns-clause-first c =
       answer = c.in_ok-answer.answer.value;
       is = ap (λ (x : Round). x.provisional) c.in_ok-asked.ensures.ok ∙ search rules;
       fits = rw c.deref.ensures at u.fits;
-      nothing = u.nothing;
+      nothing = rw c.deref.ensures at u.nothing;
     }

@@ -1,6 +1,6 @@
-use Rattle.std.proofs.Common.{◌≡◌, inl, inr, Err, Ok, arith, rules, ◌+◌, ◌≤◌, map, length, take, get_or, refl, ap, sym, ◌∙◌, subst, length-append, [], ◌∷◌, true, false}
+use Rattle.std.proofs.Common.{◌≡◌, inl, inr, Err, Ok, arith, rules, ◌+◌, ◌≤◌, map, length, take, get_or, refl, ap, sym, ◌∙◌, subst, length-append, [], ◌∷◌, true, false, ◌++◌}
 use Rattle.std.specs.Prelude.{is_some, IfSome}
-use Rattle.std.proofs.lemmas.List.{take_all}
+use Rattle.std.proofs.lemmas.List.{take_all, take_more}
 use Rattle.nts_model.specs.Lists.{Among}
 use Rattle.nts_model.specs.Derivations.Handlers.{meaning}
 use Rattle.nts_model.proofs.Tables.Bringing.{only-trans, only-refl}
@@ -19,25 +19,25 @@ use Rattle.nts_canonical.specs.Building.{kinds_of}
 use Rattle.nts_canonical.specs.Forms.{trees_of, form_of}
 use Rattle.nts_response.specs.Forms.{response_at}
 use Rattle.nts_asking.specs.Meant.{Since, meaning_since, IsProvedNow, IsNestedSince}
-use Rattle.nts_trying.specs.Stepping.{AreLeft, AreSettled, bound_of}
-use Rattle.nts_asking.specs.Telling.Reaches.{asks_nothing}
+use Rattle.nts_trying.specs.Stepping.{AreLeft, AreSettled, bound_of, none_left}
+use Rattle.nts_theory.specs.Telling.Reaches.{asks_nothing}
 use Rattle.nts_asking.proofs.Asking.{IsAskedGoal-extended, kind_asked}
-use Rattle.nts_asking.proofs.AskedGoals.{trees_kept, ok_both, args_there, applicable, evaluates, asks, asked_stays, asked_labels, query_cut, response_refused, ok_two}
+use Rattle.nts_asking.proofs.AskedGoals.{trees_kept, ok_both, ok_two, args_there, applicable, evaluates, evaluates_at, was_asked, asked_stays, asked_labels, query_cut, response_refused, ok_three}
 use Rattle.nts_asking.proofs.AnsweredQueries.{first_entries, query_environment, query_predicate, args_later}
 use Rattle.nts_trying.proofs.Labels.{only_earlier, only_back, only_same, only_resolved, content_same}
 use Rattle.nts_asking.proofs.Evaluating.{Goes-trans, Goes-extends, Runs-trans, Runs-extends, Runs-refl, rolled_back, Since-later, offers-kept, IsPosed-later, AreValues-later, IsCandidate-extended, candidate_at, goes-back, HoldsGoal-extended}
-use Rattle.nts_trying.proofs.Stepping.{among_get, posed_later, posed_left, only_one, only_left, reach_more, refuse_more, reach_step, refuse_step, left_trans, settled_step, left_more, settled_proved, sure_more}
+use Rattle.nts_trying.proofs.Stepping.{among_get, posed_later, posed_left, only_one, only_left, reach_more, refuse_more, reach_step, refuse_step, left_trans, settled_step, left_more, settled_proved, sure_more, left_refl}
 use Rattle.nts_asking.proofs.Running.{term_table, unread, HasRun, has_run, both_sure, constraints-kept, offered_there, Equates-later, Constrains-later}
 use Rattle.nts_canonical.specs.declared.types.Canonical.{Canonical}
 use Rattle.nts_response.specs.declared.types.Response.{Response}
 use Rattle.nts_terms.specs.Handles.{HoldsGoal}
 use Rattle.nts_store.specs.Kept.{map-kept, AllIn-kept}
-use Rattle.nts_asking.specs.Telling.{IsPlainResponse}
-use Rattle.nts_asking.specs.Telling.Tells.{tells_nothing, says_nothing}
-use Rattle.nts_asking.specs.Telling.Fails.{is_unmet}
+use Rattle.nts_theory.specs.Telling.{IsPlainResponse, SaysNothing}
+use Rattle.nts_theory.specs.Telling.Tells.{tells_nothing, says_nothing}
+use Rattle.nts_theory.specs.Telling.Fails.{is_unmet}
 use Rattle.nts_trying.proofs.Filtered.{kept_candidates, kept_outcomes, kept_tell}
 use Rattle.nts_trying.proofs.Opened.{told_through, told_offered, refuted_through, nothing_through, labels_through, labels_entered, proved_through, opened_holds}
-use Rattle.nts_trying.proofs.Probed.{found_in, found_still, found_fits, found_derived, went_in, plain_of, doubtful, not_kept, told_or_plain, run_replies, said_of}
+use Rattle.nts_trying.proofs.Probed.{found_in, found_still, found_fits, found_derived, went_in, plain_of, doubtful, not_kept, says_found, says_before, run_replies}
 use Rattle.nts_trying.proofs.Outcomes.{found_earlier, founds_more, founds_with, outcomes_first, outcomes_more, found_merged, told_merged, failed_of}
 use Rattle.nts_trying.proofs.Ran.{breaks, added_is, added_only, ran_to, ran_refused, all_proved, all_posed, proved_all, ok_inside}
 use Rattle.nts_model.specs.Derivations.Rules.{goal_kind}
@@ -47,10 +47,10 @@ use Rattle.nts_search.specs.Kinds.{goal_kind_of}
 use Rattle.nts_search.specs.Searching.{entry_at, entries_at}
 use Rattle.nts_search.proofs.Stacked.{entries_pushed, entries_popped}
 use Rattle.nts_asking.specs.Searching.{HeadsTell, IsAnswerTold, IsHeadAnswer, assumed_in}
-use Rattle.nts_asking.proofs.Searching.{Searches-refl, Searches-trans, search_later, search_grown, search_grows, search_covers, covers_grown, stays_more, served_more, tell_grown, heads_tell_later, search_counted, search_marked, head_answer_later, answer_told_later, form_later, input_later, later_long}
+use Rattle.nts_asking.proofs.Searching.{Searches-refl, Searches-trans, search_later, search_grown, search_grows, search_covers, covers_grown, stays_more, served_more, tell_grown, heads_tell_later, search_counted, search_marked, head_answer_later, answer_told_later, form_later, input_later, later_long, goal_cut_earlier}
 use Rattle.nts_search.specs.declared.stack.StackEntry.{StackEntry}
 use Rattle.nts_canonical.specs.declared.types.CanonicalInput.{CanonicalInput}
-use Rattle.nts_asking.specs.Answering.{IsAnswerTo}
+use Rattle.nts_asking.specs.Answering.{IsAnswerTo, is_yes}
 use Rattle.nts_model.specs.Searching.Stacks.{IsDerivedFrom, IsProvedFrom, assumptions}
 use Rattle.nts_trying.specs.Found.{Found}
 use Rattle.nts_model.specs.Answers.Responses.{answer_sequent}
@@ -104,7 +104,7 @@ compute_goal-returns-in-Unopened g t c =
       grows = search rules;
       searches = Searches-refl c.args.depth c.requires.search (grown c.in_ok-opened.ensures.grows c.in_ok-response-in-Unopened.ensures.grows);
       found = found_in c.in_ok-response-in-Unopened.response.value _ o.goes c.terms_are_formed.ensures r.grows.extends (only_same _ o.grows.extends c.requires.posed.table (o.left (ap is_some c.in-Unopened.ensures))) c.requires.values r.certainty r.says r.holds (record { no_hidden = r.nothing.0; no_goals = r.nothing.1 }) (λ y. absurd (doubtful _ y));
-      told = λ s tells. tells_nothing (content_of c.enter_forall.new.cx.nodes c.enter_forall.new.table.entries) (inl (content_same o.grows.extends c.requires.posed.table (o.left (ap is_some c.in-Unopened.ensures)))) (rw trees at plain);
+      told = λ s tells ks. tells_nothing (content_of c.enter_forall.new.cx.nodes c.enter_forall.new.table.entries) (inl (content_same o.grows.extends c.requires.posed.table (o.left (ap is_some c.in-Unopened.ensures)))) (ap is_yes r.certainty) (rw trees at plain);
       refuted = search rules;
     }
 
@@ -138,7 +138,7 @@ compute_goal-returns-in-Unanswered g t c =
       grows = search rules;
       searches = Searches-refl c.args.depth c.requires.search (grown c.in_ok-opened.ensures.grows c.in_ok-response-in-Unanswered.ensures.grows);
       found = found_in c.in_ok-response-in-Unanswered.response.value _ o.goes c.terms_are_formed.ensures r.grows.extends (labels_entered c.requires.posed (rw c.in-Unanswered.ensures at o.opened) o.grows.extends) c.requires.values r.certainty r.says r.holds (record { no_hidden = r.nothing.0; no_goals = r.nothing.1 }) (λ y. absurd (doubtful _ y));
-      told = λ s tells. nothing_through c.requires.posed (rw c.in-Unanswered.ensures at o.opened) o.grows.extends (g.H.GoalHandler.handler s.base c.args.handler.now) c.args.table.now.mode c.args.values.now _ c.in_ok-response-in-Unanswered.response.value trees plain;
+      told = λ s tells. nothing_through c.requires.posed (rw c.in-Unanswered.ensures at o.opened) o.grows.extends (g.H.GoalHandler.handler s.base c.args.handler.now) c.args.table.now.mode c.args.values.now _ c.in_ok-response-in-Unanswered.response.value trees (ap is_yes r.certainty) plain;
       refuted = search rules;
     }
 
@@ -167,7 +167,7 @@ evaluate_added-returns-in-None g t c =
       searches = search_marked (bound_of c.args.depth) true c.requires.search;
       labels = search rules;
       proved = search rules;
-      told = search rules;
+      told = λ s tells. inr (c.next.ensures.too_deep.0 (search rules), refl);
       refuted = search rules;
     }
 
@@ -200,8 +200,8 @@ evaluate_added-returns-in_ok-asked-in-Some g t c =
           (λ x f y.
           rw (all.extends.kept c.args.goal.param_env.node p.holds.env.within, all.extends.kept c.args.goal.predicate.node p.holds.predicate.within)
           (unread _ _ _ _ all env predicate p.knows.env p.knows.predicate (f y))) (e.proved (Since-later k.grows s));
-      told = λ s tells. OnOk-map c.evaluate_goal.result (λ f. inl (rw (same, k.env, k.predicate) at f)) (c.evaluate_goal.ensures.told (Since-later k.grows s) (tell_grown (g.H.GoalHandler.handler s.base c.args.handler.now) (bound_of c.args.depth) c.requires.search k.grows tells));
-      refuted = λ s tells n. rw (same, k.env, k.predicate) at (c.evaluate_goal.ensures.refuted (Since-later k.grows s) (tell_grown (g.H.GoalHandler.handler s.base c.args.handler.now) (bound_of c.args.depth) c.requires.search k.grows tells) n);
+      told = λ s tells. IfOk-map c.evaluate_goal.result (λ x f. inl (evaluates_at same (rw (k.env, k.predicate) at f))) (c.evaluate_goal.ensures.told (Since-later k.grows s) (tell_grown (g.H.GoalHandler.handler s.base c.args.handler.now) (bound_of c.args.depth) c.requires.search k.grows tells));
+      refuted = λ s tells n. goal_cut_earlier k.grows.extends c.requires.search.stack c.requires.search.heads (rw (same, k.env, k.predicate) at (c.evaluate_goal.ensures.refuted (Since-later k.grows s) (tell_grown (g.H.GoalHandler.handler s.base c.args.handler.now) (bound_of c.args.depth) c.requires.search k.grows tells) n));
     }
 
 pub evaluate_candidates-loop-candidate-init : goal.evaluate_candidates-loop-candidate-init
@@ -267,14 +267,13 @@ evaluate_goal-returns-in_err-answer g t c =
       runs = Runs-extends c.requires.posed.table (Extends-trans q.grows.extends k.grows.extends) (KeepsRest-trans q.grows.rest k.grows.rest);
       searches = let q = c.in_ok-originals.ensures in search_then (c.args.depth + 1) c.requires.search q.grows c.search.ensures.searches;
       err = search rules;
-      evaluates = IfOk-from_err c.from_residual-in_err-answer.result _ fails;
       labels = IfOk-from_err c.from_residual-in_err-answer.result _ fails;
       proved = λ s. IfOk-from_err c.from_residual-in_err-answer.result _ fails;
       told = λ s tells. IfOk-from_err c.from_residual-in_err-answer.result _ fails;
       refuted = λ s tells n.
           let h = g.H.GoalHandler.handler s.base c.args.handler.now in
           let refused : c.search.result ≡ Err EvalError.NoSolution = search rules in
-          query_cut c.requires.posed q.query q.grows.extends c.search.ensures.grows.extends (c.search.ensures.refuted (Since-later q.grows s) (tell_grown h (c.args.depth + 1) c.requires.search q.grows tells) refused);
+          query_cut c.requires.posed q.query q.grows.extends c.search.ensures.grows.extends c.requires.search.stack c.requires.search.heads (c.search.ensures.refuted (Since-later q.grows s) (tell_grown h (c.args.depth + 1) c.requires.search q.grows tells) refused);
     }
 
 pub evaluate_goal-returns-in_err-originals : goal.evaluate_goal-returns-in_err-originals
@@ -284,7 +283,6 @@ evaluate_goal-returns-in_err-originals g t c =
       runs = Runs-extends c.requires.posed.table c.boxed_query.ensures.grows.extends c.boxed_query.ensures.grows.rest;
       searches = Searches-refl (c.args.depth + 1) c.requires.search c.boxed_query.ensures.grows;
       err = search rules;
-      evaluates = IfOk-from_err c.from_residual.result _ fails;
       labels = IfOk-from_err c.from_residual.result _ fails;
       proved = λ s. IfOk-from_err c.from_residual.result _ fails;
       told = λ s tells. IfOk-from_err c.from_residual.result _ fails;
@@ -350,7 +348,7 @@ evaluate_rounds-returns g t c =
       searches = let i = c.loop-round.invariant in search_grown (c.args.depth + 1) c.requires.search i.searches c.unchanged_answer.ensures.grows;
       fits = let i = c.loop-round.invariant in subst (λ (w : CanonicalInput). IsAnswerTo c.unchanged_answer.new.cx.nodes (kinds_of w) c.in_ok-answer.answer.value) i.input (rw c.deref-2.ensures at c.in_ok-answer.ensures.fits);
       proved = search rules;
-      told = λ s tells. says_nothing c.in_ok-answer.ensures.nothing;
+      told = λ s tells. says_nothing (let i = c.loop-round.invariant in subst (λ (w : CanonicalInput). SaysNothing (kinds_of w) (response_at c.unchanged_answer.new.cx.nodes c.in_ok-answer.answer.value)) i.input (rw c.deref-2.ensures at c.in_ok-answer.ensures.nothing));
       refuted = search rules;
     }
 
@@ -410,7 +408,7 @@ pub evaluate_step-loop-added-init : goal.evaluate_step-loop-added-init
 evaluate_step-loop-added-init g t c = record {
   runs = Runs-refl c.requires.table;
   searches = Searches-refl (bound_of c.args.depth) c.requires.search (record { extends = Extends-refl _; rest = KeepsRest-refl _ });
-  left = λ y i. absurd (subst (λ xs. Among xs y) c.new-step.ensures.left i);
+  left = subst (AreLeft []) (sym c.new-step.ensures.left) none_left;
   labels = only-refl _ _;
   proved = λ s y i. absurd i;
   sure = λ y. c.new-step.ensures.left;
@@ -431,7 +429,7 @@ evaluate_step-loop-added-preserved g t c =
     record {
       runs = Runs-trans i.runs e.runs;
       searches = Searches-trans i.searches e.searches;
-      left = subst (AreLeft gs) (sym n.left) (left_more gs c.loop-added.step.left.items (get_or gs c.loop-added.added-index d) c.in_ok-answer.answer.certainty there i.left);
+      left = rw (take_more gs c.loop-added.added-index d at) (subst (AreLeft (take c.loop-added.added-index gs ++ get_or gs c.loop-added.added-index d ∷ [])) (sym n.left) (left_more (get_or gs c.loop-added.added-index d) c.in_ok-answer.answer.certainty i.left));
       labels = only-trans i.labels (only_one gs (get_or gs c.loop-added.added-index d) i.runs.goes.extends c.requires.posed there e.labels);
       proved = λ s.
           subst (AreSettled (IsNestedSince (λ ts. g.H.GoalHandler.handler ts c.args.handler.now) s c.args.table.now.mode (goal_kind_of c.args.kind) (assumed_in c.evaluate_added.new.cx.nodes c.evaluate_added.new.graph) c.evaluate_added.new.cx.nodes c.evaluate_added.new.table) (take (c.loop-added.added-index + 1) gs)) (sym n.left)
@@ -445,8 +443,8 @@ evaluate_step-returns g t c =
     record {
       runs = search rules;
       searches = search rules;
-      posed = (let i = c.loop-added.invariant in posed_left c.args.goals.now c.loop-added.step.left.items i.runs.goes c.requires.posed i.left);
-      left = search rules;
+      posed = (let i = c.loop-added.invariant in posed_left c.args.goals.now c.loop-added.step.left.items i.runs.goes c.requires.posed (rw (take_all c.loop-added.added-index c.args.goals.now c.loop-added-test.false) at i.left));
+      left = (let i = c.loop-added.invariant in rw (take_all c.loop-added.added-index c.args.goals.now c.loop-added-test.false) at i.left);
       labels = search rules;
       proved = λ s. rw (take_all c.loop-added.added-index c.args.goals.now c.loop-added-test.false) at (c.loop-added.invariant.proved s);
       sure = search rules;
@@ -613,7 +611,7 @@ search-returns-in-Some g t c =
       searches = search rules;
       fits = search rules;
       proved = λ s. ok_two c.answer_cycle.result (λ r fits usable sure. cycle_derived (meaning_since (λ ts. g.H.GoalHandler.handler ts c.args.handler.now) s) (mode_of c.args.input.value.typing_mode) (passed (path_kind_of c.args.step) (assumed_in c.answer_cycle.new.cx.nodes c.answer_cycle.new.graph)) c.args.cx.now.nodes c.answer_cycle.new.cx.nodes c.args.input.value r.value c.requires.input fits (usable sure)) (rw c.deref-in-Some.ensures at c.answer_cycle.ensures.fits) (rw c.deref-in-Some.ensures at c.answer_cycle.ensures.usable);
-      told = λ s tells. IfOk-map c.answer_cycle.result (λ r x. cycle_told (g.H.GoalHandler.handler s.base c.args.handler.now) c.in-Some.head (c.args.depth + 1) c.args.input.value c.requires.search c.answer_cycle.ensures.grows (rw c.deref.ensures at c.in-Some.ensures.found) tells r.value x) c.answer_cycle.ensures.some;
+      told = λ s tells. IfOk-map c.answer_cycle.result (λ r x. cycle_told (g.H.GoalHandler.handler s.base c.args.handler.now) c.in-Some.head (c.args.depth + 1) c.args.input.value c.requires.search c.answer_cycle.ensures.grows (rw c.deref.ensures at c.in-Some.ensures.found) tells r.value x) (rw c.deref-in-Some.ensures at c.answer_cycle.ensures.some);
       refuted = λ s tells no. cycle_refuted (g.H.GoalHandler.handler s.base c.args.handler.now) c.in-Some.head (c.args.depth + 1) c.args.input.value c.requires.search c.answer_cycle.ensures.grows (rw c.deref.ensures at c.in-Some.ensures.found) tells (rw c.deref-in-Some.ensures at (c.answer_cycle.ensures.none no));
     }
 
@@ -643,7 +641,7 @@ try_evaluate_goals-loop-step-init g t c = record {
   searches = Searches-refl (bound_of c.args.depth) c.requires.search (record { extends = Extends-refl _; rest = KeepsRest-refl _ });
   steps = omega arith;
   posed = c.requires.posed;
-  left = λ y i. i;
+  left = left_refl _;
   labels = only-refl _ _;
   proved = λ s y i. inl i;
   told = λ s tells. asks_nothing;
@@ -658,7 +656,7 @@ try_evaluate_goals-loop-step-preserved g t c =
       searches = Searches-trans i.searches e.searches;
       steps = omega (arith, c.loop-step-test.true, c.step_limit-step-end.ensures);
       posed = e.posed;
-      left = left_trans c.args.goals.now.items c.loop-step.goals.items c.in_ok-stepped.stepped.left.items i.left (rw c.deref.ensures.value at e.left);
+      left = left_trans i.left (rw c.deref.ensures.value at e.left);
       labels = only-trans i.labels (only_left c.args.goals.now.items c.loop-step.goals.items i.runs.goes.extends c.requires.posed i.left (rw c.deref.ensures.value at e.labels));
       proved = λ s.
           let i = c.loop-step.invariant in
@@ -716,7 +714,7 @@ try_evaluate_goals-returns-then-not-stepped g t c =
       searches = Searches-trans c.loop-step.invariant.searches c.in_ok-stepped.ensures.searches;
       steps = search rules;
       posed = search rules;
-      left = search rules;
+      left = left_trans i.left (rw c.deref.ensures.value at c.in_ok-stepped.ensures.left);
       labels = only-trans i.labels (only_left c.args.goals.now.items c.loop-step.goals.items i.runs.goes.extends c.requires.posed i.left (rw c.deref.ensures.value at c.in_ok-stepped.ensures.labels));
       proved = λ s. settled_step (assumed_in c.loop-step.cx.nodes c.loop-step.graph) (assumed_in c.evaluate_step.new.cx.nodes c.evaluate_step.new.graph) (λ ts. g.H.GoalHandler.handler ts c.args.handler.now) s c.args.table.now.mode (goal_kind_of c.args.kind) c.args.goals.now.items c.loop-step.goals.items c.in_ok-stepped.stepped.left.items c.requires.posed i.runs.goes.extends e.runs.goes (search_covers (bound_of c.args.depth) (search_later (bound_of c.args.depth) (bound_of c.args.depth) (omega arith) c.requires.search i.searches) e.runs.goes.extends e.searches) (i.proved s) (rw (i.runs.goes.mode, c.deref.ensures.value) at (e.proved (Since-later (ran i.runs) s)));
       sure = search rules;

@@ -17,6 +17,7 @@ use Rattle.nts_asking.specs.Evaluation.{Runs}
 use Rattle.nts_evaluation.specs.Promises.{WhereTold}
 use Rattle.nts_asking.specs.Meant.{rules_of, Always}
 use Rattle.nts_evaluation.proofs.evaluate.+evaluate.Given as goal
+use Rattle.nts_asking.specs.Answering.{verdict_at}
 
 abbrev pub decreases-evaluate_goal : goal.decreases-evaluate_goal
 decreases-evaluate_goal g l = 20 * l.depth + 18
@@ -68,7 +69,7 @@ invariant-evaluate_candidates-loop-candidate g l = record {
   grows : Grows l.fn.cx l.cx;
   searches : Searches l.fn.cx l.cx l.fn.graph l.graph;
   found : All (Found (λ b u. Always (rules_of g.H.GoalHandler.ready g.H.GoalHandler.handler l.handler) l.fn.cx (λ s. AreOffered (g.H.GoalHandler.handler s.base l.handler) l.fn.table.mode l.fn.cx.nodes l.goal l.candidates → IsServedSince (λ ts. g.H.GoalHandler.handler ts l.handler) s l.fn.table.mode (assumed_in l.cx.nodes l.graph) b u l.goal)) l.fn.cx.nodes l.cx.nodes l.fn.table l.goal l.values) l.responses.items;
-  told : WhereTold (rules_of g.H.GoalHandler.ready g.H.GoalHandler.handler l.handler) l.fn.cx l.fn.graph (λ m. HaveOutcomes m l.fn.table.mode l.fn.cx.nodes l.fn.table l.values (take l.candidate-index l.candidates) (map (response_at l.cx.nodes) l.responses.items));
+  told : WhereTold (rules_of g.H.GoalHandler.ready g.H.GoalHandler.handler l.handler) l.fn.cx l.fn.graph (λ m. HaveOutcomes m l.fn.table.mode l.fn.cx.nodes l.fn.table l.goal l.values (take l.candidate-index l.candidates) (map (verdict_at l.cx.nodes) l.responses.items));
 }
 
 -- the goals that are left, after the first steps
@@ -89,7 +90,7 @@ abbrev pub invariant-evaluate_step-loop-added : goal.invariant-evaluate_step-loo
 invariant-evaluate_step-loop-added g l = record {
   runs : Runs l.fn.cx l.cx l.fn.table l.table;
   searches : Searches l.fn.cx l.cx l.fn.graph l.graph;
-  left : AreLeft l.goals l.step.left.items;
+  left : AreLeft (take l.added-index l.goals) l.step.left.items;
   labels : BringsOnly (terms_of l.fn.cx.nodes l.goals) (content_of l.fn.cx.nodes l.fn.table.entries) (content_of l.cx.nodes l.table.entries);
   proved : Always (rules_of g.H.GoalHandler.ready g.H.GoalHandler.handler l.handler) l.fn.cx (λ s. AreSettled (IsNestedSince (λ ts. g.H.GoalHandler.handler ts l.handler) s l.fn.table.mode (goal_kind_of l.fn.kind) (assumed_in l.cx.nodes l.graph) l.cx.nodes l.table) (take l.added-index l.goals) l.step.left.items);
   sure : l.step.certainty ≡ certainty.Yes → l.step.left.items ≡ [];

@@ -10,7 +10,7 @@ use Rattle.nts_canonical.specs.Forms.{form_of}
 use Rattle.nts_response.specs.Forms.{response_at}
 use Rattle.nts_delegate.specs.Offered.{path_kind_of}
 use Rattle.nts_asking.proofs.Evaluating.{Since-now}
-use Rattle.nts_asking.proofs.Rounds.{empty_stack, tell_begun, nothing_left}
+use Rattle.nts_asking.proofs.Rounds.{empty_stack, tell_begun, nothing_left, never_cut}
 use Rattle.nts_evaluation.proofs.root.evaluate_input.Goals as goal
 
 pub returns-in-Ok-clause-proved : goal.returns-in-Ok-clause-proved
@@ -30,7 +30,7 @@ pub returns-in-Err-NoSolution-clause-refuted : goal.returns-in-Err-NoSolution-cl
 returns-in-Err-NoSolution-clause-refuted g c = λ q.
     let none = empty_stack c.args.graph.now c.requires.search in
     let refused : c.search.result ≡ Err EvalError.NoSolution = search rules in
-    rw c.in_ok-input.ensures.ok at (c.search.ensures.refuted (Since-now c.terms_are_formed.ensures c.requires.ready) (tell_begun c.args.graph.now (g.H.GoalHandler.handler c.args.cx.now.nodes c.args.handler.now) c.args.cx.now.nodes none) refused)
+    never_cut c.args.graph.now none (rw c.in_ok-input.ensures.ok at (c.search.ensures.refuted (Since-now c.terms_are_formed.ensures c.requires.ready) (tell_begun c.args.graph.now (g.H.GoalHandler.handler c.args.cx.now.nodes c.args.handler.now) c.args.cx.now.nodes none) refused))
 
 pub returns-in-Ok-clause-fits : goal.returns-in-Ok-clause-fits
 returns-in-Ok-clause-fits g c = rw c.into_inner.ensures (rw c.in_ok-input.ensures.ok at c.in-Ok.ensures.fits)

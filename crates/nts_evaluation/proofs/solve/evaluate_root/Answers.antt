@@ -26,9 +26,10 @@ returns-clause-runs g c =
     Runs-trans (Runs-extends c.requires.posed.table c.in_ok-asked.ensures.grows.extends c.in_ok-asked.ensures.grows.rest) c.in_ok-evaluated.ensures.runs
 
 pub returns-clause-evaluates : goal.returns-clause-evaluates
-returns-clause-evaluates g c =
+returns-clause-evaluates g c = λ s.
     let k = c.in_ok-asked.ensures in
-    evaluates_at (content_of-extended k.grows.extends c.requires.posed.table.now) (rw (k.env, k.predicate) at c.in_ok-evaluated.ensures.evaluates)
+    let told = c.in_ok-evaluated.ensures.told (Since-later k.grows s) (tell_begun c.new-graph.result (g.H.GoalHandler.handler s.base c.args.handler.now) c.resolve_goal.new.cx.nodes c.new-graph.ensures.empty) in
+    evaluates_at (content_of-extended k.grows.extends c.requires.posed.table.now) (rw (k.env, k.predicate) at told)
 
 pub returns-clause-proved : goal.returns-clause-proved
 returns-clause-proved g c = λ s y.
@@ -42,15 +43,9 @@ returns-clause-proved g c = λ s y.
     rw (all.extends.kept c.args.goal.param_env.node c.requires.posed.holds.env.within, all.extends.kept c.args.goal.predicate.node c.requires.posed.holds.predicate.within)
     (unread _ _ _ _ all env predicate c.requires.posed.knows.env c.requires.posed.knows.predicate proved)
 
-pub returns-clause-told : goal.returns-clause-told
-returns-clause-told g c = λ s.
-    let k = c.in_ok-asked.ensures in
-    let here = content_of-extended k.grows.extends c.requires.posed.table.now in
-    rw (here, k.env, k.predicate) at (c.in_ok-evaluated.ensures.told (Since-later k.grows s) (tell_begun c.new-graph.result (g.H.GoalHandler.handler s.base c.args.handler.now) c.resolve_goal.new.cx.nodes c.new-graph.ensures.empty))
-
 pub returns-in_err-evaluated-clause-refuted : goal.returns-in_err-evaluated-clause-refuted
 returns-in_err-evaluated-clause-refuted g c = λ s q.
     let k = c.in_ok-asked.ensures in
     let here = content_of-extended k.grows.extends c.requires.posed.table.now in
     let refused : c.evaluate_goal.result ≡ Err EvalError.NoSolution = search rules in
-    not_cut c.args.table.now.mode (rw (here, k.env, k.predicate) at (c.evaluate_goal.ensures.refuted (Since-later k.grows s) (tell_begun c.new-graph.result (g.H.GoalHandler.handler s.base c.args.handler.now) c.resolve_goal.new.cx.nodes c.new-graph.ensures.empty) refused))
+    not_cut c.new-graph.result c.new-graph.ensures.empty (rw (here, k.env, k.predicate) at (c.evaluate_goal.ensures.refuted (Since-later k.grows s) (tell_begun c.new-graph.result (g.H.GoalHandler.handler s.base c.args.handler.now) c.resolve_goal.new.cx.nodes c.new-graph.ensures.empty) refused))

@@ -29,8 +29,8 @@ returns-clause-falls g c = λ none.
       proof = proof_falls _ _ _ none held.proof;
     })
 
-pub returns-clause-told : goal.returns-clause-told
-returns-clause-told g c = c.evaluate_root-evaluated.ensures.told (Since-now c.terms_are_formed.ensures c.requires.ready)
+pub returns-clause-evaluates : goal.returns-clause-evaluates
+returns-clause-evaluates g c = c.evaluate_root-evaluated.ensures.evaluates (Since-now c.terms_are_formed.ensures c.requires.ready)
 
 pub returns-clause-refuted : goal.returns-clause-refuted
 returns-clause-refuted g c = λ q.

@@ -21,9 +21,9 @@ use Rattle.nts_canonical.specs.Forms.{trees_of, form_of}
 use Rattle.nts_response.specs.Forms.{response_at}
 use Rattle.nts_asking.specs.Meant.{Since, meaning_since, IsProvedNow, IsNestedSince}
 use Rattle.nts_trying.specs.Stepping.{AreLeft, AreSettled, bound_of}
-use Rattle.nts_asking.specs.Telling.Reaches.{asks_nothing}
+use Rattle.nts_theory.specs.Telling.Reaches.{asks_nothing}
 use Rattle.nts_asking.proofs.Asking.{IsAskedGoal-extended, kind_asked}
-use Rattle.nts_asking.proofs.AskedGoals.{trees_kept, ok_both, args_there, applicable, evaluates, asks, asked_stays, asked_labels, query_cut, response_refused, ok_two}
+use Rattle.nts_asking.proofs.AskedGoals.{trees_kept, ok_both, ok_two, args_there, applicable, evaluates, evaluates_at, was_asked, asked_stays, asked_labels, query_cut, response_refused, ok_three}
 use Rattle.nts_asking.proofs.AnsweredQueries.{first_entries, query_environment, query_predicate, args_later}
 use Rattle.nts_trying.proofs.Labels.{only_earlier, only_back, only_same, only_resolved, content_same}
 use Rattle.nts_asking.proofs.Evaluating.{Goes-trans, Goes-extends, Runs-trans, Runs-extends, Runs-refl, rolled_back, Since-later, offers-kept, IsPosed-later, AreValues-later, IsCandidate-extended, candidate_at, goes-back, HoldsGoal-extended}
@@ -33,12 +33,12 @@ use Rattle.nts_canonical.specs.declared.types.Canonical.{Canonical}
 use Rattle.nts_response.specs.declared.types.Response.{Response}
 use Rattle.nts_terms.specs.Handles.{HoldsGoal}
 use Rattle.nts_store.specs.Kept.{map-kept, AllIn-kept}
-use Rattle.nts_asking.specs.Telling.{IsPlainResponse}
-use Rattle.nts_asking.specs.Telling.Tells.{tells_nothing, says_nothing}
-use Rattle.nts_asking.specs.Telling.Fails.{is_unmet}
+use Rattle.nts_theory.specs.Telling.{IsPlainResponse}
+use Rattle.nts_theory.specs.Telling.Tells.{tells_nothing, says_nothing}
+use Rattle.nts_theory.specs.Telling.Fails.{is_unmet}
 use Rattle.nts_trying.proofs.Filtered.{kept_candidates, kept_outcomes, kept_tell}
 use Rattle.nts_trying.proofs.Opened.{told_through, told_offered, refuted_through, nothing_through, labels_through, labels_entered, proved_through}
-use Rattle.nts_trying.proofs.Probed.{found_in, found_still, found_fits, found_derived, went_in, plain_of, doubtful, not_kept, told_or_plain, run_replies, said_of}
+use Rattle.nts_trying.proofs.Probed.{found_in, found_still, found_fits, found_derived, went_in, plain_of, doubtful, not_kept, says_found, says_before, run_replies}
 use Rattle.nts_trying.proofs.Outcomes.{found_earlier, founds_more, founds_with, outcomes_first, outcomes_more, found_merged, told_merged, failed_of}
 use Rattle.nts_trying.proofs.Ran.{breaks, added_is, added_only, ran_to, ran_refused, all_proved, all_posed, proved_all, ok_inside}
 use Rattle.nts_model.specs.Derivations.Rules.{goal_kind}
@@ -51,7 +51,7 @@ use Rattle.nts_asking.specs.Searching.{HeadsTell, IsAnswerTold, IsHeadAnswer, as
 use Rattle.nts_asking.proofs.Searching.{Searches-refl, Searches-trans, search_later, search_grown, search_grows, search_covers, covers_grown, stays_more, served_more, tell_grown, heads_tell_later, search_counted, search_marked, head_answer_later, answer_told_later, form_later, input_later, later_long}
 use Rattle.nts_search.specs.declared.stack.StackEntry.{StackEntry}
 use Rattle.nts_canonical.specs.declared.types.CanonicalInput.{CanonicalInput}
-use Rattle.nts_asking.specs.Answering.{IsAnswerTo}
+use Rattle.nts_asking.specs.Answering.{IsAnswerTo, is_yes, verdict_at}
 use Rattle.nts_model.specs.Searching.Stacks.{IsDerivedFrom, IsProvedFrom, assumptions}
 use Rattle.nts_trying.specs.Found.{Found}
 use Rattle.nts_model.specs.Answers.Responses.{answer_sequent}
@@ -144,9 +144,9 @@ compute_goal-returns g t c =
           let offered = subst (λ os. LeavesOut os (candidates_of c.relevant_candidates.new.cx.nodes c.in_ok-candidates.candidates.items)) (ap (λ m. (g.H.GoalHandler.handler c.relevant_candidates.new.cx.nodes c.args.handler.now).offers (mode_of m) (tree_at c.relevant_candidates.new.cx.nodes c.in-Candidates.opened.param_env.node) (tree_at c.relevant_candidates.new.cx.nodes c.in-Candidates.opened.predicate.node)) c.typing_mode.ensures ∙ same.offers _ _ _) e.offered in
           let run = rw (c.deref.ensures.value, m.same) at (c.evaluate_candidates-response.ensures.told (Since-later (grown o.grows (grown e.grows m.grows)) s) (tell_grown h c.args.depth c.requires.search (grown o.grows (grown e.grows m.grows)) tells)) in
           IfOk-map c.evaluate_candidates-response.result
-          (λ r f. told_through c.requires.posed opened o.grows.extends (let z = c.in-Candidates.ensures.1 in z.asked) h c.args.table.now.mode c.args.values.now c.evaluate_candidates-response.new.cx.nodes r.value trees
+          (λ r f. told_through c.requires.posed opened o.grows.extends posed (let z = c.in-Candidates.ensures.1 in z.asked) h c.args.table.now.mode c.args.values.now c.evaluate_candidates-response.new.cx.nodes r.value trees
           (rw (o.goes.mode) at (told_offered h c.enter_forall.new.table.mode c.enter_forall.new.table c.in-Candidates.opened c.args.values.now c.in_ok-candidates.candidates.items c.evaluate_candidates-response.new.cx.nodes r.value e.grows.extends o.goes.table posed.holds (both ∙ sym trees) offered
-          (kept_tell c.evaluate_candidates-response.new.cx.nodes c.in-Candidates.opened h c.enter_forall.new.table.mode c.args.values.now r.value m.kept m.grows.extends (IsTable-extended e.grows.extends o.goes.table) args e.candidates f)))) run;
+          (kept_tell c.evaluate_candidates-response.new.cx.nodes c.in-Candidates.opened h c.enter_forall.new.table.mode c.args.values.now r.value (HoldsGoal-extended e.grows.extends posed.holds) m.kept m.grows.extends (IsTable-extended e.grows.extends o.goes.table) args e.candidates f)))) run;
       refuted = λ s tells n.
           let goes = Goes-trans o.goes (Goes-extends o.goes.table e.grows.extends) in
           let args = args_later c.args.cx.now.nodes c.relevant_candidates.new.cx.nodes c.args.table.now.entries c.enter_forall.new.table.entries c.args.values.now goes.extends goes.continues c.requires.values in
@@ -154,9 +154,12 @@ compute_goal-returns g t c =
           let same = g.met.H.GoalHandler.handler_kept s.base c.relevant_candidates.new.cx.nodes c.args.handler.now s.is_ready (Extends-trans s.extends up) in
           let offered = subst (λ os. LeavesOut os (candidates_of c.relevant_candidates.new.cx.nodes c.in_ok-candidates.candidates.items)) (ap (λ m. (g.H.GoalHandler.handler c.relevant_candidates.new.cx.nodes c.args.handler.now).offers (mode_of m) (tree_at c.relevant_candidates.new.cx.nodes c.in-Candidates.opened.param_env.node) (tree_at c.relevant_candidates.new.cx.nodes c.in-Candidates.opened.predicate.node)) c.typing_mode.ensures ∙ same.offers _ _ _) e.offered in
           let kept = rw (c.deref.ensures.value, m.same) at (c.evaluate_candidates-response.ensures.refuted (Since-later (grown o.grows (grown e.grows m.grows)) s) (tell_grown h c.args.depth c.requires.search (grown o.grows (grown e.grows m.grows)) tells) n) in
-          let run = kept_outcomes c.in-Candidates.opened h c.enter_forall.new.table.mode c.args.values.now m.kept m.grows.extends (IsTable-extended e.grows.extends o.goes.table) args e.candidates kept in
-          refuted_through c.requires.posed opened o.grows.extends (let z = c.in-Candidates.ensures.1 in z.asked) h c.args.table.now.mode (trees_of c.relevant_candidates.new.cx.nodes c.args.values.now)
-          (rw (here, o.goes.mode, offers-kept h (mode_of c.args.table.now.mode) e.grows.extends posed.holds) at (all_outcomes offered _ _ refl run));
+          let run = kept_outcomes c.in-Candidates.opened h c.enter_forall.new.table.mode c.args.values.now (HoldsGoal-extended e.grows.extends posed.holds) m.kept m.grows.extends (IsTable-extended e.grows.extends o.goes.table) args e.candidates kept in
+          let both = trees_kept c.args.cx.now.nodes c.relevant_candidates.new.cx.nodes c.args.table.now.entries c.args.values.now up c.requires.values in
+          let environment = e.grows.extends.kept c.in-Candidates.opened.param_env.node posed.holds.env.within in
+          let predicate = e.grows.extends.kept c.in-Candidates.opened.predicate.node posed.holds.predicate.within in
+          refuted_through c.requires.posed opened o.grows.extends posed (let z = c.in-Candidates.ensures.1 in z.asked) h c.args.table.now.mode c.args.values.now
+          (rw (here, o.goes.mode, both, offers-kept h (mode_of c.args.table.now.mode) e.grows.extends posed.holds, environment, predicate) at (all_outcomes offered _ _ refl run));
     }
 
 pub evaluate_candidates-loop-candidate-init : goal.evaluate_candidates-loop-candidate-init
@@ -165,7 +168,7 @@ evaluate_candidates-loop-candidate-init g t c = record {
   grows = record { extends = Extends-refl _; rest = KeepsRest-refl _ };
   searches = Searches-refl c.args.depth c.requires.search (record { extends = Extends-refl _; rest = KeepsRest-refl _ });
   found = λ k d l. absurd (omega (arith, l, ap (length {A = Canonical Response}) c.new-responses.ensures.items));
-  told = λ s tells. outcomes_first c.args.cx.now.nodes c.args.cx.now.nodes c.args.table.now (g.H.GoalHandler.handler s.base c.args.handler.now) c.args.table.now.mode c.args.values.now c.args.candidates.now c.new-responses.result.items c.new-responses.ensures.items;
+  told = λ s tells. outcomes_first c.args.cx.now.nodes c.args.cx.now.nodes c.args.table.now c.args.goal (g.H.GoalHandler.handler s.base c.args.handler.now) c.args.table.now.mode c.args.values.now c.args.candidates.now c.new-responses.result.items c.new-responses.ensures.items;
 }
 
 pub evaluate_candidates-loop-candidate-preserved : goal.evaluate_candidates-loop-candidate-preserved
@@ -194,7 +197,7 @@ evaluate_candidates-loop-candidate-preserved g t c =
           (λ b u f s offered. f (Since-later i.grows s)
           (rw (offers-kept (g.H.GoalHandler.handler s.base c.args.handler.now) (mode_of mode) i.grows.extends holds) (offered_there _ c.args.goal _ cs c.loop-candidate.candidate-index c.candidate-item.is at c.requires.candidates i.grows.extends offered))) f)
           (rw i.same at p.found)) m.kept;
-      told = λ s tells. outcomes_more (g.H.GoalHandler.handler s.base c.args.handler.now) mode cs c.loop-candidate.candidate-index x x rs new c.probe_candidate-answer.result at c.candidate-item.is i.grows.extends p.grows.extends w c.requires.values (candidate_at c.args.cx.now.nodes c.args.goal cs c.loop-candidate.candidate-index x c.requires.candidates at) i.found m.kept
+      told = λ s tells. outcomes_more (g.H.GoalHandler.handler s.base c.args.handler.now) mode cs c.loop-candidate.candidate-index x x rs new c.probe_candidate-answer.result at c.candidate-item.is i.grows.extends p.grows.extends w c.requires.values (candidate_at c.args.cx.now.nodes c.args.goal cs c.loop-candidate.candidate-index x c.requires.candidates at) i.found m.kept holds
           (rw i.same at (p.told (Since-later i.grows s) (later s tells)))
           (failed_of c.probe_candidate-answer.result m.dropped (λ n. rw i.same at (p.refuted (Since-later i.grows s) (later s tells) n))) (i.told s tells);
     }
@@ -252,8 +255,8 @@ probe_candidate-returns g t c =
       found = found_still c.in_ok-response-2.response.value c.in-Ok.certainty p.table r.runs.goes.extends c.terms_are_formed.ensures m.grows.extends c.requires.values m.certainty (not_kept (sym c.keeps_constraints.ensures ∙ c.if-keeps_constraints.false)) (rw back at m.says) m.holds (record { no_hidden = m.nothing.0; no_goals = m.nothing.1 });
       told = λ s tells.
           let h = g.H.GoalHandler.handler s.base c.args.handler.now in
-          run_replies c.start_snapshot.new.self c.args.table.now c.run_candidate.new.table h c.args.table.now.mode c.args.candidate.now (trees_of c.args.cx.now.nodes c.args.values.now) _ (r.told s tells) o.mode o.entries
-          (inr (inr (rw o.entries (plain_of c.in-Ok.certainty _ _ _ (rw (back, still, trees) at m.says) unsure))));
+          run_replies c.start_snapshot.new.self c.args.table.now c.run_candidate.new.table h c.args.table.now.mode c.args.candidate.now c.args.goal (trees_of c.args.cx.now.nodes c.args.values.now) _ (r.told s tells) o.mode o.entries c.terms_are_formed.ensures r.runs.goes.table r.labels
+          (says_before c.in-Ok.certainty (content_of c.args.cx.now.nodes c.start_snapshot.new.self.entries) (content_of c.run_candidate.new.cx.nodes c.run_candidate.new.table.entries) (trees_of c.args.cx.now.nodes c.args.values.now) (verdict_at c.boxed_response.new.cx.nodes c.in_ok-response-2.response.value) (ap is_yes m.certainty) unsure (rw o.entries (plain_of c.in-Ok.certainty _ _ _ (rw (back, still, trees) at m.says) unsure)));
       refuted = search rules;
     }
 
@@ -276,8 +279,8 @@ probe_candidate-returns-then-keeps_constraints g t c =
           (λ y s offered. served_more covers (rw o.mode at (r.proved s (rw o.mode offered) (ap Ok y))));
       told = λ s tells.
           let h = g.H.GoalHandler.handler s.base c.args.handler.now in
-          run_replies c.start_snapshot.new.self c.args.table.now c.run_candidate.new.table h c.args.table.now.mode c.args.candidate.now (trees_of c.args.cx.now.nodes c.args.values.now) _ (r.told s tells) o.mode o.entries
-          (said_of (told_or_plain c.in-Ok.certainty _ _ _ (rw trees at m.says)));
+          run_replies c.start_snapshot.new.self c.args.table.now c.run_candidate.new.table h c.args.table.now.mode c.args.candidate.now c.args.goal (trees_of c.args.cx.now.nodes c.args.values.now) _ (r.told s tells) o.mode o.entries c.terms_are_formed.ensures r.runs.goes.table r.labels
+          (says_found c.in-Ok.certainty (content_of c.args.cx.now.nodes c.start_snapshot.new.self.entries) (content_of c.run_candidate.new.cx.nodes c.run_candidate.new.table.entries) (trees_of c.args.cx.now.nodes c.args.values.now) (verdict_at c.boxed_response-response.new.cx.nodes c.in_ok-response.field-0.value) (ap is_yes m.certainty) (rw trees at m.says));
       refuted = search rules;
     }
 

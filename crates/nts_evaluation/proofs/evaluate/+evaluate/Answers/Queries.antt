@@ -21,9 +21,9 @@ use Rattle.nts_canonical.specs.Forms.{trees_of, form_of}
 use Rattle.nts_response.specs.Forms.{response_at}
 use Rattle.nts_asking.specs.Meant.{Since, meaning_since, IsProvedNow, IsNestedSince}
 use Rattle.nts_trying.specs.Stepping.{AreLeft, AreSettled, bound_of}
-use Rattle.nts_asking.specs.Telling.Reaches.{asks_nothing}
+use Rattle.nts_theory.specs.Telling.Reaches.{asks_nothing}
 use Rattle.nts_asking.proofs.Asking.{IsAskedGoal-extended, kind_asked}
-use Rattle.nts_asking.proofs.AskedGoals.{trees_kept, ok_both, args_there, applicable, evaluates, asks, asked_stays, asked_labels, query_cut, response_refused, ok_two}
+use Rattle.nts_asking.proofs.AskedGoals.{trees_kept, ok_both, ok_two, args_there, applicable, evaluates, evaluates_at, was_asked, asked_stays, asked_labels, query_cut, response_refused, ok_three}
 use Rattle.nts_asking.proofs.AnsweredQueries.{first_entries, query_environment, query_predicate, args_later}
 use Rattle.nts_trying.proofs.Labels.{only_earlier, only_back, only_same, only_resolved, content_same}
 use Rattle.nts_asking.proofs.Evaluating.{Goes-trans, Goes-extends, Runs-trans, Runs-extends, Runs-refl, rolled_back, Since-later, offers-kept, IsPosed-later, AreValues-later, IsCandidate-extended, candidate_at, goes-back, HoldsGoal-extended}
@@ -33,12 +33,12 @@ use Rattle.nts_canonical.specs.declared.types.Canonical.{Canonical}
 use Rattle.nts_response.specs.declared.types.Response.{Response}
 use Rattle.nts_terms.specs.Handles.{HoldsGoal}
 use Rattle.nts_store.specs.Kept.{map-kept, AllIn-kept}
-use Rattle.nts_asking.specs.Telling.{IsPlainResponse}
-use Rattle.nts_asking.specs.Telling.Tells.{tells_nothing, says_nothing}
-use Rattle.nts_asking.specs.Telling.Fails.{is_unmet}
+use Rattle.nts_theory.specs.Telling.{IsPlainResponse}
+use Rattle.nts_theory.specs.Telling.Tells.{tells_nothing, says_nothing}
+use Rattle.nts_theory.specs.Telling.Fails.{is_unmet}
 use Rattle.nts_trying.proofs.Filtered.{kept_candidates, kept_outcomes, kept_tell}
 use Rattle.nts_trying.proofs.Opened.{told_through, told_offered, refuted_through, nothing_through, labels_through, labels_entered, proved_through}
-use Rattle.nts_trying.proofs.Probed.{found_in, found_still, found_fits, found_derived, went_in, plain_of, doubtful, not_kept, told_or_plain, run_replies, said_of}
+use Rattle.nts_trying.proofs.Probed.{found_in, found_still, found_fits, found_derived, went_in, plain_of, doubtful, not_kept, says_found, says_before, run_replies}
 use Rattle.nts_trying.proofs.Outcomes.{found_earlier, founds_more, founds_with, outcomes_first, outcomes_more, found_merged, told_merged, failed_of}
 use Rattle.nts_trying.proofs.Ran.{breaks, added_is, added_only, ran_to, ran_refused, all_proved, all_posed, proved_all, ok_inside}
 use Rattle.nts_model.specs.Derivations.Rules.{goal_kind}
@@ -51,7 +51,7 @@ use Rattle.nts_asking.specs.Searching.{HeadsTell, IsAnswerTold, IsHeadAnswer, as
 use Rattle.nts_asking.proofs.Searching.{Searches-refl, Searches-trans, search_later, search_grown, search_grows, search_covers, covers_grown, stays_more, served_more, tell_grown, heads_tell_later, search_counted, search_marked, head_answer_later, answer_told_later, form_later, input_later, later_long}
 use Rattle.nts_search.specs.declared.stack.StackEntry.{StackEntry}
 use Rattle.nts_canonical.specs.declared.types.CanonicalInput.{CanonicalInput}
-use Rattle.nts_asking.specs.Answering.{IsAnswerTo}
+use Rattle.nts_asking.specs.Answering.{IsAnswerTo, is_yes}
 use Rattle.nts_model.specs.Searching.Stacks.{IsDerivedFrom, IsProvedFrom, assumptions}
 use Rattle.nts_trying.specs.Found.{Found}
 use Rattle.nts_model.specs.Answers.Responses.{answer_sequent}
@@ -77,10 +77,6 @@ evaluate_goal-returns g t c =
       runs = Runs-trans (Runs-extends c.requires.posed.table (Extends-trans q.grows.extends k.grows.extends) (KeepsRest-trans q.grows.rest k.grows.rest)) c.apply_answer-evaluated.ensures.runs;
       searches = let q = c.in_ok-originals.ensures in search_grown (c.args.depth + 1) c.requires.search (search_then (c.args.depth + 1) c.requires.search q.grows c.in_ok-answer.ensures.searches) (ran c.apply_answer-evaluated.ensures.runs);
       err = search rules;
-      evaluates =
-          ok_both c.apply_answer-evaluated.result
-          (λ x same applied. evaluates c.requires.posed q.query q.grows.extends k.grows.extends c.apply_answer-evaluated.new.table c.in_ok-answer.answer.value applied k.fits x.has_changed same)
-          (rw c.deref-2.ensures at e.changed) (rw (c.deref.ensures.value, c.deref-2.ensures) at e.applied);
       labels = OnOk-map c.apply_answer-evaluated.result (λ h. asked_labels c.requires.posed q.query q.grows.extends c.in_ok-answer.ensures.grows.extends h) (rw c.deref.ensures.value at c.apply_answer-evaluated.ensures.labels);
       proved = λ s.
           let covers = covers_grown (c.args.depth + 1) (search_later (c.args.depth + 1) (c.args.depth + 1) (omega arith) c.requires.search upto) (ran e.runs) in
@@ -91,9 +87,10 @@ evaluate_goal-returns g t c =
           (rw q.query.mode at (k.proved (Since-later q.grows s) (sym is ∙ y))))))
           (rw c.deref-2.ensures at e.certainty) (rw (c.deref.ensures.value, c.deref-2.ensures) at e.applied);
       told = λ s tells.
-          OnOk-map c.apply_answer-evaluated.result
-          (λ applied. asks c.requires.posed q.query q.grows.extends k.grows.extends c.apply_answer-evaluated.new.table c.in_ok-answer.answer.value applied k.fits (rw q.query.mode at (k.told (Since-later q.grows s) (tell_grown (g.H.GoalHandler.handler s.base c.args.handler.now) (c.args.depth + 1) c.requires.search q.grows tells))))
-          (rw (c.deref.ensures.value, c.deref-2.ensures) at c.apply_answer-evaluated.ensures.applied);
+          let told = k.told (Since-later q.grows s) (tell_grown (g.H.GoalHandler.handler s.base c.args.handler.now) (c.args.depth + 1) c.requires.search q.grows tells) in
+          ok_three c.apply_answer-evaluated.result
+          (λ x sure same applied. evaluates c.requires.posed q.query q.grows.extends k.grows.extends c.apply_answer-evaluated.new.table c.in_ok-answer.answer.value applied (g.H.GoalHandler.handler s.base c.args.handler.now) c.args.table.now.mode k.fits (rw q.query.mode at told) x.certainty sure x.has_changed same)
+          (rw c.deref-2.ensures at e.certainty) (rw c.deref-2.ensures at e.changed) (rw (c.deref.ensures.value, c.deref-2.ensures) at e.applied);
       refuted = λ s tells n. inl (response_refused c.requires.posed q.query q.grows.extends k.grows.extends c.in_ok-answer.answer.value k.fits (rw q.query.mode at (k.told (Since-later q.grows s) (tell_grown (g.H.GoalHandler.handler s.base c.args.handler.now) (c.args.depth + 1) c.requires.search q.grows tells))) (rw (c.deref.ensures.value, c.deref-2.ensures) at (c.apply_answer-evaluated.ensures.no n)));
     }
 
@@ -187,8 +184,8 @@ evaluate_round-returns g t c =
           let before = (tell_pushed c.push_query.new.graph (g.H.GoalHandler.handler s.base c.args.handler.now) (c.args.depth + 1) c.args.asked.value.input c.args.step c.args.asked.value.provisional c.requires.search k.grows c.requires.input c.requires.provisional c.in_ok-push_query.ensures.pushed tells told) in
           IfOk-map c.end_round.result
           (λ w ends. round_ends (IsAnswerTold h mode c.compute_goal-response.new.cx.nodes f) c.compute_goal-response.result w.value.answer ends
-          (λ r is. rw (x.first, x.environment, x.predicate, x.values, x.mode) at (rw (c.deref_mut.ensures.value, c.deref-2.ensures.value, is) at (c.compute_goal-response.ensures.told (Since-later k.grows s) before)))
-          (λ no. rw (x.first, x.environment, x.predicate, x.mode) at (rw c.deref_mut.ensures.value at (c.compute_goal-response.ensures.refuted (Since-later k.grows s) before no))))
+          (λ r is. rw (x.first, x.environment, x.predicate, x.values, x.mode) at ((rw (c.deref_mut.ensures.value, c.deref-2.ensures.value, is) at (c.compute_goal-response.ensures.told (Since-later k.grows s) before)) (kinds_of c.args.asked.value.input)))
+          (λ no. rw (x.first, x.environment, x.predicate, x.values, x.mode) at (rw (c.deref_mut.ensures.value, c.deref-2.ensures.value) at (c.compute_goal-response.ensures.refuted (Since-later k.grows s) before no))))
           c.end_round.ensures.answer;
       no = search rules;
     }
@@ -224,7 +221,7 @@ evaluate_rounds-loop-round-init g t c =
       searches = Searches-refl (c.args.depth + 1) c.requires.search u.grows;
       input = first.input;
       fits = first_fits c.first_round.new.cx.nodes c.args.input.value c.in_ok-asked.asked.value first;
-      told = λ s tells. first_told (g.H.GoalHandler.handler s.base c.args.handler.now) (mode_of c.args.input.value.typing_mode) c.first_round.new.cx.nodes (form_of c.args.cx.now.nodes c.args.input.value) c.args.input.value c.in_ok-asked.asked.value first;
+      told = λ s tells. first_told (g.H.GoalHandler.handler s.base c.args.handler.now) (mode_of c.args.input.value.typing_mode) c.first_round.new.cx.nodes (form_of c.args.cx.now.nodes c.args.input.value) c.args.input.value c.in_ok-asked.asked.value refl first;
     }
 
 pub evaluate_rounds-loop-round-preserved : goal.evaluate_rounds-loop-round-preserved
