@@ -1,4 +1,5 @@
 //! What offers the rules of traits.
 pub use nts_delegate::{
-    CandidateData, CandidateGoal, Equation, EquationKind, GoalHandler, RegionConstraint,
+    CandidateData, CandidateGoal, Clause, Clauses, Equation, EquationKind, GoalHandler,
+    RegionConstraint,
 };

@@ -1,5 +1,10 @@
 //! The evaluation of goals, the contexts in which rules are written, and what steps and cycles count as.
+pub use nts_certainty::{
+    Certainty, GoalSource, HasChanged, MaybeCause, MaybeInfo, OpaqueTypesJank, PathKind,
+    RerunCondition,
+};
 pub use nts_contexts::{EvalCtxt, EvalState};
 pub use nts_evaluation::{GoalEvaluation, GoalStalledOn, evaluate_root_goal, goal_is_admitted};
 pub use nts_merging::{MergeCandidateInfo, bail_with_ambiguity, flounder, try_merge_candidates};
 pub use nts_search::{CurrentGoalKind, initial_provisional_result, step_kind_for_source};
+pub use nts_terms::{TypingMode, VisibleForLeakCheck};

@@ -10,6 +10,7 @@ use Rattle.nts_asking.proofs.Evaluating.{IsPosed-opened}
 use Rattle.nts_contexts.specs.declared.context.EvalCtxt.{EvalCtxt}
 use Rattle.nts_trying.specs.Stepping.{ArePosed}
 use Rattle.nts_contexts.specs.Contexts.{IsContextReady, IsOpened, IsCopy, IsProbe, IsRootContext}
+use Rattle.nts_terms.specs.declared.modes.Span.{Span}
 
 -- no goals
 pub none_posed : {ts : List Tree} {t : Table} → ArePosed ts t []
@@ -36,12 +37,13 @@ probe_begun {H} {ready} {a} {c} h none o x q s =
       fault = s.fault;
       steps = s.steps;
       depth = s.depth;
+      span = s.span;
     }
 
 -- a root context as it begins
-pub root_begun : {H : Type 0} {ready : List Tree → H → Type 0} {t : Table} {s : Cx} {h : H} {n : ℕ} {c : EvalCtxt H} → IsTable s.nodes t → ready s.nodes h → IsOpened t c.table.now → c.cx.now ≡ s → c.handler.now ≡ h
-    → c.state.now.nested_goals.items ≡ [] → c.state.now.is_tainted ≡ false → c.state.now.fault ≡ None → c.state.now.last_steps ≡ 0 → c.state.now.root_depth ≡ n → IsRootContext ready t s h n c
-root_begun w k o x q e t f z d =
+pub root_begun : {H : Type 0} {ready : List Tree → H → Type 0} {t : Table} {s : Cx} {h : H} {n : ℕ} {at : Span} {c : EvalCtxt H} → IsTable s.nodes t → ready s.nodes h → IsOpened t c.table.now → c.cx.now ≡ s → c.handler.now ≡ h
+    → c.state.now.nested_goals.items ≡ [] → c.state.now.is_tainted ≡ false → c.state.now.fault ≡ None → c.state.now.last_steps ≡ 0 → c.state.now.root_depth ≡ n → c.state.now.span ≡ at → IsRootContext ready t s h n at c
+root_begun w k o x q e t f z d y =
     record {
       is_ready = record { table = rw x (IsTable-opened w o.entries o.saved); goals = rw e none_posed; handler = rw (x, q) k };
       table = o;
@@ -52,4 +54,5 @@ root_begun w k o x q e t f z d =
       fault = f;
       steps = z;
       depth = d;
+      span = y;
     }

@@ -15,8 +15,9 @@ use Rattle.nts_contexts.specs.declared.context.EvalCtxt.{EvalCtxt}
 use Rattle.nts_contexts.specs.Contexts.{IsGoalOfContext, KeepsContext, IsOpened, IsRootContext, IsProbe}
 use Rattle.nts_contexts.specs.Related.{IsEnvOf}
 use Rattle.nts_contexts.proofs.Relates.{env_later}
+use Rattle.nts_terms.specs.declared.modes.Span.{Span}
 
-pub goal_in_root : {H : Type 0} {ready : List Tree → H → Type 0} {t : Table} {s : Cx} {h : H} {n : ℕ} {c : EvalCtxt H} {g : Goal} → IsRootContext ready t s h n c → IsPosed s.nodes t g → IsGoalOfContext c g
+pub goal_in_root : {H : Type 0} {ready : List Tree → H → Type 0} {t : Table} {s : Cx} {h : H} {n : ℕ} {at : Span} {c : EvalCtxt H} {g : Goal} → IsRootContext ready t s h n at c → IsPosed s.nodes t g → IsGoalOfContext c g
 goal_in_root r p = (let o = r.table in rw r.cx (IsPosed-opened p o.entries o.saved))
 
 pub goal_in_probe : {H : Type 0} {ready : List Tree → H → Type 0} {a c : EvalCtxt H} {g : Goal} → IsProbe ready a c → IsGoalOfContext a g → IsGoalOfContext c g
@@ -28,7 +29,7 @@ goal_later k p = (let r = k.runs in IsPosed-later r.goes p)
 env_opened : {a : Cx} {t u : Table} {env : ParamEnv} → IsOpened t u → IsEnvOf a t env → IsEnvOf a u env
 env_opened o s = (let e = o.entries in record { holds = s.holds; knows = rw e s.knows })
 
-pub env_in_root : {H : Type 0} {ready : List Tree → H → Type 0} {t : Table} {s : Cx} {h : H} {n : ℕ} {c : EvalCtxt H} {env : ParamEnv} → IsRootContext ready t s h n c → IsEnvOf s t env → IsEnvOf c.cx.now c.table.now env
+pub env_in_root : {H : Type 0} {ready : List Tree → H → Type 0} {t : Table} {s : Cx} {h : H} {n : ℕ} {at : Span} {c : EvalCtxt H} {env : ParamEnv} → IsRootContext ready t s h n at c → IsEnvOf s t env → IsEnvOf c.cx.now c.table.now env
 env_in_root r e = rw r.cx (env_opened r.table e)
 
 pub env_in_probe : {H : Type 0} {ready : List Tree → H → Type 0} {a c : EvalCtxt H} {env : ParamEnv} → IsProbe ready a c → IsEnvOf a.cx.now a.table.now env → IsEnvOf c.cx.now c.table.now env
@@ -43,10 +44,10 @@ side_opened o s = (let e = o.entries in record { holds = s.holds; known = rw e s
 plain_opened : {ts : List Tree} {t u : Table} {p : Place} {x : NodeId} → IsOpened t u → IsPlainSide p ts t x → IsPlainSide p ts u x
 plain_opened o s = (let e = o.entries in record { holds = s.holds; known = rw e s.known; plain = rw e s.plain })
 
-pub side_in_root : {H : Type 0} {ready : List Tree → H → Type 0} {t : Table} {s : Cx} {h : H} {n : ℕ} {c : EvalCtxt H} {p : Place} {x : NodeId} → IsRootContext ready t s h n c → IsSide p s.nodes t x → IsSide p c.cx.now.nodes c.table.now x
+pub side_in_root : {H : Type 0} {ready : List Tree → H → Type 0} {t : Table} {s : Cx} {h : H} {n : ℕ} {at : Span} {c : EvalCtxt H} {p : Place} {x : NodeId} → IsRootContext ready t s h n at c → IsSide p s.nodes t x → IsSide p c.cx.now.nodes c.table.now x
 side_in_root r d = rw r.cx (side_opened r.table d)
 
-pub plain_in_root : {H : Type 0} {ready : List Tree → H → Type 0} {t : Table} {s : Cx} {h : H} {n : ℕ} {c : EvalCtxt H} {p : Place} {x : NodeId} → IsRootContext ready t s h n c → IsPlainSide p s.nodes t x → IsPlainSide p c.cx.now.nodes c.table.now x
+pub plain_in_root : {H : Type 0} {ready : List Tree → H → Type 0} {t : Table} {s : Cx} {h : H} {n : ℕ} {at : Span} {c : EvalCtxt H} {p : Place} {x : NodeId} → IsRootContext ready t s h n at c → IsPlainSide p s.nodes t x → IsPlainSide p c.cx.now.nodes c.table.now x
 plain_in_root r d = rw r.cx (plain_opened r.table d)
 
 pub side_in_probe : {H : Type 0} {ready : List Tree → H → Type 0} {a c : EvalCtxt H} {p : Place} {x : NodeId} → IsProbe ready a c → IsSide p a.cx.now.nodes a.table.now x → IsSide p c.cx.now.nodes c.table.now x

@@ -13,6 +13,7 @@ use Rattle.nts_asking.specs.Evaluation.{Runs, IsPosed}
 use Rattle.nts_trying.specs.Stepping.{ArePosed}
 use Rattle.nts_contexts.specs.declared.state.EvalState.{EvalState}
 use Rattle.nts_contexts.specs.declared.context.EvalCtxt.{EvalCtxt}
+use Rattle.nts_terms.specs.declared.modes.Span.{Span}
 
 -- what a context's table stands for
 abbrev pub content_in : {H : Type 0} → EvalCtxt H → Content
@@ -49,13 +50,14 @@ pub record EvaluatedNothing (old new : EvalState) : Type 0 where
   pub taint : new.is_tainted ≡ old.is_tainted
   pub steps : new.last_steps ≡ old.last_steps
 
--- a state with the same goals and taint, without a fault
+-- a state with the same goals, taint and place, without a fault
 pub record IsCopy (old new : EvalState) : Type 0 where
   pub goals : new.nested_goals.items ≡ old.nested_goals.items
   pub taint : new.is_tainted ≡ old.is_tainted
   pub fault : new.fault ≡ None
   pub steps : new.last_steps ≡ old.last_steps
   pub depth : new.root_depth ≡ old.root_depth
+  pub span : new.span ≡ old.span
 
 -- the table with one more snapshot
 pub record IsOpened (t u : Table) : Type 0 where
@@ -63,8 +65,8 @@ pub record IsOpened (t u : Table) : Type 0 where
   pub saved : u.saved ≡ t.saved ++ t.entries ∷ []
   pub mode : u.mode ≡ t.mode
 
--- a root context as it begins, over this table, store and handler
-pub record IsRootContext {H : Type 0} (ready : List Tree → H → Type 0) (t : Table) (s : Cx) (h : H) (n : ℕ) (c : EvalCtxt H) : Type 0 where
+-- a root context as it begins, over this table, store and handler, with this depth and place in the user's text
+pub record IsRootContext {H : Type 0} (ready : List Tree → H → Type 0) (t : Table) (s : Cx) (h : H) (n : ℕ) (at : Span) (c : EvalCtxt H) : Type 0 where
   pub is_ready : IsContextReady ready c
   pub table : IsOpened t c.table.now
   pub cx : c.cx.now ≡ s
@@ -74,6 +76,7 @@ pub record IsRootContext {H : Type 0} (ready : List Tree → H → Type 0) (t : 
   pub fault : c.state.now.fault ≡ None
   pub steps : c.state.now.last_steps ≡ 0
   pub depth : c.state.now.root_depth ≡ n
+  pub span : c.state.now.span ≡ at
 
 -- the context of a probe as it begins, in that context
 pub record IsProbe {H : Type 0} (ready : List Tree → H → Type 0) (outer c : EvalCtxt H) : Type 0 where
@@ -86,6 +89,7 @@ pub record IsProbe {H : Type 0} (ready : List Tree → H → Type 0) (outer c : 
   pub fault : c.state.now.fault ≡ None
   pub steps : c.state.now.last_steps ≡ outer.state.now.last_steps
   pub depth : c.state.now.root_depth ≡ outer.state.now.root_depth
+  pub span : c.state.now.span ≡ outer.state.now.span
 
 -- a closure whose calls are such was called with a context that begins so, answered r, and left a context like that
 pub record IsContextRun {H R : Type 0} (calls : MutBor (EvalCtxt H) → R → MutBor (EvalCtxt H) → Type 0) (begins : EvalCtxt H → Type 0) (r : R) (leaves : EvalCtxt H → Type 0) : Type 0 where

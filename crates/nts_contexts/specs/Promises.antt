@@ -1,6 +1,6 @@
 -- What the calls of a context promise: one record for each family of calls.
 use Rattle.std.specs.Global.{Vec}
-use Rattle.std.specs.Prelude.{◌≡◌, List, All, Result, Err, IfOk, IfSome, OnOk, OnErr}
+use Rattle.std.specs.Prelude.{◌≡◌, ◌≢◌, List, None, All, Result, Err, IfOk, IfSome, OnOk, OnErr}
 use Rattle.nts_model.specs.declared.labels.Variance.{Variance}
 use Rattle.nts_model.specs.declared.labels.Variance.TheVariants as variance
 use Rattle.nts_model.specs.Terms.Trees.{Tree}
@@ -42,6 +42,8 @@ pub record RelatesIn {H : Type 0} (ready : List Tree → H → Type 0) (OfOneHea
   pub equal : ArePlainIn v a.cx.now.nodes a.table.now.entries x y → OnOk r (AreEquatedIn a.cx.now b.cx.now a.table.now b.table.now a.state.now b.state.now x y)
   pub no : r ≡ Err error.NoSolution → OfOneHead → RefusesIn (variances_in a.cx.now.declarations) a.cx.now.nodes a.table.now.entries v x y
   pub unequal : ArePlainIn v a.cx.now.nodes a.table.now.entries x y → r ≡ Err error.NoSolution → OfOneHead → AreUnrelatedIn a.cx.now.nodes a.table.now.entries x y
+  -- no universe is asked for
+  pub full : a.state.now.fault ≡ None → r ≢ Err error.Full
   pub goals : OnErr r (b.state.now.nested_goals.items ≡ a.state.now.nested_goals.items)
   pub err : OnErr r (b.table.now ≡ a.table.now)
   pub nothing : EvaluatedNothing a.state.now b.state.now
@@ -59,6 +61,8 @@ pub record EquatesIn {H : Type 0} (ready : List Tree → H → Type 0) (OfOneHea
   pub equal : ArePlainIn variance.Invariant a.cx.now.nodes a.table.now.entries x y → IfOk r (λ gs. AreMadeEqualIn a.cx.now.nodes b.cx.now.nodes a.table.now.entries b.table.now.entries x y gs.items)
   pub no : r ≡ Err error.NoSolution → OfOneHead → RefusesIn (variances_in a.cx.now.declarations) a.cx.now.nodes a.table.now.entries variance.Invariant x y
   pub unequal : ArePlainIn variance.Invariant a.cx.now.nodes a.table.now.entries x y → r ≡ Err error.NoSolution → OfOneHead → AreUnrelatedIn a.cx.now.nodes a.table.now.entries x y
+  -- no universe is asked for
+  pub full : a.state.now.fault ≡ None → r ≢ Err error.Full
   pub err : OnErr r (b.table.now ≡ a.table.now)
   pub nothing : EvaluatedNothing a.state.now b.state.now
   pub fault : b.state.now.fault ≡ fault_after a.state.now.fault r

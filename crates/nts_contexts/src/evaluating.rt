@@ -1,8 +1,8 @@
 //! Goals of a context are evaluated.
-ghost use Rattle.std.specs.Prelude.{◌≡◌, ◌≤◌, ◌+◌, true, [], None, Ok, Err, IfOk, OnOk};
+ghost use Rattle.std.specs.Prelude.{◌≡◌, ◌≤◌, ◌+◌, true, false, [], None, Ok, Err, IfOk, OnOk};
 ghost use Rattle.nts_certainty.specs.declared.certainty.Certainty.TheVariants as certainty;
 ghost use Rattle.nts_response.specs.Forms.{response_at, HoldsResponse};
-ghost use Rattle.nts_asking.specs.Asking.{IsResponseOf};
+ghost use Rattle.nts_theory.specs.Telling.{IsResponseOf};
 ghost use Rattle.nts_asking.specs.Answering.{told_in};
 ghost use Rattle.nts_asking.specs.Meant.{rules_of, Always};
 ghost use Rattle.nts_contexts.specs.Faults.{fault_after, tainted_after};
@@ -77,6 +77,17 @@ impl<H: GoalHandler> EvalCtxt<'_, H> {
         ensures holds { IfOk result (λ r. HoldsResponse self.new.cx.now.nodes r.value) }
         ensures tainted { self.old.state.now.fault ≡ None →
             self.old.state.now.is_tainted ≡ true → result ≡ Err EvalError.NoSolution }
+        ensures steps { self.old.state.now.fault ≡ None → self.old.state.now.is_tainted ≡ false →
+            self.new.state.now.last_steps ≤ self.old.cx.now.step_limit }
+        ensures told { Always (rules_of H.ready H.handler self.old.handler.now) self.old.cx.now
+            (λ s. OnOk result
+            (ReachesAdded (H.handler s.base self.old.handler.now) self.old self.new)) }
+        ensures refuted { Always (rules_of H.ready H.handler self.old.handler.now) self.old.cx.now
+            (λ s. self.old.state.now.is_tainted ≡ false → result ≡ Err EvalError.NoSolution →
+            RefusesOneAdded (H.handler s.base self.old.handler.now) self.old) }
+        ensures taint { self.new.state.now.is_tainted
+            ≡ tainted_after self.old.state.now.is_tainted result }
+        ensures fault { self.new.state.now.fault ≡ fault_after self.old.state.now.fault result }
     {
         self.state.check()?;
         if self.state.is_tainted {

@@ -1,5 +1,5 @@
 //! Goals that are added to a context.
-ghost use Rattle.std.specs.Prelude.{◌≡◌, ◌++◌, ◌∷◌, [], map, All, Ok, None, Err, IfSome, OnOk, OnErr};
+ghost use Rattle.std.specs.Prelude.{◌≡◌, ◌++◌, ◌∷◌, [], map, All, Ok, None, Err, IfSome, OnOk, OnErr, IsOkUnless};
 ghost use Rattle.nts_store.specs.Errors.{error_of};
 ghost use Rattle.nts_contexts.specs.Faults.{fault_after};
 ghost use Rattle.nts_contexts.specs.Contexts.{IsContextReady, KeepsContext, IsGoalOfContext, EvaluatedNothing};
@@ -23,6 +23,7 @@ impl<H: GoalHandler> EvalCtxt<'_, H> {
             (source, goal) ∷ []) }
         ensures err { OnErr result
             (self.new.state.now.nested_goals.items ≡ self.old.state.now.nested_goals.items) }
+        ensures memory { self.old.state.now.fault ≡ None → IsOkUnless result EvalError.Memory }
         ensures nothing { EvaluatedNothing self.old.state.now self.new.state.now }
         ensures fault { self.new.state.now.fault ≡ fault_after self.old.state.now.fault result }
         ensures faulted { IfSome self.old.state.now.fault (λ f. result ≡ Err (error_of f)) }
@@ -45,6 +46,7 @@ impl<H: GoalHandler> EvalCtxt<'_, H> {
         ensures err { OnErr result
             (self.new.state.now.nested_goals.items ≡ self.old.state.now.nested_goals.items) }
         ensures empty { goals.now ≡ [] → self.old.state.now.fault ≡ None → result ≡ Ok tt }
+        ensures memory { self.old.state.now.fault ≡ None → IsOkUnless result EvalError.Memory }
         ensures nothing { EvaluatedNothing self.old.state.now self.new.state.now }
         ensures fault { self.new.state.now.fault ≡ fault_after self.old.state.now.fault result }
         ensures faulted { IfSome self.old.state.now.fault (λ f. result ≡ Err (error_of f)) }

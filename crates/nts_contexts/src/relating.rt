@@ -1,5 +1,5 @@
 //! Values that are related in a context.
-ghost use Rattle.std.specs.Prelude.{◌≡◌, ◌++◌, [], map, Ok, Err, IfOk, IfErr, IfSome, OnOk, OnErr};
+ghost use Rattle.std.specs.Prelude.{◌≡◌, ◌≢◌, ◌++◌, [], map, None, Ok, Err, IfOk, IfErr, IfSome, OnOk, OnErr};
 ghost use Rattle.nts_certainty.specs.declared.sources.GoalSource.TheVariants as sources;
 ghost use Rattle.nts_model.specs.declared.labels.Variance.TheVariants as variances;
 ghost use Rattle.nts_model.specs.Tables.Equations.{AreRelated, AreUnrelated};
@@ -37,6 +37,7 @@ fn push_related(
     ensures none { IfOk related (λ gs. gs.items ≡ [] → result ≡ Ok tt) }
     ensures refused { IfErr related (λ e. result ≡ Err e) }
     ensures no { result ≡ Err EvalError.NoSolution → related ≡ Err EvalError.NoSolution }
+    ensures full { result ≡ Err EvalError.Full → related ≡ Err EvalError.Full }
     ensures err { OnErr result (state.new.nested_goals.items ≡ state.old.nested_goals.items) }
     ensures kept { KeepsState state.old state.new }
 {
@@ -75,6 +76,7 @@ fn relate_and_push<T: Relate>(
     ensures unequal { ArePlainIn variance cx.old.nodes table.old.entries (T.id lhs) (T.id rhs) →
         result ≡ Err EvalError.NoSolution → T.head lhs ≡ T.head rhs →
         AreUnrelatedIn cx.old.nodes table.old.entries (T.id lhs) (T.id rhs) }
+    ensures full { result ≢ Err EvalError.Full }
     ensures goals { OnErr result (state.new.nested_goals.items ≡ state.old.nested_goals.items) }
     ensures err { OnErr result (table.new ≡ table.old) }
     ensures kept { KeepsState state.old state.new }
@@ -184,6 +186,7 @@ impl<H: GoalHandler> EvalCtxt<'_, H> {
         ensures no { result ≡ Err EvalError.NoSolution → T.head lhs ≡ T.head rhs →
             AreUnrelated (content_in self.old) (tree_in self.old (T.id lhs)) (tree_in self.old
             (T.id rhs)) }
+        ensures full { self.old.state.now.fault ≡ None → result ≢ Err EvalError.Full }
         ensures err { OnErr result (self.new.table.now ≡ self.old.table.now) }
         ensures nothing { EvaluatedNothing self.old.state.now self.new.state.now }
         ensures fault { self.new.state.now.fault ≡ fault_after self.old.state.now.fault result }

@@ -41,3 +41,6 @@ pub returns-clause-unequal : goal.returns-clause-unequal
 returns-clause-unequal g c = λ p q h.
     let r = c.push_related-pushed.ensures.no (sym c.commit_if_ok.ensures.same ∙ q) in
     rw c.in_ok-snapshot.ensures.entries at (c.relate-related.ensures.unequal (rw c.in_ok-snapshot.ensures.entries p) r h)
+
+pub returns-clause-full : goal.returns-clause-full
+returns-clause-full g c = λ q. c.relate-related.ensures.full (c.push_related-pushed.ensures.full (sym c.commit_if_ok.ensures.same ∙ q))

@@ -11,7 +11,7 @@ pub returns-clause-runs : goal.returns-clause-runs
 returns-clause-runs g c =
     let s = c.in_ok-snapshot.ensures in
     let e = c.commit_if_ok.ensures in
-    let k = c.requires.keeps _ _ _ c.f-answer.ensures (root_begun c.requires.table c.requires.ready (record { entries = s.entries; saved = s.saved; mode = s.mode }) refl refl c.new.ensures.items refl refl refl refl).is_ready in
+    let k = c.requires.keeps _ _ _ c.f-answer.ensures (root_begun c.requires.table c.requires.ready (record { entries = s.entries; saved = s.saved; mode = s.mode }) refl refl c.new.ensures.items refl refl refl refl refl).is_ready in
     runs_at (search rules) (ended_runs c.commit_if_ok.result c.requires.table (record { entries = s.entries; saved = s.saved; mode = s.mode }) k.runs (search rules) e.ok e.err e.saved e.mode)
 
 pub returns-clause-answers : goal.returns-clause-answers
@@ -22,7 +22,7 @@ returns-clause-answers g c n =
     record {
       before = _;
       after = _;
-      begun = root_begun c.requires.table c.requires.ready (record { entries = s.entries; saved = s.saved; mode = s.mode }) refl refl c.new.ensures.items refl refl refl refl;
+      begun = root_begun c.requires.table c.requires.ready (record { entries = s.entries; saved = s.saved; mode = s.mode }) refl refl c.new.ensures.items refl refl refl refl refl;
       called = rw (sym (e.same ∙ a.1)) at c.f-answer.ensures;
       left = record { cx = search rules; table = left_at _ _ c.f-answer.new.arg2.table.now.entries c.commit_if_ok.result e.ok (search rules); fault = a.0 };
     }

@@ -1,10 +1,11 @@
-use Rattle.std.proofs.Common.{refl, rules}
+use Rattle.std.proofs.Common.{refl, rules, ap}
 use Rattle.std.proofs.lemmas.Result.{IfOk-from_err}
 use Rattle.nts_unify.specs.Lawful.{content_of-extended}
 use Rattle.nts_asking.proofs.Evaluating.{Goes-extends, Runs-extends}
-use Rattle.nts_trying.proofs.Stepping.{settled_after}
+use Rattle.nts_trying.proofs.Stepping.{settled_after, left_refl}
 use Rattle.nts_contexts.proofs.Frames.{keeps_refl, keeps_then, keeps_ran, none_after}
 use Rattle.nts_contexts.proofs.context.EvalCtxt.evaluate_added_goals_and_make_canonical_response.Goals as goal
+use Rattle.nts_contexts.specs.declared.state.EvalState.{EvalState}
 
 pub returns-in_err-check-clause-keeps : goal.returns-in_err-check-clause-keeps
 returns-in_err-check-clause-keeps g c = keeps_refl c.requires.ready
@@ -32,10 +33,10 @@ returns-in-Err-clause-keeps g c =
 
 pub returns-in_err-check-clause-evaluates : goal.returns-in_err-check-clause-evaluates
 returns-in_err-check-clause-evaluates g c =
-    record { left = search rules; proved = λ s. IfOk-from_err c.from_residual.result _ (search rules); faulted = search rules }
+    record { left = left_refl _; proved = λ s. IfOk-from_err c.from_residual.result _ (search rules); faulted = search rules }
 
 pub returns-then-self-clause-evaluates : goal.returns-then-self-clause-evaluates
-returns-then-self-clause-evaluates g c = record { left = search rules; proved = λ s. tt; faulted = search rules }
+returns-then-self-clause-evaluates g c = record { left = left_refl _; proved = λ s. tt; faulted = search rules }
 
 pub returns-in-Ok-clause-evaluates : goal.returns-in-Ok-clause-evaluates
 returns-in-Ok-clause-evaluates g c =
@@ -52,7 +53,7 @@ returns-in-Ok-clause-evaluates g c =
 pub returns-in-Err-clause-evaluates : goal.returns-in-Err-clause-evaluates
 returns-in-Err-clause-evaluates g c =
     record {
-      left = search rules;
+      left = rw (ap (λ (z : EvalState). z.nested_goals.items) c.note.ensures.fault) c.in_ok-goals_certainty.ensures.evaluates.left;
       proved = λ s. IfOk-from_err c.note.result _ (search rules);
       faulted = search rules;
     }
@@ -63,3 +64,10 @@ returns-in-Ok-clause-says g c =
     let m = c.in-Ok.ensures in
     let h = e.keeps.is_ready in
     rw (← m.certainty, ← content_of-extended m.grows.extends h.table.now) at m.says
+
+pub returns-in-Ok-clause-told : goal.returns-in-Ok-clause-told
+returns-in-Ok-clause-told g c = λ s.
+    let e = c.in_ok-goals_certainty.ensures in
+    let m = c.in-Ok.ensures in
+    let h = e.keeps.is_ready in
+    rw (← content_of-extended m.grows.extends h.table.now) at (e.told s)

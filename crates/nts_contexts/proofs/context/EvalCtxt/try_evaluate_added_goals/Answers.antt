@@ -6,7 +6,7 @@ use Rattle.nts_model.specs.Derivations.Rules.{other_goal}
 use Rattle.nts_delegate.proofs.Results.{OnOk-map}
 use Rattle.nts_asking.specs.Searching.{assumed_in}
 use Rattle.nts_asking.proofs.Searching.{nothing_assumed}
-use Rattle.nts_trying.proofs.Stepping.{settled_rooted}
+use Rattle.nts_trying.proofs.Stepping.{settled_rooted, left_refl}
 use Rattle.nts_asking.proofs.Rounds.{search_begun, tell_begun}
 use Rattle.nts_contexts.proofs.context.EvalCtxt.try_evaluate_added_goals.Goals as goal
 
@@ -18,7 +18,7 @@ returns-in_err-check-clause-keeps g c = keeps_refl c.requires.ready
 
 pub returns-in_err-check-clause-evaluates : goal.returns-in_err-check-clause-evaluates
 returns-in_err-check-clause-evaluates g c =
-    record { left = search rules; proved = λ s. IfOk-from_err c.from_residual.result _ (search rules); faulted = search rules }
+    record { left = left_refl _; proved = λ s. IfOk-from_err c.from_residual.result _ (search rules); faulted = search rules }
 
 pub returns-clause-evaluates : goal.returns-clause-evaluates
 returns-clause-evaluates g c =
