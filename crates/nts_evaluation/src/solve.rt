@@ -113,9 +113,9 @@ fn evaluate_root<H: GoalHandler>(
     requires ready { H.ready cx.old.nodes handler.now }
     ensures runs { Runs cx.old cx.new table.old table.new }
     ensures goal { IfOk result (λ e. IsGoalUnder cx.old.nodes cx.new.nodes table.old goal e.goal) }
-    ensures evaluates { Always (rules_of H.ready H.handler handler.now) cx.old (λ s. IfOk result (λ e.
-        EvaluatesUnder (H.handler s.base handler.now) table.old.mode cx.old.nodes table.old
-        cx.new.nodes table.new goal e.certainty e.has_changed)) }
+    ensures evaluates { Always (rules_of H.ready H.handler handler.now) cx.old (λ s.
+        IfOk result (λ e. EvaluatesUnder (H.handler s.base handler.now) table.old.mode
+        cx.old.nodes table.old cx.new.nodes table.new goal e.certainty e.has_changed)) }
     ensures stalled { IfOk result (λ e. e.stalled_on ≡ None) }
     ensures err { OnErr result (table.new ≡ table.old) }
     ensures proved { Always (rules_of H.ready H.handler handler.now) cx.old (λ s. IfOk result (λ e.
