@@ -181,6 +181,8 @@ searched_read {a} {g} {h} n k s e kept rest =
       stack = kept a.nodes s.stack;
       heads = subst (All (IsHead a.nodes)) (sym e) (heads_read a.nodes g.stack.items k s.heads);
       rounds = rw most s.rounds;
+      more_rounds = omega (arith, most);
+      more_inputs = rest.most_inputs;
       depth = rest.root_depth;
       later = subst (AreLater g.stack.items) (sym e) (later_read g.stack.items k);
     }

@@ -143,6 +143,8 @@ search_same {a} {b} {g} {h} n s w same kept rest =
       stack = kept b.nodes now.stack;
       heads = subst (All (IsHead b.nodes)) (sym same) now.heads;
       rounds = rw most now.rounds;
+      more_rounds = omega (arith, most);
+      more_inputs = rest.most_inputs;
       depth = rest.root_depth;
       later = subst (AreLater g.stack.items) (sym same) (later_itself g.stack.items);
     }
@@ -159,12 +161,19 @@ search_popped {a} {b} {c} {g} {h} {i} {j} y x pushed up s popped kept down =
     let later = later_pushed g.stack.items j.stack.items y x there in
     let heads = All-pop (IsHead c.nodes) i.stack.items j.stack.items (Some x) popped s.heads in
     let most = down.most_rounds in
+    let raised = up.most_rounds in
+    let between = s.more_rounds in
+    let inputs = up.most_inputs in
+    let within = s.more_inputs in
+    let fewer = down.most_inputs in
     let off = kept c.nodes s.stack in
     record {
       searches = record {
         stack = off.0;
         heads = heads.0;
         rounds = rw most s.rounds;
+        more_rounds = omega (arith, most, raised, between);
+        more_inputs = omega (arith, inputs, within, fewer);
         depth = down.root_depth ∙ s.depth ∙ up.root_depth;
         later = later.0;
       };

@@ -170,13 +170,19 @@ Searches-refl {a} {b} {g} n s w =
       stack = IsStack-later a.nodes b.nodes g w.extends s.stack;
       heads = λ i d l. head_later a.nodes b.nodes (get_or g.stack.items i d) w.extends (s.heads i d l);
       rounds = rw rest.rounds s.rounds;
+      more_rounds = omega arith;
+      more_inputs = omega arith;
       depth = refl;
       later = later_itself g.stack.items;
     }
 
 pub Searches-trans : {a b c : Cx} {g h i : SearchGraph} → Searches a b g h → Searches b c h i → Searches a c g i
 Searches-trans {a} {b} {c} {g} {h} {i} x y =
-    record { stack = y.stack; heads = y.heads; rounds = y.rounds; depth = y.depth ∙ x.depth; later = later_then g.stack.items h.stack.items i.stack.items x.later y.later }
+    let first = x.more_rounds in
+    let then = y.more_rounds in
+    let inputs = x.more_inputs in
+    let more = y.more_inputs in
+    record { stack = y.stack; heads = y.heads; rounds = y.rounds; more_rounds = omega (arith, first, then); more_inputs = omega (arith, inputs, more); depth = y.depth ∙ x.depth; later = later_then g.stack.items h.stack.items i.stack.items x.later y.later }
 
 pub search_later : {a b : Cx} {g h : SearchGraph} (n m : ℕ) → m ≤ n → IsSearch a g n → Searches a b g h → IsSearch b h m
 search_later {a} {b} {g} {h} n m l s x =
@@ -293,6 +299,8 @@ search_counted {a} {g} n m s l =
       stack = record { held = k.held; index = k.index; counted = k.counted; nested = k.nested };
       heads = s.heads;
       rounds = (let r = s.rounds in omega (arith, r, l));
+      more_rounds = omega arith;
+      more_inputs = omega arith;
       depth = refl;
       later = later_itself g.stack.items;
     }
@@ -305,6 +313,8 @@ search_marked {a} {g} n z s =
       stack = record { held = k.held; index = k.index; counted = k.counted; nested = k.nested };
       heads = s.heads;
       rounds = s.rounds;
+      more_rounds = omega arith;
+      more_inputs = omega arith;
       depth = refl;
       later = later_itself g.stack.items;
     }

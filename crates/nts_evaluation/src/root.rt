@@ -21,7 +21,7 @@ use nts_terms::Cx;
 
 /// Answers a canonical goal that a step of that kind asks, in a search whose stack is empty: at its root depth. `None` is no
 /// solution: each candidate failed. A certain answer has a ranked proof of what it says of the input. Afterwards the stack is
-/// empty again, and no query took more rounds than the store's limit says.
+/// empty again, no query took more rounds than the store's limit says, and the counts of the search did not fall.
 pub fn evaluate_input<H: GoalHandler>(
     graph: &mut SearchGraph,
     cx: &mut Cx,

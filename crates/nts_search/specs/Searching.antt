@@ -73,8 +73,9 @@ read_at [] n = []
 read_at (x ∷ xs) zero = record x { is_read = true } ∷ xs
 read_at (x ∷ xs) (suc n) = x ∷ read_at xs n
 
--- all of a search stays but the entries and how many there were
+-- all of a search stays but the entries; it may count more inputs
 pub record KeepsRestOfGraph (old new : SearchGraph) : Type 0 where
+  pub most_inputs : old.most_inputs ≤ new.most_inputs
   pub root_depth : new.root_depth ≡ old.root_depth
   pub has_overflowed : new.has_overflowed ≡ old.has_overflowed
   pub most_rounds : new.most_rounds ≡ old.most_rounds
