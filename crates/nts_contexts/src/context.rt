@@ -36,14 +36,12 @@ impl<'a, H: GoalHandler> EvalCtxt<'a, H> {
         requires table { IsTable cx.old.nodes table.old }
         requires ready { H.ready cx.old.nodes handler.now }
         requires callable { (before : MutBor (EvalCtxt H)) →
-            IsRootContext H.ready table.old cx.old handler.now root_depth span
-            before.now →
+            IsRootContext H.ready table.old cx.old handler.now root_depth span before.now →
             F.pre f before }
         requires keeps { (before : _) (r : _) (after : _) → F.post f before r after →
             IsContextReady H.ready before.now → KeepsContext H.ready before.now after.now }
         requires no_goals { (before : _) (r : _) (after : _) → F.post f before r after →
-            IsRootContext H.ready table.old cx.old handler.now root_depth span
-            before.now →
+            IsRootContext H.ready table.old cx.old handler.now root_depth span before.now →
             OnOk r (after.now.state.now.nested_goals.items ≡ []) }
         ensures runs { Runs cx.old cx.new table.old table.new }
         ensures err { OnErr result (table.new ≡ table.old) }
