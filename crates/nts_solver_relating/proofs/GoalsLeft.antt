@@ -9,9 +9,9 @@ use Rattle.nts_model.specs.declared.labels.Variance.TheVariants as variance
 use Rattle.nts_model.specs.declared.labels.ListHead.TheVariants as list
 use Rattle.nts_model.specs.declared.labels.Label.TheVariants as label
 use Rattle.nts_model.specs.declared.labels.PredicateHead.{PredicateHead}
-use Rattle.nts_model.specs.Terms.Trees.{Tree, empty, more, node, kind_of, kind_of_label, of_sort, arguments, bound_predicate, IsClosed, IsFormed}
+use Rattle.nts_model.specs.Terms.Trees.{Tree, empty, more, node, children, kind_of, kind_of_label, of_sort, arguments, bound_predicate, IsClosed, IsFormed}
 use Rattle.nts_model.specs.Tables.Contents.{Content}
-use Rattle.nts_model.specs.Tables.Resolving.{Knows, IsSound, resolved, deeply_resolved}
+use Rattle.nts_model.specs.Tables.Resolving.{Knows, IsSound, AllUnset, resolved, deeply_resolved}
 use Rattle.nts_model.specs.Tables.Worlds.{World, Solves}
 use Rattle.nts_model.specs.Tables.Holding.{Continues}
 use Rattle.nts_model.specs.Tables.Equations.{AreRelated, AreUnrelated}
@@ -22,8 +22,8 @@ use Rattle.nts_variance_model.specs.Variances.Relations.{Relating as Pair, AllSe
 use Rattle.nts_model.proofs.Terms.Scoping.{closed_listed}
 use Rattle.nts_model.proofs.Tables.Held.{AreOne-continues, Continues-trans}
 use Rattle.nts_model.proofs.Tables.Kept.{kind_of-resolved}
-use Rattle.nts_model.proofs.Tables.Open.{Knows-resolved}
-use Rattle.nts_model.proofs.Tables.Resolved.{deeply_resolved-resolved}
+use Rattle.nts_model.proofs.Tables.Open.{Knows-resolved, AllUnset-lacks}
+use Rattle.nts_model.proofs.Tables.Resolved.{deeply_resolved-resolved, Lacks-resolved}
 use Rattle.nts_model.proofs.Tables.Worlds.{inst-resolved}
 use Rattle.nts_store.specs.declared.nodes.NodeId.{NodeId}
 use Rattle.nts_store.specs.Growth.{tree_at, IsIn, Extends}
@@ -37,7 +37,9 @@ use Rattle.nts_unify.specs.Reading.{content_of, IsLawful}
 use Rattle.nts_unify.specs.Lawful.{content_of-extended}
 use Rattle.nts_variance.specs.declared.along.Relating.{Relating}
 use Rattle.nts_variance.specs.Terms.{pair_at, pairs_at, IsGoal, AreGoals, ArePairs}
+use Rattle.nts_variance.specs.Due.{IsNoType, AreUnvaluedPairs}
 use Rattle.nts_variance.specs.Goals.{goal_head, goal_of}
+use Rattle.nts_variance.proofs.Dues.{list_fresh}
 use Rattle.nts_variance.specs.Pairs.{Refuses}
 use Rattle.nts_variance.specs.Taking.{Takes, IsPairSide}
 use Rattle.nts_variance.specs.Equating.{GoalsRelate}
@@ -48,7 +50,7 @@ use Rattle.nts_relating.specs.Relating.{IsPlainIn, KeepsPlain}
 use Rattle.nts_variance.proofs.Plainly.{takes_plain, takes_plain_lists, refuses_plain, refuses_plain_lists}
 use Rattle.nts_variance.proofs.Takes.{Leaves-from, Refuses-from}
 use Rattle.nts_variance.proofs.VaryTurns.{goals_later, pairs_kept}
-use Rattle.nts_solver_relating.specs.Sides.{is_list, variance_by, variance_at, CanRelate, SidesRelate, RefusesSides, related_pairs, AreOfOneLength, AreWithin, IsMadeGoal, AreMadeFor, AreGoalsOfPairs, IsRelatedBy}
+use Rattle.nts_solver_relating.specs.Sides.{is_list, variance_by, variance_at, CanRelate, SidesRelate, RefusesSides, related_pairs, AreOfOneLength, AreWithin, IsMadeGoal, AreMadeFor, AreGoalsOfPairs, LeavesPairs, LeavesGoals, IsRelatedBy}
 
 -- what a call that succeeded gave
 pub if_ok : {A E : Type 0} (r : Result A E) (P Q : A → Type 0) → ((x : A) → P x → Q x) → IfOk r P → IfOk r Q
@@ -248,16 +250,19 @@ one_made ts us ws env ps gs g i d h first ext all at within is l =
 
 module _ (declared : ℕ → List Variance) where
   -- of two lists, and of two terms
-  pub rows_sides : (ts us : List Tree) (e f : Entries) (v : Variance) (a b : Tree) (gs : List Relating) → is_list a ≡ true → RowsRelate declared ts us e f a b gs → SidesRelate declared ts us e f v a b gs
-  rows_sides ts us e f v a b gs is r = record { long = λ q. r.long; known = r.known; are_goals = r.are_goals; takes = rw is r.takes }
+  pub rows_sides : (ts us : List Tree) (e f : Entries) (v : Variance) (a b : Tree) (gs : List Relating) → is_list a ≡ true → RowsRelate declared ts us e f a b gs → LeavesPairs declared ts us e f v a b gs
+  rows_sides ts us e f v a b gs is r = record { related = record { long = λ q. r.long; known = r.known; are_goals = r.are_goals; takes = rw is r.takes }; due = λ c f. r.due c }
 
-  pub terms_sides : (ts us : List Tree) (e f : Entries) (v w : Variance) (p q : NodeId) (gs : List Relating) → is_list (tree_at ts p) ≡ false → w ≡ variance_at (tree_at ts p) v → GoalsRelate declared ts us e f (record { variance = w; left = p; right = q }) gs → SidesRelate declared ts us e f v (tree_at ts p) (tree_at ts q) gs
+  pub terms_sides : (ts us : List Tree) (e f : Entries) (v w : Variance) (p q : NodeId) (gs : List Relating) → is_list (tree_at ts p) ≡ false → w ≡ variance_at (tree_at ts p) v → GoalsRelate declared ts us e f (record { variance = w; left = p; right = q }) gs → LeavesPairs declared ts us e f v (tree_at ts p) (tree_at ts q) gs
   terms_sides ts us e f v w p q gs is same r =
       record {
-        long = λ (h : is_list (tree_at ts p) ≡ true). cc;
-        known = r.known;
-        are_goals = r.are_goals;
-        takes = rw (is, ← same) r.takes;
+        related = record {
+          long = λ (h : is_list (tree_at ts p) ≡ true). cc;
+          known = r.known;
+          are_goals = r.are_goals;
+          takes = rw (is, ← same) r.takes;
+        };
+        due = λ c. rw (is, ← same) (λ f. r.due c f.0);
       }
 
   pub rows_refused : (c : Content) (v : Variance) (a b : Tree) → is_list a ≡ true → RefusesRows declared c a b → RefusesSides declared c v a b
@@ -271,15 +276,16 @@ module _ (declared : ℕ → List Variance) where
   at_content : (ts ws : List Tree) (e f : Entries) (v : Variance) (a b : Tree) (ps : List Relating) (d : Content) → content_of ws f ≡ d → AreOfOneLength a b → ArePairs ws d ps → AreGoals (pairs_at ws ps) → Takes declared (content_of ts e) d (related_pairs v a b) [] (pairs_at ws ps) → SidesRelate declared ts ws e f v a b ps
   at_content ts ws e f v a b ps d same long known goals takes = record { long = long; known = rw same known; are_goals = goals; takes = rw same takes }
 
-  pub related_by : (ts us ws : List Tree) (e f : Entries) (env : ParamEnv) (v : Variance) (a b : Tree) (ps : List Relating) (gs : List Goal) → SidesRelate declared ts us e f v a b ps → Extends us ws → IsLawful us f → AreMadeFor us ws env ps gs → IsRelatedBy declared ts ws e f env v a b gs
-  related_by ts us ws e f env v a b ps gs r ext lawful made =
+  pub related_by : (ts us ws : List Tree) (e f : Entries) (env : ParamEnv) (v : Variance) (a b : Tree) (ps : List Relating) (gs : List Goal) → LeavesPairs declared ts us e f v a b ps → Extends us ws → IsLawful us f → AreMadeFor us ws env ps gs → LeavesGoals declared ts ws e f env v a b gs
+  related_by ts us ws e f env v a b ps gs l ext lawful made =
+      let r = l.related in
       let d = content_of us f in
       let same : content_of ws f ≡ d = content_of-extended ext lawful in
       let kept = pairs_kept d ps ext r.known in
       let known = goals_later ps ext (grown_refl d) r.known in
       record {
         pairs = ps;
-        related = at_content ts ws e f v a b ps d same r.long known (rw kept r.are_goals) (rw kept r.takes);
+        left = record { related = at_content ts ws e f v a b ps d same r.long known (rw kept r.are_goals) (rw kept r.takes); due = λ c h. rw (same, kept) (l.due c h) };
         goals = rw same (are_goals_of us ws d env ps gs ext r.known r.are_goals made);
       }
 
@@ -305,13 +311,18 @@ module _ (declared : ℕ → List Variance) where
         };
       }
 
+  -- in a tree as resolved no variable has a value
+  unset_resolved : (c : Content) (t : Tree) → IsSound c → Knows c t → AllUnset c (resolved c t)
+  unset_resolved c t sound k = AllUnset-lacks c (resolved c t) sound (Knows-resolved c t sound k) (λ n q. Lacks-resolved c t n sound q)
+
   -- .. of the types that were resolved in a store that grew
   pub resolved_sides : (ts us ws : List Tree) (e f : Entries) (env : ParamEnv) (v : Variance) (a b : Tree) (gs : List Goal) → IsLawful ts e → Extends ts us → Knows (content_of ts e) a → Knows (content_of ts e) b → kind_of a ≡ Some (of_sort sort.Ty)
-      → IsRelatedBy declared us ws e f env v (resolved (content_of ts e) a) (resolved (content_of ts e) b) gs → IsRelatedBy declared ts ws e f env v a b gs
+      → LeavesGoals declared us ws e f env v (resolved (content_of ts e) a) (resolved (content_of ts e) b) gs → IsRelatedBy declared ts ws e f env v a b gs
   resolved_sides ts us ws e f env v a b gs lawful ext ka kb kind r =
       let c = content_of ts e in
       let same : content_of us e ≡ c = content_of-extended ext lawful in
-      let s = r.related in
+      let l = r.left in
+      let s = l.related in
       let before : kind_of (resolved c a) ≡ Some (of_sort sort.Ty) = kind_of-resolved c a lawful.sound ka ∙ kind in
       let t : Takes declared c (content_of ws f) (record { variance = v; left = resolved c a; right = resolved c b } ∷ []) [] (pairs_at ws r.pairs) = rw (same, type_pairs v (resolved c a) (resolved c b) before) at s.takes in
       record {
@@ -323,7 +334,21 @@ module _ (declared : ℕ → List Variance) where
           takes = rw (type_pairs v a b kind) (takes_resolved c (content_of ws f) v a b (pairs_at ws r.pairs) lawful.sound ka kb t);
         };
         goals = r.goals;
+        due = l.due c (rw (type_pairs v (resolved c a) (resolved c b) before) (inr (inr (unset_resolved c a lawful.sound ka, unset_resolved c b lawful.sound kb)), tt));
       }
+
+  -- .. and where the sides are no types, none of which varies
+  no_type_fresh : (c : Content) (v : Variance) (a b : Tree) → IsNoType a → AreUnvaluedPairs c (related_pairs v a b)
+  no_type_fresh c v a b h = by_list (is_list a) refl
+    where
+      by_list : (q : Bool) → is_list a ≡ q → AreUnvaluedPairs c (related_pairs v a b)
+      by_list true e = rw e (list_fresh c variance.Invariant [] (children a) (children b) refl)
+      by_list false e = rw e (inr (inl h), tt)
+
+  pub other_sides : (ts us : List Tree) (e f : Entries) (env : ParamEnv) (v : Variance) (a b : Tree) (gs : List Goal) → IsNoType a → LeavesGoals declared ts us e f env v a b gs → IsRelatedBy declared ts us e f env v a b gs
+  other_sides ts us e f env v a b gs h r =
+      let l = r.left in
+      record { pairs = r.pairs; related = l.related; goals = r.goals; due = l.due (content_of ts e) (no_type_fresh (content_of ts e) v a b h) }
 
   pub resolved_refused : (ts us : List Tree) (e : Entries) (v : Variance) (a b : Tree) → IsLawful ts e → Extends ts us → Knows (content_of ts e) a → kind_of a ≡ Some (of_sort sort.Ty)
       → RefusesSides declared (content_of us e) v (resolved (content_of ts e) a) (resolved (content_of ts e) b) → RefusesSides declared (content_of ts e) v a b
@@ -366,7 +391,7 @@ module _ (declared : ℕ → List Variance) where
   plain_sides ts us e f p q (inr h) first lawful later formed pa pb kept made ties = plain_lists ts us e f p q first lawful later formed h.0 h.1 pa pb kept made ties
 
   pub plain_related : (ts us : List Tree) (e f : Entries) (env : ParamEnv) (a b : Tree) (gs : List Goal) → gs ≡ [] → SidesRelate declared ts us e f variance.Invariant a b [] → IsRelatedBy declared ts us e f env variance.Invariant a b gs
-  plain_related ts us e f env a b gs none h = record { pairs = []; related = h; goals = rw none tt }
+  plain_related ts us e f env a b gs none h = record { pairs = []; related = h; goals = rw none tt; due = tt }
 
   pub plain_refused : (ts : List Tree) (c : Content) (p q : NodeId) → CanRelate ts c p q → IsSound c → ((n : NodeId) → IsIn ts n → IsFormed (tree_at ts n)) → IsPlainIn c (tree_at ts p) → IsPlainIn c (tree_at ts q) → AreUnrelated c (tree_at ts p) (tree_at ts q)
       → RefusesSides declared c variance.Invariant (tree_at ts p) (tree_at ts q)
@@ -389,6 +414,7 @@ module _ (declared : ℕ → List Variance) where
         pairs = r.pairs;
         related = record { long = s.long; known = s.known; are_goals = s.are_goals; takes = rw k.content at s.takes };
         goals = r.goals;
+        due = rw k.content at r.due;
       }
 
   pub refused_earlier : (ts us : List Tree) (e : Entries) (v : Variance) (a b : NodeId) → AreKept ts us e a b → RefusesSides declared (content_of us e) v (tree_at us a) (tree_at us b) → RefusesSides declared (content_of ts e) v (tree_at ts a) (tree_at ts b)

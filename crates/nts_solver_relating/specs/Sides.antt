@@ -27,6 +27,7 @@ use Rattle.nts_unify.specs.Entries.{Entries}
 use Rattle.nts_unify.specs.Reading.{content_of}
 use Rattle.nts_variance.specs.declared.along.Relating.{Relating}
 use Rattle.nts_variance.specs.Terms.{pair_at, pairs_at, AreGoals, ArePairs}
+use Rattle.nts_variance.specs.Due.{AreUnvaluedPairs, AreGoalsDue}
 use Rattle.nts_variance.specs.Goals.{goal_of}
 use Rattle.nts_variance.specs.Pairs.{Refuses}
 use Rattle.nts_variance.specs.Taking.{Takes, IsPairSide}
@@ -64,6 +65,11 @@ pub record SidesRelate (declared : ℕ → List Variance) (ts us : List Tree) (e
   pub are_goals : AreGoals (pairs_at us gs)
   pub takes : Takes declared (content_of ts e) (content_of us f) (related_pairs v a b) [] (pairs_at us gs)
 
+-- relating two terms, or two lists, leaves these pairs as goals; they are due since each table in which no variable of the sides had a value
+pub record LeavesPairs (declared : ℕ → List Variance) (ts us : List Tree) (e f : Entries) (v : Variance) (a b : Tree) (gs : List Relating) : Type 0 where
+  pub related : SidesRelate declared ts us e f v a b gs
+  pub due : (c : Content) → AreUnvaluedPairs c (related_pairs v a b) → AreGoalsDue c (content_of us f) (pairs_at us gs)
+
 -- the lists are not of one length, or no settled solution of the table relates the pairs
 abbrev pub RefusesSides : (ℕ → List Variance) → Content → Variance → Tree → Tree → Type 0
 RefusesSides declared c v a b = (AreOfOneLength a b → ⊥) ⊎ Refuses declared c (related_pairs v a b)
@@ -96,11 +102,19 @@ AreGoalsOfPairs ts c env [] [] = Unit {0}
 AreGoalsOfPairs ts c env (p ∷ ps) (g ∷ gs) = IsGoalOfPair ts c env p g × AreGoalsOfPairs ts c env ps gs
 AreGoalsOfPairs ts c env ps gs = ⊥
 
--- relating them left goals alone, which these are
+-- relating two terms, or two lists, left goals alone, which these are, in an environment
+pub record LeavesGoals (declared : ℕ → List Variance) (ts us : List Tree) (e f : Entries) (env : ParamEnv) (v : Variance) (a b : Tree) (gs : List Goal) : Type 0 where
+  pub pairs : List Relating
+  pub left : LeavesPairs declared ts us e f v a b pairs
+  pub goals : AreGoalsOfPairs us (content_of us f) env pairs gs
+
+-- two terms, or the arguments of two lists, were related, and these goals alone are left, each of which is asked for: by an alias
+-- without escaping bound variables, by two type variables, or by a type variable that had no value before and has one afterwards
 pub record IsRelatedBy (declared : ℕ → List Variance) (ts us : List Tree) (e f : Entries) (env : ParamEnv) (v : Variance) (a b : Tree) (gs : List Goal) : Type 0 where
   pub pairs : List Relating
   pub related : SidesRelate declared ts us e f v a b pairs
   pub goals : AreGoalsOfPairs us (content_of us f) env pairs gs
+  pub due : AreGoalsDue (content_of ts e) (content_of us f) (pairs_at us pairs)
 
 -- the two are to be made equal, and no alias stands in them, with values in place of variables
 abbrev pub ArePlain : Variance → Content → Tree → Tree → Type 0
@@ -112,7 +126,12 @@ pub record AreMadeEqual (c d : Content) (a b : Tree) (gs : List Goal) : Type 0 w
   pub related : AreRelated c d a b
   pub labels : BringsLabelsOf c d a b
 
--- two terms of a store were related by a variance, from one table's entries to the other's, and these goals are left
+-- relating two terms of a store by a variance, from one table's entries to the other's, left these goals
+abbrev pub LeavesGoalsIn : (ℕ → List Variance) → List Tree → List Tree → Entries → Entries → ParamEnv → Variance → NodeId → NodeId → List Goal → Type 0
+LeavesGoalsIn declared ts us e f env v x y gs = LeavesGoals declared ts us e f env v (tree_at ts x) (tree_at ts y) gs
+
+-- two terms of a store were related by a variance, from one table's entries to the other's, and these goals are left, each of which
+-- is due
 abbrev pub IsRelatedIn : (ℕ → List Variance) → List Tree → List Tree → Entries → Entries → ParamEnv → Variance → NodeId → NodeId → List Goal → Type 0
 IsRelatedIn declared ts us e f env v x y gs = IsRelatedBy declared ts us e f env v (tree_at ts x) (tree_at ts y) gs
 

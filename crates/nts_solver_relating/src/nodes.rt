@@ -13,7 +13,7 @@ ghost use Rattle.nts_variance.specs.Terms.{pairs_at, AreGoals};
 ghost use Rattle.nts_table.specs.Tables.{IsTable};
 ghost use Rattle.nts_table.specs.Frames.{ChangesVariables};
 ghost use Rattle.nts_solver_relating.specs.Promises.{RelatesSides};
-ghost use Rattle.nts_solver_relating.specs.Sides.{is_list, variance_at, CanRelate, SidesRelate, AreWithin, AreMadeFor, IsRelatedIn, RefusesIn, ArePlainIn, AreMadeEqualIn, AreUnrelatedIn};
+ghost use Rattle.nts_solver_relating.specs.Sides.{is_list, variance_at, CanRelate, LeavesPairs, LeavesGoalsIn, AreWithin, AreMadeFor, IsRelatedIn, RefusesIn, ArePlainIn, AreMadeEqualIn, AreUnrelatedIn};
 
 use nts_model::{Label, ListHead, Sort, Variance};
 use nts_relating::relate_nodes;
@@ -58,7 +58,7 @@ fn relate_sides(
     ensures extends { Extends nodes.old nodes.new }
     ensures changes { KeepsHidden table.old table.new }
     ensures lawful { IsLawful nodes.new table.new.entries }
-    ensures related { IfOk result (λ gs. SidesRelate (variances_in declarations.now) nodes.old
+    ensures related { IfOk result (λ gs. LeavesPairs (variances_in declarations.now) nodes.old
         nodes.new table.old.entries table.new.entries variance (tree_at nodes.old left)
         (tree_at nodes.old right) gs.items) }
     ensures full { result ≢ Err EvalError.Full }
@@ -113,7 +113,7 @@ fn relate_for_goals(
     ensures extends { Extends nodes.old nodes.new }
     ensures changes { KeepsHidden table.old table.new }
     ensures lawful { IsLawful nodes.new table.new.entries }
-    ensures related { IfOk result (λ gs. IsRelatedIn (variances_in declarations.now) nodes.old
+    ensures related { IfOk result (λ gs. LeavesGoalsIn (variances_in declarations.now) nodes.old
         nodes.new table.old.entries table.new.entries env variance left right gs.items) }
     ensures full { result ≢ Err EvalError.Full }
     ensures no { result ≡ Err EvalError.NoSolution →
@@ -141,7 +141,7 @@ fn relate_or_leave(
     ensures extends { Extends nodes.old nodes.new }
     ensures changes { KeepsHidden table.old table.new }
     ensures lawful { IsLawful nodes.new table.new.entries }
-    ensures related { IfOk result (λ gs. IsRelatedIn (variances_in declarations.now) nodes.old
+    ensures related { IfOk result (λ gs. LeavesGoalsIn (variances_in declarations.now) nodes.old
         nodes.new table.old.entries table.new.entries env variance left right gs.items) }
     ensures err { OnErr result (table.new ≡ table.old) }
     ensures full { result ≢ Err EvalError.Full }
@@ -226,7 +226,8 @@ fn equate_plain(
 /// Whether the node is a type.
 fn is_type(nodes: &Nodes, t: NodeId) -> bool
     requires within { IsIn nodes.now t }
-    ensures { result ≡ true → kind_of (tree_at nodes.now t) ≡ Some (of_sort sorts.Ty) }
+    ensures yes { result ≡ true → kind_of (tree_at nodes.now t) ≡ Some (of_sort sorts.Ty) }
+    ensures no { result ≡ false → kind_of (tree_at nodes.now t) ≡ Some (of_sort sorts.Ty) → ⊥ }
 {
     matches!(sort_of(nodes.label(t)), Some(Sort::Ty))
 }
@@ -330,8 +331,9 @@ fn are_plain(
     Ok(!found)
 }
 
-/// Relates two terms by a variance, or the arguments of two lists, and answers the goals that are left, in this environment: what
-/// rests on aliases without escaping bound variables, and on type variables that may vary. Consts and arguments of lists do not vary.
+/// Relates two terms by a variance, or the arguments of two lists, and answers the goals that are left, in this environment: of
+/// pairs with an alias without escaping bound variables, and of pairs that vary and have a type variable on both sides, or one that
+/// got its value in this call. Consts and arguments of lists do not vary.
 ///
 /// Under each later table in which these goals are answered the two are related; and each settled solution in which they settle goes
 /// on to one of the table in which the goals settle. Invariantly, where no alias stands in the two, they are made equal, and no goal is

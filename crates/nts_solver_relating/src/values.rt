@@ -15,9 +15,10 @@ use nts_terms::{Cx, Goal, ParamEnv, Span};
 pub trait RelateExt {
     ghost seen: { Self → Table };
 
-    /// Relates two values of the store and the table by a variance, and answers the goals that are left, in this environment: what
-    /// rests on aliases without escaping bound variables, and on type variables that may vary. Consts do not vary, and neither do the
-    /// arguments of aliases and trait references, which are related one by one, without a goal for the alias.
+    /// Relates two values of the store and the table by a variance, and answers the goals that are left, in this environment: of
+    /// pairs with an alias without escaping bound variables, and of pairs that vary and have a type variable on both sides, or one
+    /// that had no value before and has one now. Consts do not vary, and neither do the arguments of aliases and trait references,
+    /// which are related one by one, without a goal for the alias.
     ///
     /// Under each later table in which the goals are answered the two are related; and each settled solution in which they settle
     /// goes on to one of the table in which the goals settle. Invariantly, where no alias stands in the two, they are made equal, and

@@ -23,6 +23,7 @@ use Rattle.nts_variance.specs.Steps.{stacked}
 use Rattle.nts_variance.specs.Walking.{IsTableGrown}
 use Rattle.nts_variance.specs.Parts.{form_of_tree, parts_of}
 use Rattle.nts_variance.specs.Terms.{pair_at, pairs_at, AreGoals, ArePairs}
+use Rattle.nts_variance.specs.Due.{LeavesDue}
 use Rattle.nts_variance.specs.Pairs.{Refuses}
 use Rattle.nts_variance.specs.Taking.{IsExact, Waits, AllWait, Takes, IsLeft, IsPairSide, IsPair, ArePairsLeft, AreOfOneForm, ArePartsPaired, left_sizes, Sense, HoldsIn, size_in, IsUnderway, IsCall}
 use Rattle.nts_variance.proofs.Debts.{goals_to, AreGoals-append}
@@ -273,10 +274,10 @@ module _ (declared : ℕ → List Variance) where
   call_start ts e p ps lawful pair is =
       rw is (record { start = lawful.sound; lawful = lawful; pairs = (pair, tt); met = tt; equal = tt; waits = tt; goals = tt; are_goals = tt; going = underway_start declared (content_of ts e) (pair_at ts p) lawful.sound })
 
-  pub call_end : (ts us : List Tree) (e f : Entries) (p : Relating) (ps ms es gs : List Relating) → IsCall declared ts us e f p ps ms es gs → ps ≡ [] → IsLeft declared ts us e f p es gs
-  call_end ts us e f p ps ms es gs u none =
+  pub call_end : (ts us : List Tree) (e f : Entries) (p : Relating) (ps ms es gs : List Relating) → IsCall declared ts us e f p ps ms es gs → ps ≡ [] → LeavesDue (content_of us f) (pair_at ts p) (pairs_at us gs) → IsLeft declared ts us e f p es gs
+  call_end ts us e f p ps ms es gs u none due =
       let last : IsUnderway declared (content_of ts e) (content_of us f) (pair_at ts p) [] (pairs_at us es) (pairs_at us gs) (pairs_at us ms) = rw none at u.going in
-      record { pairs = u.equal; waits = u.waits; goals = u.goals; are_goals = u.are_goals; takes = underway_end declared (content_of ts e) (content_of us f) (pair_at ts p) (pairs_at us es) (pairs_at us gs) (pairs_at us ms) last }
+      record { pairs = u.equal; waits = u.waits; goals = u.goals; are_goals = u.are_goals; takes = underway_end declared (content_of ts e) (content_of us f) (pair_at ts p) (pairs_at us es) (pairs_at us gs) (pairs_at us ms) last; due = due }
 
   -- what a call left is for later, and is taken after all
   pub call_again : (ts us : List Tree) (e f : Entries) (p : Relating) (es gs : List Relating) → IsSound (content_of ts e) → IsLawful us f → IsLeft declared ts us e f p es gs → IsCall declared ts us e f p [] [] es gs

@@ -128,7 +128,7 @@ AreGoals-append [] qs h k = k
 AreGoals-append (p ∷ ps) qs h k = (h.0, AreGoals-append ps qs h.1 k)
 
 -- a goal of either order
-opposite_varies : (v : Variance) → v ≢ variance.Invariant → opposite v ≢ variance.Invariant
+pub opposite_varies : (v : Variance) → v ≢ variance.Invariant → opposite v ≢ variance.Invariant
 opposite_varies variance.Invariant h = h
 opposite_varies variance.Covariant h = λ e. cc
 opposite_varies variance.Contravariant h = λ e. cc

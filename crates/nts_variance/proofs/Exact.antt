@@ -30,9 +30,9 @@ use Rattle.nts_unify.specs.Entries.{Entries}
 use Rattle.nts_unify.specs.Reading.{content_of, IsLawful}
 use Rattle.nts_relating.proofs.HeadLemmas.{variable_node}
 use Rattle.nts_variance.specs.declared.along.Relating.{Relating}
-use Rattle.nts_variance.specs.Parts.{form_of_tree, parts_of, number_of_type}
+use Rattle.nts_variance.specs.Parts.{form_of_tree, parts_of, number_of_type, IsAlone}
 use Rattle.nts_variance.specs.Taking.{IsExactKind, IsExact, IsPair, Waits, AreOfOneForm}
-use Rattle.nts_variance.specs.Equating.{StandsFor, IsAlone, AreToBeOne}
+use Rattle.nts_variance.specs.Equating.{StandsFor, AreToBeOne}
 use Rattle.nts_variance.proofs.Clean.{holds_terms}
 
 own_fits : (k : VariableKind) (n : ℕ) → IsExactKind k → Fits k (variable_tree k n)
@@ -42,7 +42,7 @@ own_fits kind.Float n x = refl
 own_fits kind.Ty n x = absurd x
 own_fits kind.Region n x = absurd x
 
-fits_alone : (k : VariableKind) (t : Tree) → IsExactKind k → Fits k t → IsAlone t
+pub fits_alone : (k : VariableKind) (t : Tree) → IsExactKind k → Fits k t → IsAlone t
 fits_alone kind.Const t x f = inl f
 fits_alone kind.Int t x f = inr (inl f)
 fits_alone kind.Float t x f = inr (inr f)

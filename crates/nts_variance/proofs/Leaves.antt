@@ -55,7 +55,7 @@ use Rattle.nts_variance.proofs.Clean.{clean_leaf, clean_erased, clean_unset, cle
 use Rattle.nts_variance.proofs.CountedPieces.{counted_itself, number_none, leaf_none}
 use Rattle.nts_variance.proofs.Growing.{grown_refl, grown_trans, grown_later, grown_slot}
 use Rattle.nts_variance.specs.Counting.{IsCountedFor}
-use Rattle.nts_variance.specs.Parts.{has_parts}
+use Rattle.nts_variance.specs.Parts.{has_parts, IsAlone}
 use Rattle.nts_variance.specs.Walking.{IsErased, Judges, IsMadeFor, RelatedTrees, RelatedSides, sides, IsMade}
 use Rattle.nts_variance.proofs.Nodes.{answered_sides, settles_sides}
 use Rattle.nts_variance.proofs.Exact.{or_right as either_float}
@@ -190,7 +190,7 @@ module _ (declared : ℕ → List Variance) (z : Bool) (u : ℕ) where
         continues = Continues-refl c sound;
         trees = λ a k. refl;
         clean = clean;
-        made = λ f s k. record { knows = Knows-kept c f t (kept_kinds c f k) knows; kind = refl; listed = λ ss d h. h; apart = λ no loose. no };
+        made = λ f s k. record { knows = Knows-kept c f t (kept_kinds c f k) knows; kind = refl; listed = λ ss d h. h; apart = λ no loose. no; alone = λ no loose x. x };
         stands = λ f s k ks a loud. related_itself z declared f ks v (deeply_resolved f t);
         goals = tt;
         back = λ w h. h;
@@ -343,10 +343,18 @@ module _ (declared : ℕ → List Variance) (z : Bool) (c : Content) (s : Slot) 
         kind = sym sorted;
         listed = λ ss d h. (tt, tt);
         apart = λ no loose. ⊎_elim (λ r. no_infer s.kind r) (λ x. ⊎_elim (λ i. absurd (no i)) (λ a. absurd (loose a)) x) varies;
+        alone = λ no loose. ⊎_elim (λ r x. absurd (no_alone s.kind r x)) (λ x. ⊎_elim (λ i. absurd (no i)) (λ a. absurd (loose a)) x) varies;
       }
     where
       no_infer : (k : VariableKind) → k ≡ kind.Region → IsInfer (variable_tree k (length c.slots)) → ⊥
       no_infer k r i = (let x = subst (λ j. IsInfer (variable_tree j (length c.slots))) r i in let e = x.1 in cc)
+
+      no_alone : (k : VariableKind) → k ≡ kind.Region → IsAlone (variable_tree k (length c.slots)) → ⊥
+      no_alone k r x =
+          ⊎_elim
+          (λ (e : Some (of_sort sort.Region) ≡ Some (of_sort sort.Const)). cc)
+          (λ y. ⊎_elim (λ (e : false ≡ true). cc) (λ (e : false ≡ true). cc) y)
+          (subst (λ j. IsAlone (variable_tree j (length c.slots))) r x)
 
   fresh_clean : (u : ℕ) → NamesAll region_level u (resolved (with_slot c s) (variable_tree s.kind (length c.slots)))
   fresh_clean u = clean_unset (with_slot c s) u s.kind (length c.slots) (IsSound-with_slot c s sound free) (field-with_slot_new (λ x. x.state) c s ∙ ap Some free)

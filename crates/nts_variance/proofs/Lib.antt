@@ -9,6 +9,8 @@ mod Turns
 mod Leaves
 mod PartLemmas
 mod Debts
+pub mod Dues
+mod Alone
 mod Counting
 mod CountedPieces
 pub mod VaryTurns
@@ -24,6 +26,7 @@ mod Sides
 mod Pairing
 mod Underway
 mod Calls
+mod DueCalls
 mod MetGoals
 mod Standing
 mod Lessening
@@ -32,8 +35,10 @@ mod Equalled
 mod Joining
 mod Onward
 mod Exact
+mod DueHeads
 pub mod GoalLemmas
 mod Arguments
 pub mod SubRoots
 pub mod Plainly
 mod Bareness
+mod DueExamples

@@ -20,14 +20,15 @@ use Rattle.nts_model.specs.declared.labels.ListHead.TheVariants as list
 use Rattle.nts_model.specs.declared.labels.Label.{Label}
 use Rattle.nts_model.specs.declared.labels.Label.TheVariants as label
 use Rattle.nts_model.specs.Terms.Trees.{Tree, empty, more, node, kind_of, kind_of_label, of_sort, sort_of_variable, label_of, children, any_label, is_alias, is_infer, in_order, shape, Meets, IsClosed, IsFormed, infer_of, variable_tree}
-use Rattle.nts_model.specs.Tables.Contents.{Content, Slot, kind_at, with_slot, with_constraint}
-use Rattle.nts_model.specs.Tables.Resolving.{IsInfer, Knows, KnowsVariable, resolved}
+use Rattle.nts_model.specs.Tables.Contents.{Content, Slot, unset, kind_at, with_slot, with_constraint}
+use Rattle.nts_model.specs.Tables.Resolving.{IsInfer, Knows, KnowsVariable, Reaches, here, resolved}
+use Rattle.nts_model.specs.Tables.SubUnifying.{linked, turned}
 use Rattle.nts_model.specs.Terms.Regions.{IsRegion}
 use Rattle.nts_model.specs.Derivations.Related.{IsAlias}
 use Rattle.nts_variance_model.specs.Variances.Relations.{ArePairsKnown}
 use Rattle.nts_variance_model.specs.Variances.Forms.{FitsForm}
 use Rattle.nts_model.proofs.Terms.Variables.{infer_label}
-use Rattle.nts_model.proofs.Tables.Slots.{field_below, field-with_slot_old}
+use Rattle.nts_model.proofs.Tables.Slots.{field_below, field-with_slot_old, field-with_slot_new}
 use Rattle.nts_model.proofs.Terms.Substituting.{no_children}
 use Rattle.nts_store.specs.declared.nodes.NodeId.{NodeId}
 use Rattle.nts_store.specs.Growth.{tree_at, IsIn, Extends}
@@ -55,11 +56,14 @@ use Rattle.nts_variance.specs.Walking.{IsErased, IsMade}
 use Rattle.nts_variance.specs.Counting.{IsCountedFor}
 use Rattle.nts_variance.specs.Parts.{has_parts, form_of_tree, parts_of, none_escapes, closed_alias, const_variable, number_of_type, StandsAlone}
 use Rattle.nts_variance.specs.Terms.{pairs_at, AreGoals, ArePairs, IsPart}
+use Rattle.nts_variance.specs.Due.{IsTypeVariable, ShareSubRoots, AreTypeVariables, AreGoalsDue}
 use Rattle.nts_variance.specs.Varying.{pair_in, owed_pairs, constraint_of_pair, with_owed, fresh, IsMadeAt, IsTypeValue, IsMadeAgain, IsOwn, IsKept}
 use Rattle.nts_variance.proofs.Pushing.{pair_at-in}
 use Rattle.nts_variance.proofs.PartLemmas.{IsOverParts, over_parts}
 use Rattle.nts_relating.proofs.Ranks.{kind_of-like}
-use Rattle.nts_variance.proofs.Debts.{closed_patched, like_itself, like_closed, goal_sides}
+use Rattle.nts_variance.proofs.Debts.{closed_patched, like_itself, like_closed, goal_sides, type_kind}
+use Rattle.nts_variance.proofs.Dues.{reaches_later, due_sides, variables_turned}
+use Rattle.nts_variance.proofs.Growing.{grown_slot}
 use Rattle.nts_variance.proofs.CountedPieces.{counted_fresh, counted_region, counted_recorded, counted_piece}
 use Rattle.nts_variance.proofs.Leaves.{owed_by, owed_goals, made_plain, counted_plain, made_fresh, made_region, made_region_quietly}
 use Rattle.nts_variance.proofs.Pieces.{made_piece, plain_unset}
@@ -119,6 +123,53 @@ kept_slot c s x below =
     let apart : x ≡ length c.slots → ⊥ = λ e. omega (arith, below, e) in
     record { state = field-with_slot_old (λ y. y.state) c s x apart; universe = field-with_slot_old (λ y. y.universe) c s x apart }
 
+-- a type variable, and the link to the class of sub-unification of its root
+pub record IsLinkedTo (c : Content) (t : Tree) (o : Option ℕ) : Type 0 where
+  pub number : ℕ
+  pub is : IsTypeVariable t number
+  pub root : ℕ
+  pub reaches : Reaches c number root
+  pub link : o ≡ Some root
+
+-- a fresh variable that is linked to it shares its sub root
+share_fresh : (c : Content) (s : Slot) (t : Tree) → s.state ≡ unset → (l : IsLinkedTo c t s.sub_link) → ShareSubRoots (with_slot c s) l.number (length c.slots)
+share_fresh c s t free l =
+    record {
+      first = l.root;
+      second = length c.slots;
+      of_first = reaches_later (grown_slot c s free) l.reaches;
+      of_second = here;
+      shared = turned (linked (field-with_slot_new (λ x. x.sub_link) c s ∙ ap Some l.link));
+    }
+
+pub type_infer : (t : Tree) (n : ℕ) → IsTypeVariable t n → IsInfer t
+type_infer empty n e = cc
+type_infer (more a b) n e = cc
+type_infer (node l c) n e = (let same : l ≡ label.Leaf (leaf.Variable kind.Ty n) = cc in (n, ap infer_of same))
+
+pub one_number : (t : Tree) (n m : ℕ) → IsTypeVariable t n → IsTypeVariable t m → n ≡ m
+one_number t n m p q = (let same : Some (label.Leaf (leaf.Variable kind.Ty n)) ≡ Some (label.Leaf (leaf.Variable kind.Ty m)) = sym p ∙ q in cc)
+
+fresh_joins : (c : Content) (s : Slot) (k : VariableKind) (t : Tree) → s.state ≡ unset → (IsInfer t → (k ≡ kind.Ty) × IsLinkedTo c t s.sub_link) → (n m : ℕ) → IsTypeVariable t n → IsTypeVariable (variable_tree k (length c.slots)) m → ShareSubRoots (with_slot c s) n m
+fresh_joins c s k t free named n m p q =
+    let l = (named (type_infer t n p)).1 in
+    let own : l.number ≡ n = one_number t l.number n l.is p in
+    let labels : Some (label.Leaf (leaf.Variable k (length c.slots))) ≡ Some (label.Leaf (leaf.Variable kind.Ty m)) = q in
+    let new : length c.slots ≡ m = cc in
+    subst (λ y. ShareSubRoots (with_slot c s) y m) own (subst (λ y. ShareSubRoots (with_slot c s) l.number y) new (share_fresh c s t free l))
+
+-- .. and what it owes is due
+fresh_due : (b c : Content) (s : Slot) (q z : Bool) (v : Variance) (k : VariableKind) (t : Tree) → s.state ≡ unset → IsInfer t ⊎ IsAlias t → (IsInfer t → v ≢ variance.Invariant) → (IsInfer t → (k ≡ kind.Ty) × IsLinkedTo c t s.sub_link)
+    → AreGoalsDue b (with_slot c s) (owed_goals q z v (variable_tree k (length c.slots)) t)
+fresh_due b c s true z v k t free either varies named = tt
+fresh_due b c s false z v k t free (inr a) varies named = (due_sides b (with_slot c s) z v (variable_tree k (length c.slots)) t (inl (inr a)), tt)
+fresh_due b c s false z v k t free (inl i) varies named =
+    let own = named i in
+    let l = own.1 in
+    let new : IsTypeVariable (variable_tree k (length c.slots)) (length c.slots) = ap (λ j. Some (label.Leaf (leaf.Variable j (length c.slots)))) own.0 in
+    let two : AreTypeVariables b (with_slot c s) t (variable_tree k (length c.slots)) = record { first = l.number; second = length c.slots; left = l.is; right = new; either = inr (share_fresh c s t free l) } in
+    (due_sides b (with_slot c s) z v (variable_tree k (length c.slots)) t (inr (varies i, inl (variables_turned t (variable_tree k (length c.slots)) two))), tt)
+
 -- what a fresh variable for a type variable or a closed alias owes is a goal
 fresh_owes : (q z : Bool) (v : Variance) (k : VariableKind) (n : ℕ) (t : Tree) → IsClosed t → kind_of t ≡ Some (of_sort (sort_of_variable k)) → IsInfer t ⊎ IsAlias t → (IsInfer t → (v ≢ variance.Invariant) × (k ≡ kind.Ty)) → AreGoals (owed_goals q z v (variable_tree k n) t)
 fresh_owes true z v k n t closed sorted either varies = tt
@@ -136,9 +187,9 @@ fresh_owes false z v k n t closed sorted either varies = (
 
 -- a fresh variable for a type variable or a closed alias
 pub fresh_at : (declared : ℕ → List Variance) (z : Bool) (u x : ℕ) (ts us : List Tree) (e f : Entries) (s : Spot) (r : NodeId) (gs hs : List Relating) (k : VariableKind) (o : Option ℕ) → x < length e.variables → (k ≡ kind.Ty) ⊎ (k ≡ kind.Const) → IsLawful ts e → IsLawful us f → Extends ts us → IsPart ts (content_of ts e) s
-    → IsFormed (tree_at ts s.term) → IsClosed (tree_at ts s.term) → kind_of (tree_at ts s.term) ≡ Some (of_sort (sort_of_variable k)) → IsInfer (tree_at ts s.term) ⊎ IsAlias (tree_at ts s.term) → (IsInfer (tree_at ts s.term) → (s.variance ≢ variance.Invariant) × (k ≡ kind.Ty))
+    → IsFormed (tree_at ts s.term) → IsClosed (tree_at ts s.term) → kind_of (tree_at ts s.term) ≡ Some (of_sort (sort_of_variable k)) → IsInfer (tree_at ts s.term) ⊎ IsAlias (tree_at ts s.term) → (IsInfer (tree_at ts s.term) → (s.variance ≢ variance.Invariant) × (k ≡ kind.Ty)) → (IsInfer (tree_at ts s.term) → IsLinkedTo (content_of ts e) (tree_at ts s.term) o)
     → IsIn us r → tree_at us r ≡ variable_tree k (length e.variables) → f ≡ added e (fresh k u o) → hs ≡ gs ++ owed_pairs z s r → IsMadeAt declared z u x ts us e f s r gs hs
-fresh_at declared z u x ts us e f s r gs hs k o below sort lawful later ext part formed closed sorted either varies within is q goals =
+fresh_at declared z u x ts us e f s r gs hs k o below sort lawful later ext part formed closed sorted either varies linked_to within is q goals =
     let c = content_of ts e in
     let slot = slot_of us (fresh k u o) in
     let t = tree_at ts s.term in
@@ -159,6 +210,8 @@ fresh_at declared z u x ts us e f s r gs hs k o below sort lawful later ext part
       like = rw tree (like_closed t (variable_tree k (length c.slots)) (tt, tt) (sym sorted));
       are_goals = rw new (fresh_owes s.is_quiet z s.variance k (length c.slots) t closed sorted either varies);
       counted = rw (content, tree) (counted_fresh c slot s.variance s.is_quiet t refl lawful.sound sort either (λ i. (varies i).0));
+      joins = λ n m apart. rw (content, tree) (fresh_joins c slot k t refl (λ i. ((varies i).1, linked_to i)) n m);
+      due = λ b h. rw (content, new) (fresh_due b c slot s.is_quiet z s.variance k t refl either (λ i. (varies i).0) (λ i. ((varies i).1, linked_to i)));
     }
 
 -- a fresh region
@@ -242,6 +295,8 @@ region_at declared z u x ts us e f s r gs below lawful later ext free within is 
       like = rw is (like_closed (tree_at ts s.term) (variable_tree kind.Region (length e.variables)) (tt, tt) (sym free.sort));
       are_goals = tt;
       counted = rw q (region_counted z u ts us e s.is_quiet s.variance r s.term lawful ext free.free is);
+      joins = λ n m apart p x. (let labels : Some (label.Leaf (leaf.Variable kind.Region (length e.variables))) ≡ Some (label.Leaf (leaf.Variable kind.Ty m)) = ap label_of (sym is) ∙ x in cc);
+      due = λ b h. tt;
     }
 
 -- a part that stands for itself
@@ -263,6 +318,8 @@ itself_at declared z u x ts e s gs l lawful part formed is plain no_type no_cons
       like = like_itself t;
       are_goals = tt;
       counted = subst (λ y. IsCountedFor c c s.variance s.is_quiet y y) (sym is) count;
+      joins = λ n m apart p x. (let labels : Some l ≡ Some (label.Leaf (leaf.Variable kind.Ty n)) = ap label_of (sym is) ∙ p in absurd (no_type n cc));
+      due = λ b h. tt;
     }
   where
     fixed_free : (r : FreeRegion) → varies_region r ≡ false → (is_free_region (label.Leaf (leaf.Region r)) ≡ false) ⊎ ((q : FreeRegion) × (label.Leaf (leaf.Region r) ≡ label.Leaf (leaf.Region q)) × IsErased q)
@@ -291,6 +348,17 @@ alone_part t l f v is flags h = ⊎_elim
     (λ either. inl (⊎_elim (λ e. inl e) (λ e. inr (ap kind_of is ∙ ap Some (const_kind l e))) either))
     (λ p. inr (record { no_infer = ap (λ x. x.has_infer) (sym flags) ∙ p.0; no_region = ap (λ x. x.has_free_region) (sym flags) ∙ p.1 })) h
 
+-- a type variable that varies does not stand as it is
+some_infer : (t : Tree) (n : ℕ) → IsTypeVariable t n → any_label is_infer t ≡ false → ⊥
+some_infer empty n e = cc
+some_infer (more a b) n e = cc
+some_infer (node l c) n e = (let same : l ≡ label.Leaf (leaf.Variable kind.Ty n) = cc in subst (λ m. any_label is_infer (node m c) ≡ false → ⊥) (sym same) (λ h. cc))
+
+no_piece : (v : Variance) (t : Tree) (n : ℕ) → v ≢ variance.Invariant → IsTypeVariable t n → StandsAlone v t → ⊥
+no_piece v t n varies p alone = ⊎_elim
+    (λ x. ⊎_elim (λ i. varies i) (λ (k : kind_of t ≡ Some (of_sort sort.Const)). (let same : Some (of_sort sort.Ty) ≡ Some (of_sort sort.Const) = sym (type_kind t n p) ∙ k in cc)) x)
+    (λ f. some_infer t n p f.no_infer) alone
+
 -- a value for a part that stands as it is
 pub value_at : (declared : ℕ → List Variance) (z : Bool) (u x b : ℕ) (ts us : List Tree) (e f : Entries) (s : Spot) (r : NodeId) (gs : List Relating) → x < length e.variables → kind_at (content_of ts e) x ≢ Some kind.Region → IsLawful ts e → IsLawful us f → IsPart ts (content_of ts e) s → IsFormed (tree_at ts s.term)
     → StandsAlone s.variance (tree_at ts s.term) → any_label is_alias (tree_at ts s.term) ≡ false → (s.is_quiet ≡ false → any_label is_alias (resolved (content_of ts e) (tree_at ts s.term)) ≡ false)
@@ -307,6 +375,8 @@ value_at declared z u x b ts us e f s r gs below no_region lawful later part for
       like = record { closed = closed_patched (tree_at ts s.term) (tree_at us r) gen.patched; kind = kind_of-like (tree_at us r) (tree_at ts s.term) gen.like };
       are_goals = tt;
       counted = counted_piece (content_of ts e) (content_of us f) x u b s.variance s.is_quiet (tree_at ts s.term) (tree_at us r) later.sound part.knows values gen;
+      joins = λ n m varies p y. absurd (no_piece s.variance (tree_at ts s.term) n varies p alone);
+      due = λ b h. tt;
     }
 
 -- closed and open trees by the level that escapes

@@ -40,6 +40,7 @@ use Rattle.nts_variance_model.proofs.Variances.SettleRows.{settles_turned, empty
 use Rattle.nts_variance_model.proofs.Variances.Forms.{IsRow-inst, row_length-inst, inst-over, FitsForm-inst, deeply_resolved-over, FitsForm-deeply_resolved, variances_over_length, variances_over_inst, variances_over_resolved, Knows-over, KeepsListed-over, related_over, form_beside, head_closed}
 use Rattle.nts_variance.proofs.Growing.{grown_refl}
 use Rattle.nts_variance.specs.Steps.{WalkStep, enter, build, owe, steps_of, popped, unpopped, entering, part_place, PartsFit, kinds_left, kind_over, EndsAlone, HasSorts, builds, sizes, StepsLead, ended, entered, built, owed, MadeForRow}
+use Rattle.nts_variance.specs.Parts.{IsAlone}
 use Rattle.nts_variance.specs.Walking.{IsMadeFor, MadeIn, NothingOwed, RelatedTrees, RelatedSides, StandsBy, OwedBy, IsChoice, SettlesOwed, sides, step_weights, KnowsSteps, Walks}
 use Rattle.nts_variance.proofs.Runs.{pushed, made_row, parts_made, parts_entered, built_over, unbuilt, unentered, unowed}
 use Rattle.nts_variance.proofs.Turns.{answered_front}
@@ -162,6 +163,14 @@ over_apart (a_value b) ts h = let e = h.1 in cc
 over_apart (an_alias (alias_of.Ty i)) ts h = let e = h.1 in cc
 over_apart (an_alias (alias_of.Const i)) ts h = let e = h.1 in cc
 
+-- .. and it is a const, or none, whatever its parts are
+over_alone : (F : Form) (ts rs : Tree) → IsAlone (over F rs) → IsAlone (over F ts)
+over_alone (a_constructor i) ts rs h = h
+over_alone (a_function ss) ts rs h = h
+over_alone (a_value b) ts rs h = h
+over_alone (an_alias (alias_of.Ty i)) ts rs h = h
+over_alone (an_alias (alias_of.Const i)) ts rs h = h
+
 pub made_over : (f : Content) (v : Variance) (ws : List Variance) (q : Bool) (F : Form) (ts rs : Tree) → Knows f (over F ts) → MadeForRow (MadeIn f) NothingOwed v ws q ts rs → MadeIn f v q (over F ts) (over F rs)
 made_over f v ws q F ts rs k m =
     let listed = made_parts_listed f v ws q ts rs m in
@@ -170,6 +179,7 @@ made_over f v ws q F ts rs k m =
       kind = kind_beside F ts rs;
       listed = KeepsListed-over F ts rs listed;
       apart = λ no loose. over_apart F rs;
+      alone = λ no loose. over_alone F ts rs;
     }
 
 -- related trees are closed below the same binders
@@ -458,6 +468,7 @@ made_value f t value s infer closed kinds m =
       kind = (let k = m.kind in k ∙ kinds);
       listed = λ ss d h. m.listed ss d (closed_listed ss d value (IsClosed-under d value closed));
       apart = λ no loose. absurd (no infer);
+      alone = λ no loose. absurd (no infer);
     }
 
 choice_value : (J : Judging) (u : ℕ) (whole : Tree) (v : Variance) (q r : Bool) (a b s : Tree) → a ≡ b → IsChoice J u whole v q a s → IsChoice J u whole v r b s

@@ -47,6 +47,7 @@ use Rattle.nts_variance.proofs.Runs.{stacked-push, unentered}
 use Rattle.nts_variance.proofs.Pairs.{ended_at}
 use Rattle.nts_variance.proofs.Nodes.{size_run}
 use Rattle.nts_variance.proofs.Leaves.{kept_kinds, inst_settled}
+use Rattle.nts_variance.proofs.Alone.{alone_alike}
 use Rattle.nts_variance.proofs.Likeness.{sides_related}
 use Rattle.nts_variance.proofs.Fixed.{fixed_one, fixed_related}
 use Rattle.nts_variance.proofs.VaryTurns.{builds_steps, task_last, own_refuses}
@@ -81,6 +82,7 @@ module _ (declared : ℕ → List Variance) (z : Bool) (u : ℕ) where
           kind = kind_of-like r t gen.like;
           listed = λ ss e h. listed_patched ss e t r gen.patched h;
           apart = λ no loose. rank_none r (omega (arith, gen.rank, no_rank t no));
+          alone = λ no loose. alone_alike d r t (rank_none r (omega (arith, gen.rank, no_rank t no))) no (kind_of-like r t gen.like) gen.alike;
         };
         stands = λ f s k ks a loud.
             (let now : Knows d t = Knows-kept c d t (kept_kinds c d gen.continues) knows in

@@ -1,15 +1,14 @@
 -- Pairs that are made equal: their heads under the table, and what taking them leaves.
-use Rattle.std.specs.Prelude.{◌≡◌, ◌⊎◌, ℕ, ◌+◌, ◌<◌, ◌≤◌, Bool, true, false, List, [], ◌∷◌, ◌++◌, Some}
+use Rattle.std.specs.Prelude.{◌≡◌, ◌⊎◌, ℕ, ◌+◌, ◌<◌, ◌≤◌, Bool, true, false, List, [], ◌∷◌, ◌++◌}
 use Rattle.nts_model.specs.declared.labels.Variance.{Variance}
 use Rattle.nts_model.specs.declared.labels.Variance.TheVariants as variance
-use Rattle.nts_model.specs.declared.labels.Sort.TheVariants as sort
-use Rattle.nts_model.specs.Terms.Trees.{Tree, size, kind_of, of_sort, label_of}
-use Rattle.nts_model.specs.Terms.Fitting.{is_integer, is_float, HasLabel}
+use Rattle.nts_model.specs.Terms.Trees.{Tree, size}
 use Rattle.nts_model.specs.Tables.Contents.{Content}
 use Rattle.nts_model.specs.Tables.Resolving.{IsInfer, resolved, deeply_resolved}
 use Rattle.nts_model.specs.Tables.Worlds.{World, inst, Solves}
 use Rattle.nts_variance_model.specs.Variances.Relations.{Relating as Pair}
 use Rattle.nts_model.specs.Tables.Measuring.{closed_aliases}
+use Rattle.nts_model.specs.Derivations.Related.{IsAlias}
 use Rattle.nts_store.specs.declared.nodes.NodeId.{NodeId}
 use Rattle.nts_store.specs.Growth.{tree_at}
 use Rattle.nts_unify.specs.Entries.{Entries}
@@ -20,8 +19,12 @@ use Rattle.nts_relating.specs.declared.relate.Head.TheVariants.{Open, Closed}
 use Rattle.nts_relating.specs.Relating.{IsOpen}
 use Rattle.nts_variance.specs.declared.along.Relating.{Relating}
 use Rattle.nts_variance.specs.declared.equating.Heads.{Heads}
+use Rattle.nts_variance.specs.declared.splitting.Taken.{Taken}
+use Rattle.nts_variance.specs.declared.splitting.Taken.TheVariants as taken
 use Rattle.nts_variance.specs.Steps.{stacked}
+use Rattle.nts_variance.specs.Parts.{IsAlone}
 use Rattle.nts_variance.specs.Terms.{pair_at, pairs_at, AreGoals, ArePairs}
+use Rattle.nts_variance.specs.Due.{AreGoalsDue, LeavesDue}
 use Rattle.nts_variance.specs.Pairs.{Refuses}
 use Rattle.nts_variance.specs.Taking.{Takes, IsPair, ArePairsLeft, IsCall}
 
@@ -52,14 +55,16 @@ pub record ArePairHeads (ts : List Tree) (e : Entries) (p : Relating) (h : Heads
   pub on_left : StandsFor (content_of ts e) (tree_at ts p.left) (tree_at ts h.pair.left)
   pub on_right : StandsFor (content_of ts e) (tree_at ts p.right) (tree_at ts h.pair.right)
 
--- a const or a number
-abbrev pub IsAlone : Tree → Type 0
-IsAlone t = (kind_of t ≡ Some (of_sort sort.Const)) ⊎ (HasLabel is_integer (label_of t) ⊎ HasLabel is_float (label_of t))
-
 -- two trees that are to be one, whatever the variance is: it is invariant, or one of them stands for a const or a number
 pub record AreToBeOne (c : Content) (v : Variance) (a b : Tree) : Type 0 where
   pub worlds : (w : World) → Solves c w → (v ≡ variance.Invariant) ⊎ (IsAlone (inst w a) ⊎ IsAlone (inst w b))
   pub trees : (v ≡ variance.Invariant) ⊎ (IsAlone (deeply_resolved c a) ⊎ IsAlone (deeply_resolved c b))
+
+-- a way of taking a pair asks for goals of aliases alone: no type variable that got its value asks for one
+abbrev pub OwesAliases : List Tree → Content → Pair → Taken → Type 0
+OwesAliases us d p taken.Owed = IsAlias p.left ⊎ IsAlias p.right
+OwesAliases us d p (taken.Bound gs) = (c : Content) → AreGoalsDue c d (pairs_at us gs.items)
+OwesAliases us d p t = Unit {0}
 
 abbrev pub AreInvariant : List Relating → Type 0
 AreInvariant [] = Unit {0}
@@ -119,3 +124,4 @@ pub record GoalsRelate (declared : ℕ → List Variance) (ts us : List Tree) (e
   pub known : ArePairs us (content_of us f) gs
   pub are_goals : AreGoals (pairs_at us gs)
   pub takes : Takes declared (content_of ts e) (content_of us f) (pair_at ts p ∷ []) [] (pairs_at us gs)
+  pub due : LeavesDue (content_of us f) (pair_at ts p) (pairs_at us gs)

@@ -3,6 +3,7 @@ pub mod Steps
 pub mod Walking
 pub mod Parts
 pub mod Terms
+pub mod Due
 pub mod Debts
 pub mod Counting
 pub mod Varying

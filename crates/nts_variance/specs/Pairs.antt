@@ -20,6 +20,7 @@ use Rattle.nts_unify.specs.Changing.{unset_count}
 use Rattle.nts_variance.specs.declared.along.Relating.{Relating as Goal}
 use Rattle.nts_variance.specs.Walking.{Judges, IsTableGrown, IsMadeFor, RelatedSides, sides}
 use Rattle.nts_variance.specs.Terms.{pairs_at, AreGoals, ArePairs}
+use Rattle.nts_variance.specs.Due.{IsUnvalued, AreGoalsDue}
 
 -- relating the pairs ps in the first table leaves the pairs qs and the goals gs in the second: each of its solutions solves the
 -- first, and each settled solution of the first in which the pairs settle extends to one of the second in which what is left settles
@@ -50,3 +51,4 @@ pub record IsBound (declared : ℕ → List Variance) (z : Bool) (ts us : List T
   pub are_goals : AreGoals (pairs_at us gs)
   pub fewer : v ≡ variance.Invariant → unset_count (content_of us f).slots < unset_count (content_of ts e).slots + closed_aliases (resolved (content_of ts e) (tree_at ts t))
   pub aliases : v ≡ variance.Invariant → (a : Tree) → Knows (content_of ts e) a → closed_aliases (resolved (content_of us f) a) ≡ closed_aliases (resolved (content_of ts e) a)
+  pub due : (c : Content) → IsUnvalued c v (tree_at ts t) → AreGoalsDue c (content_of us f) (pairs_at us gs)

@@ -10,7 +10,8 @@ use Rattle.nts_model.specs.declared.labels.VariableKind.TheVariants as kind
 use Rattle.nts_model.specs.declared.labels.Leaf.TheVariants as leaf
 use Rattle.nts_model.specs.declared.labels.Label.{Label}
 use Rattle.nts_model.specs.declared.labels.Label.TheVariants as label
-use Rattle.nts_model.specs.Terms.Trees.{Tree, empty, node, children, of_sort, kind_of, any_label, is_infer, is_alias, row_at, IsRow}
+use Rattle.nts_model.specs.Terms.Trees.{Tree, empty, node, children, of_sort, kind_of, label_of, any_label, is_infer, is_alias, row_at, IsRow}
+use Rattle.nts_model.specs.Terms.Fitting.{is_integer, is_float, HasLabel}
 use Rattle.nts_model.specs.Derivations.Related.{rest_variances}
 use Rattle.nts_variance_model.specs.Variances.Forms.{Form, a_constructor, a_function, a_value, an_alias, over}
 use Rattle.nts_store.specs.TypeFlags.{varies}
@@ -76,6 +77,10 @@ const_variable l = false
 pub record IsFixedTree (t : Tree) : Type 0 where
   pub no_infer : any_label is_infer t ≡ false
   pub no_region : any_label varies t ≡ false
+
+-- a const or a number
+abbrev pub IsAlone : Tree → Type 0
+IsAlone t = (kind_of t ≡ Some (of_sort sort.Const)) ⊎ (HasLabel is_integer (label_of t) ⊎ HasLabel is_float (label_of t))
 
 -- a part without aliases stands as it is: related invariantly, or a const, or one in which nothing may vary
 abbrev pub StandsAlone : Variance → Tree → Type 0

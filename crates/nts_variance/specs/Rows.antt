@@ -14,6 +14,7 @@ use Rattle.nts_unify.specs.Reading.{content_of, IsLawful}
 use Rattle.nts_relating.specs.Knowing.{row_from}
 use Rattle.nts_variance.specs.declared.along.Relating.{Relating}
 use Rattle.nts_variance.specs.Terms.{pairs_at, AreGoals, ArePairs}
+use Rattle.nts_variance.specs.Due.{AreGoalsDue}
 use Rattle.nts_variance.specs.Pairs.{Refuses}
 use Rattle.nts_variance.specs.Taking.{Takes}
 
@@ -37,6 +38,7 @@ pub record RowsRelate (declared : ℕ → List Variance) (ts us : List Tree) (e 
   pub known : ArePairs us (content_of us f) gs
   pub are_goals : AreGoals (pairs_at us gs)
   pub takes : Takes declared (content_of ts e) (content_of us f) (argument_pairs a b) [] (pairs_at us gs)
+  pub due : (c : Content) → AreGoalsDue c (content_of us f) (pairs_at us gs)
 
 -- the lists are not of one length, or no settled solution of the table relates their arguments
 abbrev pub RefusesRows : (ℕ → List Variance) → Content → Tree → Tree → Type 0
@@ -49,3 +51,4 @@ pub record AreRelatedTo (declared : ℕ → List Variance) (ts us : List Tree) (
   pub known : ArePairs us (content_of us f) gs
   pub are_goals : AreGoals (pairs_at us gs)
   pub takes : Takes declared (content_of ts e) (content_of us f) (argument_pairs a b) (row_pairs (row_from i (children a)) (row_from i (children b))) (pairs_at us gs)
+  pub due : (c : Content) → AreGoalsDue c (content_of us f) (pairs_at us gs)

@@ -1,7 +1,6 @@
 -- Pairs that are taken one by one: what each leaves in the table, and what a call of relating leaves in the end.
 use Rattle.std.specs.Prelude.{◌≡◌, ℕ, ◌+◌, ◌<◌, List, [], ◌∷◌, ◌++◌, Option, Some, None, ◌⊎◌}
 use Rattle.nts_model.specs.declared.labels.Sort.{Sort}
-use Rattle.nts_model.specs.declared.labels.Sort.TheVariants as sort
 use Rattle.nts_model.specs.declared.labels.Variance.{Variance}
 use Rattle.nts_model.specs.declared.labels.Variance.TheVariants as variance
 use Rattle.nts_model.specs.Terms.Trees.{Tree, node, size, kind_of, of_sort, row_length, IsClosed, infer_of, variable_tree}
@@ -20,6 +19,8 @@ use Rattle.nts_store.specs.declared.nodes.NodeId.{NodeId}
 use Rattle.nts_store.specs.Growth.{tree_at, IsIn}
 use Rattle.nts_unify.specs.Entries.{Entries}
 use Rattle.nts_unify.specs.Reading.{content_of, IsLawful}
+use Rattle.nts_unify.specs.Roots.{HasClass}
+use Rattle.nts_unify.specs.declared.contents.State.TheVariants.{Known}
 use Rattle.nts_unify.specs.Changing.{unset_count, KeepsKnowing}
 use Rattle.nts_variance.specs.declared.along.Relating.{Relating}
 use Rattle.nts_variance.specs.declared.splitting.Taken.{Taken}
@@ -28,6 +29,7 @@ use Rattle.nts_variance.specs.Steps.{stacked}
 use Rattle.nts_variance.specs.Walking.{IsTableGrown}
 use Rattle.nts_variance.specs.Parts.{form_of_tree, parts_of}
 use Rattle.nts_variance.specs.Terms.{pair_at, pairs_at, IsGoal, AreGoals, ArePairs}
+use Rattle.nts_variance.specs.Due.{IsTypeVariable, AreUnvaluedPairs, AreGoalsDue, LeavesDue}
 use Rattle.nts_variance.specs.Varying.{IsMadeAgain}
 use Rattle.nts_variance.specs.Pairs.{Leaves}
 
@@ -83,6 +85,7 @@ pub record IsLeft (declared : ℕ → List Variance) (ts us : List Tree) (e f : 
   pub goals : ArePairs us (content_of us f) gs
   pub are_goals : AreGoals (pairs_at us gs)
   pub takes : Takes declared (content_of ts e) (content_of us f) (pair_at ts p ∷ []) (pairs_at us qs) (pairs_at us gs)
+  pub due : LeavesDue (content_of us f) (pair_at ts p) (pairs_at us gs)
 
 -- the number of an inference variable that is no region
 abbrev pub number_at : Tree → Option ℕ
@@ -96,9 +99,9 @@ pub record AreOfOneForm (a b : Tree) : Type 0 where
   pub form : form_of_tree a ≡ form_of_tree b
   pub long : row_length (parts_of a) ≡ row_length (parts_of b)
 
--- a side of which a goal says all that a pair owes: a closed alias, or a closed type
-abbrev pub SaysAllOwed : Tree → Type 0
-SaysAllOwed t = IsClosed t × (IsAlias t ⊎ (kind_of t ≡ Some (of_sort sort.Ty)))
+-- a side of which a goal says all that a pair owes: a closed alias, or a type variable with a value
+abbrev pub SaysAllOwed : Entries → Tree → Type 0
+SaysAllOwed e t = IsAlias t ⊎ ((n : ℕ) × IsTypeVariable t n × (r : ℕ) × (v : NodeId) × HasClass e n r (Known v))
 
 -- no settled solution relates the two: bound variables escape from one, or they are not of one kind
 abbrev pub AreNoSides : Tree → Tree → Type 0
@@ -108,8 +111,8 @@ AreNoSides a b = IsClosed a → IsClosed b → kind_of a ≡ kind_of b → ⊥
 abbrev pub IsTaken : (ℕ → List Variance) → List Tree → List Tree → Entries → Entries → Relating → Taken → Type 0
 IsTaken declared ts us e f p taken.Done = IsLawful us f × Takes declared (content_of ts e) (content_of us f) (pair_at ts p ∷ []) [] []
 IsTaken declared ts us e f p taken.Equal = (us ≡ ts) × (f ≡ e) × Waits ts p
-IsTaken declared ts us e f p taken.Owed = (us ≡ ts) × (f ≡ e) × IsGoal (pair_at ts p)
-IsTaken declared ts us e f p (taken.Bound gs) = IsLawful us f × ArePairs us (content_of us f) gs.items × Takes declared (content_of ts e) (content_of us f) (pair_at ts p ∷ []) [] (pairs_at us gs.items) × AreGoals (pairs_at us gs.items)
+IsTaken declared ts us e f p taken.Owed = (us ≡ ts) × (f ≡ e) × IsGoal (pair_at ts p) × LeavesDue (content_of ts e) (pair_at ts p) (pair_at ts p ∷ [])
+IsTaken declared ts us e f p (taken.Bound gs) = IsLawful us f × ArePairs us (content_of us f) gs.items × Takes declared (content_of ts e) (content_of us f) (pair_at ts p ∷ []) [] (pairs_at us gs.items) × AreGoals (pairs_at us gs.items) × LeavesDue (content_of us f) (pair_at ts p) (pairs_at us gs.items)
 IsTaken declared ts us e f p taken.Parts = (us ≡ ts) × (f ≡ e) × AreOfOneForm (tree_at ts p.left) (tree_at ts p.right)
 
 -- what a way of taking a pair, of which no side is a variable with a value, leaves for the measure: where a variable got a value,
@@ -120,6 +123,12 @@ IsPaid c d p taken.Equal = ⊥
 IsPaid c d p taken.Owed = Unit {0}
 IsPaid c d p (taken.Bound gs) = p.variance ≡ variance.Invariant → (unset_count d.slots < unset_count c.slots + closed_aliases (resolved c p.left) + closed_aliases (resolved c p.right)) × ((t : Tree) → Knows c t → closed_aliases (resolved d t) ≡ closed_aliases (resolved c t))
 IsPaid c d p taken.Parts = (IsAlias p.left → ⊥) × (IsAlias p.right → ⊥)
+
+-- pairs that are to be taken and goals that are left: no variable in the pairs had a value in the table c, and the goals are due
+pub record AreDueSince (c : Content) (ts : List Tree) (e : Entries) (ps gs : List Relating) : Type 0 where
+  pub pairs : AreUnvaluedPairs c (stacked (pair_at ts) ps)
+  pub known : ArePairs ts (content_of ts e) gs
+  pub due : AreGoalsDue c (content_of ts e) (pairs_at ts gs)
 
 -- the pairs of the parts of two nodes are to be taken in order
 pub record ArePartsPaired (declared : ℕ → List Variance) (ts : List Tree) (p : Relating) (xs ys : List Relating) : Type 0 where

@@ -1,5 +1,6 @@
 -- The walk that makes a term that stands for another, by terms of a store.
 use Rattle.std.specs.Prelude.{◌≡◌, ◌≢◌, ◌⊎◌, ℕ, ◌+◌, ◌≤◌, ◌<◌, Bool, true, false, List, [], ◌∷◌, ◌++◌, map, length, cond, Option, Some}
+use Rattle.nts_model.specs.declared.labels.Sort.TheVariants as sort
 use Rattle.nts_model.specs.declared.labels.Variance.{Variance}
 use Rattle.nts_model.specs.declared.labels.Variance.TheVariants as variance
 use Rattle.nts_model.specs.declared.labels.Relation.{Relation}
@@ -8,7 +9,7 @@ use Rattle.nts_model.specs.declared.labels.VariableKind.{VariableKind}
 use Rattle.nts_model.specs.declared.labels.VariableKind.TheVariants as kind
 use Rattle.nts_model.specs.declared.labels.Leaf.TheVariants as leaf
 use Rattle.nts_model.specs.declared.labels.Label.TheVariants as label
-use Rattle.nts_model.specs.Terms.Trees.{Tree, empty, kind_of, label_of, row_length, any_label, is_alias, IsClosed, IsFormed}
+use Rattle.nts_model.specs.Terms.Trees.{Tree, empty, kind_of, of_sort, label_of, row_length, any_label, is_alias, IsClosed, IsFormed}
 use Rattle.nts_model.specs.Tables.Contents.{Content, state_of, universe_of, kind_at}
 use Rattle.nts_model.specs.Tables.Resolving.{IsInfer, Knows, resolved}
 use Rattle.nts_model.specs.Tables.Levels.{NamesAll, term_level, region_level}
@@ -38,7 +39,8 @@ use Rattle.nts_variance.specs.Steps.{WalkStep, enter, build, owe, steps_of, stac
 use Rattle.nts_variance.specs.Walking.{Judges, IsTableGrown, IsMadeFor, IsChoice, SettlesOwed, Walks, IsMade, step_weights}
 use Rattle.nts_variance.specs.Counting.{IsCounted, IsCountedFor}
 use Rattle.nts_variance.specs.Parts.{form_of_tree, parts_of, IsNodeWithParts, StandsAlone}
-use Rattle.nts_variance.specs.Debts.{IsClosedLike, OweGoals}
+use Rattle.nts_variance.specs.Debts.{IsClosedLike, OweGoals, AreUnvaluedSteps}
+use Rattle.nts_variance.specs.Due.{IsTypeVariable, ShareSubRoots, IsUnvalued, AreGoalsDue}
 use Rattle.nts_variance.specs.Terms.{pairs_at, AreGoals, ArePairs, step_at, AreTasks, AreMade}
 
 -- a variable that is to be entered stands inside of a node that is to be built
@@ -82,6 +84,7 @@ pub record IsTurn (declared : ℕ → List Variance) (z : Bool) (u x : ℕ) (ts 
   pub trees : (a : Tree) → Knows (content_of ts e) a → resolved (content_of us f) a ≡ resolved (content_of ts e) a
   pub owes : OweGoals (stacked (step_at ts) xs) (stacked (tree_at ts) ms) → AreGoals (pairs_at ts gs) → OweGoals (stacked (step_at us) ys) (stacked (tree_at us) ns) × AreGoals (pairs_at us hs)
   pub counted : (n : ℕ) → IsCounted (content_of ts e) n (stacked (step_at ts) xs) (stacked (tree_at ts) ms) → IsCounted (content_of us f) n (stacked (step_at us) ys) (stacked (tree_at us) ns)
+  pub due : (b : Content) → AreUnvaluedSteps b (content_of ts e) (stacked (step_at ts) xs) → AreGoalsDue b (content_of ts e) (pairs_at ts gs) → AreUnvaluedSteps b (content_of us f) (stacked (step_at us) ys) × AreGoalsDue b (content_of us f) (pairs_at us hs)
 
 -- the pair of what was made and a part, in their order, and what it owes
 abbrev pub pair_in : Bool → Variance → NodeId → NodeId → Relating
@@ -109,7 +112,8 @@ with_owed z s r e = cond s.is_quiet e (constrained e (constraint_of_pair (pair_i
 abbrev pub fresh : VariableKind → ℕ → Option ℕ → Variable
 fresh k u o = record { kind = k; universe = u; state = State.Unset; sub_link = o }
 
--- a term made at once for a part, where the whole is made for the variable x
+-- a term made at once for a part, where the whole is made for the variable x. A type variable that is made for another one, which
+-- varies, shares its sub root
 pub record IsMadeAt (declared : ℕ → List Variance) (z : Bool) (u x : ℕ) (ts us : List Tree) (e f : Entries) (s : Spot) (r : NodeId) (gs hs : List Relating) : Type 0 where
   pub within : IsIn us r
   pub lawful : IsLawful us f
@@ -121,6 +125,8 @@ pub record IsMadeAt (declared : ℕ → List Variance) (z : Bool) (u x : ℕ) (t
   pub like : IsClosedLike (tree_at ts s.term) (tree_at us r)
   pub are_goals : AreGoals (pairs_at us new)
   pub counted : IsCountedFor (content_of ts e) (content_of us f) s.variance s.is_quiet (tree_at ts s.term) (tree_at us r)
+  pub joins : (n m : ℕ) → s.variance ≢ variance.Invariant → IsTypeVariable (tree_at ts s.term) n → IsTypeVariable (tree_at us r) m → ShareSubRoots (content_of us f) n m
+  pub due : (b : Content) → (s.is_quiet ≡ true) ⊎ IsUnvalued b s.variance (tree_at ts s.term) → AreGoalsDue b (content_of us f) (pairs_at us new)
 
 -- a type variable's value
 pub record IsTypeValue (c : Content) (t v : Tree) : Type 0 where
@@ -139,7 +145,7 @@ pub record IsMadeAgain (t : Tree) : Type 0 where
 abbrev pub IsLook : (ℕ → List Variance) → Bool → ℕ → ℕ → List Tree → List Tree → Entries → Entries → Spot → List Relating → List Relating → Look → Type 0
 IsLook declared z u x ts us e f s gs hs (look.Made r) = IsMadeAt declared z u x ts us e f s r gs hs
 IsLook declared z u x ts us e f s gs hs (look.Value v) = (us ≡ ts) × (f ≡ e) × (hs ≡ gs) × IsIn ts v × IsTypeValue (content_of ts e) (tree_at ts s.term) (tree_at ts v) × (s.variance ≢ variance.Invariant)
-IsLook declared z u x ts us e f s gs hs (look.Through v) = (us ≡ ts) × (f ≡ e) × (hs ≡ gs) × IsIn ts v × IsVariableValue (content_of ts e) (tree_at ts s.term) (tree_at ts v)
+IsLook declared z u x ts us e f s gs hs (look.Through v) = (us ≡ ts) × (f ≡ e) × (hs ≡ gs) × IsIn ts v × IsVariableValue (content_of ts e) (tree_at ts s.term) (tree_at ts v) × ((s.variance ≡ variance.Invariant) ⊎ (kind_of (tree_at ts s.term) ≡ Some (of_sort sort.Const)))
 IsLook declared z u x ts us e f s gs hs look.Node = (us ≡ ts) × (f ≡ e) × (hs ≡ gs) × IsMadeAgain (tree_at ts s.term)
 
 -- the parts of a node are to be entered in order, and then the node is to be built
@@ -175,3 +181,4 @@ pub record IsVaried (declared : ℕ → List Variance) (z : Bool) (u x : ℕ) (t
   pub are_goals : AreGoals (pairs_at us gs)
   pub none : v ≡ variance.Invariant → closed_aliases (resolved (content_of us f) (tree_at us r)) ≡ 0
   pub few : v ≡ variance.Invariant → unset_count (content_of us f).slots ≤ unset_count (content_of ts e).slots + closed_aliases (resolved (content_of ts e) (tree_at ts t))
+  pub due : (b : Content) → IsUnvalued b v (tree_at ts t) → AreGoalsDue b (content_of us f) (pairs_at us gs)

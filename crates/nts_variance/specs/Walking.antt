@@ -22,6 +22,7 @@ use Rattle.nts_variance_model.specs.Variances.Relations.{Relating, AllSettleIn, 
 use Rattle.nts_variance_model.specs.Variances.AnsweredGoals.{AllAnswered}
 use Rattle.nts_variance_model.specs.Variances.Leaving.{Judge, judging_of}
 use Rattle.nts_unify.specs.Changing.{AddsVisible}
+use Rattle.nts_variance.specs.Parts.{IsAlone}
 use Rattle.nts_variance.specs.SubRoots.{GrowsSubRoots}
 use Rattle.nts_variance.specs.Steps.{WalkStep, enter, build, owe, steps_of, StepsLead}
 
@@ -46,12 +47,14 @@ pub record Judges (declared : ℕ → List Variance) (j : Judge declared) (w : W
   pub judged : IsJudgedBy (judging_of declared j) w
   pub alone : (v : Variance) (a : Tree) (r : FreeRegion) → IsErased r → (judging_of declared j).holds (region_constraint v a (leaf_tree (leaf.Region (w.region r)))) → a ≡ leaf_tree (leaf.Region (w.region r))
 
--- a tree that may be made for a part, under a table: a variable stands for a variable or a closed alias alone
+-- a tree that may be made for a part, under a table: a variable stands for a variable or a closed alias alone, and but for those a
+-- const stands for a const, and a number for a number
 pub record IsMadeFor (f : Content) (t r : Tree) : Type 0 where
   pub knows : Knows f r
   pub kind : kind_of r ≡ kind_of t
   pub listed : KeepsListed t r
   pub apart : (IsInfer t → ⊥) → (IsAlias t → ⊥) → IsInfer r → ⊥
+  pub alone : (IsInfer t → ⊥) → (IsAlias t → ⊥) → IsAlone r → IsAlone t
 
 abbrev pub MadeIn : Content → Variance → Bool → Tree → Tree → Type 0
 MadeIn f v q t r = IsMadeFor f t r

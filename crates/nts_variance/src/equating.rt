@@ -3,6 +3,7 @@ ghost use Rattle.std.specs.Prelude.{◌≡◌, ◌≢◌, ◌++◌, ℕ, List, �
 ghost use Rattle.nts_model.specs.declared.labels.Variance.TheVariants as variances;
 ghost use Rattle.nts_model.specs.declared.labels.Variance.{Variance};
 ghost use Rattle.nts_model.specs.Derivations.Related.{IsAlias};
+ghost use Rattle.nts_model.specs.Tables.Contents.{Content};
 ghost use Rattle.nts_model.specs.Tables.Resolving.{IsInfer};
 ghost use Rattle.nts_store.specs.Growth.{tree_at, IsIn, Extends};
 ghost use Rattle.nts_terms.specs.Signatures.{variances_in};
@@ -12,8 +13,8 @@ ghost use Rattle.nts_relating.specs.Relating.{IsOpen};
 ghost use Rattle.nts_variance.specs.Terms.{pair_at};
 ghost use Rattle.nts_variance.specs.Varying.{pair_in};
 ghost use Rattle.nts_variance.specs.Pairs.{Refuses};
-ghost use Rattle.nts_variance.specs.Taking.{IsPairSide, IsPair, IsTaken, IsPaid};
-ghost use Rattle.nts_variance.specs.Equating.{node_in, AreToBeOne, AreHeads, ArePairHeads, AreInvariant, ArePairsReady, IsOn, IsEqualStep, IsEqualRun, AreRefused, GoalsRelate};
+ghost use Rattle.nts_variance.specs.Taking.{IsPairSide, IsPair, IsTaken, IsPaid, AreDueSince};
+ghost use Rattle.nts_variance.specs.Equating.{node_in, OwesAliases, AreToBeOne, AreHeads, ArePairHeads, AreInvariant, ArePairsReady, IsOn, IsEqualStep, IsEqualRun, AreRefused, GoalsRelate};
 
 use crate::along::{Relating, Side, bind_along};
 use crate::splitting::{Left, Taken, owe, push_pairs, relate_along, take_heads};
@@ -83,6 +84,8 @@ fn join_variables(
         pair) }
     ensures paid { IfOk result (IsPaid (content_of nodes.old table.old.entries)
         (content_of nodes.new table.new.entries) (pair_at nodes.old pair)) }
+    ensures due { IfOk result (OwesAliases nodes.new (content_of nodes.new table.new.entries)
+        (pair_at nodes.old pair)) }
     ensures full { result ≢ Err EvalError.Full }
     ensures no { (declared : ℕ → List Variance) → result ≡ Err EvalError.NoSolution →
         Refuses declared (content_of nodes.old table.old.entries) (pair_at nodes.old pair ∷ []) }
@@ -123,11 +126,16 @@ fn bind_head(
     ensures paid { IfOk result (IsPaid (content_of nodes.old table.old.entries)
         (content_of nodes.new table.new.entries) (pair_at nodes.old
         (pair_in side.is_turned variance own term))) }
+    ensures due { AreToBeOne (content_of nodes.old table.old.entries) variance (tree_at nodes.old
+        own) (tree_at nodes.old term) → IfOk result (OwesAliases nodes.new (content_of nodes.new
+        table.new.entries) (pair_at nodes.old (pair_in side.is_turned variance own term))) }
     ensures full { result ≢ Err EvalError.Full }
     ensures no { result ≡ Err EvalError.NoSolution →
         Refuses (variances_in declarations.now) (content_of nodes.old table.old.entries)
         (pair_at nodes.old (pair_in side.is_turned variance own term) ∷ []) }
 {
+    // The nodes of a store are formed.
+    nodes.terms_are_formed();
     match bind_along(alloc, nodes, declarations, table, side, variance, term) {
         Err(error) => Err(error),
         Ok(goals) => Ok(Taken::Bound(goals)),
@@ -157,6 +165,8 @@ fn take_nodes(nodes: &Nodes, table: &mut InferCtxtInner, pair: Relating) -> Resu
         pair) }
     ensures paid { IfOk result (IsPaid (content_of nodes.now table.old.entries)
         (content_of nodes.now table.new.entries) (pair_at nodes.now pair)) }
+    ensures due { IfOk result (OwesAliases nodes.now (content_of nodes.now table.new.entries)
+        (pair_at nodes.now pair)) }
     ensures full { result ≢ Err EvalError.Full }
     ensures no { (declared : ℕ → List Variance) → result ≡ Err EvalError.NoSolution →
         Refuses declared (content_of nodes.now table.old.entries) (pair_at nodes.now pair ∷ []) }
@@ -194,6 +204,9 @@ fn take_left(
         table.old.entries table.new.entries pair) }
     ensures paid { IfOk result (IsPaid (content_of nodes.old table.old.entries)
         (content_of nodes.new table.new.entries) (pair_at nodes.old pair)) }
+    ensures due { AreToBeOne (content_of nodes.old table.old.entries) pair.variance
+        (tree_at nodes.old pair.left) (tree_at nodes.old pair.right) → IfOk result (OwesAliases
+        nodes.new (content_of nodes.new table.new.entries) (pair_at nodes.old pair)) }
     ensures full { result ≢ Err EvalError.Full }
     ensures no { result ≡ Err EvalError.NoSolution →
         Refuses (variances_in declarations.now) (content_of nodes.old table.old.entries)
@@ -244,6 +257,9 @@ fn take_right(
         table.old.entries table.new.entries pair) }
     ensures paid { IfOk result (IsPaid (content_of nodes.old table.old.entries)
         (content_of nodes.new table.new.entries) (pair_at nodes.old pair)) }
+    ensures due { AreToBeOne (content_of nodes.old table.old.entries) pair.variance
+        (tree_at nodes.old pair.left) (tree_at nodes.old pair.right) → IfOk result (OwesAliases
+        nodes.new (content_of nodes.new table.new.entries) (pair_at nodes.old pair)) }
     ensures full { result ≢ Err EvalError.Full }
     ensures no { result ≡ Err EvalError.NoSolution →
         Refuses (variances_in declarations.now) (content_of nodes.old table.old.entries)
@@ -285,6 +301,8 @@ fn take_equal(
         table.old.entries table.new.entries heads.pair) }
     ensures paid { IfOk result (IsPaid (content_of nodes.old table.old.entries)
         (content_of nodes.new table.new.entries) (pair_at nodes.old heads.pair)) }
+    ensures due { IfOk result (OwesAliases nodes.new (content_of nodes.new table.new.entries)
+        (pair_at nodes.old heads.pair)) }
     ensures full { result ≢ Err EvalError.Full }
     ensures no { result ≡ Err EvalError.NoSolution →
         Refuses (variances_in declarations.now) (content_of nodes.old table.old.entries)
@@ -330,6 +348,9 @@ fn step(
     ensures step { IfOk result (IsEqualStep (variances_in declarations.now) nodes.old nodes.new
         table.old.entries table.new.entries call.old.pairs.items pair call.new.pairs.items
         call.old.met.keys call.new.met.keys call.old.goals.items call.new.goals.items) }
+    ensures due { (c : Content) →
+        AreDueSince c nodes.old table.old.entries [] call.old.goals.items → OnOk result
+        (AreDueSince c nodes.new table.new.entries [] call.new.goals.items) }
     ensures full { result ≢ Err EvalError.Full }
     ensures no { result ≡ Err EvalError.NoSolution →
         Refuses (variances_in declarations.now) (content_of nodes.old table.old.entries)
@@ -377,6 +398,9 @@ fn run(
     ensures run { IfOk result (IsEqualRun (variances_in declarations.now) nodes.old nodes.new
         table.old.entries table.new.entries call.old.pairs.items call.new.pairs.items
         call.old.met.keys call.new.met.keys call.old.goals.items call.new.goals.items) }
+    ensures due { (c : Content) →
+        AreDueSince c nodes.old table.old.entries [] call.old.goals.items → OnOk result
+        (AreDueSince c nodes.new table.new.entries [] call.new.goals.items) }
     ensures full { result ≢ Err EvalError.Full }
     ensures no { result ≡ Err EvalError.NoSolution →
         AreRefused (variances_in declarations.now) nodes.old table.old.entries call.old.pairs.items
@@ -410,6 +434,9 @@ fn run_all(
     ensures all { OnOk result (IsOn (variances_in declarations.now) nodes.old nodes.new
         table.old.entries table.new.entries call.old.pairs.items [] call.old.met.keys
         call.new.met.keys call.old.goals.items call.new.goals.items) }
+    ensures due { (c : Content) →
+        AreDueSince c nodes.old table.old.entries [] call.old.goals.items → OnOk result
+        (AreDueSince c nodes.new table.new.entries [] call.new.goals.items) }
     ensures full { result ≢ Err EvalError.Full }
     ensures no { result ≡ Err EvalError.NoSolution →
         AreRefused (variances_in declarations.now) nodes.old table.old.entries call.old.pairs.items
@@ -487,7 +514,7 @@ pub fn relate_pair(
 
 /// Relates two terms by a variance, each a type, a region or a const of the store and the table: what rests on aliases without
 /// escaping bound variables, and on type variables that have a value or stand on both sides of a pair that is not invariant, is left
-/// as goals, and all else is done.
+/// as goals, and all else is done. Where no variable of the two had a value, a goal is left for a variable that got its value since.
 ///
 /// Under each later table in which the goals are answered the two are related; and each settled solution in which they settle goes
 /// on to one of the table in which the goals settle. It is `NoSolution` where they settle in none, and `Memory` where a growth was

@@ -4,6 +4,7 @@ ghost use Rattle.nts_model.specs.declared.labels.Variance.TheVariants as varianc
 ghost use Rattle.nts_model.specs.declared.labels.Variance.{Variance};
 ghost use Rattle.nts_model.specs.Terms.Trees.{Tree, any_label, children, is_alias, is_infer, kind_of, node, of_sort, IsClosed};
 ghost use Rattle.nts_model.specs.declared.labels.Sort.{Sort};
+ghost use Rattle.nts_model.specs.Tables.Contents.{Content};
 ghost use Rattle.nts_model.specs.Tables.Resolving.{IsInfer};
 ghost use Rattle.nts_model.specs.Derivations.Related.{IsAlias};
 ghost use Rattle.nts_store.specs.Growth.{tree_at, IsIn, Extends};
@@ -17,7 +18,8 @@ ghost use Rattle.nts_variance.specs.Steps.{stacked};
 ghost use Rattle.nts_variance.specs.Terms.{pair_at};
 ghost use Rattle.nts_variance.specs.Varying.{pair_in, IsMadeAgain};
 ghost use Rattle.nts_variance.specs.Pairs.{Refuses};
-ghost use Rattle.nts_variance.specs.Taking.{left_sizes, number_at, IsPairSide, IsPair, IsTaken, IsPaid, SaysAllOwed, AreNoSides, AreOfOneForm, ArePairsLeft, ArePartsPaired, IsLeft, IsCall};
+ghost use Rattle.nts_variance.specs.Equating.{OwesAliases};
+ghost use Rattle.nts_variance.specs.Taking.{left_sizes, number_at, IsPairSide, IsPair, IsTaken, IsPaid, SaysAllOwed, AreNoSides, AreOfOneForm, ArePairsLeft, AreDueSince, ArePartsPaired, IsLeft, IsCall};
 
 use crate::along::{Relating, Side, bind_along};
 use crate::parts::{has_parts, holder, variance_of_part};
@@ -87,8 +89,8 @@ pub fn owe(nodes: &Nodes, pair: Relating) -> Result<Taken, EvalError>
 fn is_owed(nodes: &Nodes, table: &InferCtxtInner, t: NodeId) -> bool
     requires lawful { IsLawful nodes.now table.now.entries }
     requires side { IsPairSide nodes.now (content_of nodes.now table.now.entries) t }
-    ensures yes { result ≡ true → SaysAllOwed (tree_at nodes.now t) }
-    ensures no { result ≡ false → IsAlias (tree_at nodes.now t) → ⊥ }
+    ensures yes { result ≡ true → SaysAllOwed table.now.entries (tree_at nodes.now t) }
+    ensures no { result ≡ false → SaysAllOwed table.now.entries (tree_at nodes.now t) → ⊥ }
 {
     // The nodes of a store are formed.
     nodes.terms_are_formed();
@@ -330,6 +332,8 @@ pub fn take_heads(
         pair) }
     ensures paid { IfOk result (IsPaid (content_of nodes.now table.old.entries)
         (content_of nodes.now table.new.entries) (pair_at nodes.now pair)) }
+    ensures due { IfOk result (OwesAliases nodes.now (content_of nodes.now table.new.entries)
+        (pair_at nodes.now pair)) }
     ensures full { result ≢ Err EvalError.Full }
     ensures no { (declared : ℕ → List Variance) → result ≡ Err EvalError.NoSolution →
         Refuses declared (content_of nodes.now table.old.entries) (pair_at nodes.now pair ∷ []) }
@@ -519,6 +523,9 @@ fn step(
         call.old.goals.items →
         OnOk result (IsCall (variances_in declarations.now) ts nodes.new e table.new.entries p
         call.new.pairs.items call.new.met.keys call.new.equal.items call.new.goals.items) }
+    ensures due { (c : Content) → AreDueSince c nodes.old table.old.entries (call.old.pairs.items
+        ++ pair ∷ []) call.old.goals.items → OnOk result (AreDueSince c nodes.new
+        table.new.entries call.new.pairs.items call.new.goals.items) }
     ensures less { OnOk result (left_sizes
         (stacked (pair_at nodes.new) call.new.pairs.items) < left_sizes (stacked (pair_at nodes.old)
         (call.old.pairs.items ++ pair ∷ []))) }

@@ -12,10 +12,10 @@ returns-in-Err-clause-no c = λ q. c.in-Err.ensures.no (err_of _ _ q)
 pub goals_of-requires-clause-within : goal.goals_of-requires-clause-within
 goals_of-requires-clause-within c =
     let us = c.relate_sides.new.nodes in
-    rw c.deref.ensures.value (pairs_within us (content_of us c.relate_sides.new.table.entries) c.in-Ok.pairs.items c.in-Ok.ensures.related.known)
+    rw c.deref.ensures.value (pairs_within us (content_of us c.relate_sides.new.table.entries) c.in-Ok.pairs.items (let r = c.in-Ok.ensures.related.related in r.known))
 
 pub goals_of-requires-clause-goals : goal.goals_of-requires-clause-goals
-goals_of-requires-clause-goals c = rw c.deref.ensures.value c.in-Ok.ensures.related.are_goals
+goals_of-requires-clause-goals c = rw c.deref.ensures.value (let r = c.in-Ok.ensures.related.related in r.are_goals)
 
 pub returns-in-Ok-clause-lawful : goal.returns-in-Ok-clause-lawful
 returns-in-Ok-clause-lawful c = IsLawful-extended c.goals_of.ensures.extends c.in-Ok.ensures.lawful

@@ -4,6 +4,8 @@ use Rattle.nts_terms.specs.Signatures.{variances_in}
 use Rattle.nts_unify.specs.Reading.{content_of}
 use Rattle.nts_unify.proofs.Keeping.{KeepsHidden-trans}
 use Rattle.nts_relating.proofs.PairLemmas.{err_of}
+use Rattle.nts_variance.specs.Terms.{pair_at, pairs_at}
+use Rattle.nts_variance.specs.Due.{LeavesDue}
 use Rattle.nts_variance.proofs.Calls.{call_again, call_back, call_end, call_forgets, call_refuses, pairs_front, waits_front}
 use Rattle.nts_variance.proofs.Exact.{waits_one}
 use Rattle.nts_variance.proofs.equating.relate_pair.Goals as goal
@@ -17,6 +19,7 @@ loop-pair-init c =
       changes = s.changes;
       met = refl;
       invariant = tt;
+      due = λ b h. (let l = s.left in record { pairs = tt; known = l.goals; due = l.due b h });
       going = call_again (variances_in c.args.declarations.now) c.args.nodes.now c.relate_along.new.nodes c.args.table.now.entries c.relate_along.new.table.entries c.args.root left.equal.items left.goals.items c.requires.lawful.sound s.lawful s.left;
     })
 
@@ -56,6 +59,7 @@ loop-pair-preserved c =
       changes = KeepsHidden-trans i.changes s.changes;
       met = c.clear.ensures.empty;
       invariant = s.step.invariant i.invariant;
+      due = λ b h. s.due b (i.due b h);
       going = call_forgets declared c.args.nodes.now c.step.new.nodes c.args.table.now.entries c.step.new.table.entries c.args.root _ _ _ _ there;
     }
 
@@ -66,7 +70,8 @@ returns-clause-related c =
     let none : c.pop.new.self.items ≡ [] = search rules in
     let same : c.loop-pair.equal.items ≡ c.pop.new.self.items = search rules in
     let going = rw none at (rw same at i.going) in
-    let all = c.in-Ok-run_all.ensures.all in
-    let last = all.call c.args.nodes.now c.args.table.now.entries c.args.root [] (rw i.met going) in
-    let end = call_end declared c.args.nodes.now c.run_all.new.nodes c.args.table.now.entries c.run_all.new.table.entries c.args.root [] _ [] _ last (λ j. []) in
-    record { known = end.goals; are_goals = end.are_goals; takes = end.takes }
+    let all = c.in-Ok-run_all.ensures in
+    let last = all.all.call c.args.nodes.now c.args.table.now.entries c.args.root [] (rw i.met going) in
+    let due : LeavesDue (content_of c.run_all.new.nodes c.run_all.new.table.entries) (pair_at c.args.nodes.now c.args.root) (pairs_at c.run_all.new.nodes c.run_all.new.call.goals.items) = λ b h. (let d = all.due b (i.due b h) in d.due) in
+    let end = call_end declared c.args.nodes.now c.run_all.new.nodes c.args.table.now.entries c.run_all.new.table.entries c.args.root [] _ [] _ last (λ j. []) due in
+    record { known = end.goals; are_goals = end.are_goals; takes = end.takes; due = end.due }

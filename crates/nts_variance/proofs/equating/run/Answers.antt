@@ -15,6 +15,7 @@ loop-pair-init c =
     record {
       extends = Extends-refl c.args.nodes.now;
       changes = KeepsHidden-refl _;
+      due = λ b h. h;
       going = equating_start (variances_in c.args.declarations.now) c.args.nodes.now c.args.table.now.entries call.pairs.items call.met.keys call.goals.items c.requires.ready c.requires.invariant;
     }
 
@@ -26,6 +27,7 @@ loop-pair-preserved c =
     record {
       extends = Extends-trans i.extends s.extends;
       changes = KeepsHidden-trans i.changes s.changes;
+      due = λ b h. s.due b (i.due b h);
       going = equating_step (variances_in c.args.declarations.now) c.args.nodes.now c.loop-pair.nodes _ c.args.table.now.entries c.loop-pair.table.entries _ _ c.pop.new.self.items c.in-Some.pair _ _ _ _ _ _ _ _ (rw is at i.going) s.step c.if-bound.false;
     }
 
@@ -55,3 +57,6 @@ step-requires-clause-one c =
     let is : c.loop-pair.call.pairs.items ≡ c.pop.new.self.items ++ c.in-Some.pair ∷ [] = search rules in
     let going = rw is at i.going in
     invariant_one (content_of c.loop-pair.nodes c.loop-pair.table.entries) c.in-Some.pair.variance (tree_at c.loop-pair.nodes c.in-Some.pair.left) (tree_at c.loop-pair.nodes c.in-Some.pair.right) (invariant_front c.pop.new.self.items c.in-Some.pair going.invariant).1
+
+pub returns-then-bound-clause-due : goal.returns-then-bound-clause-due
+returns-then-bound-clause-due c = λ b h. (let s = c.in-Ok.ensures in let i = c.loop-pair.invariant in s.due b (i.due b h))

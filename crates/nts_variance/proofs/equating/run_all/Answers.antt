@@ -11,6 +11,7 @@ loop-error-init c =
     record {
       extends = Extends-refl c.args.nodes.now;
       changes = KeepsHidden-refl _;
+      due = λ b h. h;
       going = equating_start (variances_in c.args.declarations.now) c.args.nodes.now c.args.table.now.entries call.pairs.items call.met.keys call.goals.items c.requires.ready c.requires.invariant;
     }
 
@@ -21,6 +22,7 @@ loop-error-preserved c =
     record {
       extends = Extends-trans i.extends s.extends;
       changes = KeepsHidden-trans i.changes s.changes;
+      due = λ b h. s.due b (i.due b h);
       going = equating_run (variances_in c.args.declarations.now) _ _ _ _ _ _ _ _ _ _ _ _ _ _ _ _ i.going s.run;
     }
 
@@ -29,3 +31,6 @@ returns-in-Err-clause-no c = λ q. refused_run (variances_in c.args.declarations
 
 pub returns-then-not-bound-clause-all : goal.returns-then-not-bound-clause-all
 returns-then-not-bound-clause-all c = equating_all (variances_in c.args.declarations.now) _ _ _ _ _ _ _ _ _ _ _ _ _ _ _ _ c.loop-error.invariant.going c.in-Ok.ensures.run c.if-not-bound.true
+
+pub returns-then-not-bound-clause-due : goal.returns-then-not-bound-clause-due
+returns-then-not-bound-clause-due c = λ b h. (let s = c.in-Ok.ensures in let i = c.loop-error.invariant in s.due b (i.due b h))

@@ -1,10 +1,18 @@
-use Rattle.std.proofs.Common.{◌≡◌, [], ◌∷◌, ◌++◌, sym, ap, ◌∙◌}
+use Rattle.std.proofs.Common.{◌≡◌, List, [], ◌∷◌, ◌++◌, sym, ap, ◌∙◌}
 use Rattle.std.proofs.lemmas.List.{append-nil}
+use Rattle.nts_model.specs.Terms.Trees.{Tree}
+use Rattle.nts_model.specs.Tables.Contents.{Content}
+use Rattle.nts_model.proofs.Tables.Held.{Continues-refl}
+use Rattle.nts_store.proofs.Growing.{Extends-refl}
 use Rattle.nts_terms.specs.Signatures.{variances_in}
+use Rattle.nts_unify.specs.Entries.{Entries}
 use Rattle.nts_unify.specs.Reading.{content_of}
 use Rattle.nts_unify.proofs.Tests.{is_true, is_false}
 use Rattle.nts_variance.specs.Terms.{pair_at}
-use Rattle.nts_variance.specs.Taking.{ArePartsPaired}
+use Rattle.nts_variance.specs.declared.along.Relating.{Relating}
+use Rattle.nts_variance.specs.Taking.{ArePartsPaired, AreDueSince}
+use Rattle.nts_variance.proofs.Growing.{grown_refl}
+use Rattle.nts_variance.proofs.DueCalls.{due_front, due_on, due_parts}
 use Rattle.nts_variance.proofs.Calls.{pairs_front, pair_known, call_taken, call_left, call_parts, call_passed, taken_less, parts_less}
 use Rattle.nts_variance.proofs.MetGoals.{met_among, met_keys, new_keys, map_ok}
 use Rattle.nts_variance.proofs.Underway.{takes_left, takes_owed}
@@ -114,4 +122,72 @@ returns-else-not-branch-3-clause-less c =
     let us = c.args.nodes.now in
     map_ok c.push_pairs.result
     (λ (pushed : ArePartsPaired (variances_in c.args.declarations.now) c.take.new.nodes c.args.pair c.args.call.now.pairs.items c.push_pairs.new.pairs.items). rw t.0 (parts_less (variances_in c.args.declarations.now) us c.args.call.now.pairs.items c.push_pairs.new.pairs.items c.args.pair t.2 (rw t.0 at pushed)))
+    c.push_pairs.ensures.pushed
+
+pub returns-in-Ok-Done-clause-due : goal.returns-in-Ok-Done-clause-due
+returns-in-Ok-Done-clause-due c = λ b h.
+    let t = rw c.in-Ok-Done.field-0-is at c.in-Ok-Done.ensures.taken in
+    let ts = c.args.nodes.now in
+    let e = c.args.table.now.entries in
+    let call = c.args.call.now in
+    let left = (pairs_front ts (content_of ts e) call.pairs.items c.args.pair c.requires.pairs).0 in
+    let front = due_front b ts e call.pairs.items c.args.pair call.goals.items h in
+    due_on b ts c.take.new.nodes e c.take.new.table.entries call.pairs.items call.goals.items [] call.goals.items left c.in-Ok-Done.ensures.extends t.1.later t.1.continues front.1 tt tt (sym (append-nil call.goals.items))
+
+-- where the store and the table are as they were
+same_due : (b : Content) (ts : List Tree) (e : Entries) (ps : List Relating) (q : Relating) (gs : List Relating) → AreDueSince b ts e (ps ++ q ∷ []) gs → AreDueSince b ts e ps gs
+same_due b ts e ps q gs h = (due_front b ts e ps q gs h).1
+
+pub returns-in_ok-push-in-Ok-Equal-clause-due : goal.returns-in_ok-push-in-Ok-Equal-clause-due
+returns-in_ok-push-in-Ok-Equal-clause-due c = λ b h.
+    let t = rw c.in-Ok-Equal.field-0-is at c.in-Ok-Equal.ensures.taken in
+    let call = c.args.call.now in
+    rw (t.0, t.1) (same_due b c.args.nodes.now c.args.table.now.entries call.pairs.items c.args.pair call.goals.items h)
+
+pub returns-in_ok-push-in-Ok-Owed-clause-due : goal.returns-in_ok-push-in-Ok-Owed-clause-due
+returns-in_ok-push-in-Ok-Owed-clause-due c = λ b h.
+    let t = rw c.in-Ok-Owed.field-0-is at c.in-Ok-Owed.ensures.taken in
+    let ts = c.args.nodes.now in
+    let e = c.args.table.now.entries in
+    let q = c.args.pair in
+    let call = c.args.call.now in
+    let pairs = pairs_front ts (content_of ts e) call.pairs.items q c.requires.pairs in
+    let front = due_front b ts e call.pairs.items q call.goals.items h in
+    rw (t.0, t.1) (due_on b ts ts e e call.pairs.items call.goals.items (q ∷ []) c.push-in-Ok-Owed.new.self.items pairs.0 (Extends-refl ts) (grown_refl (content_of ts e)) (Continues-refl (content_of ts e) c.requires.lawful.sound) front.1 (pair_known ts (content_of ts e) q pairs.1) (t.3 b front.0) c.in_ok-push-in-Ok-Owed.ensures.items)
+
+pub returns-in_ok-extend_from_slice-in-Ok-Bound-clause-due : goal.returns-in_ok-extend_from_slice-in-Ok-Bound-clause-due
+returns-in_ok-extend_from_slice-in-Ok-Bound-clause-due c = λ b h.
+    let t = rw c.in-Ok-Bound.field-0-is at c.in-Ok-Bound.ensures.taken in
+    let ts = c.args.nodes.now in
+    let e = c.args.table.now.entries in
+    let call = c.args.call.now in
+    let items : c.extend_from_slice.new.self.items ≡ call.goals.items ++ c.in-Ok-Bound.goals.items = c.in_ok-extend_from_slice-in-Ok-Bound.ensures.items ∙ ap (λ x. call.goals.items ++ x) c.deref.ensures.value in
+    let left = (pairs_front ts (content_of ts e) call.pairs.items c.args.pair c.requires.pairs).0 in
+    let front = due_front b ts e call.pairs.items c.args.pair call.goals.items h in
+    due_on b ts c.take.new.nodes e c.take.new.table.entries call.pairs.items call.goals.items c.in-Ok-Bound.goals.items c.extend_from_slice.new.self.items left c.in-Ok-Bound.ensures.extends t.2.later t.2.continues front.1 t.1 (t.4 b front.0) items
+
+pub returns-then-not-branch-clause-due : goal.returns-then-not-branch-clause-due
+returns-then-not-branch-clause-due c = λ b h.
+    let t = rw c.in-Ok-Equal.field-0-is at c.in-Ok-Equal.ensures.taken in
+    let call = c.args.call.now in
+    rw (t.0, t.1) (same_due b c.args.nodes.now c.args.table.now.entries call.pairs.items c.args.pair call.goals.items h)
+
+pub returns-then-not-branch-2-clause-due : goal.returns-then-not-branch-2-clause-due
+returns-then-not-branch-2-clause-due c = λ b h.
+    let t = rw c.in-Ok-Owed.field-0-is at c.in-Ok-Owed.ensures.taken in
+    let call = c.args.call.now in
+    rw (t.0, t.1) (same_due b c.args.nodes.now c.args.table.now.entries call.pairs.items c.args.pair call.goals.items h)
+
+pub returns-then-not-branch-3-clause-due : goal.returns-then-not-branch-3-clause-due
+returns-then-not-branch-3-clause-due c = λ b h.
+    let t = rw c.in-Ok-Parts.field-0-is at c.in-Ok-Parts.ensures.taken in
+    let call = c.args.call.now in
+    rw (t.0, t.1) (same_due b c.args.nodes.now c.args.table.now.entries call.pairs.items c.args.pair call.goals.items h)
+
+pub returns-else-not-branch-3-clause-due : goal.returns-else-not-branch-3-clause-due
+returns-else-not-branch-3-clause-due c = λ b h.
+    let t = rw c.in-Ok-Parts.field-0-is at c.in-Ok-Parts.ensures.taken in
+    let call = c.args.call.now in
+    map_ok c.push_pairs.result
+    (λ (pushed : ArePartsPaired (variances_in c.args.declarations.now) c.take.new.nodes c.args.pair c.args.call.now.pairs.items c.push_pairs.new.pairs.items). rw (t.0, t.1) (due_parts b (variances_in c.args.declarations.now) c.args.nodes.now c.args.table.now.entries call.pairs.items c.push_pairs.new.pairs.items c.args.pair call.goals.items t.2 (rw t.0 at pushed) h))
     c.push_pairs.ensures.pushed

@@ -1,5 +1,5 @@
 use Rattle.nts_relating.proofs.PairLemmas.{err_of}
-use Rattle.std.proofs.Common.{rules, ℕ, List, ◌++◌, ◌∷◌, [], ◌<◌, false, refl}
+use Rattle.std.proofs.Common.{rules, inr, ℕ, List, ◌++◌, ◌∷◌, [], ◌<◌, false, refl}
 use Rattle.nts_model.specs.Terms.Trees.{Tree}
 use Rattle.nts_store.specs.declared.nodes.NodeId.{NodeId}
 use Rattle.nts_terms.specs.Signatures.{variances_in}
@@ -39,7 +39,7 @@ pub returns-in_ok-push-in-Ok-Through-clause-turn : goal.returns-in_ok-push-in-Ok
 returns-in_ok-push-in-Ok-Through-clause-turn c =
     let look = rw c.in-Ok-Through.field-0-is at (c.in-Ok-Through.ensures.look (variances_in c.args.declarations.now)) in
     let room : c.in-Ok-Through.term.number < 18446744073709551616 = search rules in
-    turn_value_on (variances_in c.args.declarations.now) c.args.target.is_turned c.args.target.universe c.args.target.variable c.args.nodes.now c.look_at.new.nodes c.args.table.now.entries c.look_at.new.table.entries c.args.walk.now.tasks.items c.push-in-Ok-Through.new.self.items c.args.spot c.in-Ok-Through.term c.args.spot.is_quiet c.args.walk.now.made.items c.args.walk.now.goals.items c.look_at.new.goals.items c.requires.walk look.0 look.1 look.2 refl look.3 room look.4 c.in_ok-push-in-Ok-Through.ensures.items
+    turn_value_on (variances_in c.args.declarations.now) c.args.target.is_turned c.args.target.universe c.args.target.variable c.args.nodes.now c.look_at.new.nodes c.args.table.now.entries c.look_at.new.table.entries c.args.walk.now.tasks.items c.push-in-Ok-Through.new.self.items c.args.spot c.in-Ok-Through.term c.args.spot.is_quiet c.args.walk.now.made.items c.args.walk.now.goals.items c.look_at.new.goals.items c.requires.walk look.0 look.1 look.2 refl look.3 room look.4 (inr look.5) c.in_ok-push-in-Ok-Through.ensures.items
 
 pub push_parts-requires-clause-within : goal.push_parts-requires-clause-within
 push_parts-requires-clause-within c =

@@ -25,7 +25,7 @@ returns-then-is_closed_alias-clause-look c = λ declared.
     let loose : closed_alias c.label-label.result (escaping t) ≡ true = ap (λ f. closed_alias c.label-label.result f.escaping) (sym c.flags-flags.ensures) ∙ sym c.if-is_closed_alias.ensures in
     let a = closed_alias_tree t c.label-label.result is formed loose in
     let k = alias_sort c.label-label.result c.match-label.kind a.label (elim c.match-label.branch [ in-Const w ↦ inl (w.in-Const.field-0, w.in-Const.is, w.kind-is) | in_default w ↦ inr (w.in_default.not-Const, w.kind-is) ]) in
-    fresh_at declared c.args.target.is_turned c.args.target.universe c.args.target.variable c.args.nodes.now c.make_fresh.new.nodes c.args.table.now.entries c.make_fresh.new.table.entries c.args.spot c.in_ok-made.made c.args.goals.now.items c.make_fresh.new.goals.items c.match-label.kind None c.requires.known k.1 c.requires.lawful (s.lawful c.requires.lawful) s.extends c.requires.part formed a.closed (ap kind_of is ∙ ap Some (sym k.0)) (inr a.loose) (λ i. absurd (infer_alias t i a.loose)) s.within s.tree s.entries s.goals
+    fresh_at declared c.args.target.is_turned c.args.target.universe c.args.target.variable c.args.nodes.now c.make_fresh.new.nodes c.args.table.now.entries c.make_fresh.new.table.entries c.args.spot c.in_ok-made.made c.args.goals.now.items c.make_fresh.new.goals.items c.match-label.kind None c.requires.known k.1 c.requires.lawful (s.lawful c.requires.lawful) s.extends c.requires.part formed a.closed (ap kind_of is ∙ ap Some (sym k.0)) (inr a.loose) (λ i. absurd (infer_alias t i a.loose)) (λ i. absurd (infer_alias t i a.loose)) s.within s.tree s.entries s.goals
 
 pub returns-then-has_parts-clause-look : goal.returns-then-has_parts-clause-look
 returns-then-has_parts-clause-look c = λ declared.

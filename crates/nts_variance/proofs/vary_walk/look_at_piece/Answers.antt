@@ -1,4 +1,4 @@
-use Rattle.std.proofs.Common.{◌≡◌, true, refl, sym, ap, ◌∙◌}
+use Rattle.std.proofs.Common.{◌≡◌, ⊎_elim, true, refl, sym, ap, ◌∙◌}
 use Rattle.nts_model.specs.Terms.Trees.{any_label, is_infer}
 use Rattle.nts_store.specs.Growth.{tree_at}
 use Rattle.nts_unify.specs.Reading.{content_of}
@@ -19,7 +19,9 @@ probe_variable-requires-clause-within c = looked_within c.args.nodes.now c.args.
 pub returns-in-Ok-clause-look : goal.returns-in-Ok-clause-look
 returns-in-Ok-clause-look c = λ declared gs.
     let k = looked_value c.args.nodes.now c.args.table.now.entries (tree_at c.args.nodes.now c.args.spot.term) c.args.label c.in-Some.n _ c.in-Ok.value c.requires.lawful c.requires.part.knows c.requires.label (sym c.in-Some.ensures) c.in-Ok.ensures.value.1 in
-    (refl, refl, refl, k.0, k.1)
+    let some : any_label is_infer (tree_at c.args.nodes.now c.args.spot.term) ≡ true = ap (λ f. f.has_infer) (sym c.requires.flags) ∙ from_not_false c.args.flags.has_infer c.if-not-flags.false in
+    let alone = ⊎_elim (λ h. h) (λ f. absurd (let none = f.no_infer in cc)) c.requires.alone in
+    (refl, refl, refl, k.0, k.1, alone)
 
 pub look_at_value-requires-in-Some-clause-resolved : goal.look_at_value-requires-in-Some-clause-resolved
 look_at_value-requires-in-Some-clause-resolved c = λ loud.

@@ -1,6 +1,7 @@
 use Rattle.std.proofs.Common.{inl, refl}
 use Rattle.nts_model.specs.declared.labels.VariableKind.TheVariants as kind
 use Rattle.nts_store.specs.Growth.{tree_at}
+use Rattle.nts_unify.proofs.Leading.{Reaches-leads}
 use Rattle.nts_variance.proofs.Looks.{labelled_node, looked_type_value, looked_own, fresh_at, variable_closed}
 use Rattle.nts_variance.proofs.vary_walk.look_at_variable.Goals as goal
 
@@ -18,4 +19,4 @@ pub returns-in_ok-made-in-Err-clause-look : goal.returns-in_ok-made-in-Err-claus
 returns-in_ok-made-in-Err-clause-look c = λ declared.
     let s = c.in_ok-made-in-Err.ensures in
     let v = variable_closed (tree_at c.args.nodes.now c.args.spot.term) c.args.n c.requires.is c.requires.formed in
-    fresh_at declared c.args.target.is_turned c.args.target.universe c.args.target.variable c.args.nodes.now c.make_fresh.new.nodes c.args.table.now.entries c.make_fresh.new.table.entries c.args.spot c.in_ok-made-in-Err.made c.args.goals.now.items c.make_fresh.new.goals.items kind.Ty _ c.requires.known (inl refl) c.requires.lawful (s.lawful c.requires.lawful) s.extends c.requires.part c.requires.formed v.0 v.1 (inl v.2) (λ i. (c.requires.varies, refl)) s.within s.tree s.entries s.goals
+    fresh_at declared c.args.target.is_turned c.args.target.universe c.args.target.variable c.args.nodes.now c.make_fresh.new.nodes c.args.table.now.entries c.make_fresh.new.table.entries c.args.spot c.in_ok-made-in-Err.made c.args.goals.now.items c.make_fresh.new.goals.items kind.Ty _ c.requires.known (inl refl) c.requires.lawful (s.lawful c.requires.lawful) s.extends c.requires.part c.requires.formed v.0 v.1 (inl v.2) (λ i. (c.requires.varies, refl)) (λ i. record { number = c.args.n; is = c.requires.is; root = c.in-Err.root; reaches = Reaches-leads c.args.nodes.now c.args.table.now.entries c.args.n c.in-Err.root c.in-Err.ensures.root.root.leads; link = refl }) s.within s.tree s.entries s.goals
